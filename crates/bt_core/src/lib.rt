@@ -1,0 +1,16 @@
+//! The values, keys, operations and steps that every part of btreplay speaks of.
+#![tactic(auto)]
+
+pub mod agg;
+pub mod context;
+pub mod item;
+pub mod items;
+pub mod key;
+pub mod limits;
+pub mod map;
+pub mod memory;
+pub mod step;
+#[cfg(test)]
+mod tests;
+pub mod text;
+pub mod value;

@@ -1,0 +1,58 @@
+// The limits of the profile, each one the greatest value that is accepted.
+
+/// Bytes of a script.
+pub const SCRIPT_BYTES: u64 = 65_536;
+
+/// Bytes of a recording.
+pub const RECORDING_BYTES: u64 = 268_435_456;
+
+/// CPUs of a recording, of which there is at least one.
+pub const CPUS: u32 = 64;
+
+/// Event formats of a recording.
+pub const FORMATS: u32 = 4_096;
+
+/// Events of a recording over all its CPUs.
+pub const EVENTS: u32 = 1_048_576;
+
+/// The end, offset plus size, of a field in an event's layout.
+pub const LAYOUT_END: u32 = 4_096;
+
+/// Probes of a script.
+pub const PROBES: u32 = 64;
+
+/// Brackets and operators that are open at one token of a script.
+pub const NESTING: u32 = 64;
+
+/// Bodies of a script: pairs of a probe and what it is attached to.
+pub const BODIES: u32 = 4_096;
+
+/// Ticks of all interval probes over a recording.
+pub const TICKS: u32 = 100_000;
+
+/// Maps of a script.
+pub const MAPS: u32 = 32;
+
+/// Parts of a key.
+pub const KEY_PARTS: usize = 4;
+
+/// Bytes of a string value.
+pub const STRING_BYTES: usize = 63;
+
+/// Bytes of a string token, after its escapes.
+pub const STRING_TOKEN_BYTES: usize = 1_024;
+
+/// Keys of one map that live at one time in one object.
+pub const KEYS: usize = 4_096;
+
+/// Loop turns in one run of a body.
+pub const LOOP_TURNS: u32 = 4_096;
+
+/// Buckets of a linear histogram between its least and its greatest number.
+pub const LHIST_BUCKETS: u32 = 1_000;
+
+/// Bytes of a body's frame.
+pub const FRAME_BYTES: u64 = 512;
+
+/// Slots of a body's code.
+pub const CODE_SLOTS: u64 = 4_096;
