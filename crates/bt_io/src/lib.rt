@@ -1,0 +1,5 @@
+//! Where bytes come from and where they go: named files, and what takes bytes.
+#![tactic(auto)]
+
+pub mod shelf;
+pub mod sink;

@@ -1,0 +1,47 @@
+// Named files.
+ghost use Rattle.std.specs.Prelude.{◌≡◌, ◌<◌, ◌≤◌, ◌++◌, ◌⊎◌, ◌∷◌, [], ℕ, List, Option, length, IfOk, IfSome, IsErrOf};
+ghost use Rattle.bt_io.specs.Faults.{Rose};
+
+use std::alloc::Global;
+use thiserror::Error;
+
+/// Why a shelf gives no bytes.
+#[derive(Clone, Copy, PartialEq, Eq, Debug, Error)]
+pub enum ShelfError {
+    /// The file could not be read.
+    #[error("read fault")]
+    Failed,
+    /// The file holds more bytes than were asked for.
+    #[error("too long")]
+    TooLong,
+    #[error("out of memory")]
+    Memory,
+}
+
+/// Files by their names.
+pub trait Shelf {
+    /// The bytes under a name, where the shelf tells them.
+    ghost held: { Self → List ℕ → Option (List ℕ) };
+
+    /// How many faults there were, which never falls.
+    ghost faults: { Self → ℕ };
+
+    /// The names that were asked for so far, in their order.
+    ghost asked: { Self → List (List ℕ) };
+
+    /// All bytes of the file of this name, which are at most `limit`.
+    ///
+    /// Answers [`ShelfError::TooLong`] where the file holds more, [`ShelfError::Failed`] only where
+    /// the count of faults rose, and [`ShelfError::Memory`] where there is no room for the bytes.
+    /// Whatever it answers, the files stay as they are. Want of memory may come before the name is
+    /// noted.
+    fn read(&mut self, alloc: Global, name: &str, limit: u64) -> Result<Vec<u8>, ShelfError>
+        ensures bytes { IfOk result (λ bytes. IfSome (held self.old name.now) (λ all. bytes.items ≡ all)) }
+        ensures fits { IfOk result (λ bytes. length bytes.items ≤ limit) }
+        ensures too_long { IsErrOf result ShelfError.TooLong → IfSome (held self.old name.now) (λ all. limit < length all) }
+        ensures failed { IsErrOf result ShelfError.Failed → Rose (faults self.old) (faults self.new) }
+        ensures later { faults self.old ≤ faults self.new }
+        ensures kept { (other : List ℕ) → held self.new other ≡ held self.old other }
+        ensures named { IsErrOf result ShelfError.Memory ⊎ (asked self.new ≡ asked self.old ++ name.now ∷ []) }
+        ensures named_or_not { (asked self.new ≡ asked self.old ++ name.now ∷ []) ⊎ (asked self.new ≡ asked self.old) };
+}
