@@ -1,0 +1,4 @@
+pub mod EventLemmas
+pub mod Fields
+pub mod HeadLines
+pub mod Recordings

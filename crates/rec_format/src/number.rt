@@ -1,0 +1,62 @@
+// Numbers and pieces at the front of the bytes.
+ghost use Rattle.std.specs.Prelude.{◌≡◌};
+ghost use Rattle.std.specs.Option.{option_map};
+ghost use Rattle.rec_format.specs.Reading.{bytes_at, number_at, sized_at};
+
+use byteorder::{ByteOrder, LittleEndian};
+
+/// So many bytes and those after them.
+pub(crate) fn bytes_at(bytes: &[u8], count: usize) -> Option<(&[u8], &[u8])>
+    ensures { option_map (λ piece. (piece.0.now, piece.1.now)) result ≡ bytes_at count bytes.now }
+{
+    if count <= bytes.len() {
+        Some(bytes.split_at(count))
+    } else {
+        None
+    }
+}
+
+pub(crate) fn u16_at(bytes: &[u8]) -> Option<(u16, &[u8])>
+    ensures { option_map (λ field. (field.0, field.1.now)) result ≡ number_at 2 bytes.now }
+{
+    if bytes.len() < 2 {
+        return None;
+    }
+    Some((LittleEndian::read_u16(bytes), &bytes[2..]))
+}
+
+pub(crate) fn u32_at(bytes: &[u8]) -> Option<(u32, &[u8])>
+    ensures { option_map (λ field. (field.0, field.1.now)) result ≡ number_at 4 bytes.now }
+{
+    if bytes.len() < 4 {
+        return None;
+    }
+    Some((LittleEndian::read_u32(bytes), &bytes[4..]))
+}
+
+pub(crate) fn u64_at(bytes: &[u8]) -> Option<(u64, &[u8])>
+    ensures { option_map (λ field. (field.0, field.1.now)) result ≡ number_at 8 bytes.now }
+{
+    if bytes.len() < 8 {
+        return None;
+    }
+    Some((LittleEndian::read_u64(bytes), &bytes[8..]))
+}
+
+/// Bytes behind their length of 16 bits, and those after them.
+#[tactic(auto, unfolding(crate::specs::Reading::sized_at))]
+pub(crate) fn sized16_at(bytes: &[u8]) -> Option<(&[u8], &[u8])>
+    ensures { option_map (λ piece. (piece.0.now, piece.1.now)) result ≡ sized_at 2 bytes.now }
+{
+    let (len, bytes) = u16_at(bytes)?;
+    bytes_at(bytes, len as usize)
+}
+
+/// Bytes behind their length of 32 bits, and those after them.
+#[tactic(auto, unfolding(crate::specs::Reading::sized_at))]
+pub(crate) fn sized32_at(bytes: &[u8]) -> Option<(&[u8], &[u8])>
+    ensures { option_map (λ piece. (piece.0.now, piece.1.now)) result ≡ sized_at 4 bytes.now }
+{
+    let (len, bytes) = u32_at(bytes)?;
+    bytes_at(bytes, len as usize)
+}
