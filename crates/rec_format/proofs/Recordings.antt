@@ -260,3 +260,7 @@ is_only bytes r other e is = same_Some other r (sym (early_again bytes other is)
 
 pub is_none : (bytes : List ℕ) (other : EarlyRecording) → None ≡ early_of bytes → IsEarlyRecording bytes other → ⊥
 is_none bytes other e is = let clash : None ≡ Some other = e ∙ early_again bytes other is in cc
+
+-- bytes say one thing at most
+pub early_unique : (bytes : List ℕ) (a b : EarlyRecording) → IsEarlyRecording bytes a → IsEarlyRecording bytes b → a ≡ b
+early_unique bytes a b first second = same_Some a b (sym (early_again bytes a first) ∙ early_again bytes b second)

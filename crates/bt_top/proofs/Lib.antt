@@ -1,0 +1,5 @@
+pub mod Scripts
+pub mod Counts
+pub mod Writes
+pub mod Judging
+pub mod Due

@@ -1,0 +1,54 @@
+// Why a call is refused.
+ghost use Rattle.std.specs.Prelude.{◌≡◌};
+ghost use Rattle.bt_top.specs.Refusals.{status_of, refusal_of};
+
+use bt_io::shelf::ShelfError;
+
+/// A file that the words name.
+#[derive(Clone, Copy, PartialEq, Eq, Debug)]
+pub enum Operand {
+    Script,
+    Recording,
+}
+
+/// Why a call is refused.
+#[derive(Clone, Copy, PartialEq, Eq, Debug)]
+pub enum Refusal {
+    /// The words break the rule.
+    Usage,
+    /// The file could not be read.
+    ReadFault(Operand),
+    /// The file is longer than it may be.
+    TooLong(Operand),
+    /// The file is none of those that are handled so far.
+    Early(Operand),
+    /// The output took less than the text.
+    WriteFault,
+    Memory,
+}
+
+/// The exit status of a refusal, or 0 for none.
+pub(crate) fn status_of(refusal: Option<Refusal>) -> u8
+    ensures { result ≡ status_of refusal }
+{
+    match refusal {
+        None => 0,
+        Some(Refusal::Usage) => 1,
+        Some(Refusal::TooLong(Operand::Script) | Refusal::Early(Operand::Script)) => 2,
+        Some(Refusal::TooLong(Operand::Recording) | Refusal::Early(Operand::Recording)) => 3,
+        Some(Refusal::ReadFault(_)) => 4,
+        Some(Refusal::WriteFault) => 5,
+        Some(Refusal::Memory) => 6,
+    }
+}
+
+/// Why a file is not read.
+pub(crate) fn refusal_of(operand: Operand, error: ShelfError) -> Refusal
+    ensures { result ≡ refusal_of operand error }
+{
+    match error {
+        ShelfError::Failed => Refusal::ReadFault(operand),
+        ShelfError::TooLong => Refusal::TooLong(operand),
+        ShelfError::Memory => Refusal::Memory,
+    }
+}
