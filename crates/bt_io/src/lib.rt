@@ -1,6 +1,8 @@
 //! Where bytes come from and where they go: named files, and what takes bytes.
 #![tactic(auto)]
 
+mod calls;
+pub mod mem_shelf;
 mod names;
 pub mod real;
 pub mod shelf;
