@@ -3,6 +3,7 @@
 
 mod calls;
 pub mod mem_shelf;
+pub mod mem_sink;
 mod names;
 pub mod real;
 pub mod shelf;
