@@ -8,3 +8,5 @@ mod names;
 pub mod real;
 pub mod shelf;
 pub mod sink;
+#[cfg(test)]
+mod tests;

@@ -42,7 +42,12 @@ impl MemSink {
     /// A sink that takes `room` bytes in all and at most `most` in one call, of which the calls listed
     /// in `failing` fail. It took nothing yet, and there was no call and no fault. [`Memory`] comes
     /// where there is no room for `room` bytes.
-    pub fn new(alloc: Global, room: usize, most: usize, failing: Vec<u32>) -> Result<MemSink, Memory>
+    pub fn new(
+        alloc: Global,
+        room: usize,
+        most: usize,
+        failing: Vec<u32>,
+    ) -> Result<MemSink, Memory>
         requires { 0 < most }
         ensures empty { IfOk result (λ sink. sink.taken ≡ []) }
         ensures room { IfOk result (λ sink. sink.room ≡ room) }

@@ -11,6 +11,9 @@ use std::marker::Model;
 use std::rt::Files;
 use std::{fs, io};
 
+#[cfg(test)]
+mod tests;
+
 /// The files of the system, named by their paths. It tells no content.
 ///
 /// A path that cannot be opened or read to its end is a fault. An interrupted read is tried again.

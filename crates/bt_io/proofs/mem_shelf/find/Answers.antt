@@ -1,4 +1,4 @@
-use Rattle.std.proofs.Common.{◌≡◌, ℕ, suc, ◌+◌, ◌<◌, List, ◌∷◌, Bool, true, false, length, map, drop, get_or, add-one, drop-cons, sym, ap, ◌∙◌, arith}
+use Rattle.std.proofs.Common.{◌≡◌, ℕ, suc, ◌+◌, ◌<◌, List, ◌∷◌, true, false, length, map, drop, get_or, add-one, drop-cons, sym, ap, ◌∙◌, arith}
 use Rattle.std.specs.Prelude.{String, Vec, Some, string_bytes, bytes_eq}
 use Rattle.std.specs.declared.alloc.Global.{Global}
 use Rattle.bt_io.specs.MemShelf.{file_of, file_named}
