@@ -1,5 +1,7 @@
 // The trusted edge: real files, standard output and standard error.
-ghost use Rattle.std.specs.Prelude.{◌≡◌, [], None, ◌<◌, ◌≤◌, length, IfOk, IfSome};
+ghost use Rattle.std.specs.Prelude.{◌≡◌, [], ◌∷◌, ◌++◌, ◌⊎◌, None, ◌<◌, ◌≤◌, length, IfOk, IfSome, IsErrOf, OnOk, OnErr};
+ghost use Rattle.bt_io.specs.Calls.{one_more};
+ghost use Rattle.bt_io.specs.Faults.{Rose};
 
 use crate::names::note;
 use crate::shelf::{Shelf, ShelfError};
@@ -53,7 +55,18 @@ impl<R: Files> Shelf for FileShelf<R> {
 
     ghost asked = { λ s. s.asked };
 
-    fn read(&mut self, alloc: Global, name: &str, limit: u64) -> Result<Vec<u8>, ShelfError> {
+    fn read(&mut self, alloc: Global, name: &str, limit: u64) -> Result<Vec<u8>, ShelfError>
+        // What stands after it.
+        ensures fault { IsErrOf result ShelfError.Failed → self.new.faults ≡ one_more self.old.faults }
+        ensures no_fault { IsErrOf result ShelfError.Failed ⊎ (self.new.faults ≡ self.old.faults) }
+        ensures named { IsErrOf result ShelfError.Memory ⊎ (self.new.asked ≡ self.old.asked ++ name.now ∷ []) }
+        ensures named_or_not { (self.new.asked ≡ self.old.asked ++ name.now ∷ []) ⊎ (self.new.asked ≡ self.old.asked) }
+
+        // What every shelf promises, of one that tells no content.
+        ensures fits { IfOk result (λ bytes. length bytes.items ≤ limit) }
+        ensures failed { IsErrOf result ShelfError.Failed → Rose self.old.faults self.new.faults }
+        ensures later { self.old.faults ≤ self.new.faults }
+    {
         note(alloc, &mut self.asked, name)?;
         match load(&self.rt, alloc, name, limit) {
             Err(ShelfError::Failed) => {
@@ -140,7 +153,17 @@ impl<P: Print> Sink for StdSink<P> {
 
     ghost faults = { λ s. s.faults };
 
-    fn write(&mut self, piece: &[u8]) -> Result<usize, SinkFailed> {
+    fn write(&mut self, piece: &[u8]) -> Result<usize, SinkFailed>
+        // What stands after it.
+        ensures fault { OnErr result (self.new.faults ≡ one_more self.old.faults) }
+        ensures no_fault { OnOk result (self.new.faults ≡ self.old.faults) }
+
+        // What every sink promises, of one that tells no content.
+        ensures some { IfOk result (λ n. 0 < n) }
+        ensures within { IfOk result (λ n. n ≤ length piece.now) }
+        ensures failed { OnErr result (Rose self.old.faults self.new.faults) }
+        ensures later { self.old.faults ≤ self.new.faults }
+    {
         match put(&self.stream, piece) {
             Some(count) => Ok(count),
             None => {

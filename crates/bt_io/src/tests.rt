@@ -14,7 +14,7 @@ fn file(alloc: Global, name: &str, bytes: &[u8]) -> Result<(String, Vec<u8>), Me
     ))
 }
 
-fn told(read: &Result<Vec<u8>, ShelfError>) -> Result<&[u8], ShelfError> {
+pub(crate) fn told(read: &Result<Vec<u8>, ShelfError>) -> Result<&[u8], ShelfError> {
     match read {
         Ok(bytes) => Ok(bytes.as_slice()),
         Err(error) => Err(*error),

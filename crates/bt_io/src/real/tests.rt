@@ -3,18 +3,12 @@
 use super::{FileShelf, StdSink, TRIES};
 use crate::shelf::{Shelf, ShelfError};
 use crate::sink::{Sink, SinkFailed};
+use crate::tests::told;
 use std::cell::Cell;
 use std::fmt::Display;
 use std::io::{ErrorKind, Print};
 use std::test::Fail;
 use std::{fs, io, process};
-
-fn told(read: &Result<Vec<u8>, ShelfError>) -> Result<&[u8], ShelfError> {
-    match read {
-        Ok(bytes) => Ok(bytes.as_slice()),
-        Err(error) => Err(*error),
-    }
-}
 
 #[test]
 fn real_files_are_read_and_real_streams_are_written(rt: HostRuntime) -> Result<(), Fail> {
