@@ -1,5 +1,12 @@
 //! Where bytes come from and where they go: named files, and what takes bytes.
 #![tactic(auto)]
 
+mod calls;
+pub mod mem_shelf;
+pub mod mem_sink;
+mod names;
+pub mod real;
 pub mod shelf;
 pub mod sink;
+#[cfg(test)]
+mod tests;

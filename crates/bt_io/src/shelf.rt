@@ -2,6 +2,7 @@
 ghost use Rattle.std.specs.Prelude.{◌≡◌, ◌<◌, ◌≤◌, ◌++◌, ◌⊎◌, ◌∷◌, [], ℕ, List, Option, length, IfOk, IfSome, IsErrOf};
 ghost use Rattle.bt_io.specs.Faults.{Rose};
 
+use bt_core::memory::Memory;
 use std::alloc::Global;
 use thiserror::Error;
 
@@ -16,6 +17,17 @@ pub enum ShelfError {
     TooLong,
     #[error("out of memory")]
     Memory,
+}
+
+impl From<Memory> for ShelfError {
+    ghost use Rattle.std.specs.Prelude.{◌≡◌};
+    ghost use Rattle.bt_io.specs.declared.shelf.ShelfError.TheVariants.{Memory};
+
+    ghost from_gives = { λ _ error. error ≡ Memory };
+
+    fn from(_error: Memory) -> ShelfError {
+        ShelfError::Memory
+    }
 }
 
 /// Files by their names.

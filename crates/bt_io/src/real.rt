@@ -1,0 +1,194 @@
+// The trusted edge: real files, standard output and standard error.
+ghost use Rattle.std.specs.Prelude.{◌≡◌, [], ◌∷◌, ◌++◌, ◌⊎◌, None, ◌<◌, ◌≤◌, length, IfOk, IfSome, IsErrOf, OnOk, OnErr};
+ghost use Rattle.bt_io.specs.Calls.{one_more};
+ghost use Rattle.bt_io.specs.Faults.{Rose};
+
+use crate::names::note;
+use crate::shelf::{Shelf, ShelfError};
+use crate::sink::{Sink, SinkFailed};
+use bt_core::items::Items;
+use std::alloc::Global;
+use std::io::{ErrorKind, Print, Read, Stderr, Stdout};
+use std::marker::Model;
+use std::rt::Files;
+use std::{fs, io};
+
+#[cfg(test)]
+mod tests;
+
+/// The files of the system, named by their paths. It tells no content.
+///
+/// A path that cannot be opened or read to its end is a fault. An interrupted read is tried again.
+#[derive(Drop)]
+pub struct FileShelf<R> {
+    rt: R,
+    faults: u64,
+    asked: Items<Items<u8>>,
+}
+
+impl<R> Model for FileShelf<R> {
+    ghost use Rattle.bt_io.specs.Real.{ReadLog};
+
+    ghost Value = { ReadLog };
+
+    ghost view = { λ s. record { faults = s.faults; asked = s.asked } };
+}
+
+impl<R: Files> FileShelf<R> {
+    /// The files that `rt` opens. No name was asked for yet, and there was no fault.
+    pub fn new(rt: R, alloc: Global) -> FileShelf<R>
+        ensures faultless { result.faults ≡ 0 }
+        ensures unasked { result.asked ≡ [] }
+    {
+        FileShelf {
+            rt,
+            faults: 0,
+            asked: Items::new(alloc),
+        }
+    }
+}
+
+impl<R: Files> Shelf for FileShelf<R> {
+    ghost held = { λ s name. None };
+
+    ghost faults = { λ s. s.faults };
+
+    ghost asked = { λ s. s.asked };
+
+    fn read(&mut self, alloc: Global, name: &str, limit: u64) -> Result<Vec<u8>, ShelfError>
+        // What stands after it.
+        ensures fault { IsErrOf result ShelfError.Failed → self.new.faults ≡ one_more self.old.faults }
+        ensures no_fault { IsErrOf result ShelfError.Failed ⊎ (self.new.faults ≡ self.old.faults) }
+        ensures named { IsErrOf result ShelfError.Memory ⊎ (self.new.asked ≡ self.old.asked ++ name.now ∷ []) }
+        ensures named_or_not { (self.new.asked ≡ self.old.asked ++ name.now ∷ []) ⊎ (self.new.asked ≡ self.old.asked) }
+
+        // What every shelf promises, of one that tells no content.
+        ensures fits { IfOk result (λ bytes. length bytes.items ≤ limit) }
+        ensures failed { IsErrOf result ShelfError.Failed → Rose self.old.faults self.new.faults }
+        ensures later { self.old.faults ≤ self.new.faults }
+    {
+        note(alloc, &mut self.asked, name)?;
+        match load(&self.rt, alloc, name, limit) {
+            Err(ShelfError::Failed) => {
+                self.faults = self.faults.saturating_add(1);
+                Err(ShelfError::Failed)
+            }
+            answer => answer,
+        }
+    }
+}
+
+// The bytes of a file. At most one byte more than the limit is read.
+fn load<R: Files>(rt: &R, alloc: Global, name: &str, limit: u64) -> Result<Vec<u8>, ShelfError>
+    ensures fits { IfOk result (λ bytes. length bytes.items ≤ limit) }
+{
+    let file = fs::open(rt, name).map_err(shelf_error)?;
+    let mut bytes = Vec::new(alloc);
+    file.take(limit.saturating_add(1))
+        .read_to_end(&mut bytes)
+        .map_err(shelf_error)?;
+    if bytes.len() as u64 > limit {
+        Err(ShelfError::TooLong)
+    } else {
+        Ok(bytes)
+    }
+}
+
+// Want of memory is told apart from every other error of the system.
+fn shelf_error(error: io::Error) -> ShelfError {
+    match error.kind() {
+        ErrorKind::OutOfMemory => ShelfError::Memory,
+        _ => ShelfError::Failed,
+    }
+}
+
+/// How often a write that a signal interrupts is begun.
+const TRIES: usize = 64;
+
+/// Standard output or standard error. It tells no content.
+///
+/// An error of the system and a write that takes nothing are faults. A write that a signal
+/// interrupts before it took anything is begun again, 64 times at most in one call; then it is a
+/// fault.
+#[derive(Drop)]
+pub struct StdSink<P> {
+    stream: P,
+    faults: u64,
+}
+
+impl<P> Model for StdSink<P> {
+    ghost use Rattle.bt_io.specs.Real.{WriteLog};
+
+    ghost Value = { WriteLog };
+
+    ghost view = { λ s. record { faults = s.faults } };
+}
+
+impl StdSink<Stdout> {
+    /// Standard output. There was no fault yet.
+    pub fn out(rt: HostRuntime) -> StdSink<Stdout>
+        ensures faultless { result.faults ≡ 0 }
+    {
+        StdSink {
+            stream: rt.stdout(),
+            faults: 0,
+        }
+    }
+}
+
+impl StdSink<Stderr> {
+    /// Standard error. There was no fault yet.
+    pub fn err(rt: HostRuntime) -> StdSink<Stderr>
+        ensures faultless { result.faults ≡ 0 }
+    {
+        StdSink {
+            stream: rt.stderr(),
+            faults: 0,
+        }
+    }
+}
+
+impl<P: Print> Sink for StdSink<P> {
+    ghost taken = { λ s. None };
+
+    ghost faults = { λ s. s.faults };
+
+    fn write(&mut self, piece: &[u8]) -> Result<usize, SinkFailed>
+        // What stands after it.
+        ensures fault { OnErr result (self.new.faults ≡ one_more self.old.faults) }
+        ensures no_fault { OnOk result (self.new.faults ≡ self.old.faults) }
+
+        // What every sink promises, of one that tells no content.
+        ensures some { IfOk result (λ n. 0 < n) }
+        ensures within { IfOk result (λ n. n ≤ length piece.now) }
+        ensures failed { OnErr result (Rose self.old.faults self.new.faults) }
+        ensures later { self.old.faults ≤ self.new.faults }
+    {
+        match put(&self.stream, piece) {
+            Some(count) => Ok(count),
+            None => {
+                self.faults = self.faults.saturating_add(1);
+                Err(SinkFailed)
+            }
+        }
+    }
+}
+
+// How many of the first bytes of the piece the stream took, or `None` where it took none.
+fn put<P: Print>(stream: &P, piece: &[u8]) -> Option<usize>
+    ensures some { IfSome result (λ count. 0 < count) }
+    ensures within { IfSome result (λ count. count ≤ length piece.now) }
+{
+    for _ in 0..TRIES {
+        match stream.write_some(piece) {
+            Ok(0) => return None,
+            Ok(count) => return Some(count),
+            Err(error) => {
+                if error.kind() != ErrorKind::Interrupted {
+                    return None;
+                }
+            }
+        }
+    }
+    None
+}
