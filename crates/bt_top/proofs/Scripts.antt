@@ -41,14 +41,15 @@ last_part text a b c r (Some block) is system colon name = has_block text a b c 
 same_block : (x y : List ℕ) (r : EarlyRecording) → script_with r x ≡ script_with r y → x ≡ y
 same_block x y r e =
     append_cancel_left r.name x y
-      (append_cancel_left (codes ":") (r.name ++ x) (r.name ++ y)
-        (append_cancel_left r.system (codes ":" ++ (r.name ++ x)) (codes ":" ++ (r.name ++ y))
-          (append_cancel_left (codes "tracepoint:") (r.system ++ (codes ":" ++ (r.name ++ x))) (r.system ++ (codes ":" ++ (r.name ++ y))) e)))
+    (append_cancel_left (codes ":") (r.name ++ x) (r.name ++ y)
+    (append_cancel_left r.system (codes ":" ++ (r.name ++ x)) (codes ":" ++ (r.name ++ y))
+    (append_cancel_left (codes "tracepoint:") (r.system ++ (codes ":" ++ (r.name ++ x))) (r.system ++ (codes ":" ++ (r.name ++ y))) e)))
 
 pub decided : (text block : List ℕ) (r : EarlyRecording) (counts : Bool) → text ≡ script_with r block → IsTrue counts ↔ IsCountBlock block → IsTrue counts ↔ IsEarlyScript text r
-decided text block r counts is same =
-    (λ holds. record { block = block; counts = same.0 holds; is = is },
-     λ script. same.1 (subst IsCountBlock (same_block script.block block r (sym script.is ∙ is)) script.counts))
+decided text block r counts is same = (
+  λ holds. record { block = block; counts = same.0 holds; is = is },
+  λ script. same.1 (subst IsCountBlock (same_block script.block block r (sym script.is ∙ is)) script.counts),
+)
 
 pub refused : (text : List ℕ) (r : EarlyRecording) → ((block : List ℕ) → text ≢ script_with r block) → IsTrue false ↔ IsEarlyScript text r
 refused text r none = (λ holds. cc, λ script. absurd (none script.block script.is))

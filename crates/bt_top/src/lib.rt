@@ -8,4 +8,6 @@ pub mod report;
 mod script;
 pub mod serve;
 mod tell;
+#[cfg(test)]
+mod tests;
 mod words;

@@ -47,12 +47,7 @@ fn refused(refusal: Refusal) -> Report
 }
 
 /// Counts the events and writes how many they are.
-fn run<S: Shelf, K: Sink>(
-    alloc: Global,
-    named: &Named<'_>,
-    shelf: &mut S,
-    out: &mut K,
-) -> Report
+fn run<S: Shelf, K: Sink>(alloc: Global, named: &Named<'_>, shelf: &mut S, out: &mut K) -> Report
     ensures status { result.status ≡ status_of result.refusal }
     ensures refused { IfSome result.refusal (MayCome (Rose (S.faults shelf.old) (S.faults shelf.new)) (Rose (K.faults out.old) (K.faults out.new)) (S.held shelf.old named.now.script.now) (S.held shelf.old named.now.recording.now)) }
     ensures counted { HasWork result.refusal → IsCount (S.held shelf.old named.now.script.now) (S.held shelf.old named.now.recording.now) result.work }

@@ -50,10 +50,11 @@ bytes_takes n bytes front rest fits e =
     let g = where_true_some (leb n (length bytes)) (take n bytes, drop n bytes) (front, rest) e in
     let front-is : take n bytes ≡ front = ap (λ (p : List ℕ × List ℕ). p.0) g.1 in
     let rest-is : drop n bytes ≡ rest = ap (λ (p : List ℕ × List ℕ). p.1) g.1 in
-    let long : n ≤ length bytes = leb-true n (length bytes) g.0 in
-    (record { parts = rw (← front-is, ← rest-is) (sym (take-append-drop n bytes)); rest_fits = rw (← rest-is) (IsBytes-drop n bytes fits) },
-     rw (← front-is) (omega (arith, length-take n bytes)),
-     rw (← front-is) (IsBytes-take n bytes fits))
+    let long : n ≤ length bytes = leb-true n (length bytes) g.0 in (
+      record { parts = rw (← front-is, ← rest-is) (sym (take-append-drop n bytes)); rest_fits = rw (← rest-is) (IsBytes-drop n bytes fits) },
+      rw (← front-is) (omega (arith, length-take n bytes)),
+      rw (← front-is) (IsBytes-take n bytes fits),
+    )
 
 pub bytes_again : (n : ℕ) (front rest : List ℕ) → length front ≡ n → bytes_at n (front ++ rest) ≡ Some (front, rest)
 bytes_again n front rest len =
@@ -82,11 +83,12 @@ number_takes n wide bytes x rest fits e =
     let long : n ≤ length bytes = leb-true n (length bytes) g.0 in
     let len : length (take n bytes) ≡ n = omega (arith, length-take n bytes) in
     let in_front : little_number n bytes ≡ little_number n (take n bytes) =
-        ap (λ (bs : List ℕ). little_number n bs) (sym (take-append-drop n bytes)) ∙ little_from-append n (take n bytes) (drop n bytes) (omega arith) in
+    ap (λ (bs : List ℕ). little_number n bs) (sym (take-append-drop n bytes)) ∙ little_from-append n (take n bytes) (drop n bytes) (omega arith) in
     let front : little_bytes n (little_number n bytes) ≡ take n bytes =
-        ap (λ (m : ℕ). little_bytes n m) in_front ∙ wide.back (take n bytes) len (IsBytes-take n bytes fits) in
-    (record { parts = rw (← x-is, front, ← rest-is) (sym (take-append-drop n bytes)); rest_fits = rw (← rest-is) (IsBytes-drop n bytes fits) },
-     rw (← x-is) (little_from-lt 0 n bytes fits))
+    ap (λ (m : ℕ). little_bytes n m) in_front ∙ wide.back (take n bytes) len (IsBytes-take n bytes fits) in (
+      record { parts = rw (← x-is, front, ← rest-is) (sym (take-append-drop n bytes)); rest_fits = rw (← rest-is) (IsBytes-drop n bytes fits) },
+      rw (← x-is) (little_from-lt 0 n bytes fits),
+    )
 
 pub number_again : (n x : ℕ) (rest : List ℕ) → x < 256 ^ n → number_at n (little_bytes n x ++ rest) ≡ Some (x, rest)
 number_again n x rest lt =

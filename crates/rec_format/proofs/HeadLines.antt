@@ -26,11 +26,12 @@ run_splits set bytes = sym (take-append-drop (prefix_len (is_in set) bytes) byte
 pub run_is_in : (set : ByteSet) (bytes : List ℕ) → AreIn set (run_of set bytes)
 run_is_in set [] = tt
 run_is_in set (b ∷ bs) =
-    (elim (is_in set b) as (λ t. is_in set b ≡ t → AreIn set (take (cond t (1 + prefix_len (is_in set) bs) 0) (b ∷ bs)))
-      [ true ↦ λ h. (let count : suc (prefix_len (is_in set) bs) ≡ 1 + prefix_len (is_in set) bs = omega arith in
+    (elim (is_in set b) as (λ t. is_in set b ≡ t → AreIn set (take (cond t (1 + prefix_len (is_in set) bs) 0) (b ∷ bs))) [
+      | true ↦ λ h. (let count : suc (prefix_len (is_in set) bs) ≡ 1 + prefix_len (is_in set) bs = omega arith in
           let whole : AreIn set (take (suc (prefix_len (is_in set) bs)) (b ∷ bs)) = (h, run_is_in set bs) in
           subst (λ (k : ℕ). AreIn set (take k (b ∷ bs))) count whole)
-      | false ↦ λ h. tt ]) refl
+      | false ↦ λ h. tt
+    ]) refl
 
 run_length : (set : ByteSet) (run rest : List ℕ) → AreIn set run → EndsRun set rest → prefix_len (is_in set) (run ++ rest) ≡ length run
 run_length set [] [] each ends = refl
@@ -145,11 +146,11 @@ name_takes text name rest e =
     let g = where_true_some (not (is_empty (run_of Names named))) (run_of Names named, b.0) (name, rest) b.2 in
     let newline : after_run LineEnd (after_run Names named) ≡ 10 ∷ [] ++ b.0 = after_takes (codes "\n") _ b.0 b.1 in
     let tail : after_run Names named ≡ run_of LineEnd (after_run Names named) ++ (10 ∷ [] ++ b.0) =
-        run_splits LineEnd (after_run Names named) ∙ ap (λ (l : List ℕ). run_of LineEnd (after_run Names named) ++ l) newline in
+    run_splits LineEnd (after_run Names named) ∙ ap (λ (l : List ℕ). run_of LineEnd (after_run Names named) ++ l) newline in
     let whole : text ≡ codes "name:" ++ (run_of Blanks a.0 ++ (run_of Names named ++ (run_of LineEnd (after_run Names named) ++ (10 ∷ [] ++ b.0)))) =
-        after_takes (codes "name:") text a.0 a.1
-        ∙ ap (λ (l : List ℕ). codes "name:" ++ l) (run_splits Blanks a.0
-            ∙ ap (λ (l : List ℕ). run_of Blanks a.0 ++ l) (run_splits Names named ∙ ap (λ (l : List ℕ). run_of Names named ++ l) tail)) in
+    after_takes (codes "name:") text a.0 a.1
+    ∙ ap (λ (l : List ℕ). codes "name:" ++ l) (run_splits Blanks a.0
+    ∙ ap (λ (l : List ℕ). run_of Blanks a.0 ++ l) (run_splits Names named ∙ ap (λ (l : List ℕ). run_of Names named ++ l) tail)) in
     let found : IsNameLine text (run_of Names named) b.0 = record {
       before = run_of Blanks a.0;
       after = run_of LineEnd (after_run Names named);
@@ -167,11 +168,11 @@ name_again text name rest line =
     let behind = 10 ∷ [] ++ rest in
     let ends_names : EndsRun Names (line.after ++ behind) = ends_before Names LineEnd line.after behind line.passed_over not_named refl in
     let skipped : after_run Blanks (line.before ++ (name ++ (line.after ++ behind))) ≡ name ++ (line.after ++ behind) =
-        after_run_again Blanks line.before _ line.blank (ends_at Blanks Names name (line.after ++ behind) line.some line.named name_is_no_blank) in
+    after_run_again Blanks line.before _ line.blank (ends_at Blanks Names name (line.after ++ behind) line.some line.named name_is_no_blank) in
     let run : run_of Names (name ++ (line.after ++ behind)) ≡ name = run_again Names name (line.after ++ behind) line.named ends_names in
     let over : after_run LineEnd (after_run Names (name ++ (line.after ++ behind))) ≡ behind =
-        ap (λ (l : List ℕ). after_run LineEnd l) (after_run_again Names name (line.after ++ behind) line.named ends_names)
-        ∙ after_run_again LineEnd line.after behind line.passed_over refl in
+    ap (λ (l : List ℕ). after_run LineEnd l) (after_run_again Names name (line.after ++ behind) line.named ends_names)
+    ∙ after_run_again LineEnd line.after behind line.passed_over refl in
     rw (line.line, skipped, over, run, not_empty_from name line.some) refl
 
 -- what the second line gives
@@ -205,8 +206,8 @@ id_line_takes text id e =
       after = run_of LineEnd behind;
       rest = after_run LineEnd behind;
       line = after_takes (codes "ID:") text a.0 a.1
-        ∙ ap (λ (l : List ℕ). codes "ID:" ++ l) (run_splits Blanks a.0
-            ∙ ap (λ (l : List ℕ). run_of Blanks a.0 ++ l) (run_splits Digits numbered ∙ ap (λ (l : List ℕ). digits ++ l) (run_splits LineEnd behind)));
+          ∙ ap (λ (l : List ℕ). codes "ID:" ++ l) (run_splits Blanks a.0
+          ∙ ap (λ (l : List ℕ). run_of Blanks a.0 ++ l) (run_splits Digits numbered ∙ ap (λ (l : List ℕ). digits ++ l) (run_splits LineEnd behind)));
       some = not_empty digits tests.0;
       numbered = run_is_in Digits numbered;
       number = number.0;
@@ -222,11 +223,11 @@ id_line_again text id line =
     let behind = line.after ++ line.rest in
     let ends_digits : EndsRun Digits behind = ends_before Digits LineEnd line.after line.rest line.passed_over not_digit (break_ends Digits line.rest refl line.broken) in
     let skipped : after_run Blanks (line.before ++ (line.digits ++ behind)) ≡ line.digits ++ behind =
-        after_run_again Blanks line.before _ line.blank (ends_at Blanks Digits line.digits behind line.some line.numbered digit_is_no_blank) in
+    after_run_again Blanks line.before _ line.blank (ends_at Blanks Digits line.digits behind line.some line.numbered digit_is_no_blank) in
     let run : run_of Digits (line.digits ++ behind) ≡ line.digits = run_again Digits line.digits behind line.numbered ends_digits in
     let over : after_run LineEnd (after_run Digits (line.digits ++ behind)) ≡ line.rest =
-        ap (λ (l : List ℕ). after_run LineEnd l) (after_run_again Digits line.digits behind line.numbered ends_digits)
-        ∙ after_run_again LineEnd line.after line.rest line.passed_over (break_ends LineEnd line.rest refl line.broken) in
+    ap (λ (l : List ℕ). after_run LineEnd l) (after_run_again Digits line.digits behind line.numbered ends_digits)
+    ∙ after_run_again LineEnd line.after line.rest line.passed_over (break_ends LineEnd line.rest refl line.broken) in
     let number : id_from 0 line.digits ≡ Some id = id_again 0 line.digits (omega (arith, line.number, line.in_range)) ∙ ap (λ (n : ℕ). Some n) line.number in
     rw (line.line, skipped, run, over, not_empty_from line.digits line.some, break_is line.rest line.broken, number) refl
 

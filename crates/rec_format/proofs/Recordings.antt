@@ -29,11 +29,12 @@ event_takes id bytes rest fits e =
     let number = number_takes 2 wide2 b.0.0 c.0.0 c.0.1 payload.2 c.1 in
     let same : c.0.0 ≡ id = eqb-true c.0.0 id g.0 in
     let begins : take 2 b.0.0 ≡ little_bytes 2 c.0.0 =
-        ap (λ (l : List ℕ). take 2 l) number.0.parts ∙ take_at (little_bytes 2 c.0.0) c.0.1 2 (length-bytes_low_first 0 2 c.0.0) in
-    let both = Takes-then bytes a.0.0 a.0.1 (sized_bytes 4 b.0.0) b.0.1 heading.0 payload.0 in
-    (record { heading = a.0.0; payload = b.0.0 },
-     subst (λ (r : List ℕ). Takes bytes (a.0.0 ++ sized_bytes 4 b.0.0) r) g.1 both,
-     record { heading = heading.1; payload = payload.1; begins = begins ∙ ap (λ (k : ℕ). little_bytes 2 k) same })
+    ap (λ (l : List ℕ). take 2 l) number.0.parts ∙ take_at (little_bytes 2 c.0.0) c.0.1 2 (length-bytes_low_first 0 2 c.0.0) in
+    let both = Takes-then bytes a.0.0 a.0.1 (sized_bytes 4 b.0.0) b.0.1 heading.0 payload.0 in (
+      record { heading = a.0.0; payload = b.0.0 },
+      subst (λ (r : List ℕ). Takes bytes (a.0.0 ++ sized_bytes 4 b.0.0) r) g.1 both,
+      record { heading = heading.1; payload = payload.1; begins = begins ∙ ap (λ (k : ℕ). little_bytes 2 k) same },
+    )
 
 event_again : (id : ℕ) (e : EarlyEvent) (rest : List ℕ) → id < 256 ^ 2 → IsEarlyEvent id e → event_at id (event_bytes e ++ rest) ≡ Some rest
 unfolding event_at
@@ -69,7 +70,7 @@ unfolding events_at
 events_again id [] rest small each = refl
 events_again id (e ∷ es) rest small each =
     let regrouped : flat_map event_bytes (e ∷ es) ++ rest ≡ event_bytes e ++ (flat_map event_bytes es ++ rest) =
-        ap (λ (l : List ℕ). l ++ rest) (flat_map-cons event_bytes e es) ∙ append_assoc (event_bytes e) (flat_map event_bytes es) rest in
+    ap (λ (l : List ℕ). l ++ rest) (flat_map-cons event_bytes e es) ∙ append_assoc (event_bytes e) (flat_map event_bytes es) rest in
     ap (events_at id (suc (length es))) regrouped ∙ rw (event_again id e (flat_map event_bytes es ++ rest) small each.0) (events_again id es rest small each.1)
 
 -- ---- the CPU
@@ -112,7 +113,7 @@ track_again : (id cpu : ℕ) (es : List EarlyEvent) → id < 256 ^ 2 → cpu < 2
 unfolding track_at
 track_again id cpu es small in_range few each =
     let events : events_at id (length es) (flat_map event_bytes es) ≡ Some [] =
-        ap (events_at id (length es)) (sym (append-nil (flat_map event_bytes es))) ∙ events_again id es [] small each in
+    ap (events_at id (length es)) (sym (append-nil (flat_map event_bytes es))) ∙ events_again id es [] small each in
     rw (number_again 4 cpu (little_bytes 4 (length es) ++ flat_map event_bytes es) in_range, number_again 4 (length es) (flat_map event_bytes es) (omega arith), le-leb (length es) 1048576 few, events) refl
 
 -- ---- the format
@@ -136,9 +137,9 @@ format_takes bytes format rest fits e =
     let system = sized_takes 2 wide2 bytes a.0.0 a.0.1 fits a.1 in
     let text = sized_takes 4 wide4 a.0.1 b.0.0 b.0.1 system.0.rest_fits b.1 in
     let all_in : AreIn Systems a.0.0 =
-        subst (λ (l : List ℕ). AreIn Systems l)
-          (sym (run_splits Systems a.0.0 ∙ ap (λ (l : List ℕ). run_of Systems a.0.0 ++ l) (is_empty-nil (after_run Systems a.0.0) tests.1) ∙ append-nil (run_of Systems a.0.0)))
-          (run_is_in Systems a.0.0) in
+    subst (λ (l : List ℕ). AreIn Systems l)
+    (sym (run_splits Systems a.0.0 ∙ ap (λ (l : List ℕ). run_of Systems a.0.0 ++ l) (is_empty-nil (after_run Systems a.0.0) tests.1) ∙ append-nil (run_of Systems a.0.0)))
+    (run_is_in Systems a.0.0) in
     let found : Names (record { system = a.0.0; name = c.0.0; id = c.0.1 }) bytes b.0.1 = record {
       text = b.0.0;
       takes = Takes-then bytes (sized_bytes 2 a.0.0) a.0.1 (sized_bytes 4 b.0.0) b.0.1 system.0 text.0;
@@ -154,9 +155,9 @@ unfolding format_at
 format_again system text name id rest named short head =
     let nothing : after_run Systems system ≡ [] = ap (λ (l : List ℕ). after_run Systems l) (sym (append-nil system)) ∙ after_run_again Systems system [] named.2 tt in
     let valid : is_system system ≡ true =
-        and_from (not (is_empty system) && leb (length system) 64) (is_empty (after_run Systems system))
-          (and_from (not (is_empty system)) (leb (length system) 64) (not_empty_from system named.0) (le-leb (length system) 64 named.1))
-          (ap (λ (l : List ℕ). is_empty l) nothing) in
+    and_from (not (is_empty system) && leb (length system) 64) (is_empty (after_run Systems system))
+    (and_from (not (is_empty system)) (leb (length system) 64) (not_empty_from system named.0) (le-leb (length system) 64 named.1))
+    (ap (λ (l : List ℕ). is_empty l) nothing) in
     rw (append_assoc (sized_bytes 2 system) (sized_bytes 4 text) rest, sized_again 2 system (sized_bytes 4 text ++ rest) (omega (arith, named.1)), sized_again 4 text rest short, head_again text name id head, valid) refl
 
 -- ---- the header
@@ -188,7 +189,7 @@ unfolding header_at span_at
 header_again start end rest first second =
     let head : List ℕ = codes "BTRACE01" ++ (little_bytes 4 1 ++ little_bytes 4 1) in
     let regrouped : header_bytes start end ++ rest ≡ head ++ (little_bytes 8 start ++ (little_bytes 8 end ++ rest)) =
-        append_assoc head (little_bytes 8 start ++ little_bytes 8 end) rest ∙ ap (λ (l : List ℕ). head ++ l) (append_assoc (little_bytes 8 start) (little_bytes 8 end) rest) in
+    append_assoc head (little_bytes 8 start ++ little_bytes 8 end) rest ∙ ap (λ (l : List ℕ). head ++ l) (append_assoc (little_bytes 8 start) (little_bytes 8 end) rest) in
     ap (λ (l : List ℕ). after_bytes head l >>= λ behind. span_at behind) regrouped
     ∙ ap (λ (read : Option (List ℕ)). read >>= λ behind. span_at behind) (after_again head (little_bytes 8 start ++ (little_bytes 8 end ++ rest)))
     ∙ span_again start end rest first second
@@ -246,9 +247,12 @@ early_again bytes r is =
     let small : v.id < 256 ^ 2 = omega (arith, v.head.in_range) in
     let made : EarlyRecording = record { start = f.start; end = f.end; system = f.system; name = r.name; events = length f.events } in
     let same : made ≡ r = same_recording r f.start f.end f.system (length f.events) is.start is.end is.system is.events in
-    rw (is.spelled, header_again f.start f.end (format_bytes f.system f.text ++ track_bytes f.cpu f.events) v.start v.end,
-        format_again f.system f.text r.name v.id (track_bytes f.cpu f.events) v.system v.text v.head,
-        track_again v.id f.cpu f.events small v.cpu v.few v.events) (ap (λ (x : EarlyRecording). Some x) same)
+    rw (
+      is.spelled,
+      header_again f.start f.end (format_bytes f.system f.text ++ track_bytes f.cpu f.events) v.start v.end,
+      format_again f.system f.text r.name v.id (track_bytes f.cpu f.events) v.system v.text v.head,
+      track_again v.id f.cpu f.events small v.cpu v.few v.events,
+    ) (ap (λ (x : EarlyRecording). Some x) same)
 
 -- ---- what the reader answers
 

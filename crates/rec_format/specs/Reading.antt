@@ -74,7 +74,7 @@ unfoldable pub id_at : List ℕ → Option ℕ
 id_at text =
     after_bytes (codes "ID:") text
     >>= λ numbered. only_if (not (is_empty (run_of Digits (after_run Blanks numbered))) && is_line_break (after_run LineEnd (after_run Digits (after_run Blanks numbered))))
-      (id_from 0 (run_of Digits (after_run Blanks numbered)))
+    (id_from 0 (run_of Digits (after_run Blanks numbered)))
 
 -- the name and the ID that a format text begins with
 unfoldable pub head_of : List ℕ → Option (List ℕ × ℕ)

@@ -6,3 +6,5 @@ mod event;
 mod head;
 mod number;
 mod run;
+#[cfg(test)]
+mod tests;

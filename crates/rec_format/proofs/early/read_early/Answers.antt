@@ -10,10 +10,10 @@ pub returns-clause-found : goal.returns-clause-found
 returns-clause-found c =
     let read : Some (recording_of c.in-Some.parts) ≡ early_of c.args.bytes.now = c.in-Some.ensures in
     is_found c.args.bytes.now _ (λ i. omega (arith, c.type_inv.bytes i))
-      (rw (c.of.ensures, c.in_ok-system.ensures.items, c.of-2.ensures, c.in_ok-name.ensures.items) read)
+    (rw (c.of.ensures, c.in_ok-system.ensures.items, c.of-2.ensures, c.in_ok-name.ensures.items) read)
 
 pub returns-clause-only : goal.returns-clause-only
 returns-clause-only c = λ other is.
     let read : Some (recording_of c.in-Some.parts) ≡ early_of c.args.bytes.now = c.in-Some.ensures in
     is_only c.args.bytes.now _ other
-      (rw (c.of.ensures, c.in_ok-system.ensures.items, c.of-2.ensures, c.in_ok-name.ensures.items) read) is
+    (rw (c.of.ensures, c.in_ok-system.ensures.items, c.of-2.ensures, c.in_ok-name.ensures.items) read) is
