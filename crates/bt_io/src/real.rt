@@ -1,5 +1,6 @@
 // The trusted edge: real files, standard output and standard error.
-ghost use Rattle.std.specs.Prelude.{◌≡◌, [], ◌∷◌, ◌++◌, ◌⊎◌, None, ◌<◌, ◌≤◌, length, IfOk, IfSome, IsErrOf, OnOk, OnErr};
+ghost use Rattle.std.specs.Prelude.{◌≡◌, ◌↔◌, [], ◌∷◌, ◌++◌, ◌⊎◌, None, ◌<◌, ◌≤◌, length, IfOk, IfSome, IsErrOf, OnOk, OnErr};
+ghost use Rattle.std.specs.IoError.{error_kind};
 ghost use Rattle.bt_io.specs.Calls.{one_more};
 ghost use Rattle.bt_io.specs.Faults.{Rose};
 
@@ -95,7 +96,10 @@ fn load<R: Files>(rt: &R, alloc: Global, name: &str, limit: u64) -> Result<Vec<u
 }
 
 // Want of memory is told apart from every other error of the system.
-fn shelf_error(error: io::Error) -> ShelfError {
+fn shelf_error(error: io::Error) -> ShelfError
+    ensures memory { (result ≡ ShelfError.Memory) ↔ (error_kind error ≡ ErrorKind.OutOfMemory) }
+    ensures failed { (result ≡ ShelfError.Memory) ⊎ (result ≡ ShelfError.Failed) }
+{
     match error.kind() {
         ErrorKind::OutOfMemory => ShelfError::Memory,
         _ => ShelfError::Failed,
