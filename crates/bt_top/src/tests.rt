@@ -143,37 +143,43 @@ fn a_recording_is_refused_before_its_script(rt: HostRuntime) -> Result<(), Fail>
     let alloc = rt.alloc();
     let mut cut = three_entries(alloc)?;
     cut.truncate(795);
+    let outcome = run(alloc, b"BEGIN { }", cut)?;
+    assert_eq!(rt; outcome.report.status, 3);
+    assert_eq!(rt;
+        outcome.report.refusal,
+        Some(Refusal::Early(Operand::Recording))
+    );
+    assert_eq!(rt; outcome.out.taken(), b"".as_slice());
+    assert_eq!(rt; outcome.err.taken(), b"r.bin: not built yet\n".as_slice());
     let mut longer = three_entries(alloc)?;
     longer.push(0).map_err(Memory::from)?;
-    for bytes in [cut, longer] {
-        let outcome = run(alloc, b"BEGIN { }", bytes)?;
-        assert_eq!(rt; outcome.report.status, 3);
-        assert_eq!(rt;
-            outcome.report.refusal,
-            Some(Refusal::Early(Operand::Recording))
-        );
-        assert_eq!(rt; outcome.out.taken(), b"".as_slice());
-        assert_eq!(rt; outcome.err.taken(), b"r.bin: not built yet\n".as_slice());
-    }
+    let outcome = run(alloc, COUNT_SYS_ENTER, longer)?;
+    assert_eq!(rt; outcome.report.status, 3);
     Ok(())
+}
+
+/// Whether this script is refused over the three entries, and nothing is written but its line.
+fn is_other_script(alloc: Global, script: &[u8]) -> Result<bool, Memory> {
+    let outcome = run(alloc, script, three_entries(alloc)?)?;
+    Ok(
+        outcome.report.status == 2
+            && outcome.out.taken().is_empty()
+            && outcome.err.taken() == b"s.bt: not built yet\n".as_slice(),
+    )
 }
 
 #[test]
 fn other_scripts_are_refused(rt: HostRuntime) -> Result<(), Fail> {
     let alloc = rt.alloc();
-    let scripts = [
-        b"tracepoint:raw_syscalls:sys_enter { @ = sum(1); }".as_slice(),
-        b"tracepoint:raw_syscalls:sys_exit { @ = count(); }".as_slice(),
-        b"tracepoint:raw_syscalls:sys_enter { @ = count(); }\n\n".as_slice(),
-        b"tracepoint:raw_syscalls:sys_enter  { @ = count(); }".as_slice(),
-        b"".as_slice(),
-    ];
-    for script in scripts {
-        let outcome = run(alloc, script, three_entries(alloc)?)?;
-        assert_eq!(rt; outcome.report.status, 2);
-        assert_eq!(rt; outcome.out.taken(), b"".as_slice());
-        assert_eq!(rt; outcome.err.taken(), b"s.bt: not built yet\n".as_slice());
-    }
+    let sum = b"tracepoint:raw_syscalls:sys_enter { @ = sum(1); }";
+    assert!(rt; is_other_script(alloc, sum)?, "another aggregation");
+    let exit = b"tracepoint:raw_syscalls:sys_exit { @ = count(); }";
+    assert!(rt; is_other_script(alloc, exit)?, "another event");
+    let newlines = b"tracepoint:raw_syscalls:sys_enter { @ = count(); }\n\n";
+    assert!(rt; is_other_script(alloc, newlines)?, "two newlines");
+    let blanks = b"tracepoint:raw_syscalls:sys_enter  { @ = count(); }";
+    assert!(rt; is_other_script(alloc, blanks)?, "two blanks");
+    assert!(rt; is_other_script(alloc, b"")?, "no script");
     Ok(())
 }
 
@@ -217,31 +223,46 @@ fn a_missing_file_is_a_read_fault(rt: HostRuntime) -> Result<(), Fail> {
     Ok(())
 }
 
+/// Whether these words are answered by how the program is used, and by nothing else.
+fn are_refused(alloc: Global, line: &[&str]) -> Result<bool, Memory> {
+    let words = words(alloc, line)?;
+    let mut shelf = shelf(alloc, COUNT_SYS_ENTER, three_entries(alloc)?)?;
+    let mut out = sink(alloc)?;
+    let mut err = sink(alloc)?;
+    let report = serve(alloc, words.as_slice(), &mut shelf, &mut out, &mut err);
+    Ok(
+        report.status == 1
+            && out.taken().is_empty()
+            && err.taken() == b"usage: btreplay run SCRIPT RECORDING\n".as_slice(),
+    )
+}
+
 #[test]
 fn other_words_are_answered_by_how_the_program_is_used(rt: HostRuntime) -> Result<(), Fail> {
     let alloc = rt.alloc();
-    let lines = [
-        [].as_slice(),
-        ["run", "s.bt"].as_slice(),
-        ["run", "--serial", "--serial", "s.bt", "r.bin"].as_slice(),
-        ["run", "-s", "r.bin"].as_slice(),
-        ["run", "s.bt", ""].as_slice(),
-        ["count", "s.bt", "r.bin"].as_slice(),
-        ["run", "s.bt", "r.bin", "r.bin"].as_slice(),
-    ];
-    for line in lines {
-        let words = words(alloc, line)?;
-        let mut shelf = shelf(alloc, COUNT_SYS_ENTER, three_entries(alloc)?)?;
-        let mut out = sink(alloc)?;
-        let mut err = sink(alloc)?;
-        let report = serve(alloc, words.as_slice(), &mut shelf, &mut out, &mut err);
-        assert_eq!(rt; report.status, 1);
-        assert_eq!(rt; out.taken(), b"".as_slice());
-        assert_eq!(rt;
-            err.taken(),
-            b"usage: btreplay run SCRIPT RECORDING\n".as_slice()
-        );
-    }
+    assert!(rt; are_refused(alloc, &[])?, "no words");
+    assert!(rt; are_refused(alloc, &["run", "s.bt"])?, "one file");
+    assert!(rt;
+        are_refused(alloc, &["run", "--serial", "--serial", "s.bt", "r.bin"])?,
+        "options"
+    );
+    assert!(rt;
+        are_refused(alloc, &["run", "-s", "r.bin"])?,
+        "an option for a file"
+    );
+    assert!(rt; are_refused(alloc, &["run", "s.bt", ""])?, "an empty word");
+    assert!(rt;
+        are_refused(alloc, &["count", "s.bt", "r.bin"])?,
+        "another command"
+    );
+    assert!(rt;
+        are_refused(alloc, &["run", "s.bt", "r.bin", "r.bin"])?,
+        "three files"
+    );
+    assert!(rt;
+        !are_refused(alloc, &["run", "s.bt", "r.bin"])?,
+        "two files"
+    );
     Ok(())
 }
 
@@ -294,24 +315,24 @@ impl Shelf for Refusing {
 #[test]
 fn a_long_recording_and_want_of_memory_are_told(rt: HostRuntime) -> Result<(), Fail> {
     let alloc = rt.alloc();
-    let answers = [
-        (
-            ShelfError::TooLong,
-            3,
-            b"r.bin: recording too long\n".as_slice(),
-        ),
-        (ShelfError::Memory, 6, b"out of memory\n".as_slice()),
-    ];
-    for (answer, status, line) in answers {
-        let mut shelf = Refusing {
-            answer,
-            asked: Items::new(alloc),
-        };
-        let outcome = run_over(alloc, &mut shelf)?;
-        assert_eq!(rt; shelf.asked.len(), 2);
-        assert_eq!(rt; outcome.report.status, status);
-        assert_eq!(rt; outcome.err.taken(), line);
-    }
+    let mut shelf = Refusing {
+        answer: ShelfError::TooLong,
+        asked: Items::new(alloc),
+    };
+    let outcome = run_over(alloc, &mut shelf)?;
+    assert_eq!(rt; shelf.asked.len(), 2);
+    assert_eq!(rt; outcome.report.status, 3);
+    assert_eq!(rt;
+        outcome.err.taken(),
+        b"r.bin: recording too long\n".as_slice()
+    );
+    let mut shelf = Refusing {
+        answer: ShelfError::Memory,
+        asked: Items::new(alloc),
+    };
+    let outcome = run_over(alloc, &mut shelf)?;
+    assert_eq!(rt; outcome.report.status, 6);
+    assert_eq!(rt; outcome.err.taken(), b"out of memory\n".as_slice());
     Ok(())
 }
 
