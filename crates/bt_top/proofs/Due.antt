@@ -1,7 +1,6 @@
 -- What is due to two files is one thing, and comes unless a fault does.
-use Rattle.std.proofs.Common.{◌≡◌, ℕ, ◌<◌, ◌≤◌, ◌⊎◌, List, length, refl, sym, ap, subst, ◌∙◌, arith, inl, inr}
+use Rattle.std.proofs.Common.{◌≡◌, ℕ, ◌⊎◌, List, refl, subst, arith, inl, inr}
 use Rattle.std.specs.Prelude.{Option, Some, None, IfSome}
-use Rattle.rec_format.specs.Early.{IsEarlyRecording}
 use Rattle.rec_format.proofs.Recordings.{early_unique}
 use Rattle.bt_top.specs.declared.report.Work.{Work}
 use Rattle.bt_top.specs.declared.refusal.Operand.TheVariants.{Script, Recording}
@@ -9,7 +8,7 @@ use Rattle.bt_top.specs.declared.refusal.Refusal.{Refusal}
 use Rattle.bt_top.specs.declared.refusal.Refusal.TheVariants.{Usage, ReadFault, TooLong, Early, WriteFault, Memory}
 use Rattle.bt_top.specs.Refusals.{status_of}
 use Rattle.bt_top.specs.Script.{IsEarlyScript}
-use Rattle.bt_top.specs.Serve.{AreSized, IsOtherScript, IsAccepted, IsDue, OnBoth, MayCome, IsFault, HasWork, CountsEvents, IsCount}
+use Rattle.bt_top.specs.Serve.{IsOtherScript, IsAccepted, IsDue, OnBoth, MayCome, IsFault, HasWork, IsCount}
 
 not_both : (script recording : List ℕ) → IsOtherScript script recording → IsAccepted script recording → ⊥
 not_both script recording other accepted =

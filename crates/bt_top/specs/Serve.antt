@@ -1,11 +1,10 @@
 -- What the top call answers.
-use Rattle.std.specs.Prelude.{◌≡◌, ℕ, ◌++◌, ◌<◌, ◌≤◌, ◌⊎◌, List, [], ◌∷◌, length, Option, Some, None, IfSome, IsSomeAnd, MatchOption}
-use Rattle.std.specs.Io.KnownBytes.{Appends, Keeps}
+use Rattle.std.specs.Prelude.{◌≡◌, ℕ, ◌++◌, ◌<◌, ◌≤◌, ◌⊎◌, List, [], ◌∷◌, length, Option, Some, None, IfSome, IsSomeAnd}
+use Rattle.std.specs.Io.KnownBytes.{Appends}
 use Rattle.bt_io.specs.Taken.{AppendsPart}
 use Rattle.rec_format.specs.declared.early.EarlyRecording.{EarlyRecording}
 use Rattle.rec_format.specs.Early.{IsEarlyRecording}
 use Rattle.bt_top.specs.declared.report.Work.{Work}
-use Rattle.bt_top.specs.declared.refusal.Operand.{Operand}
 use Rattle.bt_top.specs.declared.refusal.Operand.TheVariants.{Script, Recording}
 use Rattle.bt_top.specs.declared.refusal.Refusal.{Refusal}
 use Rattle.bt_top.specs.declared.refusal.Refusal.TheVariants.{Usage, ReadFault, TooLong, Early, WriteFault, Memory}

@@ -1,5 +1,5 @@
 -- Events one after the other, as a loop passes them.
-use Rattle.std.proofs.Common.{◌≡◌, ℕ, zero, suc, ◌+◌, ◌-◌, ◌<◌, ◌≤◌, List, Option, Some, None, refl, ap, sym, ◌∙◌, arith}
+use Rattle.std.proofs.Common.{◌≡◌, ℕ, suc, ◌+◌, ◌-◌, ◌<◌, ◌≤◌, List, Option, Some, None, ap, sym, ◌∙◌, arith}
 use Rattle.rec_format.specs.Reading.{◌>>=◌, event_at, events_at}
 
 -- the next event, and those after it

@@ -1,17 +1,16 @@
 -- The first two lines of a format text are read as they are defined.
-use Rattle.std.proofs.Common.{◌≡◌, ◌≢◌, ℕ, zero, suc, ◌+◌, ◌-◌, ◌*◌, ◌<◌, ◌≤◌, ◌⊎◌, Bool, true, false, cond, not, ◌&&◌, ◌||◌, eqb, leb, List, [], ◌∷◌, ◌++◌, length, get_or, take, drop, codes, Option, Some, None, refl, sym, ap, subst, ◌∙◌, append_assoc, arith, inl, inr}
-use Rattle.std.proofs.lemmas.Grind.{common_steps}
-use Rattle.std.specs.List.{AllByRecursion, prefix_len}
+use Rattle.std.proofs.Common.{◌≡◌, ◌≢◌, ℕ, suc, ◌+◌, ◌-◌, ◌*◌, ◌≤◌, ◌⊎◌, true, false, cond, not, ◌&&◌, ◌||◌, eqb, leb, List, [], ◌∷◌, ◌++◌, length, take, codes, Some, refl, sym, ap, subst, ◌∙◌, arith, inl, inr}
+use Rattle.std.specs.List.{prefix_len}
 use Rattle.std.specs.Prelude.{fold}
-use Rattle.std.proofs.lemmas.Bool.{leb-true, le-leb, eqb-true, ne_eqb, and_parts, and_from, or_cases, not-true, cases_Bool, both_ways, false_from_ne_true, not_from_false}
-use Rattle.std.proofs.lemmas.List.{take_at, drop_at, take-append-drop, length-append, length-take, nil_from_length}
+use Rattle.std.proofs.lemmas.Bool.{leb-true, le-leb, eqb-true, ne_eqb, and_parts, or_cases, both_ways, false_from_ne_true, not_from_false}
+use Rattle.std.proofs.lemmas.List.{take_at, drop_at, take-append-drop, nil_from_length}
 use Rattle.std.proofs.lemmas.Option.{same_Some}
 use Rattle.rec_format.specs.declared.run.ByteSet.{ByteSet}
-use Rattle.rec_format.specs.declared.run.ByteSet.TheVariants.{Blanks, LineEnd, Names, Digits, Systems}
+use Rattle.rec_format.specs.declared.run.ByteSet.TheVariants.{Blanks, LineEnd, Names, Digits}
 use Rattle.rec_format.specs.Words.{is_in, decimal_value}
 use Rattle.rec_format.specs.Early.{AreIn, IsLineBreak, IsFormatHead}
-use Rattle.rec_format.specs.Reading.{◌>>=◌, where_true, only_if, after_bytes, run_of, after_run, is_empty, is_line_break, with_digit, id_from, name_at, id_at, head_of}
-use Rattle.rec_format.proofs.Fields.{bind_some, where_true_some, only_if_some, after_takes, after_again}
+use Rattle.rec_format.specs.Reading.{after_bytes, run_of, after_run, is_empty, is_line_break, with_digit, id_from, name_at, id_at, head_of}
+use Rattle.rec_format.proofs.Fields.{bind_some, where_true_some, only_if_some, after_takes}
 
 -- ---- runs
 

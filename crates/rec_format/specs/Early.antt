@@ -1,5 +1,5 @@
 -- Early recordings: one CPU, one event format, and events that begin with the format's ID.
-use Rattle.std.specs.Prelude.{◌≡◌, ◌≢◌, ℕ, ◌^◌, ◌<◌, ◌≤◌, ◌⊎◌, List, [], ◌∷◌, ◌++◌, length, take, codes, true}
+use Rattle.std.specs.Prelude.{◌≡◌, ◌≢◌, ℕ, ◌^◌, ◌<◌, ◌≤◌, List, [], ◌∷◌, ◌++◌, length, take, codes, true}
 use Rattle.std.specs.List.{AllByRecursion, flat_map}
 use Rattle.byteorder.specs.Endian.{little_bytes}
 use Rattle.rec_format.specs.declared.early.EarlyRecording.{EarlyRecording}

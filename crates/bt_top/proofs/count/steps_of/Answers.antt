@@ -1,4 +1,4 @@
-use Rattle.std.proofs.Common.{◌≡◌, ◌++◌, ◌∷◌, [], ◌+◌}
+use Rattle.std.proofs.Common.{◌++◌, ◌∷◌, [], ◌+◌}
 use Rattle.bt_top.specs.Count.{CountsTo, count_step}
 use Rattle.bt_top.proofs.Counts.{none_yet, one_more}
 use Rattle.bt_top.proofs.count.steps_of.Goals as goal

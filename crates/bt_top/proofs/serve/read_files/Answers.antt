@@ -1,5 +1,3 @@
-use Rattle.std.proofs.Common.{◌≡◌, ap, sym, ◌∙◌}
-use Rattle.std.specs.Prelude.{IfSome}
 use Rattle.bt_top.proofs.Judging.{refused_as_told}
 use Rattle.bt_top.proofs.serve.read_files.Goals as goal
 

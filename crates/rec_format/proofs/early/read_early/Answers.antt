@@ -1,4 +1,4 @@
-use Rattle.std.proofs.Common.{◌≡◌, Some, None, arith}
+use Rattle.std.proofs.Common.{◌≡◌, Some, arith}
 use Rattle.rec_format.specs.Reading.{recording_of, early_of}
 use Rattle.rec_format.proofs.Recordings.{is_found, is_only, is_none}
 use Rattle.rec_format.proofs.early.read_early.Goals as goal

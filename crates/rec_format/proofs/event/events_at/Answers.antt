@@ -1,6 +1,5 @@
-use Rattle.std.proofs.Common.{rules, ◌≡◌, Some, None, ap, ◌∙◌, sym}
+use Rattle.std.proofs.Common.{ap, ◌∙◌, sym}
 use Rattle.std.specs.Option.{option_copied}
-use Rattle.rec_format.specs.Reading.{event_at, events_at}
 use Rattle.rec_format.proofs.EventLemmas.{goes_on, stops, ends}
 use Rattle.rec_format.proofs.event.events_at.Goals as goal
 
