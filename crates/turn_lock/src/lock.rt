@@ -1,0 +1,351 @@
+//! The lock.
+ghost use Rattle.std.specs.Prelude.{◌≡◌, ◌≢◌, ℕ, ◌+◌, ◌^◌, ◌<◌, true, List, [], ◌∷◌, ◌++◌, Option, Some, None, MatchBool, IfOk, OnErr, vec_len};
+ghost use Rattle.turn_lock.specs.declared.view.Entry.{Entry};
+ghost use Rattle.turn_lock.specs.declared.view.Desk.{Desk};
+ghost use Rattle.turn_lock.specs.declared.view.Stage.TheVariants.{Idle, Waits, Holds};
+ghost use Rattle.turn_lock.specs.History.{Each, IsLegal, Rises, StartsWith, ops};
+ghost use Rattle.turn_lock.specs.Turns.{law, fits, Finds, Entered, DeskOk, at_stage, after, entry, first_view, Covers, Noted, Agrees};
+ghost use Rattle.turn_lock.specs.Calls.{view_of, seen, Calls, Looks, MayRefuse, AreTurns, IsNew, IsPart, pasts};
+
+use crate::gate::Gate;
+use crate::object::SeqObject;
+use crate::rule::{Deal, Draw, Keep, Leave, Look, Made, Note, TakeIn, Told, Turns};
+use crate::turn::{Joined, Turn};
+use crate::view::{About, Desk, View};
+use atomic_table::{Badge, Seat, Table};
+use bt_core::memory::Memory;
+use bt_core::step::{ObjectId, Op, Reply};
+use std::alloc::Global;
+use std::marker::Brand;
+use std::mem;
+use std::snapshot::Snapshot;
+use std::sync::Wait;
+use std::thread::yield_now;
+
+/// A caller's seat while it is in a call.
+pub(crate) type Place<O> = Seat<Option<Desk<O>>, View>;
+
+#[derive(Drop)]
+pub struct TurnLock<O: SeqObject> {
+    table: Table<Option<Desk<O>>, View, About<O>, Turns, Global>,
+    id: ObjectId,
+    ghost sized: { (table.shared.table_id.words ≡ 2) × (table.shared.table_id.slots ≡ 1) },
+    ghost some_callers: { 0 < table.shared.key.callers },
+}
+
+impl<O: SeqObject> TurnLock<O> {
+    ghost use Rattle.turn_lock.specs.Locks.{table_of, about, IsOf, AreAll};
+
+    fn draw(&self, seat: &mut Place<O>) -> u64
+        requires table { seat.old.table_id ≡ self.now.table.shared.table_id }
+        requires view { (seat.old.me.0.live ≡ true) × (seat.old.me.0.stage ≡ Idle) }
+        ensures table { seat.new.table_id ≡ seat.old.table_id }
+        ensures view { seat.new.me ≡ (at_stage seat.old.me.0 (Waits result), seat.old.me.1) }
+    {
+        self.table.shared.fetch_add::<Draw>(seat, 0, 1)
+    }
+
+    fn look<W: Told<Desk<O>>>(&self, seat: &mut Place<O>, ticket: u64) -> bool
+        requires table { seat.old.table_id ≡ self.now.table.shared.table_id }
+        requires view { (seat.old.me.0.live ≡ true) × (seat.old.me.0.stage ≡ Waits ticket) × (seat.old.me.1 ≡ []) }
+        requires tells { (d : Desk O) (c : ℕ) (h : List Entry) → Finds (law O.kind O.is_own O.reply self.now.table.shared.key) (fits O.kind O.stands_for self.now.table.shared.key) d c h → W.fits d c h }
+        ensures table { seat.new.table_id ≡ seat.old.table_id }
+        ensures view { MatchBool result (Entered W.fits seat.old.me seat.new.me) (seat.new.me ≡ seat.old.me) }
+    {
+        self.table.shared.load::<Look<W>>(seat, 1) == ticket
+    }
+
+    // Waits for its turn, and takes the slot.
+    fn enter<R: Wait>(&self, rt: &R, seat: &mut Place<O>, ticket: u64)
+        requires table { seat.old.table_id ≡ self.now.table.shared.table_id }
+        requires view { (seat.old.me.0.live ≡ true) × (seat.old.me.0.stage ≡ Waits ticket) × (seat.old.me.1 ≡ []) }
+        ensures table { seat.new.table_id ≡ seat.old.table_id }
+        ensures view { Entered (Finds (law O.kind O.is_own O.reply self.now.table.shared.key) (fits O.kind O.stands_for self.now.table.shared.key)) seat.old.me seat.new.me }
+    {
+        for _ in rt.forever() {
+            if self.look::<Brand>(seat, ticket) {
+                return;
+            }
+            yield_now();
+        }
+        unreachable!()
+    }
+
+    fn take(&self, seat: &mut Place<O>) -> Desk<O>
+        requires table { seat.old.table_id ≡ self.now.table.shared.table_id }
+        requires slot { (d : Desk O) × (seat.old.me.1 ≡ (0, Some d) ∷ []) }
+        ensures table { seat.new.table_id ≡ seat.old.table_id }
+        ensures slot { (seat.old.me.1 ≡ (0, Some result) ∷ []) × (seat.new.me ≡ (seat.old.me.0, (0, None) ∷ [])) }
+    {
+        self.table.shared.exchange(seat, 0, None).unwrap()
+    }
+
+    fn put(&self, seat: &mut Place<O>, desk: Desk<O>)
+        requires table { seat.old.table_id ≡ self.now.table.shared.table_id }
+        requires slot { seat.old.me.1 ≡ (0, None) ∷ [] }
+        ensures table { seat.new.table_id ≡ seat.old.table_id }
+        ensures slot { seat.new.me ≡ (seat.old.me.0, (0, Some desk) ∷ []) }
+    {
+        drop(self.table.shared.exchange(seat, 0, Some(desk)));
+    }
+
+    fn leave<W: Made>(&self, seat: &mut Place<O>)
+        requires table { seat.old.table_id ≡ self.now.table.shared.table_id }
+        requires view { seat.old.me.0.live ≡ true }
+        requires held { (h : List Entry) × (d : Desk O) × (seat.old.me.0.stage ≡ Holds h) × (seat.old.me.1 ≡ (0, Some d) ∷ []) × DeskOk (law O.kind O.is_own O.reply self.now.table.shared.key) (fits O.kind O.stands_for self.now.table.shared.key) d (h ++ W.made) }
+        requires made { Each (λ e. e.caller ≡ seat.old.me.0.caller) W.made }
+        ensures table { seat.new.table_id ≡ seat.old.table_id }
+        ensures view { (h : List Entry) → seat.old.me.0.stage ≡ Holds h → seat.new.me ≡ (after W.made seat.old.me.0 h, []) }
+    {
+        self.table.shared.fetch_add::<Leave<W>>(seat, 1, 1);
+    }
+
+    // Gives the object back with one more entry.
+    fn pass_on<W: Made>(
+        &self,
+        seat: &mut Place<O>,
+        desk: Desk<O>,
+        caller: u32,
+        floor: u64,
+        op: &Op,
+        reply: &Reply,
+    )
+        requires table { seat.old.table_id ≡ self.now.table.shared.table_id }
+        requires made { W.made ≡ entry caller floor desk.stamp op.now reply.now ∷ [] }
+        requires view { (seat.old.me.0.live ≡ true) × (seat.old.me.0.caller ≡ caller) }
+        requires slot { seat.old.me.1 ≡ (0, None) ∷ [] }
+        requires held { (h : List Entry) × (seat.old.me.0.stage ≡ Holds h) × DeskOk (law O.kind O.is_own O.reply self.now.table.shared.key) (fits O.kind O.stands_for self.now.table.shared.key) desk (h ++ entry caller floor desk.stamp op.now reply.now ∷ []) }
+        ensures table { seat.new.table_id ≡ seat.old.table_id }
+        ensures view { (h : List Entry) → seat.old.me.0.stage ≡ Holds h → (seat.new.me ≡ (after (entry caller floor desk.stamp op.now reply.now ∷ []) seat.old.me.0 h, [])) × IsLegal (law O.kind O.is_own O.reply self.now.table.shared.key) (h ++ entry caller floor desk.stamp op.now reply.now ∷ []) }
+    {
+        self.put(seat, desk);
+        self.leave::<W>(seat);
+    }
+
+    // Gives the object back as it was.
+    fn give_up(&self, seat: &mut Place<O>, desk: Desk<O>)
+        requires table { seat.old.table_id ≡ self.now.table.shared.table_id }
+        requires view { seat.old.me.0.live ≡ true }
+        requires slot { seat.old.me.1 ≡ (0, None) ∷ [] }
+        requires held { (h : List Entry) × (seat.old.me.0.stage ≡ Holds h) × DeskOk (law O.kind O.is_own O.reply self.now.table.shared.key) (fits O.kind O.stands_for self.now.table.shared.key) desk h }
+        ensures table { seat.new.table_id ≡ seat.old.table_id }
+        ensures view { (h : List Entry) → seat.old.me.0.stage ≡ Holds h → (seat.new.me ≡ (after [] seat.old.me.0 h, [])) × IsLegal (law O.kind O.is_own O.reply self.now.table.shared.key) h }
+    {
+        self.put(seat, desk);
+        self.leave::<Brand>(seat);
+    }
+
+    // With the object in the slot that the seat holds.
+    fn serve(
+        &self,
+        alloc: Global,
+        seat: &mut Place<O>,
+        caller: u32,
+        floor: u64,
+        op: &Op,
+    ) -> Result<(Reply, u64), Memory>
+        requires table { seat.old.table_id ≡ self.now.table.shared.table_id }
+        requires own { O.is_own (O.kind self.now.table.shared.key.first.value) op.now }
+        requires view { (seat.old.me.0.live ≡ true) × (seat.old.me.0.caller ≡ caller) }
+        requires held { (h : List Entry) × (d : Desk O) × (seat.old.me.0.stage ≡ Holds h) × (seat.old.me.1 ≡ (0, Some d) ∷ []) × Finds (law O.kind O.is_own O.reply self.now.table.shared.key) (fits O.kind O.stands_for self.now.table.shared.key) d caller h }
+        ensures table { seat.new.table_id ≡ seat.old.table_id }
+        ensures done { IfOk result (λ r. (h : List Entry) → seat.old.me.0.stage ≡ Holds h → (seat.new.me ≡ (after (entry caller floor r.1 op.now r.0 ∷ []) seat.old.me.0 h, [])) × IsLegal (law O.kind O.is_own O.reply self.now.table.shared.key) (h ++ entry caller floor r.1 op.now r.0 ∷ [])) }
+        ensures memory { OnErr result ((h : List Entry) → seat.old.me.0.stage ≡ Holds h → (seat.new.me ≡ (after [] seat.old.me.0 h, [])) × IsLegal (law O.kind O.is_own O.reply self.now.table.shared.key) h × MayRefuse (O.is_free (O.kind self.now.table.shared.key.first.value)) h floor op.now) }
+    {
+        let Desk { mut object, stamp } = self.take(seat);
+        let last = floor.max(stamp);
+        if last == u64::MAX {
+            self.give_up(seat, Desk { object, stamp });
+            return Err(Memory);
+        }
+        match object.apply(alloc, op) {
+            Ok(reply) => {
+                let stamp = last + 1;
+                self.pass_on::<Brand>(seat, Desk { object, stamp }, caller, floor, op, &reply);
+                Ok((reply, stamp))
+            }
+            Err(Memory) => {
+                self.give_up(seat, Desk { object, stamp });
+                Err(Memory)
+            }
+        }
+    }
+
+    pub fn id(&self) -> ObjectId
+        ensures { result ≡ self.now.id }
+    {
+        self.id
+    }
+
+    // Draws a ticket, and waits for its turn.
+    fn wait_turn<R: Wait>(&self, rt: &R, seat: &mut Place<O>)
+        requires table { seat.old.table_id ≡ self.now.table.shared.table_id }
+        requires view { (seat.old.me.0.live ≡ true) × (seat.old.me.0.stage ≡ Idle) × (seat.old.me.1 ≡ []) }
+        ensures table { seat.new.table_id ≡ seat.old.table_id }
+        ensures view { Entered (Finds (law O.kind O.is_own O.reply self.now.table.shared.key) (fits O.kind O.stands_for self.now.table.shared.key)) seat.old.me seat.new.me }
+    {
+        let ticket = self.draw(seat);
+        self.enter(rt, seat, ticket);
+    }
+
+    // A call, by a seat that rests.
+    fn run<G: Gate, R: Wait>(
+        &self,
+        rt: &R,
+        alloc: Global,
+        seat: &mut Place<O>,
+        caller: u32,
+        floor: u64,
+        op: &Op,
+        gate: &G,
+    ) -> Result<(Reply, u64), Memory>
+        requires table { seat.old.table_id ≡ self.now.table.shared.table_id }
+        requires own { O.is_own (O.kind self.now.table.shared.key.first.value) op.now }
+        requires view { (seat.old.me.0.live ≡ true) × (seat.old.me.0.stage ≡ Idle) × (seat.old.me.0.caller ≡ caller) × (seat.old.me.1 ≡ []) }
+        ensures table { seat.new.table_id ≡ seat.old.table_id }
+        ensures view { (seat.new.me.0.live ≡ true) × (seat.new.me.0.stage ≡ Idle) × (seat.new.me.0.caller ≡ caller) × (seat.new.me.1 ≡ []) }
+        ensures done { IfOk result (λ r. Calls (law O.kind O.is_own O.reply self.now.table.shared.key) seat.old.me.0 seat.new.me.0 (entry caller floor r.1 op.now r.0)) }
+        ensures memory { OnErr result (Looks (law O.kind O.is_own O.reply self.now.table.shared.key) seat.old.me.0 seat.new.me.0) }
+        ensures cause { OnErr result (MayRefuse (O.is_free (O.kind self.now.table.shared.key.first.value)) seat.new.me.0.seen floor op.now) }
+    {
+        self.wait_turn(rt, seat);
+        gate.held(rt, caller, self.id);
+        self.serve(alloc, seat, caller, floor, op)
+    }
+
+    /// Performs one operation when its turn comes.
+    pub fn call<G: Gate, R: Wait>(
+        &self,
+        rt: &R,
+        alloc: Global,
+        turn: &mut Turn,
+        floor: u64,
+        op: &Op,
+        gate: &G,
+    ) -> Result<(Reply, u64), Memory>
+        requires turn { IsOf self.now turn.old }
+        requires own { O.is_own (O.kind (about self.now).first.value) op.now }
+        ensures turn { IsOf self.now turn.new × (turn.new.caller ≡ turn.old.caller) }
+        ensures done { IfOk result (λ r. Calls (law O.kind O.is_own O.reply (about self.now)) (view_of turn.old) (view_of turn.new) (entry turn.old.caller floor r.1 op.now r.0)) }
+        ensures memory { OnErr result (Looks (law O.kind O.is_own O.reply (about self.now)) (view_of turn.old) (view_of turn.new)) }
+        ensures cause { OnErr result (MayRefuse (O.is_free (O.kind (about self.now).first.value)) (seen turn.new) floor op.now) }
+    {
+        let mut seat: Place<O> = mem::replace(&mut turn.badge, Badge::blank()).into_seat();
+        let outcome = self.run(rt, alloc, &mut seat, turn.caller, floor, op, gate);
+        turn.badge = seat.into_badge();
+        outcome
+    }
+
+    fn take_in(&self, seat: &mut Place<O>, mut turns: Vec<Turn>)
+        requires table { seat.old.table_id ≡ self.now.table.shared.table_id }
+        requires turns { (k : ℕ) × AreTurns self.now.table.shared.table_id k turns.items }
+        requires view { seat.old.me.0.live ≡ true }
+        ensures table { seat.new.table_id ≡ seat.old.table_id }
+        ensures view { seat.new.me ≡ (record seat.old.me.0 { taken = seat.old.me.0.taken ++ pasts turns.items }, seat.old.me.1) }
+    {
+        while let Some(turn) = turns.pop() {
+            self.table
+                .shared
+                .join_seat::<TakeIn>(seat, turn.into_seat());
+        }
+    }
+
+    // The turns of a new table, of which this is the first seat.
+    fn deal(&self, alloc: Global, mut first: Place<O>, callers: u32) -> Result<Vec<Turn>, Memory>
+        requires table { first.table_id ≡ self.now.table.shared.table_id }
+        requires view { first.me ≡ (first_view, []) }
+        requires callers { callers ≡ self.now.table.shared.key.callers }
+        ensures turns { IfOk result (λ turns. (vec_len turns ≡ callers) × AreTurns self.now.table.shared.table_id 0 turns.items × Each IsNew turns.items) }
+    {
+        let mut turns = Vec::with_capacity(alloc, callers as usize)?;
+        for caller in 1..callers {
+            let seat = self.table.shared.split_seat::<Deal>(&mut first);
+            let Ok(()) = turns.push(Turn::of(caller, seat)) else {
+                return Err(Memory);
+            };
+        }
+        let Ok(()) = turns.insert(0, Turn::of(0, first)) else {
+            return Err(Memory);
+        };
+        Ok(turns)
+    }
+
+    /// A lock round a fresh object, and a turn for each caller.
+    pub fn new(
+        alloc: Global,
+        object: O,
+        id: ObjectId,
+        callers: u32,
+    ) -> Result<(TurnLock<O>, Vec<Turn>), Memory>
+        requires callers { 0 < callers }
+        requires object { O.stands_for object [] }
+        ensures lock { IfOk result (λ r. (r.0.id ≡ id) × (O.kind (about r.0).first.value ≡ O.kind object) × ((about r.0).callers ≡ callers)) }
+        ensures turns { IfOk result (λ r. AreAll r.0 r.1.items × Each IsNew r.1.items) }
+    {
+        let about = About {
+            first: Snapshot::of(&object),
+            callers,
+        };
+        let mut slots = Vec::with_capacity(alloc, 1)?;
+        slots.push_reserved(Some(Desk { object, stamp: 0 }));
+        let Ok((table, first)) = Table::new(alloc, &[0, 0], slots, &about) else {
+            return Err(Memory);
+        };
+        let lock = TurnLock { table, id };
+        let turns = lock.deal(alloc, first, callers)?;
+        Ok((lock, turns))
+    }
+
+    // One seat for all turns.
+    fn gather(&self, mut turns: Vec<Turn>) -> Place<O>
+        requires turns { (vec_len turns ≡ self.now.table.shared.key.callers) × AreTurns self.now.table.shared.table_id 0 turns.items }
+        ensures table { result.table_id ≡ self.now.table.shared.table_id }
+        ensures view { (result.me.1 ≡ []) × (result.me.0.live ≡ true) × (result.me.0.stage ≡ Idle) × Covers self.now.table.shared.key.callers result.me.0 }
+        ensures turns { (h : List Entry) → StartsWith h result.me.0.seen → Agrees h result.me.0 → Each (IsPart h) turns.items }
+    {
+        let mut seat: Place<O> = turns.remove(0).into_seat();
+        self.take_in(&mut seat, turns);
+        seat
+    }
+
+    // The whole history, for a seat and a token of it.
+    fn note(&self, seat: &mut Place<O>) -> Joined
+        requires table { seat.old.table_id ≡ self.now.table.shared.table_id }
+        requires view { seat.old.me.0.live ≡ true }
+        ensures table { seat.new.table_id ≡ seat.old.table_id }
+        ensures view { Noted seat.old.me.0 seat.new.me.0 }
+        ensures token { result ≡ seat.new.me.0.seen }
+    {
+        self.table.shared.load::<Note>(seat, 1);
+        let badge = self.table.shared.split_seat::<Keep>(seat).into_badge();
+        Joined { badge }
+    }
+
+    // Ends the table, with a seat that has taken all others in.
+    fn end(self, seat: Place<O>) -> Desk<O>
+        requires table { seat.table_id ≡ self.table.shared.table_id }
+        requires view { (seat.me.0.live ≡ true) × (seat.me.0.stage ≡ Idle) × Covers self.table.shared.key.callers seat.me.0 × Noted seat.me.0 seat.me.0 }
+        ensures desk { DeskOk (law O.kind O.is_own O.reply self.table.shared.key) (fits O.kind O.stands_for self.table.shared.key) result seat.me.0.seen }
+        ensures view { Agrees seat.me.0.seen seat.me.0 }
+    {
+        let TurnLock { table, id: _ } = self;
+        let mut closed = table.close_with(seat);
+        let slot = closed.take(0);
+        closed.free();
+        slot.unwrap()
+    }
+
+    /// Takes every turn back, and gives the object with the history of all calls.
+    pub fn close(self, turns: Vec<Turn>) -> (O, Joined)
+        requires turns { AreAll self turns.items }
+        ensures object { (O.kind result.0 ≡ O.kind (about self).first.value) × O.stands_for result.0 (ops result.1) }
+        ensures legal { IsLegal (law O.kind O.is_own O.reply (about self)) result.1 }
+        ensures stamps { Rises 0 result.1 }
+        ensures turns { Each (IsPart result.1) turns.items }
+    {
+        let mut seat = self.gather(turns);
+        let joined = self.note(&mut seat);
+        let Desk { object, stamp: _ } = self.end(seat);
+        (object, joined)
+    }
+}
