@@ -2,15 +2,15 @@
 use Rattle.std.proofs.Common.{◌≡◌, ℕ, suc, ◌+◌, ◌<◌, max, Option, Some, Result, Ok, Err, IfOk, OnErr, arith, List, [], ◌∷◌, ◌++◌, sym, refl, ap, ◌∙◌, subst}
 use Rattle.std.proofs.lemmas.List.{append-nil}
 use Rattle.bt_core.specs.declared.step.Op.{Op}
-use Rattle.turn_lock.specs.declared.view.Entry.{Entry}
+use Rattle.turn_lock.specs.declared.entry.Entry.{Entry}
 use Rattle.turn_lock.specs.declared.view.Desk.{Desk}
-use Rattle.turn_lock.specs.History.{Law, IsLegal, ops, of, StartsWith}
+use Rattle.turn_lock.specs.History.{Law, IsLegal, ops, made_by, StartsWith}
 use Rattle.turn_lock.specs.declared.view.View.{View}
 use Rattle.turn_lock.specs.declared.view.Stage.{Stage}
 use Rattle.turn_lock.specs.declared.view.Stage.TheVariants.{Idle, Holds}
 use Rattle.turn_lock.specs.Turns.{DeskOk, after}
-use Rattle.turn_lock.specs.Calls.{Calls, Looks}
-use Rattle.turn_lock.proofs.Parts.{legal_rises, legal_snoc, stamp_snoc, ops_snoc, of_append, of_own}
+use Rattle.turn_lock.specs.Calls.{Gains, Stays}
+use Rattle.turn_lock.proofs.Parts.{legal_rises, legal_snoc, stamp_snoc, ops_snoc, made_by_append, made_by_own}
 
 pub adds : {O : Type 0} (l : Law) (fits : O → List Op → Type 0) (d d' : Desk O) (h : List Entry) (e : Entry) → DeskOk l fits d h → e.caller < l.callers → l.is_own e.op → e.reply ≡ l.reply (ops h) e.op
     → e.stamp ≡ suc (max e.floor d.stamp) → d'.stamp ≡ e.stamp → fits d'.object (ops h ++ e.op ∷ []) → DeskOk l fits d' (h ++ e ∷ [])
@@ -42,16 +42,16 @@ err_weaken P Q (Ok x) f h = tt
 err_weaken P Q (Err e) f h = f h
 
 -- what a caller knows after it added an entry
-pub called : (l : Law) (v : View) (h : List Entry) (e : Entry) → StartsWith h v.seen → of v.caller h ≡ v.mine → e.caller ≡ v.caller → IsLegal l (h ++ e ∷ []) → Calls l v (after (e ∷ []) v h) e
-called l v h e s own by legal = record {
-  sees = record { legal = legal; rises = legal_rises l [] 0 (h ++ e ∷ []) legal; own = of_append v.caller h (e ∷ []) ∙ (λ i. own i ++ of_own v.caller (e ∷ []) (by, tt) i) };
+pub called : (l : Law) (c : ℕ) (v : View) (h : List Entry) (e : Entry) → StartsWith h v.seen → made_by c h ≡ v.mine → e.caller ≡ c → IsLegal l (h ++ e ∷ []) → Gains l c v (after (e ∷ []) v h) e
+called l c v h e s own by legal = record {
+  sees = record { legal = legal; rises = legal_rises l [] 0 (h ++ e ∷ []) legal; own = made_by_append c h (e ∷ []) ∙ (λ i. own i ++ made_by_own c (e ∷ []) (by, tt) i) };
   more = (s.0, ap (λ (z : List Entry). z ++ e ∷ []) s.1);
   one_more = refl;
 }
 
 -- what a caller knows after it gave up
-pub looked_on : (l : Law) (v : View) (h : List Entry) → StartsWith h v.seen → of v.caller h ≡ v.mine → IsLegal l h → Looks l v (after [] v h)
-looked_on l v h s own legal = subst (λ (z : List Entry × List Entry). Looks l v (let w : View = record v { stage = Idle; mine = z.0; seen = z.1 } in w)) (λ i. (sym (append-nil v.mine) i, sym (append-nil h) i)) record {
+pub looked_on : (l : Law) (c : ℕ) (v : View) (h : List Entry) → StartsWith h v.seen → made_by c h ≡ v.mine → IsLegal l h → Stays l c v (after [] v h)
+looked_on l c v h s own legal = subst (λ (z : List Entry × List Entry). Stays l c v (let w : View = record v { stage = Idle; mine = z.0; seen = z.1 } in w)) (λ i. (sym (append-nil v.mine) i, sym (append-nil h) i)) record {
   sees = record { legal = legal; rises = legal_rises l [] 0 h legal; own = own };
   more = s;
   same = refl;

@@ -7,14 +7,14 @@ use lib.ListN.{get_elem?}
 use Rattle.std.proofs.Common.{cond}
 use Rattle.atomic_table.specs.Table.{State, Final, Seen}
 use Rattle.bt_core.specs.declared.step.Op.{Op}
-use Rattle.turn_lock.specs.declared.view.Entry.{Entry}
+use Rattle.turn_lock.specs.declared.entry.Entry.{Entry}
 use Rattle.turn_lock.specs.declared.view.Stage.TheVariants.{Idle, Holds}
 use Rattle.turn_lock.specs.declared.view.Past.{Past}
 use Rattle.turn_lock.specs.declared.view.View.{View}
 use Rattle.turn_lock.specs.declared.view.Desk.{Desk}
-use Rattle.turn_lock.specs.History.{Law, IsLegalAfter, of, StartsWith, Each}
+use Rattle.turn_lock.specs.History.{Law, IsLegalAfter, made_by, StartsWith, Each}
 use Rattle.turn_lock.specs.Turns.{Part, part_of, KnowsPast, Knows, DeskOk, IsOut, IsHome, Kept, Noted, Covers, Agrees}
-use Rattle.turn_lock.proofs.Parts.{Each-weaken, of_append}
+use Rattle.turn_lock.proofs.Parts.{Each-weaken, made_by_append}
 
 legal_callers : (l : Law) (before : List Op) (last : ℕ) (es : List Entry) → IsLegalAfter l before last es → Each (λ e. e.caller < l.callers) es
 legal_callers l before last [] h = tt
@@ -29,11 +29,11 @@ cancels [] ys e = e
 cancels (x ∷ xs) ys e = cancels xs ys (let t : xs ++ ys ≡ xs = cc in t)
 
 -- no caller has an entry, so there is none
-nothing : (n : ℕ) (es : List Entry) → Each (λ e. e.caller < n) es → ((c : ℕ) → c < n → of c es ≡ []) → es ≡ []
+nothing : (n : ℕ) (es : List Entry) → Each (λ e. e.caller < n) es → ((c : ℕ) → c < n → made_by c es ≡ []) → es ≡ []
 nothing n [] h f = refl
-nothing n (e ∷ es) h f = absurd (not_empty (sym (ap (λ (b : Bool). cond b (e ∷ of e.caller es) (of e.caller es)) (eq-eqb e.caller e.caller refl)) ∙ f e.caller h.0))
+nothing n (e ∷ es) h f = absurd (not_empty (sym (ap (λ (b : Bool). cond b (e ∷ made_by e.caller es) (made_by e.caller es)) (eq-eqb e.caller e.caller refl)) ∙ f e.caller h.0))
   where
-    not_empty : e ∷ of e.caller es ≡ [] → ⊥
+    not_empty : e ∷ made_by e.caller es ≡ [] → ⊥
     not_empty q = cc
 
 each_at : {A : Type 0} (P : A → Type 0) (xs : List A) (i : ℕ) (x : A) → Each P xs → get_elem? xs i ≡ some x → P x
@@ -61,7 +61,7 @@ module _ {O : Type 0} (l : Law) (fits : O → List Op → Type 0) where
       is : r.callers v.caller ≡ part_of v
       is = (mine.live live).2
 
-      own_log : of v.caller r.log ≡ v.mine
+      own_log : made_by v.caller r.log ≡ v.mine
       own_log = (r.each v.caller (mine.live live).0).mine ∙ ap (λ (z : Part). z.mine) is
 
       -- the history that was noted is the one that the view has
@@ -71,24 +71,24 @@ module _ {O : Type 0} (l : Law) (fits : O → List Op → Type 0) where
       more : StartsWith r.log h
       more = mine.seen
 
-      same : (c : ℕ) → c < l.callers → of c r.log ≡ of c h
-      same c lt = ⊎_elim (λ (e : c ≡ v.caller). ap (λ (k : ℕ). of k r.log) e ∙ own_log ∙ sym noted.2 ∙ (λ i. of (sym e i) (h_is i)))
+      same : (c : ℕ) → c < l.callers → made_by c r.log ≡ made_by c h
+      same c lt = ⊎_elim (λ (e : c ≡ v.caller). ap (λ (k : ℕ). made_by k r.log) e ∙ own_log ∙ sym noted.2 ∙ (λ i. made_by (sym e i) (h_is i)))
           (λ (t : (i : ℕ) × (p : Past) × (get_elem? v.taken i ≡ some p) × (p.caller ≡ c)).
           let a = each_at (KnowsPast r.log r.callers r.seat r.made id v.live v.caller) v.taken t.0 t.1 mine.taken t.2 in
-          let b = each_at (λ (p : Past). of p.caller noted.0 ≡ p.mine) v.taken t.0 t.1 noted.3 t.2 in
-          ap (λ (k : ℕ). of k r.log) (sym t.3) ∙ (r.each t.1.caller a.0).mine ∙ ap (λ (z : Part). z.mine) a.2 ∙ sym b ∙ (λ i. of (t.3 i) (h_is i))) (covers c lt)
+          let b = each_at (λ (p : Past). made_by p.caller noted.0 ≡ p.mine) v.taken t.0 t.1 noted.3 t.2 in
+          ap (λ (k : ℕ). made_by k r.log) (sym t.3) ∙ (r.each t.1.caller a.0).mine ∙ ap (λ (z : Part). z.mine) a.2 ∙ sym b ∙ (λ i. made_by (t.3 i) (h_is i))) (covers c lt)
 
-      none_left : (c : ℕ) → c < l.callers → of c more.0 ≡ []
-      none_left c lt = cancels (of c h) (of c more.0) (sym (of_append c h more.0) ∙ ap (of c) (sym more.1) ∙ same c lt)
+      none_left : (c : ℕ) → c < l.callers → made_by c more.0 ≡ []
+      none_left c lt = cancels (made_by c h) (made_by c more.0) (sym (made_by_append c h more.0) ∙ ap (made_by c) (sym more.1) ∙ same c lt)
 
       log_is : r.log ≡ h
       log_is = more.1 ∙ ap (λ (z : List Entry). h ++ z) (nothing l.callers more.0 (each_right (λ e. e.caller < l.callers) h more.0 (subst (Each (λ e. e.caller < l.callers)) more.1 (legal_callers l [] 0 r.log r.legal))) none_left) ∙ append-nil h
 
       agrees : Agrees h v
       agrees = (
-        ap (of v.caller) (sym log_is) ∙ own_log,
-        Each-weaken (KnowsPast r.log r.callers r.seat r.made id v.live v.caller) (λ (p : Past). (of p.caller h ≡ p.mine) × StartsWith h p.seen)
-            (λ p a. (ap (of p.caller) (sym log_is) ∙ (r.each p.caller a.0).mine ∙ ap (λ (z : Part). z.mine) a.2, subst (λ (z : List Entry × List Entry). StartsWith z.0 z.1) (λ i. (log_is i, (a.2 i).seen)) (r.each p.caller a.0).seen)) v.taken mine.taken,
+        ap (made_by v.caller) (sym log_is) ∙ own_log,
+        Each-weaken (KnowsPast r.log r.callers r.seat r.made id v.live v.caller) (λ (p : Past). (made_by p.caller h ≡ p.mine) × StartsWith h p.seen)
+            (λ p a. (ap (made_by p.caller) (sym log_is) ∙ (r.each p.caller a.0).mine ∙ ap (λ (z : Part). z.mine) a.2, subst (λ (z : List Entry × List Entry). StartsWith z.0 z.1) (λ i. (log_is i, (a.2 i).seen)) (r.each p.caller a.0).seen)) v.taken mine.taken,
       )
 
       not_held : (g : List Entry) → Idle ≡ Holds g → ⊥

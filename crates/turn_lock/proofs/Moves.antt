@@ -11,15 +11,15 @@ use lib.Seq.{set-get_or}
 use Rattle.atomic_table.specs.Table.{State, Me, Act, Valid, keeps, takes, gives, stepped, homes_after, carried_after, put_back, rest, Allows, Splits, Joins, opening}
 use Rattle.atomic_table.proofs.Lists.{at_set, set_else, set_again, one_turn}
 use Rattle.bt_core.specs.declared.step.Op.{Op}
-use Rattle.turn_lock.specs.declared.view.Entry.{Entry}
+use Rattle.turn_lock.specs.declared.entry.Entry.{Entry}
 use Rattle.turn_lock.specs.declared.view.Stage.{Stage}
 use Rattle.turn_lock.specs.declared.view.Stage.TheVariants.{Idle, Waits, Holds}
 use Rattle.turn_lock.specs.declared.view.Past.{Past}
 use Rattle.turn_lock.specs.declared.view.View.{View}
 use Rattle.turn_lock.specs.declared.view.Desk.{Desk}
-use Rattle.turn_lock.specs.History.{Law, of, StartsWith, Each}
+use Rattle.turn_lock.specs.History.{Law, made_by, StartsWith, Each}
 use Rattle.turn_lock.specs.Turns.{Part, part_of, nobody, newcomer, first_view, dealer_after, past_of, taking, keepsake, at_stage, busy, waiting, StageOk, CallerOk, KnowsPast, Knows, DeskOk, IsOut, IsHome, Kept, after, drew, left, looked, noted, Finds}
-use Rattle.turn_lock.proofs.Parts.{put, put_here, put_else, at_snoc_place, Each-weaken, Each-snoc, waiting-le, waiting_put, starts_with_itself, starts_with_nothing, starts_with_start, of_own, of_others, of_append}
+use Rattle.turn_lock.proofs.Parts.{put, put_here, put_else, at_snoc_place, Each-weaken, Each-snoc, waiting-le, waiting_put, starts_with_itself, starts_with_nothing, starts_with_start, made_by_own, made_by_others, made_by_append}
 
 abbrev W64 : ℕ
 W64 = 2 ^ 64
@@ -353,13 +353,13 @@ module _ {O : Type 0} (l : Law) (fits : O → List Op → Type 0) where
 
       own : CallerOk log' who' (r.base + 1) (r.count - 1) homes' c (callers' c)
       own = subst (CallerOk log' who' (r.base + 1) (r.count - 1) homes' c) (sym (put_here r.callers c p)) record {
-        mine = of_append c h made ∙ (λ k. of c (turn.2 k) ++ of_own c made by k) ∙ ap (λ (z : List Entry). z ++ made) ((r.each c inside).mine ∙ ap (λ (q : Part). q.mine) is);
+        mine = made_by_append c h made ∙ (λ k. made_by c (turn.2 k) ++ made_by_own c made by k) ∙ ap (λ (z : List Entry). z ++ made) ((r.each c inside).mine ∙ ap (λ (q : Part). q.mine) is);
         seen = starts_with_itself log';
         stage = tt;
       }
 
-      none_of : (e : ℕ) → e ≢ c → of e log' ≡ of e r.log
-      none_of e ne = of_append e h made ∙ (λ k. of e (turn.2 k) ++ of_others c e made ne by k) ∙ append-nil (of e r.log)
+      none_of : (e : ℕ) → e ≢ c → made_by e log' ≡ made_by e r.log
+      none_of e ne = made_by_append e h made ∙ (λ k. made_by e (turn.2 k) ++ made_by_others c e made ne by k) ∙ append-nil (made_by e r.log)
 
       kept_so : Rule record { words = (r.base + 1 + (r.count - 1)) % 2 ^ 64 ∷ (r.base + 1) % 2 ^ 64 ∷ []; homes = homes'; views = set s.views id w }
       kept_so = record {
@@ -388,7 +388,7 @@ module _ {O : Type 0} (l : Law) (fits : O → List Op → Type 0) where
       kept = subst (λ (z : List ℕ × Homes). Rule record { words = z.0; homes = z.1; views = set s.views id w }) (λ k. (sym words_are k, sym homes_are k)) kept_so
 
   pub notes : (slots id : ℕ) (m : M) → m.0.live ≡ true → Allows Rule slots id m 1 (λ n. n) (λ n m'. noted m m')
-  notes slots id m live s r _ at _ = (w, keeps, tt, kept, ((r.log, refl, of_mine, past, mine.seen), refl))
+  notes slots id m live s r _ at _ = (w, keeps, tt, kept, ((r.log, refl, made_by_mine, past, mine.seen), refl))
     where
       v : View
       v = m.0
@@ -411,18 +411,18 @@ module _ {O : Type 0} (l : Law) (fits : O → List Op → Type 0) where
       is : r.callers c ≡ part_of v
       is = (mine.live live).2
 
-      of_mine : of c r.log ≡ v.mine
-      of_mine = (r.each c inside).mine ∙ ap (λ (q : Part). q.mine) is
+      made_by_mine : made_by c r.log ≡ v.mine
+      made_by_mine = (r.each c inside).mine ∙ ap (λ (q : Part). q.mine) is
 
-      past : Each (λ (q : Past). of q.caller r.log ≡ q.mine) v.taken
-      past = Each-weaken (KnowsPast r.log r.callers r.seat r.made id v.live c) (λ q. of q.caller r.log ≡ q.mine) (λ q a. (r.each q.caller a.0).mine ∙ ap (λ (z : Part). z.mine) a.2) v.taken mine.taken
+      past : Each (λ (q : Past). made_by q.caller r.log ≡ q.mine) v.taken
+      past = Each-weaken (KnowsPast r.log r.callers r.seat r.made id v.live c) (λ q. made_by q.caller r.log ≡ q.mine) (λ q a. (r.each q.caller a.0).mine ∙ ap (λ (z : Part). z.mine) a.2) v.taken mine.taken
 
       callers' : ℕ → Part
       callers' = put r.callers c p
 
       own : CallerOk r.log r.who r.base r.count s.homes c (callers' c)
       own = let old = r.each c inside in subst (CallerOk r.log r.who r.base r.count s.homes c) (sym (put_here r.callers c p)) record {
-        mine = of_mine;
+        mine = made_by_mine;
         seen = starts_with_itself r.log;
         stage = subst (StageOk r.log r.who r.base r.count s.homes c) (ap (λ (q : Part). q.stage) is) old.stage;
       }
@@ -506,7 +506,7 @@ module _ {O : Type 0} (l : Law) (fits : O → List Op → Type 0) where
       n_is : n ≡ r.made
       n_is = (mine.deals deals).0
 
-      fresh : (of n r.log ≡ []) × ((r.callers n).stage ≡ Idle)
+      fresh : (made_by n r.log ≡ []) × ((r.callers n).stage ≡ Idle)
       fresh = r.others n (omega (arith, n_is))
 
       own : CallerOk r.log r.who r.base r.count s.homes n (callers' n)

@@ -8,10 +8,10 @@ use mathlib.Core.Option.{some, some-injective, some-ne-none}
 use native.Mathlib.Decide.{ℕ_discrete}
 use lib.ListN.{get_elem?}
 use Rattle.bt_core.specs.declared.step.Op.{Op}
-use Rattle.turn_lock.specs.declared.view.Entry.{Entry}
+use Rattle.turn_lock.specs.declared.entry.Entry.{Entry}
 use Rattle.turn_lock.specs.declared.view.Stage.{Stage}
 use Rattle.turn_lock.specs.declared.view.Stage.TheVariants.{Idle, Waits, Holds}
-use Rattle.turn_lock.specs.History.{Law, IsNext, IsLegalAfter, ops, op_of, of, is_by, StartsWith, stamp_after, Each, Rises}
+use Rattle.turn_lock.specs.History.{Law, IsNext, IsLegalAfter, ops, op_of, made_by, is_by, StartsWith, stamp_after, Each, Rises}
 use Rattle.turn_lock.specs.Turns.{Part, busy, waiting}
 
 abbrev pub put : {A : Type 0} → (ℕ → A) → ℕ → A → ℕ → A
@@ -73,16 +73,16 @@ starts_with_nothing log = (log, refl)
 pub starts_with_start : (log mid seen : List Entry) → StartsWith log mid → StartsWith mid seen → StartsWith log seen
 starts_with_start log mid seen a b = (b.0 ++ a.0, a.1 ∙ ap (λ (z : List Entry). z ++ a.0) b.1 ∙ append_assoc seen b.0 a.0)
 
-pub of_own : (c : ℕ) (es : List Entry) → Each (λ e. e.caller ≡ c) es → of c es ≡ es
-of_own c [] h = refl
-of_own c (e ∷ es) h = ap (λ (b : Bool). cond b (e ∷ of c es) (of c es)) (eq-eqb e.caller c h.0) ∙ ap (λ (z : List Entry). e ∷ z) (of_own c es h.1)
+pub made_by_own : (c : ℕ) (es : List Entry) → Each (λ e. e.caller ≡ c) es → made_by c es ≡ es
+made_by_own c [] h = refl
+made_by_own c (e ∷ es) h = ap (λ (b : Bool). cond b (e ∷ made_by c es) (made_by c es)) (eq-eqb e.caller c h.0) ∙ ap (λ (z : List Entry). e ∷ z) (made_by_own c es h.1)
 
-pub of_others : (c d : ℕ) (es : List Entry) → d ≢ c → Each (λ e. e.caller ≡ c) es → of d es ≡ []
-of_others c d [] ne h = refl
-of_others c d (e ∷ es) ne h = ap (λ (b : Bool). cond b (e ∷ of d es) (of d es)) (ne_eqb e.caller d (λ q. ne (sym q ∙ h.0))) ∙ of_others c d es ne h.1
+pub made_by_others : (c d : ℕ) (es : List Entry) → d ≢ c → Each (λ e. e.caller ≡ c) es → made_by d es ≡ []
+made_by_others c d [] ne h = refl
+made_by_others c d (e ∷ es) ne h = ap (λ (b : Bool). cond b (e ∷ made_by d es) (made_by d es)) (ne_eqb e.caller d (λ q. ne (sym q ∙ h.0))) ∙ made_by_others c d es ne h.1
 
-pub of_append : (c : ℕ) (xs ys : List Entry) → of c (xs ++ ys) ≡ of c xs ++ of c ys
-of_append c xs ys = filter-append (is_by c) xs ys
+pub made_by_append : (c : ℕ) (xs ys : List Entry) → made_by c (xs ++ ys) ≡ made_by c xs ++ made_by c ys
+made_by_append c xs ys = filter-append (is_by c) xs ys
 
 pub legal_snoc : (l : Law) (before : List Op) (last : ℕ) (es : List Entry) (e : Entry) → IsLegalAfter l before last es → IsNext l (before ++ ops es) (stamp_after last es) e → IsLegalAfter l before last (es ++ e ∷ [])
 legal_snoc l before last [] e h n = (subst (λ (z : List Op). IsNext l z last e) (append-nil before) n, tt)

@@ -2,7 +2,7 @@
 use Rattle.std.specs.Prelude.{◌≡◌, ℕ, suc, ◌<◌, max, eqb, Bool, List, [], ◌∷◌, ◌++◌, map, filter}
 use Rattle.bt_core.specs.declared.step.Op.{Op}
 use Rattle.bt_core.specs.declared.step.Reply.{Reply}
-use Rattle.turn_lock.specs.declared.view.Entry.{Entry}
+use Rattle.turn_lock.specs.declared.entry.Entry.{Entry}
 
 abbrev pub op_of : Entry → Op
 op_of e = e.op
@@ -14,8 +14,8 @@ abbrev pub is_by : ℕ → Entry → Bool
 is_by c e = eqb e.caller c
 
 -- the entries of one caller
-abbrev pub of : ℕ → List Entry → List Entry
-of c es = filter (is_by c) es
+abbrev pub made_by : ℕ → List Entry → List Entry
+made_by c es = filter (is_by c) es
 
 abbrev pub StartsWith : List Entry → List Entry → Type 0
 StartsWith log seen = (rest : List Entry) × (log ≡ seen ++ rest)

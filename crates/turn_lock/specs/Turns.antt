@@ -6,14 +6,14 @@ use lib.ListN.{get_elem?}
 use Rattle.atomic_table.specs.Table.{State, Me}
 use Rattle.bt_core.specs.declared.step.Op.{Op}
 use Rattle.bt_core.specs.declared.step.Reply.{Reply}
-use Rattle.turn_lock.specs.declared.view.Entry.{Entry}
+use Rattle.turn_lock.specs.declared.entry.Entry.{Entry}
 use Rattle.turn_lock.specs.declared.view.Stage.{Stage}
 use Rattle.turn_lock.specs.declared.view.Stage.TheVariants.{Idle, Waits, Holds}
 use Rattle.turn_lock.specs.declared.view.Past.{Past}
 use Rattle.turn_lock.specs.declared.view.View.{View}
 use Rattle.turn_lock.specs.declared.view.Desk.{Desk}
 use Rattle.turn_lock.specs.declared.view.About.{About}
-use Rattle.turn_lock.specs.History.{Law, IsLegal, ops, of, StartsWith, stamp_after, Each}
+use Rattle.turn_lock.specs.History.{Law, IsLegal, ops, made_by, StartsWith, stamp_after, Each}
 
 -- what the rule knows of a caller
 pub record Part : Type 0 where
@@ -69,7 +69,7 @@ module _ {O : Type 0} (log : List Entry) (who : ℕ → ℕ) (base count : ℕ) 
   StageOk (Holds h) = (0 < count) × (who 0 ≡ c) × (h ≡ log) × (homes ≡ none ∷ [])
 
   pub record CallerOk (p : Part) : Type 0 where
-    pub mine : of c log ≡ p.mine
+    pub mine : made_by c log ≡ p.mine
     pub seen : StartsWith log p.seen
     pub stage : StageOk p.stage
 
@@ -111,7 +111,7 @@ module _ {O : Type 0} (l : Law) (fits : O → List Op → Type 0) where
     pub small : l.callers < 2 ^ 32
     pub made_fits : made ≤ l.callers
     pub each : (c : ℕ) → c < made → CallerOk log who base count s.homes c (callers c)
-    pub others : (c : ℕ) → made ≤ c → (of c log ≡ []) × ((callers c).stage ≡ Idle)
+    pub others : (c : ℕ) → made ≤ c → (made_by c log ≡ []) × ((callers c).stage ≡ Idle)
     pub slot : IsOut s.homes callers made log ⊎ IsHome s.homes log
     pub seats : (j : ℕ) (v : View) → get_elem? s.views j ≡ some v → Knows log callers seat made j v
 
@@ -129,7 +129,7 @@ after made v h = record v { stage = Idle; mine = v.mine ++ made; seen = h ++ mad
 
 -- the view with all of a history, in which its callers' entries are those that it knows
 abbrev pub Noted : View → View → Type 0
-Noted v w = (h : List Entry) × (w ≡ record v { seen = h }) × (of v.caller h ≡ v.mine) × Each (λ (p : Past). of p.caller h ≡ p.mine) v.taken × StartsWith h v.seen
+Noted v w = (h : List Entry) × (w ≡ record v { seen = h }) × (made_by v.caller h ≡ v.mine) × Each (λ (p : Past). made_by p.caller h ≡ p.mine) v.taken × StartsWith h v.seen
 
 -- the steps
 module _ {S : Type 0} where
@@ -145,7 +145,7 @@ module _ {S : Type 0} where
 module _ {O : Type 0} (fits : Desk O → ℕ → List Entry → Type 0) where
   -- the seat's turn has come: it has the object, and knows the whole history
   abbrev pub Entered : Me (Option (Desk O)) View → Me (Option (Desk O)) View → Type 0
-  Entered m m' = (h : List Entry) × (d : Desk O) × (m' ≡ (at_stage m.0 (Holds h), (0, Some d) ∷ [])) × fits d m.0.caller h × StartsWith h m.0.seen × (of m.0.caller h ≡ m.0.mine)
+  Entered m m' = (h : List Entry) × (d : Desk O) × (m' ≡ (at_stage m.0 (Holds h), (0, Some d) ∷ [])) × fits d m.0.caller h × StartsWith h m.0.seen × (made_by m.0.caller h ≡ m.0.mine)
 
   abbrev pub looked : Me (Option (Desk O)) View → ℕ → Me (Option (Desk O)) View → Type 0
   looked m n m' = (t : ℕ) → m.0.stage ≡ Waits t → (n ≡ t → Entered m m') × (n ≢ t → m' ≡ m)
@@ -156,7 +156,7 @@ Covers n v = (c : ℕ) → c < n → (c ≡ v.caller) ⊎ ((i : ℕ) × (p : Pas
 
 -- the history that the view knows is whole: it begins with what each caller had seen, and has of each just its own entries
 abbrev pub Agrees : List Entry → View → Type 0
-Agrees h v = (of v.caller h ≡ v.mine) × Each (λ (p : Past). (of p.caller h ≡ p.mine) × StartsWith h p.seen) v.taken
+Agrees h v = (made_by v.caller h ≡ v.mine) × Each (λ (p : Past). (made_by p.caller h ≡ p.mine) × StartsWith h p.seen) v.taken
 
 -- what a step of a lock finds: an object that fits the history, and a caller of the lock
 module _ {O : Type 0} (l : Law) (fits : O → List Op → Type 0) where

@@ -1,11 +1,11 @@
 //! The lock.
 ghost use Rattle.std.specs.Prelude.{◌≡◌, ◌≢◌, ℕ, ◌+◌, ◌^◌, ◌<◌, true, List, [], ◌∷◌, ◌++◌, Option, Some, None, MatchBool, IfOk, OnErr, vec_len};
-ghost use Rattle.turn_lock.specs.declared.view.Entry.{Entry};
+ghost use Rattle.turn_lock.specs.declared.entry.Entry.{Entry};
 ghost use Rattle.turn_lock.specs.declared.view.Desk.{Desk};
 ghost use Rattle.turn_lock.specs.declared.view.Stage.TheVariants.{Idle, Waits, Holds};
 ghost use Rattle.turn_lock.specs.History.{Each, IsLegal, Rises, StartsWith, ops};
-ghost use Rattle.turn_lock.specs.Turns.{law, fits, Finds, Entered, DeskOk, at_stage, after, entry, first_view, Covers, Noted, Agrees};
-ghost use Rattle.turn_lock.specs.Calls.{view_of, seen, Calls, Looks, MayRefuse, AreTurns, IsNew, IsPart, pasts};
+ghost use Rattle.turn_lock.specs.Turns.{Finds, Entered, DeskOk, at_stage, after, entry, first_view, Covers, Noted, Agrees};
+ghost use Rattle.turn_lock.specs.Calls.{caller_of, seen, Gains, Stays, Calls, Looks, MayRefuse, AreTurns, IsNew, IsPart, pasts};
 
 use crate::gate::Gate;
 use crate::object::SeqObject;
@@ -34,10 +34,10 @@ pub struct TurnLock<O: SeqObject> {
 }
 
 impl<O: SeqObject> TurnLock<O> {
-    ghost use Rattle.turn_lock.specs.Locks.{table_of, about, IsOf, AreAll};
+    ghost use Rattle.turn_lock.specs.Locks.{table_of, id_of, callers_of, kind_of, law_of, fits_of, IsOf, AreAll};
 
     fn draw(&self, seat: &mut Place<O>) -> u64
-        requires table { seat.old.table_id ≡ self.now.table.shared.table_id }
+        requires table { seat.old.table_id ≡ table_of self.now }
         requires view { (seat.old.me.0.live ≡ true) × (seat.old.me.0.stage ≡ Idle) }
         ensures table { seat.new.table_id ≡ seat.old.table_id }
         ensures view { seat.new.me ≡ (at_stage seat.old.me.0 (Waits result), seat.old.me.1) }
@@ -46,9 +46,9 @@ impl<O: SeqObject> TurnLock<O> {
     }
 
     fn look<W: Told<Desk<O>>>(&self, seat: &mut Place<O>, ticket: u64) -> bool
-        requires table { seat.old.table_id ≡ self.now.table.shared.table_id }
+        requires table { seat.old.table_id ≡ table_of self.now }
         requires view { (seat.old.me.0.live ≡ true) × (seat.old.me.0.stage ≡ Waits ticket) × (seat.old.me.1 ≡ []) }
-        requires tells { (d : Desk O) (c : ℕ) (h : List Entry) → Finds (law O.kind O.is_own O.reply self.now.table.shared.key) (fits O.kind O.stands_for self.now.table.shared.key) d c h → W.fits d c h }
+        requires tells { (d : Desk O) (c : ℕ) (h : List Entry) → Finds (law_of O.kind O.is_own O.reply_after self.now) (fits_of O.kind O.stands_for self.now) d c h → W.fits d c h }
         ensures table { seat.new.table_id ≡ seat.old.table_id }
         ensures view { MatchBool result (Entered W.fits seat.old.me seat.new.me) (seat.new.me ≡ seat.old.me) }
     {
@@ -57,10 +57,10 @@ impl<O: SeqObject> TurnLock<O> {
 
     // Waits for its turn, and takes the slot.
     fn enter<R: Wait>(&self, rt: &R, seat: &mut Place<O>, ticket: u64)
-        requires table { seat.old.table_id ≡ self.now.table.shared.table_id }
+        requires table { seat.old.table_id ≡ table_of self.now }
         requires view { (seat.old.me.0.live ≡ true) × (seat.old.me.0.stage ≡ Waits ticket) × (seat.old.me.1 ≡ []) }
         ensures table { seat.new.table_id ≡ seat.old.table_id }
-        ensures view { Entered (Finds (law O.kind O.is_own O.reply self.now.table.shared.key) (fits O.kind O.stands_for self.now.table.shared.key)) seat.old.me seat.new.me }
+        ensures view { Entered (Finds (law_of O.kind O.is_own O.reply_after self.now) (fits_of O.kind O.stands_for self.now)) seat.old.me seat.new.me }
     {
         for _ in rt.forever() {
             if self.look::<Brand>(seat, ticket) {
@@ -72,7 +72,7 @@ impl<O: SeqObject> TurnLock<O> {
     }
 
     fn take(&self, seat: &mut Place<O>) -> Desk<O>
-        requires table { seat.old.table_id ≡ self.now.table.shared.table_id }
+        requires table { seat.old.table_id ≡ table_of self.now }
         requires slot { (d : Desk O) × (seat.old.me.1 ≡ (0, Some d) ∷ []) }
         ensures table { seat.new.table_id ≡ seat.old.table_id }
         ensures slot { (seat.old.me.1 ≡ (0, Some result) ∷ []) × (seat.new.me ≡ (seat.old.me.0, (0, None) ∷ [])) }
@@ -81,7 +81,7 @@ impl<O: SeqObject> TurnLock<O> {
     }
 
     fn put(&self, seat: &mut Place<O>, desk: Desk<O>)
-        requires table { seat.old.table_id ≡ self.now.table.shared.table_id }
+        requires table { seat.old.table_id ≡ table_of self.now }
         requires slot { seat.old.me.1 ≡ (0, None) ∷ [] }
         ensures table { seat.new.table_id ≡ seat.old.table_id }
         ensures slot { seat.new.me ≡ (seat.old.me.0, (0, Some desk) ∷ []) }
@@ -90,9 +90,9 @@ impl<O: SeqObject> TurnLock<O> {
     }
 
     fn leave<W: Made>(&self, seat: &mut Place<O>)
-        requires table { seat.old.table_id ≡ self.now.table.shared.table_id }
+        requires table { seat.old.table_id ≡ table_of self.now }
         requires view { seat.old.me.0.live ≡ true }
-        requires held { (h : List Entry) × (d : Desk O) × (seat.old.me.0.stage ≡ Holds h) × (seat.old.me.1 ≡ (0, Some d) ∷ []) × DeskOk (law O.kind O.is_own O.reply self.now.table.shared.key) (fits O.kind O.stands_for self.now.table.shared.key) d (h ++ W.made) }
+        requires held { (h : List Entry) × (d : Desk O) × (seat.old.me.0.stage ≡ Holds h) × (seat.old.me.1 ≡ (0, Some d) ∷ []) × DeskOk (law_of O.kind O.is_own O.reply_after self.now) (fits_of O.kind O.stands_for self.now) d (h ++ W.made) }
         requires made { Each (λ e. e.caller ≡ seat.old.me.0.caller) W.made }
         ensures table { seat.new.table_id ≡ seat.old.table_id }
         ensures view { (h : List Entry) → seat.old.me.0.stage ≡ Holds h → seat.new.me ≡ (after W.made seat.old.me.0 h, []) }
@@ -110,13 +110,13 @@ impl<O: SeqObject> TurnLock<O> {
         op: &Op,
         reply: &Reply,
     )
-        requires table { seat.old.table_id ≡ self.now.table.shared.table_id }
+        requires table { seat.old.table_id ≡ table_of self.now }
         requires made { W.made ≡ entry caller floor desk.stamp op.now reply.now ∷ [] }
         requires view { (seat.old.me.0.live ≡ true) × (seat.old.me.0.caller ≡ caller) }
         requires slot { seat.old.me.1 ≡ (0, None) ∷ [] }
-        requires held { (h : List Entry) × (seat.old.me.0.stage ≡ Holds h) × DeskOk (law O.kind O.is_own O.reply self.now.table.shared.key) (fits O.kind O.stands_for self.now.table.shared.key) desk (h ++ entry caller floor desk.stamp op.now reply.now ∷ []) }
+        requires held { (h : List Entry) × (seat.old.me.0.stage ≡ Holds h) × DeskOk (law_of O.kind O.is_own O.reply_after self.now) (fits_of O.kind O.stands_for self.now) desk (h ++ entry caller floor desk.stamp op.now reply.now ∷ []) }
         ensures table { seat.new.table_id ≡ seat.old.table_id }
-        ensures view { (h : List Entry) → seat.old.me.0.stage ≡ Holds h → (seat.new.me ≡ (after (entry caller floor desk.stamp op.now reply.now ∷ []) seat.old.me.0 h, [])) × IsLegal (law O.kind O.is_own O.reply self.now.table.shared.key) (h ++ entry caller floor desk.stamp op.now reply.now ∷ []) }
+        ensures view { (h : List Entry) → seat.old.me.0.stage ≡ Holds h → (seat.new.me ≡ (after (entry caller floor desk.stamp op.now reply.now ∷ []) seat.old.me.0 h, [])) × IsLegal (law_of O.kind O.is_own O.reply_after self.now) (h ++ entry caller floor desk.stamp op.now reply.now ∷ []) }
     {
         self.put(seat, desk);
         self.leave::<W>(seat);
@@ -124,12 +124,12 @@ impl<O: SeqObject> TurnLock<O> {
 
     // Gives the object back as it was.
     fn give_up(&self, seat: &mut Place<O>, desk: Desk<O>)
-        requires table { seat.old.table_id ≡ self.now.table.shared.table_id }
+        requires table { seat.old.table_id ≡ table_of self.now }
         requires view { seat.old.me.0.live ≡ true }
         requires slot { seat.old.me.1 ≡ (0, None) ∷ [] }
-        requires held { (h : List Entry) × (seat.old.me.0.stage ≡ Holds h) × DeskOk (law O.kind O.is_own O.reply self.now.table.shared.key) (fits O.kind O.stands_for self.now.table.shared.key) desk h }
+        requires held { (h : List Entry) × (seat.old.me.0.stage ≡ Holds h) × DeskOk (law_of O.kind O.is_own O.reply_after self.now) (fits_of O.kind O.stands_for self.now) desk h }
         ensures table { seat.new.table_id ≡ seat.old.table_id }
-        ensures view { (h : List Entry) → seat.old.me.0.stage ≡ Holds h → (seat.new.me ≡ (after [] seat.old.me.0 h, [])) × IsLegal (law O.kind O.is_own O.reply self.now.table.shared.key) h }
+        ensures view { (h : List Entry) → seat.old.me.0.stage ≡ Holds h → (seat.new.me ≡ (after [] seat.old.me.0 h, [])) × IsLegal (law_of O.kind O.is_own O.reply_after self.now) h }
     {
         self.put(seat, desk);
         self.leave::<Brand>(seat);
@@ -144,13 +144,13 @@ impl<O: SeqObject> TurnLock<O> {
         floor: u64,
         op: &Op,
     ) -> Result<(Reply, u64), Memory>
-        requires table { seat.old.table_id ≡ self.now.table.shared.table_id }
-        requires own { O.is_own (O.kind self.now.table.shared.key.first.value) op.now }
+        requires table { seat.old.table_id ≡ table_of self.now }
+        requires own { O.is_own (kind_of O.kind self.now) op.now }
         requires view { (seat.old.me.0.live ≡ true) × (seat.old.me.0.caller ≡ caller) }
-        requires held { (h : List Entry) × (d : Desk O) × (seat.old.me.0.stage ≡ Holds h) × (seat.old.me.1 ≡ (0, Some d) ∷ []) × Finds (law O.kind O.is_own O.reply self.now.table.shared.key) (fits O.kind O.stands_for self.now.table.shared.key) d caller h }
+        requires held { (h : List Entry) × (d : Desk O) × (seat.old.me.0.stage ≡ Holds h) × (seat.old.me.1 ≡ (0, Some d) ∷ []) × Finds (law_of O.kind O.is_own O.reply_after self.now) (fits_of O.kind O.stands_for self.now) d caller h }
         ensures table { seat.new.table_id ≡ seat.old.table_id }
-        ensures done { IfOk result (λ r. (h : List Entry) → seat.old.me.0.stage ≡ Holds h → (seat.new.me ≡ (after (entry caller floor r.1 op.now r.0 ∷ []) seat.old.me.0 h, [])) × IsLegal (law O.kind O.is_own O.reply self.now.table.shared.key) (h ++ entry caller floor r.1 op.now r.0 ∷ [])) }
-        ensures memory { OnErr result ((h : List Entry) → seat.old.me.0.stage ≡ Holds h → (seat.new.me ≡ (after [] seat.old.me.0 h, [])) × IsLegal (law O.kind O.is_own O.reply self.now.table.shared.key) h × MayRefuse (O.is_free (O.kind self.now.table.shared.key.first.value)) h floor op.now) }
+        ensures done { IfOk result (λ r. (h : List Entry) → seat.old.me.0.stage ≡ Holds h → (seat.new.me ≡ (after (entry caller floor r.1 op.now r.0 ∷ []) seat.old.me.0 h, [])) × IsLegal (law_of O.kind O.is_own O.reply_after self.now) (h ++ entry caller floor r.1 op.now r.0 ∷ [])) }
+        ensures memory { OnErr result ((h : List Entry) → seat.old.me.0.stage ≡ Holds h → (seat.new.me ≡ (after [] seat.old.me.0 h, [])) × IsLegal (law_of O.kind O.is_own O.reply_after self.now) h × MayRefuse (O.is_free (kind_of O.kind self.now)) h floor op.now) }
     {
         let Desk { mut object, stamp } = self.take(seat);
         let last = floor.max(stamp);
@@ -172,17 +172,17 @@ impl<O: SeqObject> TurnLock<O> {
     }
 
     pub fn id(&self) -> ObjectId
-        ensures { result ≡ self.now.id }
+        ensures { result ≡ id_of self.now }
     {
         self.id
     }
 
     // Draws a ticket, and waits for its turn.
     fn wait_turn<R: Wait>(&self, rt: &R, seat: &mut Place<O>)
-        requires table { seat.old.table_id ≡ self.now.table.shared.table_id }
+        requires table { seat.old.table_id ≡ table_of self.now }
         requires view { (seat.old.me.0.live ≡ true) × (seat.old.me.0.stage ≡ Idle) × (seat.old.me.1 ≡ []) }
         ensures table { seat.new.table_id ≡ seat.old.table_id }
-        ensures view { Entered (Finds (law O.kind O.is_own O.reply self.now.table.shared.key) (fits O.kind O.stands_for self.now.table.shared.key)) seat.old.me seat.new.me }
+        ensures view { Entered (Finds (law_of O.kind O.is_own O.reply_after self.now) (fits_of O.kind O.stands_for self.now)) seat.old.me seat.new.me }
     {
         let ticket = self.draw(seat);
         self.enter(rt, seat, ticket);
@@ -199,14 +199,14 @@ impl<O: SeqObject> TurnLock<O> {
         op: &Op,
         gate: &G,
     ) -> Result<(Reply, u64), Memory>
-        requires table { seat.old.table_id ≡ self.now.table.shared.table_id }
-        requires own { O.is_own (O.kind self.now.table.shared.key.first.value) op.now }
+        requires table { seat.old.table_id ≡ table_of self.now }
+        requires own { O.is_own (kind_of O.kind self.now) op.now }
         requires view { (seat.old.me.0.live ≡ true) × (seat.old.me.0.stage ≡ Idle) × (seat.old.me.0.caller ≡ caller) × (seat.old.me.1 ≡ []) }
         ensures table { seat.new.table_id ≡ seat.old.table_id }
         ensures view { (seat.new.me.0.live ≡ true) × (seat.new.me.0.stage ≡ Idle) × (seat.new.me.0.caller ≡ caller) × (seat.new.me.1 ≡ []) }
-        ensures done { IfOk result (λ r. Calls (law O.kind O.is_own O.reply self.now.table.shared.key) seat.old.me.0 seat.new.me.0 (entry caller floor r.1 op.now r.0)) }
-        ensures memory { OnErr result (Looks (law O.kind O.is_own O.reply self.now.table.shared.key) seat.old.me.0 seat.new.me.0) }
-        ensures cause { OnErr result (MayRefuse (O.is_free (O.kind self.now.table.shared.key.first.value)) seat.new.me.0.seen floor op.now) }
+        ensures done { IfOk result (λ r. Gains (law_of O.kind O.is_own O.reply_after self.now) caller seat.old.me.0 seat.new.me.0 (entry caller floor r.1 op.now r.0)) }
+        ensures memory { OnErr result (Stays (law_of O.kind O.is_own O.reply_after self.now) caller seat.old.me.0 seat.new.me.0) }
+        ensures cause { OnErr result (MayRefuse (O.is_free (kind_of O.kind self.now)) seat.new.me.0.seen floor op.now) }
     {
         self.wait_turn(rt, seat);
         gate.held(rt, caller, self.id);
@@ -224,11 +224,11 @@ impl<O: SeqObject> TurnLock<O> {
         gate: &G,
     ) -> Result<(Reply, u64), Memory>
         requires turn { IsOf self.now turn.old }
-        requires own { O.is_own (O.kind (about self.now).first.value) op.now }
-        ensures turn { IsOf self.now turn.new × (turn.new.caller ≡ turn.old.caller) }
-        ensures done { IfOk result (λ r. Calls (law O.kind O.is_own O.reply (about self.now)) (view_of turn.old) (view_of turn.new) (entry turn.old.caller floor r.1 op.now r.0)) }
-        ensures memory { OnErr result (Looks (law O.kind O.is_own O.reply (about self.now)) (view_of turn.old) (view_of turn.new)) }
-        ensures cause { OnErr result (MayRefuse (O.is_free (O.kind (about self.now).first.value)) (seen turn.new) floor op.now) }
+        requires own { O.is_own (kind_of O.kind self.now) op.now }
+        ensures turn { IsOf self.now turn.new × (caller_of turn.new ≡ caller_of turn.old) }
+        ensures done { IfOk result (λ r. Calls (law_of O.kind O.is_own O.reply_after self.now) turn.old turn.new (entry (caller_of turn.old) floor r.1 op.now r.0)) }
+        ensures memory { OnErr result (Looks (law_of O.kind O.is_own O.reply_after self.now) turn.old turn.new) }
+        ensures cause { OnErr result (MayRefuse (O.is_free (kind_of O.kind self.now)) (seen turn.new) floor op.now) }
     {
         let mut seat: Place<O> = mem::replace(&mut turn.badge, Badge::blank()).into_seat();
         let outcome = self.run(rt, alloc, &mut seat, turn.caller, floor, op, gate);
@@ -237,8 +237,8 @@ impl<O: SeqObject> TurnLock<O> {
     }
 
     fn take_in(&self, seat: &mut Place<O>, mut turns: Vec<Turn>)
-        requires table { seat.old.table_id ≡ self.now.table.shared.table_id }
-        requires turns { (k : ℕ) × AreTurns self.now.table.shared.table_id k turns.items }
+        requires table { seat.old.table_id ≡ table_of self.now }
+        requires turns { (k : ℕ) × AreTurns (table_of self.now) k turns.items }
         requires view { seat.old.me.0.live ≡ true }
         ensures table { seat.new.table_id ≡ seat.old.table_id }
         ensures view { seat.new.me ≡ (record seat.old.me.0 { taken = seat.old.me.0.taken ++ pasts turns.items }, seat.old.me.1) }
@@ -252,10 +252,10 @@ impl<O: SeqObject> TurnLock<O> {
 
     // The turns of a new table, of which this is the first seat.
     fn deal(&self, alloc: Global, mut first: Place<O>, callers: u32) -> Result<Vec<Turn>, Memory>
-        requires table { first.table_id ≡ self.now.table.shared.table_id }
+        requires table { first.table_id ≡ table_of self.now }
         requires view { first.me ≡ (first_view, []) }
-        requires callers { callers ≡ self.now.table.shared.key.callers }
-        ensures turns { IfOk result (λ turns. (vec_len turns ≡ callers) × AreTurns self.now.table.shared.table_id 0 turns.items × Each IsNew turns.items) }
+        requires callers { callers ≡ callers_of self.now }
+        ensures turns { IfOk result (λ turns. (vec_len turns ≡ callers) × AreTurns (table_of self.now) 0 turns.items × Each IsNew turns.items) }
     {
         let mut turns = Vec::with_capacity(alloc, callers as usize)?;
         for caller in 1..callers {
@@ -279,7 +279,7 @@ impl<O: SeqObject> TurnLock<O> {
     ) -> Result<(TurnLock<O>, Vec<Turn>), Memory>
         requires callers { 0 < callers }
         requires object { O.stands_for object [] }
-        ensures lock { IfOk result (λ r. (r.0.id ≡ id) × (O.kind (about r.0).first.value ≡ O.kind object) × ((about r.0).callers ≡ callers)) }
+        ensures lock { IfOk result (λ r. (id_of r.0 ≡ id) × (kind_of O.kind r.0 ≡ O.kind object) × (callers_of r.0 ≡ callers)) }
         ensures turns { IfOk result (λ r. AreAll r.0 r.1.items × Each IsNew r.1.items) }
     {
         let about = About {
@@ -298,9 +298,9 @@ impl<O: SeqObject> TurnLock<O> {
 
     // One seat for all turns.
     fn gather(&self, mut turns: Vec<Turn>) -> Place<O>
-        requires turns { (vec_len turns ≡ self.now.table.shared.key.callers) × AreTurns self.now.table.shared.table_id 0 turns.items }
-        ensures table { result.table_id ≡ self.now.table.shared.table_id }
-        ensures view { (result.me.1 ≡ []) × (result.me.0.live ≡ true) × (result.me.0.stage ≡ Idle) × Covers self.now.table.shared.key.callers result.me.0 }
+        requires turns { (vec_len turns ≡ callers_of self.now) × AreTurns (table_of self.now) 0 turns.items }
+        ensures table { result.table_id ≡ table_of self.now }
+        ensures view { (result.me.1 ≡ []) × (result.me.0.live ≡ true) × (result.me.0.stage ≡ Idle) × Covers (callers_of self.now) result.me.0 }
         ensures turns { (h : List Entry) → StartsWith h result.me.0.seen → Agrees h result.me.0 → Each (IsPart h) turns.items }
     {
         let mut seat: Place<O> = turns.remove(0).into_seat();
@@ -310,7 +310,7 @@ impl<O: SeqObject> TurnLock<O> {
 
     // The whole history, for a seat and a token of it.
     fn note(&self, seat: &mut Place<O>) -> Joined
-        requires table { seat.old.table_id ≡ self.now.table.shared.table_id }
+        requires table { seat.old.table_id ≡ table_of self.now }
         requires view { seat.old.me.0.live ≡ true }
         ensures table { seat.new.table_id ≡ seat.old.table_id }
         ensures view { Noted seat.old.me.0 seat.new.me.0 }
@@ -323,9 +323,9 @@ impl<O: SeqObject> TurnLock<O> {
 
     // Ends the table, with a seat that has taken all others in.
     fn end(self, seat: Place<O>) -> Desk<O>
-        requires table { seat.table_id ≡ self.table.shared.table_id }
-        requires view { (seat.me.0.live ≡ true) × (seat.me.0.stage ≡ Idle) × Covers self.table.shared.key.callers seat.me.0 × Noted seat.me.0 seat.me.0 }
-        ensures desk { DeskOk (law O.kind O.is_own O.reply self.table.shared.key) (fits O.kind O.stands_for self.table.shared.key) result seat.me.0.seen }
+        requires table { seat.table_id ≡ table_of self }
+        requires view { (seat.me.0.live ≡ true) × (seat.me.0.stage ≡ Idle) × Covers (callers_of self) seat.me.0 × Noted seat.me.0 seat.me.0 }
+        ensures desk { DeskOk (law_of O.kind O.is_own O.reply_after self) (fits_of O.kind O.stands_for self) result seat.me.0.seen }
         ensures view { Agrees seat.me.0.seen seat.me.0 }
     {
         let TurnLock { table, id: _ } = self;
@@ -338,8 +338,8 @@ impl<O: SeqObject> TurnLock<O> {
     /// Takes every turn back, and gives the object with the history of all calls.
     pub fn close(self, turns: Vec<Turn>) -> (O, Joined)
         requires turns { AreAll self turns.items }
-        ensures object { (O.kind result.0 ≡ O.kind (about self).first.value) × O.stands_for result.0 (ops result.1) }
-        ensures legal { IsLegal (law O.kind O.is_own O.reply (about self)) result.1 }
+        ensures object { (O.kind result.0 ≡ kind_of O.kind self) × O.stands_for result.0 (ops result.1) }
+        ensures legal { IsLegal (law_of O.kind O.is_own O.reply_after self) result.1 }
         ensures stamps { Rises 0 result.1 }
         ensures turns { Each (IsPart result.1) turns.items }
     {

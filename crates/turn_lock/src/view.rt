@@ -1,17 +1,7 @@
-//! What the lock keeps, and what a seat at its table knows.
-use crate::object::SeqObject;
-use bt_core::step::{Op, Reply};
+// What lies in a lock's table, and what a seat at it knows.
+use crate::entry::Entry;
 use std::collections::LinkedList;
 use std::snapshot::Snapshot;
-
-/// A call that was made. No value of it is made.
-pub struct Entry {
-    pub caller: u32,
-    pub floor: u64,
-    pub stamp: u64,
-    pub op: Op,
-    pub reply: Reply,
-}
 
 /// Where a caller is in a call. No value of it is made.
 pub enum Stage {
@@ -52,7 +42,7 @@ pub struct Desk<O: Drop> {
     pub stamp: u64,
 }
 
-/// What is told to the rule when a lock is made: an object of the same kind, and the number of callers.
+/// What the rule is told when a lock is made: an object of the same kind, and the number of callers.
 #[derive(Drop)]
 pub struct About<O> {
     pub first: Snapshot<O>,
