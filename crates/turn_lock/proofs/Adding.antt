@@ -4,7 +4,7 @@ use Rattle.std.proofs.lemmas.List.{append-nil}
 use Rattle.bt_core.specs.declared.step.Op.{Op}
 use Rattle.turn_lock.specs.declared.entry.Entry.{Entry}
 use Rattle.turn_lock.specs.declared.view.Desk.{Desk}
-use Rattle.turn_lock.specs.History.{Law, IsLegal, ops, made_by, StartsWith}
+use Rattle.turn_lock.specs.History.{Law, IsLegal, ops, made_by, StartsWith, Each, Rises}
 use Rattle.turn_lock.specs.declared.view.View.{View}
 use Rattle.turn_lock.specs.declared.view.Stage.{Stage}
 use Rattle.turn_lock.specs.declared.view.Stage.TheVariants.{Idle, Holds}
@@ -56,3 +56,15 @@ looked_on l c v h s own legal = subst (λ (z : List Entry × List Entry). Stays 
   more = s;
   same = refl;
 }
+
+rises_last : (last : ℕ) (es : List Entry) (e : Entry) → Rises last (es ++ e ∷ []) → (e.floor < e.stamp) × (last < e.stamp) × Each (λ x. x.stamp < e.stamp) es
+rises_last last [] e r = (r.0, r.1, tt)
+rises_last last (x ∷ xs) e r = let t = rises_last x.stamp xs e r.2 in (t.0, (let a = r.1 in let b = t.1 in omega arith), (t.1, t.2))
+
+each_left : (P : Entry → Type 0) (xs ys : List Entry) → Each P (xs ++ ys) → Each P xs
+each_left P [] ys h = tt
+each_left P (x ∷ xs) ys h = (h.0, each_left P xs ys h.1)
+
+-- the entry's stamp is above its floor, and above each stamp that was seen before
+pub above : (l : Law) (c : ℕ) (v w : View) (e : Entry) → Gains l c v w e → (e.floor < e.stamp) × Each (λ x. x.stamp < e.stamp) v.seen
+above l c v w e g = let t = rises_last 0 (v.seen ++ g.more.0) e (subst (Rises 0) g.more.1 g.sees.rises) in (t.0, each_left (λ x. x.stamp < e.stamp) v.seen g.more.0 t.2)

@@ -1,4 +1,4 @@
-//! The lock.
+// The lock: an object, and the turns of its callers.
 ghost use Rattle.std.specs.Prelude.{◌≡◌, ◌≢◌, ℕ, ◌+◌, ◌^◌, ◌<◌, true, List, [], ◌∷◌, ◌++◌, Option, Some, None, MatchBool, IfOk, OnErr, vec_len};
 ghost use Rattle.turn_lock.specs.declared.entry.Entry.{Entry};
 ghost use Rattle.turn_lock.specs.declared.view.Desk.{Desk};
@@ -16,15 +16,28 @@ use atomic_table::{Badge, Seat, Table};
 use bt_core::memory::Memory;
 use bt_core::step::{ObjectId, Op, Reply};
 use std::alloc::Global;
+use std::hint::spin_loop;
 use std::marker::Brand;
 use std::mem;
 use std::snapshot::Snapshot;
 use std::sync::Wait;
 use std::thread::yield_now;
 
+/// How often a waiting caller looks before it leaves the processor to others at each look.
+const LOOKS: u32 = 64;
+
+// The words of the table: the ticket that is drawn next, and the ticket that is served.
+const TICKET: usize = 0;
+
+const SERVING: usize = 1;
+
 /// A caller's seat while it is in a call.
 pub(crate) type Place<O> = Seat<Option<Desk<O>>, View>;
 
+/// A ticket lock round an object, for a fixed number of callers.
+///
+/// Its history is the list of all calls that were answered, in the order of their turns. It may be
+/// shared among threads by reference.
 #[derive(Drop)]
 pub struct TurnLock<O: SeqObject> {
     table: Table<Option<Desk<O>>, View, About<O>, Turns, Global>,
@@ -36,15 +49,17 @@ pub struct TurnLock<O: SeqObject> {
 impl<O: SeqObject> TurnLock<O> {
     ghost use Rattle.turn_lock.specs.Locks.{table_of, id_of, callers_of, kind_of, law_of, fits_of, IsOf, AreAll};
 
+    // Takes the next ticket.
     fn draw(&self, seat: &mut Place<O>) -> u64
         requires table { seat.old.table_id ≡ table_of self.now }
         requires view { (seat.old.me.0.live ≡ true) × (seat.old.me.0.stage ≡ Idle) }
         ensures table { seat.new.table_id ≡ seat.old.table_id }
         ensures view { seat.new.me ≡ (at_stage seat.old.me.0 (Waits result), seat.old.me.1) }
     {
-        self.table.shared.fetch_add::<Draw>(seat, 0, 1)
+        self.table.shared.fetch_add::<Draw>(seat, TICKET, 1)
     }
 
+    // Looks whether the ticket is served. If it is, the seat has the object from then on.
     fn look<W: Told<Desk<O>>>(&self, seat: &mut Place<O>, ticket: u64) -> bool
         requires table { seat.old.table_id ≡ table_of self.now }
         requires view { (seat.old.me.0.live ≡ true) × (seat.old.me.0.stage ≡ Waits ticket) × (seat.old.me.1 ≡ []) }
@@ -52,25 +67,32 @@ impl<O: SeqObject> TurnLock<O> {
         ensures table { seat.new.table_id ≡ seat.old.table_id }
         ensures view { MatchBool result (Entered W.fits seat.old.me seat.new.me) (seat.new.me ≡ seat.old.me) }
     {
-        self.table.shared.load::<Look<W>>(seat, 1) == ticket
+        self.table.shared.load::<Look<W>>(seat, SERVING) == ticket
     }
 
-    // Waits for its turn, and takes the slot.
+    // Waits until the ticket is served.
     fn enter<R: Wait>(&self, rt: &R, seat: &mut Place<O>, ticket: u64)
         requires table { seat.old.table_id ≡ table_of self.now }
         requires view { (seat.old.me.0.live ≡ true) × (seat.old.me.0.stage ≡ Waits ticket) × (seat.old.me.1 ≡ []) }
         ensures table { seat.new.table_id ≡ seat.old.table_id }
         ensures view { Entered (Finds (law_of O.kind O.is_own O.reply_after self.now) (fits_of O.kind O.stands_for self.now)) seat.old.me seat.new.me }
     {
+        let mut looks = 0;
         for _ in rt.forever() {
             if self.look::<Brand>(seat, ticket) {
                 return;
             }
-            yield_now();
+            if looks < LOOKS {
+                looks += 1;
+                spin_loop();
+            } else {
+                yield_now();
+            }
         }
         unreachable!()
     }
 
+    // Takes the object out of the slot that the seat holds.
     fn take(&self, seat: &mut Place<O>) -> Desk<O>
         requires table { seat.old.table_id ≡ table_of self.now }
         requires slot { (d : Desk O) × (seat.old.me.1 ≡ (0, Some d) ∷ []) }
@@ -80,6 +102,7 @@ impl<O: SeqObject> TurnLock<O> {
         self.table.shared.exchange(seat, 0, None).unwrap()
     }
 
+    // Puts the object into the slot that the seat holds.
     fn put(&self, seat: &mut Place<O>, desk: Desk<O>)
         requires table { seat.old.table_id ≡ table_of self.now }
         requires slot { seat.old.me.1 ≡ (0, None) ∷ [] }
@@ -89,6 +112,7 @@ impl<O: SeqObject> TurnLock<O> {
         drop(self.table.shared.exchange(seat, 0, Some(desk)));
     }
 
+    // Gives the slot back and serves the next ticket.
     fn leave<W: Made>(&self, seat: &mut Place<O>)
         requires table { seat.old.table_id ≡ table_of self.now }
         requires view { seat.old.me.0.live ≡ true }
@@ -97,10 +121,10 @@ impl<O: SeqObject> TurnLock<O> {
         ensures table { seat.new.table_id ≡ seat.old.table_id }
         ensures view { (h : List Entry) → seat.old.me.0.stage ≡ Holds h → seat.new.me ≡ (after W.made seat.old.me.0 h, []) }
     {
-        self.table.shared.fetch_add::<Leave<W>>(seat, 1, 1);
+        self.table.shared.fetch_add::<Leave<W>>(seat, SERVING, 1);
     }
 
-    // Gives the object back with one more entry.
+    // Gives the object back with one more entry, and passes the turn on.
     fn pass_on<W: Made>(
         &self,
         seat: &mut Place<O>,
@@ -122,7 +146,7 @@ impl<O: SeqObject> TurnLock<O> {
         self.leave::<W>(seat);
     }
 
-    // Gives the object back as it was.
+    // Gives the object back as it was, and passes the turn on.
     fn give_up(&self, seat: &mut Place<O>, desk: Desk<O>)
         requires table { seat.old.table_id ≡ table_of self.now }
         requires view { seat.old.me.0.live ≡ true }
@@ -135,7 +159,7 @@ impl<O: SeqObject> TurnLock<O> {
         self.leave::<Brand>(seat);
     }
 
-    // With the object in the slot that the seat holds.
+    // Applies the operation while the seat has the turn, and passes the turn on.
     fn serve(
         &self,
         alloc: Global,
@@ -171,6 +195,7 @@ impl<O: SeqObject> TurnLock<O> {
         }
     }
 
+    /// The object's identifier, as it was given to [`TurnLock::new`].
     pub fn id(&self) -> ObjectId
         ensures { result ≡ id_of self.now }
     {
@@ -213,7 +238,16 @@ impl<O: SeqObject> TurnLock<O> {
         self.serve(alloc, seat, caller, floor, op)
     }
 
-    /// Performs one operation when its turn comes.
+    /// Performs one operation when the caller's turn comes, and answers the object's reply and the
+    /// call's stamp. `turn` is one of this lock's, and the operation one of the object's own.
+    ///
+    /// The stamp is one more than the greater of `floor` and the stamp before it in the history. The
+    /// turn's own list grows by this call, and the history that it has seen then ends with it.
+    /// While the turn is held, and before the operation is applied, the gate is told of it.
+    ///
+    /// [`Memory`] is answered only where the operation is not free after the history, or where
+    /// `floor` or the last stamp of the history is 2^64 - 1. The history and the turn's own list are
+    /// then as before.
     pub fn call<G: Gate, R: Wait>(
         &self,
         rt: &R,
@@ -227,6 +261,7 @@ impl<O: SeqObject> TurnLock<O> {
         requires own { O.is_own (kind_of O.kind self.now) op.now }
         ensures turn { IsOf self.now turn.new × (caller_of turn.new ≡ caller_of turn.old) }
         ensures done { IfOk result (λ r. Calls (law_of O.kind O.is_own O.reply_after self.now) turn.old turn.new (entry (caller_of turn.old) floor r.1 op.now r.0)) }
+        ensures stamp { IfOk result (λ r. (floor < r.1) × Each (λ e. e.stamp < r.1) (seen turn.old)) }
         ensures memory { OnErr result (Looks (law_of O.kind O.is_own O.reply_after self.now) turn.old turn.new) }
         ensures cause { OnErr result (MayRefuse (O.is_free (kind_of O.kind self.now)) (seen turn.new) floor op.now) }
     {
@@ -236,6 +271,7 @@ impl<O: SeqObject> TurnLock<O> {
         outcome
     }
 
+    // Joins the seats of the turns into one, the last turn first.
     fn take_in(&self, seat: &mut Place<O>, mut turns: Vec<Turn>)
         requires table { seat.old.table_id ≡ table_of self.now }
         requires turns { (k : ℕ) × AreTurns (table_of self.now) k turns.items }
@@ -270,7 +306,11 @@ impl<O: SeqObject> TurnLock<O> {
         Ok(turns)
     }
 
-    /// A lock round a fresh object, and a turn for each caller.
+    /// A lock round an object that has taken no operation yet, and a turn for each of `callers`
+    /// callers, of whom there is at least one. The turns stand in the order of their caller numbers,
+    /// from 0 on, and none has seen or made an entry.
+    ///
+    /// After [`Memory`] the object is dropped.
     pub fn new(
         alloc: Global,
         object: O,
@@ -316,7 +356,7 @@ impl<O: SeqObject> TurnLock<O> {
         ensures view { Noted seat.old.me.0 seat.new.me.0 }
         ensures token { result ≡ seat.new.me.0.seen }
     {
-        self.table.shared.load::<Note>(seat, 1);
+        self.table.shared.load::<Note>(seat, SERVING);
         let badge = self.table.shared.split_seat::<Keep>(seat).into_badge();
         Joined { badge }
     }
@@ -335,7 +375,11 @@ impl<O: SeqObject> TurnLock<O> {
         slot.unwrap()
     }
 
-    /// Takes every turn back, and gives the object with the history of all calls.
+    /// Takes all turns of the lock back, in the order of their caller numbers, and gives the object
+    /// with the history of all calls.
+    ///
+    /// The object stands for this history, the history is legal and its stamps rise. It begins with
+    /// what each turn has seen, and limited to each caller it is the turn's own list.
     pub fn close(self, turns: Vec<Turn>) -> (O, Joined)
         requires turns { AreAll self turns.items }
         ensures object { (O.kind result.0 ≡ kind_of O.kind self) × O.stands_for result.0 (ops result.1) }
