@@ -37,8 +37,8 @@ impl Trace {
         }
     }
 
-    /// Makes room for one step, and changes nothing else.
-    pub fn reserve(&mut self) -> Result<(), Memory>
+    /// Makes room for one step, and changes nothing else. Where there is room already it answers Ok.
+    pub fn reserve(&mut self, _alloc: Global) -> Result<(), Memory>
         ensures same { IsSame self.old self.new }
         ensures room { OnOk result (HasRoom self.new) }
         ensures kept { HasRoom self.old → HasRoom self.new }
