@@ -122,9 +122,8 @@ fn crowd<R: Threads + Wait + Sync>(
 
 // Whether each of so many callers has so many answers, and the sums count up with the stamps.
 fn counts_up(answers: &[Answer], callers: u32, times: u32) -> bool {
-    let in_order = answers
-        .windows(2)
-        .all(|pair| pair[0].0 < pair[1].0 && pair[0].2.checked_add(1) == Some(pair[1].2));
+    let in_order = answers.windows(2).all(|pair| pair[0].0 < pair[1].0
+        && pair[0].2.checked_add(1) == Some(pair[1].2));
     let first = answers.first().is_some_and(|answer| answer.2 == 1);
     let shared_out = (0..callers).all(|caller| {
         answers.iter().filter(|answer| answer.1 == caller).count() == times as usize

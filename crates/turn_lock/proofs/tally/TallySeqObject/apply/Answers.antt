@@ -1,4 +1,4 @@
-use Rattle.std.proofs.Common.{rules, ◌≡◌, ℤ, List, ◌+◌, ◌%◌, ◌^◌, ◌∷◌, ◌++◌, [], ap, ◌∙◌, sym, subst, w64, FitsSigned, to_z, of_z}
+use Rattle.std.proofs.Common.{rules, ◌≡◌, ℤ, List, ◌+◌, ◌%◌, ◌^◌, ◌∷◌, ◌++◌, [], ap, ◌∙◌, subst, w64, FitsSigned, to_z, of_z}
 use Rattle.bt_core.specs.declared.step.Op.{Op}
 use Rattle.bt_core.specs.declared.step.Reply.TheVariants.{Value}
 use Rattle.bt_core.specs.declared.value.Value.TheVariants.{Int}
