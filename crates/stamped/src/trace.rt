@@ -1,5 +1,6 @@
 // Traces: the steps of one actor, with the clock at each.
-ghost use Rattle.std.specs.Prelude.{◌≡◌, ℕ, List, [], ◌∷◌, ◌++◌, ◌<◌, max, length, vec_len, vec_capacity, IsOk, OnOk};
+ghost use Rattle.std.specs.Prelude.{◌≡◌, ℕ, IsTrue, List, [], ◌∷◌, ◌++◌, ◌<◌, max, length, vec_len, vec_capacity, IsOk, OnOk};
+ghost use Rattle.stamped.specs.Rising.{is_rising};
 
 use bt_core::memory::Memory;
 use bt_core::step::{ObjectId, Op, Reply, Step};
@@ -8,8 +9,9 @@ use std::alloc::Global;
 /// The steps of one actor in their order, each with the clock that the actor had before it, and the
 /// actor's clock.
 ///
-/// The clock begins at 0 and then stands at the last step's stamp, unless it was raised since.
-/// Contracts see the actor, the steps, the clocks before them (their floors) and the clock.
+/// The clock begins at 0 and then stands at the last step's stamp, unless it was raised since. So
+/// each stamp is above the clock before it, and the stamps rise. Contracts see the actor, the steps,
+/// the clocks before them (their floors) and the clock.
 #[derive(Drop)]
 pub struct Trace {
     actor: u32,
@@ -17,6 +19,7 @@ pub struct Trace {
     steps: Vec<Step>,
     floors: Vec<u64>,
     ghost paired: { length floors.items ≡ length steps.items },
+    ghost rising: { IsTrue (is_rising 0 steps.items floors.items clock) },
 }
 
 impl Trace {
@@ -88,7 +91,8 @@ impl Trace {
 
     // Adds a step with this stamp, to which the clock then goes. There is room for it.
     pub(crate) fn store(&mut self, object: ObjectId, stamp: u64, op: Op, reply: Reply)
-        requires { HasRoom self.old }
+        requires room { HasRoom self.old }
+        requires above { clock_of self.old < stamp }
         ensures actor { actor_of self.new ≡ actor_of self.old }
         ensures clock { clock_of self.new ≡ stamp }
         ensures steps { steps_of self.new ≡ steps_of self.old ++ step_by (actor_of self.old) object stamp op reply ∷ [] }
