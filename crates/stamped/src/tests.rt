@@ -31,9 +31,25 @@ fn one_trace_over_two_locks_counts_up(rt: HostRuntime) -> Result<(), Fail> {
     let mut trace = Trace::new(alloc, 0);
     let table_turn = &mut table_turns[0];
     let out_turn = &mut out_turns[0];
-    perform(&rt, alloc, &table, table_turn, &mut trace, add(alloc, 5), &Open)?;
+    perform(
+        &rt,
+        alloc,
+        &table,
+        table_turn,
+        &mut trace,
+        add(alloc, 5),
+        &Open,
+    )?;
     perform(&rt, alloc, &out, out_turn, &mut trace, add(alloc, 7), &Open)?;
-    perform(&rt, alloc, &table, table_turn, &mut trace, add(alloc, -2), &Open)?;
+    perform(
+        &rt,
+        alloc,
+        &table,
+        table_turn,
+        &mut trace,
+        add(alloc, -2),
+        &Open,
+    )?;
     assert_eq!(rt; *trace.last(), sum(3));
     assert_eq!(rt; trace.clock(), 3);
     let made = trace.into_steps();
@@ -65,10 +81,26 @@ fn a_raised_clock_is_the_next_floor(rt: HostRuntime) -> Result<(), Fail> {
     trace.raise(7);
     trace.raise(3);
     trace.reserve(alloc)?;
-    perform(&rt, alloc, &lock, &mut turns[0], &mut trace, add(alloc, 1), &Open)?;
+    perform(
+        &rt,
+        alloc,
+        &lock,
+        &mut turns[0],
+        &mut trace,
+        add(alloc, 1),
+        &Open,
+    )?;
     assert_eq!(rt; trace.clock(), 8);
     trace.raise(u64::MAX);
-    let at_the_end = perform(&rt, alloc, &lock, &mut turns[0], &mut trace, add(alloc, 1), &Open);
+    let at_the_end = perform(
+        &rt,
+        alloc,
+        &lock,
+        &mut turns[0],
+        &mut trace,
+        add(alloc, 1),
+        &Open,
+    );
     assert!(rt; at_the_end.is_err());
     assert_eq!(rt; trace.into_steps().len(), 1);
     Ok(())
@@ -80,11 +112,35 @@ fn a_refused_step_leaves_the_trace(rt: HostRuntime) -> Result<(), Fail> {
     let balky = Balky::new(vec![in alloc; 2u32]?);
     let (lock, mut turns) = TurnLock::new(alloc, balky, ObjectId::Out, 1)?;
     let mut trace = Trace::new(alloc, 0);
-    perform(&rt, alloc, &lock, &mut turns[0], &mut trace, add(alloc, 1), &Open)?;
-    let refused = perform(&rt, alloc, &lock, &mut turns[0], &mut trace, add(alloc, 1), &Open);
+    perform(
+        &rt,
+        alloc,
+        &lock,
+        &mut turns[0],
+        &mut trace,
+        add(alloc, 1),
+        &Open,
+    )?;
+    let refused = perform(
+        &rt,
+        alloc,
+        &lock,
+        &mut turns[0],
+        &mut trace,
+        add(alloc, 1),
+        &Open,
+    );
     assert!(rt; refused.is_err());
     assert_eq!(rt; trace.clock(), 1);
-    perform(&rt, alloc, &lock, &mut turns[0], &mut trace, add(alloc, 1), &Open)?;
+    perform(
+        &rt,
+        alloc,
+        &lock,
+        &mut turns[0],
+        &mut trace,
+        add(alloc, 1),
+        &Open,
+    )?;
     assert_eq!(rt; *trace.last(), sum(2));
     assert_eq!(rt; trace.clock(), 2);
     Ok(())

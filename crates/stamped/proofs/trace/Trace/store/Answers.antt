@@ -1,4 +1,4 @@
-use Rattle.std.proofs.Common.{◌≡◌, IsTrue, sym, subst, List, ℕ}
+use Rattle.std.proofs.Common.{IsTrue, sym, subst, List, ℕ}
 use Rattle.bt_core.specs.declared.step.Step.{Step}
 use Rattle.stamped.specs.Rising.{is_rising}
 use Rattle.stamped.specs.Traces.{step_by}
