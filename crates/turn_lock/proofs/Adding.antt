@@ -20,8 +20,12 @@ adds l fits d d' h e ok caller own reply stamp stored object = record {
   object = subst (fits d'.object) (sym (ops_snoc h e)) object;
 }
 
+abbrev desk_in : {D : Type 0} → D → List (ℕ × Option D) → Option D
+desk_in d [] = Some d
+desk_in d (x ∷ xs) = x.1
+
 pub same_desk : {D : Type 0} (xs : List (ℕ × Option D)) (d d' : D) → xs ≡ (0, Some d) ∷ [] → xs ≡ (0, Some d') ∷ [] → d ≡ d'
-same_desk {D = D} xs d d' a b = let t : (0, Some d) ≡ (0, Some d') = cc in let u : Some d ≡ Some d' = ap (λ (z : ℕ × Option D). z.1) t in cc
+same_desk xs d d' a b = let t : Some d ≡ Some d' = ap (desk_in d) (sym a ∙ b) in cc
 
 pub same_history : (s : Stage) (h g : List Entry) → s ≡ Holds h → s ≡ Holds g → h ≡ g
 same_history s h g a b = cc

@@ -1,5 +1,5 @@
 -- Histories of a lock: what is legal, and what of one is a caller's.
-use Rattle.std.specs.Prelude.{◌≡◌, ℕ, suc, ◌<◌, max, eqb, Bool, List, [], ◌∷◌, ◌++◌, map, filter}
+use Rattle.std.specs.Prelude.{◌≡◌, ℕ, suc, ◌<◌, max, ◌==◌, Bool, List, [], ◌∷◌, ◌++◌, map, filter}
 use Rattle.bt_core.specs.declared.step.Op.{Op}
 use Rattle.bt_core.specs.declared.step.Reply.{Reply}
 use Rattle.turn_lock.specs.declared.entry.Entry.{Entry}
@@ -7,16 +7,18 @@ use Rattle.turn_lock.specs.declared.entry.Entry.{Entry}
 abbrev pub op_of : Entry → Op
 op_of e = e.op
 
+-- the operations of a history
 abbrev pub ops : List Entry → List Op
 ops es = map op_of es
 
 abbrev pub is_by : ℕ → Entry → Bool
-is_by c e = eqb e.caller c
+is_by c e = e.caller == c
 
 -- the entries of one caller
 abbrev pub made_by : ℕ → List Entry → List Entry
 made_by c es = filter (is_by c) es
 
+-- the history begins with what was seen
 abbrev pub StartsWith : List Entry → List Entry → Type 0
 StartsWith log seen = (rest : List Entry) × (log ≡ seen ++ rest)
 
@@ -43,6 +45,7 @@ abbrev pub IsLegalAfter : Law → List Op → ℕ → List Entry → Type 0
 IsLegalAfter l before last [] = Unit {0}
 IsLegalAfter l before last (e ∷ es) = IsNext l before last e × IsLegalAfter l (before ++ e.op ∷ []) e.stamp es
 
+-- a whole history is legal
 abbrev pub IsLegal : Law → List Entry → Type 0
 IsLegal l es = IsLegalAfter l [] 0 es
 

@@ -63,6 +63,7 @@ waiting zero f = 0
 waiting (suc n) f = waiting n f + busy (f n).stage
 
 module _ {O : Type 0} (log : List Entry) (who : ℕ → ℕ) (base count : ℕ) (homes : List (maybe.Option (Option (Desk O)))) (c : ℕ) where
+  -- a waiting caller has a held ticket of its own; the one that holds the turn has the served one, and the history did not grow since
   abbrev pub StageOk : Stage → Type 0
   StageOk Idle = Unit {0}
   StageOk (Waits t) = (k : ℕ) × (k < count) × (who k ≡ c) × (t ≡ (base + k) % 2 ^ 64)
@@ -97,11 +98,17 @@ module _ {O : Type 0} (l : Law) (fits : O → List Op → Type 0) where
   abbrev pub IsHome : List (maybe.Option (Option (Desk O))) → List Entry → Type 0
   IsHome homes log = (d : Desk O) × (homes ≡ some (Some d) ∷ []) × DeskOk d log
 
+  -- the rule: the words count tickets, each held ticket is one caller's, the history is legal and has of each caller its own
+  -- entries; the object is at home and fits the history, or out with the one caller that holds the turn
   pub record Kept (s : State (Option (Desk O)) View) : Type 0 where
+    -- the whole history
     pub log : List Entry
+    -- what is known of each caller, and its seat, by its number
     pub callers : ℕ → Part
     pub seat : ℕ → ℕ
+    -- whose each held ticket is, counted from the served one
     pub who : ℕ → ℕ
+    -- the served ticket, which never wraps, how many tickets are held, and how many callers were made
     pub base : ℕ
     pub count : ℕ
     pub made : ℕ

@@ -260,10 +260,13 @@ impl<O: SeqObject> TurnLock<O> {
         requires turn { IsOf self.now turn.old }
         requires own { O.is_own (kind_of O.kind self.now) op.now }
         ensures turn { IsOf self.now turn.new × (caller_of turn.new ≡ caller_of turn.old) }
-        ensures done { IfOk result (λ r. Calls (law_of O.kind O.is_own O.reply_after self.now) turn.old turn.new (entry (caller_of turn.old) floor r.1 op.now r.0)) }
+        ensures done { IfOk result (λ r.
+            Calls (law_of O.kind O.is_own O.reply_after self.now) turn.old turn.new
+            (entry (caller_of turn.old) floor r.1 op.now r.0)) }
         ensures stamp { IfOk result (λ r. (floor < r.1) × Each (λ e. e.stamp < r.1) (seen turn.old)) }
         ensures memory { OnErr result (Looks (law_of O.kind O.is_own O.reply_after self.now) turn.old turn.new) }
-        ensures cause { OnErr result (MayRefuse (O.is_free (kind_of O.kind self.now)) (seen turn.new) floor op.now) }
+        ensures cause { OnErr result
+            (MayRefuse (O.is_free (kind_of O.kind self.now)) (seen turn.new) floor op.now) }
     {
         let mut seat: Place<O> = mem::replace(&mut turn.badge, Badge::blank()).into_seat();
         let outcome = self.run(rt, alloc, &mut seat, turn.caller, floor, op, gate);
@@ -319,7 +322,8 @@ impl<O: SeqObject> TurnLock<O> {
     ) -> Result<(TurnLock<O>, Vec<Turn>), Memory>
         requires callers { 0 < callers }
         requires object { O.stands_for object [] }
-        ensures lock { IfOk result (λ r. (id_of r.0 ≡ id) × (kind_of O.kind r.0 ≡ O.kind object) × (callers_of r.0 ≡ callers)) }
+        ensures lock { IfOk result (λ r.
+            (id_of r.0 ≡ id) × (kind_of O.kind r.0 ≡ O.kind object) × (callers_of r.0 ≡ callers)) }
         ensures turns { IfOk result (λ r. AreAll r.0 r.1.items × Each IsNew r.1.items) }
     {
         let about = About {
