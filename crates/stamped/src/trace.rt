@@ -55,7 +55,8 @@ impl Trace {
     /// The reply of the last step. The trace holds a step.
     pub fn last(&self) -> &Reply
         requires { 0 < length (steps_of self.now) }
-        ensures { (before : List Step) × (step : Step) × (steps_of self.now ≡ before ++ step ∷ []) × (result.now ≡ step.reply) }
+        ensures { (before : List Step) × (step : Step) ×
+            (steps_of self.now ≡ before ++ step ∷ []) × (result.now ≡ step.reply) }
     {
         &self.steps[self.steps.len() - 1].reply
     }
@@ -70,7 +71,8 @@ impl Trace {
     /// Makes the clock the greater of itself and a number.
     pub fn raise(&mut self, to: u64)
         ensures clock { clock_of self.new ≡ max (clock_of self.old) to }
-        ensures steps { (actor_of self.new ≡ actor_of self.old) × (steps_of self.new ≡ steps_of self.old) × (floors_of self.new ≡ floors_of self.old) }
+        ensures actor { actor_of self.new ≡ actor_of self.old }
+        ensures steps { (steps_of self.new ≡ steps_of self.old) × (floors_of self.new ≡ floors_of self.old) }
         ensures room { HasRoom self.old → HasRoom self.new }
     {
         self.clock = self.clock.max(to);
