@@ -41,6 +41,9 @@ impl Trace {
     }
 
     /// Makes room for one step, and changes nothing else. Where there is room already it answers Ok.
+    ///
+    /// It takes the allocator, as each call that may take memory does; the lists grow by the one
+    /// that the trace was made with.
     pub fn reserve(&mut self, _alloc: Global) -> Result<(), Memory>
         ensures same { IsSame self.old self.new }
         ensures room { OnOk result (HasRoom self.new) }
