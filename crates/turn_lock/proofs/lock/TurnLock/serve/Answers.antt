@@ -1,0 +1,25 @@
+use Rattle.std.proofs.Common.{◌≡◌, ◌+◌, List, [], ◌∷◌, refl, ap, ◌∙◌, subst}
+use Rattle.bt_core.specs.declared.step.Op.{Op}
+use Rattle.turn_lock.specs.declared.view.Desk.{Desk}
+use Rattle.turn_lock.specs.History.{Law, ops}
+use Rattle.turn_lock.specs.Turns.{law, fits, DeskOk, entry, after}
+use Rattle.turn_lock.proofs.Adding.{adds, same_desk, next_stamp}
+use Rattle.turn_lock.proofs.lock.TurnLock.serve.Goals as goal
+
+pub pass_on-requires-clause-held : goal.pass_on-requires-clause-held
+pass_on-requires-clause-held g c = let h = c.requires.held in let about = c.args.self.now.table.shared.key in
+    let l : Law = law g.O.SeqObject.kind g.O.SeqObject.is_own g.O.SeqObject.reply_after about in
+    let F : g.row.O.Denot → List Op → Type 0 = fits g.O.SeqObject.kind g.O.SeqObject.stands_for about in
+    let same : h.1 ≡ c.take-object.result = same_desk c.args.seat.now.me.1 h.1 c.take-object.result h.3 c.take-object.ensures.slot.0 in
+    let ok = subst (λ (d : Desk g.row.O.Denot). DeskOk l F d h.0) same h.4.0 in
+    let replies = c.in-Ok.ensures.replies (ops h.0) ok.object.1 in let taken = c.in-Ok.ensures.taken (ops h.0) ok.object.1 in
+    let stage = ap (λ m. m.0.stage) c.take-object.ensures.slot.1 ∙ h.2 in (
+      h.0,
+      stage,
+      adds l F c.take-object.result (record { object = c.apply.new.self; stamp = c.max-last.result + 1 }) h.0 (entry c.args.caller c.args.floor (c.max-last.result + 1) c.args.op.now c.in-Ok.reply)
+          ok h.4.1 c.requires.own (replies ∙ ap (λ k. g.O.SeqObject.reply_after k (ops h.0) c.args.op.now) ok.object.0) (next_stamp _ _ _ c.max-last.ensures) refl (c.in-Ok.ensures.kind ∙ ok.object.0, taken),
+    )
+
+pub returns-in-Ok-clause-done : goal.returns-in-Ok-clause-done
+returns-in-Ok-clause-done g c h e = let s = c.take-object.ensures.slot.1 in let t = c.pass_on.ensures.view h (ap (λ m. m.0.stage) s ∙ e) in
+    (t.0 ∙ ap (λ m. (after (entry c.args.caller c.args.floor (c.max-last.result + 1) c.args.op.now c.in-Ok.reply ∷ []) m.0 h, [])) s, t.1)

@@ -1,0 +1,399 @@
+// The lock: an object, and the turns of its callers.
+ghost use Rattle.std.specs.Prelude.{◌≡◌, ◌≢◌, ℕ, ◌+◌, ◌^◌, ◌<◌, true, List, [], ◌∷◌, ◌++◌, Option, Some, None, MatchBool, IfOk, OnErr, vec_len};
+ghost use Rattle.turn_lock.specs.declared.entry.Entry.{Entry};
+ghost use Rattle.turn_lock.specs.declared.view.Desk.{Desk};
+ghost use Rattle.turn_lock.specs.declared.view.Stage.TheVariants.{Idle, Waits, Holds};
+ghost use Rattle.turn_lock.specs.History.{Each, IsLegal, Rises, StartsWith, ops};
+ghost use Rattle.turn_lock.specs.Turns.{Finds, Entered, DeskOk, at_stage, after, entry, first_view, Covers, Noted, Agrees};
+ghost use Rattle.turn_lock.specs.Calls.{caller_of, seen, Gains, Stays, Calls, Looks, MayRefuse, AreTurns, IsNew, IsPart, pasts};
+
+use crate::gate::Gate;
+use crate::object::SeqObject;
+use crate::rule::{Deal, Draw, Keep, Leave, Look, Made, Note, TakeIn, Told, Turns};
+use crate::turn::{Joined, Turn};
+use crate::view::{About, Desk, View};
+use atomic_table::{Badge, Seat, Table};
+use bt_core::memory::Memory;
+use bt_core::step::{ObjectId, Op, Reply};
+use std::alloc::Global;
+use std::hint::spin_loop;
+use std::marker::Brand;
+use std::mem;
+use std::snapshot::Snapshot;
+use std::sync::Wait;
+use std::thread::yield_now;
+
+/// How often a waiting caller looks before it leaves the processor to others at each look.
+const LOOKS: u32 = 64;
+
+// The words of the table: the ticket that is drawn next, and the ticket that is served.
+const TICKET: usize = 0;
+
+const SERVING: usize = 1;
+
+/// A caller's seat while it is in a call.
+pub(crate) type Place<O> = Seat<Option<Desk<O>>, View>;
+
+/// A ticket lock round an object, for a fixed number of callers.
+///
+/// Its history is the list of all calls that were answered, in the order of their turns. It may be
+/// shared among threads by reference.
+#[derive(Drop)]
+pub struct TurnLock<O: SeqObject> {
+    table: Table<Option<Desk<O>>, View, About<O>, Turns, Global>,
+    id: ObjectId,
+    ghost sized: { (table.shared.table_id.words ≡ 2) × (table.shared.table_id.slots ≡ 1) },
+    ghost some_callers: { 0 < table.shared.key.callers },
+}
+
+impl<O: SeqObject> TurnLock<O> {
+    ghost use Rattle.turn_lock.specs.Locks.{table_of, id_of, callers_of, kind_of, law_of, fits_of, IsOf, AreAll};
+
+    // Takes the next ticket.
+    fn draw(&self, seat: &mut Place<O>) -> u64
+        requires table { seat.old.table_id ≡ table_of self.now }
+        requires view { (seat.old.me.0.live ≡ true) × (seat.old.me.0.stage ≡ Idle) }
+        ensures table { seat.new.table_id ≡ seat.old.table_id }
+        ensures view { seat.new.me ≡ (at_stage seat.old.me.0 (Waits result), seat.old.me.1) }
+    {
+        self.table.shared.fetch_add::<Draw>(seat, TICKET, 1)
+    }
+
+    // Looks whether the ticket is served. If it is, the seat has the object from then on.
+    fn look<W: Told<Desk<O>>>(&self, seat: &mut Place<O>, ticket: u64) -> bool
+        requires table { seat.old.table_id ≡ table_of self.now }
+        requires view { (seat.old.me.0.live ≡ true) × (seat.old.me.0.stage ≡ Waits ticket) × (seat.old.me.1 ≡ []) }
+        requires tells { (d : Desk O) (c : ℕ) (h : List Entry) → Finds (law_of O.kind O.is_own O.reply_after self.now) (fits_of O.kind O.stands_for self.now) d c h → W.fits d c h }
+        ensures table { seat.new.table_id ≡ seat.old.table_id }
+        ensures view { MatchBool result (Entered W.fits seat.old.me seat.new.me) (seat.new.me ≡ seat.old.me) }
+    {
+        self.table.shared.load::<Look<W>>(seat, SERVING) == ticket
+    }
+
+    // Waits until the ticket is served.
+    fn enter<R: Wait>(&self, rt: &R, seat: &mut Place<O>, ticket: u64)
+        requires table { seat.old.table_id ≡ table_of self.now }
+        requires view { (seat.old.me.0.live ≡ true) × (seat.old.me.0.stage ≡ Waits ticket) × (seat.old.me.1 ≡ []) }
+        ensures table { seat.new.table_id ≡ seat.old.table_id }
+        ensures view { Entered (Finds (law_of O.kind O.is_own O.reply_after self.now) (fits_of O.kind O.stands_for self.now)) seat.old.me seat.new.me }
+    {
+        let mut looks = 0;
+        for _ in rt.forever() {
+            if self.look::<Brand>(seat, ticket) {
+                return;
+            }
+            if looks < LOOKS {
+                looks += 1;
+                spin_loop();
+            } else {
+                yield_now();
+            }
+        }
+        unreachable!()
+    }
+
+    // Takes the object out of the slot that the seat holds.
+    fn take(&self, seat: &mut Place<O>) -> Desk<O>
+        requires table { seat.old.table_id ≡ table_of self.now }
+        requires slot { (d : Desk O) × (seat.old.me.1 ≡ (0, Some d) ∷ []) }
+        ensures table { seat.new.table_id ≡ seat.old.table_id }
+        ensures slot { (seat.old.me.1 ≡ (0, Some result) ∷ []) × (seat.new.me ≡ (seat.old.me.0, (0, None) ∷ [])) }
+    {
+        self.table.shared.exchange(seat, 0, None).unwrap()
+    }
+
+    // Puts the object into the slot that the seat holds.
+    fn put(&self, seat: &mut Place<O>, desk: Desk<O>)
+        requires table { seat.old.table_id ≡ table_of self.now }
+        requires slot { seat.old.me.1 ≡ (0, None) ∷ [] }
+        ensures table { seat.new.table_id ≡ seat.old.table_id }
+        ensures slot { seat.new.me ≡ (seat.old.me.0, (0, Some desk) ∷ []) }
+    {
+        drop(self.table.shared.exchange(seat, 0, Some(desk)));
+    }
+
+    // Gives the slot back and serves the next ticket.
+    fn leave<W: Made>(&self, seat: &mut Place<O>)
+        requires table { seat.old.table_id ≡ table_of self.now }
+        requires view { seat.old.me.0.live ≡ true }
+        requires held { (h : List Entry) × (d : Desk O) × (seat.old.me.0.stage ≡ Holds h) × (seat.old.me.1 ≡ (0, Some d) ∷ []) × DeskOk (law_of O.kind O.is_own O.reply_after self.now) (fits_of O.kind O.stands_for self.now) d (h ++ W.made) }
+        requires made { Each (λ e. e.caller ≡ seat.old.me.0.caller) W.made }
+        ensures table { seat.new.table_id ≡ seat.old.table_id }
+        ensures view { (h : List Entry) → seat.old.me.0.stage ≡ Holds h → seat.new.me ≡ (after W.made seat.old.me.0 h, []) }
+    {
+        self.table.shared.fetch_add::<Leave<W>>(seat, SERVING, 1);
+    }
+
+    // Gives the object back with one more entry, and passes the turn on.
+    fn pass_on<W: Made>(
+        &self,
+        seat: &mut Place<O>,
+        desk: Desk<O>,
+        caller: u32,
+        floor: u64,
+        op: &Op,
+        reply: &Reply,
+    )
+        requires table { seat.old.table_id ≡ table_of self.now }
+        requires made { W.made ≡ entry caller floor desk.stamp op.now reply.now ∷ [] }
+        requires view { (seat.old.me.0.live ≡ true) × (seat.old.me.0.caller ≡ caller) }
+        requires slot { seat.old.me.1 ≡ (0, None) ∷ [] }
+        requires held { (h : List Entry) × (seat.old.me.0.stage ≡ Holds h) × DeskOk (law_of O.kind O.is_own O.reply_after self.now) (fits_of O.kind O.stands_for self.now) desk (h ++ entry caller floor desk.stamp op.now reply.now ∷ []) }
+        ensures table { seat.new.table_id ≡ seat.old.table_id }
+        ensures view { (h : List Entry) → seat.old.me.0.stage ≡ Holds h → (seat.new.me ≡ (after (entry caller floor desk.stamp op.now reply.now ∷ []) seat.old.me.0 h, [])) × IsLegal (law_of O.kind O.is_own O.reply_after self.now) (h ++ entry caller floor desk.stamp op.now reply.now ∷ []) }
+    {
+        self.put(seat, desk);
+        self.leave::<W>(seat);
+    }
+
+    // Gives the object back as it was, and passes the turn on.
+    fn give_up(&self, seat: &mut Place<O>, desk: Desk<O>)
+        requires table { seat.old.table_id ≡ table_of self.now }
+        requires view { seat.old.me.0.live ≡ true }
+        requires slot { seat.old.me.1 ≡ (0, None) ∷ [] }
+        requires held { (h : List Entry) × (seat.old.me.0.stage ≡ Holds h) × DeskOk (law_of O.kind O.is_own O.reply_after self.now) (fits_of O.kind O.stands_for self.now) desk h }
+        ensures table { seat.new.table_id ≡ seat.old.table_id }
+        ensures view { (h : List Entry) → seat.old.me.0.stage ≡ Holds h → (seat.new.me ≡ (after [] seat.old.me.0 h, [])) × IsLegal (law_of O.kind O.is_own O.reply_after self.now) h }
+    {
+        self.put(seat, desk);
+        self.leave::<Brand>(seat);
+    }
+
+    // Applies the operation while the seat has the turn, and passes the turn on.
+    fn serve(
+        &self,
+        alloc: Global,
+        seat: &mut Place<O>,
+        caller: u32,
+        floor: u64,
+        op: &Op,
+    ) -> Result<(Reply, u64), Memory>
+        requires table { seat.old.table_id ≡ table_of self.now }
+        requires own { O.is_own (kind_of O.kind self.now) op.now }
+        requires view { (seat.old.me.0.live ≡ true) × (seat.old.me.0.caller ≡ caller) }
+        requires held { (h : List Entry) × (d : Desk O) × (seat.old.me.0.stage ≡ Holds h) × (seat.old.me.1 ≡ (0, Some d) ∷ []) × Finds (law_of O.kind O.is_own O.reply_after self.now) (fits_of O.kind O.stands_for self.now) d caller h }
+        ensures table { seat.new.table_id ≡ seat.old.table_id }
+        ensures done { IfOk result (λ r. (h : List Entry) → seat.old.me.0.stage ≡ Holds h → (seat.new.me ≡ (after (entry caller floor r.1 op.now r.0 ∷ []) seat.old.me.0 h, [])) × IsLegal (law_of O.kind O.is_own O.reply_after self.now) (h ++ entry caller floor r.1 op.now r.0 ∷ [])) }
+        ensures memory { OnErr result ((h : List Entry) → seat.old.me.0.stage ≡ Holds h → (seat.new.me ≡ (after [] seat.old.me.0 h, [])) × IsLegal (law_of O.kind O.is_own O.reply_after self.now) h × MayRefuse (O.is_free (kind_of O.kind self.now)) h floor op.now) }
+    {
+        let Desk { mut object, stamp } = self.take(seat);
+        let last = floor.max(stamp);
+        if last == u64::MAX {
+            self.give_up(seat, Desk { object, stamp });
+            return Err(Memory);
+        }
+        match object.apply(alloc, op) {
+            Ok(reply) => {
+                let stamp = last + 1;
+                self.pass_on::<Brand>(seat, Desk { object, stamp }, caller, floor, op, &reply);
+                Ok((reply, stamp))
+            }
+            Err(Memory) => {
+                self.give_up(seat, Desk { object, stamp });
+                Err(Memory)
+            }
+        }
+    }
+
+    /// The object's identifier, as it was given to [`TurnLock::new`].
+    pub fn id(&self) -> ObjectId
+        ensures { result ≡ id_of self.now }
+    {
+        self.id
+    }
+
+    // Draws a ticket, and waits for its turn.
+    fn wait_turn<R: Wait>(&self, rt: &R, seat: &mut Place<O>)
+        requires table { seat.old.table_id ≡ table_of self.now }
+        requires view { (seat.old.me.0.live ≡ true) × (seat.old.me.0.stage ≡ Idle) × (seat.old.me.1 ≡ []) }
+        ensures table { seat.new.table_id ≡ seat.old.table_id }
+        ensures view { Entered (Finds (law_of O.kind O.is_own O.reply_after self.now) (fits_of O.kind O.stands_for self.now)) seat.old.me seat.new.me }
+    {
+        let ticket = self.draw(seat);
+        self.enter(rt, seat, ticket);
+    }
+
+    // A call, by a seat that rests.
+    fn run<G: Gate, R: Wait>(
+        &self,
+        rt: &R,
+        alloc: Global,
+        seat: &mut Place<O>,
+        caller: u32,
+        floor: u64,
+        op: &Op,
+        gate: &G,
+    ) -> Result<(Reply, u64), Memory>
+        requires table { seat.old.table_id ≡ table_of self.now }
+        requires own { O.is_own (kind_of O.kind self.now) op.now }
+        requires view { (seat.old.me.0.live ≡ true) × (seat.old.me.0.stage ≡ Idle) × (seat.old.me.0.caller ≡ caller) × (seat.old.me.1 ≡ []) }
+        ensures table { seat.new.table_id ≡ seat.old.table_id }
+        ensures view { (seat.new.me.0.live ≡ true) × (seat.new.me.0.stage ≡ Idle) × (seat.new.me.0.caller ≡ caller) × (seat.new.me.1 ≡ []) }
+        ensures done { IfOk result (λ r. Gains (law_of O.kind O.is_own O.reply_after self.now) caller seat.old.me.0 seat.new.me.0 (entry caller floor r.1 op.now r.0)) }
+        ensures memory { OnErr result (Stays (law_of O.kind O.is_own O.reply_after self.now) caller seat.old.me.0 seat.new.me.0) }
+        ensures cause { OnErr result (MayRefuse (O.is_free (kind_of O.kind self.now)) seat.new.me.0.seen floor op.now) }
+    {
+        self.wait_turn(rt, seat);
+        gate.held(rt, caller, self.id);
+        self.serve(alloc, seat, caller, floor, op)
+    }
+
+    /// Performs one operation when the caller's turn comes, and answers the object's reply and the
+    /// call's stamp. `turn` is one of this lock's, and the operation one of the object's own.
+    ///
+    /// The stamp is one more than the greater of `floor` and the stamp before it in the history. The
+    /// turn's own list grows by this call, and the history that it has seen then ends with it.
+    /// While the turn is held, and before the operation is applied, the gate is told of it.
+    ///
+    /// [`Memory`] is answered only where the operation is not free after the history, or where
+    /// `floor` or the last stamp of the history is 2^64 - 1. The history and the turn's own list are
+    /// then as before.
+    pub fn call<G: Gate, R: Wait>(
+        &self,
+        rt: &R,
+        alloc: Global,
+        turn: &mut Turn,
+        floor: u64,
+        op: &Op,
+        gate: &G,
+    ) -> Result<(Reply, u64), Memory>
+        requires turn { IsOf self.now turn.old }
+        requires own { O.is_own (kind_of O.kind self.now) op.now }
+        ensures turn { IsOf self.now turn.new × (caller_of turn.new ≡ caller_of turn.old) }
+        ensures done { IfOk result (λ r.
+            Calls (law_of O.kind O.is_own O.reply_after self.now) turn.old turn.new
+            (entry (caller_of turn.old) floor r.1 op.now r.0)) }
+        ensures stamp { IfOk result (λ r. (floor < r.1) × Each (λ e. e.stamp < r.1) (seen turn.old)) }
+        ensures memory { OnErr result (Looks (law_of O.kind O.is_own O.reply_after self.now) turn.old turn.new) }
+        ensures cause { OnErr result
+            (MayRefuse (O.is_free (kind_of O.kind self.now)) (seen turn.new) floor op.now) }
+    {
+        let mut seat: Place<O> = mem::replace(&mut turn.badge, Badge::blank()).into_seat();
+        let outcome = self.run(rt, alloc, &mut seat, turn.caller, floor, op, gate);
+        turn.badge = seat.into_badge();
+        outcome
+    }
+
+    // Joins the seats of the turns into one, the last turn first.
+    fn take_in(&self, seat: &mut Place<O>, mut turns: Vec<Turn>)
+        requires table { seat.old.table_id ≡ table_of self.now }
+        requires turns { (k : ℕ) × AreTurns (table_of self.now) k turns.items }
+        requires view { seat.old.me.0.live ≡ true }
+        ensures table { seat.new.table_id ≡ seat.old.table_id }
+        ensures view { seat.new.me ≡ (record seat.old.me.0 { taken = seat.old.me.0.taken ++ pasts turns.items }, seat.old.me.1) }
+    {
+        while let Some(turn) = turns.pop() {
+            self.table
+                .shared
+                .join_seat::<TakeIn>(seat, turn.into_seat());
+        }
+    }
+
+    // The turns of a new table, of which this is the first seat.
+    fn deal(&self, alloc: Global, mut first: Place<O>, callers: u32) -> Result<Vec<Turn>, Memory>
+        requires table { first.table_id ≡ table_of self.now }
+        requires view { first.me ≡ (first_view, []) }
+        requires callers { callers ≡ callers_of self.now }
+        ensures turns { IfOk result (λ turns. (vec_len turns ≡ callers) × AreTurns (table_of self.now) 0 turns.items × Each IsNew turns.items) }
+    {
+        let mut turns = Vec::with_capacity(alloc, callers as usize)?;
+        for caller in 1..callers {
+            let seat = self.table.shared.split_seat::<Deal>(&mut first);
+            let Ok(()) = turns.push(Turn::of(caller, seat)) else {
+                return Err(Memory);
+            };
+        }
+        let Ok(()) = turns.insert(0, Turn::of(0, first)) else {
+            return Err(Memory);
+        };
+        Ok(turns)
+    }
+
+    /// A lock round an object that has taken no operation yet, and a turn for each of `callers`
+    /// callers, of whom there is at least one. The turns stand in the order of their caller numbers,
+    /// from 0 on, and none has seen or made an entry.
+    ///
+    /// After [`Memory`] the object is dropped.
+    pub fn new(
+        alloc: Global,
+        object: O,
+        id: ObjectId,
+        callers: u32,
+    ) -> Result<(TurnLock<O>, Vec<Turn>), Memory>
+        requires callers { 0 < callers }
+        requires object { O.stands_for object [] }
+        ensures lock { IfOk result (λ r.
+            (id_of r.0 ≡ id) × (kind_of O.kind r.0 ≡ O.kind object) × (callers_of r.0 ≡ callers)) }
+        ensures turns { IfOk result (λ r. AreAll r.0 r.1.items × Each IsNew r.1.items) }
+    {
+        let about = About {
+            first: Snapshot::of(&object),
+            callers,
+        };
+        let mut slots = Vec::with_capacity(alloc, 1)?;
+        slots.push_reserved(Some(Desk { object, stamp: 0 }));
+        let Ok((table, first)) = Table::new(alloc, &[0, 0], slots, &about) else {
+            return Err(Memory);
+        };
+        let lock = TurnLock { table, id };
+        let turns = lock.deal(alloc, first, callers)?;
+        Ok((lock, turns))
+    }
+
+    // One seat for all turns.
+    fn gather(&self, mut turns: Vec<Turn>) -> Place<O>
+        requires turns { (vec_len turns ≡ callers_of self.now) × AreTurns (table_of self.now) 0 turns.items }
+        ensures table { result.table_id ≡ table_of self.now }
+        ensures view { (result.me.1 ≡ []) × (result.me.0.live ≡ true) × (result.me.0.stage ≡ Idle) × Covers (callers_of self.now) result.me.0 }
+        ensures turns { (h : List Entry) → StartsWith h result.me.0.seen → Agrees h result.me.0 → Each (IsPart h) turns.items }
+    {
+        let mut seat: Place<O> = turns.remove(0).into_seat();
+        self.take_in(&mut seat, turns);
+        seat
+    }
+
+    // The whole history, for a seat and a token of it.
+    fn note(&self, seat: &mut Place<O>) -> Joined
+        requires table { seat.old.table_id ≡ table_of self.now }
+        requires view { seat.old.me.0.live ≡ true }
+        ensures table { seat.new.table_id ≡ seat.old.table_id }
+        ensures view { Noted seat.old.me.0 seat.new.me.0 }
+        ensures token { result ≡ seat.new.me.0.seen }
+    {
+        self.table.shared.load::<Note>(seat, SERVING);
+        let badge = self.table.shared.split_seat::<Keep>(seat).into_badge();
+        Joined { badge }
+    }
+
+    // Ends the table, with a seat that has taken all others in.
+    fn end(self, seat: Place<O>) -> Desk<O>
+        requires table { seat.table_id ≡ table_of self }
+        requires view { (seat.me.0.live ≡ true) × (seat.me.0.stage ≡ Idle) × Covers (callers_of self) seat.me.0 × Noted seat.me.0 seat.me.0 }
+        ensures desk { DeskOk (law_of O.kind O.is_own O.reply_after self) (fits_of O.kind O.stands_for self) result seat.me.0.seen }
+        ensures view { Agrees seat.me.0.seen seat.me.0 }
+    {
+        let TurnLock { table, id: _ } = self;
+        let mut closed = table.close_with(seat);
+        let slot = closed.take(0);
+        closed.free();
+        slot.unwrap()
+    }
+
+    /// Takes all turns of the lock back, in the order of their caller numbers, and gives the object
+    /// with the history of all calls.
+    ///
+    /// The object stands for this history, the history is legal and its stamps rise. It begins with
+    /// what each turn has seen, and limited to each caller it is the turn's own list.
+    pub fn close(self, turns: Vec<Turn>) -> (O, Joined)
+        requires turns { AreAll self turns.items }
+        ensures object { (O.kind result.0 ≡ kind_of O.kind self) × O.stands_for result.0 (ops result.1) }
+        ensures legal { IsLegal (law_of O.kind O.is_own O.reply_after self) result.1 }
+        ensures stamps { Rises 0 result.1 }
+        ensures turns { Each (IsPart result.1) turns.items }
+    {
+        let mut seat = self.gather(turns);
+        let joined = self.note(&mut seat);
+        let Desk { object, stamp: _ } = self.end(seat);
+        (object, joined)
+    }
+}
