@@ -1,0 +1,14 @@
+//! The tokens of a script.
+#![tactic(auto)]
+
+mod bytes;
+pub mod error;
+pub mod lexer;
+mod marks;
+mod numbers;
+mod piece;
+mod place;
+mod separators;
+mod strings;
+pub mod token;
+mod words;
