@@ -10,5 +10,7 @@ mod piece;
 mod place;
 mod separators;
 mod strings;
+#[cfg(test)]
+mod tests;
 pub mod token;
 mod words;
