@@ -91,3 +91,20 @@ push offset b bs false c d = refl
 pub piece_by_class : (offset b : ℕ) (bs : List ℕ) → piece_at offset (b ∷ bs) ≡ by_class offset b bs (class_of b)
 unfolding piece_at
 piece_by_class offset b bs = sym (simp (push offset b bs))
+
+-- two classes are apart
+abbrev pub code : Class → ℕ
+code Blank = 0
+code Letter = 1
+code Digit = 2
+code At = 3
+code Dollar = 4
+code Quote = 5
+code Slash = 6
+code Other = 7
+
+same_code : (m n : ℕ) → m ≡ n → (m == n) ≡ false → ⊥
+same_code m n e h = absurd (grind (arith, nat_tests))
+
+pub apart : (c d : Class) → (code c == code d) ≡ false → c ≡ d → ⊥
+apart c d h e = same_code (code c) (code d) (ap code e) h

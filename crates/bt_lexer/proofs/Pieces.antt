@@ -128,3 +128,7 @@ some_byte (Some (kinds.Number v)) (n, e, inr (inl h)) = h
 some_byte (Some (kinds.Number v)) (n, e, inr (inr h)) = cc h.1
 some_byte (Some (kinds.Text t)) h = cc h.1
 some_byte (Some (kinds.Mark w)) h = absurd (let q : false ≡ true = marks_pass mark_head refl [] h.1 in cc)
+
+-- the class of a piece's first byte, where it is known
+pub head_class : (kind : Option TokenKind) (b : ℕ) (xs : List ℕ) (c : Class) → class_of b ≡ c → IsPiece kind (b ∷ xs) → HeadClass kind c
+head_class kind b xs c q h = subst (HeadClass kind) q (heads kind b xs h)

@@ -3,6 +3,7 @@ use Rattle.std.proofs.Common.{◌≡◌, ◌≢◌, ℕ, zero, suc, ◌+◌, ◌
 use Rattle.std.specs.Prelude.{◌⊎◌, if◌then◌else◌, ◌==◌}
 use Rattle.std.proofs.lemmas.Bool.Decides.{nat_tests}
 use Rattle.std.proofs.lemmas.Slice.Eq.{bytes_eq-Decides}
+use Rattle.std.proofs.lemmas.Bool.{false≢true}
 use Rattle.std.proofs.lemmas.List.{take_at, drop_at, length-append, append-nil, append_cancel_left}
 use Rattle.bt_lexer.specs.Bytes.{is_blank, is_letter, is_digit, is_word_byte, is_attach_byte, Every, begins}
 use Rattle.bt_lexer.specs.Words.{IsWord, IsAttach, IsAttachWord, IsMapName, IsVarName}
@@ -13,8 +14,8 @@ use Rattle.bt_lexer.specs.declared.error.LexError.{LexError}
 use Rattle.bt_lexer.specs.declared.error.LexError.TheVariants as faults
 use Rattle.bt_lexer.specs.declared.token.TokenKind.{TokenKind}
 use Rattle.bt_lexer.specs.declared.token.TokenKind.TheVariants as kinds
-use Rattle.bt_lexer.proofs.Classes.{Class, Blank, Letter, Digit, At, Dollar, Quote, Slash, Other, class_of, letter_class}
-use Rattle.bt_lexer.proofs.Pieces.{IsFound, Answers, decided, HeadClass, heads, attach_word, some_byte}
+use Rattle.bt_lexer.proofs.Classes.{Class, Blank, Letter, Digit, At, Dollar, Quote, Slash, Other, class_of, letter_class, apart}
+use Rattle.bt_lexer.proofs.Pieces.{IsFound, Answers, decided, HeadClass, head_class, attach_word, some_byte}
 use Rattle.bt_lexer.proofs.Runs.{IsRun, run, run_unique, no_more, every_front, every_back}
 
 letter_word_byte : (b : ℕ) → is_letter b ≡ true → is_word_byte b ≡ true
@@ -34,15 +35,12 @@ run_word (b ∷ bs) (c ∷ front) rest h r = (let q : b ≡ c = cc r.parts in su
 letter_pieces : (kind : Option TokenKind) (c : ℕ) (xs : List ℕ) → is_letter c ≡ true → IsPiece kind (c ∷ xs) → Every is_word_byte (c ∷ xs) ⊎ IsAttach (c ∷ xs)
 letter_pieces (Some (kinds.Word w)) c xs l h = inl (word_every (c ∷ xs) h.1)
 letter_pieces (Some (kinds.Attach w)) c xs l h = inr h.1
-letter_pieces None c xs l h = absurd (elim (heads None c xs h) [ inl e ↦ (let q = letter_class c l in cc) | inr e ↦ (let q = letter_class c l in cc) ])
-letter_pieces (Some (kinds.Map w)) c xs l h = absurd (let e = heads (Some (kinds.Map w)) c xs h in let q = letter_class c l in cc)
-letter_pieces (Some (kinds.Var w)) c xs l h = absurd (let e = heads (Some (kinds.Var w)) c xs h in let q = letter_class c l in cc)
-letter_pieces (Some (kinds.Number w)) c xs l h = absurd (let e = heads (Some (kinds.Number w)) c xs h in let q = letter_class c l in cc)
-letter_pieces (Some (kinds.Text w)) c xs l h = absurd (let e = heads (Some (kinds.Text w)) c xs h in let q = letter_class c l in cc)
-letter_pieces (Some (kinds.Mark w)) c xs l h = absurd (not_mark c l (heads (Some (kinds.Mark w)) c xs h))
-  where
-  not_mark : (c : ℕ) → is_letter c ≡ true → HeadClass (Some (kinds.Mark w)) (class_of c) → ⊥
-  not_mark c l e = let e' = rw (letter_class c l) at e in let q : false ≡ true = e' in cc
+letter_pieces (Some (kinds.Map w)) c xs l h = absurd (apart Letter At refl (head_class (Some (kinds.Map w)) c xs Letter (letter_class c l) h))
+letter_pieces (Some (kinds.Var w)) c xs l h = absurd (apart Letter Dollar refl (head_class (Some (kinds.Var w)) c xs Letter (letter_class c l) h))
+letter_pieces (Some (kinds.Number w)) c xs l h = absurd (apart Letter Digit refl (head_class (Some (kinds.Number w)) c xs Letter (letter_class c l) h))
+letter_pieces (Some (kinds.Text w)) c xs l h = absurd (apart Letter Quote refl (head_class (Some (kinds.Text w)) c xs Letter (letter_class c l) h))
+letter_pieces (Some (kinds.Mark w)) c xs l h = absurd (false≢true (head_class (Some (kinds.Mark w)) c xs Letter (letter_class c l) h))
+letter_pieces None c xs l h = absurd (elim (head_class None c xs Letter (letter_class c l) h) [ inl e ↦ apart Letter Blank refl e | inr e ↦ apart Letter Slash refl e ])
 
 pub word_piece_of : (word xs : List ℕ) (kind : Option TokenKind) → IsWord word → IsPiece kind (word ++ xs) → Every is_word_byte (word ++ xs) ⊎ IsAttach (word ++ xs)
 word_piece_of [] xs kind w h = absurd w
@@ -167,3 +165,89 @@ word_sound offset bs h =
     let r = run is_word_byte bs in
     let found = word_of_found offset r.0 r.1 (run_word bs r.0 r.1 h r.2) r.2.stop in
     rw r.2.len (subst (λ (l : List ℕ). Answers offset l (word_of l (length r.0))) (sym r.2.parts) found)
+
+-- ---- names
+
+at_pieces : (kind : Option TokenKind) (b : ℕ) (xs : List ℕ) → class_of b ≡ At → IsPiece kind (b ∷ xs) → (xs ≡ []) ⊎ IsWord xs
+at_pieces (Some (kinds.Word w)) b xs q h = absurd (apart At Letter refl (head_class (Some (kinds.Word w)) b xs At q h))
+at_pieces (Some (kinds.Attach w)) b xs q h = absurd (apart At Letter refl (head_class (Some (kinds.Attach w)) b xs At q h))
+at_pieces (Some (kinds.Map w)) b xs q h = h.1.1
+at_pieces (Some (kinds.Var w)) b xs q h = absurd (apart At Dollar refl (head_class (Some (kinds.Var w)) b xs At q h))
+at_pieces (Some (kinds.Number w)) b xs q h = absurd (apart At Digit refl (head_class (Some (kinds.Number w)) b xs At q h))
+at_pieces (Some (kinds.Text w)) b xs q h = absurd (apart At Quote refl (head_class (Some (kinds.Text w)) b xs At q h))
+at_pieces (Some (kinds.Mark w)) b xs q h = absurd (false≢true (head_class (Some (kinds.Mark w)) b xs At q h))
+at_pieces None b xs q h = absurd (elim (head_class None b xs At q h) [ inl e ↦ apart At Blank refl e | inr e ↦ apart At Slash refl e ])
+
+dollar_pieces : (kind : Option TokenKind) (b : ℕ) (xs : List ℕ) → class_of b ≡ Dollar → IsPiece kind (b ∷ xs) → IsWord xs
+dollar_pieces (Some (kinds.Word w)) b xs q h = absurd (apart Dollar Letter refl (head_class (Some (kinds.Word w)) b xs Dollar q h))
+dollar_pieces (Some (kinds.Attach w)) b xs q h = absurd (apart Dollar Letter refl (head_class (Some (kinds.Attach w)) b xs Dollar q h))
+dollar_pieces (Some (kinds.Map w)) b xs q h = absurd (apart Dollar At refl (head_class (Some (kinds.Map w)) b xs Dollar q h))
+dollar_pieces (Some (kinds.Var w)) b xs q h = h.1.1
+dollar_pieces (Some (kinds.Number w)) b xs q h = absurd (apart Dollar Digit refl (head_class (Some (kinds.Number w)) b xs Dollar q h))
+dollar_pieces (Some (kinds.Text w)) b xs q h = absurd (apart Dollar Quote refl (head_class (Some (kinds.Text w)) b xs Dollar q h))
+dollar_pieces (Some (kinds.Mark w)) b xs q h = absurd (false≢true (head_class (Some (kinds.Mark w)) b xs Dollar q h))
+dollar_pieces None b xs q h = absurd (elim (head_class None b xs Dollar q h) [ inl e ↦ apart Dollar Blank refl e | inr e ↦ apart Dollar Slash refl e ])
+
+-- a word that a class of bytes ends
+word_ends : (name more after rest : List ℕ) → begins is_word_byte rest ≡ false → rest ≡ more ++ after → IsWord (name ++ more) → more ≡ []
+word_ends name more after rest stop e w = no_more is_word_byte more after rest e stop (every_back is_word_byte name more (word_every (name ++ more) w))
+
+no_word : (more after rest : List ℕ) → begins is_letter rest ≡ false → rest ≡ more ++ after → IsWord more → ⊥
+no_word [] after rest stop e w = w
+no_word (b ∷ more) after rest stop e w = let q : begins is_letter rest ≡ is_letter b = ap (begins is_letter) e in let l = w.0 in cc
+
+append_nil_back : (name more : List ℕ) → name ++ more ≡ [] → more ≡ []
+append_nil_back [] more e = e
+append_nil_back (b ∷ name) more e = absurd cc
+
+map_word_longest : (name rest : List ℕ) → begins is_word_byte rest ≡ false → IsLongest (64 ∷ name) rest
+map_word_longest name rest stop more after kind e h = elim (at_pieces kind 64 (name ++ more) refl h) [
+    | inl q ↦ append_nil_back name more q
+    | inr w ↦ word_ends name more after rest stop e w
+  ]
+
+map_alone_longest : (rest : List ℕ) → begins is_letter rest ≡ false → IsLongest (64 ∷ []) rest
+map_alone_longest rest stop more after kind e h = elim (at_pieces kind 64 more refl h) [
+    | inl q ↦ q
+    | inr w ↦ absurd (no_word more after rest stop e w)
+  ]
+
+pub map_sound : (offset : ℕ) (bs : List ℕ) → Answers offset (64 ∷ bs) (map_piece (64 ∷ bs))
+unfolding map_piece
+map_sound offset bs =
+    decided (λ (n : ℕ). IsFound (64 ∷ bs) (Some (kinds.Map (take (1 + n) (64 ∷ bs)))) (1 + n)) (begins is_letter bs) (word_len bs) 0
+      (λ h. let r = run is_word_byte bs in
+        let taken : take (1 + word_len bs) (64 ∷ bs) ≡ 64 ∷ r.0 = take_past (64 ∷ []) bs (word_len bs) ∙ ap (λ (l : List ℕ). 64 ∷ l) (ap (take (word_len bs)) r.2.parts ∙ take_at r.0 r.1 (word_len bs) (sym r.2.len)) in
+        rw taken record {
+          piece = 64 ∷ r.0;
+          rest = r.1;
+          parts = ap (λ (l : List ℕ). 64 ∷ l) r.2.parts;
+          size = omega (arith, r.2.len);
+          is = (refl, (refl, inr (run_word bs r.0 r.1 h r.2)));
+          longest = map_word_longest r.0 r.1 r.2.stop;
+        })
+      (λ h. record { piece = 64 ∷ []; rest = bs; parts = refl; size = refl; is = (refl, (refl, inl refl)); longest = map_alone_longest bs h })
+
+pub var_sound : (offset : ℕ) (bs : List ℕ) → Answers offset (36 ∷ bs) (var_piece offset (36 ∷ bs))
+unfolding var_piece
+var_sound offset bs =
+    decided (Answers offset (36 ∷ bs)) (begins is_letter bs) _ _
+      (λ h. let r = run is_word_byte bs in
+        let taken : take (1 + word_len bs) (36 ∷ bs) ≡ 36 ∷ r.0 = take_past (36 ∷ []) bs (word_len bs) ∙ ap (λ (l : List ℕ). 36 ∷ l) (ap (take (word_len bs)) r.2.parts ∙ take_at r.0 r.1 (word_len bs) (sym r.2.len)) in
+        rw taken record {
+          piece = 36 ∷ r.0;
+          rest = r.1;
+          parts = ap (λ (l : List ℕ). 36 ∷ l) r.2.parts;
+          size = omega (arith, r.2.len);
+          is = (refl, (refl, run_word bs r.0 r.1 h r.2));
+          longest = λ more after kind e p. word_ends r.0 more after r.1 r.2.stop e (dollar_pieces kind 36 (r.0 ++ more) refl p);
+        })
+      (λ h. inl ((λ q. cc, λ piece rest kind e p. nothing piece rest kind bs h e p), refl))
+  where
+  nothing : (piece rest : List ℕ) (kind : Option TokenKind) (bs : List ℕ) → begins is_letter bs ≡ false → 36 ∷ bs ≡ piece ++ rest → IsPiece kind piece → ⊥
+  nothing [] rest kind bs h e p = some_byte kind p
+  nothing (b ∷ xs) rest kind bs h e p =
+      let q : b ≡ 36 = cc in
+      let p' : IsPiece kind (36 ∷ xs) = subst (λ (x : ℕ). IsPiece kind (x ∷ xs)) q p in
+      let tail : bs ≡ xs ++ rest = cc in
+      no_word xs rest bs h tail (dollar_pieces kind 36 xs refl p')

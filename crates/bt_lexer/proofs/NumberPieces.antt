@@ -1,0 +1,156 @@
+-- Numbers: what is found is the longest, with its value.
+use Rattle.std.proofs.Common.{◌≡◌, ◌≢◌, ℕ, zero, suc, ◌+◌, ◌-◌, ◌*◌, ◌^◌, ◌<◌, ◌≤◌, Bool, true, false, cond, ◌||◌, ◌&&◌, not, ltb, List, [], ◌∷◌, ◌++◌, length, take, drop, Option, Some, None, Result, Ok, Err, refl, ap, sym, subst, ◌∙◌, inl, inr, arith, append_assoc, nat_lt}
+use Rattle.std.specs.Prelude.{◌⊎◌, if◌then◌else◌, ◌==◌, filter}
+use Rattle.std.specs.Char.{digit_value}
+use Rattle.std.specs.Str.Parse.{digits_value, digits_value_after}
+use Rattle.std.proofs.lemmas.Bool.{false≢true, ltb-true, ltb-false, lt-ltb, le-ltb}
+use Rattle.std.proofs.lemmas.Bool.Decides.{nat_tests}
+use Rattle.std.proofs.lemmas.List.{take_at, drop_at, length-append, append-nil, append_cancel_left}
+use Rattle.std.proofs.Math.Nat.{mul-le-mul_left, mul-one}
+use Rattle.bt_lexer.specs.Bytes.{is_digit, is_word_byte, begins}
+use Rattle.bt_lexer.specs.Numbers.{AreDigits, IsNumber, IsDecimal, IsOctal, IsHexadecimal, not_underscore, value_of, signed}
+use Rattle.bt_lexer.specs.Tokens.{IsPiece, IsToken, IsLongest, IsFault, BeginsWithNumber}
+use Rattle.bt_lexer.specs.Scan.{fits, limited, pushed, digits, behind_prefix, number_at, number_before, number_piece, token_piece}
+use Rattle.bt_lexer.specs.declared.numbers.Digits.{Digits}
+use Rattle.bt_lexer.specs.declared.piece.Piece.{Piece}
+use Rattle.bt_lexer.specs.declared.error.LexError.{LexError}
+use Rattle.bt_lexer.specs.declared.error.LexError.TheVariants as faults
+use Rattle.bt_lexer.specs.declared.token.TokenKind.{TokenKind}
+use Rattle.bt_lexer.specs.declared.token.TokenKind.TheVariants as kinds
+use Rattle.bt_lexer.proofs.Classes.{Class, Blank, Letter, Digit, At, Dollar, Quote, Slash, Other, class_of, digit_class, apart}
+use Rattle.bt_lexer.proofs.Pieces.{IsFound, Answers, decided, head_class, digits_head}
+
+-- what may follow a digit
+abbrev pub More : ℕ → List ℕ → Type 0
+More base [] = Unit {0}
+More base (c ∷ more) = AreDigits base (c ∷ more) ⊎ ((c ≡ 95) × AreDigits base more)
+
+more_behind : (base d : ℕ) (xs : List ℕ) → AreDigits base (d ∷ xs) → More base xs
+more_behind base d [] h = tt
+more_behind base d (c ∷ xs) h = h.1
+
+digits_from_more : (base d : ℕ) (xs : List ℕ) → digit_value d < base → More base xs → AreDigits base (d ∷ xs)
+digits_from_more base d [] f h = f
+digits_from_more base d (c ∷ xs) f h = (f, h)
+
+more_from_digits : (base : ℕ) (xs : List ℕ) → AreDigits base xs → More base xs
+more_from_digits base [] h = tt
+more_from_digits base (c ∷ xs) h = inl h
+
+fits_true : (base d : ℕ) → fits base d ≡ true → digit_value d < base
+fits_true base d h = ltb-true (digit_value d) base h
+
+fits_false : (base d : ℕ) → fits base d ≡ false → digit_value d < base → ⊥
+fits_false base d h l = let k = ltb-false (digit_value d) base h in omega arith
+
+-- `_` is no digit
+underscore : (base d : ℕ) → base ≤ 36 → digit_value d < base → d ≡ 95 → ⊥
+underscore base d b l e = absurd (let k : digit_value d ≡ 36 = ap digit_value e in omega arith)
+
+digits_begin : (base : ℕ) (xs after bs : List ℕ) → bs ≡ xs ++ after → AreDigits base xs → begins (fits base) bs ≡ true
+digits_begin base [] after bs e h = absurd h
+digits_begin base (d ∷ xs) after bs e h = ap (begins (fits base)) e ∙ lt-ltb (digit_value d) base (digits_head base d xs h)
+
+grows : (base v d : ℕ) → 1 ≤ base → v ≤ v * base + d
+grows base v d h = let k : v * 1 ≤ v * base = mul-le-mul_left v h in let o = mul-one v in omega arith
+
+pushed_limited : (base d v : ℕ) → 1 ≤ base → pushed base d (limited v) ≡ limited (v * base + d)
+pushed_limited base d v h =
+    decided (λ (o : Option ℕ). pushed base d o ≡ limited (v * base + d)) (nat_lt v (2 ^ 64)) (Some v) None
+      (λ l. refl)
+      (λ l. let big : 2 ^ 64 ≤ v = ltb-false v (2 ^ 64) l in let g = grows base v d h in rw (le-ltb (v * base + d) (2 ^ 64) (omega arith)) refl)
+
+-- digits behind a digit, after n bytes with the value v
+record IsScan (base v n : ℕ) (bs : List ℕ) (found : Digits) : Type 0 where
+  front : List ℕ
+  rest : List ℕ
+  parts : bs ≡ front ++ rest
+  digits : More base front
+  size : found.len ≡ n + length front
+  value : found.value ≡ limited (digits_value_after base v (filter not_underscore front))
+  longest : (more after : List ℕ) → rest ≡ more ++ after → More base (front ++ more) → more ≡ []
+
+-- such digits, where the first byte is a digit
+scan_digits : (base v n : ℕ) (bs : List ℕ) (found : Digits) → base ≤ 36 → begins (fits base) bs ≡ true → (s : IsScan base v n bs found) → AreDigits base s.front
+scan_digits base v n [] found b h s = absurd (false≢true h)
+scan_digits base v n (d ∷ bs) found b h s = by_front s.front s.rest s.parts s.digits s.longest
+  where
+  by_front : (front rest : List ℕ) → d ∷ bs ≡ front ++ rest → More base front → ((more after : List ℕ) → rest ≡ more ++ after → More base (front ++ more) → more ≡ []) → AreDigits base front
+  by_front [] rest e m longest = absurd (let k : d ∷ [] ≡ [] = longest (d ∷ []) bs (sym e) (inl (fits_true base d h)) in cc)
+  by_front (c ∷ front) rest e (inl m) longest = m
+  by_front (c ∷ front) rest e (inr m) longest = absurd (let q : d ≡ c = cc in underscore base d b (fits_true base d h) (q ∙ m.0))
+
+scan_end : (base v n : ℕ) → IsScan base v n [] (record { value = limited v; len = n })
+scan_end base v n = record { front = []; rest = []; parts = refl; digits = tt; size = omega arith; value = refl; longest = λ more after e m. nil_front more after e }
+  where
+  nil_front : (more after : List ℕ) → [] ≡ more ++ after → more ≡ []
+  nil_front [] after e = refl
+  nil_front (b ∷ more) after e = absurd cc
+
+scan_digit : (base v n b : ℕ) (bs : List ℕ) (found : Digits) → base ≤ 36 → fits base b ≡ true → IsScan base (v * base + digit_value b) (n + 1) bs found → IsScan base v n (b ∷ bs) found
+scan_digit base v n b bs found small f s = record {
+  front = b ∷ s.front;
+  rest = s.rest;
+  parts = ap (λ (l : List ℕ). b ∷ l) s.parts;
+  digits = inl (digits_from_more base b s.front (fits_true base b f) s.digits);
+  size = let k = s.size in omega arith;
+  value = s.value ∙ sym (ap (λ (l : List ℕ). limited (digits_value_after base v l)) (kept b s.front (λ e. underscore base b small (fits_true base b f) e)));
+  longest = λ more after e m. elim m [
+      | inl h ↦ s.longest more after e (more_behind base b (s.front ++ more) h)
+      | inr h ↦ absurd (underscore base b small (fits_true base b f) h.0)
+    ];
+}
+  where
+  kept : (b : ℕ) (xs : List ℕ) → (b ≡ 95 → ⊥) → filter not_underscore (b ∷ xs) ≡ b ∷ filter not_underscore xs
+  kept b xs h = let t : not_underscore b ≡ true = not_eq b h in rw t refl
+    where
+    not_eq : (b : ℕ) → (b ≡ 95 → ⊥) → not_underscore b ≡ true
+    not_eq b h = grind (arith, nat_tests)
+
+is_underscore : (b : ℕ) → (b == 95) ≡ true → b ≡ 95
+is_underscore b h = grind (arith, nat_tests)
+
+scan_underscore : (base v n b : ℕ) (bs : List ℕ) (found : Digits) → base ≤ 36 → fits base b ≡ false → (b == 95) ≡ true → begins (fits base) bs ≡ true → IsScan base v (n + 1) bs found → IsScan base v n (b ∷ bs) found
+scan_underscore base v n b bs found small f u d s = record {
+  front = b ∷ s.front;
+  rest = s.rest;
+  parts = ap (λ (l : List ℕ). b ∷ l) s.parts;
+  digits = inr (is_underscore b u, scan_digits base v (n + 1) bs found small d s);
+  size = let k = s.size in omega arith;
+  value = s.value ∙ sym (ap (λ (l : List ℕ). limited (digits_value_after base v l)) (passed b s.front u));
+  longest = λ more after e m. elim m [
+      | inl h ↦ absurd (fits_false base b f (digits_head base b (s.front ++ more) h))
+      | inr h ↦ s.longest more after e (more_from_digits base (s.front ++ more) h.1)
+    ];
+}
+  where
+  passed : (b : ℕ) (xs : List ℕ) → (b == 95) ≡ true → filter not_underscore (b ∷ xs) ≡ filter not_underscore xs
+  passed b xs h = rw h refl
+
+scan_stop : (base v n b : ℕ) (bs : List ℕ) → base ≤ 36 → fits base b ≡ false → ((b == 95) && begins (fits base) bs) ≡ false → IsScan base v n (b ∷ bs) (record { value = limited v; len = n })
+scan_stop base v n b bs small f u = record { front = []; rest = b ∷ bs; parts = refl; digits = tt; size = omega arith; value = refl; longest = λ more after e m. ends more after e m }
+  where
+  ends : (more after : List ℕ) → b ∷ bs ≡ more ++ after → More base more → more ≡ []
+  ends [] after e m = refl
+  ends (c ∷ more) after e (inl m) = absurd (let q : b ≡ c = cc in fits_false base b f (subst (λ (x : ℕ). digit_value x < base) (sym q) (digits_head base c more m)))
+  ends (c ∷ more) after e (inr m) = absurd (
+      let q : b ≡ 95 = cc (m.0, e) in
+      let tail : bs ≡ more ++ after = cc in
+      let k = digits_begin base more after bs tail m.1 in
+      false≢true (sym u ∙ both_hold b q k))
+    where
+    both_hold : (b : ℕ) → b ≡ 95 → begins (fits base) bs ≡ true → ((b == 95) && begins (fits base) bs) ≡ true
+    both_hold b q k = rw (q, k) refl
+
+scan : (base v n : ℕ) (bs : List ℕ) → 1 ≤ base → base ≤ 36 → IsScan base v n bs (digits base (limited v) n bs)
+scan base v n [] one small = scan_end base v n
+scan base v n (b ∷ bs) one small =
+    decided (λ (found : Digits). IsScan base v n (b ∷ bs) found) (fits base b) _ _
+      (λ f. rw (pushed_limited base (digit_value b) v one) (scan_digit base v n b bs _ small f (scan base (v * base + digit_value b) (n + 1) bs one small)))
+      (λ f. decided (λ (found : Digits). IsScan base v n (b ∷ bs) found) ((b == 95) && begins (fits base) bs) _ _
+        (λ u. let both = and_both (b == 95) (begins (fits base) bs) u in scan_underscore base v n b bs _ small f both.0 both.1 (scan base v (n + 1) bs one small))
+        (λ u. scan_stop base v n b bs small f u))
+  where
+  and_both : (a b : Bool) → (a && b) ≡ true → (a ≡ true) × (b ≡ true)
+  and_both true b h = (refl, h)
+  and_both false b h = absurd (false≢true h)
