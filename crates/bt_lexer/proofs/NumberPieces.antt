@@ -154,3 +154,175 @@ scan base v n (b ∷ bs) one small =
   and_both : (a b : Bool) → (a && b) ≡ true → (a ≡ true) × (b ≡ true)
   and_both true b h = (refl, h)
   and_both false b h = absurd (false≢true h)
+
+-- ---- numbers
+
+-- the longest digits at the front
+record IsLeading (base : ℕ) (bs : List ℕ) (found : Digits) : Type 0 where
+  front : List ℕ
+  rest : List ℕ
+  parts : bs ≡ front ++ rest
+  digits : AreDigits base front
+  size : found.len ≡ length front
+  value : found.value ≡ limited (value_of base front)
+  longest : (more after : List ℕ) → rest ≡ more ++ after → AreDigits base (front ++ more) → more ≡ []
+
+leading : (base : ℕ) (bs : List ℕ) → 1 ≤ base → base ≤ 36 → begins (fits base) bs ≡ true → IsLeading base bs (digits base (Some 0) 0 bs)
+leading base bs one small h =
+    let s = scan base 0 0 bs one small in
+    record {
+      front = s.front;
+      rest = s.rest;
+      parts = s.parts;
+      digits = scan_digits base 0 0 bs _ small h s;
+      size = let k = s.size in omega arith;
+      value = s.value;
+      longest = λ more after e d. s.longest more after e (more_from_digits base (s.front ++ more) d);
+    }
+
+-- what begins with a digit
+number_pieces : (kind : Option TokenKind) (b : ℕ) (xs : List ℕ) → class_of b ≡ Digit → IsPiece kind (b ∷ xs) → (n : ℕ) × IsNumber (b ∷ xs) n
+number_pieces (Some (kinds.Word w)) b xs q h = absurd (apart Digit Letter refl (head_class (Some (kinds.Word w)) b xs Digit q h))
+number_pieces (Some (kinds.Attach w)) b xs q h = absurd (apart Digit Letter refl (head_class (Some (kinds.Attach w)) b xs Digit q h))
+number_pieces (Some (kinds.Map w)) b xs q h = absurd (apart Digit At refl (head_class (Some (kinds.Map w)) b xs Digit q h))
+number_pieces (Some (kinds.Var w)) b xs q h = absurd (apart Digit Dollar refl (head_class (Some (kinds.Var w)) b xs Digit q h))
+number_pieces (Some (kinds.Number w)) b xs q h = (h.0, h.2)
+number_pieces (Some (kinds.Text w)) b xs q h = absurd (apart Digit Quote refl (head_class (Some (kinds.Text w)) b xs Digit q h))
+number_pieces (Some (kinds.Mark w)) b xs q h = absurd (false≢true (head_class (Some (kinds.Mark w)) b xs Digit q h))
+number_pieces None b xs q h = absurd (elim (head_class None b xs Digit q h) [ inl e ↦ apart Digit Blank refl e | inr e ↦ apart Digit Slash refl e ])
+
+
+-- the longest number at the front
+pub record IsNumberAt (bs : List ℕ) (found : Digits) : Type 0 where
+  pub front : List ℕ
+  pub rest : List ℕ
+  pub n : ℕ
+  pub parts : bs ≡ front ++ rest
+  pub number : IsNumber front n
+  pub size : found.len ≡ length front
+  pub value : found.value ≡ limited n
+  pub longest : IsLongest front rest
+
+digit_longest : (d : ℕ) (front rest : List ℕ) → is_digit d ≡ true → ((more after : List ℕ) → rest ≡ more ++ after → (n : ℕ) → IsNumber (d ∷ front ++ more) n → more ≡ []) → IsLongest (d ∷ front) rest
+digit_longest d front rest h longest more after kind e p = let m = number_pieces kind d (front ++ more) (digit_class d h) p in longest more after e m.0 m.1
+
+-- no hexadecimal number begins here
+abbrev NoHexadecimal : List ℕ → Type 0
+NoHexadecimal bs = (digits after : List ℕ) → bs ≡ 48 ∷ 120 ∷ digits ++ after → AreDigits 16 digits → ⊥
+
+octal_at : (bs : List ℕ) → NoHexadecimal (48 ∷ bs) → IsNumberAt (48 ∷ bs) (digits 8 (Some 0) 0 (48 ∷ bs))
+octal_at bs none = by_front (leading 8 (48 ∷ bs) (omega arith) (omega arith) refl)
+  where
+  by_front : IsLeading 8 (48 ∷ bs) (digits 8 (Some 0) 0 (48 ∷ bs)) → IsNumberAt (48 ∷ bs) (digits 8 (Some 0) 0 (48 ∷ bs))
+  by_front l = by_cases l.front l.rest l.parts l.digits l.size l.value l.longest
+    where
+    by_cases : (front rest : List ℕ) → 48 ∷ bs ≡ front ++ rest → AreDigits 8 front → (digits 8 (Some 0) 0 (48 ∷ bs)).len ≡ length front → (digits 8 (Some 0) 0 (48 ∷ bs)).value ≡ limited (value_of 8 front)
+        → ((more after : List ℕ) → rest ≡ more ++ after → AreDigits 8 (front ++ more) → more ≡ []) → IsNumberAt (48 ∷ bs) (digits 8 (Some 0) 0 (48 ∷ bs))
+    by_cases [] rest e d size value longest = absurd d
+    by_cases (c ∷ front) rest e d size value longest =
+        let q : c ≡ 48 = cc in
+        record {
+          front = c ∷ front;
+          rest = rest;
+          n = value_of 8 (c ∷ front);
+          parts = e;
+          number = inr (inl (q, d, refl));
+          size = size;
+          value = value;
+          longest = digit_longest c front rest (ap is_digit q) (λ more after e' n m. ends more after e' n m q);
+        }
+      where
+      ends : (more after : List ℕ) → rest ≡ more ++ after → (n : ℕ) → IsNumber (c ∷ front ++ more) n → c ≡ 48 → more ≡ []
+      ends more after e' n (inl m) q = absurd (m.0 q)
+      ends more after e' n (inr (inl m)) q = longest more after e' m.1
+      ends more after e' n (inr (inr m)) q = absurd (none m.0 after (e ∙ ap (λ (l : List ℕ). c ∷ front ++ l) e' ∙ sym (append_assoc (c ∷ front) more after) ∙ ap (λ (l : List ℕ). l ++ after) m.1) m.2)
+
+decimal_at : (b : ℕ) (bs : List ℕ) → is_digit b ≡ true → (b ≡ 48 → ⊥) → IsNumberAt (b ∷ bs) (digits 10 (Some 0) 0 (b ∷ bs))
+decimal_at b bs h zero_apart = by_front (leading 10 (b ∷ bs) (omega arith) (omega arith) (digit_fits b h))
+  where
+  digit_fits : (b : ℕ) → is_digit b ≡ true → fits 10 b ≡ true
+  digit_fits b h = grind (arith, nat_tests)
+  by_front : IsLeading 10 (b ∷ bs) (digits 10 (Some 0) 0 (b ∷ bs)) → IsNumberAt (b ∷ bs) (digits 10 (Some 0) 0 (b ∷ bs))
+  by_front l = by_cases l.front l.rest l.parts l.digits l.size l.value l.longest
+    where
+    by_cases : (front rest : List ℕ) → b ∷ bs ≡ front ++ rest → AreDigits 10 front → (digits 10 (Some 0) 0 (b ∷ bs)).len ≡ length front → (digits 10 (Some 0) 0 (b ∷ bs)).value ≡ limited (value_of 10 front)
+        → ((more after : List ℕ) → rest ≡ more ++ after → AreDigits 10 (front ++ more) → more ≡ []) → IsNumberAt (b ∷ bs) (digits 10 (Some 0) 0 (b ∷ bs))
+    by_cases [] rest e d size value longest = absurd d
+    by_cases (c ∷ front) rest e d size value longest =
+        let q : b ≡ c = cc in
+        record {
+          front = c ∷ front;
+          rest = rest;
+          n = value_of 10 (c ∷ front);
+          parts = e;
+          number = inl (λ k. zero_apart (q ∙ k), d, refl);
+          size = size;
+          value = value;
+          longest = digit_longest c front rest (ap is_digit (sym q) ∙ h) (λ more after e' n m. ends more after e' n m (λ k. zero_apart (q ∙ k)));
+        }
+      where
+      ends : (more after : List ℕ) → rest ≡ more ++ after → (n : ℕ) → IsNumber (c ∷ front ++ more) n → (c ≡ 48 → ⊥) → more ≡ []
+      ends more after e' n (inl m) q = longest more after e' m.1
+      ends more after e' n (inr (inl m)) q = absurd (q m.0)
+      ends more after e' n (inr (inr m)) q = absurd (let k : c ≡ 48 = cc m.1 in q k)
+
+-- `0x` begins no octal digits
+pub no_octal : (xs : List ℕ) → AreDigits 8 (48 ∷ 120 ∷ xs) → ⊥
+no_octal xs (f, inl h) = absurd (let k : 33 < 8 = digits_head 8 120 xs h in omega arith)
+no_octal xs (f, inr h) = absurd (let k : 120 ≡ 95 = h.0 in omega arith)
+
+hexadecimal_at : (bs : List ℕ) → begins (fits 16) bs ≡ true → IsNumberAt (48 ∷ 120 ∷ bs) (behind_prefix (digits 16 (Some 0) 0 bs))
+hexadecimal_at bs h =
+    let l = leading 16 bs (omega arith) (omega arith) h in
+    record {
+      front = 48 ∷ 120 ∷ l.front;
+      rest = l.rest;
+      n = value_of 16 l.front;
+      parts = ap (λ (xs : List ℕ). 48 ∷ 120 ∷ xs) l.parts;
+      number = inr (inr (l.front, refl, l.digits, refl));
+      size = let k = l.size in omega arith;
+      value = l.value;
+      longest = digit_longest 48 (120 ∷ l.front) l.rest refl (λ more after e n m. ends l more after e n m);
+    }
+  where
+  ends : (l : IsLeading 16 bs (digits 16 (Some 0) 0 bs)) (more after : List ℕ) → l.rest ≡ more ++ after → (n : ℕ) → IsNumber (48 ∷ 120 ∷ l.front ++ more) n → more ≡ []
+  ends l more after e n (inl m) = absurd (m.0 refl)
+  ends l more after e n (inr (inl m)) = absurd (no_octal (l.front ++ more) m.1)
+  ends l more after e n (inr (inr m)) = let k : l.front ++ more ≡ m.0 = cc m.1 in l.longest more after e (subst (AreDigits 16) (sym k) m.2)
+
+zero_test : (b : ℕ) → (b == 48) ≡ true → b ≡ 48
+zero_test b h = grind (arith, nat_tests)
+
+zero_tested : (b : ℕ) → (b == 48) ≡ false → b ≡ 48 → ⊥
+zero_tested b h e = absurd (grind (arith, nat_tests))
+
+pub number_found : (bs : List ℕ) → begins is_digit bs ≡ true → IsNumberAt bs (number_at bs)
+unfolding number_at
+number_found [] h = absurd (false≢true h)
+number_found (b ∷ []) h = decided (IsNumberAt (b ∷ [])) (b == 48) _ _
+    (λ z. let q = zero_test b z in rw q (octal_at [] (λ digits after e d. cc)))
+    (λ z. decimal_at b [] h (zero_tested b z))
+number_found (b ∷ c ∷ bs) h = decided (IsNumberAt (b ∷ c ∷ bs)) (b == 48) _ _
+    (λ z. let q = zero_test b z in rw q (decided (IsNumberAt (48 ∷ c ∷ bs)) ((c == 120) && begins (fits 16) bs) _ _
+      (λ x. let both = and_both (c == 120) (begins (fits 16) bs) x in let k = x_test c both.0 in rw k (hexadecimal_at bs both.1))
+      (λ x. octal_at (c ∷ bs) (λ digits after e d. let k : c ≡ 120 = cc in let tail : bs ≡ digits ++ after = cc in false≢true (sym x ∙ both_hold c k (digits_begin 16 digits after bs tail d))))))
+    (λ z. decimal_at b (c ∷ bs) h (zero_tested b z))
+  where
+  and_both : (a b : Bool) → (a && b) ≡ true → (a ≡ true) × (b ≡ true)
+  and_both true b h = (refl, h)
+  and_both false b h = absurd (false≢true h)
+  x_test : (b : ℕ) → (b == 120) ≡ true → b ≡ 120
+  x_test b h = grind (arith, nat_tests)
+  both_hold : (c : ℕ) → c ≡ 120 → begins (fits 16) bs ≡ true → ((c == 120) && begins (fits 16) bs) ≡ true
+  both_hold c q k = rw (q, k) refl
+
+pub number_sound : (offset : ℕ) (bs : List ℕ) → begins is_digit bs ≡ true → Answers offset bs (number_piece offset bs)
+unfolding number_piece
+number_sound offset bs h =
+    let f = number_found bs h in
+    let rest : drop (number_at bs).len bs ≡ f.rest = ap (drop (number_at bs).len) f.parts ∙ drop_at f.front f.rest (number_at bs).len (sym f.size) in
+    rw (rest, f.size, f.value) (decided (λ (o : Option ℕ). Answers offset bs (number_before offset (length f.front) f.rest o)) (nat_lt f.n (2 ^ 64)) _ _
+      (λ l. decided (Answers offset bs) (begins is_word_byte f.rest) _ _
+        (λ w. inr (inl (f.front, f.rest, f.n, (f.parts, f.number, f.longest), ltb-true f.n (2 ^ 64) l, w, refl)))
+        (λ w. record { piece = f.front; rest = f.rest; parts = f.parts; size = refl; is = (f.n, refl, f.number); longest = f.longest }))
+      (λ l. (f.front, f.rest, f.n, (f.parts, f.number, f.longest), ltb-false f.n (2 ^ 64) l, refl)))
