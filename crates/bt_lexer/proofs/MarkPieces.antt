@@ -1,0 +1,170 @@
+-- Marks: what is found is the longest.
+use Rattle.std.proofs.Common.{◌≡◌, ◌≢◌, ℕ, zero, suc, ◌+◌, ◌<◌, ◌≤◌, Bool, true, false, cond, not, ◌||◌, ◌&&◌, List, [], ◌∷◌, ◌++◌, length, take, Option, Some, None, Result, Ok, Err, refl, ap, sym, subst, ◌∙◌, inl, inr, arith, codes, lit<}
+use Rattle.std.specs.Prelude.{◌⊎◌, if◌then◌else◌, ◌==◌, Contains}
+use Rattle.std.specs.List.{list_any, AllByRecursion}
+use Rattle.std.proofs.lemmas.Bool.{false≢true}
+use Rattle.std.proofs.lemmas.Bool.Decides.{nat_tests}
+use Rattle.bt_lexer.specs.Marks.{marks, IsMark}
+use Rattle.bt_lexer.specs.Tokens.{IsPiece, IsToken, IsLongest, IsFault, NothingBegins}
+use Rattle.bt_lexer.specs.Scan.{is_single, is_double, is_triple, mark_len, mark_of, mark_piece, slash_piece, separator, line_len, comment_piece, comment_len}
+use Rattle.bt_lexer.specs.declared.piece.Piece.{Piece}
+use Rattle.bt_lexer.specs.declared.error.LexError.{LexError}
+use Rattle.bt_lexer.specs.declared.error.LexError.TheVariants as faults
+use Rattle.bt_lexer.specs.declared.token.TokenKind.{TokenKind}
+use Rattle.bt_lexer.specs.declared.token.TokenKind.TheVariants as kinds
+use Rattle.bt_lexer.proofs.Classes.{Class, Blank, Letter, Digit, At, Dollar, Quote, Slash, Other, class_of, apart}
+use Rattle.bt_lexer.proofs.Pieces.{IsFound, Answers, decided, head_class, marks_pass, some_byte}
+use Rattle.bt_lexer.proofs.SeparatorPieces.{slash_pieces, line_sound, comment_sound}
+
+is_eq : (m n : ℕ) → (m == n) ≡ true → m ≡ n
+is_eq m n h = grind (arith, nat_tests)
+
+and_both : (a b : Bool) → (a && b) ≡ true → (a ≡ true) × (b ≡ true)
+and_both true b h = (refl, h)
+and_both false b h = absurd (false≢true h)
+
+or_cases : (a b : Bool) → (a || b) ≡ true → (a ≡ true) ⊎ (b ≡ true)
+or_cases true b h = inl refl
+or_cases false b h = inr h
+
+-- what holds of each byte of a list holds of a byte in it
+among : (P : ℕ → Type 0) (b : ℕ) (xs : List ℕ) → AllByRecursion P xs → list_any (λ m. m == b) xs ≡ true → P b
+among P b [] all h = absurd (false≢true h)
+among P b (x ∷ xs) all h = elim (or_cases (x == b) (list_any (λ m. m == b) xs) h) [
+    | inl e ↦ subst P (is_eq x b e) all.0
+    | inr more ↦ among P b xs all.1 more
+  ]
+
+-- ---- the tests say which bytes are marks
+
+abbrev is_mark : List ℕ → Bool
+is_mark [] = false
+is_mark (b ∷ []) = is_single b
+is_mark (b ∷ c ∷ []) = is_double b c
+is_mark (b ∷ c ∷ d ∷ []) = is_triple b c d
+is_mark (b ∷ c ∷ d ∷ e ∷ bs) = false
+
+mark_tested : (w : List ℕ) → IsMark w → is_mark w ≡ true
+mark_tested w m = marks_pass is_mark refl w m
+
+single_mark : (b : ℕ) → is_single b ≡ true → IsMark (b ∷ [])
+single_mark b h = among (λ x. IsMark (x ∷ [])) b (codes "{}()[],;.=+-*/%&|^~!<>?:") ((21, lit< tt, refl), ((22, lit< tt, refl), ((23, lit< tt, refl), ((24, lit< tt, refl), ((25, lit< tt, refl), ((26, lit< tt, refl), ((27, lit< tt, refl), ((28, lit< tt, refl), ((29, lit< tt, refl), ((30, lit< tt, refl), ((31, lit< tt, refl), ((32, lit< tt, refl), ((33, lit< tt, refl), ((34, lit< tt, refl), ((35, lit< tt, refl), ((36, lit< tt, refl), ((37, lit< tt, refl), ((38, lit< tt, refl), ((39, lit< tt, refl), ((40, lit< tt, refl), ((41, lit< tt, refl), ((42, lit< tt, refl), ((43, lit< tt, refl), ((44, lit< tt, refl), tt)))))))))))))))))))))))) h
+
+assign_mark : (b : ℕ) → list_any (λ m. m == b) (codes "+-*/%&|^<>=!") ≡ true → IsMark (b ∷ 61 ∷ [])
+assign_mark b h = among (λ x. IsMark (x ∷ 61 ∷ [])) b (codes "+-*/%&|^<>=!") ((4, lit< tt, refl), ((5, lit< tt, refl), ((6, lit< tt, refl), ((7, lit< tt, refl), ((8, lit< tt, refl), ((9, lit< tt, refl), ((10, lit< tt, refl), ((11, lit< tt, refl), ((14, lit< tt, refl), ((15, lit< tt, refl), ((16, lit< tt, refl), ((17, lit< tt, refl), tt)))))))))))) h
+
+doubled_mark : (b : ℕ) → list_any (λ m. m == b) (codes "+-<&|") ≡ true → IsMark (b ∷ b ∷ [])
+doubled_mark b h = among (λ x. IsMark (x ∷ x ∷ [])) b (codes "+-<&|") ((2, lit< tt, refl), ((3, lit< tt, refl), ((12, lit< tt, refl), ((18, lit< tt, refl), ((19, lit< tt, refl), tt))))) h
+
+arrow_mark : (b : ℕ) → (b == 45 || b == 62) ≡ true → IsMark (b ∷ 62 ∷ [])
+arrow_mark b h = elim (or_cases (b == 45) (b == 62) h) [
+    | inl e ↦ subst (λ (x : ℕ). IsMark (x ∷ 62 ∷ [])) (sym (is_eq b 45 e)) (20, lit< tt, refl)
+    | inr e ↦ subst (λ (x : ℕ). IsMark (x ∷ 62 ∷ [])) (sym (is_eq b 62 e)) (13, lit< tt, refl)
+  ]
+
+double_mark : (b c : ℕ) → is_double b c ≡ true → IsMark (b ∷ c ∷ [])
+double_mark b c h =
+    decided (λ (t : Bool). t ≡ true → IsMark (b ∷ c ∷ [])) (c == 61) _ _
+      (λ e k. let q = is_eq c 61 e in rw q (assign_mark b k)) (λ _.
+    decided (λ (t : Bool). t ≡ true → IsMark (b ∷ c ∷ [])) (c == 62) _ _
+      (λ e k. let q = is_eq c 62 e in rw q (arrow_mark b k))
+      (λ _ k. let k2 = and_both (b == c) _ k in rw (← is_eq b c k2.0) (doubled_mark b k2.1))) h
+
+triple_mark : (b c d : ℕ) → is_triple b c d ≡ true → IsMark (b ∷ c ∷ d ∷ [])
+triple_mark b c d h =
+    let k = and_both (d == 61) _ h in
+    let k2 = and_both (b == c) _ k.1 in
+    let q = is_eq d 61 k.0 in
+    let p = is_eq b c k2.0 in
+    rw (q, ← p) (elim (or_cases (b == 60) (b == 62) k2.1) [
+      | inl e ↦ subst (λ (x : ℕ). IsMark (x ∷ x ∷ 61 ∷ [])) (sym (is_eq b 60 e)) (0, lit< tt, refl)
+      | inr e ↦ subst (λ (x : ℕ). IsMark (x ∷ x ∷ 61 ∷ [])) (sym (is_eq b 62 e)) (1, lit< tt, refl)
+    ])
+
+-- ---- the longest mark
+
+pub record IsMarkAt (bs : List ℕ) (n : ℕ) : Type 0 where
+  pub mark : List ℕ
+  pub rest : List ℕ
+  pub parts : bs ≡ mark ++ rest
+  pub some : 0 < n
+  pub size : n ≡ length mark
+  pub is : IsMark mark
+  pub longest : (more after : List ℕ) → rest ≡ more ++ after → IsMark (mark ++ more) → more ≡ []
+
+abbrev pub NoMark : List ℕ → Type 0
+NoMark bs = (mark rest : List ℕ) → bs ≡ mark ++ rest → IsMark mark → ⊥
+
+abbrev pub MarkAnswers : List ℕ → ℕ → Type 0
+MarkAnswers bs n = ((n ≡ 0) × NoMark bs) ⊎ IsMarkAt bs n
+
+-- no mark is longer, by the bytes that would follow
+not_marks : (w : List ℕ) → is_mark w ≡ false → IsMark w → ⊥
+not_marks w h m = false≢true (sym h ∙ mark_tested w m)
+
+none_one : (b : ℕ) → is_single b ≡ false → NoMark (b ∷ [])
+none_one b s [] rest e m = not_marks [] refl m
+none_one b s (x ∷ []) rest e m = not_marks (x ∷ []) (let q : b ≡ x = cc in rw (← q) s) m
+none_one b s (x ∷ y ∷ mark) rest e m = absurd cc
+
+none_two : (b c : ℕ) → is_double b c ≡ false → is_single b ≡ false → NoMark (b ∷ c ∷ [])
+none_two b c d s [] rest e m = not_marks [] refl m
+none_two b c d s (x ∷ []) rest e m = not_marks (x ∷ []) (let q : b ≡ x = cc in rw (← q) s) m
+none_two b c d s (x ∷ y ∷ []) rest e m = not_marks (x ∷ y ∷ []) (let q : b ≡ x = cc in let p : c ≡ y = cc in rw (← q, ← p) d) m
+none_two b c d s (x ∷ y ∷ z ∷ mark) rest e m = absurd cc
+
+none_more : (b c d : ℕ) (bs : List ℕ) → is_triple b c d ≡ false → is_double b c ≡ false → is_single b ≡ false → NoMark (b ∷ c ∷ d ∷ bs)
+none_more b c d bs t u s [] rest e m = not_marks [] refl m
+none_more b c d bs t u s (x ∷ []) rest e m = not_marks (x ∷ []) (let q : b ≡ x = cc in rw (← q) s) m
+none_more b c d bs t u s (x ∷ y ∷ []) rest e m = not_marks (x ∷ y ∷ []) (let q : b ≡ x = cc in let p : c ≡ y = cc in rw (← q, ← p) u) m
+none_more b c d bs t u s (x ∷ y ∷ z ∷ []) rest e m = not_marks (x ∷ y ∷ z ∷ []) (let q : b ≡ x = cc in let p : c ≡ y = cc in let o : d ≡ z = cc in rw (← q, ← p, ← o) t) m
+none_more b c d bs t u s (x ∷ y ∷ z ∷ w ∷ mark) rest e m = not_marks (x ∷ y ∷ z ∷ w ∷ mark) refl m
+
+-- a mark of one byte, where no longer one begins
+one_longest : (b : ℕ) (rest : List ℕ) → ((c : ℕ) (after : List ℕ) → rest ≡ c ∷ after → is_double b c ≡ false) → ((c d : ℕ) (after : List ℕ) → rest ≡ c ∷ d ∷ after → is_triple b c d ≡ false)
+    → (more after : List ℕ) → rest ≡ more ++ after → IsMark (b ∷ more) → more ≡ []
+one_longest b rest u t [] after e m = refl
+one_longest b rest u t (c ∷ []) after e m = absurd (not_marks (b ∷ c ∷ []) (u c after e) m)
+one_longest b rest u t (c ∷ d ∷ []) after e m = absurd (not_marks (b ∷ c ∷ d ∷ []) (t c d after e) m)
+one_longest b rest u t (c ∷ d ∷ x ∷ more) after e m = absurd (not_marks (b ∷ c ∷ d ∷ x ∷ more) refl m)
+
+two_longest : (b c : ℕ) (rest : List ℕ) → ((d : ℕ) (after : List ℕ) → rest ≡ d ∷ after → is_triple b c d ≡ false) → (more after : List ℕ) → rest ≡ more ++ after → IsMark (b ∷ c ∷ more) → more ≡ []
+two_longest b c rest t [] after e m = refl
+two_longest b c rest t (d ∷ []) after e m = absurd (not_marks (b ∷ c ∷ d ∷ []) (t d after e) m)
+two_longest b c rest t (d ∷ x ∷ more) after e m = absurd (not_marks (b ∷ c ∷ d ∷ x ∷ more) refl m)
+
+three_longest : (b c d : ℕ) (rest more after : List ℕ) → rest ≡ more ++ after → IsMark (b ∷ c ∷ d ∷ more) → more ≡ []
+three_longest b c d rest [] after e m = refl
+three_longest b c d rest (x ∷ more) after e m = absurd (not_marks (b ∷ c ∷ d ∷ x ∷ more) refl m)
+
+one_at : (b : ℕ) (rest : List ℕ) → is_single b ≡ true → ((c : ℕ) (after : List ℕ) → rest ≡ c ∷ after → is_double b c ≡ false) → ((c d : ℕ) (after : List ℕ) → rest ≡ c ∷ d ∷ after → is_triple b c d ≡ false) → IsMarkAt (b ∷ rest) 1
+one_at b rest s u t = record { mark = b ∷ []; rest = rest; parts = refl; some = omega arith; size = refl; is = single_mark b s; longest = one_longest b rest u t }
+
+two_at : (b c : ℕ) (rest : List ℕ) → is_double b c ≡ true → ((d : ℕ) (after : List ℕ) → rest ≡ d ∷ after → is_triple b c d ≡ false) → IsMarkAt (b ∷ c ∷ rest) 2
+two_at b c rest u t = record { mark = b ∷ c ∷ []; rest = rest; parts = refl; some = omega arith; size = refl; is = double_mark b c u; longest = two_longest b c rest t }
+
+three_at : (b c d : ℕ) (rest : List ℕ) → is_triple b c d ≡ true → IsMarkAt (b ∷ c ∷ d ∷ rest) 3
+three_at b c d rest t = record { mark = b ∷ c ∷ d ∷ []; rest = rest; parts = refl; some = omega arith; size = refl; is = triple_mark b c d t; longest = three_longest b c d rest }
+
+pub mark_found : (bs : List ℕ) → MarkAnswers bs (mark_len bs)
+unfolding mark_len
+mark_found [] = inl (refl, λ mark rest e m. nothing mark rest e m)
+  where
+  nothing : (mark rest : List ℕ) → [] ≡ mark ++ rest → IsMark mark → ⊥
+  nothing [] rest e m = not_marks [] refl m
+  nothing (x ∷ mark) rest e m = cc
+mark_found (b ∷ []) = decided (MarkAnswers (b ∷ [])) (is_single b) 1 0
+    (λ s. inr (one_at b [] s (λ c after e. absurd cc) (λ c d after e. absurd cc)))
+    (λ s. inl (refl, none_one b s))
+mark_found (b ∷ c ∷ []) = decided (MarkAnswers (b ∷ c ∷ [])) (is_double b c) 2 _
+    (λ u. inr (two_at b c [] u (λ d after e. absurd cc)))
+    (λ u. decided (MarkAnswers (b ∷ c ∷ [])) (is_single b) 1 0
+      (λ s. inr (one_at b (c ∷ []) s (λ x after e. let q : c ≡ x = cc in rw (← q) u) (λ x y after e. absurd cc)))
+      (λ s. inl (refl, none_two b c u s)))
+mark_found (b ∷ c ∷ d ∷ bs) = decided (MarkAnswers (b ∷ c ∷ d ∷ bs)) (is_triple b c d) 3 _
+    (λ t. inr (three_at b c d bs t))
+    (λ t. decided (MarkAnswers (b ∷ c ∷ d ∷ bs)) (is_double b c) 2 _
+      (λ u. inr (two_at b c (d ∷ bs) u (λ x after e. let q : d ≡ x = cc in rw (← q) t)))
+      (λ u. decided (MarkAnswers (b ∷ c ∷ d ∷ bs)) (is_single b) 1 0
+        (λ s. inr (one_at b (c ∷ d ∷ bs) s (λ x after e. let q : c ≡ x = cc in rw (← q) u) (λ x y after e. let q : c ≡ x = cc in let p : d ≡ y = cc in rw (← q, ← p) t)))
+        (λ s. inl (refl, none_more b c d bs t u s))))
