@@ -13,8 +13,8 @@ use Rattle.bt_lexer.specs.declared.error.LexError.TheVariants as faults
 use Rattle.bt_lexer.specs.declared.token.TokenKind.{TokenKind}
 use Rattle.bt_lexer.specs.declared.token.TokenKind.TheVariants as kinds
 use Rattle.bt_lexer.proofs.Classes.{Class, Blank, Letter, Digit, At, Dollar, Quote, Slash, Other, class_of, apart}
-use Rattle.bt_lexer.proofs.Pieces.{IsFound, Answers, decided, head_class, marks_pass, some_byte}
-use Rattle.bt_lexer.proofs.SeparatorPieces.{slash_pieces, line_sound, comment_sound}
+use Rattle.bt_lexer.proofs.Pieces.{IsFound, Answers, decided, form_at, marks_pass, some_byte}
+use Rattle.bt_lexer.proofs.SeparatorPieces.{mark_is_no_comment, line_sound, comment_sound}
 
 is_eq : (m n : ℕ) → (m == n) ≡ true → m ≡ n
 is_eq m n h = grind (arith, nat_tests)

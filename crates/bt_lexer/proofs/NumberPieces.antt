@@ -17,8 +17,8 @@ use Rattle.bt_lexer.specs.declared.error.LexError.{LexError}
 use Rattle.bt_lexer.specs.declared.error.LexError.TheVariants as faults
 use Rattle.bt_lexer.specs.declared.token.TokenKind.{TokenKind}
 use Rattle.bt_lexer.specs.declared.token.TokenKind.TheVariants as kinds
-use Rattle.bt_lexer.proofs.Classes.{Class, Blank, Letter, Digit, At, Dollar, Quote, Slash, Other, class_of, digit_class, apart}
-use Rattle.bt_lexer.proofs.Pieces.{IsFound, Answers, decided, head_class, digits_head}
+use Rattle.bt_lexer.proofs.Classes.{Class, Blank, Letter, Digit, At, Dollar, Quote, Slash, Other, class_of, digit_class}
+use Rattle.bt_lexer.proofs.Pieces.{IsFound, Answers, decided, form_at, digits_head}
 
 -- what may follow a digit
 abbrev pub More : ℕ → List ℕ → Type 0
@@ -180,18 +180,6 @@ leading base bs one small h =
       longest = λ more after e d. s.longest more after e (more_from_digits base (s.front ++ more) d);
     }
 
--- what begins with a digit
-number_pieces : (kind : Option TokenKind) (b : ℕ) (xs : List ℕ) → class_of b ≡ Digit → IsPiece kind (b ∷ xs) → (n : ℕ) × IsNumber (b ∷ xs) n
-number_pieces (Some (kinds.Word w)) b xs q h = absurd (apart Digit Letter refl (head_class (Some (kinds.Word w)) b xs Digit q h))
-number_pieces (Some (kinds.Attach w)) b xs q h = absurd (apart Digit Letter refl (head_class (Some (kinds.Attach w)) b xs Digit q h))
-number_pieces (Some (kinds.Map w)) b xs q h = absurd (apart Digit At refl (head_class (Some (kinds.Map w)) b xs Digit q h))
-number_pieces (Some (kinds.Var w)) b xs q h = absurd (apart Digit Dollar refl (head_class (Some (kinds.Var w)) b xs Digit q h))
-number_pieces (Some (kinds.Number w)) b xs q h = (h.0, h.2)
-number_pieces (Some (kinds.Text w)) b xs q h = absurd (apart Digit Quote refl (head_class (Some (kinds.Text w)) b xs Digit q h))
-number_pieces (Some (kinds.Mark w)) b xs q h = absurd (false≢true (head_class (Some (kinds.Mark w)) b xs Digit q h))
-number_pieces None b xs q h = absurd (elim (head_class None b xs Digit q h) [ inl e ↦ apart Digit Blank refl e | inr e ↦ apart Digit Slash refl e ])
-
-
 -- the longest number at the front
 pub record IsNumberAt (bs : List ℕ) (found : Digits) : Type 0 where
   pub front : List ℕ
@@ -204,7 +192,7 @@ pub record IsNumberAt (bs : List ℕ) (found : Digits) : Type 0 where
   pub longest : IsLongest front rest
 
 digit_longest : (d : ℕ) (front rest : List ℕ) → is_digit d ≡ true → ((more after : List ℕ) → rest ≡ more ++ after → (n : ℕ) → IsNumber (d ∷ front ++ more) n → more ≡ []) → IsLongest (d ∷ front) rest
-digit_longest d front rest h longest more after kind e p = let m = number_pieces kind d (front ++ more) (digit_class d h) p in longest more after e m.0 m.1
+digit_longest d front rest h longest more after kind e p = let m = form_at kind d (front ++ more) Digit (digit_class d h) p in longest more after e m.0 m.2
 
 -- no hexadecimal number begins here
 abbrev NoHexadecimal : List ℕ → Type 0

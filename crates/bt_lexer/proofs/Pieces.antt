@@ -2,12 +2,15 @@
 use Rattle.std.proofs.Common.{◌≡◌, ◌≢◌, ℕ, suc, ◌+◌, ◌<◌, ◌≤◌, Bool, true, false, cond, ◌||◌, ◌&&◌, not, List, [], ◌∷◌, ◌++◌, length, take, drop, Option, Some, None, Result, Ok, Err, refl, ap, sym, subst, ◌∙◌, inl, inr, arith, codes}
 use Rattle.std.specs.List.{AllByRecursion}
 use Rattle.std.specs.Char.{digit_value}
-use Rattle.std.specs.Prelude.{◌⊎◌, if◌then◌else◌}
+use Rattle.std.specs.Prelude.{ℤ, ◌⊎◌, if◌then◌else◌}
+use Rattle.std.proofs.lemmas.Bool.{false≢true}
 use Rattle.std.proofs.lemmas.Bool.Decides.{nat_tests}
 use Rattle.std.proofs.lemmas.List.Elements.{All-contains, All-from_recursion}
 use Rattle.bt_lexer.specs.Bytes.{is_blank, is_letter, is_digit, is_word_byte, Every, begins}
-use Rattle.bt_lexer.specs.Words.{IsWord, IsAttach, IsAttachWord}
-use Rattle.bt_lexer.specs.Numbers.{AreDigits, IsNumber}
+use Rattle.bt_lexer.specs.Words.{IsWord, IsAttach, IsAttachWord, IsMapName, IsVarName}
+use Rattle.bt_lexer.specs.Strings.{IsString}
+use Rattle.bt_lexer.specs.Separators.{IsSeparator}
+use Rattle.bt_lexer.specs.Numbers.{AreDigits, IsNumber, signed}
 use Rattle.bt_lexer.specs.Marks.{marks, IsMark}
 use Rattle.bt_lexer.specs.Tokens.{IsPiece, IsToken, IsLongest, IsFault}
 use Rattle.bt_lexer.specs.declared.piece.Piece.{Piece}
@@ -76,7 +79,7 @@ number_head b xs n (inl h) = decimal_digit b (digits_head 10 b xs h.1)
 number_head b xs n (inr (inl h)) = let q : b ≡ 48 = h.0 in subst (λ (x : ℕ). is_digit x ≡ true) (sym q) refl
 number_head b xs n (inr (inr h)) = let q : b ≡ 48 = cc h.1 in subst (λ (x : ℕ). is_digit x ≡ true) (sym q) refl
 
-abbrev pub is_mark_class : Class → Bool
+abbrev is_mark_class : Class → Bool
 is_mark_class Slash = true
 is_mark_class Other = true
 is_mark_class _ = false
@@ -85,7 +88,7 @@ abbrev mark_head : List ℕ → Bool
 mark_head [] = false
 mark_head (b ∷ bs) = is_mark_class (class_of b)
 
-abbrev pub HeadClass : Option TokenKind → Class → Type 0
+abbrev HeadClass : Option TokenKind → Class → Type 0
 HeadClass None c = (c ≡ Blank) ⊎ (c ≡ Slash)
 HeadClass (Some (kinds.Word w)) c = c ≡ Letter
 HeadClass (Some (kinds.Attach w)) c = c ≡ Letter
@@ -98,7 +101,7 @@ HeadClass (Some (kinds.Mark w)) c = is_mark_class c ≡ true
 at_byte : (b c : ℕ) → b ≡ c → class_of b ≡ class_of c
 at_byte b c e = ap class_of e
 
-pub heads : (kind : Option TokenKind) (b : ℕ) (xs : List ℕ) → IsPiece kind (b ∷ xs) → HeadClass kind (class_of b)
+heads : (kind : Option TokenKind) (b : ℕ) (xs : List ℕ) → IsPiece kind (b ∷ xs) → HeadClass kind (class_of b)
 heads None b xs (inl h) = inl (let q : b ≡ h.0 = cc h.1 in at_byte b h.0 q ∙ blank_class h.0 h.2)
 heads None b xs (inr (inl h)) = inr (at_byte b 47 (cc h.1))
 heads None b xs (inr (inr h)) = inr (at_byte b 47 (cc h.1))
@@ -129,6 +132,42 @@ some_byte (Some (kinds.Number v)) (n, e, inr (inr h)) = cc h.1
 some_byte (Some (kinds.Text t)) h = cc h.1
 some_byte (Some (kinds.Mark w)) h = absurd (let q : false ≡ true = marks_pass mark_head refl [] h.1 in cc)
 
--- the class of a piece's first byte, where it is known
-pub head_class : (kind : Option TokenKind) (b : ℕ) (xs : List ℕ) (c : Class) → class_of b ≡ c → IsPiece kind (b ∷ xs) → HeadClass kind c
-head_class kind b xs c q h = subst (HeadClass kind) q (heads kind b xs h)
+-- ---- kinds
+
+-- what a piece is, by the class of its first byte
+abbrev pub Form : Class → List ℕ → Option TokenKind → Type 0
+Form Blank bs kind = (kind ≡ None) × IsSeparator bs
+Form Letter bs kind = ((kind ≡ Some (kinds.Word bs)) × IsWord bs) ⊎ ((kind ≡ Some (kinds.Attach bs)) × IsAttach bs)
+Form Digit bs kind = (n : ℕ) × (kind ≡ Some (kinds.Number (signed n))) × IsNumber bs n
+Form At bs kind = (kind ≡ Some (kinds.Map bs)) × IsMapName bs
+Form Dollar bs kind = (kind ≡ Some (kinds.Var bs)) × IsVarName bs
+Form Quote bs kind = (text : List ℕ) × (kind ≡ Some (kinds.Text text)) × IsString bs text
+Form Slash bs kind = ((kind ≡ None) × IsSeparator bs) ⊎ ((kind ≡ Some (kinds.Mark bs)) × IsMark bs)
+Form Other bs kind = (kind ≡ Some (kinds.Mark bs)) × IsMark bs
+
+of_class : (c d : Class) (bs : List ℕ) (kind : Option TokenKind) → c ≡ d → Form d bs kind → Form c bs kind
+of_class c d bs kind e f = subst (λ (x : Class). Form x bs kind) (sym e) f
+
+mark_form : (c : Class) (bs : List ℕ) (kind : Option TokenKind) → is_mark_class c ≡ true → kind ≡ Some (kinds.Mark bs) → IsMark bs → Form c bs kind
+mark_form Slash bs kind h e m = inr (e, m)
+mark_form Other bs kind h e m = (e, m)
+mark_form Blank bs kind h e m = absurd (false≢true h)
+mark_form Letter bs kind h e m = absurd (false≢true h)
+mark_form Digit bs kind h e m = absurd (false≢true h)
+mark_form At bs kind h e m = absurd (false≢true h)
+mark_form Dollar bs kind h e m = absurd (false≢true h)
+mark_form Quote bs kind h e m = absurd (false≢true h)
+
+form : (kind : Option TokenKind) (b : ℕ) (xs : List ℕ) → HeadClass kind (class_of b) → IsPiece kind (b ∷ xs) → Form (class_of b) (b ∷ xs) kind
+form None b xs (inl c) h = of_class (class_of b) Blank (b ∷ xs) None c (refl, h)
+form None b xs (inr c) h = of_class (class_of b) Slash (b ∷ xs) None c (inl (refl, h))
+form (Some (kinds.Word w)) b xs c h = of_class (class_of b) Letter (b ∷ xs) (Some (kinds.Word w)) c (inl (ap (λ (l : List ℕ). Some (kinds.Word l)) h.0, h.1))
+form (Some (kinds.Attach w)) b xs c h = of_class (class_of b) Letter (b ∷ xs) (Some (kinds.Attach w)) c (inr (ap (λ (l : List ℕ). Some (kinds.Attach l)) h.0, h.1))
+form (Some (kinds.Map w)) b xs c h = of_class (class_of b) At (b ∷ xs) (Some (kinds.Map w)) c (ap (λ (l : List ℕ). Some (kinds.Map l)) h.0, h.1)
+form (Some (kinds.Var w)) b xs c h = of_class (class_of b) Dollar (b ∷ xs) (Some (kinds.Var w)) c (ap (λ (l : List ℕ). Some (kinds.Var l)) h.0, h.1)
+form (Some (kinds.Number v)) b xs c h = of_class (class_of b) Digit (b ∷ xs) (Some (kinds.Number v)) c (h.0, ap (λ (z : ℤ). Some (kinds.Number z)) h.1, h.2)
+form (Some (kinds.Text t)) b xs c h = of_class (class_of b) Quote (b ∷ xs) (Some (kinds.Text t)) c (t, refl, h)
+form (Some (kinds.Mark w)) b xs c h = mark_form (class_of b) (b ∷ xs) (Some (kinds.Mark w)) c (ap (λ (l : List ℕ). Some (kinds.Mark l)) h.0) h.1
+
+pub form_at : (kind : Option TokenKind) (b : ℕ) (xs : List ℕ) (c : Class) → class_of b ≡ c → IsPiece kind (b ∷ xs) → Form c (b ∷ xs) kind
+form_at kind b xs c q h = subst (λ (x : Class). Form x (b ∷ xs) kind) q (form kind b xs (heads kind b xs h) h)

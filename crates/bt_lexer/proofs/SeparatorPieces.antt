@@ -14,22 +14,16 @@ use Rattle.bt_lexer.specs.declared.error.LexError.{LexError}
 use Rattle.bt_lexer.specs.declared.token.TokenKind.{TokenKind}
 use Rattle.bt_lexer.specs.declared.token.TokenKind.TheVariants as kinds
 use Rattle.bt_lexer.proofs.Classes.{Class, Blank, Letter, Digit, At, Dollar, Quote, Slash, Other, class_of, blank_class, apart}
-use Rattle.bt_lexer.proofs.Pieces.{IsFound, Answers, decided, head_class, marks_pass}
+use Rattle.bt_lexer.proofs.Pieces.{IsFound, Answers, decided, form_at, marks_pass}
 use Rattle.bt_lexer.proofs.Runs.{IsRun, run, no_more, every_back}
 
 -- ---- blanks
 
-blank_pieces : (kind : Option TokenKind) (b : ℕ) (xs : List ℕ) → class_of b ≡ Blank → IsPiece kind (b ∷ xs) → xs ≡ []
-blank_pieces (Some (kinds.Word w)) b xs q h = absurd (apart Blank Letter refl (head_class (Some (kinds.Word w)) b xs Blank q h))
-blank_pieces (Some (kinds.Attach w)) b xs q h = absurd (apart Blank Letter refl (head_class (Some (kinds.Attach w)) b xs Blank q h))
-blank_pieces (Some (kinds.Map w)) b xs q h = absurd (apart Blank At refl (head_class (Some (kinds.Map w)) b xs Blank q h))
-blank_pieces (Some (kinds.Var w)) b xs q h = absurd (apart Blank Dollar refl (head_class (Some (kinds.Var w)) b xs Blank q h))
-blank_pieces (Some (kinds.Number w)) b xs q h = absurd (apart Blank Digit refl (head_class (Some (kinds.Number w)) b xs Blank q h))
-blank_pieces (Some (kinds.Text w)) b xs q h = absurd (apart Blank Quote refl (head_class (Some (kinds.Text w)) b xs Blank q h))
-blank_pieces (Some (kinds.Mark w)) b xs q h = absurd (false≢true (head_class (Some (kinds.Mark w)) b xs Blank q h))
-blank_pieces None b xs q (inl h) = cc h.1
-blank_pieces None b xs q (inr (inl h)) = absurd (let e : b ≡ 47 = cc h.1 in apart Blank Slash refl (sym q ∙ ap class_of e))
-blank_pieces None b xs q (inr (inr h)) = absurd (let e : b ≡ 47 = cc h.1 in apart Blank Slash refl (sym q ∙ ap class_of e))
+-- a separator that begins with no `/` is one byte
+one_blank : (b : ℕ) (xs : List ℕ) → class_of b ≡ Blank → IsSeparator (b ∷ xs) → xs ≡ []
+one_blank b xs q (inl h) = cc h.1
+one_blank b xs q (inr (inl h)) = absurd (let e : b ≡ 47 = cc h.1 in apart Blank Slash refl (sym q ∙ ap class_of e))
+one_blank b xs q (inr (inr h)) = absurd (let e : b ≡ 47 = cc h.1 in apart Blank Slash refl (sym q ∙ ap class_of e))
 
 pub blank_sound : (offset b : ℕ) (bs : List ℕ) → is_blank b ≡ true → Answers offset (b ∷ bs) (separator 1)
 blank_sound offset b bs h = record {
@@ -38,20 +32,10 @@ blank_sound offset b bs h = record {
   parts = refl;
   size = refl;
   is = inl (b, refl, h);
-  longest = λ more after kind e p. blank_pieces kind b more (blank_class b h) p;
+  longest = λ more after kind e p. one_blank b more (blank_class b h) (form_at kind b more Blank (blank_class b h) p).1;
 }
 
 -- ---- what begins with `/`
-
-pub slash_pieces : (kind : Option TokenKind) (b : ℕ) (xs : List ℕ) → class_of b ≡ Slash → IsPiece kind (b ∷ xs) → IsSeparator (b ∷ xs) ⊎ IsMark (b ∷ xs)
-slash_pieces (Some (kinds.Word w)) b xs q h = absurd (apart Slash Letter refl (head_class (Some (kinds.Word w)) b xs Slash q h))
-slash_pieces (Some (kinds.Attach w)) b xs q h = absurd (apart Slash Letter refl (head_class (Some (kinds.Attach w)) b xs Slash q h))
-slash_pieces (Some (kinds.Map w)) b xs q h = absurd (apart Slash At refl (head_class (Some (kinds.Map w)) b xs Slash q h))
-slash_pieces (Some (kinds.Var w)) b xs q h = absurd (apart Slash Dollar refl (head_class (Some (kinds.Var w)) b xs Slash q h))
-slash_pieces (Some (kinds.Number w)) b xs q h = absurd (apart Slash Digit refl (head_class (Some (kinds.Number w)) b xs Slash q h))
-slash_pieces (Some (kinds.Text w)) b xs q h = absurd (apart Slash Quote refl (head_class (Some (kinds.Text w)) b xs Slash q h))
-slash_pieces (Some (kinds.Mark w)) b xs q h = inr h.1
-slash_pieces None b xs q h = inl h
 
 -- no mark begins as a comment does
 abbrev no_comment : List ℕ → Bool
@@ -63,11 +47,11 @@ pub mark_is_no_comment : (c : ℕ) (xs : List ℕ) → (c == 47 || c == 42) ≡ 
 mark_is_no_comment c xs h m = let k = marks_pass no_comment refl (47 ∷ c ∷ xs) m in false≢true (ap not (sym h) ∙ k)
 
 line_longest : (front rest : List ℕ) → begins not_newline rest ≡ false → IsLongest (47 ∷ 47 ∷ front) rest
-line_longest front rest stop more after kind e h = elim (slash_pieces kind 47 (47 ∷ front ++ more) refl h) [
-    | inl (inl k) ↦ absurd (nil_apart 47 (front ++ more) (tails 47 k.0 _ _ k.1))
-    | inl (inr (inl k)) ↦ no_more not_newline more after rest e stop (every_back not_newline front more (subst (Every not_newline) (sym (tails 47 47 _ _ (tails 47 47 _ _ k.1))) k.2))
-    | inl (inr (inr k)) ↦ absurd (bytes_apart (cc k.1))
-    | inr m ↦ absurd (mark_is_no_comment 47 (front ++ more) refl m)
+line_longest front rest stop more after kind e h = elim (form_at kind 47 (47 ∷ front ++ more) Slash refl h) [
+    | inl (e', inl k) ↦ absurd (nil_apart 47 (front ++ more) (tails 47 k.0 _ _ k.1))
+    | inl (e', inr (inl k)) ↦ no_more not_newline more after rest e stop (every_back not_newline front more (subst (Every not_newline) (sym (tails 47 47 _ _ (tails 47 47 _ _ k.1))) k.2))
+    | inl (e', inr (inr k)) ↦ absurd (bytes_apart (cc k.1))
+    | inr m ↦ absurd (mark_is_no_comment 47 (front ++ more) refl m.1)
   ]
   where
   tails : (b c : ℕ) (xs ys : List ℕ) → b ∷ xs ≡ c ∷ ys → xs ≡ ys
@@ -149,11 +133,11 @@ first_close (b ∷ body) (c ∷ other) rest after n m e = first_close body other
   tails b c xs ys e = cc
 
 block_longest : (body rest : List ℕ) → NeverCloses body → IsLongest (47 ∷ 42 ∷ body ++ 42 ∷ 47 ∷ []) rest
-block_longest body rest never more after kind e h = elim (slash_pieces kind 47 (42 ∷ (body ++ 42 ∷ 47 ∷ []) ++ more) refl h) [
-    | inl (inl k) ↦ absurd (nil_apart 42 _ (tails 47 k.0 _ _ k.1))
-    | inl (inr (inl k)) ↦ absurd (bytes_apart (cc k.1))
-    | inl (inr (inr k)) ↦ first_close body k.0 more [] never k.2 (sym (append_assoc body (42 ∷ 47 ∷ []) more) ∙ tails 42 42 _ _ (tails 47 47 _ _ k.1))
-    | inr m ↦ absurd (mark_is_no_comment 42 _ refl m)
+block_longest body rest never more after kind e h = elim (form_at kind 47 (42 ∷ (body ++ 42 ∷ 47 ∷ []) ++ more) Slash refl h) [
+    | inl (e', inl k) ↦ absurd (nil_apart 42 _ (tails 47 k.0 _ _ k.1))
+    | inl (e', inr (inl k)) ↦ absurd (bytes_apart (cc k.1))
+    | inl (e', inr (inr k)) ↦ first_close body k.0 more [] never k.2 (sym (append_assoc body (42 ∷ 47 ∷ []) more) ∙ tails 42 42 _ _ (tails 47 47 _ _ k.1))
+    | inr m ↦ absurd (mark_is_no_comment 42 _ refl m.1)
   ]
   where
   tails : (b c : ℕ) (xs ys : List ℕ) → b ∷ xs ≡ c ∷ ys → xs ≡ ys

@@ -14,8 +14,8 @@ use Rattle.bt_lexer.specs.declared.error.LexError.{LexError}
 use Rattle.bt_lexer.specs.declared.error.LexError.TheVariants as faults
 use Rattle.bt_lexer.specs.declared.token.TokenKind.{TokenKind}
 use Rattle.bt_lexer.specs.declared.token.TokenKind.TheVariants as kinds
-use Rattle.bt_lexer.proofs.Classes.{Class, Blank, Letter, Digit, At, Dollar, Quote, Slash, Other, class_of, apart}
-use Rattle.bt_lexer.proofs.Pieces.{IsFound, Answers, decided, head_class}
+use Rattle.bt_lexer.proofs.Classes.{Class, Blank, Letter, Digit, At, Dollar, Quote, Slash, Other, class_of}
+use Rattle.bt_lexer.proofs.Pieces.{IsFound, Answers, decided, form_at}
 
 -- ---- one byte
 
@@ -133,23 +133,11 @@ quote_ends bs first more c e (inr h) =
 
 -- ---- pieces
 
--- what begins with a quote
-text_pieces : (kind : Option TokenKind) (b : ℕ) (xs : List ℕ) → class_of b ≡ Quote → IsPiece kind (b ∷ xs) → (t : List ℕ) × IsString (b ∷ xs) t
-text_pieces (Some (kinds.Word w)) b xs q h = absurd (apart Quote Letter refl (head_class (Some (kinds.Word w)) b xs Quote q h))
-text_pieces (Some (kinds.Attach w)) b xs q h = absurd (apart Quote Letter refl (head_class (Some (kinds.Attach w)) b xs Quote q h))
-text_pieces (Some (kinds.Map w)) b xs q h = absurd (apart Quote At refl (head_class (Some (kinds.Map w)) b xs Quote q h))
-text_pieces (Some (kinds.Var w)) b xs q h = absurd (apart Quote Dollar refl (head_class (Some (kinds.Var w)) b xs Quote q h))
-text_pieces (Some (kinds.Number w)) b xs q h = absurd (apart Quote Digit refl (head_class (Some (kinds.Number w)) b xs Quote q h))
-text_pieces (Some (kinds.Text w)) b xs q h = (w, h)
-text_pieces (Some (kinds.Mark w)) b xs q h = absurd (false≢true (head_class (Some (kinds.Mark w)) b xs Quote q h))
-text_pieces None b xs q h = absurd (elim (head_class None b xs Quote q h) [ inl e ↦ apart Quote Blank refl e | inr e ↦ apart Quote Slash refl e ])
-
-
 string_longest : (source text rest : List ℕ) → IsSpelled source text → IsLongest (34 ∷ source ++ 34 ∷ []) rest
 string_longest source text rest s more after kind e h =
-    let p = text_pieces kind 34 ((source ++ 34 ∷ []) ++ more) refl h in
-    let same : source ++ (34 ∷ more) ≡ p.1.0 ++ (34 ∷ []) = sym (append_assoc source (34 ∷ []) more) ∙ tails _ _ p.1.1 in
-    let u = spelled_unique text p.0 source p.1.0 (34 ∷ more) (34 ∷ []) s p.1.2 (quote_ends more) (quote_ends []) same in
+    let p = form_at kind 34 ((source ++ 34 ∷ []) ++ more) Quote refl h in
+    let same : source ++ (34 ∷ more) ≡ p.2.0 ++ (34 ∷ []) = sym (append_assoc source (34 ∷ []) more) ∙ tails _ _ p.2.1 in
+    let u = spelled_unique text p.0 source p.2.0 (34 ∷ more) (34 ∷ []) s p.2.2 (quote_ends more) (quote_ends []) same in
     cc u.2
   where
   tails : (x y : List ℕ) → 34 ∷ x ≡ 34 ∷ y → x ≡ y

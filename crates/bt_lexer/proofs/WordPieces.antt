@@ -14,8 +14,8 @@ use Rattle.bt_lexer.specs.declared.error.LexError.{LexError}
 use Rattle.bt_lexer.specs.declared.error.LexError.TheVariants as faults
 use Rattle.bt_lexer.specs.declared.token.TokenKind.{TokenKind}
 use Rattle.bt_lexer.specs.declared.token.TokenKind.TheVariants as kinds
-use Rattle.bt_lexer.proofs.Classes.{Class, Blank, Letter, Digit, At, Dollar, Quote, Slash, Other, class_of, letter_class, apart}
-use Rattle.bt_lexer.proofs.Pieces.{IsFound, Answers, decided, HeadClass, head_class, attach_word, some_byte}
+use Rattle.bt_lexer.proofs.Classes.{Class, Blank, Letter, Digit, At, Dollar, Quote, Slash, Other, class_of, letter_class}
+use Rattle.bt_lexer.proofs.Pieces.{IsFound, Answers, decided, form_at, attach_word, some_byte}
 use Rattle.bt_lexer.proofs.Runs.{IsRun, run, run_unique, no_more, every_front, every_back}
 
 letter_word_byte : (b : ℕ) → is_letter b ≡ true → is_word_byte b ≡ true
@@ -32,19 +32,12 @@ run_word (b ∷ bs) [] rest h r = absurd (let q : begins is_word_byte rest ≡ i
 run_word (b ∷ bs) (c ∷ front) rest h r = (let q : b ≡ c = cc r.parts in subst (λ (x : ℕ). is_letter x ≡ true) q h, r.every.1)
 
 -- what begins with a letter
-letter_pieces : (kind : Option TokenKind) (c : ℕ) (xs : List ℕ) → is_letter c ≡ true → IsPiece kind (c ∷ xs) → Every is_word_byte (c ∷ xs) ⊎ IsAttach (c ∷ xs)
-letter_pieces (Some (kinds.Word w)) c xs l h = inl (word_every (c ∷ xs) h.1)
-letter_pieces (Some (kinds.Attach w)) c xs l h = inr h.1
-letter_pieces (Some (kinds.Map w)) c xs l h = absurd (apart Letter At refl (head_class (Some (kinds.Map w)) c xs Letter (letter_class c l) h))
-letter_pieces (Some (kinds.Var w)) c xs l h = absurd (apart Letter Dollar refl (head_class (Some (kinds.Var w)) c xs Letter (letter_class c l) h))
-letter_pieces (Some (kinds.Number w)) c xs l h = absurd (apart Letter Digit refl (head_class (Some (kinds.Number w)) c xs Letter (letter_class c l) h))
-letter_pieces (Some (kinds.Text w)) c xs l h = absurd (apart Letter Quote refl (head_class (Some (kinds.Text w)) c xs Letter (letter_class c l) h))
-letter_pieces (Some (kinds.Mark w)) c xs l h = absurd (false≢true (head_class (Some (kinds.Mark w)) c xs Letter (letter_class c l) h))
-letter_pieces None c xs l h = absurd (elim (head_class None c xs Letter (letter_class c l) h) [ inl e ↦ apart Letter Blank refl e | inr e ↦ apart Letter Slash refl e ])
-
 pub word_piece_of : (word xs : List ℕ) (kind : Option TokenKind) → IsWord word → IsPiece kind (word ++ xs) → Every is_word_byte (word ++ xs) ⊎ IsAttach (word ++ xs)
 word_piece_of [] xs kind w h = absurd w
-word_piece_of (c ∷ word) xs kind w h = letter_pieces kind c (word ++ xs) w.0 h
+word_piece_of (c ∷ word) xs kind w h = elim (form_at kind c (word ++ xs) Letter (letter_class c w.0) h) [
+    | inl p ↦ inl (word_every (c ∷ word ++ xs) p.1)
+    | inr p ↦ inr p.1
+  ]
 
 -- an attach token, cut behind its word
 attach_parts : (front more rest after : List ℕ) → Every is_word_byte front → begins is_word_byte rest ≡ false → rest ≡ more ++ after → IsAttach (front ++ more)
@@ -168,26 +161,6 @@ word_sound offset bs h =
 
 -- ---- names
 
-at_pieces : (kind : Option TokenKind) (b : ℕ) (xs : List ℕ) → class_of b ≡ At → IsPiece kind (b ∷ xs) → (xs ≡ []) ⊎ IsWord xs
-at_pieces (Some (kinds.Word w)) b xs q h = absurd (apart At Letter refl (head_class (Some (kinds.Word w)) b xs At q h))
-at_pieces (Some (kinds.Attach w)) b xs q h = absurd (apart At Letter refl (head_class (Some (kinds.Attach w)) b xs At q h))
-at_pieces (Some (kinds.Map w)) b xs q h = h.1.1
-at_pieces (Some (kinds.Var w)) b xs q h = absurd (apart At Dollar refl (head_class (Some (kinds.Var w)) b xs At q h))
-at_pieces (Some (kinds.Number w)) b xs q h = absurd (apart At Digit refl (head_class (Some (kinds.Number w)) b xs At q h))
-at_pieces (Some (kinds.Text w)) b xs q h = absurd (apart At Quote refl (head_class (Some (kinds.Text w)) b xs At q h))
-at_pieces (Some (kinds.Mark w)) b xs q h = absurd (false≢true (head_class (Some (kinds.Mark w)) b xs At q h))
-at_pieces None b xs q h = absurd (elim (head_class None b xs At q h) [ inl e ↦ apart At Blank refl e | inr e ↦ apart At Slash refl e ])
-
-dollar_pieces : (kind : Option TokenKind) (b : ℕ) (xs : List ℕ) → class_of b ≡ Dollar → IsPiece kind (b ∷ xs) → IsWord xs
-dollar_pieces (Some (kinds.Word w)) b xs q h = absurd (apart Dollar Letter refl (head_class (Some (kinds.Word w)) b xs Dollar q h))
-dollar_pieces (Some (kinds.Attach w)) b xs q h = absurd (apart Dollar Letter refl (head_class (Some (kinds.Attach w)) b xs Dollar q h))
-dollar_pieces (Some (kinds.Map w)) b xs q h = absurd (apart Dollar At refl (head_class (Some (kinds.Map w)) b xs Dollar q h))
-dollar_pieces (Some (kinds.Var w)) b xs q h = h.1.1
-dollar_pieces (Some (kinds.Number w)) b xs q h = absurd (apart Dollar Digit refl (head_class (Some (kinds.Number w)) b xs Dollar q h))
-dollar_pieces (Some (kinds.Text w)) b xs q h = absurd (apart Dollar Quote refl (head_class (Some (kinds.Text w)) b xs Dollar q h))
-dollar_pieces (Some (kinds.Mark w)) b xs q h = absurd (false≢true (head_class (Some (kinds.Mark w)) b xs Dollar q h))
-dollar_pieces None b xs q h = absurd (elim (head_class None b xs Dollar q h) [ inl e ↦ apart Dollar Blank refl e | inr e ↦ apart Dollar Slash refl e ])
-
 -- a word that a class of bytes ends
 word_ends : (name more after rest : List ℕ) → begins is_word_byte rest ≡ false → rest ≡ more ++ after → IsWord (name ++ more) → more ≡ []
 word_ends name more after rest stop e w = no_more is_word_byte more after rest e stop (every_back is_word_byte name more (word_every (name ++ more) w))
@@ -201,13 +174,13 @@ append_nil_back [] more e = e
 append_nil_back (b ∷ name) more e = absurd cc
 
 map_word_longest : (name rest : List ℕ) → begins is_word_byte rest ≡ false → IsLongest (64 ∷ name) rest
-map_word_longest name rest stop more after kind e h = elim (at_pieces kind 64 (name ++ more) refl h) [
+map_word_longest name rest stop more after kind e h = elim (form_at kind 64 (name ++ more) At refl h).1.1 [
     | inl q ↦ append_nil_back name more q
     | inr w ↦ word_ends name more after rest stop e w
   ]
 
 map_alone_longest : (rest : List ℕ) → begins is_letter rest ≡ false → IsLongest (64 ∷ []) rest
-map_alone_longest rest stop more after kind e h = elim (at_pieces kind 64 more refl h) [
+map_alone_longest rest stop more after kind e h = elim (form_at kind 64 more At refl h).1.1 [
     | inl q ↦ q
     | inr w ↦ absurd (no_word more after rest stop e w)
   ]
@@ -240,7 +213,7 @@ var_sound offset bs =
           parts = ap (λ (l : List ℕ). 36 ∷ l) r.2.parts;
           size = omega (arith, r.2.len);
           is = (refl, (refl, run_word bs r.0 r.1 h r.2));
-          longest = λ more after kind e p. word_ends r.0 more after r.1 r.2.stop e (dollar_pieces kind 36 (r.0 ++ more) refl p);
+          longest = λ more after kind e p. word_ends r.0 more after r.1 r.2.stop e (form_at kind 36 (r.0 ++ more) Dollar refl p).1.1;
         })
       (λ h. inl ((λ q. cc, λ piece rest kind e p. nothing piece rest kind bs h e p), refl))
   where
@@ -250,4 +223,4 @@ var_sound offset bs =
       let q : b ≡ 36 = cc in
       let p' : IsPiece kind (36 ∷ xs) = subst (λ (x : ℕ). IsPiece kind (x ∷ xs)) q p in
       let tail : bs ≡ xs ++ rest = cc in
-      no_word xs rest bs h tail (dollar_pieces kind 36 xs refl p')
+      no_word xs rest bs h tail (form_at kind 36 xs Dollar refl p').1.1
