@@ -4,6 +4,8 @@ use Rattle.std.specs.Prelude.{◌⊎◌, if◌then◌else◌, ◌==◌, Contains
 use Rattle.std.specs.List.{list_any, AllByRecursion}
 use Rattle.std.proofs.lemmas.Bool.{false≢true}
 use Rattle.std.proofs.lemmas.Bool.Decides.{nat_tests}
+use Rattle.std.proofs.lemmas.List.{take_at, append_assoc}
+use Rattle.bt_lexer.specs.Bytes.{is_blank}
 use Rattle.bt_lexer.specs.Marks.{marks, IsMark}
 use Rattle.bt_lexer.specs.Tokens.{IsPiece, IsToken, IsLongest, IsFault, NothingBegins}
 use Rattle.bt_lexer.specs.Scan.{is_single, is_double, is_triple, mark_len, mark_of, mark_piece, slash_piece, separator, line_len, comment_piece, comment_len}
@@ -18,6 +20,9 @@ use Rattle.bt_lexer.proofs.SeparatorPieces.{mark_is_no_comment, line_sound, comm
 
 is_eq : (m n : ℕ) → (m == n) ≡ true → m ≡ n
 is_eq m n h = grind (arith, nat_tests)
+
+is_ne : (m n : ℕ) → (m == n) ≡ false → m ≢ n
+is_ne m n h = λ e. absurd (grind (arith, nat_tests))
 
 and_both : (a b : Bool) → (a && b) ≡ true → (a ≡ true) × (b ≡ true)
 and_both true b h = (refl, h)
@@ -168,3 +173,76 @@ mark_found (b ∷ c ∷ d ∷ bs) = decided (MarkAnswers (b ∷ c ∷ d ∷ bs))
       (λ u. decided (MarkAnswers (b ∷ c ∷ d ∷ bs)) (is_single b) 1 0
         (λ s. inr (one_at b (c ∷ d ∷ bs) s (λ x after e. let q : c ≡ x = cc in rw (← q) u) (λ x y after e. let q : c ≡ x = cc in let p : d ≡ y = cc in rw (← q, ← p) t)))
         (λ s. inl (refl, none_more b c d bs t u s))))
+
+-- ---- pieces
+
+-- what begins with these bytes can only be a mark
+abbrev OnlyMarks : ℕ → List ℕ → Type 0
+OnlyMarks b bs = (kind : Option TokenKind) (xs after : List ℕ) → bs ≡ xs ++ after → IsPiece kind (b ∷ xs) → IsMark (b ∷ xs)
+
+mark_longest : (b : ℕ) (bs : List ℕ) → OnlyMarks b bs → (mark rest : List ℕ) → b ∷ bs ≡ mark ++ rest → IsMark mark
+    → ((more after : List ℕ) → rest ≡ more ++ after → IsMark (mark ++ more) → more ≡ []) → IsLongest mark rest
+mark_longest b bs only [] rest parts m longest more after kind e h = absurd (not_marks [] refl m)
+mark_longest b bs only (c ∷ mark) rest parts m longest more after kind e h =
+    let q : b ≡ c = cc parts in
+    let tail : bs ≡ (mark ++ more) ++ after = tails b c bs (mark ++ rest) parts ∙ ap (λ (l : List ℕ). mark ++ l) e ∙ sym (append_assoc mark more after) in
+    longest more after e (subst (λ (x : ℕ). IsMark (x ∷ mark ++ more)) q (only kind (mark ++ more) after tail (subst (λ (x : ℕ). IsPiece kind (x ∷ mark ++ more)) (sym q) h)))
+  where
+  tails : (b c : ℕ) (xs ys : List ℕ) → b ∷ xs ≡ c ∷ ys → xs ≡ ys
+  tails b c xs ys e = cc
+
+no_mark_begins : (b : ℕ) (bs : List ℕ) → OnlyMarks b bs → NoMark (b ∷ bs) → (piece rest : List ℕ) (kind : Option TokenKind) → b ∷ bs ≡ piece ++ rest → IsPiece kind piece → ⊥
+no_mark_begins b bs only none [] rest kind e h = some_byte kind h
+no_mark_begins b bs only none (c ∷ piece) rest kind e h =
+    let q : b ≡ c = cc e in
+    let tail : bs ≡ piece ++ rest = tails b c bs (piece ++ rest) e in
+    let m = only kind piece rest tail (subst (λ (x : ℕ). IsPiece kind (x ∷ piece)) (sym q) h) in
+    none (b ∷ piece) rest (ap (λ (l : List ℕ). b ∷ l) tail) m
+  where
+  tails : (b c : ℕ) (xs ys : List ℕ) → b ∷ xs ≡ c ∷ ys → xs ≡ ys
+  tails b c xs ys e = cc
+
+some_len : (n : ℕ) → 0 < n → (n == 0) ≡ false
+some_len n h = grind (arith, nat_tests)
+
+mark_sound : (offset b : ℕ) (bs : List ℕ) → b ≢ 34 → OnlyMarks b bs → Answers offset (b ∷ bs) (mark_piece offset (b ∷ bs))
+mark_sound offset b bs quote only = by_found (mark_len (b ∷ bs)) (mark_found (b ∷ bs))
+  where
+  by_found : (n : ℕ) → MarkAnswers (b ∷ bs) n → Answers offset (b ∷ bs) (mark_of offset (b ∷ bs) n)
+  by_found n (inl none) = rw none.0 (inl ((quote, no_mark_begins b bs only none.1), refl))
+  by_found n (inr m) =
+      let taken : take n (b ∷ bs) ≡ m.mark = ap (take n) m.parts ∙ take_at m.mark m.rest n (sym m.size) in
+      rw (some_len n m.some, taken) record {
+        piece = m.mark;
+        rest = m.rest;
+        parts = m.parts;
+        size = m.size;
+        is = (refl, m.is);
+        longest = mark_longest b bs only m.mark m.rest m.parts m.is m.longest;
+      }
+
+pub other_sound : (offset b : ℕ) (bs : List ℕ) → class_of b ≡ Other → Answers offset (b ∷ bs) (mark_piece offset (b ∷ bs))
+other_sound offset b bs h = mark_sound offset b bs (λ e. apart Other Quote refl (sym h ∙ ap class_of e)) (λ kind xs after e p. (form_at kind b xs Other h p).1)
+
+-- `/` begins a mark only where no comment begins
+slash_only : (bs : List ℕ) → ((c : ℕ) (rest : List ℕ) → bs ≡ c ∷ rest → (c ≢ 47) × (c ≢ 42)) → OnlyMarks 47 bs
+slash_only bs apart_from kind xs after e p = elim (form_at kind 47 xs Slash refl p) [
+    | inr m ↦ m.1
+    | inl (e', inl k) ↦ absurd (not_blank k.0 (cc k.1) k.2)
+    | inl (e', inr (inl k)) ↦ absurd ((apart_from 47 (k.0 ++ after) (e ∙ ap (λ (l : List ℕ). l ++ after) (tails 47 47 _ _ k.1))).0 refl)
+    | inl (e', inr (inr k)) ↦ absurd ((apart_from 42 ((k.0 ++ 42 ∷ 47 ∷ []) ++ after) (e ∙ ap (λ (l : List ℕ). l ++ after) (tails 47 47 _ _ k.1))).1 refl)
+  ]
+  where
+  tails : (b c : ℕ) (xs ys : List ℕ) → b ∷ xs ≡ c ∷ ys → xs ≡ ys
+  tails b c xs ys e = cc
+  not_blank : (b : ℕ) → 47 ≡ b → is_blank b ≡ true → ⊥
+  not_blank b e h = false≢true (ap is_blank e ∙ h)
+
+pub slash_sound : (offset : ℕ) (bs : List ℕ) → Answers offset (47 ∷ bs) (slash_piece offset bs)
+unfolding slash_piece
+slash_sound offset [] = mark_sound offset 47 [] (λ e. absurd (omega arith)) (slash_only [] (λ c rest e. absurd cc))
+slash_sound offset (c ∷ bs) = decided (Answers offset (47 ∷ c ∷ bs)) (c == 47) _ _
+    (λ h. let q = is_eq c 47 h in rw q (line_sound offset bs))
+    (λ h. decided (Answers offset (47 ∷ c ∷ bs)) (c == 42) _ _
+      (λ k. let q = is_eq c 42 k in rw q (comment_sound offset bs))
+      (λ k. mark_sound offset 47 (c ∷ bs) (λ e. absurd (omega arith)) (slash_only (c ∷ bs) (λ d rest e. let q : c ≡ d = cc in (λ p. is_ne c 47 h (q ∙ p), λ p. is_ne c 42 k (q ∙ p))))))
