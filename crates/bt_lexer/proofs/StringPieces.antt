@@ -55,7 +55,7 @@ byte_escape e c =
 no_escape : (e : ℕ) (bs : List ℕ) → escape_of e ≡ None → NoEscape (e ∷ bs)
 no_escape e bs h c k = none_some c (sym h ∙ escape_byte e c k)
 
-escape_none : (e : ℕ) (bs : List ℕ) → NoEscape (e ∷ bs) → escape_of e ≡ None
+pub escape_none : (e : ℕ) (bs : List ℕ) → NoEscape (e ∷ bs) → escape_of e ≡ None
 escape_none e bs h = by_option (escape_of e) refl
   where
   by_option : (o : Option ℕ) → escape_of e ≡ o → escape_of e ≡ None
