@@ -175,7 +175,7 @@ found_fault offset b bs (faults.StringTooLong at) h = at_string offset (b ∷ bs
 found_fault offset b bs faults.Memory h = absurd h
 
 -- a fault begins with a byte
-some_fault_byte : (offset : ℕ) (fault : LexError) → IsFault offset [] fault → ⊥
+pub some_fault_byte : (offset : ℕ) (fault : LexError) → IsFault offset [] fault → ⊥
 some_fault_byte offset (faults.BadChar at) (inl h) = h.0
 some_fault_byte offset (faults.BadChar at) (inr (inl h)) = no_number h.0 h.1 h.2 h.3
   where

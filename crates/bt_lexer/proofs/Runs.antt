@@ -1,7 +1,8 @@
 -- Runs of bytes of one class.
-use Rattle.std.proofs.Common.{◌≡◌, ℕ, suc, Bool, true, false, List, [], ◌∷◌, ◌++◌, length, refl, ap, ◌∙◌}
+use Rattle.std.proofs.Common.{◌≡◌, ℕ, suc, Bool, true, false, List, [], ◌∷◌, ◌++◌, length, take, cond, refl, ap, ◌∙◌}
 use Rattle.std.specs.Prelude.{take_while}
 use Rattle.std.proofs.lemmas.List.Sums.{take_while-cons}
+use Rattle.std.proofs.lemmas.List.{take_at}
 use Rattle.bt_lexer.specs.Bytes.{Every, begins}
 
 -- the longest front whose bytes are of the class
@@ -43,3 +44,14 @@ every_front p (x ∷ xs) ys h = (h.0, every_front p xs ys h.1)
 pub every_back : (p : ℕ → Bool) (xs ys : List ℕ) → Every p (xs ++ ys) → Every p ys
 every_back p [] ys h = h
 every_back p (x ∷ xs) ys h = every_back p xs ys h.1
+
+pub run_front : (p : ℕ → Bool) (bs front rest : List ℕ) → IsRun p bs front rest → take_while p bs ≡ front
+run_front p bs front rest r = taken bs ∙ ap (λ (n : ℕ). take n bs) r.len ∙ ap (take (length front)) r.parts ∙ take_at front rest (length front) refl
+  where
+  taken : (xs : List ℕ) → take_while p xs ≡ take (length (take_while p xs)) xs
+  taken [] = refl
+  taken (x ∷ xs) = rw (take_while-cons p x xs)
+      (elim (p x) as (λ b. cond b (x ∷ take_while p xs) [] ≡ take (length (cond b (x ∷ take_while p xs) [])) (x ∷ xs)) [
+        | true ↦ ap (λ (l : List ℕ). x ∷ l) (taken xs)
+        | false ↦ refl
+      ])
