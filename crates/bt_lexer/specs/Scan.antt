@@ -17,11 +17,6 @@ use Rattle.bt_lexer.specs.Bytes.{is_blank, is_letter, is_digit, is_word_byte, is
 use Rattle.bt_lexer.specs.Numbers.{signed}
 use Rattle.bt_lexer.specs.Tokens.{first_line}
 
--- what a function answers, unless memory runs out
-abbrev pub Gives : {A : Type 0} → Result A LexError → Result A LexError → Type 0
-Gives (Ok x) found = found ≡ Ok x
-Gives (Err e) found = e ≢ Memory → found ≡ Err e
-
 -- a piece takes a byte at least, and no more than there are
 abbrev pub IsWithin : ℕ → Piece → Type 0
 IsWithin len piece = (0 < piece.len) × (piece.len ≤ len)

@@ -1,5 +1,5 @@
 -- The tokens of a text, and its first lexical fault.
-use Rattle.std.specs.Prelude.{◌≡◌, ◌≢◌, ℕ, ◌+◌, ◌^◌, ◌<◌, ◌≤◌, ◌⊎◌, true, List, [], ◌∷◌, ◌++◌, length, take_while, ◌&&◌, ◌==◌, if◌then◌else◌, Option, Some, None}
+use Rattle.std.specs.Prelude.{◌≡◌, ◌≢◌, ℕ, ◌+◌, ◌^◌, ◌<◌, ◌≤◌, ◌⊎◌, true, List, [], ◌∷◌, ◌++◌, length, take_while, ◌&&◌, ◌==◌, if◌then◌else◌, Option, Some, None, Result, Ok, Err}
 use Rattle.bt_lexer.specs.declared.token.Token.{Token}
 use Rattle.bt_lexer.specs.declared.token.TokenKind.{TokenKind}
 use Rattle.bt_lexer.specs.declared.token.TokenKind.TheVariants as kinds
@@ -114,3 +114,8 @@ IsTokensOf text tokens =
 abbrev pub IsFirstFault : List ℕ → LexError → Type 0
 IsFirstFault text fault =
     (pieces : Pieces) × (body rest : List ℕ) × (text ≡ first_line text ++ body) × IsCut body pieces rest × ((offset : ℕ) × (offset + length rest ≡ length text) × IsFault offset rest fault)
+
+-- The result is this answer, unless memory ran out.
+abbrev pub Gives : {A : Type 0} → Result A LexError → Result A LexError → Type 0
+Gives (Ok value) answer = answer ≡ Ok value
+Gives (Err fault) answer = fault ≢ faults.Memory → answer ≡ Err fault

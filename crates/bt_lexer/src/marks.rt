@@ -1,6 +1,7 @@
 // Marks: operators and punctuation.
 ghost use Rattle.std.specs.Prelude.{◌≡◌, ◌+◌, ◌<◌, ◌≤◌, ◌^◌, length, IfOk};
-ghost use Rattle.bt_lexer.specs.Scan.{is_double, is_single, is_triple, mark_len, mark_piece, Gives, IsWithin};
+ghost use Rattle.bt_lexer.specs.Scan.{is_double, is_single, is_triple, mark_len, mark_piece, IsWithin};
+ghost use Rattle.bt_lexer.specs.Tokens.{Gives};
 
 use crate::bytes::list_of;
 use crate::error::LexError;

@@ -2,7 +2,8 @@
 ghost use Rattle.std.specs.Prelude.{◌≡◌, ◌+◌, ◌<◌, ◌≤◌, ◌^◌, length, Some, IfOk, true};
 ghost use Rattle.std.specs.Char.{digit_value};
 ghost use Rattle.bt_lexer.specs.Bytes.{begins, is_digit};
-ghost use Rattle.bt_lexer.specs.Scan.{digits, fits, number_at, number_piece, pushed, Gives, IsWithin};
+ghost use Rattle.bt_lexer.specs.Scan.{digits, fits, number_at, number_piece, pushed, IsWithin};
+ghost use Rattle.bt_lexer.specs.Tokens.{Gives};
 
 use crate::bytes::begins_with_word_byte;
 use crate::error::LexError;

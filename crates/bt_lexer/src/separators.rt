@@ -1,6 +1,7 @@
 // Comments.
 ghost use Rattle.std.specs.Prelude.{◌≡◌, ◌+◌, ◌<◌, ◌≤◌, ◌^◌, length, IfOk, IfSome, Ok};
-ghost use Rattle.bt_lexer.specs.Scan.{closes, comment_len, comment_piece, line_len, separator, Gives, IsWithin};
+ghost use Rattle.bt_lexer.specs.Scan.{closes, comment_len, comment_piece, line_len, separator, IsWithin};
+ghost use Rattle.bt_lexer.specs.Tokens.{Gives};
 
 use crate::bytes::line_len;
 use crate::error::LexError;

@@ -1,6 +1,7 @@
 // Strings between quotes.
 ghost use Rattle.std.specs.Prelude.{◌≡◌, ◌+◌, ◌<◌, ◌≤◌, ◌^◌, length, IfOk};
-ghost use Rattle.bt_lexer.specs.Scan.{closed, escape_of, string_byte, string_piece, unclosed, Gives, IsWithin};
+ghost use Rattle.bt_lexer.specs.Scan.{closed, escape_of, string_byte, string_piece, unclosed, IsWithin};
+ghost use Rattle.bt_lexer.specs.Tokens.{Gives};
 
 use crate::error::LexError;
 use crate::piece::Piece;

@@ -1,7 +1,8 @@
 // Words, attach tokens, and the names of maps and variables.
 ghost use Rattle.std.specs.Prelude.{◌≡◌, ◌+◌, ◌<◌, ◌≤◌, ◌^◌, length, take_while, IfOk, true};
 ghost use Rattle.bt_lexer.specs.Bytes.{begins, is_letter, is_word_byte, is_attach_byte};
-ghost use Rattle.bt_lexer.specs.Scan.{attach_len, is_attach_word, is_colon, map_piece, name_len, var_piece, word_len, word_piece, Gives, IsWithin};
+ghost use Rattle.bt_lexer.specs.Scan.{attach_len, is_attach_word, is_colon, map_piece, name_len, var_piece, word_len, word_piece, IsWithin};
+ghost use Rattle.bt_lexer.specs.Tokens.{Gives};
 
 use crate::bytes::{begins_with_letter, is_word_byte, list_of};
 use crate::error::LexError;
