@@ -6,6 +6,7 @@ use Rattle.bt_lexer.specs.Bytes.{is_blank, is_letter, is_digit}
 use Rattle.bt_lexer.specs.declared.piece.Piece.{Piece}
 use Rattle.bt_lexer.specs.declared.error.LexError.{LexError}
 use Rattle.bt_lexer.specs.Scan.{piece_at, separator, word_piece, number_piece, map_piece, var_piece, string_piece, slash_piece, mark_piece}
+use Rattle.bt_lexer.proofs.Tests.{is_eq, decided}
 
 pub data Class : Type 0 where
   Blank : Class
@@ -38,22 +39,15 @@ Facts b Quote = b ≡ 34
 Facts b Slash = b ≡ 47
 Facts b Other = Unit {0}
 
-chosen : (P : Class → Type 0) (t : Bool) (c d : Class) → (t ≡ true → P c) → (t ≡ false → P d) → P (cond t c d)
-chosen P true c d f g = f refl
-chosen P false c d f g = g refl
-
-is_eq : (m n : ℕ) → (m == n) ≡ true → m ≡ n
-is_eq m n h = grind (arith, nat_tests)
-
 pub facts : (b : ℕ) → Facts b (class_of b)
 facts b =
-    chosen (Facts b) (is_blank b) _ _ (λ h. h) (λ h0.
-    chosen (Facts b) (is_letter b) _ _ (λ h. h) (λ h1.
-    chosen (Facts b) (is_digit b) _ _ (λ h. h) (λ h2.
-    chosen (Facts b) (b == 64) _ _ (λ h. is_eq b 64 h) (λ h3.
-    chosen (Facts b) (b == 36) _ _ (λ h. is_eq b 36 h) (λ h4.
-    chosen (Facts b) (b == 34) _ _ (λ h. is_eq b 34 h) (λ h5.
-    chosen (Facts b) (b == 47) _ _ (λ h. is_eq b 47 h) (λ h6. tt)))))))
+    decided (Facts b) (is_blank b) _ _ (λ h. h) (λ h0.
+    decided (Facts b) (is_letter b) _ _ (λ h. h) (λ h1.
+    decided (Facts b) (is_digit b) _ _ (λ h. h) (λ h2.
+    decided (Facts b) (b == 64) _ _ (λ h. is_eq b 64 h) (λ h3.
+    decided (Facts b) (b == 36) _ _ (λ h. is_eq b 36 h) (λ h4.
+    decided (Facts b) (b == 34) _ _ (λ h. is_eq b 34 h) (λ h5.
+    decided (Facts b) (b == 47) _ _ (λ h. is_eq b 47 h) (λ h6. tt)))))))
 
 pub blank_class : (b : ℕ) → is_blank b ≡ true → class_of b ≡ Blank
 blank_class b h = rw h refl

@@ -19,6 +19,7 @@ use Rattle.bt_lexer.specs.declared.token.TokenKind.TheVariants as kinds
 use Rattle.bt_lexer.proofs.Classes.{Class, Blank, Letter, Digit, At, Dollar, Quote, Slash, Other, class_of, blank_class, digit_class, apart, piece_by_class}
 use Rattle.bt_lexer.proofs.Pieces.{IsFound, Answers, Form, form_at, some_byte, attach_word, number_head}
 use Rattle.bt_lexer.proofs.Runs.{every_back}
+use Rattle.bt_lexer.proofs.Tests.{tails}
 use Rattle.bt_lexer.proofs.WordPieces.{word_every}
 use Rattle.bt_lexer.proofs.NumberPieces.{no_octal, number_found}
 use Rattle.bt_lexer.proofs.StringPieces.{passes, spelled_unique, quote_ends, escape_none}
@@ -42,10 +43,7 @@ number_unique (d ∷ bs) m n (inr (inr h)) (inr (inl k)) = absurd (no_octal h.0 
 number_unique (d ∷ bs) m n (inr (inr h)) (inr (inr k)) = let q : h.0 ≡ k.0 = cc (h.1, k.1) in h.3 ∙ ap (value_of 16) q ∙ sym k.3
 
 string_unique : (bs t u : List ℕ) → IsString bs t → IsString bs u → t ≡ u
-string_unique bs t u h k = (spelled_unique t u h.0 k.0 (34 ∷ []) (34 ∷ []) h.2 k.2 (quote_ends []) (quote_ends []) (tails _ _ (sym h.1 ∙ k.1))).1
-  where
-  tails : (x y : List ℕ) → 34 ∷ x ≡ 34 ∷ y → x ≡ y
-  tails x y e = cc
+string_unique bs t u h k = (spelled_unique t u h.0 k.0 (34 ∷ []) (34 ∷ []) h.2 k.2 (quote_ends []) (quote_ends []) (tails 34 34 _ _ (sym h.1 ∙ k.1))).1
 
 word_or_attach : (bs : List ℕ) → IsWord bs → IsAttach bs → ⊥
 word_or_attach bs w a = false≢true (every_back is_word_byte a.0 (58 ∷ a.1) (subst (Every is_word_byte) a.2 (word_every bs w))).0
@@ -71,7 +69,7 @@ form_unique Slash b xs k l q (inr f) (inl g) = absurd (separator_or_mark b xs q 
 form_unique Slash b xs k l q (inr f) (inr g) = f.0 ∙ sym g.0
 form_unique Other b xs k l q f g = f.0 ∙ sym g.0
 
-kind_unique : (bs : List ℕ) (k l : Option TokenKind) → IsPiece k bs → IsPiece l bs → k ≡ l
+pub kind_unique : (bs : List ℕ) (k l : Option TokenKind) → IsPiece k bs → IsPiece l bs → k ≡ l
 kind_unique [] k l h g = absurd (some_byte k h)
 kind_unique (b ∷ xs) k l h g = form_unique (class_of b) b xs k l refl (form_at k b xs (class_of b) refl h) (form_at l b xs (class_of b) refl g)
 
@@ -88,7 +86,7 @@ overlap (b ∷ p) (c ∷ q) r s e =
       | inr o ↦ inr (o.0, ap (λ (n : ℕ). n ∷ p) h ∙ ap (λ (l : List ℕ). c ∷ l) o.1, o.2)
     ]
 
-longest_unique : (p q r s : List ℕ) (k l : Option TokenKind) → p ++ r ≡ q ++ s → IsPiece k p → IsPiece l q → IsLongest p r → IsLongest q s → p ≡ q
+pub longest_unique : (p q r s : List ℕ) (k l : Option TokenKind) → p ++ r ≡ q ++ s → IsPiece k p → IsPiece l q → IsLongest p r → IsLongest q s → p ≡ q
 longest_unique p q r s k l e hp hq lp lq = elim (overlap p q r s e) [
     | inl o ↦ (let nil = lp o.0 s l o.2 (subst (IsPiece l) o.1 hq) in sym (o.1 ∙ ap (λ (m : List ℕ). p ++ m) nil ∙ append-nil p))
     | inr o ↦ (let nil = lq o.0 r k o.2 (subst (IsPiece k) o.1 hp) in o.1 ∙ ap (λ (m : List ℕ). q ++ m) nil ∙ append-nil q)
@@ -130,7 +128,7 @@ at_number offset b bs (d ∷ number) rest n h =
     let digit : is_digit b ≡ true = ap is_digit q ∙ number_head d number n h.1 in
     rw (piece_by_class offset b bs, digit_class b digit) (number_is offset (b ∷ bs) (d ∷ number) rest n digit h)
 
-at_string : (offset : ℕ) (bs source text rest : List ℕ) → BeginsWithString bs source text rest → piece_at offset bs ≡ string_from offset false text (length source) rest
+pub at_string : (offset : ℕ) (bs source text rest : List ℕ) → BeginsWithString bs source text rest → piece_at offset bs ≡ string_from offset false text (length source) rest
 at_string offset bs source text rest h =
     ap (piece_at offset) h.0 ∙ piece_by_class offset 34 (source ++ rest) ∙ passes offset text source [] 0 rest h.1 ∙ ap (λ (k : ℕ). string_from offset false text k rest) (zero-add (length source))
 

@@ -15,22 +15,9 @@ use Rattle.bt_lexer.specs.declared.error.LexError.TheVariants as faults
 use Rattle.bt_lexer.specs.declared.token.TokenKind.{TokenKind}
 use Rattle.bt_lexer.specs.declared.token.TokenKind.TheVariants as kinds
 use Rattle.bt_lexer.proofs.Classes.{Class, Blank, Letter, Digit, At, Dollar, Quote, Slash, Other, class_of, apart}
-use Rattle.bt_lexer.proofs.Pieces.{IsFound, Answers, decided, form_at, marks_pass, some_byte}
+use Rattle.bt_lexer.proofs.Pieces.{IsFound, Answers, form_at, marks_pass, some_byte}
+use Rattle.bt_lexer.proofs.Tests.{decided, is_eq, is_ne, and_both, or_cases, tails}
 use Rattle.bt_lexer.proofs.SeparatorPieces.{mark_is_no_comment, line_sound, comment_sound}
-
-is_eq : (m n : ℕ) → (m == n) ≡ true → m ≡ n
-is_eq m n h = grind (arith, nat_tests)
-
-is_ne : (m n : ℕ) → (m == n) ≡ false → m ≢ n
-is_ne m n h = λ e. absurd (grind (arith, nat_tests))
-
-and_both : (a b : Bool) → (a && b) ≡ true → (a ≡ true) × (b ≡ true)
-and_both true b h = (refl, h)
-and_both false b h = absurd (false≢true h)
-
-or_cases : (a b : Bool) → (a || b) ≡ true → (a ≡ true) ⊎ (b ≡ true)
-or_cases true b h = inl refl
-or_cases false b h = inr h
 
 -- what holds of each byte of a list holds of a byte in it
 among : (P : ℕ → Type 0) (b : ℕ) (xs : List ℕ) → AllByRecursion P xs → list_any (λ m. m == b) xs ≡ true → P b
@@ -187,9 +174,6 @@ mark_longest b bs only (c ∷ mark) rest parts m longest more after kind e h =
     let q : b ≡ c = cc parts in
     let tail : bs ≡ (mark ++ more) ++ after = tails b c bs (mark ++ rest) parts ∙ ap (λ (l : List ℕ). mark ++ l) e ∙ sym (append_assoc mark more after) in
     longest more after e (subst (λ (x : ℕ). IsMark (x ∷ mark ++ more)) q (only kind (mark ++ more) after tail (subst (λ (x : ℕ). IsPiece kind (x ∷ mark ++ more)) (sym q) h)))
-  where
-  tails : (b c : ℕ) (xs ys : List ℕ) → b ∷ xs ≡ c ∷ ys → xs ≡ ys
-  tails b c xs ys e = cc
 
 no_mark_begins : (b : ℕ) (bs : List ℕ) → OnlyMarks b bs → NoMark (b ∷ bs) → (piece rest : List ℕ) (kind : Option TokenKind) → b ∷ bs ≡ piece ++ rest → IsPiece kind piece → ⊥
 no_mark_begins b bs only none [] rest kind e h = some_byte kind h
@@ -198,9 +182,6 @@ no_mark_begins b bs only none (c ∷ piece) rest kind e h =
     let tail : bs ≡ piece ++ rest = tails b c bs (piece ++ rest) e in
     let m = only kind piece rest tail (subst (λ (x : ℕ). IsPiece kind (x ∷ piece)) (sym q) h) in
     none (b ∷ piece) rest (ap (λ (l : List ℕ). b ∷ l) tail) m
-  where
-  tails : (b c : ℕ) (xs ys : List ℕ) → b ∷ xs ≡ c ∷ ys → xs ≡ ys
-  tails b c xs ys e = cc
 
 some_len : (n : ℕ) → 0 < n → (n == 0) ≡ false
 some_len n h = grind (arith, nat_tests)
@@ -233,8 +214,6 @@ slash_only bs apart_from kind xs after e p = elim (form_at kind 47 xs Slash refl
     | inl (e', inr (inr k)) ↦ absurd ((apart_from 42 ((k.0 ++ 42 ∷ 47 ∷ []) ++ after) (e ∙ ap (λ (l : List ℕ). l ++ after) (tails 47 47 _ _ k.1))).1 refl)
   ]
   where
-  tails : (b c : ℕ) (xs ys : List ℕ) → b ∷ xs ≡ c ∷ ys → xs ≡ ys
-  tails b c xs ys e = cc
   not_blank : (b : ℕ) → 47 ≡ b → is_blank b ≡ true → ⊥
   not_blank b e h = false≢true (ap is_blank e ∙ h)
 

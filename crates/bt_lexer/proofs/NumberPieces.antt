@@ -18,7 +18,8 @@ use Rattle.bt_lexer.specs.declared.error.LexError.TheVariants as faults
 use Rattle.bt_lexer.specs.declared.token.TokenKind.{TokenKind}
 use Rattle.bt_lexer.specs.declared.token.TokenKind.TheVariants as kinds
 use Rattle.bt_lexer.proofs.Classes.{Class, Blank, Letter, Digit, At, Dollar, Quote, Slash, Other, class_of, digit_class}
-use Rattle.bt_lexer.proofs.Pieces.{IsFound, Answers, decided, form_at, digits_head}
+use Rattle.bt_lexer.proofs.Pieces.{IsFound, Answers, form_at, digits_head}
+use Rattle.bt_lexer.proofs.Tests.{decided, is_eq, is_ne, and_both}
 
 -- what may follow a digit
 abbrev pub More : ℕ → List ℕ → Type 0
@@ -107,15 +108,12 @@ scan_digit base v n b bs found small f s = record {
     not_eq : (b : ℕ) → (b ≡ 95 → ⊥) → not_underscore b ≡ true
     not_eq b h = grind (arith, nat_tests)
 
-is_underscore : (b : ℕ) → (b == 95) ≡ true → b ≡ 95
-is_underscore b h = grind (arith, nat_tests)
-
 scan_underscore : (base v n b : ℕ) (bs : List ℕ) (found : Digits) → base ≤ 36 → fits base b ≡ false → (b == 95) ≡ true → begins (fits base) bs ≡ true → IsScan base v (n + 1) bs found → IsScan base v n (b ∷ bs) found
 scan_underscore base v n b bs found small f u d s = record {
   front = b ∷ s.front;
   rest = s.rest;
   parts = ap (λ (l : List ℕ). b ∷ l) s.parts;
-  digits = inr (is_underscore b u, scan_digits base v (n + 1) bs found small d s);
+  digits = inr (is_eq b 95 u, scan_digits base v (n + 1) bs found small d s);
   size = let k = s.size in omega arith;
   value = s.value ∙ sym (ap (λ (l : List ℕ). limited (digits_value_after base v l)) (passed b s.front u));
   longest = λ more after e m. elim m [
@@ -150,10 +148,6 @@ scan base v n (b ∷ bs) one small =
       (λ f. decided (λ (found : Digits). IsScan base v n (b ∷ bs) found) ((b == 95) && begins (fits base) bs) _ _
         (λ u. let both = and_both (b == 95) (begins (fits base) bs) u in scan_underscore base v n b bs _ small f both.0 both.1 (scan base v (n + 1) bs one small))
         (λ u. scan_stop base v n b bs small f u))
-  where
-  and_both : (a b : Bool) → (a && b) ≡ true → (a ≡ true) × (b ≡ true)
-  and_both true b h = (refl, h)
-  and_both false b h = absurd (false≢true h)
 
 -- ---- numbers
 
@@ -278,29 +272,18 @@ hexadecimal_at bs h =
   ends l more after e n (inr (inl m)) = absurd (no_octal (l.front ++ more) m.1)
   ends l more after e n (inr (inr m)) = let k : l.front ++ more ≡ m.0 = cc m.1 in l.longest more after e (subst (AreDigits 16) (sym k) m.2)
 
-zero_test : (b : ℕ) → (b == 48) ≡ true → b ≡ 48
-zero_test b h = grind (arith, nat_tests)
-
-zero_tested : (b : ℕ) → (b == 48) ≡ false → b ≡ 48 → ⊥
-zero_tested b h e = absurd (grind (arith, nat_tests))
-
 pub number_found : (bs : List ℕ) → begins is_digit bs ≡ true → IsNumberAt bs (number_at bs)
 unfolding number_at
 number_found [] h = absurd (false≢true h)
 number_found (b ∷ []) h = decided (IsNumberAt (b ∷ [])) (b == 48) _ _
-    (λ z. let q = zero_test b z in rw q (octal_at [] (λ digits after e d. cc)))
-    (λ z. decimal_at b [] h (zero_tested b z))
+    (λ z. let q = is_eq b 48 z in rw q (octal_at [] (λ digits after e d. cc)))
+    (λ z. decimal_at b [] h (is_ne b 48 z))
 number_found (b ∷ c ∷ bs) h = decided (IsNumberAt (b ∷ c ∷ bs)) (b == 48) _ _
-    (λ z. let q = zero_test b z in rw q (decided (IsNumberAt (48 ∷ c ∷ bs)) ((c == 120) && begins (fits 16) bs) _ _
-      (λ x. let both = and_both (c == 120) (begins (fits 16) bs) x in let k = x_test c both.0 in rw k (hexadecimal_at bs both.1))
+    (λ z. let q = is_eq b 48 z in rw q (decided (IsNumberAt (48 ∷ c ∷ bs)) ((c == 120) && begins (fits 16) bs) _ _
+      (λ x. let both = and_both (c == 120) (begins (fits 16) bs) x in let k = is_eq c 120 both.0 in rw k (hexadecimal_at bs both.1))
       (λ x. octal_at (c ∷ bs) (λ digits after e d. let k : c ≡ 120 = cc in let tail : bs ≡ digits ++ after = cc in false≢true (sym x ∙ both_hold c k (digits_begin 16 digits after bs tail d))))))
-    (λ z. decimal_at b (c ∷ bs) h (zero_tested b z))
+    (λ z. decimal_at b (c ∷ bs) h (is_ne b 48 z))
   where
-  and_both : (a b : Bool) → (a && b) ≡ true → (a ≡ true) × (b ≡ true)
-  and_both true b h = (refl, h)
-  and_both false b h = absurd (false≢true h)
-  x_test : (b : ℕ) → (b == 120) ≡ true → b ≡ 120
-  x_test b h = grind (arith, nat_tests)
   both_hold : (c : ℕ) → c ≡ 120 → begins (fits 16) bs ≡ true → ((c == 120) && begins (fits 16) bs) ≡ true
   both_hold c q k = rw (q, k) refl
 

@@ -18,6 +18,7 @@ use Rattle.bt_lexer.specs.declared.error.LexError.{LexError}
 use Rattle.bt_lexer.specs.declared.token.TokenKind.{TokenKind}
 use Rattle.bt_lexer.specs.declared.token.TokenKind.TheVariants as kinds
 use Rattle.bt_lexer.proofs.Classes.{Class, Blank, Letter, Digit, At, Dollar, Quote, Slash, Other, class_of, blank_class, letter_class, digit_class}
+use Rattle.bt_lexer.proofs.Tests.{and_both}
 
 -- the longest piece at the front, and how many bytes it takes
 pub record IsFound (bs : List ℕ) (kind : Option TokenKind) (len : ℕ) : Type 0 where
@@ -32,24 +33,15 @@ abbrev pub Answers : ℕ → List ℕ → Result Piece LexError → Type 0
 Answers offset bs (Ok piece) = IsFound bs piece.kind piece.len
 Answers offset bs (Err fault) = IsFault offset bs fault
 
--- a choice, by what its test says
-pub decided : {A : Type 0} (P : A → Type 0) (t : Bool) (x y : A) → (t ≡ true → P x) → (t ≡ false → P y) → P (cond t x y)
-decided P true x y f g = f refl
-decided P false x y f g = g refl
-
 -- ---- marks, all at once
 
 abbrev pub all_pass : (List ℕ → Bool) → List (List ℕ) → Bool
 all_pass p [] = true
 all_pass p (m ∷ ms) = p m && all_pass p ms
 
-both_true : (a b : Bool) → (a && b) ≡ true → (a ≡ true) × (b ≡ true)
-both_true true b h = (refl, h)
-both_true false b h = absurd cc
-
 all_passed : (p : List ℕ → Bool) (ms : List (List ℕ)) → all_pass p ms ≡ true → AllByRecursion (λ m. p m ≡ true) ms
 all_passed p [] h = tt
-all_passed p (m ∷ ms) h = let b = both_true (p m) (all_pass p ms) h in (b.0, all_passed p ms b.1)
+all_passed p (m ∷ ms) h = let b = and_both (p m) (all_pass p ms) h in (b.0, all_passed p ms b.1)
 
 -- what a test says of each mark in the list it says of a mark
 pub marks_pass : (p : List ℕ → Bool) → all_pass p marks ≡ true → (w : List ℕ) → IsMark w → p w ≡ true

@@ -14,13 +14,14 @@ use Rattle.bt_lexer.specs.declared.error.LexError.{LexError}
 use Rattle.bt_lexer.specs.declared.token.TokenKind.{TokenKind}
 use Rattle.bt_lexer.specs.declared.token.TokenKind.TheVariants as kinds
 use Rattle.bt_lexer.proofs.Classes.{Class, Blank, Letter, Digit, At, Dollar, Quote, Slash, Other, class_of, blank_class, apart}
-use Rattle.bt_lexer.proofs.Pieces.{IsFound, Answers, decided, form_at, marks_pass}
+use Rattle.bt_lexer.proofs.Pieces.{IsFound, Answers, form_at, marks_pass}
+use Rattle.bt_lexer.proofs.Tests.{decided, is_eq, and_both, tails, heads_apart}
 use Rattle.bt_lexer.proofs.Runs.{IsRun, run, no_more, every_back}
 
 -- ---- blanks
 
 -- a separator that begins with no `/` is one byte
-one_blank : (b : ℕ) (xs : List ℕ) → class_of b ≡ Blank → IsSeparator (b ∷ xs) → xs ≡ []
+pub one_blank : (b : ℕ) (xs : List ℕ) → class_of b ≡ Blank → IsSeparator (b ∷ xs) → xs ≡ []
 one_blank b xs q (inl h) = cc h.1
 one_blank b xs q (inr (inl h)) = absurd (let e : b ≡ 47 = cc h.1 in apart Blank Slash refl (sym q ∙ ap class_of e))
 one_blank b xs q (inr (inr h)) = absurd (let e : b ≡ 47 = cc h.1 in apart Blank Slash refl (sym q ∙ ap class_of e))
@@ -50,16 +51,12 @@ line_longest : (front rest : List ℕ) → begins not_newline rest ≡ false →
 line_longest front rest stop more after kind e h = elim (form_at kind 47 (47 ∷ front ++ more) Slash refl h) [
     | inl (e', inl k) ↦ absurd (nil_apart 47 (front ++ more) (tails 47 k.0 _ _ k.1))
     | inl (e', inr (inl k)) ↦ no_more not_newline more after rest e stop (every_back not_newline front more (subst (Every not_newline) (sym (tails 47 47 _ _ (tails 47 47 _ _ k.1))) k.2))
-    | inl (e', inr (inr k)) ↦ absurd (bytes_apart (cc k.1))
+    | inl (e', inr (inr k)) ↦ absurd (heads_apart _ _ _ _ refl (tails 47 47 _ _ k.1))
     | inr m ↦ absurd (mark_is_no_comment 47 (front ++ more) refl m.1)
   ]
   where
-  tails : (b c : ℕ) (xs ys : List ℕ) → b ∷ xs ≡ c ∷ ys → xs ≡ ys
-  tails b c xs ys e = cc
   nil_apart : (b : ℕ) (xs : List ℕ) → b ∷ xs ≡ [] → ⊥
   nil_apart b xs e = cc
-  bytes_apart : ◌≡◌ {A = ℕ} 47 42 → ⊥
-  bytes_apart e = absurd (omega arith)
 
 pub line_sound : (offset : ℕ) (bs : List ℕ) → Answers offset (47 ∷ 47 ∷ bs) (separator (line_len bs + 2))
 line_sound offset bs =
@@ -89,16 +86,13 @@ closes_here b [] h = absurd (false≢true h)
 closes_here b (c ∷ bs) h = let k = both b c h in (bs, rw (k.0, k.1) refl)
   where
   both : (b c : ℕ) → (b == 42 && c == 47) ≡ true → (b ≡ 42) × (c ≡ 47)
-  both b c h = (grind (arith, nat_tests), grind (arith, nat_tests))
+  both b c h = let k = and_both (b == 42) (c == 47) h in (is_eq b 42 k.0, is_eq c 47 k.1)
 
 never_more : (b : ℕ) (bs after : List ℕ) → closes (b ∷ bs ++ after) ≡ false → NeverCloses bs → NeverCloses (b ∷ bs)
 never_more b bs after h never [] back e = absurd (
     let k : closes (b ∷ bs ++ after) ≡ true = ap (λ (l : List ℕ). closes (l ++ after)) e in
     false≢true (sym h ∙ k))
 never_more b bs after h never (c ∷ front) back e = never front back (tails b c bs _ e)
-  where
-  tails : (b c : ℕ) (xs ys : List ℕ) → b ∷ xs ≡ c ∷ ys → xs ≡ ys
-  tails b c xs ys e = cc
 
 counted : (n : ℕ) (bs : List ℕ) → Counted n bs (comment_len n bs)
 counted n [] = nil_never
@@ -128,24 +122,17 @@ first_close (b ∷ body) [] rest after n m e = absurd (second body n e)
   second [] n e = absurd (let q : ◌≡◌ {A = ℕ} 42 47 = cc in omega arith)
   second (d ∷ body) n e = n [] body (let q : b ≡ 42 = cc in let p : d ≡ 47 = cc in rw (q, p) refl)
 first_close (b ∷ body) (c ∷ other) rest after n m e = first_close body other rest after (λ f k q. n (b ∷ f) k (ap (λ (l : List ℕ). b ∷ l) q)) (λ f k q. m (c ∷ f) k (ap (λ (l : List ℕ). c ∷ l) q)) (tails b c _ _ e)
-  where
-  tails : (b c : ℕ) (xs ys : List ℕ) → b ∷ xs ≡ c ∷ ys → xs ≡ ys
-  tails b c xs ys e = cc
 
 block_longest : (body rest : List ℕ) → NeverCloses body → IsLongest (47 ∷ 42 ∷ body ++ 42 ∷ 47 ∷ []) rest
 block_longest body rest never more after kind e h = elim (form_at kind 47 (42 ∷ (body ++ 42 ∷ 47 ∷ []) ++ more) Slash refl h) [
     | inl (e', inl k) ↦ absurd (nil_apart 42 _ (tails 47 k.0 _ _ k.1))
-    | inl (e', inr (inl k)) ↦ absurd (bytes_apart (cc k.1))
+    | inl (e', inr (inl k)) ↦ absurd (heads_apart _ _ _ _ refl (tails 47 47 _ _ k.1))
     | inl (e', inr (inr k)) ↦ first_close body k.0 more [] never k.2 (sym (append_assoc body (42 ∷ 47 ∷ []) more) ∙ tails 42 42 _ _ (tails 47 47 _ _ k.1))
     | inr m ↦ absurd (mark_is_no_comment 42 _ refl m.1)
   ]
   where
-  tails : (b c : ℕ) (xs ys : List ℕ) → b ∷ xs ≡ c ∷ ys → xs ≡ ys
-  tails b c xs ys e = cc
   nil_apart : (b : ℕ) (xs : List ℕ) → b ∷ xs ≡ [] → ⊥
   nil_apart b xs e = cc
-  bytes_apart : ◌≡◌ {A = ℕ} 42 47 → ⊥
-  bytes_apart e = absurd (omega arith)
 
 pub comment_sound : (offset : ℕ) (bs : List ℕ) → Answers offset (47 ∷ 42 ∷ bs) (comment_piece offset (comment_len 0 bs))
 comment_sound offset bs = by_count (comment_len 0 bs) (counted 0 bs)

@@ -15,18 +15,10 @@ use Rattle.bt_lexer.specs.declared.error.LexError.TheVariants as faults
 use Rattle.bt_lexer.specs.declared.token.TokenKind.{TokenKind}
 use Rattle.bt_lexer.specs.declared.token.TokenKind.TheVariants as kinds
 use Rattle.bt_lexer.proofs.Classes.{Class, Blank, Letter, Digit, At, Dollar, Quote, Slash, Other, class_of}
-use Rattle.bt_lexer.proofs.Pieces.{IsFound, Answers, decided, form_at}
+use Rattle.bt_lexer.proofs.Pieces.{IsFound, Answers, form_at}
+use Rattle.bt_lexer.proofs.Tests.{decided, is_eq, is_ne, ne_test, tails, heads_apart}
 
 -- ---- one byte
-
-is_eq : (m n : ℕ) → (m == n) ≡ true → m ≡ n
-is_eq m n h = grind (arith, nat_tests)
-
-is_ne : (m n : ℕ) → (m == n) ≡ false → m ≢ n
-is_ne m n h = λ e. absurd (grind (arith, nat_tests))
-
-ne_test : (m n : ℕ) → m ≢ n → (m == n) ≡ false
-ne_test m n h = grind (arith, nat_tests)
 
 plain_byte : (c : ℕ) → IsPlain c → string_byte false c ≡ part.Add c
 plain_byte c h = rw (ne_test c 34 h.0, ne_test c 10 h.2, ne_test c 0 h.3, ne_test c 92 h.1) refl
@@ -126,22 +118,16 @@ quote_ends bs first more c e (inl h) =
     h.1.0 (let q : 34 ≡ c = cc e' in sym q)
 quote_ends bs first more c e (inr h) =
     let e' : 34 ∷ bs ≡ 92 ∷ h.0 ∷ more = e ∙ ap (λ (l : List ℕ). l ++ more) h.1 in
-    same_code_point (cc e')
-  where
-  same_code_point : ◌≡◌ {A = ℕ} 34 92 → ⊥
-  same_code_point q = absurd (omega arith)
+    heads_apart 34 92 bs (h.0 ∷ more) refl e'
 
 -- ---- pieces
 
 string_longest : (source text rest : List ℕ) → IsSpelled source text → IsLongest (34 ∷ source ++ 34 ∷ []) rest
 string_longest source text rest s more after kind e h =
     let p = form_at kind 34 ((source ++ 34 ∷ []) ++ more) Quote refl h in
-    let same : source ++ (34 ∷ more) ≡ p.2.0 ++ (34 ∷ []) = sym (append_assoc source (34 ∷ []) more) ∙ tails _ _ p.2.1 in
+    let same : source ++ (34 ∷ more) ≡ p.2.0 ++ (34 ∷ []) = sym (append_assoc source (34 ∷ []) more) ∙ tails 34 34 _ _ p.2.1 in
     let u = spelled_unique text p.0 source p.2.0 (34 ∷ more) (34 ∷ []) s p.2.2 (quote_ends more) (quote_ends []) same in
     cc u.2
-  where
-  tails : (x y : List ℕ) → 34 ∷ x ≡ 34 ∷ y → x ≡ y
-  tails x y e = cc
 
 closed_sound : (offset : ℕ) (source text rest : List ℕ) → IsSpelled source text → Answers offset (34 ∷ source ++ 34 ∷ rest) (closed offset text (length source))
 closed_sound offset source text rest s = decided (Answers offset (34 ∷ source ++ 34 ∷ rest)) (nat_lt 1024 (length text)) _ _

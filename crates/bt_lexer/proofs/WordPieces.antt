@@ -15,7 +15,8 @@ use Rattle.bt_lexer.specs.declared.error.LexError.TheVariants as faults
 use Rattle.bt_lexer.specs.declared.token.TokenKind.{TokenKind}
 use Rattle.bt_lexer.specs.declared.token.TokenKind.TheVariants as kinds
 use Rattle.bt_lexer.proofs.Classes.{Class, Blank, Letter, Digit, At, Dollar, Quote, Slash, Other, class_of, letter_class}
-use Rattle.bt_lexer.proofs.Pieces.{IsFound, Answers, decided, form_at, attach_word, some_byte}
+use Rattle.bt_lexer.proofs.Pieces.{IsFound, Answers, form_at, attach_word, some_byte}
+use Rattle.bt_lexer.proofs.Tests.{decided, is_eq, and_both, or_cases}
 use Rattle.bt_lexer.proofs.Runs.{IsRun, run, run_unique, no_more, every_front, every_back}
 
 letter_word_byte : (b : ℕ) → is_letter b ≡ true → is_word_byte b ≡ true
@@ -53,10 +54,6 @@ attach_test word (inl e) = rw e refl
 attach_test word (inr (inl e)) = rw e refl
 attach_test word (inr (inr (inl e))) = rw e refl
 attach_test word (inr (inr (inr e))) = rw e refl
-
-or_cases : (a b : Bool) → (a || b) ≡ true → (a ≡ true) ⊎ (b ≡ true)
-or_cases true b h = inl refl
-or_cases false b h = inr h
 
 same_bytes : (a b : List ℕ) → bytes_eq a b ≡ true → a ≡ b
 same_bytes a b h = (bytes_eq-Decides a b).0 h
@@ -129,17 +126,11 @@ attach_found front rest w stop test colon =
   where
   colon_kept : (bs run rest : List ℕ) → IsRun is_attach_byte bs run rest → begins is_colon bs ≡ true → begins is_colon run ≡ true
   colon_kept [] run rest r h = absurd cc
-  colon_kept (b ∷ bs) [] rest r h = absurd (let q : b ≡ 58 = colon_is b h in let k : begins is_attach_byte rest ≡ true = ap (begins is_attach_byte) (sym r.parts) ∙ ap is_attach_byte q in let s = r.stop in cc)
-    where
-    colon_is : (b : ℕ) → is_colon b ≡ true → b ≡ 58
-    colon_is b h = grind (arith, nat_tests)
+  colon_kept (b ∷ bs) [] rest r h = absurd (let q : b ≡ 58 = is_eq b 58 h in let k : begins is_attach_byte rest ≡ true = ap (begins is_attach_byte) (sym r.parts) ∙ ap is_attach_byte q in let s = r.stop in cc)
   colon_kept (b ∷ bs) (c ∷ run) rest r h = let q : b ≡ c = cc r.parts in subst (λ (x : ℕ). is_colon x ≡ true) q h
   attach_is : (word run : List ℕ) → IsAttachWord word → begins is_colon run ≡ true → Every is_attach_byte run → IsAttach (word ++ run)
   attach_is word [] a h every = absurd cc
-  attach_is word (b ∷ run) a h every = (word, run, ap (λ (x : ℕ). word ++ x ∷ run) (colon_is b h), a, every.1)
-    where
-    colon_is : (b : ℕ) → is_colon b ≡ true → b ≡ 58
-    colon_is b h = grind (arith, nat_tests)
+  attach_is word (b ∷ run) a h every = (word, run, ap (λ (x : ℕ). word ++ x ∷ run) (is_eq b 58 h), a, every.1)
 
 word_of_found : (offset : ℕ) (front rest : List ℕ) → IsWord front → begins is_word_byte rest ≡ false → Answers offset (front ++ rest) (word_of (front ++ rest) (length front))
 word_of_found offset front rest w stop =
@@ -147,10 +138,6 @@ word_of_found offset front rest w stop =
     (decided (Answers offset (front ++ rest)) (is_attach_word front && begins is_colon rest) _ _
       (λ both. let b = and_both (is_attach_word front) (begins is_colon rest) both in attach_found front rest w stop b.0 b.1)
       (λ alone. record { piece = front; rest = rest; parts = refl; size = refl; is = (refl, w); longest = word_longest front rest w stop alone }))
-  where
-  and_both : (a b : Bool) → (a && b) ≡ true → (a ≡ true) × (b ≡ true)
-  and_both true b h = (refl, h)
-  and_both false b h = absurd cc
 
 pub word_sound : (offset : ℕ) (bs : List ℕ) → begins is_letter bs ≡ true → Answers offset bs (word_piece bs)
 unfolding word_piece

@@ -70,6 +70,12 @@ pub record Stands (kind : Option TokenKind) (bs rest : List ℕ) : Type 0 where
   pub longest : IsLongest bs rest
   pub sound : (offset : ℕ) (fault : LexError) → IsFault offset (bs ++ rest) fault → ⊥
 
+-- The numbers and texts that no fault refuses.
+abbrev pub IsWithinLimits : TokenKind → List ℕ → Type 0
+IsWithinLimits (kinds.Number value) bs = (n : ℕ) → IsNumber bs n → n < 2 ^ 64
+IsWithinLimits (kinds.Text text) bs = length text ≤ 1024
+IsWithinLimits _ bs = Unit {0}
+
 -- A token, with its span and its place, where these bytes stand before it.
 abbrev pub token_behind : List ℕ → TokenKind → List ℕ → Token
 token_behind before kind bs = record {

@@ -3,6 +3,7 @@
 
 mod bytes;
 pub mod error;
+pub mod laws;
 pub mod lexer;
 mod marks;
 mod numbers;

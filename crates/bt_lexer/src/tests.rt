@@ -1,78 +1,75 @@
 // Whether the rules say what is meant: texts with their tokens and faults, worked out by hand.
 use crate::error::LexError;
+use crate::laws::{a_space_ends_a_token, one_answer};
 use crate::lexer::lex;
 use crate::token::{Token, TokenKind};
 use bt_core::items::Items;
 use std::alloc::Global;
+use std::fmt::Write;
 use std::test::Fail;
 
-fn list(alloc: Global, bytes: &[u8]) -> Result<Items<u8>, LexError> {
-    Ok(Items::of(Vec::from_slice(alloc, bytes)?))
+/// The bytes of a kind, behind the first letter of its name.
+fn write_kind(out: &mut String, kind: &TokenKind) -> Result<(), Fail> {
+    let (letter, bytes) = match kind {
+        TokenKind::Word(bytes) => ("W", bytes),
+        TokenKind::Attach(bytes) => ("A", bytes),
+        TokenKind::Map(bytes) => ("M", bytes),
+        TokenKind::Var(bytes) => ("V", bytes),
+        TokenKind::Text(bytes) => ("T", bytes),
+        TokenKind::Mark(bytes) => ("P", bytes),
+        TokenKind::Number(number) => {
+            write!(out, "N{number} ")?;
+            return Ok(());
+        }
+    };
+    let text = std::str::from_utf8(bytes.as_slice()).unwrap_or("?");
+    write!(out, "{letter}{text} ")?;
+    Ok(())
 }
 
-fn word(alloc: Global, bytes: &[u8]) -> Result<TokenKind, LexError> {
-    Ok(TokenKind::Word(list(alloc, bytes)?))
+/// The tokens of a script of at most 4,096 bytes.
+fn lex_short(alloc: Global, script: &[u8]) -> Result<Items<Token>, LexError> {
+    lex(alloc, &script[..script.len().min(4096)])
 }
 
-fn attach(alloc: Global, bytes: &[u8]) -> Result<TokenKind, LexError> {
-    Ok(TokenKind::Attach(list(alloc, bytes)?))
-}
-
-fn map(alloc: Global, bytes: &[u8]) -> Result<TokenKind, LexError> {
-    Ok(TokenKind::Map(list(alloc, bytes)?))
-}
-
-fn var(alloc: Global, bytes: &[u8]) -> Result<TokenKind, LexError> {
-    Ok(TokenKind::Var(list(alloc, bytes)?))
-}
-
-fn text(alloc: Global, bytes: &[u8]) -> Result<TokenKind, LexError> {
-    Ok(TokenKind::Text(list(alloc, bytes)?))
-}
-
-fn mark(alloc: Global, bytes: &[u8]) -> Result<TokenKind, LexError> {
-    Ok(TokenKind::Mark(list(alloc, bytes)?))
-}
-
-/// A token of one line, by its column.
-fn token(kind: TokenKind, start: u32, end: u32, line: u32, column: u32) -> Token {
-    Token {
-        kind,
-        start,
-        end,
-        line,
-        column,
+/// The kinds of a script's tokens.
+fn kinds_of(alloc: Global, script: &[u8]) -> Result<String, Fail> {
+    let tokens = lex_short(alloc, script)?;
+    let mut out = String::new(alloc);
+    for token in tokens.as_slice() {
+        write_kind(&mut out, &token.kind)?;
     }
+    Ok(out)
+}
+
+/// The spans and places of a script's tokens.
+fn places_of(alloc: Global, script: &[u8]) -> Result<String, Fail> {
+    let tokens = lex_short(alloc, script)?;
+    let mut out = String::new(alloc);
+    for token in tokens.as_slice() {
+        write_place(&mut out, token)?;
+    }
+    Ok(out)
+}
+
+fn write_place(out: &mut String, token: &Token) -> Result<(), Fail> {
+    write!(out, "{}-{} {}:{}, ", token.start, token.end, token.line, token.column)?;
+    Ok(())
+}
+
+const SCRIPT: &[u8] = b"#!/usr/bin/btreplay\n// calls\ntracepoint:t:* / pid > 0x10 /\n{ @c[$x] += 1; /* all */ printf(\"a\\n\"); }";
+
+#[test]
+fn a_script_has_its_tokens(rt: HostRuntime) -> Result<(), Fail> {
+    let kinds = kinds_of(rt.alloc(), SCRIPT)?;
+    assert_eq!(rt; kinds.as_str(), "Atracepoint:t:* P/ Wpid P> N16 P/ P{ M@c P[ V$x P] P+= N1 P; Wprintf P( Ta\n P) P; P} ");
+    Ok(())
 }
 
 #[test]
-fn a_script_has_its_tokens_at_their_places(rt: HostRuntime) -> Result<(), Fail> {
-    let alloc = rt.alloc();
-    let script = b"#!/usr/bin/btreplay\n// calls\ntracepoint:t:* / pid > 0x10 /\n{ @c[$x] += 1; /* all */ printf(\"a\\n\"); }";
-    let tokens = lex(alloc, script)?;
-    let want = Items::of(vec![in alloc;
-        token(attach(alloc, b"tracepoint:t:*")?, 29, 43, 3, 1),
-        token(mark(alloc, b"/")?, 44, 45, 3, 16),
-        token(word(alloc, b"pid")?, 46, 49, 3, 18),
-        token(mark(alloc, b">")?, 50, 51, 3, 22),
-        token(TokenKind::Number(16), 52, 56, 3, 24),
-        token(mark(alloc, b"/")?, 57, 58, 3, 29),
-        token(mark(alloc, b"{")?, 59, 60, 4, 1),
-        token(map(alloc, b"@c")?, 61, 63, 4, 3),
-        token(mark(alloc, b"[")?, 63, 64, 4, 5),
-        token(var(alloc, b"$x")?, 64, 66, 4, 6),
-        token(mark(alloc, b"]")?, 66, 67, 4, 8),
-        token(mark(alloc, b"+=")?, 68, 70, 4, 10),
-        token(TokenKind::Number(1), 71, 72, 4, 13),
-        token(mark(alloc, b";")?, 72, 73, 4, 14),
-        token(word(alloc, b"printf")?, 84, 90, 4, 26),
-        token(mark(alloc, b"(")?, 90, 91, 4, 32),
-        token(text(alloc, b"a\n")?, 91, 96, 4, 33),
-        token(mark(alloc, b")")?, 96, 97, 4, 38),
-        token(mark(alloc, b";")?, 97, 98, 4, 39),
-        token(mark(alloc, b"}")?, 99, 100, 4, 41),
-    ]?);
-    assert_eq!(rt; tokens, want);
+fn tokens_stand_at_their_places(rt: HostRuntime) -> Result<(), Fail> {
+    let places = places_of(rt.alloc(), SCRIPT)?;
+    assert_eq!(rt; places.as_str(), "29-43 3:1, 44-45 3:16, 46-49 3:18, 50-51 3:22, 52-56 3:24, 57-58 3:29, 59-60 4:1, 61-63 4:3, 63-64 4:5, 64-66 4:6, 66-67 4:8, 68-70 4:10, 71-72 4:13, 72-73 4:14, 84-90 4:26, 90-91 4:32, 91-96 4:33, 96-97 4:38, 97-98 4:39, 99-100 4:41, ");
     Ok(())
 }
 
@@ -119,69 +116,57 @@ fn each_fault_stands_at_its_byte(rt: HostRuntime) -> Result<(), Fail> {
         (b"\xc3 \"", LexError::BadChar(0)),
     ];
     for (script, want) in rows {
-        assert_eq!(rt; lex(alloc, script), Err(want), "{script:?}");
+        assert_eq!(rt; lex_short(alloc, script), Err(want), "{script:?}");
     }
     Ok(())
 }
 
 #[test]
 fn numbers_are_read_in_their_base(rt: HostRuntime) -> Result<(), Fail> {
-    let alloc = rt.alloc();
-    let rows: [(&[u8], i64); 16] = [
-        (b"0", 0),
-        (b"00", 0),
-        (b"7", 7),
-        (b"1_000_000", 1_000_000),
-        (b"0x1F", 31),
-        (b"0xfF_fF", 65_535),
-        (b"017", 15),
-        (b"0_7", 7),
-        (b"0x7fffffffffffffff", i64::MAX),
-        (b"9223372036854775807", i64::MAX),
-        (b"9223372036854775808", i64::MIN),
-        (b"18446744073709551615", -1),
-        (b"0xFFFFFFFFFFFFFFFF", -1),
-        (b"01777777777777777777777", -1),
-        (b"18446744073709551614", -2),
-        (b"000000000000000000000000000000000001", 1),
+    let rows: [(&[u8], &str); 16] = [
+        (b"0", "N0 "),
+        (b"00", "N0 "),
+        (b"7", "N7 "),
+        (b"1_000_000", "N1000000 "),
+        (b"0x1F", "N31 "),
+        (b"0xfF_fF", "N65535 "),
+        (b"017", "N15 "),
+        (b"0_7", "N7 "),
+        (b"0x7fffffffffffffff", "N9223372036854775807 "),
+        (b"9223372036854775807", "N9223372036854775807 "),
+        (b"9223372036854775808", "N-9223372036854775808 "),
+        (b"18446744073709551615", "N-1 "),
+        (b"0xFFFFFFFFFFFFFFFF", "N-1 "),
+        (b"01777777777777777777777", "N-1 "),
+        (b"18446744073709551614", "N-2 "),
+        (b"000000000000000000000000000000000001", "N1 "),
     ];
     for (script, want) in rows {
-        let tokens = lex(alloc, script)?;
-        let number = tokens.get(0).map(|token| &token.kind);
-        assert_eq!(rt; number, Some(&TokenKind::Number(want)), "{script:?}");
-        assert_eq!(rt; tokens.len(), 1, "{script:?}");
+        assert_eq!(rt; kinds_of(rt.alloc(), script)?.as_str(), want);
     }
     Ok(())
 }
 
-/// The kinds of a script's tokens.
-fn kinds_are(alloc: Global, script: &[u8], want: &[TokenKind]) -> Result<bool, LexError>
-    requires { length script.now < 2 ^ 32 }
-{
-    let tokens = lex(alloc, script)?;
-    let kinds = tokens.as_slice().iter().map(|token| &token.kind);
-    Ok(kinds.eq(want.iter()))
-}
-
 #[test]
 fn the_longest_token_comes(rt: HostRuntime) -> Result<(), Fail> {
-    let alloc = rt.alloc();
-    let rows: [(&[u8], Vec<TokenKind>); 12] = [
-        (b"@1", vec![in alloc; map(alloc, b"@")?, TokenKind::Number(1)]?),
-        (b"@@_a1", vec![in alloc; map(alloc, b"@")?, map(alloc, b"@_a1")?]?),
-        (b"a<<=b", vec![in alloc; word(alloc, b"a")?, mark(alloc, b"<<=")?, word(alloc, b"b")?]?),
-        (b">>>==", vec![in alloc; mark(alloc, b">>")?, mark(alloc, b">=")?, mark(alloc, b"=")?]?),
-        (b"---", vec![in alloc; mark(alloc, b"--")?, mark(alloc, b"-")?]?),
-        (b"&&&|||", vec![in alloc; mark(alloc, b"&&")?, mark(alloc, b"&")?, mark(alloc, b"||")?, mark(alloc, b"|")?]?),
-        (b"t:a-b*:1", vec![in alloc; attach(alloc, b"t:a-b*:1")?]?),
-        (b"i:", vec![in alloc; attach(alloc, b"i:")?]?),
-        (b"ti:x", vec![in alloc; word(alloc, b"ti")?, mark(alloc, b":")?, word(alloc, b"x")?]?),
-        (b"$t:x", vec![in alloc; var(alloc, b"$t")?, mark(alloc, b":")?, word(alloc, b"x")?]?),
-        (b"a/**//b", vec![in alloc; word(alloc, b"a")?, mark(alloc, b"/")?, word(alloc, b"b")?]?),
-        (b"\"\\t\\r\\\\\\\"'//\"", vec![in alloc; text(alloc, b"\t\r\\\"'//")?]?),
+    let rows: [(&[u8], &str); 14] = [
+        (b"@1", "M@ N1 "),
+        (b"@@_a1", "M@ M@_a1 "),
+        (b"a<<=b", "Wa P<<= Wb "),
+        (b">>>==", "P>> P>= P= "),
+        (b"---", "P-- P- "),
+        (b"&&&|||", "P&& P& P|| P| "),
+        (b"->->", "P-> P-> "),
+        (b"t:a-b*:1", "At:a-b*:1 "),
+        (b"i:", "Ai: "),
+        (b"ti:x", "Wti P: Wx "),
+        (b"$t:x", "V$t P: Wx "),
+        (b"a/**//b", "Wa P/ Wb "),
+        (b"\"\\t\\r\\\\\\\"'//\"", "T\t\r\\\"'// "),
+        (b"interval :s", "Winterval P: Ws "),
     ];
-    for (script, want) in &rows {
-        assert!(rt; kinds_are(alloc, script, want)?, "{script:?}");
+    for (script, want) in rows {
+        assert_eq!(rt; kinds_of(rt.alloc(), script)?.as_str(), want);
     }
     Ok(())
 }
@@ -195,13 +180,20 @@ fn a_string_has_at_most_1024_bytes(rt: HostRuntime) -> Result<(), Fail> {
         script.extend_from_slice(b"\\n")?;
     }
     // One that is both open and too long is open.
-    assert_eq!(rt; lex(alloc, &script), Err(LexError::OpenString(0)));
+    assert_eq!(rt; lex_short(alloc, &script), Err(LexError::OpenString(0)));
     script.push(b'"')?;
-    assert_eq!(rt; lex(alloc, &script)?.len(), 1);
+    assert_eq!(rt; lex_short(alloc, &script)?.len(), 1);
     script.insert(1, b'x')?;
-    assert_eq!(rt; lex(alloc, &script), Err(LexError::StringTooLong(0)));
+    assert_eq!(rt; lex_short(alloc, &script), Err(LexError::StringTooLong(0)));
     script.pop();
-    assert_eq!(rt; lex(alloc, &script), Err(LexError::OpenString(0)));
+    assert_eq!(rt; lex_short(alloc, &script), Err(LexError::OpenString(0)));
+    Ok(())
+}
+
+#[test]
+fn the_laws_are_at_hand(_rt: HostRuntime) -> Result<(), Fail> {
+    one_answer();
+    a_space_ends_a_token();
     Ok(())
 }
 
@@ -210,7 +202,7 @@ fn a_text_without_tokens_has_none(rt: HostRuntime) -> Result<(), Fail> {
     let alloc = rt.alloc();
     let rows: [&[u8]; 5] = [b"", b" \t\r\n", b"#!/bin/x", b"// x", b"/***/ /**/"];
     for script in rows {
-        assert!(rt; lex(alloc, script)?.is_empty(), "{script:?}");
+        assert!(rt; lex_short(alloc, script)?.is_empty(), "{script:?}");
     }
     Ok(())
 }

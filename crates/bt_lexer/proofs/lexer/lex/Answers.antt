@@ -1,4 +1,4 @@
-use Rattle.bt_lexer.proofs.Laws.{answered_tokens, answered_fault, only_tokens, only_fault}
+use Rattle.bt_lexer.proofs.Results.{answered_tokens, answered_fault, only_tokens, only_fault}
 use Rattle.bt_lexer.proofs.lexer.lex.Goals as goal
 
 pub returns : goal.returns
