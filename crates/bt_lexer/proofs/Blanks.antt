@@ -25,7 +25,7 @@ use Rattle.bt_lexer.proofs.WordPieces.{word_every}
 use Rattle.bt_lexer.proofs.StringPieces.{spelled_unique, quote_ends}
 use Rattle.bt_lexer.proofs.SeparatorPieces.{mark_is_no_comment, one_blank}
 use Rattle.bt_lexer.proofs.Exact.{longest_unique, kind_unique, at_string, fault_complete}
-use Rattle.bt_lexer.proofs.Tests.{tails, and_both, is_ne, heads_apart}
+use Rattle.bt_lexer.proofs.Choices.{tails, and_both, is_ne, heads_apart}
 
 -- ---- no token but a string has a blank in it
 

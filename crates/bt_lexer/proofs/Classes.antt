@@ -6,7 +6,7 @@ use Rattle.bt_lexer.specs.Bytes.{is_blank, is_letter, is_digit}
 use Rattle.bt_lexer.specs.declared.piece.Piece.{Piece}
 use Rattle.bt_lexer.specs.declared.error.LexError.{LexError}
 use Rattle.bt_lexer.specs.Scan.{piece_at, separator, word_piece, number_piece, map_piece, var_piece, string_piece, slash_piece, mark_piece}
-use Rattle.bt_lexer.proofs.Tests.{is_eq, decided}
+use Rattle.bt_lexer.proofs.Choices.{is_eq, decided}
 
 pub data Class : Type 0 where
   Blank : Class

@@ -19,7 +19,7 @@ use Rattle.bt_lexer.specs.declared.token.TokenKind.TheVariants as kinds
 use Rattle.bt_lexer.proofs.Classes.{Class, Blank, Letter, Digit, At, Dollar, Quote, Slash, Other, class_of, blank_class, digit_class, apart, piece_by_class}
 use Rattle.bt_lexer.proofs.Pieces.{IsFound, Answers, Form, form_at, some_byte, attach_word, number_head}
 use Rattle.bt_lexer.proofs.Runs.{every_back}
-use Rattle.bt_lexer.proofs.Tests.{tails}
+use Rattle.bt_lexer.proofs.Choices.{tails}
 use Rattle.bt_lexer.proofs.WordPieces.{word_every}
 use Rattle.bt_lexer.proofs.NumberPieces.{no_octal, number_found}
 use Rattle.bt_lexer.proofs.StringPieces.{passes, spelled_unique, quote_ends, escape_none}

@@ -16,7 +16,7 @@ use Rattle.bt_lexer.specs.declared.token.TokenKind.{TokenKind}
 use Rattle.bt_lexer.specs.declared.token.TokenKind.TheVariants as kinds
 use Rattle.bt_lexer.proofs.Classes.{Class, Blank, Letter, Digit, At, Dollar, Quote, Slash, Other, class_of, apart}
 use Rattle.bt_lexer.proofs.Pieces.{IsFound, Answers, form_at, marks_pass, some_byte}
-use Rattle.bt_lexer.proofs.Tests.{decided, is_eq, is_ne, and_both, or_cases, tails}
+use Rattle.bt_lexer.proofs.Choices.{decided, is_eq, is_ne, and_both, or_cases, tails}
 use Rattle.bt_lexer.proofs.SeparatorPieces.{mark_is_no_comment, line_sound, comment_sound}
 
 -- what holds of each byte of a list holds of a byte in it

@@ -19,7 +19,7 @@ use Rattle.bt_lexer.specs.declared.token.TokenKind.{TokenKind}
 use Rattle.bt_lexer.specs.declared.token.TokenKind.TheVariants as kinds
 use Rattle.bt_lexer.proofs.Classes.{Class, Blank, Letter, Digit, At, Dollar, Quote, Slash, Other, class_of, digit_class}
 use Rattle.bt_lexer.proofs.Pieces.{IsFound, Answers, form_at, digits_head}
-use Rattle.bt_lexer.proofs.Tests.{decided, is_eq, is_ne, and_both}
+use Rattle.bt_lexer.proofs.Choices.{decided, is_eq, is_ne, and_both}
 
 -- what may follow a digit
 abbrev pub More : ℕ → List ℕ → Type 0

@@ -18,7 +18,7 @@ use Rattle.bt_lexer.specs.declared.error.LexError.{LexError}
 use Rattle.bt_lexer.specs.declared.token.TokenKind.{TokenKind}
 use Rattle.bt_lexer.specs.declared.token.TokenKind.TheVariants as kinds
 use Rattle.bt_lexer.proofs.Classes.{Class, Blank, Letter, Digit, At, Dollar, Quote, Slash, Other, class_of, blank_class, letter_class, digit_class}
-use Rattle.bt_lexer.proofs.Tests.{and_both}
+use Rattle.bt_lexer.proofs.Choices.{and_both}
 
 -- the longest piece at the front, and how many bytes it takes
 pub record IsFound (bs : List ℕ) (kind : Option TokenKind) (len : ℕ) : Type 0 where

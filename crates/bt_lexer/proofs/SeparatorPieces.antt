@@ -15,7 +15,7 @@ use Rattle.bt_lexer.specs.declared.token.TokenKind.{TokenKind}
 use Rattle.bt_lexer.specs.declared.token.TokenKind.TheVariants as kinds
 use Rattle.bt_lexer.proofs.Classes.{Class, Blank, Letter, Digit, At, Dollar, Quote, Slash, Other, class_of, blank_class, apart}
 use Rattle.bt_lexer.proofs.Pieces.{IsFound, Answers, form_at, marks_pass}
-use Rattle.bt_lexer.proofs.Tests.{decided, is_eq, and_both, tails, heads_apart}
+use Rattle.bt_lexer.proofs.Choices.{decided, is_eq, and_both, tails, heads_apart}
 use Rattle.bt_lexer.proofs.Runs.{IsRun, run, no_more, every_back}
 
 -- ---- blanks

@@ -16,7 +16,7 @@ use Rattle.bt_lexer.specs.declared.token.TokenKind.{TokenKind}
 use Rattle.bt_lexer.specs.declared.token.TokenKind.TheVariants as kinds
 use Rattle.bt_lexer.proofs.Classes.{Class, Blank, Letter, Digit, At, Dollar, Quote, Slash, Other, class_of}
 use Rattle.bt_lexer.proofs.Pieces.{IsFound, Answers, form_at}
-use Rattle.bt_lexer.proofs.Tests.{decided, is_eq, is_ne, ne_test, tails, heads_apart}
+use Rattle.bt_lexer.proofs.Choices.{decided, is_eq, is_ne, ne_test, tails, heads_apart}
 
 -- ---- one byte
 

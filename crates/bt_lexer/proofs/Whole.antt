@@ -15,7 +15,7 @@ use Rattle.bt_lexer.specs.declared.token.Token.{Token}
 use Rattle.bt_lexer.specs.declared.token.TokenKind.{TokenKind}
 use Rattle.bt_lexer.specs.declared.error.LexError.{LexError}
 use Rattle.bt_lexer.proofs.Pieces.{some_byte}
-use Rattle.bt_lexer.proofs.Tests.{decided}
+use Rattle.bt_lexer.proofs.Choices.{decided}
 use Rattle.bt_lexer.proofs.Runs.{run, run_front}
 use Rattle.bt_lexer.proofs.Turns.{turn, refused}
 use Rattle.bt_lexer.proofs.Exact.{complete, fault_complete, IsFront, front_found, fault_found, some_fault_byte}

@@ -16,7 +16,7 @@ use Rattle.bt_lexer.specs.declared.token.TokenKind.{TokenKind}
 use Rattle.bt_lexer.specs.declared.token.TokenKind.TheVariants as kinds
 use Rattle.bt_lexer.proofs.Classes.{Class, Blank, Letter, Digit, At, Dollar, Quote, Slash, Other, class_of, letter_class}
 use Rattle.bt_lexer.proofs.Pieces.{IsFound, Answers, form_at, attach_word, some_byte}
-use Rattle.bt_lexer.proofs.Tests.{decided, is_eq, and_both, or_cases}
+use Rattle.bt_lexer.proofs.Choices.{decided, is_eq, and_both, or_cases}
 use Rattle.bt_lexer.proofs.Runs.{IsRun, run, run_unique, no_more, every_front, every_back}
 
 letter_word_byte : (b : ℕ) → is_letter b ≡ true → is_word_byte b ≡ true

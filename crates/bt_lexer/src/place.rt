@@ -4,6 +4,9 @@ ghost use Rattle.bt_lexer.specs.Scan.{after, after_byte, start, token_at, IsPlac
 
 use crate::token::{Token, TokenKind};
 
+/// The number of the first line and of the first column.
+const FIRST: usize = 1;
+
 /// A place: how many bytes stand before it, and its line and column, both from 1.
 #[derive(Clone, Copy)]
 pub struct Place {
@@ -22,8 +25,8 @@ impl Place {
     {
         Place {
             offset: 0,
-            line: 1,
-            column: 1,
+            line: FIRST,
+            column: FIRST,
         }
     }
 
@@ -40,7 +43,7 @@ impl Place {
             Place {
                 offset,
                 line: self.line + 1,
-                column: 1,
+                column: FIRST,
             }
         } else {
             Place {
