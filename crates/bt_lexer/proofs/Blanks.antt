@@ -1,14 +1,13 @@
 -- A blank behind a token ends it.
-use Rattle.std.proofs.Common.{◌≡◌, ◌≢◌, ℕ, ◌+◌, ◌^◌, ◌<◌, ◌≤◌, Bool, true, false, not, ◌||◌, ◌&&◌, List, [], ◌∷◌, ◌++◌, length, Option, Some, None, Result, Ok, Err, refl, ap, sym, subst, ◌∙◌, inl, inr, arith, append_assoc}
+use Rattle.std.proofs.Common.{◌≡◌, ℕ, ◌+◌, ◌^◌, ◌<◌, ◌≤◌, Bool, true, false, not, ◌||◌, ◌&&◌, List, [], ◌∷◌, ◌++◌, length, Option, Some, None, Result, Ok, Err, refl, ap, sym, subst, ◌∙◌, inl, inr, arith, append_assoc}
 use Rattle.std.specs.Prelude.{◌⊎◌, ◌==◌}
 use Rattle.std.specs.Char.{digit_value}
 use Rattle.std.proofs.lemmas.Bool.{false≢true, le-ltb}
-use Rattle.std.proofs.lemmas.Bool.Decides.{nat_tests}
 use Rattle.std.proofs.lemmas.List.{append_cancel_left}
-use Rattle.bt_lexer.specs.Bytes.{is_letter, is_word_byte, is_attach_byte, Every, begins}
+use Rattle.bt_lexer.specs.Bytes.{is_word_byte, is_attach_byte, Every, begins}
 use Rattle.bt_lexer.specs.Words.{IsWord, IsAttach}
 use Rattle.bt_lexer.specs.Numbers.{AreDigits, IsNumber, signed}
-use Rattle.bt_lexer.specs.Strings.{IsString, IsSpelled}
+use Rattle.bt_lexer.specs.Strings.{IsString}
 use Rattle.bt_lexer.specs.Separators.{IsSeparator}
 use Rattle.bt_lexer.specs.Marks.{IsMark}
 use Rattle.bt_lexer.specs.Tokens.{IsPiece, IsToken, IsLongest, IsFault, Stands, IsWithinLimits, BeginsWithNumber, NothingBegins}
@@ -18,7 +17,7 @@ use Rattle.bt_lexer.specs.declared.error.LexError.{LexError}
 use Rattle.bt_lexer.specs.declared.error.LexError.TheVariants as faults
 use Rattle.bt_lexer.specs.declared.token.TokenKind.{TokenKind}
 use Rattle.bt_lexer.specs.declared.token.TokenKind.TheVariants as kinds
-use Rattle.bt_lexer.proofs.Classes.{Class, Blank, Letter, Digit, At, Dollar, Quote, Slash, Other, class_of}
+use Rattle.bt_lexer.proofs.Classes.{Blank, Quote, Slash, class_of}
 use Rattle.bt_lexer.proofs.Pieces.{some_byte, form_at, marks_pass, attach_word}
 use Rattle.bt_lexer.proofs.Runs.{every_back}
 use Rattle.bt_lexer.proofs.WordPieces.{word_every}
@@ -43,8 +42,8 @@ attach_every : (bs : List ℕ) → Every is_word_byte bs → Every is_attach_byt
 attach_every [] h = tt
 attach_every (b ∷ bs) h = (wider b h.0, attach_every bs h.1)
   where
-  wider : (b : ℕ) → is_word_byte b ≡ true → is_attach_byte b ≡ true
-  wider b h = rw h refl
+    wider : (b : ℕ) → is_word_byte b ≡ true → is_attach_byte b ≡ true
+    wider b h = rw h refl
 
 every_append : (p : ℕ → Bool) (xs ys : List ℕ) → Every p xs → Every p ys → Every p (xs ++ ys)
 every_append p [] ys h k = k
@@ -59,17 +58,17 @@ digits_have_none : (base : ℕ) (bs front back : List ℕ) → base ≤ 36 → A
 digits_have_none base [] front back small h e = absurd h
 digits_have_none base (d ∷ []) [] back small h e = absurd (let q : digit_value d ≡ 36 = ap digit_value (head d 32 [] back e) in omega arith)
   where
-  head : (b c : ℕ) (xs ys : List ℕ) → b ∷ xs ≡ c ∷ ys → b ≡ c
-  head b c xs ys e = cc
+    head : (b c : ℕ) (xs ys : List ℕ) → b ∷ xs ≡ c ∷ ys → b ≡ c
+    head b c xs ys e = cc
 digits_have_none base (d ∷ []) (c ∷ front) back small h e = absurd (nil_apart front back (tails d c [] _ e))
   where
-  nil_apart : (front back : List ℕ) → [] ≡ front ++ 32 ∷ back → ⊥
-  nil_apart [] back e = cc
-  nil_apart (x ∷ front) back e = cc
+    nil_apart : (front back : List ℕ) → [] ≡ front ++ 32 ∷ back → ⊥
+    nil_apart [] back e = cc
+    nil_apart (x ∷ front) back e = cc
 digits_have_none base (d ∷ b ∷ bs) [] back small h e = absurd (let q : digit_value d ≡ 36 = ap digit_value (head d 32 (b ∷ bs) back e) in let k = h.0 in omega arith)
   where
-  head : (b c : ℕ) (xs ys : List ℕ) → b ∷ xs ≡ c ∷ ys → b ≡ c
-  head b c xs ys e = cc
+    head : (b c : ℕ) (xs ys : List ℕ) → b ∷ xs ≡ c ∷ ys → b ≡ c
+    head b c xs ys e = cc
 digits_have_none base (d ∷ b ∷ bs) (c ∷ front) back small (f, inl h) e = digits_have_none base (b ∷ bs) front back small h (tails d c (b ∷ bs) _ e)
 digits_have_none base (d ∷ b ∷ bs) (c ∷ []) back small (f, inr h) e = absurd (let q : b ≡ 32 = cc in let k = h.0 in omega arith)
 digits_have_none base (d ∷ b ∷ bs) (c ∷ x ∷ front) back small (f, inr h) e = digits_have_none base bs front back small h.1 (tails b x bs _ (tails d c (b ∷ bs) _ e))
@@ -81,10 +80,10 @@ number_has_none (d ∷ bs) n (inl h) b = digits_have_none 10 (d ∷ bs) b.0 b.1 
 number_has_none (d ∷ bs) n (inr (inl h)) b = digits_have_none 8 (d ∷ bs) b.0 b.1 (omega arith) h.1 b.2
 number_has_none bs n (inr (inr h)) b = in_digits h.0 b.0 b.1 h.2 (sym h.1 ∙ b.2)
   where
-  in_digits : (digits front back : List ℕ) → AreDigits 16 digits → 48 ∷ 120 ∷ digits ≡ front ++ 32 ∷ back → ⊥
-  in_digits digits [] back d e = absurd (let q : ◌≡◌ {A = ℕ} 48 32 = cc in omega arith)
-  in_digits digits (x ∷ []) back d e = absurd (let q : ◌≡◌ {A = ℕ} 120 32 = cc in omega arith)
-  in_digits digits (x ∷ y ∷ front) back d e = digits_have_none 16 digits front back (omega arith) d (tails 120 y digits _ (tails 48 x (120 ∷ digits) _ e))
+    in_digits : (digits front back : List ℕ) → AreDigits 16 digits → 48 ∷ 120 ∷ digits ≡ front ++ 32 ∷ back → ⊥
+    in_digits digits [] back d e = absurd (let q : ◌≡◌ {A = ℕ} 48 32 = cc in omega arith)
+    in_digits digits (x ∷ []) back d e = absurd (let q : ◌≡◌ {A = ℕ} 120 32 = cc in omega arith)
+    in_digits digits (x ∷ y ∷ front) back d e = digits_have_none 16 digits front back (omega arith) d (tails 120 y digits _ (tails 48 x (120 ∷ digits) _ e))
 
 abbrev not_blank : ℕ → Bool
 not_blank b = not (b == 32)
@@ -129,11 +128,12 @@ no_comment_token kind c d bs q h t =
     let t' : IsToken kind (47 ∷ d ∷ bs) = subst (λ (x : ℕ). IsToken kind (x ∷ d ∷ bs)) q t in
     by_form (form_at (Some kind) 47 (d ∷ bs) Slash refl t')
   where
-  some_kind : Some kind ≡ None → ⊥
-  some_kind e = cc
-  by_form : ((Some kind ≡ None) × IsSeparator (47 ∷ d ∷ bs)) ⊎ ((Some kind ≡ Some (kinds.Mark (47 ∷ d ∷ bs))) × IsMark (47 ∷ d ∷ bs)) → ⊥
-  by_form (inl f) = some_kind f.0
-  by_form (inr f) = mark_is_no_comment d bs h f.1
+    some_kind : Some kind ≡ None → ⊥
+    some_kind e = cc
+
+    by_form : ((Some kind ≡ None) × IsSeparator (47 ∷ d ∷ bs)) ⊎ ((Some kind ≡ Some (kinds.Mark (47 ∷ d ∷ bs))) × IsMark (47 ∷ d ∷ bs)) → ⊥
+    by_form (inl f) = some_kind f.0
+    by_form (inr f) = mark_is_no_comment d bs h f.1
 
 -- a token that goes on behind a blank is no comment
 no_comment_behind : (kind : TokenKind) (bs more body : List ℕ) (d : ℕ) → (d == 47 || d == 42) ≡ true → (32 == d) ≡ false → IsToken kind bs → bs ++ 32 ∷ more ≡ 47 ∷ d ∷ body → ⊥
@@ -143,16 +143,16 @@ no_comment_behind kind (c ∷ b ∷ bs) more body d h k t e =
     let q : b ≡ d = head b d _ _ (tails c 47 _ _ e) in
     no_comment_token kind c b bs (head c 47 _ _ e) (ap (λ (x : ℕ). x == 47 || x == 42) q ∙ h) t
   where
-  head : (b c : ℕ) (xs ys : List ℕ) → b ∷ xs ≡ c ∷ ys → b ≡ c
-  head b c xs ys e = cc
+    head : (b c : ℕ) (xs ys : List ℕ) → b ∷ xs ≡ c ∷ ys → b ≡ c
+    head b c xs ys e = cc
 
 separator_behind : (kind : TokenKind) (bs more : List ℕ) → IsToken kind bs → IsSeparator (bs ++ 32 ∷ more) → ⊥
 separator_behind kind bs more t (inl h) = two_bytes bs h.0 t h.1
   where
-  two_bytes : (bs : List ℕ) (b : ℕ) → IsToken kind bs → bs ++ 32 ∷ more ≡ b ∷ [] → ⊥
-  two_bytes [] b t e = some_byte (Some kind) t
-  two_bytes (c ∷ []) b t e = cc
-  two_bytes (c ∷ d ∷ bs) b t e = cc
+    two_bytes : (bs : List ℕ) (b : ℕ) → IsToken kind bs → bs ++ 32 ∷ more ≡ b ∷ [] → ⊥
+    two_bytes [] b t e = some_byte (Some kind) t
+    two_bytes (c ∷ []) b t e = cc
+    two_bytes (c ∷ d ∷ bs) b t e = cc
 separator_behind kind bs more t (inr (inl h)) = no_comment_behind kind bs more h.0 47 refl refl t h.1
 separator_behind kind bs more t (inr (inr h)) = no_comment_behind kind bs more (h.0 ++ 42 ∷ 47 ∷ []) 42 refl refl t h.1
 
@@ -161,8 +161,8 @@ string_of : (kind : TokenKind) (bs rest body : List ℕ) → IsToken kind bs →
 string_of kind [] rest body t e = absurd (some_byte (Some kind) t)
 string_of kind (c ∷ bs) rest body t e = form_at (Some kind) c bs Quote (ap class_of (head c 34 _ _ e)) t
   where
-  head : (b c : ℕ) (xs ys : List ℕ) → b ∷ xs ≡ c ∷ ys → b ≡ c
-  head b c xs ys e = cc
+    head : (b c : ℕ) (xs ys : List ℕ) → b ∷ xs ≡ c ∷ ys → b ≡ c
+    head b c xs ys e = cc
 
 string_behind : (kind : TokenKind) (bs more text : List ℕ) → IsToken kind bs → IsString (bs ++ 32 ∷ more) text → ⊥
 string_behind kind bs more text t h =
@@ -171,8 +171,8 @@ string_behind kind bs more text t h =
     let u = spelled_unique s.0 text s.2.0 h.0 (34 ∷ 32 ∷ more) (34 ∷ []) s.2.2 h.2 (quote_ends (32 ∷ more)) (quote_ends []) same in
     longer (tails 34 34 _ _ u.2)
   where
-  longer : 32 ∷ more ≡ [] → ⊥
-  longer e = cc
+    longer : 32 ∷ more ≡ [] → ⊥
+    longer e = cc
 
 blank_longest : (kind : TokenKind) (bs rest : List ℕ) → IsToken kind bs → IsLongest bs (32 ∷ rest)
 blank_longest kind bs rest t [] after other e h = refl
@@ -180,9 +180,9 @@ blank_longest kind bs rest t (m ∷ more) after other e h =
     let q : m ≡ 32 = cc e in
     absurd (by_kind other (subst (λ (x : ℕ). IsPiece other (bs ++ x ∷ more)) q h))
   where
-  by_kind : (other : Option TokenKind) → IsPiece other (bs ++ 32 ∷ more) → ⊥
-  by_kind None h = separator_behind kind bs more t h
-  by_kind (Some k) h = let s = blank_in_string k (bs ++ 32 ∷ more) h (bs, more, refl) in string_behind kind bs more s.0 t s.1
+    by_kind : (other : Option TokenKind) → IsPiece other (bs ++ 32 ∷ more) → ⊥
+    by_kind None h = separator_behind kind bs more t h
+    by_kind (Some k) h = let s = blank_in_string k (bs ++ 32 ∷ more) h (bs, more, refl) in string_behind kind bs more s.0 t s.1
 
 -- ---- no fault begins at a token before a blank
 
@@ -209,9 +209,9 @@ number_same kind bs rest number behind n t b = longest_unique bs number (32 ∷ 
 blank_fault : (kind : TokenKind) (bs rest : List ℕ) → IsToken kind bs → IsWithinLimits kind bs → (offset : ℕ) (fault : LexError) → IsFault offset (bs ++ 32 ∷ rest) fault → ⊥
 blank_fault kind bs rest t limits offset (faults.BadChar at) (inl f) = nothing bs t f.0
   where
-  nothing : (bs : List ℕ) → IsToken kind bs → NothingBegins (bs ++ 32 ∷ rest) → ⊥
-  nothing [] t n = some_byte (Some kind) t
-  nothing (b ∷ xs) t n = n.1 (b ∷ xs) (32 ∷ rest) (Some kind) refl t
+    nothing : (bs : List ℕ) → IsToken kind bs → NothingBegins (bs ++ 32 ∷ rest) → ⊥
+    nothing [] t n = some_byte (Some kind) t
+    nothing (b ∷ xs) t n = n.1 (b ∷ xs) (32 ∷ rest) (Some kind) refl t
 blank_fault kind bs rest t limits offset (faults.BadChar at) (inr (inl f)) =
     let same = number_same kind bs rest f.0 f.1 f.2 t f.3 in
     let behind : 32 ∷ rest ≡ f.1 = append_cancel_left f.0 (32 ∷ rest) f.1 (ap (λ (l : List ℕ). l ++ 32 ∷ rest) (sym same) ∙ f.3.0) in

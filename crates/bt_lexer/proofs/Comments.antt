@@ -1,5 +1,5 @@
 -- Comments, byte by byte.
-use Rattle.std.proofs.Common.{◌≡◌, ◌+◌, ◌<◌, ℕ, suc, false, List, ◌∷◌, drop, length, get_or, refl, sym, ◌∙◌, ap, subst, add-one}
+use Rattle.std.proofs.Common.{◌≡◌, ◌+◌, ◌<◌, ℕ, suc, false, List, ◌∷◌, drop, length, get_or, refl, sym, subst, add-one}
 use Rattle.std.proofs.Math.Seq.{drop-cons}
 use Rattle.bt_lexer.specs.Scan.{closes, comment_len}
 

@@ -1,23 +1,23 @@
 -- One piece or one fault stands at a place, and it is found.
-use Rattle.std.proofs.Common.{◌≡◌, ◌≢◌, ℕ, zero, suc, ◌+◌, ◌^◌, ◌<◌, ◌≤◌, Bool, true, false, cond, List, [], ◌∷◌, ◌++◌, length, take, drop, Option, Some, None, Result, Ok, Err, refl, ap, sym, subst, ◌∙◌, inl, inr, arith, append_assoc, zero-add, lit<, nat_lt}
+use Rattle.std.proofs.Common.{◌≡◌, ℕ, ◌+◌, ◌^◌, ◌<◌, true, false, List, [], ◌∷◌, ◌++◌, length, drop, Option, Some, Result, Ok, Err, refl, ap, sym, subst, ◌∙◌, inl, inr, arith, zero-add, lit<}
 use Rattle.std.specs.Prelude.{◌⊎◌}
 use Rattle.std.proofs.lemmas.Bool.{false≢true, lt-ltb, le-ltb}
 use Rattle.std.proofs.lemmas.List.{drop_at, append-nil, append_cancel_left}
 use Rattle.bt_lexer.specs.Bytes.{is_blank, is_digit, is_word_byte, Every, begins}
 use Rattle.bt_lexer.specs.Words.{IsWord, IsAttach}
 use Rattle.bt_lexer.specs.Numbers.{AreDigits, IsNumber, value_of, signed}
-use Rattle.bt_lexer.specs.Strings.{IsString, IsSpelled, NoEscape, EndsLine}
+use Rattle.bt_lexer.specs.Strings.{IsString, NoEscape, EndsLine}
 use Rattle.bt_lexer.specs.Separators.{IsSeparator, NeverCloses}
 use Rattle.bt_lexer.specs.Marks.{IsMark}
-use Rattle.bt_lexer.specs.Tokens.{IsPiece, IsToken, IsLongest, IsFault, Stands, NothingBegins, BeginsWithNumber, BeginsWithString}
-use Rattle.bt_lexer.specs.Scan.{piece_at, number_at, number_piece, number_before, limited, string_from, escape_of, slash_piece}
+use Rattle.bt_lexer.specs.Tokens.{IsPiece, IsLongest, IsFault, Stands, NothingBegins, BeginsWithNumber, BeginsWithString}
+use Rattle.bt_lexer.specs.Scan.{piece_at, number_at, number_piece, number_before, limited, string_from, slash_piece}
 use Rattle.bt_lexer.specs.declared.piece.Piece.{Piece}
 use Rattle.bt_lexer.specs.declared.error.LexError.{LexError}
 use Rattle.bt_lexer.specs.declared.error.LexError.TheVariants as faults
 use Rattle.bt_lexer.specs.declared.token.TokenKind.{TokenKind}
 use Rattle.bt_lexer.specs.declared.token.TokenKind.TheVariants as kinds
 use Rattle.bt_lexer.proofs.Classes.{Class, Blank, Letter, Digit, At, Dollar, Quote, Slash, Other, class_of, blank_class, digit_class, apart, piece_by_class}
-use Rattle.bt_lexer.proofs.Pieces.{IsFound, Answers, Form, form_at, some_byte, attach_word, number_head}
+use Rattle.bt_lexer.proofs.Pieces.{IsFound, Answers, Form, form_at, some_byte, number_head}
 use Rattle.bt_lexer.proofs.Runs.{every_back}
 use Rattle.bt_lexer.proofs.Choices.{tails}
 use Rattle.bt_lexer.proofs.WordPieces.{word_every}
@@ -88,9 +88,9 @@ overlap (b ∷ p) (c ∷ q) r s e =
 
 pub longest_unique : (p q r s : List ℕ) (k l : Option TokenKind) → p ++ r ≡ q ++ s → IsPiece k p → IsPiece l q → IsLongest p r → IsLongest q s → p ≡ q
 longest_unique p q r s k l e hp hq lp lq = elim (overlap p q r s e) [
-    | inl o ↦ (let nil = lp o.0 s l o.2 (subst (IsPiece l) o.1 hq) in sym (o.1 ∙ ap (λ (m : List ℕ). p ++ m) nil ∙ append-nil p))
-    | inr o ↦ (let nil = lq o.0 r k o.2 (subst (IsPiece k) o.1 hp) in o.1 ∙ ap (λ (m : List ℕ). q ++ m) nil ∙ append-nil q)
-  ]
+  | inl o ↦ (let nil = lp o.0 s l o.2 (subst (IsPiece l) o.1 hq) in sym (o.1 ∙ ap (λ (m : List ℕ). p ++ m) nil ∙ append-nil p))
+  | inr o ↦ (let nil = lq o.0 r k o.2 (subst (IsPiece k) o.1 hp) in o.1 ∙ ap (λ (m : List ℕ). q ++ m) nil ∙ append-nil q)
+]
 
 -- ---- a piece that stands at a place is found
 
@@ -177,17 +177,17 @@ pub some_fault_byte : (offset : ℕ) (fault : LexError) → IsFault offset [] fa
 some_fault_byte offset (faults.BadChar at) (inl h) = h.0
 some_fault_byte offset (faults.BadChar at) (inr (inl h)) = no_number h.0 h.1 h.2 h.3
   where
-  no_number : (number rest : List ℕ) (n : ℕ) → BeginsWithNumber [] number n rest → ⊥
-  no_number [] rest n b = elim b.1 [ inl k ↦ k | inr (inl k) ↦ k | inr (inr k) ↦ cc k.1 ]
-  no_number (d ∷ number) rest n b = cc b.0
+    no_number : (number rest : List ℕ) (n : ℕ) → BeginsWithNumber [] number n rest → ⊥
+    no_number [] rest n b = elim b.1 [ inl k ↦ k | inr (inl k) ↦ k | inr (inr k) ↦ cc k.1 ]
+    no_number (d ∷ number) rest n b = cc b.0
 some_fault_byte offset (faults.BadChar at) (inr (inr h)) = cc h.3.0
 some_fault_byte offset (faults.OpenString at) h = cc h.3.0
 some_fault_byte offset (faults.OpenComment at) h = cc h.1
 some_fault_byte offset (faults.NumberTooLarge at) h = no_number h.0 h.1 h.2 h.3
   where
-  no_number : (number rest : List ℕ) (n : ℕ) → BeginsWithNumber [] number n rest → ⊥
-  no_number [] rest n b = elim b.1 [ inl k ↦ k | inr (inl k) ↦ k | inr (inr k) ↦ cc k.1 ]
-  no_number (d ∷ number) rest n b = cc b.0
+    no_number : (number rest : List ℕ) (n : ℕ) → BeginsWithNumber [] number n rest → ⊥
+    no_number [] rest n b = elim b.1 [ inl k ↦ k | inr (inl k) ↦ k | inr (inr k) ↦ cc k.1 ]
+    no_number (d ∷ number) rest n b = cc b.0
 some_fault_byte offset (faults.BadEscape at) h = cc h.3.0
 some_fault_byte offset (faults.StringTooLong at) h = cc h.3.0
 some_fault_byte offset faults.Memory h = h
@@ -220,8 +220,8 @@ found_stands offset bs piece e f = record {
       ok_or_err piece m.0 (sym e ∙ q);
 }
   where
-  ok_or_err : (p : Piece) (x : LexError) → ◌≡◌ {A = Result Piece LexError} (Ok p) (Err x) → ⊥
-  ok_or_err p x e = cc
+    ok_or_err : (p : Piece) (x : LexError) → ◌≡◌ {A = Result Piece LexError} (Ok p) (Err x) → ⊥
+    ok_or_err p x e = cc
 
 -- what stands at the front of a text
 pub record IsFront (bs : List ℕ) (piece : Piece) : Type 0 where
@@ -237,9 +237,9 @@ front_found offset b bs piece e =
     let f = subst (Answers offset (b ∷ bs)) e (sound offset b bs) in
     record { word = f.piece; rest = f.rest; parts = f.parts; size = f.size; some = long f.piece f.is f.size; stands = found_stands offset (b ∷ bs) piece e f }
   where
-  long : (word : List ℕ) → IsPiece piece.kind word → piece.len ≡ length word → 0 < piece.len
-  long [] p q = absurd (some_byte piece.kind p)
-  long (c ∷ word) p q = omega arith
+    long : (word : List ℕ) → IsPiece piece.kind word → piece.len ≡ length word → 0 < piece.len
+    long [] p q = absurd (some_byte piece.kind p)
+    long (c ∷ word) p q = omega arith
 
 pub fault_found : (offset b : ℕ) (bs : List ℕ) (fault : LexError) → piece_at offset (b ∷ bs) ≡ Err fault → IsFault offset (b ∷ bs) fault
 fault_found offset b bs fault e = subst (Answers offset (b ∷ bs)) e (sound offset b bs)

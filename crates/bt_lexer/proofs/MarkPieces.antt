@@ -1,31 +1,27 @@
 -- Marks: what is found is the longest.
-use Rattle.std.proofs.Common.{◌≡◌, ◌≢◌, ℕ, zero, suc, ◌+◌, ◌<◌, ◌≤◌, Bool, true, false, cond, not, ◌||◌, ◌&&◌, List, [], ◌∷◌, ◌++◌, length, take, Option, Some, None, Result, Ok, Err, refl, ap, sym, subst, ◌∙◌, inl, inr, arith, codes, lit<}
-use Rattle.std.specs.Prelude.{◌⊎◌, if◌then◌else◌, ◌==◌, Contains}
+use Rattle.std.proofs.Common.{◌≡◌, ◌≢◌, ℕ, ◌<◌, Bool, true, false, ◌||◌, List, [], ◌∷◌, ◌++◌, length, take, Option, refl, ap, sym, subst, ◌∙◌, inl, inr, arith, codes, lit<}
+use Rattle.std.specs.Prelude.{◌⊎◌, ◌==◌}
 use Rattle.std.specs.List.{list_any, AllByRecursion}
 use Rattle.std.proofs.lemmas.Bool.{false≢true}
 use Rattle.std.proofs.lemmas.Bool.Decides.{nat_tests}
 use Rattle.std.proofs.lemmas.List.{take_at, append_assoc}
 use Rattle.bt_lexer.specs.Bytes.{is_blank}
-use Rattle.bt_lexer.specs.Marks.{marks, IsMark}
-use Rattle.bt_lexer.specs.Tokens.{IsPiece, IsToken, IsLongest, IsFault, NothingBegins}
-use Rattle.bt_lexer.specs.Scan.{is_single, is_double, is_triple, mark_len, mark_of, mark_piece, slash_piece, separator, line_len, comment_piece, comment_len}
-use Rattle.bt_lexer.specs.declared.piece.Piece.{Piece}
-use Rattle.bt_lexer.specs.declared.error.LexError.{LexError}
-use Rattle.bt_lexer.specs.declared.error.LexError.TheVariants as faults
+use Rattle.bt_lexer.specs.Marks.{IsMark}
+use Rattle.bt_lexer.specs.Tokens.{IsPiece, IsLongest}
+use Rattle.bt_lexer.specs.Scan.{is_single, is_double, is_triple, mark_len, mark_of, mark_piece, slash_piece}
 use Rattle.bt_lexer.specs.declared.token.TokenKind.{TokenKind}
-use Rattle.bt_lexer.specs.declared.token.TokenKind.TheVariants as kinds
-use Rattle.bt_lexer.proofs.Classes.{Class, Blank, Letter, Digit, At, Dollar, Quote, Slash, Other, class_of, apart}
-use Rattle.bt_lexer.proofs.Pieces.{IsFound, Answers, form_at, marks_pass, some_byte}
+use Rattle.bt_lexer.proofs.Classes.{Quote, Slash, Other, class_of, apart}
+use Rattle.bt_lexer.proofs.Pieces.{Answers, form_at, marks_pass, some_byte}
 use Rattle.bt_lexer.proofs.Choices.{decided, is_eq, is_ne, and_both, or_cases, tails}
-use Rattle.bt_lexer.proofs.SeparatorPieces.{mark_is_no_comment, line_sound, comment_sound}
+use Rattle.bt_lexer.proofs.SeparatorPieces.{line_sound, comment_sound}
 
 -- what holds of each byte of a list holds of a byte in it
 among : (P : ℕ → Type 0) (b : ℕ) (xs : List ℕ) → AllByRecursion P xs → list_any (λ m. m == b) xs ≡ true → P b
 among P b [] all h = absurd (false≢true h)
 among P b (x ∷ xs) all h = elim (or_cases (x == b) (list_any (λ m. m == b) xs) h) [
-    | inl e ↦ subst P (is_eq x b e) all.0
-    | inr more ↦ among P b xs all.1 more
-  ]
+  | inl e ↦ subst P (is_eq x b e) all.0
+  | inr more ↦ among P b xs all.1 more
+]
 
 -- ---- the tests say which bytes are marks
 
@@ -50,17 +46,17 @@ doubled_mark b h = among (λ x. IsMark (x ∷ x ∷ [])) b (codes "+-<&|") ((2, 
 
 arrow_mark : (b : ℕ) → (b == 45 || b == 62) ≡ true → IsMark (b ∷ 62 ∷ [])
 arrow_mark b h = elim (or_cases (b == 45) (b == 62) h) [
-    | inl e ↦ subst (λ (x : ℕ). IsMark (x ∷ 62 ∷ [])) (sym (is_eq b 45 e)) (20, lit< tt, refl)
-    | inr e ↦ subst (λ (x : ℕ). IsMark (x ∷ 62 ∷ [])) (sym (is_eq b 62 e)) (13, lit< tt, refl)
-  ]
+  | inl e ↦ subst (λ (x : ℕ). IsMark (x ∷ 62 ∷ [])) (sym (is_eq b 45 e)) (20, lit< tt, refl)
+  | inr e ↦ subst (λ (x : ℕ). IsMark (x ∷ 62 ∷ [])) (sym (is_eq b 62 e)) (13, lit< tt, refl)
+]
 
 double_mark : (b c : ℕ) → is_double b c ≡ true → IsMark (b ∷ c ∷ [])
 double_mark b c h =
     decided (λ (t : Bool). t ≡ true → IsMark (b ∷ c ∷ [])) (c == 61) _ _
-      (λ e k. let q = is_eq c 61 e in rw q (assign_mark b k)) (λ _.
+    (λ e k. let q = is_eq c 61 e in rw q (assign_mark b k)) (λ _.
     decided (λ (t : Bool). t ≡ true → IsMark (b ∷ c ∷ [])) (c == 62) _ _
-      (λ e k. let q = is_eq c 62 e in rw q (arrow_mark b k))
-      (λ _ k. let k2 = and_both (b == c) _ k in rw (← is_eq b c k2.0) (doubled_mark b k2.1))) h
+    (λ e k. let q = is_eq c 62 e in rw q (arrow_mark b k))
+    (λ _ k. let k2 = and_both (b == c) _ k in rw (← is_eq b c k2.0) (doubled_mark b k2.1))) h
 
 triple_mark : (b c d : ℕ) → is_triple b c d ≡ true → IsMark (b ∷ c ∷ d ∷ [])
 triple_mark b c d h =
@@ -142,24 +138,24 @@ pub mark_found : (bs : List ℕ) → MarkAnswers bs (mark_len bs)
 unfolding mark_len
 mark_found [] = inl (refl, λ mark rest e m. nothing mark rest e m)
   where
-  nothing : (mark rest : List ℕ) → [] ≡ mark ++ rest → IsMark mark → ⊥
-  nothing [] rest e m = not_marks [] refl m
-  nothing (x ∷ mark) rest e m = cc
+    nothing : (mark rest : List ℕ) → [] ≡ mark ++ rest → IsMark mark → ⊥
+    nothing [] rest e m = not_marks [] refl m
+    nothing (x ∷ mark) rest e m = cc
 mark_found (b ∷ []) = decided (MarkAnswers (b ∷ [])) (is_single b) 1 0
     (λ s. inr (one_at b [] s (λ c after e. absurd cc) (λ c d after e. absurd cc)))
     (λ s. inl (refl, none_one b s))
 mark_found (b ∷ c ∷ []) = decided (MarkAnswers (b ∷ c ∷ [])) (is_double b c) 2 _
     (λ u. inr (two_at b c [] u (λ d after e. absurd cc)))
     (λ u. decided (MarkAnswers (b ∷ c ∷ [])) (is_single b) 1 0
-      (λ s. inr (one_at b (c ∷ []) s (λ x after e. let q : c ≡ x = cc in rw (← q) u) (λ x y after e. absurd cc)))
-      (λ s. inl (refl, none_two b c u s)))
+    (λ s. inr (one_at b (c ∷ []) s (λ x after e. let q : c ≡ x = cc in rw (← q) u) (λ x y after e. absurd cc)))
+    (λ s. inl (refl, none_two b c u s)))
 mark_found (b ∷ c ∷ d ∷ bs) = decided (MarkAnswers (b ∷ c ∷ d ∷ bs)) (is_triple b c d) 3 _
     (λ t. inr (three_at b c d bs t))
     (λ t. decided (MarkAnswers (b ∷ c ∷ d ∷ bs)) (is_double b c) 2 _
-      (λ u. inr (two_at b c (d ∷ bs) u (λ x after e. let q : d ≡ x = cc in rw (← q) t)))
-      (λ u. decided (MarkAnswers (b ∷ c ∷ d ∷ bs)) (is_single b) 1 0
-        (λ s. inr (one_at b (c ∷ d ∷ bs) s (λ x after e. let q : c ≡ x = cc in rw (← q) u) (λ x y after e. let q : c ≡ x = cc in let p : d ≡ y = cc in rw (← q, ← p) t)))
-        (λ s. inl (refl, none_more b c d bs t u s))))
+    (λ u. inr (two_at b c (d ∷ bs) u (λ x after e. let q : d ≡ x = cc in rw (← q) t)))
+    (λ u. decided (MarkAnswers (b ∷ c ∷ d ∷ bs)) (is_single b) 1 0
+    (λ s. inr (one_at b (c ∷ d ∷ bs) s (λ x after e. let q : c ≡ x = cc in rw (← q) u) (λ x y after e. let q : c ≡ x = cc in let p : d ≡ y = cc in rw (← q, ← p) t)))
+    (λ s. inl (refl, none_more b c d bs t u s))))
 
 -- ---- pieces
 
@@ -189,18 +185,18 @@ some_len n h = grind (arith, nat_tests)
 mark_sound : (offset b : ℕ) (bs : List ℕ) → b ≢ 34 → OnlyMarks b bs → Answers offset (b ∷ bs) (mark_piece offset (b ∷ bs))
 mark_sound offset b bs quote only = by_found (mark_len (b ∷ bs)) (mark_found (b ∷ bs))
   where
-  by_found : (n : ℕ) → MarkAnswers (b ∷ bs) n → Answers offset (b ∷ bs) (mark_of offset (b ∷ bs) n)
-  by_found n (inl none) = rw none.0 (inl ((quote, no_mark_begins b bs only none.1), refl))
-  by_found n (inr m) =
-      let taken : take n (b ∷ bs) ≡ m.mark = ap (take n) m.parts ∙ take_at m.mark m.rest n (sym m.size) in
-      rw (some_len n m.some, taken) record {
-        piece = m.mark;
-        rest = m.rest;
-        parts = m.parts;
-        size = m.size;
-        is = (refl, m.is);
-        longest = mark_longest b bs only m.mark m.rest m.parts m.is m.longest;
-      }
+    by_found : (n : ℕ) → MarkAnswers (b ∷ bs) n → Answers offset (b ∷ bs) (mark_of offset (b ∷ bs) n)
+    by_found n (inl none) = rw none.0 (inl ((quote, no_mark_begins b bs only none.1), refl))
+    by_found n (inr m) =
+        let taken : take n (b ∷ bs) ≡ m.mark = ap (take n) m.parts ∙ take_at m.mark m.rest n (sym m.size) in
+        rw (some_len n m.some, taken) record {
+          piece = m.mark;
+          rest = m.rest;
+          parts = m.parts;
+          size = m.size;
+          is = (refl, m.is);
+          longest = mark_longest b bs only m.mark m.rest m.parts m.is m.longest;
+        }
 
 pub other_sound : (offset b : ℕ) (bs : List ℕ) → class_of b ≡ Other → Answers offset (b ∷ bs) (mark_piece offset (b ∷ bs))
 other_sound offset b bs h = mark_sound offset b bs (λ e. apart Other Quote refl (sym h ∙ ap class_of e)) (λ kind xs after e p. (form_at kind b xs Other h p).1)
@@ -208,14 +204,14 @@ other_sound offset b bs h = mark_sound offset b bs (λ e. apart Other Quote refl
 -- `/` begins a mark only where no comment begins
 slash_only : (bs : List ℕ) → ((c : ℕ) (rest : List ℕ) → bs ≡ c ∷ rest → (c ≢ 47) × (c ≢ 42)) → OnlyMarks 47 bs
 slash_only bs apart_from kind xs after e p = elim (form_at kind 47 xs Slash refl p) [
-    | inr m ↦ m.1
-    | inl (e', inl k) ↦ absurd (not_blank k.0 (cc k.1) k.2)
-    | inl (e', inr (inl k)) ↦ absurd ((apart_from 47 (k.0 ++ after) (e ∙ ap (λ (l : List ℕ). l ++ after) (tails 47 47 _ _ k.1))).0 refl)
-    | inl (e', inr (inr k)) ↦ absurd ((apart_from 42 ((k.0 ++ 42 ∷ 47 ∷ []) ++ after) (e ∙ ap (λ (l : List ℕ). l ++ after) (tails 47 47 _ _ k.1))).1 refl)
-  ]
+  | inr m ↦ m.1
+  | inl (e', inl k) ↦ absurd (not_blank k.0 (cc k.1) k.2)
+  | inl (e', inr (inl k)) ↦ absurd ((apart_from 47 (k.0 ++ after) (e ∙ ap (λ (l : List ℕ). l ++ after) (tails 47 47 _ _ k.1))).0 refl)
+  | inl (e', inr (inr k)) ↦ absurd ((apart_from 42 ((k.0 ++ 42 ∷ 47 ∷ []) ++ after) (e ∙ ap (λ (l : List ℕ). l ++ after) (tails 47 47 _ _ k.1))).1 refl)
+]
   where
-  not_blank : (b : ℕ) → 47 ≡ b → is_blank b ≡ true → ⊥
-  not_blank b e h = false≢true (ap is_blank e ∙ h)
+    not_blank : (b : ℕ) → 47 ≡ b → is_blank b ≡ true → ⊥
+    not_blank b e h = false≢true (ap is_blank e ∙ h)
 
 pub slash_sound : (offset : ℕ) (bs : List ℕ) → Answers offset (47 ∷ bs) (slash_piece offset bs)
 unfolding slash_piece
@@ -223,5 +219,5 @@ slash_sound offset [] = mark_sound offset 47 [] (λ e. absurd (omega arith)) (sl
 slash_sound offset (c ∷ bs) = decided (Answers offset (47 ∷ c ∷ bs)) (c == 47) _ _
     (λ h. let q = is_eq c 47 h in rw q (line_sound offset bs))
     (λ h. decided (Answers offset (47 ∷ c ∷ bs)) (c == 42) _ _
-      (λ k. let q = is_eq c 42 k in rw q (comment_sound offset bs))
-      (λ k. mark_sound offset 47 (c ∷ bs) (λ e. absurd (omega arith)) (slash_only (c ∷ bs) (λ d rest e. let q : c ≡ d = cc in (λ p. is_ne c 47 h (q ∙ p), λ p. is_ne c 42 k (q ∙ p))))))
+    (λ k. let q = is_eq c 42 k in rw q (comment_sound offset bs))
+    (λ k. mark_sound offset 47 (c ∷ bs) (λ e. absurd (omega arith)) (slash_only (c ∷ bs) (λ d rest e. let q : c ≡ d = cc in (λ p. is_ne c 47 h (q ∙ p), λ p. is_ne c 42 k (q ∙ p))))))

@@ -1,18 +1,18 @@
 -- With which class of byte a piece begins.
-use Rattle.std.proofs.Common.{◌≡◌, ◌≢◌, ℕ, suc, ◌+◌, ◌<◌, ◌≤◌, Bool, true, false, cond, ◌||◌, ◌&&◌, not, List, [], ◌∷◌, ◌++◌, length, take, drop, Option, Some, None, Result, Ok, Err, refl, ap, sym, subst, ◌∙◌, inl, inr, arith, codes}
+use Rattle.std.proofs.Common.{◌≡◌, ℕ, ◌<◌, Bool, true, false, ◌&&◌, List, [], ◌∷◌, ◌++◌, length, Option, Some, None, Result, Ok, Err, refl, ap, sym, subst, ◌∙◌, inl, inr, arith}
 use Rattle.std.specs.List.{AllByRecursion}
 use Rattle.std.specs.Char.{digit_value}
-use Rattle.std.specs.Prelude.{ℤ, ◌⊎◌, if◌then◌else◌}
+use Rattle.std.specs.Prelude.{ℤ, ◌⊎◌}
 use Rattle.std.proofs.lemmas.Bool.{false≢true}
 use Rattle.std.proofs.lemmas.Bool.Decides.{nat_tests}
 use Rattle.std.proofs.lemmas.List.Elements.{All-contains, All-from_recursion}
-use Rattle.bt_lexer.specs.Bytes.{is_blank, is_letter, is_digit, is_word_byte, Every, begins}
+use Rattle.bt_lexer.specs.Bytes.{is_letter, is_digit}
 use Rattle.bt_lexer.specs.Words.{IsWord, IsAttach, IsAttachWord, IsMapName, IsVarName}
 use Rattle.bt_lexer.specs.Strings.{IsString}
 use Rattle.bt_lexer.specs.Separators.{IsSeparator}
 use Rattle.bt_lexer.specs.Numbers.{AreDigits, IsNumber, signed}
 use Rattle.bt_lexer.specs.Marks.{marks, IsMark}
-use Rattle.bt_lexer.specs.Tokens.{IsPiece, IsToken, IsLongest, IsFault}
+use Rattle.bt_lexer.specs.Tokens.{IsPiece, IsLongest, IsFault}
 use Rattle.bt_lexer.specs.declared.piece.Piece.{Piece}
 use Rattle.bt_lexer.specs.declared.error.LexError.{LexError}
 use Rattle.bt_lexer.specs.declared.token.TokenKind.{TokenKind}
@@ -113,9 +113,9 @@ some_byte None (inr (inr h)) = cc h.1
 some_byte (Some (kinds.Word w)) h = h.1
 some_byte (Some (kinds.Attach w)) h = no_cons h.1.0 58 h.1.1 h.1.2
   where
-  no_cons : (word : List ℕ) (c : ℕ) (run : List ℕ) → [] ≡ word ++ c ∷ run → ⊥
-  no_cons [] c run e = cc
-  no_cons (d ∷ word) c run e = cc
+    no_cons : (word : List ℕ) (c : ℕ) (run : List ℕ) → [] ≡ word ++ c ∷ run → ⊥
+    no_cons [] c run e = cc
+    no_cons (d ∷ word) c run e = cc
 some_byte (Some (kinds.Map w)) h = h.1
 some_byte (Some (kinds.Var w)) h = h.1
 some_byte (Some (kinds.Number v)) (n, e, inl h) = h

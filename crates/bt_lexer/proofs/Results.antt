@@ -27,24 +27,24 @@ only_fault text r h fault f = subst (Gives r) (first_fault_only text fault f) h
 pub some_answer : (text : List ℕ) → ((tokens : List Token) × IsTokensOf text tokens) ⊎ ((fault : LexError) × IsFirstFault text fault)
 some_answer text = by_result (lexed text) refl
   where
-  by_result : (found : Result (List Token) LexError) → lexed text ≡ found → ((tokens : List Token) × IsTokensOf text tokens) ⊎ ((fault : LexError) × IsFirstFault text fault)
-  by_result (Ok tokens) e = inl (tokens, tokens_found text tokens e)
-  by_result (Err fault) e = inr (fault, first_fault_found text fault e)
+    by_result : (found : Result (List Token) LexError) → lexed text ≡ found → ((tokens : List Token) × IsTokensOf text tokens) ⊎ ((fault : LexError) × IsFirstFault text fault)
+    by_result (Ok tokens) e = inl (tokens, tokens_found text tokens e)
+    by_result (Err fault) e = inr (fault, first_fault_found text fault e)
 
 pub one_list : (text : List ℕ) (one other : List Token) → IsTokensOf text one → IsTokensOf text other → one ≡ other
 one_list text one other h k = ok_same (sym (tokens_only text one h) ∙ tokens_only text other k)
   where
-  ok_same : ◌≡◌ {A = Result (List Token) LexError} (Ok one) (Ok other) → one ≡ other
-  ok_same e = cc
+    ok_same : ◌≡◌ {A = Result (List Token) LexError} (Ok one) (Ok other) → one ≡ other
+    ok_same e = cc
 
 pub one_fault : (text : List ℕ) (one other : LexError) → IsFirstFault text one → IsFirstFault text other → one ≡ other
 one_fault text one other h k = err_same (sym (first_fault_only text one h) ∙ first_fault_only text other k)
   where
-  err_same : ◌≡◌ {A = Result (List Token) LexError} (Err one) (Err other) → one ≡ other
-  err_same e = cc
+    err_same : ◌≡◌ {A = Result (List Token) LexError} (Err one) (Err other) → one ≡ other
+    err_same e = cc
 
 pub not_both : (text : List ℕ) (tokens : List Token) (fault : LexError) → IsTokensOf text tokens → IsFirstFault text fault → ⊥
 not_both text tokens fault h k = ok_or_err (sym (tokens_only text tokens h) ∙ first_fault_only text fault k)
   where
-  ok_or_err : ◌≡◌ {A = Result (List Token) LexError} (Ok tokens) (Err fault) → ⊥
-  ok_or_err e = cc
+    ok_or_err : ◌≡◌ {A = Result (List Token) LexError} (Ok tokens) (Err fault) → ⊥
+    ok_or_err e = cc

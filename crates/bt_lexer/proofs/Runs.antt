@@ -48,10 +48,10 @@ every_back p (x ∷ xs) ys h = every_back p xs ys h.1
 pub run_front : (p : ℕ → Bool) (bs front rest : List ℕ) → IsRun p bs front rest → take_while p bs ≡ front
 run_front p bs front rest r = taken bs ∙ ap (λ (n : ℕ). take n bs) r.len ∙ ap (take (length front)) r.parts ∙ take_at front rest (length front) refl
   where
-  taken : (xs : List ℕ) → take_while p xs ≡ take (length (take_while p xs)) xs
-  taken [] = refl
-  taken (x ∷ xs) = rw (take_while-cons p x xs)
-      (elim (p x) as (λ b. cond b (x ∷ take_while p xs) [] ≡ take (length (cond b (x ∷ take_while p xs) [])) (x ∷ xs)) [
-        | true ↦ ap (λ (l : List ℕ). x ∷ l) (taken xs)
-        | false ↦ refl
-      ])
+    taken : (xs : List ℕ) → take_while p xs ≡ take (length (take_while p xs)) xs
+    taken [] = refl
+    taken (x ∷ xs) = rw (take_while-cons p x xs)
+        (elim (p x) as (λ b. cond b (x ∷ take_while p xs) [] ≡ take (length (cond b (x ∷ take_while p xs) [])) (x ∷ xs)) [
+          | true ↦ ap (λ (l : List ℕ). x ∷ l) (taken xs)
+          | false ↦ refl
+        ])

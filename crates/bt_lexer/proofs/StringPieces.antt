@@ -1,21 +1,15 @@
 -- Strings: what is found is the longest, with its bytes after escapes.
-use Rattle.std.proofs.Common.{◌≡◌, ◌≢◌, ℕ, zero, suc, ◌+◌, ◌<◌, ◌≤◌, Bool, true, false, cond, List, [], ◌∷◌, ◌++◌, length, Option, Some, None, Result, Ok, Err, refl, ap, sym, subst, ◌∙◌, inl, inr, arith, append_assoc, nat_lt, zero-add, add-zero, add_assoc}
-use Rattle.std.specs.Prelude.{◌⊎◌, if◌then◌else◌, ◌==◌}
-use Rattle.std.proofs.lemmas.Bool.{false≢true, ltb-true, ltb-false, lt-ltb, le-ltb}
-use Rattle.std.proofs.lemmas.Bool.Decides.{nat_tests}
-use Rattle.std.proofs.lemmas.List.{length-append, append-nil, append_cancel_left}
-use Rattle.bt_lexer.specs.Strings.{IsEscape, IsPlain, IsSpelling, IsSpelled, IsString, NoEscape, EndsLine}
-use Rattle.bt_lexer.specs.Tokens.{IsPiece, IsToken, IsLongest, IsFault, BeginsWithString}
-use Rattle.bt_lexer.specs.Scan.{escape_of, escaped_byte, string_byte, closed, string_step, unclosed, string_from, string_piece, token_piece}
+use Rattle.std.proofs.Common.{◌≡◌, ℕ, ◌+◌, true, false, List, [], ◌∷◌, ◌++◌, length, Option, Some, None, refl, ap, sym, subst, ◌∙◌, inl, inr, arith, append_assoc, nat_lt, add-zero}
+use Rattle.std.specs.Prelude.{◌==◌}
+use Rattle.std.proofs.lemmas.Bool.{ltb-true}
+use Rattle.std.proofs.lemmas.List.{length-append, append-nil}
+use Rattle.bt_lexer.specs.Strings.{IsEscape, IsPlain, IsSpelling, IsSpelled, NoEscape}
+use Rattle.bt_lexer.specs.Tokens.{IsLongest}
+use Rattle.bt_lexer.specs.Scan.{escape_of, escaped_byte, string_byte, closed, string_step, string_from, string_piece}
 use Rattle.bt_lexer.specs.declared.strings.StringByte.{StringByte}
 use Rattle.bt_lexer.specs.declared.strings.StringByte.TheVariants as part
-use Rattle.bt_lexer.specs.declared.piece.Piece.{Piece}
-use Rattle.bt_lexer.specs.declared.error.LexError.{LexError}
-use Rattle.bt_lexer.specs.declared.error.LexError.TheVariants as faults
-use Rattle.bt_lexer.specs.declared.token.TokenKind.{TokenKind}
-use Rattle.bt_lexer.specs.declared.token.TokenKind.TheVariants as kinds
-use Rattle.bt_lexer.proofs.Classes.{Class, Blank, Letter, Digit, At, Dollar, Quote, Slash, Other, class_of}
-use Rattle.bt_lexer.proofs.Pieces.{IsFound, Answers, form_at}
+use Rattle.bt_lexer.proofs.Classes.{Quote}
+use Rattle.bt_lexer.proofs.Pieces.{Answers, form_at}
 use Rattle.bt_lexer.proofs.Choices.{decided, is_eq, is_ne, ne_test, tails, heads_apart}
 
 -- ---- one byte
@@ -50,9 +44,9 @@ no_escape e bs h c k = none_some c (sym h ∙ escape_byte e c k)
 pub escape_none : (e : ℕ) (bs : List ℕ) → NoEscape (e ∷ bs) → escape_of e ≡ None
 escape_none e bs h = by_option (escape_of e) refl
   where
-  by_option : (o : Option ℕ) → escape_of e ≡ o → escape_of e ≡ None
-  by_option None q = q
-  by_option (Some c) q = absurd (h c (byte_escape e c q))
+    by_option : (o : Option ℕ) → escape_of e ≡ o → escape_of e ≡ None
+    by_option None q = q
+    by_option (Some c) q = absurd (h c (byte_escape e c q))
 
 -- ---- sources
 
@@ -66,19 +60,22 @@ pub passes : (offset : ℕ) (text source before : List ℕ) (n : ℕ) (rest : Li
 passes offset [] source before n rest s = rw (s, append-nil before, add-zero n) refl
 passes offset (c ∷ text) source before n rest s = by_first (λ m. passes offset text s.1 (before ++ c ∷ []) m rest s.4) s.3
   where
-  regroup : (first : List ℕ) → source ≡ first ++ s.1 → source ++ rest ≡ first ++ (s.1 ++ rest)
-  regroup first e = ap (λ (l : List ℕ). l ++ rest) e ∙ append_assoc first s.1 rest
-  size : (first : List ℕ) → source ≡ first ++ s.1 → length source ≡ length first + length s.1
-  size first e = ap length e ∙ length-append first s.1
-  onward : ((m : ℕ) → string_from offset false (before ++ c ∷ []) m (s.1 ++ rest) ≡ string_from offset false ((before ++ c ∷ []) ++ text) (m + length s.1) rest) → (m : ℕ) → m + length s.1 ≡ n + length source → string_from offset false (before ++ c ∷ []) m (s.1 ++ rest) ≡ string_from offset false (before ++ c ∷ text) (n + length source) rest
-  onward again m e = again m ∙ ap (λ (l : List ℕ). string_from offset false l (m + length s.1) rest) (append_assoc before (c ∷ []) text) ∙ ap (λ (k : ℕ). string_from offset false (before ++ c ∷ text) k rest) e
-  by_first : ((m : ℕ) → string_from offset false (before ++ c ∷ []) m (s.1 ++ rest) ≡ string_from offset false ((before ++ c ∷ []) ++ text) (m + length s.1) rest) → IsSpelling s.0 c → string_from offset false before n (source ++ rest) ≡ string_from offset false (before ++ c ∷ text) (n + length source) rest
-  by_first again (inl h) =
-      let e : source ≡ (c ∷ []) ++ s.1 = s.2 ∙ ap (λ (l : List ℕ). l ++ s.1) h.0 in
-      rw (regroup (c ∷ []) e, plain_byte c h.1) (onward again (n + 1) (let k = size (c ∷ []) e in omega arith))
-  by_first again (inr h) =
-      let e : source ≡ (92 ∷ h.0 ∷ []) ++ s.1 = s.2 ∙ ap (λ (l : List ℕ). l ++ s.1) h.1 in
-      rw (regroup (92 ∷ h.0 ∷ []) e, escape_byte h.0 c h.2) (onward again (n + 1 + 1) (let k = size (92 ∷ h.0 ∷ []) e in omega arith))
+    regroup : (first : List ℕ) → source ≡ first ++ s.1 → source ++ rest ≡ first ++ (s.1 ++ rest)
+    regroup first e = ap (λ (l : List ℕ). l ++ rest) e ∙ append_assoc first s.1 rest
+
+    size : (first : List ℕ) → source ≡ first ++ s.1 → length source ≡ length first + length s.1
+    size first e = ap length e ∙ length-append first s.1
+
+    onward : ((m : ℕ) → string_from offset false (before ++ c ∷ []) m (s.1 ++ rest) ≡ string_from offset false ((before ++ c ∷ []) ++ text) (m + length s.1) rest) → (m : ℕ) → m + length s.1 ≡ n + length source → string_from offset false (before ++ c ∷ []) m (s.1 ++ rest) ≡ string_from offset false (before ++ c ∷ text) (n + length source) rest
+    onward again m e = again m ∙ ap (λ (l : List ℕ). string_from offset false l (m + length s.1) rest) (append_assoc before (c ∷ []) text) ∙ ap (λ (k : ℕ). string_from offset false (before ++ c ∷ text) k rest) e
+
+    by_first : ((m : ℕ) → string_from offset false (before ++ c ∷ []) m (s.1 ++ rest) ≡ string_from offset false ((before ++ c ∷ []) ++ text) (m + length s.1) rest) → IsSpelling s.0 c → string_from offset false before n (source ++ rest) ≡ string_from offset false (before ++ c ∷ text) (n + length source) rest
+    by_first again (inl h) =
+        let e : source ≡ (c ∷ []) ++ s.1 = s.2 ∙ ap (λ (l : List ℕ). l ++ s.1) h.0 in
+        rw (regroup (c ∷ []) e, plain_byte c h.1) (onward again (n + 1) (let k = size (c ∷ []) e in omega arith))
+    by_first again (inr h) =
+        let e : source ≡ (92 ∷ h.0 ∷ []) ++ s.1 = s.2 ∙ ap (λ (l : List ℕ). l ++ s.1) h.1 in
+        rw (regroup (92 ∷ h.0 ∷ []) e, escape_byte h.0 c h.2) (onward again (n + 1 + 1) (let k = size (92 ∷ h.0 ∷ []) e in omega arith))
 
 -- no byte of a string is spelled here
 abbrev pub NoSpelling : List ℕ → Type 0
@@ -152,8 +149,8 @@ by_byte offset source text b bs s escape plain =
     decided P (b == 0) _ _ (λ t. let q = is_eq b 0 t in inr (inr (source, text, bs, (ap (λ (n : ℕ). 34 ∷ source ++ n ∷ bs) q, s), refl))) (λ t2.
     decided P (b == 92) _ _ (λ t. escape (is_eq b 92 t)) (λ t3. plain (is_ne b 34 t0, is_ne b 92 t3, is_ne b 10 t1, is_ne b 0 t2)))))
   where
-  P : StringByte → Type 0
-  P y = Answers offset (34 ∷ source ++ b ∷ bs) (string_step (λ e t. string_from offset e t (length source + 1) bs) offset text (length source) y)
+    P : StringByte → Type 0
+    P y = Answers offset (34 ∷ source ++ b ∷ bs) (string_step (λ e t. string_from offset e t (length source + 1) bs) offset text (length source) y)
 
 -- a backslash, and what stands behind it
 escape_sound : (offset : ℕ) (source text : List ℕ) (e : ℕ) (bs : List ℕ) → IsSpelled source text
@@ -161,9 +158,9 @@ escape_sound : (offset : ℕ) (source text : List ℕ) (e : ℕ) (bs : List ℕ)
     → Answers offset (34 ∷ source ++ 92 ∷ e ∷ bs) (string_from offset true text (length source + 1) (e ∷ bs))
 escape_sound offset source text e bs s more = by_option (escape_of e) refl
   where
-  by_option : (o : Option ℕ) → escape_of e ≡ o → Answers offset (34 ∷ source ++ 92 ∷ e ∷ bs) (string_step (λ e t. string_from offset e t (length source + 1 + 1) bs) offset text (length source + 1) (escaped_byte o))
-  by_option None q = (source, text, e ∷ bs, (refl, s), no_escape e bs q, omega arith)
-  by_option (Some c) q = more c (byte_escape e c q)
+    by_option : (o : Option ℕ) → escape_of e ≡ o → Answers offset (34 ∷ source ++ 92 ∷ e ∷ bs) (string_step (λ e t. string_from offset e t (length source + 1 + 1) bs) offset text (length source + 1) (escaped_byte o))
+    by_option None q = (source, text, e ∷ bs, (refl, s), no_escape e bs q, omega arith)
+    by_option (Some c) q = more c (byte_escape e c q)
 
 grown : (source : List ℕ) (b : ℕ) → length (source ++ b ∷ []) ≡ length source + 1
 grown source b = omega (arith, length-append source (b ∷ []))
@@ -173,7 +170,7 @@ onward : (offset : ℕ) (source first text bs : List ℕ) (n : ℕ) → length (
     → Answers offset (34 ∷ source ++ (first ++ bs)) (string_from offset false text n bs)
 onward offset source first text bs n e a =
     subst (λ (k : ℕ). Answers offset (34 ∷ source ++ (first ++ bs)) (string_from offset false text k bs)) e
-      (subst (λ (l : List ℕ). Answers offset (34 ∷ l) (string_from offset false text (length (source ++ first)) bs)) (append_assoc source first bs) a)
+    (subst (λ (l : List ℕ). Answers offset (34 ∷ l) (string_from offset false text (length (source ++ first)) bs)) (append_assoc source first bs) a)
 
 -- a string from some byte on, behind the source of a text
 string_from_sound : (offset : ℕ) (source text bs : List ℕ) → IsSpelled source text → Answers offset (34 ∷ source ++ bs) (string_from offset false text (length source) bs)
@@ -183,7 +180,7 @@ string_from_sound offset source text (b ∷ []) s = by_byte offset source text b
     (λ p. onward offset source (b ∷ []) (text ++ b ∷ []) [] (length source + 1) (grown source b) (string_from_sound offset (source ++ b ∷ []) (text ++ b ∷ []) [] (spelled_push source text (b ∷ []) b s (inl (refl, p)))))
 string_from_sound offset source text (b ∷ c ∷ bs) s = by_byte offset source text b (c ∷ bs) s
     (λ q. rw q (escape_sound offset source text c bs s (λ d k.
-      onward offset source (92 ∷ c ∷ []) (text ++ d ∷ []) bs (length source + 1 + 1) (omega (arith, length-append source (92 ∷ c ∷ []))) (string_from_sound offset (source ++ 92 ∷ c ∷ []) (text ++ d ∷ []) bs (spelled_push source text (92 ∷ c ∷ []) d s (inr (c, refl, k)))))))
+    onward offset source (92 ∷ c ∷ []) (text ++ d ∷ []) bs (length source + 1 + 1) (omega (arith, length-append source (92 ∷ c ∷ []))) (string_from_sound offset (source ++ 92 ∷ c ∷ []) (text ++ d ∷ []) bs (spelled_push source text (92 ∷ c ∷ []) d s (inr (c, refl, k)))))))
     (λ p. onward offset source (b ∷ []) (text ++ b ∷ []) (c ∷ bs) (length source + 1) (grown source b) (string_from_sound offset (source ++ b ∷ []) (text ++ b ∷ []) (c ∷ bs) (spelled_push source text (b ∷ []) b s (inl (refl, p)))))
 
 pub string_sound : (offset : ℕ) (bs : List ℕ) → Answers offset (34 ∷ bs) (string_piece offset bs)

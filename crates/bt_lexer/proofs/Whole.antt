@@ -1,14 +1,12 @@
 -- A whole text: what is found is its tokens or its first fault.
-use Rattle.std.proofs.Common.{◌≡◌, ◌≢◌, ℕ, zero, suc, ◌+◌, ◌<◌, ◌≤◌, Bool, true, false, cond, ◌&&◌, List, [], ◌∷◌, ◌++◌, length, take, drop, reverse, Option, Some, None, Result, Ok, Err, refl, ap, sym, subst, ◌∙◌, inl, inr, arith, append_assoc, zero-add}
-use Rattle.std.specs.Prelude.{◌⊎◌, if◌then◌else◌, ◌==◌, take_while, count_by}
-use Rattle.std.proofs.lemmas.Bool.{false≢true}
-use Rattle.std.proofs.lemmas.Bool.Decides.{nat_tests}
+use Rattle.std.proofs.Common.{◌≡◌, ℕ, zero, suc, ◌+◌, ◌<◌, ◌≤◌, true, false, cond, ◌&&◌, List, [], ◌∷◌, ◌++◌, length, take, drop, reverse, Option, Some, None, Result, Ok, Err, refl, ap, sym, subst, ◌∙◌, arith, append_assoc}
+use Rattle.std.specs.Prelude.{if◌then◌else◌, ◌==◌, take_while, count_by}
 use Rattle.std.proofs.lemmas.List.{take_at, drop_at, length-append, append-nil, reverse-append, append_cancel_left}
 use Rattle.std.proofs.lemmas.List.Sums.{take_while-cons, sum_by_push}
 use Rattle.bt_lexer.specs.Bytes.{not_newline}
 use Rattle.bt_lexer.specs.Places.{line_behind, column_behind}
-use Rattle.bt_lexer.specs.Tokens.{IsPiece, IsFault, Stands, Pieces, IsCut, token_behind, tokens_behind, tokens_of, first_line, IsTokensOf, IsFirstFault}
-use Rattle.bt_lexer.specs.Scan.{piece_at, after, after_byte, start, tokens_at, prepend, lexed_from, lexed}
+use Rattle.bt_lexer.specs.Tokens.{IsPiece, IsFault, Stands, Pieces, IsCut, tokens_behind, tokens_of, first_line, IsTokensOf, IsFirstFault}
+use Rattle.bt_lexer.specs.Scan.{piece_at, after, after_byte, tokens_at, prepend, lexed_from, lexed}
 use Rattle.bt_lexer.specs.declared.place.Place.{Place}
 use Rattle.bt_lexer.specs.declared.piece.Piece.{Piece}
 use Rattle.bt_lexer.specs.declared.token.Token.{Token}
@@ -42,14 +40,17 @@ place_push before b = decided (λ (p : Place). p ≡ place_behind (before ++ b �
     (λ h. same_place _ _ (sym (length-append before (b ∷ []))) (sym (line_is h)) (sym (column_is h)))
     (λ h. same_place _ _ (sym (length-append before (b ∷ []))) (sym (line_kept h)) (sym (column_more h)))
   where
-  line_is : (b == 10) ≡ true → line_behind (before ++ b ∷ []) ≡ line_behind before + 1
-  line_is h = let c = count_push before b in let k : ◌≡◌ {A = ℕ} (if b == 10 then 1 else 0) 1 = rw h refl in omega arith
-  line_kept : (b == 10) ≡ false → line_behind (before ++ b ∷ []) ≡ line_behind before
-  line_kept h = let c = count_push before b in let k : ◌≡◌ {A = ℕ} (if b == 10 then 1 else 0) 0 = rw h refl in omega arith
-  column_is : (b == 10) ≡ true → column_behind (before ++ b ∷ []) ≡ 1
-  column_is h = rw (reverse_push before b, take_while-cons not_newline b (reverse before), h) refl
-  column_more : (b == 10) ≡ false → column_behind (before ++ b ∷ []) ≡ column_behind before + 1
-  column_more h = rw (reverse_push before b, take_while-cons not_newline b (reverse before), h) (omega arith)
+    line_is : (b == 10) ≡ true → line_behind (before ++ b ∷ []) ≡ line_behind before + 1
+    line_is h = let c = count_push before b in let k : ◌≡◌ {A = ℕ} (if b == 10 then 1 else 0) 1 = rw h refl in omega arith
+
+    line_kept : (b == 10) ≡ false → line_behind (before ++ b ∷ []) ≡ line_behind before
+    line_kept h = let c = count_push before b in let k : ◌≡◌ {A = ℕ} (if b == 10 then 1 else 0) 0 = rw h refl in omega arith
+
+    column_is : (b == 10) ≡ true → column_behind (before ++ b ∷ []) ≡ 1
+    column_is h = rw (reverse_push before b, take_while-cons not_newline b (reverse before), h) refl
+
+    column_more : (b == 10) ≡ false → column_behind (before ++ b ∷ []) ≡ column_behind before + 1
+    column_more h = rw (reverse_push before b, take_while-cons not_newline b (reverse before), h) (omega arith)
 
 place_after : (before bs : List ℕ) → after (place_behind before) bs ≡ place_behind (before ++ bs)
 place_after before [] = ap place_behind (sym (append-nil before))
@@ -79,21 +80,25 @@ WholeAnswers before bs (Err fault) = (pieces : Pieces) × (rest : List ℕ) × (
 with_front : (before bs : List ℕ) (piece : Piece) (f : IsFront bs piece) (found : Result (List Token) LexError) → WholeAnswers (before ++ f.word) f.rest found → WholeAnswers before bs (prepend (tokens_behind before piece.kind f.word) found)
 with_front before bs piece f (Ok tokens) w = ((piece.kind, f.word) ∷ w.0, (f.rest, f.parts, f.stands, w.1), ap (λ (l : List Token). tokens_behind before piece.kind f.word ++ l) w.2)
 with_front before bs piece f (Err fault) w = (
-  (piece.kind, f.word) ∷ w.0, w.1, w.2, (f.rest, f.parts, f.stands, w.3),
+  (piece.kind, f.word) ∷ w.0,
+  w.1,
+  w.2,
+  (f.rest, f.parts, f.stands, w.3),
   (let k = ap length f.parts in let l = length-append f.word f.rest in let m = length-append before f.word in let n = w.4 in omega arith),
-  w.5)
+  w.5,
+)
 
 whole_found : (n : ℕ) (before bs : List ℕ) → length bs ≤ n → WholeAnswers before bs (lexed_from 0 (place_behind before) bs)
 whole_found n before [] le = ([], refl, refl)
 whole_found zero before (b ∷ bs) le = absurd (omega arith)
 whole_found (suc n) before (b ∷ bs) le = by_piece (piece_at (length before) (b ∷ bs)) refl (λ word rest short. whole_found n (before ++ word) rest short)
   where
-  by_piece : (found : Result Piece LexError) → piece_at (length before) (b ∷ bs) ≡ found → ((word rest : List ℕ) → length rest ≤ n → WholeAnswers (before ++ word) rest (lexed_from 0 (place_behind (before ++ word)) rest)) → WholeAnswers before (b ∷ bs) (lexed_from 0 (place_behind before) (b ∷ bs))
-  by_piece (Err fault) e again = rw (refused (place_behind before) (b ∷ bs) fault e (omega arith)) ([], b ∷ bs, length before, refl, refl, fault_found (length before) b bs fault e)
-  by_piece (Ok piece) e again =
-      let f = front_found (length before) b bs piece e in
-      let short : length f.rest ≤ n = let k = ap length f.parts in let l = length-append f.word f.rest in let p = f.some in let q = f.size in omega arith in
-      rw (step_on before (b ∷ bs) f.word f.rest piece f.parts f.size f.some e) (with_front before (b ∷ bs) piece f _ (again f.word f.rest short))
+    by_piece : (found : Result Piece LexError) → piece_at (length before) (b ∷ bs) ≡ found → ((word rest : List ℕ) → length rest ≤ n → WholeAnswers (before ++ word) rest (lexed_from 0 (place_behind (before ++ word)) rest)) → WholeAnswers before (b ∷ bs) (lexed_from 0 (place_behind before) (b ∷ bs))
+    by_piece (Err fault) e again = rw (refused (place_behind before) (b ∷ bs) fault e (omega arith)) ([], b ∷ bs, length before, refl, refl, fault_found (length before) b bs fault e)
+    by_piece (Ok piece) e again =
+        let f = front_found (length before) b bs piece e in
+        let short : length f.rest ≤ n = let k = ap length f.parts in let l = length-append f.word f.rest in let p = f.some in let q = f.size in omega arith in
+        rw (step_on before (b ∷ bs) f.word f.rest piece f.parts f.size f.some e) (with_front before (b ∷ bs) piece f _ (again f.word f.rest short))
 
 -- ---- what stands in a text is found
 
@@ -102,9 +107,9 @@ cut_step : (before text : List ℕ) (kind : Option TokenKind) (word rest : List 
 cut_step before text kind word rest parts s =
     step_on before text word rest (record { kind = kind; len = length word }) parts refl (some word s.piece) (ap (piece_at (length before)) parts ∙ complete (length before) kind word rest s)
   where
-  some : (word : List ℕ) → IsPiece kind word → 0 < length word
-  some [] p = absurd (some_byte kind p)
-  some (b ∷ word) p = omega arith
+    some : (word : List ℕ) → IsPiece kind word → 0 < length word
+    some [] p = absurd (some_byte kind p)
+    some (b ∷ word) p = omega arith
 
 cut_tokens : (pieces : Pieces) (before text : List ℕ) → IsCut text pieces [] → lexed_from 0 (place_behind before) text ≡ Ok (tokens_of before pieces)
 cut_tokens [] before text h = rw h refl
@@ -118,12 +123,12 @@ cut_fault [] before text rest offset fault h o f =
     let found : piece_at (length before) text ≡ Err fault = rw (h, here) (fault_complete offset rest fault f) in
     by_text text h found
   where
-  by_text : (text : List ℕ) → text ≡ rest → piece_at (length before) text ≡ Err fault → lexed_from 0 (place_behind before) text ≡ Err fault
-  by_text [] e found = absurd (nothing found)
-    where
-    nothing : piece_at (length before) [] ≡ Err fault → ⊥
-    nothing found = absurd (some_fault_byte offset fault (subst (λ (l : List ℕ). IsFault offset l fault) (sym e) f))
-  by_text (b ∷ bs) e found = refused (place_behind before) (b ∷ bs) fault found (omega arith)
+    by_text : (text : List ℕ) → text ≡ rest → piece_at (length before) text ≡ Err fault → lexed_from 0 (place_behind before) text ≡ Err fault
+    by_text [] e found = absurd (nothing found)
+      where
+        nothing : piece_at (length before) [] ≡ Err fault → ⊥
+        nothing found = absurd (some_fault_byte offset fault (subst (λ (l : List ℕ). IsFault offset l fault) (sym e) f))
+    by_text (b ∷ bs) e found = refused (place_behind before) (b ∷ bs) fault found (omega arith)
 cut_fault (piece ∷ pieces) before text rest offset fault h o f =
     let k = ap length h.1 in
     let l = length-append piece.1 h.0 in
@@ -139,12 +144,12 @@ first_line_parts (b ∷ c ∷ bs) = decided (λ (line : List ℕ). b ∷ c ∷ b
     (λ h. front (b ∷ c ∷ bs))
     (λ h. refl)
   where
-  front : (xs : List ℕ) → xs ≡ take_while not_newline xs ++ drop (length (take_while not_newline xs)) xs
-  front xs =
-      let r = run not_newline xs in
-      let dropped : drop (length (take_while not_newline xs)) xs ≡ r.1 = ap (drop (length (take_while not_newline xs))) r.2.parts ∙ drop_at r.0 r.1 (length (take_while not_newline xs)) (sym r.2.len) in
-      let taken : take_while not_newline xs ≡ r.0 = run_front not_newline xs r.0 r.1 r.2 in
-      rw (dropped, taken) r.2.parts
+    front : (xs : List ℕ) → xs ≡ take_while not_newline xs ++ drop (length (take_while not_newline xs)) xs
+    front xs =
+        let r = run not_newline xs in
+        let dropped : drop (length (take_while not_newline xs)) xs ≡ r.1 = ap (drop (length (take_while not_newline xs))) r.2.parts ∙ drop_at r.0 r.1 (length (take_while not_newline xs)) (sym r.2.len) in
+        let taken : take_while not_newline xs ≡ r.0 = run_front not_newline xs r.0 r.1 r.2 in
+        rw (dropped, taken) r.2.parts
 
 body_is : (text body : List ℕ) → text ≡ first_line text ++ body → drop (length (first_line text)) text ≡ body
 body_is text body e = append_cancel_left (first_line text) (drop (length (first_line text)) text) body (sym (first_line_parts text) ∙ e)

@@ -1,13 +1,13 @@
 -- What a scanner finds at the front of a text, one kind of piece after the other. These are the
 -- steps of the functions in src/; what they find is a token by the rules of the other files.
-use Rattle.std.specs.Prelude.{◌≡◌, ◌≢◌, ℕ, zero, suc, ◌+◌, ◌-◌, ◌*◌, ◌^◌, ◌<◌, ◌≤◌, Bool, true, false, ◌||◌, ◌&&◌, nat_lt, ◌==◌, bytes_eq, codes, List, [], ◌∷◌, ◌++◌, length, take, drop, take_while, Option, Some, None, Result, Ok, Err, if◌then◌else◌}
+use Rattle.std.specs.Prelude.{ℕ, zero, suc, ◌+◌, ◌-◌, ◌*◌, ◌^◌, ◌<◌, ◌≤◌, Bool, true, false, ◌||◌, ◌&&◌, nat_lt, ◌==◌, bytes_eq, codes, List, [], ◌∷◌, ◌++◌, length, take, drop, take_while, Option, Some, None, Result, Ok, Err, if◌then◌else◌}
 use Rattle.std.specs.List.{list_any}
 use Rattle.std.specs.Char.{digit_value}
 use Rattle.bt_lexer.specs.declared.token.Token.{Token}
 use Rattle.bt_lexer.specs.declared.token.TokenKind.{TokenKind}
 use Rattle.bt_lexer.specs.declared.token.TokenKind.TheVariants as kinds
 use Rattle.bt_lexer.specs.declared.error.LexError.{LexError}
-use Rattle.bt_lexer.specs.declared.error.LexError.TheVariants.{BadChar, OpenString, OpenComment, NumberTooLarge, BadEscape, StringTooLong, Memory}
+use Rattle.bt_lexer.specs.declared.error.LexError.TheVariants.{BadChar, OpenString, OpenComment, NumberTooLarge, BadEscape, StringTooLong}
 use Rattle.bt_lexer.specs.declared.piece.Piece.{Piece}
 use Rattle.bt_lexer.specs.declared.numbers.Digits.{Digits}
 use Rattle.bt_lexer.specs.declared.strings.StringByte.{StringByte}

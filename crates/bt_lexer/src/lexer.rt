@@ -6,7 +6,7 @@ ghost use Rattle.bt_lexer.specs.declared.error.LexError.TheVariants.{Memory};
 
 use crate::bytes::line_len;
 use crate::error::LexError;
-use crate::piece::{piece_at, Piece};
+use crate::piece::{Piece, piece_at};
 use crate::place::Place;
 use crate::token::{Token, TokenKind};
 use bt_core::items::Items;

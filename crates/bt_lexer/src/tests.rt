@@ -53,23 +53,34 @@ fn places_of(alloc: Global, script: &[u8]) -> Result<String, Fail> {
 }
 
 fn write_place(out: &mut String, token: &Token) -> Result<(), Fail> {
-    write!(out, "{}-{} {}:{}, ", token.start, token.end, token.line, token.column)?;
+    write!(
+        out,
+        "{}-{} {}:{}, ",
+        token.start, token.end, token.line, token.column
+    )?;
     Ok(())
 }
 
-const SCRIPT: &[u8] = b"#!/usr/bin/btreplay\n// calls\ntracepoint:t:* / pid > 0x10 /\n{ @c[$x] += 1; /* all */ printf(\"a\\n\"); }";
+const SCRIPT: &[u8] =
+    b"#!/usr/bin/btreplay\n// calls\ntracepoint:t:* / pid > 0x10 /\n{ @c[$x] += 1; /* all */ printf(\"a\\n\"); }";
 
 #[test]
 fn a_script_has_its_tokens(rt: HostRuntime) -> Result<(), Fail> {
     let kinds = kinds_of(rt.alloc(), SCRIPT)?;
-    assert_eq!(rt; kinds.as_str(), "Atracepoint:t:* P/ Wpid P> N16 P/ P{ M@c P[ V$x P] P+= N1 P; Wprintf P( Ta\n P) P; P} ");
+    assert_eq!(rt;
+        kinds.as_str(),
+        "Atracepoint:t:* P/ Wpid P> N16 P/ P{ M@c P[ V$x P] P+= N1 P; Wprintf P( Ta\n P) P; P} "
+    );
     Ok(())
 }
 
 #[test]
 fn tokens_stand_at_their_places(rt: HostRuntime) -> Result<(), Fail> {
     let places = places_of(rt.alloc(), SCRIPT)?;
-    assert_eq!(rt; places.as_str(), "29-43 3:1, 44-45 3:16, 46-49 3:18, 50-51 3:22, 52-56 3:24, 57-58 3:29, 59-60 4:1, 61-63 4:3, 63-64 4:5, 64-66 4:6, 66-67 4:8, 68-70 4:10, 71-72 4:13, 72-73 4:14, 84-90 4:26, 90-91 4:32, 91-96 4:33, 96-97 4:38, 97-98 4:39, 99-100 4:41, ");
+    assert_eq!(rt;
+        places.as_str(),
+        "29-43 3:1, 44-45 3:16, 46-49 3:18, 50-51 3:22, 52-56 3:24, 57-58 3:29, 59-60 4:1, 61-63 4:3, 63-64 4:5, 64-66 4:6, 66-67 4:8, 68-70 4:10, 71-72 4:13, 72-73 4:14, 84-90 4:26, 90-91 4:32, 91-96 4:33, 96-97 4:38, 97-98 4:39, 99-100 4:41, "
+    );
     Ok(())
 }
 
