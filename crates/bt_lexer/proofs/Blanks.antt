@@ -24,7 +24,7 @@ use Rattle.bt_lexer.proofs.WordPieces.{word_every}
 use Rattle.bt_lexer.proofs.StringPieces.{spelled_unique, quote_ends}
 use Rattle.bt_lexer.proofs.SeparatorPieces.{mark_is_no_comment, one_blank}
 use Rattle.bt_lexer.proofs.Exact.{longest_unique, kind_unique, at_string, fault_complete}
-use Rattle.bt_lexer.proofs.Choices.{tails, and_both, is_ne, heads_apart}
+use Rattle.bt_lexer.proofs.Choices.{tails, and_both, is_ne, heads_apart, firsts}
 
 -- ---- no token but a string has a blank in it
 
@@ -56,19 +56,13 @@ attach_has_none bs a b =
 
 digits_have_none : (base : ℕ) (bs front back : List ℕ) → base ≤ 36 → AreDigits base bs → bs ≡ front ++ 32 ∷ back → ⊥
 digits_have_none base [] front back small h e = absurd h
-digits_have_none base (d ∷ []) [] back small h e = absurd (let q : digit_value d ≡ 36 = ap digit_value (head d 32 [] back e) in omega arith)
-  where
-    head : (b c : ℕ) (xs ys : List ℕ) → b ∷ xs ≡ c ∷ ys → b ≡ c
-    head b c xs ys e = cc
+digits_have_none base (d ∷ []) [] back small h e = absurd (let q : digit_value d ≡ 36 = ap digit_value (firsts d 32 [] back e) in omega arith)
 digits_have_none base (d ∷ []) (c ∷ front) back small h e = absurd (nil_apart front back (tails d c [] _ e))
   where
     nil_apart : (front back : List ℕ) → [] ≡ front ++ 32 ∷ back → ⊥
     nil_apart [] back e = cc
     nil_apart (x ∷ front) back e = cc
-digits_have_none base (d ∷ b ∷ bs) [] back small h e = absurd (let q : digit_value d ≡ 36 = ap digit_value (head d 32 (b ∷ bs) back e) in let k = h.0 in omega arith)
-  where
-    head : (b c : ℕ) (xs ys : List ℕ) → b ∷ xs ≡ c ∷ ys → b ≡ c
-    head b c xs ys e = cc
+digits_have_none base (d ∷ b ∷ bs) [] back small h e = absurd (let q : digit_value d ≡ 36 = ap digit_value (firsts d 32 (b ∷ bs) back e) in let k = h.0 in omega arith)
 digits_have_none base (d ∷ b ∷ bs) (c ∷ front) back small (f, inl h) e = digits_have_none base (b ∷ bs) front back small h (tails d c (b ∷ bs) _ e)
 digits_have_none base (d ∷ b ∷ bs) (c ∷ []) back small (f, inr h) e = absurd (let q : b ≡ 32 = cc in let k = h.0 in omega arith)
 digits_have_none base (d ∷ b ∷ bs) (c ∷ x ∷ front) back small (f, inr h) e = digits_have_none base bs front back small h.1 (tails b x bs _ (tails d c (b ∷ bs) _ e))
@@ -140,11 +134,8 @@ no_comment_behind : (kind : TokenKind) (bs more body : List ℕ) (d : ℕ) → (
 no_comment_behind kind [] more body d h k t e = some_byte (Some kind) t
 no_comment_behind kind (c ∷ []) more body d h k t e = heads_apart 32 d more body k (tails c 47 (32 ∷ more) (d ∷ body) e)
 no_comment_behind kind (c ∷ b ∷ bs) more body d h k t e =
-    let q : b ≡ d = head b d _ _ (tails c 47 _ _ e) in
-    no_comment_token kind c b bs (head c 47 _ _ e) (ap (λ (x : ℕ). x == 47 || x == 42) q ∙ h) t
-  where
-    head : (b c : ℕ) (xs ys : List ℕ) → b ∷ xs ≡ c ∷ ys → b ≡ c
-    head b c xs ys e = cc
+    let q : b ≡ d = firsts b d _ _ (tails c 47 _ _ e) in
+    no_comment_token kind c b bs (firsts c 47 _ _ e) (ap (λ (x : ℕ). x == 47 || x == 42) q ∙ h) t
 
 separator_behind : (kind : TokenKind) (bs more : List ℕ) → IsToken kind bs → IsSeparator (bs ++ 32 ∷ more) → ⊥
 separator_behind kind bs more t (inl h) = two_bytes bs h.0 t h.1
@@ -159,10 +150,7 @@ separator_behind kind bs more t (inr (inr h)) = no_comment_behind kind bs more (
 -- what begins as a string does is one
 string_of : (kind : TokenKind) (bs rest body : List ℕ) → IsToken kind bs → bs ++ rest ≡ 34 ∷ body → (text : List ℕ) × (Some kind ≡ Some (kinds.Text text)) × IsString bs text
 string_of kind [] rest body t e = absurd (some_byte (Some kind) t)
-string_of kind (c ∷ bs) rest body t e = form_at (Some kind) c bs Quote (ap class_of (head c 34 _ _ e)) t
-  where
-    head : (b c : ℕ) (xs ys : List ℕ) → b ∷ xs ≡ c ∷ ys → b ≡ c
-    head b c xs ys e = cc
+string_of kind (c ∷ bs) rest body t e = form_at (Some kind) c bs Quote (ap class_of (firsts c 34 _ _ e)) t
 
 string_behind : (kind : TokenKind) (bs more text : List ℕ) → IsToken kind bs → IsString (bs ++ 32 ∷ more) text → ⊥
 string_behind kind bs more text t h =

@@ -1,5 +1,5 @@
 -- What tests of numbers and lists say.
-use Rattle.std.proofs.Common.{◌≡◌, ◌≢◌, ℕ, Bool, true, false, cond, ◌||◌, ◌&&◌, List, ◌∷◌, refl, inl, inr, arith}
+use Rattle.std.proofs.Common.{◌≡◌, ◌≢◌, ℕ, Bool, true, false, cond, ◌||◌, ◌&&◌, List, [], ◌∷◌, refl, inl, inr, arith}
 use Rattle.std.specs.Prelude.{◌⊎◌, ◌==◌}
 use Rattle.std.proofs.lemmas.Bool.{false≢true}
 use Rattle.std.proofs.lemmas.Bool.Decides.{nat_tests}
@@ -32,3 +32,10 @@ tails b c xs ys e = cc
 
 pub heads_apart : (b c : ℕ) (xs ys : List ℕ) → (b == c) ≡ false → b ∷ xs ≡ c ∷ ys → ⊥
 heads_apart b c xs ys h e = is_ne b c h (cc e)
+
+-- their first elements
+pub firsts : (b c : ℕ) (xs ys : List ℕ) → b ∷ xs ≡ c ∷ ys → b ≡ c
+firsts b c xs ys e = cc
+
+pub nil_apart : (b : ℕ) (xs : List ℕ) → b ∷ xs ≡ [] → ⊥
+nil_apart b xs e = cc

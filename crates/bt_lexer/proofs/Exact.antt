@@ -172,22 +172,18 @@ found_fault offset b bs (faults.BadEscape at) h = at_string offset (b ∷ bs) h.
 found_fault offset b bs (faults.StringTooLong at) h = at_string offset (b ∷ bs) h.0 h.1 (34 ∷ h.2) h.3 ∙ rw (lt-ltb 1024 (length h.1) h.4, h.5) refl
 found_fault offset b bs faults.Memory h = absurd h
 
+no_number : (number rest : List ℕ) (n : ℕ) → BeginsWithNumber [] number n rest → ⊥
+no_number [] rest n b = elim b.1 [ inl k ↦ k | inr (inl k) ↦ k | inr (inr k) ↦ cc k.1 ]
+no_number (d ∷ number) rest n b = cc b.0
+
 -- a fault begins with a byte
 pub some_fault_byte : (offset : ℕ) (fault : LexError) → IsFault offset [] fault → ⊥
 some_fault_byte offset (faults.BadChar at) (inl h) = h.0
 some_fault_byte offset (faults.BadChar at) (inr (inl h)) = no_number h.0 h.1 h.2 h.3
-  where
-    no_number : (number rest : List ℕ) (n : ℕ) → BeginsWithNumber [] number n rest → ⊥
-    no_number [] rest n b = elim b.1 [ inl k ↦ k | inr (inl k) ↦ k | inr (inr k) ↦ cc k.1 ]
-    no_number (d ∷ number) rest n b = cc b.0
 some_fault_byte offset (faults.BadChar at) (inr (inr h)) = cc h.3.0
 some_fault_byte offset (faults.OpenString at) h = cc h.3.0
 some_fault_byte offset (faults.OpenComment at) h = cc h.1
 some_fault_byte offset (faults.NumberTooLarge at) h = no_number h.0 h.1 h.2 h.3
-  where
-    no_number : (number rest : List ℕ) (n : ℕ) → BeginsWithNumber [] number n rest → ⊥
-    no_number [] rest n b = elim b.1 [ inl k ↦ k | inr (inl k) ↦ k | inr (inr k) ↦ cc k.1 ]
-    no_number (d ∷ number) rest n b = cc b.0
 some_fault_byte offset (faults.BadEscape at) h = cc h.3.0
 some_fault_byte offset (faults.StringTooLong at) h = cc h.3.0
 some_fault_byte offset faults.Memory h = h

@@ -10,7 +10,7 @@ use Rattle.bt_lexer.specs.Tokens.{IsLongest}
 use Rattle.bt_lexer.specs.Scan.{separator, line_len, closes, comment_len, comment_piece}
 use Rattle.bt_lexer.proofs.Classes.{Blank, Slash, class_of, blank_class, apart}
 use Rattle.bt_lexer.proofs.Pieces.{Answers, form_at, marks_pass}
-use Rattle.bt_lexer.proofs.Choices.{decided, is_eq, and_both, tails, heads_apart}
+use Rattle.bt_lexer.proofs.Choices.{decided, is_eq, and_both, tails, heads_apart, nil_apart}
 use Rattle.bt_lexer.proofs.Runs.{run, no_more, every_back}
 
 -- ---- blanks
@@ -49,9 +49,6 @@ line_longest front rest stop more after kind e h = elim (form_at kind 47 (47 ∷
   | inl (e', inr (inr k)) ↦ absurd (heads_apart _ _ _ _ refl (tails 47 47 _ _ k.1))
   | inr m ↦ absurd (mark_is_no_comment 47 (front ++ more) refl m.1)
 ]
-  where
-    nil_apart : (b : ℕ) (xs : List ℕ) → b ∷ xs ≡ [] → ⊥
-    nil_apart b xs e = cc
 
 pub line_sound : (offset : ℕ) (bs : List ℕ) → Answers offset (47 ∷ 47 ∷ bs) (separator (line_len bs + 2))
 line_sound offset bs =
@@ -125,9 +122,6 @@ block_longest body rest never more after kind e h = elim (form_at kind 47 (42 �
   | inl (e', inr (inr k)) ↦ first_close body k.0 more [] never k.2 (sym (append_assoc body (42 ∷ 47 ∷ []) more) ∙ tails 42 42 _ _ (tails 47 47 _ _ k.1))
   | inr m ↦ absurd (mark_is_no_comment 42 _ refl m.1)
 ]
-  where
-    nil_apart : (b : ℕ) (xs : List ℕ) → b ∷ xs ≡ [] → ⊥
-    nil_apart b xs e = cc
 
 pub comment_sound : (offset : ℕ) (bs : List ℕ) → Answers offset (47 ∷ 42 ∷ bs) (comment_piece offset (comment_len 0 bs))
 comment_sound offset bs = by_count (comment_len 0 bs) (counted 0 bs)
