@@ -1,0 +1,9 @@
+pub mod Bytes
+pub mod Marks
+pub mod Numbers
+pub mod Places
+pub mod Scan
+pub mod Separators
+pub mod Strings
+pub mod Tokens
+pub mod Words

@@ -1,0 +1,11 @@
+-- Lines and columns, both from 1; a column counts bytes.
+use Rattle.std.specs.Prelude.{ℕ, ◌+◌, ◌==◌, List, length, reverse, count_by, take_while}
+use Rattle.bt_lexer.specs.Bytes.{not_newline}
+
+-- the line of what stands behind these bytes
+abbrev pub line_behind : List ℕ → ℕ
+line_behind before = 1 + count_by (λ b. b == 10) before
+
+-- its column, by the bytes behind the last newline
+abbrev pub column_behind : List ℕ → ℕ
+column_behind before = 1 + length (take_while not_newline (reverse before))

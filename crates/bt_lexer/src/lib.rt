@@ -1,0 +1,17 @@
+//! The tokens of a script.
+#![tactic(auto)]
+
+mod bytes;
+pub mod error;
+pub mod laws;
+pub mod lexer;
+mod marks;
+mod numbers;
+mod piece;
+mod place;
+mod separators;
+mod strings;
+#[cfg(test)]
+mod tests;
+pub mod token;
+mod words;
