@@ -1,0 +1,10 @@
+//! Event format texts: what tracefs shows of a tracepoint, and the layout that such a text describes.
+//!
+//! The texts are those of `events/SYSTEM/EVENT/format` in the tracefs of Linux.
+#![tactic(auto)]
+
+pub mod bytes;
+pub mod error;
+pub mod field;
+pub mod format;
+pub mod layout;
