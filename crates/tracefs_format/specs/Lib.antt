@@ -1,3 +1,4 @@
 pub mod Bytes
+pub mod Declarations
 pub mod Kinds
 pub mod Sizes

@@ -4,7 +4,9 @@
 #![tactic(auto)]
 
 pub mod bytes;
+pub mod declaration;
 pub mod error;
 pub mod field;
 pub mod format;
 pub mod layout;
+pub mod words;
