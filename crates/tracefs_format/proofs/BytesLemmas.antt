@@ -1,7 +1,7 @@
 -- Laws of the words on bytes.
 use Rattle.std.proofs.Common.{◌≡◌, ℕ, zero, suc, ◌+◌, ◌-◌, ◌*◌, ◌<◌, ◌≤◌, Bool, true, false, cond, not, eqb, ltb, ◌&&◌, List, [], ◌∷◌, ◌++◌, length, take, drop, get_or, Option, Some, None, inl, inr, refl, ap, sym, subst, eq-eqb, ◌∙◌, arith, append_assoc}
 use Rattle.std.specs.Prelude.{◌==◌, ◌≢◌, nat_le, position, MatchOption}
-use Rattle.std.specs.List.{list_all, prefix_len, fold}
+use Rattle.std.specs.List.{list_all, prefix_len, fold, slice_split, onto_first}
 use Rattle.std.specs.Char.{is_ascii_digit}
 use Rattle.std.proofs.lemmas.List.{take_all, take_more, drop_more, take_at, drop_at, length-append}
 use Rattle.std.proofs.lemmas.Bool.{cases_lt, lt-ltb, le-ltb, eqb-true, lt-leb}
@@ -116,6 +116,32 @@ cut_at-Some byte xs i h = cut_at-position byte xs ∙ ap (option_map (cut_of xs)
 
 pub cut_at-None : (byte : ℕ) (xs : List ℕ) → position (λ b. b == byte) xs ≡ None → cut_at byte xs ≡ None
 cut_at-None byte xs h = cut_at-position byte xs ∙ ap (option_map (cut_of xs)) h
+
+-- the pieces that a list is split in are the one before the first such byte, and those after it
+cut_pieces : ℕ → List ℕ → Option (List ℕ × List ℕ) → List (List ℕ)
+cut_pieces byte xs None = xs ∷ []
+cut_pieces byte xs (Some parts) = parts.0 ∷ slice_split (λ b. b == byte) parts.1
+
+cut_pieces-first : (byte x : ℕ) (xs : List ℕ) (o : Option (List ℕ × List ℕ)) → onto_first x (cut_pieces byte xs o) ≡ cut_pieces byte (x ∷ xs) (option_map (with_first x) o)
+unfolding cut_pieces
+cut_pieces-first byte x xs None = refl
+cut_pieces-first byte x xs (Some parts) = refl
+
+slice_split-cut : (byte : ℕ) (xs : List ℕ) → slice_split (λ b. b == byte) xs ≡ cut_pieces byte xs (cut_at byte xs)
+unfolding cut_pieces
+slice_split-cut byte [] = refl
+slice_split-cut byte (x ∷ xs) =
+    let nothing : List ℕ = [] in
+    elim (eqb x byte) as (λ v. cond v ([] ∷ slice_split (λ b. b == byte) xs) (onto_first x (slice_split (λ b. b == byte) xs)) ≡ cut_pieces byte (x ∷ xs) (cond v (Some (nothing, xs)) (option_map (with_first x) (cut_at byte xs))))
+    [ true ↦ refl | false ↦ ap (onto_first x) (slice_split-cut byte xs) ∙ cut_pieces-first byte x xs (cut_at byte xs) ]
+
+pub slice_split-Some : (byte : ℕ) (xs front rest : List ℕ) → cut_at byte xs ≡ Some (front, rest) → slice_split (λ b. b == byte) xs ≡ front ∷ slice_split (λ b. b == byte) rest
+unfolding cut_pieces
+slice_split-Some byte xs front rest h = slice_split-cut byte xs ∙ ap (cut_pieces byte xs) h
+
+pub slice_split-None : (byte : ℕ) (xs : List ℕ) → cut_at byte xs ≡ None → slice_split (λ b. b == byte) xs ≡ xs ∷ []
+unfolding cut_pieces
+slice_split-None byte xs h = slice_split-cut byte xs ∙ ap (cut_pieces byte xs) h
 
 -- ---- labels
 

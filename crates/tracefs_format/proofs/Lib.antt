@@ -1,2 +1,3 @@
 pub mod BytesLemmas
+pub mod TableLemmas
 pub mod WordsLemmas

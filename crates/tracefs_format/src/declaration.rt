@@ -9,6 +9,7 @@ use crate::field::FieldKind;
 use crate::words::{has_word, is_char_words};
 
 /// A declaration in its parts.
+#[derive(Clone, Copy)]
 pub struct Declaration<'a> {
     /// The name, which may be empty.
     pub name: &'a [u8],

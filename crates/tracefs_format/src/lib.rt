@@ -9,4 +9,8 @@ pub mod error;
 pub mod field;
 pub mod format;
 pub mod layout;
+pub mod line;
+pub mod lines;
+pub mod reading;
+pub mod table;
 pub mod words;
