@@ -36,7 +36,7 @@ fn read(alloc: Global, text: &[u8]) -> Result<Layout, FormatError>
 /// The fields that lines describe, of which the first is line 4.
 fn read_fields(alloc: Global, mut lines: Lines<'_>) -> Result<FieldTable, FormatError>
     requires { length lines + 4 < 2 ^ 32 }
-    ensures { Answers result (lines_fault 4 [] (read_lines lines)) (λ table. table ≡ described (read_lines lines)) }
+    ensures { Answers result (lines_fault 4 [] (read_lines lines.entry)) (λ table. table ≡ described (read_lines lines.entry)) }
 {
     let mut table = FieldTable::new(alloc);
     let mut number = 4;
