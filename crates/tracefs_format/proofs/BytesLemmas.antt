@@ -89,7 +89,7 @@ take-without_front p xs =
 abbrev cut_of : List ℕ → ℕ → List ℕ × List ℕ
 cut_of xs i = (take i xs, drop (i + 1) xs)
 
-abbrev with_first : ℕ → List ℕ × List ℕ → List ℕ × List ℕ
+abbrev pub with_first : ℕ → List ℕ × List ℕ → List ℕ × List ℕ
 with_first x parts = (x ∷ parts.0, parts.1)
 
 abbrev place_if : Bool → ℕ → Option ℕ

@@ -38,7 +38,7 @@ list_all-weaker p q h (x ∷ xs) k =
     let parts = and-parts (p x) (list_all p xs) k in
     and-both (q x) (list_all q xs) (h x parts.0) (list_all-weaker p q h xs parts.1)
 
-some_is : {A : Type 0} {x y : A} → Some x ≡ Some y → x ≡ y
+pub some_is : {A : Type 0} {x y : A} → Some x ≡ Some y → x ≡ y
 some_is h = cc
 
 -- ---- fronts and ends that pass
@@ -88,7 +88,7 @@ module _ (p : ℕ → Bool) where
       [ true ↦ λ e. (elim (list_all p xs) as (λ v. list_all p xs ≡ v → without_front p (cond v [] (x ∷ without_end p xs)) ≡ without_end p (without_front p xs))
           [ true ↦ λ k. rw (without_front-all xs k) refl
           | false ↦ λ k. rw e (sides xs) ]) refl
-      | false ↦ λ e. rw (e, e) refl ]) refl
+      | false ↦ λ e. rw e refl ]) refl
 
 abbrev front : List ℕ → List ℕ
 front xs = without_front is_blank xs

@@ -1,0 +1,187 @@
+-- The layout that is read is the one that the text has, and the text has no other.
+use Rattle.std.proofs.Common.{◌≡◌, ◌≢◌, ℕ, zero, suc, ◌+◌, ◌≤◌, ◌<◌, Bool, true, false, cond, not, ◌&&◌, ◌||◌, List, [], ◌∷◌, ◌++◌, length, drop, map, Option, Some, None, Result, Ok, Err, refl, ap, sym, subst, ◌∙◌, arith, eqb}
+use Rattle.std.specs.Prelude.{nat_lt, codes, is_some, ⊤}
+use Rattle.std.specs.List.{list_any, AllByRecursion, cons_option}
+use Rattle.std.specs.Option.{option_or}
+use Rattle.std.specs.Str.{bytes_eq}
+use Rattle.std.proofs.lemmas.Bool.{lt-ltb, le-ltb, ltb-false}
+use Rattle.std.proofs.lemmas.List.{append-nil}
+use Rattle.std.proofs.lemmas.List.Folds.{list_any-append}
+use Rattle.std.proofs.lemmas.Slice.Eq.{bytes_eq-Decides}
+use Rattle.tracefs_format.specs.declared.error.FormatError.{FormatError}
+use Rattle.tracefs_format.specs.declared.error.FormatError.TheVariants.{NoName, BadId, BadField, Overlong, SameName, Memory}
+use Rattle.tracefs_format.specs.declared.field.Field.{Field}
+use Rattle.tracefs_format.specs.declared.layout.Layout.{Layout}
+use Rattle.tracefs_format.specs.FieldLines.{Description, description, IsFieldLine}
+use Rattle.tracefs_format.specs.Lines.{text_lines, IsNameLine, IsIdLine}
+use Rattle.tracefs_format.specs.Reading.{name_on, id_on, field_on}
+use Rattle.tracefs_format.specs.Layouts.{filled, read_lines, AreFieldLines, HaveNamesApart, IsLayoutOf, line_at, described, is_taken, field_fault, line_fault, lines_fault, fault_unless, layout_fault}
+use Rattle.tracefs_format.specs.Sizes.{end_of, greatest_end}
+use Rattle.tracefs_format.specs.Tables.{IsReadOf}
+use Rattle.tracefs_format.proofs.SpellingLaws.{field_on-IsFieldLine, IsFieldLine-field_on, name_on-IsNameLine, IsNameLine-name_on, id_on-IsIdLine, IsIdLine-id_on}
+
+-- ---- tests
+
+or-false : (a b : Bool) → (a || b) ≡ false → (a ≡ false) × (b ≡ false)
+or-false true b h = absurd cc
+or-false false b h = (refl, h)
+
+spread : (n a b : Bool) → (n && (a || (b || false))) ≡ ((n && a) || (n && b))
+spread true a true = refl
+spread true a false = refl
+spread false a b = refl
+
+none_or : (a b : Option FormatError) → option_or a b ≡ None → (a ≡ None) × (b ≡ None)
+none_or None b h = (refl, h)
+none_or (Some e) b h = absurd cc
+
+true_false : true ≡ false → ⊥
+true_false h = cc
+
+and_true : {a b : Bool} → a ≡ true → b ≡ true → (a && b) ≡ true
+and_true h k = rw (h, k) refl
+
+and_false : (a : Bool) → (a && false) ≡ false
+and_false true = refl
+and_false false = refl
+
+some_none : (b : ℕ) (bs : List ℕ) → b ∷ bs ≡ [] → ⊥
+some_none b bs h = cc
+
+untaken : (number : ℕ) (b : Bool) → cond b (Some (SameName number)) None ≡ None → b ≡ false
+untaken number true h = absurd cc
+untaken number false h = refl
+
+abbrev first_or : List Description → Description → Description
+first_or [] d = d
+first_or (e ∷ es) d = e
+
+abbrev rest_of : List Description → List Description
+rest_of [] = []
+rest_of (e ∷ es) = es
+
+-- ---- names
+
+taken-push : (name : List ℕ) (earlier : List Description) (d : Description) → is_taken name (earlier ++ d ∷ []) ≡ (is_taken name earlier || (nat_lt 0 (length name) && bytes_eq d.name name))
+taken-push name earlier d =
+    ap (λ v. nat_lt 0 (length name) && v) (list_any-append (λ e. bytes_eq e.name name) earlier (d ∷ [])) ∙ spread (nat_lt 0 (length name)) (list_any (λ e. bytes_eq e.name name) earlier) (bytes_eq d.name name)
+
+apart-from : (name other : List ℕ) → (nat_lt 0 (length other) && bytes_eq name other) ≡ false → name ≡ other → other ≡ []
+apart-from name [] h e = refl
+apart-from name (b ∷ bs) h e =
+    let some : nat_lt 0 (length (b ∷ bs)) ≡ true = lt-ltb 0 (length (b ∷ bs)) (omega arith) in
+    let same : bytes_eq name (b ∷ bs) ≡ true = (bytes_eq-Decides name (b ∷ bs)).1 e in
+    absurd (true_false (sym (and_true some same) ∙ h))
+
+untaken-from : (name other : List ℕ) → (name ≡ other → other ≡ []) → (nat_lt 0 (length other) && bytes_eq name other) ≡ false
+untaken-from name [] h = refl
+untaken-from name (b ∷ bs) h =
+    (elim (bytes_eq name (b ∷ bs)) as (λ v. bytes_eq name (b ∷ bs) ≡ v → (nat_lt 0 (length (b ∷ bs)) && v) ≡ false)
+    [ true ↦ λ e. absurd (some_none b bs (h ((bytes_eq-Decides name (b ∷ bs)).0 e)))
+    | false ↦ λ e. and_false (nat_lt 0 (length (b ∷ bs))) ]) refl
+
+-- none of the fields has the name of an earlier one
+abbrev AreNew : List Description → List Field → Type 0
+AreNew earlier fs = AllByRecursion (λ g. is_taken g.name earlier ≡ false) fs
+
+abbrev AreApartFrom : List ℕ → List Field → Type 0
+AreApartFrom name fs = AllByRecursion (λ g. name ≡ g.name → g.name ≡ []) fs
+
+new-parts : (earlier : List Description) (d : Description) (fs : List Field) → AreNew (earlier ++ d ∷ []) fs → AreNew earlier fs × AreApartFrom d.name fs
+new-parts earlier d [] h = (tt, tt)
+new-parts earlier d (g ∷ fs) h =
+    let here = or-false (is_taken g.name earlier) (nat_lt 0 (length g.name) && bytes_eq d.name g.name) (sym (taken-push g.name earlier d) ∙ h.0) in
+    let rest = new-parts earlier d fs h.1 in
+    ((here.0, rest.0), (apart-from d.name g.name here.1, rest.1))
+
+parts-new : (earlier : List Description) (d : Description) (fs : List Field) → AreNew earlier fs → AreApartFrom d.name fs → AreNew (earlier ++ d ∷ []) fs
+parts-new earlier d [] h k = tt
+parts-new earlier d (g ∷ fs) h k =
+    (taken-push g.name earlier d ∙ rw (h.0, untaken-from d.name g.name k.0) refl, parts-new earlier d fs h.1 k.1)
+
+none_new : (fs : List Field) → AreNew [] fs
+none_new [] = tt
+none_new (g ∷ fs) = (and_false (nat_lt 0 (length g.name)), none_new fs)
+
+-- ---- the lines of fields
+
+-- the fields of lines that no rule refuses
+record AreRead (earlier : List Description) (lines : List (List ℕ)) (fs : List Field) : Type 0 where
+  lines_are : AreFieldLines (filled lines) fs
+  ends_fit : AllByRecursion (λ f. end_of f ≤ 4096) fs
+  names_apart : HaveNamesApart fs
+  names_new : AreNew earlier fs
+
+empty-described : described ([] ∷ []) ≡ []
+unfolding field_on
+empty-described = refl
+
+empty-passed : (lines : List (List ℕ)) → described ([] ∷ lines) ≡ described lines
+unfolding field_on
+empty-passed lines = refl
+
+filled-cons : (b : ℕ) (bs : List ℕ) (lines : List (List ℕ)) → filled ((b ∷ bs) ∷ lines) ≡ (b ∷ bs) ∷ filled lines
+filled-cons b bs lines = rw (lt-ltb 0 (length (b ∷ bs)) (omega arith)) refl
+
+line_fault-some : (number : ℕ) (earlier : List Description) (b : ℕ) (bs : List ℕ) → line_fault number earlier (b ∷ bs) ≡ field_fault number earlier (field_on (b ∷ bs))
+line_fault-some number earlier b bs = rw (lt-ltb 0 (length (b ∷ bs)) (omega arith)) refl
+
+field_fault-none : (number : ℕ) (earlier : List Description) (d : Description) → field_fault number earlier (Some d) ≡ None → (d.offset + d.size ≤ 4096) × (is_taken d.name earlier ≡ false)
+field_fault-none number earlier d h =
+    (elim (nat_lt 4096 (d.offset + d.size)) as (λ v. nat_lt 4096 (d.offset + d.size) ≡ v → cond v (Some (Overlong number)) (cond (is_taken d.name earlier) (Some (SameName number)) None) ≡ None → (d.offset + d.size ≤ 4096) × (is_taken d.name earlier ≡ false))
+    [ true ↦ λ e g. absurd cc
+    | false ↦ λ e g. (ltb-false 4096 (d.offset + d.size) e, untaken number (is_taken d.name earlier) g) ]) refl h
+
+none-field_fault : (number : ℕ) (earlier : List Description) (d : Description) → d.offset + d.size ≤ 4096 → is_taken d.name earlier ≡ false → field_fault number earlier (Some d) ≡ None
+none-field_fault number earlier d h k = rw (le-ltb 4096 (d.offset + d.size) h, k) refl
+
+field_read : (number : ℕ) (earlier : List Description) (line : List ℕ) (lines : List (List ℕ)) (fs : List Field) (o : Option Description) → field_on line ≡ o
+    → ((gs : List Field) (d : Description) → lines_fault (number + 1) (earlier ++ d ∷ []) lines ≡ None → map description gs ≡ described lines → AreRead (earlier ++ d ∷ []) lines gs)
+    → field_fault number earlier o ≡ None → lines_fault (number + 1) (earlier ++ cons_option o []) lines ≡ None → map description fs ≡ cons_option o (described lines)
+    → (g : Field) × (gs : List Field) × (fs ≡ g ∷ gs) × IsFieldLine line (description g) × (end_of g ≤ 4096) × (is_taken g.name earlier ≡ false) × AreApartFrom g.name gs × AreRead earlier lines gs
+
+field_read number earlier line lines fs None e next fault later same = absurd cc
+field_read number earlier line lines [] (Some d) e next fault later same = absurd cc
+field_read number earlier line lines (g ∷ gs) (Some d) e next fault later same =
+    let head : description g ≡ d = ap (λ es. first_or es d) same in
+    let rest : map description gs ≡ described lines = ap rest_of same in
+    let free = field_fault-none number earlier d fault in
+    let read = next gs d later rest in
+    let new = new-parts earlier d gs read.names_new in
+    (g, gs, refl, subst (IsFieldLine line) (sym head) (field_on-IsFieldLine line d e), subst (λ (c : Description). c.offset + c.size ≤ 4096) (sym head) free.0,
+     subst (λ (c : Description). is_taken c.name earlier ≡ false) (sym head) free.1, subst (λ (c : Description). AreApartFrom c.name gs) (sym head) new.1,
+     record { lines_are = read.lines_are; ends_fit = read.ends_fit; names_apart = read.names_apart; names_new = new.0 })
+
+fields_read : (number : ℕ) (earlier : List Description) (lines : List (List ℕ)) (fs : List Field) → lines_fault number earlier lines ≡ None → map description fs ≡ described lines → AreRead earlier lines fs
+fields_read number earlier [] [] h same = record { lines_are = tt; ends_fit = tt; names_apart = tt; names_new = tt }
+fields_read number earlier [] (f ∷ fs) h same = absurd cc
+fields_read number earlier ([] ∷ lines) fs h same =
+    let later : lines_fault (number + 1) earlier lines ≡ None = ap (λ es. lines_fault (number + 1) es lines) (sym (append-nil earlier) ∙ ap (λ es. earlier ++ es) (sym empty-described)) ∙ h in
+    let read = fields_read (number + 1) earlier lines fs later (same ∙ empty-passed lines) in
+    record { lines_are = read.lines_are; ends_fit = read.ends_fit; names_apart = read.names_apart; names_new = read.names_new }
+fields_read number earlier ((b ∷ bs) ∷ lines) fs h same =
+    let faults = none_or (line_fault number earlier (b ∷ bs)) (lines_fault (number + 1) (earlier ++ described ((b ∷ bs) ∷ [])) lines) h in
+    let one = field_read number earlier (b ∷ bs) lines fs (field_on (b ∷ bs)) refl (λ gs d later rest. fields_read (number + 1) (earlier ++ d ∷ []) lines gs later rest) (sym (line_fault-some number earlier b bs) ∙ faults.0) faults.1 same in
+    subst (AreRead earlier ((b ∷ bs) ∷ lines)) (sym one.2) (record {
+      lines_are = subst (λ ls. AreFieldLines ls (one.0 ∷ one.1)) (sym (filled-cons b bs lines)) (one.3, one.7.lines_are);
+      ends_fit = (one.4, one.7.ends_fit);
+      names_apart = (one.6, one.7.names_apart);
+      names_new = (one.5, one.7.names_new);
+    })
+
+-- lines that spell fields which no rule refuses have no fault, and say these fields
+fields_again : (number : ℕ) (earlier : List Description) (lines : List (List ℕ)) (fs : List Field) → AreRead earlier lines fs → (lines_fault number earlier lines ≡ None) × (map description fs ≡ described lines)
+fields_again number earlier [] [] r = (refl, refl)
+fields_again number earlier [] (f ∷ fs) r = absurd r.lines_are
+fields_again number earlier ([] ∷ lines) fs r =
+    let rest = fields_again (number + 1) earlier lines fs (record { lines_are = r.lines_are; ends_fit = r.ends_fit; names_apart = r.names_apart; names_new = r.names_new }) in
+    (ap (λ es. lines_fault (number + 1) es lines) (ap (λ es. earlier ++ es) empty-described ∙ append-nil earlier) ∙ rest.0, rest.1 ∙ sym (empty-passed lines))
+fields_again number earlier ((b ∷ bs) ∷ lines) [] r = absurd (subst (λ ls. AreFieldLines ls []) (filled-cons b bs lines) r.lines_are)
+fields_again number earlier ((b ∷ bs) ∷ lines) (f ∷ fs) r =
+    let spelled = subst (λ ls. AreFieldLines ls (f ∷ fs)) (filled-cons b bs lines) r.lines_are in
+    let said : field_on (b ∷ bs) ≡ Some (description f) = IsFieldLine-field_on (b ∷ bs) (description f) spelled.0 in
+    let one : described ((b ∷ bs) ∷ []) ≡ description f ∷ [] = ap (λ o. cons_option o []) said in
+    let rest = fields_again (number + 1) (earlier ++ description f ∷ []) lines fs (record { lines_are = spelled.1; ends_fit = r.ends_fit.1; names_apart = r.names_apart.1; names_new = parts-new earlier (description f) fs r.names_new.1 r.names_apart.0 }) in
+    let here : line_fault number earlier (b ∷ bs) ≡ None = line_fault-some number earlier b bs ∙ ap (field_fault number earlier) said ∙ none-field_fault number earlier (description f) r.ends_fit.0 r.names_new.0 in
+    (ap (λ o. option_or o (lines_fault (number + 1) (earlier ++ described ((b ∷ bs) ∷ [])) lines)) here ∙ ap (λ es. lines_fault (number + 1) (earlier ++ es) lines) one ∙ rest.0,
+     ap (λ ds. description f ∷ ds) rest.1 ∙ sym (ap (λ o. cons_option o (described lines)) said))
