@@ -1,6 +1,6 @@
 -- The layout that is read is the one that the text has, and the text has no other.
-use Rattle.std.proofs.Common.{◌≡◌, ◌≢◌, ℕ, zero, suc, ◌+◌, ◌≤◌, ◌<◌, Bool, true, false, cond, not, ◌&&◌, ◌||◌, List, [], ◌∷◌, ◌++◌, length, drop, map, Option, Some, None, Result, Ok, Err, refl, ap, sym, subst, ◌∙◌, arith, eqb}
-use Rattle.std.specs.Prelude.{nat_lt, codes, is_some, ⊤}
+use Rattle.std.proofs.Common.{◌≡◌, ◌≢◌, ℕ, zero, suc, ◌+◌, ◌≤◌, ◌<◌, Bool, true, false, cond, not, ◌&&◌, ◌||◌, List, [], ◌∷◌, ◌++◌, length, drop, map, Option, Some, None, Result, Ok, Err, ◌⊎◌, inl, inr, refl, ap, sym, subst, ◌∙◌, arith, eqb}
+use Rattle.std.specs.Prelude.{nat_lt, codes, is_some, ⊤, IfOk, IfErr, IsTrue}
 use Rattle.std.specs.List.{list_any, AllByRecursion, cons_option}
 use Rattle.std.specs.Option.{option_or}
 use Rattle.std.specs.Str.{bytes_eq}
@@ -17,7 +17,11 @@ use Rattle.tracefs_format.specs.Lines.{text_lines, IsNameLine, IsIdLine}
 use Rattle.tracefs_format.specs.Reading.{name_on, id_on, field_on}
 use Rattle.tracefs_format.specs.Layouts.{filled, read_lines, AreFieldLines, HaveNamesApart, IsLayoutOf, line_at, described, is_taken, field_fault, line_fault, lines_fault, fault_unless, layout_fault}
 use Rattle.tracefs_format.specs.Sizes.{end_of, greatest_end}
-use Rattle.tracefs_format.specs.Tables.{IsReadOf}
+use Rattle.tracefs_format.specs.Declarations.{kind_of}
+use Rattle.tracefs_format.specs.Kinds.{fits_kind, is_number_size}
+use Rattle.tracefs_format.specs.Tables.{Answers, Fails, IsReadOf}
+use Rattle.tracefs_format.proofs.SameLaws.{same_layout}
+use Rattle.tracefs_format.proofs.StripLaws.{some_is}
 use Rattle.tracefs_format.proofs.SpellingLaws.{field_on-IsFieldLine, IsFieldLine-field_on, name_on-IsNameLine, IsNameLine-name_on, id_on-IsIdLine, IsIdLine-id_on}
 
 -- ---- tests
@@ -59,6 +63,9 @@ first_or (e ∷ es) d = e
 abbrev rest_of : List Description → List Description
 rest_of [] = []
 rest_of (e ∷ es) = es
+
+none_some : {A : Type 0} {x : A} → None ≡ Some x → ⊥
+none_some h = cc
 
 -- ---- names
 
@@ -185,3 +192,112 @@ fields_again number earlier ((b ∷ bs) ∷ lines) (f ∷ fs) r =
     let here : line_fault number earlier (b ∷ bs) ≡ None = line_fault-some number earlier b bs ∙ ap (field_fault number earlier) said ∙ none-field_fault number earlier (description f) r.ends_fit.0 r.names_new.0 in
     (ap (λ o. option_or o (lines_fault (number + 1) (earlier ++ described ((b ∷ bs) ∷ [])) lines)) here ∙ ap (λ es. lines_fault (number + 1) (earlier ++ es) lines) one ∙ rest.0,
      ap (λ ds. description f ∷ ds) rest.1 ∙ sym (ap (λ o. cons_option o (described lines)) said))
+
+-- ---- the whole text
+
+three_lines : (lines : List (List ℕ)) → line_at 2 lines ≡ codes "format:" → lines ≡ line_at 0 lines ∷ (line_at 1 lines ∷ (codes "format:" ∷ drop 3 lines))
+three_lines [] h = absurd cc
+three_lines (x ∷ []) h = absurd cc
+three_lines (x ∷ y ∷ []) h = absurd cc
+three_lines (x ∷ y ∷ z ∷ lines) h = ap (λ l. x ∷ (y ∷ (l ∷ lines))) h
+
+there : (b : Bool) (fault : FormatError) → fault_unless b fault ≡ None → b ≡ true
+there true fault h = refl
+there false fault h = absurd cc
+
+-- what is read without a fault is a layout of the text
+pub read-IsLayoutOf : (text : List ℕ) (layout : Layout) → layout_fault text ≡ None → IsReadOf text layout → IsLayoutOf text layout
+unfolding layout_fault
+read-IsLayoutOf text layout h r =
+    let lines = text_lines text in
+    let after_name = none_or (fault_unless (is_some (name_on (line_at 0 lines))) NoName) (option_or (fault_unless (is_some (id_on (line_at 1 lines))) BadId) (option_or (fault_unless (bytes_eq (line_at 2 lines) (codes "format:")) (BadField 3)) (lines_fault 4 [] (read_lines (drop 3 lines))))) h in
+    let after_id = none_or (fault_unless (is_some (id_on (line_at 1 lines))) BadId) (option_or (fault_unless (bytes_eq (line_at 2 lines) (codes "format:")) (BadField 3)) (lines_fault 4 [] (read_lines (drop 3 lines)))) after_name.1 in
+    let after_format = none_or (fault_unless (bytes_eq (line_at 2 lines) (codes "format:")) (BadField 3)) (lines_fault 4 [] (read_lines (drop 3 lines))) after_id.1 in
+    let third : line_at 2 lines ≡ codes "format:" = (bytes_eq-Decides (line_at 2 lines) (codes "format:")).0 (there (bytes_eq (line_at 2 lines) (codes "format:")) (BadField 3) after_format.0) in
+    let read = fields_read 4 [] (read_lines (drop 3 lines)) layout.fields after_format.1 r.2 in
+    record {
+      first = line_at 0 lines;
+      second = line_at 1 lines;
+      others = drop 3 lines;
+      lines = three_lines lines third;
+      name = name_on-IsNameLine (line_at 0 lines) layout.name r.0;
+      id = id_on-IsIdLine (line_at 1 lines) layout.id r.1;
+      fields = read.lines_are;
+      ends = read.ends_fit;
+      names = read.names_apart;
+      size = layout.covers;
+    }
+
+-- a layout of the text is read without a fault
+pub IsLayoutOf-read : (text : List ℕ) (layout : Layout) → IsLayoutOf text layout → (layout_fault text ≡ None) × IsReadOf text layout
+unfolding layout_fault
+IsLayoutOf-read text layout s =
+    let lines = text_lines text in
+    let first : line_at 0 lines ≡ s.first = ap (line_at 0) s.lines in
+    let second : line_at 1 lines ≡ s.second = ap (line_at 1) s.lines in
+    let third : line_at 2 lines ≡ codes "format:" = ap (line_at 2) s.lines in
+    let others : drop 3 lines ≡ s.others = ap (drop 3) s.lines in
+    let named : name_on (line_at 0 lines) ≡ Some layout.name = ap name_on first ∙ IsNameLine-name_on s.first layout.name s.name in
+    let numbered : id_on (line_at 1 lines) ≡ Some layout.id = ap id_on second ∙ IsIdLine-id_on s.second layout.id s.id in
+    let marked : bytes_eq (line_at 2 lines) (codes "format:") ≡ true = (bytes_eq-Decides (line_at 2 lines) (codes "format:")).1 third in
+    let again = fields_again 4 [] (read_lines s.others) layout.fields (record { lines_are = s.fields; ends_fit = s.ends; names_apart = s.names; names_new = none_new layout.fields }) in
+    let fields : lines_fault 4 [] (read_lines (drop 3 lines)) ≡ None = ap (λ ls. lines_fault 4 [] (read_lines ls)) others ∙ again.0 in
+    (ap (λ o. option_or (fault_unless (is_some o) NoName) (option_or (fault_unless (is_some (id_on (line_at 1 lines))) BadId) (option_or (fault_unless (bytes_eq (line_at 2 lines) (codes "format:")) (BadField 3)) (lines_fault 4 [] (read_lines (drop 3 lines)))))) named
+     ∙ ap (λ o. option_or (fault_unless (is_some o) BadId) (option_or (fault_unless (bytes_eq (line_at 2 lines) (codes "format:")) (BadField 3)) (lines_fault 4 [] (read_lines (drop 3 lines))))) numbered
+     ∙ ap (λ b. option_or (fault_unless b (BadField 3)) (lines_fault 4 [] (read_lines (drop 3 lines)))) marked ∙ fields,
+     (named, numbered, again.1 ∙ ap (λ ls. described (read_lines ls)) (sym others)))
+
+pub one_read : (text : List ℕ) (a b : Layout) → IsReadOf text a → IsReadOf text b → a ≡ b
+one_read text a b r s = same_layout a b (some_is (sym r.0 ∙ s.0)) (some_is (sym r.1 ∙ s.1)) (r.2 ∙ sym s.2)
+
+-- a text has at most one layout
+pub one_layout : (text : List ℕ) (a b : Layout) → IsLayoutOf text a → IsLayoutOf text b → a ≡ b
+one_layout text a b s t = one_read text a b (IsLayoutOf-read text a s).1 (IsLayoutOf-read text b t).1
+
+-- ---- what a reader answers
+
+fails-is : (e : FormatError) (fault : Option FormatError) → e ≢ Memory → Fails e fault → fault ≡ Some e
+fails-is NoName fault n h = h
+fails-is BadId fault n h = h
+fails-is (BadField line) fault n h = h
+fails-is (Overlong line) fault n h = h
+fails-is (SameName line) fault n h = h
+fails-is Memory fault n h = absurd (n refl)
+
+fails-or : (e : FormatError) (fault : Option FormatError) → Fails e fault → (fault ≡ Some e) ⊎ (e ≡ Memory)
+fails-or NoName fault h = inl h
+fails-or BadId fault h = inl h
+fails-or (BadField line) fault h = inl h
+fails-or (Overlong line) fault h = inl h
+fails-or (SameName line) fault h = inl h
+fails-or Memory fault h = inr refl
+
+pub answer-found : (text : List ℕ) (r : Result Layout FormatError) → Answers r (layout_fault text) (IsReadOf text) → IfOk r (λ l. IsLayoutOf text l)
+answer-found text (Ok l) a = read-IsLayoutOf text l a.0 a.1
+answer-found text (Err e) a = tt
+
+pub answer-only : (text : List ℕ) (r : Result Layout FormatError) → Answers r (layout_fault text) (IsReadOf text) → (l : Layout) → IsLayoutOf text l → (r ≡ Ok l) ⊎ (r ≡ Err Memory)
+answer-only text (Ok m) a l s = inl (ap Ok (one_read text m l a.1 (IsLayoutOf-read text l s).1))
+answer-only text (Err e) a l s =
+    elim (fails-or e (layout_fault text) a) [
+    | inl fault ↦ absurd (none_some (sym (IsLayoutOf-read text l s).0 ∙ fault))
+    | inr memory ↦ inr (ap Err memory)
+    ]
+
+pub answer-fault : (text : List ℕ) (r : Result Layout FormatError) → Answers r (layout_fault text) (IsReadOf text) → IfErr r (λ e. e ≢ Memory → layout_fault text ≡ Some e)
+answer-fault text (Ok l) a = tt
+answer-fault text (Err e) a = λ n. fails-is e (layout_fault text) n a
+
+pub answer-refused : (text : List ℕ) (r : Result Layout FormatError) → Answers r (layout_fault text) (IsReadOf text) → (e : FormatError) → layout_fault text ≡ Some e → (r ≡ Err e) ⊎ (r ≡ Err Memory)
+answer-refused text (Ok l) a e h = absurd (none_some (sym a.0 ∙ h))
+answer-refused text (Err d) a e h =
+    elim (fails-or d (layout_fault text) a) [
+    | inl fault ↦ inl (ap Err (some_is (sym fault ∙ h)))
+    | inr memory ↦ inr (ap Err memory)
+    ]
+
+-- ---- there is a layout where there is no fault
+
+kind_of-sized : (type : List ℕ) (is_array : Bool) (size : ℕ) → IsTrue (fits_kind (kind_of type is_array size) size)
+unfolding kind_of
+kind_of-sized type is_array size = ?

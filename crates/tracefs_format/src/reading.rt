@@ -13,7 +13,33 @@ use crate::lines::Lines;
 use crate::table::{copied, FieldTable};
 use std::alloc::Global;
 
-/// The layout of a format text.
+/// The layout of a format text, in the form of `/sys/kernel/tracing/events/SYSTEM/EVENT/format`.
+///
+/// Lines end at newlines; blanks and carriage returns at their ends are passed over. The text is
+/// read in time linear in its bytes, apart from looking up the names of its fields in an ordered set.
+///
+/// # Errors
+///
+/// The first rule that the text breaks, in the order of its lines: [`FormatError::NoName`] at line 1,
+/// [`FormatError::BadId`] at line 2, [`FormatError::BadField`] at line 3 or later, and at one line
+/// [`FormatError::BadField`] before [`FormatError::Overlong`] before [`FormatError::SameName`]. What
+/// stands after a line that begins with `print fmt:` is not read. [`FormatError::Memory`] may come at
+/// any text.
+pub fn read_layout(alloc: Global, text: &[u8]) -> Result<Layout, FormatError>
+    requires { length text.now < 2 ^ 32 }
+    // What is read is the text's layout.
+    ensures found { IfOk result (λ layout. IsLayoutOf text.now layout) }
+    // The text's layout is read, unless memory runs out.
+    ensures only { (layout : Layout) → IsLayoutOf text.now layout → (result ≡ Ok layout) ⊎ (result ≡ Err FormatError.Memory) }
+    // Any other error is the first rule that the text breaks.
+    ensures fault { IfErr result (λ e. e ≢ FormatError.Memory → layout_fault text.now ≡ Some e) }
+    // The first rule that the text breaks is answered, unless memory runs out.
+    ensures refused { (e : FormatError) → layout_fault text.now ≡ Some e → (result ≡ Err e) ⊎ (result ≡ Err FormatError.Memory) }
+{
+    read(alloc, text)
+}
+
+/// What the text's lines say, or the first fault.
 #[tactic(auto, unfolding(crate::specs::Layouts::layout_fault))]
 fn read(alloc: Global, text: &[u8]) -> Result<Layout, FormatError>
     requires { length text.now < 2 ^ 32 }
