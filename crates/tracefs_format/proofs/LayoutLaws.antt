@@ -1,7 +1,7 @@
 -- The layout that is read is the one that the text has, and the text has no other.
 use Rattle.std.proofs.Common.{◌≡◌, ◌≢◌, ℕ, zero, suc, ◌+◌, ◌≤◌, ◌<◌, Bool, true, false, cond, not, ◌&&◌, ◌||◌, List, [], ◌∷◌, ◌++◌, length, drop, map, Option, Some, None, Result, Ok, Err, ◌⊎◌, inl, inr, refl, ap, sym, subst, ◌∙◌, arith, eqb}
-use Rattle.std.specs.Prelude.{nat_lt, codes, is_some, ⊤, IfOk, IfErr, IsTrue}
-use Rattle.std.specs.List.{list_any, AllByRecursion, cons_option}
+use Rattle.std.specs.Prelude.{◌==◌, nat_lt, nat_eq, codes, is_some, ⊤, IfOk, IfErr, IsTrue}
+use Rattle.std.specs.List.{list_any, starts_with, AllByRecursion, cons_option}
 use Rattle.std.specs.Option.{option_or}
 use Rattle.std.specs.Str.{bytes_eq}
 use Rattle.std.proofs.lemmas.Bool.{lt-ltb, le-ltb, ltb-false}
@@ -17,11 +17,14 @@ use Rattle.tracefs_format.specs.Lines.{text_lines, IsNameLine, IsIdLine}
 use Rattle.tracefs_format.specs.Reading.{name_on, id_on, field_on}
 use Rattle.tracefs_format.specs.Layouts.{filled, read_lines, AreFieldLines, HaveNamesApart, IsLayoutOf, line_at, described, is_taken, field_fault, line_fault, lines_fault, fault_unless, layout_fault}
 use Rattle.tracefs_format.specs.Sizes.{end_of, greatest_end}
-use Rattle.tracefs_format.specs.Declarations.{kind_of}
+use Rattle.tracefs_format.specs.declared.field.FieldKind.{FieldKind}
+use Rattle.tracefs_format.specs.declared.field.FieldKind.TheVariants.{Number, Chars, DataLoc, Other}
+use Rattle.tracefs_format.specs.Bytes.{words}
+use Rattle.tracefs_format.specs.Declarations.{kind_of, is_char_words, declared_type, ungrouped}
 use Rattle.tracefs_format.specs.Kinds.{fits_kind, is_number_size}
 use Rattle.tracefs_format.specs.Tables.{Answers, Fails, IsReadOf}
 use Rattle.tracefs_format.proofs.SameLaws.{same_layout}
-use Rattle.tracefs_format.proofs.StripLaws.{some_is}
+use Rattle.tracefs_format.proofs.StripLaws.{some_is, and-parts}
 use Rattle.tracefs_format.proofs.SpellingLaws.{field_on-IsFieldLine, IsFieldLine-field_on, name_on-IsNameLine, IsNameLine-name_on, id_on-IsIdLine, IsIdLine-id_on}
 
 -- ---- tests
@@ -298,6 +301,73 @@ answer-refused text (Err d) a e h =
 
 -- ---- there is a layout where there is no fault
 
+sized-if : (b : Bool) (k l : FieldKind) (size : ℕ) → (b ≡ true → IsTrue (fits_kind k size)) → IsTrue (fits_kind l size) → IsTrue (fits_kind (cond b k l) size)
+sized-if true k l size h g = h refl
+sized-if false k l size h g = g
+
+-- a kind goes with the size that it was found by
 kind_of-sized : (type : List ℕ) (is_array : Bool) (size : ℕ) → IsTrue (fits_kind (kind_of type is_array size) size)
 unfolding kind_of
-kind_of-sized type is_array size = ?
+kind_of-sized type is_array size =
+    let is_text = list_any (bytes_eq (codes "char")) (words type) in
+    let chars = is_char_words (words type) && not (list_any (λ b. b == 42) type) in
+    let number = cond (is_number_size size) Number Other in
+    let array = cond is_array (cond chars Chars Other) number in
+    let relative = cond (starts_with nat_eq type (codes "__rel_loc")) Other array in
+    sized-if (starts_with nat_eq type (codes "__data_loc")) (cond (is_text && size == 4) DataLoc Other) relative size
+        (λ h. sized-if (is_text && size == 4) DataLoc Other size (λ k. (and-parts is_text (size == 4) k).1) refl)
+        (sized-if (starts_with nat_eq type (codes "__rel_loc")) Other array size (λ h. refl)
+        (sized-if is_array (cond chars Chars Other) number size (λ h. sized-if chars Chars Other size (λ k. refl) refl)
+        (sized-if (is_number_size size) Number Other size (λ h. h) refl)))
+
+field_line-sized : (line : List ℕ) (d : Description) → IsFieldLine line d → IsTrue (fits_kind d.kind d.size)
+field_line-sized line d s = ap (λ k. fits_kind k d.size) s.kind ∙ kind_of-sized (declared_type s.declaration) (is_some (ungrouped s.declaration)) d.size
+
+-- fields as the lines describe them
+record Fields (ds : List Description) : Type 0 where
+  fields : List Field
+  same : map description fields ≡ ds
+
+with_field : (line : List ℕ) (o : Option Description) (ds : List Description) → field_on line ≡ o → Fields ds → Fields (cons_option o ds)
+with_field line None ds e fs = fs
+with_field line (Some d) ds e fs =
+    let f : Field = record { name = d.name; offset = d.offset; size = d.size; signed = d.signed; kind = d.kind; sized = field_line-sized line d (field_on-IsFieldLine line d e) } in
+    record { fields = f ∷ fs.fields; same = ap (λ es. d ∷ es) fs.same }
+
+fields_of : (lines : List (List ℕ)) → Fields (described lines)
+fields_of [] = record { fields = []; same = refl }
+fields_of (line ∷ lines) = with_field line (field_on line) (described lines) refl (fields_of lines)
+
+-- something that is there
+that : {A : Type 0} (o : Option A) → is_some o ≡ true → (x : A) × (o ≡ Some x)
+that None h = absurd cc
+that (Some x) h = (x, refl)
+
+-- a text without a fault has a layout
+no_fault-layout : (text : List ℕ) → layout_fault text ≡ None → (l : Layout) × IsReadOf text l
+unfolding layout_fault
+no_fault-layout text h =
+    let lines = text_lines text in
+    let after_name = none_or (fault_unless (is_some (name_on (line_at 0 lines))) NoName) (option_or (fault_unless (is_some (id_on (line_at 1 lines))) BadId) (option_or (fault_unless (bytes_eq (line_at 2 lines) (codes "format:")) (BadField 3)) (lines_fault 4 [] (read_lines (drop 3 lines))))) h in
+    let after_id = none_or (fault_unless (is_some (id_on (line_at 1 lines))) BadId) (option_or (fault_unless (bytes_eq (line_at 2 lines) (codes "format:")) (BadField 3)) (lines_fault 4 [] (read_lines (drop 3 lines)))) after_name.1 in
+    let name = that (name_on (line_at 0 lines)) (there (is_some (name_on (line_at 0 lines))) NoName after_name.0) in
+    let id = that (id_on (line_at 1 lines)) (there (is_some (id_on (line_at 1 lines))) BadId after_id.0) in
+    let read = fields_of (read_lines (drop 3 lines)) in
+    let layout : Layout = record { name = name.0; id = id.0; fields = read.fields; size = greatest_end read.fields; covers = refl } in
+    (layout, (name.1, id.1, read.same))
+
+layout_or : (text : List ℕ) (o : Option FormatError) → layout_fault text ≡ o → ((l : Layout) × IsLayoutOf text l) ⊎ ((e : FormatError) × (layout_fault text ≡ Some e))
+layout_or text None h = let read = no_fault-layout text h in inl (read.0, read-IsLayoutOf text read.0 h read.1)
+layout_or text (Some e) h = inr (e, h)
+
+-- a text has a layout or a first fault
+pub layout_or_fault : (text : List ℕ) → ((l : Layout) × IsLayoutOf text l) ⊎ ((e : FormatError) × (layout_fault text ≡ Some e))
+layout_or_fault text = layout_or text (layout_fault text) refl
+
+-- the fields of a layout end inside its size
+ends_below : (fs : List Field) (m : ℕ) → greatest_end fs ≤ m → AllByRecursion (λ f. end_of f ≤ m) fs
+ends_below [] m h = tt
+ends_below (f ∷ fs) m h = (omega arith, ends_below fs m (omega arith))
+
+pub fields_inside : (l : Layout) → AllByRecursion (λ f. end_of f ≤ l.size) l.fields
+fields_inside l = ends_below l.fields l.size (omega (arith, l.covers))

@@ -8,9 +8,12 @@ pub mod declaration;
 pub mod error;
 pub mod field;
 pub mod format;
+pub mod laws;
 pub mod layout;
 pub mod line;
 pub mod lines;
 pub mod reading;
 pub mod table;
+#[cfg(test)]
+mod tests;
 pub mod words;
