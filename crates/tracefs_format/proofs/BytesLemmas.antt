@@ -1,5 +1,5 @@
 -- Laws of the words on bytes.
-use Rattle.std.proofs.Common.{◌≡◌, ℕ, zero, suc, ◌+◌, ◌-◌, ◌*◌, ◌<◌, ◌≤◌, Bool, true, false, cond, not, eqb, ltb, ◌&&◌, List, [], ◌∷◌, ◌++◌, length, take, drop, get_or, Option, Some, None, inl, inr, refl, ap, sym, subst, eq-eqb, ◌∙◌, arith, append_assoc}
+use Rattle.std.proofs.Common.{◌≡◌, ℕ, suc, ◌+◌, ◌-◌, ◌*◌, ◌<◌, ◌≤◌, Bool, true, false, cond, not, eqb, ltb, ◌&&◌, List, [], ◌∷◌, ◌++◌, length, take, drop, get_or, Option, Some, None, inl, inr, refl, ap, sym, eq-eqb, ◌∙◌, arith}
 use Rattle.std.specs.Prelude.{◌==◌, ◌≢◌, nat_le, position, MatchOption}
 use Rattle.std.specs.List.{list_all, prefix_len, fold, slice_split, onto_first}
 use Rattle.std.specs.Char.{is_ascii_digit}
@@ -7,8 +7,6 @@ use Rattle.std.proofs.lemmas.List.{take_all, take_more, drop_more, take_at, drop
 use Rattle.std.proofs.lemmas.Bool.{cases_lt, lt-ltb, le-ltb, eqb-true, lt-leb}
 use Rattle.std.proofs.Math.Numerals.{one-add, add-one}
 use Rattle.std.specs.Option.{option_map, option_or}
-use Rattle.std.proofs.lemmas.Slice.Eq.{strip_prefix_is}
-use Rattle.std.proofs.lemmas.Bool.Decides.{Decides-eqb}
 use denote.Ref.{Bor}
 use Rattle.tracefs_format.specs.Bytes.{without_front, without_end, longest_beginning, longest_ending, cut_at, before_last, after, decimal_value, number_in, Finds}
 
@@ -97,18 +95,18 @@ place_if v n = cond v (Some n) None
 
 place_if-cons : (x n : ℕ) (xs : List ℕ) → option_map (with_first x) (option_map (cut_of xs) (place_if (ltb n (length xs)) n)) ≡ option_map (cut_of (x ∷ xs)) (place_if (ltb (1 + n) (suc (length xs))) (1 + n))
 place_if-cons x n xs = elim (cases_lt n (length xs)) [
-    | inl lt ↦ rw (lt-ltb n (length xs) lt, lt-ltb (1 + n) (suc (length xs)) (omega arith)) (rw (add-one, one-add, add-one) refl)
-    | inr le ↦ rw (le-ltb n (length xs) le, le-ltb (1 + n) (suc (length xs)) (omega arith)) refl
-    ]
+  | inl lt ↦ rw (lt-ltb n (length xs) lt, lt-ltb (1 + n) (suc (length xs)) (omega arith)) (rw (add-one, one-add, add-one) refl)
+  | inr le ↦ rw (le-ltb n (length xs) le, le-ltb (1 + n) (suc (length xs)) (omega arith)) refl
+]
 
 pub cut_at-position : (byte : ℕ) (xs : List ℕ) → cut_at byte xs ≡ option_map (cut_of xs) (position (λ b. b == byte) xs)
 cut_at-position byte [] = refl
 cut_at-position byte (x ∷ xs) =
     let n = prefix_len (λ b. not (eqb b byte)) xs in
     let nothing : List ℕ = [] in
-    elim (eqb x byte) as (λ v. cond v (Some (nothing, xs)) (option_map (with_first x) (cut_at byte xs)) ≡ option_map (cut_of (x ∷ xs)) (place_if (ltb (cond (not v) (1 + n) 0) (suc (length xs))) (cond (not v) (1 + n) 0)))
-    [ true ↦ rw (lt-ltb 0 (suc (length xs)) (omega arith)) refl
-    | false ↦ ap (option_map (with_first x)) (cut_at-position byte xs) ∙ place_if-cons x n xs
+    elim (eqb x byte) as (λ v. cond v (Some (nothing, xs)) (option_map (with_first x) (cut_at byte xs)) ≡ option_map (cut_of (x ∷ xs)) (place_if (ltb (cond (not v) (1 + n) 0) (suc (length xs))) (cond (not v) (1 + n) 0))) [
+      | true ↦ rw (lt-ltb 0 (suc (length xs)) (omega arith)) refl
+      | false ↦ ap (option_map (with_first x)) (cut_at-position byte xs) ∙ place_if-cons x n xs
     ]
 
 pub cut_at-Some : (byte : ℕ) (xs : List ℕ) (i : ℕ) → position (λ b. b == byte) xs ≡ Some i → cut_at byte xs ≡ Some (take i xs, drop (i + 1) xs)

@@ -1,6 +1,6 @@
 -- The layout that is read is the one that the text has, and the text has no other.
-use Rattle.std.proofs.Common.{◌≡◌, ◌≢◌, ℕ, zero, suc, ◌+◌, ◌≤◌, ◌<◌, Bool, true, false, cond, not, ◌&&◌, ◌||◌, List, [], ◌∷◌, ◌++◌, length, drop, map, Option, Some, None, Result, Ok, Err, ◌⊎◌, inl, inr, refl, ap, sym, subst, ◌∙◌, arith, eqb}
-use Rattle.std.specs.Prelude.{◌==◌, nat_lt, nat_eq, codes, is_some, ⊤, IfOk, IfErr, IsTrue}
+use Rattle.std.proofs.Common.{◌≡◌, ◌≢◌, ℕ, ◌+◌, ◌≤◌, Bool, true, false, cond, not, ◌&&◌, ◌||◌, List, [], ◌∷◌, ◌++◌, length, drop, map, Option, Some, None, Result, Ok, Err, ◌⊎◌, inl, inr, refl, ap, sym, subst, ◌∙◌, arith}
+use Rattle.std.specs.Prelude.{◌==◌, nat_lt, nat_eq, codes, is_some, IfOk, IfErr, IsTrue}
 use Rattle.std.specs.List.{list_any, starts_with, AllByRecursion, cons_option}
 use Rattle.std.specs.Option.{option_or}
 use Rattle.std.specs.Str.{bytes_eq}
@@ -13,7 +13,7 @@ use Rattle.tracefs_format.specs.declared.error.FormatError.TheVariants.{NoName, 
 use Rattle.tracefs_format.specs.declared.field.Field.{Field}
 use Rattle.tracefs_format.specs.declared.layout.Layout.{Layout}
 use Rattle.tracefs_format.specs.FieldLines.{Description, description, IsFieldLine}
-use Rattle.tracefs_format.specs.Lines.{text_lines, IsNameLine, IsIdLine}
+use Rattle.tracefs_format.specs.Lines.{text_lines}
 use Rattle.tracefs_format.specs.Reading.{name_on, id_on, field_on}
 use Rattle.tracefs_format.specs.Layouts.{filled, read_lines, AreFieldLines, HaveNamesApart, IsLayoutOf, line_at, described, is_taken, field_fault, line_fault, lines_fault, fault_unless, layout_fault}
 use Rattle.tracefs_format.specs.Sizes.{end_of, greatest_end}
@@ -86,9 +86,10 @@ apart-from name (b ∷ bs) h e =
 untaken-from : (name other : List ℕ) → (name ≡ other → other ≡ []) → (nat_lt 0 (length other) && bytes_eq name other) ≡ false
 untaken-from name [] h = refl
 untaken-from name (b ∷ bs) h =
-    (elim (bytes_eq name (b ∷ bs)) as (λ v. bytes_eq name (b ∷ bs) ≡ v → (nat_lt 0 (length (b ∷ bs)) && v) ≡ false)
-    [ true ↦ λ e. absurd (some_none b bs (h ((bytes_eq-Decides name (b ∷ bs)).0 e)))
-    | false ↦ λ e. and_false (nat_lt 0 (length (b ∷ bs))) ]) refl
+    (elim (bytes_eq name (b ∷ bs)) as (λ v. bytes_eq name (b ∷ bs) ≡ v → (nat_lt 0 (length (b ∷ bs)) && v) ≡ false) [
+      | true ↦ λ e. absurd (some_none b bs (h ((bytes_eq-Decides name (b ∷ bs)).0 e)))
+      | false ↦ λ e. and_false (nat_lt 0 (length (b ∷ bs)))
+    ]) refl
 
 -- none of the fields has the name of an earlier one
 abbrev AreNew : List Description → List Field → Type 0
@@ -138,9 +139,10 @@ line_fault-some number earlier b bs = rw (lt-ltb 0 (length (b ∷ bs)) (omega ar
 
 field_fault-none : (number : ℕ) (earlier : List Description) (d : Description) → field_fault number earlier (Some d) ≡ None → (d.offset + d.size ≤ 4096) × (is_taken d.name earlier ≡ false)
 field_fault-none number earlier d h =
-    (elim (nat_lt 4096 (d.offset + d.size)) as (λ v. nat_lt 4096 (d.offset + d.size) ≡ v → cond v (Some (Overlong number)) (cond (is_taken d.name earlier) (Some (SameName number)) None) ≡ None → (d.offset + d.size ≤ 4096) × (is_taken d.name earlier ≡ false))
-    [ true ↦ λ e g. absurd cc
-    | false ↦ λ e g. (ltb-false 4096 (d.offset + d.size) e, untaken number (is_taken d.name earlier) g) ]) refl h
+    (elim (nat_lt 4096 (d.offset + d.size)) as (λ v. nat_lt 4096 (d.offset + d.size) ≡ v → cond v (Some (Overlong number)) (cond (is_taken d.name earlier) (Some (SameName number)) None) ≡ None → (d.offset + d.size ≤ 4096) × (is_taken d.name earlier ≡ false)) [
+      | true ↦ λ e g. absurd cc
+      | false ↦ λ e g. (ltb-false 4096 (d.offset + d.size) e, untaken number (is_taken d.name earlier) g)
+    ]) refl h
 
 none-field_fault : (number : ℕ) (earlier : List Description) (d : Description) → d.offset + d.size ≤ 4096 → is_taken d.name earlier ≡ false → field_fault number earlier (Some d) ≡ None
 none-field_fault number earlier d h k = rw (le-ltb 4096 (d.offset + d.size) h, k) refl
@@ -149,7 +151,6 @@ field_read : (number : ℕ) (earlier : List Description) (line : List ℕ) (line
     → ((gs : List Field) (d : Description) → lines_fault (number + 1) (earlier ++ d ∷ []) lines ≡ None → map description gs ≡ described lines → AreRead (earlier ++ d ∷ []) lines gs)
     → field_fault number earlier o ≡ None → lines_fault (number + 1) (earlier ++ cons_option o []) lines ≡ None → map description fs ≡ cons_option o (described lines)
     → (g : Field) × (gs : List Field) × (fs ≡ g ∷ gs) × IsFieldLine line (description g) × (end_of g ≤ 4096) × (is_taken g.name earlier ≡ false) × AreApartFrom g.name gs × AreRead earlier lines gs
-
 field_read number earlier line lines fs None e next fault later same = absurd cc
 field_read number earlier line lines [] (Some d) e next fault later same = absurd cc
 field_read number earlier line lines (g ∷ gs) (Some d) e next fault later same =
@@ -157,10 +158,16 @@ field_read number earlier line lines (g ∷ gs) (Some d) e next fault later same
     let rest : map description gs ≡ described lines = ap rest_of same in
     let free = field_fault-none number earlier d fault in
     let read = next gs d later rest in
-    let new = new-parts earlier d gs read.names_new in
-    (g, gs, refl, subst (IsFieldLine line) (sym head) (field_on-IsFieldLine line d e), subst (λ (c : Description). c.offset + c.size ≤ 4096) (sym head) free.0,
-     subst (λ (c : Description). is_taken c.name earlier ≡ false) (sym head) free.1, subst (λ (c : Description). AreApartFrom c.name gs) (sym head) new.1,
-     record { lines_are = read.lines_are; ends_fit = read.ends_fit; names_apart = read.names_apart; names_new = new.0 })
+    let new = new-parts earlier d gs read.names_new in (
+      g,
+      gs,
+      refl,
+      subst (IsFieldLine line) (sym head) (field_on-IsFieldLine line d e),
+      subst (λ (c : Description). c.offset + c.size ≤ 4096) (sym head) free.0,
+      subst (λ (c : Description). is_taken c.name earlier ≡ false) (sym head) free.1,
+      subst (λ (c : Description). AreApartFrom c.name gs) (sym head) new.1,
+      record { lines_are = read.lines_are; ends_fit = read.ends_fit; names_apart = read.names_apart; names_new = new.0 },
+    )
 
 fields_read : (number : ℕ) (earlier : List Description) (lines : List (List ℕ)) (fs : List Field) → lines_fault number earlier lines ≡ None → map description fs ≡ described lines → AreRead earlier lines fs
 fields_read number earlier [] [] h same = record { lines_are = tt; ends_fit = tt; names_apart = tt; names_new = tt }
@@ -192,9 +199,10 @@ fields_again number earlier ((b ∷ bs) ∷ lines) (f ∷ fs) r =
     let said : field_on (b ∷ bs) ≡ Some (description f) = IsFieldLine-field_on (b ∷ bs) (description f) spelled.0 in
     let one : described ((b ∷ bs) ∷ []) ≡ description f ∷ [] = ap (λ o. cons_option o []) said in
     let rest = fields_again (number + 1) (earlier ++ description f ∷ []) lines fs (record { lines_are = spelled.1; ends_fit = r.ends_fit.1; names_apart = r.names_apart.1; names_new = parts-new earlier (description f) fs r.names_new.1 r.names_apart.0 }) in
-    let here : line_fault number earlier (b ∷ bs) ≡ None = line_fault-some number earlier b bs ∙ ap (field_fault number earlier) said ∙ none-field_fault number earlier (description f) r.ends_fit.0 r.names_new.0 in
-    (ap (λ o. option_or o (lines_fault (number + 1) (earlier ++ described ((b ∷ bs) ∷ [])) lines)) here ∙ ap (λ es. lines_fault (number + 1) (earlier ++ es) lines) one ∙ rest.0,
-     ap (λ ds. description f ∷ ds) rest.1 ∙ sym (ap (λ o. cons_option o (described lines)) said))
+    let here : line_fault number earlier (b ∷ bs) ≡ None = line_fault-some number earlier b bs ∙ ap (field_fault number earlier) said ∙ none-field_fault number earlier (description f) r.ends_fit.0 r.names_new.0 in (
+      ap (λ o. option_or o (lines_fault (number + 1) (earlier ++ described ((b ∷ bs) ∷ [])) lines)) here ∙ ap (λ es. lines_fault (number + 1) (earlier ++ es) lines) one ∙ rest.0,
+      ap (λ ds. description f ∷ ds) rest.1 ∙ sym (ap (λ o. cons_option o (described lines)) said),
+    )
 
 -- ---- the whole text
 
@@ -244,11 +252,12 @@ IsLayoutOf-read text layout s =
     let numbered : id_on (line_at 1 lines) ≡ Some layout.id = ap id_on second ∙ IsIdLine-id_on s.second layout.id s.id in
     let marked : bytes_eq (line_at 2 lines) (codes "format:") ≡ true = (bytes_eq-Decides (line_at 2 lines) (codes "format:")).1 third in
     let again = fields_again 4 [] (read_lines s.others) layout.fields (record { lines_are = s.fields; ends_fit = s.ends; names_apart = s.names; names_new = none_new layout.fields }) in
-    let fields : lines_fault 4 [] (read_lines (drop 3 lines)) ≡ None = ap (λ ls. lines_fault 4 [] (read_lines ls)) others ∙ again.0 in
-    (ap (λ o. option_or (fault_unless (is_some o) NoName) (option_or (fault_unless (is_some (id_on (line_at 1 lines))) BadId) (option_or (fault_unless (bytes_eq (line_at 2 lines) (codes "format:")) (BadField 3)) (lines_fault 4 [] (read_lines (drop 3 lines)))))) named
-     ∙ ap (λ o. option_or (fault_unless (is_some o) BadId) (option_or (fault_unless (bytes_eq (line_at 2 lines) (codes "format:")) (BadField 3)) (lines_fault 4 [] (read_lines (drop 3 lines))))) numbered
-     ∙ ap (λ b. option_or (fault_unless b (BadField 3)) (lines_fault 4 [] (read_lines (drop 3 lines)))) marked ∙ fields,
-     (named, numbered, again.1 ∙ ap (λ ls. described (read_lines ls)) (sym others)))
+    let fields : lines_fault 4 [] (read_lines (drop 3 lines)) ≡ None = ap (λ ls. lines_fault 4 [] (read_lines ls)) others ∙ again.0 in (
+      ap (λ o. option_or (fault_unless (is_some o) NoName) (option_or (fault_unless (is_some (id_on (line_at 1 lines))) BadId) (option_or (fault_unless (bytes_eq (line_at 2 lines) (codes "format:")) (BadField 3)) (lines_fault 4 [] (read_lines (drop 3 lines)))))) named
+          ∙ ap (λ o. option_or (fault_unless (is_some o) BadId) (option_or (fault_unless (bytes_eq (line_at 2 lines) (codes "format:")) (BadField 3)) (lines_fault 4 [] (read_lines (drop 3 lines))))) numbered
+          ∙ ap (λ b. option_or (fault_unless b (BadField 3)) (lines_fault 4 [] (read_lines (drop 3 lines)))) marked ∙ fields,
+      (named, numbered, again.1 ∙ ap (λ ls. described (read_lines ls)) (sym others)),
+    )
 
 pub one_read : (text : List ℕ) (a b : Layout) → IsReadOf text a → IsReadOf text b → a ≡ b
 one_read text a b r s = same_layout a b (some_is (sym r.0 ∙ s.0)) (some_is (sym r.1 ∙ s.1)) (r.2 ∙ sym s.2)
@@ -283,8 +292,8 @@ pub answer-only : (text : List ℕ) (r : Result Layout FormatError) → Answers 
 answer-only text (Ok m) a l s = inl (ap Ok (one_read text m l a.1 (IsLayoutOf-read text l s).1))
 answer-only text (Err e) a l s =
     elim (fails-or e (layout_fault text) a) [
-    | inl fault ↦ absurd (none_some (sym (IsLayoutOf-read text l s).0 ∙ fault))
-    | inr memory ↦ inr (ap Err memory)
+      | inl fault ↦ absurd (none_some (sym (IsLayoutOf-read text l s).0 ∙ fault))
+      | inr memory ↦ inr (ap Err memory)
     ]
 
 pub answer-fault : (text : List ℕ) (r : Result Layout FormatError) → Answers r (layout_fault text) (IsReadOf text) → IfErr r (λ e. e ≢ Memory → layout_fault text ≡ Some e)
@@ -295,8 +304,8 @@ pub answer-refused : (text : List ℕ) (r : Result Layout FormatError) → Answe
 answer-refused text (Ok l) a e h = absurd (none_some (sym a.0 ∙ h))
 answer-refused text (Err d) a e h =
     elim (fails-or d (layout_fault text) a) [
-    | inl fault ↦ inl (ap Err (some_is (sym fault ∙ h)))
-    | inr memory ↦ inr (ap Err memory)
+      | inl fault ↦ inl (ap Err (some_is (sym fault ∙ h)))
+      | inr memory ↦ inr (ap Err memory)
     ]
 
 -- ---- there is a layout where there is no fault
@@ -315,10 +324,10 @@ kind_of-sized type is_array size =
     let array = cond is_array (cond chars Chars Other) number in
     let relative = cond (starts_with nat_eq type (codes "__rel_loc")) Other array in
     sized-if (starts_with nat_eq type (codes "__data_loc")) (cond (is_text && size == 4) DataLoc Other) relative size
-        (λ h. sized-if (is_text && size == 4) DataLoc Other size (λ k. (and-parts is_text (size == 4) k).1) refl)
-        (sized-if (starts_with nat_eq type (codes "__rel_loc")) Other array size (λ h. refl)
-        (sized-if is_array (cond chars Chars Other) number size (λ h. sized-if chars Chars Other size (λ k. refl) refl)
-        (sized-if (is_number_size size) Number Other size (λ h. h) refl)))
+    (λ h. sized-if (is_text && size == 4) DataLoc Other size (λ k. (and-parts is_text (size == 4) k).1) refl)
+    (sized-if (starts_with nat_eq type (codes "__rel_loc")) Other array size (λ h. refl)
+    (sized-if is_array (cond chars Chars Other) number size (λ h. sized-if chars Chars Other size (λ k. refl) refl)
+    (sized-if (is_number_size size) Number Other size (λ h. h) refl)))
 
 field_line-sized : (line : List ℕ) (d : Description) → IsFieldLine line d → IsTrue (fits_kind d.kind d.size)
 field_line-sized line d s = ap (λ k. fits_kind k d.size) s.kind ∙ kind_of-sized (declared_type s.declaration) (is_some (ungrouped s.declaration)) d.size

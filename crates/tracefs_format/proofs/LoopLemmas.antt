@@ -1,9 +1,9 @@
 -- One line after the other, as the reader goes.
-use Rattle.std.proofs.Common.{◌≡◌, ◌≢◌, ℕ, suc, ◌+◌, ◌-◌, ◌^◌, ◌≤◌, ◌<◌, Bool, true, false, cond, not, Option, Some, None, List, [], ◌∷◌, ◌++◌, length, drop, map, get_or, refl, ap, sym, subst, ◌∙◌, append_assoc, arith}
+use Rattle.std.proofs.Common.{◌≡◌, ℕ, ◌+◌, ◌^◌, ◌≤◌, ◌<◌, Bool, true, false, cond, not, Option, Some, None, List, [], ◌∷◌, ◌++◌, length, drop, map, get_or, refl, ap, sym, subst, ◌∙◌, append_assoc, arith}
 use Rattle.std.specs.Prelude.{codes, ◌==◌}
 use Rattle.std.specs.List.{slice_split, onto_first, cons_option}
 use Rattle.std.specs.Option.{option_or}
-use Rattle.std.proofs.lemmas.List.{length-map, length-drop, length-append, append-nil}
+use Rattle.std.proofs.lemmas.List.{length-map, length-drop, length-append}
 use Rattle.std.proofs.lemmas.List.Sums.{take_while-cons}
 use Rattle.tracefs_format.specs.declared.error.FormatError.{FormatError}
 use Rattle.tracefs_format.specs.declared.error.FormatError.TheVariants.{NoName, BadId, BadField, Overlong, SameName, Memory}
@@ -74,9 +74,10 @@ lines-room text =
 
 name_line-long : (line name : List ℕ) → name_on line ≡ Some name → 5 ≤ length line
 unfolding name_on
-name_line-long line name h = (elim (after (codes "name:") line) as (λ o. after (codes "name:") line ≡ o → (o >>= λ rest. word_in (without_front is_blank rest)) ≡ Some name → 5 ≤ length line)
-    [ Some rest ↦ λ e g. omega (arith, ap length (after-parts (codes "name:") line rest e), length-append (codes "name:") rest)
-    | None ↦ λ e g. absurd cc ]) refl h
+name_line-long line name h = (elim (after (codes "name:") line) as (λ o. after (codes "name:") line ≡ o → (o >>= λ rest. word_in (without_front is_blank rest)) ≡ Some name → 5 ≤ length line) [
+  | Some rest ↦ λ e g. omega (arith, ap length (after-parts (codes "name:") line rest e), length-append (codes "name:") rest)
+  | None ↦ λ e g. absurd cc
+]) refl h
 
 -- a text of fewer than 2 ^ 32 bytes whose first line is a name line has fewer lines than that
 pub few_lines : (text name : List ℕ) (first second third : List (List ℕ)) → length text < 2 ^ 32 → name_on (line_at 0 (text_lines text)) ≡ Some name

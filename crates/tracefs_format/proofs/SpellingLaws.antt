@@ -1,5 +1,5 @@
 -- Lines: what is read on a line is spelled there, and what is spelled there is read.
-use Rattle.std.proofs.Common.{◌≡◌, ◌≢◌, ℕ, zero, suc, ◌≤◌, ◌<◌, Bool, true, false, cond, not, eqb, leb, ◌&&◌, List, [], ◌∷◌, ◌++◌, length, Option, Some, None, refl, ap, sym, subst, ◌∙◌, append_assoc, arith, eq-eqb}
+use Rattle.std.proofs.Common.{◌≡◌, ℕ, ◌≤◌, Bool, true, false, cond, not, eqb, ◌&&◌, List, [], ◌∷◌, ◌++◌, length, Option, Some, None, refl, ap, sym, subst, ◌∙◌, arith, eq-eqb}
 use Rattle.std.specs.Prelude.{◌==◌, nat_lt, nat_le, codes}
 use Rattle.std.specs.Char.{is_ascii_digit}
 use Rattle.std.specs.List.{list_all}
@@ -9,13 +9,13 @@ use Rattle.std.proofs.lemmas.Bool.{eqb-true, leb-true, le-leb, lt-ltb}
 use Rattle.std.proofs.lemmas.List.{nil_from_length}
 use Rattle.tracefs_format.specs.declared.field.FieldKind.{FieldKind}
 use Rattle.std.proofs.lemmas.Slice.Eq.{bytes_eq-Decides}
-use Rattle.tracefs_format.specs.Bytes.{is_blank, is_word_byte, without_front, without_end, longest_beginning, stripped, cut_at, after, labelled, decimal_value, number_in, flag_in}
+use Rattle.tracefs_format.specs.Bytes.{is_blank, is_word_byte, without_front, longest_beginning, cut_at, after, labelled, decimal_value, number_in, flag_in}
 use Rattle.tracefs_format.specs.Declarations.{declared_name, declared_kind}
 use Rattle.tracefs_format.specs.FieldLines.{Description, IsLabelled, IsNumber, IsFieldLine, flag_bytes}
 use Rattle.tracefs_format.specs.Lines.{AreBlanks, IsWord, IsDecimal, IsNameLine, IsIdLine}
 use Rattle.tracefs_format.specs.Reading.{◌>>=◌, word_in, name_on, id_on, number_after, flag_after, field_on}
 use Rattle.tracefs_format.proofs.BytesLemmas.{with_first, front_parts, after-append, after-parts}
-use Rattle.tracefs_format.proofs.StripLaws.{IsLabel, labelled-IsLabelled, IsLabelled-labelled, and-parts, and-both, list_all-append, list_all-both, list_all-parts, list_all-weaker, all-longest_beginning, without_front-append, some_is}
+use Rattle.tracefs_format.proofs.StripLaws.{IsLabel, labelled-IsLabelled, IsLabelled-labelled, and-parts, and-both, list_all-both, list_all-parts, list_all-weaker, all-longest_beginning, without_front-append, some_is}
 
 -- the value of a step that found something
 pub bind_some : {A B : Type 0} (o : Option A) (f : A → Option B) (y : B) → (o >>= f) ≡ Some y → (x : A) × (o ≡ Some x) × (f x ≡ Some y)
@@ -45,9 +45,10 @@ IsDecimal-number_in greatest (b ∷ bs) n d h =
 
 pub flag_in-flag_bytes : (bytes : List ℕ) (flag : Bool) → flag_in bytes ≡ Some flag → bytes ≡ flag_bytes flag
 flag_in-flag_bytes bytes flag h =
-    (elim (bytes_eq bytes (codes "0")) as (λ v. bytes_eq bytes (codes "0") ≡ v → cond v (Some false) (cond (bytes_eq bytes (codes "1")) (Some true) None) ≡ Some flag → bytes ≡ flag_bytes flag)
-    [ true ↦ λ e g. (bytes_eq-Decides bytes (codes "0")).0 e ∙ ap flag_bytes (some_is g)
-    | false ↦ λ e g. let found = chosen (bytes_eq bytes (codes "1")) true flag g in (bytes_eq-Decides bytes (codes "1")).0 found.0 ∙ ap flag_bytes found.1 ]) refl h
+    (elim (bytes_eq bytes (codes "0")) as (λ v. bytes_eq bytes (codes "0") ≡ v → cond v (Some false) (cond (bytes_eq bytes (codes "1")) (Some true) None) ≡ Some flag → bytes ≡ flag_bytes flag) [
+      | true ↦ λ e g. (bytes_eq-Decides bytes (codes "0")).0 e ∙ ap flag_bytes (some_is g)
+      | false ↦ λ e g. let found = chosen (bytes_eq bytes (codes "1")) true flag g in (bytes_eq-Decides bytes (codes "1")).0 found.0 ∙ ap flag_bytes found.1
+    ]) refl h
 
 pub flag_bytes-flag_in : (flag : Bool) → flag_in (flag_bytes flag) ≡ Some flag
 flag_bytes-flag_in true = refl
@@ -72,9 +73,10 @@ pub cut_at-parts : (byte : ℕ) (xs : List ℕ) (wanted : List ℕ × List ℕ) 
 cut_at-parts byte [] wanted h = absurd cc
 cut_at-parts byte (x ∷ xs) wanted h =
     let here : List ℕ × List ℕ = ([], xs) in
-    (elim (eqb x byte) as (λ v. eqb x byte ≡ v → cond v (Some here) (option_map (with_first x) (cut_at byte xs)) ≡ Some wanted → IsCut byte (x ∷ xs) wanted)
-    [ true ↦ λ e g. subst (IsCut byte (x ∷ xs)) (some_is g) (ap (λ b. b ∷ xs) (eqb-true x byte e), refl)
-    | false ↦ λ e g. cut_with byte x xs wanted (cut_at byte xs) (ap not e) (cut_at-parts byte xs) g ]) refl h
+    (elim (eqb x byte) as (λ v. eqb x byte ≡ v → cond v (Some here) (option_map (with_first x) (cut_at byte xs)) ≡ Some wanted → IsCut byte (x ∷ xs) wanted) [
+      | true ↦ λ e g. subst (IsCut byte (x ∷ xs)) (some_is g) (ap (λ b. b ∷ xs) (eqb-true x byte e), refl)
+      | false ↦ λ e g. cut_with byte x xs wanted (cut_at byte xs) (ap not e) (cut_at-parts byte xs) g
+    ]) refl h
 
 pub parts-cut_at : (byte : ℕ) (front rest : List ℕ) → list_all (is_other byte) front ≡ true → cut_at byte (front ++ byte ∷ rest) ≡ Some (front, rest)
 parts-cut_at byte [] rest h = rw (eq-eqb byte byte refl) refl
@@ -99,9 +101,9 @@ labelled_other : (label value part : List ℕ) → IsLabelled label value part �
 labelled_other label value part s h k =
     ap (list_all (is_other 59)) s.spelling
     ∙ list_all-both (is_other 59) s.before (label ++ (s.between ++ (value ++ s.behind))) (blanks_other s.before s.blank_before)
-      (list_all-both (is_other 59) label (s.between ++ (value ++ s.behind)) h
-      (list_all-both (is_other 59) s.between (value ++ s.behind) (blanks_other s.between s.blank_between)
-      (list_all-both (is_other 59) value s.behind k (blanks_other s.behind s.blank_behind))))
+    (list_all-both (is_other 59) label (s.between ++ (value ++ s.behind)) h
+    (list_all-both (is_other 59) s.between (value ++ s.behind) (blanks_other s.between s.blank_between)
+    (list_all-both (is_other 59) value s.behind k (blanks_other s.behind s.blank_behind))))
 
 -- and one whose part has none has none in its value
 value_other : (label value part : List ℕ) → IsLabelled label value part → list_all (is_other 59) part ≡ true → list_all (is_other 59) value ≡ true

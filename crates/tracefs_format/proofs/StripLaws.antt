@@ -1,5 +1,5 @@
 -- Bytes without their blanks, and bytes after a label: what is read is spelled so, and what is spelled so is read.
-use Rattle.std.proofs.Common.{◌≡◌, ℕ, Bool, true, false, cond, ◌&&◌, List, [], ◌∷◌, ◌++◌, Option, Some, None, refl, ap, sym, ◌∙◌, append_assoc, arith}
+use Rattle.std.proofs.Common.{◌≡◌, ℕ, Bool, true, false, cond, ◌&&◌, List, [], ◌∷◌, ◌++◌, Option, Some, None, refl, ap, sym, ◌∙◌, append_assoc}
 use Rattle.std.specs.List.{list_all}
 use Rattle.std.specs.Option.{option_map}
 use Rattle.tracefs_format.specs.Bytes.{is_blank, without_front, without_end, longest_beginning, longest_ending, stripped, after, labelled}
@@ -84,11 +84,13 @@ module _ (p : ℕ → Bool) where
   -- it is one which side comes first
   sides : (xs : List ℕ) → without_front p (without_end p xs) ≡ without_end p (without_front p xs)
   sides [] = refl
-  sides (x ∷ xs) = (elim (p x) as (λ v. p x ≡ v → without_front p (cond (v && list_all p xs) [] (x ∷ without_end p xs)) ≡ without_end p (cond v (without_front p xs) (x ∷ xs)))
-      [ true ↦ λ e. (elim (list_all p xs) as (λ v. list_all p xs ≡ v → without_front p (cond v [] (x ∷ without_end p xs)) ≡ without_end p (without_front p xs))
-          [ true ↦ λ k. rw (without_front-all xs k) refl
-          | false ↦ λ k. rw e (sides xs) ]) refl
-      | false ↦ λ e. rw e refl ]) refl
+  sides (x ∷ xs) = (elim (p x) as (λ v. p x ≡ v → without_front p (cond (v && list_all p xs) [] (x ∷ without_end p xs)) ≡ without_end p (cond v (without_front p xs) (x ∷ xs))) [
+    | true ↦ λ e. (elim (list_all p xs) as (λ v. list_all p xs ≡ v → without_front p (cond v [] (x ∷ without_end p xs)) ≡ without_end p (without_front p xs)) [
+      | true ↦ λ k. rw (without_front-all xs k) refl
+      | false ↦ λ k. rw e (sides xs)
+    ]) refl
+    | false ↦ λ e. rw e refl
+  ]) refl
 
 abbrev front : List ℕ → List ℕ
 front xs = without_front is_blank xs
@@ -162,5 +164,5 @@ pub IsLabelled-labelled : (label part value : List ℕ) → IsLabel label → Is
 IsLabelled-labelled label part value keeps s =
     let rest = s.between ++ (value ++ s.behind) in
     let bared : stripped part ≡ label ++ ends rest =
-        ap stripped s.spelling ∙ sides is_blank (s.before ++ (label ++ rest)) ∙ ap ends (without_front-append is_blank s.before (label ++ rest) s.blank_before ∙ keeps.at_front rest) ∙ keeps.at_end rest in
+    ap stripped s.spelling ∙ sides is_blank (s.before ++ (label ++ rest)) ∙ ap ends (without_front-append is_blank s.before (label ++ rest) s.blank_before ∙ keeps.at_front rest) ∙ keeps.at_end rest in
     ap (λ l. option_map stripped (after label l)) bared ∙ ap (option_map stripped) (after-append label (ends rest)) ∙ ap Some (stripped-ends rest ∙ stripped-between s.between value s.behind s.blank_between s.blank_behind s.bare)

@@ -1,5 +1,5 @@
 -- The name and the kind of a field, by its declaration.
-use Rattle.std.specs.Prelude.{ℕ, Bool, true, false, ◌==◌, ◌||◌, ◌&&◌, not, nat_eq, codes, List, [], ◌∷◌, Option, Some, None, is_some, unwrap_or, if◌then◌else◌}
+use Rattle.std.specs.Prelude.{ℕ, Bool, false, ◌==◌, ◌&&◌, not, nat_eq, codes, List, [], ◌∷◌, Option, None, is_some, unwrap_or, if◌then◌else◌}
 use Rattle.std.specs.List.{list_any, starts_with, ends_with}
 use Rattle.std.specs.Str.{bytes_eq}
 use Rattle.tracefs_format.specs.declared.field.FieldKind.{FieldKind}
@@ -35,11 +35,11 @@ is_char_words (word ∷ others) = if bytes_eq word (codes "const") then is_char_
 -- the kind of a field of this type and size; an array is what a bracket group was taken from
 unfoldable pub kind_of : List ℕ → Bool → ℕ → FieldKind
 kind_of type is_array size =
-  if starts_with nat_eq type (codes "__data_loc") then (if list_any (bytes_eq (codes "char")) (words type) && size == 4 then DataLoc else Other)
-  else if starts_with nat_eq type (codes "__rel_loc") then Other
-  else if is_array then (if is_char_words (words type) && not (list_any (λ b. b == 42) type) then Chars else Other)
-  else if is_number_size size then Number
-  else Other
+    if starts_with nat_eq type (codes "__data_loc") then (if list_any (bytes_eq (codes "char")) (words type) && size == 4 then DataLoc else Other)
+    else if starts_with nat_eq type (codes "__rel_loc") then Other
+    else if is_array then (if is_char_words (words type) && not (list_any (λ b. b == 42) type) then Chars else Other)
+    else if is_number_size size then Number
+    else Other
 
 abbrev pub declared_kind : List ℕ → ℕ → FieldKind
 declared_kind declaration size = kind_of (declared_type declaration) (is_some (ungrouped declaration)) size

@@ -3,7 +3,7 @@ use Rattle.std.specs.Prelude.{◌≡◌, ◌≤◌, ℕ, Bool, true, false, ◌=
 use Rattle.std.specs.List.{list_all}
 use Rattle.tracefs_format.specs.declared.field.Field.{Field}
 use Rattle.tracefs_format.specs.declared.field.FieldKind.{FieldKind}
-use Rattle.tracefs_format.specs.Bytes.{is_blank, stripped}
+use Rattle.tracefs_format.specs.Bytes.{stripped}
 use Rattle.tracefs_format.specs.Declarations.{declared_name, declared_kind}
 use Rattle.tracefs_format.specs.Lines.{AreBlanks, IsDecimal}
 

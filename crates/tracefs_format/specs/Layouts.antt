@@ -1,10 +1,10 @@
 -- Format texts: which layout one has, and the first rule that it breaks where it has none.
-use Rattle.std.specs.Prelude.{◌≡◌, ◌≢◌, ◌+◌, ◌≤◌, ◌&&◌, ◌||◌, ℕ, Bool, not, nat_lt, nat_eq, codes, ⊤, List, [], ◌∷◌, ◌++◌, length, filter, drop, slice_index_or, Option, Some, None, is_some, Result, Ok, Err, if◌then◌else◌}
+use Rattle.std.specs.Prelude.{◌≡◌, ◌+◌, ◌≤◌, ◌&&◌, ℕ, Bool, not, nat_lt, nat_eq, codes, ⊤, List, [], ◌∷◌, ◌++◌, length, filter, drop, slice_index_or, Option, Some, None, is_some, if◌then◌else◌}
 use Rattle.std.specs.List.{list_any, starts_with, take_while, filter_map, AllByRecursion}
 use Rattle.std.specs.Option.{option_or}
 use Rattle.std.specs.Str.{bytes_eq}
 use Rattle.tracefs_format.specs.declared.error.FormatError.{FormatError}
-use Rattle.tracefs_format.specs.declared.error.FormatError.TheVariants.{NoName, BadId, BadField, Overlong, SameName, Memory}
+use Rattle.tracefs_format.specs.declared.error.FormatError.TheVariants.{NoName, BadId, BadField, Overlong, SameName}
 use Rattle.tracefs_format.specs.declared.field.Field.{Field}
 use Rattle.tracefs_format.specs.declared.layout.Layout.{Layout}
 use Rattle.tracefs_format.specs.Lines.{text_lines, IsNameLine, IsIdLine}
@@ -65,9 +65,9 @@ is_taken name earlier = nat_lt 0 (length name) && list_any (λ d. bytes_eq d.nam
 abbrev pub field_fault : ℕ → List Description → Option Description → Option FormatError
 field_fault number earlier None = Some (BadField number)
 field_fault number earlier (Some d) =
-  if nat_lt 4096 (d.offset + d.size) then Some (Overlong number)
-  else if is_taken d.name earlier then Some (SameName number)
-  else None
+    if nat_lt 4096 (d.offset + d.size) then Some (Overlong number)
+    else if is_taken d.name earlier then Some (SameName number)
+    else None
 
 -- what is wrong with a line
 abbrev pub line_fault : ℕ → List Description → List ℕ → Option FormatError
@@ -85,7 +85,7 @@ fault_unless there fault = if there then None else Some fault
 -- the first rule that a format text breaks, in the order of its lines
 unfoldable pub layout_fault : List ℕ → Option FormatError
 layout_fault text =
-  option_or (fault_unless (is_some (name_on (line_at 0 (text_lines text)))) NoName)
-  (option_or (fault_unless (is_some (id_on (line_at 1 (text_lines text)))) BadId)
-  (option_or (fault_unless (bytes_eq (line_at 2 (text_lines text)) (codes "format:")) (BadField 3))
-  (lines_fault 4 [] (read_lines (drop 3 (text_lines text))))))
+    option_or (fault_unless (is_some (name_on (line_at 0 (text_lines text)))) NoName)
+    (option_or (fault_unless (is_some (id_on (line_at 1 (text_lines text)))) BadId)
+    (option_or (fault_unless (bytes_eq (line_at 2 (text_lines text)) (codes "format:")) (BadField 3))
+    (lines_fault 4 [] (read_lines (drop 3 (text_lines text))))))

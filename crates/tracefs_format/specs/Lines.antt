@@ -1,5 +1,5 @@
 -- The lines of a format text, and what its first lines spell.
-use Rattle.std.specs.Prelude.{◌≡◌, ◌≢◌, ◌<◌, ◌≤◌, ◌^◌, ℕ, Bool, ◌==◌, codes, map, List, [], ◌∷◌, ◌++◌, IsTrue, Option, Some, None}
+use Rattle.std.specs.Prelude.{◌≡◌, ◌≢◌, ◌≤◌, ℕ, ◌==◌, codes, map, List, [], ◌++◌, IsTrue, Option, Some, None}
 use Rattle.std.specs.List.{list_all, slice_split}
 use Rattle.std.specs.Char.{is_ascii_digit}
 use Rattle.tracefs_format.specs.Bytes.{is_blank, is_line_end, is_word_byte, without_end, decimal_value}

@@ -1,10 +1,6 @@
 -- What lines say, where they say it: the functions that go with their spellings.
-use Rattle.std.specs.Prelude.{◌≡◌, ◌≢◌, ◌+◌, ◌==◌, ◌&&◌, ◌||◌, ℕ, Bool, not, nat_lt, nat_eq, codes, List, [], ◌∷◌, ◌++◌, length, Option, Some, None, Result, Ok, Err, if◌then◌else◌}
-use Rattle.std.specs.List.{list_all, list_any, starts_with, take_while, filter_map}
-use Rattle.std.specs.Option.{option_or, option_and_then}
-use Rattle.std.specs.Str.{bytes_eq}
-use Rattle.tracefs_format.specs.declared.error.FormatError.{FormatError}
-use Rattle.tracefs_format.specs.declared.error.FormatError.TheVariants.{BadField, Overlong, SameName, Memory}
+use Rattle.std.specs.Prelude.{◌==◌, ◌&&◌, ℕ, Bool, nat_lt, codes, List, length, Option, Some, None, if◌then◌else◌}
+use Rattle.std.specs.List.{list_all}
 use Rattle.tracefs_format.specs.Bytes.{is_blank, is_word_byte, without_front, cut_at, after, labelled, number_in, flag_in}
 use Rattle.tracefs_format.specs.Declarations.{declared_name, declared_kind}
 use Rattle.tracefs_format.specs.FieldLines.{Description}

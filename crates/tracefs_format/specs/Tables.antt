@@ -50,5 +50,5 @@ pub record IsMadeOf (name : List ℕ) (id : ℕ) (fields : List Description) (la
 -- the layout says what the lines of a text say
 abbrev pub IsReadOf : List ℕ → Layout → Type 0
 IsReadOf text layout = (name_on (line_at 0 (text_lines text)) ≡ Some layout.name)
-  × (id_on (line_at 1 (text_lines text)) ≡ Some layout.id)
-  × (map description layout.fields ≡ described (read_lines (drop 3 (text_lines text))))
+    × (id_on (line_at 1 (text_lines text)) ≡ Some layout.id)
+    × (map description layout.fields ≡ described (read_lines (drop 3 (text_lines text))))

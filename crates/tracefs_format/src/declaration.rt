@@ -4,7 +4,7 @@ ghost use Rattle.tracefs_format.specs.Bytes.{Finds};
 ghost use Rattle.tracefs_format.specs.Kinds.{fits_kind, is_number_size};
 ghost use Rattle.tracefs_format.specs.Declarations.{ungrouped, declared_name, declared_type, kind_of};
 
-use crate::bytes::{before_last, split_ending, ByteClass};
+use crate::bytes::{ByteClass, before_last, split_ending};
 use crate::field::FieldKind;
 use crate::words::{has_word, is_char_words};
 

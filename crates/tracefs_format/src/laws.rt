@@ -14,19 +14,16 @@ pub fn one_answer()
     ensures some { (text : List ℕ) → ((layout : Layout) × IsLayoutOf text layout) ⊎ ((e : FormatError) × (layout_fault text ≡ Some e)) }
     ensures not_both { (text : List ℕ) (layout : Layout) → IsLayoutOf text layout → layout_fault text ≡ None }
     ensures one { (text : List ℕ) (a b : Layout) → IsLayoutOf text a → IsLayoutOf text b → a ≡ b }
-{
-}
+{}
 
 /// The lines that the faults speak of are those that are spelled so.
 pub fn lines_as_spelled()
     ensures name { (line name : List ℕ) → (name_on line ≡ Some name) ↔ IsNameLine line name }
     ensures id { (line : List ℕ) (id : ℕ) → (id_on line ≡ Some id) ↔ IsIdLine line id }
     ensures field { (line : List ℕ) (field : Description) → (field_on line ≡ Some field) ↔ IsFieldLine line field }
-{
-}
+{}
 
 /// Each field of a layout ends inside its size.
 pub fn fields_inside()
     ensures { (layout : Layout) → AllByRecursion (λ f. end_of f ≤ layout.size) layout.fields }
-{
-}
+{}

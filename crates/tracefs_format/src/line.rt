@@ -6,7 +6,7 @@ ghost use Rattle.tracefs_format.specs.Kinds.{fits_kind};
 ghost use Rattle.tracefs_format.specs.Reading.{word_in, name_on, id_on, number_after, flag_after, field_on};
 ghost use Rattle.tracefs_format.specs.Described.{described_by};
 
-use crate::bytes::{after, cut_at, flag_in, labelled, number_in, without_front, ByteClass};
+use crate::bytes::{ByteClass, after, cut_at, flag_in, labelled, number_in, without_front};
 use crate::declaration::{declaration_parts, kind_of};
 use crate::field::FieldKind;
 

@@ -2,7 +2,7 @@
 ghost use Rattle.std.specs.Prelude.{◌≡◌, ◌∷◌, [], drop, slice_index_or, MatchOption};
 ghost use Rattle.tracefs_format.specs.Lines.{text_lines};
 
-use crate::bytes::{cut_at, without_end, ByteClass};
+use crate::bytes::{ByteClass, cut_at, without_end};
 use std::marker::Model;
 
 /// The lines that are left of a text, without the blanks and carriage returns at their ends.

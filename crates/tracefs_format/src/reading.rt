@@ -10,7 +10,7 @@ use crate::error::FormatError;
 use crate::layout::Layout;
 use crate::line::{field_on, id_on, name_on};
 use crate::lines::Lines;
-use crate::table::{copied, FieldTable};
+use crate::table::{FieldTable, copied};
 use std::alloc::Global;
 
 /// The layout of a format text, in the form of `/sys/kernel/tracing/events/SYSTEM/EVENT/format`.

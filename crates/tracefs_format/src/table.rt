@@ -52,7 +52,12 @@ impl FieldTable {
 
     /// The table with the field of a line. The field is refused where it ends after 4,096 bytes, and
     /// else where an earlier field has its name and the name is not empty.
-    pub fn with(self, alloc: Global, line: FieldLine<'_>, number: u32) -> Result<FieldTable, FormatError>
+    pub fn with(
+        self,
+        alloc: Global,
+        line: FieldLine<'_>,
+        number: u32,
+    ) -> Result<FieldTable, FormatError>
         requires { IsTrue (fits_kind line.kind line.size) }
         ensures { Answers result (field_fault number self (Some (described_by line.entry))) (λ table. table ≡ self ++ described_by line.entry ∷ []) }
     {

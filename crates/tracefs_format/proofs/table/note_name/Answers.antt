@@ -1,5 +1,3 @@
-use Rattle.std.proofs.Common.{◌≡◌, ◌∙◌, ◌||◌, ap, cond, true, false, Bool, refl}
-use Rattle.std.specs.Str.{bytes_eq}
 use Rattle.tracefs_format.specs.Tables.{has_name}
 use Rattle.tracefs_format.proofs.TableLemmas.{inserted}
 use Rattle.tracefs_format.proofs.table.note_name.Goals as goal

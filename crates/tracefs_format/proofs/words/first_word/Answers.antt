@@ -1,5 +1,5 @@
-use Rattle.std.proofs.Common.{◌≡◌, ◌<◌, ◌∙◌, ap, sym, subst, length, ◌∷◌, [], ℕ, List}
-use Rattle.tracefs_format.specs.Bytes.{words, is_word_byte, is_separator, without_front, longest_beginning}
+use Rattle.std.proofs.Common.{◌∙◌, sym}
+use Rattle.tracefs_format.specs.Bytes.{is_word_byte, is_separator, without_front}
 use Rattle.tracefs_format.proofs.WordsLemmas.{words-skip, words-some, words-none, words-shorter}
 use Rattle.tracefs_format.proofs.words.first_word.Goals as goal
 

@@ -1,4 +1,4 @@
-use Rattle.std.proofs.Common.{◌≡◌, ◌∙◌, ◌∷◌, [], ap, sym, map}
+use Rattle.std.proofs.Common.{◌∙◌, ◌∷◌, [], ap, sym, map}
 use Rattle.std.specs.Option.{option_copied}
 use Rattle.tracefs_format.specs.Bytes.{is_line_end, without_end}
 use Rattle.tracefs_format.specs.Lines.{lines_left, text_lines}

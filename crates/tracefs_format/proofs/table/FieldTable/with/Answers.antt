@@ -1,4 +1,4 @@
-use Rattle.std.proofs.Common.{List, ℕ, ap, refl, arith}
+use Rattle.std.proofs.Common.{List, ℕ, ap, arith}
 use Rattle.tracefs_format.specs.FieldLines.{Description}
 use Rattle.tracefs_format.specs.Described.{described_by}
 use Rattle.tracefs_format.proofs.TableLemmas.{table-added, added-fault, added-fields}
@@ -10,6 +10,7 @@ invariant_of-result c = table-added c.self.inside.fields c.push.new.self c.self.
 
 pub returns : goal.returns
 returns c =
-    let named : List ℕ → Description = λ n. record { name = n; offset = c.args.line.offset; size = c.args.line.size; signed = c.args.line.signed; kind = c.args.line.kind } in
-    (added-fault c.self.inside.fields c.self.inside.names c.self.inside.size c.args.number c.args.self (described_by c.args.line) c.in_ok-note_name.field-0 c.self.invariant c.self.view_is (grind arith) c.in_ok-note_name.ensures.new (grind arith),
-     added-fields c.self.inside.fields c.push.new.self _ c.args.self (described_by c.args.line) c.self.view_is c.in_ok-push.ensures.ok (ap named c.in_ok-copied.ensures))
+    let named : List ℕ → Description = λ n. record { name = n; offset = c.args.line.offset; size = c.args.line.size; signed = c.args.line.signed; kind = c.args.line.kind } in (
+      added-fault c.self.inside.fields c.self.inside.names c.self.inside.size c.args.number c.args.self (described_by c.args.line) c.in_ok-note_name.field-0 c.self.invariant c.self.view_is (grind arith) c.in_ok-note_name.ensures.new (grind arith),
+      added-fields c.self.inside.fields c.push.new.self _ c.args.self (described_by c.args.line) c.self.view_is c.in_ok-push.ensures.ok (ap named c.in_ok-copied.ensures),
+    )
