@@ -2,3 +2,5 @@
 #![tactic(auto)]
 
 pub mod reading;
+#[cfg(test)]
+mod tests;
