@@ -1,5 +1,5 @@
 -- The number of bytes, and the number that is read of the first so many.
-use Rattle.std.proofs.Common.{◌≡◌, ℕ, zero, suc, ◌+◌, ◌*◌, ◌^◌, ◌<◌, ℤ, List, [], length, drop, get_or, refl, ap, sym, ◌∙◌, arith, rules, add-one}
+use Rattle.std.proofs.Common.{◌≡◌, ℕ, zero, suc, ◌+◌, ◌*◌, ◌^◌, ◌<◌, ℤ, List, length, drop, get_or, refl, ap, sym, ◌∙◌, arith, add-one}
 use Rattle.std.proofs.lemmas.List.{drop_more, drop_all}
 use Rattle.std.proofs.lemmas.Bool.{lt-ltb}
 use Rattle.std.proofs.lemmas.Int.{of_z-to_z}

@@ -30,6 +30,7 @@ pub struct Field {
     pub size: u32,
     /// Whether a number is read in two's complement.
     pub signed: bool,
+    /// What its bytes mean.
     pub kind: FieldKind,
     /// A number has 1, 2, 4 or 8 bytes, and a data location has 4.
     pub ghost sized: { IsTrue (fits_kind kind size) },

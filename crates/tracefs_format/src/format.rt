@@ -9,8 +9,11 @@ use std::alloc::Global;
 /// A tracepoint: the system that it belongs to, its format text, and the layout that the text describes.
 #[derive(PartialEq, Eq, Debug, Drop)]
 pub struct Format {
+    /// The system that the tracepoint belongs to, as `sched`.
     pub system: Items<u8>,
+    /// The text of its `format` file.
     pub text: Items<u8>,
+    /// What the text says.
     pub layout: Layout,
 }
 

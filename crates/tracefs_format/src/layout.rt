@@ -10,7 +10,9 @@ use std::alloc::Global;
 /// The layout of an event: its name, the number that its payloads begin with, and its fields.
 #[derive(PartialEq, Eq, Debug, Drop)]
 pub struct Layout {
+    /// Letters, digits and `_`, at least one.
     pub name: Items<u8>,
+    /// The number of the event, which its payloads begin with.
     pub id: u16,
     /// In the order of the text's lines.
     pub fields: Items<Field>,

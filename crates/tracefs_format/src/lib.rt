@@ -3,17 +3,17 @@
 //! The texts are those of `events/SYSTEM/EVENT/format` in the tracefs of Linux.
 #![tactic(auto)]
 
-pub mod bytes;
-pub mod declaration;
+mod bytes;
+mod declaration;
 pub mod error;
 pub mod field;
 pub mod format;
 pub mod laws;
 pub mod layout;
-pub mod line;
-pub mod lines;
+mod line;
+mod lines;
 pub mod reading;
-pub mod table;
+mod table;
 #[cfg(test)]
 mod tests;
-pub mod words;
+mod words;

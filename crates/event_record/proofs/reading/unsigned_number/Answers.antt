@@ -1,8 +1,5 @@
-use Rattle.std.proofs.Common.{◌≡◌, ◌<◌, ◌^◌, ◌∙◌, ap, sym, refl, length, arith}
-use Rattle.std.specs.Int.{w64, cast_signed}
-use Rattle.byteorder.specs.Endian.{twos_complement, little_number}
-use Rattle.event_record.specs.Fields.{byte_number}
-use Rattle.event_record.proofs.ByteNumbers.{little_number-byte_number, eight_bytes}
+use Rattle.std.proofs.Common.{◌≡◌, length, arith}
+use Rattle.event_record.proofs.ByteNumbers.{eight_bytes}
 use Rattle.event_record.proofs.reading.unsigned_number.Goals as goal
 
 pub returns-in_default : goal.returns-in_default
