@@ -117,88 +117,64 @@ fn is_field(field: &Field, wanted: &Wanted<'_>) -> bool {
         && field.kind == *kind
 }
 
+/// The fields of `sys_enter` after the common ones, and so on.
+const SYS_ENTER_FIELDS: [Wanted<'static>; 2] = [
+    (b"id", 8, 8, true, FieldKind::Number),
+    (b"args", 16, 48, false, FieldKind::Other),
+];
+
+const SCHED_SWITCH_FIELDS: [Wanted<'static>; 7] = [
+    (b"prev_comm", 8, 16, false, FieldKind::Chars),
+    (b"prev_pid", 24, 4, true, FieldKind::Number),
+    (b"prev_prio", 28, 4, true, FieldKind::Number),
+    (b"prev_state", 32, 8, true, FieldKind::Number),
+    (b"next_comm", 40, 16, false, FieldKind::Chars),
+    (b"next_pid", 56, 4, true, FieldKind::Number),
+    (b"next_prio", 60, 4, true, FieldKind::Number),
+];
+
+const BLOCK_RQ_ISSUE_FIELDS: [Wanted<'static>; 8] = [
+    (b"dev", 8, 4, false, FieldKind::Number),
+    (b"sector", 16, 8, false, FieldKind::Number),
+    (b"nr_sector", 24, 4, false, FieldKind::Number),
+    (b"bytes", 28, 4, false, FieldKind::Number),
+    (b"ioprio", 32, 2, false, FieldKind::Number),
+    (b"rwbs", 34, 10, false, FieldKind::Chars),
+    (b"comm", 44, 16, false, FieldKind::Chars),
+    (b"cmd", 60, 4, false, FieldKind::DataLoc),
+];
+
+const DMA_MAP_SG_FIELDS: [Wanted<'static>; 9] = [
+    (b"device", 8, 4, false, FieldKind::DataLoc),
+    (b"full_nents", 12, 4, true, FieldKind::Number),
+    (b"full_ents", 16, 4, true, FieldKind::Number),
+    (b"truncated", 20, 1, false, FieldKind::Number),
+    (b"phys_addrs", 24, 4, false, FieldKind::Other),
+    (b"dma_addrs", 28, 4, false, FieldKind::Other),
+    (b"lengths", 32, 4, false, FieldKind::Other),
+    (b"dir", 36, 4, false, FieldKind::Number),
+    (b"attrs", 40, 8, false, FieldKind::Number),
+];
+
 #[test]
 fn real_texts_have_their_layouts(rt: HostRuntime) -> Result<(), Fail> {
-    let alloc = rt.alloc();
-    let sys_enter = read_layout(alloc, SYS_ENTER)?;
     assert_eq!(rt; SYS_ENTER.len(), 414);
+    let sys_enter = read_layout(rt.alloc(), SYS_ENTER)?;
     assert_eq!(rt; sys_enter.name.as_slice(), b"sys_enter".as_slice());
     assert_eq!(rt; (sys_enter.id, sys_enter.size), (21, 64));
-    assert!(rt;
-        has_fields(
-            &sys_enter,
-            &[
-                &COMMON,
-                &[
-                    (b"id", 8, 8, true, FieldKind::Number),
-                    (b"args", 16, 48, false, FieldKind::Other),
-                ]
-            ]
-        )
-    );
-    let switch = read_layout(alloc, SCHED_SWITCH)?;
+    assert!(rt; has_fields(&sys_enter, &[&COMMON, &SYS_ENTER_FIELDS]));
+    let switch = read_layout(rt.alloc(), SCHED_SWITCH)?;
     assert_eq!(rt; switch.name.as_slice(), b"sched_switch".as_slice());
     assert_eq!(rt; (switch.id, switch.size), (372, 64));
-    assert!(rt;
-        has_fields(
-            &switch,
-            &[
-                &COMMON,
-                &[
-                    (b"prev_comm", 8, 16, false, FieldKind::Chars),
-                    (b"prev_pid", 24, 4, true, FieldKind::Number),
-                    (b"prev_prio", 28, 4, true, FieldKind::Number),
-                    (b"prev_state", 32, 8, true, FieldKind::Number),
-                    (b"next_comm", 40, 16, false, FieldKind::Chars),
-                    (b"next_pid", 56, 4, true, FieldKind::Number),
-                    (b"next_prio", 60, 4, true, FieldKind::Number),
-                ]
-            ]
-        )
-    );
-    let issue = read_layout(alloc, BLOCK_RQ_ISSUE)?;
+    assert!(rt; has_fields(&switch, &[&COMMON, &SCHED_SWITCH_FIELDS]));
+    let issue = read_layout(rt.alloc(), BLOCK_RQ_ISSUE)?;
     assert_eq!(rt; issue.name.as_slice(), b"block_rq_issue".as_slice());
     assert_eq!(rt; (issue.id, issue.size), (2104, 64));
-    assert!(rt;
-        has_fields(
-            &issue,
-            &[
-                &COMMON,
-                &[
-                    (b"dev", 8, 4, false, FieldKind::Number),
-                    (b"sector", 16, 8, false, FieldKind::Number),
-                    (b"nr_sector", 24, 4, false, FieldKind::Number),
-                    (b"bytes", 28, 4, false, FieldKind::Number),
-                    (b"ioprio", 32, 2, false, FieldKind::Number),
-                    (b"rwbs", 34, 10, false, FieldKind::Chars),
-                    (b"comm", 44, 16, false, FieldKind::Chars),
-                    (b"cmd", 60, 4, false, FieldKind::DataLoc),
-                ]
-            ]
-        )
-    );
-    let map_sg = read_layout(alloc, DMA_MAP_SG)?;
+    assert!(rt; has_fields(&issue, &[&COMMON, &BLOCK_RQ_ISSUE_FIELDS]));
+    let map_sg = read_layout(rt.alloc(), DMA_MAP_SG)?;
     assert_eq!(rt; map_sg.name.as_slice(), b"dma_map_sg".as_slice());
     assert_eq!(rt; (map_sg.id, map_sg.size), (431, 48));
-    assert!(rt;
-        has_fields(
-            &map_sg,
-            &[
-                &COMMON,
-                &[
-                    (b"device", 8, 4, false, FieldKind::DataLoc),
-                    (b"full_nents", 12, 4, true, FieldKind::Number),
-                    (b"full_ents", 16, 4, true, FieldKind::Number),
-                    (b"truncated", 20, 1, false, FieldKind::Number),
-                    (b"phys_addrs", 24, 4, false, FieldKind::Other),
-                    (b"dma_addrs", 28, 4, false, FieldKind::Other),
-                    (b"lengths", 32, 4, false, FieldKind::Other),
-                    (b"dir", 36, 4, false, FieldKind::Number),
-                    (b"attrs", 40, 8, false, FieldKind::Number),
-                ]
-            ]
-        )
-    );
+    assert!(rt; has_fields(&map_sg, &[&COMMON, &DMA_MAP_SG_FIELDS]));
     Ok(())
 }
 
@@ -210,87 +186,89 @@ fn error_of(alloc: Global, text: &[u8]) -> Option<FormatError> {
     read_layout(alloc, text).err()
 }
 
+/// Texts that break a rule, each with the first that it breaks.
+const REFUSED: [(&[u8], FormatError); 27] = [
+    (b"", FormatError::NoName),
+    (b"name:\nID: 7\nformat:\n", FormatError::NoName),
+    (b"name: a-b\nID: 7\nformat:\n", FormatError::NoName),
+    (b" name: x\nID: 7\nformat:\n", FormatError::NoName),
+    (b"name: x", FormatError::BadId),
+    (b"name: x\nID:\nformat:\n", FormatError::BadId),
+    (b"name: x\nID: -1\nformat:\n", FormatError::BadId),
+    (b"name: x\nID: 65536\nformat:\n", FormatError::BadId),
+    (b"name: x\nID: 7", FormatError::BadField(3)),
+    (b"name: x\nID: 7\n format:\n", FormatError::BadField(3)),
+    (b"name: x\nID: 7\nformat: y\n", FormatError::BadField(3)),
+    (
+        b"name: x\nID: 7\nformat:\nfield:int a;offset:0;size:4;signed:2;\n",
+        FormatError::BadField(4),
+    ),
+    (
+        b"name: x\nID: 7\nformat:\nfield:int a;offset:0;size:4;signed:01;\n",
+        FormatError::BadField(4),
+    ),
+    (
+        b"name: x\nID: 7\nformat:\nfield:int a;offset:0;size:4;signed:1\n",
+        FormatError::BadField(4),
+    ),
+    (
+        b"name: x\nID: 7\nformat:\nfield:int a;offset:0;size:4;signed:1;;\n",
+        FormatError::BadField(4),
+    ),
+    (
+        b"name: x\nID: 7\nformat:\nfield:int a;size:4;offset:0;signed:1;\n",
+        FormatError::BadField(4),
+    ),
+    (
+        b"name: x\nID: 7\nformat:\nfield:int a;offset:4294967296;size:4;signed:1;\n",
+        FormatError::BadField(4),
+    ),
+    (
+        b"name: x\nID: 7\nformat:\nfield:int a;offset:;size:4;signed:1;\n",
+        FormatError::BadField(4),
+    ),
+    (
+        b"name: x\nID: 7\nformat:\n\n \t\r\nfield int a;offset:0;size:4;signed:1;\n",
+        FormatError::BadField(6),
+    ),
+    (
+        b"name: x\nID: 7\nformat:\n print fmt: x\n",
+        FormatError::BadField(4),
+    ),
+    (
+        b"name: x\nID: 7\nformat:\nfield:char a;offset:4096;size:1;signed:0;\n",
+        FormatError::Overlong(4),
+    ),
+    (
+        b"name: x\nID: 7\nformat:\nfield:char a;offset:4294967295;size:4294967295;signed:0;\n",
+        FormatError::Overlong(4),
+    ),
+    (
+        b"name: x\nID: 7\nformat:\nfield:int a;offset:0;size:4;signed:1;\nfield:int a;offset:4;size:4;signed:1;\n",
+        FormatError::SameName(5),
+    ),
+    (
+        b"name: x\nID: 7\nformat:\nfield:int a;offset:0;size:4;signed:1;\n\nfield:char a[4];offset:4;size:4;signed:0;\nx\n",
+        FormatError::SameName(6),
+    ),
+    (
+        b"name: x\nID: 7\nformat:\nfield:int a;offset:0;size:4;signed:1;\nfield:int a;offset:4096;size:4;signed:1;\n",
+        FormatError::Overlong(5),
+    ),
+    (
+        b"name: x\nID: 7\nformat:\nfield:int a;offset:4096;size:4;signed:2;\n",
+        FormatError::BadField(4),
+    ),
+    (
+        b"name: x\nID: 7\nformat:\nfield:int a;offset:4096;size:4;signed:1;\nx\n",
+        FormatError::Overlong(4),
+    ),
+];
+
 #[test]
 fn each_fault_has_its_line(rt: HostRuntime) {
     let alloc = rt.alloc();
-    let refused: [(&[u8], FormatError); 27] = [
-        (b"", FormatError::NoName),
-        (b"name:\nID: 7\nformat:\n", FormatError::NoName),
-        (b"name: a-b\nID: 7\nformat:\n", FormatError::NoName),
-        (b" name: x\nID: 7\nformat:\n", FormatError::NoName),
-        (b"name: x", FormatError::BadId),
-        (b"name: x\nID:\nformat:\n", FormatError::BadId),
-        (b"name: x\nID: -1\nformat:\n", FormatError::BadId),
-        (b"name: x\nID: 65536\nformat:\n", FormatError::BadId),
-        (b"name: x\nID: 7", FormatError::BadField(3)),
-        (b"name: x\nID: 7\n format:\n", FormatError::BadField(3)),
-        (b"name: x\nID: 7\nformat: y\n", FormatError::BadField(3)),
-        (
-            b"name: x\nID: 7\nformat:\nfield:int a;offset:0;size:4;signed:2;\n",
-            FormatError::BadField(4),
-        ),
-        (
-            b"name: x\nID: 7\nformat:\nfield:int a;offset:0;size:4;signed:01;\n",
-            FormatError::BadField(4),
-        ),
-        (
-            b"name: x\nID: 7\nformat:\nfield:int a;offset:0;size:4;signed:1\n",
-            FormatError::BadField(4),
-        ),
-        (
-            b"name: x\nID: 7\nformat:\nfield:int a;offset:0;size:4;signed:1;;\n",
-            FormatError::BadField(4),
-        ),
-        (
-            b"name: x\nID: 7\nformat:\nfield:int a;size:4;offset:0;signed:1;\n",
-            FormatError::BadField(4),
-        ),
-        (
-            b"name: x\nID: 7\nformat:\nfield:int a;offset:4294967296;size:4;signed:1;\n",
-            FormatError::BadField(4),
-        ),
-        (
-            b"name: x\nID: 7\nformat:\nfield:int a;offset:;size:4;signed:1;\n",
-            FormatError::BadField(4),
-        ),
-        (
-            b"name: x\nID: 7\nformat:\n\n \t\r\nfield int a;offset:0;size:4;signed:1;\n",
-            FormatError::BadField(6),
-        ),
-        (
-            b"name: x\nID: 7\nformat:\n print fmt: x\n",
-            FormatError::BadField(4),
-        ),
-        (
-            b"name: x\nID: 7\nformat:\nfield:char a;offset:4096;size:1;signed:0;\n",
-            FormatError::Overlong(4),
-        ),
-        (
-            b"name: x\nID: 7\nformat:\nfield:char a;offset:4294967295;size:4294967295;signed:0;\n",
-            FormatError::Overlong(4),
-        ),
-        (
-            b"name: x\nID: 7\nformat:\nfield:int a;offset:0;size:4;signed:1;\nfield:int a;offset:4;size:4;signed:1;\n",
-            FormatError::SameName(5),
-        ),
-        (
-            b"name: x\nID: 7\nformat:\nfield:int a;offset:0;size:4;signed:1;\n\nfield:char a[4];offset:4;size:4;signed:0;\nx\n",
-            FormatError::SameName(6),
-        ),
-        (
-            b"name: x\nID: 7\nformat:\nfield:int a;offset:0;size:4;signed:1;\nfield:int a;offset:4096;size:4;signed:1;\n",
-            FormatError::Overlong(5),
-        ),
-        (
-            b"name: x\nID: 7\nformat:\nfield:int a;offset:4096;size:4;signed:2;\n",
-            FormatError::BadField(4),
-        ),
-        (
-            b"name: x\nID: 7\nformat:\nfield:int a;offset:4096;size:4;signed:1;\nx\n",
-            FormatError::Overlong(4),
-        ),
-    ];
-    for (place, (text, error)) in refused.iter().enumerate() {
+    for (place, (text, error)) in REFUSED.iter().enumerate() {
         assert_eq!(rt; error_of(alloc, text), Some(*error), "at {place}");
     }
 }
