@@ -209,11 +209,11 @@ field_on-IsFieldLine line d h =
       declaration = declaration;
       declared = spelled1;
       no_semicolon = value_other (codes "field:") declaration first.0 spelled1 is1.1;
-      name = refl;
+      name = refl {a = declared_name declaration};
       offset = number_after-IsNumber (codes "offset:") second.0 offset read2.1;
       size = number_after-IsNumber (codes "size:") third.0 size read3.1;
       signed = flag_after-IsLabelled (codes "signed:") fourth.0 signed read4.1;
-      kind = refl;
+      kind = refl {a = declared_kind declaration size};
     })
 
 number_other : (label part : List ℕ) (n : ℕ) → IsNumber label n part → list_all (is_other 59) label ≡ true → list_all (is_other 59) part ≡ true

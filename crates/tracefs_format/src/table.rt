@@ -11,6 +11,7 @@ use crate::field::Field;
 use crate::layout::Layout;
 use crate::line::FieldLine;
 use bt_core::items::Items;
+use bt_core::limits::LAYOUT_END;
 use bt_core::memory::Memory;
 use std::alloc::Global;
 use std::collections::BTreeSet;
@@ -67,7 +68,7 @@ impl FieldTable {
             size,
         } = self;
         let end = u64::from(line.offset) + u64::from(line.size);
-        if end > 4_096 {
+        if end > u64::from(LAYOUT_END) {
             return Err(FormatError::Overlong(number));
         }
         if !note_name(alloc, &mut names, line.name)? {
