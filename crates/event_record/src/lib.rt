@@ -1,0 +1,6 @@
+//! Events of a recording: what the bytes of a payload's fields mean.
+#![tactic(auto)]
+
+pub mod reading;
+#[cfg(test)]
+mod tests;

@@ -1,0 +1,9 @@
+use Rattle.std.proofs.Common.{◌≡◌, length}
+use Rattle.tracefs_format.specs.Bytes.{without_front, is_in}
+use Rattle.tracefs_format.proofs.bytes.without_front.Given as goal
+
+abbrev pub invariant-loop-rest : goal.invariant-loop-rest
+invariant-loop-rest l = without_front (is_in l.class) l.rest ≡ without_front (is_in l.class) l.bytes
+
+abbrev pub decreases-loop-rest : goal.decreases-loop-rest
+decreases-loop-rest l = length l.rest

@@ -1,0 +1,10 @@
+pub mod Bytes
+pub mod Declarations
+pub mod Described
+pub mod FieldLines
+pub mod Kinds
+pub mod Layouts
+pub mod Lines
+pub mod Reading
+pub mod Sizes
+pub mod Tables

@@ -1,0 +1,35 @@
+// The layout of an event.
+ghost use Rattle.std.specs.Prelude.{◌≡◌, IfOk};
+ghost use Rattle.tracefs_format.specs.Sizes.{greatest_end};
+
+use crate::field::Field;
+use bt_core::items::Items;
+use bt_core::memory::{Memory, TryCopy};
+use std::alloc::Global;
+
+/// The layout of an event: its name, the number that its payloads begin with, and its fields.
+#[derive(PartialEq, Eq, Debug, Drop)]
+pub struct Layout {
+    /// Letters, digits and `_`, at least one.
+    pub name: Items<u8>,
+    /// The number of the event, which its payloads begin with.
+    pub id: u16,
+    /// In the order of the text's lines.
+    pub fields: Items<Field>,
+    /// How many bytes a payload needs: the greatest end of a field, and 0 without fields.
+    pub size: u32,
+    pub ghost covers: { size ≡ greatest_end fields },
+}
+
+impl TryCopy for Layout {
+    fn try_copy(&self, alloc: Global) -> Result<Layout, Memory> {
+        let name = self.name.try_copy(alloc)?;
+        let fields = self.fields.try_copy(alloc)?;
+        Ok(Layout {
+            name,
+            id: self.id,
+            fields,
+            size: self.size,
+        })
+    }
+}

@@ -1,0 +1,120 @@
+// The fields that were read so far, and the names that they have.
+ghost use Rattle.std.specs.Prelude.{◌≡◌, ◌≢◌, ◌||◌, ◌∷◌, [], ◌++◌, ℕ, List, not, IfOk, OnOk, IsTrue, Some};
+ghost use Rattle.std.specs.Str.{bytes_eq};
+ghost use Rattle.tracefs_format.specs.Kinds.{fits_kind};
+ghost use Rattle.tracefs_format.specs.Described.{described_by};
+ghost use Rattle.tracefs_format.specs.Tables.{Answers, has_name, is_known, IsMadeOf};
+ghost use Rattle.tracefs_format.specs.Layouts.{field_fault};
+
+use crate::error::FormatError;
+use crate::field::Field;
+use crate::layout::Layout;
+use crate::line::FieldLine;
+use bt_core::items::Items;
+use bt_core::limits::LAYOUT_END;
+use bt_core::memory::Memory;
+use std::alloc::Global;
+use std::collections::BTreeSet;
+use std::marker::Model;
+
+/// The fields of a layout that is being read, with their names for finding an equal one.
+///
+/// Contracts see what the lines of these fields say.
+#[derive(Drop)]
+pub struct FieldTable {
+    fields: Items<Field>,
+    names: BTreeSet<Items<u8>>,
+    size: u32,
+}
+
+impl Model for FieldTable {
+    ghost use Rattle.std.specs.Prelude.{List, map};
+    ghost use Rattle.tracefs_format.specs.FieldLines.{Description, description};
+    ghost use Rattle.tracefs_format.specs.Tables.{IsTable};
+
+    ghost Value = { List Description };
+
+    ghost view = { λ s. map description s.fields };
+
+    ghost invariant = { λ s. IsTable s.fields s.names s.size };
+}
+
+impl FieldTable {
+    /// A table without fields.
+    pub fn new(alloc: Global) -> FieldTable
+        ensures { result ≡ [] }
+    {
+        FieldTable {
+            fields: Items::new(alloc),
+            names: BTreeSet::new(alloc),
+            size: 0,
+        }
+    }
+
+    /// The table with the field of a line. The field is refused where it ends after 4,096 bytes, and
+    /// else where an earlier field has its name and the name is not empty.
+    pub fn with(
+        self,
+        alloc: Global,
+        line: FieldLine<'_>,
+        number: u32,
+    ) -> Result<FieldTable, FormatError>
+        requires { IsTrue (fits_kind line.kind line.size) }
+        ensures { Answers result (field_fault number self (Some (described_by line.entry))) (λ table. table ≡ self ++ described_by line.entry ∷ []) }
+    {
+        let FieldTable {
+            mut fields,
+            mut names,
+            size,
+        } = self;
+        let end = u64::from(line.offset) + u64::from(line.size);
+        if end > u64::from(LAYOUT_END) {
+            return Err(FormatError::Overlong(number));
+        }
+        if !note_name(alloc, &mut names, line.name)? {
+            return Err(FormatError::SameName(number));
+        }
+        fields.push(Field {
+            name: copied(alloc, line.name)?,
+            offset: line.offset,
+            size: line.size,
+            signed: line.signed,
+            kind: line.kind,
+        })?;
+        Ok(FieldTable {
+            fields,
+            names,
+            size: size.max(end as u32),
+        })
+    }
+
+    /// The layout of these fields.
+    pub fn into_layout(self, name: Items<u8>, id: u16) -> Layout
+        ensures { IsMadeOf name id self result }
+    {
+        Layout {
+            name,
+            id,
+            fields: self.fields,
+            size: self.size,
+        }
+    }
+}
+
+/// A list of these bytes.
+pub fn copied(alloc: Global, bytes: &[u8]) -> Result<Items<u8>, Memory>
+    ensures { IfOk result (λ copied. copied ≡ bytes.now) }
+{
+    Ok(Items::of(Vec::from_slice(alloc, bytes)?))
+}
+
+/// Adds a name that is not empty, and answers whether it is new. An empty name is always new.
+fn note_name(alloc: Global, names: &mut BTreeSet<Items<u8>>, name: &[u8]) -> Result<bool, Memory>
+    ensures new { IfOk result (λ new. new ≡ not (is_known names.old name.now)) }
+    ensures others { OnOk result ((other : List ℕ) → other ≢ [] → has_name names.new other ≡ (bytes_eq name.now other || has_name names.old other)) }
+{
+    if name.is_empty() {
+        return Ok(true);
+    }
+    Ok(names.insert(copied(alloc, name)?)?)
+}
