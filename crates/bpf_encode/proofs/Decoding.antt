@@ -1,17 +1,17 @@
 -- Bytes are those of at most one code, which decoding finds, and else it finds their first fault.
-use Rattle.std.proofs.Common.{◌≡◌, ℕ, zero, suc, ◌+◌, ◌-◌, ◌*◌, ◌<◌, ◌≤◌, refl, ap, sym, ◌∙◌, subst, List, [], ◌∷◌, ◌++◌, append_assoc, append-nil, length, take, drop, get_or, Option, Some, None, Bool, true, false, arith}
-use Rattle.std.specs.Prelude.{◌/◌, ◌%◌, cond, ◌&&◌, Result, Ok, Err, IsTrue, slice_index, MatchResult, ⊤}
+use Rattle.std.proofs.Common.{◌≡◌, ℕ, zero, suc, ◌+◌, ◌-◌, ◌*◌, ◌<◌, ◌≤◌, refl, ap, sym, ◌∙◌, subst, List, [], ◌∷◌, ◌++◌, append_assoc, append-nil, length, take, drop, Option, Some, None, Bool, true, false, arith}
+use Rattle.std.specs.Prelude.{◌/◌, ◌%◌, cond, ◌&&◌, Result, Ok, Err, IsTrue, MatchResult}
 use Rattle.std.specs.List.{AllByRecursion}
 use Rattle.std.proofs.lemmas.List.{length-drop, drop-drop, get_or-drop}
 use Rattle.bpf_insn.specs.declared.insn.Insn.{Insn}
 use Rattle.bpf_insn.specs.declared.slot.Slot.{Slot}
-use Rattle.bpf_insn.specs.Code.{is_valid, is_built, is_wide, is_half, HalvesFollow, IsWellFormed, AllBuilt}
+use Rattle.bpf_insn.specs.Code.{is_valid, is_built, HalvesFollow, AllBuilt}
 use Rattle.bpf_insn.specs.Encoding.{slot, slot_of, slot_bytes, code_bytes}
 use Rattle.bpf_encode.specs.declared.decode.DecodeError.{DecodeError}
 use Rattle.bpf_encode.specs.declared.decode.DecodeError.TheVariants.{BadLength, BadOpcode, BadField, HalfWide, Memory}
 use Rattle.bpf_encode.specs.Decoding.{Fits, IsCode, IsCodeOf, slot_in, candidate, is_same_slot, is_fine, HasInsn}
-use Rattle.bpf_encode.specs.Faults.{BeginsWith, FaultAt, HasBadOpcode, HasBadField, IsRefused, checked, slot_decoded, with_more, decoded, after_code, FaultIs}
-use Rattle.bpf_encode.proofs.Bytes.{IsBytes, slot_again, drop_slot, split_again, offset_fits, imm_fits}
+use Rattle.bpf_encode.specs.Faults.{BeginsWith, IsRefused, slot_decoded, with_more, decoded, after_code, FaultIs}
+use Rattle.bpf_encode.proofs.Bytes.{IsBytes, slot_again, split_again, offset_fits, imm_fits}
 use Rattle.bpf_encode.proofs.Table.{both, same_slot, slot_same, found_again, says_one, fits_slot, is_single, candidate_fits, opcode_of_one}
 
 -- code but for its halves, with its bytes

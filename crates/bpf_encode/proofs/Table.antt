@@ -1,20 +1,19 @@
 -- The encoding table, and what an opcode says.
-use Rattle.std.proofs.Common.{◌≡◌, ℕ, ◌+◌, ◌*◌, ◌≤◌, refl, ap, sym, ◌∙◌, subst, Option, Some, None, Bool, true, false, arith}
-use Rattle.std.specs.Prelude.{◌/◌, ◌%◌, ◌^◌, ℤ, pos, cond, ◌&&◌, nat_eq, nat_le, IsTrue}
+use Rattle.std.proofs.Common.{◌≡◌, ℕ, ◌≤◌, refl, ap, sym, ◌∙◌, subst, Option, Some, None, Bool, true, false, arith}
+use Rattle.std.specs.Prelude.{◌/◌, ◌%◌, ℤ, pos, cond, ◌&&◌, nat_eq, IsTrue}
 use Rattle.std.specs.Ordering.{int_eq}
-use Rattle.std.specs.Int.{w16, w32, cast_unsigned, cast_signed}
+use Rattle.std.specs.Int.{w16, w32, cast_unsigned}
 use Rattle.std.specs.Int.RustNames.{FitsSigned}
 use Rattle.std.proofs.Math.Facts.{sfits_to_z, sfits_lit}
 use Rattle.std.proofs.lemmas.Int.{of_z-to_z}
 use Rattle.std.proofs.lemmas.Bool.Decides.{Decides-int_eq}
 use Rattle.bpf_insn.specs.declared.insn.AluOp.{AluOp}
-use Rattle.bpf_insn.specs.declared.insn.AluOp.TheVariants.{Add, Sub, Mul, Div, BitOr, BitAnd, Lsh, Rsh, Mod, BitXor, Mov, Arsh}
+use Rattle.bpf_insn.specs.declared.insn.AluOp.TheVariants.{Add, Mov}
 use Rattle.bpf_insn.specs.declared.insn.Insn.{Insn}
-use Rattle.bpf_insn.specs.declared.insn.Insn.TheVariants.{Alu, Neg, End, Jump, Ja, JaLong, Call, Exit, Load, StoreImm, Store, Wide, Half}
-use Rattle.bpf_insn.specs.declared.insn.Source.{Source}
+use Rattle.bpf_insn.specs.declared.insn.Insn.TheVariants.{Alu, Call, Exit, Wide, Half}
 use Rattle.bpf_insn.specs.declared.insn.Source.TheVariants.{Imm, Reg}
 use Rattle.bpf_insn.specs.declared.slot.Slot.{Slot}
-use Rattle.bpf_insn.specs.Fields.{is_register, is_source, is_alu_offset, alu_code}
+use Rattle.bpf_insn.specs.Fields.{is_register, alu_code}
 use Rattle.bpf_insn.specs.Code.{is_valid, is_built, is_wide, is_half}
 use Rattle.bpf_insn.specs.Encoding.{slot, slot_of}
 use Rattle.bpf_encode.specs.Decoding.{FitsSource, Fits, alu_op_at, source_at, alu_with, candidate, is_same_slot, is_fine, HasInsn}
