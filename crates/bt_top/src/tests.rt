@@ -1,8 +1,6 @@
 // The printed bytes and lines, the order of refusals, and that calls succeed where memory is ample.
-ghost use Rattle.std.specs.Prelude.{◌-◌, ◌^◌, None};
+ghost use Rattle.std.specs.Prelude.{◌-◌, ◌<◌, ◌^◌, None};
 
-use crate::refusal::{Operand, Refusal};
-use crate::report::Report;
 use crate::serve::serve;
 use bt_core::items::Items;
 use bt_core::memory::Memory;
@@ -18,6 +16,8 @@ const SYS_ENTER: &[u8] =
 
 /// The format text of an event `e` with one field.
 const E: &[u8] = b"name: e\nID: 7\nformat:\n\tfield:long v;\toffset:8;\tsize:8;\tsigned:1;\n";
+
+const COUNT_E: &[u8] = b"tracepoint:t:e { @ = count(); }";
 
 const COUNT_SYS_ENTER: &[u8] = b"tracepoint:raw_syscalls:sys_enter { @ = count(); }";
 
@@ -79,41 +79,55 @@ fn sink(alloc: Global) -> Result<MemSink, Memory> {
     MemSink::new(alloc, 4096, 4096, Vec::new(alloc))
 }
 
-/// What a call answered and wrote.
-#[derive(Drop)]
-struct Outcome {
-    report: Report,
-    out: MemSink,
-    err: MemSink,
+/// The words `run s.bt r.bin`.
+fn run_words(alloc: Global) -> Result<Vec<String>, Memory> {
+    words(alloc, &["run", "s.bt", "r.bin"])
 }
 
-/// Runs `run s.bt r.bin` over a shelf, with ample sinks.
-fn run_over<S: Shelf>(alloc: Global, shelf: &mut S) -> Result<Outcome, Memory> {
-    let words = words(alloc, &["run", "s.bt", "r.bin"])?;
+/// Whether `run s.bt r.bin` over the shelf ends with this status and writes these bytes, with ample sinks.
+fn answers<S: Shelf>(
+    alloc: Global,
+    shelf: &mut S,
+    status: u8,
+    text: &[u8],
+    line: &[u8],
+) -> Result<bool, Memory> {
+    let words = run_words(alloc)?;
     let mut out = sink(alloc)?;
     let mut err = sink(alloc)?;
     let report = serve(alloc, words.as_slice(), shelf, &mut out, &mut err);
-    Ok(Outcome { report, out, err })
+    Ok(report.status == status && out.taken() == text && err.taken() == line)
 }
 
-/// Runs `run s.bt r.bin` over these files, with ample sinks.
-fn run(alloc: Global, script: &[u8], recording: Vec<u8>) -> Result<Outcome, Memory> {
-    run_over(alloc, &mut shelf(alloc, script, recording)?)
+/// The same over these files.
+fn run(
+    alloc: Global,
+    script: &[u8],
+    recording: Vec<u8>,
+    status: u8,
+    text: &[u8],
+    line: &[u8],
+) -> Result<bool, Memory> {
+    answers(
+        alloc,
+        &mut shelf(alloc, script, recording)?,
+        status,
+        text,
+        line,
+    )
+}
+
+/// Whether a script over the three entries is refused with this line.
+fn is_refused(alloc: Global, script: &[u8], line: &[u8]) -> Result<bool, Memory> {
+    run(alloc, script, three_entries(alloc)?, 2, b"", line)
 }
 
 #[test]
 fn the_events_of_a_file_of_796_bytes_are_counted(rt: HostRuntime) -> Result<(), Fail> {
     let alloc = rt.alloc();
     let recording = three_entries(alloc)?;
-    assert_eq!(rt; recording.len(), 796);
-    let outcome = run(alloc, COUNT_SYS_ENTER, recording)?;
-    assert_eq!(rt; outcome.report.status, 0);
-    assert_eq!(rt; outcome.out.taken(), b"@: 3\n\n".as_slice());
-    assert_eq!(rt; outcome.err.taken(), b"".as_slice());
-    let work = outcome.report.work.ok_or("no work")?;
-    assert_eq!(rt; work.steps.len(), 3);
-    assert_eq!(rt; work.text.as_slice(), b"@: 3\n\n".as_slice());
-    assert_eq!(rt; work.instructions, 0);
+    assert!(rt; recording.len() == 796);
+    assert!(rt; run(alloc, COUNT_SYS_ENTER, recording, 0, b"@: 3\n\n", b"")?);
     Ok(())
 }
 
@@ -121,10 +135,7 @@ fn the_events_of_a_file_of_796_bytes_are_counted(rt: HostRuntime) -> Result<(), 
 fn no_event_prints_nothing(rt: HostRuntime) -> Result<(), Fail> {
     let alloc = rt.alloc();
     let recording = recording(alloc, b"t", E, b"", 0)?;
-    let outcome = run(alloc, b"tracepoint:t:e { @ = count(); }", recording)?;
-    assert_eq!(rt; outcome.report.status, 0);
-    assert_eq!(rt; outcome.out.taken(), b"".as_slice());
-    assert_eq!(rt; outcome.err.taken(), b"".as_slice());
+    assert!(rt; run(alloc, COUNT_E, recording, 0, b"", b"")?);
     Ok(())
 }
 
@@ -132,9 +143,8 @@ fn no_event_prints_nothing(rt: HostRuntime) -> Result<(), Fail> {
 fn a_newline_may_end_the_script(rt: HostRuntime) -> Result<(), Fail> {
     let alloc = rt.alloc();
     let recording = recording(alloc, b"t", E, b"\x07\0", 10)?;
-    let outcome = run(alloc, b"tracepoint:t:e { @ = count(); }\n", recording)?;
-    assert_eq!(rt; outcome.report.status, 0);
-    assert_eq!(rt; outcome.out.taken(), b"@: 10\n\n".as_slice());
+    let script = b"tracepoint:t:e { @ = count(); }\n";
+    assert!(rt; run(alloc, script, recording, 0, b"@: 10\n\n", b"")?);
     Ok(())
 }
 
@@ -143,83 +153,71 @@ fn a_recording_is_refused_before_its_script(rt: HostRuntime) -> Result<(), Fail>
     let alloc = rt.alloc();
     let mut cut = three_entries(alloc)?;
     cut.truncate(795);
-    let outcome = run(alloc, b"BEGIN { }", cut)?;
-    assert_eq!(rt; outcome.report.status, 3);
-    assert_eq!(rt;
-        outcome.report.refusal,
-        Some(Refusal::Early(Operand::Recording))
-    );
-    assert_eq!(rt; outcome.out.taken(), b"".as_slice());
-    assert_eq!(rt; outcome.err.taken(), b"r.bin: not built yet\n".as_slice());
+    assert!(rt; run(alloc, b"BEGIN { }", cut, 3, b"", b"r.bin: not built yet\n")?);
     let mut longer = three_entries(alloc)?;
     longer.push(0).map_err(Memory::from)?;
-    let outcome = run(alloc, COUNT_SYS_ENTER, longer)?;
-    assert_eq!(rt; outcome.report.status, 3);
+    assert!(rt;
+        run(
+            alloc,
+            COUNT_SYS_ENTER,
+            longer,
+            3,
+            b"",
+            b"r.bin: not built yet\n"
+        )?
+    );
     Ok(())
-}
-
-/// Whether this script is refused over the three entries, and nothing is written but its line.
-fn is_other_script(alloc: Global, script: &[u8]) -> Result<bool, Memory> {
-    let outcome = run(alloc, script, three_entries(alloc)?)?;
-    Ok(
-        outcome.report.status == 2
-            && outcome.out.taken().is_empty()
-            && outcome.err.taken() == b"s.bt: not built yet\n".as_slice(),
-    )
 }
 
 #[test]
 fn other_scripts_are_refused(rt: HostRuntime) -> Result<(), Fail> {
     let alloc = rt.alloc();
     let sum = b"tracepoint:raw_syscalls:sys_enter { @ = sum(1); }";
-    assert!(rt; is_other_script(alloc, sum)?, "another aggregation");
+    assert!(rt;
+        is_refused(alloc, sum, b"s.bt: not built yet\n")?,
+        "another aggregation"
+    );
     let exit = b"tracepoint:raw_syscalls:sys_exit { @ = count(); }";
-    assert!(rt; is_other_script(alloc, exit)?, "another event");
+    assert!(rt;
+        is_refused(alloc, exit, b"s.bt: not built yet\n")?,
+        "another event"
+    );
     let newlines = b"tracepoint:raw_syscalls:sys_enter { @ = count(); }\n\n";
-    assert!(rt; is_other_script(alloc, newlines)?, "two newlines");
-    let blanks = b"tracepoint:raw_syscalls:sys_enter  { @ = count(); }";
-    assert!(rt; is_other_script(alloc, blanks)?, "two blanks");
-    assert!(rt; is_other_script(alloc, b"")?, "no script");
+    assert!(rt;
+        is_refused(alloc, newlines, b"s.bt: not built yet\n")?,
+        "two newlines"
+    );
     Ok(())
 }
 
 #[test]
 fn a_script_may_have_65536_bytes(rt: HostRuntime) -> Result<(), Fail> {
     let alloc = rt.alloc();
-    let longest = vec![in alloc; b' '; 65_536].map_err(Memory::from)?;
-    let outcome = run(alloc, longest.as_slice(), three_entries(alloc)?)?;
-    assert_eq!(rt; outcome.report.status, 2);
-    assert_eq!(rt; outcome.err.taken(), b"s.bt: not built yet\n".as_slice());
-    let too_long = vec![in alloc; b' '; 65_537].map_err(Memory::from)?;
-    let outcome = run(alloc, too_long.as_slice(), Vec::new(alloc))?;
-    assert_eq!(rt; outcome.report.status, 2);
-    assert_eq!(rt; outcome.err.taken(), b"s.bt: script too long\n".as_slice());
+    let mut script = vec![in alloc; b' '; 65_536].map_err(Memory::from)?;
+    assert!(rt; is_refused(alloc, script.as_slice(), b"s.bt: not built yet\n")?);
+    script.push(b' ').map_err(Memory::from)?;
+    assert!(rt; is_refused(alloc, script.as_slice(), b"s.bt: script too long\n")?);
     Ok(())
 }
 
+/// A shelf of an empty script, of which the call of this number fails.
+fn failing_shelf(alloc: Global, call: u32) -> Result<MemShelf, Memory> {
+    let mut files = Vec::new(alloc);
+    files.push((String::from_str(alloc, "s.bt")?, Vec::new(alloc)))?;
+    let mut failing = Vec::new(alloc);
+    failing.push(call)?;
+    Ok(MemShelf::new(alloc, files, failing))
+}
+
 #[test]
-fn a_missing_file_is_a_read_fault(rt: HostRuntime) -> Result<(), Fail> {
+fn a_missing_file_and_a_failing_read_are_read_faults(rt: HostRuntime) -> Result<(), Fail> {
     let alloc = rt.alloc();
     let mut none = MemShelf::new(alloc, Vec::new(alloc), Vec::new(alloc));
-    let outcome = run_over(alloc, &mut none)?;
-    assert_eq!(rt; outcome.report.status, 4);
-    assert_eq!(rt; outcome.err.taken(), b"s.bt: read fault\n".as_slice());
-    let mut second = shelf(alloc, COUNT_SYS_ENTER, three_entries(alloc)?)?;
-    let read = second.read(alloc, "s.bt", 100);
-    assert_eq!(rt; read.map(|bytes| bytes.len()), Ok(50));
-    let failing = vec![in alloc; 2u32].map_err(Memory::from)?;
-    let file = (
-        String::from_str(alloc, "s.bt").map_err(Memory::from)?,
-        Vec::new(alloc),
-    );
-    let files = vec![in alloc; file].map_err(Memory::from)?;
-    let outcome = run_over(alloc, &mut MemShelf::new(alloc, files, failing))?;
-    assert_eq!(rt; outcome.report.status, 4);
-    assert_eq!(rt;
-        outcome.report.refusal,
-        Some(Refusal::ReadFault(Operand::Recording))
-    );
-    assert_eq!(rt; outcome.err.taken(), b"r.bin: read fault\n".as_slice());
+    assert!(rt; answers(alloc, &mut none, 4, b"", b"s.bt: read fault\n")?);
+    let mut first = failing_shelf(alloc, 1)?;
+    assert!(rt; answers(alloc, &mut first, 4, b"", b"s.bt: read fault\n")?);
+    let mut second = failing_shelf(alloc, 2)?;
+    assert!(rt; answers(alloc, &mut second, 4, b"", b"r.bin: read fault\n")?);
     Ok(())
 }
 
@@ -250,15 +248,6 @@ fn other_words_are_answered_by_how_the_program_is_used(rt: HostRuntime) -> Resul
         are_refused(alloc, &["run", "-s", "r.bin"])?,
         "an option for a file"
     );
-    assert!(rt; are_refused(alloc, &["run", "s.bt", ""])?, "an empty word");
-    assert!(rt;
-        are_refused(alloc, &["count", "s.bt", "r.bin"])?,
-        "another command"
-    );
-    assert!(rt;
-        are_refused(alloc, &["run", "s.bt", "r.bin", "r.bin"])?,
-        "three files"
-    );
     assert!(rt;
         !are_refused(alloc, &["run", "s.bt", "r.bin"])?,
         "two files"
@@ -266,21 +255,30 @@ fn other_words_are_answered_by_how_the_program_is_used(rt: HostRuntime) -> Resul
     Ok(())
 }
 
+/// A sink that takes `most` bytes a call and fails at the call of this number.
+fn failing_sink(alloc: Global, most: usize, call: u32) -> Result<MemSink, Memory>
+    requires { 0 < most }
+{
+    let mut failing = Vec::new(alloc);
+    failing.push(call)?;
+    MemSink::new(alloc, 4096, most, failing)
+}
+
 #[test]
 fn a_write_fault_leaves_a_prefix_and_the_work(rt: HostRuntime) -> Result<(), Fail> {
     let alloc = rt.alloc();
-    let words = words(alloc, &["run", "s.bt", "r.bin"])?;
+    let words = run_words(alloc)?;
     let mut shelf = shelf(alloc, COUNT_SYS_ENTER, three_entries(alloc)?)?;
-    let mut out = MemSink::new(alloc, 4096, 2, vec![in alloc; 2u32].map_err(Memory::from)?)?;
-    let mut err = MemSink::new(alloc, 4096, 3, vec![in alloc; 3u32].map_err(Memory::from)?)?;
+    let mut out = failing_sink(alloc, 2, 2)?;
+    let mut err = failing_sink(alloc, 3, 3)?;
     let report = serve(alloc, words.as_slice(), &mut shelf, &mut out, &mut err);
-    assert_eq!(rt; report.status, 5);
-    assert_eq!(rt; out.taken(), b"@:".as_slice());
+    assert!(rt; report.status == 5);
+    assert!(rt; out.taken() == b"@:".as_slice());
     // The fault of `err` leaves a prefix of its line, and changes nothing else.
-    assert_eq!(rt; err.taken(), b"write ".as_slice());
+    assert!(rt; err.taken() == b"write ".as_slice());
     let work = report.work.ok_or("no work")?;
-    assert_eq!(rt; work.text.as_slice(), b"@: 3\n\n".as_slice());
-    assert_eq!(rt; work.steps.len(), 3);
+    assert!(rt; work.text.as_slice() == b"@: 3\n\n".as_slice());
+    assert!(rt; work.steps.len() == 3);
     Ok(())
 }
 
@@ -312,27 +310,21 @@ impl Shelf for Refusing {
     }
 }
 
+fn refusing_with(alloc: Global, answer: ShelfError) -> Refusing {
+    Refusing {
+        answer,
+        asked: Items::new(alloc),
+    }
+}
+
 #[test]
 fn a_long_recording_and_want_of_memory_are_told(rt: HostRuntime) -> Result<(), Fail> {
     let alloc = rt.alloc();
-    let mut shelf = Refusing {
-        answer: ShelfError::TooLong,
-        asked: Items::new(alloc),
-    };
-    let outcome = run_over(alloc, &mut shelf)?;
-    assert_eq!(rt; shelf.asked.len(), 2);
-    assert_eq!(rt; outcome.report.status, 3);
-    assert_eq!(rt;
-        outcome.err.taken(),
-        b"r.bin: recording too long\n".as_slice()
-    );
-    let mut shelf = Refusing {
-        answer: ShelfError::Memory,
-        asked: Items::new(alloc),
-    };
-    let outcome = run_over(alloc, &mut shelf)?;
-    assert_eq!(rt; outcome.report.status, 6);
-    assert_eq!(rt; outcome.err.taken(), b"out of memory\n".as_slice());
+    let mut long = refusing_with(alloc, ShelfError::TooLong);
+    assert!(rt; answers(alloc, &mut long, 3, b"", b"r.bin: recording too long\n")?);
+    assert!(rt; long.asked.len() == 2);
+    let mut full = refusing_with(alloc, ShelfError::Memory);
+    assert!(rt; answers(alloc, &mut full, 6, b"", b"out of memory\n")?);
     Ok(())
 }
 
@@ -340,8 +332,6 @@ fn a_long_recording_and_want_of_memory_are_told(rt: HostRuntime) -> Result<(), F
 fn a_million_events_are_counted(rt: HostRuntime) -> Result<(), Fail> {
     let alloc = rt.alloc();
     let recording = recording(alloc, b"t", E, b"\x07\0", 1_048_576)?;
-    let outcome = run(alloc, b"tracepoint:t:e { @ = count(); }", recording)?;
-    assert_eq!(rt; outcome.report.status, 0);
-    assert_eq!(rt; outcome.out.taken(), b"@: 1048576\n\n".as_slice());
+    assert!(rt; run(alloc, COUNT_E, recording, 0, b"@: 1048576\n\n", b"")?);
     Ok(())
 }

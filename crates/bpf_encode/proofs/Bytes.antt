@@ -1,0 +1,91 @@
+-- A slot and its bytes.
+use Rattle.std.proofs.Common.{◌≡◌, ℕ, zero, suc, ◌+◌, ◌*◌, ◌<◌, ◌≤◌, refl, ap, ◌∙◌, List, [], ◌∷◌, ◌++◌, get_or, length, drop, arith}
+use Rattle.std.specs.Prelude.{◌/◌, ◌%◌, ◌^◌, ℤ, pos, negsuc}
+use Rattle.std.specs.Int.RustNames.{FitsSigned}
+use Rattle.std.specs.Int.{w16, w32, to_le_bytes, from_le_bytes, cast_unsigned, cast_signed}
+use Rattle.std.proofs.Math.Facts.{sfits_to_z}
+use Rattle.std.proofs.lemmas.Int.{to_z-of_z, of_z-to_z}
+use Rattle.std.proofs.lemmas.Nat.{from_le_bytes-to_le_bytes_2, from_le_bytes-to_le_bytes_4, le_bytes_2, le_bytes_4}
+use Rattle.bpf_insn.specs.declared.slot.Slot.{Slot}
+use Rattle.bpf_insn.specs.Encoding.{slot_bytes}
+use Rattle.bpf_encode.specs.Decoding.{slot_in}
+
+abbrev pub IsBytes : List ℕ → Type 0
+IsBytes bs = (i : ℕ) → get_or bs i 0 < 256
+
+pub record FitsSlot (s : Slot) : Type 0 where
+  pub dst : s.dst < 16
+  pub offset : FitsSigned w16 s.offset
+  pub imm : FitsSigned w32 s.imm
+
+below_16 : (z : ℤ) → FitsSigned w16 z → cast_unsigned w16 z < 2 ^ 16
+below_16 (pos n) f = omega (arith, f.sfits)
+below_16 (negsuc n) f = omega arith
+
+pub below_32 : (z : ℤ) → FitsSigned w32 z → cast_unsigned w32 z < 2 ^ 32
+below_32 (pos n) f = omega (arith, f.sfits)
+below_32 (negsuc n) f = omega arith
+
+-- the slot that the bytes of a slot spell
+pub slot_again : (s : Slot) (rest : List ℕ) → FitsSlot s → slot_in (slot_bytes s ++ rest) ≡ s
+slot_again s rest fits =
+    let d : (s.dst + 16 * s.src) % 16 ≡ s.dst = let f = fits.dst in omega arith in
+    let r : (s.dst + 16 * s.src) / 16 ≡ s.src = let f = fits.dst in omega arith in
+    let o : cast_signed w16 (from_le_bytes w16 (to_le_bytes w16 (cast_unsigned w16 s.offset))) ≡ s.offset = ap (cast_signed w16) (from_le_bytes-to_le_bytes_2 _ (below_16 s.offset fits.offset)) ∙ to_z-of_z w16 s.offset fits.offset in
+    let i : cast_signed w32 (from_le_bytes w32 (to_le_bytes w32 (cast_unsigned w32 s.imm))) ≡ s.imm = ap (cast_signed w32) (from_le_bytes-to_le_bytes_4 _ (below_32 s.imm fits.imm)) ∙ to_z-of_z w32 s.imm fits.imm in
+    λ k. record { opcode = s.opcode; dst = d k; src = r k; offset = o k; imm = i k }
+
+pub drop_slot : (s : Slot) (rest : List ℕ) → drop 8 (slot_bytes s ++ rest) ≡ rest
+drop_slot s rest = refl
+
+below_none : (i : ℕ) → get_or {A = ℕ} [] i 0 < 256
+below_none i = omega arith
+
+below_two : (a b : ℕ) → a < 256 → b < 256 → (i : ℕ) → get_or (a ∷ b ∷ []) i 0 < 256
+below_two a b ha hb zero = ha
+below_two a b ha hb (suc zero) = hb
+below_two a b ha hb (suc (suc i)) = below_none i
+
+below_four : (a b c d : ℕ) → a < 256 → b < 256 → c < 256 → d < 256 → (i : ℕ) → get_or (a ∷ b ∷ c ∷ d ∷ []) i 0 < 256
+below_four a b c d ha hb hc hd zero = ha
+below_four a b c d ha hb hc hd (suc zero) = hb
+below_four a b c d ha hb hc hd (suc (suc i)) = below_two c d hc hd i
+
+two_below : (a b : ℕ) → a < 256 → b < 256 → from_le_bytes w16 (a ∷ b ∷ []) < 2 ^ 16
+two_below a b ha hb = omega arith
+
+four_below : (a b c d : ℕ) → a < 256 → b < 256 → c < 256 → d < 256 → from_le_bytes w32 (a ∷ b ∷ c ∷ d ∷ []) < 2 ^ 32
+four_below a b c d ha hb hc hd = omega arith
+
+-- eight bytes are those of the slot that they spell
+bytes_again : (b0 b1 b2 b3 b4 b5 b6 b7 : ℕ) (rest : List ℕ) → b2 < 256 → b3 < 256 → b4 < 256 → b5 < 256 → b6 < 256 → b7 < 256 → slot_bytes (slot_in (b0 ∷ b1 ∷ b2 ∷ b3 ∷ b4 ∷ b5 ∷ b6 ∷ b7 ∷ rest)) ++ rest ≡ b0 ∷ b1 ∷ b2 ∷ b3 ∷ b4 ∷ b5 ∷ b6 ∷ b7 ∷ rest
+bytes_again b0 b1 b2 b3 b4 b5 b6 b7 rest h2 h3 h4 h5 h6 h7 =
+    let two = b2 ∷ b3 ∷ [] in
+    let four = b4 ∷ b5 ∷ b6 ∷ b7 ∷ [] in
+    let n2 = from_le_bytes w16 two in
+    let n4 = from_le_bytes w32 four in
+    let r : b1 % 16 + 16 * (b1 / 16) ≡ b1 = omega arith in
+    let o : to_le_bytes w16 (cast_unsigned w16 (cast_signed w16 n2)) ≡ two = ap (to_le_bytes w16) (of_z-to_z w16 n2 (two_below b2 b3 h2 h3)) ∙ le_bytes_2 two n2 refl (below_two b2 b3 h2 h3) refl in
+    let i : to_le_bytes w32 (cast_unsigned w32 (cast_signed w32 n4)) ≡ four = ap (to_le_bytes w32) (of_z-to_z w32 n4 (four_below b4 b5 b6 b7 h4 h5 h6 h7)) ∙ le_bytes_4 four n4 refl (below_four b4 b5 b6 b7 h4 h5 h6 h7) refl in
+    λ k. b0 ∷ r k ∷ ((o k ++ i k) ++ rest)
+
+few : {P : Type 0} (n : ℕ) → 8 ≤ n → n < 8 → P
+few n a b = let h : ⊥ = omega arith in absurd h
+
+pub split_again : (bs : List ℕ) → IsBytes bs → 8 ≤ length bs → slot_bytes (slot_in bs) ++ drop 8 bs ≡ bs
+split_again [] h le = few _ le (omega arith)
+split_again (b0 ∷ []) h le = few _ le (omega arith)
+split_again (b0 ∷ b1 ∷ []) h le = few _ le (omega arith)
+split_again (b0 ∷ b1 ∷ b2 ∷ []) h le = few _ le (omega arith)
+split_again (b0 ∷ b1 ∷ b2 ∷ b3 ∷ []) h le = few _ le (omega arith)
+split_again (b0 ∷ b1 ∷ b2 ∷ b3 ∷ b4 ∷ []) h le = few _ le (omega arith)
+split_again (b0 ∷ b1 ∷ b2 ∷ b3 ∷ b4 ∷ b5 ∷ []) h le = few _ le (omega arith)
+split_again (b0 ∷ b1 ∷ b2 ∷ b3 ∷ b4 ∷ b5 ∷ b6 ∷ []) h le = few _ le (omega arith)
+split_again (b0 ∷ b1 ∷ b2 ∷ b3 ∷ b4 ∷ b5 ∷ b6 ∷ b7 ∷ rest) h le = bytes_again b0 b1 b2 b3 b4 b5 b6 b7 rest (h 2) (h 3) (h 4) (h 5) (h 6) (h 7)
+
+-- the numbers of a slot that bytes spell fit their fields
+pub offset_fits : (bs : List ℕ) → IsBytes bs → FitsSigned w16 (slot_in bs).offset
+offset_fits bs h = sfits_to_z (record { fits = two_below _ _ (h 2) (h 3) })
+
+pub imm_fits : (bs : List ℕ) → IsBytes bs → FitsSigned w32 (slot_in bs).imm
+imm_fits bs h = sfits_to_z (record { fits = four_below _ _ _ _ (h 4) (h 5) (h 6) (h 7) })

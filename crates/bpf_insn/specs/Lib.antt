@@ -1,0 +1,5 @@
+pub mod Fields
+pub mod Code
+pub mod Encoding
+pub mod Regions
+pub mod Machine
