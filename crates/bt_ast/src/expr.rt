@@ -28,7 +28,7 @@ pub struct VarRef {
 /// A map, by its name with the `@`, and the parts of its key. A map that is named as a whole has no
 /// parts here.
 #[cycle(expr)]
-#[derive(Drop)]
+#[derive(PartialEq, Debug, Drop)]
 pub struct MapRef {
     pub name: Items<u8>,
     pub keys: Items<Expr>,
@@ -37,7 +37,7 @@ pub struct MapRef {
 
 /// What is assigned to.
 #[cycle(expr)]
-#[derive(Drop)]
+#[derive(PartialEq, Debug, Drop)]
 pub enum Target {
     Map(MapRef),
     Var(VarRef),
@@ -46,7 +46,7 @@ pub enum Target {
 /// `++` where `plus` is true and otherwise `--`, which stands before its target where `prefix` is true and otherwise
 /// after it.
 #[cycle(expr)]
-#[derive(Drop)]
+#[derive(PartialEq, Debug, Drop)]
 pub struct IncDec {
     pub target: Target,
     pub plus: bool,
@@ -56,7 +56,7 @@ pub struct IncDec {
 
 /// An expression and where it begins.
 #[cycle(expr)]
-#[derive(Drop)]
+#[derive(PartialEq, Debug, Drop)]
 pub struct Expr {
     pub kind: ExprKind,
     pub place: Place,
@@ -64,7 +64,7 @@ pub struct Expr {
 
 /// What an expression is.
 #[cycle(expr)]
-#[derive(Drop)]
+#[derive(PartialEq, Debug, Drop)]
 pub enum ExprKind {
     /// A number of 64 bits. One from 2^63 on stands as the signed number with the same bits.
     Number(i64),

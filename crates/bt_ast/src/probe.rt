@@ -35,7 +35,7 @@ pub enum Point {
 }
 
 /// Points, the condition under which the block is run, and the block.
-#[derive(Drop)]
+#[derive(PartialEq, Debug, Drop)]
 pub struct Probe {
     pub points: Items<Point>,
     pub predicate: Option<Expr>,
@@ -44,7 +44,7 @@ pub struct Probe {
 }
 
 /// The probes of a script in their order.
-#[derive(Drop)]
+#[derive(PartialEq, Debug, Drop)]
 pub struct Script {
     pub probes: Items<Probe>,
 }

@@ -6,7 +6,7 @@ use bt_core::items::Items;
 use bt_core::operator::BinOp;
 
 /// What is gathered in an aggregation map: a map function and its arguments.
-#[derive(Drop)]
+#[derive(PartialEq, Debug, Drop)]
 pub enum AggCall {
     Count,
     Sum(Expr),
@@ -24,7 +24,7 @@ pub enum AggCall {
 
 /// Statements in braces.
 #[cycle(block)]
-#[derive(Drop)]
+#[derive(PartialEq, Debug, Drop)]
 pub struct Block {
     pub stmts: Items<Stmt>,
     pub place: Place,
@@ -32,7 +32,7 @@ pub struct Block {
 
 /// A statement and where it begins.
 #[cycle(block)]
-#[derive(Drop)]
+#[derive(PartialEq, Debug, Drop)]
 pub struct Stmt {
     pub kind: StmtKind,
     pub place: Place,
@@ -40,7 +40,7 @@ pub struct Stmt {
 
 /// What a statement is.
 #[cycle(block)]
-#[derive(Drop)]
+#[derive(PartialEq, Debug, Drop)]
 pub enum StmtKind {
     /// `map = agg`, where the aggregation's word stands at `agg_place`.
     SetAgg {
