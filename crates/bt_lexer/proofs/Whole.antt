@@ -15,46 +15,9 @@ use Rattle.bt_lexer.specs.declared.error.LexError.{LexError}
 use Rattle.bt_lexer.proofs.Pieces.{some_byte}
 use Rattle.bt_lexer.proofs.Choices.{decided}
 use Rattle.bt_lexer.proofs.Runs.{run, run_front}
+use Rattle.bt_lexer.proofs.PlaceLaws.{place_behind, place_after}
 use Rattle.bt_lexer.proofs.Turns.{turn, refused}
 use Rattle.bt_lexer.proofs.Exact.{complete, fault_complete, IsFront, front_found, fault_found, some_fault_byte}
-
--- ---- places
-
-abbrev place_behind : List ℕ → Place
-place_behind before = record { offset = length before; line = line_behind before; column = column_behind before }
-
-count_push : (before : List ℕ) (b : ℕ) → count_by (λ x. x == 10) (before ++ b ∷ []) ≡ count_by (λ x. x == 10) before + (if b == 10 then 1 else 0)
-count_push before b = sum_by_push (λ x. cond (x == 10) 1 0) before b
-
-reverse_push : (before : List ℕ) (b : ℕ) → reverse (before ++ b ∷ []) ≡ b ∷ reverse before
-reverse_push before b = reverse-append before (b ∷ [])
-
-same_place : (p q : Place) → p.offset ≡ q.offset → p.line ≡ q.line → p.column ≡ q.column → p ≡ q
-same_place p q e f g =
-    ap (λ (n : ℕ). record { offset = n; line = p.line; column = p.column }) e
-    ∙ ap (λ (n : ℕ). record { offset = q.offset; line = n; column = p.column }) f
-    ∙ ap (λ (n : ℕ). record { offset = q.offset; line = q.line; column = n }) g
-
-place_push : (before : List ℕ) (b : ℕ) → after_byte (place_behind before) b ≡ place_behind (before ++ b ∷ [])
-place_push before b = decided (λ (p : Place). p ≡ place_behind (before ++ b ∷ [])) (b == 10) _ _
-    (λ h. same_place _ _ (sym (length-append before (b ∷ []))) (sym (line_is h)) (sym (column_is h)))
-    (λ h. same_place _ _ (sym (length-append before (b ∷ []))) (sym (line_kept h)) (sym (column_more h)))
-  where
-    line_is : (b == 10) ≡ true → line_behind (before ++ b ∷ []) ≡ line_behind before + 1
-    line_is h = let c = count_push before b in let k : ◌≡◌ {A = ℕ} (if b == 10 then 1 else 0) 1 = rw h refl in omega arith
-
-    line_kept : (b == 10) ≡ false → line_behind (before ++ b ∷ []) ≡ line_behind before
-    line_kept h = let c = count_push before b in let k : ◌≡◌ {A = ℕ} (if b == 10 then 1 else 0) 0 = rw h refl in omega arith
-
-    column_is : (b == 10) ≡ true → column_behind (before ++ b ∷ []) ≡ 1
-    column_is h = rw (reverse_push before b, take_while-cons not_newline b (reverse before), h) refl
-
-    column_more : (b == 10) ≡ false → column_behind (before ++ b ∷ []) ≡ column_behind before + 1
-    column_more h = rw (reverse_push before b, take_while-cons not_newline b (reverse before), h) (omega arith)
-
-place_after : (before bs : List ℕ) → after (place_behind before) bs ≡ place_behind (before ++ bs)
-place_after before [] = ap place_behind (sym (append-nil before))
-place_after before (b ∷ bs) = ap (λ (p : Place). after p bs) (place_push before b) ∙ place_after (before ++ b ∷ []) bs ∙ ap place_behind (append_assoc before (b ∷ []) bs)
 
 -- ---- pieces
 

@@ -5,6 +5,7 @@ mod bytes;
 pub mod error;
 pub mod laws;
 pub mod lexer;
+pub mod line;
 mod marks;
 mod numbers;
 mod piece;

@@ -2,6 +2,7 @@
 use crate::error::LexError;
 use crate::laws::{a_space_ends_a_token, one_answer};
 use crate::lexer::lex;
+use crate::line::{LineColumn, line_column};
 use crate::token::{Token, TokenKind};
 use bt_core::items::Items;
 use std::alloc::Global;
@@ -215,5 +216,15 @@ fn a_text_without_tokens_has_none(rt: HostRuntime) -> Result<(), Fail> {
     for script in rows {
         assert!(rt; lex_short(alloc, script)?.is_empty(), "{script:?}");
     }
+    Ok(())
+}
+
+#[test]
+fn an_offset_has_a_line_and_a_column_up_to_the_end(rt: HostRuntime) -> Result<(), Fail> {
+    let text = b"a\nbc";
+    assert_eq!(rt; line_column(text, 0), LineColumn { line: 1, column: 1 });
+    assert_eq!(rt; line_column(text, 1), LineColumn { line: 1, column: 2 });
+    assert_eq!(rt; line_column(text, 2), LineColumn { line: 2, column: 1 });
+    assert_eq!(rt; line_column(text, 4), LineColumn { line: 2, column: 3 });
     Ok(())
 }
