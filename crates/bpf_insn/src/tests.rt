@@ -18,7 +18,6 @@ fn the_slot_of_an_instruction_is_that_of_the_example() {
         offset: 1,
         imm: 0,
     };
-    prove!(Slot::of(insn) == slot);
+    prove!(Slot::of(insn, 0) == slot);
     prove!(insn.is_valid());
-    prove!(!insn.is_built());
 }
