@@ -1,7 +1,7 @@
 // The counting program in its bytes, and bytes that are no code.
 ghost use Rattle.std.specs.Prelude.{◌≡◌, pos, true};
 ghost use Rattle.bpf_insn.specs.declared.insn.Insn.TheVariants.{Alu};
-ghost use Rattle.bpf_insn.specs.Code.{IsWellFormed, AllBuilt};
+ghost use Rattle.bpf_insn.specs.Code.{IsWellFormed};
 
 use crate::decode::{DecodeError, decode};
 use crate::encode::encode;
@@ -29,8 +29,7 @@ fn wide(op: AluOp, dst: u8, src: Source) -> Insn
 }
 
 fn counting() -> [Insn; 6]
-    ensures well_formed { IsWellFormed result }
-    ensures built { AllBuilt result }
+    ensures { IsWellFormed result }
 {
     [
         wide(AluOp::Mov, 1, Source::Imm(0)),
