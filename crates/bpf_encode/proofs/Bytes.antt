@@ -137,6 +137,6 @@ pub next_read : (bs : List ℕ) (s : Slot) (n : ℕ) → IsBytes bs → 16 ≤ l
 next_read bs s n h long e f =
     let e2 : s ≡ slot_in (drop 8 bs) = e ∙ ap slot_in (rest_of bs 8) in
     let all : n ≡ cast_unsigned w32 (slot_in (drop 8 bs)).imm =
-        f ∙ ap (λ (t : Slot). cast_unsigned w32 (cast_signed w32 (cast_unsigned w32 t.imm))) e2
-        ∙ ap (cast_unsigned w32) (to_z-of_z w32 (slot_in (drop 8 bs)).imm (imm_fits (drop 8 bs) (bytes_after_slot bs h))) in
+    f ∙ ap (λ (t : Slot). cast_unsigned w32 (cast_signed w32 (cast_unsigned w32 t.imm))) e2
+    ∙ ap (cast_unsigned w32) (to_z-of_z w32 (slot_in (drop 8 bs)).imm (imm_fits (drop 8 bs) (bytes_after_slot bs h))) in
     ap (λ (m : ℕ). Some m) all ∙ sym (next_some bs long)

@@ -3,3 +3,4 @@ pub mod Slots
 pub mod Decoding
 pub mod Refusing
 pub mod Loop
+pub mod Lines

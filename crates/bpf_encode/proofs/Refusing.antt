@@ -45,7 +45,7 @@ bad_half rest t upper lt b =
     let e : slot_in rest ≡ slot_of upper Half = ap slot_in (sym b.1) ∙ slot_again (slot_of upper Half) b.0 (fits_slot Half upper refl tt lt) in
     let u : cast_unsigned w32 (slot_in rest).imm ≡ upper = ap (λ (s : Slot). cast_unsigned w32 s.imm) e ∙ of_z-to_z w32 upper lt in
     let same : is_same_slot (slot_of (cast_unsigned w32 (slot_in rest).imm) Half) (slot_in rest) ≡ true =
-        ap (λ (x : ℕ). is_same_slot (slot_of x Half) (slot_in rest)) u ∙ ap (is_same_slot (slot_of upper Half)) e ∙ slot_same (slot_of upper Half) in
+    ap (λ (x : ℕ). is_same_slot (slot_of x Half) (slot_in rest)) u ∙ ap (is_same_slot (slot_of upper Half)) e ∙ slot_same (slot_of upper Half) in
     cc
 
 half_stops : (bs : List ℕ) (e : DecodeError) (r : Faulty 0 false 0 bs e) → r.at_end ≡ true → (b : Bool) → is_same_slot (slot_of (cast_unsigned w32 (slot_in r.rest).imm) Half) (slot_in r.rest) ≡ b → cond {A = Result Insn DecodeError} b (Ok Half) (Err (BadField (length r.before))) ≡ Err e → IsRefused bs e
@@ -73,11 +73,11 @@ bad_field rest f hb c bad i v fits b false h =
     let j : insn_with (slot_in rest) u f ≡ insn_with (slot_of 0 i) u (form_of i) = ap (λ (s : Slot). insn_with s u f) e ∙ ap (insn_with (slot_of 0 i) u) same in
     let k = first_again i u h fits in
     let t : (is_valid (insn_with (slot_in rest) u f) && is_same_slot (slot_of 0 (insn_with (slot_in rest) u f)) (slot_in rest)) ≡ true =
-        ap (λ (x : Insn). is_valid x && is_same_slot (slot_of 0 x) (slot_in rest)) j
-        ∙ ap (λ (x : Bool). x && is_same_slot (slot_of 0 (insn_with (slot_of 0 i) u (form_of i))) (slot_in rest)) (k.valid ∙ v)
-        ∙ ap (λ (x : Slot). is_same_slot x (slot_in rest)) k.same
-        ∙ ap (is_same_slot (slot_of 0 i)) e
-        ∙ slot_same (slot_of 0 i) in
+    ap (λ (x : Insn). is_valid x && is_same_slot (slot_of 0 x) (slot_in rest)) j
+    ∙ ap (λ (x : Bool). x && is_same_slot (slot_of 0 (insn_with (slot_of 0 i) u (form_of i))) (slot_in rest)) (k.valid ∙ v)
+    ∙ ap (λ (x : Slot). is_same_slot x (slot_in rest)) k.same
+    ∙ ap (is_same_slot (slot_of 0 i)) e
+    ∙ slot_same (slot_of 0 i) in
     cc
 
 -- the last slot begins a wide load

@@ -7,6 +7,7 @@
 pub mod decode;
 pub mod encode;
 mod fields;
+pub mod listing;
 mod slot_bytes;
 #[cfg(test)]
 mod tests;
