@@ -1,7 +1,7 @@
 -- Bytes are those of at most one code, which decoding finds, and else it finds their first fault.
-use Rattle.std.proofs.Common.{◌≡◌, ℕ, zero, suc, ◌+◌, ◌-◌, ◌*◌, ◌<◌, ◌≤◌, refl, ap, sym, ◌∙◌, subst, inl, inr, List, [], ◌∷◌, ◌++◌, append_assoc, append-nil, length, drop, Option, Some, None, Bool, true, false, arith}
-use Rattle.std.specs.Prelude.{◌/◌, ◌%◌, ◌^◌, cond, ◌&&◌, nat_le, Result, Ok, Err, unwrap_or, IsTrue, slice_index}
-use Rattle.std.specs.Int.{w32, cast_unsigned, cast_signed}
+use Rattle.std.proofs.Common.{◌≡◌, ℕ, zero, suc, ◌+◌, ◌*◌, ◌<◌, ◌≤◌, refl, ap, sym, ◌∙◌, subst, List, [], ◌∷◌, ◌++◌, append_assoc, length, drop, Option, Some, None, Bool, true, false, arith}
+use Rattle.std.specs.Prelude.{◌/◌, ◌%◌, ◌^◌, cond, ◌&&◌, nat_le, Result, Ok, Err, unwrap_or, IsTrue}
+use Rattle.std.specs.Int.{w32, cast_unsigned}
 use Rattle.std.specs.List.{AllByRecursion}
 use Rattle.std.proofs.lemmas.List.{length-drop}
 use Rattle.std.proofs.lemmas.Int.{of_z-to_z}
@@ -10,17 +10,17 @@ use Rattle.bpf_insn.specs.declared.insn.Insn.{Insn}
 use Rattle.bpf_insn.specs.declared.insn.Insn.TheVariants.{Half}
 use Rattle.bpf_insn.specs.declared.slot.Slot.{Slot}
 use Rattle.bpf_insn.specs.Code.{is_valid, is_wide, is_half, HalvesFollow}
-use Rattle.bpf_insn.specs.Opcodes.{opcode_of, form_of, is_member}
+use Rattle.bpf_insn.specs.Opcodes.{opcode_of, form_of}
 use Rattle.bpf_insn.specs.Table.{form_at}
-use Rattle.bpf_insn.specs.Encoding.{slot_of, slot_bytes, upper_of, bytes_after, code_bytes}
-use Rattle.bpf_insn.proofs.Rules.{form_fits, listed, class_rule}
+use Rattle.bpf_insn.specs.Encoding.{slot_of, slot_bytes, upper_of, bytes_after}
+use Rattle.bpf_insn.proofs.Rules.{form_fits, listed}
 use Rattle.bpf_encode.specs.declared.decode.DecodeError.{DecodeError}
-use Rattle.bpf_encode.specs.declared.decode.DecodeError.TheVariants.{BadLength, BadOpcode, BadField, HalfWide, Memory}
-use Rattle.bpf_encode.specs.Decoding.{Fits, IsCode, IsCodeOf, slot_in}
-use Rattle.bpf_encode.specs.Faults.{BeginsWith, missing, FaultAt, HasBadField, IsHalfWide, IsRefused}
+use Rattle.bpf_encode.specs.declared.decode.DecodeError.TheVariants.{BadField, HalfWide}
+use Rattle.bpf_encode.specs.Decoding.{Fits, IsCodeOf, slot_in}
+use Rattle.bpf_encode.specs.Faults.{missing}
 use Rattle.bpf_encode.specs.Slots.{insn_with, is_same_slot, next_upper, is_none, completed, checked, first_decoded, half_decoded, slot_decoded, followed, with_rest, decoded}
-use Rattle.bpf_encode.proofs.Bytes.{IsBytes, FitsSlot, slot_again, split_again, offset_fits, imm_fits, below_32, bytes_after_slot, next_some}
-use Rattle.bpf_encode.proofs.Slots.{both, same_slot, slot_same, found_again, first_again, insn_fits, no_half, upper_is, member_of, upper_aside, fits_slot, upper_fits}
+use Rattle.bpf_encode.proofs.Bytes.{IsBytes, slot_again, split_again, offset_fits, imm_fits, below_32, bytes_after_slot, next_some}
+use Rattle.bpf_encode.proofs.Slots.{both, same_slot, slot_same, found_again, insn_fits, no_half, upper_is, member_of, upper_aside, fits_slot, upper_fits}
 
 -- where a half is due, upper is what the slot holds that comes next, and there is one
 pub record Linked (owed : Bool) (upper : ℕ) (slots : ℕ) (bs : List ℕ) : Type 0 where

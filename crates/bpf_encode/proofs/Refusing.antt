@@ -1,6 +1,6 @@
 -- What a fault says of the bytes.
-use Rattle.std.proofs.Common.{◌≡◌, ℕ, zero, suc, ◌+◌, ◌*◌, ◌<◌, ◌≤◌, refl, ap, sym, ◌∙◌, subst, inl, inr, List, [], ◌∷◌, ◌++◌, append-nil, length, drop, Option, Some, None, Bool, true, false, arith}
-use Rattle.std.specs.Prelude.{◌/◌, ◌%◌, ◌^◌, cond, ◌&&◌, nat_le, Result, Ok, Err, unwrap_or, IsTrue, slice_index}
+use Rattle.std.proofs.Common.{◌≡◌, ℕ, suc, ◌+◌, ◌*◌, ◌<◌, ◌≤◌, refl, ap, sym, ◌∙◌, subst, inl, inr, List, [], ◌∷◌, ◌++◌, append-nil, length, drop, Option, Some, None, Bool, true, false, arith}
+use Rattle.std.specs.Prelude.{◌/◌, ◌%◌, cond, ◌&&◌, nat_le, Result, Ok, Err, unwrap_or, IsTrue, slice_index}
 use Rattle.std.specs.Int.{w32, cast_unsigned}
 use Rattle.std.specs.List.{AllByRecursion}
 use Rattle.std.proofs.lemmas.List.{length-drop}
@@ -18,7 +18,7 @@ use Rattle.bpf_encode.specs.declared.decode.DecodeError.{DecodeError}
 use Rattle.bpf_encode.specs.declared.decode.DecodeError.TheVariants.{BadLength, BadOpcode, BadField, HalfWide, Memory}
 use Rattle.bpf_encode.specs.Decoding.{Fits, IsCode, IsCodeOf, slot_in}
 use Rattle.bpf_encode.specs.Faults.{BeginsWith, missing, FaultAt, HasBadField, HasBadHalf, IsHalfWide, IsRefused}
-use Rattle.bpf_encode.specs.Slots.{insn_with, is_same_slot, next_upper, is_none, completed, first_decoded, half_decoded, slot_decoded, decoded, FaultIs}
+use Rattle.bpf_encode.specs.Slots.{insn_with, is_same_slot, next_upper, is_none, completed, first_decoded, slot_decoded, decoded, FaultIs}
 use Rattle.bpf_encode.proofs.Bytes.{IsBytes, slot_again, split_again, offset_fits, imm_fits}
 use Rattle.bpf_encode.proofs.Slots.{both, same_slot, slot_same, first_again, insn_fits, member_of, fits_slot}
 use Rattle.bpf_encode.proofs.Decoding.{Faulty, outcome_at, outcome_is, complete_at, next_below}

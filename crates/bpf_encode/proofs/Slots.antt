@@ -1,22 +1,21 @@
 -- A slot and its instruction.
-use Rattle.std.proofs.Common.{◌≡◌, ℕ, ◌+◌, ◌*◌, ◌<◌, ◌≤◌, refl, ap, sym, ◌∙◌, subst, Option, Some, None, Bool, true, false, arith}
-use Rattle.std.specs.Prelude.{◌/◌, ◌%◌, ◌^◌, ℤ, pos, cond, not, ◌&&◌, ◌||◌, nat_eq, Result, Ok, Err, unwrap_or, IsTrue}
+use Rattle.std.proofs.Common.{◌≡◌, ℕ, ◌+◌, ◌*◌, ◌<◌, refl, ap, ◌∙◌, Bool, true, false, arith}
+use Rattle.std.specs.Prelude.{◌/◌, ◌%◌, ◌^◌, ℤ, pos, ◌&&◌, nat_eq, IsTrue}
 use Rattle.std.specs.Ordering.{int_eq}
 use Rattle.std.specs.Int.{w16, w32, cast_unsigned, cast_signed}
 use Rattle.std.specs.Int.RustNames.{FitsSigned}
 use Rattle.std.proofs.Math.Facts.{sfits_to_z, sfits_lit}
-use Rattle.std.proofs.lemmas.Int.{of_z-to_z, to_z-of_z}
+use Rattle.std.proofs.lemmas.Int.{of_z-to_z}
 use Rattle.std.proofs.lemmas.Bool.Decides.{Decides-int_eq}
 use Rattle.bpf_insn.specs.declared.form.Form.{Form}
 use Rattle.bpf_insn.specs.declared.form.Form.TheVariants.{Alu as AluForm, Neg as NegForm, End as EndForm, Jump as JumpForm, Ja as JaForm, JaLong as JaLongForm, Call as CallForm, Exit as ExitForm, Load as LoadForm, StoreImm as StoreImmForm, Store as StoreForm, Wide as WideForm, Half as HalfForm}
 use Rattle.bpf_insn.specs.declared.insn.Insn.{Insn}
 use Rattle.bpf_insn.specs.declared.insn.Insn.TheVariants.{Alu, Neg, End, Jump, Ja, JaLong, Call, Exit, Load, StoreImm, Store, Wide, Half}
-use Rattle.bpf_insn.specs.declared.insn.Size.TheVariants.{W, H, B, Dw}
 use Rattle.bpf_insn.specs.declared.insn.Source.TheVariants.{Imm, Reg}
 use Rattle.bpf_insn.specs.declared.slot.Slot.{Slot}
 use Rattle.bpf_insn.specs.Fields.{is_register, is_end, is_load, dst_of, src_of, offset_of, has_meaning}
 use Rattle.bpf_insn.specs.Code.{is_valid, is_wide, is_half}
-use Rattle.bpf_insn.specs.Opcodes.{opcode_of, form_of, is_member}
+use Rattle.bpf_insn.specs.Opcodes.{form_of, is_member}
 use Rattle.bpf_insn.specs.Encoding.{slot_of, upper_of, imm_of}
 use Rattle.bpf_encode.specs.Decoding.{FitsSource, Fits}
 use Rattle.bpf_encode.specs.Slots.{insn_with, source_in, wide_number, is_same_slot}

@@ -1,5 +1,5 @@
 use Rattle.std.proofs.Common.{ap, sym, ◌∙◌, ◌+◌, ◌-◌, ◌*◌, length, drop, List, [], ◌∷◌, ◌++◌, Bool}
-use Rattle.std.specs.Prelude.{◌/◌, ℕ}
+use Rattle.std.specs.Prelude.{◌/◌}
 use Rattle.std.proofs.lemmas.Result.{err_from_is_err_and}
 use Rattle.bpf_insn.specs.declared.insn.Insn.{Insn}
 use Rattle.bpf_encode.specs.Slots.{slot_decoded, after_code, decoded}
