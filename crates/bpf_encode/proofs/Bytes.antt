@@ -1,6 +1,8 @@
 -- A slot and its bytes.
-use Rattle.std.proofs.Common.{◌≡◌, ℕ, zero, suc, ◌+◌, ◌*◌, ◌<◌, ◌≤◌, refl, ap, ◌∙◌, List, [], ◌∷◌, ◌++◌, get_or, length, drop, arith}
-use Rattle.std.specs.Prelude.{◌/◌, ◌%◌, ◌^◌, ℤ, pos, negsuc}
+use Rattle.std.proofs.Common.{◌≡◌, ℕ, zero, suc, ◌+◌, ◌-◌, ◌*◌, ◌<◌, ◌≤◌, refl, ap, sym, ◌∙◌, subst, List, [], ◌∷◌, ◌++◌, get_or, length, take, drop, Some, None, Bool, true, arith}
+use Rattle.std.specs.Prelude.{◌/◌, ◌%◌, ◌^◌, ℤ, pos, negsuc, cond, nat_le}
+use Rattle.std.proofs.lemmas.List.{length-drop, get_or-drop}
+use Rattle.byteorder.specs.Endian.{little_number}
 use Rattle.std.specs.Int.RustNames.{FitsSigned}
 use Rattle.std.specs.Int.{w16, w32, to_le_bytes, from_le_bytes, cast_unsigned, cast_signed}
 use Rattle.std.proofs.Math.Facts.{sfits_to_z}
@@ -9,6 +11,7 @@ use Rattle.std.proofs.lemmas.Nat.{from_le_bytes-to_le_bytes_2, from_le_bytes-to_
 use Rattle.bpf_insn.specs.declared.slot.Slot.{Slot}
 use Rattle.bpf_insn.specs.Encoding.{slot_bytes}
 use Rattle.bpf_encode.specs.Decoding.{slot_in}
+use Rattle.bpf_encode.specs.Slots.{next_upper}
 
 abbrev pub IsBytes : List ℕ → Type 0
 IsBytes bs = (i : ℕ) → get_or bs i 0 < 256
@@ -89,3 +92,51 @@ offset_fits bs h = sfits_to_z (record { fits = two_below _ _ (h 2) (h 3) })
 
 pub imm_fits : (bs : List ℕ) → IsBytes bs → FitsSigned w32 (slot_in bs).imm
 imm_fits bs h = sfits_to_z (record { fits = four_below _ _ _ _ (h 4) (h 5) (h 6) (h 7) })
+
+-- the slice from a place on
+take_whole : (bs : List ℕ) → take (length bs) bs ≡ bs
+take_whole [] = refl
+take_whole (b ∷ bs) = ap (λ l. b ∷ l) (take_whole bs)
+
+pub rest_of : (bs : List ℕ) (k : ℕ) → take (length bs - k) (drop k bs) ≡ drop k bs
+rest_of bs k = ap (λ n. take n (drop k bs)) (sym (length-drop k bs)) ∙ take_whole (drop k bs)
+
+-- the numbers that are read from it
+pub offset_read : (bs : List ℕ) (z : ℤ) → IsBytes bs → z ≡ cast_signed w16 (little_number 2 (take (length bs - 2) (drop 2 bs))) → cast_signed w16 (cast_unsigned w16 z) ≡ (slot_in bs).offset
+offset_read bs z h e =
+    let n = from_le_bytes w16 (get_or bs 2 0 ∷ get_or bs 3 0 ∷ []) in
+    let e0 = get_or-drop 2 bs 0 0 in
+    let e1 = get_or-drop 2 bs 1 0 in
+    let same : little_number 2 (drop 2 bs) ≡ n = omega arith in
+    let all : z ≡ cast_signed w16 n = e ∙ ap (λ l. cast_signed w16 (little_number 2 l)) (rest_of bs 2) ∙ ap (cast_signed w16) same in
+    ap (λ y. cast_signed w16 (cast_unsigned w16 y)) all ∙ ap (cast_signed w16) (of_z-to_z w16 n (two_below _ _ (h 2) (h 3)))
+
+pub imm_read : (bs : List ℕ) (z : ℤ) → IsBytes bs → z ≡ cast_signed w32 (little_number 4 (take (length bs - 4) (drop 4 bs))) → cast_signed w32 (cast_unsigned w32 z) ≡ (slot_in bs).imm
+imm_read bs z h e =
+    let n = from_le_bytes w32 (get_or bs 4 0 ∷ get_or bs 5 0 ∷ get_or bs 6 0 ∷ get_or bs 7 0 ∷ []) in
+    let e0 = get_or-drop 4 bs 0 0 in
+    let e1 = get_or-drop 4 bs 1 0 in
+    let e2 = get_or-drop 4 bs 2 0 in
+    let e3 = get_or-drop 4 bs 3 0 in
+    let same : little_number 4 (drop 4 bs) ≡ n = omega arith in
+    let all : z ≡ cast_signed w32 n = e ∙ ap (λ l. cast_signed w32 (little_number 4 l)) (rest_of bs 4) ∙ ap (cast_signed w32) same in
+    ap (λ y. cast_signed w32 (cast_unsigned w32 y)) all ∙ ap (cast_signed w32) (of_z-to_z w32 n (four_below _ _ _ _ (h 4) (h 5) (h 6) (h 7)))
+
+-- the bytes after a slot
+pub bytes_after_slot : (bs : List ℕ) → IsBytes bs → IsBytes (drop 8 bs)
+bytes_after_slot bs h i = subst (λ x. x < 256) (sym (get_or-drop 8 bs i 0)) (h (8 + i))
+
+-- the upper half that a second slot holds
+at_least : (n : ℕ) → 16 ≤ n → nat_le 16 n ≡ true
+at_least n h = grind arith
+
+pub next_some : (bs : List ℕ) → 16 ≤ length bs → next_upper bs ≡ Some (cast_unsigned w32 (slot_in (drop 8 bs)).imm)
+next_some bs h = ap (λ (b : Bool). cond b (Some (cast_unsigned w32 (slot_in (drop 8 bs)).imm)) None) (at_least (length bs) h)
+
+pub next_read : (bs : List ℕ) (s : Slot) (n : ℕ) → IsBytes bs → 16 ≤ length bs → s ≡ slot_in (take (length bs - 8) (drop 8 bs)) → n ≡ cast_unsigned w32 (cast_signed w32 (cast_unsigned w32 s.imm)) → Some n ≡ next_upper bs
+next_read bs s n h long e f =
+    let e2 : s ≡ slot_in (drop 8 bs) = e ∙ ap slot_in (rest_of bs 8) in
+    let all : n ≡ cast_unsigned w32 (slot_in (drop 8 bs)).imm =
+    f ∙ ap (λ (t : Slot). cast_unsigned w32 (cast_signed w32 (cast_unsigned w32 t.imm))) e2
+    ∙ ap (cast_unsigned w32) (to_z-of_z w32 (slot_in (drop 8 bs)).imm (imm_fits (drop 8 bs) (bytes_after_slot bs h))) in
+    ap (λ (m : ℕ). Some m) all ∙ sym (next_some bs long)

@@ -1,3 +1,6 @@
 pub mod Bytes
+pub mod Slots
 pub mod Decoding
-pub mod Table
+pub mod Refusing
+pub mod Loop
+pub mod Lines

@@ -1,2 +1,4 @@
 pub mod Decoding
 pub mod Faults
+pub mod Slots
+pub mod Listing

@@ -1,12 +1,17 @@
 // From bytes to instructions.
-ghost use Rattle.std.specs.Prelude.{◌≡◌, ◌<◌, ◌≤◌, ◌*◌, ◌/◌, ◌^◌, ◌%◌, ⊤, ℕ, List, length, Ok, IfOk, MatchResult};
+ghost use Rattle.std.specs.Prelude.{◌≡◌, ◌<◌, ◌≤◌, ◌*◌, ◌/◌, ◌^◌, ◌%◌, ⊤, ℕ, List, false, length, Ok, IfOk, MatchResult};
 ghost use Rattle.bpf_insn.specs.declared.insn.Insn.{Insn as InsnValue};
-ghost use Rattle.bpf_encode.specs.Decoding.{alu_op_at, source_at, candidate, is_same_slot, IsCodeOf};
-ghost use Rattle.bpf_encode.specs.Faults.{slot_decoded, decoded, FaultIs, IsRefused};
+ghost use Rattle.bpf_insn.specs.Code.{is_wide};
+ghost use Rattle.bpf_insn.specs.Table.{form_at};
+ghost use Rattle.bpf_encode.specs.Decoding.{IsCodeOf};
+ghost use Rattle.bpf_encode.specs.Faults.{IsRefused};
+ghost use Rattle.bpf_encode.specs.Slots.{is_same_slot, next_upper, checked, first_decoded, half_decoded, slot_decoded, decoded, FaultIs};
 ghost use Rattle.bpf_encode.specs.declared.decode.DecodeError.TheVariants.{Memory as OutOfMemory};
 
+use crate::fields::insn_with;
 use crate::slot_bytes::slot_at;
-use bpf_insn::insn::{AluOp, Insn, Source};
+use bpf_insn::form::Form;
+use bpf_insn::insn::Insn;
 use bpf_insn::slot::Slot;
 use std::alloc::{AllocError, AllocFailed, Global};
 use thiserror::Error;
@@ -21,10 +26,11 @@ pub enum DecodeError {
     #[error("B2: unknown opcode at slot {0}")]
     BadOpcode(u32),
     /// A register is above 10, a field that the instruction does not use is not 0, or one that it
-    /// uses has a value without a meaning.
+    /// uses has a value without a meaning. So is the second slot of a wide load that has an opcode,
+    /// a register or an offset.
     #[error("B3: bad field at slot {0}")]
     BadField(u32),
-    /// A wide load has no second slot. No wide load is decoded yet.
+    /// A wide load has no second slot.
     #[error("B4: wide load without its second slot at slot {0}")]
     HalfWide(u32),
     /// Memory ran out.
@@ -43,54 +49,6 @@ impl<T: Drop> From<AllocFailed<T>> for DecodeError {
     }
 }
 
-fn alu_op_at(number: u8) -> Option<AluOp>
-    ensures { result ≡ alu_op_at number }
-{
-    match number {
-        0x0 => Some(AluOp::Add),
-        0xb => Some(AluOp::Mov),
-        _ => None,
-    }
-}
-
-fn source_at(bit: u8, src: u8, imm: i32) -> Source
-    ensures { result ≡ source_at bit src imm }
-{
-    if bit == 0 {
-        Source::Imm(imm)
-    } else {
-        Source::Reg(src)
-    }
-}
-
-// The instruction that an opcode says, with the slot's fields as they are.
-fn candidate(slot: Slot) -> Option<Insn>
-    ensures { result ≡ candidate slot }
-{
-    let source = source_at(slot.opcode / 8 % 2, slot.src, slot.imm);
-    if slot.opcode % 8 == 7 {
-        return match alu_op_at(slot.opcode / 16) {
-            Some(op) => Some(Insn::Alu {
-                wide: true,
-                op,
-                dst: slot.dst,
-                src: source,
-                offset: slot.offset,
-            }),
-            None => None,
-        };
-    }
-    if slot.opcode == 0x85 {
-        return Some(Insn::Call {
-            number: slot.imm.cast_unsigned(),
-        });
-    }
-    if slot.opcode == 0x95 {
-        return Some(Insn::Exit);
-    }
-    None
-}
-
 fn is_same_slot(a: Slot, b: Slot) -> bool
     ensures { result ≡ is_same_slot a b }
 {
@@ -101,20 +59,71 @@ fn is_same_slot(a: Slot, b: Slot) -> bool
         && a.imm == b.imm
 }
 
-// An instruction is that of a slot where its own slot is the same.
-fn slot_decoded(number: u32, slot: Slot) -> Result<Insn, DecodeError>
-    ensures { result ≡ slot_decoded number slot (candidate slot) }
+// The upper half that a second slot holds, where there is one.
+fn next_upper(bytes: &[u8]) -> Option<u32>
+    ensures { result ≡ next_upper bytes.now }
 {
-    match candidate(slot) {
+    if bytes.len() >= 16 {
+        Some(slot_at(&bytes[8..]).imm.cast_unsigned())
+    } else {
+        None
+    }
+}
+
+fn is_wide(insn: Insn) -> bool
+    ensures { result ≡ is_wide insn }
+{
+    match insn {
+        Insn::Wide { .. } => true,
+        _ => false,
+    }
+}
+
+// An instruction is that of a slot where its own slot is the same. A wide load has a second slot.
+fn checked(number: u32, slot: Slot, next: Option<u32>, insn: Insn) -> Result<Insn, DecodeError>
+    ensures { result ≡ checked number slot next insn }
+{
+    if !insn.is_valid() || !is_same_slot(Slot::of(insn, 0), slot) {
+        return Err(DecodeError::BadField(number));
+    }
+    if is_wide(insn) && next.is_none() {
+        return Err(DecodeError::HalfWide(number));
+    }
+    Ok(insn)
+}
+
+// The slot of an instruction, of which a wide load takes the next one too.
+fn first_decoded(number: u32, slot: Slot, next: Option<u32>) -> Result<Insn, DecodeError>
+    ensures { result ≡ first_decoded number slot next (form_at slot.opcode) }
+{
+    match Form::at(slot.opcode) {
         None => Err(DecodeError::BadOpcode(number)),
-        Some(insn) => {
-            let fits = insn.is_valid() && insn.is_built();
-            if fits && is_same_slot(Slot::of(insn), slot) {
-                Ok(insn)
-            } else {
-                Err(DecodeError::BadField(number))
-            }
-        }
+        Some(form) => checked(number, slot, next, insn_with(slot, next.unwrap_or(0), form)),
+    }
+}
+
+// The second slot of a wide load, which holds half of a number and nothing else.
+fn half_decoded(number: u32, slot: Slot) -> Result<Insn, DecodeError>
+    ensures { result ≡ half_decoded number slot }
+{
+    let half = Slot::of(Insn::Half, slot.imm.cast_unsigned());
+    if is_same_slot(half, slot) {
+        Ok(Insn::Half)
+    } else {
+        Err(DecodeError::BadField(number))
+    }
+}
+
+// The slot at the front.
+fn slot_decoded(number: u32, owed: bool, bytes: &[u8]) -> Result<Insn, DecodeError>
+    requires { 8 ≤ length bytes.now }
+    ensures { result ≡ slot_decoded number owed bytes.now }
+{
+    let slot = slot_at(bytes);
+    if owed {
+        half_decoded(number, slot)
+    } else {
+        first_decoded(number, slot, next_upper(bytes))
     }
 }
 
@@ -122,13 +131,14 @@ fn slot_decoded(number: u32, slot: Slot) -> Result<Insn, DecodeError>
 fn decode_slots(alloc: Global, bytes: &[u8]) -> Result<Vec<Insn>, DecodeError>
     requires whole { length bytes.now % 8 ≡ 0 }
     requires short { length bytes.now < 2 ^ 35 }
-    ensures { MatchResult result (λ code. decoded 0 (length bytes.now / 8) bytes.now ≡ Ok code.items) (λ e. FaultIs (decoded 0 (length bytes.now / 8) bytes.now) e) }
+    ensures { MatchResult result (λ code. decoded 0 false (length bytes.now / 8) bytes.now ≡ Ok code.items) (λ e. FaultIs (decoded 0 false (length bytes.now / 8) bytes.now) e) }
 {
     let mut code = Vec::new(alloc);
+    let mut owed = false;
     let slots = bytes.len() / 8;
     for place in 0..slots {
-        let slot = slot_at(&bytes[8 * place..]);
-        let insn = slot_decoded(place as u32, slot)?;
+        let insn = slot_decoded(place as u32, owed, &bytes[8 * place..])?;
+        owed = is_wide(insn);
         code.push(insn)?;
     }
     Ok(code)

@@ -4,6 +4,7 @@ ghost use Rattle.bpf_insn.specs.Encoding.{slot_bytes as bytes_of_slot};
 ghost use Rattle.bpf_encode.specs.Decoding.{slot_in};
 
 use bpf_insn::slot::Slot;
+use byteorder::{ByteOrder, LittleEndian};
 
 /// The slot that the first eight bytes spell.
 pub fn slot_at(bytes: &[u8]) -> Slot
@@ -14,8 +15,8 @@ pub fn slot_at(bytes: &[u8]) -> Slot
         opcode: bytes[0],
         dst: bytes[1] % 16,
         src: bytes[1] / 16,
-        offset: i16::from_le_bytes([bytes[2], bytes[3]]),
-        imm: i32::from_le_bytes([bytes[4], bytes[5], bytes[6], bytes[7]]),
+        offset: LittleEndian::read_i16(&bytes[2..]),
+        imm: LittleEndian::read_i32(&bytes[4..]),
     }
 }
 
@@ -25,16 +26,10 @@ pub fn bytes_of(slot: Slot) -> [u8; 8]
     requires src { slot.src ≤ 10 }
     ensures { result ≡ bytes_of_slot slot }
 {
-    let offset = slot.offset.to_le_bytes();
-    let imm = slot.imm.to_le_bytes();
-    [
-        slot.opcode,
-        slot.dst + 16 * slot.src,
-        offset[0],
-        offset[1],
-        imm[0],
-        imm[1],
-        imm[2],
-        imm[3],
-    ]
+    let mut bytes = [0; 8];
+    bytes[0] = slot.opcode;
+    bytes[1] = slot.dst + 16 * slot.src;
+    LittleEndian::write_i16(&mut bytes[2..4], slot.offset);
+    LittleEndian::write_i32(&mut bytes[4..], slot.imm);
+    bytes
 }

@@ -1,4 +1,6 @@
-use Rattle.bpf_encode.proofs.Decoding.{fault_is, only_memory, found_code, complete_at, whole_of_code, either, same_code}
+use Rattle.bpf_encode.proofs.Decoding.{found_code, complete_at, whole_of_code}
+use Rattle.bpf_encode.proofs.Refusing.{fault_is, only_memory}
+use Rattle.bpf_encode.proofs.Loop.{either, same_code}
 use Rattle.bpf_encode.proofs.decode.decode.Goals as goal
 
 pub returns-then-bytes-ne0-clause-exact : goal.returns-then-bytes-ne0-clause-exact
