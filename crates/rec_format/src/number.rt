@@ -1,7 +1,7 @@
 // Numbers and pieces at the front of the bytes.
 ghost use Rattle.std.specs.Prelude.{◌≡◌};
 ghost use Rattle.std.specs.Option.{option_map};
-ghost use Rattle.rec_format.specs.Reading.{bytes_at, number_at, sized_at};
+ghost use Rattle.rec_format.specs.Pieces.{bytes_at, number_at, sized_at};
 
 use byteorder::{ByteOrder, LittleEndian};
 
