@@ -2,6 +2,7 @@
 #![tactic(auto)]
 
 pub mod agg;
+pub mod boxed;
 pub mod context;
 pub mod item;
 pub mod items;
@@ -9,6 +10,7 @@ pub mod key;
 pub mod limits;
 pub mod map;
 pub mod memory;
+pub mod operator;
 pub mod step;
 #[cfg(test)]
 mod tests;

@@ -1,6 +1,7 @@
 // What no clause says: that copies are made where there is room, and that the order of keys and
 // objects is the one of the language.
 use crate::agg::{Agg, Buckets};
+use crate::boxed::Boxed;
 use crate::item::{Cell, Item};
 use crate::items::Items;
 use crate::key::Key;
@@ -121,5 +122,17 @@ fn copies_are_equal(rt: HostRuntime) -> Result<(), Fail> {
         key_shape: Items::of(vec![in alloc; Shape::Int, Shape::Str]?),
     };
     assert_eq!(rt; decl.try_copy(alloc)?, decl);
+    Ok(())
+}
+
+#[test]
+fn a_boxed_value_is_copied_compared_and_given_back(rt: HostRuntime) -> Result<(), Fail> {
+    let alloc = rt.alloc();
+    let boxed = Boxed::new(alloc, 7u64)?;
+    let copied = boxed.try_copy(alloc)?;
+    assert!(rt; copied == boxed);
+    assert!(rt; copied != Boxed::new(alloc, 8u64)?);
+    assert_eq!(rt; *boxed.get(), 7);
+    assert_eq!(rt; copied.into_inner(), 7);
     Ok(())
 }
