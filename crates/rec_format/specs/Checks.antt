@@ -47,7 +47,7 @@ tracepoint_name f = f.system ++ 58 ∷ f.layout.name
 
 -- two formats of one ID, or of one system and name
 abbrev pub is_same_event : Format → Format → Bool
-is_same_event f g = f.layout.id == g.layout.id || bytes_eq (tracepoint_name f) (tracepoint_name g)
+is_same_event f g = g.layout.id == f.layout.id || bytes_eq (tracepoint_name g) (tracepoint_name f)
 
 abbrev pub format_of : FormatPart → Layout → Format
 format_of part layout = record { system = part.system; text = part.text; layout = layout }
