@@ -1,5 +1,6 @@
 // The checks of the parts of a recording.
 ghost use Rattle.std.specs.Prelude.{◌≡◌};
+ghost use Rattle.std.specs.List.{list_all};
 ghost use Rattle.rec_format.specs.Parts.{header_part, cpu_part};
 ghost use Rattle.rec_format.specs.Checks.{header_fault, is_system_byte, is_system, cpu_fault};
 
@@ -35,12 +36,17 @@ fn is_system_byte(byte: u8) -> bool
     byte.is_ascii_alphanumeric() || byte == b'_' || byte == b'-'
 }
 
+fn are_system_bytes(bytes: &[u8]) -> bool
+    ensures { result ≡ list_all is_system_byte bytes.now }
+{
+    bytes.iter().all(|byte| is_system_byte(*byte))
+}
+
 /// Whether these are 1 to 64 letters, digits, `_` and `-`.
 pub(crate) fn is_system(system: &[u8]) -> bool
     ensures { result ≡ is_system system.now }
 {
-    let is_spelled = system.iter().all(|byte| is_system_byte(*byte));
-    !system.is_empty() && system.len() <= 64 && is_spelled
+    !system.is_empty() && system.len() <= 64 && are_system_bytes(system)
 }
 
 /// The first check that the head of a CPU fails, behind so many CPUs, where its number may be so small
