@@ -7,6 +7,7 @@ pub mod error;
 mod event;
 mod formats;
 mod head;
+pub mod laws;
 mod number;
 mod part;
 pub mod reading;
@@ -16,3 +17,4 @@ mod table;
 #[cfg(test)]
 mod tests;
 mod tracks;
+pub mod writing;
