@@ -2,6 +2,8 @@
 #![tactic(auto)]
 
 mod check;
+#[cfg(test)]
+mod container_tests;
 pub mod early;
 pub mod error;
 mod event;
