@@ -1,4 +1,10 @@
 pub mod EventLemmas
 pub mod Fields
 pub mod HeadLines
+pub mod LoopLaws
+pub mod PartLaws
 pub mod Recordings
+pub mod TableLaws
+pub mod UniqueLaws
+pub mod WholeLaws
+pub mod WriteLaws
