@@ -1,6 +1,6 @@
 -- What is due to two files is one thing, and comes unless a fault does.
-use Rattle.std.proofs.Common.{◌≡◌, ℕ, ◌⊎◌, List, refl, subst, arith, inl, inr}
-use Rattle.std.specs.Prelude.{Option, Some, None, IfSome}
+use Rattle.std.proofs.Common.{◌≡◌, ℕ, ◌*◌, ◌⊎◌, List, [], length, replicate, refl, subst, arith, inl, inr}
+use Rattle.std.specs.Prelude.{Option, Some, None, IfSome, IsSome}
 use Rattle.rec_format.proofs.Recordings.{early_unique}
 use Rattle.bt_top.specs.declared.report.Work.{Work}
 use Rattle.bt_top.specs.declared.refusal.Operand.TheVariants.{Script, Recording}
@@ -8,6 +8,7 @@ use Rattle.bt_top.specs.declared.refusal.Refusal.{Refusal}
 use Rattle.bt_top.specs.declared.refusal.Refusal.TheVariants.{Usage, ReadFault, TooLong, Early, WriteFault, Memory}
 use Rattle.bt_top.specs.Refusals.{status_of}
 use Rattle.bt_top.specs.Script.{IsEarlyScript}
+use Rattle.bt_top.proofs.EventRuns.{six_a_step}
 use Rattle.bt_top.specs.Serve.{IsOtherScript, IsAccepted, IsDue, OnBoth, MayCome, IsFault, HasWork, IsCount}
 
 not_both : (script recording : List ℕ) → IsOtherScript script recording → IsAccepted script recording → ⊥
@@ -91,3 +92,9 @@ is_complete fault wrote None recording refusal work status is may counted = tt
 is_complete fault wrote (Some s) None refusal work status is may counted = tt
 is_complete fault wrote (Some s) (Some r) refusal work status is may counted = λ due no_fault no_wrote.
     status_due fault wrote s r refusal status is may no_fault no_wrote (answers_due fault wrote s r refusal work may counted None due)
+
+-- the work takes six instructions a step
+pub is_six_a_step : (script recording : Option (List ℕ)) (refusal : Option Refusal) (work : Option Work) → (IsSome work → HasWork refusal) → (HasWork refusal → IsCount script recording work)
+    → IfSome work (λ done. done.instructions ≡ 6 * length done.steps)
+is_six_a_step script recording refusal None worked counted = tt
+is_six_a_step script recording refusal (Some done) worked counted = let is = counted (worked refl) in six_a_step (replicate is.0 []) done.steps done.instructions is.2.runs

@@ -1,5 +1,7 @@
 pub mod Words
 pub mod Script
+pub mod Code
+pub mod Runs
 pub mod Count
 pub mod Refusals
 pub mod Serve

@@ -1,5 +1,5 @@
 // The top call.
-ghost use Rattle.std.specs.Prelude.{◌≡◌, ◌<◌, ◌≤◌, ◌⊎◌, ◌↔◌, ◌∷◌, [], map, string_bytes, Option, Some, None, IfOk, IfErr, IfSome, IsNone, IsSome};
+ghost use Rattle.std.specs.Prelude.{◌≡◌, ◌<◌, ◌≤◌, ◌*◌, ◌⊎◌, ◌↔◌, ◌∷◌, [], length, map, string_bytes, Option, Some, None, IfOk, IfErr, IfSome, IsNone, IsSome};
 ghost use Rattle.std.specs.Io.KnownBytes.{Appends, Keeps};
 ghost use Rattle.bt_io.specs.Faults.{Rose};
 ghost use Rattle.bt_io.specs.Taken.{AppendsPart};
@@ -52,6 +52,7 @@ fn run<S: Shelf, K: Sink>(alloc: Global, named: &Named<'_>, shelf: &mut S, out: 
     ensures refused { IfSome result.refusal (MayCome (Rose (S.faults shelf.old) (S.faults shelf.new)) (Rose (K.faults out.old) (K.faults out.new)) (S.held shelf.old named.now.script.now) (S.held shelf.old named.now.recording.now)) }
     ensures counted { HasWork result.refusal → IsCount (S.held shelf.old named.now.script.now) (S.held shelf.old named.now.recording.now) result.work }
     ensures worked { IsSome result.work → HasWork result.refusal }
+    ensures six_each { IfSome result.work (λ work. work.instructions ≡ 6 * length work.steps) }
     ensures written { result.refusal ≡ None → IfSome result.work (λ work. Appends (K.taken out.old) (K.taken out.new) work.text) }
     ensures part { result.refusal ≡ Some Refusal.WriteFault → IfSome result.work (λ work. AppendsPart (K.taken out.old) (K.taken out.new) work.text) }
     ensures nothing { IsNone result.work → Keeps (K.taken out.old) (K.taken out.new) }
@@ -76,7 +77,8 @@ fn run<S: Shelf, K: Sink>(alloc: Global, named: &Named<'_>, shelf: &mut S, out: 
 }
 
 /// Does what the words ask for: `run SCRIPT RECORDING` counts the events of a recording of one CPU
-/// and one event format, by the script that counts them, and writes the count to `out`.
+/// and one event format, by the script that counts them, and writes the count to `out`. For each event
+/// the machine runs one fixed piece of BPF code (RFC 9669), whose call of a helper makes the event's step.
 ///
 /// Refusals come in the order words, script read, recording read, recording, script, write. A file
 /// that is too long is refused at its read. Want of memory may come at any of them. Before the write
@@ -101,9 +103,11 @@ pub fn serve<S: Shelf, K: Sink, E: Sink>(
     ensures exact { IfSome (operands_of (map string_bytes words.now)) (λ names. OnBoth (S.held shelf.old names.script) (S.held shelf.old names.recording) (λ script recording. (due : Option Refusal) → IsDue script recording due → (result.refusal ≡ due) ⊎ IsFault result.refusal)) }
     ensures complete { IfSome (operands_of (map string_bytes words.now)) (λ names. OnBoth (S.held shelf.old names.script) (S.held shelf.old names.recording) (λ script recording. IsDue script recording None → ¬ Rose (S.faults shelf.old) (S.faults shelf.new) → ¬ Rose (K.faults out.old) (K.faults out.new) → (result.status ≡ 0) ⊎ (result.status ≡ 6))) }
 
-    // At status 0 and 5 the work is the count of the events, and its text is what was written.
+    // At status 0 and 5 the work is the count of the events, by a run of the code for each, and its
+    // text is what was written.
     ensures counted { (result.status ≡ 0) ⊎ (result.status ≡ 5) → IfSome (operands_of (map string_bytes words.now)) (λ names. IsCount (S.held shelf.old names.script) (S.held shelf.old names.recording) result.work) }
     ensures worked { IsSome result.work → (result.status ≡ 0) ⊎ (result.status ≡ 5) }
+    ensures six_each { IfSome result.work (λ work. work.instructions ≡ 6 * length work.steps) }
     ensures written { result.status ≡ 0 → IfSome result.work (λ work. Appends (K.taken out.old) (K.taken out.new) work.text) }
     ensures part { result.status ≡ 5 → IfSome result.work (λ work. AppendsPart (K.taken out.old) (K.taken out.new) work.text) }
     ensures nothing { IsNone result.work → Keeps (K.taken out.old) (K.taken out.new) }

@@ -1,7 +1,10 @@
 // The printed bytes and lines, the order of refusals, and that calls succeed where memory is ample.
 ghost use Rattle.std.specs.Prelude.{◌-◌, ◌<◌, ◌^◌, None};
 
+use crate::port::CountPort;
 use crate::serve::serve;
+use bpf_interp::ports::{PortFault, Ports};
+use bpf_interp::regions::Regions;
 use bt_core::items::Items;
 use bt_core::memory::Memory;
 use bt_io::mem_shelf::MemShelf;
@@ -279,6 +282,25 @@ fn a_write_fault_leaves_a_prefix_and_the_work(rt: HostRuntime) -> Result<(), Fai
     let work = report.work.ok_or("no work")?;
     assert!(rt; work.text.as_slice() == b"@: 3\n\n".as_slice());
     assert!(rt; work.steps.len() == 3);
+    assert!(rt; work.instructions == 18);
+    Ok(())
+}
+
+/// What a port that has made no step answers to a call with these first and third arguments.
+fn port_answer(alloc: Global, number: u32, map: u64, added: u64) -> Result<u64, PortFault> {
+    let context = [0; 128];
+    let mut memory = Regions::new(&context, &[]);
+    CountPort::new(alloc).call(alloc, number, [map, 0, added, 0, 0], &mut memory)
+}
+
+#[test]
+fn the_port_has_one_helper_and_one_map(rt: HostRuntime) -> Result<(), Fail> {
+    let alloc = rt.alloc();
+    assert!(rt; port_answer(alloc, 4, 0, 1) == Ok(0));
+    assert!(rt; port_answer(alloc, 3, 0, 1) == Err(PortFault::Helper));
+    assert!(rt; port_answer(alloc, 5, 0, 1) == Err(PortFault::Helper));
+    assert!(rt; port_answer(alloc, 4, 1, 1) == Err(PortFault::Helper));
+    assert!(rt; port_answer(alloc, 4, 1 << 32, 1) == Err(PortFault::Helper));
     Ok(())
 }
 
