@@ -1,6 +1,7 @@
 -- Events one after the other, as a loop passes them.
 use Rattle.std.proofs.Common.{◌≡◌, ℕ, suc, ◌+◌, ◌-◌, ◌<◌, ◌≤◌, List, Option, Some, None, ap, sym, ◌∙◌, arith}
-use Rattle.rec_format.specs.Reading.{◌>>=◌, event_at, events_at}
+use Rattle.rec_format.specs.Reading.{event_at, events_at}
+use Rattle.rec_format.specs.Pieces.{◌>>=◌}
 
 -- the next event, and those after it
 step : (id count i : ℕ) (bytes : List ℕ) → i < count → events_at id (count - i) bytes ≡ (event_at id bytes >>= λ rest. events_at id (count - (i + 1)) rest)

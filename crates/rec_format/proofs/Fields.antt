@@ -6,8 +6,8 @@ use Rattle.std.proofs.lemmas.List.{take_at, drop_at, take-append-drop, length-ap
 use Rattle.std.proofs.lemmas.Nat.{le_bytes_2, le_bytes_4, le_bytes_8}
 use Rattle.byteorder.specs.Endian.{little_bytes, little_number}
 use Rattle.byteorder.specs.Numbers.{length-bytes_low_first, little_number-reads_back, little_from-lt, little_from-append}
-use Rattle.rec_format.specs.Early.{sized_bytes}
-use Rattle.rec_format.specs.Reading.{◌>>=◌, where_true, only_if, bytes_at, number_at, sized_at, after_bytes}
+use Rattle.rec_format.specs.Pieces.{sized_bytes, ◌>>=◌, where_true, bytes_at, number_at, sized_at}
+use Rattle.rec_format.specs.Reading.{only_if, after_bytes}
 
 abbrev pub IsBytes : List ℕ → Type 0
 IsBytes bytes = (i : ℕ) → get_or bytes i 0 < 256

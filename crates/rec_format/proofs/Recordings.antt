@@ -9,8 +9,9 @@ use Rattle.byteorder.specs.Endian.{little_bytes}
 use Rattle.byteorder.specs.Numbers.{length-bytes_low_first}
 use Rattle.rec_format.specs.declared.early.EarlyRecording.{EarlyRecording}
 use Rattle.rec_format.specs.declared.run.ByteSet.TheVariants.{Systems}
-use Rattle.rec_format.specs.Early.{AreIn, IsFormatHead, sized_bytes, EarlyEvent, event_bytes, IsEarlyEvent, header_bytes, format_bytes, track_bytes, EarlyFile, early_bytes, IsEarlyFile, IsEarlyRecording}
-use Rattle.rec_format.specs.Reading.{◌>>=◌, only_if, bytes_at, number_at, sized_at, after_bytes, run_of, after_run, is_empty, head_of, FormatNames, is_system, format_at, event_at, events_at, track_at, header_at, early_of}
+use Rattle.rec_format.specs.Early.{AreIn, IsFormatHead, EarlyEvent, event_bytes, IsEarlyEvent, header_bytes, format_bytes, track_bytes, EarlyFile, early_bytes, IsEarlyFile, IsEarlyRecording}
+use Rattle.rec_format.specs.Pieces.{sized_bytes, ◌>>=◌, bytes_at, number_at, sized_at}
+use Rattle.rec_format.specs.Reading.{only_if, after_bytes, run_of, after_run, is_empty, head_of, FormatNames, is_system, format_at, event_at, events_at, track_at, header_at, early_of}
 use Rattle.rec_format.proofs.Fields.{IsBytes, bind_some, where_true_some, only_if_some, Takes, Takes-then, bytes_takes, bytes_again, wide2, wide4, wide8, number_takes, number_again, sized_takes, sized_again, after_takes_bytes, after_again}
 use Rattle.rec_format.proofs.HeadLines.{run_splits, run_is_in, after_run_again, is_empty-nil, not_empty, not_empty_from, head_takes, head_again}
 

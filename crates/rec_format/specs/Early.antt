@@ -6,6 +6,7 @@ use Rattle.rec_format.specs.declared.early.EarlyRecording.{EarlyRecording}
 use Rattle.rec_format.specs.declared.run.ByteSet.{ByteSet}
 use Rattle.rec_format.specs.declared.run.ByteSet.TheVariants.{Blanks, LineEnd, Names, Digits, Systems}
 use Rattle.rec_format.specs.Words.{is_in, decimal_value}
+use Rattle.rec_format.specs.Pieces.{sized_bytes}
 
 -- bytes of one set alone
 abbrev pub AreIn : ByteSet → List ℕ → Type 0
@@ -32,10 +33,6 @@ pub record IsFormatHead (text name : List ℕ) (id : ℕ) : Type 0 where
   pub blank : AreIn Blanks before_name × AreIn Blanks before_id
   pub passed_over : AreIn LineEnd after_name × AreIn LineEnd after_id
   pub broken : IsLineBreak rest
-
--- bytes behind their length, which takes so many bytes
-abbrev pub sized_bytes : ℕ → List ℕ → List ℕ
-sized_bytes n piece = little_bytes n (length piece) ++ piece
 
 -- the parts of an event: 40 bytes of time, pid, tid, uid, gid and comm, which are not looked at, and the payload
 pub record EarlyEvent : Type 0 where

@@ -1,3 +1,9 @@
-pub mod Words
+pub mod Answers
+pub mod Checks
 pub mod Early
+pub mod Faults
+pub mod Parts
+pub mod Pieces
 pub mod Reading
+pub mod Recordings
+pub mod Words

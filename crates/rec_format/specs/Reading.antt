@@ -2,38 +2,18 @@
 use Rattle.std.specs.Prelude.{ℕ, zero, suc, ◌+◌, ◌-◌, ◌*◌, Bool, ◌&&◌, eqb, nat_le, not, List, [], ◌∷◌, ◌++◌, length, take, drop, codes, Option, Some, None, if◌then◌else◌}
 use Rattle.std.specs.List.{prefix_len}
 use Rattle.std.specs.Cmp.Lexicographic.{pointwise}
-use Rattle.byteorder.specs.Endian.{little_bytes, little_number}
+use Rattle.byteorder.specs.Endian.{little_bytes}
 use Rattle.rec_format.specs.declared.early.EarlyRecording.{EarlyRecording}
 use Rattle.rec_format.specs.declared.early.Parts.{Parts}
 use Rattle.rec_format.specs.declared.head.NamedFormat.{NamedFormat}
 use Rattle.rec_format.specs.declared.run.ByteSet.{ByteSet}
 use Rattle.rec_format.specs.declared.run.ByteSet.TheVariants.{Blanks, LineEnd, Names, Digits, Systems}
 use Rattle.rec_format.specs.Words.{is_in}
-
-infixl 10 ◌>>=◌
-abbrev pub ◌>>=◌ : {A B : Type 0} → Option A → (A → Option B) → Option B
-None >>= f = None
-(Some x) >>= f = f x
-
--- the value where the test holds
-abbrev pub where_true : {A : Type 0} → Bool → A → Option A
-where_true test value = if test then Some value else None
+use Rattle.rec_format.specs.Pieces.{◌>>=◌, where_true, bytes_at, number_at, sized_at}
 
 -- what is read where the test holds
 abbrev pub only_if : {A : Type 0} → Bool → Option A → Option A
 only_if test read = if test then read else None
-
--- so many bytes
-abbrev pub bytes_at : ℕ → List ℕ → Option (List ℕ × List ℕ)
-bytes_at n bytes = where_true (nat_le n (length bytes)) (take n bytes, drop n bytes)
-
--- a number of so many bytes
-abbrev pub number_at : ℕ → List ℕ → Option (ℕ × List ℕ)
-number_at n bytes = where_true (nat_le n (length bytes)) (little_number n bytes, drop n bytes)
-
--- bytes behind their length, which is a number of so many bytes
-unfoldable pub sized_at : ℕ → List ℕ → Option (List ℕ × List ℕ)
-sized_at n bytes = number_at n bytes >>= λ len. bytes_at len.0 len.1
 
 -- what follows these very bytes
 abbrev pub after_bytes : List ℕ → List ℕ → Option (List ℕ)

@@ -1,7 +1,7 @@
 // Numbers and pieces at the front of the bytes.
 ghost use Rattle.std.specs.Prelude.{◌≡◌};
 ghost use Rattle.std.specs.Option.{option_map};
-ghost use Rattle.rec_format.specs.Reading.{bytes_at, number_at, sized_at};
+ghost use Rattle.rec_format.specs.Pieces.{bytes_at, number_at, sized_at};
 
 use byteorder::{ByteOrder, LittleEndian};
 
@@ -44,7 +44,7 @@ pub(crate) fn u64_at(bytes: &[u8]) -> Option<(u64, &[u8])>
 }
 
 /// Bytes behind their length of 16 bits, and those after them.
-#[tactic(auto, unfolding(crate::specs::Reading::sized_at))]
+#[tactic(auto, unfolding(crate::specs::Pieces::sized_at))]
 pub(crate) fn sized16_at(bytes: &[u8]) -> Option<(&[u8], &[u8])>
     ensures { option_map (λ piece. (piece.0.now, piece.1.now)) result ≡ sized_at 2 bytes.now }
 {
@@ -53,7 +53,7 @@ pub(crate) fn sized16_at(bytes: &[u8]) -> Option<(&[u8], &[u8])>
 }
 
 /// Bytes behind their length of 32 bits, and those after them.
-#[tactic(auto, unfolding(crate::specs::Reading::sized_at))]
+#[tactic(auto, unfolding(crate::specs::Pieces::sized_at))]
 pub(crate) fn sized32_at(bytes: &[u8]) -> Option<(&[u8], &[u8])>
     ensures { option_map (λ piece. (piece.0.now, piece.1.now)) result ≡ sized_at 4 bytes.now }
 {

@@ -1,0 +1,109 @@
+// Expressions, by the sections on expressions, operators, builtins, maps and variables of the bpftrace language
+// reference. The place of a node is that of its first token.
+use crate::place::Place;
+use bt_core::boxed::Boxed;
+use bt_core::items::Items;
+use bt_core::operator::{BinOp, UnOp};
+
+/// A builtin variable.
+#[derive(Clone, Copy, PartialEq, Eq, Debug)]
+pub enum Builtin {
+    Pid,
+    Tid,
+    Uid,
+    Gid,
+    Comm,
+    Cpu,
+    Nsecs,
+    Elapsed,
+}
+
+/// A variable of a body, by its name with the `$`.
+#[derive(PartialEq, Eq, Debug, Drop)]
+pub struct VarRef {
+    pub name: Items<u8>,
+    pub place: Place,
+}
+
+/// A map, by its name with the `@`, and the parts of its key. A map that is named as a whole has no
+/// parts here.
+#[cycle(expr)]
+#[derive(PartialEq, Debug, Drop)]
+pub struct MapRef {
+    pub name: Items<u8>,
+    pub keys: Items<Expr>,
+    pub place: Place,
+}
+
+/// What is assigned to.
+#[cycle(expr)]
+#[derive(PartialEq, Debug, Drop)]
+pub enum Target {
+    Map(MapRef),
+    Var(VarRef),
+}
+
+/// `++` where `plus` is true and otherwise `--`, which stands before its target where `prefix` is true and otherwise
+/// after it.
+#[cycle(expr)]
+#[derive(PartialEq, Debug, Drop)]
+pub struct IncDec {
+    pub target: Target,
+    pub plus: bool,
+    pub prefix: bool,
+    pub place: Place,
+}
+
+/// An expression and where it begins.
+#[cycle(expr)]
+#[derive(PartialEq, Debug, Drop)]
+pub struct Expr {
+    pub kind: ExprKind,
+    pub place: Place,
+}
+
+/// What an expression is.
+#[cycle(expr)]
+#[derive(PartialEq, Debug, Drop)]
+pub enum ExprKind {
+    /// A number of 64 bits. One from 2^63 on stands as the signed number with the same bits.
+    Number(i64),
+    /// The bytes of a string, after escapes.
+    Text(Items<u8>),
+    Builtin(Builtin),
+    /// A field of the event, `args.name`.
+    Field {
+        name: Items<u8>,
+        name_place: Place,
+    },
+    Var(VarRef),
+    Map(MapRef),
+    Step(IncDec),
+    /// An expression in parentheses.
+    Paren(Boxed<Expr>),
+    Unary {
+        op: UnOp,
+        value: Boxed<Expr>,
+    },
+    Binary {
+        op: BinOp,
+        left: Boxed<Expr>,
+        right: Boxed<Expr>,
+    },
+    /// `left && right`.
+    AndThen {
+        left: Boxed<Expr>,
+        right: Boxed<Expr>,
+    },
+    /// `left || right`.
+    OrElse {
+        left: Boxed<Expr>,
+        right: Boxed<Expr>,
+    },
+    /// `condition ? yes : no`.
+    Choose {
+        condition: Boxed<Expr>,
+        yes: Boxed<Expr>,
+        no: Boxed<Expr>,
+    },
+}

@@ -1,0 +1,7 @@
+//! The trees of scripts.
+#![tactic(auto)]
+
+pub mod expr;
+pub mod place;
+pub mod probe;
+pub mod stmt;

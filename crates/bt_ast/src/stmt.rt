@@ -1,0 +1,95 @@
+// Statements and blocks, by the sections on statements, map functions and functions of the bpftrace language
+// reference. The place of a node is that of its first token.
+use crate::expr::{Expr, IncDec, MapRef, Target};
+use crate::place::Place;
+use bt_core::items::Items;
+use bt_core::operator::BinOp;
+
+/// What is gathered in an aggregation map: a map function and its arguments.
+#[derive(PartialEq, Debug, Drop)]
+pub enum AggCall {
+    Count,
+    Sum(Expr),
+    Min(Expr),
+    Max(Expr),
+    Avg(Expr),
+    Hist(Expr),
+    Lhist {
+        number: Expr,
+        min: i64,
+        max: i64,
+        step: i64,
+    },
+}
+
+/// Statements in braces.
+#[cycle(block)]
+#[derive(PartialEq, Debug, Drop)]
+pub struct Block {
+    pub stmts: Items<Stmt>,
+    pub place: Place,
+}
+
+/// A statement and where it begins.
+#[cycle(block)]
+#[derive(PartialEq, Debug, Drop)]
+pub struct Stmt {
+    pub kind: StmtKind,
+    pub place: Place,
+}
+
+/// What a statement is.
+#[cycle(block)]
+#[derive(PartialEq, Debug, Drop)]
+pub enum StmtKind {
+    /// `map = agg`, where the aggregation's word stands at `agg_place`.
+    SetAgg {
+        map: MapRef,
+        agg: AggCall,
+        agg_place: Place,
+    },
+    /// `target = value` where `op` is `None`, and otherwise `target op= value`. The operator is one of the ten on numbers and bits.
+    Assign {
+        target: Target,
+        op: Option<BinOp>,
+        value: Expr,
+    },
+    Step(IncDec),
+    Printf {
+        format: Items<u8>,
+        format_place: Place,
+        values: Items<Expr>,
+    },
+    /// `print(map, top, div)`, where the last ones may be left out.
+    Print {
+        map: MapRef,
+        top: Option<i64>,
+        div: Option<i64>,
+    },
+    Clear(MapRef),
+    Zero(MapRef),
+    /// `delete(map[keys])`.
+    Delete(MapRef),
+    /// `delete(map, key)`.
+    DeleteKey {
+        map: MapRef,
+        key: Expr,
+    },
+    Exit,
+    Break,
+    Continue,
+    Return,
+    /// The first arm whose condition holds is taken, and where none does the block of `else`.
+    If {
+        arms: Items<(Expr, Block)>,
+        otherwise: Option<Block>,
+    },
+    While {
+        condition: Expr,
+        block: Block,
+    },
+    Unroll {
+        turns: i64,
+        block: Block,
+    },
+}

@@ -1,0 +1,149 @@
+-- What the tables of formats find.
+use Rattle.std.proofs.Common.{◌≡◌, ℕ, suc, Bool, true, false, cond, ◌||◌, Option, Some, None, List, [], ◌∷◌, ◌++◌, length, refl, ap, sym, subst, ◌∙◌, arith}
+use Rattle.std.specs.Prelude.{is_some, ◌==◌, nat_lt}
+use Rattle.std.specs.List.{list_any, slice_get}
+use Rattle.std.specs.Option.{option_map, option_or}
+use Rattle.std.specs.Str.{bytes_eq}
+use Rattle.std.specs.Ordering.{nat_cmp, is_eq}
+use Rattle.std.specs.Cmp.Lexicographic.{slice_cmp}
+use Rattle.std.specs.BTreeMap.{BTreeMap, get}
+use Rattle.std.specs.BTreeSet.{BTreeSet, contains}
+use Rattle.std.proofs.lemmas.Bool.{eqb-true, ltb-true}
+use Rattle.std.specs.declared.cmp.Ordering.TheVariants.{Less, Equal, Greater}
+use Rattle.std.proofs.lemmas.List.Folds.{list_any-append}
+use Rattle.std.proofs.lemmas.Option.{same_Some}
+use Rattle.tracefs_format.proofs.TableLemmas.{inserted}
+use Rattle.tracefs_format.specs.declared.format.Format.{Format}
+use Rattle.rec_format.specs.Checks.{tracepoint_name, is_same_event, format_with}
+use Rattle.rec_format.specs.Answers.{IsTable}
+
+-- ---- by ID
+
+abbrev later : ℕ × Format → ℕ × Format
+later found = (suc found.0, found.1)
+
+abbrev place_in : ℕ × Format → ℕ
+place_in found = found.0
+
+-- the format that is found stands at its place and has the ID
+pub found_there : (id : ℕ) (fs : List Format) (p : ℕ × Format) → format_with id fs ≡ Some p → (slice_get fs p.0 ≡ Some p.1) × (p.1.layout.id ≡ id)
+found_there id [] p h = absurd cc
+found_there id (f ∷ fs) p h =
+    let P : ℕ × Format → Type 0 = λ q. (slice_get (f ∷ fs) q.0 ≡ Some q.1) × (q.1.layout.id ≡ id) in
+    (elim (f.layout.id == id) as (λ b. (f.layout.id == id) ≡ b → cond b (Some (0, f)) (option_map later (format_with id fs)) ≡ Some p → P p) [
+      | true ↦ λ same e. subst P (same_Some (0, f) p e) (refl, eqb-true f.layout.id id same)
+      | false ↦ λ other e. (elim (format_with id fs) as (λ o. format_with id fs ≡ o → option_map later o ≡ Some p → P p) [
+          | None ↦ λ n g. absurd cc
+          | Some q ↦ λ s g. let there = found_there id fs q s in subst P (same_Some (suc q.0, q.1) p g) (there.0, there.1)
+        ]) refl e
+    ]) refl h
+
+pub place_found : (id place : ℕ) (fs : List Format) (got : Option Format) → Some place ≡ option_map place_in (format_with id fs) → got ≡ slice_get fs place → option_map (λ f. (place, f)) got ≡ format_with id fs
+place_found id place fs got h g =
+    (elim (format_with id fs) as (λ o. format_with id fs ≡ o → Some place ≡ option_map place_in o → option_map (λ f. (place, f)) got ≡ o) [
+      | None ↦ λ n e. absurd cc
+      | Some q ↦ λ s e.
+          let same : place ≡ q.0 = same_Some place q.0 e in
+          let there : got ≡ Some q.1 = g ∙ ap (slice_get fs) same ∙ (found_there id fs q s).0 in
+          ap (option_map (λ f. (place, f))) there ∙ ap (λ n. Some (n, q.1)) same
+    ]) refl h
+
+with_more : (id : ℕ) (fs : List Format) (g : Format) → format_with id (fs ++ g ∷ []) ≡ option_or (format_with id fs) (cond (g.layout.id == id) (Some (length fs, g)) None)
+with_more id [] g = elim (g.layout.id == id) as (λ b. cond b (Some (0, g)) (option_map later None) ≡ option_or None (cond b (Some (0, g)) None)) [ true ↦ refl | false ↦ refl ]
+with_more id (f ∷ fs) g =
+    let tail : Bool → Option (ℕ × Format) = λ b. cond b (Some (length fs, g)) None in
+    let tail_later : Bool → Option (ℕ × Format) = λ b. cond b (Some (length (f ∷ fs), g)) None in
+    let moved : (o : Option (ℕ × Format)) (b : Bool) → option_map later (option_or o (tail b)) ≡ option_or (option_map later o) (tail_later b) =
+    λ o b. elim o as (λ o. option_map later (option_or o (tail b)) ≡ option_or (option_map later o) (tail_later b)) [
+      | None ↦ elim b as (λ b. option_map later (tail b) ≡ tail_later b) [ true ↦ refl | false ↦ refl ]
+      | Some q ↦ refl
+    ] in
+    elim (f.layout.id == id) as (λ c. cond c (Some (0, f)) (option_map later (format_with id (fs ++ g ∷ []))) ≡ option_or (cond c (Some (0, f)) (option_map later (format_with id fs))) (tail_later (g.layout.id == id))) [
+      | true ↦ refl
+      | false ↦ ap (option_map later) (with_more id fs g) ∙ moved (format_with id fs) (g.layout.id == id)
+    ]
+
+-- ---- an earlier format that is the same
+
+or_parts : (a b c d : Bool) → ((a || b) || (c || d)) ≡ ((a || c) || (b || d))
+or_parts true b true d = refl
+or_parts true b false d = elim b as (λ v. true ≡ true) [ true ↦ refl | false ↦ refl ]
+or_parts false true true d = refl
+or_parts false true false d = refl
+or_parts false false c d = refl
+
+any_id : (f : Format) (fs : List Format) → list_any (λ g. g.layout.id == f.layout.id) fs ≡ is_some (format_with f.layout.id fs)
+any_id f [] = refl
+any_id f (g ∷ fs) =
+    elim (g.layout.id == f.layout.id) as (λ b. (b || list_any (λ g. g.layout.id == f.layout.id) fs) ≡ is_some (cond b (Some (0, g)) (option_map later (format_with f.layout.id fs)))) [
+      | true ↦ refl
+      | false ↦ any_id f fs ∙ elim (format_with f.layout.id fs) as (λ o. is_some o ≡ is_some (option_map later o)) [ None ↦ refl | Some q ↦ refl ]
+    ]
+
+any_same : (f : Format) (fs : List Format) → list_any (is_same_event f) fs ≡ (list_any (λ g. g.layout.id == f.layout.id) fs || list_any (λ g. bytes_eq (tracepoint_name g) (tracepoint_name f)) fs)
+any_same f [] = refl
+any_same f (g ∷ fs) =
+    ap (λ v. (g.layout.id == f.layout.id || bytes_eq (tracepoint_name g) (tracepoint_name f)) || v) (any_same f fs)
+    ∙ or_parts (g.layout.id == f.layout.id) (bytes_eq (tracepoint_name g) (tracepoint_name f)) (list_any (λ g. g.layout.id == f.layout.id) fs) (list_any (λ g. bytes_eq (tracepoint_name g) (tracepoint_name f)) fs)
+
+some_place : (o : Option (ℕ × Format)) → is_some o ≡ is_some (option_map place_in o)
+some_place None = refl
+some_place (Some q) = refl
+
+pub same_known : (fs : List Format) (places : BTreeMap ℕ ℕ) (names : BTreeSet (List ℕ)) (f : Format) → IsTable fs places names
+    → list_any (is_same_event f) fs ≡ (is_some (get nat_cmp places f.layout.id) || contains (slice_cmp nat_cmp) names (tracepoint_name f))
+same_known fs places names f t =
+    any_same f fs
+    ∙ ap (λ v. v || list_any (λ g. bytes_eq (tracepoint_name g) (tracepoint_name f)) fs) (any_id f fs ∙ some_place (format_with f.layout.id fs) ∙ ap is_some (sym (t.by_id f.layout.id)))
+    ∙ ap (λ v. is_some (get nat_cmp places f.layout.id) || v) (sym (t.by_name (tracepoint_name f)))
+
+-- ---- a format is added
+
+or_last : (a b : Bool) → (b || a) ≡ (a || (b || false))
+or_last true true = refl
+or_last true false = refl
+or_last false true = refl
+or_last false false = refl
+
+none_is : (o : Option ℕ) → is_some o ≡ false → o ≡ None
+none_is None h = refl
+none_is (Some n) h = absurd cc
+
+added_id : (same : Bool) (place : ℕ) (f : Format) (o : Option (ℕ × Format)) (got now : Option ℕ) (len : ℕ) → got ≡ option_map place_in o → now ≡ cond same (Some place) got → place ≡ len → (same ≡ true → got ≡ None)
+    → now ≡ option_map place_in (option_or o (cond same (Some (len, f)) None))
+added_id true place f None got now len g n p fresh = n ∙ ap Some p
+added_id true place f (Some q) got now len g n p fresh = let clash : None ≡ Some q.0 = sym (fresh refl) ∙ g in absurd cc
+added_id false place f None got now len g n p fresh = n ∙ g
+added_id false place f (Some q) got now len g n p fresh = n ∙ g
+
+equal_cmp : (x y : ℕ) → is_eq (nat_cmp x y) ≡ (x == y)
+equal_cmp x y =
+    (elim (nat_lt x y) as (λ b. nat_lt x y ≡ b → is_eq (cond b Less (cond (x == y) Equal Greater)) ≡ (x == y)) [
+      | true ↦ λ less. (elim (x == y) as (λ b. (x == y) ≡ b → false ≡ b) [
+          | true ↦ λ same. let one = eqb-true x y same in let two = ltb-true x y less in absurd (omega arith)
+          | false ↦ λ other. refl
+        ]) refl
+      | false ↦ λ more. elim (x == y) as (λ b. is_eq (cond b Equal Greater) ≡ b) [ true ↦ refl | false ↦ refl ]
+    ]) refl
+
+pub table_added : (fs later : List Format) (places places_later : BTreeMap ℕ ℕ) (names names_later : BTreeSet (List ℕ)) (f : Format) (place : ℕ) (name : List ℕ) → IsTable fs places names
+    → later ≡ fs ++ f ∷ [] → place ≡ length fs → name ≡ tracepoint_name f → is_some (get nat_cmp places f.layout.id) ≡ false
+    → ((id : ℕ) → get nat_cmp places_later id ≡ cond (is_eq (nat_cmp f.layout.id id)) (Some place) (get nat_cmp places id))
+    → ((other : List ℕ) → contains (slice_cmp nat_cmp) names_later other ≡ cond (is_eq (slice_cmp nat_cmp name other)) true (contains (slice_cmp nat_cmp) names other))
+    → IsTable later places_later names_later
+table_added fs later places places_later names names_later f place name t added placed named fresh by_id by_name =
+    let here : IsTable (fs ++ f ∷ []) places_later names_later = record {
+      by_id = λ id.
+          let now : get nat_cmp places_later id ≡ cond (f.layout.id == id) (Some place) (get nat_cmp places id) = by_id id ∙ ap (λ b. cond b (Some place) (get nat_cmp places id)) (equal_cmp f.layout.id id) in
+          let none : (f.layout.id == id) ≡ true → get nat_cmp places id ≡ None =
+          λ same. ap (get nat_cmp places) (sym (eqb-true f.layout.id id same)) ∙ none_is (get nat_cmp places f.layout.id) fresh in
+          added_id (f.layout.id == id) place f (format_with id fs) (get nat_cmp places id) (get nat_cmp places_later id) (length fs) (t.by_id id) now placed none
+          ∙ ap (option_map place_in) (sym (with_more id fs f));
+      by_name = λ other.
+          let test : Format → Bool = λ g. bytes_eq (tracepoint_name g) other in
+          inserted (tracepoint_name f) name other (contains (slice_cmp nat_cmp) names other) (contains (slice_cmp nat_cmp) names_later other) named (by_name other)
+          ∙ ap (λ v. bytes_eq (tracepoint_name f) other || v) (t.by_name other)
+          ∙ or_last (list_any test fs) (bytes_eq (tracepoint_name f) other)
+          ∙ sym (list_any-append test fs (f ∷ []));
+    } in
+    subst (λ gs. IsTable gs places_later names_later) (sym added) here

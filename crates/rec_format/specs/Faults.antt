@@ -1,0 +1,130 @@
+-- The first fault of bytes that are no recording: the parts before it stand there and pass their checks.
+use Rattle.std.specs.Prelude.{◌≡◌, ◌≢◌, ◌⊎◌, ◌<◌, ℕ, List, [], ◌++◌, length, Option, Some, None}
+use Rattle.tracefs_format.specs.declared.format.Format.{Format}
+use Rattle.rec_format.specs.declared.error.RecordingError.{RecordingError}
+use Rattle.rec_format.specs.declared.error.RecordingError.TheVariants as fault
+use Rattle.rec_format.specs.declared.recording.Recording.{Recording}
+use Rattle.rec_format.specs.declared.recording.CpuTrack.{CpuTrack}
+use Rattle.rec_format.specs.declared.recording.Event.{Event}
+use Rattle.rec_format.specs.Parts.{HeaderPart, IsHeaderPart, header_bytes, FormatPart, IsFormatPart, format_bytes, CpuPart, IsCpuPart, cpu_bytes, EventPart, IsEventPart, event_bytes}
+use Rattle.rec_format.specs.Checks.{header_fault, IsFormatFault, least_after, total_events, cpu_fault, time_after, event_fault}
+use Rattle.rec_format.specs.Recordings.{formats_bytes, events_bytes, tracks_bytes, recording_bytes, AreFormats, AreEvents, AreTracks, IsValidRecording}
+
+-- no whole part stands there; it is told with the length of all the bytes
+pub record IsCutShort {P : Type 0} (IsWhole : P → Type 0) (spelling : P → List ℕ) (whole : ℕ) (bytes : List ℕ) (e : RecordingError) : Type 0 where
+  pub none : (part : P) (rest : List ℕ) → IsWhole part → bytes ≡ spelling part ++ rest → ⊥
+  pub told : e ≡ fault.Truncated whole
+
+-- a whole part stands there, and it has this fault
+pub record IsRefused {P : Type 0} (IsWhole : P → Type 0) (spelling : P → List ℕ) (HasFault : P → RecordingError → Type 0) (bytes : List ℕ) (e : RecordingError) : Type 0 where
+  pub part : P
+  pub rest : List ℕ
+  pub is_whole : IsWhole part
+  pub spelled : bytes ≡ spelling part ++ rest
+  pub has_fault : HasFault part e
+
+-- ---- the header
+
+abbrev pub HeaderFails : List ℕ → RecordingError → Type 0
+HeaderFails bytes e =
+    IsCutShort IsHeaderPart header_bytes (length bytes) bytes e
+    ⊎ IsRefused IsHeaderPart header_bytes (λ h e. header_fault h ≡ Some e) bytes e
+
+-- a header that passes stands there, and then the rest
+pub record HasHeader (bytes : List ℕ) (header : HeaderPart) (rest : List ℕ) : Type 0 where
+  pub spelled : bytes ≡ header_bytes header ++ rest
+  pub is_whole : IsHeaderPart header
+  pub passes : header_fault header ≡ None
+
+-- ---- the formats
+
+-- fewer formats than there should be stand there and pass, and the next one fails
+pub record FormatFails (whole count : ℕ) (bytes : List ℕ) (e : RecordingError) : Type 0 where
+  pub formats : List Format
+  pub rest : List ℕ
+  pub spelled : bytes ≡ formats_bytes formats ++ rest
+  pub pass : AreFormats formats
+  pub due : length formats < count
+  pub fails : IsCutShort IsFormatPart format_bytes whole rest e ⊎ IsRefused IsFormatPart format_bytes (IsFormatFault formats) rest e
+
+-- so many formats that pass stand there, and then the rest
+pub record HasFormats (count : ℕ) (bytes : List ℕ) (formats : List Format) (rest : List ℕ) : Type 0 where
+  pub spelled : bytes ≡ formats_bytes formats ++ rest
+  pub pass : AreFormats formats
+  pub counted : length formats ≡ count
+
+-- ---- the events of a CPU
+
+-- fewer events than there should be stand there and pass, and the next one fails
+pub record EventFails (whole : ℕ) (formats : List Format) (start end cpu count : ℕ) (bytes : List ℕ) (e : RecordingError) : Type 0 where
+  pub events : List Event
+  pub rest : List ℕ
+  pub spelled : bytes ≡ events_bytes events ++ rest
+  pub pass : AreEvents formats start end events
+  pub due : length events < count
+  pub fails : IsCutShort IsEventPart event_bytes whole rest e
+      ⊎ IsRefused IsEventPart event_bytes (λ part e. event_fault formats (time_after start events) end cpu (length events) part ≡ Some e) rest e
+
+pub record HasEvents (formats : List Format) (start end count : ℕ) (bytes : List ℕ) (events : List Event) (rest : List ℕ) : Type 0 where
+  pub spelled : bytes ≡ events_bytes events ++ rest
+  pub pass : AreEvents formats start end events
+  pub counted : length events ≡ count
+
+-- ---- the CPUs
+
+-- the head of a CPU passes, behind so many others, and one of its events fails
+pub record TrackFails (whole : ℕ) (formats : List Format) (start end : ℕ) (cpus : List CpuTrack) (bytes : List ℕ) (e : RecordingError) : Type 0 where
+  pub head : CpuPart
+  pub rest : List ℕ
+  pub spelled : bytes ≡ cpu_bytes head ++ rest
+  pub is_whole : IsCpuPart head
+  pub passes : cpu_fault (length cpus) (least_after 0 cpus) (total_events cpus) head ≡ None
+  pub fails : EventFails whole formats start end (length cpus) head.events rest e
+
+-- fewer CPUs than there should be stand there and pass, and the next one fails, at its head or at an event
+pub record CpuFails (whole : ℕ) (formats : List Format) (start end count : ℕ) (bytes : List ℕ) (e : RecordingError) : Type 0 where
+  pub cpus : List CpuTrack
+  pub rest : List ℕ
+  pub spelled : bytes ≡ tracks_bytes cpus ++ rest
+  pub pass : AreTracks formats start end cpus
+  pub due : length cpus < count
+  pub fails : IsCutShort IsCpuPart cpu_bytes whole rest e
+      ⊎ (IsRefused IsCpuPart cpu_bytes (λ head e. cpu_fault (length cpus) (least_after 0 cpus) (total_events cpus) head ≡ Some e) rest e
+      ⊎ TrackFails whole formats start end cpus rest e)
+
+pub record HasTracks (formats : List Format) (start end count : ℕ) (bytes : List ℕ) (cpus : List CpuTrack) (rest : List ℕ) : Type 0 where
+  pub spelled : bytes ≡ tracks_bytes cpus ++ rest
+  pub pass : AreTracks formats start end cpus
+  pub counted : length cpus ≡ count
+
+-- ---- the whole
+
+-- behind the header a format fails
+pub record FailsInFormats (bytes : List ℕ) (e : RecordingError) : Type 0 where
+  pub header : HeaderPart
+  pub rest : List ℕ
+  pub has_header : HasHeader bytes header rest
+  pub fails : FormatFails (length bytes) header.formats rest e
+
+-- behind the header and the formats a CPU fails
+pub record FailsInCpus (bytes : List ℕ) (e : RecordingError) : Type 0 where
+  pub header : HeaderPart
+  pub formats : List Format
+  pub after_header : List ℕ
+  pub rest : List ℕ
+  pub has_header : HasHeader bytes header after_header
+  pub has_formats : HasFormats header.formats after_header formats rest
+  pub fails : CpuFails (length bytes) formats header.start header.end header.cpus rest e
+
+-- a whole recording stands there, and bytes are left over
+pub record HasBytesLeft (bytes : List ℕ) (e : RecordingError) : Type 0 where
+  pub recording : Recording
+  pub rest : List ℕ
+  pub spelled : bytes ≡ recording_bytes recording ++ rest
+  pub valid : IsValidRecording recording
+  pub left : rest ≢ []
+  pub told : e ≡ fault.TrailingBytes (length (recording_bytes recording))
+
+-- the first fault of these bytes
+abbrev pub IsRecordingFault : List ℕ → RecordingError → Type 0
+IsRecordingFault bytes e = HeaderFails bytes e ⊎ (FailsInFormats bytes e ⊎ (FailsInCpus bytes e ⊎ HasBytesLeft bytes e))

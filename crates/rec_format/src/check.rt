@@ -1,0 +1,64 @@
+// The checks of the parts of a recording.
+ghost use Rattle.std.specs.Prelude.{◌≡◌};
+ghost use Rattle.std.specs.List.{list_all};
+ghost use Rattle.rec_format.specs.Parts.{header_part, cpu_part};
+ghost use Rattle.rec_format.specs.Checks.{header_fault, is_system_byte, is_system, cpu_fault};
+
+use crate::error::{CountOf, RecordingError};
+use crate::part::{CpuHead, Header};
+use bt_core::limits::{CPUS, EVENTS, FORMATS};
+
+/// What every recording begins with.
+pub(crate) const MAGIC: &[u8; 8] = b"BTRACE01";
+
+/// The first check that a header fails.
+pub(crate) fn header_fault(header: &Header<'_>) -> Option<RecordingError>
+    ensures { result ≡ header_fault (header_part header.now) }
+{
+    if header.magic != MAGIC.as_slice() {
+        return Some(RecordingError::BadMagic);
+    }
+    if header.cpus == 0 || header.cpus > CPUS {
+        return Some(RecordingError::Count(CountOf::Cpus));
+    }
+    if header.formats > FORMATS {
+        return Some(RecordingError::Count(CountOf::Formats));
+    }
+    if header.start > header.end {
+        return Some(RecordingError::Count(CountOf::Span));
+    }
+    None
+}
+
+fn is_system_byte(byte: u8) -> bool
+    ensures { result ≡ is_system_byte byte }
+{
+    byte.is_ascii_alphanumeric() || byte == b'_' || byte == b'-'
+}
+
+fn are_system_bytes(bytes: &[u8]) -> bool
+    ensures { result ≡ list_all is_system_byte bytes.now }
+{
+    bytes.iter().all(|byte| is_system_byte(*byte))
+}
+
+/// Whether these are 1 to 64 letters, digits, `_` and `-`.
+pub(crate) fn is_system(system: &[u8]) -> bool
+    ensures { result ≡ is_system system.now }
+{
+    !system.is_empty() && system.len() <= 64 && are_system_bytes(system)
+}
+
+/// The first check that the head of a CPU fails, behind so many CPUs, where its number may be so small
+/// and so many events were announced.
+pub(crate) fn cpu_fault(place: u32, least: u64, announced: u32, head: CpuHead) -> Option<RecordingError>
+    ensures { result ≡ cpu_fault place least announced (cpu_part head) }
+{
+    if u64::from(head.number) < least {
+        return Some(RecordingError::CpuNumber(place));
+    }
+    if u64::from(announced) + u64::from(head.events) > u64::from(EVENTS) {
+        return Some(RecordingError::Count(CountOf::Events));
+    }
+    None
+}

@@ -1,0 +1,119 @@
+// The parts of a recording at the front of bytes.
+ghost use Rattle.std.specs.Prelude.{◌≡◌};
+ghost use Rattle.std.specs.Option.{option_map};
+ghost use Rattle.rec_format.specs.Pieces.{bytes_at};
+ghost use Rattle.rec_format.specs.Parts.{header_part, header_at, format_part, format_at, cpu_part, cpu_at, event_part, event_at};
+
+use crate::number::{bytes_at, sized16_at, sized32_at, u32_at, u64_at};
+
+/// The header of a recording.
+#[derive(Clone, Copy)]
+pub(crate) struct Header<'b> {
+    pub magic: &'b [u8],
+    pub cpus: u32,
+    pub formats: u32,
+    pub start: u64,
+    pub end: u64,
+}
+
+/// The system and the text of a format.
+#[derive(Clone, Copy)]
+pub(crate) struct FormatText<'b> {
+    pub system: &'b [u8],
+    pub text: &'b [u8],
+}
+
+/// The number of a CPU, and how many events it has.
+#[derive(Clone, Copy)]
+pub(crate) struct CpuHead {
+    pub number: u32,
+    pub events: u32,
+}
+
+/// An event, with its payload where it lies.
+#[derive(Clone, Copy)]
+pub(crate) struct EventBytes<'b> {
+    pub time: u64,
+    pub pid: u32,
+    pub tid: u32,
+    pub uid: u32,
+    pub gid: u32,
+    pub comm: [u8; 16],
+    pub payload: &'b [u8],
+}
+
+/// A header, and what follows it.
+#[tactic(auto, unfolding(crate::specs::Parts::header_at))]
+pub(crate) fn header_at(bytes: &[u8]) -> Option<(Header<'_>, &[u8])>
+    ensures { option_map (λ part. (header_part part.0, part.1.now)) result ≡ header_at bytes.now }
+{
+    let (magic, bytes) = bytes_at(bytes, 8)?;
+    let (cpus, bytes) = u32_at(bytes)?;
+    let (formats, bytes) = u32_at(bytes)?;
+    let (start, bytes) = u64_at(bytes)?;
+    let (end, rest) = u64_at(bytes)?;
+    let header = Header {
+        magic,
+        cpus,
+        formats,
+        start,
+        end,
+    };
+    Some((header, rest))
+}
+
+/// A format, and what follows it.
+#[tactic(auto, unfolding(crate::specs::Parts::format_at))]
+pub(crate) fn format_at(bytes: &[u8]) -> Option<(FormatText<'_>, &[u8])>
+    ensures { option_map (λ part. (format_part part.0, part.1.now)) result ≡ format_at bytes.now }
+{
+    let (system, bytes) = sized16_at(bytes)?;
+    let (text, rest) = sized32_at(bytes)?;
+    Some((FormatText { system, text }, rest))
+}
+
+/// The head of a CPU, and what follows it.
+#[tactic(auto, unfolding(crate::specs::Parts::cpu_at))]
+pub(crate) fn cpu_at(bytes: &[u8]) -> Option<(CpuHead, &[u8])>
+    ensures { option_map (λ part. (cpu_part part.0, part.1.now)) result ≡ cpu_at bytes.now }
+{
+    let (number, bytes) = u32_at(bytes)?;
+    let (events, rest) = u32_at(bytes)?;
+    Some((CpuHead { number, events }, rest))
+}
+
+/// Sixteen bytes, and what follows them.
+fn comm_at(bytes: &[u8]) -> Option<([u8; 16], &[u8])>
+    ensures { option_map (λ part. (part.0, part.1.now)) result ≡ bytes_at 16 bytes.now }
+{
+    if bytes.len() < 16 {
+        return None;
+    }
+    let mut comm = [0; 16];
+    comm.copy_from_slice(&bytes[..16]);
+    Some((comm, &bytes[16..]))
+}
+
+/// An event, and what follows it.
+#[tactic(auto, unfolding(crate::specs::Parts::event_at))]
+pub(crate) fn event_at(bytes: &[u8]) -> Option<(EventBytes<'_>, &[u8])>
+    ensures { option_map (λ part. (event_part part.0, part.1.now)) result ≡ event_at bytes.now }
+{
+    let (time, bytes) = u64_at(bytes)?;
+    let (pid, bytes) = u32_at(bytes)?;
+    let (tid, bytes) = u32_at(bytes)?;
+    let (uid, bytes) = u32_at(bytes)?;
+    let (gid, bytes) = u32_at(bytes)?;
+    let (comm, bytes) = comm_at(bytes)?;
+    let (payload, rest) = sized32_at(bytes)?;
+    let event = EventBytes {
+        time,
+        pid,
+        tid,
+        uid,
+        gid,
+        comm,
+        payload,
+    };
+    Some((event, rest))
+}

@@ -1,0 +1,54 @@
+// Reading a recording.
+ghost use Rattle.std.specs.Prelude.{◌≡◌, ◌≢◌, ◌⊎◌, IfOk, IfErr, Ok, Err};
+ghost use Rattle.rec_format.specs.declared.recording.Recording.{Recording};
+ghost use Rattle.rec_format.specs.declared.error.RecordingError.{RecordingError};
+ghost use Rattle.rec_format.specs.Recordings.{recording_bytes, IsValidRecording};
+ghost use Rattle.rec_format.specs.Faults.{IsRecordingFault};
+
+use crate::error::RecordingError;
+use crate::formats::{read_formats, read_header};
+use crate::recording::Recording;
+use crate::tracks::{Setting, read_tracks};
+use std::alloc::Global;
+
+/// The recording that the bytes spell.
+///
+/// The bytes are read once from the front, apart from looking up names and IDs in ordered tables. Memory
+/// is taken for what the bytes hold, never for what they announce.
+///
+/// # Errors
+///
+/// The first check that fails, in the order of the bytes, with its offset or places
+/// ([`RecordingError`]). [`RecordingError::Memory`] may come at any bytes.
+pub fn read_recording(alloc: Global, bytes: &[u8]) -> Result<Recording, RecordingError>
+    // What is read is valid, and the bytes are its spelling.
+    ensures valid { IfOk result IsValidRecording }
+    ensures spelled { IfOk result (λ recording. bytes.now ≡ recording_bytes recording) }
+    // A valid recording that the bytes spell is read, unless memory runs out.
+    ensures only { (recording : Recording) → IsValidRecording recording → bytes.now ≡ recording_bytes recording → (result ≡ Ok recording) ⊎ (result ≡ Err RecordingError.Memory) }
+    // Any other error is the first fault of the bytes.
+    ensures fault { IfErr result (λ e. e ≢ RecordingError.Memory → IsRecordingFault bytes.now e) }
+    // The first fault of the bytes is answered, unless memory runs out.
+    ensures refused { (e : RecordingError) → IsRecordingFault bytes.now e → (result ≡ Err e) ⊎ (result ≡ Err RecordingError.Memory) }
+{
+    let (header, rest) = read_header(bytes)?;
+    let whole = bytes.len() as u64;
+    let (table, rest) = read_formats(alloc, whole, header.formats, rest)?;
+    let setting = Setting {
+        whole,
+        start: header.start,
+        end: header.end,
+        formats: &table,
+    };
+    let (cpus, rest) = read_tracks(alloc, &setting, header.cpus, rest)?;
+    if !rest.is_empty() {
+        let offset = bytes.len() - rest.len();
+        return Err(RecordingError::TrailingBytes(offset as u64));
+    }
+    Ok(Recording {
+        start: header.start,
+        end: header.end,
+        formats: table.into_formats(),
+        cpus,
+    })
+}
