@@ -4,7 +4,11 @@
 pub mod code;
 mod count;
 mod judge;
+#[cfg(test)]
+mod made;
 mod port;
+#[cfg(test)]
+mod recording_tests;
 pub mod refusal;
 pub mod report;
 mod script;

@@ -1,0 +1,18 @@
+-- The texts that a line is made of.
+use Rattle.std.specs.Prelude.{ℕ, List, [], ◌++◌, codes, Option, Some, None, Bor}
+use Rattle.std.specs.Fmt.{decimal}
+use Rattle.std.specs.List.{flat_map}
+use Rattle.bt_top.specs.declared.tell.Line.{Line}
+
+-- texts, one after another
+abbrev pub joined : List (Bor (List ℕ)) → List ℕ
+joined texts = flat_map (λ text. text.now) texts
+
+-- the digits of a number, or nothing
+abbrev pub number_text : Option ℕ → List ℕ
+number_text None = []
+number_text (Some n) = decimal n
+
+-- a line with up to two numbers
+abbrev pub line_text : Line → List ℕ
+line_text line = line.head.now ++ (number_text line.first ++ (line.middle.now ++ (number_text line.second ++ codes "\n")))
