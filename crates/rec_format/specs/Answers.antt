@@ -14,6 +14,8 @@ use Rattle.tracefs_format.specs.Layouts.{IsLayoutOf}
 use Rattle.rec_format.specs.declared.error.RecordingError.{RecordingError}
 use Rattle.rec_format.specs.declared.error.RecordingError.TheVariants as fault
 use Rattle.rec_format.specs.declared.recording.Event.{Event}
+use Rattle.rec_format.specs.declared.recording.Recording.{Recording}
+use Rattle.rec_format.specs.Recordings.{recording_bytes, IsValidRecording}
 use Rattle.rec_format.specs.Parts.{FormatPart, EventPart}
 use Rattle.rec_format.specs.Checks.{is_system, is_same_event, tracepoint_name, format_of, format_with}
 
@@ -42,3 +44,8 @@ event_of e format = record { time = e.time; pid = e.pid; tid = e.tid; uid = e.ui
 -- the format whose ID the payload begins with has this place
 abbrev pub IsPlaced : List Format → List ℕ → ℕ → Type 0
 IsPlaced formats payload place = option_map (λ found. found.0) (format_with (little_number 2 payload) formats) ≡ Some place
+
+-- the recording is valid, and the bytes are its spelling
+pub record IsSpelled (bytes : List ℕ) (r : Recording) : Type 0 where
+  pub valid : IsValidRecording r
+  pub spelled : bytes ≡ recording_bytes r

@@ -4,6 +4,7 @@ ghost use Rattle.rec_format.specs.declared.recording.Recording.{Recording};
 ghost use Rattle.rec_format.specs.declared.error.RecordingError.{RecordingError};
 ghost use Rattle.rec_format.specs.Recordings.{recording_bytes, IsValidRecording};
 ghost use Rattle.rec_format.specs.Faults.{IsRecordingFault};
+ghost use Rattle.rec_format.specs.Answers.{Answers, IsSpelled};
 
 use crate::error::RecordingError;
 use crate::formats::{read_formats, read_header};
@@ -30,6 +31,13 @@ pub fn read_recording(alloc: Global, bytes: &[u8]) -> Result<Recording, Recordin
     ensures fault { IfErr result (λ e. e ≢ RecordingError.Memory → IsRecordingFault bytes.now e) }
     // The first fault of the bytes is answered, unless memory runs out.
     ensures refused { (e : RecordingError) → IsRecordingFault bytes.now e → (result ≡ Err e) ⊎ (result ≡ Err RecordingError.Memory) }
+{
+    read(alloc, bytes)
+}
+
+/// The recording that the bytes spell, or their first fault.
+fn read(alloc: Global, bytes: &[u8]) -> Result<Recording, RecordingError>
+    ensures { Answers result (IsSpelled bytes.now) (IsRecordingFault bytes.now) }
 {
     let (header, rest) = read_header(bytes)?;
     let whole = bytes.len() as u64;

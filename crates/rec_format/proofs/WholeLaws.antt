@@ -1,0 +1,111 @@
+-- The parts that were read make a recording.
+use Rattle.std.proofs.Common.{◌≡◌, ℕ, ◌<◌, ◌≤◌, Bool, true, false, cond, not, ◌||◌, Option, Some, None, List, [], ◌∷◌, ◌≢◌, ◌++◌, length, refl, ap, sym, ◌∙◌, append_assoc, arith}
+use Rattle.std.specs.Prelude.{nat_lt, codes, ◌==◌}
+use Rattle.std.specs.Str.{bytes_eq}
+use Rattle.std.proofs.lemmas.Bool.{ltb-false, eqb-false, eqb-true}
+use Rattle.std.proofs.lemmas.Slice.Eq.{bytes_eq-Decides}
+use Rattle.tracefs_format.specs.declared.format.Format.{Format}
+use Rattle.rec_format.specs.declared.error.RecordingError.{RecordingError}
+use Rattle.rec_format.specs.declared.error.RecordingError.TheVariants as fault
+use Rattle.rec_format.specs.declared.error.CountOf.TheVariants as count
+use Rattle.rec_format.specs.declared.recording.Recording.{Recording}
+use Rattle.rec_format.specs.declared.recording.CpuTrack.{CpuTrack}
+use Rattle.rec_format.specs.Parts.{HeaderPart, header_bytes}
+use Rattle.rec_format.specs.Checks.{header_fault}
+use Rattle.rec_format.specs.Recordings.{header_of, formats_bytes, tracks_bytes, recording_bytes, IsValidRecording}
+use Rattle.rec_format.specs.Faults.{HasHeader, HasFormats, HasTracks}
+
+record Bounds (h : HeaderPart) : Type 0 where
+  magic : h.magic ≡ codes "BTRACE01"
+  some_cpus : (h.cpus == 0) ≡ false
+  few_cpus : h.cpus ≤ 64
+  few_formats : h.formats ≤ 4096
+  span : h.start ≤ h.end
+
+or_parts : (a b : Bool) → (a || b) ≡ false → (a ≡ false) × (b ≡ false)
+or_parts true b h = absurd cc
+or_parts false b h = (refl, h)
+
+not_false : (b : Bool) → not b ≡ false → b ≡ true
+not_false true h = refl
+not_false false h = absurd cc
+
+same_magic : (m : List ℕ) → not (bytes_eq m (codes "BTRACE01")) ≡ false → m ≡ codes "BTRACE01"
+same_magic m h = (bytes_eq-Decides m (codes "BTRACE01")).0 (not_false (bytes_eq m (codes "BTRACE01")) h)
+
+-- a header without a fault is within its bounds
+header_bounds : (h : HeaderPart) → header_fault h ≡ None → Bounds h
+header_bounds h none =
+    let m : Bool = not (bytes_eq h.magic (codes "BTRACE01")) in
+    let c : Bool = h.cpus == 0 || nat_lt 64 h.cpus in
+    let f : Bool = nat_lt 4096 h.formats in
+    let s : Bool = nat_lt h.end h.start in
+    let on_span : Bool → Option RecordingError = λ b. cond b (Some (fault.Count count.Span)) None in
+    let on_formats : Bool → Option RecordingError = λ b. cond b (Some (fault.Count count.Formats)) (on_span s) in
+    let on_cpus : Bool → Option RecordingError = λ b. cond b (Some (fault.Count count.Cpus)) (on_formats f) in
+    let on_magic : Bool → Option RecordingError = λ b. cond b (Some fault.BadMagic) (on_cpus c) in
+    (elim m as (λ b. m ≡ b → on_magic b ≡ None → Bounds h) [
+      | true ↦ λ e g. absurd cc
+      | false ↦ λ e1 g1. (elim c as (λ b. c ≡ b → on_cpus b ≡ None → Bounds h) [
+          | true ↦ λ e g. absurd cc
+          | false ↦ λ e2 g2. (elim f as (λ b. f ≡ b → on_formats b ≡ None → Bounds h) [
+              | true ↦ λ e g. absurd cc
+              | false ↦ λ e3 g3. (elim s as (λ b. s ≡ b → on_span b ≡ None → Bounds h) [
+                  | true ↦ λ e g. absurd cc
+                  | false ↦ λ e4 g4.
+                      let cpus = or_parts (h.cpus == 0) (nat_lt 64 h.cpus) e2 in
+                      record { magic = same_magic h.magic e1; some_cpus = cpus.0; few_cpus = ltb-false 64 h.cpus cpus.1; few_formats = ltb-false 4096 h.formats e3; span = ltb-false h.end h.start e4 }
+                ]) refl g3
+            ]) refl g2
+        ]) refl g1
+    ]) refl none
+
+abbrev made_of : HeaderPart → List Format → List CpuTrack → Recording
+made_of h formats cpus = record { start = h.start; end = h.end; formats = formats; cpus = cpus }
+
+-- a header, its formats and its CPUs are a valid recording, and its spelling stands before the rest
+pub record Whole (bytes : List ℕ) (r : Recording) (rest : List ℕ) : Type 0 where
+  pub valid : IsValidRecording r
+  pub spelled : bytes ≡ recording_bytes r ++ rest
+
+same_header : (h : HeaderPart) (formats : List Format) (cpus : List CpuTrack) → h.magic ≡ codes "BTRACE01" → length formats ≡ h.formats → length cpus ≡ h.cpus → h ≡ header_of (made_of h formats cpus)
+same_header h formats cpus m f c =
+    ap (λ (x : List ℕ). record h { magic = x }) m
+    ∙ ap (λ (x : ℕ). record h { magic = codes "BTRACE01"; formats = x }) (sym f)
+    ∙ ap (λ (x : ℕ). record h { magic = codes "BTRACE01"; formats = length formats; cpus = x }) (sym c)
+
+regroup : (a b c d : List ℕ) → a ++ (b ++ (c ++ d)) ≡ (a ++ (b ++ c)) ++ d
+regroup a b c d = simp append_assoc
+
+pub whole_recording : (bytes after_header after_formats rest : List ℕ) (h : HeaderPart) (formats : List Format) (cpus : List CpuTrack) → HasHeader bytes h after_header → HasFormats h.formats after_header formats after_formats
+    → HasTracks formats h.start h.end h.cpus after_formats cpus rest → Whole bytes (record { start = h.start; end = h.end; formats = formats; cpus = cpus }) rest
+whole_recording bytes after_header after_formats rest h formats cpus header fs cs =
+    let b = header_bounds h header.passes in
+    let r : Recording = made_of h formats cpus in
+    let some : 1 ≤ length cpus = let e = eqb-false h.cpus 0 b.some_cpus in omega (arith, cs.counted, e) in
+    record {
+      valid = record {
+        start = header.is_whole.start;
+        end = header.is_whole.end;
+        span = b.span;
+        some_cpus = some;
+        few_cpus = omega (arith, cs.counted, b.few_cpus);
+        few_formats = omega (arith, fs.counted, b.few_formats);
+        formats = fs.pass;
+        cpus = cs.pass;
+      };
+      spelled = header.spelled
+          ∙ ap (λ (l : List ℕ). header_bytes h ++ l) (fs.spelled ∙ ap (λ (l : List ℕ). formats_bytes formats ++ l) cs.spelled)
+          ∙ ap (λ (g : HeaderPart). header_bytes g ++ (formats_bytes formats ++ (tracks_bytes cpus ++ rest))) (same_header h formats cpus b.magic fs.counted cs.counted)
+          ∙ regroup (header_bytes (header_of r)) (formats_bytes formats) (tracks_bytes cpus) rest;
+    }
+
+-- ---- what is left
+
+pub nothing_left : (rest : List ℕ) → true ≡ (length rest == 0) → rest ≡ []
+nothing_left [] h = refl
+nothing_left (b ∷ rest) h = let none = eqb-true (length (b ∷ rest)) 0 (sym h) in absurd (omega arith)
+
+pub something_left : (rest : List ℕ) → false ≡ (length rest == 0) → rest ≢ []
+something_left [] h e = cc
+something_left (b ∷ rest) h e = cc
