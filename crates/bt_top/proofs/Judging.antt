@@ -1,6 +1,6 @@
 -- What the bytes that were read say of those that the shelf tells.
 use Rattle.std.proofs.Common.{◌≡◌, ℕ, List, subst, refl, sym, ◌∙◌}
-use Rattle.std.specs.Prelude.{Option, Some, None, Result, Ok, Err, IfErr, IfSome}
+use Rattle.std.specs.Prelude.{Option, Some, None, Result, Ok, Err, IfOk, IfErr, IfSome}
 use Rattle.bt_top.specs.declared.refusal.Refusal.{Refusal}
 use Rattle.bt_top.specs.declared.refusal.Refusal.TheVariants.{Usage, ReadFault, TooLong, BadRecording, Early, WriteFault, Memory}
 use Rattle.bt_top.specs.declared.judge.Counting.{Counting}
@@ -40,3 +40,8 @@ counts_as_told script recording s r counting sized asked first second = record {
     on_recording : (o : Option (List ℕ)) → IfSome o (λ told. r ≡ told) → IfSome o (λ bytes. HasPayloads bytes counting.format (payloads_of counting.format counting.recording))
     on_recording None e = tt
     on_recording (Some bytes) e = subst (λ (x : List ℕ). HasPayloads x counting.format (payloads_of counting.format counting.recording)) e here
+
+pub judged_as_told : (script recording : Option (List ℕ)) (s r : List ℕ) (answer : Result Counting Refusal) → AreSized s r → IfSome script (λ told. s ≡ told) → IfSome recording (λ told. r ≡ told)
+    → IfOk answer (λ counting. IsAskedBy s r counting) → IfOk answer (λ counting. CountsEvents script recording (payloads_of counting.format counting.recording))
+judged_as_told script recording s r (Ok counting) sized first second asked = counts_as_told script recording s r counting sized asked first second
+judged_as_told script recording s r (Err refusal) sized first second asked = tt

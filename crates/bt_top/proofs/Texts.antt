@@ -1,37 +1,50 @@
 -- Texts that are written one after another.
-use Rattle.std.proofs.Common.{◌≡◌, ℕ, ◌+◌, ◌<◌, ◌≤◌, List, [], ◌∷◌, ◌++◌, length, take, drop, get_or, sym, ap, subst, ◌∙◌, arith, append-nil, length-append, Bor}
-use Rattle.std.specs.Prelude.{Option, Some, None, Result, Ok, Err, OnErr}
+use Rattle.std.proofs.Common.{◌≡◌, ℕ, ◌≤◌, List, ◌++◌, length, take, sym, ap, subst, ◌∙◌, arith, append_assoc, length-append, codes}
+use Rattle.std.specs.Prelude.{Option, Err}
 use Rattle.std.specs.Io.KnownBytes.{Appends}
-use Rattle.std.specs.List.{flat_map}
-use Rattle.std.proofs.lemmas.List.{take_more, take-append-drop, take-append-le}
-use Rattle.std.proofs.lemmas.List.Concat.{flat_map-append}
+use Rattle.std.proofs.lemmas.List.{take-append-le}
 use Rattle.bt_io.specs.Taken.{AppendsPart}
-use Rattle.bt_io.specs.Faults.{Rose}
 use Rattle.bt_io.proofs.Appending.{Appends-then, AppendsPart-after}
-use Rattle.bt_top.specs.Lines.{joined}
-
--- one text more
-pub joined-more : (texts : List (Bor (List ℕ))) (i : ℕ) (d : Bor (List ℕ)) → i < length texts → joined (take (i + 1) texts) ≡ joined (take i texts) ++ (get_or texts i d).now
-joined-more texts i d inside =
-    ap joined (take_more texts i d inside)
-    ∙ flat_map-append (λ (t : Bor (List ℕ)). t.now) (take i texts) (get_or texts i d ∷ [])
-    ∙ ap (λ l. joined (take i texts) ++ l) (append-nil (get_or texts i d).now)
-
--- the first texts are a front of all
-pub joined-front : (texts : List (Bor (List ℕ))) (i : ℕ) → joined texts ≡ joined (take i texts) ++ joined (drop i texts)
-joined-front texts i = ap joined (sym (take-append-drop i texts)) ∙ flat_map-append (λ (t : Bor (List ℕ)). t.now) (take i texts) (drop i texts)
+use Rattle.bt_top.specs.declared.tell.Line.{Line}
+use Rattle.bt_top.specs.Lines.{number_text, line_text}
 
 -- a part of a front is a part of the whole
-AppendsPart-front : (a b : Option (List ℕ)) (xs ys : List ℕ) → AppendsPart a b xs → AppendsPart a b (xs ++ ys)
+pub AppendsPart-front : (a b : Option (List ℕ)) (xs ys : List ℕ) → AppendsPart a b xs → AppendsPart a b (xs ++ ys)
 AppendsPart-front a b xs ys part = record {
   count = part.count;
   within = omega (arith, length-append xs ys, part.within);
   appends = subst (λ l. Appends a b l) (sym (take-append-le part.count xs ys part.within)) part.appends;
 }
 
--- a text of which a part was written, behind those before it
-pub part_of_texts : {E : Type 0} (a b c : Option (List ℕ)) (texts : List (Bor (List ℕ))) (i : ℕ) (d : Bor (List ℕ)) (error : E) → i < length texts → Appends a b (joined (take i texts)) → AppendsPart b c (get_or texts i d).now → AppendsPart a c (joined texts)
-part_of_texts a b c texts i d error inside before part =
-    let front : AppendsPart a c (joined (take i texts) ++ (get_or texts i d).now) = AppendsPart-after a b c (joined (take i texts)) (get_or texts i d).now (Err error) before part in
-    let more : AppendsPart a c (joined (take (i + 1) texts)) = subst (λ l. AppendsPart a c l) (sym (joined-more texts i d inside)) front in
-    subst (λ l. AppendsPart a c l) (sym (joined-front texts (i + 1))) (AppendsPart-front a c (joined (take (i + 1) texts)) (joined (drop (i + 1) texts)) more)
+-- the four parts that a line is written in
+abbrev pub parts_of : List ℕ → Line → List ℕ
+parts_of name line = name ++ ((line.head.now ++ number_text line.first) ++ ((line.middle.now ++ number_text line.second) ++ codes "\n"))
+
+parts_are : (name : List ℕ) (line : Line) → parts_of name line ≡ name ++ line_text line
+parts_are name line =
+    ap (λ l. name ++ l)
+    (append_assoc line.head.now (number_text line.first) ((line.middle.now ++ number_text line.second) ++ codes "\n")
+    ∙ ap (λ l. line.head.now ++ (number_text line.first ++ l)) (append_assoc line.middle.now (number_text line.second) (codes "\n")))
+
+after : (a b c : Option (List ℕ)) (xs ys : List ℕ) → Appends a b xs → AppendsPart b c ys → AppendsPart a c (xs ++ ys)
+after a b c xs ys first second = AppendsPart-after a b c xs ys (Err 0) first second
+
+-- where the writing stops
+pub stops_in_name : (a b : Option (List ℕ)) (name : List ℕ) (line : Line) → AppendsPart a b name → AppendsPart a b (name ++ line_text line)
+stops_in_name a b name line part = AppendsPart-front a b name (line_text line) part
+
+pub stops_in_head : (a b c : Option (List ℕ)) (name : List ℕ) (line : Line) → Appends a b name → AppendsPart b c (line.head.now ++ number_text line.first) → AppendsPart a c (name ++ line_text line)
+stops_in_head a b c name line first part =
+    subst (λ l. AppendsPart a c l) (parts_are name line) (after a b c name _ first (AppendsPart-front b c _ _ part))
+
+pub stops_in_middle : (a b c d : Option (List ℕ)) (name : List ℕ) (line : Line) → Appends a b name → Appends b c (line.head.now ++ number_text line.first) → AppendsPart c d (line.middle.now ++ number_text line.second) → AppendsPart a d (name ++ line_text line)
+stops_in_middle a b c d name line first head part =
+    subst (λ l. AppendsPart a d l) (parts_are name line) (after a b d name _ first (after b c d _ _ head (AppendsPart-front c d _ _ part)))
+
+pub stops_at_end : (a b c d e : Option (List ℕ)) (name : List ℕ) (line : Line) → Appends a b name → Appends b c (line.head.now ++ number_text line.first) → Appends c d (line.middle.now ++ number_text line.second) → AppendsPart d e (codes "\n") → AppendsPart a e (name ++ line_text line)
+stops_at_end a b c d e name line first head middle part =
+    subst (λ l. AppendsPart a e l) (parts_are name line) (after a b e name _ first (after b c e _ _ head (after c d e _ _ middle part)))
+
+pub writes_all : (a b c d e : Option (List ℕ)) (name : List ℕ) (line : Line) → Appends a b name → Appends b c (line.head.now ++ number_text line.first) → Appends c d (line.middle.now ++ number_text line.second) → Appends d e (codes "\n") → Appends a e (name ++ line_text line)
+writes_all a b c d e name line first head middle end =
+    subst (λ l. Appends a e l) (parts_are name line) (Appends-then a b e name _ first (Appends-then b c e _ _ head (Appends-then c d e _ _ middle end)))

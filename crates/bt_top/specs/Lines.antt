@@ -1,12 +1,8 @@
 -- The texts that a line is made of.
-use Rattle.std.specs.Prelude.{ℕ, List, [], ◌++◌, codes, Option, Some, None, Bor}
+use Rattle.std.specs.Prelude.{ℕ, List, [], ◌++◌, codes, Option, Some, None}
 use Rattle.std.specs.Fmt.{decimal}
-use Rattle.std.specs.List.{flat_map}
 use Rattle.bt_top.specs.declared.tell.Line.{Line}
 
--- texts, one after another
-abbrev pub joined : List (Bor (List ℕ)) → List ℕ
-joined texts = flat_map (λ text. text.now) texts
 
 -- the digits of a number, or nothing
 abbrev pub number_text : Option ℕ → List ℕ

@@ -4,7 +4,7 @@ ghost use Rattle.std.specs.Fmt.{decimal};
 ghost use Rattle.std.specs.Io.KnownBytes.{Appends};
 ghost use Rattle.bt_io.specs.Faults.{Rose};
 ghost use Rattle.bt_io.specs.Taken.{AppendsPart};
-ghost use Rattle.bt_top.specs.Lines.{joined, number_text, line_text};
+ghost use Rattle.bt_top.specs.Lines.{number_text, line_text};
 ghost use Rattle.bt_top.specs.Refusals.{usage_line, fault_text, line_of, count_word, rule_text, name_of};
 ghost use Rattle.bt_top.specs.Serve.{WritesUnless};
 ghost use Rattle.bt_top.specs.Words.{named_by};
@@ -162,16 +162,30 @@ fn digits(buffer: &mut Buffer, number: Option<u64>) -> &str
     }
 }
 
-/// Writes texts one after another, or a prefix of them all where the sink fails.
-fn write_texts<E: Sink>(err: &mut E, texts: &[&str]) -> Result<(), SinkFailed>
-    ensures whole { OnOk result (Appends (E.taken err.old) (E.taken err.new) (joined texts.now)) }
-    ensures part { OnErr result (AppendsPart (E.taken err.old) (E.taken err.new) (joined texts.now)) }
+/// Writes one text after another, or a prefix of the two where the sink fails.
+fn write_both<E: Sink>(err: &mut E, first: &str, second: &str) -> Result<(), SinkFailed>
+    ensures whole { OnOk result (Appends (E.taken err.old) (E.taken err.new) (first.now ++ second.now)) }
+    ensures part { OnErr result (AppendsPart (E.taken err.old) (E.taken err.new) (first.now ++ second.now)) }
     ensures failed { OnErr result (Rose (E.faults err.old) (E.faults err.new)) }
+    ensures later { E.faults err.old ≤ E.faults err.new }
 {
-    for text in texts {
-        write_all(err, text.as_bytes())?;
-    }
-    Ok(())
+    write_all(err, first.as_bytes())?;
+    write_all(err, second.as_bytes())
+}
+
+/// Writes a text and the digits of a number behind it, or a prefix of both where the sink fails.
+fn write_numbered<E: Sink>(
+    err: &mut E,
+    text: &str,
+    number: Option<u64>,
+) -> Result<(), SinkFailed>
+    ensures whole { OnOk result (Appends (E.taken err.old) (E.taken err.new) (text.now ++ number_text number)) }
+    ensures part { OnErr result (AppendsPart (E.taken err.old) (E.taken err.new) (text.now ++ number_text number)) }
+    ensures failed { OnErr result (Rose (E.faults err.old) (E.faults err.new)) }
+    ensures later { E.faults err.old ≤ E.faults err.new }
+{
+    let mut buffer = Buffer::new();
+    write_both(err, text, digits(&mut buffer, number))
 }
 
 /// Writes a line behind a name, or a prefix of both where the sink fails.
@@ -180,11 +194,10 @@ fn write_line<E: Sink>(err: &mut E, name: &str, line: Line) -> Result<(), SinkFa
     ensures part { OnErr result (AppendsPart (E.taken err.old) (E.taken err.new) (name.now ++ line_text line)) }
     ensures failed { OnErr result (Rose (E.faults err.old) (E.faults err.new)) }
 {
-    let mut first = Buffer::new();
-    let mut second = Buffer::new();
-    let first = digits(&mut first, line.first);
-    let second = digits(&mut second, line.second);
-    write_texts(err, &[name, line.head, first, line.middle, second, "\n"])
+    write_all(err, name.as_bytes())?;
+    write_numbered(err, line.head, line.first)?;
+    write_numbered(err, line.middle, line.second)?;
+    write_all(err, b"\n")
 }
 
 /// Writes the line of a refusal, or a prefix of it where the sink fails.
