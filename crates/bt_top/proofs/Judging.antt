@@ -1,5 +1,5 @@
 -- What the bytes that were read say of those that the shelf tells.
-use Rattle.std.proofs.Common.{◌≡◌, ℕ, List, subst, refl, sym, ◌∙◌}
+use Rattle.std.proofs.Common.{◌≡◌, ℕ, List, subst, refl}
 use Rattle.std.specs.Prelude.{Option, Some, None, Result, Ok, Err, IfOk, IfErr, IfSome}
 use Rattle.bt_top.specs.declared.refusal.Refusal.{Refusal}
 use Rattle.bt_top.specs.declared.refusal.Refusal.TheVariants.{Usage, ReadFault, TooLong, BadRecording, Early, WriteFault, Memory}

@@ -1,16 +1,21 @@
 -- The payloads of a format's events, event by event.
-use Rattle.std.proofs.Common.{◌≡◌, ◌≢◌, ℕ, zero, suc, ◌+◌, ◌<◌, ◌≤◌, ◌^◌, Bool, true, false, List, [], ◌∷◌, ◌++◌, length, take, get_or, refl, sym, ap, subst, ◌∙◌, arith, append-nil, inl, inr}
-use Rattle.std.specs.Prelude.{Some, map, filter, nat_eq, slice_get, not}
+use Rattle.std.proofs.Common.{◌≡◌, ℕ, zero, suc, ◌+◌, ◌<◌, ◌≤◌, ◌^◌, Bool, true, false, List, [], ◌∷◌, ◌++◌, length, take, get_or, refl, sym, ap, subst, ◌∙◌, arith, append-nil, length-append}
+use Rattle.std.specs.Prelude.{IsTrue, Some, Ok, map, filter, nat_eq, slice_get, not}
 use Rattle.std.specs.List.{flat_map, AllByRecursion}
 use Rattle.std.proofs.lemmas.Bool.{eq-eqb, eqb-true}
-use Rattle.std.proofs.lemmas.List.{take_more, map-append, length-map}
+use Rattle.std.proofs.lemmas.List.{take_more, map-append, length-map, length-take}
 use Rattle.std.proofs.lemmas.List.Elements.{filter-append}
 use Rattle.std.proofs.lemmas.List.Filters.{length-filter_both}
 use Rattle.rec_format.specs.declared.recording.Recording.{Recording}
 use Rattle.rec_format.specs.declared.recording.CpuTrack.{CpuTrack}
 use Rattle.rec_format.specs.declared.recording.Event.{Event}
 use Rattle.rec_format.specs.Recordings.{IsValidRecording, IsEvent, AreTracks}
-use Rattle.bt_top.specs.Count.{all_events, payloads_at}
+use Rattle.bt_core.specs.declared.step.Step.{Step}
+use Rattle.interaction.specs.Interaction.{Whole}
+use Rattle.bt_top.specs.Code.{are_stamped}
+use Rattle.bt_top.specs.Runs.{event_run, IsSumOfRuns}
+use Rattle.bt_top.specs.Count.{all_events, payloads_at, CountsTo}
+use Rattle.bt_top.proofs.EventRuns.{CountsTo-run, IsSumOfRuns-push}
 
 payloads_at-append : (place : ℕ) (xs ys : List Event) → payloads_at place (xs ++ ys) ≡ payloads_at place xs ++ payloads_at place ys
 payloads_at-append place xs ys =
@@ -48,6 +53,37 @@ length-payloads_at-le place events =
     let mapped : length (payloads_at place events) ≡ length (filter (λ (e : Event). nat_eq e.format place) events) = length-map (filter (λ (e : Event). nat_eq e.format place) events) (λ (e : Event). e.payload) in
     let split : length (filter (λ (e : Event). nat_eq e.format place) events) + length (filter (λ (e : Event). not (nat_eq e.format place)) events) ≡ length events = length-filter_both (λ (e : Event). nat_eq e.format place) (λ (e : Event). not (nat_eq e.format place)) (λ e. refl) events in
     omega arith
+
+-- nor before a place
+pub few_so_far : (place : ℕ) (events : List Event) (i : ℕ) → length events ≤ 1048576 → length (payloads_at place (take i events)) ≤ 1048576
+few_so_far place events i few = omega (arith, length-payloads_at-le place (take i events), length-take i events)
+
+-- the events before a place were counted
+pub record IsCountedTo (place : ℕ) (events : List Event) (i : ℕ) (steps : List Step) (instructions : ℕ) : Type 0 where
+  pub counts : CountsTo (length (payloads_at place (take i events))) steps
+  pub sums : IsSumOfRuns (payloads_at place (take i events)) steps instructions
+
+-- one event of the format more
+pub counted_own : (place : ℕ) (events : List Event) (i : ℕ) (e d : Event) (old new : List Step) (sum count : ℕ) → i < length events → e ≡ get_or events i d → e.format ≡ place
+    → CountsTo (length (payloads_at place (take i events))) old → IsSumOfRuns (payloads_at place (take i events)) old sum
+    → IsTrue (are_stamped 1 new) → Whole (event_run e.payload) old new (Ok (record { instructions = count })) → IsCountedTo place events (i + 1) new (sum + count)
+counted_own place events i e d old new sum count inside is same counts sums stamped w =
+    let more : payloads_at place (take (i + 1) events) ≡ payloads_at place (take i events) ++ e.payload ∷ [] = payloads_at-more place events i e d inside is same in
+    let long : length (payloads_at place (take i events)) + 1 ≡ length (payloads_at place (take (i + 1) events)) = omega (arith, ap (λ (l : List (List ℕ)). length l) more, length-append (payloads_at place (take i events)) (e.payload ∷ [])) in
+    record {
+      counts = subst (λ (n : ℕ). CountsTo n new) long (CountsTo-run (length (payloads_at place (take i events))) e.payload old new count counts stamped w);
+      sums = subst (λ (l : List (List ℕ)). IsSumOfRuns l new (sum + count)) (sym more) (IsSumOfRuns-push (payloads_at place (take i events)) e.payload old new sum count sums w);
+    }
+
+-- one event of another format more
+pub counted_other : (place : ℕ) (events : List Event) (i : ℕ) (e d : Event) (steps : List Step) (sum : ℕ) → i < length events → e ≡ get_or events i d → (e.format ≡ place → ⊥)
+    → CountsTo (length (payloads_at place (take i events))) steps → IsSumOfRuns (payloads_at place (take i events)) steps sum → IsCountedTo place events (i + 1) steps sum
+counted_other place events i e d steps sum inside is differs counts sums =
+    let same : payloads_at place (take i events) ≡ payloads_at place (take (i + 1) events) = sym (payloads_at-same place events i e d inside is differs) in
+    record {
+      counts = subst (λ (l : List (List ℕ)). CountsTo (length l) steps) same counts;
+      sums = subst (λ (l : List (List ℕ)). IsSumOfRuns l steps sum) same sums;
+    }
 
 -- the events of the only CPU
 pub all_events-one : (r : Recording) (track : CpuTrack) → r.cpus ≡ track ∷ [] → all_events r ≡ track.events

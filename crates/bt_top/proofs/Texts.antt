@@ -1,6 +1,6 @@
 -- Texts that are written one after another.
-use Rattle.std.proofs.Common.{◌≡◌, ℕ, ◌≤◌, List, ◌++◌, length, take, sym, ap, subst, ◌∙◌, arith, append_assoc, length-append, codes}
-use Rattle.std.specs.Prelude.{Option, Err}
+use Rattle.std.proofs.Common.{◌≡◌, ℕ, List, ◌++◌, sym, ap, subst, ◌∙◌, arith, append_assoc, length-append, codes}
+use Rattle.std.specs.Prelude.{Option, Result, Ok, Err, OnErr}
 use Rattle.std.specs.Io.KnownBytes.{Appends}
 use Rattle.std.proofs.lemmas.List.{take-append-le}
 use Rattle.bt_io.specs.Taken.{AppendsPart}
@@ -27,7 +27,15 @@ parts_are name line =
     ∙ ap (λ l. line.head.now ++ (number_text line.first ++ l)) (append_assoc line.middle.now (number_text line.second) (codes "\n")))
 
 after : (a b c : Option (List ℕ)) (xs ys : List ℕ) → Appends a b xs → AppendsPart b c ys → AppendsPart a c (xs ++ ys)
-after a b c xs ys first second = AppendsPart-after a b c xs ys (Err 0) first second
+after a b c xs ys first second = AppendsPart-after {E = Unit {0}} a b c xs ys (Err tt) first second
+
+pub on_err : {T E : Type 0} (r : Result T E) (P : Type 0) → P → OnErr r P
+on_err (Ok x) P p = tt
+on_err (Err e) P p = p
+
+pub on_err-map : {T E : Type 0} (r : Result T E) (P Q : Type 0) → (P → Q) → OnErr r P → OnErr r Q
+on_err-map (Ok x) P Q f p = tt
+on_err-map (Err e) P Q f p = f p
 
 -- where the writing stops
 pub stops_in_name : (a b : Option (List ℕ)) (name : List ℕ) (line : Line) → AppendsPart a b name → AppendsPart a b (name ++ line_text line)

@@ -1,4 +1,4 @@
-use Rattle.std.proofs.Common.{◌≡◌, ◌≤◌, length, ap, arith}
+use Rattle.std.proofs.Common.{arith}
 use Rattle.bt_top.proofs.Due.{bytes_refused, more_cpus, other_script, nothing_refused, refused_bytes}
 use Rattle.bt_top.proofs.judge.judge.Goals as goal
 
