@@ -3,7 +3,6 @@ use Rattle.std.specs.Prelude.{ℕ, List, [], ◌++◌, codes, Option, Some, None
 use Rattle.std.specs.Fmt.{decimal}
 use Rattle.bt_top.specs.declared.tell.Line.{Line}
 
-
 -- the digits of a number, or nothing
 abbrev pub number_text : Option ℕ → List ℕ
 number_text None = []

@@ -54,11 +54,7 @@ fn only_events(recording: &Recording) -> &[Event]
 
 /// Runs the code for each event of the format at this place, and answers the steps of the runs, and how
 /// many instructions they took in all.
-fn run_events(
-    alloc: Global,
-    events: &[Event],
-    format: usize,
-) -> Result<(Items<Step>, u64), Memory>
+fn run_events(alloc: Global, events: &[Event], format: usize) -> Result<(Items<Step>, u64), Memory>
     requires few { length events.now ≤ 1048576 }
     requires short { (k : ℕ) (event : Event) → slice_get events.now k ≡ Some event → length event.payload < 2 ^ 32 }
     ensures steps { IfOk result (λ ran. CountsTo (length (payloads_at format events.now)) ran.0) }

@@ -55,9 +55,7 @@ pub fn add_cpu(bytes: &mut Vec<u8>, number: u32, events: u32) -> Result<(), Memo
 /// Adds an event of the thread `bash`.
 pub fn add_event(bytes: &mut Vec<u8>, time: u64, payload: &[u8]) -> Result<(), Memory> {
     bytes.extend_from_slice(&time.to_le_bytes())?;
-    bytes.extend_from_slice(
-        b"\x01\0\0\0\x01\0\0\0\0\0\0\0\0\0\0\0bash\0\0\0\0\0\0\0\0\0\0\0\0",
-    )?;
+    bytes.extend_from_slice(b"\x01\0\0\0\x01\0\0\0\0\0\0\0\0\0\0\0bash\0\0\0\0\0\0\0\0\0\0\0\0")?;
     bytes.extend_from_slice(&(payload.len().min(0xffff) as u32).to_le_bytes())?;
     bytes.extend_from_slice(payload)?;
     Ok(())

@@ -76,9 +76,21 @@ fn a_part_that_is_cut_short_is_told_before_its_checks(rt: HostRuntime) -> Result
 fn a_short_payload_is_told_with_its_event(rt: HostRuntime) -> Result<(), Fail> {
     let alloc = rt.alloc();
     let short = four_entries(alloc, 63)?;
-    assert!(rt; is_bad(alloc, short, b"r.bin: C9 short payload in event 0 of cpu 0\n")?);
+    assert!(rt;
+        is_bad(
+            alloc,
+            short,
+            b"r.bin: C9 short payload in event 0 of cpu 0\n"
+        )?
+    );
     let one_byte = with_event(alloc, 5, b"\x07")?;
-    assert!(rt; is_bad(alloc, one_byte, b"r.bin: C9 short payload in event 0 of cpu 0\n")?);
+    assert!(rt;
+        is_bad(
+            alloc,
+            one_byte,
+            b"r.bin: C9 short payload in event 0 of cpu 0\n"
+        )?
+    );
     Ok(())
 }
 
@@ -121,11 +133,7 @@ fn a_bad_field_is_told_with_its_line(rt: HostRuntime) -> Result<(), Fail> {
 }
 
 /// A recording of two formats, up to their end.
-fn with_two_formats(
-    alloc: Global,
-    system: &[u8],
-    text: &[u8],
-) -> Result<Vec<u8>, Memory> {
+fn with_two_formats(alloc: Global, system: &[u8], text: &[u8]) -> Result<Vec<u8>, Memory> {
     let mut bytes = header(alloc, 1, 2, 0, 100)?;
     add_format(&mut bytes, b"t", E)?;
     add_format(&mut bytes, system, text)?;
@@ -135,7 +143,8 @@ fn with_two_formats(
 #[test]
 fn a_second_format_is_told_with_its_place(rt: HostRuntime) -> Result<(), Fail> {
     let alloc = rt.alloc();
-    let fields = b"name: f\nID: 8\nformat:\nfield:int v; offset:0; size:4; signed:1;\nfield:int v; offset:4; size:4; signed:1;\n";
+    let fields =
+        b"name: f\nID: 8\nformat:\nfield:int v; offset:0; size:4; signed:1;\nfield:int v; offset:4; size:4; signed:1;\n";
     let twice = with_two_formats(alloc, b"t", fields)?;
     assert!(rt; is_bad(alloc, twice, b"r.bin: C4 format 1: F5 same name line 5\n")?);
     let id = with_two_formats(alloc, b"t", b"name: f\nID: 7\nformat:\n")?;

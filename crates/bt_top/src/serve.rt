@@ -21,7 +21,11 @@ use bt_io::sink::{Sink, write_all};
 use std::alloc::Global;
 
 /// Reads both files, and answers what is to be counted.
-fn read_files<S: Shelf>(alloc: Global, named: &Named<'_>, shelf: &mut S) -> Result<Counting, Refusal>
+fn read_files<S: Shelf>(
+    alloc: Global,
+    named: &Named<'_>,
+    shelf: &mut S,
+) -> Result<Counting, Refusal>
     ensures valid { IfOk result (λ counting. IsValidRecording counting.recording) }
     ensures one_cpu { IfOk result (λ counting. length counting.recording.cpus ≡ 1) }
     ensures counted { IfOk result (λ counting. CountsEvents (S.held shelf.old named.now.script.now) (S.held shelf.old named.now.recording.now) (payloads_of counting.format counting.recording)) }

@@ -174,11 +174,7 @@ fn write_both<E: Sink>(err: &mut E, first: &str, second: &str) -> Result<(), Sin
 }
 
 /// Writes a text and the digits of a number behind it, or a prefix of both where the sink fails.
-fn write_numbered<E: Sink>(
-    err: &mut E,
-    text: &str,
-    number: Option<u64>,
-) -> Result<(), SinkFailed>
+fn write_numbered<E: Sink>(err: &mut E, text: &str, number: Option<u64>) -> Result<(), SinkFailed>
     ensures whole { OnOk result (Appends (E.taken err.old) (E.taken err.new) (text.now ++ number_text number)) }
     ensures part { OnErr result (AppendsPart (E.taken err.old) (E.taken err.new) (text.now ++ number_text number)) }
     ensures failed { OnErr result (Rose (E.faults err.old) (E.faults err.new)) }

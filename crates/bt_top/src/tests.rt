@@ -53,7 +53,16 @@ fn a_recording_is_refused_before_its_script(rt: HostRuntime) -> Result<(), Fail>
     let alloc = rt.alloc();
     let mut cut = three_entries(alloc)?;
     cut.truncate(795);
-    assert!(rt; run(alloc, b"BEGIN { }", cut, 3, b"", b"r.bin: C1 truncated at byte 795\n")?);
+    assert!(rt;
+        run(
+            alloc,
+            b"BEGIN { }",
+            cut,
+            3,
+            b"",
+            b"r.bin: C1 truncated at byte 795\n"
+        )?
+    );
     let mut longer = three_entries(alloc)?;
     longer.push(0).map_err(Memory::from)?;
     assert!(rt;
