@@ -7,3 +7,4 @@ pub mod Recordings
 pub mod TableLaws
 pub mod UniqueLaws
 pub mod WholeLaws
+pub mod WriteLaws

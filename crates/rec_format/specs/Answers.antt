@@ -1,6 +1,6 @@
 -- What a reader answers.
-use Rattle.std.specs.Prelude.{◌≡◌, ◌≢◌, ◌++◌, ◌∷◌, ℕ, List, [], Option, Some, Result, Ok, Err, true, false, length}
-use Rattle.std.specs.List.{list_any}
+use Rattle.std.specs.Prelude.{◌≡◌, ◌≢◌, ◌<◌, ◌^◌, ◌++◌, ◌∷◌, ℕ, List, [], Option, Some, Result, Ok, Err, true, false, length}
+use Rattle.std.specs.List.{list_any, AllByRecursion}
 use Rattle.std.specs.Ordering.{nat_cmp}
 use Rattle.std.specs.Option.{option_map}
 use Rattle.std.specs.Str.{bytes_eq}
@@ -13,10 +13,11 @@ use Rattle.tracefs_format.specs.declared.layout.Layout.{Layout}
 use Rattle.tracefs_format.specs.Layouts.{IsLayoutOf}
 use Rattle.rec_format.specs.declared.error.RecordingError.{RecordingError}
 use Rattle.rec_format.specs.declared.error.RecordingError.TheVariants as fault
+use Rattle.rec_format.specs.declared.recording.CpuTrack.{CpuTrack}
 use Rattle.rec_format.specs.declared.recording.Event.{Event}
 use Rattle.rec_format.specs.declared.recording.Recording.{Recording}
-use Rattle.rec_format.specs.Recordings.{recording_bytes, IsValidRecording}
-use Rattle.rec_format.specs.Parts.{FormatPart, EventPart}
+use Rattle.rec_format.specs.Recordings.{part_of_event, recording_bytes, IsValidRecording}
+use Rattle.rec_format.specs.Parts.{FormatPart, EventPart, IsEventPart}
 use Rattle.rec_format.specs.Checks.{is_system, is_same_event, tracepoint_name, format_of, format_with}
 
 -- a value of which the one holds, or a fault of which the other holds; and at any time want of memory
@@ -49,3 +50,12 @@ IsPlaced formats payload place = option_map (λ found. found.0) (format_with (li
 pub record IsSpelled (bytes : List ℕ) (r : Recording) : Type 0 where
   pub valid : IsValidRecording r
   pub spelled : bytes ≡ recording_bytes r
+
+-- what a format has to be so that it can be written: its lengths fit their bytes
+pub record CanWriteFormat (f : Format) : Type 0 where
+  pub system : length f.system < 2 ^ 16
+  pub text : length f.text < 2 ^ 32
+
+pub record CanWriteTrack (c : CpuTrack) : Type 0 where
+  pub counted : length c.events < 2 ^ 32
+  pub events : AllByRecursion (λ e. IsEventPart (part_of_event e)) c.events

@@ -2,11 +2,14 @@
 #![tactic(auto)]
 
 mod check;
+#[cfg(test)]
+mod container_tests;
 pub mod early;
 pub mod error;
 mod event;
 mod formats;
 mod head;
+pub mod laws;
 mod number;
 mod part;
 pub mod reading;
@@ -16,3 +19,4 @@ mod table;
 #[cfg(test)]
 mod tests;
 mod tracks;
+pub mod writing;

@@ -1,0 +1,70 @@
+-- What was written so far, and a part more.
+use Rattle.std.proofs.Common.{◌≡◌, ℕ, ◌+◌, ◌<◌, ◌≤◌, ◌^◌, Result, Ok, Err, List, [], ◌∷◌, ◌++◌, length, take, get_or, refl, ap, sym, subst, ◌∙◌, append_assoc, arith}
+use Rattle.std.specs.Prelude.{OnOk, nat_lt, nat_le, true, ◌&&◌}
+use Rattle.std.specs.List.{flat_map, list_all, AllByRecursion}
+use Rattle.std.proofs.lemmas.Bool.{leb-true, and_parts}
+use Rattle.std.proofs.lemmas.List.{take_more, flat_map_more}
+use Rattle.tracefs_format.specs.declared.format.Format.{Format}
+use Rattle.rec_format.specs.declared.recording.CpuTrack.{CpuTrack}
+use Rattle.rec_format.specs.declared.recording.Event.{Event}
+use Rattle.rec_format.specs.Parts.{IsEventPart}
+use Rattle.rec_format.specs.Checks.{is_system_byte, total_events}
+use Rattle.rec_format.specs.Recordings.{part_of_event, IsFormat, IsEvent, IsTrack}
+use Rattle.rec_format.specs.Answers.{CanWriteFormat, CanWriteTrack}
+use Rattle.rec_format.proofs.LoopLaws.{total_first}
+
+on_ok : {T E : Type 0} (P Q : Type 0) (r : Result T E) → (P → Q) → OnOk r P → OnOk r Q
+on_ok P Q (Ok x) f h = f h
+on_ok P Q (Err e) f h = tt
+
+-- five pieces, one after the other
+pub written5 : {T E : Type 0} (r : Result T E) (old s1 s2 s3 s4 s5 a b c d e : List ℕ) → s1 ≡ old ++ a → s2 ≡ s1 ++ b → s3 ≡ s2 ++ c → s4 ≡ s3 ++ d → OnOk r (s5 ≡ s4 ++ e)
+    → OnOk r (s5 ≡ old ++ (a ++ (b ++ (c ++ (d ++ e)))))
+written5 r old s1 s2 s3 s4 s5 a b c d e h1 h2 h3 h4 h5 =
+    on_ok (s5 ≡ s4 ++ e) (s5 ≡ old ++ (a ++ (b ++ (c ++ (d ++ e))))) r
+    (λ h.
+        let all : s5 ≡ ((((old ++ a) ++ b) ++ c) ++ d) ++ e = h ∙ ap (λ l. l ++ e) (h4 ∙ ap (λ l. l ++ d) (h3 ∙ ap (λ l. l ++ c) (h2 ∙ ap (λ l. l ++ b) h1))) in
+        let moved : ((((old ++ a) ++ b) ++ c) ++ d) ++ e ≡ old ++ (a ++ (b ++ (c ++ (d ++ e)))) = simp append_assoc in
+        all ∙ moved) h5
+
+-- seven pieces
+pub written7 : {T E : Type 0} (r : Result T E) (old s1 s2 s3 s4 s5 s6 s7 a b c d e f g : List ℕ) → s1 ≡ old ++ a → s2 ≡ s1 ++ b → s3 ≡ s2 ++ c → s4 ≡ s3 ++ d → s5 ≡ s4 ++ e → s6 ≡ s5 ++ f → OnOk r (s7 ≡ s6 ++ g)
+    → OnOk r (s7 ≡ old ++ (a ++ (b ++ (c ++ (d ++ (e ++ (f ++ g)))))))
+written7 r old s1 s2 s3 s4 s5 s6 s7 a b c d e f g h1 h2 h3 h4 h5 h6 h7 =
+    on_ok (s7 ≡ s6 ++ g) (s7 ≡ old ++ (a ++ (b ++ (c ++ (d ++ (e ++ (f ++ g))))))) r
+    (λ h.
+        let all : s7 ≡ ((((((old ++ a) ++ b) ++ c) ++ d) ++ e) ++ f) ++ g =
+        h ∙ ap (λ l. l ++ g) (h6 ∙ ap (λ l. l ++ f) (h5 ∙ ap (λ l. l ++ e) (h4 ∙ ap (λ l. l ++ d) (h3 ∙ ap (λ l. l ++ c) (h2 ∙ ap (λ l. l ++ b) h1))))) in
+        let moved : ((((((old ++ a) ++ b) ++ c) ++ d) ++ e) ++ f) ++ g ≡ old ++ (a ++ (b ++ (c ++ (d ++ (e ++ (f ++ g)))))) = simp append_assoc in
+        all ∙ moved) h7
+
+-- one item more
+pub written_more : {X : Type 0} (spelling : X → List ℕ) (xs : List X) (i : ℕ) (x : X) (old now later : List ℕ) → i < length xs → x ≡ get_or xs i x → now ≡ old ++ flat_map spelling (take i xs) → later ≡ now ++ spelling x
+    → later ≡ old ++ flat_map spelling (take (i + 1) xs)
+written_more {X} spelling xs i x old now later lt is so_far more =
+    let next : take (i + 1) xs ≡ take i xs ++ x ∷ [] = take_more xs i x lt ∙ ap (λ (y : X). take i xs ++ y ∷ []) (sym is) in
+    more ∙ ap (λ (l : List ℕ). l ++ spelling x) so_far ∙ flat_map_more spelling old (take i xs) x ∙ ap (λ (l : List X). old ++ flat_map spelling l) (sym next)
+
+each_other : {X : Type 0} (P Q : X → Type 0) → ((x : X) → P x → Q x) → (xs : List X) → AllByRecursion P xs → AllByRecursion Q xs
+each_other P Q f [] all = tt
+each_other P Q f (x ∷ xs) all = (f x all.0, each_other P Q f xs all.1)
+
+format_writable : (f : Format) → IsFormat f → CanWriteFormat f
+format_writable f is =
+    let tests = and_parts (nat_lt 0 (length f.system) && nat_le (length f.system) 64) (list_all is_system_byte f.system) is.system in
+    let lengths = and_parts (nat_lt 0 (length f.system)) (nat_le (length f.system) 64) tests.0 in
+    let short = leb-true (length f.system) 64 lengths.1 in
+    record { system = omega arith; text = is.short }
+
+pub formats_writable : (fs : List Format) → AllByRecursion IsFormat fs → AllByRecursion CanWriteFormat fs
+formats_writable fs all = each_other IsFormat CanWriteFormat format_writable fs all
+
+pub tracks_writable : (formats : List Format) (start end : ℕ) (cs : List CpuTrack) → AllByRecursion (IsTrack formats start end) cs → total_events cs ≤ 1048576 → AllByRecursion CanWriteTrack cs
+tracks_writable formats start end [] all few = tt
+tracks_writable formats start end (c ∷ cs) all few = (
+      record {
+        counted = omega (arith, total_first c cs, few);
+        events = each_other (IsEvent formats) (λ (e : Event). IsEventPart (part_of_event e)) (λ e is. is.whole) c.events all.0.events.each;
+      },
+      tracks_writable formats start end cs all.1 (omega (arith, total_first c cs, few)),
+    )

@@ -1,0 +1,142 @@
+// Writing a recording.
+ghost use Rattle.std.specs.Prelude.{◌≡◌, ◌≤◌, ◌<◌, ◌^◌, ◌++◌, true, length, IfOk, OnOk};
+ghost use Rattle.std.specs.List.{flat_map, AllByRecursion};
+ghost use Rattle.byteorder.specs.Endian.{little_bytes};
+ghost use Rattle.rec_format.specs.Pieces.{sized_bytes};
+ghost use Rattle.rec_format.specs.Parts.{header_bytes, format_bytes, IsEventPart, event_bytes};
+ghost use Rattle.rec_format.specs.Recordings.{header_of, part_of_format, part_of_event, formats_bytes, events_bytes, track_bytes, tracks_bytes, recording_bytes, IsValidRecording};
+ghost use Rattle.rec_format.specs.Answers.{CanWriteFormat, CanWriteTrack};
+
+use crate::check::MAGIC;
+use crate::recording::{CpuTrack, Event, Recording};
+use bt_core::memory::Memory;
+use byteorder::{ByteOrder, LittleEndian};
+use std::alloc::{AllocError, Global};
+use tracefs_format::format::Format;
+
+/// The one spelling of a valid recording. Reading it gives the recording again.
+///
+/// Its only error is [`Memory`].
+pub fn write_recording(alloc: Global, recording: &Recording) -> Result<Vec<u8>, Memory>
+    requires { IsValidRecording recording.now }
+    ensures { IfOk result (λ bytes. bytes.items ≡ recording_bytes recording.now) }
+{
+    let mut bytes = Vec::new(alloc);
+    push_header(&mut bytes, recording)?;
+    push_formats(&mut bytes, recording.formats.as_slice())?;
+    push_tracks(&mut bytes, recording.cpus.as_slice())?;
+    Ok(bytes)
+}
+
+fn push_u16(bytes: &mut Vec<u8>, number: u16) -> Result<(), AllocError>
+    ensures { OnOk result (bytes.new.items ≡ bytes.old.items ++ little_bytes 2 number) }
+{
+    let mut piece = [0; 2];
+    LittleEndian::write_u16(&mut piece, number);
+    bytes.extend_from_slice(&piece)
+}
+
+fn push_u32(bytes: &mut Vec<u8>, number: u32) -> Result<(), AllocError>
+    ensures { OnOk result (bytes.new.items ≡ bytes.old.items ++ little_bytes 4 number) }
+{
+    let mut piece = [0; 4];
+    LittleEndian::write_u32(&mut piece, number);
+    bytes.extend_from_slice(&piece)
+}
+
+fn push_u64(bytes: &mut Vec<u8>, number: u64) -> Result<(), AllocError>
+    ensures { OnOk result (bytes.new.items ≡ bytes.old.items ++ little_bytes 8 number) }
+{
+    let mut piece = [0; 8];
+    LittleEndian::write_u64(&mut piece, number);
+    bytes.extend_from_slice(&piece)
+}
+
+/// Bytes behind their length of 16 bits.
+fn push_sized16(bytes: &mut Vec<u8>, piece: &[u8]) -> Result<(), AllocError>
+    requires { length piece.now < 2 ^ 16 }
+    ensures { OnOk result (bytes.new.items ≡ bytes.old.items ++ sized_bytes 2 piece.now) }
+{
+    push_u16(bytes, piece.len() as u16)?;
+    bytes.extend_from_slice(piece)
+}
+
+/// Bytes behind their length of 32 bits.
+fn push_sized32(bytes: &mut Vec<u8>, piece: &[u8]) -> Result<(), AllocError>
+    requires { length piece.now < 2 ^ 32 }
+    ensures { OnOk result (bytes.new.items ≡ bytes.old.items ++ sized_bytes 4 piece.now) }
+{
+    push_u32(bytes, piece.len() as u32)?;
+    bytes.extend_from_slice(piece)
+}
+
+fn push_header(bytes: &mut Vec<u8>, recording: &Recording) -> Result<(), AllocError>
+    requires { IsValidRecording recording.now }
+    ensures { OnOk result (bytes.new.items ≡ bytes.old.items ++ header_bytes (header_of recording.now)) }
+{
+    bytes.extend_from_slice(MAGIC)?;
+    push_u32(bytes, recording.cpus.len() as u32)?;
+    push_u32(bytes, recording.formats.len() as u32)?;
+    push_u64(bytes, recording.start)?;
+    push_u64(bytes, recording.end)
+}
+
+fn push_format(bytes: &mut Vec<u8>, format: &Format) -> Result<(), AllocError>
+    requires { CanWriteFormat format.now }
+    ensures { OnOk result (bytes.new.items ≡ bytes.old.items ++ format_bytes (part_of_format format.now)) }
+{
+    push_sized16(bytes, format.system.as_slice())?;
+    push_sized32(bytes, format.text.as_slice())
+}
+
+fn push_formats(bytes: &mut Vec<u8>, formats: &[Format]) -> Result<(), AllocError>
+    requires { AllByRecursion CanWriteFormat formats.now }
+    ensures { OnOk result (bytes.new.items ≡ bytes.old.items ++ formats_bytes formats.now) }
+{
+    for format in formats {
+        push_format(bytes, format)?;
+    }
+    Ok(())
+}
+
+fn push_event(bytes: &mut Vec<u8>, event: &Event) -> Result<(), AllocError>
+    requires { IsEventPart (part_of_event event.now) }
+    ensures { OnOk result (bytes.new.items ≡ bytes.old.items ++ event_bytes (part_of_event event.now)) }
+{
+    push_u64(bytes, event.time)?;
+    push_u32(bytes, event.pid)?;
+    push_u32(bytes, event.tid)?;
+    push_u32(bytes, event.uid)?;
+    push_u32(bytes, event.gid)?;
+    bytes.extend_from_slice(&event.comm)?;
+    push_sized32(bytes, event.payload.as_slice())
+}
+
+fn push_events(bytes: &mut Vec<u8>, events: &[Event]) -> Result<(), AllocError>
+    requires { AllByRecursion (λ e. IsEventPart (part_of_event e)) events.now }
+    ensures { OnOk result (bytes.new.items ≡ bytes.old.items ++ events_bytes events.now) }
+{
+    for event in events {
+        push_event(bytes, event)?;
+    }
+    Ok(())
+}
+
+fn push_track(bytes: &mut Vec<u8>, track: &CpuTrack) -> Result<(), AllocError>
+    requires { CanWriteTrack track.now }
+    ensures { OnOk result (bytes.new.items ≡ bytes.old.items ++ track_bytes track.now) }
+{
+    push_u32(bytes, track.number)?;
+    push_u32(bytes, track.events.len() as u32)?;
+    push_events(bytes, track.events.as_slice())
+}
+
+fn push_tracks(bytes: &mut Vec<u8>, tracks: &[CpuTrack]) -> Result<(), AllocError>
+    requires { AllByRecursion CanWriteTrack tracks.now }
+    ensures { OnOk result (bytes.new.items ≡ bytes.old.items ++ tracks_bytes tracks.now) }
+{
+    for track in tracks {
+        push_track(bytes, track)?;
+    }
+    Ok(())
+}
