@@ -21,9 +21,10 @@ pub enum Refusal {
     ReadFault(Operand),
     /// The file is longer than it may be.
     TooLong(Operand),
-    /// The bytes are no recording.
+    /// The bytes are no recording: the first check that they fail.
     BadRecording(RecordingError),
-    /// The file is none of those that are handled so far.
+    /// The file is none of those that are handled so far: a recording of more than one CPU, or a script
+    /// that does not count the events of one of the recording's formats.
     Early(Operand),
     /// The output took less than the text.
     WriteFault,

@@ -86,12 +86,14 @@ fn run<S: Shelf, K: Sink>(alloc: Global, named: &Named<'_>, shelf: &mut S, out: 
     }
 }
 
-/// Does what the words ask for: `run SCRIPT RECORDING` counts the events of a recording of one CPU
-/// and one event format, by the script that counts them, and writes the count to `out`. For each event
-/// the machine runs one fixed piece of BPF code (RFC 9669), whose call of a helper makes the event's step.
+/// Does what the words ask for: `run SCRIPT RECORDING` counts those events of a recording of one CPU
+/// whose format the script names, and writes the count to `out`. For each of them the machine runs one
+/// fixed piece of BPF code (RFC 9669) over the event's payload, whose call of a helper makes the event's
+/// step.
 ///
 /// Refusals come in the order words, script read, recording read, recording, script, write. A file
-/// that is too long is refused at its read. Want of memory may come at any of them. Before the write
+/// that is too long is refused at its read. A recording is refused with the first check that its bytes
+/// fail, or where it has more than one CPU. Want of memory may come at any of them. Before the write
 /// nothing goes to `out`. What is refused is told by a line to `err`, and a fault there changes
 /// nothing else.
 pub fn serve<S: Shelf, K: Sink, E: Sink>(
