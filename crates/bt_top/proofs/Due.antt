@@ -1,77 +1,174 @@
--- What is due to two files is one thing, and comes unless a fault does.
-use Rattle.std.proofs.Common.{◌≡◌, ℕ, ◌⊎◌, List, refl, subst, arith, inl, inr}
-use Rattle.std.specs.Prelude.{Option, Some, None, IfSome}
-use Rattle.rec_format.proofs.Recordings.{early_unique}
+-- What is due to two files comes, unless a fault does.
+use Rattle.std.proofs.Common.{◌≡◌, ◌≢◌, ℕ, ◌*◌, ◌<◌, ◌≤◌, ◌⊎◌, List, length, refl, sym, ap, subst, arith, inl, inr}
+use Rattle.std.specs.Prelude.{Option, Some, None, Result, Ok, Err, IfSome, IsSome}
+use Rattle.bt_io.specs.declared.shelf.ShelfError.{ShelfError}
+use Rattle.bt_io.specs.declared.shelf.ShelfError.TheVariants as shelf
+use Rattle.rec_format.specs.declared.recording.Recording.{Recording as Recorded}
+use Rattle.rec_format.specs.declared.error.RecordingError.{RecordingError}
+use Rattle.rec_format.specs.declared.error.RecordingError.TheVariants as fault
+use Rattle.rec_format.specs.Recordings.{recording_bytes, IsValidRecording}
+use Rattle.rec_format.specs.Faults.{IsRecordingFault}
 use Rattle.bt_top.specs.declared.report.Work.{Work}
 use Rattle.bt_top.specs.declared.refusal.Operand.TheVariants.{Script, Recording}
 use Rattle.bt_top.specs.declared.refusal.Refusal.{Refusal}
-use Rattle.bt_top.specs.declared.refusal.Refusal.TheVariants.{Usage, ReadFault, TooLong, Early, WriteFault, Memory}
-use Rattle.bt_top.specs.Refusals.{status_of}
-use Rattle.bt_top.specs.Script.{IsEarlyScript}
-use Rattle.bt_top.specs.Serve.{IsOtherScript, IsAccepted, IsDue, OnBoth, MayCome, IsFault, HasWork, IsCount}
+use Rattle.bt_top.specs.declared.refusal.Refusal.TheVariants.{Usage, ReadFault, TooLong, BadRecording, Early, WriteFault, Memory}
+use Rattle.bt_top.specs.Refusals.{status_of, refusal_of}
+use Rattle.bt_top.specs.Script.{CountsFormat}
+use Rattle.bt_top.specs.Serve.{AreSized, IsDue, OnBoth, MayCome, IsFault, ComesIfDue, recording_refusal, HasWork, IsCount}
+use Rattle.bt_top.proofs.EventRuns.{six_a_step}
 
-not_both : (script recording : List ℕ) → IsOtherScript script recording → IsAccepted script recording → ⊥
-not_both script recording other accepted =
-    other.other (subst (λ says. IsEarlyScript script says) (early_unique recording accepted.says other.says accepted.early other.early) accepted.counts)
+-- ---- files that are too long
 
-due_unique : (s r : List ℕ) (a b : Option Refusal) → IsDue s r a → IsDue s r b → a ≡ b
-due_unique s r (Some Usage) b p q = absurd p
-due_unique s r (Some (ReadFault o)) b p q = absurd p
-due_unique s r (Some WriteFault) b p q = absurd p
-due_unique s r (Some Memory) b p q = absurd p
-due_unique s r a (Some Usage) p q = absurd q
-due_unique s r a (Some (ReadFault o)) p q = absurd q
-due_unique s r a (Some WriteFault) p q = absurd q
-due_unique s r a (Some Memory) p q = absurd q
-due_unique s r (Some (TooLong Script)) (Some (TooLong Script)) p q = refl
-due_unique s r (Some (TooLong Script)) (Some (TooLong Recording)) p q = absurd (omega arith)
-due_unique s r (Some (TooLong Script)) (Some (Early Script)) p q = absurd (omega (arith, q.0.short_script))
-due_unique s r (Some (TooLong Script)) (Some (Early Recording)) p q = absurd (omega (arith, q.0.short_script))
-due_unique s r (Some (TooLong Script)) None p q = absurd (omega (arith, q.0.short_script))
-due_unique s r (Some (TooLong Recording)) (Some (TooLong Script)) p q = absurd (omega arith)
-due_unique s r (Some (TooLong Recording)) (Some (TooLong Recording)) p q = refl
-due_unique s r (Some (TooLong Recording)) (Some (Early Script)) p q = absurd (omega (arith, q.0.short_recording, p.1))
-due_unique s r (Some (TooLong Recording)) (Some (Early Recording)) p q = absurd (omega (arith, q.0.short_recording, p.1))
-due_unique s r (Some (TooLong Recording)) None p q = absurd (omega (arith, q.0.short_recording, p.1))
-due_unique s r (Some (Early Script)) (Some (TooLong Script)) p q = absurd (omega (arith, p.0.short_script))
-due_unique s r (Some (Early Script)) (Some (TooLong Recording)) p q = absurd (omega (arith, p.0.short_recording, q.1))
-due_unique s r (Some (Early Script)) (Some (Early Script)) p q = refl
-due_unique s r (Some (Early Script)) (Some (Early Recording)) p q = absurd (q.1 p.1.says p.1.early)
-due_unique s r (Some (Early Script)) None p q = absurd (not_both s r p.1 q.1)
-due_unique s r (Some (Early Recording)) (Some (TooLong Script)) p q = absurd (omega (arith, p.0.short_script))
-due_unique s r (Some (Early Recording)) (Some (TooLong Recording)) p q = absurd (omega (arith, p.0.short_recording, q.1))
-due_unique s r (Some (Early Recording)) (Some (Early Script)) p q = absurd (p.1 q.1.says q.1.early)
-due_unique s r (Some (Early Recording)) (Some (Early Recording)) p q = refl
-due_unique s r (Some (Early Recording)) None p q = absurd (p.1 q.1.says q.1.early)
-due_unique s r None (Some (TooLong Script)) p q = absurd (omega (arith, p.0.short_script))
-due_unique s r None (Some (TooLong Recording)) p q = absurd (omega (arith, p.0.short_recording, q.1))
-due_unique s r None (Some (Early Script)) p q = absurd (not_both s r q.1 p.1)
-due_unique s r None (Some (Early Recording)) p q = absurd (q.1 p.1.says p.1.early)
-due_unique s r None None p q = refl
+script_too_long : (s r : List ℕ) → 65536 < length s → ComesIfDue (Some (TooLong Script)) s r
+script_too_long s r long (Some (TooLong Script)) is = inl refl
+script_too_long s r long (Some (TooLong Recording)) is = absurd (omega arith)
+script_too_long s r long (Some (BadRecording e)) is = absurd (omega (arith, is.0.short_script))
+script_too_long s r long (Some (Early Script)) is = absurd (omega (arith, is.0.short_script))
+script_too_long s r long (Some (Early Recording)) is = absurd (omega (arith, is.0.short_script))
+script_too_long s r long None is = absurd (omega (arith, is.0.short_script))
+script_too_long s r long (Some Usage) is = absurd is
+script_too_long s r long (Some (ReadFault o)) is = absurd is
+script_too_long s r long (Some WriteFault) is = absurd is
+script_too_long s r long (Some Memory) is = absurd is
 
--- what was counted was due
-counted_due : (s r : List ℕ) (work : Option Work) → IsCount (Some s) (Some r) work → IsDue s r None
-counted_due s r None counted = absurd counted
-counted_due s r (Some done) counted = counted.1.told
+recording_too_long : (s r : List ℕ) → length s ≤ 65536 → 268435456 < length r → ComesIfDue (Some (TooLong Recording)) s r
+recording_too_long s r short long (Some (TooLong Script)) is = absurd (omega arith)
+recording_too_long s r short long (Some (TooLong Recording)) is = inl refl
+recording_too_long s r short long (Some (BadRecording e)) is = absurd (omega (arith, is.0.short_recording))
+recording_too_long s r short long (Some (Early Script)) is = absurd (omega (arith, is.0.short_recording))
+recording_too_long s r short long (Some (Early Recording)) is = absurd (omega (arith, is.0.short_recording))
+recording_too_long s r short long None is = absurd (omega (arith, is.0.short_recording))
+recording_too_long s r short long (Some Usage) is = absurd is
+recording_too_long s r short long (Some (ReadFault o)) is = absurd is
+recording_too_long s r short long (Some WriteFault) is = absurd is
+recording_too_long s r short long (Some Memory) is = absurd is
 
-answers_due : (read_fault write_fault : Type 0) (s r : List ℕ) (refusal : Option Refusal) (work : Option Work)
-    → IfSome refusal (MayCome read_fault write_fault (Some s) (Some r)) → (HasWork refusal → IsCount (Some s) (Some r) work)
-    → (due : Option Refusal) → IsDue s r due → (refusal ≡ due) ⊎ IsFault refusal
-answers_due fault wrote s r None work may counted due is = inl (due_unique s r None due (counted_due s r work (counted tt)) is)
-answers_due fault wrote s r (Some Usage) work may counted due is = absurd may
-answers_due fault wrote s r (Some (ReadFault o)) work may counted due is = inr tt
-answers_due fault wrote s r (Some (TooLong o)) work may counted due is = inl (due_unique s r (Some (TooLong o)) due may is)
-answers_due fault wrote s r (Some (Early o)) work may counted due is = inl (due_unique s r (Some (Early o)) due may is)
-answers_due fault wrote s r (Some WriteFault) work may counted due is = inr tt
-answers_due fault wrote s r (Some Memory) work may counted due is = inr tt
+-- a fault or want of memory may stand for anything that is due
+pub fault_comes : (script recording : Option (List ℕ)) (refusal : Option Refusal) → IsFault refusal → OnBoth script recording (ComesIfDue refusal)
+fault_comes None recording refusal fault = tt
+fault_comes (Some s) None refusal fault = tt
+fault_comes (Some s) (Some r) refusal fault = λ due is. inr fault
 
--- each refusal comes where it is due, unless a fault comes
-pub is_exact : (read_fault write_fault : Type 0) (script recording : Option (List ℕ)) (refusal : Option Refusal) (work : Option Work)
-    → IfSome refusal (MayCome read_fault write_fault script recording) → (HasWork refusal → IsCount script recording work)
-    → OnBoth script recording (λ s r. (due : Option Refusal) → IsDue s r due → (refusal ≡ due) ⊎ IsFault refusal)
-is_exact fault wrote None recording refusal work may counted = tt
-is_exact fault wrote (Some s) None refusal work may counted = tt
-is_exact fault wrote (Some s) (Some r) refusal work may counted = answers_due fault wrote s r refusal work may counted
+-- the script is not read
+pub script_unread : (script recording : Option (List ℕ)) (error : ShelfError) → (error ≡ shelf.TooLong → IfSome script (λ told. 65536 < length told)) → OnBoth script recording (ComesIfDue (Some (refusal_of Script error)))
+script_unread script recording shelf.Failed long = fault_comes script recording _ tt
+script_unread script recording shelf.Memory long = fault_comes script recording _ tt
+script_unread None recording shelf.TooLong long = tt
+script_unread (Some s) None shelf.TooLong long = tt
+script_unread (Some s) (Some r) shelf.TooLong long = script_too_long s r (long refl)
+
+-- the script is read, and the recording is not
+pub recording_unread : (script recording : Option (List ℕ)) (error : ShelfError) → IfSome script (λ told. length told ≤ 65536) → (error ≡ shelf.TooLong → IfSome recording (λ told. 268435456 < length told)) → OnBoth script recording (ComesIfDue (Some (refusal_of Recording error)))
+recording_unread script recording shelf.Failed short long = fault_comes script recording _ tt
+recording_unread script recording shelf.Memory short long = fault_comes script recording _ tt
+recording_unread None recording shelf.TooLong short long = tt
+recording_unread (Some s) None shelf.TooLong short long = tt
+recording_unread (Some s) (Some r) shelf.TooLong short long = recording_too_long s r short (long refl)
+
+-- ---- both files at hand
+
+-- what reading the bytes answered: the recording that they spell, or their first fault, or want of memory
+pub record IsReadAs (bytes : List ℕ) (read : Result Recorded RecordingError) : Type 0 where
+  pub only : (says : Recorded) → IsValidRecording says → bytes ≡ recording_bytes says → (read ≡ Ok says) ⊎ (read ≡ Err fault.Memory)
+  pub refused : (error : RecordingError) → IsRecordingFault bytes error → (read ≡ Err error) ⊎ (read ≡ Err fault.Memory)
+
+ok_is : (read : Result Recorded RecordingError) (a b : Recorded) → read ≡ Ok a → (read ≡ Ok b) ⊎ (read ≡ Err fault.Memory) → b ≡ a
+ok_is read a b is (inl e) = cc
+ok_is read a b is (inr e) = cc
+
+ok_no_fault : (read : Result Recorded RecordingError) (a : Recorded) (error : RecordingError) → read ≡ Ok a → (read ≡ Err error) ⊎ (read ≡ Err fault.Memory) → ⊥
+ok_no_fault read a error is (inl e) = cc
+ok_no_fault read a error is (inr e) = cc
+
+err_is_memory : (read : Result Recorded RecordingError) (a : Recorded) (error : RecordingError) → read ≡ Err error → (read ≡ Ok a) ⊎ (read ≡ Err fault.Memory) → error ≡ fault.Memory
+err_is_memory read a error is (inl e) = cc
+err_is_memory read a error is (inr e) = cc
+
+memory_is_fault : (error : RecordingError) → error ≡ fault.Memory → IsFault (Some (recording_refusal error))
+memory_is_fault error e = subst (λ (x : RecordingError). IsFault (Some (recording_refusal x))) (sym e) tt
+
+err_same : (read : Result Recorded RecordingError) (a b : RecordingError) → read ≡ Err a → read ≡ Err b → a ≡ b
+err_same read a b is e = cc
+
+bad_or_memory : (error due : RecordingError) → error ≡ due → (Some (recording_refusal error) ≡ Some (BadRecording due)) ⊎ IsFault (Some (recording_refusal error))
+bad_or_memory fault.Memory due e = inr tt
+bad_or_memory error due e = inl (ap (λ (x : RecordingError). Some (BadRecording x)) e)
+
+-- the fault that is told is the one that was found
+fault_is : (read : Result Recorded RecordingError) (error due : RecordingError) → read ≡ Err error → (read ≡ Err due) ⊎ (read ≡ Err fault.Memory) → (Some (recording_refusal error) ≡ Some (BadRecording due)) ⊎ IsFault (Some (recording_refusal error))
+fault_is read error due is (inl e) = bad_or_memory error due (err_same read error due is e)
+fault_is read error due is (inr e) = inr (memory_is_fault error (err_same read error fault.Memory is e))
+
+-- the bytes are refused
+pub bytes_refused : (s r : List ℕ) (read : Result Recorded RecordingError) (error : RecordingError) → AreSized s r → IsReadAs r read → read ≡ Err error → ComesIfDue (Some (recording_refusal error)) s r
+bytes_refused s r read error sized reads is (Some (TooLong Script)) due = absurd (omega (arith, sized.short_script))
+bytes_refused s r read error sized reads is (Some (TooLong Recording)) due = absurd (omega (arith, sized.short_recording, due.1))
+bytes_refused s r read error sized reads is (Some (BadRecording e)) due = fault_is read error e is (reads.refused e due.1)
+bytes_refused s r read error sized reads is (Some (Early Recording)) due = inr (memory_is_fault error (err_is_memory read due.1.says error is (reads.only due.1.says due.1.is.valid due.1.is.spelled)))
+bytes_refused s r read error sized reads is (Some (Early Script)) due = inr (memory_is_fault error (err_is_memory read due.1.says error is (reads.only due.1.says due.1.is.valid due.1.is.spelled)))
+bytes_refused s r read error sized reads is None due = inr (memory_is_fault error (err_is_memory read due.1.1.says error is (reads.only due.1.1.says due.1.1.is.valid due.1.1.is.spelled)))
+bytes_refused s r read error sized reads is (Some Usage) due = absurd due
+bytes_refused s r read error sized reads is (Some (ReadFault o)) due = absurd due
+bytes_refused s r read error sized reads is (Some WriteFault) due = absurd due
+bytes_refused s r read error sized reads is (Some Memory) due = absurd due
+
+-- there is more than one CPU
+pub more_cpus : (s r : List ℕ) (read : Result Recorded RecordingError) (says : Recorded) → AreSized s r → IsReadAs r read → read ≡ Ok says → 1 < length says.cpus → ComesIfDue (Some (Early Recording)) s r
+more_cpus s r read says sized reads is more (Some (TooLong Script)) due = absurd (omega (arith, sized.short_script))
+more_cpus s r read says sized reads is more (Some (TooLong Recording)) due = absurd (omega (arith, sized.short_recording, due.1))
+more_cpus s r read says sized reads is more (Some (BadRecording e)) due = absurd (ok_no_fault read says e is (reads.refused e due.1))
+more_cpus s r read says sized reads is more (Some (Early Recording)) due = inl refl
+more_cpus s r read says sized reads is more (Some (Early Script)) due =
+    let same = ok_is read says due.1.says is (reads.only due.1.says due.1.is.valid due.1.is.spelled) in
+    absurd (omega (arith, due.1.one_cpu, ap (λ (x : Recorded). length x.cpus) same))
+more_cpus s r read says sized reads is more None due =
+    let same = ok_is read says due.1.1.says is (reads.only due.1.1.says due.1.1.is.valid due.1.1.is.spelled) in
+    absurd (omega (arith, due.1.1.one_cpu, ap (λ (x : Recorded). length x.cpus) same))
+more_cpus s r read says sized reads is more (Some Usage) due = absurd due
+more_cpus s r read says sized reads is more (Some (ReadFault o)) due = absurd due
+more_cpus s r read says sized reads is more (Some WriteFault) due = absurd due
+more_cpus s r read says sized reads is more (Some Memory) due = absurd due
+
+-- there is one CPU, and the script counts the events of no format
+pub other_script : (s r : List ℕ) (read : Result Recorded RecordingError) (says : Recorded) → AreSized s r → IsReadAs r read → read ≡ Ok says → length says.cpus ≤ 1 → ((place : ℕ) → CountsFormat s says.formats place → ⊥) → ComesIfDue (Some (Early Script)) s r
+other_script s r read says sized reads is one none (Some (TooLong Script)) due = absurd (omega (arith, sized.short_script))
+other_script s r read says sized reads is one none (Some (TooLong Recording)) due = absurd (omega (arith, sized.short_recording, due.1))
+other_script s r read says sized reads is one none (Some (BadRecording e)) due = absurd (ok_no_fault read says e is (reads.refused e due.1))
+other_script s r read says sized reads is one none (Some (Early Recording)) due =
+    let same = ok_is read says due.1.says is (reads.only due.1.says due.1.is.valid due.1.is.spelled) in
+    absurd (omega (arith, due.1.more, ap (λ (x : Recorded). length x.cpus) same))
+other_script s r read says sized reads is one none (Some (Early Script)) due = inl refl
+other_script s r read says sized reads is one none None due =
+    let same = ok_is read says due.1.1.says is (reads.only due.1.1.says due.1.1.is.valid due.1.1.is.spelled) in
+    absurd (none due.1.0 (subst (λ (x : Recorded). CountsFormat s x.formats due.1.0) same due.1.1.counts))
+other_script s r read says sized reads is one none (Some Usage) due = absurd due
+other_script s r read says sized reads is one none (Some (ReadFault o)) due = absurd due
+other_script s r read says sized reads is one none (Some WriteFault) due = absurd due
+other_script s r read says sized reads is one none (Some Memory) due = absurd due
+
+-- there is one CPU, and the script counts the events of a format
+pub nothing_refused : (s r : List ℕ) (read : Result Recorded RecordingError) (says : Recorded) (place : ℕ) → AreSized s r → IsReadAs r read → read ≡ Ok says → length says.cpus ≤ 1 → CountsFormat s says.formats place → ComesIfDue None s r
+nothing_refused s r read says place sized reads is one counts (Some (TooLong Script)) due = absurd (omega (arith, sized.short_script))
+nothing_refused s r read says place sized reads is one counts (Some (TooLong Recording)) due = absurd (omega (arith, sized.short_recording, due.1))
+nothing_refused s r read says place sized reads is one counts (Some (BadRecording e)) due = absurd (ok_no_fault read says e is (reads.refused e due.1))
+nothing_refused s r read says place sized reads is one counts (Some (Early Recording)) due =
+    let same = ok_is read says due.1.says is (reads.only due.1.says due.1.is.valid due.1.is.spelled) in
+    absurd (omega (arith, due.1.more, ap (λ (x : Recorded). length x.cpus) same))
+nothing_refused s r read says place sized reads is one counts (Some (Early Script)) due =
+    let same = ok_is read says due.1.says is (reads.only due.1.says due.1.is.valid due.1.is.spelled) in
+    absurd (due.1.other place (subst (λ (x : Recorded). CountsFormat s x.formats place) (sym same) counts))
+nothing_refused s r read says place sized reads is one counts None due = inl refl
+nothing_refused s r read says place sized reads is one counts (Some Usage) due = absurd due
+nothing_refused s r read says place sized reads is one counts (Some (ReadFault o)) due = absurd due
+nothing_refused s r read says place sized reads is one counts (Some WriteFault) due = absurd due
+nothing_refused s r read says place sized reads is one counts (Some Memory) due = absurd due
+
+-- a refusal of the bytes is their first fault, or want of memory
+pub refused_bytes : (s r : List ℕ) (error : RecordingError) → AreSized s r → (error ≢ fault.Memory → IsRecordingFault r error) → MayCome ⊥ ⊥ (Some s) (Some r) (recording_refusal error)
+refused_bytes s r fault.Memory sized found = tt
+refused_bytes s r error sized found = (sized, found (λ e. cc))
+
+-- ---- the end of a run
 
 status_due : (read_fault write_fault : Type 0) (s r : List ℕ) (refusal : Option Refusal) (status : ℕ) → status ≡ status_of refusal
     → IfSome refusal (MayCome read_fault write_fault (Some s) (Some r)) → (read_fault → ⊥) → (write_fault → ⊥) → (refusal ≡ None) ⊎ IsFault refusal → (status ≡ 0) ⊎ (status ≡ 6)
@@ -79,15 +176,22 @@ status_due fault wrote s r None status is may no_fault no_wrote due = inl is
 status_due fault wrote s r (Some Usage) status is may no_fault no_wrote due = absurd may
 status_due fault wrote s r (Some (ReadFault o)) status is may no_fault no_wrote due = absurd (no_fault may)
 status_due fault wrote s r (Some (TooLong o)) status is may no_fault no_wrote due = elim due [ inl e ↦ cc | inr f ↦ absurd f ]
+status_due fault wrote s r (Some (BadRecording e)) status is may no_fault no_wrote due = elim due [ inl e ↦ cc | inr f ↦ absurd f ]
 status_due fault wrote s r (Some (Early o)) status is may no_fault no_wrote due = elim due [ inl e ↦ cc | inr f ↦ absurd f ]
 status_due fault wrote s r (Some WriteFault) status is may no_fault no_wrote due = absurd (no_wrote may)
 status_due fault wrote s r (Some Memory) status is may no_fault no_wrote due = inr is
 
 -- where both files are accepted and no fault comes, the status is 0, or memory was wanting
-pub is_complete : (read_fault write_fault : Type 0) (script recording : Option (List ℕ)) (refusal : Option Refusal) (work : Option Work) (status : ℕ) → status ≡ status_of refusal
-    → IfSome refusal (MayCome read_fault write_fault script recording) → (HasWork refusal → IsCount script recording work)
+pub is_complete : (read_fault write_fault : Type 0) (script recording : Option (List ℕ)) (refusal : Option Refusal) (status : ℕ) → status ≡ status_of refusal
+    → IfSome refusal (MayCome read_fault write_fault script recording) → OnBoth script recording (ComesIfDue refusal)
     → OnBoth script recording (λ s r. IsDue s r None → (read_fault → ⊥) → (write_fault → ⊥) → (status ≡ 0) ⊎ (status ≡ 6))
-is_complete fault wrote None recording refusal work status is may counted = tt
-is_complete fault wrote (Some s) None refusal work status is may counted = tt
-is_complete fault wrote (Some s) (Some r) refusal work status is may counted = λ due no_fault no_wrote.
-    status_due fault wrote s r refusal status is may no_fault no_wrote (answers_due fault wrote s r refusal work may counted None due)
+is_complete fault wrote None recording refusal status is may exact = tt
+is_complete fault wrote (Some s) None refusal status is may exact = tt
+is_complete fault wrote (Some s) (Some r) refusal status is may exact = λ due no_fault no_wrote.
+    status_due fault wrote s r refusal status is may no_fault no_wrote (exact None due)
+
+-- the work takes six instructions a step
+pub is_six_a_step : (script recording : Option (List ℕ)) (refusal : Option Refusal) (work : Option Work) → (IsSome work → HasWork refusal) → (HasWork refusal → IsCount script recording work)
+    → IfSome work (λ done. done.instructions ≡ 6 * length done.steps)
+is_six_a_step script recording refusal None worked counted = tt
+is_six_a_step script recording refusal (Some done) worked counted = let is = counted (worked refl) in six_a_step is.0 done.steps done.instructions is.2.runs

@@ -1,4 +1,7 @@
 pub mod Scripts
 pub mod Counts
+pub mod EventRuns
+pub mod Payloads
+pub mod Texts
 pub mod Judging
 pub mod Due

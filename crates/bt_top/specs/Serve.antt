@@ -1,40 +1,58 @@
 -- What the top call answers.
-use Rattle.std.specs.Prelude.{◌≡◌, ℕ, ◌++◌, ◌<◌, ◌≤◌, ◌⊎◌, List, [], ◌∷◌, length, Option, Some, None, IfSome, IsSomeAnd}
+use Rattle.std.specs.Prelude.{◌≡◌, ℕ, ◌++◌, ◌<◌, ◌≤◌, ◌⊎◌, List, [], ◌∷◌, length, Option, Some, None, Result, Ok, Err, IfSome, IsSomeAnd}
 use Rattle.std.specs.Io.KnownBytes.{Appends}
 use Rattle.bt_io.specs.Taken.{AppendsPart}
-use Rattle.rec_format.specs.declared.early.EarlyRecording.{EarlyRecording}
-use Rattle.rec_format.specs.Early.{IsEarlyRecording}
+use Rattle.rec_format.specs.declared.recording.Recording.{Recording as Recorded}
+use Rattle.rec_format.specs.declared.error.RecordingError.{RecordingError}
+use Rattle.rec_format.specs.declared.error.RecordingError.TheVariants as fault
+use Rattle.rec_format.specs.Recordings.{recording_bytes, IsValidRecording}
+use Rattle.rec_format.specs.Faults.{IsRecordingFault}
+use Rattle.bt_top.specs.declared.judge.Counting.{Counting}
 use Rattle.bt_top.specs.declared.report.Work.{Work}
 use Rattle.bt_top.specs.declared.refusal.Operand.TheVariants.{Script, Recording}
 use Rattle.bt_top.specs.declared.refusal.Refusal.{Refusal}
-use Rattle.bt_top.specs.declared.refusal.Refusal.TheVariants.{Usage, ReadFault, TooLong, Early, WriteFault, Memory}
-use Rattle.bt_top.specs.Script.{IsEarlyScript}
-use Rattle.bt_top.specs.Count.{IsWorkOf}
+use Rattle.bt_top.specs.declared.refusal.Refusal.TheVariants.{Usage, ReadFault, TooLong, BadRecording, Early, WriteFault, Memory}
+use Rattle.bt_top.specs.Script.{CountsFormat}
+use Rattle.bt_top.specs.Count.{payloads_of, IsWorkOf}
 
 -- neither file is longer than it may be
 pub record AreSized (script recording : List ℕ) : Type 0 where
   pub short_script : length script ≤ 65536
   pub short_recording : length recording ≤ 268435456
 
--- an early recording, and not the script that counts its events
-pub record IsOtherScript (script recording : List ℕ) : Type 0 where
-  pub says : EarlyRecording
-  pub early : IsEarlyRecording recording says
-  pub other : IsEarlyScript script says → ⊥
+-- the bytes are the spelling of this valid recording
+pub record IsRecording (bytes : List ℕ) (says : Recorded) : Type 0 where
+  pub valid : IsValidRecording says
+  pub spelled : bytes ≡ recording_bytes says
 
--- an early recording, and the script that counts its events
-pub record IsAccepted (script recording : List ℕ) : Type 0 where
-  pub says : EarlyRecording
-  pub early : IsEarlyRecording recording says
-  pub counts : IsEarlyScript script says
+-- a recording of more than one CPU
+pub record HasMoreCpus (recording : List ℕ) : Type 0 where
+  pub says : Recorded
+  pub is : IsRecording recording says
+  pub more : 1 < length says.cpus
+
+-- a recording of one CPU, and a script that counts the events of none of its formats
+pub record IsOtherScript (script recording : List ℕ) : Type 0 where
+  pub says : Recorded
+  pub is : IsRecording recording says
+  pub one_cpu : length says.cpus ≡ 1
+  pub other : (place : ℕ) → CountsFormat script says.formats place → ⊥
+
+-- a recording of one CPU, and the script that counts the events of its format at this place
+pub record IsAccepted (script recording : List ℕ) (place : ℕ) : Type 0 where
+  pub says : Recorded
+  pub is : IsRecording recording says
+  pub one_cpu : length says.cpus ≡ 1
+  pub counts : CountsFormat script says.formats place
 
 -- what these files bring about, where no fault comes and memory suffices: the first refusal of its order, or none
 abbrev pub IsDue : List ℕ → List ℕ → Option Refusal → Type 0
 IsDue script recording (Some (TooLong Script)) = 65536 < length script
 IsDue script recording (Some (TooLong Recording)) = (length script ≤ 65536) × (268435456 < length recording)
-IsDue script recording (Some (Early Recording)) = AreSized script recording × ((says : EarlyRecording) → IsEarlyRecording recording says → ⊥)
+IsDue script recording (Some (BadRecording error)) = AreSized script recording × IsRecordingFault recording error
+IsDue script recording (Some (Early Recording)) = AreSized script recording × HasMoreCpus recording
 IsDue script recording (Some (Early Script)) = AreSized script recording × IsOtherScript script recording
-IsDue script recording None = AreSized script recording × IsAccepted script recording
+IsDue script recording None = AreSized script recording × ((place : ℕ) × IsAccepted script recording place)
 IsDue script recording (Some Usage) = ⊥
 IsDue script recording (Some (ReadFault operand)) = ⊥
 IsDue script recording (Some WriteFault) = ⊥
@@ -51,6 +69,7 @@ abbrev pub MayCome : (read_fault write_fault : Type 0) → (script recording : O
 MayCome read_fault write_fault script recording Usage = ⊥
 MayCome read_fault write_fault script recording (ReadFault operand) = read_fault
 MayCome read_fault write_fault script recording (TooLong operand) = OnBoth script recording (λ s r. IsDue s r (Some (TooLong operand)))
+MayCome read_fault write_fault script recording (BadRecording error) = OnBoth script recording (λ s r. IsDue s r (Some (BadRecording error)))
 MayCome read_fault write_fault script recording (Early operand) = OnBoth script recording (λ s r. IsDue s r (Some (Early operand)))
 MayCome read_fault write_fault script recording WriteFault = write_fault
 MayCome read_fault write_fault script recording Memory = Unit {0}
@@ -62,13 +81,41 @@ IsFault (Some WriteFault) = Unit {0}
 IsFault (Some Memory) = Unit {0}
 IsFault (Some Usage) = ⊥
 IsFault (Some (TooLong operand)) = ⊥
+IsFault (Some (BadRecording error)) = ⊥
 IsFault (Some (Early operand)) = ⊥
 IsFault None = ⊥
 
--- the events of the recording were counted, n of them, by the script that counts them
-pub record CountsEvents (script recording : Option (List ℕ)) (n : ℕ) : Type 0 where
-  pub told : OnBoth script recording (λ s r. IsDue s r None)
-  pub counted : IfSome recording (λ bytes. (says : EarlyRecording) × IsEarlyRecording bytes says × (says.events ≡ n))
+-- what is due comes, unless a fault does
+abbrev pub ComesIfDue : Option Refusal → List ℕ → List ℕ → Type 0
+ComesIfDue refusal script recording = (due : Option Refusal) → IsDue script recording due → (refusal ≡ due) ⊎ IsFault refusal
+
+-- why something is refused, or none where it is not
+abbrev pub refusal_in : {A : Type 0} → Result A Refusal → Option Refusal
+refusal_in (Ok a) = None
+refusal_in (Err refusal) = Some refusal
+
+-- why the bytes of a recording are refused
+abbrev pub recording_refusal : RecordingError → Refusal
+recording_refusal fault.Memory = Memory
+recording_refusal error = BadRecording error
+
+-- the two files ask for this: the recording, and the place of the format whose events are counted
+pub record IsAskedBy (script recording : List ℕ) (counting : Counting) : Type 0 where
+  pub is : IsRecording recording counting.recording
+  pub one_cpu : length counting.recording.cpus ≡ 1
+  pub counts : CountsFormat script counting.recording.formats counting.format
+
+-- these are the payloads of the recording's events of the format at this place
+pub record HasPayloads (recording : List ℕ) (place : ℕ) (payloads : List (List ℕ)) : Type 0 where
+  pub says : Recorded
+  pub is : IsRecording recording says
+  pub are : payloads ≡ payloads_of place says
+
+-- the events of one of the recording's formats were counted, by the script that counts them; these are their payloads
+pub record CountsEvents (script recording : Option (List ℕ)) (payloads : List (List ℕ)) : Type 0 where
+  pub place : ℕ
+  pub told : OnBoth script recording (λ s r. AreSized s r × IsAccepted s r place)
+  pub counted : IfSome recording (λ bytes. HasPayloads bytes place payloads)
 
 -- work is there after a whole run, and after one whose text was not wholly written
 abbrev pub HasWork : Option Refusal → Type 0
@@ -77,12 +124,13 @@ HasWork (Some WriteFault) = Unit {0}
 HasWork (Some Usage) = ⊥
 HasWork (Some (ReadFault operand)) = ⊥
 HasWork (Some (TooLong operand)) = ⊥
+HasWork (Some (BadRecording error)) = ⊥
 HasWork (Some (Early operand)) = ⊥
 HasWork (Some Memory) = ⊥
 
 -- what was worked is the count of the recording's events
 abbrev pub IsCount : Option (List ℕ) → Option (List ℕ) → Option Work → Type 0
-IsCount script recording work = IsSomeAnd work (λ done. (n : ℕ) × CountsEvents script recording n × IsWorkOf n done)
+IsCount script recording work = IsSomeAnd work (λ done. (payloads : List (List ℕ)) × CountsEvents script recording payloads × IsWorkOf payloads done)
 
 -- the first so many of the names were asked for
 abbrev pub AsksFirst : List (List ℕ) → List (List ℕ) → List (List ℕ) → Type 0

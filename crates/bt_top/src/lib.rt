@@ -1,8 +1,14 @@
 //! The top call: from the words of a command line to the bytes written.
 #![tactic(auto)]
 
+pub mod code;
 mod count;
 mod judge;
+#[cfg(test)]
+mod made;
+mod port;
+#[cfg(test)]
+mod recording_tests;
 pub mod refusal;
 pub mod report;
 mod script;

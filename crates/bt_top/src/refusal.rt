@@ -3,6 +3,7 @@ ghost use Rattle.std.specs.Prelude.{◌≡◌};
 ghost use Rattle.bt_top.specs.Refusals.{status_of, refusal_of};
 
 use bt_io::shelf::ShelfError;
+use rec_format::error::RecordingError;
 
 /// A file that the words name.
 #[derive(Clone, Copy, PartialEq, Eq, Debug)]
@@ -20,7 +21,10 @@ pub enum Refusal {
     ReadFault(Operand),
     /// The file is longer than it may be.
     TooLong(Operand),
-    /// The file is none of those that are handled so far.
+    /// The bytes are no recording: the first check that they fail.
+    BadRecording(RecordingError),
+    /// The file is none of those that are handled so far: a recording of more than one CPU, or a script
+    /// that does not count the events of one of the recording's formats.
     Early(Operand),
     /// The output took less than the text.
     WriteFault,
@@ -36,6 +40,7 @@ pub(crate) fn status_of(refusal: Option<Refusal>) -> u8
         Some(Refusal::Usage) => 1,
         Some(Refusal::TooLong(Operand::Script) | Refusal::Early(Operand::Script)) => 2,
         Some(Refusal::TooLong(Operand::Recording) | Refusal::Early(Operand::Recording)) => 3,
+        Some(Refusal::BadRecording(_)) => 3,
         Some(Refusal::ReadFault(_)) => 4,
         Some(Refusal::WriteFault) => 5,
         Some(Refusal::Memory) => 6,

@@ -1,14 +1,16 @@
 // The top call.
-ghost use Rattle.std.specs.Prelude.{◌≡◌, ◌<◌, ◌≤◌, ◌⊎◌, ◌↔◌, ◌∷◌, [], map, string_bytes, Option, Some, None, IfOk, IfErr, IfSome, IsNone, IsSome};
+ghost use Rattle.std.specs.Prelude.{◌≡◌, ◌<◌, ◌≤◌, ◌*◌, ◌⊎◌, ◌↔◌, ◌∷◌, [], length, map, string_bytes, Option, Some, None, IfOk, IfErr, IfSome, IsNone, IsSome};
 ghost use Rattle.std.specs.Io.KnownBytes.{Appends, Keeps};
 ghost use Rattle.bt_io.specs.Faults.{Rose};
 ghost use Rattle.bt_io.specs.Taken.{AppendsPart};
+ghost use Rattle.rec_format.specs.Recordings.{IsValidRecording};
+ghost use Rattle.bt_top.specs.Count.{payloads_of};
 ghost use Rattle.bt_top.specs.Words.{operands_of, named_by};
 ghost use Rattle.bt_top.specs.Refusals.{status_of, usage_line, line_of};
-ghost use Rattle.bt_top.specs.Serve.{CountsEvents, MayCome, IsDue, OnBoth, IsFault, HasWork, IsCount, AsksFirst, WritesUnless};
+ghost use Rattle.bt_top.specs.Serve.{CountsEvents, MayCome, IsDue, OnBoth, ComesIfDue, refusal_in, HasWork, IsCount, AsksFirst, WritesUnless};
 
 use crate::count::work_of;
-use crate::judge::events_of;
+use crate::judge::{Counting, judge};
 use crate::refusal::{Operand, Refusal, refusal_of, status_of};
 use crate::report::{Report, Work};
 use crate::tell::{tell, tell_usage};
@@ -18,9 +20,16 @@ use bt_io::shelf::Shelf;
 use bt_io::sink::{Sink, write_all};
 use std::alloc::Global;
 
-/// Reads both files, and answers how many events are to be counted.
-fn read_files<S: Shelf>(alloc: Global, named: &Named<'_>, shelf: &mut S) -> Result<u32, Refusal>
-    ensures counted { IfOk result (CountsEvents (S.held shelf.old named.now.script.now) (S.held shelf.old named.now.recording.now)) }
+/// Reads both files, and answers what is to be counted.
+fn read_files<S: Shelf>(
+    alloc: Global,
+    named: &Named<'_>,
+    shelf: &mut S,
+) -> Result<Counting, Refusal>
+    ensures valid { IfOk result (λ counting. IsValidRecording counting.recording) }
+    ensures one_cpu { IfOk result (λ counting. length counting.recording.cpus ≡ 1) }
+    ensures counted { IfOk result (λ counting. CountsEvents (S.held shelf.old named.now.script.now) (S.held shelf.old named.now.recording.now) (payloads_of counting.format counting.recording)) }
+    ensures exact { OnBoth (S.held shelf.old named.now.script.now) (S.held shelf.old named.now.recording.now) (ComesIfDue (refusal_in result)) }
     ensures refused { IfErr result (MayCome (Rose (S.faults shelf.old) (S.faults shelf.new)) ⊥ (S.held shelf.old named.now.script.now) (S.held shelf.old named.now.recording.now)) }
     ensures asked { AsksFirst (S.asked shelf.old) (S.asked shelf.new) (named.now.script.now ∷ named.now.recording.now ∷ []) }
 {
@@ -32,7 +41,7 @@ fn read_files<S: Shelf>(alloc: Global, named: &Named<'_>, shelf: &mut S) -> Resu
         Ok(recording) => recording,
         Err(error) => return Err(refusal_of(Operand::Recording, error)),
     };
-    events_of(alloc, script.as_slice(), recording.as_slice())
+    judge(alloc, script.as_slice(), recording.as_slice())
 }
 
 /// A run that was refused before anything was written.
@@ -50,18 +59,20 @@ fn refused(refusal: Refusal) -> Report
 fn run<S: Shelf, K: Sink>(alloc: Global, named: &Named<'_>, shelf: &mut S, out: &mut K) -> Report
     ensures status { result.status ≡ status_of result.refusal }
     ensures refused { IfSome result.refusal (MayCome (Rose (S.faults shelf.old) (S.faults shelf.new)) (Rose (K.faults out.old) (K.faults out.new)) (S.held shelf.old named.now.script.now) (S.held shelf.old named.now.recording.now)) }
+    ensures exact { OnBoth (S.held shelf.old named.now.script.now) (S.held shelf.old named.now.recording.now) (ComesIfDue result.refusal) }
     ensures counted { HasWork result.refusal → IsCount (S.held shelf.old named.now.script.now) (S.held shelf.old named.now.recording.now) result.work }
     ensures worked { IsSome result.work → HasWork result.refusal }
+    ensures six_each { IfSome result.work (λ work. work.instructions ≡ 6 * length work.steps) }
     ensures written { result.refusal ≡ None → IfSome result.work (λ work. Appends (K.taken out.old) (K.taken out.new) work.text) }
     ensures part { result.refusal ≡ Some Refusal.WriteFault → IfSome result.work (λ work. AppendsPart (K.taken out.old) (K.taken out.new) work.text) }
     ensures nothing { IsNone result.work → Keeps (K.taken out.old) (K.taken out.new) }
     ensures asked { AsksFirst (S.asked shelf.old) (S.asked shelf.new) (named.now.script.now ∷ named.now.recording.now ∷ []) }
 {
-    let events = match read_files(alloc, named, shelf) {
-        Ok(events) => events,
+    let counting = match read_files(alloc, named, shelf) {
+        Ok(counting) => counting,
         Err(refusal) => return refused(refusal),
     };
-    let Ok(work) = work_of(alloc, events) else {
+    let Ok(work) = work_of(alloc, &counting) else {
         return refused(Refusal::Memory);
     };
     let refusal = match write_all(out, work.text.as_slice()) {
@@ -75,11 +86,14 @@ fn run<S: Shelf, K: Sink>(alloc: Global, named: &Named<'_>, shelf: &mut S, out: 
     }
 }
 
-/// Does what the words ask for: `run SCRIPT RECORDING` counts the events of a recording of one CPU
-/// and one event format, by the script that counts them, and writes the count to `out`.
+/// Does what the words ask for: `run SCRIPT RECORDING` counts those events of a recording of one CPU
+/// whose format the script names, and writes the count to `out`. For each of them the machine runs one
+/// fixed piece of BPF code (RFC 9669) over the event's payload, whose call of a helper makes the event's
+/// step.
 ///
 /// Refusals come in the order words, script read, recording read, recording, script, write. A file
-/// that is too long is refused at its read. Want of memory may come at any of them. Before the write
+/// that is too long is refused at its read. A recording is refused with the first check that its bytes
+/// fail, or where it has more than one CPU. Want of memory may come at any of them. Before the write
 /// nothing goes to `out`. What is refused is told by a line to `err`, and a fault there changes
 /// nothing else.
 pub fn serve<S: Shelf, K: Sink, E: Sink>(
@@ -98,12 +112,14 @@ pub fn serve<S: Shelf, K: Sink, E: Sink>(
 
     // Each other refusal comes only where it may, and exactly where it is due unless a fault comes.
     ensures refused { IfSome (operands_of (map string_bytes words.now)) (λ names. IfSome result.refusal (MayCome (Rose (S.faults shelf.old) (S.faults shelf.new)) (Rose (K.faults out.old) (K.faults out.new)) (S.held shelf.old names.script) (S.held shelf.old names.recording))) }
-    ensures exact { IfSome (operands_of (map string_bytes words.now)) (λ names. OnBoth (S.held shelf.old names.script) (S.held shelf.old names.recording) (λ script recording. (due : Option Refusal) → IsDue script recording due → (result.refusal ≡ due) ⊎ IsFault result.refusal)) }
+    ensures exact { IfSome (operands_of (map string_bytes words.now)) (λ names. OnBoth (S.held shelf.old names.script) (S.held shelf.old names.recording) (ComesIfDue result.refusal)) }
     ensures complete { IfSome (operands_of (map string_bytes words.now)) (λ names. OnBoth (S.held shelf.old names.script) (S.held shelf.old names.recording) (λ script recording. IsDue script recording None → ¬ Rose (S.faults shelf.old) (S.faults shelf.new) → ¬ Rose (K.faults out.old) (K.faults out.new) → (result.status ≡ 0) ⊎ (result.status ≡ 6))) }
 
-    // At status 0 and 5 the work is the count of the events, and its text is what was written.
+    // At status 0 and 5 the work is the count of the events, by a run of the code for each, and its
+    // text is what was written.
     ensures counted { (result.status ≡ 0) ⊎ (result.status ≡ 5) → IfSome (operands_of (map string_bytes words.now)) (λ names. IsCount (S.held shelf.old names.script) (S.held shelf.old names.recording) result.work) }
     ensures worked { IsSome result.work → (result.status ≡ 0) ⊎ (result.status ≡ 5) }
+    ensures six_each { IfSome result.work (λ work. work.instructions ≡ 6 * length work.steps) }
     ensures written { result.status ≡ 0 → IfSome result.work (λ work. Appends (K.taken out.old) (K.taken out.new) work.text) }
     ensures part { result.status ≡ 5 → IfSome result.work (λ work. AppendsPart (K.taken out.old) (K.taken out.new) work.text) }
     ensures nothing { IsNone result.work → Keeps (K.taken out.old) (K.taken out.new) }

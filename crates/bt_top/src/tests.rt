@@ -1,7 +1,14 @@
 // The printed bytes and lines, the order of refusals, and that calls succeed where memory is ample.
 ghost use Rattle.std.specs.Prelude.{◌-◌, ◌<◌, ◌^◌, None};
 
+use crate::made::{
+    COUNT_E, COUNT_SYS_ENTER, E, PAYLOAD, answers, recording, run, run_words, shelf, sink,
+    three_entries, words,
+};
+use crate::port::CountPort;
 use crate::serve::serve;
+use bpf_interp::ports::{PortFault, Ports};
+use bpf_interp::regions::Regions;
 use bt_core::items::Items;
 use bt_core::memory::Memory;
 use bt_io::mem_shelf::MemShelf;
@@ -9,113 +16,6 @@ use bt_io::mem_sink::MemSink;
 use bt_io::shelf::{Shelf, ShelfError};
 use std::alloc::Global;
 use std::test::Fail;
-
-/// The format text of a system call's entry.
-const SYS_ENTER: &[u8] =
-    b"name: sys_enter\nID: 21\nformat:\n\tfield:unsigned short common_type;\toffset:0;\tsize:2;\tsigned:0;\n\tfield:unsigned char common_flags;\toffset:2;\tsize:1;\tsigned:0;\n\tfield:unsigned char common_preempt_count;\toffset:3;\tsize:1;\tsigned:0;\n\tfield:int common_pid;\toffset:4;\tsize:4;\tsigned:1;\n\n\tfield:long id;\toffset:8;\tsize:8;\tsigned:1;\n\tfield:unsigned long args[6];\toffset:16;\tsize:48;\tsigned:0;\n\nprint fmt: \"NR %ld\", REC->id\n";
-
-/// The format text of an event `e` with one field.
-const E: &[u8] = b"name: e\nID: 7\nformat:\n\tfield:long v;\toffset:8;\tsize:8;\tsigned:1;\n";
-
-const COUNT_E: &[u8] = b"tracepoint:t:e { @ = count(); }";
-
-const COUNT_SYS_ENTER: &[u8] = b"tracepoint:raw_syscalls:sys_enter { @ = count(); }";
-
-/// A recording of one CPU and one format, from 0 to 2,000,000,000, whose events all have this payload.
-fn recording(
-    alloc: Global,
-    system: &[u8],
-    text: &[u8],
-    payload: &[u8],
-    events: u32,
-) -> Result<Vec<u8>, Memory> {
-    let mut bytes = Vec::from_slice(
-        alloc,
-        b"BTRACE01\x01\0\0\0\x01\0\0\0\0\0\0\0\0\0\0\0\x00\x94\x35\x77\0\0\0\0",
-    )?;
-    bytes.extend_from_slice(&(system.len().min(0xffff) as u16).to_le_bytes())?;
-    bytes.extend_from_slice(system)?;
-    bytes.extend_from_slice(&(text.len().min(0xffff) as u32).to_le_bytes())?;
-    bytes.extend_from_slice(text)?;
-    bytes.extend_from_slice(b"\0\0\0\0")?;
-    bytes.extend_from_slice(&events.to_le_bytes())?;
-    for event in 0..events {
-        bytes.extend_from_slice(&u64::from(event).to_le_bytes())?;
-        bytes.extend_from_slice(
-            b"\x01\0\0\0\x01\0\0\0\0\0\0\0\0\0\0\0bash\0\0\0\0\0\0\0\0\0\0\0\0",
-        )?;
-        bytes.extend_from_slice(&(payload.len().min(0xffff) as u32).to_le_bytes())?;
-        bytes.extend_from_slice(payload)?;
-    }
-    Ok(bytes)
-}
-
-/// Three entries of system calls, with 64 bytes of payload each.
-fn three_entries(alloc: Global) -> Result<Vec<u8>, Memory> {
-    let mut payload = Vec::from_slice(alloc, b"\x15\0")?;
-    payload.resize(64, 0)?;
-    recording(alloc, b"raw_syscalls", SYS_ENTER, payload.as_slice(), 3)
-}
-
-fn words(alloc: Global, words: &[&str]) -> Result<Vec<String>, Memory> {
-    let mut owned = Vec::new(alloc);
-    for word in words {
-        owned.push(String::from_str(alloc, word)?)?;
-    }
-    Ok(owned)
-}
-
-fn shelf(alloc: Global, script: &[u8], recording: Vec<u8>) -> Result<MemShelf, Memory> {
-    let mut files = Vec::new(alloc);
-    files.push((
-        String::from_str(alloc, "s.bt")?,
-        Vec::from_slice(alloc, script)?,
-    ))?;
-    files.push((String::from_str(alloc, "r.bin")?, recording))?;
-    Ok(MemShelf::new(alloc, files, Vec::new(alloc)))
-}
-
-fn sink(alloc: Global) -> Result<MemSink, Memory> {
-    MemSink::new(alloc, 4096, 4096, Vec::new(alloc))
-}
-
-/// The words `run s.bt r.bin`.
-fn run_words(alloc: Global) -> Result<Vec<String>, Memory> {
-    words(alloc, &["run", "s.bt", "r.bin"])
-}
-
-/// Whether `run s.bt r.bin` over the shelf ends with this status and writes these bytes, with ample sinks.
-fn answers<S: Shelf>(
-    alloc: Global,
-    shelf: &mut S,
-    status: u8,
-    text: &[u8],
-    line: &[u8],
-) -> Result<bool, Memory> {
-    let words = run_words(alloc)?;
-    let mut out = sink(alloc)?;
-    let mut err = sink(alloc)?;
-    let report = serve(alloc, words.as_slice(), shelf, &mut out, &mut err);
-    Ok(report.status == status && out.taken() == text && err.taken() == line)
-}
-
-/// The same over these files.
-fn run(
-    alloc: Global,
-    script: &[u8],
-    recording: Vec<u8>,
-    status: u8,
-    text: &[u8],
-    line: &[u8],
-) -> Result<bool, Memory> {
-    answers(
-        alloc,
-        &mut shelf(alloc, script, recording)?,
-        status,
-        text,
-        line,
-    )
-}
 
 /// Whether a script over the three entries is refused with this line.
 fn is_refused(alloc: Global, script: &[u8], line: &[u8]) -> Result<bool, Memory> {
@@ -142,7 +42,7 @@ fn no_event_prints_nothing(rt: HostRuntime) -> Result<(), Fail> {
 #[test]
 fn a_newline_may_end_the_script(rt: HostRuntime) -> Result<(), Fail> {
     let alloc = rt.alloc();
-    let recording = recording(alloc, b"t", E, b"\x07\0", 10)?;
+    let recording = recording(alloc, b"t", E, PAYLOAD, 10)?;
     let script = b"tracepoint:t:e { @ = count(); }\n";
     assert!(rt; run(alloc, script, recording, 0, b"@: 10\n\n", b"")?);
     Ok(())
@@ -153,7 +53,16 @@ fn a_recording_is_refused_before_its_script(rt: HostRuntime) -> Result<(), Fail>
     let alloc = rt.alloc();
     let mut cut = three_entries(alloc)?;
     cut.truncate(795);
-    assert!(rt; run(alloc, b"BEGIN { }", cut, 3, b"", b"r.bin: not built yet\n")?);
+    assert!(rt;
+        run(
+            alloc,
+            b"BEGIN { }",
+            cut,
+            3,
+            b"",
+            b"r.bin: C1 truncated at byte 795\n"
+        )?
+    );
     let mut longer = three_entries(alloc)?;
     longer.push(0).map_err(Memory::from)?;
     assert!(rt;
@@ -163,7 +72,7 @@ fn a_recording_is_refused_before_its_script(rt: HostRuntime) -> Result<(), Fail>
             longer,
             3,
             b"",
-            b"r.bin: not built yet\n"
+            b"r.bin: C10 trailing bytes at byte 796\n"
         )?
     );
     Ok(())
@@ -279,6 +188,25 @@ fn a_write_fault_leaves_a_prefix_and_the_work(rt: HostRuntime) -> Result<(), Fai
     let work = report.work.ok_or("no work")?;
     assert!(rt; work.text.as_slice() == b"@: 3\n\n".as_slice());
     assert!(rt; work.steps.len() == 3);
+    assert!(rt; work.instructions == 18);
+    Ok(())
+}
+
+/// What a port that has made no step answers to a call with these first and third arguments.
+fn port_answer(alloc: Global, number: u32, map: u64, added: u64) -> Result<u64, PortFault> {
+    let context = [0; 128];
+    let mut memory = Regions::new(&context, &[]);
+    CountPort::new(alloc).call(alloc, number, [map, 0, added, 0, 0], &mut memory)
+}
+
+#[test]
+fn the_port_has_one_helper_and_one_map(rt: HostRuntime) -> Result<(), Fail> {
+    let alloc = rt.alloc();
+    assert!(rt; port_answer(alloc, 4, 0, 1) == Ok(0));
+    assert!(rt; port_answer(alloc, 3, 0, 1) == Err(PortFault::Helper));
+    assert!(rt; port_answer(alloc, 5, 0, 1) == Err(PortFault::Helper));
+    assert!(rt; port_answer(alloc, 4, 1, 1) == Err(PortFault::Helper));
+    assert!(rt; port_answer(alloc, 4, 1 << 32, 1) == Err(PortFault::Helper));
     Ok(())
 }
 
@@ -331,7 +259,7 @@ fn a_long_recording_and_want_of_memory_are_told(rt: HostRuntime) -> Result<(), F
 #[test]
 fn a_million_events_are_counted(rt: HostRuntime) -> Result<(), Fail> {
     let alloc = rt.alloc();
-    let recording = recording(alloc, b"t", E, b"\x07\0", 1_048_576)?;
+    let recording = recording(alloc, b"t", E, PAYLOAD, 1_048_576)?;
     assert!(rt; run(alloc, COUNT_E, recording, 0, b"@: 1048576\n\n", b"")?);
     Ok(())
 }
