@@ -5,3 +5,5 @@ pub mod expr;
 pub mod place;
 pub mod probe;
 pub mod stmt;
+mod words;
+mod write_expr;
