@@ -33,17 +33,13 @@ optional_text (Some n) = token (codes ",") ++ number_text n
 abbrev pub simple : List ℕ → List ℕ
 simple text = text ++ ending (codes ";")
 
--- an arm of a choice, whose block has this text
-abbrev pub arm_text : Expr × List ℕ → List ℕ
-arm_text arm = call_text (codes "if") (expr_text arm.0) ++ arm.1
-
-abbrev pub other_arms : List (Expr × List ℕ) → List ℕ
-other_arms [] = []
-other_arms (arm ∷ arms) = token (codes "else") ++ (arm_text arm ++ other_arms arms)
+-- the arms of a choice, by their conditions and the texts of their blocks, with a word before the first and `else` before each other
+abbrev pub arms_after : List ℕ → List (Expr × List ℕ) → List ℕ
+arms_after word [] = []
+arms_after word (arm ∷ arms) = word ++ (call_text (codes "if") (expr_text arm.0) ++ (arm.1 ++ arms_after (token (codes "else")) arms))
 
 abbrev pub arms_text : List (Expr × List ℕ) → List ℕ
-arms_text [] = []
-arms_text (arm ∷ arms) = arm_text arm ++ other_arms arms
+arms_text arms = arms_after [] arms
 
 abbrev pub otherwise_text : Option (List ℕ) → List ℕ
 otherwise_text None = []
@@ -86,3 +82,7 @@ block_text = fold-Block (List ℕ) (List ℕ) (List ℕ) kind_layer block_layer 
 
 abbrev pub stmt_text : Stmt → List ℕ
 stmt_text = fold-Stmt (List ℕ) (List ℕ) (List ℕ) kind_layer block_layer stmt_layer
+
+-- an arm with the text of its block
+abbrev pub arm_of : Expr × Block → Expr × List ℕ
+arm_of arm = (arm.0, block_text arm.1)

@@ -6,4 +6,6 @@ pub mod place;
 pub mod probe;
 pub mod stmt;
 mod words;
+mod write_agg;
 mod write_expr;
+mod write_stmt;
