@@ -16,7 +16,7 @@ token word = word ++ 32 ∷ []
 
 -- a token that ends its line
 abbrev pub ending : List ℕ → List ℕ
-ending word = word ++ 10 ∷ []
+ending word = word ++ 32 ∷ 10 ∷ []
 
 -- a number, by its 64 bits without a sign
 abbrev pub number_text : ℤ → List ℕ

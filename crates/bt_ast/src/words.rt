@@ -22,7 +22,7 @@ pub(crate) fn write_ending(out: &mut Vec<u8>, word: &[u8]) -> Result<(), Memory>
     ensures { OnOk result (out.new.items ≡ out.old.items ++ ending word.now) }
 {
     out.extend_from_slice(word)?;
-    out.push(b'\n')?;
+    out.extend_from_slice(b" \n")?;
     Ok(())
 }
 
