@@ -1,6 +1,6 @@
 -- One part more, as the reader goes.
-use Rattle.std.proofs.Common.{◌≡◌, ◌⊎◌, ℕ, suc, ◌+◌, ◌<◌, ◌≤◌, ◌^◌, Bool, true, false, cond, ◌||◌, Option, Some, None, List, [], ◌∷◌, ◌++◌, length, take, drop, refl, ap, sym, subst, ◌∙◌, append_assoc, arith, inl, inr}
-use Rattle.std.specs.Prelude.{nat_lt, sum_by}
+use Rattle.std.proofs.Common.{◌≡◌, ℕ, ◌+◌, ◌<◌, ◌≤◌, Bool, true, false, cond, ◌||◌, Option, Some, None, List, [], ◌∷◌, ◌++◌, length, take, drop, refl, ap, sym, subst, ◌∙◌, append_assoc, arith, inl, inr}
+use Rattle.std.specs.Prelude.{nat_lt}
 use Rattle.std.specs.List.{flat_map, list_any, slice_get, AllByRecursion}
 use Rattle.std.specs.Option.{option_map}
 use Rattle.std.proofs.lemmas.Bool.{ltb-false}
@@ -15,11 +15,10 @@ use Rattle.rec_format.specs.declared.error.RecordingError.TheVariants as fault
 use Rattle.rec_format.specs.declared.error.CountOf.TheVariants as count
 use Rattle.rec_format.specs.declared.recording.CpuTrack.{CpuTrack}
 use Rattle.rec_format.specs.declared.recording.Event.{Event}
-use Rattle.rec_format.specs.Pieces.{sized_bytes}
-use Rattle.rec_format.specs.Parts.{FormatPart, IsFormatPart, format_bytes, format_at, CpuPart, IsCpuPart, cpu_bytes, cpu_at, EventPart, IsEventPart, event_bytes, event_at}
+use Rattle.rec_format.specs.Parts.{FormatPart, format_bytes, format_at, CpuPart, cpu_bytes, cpu_at, EventPart, event_bytes, event_at}
 use Rattle.rec_format.specs.Checks.{is_same_event, format_of, IsFormatFault, format_with, payload_fault, time_after, event_fault, least_after, total_events, cpu_fault}
-use Rattle.rec_format.specs.Recordings.{part_of_format, part_of_event, head_of_track, formats_bytes, events_bytes, track_bytes, tracks_bytes, IsFormat, AreApart, AreFormats, IsEvent, AreInTime, AreEvents, IsTrack, AreNumbered, AreTracks}
-use Rattle.rec_format.specs.Faults.{IsCutShort, IsRefused, FormatFails, HasFormats, EventFails, HasEvents, TrackFails, CpuFails, HasTracks}
+use Rattle.rec_format.specs.Recordings.{part_of_format, part_of_event, formats_bytes, events_bytes, track_bytes, tracks_bytes, IsFormat, AreApart, IsEvent, AreInTime, IsTrack, AreNumbered}
+use Rattle.rec_format.specs.Faults.{FormatFails, HasFormats, EventFails, HasEvents, TrackFails, CpuFails, HasTracks}
 use Rattle.rec_format.specs.Answers.{AddsFormat, event_of, IsPlaced}
 use Rattle.rec_format.proofs.Fields.{IsBytes, IsBytes-take, IsBytes-drop, wide2}
 use Rattle.rec_format.proofs.PartLaws.{format_reads, cpu_reads, event_reads, cut_short, refused}
@@ -131,13 +130,13 @@ passes formats earliest latest cpu place part none =
                       (elim (nat_lt len found.1.layout.size) as (λ b. nat_lt len found.1.layout.size ≡ b → cond b (Some (fault.ShortPayload cpu place)) None ≡ None → Passes formats earliest latest part) [
                         | true ↦ λ p q. absurd cc
                         | false ↦ λ p q. record {
-                            low = ltb-false part.time earliest times.0;
-                            high = ltb-false latest part.time times.1;
-                            two = ltb-false len 2 f;
-                            found = found;
-                            known = k;
-                            long = ltb-false len found.1.layout.size p;
-                          }
+                          low = ltb-false part.time earliest times.0;
+                          high = ltb-false latest part.time times.1;
+                          two = ltb-false len 2 f;
+                          found = found;
+                          known = k;
+                          long = ltb-false len found.1.layout.size p;
+                        }
                       ]) refl m
                 ]) refl g
           ]) refl h

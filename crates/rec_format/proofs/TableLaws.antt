@@ -33,9 +33,9 @@ found_there id (f ∷ fs) p h =
     (elim (f.layout.id == id) as (λ b. (f.layout.id == id) ≡ b → cond b (Some (0, f)) (option_map later (format_with id fs)) ≡ Some p → P p) [
       | true ↦ λ same e. subst P (same_Some (0, f) p e) (refl, eqb-true f.layout.id id same)
       | false ↦ λ other e. (elim (format_with id fs) as (λ o. format_with id fs ≡ o → option_map later o ≡ Some p → P p) [
-          | None ↦ λ n g. absurd cc
-          | Some q ↦ λ s g. let there = found_there id fs q s in subst P (same_Some (suc q.0, q.1) p g) (there.0, there.1)
-        ]) refl e
+        | None ↦ λ n g. absurd cc
+        | Some q ↦ λ s g. let there = found_there id fs q s in subst P (same_Some (suc q.0, q.1) p g) (there.0, there.1)
+      ]) refl e
     ]) refl h
 
 pub place_found : (id place : ℕ) (fs : List Format) (got : Option Format) → Some place ≡ option_map place_in (format_with id fs) → got ≡ slice_get fs place → option_map (λ f. (place, f)) got ≡ format_with id fs
@@ -120,9 +120,9 @@ equal_cmp : (x y : ℕ) → is_eq (nat_cmp x y) ≡ (x == y)
 equal_cmp x y =
     (elim (nat_lt x y) as (λ b. nat_lt x y ≡ b → is_eq (cond b Less (cond (x == y) Equal Greater)) ≡ (x == y)) [
       | true ↦ λ less. (elim (x == y) as (λ b. (x == y) ≡ b → false ≡ b) [
-          | true ↦ λ same. let one = eqb-true x y same in let two = ltb-true x y less in absurd (omega arith)
-          | false ↦ λ other. refl
-        ]) refl
+        | true ↦ λ same. let one = eqb-true x y same in let two = ltb-true x y less in absurd (omega arith)
+        | false ↦ λ other. refl
+      ]) refl
       | false ↦ λ more. elim (x == y) as (λ b. is_eq (cond b Equal Greater) ≡ b) [ true ↦ refl | false ↦ refl ]
     ]) refl
 

@@ -1,9 +1,8 @@
 -- Bytes are one recording or have one fault: a reading that is a function of the bytes goes the same way.
-use Rattle.std.proofs.Common.{◌≡◌, ◌≢◌, ◌⊎◌, ℕ, zero, suc, ◌+◌, ◌-◌, ◌<◌, ◌≤◌, Bool, true, false, cond, not, ◌||◌, Option, Some, None, Result, Ok, Err, List, [], ◌∷◌, ◌++◌, length, take, drop, refl, ap, sym, subst, ◌∙◌, append_assoc, arith, inl, inr}
-use Rattle.std.specs.Prelude.{nat_lt, nat_le, ◌&&◌, codes, unwrap_or, ◌==◌, IfOk, IfErr}
+use Rattle.std.proofs.Common.{◌≡◌, ◌≢◌, ◌⊎◌, ℕ, zero, suc, ◌+◌, ◌-◌, ◌<◌, ◌≤◌, Bool, true, false, cond, ◌||◌, Option, Some, None, Result, Ok, Err, List, [], ◌∷◌, ◌++◌, length, drop, refl, ap, sym, subst, ◌∙◌, append_assoc, arith, inl, inr}
+use Rattle.std.specs.Prelude.{nat_lt, nat_le, ◌&&◌, unwrap_or, ◌==◌}
 use Rattle.std.specs.List.{flat_map, list_all, list_any, slice_get, AllByRecursion}
 use Rattle.std.specs.Option.{option_map}
-use Rattle.std.specs.Str.{bytes_eq}
 use Rattle.std.proofs.lemmas.Bool.{le-ltb, eq-eqb, ne_eqb, leb-true, and_parts}
 use Rattle.std.proofs.lemmas.List.{append-nil, length-append, length-take, take-append-drop}
 use Rattle.std.proofs.lemmas.List.Concat.{flat_map-cons}
@@ -21,13 +20,13 @@ use Rattle.rec_format.specs.declared.error.CountOf.TheVariants as count
 use Rattle.rec_format.specs.declared.recording.Recording.{Recording}
 use Rattle.rec_format.specs.declared.recording.CpuTrack.{CpuTrack}
 use Rattle.rec_format.specs.declared.recording.Event.{Event}
-use Rattle.rec_format.specs.Parts.{HeaderPart, IsHeaderPart, header_bytes, header_at, FormatPart, IsFormatPart, format_bytes, format_at, CpuPart, IsCpuPart, cpu_bytes, cpu_at, EventPart, IsEventPart, event_bytes, event_at}
+use Rattle.rec_format.specs.Parts.{HeaderPart, header_bytes, header_at, FormatPart, IsFormatPart, format_bytes, format_at, CpuPart, IsCpuPart, cpu_bytes, cpu_at, EventPart, IsEventPart, event_bytes, event_at}
 use Rattle.rec_format.specs.Checks.{header_fault, is_system_byte, is_system, is_same_event, format_of, IsFormatFault, format_with, payload_fault, time_after, event_fault, least_after, total_events, cpu_fault}
-use Rattle.rec_format.specs.Recordings.{header_of, part_of_format, part_of_event, head_of_track, formats_bytes, events_bytes, track_bytes, tracks_bytes, recording_bytes, IsFormat, AreApart, AreFormats, IsEvent, AreInTime, AreEvents, IsTrack, AreNumbered, AreTracks, IsValidRecording}
-use Rattle.rec_format.specs.Faults.{IsCutShort, IsRefused, HeaderFails, HasHeader, FormatFails, HasFormats, EventFails, HasEvents, TrackFails, CpuFails, HasTracks, FailsInFormats, FailsInCpus, HasBytesLeft, IsRecordingFault}
+use Rattle.rec_format.specs.Recordings.{header_of, part_of_format, part_of_event, head_of_track, formats_bytes, events_bytes, track_bytes, tracks_bytes, recording_bytes, IsFormat, AreApart, AreFormats, IsEvent, AreInTime, IsTrack, AreNumbered, IsValidRecording}
+use Rattle.rec_format.specs.Faults.{IsCutShort, IsRefused, HeaderFails, HasHeader, FormatFails, HasFormats, EventFails, HasEvents, TrackFails, CpuFails, HasTracks, IsRecordingFault}
 use Rattle.rec_format.specs.Answers.{Answers, event_of, IsSpelled}
 use Rattle.rec_format.proofs.Fields.{IsBytes}
-use Rattle.rec_format.proofs.PartLaws.{Reads, header_reads, format_reads, cpu_reads, event_reads, nothing_read}
+use Rattle.rec_format.proofs.PartLaws.{header_reads, format_reads, cpu_reads, event_reads, nothing_read}
 use Rattle.rec_format.proofs.LoopLaws.{suffix_fits, time_more, least_more, total_more, total_first}
 
 -- ---- steps that may fail
@@ -120,16 +119,16 @@ read_text text = layout_read text (layout_or_fault text)
 text_again : (text : List ℕ) (layout : Layout) → IsLayoutOf text layout → read_text text ≡ Ok layout
 unfolding read_text
 text_again text layout is = (elim (layout_or_fault text) as (λ o. layout_read text o ≡ Ok layout) [
-      | inl l ↦ ap (λ (x : Layout). Ok x) (one_layout text l.0 layout l.1 is)
-      | inr e ↦ let clash : None ≡ Some e.0 = sym (IsLayoutOf-read text layout is).0 ∙ e.1 in absurd cc
-    ])
+  | inl l ↦ ap (λ (x : Layout). Ok x) (one_layout text l.0 layout l.1 is)
+  | inr e ↦ let clash : None ≡ Some e.0 = sym (IsLayoutOf-read text layout is).0 ∙ e.1 in absurd cc
+])
 
 text_fails : (text : List ℕ) (e : FormatError) → layout_fault text ≡ Some e → read_text text ≡ Err e
 unfolding read_text
 text_fails text e broken = (elim (layout_or_fault text) as (λ o. layout_read text o ≡ Err e) [
-      | inl l ↦ let clash : None ≡ Some e = sym (IsLayoutOf-read text l.0 l.1).0 ∙ broken in absurd cc
-      | inr f ↦ ap (λ (x : FormatError). Err x) (same_Some f.0 e (sym f.1 ∙ broken))
-    ])
+  | inl l ↦ let clash : None ≡ Some e = sym (IsLayoutOf-read text l.0 l.1).0 ∙ broken in absurd cc
+  | inr f ↦ ap (λ (x : FormatError). Err x) (same_Some f.0 e (sym f.1 ∙ broken))
+])
 
 -- the format of a part whose text says this
 abbrev with_layout : List Format → FormatPart → Result Layout FormatError → Result Format RecordingError
@@ -177,10 +176,10 @@ format_stops whole earlier bytes e fits (inr r) =
     ∙ elim r.has_fault [
       | inl bad ↦ ap on_system bad.0 ∙ ap (λ (x : RecordingError). Err x) (sym bad.1)
       | inr ok ↦ ap on_system ok.0 ∙ elim ok.1 [
-          | inl t ↦ ap on_text (text_fails part.text t.rule t.broken) ∙ ap (λ (x : RecordingError). Err x) (sym t.told)
-          | inr s ↦ ap on_text (text_again part.text s.layout s.read)
-              ∙ ap (λ b. then_read (cond b (Err (fault.SameEvent (length earlier))) (Ok (format_of part s.layout))) (λ g. Ok (g, r.rest))) s.same ∙ ap (λ (x : RecordingError). Err x) (sym s.told)
-        ]
+        | inl t ↦ ap on_text (text_fails part.text t.rule t.broken) ∙ ap (λ (x : RecordingError). Err x) (sym t.told)
+        | inr s ↦ ap on_text (text_again part.text s.layout s.read)
+            ∙ ap (λ b. then_read (cond b (Err (fault.SameEvent (length earlier))) (Ok (format_of part s.layout))) (λ g. Ok (g, r.rest))) s.same ∙ ap (λ (x : RecordingError). Err x) (sym s.told)
+      ]
     ]
 
 all_but : (x : Format) (a : Format) (acc xs : List Format) → AllByRecursion (λ g. is_same_event g a ≡ false) (acc ++ x ∷ xs) → is_same_event x a ≡ false
@@ -291,9 +290,9 @@ event_stops whole formats start end cpu acc bytes e fits (inr r) =
 events_chain : (formats : List Format) (start end : ℕ) (es acc : List Event) → AllByRecursion (IsEvent formats) es → AreInTime (time_after start acc) end es → Chain (EventFits formats start end) acc es
 events_chain formats start end [] acc each in_time = tt
 events_chain formats start end (e ∷ es) acc each in_time = (
-      record { is = each.0; low = in_time.0; high = in_time.1 },
-      events_chain formats start end es (acc ++ e ∷ []) each.1 (subst (λ (t : ℕ). AreInTime t end es) (sym (time_more start acc e)) in_time.2),
-    )
+  record { is = each.0; low = in_time.0; high = in_time.1 },
+  events_chain formats start end es (acc ++ e ∷ []) each.1 (subst (λ (t : ℕ). AreInTime t end es) (sym (time_more start acc e)) in_time.2),
+)
 
 abbrev event_spelling : Event → List ℕ
 event_spelling e = event_bytes (part_of_event e)
@@ -367,9 +366,9 @@ tracks_chain : (formats : List Format) (start end : ℕ) (cs acc : List CpuTrack
     → Chain (TrackFits formats start end) acc cs
 tracks_chain formats start end [] acc each numbered few = tt
 tracks_chain formats start end (c ∷ cs) acc each numbered few = (
-      record { is = each.0; low = numbered.0; few = omega (arith, total_first c cs, few) },
-      tracks_chain formats start end cs (acc ++ c ∷ []) each.1 (subst (λ (n : ℕ). AreNumbered n cs) (sym (least_more 0 acc c)) numbered.1) (omega (arith, total_more acc c, total_first c cs, few)),
-    )
+  record { is = each.0; low = numbered.0; few = omega (arith, total_first c cs, few) },
+  tracks_chain formats start end cs (acc ++ c ∷ []) each.1 (subst (λ (n : ℕ). AreNumbered n cs) (sym (least_more 0 acc c)) numbered.1) (omega (arith, total_more acc c, total_first c cs, few)),
+)
 
 tracks_again : (whole : ℕ) (formats : List Format) (start end n : ℕ) (bytes rest : List ℕ) (cs : List CpuTrack) → AreFormats formats → HasTracks formats start end n bytes cs rest
     → many (read_track whole formats start end) n [] bytes ≡ Ok (cs, rest)
@@ -492,14 +491,14 @@ pub answer_only : (bytes : List ℕ) (answer : Answer) → IsBytes bytes → Ans
     → (answer ≡ Ok r) ⊎ (answer ≡ Err fault.Memory)
 answer_only bytes (Ok x) fits is r v spelled = inl (ap (λ (y : Recording). Ok y) (one_recording x r is.valid v (sym is.spelled ∙ spelled)))
 answer_only bytes (Err e) fits is r v spelled = elim (is_memory e) [
-      | inl m ↦ inr (ap (λ (y : RecordingError). Err y) m)
-      | inr other ↦ absurd (no_fault_beside r bytes e fits v spelled (is other))
-    ]
+  | inl m ↦ inr (ap (λ (y : RecordingError). Err y) m)
+  | inr other ↦ absurd (no_fault_beside r bytes e fits v spelled (is other))
+]
 
 pub answer_refused : (bytes : List ℕ) (answer : Answer) → IsBytes bytes → Answers answer (IsSpelled bytes) (IsRecordingFault bytes) → (e : RecordingError) → IsRecordingFault bytes e
     → (answer ≡ Err e) ⊎ (answer ≡ Err fault.Memory)
 answer_refused bytes (Ok x) fits is e wrong = absurd (no_fault_beside x bytes e fits is.valid is.spelled wrong)
 answer_refused bytes (Err f) fits is e wrong = elim (is_memory f) [
-      | inl m ↦ inr (ap (λ (y : RecordingError). Err y) m)
-      | inr other ↦ inl (ap (λ (y : RecordingError). Err y) (one_fault bytes f e fits (is other) wrong))
-    ]
+  | inl m ↦ inr (ap (λ (y : RecordingError). Err y) m)
+  | inr other ↦ inl (ap (λ (y : RecordingError). Err y) (one_fault bytes f e fits (is other) wrong))
+]

@@ -1,5 +1,5 @@
 -- The parts that were read make a recording.
-use Rattle.std.proofs.Common.{◌≡◌, ℕ, ◌<◌, ◌≤◌, Bool, true, false, cond, not, ◌||◌, Option, Some, None, List, [], ◌∷◌, ◌≢◌, ◌++◌, length, refl, ap, sym, ◌∙◌, append_assoc, arith}
+use Rattle.std.proofs.Common.{◌≡◌, ℕ, ◌≤◌, Bool, true, false, cond, not, ◌||◌, Option, Some, None, List, [], ◌∷◌, ◌≢◌, ◌++◌, length, refl, ap, sym, ◌∙◌, append_assoc, arith}
 use Rattle.std.specs.Prelude.{nat_lt, codes, ◌==◌}
 use Rattle.std.specs.Str.{bytes_eq}
 use Rattle.std.proofs.lemmas.Bool.{ltb-false, eqb-false, eqb-true}
@@ -47,17 +47,17 @@ header_bounds h none =
     (elim m as (λ b. m ≡ b → on_magic b ≡ None → Bounds h) [
       | true ↦ λ e g. absurd cc
       | false ↦ λ e1 g1. (elim c as (λ b. c ≡ b → on_cpus b ≡ None → Bounds h) [
+        | true ↦ λ e g. absurd cc
+        | false ↦ λ e2 g2. (elim f as (λ b. f ≡ b → on_formats b ≡ None → Bounds h) [
           | true ↦ λ e g. absurd cc
-          | false ↦ λ e2 g2. (elim f as (λ b. f ≡ b → on_formats b ≡ None → Bounds h) [
-              | true ↦ λ e g. absurd cc
-              | false ↦ λ e3 g3. (elim s as (λ b. s ≡ b → on_span b ≡ None → Bounds h) [
-                  | true ↦ λ e g. absurd cc
-                  | false ↦ λ e4 g4.
-                      let cpus = or_parts (h.cpus == 0) (nat_lt 64 h.cpus) e2 in
-                      record { magic = same_magic h.magic e1; some_cpus = cpus.0; few_cpus = ltb-false 64 h.cpus cpus.1; few_formats = ltb-false 4096 h.formats e3; span = ltb-false h.end h.start e4 }
-                ]) refl g3
-            ]) refl g2
-        ]) refl g1
+          | false ↦ λ e3 g3. (elim s as (λ b. s ≡ b → on_span b ≡ None → Bounds h) [
+            | true ↦ λ e g. absurd cc
+            | false ↦ λ e4 g4.
+                let cpus = or_parts (h.cpus == 0) (nat_lt 64 h.cpus) e2 in
+                record { magic = same_magic h.magic e1; some_cpus = cpus.0; few_cpus = ltb-false 64 h.cpus cpus.1; few_formats = ltb-false 4096 h.formats e3; span = ltb-false h.end h.start e4 }
+          ]) refl g3
+        ]) refl g2
+      ]) refl g1
     ]) refl none
 
 abbrev made_of : HeaderPart → List Format → List CpuTrack → Recording

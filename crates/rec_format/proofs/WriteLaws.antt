@@ -1,6 +1,6 @@
 -- What was written so far, and a part more.
-use Rattle.std.proofs.Common.{◌≡◌, ℕ, ◌+◌, ◌<◌, ◌≤◌, ◌^◌, Result, Ok, Err, List, [], ◌∷◌, ◌++◌, length, take, get_or, refl, ap, sym, subst, ◌∙◌, append_assoc, arith}
-use Rattle.std.specs.Prelude.{OnOk, nat_lt, nat_le, true, ◌&&◌}
+use Rattle.std.proofs.Common.{◌≡◌, ℕ, ◌+◌, ◌<◌, ◌≤◌, Result, Ok, Err, List, [], ◌∷◌, ◌++◌, length, take, get_or, ap, sym, ◌∙◌, append_assoc, arith}
+use Rattle.std.specs.Prelude.{OnOk, nat_lt, nat_le, ◌&&◌}
 use Rattle.std.specs.List.{flat_map, list_all, AllByRecursion}
 use Rattle.std.proofs.lemmas.Bool.{leb-true, and_parts}
 use Rattle.std.proofs.lemmas.List.{take_more, flat_map_more}
@@ -23,9 +23,9 @@ pub written5 : {T E : Type 0} (r : Result T E) (old s1 s2 s3 s4 s5 a b c d e : L
 written5 r old s1 s2 s3 s4 s5 a b c d e h1 h2 h3 h4 h5 =
     on_ok (s5 ≡ s4 ++ e) (s5 ≡ old ++ (a ++ (b ++ (c ++ (d ++ e))))) r
     (λ h.
-        let all : s5 ≡ ((((old ++ a) ++ b) ++ c) ++ d) ++ e = h ∙ ap (λ l. l ++ e) (h4 ∙ ap (λ l. l ++ d) (h3 ∙ ap (λ l. l ++ c) (h2 ∙ ap (λ l. l ++ b) h1))) in
-        let moved : ((((old ++ a) ++ b) ++ c) ++ d) ++ e ≡ old ++ (a ++ (b ++ (c ++ (d ++ e)))) = simp append_assoc in
-        all ∙ moved) h5
+    let all : s5 ≡ ((((old ++ a) ++ b) ++ c) ++ d) ++ e = h ∙ ap (λ l. l ++ e) (h4 ∙ ap (λ l. l ++ d) (h3 ∙ ap (λ l. l ++ c) (h2 ∙ ap (λ l. l ++ b) h1))) in
+    let moved : ((((old ++ a) ++ b) ++ c) ++ d) ++ e ≡ old ++ (a ++ (b ++ (c ++ (d ++ e)))) = simp append_assoc in
+    all ∙ moved) h5
 
 -- seven pieces
 pub written7 : {T E : Type 0} (r : Result T E) (old s1 s2 s3 s4 s5 s6 s7 a b c d e f g : List ℕ) → s1 ≡ old ++ a → s2 ≡ s1 ++ b → s3 ≡ s2 ++ c → s4 ≡ s3 ++ d → s5 ≡ s4 ++ e → s6 ≡ s5 ++ f → OnOk r (s7 ≡ s6 ++ g)
@@ -33,10 +33,10 @@ pub written7 : {T E : Type 0} (r : Result T E) (old s1 s2 s3 s4 s5 s6 s7 a b c d
 written7 r old s1 s2 s3 s4 s5 s6 s7 a b c d e f g h1 h2 h3 h4 h5 h6 h7 =
     on_ok (s7 ≡ s6 ++ g) (s7 ≡ old ++ (a ++ (b ++ (c ++ (d ++ (e ++ (f ++ g))))))) r
     (λ h.
-        let all : s7 ≡ ((((((old ++ a) ++ b) ++ c) ++ d) ++ e) ++ f) ++ g =
-        h ∙ ap (λ l. l ++ g) (h6 ∙ ap (λ l. l ++ f) (h5 ∙ ap (λ l. l ++ e) (h4 ∙ ap (λ l. l ++ d) (h3 ∙ ap (λ l. l ++ c) (h2 ∙ ap (λ l. l ++ b) h1))))) in
-        let moved : ((((((old ++ a) ++ b) ++ c) ++ d) ++ e) ++ f) ++ g ≡ old ++ (a ++ (b ++ (c ++ (d ++ (e ++ (f ++ g)))))) = simp append_assoc in
-        all ∙ moved) h7
+    let all : s7 ≡ ((((((old ++ a) ++ b) ++ c) ++ d) ++ e) ++ f) ++ g =
+    h ∙ ap (λ l. l ++ g) (h6 ∙ ap (λ l. l ++ f) (h5 ∙ ap (λ l. l ++ e) (h4 ∙ ap (λ l. l ++ d) (h3 ∙ ap (λ l. l ++ c) (h2 ∙ ap (λ l. l ++ b) h1))))) in
+    let moved : ((((((old ++ a) ++ b) ++ c) ++ d) ++ e) ++ f) ++ g ≡ old ++ (a ++ (b ++ (c ++ (d ++ (e ++ (f ++ g)))))) = simp append_assoc in
+    all ∙ moved) h7
 
 -- one item more
 pub written_more : {X : Type 0} (spelling : X → List ℕ) (xs : List X) (i : ℕ) (x : X) (old now later : List ℕ) → i < length xs → x ≡ get_or xs i x → now ≡ old ++ flat_map spelling (take i xs) → later ≡ now ++ spelling x
@@ -62,9 +62,9 @@ formats_writable fs all = each_other IsFormat CanWriteFormat format_writable fs 
 pub tracks_writable : (formats : List Format) (start end : ℕ) (cs : List CpuTrack) → AllByRecursion (IsTrack formats start end) cs → total_events cs ≤ 1048576 → AllByRecursion CanWriteTrack cs
 tracks_writable formats start end [] all few = tt
 tracks_writable formats start end (c ∷ cs) all few = (
-      record {
-        counted = omega (arith, total_first c cs, few);
-        events = each_other (IsEvent formats) (λ (e : Event). IsEventPart (part_of_event e)) (λ e is. is.whole) c.events all.0.events.each;
-      },
-      tracks_writable formats start end cs all.1 (omega (arith, total_first c cs, few)),
-    )
+  record {
+    counted = omega (arith, total_first c cs, few);
+    events = each_other (IsEvent formats) (λ (e : Event). IsEventPart (part_of_event e)) (λ e is. is.whole) c.events all.0.events.each;
+  },
+  tracks_writable formats start end cs all.1 (omega (arith, total_first c cs, few)),
+)

@@ -1,12 +1,12 @@
 -- The first fault of bytes that are no recording: the parts before it stand there and pass their checks.
-use Rattle.std.specs.Prelude.{◌≡◌, ◌≢◌, ◌⊎◌, ◌<◌, ℕ, List, [], ◌++◌, length, Option, Some, None}
+use Rattle.std.specs.Prelude.{◌≡◌, ◌≢◌, ◌⊎◌, ◌<◌, ℕ, List, [], ◌++◌, length, Some, None}
 use Rattle.tracefs_format.specs.declared.format.Format.{Format}
 use Rattle.rec_format.specs.declared.error.RecordingError.{RecordingError}
 use Rattle.rec_format.specs.declared.error.RecordingError.TheVariants as fault
 use Rattle.rec_format.specs.declared.recording.Recording.{Recording}
 use Rattle.rec_format.specs.declared.recording.CpuTrack.{CpuTrack}
 use Rattle.rec_format.specs.declared.recording.Event.{Event}
-use Rattle.rec_format.specs.Parts.{HeaderPart, IsHeaderPart, header_bytes, FormatPart, IsFormatPart, format_bytes, CpuPart, IsCpuPart, cpu_bytes, EventPart, IsEventPart, event_bytes}
+use Rattle.rec_format.specs.Parts.{HeaderPart, IsHeaderPart, header_bytes, IsFormatPart, format_bytes, CpuPart, IsCpuPart, cpu_bytes, IsEventPart, event_bytes}
 use Rattle.rec_format.specs.Checks.{header_fault, IsFormatFault, least_after, total_events, cpu_fault, time_after, event_fault}
 use Rattle.rec_format.specs.Recordings.{formats_bytes, events_bytes, tracks_bytes, recording_bytes, AreFormats, AreEvents, AreTracks, IsValidRecording}
 

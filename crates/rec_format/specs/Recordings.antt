@@ -1,6 +1,6 @@
 -- Recordings: the one spelling of each, and which are valid.
 use Rattle.std.specs.Prelude.{◌≡◌, ◌+◌, ◌≤◌, ◌<◌, ◌^◌, ℕ, ⊤, true, false, codes, List, [], ◌∷◌, ◌++◌, length, take, slice_get, Some}
-use Rattle.std.specs.List.{flat_map, list_any, AllByRecursion}
+use Rattle.std.specs.List.{flat_map, AllByRecursion}
 use Rattle.byteorder.specs.Endian.{little_bytes}
 use Rattle.tracefs_format.specs.declared.format.Format.{Format}
 use Rattle.tracefs_format.specs.Layouts.{IsLayoutOf}

@@ -51,7 +51,12 @@ pub(crate) fn is_system(system: &[u8]) -> bool
 
 /// The first check that the head of a CPU fails, behind so many CPUs, where its number may be so small
 /// and so many events were announced.
-pub(crate) fn cpu_fault(place: u32, least: u64, announced: u32, head: CpuHead) -> Option<RecordingError>
+pub(crate) fn cpu_fault(
+    place: u32,
+    least: u64,
+    announced: u32,
+    head: CpuHead,
+) -> Option<RecordingError>
     ensures { result ≡ cpu_fault place least announced (cpu_part head) }
 {
     if u64::from(head.number) < least {

@@ -68,7 +68,11 @@ fn system_calls(alloc: Global, first: usize) -> Result<Vec<u8>, Memory> {
     add_format(&mut bytes, b"raw_syscalls", SYS_ENTER)?;
     add_cpu(&mut bytes, 0, 3)?;
     let all = payload.as_slice();
-    let cut = if first < all.len() { &all[..first] } else { all };
+    let cut = if first < all.len() {
+        &all[..first]
+    } else {
+        all
+    };
     add_event(&mut bytes, 1, b"bash\0\0\0\0\0\0\0\0\0\0\0\0", cut)?;
     add_event(&mut bytes, 2, b"bash\0\0\0\0\0\0\0\0\0\0\0\0", all)?;
     add_event(&mut bytes, 3, b"sshd\0\0\0\0\0\0\0\0\0\0\0\0", all)?;
@@ -90,7 +94,12 @@ fn sample(
     }
     add_cpu(&mut bytes, 3, times.len().min(0xffff) as u32)?;
     for time in times {
-        add_event(&mut bytes, *time, b"p\0\0\0\0\0\0\0\0\0\0\0\0\0\0\0", payload)?;
+        add_event(
+            &mut bytes,
+            *time,
+            b"p\0\0\0\0\0\0\0\0\0\0\0\0\0\0\0",
+            payload,
+        )?;
     }
     Ok(bytes)
 }
@@ -124,7 +133,11 @@ fn has_cpu(recording: &Recording, place: usize, number: u32, comms: &[&[u8]]) ->
 fn a_recording_of_two_cpus_begins_with_its_header(rt: HostRuntime) -> Result<(), Fail> {
     let bytes = system_calls(rt.alloc(), 64)?;
     assert_eq!(rt; bytes.len(), 912);
-    assert!(rt; bytes.as_slice().starts_with(b"\x42\x54\x52\x41\x43\x45\x30\x31\x02\0\0\0\x01\0\0\0\0\0\0\0\0\0\0\0\x00\x94\x35\x77\0\0\0\0"));
+    assert!(rt;
+        bytes.as_slice().starts_with(
+            b"\x42\x54\x52\x41\x43\x45\x30\x31\x02\0\0\0\x01\0\0\0\0\0\0\0\0\0\0\0\x00\x94\x35\x77\0\0\0\0"
+        )
+    );
     Ok(())
 }
 
@@ -151,7 +164,14 @@ fn a_recording_is_read_and_written_again(rt: HostRuntime) -> Result<(), Fail> {
 fn each_proper_prefix_is_truncated_at_its_end(rt: HostRuntime) -> Result<(), Fail> {
     let bytes = system_calls(rt.alloc(), 64)?;
     for len in 0..bytes.len() {
-        assert!(rt; refuses(rt.alloc(), &bytes.as_slice()[..len], RecordingError::Truncated(len as u64)), "{len}");
+        assert!(rt;
+            refuses(
+                rt.alloc(),
+                &bytes.as_slice()[..len],
+                RecordingError::Truncated(len as u64)
+            ),
+            "{len}"
+        );
     }
     Ok(())
 }
@@ -159,7 +179,13 @@ fn each_proper_prefix_is_truncated_at_its_end(rt: HostRuntime) -> Result<(), Fai
 #[test]
 fn a_payload_is_as_long_as_its_layout(rt: HostRuntime) -> Result<(), Fail> {
     let bytes = system_calls(rt.alloc(), 63)?;
-    assert!(rt; refuses(rt.alloc(), bytes.as_slice(), RecordingError::ShortPayload(0, 0)));
+    assert!(rt;
+        refuses(
+            rt.alloc(),
+            bytes.as_slice(),
+            RecordingError::ShortPayload(0, 0)
+        )
+    );
     Ok(())
 }
 
@@ -188,14 +214,66 @@ fn a_format_has_a_system_a_layout_and_no_equal(rt: HostRuntime) -> Result<(), Fa
     let long = [b'a'; 65];
     let no_name = RecordingError::Format(0, FormatError::NoName);
     let other_id = b"name: e\nID: 9\nformat:\n";
-    assert!(rt; refuses(alloc, sample(alloc, &[(b"", E)], &[5], SEVEN)?.as_slice(), RecordingError::BadSystem(0)));
-    assert!(rt; refuses(alloc, sample(alloc, &[(b"t.", E)], &[5], SEVEN)?.as_slice(), RecordingError::BadSystem(0)));
-    assert!(rt; refuses(alloc, sample(alloc, &[(&long, E)], &[5], SEVEN)?.as_slice(), RecordingError::BadSystem(0)));
-    assert!(rt; accepts(alloc, sample(alloc, &[(&long[..64], E)], &[5], SEVEN)?.as_slice()));
-    assert!(rt; refuses(alloc, sample(alloc, &[(b"t", b"e\n")], &[5], SEVEN)?.as_slice(), no_name));
-    assert!(rt; refuses(alloc, sample(alloc, &[(b"t", E), (b"u", E)], &[5], SEVEN)?.as_slice(), RecordingError::SameEvent(1)));
-    assert!(rt; refuses(alloc, sample(alloc, &[(b"t", E), (b"t", other_id)], &[5], SEVEN)?.as_slice(), RecordingError::SameEvent(1)));
-    assert!(rt; accepts(alloc, sample(alloc, &[(b"t", F), (b"t", E), (b"u-2", other_id)], &[5], SEVEN)?.as_slice()));
+    assert!(rt;
+        refuses(
+            alloc,
+            sample(alloc, &[(b"", E)], &[5], SEVEN)?.as_slice(),
+            RecordingError::BadSystem(0)
+        )
+    );
+    assert!(rt;
+        refuses(
+            alloc,
+            sample(alloc, &[(b"t.", E)], &[5], SEVEN)?.as_slice(),
+            RecordingError::BadSystem(0)
+        )
+    );
+    assert!(rt;
+        refuses(
+            alloc,
+            sample(alloc, &[(&long, E)], &[5], SEVEN)?.as_slice(),
+            RecordingError::BadSystem(0)
+        )
+    );
+    assert!(rt;
+        accepts(
+            alloc,
+            sample(alloc, &[(&long[..64], E)], &[5], SEVEN)?.as_slice()
+        )
+    );
+    assert!(rt;
+        refuses(
+            alloc,
+            sample(alloc, &[(b"t", b"e\n")], &[5], SEVEN)?.as_slice(),
+            no_name
+        )
+    );
+    assert!(rt;
+        refuses(
+            alloc,
+            sample(alloc, &[(b"t", E), (b"u", E)], &[5], SEVEN)?.as_slice(),
+            RecordingError::SameEvent(1)
+        )
+    );
+    assert!(rt;
+        refuses(
+            alloc,
+            sample(alloc, &[(b"t", E), (b"t", other_id)], &[5], SEVEN)?.as_slice(),
+            RecordingError::SameEvent(1)
+        )
+    );
+    assert!(rt;
+        accepts(
+            alloc,
+            sample(
+                alloc,
+                &[(b"t", F), (b"t", E), (b"u-2", other_id)],
+                &[5],
+                SEVEN
+            )?
+            .as_slice()
+        )
+    );
     Ok(())
 }
 
@@ -213,7 +291,12 @@ fn cpus_have_ascending_numbers_and_few_events(rt: HostRuntime) -> Result<(), Fai
     let mut over_all = header(alloc, 2, 1, 0, 0)?;
     add_format(&mut over_all, b"t", F)?;
     add_cpu(&mut over_all, 4, 1)?;
-    add_event(&mut over_all, 0, b"p\0\0\0\0\0\0\0\0\0\0\0\0\0\0\0", b"\x08\0")?;
+    add_event(
+        &mut over_all,
+        0,
+        b"p\0\0\0\0\0\0\0\0\0\0\0\0\0\0\0",
+        b"\x08\0",
+    )?;
     add_cpu(&mut over_all, 5, 1_048_576)?;
     assert!(rt; refuses(alloc, over_all.as_slice(), events));
     Ok(())
@@ -224,13 +307,55 @@ fn events_are_in_time_and_have_their_formats(rt: HostRuntime) -> Result<(), Fail
     let alloc = rt.alloc();
     let formats: &[(&[u8], &[u8])] = &[(b"t", F), (b"t", E)];
     assert!(rt; accepts(alloc, sample(alloc, formats, &[5, 5, 9], SEVEN)?.as_slice()));
-    assert!(rt; refuses(alloc, sample(alloc, formats, &[4], SEVEN)?.as_slice(), RecordingError::TimeOrder(0, 0)));
-    assert!(rt; refuses(alloc, sample(alloc, formats, &[6, 5], SEVEN)?.as_slice(), RecordingError::TimeOrder(0, 1)));
-    assert!(rt; refuses(alloc, sample(alloc, formats, &[5, 10], b"")?.as_slice(), RecordingError::ShortPayload(0, 0)));
-    assert!(rt; refuses(alloc, sample(alloc, formats, &[10], b"")?.as_slice(), RecordingError::TimeOrder(0, 0)));
-    assert!(rt; refuses(alloc, sample(alloc, formats, &[5], b"\x07")?.as_slice(), RecordingError::ShortPayload(0, 0)));
-    assert!(rt; refuses(alloc, sample(alloc, formats, &[5], b"\x06\0")?.as_slice(), RecordingError::UnknownId(0, 0)));
-    assert!(rt; refuses(alloc, sample(alloc, formats, &[5], b"\x07\0\0")?.as_slice(), RecordingError::ShortPayload(0, 0)));
+    assert!(rt;
+        refuses(
+            alloc,
+            sample(alloc, formats, &[4], SEVEN)?.as_slice(),
+            RecordingError::TimeOrder(0, 0)
+        )
+    );
+    assert!(rt;
+        refuses(
+            alloc,
+            sample(alloc, formats, &[6, 5], SEVEN)?.as_slice(),
+            RecordingError::TimeOrder(0, 1)
+        )
+    );
+    assert!(rt;
+        refuses(
+            alloc,
+            sample(alloc, formats, &[5, 10], b"")?.as_slice(),
+            RecordingError::ShortPayload(0, 0)
+        )
+    );
+    assert!(rt;
+        refuses(
+            alloc,
+            sample(alloc, formats, &[10], b"")?.as_slice(),
+            RecordingError::TimeOrder(0, 0)
+        )
+    );
+    assert!(rt;
+        refuses(
+            alloc,
+            sample(alloc, formats, &[5], b"\x07")?.as_slice(),
+            RecordingError::ShortPayload(0, 0)
+        )
+    );
+    assert!(rt;
+        refuses(
+            alloc,
+            sample(alloc, formats, &[5], b"\x06\0")?.as_slice(),
+            RecordingError::UnknownId(0, 0)
+        )
+    );
+    assert!(rt;
+        refuses(
+            alloc,
+            sample(alloc, formats, &[5], b"\x07\0\0")?.as_slice(),
+            RecordingError::ShortPayload(0, 0)
+        )
+    );
     Ok(())
 }
 
@@ -253,7 +378,13 @@ fn nothing_follows_the_last_event(rt: HostRuntime) -> Result<(), Fail> {
     let mut bytes = system_calls(rt.alloc(), 64)?;
     bytes.push(0)?;
     bytes.push(0)?;
-    assert!(rt; refuses(rt.alloc(), bytes.as_slice(), RecordingError::TrailingBytes(912)));
+    assert!(rt;
+        refuses(
+            rt.alloc(),
+            bytes.as_slice(),
+            RecordingError::TrailingBytes(912)
+        )
+    );
     Ok(())
 }
 
@@ -263,18 +394,126 @@ fn errors_are_told_by_their_codes(rt: HostRuntime) -> Result<(), Fail> {
         (RecordingError::Truncated(911), "C1 truncated at byte 911"),
         (RecordingError::BadMagic, "C2 bad magic"),
         (RecordingError::Count(CountOf::Span), "C3 bad count: span"),
-        (RecordingError::Format(2, FormatError::BadField(4)), "C4 format 2: F3 bad line 4"),
+        (
+            RecordingError::Format(2, FormatError::BadField(4)),
+            "C4 format 2: F3 bad line 4",
+        ),
         (RecordingError::SameEvent(1), "C5 same event in format 1"),
         (RecordingError::CpuNumber(1), "C6 bad cpu number at cpu 1"),
-        (RecordingError::TimeOrder(1, 7), "C7 time order in event 7 of cpu 1"),
-        (RecordingError::UnknownId(1, 7), "C8 unknown id in event 7 of cpu 1"),
-        (RecordingError::ShortPayload(1, 7), "C9 short payload in event 7 of cpu 1"),
-        (RecordingError::TrailingBytes(912), "C10 trailing bytes at byte 912"),
+        (
+            RecordingError::TimeOrder(1, 7),
+            "C7 time order in event 7 of cpu 1",
+        ),
+        (
+            RecordingError::UnknownId(1, 7),
+            "C8 unknown id in event 7 of cpu 1",
+        ),
+        (
+            RecordingError::ShortPayload(1, 7),
+            "C9 short payload in event 7 of cpu 1",
+        ),
+        (
+            RecordingError::TrailingBytes(912),
+            "C10 trailing bytes at byte 912",
+        ),
         (RecordingError::BadSystem(3), "C11 bad system in format 3"),
     ];
     for (error, text) in told {
         let line = format!(in rt.alloc(); "{error}")?;
         assert!(rt; line.as_str() == text, "{text}");
     }
+    Ok(())
+}
+
+/// The example of docs/RECORDINGS.md.
+const EXAMPLE: &[u8] = b"BTRACE01\x01\0\0\0\x01\0\0\0\xf4\x01\0\0\0\0\0\0\xd0\x07\0\0\0\0\0\0\
+\x04\0demo\x45\0\0\0name: tick\nID: 300\nformat:\n\tfield:int n;\toffset:8;\tsize:4;\tsigned:1;\n\
+\x02\0\0\0\x01\0\0\0\xe8\x03\0\0\0\0\0\0\xd2\x04\0\0\xd3\x04\0\0\xe8\x03\0\0\x64\0\0\0clock\0\0\0\0\0\0\0\0\0\0\0\
+\x0c\0\0\0\x2c\x01\0\0\xd3\x04\0\0\xfe\xff\xff\xff";
+
+/// The example with another byte at a place.
+fn changed(alloc: Global, place: usize, byte: u8) -> Result<Vec<u8>, Memory> {
+    let mut bytes = Vec::from_slice(alloc, EXAMPLE)?;
+    if place < bytes.len() {
+        bytes[place] = byte;
+    }
+    Ok(bytes)
+}
+
+#[test]
+fn the_documented_example_is_a_recording(rt: HostRuntime) -> Result<(), Fail> {
+    let alloc = rt.alloc();
+    let recording = read_recording(alloc, EXAMPLE)?;
+    assert!(rt; recording.start == 500 && recording.end == 2_000);
+    let track = recording.cpus.get(0).ok_or("no CPU")?;
+    assert_eq!(rt; track.number, 2);
+    let event = track.events.get(0).ok_or("no event")?;
+    assert!(rt; event.time == 1_000 && event.pid == 1234 && event.tid == 1235);
+    assert!(rt; event.uid == 1000 && event.gid == 100 && event.format == 0);
+    assert!(rt; event.comm.as_slice() == b"clock\0\0\0\0\0\0\0\0\0\0\0".as_slice());
+    assert!(rt; event.payload.as_slice() == b"\x2c\x01\0\0\xd3\x04\0\0\xfe\xff\xff\xff".as_slice());
+    let written = write_recording(alloc, &recording)?;
+    assert!(rt; written.as_slice() == EXAMPLE);
+    Ok(())
+}
+
+#[test]
+fn changes_of_the_documented_example_are_refused(rt: HostRuntime) -> Result<(), Fail> {
+    let alloc = rt.alloc();
+    let mut cut = Vec::from_slice(alloc, EXAMPLE)?;
+    cut.truncate(174);
+    assert!(rt; refuses(alloc, cut.as_slice(), RecordingError::Truncated(174)));
+    assert!(rt;
+        refuses(
+            alloc,
+            changed(alloc, 12, 2)?.as_slice(),
+            RecordingError::BadSystem(1)
+        )
+    );
+    assert!(rt;
+        refuses(
+            alloc,
+            changed(alloc, 163, 0x2d)?.as_slice(),
+            RecordingError::UnknownId(0, 0)
+        )
+    );
+    assert!(rt;
+        refuses(
+            alloc,
+            changed(alloc, 120, 1)?.as_slice(),
+            RecordingError::TimeOrder(0, 0)
+        )
+    );
+    Ok(())
+}
+
+/// One CPU with so many events, whose formats take turns.
+fn many(alloc: Global, formats: u16, events: u32) -> Result<Vec<u8>, Memory> {
+    let mut bytes = header(alloc, 1, u32::from(formats), 0, u64::from(events))?;
+    for id in 0..formats {
+        let text = format!(in alloc; "name: e{id}\nID: {id}\nformat:\n")?;
+        add_format(&mut bytes, b"t", text.as_bytes())?;
+    }
+    add_cpu(&mut bytes, 0, events)?;
+    for event in 0..events {
+        let id = (event % u32::from(formats.max(1))) as u16;
+        add_event(
+            &mut bytes,
+            u64::from(event),
+            b"p\0\0\0\0\0\0\0\0\0\0\0\0\0\0\0",
+            &id.to_le_bytes(),
+        )?;
+    }
+    Ok(bytes)
+}
+
+#[test]
+fn each_of_many_events_has_its_format(rt: HostRuntime) -> Result<(), Fail> {
+    let bytes = many(rt.alloc(), 4_096, 10_000)?;
+    let recording = read_recording(rt.alloc(), bytes.as_slice())?;
+    let track = recording.cpus.get(0).ok_or("no CPU")?;
+    assert_eq!(rt; track.events.len(), 10_000);
+    let last = track.events.get(9_999).ok_or("no event")?;
+    assert_eq!(rt; last.format, 1_807);
     Ok(())
 }

@@ -1,4 +1,4 @@
-use Rattle.std.proofs.Common.{◌≡◌, List, ℕ, ◌++◌, ◌-◌, [], sym, ap, subst, ◌∙◌, length, arith, inl, inr}
+use Rattle.std.proofs.Common.{◌≡◌, List, ℕ, ◌++◌, ◌-◌, sym, ap, subst, ◌∙◌, length, arith, inl, inr}
 use Rattle.std.proofs.lemmas.Result.{err_from_is_err_and}
 use Rattle.std.proofs.lemmas.List.{append-nil, length-append}
 use Rattle.rec_format.specs.declared.error.RecordingError.TheVariants as fault

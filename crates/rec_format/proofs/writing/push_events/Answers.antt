@@ -1,4 +1,3 @@
-use Rattle.std.proofs.Common.{ℕ, List}
 use Rattle.rec_format.specs.declared.recording.Event.{Event}
 use Rattle.rec_format.specs.Parts.{event_bytes}
 use Rattle.rec_format.specs.Recordings.{part_of_event}

@@ -1,4 +1,4 @@
-use Rattle.std.proofs.Common.{ℕ, List, length, ◌++◌, ap, ◌∙◌}
+use Rattle.std.proofs.Common.{ℕ, length, ◌++◌, ap, ◌∙◌}
 use Rattle.std.specs.Prelude.{codes}
 use Rattle.byteorder.specs.Endian.{little_bytes}
 use Rattle.rec_format.specs.declared.recording.Recording.{Recording}

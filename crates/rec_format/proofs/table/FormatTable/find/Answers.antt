@@ -1,6 +1,5 @@
-use Rattle.std.proofs.Common.{◌≡◌, Option, Some, None, sym, ap, ◌∙◌}
+use Rattle.std.proofs.Common.{Some, None, ap, ◌∙◌}
 use Rattle.std.specs.Option.{option_map}
-use Rattle.tracefs_format.specs.declared.format.Format.{Format}
 use Rattle.rec_format.specs.Checks.{format_with}
 use Rattle.rec_format.proofs.TableLaws.{place_found}
 use Rattle.rec_format.proofs.table.FormatTable.find.Goals as goal

@@ -1,4 +1,4 @@
-use Rattle.std.proofs.Common.{◌≡◌, ◌||◌, ◌∷◌, ◌++◌, true, false, List, ℕ, Bool, refl, ap, sym, subst, ◌∙◌, inl, inr, arith, length}
+use Rattle.std.proofs.Common.{◌≡◌, ◌||◌, ◌∷◌, ◌++◌, true, false, List, ℕ, Bool, refl, ap, sym, ◌∙◌, inr, arith, length}
 use Rattle.std.specs.Prelude.{is_some}
 use Rattle.std.specs.List.{list_any}
 use Rattle.std.specs.Ordering.{nat_cmp}
@@ -8,7 +8,7 @@ use Rattle.std.specs.BTreeSet.{contains}
 use Rattle.tracefs_format.specs.declared.format.Format.{Format}
 use Rattle.rec_format.specs.declared.error.RecordingError.TheVariants as fault
 use Rattle.rec_format.specs.Parts.{format_part}
-use Rattle.rec_format.specs.Checks.{is_system, is_same_event, tracepoint_name, format_of}
+use Rattle.rec_format.specs.Checks.{is_same_event, tracepoint_name, format_of}
 use Rattle.rec_format.proofs.TableLaws.{same_known, table_added}
 use Rattle.rec_format.proofs.table.FormatTable.with.Goals as goal
 use Rattle.rec_format.proofs.table.FormatTable.with.Goals.{then-contains_key-via-then-contains_key, then-contains_key-via-else-contains_key+then-contains}
@@ -36,12 +36,15 @@ returns-then-contains_key c =
       | then-contains_key-via-then-contains_key w ↦ or_first by_id by_name (sym c.contains_key.ensures ∙ w.if-contains_key.true)
       | then-contains_key-via-else-contains_key+then-contains w ↦ or_second by_id by_name (ap (contains (slice_cmp nat_cmp) c.self.inside.names) (sym named) ∙ sym w.contains.ensures ∙ w.if-contains.true)
     ] in
-    λ _. inr (grind arith, inr (record {
-      layout = c.in-Ok.layout;
-      read = c.in-Ok.ensures.found;
-      same = ap (list_any (is_same_event f)) (sym c.self.view_is) ∙ known ∙ same;
-      told = ap (λ n. fault.SameEvent n) (c.len-place.ensures ∙ ap length c.self.view_is);
-    }))
+    λ _. inr (
+      grind arith,
+      inr (record {
+        layout = c.in-Ok.layout;
+        read = c.in-Ok.ensures.found;
+        same = ap (list_any (is_same_event f)) (sym c.self.view_is) ∙ known ∙ same;
+        told = ap (λ n. fault.SameEvent n) (c.len-place.ensures ∙ ap length c.self.view_is);
+      }),
+    )
 
 pub invariant_of-result : goal.invariant_of-result
 invariant_of-result c =
