@@ -30,13 +30,7 @@ const COUNT_E: &[u8] = b"tracepoint:t:e { @ = count(); }";
 const COUNT_SYS_ENTER: &[u8] = b"tracepoint:raw_syscalls:sys_enter { @ = count(); }";
 
 /// The header of a recording of so many CPUs and formats, from the one time to the other.
-fn header(
-    alloc: Global,
-    cpus: u32,
-    formats: u32,
-    start: u64,
-    end: u64,
-) -> Result<Vec<u8>, Memory> {
+fn header(alloc: Global, cpus: u32, formats: u32, start: u64, end: u64) -> Result<Vec<u8>, Memory> {
     let mut bytes = Vec::from_slice(alloc, b"BTRACE01")?;
     bytes.extend_from_slice(&cpus.to_le_bytes())?;
     bytes.extend_from_slice(&formats.to_le_bytes())?;
