@@ -4,11 +4,7 @@
 pub mod code;
 mod count;
 mod judge;
-#[cfg(test)]
-mod made;
 mod port;
-#[cfg(test)]
-mod recording_tests;
 pub mod refusal;
 pub mod report;
 mod script;

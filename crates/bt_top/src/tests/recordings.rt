@@ -1,5 +1,5 @@
 // What is told of recordings: each check with its line, several CPUs and several formats.
-use crate::made::{
+use super::{
     COUNT_E, COUNT_SYS_ENTER, E, PAYLOAD, SYS_ENTER, add_cpu, add_event, add_format, entry, header,
     recording, run,
 };
