@@ -48,7 +48,7 @@ length_more xs x n e = omega (arith, length-append xs (x ∷ []), e)
 
 -- ---- formats
 
-or_parts : (a b : Bool) → (a || b) ≡ false → (a ≡ false) × (b ≡ false)
+pub or_parts : (a b : Bool) → (a || b) ≡ false → (a ≡ false) × (b ≡ false)
 or_parts true b h = absurd cc
 or_parts false b h = (refl, h)
 

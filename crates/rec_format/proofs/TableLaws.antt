@@ -19,7 +19,7 @@ use Rattle.rec_format.specs.Answers.{IsTable}
 
 -- ---- by ID
 
-abbrev later : ℕ × Format → ℕ × Format
+abbrev pub later : ℕ × Format → ℕ × Format
 later found = (suc found.0, found.1)
 
 abbrev place_in : ℕ × Format → ℕ
@@ -65,12 +65,12 @@ with_more id (f ∷ fs) g =
 
 -- ---- an earlier format that is the same
 
-or_parts : (a b c d : Bool) → ((a || b) || (c || d)) ≡ ((a || c) || (b || d))
-or_parts true b true d = refl
-or_parts true b false d = elim b as (λ v. true ≡ true) [ true ↦ refl | false ↦ refl ]
-or_parts false true true d = refl
-or_parts false true false d = refl
-or_parts false false c d = refl
+or_regrouped : (a b c d : Bool) → ((a || b) || (c || d)) ≡ ((a || c) || (b || d))
+or_regrouped true b true d = refl
+or_regrouped true b false d = elim b as (λ v. true ≡ true) [ true ↦ refl | false ↦ refl ]
+or_regrouped false true true d = refl
+or_regrouped false true false d = refl
+or_regrouped false false c d = refl
 
 any_id : (f : Format) (fs : List Format) → list_any (λ g. g.layout.id == f.layout.id) fs ≡ is_some (format_with f.layout.id fs)
 any_id f [] = refl
@@ -84,7 +84,7 @@ any_same : (f : Format) (fs : List Format) → list_any (is_same_event f) fs ≡
 any_same f [] = refl
 any_same f (g ∷ fs) =
     ap (λ v. (g.layout.id == f.layout.id || bytes_eq (tracepoint_name g) (tracepoint_name f)) || v) (any_same f fs)
-    ∙ or_parts (g.layout.id == f.layout.id) (bytes_eq (tracepoint_name g) (tracepoint_name f)) (list_any (λ g. g.layout.id == f.layout.id) fs) (list_any (λ g. bytes_eq (tracepoint_name g) (tracepoint_name f)) fs)
+    ∙ or_regrouped (g.layout.id == f.layout.id) (bytes_eq (tracepoint_name g) (tracepoint_name f)) (list_any (λ g. g.layout.id == f.layout.id) fs) (list_any (λ g. bytes_eq (tracepoint_name g) (tracepoint_name f)) fs)
 
 some_place : (o : Option (ℕ × Format)) → is_some o ≡ is_some (option_map place_in o)
 some_place None = refl

@@ -1,5 +1,5 @@
 -- Bytes are one recording or have one fault: a reading that is a function of the bytes goes the same way.
-use Rattle.std.proofs.Common.{◌≡◌, ◌≢◌, ◌⊎◌, ℕ, zero, suc, ◌+◌, ◌-◌, ◌<◌, ◌≤◌, Bool, true, false, cond, ◌||◌, Option, Some, None, Result, Ok, Err, List, [], ◌∷◌, ◌++◌, length, drop, refl, ap, sym, subst, ◌∙◌, append_assoc, arith, inl, inr}
+use Rattle.std.proofs.Common.{◌≡◌, ◌≢◌, ◌⊎◌, ℕ, zero, suc, ◌+◌, ◌-◌, ◌<◌, ◌≤◌, Bool, false, cond, ◌||◌, Option, Some, None, Result, Ok, Err, List, [], ◌∷◌, ◌++◌, length, drop, refl, ap, sym, subst, ◌∙◌, append_assoc, arith, inl, inr}
 use Rattle.std.specs.Prelude.{nat_lt, nat_le, ◌&&◌, unwrap_or, ◌==◌}
 use Rattle.std.specs.List.{flat_map, list_all, list_any, slice_get, AllByRecursion}
 use Rattle.std.specs.Option.{option_map}
@@ -27,7 +27,8 @@ use Rattle.rec_format.specs.Faults.{IsCutShort, IsRefused, HeaderFails, HasHeade
 use Rattle.rec_format.specs.Answers.{Answers, event_of, IsSpelled}
 use Rattle.rec_format.proofs.Fields.{IsBytes}
 use Rattle.rec_format.proofs.PartLaws.{header_reads, format_reads, cpu_reads, event_reads, nothing_read}
-use Rattle.rec_format.proofs.LoopLaws.{suffix_fits, time_more, least_more, total_more, total_first}
+use Rattle.rec_format.proofs.TableLaws.{later}
+use Rattle.rec_format.proofs.LoopLaws.{or_parts, suffix_fits, time_more, least_more, total_more, total_first}
 
 -- ---- steps that may fail
 
@@ -208,13 +209,6 @@ formats_fail whole n bytes e fits f =
 
 -- ---- an event
 
-abbrev later : ℕ × Format → ℕ × Format
-later found = (suc found.0, found.1)
-
-or_false : (a b : Bool) → (a || b) ≡ false → a ≡ false
-or_false true b h = absurd cc
-or_false false b h = refl
-
 pick_at : (P : Format → Type 0) (fs : List Format) (i : ℕ) (f : Format) → AllByRecursion P fs → slice_get fs i ≡ Some f → P f
 pick_at P [] i f all h = absurd cc
 pick_at P (g ∷ gs) zero f all h = subst P (same_Some g f h) all.0
@@ -228,7 +222,7 @@ known_format (g ∷ gs) zero f apart h =
     ap (λ b. cond b (Some (0, g)) (option_map later (format_with f.layout.id gs))) (eq-eqb g.layout.id f.layout.id (ap (λ (x : Format). x.layout.id) same)) ∙ ap (λ (x : Format). Some (0, x)) same
 known_format (g ∷ gs) (suc i) f apart h =
     let other : is_same_event f g ≡ false = pick_at (λ x. is_same_event x g ≡ false) gs i f apart.0 h in
-    ap (λ b. cond b (Some (0, g)) (option_map later (format_with f.layout.id gs))) (or_false (g.layout.id == f.layout.id) _ other) ∙ ap (option_map later) (known_format gs i f apart.1 h)
+    ap (λ b. cond b (Some (0, g)) (option_map later (format_with f.layout.id gs))) (or_parts (g.layout.id == f.layout.id) _ other).0 ∙ ap (option_map later) (known_format gs i f apart.1 h)
 
 abbrev place_of : List Format → EventPart → ℕ
 place_of formats part = unwrap_or (option_map (λ found. found.0) (format_with (little_number 2 part.payload) formats)) 0

@@ -14,6 +14,7 @@ use Rattle.rec_format.specs.Parts.{HeaderPart, header_bytes}
 use Rattle.rec_format.specs.Checks.{header_fault}
 use Rattle.rec_format.specs.Recordings.{header_of, formats_bytes, tracks_bytes, recording_bytes, IsValidRecording}
 use Rattle.rec_format.specs.Faults.{HasHeader, HasFormats, HasTracks}
+use Rattle.rec_format.proofs.LoopLaws.{or_parts}
 
 record Bounds (h : HeaderPart) : Type 0 where
   magic : h.magic ≡ codes "BTRACE01"
@@ -21,10 +22,6 @@ record Bounds (h : HeaderPart) : Type 0 where
   few_cpus : h.cpus ≤ 64
   few_formats : h.formats ≤ 4096
   span : h.start ≤ h.end
-
-or_parts : (a b : Bool) → (a || b) ≡ false → (a ≡ false) × (b ≡ false)
-or_parts true b h = absurd cc
-or_parts false b h = (refl, h)
 
 not_false : (b : Bool) → not b ≡ false → b ≡ true
 not_false true h = refl

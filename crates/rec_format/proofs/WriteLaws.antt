@@ -1,16 +1,15 @@
 -- What was written so far, and a part more.
 use Rattle.std.proofs.Common.{◌≡◌, ℕ, ◌+◌, ◌<◌, ◌≤◌, Result, Ok, Err, List, [], ◌∷◌, ◌++◌, length, take, get_or, ap, sym, ◌∙◌, append_assoc, arith}
-use Rattle.std.specs.Prelude.{OnOk, nat_lt, nat_le, ◌&&◌}
-use Rattle.std.specs.List.{flat_map, list_all, AllByRecursion}
-use Rattle.std.proofs.lemmas.Bool.{leb-true, and_parts}
+use Rattle.std.specs.Prelude.{OnOk}
+use Rattle.std.specs.List.{flat_map, AllByRecursion}
 use Rattle.std.proofs.lemmas.List.{take_more, flat_map_more}
 use Rattle.tracefs_format.specs.declared.format.Format.{Format}
 use Rattle.rec_format.specs.declared.recording.CpuTrack.{CpuTrack}
 use Rattle.rec_format.specs.declared.recording.Event.{Event}
 use Rattle.rec_format.specs.Parts.{IsEventPart}
-use Rattle.rec_format.specs.Checks.{is_system_byte, total_events}
-use Rattle.rec_format.specs.Recordings.{part_of_event, IsFormat, IsEvent, IsTrack}
-use Rattle.rec_format.specs.Answers.{CanWriteFormat, CanWriteTrack}
+use Rattle.rec_format.specs.Checks.{total_events}
+use Rattle.rec_format.specs.Recordings.{part_of_event, IsEvent, IsTrack}
+use Rattle.rec_format.specs.Answers.{CanWriteTrack}
 use Rattle.rec_format.proofs.LoopLaws.{total_first}
 
 on_ok : {T E : Type 0} (P Q : Type 0) (r : Result T E) → (P → Q) → OnOk r P → OnOk r Q
@@ -48,16 +47,6 @@ written_more {X} spelling xs i x old now later lt is so_far more =
 each_other : {X : Type 0} (P Q : X → Type 0) → ((x : X) → P x → Q x) → (xs : List X) → AllByRecursion P xs → AllByRecursion Q xs
 each_other P Q f [] all = tt
 each_other P Q f (x ∷ xs) all = (f x all.0, each_other P Q f xs all.1)
-
-format_writable : (f : Format) → IsFormat f → CanWriteFormat f
-format_writable f is =
-    let tests = and_parts (nat_lt 0 (length f.system) && nat_le (length f.system) 64) (list_all is_system_byte f.system) is.system in
-    let lengths = and_parts (nat_lt 0 (length f.system)) (nat_le (length f.system) 64) tests.0 in
-    let short = leb-true (length f.system) 64 lengths.1 in
-    record { system = omega arith; text = is.short }
-
-pub formats_writable : (fs : List Format) → AllByRecursion IsFormat fs → AllByRecursion CanWriteFormat fs
-formats_writable fs all = each_other IsFormat CanWriteFormat format_writable fs all
 
 pub tracks_writable : (formats : List Format) (start end : ℕ) (cs : List CpuTrack) → AllByRecursion (IsTrack formats start end) cs → total_events cs ≤ 1048576 → AllByRecursion CanWriteTrack cs
 tracks_writable formats start end [] all few = tt
