@@ -7,7 +7,6 @@ use Rattle.std.proofs.lemmas.Nat.{le_bytes_2, le_bytes_4, le_bytes_8}
 use Rattle.byteorder.specs.Endian.{little_bytes, little_number}
 use Rattle.byteorder.specs.Numbers.{length-bytes_low_first, little_number-reads_back, little_from-lt, little_from-append}
 use Rattle.rec_format.specs.Pieces.{sized_bytes, ◌>>=◌, where_true, bytes_at, number_at, sized_at}
-use Rattle.rec_format.specs.Reading.{only_if, after_bytes}
 
 abbrev pub IsBytes : List ℕ → Type 0
 IsBytes bytes = (i : ℕ) → get_or bytes i 0 < 256
@@ -30,10 +29,6 @@ bind_some None f y e = absurd cc
 pub where_true_some : {A : Type 0} (b : Bool) (x y : A) → where_true b x ≡ Some y → (b ≡ true) × (x ≡ y)
 where_true_some true x y e = (refl, cc)
 where_true_some false x y e = absurd cc
-
-pub only_if_some : {A : Type 0} (b : Bool) (r : Option A) (y : A) → only_if b r ≡ Some y → (b ≡ true) × (r ≡ Some y)
-only_if_some true r y e = (refl, e)
-only_if_some false r y e = absurd cc
 
 -- what a reader took from the front
 pub record Takes (bytes text rest : List ℕ) : Type 0 where
@@ -113,32 +108,3 @@ sized_again n piece rest lt =
     ap (λ (bs : List ℕ). number_at n bs >>= λ len. bytes_at len.0 len.1) (append_assoc (little_bytes n (length piece)) piece rest)
     ∙ ap (λ read. read >>= λ len. bytes_at len.0 len.1) (number_again n (length piece) (piece ++ rest) lt)
     ∙ bytes_again (length piece) piece rest refl
-
--- ---- known bytes
-
-pointwise-same : (xs ys : List ℕ) → pointwise eqb xs ys ≡ true → xs ≡ ys
-pointwise-same [] [] h = refl
-pointwise-same [] (y ∷ ys) h = absurd cc
-pointwise-same (x ∷ xs) [] h = absurd cc
-pointwise-same (x ∷ xs) (y ∷ ys) h =
-    let both = and_parts (eqb x y) (pointwise eqb xs ys) h in
-    ap (λ z. z ∷ xs) (eqb-true x y both.0) ∙ ap (λ zs. y ∷ zs) (pointwise-same xs ys both.1)
-
-pointwise_refl : (xs : List ℕ) → pointwise eqb xs xs ≡ true
-pointwise_refl [] = refl
-pointwise_refl (x ∷ xs) = and_from (eqb x x) (pointwise eqb xs xs) (eq-eqb x x refl) (pointwise_refl xs)
-
-pub after_takes : (front bytes rest : List ℕ) → after_bytes front bytes ≡ Some rest → bytes ≡ front ++ rest
-after_takes front bytes rest e =
-    let g = where_true_some (pointwise eqb (take (length front) bytes) front) (drop (length front) bytes) rest e in
-    sym (take-append-drop (length front) bytes) ∙ ap (λ (f : List ℕ). f ++ drop (length front) bytes) (pointwise-same _ front g.0) ∙ ap (λ (r : List ℕ). front ++ r) g.1
-
-pub after_takes_bytes : (front bytes rest : List ℕ) → IsBytes bytes → after_bytes front bytes ≡ Some rest → Takes bytes front rest
-after_takes_bytes front bytes rest fits e =
-    let g = where_true_some (pointwise eqb (take (length front) bytes) front) (drop (length front) bytes) rest e in
-    record { parts = after_takes front bytes rest e; rest_fits = rw (← g.1) (IsBytes-drop (length front) bytes fits) }
-
-pub after_again : (front rest : List ℕ) → after_bytes front (front ++ rest) ≡ Some rest
-after_again front rest =
-    let same : pointwise eqb (take (length front) (front ++ rest)) front ≡ true = rw (take_at front rest (length front) refl) (pointwise_refl front) in
-    rw (same, drop_at front rest (length front) refl) refl

@@ -1,9 +1,6 @@
-pub mod EventLemmas
 pub mod Fields
-pub mod HeadLines
 pub mod LoopLaws
 pub mod PartLaws
-pub mod Recordings
 pub mod TableLaws
 pub mod UniqueLaws
 pub mod WholeLaws

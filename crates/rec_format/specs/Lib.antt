@@ -1,9 +1,6 @@
 pub mod Answers
 pub mod Checks
-pub mod Early
 pub mod Faults
 pub mod Parts
 pub mod Pieces
-pub mod Reading
 pub mod Recordings
-pub mod Words
