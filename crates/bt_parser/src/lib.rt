@@ -1,0 +1,5 @@
+//! The parser of scripts: the tree of a list of tokens, or the place where no script goes on.
+#![tactic(auto)]
+
+pub mod class;
+mod fault;
