@@ -1,1 +1,5 @@
+mod AllClasses
+mod Sound
+mod Complete
+mod Viable
 mod Tries

@@ -8,3 +8,4 @@ pub mod Tables
 pub mod Reading
 pub mod Grammar
 pub mod Contract
+pub mod Fine
