@@ -2,4 +2,8 @@ mod AllClasses
 mod Sound
 mod Complete
 mod Viable
+mod CheckedFirst
+mod CheckedStops
+mod CheckedAlive
+mod Checked
 mod Tries
