@@ -1,8 +1,7 @@
 -- In each rule one token ahead decides.
-use Rattle.std.proofs.Common.{◌≡◌, Bool, true, false, Option, refl, inl, inr}
-use Rattle.bt_parser.specs.declared.class.Class.{Class}
+use Rattle.std.proofs.Common.{true, false, refl, inl, inr}
 use Rattle.bt_parser.specs.declared.class.Tier.TheVariants.{Products, Sums, Shifts, Orders, Equalities, BitAnds, BitXors, BitOrs, AndThens, OrElses}
-use Rattle.bt_parser.specs.Form.{Item, Part, Primary, Unary, Level, Expression, Values, Keyed, Assignable, Int, Aggregation, Update, AfterMap, AfterVar, Printf, Print, Delete, CallOrJump, Simple, Arm, Tail, Control, Body, Braced, Points, OneProbe, WholeScript}
+use Rattle.bt_parser.specs.Form.{Part, Primary, Unary, Level, Expression, Values, Keyed, Assignable, Int, Aggregation, Update, AfterMap, AfterVar, Printf, Print, Delete, CallOrJump, Simple, Arm, Tail, Control, Body, Braced, Points, OneProbe, WholeScript}
 use Rattle.bt_parser.specs.Rules.{rule}
 use Rattle.bt_parser.specs.Fine.{Fine}
 use Rattle.bt_parser.proofs.AllClasses.{implies1, implies2, disjoint2, never1, never3}

@@ -1,8 +1,7 @@
 -- Each token of a rule exists.
-use Rattle.std.proofs.Common.{◌≡◌, Bool, true, false, Option, refl, inl, inr}
-use Rattle.bt_parser.specs.declared.class.Class.{Class}
+use Rattle.std.proofs.Common.{true, false, refl}
 use Rattle.bt_parser.specs.declared.class.Tier.TheVariants.{Products, Sums, Shifts, Orders, Equalities, BitAnds, BitXors, BitOrs, AndThens, OrElses}
-use Rattle.bt_parser.specs.Form.{Item, Part, Primary, Unary, Level, Expression, Values, Keyed, Assignable, Int, Aggregation, Update, AfterMap, AfterVar, Printf, Print, Delete, CallOrJump, Simple, Arm, Tail, Control, Body, Braced, Points, OneProbe, WholeScript}
+use Rattle.bt_parser.specs.Form.{Part, Primary, Unary, Level, Expression, Values, Keyed, Assignable, Int, Aggregation, Update, AfterMap, AfterVar, Printf, Print, Delete, CallOrJump, Simple, Arm, Tail, Control, Body, Braced, Points, OneProbe, WholeScript}
 use Rattle.bt_parser.specs.Rules.{rule}
 use Rattle.bt_parser.specs.declared.class.Class.TheVariants.{AddAssign, Ampersand, AndAnd, ArgsWord, Assign, Bang, Bar, BeginWord, BreakWord, Caret, ClearWord, CloseBrace, CloseParen, Comma, ContinueWord, CountWord, DeleteWord, Dot, ElseWord, EqualMark, ExitWord, IfWord, Increment, Less, LhistWord, MapName, Minus, NumberLiteral, OpenBrace, OpenBracket, OpenParen, OrOr, OtherWord, PidWord, Plus, PrintWord, PrintfWord, Question, ReturnWord, Semicolon, ShlMark, Slash, Star, SumWord, TextLiteral, UnrollWord, VarName, WhileWord, ZeroWord}
 use Rattle.bt_parser.proofs.Viable.{Alive}

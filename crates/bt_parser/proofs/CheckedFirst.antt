@@ -1,8 +1,8 @@
 -- Each rule may be empty, begins and looks ahead as its line of the tables says.
-use Rattle.std.proofs.Common.{◌≡◌, Bool, true, false, Option, refl, inl, inr}
+use Rattle.std.proofs.Common.{◌≡◌, Bool, true, false, refl}
 use Rattle.bt_parser.specs.declared.class.Class.{Class}
 use Rattle.bt_parser.specs.declared.class.Tier.TheVariants.{Products, Sums, Shifts, Orders, Equalities, BitAnds, BitXors, BitOrs, AndThens, OrElses}
-use Rattle.bt_parser.specs.Form.{Item, Part, Primary, Unary, Level, Expression, Values, Keyed, Assignable, Int, Aggregation, Update, AfterMap, AfterVar, Printf, Print, Delete, CallOrJump, Simple, Arm, Tail, Control, Body, Braced, Points, OneProbe, WholeScript}
+use Rattle.bt_parser.specs.Form.{Part, Primary, Unary, Level, Expression, Values, Keyed, Assignable, Int, Aggregation, Update, AfterMap, AfterVar, Printf, Print, Delete, CallOrJump, Simple, Arm, Tail, Control, Body, Braced, Points, OneProbe, WholeScript}
 use Rattle.bt_parser.specs.Rules.{rule}
 use Rattle.bt_parser.specs.Tables.{nul, fst_of, sens_of}
 use Rattle.bt_parser.specs.Reading.{nullable, first, sens}

@@ -1,14 +1,14 @@
 -- A whole is read, if what follows does not go on with it.
-use Rattle.std.proofs.Common.{◌≡◌, ℕ, zero, suc, Bool, true, false, cond, ◌||◌, ◌&&◌, List, [], ◌∷◌, ◌++◌, Option, Some, None, length, refl, sym, ◌∙◌, ap, subst, inl, inr, ◌⊎◌, append_assoc, arith, ◌<◌, ◌≤◌, length-append}
+use Rattle.std.proofs.Common.{◌≡◌, ℕ, zero, suc, Bool, true, false, ◌||◌, ◌&&◌, List, [], ◌∷◌, ◌++◌, Option, Some, None, length, refl, sym, ◌∙◌, ap, subst, inl, inr, append_assoc, arith, ◌<◌, length-append}
 use Rattle.std.specs.Prelude.{if◌then◌else◌, not}
 use Rattle.bt_parser.specs.declared.class.Class.{Class}
 use Rattle.bt_parser.specs.Classes.{is}
 use Rattle.bt_parser.proofs.AllClasses.{is_refl}
-use Rattle.bt_parser.specs.Form.{brace_next, is_brace, Item, Part, Of, Form, Tok, Empty, Call, Map, Then, Or, Until, Op, Chain, Rel, links, whole}
-use Rattle.bt_parser.specs.Fine.{FineAt, Apart}
+use Rattle.bt_parser.specs.Form.{brace_next, Item, Part, Of, Form, Tok, Empty, Call, Map, Then, Or, Until, Op, Chain, Rel, links, whole}
+use Rattle.bt_parser.specs.Fine.{FineAt}
 use Rattle.bt_parser.specs.Tables.{nul, fst_of, stops_of, free}
-use Rattle.bt_parser.specs.Reading.{nullable, first, stops, brace_head, Out, Done, Refused, Unfinished, and_then, Reader, token_at, starts, rest_of, loop, read}
-use Rattle.bt_parser.proofs.Sound.{cases, nil_parts, null_sound, loop_stop, or_left, or_right, and-left, and_parts, brace_front}
+use Rattle.bt_parser.specs.Reading.{nullable, first, stops, brace_head, Out, Done, Reader, starts, rest_of, loop, read}
+use Rattle.bt_parser.proofs.Sound.{null_sound, loop_stop, or_left, or_right, and_parts, brace_front}
 
 abbrev pub head_class : List Item → Option Class
 head_class [] = None
@@ -126,7 +126,7 @@ module _ (W : Rel) (Wnull : (n : Part) (a : Of n) → W n [] a → nul n ≡ tru
     loop_only (suc k) a c ys r fuel (us, vs, b, is, w, l) sp sq fits =
         let next : Ends Q (vs ++ r) = Ends-before Q p vs r apart (λ v vs' e. links_head f p L none head k (f a b) c vs l v vs' e r) (λ _. sq) in
         rw is (turn_only us vs a c b r fuel w (item us b (vs ++ r) w next) (λ k' fits'. loop_only k (f a b) c vs r k' l sp sq fits')
-          (subst (λ z. length (z ++ r) < fuel) is fits))
+        (subst (λ z. length (z ++ r) < fuel) is fits))
 
   module _ (R : Reader) (Ronly : (n : Part) (xs : List Item) (a : Of n) (r : List Item) → W n xs a → stops_of n (head_class r) (brace_next (rest_of r)) ≡ true → R n (xs ++ r) ≡ Done a r) where
     pub only : {A : Type 0} (link : Bool) (P : Form A) → FineAt link P → (xs : List Item) (a : A) (r : List Item) → whole W P xs a → Ends P r → read R P (xs ++ r) ≡ Done a r
@@ -137,7 +137,7 @@ module _ (W : Rel) (Wnull : (n : Part) (a : Of n) → W n [] a → nul n ≡ tru
     only link (Then f P Q) ok xs c r (us, vs, a, b, e, ec, wa, wb) s =
         let parts : (stops Q (head_class r) (brace_next (rest_of r)) ≡ true) × ((not (nullable Q) || stops P (head_class r) (brace_next (rest_of r))) ≡ true) = and_parts _ _ s in
         let sp : Ends P (vs ++ r) = Ends-before P (first Q) vs r ok.2 (λ v vs' q. first_sound false Q ok.1 v vs' b (subst (λ z. whole W Q z b) q wb) r)
-          (λ q. implied (nullable Q) _ parts.1 (null_sound W Wnull Q b (subst (λ z. whole W Q z b) q wb))) in
+        (λ q. implied (nullable Q) _ parts.1 (null_sound W Wnull Q b (subst (λ z. whole W Q z b) q wb))) in
         rw (e, append_assoc us vs r, only false P ok.0 us a (vs ++ r) wa sp, only false Q ok.1 vs b r wb parts.0, ec) refl
     only link (Or P Q) ok [] a r (inl w) s = let h : nullable P ≡ true = null_sound W Wnull P a w in cc (h, ok.2)
     only link (Or P Q) ok (x ∷ xs) a r (inl w) s =
@@ -166,4 +166,4 @@ module _ (W : Rel) (Wnull : (n : Part) (a : Of n) → W n [] a → nul n ≡ tru
         let s2 : (stops Q (head_class r) (brace_next (rest_of r)) ≡ true) × (stops P (head_class r) (brace_next (rest_of r)) ≡ true) = and_parts _ _ s1.1 in
         let sp : Ends P (ys ++ r) = Ends-before P (first Q) ys r ok.3 (λ v vs q. links_head f (first Q) (whole W Q) none (first_sound true Q ok.1) k a c ys l v vs q r) (λ _. s2.1) in
         rw (e, append_assoc us ys r, only false P ok.0 us a (ys ++ r) wa sp)
-          (loop_only f (first Q) Q (whole W Q) (read R Q) none (first_sound true Q ok.1) ok.4 (only true Q ok.1) k a c ys r (suc (length (ys ++ r))) l (free_starts (first Q) r s1.0) s2.0 (omega arith))
+        (loop_only f (first Q) Q (whole W Q) (read R Q) none (first_sound true Q ok.1) ok.4 (only true Q ok.1) k a c ys r (suc (length (ys ++ r))) l (free_starts (first Q) r s1.0) s2.0 (omega arith))

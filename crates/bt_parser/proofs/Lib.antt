@@ -6,4 +6,8 @@ mod CheckedFirst
 mod CheckedStops
 mod CheckedAlive
 mod Checked
+mod Depth
+mod Enough
+mod Steps
+mod Cut
 mod Tries

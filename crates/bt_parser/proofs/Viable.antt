@@ -1,5 +1,5 @@
 -- What begins a form can be completed.
-use Rattle.std.proofs.Common.{◌≡◌, ℕ, zero, suc, Bool, true, false, List, [], ◌∷◌, ◌++◌, refl, sym, ◌∙◌, ap, subst, inl, inr, ◌⊎◌, append_assoc}
+use Rattle.std.proofs.Common.{◌≡◌, ℕ, zero, suc, Bool, true, false, List, [], ◌∷◌, ◌++◌, refl, sym, ◌∙◌, ap, subst, inl, inr, append_assoc}
 use Rattle.std.proofs.lemmas.List.{append-nil}
 use Rattle.bt_lexer.specs.declared.token.TokenKind.TheVariants as kinds
 use Rattle.bt_parser.specs.Tokens.{origin}
@@ -88,10 +88,11 @@ module _ (W W2 : Rel) (more : (n : Part) (ts : List Item) (a : Of n) → W n ts 
     no_brace_at : {A : Type 0} (Q : Form A) → FineAt false Q → ((b : Bool) → first Q OpenBrace b ≡ false) → (rest : List Item) (a : A) → whole W2 Q rest a → brace_next rest ≡ false
     no_brace_at Q fine q [] a w = refl
     no_brace_at Q fine q (v ∷ vs) a w = elim (cases (is_brace v.class)) [
-        inr h ↦ h
+      | inr h ↦ h
       | inl h ↦ (let f : first Q v.class (brace_next (vs ++ [])) ≡ true = first_sound W2 W2null W2first false Q fine v vs a w [] in
           let f' : first Q OpenBrace (brace_next (vs ++ [])) ≡ true = subst (λ z. first Q z (brace_next (vs ++ [])) ≡ true) (brace_is v.class h) f in
-          let n : first Q OpenBrace (brace_next (vs ++ [])) ≡ false = q (brace_next (vs ++ [])) in cc (f', n)) ]
+          let n : first Q OpenBrace (brace_next (vs ++ [])) ≡ false = q (brace_next (vs ++ [])) in cc (f', n))
+    ]
 
     no_brace : {A : Type 0} (Q : Form A) → FineAt false Q → ((b : Bool) → first Q OpenBrace b ≡ false) → (us rest : List Item) (a : A) → whole W2 Q (us ++ rest) a → brace_next (us ++ rest) ≡ brace_next us
     no_brace Q fine q (u ∷ us) rest a w = refl
@@ -129,9 +130,19 @@ module _ (W W2 : Rel) (more : (n : Part) (ts : List Item) (a : Of n) → W n ts 
         record { rest = s.rest; value = s.value; whole = (ts ++ s.rest, [], s.value, 0, sym (append-nil (ts ++ s.rest)), s.whole, (refl, refl)) }
     completes link (Chain f P Q) fine ok ts (inr (xs, us, vs, a, c, k, e, wa, l, b)) =
         let s : Completed (whole W2 Q) vs = completes true Q fine.1 ok.1 vs b in
-        record { rest = s.rest; value = f c s.value;
-          whole = (xs, us ++ (vs ++ s.rest), a, suc k, rw (e, append_assoc xs (us ++ vs) s.rest, append_assoc us vs s.rest) refl, whole_more P xs a wa,
-            links_snoc f (whole W2 Q) k a us c (vs ++ s.rest) s.value (links_more f (whole W Q) (whole W2 Q) (whole_more Q) k a us c l) s.whole) }
+        record {
+          rest = s.rest;
+          value = f c s.value;
+          whole = (
+            xs,
+            us ++ (vs ++ s.rest),
+            a,
+            suc k,
+            rw (e, append_assoc xs (us ++ vs) s.rest, append_assoc us vs s.rest) refl,
+            whole_more P xs a wa,
+            links_snoc f (whole W2 Q) k a us c (vs ++ s.rest) s.value (links_more f (whole W Q) (whole W2 Q) (whole_more Q) k a us c l) s.whole,
+          );
+        }
 
 -- ---- a whole one begins
 
@@ -157,6 +168,7 @@ module _ (W : Rel) (B : Front) (begun : (n : Part) (ts : List Item) (a : Of n) �
   chain_begins f P Q bp bq xs ys a c (suc k) ts e w l =
       let u : Unsnoc f (whole W Q) k a ys c = unsnoc f (whole W Q) k a ys c l in
       inr (xs, u.us, u.vs, a, u.before, k, e ∙ ap (λ z. xs ++ z) u.is, w, u.linked, bq u.vs u.last u.item)
+
   pub whole_begins : {A : Type 0} (P : Form A) (ts : List Item) (a : A) → whole W P ts a → begins W B P ts
   whole_begins (Tok p) ts a w = inr (a, w.0, w.1)
   whole_begins (Empty d) ts a w = w.0
