@@ -1,5 +1,12 @@
 //! The parser of scripts: the tree of a list of tokens, or the place where no script goes on.
 #![tactic(auto)]
 
+mod attach;
 pub mod class;
+mod cursor;
+mod expr;
 mod fault;
+mod leaf;
+mod marks;
+mod tables;
+mod words;
