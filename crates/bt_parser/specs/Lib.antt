@@ -9,3 +9,5 @@ pub mod Reading
 pub mod Grammar
 pub mod Contract
 pub mod Fine
+pub mod Weights
+pub mod Refusals

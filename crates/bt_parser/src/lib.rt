@@ -2,4 +2,5 @@
 #![tactic(auto)]
 
 pub mod class;
+pub mod error;
 mod fault;
