@@ -11,3 +11,4 @@ mod Enough
 mod Steps
 mod Cut
 mod Tries
+mod Counts

@@ -11,3 +11,4 @@ pub mod Contract
 pub mod Fine
 pub mod Weights
 pub mod Refusals
+pub mod Counts
