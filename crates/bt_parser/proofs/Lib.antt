@@ -12,3 +12,4 @@ mod Steps
 mod Cut
 mod Tries
 mod Counts
+mod Decide
