@@ -77,11 +77,21 @@ fronts (suc k) ts probes r e =
     let g : Fronts k m.r1 n.a n.r1 = fronts k m.r1 n.a n.r1 n.front in
     let d1 : ℕ = f.whole.0 in
     let d : ℕ = d1 + g.depth in
-    record { depth = d; ys = f.xs ++ g.ys; is = f.is ∙ ap (λ z. f.xs ++ z) (g.is ∙ ap (λ z. g.ys ++ z) er) ∙ sym (append_assoc f.xs g.ys r);
-      linked = λ a. (f.xs, g.ys, m.a, refl, more_at d1 d (omega arith) OneProbe f.xs m.a f.whole.1,
+    record {
+      depth = d;
+      ys = f.xs ++ g.ys;
+      is = f.is ∙ ap (λ z. f.xs ++ z) (g.is ∙ ap (λ z. g.ys ++ z) er) ∙ sym (append_assoc f.xs g.ys r);
+      linked = λ a. (
+        f.xs,
+        g.ys,
+        m.a,
+        refl,
+        more_at d1 d (omega arith) OneProbe f.xs m.a f.whole.1,
         subst (λ z. links snoc (whole_at d OneProbe) k (a ++ m.a ∷ []) g.ys z) (append_assoc a (m.a ∷ []) n.a ∙ ap (λ z. a ++ z) ep)
-          (links_more snoc (whole_at g.depth OneProbe) (whole_at d OneProbe) (more_at g.depth d (omega arith) OneProbe) k (a ++ m.a ∷ []) g.ys ((a ++ m.a ∷ []) ++ n.a) (g.linked (a ++ m.a ∷ []))));
-      count = ap length (sym ep) ∙ ap suc g.count }
+            (links_more snoc (whole_at g.depth OneProbe) (whole_at d OneProbe) (more_at g.depth d (omega arith) OneProbe) k (a ++ m.a ∷ []) g.ys ((a ++ m.a ∷ []) ++ n.a) (g.linked (a ++ m.a ∷ []))),
+      );
+      count = ap length (sym ep) ∙ ap suc g.count;
+    }
 
 pub record ReadTree (k : ℕ) (ts : List Item) (probes : List Probe) (r : List Item) : Type 0 where
   pub front : List Item
@@ -156,10 +166,10 @@ probes_on (suc k) a ts probes r e =
     let ep : m.a ∷ n.a ≡ probes = cc (n.back) in
     let er : n.r1 ≡ r = cc (n.back) in
     another_probe a ts (probe_starts ts m.a m.r1 m.front)
-      ∙ ap (λ z. and_then z (λ b r. goes_on snoc (Call OneProbe) (a ++ b ∷ []) r)) m.front
-      ∙ probes_on k (a ++ m.a ∷ []) m.r1 n.a n.r1 n.front
-      ∙ ap (λ z. goes_on snoc (Call OneProbe) z n.r1) (append_assoc a (m.a ∷ []) n.a ∙ ap (λ z. a ++ z) ep)
-      ∙ ap (λ z. goes_on snoc (Call OneProbe) (a ++ probes) z) er
+    ∙ ap (λ z. and_then z (λ b r. goes_on snoc (Call OneProbe) (a ++ b ∷ []) r)) m.front
+    ∙ probes_on k (a ++ m.a ∷ []) m.r1 n.a n.r1 n.front
+    ∙ ap (λ z. goes_on snoc (Call OneProbe) z n.r1) (append_assoc a (m.a ∷ []) n.a ∙ ap (λ z. a ++ z) ep)
+    ∙ ap (λ z. goes_on snoc (Call OneProbe) (a ++ probes) z) er
 
 -- the script goes on with what is left behind its first probes
 pub script_behind : (k : ℕ) (ts : List Item) (probes : List Probe) (r : List Item) → probes_read (suc k) ts ≡ Done probes r

@@ -20,7 +20,7 @@ use Rattle.bt_parser.proofs.Counts.{tree_read, probe_starts, one_more}
 
 -- ---- lists
 
-take_front : (front rest : List Item) → take (length front) (front ++ rest) ≡ front
+pub take_front : (front rest : List Item) → take (length front) (front ++ rest) ≡ front
 take_front front rest = take-append-le (length front) front rest (omega arith) ∙ take_all (length front) front (omega arith)
 
 pub record Longer (front rest : List Item) (m : ℕ) : Type 0 where
@@ -47,12 +47,13 @@ tree_begins ts probes (d, w) = (d, whole_begins_at d WholeScript ts probes w)
 syntax_by : (ts front rest : List Item) (n : ℕ) → ts ≡ front ++ rest → n ≡ length front → Begins front
     → ((t : Item) (z more : List Item) → rest ≡ t ∷ z → Begins (front ++ t ∷ more) → ⊥) → ((probes : List Probe) → Tree ts probes → ⊥) → IsSyntaxFault ts n
 syntax_by ts front rest n e en begun further no_tree = record {
-    no_tree = no_tree;
-    within = omega (arith, en, ap length e, length-append front rest);
-    begun = subst Begins (sym (ap (λ z. take z ts) en ∙ ap (take (length front)) e ∙ take_front front rest)) begun;
-    longest = λ m less within b.
+  no_tree = no_tree;
+  within = omega (arith, en, ap length e, length-append front rest);
+  begun = subst Begins (sym (ap (λ z. take z ts) en ∙ ap (take (length front)) e ∙ take_front front rest)) begun;
+  longest = λ m less within b.
       let l : Longer front rest m = longer front rest m (omega (arith, en)) (subst (λ z. m ≤ length z) e within) in
-      further l.t l.z l.more l.is (subst Begins (ap (take m) e ∙ l.taken) b) }
+      further l.t l.z l.more l.is (subst Begins (ap (take m) e ∙ l.taken) b);
+}
 
 -- what is refused at a place has its syntax fault there
 pub syntax_at : (ts rest : List Item) (n : ℕ) → RefusedAt ts rest → n + length rest ≡ length ts → IsSyntaxFault ts n
@@ -63,8 +64,8 @@ pub syntax_cut : (ts cut after : List Item) (t : Item) (z : List Item) (n : ℕ)
 syntax_cut ts cut after t z n e r en =
     let is : ts ≡ r.front ++ ((t ∷ z) ++ after) = e ∙ ap (λ x. x ++ after) r.is ∙ append_assoc r.front (t ∷ z) after in
     syntax_by ts r.front ((t ∷ z) ++ after) n is (omega (arith, en, ap length r.is, length-append r.front (t ∷ z))) r.begun
-      (λ u y more q b. let h : t ≡ u = cc (q) in r.no_further u z more (ap (λ x. x ∷ z) h) b)
-      (λ probes w. r.no_further t z (z ++ after) refl (subst Begins is (tree_begins ts probes w)))
+    (λ u y more q b. let h : t ≡ u = cc (q) in r.no_further u z more (ap (λ x. x ∷ z) h) b)
+    (λ probes w. r.no_further t z (z ++ after) refl (subst Begins is (tree_begins ts probes w)))
 
 less : (a b : ℕ) → (a < b) ⊎ (b ≤ a)
 less a zero = inr (omega arith)
@@ -74,8 +75,9 @@ less (suc a) (suc b) = elim (less a b) [ inl h ↦ inl (omega arith) | inr h ↦
 -- where a front begins a script, the syntax fault is behind it
 pub syntax_behind : (ts cut after : List Item) (m : ℕ) → ts ≡ cut ++ after → Begins cut → IsSyntaxFault ts m → length cut ≤ m
 syntax_behind ts cut after m e b f = elim (less m (length cut)) [
-    inr le ↦ le
-  | inl less ↦ absurd (f.longest (length cut) less (omega (arith, ap length e, length-append cut after)) (subst Begins (sym (ap (take (length cut)) e ∙ take_front cut after)) b)) ]
+  | inr le ↦ le
+  | inl less ↦ absurd (f.longest (length cut) less (omega (arith, ap length e, length-append cut after)) (subst Begins (sym (ap (take (length cut)) e ∙ take_front cut after)) b))
+]
 
 syntax_least : (ts : List Item) (n m : ℕ) → IsSyntaxFault ts n → IsSyntaxFault ts m → n ≤ m
 syntax_least ts n m f g = elim (less m n) [ inr le ↦ le | inl short ↦ absurd (g.longest n short f.within f.begun) ]
@@ -91,8 +93,8 @@ count_read : (ts : List Item) (n : ℕ) (f : IsCountFault ts n) → probes_read 
 count_read ts n f =
     let e : probes_read (length f.probes) (take n ts ++ drop n ts) ≡ Done f.probes (drop n ts) = tree_read (take n ts) f.probes (drop n ts) f.tree in
     subst (λ z. probes_read most_probes ts ≡ Done f.probes z) f.is
-      (subst (λ z. probes_read z ts ≡ Done f.probes (drop n ts)) f.full
-        (subst (λ z. probes_read (length f.probes) z ≡ Done f.probes (drop n ts)) (take-append-drop n ts) e))
+    (subst (λ z. probes_read z ts ≡ Done f.probes (drop n ts)) f.full
+    (subst (λ z. probes_read (length f.probes) z ≡ Done f.probes (drop n ts)) (take-append-drop n ts) e))
 
 count_place : (ts : List Item) (n : ℕ) (f : IsCountFault ts n) → n + length (f.next ∷ f.rest) ≡ length ts
 count_place ts n f = omega (arith, ap length f.is, length-drop n ts)
@@ -131,14 +133,28 @@ count_within ts cut after n e short f =
     of_drop (t ∷ left) q d =
         let h : t ∷ (left ++ after) ≡ f.next ∷ f.rest = ap (λ z. z ++ after) (sym q) ∙ d in
         let ht : t ≡ f.next = cc (h) in
-        record { probes = f.probes; tree = subst (λ z. Tree z f.probes) (ap (take n) e ∙ take-append-le n cut after (omega arith)) f.tree; full = f.full;
-          next = t; rest = left; is = q; begins = subst (λ z. is_point z.class ≡ true) (sym ht) f.begins }
+        record {
+          probes = f.probes;
+          tree = subst (λ z. Tree z f.probes) (ap (take n) e ∙ take-append-le n cut after (omega arith)) f.tree;
+          full = f.full;
+          next = t;
+          rest = left;
+          is = q;
+          begins = subst (λ z. is_point z.class ≡ true) (sym ht) f.begins;
+        }
 
 count_over : (ts cut after : List Item) (n : ℕ) → ts ≡ cut ++ after → IsCountFault cut n → IsCountFault ts n
 count_over ts cut after n e f =
     let short : n < length cut = omega (arith, count_place cut n f) in
-    record { probes = f.probes; tree = subst (λ z. Tree z f.probes) (sym (ap (take n) e ∙ take-append-le n cut after (omega arith))) f.tree; full = f.full;
-      next = f.next; rest = f.rest ++ after; is = ap (drop n) e ∙ drop-append-le n cut after (omega arith) ∙ ap (λ z. z ++ after) f.is; begins = f.begins }
+    record {
+      probes = f.probes;
+      tree = subst (λ z. Tree z f.probes) (sym (ap (take n) e ∙ take-append-le n cut after (omega arith))) f.tree;
+      full = f.full;
+      next = f.next;
+      rest = f.rest ++ after;
+      is = ap (drop n) e ∙ drop-append-le n cut after (omega arith) ∙ ap (λ z. z ++ after) f.is;
+      begins = f.begins;
+    }
 
 -- another probe that is read
 pub record Another (r : List Item) : Type 0 where
@@ -166,12 +182,13 @@ farther (suc k) (suc m) ts ps qs r s e e' short =
 pub few : (k : ℕ) (ts : List Item) (probes : List Probe) (r : List Item) → probes_read k ts ≡ Done probes r → k ≤ most_probes
     → (k < most_probes → Another r → ⊥) → (k ≡ most_probes → starts (λ c _. is_point c) r ≡ false) → (n : ℕ) → IsCountFault ts n → ⊥
 few k ts probes r e bound none_less none_full n f = elim (less k most_probes) [
-    inl short ↦ none_less short (farther k most_probes ts probes f.probes r (f.next ∷ f.rest) e (count_read ts n f) short)
+  | inl short ↦ none_less short (farther k most_probes ts probes f.probes r (f.next ∷ f.rest) e (count_read ts n f) short)
   | inr long ↦ (let h : k ≡ most_probes = omega arith in
       let q : Done probes r ≡ Done f.probes (f.next ∷ f.rest) = sym (subst (λ z. probes_read z ts ≡ Done probes r) h e) ∙ count_read ts n f in
       let qr : r ≡ f.next ∷ f.rest = cc (q) in
       let no : starts (λ c _. is_point c) (f.next ∷ f.rest) ≡ false = subst (λ z. starts (λ c _. is_point c) z ≡ false) qr (none_full h) in
-      let yes : is_point f.next.class ≡ true = f.begins in cc (no, yes)) ]
+      let yes : is_point f.next.class ≡ true = f.begins in cc (no, yes))
+]
 
 none_left : Another [] → ⊥
 none_left a = let h : starts (λ c _. is_point c) [] ≡ true = probe_starts [] a.probe a.rest a.is in cc (h)
@@ -220,8 +237,9 @@ refused_front ts cut after t z n e r en deep short = record { holds = syntax_cut
     first_of (Syntax m) f = not_after (Syntax n) (Syntax m) (syntax_least ts n m (syntax_cut ts cut after t z n e r en) f) (omega arith)
     first_of (TooDeep m) f = let h : length cut ≤ m + 1 = deep m f in not_after (Syntax n) (TooDeep m) (omega (arith, h, en)) (omega arith)
     first_of (TooMany m) f = elim (less m (length cut)) [
-        inl within ↦ absurd (short m (count_within ts cut after m e within f))
-      | inr behind ↦ inl (omega (arith, en)) ]
+      | inl within ↦ absurd (short m (count_within ts cut after m e within f))
+      | inr behind ↦ inl (omega (arith, en))
+    ]
     first_of Memory f = absurd f
 
 -- in a front of the tokens another probe begins behind as many as there may be, before any token that is too deep
@@ -246,8 +264,9 @@ too_deep ts cut after d e len deep b short = record { holds = deep; first = firs
     first_of (Syntax m) f = let h : length cut ≤ m = syntax_behind ts cut after m e b f in inl (omega (arith, h, len))
     first_of (TooDeep m) f = not_after (TooDeep d) (TooDeep m) (depth_least ts d m deep f) (omega arith)
     first_of (TooMany m) f = elim (less m (length cut)) [
-        inl within ↦ not_after (TooDeep d) (TooMany m) (short m (count_within ts cut after m e within f)) (omega arith)
-      | inr behind ↦ inl (omega (arith, len)) ]
+      | inl within ↦ not_after (TooDeep d) (TooMany m) (short m (count_within ts cut after m e within f)) (omega arith)
+      | inr behind ↦ inl (omega (arith, len))
+    ]
     first_of Memory f = absurd f
 
 -- what is refused at its end alone begins a script

@@ -13,3 +13,4 @@ mod Cut
 mod Tries
 mod Counts
 mod Decide
+mod Scripts
