@@ -14,3 +14,5 @@ mod Tries
 mod Counts
 mod Decide
 mod Scripts
+mod Examples
+mod Places
