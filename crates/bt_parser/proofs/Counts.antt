@@ -1,20 +1,19 @@
 -- What begins with so many probes, and what follows them.
-use Rattle.std.proofs.Common.{◌≡◌, ◌≢◌, ℕ, zero, suc, ◌+◌, ◌<◌, ◌≤◌, Bool, true, false, List, [], ◌∷◌, ◌++◌, length, refl, sym, ◌∙◌, ap, subst, inr, ◌⊎◌, append_assoc, arith}
+use Rattle.std.proofs.Common.{◌≡◌, ℕ, zero, suc, ◌+◌, Bool, true, false, List, [], ◌∷◌, ◌++◌, length, refl, sym, ◌∙◌, ap, subst, inr, ◌⊎◌, append_assoc, arith}
 use Rattle.std.specs.Prelude.{if◌then◌else◌, not}
 use Rattle.std.proofs.lemmas.List.{append-nil}
 use Rattle.bt_ast.specs.declared.probe.Probe.{Probe}
 use Rattle.bt_parser.specs.Classes.{is_point}
-use Rattle.bt_parser.specs.Form.{Item, OneProbe, WholeScript, Call, links, whole}
+use Rattle.bt_parser.specs.Form.{Item, OneProbe, WholeScript, Call, links}
 use Rattle.bt_parser.specs.Trees.{single, snoc}
 use Rattle.bt_parser.specs.Tables.{nul, sens_of}
-use Rattle.bt_parser.specs.Reading.{Out, Done, Refused, Unfinished, and_then, starts, first, sens, read, reads, goes_on}
+use Rattle.bt_parser.specs.Reading.{Out, Done, Refused, Unfinished, and_then, starts, first, sens, reads, goes_on}
 use Rattle.bt_parser.specs.Grammar.{Tree, whole_at}
 use Rattle.bt_parser.specs.Counts.{probes_read}
 use Rattle.bt_parser.specs.Fine.{Led}
 use Rattle.bt_parser.proofs.Sound.{Calm, Found, DoneBoth, and_then-done}
 use Rattle.bt_parser.proofs.Viable.{links_more}
 use Rattle.bt_parser.proofs.Checked.{fine_rule}
-use Rattle.bt_parser.proofs.CheckedFirst.{first_rule}
 use Rattle.bt_parser.proofs.Depth.{only_at, more_at, null_at, first_at}
 use Rattle.bt_parser.proofs.Enough.{settled, reads_is}
 use Rattle.bt_parser.proofs.Steps.{some_whole, found_some, goes_on_more, goes_on_stop}

@@ -1,22 +1,20 @@
 -- The first fault of a list of tokens, by what reading it or a front of it answers.
-use Rattle.std.proofs.Common.{◌≡◌, ◌≢◌, ℕ, zero, suc, ◌+◌, ◌-◌, ◌<◌, ◌≤◌, Bool, true, false, List, [], ◌∷◌, ◌++◌, length, take, drop, refl, sym, ◌∙◌, ap, subst, inl, inr, ◌⊎◌, append_assoc, arith, length-append}
+use Rattle.std.proofs.Common.{◌≡◌, ℕ, zero, suc, ◌+◌, ◌<◌, ◌≤◌, true, false, List, [], ◌∷◌, ◌++◌, length, take, drop, refl, sym, ◌∙◌, ap, subst, inl, inr, ◌⊎◌, append_assoc, arith, length-append}
 use Rattle.std.proofs.lemmas.List.{append-nil, take-append-drop, take-append-le, drop-append-le, take_all, length-take-le, length-drop}
 use Rattle.bt_ast.specs.declared.probe.Probe.{Probe}
 use Rattle.bt_ast.specs.declared.probe.Script.{Script}
 use Rattle.bt_parser.specs.declared.error.ParseError.{ParseError}
 use Rattle.bt_parser.specs.declared.error.ParseError.TheVariants.{Syntax, TooDeep, TooMany, Memory}
-use Rattle.bt_parser.specs.declared.class.Class.{Class}
 use Rattle.bt_parser.specs.Classes.{is_point}
-use Rattle.bt_parser.specs.Form.{Item, OneProbe, WholeScript, Call}
-use Rattle.bt_parser.specs.Trees.{snoc}
-use Rattle.bt_parser.specs.Reading.{Out, Done, Refused, Unfinished, and_then, starts, reads}
+use Rattle.bt_parser.specs.Form.{Item, OneProbe, WholeScript}
+use Rattle.bt_parser.specs.Reading.{Done, and_then, starts, reads}
 use Rattle.bt_parser.proofs.Sound.{DoneBoth, and_then-done}
-use Rattle.bt_parser.specs.Grammar.{Tree, IsTreeOf, Begins, RefusedAt, whole_at, begins_at}
+use Rattle.bt_parser.specs.Grammar.{Tree, IsTreeOf, Begins, RefusedAt, whole_at}
 use Rattle.bt_parser.specs.Counts.{probes_read}
 use Rattle.bt_parser.specs.Weights.{weight}
 use Rattle.bt_parser.specs.Refusals.{IsSyntaxFault, IsDepthFault, IsCountFault, Holds, NotAfter, IsRefusal, IsAccepted, token_of, order_of, deepest_weight, most_probes}
 use Rattle.bt_parser.proofs.Depth.{whole_begins_at, more_at}
-use Rattle.bt_parser.proofs.Counts.{tree_read, probe_starts, one_more}
+use Rattle.bt_parser.proofs.Counts.{tree_read, probe_starts}
 
 -- ---- lists
 

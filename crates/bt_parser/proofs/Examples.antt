@@ -1,5 +1,5 @@
 -- The trees of some scripts, and where others are refused.
-use Rattle.std.proofs.Common.{◌≡◌, ℕ, ◌+◌, ◌<◌, ◌≤◌, ℤ, pos, Bool, true, false, ◌&&◌, List, [], ◌∷◌, ◌++◌, length, take, Option, Some, None, refl, sym, ◌∙◌, ap, subst, arith}
+use Rattle.std.proofs.Common.{◌≡◌, ℕ, ◌+◌, ℤ, pos, List, [], ◌∷◌, length, Some, None, refl, ◌∙◌, ap, subst}
 use Rattle.std.specs.Prelude.{codes}
 use Rattle.bt_lexer.specs.declared.token.Token.{Token}
 use Rattle.bt_lexer.specs.declared.token.TokenKind.{TokenKind}
@@ -8,7 +8,6 @@ use Rattle.bt_core.specs.declared.operator.BinOp.TheVariants as ops
 use Rattle.bt_ast.specs.declared.place.Place.{Place}
 use Rattle.bt_ast.specs.declared.expr.Builtin.TheVariants as builtins
 use Rattle.bt_ast.specs.declared.expr.Expr.{Expr}
-use Rattle.bt_ast.specs.declared.expr.ExprKind.{ExprKind}
 use Rattle.bt_ast.specs.declared.expr.ExprKind.TheVariants as exprs
 use Rattle.bt_ast.specs.declared.expr.Target.TheVariants as targets
 use Rattle.bt_ast.specs.declared.stmt.AggCall.TheVariants as aggs
@@ -17,13 +16,12 @@ use Rattle.bt_ast.specs.declared.expr.MapRef.{MapRef, roll-MapRef}
 use Rattle.bt_ast.specs.declared.probe.Probe.{Probe}
 use Rattle.bt_ast.specs.declared.probe.Point.TheVariants as points
 use Rattle.bt_ast.specs.declared.probe.Script.{Script}
-use Rattle.bt_parser.specs.declared.error.ParseError.TheVariants.{Syntax, TooDeep}
-use Rattle.bt_parser.specs.Form.{Item, WholeScript, OneProbe}
+use Rattle.bt_parser.specs.Form.{Item, WholeScript}
 use Rattle.bt_parser.specs.Trees.{expr, stmt, block_of, place_of_map, place_of_expr}
-use Rattle.bt_parser.specs.Reading.{Out, Done, Refused, read_at}
-use Rattle.bt_parser.specs.Grammar.{IsTreeOf, Answer, RefusedAt}
+use Rattle.bt_parser.specs.Reading.{Done, Refused, read_at}
+use Rattle.bt_parser.specs.Grammar.{IsTreeOf, Answer}
 use Rattle.bt_parser.specs.Tokens.{items}
-use Rattle.bt_parser.specs.Refusals.{IsSyntaxFault, IsDepthFault, IsRefusal}
+use Rattle.bt_parser.specs.Refusals.{IsSyntaxFault}
 use Rattle.bt_parser.proofs.Depth.{exact}
 use Rattle.bt_parser.proofs.Decide.{syntax_at}
 use Rattle.bt_parser.proofs.Places.{map_place, expr_place}
@@ -34,13 +32,13 @@ at line column = record { line = line; column = column }
 abbrev token : TokenKind → ℕ → ℕ → Token
 token kind line column = record { kind = kind; start = 0; end = 0; line = line; column = column }
 
-abbrev word : List ℕ → ℕ → ℕ → Token
+abbrev pub word : List ℕ → ℕ → ℕ → Token
 word bytes = token (kinds.Word bytes)
 
 abbrev attach : List ℕ → ℕ → ℕ → Token
 attach bytes = token (kinds.Attach bytes)
 
-abbrev map : List ℕ → ℕ → ℕ → Token
+abbrev pub map : List ℕ → ℕ → ℕ → Token
 map bytes = token (kinds.Map bytes)
 
 abbrev var : List ℕ → ℕ → ℕ → Token
@@ -52,7 +50,7 @@ number n = token (kinds.Number n)
 abbrev text : List ℕ → ℕ → ℕ → Token
 text bytes = token (kinds.Text bytes)
 
-abbrev mark : List ℕ → ℕ → ℕ → Token
+abbrev pub mark : List ℕ → ℕ → ℕ → Token
 mark bytes = token (kinds.Mark bytes)
 
 abbrev map_at : List ℕ → List Expr → Place → MapRef
@@ -94,12 +92,20 @@ nsecs3 place = expr (exprs.Builtin builtins.Nsecs) place
 
 abbrev tree3 : Place → Place → Place → Place → Place → List Probe
 tree3 a b c d e =
-    record { points = points.Tracepoint (codes "t") (codes "enter") (at 1 1) ∷ []; predicate = None;
-      block = block_of (at 1 20) (stmt a (stmts.Assign (targets.Map start1) None (nsecs3 (at 1 36))) ∷ []); place = (at 1 1) }
-    ∷ record { points = points.Tracepoint (codes "t") (codes "exit") (at 1 45) ∷ []; predicate = Some (expr (exprs.Map start2) b);
+    record {
+      points = points.Tracepoint (codes "t") (codes "enter") (at 1 1) ∷ [];
+      predicate = None;
+      block = block_of (at 1 20) (stmt a (stmts.Assign (targets.Map start1) None (nsecs3 (at 1 36))) ∷ []);
+      place = (at 1 1);
+    }
+    ∷ record {
+      points = points.Tracepoint (codes "t") (codes "exit") (at 1 45) ∷ [];
+      predicate = Some (expr (exprs.Map start2) b);
       block = block_of (at 1 77)
-        (stmt c (stmts.SetAgg ns (aggs.Hist (expr (exprs.Binary ops.Sub (nsecs3 (at 1 90)) (expr (exprs.Map start3) d)) e)) (at 1 85))
-        ∷ stmt (at 1 112) (stmts.Delete start4) ∷ []); place = (at 1 45) } ∷ []
+          (stmt c (stmts.SetAgg ns (aggs.Hist (expr (exprs.Binary ops.Sub (nsecs3 (at 1 90)) (expr (exprs.Map start3) d)) e)) (at 1 85))
+          ∷ stmt (at 1 112) (stmts.Delete start4) ∷ []);
+      place = (at 1 45);
+    } ∷ []
 
 read3 : read_at 100 WholeScript (items tokens3) ≡ Done (tree3 (place_of_map start1) (place_of_map start2) (place_of_map ns) (place_of_map start3) (place_of_expr (nsecs3 (at 1 90)))) []
 read3 = refl
@@ -155,16 +161,32 @@ passed d e = expr (exprs.Paren (expr (exprs.Binary ops.Sub nsecs23 (expr (exprs.
 
 abbrev tree23 : Place → Place → Place → Place → Place → Place → List Probe
 tree23 a b c d e f =
-    record { points = points.Begin (at 2 1) ∷ []; predicate = None;
-      block = block_of (at 2 7) (stmt (at 2 9) (stmts.Printf (codes "Tracing... Hit Ctrl-C to end.\n") (at 2 16) []) ∷ []); place = (at 2 1) }
-    ∷ record { points = points.Tracepoint (codes "block") (codes "block_rq_issue") (at 3 1) ∷ []; predicate = None;
-      block = block_of (at 3 33) (stmt a (stmts.Assign (targets.Map start23_1) None (expr (exprs.Builtin builtins.Nsecs) (at 3 67))) ∷ []); place = (at 3 1) }
-    ∷ record { points = points.Tracepoint (codes "block") (codes "block_rq_complete") (at 4 1) ∷ []; predicate = Some (expr (exprs.Map start23_2) b);
+    record {
+      points = points.Begin (at 2 1) ∷ [];
+      predicate = None;
+      block = block_of (at 2 7) (stmt (at 2 9) (stmts.Printf (codes "Tracing... Hit Ctrl-C to end.\n") (at 2 16) []) ∷ []);
+      place = (at 2 1);
+    }
+    ∷ record {
+      points = points.Tracepoint (codes "block") (codes "block_rq_issue") (at 3 1) ∷ [];
+      predicate = None;
+      block = block_of (at 3 33) (stmt a (stmts.Assign (targets.Map start23_1) None (expr (exprs.Builtin builtins.Nsecs) (at 3 67))) ∷ []);
+      place = (at 3 1);
+    }
+    ∷ record {
+      points = points.Tracepoint (codes "block") (codes "block_rq_complete") (at 4 1) ∷ [];
+      predicate = Some (expr (exprs.Map start23_2) b);
       block = block_of (at 4 68)
-        (stmt c (stmts.SetAgg usecs (aggs.Hist (expr (exprs.Binary ops.Div (passed d e) (expr (exprs.Number (pos 1000)) (at 4 126))) f)) (at 4 79))
-        ∷ stmt (at 4 133) (stmts.Delete start23_4) ∷ []); place = (at 4 1) }
-    ∷ record { points = points.End (at 5 1) ∷ []; predicate = None;
-      block = block_of (at 5 5) (stmt (at 5 7) (stmts.Clear (map_at (codes "@start") [] (at 5 13))) ∷ []); place = (at 5 1) } ∷ []
+          (stmt c (stmts.SetAgg usecs (aggs.Hist (expr (exprs.Binary ops.Div (passed d e) (expr (exprs.Number (pos 1000)) (at 4 126))) f)) (at 4 79))
+          ∷ stmt (at 4 133) (stmts.Delete start23_4) ∷ []);
+      place = (at 4 1);
+    }
+    ∷ record {
+      points = points.End (at 5 1) ∷ [];
+      predicate = None;
+      block = block_of (at 5 5) (stmt (at 5 7) (stmts.Clear (map_at (codes "@start") [] (at 5 13))) ∷ []);
+      place = (at 5 1);
+    } ∷ []
 
 read23 : read_at 100 WholeScript (items tokens23) ≡ Done (tree23 (place_of_map start23_1) (place_of_map start23_2) (place_of_map usecs) (place_of_map start23_3) (place_of_expr nsecs23) (place_of_expr (passed (place_of_map start23_3) (place_of_expr nsecs23)))) []
 read23 = refl

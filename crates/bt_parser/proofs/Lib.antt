@@ -16,3 +16,4 @@ mod Decide
 mod Scripts
 mod Examples
 mod Places
+mod DeepExample

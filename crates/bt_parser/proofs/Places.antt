@@ -3,7 +3,7 @@ use Rattle.std.proofs.Common.{◌≡◌, ℕ, List, ap}
 use Rattle.bt_ast.specs.declared.place.Place.{Place}
 use Rattle.bt_ast.specs.declared.expr.Expr.{Expr, out-roll-Expr}
 use Rattle.bt_ast.specs.declared.expr.ExprKind.{ExprKind}
-use Rattle.bt_ast.specs.declared.expr.MapRef.{MapRef, roll-MapRef, out-roll-MapRef}
+use Rattle.bt_ast.specs.declared.expr.MapRef.{roll-MapRef, out-roll-MapRef}
 use Rattle.bt_parser.specs.Trees.{expr, place_of_expr, place_of_map}
 
 pub expr_place : (kind : ExprKind) (place : Place) → place_of_expr (expr kind place) ≡ place

@@ -1,6 +1,9 @@
 -- What the loop over probes answers.
 use Rattle.std.proofs.Common.{◌≡◌, ℕ, zero, suc, ◌+◌, ◌*◌, ◌<◌, ◌≤◌, Bool, true, false, List, [], ◌∷◌, ◌++◌, length, take, drop, refl, sym, ◌∙◌, ap, subst, arith, length-append}
+use Rattle.std.specs.Prelude.{nat_le, ◌&&◌}
 use Rattle.std.proofs.lemmas.List.{append-nil}
+use Rattle.std.proofs.lemmas.Bool.{leb-true}
+use Rattle.bt_parser.proofs.AllClasses.{and_first, and_second}
 use Rattle.bt_ast.specs.declared.probe.Probe.{Probe}
 use Rattle.bt_parser.specs.Classes.{is_point}
 use Rattle.bt_parser.specs.Form.{Item, OneProbe, WholeScript, Call}
@@ -9,12 +12,12 @@ use Rattle.bt_parser.specs.Tables.{width}
 use Rattle.bt_parser.specs.Reading.{Out, Done, Refused, and_then, starts, reads, goes_on}
 use Rattle.bt_parser.specs.Grammar.{Tree, RefusedAt, Answer}
 use Rattle.bt_parser.specs.Counts.{probes_read}
-use Rattle.bt_parser.specs.Weights.{levels_from, levels_behind}
-use Rattle.bt_parser.specs.Refusals.{IsCountFault, most_probes}
+use Rattle.bt_parser.specs.Weights.{levels_from, levels_behind, level_weight}
+use Rattle.bt_parser.specs.Refusals.{IsCountFault, most_probes, deepest_weight}
 use Rattle.bt_parser.proofs.Depth.{exact}
 use Rattle.bt_parser.proofs.Enough.{reads_is}
 use Rattle.bt_parser.proofs.Counts.{ReadTree, read_tree, script_behind, another_probe, no_probe, probe_starts}
-use Rattle.bt_parser.proofs.Decide.{Another, NoCountFault, few, take_front}
+use Rattle.bt_parser.proofs.Decide.{NoCountFault, few, take_front}
 
 -- what reading the tokens answers is so
 pub reads_answer : (ts : List Item) → Answer ts (reads WholeScript ts)
@@ -76,3 +79,16 @@ few_behind k ts probes r e bound s n f = few k ts probes r e bound (λ _ a. let 
 pub levels_next : (levels : List ℕ) (ts : List Item) (t : Item) → levels_from levels (ts ++ t ∷ []) ≡ levels_behind t.class (levels_from levels ts)
 levels_next levels [] t = refl
 levels_next levels (u ∷ ts) t = levels_next (levels_behind u.class levels) ts t
+
+-- whether no token makes the levels too heavy
+abbrev pub all_light : List ℕ → List Item → Bool
+all_light levels [] = true
+all_light levels (t ∷ ts) = nat_le (level_weight (levels_behind t.class levels)) deepest_weight && all_light (levels_behind t.class levels) ts
+
+pub light_until : (levels : List ℕ) (front rest : List Item) → all_light levels front ≡ true → (m : ℕ) → m < length front
+    → level_weight (levels_from levels (take (m + 1) (front ++ rest))) ≤ deepest_weight
+light_until levels [] rest h m within = absurd (omega arith)
+light_until levels (t ∷ front) rest h zero within = leb-true (level_weight (levels_behind t.class levels)) deepest_weight (and_first _ (all_light (levels_behind t.class levels) front) h)
+light_until levels (t ∷ front) rest h (suc m) within =
+    let e : suc m + 1 ≡ suc (m + 1) = omega arith in
+    rw e (light_until (levels_behind t.class levels) front rest (and_second (nat_le (level_weight (levels_behind t.class levels)) deepest_weight) _ h) m (omega arith))

@@ -1,5 +1,5 @@
 -- Where a list of tokens is refused, and for what.
-use Rattle.std.specs.Prelude.{◌≡◌, ℕ, ◌+◌, ◌<◌, ◌≤◌, Bool, true, List, [], ◌∷◌, length, take, drop, ◌⊎◌}
+use Rattle.std.specs.Prelude.{◌≡◌, ℕ, ◌+◌, ◌<◌, ◌≤◌, true, List, ◌∷◌, length, take, drop, ◌⊎◌}
 use Rattle.bt_ast.specs.declared.probe.Probe.{Probe}
 use Rattle.bt_ast.specs.declared.probe.Script.{Script}
 use Rattle.bt_parser.specs.declared.error.ParseError.{ParseError}
