@@ -11,3 +11,10 @@ mod Enough
 mod Steps
 mod Cut
 mod Tries
+mod Counts
+mod Decide
+mod Scripts
+mod Examples
+mod Places
+mod DeepExample
+mod Mirrored

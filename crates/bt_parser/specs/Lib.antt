@@ -11,3 +11,6 @@ pub mod Contract
 pub mod Fine
 pub mod Points
 pub mod Mirror
+pub mod Weights
+pub mod Refusals
+pub mod Counts

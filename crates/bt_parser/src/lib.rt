@@ -5,6 +5,7 @@ mod attach;
 pub mod class;
 mod cursor;
 mod expr;
+pub mod error;
 mod fault;
 mod leaf;
 mod marks;
