@@ -18,3 +18,4 @@ mod Examples
 mod Places
 mod DeepExample
 mod Mirrored
+mod WordKinds

@@ -11,6 +11,8 @@ use Rattle.bt_ast.specs.declared.expr.Target.{Target}
 use Rattle.bt_ast.specs.declared.expr.Target.TheVariants as targets
 use Rattle.bt_ast.specs.declared.expr.VarRef.{VarRef}
 use Rattle.bt_lexer.specs.declared.token.Token.{Token}
+use Rattle.bt_lexer.specs.declared.token.TokenKind.{TokenKind}
+use Rattle.bt_lexer.specs.declared.token.TokenKind.TheVariants as kinds
 use Rattle.bt_parser.specs.declared.class.Class.{Class}
 use Rattle.bt_parser.specs.declared.class.Class.TheVariants.{Increment, Decrement, MapName, VarName, NumberLiteral, TextLiteral, ArgsWord, OpenParen, CloseParen, OpenBracket, CloseBracket, Comma, Question, Colon}
 use Rattle.bt_parser.specs.declared.class.Tier.{Tier}
@@ -69,6 +71,10 @@ named t = record { bytes = bytes_at t; place = t.place }
 
 abbrev pub named_form : Class → Form Named
 named_form c = Map named (Tok (is c))
+
+abbrev pub is_word_kind : TokenKind → Bool
+is_word_kind (kinds.Word word) = true
+is_word_kind _ = false
 
 abbrev pub word_form : Form Named
 word_form = Map named (Tok is_word)

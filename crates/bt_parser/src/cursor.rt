@@ -1,14 +1,14 @@
 // The tokens that are left.
 ghost use Rattle.std.specs.Prelude.{◌≡◌, ◌<◌, ◌≤◌, IfOk, List, OnOk, OnSome, length, true};
 ghost use Rattle.bt_parser.specs.declared.class.Class.{Class};
-ghost use Rattle.bt_parser.specs.Classes.{joins};
+ghost use Rattle.bt_parser.specs.Classes.{is_word, joins};
 ghost use Rattle.bt_parser.specs.Contract.{Reads};
 ghost use Rattle.bt_parser.specs.Form.{brace_next};
 ghost use Rattle.bt_parser.specs.Reading.{read, reads, rest_of, starts};
 ghost use Rattle.bt_parser.specs.Rules.{a_number, ends, mark};
 ghost use Rattle.bt_parser.specs.Mirror.{class_at, front_place, named_form, operator_at, prefix_at, builtin_at, step_at, plus_of, word_form};
 ghost use Rattle.bt_parser.specs.Tokens.{class_of, items, place_of_token};
-ghost use Rattle.bt_parser.specs.Trees.{kind_bytes};
+ghost use Rattle.bt_parser.specs.Trees.{kind_bytes, kind_number};
 
 use crate::attach::attach_class;
 use crate::class::{Class, Tier};
@@ -85,6 +85,24 @@ fn bytes_of(alloc: Global, kind: &TokenKind) -> Result<Items<u8>, Memory>
         | TokenKind::Mark(bytes) => bytes.try_copy(alloc),
         TokenKind::Number(_) => Ok(Items::new(alloc)),
     }
+}
+
+/// The number that a token is, 0 of any other token.
+fn number_of(kind: &TokenKind) -> i64
+    ensures { result ≡ kind_number kind.now }
+{
+    match kind {
+        TokenKind::Number(number) => *number,
+        _ => 0,
+    }
+}
+
+/// Whether a token is a word.
+#[tactic(auto, using(crate::proofs::WordKinds::word_kinds))]
+fn is_word(kind: &TokenKind) -> bool
+    ensures { result ≡ is_word (class_of kind.now) }
+{
+    matches!(kind, TokenKind::Word(_))
 }
 
 /// Whether an operator of a class is of the tier, where a brace stands after it or not.
@@ -242,11 +260,11 @@ impl<'a> Cursor<'a> {
         let [token, rest @ ..] = self.rest else {
             return Err(Fault::Syntax);
         };
-        let TokenKind::Number(number) = &token.kind else {
+        if class_of(&token.kind) != Class::NumberLiteral {
             return Err(Fault::Syntax);
-        };
+        }
         self.rest = rest;
-        Ok(*number)
+        Ok(number_of(&token.kind))
     }
 
     /// Passes over the next token, which is a word of any class, and answers its bytes and its place.
@@ -257,10 +275,10 @@ impl<'a> Cursor<'a> {
         let [token, rest @ ..] = self.rest else {
             return Err(Fault::Syntax);
         };
-        let TokenKind::Word(word) = &token.kind else {
+        if !is_word(&token.kind) {
             return Err(Fault::Syntax);
-        };
-        let bytes = word.try_copy(alloc)?;
+        }
+        let bytes = bytes_of(alloc, &token.kind)?;
         self.rest = rest;
         Ok(Named {
             bytes,

@@ -39,6 +39,7 @@ fn join(alloc: Global, class: Class, left: Expr, right: Expr) -> Result<Expr, Me
 
 /// An expression. In a predicate, outside its brackets, a `/` before a brace does not go on with it.
 #[cycle(expr)]
+#[tactic(none)]
 pub fn expression(
     alloc: Global,
     tokens: &mut Cursor<'_>,
@@ -66,6 +67,7 @@ pub fn expression(
 
 /// Operands joined by operators of the tier, from the left.
 #[cycle(expr)]
+#[tactic(none)]
 fn level(
     alloc: Global,
     tokens: &mut Cursor<'_>,
@@ -86,6 +88,7 @@ fn level(
 
 /// What an operator of the tier joins.
 #[cycle(expr)]
+#[tactic(none)]
 fn operand(
     alloc: Global,
     tokens: &mut Cursor<'_>,
@@ -102,6 +105,7 @@ fn operand(
 }
 
 #[cycle(expr)]
+#[tactic(none)]
 fn unary(alloc: Global, tokens: &mut Cursor<'_>) -> Result<Expr, Fault>
     ensures reads { Reads (reads Unary (items tokens.old)) result tokens.new }
     ensures shorter { OnOk result (length tokens.new < length tokens.old) }
@@ -119,6 +123,7 @@ fn unary(alloc: Global, tokens: &mut Cursor<'_>) -> Result<Expr, Fault>
 }
 
 #[cycle(expr)]
+#[tactic(none)]
 fn primary(alloc: Global, tokens: &mut Cursor<'_>) -> Result<Expr, Fault>
     ensures reads { Reads (reads Primary (items tokens.old)) result tokens.new }
     ensures shorter { OnOk result (length tokens.new < length tokens.old) }
@@ -151,6 +156,7 @@ fn primary(alloc: Global, tokens: &mut Cursor<'_>) -> Result<Expr, Fault>
 
 /// A map, with the parts of its key in brackets if it has one.
 #[cycle(expr)]
+#[tactic(none)]
 pub fn keyed(alloc: Global, tokens: &mut Cursor<'_>) -> Result<MapRef, Fault>
     ensures reads { Reads (reads Keyed (items tokens.old)) result tokens.new }
     ensures shorter { OnOk result (length tokens.new < length tokens.old) }
@@ -171,6 +177,7 @@ pub fn keyed(alloc: Global, tokens: &mut Cursor<'_>) -> Result<MapRef, Fault>
 
 /// A map or a variable.
 #[cycle(expr)]
+#[tactic(none)]
 pub fn assignable(alloc: Global, tokens: &mut Cursor<'_>) -> Result<Target, Fault>
     ensures reads { Reads (reads Assignable (items tokens.old)) result tokens.new }
     ensures shorter { OnOk result (length tokens.new < length tokens.old) }
@@ -184,6 +191,7 @@ pub fn assignable(alloc: Global, tokens: &mut Cursor<'_>) -> Result<Target, Faul
 
 /// Expressions between commas, one at least.
 #[cycle(expr)]
+#[tactic(none)]
 pub fn values(alloc: Global, tokens: &mut Cursor<'_>) -> Result<Items<Expr>, Fault>
     ensures reads { Reads (reads Values (items tokens.old)) result tokens.new }
     ensures shorter { OnOk result (length tokens.new < length tokens.old) }
@@ -195,6 +203,7 @@ pub fn values(alloc: Global, tokens: &mut Cursor<'_>) -> Result<Items<Expr>, Fau
 
 /// Values and those that follow behind commas.
 #[cycle(expr)]
+#[tactic(none)]
 pub fn more_values(
     alloc: Global,
     tokens: &mut Cursor<'_>,

@@ -9,5 +9,6 @@ pub mod error;
 mod fault;
 mod leaf;
 mod marks;
+mod scratch;
 mod tables;
 mod words;
