@@ -19,3 +19,4 @@ mod Places
 mod DeepExample
 mod Mirrored
 mod WordKinds
+mod Sameness

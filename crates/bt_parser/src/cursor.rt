@@ -1,7 +1,7 @@
 // The tokens that are left.
 ghost use Rattle.std.specs.Prelude.{◌≡◌, ◌<◌, ◌≤◌, IfOk, List, OnOk, OnSome, length, true};
 ghost use Rattle.bt_parser.specs.declared.class.Class.{Class};
-ghost use Rattle.bt_parser.specs.Classes.{is_word, joins};
+ghost use Rattle.bt_parser.specs.Classes.{is, is_word, joins};
 ghost use Rattle.bt_parser.specs.Contract.{Reads};
 ghost use Rattle.bt_parser.specs.Form.{brace_next};
 ghost use Rattle.bt_parser.specs.Reading.{read, reads, rest_of, starts};
@@ -62,6 +62,13 @@ pub fn class_of(kind: &TokenKind) -> Class
     }
 }
 
+/// Whether a class is the expected one.
+fn is(expected: Class, class: Class) -> bool
+    ensures { result ≡ is expected class }
+{
+    class == expected
+}
+
 /// Where a token begins.
 fn place_of(token: &Token) -> Place
     ensures { result ≡ place_of_token token.now }
@@ -109,7 +116,7 @@ fn is_word(kind: &TokenKind) -> bool
 fn joins(in_predicate: bool, tier: Tier, class: Class, before_brace: bool) -> bool
     ensures { result ≡ joins in_predicate tier class before_brace }
 {
-    let ends_predicate = in_predicate && before_brace && class == Class::Slash;
+    let ends_predicate = in_predicate && before_brace && is(Class::Slash, class);
     tier_of(class) == Some(tier) && !ends_predicate
 }
 
@@ -144,7 +151,7 @@ impl<'a> Cursor<'a> {
     {
         match self.rest {
             [] => false,
-            [token, ..] => class_of(&token.kind) == class,
+            [token, ..] => is(class, class_of(&token.kind)),
         }
     }
 
@@ -153,7 +160,7 @@ impl<'a> Cursor<'a> {
         ensures { result ≡ brace_next (rest_of (items self.now)) }
     {
         match self.rest {
-            [_, token, ..] => class_of(&token.kind) == Class::OpenBrace,
+            [_, token, ..] => is(Class::OpenBrace, class_of(&token.kind)),
             _ => false,
         }
     }
@@ -241,7 +248,7 @@ impl<'a> Cursor<'a> {
         let [token, rest @ ..] = self.rest else {
             return Err(Fault::Syntax);
         };
-        if class_of(&token.kind) != class {
+        if !is(class, class_of(&token.kind)) {
             return Err(Fault::Syntax);
         }
         let bytes = bytes_of(alloc, &token.kind)?;
@@ -260,7 +267,7 @@ impl<'a> Cursor<'a> {
         let [token, rest @ ..] = self.rest else {
             return Err(Fault::Syntax);
         };
-        if class_of(&token.kind) != Class::NumberLiteral {
+        if !is(Class::NumberLiteral, class_of(&token.kind)) {
             return Err(Fault::Syntax);
         }
         self.rest = rest;
