@@ -19,3 +19,6 @@ mod Places
 mod DeepExample
 mod Mirrored
 mod WordKinds
+mod Operators
+mod DeepFrom
+mod Parts

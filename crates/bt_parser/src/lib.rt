@@ -9,6 +9,6 @@ pub mod error;
 mod fault;
 mod leaf;
 mod marks;
-mod scratch;
+mod nesting;
 mod tables;
 mod words;

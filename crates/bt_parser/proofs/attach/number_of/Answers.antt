@@ -1,4 +1,0 @@
-use Rattle.bt_parser.proofs.attach.number_of.Goals as goal
-
-pub returns-in_err-checked_mul : goal.returns-in_err-checked_mul
-returns-in_err-checked_mul c = ?
