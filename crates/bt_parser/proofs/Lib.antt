@@ -20,3 +20,6 @@ mod DeepExample
 mod Mirrored
 mod WordKinds
 mod Sameness
+mod Operators
+mod DeepFrom
+mod Parts

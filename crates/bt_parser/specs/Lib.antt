@@ -14,3 +14,4 @@ pub mod Mirror
 pub mod Weights
 pub mod Refusals
 pub mod Counts
+pub mod Levels

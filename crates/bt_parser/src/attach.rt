@@ -1,10 +1,10 @@
 // Attach tokens: which are points, and of what.
-ghost use Rattle.std.specs.Prelude.{◌≡◌, ◌∷◌, [], IfNone, IfSome};
-ghost use Rattle.std.specs.List.{slice_split};
+ghost use Rattle.std.specs.Prelude.{◌≡◌, ◌∷◌, ◌≤◌, [], length, take_while, IfNone, IfSome};
+ghost use Rattle.std.specs.List.{list_all, slice_split};
 ghost use Rattle.bt_ast.specs.declared.place.Place.{Place};
 ghost use Rattle.bt_parser.specs.Attach.{attach_point, interval_point, is_interval_word, is_name, is_name_byte, is_tracepoint_word, tracepoint_point, unit_of};
 ghost use Rattle.bt_parser.specs.Tokens.{origin, point_class};
-ghost use Rattle.bt_parser.specs.Points.{is_colon, number_of, point_named};
+ghost use Rattle.bt_parser.specs.Points.{is_colon, not_colon, number_of, point_named, with_digit, with_digits};
 
 use crate::class::Class;
 use bt_ast::probe::Unit;
@@ -16,22 +16,40 @@ pub enum Attach<'a> {
     Interval { unit: Unit, number: u64 },
 }
 
+/// How many bytes stand before the first colon.
+fn colon_at(bytes: &[u8]) -> usize
+    ensures value { result ≡ length (take_while not_colon bytes.now) }
+    ensures within { result ≤ length bytes.now }
+{
+    bytes.iter().take_while(|b| **b != b':').count()
+}
+
 /// The bytes before the first colon and those behind it.
 fn cut(bytes: &[u8]) -> Option<(&[u8], &[u8])>
     ensures some { IfSome result (λ p. slice_split is_colon bytes.now ≡ p.0.now ∷ slice_split is_colon p.1.now) }
     ensures none { IfNone result (slice_split is_colon bytes.now ≡ bytes.now ∷ []) }
 {
-    let colon = bytes.iter().position(|b| *b == b':')?;
-    Some((&bytes[..colon], &bytes[colon + 1..]))
+    let (front, rest) = bytes.split_at(colon_at(bytes));
+    match rest {
+        [] => None,
+        [_, behind @ ..] => Some((front, behind)),
+    }
+}
+
+fn are_name_bytes(bytes: &[u8]) -> bool
+    ensures { result ≡ list_all is_name_byte bytes.now }
+{
+    bytes.iter().all(|b| is_name_byte(*b))
 }
 
 /// Whether the bytes are a name: one or more letters, digits, `-` and `*`.
+#[tactic(auto, using(crate::proofs::Parts::name_is))]
 fn is_name(bytes: &[u8]) -> bool
     ensures { result ≡ is_name bytes.now }
 {
     match bytes {
         [] => false,
-        [_, ..] => bytes.iter().all(|b| is_name_byte(*b)),
+        [_, ..] => are_name_bytes(bytes),
     }
 }
 
@@ -53,21 +71,36 @@ fn unit_of(word: &[u8]) -> Option<Unit>
     }
 }
 
-/// The number that decimal digits write, where it is below 2^64.
+/// A number with one more decimal digit, where it stays below 2^64.
+fn with_digit(number: u64, b: u8) -> Option<u64>
+    ensures { result ≡ with_digit number b }
+{
+    if !b.is_ascii_digit() {
+        return None;
+    }
+    number.checked_mul(10)?.checked_add((b - b'0') as u64)
+}
+
+/// The number that digits write, where it stays below 2^64, and 0 without digits.
+fn with_digits(digits: &[u8]) -> Option<u64>
+    ensures { result ≡ with_digits 0 digits.now }
+{
+    let mut number: u64 = 0;
+    for b in digits {
+        number = with_digit(number, *b)?;
+    }
+    Some(number)
+}
+
+/// The number that one or more decimal digits write, where it is below 2^64.
+#[tactic(auto, using(crate::proofs::Parts::number_is))]
 fn number_of(digits: &[u8]) -> Option<u64>
     ensures { result ≡ number_of digits.now }
 {
-    if digits.is_empty() {
-        return None;
+    match digits {
+        [] => None,
+        [_, ..] => with_digits(digits),
     }
-    let mut number: u64 = 0;
-    for b in digits {
-        if !b.is_ascii_digit() {
-            return None;
-        }
-        number = number.checked_mul(10)?.checked_add((*b - b'0') as u64)?;
-    }
-    Some(number)
 }
 
 fn is_tracepoint_word(word: &[u8]) -> bool
@@ -88,7 +121,7 @@ pub fn attach_of(bytes: &[u8]) -> Option<Attach<'_>>
 {
     let (word, rest) = cut(bytes)?;
     let (first, second) = cut(rest)?;
-    if cut(second).is_some() {
+    if let Some((_, _)) = cut(second) {
         return None;
     }
     if is_tracepoint_word(word) {

@@ -1,10 +1,9 @@
 // Expressions.
 ghost use Rattle.std.specs.Prelude.{◌≡◌, ◌<◌, ◌≤◌, IfOk, OnOk, length};
 ghost use Rattle.bt_parser.specs.Contract.{Reads};
-ghost use Rattle.bt_parser.specs.Form.{Assignable, Expression, Keyed, Level, Primary, Unary, Values};
-ghost use Rattle.bt_parser.specs.Reading.{read, reads};
-ghost use Rattle.bt_parser.specs.Rules.{operand};
-ghost use Rattle.bt_parser.specs.Mirror.{joined, leaf, values_on};
+ghost use Rattle.bt_parser.specs.Form.{Assignable, Expression, Keyed, Primary, Unary};
+ghost use Rattle.bt_parser.specs.Reading.{reads};
+ghost use Rattle.bt_parser.specs.Mirror.{joined, operand_by, values_behind};
 ghost use Rattle.bt_parser.specs.Tokens.{items};
 
 use crate::class::{Class, Tier};
@@ -48,7 +47,7 @@ pub fn expression(
     ensures reads { Reads (reads (Expression in_predicate) (items tokens.old)) result tokens.new }
     ensures shorter { OnOk result (length tokens.new < length tokens.old) }
 {
-    let condition = level(alloc, tokens, in_predicate, Tier::OrElses)?;
+    let condition = level(alloc, tokens, in_predicate, Some(Tier::OrElses))?;
     if !tokens.sees(Class::Question) {
         return Ok(condition);
     }
@@ -65,43 +64,28 @@ pub fn expression(
     Ok(Expr { kind, place })
 }
 
-/// Operands joined by operators of the tier, from the left.
+/// Operands joined by operators of the tier, from the left, or one operand where there is no tier.
 #[cycle(expr)]
 #[tactic(none)]
 fn level(
     alloc: Global,
     tokens: &mut Cursor<'_>,
     in_predicate: bool,
-    tier: Tier,
+    tier: Option<Tier>,
 ) -> Result<Expr, Fault>
-    ensures reads { Reads (reads (Level in_predicate tier) (items tokens.old)) result tokens.new }
+    ensures reads { Reads (operand_by in_predicate tier (items tokens.old)) result tokens.new }
     ensures shorter { OnOk result (length tokens.new < length tokens.old) }
 {
-    let mut left = operand(alloc, tokens, in_predicate, tier)?;
+    let Some(tier) = tier else {
+        return unary(alloc, tokens);
+    };
+    let mut left = level(alloc, tokens, in_predicate, tighter(tier))?;
     while let Some(class) = tokens.operator(in_predicate, tier) {
         tokens.skip();
-        let right = operand(alloc, tokens, in_predicate, tier)?;
+        let right = level(alloc, tokens, in_predicate, tighter(tier))?;
         left = join(alloc, class, left, right)?;
     }
     Ok(left)
-}
-
-/// What an operator of the tier joins.
-#[cycle(expr)]
-#[tactic(none)]
-fn operand(
-    alloc: Global,
-    tokens: &mut Cursor<'_>,
-    in_predicate: bool,
-    tier: Tier,
-) -> Result<Expr, Fault>
-    ensures reads { Reads (read reads (operand in_predicate tier) (items tokens.old)) result tokens.new }
-    ensures shorter { OnOk result (length tokens.new < length tokens.old) }
-{
-    match tighter(tier) {
-        None => unary(alloc, tokens),
-        Some(tier) => level(alloc, tokens, in_predicate, tier),
-    }
 }
 
 #[cycle(expr)]
@@ -165,7 +149,7 @@ pub fn keyed(alloc: Global, tokens: &mut Cursor<'_>) -> Result<MapRef, Fault>
     let mut keys = Items::new(alloc);
     if tokens.sees(Class::OpenBracket) {
         tokens.skip();
-        keys = values(alloc, tokens)?;
+        keys = values(alloc, tokens, keys)?;
         tokens.expect(Class::CloseBracket)?;
     }
     Ok(MapRef {
@@ -189,30 +173,19 @@ pub fn assignable(alloc: Global, tokens: &mut Cursor<'_>) -> Result<Target, Faul
     Ok(Target::Var(VarRef { name: bytes, place }))
 }
 
-/// Expressions between commas, one at least.
+/// Expressions between commas, one at least, behind those that there are.
 #[cycle(expr)]
 #[tactic(none)]
-pub fn values(alloc: Global, tokens: &mut Cursor<'_>) -> Result<Items<Expr>, Fault>
-    ensures reads { Reads (reads Values (items tokens.old)) result tokens.new }
-    ensures shorter { OnOk result (length tokens.new < length tokens.old) }
-{
-    let mut values = Items::new(alloc);
-    values.push(expression(alloc, tokens, false)?)?;
-    more_values(alloc, tokens, values)
-}
-
-/// Values and those that follow behind commas.
-#[cycle(expr)]
-#[tactic(none)]
-pub fn more_values(
+pub fn values(
     alloc: Global,
     tokens: &mut Cursor<'_>,
     front: Items<Expr>,
 ) -> Result<Items<Expr>, Fault>
-    ensures reads { Reads (values_on front (items tokens.old)) result tokens.new }
-    ensures no_longer { OnOk result (length tokens.new ≤ length tokens.old) }
+    ensures reads { Reads (values_behind front (items tokens.old)) result tokens.new }
+    ensures shorter { OnOk result (length tokens.new < length tokens.old) }
 {
     let mut values = front;
+    values.push(expression(alloc, tokens, false)?)?;
     while tokens.sees(Class::Comma) {
         tokens.skip();
         values.push(expression(alloc, tokens, false)?)?;

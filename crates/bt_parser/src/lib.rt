@@ -9,6 +9,7 @@ pub mod error;
 mod fault;
 mod leaf;
 mod marks;
+mod nesting;
 mod scratch;
 mod tables;
 mod words;

@@ -1,6 +1,6 @@
 ghost use Rattle.std.specs.Prelude.{◌≡◌};
 
-#[tactic(auto, using(crate::proofs::WordKinds::word_kinds))]
+#[tactic(auto, using(crate::proofs::Mirrored::primary_is))]
 pub fn scratch() -> u8
     ensures { result ≡ 0 }
 {

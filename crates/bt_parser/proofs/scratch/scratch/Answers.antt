@@ -1,6 +1,6 @@
 use Rattle.std.proofs.Common.{refl}
-use Rattle.bt_parser.proofs.WordKinds.{word_kinds}
+use Rattle.bt_parser.proofs.Mirrored.{primary_is}
 use Rattle.bt_parser.proofs.scratch.scratch.Goals as goal
 
 pub returns : goal.returns
-returns c = let e = word_kinds in refl
+returns c = let e = primary_is in refl
