@@ -23,3 +23,6 @@ mod Sameness
 mod Operators
 mod DeepFrom
 mod Parts
+mod Stated
+mod Blocks
+mod Probed

@@ -15,3 +15,5 @@ pub mod Weights
 pub mod Refusals
 pub mod Counts
 pub mod Levels
+pub mod Statements
+pub mod Probes

@@ -7,6 +7,8 @@ ghost use Rattle.bt_parser.specs.Form.{brace_next};
 ghost use Rattle.bt_parser.specs.Reading.{read, reads, rest_of, starts};
 ghost use Rattle.bt_parser.specs.Rules.{a_number, ends, mark};
 ghost use Rattle.bt_parser.specs.Mirror.{class_at, front_place, named_form, operator_at, prefix_at, builtin_at, step_at, plus_of, word_form};
+ghost use Rattle.bt_parser.specs.Probes.{point_form};
+ghost use Rattle.bt_parser.specs.Statements.{begins_aggregation, begins_control, call_at, gatherer_at, update_at};
 ghost use Rattle.bt_parser.specs.Tokens.{class_of, items, place_of_token};
 ghost use Rattle.bt_parser.specs.Trees.{kind_bytes, kind_number};
 
@@ -14,13 +16,15 @@ use crate::attach::attach_class;
 use crate::class::{Class, Tier};
 use crate::fault::Fault;
 use crate::marks::mark_class;
-use crate::tables::{builtin_of, prefix_of, tier_of};
+use crate::point::point_of;
+use crate::tables::{builtin_of, gathers, is_call, is_control, is_point, prefix_of, tier_of, update_of};
 use crate::words::word_class;
 use bt_ast::expr::Builtin;
 use bt_ast::place::Place;
+use bt_ast::probe::Point;
 use bt_core::items::Items;
 use bt_core::memory::{Memory, TryCopy};
-use bt_core::operator::UnOp;
+use bt_core::operator::{BinOp, UnOp};
 use bt_lexer::token::{Token, TokenKind};
 use std::alloc::Global;
 use std::marker::Model;
@@ -191,6 +195,51 @@ impl<'a> Cursor<'a> {
         builtin_of(self.peek()?)
     }
 
+    /// The operator of the mark with `=` that comes next.
+    pub fn update(&self) -> Option<BinOp>
+        ensures { result ≡ update_at (items self.now) }
+    {
+        update_of(self.peek()?)
+    }
+
+    /// The word that comes next where it is a map function of one number.
+    pub fn gatherer(&self) -> Option<Class>
+        ensures { result ≡ gatherer_at (items self.now) }
+    {
+        let class = self.peek()?;
+        if gathers(class) { Some(class) } else { None }
+    }
+
+    /// The word that comes next where it begins a call or is a jump.
+    pub fn call_word(&self) -> Option<Class>
+        ensures { result ≡ call_at (items self.now) }
+    {
+        let class = self.peek()?;
+        if is_call(class) { Some(class) } else { None }
+    }
+
+    /// Whether a map function comes next.
+    pub fn begins_aggregation(&self) -> bool
+        ensures { result ≡ starts begins_aggregation (items self.now) }
+    {
+        match self.peek() {
+            None => false,
+            Some(class) => {
+                matches!(class, Class::CountWord | Class::LhistWord) || gathers(class)
+            }
+        }
+    }
+
+    /// Whether a statement with blocks comes next.
+    pub fn begins_control(&self) -> bool
+        ensures { result ≡ starts begins_control (items self.now) }
+    {
+        match self.peek() {
+            None => false,
+            Some(class) => is_control(class),
+        }
+    }
+
     /// Whether the step that comes next is `++` and not `--`.
     pub fn step(&self) -> Option<bool>
         ensures { result ≡ step_at (items self.now) }
@@ -291,5 +340,22 @@ impl<'a> Cursor<'a> {
             bytes,
             place: place_of(token),
         })
+    }
+
+    /// Passes over the next token, which is what a probe is attached to, and answers that.
+    pub fn point(&mut self, alloc: Global) -> Result<Point, Fault>
+        ensures reads { Reads (read reads point_form (items self.old)) result self.new }
+        ensures shorter { OnOk result (length self.new < length self.old) }
+    {
+        let [token, rest @ ..] = self.rest else {
+            return Err(Fault::Syntax);
+        };
+        let class = class_of(&token.kind);
+        if !is_point(class) {
+            return Err(Fault::Syntax);
+        }
+        let point = point_of(alloc, class, &token.kind, place_of(token))?;
+        self.rest = rest;
+        Ok(point)
     }
 }

@@ -1,15 +1,22 @@
 //! The parser of scripts: the tree of a list of tokens, or the place where no script goes on.
 #![tactic(auto)]
 
+mod agg;
+mod assign;
 mod attach;
+mod block;
+mod call;
 pub mod class;
 mod cursor;
-mod expr;
 pub mod error;
+mod expr;
 mod fault;
 mod leaf;
 mod marks;
 mod nesting;
+mod point;
+mod probe;
 mod scratch;
+mod simple;
 mod tables;
 mod words;
