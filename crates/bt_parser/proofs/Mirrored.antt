@@ -145,7 +145,7 @@ values_turns values ts = by_comma (starts (ends Comma) ts) refl
 
 -- ---- operands
 
-abbrev it : Class → TokenKind → Place → Item
+abbrev pub it : Class → TokenKind → Place → Item
 it c k p = record { class = c; kind = k; place = p }
 
 -- a step behind a map

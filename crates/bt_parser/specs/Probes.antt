@@ -1,5 +1,5 @@
 -- The steps of the functions that read probes.
-use Rattle.std.specs.Prelude.{Bool, List, [], ◌∷◌, ◌++◌, Option, Some, None, if◌then◌else◌}
+use Rattle.std.specs.Prelude.{Bool, true, List, [], ◌∷◌, ◌++◌, Option, Some, None, if◌then◌else◌}
 use Rattle.bt_ast.specs.declared.expr.Expr.{Expr}
 use Rattle.bt_ast.specs.declared.probe.Point.{Point}
 use Rattle.bt_ast.specs.declared.probe.Probe.{Probe}
