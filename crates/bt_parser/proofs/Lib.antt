@@ -22,3 +22,5 @@ mod WordKinds
 mod Operators
 mod DeepFrom
 mod Parts
+mod Ends
+mod Parsed

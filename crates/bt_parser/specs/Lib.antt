@@ -15,3 +15,4 @@ pub mod Weights
 pub mod Refusals
 pub mod Counts
 pub mod Levels
+pub mod Outcomes

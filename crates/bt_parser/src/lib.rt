@@ -10,5 +10,8 @@ mod fault;
 mod leaf;
 mod marks;
 mod nesting;
+pub mod parse;
+mod probe;
+mod script;
 mod tables;
 mod words;
