@@ -1,20 +1,20 @@
 -- The answer of the parser is right.
 use Rattle.std.proofs.Common.{◌≡◌, ℕ, zero, suc, ◌+◌, ◌<◌, ◌≤◌, Bool, true, false, List, [], ◌∷◌, ◌++◌, length, take, drop, Option, Some, None, Result, Ok, Err, refl, sym, ◌∙◌, ap, subst, inl, inr, ◌⊎◌, arith, length-append}
-use Rattle.std.specs.Prelude.{nat_lt, nat_le, if◌then◌else◌}
+use Rattle.std.specs.Prelude.{◌≢◌, IfOk, IfErr, nat_lt, nat_le, if◌then◌else◌}
 use Rattle.std.proofs.lemmas.List.{append-nil, take-append-drop, take_all, length-take-le}
 use Rattle.std.proofs.lemmas.Bool.Decides.{leb_tells}
 use Rattle.bt_lexer.specs.declared.token.Token.{Token}
 use Rattle.bt_ast.specs.declared.probe.Probe.{Probe}
 use Rattle.bt_ast.specs.declared.probe.Script.{Script}
 use Rattle.bt_parser.specs.declared.error.ParseError.{ParseError}
-use Rattle.bt_parser.specs.declared.error.ParseError.TheVariants.{Syntax, TooDeep, TooMany}
+use Rattle.bt_parser.specs.declared.error.ParseError.TheVariants.{Syntax, TooDeep, TooMany, Memory}
 use Rattle.bt_parser.specs.declared.script.Outcome.{Outcome}
 use Rattle.bt_parser.specs.declared.script.Outcome.TheVariants as outcomes
 use Rattle.bt_parser.specs.Form.{Item}
 use Rattle.bt_parser.specs.Tokens.{items, item}
 use Rattle.bt_parser.specs.Grammar.{Begins, RefusedAt}
 use Rattle.bt_parser.specs.Levels.{deep_from}
-use Rattle.bt_parser.specs.Refusals.{IsDepthFault, IsCountFault, NoDepthFault, NoCountFault, IsRefusal}
+use Rattle.bt_parser.specs.Refusals.{IsDepthFault, IsCountFault, NoDepthFault, NoCountFault, IsAccepted, IsRefusal}
 use Rattle.bt_parser.specs.Outcomes.{Gives, answer_of, IsRight, Answers}
 use Rattle.bt_parser.proofs.Steps.{length-items}
 use Rattle.bt_parser.proofs.DeepFrom.{some_depth, no_depth}
@@ -92,3 +92,23 @@ right_some tokens d answer e a =
       ap items (sym (take-append-drop (d + 1) tokens)) ∙ items-append (take (d + 1) tokens) (drop (d + 1) tokens) in
     let len : length (take (d + 1) tokens) ≡ d + 1 = length-take-le (d + 1) tokens (omega (arith, within, length-items tokens)) in
     subst (IsRight (items tokens)) (sym a.is) (some_of (items tokens) (items (drop (d + 1) tokens)) (take (d + 1) tokens) d split len deep a.left a.outcome a.place a.gives a.at)
+
+-- ---- an answer or want of memory
+
+pub ok_of : (front : List Token) (deep : Option ℕ) (r : Result Script ParseError) → Answers front deep r → IfOk r (λ script. Answers front deep (Ok script))
+ok_of front deep (Ok script) a = a
+ok_of front deep (Err fault) a = tt
+
+pub err_of : (front : List Token) (deep : Option ℕ) (r : Result Script ParseError) → Answers front deep r → IfErr r (λ fault. fault ≢ Memory → Answers front deep (Err fault))
+err_of front deep (Ok script) a = tt
+err_of front deep (Err fault) a = λ _. a
+
+pub accepted_by : (ts : List Item) (front : List Token) (deep : Option ℕ) (r : Result Script ParseError) → ((answer : Result Script ParseError) → Answers front deep answer → IsRight ts answer)
+    → IfOk r (λ script. Answers front deep (Ok script)) → IfOk r (λ script. IsAccepted ts script)
+accepted_by ts front deep (Ok script) right a = right (Ok script) a
+accepted_by ts front deep (Err fault) right a = tt
+
+pub refused_by : (ts : List Item) (front : List Token) (deep : Option ℕ) (r : Result Script ParseError) → ((answer : Result Script ParseError) → Answers front deep answer → IsRight ts answer)
+    → IfErr r (λ fault. fault ≢ Memory → Answers front deep (Err fault)) → IfErr r (λ fault. fault ≢ Memory → IsRefusal ts fault)
+refused_by ts front deep (Ok script) right a = tt
+refused_by ts front deep (Err fault) right a = λ n. right (Err fault) (a n)

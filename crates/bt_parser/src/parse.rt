@@ -1,5 +1,5 @@
 // The parser.
-ghost use Rattle.std.specs.Prelude.{◌≡◌, ◌≢◌, ◌<◌, ◌^◌, Err, IfErr, IfOk, Ok, length};
+ghost use Rattle.std.specs.Prelude.{◌≡◌, ◌≢◌, ◌<◌, ◌^◌, Err, IfErr, IfOk, None, Ok, length};
 ghost use Rattle.bt_parser.specs.Outcomes.{Answers, answer_of};
 ghost use Rattle.bt_parser.specs.Refusals.{IsAccepted, IsRefusal};
 ghost use Rattle.bt_parser.specs.Tokens.{items};
@@ -13,18 +13,40 @@ use bt_ast::probe::Script;
 use bt_lexer::token::Token;
 use std::alloc::Global;
 
+/// The answer where no token is too deep.
+fn shallow_answer(outcome: Outcome, place: u32) -> Result<Script, ParseError>
+    ensures { result ≡ answer_of outcome place None }
+{
+    match outcome {
+        Outcome::Whole(probes) => Ok(Script { probes }),
+        Outcome::Refused => Err(ParseError::Syntax(place)),
+        Outcome::Full => Err(ParseError::TooMany(place)),
+    }
+}
+
 /// The answer, by the outcome at a place and the place of the first token that is too deep.
 fn answer_of(outcome: Outcome, place: u32, deep: Option<u32>) -> Result<Script, ParseError>
     ensures { result ≡ answer_of outcome place deep }
 {
-    match (outcome, deep) {
-        (Outcome::Whole(probes), None) => Ok(Script { probes }),
-        (Outcome::Refused, None) => Err(ParseError::Syntax(place)),
-        (Outcome::Full, None) => Err(ParseError::TooMany(place)),
-        (Outcome::Whole(_), Some(deep)) => Err(ParseError::TooDeep(deep)),
-        (Outcome::Refused, Some(deep)) if place <= deep => Err(ParseError::Syntax(place)),
-        (Outcome::Full, Some(deep)) if place < deep => Err(ParseError::TooMany(place)),
-        (_, Some(deep)) => Err(ParseError::TooDeep(deep)),
+    let Some(deep) = deep else {
+        return shallow_answer(outcome, place);
+    };
+    match outcome {
+        Outcome::Whole(_) => Err(ParseError::TooDeep(deep)),
+        Outcome::Refused => {
+            if place <= deep {
+                Err(ParseError::Syntax(place))
+            } else {
+                Err(ParseError::TooDeep(deep))
+            }
+        }
+        Outcome::Full => {
+            if place < deep {
+                Err(ParseError::TooMany(place))
+            } else {
+                Err(ParseError::TooDeep(deep))
+            }
+        }
     }
 }
 
