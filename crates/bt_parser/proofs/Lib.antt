@@ -19,8 +19,12 @@ mod Places
 mod DeepExample
 mod Mirrored
 mod WordKinds
+mod Sameness
 mod Operators
 mod DeepFrom
 mod Parts
 mod Ends
 mod Parsed
+mod Stated
+mod Blocks
+mod Probed

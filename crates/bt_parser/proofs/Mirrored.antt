@@ -17,7 +17,7 @@ use Rattle.bt_parser.specs.Fine.{FineAt, Led}
 use Rattle.bt_parser.specs.Reading.{Out, Done, Refused, Unfinished, and_then, read, reads, goes_on, starts, rest_of, first, sens, differs}
 use Rattle.bt_parser.specs.Rules.{rule, mark, ends, optional, after_comma, value, operand, operation}
 use Rattle.bt_parser.specs.Trees.{second, snoc, pair, choose, map_ref, map_operand, binary, unary}
-use Rattle.bt_parser.specs.Mirror.{class_at, front_place, operator_at, when, prefix_at, named, named_form, operand_by, tighter, level_on, level_by, level_turn, joined, choice_by, expression_by, unary_by, leaf, primary_by, keyed_by, map_by, assignable_by, values_on, values_by, values_turn, var_of, step_at, step_on, map_value}
+use Rattle.bt_parser.specs.Mirror.{class_at, front_place, operator_at, when, prefix_at, named, named_form, operand_by, tighter, level_on, level_by, level_turn, joined, choice_by, expression_by, unary_by, leaf, primary_by, keyed_by, map_by, assignable_by, values_on, values_behind, values_turn, var_of, step_at, step_on, map_value}
 use Rattle.bt_parser.proofs.Enough.{reads_is}
 use Rattle.bt_parser.proofs.Steps.{goes_on_stop, goes_on_more}
 use Rattle.bt_parser.proofs.Checked.{fine_rule}
@@ -52,28 +52,6 @@ mark_there c (t ∷ r) h = rw h refl
 
 -- ---- the parts
 
-pub level_is : (p : Bool) (tier : Tier) (ts : List Item) → reads (Level p tier) ts ≡ level_by p tier ts
-unfolding goes_on operation
-level_is p tier ts = reads_is (Level p tier) ts
-
-level_fine : (p : Bool) (tier : Tier) → FineAt true (operation p tier)
-unfolding operation
-level_fine p tier = (fine_rule (Level p tier)).1
-
-operand_some : (p : Bool) (tier : Tier) (left : Expr) (t : Item) (r : List Item) (b : Bool) → joins p tier t.class (brace_next r) ≡ b
-    → level_on p tier left (t ∷ r) ≡ level_turn p tier (when b t.class) left (t ∷ r)
-unfolding operation
-operand_some p tier left t r true h = goes_on_more binary (Op (joins p tier) (operand p tier)) (level_fine p tier) (inl tt) refl left (t ∷ r) h ∙ rw h (simp and_then_assoc)
-operand_some p tier left t r false h = goes_on_stop binary (Op (joins p tier) (operand p tier)) (level_fine p tier) (inl tt) refl left (t ∷ r) h
-
-level_end : (p : Bool) (tier : Tier) (left : Expr) → level_on p tier left [] ≡ Done left []
-unfolding operation
-level_end p tier left = goes_on_stop binary (Op (joins p tier) (operand p tier)) (level_fine p tier) (inl tt) refl left [] refl
-
-pub level_turns : (p : Bool) (tier : Tier) (left : Expr) (ts : List Item) → level_on p tier left ts ≡ level_turn p tier (operator_at p tier ts) left ts
-level_turns p tier left [] = level_end p tier left
-level_turns p tier left (t ∷ r) = operand_some p tier left t r (joins p tier t.class (brace_next r)) refl
-
 pub operand_is : (p : Bool) (tier : Tier) (ts : List Item) → read reads (operand p tier) ts ≡ operand_by p (tighter tier) ts
 operand_is p Products ts = refl
 operand_is p Sums ts = refl
@@ -85,6 +63,28 @@ operand_is p BitXors ts = refl
 operand_is p BitOrs ts = refl
 operand_is p AndThens ts = refl
 operand_is p OrElses ts = refl
+
+pub level_is : (p : Bool) (tier : Tier) (ts : List Item) → reads (Level p tier) ts ≡ level_by p tier ts
+unfolding goes_on operation
+level_is p tier ts = rw (← operand_is p tier ts) (reads_is (Level p tier) ts)
+
+level_fine : (p : Bool) (tier : Tier) → FineAt true (operation p tier)
+unfolding operation
+level_fine p tier = (fine_rule (Level p tier)).1
+
+operand_some : (p : Bool) (tier : Tier) (left : Expr) (t : Item) (r : List Item) (b : Bool) → joins p tier t.class (brace_next r) ≡ b
+    → level_on p tier left (t ∷ r) ≡ level_turn p tier (when b t.class) left (t ∷ r)
+unfolding operation
+operand_some p tier left t r true h = goes_on_more binary (Op (joins p tier) (operand p tier)) (level_fine p tier) (inl tt) refl left (t ∷ r) h ∙ rw (h, ← operand_is p tier r) (simp and_then_assoc)
+operand_some p tier left t r false h = goes_on_stop binary (Op (joins p tier) (operand p tier)) (level_fine p tier) (inl tt) refl left (t ∷ r) h
+
+level_end : (p : Bool) (tier : Tier) (left : Expr) → level_on p tier left [] ≡ Done left []
+unfolding operation
+level_end p tier left = goes_on_stop binary (Op (joins p tier) (operand p tier)) (level_fine p tier) (inl tt) refl left [] refl
+
+pub level_turns : (p : Bool) (tier : Tier) (left : Expr) (ts : List Item) → level_on p tier left ts ≡ level_turn p tier (operator_at p tier ts) left ts
+level_turns p tier left [] = level_end p tier left
+level_turns p tier left (t ∷ r) = operand_some p tier left t r (joins p tier t.class (brace_next r)) refl
 
 choice_is : (p : Bool) (x : Expr) (r : List Item)
     → and_then (read reads (optional (Op (ends Question) (Then pair (Until value Colon) (Call (Expression p))))) r) (λ y r'. Done (choose x y) r') ≡ choice_by p x r
@@ -102,10 +102,14 @@ pub unary_is : (ts : List Item) → reads Unary ts ≡ unary_by (prefix_at ts) t
 unary_is [] = reads_is Unary []
 unary_is (t ∷ r) = rw (reads_is Unary (t ∷ r)) (unary_at t r (prefix_of t.class) refl)
 
+pub values_start : (ts : List Item) → reads Values ts ≡ values_behind [] ts
+unfolding goes_on
+values_start ts = rw (reads_is Values ts) (simp and_then_assoc)
+
 keys_at : (t : Item) (r : List Item)
     → and_then (read reads (Or (Then second (mark OpenBracket) (Until (Call Values) CloseBracket)) (Empty [])) r) (λ keys r'. Done (map_ref t keys) r') ≡ keyed_by (named t) r
 keys_at t [] = refl
-keys_at t (u ∷ r) = choice_then (is OpenBracket u.class) _ _ _ ∙ choice (is OpenBracket u.class) _ _ _ _ (λ h. rw h (simp and_then_assoc)) (λ h. refl)
+keys_at t (u ∷ r) = choice_then (is OpenBracket u.class) _ _ _ ∙ choice (is OpenBracket u.class) _ _ _ _ (λ h. rw (h, ← values_start r) (simp and_then_assoc)) (λ h. refl)
 
 pub keyed_is : (ts : List Item) → reads Keyed ts ≡ map_by ts
 keyed_is ts = rw (reads_is Keyed ts) (and_then_same (read reads (Tok (is MapName)) ts) _ _ keys_at ∙ sym (and_then_assoc (read reads (Tok (is MapName)) ts) (λ t r. Done (named t) r) keyed_by))
@@ -117,10 +121,6 @@ assignable_is (t ∷ r) = rw (reads_is Assignable (t ∷ r)) (by_map (is MapName
     by_map : (b : Bool) → is MapName t.class ≡ b → read reads (rule Assignable) (t ∷ r) ≡ assignable_by b (t ∷ r)
     by_map true h = rw h refl
     by_map false h = rw h (simp and_then_assoc)
-
-pub values_start : (ts : List Item) → reads Values ts ≡ values_by ts
-unfolding goes_on
-values_start ts = rw (reads_is Values ts) (simp and_then_assoc)
 
 pub same_twice : (b : Bool) → (if b then not b else b) ≡ false
 same_twice true = refl
@@ -145,7 +145,7 @@ values_turns values ts = by_comma (starts (ends Comma) ts) refl
 
 -- ---- operands
 
-abbrev it : Class → TokenKind → Place → Item
+abbrev pub it : Class → TokenKind → Place → Item
 it c k p = record { class = c; kind = k; place = p }
 
 -- a step behind a map

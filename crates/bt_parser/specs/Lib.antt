@@ -16,3 +16,5 @@ pub mod Refusals
 pub mod Counts
 pub mod Levels
 pub mod Outcomes
+pub mod Statements
+pub mod Probes

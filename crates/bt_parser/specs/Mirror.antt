@@ -1,5 +1,5 @@
 -- The steps of the functions that read.
-use Rattle.std.specs.Prelude.{ℕ, ℤ, Bool, true, false, List, [], ◌∷◌, ◌++◌, Option, Some, None, if◌then◌else◌}
+use Rattle.std.specs.Prelude.{ℕ, suc, ℤ, Bool, true, false, List, [], ◌∷◌, ◌++◌, Option, Some, None, if◌then◌else◌}
 use Rattle.bt_core.specs.declared.operator.UnOp.{UnOp}
 use Rattle.bt_ast.specs.declared.place.Place.{Place}
 use Rattle.bt_ast.specs.declared.expr.Builtin.{Builtin}
@@ -18,7 +18,7 @@ use Rattle.bt_parser.specs.declared.class.Class.TheVariants.{Increment, Decremen
 use Rattle.bt_parser.specs.declared.class.Tier.{Tier}
 use Rattle.bt_parser.specs.declared.class.Tier.TheVariants.{Products, Sums, Shifts, Orders, Equalities, BitAnds, BitXors, BitOrs, AndThens, OrElses}
 use Rattle.bt_parser.specs.declared.cursor.Named.{Named}
-use Rattle.bt_parser.specs.Classes.{is, is_builtin, is_step, is_dot, is_word, builtin_of, prefix_of, joins}
+use Rattle.bt_parser.specs.Classes.{is, tier_number, is_builtin, is_step, is_dot, is_word, builtin_of, prefix_of, joins}
 use Rattle.bt_parser.specs.Form.{Item, brace_next, Primary, Unary, Level, Expression, Values, Keyed, Assignable, Form, Tok, Empty, Call, Map, Then, Or, Until, Op, Chain}
 use Rattle.bt_parser.specs.Reading.{Out, Done, Refused, and_then, read, reads, goes_on, starts, rest_of}
 use Rattle.bt_parser.specs.Rules.{mark, ends, optional, after_comma, value, operand, operation}
@@ -93,6 +93,11 @@ tighter BitOrs = Some BitXors
 tighter AndThens = Some BitOrs
 tighter OrElses = Some AndThens
 
+-- how many tiers there are up to this one
+abbrev pub tier_rank : Option Tier → ℕ
+tier_rank None = 0
+tier_rank (Some tier) = suc (tier_number tier)
+
 abbrev pub operand_by : Bool → Option Tier → List Item → Out Expr
 operand_by p None ts = reads Unary ts
 operand_by p (Some tier) ts = reads (Level p tier) ts
@@ -102,14 +107,14 @@ abbrev pub level_on : Bool → Tier → Expr → List Item → Out Expr
 level_on p tier left ts = goes_on binary (operation p tier) left ts
 
 abbrev pub level_by : Bool → Tier → List Item → Out Expr
-level_by p tier ts = read reads (operand p tier) ts >>= λ x r. level_on p tier x r
+level_by p tier ts = operand_by p (tighter tier) ts >>= λ x r. level_on p tier x r
 
 abbrev pub joined : Class → Expr → Expr → Expr
 joined c left right = expr (binary_kind c left right) (place_of_expr left)
 
 abbrev pub level_turn : Bool → Tier → Option Class → Expr → List Item → Out Expr
 level_turn p tier None left ts = Done left ts
-level_turn p tier (Some c) left ts = read reads (operand p tier) (rest_of ts) >>= λ right r. level_on p tier (joined c left right) r
+level_turn p tier (Some c) left ts = operand_by p (tighter tier) (rest_of ts) >>= λ right r. level_on p tier (joined c left right) r
 
 abbrev pub choice_by : Bool → Expr → List Item → Out Expr
 choice_by p x r = if starts (ends Question) r
@@ -162,9 +167,17 @@ primary_by (Some Increment) ts = reads Assignable (rest_of ts) >>= λ t r. Done 
 primary_by (Some Decrement) ts = reads Assignable (rest_of ts) >>= λ t r. Done (expr (exprs.Step (step_of t false (front_place ts))) (front_place ts)) r
 primary_by _ ts = read reads leaf ts
 
+-- more values behind commas
+abbrev pub values_on : List Expr → List Item → Out (List Expr)
+values_on values ts = goes_on snoc (after_comma value) values ts
+
+-- one and more, behind those that there are
+abbrev pub values_behind : List Expr → List Item → Out (List Expr)
+values_behind values ts = reads (Expression false) ts >>= λ x r. values_on (values ++ x ∷ []) r
+
 abbrev pub keyed_by : Named → List Item → Out MapRef
 keyed_by n r = if starts (ends OpenBracket) r
-    then (reads Values (rest_of r) >>= λ keys r1. read reads (mark CloseBracket) r1 >>= λ _ r2. Done (roll-MapRef (record { name = n.bytes; keys = keys; place = n.place })) r2)
+    then (values_behind [] (rest_of r) >>= λ keys r1. read reads (mark CloseBracket) r1 >>= λ _ r2. Done (roll-MapRef (record { name = n.bytes; keys = keys; place = n.place })) r2)
     else Done (roll-MapRef (record { name = n.bytes; keys = []; place = n.place })) r
 
 abbrev pub map_by : List Item → Out MapRef
@@ -176,13 +189,6 @@ var_of n = record { name = n.bytes; place = n.place }
 abbrev pub assignable_by : Bool → List Item → Out Target
 assignable_by true ts = reads Keyed ts >>= λ m r. Done (targets.Map m) r
 assignable_by false ts = read reads (named_form VarName) ts >>= λ n r. Done (targets.Var (var_of n)) r
-
--- more values behind commas
-abbrev pub values_on : List Expr → List Item → Out (List Expr)
-values_on values ts = goes_on snoc (after_comma value) values ts
-
-abbrev pub values_by : List Item → Out (List Expr)
-values_by ts = reads (Expression false) ts >>= λ x r. values_on (x ∷ []) r
 
 abbrev pub values_turn : List Expr → List Item → Out (List Expr)
 values_turn values ts = if starts (ends Comma) ts then (reads (Expression false) (rest_of ts) >>= λ x r. values_on (values ++ x ∷ []) r) else Done values ts

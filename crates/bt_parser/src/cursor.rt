@@ -1,12 +1,14 @@
 // The tokens that are left.
 ghost use Rattle.std.specs.Prelude.{◌≡◌, ◌<◌, ◌≤◌, IfOk, List, OnOk, OnSome, length, true};
 ghost use Rattle.bt_parser.specs.declared.class.Class.{Class};
-ghost use Rattle.bt_parser.specs.Classes.{is_word, joins};
+ghost use Rattle.bt_parser.specs.Classes.{is, is_word, joins};
 ghost use Rattle.bt_parser.specs.Contract.{Reads};
 ghost use Rattle.bt_parser.specs.Form.{brace_next};
 ghost use Rattle.bt_parser.specs.Reading.{read, reads, rest_of, starts};
 ghost use Rattle.bt_parser.specs.Rules.{a_number, ends, mark};
 ghost use Rattle.bt_parser.specs.Mirror.{class_at, front_place, named_form, operator_at, prefix_at, builtin_at, step_at, plus_of, word_form};
+ghost use Rattle.bt_parser.specs.Probes.{point_form};
+ghost use Rattle.bt_parser.specs.Statements.{begins_aggregation, begins_control, call_at, gatherer_at, update_at};
 ghost use Rattle.bt_parser.specs.Tokens.{class_of, items, place_of_token};
 ghost use Rattle.bt_parser.specs.Trees.{kind_bytes, kind_number};
 
@@ -14,13 +16,15 @@ use crate::attach::attach_class;
 use crate::class::{Class, Tier};
 use crate::fault::Fault;
 use crate::marks::mark_class;
-use crate::tables::{builtin_of, prefix_of, tier_of};
+use crate::point::point_of;
+use crate::tables::{builtin_of, gathers, is_call, is_control, is_point, prefix_of, tier_of, update_of};
 use crate::words::word_class;
 use bt_ast::expr::Builtin;
 use bt_ast::place::Place;
+use bt_ast::probe::Point;
 use bt_core::items::Items;
 use bt_core::memory::{Memory, TryCopy};
-use bt_core::operator::UnOp;
+use bt_core::operator::{BinOp, UnOp};
 use bt_lexer::token::{Token, TokenKind};
 use std::alloc::Global;
 use std::marker::Model;
@@ -60,6 +64,13 @@ pub fn class_of(kind: &TokenKind) -> Class
         TokenKind::Text(_) => Class::TextLiteral,
         TokenKind::Mark(mark) => mark_class(mark.as_slice()),
     }
+}
+
+/// Whether a class is the expected one.
+fn is(expected: Class, class: Class) -> bool
+    ensures { result ≡ is expected class }
+{
+    class == expected
 }
 
 /// Where a token begins.
@@ -109,7 +120,7 @@ fn is_word(kind: &TokenKind) -> bool
 fn joins(in_predicate: bool, tier: Tier, class: Class, before_brace: bool) -> bool
     ensures { result ≡ joins in_predicate tier class before_brace }
 {
-    let ends_predicate = in_predicate && before_brace && class == Class::Slash;
+    let ends_predicate = in_predicate && before_brace && is(Class::Slash, class);
     tier_of(class) == Some(tier) && !ends_predicate
 }
 
@@ -144,7 +155,7 @@ impl<'a> Cursor<'a> {
     {
         match self.rest {
             [] => false,
-            [token, ..] => class_of(&token.kind) == class,
+            [token, ..] => is(class, class_of(&token.kind)),
         }
     }
 
@@ -153,7 +164,7 @@ impl<'a> Cursor<'a> {
         ensures { result ≡ brace_next (rest_of (items self.now)) }
     {
         match self.rest {
-            [_, token, ..] => class_of(&token.kind) == Class::OpenBrace,
+            [_, token, ..] => is(Class::OpenBrace, class_of(&token.kind)),
             _ => false,
         }
     }
@@ -182,6 +193,51 @@ impl<'a> Cursor<'a> {
         ensures { result ≡ builtin_at (items self.now) }
     {
         builtin_of(self.peek()?)
+    }
+
+    /// The operator of the mark with `=` that comes next.
+    pub fn update(&self) -> Option<BinOp>
+        ensures { result ≡ update_at (items self.now) }
+    {
+        update_of(self.peek()?)
+    }
+
+    /// The word that comes next where it is a map function of one number.
+    pub fn gatherer(&self) -> Option<Class>
+        ensures { result ≡ gatherer_at (items self.now) }
+    {
+        let class = self.peek()?;
+        if gathers(class) { Some(class) } else { None }
+    }
+
+    /// The word that comes next where it begins a call or is a jump.
+    pub fn call_word(&self) -> Option<Class>
+        ensures { result ≡ call_at (items self.now) }
+    {
+        let class = self.peek()?;
+        if is_call(class) { Some(class) } else { None }
+    }
+
+    /// Whether a map function comes next.
+    pub fn begins_aggregation(&self) -> bool
+        ensures { result ≡ starts begins_aggregation (items self.now) }
+    {
+        match self.peek() {
+            None => false,
+            Some(class) => {
+                matches!(class, Class::CountWord | Class::LhistWord) || gathers(class)
+            }
+        }
+    }
+
+    /// Whether a statement with blocks comes next.
+    pub fn begins_control(&self) -> bool
+        ensures { result ≡ starts begins_control (items self.now) }
+    {
+        match self.peek() {
+            None => false,
+            Some(class) => is_control(class),
+        }
     }
 
     /// Whether the step that comes next is `++` and not `--`.
@@ -241,7 +297,7 @@ impl<'a> Cursor<'a> {
         let [token, rest @ ..] = self.rest else {
             return Err(Fault::Syntax);
         };
-        if class_of(&token.kind) != class {
+        if !is(class, class_of(&token.kind)) {
             return Err(Fault::Syntax);
         }
         let bytes = bytes_of(alloc, &token.kind)?;
@@ -260,7 +316,7 @@ impl<'a> Cursor<'a> {
         let [token, rest @ ..] = self.rest else {
             return Err(Fault::Syntax);
         };
-        if class_of(&token.kind) != Class::NumberLiteral {
+        if !is(Class::NumberLiteral, class_of(&token.kind)) {
             return Err(Fault::Syntax);
         }
         self.rest = rest;
@@ -284,5 +340,22 @@ impl<'a> Cursor<'a> {
             bytes,
             place: place_of(token),
         })
+    }
+
+    /// Passes over the next token, which is what a probe is attached to, and answers that.
+    pub fn point(&mut self, alloc: Global) -> Result<Point, Fault>
+        ensures reads { Reads (read reads point_form (items self.old)) result self.new }
+        ensures shorter { OnOk result (length self.new < length self.old) }
+    {
+        let [token, rest @ ..] = self.rest else {
+            return Err(Fault::Syntax);
+        };
+        let class = class_of(&token.kind);
+        if !is_point(class) {
+            return Err(Fault::Syntax);
+        }
+        let point = point_of(alloc, class, &token.kind, place_of(token))?;
+        self.rest = rest;
+        Ok(point)
     }
 }

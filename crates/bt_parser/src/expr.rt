@@ -1,11 +1,12 @@
 // Expressions.
 ghost use Rattle.std.specs.Prelude.{◌≡◌, ◌<◌, ◌≤◌, IfOk, OnOk, length};
 ghost use Rattle.bt_parser.specs.Contract.{Reads};
-ghost use Rattle.bt_parser.specs.Form.{Assignable, Expression, Keyed, Level, Primary, Unary, Values};
-ghost use Rattle.bt_parser.specs.Reading.{read, reads};
-ghost use Rattle.bt_parser.specs.Rules.{operand};
-ghost use Rattle.bt_parser.specs.Mirror.{joined, leaf, values_on};
+ghost use Rattle.bt_parser.specs.Form.{Assignable, Expression, Keyed, Primary, Unary};
+ghost use Rattle.bt_parser.specs.Reading.{reads};
+ghost use Rattle.bt_parser.specs.Mirror.{joined, operand_by, values_behind};
+ghost use Rattle.bt_ast.specs.declared.expr.ExprKind.TheVariants as exprs;
 ghost use Rattle.bt_parser.specs.Tokens.{items};
+ghost use Rattle.bt_parser.specs.Trees.{expr, place_of_expr};
 
 use crate::class::{Class, Tier};
 use crate::cursor::{Cursor, Named};
@@ -13,9 +14,11 @@ use crate::fault::Fault;
 use crate::leaf::{leaf, map_value, step_value};
 use crate::tables::{binary_of, tighter};
 use bt_ast::expr::{Expr, ExprKind, MapRef, Target, VarRef};
+use bt_ast::place::Place;
 use bt_core::boxed::Boxed;
 use bt_core::items::Items;
 use bt_core::memory::Memory;
+use bt_core::operator::UnOp;
 use std::alloc::Global;
 
 /// Two operands joined by the operator that a mark is.
@@ -37,6 +40,35 @@ fn join(alloc: Global, class: Class, left: Expr, right: Expr) -> Result<Expr, Me
     Ok(Expr { kind, place })
 }
 
+/// `condition ? yes : no`.
+fn choose(alloc: Global, condition: Expr, yes: Expr, no: Expr) -> Result<Expr, Memory>
+    ensures { IfOk result (λ e. e ≡ expr (exprs.Choose condition yes no) (place_of_expr condition)) }
+{
+    let place = condition.place;
+    let condition = Boxed::new(alloc, condition)?;
+    let yes = Boxed::new(alloc, yes)?;
+    let no = Boxed::new(alloc, no)?;
+    let kind = ExprKind::Choose { condition, yes, no };
+    Ok(Expr { kind, place })
+}
+
+/// An operator and the operand behind it.
+fn operated(alloc: Global, op: UnOp, value: Expr, place: Place) -> Result<Expr, Memory>
+    ensures { IfOk result (λ e. e ≡ expr (exprs.Unary op value) place) }
+{
+    let value = Boxed::new(alloc, value)?;
+    let kind = ExprKind::Unary { op, value };
+    Ok(Expr { kind, place })
+}
+
+/// An expression in parentheses.
+fn paren(alloc: Global, inner: Expr, place: Place) -> Result<Expr, Memory>
+    ensures { IfOk result (λ e. e ≡ expr (exprs.Paren inner) place) }
+{
+    let kind = ExprKind::Paren(Boxed::new(alloc, inner)?);
+    Ok(Expr { kind, place })
+}
+
 /// An expression. In a predicate, outside its brackets, a `/` before a brace does not go on with it.
 #[cycle(expr)]
 #[tactic(none)]
@@ -48,7 +80,7 @@ pub fn expression(
     ensures reads { Reads (reads (Expression in_predicate) (items tokens.old)) result tokens.new }
     ensures shorter { OnOk result (length tokens.new < length tokens.old) }
 {
-    let condition = level(alloc, tokens, in_predicate, Tier::OrElses)?;
+    let condition = level(alloc, tokens, in_predicate, Some(Tier::OrElses))?;
     if !tokens.sees(Class::Question) {
         return Ok(condition);
     }
@@ -56,52 +88,31 @@ pub fn expression(
     let yes = expression(alloc, tokens, false)?;
     tokens.expect(Class::Colon)?;
     let no = expression(alloc, tokens, in_predicate)?;
-    let place = condition.place;
-    let kind = ExprKind::Choose {
-        condition: Boxed::new(alloc, condition)?,
-        yes: Boxed::new(alloc, yes)?,
-        no: Boxed::new(alloc, no)?,
-    };
-    Ok(Expr { kind, place })
+    Ok(choose(alloc, condition, yes, no)?)
 }
 
-/// Operands joined by operators of the tier, from the left.
+/// Operands joined by operators of the tier, from the left, or one operand where there is no tier.
 #[cycle(expr)]
 #[tactic(none)]
 fn level(
     alloc: Global,
     tokens: &mut Cursor<'_>,
     in_predicate: bool,
-    tier: Tier,
+    tier: Option<Tier>,
 ) -> Result<Expr, Fault>
-    ensures reads { Reads (reads (Level in_predicate tier) (items tokens.old)) result tokens.new }
+    ensures reads { Reads (operand_by in_predicate tier (items tokens.old)) result tokens.new }
     ensures shorter { OnOk result (length tokens.new < length tokens.old) }
 {
-    let mut left = operand(alloc, tokens, in_predicate, tier)?;
+    let Some(tier) = tier else {
+        return unary(alloc, tokens);
+    };
+    let mut left = level(alloc, tokens, in_predicate, tighter(tier))?;
     while let Some(class) = tokens.operator(in_predicate, tier) {
         tokens.skip();
-        let right = operand(alloc, tokens, in_predicate, tier)?;
+        let right = level(alloc, tokens, in_predicate, tighter(tier))?;
         left = join(alloc, class, left, right)?;
     }
     Ok(left)
-}
-
-/// What an operator of the tier joins.
-#[cycle(expr)]
-#[tactic(none)]
-fn operand(
-    alloc: Global,
-    tokens: &mut Cursor<'_>,
-    in_predicate: bool,
-    tier: Tier,
-) -> Result<Expr, Fault>
-    ensures reads { Reads (read reads (operand in_predicate tier) (items tokens.old)) result tokens.new }
-    ensures shorter { OnOk result (length tokens.new < length tokens.old) }
-{
-    match tighter(tier) {
-        None => unary(alloc, tokens),
-        Some(tier) => level(alloc, tokens, in_predicate, tier),
-    }
 }
 
 #[cycle(expr)]
@@ -115,11 +126,7 @@ fn unary(alloc: Global, tokens: &mut Cursor<'_>) -> Result<Expr, Fault>
     };
     let place = tokens.skip();
     let value = unary(alloc, tokens)?;
-    let value = Boxed::new(alloc, value)?;
-    Ok(Expr {
-        kind: ExprKind::Unary { op, value },
-        place,
-    })
+    Ok(operated(alloc, op, value, place)?)
 }
 
 #[cycle(expr)]
@@ -133,8 +140,7 @@ fn primary(alloc: Global, tokens: &mut Cursor<'_>) -> Result<Expr, Fault>
             let place = tokens.skip();
             let inner = expression(alloc, tokens, false)?;
             tokens.expect(Class::CloseParen)?;
-            let kind = ExprKind::Paren(Boxed::new(alloc, inner)?);
-            Ok(Expr { kind, place })
+            Ok(paren(alloc, inner, place)?)
         }
         Some(Class::MapName) => {
             let map = keyed(alloc, tokens)?;
@@ -162,17 +168,19 @@ pub fn keyed(alloc: Global, tokens: &mut Cursor<'_>) -> Result<MapRef, Fault>
     ensures shorter { OnOk result (length tokens.new < length tokens.old) }
 {
     let Named { bytes, place } = tokens.named(alloc, Class::MapName)?;
-    let mut keys = Items::new(alloc);
-    if tokens.sees(Class::OpenBracket) {
-        tokens.skip();
-        keys = values(alloc, tokens)?;
-        tokens.expect(Class::CloseBracket)?;
+    let name = bytes;
+    let none = Items::new(alloc);
+    if !tokens.sees(Class::OpenBracket) {
+        return Ok(MapRef {
+            name,
+            keys: none,
+            place,
+        });
     }
-    Ok(MapRef {
-        name: bytes,
-        keys,
-        place,
-    })
+    tokens.skip();
+    let keys = values(alloc, tokens, none)?;
+    tokens.expect(Class::CloseBracket)?;
+    Ok(MapRef { name, keys, place })
 }
 
 /// A map or a variable.
@@ -189,30 +197,19 @@ pub fn assignable(alloc: Global, tokens: &mut Cursor<'_>) -> Result<Target, Faul
     Ok(Target::Var(VarRef { name: bytes, place }))
 }
 
-/// Expressions between commas, one at least.
+/// Expressions between commas, one at least, behind those that there are.
 #[cycle(expr)]
 #[tactic(none)]
-pub fn values(alloc: Global, tokens: &mut Cursor<'_>) -> Result<Items<Expr>, Fault>
-    ensures reads { Reads (reads Values (items tokens.old)) result tokens.new }
-    ensures shorter { OnOk result (length tokens.new < length tokens.old) }
-{
-    let mut values = Items::new(alloc);
-    values.push(expression(alloc, tokens, false)?)?;
-    more_values(alloc, tokens, values)
-}
-
-/// Values and those that follow behind commas.
-#[cycle(expr)]
-#[tactic(none)]
-pub fn more_values(
+pub fn values(
     alloc: Global,
     tokens: &mut Cursor<'_>,
     front: Items<Expr>,
 ) -> Result<Items<Expr>, Fault>
-    ensures reads { Reads (values_on front (items tokens.old)) result tokens.new }
-    ensures no_longer { OnOk result (length tokens.new ≤ length tokens.old) }
+    ensures reads { Reads (values_behind front (items tokens.old)) result tokens.new }
+    ensures shorter { OnOk result (length tokens.new < length tokens.old) }
 {
     let mut values = front;
+    values.push(expression(alloc, tokens, false)?)?;
     while tokens.sees(Class::Comma) {
         tokens.skip();
         values.push(expression(alloc, tokens, false)?)?;

@@ -1,11 +1,15 @@
 //! The parser of scripts: the tree of a list of tokens, or the place where no script goes on.
 #![tactic(auto)]
 
+mod agg;
+mod assign;
 mod attach;
+mod block;
+mod call;
 pub mod class;
 mod cursor;
-mod expr;
 pub mod error;
+mod expr;
 mod fault;
 mod leaf;
 mod marks;
@@ -13,5 +17,7 @@ mod nesting;
 pub mod parse;
 mod probe;
 mod script;
+mod point;
+mod simple;
 mod tables;
 mod words;

@@ -1,7 +1,8 @@
 // What a class of tokens is in the grammar: a builtin variable, an operator, and of which tier.
 ghost use Rattle.std.specs.Prelude.{◌≡◌, ◌<◌, IfSome};
-ghost use Rattle.bt_parser.specs.Classes.{binary_of, builtin_of, prefix_of, tier_number, tier_of, update_of};
+ghost use Rattle.bt_parser.specs.Classes.{binary_of, builtin_of, gathers, is_point, prefix_of, tier_number, tier_of, update_of};
 ghost use Rattle.bt_parser.specs.Mirror.{tighter};
+ghost use Rattle.bt_parser.specs.Tables.{is_call, is_control};
 
 use crate::class::{Class, Tier};
 use bt_ast::expr::Builtin;
@@ -117,4 +118,49 @@ pub fn tighter(tier: Tier) -> Option<Tier>
         Tier::AndThens => Some(Tier::BitOrs),
         Tier::OrElses => Some(Tier::AndThens),
     }
+}
+
+/// Whether a word is a map function of one number.
+pub fn gathers(class: Class) -> bool
+    ensures { result ≡ gathers class }
+{
+    matches!(
+        class,
+        Class::SumWord | Class::MinWord | Class::MaxWord | Class::AvgWord | Class::HistWord
+    )
+}
+
+/// Whether a word begins a call or is a jump.
+pub fn is_call(class: Class) -> bool
+    ensures { result ≡ is_call class }
+{
+    matches!(
+        class,
+        Class::PrintfWord
+            | Class::PrintWord
+            | Class::ClearWord
+            | Class::ZeroWord
+            | Class::DeleteWord
+            | Class::ExitWord
+            | Class::BreakWord
+            | Class::ContinueWord
+            | Class::ReturnWord
+    )
+}
+
+/// Whether a word begins a statement with blocks.
+pub fn is_control(class: Class) -> bool
+    ensures { result ≡ is_control class }
+{
+    matches!(class, Class::IfWord | Class::WhileWord | Class::UnrollWord)
+}
+
+/// Whether a token may be what a probe is attached to.
+pub fn is_point(class: Class) -> bool
+    ensures { result ≡ is_point class }
+{
+    matches!(
+        class,
+        Class::BeginWord | Class::EndWord | Class::TracepointPoint | Class::IntervalPoint
+    )
 }
