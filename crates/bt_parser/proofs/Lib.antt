@@ -28,3 +28,4 @@ mod Parsed
 mod Stated
 mod Blocks
 mod Probed
+mod OneAnswer

@@ -11,6 +11,7 @@ mod cursor;
 pub mod error;
 mod expr;
 mod fault;
+pub mod laws;
 mod leaf;
 mod marks;
 mod nesting;
@@ -20,4 +21,6 @@ mod script;
 mod point;
 mod simple;
 mod tables;
+#[cfg(test)]
+mod tests;
 mod words;
