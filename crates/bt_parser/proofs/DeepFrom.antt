@@ -1,16 +1,17 @@
 -- The first token that is too deep.
-use Rattle.std.proofs.Common.{◌≡◌, ℕ, zero, suc, ◌+◌, ◌-◌, ◌<◌, ◌≤◌, Bool, true, false, List, [], ◌∷◌, ◌++◌, length, reverse, take, Option, Some, None, refl, sym, ◌∙◌, ap, subst, inl, inr, ◌⊎◌, arith, length-append}
+use Rattle.std.proofs.Common.{◌≡◌, ℕ, zero, suc, ◌+◌, ◌-◌, ◌<◌, ◌≤◌, Bool, true, false, List, [], ◌∷◌, ◌++◌, length, reverse, take, drop, Option, Some, None, refl, sym, ◌∙◌, ap, subst, inl, inr, ◌⊎◌, arith, length-append}
 use Rattle.std.specs.Prelude.{nat_lt, if◌then◌else◌}
 use Rattle.std.specs.List.{sum, sum_by}
-use Rattle.std.proofs.lemmas.List.{length-reverse}
+use Rattle.std.proofs.lemmas.List.{length-reverse, reverse-append}
 use Rattle.std.proofs.lemmas.List.Sums.{sum_by-append}
 use Rattle.std.proofs.lemmas.Bool.Decides.{leb_tells}
 use Rattle.bt_parser.specs.declared.nesting.Levels.{Levels}
+use Rattle.bt_lexer.specs.declared.token.Token.{Token}
+use Rattle.bt_parser.specs.Tokens.{class_of, items}
 use Rattle.bt_parser.specs.Form.{Item}
 use Rattle.bt_parser.specs.Levels.{deep_from, levels_of, IsWeighed}
 use Rattle.bt_parser.specs.Weights.{levels_behind, levels_from, level_weight, weight}
-use Rattle.bt_parser.specs.Refusals.{IsDepthFault, deepest_weight}
-use Rattle.bt_parser.proofs.Decide.{NoDepthFault}
+use Rattle.bt_parser.specs.Refusals.{IsDepthFault, NoDepthFault, deepest_weight}
 
 -- a place that is found, and what stands before it
 pub record Deep (i : ℕ) (levels : List ℕ) (ts : List Item) (d : ℕ) : Type 0 where
@@ -73,11 +74,31 @@ sum-append : (xs ys : List ℕ) → sum (xs ++ ys) ≡ sum xs + sum ys
 sum-append xs ys = sum_by-append (λ x. x) xs ys
 
 sum-cons : (x : ℕ) (xs : List ℕ) → sum (x ∷ xs) ≡ x + sum xs
-sum-cons x xs = sum-append (x ∷ []) xs
+sum-cons x xs = sum-append (x ∷ []) xs ∙ omega arith
 
 sum-reverse : (xs : List ℕ) → sum (reverse xs) ≡ sum xs
 sum-reverse [] = refl
-sum-reverse (x ∷ xs) = sum-append (reverse xs) (x ∷ []) ∙ omega (arith, sum-reverse xs, sum-cons x xs)
+sum-reverse (x ∷ xs) = ap sum (reverse-append (x ∷ []) xs) ∙ sum-append (reverse xs) (x ∷ []) ∙ omega (arith, sum-reverse xs, sum-cons x xs)
 
 pub weighs : (l : Levels) → IsWeighed l → level_weight (levels_of l) ≡ l.weight
 weighs l w = omega (arith, w, sum-cons l.inner (reverse l.around.items), sum-reverse l.around.items, length-reverse l.around.items)
+
+-- ---- one token of the loop
+
+heavy : (levels : List ℕ) (l : Levels) (t : Token) → levels_of l ≡ levels_behind (class_of t.kind) levels → IsWeighed l → (b : Bool) → nat_lt 64 l.weight ≡ b
+    → nat_lt 64 (level_weight (levels_behind (class_of t.kind) levels)) ≡ b
+heavy levels l t e w b h = ap (λ z. nat_lt 64 (level_weight z)) (sym e) ∙ ap (nat_lt 64) (weighs l w) ∙ h
+
+pub stop_at : (i : ℕ) (levels : List ℕ) (l : Levels) (tokens : List Token) (t : Token) → drop i tokens ≡ t ∷ drop (i + 1) tokens
+    → levels_of l ≡ levels_behind (class_of t.kind) levels → IsWeighed l → 64 < l.weight → Some i ≡ deep_from i levels (items (drop i tokens))
+stop_at i levels l tokens t d e w h = elim (tell l.weight) [
+    inr n ↦ (let light : l.weight ≤ 64 = n.1 in absurd (omega (arith, h, light)))
+  | inl y ↦ sym (ap (λ z. deep_from i levels (items z)) d
+      ∙ ap (λ b. if b then Some i else deep_from (i + 1) (levels_behind (class_of t.kind) levels) (items (drop (i + 1) tokens))) (heavy levels l t e w true y.0)) ]
+
+pub go_on : (i : ℕ) (levels : List ℕ) (l : Levels) (tokens : List Token) (t : Token) → drop i tokens ≡ t ∷ drop (i + 1) tokens
+    → levels_of l ≡ levels_behind (class_of t.kind) levels → IsWeighed l → l.weight ≤ 64 → deep_from (i + 1) (levels_of l) (items (drop (i + 1) tokens)) ≡ deep_from i levels (items (drop i tokens))
+go_on i levels l tokens t d e w h = elim (tell l.weight) [
+    inl y ↦ (let big : 64 < l.weight = y.1 in absurd (omega (arith, h, big)))
+  | inr n ↦ ap (λ z. deep_from (i + 1) z (items (drop (i + 1) tokens))) e ∙ sym (ap (λ z. deep_from i levels (items z)) d
+      ∙ ap (λ b. if b then Some i else deep_from (i + 1) (levels_behind (class_of t.kind) levels) (items (drop (i + 1) tokens))) (heavy levels l t e w false n.0)) ]

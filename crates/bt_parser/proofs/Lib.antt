@@ -23,6 +23,9 @@ mod Sameness
 mod Operators
 mod DeepFrom
 mod Parts
+mod Ends
+mod Parsed
 mod Stated
 mod Blocks
 mod Probed
+mod OneAnswer

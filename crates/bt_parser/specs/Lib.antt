@@ -15,5 +15,6 @@ pub mod Weights
 pub mod Refusals
 pub mod Counts
 pub mod Levels
+pub mod Outcomes
 pub mod Statements
 pub mod Probes

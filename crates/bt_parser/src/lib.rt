@@ -11,12 +11,16 @@ mod cursor;
 pub mod error;
 mod expr;
 mod fault;
+pub mod laws;
 mod leaf;
 mod marks;
 mod nesting;
-mod point;
+pub mod parse;
 mod probe;
-mod scratch;
+mod script;
+mod point;
 mod simple;
 mod tables;
+#[cfg(test)]
+mod tests;
 mod words;

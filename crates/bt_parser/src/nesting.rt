@@ -1,5 +1,5 @@
 // How deep tokens are nested.
-ghost use Rattle.std.specs.Prelude.{◌≡◌, ◌∷◌, [], ◌≤◌, IfOk, OnOk};
+ghost use Rattle.std.specs.Prelude.{◌≡◌, ◌∷◌, [], ◌≤◌, ◌<◌, IfOk, IfSome, OnOk, length};
 ghost use Rattle.bt_parser.specs.Levels.{IsWeighed, deep_from, is_other_operator, levels_of};
 ghost use Rattle.bt_parser.specs.Tokens.{items};
 ghost use Rattle.bt_parser.specs.Weights.{closed, counted, is_operator, levels_behind, opened, reset};
@@ -136,7 +136,8 @@ impl Levels {
 
 /// The place of the first token behind which more than 64 brackets and operators are open.
 pub fn first_too_deep(alloc: Global, tokens: &[Token]) -> Result<Option<usize>, Memory>
-    ensures { IfOk result (λ found. found ≡ deep_from 0 (0 ∷ []) (items tokens.now)) }
+    ensures value { IfOk result (λ found. found ≡ deep_from 0 (0 ∷ []) (items tokens.now)) }
+    ensures within { IfOk result (λ found. IfSome found (λ place. place < length tokens.now)) }
 {
     let mut levels = Levels::new(alloc);
     for (i, token) in tokens.iter().enumerate() {
