@@ -88,7 +88,7 @@ struct Bounds {
 }
 
 /// The bounds of a linear histogram between commas, and the closing parenthesis.
-fn bounds(tokens: &mut Cursor<'_>) -> Result<Bounds, Fault>
+fn read_bounds(tokens: &mut Cursor<'_>) -> Result<Bounds, Fault>
     ensures reads { Reads (bounds_by (items tokens.old)) result tokens.new }
     ensures shorter { OnOk result (length tokens.new < length tokens.old) }
 {
@@ -110,7 +110,7 @@ fn lhist(alloc: Global, tokens: &mut Cursor<'_>) -> Result<(AggCall, Place), Fau
     tokens.expect(Class::OpenParen)?;
     let number = expression(alloc, tokens, false)?;
     tokens.expect(Class::Comma)?;
-    let Bounds { min, max, step } = bounds(tokens)?;
+    let Bounds { min, max, step } = read_bounds(tokens)?;
     let call = AggCall::Lhist {
         number,
         min,
