@@ -60,3 +60,27 @@ branches-returns-clause-reads t c = let e = arms_turns c.loop-alloc.arms (items 
 
 pub branches-loop-alloc-preserved : goal.branches-loop-alloc-preserved
 branches-loop-alloc-preserved t c = let e = arms_turns c.loop-alloc.arms (items c.loop-alloc.tokens) in (rw (← c.loop-alloc.invariant.0) (first_of (search rules, grind (arith, common_steps))), (first_of (search rules, grind (arith, common_steps))))
+
+pub control-returns-in_err-kind-in-Some-IfWord-clause-reads : goal.control-returns-in_err-kind-in-Some-IfWord-clause-reads
+control-returns-in_err-kind-in-Some-IfWord-clause-reads t c = rw (control_is (items c.args.tokens.now)) (first_of (search rules, grind (arith, common_steps)))
+
+pub control-returns-in_err-condition-in-Some-WhileWord-clause-reads : goal.control-returns-in_err-condition-in-Some-WhileWord-clause-reads
+control-returns-in_err-condition-in-Some-WhileWord-clause-reads t c = rw (control_is (items c.args.tokens.now)) (first_of (search rules, grind (arith, common_steps)))
+
+pub control-returns-in_err-place-in_default-clause-reads : goal.control-returns-in_err-place-in_default-clause-reads
+control-returns-in_err-place-in_default-clause-reads t c = rw (control_is (items c.args.tokens.now)) (first_of (search rules, grind (arith, common_steps)))
+
+pub control-returns-in_err-turns-in_default-clause-reads : goal.control-returns-in_err-turns-in_default-clause-reads
+control-returns-in_err-turns-in_default-clause-reads t c = rw (control_is (items c.args.tokens.now)) (first_of (search rules, grind (arith, common_steps)))
+
+pub control-returns-in_err-block-in_default-clause-reads : goal.control-returns-in_err-block-in_default-clause-reads
+control-returns-in_err-block-in_default-clause-reads t c = rw (control_is (items c.args.tokens.now)) (first_of (search rules, grind (arith, common_steps)))
+
+pub control-returns-in_ok-kind-in-Some-IfWord-clause-reads : goal.control-returns-in_ok-kind-in-Some-IfWord-clause-reads
+control-returns-in_ok-kind-in-Some-IfWord-clause-reads t c = rw (control_is (items c.args.tokens.now)) (first_of (search rules, grind (arith, common_steps)))
+
+pub control-returns-in_ok-condition-in-Some-WhileWord-clause-reads : goal.control-returns-in_ok-condition-in-Some-WhileWord-clause-reads
+control-returns-in_ok-condition-in-Some-WhileWord-clause-reads t c = rw (control_is (items c.args.tokens.now)) (first_of (search rules, grind (arith, common_steps)))
+
+pub control-returns-in_ok-block-in_default-clause-reads : goal.control-returns-in_ok-block-in_default-clause-reads
+control-returns-in_ok-block-in_default-clause-reads t c = rw (control_is (items c.args.tokens.now)) (first_of (search rules, grind (arith, common_steps)))
