@@ -23,4 +23,6 @@ mod simple;
 mod tables;
 #[cfg(test)]
 mod tests;
+#[cfg(test)]
+mod tree_tests;
 mod words;
