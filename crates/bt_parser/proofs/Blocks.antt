@@ -88,12 +88,12 @@ pushed body x Unfinished = refl
 
 body_simple : (body : List Stmt) (ts : List Item)
     → and_then (and_then (reads Simple ts) (λ x r. and_then (read reads behind_simple r) (λ ys r1. Done (x ∷ ys) r1))) (λ ys r. Done (body ++ ys) r)
-      ≡ and_then (reads Simple ts) (λ x r. after_simple (body ++ x ∷ []) r)
+    ≡ and_then (reads Simple ts) (λ x r. after_simple (body ++ x ∷ []) r)
 body_simple body ts = and_then_assoc (reads Simple ts) _ _ ∙ and_then_same (reads Simple ts) _ _ (λ x r. pushed body x (read reads behind_simple r) ∙ semi_is (body ++ x ∷ []) r)
 
 body_control : (body : List Stmt) (ts : List Item)
     → and_then (and_then (reads Control ts) (λ x r. and_then (reads Body r) (λ ys r1. Done (x ∷ ys) r1))) (λ ys r. Done (body ++ ys) r)
-      ≡ and_then (reads Control ts) (λ x r. body_on (body ++ x ∷ []) r)
+    ≡ and_then (reads Control ts) (λ x r. body_on (body ++ x ∷ []) r)
 unfolding body_on
 body_control body ts = and_then_assoc (reads Control ts) _ _ ∙ and_then_same (reads Control ts) _ _ (λ x r. pushed body x (reads Body r))
 

@@ -27,13 +27,18 @@ tell w = elim (leb_tells 65 w) [ inl h ↦ inl (h.0, omega (arith, h.1)) | inr h
 pub found_deep : (i : ℕ) (levels : List ℕ) (ts : List Item) (d : ℕ) → deep_from i levels ts ≡ Some d → Deep i levels ts d
 found_deep i levels [] d e = cc (e)
 found_deep i levels (t ∷ ts) d e = elim (tell (level_weight (levels_behind t.class levels))) [
-    inl h ↦ (let q : Some i ≡ Some d = rw (h.0) at e in
+  | inl h ↦ (let q : Some i ≡ Some d = rw (h.0) at e in
       let q' : i ≡ d = cc (q) in
       record { n = 0; is = omega (arith, q'); within = omega arith; deep = h.1; first = λ m short. absurd (omega arith) })
   | inr h ↦ (let r : Deep (i + 1) (levels_behind t.class levels) ts d = found_deep (i + 1) (levels_behind t.class levels) ts d (rw (h.0) at e) in
-      record { n = suc r.n; is = omega (arith, r.is); within = omega (arith, r.within);
+      record {
+        n = suc r.n;
+        is = omega (arith, r.is);
+        within = omega (arith, r.within);
         deep = subst (λ z. deepest_weight < level_weight (levels_from levels (take z (t ∷ ts)))) (next r.n) r.deep;
-        first = λ m short. before m (h.1) r.n r.first short }) ]
+        first = λ m short. before m (h.1) r.n r.first short;
+      })
+]
   where
     next : (n : ℕ) → suc (n + 1) ≡ suc n + 1
     next n = omega arith
@@ -46,8 +51,9 @@ found_deep i levels (t ∷ ts) d e = elim (tell (level_weight (levels_behind t.c
 pub none_deep : (i : ℕ) (levels : List ℕ) (ts : List Item) → deep_from i levels ts ≡ None → (m : ℕ) → m < length ts → level_weight (levels_from levels (take (m + 1) ts)) ≤ deepest_weight
 none_deep i levels [] e m within = absurd (omega arith)
 none_deep i levels (t ∷ ts) e m within = elim (tell (level_weight (levels_behind t.class levels))) [
-    inl h ↦ (let q : ◌≡◌ {A = Option ℕ} (Some i) None = rw (h.0) at e in cc (q))
-  | inr h ↦ at_place m (h.1) (none_deep (i + 1) (levels_behind t.class levels) ts (rw (h.0) at e)) within ]
+  | inl h ↦ (let q : ◌≡◌ {A = Option ℕ} (Some i) None = rw (h.0) at e in cc (q))
+  | inr h ↦ at_place m (h.1) (none_deep (i + 1) (levels_behind t.class levels) ts (rw (h.0) at e)) within
+]
   where
     at_place : (m : ℕ) → level_weight (levels_behind t.class levels) ≤ 64 → ((m : ℕ) → m < length ts → level_weight (levels_from (levels_behind t.class levels) (take (m + 1) ts)) ≤ deepest_weight)
         → m < suc (length ts) → level_weight (levels_from levels (take (m + 1) (t ∷ ts))) ≤ deepest_weight
@@ -92,13 +98,15 @@ heavy levels l t e w b h = ap (λ z. nat_lt 64 (level_weight z)) (sym e) ∙ ap 
 pub stop_at : (i : ℕ) (levels : List ℕ) (l : Levels) (tokens : List Token) (t : Token) → drop i tokens ≡ t ∷ drop (i + 1) tokens
     → levels_of l ≡ levels_behind (class_of t.kind) levels → IsWeighed l → 64 < l.weight → Some i ≡ deep_from i levels (items (drop i tokens))
 stop_at i levels l tokens t d e w h = elim (tell l.weight) [
-    inr n ↦ (let light : l.weight ≤ 64 = n.1 in absurd (omega (arith, h, light)))
+  | inr n ↦ (let light : l.weight ≤ 64 = n.1 in absurd (omega (arith, h, light)))
   | inl y ↦ sym (ap (λ z. deep_from i levels (items z)) d
-      ∙ ap (λ b. if b then Some i else deep_from (i + 1) (levels_behind (class_of t.kind) levels) (items (drop (i + 1) tokens))) (heavy levels l t e w true y.0)) ]
+      ∙ ap (λ b. if b then Some i else deep_from (i + 1) (levels_behind (class_of t.kind) levels) (items (drop (i + 1) tokens))) (heavy levels l t e w true y.0))
+]
 
 pub go_on : (i : ℕ) (levels : List ℕ) (l : Levels) (tokens : List Token) (t : Token) → drop i tokens ≡ t ∷ drop (i + 1) tokens
     → levels_of l ≡ levels_behind (class_of t.kind) levels → IsWeighed l → l.weight ≤ 64 → deep_from (i + 1) (levels_of l) (items (drop (i + 1) tokens)) ≡ deep_from i levels (items (drop i tokens))
 go_on i levels l tokens t d e w h = elim (tell l.weight) [
-    inl y ↦ (let big : 64 < l.weight = y.1 in absurd (omega (arith, h, big)))
+  | inl y ↦ (let big : 64 < l.weight = y.1 in absurd (omega (arith, h, big)))
   | inr n ↦ ap (λ z. deep_from (i + 1) z (items (drop (i + 1) tokens))) e ∙ sym (ap (λ z. deep_from i levels (items z)) d
-      ∙ ap (λ b. if b then Some i else deep_from (i + 1) (levels_behind (class_of t.kind) levels) (items (drop (i + 1) tokens))) (heavy levels l t e w false n.0)) ]
+      ∙ ap (λ b. if b then Some i else deep_from (i + 1) (levels_behind (class_of t.kind) levels) (items (drop (i + 1) tokens))) (heavy levels l t e w false n.0))
+]

@@ -25,7 +25,7 @@ full old left [] e k h n en = absurd (omega (arith, k))
 full old [] (p ∷ ps) e k h n en = cc (h)
 full old (t ∷ left) (p ∷ ps) e k h n en =
     full_at (items old) (p ∷ ps) (item t) (items left) n (subst (λ z. probes_read z (items old) ≡ Done (p ∷ ps) (items (t ∷ left))) k e) h
-      (omega (arith, en, length-items (t ∷ left), length-items old))
+    (omega (arith, en, length-items (t ∷ left), length-items old))
 
 -- the next probe is refused
 pub refused_next : (old mid left : List Token) (probes : List Probe) → Read old probes mid → length probes ≤ most_probes → length probes ≢ most_probes

@@ -63,13 +63,15 @@ module _ (ts after : List Item) (cut : List Token) (d : ℕ) (e : ts ≡ items c
   some_of left (outcomes.Whole probes) place g at =
       too_deep ts (items cut) after d e len-items deep (tree_begins (items cut) probes g.0) (λ m f. absurd (few_tree (items cut) probes g.0 g.1 m f))
   some_of left outcomes.Refused place g at = elim (tells_le place d) [
-      inl h ↦ subst (λ b. IsRight ts (if b then Err (Syntax place) else Err (TooDeep d))) (sym h.0) (front_refused left place g.0 g.1 at h.1)
-    | inr h ↦ subst (λ b. IsRight ts (if b then Err (Syntax place) else Err (TooDeep d))) (sym h.0) (all_begun left place g.0 g.1 at h.1) ]
+    | inl h ↦ subst (λ b. IsRight ts (if b then Err (Syntax place) else Err (TooDeep d))) (sym h.0) (front_refused left place g.0 g.1 at h.1)
+    | inr h ↦ subst (λ b. IsRight ts (if b then Err (Syntax place) else Err (TooDeep d))) (sym h.0) (all_begun left place g.0 g.1 at h.1)
+  ]
   some_of left outcomes.Full place g at = elim (tells_lt place d) [
-      inl h ↦ subst (λ b. IsRight ts (if b then Err (TooMany place) else Err (TooDeep d))) (sym h.0)
+    | inl h ↦ subst (λ b. IsRight ts (if b then Err (TooMany place) else Err (TooDeep d))) (sym h.0)
         (too_many ts (items cut) after place e (g place at) (λ m f. let le : d ≤ m = depth_least ts d m deep f in before place m h.1 le))
     | inr h ↦ subst (λ b. IsRight ts (if b then Err (TooMany place) else Err (TooDeep d))) (sym h.0)
-        (too_deep ts (items cut) after d e len-items deep (begun (g place at) h.1) (λ m f. let q : place ≡ m = count_one (items cut) place m (g place at) f in last m q h.1)) ]
+        (too_deep ts (items cut) after d e len-items deep (begun (g place at) h.1) (λ m f. let q : place ≡ m = count_one (items cut) place m (g place at) f in last m q h.1))
+  ]
     where
       before : (a m : ℕ) → a < d → d ≤ m → a < m
       before a m h le = omega (arith, h, le)
@@ -89,7 +91,7 @@ right_some tokens d answer e a =
     let deep : IsDepthFault (items tokens) d = some_depth (items tokens) d e in
     let within : d < length (items tokens) = deep.within in
     let split : items tokens ≡ items (take (d + 1) tokens) ++ items (drop (d + 1) tokens) =
-      ap items (sym (take-append-drop (d + 1) tokens)) ∙ items-append (take (d + 1) tokens) (drop (d + 1) tokens) in
+    ap items (sym (take-append-drop (d + 1) tokens)) ∙ items-append (take (d + 1) tokens) (drop (d + 1) tokens) in
     let len : length (take (d + 1) tokens) ≡ d + 1 = length-take-le (d + 1) tokens (omega (arith, within, length-items tokens)) in
     subst (IsRight (items tokens)) (sym a.is) (some_of (items tokens) (items (drop (d + 1) tokens)) (take (d + 1) tokens) d split len deep a.left a.outcome a.place a.gives a.at)
 

@@ -33,19 +33,21 @@ run_yes x xs h = take_while-cons not_colon x xs ∙ ap (λ b. cond b (x ∷ take
 pub split_none : (bs : List ℕ) → drop (length (take_while not_colon bs)) bs ≡ [] → slice_split is_colon bs ≡ bs ∷ []
 split_none [] e = refl
 split_none (x ∷ xs) e = elim (either (is_colon x)) [
-    inl h ↦ (let q : x ∷ xs ≡ [] = ap (λ z. drop (length z) (x ∷ xs)) (sym (run_yes x xs h)) ∙ e in cc (q))
+  | inl h ↦ (let q : x ∷ xs ≡ [] = ap (λ z. drop (length z) (x ∷ xs)) (sym (run_yes x xs h)) ∙ e in cc (q))
   | inr h ↦ (let q : drop (length (take_while not_colon xs)) xs ≡ [] = ap (λ z. drop (length z) (x ∷ xs)) (sym (run_no x xs h)) ∙ e in
-      slice_split-cons_no is_colon x xs h ∙ ap (onto_first x) (split_none xs q)) ]
+      slice_split-cons_no is_colon x xs h ∙ ap (onto_first x) (split_none xs q))
+]
 
 pub split_some : (bs : List ℕ) (c : ℕ) (rest : List ℕ) → drop (length (take_while not_colon bs)) bs ≡ c ∷ rest
     → slice_split is_colon bs ≡ take (length (take_while not_colon bs)) bs ∷ slice_split is_colon rest
 split_some [] c rest e = cc (e)
 split_some (x ∷ xs) c rest e = elim (either (is_colon x)) [
-    inl h ↦ (let q : x ∷ xs ≡ c ∷ rest = ap (λ z. drop (length z) (x ∷ xs)) (sym (run_yes x xs h)) ∙ e in
+  | inl h ↦ (let q : x ∷ xs ≡ c ∷ rest = ap (λ z. drop (length z) (x ∷ xs)) (sym (run_yes x xs h)) ∙ e in
       let q' : xs ≡ rest = cc (q) in
       slice_split-cons_yes is_colon x xs h ∙ ap (λ z. [] ∷ slice_split is_colon z) q' ∙ ap (λ z. take (length z) (x ∷ xs) ∷ slice_split is_colon rest) (sym (run_yes x xs h)))
   | inr h ↦ (let q : drop (length (take_while not_colon xs)) xs ≡ c ∷ rest = ap (λ z. drop (length z) (x ∷ xs)) (sym (run_no x xs h)) ∙ e in
-      slice_split-cons_no is_colon x xs h ∙ ap (onto_first x) (split_some xs c rest q) ∙ ap (λ z. take (length z) (x ∷ xs) ∷ slice_split is_colon rest) (sym (run_no x xs h))) ]
+      slice_split-cons_no is_colon x xs h ∙ ap (onto_first x) (split_some xs c rest q) ∙ ap (λ z. take (length z) (x ∷ xs) ∷ slice_split is_colon rest) (sym (run_no x xs h)))
+]
 
 pub cut_none : (bs back : List ℕ) (n : ℕ) → n ≡ length (take_while not_colon bs) → back ≡ drop n bs → length back < 1 → slice_split is_colon bs ≡ bs ∷ []
 cut_none bs [] n en eb short = split_none bs (ap (λ z. drop z bs) (sym en) ∙ sym eb)
@@ -115,14 +117,16 @@ digit_yes n b h = ap (λ x. if x then limited (n * 10 + (b - 48)) else None) h
 
 digits_rest : (m : ℕ) (bs : List ℕ) → (m < 2 ^ 64 → with_digits m bs ≡ all_of m bs) → and_more (limited m) (λ n. with_digits n bs) ≡ all_of m bs
 digits_rest m bs more = elim (tell m) [
-    inl t ↦ ap (λ z. and_more z (λ n. with_digits n bs)) (within_limit m t.1) ∙ more t.1
-  | inr t ↦ ap (λ z. and_more z (λ n. with_digits n bs)) (over_limit m t.1) ∙ sym (over bs m t.1) ]
+  | inl t ↦ ap (λ z. and_more z (λ n. with_digits n bs)) (within_limit m t.1) ∙ more t.1
+  | inr t ↦ ap (λ z. and_more z (λ n. with_digits n bs)) (over_limit m t.1) ∙ sym (over bs m t.1)
+]
 
 pub digits_are : (n : ℕ) (bs : List ℕ) → n < 2 ^ 64 → with_digits n bs ≡ all_of n bs
 digits_are n [] small = sym (within_limit n small)
 digits_are n (b ∷ bs) small = elim (either (is_digit b)) [
-    inr h ↦ ap (λ z. and_more z (λ n. with_digits n bs)) (digit_no n b h) ∙ sym (first_no n b bs h)
-  | inl h ↦ ap (λ z. and_more z (λ n. with_digits n bs)) (digit_yes n b h) ∙ digits_rest (n * 10 + (b - 48)) bs (digits_are (n * 10 + (b - 48)) bs) ∙ sym (first_yes n b bs h) ]
+  | inr h ↦ ap (λ z. and_more z (λ n. with_digits n bs)) (digit_no n b h) ∙ sym (first_no n b bs h)
+  | inl h ↦ ap (λ z. and_more z (λ n. with_digits n bs)) (digit_yes n b h) ∙ digits_rest (n * 10 + (b - 48)) bs (digits_are (n * 10 + (b - 48)) bs) ∙ sym (first_yes n b bs h)
+]
 
 pub number_is : (bs : List ℕ) → 1 ≤ length bs → with_digits 0 bs ≡ number_of bs
 number_is [] some = absurd (omega arith)

@@ -136,8 +136,8 @@ print_is ts = rw (reads_is Print ts) (simp and_then_assoc)
 
 delete_at : (t : Item) (c : Class) (k : TokenKind) (p : Place) (r : List Item)
     → and_then (read reads (Or (Map delete_all (mark CloseParen))
-        (Or (Then delete_keyed (mark OpenBracket) (Until (Until (Call Values) CloseBracket) CloseParen)) (Then delete_key (mark Comma) (Until value CloseParen)))) (it c k p ∷ r))
-        (λ f r1. Done (on_item t f) r1) ≡ delete_on (named t) (Some c) (it c k p ∷ r)
+    (Or (Then delete_keyed (mark OpenBracket) (Until (Until (Call Values) CloseBracket) CloseParen)) (Then delete_key (mark Comma) (Until value CloseParen)))) (it c k p ∷ r))
+    (λ f r1. Done (on_item t f) r1) ≡ delete_on (named t) (Some c) (it c k p ∷ r)
 delete_at t Comma k p r = simp and_then_assoc
 delete_at t OpenBracket k p r = rw (← values_start r) (simp and_then_assoc)
 delete_at t CloseParen k p r = refl
@@ -145,15 +145,15 @@ delete_at t _ k p r = refl
 
 delete_rest : (t : Item) (ts : List Item)
     → and_then (read reads (Or (Map delete_all (mark CloseParen))
-        (Or (Then delete_keyed (mark OpenBracket) (Until (Until (Call Values) CloseBracket) CloseParen)) (Then delete_key (mark Comma) (Until value CloseParen)))) ts)
-        (λ f r1. Done (on_item t f) r1) ≡ delete_on (named t) (class_at ts) ts
+    (Or (Then delete_keyed (mark OpenBracket) (Until (Until (Call Values) CloseBracket) CloseParen)) (Then delete_key (mark Comma) (Until value CloseParen)))) ts)
+    (λ f r1. Done (on_item t f) r1) ≡ delete_on (named t) (class_at ts) ts
 delete_rest t [] = refl
 delete_rest t (u ∷ r) = delete_at t u.class u.kind u.place r
 
 delete_name : (ts : List Item)
     → read reads (Then on_item (Tok (is MapName)) (Or (Map delete_all (mark CloseParen))
-        (Or (Then delete_keyed (mark OpenBracket) (Until (Until (Call Values) CloseBracket) CloseParen)) (Then delete_key (mark Comma) (Until value CloseParen))))) ts
-      ≡ and_then (read reads (named_form MapName) ts) (λ n r. delete_on n (class_at r) r)
+    (Or (Then delete_keyed (mark OpenBracket) (Until (Until (Call Values) CloseBracket) CloseParen)) (Then delete_key (mark Comma) (Until value CloseParen))))) ts
+    ≡ and_then (read reads (named_form MapName) ts) (λ n r. delete_on n (class_at r) r)
 delete_name ts = and_then_same (read reads (Tok (is MapName)) ts) _ _ delete_rest ∙ sym (and_then_assoc (read reads (Tok (is MapName)) ts) (λ t r. Done (named t) r) (λ n r. delete_on n (class_at r) r))
 
 pub delete_is : (ts : List Item) → reads Delete ts ≡ delete_by ts

@@ -198,7 +198,7 @@ branches_by ts = reads Arm ts >>= λ a r. arms_on (a ∷ []) r
 abbrev pub arms_turn : List (Expr × Block) → List Item → Out StmtKind
 arms_turn arms ts = if starts (ends ElseWord) ts
     then (if starts (ends IfWord) (rest_of ts) then (reads Arm (rest_of (rest_of ts)) >>= λ a r. arms_on (arms ++ a ∷ []) r)
-        else (reads Braced (rest_of ts) >>= λ b r. Done (stmts.If arms (Some b)) r))
+    else (reads Braced (rest_of ts) >>= λ b r. Done (stmts.If arms (Some b)) r))
     else Done (stmts.If arms None) ts
 
 abbrev pub turns_by : List Item → Out ℤ

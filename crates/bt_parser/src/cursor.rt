@@ -17,7 +17,9 @@ use crate::class::{Class, Tier};
 use crate::fault::Fault;
 use crate::marks::mark_class;
 use crate::point::point_of;
-use crate::tables::{builtin_of, gathers, is_call, is_control, is_point, prefix_of, tier_of, update_of};
+use crate::tables::{
+    builtin_of, gathers, is_call, is_control, is_point, prefix_of, tier_of, update_of,
+};
 use crate::words::word_class;
 use bt_ast::expr::Builtin;
 use bt_ast::place::Place;
@@ -184,7 +186,10 @@ impl<'a> Cursor<'a> {
             [] => None,
             [token, rest @ ..] => {
                 let class = class_of(&token.kind);
-                when(joins(in_predicate, tier, class, begins_with_brace(rest)), class)
+                when(
+                    joins(in_predicate, tier, class, begins_with_brace(rest)),
+                    class,
+                )
             }
         }
     }

@@ -71,11 +71,7 @@ fn paren(alloc: Global, inner: Expr, place: Place) -> Result<Expr, Memory>
 
 /// An expression. In a predicate, outside its brackets, a `/` before a brace does not go on with it.
 #[cycle(expr)]
-pub fn expression(
-    alloc: Global,
-    tokens: &mut Cursor<'_>,
-    in_predicate: bool,
-) -> Result<Expr, Fault>
+pub fn expression(alloc: Global, tokens: &mut Cursor<'_>, in_predicate: bool) -> Result<Expr, Fault>
     ensures reads { Reads (reads (Expression in_predicate) (items tokens.old)) result tokens.new }
     ensures shorter { OnOk result (length tokens.new < length tokens.old) }
 {

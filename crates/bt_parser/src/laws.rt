@@ -12,5 +12,4 @@ pub fn one_answer()
     ensures fault { (tokens : List Item) (one other : ParseError) → IsRefusal tokens one → IsRefusal tokens other → one ≡ other }
     ensures apart { (tokens : List Item) (script : Script) (fault : ParseError) → IsAccepted tokens script → IsRefusal tokens fault → ⊥ }
     ensures begins { (tokens : List Item) (script : Script) → IsTreeOf tokens script → Begins tokens }
-{
-}
+{}

@@ -16,9 +16,9 @@ mod leaf;
 mod marks;
 mod nesting;
 pub mod parse;
+mod point;
 mod probe;
 mod script;
-mod point;
 mod simple;
 mod tables;
 #[cfg(test)]

@@ -35,9 +35,7 @@ fn begins_probe(tokens: &Cursor<'_>) -> bool
 {
     matches!(
         tokens.peek(),
-        Some(
-            Class::BeginWord | Class::EndWord | Class::TracepointPoint | Class::IntervalPoint
-        )
+        Some(Class::BeginWord | Class::EndWord | Class::TracepointPoint | Class::IntervalPoint)
     )
 }
 

@@ -18,12 +18,7 @@ use bt_ast::stmt::{Stmt, StmtKind};
 use std::alloc::Global;
 
 /// The statement of a `++` or `--` that stands at the place, before its target.
-fn step(
-    alloc: Global,
-    tokens: &mut Cursor<'_>,
-    plus: bool,
-    place: Place,
-) -> Result<Stmt, Fault>
+fn step(alloc: Global, tokens: &mut Cursor<'_>, plus: bool, place: Place) -> Result<Stmt, Fault>
     ensures reads { Reads (step_stmt_by plus place (items tokens.old)) result tokens.new }
     ensures shorter { OnOk result (length tokens.new < length tokens.old) }
 {

@@ -35,12 +35,27 @@ fn is_syntax(alloc: Global, text: &[u8], token: u32) -> Result<bool, Fail> {
 #[test]
 fn scripts_are_read(rt: HostRuntime) -> Result<(), Fail> {
     let alloc = rt.alloc();
-    assert!(rt; is_read(alloc, b"tracepoint:t:enter { @start[tid] = nsecs; } tracepoint:t:exit /@start[tid]/ { @ns = hist(nsecs - @start[tid]); delete(@start[tid]); }")?);
+    assert!(rt;
+        is_read(
+            alloc,
+            b"tracepoint:t:enter { @start[tid] = nsecs; } tracepoint:t:exit /@start[tid]/ { @ns = hist(nsecs - @start[tid]); delete(@start[tid]); }"
+        )?
+    );
     assert!(rt; is_read(alloc, b"BEGIN, END, t:a:b, i:hz:99 { }")?);
     assert!(rt; is_read(alloc, b"BEGIN / 1 ? 2 / 3 : 4 / { }")?);
     assert!(rt; is_read(alloc, b"BEGIN / (1 / 2) / { @x++; --$y; print(@x, 1, 2) }")?);
-    assert!(rt; is_read(alloc, b"END { if (1) { } else if (2) { return } else { } while (args.pid) { break; } unroll (3) { exit() } }")?);
-    assert!(rt; is_read(alloc, b"END { @ = lhist(args->if, 0, -1, 4); @m = max(1); printf(\"a\", comm, 2); delete(@m, 3); zero(@m) }")?);
+    assert!(rt;
+        is_read(
+            alloc,
+            b"END { if (1) { } else if (2) { return } else { } while (args.pid) { break; } unroll (3) { exit() } }"
+        )?
+    );
+    assert!(rt;
+        is_read(
+            alloc,
+            b"END { @ = lhist(args->if, 0, -1, 4); @m = max(1); printf(\"a\", comm, 2); delete(@m, 3); zero(@m) }"
+        )?
+    );
     one_answer();
     Ok(())
 }
@@ -112,10 +127,20 @@ fn is_grouped(script: &Script) -> bool {
     let StmtKind::Assign { value, .. } = &stmt.kind else {
         return false;
     };
-    let ExprKind::Binary { op: BinOp::Sub, left, right } = &value.kind else {
+    let ExprKind::Binary {
+        op: BinOp::Sub,
+        left,
+        right,
+    } = &value.kind
+    else {
         return false;
     };
-    let ExprKind::Binary { op: BinOp::Sub, left: first, right: product } = &left.get().kind else {
+    let ExprKind::Binary {
+        op: BinOp::Sub,
+        left: first,
+        right: product,
+    } = &left.get().kind
+    else {
         return false;
     };
     is_number(right.get(), 4)

@@ -308,7 +308,10 @@ fn each_statement_has_its_form(rt: HostRuntime) -> Result<(), Fail> {
         (b"return", "return"),
         (b"if (1) { }", "if"),
         (b"if (1) { if (2) { } } else { }", "if else"),
-        (b"if (1) { } else if (2) { } else if (3) { } else { }", "if 3 else"),
+        (
+            b"if (1) { } else if (2) { } else if (3) { } else { }",
+            "if 3 else",
+        ),
         (b"while (1) { }", "while"),
         (b"unroll (3) { }", "unroll 3"),
     ];
@@ -318,7 +321,8 @@ fn each_statement_has_its_form(rt: HostRuntime) -> Result<(), Fail> {
     Ok(())
 }
 
-const LATENCY: &[u8] = b"tracepoint:t:enter { @start[tid] = nsecs; } tracepoint:t:exit /@start[tid]/ { @ns = hist(nsecs - @start[tid]); delete(@start[tid]); }";
+const LATENCY: &[u8] =
+    b"tracepoint:t:enter { @start[tid] = nsecs; } tracepoint:t:exit /@start[tid]/ { @ns = hist(nsecs - @start[tid]); delete(@start[tid]); }";
 
 /// Whether a map is `@start[tid]` and stands at the column.
 fn is_start_of_tid(map: &MapRef, column: u32) -> bool {
