@@ -1,7 +1,15 @@
-//! The trees of scripts.
+//! The trees of scripts, their texts, and what their probes are attached to.
 #![tactic(auto)]
 
+pub mod attached;
 pub mod expr;
 pub mod place;
 pub mod probe;
 pub mod stmt;
+#[cfg(test)]
+mod tests;
+pub mod text;
+mod words;
+mod write_agg;
+mod write_expr;
+mod write_stmt;

@@ -1,0 +1,4 @@
+pub mod Words
+pub mod Exprs
+pub mod Stmts
+pub mod Scripts
