@@ -17,3 +17,5 @@ mod Scripts
 mod Examples
 mod Places
 mod DeepExample
+mod BareExprs
+mod BareStmts

@@ -12,3 +12,4 @@ pub mod Fine
 pub mod Weights
 pub mod Refusals
 pub mod Counts
+pub mod Bare
