@@ -19,3 +19,6 @@ mod Places
 mod DeepExample
 mod BareExprs
 mod BareStmts
+mod Lexemes
+mod LexemesKinds
+mod LexemesFixed
