@@ -22,3 +22,4 @@ mod BareStmts
 mod Lexemes
 mod LexemesKinds
 mod LexemesFixed
+mod CanonicalForms
