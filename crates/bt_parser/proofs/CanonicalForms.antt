@@ -7,8 +7,8 @@ use Rattle.bt_lexer.specs.declared.token.TokenKind.TheVariants as kinds
 use Rattle.bt_ast.specs.Words.{token}
 use Rattle.bt_ast.specs.declared.place.Place.{Place}
 use Rattle.bt_parser.specs.declared.class.Class.{Class}
-use Rattle.bt_parser.specs.declared.class.Class.TheVariants.{OpenParen, CloseParen, Comma}
-use Rattle.bt_parser.specs.Classes.{is}
+use Rattle.bt_parser.specs.declared.class.Class.TheVariants.{OpenParen, CloseParen, Comma, Dot}
+use Rattle.bt_parser.specs.Classes.{is, is_dot}
 use Rattle.bt_parser.specs.Form.{Item, brace_next, Part, Of, Form, Tok, Empty, Call, Map, Then, Or, Until, Op, Chain, Rel, links, whole}
 use Rattle.bt_parser.specs.Tokens.{class_of}
 use Rattle.bt_parser.specs.Trees.{pair, second, place_at}
@@ -217,6 +217,22 @@ module _ (R : Rel) where
           (c', (us1, us2, a', k, eu, w', l'), subst (λ (z : List ℕ). V c z c') (sym (written_append ks ls)) rc))
 
   -- ---- forms that the rules name
+
+  pub lift_as : {A : Type 0} {P : Form A} {V W : Back A} → Lift R P V → ((a b : A) (x : List ℕ) → V a x b → W a x b) → Lift R P W
+  lift_as {A} {P} {V} {W} p h = record { lift = go }
+    where
+      go : (ts : List Item) (a : A) → Honest ts → whole R P ts a → Again R P W a
+      go ts a honest w = let (ks, v, again) = p.lift ts a honest w in
+          (ks, v, λ us are. let (b, w', r) = again us are in (b, w', h a b (written ks) r))
+
+  -- `.` or `->`, which is written as `.`
+  pub lift_dot : Lift R (Tok is_dot) (λ t x u. x ≡ token (codes "."))
+  lift_dot = record { lift = go }
+    where
+      go : (ts : List Item) (a : Item) → Honest ts → whole R (Tok is_dot) ts a → Again R (Tok is_dot) (λ t x u. x ≡ token (codes ".")) a
+      go ts a h w = (kind_of Dot ∷ [], (fixed_valid Dot refl, tt), λ us are.
+          let (u, e, ek, ec) = one_item (kind_of Dot) us are in
+          (u, (e, ap is_dot ec), written_one (kind_of Dot)))
 
   pub lift_optional : {A : Type 0} {P : Form A} {V : Back A} → Lift R P V → Lift R (optional P) (Maybe V)
   lift_optional p = lift_or (lift_map p (λ a b x r. (b, refl, r))) (lift_empty None (refl, refl))

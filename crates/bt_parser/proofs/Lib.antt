@@ -23,3 +23,5 @@ mod Lexemes
 mod LexemesKinds
 mod LexemesFixed
 mod CanonicalForms
+mod CanonicalValues
+mod CanonicalExprs
