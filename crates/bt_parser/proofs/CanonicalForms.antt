@@ -69,10 +69,10 @@ Op-back p V a x b = (y : List ℕ) × (x ≡ lexeme (kind_of a.0.class) ++ y) ×
 
 -- ---- one item
 
-one_item : (k : TokenKind) (us : List Item) → Are (k ∷ []) us → (u : Item) × (us ≡ u ∷ []) × (u.kind ≡ k) × (u.class ≡ class_of k)
+pub one_item : (k : TokenKind) (us : List Item) → Are (k ∷ []) us → (u : Item) × (us ≡ u ∷ []) × (u.kind ≡ k) × (u.class ≡ class_of k)
 one_item k us (u, r, e, ek, ec, er) = (u, e ∙ ap (λ (z : List Item). u ∷ z) er, ek, ec)
 
-written_one : (k : TokenKind) → written (k ∷ []) ≡ lexeme k
+pub written_one : (k : TokenKind) → written (k ∷ []) ≡ lexeme k
 written_one k = append-nil (lexeme k)
 
 module _ (R : Rel) where

@@ -331,7 +331,7 @@ no_mark c m e h = false≢true (sym h ∙ (ap is_mark e ∙ mark_is_mark m))
 no_attach : (c : Class) (o : Option Point) → c ≡ point_class o → is_attach c ≡ false → ⊥
 no_attach c o e h = false≢true (sym h ∙ (ap is_attach e ∙ point_is_attach o))
 
-apart : (c d : Class) → c ≡ d → nat_eq (class_number c) (class_number d) ≡ false → ⊥
+pub apart : (c d : Class) → c ≡ d → nat_eq (class_number c) (class_number d) ≡ false → ⊥
 apart c d e h = false≢true (sym h ∙ (ap (λ (x : Class). nat_eq (class_number c) (class_number x)) (sym e) ∙ same (class_number c)))
   where
     same : (n : ℕ) → nat_eq n n ≡ true

@@ -25,3 +25,5 @@ mod LexemesFixed
 mod CanonicalForms
 mod CanonicalValues
 mod CanonicalExprs
+mod CanonicalNumbers
+mod CanonicalPoints
