@@ -159,7 +159,7 @@ prefix_case t u a b x y (ex, ec, q) (ey, eb) =
     (joined_by (ex ∙ step_lexeme t.class q) ey ∙ sym (step_expr_text a (is Increment t.class) true t.place t.place),
     steps_same a b t.class u.class true t.place t.place u.place u.place eb ec)
 
-map_targets : (m n : MapRef) → bare_map n ≡ bare_map m → bare_target (targets.Map n) ≡ bare_target (targets.Map m)
+pub map_targets : (m n : MapRef) → bare_map n ≡ bare_map m → bare_target (targets.Map n) ≡ bare_target (targets.Map m)
 map_targets m n e = map_target_bare n ∙ (ap targets.Map e ∙ sym (map_target_bare m))
 
 pub var_targets : (v w : VarRef) → bare_var w ≡ bare_var v → bare_target (targets.Var w) ≡ bare_target (targets.Var v)
@@ -227,7 +227,7 @@ snoc_case es fs e f x y (g, more, ees, ex, eb) (z, ey, (ez, ef)) =
     joined_by ex (ey ∙ ap (λ (l : List ℕ). token (codes ",") ++ l) ez) ∙ (append_assoc (expr_text g) (marked (codes ",") (map expr_text more)) (token (codes ",") ++ expr_text e) ∙ ap (λ (l : List ℕ). expr_text g ++ l) (sym (commas_snoc more e))),
     snoc_same bare_expr es fs e f eb ef)
 
-keys_case : (es fs : List Expr) (x : List ℕ) → Behind (token (codes "[")) (Before (token (codes "]")) IsValues) es x fs → IsKeys es x fs
+pub keys_case : (es fs : List Expr) (x : List ℕ) → Behind (token (codes "[")) (Before (token (codes "]")) IsValues) es x fs → IsKeys es x fs
 keys_case es fs x (y, ex, (z, ey, (e, more, ees, ez, eb))) =
     (ex ∙ (ap (λ (l : List ℕ). token (codes "[") ++ l) (ey ∙ joined_by ez refl) ∙ (sym (append_assoc (token (codes "[")) (expr_text e ++ marked (codes ",") (map expr_text more)) (token (codes "]")))
     ∙ ap (λ (l : List Expr). key_text (map expr_text l)) (sym ees))), eb)

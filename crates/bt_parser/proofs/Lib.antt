@@ -27,3 +27,7 @@ mod CanonicalValues
 mod CanonicalExprs
 mod CanonicalNumbers
 mod CanonicalPoints
+mod CanonicalStmts
+mod CanonicalBlocks
+mod CanonicalParts
+mod Back

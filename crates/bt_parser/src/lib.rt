@@ -4,3 +4,4 @@
 pub mod class;
 pub mod error;
 mod fault;
+pub mod read_back;
