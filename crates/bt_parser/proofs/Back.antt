@@ -9,7 +9,7 @@ use Rattle.bt_parser.specs.Form.{WholeScript}
 use Rattle.bt_parser.specs.Tokens.{items}
 use Rattle.bt_parser.specs.Grammar.{IsTreeOf}
 use Rattle.bt_parser.specs.Bare.{bare}
-use Rattle.bt_parser.proofs.Lexemes.{written, read_back, honest_tokens}
+use Rattle.bt_parser.proofs.Lexemes.{read_back, honest_tokens}
 use Rattle.bt_parser.proofs.CanonicalParts.{lift_part}
 
 abbrev script_of : List Probe → Script

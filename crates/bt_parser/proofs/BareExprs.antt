@@ -1,10 +1,10 @@
 -- The texts of expressions and their trees without places, a lemma a variant.
-use Rattle.std.proofs.Common.{◌≡◌, ◌++◌, ℕ, ℤ, Bool, cond, List, [], ◌∷◌, Option, Some, None, codes, map, option_map, refl, sym, ap, ◌∙◌}
+use Rattle.std.proofs.Common.{◌≡◌, ◌++◌, ℕ, ℤ, Bool, cond, List, codes, map, sym, ap, ◌∙◌}
 use Rattle.bt_core.specs.declared.operator.BinOp.{BinOp}
 use Rattle.bt_core.specs.declared.operator.UnOp.{UnOp}
 use Rattle.bt_ast.specs.declared.place.Place.{Place}
 use Rattle.bt_ast.specs.declared.expr.Builtin.{Builtin}
-use Rattle.bt_ast.specs.declared.expr.Expr.{Expr, roll-Expr, fold-roll-Expr}
+use Rattle.bt_ast.specs.declared.expr.Expr.{Expr, fold-roll-Expr}
 use Rattle.bt_ast.specs.declared.expr.ExprKind.{ExprKind, fold-roll-ExprKind}
 use Rattle.bt_ast.specs.declared.expr.ExprKind.TheVariants as exprs
 use Rattle.bt_ast.specs.declared.expr.ExprKind.TheOpen.{ExprKind-F, Target-F}

@@ -1,21 +1,14 @@
 -- The texts of statements and their trees without places, a lemma a variant.
-use Rattle.std.proofs.Common.{◌≡◌, ◌++◌, ℕ, ℤ, Bool, cond, List, [], ◌∷◌, Option, Some, None, codes, map, option_map, refl, sym, ap, ◌∙◌}
+use Rattle.std.proofs.Common.{◌≡◌, ◌++◌, ℕ, ℤ, List, [], ◌∷◌, Option, Some, None, codes, map, option_map, refl, sym, ap, ◌∙◌}
 use Rattle.bt_core.specs.declared.operator.BinOp.{BinOp}
-use Rattle.bt_core.specs.declared.operator.UnOp.{UnOp}
 use Rattle.bt_ast.specs.declared.place.Place.{Place}
-use Rattle.bt_ast.specs.declared.expr.Builtin.{Builtin}
-use Rattle.bt_ast.specs.declared.expr.Expr.{Expr, roll-Expr, fold-roll-Expr}
-use Rattle.bt_ast.specs.declared.expr.ExprKind.{ExprKind, fold-roll-ExprKind}
-use Rattle.bt_ast.specs.declared.expr.ExprKind.TheVariants as exprs
-use Rattle.bt_ast.specs.declared.expr.ExprKind.TheOpen.{ExprKind-F, Target-F}
-use Rattle.bt_ast.specs.declared.expr.MapRef.{MapRef, roll-MapRef, fold-roll-MapRef}
-use Rattle.bt_ast.specs.declared.expr.VarRef.{VarRef}
-use Rattle.bt_ast.specs.declared.expr.IncDec.{IncDec, roll-IncDec, fold-roll-IncDec}
-use Rattle.bt_ast.specs.declared.expr.Target.{Target, fold-roll-Target}
-use Rattle.bt_ast.specs.declared.expr.Target.TheVariants as targets
+use Rattle.bt_ast.specs.declared.expr.Expr.{Expr}
+use Rattle.bt_ast.specs.declared.expr.MapRef.{MapRef}
+use Rattle.bt_ast.specs.declared.expr.IncDec.{IncDec}
+use Rattle.bt_ast.specs.declared.expr.Target.{Target}
 use Rattle.bt_ast.specs.declared.stmt.AggCall.{AggCall}
 use Rattle.bt_ast.specs.declared.stmt.Block.{Block, roll-Block, fold-roll-Block}
-use Rattle.bt_ast.specs.declared.stmt.Stmt.{Stmt, roll-Stmt, fold-roll-Stmt}
+use Rattle.bt_ast.specs.declared.stmt.Stmt.{Stmt, fold-roll-Stmt}
 use Rattle.bt_ast.specs.declared.stmt.StmtKind.{StmtKind, fold-roll-StmtKind}
 use Rattle.bt_ast.specs.declared.stmt.StmtKind.TheVariants as stmts
 use Rattle.bt_ast.specs.declared.stmt.StmtKind.TheOpen.{StmtKind-F}

@@ -1,20 +1,19 @@
 -- What a form was read of can be written again: by the forms.
-use Rattle.std.proofs.Common.{◌≡◌, ℕ, zero, suc, Bool, true, false, List, [], ◌∷◌, ◌++◌, Option, Some, None, refl, ap, sym, subst, ◌∙◌, inl, inr, append_assoc}
-use Rattle.std.specs.Prelude.{◌⊎◌, codes}
+use Rattle.std.proofs.Common.{◌≡◌, ℕ, zero, suc, Bool, true, List, [], ◌∷◌, ◌++◌, Option, Some, None, refl, ap, sym, subst, ◌∙◌, inl, inr, append_assoc}
+use Rattle.std.specs.Prelude.{codes}
 use Rattle.std.proofs.lemmas.List.{append-nil}
 use Rattle.bt_lexer.specs.declared.token.TokenKind.{TokenKind}
-use Rattle.bt_lexer.specs.declared.token.TokenKind.TheVariants as kinds
 use Rattle.bt_ast.specs.Words.{token}
 use Rattle.bt_ast.specs.declared.place.Place.{Place}
 use Rattle.bt_parser.specs.declared.class.Class.{Class}
 use Rattle.bt_parser.specs.declared.class.Class.TheVariants.{OpenParen, CloseParen, Comma, Dot}
-use Rattle.bt_parser.specs.Classes.{is, is_dot}
-use Rattle.bt_parser.specs.Form.{Item, brace_next, Part, Of, Form, Tok, Empty, Call, Map, Then, Or, Until, Op, Chain, Rel, links, whole}
+use Rattle.bt_parser.specs.Classes.{is_dot}
+use Rattle.bt_parser.specs.Form.{Item, brace_next, Form, Tok, Empty, Map, Then, Or, Until, Op, Chain, Rel, links, whole}
 use Rattle.bt_parser.specs.Tokens.{class_of}
-use Rattle.bt_parser.specs.Trees.{pair, second, place_at}
+use Rattle.bt_parser.specs.Trees.{pair, second}
 use Rattle.bt_parser.specs.Rules.{mark, optional, in_parens, after_comma}
-use Rattle.bt_parser.proofs.AllClasses.{is_same, is_refl}
-use Rattle.bt_parser.proofs.Lexemes.{spelled, lexeme, written, written_append, Sound, Valid, AllValid, valid_append, Honest, honest_front, honest_back, Are, are_split}
+use Rattle.bt_parser.proofs.AllClasses.{is_refl}
+use Rattle.bt_parser.proofs.Lexemes.{lexeme, written, written_append, AllValid, valid_append, Honest, honest_front, honest_back, Are, are_split}
 use Rattle.bt_parser.proofs.LexemesKinds.{sound_valid}
 use Rattle.bt_parser.proofs.LexemesFixed.{kind_of, is_fixed, fixed_class, fixed_valid}
 
@@ -80,10 +79,14 @@ module _ (R : Rel) where
   lift_kept p = record { lift = go }
     where
       again : (t : Item) → Honest (t ∷ []) → p t.class ≡ true → Again R (Tok p) (Kept p) t
-      again t h q = (t.kind ∷ [], (sound_valid t.kind h.1, tt), λ us are.
-          let (u, e, ek, ec) = one_item t.kind us are in
-          let same : u.class ≡ t.class = ec ∙ sym h.0 in
-          (u, (e, ap p same ∙ q), (written_one t.kind, ek, same, h.0, q)))
+      again t h q = (
+        t.kind ∷ [],
+        (sound_valid t.kind h.1, tt),
+        λ us are.
+            let (u, e, ek, ec) = one_item t.kind us are in
+            let same : u.class ≡ t.class = ec ∙ sym h.0 in
+            (u, (e, ap p same ∙ q), (written_one t.kind, ek, same, h.0, q)),
+      )
 
       go : (ts : List Item) (a : Item) → Honest ts → whole R (Tok p) ts a → Again R (Tok p) (Kept p) a
       go ts a h (e, q) = again a (subst Honest e h) q
@@ -92,20 +95,27 @@ module _ (R : Rel) where
   lift_fixed p all = record { lift = go }
     where
       go : (ts : List Item) (a : Item) → Honest ts → whole R (Tok p) ts a → Again R (Tok p) (Fixed p) a
-      go ts a h (e, q) = let f = all a.class q in
-          (kind_of a.class ∷ [], (fixed_valid a.class f, tt), λ us are.
-          let (u, e', ek, ec) = one_item (kind_of a.class) us are in
-          let same : u.class ≡ a.class = ec ∙ fixed_class a.class f in
-          (u, (e', ap p same ∙ q), (written_one (kind_of a.class), same, q)))
+      go ts a h (e, q) = let f = all a.class q in (
+        kind_of a.class ∷ [],
+        (fixed_valid a.class f, tt),
+        λ us are.
+            let (u, e', ek, ec) = one_item (kind_of a.class) us are in
+            let same : u.class ≡ a.class = ec ∙ fixed_class a.class f in
+            (u, (e', ap p same ∙ q), (written_one (kind_of a.class), same, q)),
+      )
 
   -- a token of the class, for its place
   pub lift_mark : (c : Class) → is_fixed c ≡ true → Lift R (mark c) (Marked (lexeme (kind_of c)))
   lift_mark c f = record { lift = go }
     where
       go : (ts : List Item) (a : Place) → Honest ts → whole R (mark c) ts a → Again R (mark c) (Marked (lexeme (kind_of c))) a
-      go ts a h w = (kind_of c ∷ [], (fixed_valid c f, tt), λ us are.
-          let (u, e, ek, ec) = one_item (kind_of c) us are in
-          (u.place, (u, refl, (e, is_refl c u.class (ec ∙ fixed_class c f))), written_one (kind_of c)))
+      go ts a h w = (
+        kind_of c ∷ [],
+        (fixed_valid c f, tt),
+        λ us are.
+            let (u, e, ek, ec) = one_item (kind_of c) us are in
+            (u.place, (u, refl, (e, is_refl c u.class (ec ∙ fixed_class c f))), written_one (kind_of c)),
+      )
 
   -- ---- forms of forms
 
@@ -120,9 +130,12 @@ module _ (R : Rel) where
   lift_map {A} {B} {f} {P} {V} {W} p step = record { lift = go }
     where
       go : (ts : List Item) (c : B) → Honest ts → whole R (Map f P) ts c → Again R (Map f P) W c
-      go ts c h (a, e, w) = let (ks, v, again) = p.lift ts a h w in
-          (ks, v, λ us are. let (b, w', r) = again us are in
-          (f b, (b, refl, w'), subst (λ (z : B). W z (written ks) (f b)) (sym e) (step a b (written ks) r)))
+      go ts c h (a, e, w) = let (ks, v, again) = p.lift ts a h w in (
+        ks,
+        v,
+        λ us are. let (b, w', r) = again us are in
+            (f b, (b, refl, w'), subst (λ (z : B). W z (written ks) (f b)) (sym e) (step a b (written ks) r)),
+      )
 
   pub lift_then : {A B C : Type 0} {f : A → B → C} {P : Form A} {Q : Form B} {V : Back A} {W : Back B} {X : Back C} → Lift R P V → Lift R Q W
       → ((a a' : A) (b b' : B) (x y : List ℕ) → V a x a' → W b y b' → X (f a b) (x ++ y) (f a' b')) → Lift R (Then f P Q) X
@@ -132,14 +145,19 @@ module _ (R : Rel) where
       go ts c h (xs, ys, a, b, e, ec, wa, wb) =
           let h' : Honest (xs ++ ys) = subst Honest e h in
           let (ks, v, again) = p.lift xs a (honest_front xs ys h') wa in
-          let (ls, v', again') = q.lift ys b (honest_back xs ys h') wb in
-          (ks ++ ls, valid_append ks ls v v', λ us are.
-          let (us1, us2, eu, are1, are2) = are_split ks ls us are in
-          let (a', wa', ra) = again us1 are1 in
-          let (b', wb', rb) = again' us2 are2 in
-          (f a' b', (us1, us2, a', b', eu, refl, wa', wb'),
-          subst (λ (z : C). X z (written (ks ++ ls)) (f a' b')) (sym ec)
-          (subst (λ (z : List ℕ). X (f a b) z (f a' b')) (sym (written_append ks ls)) (step a a' b b' (written ks) (written ls) ra rb))))
+          let (ls, v', again') = q.lift ys b (honest_back xs ys h') wb in (
+            ks ++ ls,
+            valid_append ks ls v v',
+            λ us are.
+                let (us1, us2, eu, are1, are2) = are_split ks ls us are in
+                let (a', wa', ra) = again us1 are1 in
+                let (b', wb', rb) = again' us2 are2 in (
+                  f a' b',
+                  (us1, us2, a', b', eu, refl, wa', wb'),
+                  subst (λ (z : C). X z (written (ks ++ ls)) (f a' b')) (sym ec)
+                      (subst (λ (z : List ℕ). X (f a b) z (f a' b')) (sym (written_append ks ls)) (step a a' b b' (written ks) (written ls) ra rb)),
+                ),
+          )
 
   pub lift_or : {A : Type 0} {P Q : Form A} {V : Back A} → Lift R P V → Lift R Q V → Lift R (Or P Q) V
   lift_or {A} {P} {Q} {V} p q = record { lift = go }
@@ -155,13 +173,18 @@ module _ (R : Rel) where
     where
       go : (ts : List Item) (a : A) → Honest ts → whole R (Until P c) ts a → Again R (Until P c) (Before (lexeme (kind_of c)) V) a
       go ts a h (xs, t, e, ec, w) =
-          let (ks, v, again) = p.lift xs a (honest_front xs (t ∷ []) (subst Honest e h)) w in
-          (ks ++ kind_of c ∷ [], valid_append ks (kind_of c ∷ []) v (fixed_valid c f, tt), λ us are.
-          let (us1, us2, eu, are1, are2) = are_split ks (kind_of c ∷ []) us are in
-          let (b, w', r) = again us1 are1 in
-          let (u, e', ek, ec') = one_item (kind_of c) us2 are2 in
-          (b, (us1, u, eu ∙ ap (λ (z : List Item). us1 ++ z) e', ec' ∙ fixed_class c f, w'),
-          (written ks, written_append ks (kind_of c ∷ []) ∙ ap (λ (z : List ℕ). written ks ++ z) (written_one (kind_of c)), r)))
+          let (ks, v, again) = p.lift xs a (honest_front xs (t ∷ []) (subst Honest e h)) w in (
+            ks ++ kind_of c ∷ [],
+            valid_append ks (kind_of c ∷ []) v (fixed_valid c f, tt),
+            λ us are.
+                let (us1, us2, eu, are1, are2) = are_split ks (kind_of c ∷ []) us are in
+                let (b, w', r) = again us1 are1 in
+                let (u, e', ek, ec') = one_item (kind_of c) us2 are2 in (
+                  b,
+                  (us1, u, eu ∙ ap (λ (z : List Item). us1 ++ z) e', ec' ∙ fixed_class c f, w'),
+                  (written ks, written_append ks (kind_of c ∷ []) ∙ ap (λ (z : List ℕ). written ks ++ z) (written_one (kind_of c)), r),
+                ),
+          )
 
   -- an operator that may depend on whether a brace comes next, where no brace does in what is read again
   pub lift_op : {B : Type 0} {g : Class → Bool → Bool} {Q : Form B} {V : Back B} (p : Class → Bool) → ((c : Class) (b : Bool) → g c b ≡ true → p c ≡ true)
@@ -173,13 +196,18 @@ module _ (R : Rel) where
       go ts a h (us, e, hg, w) =
           let (ks, v, again) = q.lift us a.1 (honest_back (a.0 ∷ []) us (subst Honest e h)) w in
           let pc : p a.0.class ≡ true = some a.0.class (brace_next us) hg in
-          let f : is_fixed a.0.class ≡ true = all a.0.class pc in
-          (kind_of a.0.class ∷ ks, (fixed_valid a.0.class f, v), λ us' are.
-          let (u, r, eu, ek, ec, are') = are in
-          let (b, w', rb) = again r are' in
-          let same : u.class ≡ a.0.class = ec ∙ fixed_class a.0.class f in
-          ((u, b), (r, eu, ap (λ (z : Class). g z (brace_next r)) same ∙ still a.0.class (brace_next us) r b hg w', w'),
-          (written ks, refl, same, pc, rb)))
+          let f : is_fixed a.0.class ≡ true = all a.0.class pc in (
+            kind_of a.0.class ∷ ks,
+            (fixed_valid a.0.class f, v),
+            λ us' are.
+                let (u, r, eu, ek, ec, are') = are in
+                let (b, w', rb) = again r are' in
+                let same : u.class ≡ a.0.class = ec ∙ fixed_class a.0.class f in (
+                  (u, b),
+                  (r, eu, ap (λ (z : Class). g z (brace_next r)) same ∙ still a.0.class (brace_next us) r b hg w', w'),
+                  (written ks, refl, same, pc, rb),
+                ),
+          )
 
   -- ---- repetitions
 
@@ -189,17 +217,24 @@ module _ (R : Rel) where
   lift_links : {A B : Type 0} (f : A → B → A) (Q : Form B) (V : Back A) (W : Back B) → Lift R Q W
       → ((a a' : A) (b b' : B) (x y : List ℕ) → V a x a' → W b y b' → V (f a b) (x ++ y) (f a' b'))
       → (k : ℕ) (ts : List Item) (a c : A) → Honest ts → links f (whole R Q) k a ts c → Links f Q V k a c
-  lift_links {A = A} f Q V W q step zero ts a c h (e, e') = ([], tt, λ us a' x are r.
-      (a', (are, refl), subst (λ (z : A). V z (x ++ []) a') (sym e') (subst (λ (z : List ℕ). V a z a') (sym (append-nil x)) r)))
+  lift_links {A = A} f Q V W q step zero ts a c h (e, e') = (
+    [],
+    tt,
+    λ us a' x are r.
+        (a', (are, refl), subst (λ (z : A). V z (x ++ []) a') (sym e') (subst (λ (z : List ℕ). V a z a') (sym (append-nil x)) r)),
+  )
   lift_links f Q V W q step (suc k) ts a c h (us, vs, b, e, w, l) =
       let h' : Honest (us ++ vs) = subst Honest e h in
       let (ks, v, again) = q.lift us b (honest_front us vs h') w in
-      let (ls, v', again') = lift_links f Q V W q step k vs (f a b) c (honest_back us vs h') l in
-      (ks ++ ls, valid_append ks ls v v', λ ts' a' x are r.
-      let (us1, us2, eu, are1, are2) = are_split ks ls ts' are in
-      let (b', w', rb) = again us1 are1 in
-      let (c', l', rc) = again' us2 (f a' b') (x ++ written ks) are2 (step a a' b b' x (written ks) r rb) in
-      (c', (us1, us2, b', eu, w', l'), subst (λ (z : List ℕ). V c z c') (append_assoc x (written ks) (written ls) ∙ ap (λ (z : List ℕ). x ++ z) (sym (written_append ks ls))) rc))
+      let (ls, v', again') = lift_links f Q V W q step k vs (f a b) c (honest_back us vs h') l in (
+        ks ++ ls,
+        valid_append ks ls v v',
+        λ ts' a' x are r.
+            let (us1, us2, eu, are1, are2) = are_split ks ls ts' are in
+            let (b', w', rb) = again us1 are1 in
+            let (c', l', rc) = again' us2 (f a' b') (x ++ written ks) are2 (step a a' b b' x (written ks) r rb) in
+            (c', (us1, us2, b', eu, w', l'), subst (λ (z : List ℕ). V c z c') (append_assoc x (written ks) (written ls) ∙ ap (λ (z : List ℕ). x ++ z) (sym (written_append ks ls))) rc),
+      )
 
   pub lift_chain : {A B : Type 0} {f : A → B → A} {P : Form A} {Q : Form B} {V : Back A} {W : Back B} → Lift R P V → Lift R Q W
       → ((a a' : A) (b b' : B) (x y : List ℕ) → V a x a' → W b y b' → V (f a b) (x ++ y) (f a' b')) → Lift R (Chain f P Q) V
@@ -209,12 +244,15 @@ module _ (R : Rel) where
       go ts c h (xs, ys, a, k, e, w, l) =
           let h' : Honest (xs ++ ys) = subst Honest e h in
           let (ks, v, again) = p.lift xs a (honest_front xs ys h') w in
-          let (ls, v', again') = lift_links f Q V W q step k ys a c (honest_back xs ys h') l in
-          (ks ++ ls, valid_append ks ls v v', λ us are.
-          let (us1, us2, eu, are1, are2) = are_split ks ls us are in
-          let (a', w', ra) = again us1 are1 in
-          let (c', l', rc) = again' us2 a' (written ks) are2 ra in
-          (c', (us1, us2, a', k, eu, w', l'), subst (λ (z : List ℕ). V c z c') (sym (written_append ks ls)) rc))
+          let (ls, v', again') = lift_links f Q V W q step k ys a c (honest_back xs ys h') l in (
+            ks ++ ls,
+            valid_append ks ls v v',
+            λ us are.
+                let (us1, us2, eu, are1, are2) = are_split ks ls us are in
+                let (a', w', ra) = again us1 are1 in
+                let (c', l', rc) = again' us2 a' (written ks) are2 ra in
+                (c', (us1, us2, a', k, eu, w', l'), subst (λ (z : List ℕ). V c z c') (sym (written_append ks ls)) rc),
+          )
 
   -- ---- forms that the rules name
 
@@ -230,9 +268,13 @@ module _ (R : Rel) where
   lift_dot = record { lift = go }
     where
       go : (ts : List Item) (a : Item) → Honest ts → whole R (Tok is_dot) ts a → Again R (Tok is_dot) (λ t x u. x ≡ token (codes ".")) a
-      go ts a h w = (kind_of Dot ∷ [], (fixed_valid Dot refl, tt), λ us are.
-          let (u, e, ek, ec) = one_item (kind_of Dot) us are in
-          (u, (e, ap is_dot ec), written_one (kind_of Dot)))
+      go ts a h w = (
+        kind_of Dot ∷ [],
+        (fixed_valid Dot refl, tt),
+        λ us are.
+            let (u, e, ek, ec) = one_item (kind_of Dot) us are in
+            (u, (e, ap is_dot ec), written_one (kind_of Dot)),
+      )
 
   pub lift_optional : {A : Type 0} {P : Form A} {V : Back A} → Lift R P V → Lift R (optional P) (Maybe V)
   lift_optional p = lift_or (lift_map p (λ a b x r. (b, refl, r))) (lift_empty None (refl, refl))

@@ -6,22 +6,19 @@ use Rattle.std.proofs.Math.Nat.{mod-eq_of_lt, mod-lt}
 use Rattle.std.proofs.Math.Facts.{to_z-neg}
 use Rattle.std.proofs.lemmas.Int.{of_z-to_z, to_z_pos}
 use Rattle.std.proofs.lemmas.Bool.Decides.{nat_tests}
-use Rattle.std.proofs.lemmas.List.{append-nil}
-use Rattle.bt_lexer.specs.declared.token.TokenKind.{TokenKind}
 use Rattle.bt_lexer.specs.declared.token.TokenKind.TheVariants as kinds
 use Rattle.bt_lexer.specs.Numbers.{signed}
-use Rattle.bt_ast.specs.Words.{token, signed_text, number_text}
+use Rattle.bt_ast.specs.Words.{token, number_text}
 use Rattle.bt_parser.specs.declared.class.Class.TheVariants.{NumberLiteral, Minus}
 use Rattle.bt_parser.specs.Classes.{is}
-use Rattle.bt_parser.specs.Form.{Item, Int, Tok, Rel, whole}
-use Rattle.bt_parser.specs.Tokens.{class_of}
+use Rattle.bt_parser.specs.Form.{Item, Int, Rel, whole}
 use Rattle.bt_parser.specs.Trees.{kind_number, number_at, negated}
 use Rattle.bt_parser.specs.Rules.{rule, a_number}
 use Rattle.bt_parser.proofs.AllClasses.{is_same, is_refl}
-use Rattle.bt_parser.proofs.Lexemes.{lexeme, written, Sound, Valid, Honest, Are, are_split}
+use Rattle.bt_parser.proofs.Lexemes.{Sound, Valid, Honest}
 use Rattle.bt_parser.proofs.LexemesKinds.{sound_valid, decimal_writes}
 use Rattle.bt_parser.proofs.LexemesFixed.{kind_of, fixed_valid, number_kind}
-use Rattle.bt_parser.proofs.CanonicalForms.{Back, Lift, Again, Kept, lift_kept, lift_map, one_item, written_one}
+use Rattle.bt_parser.proofs.CanonicalForms.{Lift, Again, lift_kept, lift_map, one_item, written_one}
 use Rattle.bt_parser.proofs.CanonicalValues.{IsInt}
 use Rattle.bt_parser.proofs.CanonicalExprs.{number_lexeme}
 
@@ -65,17 +62,32 @@ number_range t h q = let k = number_kind t.kind (sym (is_same NumberLiteral t.cl
 
 module _ (R : Rel) where
   int_again : (n : ℤ) → InRange n → Again R (rule Int) IsInt n
-  int_again (pos k) h = (kinds.Number (pos k) ∷ [], (subst (λ (z : ℤ). Valid (kinds.Number z)) (pos_signed k h) (number_valid k (omega arith)), tt), λ us are.
-      let (u, e, ek, ec) = one_item (kinds.Number (pos k)) us are in
-      (pos k, inl (u, sym (ap kind_number ek), (e, is_refl NumberLiteral u.class ec)),
-      (written_one (kinds.Number (pos k)) ∙ ap (λ (m : ℕ). token (decimal m)) (pos_bits k h), refl)))
-  int_again (negsuc k) h = (kind_of Minus ∷ (kinds.Number (signed (k + 1)) ∷ []), (fixed_valid Minus refl, (number_valid (k + 1) (omega arith), tt)), λ us are.
-      let (u, r, e, ek, ec, are') = are in
-      let (v, e', ek', ec') = one_item (kinds.Number (signed (k + 1))) r are' in
-      let is_v : number_at v ≡ signed (k + 1) = ap kind_number ek' in
-      (negsuc k, inr (number_at v, sym (ap negated is_v ∙ neg_negated k h),
-      (u ∷ [], v ∷ [], u.place, number_at v, e ∙ ap (λ (z : List Item). u ∷ z) e', refl, (u, refl, (refl, is_refl Minus u.class ec)), (v, refl, (refl, is_refl NumberLiteral v.class ec')))),
-      (ap (λ (z : List ℕ). token (codes "-") ++ z) (written_one (kinds.Number (signed (k + 1))) ∙ ap (λ (m : ℕ). token (decimal m)) (of_z-to_z w64 (k + 1) (omega arith))), refl)))
+  int_again (pos k) h = (
+    kinds.Number (pos k) ∷ [],
+    (subst (λ (z : ℤ). Valid (kinds.Number z)) (pos_signed k h) (number_valid k (omega arith)), tt),
+    λ us are.
+        let (u, e, ek, ec) = one_item (kinds.Number (pos k)) us are in (
+          pos k,
+          inl (u, sym (ap kind_number ek), (e, is_refl NumberLiteral u.class ec)),
+          (written_one (kinds.Number (pos k)) ∙ ap (λ (m : ℕ). token (decimal m)) (pos_bits k h), refl),
+        ),
+  )
+  int_again (negsuc k) h = (
+    kind_of Minus ∷ (kinds.Number (signed (k + 1)) ∷ []),
+    (fixed_valid Minus refl, (number_valid (k + 1) (omega arith), tt)),
+    λ us are.
+        let (u, r, e, ek, ec, are') = are in
+        let (v, e', ek', ec') = one_item (kinds.Number (signed (k + 1))) r are' in
+        let is_v : number_at v ≡ signed (k + 1) = ap kind_number ek' in (
+          negsuc k,
+          inr (
+            number_at v,
+            sym (ap negated is_v ∙ neg_negated k h),
+            (u ∷ [], v ∷ [], u.place, number_at v, e ∙ ap (λ (z : List Item). u ∷ z) e', refl, (u, refl, (refl, is_refl Minus u.class ec)), (v, refl, (refl, is_refl NumberLiteral v.class ec'))),
+          ),
+          (ap (λ (z : List ℕ). token (codes "-") ++ z) (written_one (kinds.Number (signed (k + 1))) ∙ ap (λ (m : ℕ). token (decimal m)) (of_z-to_z w64 (k + 1) (omega arith))), refl),
+        ),
+  )
 
   pub lift_Int : Lift R (rule Int) IsInt
   lift_Int = record { lift = go }

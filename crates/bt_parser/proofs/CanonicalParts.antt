@@ -1,33 +1,30 @@
 -- What a probe and a script were read of can be written again.
-use Rattle.std.proofs.Common.{◌≡◌, ℕ, zero, suc, Bool, true, false, not, ◌&&◌, List, [], ◌∷◌, ◌++◌, Option, Some, None, refl, ap, sym, subst, ◌∙◌, inl, inr, append_assoc}
+use Rattle.std.proofs.Common.{◌≡◌, ℕ, zero, suc, Bool, true, false, not, List, [], ◌∷◌, ◌++◌, Option, Some, None, refl, ap, sym, ◌∙◌, inl, inr, append_assoc}
 use Rattle.std.specs.Prelude.{codes, map, option_map}
 use Rattle.std.proofs.lemmas.List.{append-nil}
-use Rattle.bt_ast.specs.declared.place.Place.{Place}
 use Rattle.bt_ast.specs.declared.expr.Expr.{Expr}
 use Rattle.bt_ast.specs.declared.stmt.Block.{Block}
 use Rattle.bt_ast.specs.declared.stmt.Stmt.{Stmt}
 use Rattle.bt_ast.specs.declared.probe.Point.{Point}
 use Rattle.bt_ast.specs.declared.probe.Probe.{Probe}
-use Rattle.bt_ast.specs.Words.{token, ending}
-use Rattle.bt_ast.specs.Exprs.{expr_text}
-use Rattle.bt_ast.specs.Stmts.{joined, block_text}
-use Rattle.bt_ast.specs.Scripts.{point_text, points_text, predicate_text, probe_text}
+use Rattle.bt_ast.specs.Words.{token}
+use Rattle.bt_ast.specs.Stmts.{joined}
+use Rattle.bt_ast.specs.Scripts.{points_text, predicate_text, probe_text}
 use Rattle.bt_parser.specs.declared.class.Class.{Class}
-use Rattle.bt_parser.specs.declared.class.Class.TheVariants.{OpenBrace, CloseBrace, Slash}
+use Rattle.bt_parser.specs.declared.class.Class.TheVariants.{CloseBrace, Slash}
 use Rattle.bt_parser.specs.declared.class.Tier.{Tier}
 use Rattle.bt_parser.specs.declared.class.Tier.TheVariants.{Products, Sums, Shifts, Orders, Equalities, BitAnds, BitXors, BitOrs, AndThens, OrElses}
-use Rattle.bt_parser.specs.Classes.{is}
 use Rattle.bt_parser.specs.Form.{Item, is_brace, brace_next, Part, Primary, Unary, Level, Expression, Values, Keyed, Assignable, Int, Aggregation, Update, AfterMap, AfterVar, Printf, Print, Delete, CallOrJump, Simple, Arm, Tail, Control, Body, Braced, Points, OneProbe, WholeScript, Of, Call, Rel, whole}
 use Rattle.bt_parser.specs.Tokens.{origin}
-use Rattle.bt_parser.specs.Trees.{single, snoc, with_points, probe_of, nothing}
+use Rattle.bt_parser.specs.Trees.{single, snoc, with_points, probe_of}
 use Rattle.bt_parser.specs.Rules.{rule, operand}
 use Rattle.bt_parser.specs.Tables.{fst_of}
 use Rattle.bt_parser.specs.Grammar.{whole_at}
-use Rattle.bt_parser.specs.Bare.{bare_expr, bare_block, bare_point, bare_probe}
+use Rattle.bt_parser.specs.Bare.{bare_expr, bare_point, bare_probe}
 use Rattle.bt_parser.proofs.AllClasses.{implies1, is_refl}
 use Rattle.bt_parser.proofs.Depth.{first_at}
 use Rattle.bt_parser.proofs.Lexemes.{Honest}
-use Rattle.bt_parser.proofs.CanonicalForms.{Back, Lift, Again, Before, Behind, Maybe, lift_map, lift_then, lift_or, lift_until, lift_chain, lift_as, lift_optional, lift_second}
+use Rattle.bt_parser.proofs.CanonicalForms.{Back, Lift, Again, Before, Behind, Maybe, lift_map, lift_then, lift_until, lift_chain, lift_as, lift_optional, lift_second}
 use Rattle.bt_parser.proofs.CanonicalValues.{IsExpr, IsBody, IsBlock, IsPoints, IsProbe, IsProbes, Value}
 use Rattle.bt_parser.proofs.CanonicalExprs.{joined_by, snoc_same, lift_Primary, lift_Unary, lift_Level, lift_Expression, lift_Values, lift_Keyed, lift_Assignable}
 use Rattle.bt_parser.proofs.CanonicalNumbers.{lift_Int}

@@ -1,6 +1,6 @@
 -- What a probe's points were read of can be written again, with the long words.
-use Rattle.std.proofs.Common.{◌≡◌, ℕ, ◌+◌, ◌^◌, ◌<◌, Bool, true, false, cond, ◌||◌, ◌&&◌, List, [], ◌∷◌, ◌++◌, length, Option, Some, None, refl, ap, sym, subst, ◌∙◌, inl, inr, arith}
-use Rattle.std.specs.Prelude.{codes, decimal, map, nat_lt, ◌==◌, ◌⊎◌, All}
+use Rattle.std.proofs.Common.{◌≡◌, ℕ, ◌^◌, ◌<◌, Bool, true, false, cond, ◌&&◌, List, [], ◌∷◌, ◌++◌, length, Option, Some, None, refl, ap, sym, subst, ◌∙◌, inl, inr, arith}
+use Rattle.std.specs.Prelude.{codes, decimal, nat_lt, ◌==◌, ◌⊎◌}
 use Rattle.std.specs.Char.{digit_value}
 use Rattle.std.specs.List.{slice_split, list_all, AllByRecursion}
 use Rattle.std.specs.Str.Parse.{AllDigits, digits_value}
@@ -12,7 +12,7 @@ use Rattle.std.proofs.lemmas.List.Elements.{All-from_recursion}
 use Rattle.std.proofs.lemmas.List.Splits.{slice_split_at, slice_split_none}
 use Rattle.std.proofs.Common.{append_assoc}
 use Rattle.bt_lexer.specs.Bytes.{is_digit, is_attach_byte, Every}
-use Rattle.bt_lexer.specs.Words.{IsAttach, IsAttachWord}
+use Rattle.bt_lexer.specs.Words.{IsAttachWord}
 use Rattle.bt_lexer.specs.declared.token.TokenKind.{TokenKind}
 use Rattle.bt_lexer.specs.declared.token.TokenKind.TheVariants as kinds
 use Rattle.bt_ast.specs.declared.place.Place.{Place}
@@ -34,7 +34,7 @@ use Rattle.bt_parser.specs.Bare.{bare_point}
 use Rattle.bt_parser.proofs.AllClasses.{and_first, and_second}
 use Rattle.bt_parser.proofs.Lexemes.{lexeme, Valid, Honest}
 use Rattle.bt_parser.proofs.LexemesFixed.{kind_of, fixed_valid, tracepoint_kind, interval_kind, apart}
-use Rattle.bt_parser.proofs.CanonicalForms.{Back, Lift, Again, Behind, one_item, written_one, lift_map, lift_chain, lift_comma}
+use Rattle.bt_parser.proofs.CanonicalForms.{Lift, Again, Behind, one_item, lift_map, lift_chain, lift_comma}
 use Rattle.bt_parser.proofs.CanonicalValues.{IsPoint, IsPoints}
 use Rattle.bt_parser.proofs.CanonicalExprs.{joined_by, snoc_same}
 
@@ -173,21 +173,27 @@ end_written : (p : Place) → Written (points.End p)
 end_written p = (kind_of EndWord, fixed_valid EndWord refl, λ c q e. subst (λ (z : Class). (is_point z ≡ true) × IsPoint (points.End p) (lexeme (kind_of EndWord)) (point_of z (kind_of EndWord) q)) (sym e) (refl, (refl, refl)))
 
 tracepoint_written : (system name : List ℕ) → is_name system ≡ true → is_name name ≡ true → (p : Place) → Written (points.Tracepoint system name p)
-tracepoint_written system name s n p =
-    (kinds.Attach bytes, attach_valid (codes "tracepoint") system name (inl refl) (name_all system s) (name_all name n), λ c q e.
-    let e' : c ≡ TracepointPoint = e ∙ ap point_class (tracepoint_read system name s n origin) in
-    let same : point_of TracepointPoint (kinds.Attach bytes) q ≡ points.Tracepoint system name q = ap (λ (o : Option Point). found_point o q) (tracepoint_read system name s n q) in
-    subst (λ (z : Class). (is_point z ≡ true) × IsPoint (points.Tracepoint system name p) (token bytes) (point_of z (kinds.Attach bytes) q)) (sym e') (refl, (refl, ap bare_point same)))
+tracepoint_written system name s n p = (
+  kinds.Attach bytes,
+  attach_valid (codes "tracepoint") system name (inl refl) (name_all system s) (name_all name n),
+  λ c q e.
+      let e' : c ≡ TracepointPoint = e ∙ ap point_class (tracepoint_read system name s n origin) in
+      let same : point_of TracepointPoint (kinds.Attach bytes) q ≡ points.Tracepoint system name q = ap (λ (o : Option Point). found_point o q) (tracepoint_read system name s n q) in
+      subst (λ (z : Class). (is_point z ≡ true) × IsPoint (points.Tracepoint system name p) (token bytes) (point_of z (kinds.Attach bytes) q)) (sym e') (refl, (refl, ap bare_point same)),
+)
   where
     bytes : List ℕ
     bytes = codes "tracepoint:" ++ (system ++ (codes ":" ++ name))
 
 interval_written : (unit : TimeUnit) (number : ℕ) → number < 2 ^ 64 → (p : Place) → Written (points.Interval unit number p)
-interval_written unit number small p =
-    (kinds.Attach (interval_bytes unit number), interval_valid unit number small, λ c q e.
-    let e' : c ≡ IntervalPoint = e ∙ ap point_class (interval_read unit number small origin) in
-    let same : point_of IntervalPoint (kinds.Attach (interval_bytes unit number)) q ≡ points.Interval unit number q = ap (λ (o : Option Point). found_point o q) (interval_read unit number small q) in
-    subst (λ (z : Class). (is_point z ≡ true) × IsPoint (points.Interval unit number p) (token (interval_bytes unit number)) (point_of z (kinds.Attach (interval_bytes unit number)) q)) (sym e') (refl, (refl, ap bare_point same)))
+interval_written unit number small p = (
+  kinds.Attach (interval_bytes unit number),
+  interval_valid unit number small,
+  λ c q e.
+      let e' : c ≡ IntervalPoint = e ∙ ap point_class (interval_read unit number small origin) in
+      let same : point_of IntervalPoint (kinds.Attach (interval_bytes unit number)) q ≡ points.Interval unit number q = ap (λ (o : Option Point). found_point o q) (interval_read unit number small q) in
+      subst (λ (z : Class). (is_point z ≡ true) × IsPoint (points.Interval unit number p) (token (interval_bytes unit number)) (point_of z (kinds.Attach (interval_bytes unit number)) q)) (sym e') (refl, (refl, ap bare_point same)),
+)
 
 point_written : (c : Class) (k : TokenKind) (p : Place) → c ≡ class_of k → is_point c ≡ true → Written (point_of c k p)
 point_written BeginWord k p e q = begin_written p
@@ -223,22 +229,31 @@ first_case : (t u : Item) (x : List ℕ) → IsPoint (point_at t) x (point_at u)
 first_case t u x (ex, eb) = (point_at t, [], refl, ex ∙ sym (append-nil (point_text (point_at t))), ap (λ (z : Point). z ∷ []) eb)
 
 next_case : (ps qs : List Point) (p q : Point) (x y : List ℕ) → IsPoints ps x qs → Behind (token (codes ",")) IsPoint p y q → IsPoints (snoc ps p) (x ++ y) (snoc qs q)
-next_case ps qs p q x y (g, more, eps, ex, eb) (z, ey, (ez, ef)) =
-    (g, more ++ p ∷ [], ap (λ (l : List Point). l ++ p ∷ []) eps,
-    joined_by ex (ey ∙ ap (λ (l : List ℕ). token (codes ",") ++ l) ez) ∙ (append_assoc (point_text g) (points_after (token (codes ",")) more) (token (codes ",") ++ point_text p) ∙ ap (λ (l : List ℕ). point_text g ++ l) (sym (commas_point more p))),
-    snoc_same bare_point ps qs p q eb ef)
+next_case ps qs p q x y (g, more, eps, ex, eb) (z, ey, (ez, ef)) = (
+  g,
+  more ++ p ∷ [],
+  ap (λ (l : List Point). l ++ p ∷ []) eps,
+  joined_by ex (ey ∙ ap (λ (l : List ℕ). token (codes ",") ++ l) ez) ∙ (append_assoc (point_text g) (points_after (token (codes ",")) more) (token (codes ",") ++ point_text p) ∙ ap (λ (l : List ℕ). point_text g ++ l) (sym (commas_point more p))),
+  snoc_same bare_point ps qs p q eb ef,
+)
 
 module _ (R : Rel) where
   lift_point : Lift R (Tok is_point) (λ t x u. IsPoint (point_at t) x (point_at u))
   lift_point = record { lift = go }
     where
       again : (t : Item) → Honest (t ∷ []) → is_point t.class ≡ true → Again R (Tok is_point) (λ t x u. IsPoint (point_at t) x (point_at u)) t
-      again t h q = let (l, v, w) = point_written t.class t.kind t.place h.0 q in
-          (l ∷ [], (v, tt), λ us are.
-          let (u, e, ek, ec) = one_item l us are in
-          let (qu, r) = w u.class u.place ec in
-          (u, (e, qu), subst (λ (k : TokenKind). IsPoint (point_at t) (lexeme l ++ []) (point_of u.class k u.place)) (sym ek)
-          (subst (λ (z : List ℕ). IsPoint (point_at t) z (point_of u.class l u.place)) (sym (append-nil (lexeme l))) r)))
+      again t h q = let (l, v, w) = point_written t.class t.kind t.place h.0 q in (
+        l ∷ [],
+        (v, tt),
+        λ us are.
+            let (u, e, ek, ec) = one_item l us are in
+            let (qu, r) = w u.class u.place ec in (
+              u,
+              (e, qu),
+              subst (λ (k : TokenKind). IsPoint (point_at t) (lexeme l ++ []) (point_of u.class k u.place)) (sym ek)
+                  (subst (λ (z : List ℕ). IsPoint (point_at t) z (point_of u.class l u.place)) (sym (append-nil (lexeme l))) r),
+            ),
+      )
 
       go : (ts : List Item) (a : Item) → Honest ts → whole R (Tok is_point) ts a → Again R (Tok is_point) (λ t x u. IsPoint (point_at t) x (point_at u)) a
       go ts a h (e, q) = again a (subst Honest e h) q

@@ -1,42 +1,37 @@
 -- What a statement of one line was read of can be written again.
-use Rattle.std.proofs.Common.{◌≡◌, ℕ, ℤ, Bool, true, false, cond, List, [], ◌∷◌, ◌++◌, Option, Some, None, refl, ap, sym, subst, ◌∙◌, inl, inr, append_assoc}
-use Rattle.std.specs.Prelude.{codes, map, option_map}
+use Rattle.std.proofs.Common.{◌≡◌, ℕ, ℤ, Bool, true, false, List, [], ◌++◌, Option, Some, None, refl, ap, sym, ◌∙◌, append_assoc}
+use Rattle.std.specs.Prelude.{codes, map}
 use Rattle.std.proofs.lemmas.List.{append-nil}
 use Rattle.std.proofs.lemmas.Bool.{false≢true}
-use Rattle.bt_core.specs.declared.operator.BinOp.{BinOp}
-use Rattle.bt_lexer.specs.declared.token.TokenKind.{TokenKind}
-use Rattle.bt_lexer.specs.declared.token.TokenKind.TheVariants as kinds
 use Rattle.bt_ast.specs.declared.place.Place.{Place}
 use Rattle.bt_ast.specs.declared.expr.Expr.{Expr}
 use Rattle.bt_ast.specs.declared.expr.MapRef.{MapRef, roll-MapRef}
 use Rattle.bt_ast.specs.declared.expr.VarRef.{VarRef}
-use Rattle.bt_ast.specs.declared.expr.IncDec.{IncDec, roll-IncDec}
+use Rattle.bt_ast.specs.declared.expr.IncDec.{roll-IncDec}
 use Rattle.bt_ast.specs.declared.expr.Target.{Target}
 use Rattle.bt_ast.specs.declared.expr.Target.TheVariants as targets
 use Rattle.bt_ast.specs.declared.stmt.AggCall.{AggCall}
 use Rattle.bt_ast.specs.declared.stmt.AggCall.TheVariants as aggs
-use Rattle.bt_ast.specs.declared.stmt.Block.{Block, roll-Block}
-use Rattle.bt_ast.specs.declared.stmt.Stmt.{Stmt}
 use Rattle.bt_ast.specs.declared.stmt.StmtKind.{StmtKind}
 use Rattle.bt_ast.specs.declared.stmt.StmtKind.TheVariants as stmts
-use Rattle.bt_ast.specs.Words.{token, ending, number_text, signed_text, quoted_text, assign_mark}
-use Rattle.bt_ast.specs.Exprs.{expr_text, target_text, step_text, map_text, marked, key_text, step_mark}
-use Rattle.bt_ast.specs.Stmts.{call_text, simple, agg_text, optional_text, arms_after, arms_text, arm_of, otherwise_text, joined, kind_text, block_text, stmt_text}
+use Rattle.bt_ast.specs.Words.{token, number_text, signed_text, assign_mark}
+use Rattle.bt_ast.specs.Exprs.{expr_text, target_text, map_text, marked, key_text}
+use Rattle.bt_ast.specs.Stmts.{call_text, simple, agg_text, optional_text, kind_text}
 use Rattle.bt_parser.specs.declared.class.Class.{Class}
-use Rattle.bt_parser.specs.declared.class.Class.TheVariants.{CountWord, SumWord, MinWord, MaxWord, AvgWord, HistWord, LhistWord, PrintfWord, PrintWord, ClearWord, ZeroWord, DeleteWord, ExitWord, BreakWord, ContinueWord, ReturnWord, MapName, VarName, NumberLiteral, TextLiteral, ShlAssign, ShrAssign, Increment, Decrement, AddAssign, SubAssign, MulAssign, DivAssign, ModAssign, AndAssign, OrAssign, XorAssign, OpenParen, CloseParen, OpenBracket, CloseBracket, Comma, Assign}
+use Rattle.bt_parser.specs.declared.class.Class.TheVariants.{CountWord, SumWord, MinWord, MaxWord, AvgWord, HistWord, LhistWord, PrintfWord, PrintWord, ClearWord, ZeroWord, DeleteWord, ExitWord, BreakWord, ContinueWord, ReturnWord, MapName, VarName, TextLiteral, ShlAssign, ShrAssign, Increment, AddAssign, SubAssign, MulAssign, DivAssign, ModAssign, AndAssign, OrAssign, XorAssign, OpenParen, CloseParen, OpenBracket, CloseBracket, Comma, Assign}
 use Rattle.bt_parser.specs.Classes.{is, is_update, update_of, is_step, gathers}
 use Rattle.bt_parser.specs.Form.{Item, Part, Expression, Values, Keyed, Assignable, Int, Aggregation, Update, AfterMap, AfterVar, Printf, Print, Delete, CallOrJump, Simple, Call, Rel}
 use Rattle.bt_parser.specs.Tokens.{origin}
 use Rattle.bt_parser.specs.Trees.{bytes_at, kind_bytes, snoc, place_of_map, var_ref, map_ref, step_before, step_after, stmt, gathering, count_call, gather_call, lhist_call, update_target, place_of_target, step_target, gather_map, set_map, on_map, set_var, on_var, map_stmt, var_stmt, step_stmt, printf_kind, print_kind, top_and_div, clear_kind, zero_kind, delete_all, delete_keyed, delete_key, on_item, exit_stmt, break_stmt, continue_stmt, return_stmt}
 use Rattle.bt_parser.specs.Rules.{rule, empty_parens}
-use Rattle.bt_parser.specs.Bare.{bare_var, bare_expr, bare_target, bare_step, bare_map, bare_agg, bare_statement, bare_stmt}
+use Rattle.bt_parser.specs.Bare.{bare_expr, bare_target, bare_map, bare_agg, bare_statement, bare_stmt}
 use Rattle.bt_parser.proofs.AllClasses.{implies1}
-use Rattle.bt_parser.proofs.BareExprs.{map_target_text, map_target_bare, var_target_text, var_target_bare, map_ref_text, map_ref_bare, step_text_is, step_bare_is}
-use Rattle.bt_parser.proofs.BareStmts.{SetAgg_text, SetAgg_bare, Assign_text, Assign_bare, Step_text, Step_bare, Printf_text, Printf_bare, Print_text, Print_bare, Clear_text, Clear_bare, Zero_text, Zero_bare, Delete_text, Delete_bare, DeleteKey_text, DeleteKey_bare, Exit_text, Exit_bare, Break_text, Break_bare, Continue_text, Continue_bare, Return_text, Return_bare, stmt_text_is, stmt_bare_is}
+use Rattle.bt_parser.proofs.BareExprs.{map_target_text, var_target_text, map_ref_text, map_ref_bare, step_text_is, step_bare_is}
+use Rattle.bt_parser.proofs.BareStmts.{SetAgg_text, SetAgg_bare, Assign_text, Assign_bare, Step_text, Step_bare, Printf_text, Printf_bare, Print_text, Print_bare, Clear_text, Clear_bare, Zero_text, Zero_bare, Delete_text, Delete_bare, DeleteKey_text, DeleteKey_bare, Exit_text, Break_text, Continue_text, Return_text, stmt_text_is, stmt_bare_is}
 use Rattle.bt_parser.proofs.Lexemes.{lexeme}
 use Rattle.bt_parser.proofs.LexemesFixed.{kind_of, is_fixed}
 use Rattle.bt_parser.proofs.CanonicalForms.{Back, Lift, Behind, Before, Parens, Both, Maybe, Kept, Fixed, Marked, lift_kept, lift_fixed, lift_mark, lift_empty, lift_map, lift_then, lift_or, lift_until, lift_chain, lift_as, lift_optional, lift_pair, lift_second, lift_parens, lift_comma}
-use Rattle.bt_parser.proofs.CanonicalValues.{IsExpr, IsValues, IsKeys, IsMapRef, IsTarget, IsInt, IsAgg, IsUpdate, IsAfterMap, IsAfterVar, IsCall, IsSimple, Value}
+use Rattle.bt_parser.proofs.CanonicalValues.{IsExpr, IsValues, IsMapRef, IsTarget, IsInt, IsAgg, IsUpdate, IsAfterMap, IsAfterVar, IsCall, IsSimple, Value}
 use Rattle.bt_parser.proofs.CanonicalNumbers.{lift_number}
 use Rattle.bt_parser.proofs.CanonicalExprs.{joined_by, map_lexeme, var_lexeme, text_lexeme, same_var, step_lexeme, map_targets, var_targets, bare_inc, commas_snoc, snoc_same, keys_case}
 
@@ -61,9 +56,10 @@ gather_bared AvgWord e = refl
 gather_bared _ e = refl
 
 gather_case : (t u : Item) (e f : Expr) (x y : List ℕ) → Fixed gathers t x u → Parens IsExpr e y f → IsAgg (gather_call t e) (x ++ y) (gather_call u f)
-gather_case t u e f x y (ex, ec, q) (z, ey, (ez, eb)) =
-    (joined_by ex (ey ∙ ap (λ (l : List ℕ). token (codes "(") ++ (l ++ token (codes ")"))) ez) ∙ gather_lexeme t.class q e,
-    gather_bared u.class f ∙ ((λ i. gathering (ec i) (eb i)) ∙ sym (gather_bared t.class e)))
+gather_case t u e f x y (ex, ec, q) (z, ey, (ez, eb)) = (
+  joined_by ex (ey ∙ ap (λ (l : List ℕ). token (codes "(") ++ (l ++ token (codes ")"))) ez) ∙ gather_lexeme t.class q e,
+  gather_bared u.class f ∙ ((λ i. gathering (ec i) (eb i)) ∙ sym (gather_bared t.class e)),
+)
 
 abbrev Bounds : Back (Expr × (ℤ × (ℤ × ℤ)))
 Bounds = Both (Before (token (codes ",")) IsExpr) (Both (Before (token (codes ",")) IsInt) (Both (Before (token (codes ",")) IsInt) IsInt))
@@ -77,9 +73,10 @@ lhist_case p q a b x y ex (z, ey, (x1, y1, e1, (w1, f1, (g1, h1)), (x2, y2, e2, 
     let at1 : x1 ≡ expr_text a.0 ++ token (codes ",") = f1 ∙ ap (λ (l : List ℕ). l ++ token (codes ",")) g1 in
     let at2 : x2 ≡ signed_text a.1.0 ++ token (codes ",") = f2 ∙ ap (λ (l : List ℕ). l ++ token (codes ",")) g2 in
     let at3 : x3 ≡ signed_text a.1.1.0 ++ token (codes ",") = f3 ∙ ap (λ (l : List ℕ). l ++ token (codes ",")) g3 in
-    let inside = e1 ∙ (joined_by at1 (e2 ∙ joined_by at2 (e3 ∙ joined_by at3 g4)) ∙ bounds_text (expr_text a.0) (token (codes ",")) (signed_text a.1.0) (signed_text a.1.1.0) (signed_text a.1.1.1)) in
-    (joined_by ex (ey ∙ ap (λ (l : List ℕ). token (codes "(") ++ (l ++ token (codes ")"))) inside),
-    (λ i. aggs.Lhist (h1 i) (h2 i) (h3 i) (h4 i)))
+    let inside = e1 ∙ (joined_by at1 (e2 ∙ joined_by at2 (e3 ∙ joined_by at3 g4)) ∙ bounds_text (expr_text a.0) (token (codes ",")) (signed_text a.1.0) (signed_text a.1.1.0) (signed_text a.1.1.1)) in (
+      joined_by ex (ey ∙ ap (λ (l : List ℕ). token (codes "(") ++ (l ++ token (codes ")"))) inside),
+      (λ i. aggs.Lhist (h1 i) (h2 i) (h3 i) (h4 i)),
+    )
 
 -- ---- assignments
 
@@ -97,9 +94,10 @@ update_lexeme XorAssign h = refl
 update_lexeme _ h = absurd (false≢true h)
 
 update_case : (m n : Item) (e f : Expr) (x y : List ℕ) → Fixed is_update m x n → IsExpr e y f → IsUpdate (update_target m e) (x ++ y) (update_target n f)
-update_case m n e f x y (ex, ec, q) (ey, eb) = λ t u et.
-    (ap (λ (z : List ℕ). simple (target_text t ++ z)) (joined_by (ex ∙ update_lexeme m.class q) ey) ∙ sym (Assign_text t (update_of m.class) e),
-    Assign_bare u (update_of n.class) f ∙ ((λ i. stmts.Assign (et i) (update_of (ec i)) (eb i)) ∙ sym (Assign_bare t (update_of m.class) e)))
+update_case m n e f x y (ex, ec, q) (ey, eb) = λ t u et. (
+  ap (λ (z : List ℕ). simple (target_text t ++ z)) (joined_by (ex ∙ update_lexeme m.class q) ey) ∙ sym (Assign_text t (update_of m.class) e),
+  Assign_bare u (update_of n.class) f ∙ ((λ i. stmts.Assign (et i) (update_of (ec i)) (eb i)) ∙ sym (Assign_bare t (update_of m.class) e)),
+)
 
 inc_bare : (t u : Target) (c d : Class) (before : Bool) (p q : Place) → bare_target u ≡ bare_target t → d ≡ c
     → bare_statement (stmts.Step (roll-IncDec (record { target = u; plus = is Increment d; «prefix» = before; place = q })))
@@ -110,23 +108,26 @@ inc_bare t u c d before p q et ec =
     ∙ sym (Step_bare (roll-IncDec (record { target = t; plus = is Increment c; «prefix» = before; place = p })) ∙ ap stmts.Step (step_bare_is t (is Increment c) before p))))
 
 step_case : (m n : Item) (x : List ℕ) → Fixed is_step m x n → IsUpdate (step_target m) x (step_target n)
-step_case m n x (ex, ec, q) = λ t u et.
-    (ap (λ (z : List ℕ). simple (target_text t ++ z)) (ex ∙ step_lexeme m.class q)
-    ∙ sym (Step_text (step_after t (is Increment m.class) (place_of_target t)) ∙ ap simple (step_text_is t (is Increment m.class) false (place_of_target t))),
-    inc_bare t u m.class n.class false (place_of_target t) (place_of_target u) et ec)
+step_case m n x (ex, ec, q) = λ t u et. (
+  ap (λ (z : List ℕ). simple (target_text t ++ z)) (ex ∙ step_lexeme m.class q)
+      ∙ sym (Step_text (step_after t (is Increment m.class) (place_of_target t)) ∙ ap simple (step_text_is t (is Increment m.class) false (place_of_target t))),
+  inc_bare t u m.class n.class false (place_of_target t) (place_of_target u) et ec,
+)
 
 abbrev IsSet : Back (MapRef → StmtKind)
 IsSet f x g = (m n : MapRef) → bare_map n ≡ bare_map m → (simple (map_text m ++ (token (codes "=") ++ x)) ≡ kind_text (f m)) × (bare_statement (g n) ≡ bare_statement (f m))
 
 gather_map_case : (a b : AggCall × Place) (x : List ℕ) → IsAgg a x b → IsSet (gather_map a) x (gather_map b)
-gather_map_case a b x (ex, eb) = λ m n em.
-    (ap (λ (z : List ℕ). simple (map_text m ++ (token (codes "=") ++ z))) ex ∙ sym (SetAgg_text m a.0 a.1),
-    SetAgg_bare n b.0 b.1 ∙ ((λ i. stmts.SetAgg (em i) (eb i) origin) ∙ sym (SetAgg_bare m a.0 a.1)))
+gather_map_case a b x (ex, eb) = λ m n em. (
+  ap (λ (z : List ℕ). simple (map_text m ++ (token (codes "=") ++ z))) ex ∙ sym (SetAgg_text m a.0 a.1),
+  SetAgg_bare n b.0 b.1 ∙ ((λ i. stmts.SetAgg (em i) (eb i) origin) ∙ sym (SetAgg_bare m a.0 a.1)),
+)
 
 set_map_case : (e f : Expr) (x : List ℕ) → IsExpr e x f → IsSet (set_map e) x (set_map f)
-set_map_case e f x (ex, eb) = λ m n em.
-    ((λ i. simple (sym (map_target_text m) i ++ (token (codes "=") ++ ex i))) ∙ sym (Assign_text (targets.Map m) None e),
-    Assign_bare (targets.Map n) None f ∙ ((λ i. stmts.Assign (map_targets m n em i) None (eb i)) ∙ sym (Assign_bare (targets.Map m) None e)))
+set_map_case e f x (ex, eb) = λ m n em. (
+  (λ i. simple (sym (map_target_text m) i ++ (token (codes "=") ++ ex i))) ∙ sym (Assign_text (targets.Map m) None e),
+  Assign_bare (targets.Map n) None f ∙ ((λ i. stmts.Assign (map_targets m n em i) None (eb i)) ∙ sym (Assign_bare (targets.Map m) None e)),
+)
 
 assign_case : (f g : MapRef → StmtKind) (x : List ℕ) → Behind (token (codes "=")) IsSet f x g → IsAfterMap f x g
 assign_case f g x (y, ex, h) = λ m n em. let (e, b) = h m n em in (ap (λ (z : List ℕ). simple (map_text m ++ z)) ex ∙ e, b)
@@ -136,9 +137,10 @@ on_map_case f g x h = λ m n em. let (e, b) = h (targets.Map m) (targets.Map n) 
     (ap (λ (z : List ℕ). simple (z ++ x)) (sym (map_target_text m)) ∙ e, b)
 
 set_var_case : (p q : Place) (e f : Expr) (x y : List ℕ) → Marked (token (codes "=")) p x q → IsExpr e y f → IsAfterVar (set_var p e) (x ++ y) (set_var q f)
-set_var_case p q e f x y ex (ey, eb) = λ v w ev.
-    ((λ i. simple (sym (var_target_text v) i ++ (ex i ++ ey i))) ∙ sym (Assign_text (targets.Var v) None e),
-    Assign_bare (targets.Var w) None f ∙ ((λ i. stmts.Assign (var_targets v w ev i) None (eb i)) ∙ sym (Assign_bare (targets.Var v) None e)))
+set_var_case p q e f x y ex (ey, eb) = λ v w ev. (
+  (λ i. simple (sym (var_target_text v) i ++ (ex i ++ ey i))) ∙ sym (Assign_text (targets.Var v) None e),
+  Assign_bare (targets.Var w) None f ∙ ((λ i. stmts.Assign (var_targets v w ev i) None (eb i)) ∙ sym (Assign_bare (targets.Var v) None e)),
+)
 
 on_var_case : (f g : Target → StmtKind) (x : List ℕ) → IsUpdate f x g → IsAfterVar (on_var f) x (on_var g)
 on_var_case f g x h = λ v w ev. let (e, b) = h (targets.Var v) (targets.Var w) (var_targets v w ev) in
@@ -161,9 +163,10 @@ more_case es fs e f x y (ex, eb) (z, ey, (ez, ef)) =
     (joined_by ex (ey ∙ ap (λ (l : List ℕ). token (codes ",") ++ l) ez) ∙ sym (commas_snoc es e), snoc_same bare_expr es fs e f eb ef)
 
 printf_case : (t u : Item) (es fs : List Expr) (x y : List ℕ) → Kept (is TextLiteral) t x u → IsMore es y fs → IsInside (codes "printf") (printf_kind t es) (x ++ y) (printf_kind u fs)
-printf_case t u es fs x y k (ey, eb) =
-    (ap (λ (z : List ℕ). simple (call_text (codes "printf") z)) (joined_by (text_lexeme t u x k) ey) ∙ sym (Printf_text (bytes_at t) t.place es),
-    Printf_bare (bytes_at u) u.place fs ∙ ((λ i. stmts.Printf (ap kind_bytes k.1 i) origin (eb i)) ∙ sym (Printf_bare (bytes_at t) t.place es)))
+printf_case t u es fs x y k (ey, eb) = (
+  ap (λ (z : List ℕ). simple (call_text (codes "printf") z)) (joined_by (text_lexeme t u x k) ey) ∙ sym (Printf_text (bytes_at t) t.place es),
+  Printf_bare (bytes_at u) u.place fs ∙ ((λ i. stmts.Printf (ap kind_bytes k.1 i) origin (eb i)) ∙ sym (Printf_bare (bytes_at t) t.place es)),
+)
 
 -- a map that is named as a whole
 lone_text : (t : Item) → token (bytes_at t) ≡ map_text (map_ref t [])
@@ -184,19 +187,22 @@ limits_case n m (Some k) p x y (z, ex, (ez, en)) (j, ep, (w, ey, (ew, ek))) =
     (joined_by (ex ∙ ap (λ (l : List ℕ). token (codes ",") ++ l) ez) (ey ∙ ap (λ (l : List ℕ). token (codes ",") ++ l) ew), (λ i. (Some (en i), (ep ∙ ap Some ek) i)))
 
 print_case : (t u : Item) (l m : Option ℤ × Option ℤ) (x y : List ℕ) → Kept (is MapName) t x u → IsLimits l y m → IsInside (codes "print") (print_kind t l) (x ++ y) (print_kind u m)
-print_case t u l m x y k (ey, eb) =
-    (ap (λ (z : List ℕ). simple (call_text (codes "print") z)) (joined_by (map_lexeme t u x k ∙ lone_text t) ey) ∙ sym (Print_text (map_ref t []) l.0 l.1),
-    Print_bare (map_ref u []) m.0 m.1 ∙ ((λ i. stmts.Print (lone_bare t u [] [] k.1 refl i) (eb i).0 (eb i).1) ∙ sym (Print_bare (map_ref t []) l.0 l.1)))
+print_case t u l m x y k (ey, eb) = (
+  ap (λ (z : List ℕ). simple (call_text (codes "print") z)) (joined_by (map_lexeme t u x k ∙ lone_text t) ey) ∙ sym (Print_text (map_ref t []) l.0 l.1),
+  Print_bare (map_ref u []) m.0 m.1 ∙ ((λ i. stmts.Print (lone_bare t u [] [] k.1 refl i) (eb i).0 (eb i).1) ∙ sym (Print_bare (map_ref t []) l.0 l.1)),
+)
 
 clear_case : (t u : Item) (x : List ℕ) → Kept (is MapName) t x u → IsInside (codes "clear") (clear_kind t) x (clear_kind u)
-clear_case t u x k =
-    (ap (λ (z : List ℕ). simple (call_text (codes "clear") z)) (map_lexeme t u x k ∙ lone_text t) ∙ sym (Clear_text (map_ref t [])),
-    Clear_bare (map_ref u []) ∙ (ap stmts.Clear (lone_bare t u [] [] k.1 refl) ∙ sym (Clear_bare (map_ref t []))))
+clear_case t u x k = (
+  ap (λ (z : List ℕ). simple (call_text (codes "clear") z)) (map_lexeme t u x k ∙ lone_text t) ∙ sym (Clear_text (map_ref t [])),
+  Clear_bare (map_ref u []) ∙ (ap stmts.Clear (lone_bare t u [] [] k.1 refl) ∙ sym (Clear_bare (map_ref t []))),
+)
 
 zero_case : (t u : Item) (x : List ℕ) → Kept (is MapName) t x u → IsInside (codes "zero") (zero_kind t) x (zero_kind u)
-zero_case t u x k =
-    (ap (λ (z : List ℕ). simple (call_text (codes "zero") z)) (map_lexeme t u x k ∙ lone_text t) ∙ sym (Zero_text (map_ref t [])),
-    Zero_bare (map_ref u []) ∙ (ap stmts.Zero (lone_bare t u [] [] k.1 refl) ∙ sym (Zero_bare (map_ref t []))))
+zero_case t u x k = (
+  ap (λ (z : List ℕ). simple (call_text (codes "zero") z)) (map_lexeme t u x k ∙ lone_text t) ∙ sym (Zero_text (map_ref t [])),
+  Zero_bare (map_ref u []) ∙ (ap stmts.Zero (lone_bare t u [] [] k.1 refl) ∙ sym (Zero_bare (map_ref t []))),
+)
 
 -- what stands behind the map of `delete`
 abbrev IsDeleted : Back (Item → StmtKind)
@@ -209,25 +215,28 @@ abbrev deleted : List ℕ → List ℕ
 deleted x = simple (token (codes "delete") ++ (token (codes "(") ++ x))
 
 all_case : (p q : Place) (x : List ℕ) → Marked (token (codes ")")) p x q → IsDeleted (delete_all p) x (delete_all q)
-all_case p q x ex = λ t u ek.
-    (ap deleted (joined_by (lone_text t) ex) ∙ sym (Delete_text (map_ref t [])),
-    Delete_bare (map_ref u []) ∙ (ap stmts.Delete (lone_bare t u [] [] ek refl) ∙ sym (Delete_bare (map_ref t []))))
+all_case p q x ex = λ t u ek. (
+  ap deleted (joined_by (lone_text t) ex) ∙ sym (Delete_text (map_ref t [])),
+  Delete_bare (map_ref u []) ∙ (ap stmts.Delete (lone_bare t u [] [] ek refl) ∙ sym (Delete_bare (map_ref t []))),
+)
 
 delete_keyed_case : (p q : Place) (es fs : List Expr) (x y : List ℕ) → Marked (token (codes "[")) p x q → Before (token (codes ")")) (Before (token (codes "]")) IsValues) es y fs → IsDeleted (delete_keyed p es) (x ++ y) (delete_keyed q fs)
 delete_keyed_case p q es fs x y ex (z, ey, (w, ez, values)) = λ t u ek.
     let (keys, eb) = keys_case es fs (token (codes "[") ++ (w ++ token (codes "]"))) (w ++ token (codes "]"), refl, (w, refl, values)) in
     let whole_key : x ++ y ≡ key_text (map expr_text es) ++ token (codes ")") =
-        joined_by ex (ey ∙ ap (λ (l : List ℕ). l ++ token (codes ")")) ez) ∙ (sym (append_assoc (token (codes "[")) (w ++ token (codes "]")) (token (codes ")"))) ∙ ap (λ (l : List ℕ). l ++ token (codes ")")) keys) in
-    (ap (λ (l : List ℕ). deleted (token (bytes_at t) ++ l)) whole_key
-    ∙ (ap deleted (sym (append_assoc (token (bytes_at t)) (key_text (map expr_text es)) (token (codes ")"))) ∙ ap (λ (l : List ℕ). l ++ token (codes ")")) (sym (map_ref_text (bytes_at t) es t.place)))
-    ∙ sym (Delete_text (map_ref t es))),
-    Delete_bare (map_ref u fs) ∙ (ap stmts.Delete (lone_bare t u es fs ek eb) ∙ sym (Delete_bare (map_ref t es))))
+    joined_by ex (ey ∙ ap (λ (l : List ℕ). l ++ token (codes ")")) ez) ∙ (sym (append_assoc (token (codes "[")) (w ++ token (codes "]")) (token (codes ")"))) ∙ ap (λ (l : List ℕ). l ++ token (codes ")")) keys) in (
+      ap (λ (l : List ℕ). deleted (token (bytes_at t) ++ l)) whole_key
+          ∙ (ap deleted (sym (append_assoc (token (bytes_at t)) (key_text (map expr_text es)) (token (codes ")"))) ∙ ap (λ (l : List ℕ). l ++ token (codes ")")) (sym (map_ref_text (bytes_at t) es t.place)))
+          ∙ sym (Delete_text (map_ref t es))),
+      Delete_bare (map_ref u fs) ∙ (ap stmts.Delete (lone_bare t u es fs ek eb) ∙ sym (Delete_bare (map_ref t es))),
+    )
 
 delete_key_case : (p q : Place) (e f : Expr) (x y : List ℕ) → Marked (token (codes ",")) p x q → Before (token (codes ")")) IsExpr e y f → IsDeleted (delete_key p e) (x ++ y) (delete_key q f)
-delete_key_case p q e f x y ex (z, ey, (ez, eb)) = λ t u ek.
-    (ap deleted (joined_by (lone_text t) (joined_by ex (ey ∙ ap (λ (l : List ℕ). l ++ token (codes ")")) ez) ∙ sym (append_assoc (token (codes ",")) (expr_text e) (token (codes ")")))) ∙ sym (append_assoc (map_text (map_ref t [])) (token (codes ",") ++ expr_text e) (token (codes ")"))))
-    ∙ sym (DeleteKey_text (map_ref t []) e),
-    DeleteKey_bare (map_ref u []) f ∙ ((λ i. stmts.DeleteKey (lone_bare t u [] [] ek refl i) (eb i)) ∙ sym (DeleteKey_bare (map_ref t []) e)))
+delete_key_case p q e f x y ex (z, ey, (ez, eb)) = λ t u ek. (
+  ap deleted (joined_by (lone_text t) (joined_by ex (ey ∙ ap (λ (l : List ℕ). l ++ token (codes ")")) ez) ∙ sym (append_assoc (token (codes ",")) (expr_text e) (token (codes ")")))) ∙ sym (append_assoc (map_text (map_ref t [])) (token (codes ",") ++ expr_text e) (token (codes ")"))))
+      ∙ sym (DeleteKey_text (map_ref t []) e),
+  DeleteKey_bare (map_ref u []) f ∙ ((λ i. stmts.DeleteKey (lone_bare t u [] [] ek refl i) (eb i)) ∙ sym (DeleteKey_bare (map_ref t []) e)),
+)
 
 on_item_case : (t u : Item) (f g : Item → StmtKind) (x y : List ℕ) → Kept (is MapName) t x u → IsDeleted f y g → IsOpened (on_item t f) (x ++ y) (on_item u g)
 on_item_case t u f g x y k h = let (e, b) = h t u k.1 in (ap (λ (l : List ℕ). deleted (l ++ y)) (map_lexeme t u x k) ∙ e, b)
@@ -265,9 +274,10 @@ var_stmt_case t u f g x y k h = let (e, b) = h (var_ref t) (var_ref u) (same_var
     (ap (λ (z : List ℕ). simple (z ++ y)) (var_lexeme t u x k) ∙ (e ∙ sym (stmt_text_is t.place (f (var_ref t)))), stmts_same t.place u.place (f (var_ref t)) (g (var_ref u)) b)
 
 step_stmt_case : (t u : Item) (a b : Target) (x y : List ℕ) → Fixed is_step t x u → IsTarget a y b → IsSimple (step_stmt t a) (x ++ y) (step_stmt u b)
-step_stmt_case t u a b x y (ex, ec, q) (ey, eb) =
-    (ap simple (joined_by (ex ∙ step_lexeme t.class q) ey) ∙ sym (stmt_text_is t.place (stmts.Step (step_before t a)) ∙ (Step_text (step_before t a) ∙ ap simple (step_text_is a (is Increment t.class) true t.place))),
-    stmts_same t.place u.place (stmts.Step (step_before t a)) (stmts.Step (step_before u b)) (inc_bare a b t.class u.class true t.place u.place eb ec))
+step_stmt_case t u a b x y (ex, ec, q) (ey, eb) = (
+  ap simple (joined_by (ex ∙ step_lexeme t.class q) ey) ∙ sym (stmt_text_is t.place (stmts.Step (step_before t a)) ∙ (Step_text (step_before t a) ∙ ap simple (step_text_is a (is Increment t.class) true t.place))),
+  stmts_same t.place u.place (stmts.Step (step_before t a)) (stmts.Step (step_before u b)) (inc_bare a b t.class u.class true t.place u.place eb ec),
+)
 
 -- ---- the parts
 

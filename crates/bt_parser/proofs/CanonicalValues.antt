@@ -1,5 +1,5 @@
 -- What holds of each part's tree, its text, and the tree that is read again.
-use Rattle.std.proofs.Common.{◌≡◌, ℕ, ℤ, List, [], ◌∷◌, ◌++◌, Option}
+use Rattle.std.proofs.Common.{◌≡◌, ℕ, ℤ, List, ◌∷◌, ◌++◌, Option}
 use Rattle.std.specs.Prelude.{codes, map, option_map}
 use Rattle.bt_ast.specs.declared.place.Place.{Place}
 use Rattle.bt_ast.specs.declared.expr.Expr.{Expr}

@@ -1,8 +1,7 @@
 -- Kinds of tokens, the bytes that write them, and the tokens of those bytes.
-use Rattle.std.proofs.Common.{◌≡◌, ℕ, ◌+◌, ◌^◌, ◌<◌, ◌≤◌, Bool, true, false, cond, ◌||◌, List, [], ◌∷◌, ◌++◌, length, Option, Some, None, Result, Ok, Err, refl, ap, sym, subst, ◌∙◌, inl, inr, arith, append_assoc}
-use Rattle.std.specs.Prelude.{bytes_eq, codes, decimal, ◌⊎◌}
+use Rattle.std.proofs.Common.{◌≡◌, ℕ, ◌^◌, ◌<◌, ◌≤◌, Bool, true, false, cond, ◌||◌, List, [], ◌∷◌, ◌++◌, length, Some, None, Result, Ok, Err, refl, ap, sym, subst, ◌∙◌, inl, arith, append_assoc}
+use Rattle.std.specs.Prelude.{bytes_eq, codes, decimal}
 use Rattle.std.specs.Int.{w64, cast_unsigned}
-use Rattle.std.proofs.lemmas.List.{append-nil}
 use Rattle.bt_lexer.specs.declared.token.Token.{Token}
 use Rattle.bt_lexer.specs.declared.token.TokenKind.{TokenKind}
 use Rattle.bt_lexer.specs.declared.token.TokenKind.TheVariants as kinds
@@ -10,8 +9,7 @@ use Rattle.bt_lexer.specs.declared.piece.Piece.{Piece}
 use Rattle.bt_lexer.specs.declared.error.LexError.{LexError}
 use Rattle.bt_lexer.specs.declared.error.LexError.TheVariants as faults
 use Rattle.bt_lexer.specs.Scan.{piece_at, separator}
-use Rattle.bt_lexer.specs.Tokens.{IsToken, IsWithinLimits, Stands, IsLongest, Pieces, IsCut, tokens_of, tokens_behind, token_behind, first_line, IsTokensOf, IsFault}
-use Rattle.bt_lexer.specs.Numbers.{IsNumber}
+use Rattle.bt_lexer.specs.Tokens.{IsToken, IsWithinLimits, Stands, Pieces, IsCut, tokens_of, token_behind, first_line, IsTokensOf}
 use Rattle.bt_lexer.proofs.Classes.{Blank, Other}
 use Rattle.bt_lexer.proofs.Choices.{ne_test}
 use Rattle.bt_lexer.proofs.Pieces.{form_at, some_byte, marks_pass}
@@ -117,16 +115,22 @@ CutAs ks text before = (pieces : Pieces) × IsCut text pieces [] × Are ks (item
 one_cut : (end : Bool) (k : TokenKind) (ks : List TokenKind) (before w : List ℕ) → Valid k → ((before' : List ℕ) → CutAs ks w before')
     → CutAs (k ∷ ks) (cond end (ending (spelled k)) (token (spelled k)) ++ w) before
 one_cut true k ks before w v more =
-    let (pieces, cut, are) = more (((before ++ spelled k) ++ 32 ∷ []) ++ 10 ∷ []) in
-    ((Some k, spelled k) ∷ ((None, 32 ∷ []) ∷ ((None, 10 ∷ []) ∷ pieces)),
-    (32 ∷ (10 ∷ w), append_assoc (spelled k) (32 ∷ (10 ∷ [])) w, token_stands k (spelled k) (10 ∷ w) v.0 v.1,
-    (10 ∷ w, refl, blank_stands (10 ∷ w), (w, refl, newline_stands w, cut))),
-    (item (token_behind before k (spelled k)), _, refl, refl, refl, are))
+    let (pieces, cut, are) = more (((before ++ spelled k) ++ 32 ∷ []) ++ 10 ∷ []) in (
+      (Some k, spelled k) ∷ ((None, 32 ∷ []) ∷ ((None, 10 ∷ []) ∷ pieces)),
+      (
+        32 ∷ (10 ∷ w),
+        append_assoc (spelled k) (32 ∷ (10 ∷ [])) w,
+        token_stands k (spelled k) (10 ∷ w) v.0 v.1,
+        (10 ∷ w, refl, blank_stands (10 ∷ w), (w, refl, newline_stands w, cut)),
+      ),
+      (item (token_behind before k (spelled k)), _, refl, refl, refl, are),
+    )
 one_cut false k ks before w v more =
-    let (pieces, cut, are) = more ((before ++ spelled k) ++ 32 ∷ []) in
-    ((Some k, spelled k) ∷ ((None, 32 ∷ []) ∷ pieces),
-    (32 ∷ w, append_assoc (spelled k) (32 ∷ []) w, token_stands k (spelled k) w v.0 v.1, (w, refl, blank_stands w, cut)),
-    (item (token_behind before k (spelled k)), _, refl, refl, refl, are))
+    let (pieces, cut, are) = more ((before ++ spelled k) ++ 32 ∷ []) in (
+      (Some k, spelled k) ∷ ((None, 32 ∷ []) ∷ pieces),
+      (32 ∷ w, append_assoc (spelled k) (32 ∷ []) w, token_stands k (spelled k) w v.0 v.1, (w, refl, blank_stands w, cut)),
+      (item (token_behind before k (spelled k)), _, refl, refl, refl, are),
+    )
 
 pub all_cut : (ks : List TokenKind) → AllValid ks → (before : List ℕ) → CutAs ks (written ks) before
 all_cut [] v before = ([], refl, refl)

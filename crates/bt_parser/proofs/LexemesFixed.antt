@@ -1,16 +1,13 @@
 -- The kinds of the classes that one word or mark has.
-use Rattle.std.proofs.Common.{◌≡◌, ℕ, Bool, true, false, cond, ◌&&◌, List, [], ◌∷◌, ◌++◌, length, Option, Some, None, refl, ap, sym, subst, ◌∙◌, arith, ◌<◌}
-use Rattle.std.specs.Prelude.{codes, nat_lt, nat_eq, bytes_eq, is_some, if◌then◌else◌}
+use Rattle.std.proofs.Common.{◌≡◌, ℕ, Bool, true, false, cond, List, [], ◌∷◌, Option, Some, None, refl, ap, sym, ◌∙◌, arith}
+use Rattle.std.specs.Prelude.{codes, nat_lt, nat_eq, bytes_eq}
 use Rattle.std.specs.List.{Contains, list_all}
 use Rattle.std.proofs.lemmas.Bool.{false≢true}
 use Rattle.std.proofs.lemmas.Bool.Decides.{nat_tests}
 use Rattle.bt_lexer.specs.declared.token.TokenKind.{TokenKind}
 use Rattle.bt_lexer.specs.declared.token.TokenKind.TheVariants as kinds
 use Rattle.bt_lexer.specs.Bytes.{is_letter, is_word_byte, Every}
-use Rattle.bt_lexer.specs.Words.{IsWord}
-use Rattle.bt_lexer.specs.Marks.{marks, IsMark}
-use Rattle.bt_lexer.specs.Tokens.{IsToken}
-use Rattle.bt_ast.specs.declared.place.Place.{Place}
+use Rattle.bt_lexer.specs.Marks.{marks}
 use Rattle.bt_ast.specs.declared.probe.Point.{Point}
 use Rattle.bt_ast.specs.declared.probe.Point.TheVariants as points
 use Rattle.bt_parser.specs.declared.class.Class.{Class}
@@ -19,7 +16,7 @@ use Rattle.bt_parser.specs.Attach.{attach_point}
 use Rattle.bt_parser.specs.Classes.{class_number, is_word}
 use Rattle.bt_parser.specs.Tokens.{word_class, mark_class, point_class, class_of, origin}
 use Rattle.bt_parser.specs.Trees.{kind_bytes, kind_number}
-use Rattle.bt_parser.proofs.AllClasses.{and_first, and_second, every, every_is}
+use Rattle.bt_parser.proofs.AllClasses.{and_first, and_second}
 use Rattle.bt_parser.proofs.Lexemes.{Valid}
 
 -- the kind of the word or mark

@@ -1,6 +1,6 @@
 -- What is a token of some text can be written.
-use Rattle.std.proofs.Common.{◌≡◌, ℕ, zero, suc, ◌+◌, ◌^◌, ◌<◌, ◌≤◌, Bool, true, false, not, cond, List, [], ◌∷◌, ◌++◌, length, refl, ap, sym, subst, ◌∙◌, inl, inr, arith}
-use Rattle.std.specs.Prelude.{decimal, filter, nat_eq, ◌⊎◌, ◌≢◌, ◌==◌}
+use Rattle.std.proofs.Common.{◌≡◌, ℕ, zero, suc, ◌^◌, ◌<◌, false, List, [], ◌∷◌, length, refl, ap, sym, subst, ◌∙◌, inl, inr, arith}
+use Rattle.std.specs.Prelude.{decimal, filter, nat_eq, ◌==◌}
 use Rattle.std.specs.Char.{digit_value}
 use Rattle.std.specs.Int.{w64, cast_unsigned}
 use Rattle.std.specs.Str.Parse.{AllDigits, digits_value}
@@ -11,12 +11,11 @@ use Rattle.bt_lexer.specs.declared.token.TokenKind.{TokenKind}
 use Rattle.bt_lexer.specs.declared.token.TokenKind.TheVariants as kinds
 use Rattle.bt_lexer.specs.Words.{IsWord, IsAttach, IsMapName, IsVarName}
 use Rattle.bt_lexer.specs.Marks.{IsMark}
-use Rattle.bt_lexer.specs.Numbers.{AreDigits, IsNumber, IsDecimal, value_of, not_underscore, signed}
-use Rattle.bt_lexer.specs.Strings.{IsEscape, IsSpelling, IsSpelled}
-use Rattle.bt_lexer.specs.Tokens.{IsToken, IsWithinLimits}
+use Rattle.bt_lexer.specs.Numbers.{AreDigits, IsNumber, value_of, not_underscore}
+use Rattle.bt_lexer.specs.Strings.{IsSpelling, IsSpelled}
 use Rattle.bt_lexer.proofs.Choices.{decided, is_eq, is_ne, ne_test, tails, nil_apart}
 use Rattle.bt_ast.specs.Words.{quoted_byte, quoted_bytes}
-use Rattle.bt_parser.proofs.Lexemes.{spelled, Sound, Valid}
+use Rattle.bt_parser.proofs.Lexemes.{Sound, Valid}
 
 -- ---- numbers
 

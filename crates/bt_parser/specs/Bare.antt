@@ -1,5 +1,5 @@
 -- Trees without their places: each place is the first of a text.
-use Rattle.std.specs.Prelude.{List, [], ◌∷◌, Option, Some, None, map, option_map}
+use Rattle.std.specs.Prelude.{map, option_map}
 use Rattle.bt_ast.specs.declared.expr.Expr.{Expr, roll-Expr, fold-Expr}
 use Rattle.bt_ast.specs.declared.expr.ExprKind.{ExprKind, roll-ExprKind, fold-ExprKind}
 use Rattle.bt_ast.specs.declared.expr.ExprKind.TheOpen.{ExprKind-F, Target-F, Expr-F, IncDec-F, MapRef-F}
