@@ -7,7 +7,7 @@ use Rattle.bt_ast.specs.declared.stmt.Block.{Block, fold-Block}
 use Rattle.bt_ast.specs.declared.stmt.Stmt.{Stmt, fold-Stmt}
 use Rattle.bt_ast.specs.declared.stmt.StmtKind.{StmtKind, fold-StmtKind}
 use Rattle.bt_ast.specs.declared.stmt.StmtKind.TheOpen.{StmtKind-F, Block-F, Stmt-F}
-use Rattle.bt_ast.specs.Words.{token, ending, number_text, signed_text, quoted_text, assign_mark}
+use Rattle.bt_ast.specs.Words.{token, ending, number_text, quoted_text, assign_mark}
 use Rattle.bt_ast.specs.Exprs.{expr_text, map_text, target_text, step_text, marked}
 
 -- a word and what stands in parentheses behind it
@@ -22,7 +22,7 @@ agg_text (agg.Max e) = call_text (codes "max") (expr_text e)
 agg_text (agg.Avg e) = call_text (codes "avg") (expr_text e)
 agg_text (agg.Hist e) = call_text (codes "hist") (expr_text e)
 agg_text (agg.Lhist e least greatest step) =
-    call_text (codes "lhist") (expr_text e ++ (token (codes ",") ++ (signed_text least ++ (token (codes ",") ++ (signed_text greatest ++ (token (codes ",") ++ signed_text step))))))
+    call_text (codes "lhist") (expr_text e ++ (token (codes ",") ++ (number_text least ++ (token (codes ",") ++ (number_text greatest ++ (token (codes ",") ++ number_text step))))))
 
 -- a number behind a comma, where there is one
 abbrev pub optional_text : Option ℤ → List ℕ

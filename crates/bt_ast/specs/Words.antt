@@ -1,5 +1,5 @@
 -- The words of a script's text.
-use Rattle.std.specs.Prelude.{ℕ, ◌+◌, ℤ, pos, negsuc, ◌++◌, List, [], ◌∷◌, Option, Some, None, codes, decimal, cond, nat_eq}
+use Rattle.std.specs.Prelude.{ℕ, ℤ, ◌++◌, List, [], ◌∷◌, Option, Some, None, codes, decimal, cond, nat_eq}
 use Rattle.std.specs.Int.{w64, cast_unsigned}
 use Rattle.bt_core.specs.declared.operator.BinOp.{BinOp}
 use Rattle.bt_core.specs.declared.operator.BinOp.TheVariants.{Add, Sub, Mul, Div, Mod, Shl, Shr, BitAnd, BitOr, BitXor, Eq, Ne, Lt, Le, Gt, Ge}
@@ -21,11 +21,6 @@ ending word = word ++ 32 ∷ 10 ∷ []
 -- a number, by its 64 bits without a sign
 abbrev pub number_text : ℤ → List ℕ
 number_text n = token (decimal (cast_unsigned w64 n))
-
--- a number with its sign
-abbrev pub signed_text : ℤ → List ℕ
-signed_text (pos n) = token (decimal n)
-signed_text (negsuc n) = token (codes "-") ++ token (decimal (n + 1))
 
 -- a byte of a string between quotes
 abbrev pub quoted_byte : ℕ → List ℕ

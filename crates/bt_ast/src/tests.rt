@@ -183,7 +183,7 @@ fn an_aggregation_and_an_update_stand_behind_their_mark(rt: HostRuntime) -> Resu
         },
         agg_place: PLACE,
     };
-    assert!(rt; is_text_of(alloc, lhist, b"@m = lhist ( pid , - 10 , 10 , 5 ) ; \n} \n")?);
+    assert!(rt; is_text_of(alloc, lhist, b"@m = lhist ( pid , 18446744073709551606 , 10 , 5 ) ; \n} \n")?);
     let shifted = StmtKind::Assign {
         target: Target::Map(whole_map(alloc)?),
         op: Some(BinOp::Shl),

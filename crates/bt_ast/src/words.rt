@@ -1,6 +1,6 @@
 // The words of a script's text.
 ghost use Rattle.std.specs.Prelude.{◌≡◌, ◌++◌, OnOk};
-ghost use Rattle.bt_ast.specs.Words.{token, ending, number_text, signed_text, quoted_byte, quoted_bytes, quoted_text, builtin_word, unary_mark, binary_mark, assign_mark, unit_word};
+ghost use Rattle.bt_ast.specs.Words.{token, ending, number_text, quoted_byte, quoted_bytes, quoted_text, builtin_word, unary_mark, binary_mark, assign_mark, unit_word};
 
 use crate::expr::Builtin;
 use crate::probe::Unit;
@@ -32,17 +32,6 @@ pub(crate) fn write_number(out: &mut Vec<u8>, number: i64) -> Result<(), Memory>
 {
     let mut buffer = Buffer::new();
     write_token(out, buffer.format(number.cast_unsigned()).as_bytes())
-}
-
-/// Writes a number with its sign, which is a token of its own.
-pub(crate) fn write_signed(out: &mut Vec<u8>, number: i64) -> Result<(), Memory>
-    ensures { OnOk result (out.new.items ≡ out.old.items ++ signed_text number) }
-{
-    let mut buffer = Buffer::new();
-    if number < 0 {
-        write_token(out, b"-")?;
-    }
-    write_token(out, buffer.format(number.unsigned_abs()).as_bytes())
 }
 
 /// Writes a byte of a string between quotes.

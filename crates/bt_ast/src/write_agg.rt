@@ -1,12 +1,12 @@
 // The texts of calls and aggregations.
 ghost use Rattle.std.specs.Prelude.{◌≡◌, ◌++◌, OnOk, codes};
-ghost use Rattle.bt_ast.specs.Words.{token, signed_text};
+ghost use Rattle.bt_ast.specs.Words.{token, number_text};
 ghost use Rattle.bt_ast.specs.Exprs.{expr_text};
 ghost use Rattle.bt_ast.specs.Stmts.{agg_text, call_text};
 
 use crate::expr::Expr;
 use crate::stmt::AggCall;
-use crate::words::{write_signed, write_token};
+use crate::words::{write_number, write_token};
 use crate::write_expr::write_expr;
 use bt_core::memory::Memory;
 
@@ -29,10 +29,10 @@ pub(crate) fn write_call(out: &mut Vec<u8>, word: &[u8], argument: &Expr) -> Res
 
 /// Writes a number behind a comma.
 fn write_bound(out: &mut Vec<u8>, number: i64) -> Result<(), Memory>
-    ensures { OnOk result (out.new.items ≡ out.old.items ++ (token (codes ",") ++ signed_text number)) }
+    ensures { OnOk result (out.new.items ≡ out.old.items ++ (token (codes ",") ++ number_text number)) }
 {
     write_token(out, b",")?;
-    write_signed(out, number)
+    write_number(out, number)
 }
 
 /// Writes an aggregation.

@@ -9,16 +9,18 @@ use Rattle.bt_ast.specs.declared.stmt.StmtKind.TheVariants as stmts
 use Rattle.bt_ast.specs.Words.{token, ending, number_text}
 use Rattle.bt_ast.specs.Exprs.{expr_text}
 use Rattle.bt_ast.specs.Stmts.{arms_after, arm_of, otherwise_text, joined, block_text, stmt_text}
+use Rattle.bt_parser.specs.declared.class.Class.{Class}
 use Rattle.bt_parser.specs.declared.class.Class.TheVariants.{IfWord, ElseWord, WhileWord, UnrollWord, OpenBrace, CloseBrace, Semicolon}
 use Rattle.bt_parser.specs.Form.{Item, Part, Expression, Simple, Arm, Tail, Control, Body, Braced, Form, Call, Map, Then, Or, Rel, whole}
 use Rattle.bt_parser.specs.Tokens.{origin}
 use Rattle.bt_parser.specs.Trees.{second, cons, nothing, more_arms, last_block, if_stmt, while_stmt, unroll_stmt, block_of}
 use Rattle.bt_parser.specs.Rules.{rule, mark}
 use Rattle.bt_parser.specs.Bare.{bare_arm, bare_block}
-use Rattle.bt_parser.proofs.AllClasses.{is_refl}
+use Rattle.bt_parser.proofs.AllClasses.{is_same, is_refl}
 use Rattle.bt_parser.proofs.BareStmts.{If_text, If_bare, While_text, While_bare, Unroll_text, Unroll_bare, stmt_text_is, block_text_is, block_bare_is}
 use Rattle.bt_parser.proofs.Lexemes.{written, Honest}
 use Rattle.bt_parser.proofs.LexemesFixed.{kind_of, fixed_valid}
+use Rattle.bt_parser.proofs.CanonicalWeights.{NoDeeper, item_classes, semicolon_shallow}
 use Rattle.bt_parser.proofs.CanonicalForms.{Back, Lift, Again, Behind, Parens, Both, Marked, one_item, lift_mark, lift_empty, lift_map, lift_then, lift_or, lift_as, lift_pair, lift_second, lift_parens}
 use Rattle.bt_parser.proofs.CanonicalValues.{IsExpr, IsSimple, IsControl, IsArm, IsTail, IsBody, IsBlock, Value}
 use Rattle.bt_parser.proofs.CanonicalNumbers.{lift_number}
@@ -125,11 +127,12 @@ module _ (R : Rel) (calls : (n : Part) → Lift R (Call n) (Value n)) where
       semicolon : Lift R (Then second (mark Semicolon) (Call Body)) (Behind (ending (codes ";")) IsBody)
       semicolon = lift_second R Semicolon refl (calls Body)
 
-      go : (ts : List Item) (a : List Stmt) → Honest ts → whole R Rest ts a → Again R Rest (Behind (ending (codes ";")) IsBody) a
-      go ts a h (inl w) = let (ks, v, again) = semicolon.lift ts a h w in (ks, v, λ us are. let (b, w', r) = again us are in (b, inl w', r))
-      go ts a h (inr (p, e, w)) = (
+      go : (ts : List Item) (a : List Stmt) → Honest ts → whole R Rest ts a → Again R Rest (Behind (ending (codes ";")) IsBody) ts a
+      go ts a h (inl w) = let (ks, v, s, again) = semicolon.lift ts a h w in (ks, v, s, λ us are. let (b, w', r) = again us are in (b, inl w', r))
+      go ts a h (inr (p, e, (t, ep, (et, q)))) = (
         kind_of Semicolon ∷ (kind_of CloseBrace ∷ []),
         (fixed_valid Semicolon refl, (fixed_valid CloseBrace refl, tt)),
+        subst (λ (l : List Class). NoDeeper l (Semicolon ∷ CloseBrace ∷ [])) (sym (ap item_classes et ∙ ap (λ (c : Class). c ∷ []) (is_same CloseBrace t.class q))) semicolon_shallow,
         λ us are.
             let (u, r, eu, ek, ec, are') = are in
             let (v, ev, ek', ec') = one_item (kind_of CloseBrace) r are' in (

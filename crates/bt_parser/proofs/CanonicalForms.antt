@@ -12,22 +12,23 @@ use Rattle.bt_parser.specs.Form.{Item, brace_next, Form, Tok, Empty, Map, Then, 
 use Rattle.bt_parser.specs.Tokens.{class_of}
 use Rattle.bt_parser.specs.Trees.{pair, second}
 use Rattle.bt_parser.specs.Rules.{mark, optional, in_parens, after_comma}
-use Rattle.bt_parser.proofs.AllClasses.{is_refl}
+use Rattle.bt_parser.proofs.AllClasses.{is_same, is_refl}
 use Rattle.bt_parser.proofs.Lexemes.{lexeme, written, written_append, AllValid, valid_append, Honest, honest_front, honest_back, Are, are_split}
 use Rattle.bt_parser.proofs.LexemesKinds.{sound_valid}
+use Rattle.bt_parser.proofs.CanonicalWeights.{Shallow, shallow_nothing, shallow_both, shallow_token, shallow_one, dot_shallow}
 use Rattle.bt_parser.proofs.LexemesFixed.{kind_of, is_fixed, fixed_class, fixed_valid}
 
 -- what holds of a tree, its text, and the tree that is read again
 abbrev pub Back : Type 0 → Type 1
 Back A = A → List ℕ → A → Type 0
 
--- kinds that write the tree, and of whatever items of these kinds it is read again
-abbrev pub Again : {A : Type 0} → Rel → Form A → Back A → A → Type 0
-Again {A = A} R P V a = (ks : List TokenKind) × AllValid ks × ((us : List Item) → Are ks us → (b : A) × whole R P us b × V a (written ks) b)
+-- kinds that write the tree, nested no deeper than the items it was read of, and of whatever items of these kinds it is read again
+abbrev pub Again : {A : Type 0} → Rel → Form A → Back A → List Item → A → Type 0
+Again {A = A} R P V ts a = (ks : List TokenKind) × AllValid ks × Shallow ts ks × ((us : List Item) → Are ks us → (b : A) × whole R P us b × V a (written ks) b)
 
 -- each tree that the form has of tokens of a text can be written and read again
 pub record Lift (R : Rel) {A : Type 0} (P : Form A) (V : Back A) : Type 0 where
-  pub lift : (ts : List Item) (a : A) → Honest ts → whole R P ts a → Again R P V a
+  pub lift : (ts : List Item) (a : A) → Honest ts → whole R P ts a → Again R P V ts a
 
 -- ---- relations
 
@@ -78,26 +79,28 @@ module _ (R : Rel) where
   pub lift_kept : (p : Class → Bool) → Lift R (Tok p) (Kept p)
   lift_kept p = record { lift = go }
     where
-      again : (t : Item) → Honest (t ∷ []) → p t.class ≡ true → Again R (Tok p) (Kept p) t
+      again : (t : Item) → Honest (t ∷ []) → p t.class ≡ true → Again R (Tok p) (Kept p) (t ∷ []) t
       again t h q = (
         t.kind ∷ [],
         (sound_valid t.kind h.1, tt),
+        shallow_token t t.kind (sym h.0),
         λ us are.
             let (u, e, ek, ec) = one_item t.kind us are in
             let same : u.class ≡ t.class = ec ∙ sym h.0 in
             (u, (e, ap p same ∙ q), (written_one t.kind, ek, same, h.0, q)),
       )
 
-      go : (ts : List Item) (a : Item) → Honest ts → whole R (Tok p) ts a → Again R (Tok p) (Kept p) a
-      go ts a h (e, q) = again a (subst Honest e h) q
+      go : (ts : List Item) (a : Item) → Honest ts → whole R (Tok p) ts a → Again R (Tok p) (Kept p) ts a
+      go ts a h (e, q) = subst (λ (l : List Item). Again R (Tok p) (Kept p) l a) (sym e) (again a (subst Honest e h) q)
 
   pub lift_fixed : (p : Class → Bool) → ((c : Class) → p c ≡ true → is_fixed c ≡ true) → Lift R (Tok p) (Fixed p)
   lift_fixed p all = record { lift = go }
     where
-      go : (ts : List Item) (a : Item) → Honest ts → whole R (Tok p) ts a → Again R (Tok p) (Fixed p) a
+      go : (ts : List Item) (a : Item) → Honest ts → whole R (Tok p) ts a → Again R (Tok p) (Fixed p) ts a
       go ts a h (e, q) = let f = all a.class q in (
         kind_of a.class ∷ [],
         (fixed_valid a.class f, tt),
+        shallow_one a ts (kind_of a.class) e (fixed_class a.class f),
         λ us are.
             let (u, e', ek, ec) = one_item (kind_of a.class) us are in
             let same : u.class ≡ a.class = ec ∙ fixed_class a.class f in
@@ -108,10 +111,11 @@ module _ (R : Rel) where
   pub lift_mark : (c : Class) → is_fixed c ≡ true → Lift R (mark c) (Marked (lexeme (kind_of c)))
   lift_mark c f = record { lift = go }
     where
-      go : (ts : List Item) (a : Place) → Honest ts → whole R (mark c) ts a → Again R (mark c) (Marked (lexeme (kind_of c))) a
-      go ts a h w = (
+      go : (ts : List Item) (a : Place) → Honest ts → whole R (mark c) ts a → Again R (mark c) (Marked (lexeme (kind_of c))) ts a
+      go ts a h (t, ea, (e', q)) = (
         kind_of c ∷ [],
         (fixed_valid c f, tt),
+        shallow_one t ts (kind_of c) e' (fixed_class c f ∙ sym (is_same c t.class q)),
         λ us are.
             let (u, e, ek, ec) = one_item (kind_of c) us are in
             (u.place, (u, refl, (e, is_refl c u.class (ec ∙ fixed_class c f))), written_one (kind_of c)),
@@ -122,17 +126,18 @@ module _ (R : Rel) where
   pub lift_empty : {A : Type 0} (d : A) {V : Back A} → V d [] d → Lift R (Empty d) V
   lift_empty {A} d {V} v = record { lift = go }
     where
-      go : (ts : List Item) (a : A) → Honest ts → whole R (Empty d) ts a → Again R (Empty d) V a
-      go ts a h (e, q) = ([], tt, λ us are. (d, (are, refl), subst (λ (z : A). V z [] d) (sym q) v))
+      go : (ts : List Item) (a : A) → Honest ts → whole R (Empty d) ts a → Again R (Empty d) V ts a
+      go ts a h (e, q) = ([], tt, subst (λ (l : List Item). Shallow l []) (sym e) shallow_nothing, λ us are. (d, (are, refl), subst (λ (z : A). V z [] d) (sym q) v))
 
   pub lift_map : {A B : Type 0} {f : A → B} {P : Form A} {V : Back A} {W : Back B} → Lift R P V
       → ((a b : A) (x : List ℕ) → V a x b → W (f a) x (f b)) → Lift R (Map f P) W
   lift_map {A} {B} {f} {P} {V} {W} p step = record { lift = go }
     where
-      go : (ts : List Item) (c : B) → Honest ts → whole R (Map f P) ts c → Again R (Map f P) W c
-      go ts c h (a, e, w) = let (ks, v, again) = p.lift ts a h w in (
+      go : (ts : List Item) (c : B) → Honest ts → whole R (Map f P) ts c → Again R (Map f P) W ts c
+      go ts c h (a, e, w) = let (ks, v, s, again) = p.lift ts a h w in (
         ks,
         v,
+        s,
         λ us are. let (b, w', r) = again us are in
             (f b, (b, refl, w'), subst (λ (z : B). W z (written ks) (f b)) (sym e) (step a b (written ks) r)),
       )
@@ -141,13 +146,14 @@ module _ (R : Rel) where
       → ((a a' : A) (b b' : B) (x y : List ℕ) → V a x a' → W b y b' → X (f a b) (x ++ y) (f a' b')) → Lift R (Then f P Q) X
   lift_then {A} {B} {C} {f} {P} {Q} {V} {W} {X} p q step = record { lift = go }
     where
-      go : (ts : List Item) (c : C) → Honest ts → whole R (Then f P Q) ts c → Again R (Then f P Q) X c
+      go : (ts : List Item) (c : C) → Honest ts → whole R (Then f P Q) ts c → Again R (Then f P Q) X ts c
       go ts c h (xs, ys, a, b, e, ec, wa, wb) =
           let h' : Honest (xs ++ ys) = subst Honest e h in
-          let (ks, v, again) = p.lift xs a (honest_front xs ys h') wa in
-          let (ls, v', again') = q.lift ys b (honest_back xs ys h') wb in (
+          let (ks, v, s, again) = p.lift xs a (honest_front xs ys h') wa in
+          let (ls, v', s', again') = q.lift ys b (honest_back xs ys h') wb in (
             ks ++ ls,
             valid_append ks ls v v',
+            shallow_both xs ys ts ks ls e s s',
             λ us are.
                 let (us1, us2, eu, are1, are2) = are_split ks ls us are in
                 let (a', wa', ra) = again us1 are1 in
@@ -162,20 +168,21 @@ module _ (R : Rel) where
   pub lift_or : {A : Type 0} {P Q : Form A} {V : Back A} → Lift R P V → Lift R Q V → Lift R (Or P Q) V
   lift_or {A} {P} {Q} {V} p q = record { lift = go }
     where
-      go : (ts : List Item) (a : A) → Honest ts → whole R (Or P Q) ts a → Again R (Or P Q) V a
-      go ts a h (inl w) = let (ks, v, again) = p.lift ts a h w in
-          (ks, v, λ us are. let (b, w', r) = again us are in (b, inl w', r))
-      go ts a h (inr w) = let (ks, v, again) = q.lift ts a h w in
-          (ks, v, λ us are. let (b, w', r) = again us are in (b, inr w', r))
+      go : (ts : List Item) (a : A) → Honest ts → whole R (Or P Q) ts a → Again R (Or P Q) V ts a
+      go ts a h (inl w) = let (ks, v, s, again) = p.lift ts a h w in
+          (ks, v, s, λ us are. let (b, w', r) = again us are in (b, inl w', r))
+      go ts a h (inr w) = let (ks, v, s, again) = q.lift ts a h w in
+          (ks, v, s, λ us are. let (b, w', r) = again us are in (b, inr w', r))
 
   pub lift_until : {A : Type 0} {P : Form A} {V : Back A} (c : Class) → is_fixed c ≡ true → Lift R P V → Lift R (Until P c) (Before (lexeme (kind_of c)) V)
   lift_until {A} {P} {V} c f p = record { lift = go }
     where
-      go : (ts : List Item) (a : A) → Honest ts → whole R (Until P c) ts a → Again R (Until P c) (Before (lexeme (kind_of c)) V) a
+      go : (ts : List Item) (a : A) → Honest ts → whole R (Until P c) ts a → Again R (Until P c) (Before (lexeme (kind_of c)) V) ts a
       go ts a h (xs, t, e, ec, w) =
-          let (ks, v, again) = p.lift xs a (honest_front xs (t ∷ []) (subst Honest e h)) w in (
+          let (ks, v, s, again) = p.lift xs a (honest_front xs (t ∷ []) (subst Honest e h)) w in (
             ks ++ kind_of c ∷ [],
             valid_append ks (kind_of c ∷ []) v (fixed_valid c f, tt),
+            shallow_both xs (t ∷ []) ts ks (kind_of c ∷ []) e s (shallow_token t (kind_of c) (fixed_class c f ∙ sym ec)),
             λ us are.
                 let (us1, us2, eu, are1, are2) = are_split ks (kind_of c ∷ []) us are in
                 let (b, w', r) = again us1 are1 in
@@ -192,13 +199,14 @@ module _ (R : Rel) where
       → Lift R Q V → Lift R (Op g Q) (Op-back p V)
   lift_op {B} {g} {Q} {V} p some all still q = record { lift = go }
     where
-      go : (ts : List Item) (a : Item × B) → Honest ts → whole R (Op g Q) ts a → Again R (Op g Q) (Op-back p V) a
+      go : (ts : List Item) (a : Item × B) → Honest ts → whole R (Op g Q) ts a → Again R (Op g Q) (Op-back p V) ts a
       go ts a h (us, e, hg, w) =
-          let (ks, v, again) = q.lift us a.1 (honest_back (a.0 ∷ []) us (subst Honest e h)) w in
+          let (ks, v, s, again) = q.lift us a.1 (honest_back (a.0 ∷ []) us (subst Honest e h)) w in
           let pc : p a.0.class ≡ true = some a.0.class (brace_next us) hg in
           let f : is_fixed a.0.class ≡ true = all a.0.class pc in (
             kind_of a.0.class ∷ ks,
             (fixed_valid a.0.class f, v),
+            shallow_both (a.0 ∷ []) us ts (kind_of a.0.class ∷ []) ks e (shallow_token a.0 (kind_of a.0.class) (fixed_class a.0.class f)) s,
             λ us' are.
                 let (u, r, eu, ek, ec, are') = are in
                 let (b, w', rb) = again r are' in
@@ -211,24 +219,26 @@ module _ (R : Rel) where
 
   -- ---- repetitions
 
-  abbrev Links : {A B : Type 0} (f : A → B → A) (Q : Form B) (V : Back A) → ℕ → A → A → Type 0
-  Links {A = A} f Q V k a c = (ks : List TokenKind) × AllValid ks × ((us : List Item) (a' : A) (x : List ℕ) → Are ks us → V a x a' → (c' : A) × links f (whole R Q) k a' us c' × V c (x ++ written ks) c')
+  abbrev Links : {A B : Type 0} (f : A → B → A) (Q : Form B) (V : Back A) → ℕ → List Item → A → A → Type 0
+  Links {A = A} f Q V k ts a c = (ks : List TokenKind) × AllValid ks × Shallow ts ks × ((us : List Item) (a' : A) (x : List ℕ) → Are ks us → V a x a' → (c' : A) × links f (whole R Q) k a' us c' × V c (x ++ written ks) c')
 
   lift_links : {A B : Type 0} (f : A → B → A) (Q : Form B) (V : Back A) (W : Back B) → Lift R Q W
       → ((a a' : A) (b b' : B) (x y : List ℕ) → V a x a' → W b y b' → V (f a b) (x ++ y) (f a' b'))
-      → (k : ℕ) (ts : List Item) (a c : A) → Honest ts → links f (whole R Q) k a ts c → Links f Q V k a c
+      → (k : ℕ) (ts : List Item) (a c : A) → Honest ts → links f (whole R Q) k a ts c → Links f Q V k ts a c
   lift_links {A = A} f Q V W q step zero ts a c h (e, e') = (
     [],
     tt,
+    subst (λ (l : List Item). Shallow l []) (sym e) shallow_nothing,
     λ us a' x are r.
         (a', (are, refl), subst (λ (z : A). V z (x ++ []) a') (sym e') (subst (λ (z : List ℕ). V a z a') (sym (append-nil x)) r)),
   )
   lift_links f Q V W q step (suc k) ts a c h (us, vs, b, e, w, l) =
       let h' : Honest (us ++ vs) = subst Honest e h in
-      let (ks, v, again) = q.lift us b (honest_front us vs h') w in
-      let (ls, v', again') = lift_links f Q V W q step k vs (f a b) c (honest_back us vs h') l in (
+      let (ks, v, s, again) = q.lift us b (honest_front us vs h') w in
+      let (ls, v', s', again') = lift_links f Q V W q step k vs (f a b) c (honest_back us vs h') l in (
         ks ++ ls,
         valid_append ks ls v v',
+        shallow_both us vs ts ks ls e s s',
         λ ts' a' x are r.
             let (us1, us2, eu, are1, are2) = are_split ks ls ts' are in
             let (b', w', rb) = again us1 are1 in
@@ -240,13 +250,14 @@ module _ (R : Rel) where
       → ((a a' : A) (b b' : B) (x y : List ℕ) → V a x a' → W b y b' → V (f a b) (x ++ y) (f a' b')) → Lift R (Chain f P Q) V
   lift_chain {A} {B} {f} {P} {Q} {V} {W} p q step = record { lift = go }
     where
-      go : (ts : List Item) (c : A) → Honest ts → whole R (Chain f P Q) ts c → Again R (Chain f P Q) V c
+      go : (ts : List Item) (c : A) → Honest ts → whole R (Chain f P Q) ts c → Again R (Chain f P Q) V ts c
       go ts c h (xs, ys, a, k, e, w, l) =
           let h' : Honest (xs ++ ys) = subst Honest e h in
-          let (ks, v, again) = p.lift xs a (honest_front xs ys h') w in
-          let (ls, v', again') = lift_links f Q V W q step k ys a c (honest_back xs ys h') l in (
+          let (ks, v, s, again) = p.lift xs a (honest_front xs ys h') w in
+          let (ls, v', s', again') = lift_links f Q V W q step k ys a c (honest_back xs ys h') l in (
             ks ++ ls,
             valid_append ks ls v v',
+            shallow_both xs ys ts ks ls e s s',
             λ us are.
                 let (us1, us2, eu, are1, are2) = are_split ks ls us are in
                 let (a', w', ra) = again us1 are1 in
@@ -259,18 +270,19 @@ module _ (R : Rel) where
   pub lift_as : {A : Type 0} {P : Form A} {V W : Back A} → Lift R P V → ((a b : A) (x : List ℕ) → V a x b → W a x b) → Lift R P W
   lift_as {A} {P} {V} {W} p h = record { lift = go }
     where
-      go : (ts : List Item) (a : A) → Honest ts → whole R P ts a → Again R P W a
-      go ts a honest w = let (ks, v, again) = p.lift ts a honest w in
-          (ks, v, λ us are. let (b, w', r) = again us are in (b, w', h a b (written ks) r))
+      go : (ts : List Item) (a : A) → Honest ts → whole R P ts a → Again R P W ts a
+      go ts a honest w = let (ks, v, s, again) = p.lift ts a honest w in
+          (ks, v, s, λ us are. let (b, w', r) = again us are in (b, w', h a b (written ks) r))
 
   -- `.` or `->`, which is written as `.`
   pub lift_dot : Lift R (Tok is_dot) (λ t x u. x ≡ token (codes "."))
   lift_dot = record { lift = go }
     where
-      go : (ts : List Item) (a : Item) → Honest ts → whole R (Tok is_dot) ts a → Again R (Tok is_dot) (λ t x u. x ≡ token (codes ".")) a
+      go : (ts : List Item) (a : Item) → Honest ts → whole R (Tok is_dot) ts a → Again R (Tok is_dot) (λ t x u. x ≡ token (codes ".")) ts a
       go ts a h w = (
         kind_of Dot ∷ [],
         (fixed_valid Dot refl, tt),
+        subst (λ (l : List Item). Shallow l (kind_of Dot ∷ [])) (sym w.0) (dot_shallow a.class w.1),
         λ us are.
             let (u, e, ek, ec) = one_item (kind_of Dot) us are in
             (u, (e, ap is_dot ec), written_one (kind_of Dot)),

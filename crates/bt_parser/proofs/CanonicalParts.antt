@@ -102,8 +102,8 @@ unbraced d p OrElses us v w = part_unbraced d (Level p AndThens) (implies1 (fst_
 body_at : (d : ℕ) → ((n : Part) → Lift (whole_at d) (Call n) (Value n)) → Lift (whole_at d) (rule Body) IsBody
 body_at zero calls = record { lift = go }
   where
-    go : (ts : List Item) (a : List Stmt) → Honest ts → whole (whole_at zero) (rule Body) ts a → Again (whole_at zero) (rule Body) IsBody a
-    go ts a h (inl w) = let (ks, v, again) = (lift_end (whole_at zero) calls).lift ts a h w in (ks, v, λ us are. let (b, w', r) = again us are in (b, inl w', r))
+    go : (ts : List Item) (a : List Stmt) → Honest ts → whole (whole_at zero) (rule Body) ts a → Again (whole_at zero) (rule Body) IsBody ts a
+    go ts a h (inl w) = let (ks, v, s, again) = (lift_end (whole_at zero) calls).lift ts a h w in (ks, v, s, λ us are. let (b, w', r) = again us are in (b, inl w', r))
     go ts a h (inr (inl w)) = absurd w.6
     go ts a h (inr (inr w)) = absurd w.6
 body_at (suc d) calls = lift_Body (whole_at (suc d)) calls (λ u e. inl (u.place, refl, (u, refl, (refl, is_refl CloseBrace u.class e))))

@@ -34,6 +34,7 @@ use Rattle.bt_parser.specs.Bare.{bare_point}
 use Rattle.bt_parser.proofs.AllClasses.{and_first, and_second}
 use Rattle.bt_parser.proofs.Lexemes.{lexeme, Valid, Honest}
 use Rattle.bt_parser.proofs.LexemesFixed.{kind_of, fixed_valid, tracepoint_kind, interval_kind, apart}
+use Rattle.bt_parser.proofs.CanonicalWeights.{shallow_token}
 use Rattle.bt_parser.proofs.CanonicalForms.{Lift, Again, Behind, one_item, lift_map, lift_chain, lift_comma}
 use Rattle.bt_parser.proofs.CanonicalValues.{IsPoint, IsPoints}
 use Rattle.bt_parser.proofs.CanonicalExprs.{joined_by, snoc_same}
@@ -159,23 +160,24 @@ interval_valid unit number small = attach_valid (codes "interval") (unit_word un
 
 -- ---- points
 
--- a kind that writes the point, of whatever token it is read again
-abbrev Written : Point → Type 0
-Written point = (l : TokenKind) × Valid l × ((c : Class) (p : Place) → c ≡ class_of l → (is_point c ≡ true) × IsPoint point (lexeme l) (point_of c l p))
+-- a kind of the class that writes the point, of whatever token it is read again
+abbrev Written : Class → Point → Type 0
+Written class point = (l : TokenKind) × Valid l × (class_of l ≡ class) × ((c : Class) (p : Place) → c ≡ class_of l → (is_point c ≡ true) × IsPoint point (lexeme l) (point_of c l p))
 
-written_as : (point other : Point) → other ≡ point → Written point → Written other
-written_as point other e w = subst Written (sym e) w
+written_as : (class : Class) (point other : Point) → other ≡ point → Written class point → Written class other
+written_as class point other e w = subst (Written class) (sym e) w
 
-begin_written : (p : Place) → Written (points.Begin p)
-begin_written p = (kind_of BeginWord, fixed_valid BeginWord refl, λ c q e. subst (λ (z : Class). (is_point z ≡ true) × IsPoint (points.Begin p) (lexeme (kind_of BeginWord)) (point_of z (kind_of BeginWord) q)) (sym e) (refl, (refl, refl)))
+begin_written : (p : Place) → Written BeginWord (points.Begin p)
+begin_written p = (kind_of BeginWord, fixed_valid BeginWord refl, refl, λ c q e. subst (λ (z : Class). (is_point z ≡ true) × IsPoint (points.Begin p) (lexeme (kind_of BeginWord)) (point_of z (kind_of BeginWord) q)) (sym e) (refl, (refl, refl)))
 
-end_written : (p : Place) → Written (points.End p)
-end_written p = (kind_of EndWord, fixed_valid EndWord refl, λ c q e. subst (λ (z : Class). (is_point z ≡ true) × IsPoint (points.End p) (lexeme (kind_of EndWord)) (point_of z (kind_of EndWord) q)) (sym e) (refl, (refl, refl)))
+end_written : (p : Place) → Written EndWord (points.End p)
+end_written p = (kind_of EndWord, fixed_valid EndWord refl, refl, λ c q e. subst (λ (z : Class). (is_point z ≡ true) × IsPoint (points.End p) (lexeme (kind_of EndWord)) (point_of z (kind_of EndWord) q)) (sym e) (refl, (refl, refl)))
 
-tracepoint_written : (system name : List ℕ) → is_name system ≡ true → is_name name ≡ true → (p : Place) → Written (points.Tracepoint system name p)
+tracepoint_written : (system name : List ℕ) → is_name system ≡ true → is_name name ≡ true → (p : Place) → Written TracepointPoint (points.Tracepoint system name p)
 tracepoint_written system name s n p = (
   kinds.Attach bytes,
   attach_valid (codes "tracepoint") system name (inl refl) (name_all system s) (name_all name n),
+  ap point_class (tracepoint_read system name s n origin),
   λ c q e.
       let e' : c ≡ TracepointPoint = e ∙ ap point_class (tracepoint_read system name s n origin) in
       let same : point_of TracepointPoint (kinds.Attach bytes) q ≡ points.Tracepoint system name q = ap (λ (o : Option Point). found_point o q) (tracepoint_read system name s n q) in
@@ -185,17 +187,18 @@ tracepoint_written system name s n p = (
     bytes : List ℕ
     bytes = codes "tracepoint:" ++ (system ++ (codes ":" ++ name))
 
-interval_written : (unit : TimeUnit) (number : ℕ) → number < 2 ^ 64 → (p : Place) → Written (points.Interval unit number p)
+interval_written : (unit : TimeUnit) (number : ℕ) → number < 2 ^ 64 → (p : Place) → Written IntervalPoint (points.Interval unit number p)
 interval_written unit number small p = (
   kinds.Attach (interval_bytes unit number),
   interval_valid unit number small,
+  ap point_class (interval_read unit number small origin),
   λ c q e.
       let e' : c ≡ IntervalPoint = e ∙ ap point_class (interval_read unit number small origin) in
       let same : point_of IntervalPoint (kinds.Attach (interval_bytes unit number)) q ≡ points.Interval unit number q = ap (λ (o : Option Point). found_point o q) (interval_read unit number small q) in
       subst (λ (z : Class). (is_point z ≡ true) × IsPoint (points.Interval unit number p) (token (interval_bytes unit number)) (point_of z (kinds.Attach (interval_bytes unit number)) q)) (sym e') (refl, (refl, ap bare_point same)),
 )
 
-point_written : (c : Class) (k : TokenKind) (p : Place) → c ≡ class_of k → is_point c ≡ true → Written (point_of c k p)
+point_written : (c : Class) (k : TokenKind) (p : Place) → c ≡ class_of k → is_point c ≡ true → Written c (point_of c k p)
 point_written BeginWord k p e q = begin_written p
 point_written EndWord k p e q = end_written p
 point_written TracepointPoint k p e q = by_view (view_parts (slice_split (λ b. b == 58) (kind_bytes k)))
@@ -203,19 +206,19 @@ point_written TracepointPoint k p e q = by_view (view_parts (slice_split (λ b. 
     is_class : TracepointPoint ≡ point_class (attach_point (kind_bytes k) origin)
     is_class = e ∙ ap class_of (tracepoint_kind k e)
 
-    by_view : View (attach_point (kind_bytes k)) → Written (found_point (attach_point (kind_bytes k) p) p)
+    by_view : View (attach_point (kind_bytes k)) → Written TracepointPoint (found_point (attach_point (kind_bytes k) p) p)
     by_view (inl v) = absurd (apart TracepointPoint Foreign (is_class ∙ ap point_class (v origin)) refl)
-    by_view (inr (inl (s, n, hs, hn, v))) = written_as (points.Tracepoint s n p) _ (ap (λ (o : Option Point). found_point o p) (v p)) (tracepoint_written s n hs hn p)
+    by_view (inr (inl (s, n, hs, hn, v))) = written_as TracepointPoint (points.Tracepoint s n p) _ (ap (λ (o : Option Point). found_point o p) (v p)) (tracepoint_written s n hs hn p)
     by_view (inr (inr (u, n, small, v))) = absurd (apart TracepointPoint IntervalPoint (is_class ∙ ap point_class (v origin)) refl)
 point_written IntervalPoint k p e q = by_view (view_parts (slice_split (λ b. b == 58) (kind_bytes k)))
   where
     is_class : IntervalPoint ≡ point_class (attach_point (kind_bytes k) origin)
     is_class = e ∙ ap class_of (interval_kind k e)
 
-    by_view : View (attach_point (kind_bytes k)) → Written (found_point (attach_point (kind_bytes k) p) p)
+    by_view : View (attach_point (kind_bytes k)) → Written IntervalPoint (found_point (attach_point (kind_bytes k) p) p)
     by_view (inl v) = absurd (apart IntervalPoint Foreign (is_class ∙ ap point_class (v origin)) refl)
     by_view (inr (inl (s, n, hs, hn, v))) = absurd (apart IntervalPoint TracepointPoint (is_class ∙ ap point_class (v origin)) refl)
-    by_view (inr (inr (u, n, small, v))) = written_as (points.Interval u n p) _ (ap (λ (o : Option Point). found_point o p) (v p)) (interval_written u n small p)
+    by_view (inr (inr (u, n, small, v))) = written_as IntervalPoint (points.Interval u n p) _ (ap (λ (o : Option Point). found_point o p) (v p)) (interval_written u n small p)
 point_written _ k p e q = absurd (false≢true q)
 
 -- ---- lists of points
@@ -241,10 +244,11 @@ module _ (R : Rel) where
   lift_point : Lift R (Tok is_point) (λ t x u. IsPoint (point_at t) x (point_at u))
   lift_point = record { lift = go }
     where
-      again : (t : Item) → Honest (t ∷ []) → is_point t.class ≡ true → Again R (Tok is_point) (λ t x u. IsPoint (point_at t) x (point_at u)) t
-      again t h q = let (l, v, w) = point_written t.class t.kind t.place h.0 q in (
+      again : (t : Item) → Honest (t ∷ []) → is_point t.class ≡ true → Again R (Tok is_point) (λ t x u. IsPoint (point_at t) x (point_at u)) (t ∷ []) t
+      again t h q = let (l, v, lc, w) = point_written t.class t.kind t.place h.0 q in (
         l ∷ [],
         (v, tt),
+        shallow_token t l lc,
         λ us are.
             let (u, e, ek, ec) = one_item l us are in
             let (qu, r) = w u.class u.place ec in (
@@ -255,8 +259,8 @@ module _ (R : Rel) where
             ),
       )
 
-      go : (ts : List Item) (a : Item) → Honest ts → whole R (Tok is_point) ts a → Again R (Tok is_point) (λ t x u. IsPoint (point_at t) x (point_at u)) a
-      go ts a h (e, q) = again a (subst Honest e h) q
+      go : (ts : List Item) (a : Item) → Honest ts → whole R (Tok is_point) ts a → Again R (Tok is_point) (λ t x u. IsPoint (point_at t) x (point_at u)) ts a
+      go ts a h (e, q) = subst (λ (l : List Item). Again R (Tok is_point) (λ t x u. IsPoint (point_at t) x (point_at u)) l a) (sym e) (again a (subst Honest e h) q)
 
   pub lift_Points : Lift R (rule Points) IsPoints
   lift_Points = lift_chain R (lift_map R lift_point first_case) (lift_comma R (lift_map R lift_point (λ t u x r. r))) next_case

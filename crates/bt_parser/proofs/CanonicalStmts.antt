@@ -14,7 +14,7 @@ use Rattle.bt_ast.specs.declared.stmt.AggCall.{AggCall}
 use Rattle.bt_ast.specs.declared.stmt.AggCall.TheVariants as aggs
 use Rattle.bt_ast.specs.declared.stmt.StmtKind.{StmtKind}
 use Rattle.bt_ast.specs.declared.stmt.StmtKind.TheVariants as stmts
-use Rattle.bt_ast.specs.Words.{token, number_text, signed_text, assign_mark}
+use Rattle.bt_ast.specs.Words.{token, number_text, assign_mark}
 use Rattle.bt_ast.specs.Exprs.{expr_text, target_text, map_text, marked, key_text}
 use Rattle.bt_ast.specs.Stmts.{call_text, simple, agg_text, optional_text, kind_text}
 use Rattle.bt_parser.specs.declared.class.Class.{Class}
@@ -71,9 +71,9 @@ lhist_case : (p q : Place) (a b : Expr × (ℤ × (ℤ × ℤ))) (x y : List ℕ
 lhist_case p q a b x y ex (z, ey, (x1, y1, e1, (w1, f1, (g1, h1)), (x2, y2, e2, (w2, f2, (g2, h2)), (x3, y3, e3, (w3, f3, (g3, h3)), (g4, h4))))) =
     let c : List ℕ = token (codes ",") in
     let at1 : x1 ≡ expr_text a.0 ++ token (codes ",") = f1 ∙ ap (λ (l : List ℕ). l ++ token (codes ",")) g1 in
-    let at2 : x2 ≡ signed_text a.1.0 ++ token (codes ",") = f2 ∙ ap (λ (l : List ℕ). l ++ token (codes ",")) g2 in
-    let at3 : x3 ≡ signed_text a.1.1.0 ++ token (codes ",") = f3 ∙ ap (λ (l : List ℕ). l ++ token (codes ",")) g3 in
-    let inside = e1 ∙ (joined_by at1 (e2 ∙ joined_by at2 (e3 ∙ joined_by at3 g4)) ∙ bounds_text (expr_text a.0) (token (codes ",")) (signed_text a.1.0) (signed_text a.1.1.0) (signed_text a.1.1.1)) in (
+    let at2 : x2 ≡ number_text a.1.0 ++ token (codes ",") = f2 ∙ ap (λ (l : List ℕ). l ++ token (codes ",")) g2 in
+    let at3 : x3 ≡ number_text a.1.1.0 ++ token (codes ",") = f3 ∙ ap (λ (l : List ℕ). l ++ token (codes ",")) g3 in
+    let inside = e1 ∙ (joined_by at1 (e2 ∙ joined_by at2 (e3 ∙ joined_by at3 g4)) ∙ bounds_text (expr_text a.0) (token (codes ",")) (number_text a.1.0) (number_text a.1.1.0) (number_text a.1.1.1)) in (
       joined_by ex (ey ∙ ap (λ (l : List ℕ). token (codes "(") ++ (l ++ token (codes ")"))) inside),
       (λ i. aggs.Lhist (h1 i) (h2 i) (h3 i) (h4 i)),
     )

@@ -12,7 +12,7 @@ use Rattle.bt_ast.specs.declared.stmt.Stmt.{Stmt}
 use Rattle.bt_ast.specs.declared.stmt.StmtKind.{StmtKind}
 use Rattle.bt_ast.specs.declared.probe.Point.{Point}
 use Rattle.bt_ast.specs.declared.probe.Probe.{Probe}
-use Rattle.bt_ast.specs.Words.{token, ending, signed_text}
+use Rattle.bt_ast.specs.Words.{token, ending, number_text}
 use Rattle.bt_ast.specs.Exprs.{expr_text, target_text, map_text, marked, key_text}
 use Rattle.bt_ast.specs.Stmts.{simple, agg_text, arms_after, arm_of, otherwise_text, joined, kind_text, block_text, stmt_text}
 use Rattle.bt_ast.specs.Scripts.{point_text, points_after, probe_text}
@@ -36,7 +36,7 @@ abbrev pub IsTarget : Back Target
 IsTarget = Same target_text bare_target
 
 abbrev pub IsInt : Back ℤ
-IsInt n x m = (x ≡ signed_text n) × (m ≡ n)
+IsInt n x m = (x ≡ number_text n) × (m ≡ n)
 
 abbrev pub IsAgg : Back (AggCall × Place)
 IsAgg a x b = (x ≡ agg_text a.0) × (bare_agg b.0 ≡ bare_agg a.0)

@@ -31,3 +31,4 @@ mod CanonicalStmts
 mod CanonicalBlocks
 mod CanonicalParts
 mod Back
+mod CanonicalWeights
