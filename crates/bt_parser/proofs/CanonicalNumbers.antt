@@ -1,24 +1,21 @@
 -- What a number with or without a sign was read of can be written again.
-use Rattle.std.proofs.Common.{◌≡◌, ℕ, ℤ, pos, negsuc, suc, ◌+◌, ◌-◌, ◌^◌, ◌<◌, ◌≤◌, Bool, true, false, cond, List, [], ◌∷◌, ◌++◌, refl, ap, sym, subst, ◌∙◌, inl, inr, arith}
-use Rattle.std.specs.Prelude.{codes, decimal, nat_lt, ◌%◌}
-use Rattle.std.specs.Int.{w64, cast_unsigned, cast_signed}
-use Rattle.std.proofs.Math.Nat.{mod-eq_of_lt, mod-lt}
-use Rattle.std.proofs.Math.Facts.{to_z-neg}
-use Rattle.std.proofs.lemmas.Int.{of_z-to_z, to_z_pos}
-use Rattle.std.proofs.lemmas.Bool.Decides.{nat_tests}
+use Rattle.std.proofs.Common.{◌≡◌, ℕ, ℤ, ◌-◌, ◌^◌, ◌<◌, true, List, [], ◌∷◌, ◌++◌, refl, ap, sym, subst, ◌∙◌, inl, inr, arith}
+use Rattle.std.specs.Prelude.{decimal, ◌%◌}
+use Rattle.std.specs.Int.{w64, cast_unsigned}
+use Rattle.std.proofs.Math.Nat.{mod-lt}
 use Rattle.bt_lexer.specs.declared.token.TokenKind.TheVariants as kinds
 use Rattle.bt_lexer.specs.Numbers.{signed}
-use Rattle.bt_ast.specs.Words.{token, number_text}
+use Rattle.bt_ast.specs.Words.{number_text}
 use Rattle.bt_parser.specs.declared.class.Class.{Class}
 use Rattle.bt_parser.specs.declared.class.Class.TheVariants.{NumberLiteral, Minus}
 use Rattle.bt_parser.specs.Classes.{is}
 use Rattle.bt_parser.specs.Form.{Item, Int, Rel, whole}
-use Rattle.bt_parser.specs.Trees.{kind_number, number_at, negated}
+use Rattle.bt_parser.specs.Trees.{kind_number, number_at}
 use Rattle.bt_parser.specs.Rules.{rule, a_number}
 use Rattle.bt_parser.proofs.AllClasses.{is_same, is_refl}
 use Rattle.bt_parser.proofs.Lexemes.{Sound, Valid, Honest}
 use Rattle.bt_parser.proofs.LexemesKinds.{sound_valid, decimal_writes}
-use Rattle.bt_parser.proofs.LexemesFixed.{kind_of, fixed_valid, number_kind}
+use Rattle.bt_parser.proofs.LexemesFixed.{number_kind}
 use Rattle.bt_parser.proofs.CanonicalWeights.{NoDeeper, item_classes, shallow_one, number_shallow}
 use Rattle.bt_parser.proofs.CanonicalForms.{Lift, Again, lift_kept, lift_map, one_item, written_one}
 use Rattle.bt_parser.proofs.CanonicalValues.{IsInt}
@@ -41,9 +38,14 @@ two_classes ts t u e q q' = ap item_classes e ∙ (λ i. is_same Minus t.class q
 module _ (R : Rel) where
   -- each number of 64 bits is written without a sign
   int_again : (ts : List Item) (m : ℕ) → m < 2 ^ 64 → NoDeeper (item_classes ts) (NumberLiteral ∷ []) → Again R (rule Int) IsInt ts (signed m)
-  int_again ts m small shallow = (kinds.Number (signed m) ∷ [], (number_valid m small, tt), shallow, λ us are.
-      let (u, e, ek, ec) = one_item (kinds.Number (signed m)) us are in
-      (signed m, inl (u, sym (ap kind_number ek), (e, is_refl NumberLiteral u.class ec)), (written_one (kinds.Number (signed m)), refl)))
+  int_again ts m small shallow = (
+    kinds.Number (signed m) ∷ [],
+    (number_valid m small, tt),
+    shallow,
+    λ us are.
+        let (u, e, ek, ec) = one_item (kinds.Number (signed m)) us are in
+        (signed m, inl (u, sym (ap kind_number ek), (e, is_refl NumberLiteral u.class ec)), (written_one (kinds.Number (signed m)), refl)),
+  )
 
   pub lift_Int : Lift R (rule Int) IsInt
   lift_Int = record { lift = go }

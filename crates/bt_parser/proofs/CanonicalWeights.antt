@@ -1,5 +1,5 @@
 -- What is written again is nested no deeper.
-use Rattle.std.proofs.Common.{◌≡◌, ℕ, zero, suc, ◌+◌, ◌-◌, ◌<◌, ◌≤◌, Bool, true, false, List, [], ◌∷◌, ◌++◌, length, take, refl, ap, sym, subst, ◌∙◌, inl, inr, arith}
+use Rattle.std.proofs.Common.{◌≡◌, ℕ, zero, suc, ◌+◌, ◌<◌, ◌≤◌, Bool, true, false, List, [], ◌∷◌, ◌++◌, length, take, refl, ap, sym, subst, ◌∙◌, inl, inr, arith}
 use Rattle.std.specs.Prelude.{nat_le, ◌⊎◌, if◌then◌else◌}
 use Rattle.std.specs.List.{sum}
 use Rattle.std.proofs.lemmas.Bool.{false≢true}
@@ -12,7 +12,7 @@ use Rattle.bt_parser.specs.Classes.{is_dot}
 use Rattle.bt_parser.specs.Form.{Item}
 use Rattle.bt_parser.specs.Tokens.{class_of}
 use Rattle.bt_parser.specs.Weights.{is_operator, reset, counted, opened, closed, levels_behind, levels_from, level_weight, weight}
-use Rattle.bt_parser.specs.Refusals.{IsDepthFault, deepest_weight}
+use Rattle.bt_parser.specs.Refusals.{deepest_weight}
 use Rattle.bt_parser.proofs.Decide.{NoDepthFault}
 use Rattle.bt_parser.proofs.Lexemes.{Are}
 
@@ -146,10 +146,11 @@ behind_both levels (c ∷ cs) ds = behind_both (levels_behind c levels) cs ds
 no_deeper_both : (cs ds cs' ds' : List Class) → NoDeeper cs ds → NoDeeper cs' ds' → NoDeeper (cs ++ cs') (ds ++ ds')
 no_deeper_both cs ds cs' ds' f g = λ ns ms h w light.
     let (l, b, w') = f ns ms h w (light_front ns cs cs' light) in
-    let (l', b', w2) = g (behind ns cs) (behind ms ds) b w' (light_back ns cs cs' light) in
-    (light_both ms ds ds' l l',
-    subst (λ (z : List ℕ). NoMore z (behind ns (cs ++ cs'))) (sym (behind_both ms ds ds')) (subst (λ (z : List ℕ). NoMore (behind (behind ms ds) ds') z) (sym (behind_both ns cs cs')) b'),
-    subst (λ (z : List ℕ). level_weight z ≤ deepest_weight) (sym (behind_both ns cs cs')) w2)
+    let (l', b', w2) = g (behind ns cs) (behind ms ds) b w' (light_back ns cs cs' light) in (
+      light_both ms ds ds' l l',
+      subst (λ (z : List ℕ). NoMore z (behind ns (cs ++ cs'))) (sym (behind_both ms ds ds')) (subst (λ (z : List ℕ). NoMore (behind (behind ms ds) ds') z) (sym (behind_both ns cs cs')) b'),
+      subst (λ (z : List ℕ). level_weight z ≤ deepest_weight) (sym (behind_both ns cs cs')) w2,
+    )
 
 items_both : (ts us : List Item) → item_classes (ts ++ us) ≡ item_classes ts ++ item_classes us
 items_both [] us = refl
@@ -228,8 +229,11 @@ all_within ts none (suc k) le m less =
 
 light_by : (levels : List ℕ) (ts : List Item) → ((m : ℕ) → m < length ts → level_weight (levels_from levels (take (m + 1) ts)) ≤ deepest_weight) → Light levels (item_classes ts)
 light_by levels [] h = tt
-light_by levels (t ∷ ts) h = (h 0 (omega arith), light_by (levels_behind t.class levels) ts (λ m l. let e : suc m + 1 ≡ suc (m + 1) = omega arith in
-    subst (λ (k : ℕ). level_weight (levels_from levels (take k (t ∷ ts))) ≤ deepest_weight) e (h (suc m) (omega arith))))
+light_by levels (t ∷ ts) h = (
+  h 0 (omega arith),
+  light_by (levels_behind t.class levels) ts (λ m l. let e : suc m + 1 ≡ suc (m + 1) = omega arith in
+      subst (λ (k : ℕ). level_weight (levels_from levels (take k (t ∷ ts))) ≤ deepest_weight) e (h (suc m) (omega arith))),
+)
 
 pub light_items : (ts : List Item) → NoDepthFault ts → Light (0 ∷ []) (item_classes ts)
 unfolding weight
