@@ -8,11 +8,11 @@ use Rattle.bt_parser.specs.declared.error.ParseError.TheVariants.{TooDeep, TooMa
 use Rattle.bt_parser.specs.Classes.{is_point}
 use Rattle.bt_parser.specs.Reading.{Out, Done, and_then, starts, reads}
 use Rattle.bt_parser.specs.Counts.{probes_read}
-use Rattle.bt_parser.specs.Refusals.{IsCountFault, IsAccepted, most_probes}
+use Rattle.bt_parser.specs.Refusals.{IsCountFault, NoDepthFault, IsAccepted, most_probes}
 use Rattle.bt_parser.proofs.Sound.{DoneBoth, and_then-done}
 use Rattle.bt_parser.proofs.Counts.{ReadTree, read_tree, tree_read, probe_starts}
 use Rattle.bt_parser.proofs.Scripts.{full_at}
-use Rattle.bt_parser.proofs.Decide.{NoDepthFault, accepted}
+use Rattle.bt_parser.proofs.Decide.{accepted}
 use Rattle.bt_lexer.specs.declared.token.Token.{Token}
 use Rattle.bt_lexer.specs.Tokens.{IsTokensOf}
 use Rattle.bt_ast.specs.declared.probe.Probe.{Probe}

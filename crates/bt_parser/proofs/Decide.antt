@@ -12,7 +12,7 @@ use Rattle.bt_parser.proofs.Sound.{DoneBoth, and_then-done}
 use Rattle.bt_parser.specs.Grammar.{Tree, IsTreeOf, Begins, RefusedAt, whole_at}
 use Rattle.bt_parser.specs.Counts.{probes_read}
 use Rattle.bt_parser.specs.Weights.{weight}
-use Rattle.bt_parser.specs.Refusals.{IsSyntaxFault, IsDepthFault, IsCountFault, Holds, NotAfter, IsRefusal, IsAccepted, token_of, order_of, deepest_weight, most_probes}
+use Rattle.bt_parser.specs.Refusals.{IsSyntaxFault, IsDepthFault, IsCountFault, NoDepthFault, NoCountFault, Holds, NotAfter, IsRefusal, IsAccepted, token_of, order_of, deepest_weight, most_probes}
 use Rattle.bt_parser.proofs.Depth.{whole_begins_at, more_at}
 use Rattle.bt_parser.proofs.Counts.{tree_read, probe_starts}
 
@@ -82,7 +82,7 @@ syntax_least ts n m f g = elim (less m n) [ inr le ↦ le | inl short ↦ absurd
 
 -- ---- depth
 
-depth_least : (ts : List Item) (n m : ℕ) → IsDepthFault ts n → IsDepthFault ts m → n ≤ m
+pub depth_least : (ts : List Item) (n m : ℕ) → IsDepthFault ts n → IsDepthFault ts m → n ≤ m
 depth_least ts n m f g = elim (less m n) [ inr le ↦ le | inl short ↦ (let h : weight (take (m + 1) ts) ≤ deepest_weight = f.first m short in absurd (omega (arith, h, g.deep))) ]
 
 -- ---- the number of probes
@@ -94,7 +94,7 @@ count_read ts n f =
     (subst (λ z. probes_read z ts ≡ Done f.probes (drop n ts)) f.full
     (subst (λ z. probes_read (length f.probes) z ≡ Done f.probes (drop n ts)) (take-append-drop n ts) e))
 
-count_place : (ts : List Item) (n : ℕ) (f : IsCountFault ts n) → n + length (f.next ∷ f.rest) ≡ length ts
+pub count_place : (ts : List Item) (n : ℕ) (f : IsCountFault ts n) → n + length (f.next ∷ f.rest) ≡ length ts
 count_place ts n f = omega (arith, ap length f.is, length-drop n ts)
 
 -- with the first token of another probe the tokens still begin a script
@@ -111,10 +111,10 @@ take_next zero ts t rest e = rw e refl
 take_next (suc n) [] t rest e = cc (e)
 take_next (suc n) (u ∷ ts) t rest e = let h : suc n + 1 ≡ suc (n + 1) = omega arith in rw h (ap (λ z. u ∷ z) (take_next n ts t rest e))
 
-count_begins : (ts : List Item) (n : ℕ) → IsCountFault ts n → Begins (take (n + 1) ts)
+pub count_begins : (ts : List Item) (n : ℕ) → IsCountFault ts n → Begins (take (n + 1) ts)
 count_begins ts n f = subst Begins (sym (take_next n ts f.next f.rest f.is)) (another_begins (take n ts) f.probes f.next f.tree f.begins)
 
-count_one : (ts : List Item) (n m : ℕ) → IsCountFault ts n → IsCountFault ts m → n ≡ m
+pub count_one : (ts : List Item) (n m : ℕ) → IsCountFault ts n → IsCountFault ts m → n ≡ m
 count_one ts n m f g =
     let e : Done f.probes (f.next ∷ f.rest) ≡ Done g.probes (g.next ∷ g.rest) = sym (count_read ts n f) ∙ count_read ts m g in
     let q : f.next ∷ f.rest ≡ g.next ∷ g.rest = cc (e) in
@@ -191,18 +191,12 @@ few k ts probes r e bound none_less none_full n f = elim (less k most_probes) [
 none_left : Another [] → ⊥
 none_left a = let h : starts (λ c _. is_point c) [] ≡ true = probe_starts [] a.probe a.rest a.is in cc (h)
 
-few_tree : (ts : List Item) (probes : List Probe) → Tree ts probes → length probes ≤ most_probes → (n : ℕ) → IsCountFault ts n → ⊥
+pub few_tree : (ts : List Item) (probes : List Probe) → Tree ts probes → length probes ≤ most_probes → (n : ℕ) → IsCountFault ts n → ⊥
 few_tree ts probes w bound n f =
     let e : probes_read (length probes) ts ≡ Done probes [] = subst (λ z. probes_read (length probes) z ≡ Done probes []) (append-nil ts) (tree_read ts probes [] w) in
     few (length probes) ts probes [] e bound (λ _. none_left) (λ _. refl) n f
 
 -- ---- the first fault
-
-abbrev pub NoDepthFault : List Item → Type 0
-NoDepthFault ts = (n : ℕ) → IsDepthFault ts n → ⊥
-
-abbrev pub NoCountFault : List Item → Type 0
-NoCountFault ts = (n : ℕ) → IsCountFault ts n → ⊥
 
 not_after : (a b : ParseError) → token_of a ≤ token_of b → order_of a ≤ order_of b → NotAfter a b
 not_after a b le order = elim (less (token_of a) (token_of b)) [ inl h ↦ inl h | inr h ↦ inr (omega arith, order) ]

@@ -128,7 +128,7 @@ pub whole_begins_at : (d : ℕ) (n : Part) (ts : List Item) (a : Of n) → whole
 whole_begins_at zero n ts a w = absurd w
 whole_begins_at (suc d) n ts a w = whole_begins (whole_at d) (begins_at d) (whole_begins_at d) (rule n) ts a w
 
-tree_is_done : (d m : ℕ) (ts : List Item) (s : List Probe) → whole_at d WholeScript ts s → d ≤ m → read_at m WholeScript ts ≡ Done s []
+pub tree_is_done : (d m : ℕ) (ts : List Item) (s : List Probe) → whole_at d WholeScript ts s → d ≤ m → read_at m WholeScript ts ≡ Done s []
 tree_is_done d m ts s w le = rw (sym (append-nil ts)) (only_at d m le WholeScript ts s [] w refl)
 
 -- reading that stops before a token stops there, at each depth, however the text goes on; so no text goes on there

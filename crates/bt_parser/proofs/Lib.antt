@@ -32,3 +32,15 @@ mod CanonicalBlocks
 mod CanonicalParts
 mod Back
 mod CanonicalWeights
+mod Mirrored
+mod WordKinds
+mod Sameness
+mod Operators
+mod DeepFrom
+mod Parts
+mod Ends
+mod Parsed
+mod Stated
+mod Blocks
+mod Probed
+mod OneAnswer

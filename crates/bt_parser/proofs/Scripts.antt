@@ -13,11 +13,11 @@ use Rattle.bt_parser.specs.Reading.{Out, Done, Refused, and_then, starts, reads,
 use Rattle.bt_parser.specs.Grammar.{Tree, RefusedAt, Answer}
 use Rattle.bt_parser.specs.Counts.{probes_read}
 use Rattle.bt_parser.specs.Weights.{levels_from, levels_behind, level_weight}
-use Rattle.bt_parser.specs.Refusals.{IsCountFault, most_probes, deepest_weight}
+use Rattle.bt_parser.specs.Refusals.{IsCountFault, NoCountFault, most_probes, deepest_weight}
 use Rattle.bt_parser.proofs.Depth.{exact}
 use Rattle.bt_parser.proofs.Enough.{reads_is}
 use Rattle.bt_parser.proofs.Counts.{ReadTree, read_tree, script_behind, another_probe, no_probe, probe_starts}
-use Rattle.bt_parser.proofs.Decide.{NoCountFault, few, take_front}
+use Rattle.bt_parser.proofs.Decide.{Another, few, take_front}
 
 -- what reading the tokens answers is so
 pub reads_answer : (ts : List Item) → Answer ts (reads WholeScript ts)

@@ -9,7 +9,13 @@ pub mod Reading
 pub mod Grammar
 pub mod Contract
 pub mod Fine
+pub mod Points
+pub mod Mirror
 pub mod Weights
 pub mod Refusals
 pub mod Counts
 pub mod Bare
+pub mod Levels
+pub mod Outcomes
+pub mod Statements
+pub mod Probes

@@ -38,6 +38,12 @@ pub record IsCountFault (ts : List Item) (n : ℕ) : Type 0 where
   pub is : drop n ts ≡ next ∷ rest
   pub begins : is_point next.class ≡ true
 
+abbrev pub NoDepthFault : List Item → Type 0
+NoDepthFault ts = (n : ℕ) → IsDepthFault ts n → ⊥
+
+abbrev pub NoCountFault : List Item → Type 0
+NoCountFault ts = (n : ℕ) → IsCountFault ts n → ⊥
+
 abbrev pub Holds : List Item → ParseError → Type 0
 Holds ts (Syntax n) = IsSyntaxFault ts n
 Holds ts (TooDeep n) = IsDepthFault ts n

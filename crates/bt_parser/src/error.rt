@@ -9,13 +9,13 @@ use thiserror::Error;
 pub enum ParseError {
     /// P1: no script goes on with this token, or none ends here where no token is left.
     #[error("syntax at token {0}")]
-    Syntax(u64),
+    Syntax(u32),
     /// P2: with this token more than 64 brackets and operators are open.
     #[error("too deep at token {0}")]
-    TooDeep(u64),
+    TooDeep(u32),
     /// P3: the 65th probe begins here.
     #[error("too many probes at token {0}")]
-    TooMany(u64),
+    TooMany(u32),
     /// Memory ran out.
     #[error("out of memory")]
     Memory,
