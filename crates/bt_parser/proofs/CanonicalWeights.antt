@@ -12,7 +12,7 @@ use Rattle.bt_parser.specs.Classes.{is_dot}
 use Rattle.bt_parser.specs.Form.{Item}
 use Rattle.bt_parser.specs.Tokens.{class_of}
 use Rattle.bt_parser.specs.Weights.{is_operator, reset, counted, opened, closed, levels_behind, levels_from, level_weight, weight}
-use Rattle.bt_parser.specs.Refusals.{deepest_weight}
+use Rattle.bt_parser.specs.Refusals.{NoDepthFault, deepest_weight}
 use Rattle.bt_parser.proofs.Lexemes.{Are}
 
 -- ---- levels with no more operators
