@@ -178,7 +178,7 @@ fn lhist(alloc: Global) -> Result<StmtKind, Memory> {
 }
 
 #[test]
-fn the_numbers_of_a_histogram_have_their_signs(rt: HostRuntime) -> Result<(), Fail> {
+fn the_bounds_of_a_histogram_have_no_signs(rt: HostRuntime) -> Result<(), Fail> {
     let alloc = rt.alloc();
     let text = b"@ = lhist ( pid , 18446744073709551606 , 10 , 5 ) ; \n} \n";
     assert!(rt; is_text_of(alloc, lhist(alloc)?, text)?);
