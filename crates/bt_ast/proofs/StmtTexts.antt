@@ -2,7 +2,7 @@
 use Rattle.std.proofs.Common.{◌≡◌, ◌++◌, ℕ, ℤ, List, [], ◌∷◌, Option, Some, None, codes, map, option_map, refl, sym, ap, ◌∙◌}
 use Rattle.bt_ast.specs.declared.expr.Expr.{Expr}
 use Rattle.bt_ast.specs.declared.stmt.Block.{Block}
-use Rattle.bt_ast.specs.declared.stmt.StmtKind.{StmtKind, fold-roll-StmtKind}
+use Rattle.bt_ast.specs.declared.stmt.StmtKind.{fold-roll-StmtKind}
 use Rattle.bt_ast.specs.declared.stmt.StmtKind.TheVariants.{While, Unroll, If, rolls-While, rolls-Unroll, rolls-If}
 use Rattle.bt_ast.specs.declared.stmt.StmtKind.TheOpen.{StmtKind-F}
 use Rattle.bt_ast.specs.declared.stmt.StmtKind.TheShapes.{former-StmtKind-If-0-at-2}

@@ -1,5 +1,5 @@
 -- The texts of expressions: the tokens of each, with a blank after each token.
-use Rattle.std.specs.Prelude.{ℕ, Bool, true, false, cond, ◌++◌, List, [], ◌∷◌, codes}
+use Rattle.std.specs.Prelude.{ℕ, Bool, cond, ◌++◌, List, [], ◌∷◌, codes}
 use Rattle.bt_ast.specs.declared.expr.Expr.{Expr, fold-Expr}
 use Rattle.bt_ast.specs.declared.expr.MapRef.{MapRef, fold-MapRef}
 use Rattle.bt_ast.specs.declared.expr.IncDec.{IncDec, fold-IncDec}

@@ -37,10 +37,6 @@ fn map(alloc: Global, name: &[u8], keys: Vec<Expr>) -> Result<MapRef, Memory> {
     })
 }
 
-fn whole_map(alloc: Global) -> Result<MapRef, Memory> {
-    map(alloc, b"@m", Vec::new(alloc))
-}
-
 fn variable(alloc: Global) -> Result<VarRef, Memory> {
     Ok(VarRef {
         name: bytes(alloc, b"$v")?,
@@ -56,196 +52,161 @@ fn block(kind: StmtKind, alloc: Global) -> Result<Block, Memory> {
     })
 }
 
-// Whether the text of a script of one probe at the start, which holds one statement, is this.
-fn is_text_of(alloc: Global, kind: StmtKind, text: &[u8]) -> Result<bool, Memory> {
+fn begin(alloc: Global) -> Result<Items<Point>, Memory> {
+    Ok(Items::of(vec![in alloc; Point::Begin { place: PLACE }]?))
+}
+
+fn script(alloc: Global, probe: Probe) -> Result<Script, Memory> {
+    let probes = vec![in alloc; probe]?;
+    Ok(Script {
+        probes: Items::of(probes),
+    })
+}
+
+// A script of one probe at the start, which holds one statement.
+fn script_of(alloc: Global, kind: StmtKind) -> Result<Script, Memory> {
+    let block = block(kind, alloc)?;
+    let points = begin(alloc)?;
     let probe = Probe {
-        points: Items::of(vec![in alloc; Point::Begin { place: PLACE }]?),
+        points,
         predicate: None,
-        block: block(kind, alloc)?,
+        block,
         place: PLACE,
     };
-    let script = Script {
-        probes: Items::of(vec![in alloc; probe]?),
-    };
-    let written = to_text(alloc, &script)?;
+    script(alloc, probe)
+}
+
+// Whether this is the text of a script behind its first line.
+fn is_text(alloc: Global, script: &Script, text: &[u8]) -> Result<bool, Memory> {
+    let written = to_text(alloc, script)?;
     Ok(written.as_slice().strip_prefix(b"BEGIN { \n") == Some(text))
 }
 
-// Whether the text of an assignment of this is that.
-fn is_value_text(alloc: Global, kind: ExprKind, text: &[u8]) -> Result<bool, Memory> {
-    let assign = StmtKind::Assign {
-        target: Target::Var(variable(alloc)?),
+// Whether the text of a script of one statement is this behind its first line.
+fn is_text_of(alloc: Global, kind: StmtKind, text: &[u8]) -> Result<bool, Memory> {
+    let script = script_of(alloc, kind)?;
+    is_text(alloc, &script, text)
+}
+
+fn assignment(alloc: Global, kind: ExprKind) -> Result<StmtKind, Memory> {
+    let var = variable(alloc)?;
+    Ok(StmtKind::Assign {
+        target: Target::Var(var),
         op: None,
         value: expr(kind),
-    };
-    let mut whole = Vec::from_slice(alloc, b"$v = ")?;
-    whole.extend_from_slice(text)?;
-    whole.extend_from_slice(b"; \n} \n")?;
-    is_text_of(alloc, assign, whole.as_slice())
+    })
+}
+
+fn product(alloc: Global) -> Result<ExprKind, Memory> {
+    let left = number(alloc, 2)?;
+    let right = number(alloc, -1)?;
+    let op = BinOp::Mul;
+    Ok(ExprKind::Binary { op, left, right })
 }
 
 #[test]
-fn an_expression_is_written_token_by_token(rt: HostRuntime) -> Result<(), Fail> {
-    let alloc = rt.alloc();
-    let product = ExprKind::Binary {
-        op: BinOp::Mul,
-        left: number(alloc, 2)?,
-        right: boxed(
-            alloc,
-            ExprKind::Unary {
-                op: UnOp::Neg,
-                value: number(alloc, 3)?,
-            },
-        )?,
-    };
-    let sum = ExprKind::Binary {
-        op: BinOp::Add,
-        left: boxed(alloc, ExprKind::Builtin(Builtin::Nsecs))?,
-        right: boxed(alloc, product)?,
-    };
-    assert!(rt; is_value_text(alloc, sum, b"nsecs + 2 * - 3 ")?);
-    let choice = ExprKind::Choose {
-        condition: boxed(
-            alloc,
-            ExprKind::AndThen {
-                left: number(alloc, 1)?,
-                right: number(alloc, 0)?,
-            },
-        )?,
-        yes: boxed(
-            alloc,
-            ExprKind::Paren(boxed(
-                alloc,
-                ExprKind::OrElse {
-                    left: number(alloc, 4)?,
-                    right: number(alloc, 5)?,
-                },
-            )?),
-        )?,
-        no: boxed(
-            alloc,
-            ExprKind::Field {
-                name: bytes(alloc, b"dev")?,
-                name_place: PLACE,
-            },
-        )?,
-    };
-    assert!(rt; is_value_text(alloc, choice, b"1 && 0 ? ( 4 || 5 ) : args . dev ")?);
-    Ok(())
-}
-
-#[test]
-fn a_number_is_written_by_its_bits_and_a_string_with_its_escapes(
+fn an_operator_stands_between_its_operands_and_a_number_by_its_bits(
     rt: HostRuntime,
 ) -> Result<(), Fail> {
     let alloc = rt.alloc();
-    assert!(rt; is_value_text(alloc, ExprKind::Number(-1), b"18446744073709551615 ")?);
-    assert!(rt; is_value_text(alloc, ExprKind::Number(0), b"0 ")?);
-    let text = ExprKind::Text(bytes(alloc, b"a\n\t\r\"\\%d")?);
-    assert!(rt; is_value_text(alloc, text, b"\"a\\n\\t\\r\\\"\\\\%d\" ")?);
+    let text = b"$v = 2 * 18446744073709551615 ; \n} \n";
+    assert!(rt; is_text_of(alloc, assignment(alloc, product(alloc)?)?, text)?);
     Ok(())
 }
 
+fn negated_product(alloc: Global) -> Result<ExprKind, Memory> {
+    let value = boxed(alloc, product(alloc)?)?;
+    let op = UnOp::Neg;
+    Ok(ExprKind::Unary { op, value })
+}
+
 #[test]
-fn a_key_has_brackets_and_a_step_stands_on_its_side(rt: HostRuntime) -> Result<(), Fail> {
+fn an_operator_stands_before_its_operand(rt: HostRuntime) -> Result<(), Fail> {
     let alloc = rt.alloc();
+    let text = b"$v = - 2 * 18446744073709551615 ; \n} \n";
+    assert!(rt; is_text_of(alloc, assignment(alloc, negated_product(alloc)?)?, text)?);
+    Ok(())
+}
+
+fn quoted(alloc: Global) -> Result<ExprKind, Memory> {
+    Ok(ExprKind::Text(bytes(alloc, b"a\n\t\r\"\\%d")?))
+}
+
+#[test]
+fn a_string_is_written_with_its_escapes(rt: HostRuntime) -> Result<(), Fail> {
+    let alloc = rt.alloc();
+    let text = b"$v = \"a\\n\\t\\r\\\"\\\\%d\" ; \n} \n";
+    assert!(rt; is_text_of(alloc, assignment(alloc, quoted(alloc)?)?, text)?);
+    Ok(())
+}
+
+fn step(alloc: Global, prefix: bool) -> Result<StmtKind, Memory> {
     let keys = vec![in alloc;
         expr(ExprKind::Builtin(Builtin::Comm)),
         expr(ExprKind::Number(7)),
     ]?;
-    let step = IncDec {
-        target: Target::Map(map(alloc, b"@a", keys)?),
-        plus: true,
-        prefix: false,
+    let target = Target::Map(map(alloc, b"@a", keys)?);
+    Ok(StmtKind::Step(IncDec {
+        target,
+        plus: prefix,
+        prefix,
         place: PLACE,
-    };
-    assert!(rt; is_text_of(alloc, StmtKind::Step(step), b"@a [ comm , 7 ] ++ ; \n} \n")?);
-    let step = IncDec {
-        target: Target::Var(variable(alloc)?),
-        plus: false,
-        prefix: true,
-        place: PLACE,
-    };
-    assert!(rt; is_text_of(alloc, StmtKind::Step(step), b"-- $v ; \n} \n")?);
-    Ok(())
+    }))
 }
 
 #[test]
-fn an_aggregation_and_an_update_stand_behind_their_mark(rt: HostRuntime) -> Result<(), Fail> {
+fn a_step_stands_on_its_side_of_a_map_with_its_key(rt: HostRuntime) -> Result<(), Fail> {
     let alloc = rt.alloc();
-    let lhist = StmtKind::SetAgg {
-        map: whole_map(alloc)?,
-        agg: AggCall::Lhist {
-            number: expr(ExprKind::Builtin(Builtin::Pid)),
-            min: -10,
-            max: 10,
-            step: 5,
-        },
+    assert!(rt; is_text_of(alloc, step(alloc, true)?, b"++ @a [ comm , 7 ] ; \n} \n")?);
+    assert!(rt; is_text_of(alloc, step(alloc, false)?, b"@a [ comm , 7 ] -- ; \n} \n")?);
+    Ok(())
+}
+
+fn lhist(alloc: Global) -> Result<StmtKind, Memory> {
+    let map = map(alloc, b"@", Vec::new(alloc))?;
+    let agg = AggCall::Lhist {
+        number: expr(ExprKind::Builtin(Builtin::Pid)),
+        min: -10,
+        max: 10,
+        step: 5,
+    };
+    Ok(StmtKind::SetAgg {
+        map,
+        agg,
         agg_place: PLACE,
-    };
-    assert!(rt; is_text_of(alloc, lhist, b"@m = lhist ( pid , 18446744073709551606 , 10 , 5 ) ; \n} \n")?);
-    let shifted = StmtKind::Assign {
-        target: Target::Map(whole_map(alloc)?),
-        op: Some(BinOp::Shl),
-        value: expr(ExprKind::Number(3)),
-    };
-    assert!(rt; is_text_of(alloc, shifted, b"@m <<= 3 ; \n} \n")?);
-    Ok(())
+    })
 }
 
 #[test]
-fn calls_have_their_arguments_in_order(rt: HostRuntime) -> Result<(), Fail> {
+fn the_bounds_of_a_histogram_have_no_signs(rt: HostRuntime) -> Result<(), Fail> {
     let alloc = rt.alloc();
-    let print = StmtKind::Print {
-        map: whole_map(alloc)?,
-        top: Some(2),
-        div: Some(1000),
-    };
-    assert!(rt; is_text_of(alloc, print, b"print ( @m , 2 , 1000 ) ; \n} \n")?);
-    let printf = StmtKind::Printf {
-        format: bytes(alloc, b"%d\n")?,
-        format_place: PLACE,
-        values: Items::of(vec![in alloc; expr(ExprKind::Number(1)), expr(ExprKind::Number(2))]?),
-    };
-    assert!(rt; is_text_of(alloc, printf, b"printf ( \"%d\\n\" , 1 , 2 ) ; \n} \n")?);
-    let delete = StmtKind::DeleteKey {
-        map: whole_map(alloc)?,
-        key: expr(ExprKind::Builtin(Builtin::Tid)),
-    };
-    assert!(rt; is_text_of(alloc, delete, b"delete ( @m , tid ) ; \n} \n")?);
-    assert!(rt;
-        is_text_of(
-            alloc,
-            StmtKind::Zero(whole_map(alloc)?),
-            b"zero ( @m ) ; \n} \n"
-        )?
-    );
-    assert!(rt; is_text_of(alloc, StmtKind::Exit, b"exit ( ) ; \n} \n")?);
+    let text = b"@ = lhist ( pid , 18446744073709551606 , 10 , 5 ) ; \n} \n";
+    assert!(rt; is_text_of(alloc, lhist(alloc)?, text)?);
     Ok(())
+}
+
+fn arms(alloc: Global) -> Result<Items<(Expr, Block)>, Memory> {
+    let first = (expr(ExprKind::Number(1)), block(StmtKind::Break, alloc)?);
+    let second = (expr(ExprKind::Number(2)), block(StmtKind::Exit, alloc)?);
+    Ok(Items::of(vec![in alloc; first, second]?))
+}
+
+fn choice(alloc: Global) -> Result<StmtKind, Memory> {
+    let arms = arms(alloc)?;
+    let otherwise = Some(block(StmtKind::Return, alloc)?);
+    Ok(StmtKind::If { arms, otherwise })
 }
 
 #[test]
 fn a_choice_has_its_arms_in_order(rt: HostRuntime) -> Result<(), Fail> {
     let alloc = rt.alloc();
-    let first = (expr(ExprKind::Number(1)), block(StmtKind::Break, alloc)?);
-    let second = (expr(ExprKind::Number(2)), block(StmtKind::Continue, alloc)?);
-    let choice = StmtKind::If {
-        arms: Items::of(vec![in alloc; first, second]?),
-        otherwise: Some(block(StmtKind::Return, alloc)?),
-    };
-    let text = b"if ( 1 ) { \nbreak ; \n} \nelse if ( 2 ) { \ncontinue ; \n} \nelse { \nreturn ; \n} \n} \n";
-    assert!(rt; is_text_of(alloc, choice, text)?);
-    let turns = StmtKind::Unroll {
-        turns: 3,
-        block: block(StmtKind::Exit, alloc)?,
-    };
-    assert!(rt; is_text_of(alloc, turns, b"unroll ( 3 ) { \nexit ( ) ; \n} \n} \n")?);
+    let text =
+        b"if ( 1 ) { \nbreak ; \n} \nelse if ( 2 ) { \nexit ( ) ; \n} \nelse { \nreturn ; \n} \n} \n";
+    assert!(rt; is_text_of(alloc, choice(alloc)?, text)?);
     Ok(())
 }
 
-#[test]
-fn points_stand_before_the_predicate(rt: HostRuntime) -> Result<(), Fail> {
-    let alloc = rt.alloc();
+fn points(alloc: Global) -> Result<Items<Point>, Memory> {
     let event = Point::Tracepoint {
         system: bytes(alloc, b"sched")?,
         name: bytes(alloc, b"sched_*")?,
@@ -256,15 +217,24 @@ fn points_stand_before_the_predicate(rt: HostRuntime) -> Result<(), Fail> {
         number: 100,
         place: PLACE,
     };
-    let probe = Probe {
-        points: Items::of(vec![in alloc; event, tick, Point::End { place: PLACE }]?),
+    Ok(Items::of(vec![in alloc; event, tick, Point::End { place: PLACE }]?))
+}
+
+fn probe(alloc: Global) -> Result<Probe, Memory> {
+    let points = points(alloc)?;
+    let block = block(StmtKind::Return, alloc)?;
+    Ok(Probe {
+        points,
         predicate: Some(expr(ExprKind::Builtin(Builtin::Cpu))),
-        block: block(StmtKind::Return, alloc)?,
+        block,
         place: PLACE,
-    };
-    let script = Script {
-        probes: Items::of(vec![in alloc; probe]?),
-    };
+    })
+}
+
+#[test]
+fn points_stand_before_the_predicate(rt: HostRuntime) -> Result<(), Fail> {
+    let alloc = rt.alloc();
+    let script = script(alloc, probe(alloc)?)?;
     let text = b"tracepoint:sched:sched_* , interval:ms:100 , END / cpu / { \nreturn ; \n} \n";
     assert!(rt; to_text(alloc, &script)?.as_slice() == text.as_slice());
     Ok(())

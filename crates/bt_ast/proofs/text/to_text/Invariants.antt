@@ -1,6 +1,6 @@
 use Rattle.std.proofs.Common.{◌≡◌, ◌++◌, map, drop}
 use Rattle.bt_ast.specs.Stmts.{joined}
-use Rattle.bt_ast.specs.Scripts.{probe_text, script_text}
+use Rattle.bt_ast.specs.Scripts.{probe_text}
 use Rattle.bt_ast.proofs.text.to_text.Given as goal
 
 -- what is written, with what is left to write, is the whole

@@ -1,4 +1,4 @@
-use Rattle.std.proofs.Common.{rules, ◌≡◌, ◌++◌, arith, List, ℕ, refl, ap, sym, ◌∙◌}
+use Rattle.std.proofs.Common.{rules, arith}
 use Rattle.std.proofs.lemmas.Grind.{common_steps}
 use Rattle.bt_ast.proofs.StmtTexts.{while_text, unroll_text, if_text}
 use Rattle.bt_ast.proofs.write_stmt.+stmt.Goals as goal

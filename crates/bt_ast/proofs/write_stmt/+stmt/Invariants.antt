@@ -1,6 +1,6 @@
 use Rattle.std.proofs.Common.{◌≡◌, ◌++◌, [], codes, map, drop}
 use Rattle.bt_ast.specs.Words.{ending}
-use Rattle.bt_ast.specs.Stmts.{arms_after, arm_of, joined, stmt_text, block_text}
+use Rattle.bt_ast.specs.Stmts.{arms_after, arm_of, joined, stmt_text}
 use Rattle.bt_ast.proofs.write_stmt.+stmt.Given as goal
 
 -- what is written, with what is left to write, is the whole
