@@ -4,6 +4,8 @@
 mod agg;
 mod assign;
 mod attach;
+#[cfg(test)]
+mod back_tests;
 mod block;
 mod call;
 pub mod class;
@@ -16,10 +18,10 @@ mod leaf;
 mod marks;
 mod nesting;
 pub mod parse;
+mod point;
 mod probe;
 pub mod read_back;
 mod script;
-mod point;
 mod simple;
 mod tables;
 #[cfg(test)]
