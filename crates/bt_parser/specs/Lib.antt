@@ -14,6 +14,7 @@ pub mod Mirror
 pub mod Weights
 pub mod Refusals
 pub mod Counts
+pub mod Bare
 pub mod Levels
 pub mod Outcomes
 pub mod Statements

@@ -4,6 +4,8 @@
 mod agg;
 mod assign;
 mod attach;
+#[cfg(test)]
+mod back_tests;
 mod block;
 mod call;
 pub mod class;
@@ -18,6 +20,7 @@ mod nesting;
 pub mod parse;
 mod point;
 mod probe;
+pub mod read_back;
 mod script;
 mod simple;
 mod tables;
