@@ -1,0 +1,65 @@
+-- How the loop over probes ends, and what the parser answers then.
+use Rattle.std.proofs.Common.{◌≡◌, ◌≢◌, ℕ, zero, suc, ◌+◌, ◌<◌, ◌≤◌, Bool, true, false, List, [], ◌∷◌, ◌++◌, length, take, drop, Option, Some, None, refl, sym, ◌∙◌, ap, subst, inl, inr, ◌⊎◌, arith, length-append}
+use Rattle.bt_lexer.specs.declared.token.Token.{Token}
+use Rattle.bt_ast.specs.declared.probe.Probe.{Probe}
+use Rattle.bt_parser.specs.declared.script.Outcome.{Outcome}
+use Rattle.bt_parser.specs.declared.script.Outcome.TheVariants as outcomes
+use Rattle.bt_parser.specs.Classes.{is_point}
+use Rattle.bt_parser.specs.Form.{Item, OneProbe}
+use Rattle.bt_parser.specs.Reading.{Out, Done, Refused, and_then, starts, reads}
+use Rattle.bt_parser.specs.Tokens.{items, item}
+use Rattle.bt_parser.specs.Counts.{probes_read}
+use Rattle.bt_parser.specs.Refusals.{IsCountFault, most_probes}
+use Rattle.bt_parser.specs.Grammar.{RefusedAt}
+use Rattle.bt_parser.specs.Outcomes.{Gives, another}
+use Rattle.bt_parser.proofs.Steps.{length-items}
+use Rattle.bt_parser.proofs.Counts.{one_more}
+use Rattle.bt_parser.proofs.Scripts.{whole_end, refused_first, refused_probe, refused_behind, full_at, few_refused, few_behind}
+
+abbrev pub Read : List Token → List Probe → List Token → Type 0
+Read old probes left = probes_read (length probes) (items old) ≡ Done probes (items left)
+
+-- another probe begins behind the most
+pub full : (old left : List Token) (probes : List Probe) → Read old probes left → length probes ≡ most_probes → another probes (items left) ≡ true → Gives old left outcomes.Full
+full old left [] e k h n en = absurd (omega (arith, k))
+full old [] (p ∷ ps) e k h n en = cc (h)
+full old (t ∷ left) (p ∷ ps) e k h n en =
+    full_at (items old) (p ∷ ps) (item t) (items left) n (subst (λ z. probes_read z (items old) ≡ Done (p ∷ ps) (items (t ∷ left))) k e) h
+      (omega (arith, en, length-items (t ∷ left), length-items old))
+
+-- the next probe is refused
+pub refused_next : (old mid left : List Token) (probes : List Probe) → Read old probes mid → length probes ≤ most_probes → length probes ≢ most_probes
+    → another probes (items mid) ≡ true → reads OneProbe (items mid) ≡ Refused (items left) → Gives old left outcomes.Refused
+refused_next old mid left [] e few more start h =
+    let q : items old ≡ items mid = cc (e) in
+    (refused_first (items old) (items left) (ap (reads OneProbe) q ∙ h), few_refused 0 (items old) [] (items mid) (items left) e (omega arith) h)
+refused_next old mid left (p ∷ ps) e few more start h =
+    (refused_probe (length ps) (items old) (p ∷ ps) (items mid) (items left) e start h, few_refused (length (p ∷ ps)) (items old) (p ∷ ps) (items mid) (items left) e (below (length (p ∷ ps)) few more) h)
+  where
+    below : (k : ℕ) → k ≤ most_probes → k ≢ most_probes → k < most_probes
+    below k few more = omega (arith, few, more)
+
+-- what is refused is left of what there was
+pub refused_short : (old left : List Token) → RefusedAt (items old) (items left) → length left ≤ length old
+refused_short old left r = omega (arith, ap length r.is, length-append r.front (items left), length-items old, length-items left)
+
+-- the next probe is read
+pub read_next : (old mid left : List Token) (probes : List Probe) (p : Probe) → Read old probes mid → reads OneProbe (items mid) ≡ Done p (items left)
+    → Read old (probes ++ p ∷ []) left
+read_next old mid left probes p e h =
+    let k : length (probes ++ p ∷ []) ≡ suc (length probes) = omega (arith, length-append probes (p ∷ [])) in
+    ap (λ z. probes_read z (items old)) k ∙ one_more (length probes) (items old) probes (items mid) e ∙ ap (λ z. and_then z (λ q r. Done (probes ++ q ∷ []) r)) h
+
+-- no token is left
+pub whole : (old left : List Token) (probes : List Probe) → Read old probes left → length probes ≤ most_probes → another probes (items left) ≡ false → length left ≡ 0 → Gives old left (outcomes.Whole probes)
+whole old left [] e few h none = cc (h)
+whole old [] (p ∷ ps) e few h none = (whole_end (length ps) (items old) (p ∷ ps) e, few)
+whole old (t ∷ left) (p ∷ ps) e few h none = absurd (omega (arith, none))
+
+-- a token is left that begins no probe
+pub refused_left : (old left : List Token) (probes : List Probe) → Read old probes left → length probes ≤ most_probes → another probes (items left) ≡ false → length left ≢ 0
+    → Gives old left outcomes.Refused
+refused_left old left [] e few h some = cc (h)
+refused_left old [] (p ∷ ps) e few h some = absurd (some refl)
+refused_left old (t ∷ left) (p ∷ ps) e few h some =
+    (refused_behind (length ps) (items old) (p ∷ ps) (item t) (items left) e h, few_behind (length (p ∷ ps)) (items old) (p ∷ ps) (items (t ∷ left)) e few h)

@@ -1,0 +1,171 @@
+-- Each part of an expression is read by its steps.
+use Rattle.std.proofs.Common.{◌≡◌, ℕ, Bool, true, false, not, List, [], ◌∷◌, ◌++◌, refl, sym, ◌∙◌, ap, inl, inr, ◌⊎◌, Option, Some, None, if◌then◌else◌}
+use Rattle.bt_core.specs.declared.operator.UnOp.{UnOp}
+use Rattle.bt_lexer.specs.declared.token.TokenKind.{TokenKind}
+use Rattle.bt_ast.specs.declared.place.Place.{Place}
+use Rattle.bt_ast.specs.declared.expr.Expr.{Expr}
+use Rattle.bt_ast.specs.declared.expr.MapRef.{MapRef}
+use Rattle.bt_ast.specs.declared.expr.Target.{Target}
+use Rattle.bt_ast.specs.declared.expr.Target.TheVariants as targets
+use Rattle.bt_parser.specs.declared.class.Class.{Class}
+use Rattle.bt_parser.specs.declared.class.Class.TheVariants.{Increment, Decrement, MapName, VarName, NumberLiteral, TextLiteral, ArgsWord, OpenParen, CloseParen, OpenBracket, CloseBracket, Comma, Question, Colon}
+use Rattle.bt_parser.specs.declared.class.Tier.{Tier}
+use Rattle.bt_parser.specs.declared.class.Tier.TheVariants.{Products, Sums, Shifts, Orders, Equalities, BitAnds, BitXors, BitOrs, AndThens, OrElses}
+use Rattle.bt_parser.specs.Classes.{is, is_builtin, is_step, prefix_of, joins}
+use Rattle.bt_parser.specs.Form.{Item, brace_next, Primary, Unary, Level, Expression, Values, Keyed, Assignable, Form, Tok, Empty, Call, Map, Then, Or, Until, Op, Chain}
+use Rattle.bt_parser.specs.Fine.{FineAt, Led}
+use Rattle.bt_parser.specs.Reading.{Out, Done, Refused, Unfinished, and_then, read, reads, goes_on, starts, rest_of, first, sens, differs}
+use Rattle.bt_parser.specs.Rules.{rule, mark, ends, optional, after_comma, value, operand, operation}
+use Rattle.bt_parser.specs.Trees.{second, snoc, pair, choose, map_ref, map_operand, binary, unary}
+use Rattle.bt_parser.specs.Mirror.{class_at, front_place, operator_at, when, prefix_at, named, named_form, operand_by, tighter, level_on, level_by, level_turn, joined, choice_by, expression_by, unary_by, leaf, primary_by, keyed_by, map_by, assignable_by, values_on, values_behind, values_turn, var_of, step_at, step_on, map_value}
+use Rattle.bt_parser.proofs.Enough.{reads_is}
+use Rattle.bt_parser.proofs.Steps.{goes_on_stop, goes_on_more}
+use Rattle.bt_parser.proofs.Checked.{fine_rule}
+
+-- ---- outcomes one after another
+
+pub and_then_assoc : {A B C : Type 0} (o : Out A) (f : A → List Item → Out B) (g : B → List Item → Out C) → and_then (and_then o f) g ≡ and_then o (λ a r. and_then (f a r) g)
+and_then_assoc (Done a r) f g = refl
+and_then_assoc (Refused r) f g = refl
+and_then_assoc Unfinished f g = refl
+
+pub and_then_same : {A B : Type 0} (o : Out A) (f g : A → List Item → Out B) → ((a : A) (r : List Item) → f a r ≡ g a r) → and_then o f ≡ and_then o g
+and_then_same (Done a r) f g h = h a r
+and_then_same (Refused r) f g h = refl
+and_then_same Unfinished f g h = refl
+
+-- ---- a choice by the next token
+
+-- by a test of the next token
+pub choice : {A : Type 0} (b : Bool) (x y z w : A) → (b ≡ true → x ≡ z) → (b ≡ false → y ≡ w) → (if b then x else y) ≡ (if b then z else w)
+choice true x y z w hit miss = hit refl
+choice false x y z w hit miss = miss refl
+
+pub choice_then : {A B : Type 0} (b : Bool) (x y : Out A) (f : A → List Item → Out B) → and_then (if b then x else y) f ≡ (if b then and_then x f else and_then y f)
+choice_then true x y f = refl
+choice_then false x y f = refl
+
+-- a token that is there is passed over
+pub mark_there : (c : Class) (ts : List Item) → starts (ends c) ts ≡ true → read reads (mark c) ts ≡ Done (front_place ts) (rest_of ts)
+mark_there c [] h = cc
+mark_there c (t ∷ r) h = rw h refl
+
+-- ---- the parts
+
+pub operand_is : (p : Bool) (tier : Tier) (ts : List Item) → read reads (operand p tier) ts ≡ operand_by p (tighter tier) ts
+operand_is p Products ts = refl
+operand_is p Sums ts = refl
+operand_is p Shifts ts = refl
+operand_is p Orders ts = refl
+operand_is p Equalities ts = refl
+operand_is p BitAnds ts = refl
+operand_is p BitXors ts = refl
+operand_is p BitOrs ts = refl
+operand_is p AndThens ts = refl
+operand_is p OrElses ts = refl
+
+pub level_is : (p : Bool) (tier : Tier) (ts : List Item) → reads (Level p tier) ts ≡ level_by p tier ts
+unfolding goes_on operation
+level_is p tier ts = rw (← operand_is p tier ts) (reads_is (Level p tier) ts)
+
+level_fine : (p : Bool) (tier : Tier) → FineAt true (operation p tier)
+unfolding operation
+level_fine p tier = (fine_rule (Level p tier)).1
+
+operand_some : (p : Bool) (tier : Tier) (left : Expr) (t : Item) (r : List Item) (b : Bool) → joins p tier t.class (brace_next r) ≡ b
+    → level_on p tier left (t ∷ r) ≡ level_turn p tier (when b t.class) left (t ∷ r)
+unfolding operation
+operand_some p tier left t r true h = goes_on_more binary (Op (joins p tier) (operand p tier)) (level_fine p tier) (inl tt) refl left (t ∷ r) h ∙ rw (h, ← operand_is p tier r) (simp and_then_assoc)
+operand_some p tier left t r false h = goes_on_stop binary (Op (joins p tier) (operand p tier)) (level_fine p tier) (inl tt) refl left (t ∷ r) h
+
+level_end : (p : Bool) (tier : Tier) (left : Expr) → level_on p tier left [] ≡ Done left []
+unfolding operation
+level_end p tier left = goes_on_stop binary (Op (joins p tier) (operand p tier)) (level_fine p tier) (inl tt) refl left [] refl
+
+pub level_turns : (p : Bool) (tier : Tier) (left : Expr) (ts : List Item) → level_on p tier left ts ≡ level_turn p tier (operator_at p tier ts) left ts
+level_turns p tier left [] = level_end p tier left
+level_turns p tier left (t ∷ r) = operand_some p tier left t r (joins p tier t.class (brace_next r)) refl
+
+choice_is : (p : Bool) (x : Expr) (r : List Item)
+    → and_then (read reads (optional (Op (ends Question) (Then pair (Until value Colon) (Call (Expression p))))) r) (λ y r'. Done (choose x y) r') ≡ choice_by p x r
+choice_is p x [] = refl
+choice_is p x (t ∷ r) = choice_then (is Question t.class) _ _ _ ∙ choice (is Question t.class) _ _ _ _ (λ h. rw h (simp and_then_assoc)) (λ h. refl)
+
+pub expression_is : (p : Bool) (ts : List Item) → reads (Expression p) ts ≡ expression_by p ts
+expression_is p ts = rw (reads_is (Expression p) ts) (and_then_same (reads (Level p OrElses) ts) _ _ (λ x r. choice_is p x r))
+
+unary_at : (t : Item) (r : List Item) (o : Option UnOp) → prefix_of t.class ≡ o → read reads (rule Unary) (t ∷ r) ≡ unary_by o (t ∷ r)
+unary_at t r (Some op) h = rw h (simp h)
+unary_at t r None h = rw h refl
+
+pub unary_is : (ts : List Item) → reads Unary ts ≡ unary_by (prefix_at ts) ts
+unary_is [] = reads_is Unary []
+unary_is (t ∷ r) = rw (reads_is Unary (t ∷ r)) (unary_at t r (prefix_of t.class) refl)
+
+pub values_start : (ts : List Item) → reads Values ts ≡ values_behind [] ts
+unfolding goes_on
+values_start ts = rw (reads_is Values ts) (simp and_then_assoc)
+
+keys_at : (t : Item) (r : List Item)
+    → and_then (read reads (Or (Then second (mark OpenBracket) (Until (Call Values) CloseBracket)) (Empty [])) r) (λ keys r'. Done (map_ref t keys) r') ≡ keyed_by (named t) r
+keys_at t [] = refl
+keys_at t (u ∷ r) = choice_then (is OpenBracket u.class) _ _ _ ∙ choice (is OpenBracket u.class) _ _ _ _ (λ h. rw (h, ← values_start r) (simp and_then_assoc)) (λ h. refl)
+
+pub keyed_is : (ts : List Item) → reads Keyed ts ≡ map_by ts
+keyed_is ts = rw (reads_is Keyed ts) (and_then_same (read reads (Tok (is MapName)) ts) _ _ keys_at ∙ sym (and_then_assoc (read reads (Tok (is MapName)) ts) (λ t r. Done (named t) r) keyed_by))
+
+pub assignable_is : (ts : List Item) → reads Assignable ts ≡ assignable_by (starts (ends MapName) ts) ts
+assignable_is [] = reads_is Assignable []
+assignable_is (t ∷ r) = rw (reads_is Assignable (t ∷ r)) (by_map (is MapName t.class) refl)
+  where
+    by_map : (b : Bool) → is MapName t.class ≡ b → read reads (rule Assignable) (t ∷ r) ≡ assignable_by b (t ∷ r)
+    by_map true h = rw h refl
+    by_map false h = rw h (simp and_then_assoc)
+
+pub same_twice : (b : Bool) → (if b then not b else b) ≡ false
+same_twice true = refl
+same_twice false = refl
+
+calm_comma : Led (after_comma value) ⊎ ((c : Class) → (sens (after_comma value) c ≡ false) × (differs (first (after_comma value)) c ≡ false))
+calm_comma = inr (λ c. (refl, same_twice (is Comma c)))
+
+comma_stop : (values : List Expr) (ts : List Item) → starts (ends Comma) ts ≡ false → values_on values ts ≡ Done values ts
+comma_stop values ts h = goes_on_stop snoc (after_comma value) (fine_rule Values).1 calm_comma refl values ts h
+
+comma_more : (values : List Expr) (ts : List Item) → starts (ends Comma) ts ≡ true → values_on values ts ≡ and_then (reads (Expression false) (rest_of ts)) (λ x r. values_on (values ++ x ∷ []) r)
+comma_more values [] h = cc
+comma_more values (t ∷ r) h = goes_on_more snoc (after_comma value) (fine_rule Values).1 calm_comma refl values (t ∷ r) h ∙ rw h (simp and_then_assoc)
+
+pub values_turns : (values : List Expr) (ts : List Item) → values_on values ts ≡ values_turn values ts
+values_turns values ts = by_comma (starts (ends Comma) ts) refl
+  where
+    by_comma : (b : Bool) → starts (ends Comma) ts ≡ b → values_on values ts ≡ values_turn values ts
+    by_comma true h = comma_more values ts h ∙ sym (rw h refl)
+    by_comma false h = comma_stop values ts h ∙ sym (rw h refl)
+
+-- ---- operands
+
+abbrev pub it : Class → TokenKind → Place → Item
+it c k p = record { class = c; kind = k; place = p }
+
+-- a step behind a map
+map_step_at : (m : MapRef) (c : Class) (k : TokenKind) (p : Place) (r : List Item)
+    → and_then (read reads (optional (Tok is_step)) (it c k p ∷ r)) (λ s r'. Done (map_operand m s) r') ≡ step_on (map_value m) (step_at (it c k p ∷ r)) (it c k p ∷ r)
+map_step_at m Increment k p r = refl
+map_step_at m Decrement k p r = refl
+map_step_at m _ k p r = refl
+
+map_step : (m : MapRef) (r : List Item) → and_then (read reads (optional (Tok is_step)) r) (λ s r'. Done (map_operand m s) r') ≡ step_on (map_value m) (step_at r) r
+map_step m [] = refl
+map_step m (t ∷ r) = map_step_at m t.class t.kind t.place r
+
+primary_at : (c : Class) (k : TokenKind) (p : Place) (r : List Item) → read reads (rule Primary) (it c k p ∷ r) ≡ primary_by (Some c) (it c k p ∷ r)
+primary_at OpenParen k p r = simp and_then_assoc
+primary_at MapName k p r = and_then_same (reads Keyed (it MapName k p ∷ r)) _ _ map_step
+primary_at Increment k p r = refl
+primary_at Decrement k p r = refl
+primary_at _ k p r = refl
+
+pub primary_is : (ts : List Item) → reads Primary ts ≡ primary_by (class_at ts) ts
+primary_is [] = reads_is Primary []
+primary_is (t ∷ r) = rw (reads_is Primary (t ∷ r)) (primary_at t.class t.kind t.place r)

@@ -1,0 +1,194 @@
+-- Each part of a statement is read by its steps.
+use Rattle.std.proofs.Common.{◌≡◌, ℕ, ℤ, Bool, true, false, List, [], ◌∷◌, ◌++◌, refl, sym, ◌∙◌, ap, Option, Some, None, if◌then◌else◌, append_assoc}
+use Rattle.std.proofs.lemmas.List.{append-nil}
+use Rattle.bt_lexer.specs.declared.token.TokenKind.{TokenKind}
+use Rattle.bt_ast.specs.declared.place.Place.{Place}
+use Rattle.bt_ast.specs.declared.expr.Expr.{Expr}
+use Rattle.bt_ast.specs.declared.expr.MapRef.{MapRef}
+use Rattle.bt_ast.specs.declared.expr.Target.{Target}
+use Rattle.bt_ast.specs.declared.expr.Target.TheVariants as targets
+use Rattle.bt_ast.specs.declared.expr.VarRef.{VarRef}
+use Rattle.bt_ast.specs.declared.stmt.Block.{Block}
+use Rattle.bt_ast.specs.declared.stmt.Stmt.{Stmt}
+use Rattle.bt_ast.specs.declared.stmt.StmtKind.{StmtKind}
+use Rattle.bt_ast.specs.declared.stmt.StmtKind.TheVariants as stmts
+use Rattle.bt_parser.specs.declared.class.Class.{Class}
+use Rattle.bt_parser.specs.declared.class.Class.TheVariants.{IfWord, ElseWord, WhileWord, UnrollWord, CountWord, LhistWord, PrintfWord, PrintWord, ClearWord, ZeroWord, DeleteWord, ExitWord, BreakWord, ContinueWord, ReturnWord, MapName, VarName, NumberLiteral, TextLiteral, ShlAssign, ShrAssign, AddAssign, SubAssign, MulAssign, DivAssign, ModAssign, AndAssign, OrAssign, XorAssign, OpenBrace, CloseBrace, OpenParen, CloseParen, OpenBracket, CloseBracket, Comma, Semicolon, Assign, Minus, Increment, Decrement}
+use Rattle.bt_parser.specs.declared.cursor.Named.{Named}
+use Rattle.bt_parser.specs.Classes.{is, gathers}
+use Rattle.bt_parser.specs.Form.{Item, Expression, Keyed, Assignable, Values, Int, Aggregation, Update, AfterMap, AfterVar, Printf, Print, Delete, CallOrJump, Simple, Arm, Tail, Control, Body, Braced, Form, Tok, Empty, Call, Map, Then, Or, Until}
+use Rattle.bt_parser.specs.Reading.{Out, Done, Refused, Unfinished, and_then, read, reads, starts, rest_of, goes_on}
+use Rattle.bt_parser.specs.Rules.{rule, mark, ends, in_parens, value, a_number, after_comma}
+use Rattle.bt_parser.specs.Trees.{second, nothing, gather_map, set_map, on_map, on_var, on_item, delete_all, delete_keyed, delete_key, map_ref}
+use Rattle.bt_parser.specs.Mirror.{◌>>=◌, class_at, front_place, when, named, named_form, step_at, values_on, values_behind}
+use Rattle.bt_parser.specs.Statements.{given, int_by, parens_by, count_form, count_by, gather_form, gatherer_at, gather_by, lhist_form, lhist_by, aggregation_by, begins_aggregation, update_at, update_by, set_map_by, after_map_by, after_var_by, bare_map, map_form, whole_map_by, in_parens_map, map_in_parens_by, printf_by, limit_form, limit_by, limits_form, limits_on, limits_by, print_by, delete_on, delete_by, exit_by, behind_word, call_at, call_by, step_stmt_by, simple_by, arm_by, arms_on, branches_by, arms_turn, control_by, body_on, after_simple, begins_control, body_turn, block_by}
+use Rattle.bt_parser.proofs.Enough.{reads_is}
+use Rattle.bt_parser.proofs.Mirrored.{and_then_assoc, and_then_same, choice, choice_then, values_start, it}
+
+-- ---- numbers and map functions
+
+int_at : (c : Class) (k : TokenKind) (p : Place) (r : List Item) → read reads (rule Int) (it c k p ∷ r) ≡ int_by (starts (ends Minus) (it c k p ∷ r)) (it c k p ∷ r)
+int_at Minus k p r = simp and_then_assoc
+int_at _ k p r = refl
+
+pub int_is : (ts : List Item) → reads Int ts ≡ int_by (starts (ends Minus) ts) ts
+int_is [] = reads_is Int []
+int_is (t ∷ r) = rw (reads_is Int (t ∷ r)) (int_at t.class t.kind t.place r)
+
+pub parens_is : (ts : List Item) → read reads (in_parens value) ts ≡ parens_by ts
+parens_is ts = simp and_then_assoc
+
+pub count_is : (ts : List Item) → read reads count_form ts ≡ count_by ts
+count_is ts = simp and_then_assoc
+
+gather_at : (t : Item) (r : List Item) (b : Bool) → gathers t.class ≡ b → read reads gather_form (t ∷ r) ≡ gather_by (when b t.class) (t ∷ r)
+gather_at t r true h = rw h refl
+gather_at t r false h = rw h refl
+
+pub gather_is : (ts : List Item) → read reads gather_form ts ≡ gather_by (gatherer_at ts) ts
+gather_is [] = refl
+gather_is (t ∷ r) = gather_at t r (gathers t.class) refl
+
+pub lhist_is : (ts : List Item) → read reads lhist_form ts ≡ lhist_by ts
+lhist_is ts = simp and_then_assoc
+
+aggregation_at : (c : Class) (k : TokenKind) (p : Place) (r : List Item) → read reads (rule Aggregation) (it c k p ∷ r) ≡ aggregation_by (Some c) (it c k p ∷ r)
+aggregation_at CountWord k p r = refl
+aggregation_at LhistWord k p r = refl
+aggregation_at _ k p r = refl
+
+pub aggregation_is : (ts : List Item) → reads Aggregation ts ≡ aggregation_by (class_at ts) ts
+aggregation_is [] = reads_is Aggregation []
+aggregation_is (t ∷ r) = rw (reads_is Aggregation (t ∷ r)) (aggregation_at t.class t.kind t.place r)
+
+-- ---- what follows a map or a variable
+
+update_kind : (target : Target) (c : Class) (k : TokenKind) (p : Place) (r : List Item)
+    → given target (read reads (rule Update) (it c k p ∷ r)) ≡ update_by target (step_at (it c k p ∷ r)) (update_at (it c k p ∷ r)) (it c k p ∷ r)
+update_kind target ShlAssign k p r = simp and_then_assoc
+update_kind target ShrAssign k p r = simp and_then_assoc
+update_kind target AddAssign k p r = simp and_then_assoc
+update_kind target SubAssign k p r = simp and_then_assoc
+update_kind target MulAssign k p r = simp and_then_assoc
+update_kind target DivAssign k p r = simp and_then_assoc
+update_kind target ModAssign k p r = simp and_then_assoc
+update_kind target AndAssign k p r = simp and_then_assoc
+update_kind target OrAssign k p r = simp and_then_assoc
+update_kind target XorAssign k p r = simp and_then_assoc
+update_kind target Increment k p r = refl
+update_kind target Decrement k p r = refl
+update_kind target _ k p r = refl
+
+pub update_is : (target : Target) (ts : List Item) → given target (reads Update ts) ≡ update_by target (step_at ts) (update_at ts) ts
+update_is target [] = rw (reads_is Update []) refl
+update_is target (t ∷ r) = rw (reads_is Update (t ∷ r)) (update_kind target t.class t.kind t.place r)
+
+map_value_is : (m : MapRef) (r : List Item)
+    → and_then (read reads (Or (Map gather_map (Call Aggregation)) (Map set_map value)) r) (λ f r1. Done (f m) r1) ≡ set_map_by m r
+map_value_is m r = choice_then (starts begins_aggregation r) _ _ _ ∙ choice (starts begins_aggregation r) _ _ _ _ (λ h. simp and_then_assoc) (λ h. simp and_then_assoc)
+
+after_map_at : (m : MapRef) (t : Item) (r : List Item) (b : Bool) → is Assign t.class ≡ b → given m (read reads (rule AfterMap) (t ∷ r)) ≡ after_map_by m (t ∷ r)
+after_map_at m t r true h = rw h (and_then_assoc (read reads (Or (Map gather_map (Call Aggregation)) (Map set_map value)) r) _ _ ∙ map_value_is m r)
+after_map_at m t r false h = rw h (simp and_then_assoc)
+
+pub after_map_is : (m : MapRef) (ts : List Item) → given m (reads AfterMap ts) ≡ after_map_by m ts
+after_map_is m [] = rw (reads_is AfterMap []) (simp and_then_assoc)
+after_map_is m (t ∷ r) = rw (reads_is AfterMap (t ∷ r)) (after_map_at m t r (is Assign t.class) refl)
+
+after_var_at : (v : VarRef) (t : Item) (r : List Item) (b : Bool) → is Assign t.class ≡ b → given v (read reads (rule AfterVar) (t ∷ r)) ≡ after_var_by v (t ∷ r)
+after_var_at v t r true h = rw h (simp and_then_assoc)
+after_var_at v t r false h = rw h (simp and_then_assoc)
+
+pub after_var_is : (v : VarRef) (ts : List Item) → given v (reads AfterVar ts) ≡ after_var_by v ts
+after_var_is v [] = rw (reads_is AfterVar []) (simp and_then_assoc)
+after_var_is v (t ∷ r) = rw (reads_is AfterVar (t ∷ r)) (after_var_at v t r (is Assign t.class) refl)
+
+-- ---- calls and jumps
+
+pub whole_map_is : (ts : List Item) → read reads map_form ts ≡ whole_map_by ts
+whole_map_is ts = simp and_then_assoc
+
+pub map_in_parens_is : (ts : List Item) → read reads in_parens_map ts ≡ map_in_parens_by ts
+map_in_parens_is ts = simp and_then_assoc
+
+pub printf_is : (ts : List Item) → reads Printf ts ≡ printf_by ts
+unfolding goes_on
+printf_is ts = rw (reads_is Printf ts) (simp and_then_assoc)
+
+limit_at : (t : Item) (r : List Item) (b : Bool) → is Comma t.class ≡ b → read reads limit_form (t ∷ r) ≡ limit_by (t ∷ r)
+limit_at t r true h = rw h (simp and_then_assoc)
+limit_at t r false h = rw h refl
+
+pub limit_is : (ts : List Item) → read reads limit_form ts ≡ limit_by ts
+limit_is [] = refl
+limit_is (t ∷ r) = limit_at t r (is Comma t.class) refl
+
+limits_at : (t : Item) (r : List Item) (b : Bool) → is Comma t.class ≡ b → read reads limits_form (t ∷ r) ≡ limits_by (t ∷ r)
+limits_at t r true h = rw h (simp and_then_assoc)
+limits_at t r false h = rw h refl
+
+pub limits_is : (ts : List Item) → read reads limits_form ts ≡ limits_by ts
+limits_is [] = refl
+limits_is (t ∷ r) = limits_at t r (is Comma t.class) refl
+
+pub print_is : (ts : List Item) → reads Print ts ≡ print_by ts
+print_is ts = rw (reads_is Print ts) (simp and_then_assoc)
+
+delete_at : (t : Item) (c : Class) (k : TokenKind) (p : Place) (r : List Item)
+    → and_then (read reads (Or (Map delete_all (mark CloseParen))
+        (Or (Then delete_keyed (mark OpenBracket) (Until (Until (Call Values) CloseBracket) CloseParen)) (Then delete_key (mark Comma) (Until value CloseParen)))) (it c k p ∷ r))
+        (λ f r1. Done (on_item t f) r1) ≡ delete_on (named t) (Some c) (it c k p ∷ r)
+delete_at t Comma k p r = simp and_then_assoc
+delete_at t OpenBracket k p r = rw (← values_start r) (simp and_then_assoc)
+delete_at t CloseParen k p r = refl
+delete_at t _ k p r = refl
+
+delete_rest : (t : Item) (ts : List Item)
+    → and_then (read reads (Or (Map delete_all (mark CloseParen))
+        (Or (Then delete_keyed (mark OpenBracket) (Until (Until (Call Values) CloseBracket) CloseParen)) (Then delete_key (mark Comma) (Until value CloseParen)))) ts)
+        (λ f r1. Done (on_item t f) r1) ≡ delete_on (named t) (class_at ts) ts
+delete_rest t [] = refl
+delete_rest t (u ∷ r) = delete_at t u.class u.kind u.place r
+
+delete_name : (ts : List Item)
+    → read reads (Then on_item (Tok (is MapName)) (Or (Map delete_all (mark CloseParen))
+        (Or (Then delete_keyed (mark OpenBracket) (Until (Until (Call Values) CloseBracket) CloseParen)) (Then delete_key (mark Comma) (Until value CloseParen))))) ts
+      ≡ and_then (read reads (named_form MapName) ts) (λ n r. delete_on n (class_at r) r)
+delete_name ts = and_then_same (read reads (Tok (is MapName)) ts) _ _ delete_rest ∙ sym (and_then_assoc (read reads (Tok (is MapName)) ts) (λ t r. Done (named t) r) (λ n r. delete_on n (class_at r) r))
+
+pub delete_is : (ts : List Item) → reads Delete ts ≡ delete_by ts
+delete_is ts = rw (reads_is Delete ts) (and_then_same (read reads (mark OpenParen) ts) _ _ (λ p r. same_value _ ∙ delete_name r))
+  where
+    same_value : {A : Type 0} (o : Out A) → and_then o (λ b r1. Done b r1) ≡ o
+    same_value (Done b r1) = refl
+    same_value (Refused r1) = refl
+    same_value Unfinished = refl
+
+call_kind : (c : Class) (k : TokenKind) (p : Place) (r : List Item) → read reads (rule CallOrJump) (it c k p ∷ r) ≡ call_by (call_at (it c k p ∷ r)) (it c k p ∷ r)
+call_kind PrintfWord k p r = refl
+call_kind PrintWord k p r = refl
+call_kind ClearWord k p r = simp and_then_assoc
+call_kind ZeroWord k p r = simp and_then_assoc
+call_kind DeleteWord k p r = refl
+call_kind ExitWord k p r = simp and_then_assoc
+call_kind BreakWord k p r = refl
+call_kind ContinueWord k p r = refl
+call_kind ReturnWord k p r = refl
+call_kind _ k p r = refl
+
+pub call_is : (ts : List Item) → reads CallOrJump ts ≡ call_by (call_at ts) ts
+call_is [] = reads_is CallOrJump []
+call_is (t ∷ r) = rw (reads_is CallOrJump (t ∷ r)) (call_kind t.class t.kind t.place r)
+
+-- ---- simple statements
+
+simple_kind : (c : Class) (k : TokenKind) (p : Place) (r : List Item) → read reads (rule Simple) (it c k p ∷ r) ≡ simple_by (Some c) (it c k p ∷ r)
+simple_kind MapName k p r = simp and_then_assoc
+simple_kind VarName k p r = simp and_then_assoc
+simple_kind Increment k p r = refl
+simple_kind Decrement k p r = refl
+simple_kind _ k p r = refl
+
+pub simple_is : (ts : List Item) → reads Simple ts ≡ simple_by (class_at ts) ts
+simple_is [] = reads_is Simple []
+simple_is (t ∷ r) = rw (reads_is Simple (t ∷ r)) (simple_kind t.class t.kind t.place r)

@@ -1,0 +1,44 @@
+use Rattle.std.proofs.Common.{◌≡◌, ℕ, ◌+◌, ◌-◌, ◌*◌, ◌<◌, ◌≤◌, length}
+use Rattle.bt_parser.specs.Form.{Level}
+use Rattle.bt_parser.specs.Reading.{reads}
+use Rattle.bt_parser.specs.Mirror.{level_on, values_on, values_behind, tier_rank}
+use Rattle.bt_parser.specs.Tokens.{items}
+use Rattle.bt_parser.proofs.expr.+expr.Given as goal
+
+abbrev pub decreases-keyed : goal.decreases-keyed
+decreases-keyed l = 32 * length l.tokens.now
+
+abbrev pub decreases-assignable : goal.decreases-assignable
+decreases-assignable l = 32 * length l.tokens.now + 1
+
+abbrev pub decreases-primary : goal.decreases-primary
+decreases-primary l = 32 * length l.tokens.now + 2
+
+abbrev pub decreases-unary : goal.decreases-unary
+decreases-unary l = 32 * length l.tokens.now + 3
+
+abbrev pub decreases-level : goal.decreases-level
+decreases-level l = 32 * length l.tokens.now + (4 + tier_rank l.tier)
+
+abbrev pub decreases-expression : goal.decreases-expression
+decreases-expression l = 32 * length l.tokens.now + 24
+
+abbrev pub decreases-values : goal.decreases-values
+decreases-values l = 32 * length l.tokens.now + 25
+
+-- what there is, with what is read from here, is the part
+abbrev pub invariant-level-loop-class : goal.invariant-level-loop-class
+invariant-level-loop-class l =
+    (level_on l.in_predicate l.tier-2 l.left (items l.tokens) ≡ reads (Level l.in_predicate l.tier-2) (items l.fn.tokens))
+    × (length l.tokens < length l.fn.tokens)
+
+abbrev pub decreases-level-loop-class : goal.decreases-level-loop-class
+decreases-level-loop-class l = length l.tokens
+
+abbrev pub invariant-values-loop-alloc : goal.invariant-values-loop-alloc
+invariant-values-loop-alloc l =
+    (values_on l.values (items l.tokens) ≡ values_behind l.fn.front (items l.fn.tokens))
+    × (length l.tokens < length l.fn.tokens)
+
+abbrev pub decreases-values-loop-alloc : goal.decreases-values-loop-alloc
+decreases-values-loop-alloc l = length l.tokens

@@ -1,0 +1,54 @@
+-- What reading a script comes to, and the answer of the parser.
+use Rattle.std.specs.Prelude.{◌≡◌, ℕ, ◌+◌, ◌≤◌, Bool, true, nat_lt, nat_le, List, [], ◌∷◌, length, Option, Some, None, Result, Ok, Err, if◌then◌else◌}
+use Rattle.bt_lexer.specs.declared.token.Token.{Token}
+use Rattle.bt_ast.specs.declared.probe.Probe.{Probe}
+use Rattle.bt_ast.specs.declared.probe.Script.{Script}
+use Rattle.bt_parser.specs.declared.error.ParseError.{ParseError}
+use Rattle.bt_parser.specs.declared.error.ParseError.TheVariants.{Syntax, TooDeep, TooMany}
+use Rattle.bt_parser.specs.declared.script.Outcome.{Outcome}
+use Rattle.bt_parser.specs.declared.script.Outcome.TheVariants as outcomes
+use Rattle.bt_parser.specs.Form.{Item}
+use Rattle.bt_parser.specs.Tokens.{items}
+use Rattle.bt_parser.specs.Reading.{Out, Done, Refused, starts}
+use Rattle.bt_parser.specs.Classes.{is_point}
+use Rattle.bt_parser.specs.Grammar.{Tree, RefusedAt}
+use Rattle.bt_parser.specs.Refusals.{IsCountFault, NoCountFault, IsAccepted, IsRefusal, most_probes}
+
+-- one probe that was read, or none
+abbrev pub Tells : Out Probe → Option Probe → List Item → Type 0
+Tells out (Some probe) left = out ≡ Done probe left
+Tells out None left = out ≡ Refused left
+
+-- whether another probe is to be read behind these
+abbrev pub another : List Probe → List Item → Bool
+another [] ts = true
+another (p ∷ ps) ts = starts (λ c _. is_point c) ts
+
+-- what an outcome says of the tokens that there were, where these are left
+abbrev pub Gives : List Token → List Token → Outcome → Type 0
+Gives old left (outcomes.Whole probes) = Tree (items old) probes × (length probes ≤ most_probes)
+Gives old left outcomes.Refused = RefusedAt (items old) (items left) × NoCountFault (items old)
+Gives old left outcomes.Full = (n : ℕ) → n + length left ≡ length old → IsCountFault (items old) n
+
+-- the answer, by the outcome, its place, and the place of the first token that is too deep
+abbrev pub answer_of : Outcome → ℕ → Option ℕ → Result Script ParseError
+answer_of (outcomes.Whole probes) place None = Ok (record { probes = probes })
+answer_of (outcomes.Whole probes) place (Some deep) = Err (TooDeep deep)
+answer_of outcomes.Refused place None = Err (Syntax place)
+answer_of outcomes.Refused place (Some deep) = if nat_le place deep then Err (Syntax place) else Err (TooDeep deep)
+answer_of outcomes.Full place None = Err (TooMany place)
+answer_of outcomes.Full place (Some deep) = if nat_lt place deep then Err (TooMany place) else Err (TooDeep deep)
+
+-- the answer is right
+abbrev pub IsRight : List Item → Result Script ParseError → Type 0
+IsRight ts (Ok script) = IsAccepted ts script
+IsRight ts (Err fault) = IsRefusal ts fault
+
+-- an answer for a front, by some outcome of reading it
+pub record Answers (front : List Token) (deep : Option ℕ) (answer : Result Script ParseError) : Type 0 where
+  pub outcome : Outcome
+  pub left : List Token
+  pub place : ℕ
+  pub gives : Gives front left outcome
+  pub at : place + length left ≡ length front
+  pub is : answer ≡ answer_of outcome place deep

@@ -1,0 +1,35 @@
+-- The steps of the functions that read probes.
+use Rattle.std.specs.Prelude.{Bool, true, List, [], ◌∷◌, ◌++◌, Option, Some, None, if◌then◌else◌}
+use Rattle.bt_ast.specs.declared.expr.Expr.{Expr}
+use Rattle.bt_ast.specs.declared.probe.Point.{Point}
+use Rattle.bt_ast.specs.declared.probe.Probe.{Probe}
+use Rattle.bt_parser.specs.declared.class.Class.TheVariants.{Comma, Slash}
+use Rattle.bt_parser.specs.Classes.{is_point}
+use Rattle.bt_parser.specs.Form.{Item, Expression, Points, Braced, Form, Tok, Call, Map, Then, Until}
+use Rattle.bt_parser.specs.Reading.{Out, Done, and_then, read, reads, goes_on, starts, rest_of}
+use Rattle.bt_parser.specs.Rules.{mark, ends, optional, after_comma}
+use Rattle.bt_parser.specs.Trees.{second, snoc, point_at, probe_of}
+use Rattle.bt_parser.specs.Mirror.{◌>>=◌}
+
+abbrev pub point_form : Form Point
+point_form = Map point_at (Tok is_point)
+
+abbrev pub points_on : List Point → List Item → Out (List Point)
+points_on points ts = goes_on snoc (after_comma point_form) points ts
+
+abbrev pub points_by : List Item → Out (List Point)
+points_by ts = read reads point_form ts >>= λ p r. points_on (p ∷ []) r
+
+abbrev pub points_turn : List Point → List Item → Out (List Point)
+points_turn points ts = if starts (ends Comma) ts then (read reads point_form (rest_of ts) >>= λ p r. points_on (points ++ p ∷ []) r) else Done points ts
+
+abbrev pub predicate_form : Form (Option Expr)
+predicate_form = optional (Then second (mark Slash) (Until (Call (Expression true)) Slash))
+
+abbrev pub predicate_by : List Item → Out (Option Expr)
+predicate_by ts = if starts (ends Slash) ts
+    then (reads (Expression true) (rest_of ts) >>= λ x r. read reads (mark Slash) r >>= λ _ r1. Done (Some x) r1)
+    else Done None ts
+
+abbrev pub probe_by : List Item → Out Probe
+probe_by ts = reads Points ts >>= λ ps r. read reads predicate_form r >>= λ x r1. reads Braced r1 >>= λ b r2. Done (probe_of x b ps) r2

@@ -1,0 +1,117 @@
+// What is gathered in aggregation maps.
+ghost use Rattle.std.specs.Prelude.{◌≡◌, ◌<◌, OnOk, length};
+ghost use Rattle.bt_parser.specs.Contract.{Reads};
+ghost use Rattle.bt_parser.specs.Form.{Aggregation, Int};
+ghost use Rattle.bt_parser.specs.Reading.{read, reads};
+ghost use Rattle.bt_parser.specs.Rules.{in_parens, value};
+ghost use Rattle.bt_parser.specs.Statements.{count_form, gather_form, lhist_form};
+ghost use Rattle.bt_parser.specs.Tokens.{items};
+ghost use Rattle.bt_parser.specs.Trees.{gathering};
+
+use crate::class::Class;
+use crate::cursor::Cursor;
+use crate::expr::expression;
+use crate::fault::Fault;
+use bt_ast::expr::Expr;
+use bt_ast::place::Place;
+use bt_ast::stmt::AggCall;
+use std::alloc::Global;
+
+/// A number, with a `-` before it or none.
+#[tactic(auto, using(crate::proofs::Stated::int_is))]
+fn int(tokens: &mut Cursor<'_>) -> Result<i64, Fault>
+    ensures reads { Reads (reads Int (items tokens.old)) result tokens.new }
+    ensures shorter { OnOk result (length tokens.new < length tokens.old) }
+{
+    if !tokens.sees(Class::Minus) {
+        return tokens.number();
+    }
+    tokens.skip();
+    Ok(tokens.number()?.wrapping_neg())
+}
+
+/// An expression in parentheses.
+#[tactic(auto, using(crate::proofs::Stated::parens_is))]
+pub fn in_parens(alloc: Global, tokens: &mut Cursor<'_>) -> Result<Expr, Fault>
+    ensures reads { Reads (read reads (in_parens value) (items tokens.old)) result tokens.new }
+    ensures shorter { OnOk result (length tokens.new < length tokens.old) }
+{
+    tokens.expect(Class::OpenParen)?;
+    let value = expression(alloc, tokens, false)?;
+    tokens.expect(Class::CloseParen)?;
+    Ok(value)
+}
+
+#[tactic(auto, using(crate::proofs::Stated::count_is))]
+fn count(tokens: &mut Cursor<'_>) -> Result<(AggCall, Place), Fault>
+    ensures reads { Reads (read reads count_form (items tokens.old)) result tokens.new }
+    ensures shorter { OnOk result (length tokens.new < length tokens.old) }
+{
+    let place = tokens.expect(Class::CountWord)?;
+    tokens.expect(Class::OpenParen)?;
+    tokens.expect(Class::CloseParen)?;
+    Ok((AggCall::Count, place))
+}
+
+/// The map function of one number that a word names.
+fn gathering(class: Class, value: Expr) -> AggCall
+    ensures { result ≡ gathering class value }
+{
+    match class {
+        Class::SumWord => AggCall::Sum(value),
+        Class::MinWord => AggCall::Min(value),
+        Class::MaxWord => AggCall::Max(value),
+        Class::AvgWord => AggCall::Avg(value),
+        _ => AggCall::Hist(value),
+    }
+}
+
+#[tactic(auto, using(crate::proofs::Stated::gather_is))]
+fn gather(alloc: Global, tokens: &mut Cursor<'_>) -> Result<(AggCall, Place), Fault>
+    ensures reads { Reads (read reads gather_form (items tokens.old)) result tokens.new }
+    ensures shorter { OnOk result (length tokens.new < length tokens.old) }
+{
+    let Some(class) = tokens.gatherer() else {
+        return Err(Fault::Syntax);
+    };
+    let place = tokens.skip();
+    let value = in_parens(alloc, tokens)?;
+    Ok((gathering(class, value), place))
+}
+
+#[tactic(auto, using(crate::proofs::Stated::lhist_is))]
+fn lhist(alloc: Global, tokens: &mut Cursor<'_>) -> Result<(AggCall, Place), Fault>
+    ensures reads { Reads (read reads lhist_form (items tokens.old)) result tokens.new }
+    ensures shorter { OnOk result (length tokens.new < length tokens.old) }
+{
+    let place = tokens.expect(Class::LhistWord)?;
+    tokens.expect(Class::OpenParen)?;
+    let number = expression(alloc, tokens, false)?;
+    tokens.expect(Class::Comma)?;
+    let min = int(tokens)?;
+    tokens.expect(Class::Comma)?;
+    let max = int(tokens)?;
+    tokens.expect(Class::Comma)?;
+    let step = int(tokens)?;
+    tokens.expect(Class::CloseParen)?;
+    let call = AggCall::Lhist {
+        number,
+        min,
+        max,
+        step,
+    };
+    Ok((call, place))
+}
+
+/// A map function and where its word stands.
+#[tactic(auto, using(crate::proofs::Stated::aggregation_is))]
+pub fn aggregation(alloc: Global, tokens: &mut Cursor<'_>) -> Result<(AggCall, Place), Fault>
+    ensures reads { Reads (reads Aggregation (items tokens.old)) result tokens.new }
+    ensures shorter { OnOk result (length tokens.new < length tokens.old) }
+{
+    match tokens.peek() {
+        Some(Class::CountWord) => count(tokens),
+        Some(Class::LhistWord) => lhist(alloc, tokens),
+        _ => gather(alloc, tokens),
+    }
+}

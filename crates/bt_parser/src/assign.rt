@@ -1,0 +1,106 @@
+// What stands behind a map or a variable at the front of a statement.
+ghost use Rattle.std.specs.Prelude.{◌≡◌, ◌<◌, OnOk, length};
+ghost use Rattle.bt_parser.specs.Contract.{Reads};
+ghost use Rattle.bt_parser.specs.Form.{AfterMap, AfterVar, Update};
+ghost use Rattle.bt_parser.specs.Reading.{reads};
+ghost use Rattle.bt_parser.specs.Statements.{given};
+ghost use Rattle.bt_parser.specs.Tokens.{items};
+ghost use Rattle.bt_parser.specs.Trees.{place_of_target, step_after};
+
+use crate::agg::aggregation;
+use crate::class::Class;
+use crate::cursor::Cursor;
+use crate::expr::expression;
+use crate::fault::Fault;
+use bt_ast::expr::{IncDec, MapRef, Target, VarRef};
+use bt_ast::place::Place;
+use bt_ast::stmt::StmtKind;
+use std::alloc::Global;
+
+fn place_of_target(target: &Target) -> Place
+    ensures { result ≡ place_of_target target.now }
+{
+    match target {
+        Target::Map(map) => map.place,
+        Target::Var(var) => var.place,
+    }
+}
+
+/// `++` or `--` behind its target.
+fn step_after(target: Target, plus: bool) -> IncDec
+    ensures { result ≡ step_after target plus (place_of_target target) }
+{
+    let place = place_of_target(&target);
+    IncDec {
+        target,
+        plus,
+        prefix: false,
+        place,
+    }
+}
+
+/// `++`, `--`, or an operator with `=` and a value.
+#[tactic(auto, using(crate::proofs::Stated::update_is))]
+fn update(alloc: Global, tokens: &mut Cursor<'_>, target: Target) -> Result<StmtKind, Fault>
+    ensures reads { Reads (given target (reads Update (items tokens.old))) result tokens.new }
+    ensures shorter { OnOk result (length tokens.new < length tokens.old) }
+{
+    if let Some(plus) = tokens.step() {
+        tokens.skip();
+        return Ok(StmtKind::Step(step_after(target, plus)));
+    }
+    let Some(op) = tokens.update() else {
+        return Err(Fault::Syntax);
+    };
+    tokens.skip();
+    let value = expression(alloc, tokens, false)?;
+    Ok(StmtKind::Assign {
+        target,
+        op: Some(op),
+        value,
+    })
+}
+
+/// What follows a map: `=` with a map function or a value, or an update.
+#[tactic(auto, using(crate::proofs::Stated::after_map_is))]
+pub fn after_map(alloc: Global, tokens: &mut Cursor<'_>, map: MapRef) -> Result<StmtKind, Fault>
+    ensures reads { Reads (given map (reads AfterMap (items tokens.old))) result tokens.new }
+    ensures shorter { OnOk result (length tokens.new < length tokens.old) }
+{
+    if !tokens.sees(Class::Assign) {
+        return update(alloc, tokens, Target::Map(map));
+    }
+    tokens.skip();
+    if tokens.begins_aggregation() {
+        let (agg, agg_place) = aggregation(alloc, tokens)?;
+        return Ok(StmtKind::SetAgg {
+            map,
+            agg,
+            agg_place,
+        });
+    }
+    let value = expression(alloc, tokens, false)?;
+    Ok(StmtKind::Assign {
+        target: Target::Map(map),
+        op: None,
+        value,
+    })
+}
+
+/// What follows a variable: `=` with a value, or an update.
+#[tactic(auto, using(crate::proofs::Stated::after_var_is))]
+pub fn after_var(alloc: Global, tokens: &mut Cursor<'_>, var: VarRef) -> Result<StmtKind, Fault>
+    ensures reads { Reads (given var (reads AfterVar (items tokens.old))) result tokens.new }
+    ensures shorter { OnOk result (length tokens.new < length tokens.old) }
+{
+    if !tokens.sees(Class::Assign) {
+        return update(alloc, tokens, Target::Var(var));
+    }
+    tokens.skip();
+    let value = expression(alloc, tokens, false)?;
+    Ok(StmtKind::Assign {
+        target: Target::Var(var),
+        op: None,
+        value,
+    })
+}

@@ -1,0 +1,150 @@
+// How deep tokens are nested.
+ghost use Rattle.std.specs.Prelude.{◌≡◌, ◌∷◌, [], ◌≤◌, ◌<◌, IfOk, IfSome, OnOk, length};
+ghost use Rattle.bt_parser.specs.Levels.{IsWeighed, deep_from, is_other_operator, levels_of};
+ghost use Rattle.bt_parser.specs.Tokens.{items};
+ghost use Rattle.bt_parser.specs.Weights.{closed, counted, is_operator, levels_behind, opened, reset};
+
+use crate::class::Class;
+use crate::cursor::class_of;
+use crate::tables::{prefix_of, tier_of, update_of};
+use bt_core::memory::Memory;
+use bt_lexer::token::Token;
+use std::alloc::Global;
+
+/// The counts of operators in the levels that are open.
+#[derive(Drop)]
+pub struct Levels {
+    /// The count of the innermost level.
+    pub inner: u64,
+    /// The counts of the levels around it, the outermost first.
+    pub around: Vec<u64>,
+    /// How many brackets are open, and all the counts.
+    pub weight: u64,
+}
+
+/// Whether a mark is `++`, `--`, `=` or `?`.
+fn is_other_operator(class: Class) -> bool
+    ensures { result ≡ is_other_operator class }
+{
+    matches!(
+        class,
+        Class::Increment | Class::Decrement | Class::Assign | Class::Question
+    )
+}
+
+/// Whether a mark counts: it is neither a brace or bracket nor `,`, `;`, `.`, `->` or `:`.
+#[tactic(auto, using(crate::proofs::Operators::operator_is))]
+fn is_operator(class: Class) -> bool
+    ensures { result ≡ is_operator class }
+{
+    tier_of(class).is_some()
+        || update_of(class).is_some()
+        || prefix_of(class).is_some()
+        || is_other_operator(class)
+}
+
+impl Levels {
+    /// The outermost level alone.
+    fn new(alloc: Global) -> Levels
+        ensures levels { levels_of result ≡ 0 ∷ [] }
+        ensures weighed { IsWeighed result }
+        ensures light { result.weight ≤ 64 }
+    {
+        Levels {
+            inner: 0,
+            around: Vec::new(alloc),
+            weight: 0,
+        }
+    }
+
+    /// Opens a level.
+    fn open(&mut self) -> Result<(), Memory>
+        requires weighed { IsWeighed self.old }
+        requires light { self.old.weight ≤ 64 }
+        ensures levels { OnOk result (levels_of self.new ≡ opened (levels_of self.old)) }
+        ensures weighed { OnOk result (IsWeighed self.new) }
+    {
+        self.around.push(self.inner)?;
+        self.inner = 0;
+        self.weight += 1;
+        Ok(())
+    }
+
+    /// Closes the innermost level, if another stands around it.
+    fn close(&mut self)
+        requires weighed { IsWeighed self.old }
+        ensures levels { levels_of self.new ≡ closed (levels_of self.old) }
+        ensures weighed { IsWeighed self.new }
+    {
+        if let Some(count) = self.around.pop() {
+            self.weight -= self.inner;
+            self.weight -= 1;
+            self.inner = count;
+        }
+    }
+
+    /// Begins the innermost count anew.
+    fn reset(&mut self)
+        requires weighed { IsWeighed self.old }
+        ensures levels { levels_of self.new ≡ reset (levels_of self.old) }
+        ensures weighed { IsWeighed self.new }
+        ensures lighter { self.new.weight ≤ self.old.weight }
+    {
+        self.weight -= self.inner;
+        self.inner = 0;
+    }
+
+    /// Counts an operator.
+    fn count(&mut self)
+        requires weighed { IsWeighed self.old }
+        requires light { self.old.weight ≤ 64 }
+        ensures levels { levels_of self.new ≡ counted (levels_of self.old) }
+        ensures weighed { IsWeighed self.new }
+    {
+        self.inner += 1;
+        self.weight += 1;
+    }
+
+    /// Passes over a token.
+    fn pass(&mut self, class: Class) -> Result<(), Memory>
+        requires weighed { IsWeighed self.old }
+        requires light { self.old.weight ≤ 64 }
+        ensures levels { OnOk result (levels_of self.new ≡ levels_behind class (levels_of self.old)) }
+        ensures weighed { OnOk result (IsWeighed self.new) }
+    {
+        match class {
+            Class::OpenBrace => {
+                self.reset();
+                return self.open();
+            }
+            Class::CloseBrace => {
+                self.close();
+                self.reset();
+            }
+            Class::OpenParen | Class::OpenBracket => return self.open(),
+            Class::CloseParen | Class::CloseBracket => self.close(),
+            Class::Comma | Class::Semicolon => self.reset(),
+            _ => {
+                if is_operator(class) {
+                    self.count();
+                }
+            }
+        }
+        Ok(())
+    }
+}
+
+/// The place of the first token behind which more than 64 brackets and operators are open.
+pub fn first_too_deep(alloc: Global, tokens: &[Token]) -> Result<Option<usize>, Memory>
+    ensures value { IfOk result (λ found. found ≡ deep_from 0 (0 ∷ []) (items tokens.now)) }
+    ensures within { IfOk result (λ found. IfSome found (λ place. place < length tokens.now)) }
+{
+    let mut levels = Levels::new(alloc);
+    for (i, token) in tokens.iter().enumerate() {
+        levels.pass(class_of(&token.kind))?;
+        if levels.weight > 64 {
+            return Ok(Some(i));
+        }
+    }
+    Ok(None)
+}

@@ -1,0 +1,65 @@
+// Probes.
+ghost use Rattle.std.specs.Prelude.{◌≡◌, ◌<◌, ◌≤◌, OnOk, length};
+ghost use Rattle.bt_parser.specs.Contract.{Reads};
+ghost use Rattle.bt_parser.specs.Form.{OneProbe, Points};
+ghost use Rattle.bt_parser.specs.Probes.{predicate_form};
+ghost use Rattle.bt_parser.specs.Reading.{read, reads};
+ghost use Rattle.bt_parser.specs.Tokens.{items};
+
+use crate::block::block;
+use crate::class::Class;
+use crate::cursor::Cursor;
+use crate::expr::expression;
+use crate::fault::Fault;
+use crate::point::place_of_points;
+use bt_ast::expr::Expr;
+use bt_ast::probe::{Point, Probe};
+use bt_core::items::Items;
+use std::alloc::Global;
+
+/// What a probe is attached to, between commas, one at least.
+fn points(alloc: Global, tokens: &mut Cursor<'_>) -> Result<Items<Point>, Fault>
+    ensures reads { Reads (reads Points (items tokens.old)) result tokens.new }
+    ensures shorter { OnOk result (length tokens.new < length tokens.old) }
+{
+    let mut points = Items::new(alloc);
+    points.push(tokens.point(alloc)?)?;
+    while tokens.sees(Class::Comma) {
+        tokens.skip();
+        points.push(tokens.point(alloc)?)?;
+    }
+    Ok(points)
+}
+
+/// An expression between slashes, where a slash comes next.
+#[tactic(auto, using(crate::proofs::Probed::predicate_is))]
+fn predicate(alloc: Global, tokens: &mut Cursor<'_>) -> Result<Option<Expr>, Fault>
+    ensures reads { Reads (read reads predicate_form (items tokens.old)) result tokens.new }
+    ensures no_longer { OnOk result (length tokens.new ≤ length tokens.old) }
+{
+    if !tokens.sees(Class::Slash) {
+        return Ok(None);
+    }
+    tokens.skip();
+    let value = expression(alloc, tokens, true)?;
+    tokens.expect(Class::Slash)?;
+    Ok(Some(value))
+}
+
+/// A probe: points, a predicate or none, and a block.
+#[tactic(auto, using(crate::proofs::Probed::probe_is))]
+pub fn probe(alloc: Global, tokens: &mut Cursor<'_>) -> Result<Probe, Fault>
+    ensures reads { Reads (reads OneProbe (items tokens.old)) result tokens.new }
+    ensures shorter { OnOk result (length tokens.new < length tokens.old) }
+{
+    let points = points(alloc, tokens)?;
+    let predicate = predicate(alloc, tokens)?;
+    let block = block(alloc, tokens)?;
+    let place = place_of_points(points.as_slice());
+    Ok(Probe {
+        points,
+        predicate,
+        block,
+        place,
+    })
+}

@@ -1,0 +1,83 @@
+// The probes of a script, and how many there may be.
+ghost use Rattle.std.specs.Prelude.{◌≡◌, ◌<◌, ◌≤◌, IfOk, IfSome, length};
+ghost use Rattle.bt_parser.specs.Classes.{is_point};
+ghost use Rattle.bt_parser.specs.Form.{OneProbe};
+ghost use Rattle.bt_parser.specs.Outcomes.{Gives, Tells, another};
+ghost use Rattle.bt_parser.specs.Reading.{reads, starts};
+ghost use Rattle.bt_parser.specs.Tokens.{items};
+
+use crate::class::Class;
+use crate::cursor::Cursor;
+use crate::fault::Fault;
+use crate::probe::probe;
+use bt_ast::probe::Probe;
+use bt_core::items::Items;
+use bt_core::memory::Memory;
+use std::alloc::Global;
+
+/// The most probes of a script.
+const MOST_PROBES: usize = 64;
+
+/// What reading a script comes to.
+#[derive(Drop)]
+pub enum Outcome {
+    /// The tokens are these probes.
+    Whole(Items<Probe>),
+    /// No script goes on with the token at which the cursor stands, or ends where no token is left.
+    Refused,
+    /// As many probes were read as there may be, and another begins where the cursor stands.
+    Full,
+}
+
+/// Whether the next token begins a probe.
+fn begins_probe(tokens: &Cursor<'_>) -> bool
+    ensures { result ≡ starts (λ c _. is_point c) (items tokens.now) }
+{
+    matches!(
+        tokens.peek(),
+        Some(
+            Class::BeginWord | Class::EndWord | Class::TracepointPoint | Class::IntervalPoint
+        )
+    )
+}
+
+/// Whether another probe is to be read behind these: the first one always, and one of which the first token is there.
+fn another(probes: &Items<Probe>, tokens: &Cursor<'_>) -> bool
+    ensures { result ≡ another probes.now (items tokens.now) }
+{
+    probes.is_empty() || begins_probe(tokens)
+}
+
+/// The next probe, or `None` where it is refused.
+fn next_probe(alloc: Global, tokens: &mut Cursor<'_>) -> Result<Option<Probe>, Memory>
+    ensures reads { IfOk result (λ found. Tells (reads OneProbe (items tokens.old)) found (items tokens.new)) }
+    ensures shorter { IfOk result (λ found. IfSome found (λ _. length tokens.new < length tokens.old)) }
+{
+    match probe(alloc, tokens) {
+        Ok(probe) => Ok(Some(probe)),
+        Err(Fault::Syntax) => Ok(None),
+        Err(Fault::OutOfMemory) => Err(Memory),
+    }
+}
+
+/// The probes of all tokens that are left, or why they are no script.
+pub fn script(alloc: Global, tokens: &mut Cursor<'_>) -> Result<Outcome, Memory>
+    ensures outcome { IfOk result (λ outcome. Gives tokens.old tokens.new outcome) }
+    ensures no_longer { IfOk result (λ _. length tokens.new ≤ length tokens.old) }
+{
+    let mut probes = Items::new(alloc);
+    while another(&probes, tokens) {
+        if probes.len() == MOST_PROBES {
+            return Ok(Outcome::Full);
+        }
+        match next_probe(alloc, tokens)? {
+            Some(probe) => probes.push(probe)?,
+            None => return Ok(Outcome::Refused),
+        }
+    }
+    if tokens.left() == 0 {
+        Ok(Outcome::Whole(probes))
+    } else {
+        Ok(Outcome::Refused)
+    }
+}

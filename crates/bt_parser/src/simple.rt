@@ -1,0 +1,58 @@
+// Simple statements.
+ghost use Rattle.std.specs.Prelude.{◌≡◌, ◌<◌, OnOk, length};
+ghost use Rattle.bt_parser.specs.Contract.{Reads};
+ghost use Rattle.bt_parser.specs.Form.{Simple};
+ghost use Rattle.bt_parser.specs.Reading.{reads};
+ghost use Rattle.bt_parser.specs.Statements.{step_stmt_by};
+ghost use Rattle.bt_parser.specs.Tokens.{items};
+
+use crate::assign::{after_map, after_var};
+use crate::call::call;
+use crate::class::Class;
+use crate::cursor::{Cursor, Named};
+use crate::expr::{assignable, keyed};
+use crate::fault::Fault;
+use bt_ast::expr::{IncDec, VarRef};
+use bt_ast::stmt::{Stmt, StmtKind};
+use std::alloc::Global;
+
+/// `++` or `--` before its target.
+fn step(alloc: Global, tokens: &mut Cursor<'_>, plus: bool) -> Result<Stmt, Fault>
+    ensures reads { Reads (step_stmt_by plus (items tokens.old)) result tokens.new }
+    ensures no_longer { OnOk result (length tokens.new < length tokens.old) }
+{
+    let place = tokens.skip();
+    let target = assignable(alloc, tokens)?;
+    let kind = StmtKind::Step(IncDec {
+        target,
+        plus,
+        prefix: true,
+        place,
+    });
+    Ok(Stmt { kind, place })
+}
+
+/// A statement without blocks.
+#[tactic(auto, using(crate::proofs::Stated::simple_is))]
+pub fn simple(alloc: Global, tokens: &mut Cursor<'_>) -> Result<Stmt, Fault>
+    ensures reads { Reads (reads Simple (items tokens.old)) result tokens.new }
+    ensures shorter { OnOk result (length tokens.new < length tokens.old) }
+{
+    match tokens.peek() {
+        Some(Class::MapName) => {
+            let map = keyed(alloc, tokens)?;
+            let place = map.place;
+            let kind = after_map(alloc, tokens, map)?;
+            Ok(Stmt { kind, place })
+        }
+        Some(Class::VarName) => {
+            let Named { bytes, place } = tokens.named(alloc, Class::VarName)?;
+            let var = VarRef { name: bytes, place };
+            let kind = after_var(alloc, tokens, var)?;
+            Ok(Stmt { kind, place })
+        }
+        Some(Class::Increment) => step(alloc, tokens, true),
+        Some(Class::Decrement) => step(alloc, tokens, false),
+        _ => call(alloc, tokens),
+    }
+}
