@@ -1,6 +1,6 @@
 -- The tree of a script, and the format whose events it counts.
 use Rattle.std.proofs.Common.{◌≡◌, ◌≢◌, ℕ, ◌+◌, ◌<◌, ◌≤◌, Bool, true, false, List, length, get_or, Result, Ok, Err, refl, sym, ap, subst, ◌∙◌, arith, inl, inr}
-use Rattle.std.specs.Prelude.{◌↔◌, ◌⊎◌, IsTrue, Option, Some, None, slice_get}
+use Rattle.std.specs.Prelude.{◌↔◌, ◌⊎◌, IsTrue, Option, Some, None, MatchOption, slice_get}
 use Rattle.std.proofs.lemmas.Bool.{cases_lt}
 use Rattle.std.proofs.lemmas.Option.{slice_get-get_or, get_or_from_slice_get, slice_get_within}
 use Rattle.tracefs_format.specs.declared.format.Format.{Format}
@@ -67,7 +67,7 @@ same_error error other known gives = let e = gives known in same e
     same : ◌≡◌ {A = Result (List Token) LexError} (Err other) (Err error) → other ≡ error
     same e = cc
 
-pub lexical_read : (text : List ℕ) (error : LexError) → error ≢ lexical.Memory → IsLexed text (Err error) → IsReadTree text (Err (lexical_refusal text error))
+lexical_read : (text : List ℕ) (error : LexError) → error ≢ lexical.Memory → IsLexed text (Err error) → IsReadTree text (Err (lexical_refusal text error))
 lexical_read text error known lexed = record {
   only_tree = λ tree has. absurd (no_tokens error has.tokens known (lexed.tokens has.tokens has.are));
   only_fault = λ fault place wrong. by_wrong fault place wrong;
@@ -76,6 +76,14 @@ lexical_read text error known lexed = record {
     by_wrong : (fault : ScriptFault) (place : LineColumn) → IsScriptFault text (BadScript fault place) → (◌≡◌ {A = Result Tree Refusal} (Err (lexical_refusal text error)) (Err (BadScript fault place))) ⊎ (◌≡◌ {A = Result Tree Refusal} (Err (lexical_refusal text error)) (Err Memory))
     by_wrong fault place (inl h) = inl (ap (λ (x : Refusal). Err x) (ap (lexical_refusal text) (sym (same_error error h.fault known (lexed.fault h.fault h.first))) ∙ sym h.told))
     by_wrong fault place (inr h) = absurd (no_tokens error h.tokens known (lexed.tokens h.tokens h.are))
+
+pub no_text : (text : List ℕ) (error : LexError) → IsLexed text (Err error) → IsReadTree text (Err (lexical_refusal text error))
+no_text text lexical.Memory lexed = record { only_tree = λ tree has. inr refl; only_fault = λ fault place wrong. inr refl }
+no_text text error lexed = lexical_read text error (λ e. cc) lexed
+
+pub lexical_told : (text : List ℕ) (error : LexError) → (error ≢ lexical.Memory → IsFirstFault text error) → lexical_refusal text error ≢ Memory → IsScriptFault text (lexical_refusal text error)
+lexical_told text lexical.Memory found known = absurd (known refl)
+lexical_told text error found known = inl (record { fault = error; first = found (λ e. cc); told = refl })
 
 -- ---- the text has tokens
 
@@ -163,8 +171,14 @@ none_at_all event formats place past below k of =
 pub not_early : (tree : Tree) (formats : List Format) → event_of_tree tree ≡ None → (place : ℕ) → CountsFormat tree formats place → ⊥
 not_early tree formats none place counts = let e = counts.early in cc
 
-pub counts_none : (tree : Tree) (event : EventName) (formats : List Format) → event_of_tree tree ≡ Some event → ((place : ℕ) → IsFormatOf event formats place → ⊥) → (place : ℕ) → CountsFormat tree formats place → ⊥
+counts_none : (tree : Tree) (event : EventName) (formats : List Format) → event_of_tree tree ≡ Some event → ((place : ℕ) → IsFormatOf event formats place → ⊥) → (place : ℕ) → CountsFormat tree formats place → ⊥
 counts_none tree event formats is none place counts = none place (subst (λ (x : EventName). IsFormatOf x formats place) (same counts.event (sym counts.early ∙ is)) counts.of)
   where
     same : (other : EventName) → Some other ≡ Some event → other ≡ event
     same other e = cc
+
+pub counted : (tree : Tree) (event : EventName) (formats : List Format) (found : Option ℕ) → event_of_tree tree ≡ Some event
+    → MatchOption found ((place : ℕ) → IsFormatOf event formats place → ⊥) (λ place. IsFormatOf event formats place)
+    → MatchOption found ((place : ℕ) → CountsFormat tree formats place → ⊥) (λ place. CountsFormat tree formats place)
+counted tree event formats None is none = counts_none tree event formats is none
+counted tree event formats (Some place) is of = record { event = event; early = is; of = of }

@@ -12,6 +12,8 @@ mod recording_tests;
 pub mod refusal;
 pub mod report;
 mod script;
+#[cfg(test)]
+mod script_tests;
 pub mod serve;
 mod tell;
 #[cfg(test)]
