@@ -88,7 +88,8 @@ fn depth_and_the_number_of_probes_are_told(rt: HostRuntime) -> Result<(), Fail> 
     assert!(rt; is_refused(alloc, deep.as_slice(), b"s.bt:1:76: P2 too deep\n")?);
     let mut many = Vec::new(alloc);
     for _ in 0..65 {
-        many.extend_from_slice(b"BEGIN { }\n").map_err(Memory::from)?;
+        many.extend_from_slice(b"BEGIN { }\n")
+            .map_err(Memory::from)?;
     }
     assert!(rt; is_refused(alloc, many.as_slice(), b"s.bt:65:1: P3 too many probes\n")?);
     Ok(())
@@ -137,6 +138,15 @@ fn a_recording_is_refused_before_a_script_is_lexed(rt: HostRuntime) -> Result<()
     let alloc = rt.alloc();
     let mut cut = three_entries(alloc)?;
     cut.truncate(795);
-    assert!(rt; run(alloc, b"#", cut, 3, b"", b"r.bin: C1 truncated at byte 795\n")?);
+    assert!(rt;
+        run(
+            alloc,
+            b"#",
+            cut,
+            3,
+            b"",
+            b"r.bin: C1 truncated at byte 795\n"
+        )?
+    );
     Ok(())
 }

@@ -99,9 +99,8 @@ fn run<S: Shelf, K: Sink>(alloc: Global, named: &Named<'_>, shelf: &mut S, out: 
 /// its bytes fail, or where it has more than one CPU. A script is refused with the first lexical fault of
 /// its text, or with the first fault of its tokens by the grammar of the bpftrace language, both with line
 /// and column, or where it has a tree that does not run so far. Want of memory may come at any of them.
-/// Before the write
-/// nothing goes to `out`. What is refused is told by a line to `err`, and a fault there changes
-/// nothing else.
+/// Before the write nothing goes to `out`. What is refused is told by a line to `err`, and a fault there
+/// changes nothing else.
 pub fn serve<S: Shelf, K: Sink, E: Sink>(
     alloc: Global,
     words: &[String],

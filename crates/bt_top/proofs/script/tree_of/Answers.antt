@@ -4,14 +4,14 @@ use Rattle.bt_top.proofs.script.tree_of.Goals as goal
 
 pub returns-in-Err : goal.returns-in-Err
 returns-in-Err c = rw c.lexical_refusal.ensures (
-  let read = no_text c.args.text.now c.in-Err.error (record { tokens = c.in-Err.ensures.only_tokens; fault = c.in-Err.ensures.only_fault }) in
-  record {
-    tree = tt;
-    fault = lexical_told c.args.text.now c.in-Err.error c.in-Err.ensures.fault;
-    only_tree = read.only_tree;
-    only_fault = read.only_fault;
-  }
-)
+    let read = no_text c.args.text.now c.in-Err.error (record { tokens = c.in-Err.ensures.only_tokens; fault = c.in-Err.ensures.only_fault }) in
+    record {
+      tree = tt;
+      fault = lexical_told c.args.text.now c.in-Err.error c.in-Err.ensures.fault;
+      only_tree = read.only_tree;
+      only_fault = read.only_fault;
+    }
+    )
 
 pub returns-in-Ok-parse-clause-only_tree : goal.returns-in-Ok-parse-clause-only_tree
 returns-in-Ok-parse-clause-only_tree c =
