@@ -13,6 +13,7 @@ use Rattle.bt_ast.specs.declared.stmt.Block.{Block, roll-Block}
 use Rattle.bt_ast.specs.declared.stmt.Stmt.{Stmt}
 use Rattle.bt_ast.specs.declared.stmt.StmtKind.{StmtKind}
 use Rattle.bt_ast.specs.declared.stmt.StmtKind.TheVariants as stmts
+use Rattle.bt_parser.specs.declared.agg.Bounds.{Bounds}
 use Rattle.bt_parser.specs.declared.class.Class.{Class}
 use Rattle.bt_parser.specs.declared.class.Class.TheVariants.{IfWord, ElseWord, WhileWord, UnrollWord, CountWord, LhistWord, PrintfWord, PrintWord, ClearWord, ZeroWord, DeleteWord, ExitWord, BreakWord, ContinueWord, ReturnWord, MapName, VarName, TextLiteral, OpenBrace, CloseBrace, OpenParen, CloseParen, OpenBracket, CloseBracket, Comma, Semicolon, Assign, Minus, Increment, Decrement}
 use Rattle.bt_parser.specs.declared.cursor.Named.{Named}
@@ -58,10 +59,13 @@ gather_by (Some c) ts = read reads (in_parens value) (rest_of ts) >>= λ x r. Do
 abbrev pub lhist_form : Form (AggCall × Place)
 lhist_form = Then lhist_call (mark LhistWord) (in_parens (Then pair (Until value Comma) (Then pair (Until (Call Int) Comma) (Then pair (Until (Call Int) Comma) (Call Int)))))
 
+abbrev pub bounds_by : List Item → Out Bounds
+bounds_by ts = reads Int ts >>= λ a r. read reads (mark Comma) r >>= λ _ r1. reads Int r1 >>= λ b r2. read reads (mark Comma) r2 >>= λ _ r3. reads Int r3 >>= λ c r4.
+    read reads (mark CloseParen) r4 >>= λ _ r5. Done (record { min = a; max = b; step = c }) r5
+
 abbrev pub lhist_by : List Item → Out (AggCall × Place)
 lhist_by ts = read reads (mark LhistWord) ts >>= λ p r. read reads (mark OpenParen) r >>= λ _ r1. reads (Expression false) r1 >>= λ x r2.
-    read reads (mark Comma) r2 >>= λ _ r3. reads Int r3 >>= λ a r4. read reads (mark Comma) r4 >>= λ _ r5. reads Int r5 >>= λ b r6.
-    read reads (mark Comma) r6 >>= λ _ r7. reads Int r7 >>= λ c r8. read reads (mark CloseParen) r8 >>= λ _ r9. Done (aggs.Lhist x a b c, p) r9
+    read reads (mark Comma) r2 >>= λ _ r3. bounds_by r3 >>= λ b r4. Done (aggs.Lhist x b.min b.max b.step, p) r4
 
 abbrev pub aggregation_by : Option Class → List Item → Out (AggCall × Place)
 aggregation_by (Some CountWord) ts = read reads count_form ts
@@ -169,14 +173,14 @@ call_by (Some c) ts = behind_word c (rest_of ts) >>= λ k r. Done (stmt (front_p
 
 -- ---- simple statements
 
-abbrev pub step_stmt_by : Bool → List Item → Out Stmt
-step_stmt_by plus ts = reads Assignable (rest_of ts) >>= λ t r. Done (stmt (front_place ts) (stmts.Step (step_of t plus (front_place ts)))) r
+abbrev pub step_stmt_by : Bool → Place → List Item → Out Stmt
+step_stmt_by plus place ts = reads Assignable ts >>= λ t r. Done (stmt place (stmts.Step (step_of t plus place))) r
 
 abbrev pub simple_by : Option Class → List Item → Out Stmt
 simple_by (Some MapName) ts = reads Keyed ts >>= λ m r. given m (reads AfterMap r) >>= λ k r1. Done (stmt (place_of_map m) k) r1
 simple_by (Some VarName) ts = read reads (named_form VarName) ts >>= λ n r. given (var_of n) (reads AfterVar r) >>= λ k r1. Done (stmt n.place k) r1
-simple_by (Some Increment) ts = step_stmt_by true ts
-simple_by (Some Decrement) ts = step_stmt_by false ts
+simple_by (Some Increment) ts = step_stmt_by true (front_place ts) (rest_of ts)
+simple_by (Some Decrement) ts = step_stmt_by false (front_place ts) (rest_of ts)
 simple_by _ ts = reads CallOrJump ts
 
 -- ---- control and blocks

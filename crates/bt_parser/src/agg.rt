@@ -4,7 +4,7 @@ ghost use Rattle.bt_parser.specs.Contract.{Reads};
 ghost use Rattle.bt_parser.specs.Form.{Aggregation, Int};
 ghost use Rattle.bt_parser.specs.Reading.{read, reads};
 ghost use Rattle.bt_parser.specs.Rules.{in_parens, value};
-ghost use Rattle.bt_parser.specs.Statements.{count_form, gather_form, lhist_form};
+ghost use Rattle.bt_parser.specs.Statements.{bounds_by, count_form, gather_form, lhist_form};
 ghost use Rattle.bt_parser.specs.Tokens.{items};
 ghost use Rattle.bt_parser.specs.Trees.{gathering};
 
@@ -79,6 +79,28 @@ fn gather(alloc: Global, tokens: &mut Cursor<'_>) -> Result<(AggCall, Place), Fa
     Ok((gathering(class, value), place))
 }
 
+/// The bounds and the step of a linear histogram.
+#[derive(Clone, Copy)]
+struct Bounds {
+    min: i64,
+    max: i64,
+    step: i64,
+}
+
+/// The bounds of a linear histogram between commas, and the closing parenthesis.
+fn read_bounds(tokens: &mut Cursor<'_>) -> Result<Bounds, Fault>
+    ensures reads { Reads (bounds_by (items tokens.old)) result tokens.new }
+    ensures shorter { OnOk result (length tokens.new < length tokens.old) }
+{
+    let min = int(tokens)?;
+    tokens.expect(Class::Comma)?;
+    let max = int(tokens)?;
+    tokens.expect(Class::Comma)?;
+    let step = int(tokens)?;
+    tokens.expect(Class::CloseParen)?;
+    Ok(Bounds { min, max, step })
+}
+
 #[tactic(auto, using(crate::proofs::Stated::lhist_is))]
 fn lhist(alloc: Global, tokens: &mut Cursor<'_>) -> Result<(AggCall, Place), Fault>
     ensures reads { Reads (read reads lhist_form (items tokens.old)) result tokens.new }
@@ -88,12 +110,7 @@ fn lhist(alloc: Global, tokens: &mut Cursor<'_>) -> Result<(AggCall, Place), Fau
     tokens.expect(Class::OpenParen)?;
     let number = expression(alloc, tokens, false)?;
     tokens.expect(Class::Comma)?;
-    let min = int(tokens)?;
-    tokens.expect(Class::Comma)?;
-    let max = int(tokens)?;
-    tokens.expect(Class::Comma)?;
-    let step = int(tokens)?;
-    tokens.expect(Class::CloseParen)?;
+    let Bounds { min, max, step } = read_bounds(tokens)?;
     let call = AggCall::Lhist {
         number,
         min,

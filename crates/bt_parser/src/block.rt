@@ -51,8 +51,11 @@ fn branches(alloc: Global, tokens: &mut Cursor<'_>) -> Result<StmtKind, Fault>
     while tokens.sees(Class::ElseWord) {
         tokens.skip();
         if !tokens.sees(Class::IfWord) {
-            let otherwise = Some(block(alloc, tokens)?);
-            return Ok(StmtKind::If { arms, otherwise });
+            let otherwise = block(alloc, tokens)?;
+            return Ok(StmtKind::If {
+                arms,
+                otherwise: Some(otherwise),
+            });
         }
         tokens.skip();
         arms.push(arm(alloc, tokens)?)?;

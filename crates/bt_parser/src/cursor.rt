@@ -6,7 +6,7 @@ ghost use Rattle.bt_parser.specs.Contract.{Reads};
 ghost use Rattle.bt_parser.specs.Form.{brace_next};
 ghost use Rattle.bt_parser.specs.Reading.{read, reads, rest_of, starts};
 ghost use Rattle.bt_parser.specs.Rules.{a_number, ends, mark};
-ghost use Rattle.bt_parser.specs.Mirror.{class_at, front_place, named_form, operator_at, prefix_at, builtin_at, step_at, plus_of, word_form};
+ghost use Rattle.bt_parser.specs.Mirror.{class_at, front_place, named_form, operator_at, prefix_at, builtin_at, step_at, when, word_form};
 ghost use Rattle.bt_parser.specs.Probes.{point_form};
 ghost use Rattle.bt_parser.specs.Statements.{begins_aggregation, begins_control, call_at, gatherer_at, update_at};
 ghost use Rattle.bt_parser.specs.Tokens.{class_of, items, place_of_token};
@@ -124,6 +124,23 @@ fn joins(in_predicate: bool, tier: Tier, class: Class, before_brace: bool) -> bo
     tier_of(class) == Some(tier) && !ends_predicate
 }
 
+/// Whether the first of the tokens is an opening brace.
+fn begins_with_brace(tokens: &[Token]) -> bool
+    ensures { result ≡ brace_next (items tokens.now) }
+{
+    match tokens {
+        [] => false,
+        [token, ..] => is(Class::OpenBrace, class_of(&token.kind)),
+    }
+}
+
+/// The class where the test holds.
+fn when(test: bool, class: Class) -> Option<Class>
+    ensures { result ≡ when test class }
+{
+    if test { Some(class) } else { None }
+}
+
 impl<'a> Cursor<'a> {
     /// A cursor at the first of the tokens.
     pub fn new(rest: &'a [Token]) -> Cursor<'a>
@@ -159,25 +176,16 @@ impl<'a> Cursor<'a> {
         }
     }
 
-    /// Whether an opening brace stands after the next token.
-    fn before_brace(&self) -> bool
-        ensures { result ≡ brace_next (rest_of (items self.now)) }
-    {
-        match self.rest {
-            [_, token, ..] => is(Class::OpenBrace, class_of(&token.kind)),
-            _ => false,
-        }
-    }
-
     /// The class of the next token where it is a binary operator of the tier.
     pub fn operator(&self, in_predicate: bool, tier: Tier) -> Option<Class>
         ensures { result ≡ operator_at in_predicate tier (items self.now) }
     {
-        let class = self.peek()?;
-        if joins(in_predicate, tier, class, self.before_brace()) {
-            Some(class)
-        } else {
-            None
+        match self.rest {
+            [] => None,
+            [token, rest @ ..] => {
+                let class = class_of(&token.kind);
+                when(joins(in_predicate, tier, class, begins_with_brace(rest)), class)
+            }
         }
     }
 
@@ -207,7 +215,7 @@ impl<'a> Cursor<'a> {
         ensures { result ≡ gatherer_at (items self.now) }
     {
         let class = self.peek()?;
-        if gathers(class) { Some(class) } else { None }
+        when(gathers(class), class)
     }
 
     /// The word that comes next where it begins a call or is a jump.
@@ -215,7 +223,7 @@ impl<'a> Cursor<'a> {
         ensures { result ≡ call_at (items self.now) }
     {
         let class = self.peek()?;
-        if is_call(class) { Some(class) } else { None }
+        when(is_call(class), class)
     }
 
     /// Whether a map function comes next.

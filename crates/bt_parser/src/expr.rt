@@ -1,7 +1,7 @@
 // Expressions.
 ghost use Rattle.std.specs.Prelude.{◌≡◌, ◌<◌, ◌≤◌, IfOk, OnOk, length};
 ghost use Rattle.bt_parser.specs.Contract.{Reads};
-ghost use Rattle.bt_parser.specs.Form.{Assignable, Expression, Keyed, Primary, Unary};
+ghost use Rattle.bt_parser.specs.Form.{Assignable, Expression, Keyed, Level, Primary, Unary};
 ghost use Rattle.bt_parser.specs.Reading.{reads};
 ghost use Rattle.bt_parser.specs.Mirror.{joined, operand_by, values_behind};
 ghost use Rattle.bt_ast.specs.declared.expr.ExprKind.TheVariants as exprs;
@@ -71,7 +71,6 @@ fn paren(alloc: Global, inner: Expr, place: Place) -> Result<Expr, Memory>
 
 /// An expression. In a predicate, outside its brackets, a `/` before a brace does not go on with it.
 #[cycle(expr)]
-#[tactic(none)]
 pub fn expression(
     alloc: Global,
     tokens: &mut Cursor<'_>,
@@ -80,7 +79,7 @@ pub fn expression(
     ensures reads { Reads (reads (Expression in_predicate) (items tokens.old)) result tokens.new }
     ensures shorter { OnOk result (length tokens.new < length tokens.old) }
 {
-    let condition = level(alloc, tokens, in_predicate, Some(Tier::OrElses))?;
+    let condition = level(alloc, tokens, in_predicate, Tier::OrElses)?;
     if !tokens.sees(Class::Question) {
         return Ok(condition);
     }
@@ -91,10 +90,29 @@ pub fn expression(
     Ok(choose(alloc, condition, yes, no)?)
 }
 
-/// Operands joined by operators of the tier, from the left, or one operand where there is no tier.
+/// Operands joined by operators of the tier, from the left.
 #[cycle(expr)]
-#[tactic(none)]
 fn level(
+    alloc: Global,
+    tokens: &mut Cursor<'_>,
+    in_predicate: bool,
+    tier: Tier,
+) -> Result<Expr, Fault>
+    ensures reads { Reads (reads (Level in_predicate tier) (items tokens.old)) result tokens.new }
+    ensures shorter { OnOk result (length tokens.new < length tokens.old) }
+{
+    let mut left = operand(alloc, tokens, in_predicate, tighter(tier))?;
+    while let Some(class) = tokens.operator(in_predicate, tier) {
+        tokens.skip();
+        let right = operand(alloc, tokens, in_predicate, tighter(tier))?;
+        left = join(alloc, class, left, right)?;
+    }
+    Ok(left)
+}
+
+/// What operators join: operands of the next tier, or one without operators between operands.
+#[cycle(expr)]
+fn operand(
     alloc: Global,
     tokens: &mut Cursor<'_>,
     in_predicate: bool,
@@ -103,20 +121,13 @@ fn level(
     ensures reads { Reads (operand_by in_predicate tier (items tokens.old)) result tokens.new }
     ensures shorter { OnOk result (length tokens.new < length tokens.old) }
 {
-    let Some(tier) = tier else {
-        return unary(alloc, tokens);
-    };
-    let mut left = level(alloc, tokens, in_predicate, tighter(tier))?;
-    while let Some(class) = tokens.operator(in_predicate, tier) {
-        tokens.skip();
-        let right = level(alloc, tokens, in_predicate, tighter(tier))?;
-        left = join(alloc, class, left, right)?;
+    match tier {
+        None => unary(alloc, tokens),
+        Some(tier) => level(alloc, tokens, in_predicate, tier),
     }
-    Ok(left)
 }
 
 #[cycle(expr)]
-#[tactic(none)]
 fn unary(alloc: Global, tokens: &mut Cursor<'_>) -> Result<Expr, Fault>
     ensures reads { Reads (reads Unary (items tokens.old)) result tokens.new }
     ensures shorter { OnOk result (length tokens.new < length tokens.old) }
@@ -130,7 +141,6 @@ fn unary(alloc: Global, tokens: &mut Cursor<'_>) -> Result<Expr, Fault>
 }
 
 #[cycle(expr)]
-#[tactic(none)]
 fn primary(alloc: Global, tokens: &mut Cursor<'_>) -> Result<Expr, Fault>
     ensures reads { Reads (reads Primary (items tokens.old)) result tokens.new }
     ensures shorter { OnOk result (length tokens.new < length tokens.old) }
@@ -162,7 +172,6 @@ fn primary(alloc: Global, tokens: &mut Cursor<'_>) -> Result<Expr, Fault>
 
 /// A map, with the parts of its key in brackets if it has one.
 #[cycle(expr)]
-#[tactic(none)]
 pub fn keyed(alloc: Global, tokens: &mut Cursor<'_>) -> Result<MapRef, Fault>
     ensures reads { Reads (reads Keyed (items tokens.old)) result tokens.new }
     ensures shorter { OnOk result (length tokens.new < length tokens.old) }
@@ -185,7 +194,6 @@ pub fn keyed(alloc: Global, tokens: &mut Cursor<'_>) -> Result<MapRef, Fault>
 
 /// A map or a variable.
 #[cycle(expr)]
-#[tactic(none)]
 pub fn assignable(alloc: Global, tokens: &mut Cursor<'_>) -> Result<Target, Fault>
     ensures reads { Reads (reads Assignable (items tokens.old)) result tokens.new }
     ensures shorter { OnOk result (length tokens.new < length tokens.old) }
@@ -199,7 +207,6 @@ pub fn assignable(alloc: Global, tokens: &mut Cursor<'_>) -> Result<Target, Faul
 
 /// Expressions between commas, one at least, behind those that there are.
 #[cycle(expr)]
-#[tactic(none)]
 pub fn values(
     alloc: Global,
     tokens: &mut Cursor<'_>,

@@ -13,15 +13,20 @@ use crate::cursor::{Cursor, Named};
 use crate::expr::{assignable, keyed};
 use crate::fault::Fault;
 use bt_ast::expr::{IncDec, VarRef};
+use bt_ast::place::Place;
 use bt_ast::stmt::{Stmt, StmtKind};
 use std::alloc::Global;
 
-/// `++` or `--` before its target.
-fn step(alloc: Global, tokens: &mut Cursor<'_>, plus: bool) -> Result<Stmt, Fault>
-    ensures reads { Reads (step_stmt_by plus (items tokens.old)) result tokens.new }
-    ensures no_longer { OnOk result (length tokens.new < length tokens.old) }
+/// The statement of a `++` or `--` that stands at the place, before its target.
+fn step(
+    alloc: Global,
+    tokens: &mut Cursor<'_>,
+    plus: bool,
+    place: Place,
+) -> Result<Stmt, Fault>
+    ensures reads { Reads (step_stmt_by plus place (items tokens.old)) result tokens.new }
+    ensures shorter { OnOk result (length tokens.new < length tokens.old) }
 {
-    let place = tokens.skip();
     let target = assignable(alloc, tokens)?;
     let kind = StmtKind::Step(IncDec {
         target,
@@ -51,8 +56,14 @@ pub fn simple(alloc: Global, tokens: &mut Cursor<'_>) -> Result<Stmt, Fault>
             let kind = after_var(alloc, tokens, var)?;
             Ok(Stmt { kind, place })
         }
-        Some(Class::Increment) => step(alloc, tokens, true),
-        Some(Class::Decrement) => step(alloc, tokens, false),
+        Some(Class::Increment) => {
+            let place = tokens.skip();
+            step(alloc, tokens, true, place)
+        }
+        Some(Class::Decrement) => {
+            let place = tokens.skip();
+            step(alloc, tokens, false, place)
+        }
         _ => call(alloc, tokens),
     }
 }

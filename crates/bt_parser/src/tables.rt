@@ -1,7 +1,7 @@
 // What a class of tokens is in the grammar: a builtin variable, an operator, and of which tier.
-ghost use Rattle.std.specs.Prelude.{◌≡◌, ◌<◌, IfSome};
+ghost use Rattle.std.specs.Prelude.{◌≡◌, ◌≤◌};
 ghost use Rattle.bt_parser.specs.Classes.{binary_of, builtin_of, gathers, is_point, prefix_of, tier_number, tier_of, update_of};
-ghost use Rattle.bt_parser.specs.Mirror.{tighter};
+ghost use Rattle.bt_parser.specs.Mirror.{tier_rank, tighter};
 ghost use Rattle.bt_parser.specs.Tables.{is_call, is_control};
 
 use crate::class::{Class, Tier};
@@ -104,7 +104,7 @@ pub fn binary_of(class: Class) -> BinOp
 /// The tier that binds one step tighter.
 pub fn tighter(tier: Tier) -> Option<Tier>
     ensures value { result ≡ tighter tier }
-    ensures lower { IfSome result (λ other. tier_number other < tier_number tier) }
+    ensures lower { tier_rank result ≤ tier_number tier }
 {
     match tier {
         Tier::Products => None,

@@ -1,5 +1,6 @@
 use Rattle.std.proofs.Common.{◌≡◌, ℕ, ◌+◌, ◌-◌, ◌*◌, ◌<◌, ◌≤◌, length}
 use Rattle.bt_parser.specs.Form.{Level}
+use Rattle.bt_parser.specs.Classes.{tier_number}
 use Rattle.bt_parser.specs.Reading.{reads}
 use Rattle.bt_parser.specs.Mirror.{level_on, values_on, values_behind, tier_rank}
 use Rattle.bt_parser.specs.Tokens.{items}
@@ -17,19 +18,22 @@ decreases-primary l = 32 * length l.tokens.now + 2
 abbrev pub decreases-unary : goal.decreases-unary
 decreases-unary l = 32 * length l.tokens.now + 3
 
+abbrev pub decreases-operand : goal.decreases-operand
+decreases-operand l = 32 * length l.tokens.now + (4 + 2 * tier_rank l.tier)
+
 abbrev pub decreases-level : goal.decreases-level
-decreases-level l = 32 * length l.tokens.now + (4 + tier_rank l.tier)
+decreases-level l = 32 * length l.tokens.now + (5 + 2 * tier_number l.tier)
 
 abbrev pub decreases-expression : goal.decreases-expression
-decreases-expression l = 32 * length l.tokens.now + 24
+decreases-expression l = 32 * length l.tokens.now + 26
 
 abbrev pub decreases-values : goal.decreases-values
-decreases-values l = 32 * length l.tokens.now + 25
+decreases-values l = 32 * length l.tokens.now + 27
 
 -- what there is, with what is read from here, is the part
 abbrev pub invariant-level-loop-class : goal.invariant-level-loop-class
 invariant-level-loop-class l =
-    (level_on l.in_predicate l.tier-2 l.left (items l.tokens) ≡ reads (Level l.in_predicate l.tier-2) (items l.fn.tokens))
+    (level_on l.in_predicate l.tier l.left (items l.tokens) ≡ reads (Level l.in_predicate l.tier) (items l.fn.tokens))
     × (length l.tokens < length l.fn.tokens)
 
 abbrev pub decreases-level-loop-class : goal.decreases-level-loop-class
