@@ -11,11 +11,15 @@ use Rattle.rec_format.specs.Faults.{IsRecordingFault}
 use Rattle.bt_top.specs.declared.report.Work.{Work}
 use Rattle.bt_top.specs.declared.refusal.Operand.TheVariants.{Script, Recording}
 use Rattle.bt_top.specs.declared.refusal.Refusal.{Refusal}
-use Rattle.bt_top.specs.declared.refusal.Refusal.TheVariants.{Usage, ReadFault, TooLong, BadRecording, Early, WriteFault, Memory}
+use Rattle.bt_top.specs.declared.refusal.Refusal.TheVariants.{Usage, ReadFault, TooLong, BadRecording, BadScript, Early, WriteFault, Memory}
 use Rattle.bt_top.specs.Refusals.{status_of, refusal_of}
-use Rattle.bt_top.specs.Script.{CountsFormat}
-use Rattle.bt_top.specs.Serve.{AreSized, IsDue, OnBoth, MayCome, IsFault, ComesIfDue, recording_refusal, HasWork, IsCount}
+use Rattle.bt_lexer.specs.declared.line.LineColumn.{LineColumn}
+use Rattle.bt_ast.specs.declared.probe.Script.{Script as Tree}
+use Rattle.bt_top.specs.declared.refusal.ScriptFault.{ScriptFault}
+use Rattle.bt_top.specs.Script.{HasTree, CountsFormat}
+use Rattle.bt_top.specs.Serve.{AreSized, HasOneCpu, IsScriptFault, IsDue, OnBoth, MayCome, IsFault, ComesIfDue, recording_refusal, HasWork, IsCount}
 use Rattle.bt_top.proofs.EventRuns.{six_a_step}
+use Rattle.bt_top.proofs.Scripts.{IsReadTree, is_told}
 
 -- ---- files that are too long
 
@@ -23,6 +27,7 @@ script_too_long : (s r : List ℕ) → 65536 < length s → ComesIfDue (Some (To
 script_too_long s r long (Some (TooLong Script)) is = inl refl
 script_too_long s r long (Some (TooLong Recording)) is = absurd (omega arith)
 script_too_long s r long (Some (BadRecording e)) is = absurd (omega (arith, is.0.short_script))
+script_too_long s r long (Some (BadScript f p)) is = absurd (omega (arith, is.0.short_script))
 script_too_long s r long (Some (Early Script)) is = absurd (omega (arith, is.0.short_script))
 script_too_long s r long (Some (Early Recording)) is = absurd (omega (arith, is.0.short_script))
 script_too_long s r long None is = absurd (omega (arith, is.0.short_script))
@@ -35,6 +40,7 @@ recording_too_long : (s r : List ℕ) → length s ≤ 65536 → 268435456 < len
 recording_too_long s r short long (Some (TooLong Script)) is = absurd (omega arith)
 recording_too_long s r short long (Some (TooLong Recording)) is = inl refl
 recording_too_long s r short long (Some (BadRecording e)) is = absurd (omega (arith, is.0.short_recording))
+recording_too_long s r short long (Some (BadScript f p)) is = absurd (omega (arith, is.0.short_recording))
 recording_too_long s r short long (Some (Early Script)) is = absurd (omega (arith, is.0.short_recording))
 recording_too_long s r short long (Some (Early Recording)) is = absurd (omega (arith, is.0.short_recording))
 recording_too_long s r short long None is = absurd (omega (arith, is.0.short_recording))
@@ -104,6 +110,7 @@ pub bytes_refused : (s r : List ℕ) (read : Result Recorded RecordingError) (er
 bytes_refused s r read error sized reads is (Some (TooLong Script)) due = absurd (omega (arith, sized.short_script))
 bytes_refused s r read error sized reads is (Some (TooLong Recording)) due = absurd (omega (arith, sized.short_recording, due.1))
 bytes_refused s r read error sized reads is (Some (BadRecording e)) due = fault_is read error e is (reads.refused e due.1)
+bytes_refused s r read error sized reads is (Some (BadScript f p)) due = inr (memory_is_fault error (err_is_memory read due.1.says error is (reads.only due.1.says due.1.is.valid due.1.is.spelled)))
 bytes_refused s r read error sized reads is (Some (Early Recording)) due = inr (memory_is_fault error (err_is_memory read due.1.says error is (reads.only due.1.says due.1.is.valid due.1.is.spelled)))
 bytes_refused s r read error sized reads is (Some (Early Script)) due = inr (memory_is_fault error (err_is_memory read due.1.says error is (reads.only due.1.says due.1.is.valid due.1.is.spelled)))
 bytes_refused s r read error sized reads is None due = inr (memory_is_fault error (err_is_memory read due.1.1.says error is (reads.only due.1.1.says due.1.1.is.valid due.1.1.is.spelled)))
@@ -118,6 +125,9 @@ more_cpus s r read says sized reads is more (Some (TooLong Script)) due = absurd
 more_cpus s r read says sized reads is more (Some (TooLong Recording)) due = absurd (omega (arith, sized.short_recording, due.1))
 more_cpus s r read says sized reads is more (Some (BadRecording e)) due = absurd (ok_no_fault read says e is (reads.refused e due.1))
 more_cpus s r read says sized reads is more (Some (Early Recording)) due = inl refl
+more_cpus s r read says sized reads is more (Some (BadScript f p)) due =
+    let same = ok_is read says due.1.says is (reads.only due.1.says due.1.is.valid due.1.is.spelled) in
+    absurd (omega (arith, due.1.one_cpu, ap (λ (x : Recorded). length x.cpus) same))
 more_cpus s r read says sized reads is more (Some (Early Script)) due =
     let same = ok_is read says due.1.says is (reads.only due.1.says due.1.is.valid due.1.is.spelled) in
     absurd (omega (arith, due.1.one_cpu, ap (λ (x : Recorded). length x.cpus) same))
@@ -129,39 +139,90 @@ more_cpus s r read says sized reads is more (Some (ReadFault o)) due = absurd du
 more_cpus s r read says sized reads is more (Some WriteFault) due = absurd due
 more_cpus s r read says sized reads is more (Some Memory) due = absurd due
 
--- there is one CPU, and the script counts the events of no format
-pub other_script : (s r : List ℕ) (read : Result Recorded RecordingError) (says : Recorded) → AreSized s r → IsReadAs r read → read ≡ Ok says → length says.cpus ≤ 1 → ((place : ℕ) → CountsFormat s says.formats place → ⊥) → ComesIfDue (Some (Early Script)) s r
-other_script s r read says sized reads is one none (Some (TooLong Script)) due = absurd (omega (arith, sized.short_script))
-other_script s r read says sized reads is one none (Some (TooLong Recording)) due = absurd (omega (arith, sized.short_recording, due.1))
-other_script s r read says sized reads is one none (Some (BadRecording e)) due = absurd (ok_no_fault read says e is (reads.refused e due.1))
-other_script s r read says sized reads is one none (Some (Early Recording)) due =
-    let same = ok_is read says due.1.says is (reads.only due.1.says due.1.is.valid due.1.is.spelled) in
-    absurd (omega (arith, due.1.more, ap (λ (x : Recorded). length x.cpus) same))
-other_script s r read says sized reads is one none (Some (Early Script)) due = inl refl
-other_script s r read says sized reads is one none None due =
-    let same = ok_is read says due.1.1.says is (reads.only due.1.1.says due.1.1.is.valid due.1.1.is.spelled) in
-    absurd (none due.1.0 (subst (λ (x : Recorded). CountsFormat s x.formats due.1.0) same due.1.1.counts))
-other_script s r read says sized reads is one none (Some Usage) due = absurd due
-other_script s r read says sized reads is one none (Some (ReadFault o)) due = absurd due
-other_script s r read says sized reads is one none (Some WriteFault) due = absurd due
-other_script s r read says sized reads is one none (Some Memory) due = absurd due
+refusal_is : (answer : Result Tree Refusal) (refusal due : Refusal) → answer ≡ Err refusal → (answer ≡ Err due) ⊎ (answer ≡ Err Memory) → (Some refusal ≡ Some due) ⊎ IsFault (Some refusal)
+refusal_is answer refusal due is (inl e) = inl cc
+refusal_is answer refusal due is (inr e) = inr (is_memory refusal cc)
+  where
+    is_memory : (x : Refusal) → x ≡ Memory → IsFault (Some x)
+    is_memory x q = subst (λ (y : Refusal). IsFault (Some y)) (sym q) tt
 
--- there is one CPU, and the script counts the events of a format
-pub nothing_refused : (s r : List ℕ) (read : Result Recorded RecordingError) (says : Recorded) (place : ℕ) → AreSized s r → IsReadAs r read → read ≡ Ok says → length says.cpus ≤ 1 → CountsFormat s says.formats place → ComesIfDue None s r
-nothing_refused s r read says place sized reads is one counts (Some (TooLong Script)) due = absurd (omega (arith, sized.short_script))
-nothing_refused s r read says place sized reads is one counts (Some (TooLong Recording)) due = absurd (omega (arith, sized.short_recording, due.1))
-nothing_refused s r read says place sized reads is one counts (Some (BadRecording e)) due = absurd (ok_no_fault read says e is (reads.refused e due.1))
-nothing_refused s r read says place sized reads is one counts (Some (Early Recording)) due =
+refusal_no_tree : (answer : Result Tree Refusal) (refusal : Refusal) (tree : Tree) → answer ≡ Err refusal → (answer ≡ Ok tree) ⊎ (answer ≡ Err Memory) → IsFault (Some refusal)
+refusal_no_tree answer refusal tree is (inl e) = absurd cc
+refusal_no_tree answer refusal tree is (inr e) = is_memory refusal cc
+  where
+    is_memory : (x : Refusal) → x ≡ Memory → IsFault (Some x)
+    is_memory x q = subst (λ (y : Refusal). IsFault (Some y)) (sym q) tt
+
+tree_no_fault : (answer : Result Tree Refusal) (tree : Tree) (due : Refusal) → answer ≡ Ok tree → (answer ≡ Err due) ⊎ (answer ≡ Err Memory) → ⊥
+tree_no_fault answer tree due is (inl e) = cc
+tree_no_fault answer tree due is (inr e) = cc
+
+tree_same : (answer : Result Tree Refusal) (tree other : Tree) → answer ≡ Ok tree → (answer ≡ Ok other) ⊎ (answer ≡ Err Memory) → other ≡ tree
+tree_same answer tree other is (inl e) = cc
+tree_same answer tree other is (inr e) = cc
+
+-- there is one CPU, and the script has no tree
+pub script_refused : (s r : List ℕ) (read : Result Recorded RecordingError) (says : Recorded) (answer : Result Tree Refusal) (refusal : Refusal) → AreSized s r → IsReadAs r read → read ≡ Ok says → length says.cpus ≤ 1 → IsReadTree s answer → answer ≡ Err refusal → ComesIfDue (Some refusal) s r
+script_refused s r read says answer refusal sized reads is one trees has (Some (TooLong Script)) due = absurd (omega (arith, sized.short_script))
+script_refused s r read says answer refusal sized reads is one trees has (Some (TooLong Recording)) due = absurd (omega (arith, sized.short_recording, due.1))
+script_refused s r read says answer refusal sized reads is one trees has (Some (BadRecording e)) due = absurd (ok_no_fault read says e is (reads.refused e due.1))
+script_refused s r read says answer refusal sized reads is one trees has (Some (Early Recording)) due =
     let same = ok_is read says due.1.says is (reads.only due.1.says due.1.is.valid due.1.is.spelled) in
     absurd (omega (arith, due.1.more, ap (λ (x : Recorded). length x.cpus) same))
-nothing_refused s r read says place sized reads is one counts (Some (Early Script)) due =
+script_refused s r read says answer refusal sized reads is one trees has (Some (BadScript f p)) due = refusal_is answer refusal (BadScript f p) has (trees.only_fault f p due.2)
+script_refused s r read says answer refusal sized reads is one trees has (Some (Early Script)) due = inr (refusal_no_tree answer refusal due.1.tree has (trees.only_tree due.1.tree due.1.has))
+script_refused s r read says answer refusal sized reads is one trees has None due = inr (refusal_no_tree answer refusal due.1.1.tree has (trees.only_tree due.1.1.tree due.1.1.has))
+script_refused s r read says answer refusal sized reads is one trees has (Some Usage) due = absurd due
+script_refused s r read says answer refusal sized reads is one trees has (Some (ReadFault o)) due = absurd due
+script_refused s r read says answer refusal sized reads is one trees has (Some WriteFault) due = absurd due
+script_refused s r read says answer refusal sized reads is one trees has (Some Memory) due = absurd due
+
+-- there is one CPU, and the script's tree counts the events of no format
+pub other_script : (s r : List ℕ) (read : Result Recorded RecordingError) (says : Recorded) (answer : Result Tree Refusal) (tree : Tree) → AreSized s r → IsReadAs r read → read ≡ Ok says → length says.cpus ≤ 1 → IsReadTree s answer → answer ≡ Ok tree → ((place : ℕ) → CountsFormat tree says.formats place → ⊥) → ComesIfDue (Some (Early Script)) s r
+other_script s r read says answer tree sized reads is one trees has none (Some (TooLong Script)) due = absurd (omega (arith, sized.short_script))
+other_script s r read says answer tree sized reads is one trees has none (Some (TooLong Recording)) due = absurd (omega (arith, sized.short_recording, due.1))
+other_script s r read says answer tree sized reads is one trees has none (Some (BadRecording e)) due = absurd (ok_no_fault read says e is (reads.refused e due.1))
+other_script s r read says answer tree sized reads is one trees has none (Some (Early Recording)) due =
     let same = ok_is read says due.1.says is (reads.only due.1.says due.1.is.valid due.1.is.spelled) in
-    absurd (due.1.other place (subst (λ (x : Recorded). CountsFormat s x.formats place) (sym same) counts))
-nothing_refused s r read says place sized reads is one counts None due = inl refl
-nothing_refused s r read says place sized reads is one counts (Some Usage) due = absurd due
-nothing_refused s r read says place sized reads is one counts (Some (ReadFault o)) due = absurd due
-nothing_refused s r read says place sized reads is one counts (Some WriteFault) due = absurd due
-nothing_refused s r read says place sized reads is one counts (Some Memory) due = absurd due
+    absurd (omega (arith, due.1.more, ap (λ (x : Recorded). length x.cpus) same))
+other_script s r read says answer tree sized reads is one trees has none (Some (BadScript f p)) due = absurd (tree_no_fault answer tree (BadScript f p) has (trees.only_fault f p due.2))
+other_script s r read says answer tree sized reads is one trees has none (Some (Early Script)) due = inl refl
+other_script s r read says answer tree sized reads is one trees has none None due =
+    let same = ok_is read says due.1.1.says is (reads.only due.1.1.says due.1.1.is.valid due.1.1.is.spelled) in
+    let one_tree = tree_same answer tree due.1.1.tree has (trees.only_tree due.1.1.tree due.1.1.has) in
+    absurd (none due.1.0 (subst (λ (x : Recorded). CountsFormat tree x.formats due.1.0) same (subst (λ (x : Tree). CountsFormat x due.1.1.says.formats due.1.0) one_tree due.1.1.counts)))
+other_script s r read says answer tree sized reads is one trees has none (Some Usage) due = absurd due
+other_script s r read says answer tree sized reads is one trees has none (Some (ReadFault o)) due = absurd due
+other_script s r read says answer tree sized reads is one trees has none (Some WriteFault) due = absurd due
+other_script s r read says answer tree sized reads is one trees has none (Some Memory) due = absurd due
+
+-- there is one CPU, and the script's tree counts the events of a format
+pub nothing_refused : (s r : List ℕ) (read : Result Recorded RecordingError) (says : Recorded) (answer : Result Tree Refusal) (tree : Tree) (place : ℕ) → AreSized s r → IsReadAs r read → read ≡ Ok says → length says.cpus ≤ 1 → IsReadTree s answer → answer ≡ Ok tree → CountsFormat tree says.formats place → ComesIfDue None s r
+nothing_refused s r read says answer tree place sized reads is one trees has counts (Some (TooLong Script)) due = absurd (omega (arith, sized.short_script))
+nothing_refused s r read says answer tree place sized reads is one trees has counts (Some (TooLong Recording)) due = absurd (omega (arith, sized.short_recording, due.1))
+nothing_refused s r read says answer tree place sized reads is one trees has counts (Some (BadRecording e)) due = absurd (ok_no_fault read says e is (reads.refused e due.1))
+nothing_refused s r read says answer tree place sized reads is one trees has counts (Some (Early Recording)) due =
+    let same = ok_is read says due.1.says is (reads.only due.1.says due.1.is.valid due.1.is.spelled) in
+    absurd (omega (arith, due.1.more, ap (λ (x : Recorded). length x.cpus) same))
+nothing_refused s r read says answer tree place sized reads is one trees has counts (Some (BadScript f p)) due = absurd (tree_no_fault answer tree (BadScript f p) has (trees.only_fault f p due.2))
+nothing_refused s r read says answer tree place sized reads is one trees has counts (Some (Early Script)) due =
+    let same = ok_is read says due.1.says is (reads.only due.1.says due.1.is.valid due.1.is.spelled) in
+    let one_tree = tree_same answer tree due.1.tree has (trees.only_tree due.1.tree due.1.has) in
+    absurd (due.1.other place (subst (λ (x : Recorded). CountsFormat due.1.tree x.formats place) (sym same) (subst (λ (x : Tree). CountsFormat x says.formats place) (sym one_tree) counts)))
+nothing_refused s r read says answer tree place sized reads is one trees has counts None due = inl refl
+nothing_refused s r read says answer tree place sized reads is one trees has counts (Some Usage) due = absurd due
+nothing_refused s r read says answer tree place sized reads is one trees has counts (Some (ReadFault o)) due = absurd due
+nothing_refused s r read says answer tree place sized reads is one trees has counts (Some WriteFault) due = absurd due
+nothing_refused s r read says answer tree place sized reads is one trees has counts (Some Memory) due = absurd due
+
+-- a refusal of the script is its first fault, or want of memory
+pub refused_script : (s r : List ℕ) (refusal : Refusal) → AreSized s r → HasOneCpu r → (refusal ≢ Memory → IsScriptFault s refusal) → MayCome ⊥ ⊥ (Some s) (Some r) refusal
+refused_script s r Memory sized one found = tt
+refused_script s r (BadScript f p) sized one found = (sized, one, found (λ e. cc))
+refused_script s r refusal sized one found = absurd (not_told (is_told s refusal (found (λ e. cc))))
+  where
+    not_told : (f : ScriptFault) × (p : LineColumn) × (refusal ≡ BadScript f p) → ⊥
+    not_told h = let e = h.2 in cc
 
 -- a refusal of the bytes is their first fault, or want of memory
 pub refused_bytes : (s r : List ℕ) (error : RecordingError) → AreSized s r → (error ≢ fault.Memory → IsRecordingFault r error) → MayCome ⊥ ⊥ (Some s) (Some r) (recording_refusal error)
@@ -177,6 +238,7 @@ status_due fault wrote s r (Some Usage) status is may no_fault no_wrote due = ab
 status_due fault wrote s r (Some (ReadFault o)) status is may no_fault no_wrote due = absurd (no_fault may)
 status_due fault wrote s r (Some (TooLong o)) status is may no_fault no_wrote due = elim due [ inl e ↦ cc | inr f ↦ absurd f ]
 status_due fault wrote s r (Some (BadRecording e)) status is may no_fault no_wrote due = elim due [ inl e ↦ cc | inr f ↦ absurd f ]
+status_due fault wrote s r (Some (BadScript f p)) status is may no_fault no_wrote due = elim due [ inl e ↦ cc | inr g ↦ absurd g ]
 status_due fault wrote s r (Some (Early o)) status is may no_fault no_wrote due = elim due [ inl e ↦ cc | inr f ↦ absurd f ]
 status_due fault wrote s r (Some WriteFault) status is may no_fault no_wrote due = absurd (no_wrote may)
 status_due fault wrote s r (Some Memory) status is may no_fault no_wrote due = inr is

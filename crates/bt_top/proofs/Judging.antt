@@ -2,7 +2,7 @@
 use Rattle.std.proofs.Common.{◌≡◌, ℕ, List, subst, refl}
 use Rattle.std.specs.Prelude.{Option, Some, None, Result, Ok, Err, IfOk, IfErr, IfSome}
 use Rattle.bt_top.specs.declared.refusal.Refusal.{Refusal}
-use Rattle.bt_top.specs.declared.refusal.Refusal.TheVariants.{Usage, ReadFault, TooLong, BadRecording, Early, WriteFault, Memory}
+use Rattle.bt_top.specs.declared.refusal.Refusal.TheVariants.{Usage, ReadFault, TooLong, BadRecording, BadScript, Early, WriteFault, Memory}
 use Rattle.bt_top.specs.declared.judge.Counting.{Counting}
 use Rattle.bt_top.specs.Count.{payloads_of}
 use Rattle.bt_top.specs.Serve.{AreSized, IsAccepted, HasPayloads, IsAskedBy, CountsEvents, IsDue, OnBoth, MayCome}
@@ -21,6 +21,7 @@ refused_as_told fault script recording s r (Err Usage) first second refused = re
 refused_as_told fault script recording s r (Err (ReadFault operand)) first second refused = absurd refused
 refused_as_told fault script recording s r (Err (TooLong operand)) first second refused = on_both script recording s r (λ x y. IsDue x y (Some (TooLong operand))) first second refused
 refused_as_told fault script recording s r (Err (BadRecording error)) first second refused = on_both script recording s r (λ x y. IsDue x y (Some (BadRecording error))) first second refused
+refused_as_told fault script recording s r (Err (BadScript wrong place)) first second refused = on_both script recording s r (λ x y. IsDue x y (Some (BadScript wrong place))) first second refused
 refused_as_told fault script recording s r (Err (Early operand)) first second refused = on_both script recording s r (λ x y. IsDue x y (Some (Early operand))) first second refused
 refused_as_told fault script recording s r (Err WriteFault) first second refused = refused
 refused_as_told fault script recording s r (Err Memory) first second refused = tt
@@ -30,7 +31,7 @@ pub counts_as_told : (script recording : Option (List ℕ)) (s r : List ℕ) (co
     → IfSome script (λ told. s ≡ told) → IfSome recording (λ told. r ≡ told) → CountsEvents script recording (payloads_of counting.format counting.recording)
 counts_as_told script recording s r counting sized asked first second = record {
   place = counting.format;
-  told = on_both script recording s r (λ x y. AreSized x y × IsAccepted x y counting.format) first second (sized, record { says = counting.recording; is = asked.is; one_cpu = asked.one_cpu; counts = asked.counts });
+  told = on_both script recording s r (λ x y. AreSized x y × IsAccepted x y counting.format) first second (sized, record { says = counting.recording; is = asked.is; one_cpu = asked.one_cpu; tree = asked.tree; has = asked.has; counts = asked.counts });
   counted = on_recording recording second;
 }
   where

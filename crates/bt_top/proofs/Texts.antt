@@ -16,15 +16,15 @@ AppendsPart-front a b xs ys part = record {
   appends = subst (λ l. Appends a b l) (sym (take-append-le part.count xs ys part.within)) part.appends;
 }
 
--- the four parts that a line is written in
+-- the parts that a line is written in
 abbrev pub parts_of : List ℕ → Line → List ℕ
-parts_of name line = name ++ ((line.head.now ++ number_text line.first) ++ ((line.middle.now ++ number_text line.second) ++ codes "\n"))
+parts_of name line = name ++ ((line.head.now ++ number_text line.first) ++ ((line.middle.now ++ number_text line.second) ++ (line.tail.now ++ codes "\n")))
 
 parts_are : (name : List ℕ) (line : Line) → parts_of name line ≡ name ++ line_text line
 parts_are name line =
     ap (λ l. name ++ l)
-    (append_assoc line.head.now (number_text line.first) ((line.middle.now ++ number_text line.second) ++ codes "\n")
-    ∙ ap (λ l. line.head.now ++ (number_text line.first ++ l)) (append_assoc line.middle.now (number_text line.second) (codes "\n")))
+    (append_assoc line.head.now (number_text line.first) ((line.middle.now ++ number_text line.second) ++ (line.tail.now ++ codes "\n"))
+    ∙ ap (λ l. line.head.now ++ (number_text line.first ++ l)) (append_assoc line.middle.now (number_text line.second) (line.tail.now ++ codes "\n")))
 
 after : (a b c : Option (List ℕ)) (xs ys : List ℕ) → Appends a b xs → AppendsPart b c ys → AppendsPart a c (xs ++ ys)
 after a b c xs ys first second = AppendsPart-after {E = Unit {0}} a b c xs ys (Err tt) first second
@@ -49,10 +49,10 @@ pub stops_in_middle : (a b c d : Option (List ℕ)) (name : List ℕ) (line : Li
 stops_in_middle a b c d name line first head part =
     subst (λ l. AppendsPart a d l) (parts_are name line) (after a b d name _ first (after b c d _ _ head (AppendsPart-front c d _ _ part)))
 
-pub stops_at_end : (a b c d e : Option (List ℕ)) (name : List ℕ) (line : Line) → Appends a b name → Appends b c (line.head.now ++ number_text line.first) → Appends c d (line.middle.now ++ number_text line.second) → AppendsPart d e (codes "\n") → AppendsPart a e (name ++ line_text line)
+pub stops_at_end : (a b c d e : Option (List ℕ)) (name : List ℕ) (line : Line) → Appends a b name → Appends b c (line.head.now ++ number_text line.first) → Appends c d (line.middle.now ++ number_text line.second) → AppendsPart d e (line.tail.now ++ codes "\n") → AppendsPart a e (name ++ line_text line)
 stops_at_end a b c d e name line first head middle part =
     subst (λ l. AppendsPart a e l) (parts_are name line) (after a b e name _ first (after b c e _ _ head (after c d e _ _ middle part)))
 
-pub writes_all : (a b c d e : Option (List ℕ)) (name : List ℕ) (line : Line) → Appends a b name → Appends b c (line.head.now ++ number_text line.first) → Appends c d (line.middle.now ++ number_text line.second) → Appends d e (codes "\n") → Appends a e (name ++ line_text line)
+pub writes_all : (a b c d e : Option (List ℕ)) (name : List ℕ) (line : Line) → Appends a b name → Appends b c (line.head.now ++ number_text line.first) → Appends c d (line.middle.now ++ number_text line.second) → Appends d e (line.tail.now ++ codes "\n") → Appends a e (name ++ line_text line)
 writes_all a b c d e name line first head middle end =
     subst (λ l. Appends a e l) (parts_are name line) (Appends-then a b e name _ first (Appends-then b c e _ _ head (Appends-then c d e _ _ middle end)))

@@ -8,6 +8,6 @@ abbrev pub number_text : Option ℕ → List ℕ
 number_text None = []
 number_text (Some n) = decimal n
 
--- a line with up to two numbers
+-- a line with up to two numbers, and what stands behind them
 abbrev pub line_text : Line → List ℕ
-line_text line = line.head.now ++ (number_text line.first ++ (line.middle.now ++ (number_text line.second ++ codes "\n")))
+line_text line = line.head.now ++ (number_text line.first ++ (line.middle.now ++ (number_text line.second ++ (line.tail.now ++ codes "\n"))))

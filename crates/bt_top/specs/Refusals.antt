@@ -11,8 +11,10 @@ use Rattle.rec_format.specs.declared.error.RecordingError.{RecordingError}
 use Rattle.rec_format.specs.declared.error.RecordingError.TheVariants as fault
 use Rattle.bt_top.specs.declared.refusal.Operand.{Operand}
 use Rattle.bt_top.specs.declared.refusal.Operand.TheVariants.{Script, Recording}
+use Rattle.bt_top.specs.declared.refusal.ScriptFault.{ScriptFault}
+use Rattle.bt_top.specs.declared.refusal.ScriptFault.TheVariants.{BadCharacter, OpenString, OpenComment, NumberTooLarge, BadEscape, StringTooLong, Syntax, TooDeep, TooManyProbes}
 use Rattle.bt_top.specs.declared.refusal.Refusal.{Refusal}
-use Rattle.bt_top.specs.declared.refusal.Refusal.TheVariants.{Usage, ReadFault, TooLong, BadRecording, Early, WriteFault, Memory}
+use Rattle.bt_top.specs.declared.refusal.Refusal.TheVariants.{Usage, ReadFault, TooLong, BadRecording, BadScript, Early, WriteFault, Memory}
 use Rattle.bt_top.specs.Words.{Operands}
 
 abbrev pub status_of : Option Refusal → ℕ
@@ -22,6 +24,7 @@ status_of (Some (ReadFault operand)) = 4
 status_of (Some (TooLong Script)) = 2
 status_of (Some (TooLong Recording)) = 3
 status_of (Some (BadRecording error)) = 3
+status_of (Some (BadScript fault place)) = 2
 status_of (Some (Early Script)) = 2
 status_of (Some (Early Recording)) = 3
 status_of (Some WriteFault) = 5
@@ -70,6 +73,18 @@ fault_text (fault.TrailingBytes offset) = codes "C10 trailing bytes at byte " ++
 fault_text (fault.BadSystem place) = codes "C11 bad system in format " ++ decimal place
 fault_text fault.Memory = codes "out of memory"
 
+-- what is wrong with a script
+abbrev pub script_fault_text : ScriptFault → List ℕ
+script_fault_text BadCharacter = codes "X1 bad character"
+script_fault_text OpenString = codes "X2 open string"
+script_fault_text OpenComment = codes "X3 open comment"
+script_fault_text NumberTooLarge = codes "X4 number too large"
+script_fault_text BadEscape = codes "X5 bad escape"
+script_fault_text StringTooLong = codes "X6 string too long"
+script_fault_text Syntax = codes "P1 syntax"
+script_fault_text TooDeep = codes "P2 too deep"
+script_fault_text TooManyProbes = codes "P3 too many probes"
+
 -- what is written on words that break the rule
 abbrev pub usage_line : List ℕ
 usage_line = codes "usage: btreplay run SCRIPT RECORDING\n"
@@ -81,6 +96,7 @@ line_of names (ReadFault operand) = name_of names operand ++ codes ": read fault
 line_of names (TooLong Script) = names.script ++ codes ": script too long\n"
 line_of names (TooLong Recording) = names.recording ++ codes ": recording too long\n"
 line_of names (BadRecording error) = names.recording ++ (codes ": " ++ (fault_text error ++ codes "\n"))
+line_of names (BadScript fault place) = names.script ++ (codes ":" ++ (decimal place.line ++ (codes ":" ++ (decimal place.column ++ (codes ": " ++ (script_fault_text fault ++ codes "\n"))))))
 line_of names (Early operand) = name_of names operand ++ codes ": not built yet\n"
 line_of names WriteFault = codes "write fault\n"
 line_of names Memory = codes "out of memory\n"

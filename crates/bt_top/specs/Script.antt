@@ -1,22 +1,145 @@
--- The scripts that run so far: they count the events of one of the recording's formats.
-use Rattle.std.specs.Prelude.{◌≡◌, ℕ, ◌⊎◌, List, ◌++◌, codes, slice_get, Some}
+-- What a script is, and the scripts that run so far: they count the events of one of the recording's formats.
+use Rattle.std.specs.Prelude.{◌≡◌, ℕ, Bool, true, false, ◌&&◌, ◌==◌, not, bytes_eq, List, [], ◌∷◌, codes, take, length, slice_get, Option, Some, None, if◌then◌else◌}
+use Rattle.std.specs.List.{list_any}
 use Rattle.tracefs_format.specs.declared.format.Format.{Format}
+use Rattle.bt_lexer.specs.declared.error.LexError.{LexError}
+use Rattle.bt_lexer.specs.declared.error.LexError.TheVariants as lexical
+use Rattle.bt_lexer.specs.declared.line.LineColumn.{LineColumn}
+use Rattle.bt_lexer.specs.declared.token.Token.{Token}
+use Rattle.bt_lexer.specs.Places.{line_behind, column_behind}
+use Rattle.bt_lexer.specs.Tokens.{IsTokensOf, IsFirstFault}
+use Rattle.bt_ast.specs.declared.expr.MapRef.{MapRef, out-MapRef}
+use Rattle.bt_ast.specs.declared.probe.Point.{Point}
+use Rattle.bt_ast.specs.declared.probe.Point.TheVariants.{Tracepoint}
+use Rattle.bt_ast.specs.declared.probe.Probe.{Probe}
+use Rattle.bt_ast.specs.declared.probe.Script.{Script as Tree}
+use Rattle.bt_ast.specs.declared.stmt.AggCall.TheVariants.{Count}
+use Rattle.bt_ast.specs.declared.stmt.Block.{out-Block}
+use Rattle.bt_ast.specs.declared.stmt.Stmt.{Stmt, out-Stmt}
+use Rattle.bt_ast.specs.declared.stmt.StmtKind.{StmtKind}
+use Rattle.bt_ast.specs.declared.stmt.StmtKind.TheVariants.{SetAgg}
+use Rattle.bt_parser.specs.declared.error.ParseError.{ParseError}
+use Rattle.bt_parser.specs.declared.error.ParseError.TheVariants as parsing
+use Rattle.bt_parser.specs.Refusals.{IsAccepted as IsTree, IsRefusal}
+use Rattle.bt_parser.specs.Tokens.{items}
+use Rattle.bt_top.specs.declared.refusal.ScriptFault.{ScriptFault}
+use Rattle.bt_top.specs.declared.refusal.ScriptFault.TheVariants.{BadCharacter, OpenString, OpenComment, NumberTooLarge, BadEscape, StringTooLong, Syntax, TooDeep, TooManyProbes}
+use Rattle.bt_top.specs.declared.refusal.Refusal.{Refusal}
+use Rattle.bt_top.specs.declared.refusal.Refusal.TheVariants.{BadScript, Memory}
 
--- a script of one probe on the format's event, with what follows the event's name
-abbrev pub script_with : Format → List ℕ → List ℕ
-script_with f block = codes "tracepoint:" ++ (f.system ++ (codes ":" ++ (f.layout.name ++ block)))
+-- ---- the first fault of a script
 
--- a block that counts, with or without a newline after it
-abbrev pub IsCountBlock : List ℕ → Type 0
-IsCountBlock block = (block ≡ codes " { @ = count(); }") ⊎ (block ≡ codes " { @ = count(); }\n")
+-- the line and column of a byte of the text, or of its end
+abbrev pub place_at : List ℕ → ℕ → LineColumn
+place_at text offset = record { line = line_behind (take offset text); column = column_behind (take offset text) }
 
-pub record IsEarlyScript (text : List ℕ) (f : Format) : Type 0 where
-  pub block : List ℕ
-  pub counts : IsCountBlock block
-  pub is : text ≡ script_with f block
+-- the line and column of a token, or of the end of the text where there is none
+abbrev pub place_of : List ℕ → Option Token → LineColumn
+place_of text None = place_at text (length text)
+place_of text (Some token) = record { line = token.line; column = token.column }
 
--- the script counts the events of the format at this place
-pub record CountsFormat (text : List ℕ) (formats : List Format) (place : ℕ) : Type 0 where
+-- why a text is refused whose first lexical fault is this one
+abbrev pub lexical_refusal : List ℕ → LexError → Refusal
+lexical_refusal text (lexical.BadChar at) = BadScript BadCharacter (place_at text at)
+lexical_refusal text (lexical.OpenString at) = BadScript OpenString (place_at text at)
+lexical_refusal text (lexical.OpenComment at) = BadScript OpenComment (place_at text at)
+lexical_refusal text (lexical.NumberTooLarge at) = BadScript NumberTooLarge (place_at text at)
+lexical_refusal text (lexical.BadEscape at) = BadScript BadEscape (place_at text at)
+lexical_refusal text (lexical.StringTooLong at) = BadScript StringTooLong (place_at text at)
+lexical_refusal text lexical.Memory = Memory
+
+-- why a text is refused whose tokens have this first fault
+abbrev pub parse_refusal : List ℕ → List Token → ParseError → Refusal
+parse_refusal text tokens (parsing.Syntax n) = BadScript Syntax (place_of text (slice_get tokens n))
+parse_refusal text tokens (parsing.TooDeep n) = BadScript TooDeep (place_of text (slice_get tokens n))
+parse_refusal text tokens (parsing.TooMany n) = BadScript TooManyProbes (place_of text (slice_get tokens n))
+parse_refusal text tokens parsing.Memory = Memory
+
+-- the text's first lexical fault is told by this refusal
+pub record IsLexicalFault (text : List ℕ) (refusal : Refusal) : Type 0 where
+  pub fault : LexError
+  pub first : IsFirstFault text fault
+  pub told : refusal ≡ lexical_refusal text fault
+
+-- the text has tokens, and their first fault is told by this refusal
+pub record IsParseFault (text : List ℕ) (refusal : Refusal) : Type 0 where
+  pub tokens : List Token
+  pub fault : ParseError
+  pub are : IsTokensOf text tokens
+  pub first : IsRefusal (items tokens) fault
+  pub told : refusal ≡ parse_refusal text tokens fault
+
+-- the tree of the text's tokens
+pub record HasTree (text : List ℕ) (tree : Tree) : Type 0 where
+  pub tokens : List Token
+  pub are : IsTokensOf text tokens
+  pub is : IsTree (items tokens) tree
+
+-- ---- the scripts that run so far
+
+-- the system and the name of an event
+pub record EventName : Type 0 where
+  pub system : List ℕ
+  pub name : List ℕ
+
+abbrev pub has_star : List ℕ → Bool
+has_star bytes = list_any (λ b. b == 42) bytes
+
+-- a name without `*`
+abbrev pub plain_name : List ℕ → List ℕ → Option EventName
+plain_name system name = if not (has_star system) && not (has_star name) then Some (record { system = system; name = name }) else None
+
+-- the event of one tracepoint without `*`
+abbrev pub event_of_points : List Point → Option EventName
+event_of_points [] = None
+event_of_points (Tracepoint system name place ∷ []) = plain_name system name
+event_of_points (point ∷ points) = None
+
+abbrev pub is_none : {A : Type 0} → List A → Bool
+is_none [] = true
+is_none (a ∷ more) = false
+
+-- the map `@`, without keys
+abbrev pub is_only_map : MapRef → Bool
+is_only_map map = bytes_eq (out-MapRef map).name (codes "@") && is_none (out-MapRef map).keys
+
+-- `@ = count()`
+abbrev pub is_count : StmtKind → Bool
+is_count (SetAgg map Count place) = is_only_map map
+is_count _ = false
+
+-- `@ = count()` alone
+abbrev pub are_count : List Stmt → Bool
+are_count [] = false
+are_count (stmt ∷ []) = is_count (out-Stmt stmt).kind
+are_count (stmt ∷ other ∷ stmts) = false
+
+-- the event that an early probe counts: one tracepoint without `*`, no predicate, and the one statement `@ = count()`
+abbrev pub event_of_probe : Probe → Option EventName
+event_of_probe probe = if are_count (out-Block probe.block).stmts then event_where probe.predicate probe.points else None
+  where
+    event_where : {P : Type 0} → Option P → List Point → Option EventName
+    event_where None points = event_of_points points
+    event_where (Some predicate) points = None
+
+-- the event that an early tree counts: it is of one early probe
+abbrev pub event_of_tree : Tree → Option EventName
+event_of_tree tree = event_of_probes tree.probes
+  where
+    event_of_probes : List Probe → Option EventName
+    event_of_probes [] = None
+    event_of_probes (probe ∷ []) = event_of_probe probe
+    event_of_probes (probe ∷ other ∷ probes) = None
+
+-- the format at this place is that of the event
+pub record IsFormatOf (event : EventName) (formats : List Format) (place : ℕ) : Type 0 where
   pub format : Format
   pub placed : slice_get formats place ≡ Some format
-  pub script : IsEarlyScript text format
+  pub system : event.system ≡ format.system
+  pub name : event.name ≡ format.layout.name
+
+-- the tree is early, and counts the events of the format at this place
+pub record CountsFormat (tree : Tree) (formats : List Format) (place : ℕ) : Type 0 where
+  pub event : EventName
+  pub early : event_of_tree tree ≡ Some event
+  pub of : IsFormatOf event formats place

@@ -11,8 +11,9 @@ use Rattle.bt_top.specs.declared.judge.Counting.{Counting}
 use Rattle.bt_top.specs.declared.report.Work.{Work}
 use Rattle.bt_top.specs.declared.refusal.Operand.TheVariants.{Script, Recording}
 use Rattle.bt_top.specs.declared.refusal.Refusal.{Refusal}
-use Rattle.bt_top.specs.declared.refusal.Refusal.TheVariants.{Usage, ReadFault, TooLong, BadRecording, Early, WriteFault, Memory}
-use Rattle.bt_top.specs.Script.{CountsFormat}
+use Rattle.bt_top.specs.declared.refusal.Refusal.TheVariants.{Usage, ReadFault, TooLong, BadRecording, BadScript, Early, WriteFault, Memory}
+use Rattle.bt_ast.specs.declared.probe.Script.{Script as Tree}
+use Rattle.bt_top.specs.Script.{IsLexicalFault, IsParseFault, HasTree, CountsFormat}
 use Rattle.bt_top.specs.Count.{payloads_of, IsWorkOf}
 
 -- neither file is longer than it may be
@@ -31,25 +32,40 @@ pub record HasMoreCpus (recording : List ℕ) : Type 0 where
   pub is : IsRecording recording says
   pub more : 1 < length says.cpus
 
--- a recording of one CPU, and a script that counts the events of none of its formats
+-- a recording of one CPU
+pub record HasOneCpu (recording : List ℕ) : Type 0 where
+  pub says : Recorded
+  pub is : IsRecording recording says
+  pub one_cpu : length says.cpus ≡ 1
+
+-- the refusal tells the first lexical fault of the text, or the first fault of its tokens
+abbrev pub IsScriptFault : List ℕ → Refusal → Type 0
+IsScriptFault text refusal = IsLexicalFault text refusal ⊎ IsParseFault text refusal
+
+-- a recording of one CPU, and a script whose tree counts the events of none of its formats
 pub record IsOtherScript (script recording : List ℕ) : Type 0 where
   pub says : Recorded
   pub is : IsRecording recording says
   pub one_cpu : length says.cpus ≡ 1
-  pub other : (place : ℕ) → CountsFormat script says.formats place → ⊥
+  pub tree : Tree
+  pub has : HasTree script tree
+  pub other : (place : ℕ) → CountsFormat tree says.formats place → ⊥
 
--- a recording of one CPU, and the script that counts the events of its format at this place
+-- a recording of one CPU, and a script whose tree counts the events of its format at this place
 pub record IsAccepted (script recording : List ℕ) (place : ℕ) : Type 0 where
   pub says : Recorded
   pub is : IsRecording recording says
   pub one_cpu : length says.cpus ≡ 1
-  pub counts : CountsFormat script says.formats place
+  pub tree : Tree
+  pub has : HasTree script tree
+  pub counts : CountsFormat tree says.formats place
 
 -- what these files bring about, where no fault comes and memory suffices: the first refusal of its order, or none
 abbrev pub IsDue : List ℕ → List ℕ → Option Refusal → Type 0
 IsDue script recording (Some (TooLong Script)) = 65536 < length script
 IsDue script recording (Some (TooLong Recording)) = (length script ≤ 65536) × (268435456 < length recording)
 IsDue script recording (Some (BadRecording error)) = AreSized script recording × IsRecordingFault recording error
+IsDue script recording (Some (BadScript fault place)) = AreSized script recording × HasOneCpu recording × IsScriptFault script (BadScript fault place)
 IsDue script recording (Some (Early Recording)) = AreSized script recording × HasMoreCpus recording
 IsDue script recording (Some (Early Script)) = AreSized script recording × IsOtherScript script recording
 IsDue script recording None = AreSized script recording × ((place : ℕ) × IsAccepted script recording place)
@@ -70,6 +86,7 @@ MayCome read_fault write_fault script recording Usage = ⊥
 MayCome read_fault write_fault script recording (ReadFault operand) = read_fault
 MayCome read_fault write_fault script recording (TooLong operand) = OnBoth script recording (λ s r. IsDue s r (Some (TooLong operand)))
 MayCome read_fault write_fault script recording (BadRecording error) = OnBoth script recording (λ s r. IsDue s r (Some (BadRecording error)))
+MayCome read_fault write_fault script recording (BadScript fault place) = OnBoth script recording (λ s r. IsDue s r (Some (BadScript fault place)))
 MayCome read_fault write_fault script recording (Early operand) = OnBoth script recording (λ s r. IsDue s r (Some (Early operand)))
 MayCome read_fault write_fault script recording WriteFault = write_fault
 MayCome read_fault write_fault script recording Memory = Unit {0}
@@ -82,6 +99,7 @@ IsFault (Some Memory) = Unit {0}
 IsFault (Some Usage) = ⊥
 IsFault (Some (TooLong operand)) = ⊥
 IsFault (Some (BadRecording error)) = ⊥
+IsFault (Some (BadScript fault place)) = ⊥
 IsFault (Some (Early operand)) = ⊥
 IsFault None = ⊥
 
@@ -103,7 +121,9 @@ recording_refusal error = BadRecording error
 pub record IsAskedBy (script recording : List ℕ) (counting : Counting) : Type 0 where
   pub is : IsRecording recording counting.recording
   pub one_cpu : length counting.recording.cpus ≡ 1
-  pub counts : CountsFormat script counting.recording.formats counting.format
+  pub tree : Tree
+  pub has : HasTree script tree
+  pub counts : CountsFormat tree counting.recording.formats counting.format
 
 -- these are the payloads of the recording's events of the format at this place
 pub record HasPayloads (recording : List ℕ) (place : ℕ) (payloads : List (List ℕ)) : Type 0 where
@@ -125,6 +145,7 @@ HasWork (Some Usage) = ⊥
 HasWork (Some (ReadFault operand)) = ⊥
 HasWork (Some (TooLong operand)) = ⊥
 HasWork (Some (BadRecording error)) = ⊥
+HasWork (Some (BadScript fault place)) = ⊥
 HasWork (Some (Early operand)) = ⊥
 HasWork (Some Memory) = ⊥
 

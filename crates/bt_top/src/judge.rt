@@ -3,7 +3,7 @@ ghost use Rattle.std.specs.Prelude.{◌≡◌, Some, IfOk, IfErr};
 ghost use Rattle.bt_top.specs.Serve.{AreSized, IsAskedBy, MayCome, ComesIfDue, refusal_in, recording_refusal};
 
 use crate::refusal::{Operand, Refusal};
-use crate::script::counted_format;
+use crate::script::{counted_format, tree_of};
 use rec_format::error::RecordingError;
 use rec_format::reading::read_recording;
 use rec_format::recording::Recording;
@@ -26,8 +26,8 @@ fn recording_refusal(error: RecordingError) -> Refusal
     }
 }
 
-/// What is to be counted, where the recording is valid and has one CPU, and the script counts the events
-/// of one of its formats. The recording is refused before the script is.
+/// What is to be counted, where the recording is valid and has one CPU, and the script has a tree that
+/// counts the events of one of its formats. The recording is refused before the script is.
 pub(crate) fn judge(alloc: Global, script: &[u8], recording: &[u8]) -> Result<Counting, Refusal>
     requires { AreSized script.now recording.now }
     ensures asked { IfOk result (λ counting. IsAskedBy script.now recording.now counting) }
@@ -41,7 +41,11 @@ pub(crate) fn judge(alloc: Global, script: &[u8], recording: &[u8]) -> Result<Co
     if recording.cpus.len() > 1 {
         return Err(Refusal::Early(Operand::Recording));
     }
-    match counted_format(script, recording.formats.as_slice()) {
+    let tree = match tree_of(alloc, script) {
+        Ok(tree) => tree,
+        Err(refusal) => return Err(refusal),
+    };
+    match counted_format(&tree, recording.formats.as_slice()) {
         Some(format) => Ok(Counting { recording, format }),
         None => Err(Refusal::Early(Operand::Script)),
     }

@@ -1,51 +1,214 @@
-// The scripts that run so far.
-ghost use Rattle.std.specs.Prelude.{◌≡◌, ◌≢◌, ◌++◌, ◌↔◌, List, ℕ, IsTrue, MatchOption};
-ghost use Rattle.bt_top.specs.Script.{script_with, IsCountBlock, IsEarlyScript, CountsFormat};
+// The trees of scripts, and those that run so far.
+ghost use Rattle.std.specs.Prelude.{◌≡◌, ◌≢◌, ◌≤◌, ◌⊎◌, ◌↔◌, ℕ, Err, IfErr, IfOk, IsTrue, List, MatchOption, None, Ok, Some, length, slice_get};
+ghost use Rattle.bt_ast.specs.declared.probe.Script.{Script as Tree};
+ghost use Rattle.bt_lexer.specs.Places.{offset_of};
+ghost use Rattle.bt_lexer.specs.declared.line.LineColumn.{LineColumn};
+ghost use Rattle.bt_top.specs.declared.refusal.ScriptFault.{ScriptFault};
+ghost use Rattle.bt_top.specs.Script.{place_of, place_at, lexical_refusal, parse_refusal, HasTree, has_star, IsFormatOf, event_of_points, is_count, are_count, event_of_probe, event_of_tree, CountsFormat};
+ghost use Rattle.bt_top.specs.Serve.{IsScriptFault};
 
+use crate::refusal::{Refusal, ScriptFault};
+use bt_ast::probe::{Point, Probe, Script};
+use bt_ast::stmt::{AggCall, Stmt, StmtKind};
+use bt_lexer::error::LexError;
+use bt_lexer::laws::few_tokens;
+use bt_lexer::lexer::lex;
+use bt_lexer::line::{LineColumn, line_column};
+use bt_lexer::token::Token;
+use bt_parser::error::ParseError;
+use bt_parser::laws::one_answer;
+use bt_parser::parse::parse;
+use std::alloc::Global;
 use tracefs_format::format::Format;
 
-/// What follows these very bytes.
-fn after_bytes<'t>(front: &[u8], text: &'t [u8]) -> Option<&'t [u8]>
-    ensures { MatchOption result ((rest : List ℕ) → text.now ≢ front.now ++ rest) (λ rest. text.now ≡ front.now ++ rest.now) }
+/// The line and column of a byte, by its offset in the text.
+fn place_at(text: &[u8], offset: u64) -> LineColumn
+    requires within { offset ≤ length text.now }
+    requires short { length text.now ≤ 65536 }
+    ensures { result ≡ place_at text.now offset }
 {
-    text.strip_prefix(front)
+    line_column(text, offset as usize)
 }
 
-/// What follows the event's name in a script on the format's event.
-fn block_of<'t>(text: &'t [u8], format: &Format) -> Option<&'t [u8]>
-    ensures { MatchOption result ((block : List ℕ) → text.now ≢ script_with format.now block) (λ block. text.now ≡ script_with format.now block.now) }
+/// Why a text is refused whose first lexical fault is this one.
+fn lexical_refusal(text: &[u8], error: LexError) -> Refusal
+    requires within { offset_of error ≤ length text.now }
+    requires short { length text.now ≤ 65536 }
+    ensures { result ≡ lexical_refusal text.now error }
 {
-    let system = after_bytes(b"tracepoint:", text)?;
-    let colon = after_bytes(format.system.as_slice(), system)?;
-    let name = after_bytes(b":", colon)?;
-    after_bytes(format.layout.name.as_slice(), name)
-}
-
-/// Whether the block counts.
-fn is_count_block(block: &[u8]) -> bool
-    ensures { IsTrue result ↔ IsCountBlock block.now }
-{
-    block == b" { @ = count(); }".as_slice() || block == b" { @ = count(); }\n".as_slice()
-}
-
-/// Whether the text is the script that counts the events of the format.
-fn is_early_script(text: &[u8], format: &Format) -> bool
-    ensures { IsTrue result ↔ IsEarlyScript text.now format.now }
-{
-    match block_of(text, format) {
-        Some(block) => is_count_block(block),
-        None => false,
+    match error {
+        LexError::BadChar(at) => Refusal::BadScript(ScriptFault::BadCharacter, place_at(text, at)),
+        LexError::OpenString(at) => Refusal::BadScript(ScriptFault::OpenString, place_at(text, at)),
+        LexError::OpenComment(at) => {
+            Refusal::BadScript(ScriptFault::OpenComment, place_at(text, at))
+        }
+        LexError::NumberTooLarge(at) => {
+            Refusal::BadScript(ScriptFault::NumberTooLarge, place_at(text, at))
+        }
+        LexError::BadEscape(at) => Refusal::BadScript(ScriptFault::BadEscape, place_at(text, at)),
+        LexError::StringTooLong(at) => {
+            Refusal::BadScript(ScriptFault::StringTooLong, place_at(text, at))
+        }
+        LexError::Memory => Refusal::Memory,
     }
 }
 
-/// The place of the format whose events the script counts, or `None` where it counts those of none.
-pub(crate) fn counted_format(text: &[u8], formats: &[Format]) -> Option<usize>
-    ensures { MatchOption result ((place : ℕ) → ¬ CountsFormat text.now formats.now place) (λ place. CountsFormat text.now formats.now place) }
+/// The line and column of the token with so many before it, or of the end of the text.
+fn place_of(text: &[u8], tokens: &[Token], number: u32) -> LineColumn
+    requires { length text.now ≤ 65536 }
+    ensures { result ≡ place_of text.now (slice_get tokens.now number) }
+{
+    match tokens.get(number as usize) {
+        Some(token) => LineColumn {
+            line: token.line,
+            column: token.column,
+        },
+        None => line_column(text, text.len()),
+    }
+}
+
+/// Why a text is refused whose tokens have this first fault.
+fn parse_refusal(text: &[u8], tokens: &[Token], error: ParseError) -> Refusal
+    requires { length text.now ≤ 65536 }
+    ensures { result ≡ parse_refusal text.now tokens.now error }
+{
+    match error {
+        ParseError::Syntax(number) => {
+            Refusal::BadScript(ScriptFault::Syntax, place_of(text, tokens, number))
+        }
+        ParseError::TooDeep(number) => {
+            Refusal::BadScript(ScriptFault::TooDeep, place_of(text, tokens, number))
+        }
+        ParseError::TooMany(number) => {
+            Refusal::BadScript(ScriptFault::TooManyProbes, place_of(text, tokens, number))
+        }
+        ParseError::Memory => Refusal::Memory,
+    }
+}
+
+/// The tree of a script, or its first fault.
+pub(crate) fn tree_of(alloc: Global, text: &[u8]) -> Result<Script, Refusal>
+    requires { length text.now ≤ 65536 }
+    ensures tree { IfOk result (HasTree text.now) }
+    ensures fault { IfErr result (λ refusal. refusal ≢ Refusal.Memory → IsScriptFault text.now refusal) }
+    ensures only_tree { (tree : Tree) → HasTree text.now tree → (result ≡ Ok tree) ⊎ (result ≡ Err Refusal.Memory) }
+    ensures only_fault { (fault : ScriptFault) (place : LineColumn) → IsScriptFault text.now (Refusal.BadScript fault place) → (result ≡ Err (Refusal.BadScript fault place)) ⊎ (result ≡ Err Refusal.Memory) }
+{
+    few_tokens();
+    one_answer();
+    let tokens = match lex(alloc, text) {
+        Ok(tokens) => tokens,
+        Err(LexError::Memory) => return Err(Refusal::Memory),
+        Err(error) => return Err(lexical_refusal(text, error)),
+    };
+    match parse(alloc, tokens.as_slice()) {
+        Ok(script) => Ok(script),
+        Err(error) => Err(parse_refusal(text, tokens.as_slice(), error)),
+    }
+}
+
+/// Whether a name has a `*`.
+fn has_star(name: &[u8]) -> bool
+    ensures { result ≡ has_star name.now }
+{
+    name.contains(&b'*')
+}
+
+/// The system and the name of an event.
+#[derive(Clone, Copy)]
+struct TracepointName<'t> {
+    system: &'t [u8],
+    name: &'t [u8],
+}
+
+/// The event of one tracepoint without `*`.
+fn event_of_points(points: &[Point]) -> Option<TracepointName<'_>>
+    ensures { MatchOption result (event_of_points points.now ≡ None) (λ event. event_of_points points.now ≡ Some (record { system = event.system.now; name = event.name.now })) }
+{
+    match points {
+        [Point::Tracepoint { system, name, .. }] => {
+            let system = system.as_slice();
+            let name = name.as_slice();
+            if !has_star(system) && !has_star(name) {
+                Some(TracepointName { system, name })
+            } else {
+                None
+            }
+        }
+        _ => None,
+    }
+}
+
+/// Whether the statement is `@ = count()`.
+fn is_count(kind: &StmtKind) -> bool
+    ensures { result ≡ is_count kind.now }
+{
+    match kind {
+        StmtKind::SetAgg {
+            map,
+            agg: AggCall::Count,
+            ..
+        } => map.name.as_slice() == b"@".as_slice() && map.keys.is_empty(),
+        _ => false,
+    }
+}
+
+/// Whether the statements are `@ = count()` alone.
+fn are_count(stmts: &[Stmt]) -> bool
+    ensures { result ≡ are_count stmts.now }
+{
+    match stmts {
+        [stmt] => is_count(&stmt.kind),
+        _ => false,
+    }
+}
+
+/// The event that a probe counts, where it does nothing else.
+fn event_of_probe(probe: &Probe) -> Option<TracepointName<'_>>
+    ensures { MatchOption result (event_of_probe probe.now ≡ None) (λ event. event_of_probe probe.now ≡ Some (record { system = event.system.now; name = event.name.now })) }
+{
+    if !are_count(probe.block.stmts.as_slice()) {
+        return None;
+    }
+    match &probe.predicate {
+        None => event_of_points(probe.points.as_slice()),
+        Some(_) => None,
+    }
+}
+
+/// The event that a script counts, where it does nothing else.
+fn event_of_tree(tree: &Script) -> Option<TracepointName<'_>>
+    ensures { MatchOption result (event_of_tree tree.now ≡ None) (λ event. event_of_tree tree.now ≡ Some (record { system = event.system.now; name = event.name.now })) }
+{
+    match tree.probes.as_slice() {
+        [probe] => event_of_probe(probe),
+        _ => None,
+    }
+}
+
+/// Whether an event of this system and name is of the format.
+fn is_of_format(system: &[u8], name: &[u8], format: &Format) -> bool
+    ensures { IsTrue result ↔ ((system.now ≡ format.now.system) × (name.now ≡ format.now.layout.name)) }
+{
+    system == format.system.as_slice() && name == format.layout.name.as_slice()
+}
+
+/// The place of the format of the event of this system and name.
+fn place_of_format(system: &[u8], name: &[u8], formats: &[Format]) -> Option<usize>
+    ensures { MatchOption result ((place : ℕ) → ¬ IsFormatOf (record { system = system.now; name = name.now }) formats.now place) (λ place. IsFormatOf (record { system = system.now; name = name.now }) formats.now place) }
 {
     for place in 0..formats.len() {
-        if is_early_script(text, &formats[place]) {
+        if is_of_format(system, name, &formats[place]) {
             return Some(place);
         }
     }
     None
+}
+
+/// The place of the format whose events the script counts, or `None` where it counts those of none.
+pub(crate) fn counted_format(tree: &Script, formats: &[Format]) -> Option<usize>
+    ensures { MatchOption result ((place : ℕ) → ¬ CountsFormat tree.now formats.now place) (λ place. CountsFormat tree.now formats.now place) }
+{
+    let event = event_of_tree(tree)?;
+    place_of_format(event.system, event.name, formats)
 }

@@ -91,11 +91,16 @@ fn run<S: Shelf, K: Sink>(alloc: Global, named: &Named<'_>, shelf: &mut S, out: 
 /// fixed piece of BPF code (RFC 9669) over the event's payload, whose call of a helper makes the event's
 /// step.
 ///
-/// Refusals come in the order words, script read, recording read, recording, script, write. A file
-/// that is too long is refused at its read. A recording is refused with the first check that its bytes
-/// fail, or where it has more than one CPU. Want of memory may come at any of them. Before the write
-/// nothing goes to `out`. What is refused is told by a line to `err`, and a fault there changes
-/// nothing else.
+/// A script that runs so far is one probe on one tracepoint, without `*` and without a predicate, with the
+/// one statement `@ = count()`; blanks and comments are free.
+///
+/// Refusals come in the order words, script read, recording read, recording, lexing, parsing, script,
+/// write. A file that is too long is refused at its read. A recording is refused with the first check that
+/// its bytes fail, or where it has more than one CPU. A script is refused with the first lexical fault of
+/// its text, or with the first fault of its tokens by the grammar of the bpftrace language, both with line
+/// and column, or where it has a tree that does not run so far. Want of memory may come at any of them.
+/// Before the write nothing goes to `out`. What is refused is told by a line to `err`, and a fault there
+/// changes nothing else.
 pub fn serve<S: Shelf, K: Sink, E: Sink>(
     alloc: Global,
     words: &[String],

@@ -5,13 +5,14 @@ ghost use Rattle.std.specs.Io.KnownBytes.{Appends};
 ghost use Rattle.bt_io.specs.Faults.{Rose};
 ghost use Rattle.bt_io.specs.Taken.{AppendsPart};
 ghost use Rattle.bt_top.specs.Lines.{number_text, line_text};
-ghost use Rattle.bt_top.specs.Refusals.{usage_line, fault_text, line_of, count_word, rule_text, name_of};
+ghost use Rattle.bt_top.specs.Refusals.{usage_line, fault_text, line_of, count_word, rule_text, script_fault_text, name_of};
 ghost use Rattle.bt_top.specs.Serve.{WritesUnless};
 ghost use Rattle.bt_top.specs.Words.{named_by};
 
-use crate::refusal::{Operand, Refusal};
+use crate::refusal::{Operand, Refusal, ScriptFault};
 use crate::words::Named;
 use bt_io::sink::{Sink, SinkFailed, write_all};
+use bt_lexer::line::LineColumn;
 use itoa::Buffer;
 use rec_format::error::{CountOf, RecordingError};
 use tracefs_format::error::FormatError;
@@ -23,6 +24,7 @@ struct Line {
     first: Option<u64>,
     middle: &'static str,
     second: Option<u64>,
+    tail: &'static str,
 }
 
 /// A line without numbers.
@@ -34,6 +36,7 @@ fn plain(head: &'static str) -> Line
         first: None,
         middle: "",
         second: None,
+        tail: "",
     }
 }
 
@@ -46,6 +49,7 @@ fn numbered(head: &'static str, number: u64) -> Line
         first: Some(number),
         middle: "",
         second: None,
+        tail: "",
     }
 }
 
@@ -58,6 +62,7 @@ fn of_event(head: &'static str, cpu: u32, event: u32) -> Line
         first: Some(u64::from(event)),
         middle: " of cpu ",
         second: Some(u64::from(cpu)),
+        tail: "",
     }
 }
 
@@ -85,6 +90,7 @@ fn of_format(place: u32, rule: FormatError) -> Line
         first: Some(u64::from(place)),
         middle,
         second,
+        tail: "",
     }
 }
 
@@ -126,6 +132,36 @@ fn fault_line(error: RecordingError) -> Line
     }
 }
 
+/// What a line says of the fault of a script, behind its place.
+fn script_tail(fault: ScriptFault) -> &'static str
+    ensures { result.now ≡ codes ": " ++ script_fault_text fault }
+{
+    match fault {
+        ScriptFault::BadCharacter => ": X1 bad character",
+        ScriptFault::OpenString => ": X2 open string",
+        ScriptFault::OpenComment => ": X3 open comment",
+        ScriptFault::NumberTooLarge => ": X4 number too large",
+        ScriptFault::BadEscape => ": X5 bad escape",
+        ScriptFault::StringTooLong => ": X6 string too long",
+        ScriptFault::Syntax => ": P1 syntax",
+        ScriptFault::TooDeep => ": P2 too deep",
+        ScriptFault::TooManyProbes => ": P3 too many probes",
+    }
+}
+
+/// The line on the fault of a script.
+fn script_line(fault: ScriptFault, place: LineColumn) -> Line
+    ensures { line_text result ≡ codes ":" ++ (decimal place.line ++ (codes ":" ++ (decimal place.column ++ (codes ": " ++ (script_fault_text fault ++ codes "\n"))))) }
+{
+    Line {
+        head: ":",
+        first: Some(u64::from(place.line)),
+        middle: ":",
+        second: Some(u64::from(place.column)),
+        tail: script_tail(fault),
+    }
+}
+
 /// The name of the file that the operand gives.
 fn name_of<'w>(named: &Named<'w>, operand: Operand) -> &'w str
     ensures { result.now ≡ name_of (named_by named.now) operand }
@@ -146,6 +182,7 @@ fn line_of<'w>(named: &Named<'w>, refusal: Refusal) -> (&'w str, Line)
         Refusal::TooLong(Operand::Script) => (named.script, plain(": script too long")),
         Refusal::TooLong(Operand::Recording) => (named.recording, plain(": recording too long")),
         Refusal::BadRecording(error) => (named.recording, fault_line(error)),
+        Refusal::BadScript(fault, place) => (named.script, script_line(fault, place)),
         Refusal::Early(operand) => (name_of(named, operand), plain(": not built yet")),
         Refusal::WriteFault => ("", plain("write fault")),
         Refusal::Memory => ("", plain("out of memory")),
@@ -193,7 +230,7 @@ fn write_line<E: Sink>(err: &mut E, name: &str, line: Line) -> Result<(), SinkFa
     write_all(err, name.as_bytes())?;
     write_numbered(err, line.head, line.first)?;
     write_numbered(err, line.middle, line.second)?;
-    write_all(err, b"\n")
+    write_both(err, line.tail, "\n")
 }
 
 /// Writes the line of a refusal, or a prefix of it where the sink fails.

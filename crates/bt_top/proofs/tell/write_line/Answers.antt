@@ -11,4 +11,4 @@ returns-in_err-write_numbered-2-clause-part g c =
 
 pub returns-clause-part : goal.returns-clause-part
 returns-clause-part g c =
-    on_err-map c.write_all-2.result _ _ (stops_at_end _ _ _ _ _ c.args.name.now c.args.line (rw c.as_bytes.ensures.value at c.in_ok-write_all.ensures.whole) c.in_ok-write_numbered.ensures.whole c.in_ok-write_numbered-2.ensures.whole) c.write_all-2.ensures.part
+    on_err-map c.write_both.result _ _ (stops_at_end _ _ _ _ _ c.args.name.now c.args.line (rw c.as_bytes.ensures.value at c.in_ok-write_all.ensures.whole) c.in_ok-write_numbered.ensures.whole c.in_ok-write_numbered-2.ensures.whole) c.write_both.ensures.part
