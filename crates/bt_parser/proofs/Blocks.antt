@@ -1,5 +1,5 @@
 -- Each part of a block is read by its steps.
-use Rattle.std.proofs.Common.{◌≡◌, ℕ, Bool, true, false, List, [], ◌∷◌, ◌++◌, Option, Some, None, refl, sym, ◌∙◌, ap, append_assoc, if◌then◌else◌}
+use Rattle.std.proofs.Common.{◌≡◌, List, [], ◌∷◌, ◌++◌, Some, refl, sym, ◌∙◌, ap, append_assoc}
 use Rattle.std.proofs.lemmas.List.{append-nil}
 use Rattle.bt_lexer.specs.declared.token.TokenKind.{TokenKind}
 use Rattle.bt_ast.specs.declared.place.Place.{Place}
@@ -8,15 +8,14 @@ use Rattle.bt_ast.specs.declared.stmt.Block.{Block}
 use Rattle.bt_ast.specs.declared.stmt.Stmt.{Stmt}
 use Rattle.bt_parser.specs.declared.class.Class.{Class}
 use Rattle.bt_parser.specs.declared.class.Class.TheVariants.{IfWord, ElseWord, WhileWord, UnrollWord, CloseBrace, Semicolon}
-use Rattle.bt_parser.specs.Classes.{is}
 use Rattle.bt_parser.specs.Form.{Item, Simple, Arm, Tail, Control, Body, Braced, Form, Or, Then, Map, Call}
-use Rattle.bt_parser.specs.Reading.{Out, Done, Refused, Unfinished, and_then, read, reads, starts, rest_of}
-use Rattle.bt_parser.specs.Rules.{rule, mark, ends, in_parens, a_number}
+use Rattle.bt_parser.specs.Reading.{Out, Done, Refused, Unfinished, and_then, read, reads}
+use Rattle.bt_parser.specs.Rules.{rule, mark, in_parens, a_number}
 use Rattle.bt_parser.specs.Trees.{second, nothing}
-use Rattle.bt_parser.specs.Mirror.{◌>>=◌, class_at}
-use Rattle.bt_parser.specs.Statements.{turns_by, arm_by, arms_on, branches_by, arms_turn, control_by, body_on, after_simple, begins_control, body_turn, block_by}
+use Rattle.bt_parser.specs.Mirror.{class_at}
+use Rattle.bt_parser.specs.Statements.{turns_by, arm_by, arms_on, arms_turn, control_by, body_on, after_simple, body_turn, block_by}
 use Rattle.bt_parser.proofs.Enough.{reads_is}
-use Rattle.bt_parser.proofs.Mirrored.{and_then_assoc, and_then_same, choice, it}
+use Rattle.bt_parser.proofs.Mirrored.{and_then_assoc, and_then_same, it}
 
 pub turns_is : (ts : List Item) → read reads (in_parens a_number) ts ≡ turns_by ts
 turns_is ts = simp and_then_assoc

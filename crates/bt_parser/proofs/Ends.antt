@@ -1,15 +1,13 @@
 -- How the loop over probes ends, and what the parser answers then.
-use Rattle.std.proofs.Common.{◌≡◌, ◌≢◌, ℕ, zero, suc, ◌+◌, ◌<◌, ◌≤◌, Bool, true, false, List, [], ◌∷◌, ◌++◌, length, take, drop, Option, Some, None, refl, sym, ◌∙◌, ap, subst, inl, inr, ◌⊎◌, arith, length-append}
+use Rattle.std.proofs.Common.{◌≡◌, ◌≢◌, ℕ, suc, ◌<◌, ◌≤◌, true, false, List, [], ◌∷◌, ◌++◌, length, refl, ◌∙◌, ap, subst, arith, length-append}
 use Rattle.bt_lexer.specs.declared.token.Token.{Token}
 use Rattle.bt_ast.specs.declared.probe.Probe.{Probe}
-use Rattle.bt_parser.specs.declared.script.Outcome.{Outcome}
 use Rattle.bt_parser.specs.declared.script.Outcome.TheVariants as outcomes
-use Rattle.bt_parser.specs.Classes.{is_point}
-use Rattle.bt_parser.specs.Form.{Item, OneProbe}
-use Rattle.bt_parser.specs.Reading.{Out, Done, Refused, and_then, starts, reads}
+use Rattle.bt_parser.specs.Form.{OneProbe}
+use Rattle.bt_parser.specs.Reading.{Done, Refused, and_then, reads}
 use Rattle.bt_parser.specs.Tokens.{items, item}
 use Rattle.bt_parser.specs.Counts.{probes_read}
-use Rattle.bt_parser.specs.Refusals.{IsCountFault, most_probes}
+use Rattle.bt_parser.specs.Refusals.{most_probes}
 use Rattle.bt_parser.specs.Grammar.{RefusedAt}
 use Rattle.bt_parser.specs.Outcomes.{Gives, another}
 use Rattle.bt_parser.proofs.Steps.{length-items}

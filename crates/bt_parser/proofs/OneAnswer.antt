@@ -1,13 +1,13 @@
 -- Each list of tokens has one answer at most.
-use Rattle.std.proofs.Common.{◌≡◌, ℕ, ◌+◌, ◌<◌, ◌≤◌, List, [], ◌∷◌, length, refl, sym, ◌∙◌, ap, subst, inl, inr, ◌⊎◌, arith}
+use Rattle.std.proofs.Common.{◌≡◌, ℕ, ◌+◌, ◌<◌, ◌≤◌, List, [], refl, sym, ◌∙◌, ap, inl, inr, ◌⊎◌, arith}
 use Rattle.bt_ast.specs.declared.probe.Probe.{Probe}
 use Rattle.bt_ast.specs.declared.probe.Script.{Script}
 use Rattle.bt_parser.specs.declared.error.ParseError.{ParseError}
 use Rattle.bt_parser.specs.declared.error.ParseError.TheVariants.{Syntax, TooDeep, TooMany, Memory}
 use Rattle.bt_parser.specs.Form.{Item, WholeScript}
-use Rattle.bt_parser.specs.Reading.{Out, Done, read_at}
-use Rattle.bt_parser.specs.Grammar.{Tree, IsTreeOf, Begins, whole_at}
-use Rattle.bt_parser.specs.Refusals.{Holds, NotAfter, IsRefusal, IsAccepted}
+use Rattle.bt_parser.specs.Reading.{Done, read_at}
+use Rattle.bt_parser.specs.Grammar.{Tree, IsTreeOf, Begins}
+use Rattle.bt_parser.specs.Refusals.{NotAfter, IsRefusal, IsAccepted}
 use Rattle.bt_parser.proofs.Depth.{tree_is_done}
 use Rattle.bt_parser.proofs.Decide.{tree_begins}
 

@@ -1,6 +1,6 @@
 -- Parts between colons, and numbers by their digits.
-use Rattle.std.proofs.Common.{◌≡◌, ℕ, zero, suc, ◌+◌, ◌-◌, ◌*◌, ◌^◌, ◌<◌, ◌≤◌, Bool, true, false, cond, ◌&&◌, List, [], ◌∷◌, length, take, drop, Option, Some, None, refl, sym, ◌∙◌, ap, subst, inl, inr, ◌⊎◌, arith}
-use Rattle.std.specs.Prelude.{not, ◌==◌, nat_lt, nat_le, take_while, if◌then◌else◌}
+use Rattle.std.proofs.Common.{◌≡◌, ℕ, suc, ◌+◌, ◌-◌, ◌*◌, ◌^◌, ◌<◌, ◌≤◌, Bool, true, false, cond, ◌&&◌, List, [], ◌∷◌, length, take, drop, Option, Some, None, refl, sym, ◌∙◌, ap, inl, inr, ◌⊎◌, arith}
+use Rattle.std.specs.Prelude.{not, nat_lt, nat_le, take_while, if◌then◌else◌}
 use Rattle.std.specs.List.{slice_split, onto_first, list_all}
 use Rattle.std.specs.Char.{digit_value}
 use Rattle.std.specs.Str.Parse.{digits_value_after}
@@ -13,7 +13,7 @@ use Rattle.bt_parser.proofs.AllClasses.{and_first, and_second}
 use Rattle.std.proofs.lemmas.Bool.Decides.{leb_tells}
 use Rattle.bt_lexer.specs.Bytes.{is_digit}
 use Rattle.bt_ast.specs.declared.place.Place.{Place}
-use Rattle.bt_parser.specs.Attach.{are_digits, is_name, is_name_byte, point_of_parts}
+use Rattle.bt_parser.specs.Attach.{is_name, is_name_byte, point_of_parts}
 use Rattle.bt_parser.specs.Points.{is_colon, not_colon, limited, with_digit, with_digits, and_more, number_of}
 
 either : (b : Bool) → (b ≡ true) ⊎ (b ≡ false)

@@ -17,7 +17,7 @@ use Rattle.bt_parser.specs.Refusals.{IsCountFault, NoCountFault, most_probes, de
 use Rattle.bt_parser.proofs.Depth.{exact}
 use Rattle.bt_parser.proofs.Enough.{reads_is}
 use Rattle.bt_parser.proofs.Counts.{ReadTree, read_tree, script_behind, another_probe, no_probe, probe_starts}
-use Rattle.bt_parser.proofs.Decide.{Another, few, take_front}
+use Rattle.bt_parser.proofs.Decide.{few, take_front}
 
 -- what reading the tokens answers is so
 pub reads_answer : (ts : List Item) → Answer ts (reads WholeScript ts)

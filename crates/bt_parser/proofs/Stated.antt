@@ -1,27 +1,19 @@
 -- Each part of a statement is read by its steps.
-use Rattle.std.proofs.Common.{◌≡◌, ℕ, ℤ, Bool, true, false, List, [], ◌∷◌, ◌++◌, refl, sym, ◌∙◌, ap, Option, Some, None, if◌then◌else◌, append_assoc}
-use Rattle.std.proofs.lemmas.List.{append-nil}
+use Rattle.std.proofs.Common.{◌≡◌, Bool, true, false, List, [], ◌∷◌, refl, sym, ◌∙◌, Some}
 use Rattle.bt_lexer.specs.declared.token.TokenKind.{TokenKind}
 use Rattle.bt_ast.specs.declared.place.Place.{Place}
-use Rattle.bt_ast.specs.declared.expr.Expr.{Expr}
 use Rattle.bt_ast.specs.declared.expr.MapRef.{MapRef}
 use Rattle.bt_ast.specs.declared.expr.Target.{Target}
-use Rattle.bt_ast.specs.declared.expr.Target.TheVariants as targets
 use Rattle.bt_ast.specs.declared.expr.VarRef.{VarRef}
-use Rattle.bt_ast.specs.declared.stmt.Block.{Block}
-use Rattle.bt_ast.specs.declared.stmt.Stmt.{Stmt}
-use Rattle.bt_ast.specs.declared.stmt.StmtKind.{StmtKind}
-use Rattle.bt_ast.specs.declared.stmt.StmtKind.TheVariants as stmts
 use Rattle.bt_parser.specs.declared.class.Class.{Class}
-use Rattle.bt_parser.specs.declared.class.Class.TheVariants.{IfWord, ElseWord, WhileWord, UnrollWord, CountWord, LhistWord, PrintfWord, PrintWord, ClearWord, ZeroWord, DeleteWord, ExitWord, BreakWord, ContinueWord, ReturnWord, MapName, VarName, NumberLiteral, TextLiteral, ShlAssign, ShrAssign, AddAssign, SubAssign, MulAssign, DivAssign, ModAssign, AndAssign, OrAssign, XorAssign, OpenBrace, CloseBrace, OpenParen, CloseParen, OpenBracket, CloseBracket, Comma, Semicolon, Assign, Minus, Increment, Decrement}
-use Rattle.bt_parser.specs.declared.cursor.Named.{Named}
+use Rattle.bt_parser.specs.declared.class.Class.TheVariants.{CountWord, LhistWord, PrintfWord, PrintWord, ClearWord, ZeroWord, DeleteWord, ExitWord, BreakWord, ContinueWord, ReturnWord, MapName, VarName, ShlAssign, ShrAssign, AddAssign, SubAssign, MulAssign, DivAssign, ModAssign, AndAssign, OrAssign, XorAssign, OpenParen, CloseParen, OpenBracket, CloseBracket, Comma, Assign, Minus, Increment, Decrement}
 use Rattle.bt_parser.specs.Classes.{is, gathers}
-use Rattle.bt_parser.specs.Form.{Item, Expression, Keyed, Assignable, Values, Int, Aggregation, Update, AfterMap, AfterVar, Printf, Print, Delete, CallOrJump, Simple, Arm, Tail, Control, Body, Braced, Form, Tok, Empty, Call, Map, Then, Or, Until}
-use Rattle.bt_parser.specs.Reading.{Out, Done, Refused, Unfinished, and_then, read, reads, starts, rest_of, goes_on}
-use Rattle.bt_parser.specs.Rules.{rule, mark, ends, in_parens, value, a_number, after_comma}
-use Rattle.bt_parser.specs.Trees.{second, nothing, gather_map, set_map, on_map, on_var, on_item, delete_all, delete_keyed, delete_key, map_ref}
-use Rattle.bt_parser.specs.Mirror.{◌>>=◌, class_at, front_place, when, named, named_form, step_at, values_on, values_behind}
-use Rattle.bt_parser.specs.Statements.{given, int_by, parens_by, count_form, count_by, gather_form, gatherer_at, gather_by, lhist_form, lhist_by, aggregation_by, begins_aggregation, update_at, update_by, set_map_by, after_map_by, after_var_by, bare_map, map_form, whole_map_by, in_parens_map, map_in_parens_by, printf_by, limit_form, limit_by, limits_form, limits_on, limits_by, print_by, delete_on, delete_by, exit_by, behind_word, call_at, call_by, step_stmt_by, simple_by, arm_by, arms_on, branches_by, arms_turn, control_by, body_on, after_simple, begins_control, body_turn, block_by}
+use Rattle.bt_parser.specs.Form.{Item, Values, Int, Aggregation, Update, AfterMap, AfterVar, Printf, Print, Delete, CallOrJump, Simple, Tok, Call, Map, Then, Or, Until}
+use Rattle.bt_parser.specs.Reading.{Out, Done, Refused, Unfinished, and_then, read, reads, starts, goes_on}
+use Rattle.bt_parser.specs.Rules.{rule, mark, ends, in_parens, value}
+use Rattle.bt_parser.specs.Trees.{gather_map, set_map, on_item, delete_all, delete_keyed, delete_key}
+use Rattle.bt_parser.specs.Mirror.{class_at, when, named, named_form, step_at}
+use Rattle.bt_parser.specs.Statements.{given, int_by, parens_by, count_form, count_by, gather_form, gatherer_at, gather_by, lhist_form, lhist_by, aggregation_by, begins_aggregation, update_at, update_by, set_map_by, after_map_by, after_var_by, map_form, whole_map_by, in_parens_map, map_in_parens_by, printf_by, limit_form, limit_by, limits_form, limits_by, print_by, delete_on, delete_by, call_at, call_by, simple_by}
 use Rattle.bt_parser.proofs.Enough.{reads_is}
 use Rattle.bt_parser.proofs.Mirrored.{and_then_assoc, and_then_same, choice, choice_then, values_start, it}
 

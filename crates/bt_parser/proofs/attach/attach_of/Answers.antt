@@ -1,7 +1,5 @@
-use Rattle.std.proofs.Common.{◌≡◌, ◌∙◌, ◌∷◌, ap, sym, subst}
-use Rattle.std.specs.List.{slice_split}
+use Rattle.std.proofs.Common.{◌∙◌, ◌∷◌, ap}
 use Rattle.bt_parser.specs.Attach.{point_of_parts}
-use Rattle.bt_parser.specs.Points.{is_colon}
 use Rattle.bt_parser.proofs.Parts.{fourth_part}
 use Rattle.bt_parser.proofs.attach.attach_of.Goals as goal
 

@@ -1,4 +1,4 @@
-use Rattle.std.proofs.Common.{arith, ◌≡◌, ◌<◌, ◌≤◌, length}
+use Rattle.std.proofs.Common.{arith}
 use Rattle.bt_parser.proofs.Parts.{cut_none, cut_some}
 use Rattle.bt_parser.proofs.attach.cut.Goals as goal
 

@@ -1,4 +1,4 @@
-use Rattle.std.proofs.Common.{◌≡◌, ℕ, ◌+◌, ◌*◌, ◌<◌, ◌≤◌, length}
+use Rattle.std.proofs.Common.{◌≡◌, ◌+◌, ◌*◌, ◌<◌, ◌≤◌, length}
 use Rattle.bt_parser.specs.Form.{Body}
 use Rattle.bt_parser.specs.Reading.{reads}
 use Rattle.bt_parser.specs.Statements.{arms_on, body_on, branches_by}

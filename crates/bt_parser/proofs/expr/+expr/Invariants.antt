@@ -1,4 +1,4 @@
-use Rattle.std.proofs.Common.{◌≡◌, ℕ, ◌+◌, ◌-◌, ◌*◌, ◌<◌, ◌≤◌, length}
+use Rattle.std.proofs.Common.{◌≡◌, ◌+◌, ◌*◌, ◌<◌, length}
 use Rattle.bt_parser.specs.Form.{Level}
 use Rattle.bt_parser.specs.Classes.{tier_number}
 use Rattle.bt_parser.specs.Reading.{reads}

@@ -1,4 +1,4 @@
-use Rattle.std.proofs.Common.{arith, ◌≡◌, ◌∙◌, ◌+◌, ◌≤◌, ◌<◌, ◌∷◌, drop}
+use Rattle.std.proofs.Common.{arith, ◌≡◌, ◌∙◌, ◌+◌, ◌≤◌, ◌∷◌, drop}
 use Rattle.std.proofs.lemmas.Grind.{common_steps}
 use Rattle.bt_parser.specs.Levels.{levels_of}
 use Rattle.bt_parser.proofs.DeepFrom.{stop_at, go_on}

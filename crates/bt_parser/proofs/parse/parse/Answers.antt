@@ -1,4 +1,4 @@
-use Rattle.std.proofs.Common.{arith, ◌≡◌, ◌∙◌, ◌∷◌, [], ◌+◌, None, Some, sym, take}
+use Rattle.std.proofs.Common.{arith, ◌≡◌, ◌∷◌, [], ◌+◌, None, Some, take}
 use Rattle.std.proofs.lemmas.Grind.{common_steps}
 use Rattle.bt_parser.specs.Levels.{deep_from}
 use Rattle.bt_parser.specs.Tokens.{items}

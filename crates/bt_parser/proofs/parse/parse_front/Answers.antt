@@ -1,6 +1,6 @@
-use Rattle.std.proofs.Common.{arith, ◌≡◌, ◌+◌, ◌-◌, ◌≤◌, length, subst}
+use Rattle.std.proofs.Common.{arith, ◌-◌, ◌≤◌, length, subst}
 use Rattle.bt_parser.specs.Outcomes.{Answers, Gives}
-use Rattle.bt_parser.proofs.Parsed.{err_of, ok_of}
+use Rattle.bt_parser.proofs.Parsed.{err_of}
 use Rattle.bt_parser.proofs.parse.parse_front.Goals as goal
 
 pub returns-clause-err : goal.returns-clause-err
