@@ -16,7 +16,7 @@ use Rattle.bt_top.specs.Refusals.{status_of, refusal_of}
 use Rattle.bt_lexer.specs.declared.line.LineColumn.{LineColumn}
 use Rattle.bt_ast.specs.declared.probe.Script.{Script as Tree}
 use Rattle.bt_top.specs.declared.refusal.ScriptFault.{ScriptFault}
-use Rattle.bt_top.specs.Script.{HasTree, CountsFormat}
+use Rattle.bt_top.specs.Script.{CountsFormat}
 use Rattle.bt_top.specs.Serve.{AreSized, HasOneCpu, IsScriptFault, IsDue, OnBoth, MayCome, IsFault, ComesIfDue, recording_refusal, HasWork, IsCount}
 use Rattle.bt_top.proofs.EventRuns.{six_a_step}
 use Rattle.bt_top.proofs.Scripts.{IsReadTree, is_told}

@@ -20,7 +20,7 @@ use Rattle.bt_top.specs.declared.refusal.ScriptFault.{ScriptFault}
 use Rattle.bt_top.specs.declared.refusal.ScriptFault.TheVariants.{BadCharacter, OpenString, OpenComment, NumberTooLarge, BadEscape, StringTooLong, Syntax, TooDeep, TooManyProbes}
 use Rattle.bt_top.specs.declared.refusal.Refusal.{Refusal}
 use Rattle.bt_top.specs.declared.refusal.Refusal.TheVariants.{BadScript, Memory}
-use Rattle.bt_top.specs.Script.{place_at, place_of, lexical_refusal, parse_refusal, IsLexicalFault, IsParseFault, HasTree, EventName, IsFormatOf, event_of_tree, CountsFormat}
+use Rattle.bt_top.specs.Script.{place_at, place_of, lexical_refusal, parse_refusal, HasTree, EventName, IsFormatOf, event_of_tree, CountsFormat}
 use Rattle.bt_top.specs.Serve.{IsScriptFault}
 
 -- what reading the text answered: its tree, or its first fault, or want of memory

@@ -22,7 +22,6 @@ use Rattle.bt_parser.specs.declared.error.ParseError.{ParseError}
 use Rattle.bt_parser.specs.declared.error.ParseError.TheVariants as parsing
 use Rattle.bt_parser.specs.Refusals.{IsAccepted as IsTree, IsRefusal}
 use Rattle.bt_parser.specs.Tokens.{items}
-use Rattle.bt_top.specs.declared.refusal.ScriptFault.{ScriptFault}
 use Rattle.bt_top.specs.declared.refusal.ScriptFault.TheVariants.{BadCharacter, OpenString, OpenComment, NumberTooLarge, BadEscape, StringTooLong, Syntax, TooDeep, TooManyProbes}
 use Rattle.bt_top.specs.declared.refusal.Refusal.{Refusal}
 use Rattle.bt_top.specs.declared.refusal.Refusal.TheVariants.{BadScript, Memory}

@@ -1,5 +1,5 @@
 use Rattle.std.proofs.Common.{arith}
-use Rattle.bt_top.proofs.Due.{bytes_refused, more_cpus, script_refused, other_script, nothing_refused, refused_bytes, refused_script}
+use Rattle.bt_top.proofs.Due.{bytes_refused, more_cpus, script_refused, other_script, nothing_refused, refused_bytes}
 use Rattle.bt_top.proofs.judge.judge.Goals as goal
 
 pub returns-in-Err-clause-refused : goal.returns-in-Err-clause-refused
