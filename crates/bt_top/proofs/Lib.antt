@@ -1,3 +1,4 @@
+pub mod EarlyTrees
 pub mod Scripts
 pub mod Counts
 pub mod EventRuns

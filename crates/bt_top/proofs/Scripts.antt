@@ -20,7 +20,9 @@ use Rattle.bt_top.specs.declared.refusal.ScriptFault.{ScriptFault}
 use Rattle.bt_top.specs.declared.refusal.ScriptFault.TheVariants.{BadCharacter, OpenString, OpenComment, NumberTooLarge, BadEscape, StringTooLong, Syntax, TooDeep, TooManyProbes}
 use Rattle.bt_top.specs.declared.refusal.Refusal.{Refusal}
 use Rattle.bt_top.specs.declared.refusal.Refusal.TheVariants.{BadScript, Memory}
-use Rattle.bt_top.specs.Script.{place_at, place_of, lexical_refusal, parse_refusal, HasTree, EventName, IsFormatOf, event_of_tree, CountsFormat}
+use Rattle.bt_top.specs.Script.{place_at, place_of, lexical_refusal, parse_refusal, HasTree, EventName, IsFormatOf, CountsFormat}
+use Rattle.bt_top.specs.Early.{event_of_tree}
+use Rattle.bt_top.proofs.EarlyTrees.{is_early, is_event}
 use Rattle.bt_top.specs.Serve.{IsScriptFault}
 
 -- what reading the text answered: its tree, or its first fault, or want of memory
@@ -169,10 +171,10 @@ none_at_all event formats place past below k of =
 -- ---- the format that a tree counts
 
 pub not_early : (tree : Tree) (formats : List Format) → event_of_tree tree ≡ None → (place : ℕ) → CountsFormat tree formats place → ⊥
-not_early tree formats none place counts = let e = counts.early in cc
+not_early tree formats none place counts = let e = is_event tree counts.event counts.early in cc
 
 counts_none : (tree : Tree) (event : EventName) (formats : List Format) → event_of_tree tree ≡ Some event → ((place : ℕ) → IsFormatOf event formats place → ⊥) → (place : ℕ) → CountsFormat tree formats place → ⊥
-counts_none tree event formats is none place counts = none place (subst (λ (x : EventName). IsFormatOf x formats place) (same counts.event (sym counts.early ∙ is)) counts.of)
+counts_none tree event formats is none place counts = none place (subst (λ (x : EventName). IsFormatOf x formats place) (same counts.event (sym (is_event tree counts.event counts.early) ∙ is)) counts.of)
   where
     same : (other : EventName) → Some other ≡ Some event → other ≡ event
     same other e = cc
@@ -181,4 +183,4 @@ pub counted : (tree : Tree) (event : EventName) (formats : List Format) (found :
     → MatchOption found ((place : ℕ) → IsFormatOf event formats place → ⊥) (λ place. IsFormatOf event formats place)
     → MatchOption found ((place : ℕ) → CountsFormat tree formats place → ⊥) (λ place. CountsFormat tree formats place)
 counted tree event formats None is none = counts_none tree event formats is none
-counted tree event formats (Some place) is of = record { event = event; early = is; of = of }
+counted tree event formats (Some place) is of = record { event = event; early = is_early tree event is; of = of }

@@ -1,5 +1,6 @@
 pub mod Words
 pub mod Script
+pub mod Early
 pub mod Code
 pub mod Runs
 pub mod Count

@@ -1,5 +1,5 @@
 -- What a script is, and the scripts that run so far: they count the events of one of the recording's formats.
-use Rattle.std.specs.Prelude.{◌≡◌, ℕ, Bool, true, false, ◌&&◌, ◌==◌, not, bytes_eq, List, [], ◌∷◌, codes, take, length, slice_get, Option, Some, None, if◌then◌else◌}
+use Rattle.std.specs.Prelude.{◌≡◌, ℕ, Bool, false, ◌==◌, List, [], ◌∷◌, codes, take, length, slice_get, Option, Some, None}
 use Rattle.std.specs.List.{list_any}
 use Rattle.tracefs_format.specs.declared.format.Format.{Format}
 use Rattle.bt_lexer.specs.declared.error.LexError.{LexError}
@@ -8,15 +8,14 @@ use Rattle.bt_lexer.specs.declared.line.LineColumn.{LineColumn}
 use Rattle.bt_lexer.specs.declared.token.Token.{Token}
 use Rattle.bt_lexer.specs.Places.{line_behind, column_behind}
 use Rattle.bt_lexer.specs.Tokens.{IsTokensOf, IsFirstFault}
+use Rattle.bt_ast.specs.declared.place.Place.{Place}
 use Rattle.bt_ast.specs.declared.expr.MapRef.{MapRef, out-MapRef}
-use Rattle.bt_ast.specs.declared.probe.Point.{Point}
 use Rattle.bt_ast.specs.declared.probe.Point.TheVariants.{Tracepoint}
 use Rattle.bt_ast.specs.declared.probe.Probe.{Probe}
 use Rattle.bt_ast.specs.declared.probe.Script.{Script as Tree}
 use Rattle.bt_ast.specs.declared.stmt.AggCall.TheVariants.{Count}
 use Rattle.bt_ast.specs.declared.stmt.Block.{out-Block}
 use Rattle.bt_ast.specs.declared.stmt.Stmt.{Stmt, out-Stmt}
-use Rattle.bt_ast.specs.declared.stmt.StmtKind.{StmtKind}
 use Rattle.bt_ast.specs.declared.stmt.StmtKind.TheVariants.{SetAgg}
 use Rattle.bt_parser.specs.declared.error.ParseError.{ParseError}
 use Rattle.bt_parser.specs.declared.error.ParseError.TheVariants as parsing
@@ -84,51 +83,26 @@ pub record EventName : Type 0 where
 abbrev pub has_star : List ℕ → Bool
 has_star bytes = list_any (λ b. b == 42) bytes
 
--- a name without `*`
-abbrev pub plain_name : List ℕ → List ℕ → Option EventName
-plain_name system name = if not (has_star system) && not (has_star name) then Some (record { system = system; name = name }) else None
+-- a probe on one tracepoint without `*`, which names this event, with no predicate and the one statement `@ = count()`
+pub record IsEarlyProbe (probe : Probe) (event : EventName) : Type 0 where
+  pub at : Place
+  pub point : probe.points ≡ Tracepoint event.system event.name at ∷ []
+  pub one_system : has_star event.system ≡ false
+  pub one_name : has_star event.name ≡ false
+  pub no_predicate : probe.predicate ≡ None
+  pub stmt : Stmt
+  pub only : (out-Block probe.block).stmts ≡ stmt ∷ []
+  pub map : MapRef
+  pub word : Place
+  pub sets : (out-Stmt stmt).kind ≡ SetAgg map Count word
+  pub named : (out-MapRef map).name ≡ codes "@"
+  pub no_keys : (out-MapRef map).keys ≡ []
 
--- the event of one tracepoint without `*`
-abbrev pub event_of_points : List Point → Option EventName
-event_of_points [] = None
-event_of_points (Tracepoint system name place ∷ []) = plain_name system name
-event_of_points (point ∷ points) = None
-
-abbrev pub is_none : {A : Type 0} → List A → Bool
-is_none [] = true
-is_none (a ∷ more) = false
-
--- the map `@`, without keys
-abbrev pub is_only_map : MapRef → Bool
-is_only_map map = bytes_eq (out-MapRef map).name (codes "@") && is_none (out-MapRef map).keys
-
--- `@ = count()`
-abbrev pub is_count : StmtKind → Bool
-is_count (SetAgg map Count place) = is_only_map map
-is_count _ = false
-
--- `@ = count()` alone
-abbrev pub are_count : List Stmt → Bool
-are_count [] = false
-are_count (stmt ∷ []) = is_count (out-Stmt stmt).kind
-are_count (stmt ∷ other ∷ stmts) = false
-
--- the event that an early probe counts: one tracepoint without `*`, no predicate, and the one statement `@ = count()`
-abbrev pub event_of_probe : Probe → Option EventName
-event_of_probe probe = if are_count (out-Block probe.block).stmts then event_where probe.predicate probe.points else None
-  where
-    event_where : {P : Type 0} → Option P → List Point → Option EventName
-    event_where None points = event_of_points points
-    event_where (Some predicate) points = None
-
--- the event that an early tree counts: it is of one early probe
-abbrev pub event_of_tree : Tree → Option EventName
-event_of_tree tree = event_of_probes tree.probes
-  where
-    event_of_probes : List Probe → Option EventName
-    event_of_probes [] = None
-    event_of_probes (probe ∷ []) = event_of_probe probe
-    event_of_probes (probe ∷ other ∷ probes) = None
+-- a tree of one such probe
+pub record IsEarlyTree (tree : Tree) (event : EventName) : Type 0 where
+  pub probe : Probe
+  pub one : tree.probes ≡ probe ∷ []
+  pub early : IsEarlyProbe probe event
 
 -- the format at this place is that of the event
 pub record IsFormatOf (event : EventName) (formats : List Format) (place : ℕ) : Type 0 where
@@ -140,5 +114,5 @@ pub record IsFormatOf (event : EventName) (formats : List Format) (place : ℕ) 
 -- the tree is early, and counts the events of the format at this place
 pub record CountsFormat (tree : Tree) (formats : List Format) (place : ℕ) : Type 0 where
   pub event : EventName
-  pub early : event_of_tree tree ≡ Some event
+  pub early : IsEarlyTree tree event
   pub of : IsFormatOf event formats place

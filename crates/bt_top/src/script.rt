@@ -4,7 +4,8 @@ ghost use Rattle.bt_ast.specs.declared.probe.Script.{Script as Tree};
 ghost use Rattle.bt_lexer.specs.Places.{offset_of};
 ghost use Rattle.bt_lexer.specs.declared.line.LineColumn.{LineColumn};
 ghost use Rattle.bt_top.specs.declared.refusal.ScriptFault.{ScriptFault};
-ghost use Rattle.bt_top.specs.Script.{place_of, place_at, lexical_refusal, parse_refusal, HasTree, has_star, IsFormatOf, event_of_points, is_count, are_count, event_of_probe, event_of_tree, CountsFormat};
+ghost use Rattle.bt_top.specs.Script.{place_of, place_at, lexical_refusal, parse_refusal, HasTree, has_star, IsFormatOf, CountsFormat};
+ghost use Rattle.bt_top.specs.Early.{event_of_points, is_count, are_count, event_of_probe, event_of_tree};
 ghost use Rattle.bt_top.specs.Serve.{IsScriptFault};
 
 use crate::refusal::{Refusal, ScriptFault};
