@@ -8,8 +8,6 @@ mod port;
 pub mod refusal;
 pub mod report;
 mod script;
-#[cfg(test)]
-mod script_tests;
 pub mod serve;
 mod tell;
 #[cfg(test)]

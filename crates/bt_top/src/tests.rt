@@ -2,6 +2,7 @@
 ghost use Rattle.std.specs.Prelude.{◌-◌, ◌<◌, ◌^◌, None};
 
 mod recordings;
+mod scripts;
 
 use crate::port::CountPort;
 use crate::serve::serve;

@@ -1,5 +1,5 @@
 // What is told of scripts: each fault with its place, and which trees run so far.
-use crate::made::{COUNT_E, E, PAYLOAD, recording, run, three_entries};
+use super::{COUNT_E, E, PAYLOAD, recording, run, three_entries};
 use bt_core::memory::Memory;
 use std::alloc::Global;
 use std::test::Fail;
@@ -81,17 +81,78 @@ fn a_text_that_breaks_off_is_told_at_its_end(rt: HostRuntime) -> Result<(), Fail
     Ok(())
 }
 
+/// Whether a text with so many parentheses behind it is refused with this line.
+fn is_nested(alloc: Global, front: &[u8], count: usize, line: &[u8]) -> Result<bool, Memory> {
+    let text = around(alloc, front, b'(', count, b"")?;
+    is_refused(alloc, text.as_slice(), line)
+}
+
 #[test]
-fn depth_and_the_number_of_probes_are_told(rt: HostRuntime) -> Result<(), Fail> {
+fn operators_are_nested_and_dots_and_colons_are_not(rt: HostRuntime) -> Result<(), Fail> {
     let alloc = rt.alloc();
-    let deep = around(alloc, b"BEGIN { @x = ", b'(', 63, b"")?;
-    assert!(rt; is_refused(alloc, deep.as_slice(), b"s.bt:1:76: P2 too deep\n")?);
-    let mut many = Vec::new(alloc);
-    for _ in 0..65 {
-        many.extend_from_slice(b"BEGIN { }\n")
-            .map_err(Memory::from)?;
+    assert!(rt; is_nested(alloc, b"BEGIN { @x = ", 63, b"s.bt:1:76: P2 too deep\n")?);
+    assert!(rt; is_nested(alloc, b"BEGIN { @x = ", 62, b"s.bt:1:76: P1 syntax\n")?);
+    assert!(rt; is_nested(alloc, b"BEGIN / ", 64, b"s.bt:1:72: P2 too deep\n")?);
+    assert!(rt; is_nested(alloc, b"BEGIN / ", 63, b"s.bt:1:72: P1 syntax\n")?);
+    assert!(rt;
+        is_nested(
+            alloc,
+            b"BEGIN { @x = 1 ? 2 : ",
+            62,
+            b"s.bt:1:83: P2 too deep\n"
+        )?
+    );
+    assert!(rt;
+        is_nested(
+            alloc,
+            b"BEGIN { @x = 1 ? 2 : ",
+            61,
+            b"s.bt:1:83: P1 syntax\n"
+        )?
+    );
+    assert!(rt;
+        is_nested(
+            alloc,
+            b"BEGIN { @x = args.v + ",
+            61,
+            b"s.bt:1:84: P1 syntax\n"
+        )?
+    );
+    assert!(rt;
+        is_nested(
+            alloc,
+            b"BEGIN { @x = ++@y + ",
+            61,
+            b"s.bt:1:81: P2 too deep\n"
+        )?
+    );
+    Ok(())
+}
+
+/// So many probes without a blank.
+fn probes(alloc: Global, count: usize) -> Result<Vec<u8>, Memory> {
+    let mut text = Vec::new(alloc);
+    for _ in 0..count {
+        text.extend_from_slice(b"BEGIN{}")?;
     }
-    assert!(rt; is_refused(alloc, many.as_slice(), b"s.bt:65:1: P3 too many probes\n")?);
+    Ok(text)
+}
+
+#[test]
+fn the_65th_probe_is_told(rt: HostRuntime) -> Result<(), Fail> {
+    let alloc = rt.alloc();
+    let many = probes(alloc, 65)?;
+    assert!(rt; is_refused(alloc, many.as_slice(), b"s.bt:1:449: P3 too many probes\n")?);
+    let most = probes(alloc, 64)?;
+    assert!(rt; is_early(alloc, most.as_slice())?);
+    Ok(())
+}
+
+#[test]
+fn a_string_may_have_1024_bytes(rt: HostRuntime) -> Result<(), Fail> {
+    let alloc = rt.alloc();
+    let most = around(alloc, b"BEGIN { printf(\"", b'a', 1024, b"\"); }")?;
+    assert!(rt; is_early(alloc, most.as_slice())?);
     Ok(())
 }
 
