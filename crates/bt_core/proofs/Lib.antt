@@ -1,1 +1,2 @@
+pub mod InteractionLaws
 pub mod TextLemmas

@@ -1,2 +1,3 @@
 pub mod formers
+pub mod Interaction
 pub mod Text

@@ -11,6 +11,7 @@ pub mod limits;
 pub mod map;
 pub mod memory;
 pub mod operator;
+pub mod place;
 pub mod step;
 #[cfg(test)]
 mod tests;

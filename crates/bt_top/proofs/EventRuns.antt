@@ -13,7 +13,7 @@ use Rattle.bt_core.specs.declared.step.Op.{Op}
 use Rattle.bt_core.specs.declared.step.Op.TheVariants.{Add}
 use Rattle.bt_core.specs.declared.step.Reply.{Reply}
 use Rattle.bt_core.specs.declared.step.Reply.TheVariants.{Done, Value, Pairs, Aggs, Last, Stopped}
-use Rattle.interaction.specs.Interaction.{Call, call_of, Interaction, Ended, Asks, Runs, Whole}
+use Rattle.bt_core.specs.Interaction.{Call, call_of, Interaction, Ended, Asks, Runs, Whole}
 use Rattle.bpf_insn.specs.declared.insn.Insn.{Insn}
 use Rattle.bpf_insn.specs.declared.trap.Trap.{Trap}
 use Rattle.bpf_insn.specs.declared.trap.Trap.TheVariants.{BadJump, BadAddress, UnsetRegister, BadHelper, NoFuel, Memory}

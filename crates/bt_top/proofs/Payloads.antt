@@ -11,7 +11,7 @@ use Rattle.rec_format.specs.declared.recording.CpuTrack.{CpuTrack}
 use Rattle.rec_format.specs.declared.recording.Event.{Event}
 use Rattle.rec_format.specs.Recordings.{IsValidRecording, IsEvent, AreTracks}
 use Rattle.bt_core.specs.declared.step.Step.{Step}
-use Rattle.interaction.specs.Interaction.{Whole}
+use Rattle.bt_core.specs.Interaction.{Whole}
 use Rattle.bt_top.specs.Code.{are_stamped}
 use Rattle.bt_top.specs.Runs.{event_run, IsSumOfRuns}
 use Rattle.bt_top.specs.Count.{all_events, payloads_at, CountsTo}

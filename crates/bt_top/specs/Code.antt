@@ -6,7 +6,7 @@ use Rattle.bt_core.specs.declared.step.ObjectId.TheVariants.{Cpu}
 use Rattle.bt_core.specs.declared.step.Op.TheVariants.{Add as AddOp}
 use Rattle.bt_core.specs.declared.step.Reply.{Reply}
 use Rattle.bt_core.specs.declared.step.Reply.TheVariants.{Done, Value, Pairs, Aggs, Last, Stopped}
-use Rattle.interaction.specs.Interaction.{Interaction, Ended, and_then, ask}
+use Rattle.bt_core.specs.Interaction.{Interaction, Ended, and_then, ask}
 use Rattle.bpf_insn.specs.declared.insn.AluOp.TheVariants.{Add, Mov}
 use Rattle.bpf_insn.specs.declared.insn.Insn.{Insn}
 use Rattle.bpf_insn.specs.declared.insn.Insn.TheVariants.{Alu, Call, Exit}

@@ -2,7 +2,7 @@
 use Rattle.std.specs.Prelude.{◌≡◌, ℕ, List, [], ◌∷◌, replicate, sum_by, Result, Ok}
 use Rattle.std.specs.List.{flat_map}
 use Rattle.bt_core.specs.declared.step.Step.{Step}
-use Rattle.interaction.specs.Interaction.{Interaction, Runs}
+use Rattle.bt_core.specs.Interaction.{Interaction, Runs}
 use Rattle.bpf_insn.specs.declared.trap.Trap.{Trap}
 use Rattle.bpf_insn.specs.Machine.{entry_state}
 use Rattle.bpf_interp.specs.declared.machine.Ended.{Ended}

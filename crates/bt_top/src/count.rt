@@ -1,6 +1,6 @@
 // Counting the events of a recording.
 ghost use Rattle.std.specs.Prelude.{◌≡◌, ◌<◌, ◌≤◌, ◌^◌, ℕ, Some, Ok, IfOk, length, slice_get};
-ghost use Rattle.interaction.specs.Interaction.{Whole};
+ghost use Rattle.bt_core.specs.Interaction.{Whole};
 ghost use Rattle.bt_top.specs.Code.{counting_code};
 ghost use Rattle.bt_top.specs.Runs.{event_run, IsSumOfRuns};
 ghost use Rattle.rec_format.specs.declared.recording.Event.{Event};

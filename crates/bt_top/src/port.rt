@@ -2,7 +2,7 @@
 ghost use Rattle.std.specs.Prelude.{◌≡◌, [], IsTrue, OnOk, OnErr};
 ghost use Rattle.bt_core.specs.declared.step.ObjectId.TheVariants.{Cpu};
 ghost use Rattle.bt_core.specs.declared.step.Op.TheVariants.{Add};
-ghost use Rattle.interaction.specs.Interaction.{MakesStep};
+ghost use Rattle.bt_core.specs.Interaction.{MakesStep};
 ghost use Rattle.bt_top.specs.Code.{are_stamped};
 
 use bpf_interp::ports::{PortFault, Ports};
