@@ -1,3 +1,5 @@
+pub mod Bytes
 pub mod formers
 pub mod Interaction
+pub mod Overwritten
 pub mod Text
