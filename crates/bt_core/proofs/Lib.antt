@@ -1,2 +1,3 @@
 pub mod InteractionLaws
+pub mod OrderLaws
 pub mod TextLemmas

@@ -12,6 +12,7 @@ pub mod limits;
 pub mod map;
 pub mod memory;
 pub mod operator;
+pub mod order;
 pub mod place;
 pub mod step;
 #[cfg(test)]
