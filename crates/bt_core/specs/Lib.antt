@@ -1,6 +1,9 @@
 pub mod Bytes
 pub mod formers
 pub mod Interaction
+pub mod Kinds
 pub mod Order
 pub mod Overwritten
+pub mod Ports
+pub mod Steps
 pub mod Text
