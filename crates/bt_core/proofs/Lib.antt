@@ -1,3 +1,4 @@
+pub mod ArithmeticLaws
 pub mod InteractionLaws
 pub mod OrderLaws
 pub mod StepLists

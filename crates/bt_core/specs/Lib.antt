@@ -1,3 +1,4 @@
+pub mod Arithmetic
 pub mod Bytes
 pub mod formers
 pub mod Interaction

@@ -2,6 +2,7 @@
 #![tactic(auto)]
 
 pub mod agg;
+pub mod arithmetic;
 pub mod boxed;
 pub mod bytes;
 pub mod context;
