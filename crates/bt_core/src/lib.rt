@@ -6,6 +6,7 @@ pub mod arithmetic;
 pub mod boxed;
 pub mod bytes;
 pub mod context;
+pub mod encoding;
 pub mod item;
 pub mod items;
 pub mod key;
