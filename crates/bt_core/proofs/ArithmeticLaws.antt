@@ -1,5 +1,5 @@
 -- What machine words give is what numbers of any size give, taken modulo 2^64.
-use Rattle.std.proofs.Common.{div-le_self, ◌≡◌, ℕ, zero, suc, ◌-◌, ◌*◌, ◌/◌, ◌%◌, ◌^◌, ◌<◌, ◌≤◌, ℤ, pos, negsuc, ◌*ℤ◌, neg_ℤ, FitsSigned, w64, to_z, of_z, Bool, true, false, sym, refl, ap, ◌∙◌, subst, arith}
+use Rattle.std.proofs.Common.{div-le_self, ◌≡◌, ℕ, zero, suc, ◌-◌, ◌/◌, ◌%◌, ◌^◌, ◌<◌, ◌≤◌, ℤ, pos, negsuc, ◌*ℤ◌, neg_ℤ, FitsSigned, w64, to_z, of_z, Bool, true, false, sym, refl, ap, ◌∙◌, arith}
 use Rattle.std.specs.Prelude.{unsigned_abs, int_div, if◌then◌else◌}
 use Rattle.std.specs.Cmp.{signed_Decides}
 use Rattle.std.specs.Int.{int_wrap, cast_signed, cast_unsigned, int_shl, int_wrapping_div}

@@ -1,11 +1,11 @@
 -- The bytes of keys: built part by part, summed, and told apart.
-use Rattle.std.proofs.Common.{◌≡◌, ◌≢◌, ℕ, zero, suc, ◌+◌, ◌-◌, ◌*◌, ◌<◌, ◌≤◌, List, [], ◌∷◌, ◌++◌, length, take, drop, replicate, get_or, Bool, true, false, cond, FitsSigned, w64, ℤ, pos, negsuc, sym, refl, ap, ◌∙◌, subst, arith, append_assoc, append-nil, length-append, ◌^◌, take_all}
-use Rattle.std.specs.Prelude.{sum, All}
+use Rattle.std.proofs.Common.{◌≡◌, ◌≢◌, ℕ, zero, suc, ◌+◌, ◌-◌, ◌<◌, ◌≤◌, List, [], ◌∷◌, ◌++◌, length, take, drop, replicate, get_or, Bool, true, cond, FitsSigned, w64, ℤ, pos, negsuc, sym, refl, ap, ◌∙◌, subst, arith, append_assoc, append-nil, length-append, ◌^◌, take_all}
+use Rattle.std.specs.Prelude.{sum}
 use Rattle.std.specs.List.{AllByRecursion, take_while}
-use Rattle.std.specs.Int.{to_le_bytes, from_le_bytes, cast_signed, cast_unsigned}
+use Rattle.std.specs.Int.{from_le_bytes, cast_signed, cast_unsigned}
 use Rattle.std.proofs.lemmas.Int.{ints, to_z-of_z}
 use Rattle.std.proofs.lemmas.List.{length-replicate, drop-replicate, take_more, append_cancel_left}
-use Rattle.std.proofs.lemmas.List.Sums.{sum_by-append, sum_by-le, take_while-cons}
+use Rattle.std.proofs.lemmas.List.Sums.{sum_by-append, take_while-cons}
 use Rattle.std.proofs.lemmas.Nat.{from_le_bytes-to_le_bytes_8}
 use Rattle.std.proofs.Math.Seq.{take-append_seam}
 use Rattle.bt_core.specs.declared.map.Shape.{Shape}
@@ -30,6 +30,16 @@ key_sum_more key i d h = ap sum (key_bytes_more key i d h) ∙ sum_by-append (λ
 sum-zeros : (n : ℕ) → sum (replicate n 0) ≡ 0
 sum-zeros zero = refl
 sum-zeros (suc n) = sum-zeros n
+
+fits-append : (xs : List Value) (v : Value) → AllByRecursion FitsValue xs → FitsValue v → AllByRecursion FitsValue (xs ++ v ∷ [])
+fits-append [] v all one = (one, tt)
+fits-append (x ∷ xs) v all one = (all.0, fits-append xs v all.1 one)
+
+-- one part more fits
+pub key_fits_more : (key : List Value) (i : ℕ) (v : Value) → i < length key → v ≡ get_or key i v → AllByRecursion FitsValue (take i key) → FitsValue v → AllByRecursion FitsValue (take (i + 1) key)
+key_fits_more key i v h is all one =
+    let more : take i key ++ v ∷ [] ≡ take (i + 1) key = ap (λ w. take i key ++ w ∷ []) is ∙ sym (take_more key i v h) in
+    subst (λ l. AllByRecursion FitsValue l) more (fits-append (take i key) v all one)
 
 -- a part's bytes were put behind those of the parts before it
 pub key_pushed : (key : List Value) (i : ℕ) (v : Value) (old new : List ℕ) → i < length key → v ≡ get_or key i v → old ≡ key_bytes (take i key) → new ≡ old ++ value_bytes v → new ≡ key_bytes (take (i + 1) key)

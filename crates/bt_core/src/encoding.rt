@@ -18,7 +18,8 @@ const TEXT_BYTES: usize = 64;
 /// The bytes of a key: those of its parts in their order, eight of a number, the lowest first, and
 /// 64 of a string, with zeros behind it.
 pub fn encode_key(alloc: Global, key: &Key) -> Result<Vec<u8>, Memory>
-    ensures { IfOk result (λ bytes. bytes.items ≡ key_bytes key.now) }
+    ensures bytes { IfOk result (λ bytes. bytes.items ≡ key_bytes key.now) }
+    ensures fits { OnOk result (AllByRecursion FitsValue key.now) }
 {
     let parts = key.parts();
     let mut bytes = Vec::with_capacity(alloc, parts.len() * TEXT_BYTES)?;
@@ -47,7 +48,8 @@ pub fn bytes_tell_keys()
 }
 
 fn push_value(bytes: &mut Vec<u8>, value: &Value) -> Result<(), Memory>
-    ensures { OnOk result (bytes.new.items ≡ bytes.old.items ++ value_bytes value.now) }
+    ensures bytes { OnOk result (bytes.new.items ≡ bytes.old.items ++ value_bytes value.now) }
+    ensures fits { OnOk result (FitsValue value.now) }
 {
     match value {
         Value::Int(number) => bytes.extend_from_slice(&number.to_le_bytes())?,
