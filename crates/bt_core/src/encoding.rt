@@ -44,8 +44,7 @@ pub fn part_of(key: &Key) -> u32
 /// Keys of one shape whose bytes are equal are equal.
 pub fn bytes_tell_keys()
     ensures { (shapes : List Shape) (j k : List Part) → HasShape shapes j → HasShape shapes k → AllByRecursion FitsValue j → AllByRecursion FitsValue k → key_bytes j ≡ key_bytes k → j ≡ k }
-{
-}
+{}
 
 fn push_value(bytes: &mut Vec<u8>, value: &Value) -> Result<(), Memory>
     ensures bytes { OnOk result (bytes.new.items ≡ bytes.old.items ++ value_bytes value.now) }
