@@ -7,11 +7,11 @@ use Rattle.std.proofs.lemmas.List.Sums.{sum_by-append}
 use Rattle.std.proofs.lemmas.Bool.Decides.{leb_tells}
 use Rattle.bt_parser.specs.declared.nesting.Levels.{Levels}
 use Rattle.bt_lexer.specs.declared.token.Token.{Token}
-use Rattle.bt_parser.specs.Tokens.{class_of, items}
-use Rattle.bt_parser.specs.Form.{Item}
+use Rattle.bt_grammar.specs.Tokens.{class_of, items}
+use Rattle.bt_grammar.specs.Form.{Item}
 use Rattle.bt_parser.specs.Levels.{deep_from, levels_of, IsWeighed}
-use Rattle.bt_parser.specs.Weights.{levels_behind, levels_from, level_weight, weight}
-use Rattle.bt_parser.specs.Refusals.{IsDepthFault, NoDepthFault, deepest_weight}
+use Rattle.bt_grammar.specs.Weights.{levels_behind, levels_from, level_weight, weight}
+use Rattle.bt_grammar.specs.Refusals.{IsDepthFault, NoDepthFault, deepest_weight}
 
 -- a place that is found, and what stands before it
 pub record Deep (i : ℕ) (levels : List ℕ) (ts : List Item) (d : ℕ) : Type 0 where

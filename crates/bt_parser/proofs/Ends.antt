@@ -3,16 +3,16 @@ use Rattle.std.proofs.Common.{◌≡◌, ◌≢◌, ℕ, suc, ◌<◌, ◌≤◌
 use Rattle.bt_lexer.specs.declared.token.Token.{Token}
 use Rattle.bt_ast.specs.declared.probe.Probe.{Probe}
 use Rattle.bt_parser.specs.declared.script.Outcome.TheVariants as outcomes
-use Rattle.bt_parser.specs.Form.{OneProbe}
-use Rattle.bt_parser.specs.Reading.{Done, Refused, and_then, reads}
-use Rattle.bt_parser.specs.Tokens.{items, item}
-use Rattle.bt_parser.specs.Counts.{probes_read}
-use Rattle.bt_parser.specs.Refusals.{most_probes}
-use Rattle.bt_parser.specs.Grammar.{RefusedAt}
+use Rattle.bt_grammar.specs.Form.{OneProbe}
+use Rattle.bt_grammar.specs.Reading.{Done, Refused, and_then, reads}
+use Rattle.bt_grammar.specs.Tokens.{items, item}
+use Rattle.bt_grammar.specs.Counts.{probes_read}
+use Rattle.bt_grammar.specs.Refusals.{most_probes}
+use Rattle.bt_grammar.specs.Grammar.{RefusedAt}
 use Rattle.bt_parser.specs.Outcomes.{Gives, another}
-use Rattle.bt_parser.proofs.Steps.{length-items}
-use Rattle.bt_parser.proofs.Counts.{one_more}
-use Rattle.bt_parser.proofs.Scripts.{whole_end, refused_first, refused_probe, refused_behind, full_at, few_refused, few_behind}
+use Rattle.bt_grammar.proofs.Steps.{length-items}
+use Rattle.bt_grammar.proofs.Counts.{one_more}
+use Rattle.bt_grammar.proofs.Scripts.{whole_end, refused_first, refused_probe, refused_behind, full_at, few_refused, few_behind}
 
 abbrev pub Read : List Token → List Probe → List Token → Type 0
 Read old probes left = probes_read (length probes) (items old) ≡ Done probes (items left)

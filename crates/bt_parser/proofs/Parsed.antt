@@ -5,19 +5,19 @@ use Rattle.std.proofs.lemmas.List.{append-nil, take-append-drop, take_all, lengt
 use Rattle.std.proofs.lemmas.Bool.Decides.{leb_tells}
 use Rattle.bt_lexer.specs.declared.token.Token.{Token}
 use Rattle.bt_ast.specs.declared.probe.Script.{Script}
-use Rattle.bt_parser.specs.declared.error.ParseError.{ParseError}
-use Rattle.bt_parser.specs.declared.error.ParseError.TheVariants.{Syntax, TooDeep, TooMany, Memory}
+use Rattle.bt_grammar.specs.declared.error.ParseError.{ParseError}
+use Rattle.bt_grammar.specs.declared.error.ParseError.TheVariants.{Syntax, TooDeep, TooMany, Memory}
 use Rattle.bt_parser.specs.declared.script.Outcome.{Outcome}
 use Rattle.bt_parser.specs.declared.script.Outcome.TheVariants as outcomes
-use Rattle.bt_parser.specs.Form.{Item}
-use Rattle.bt_parser.specs.Tokens.{items, item}
-use Rattle.bt_parser.specs.Grammar.{Begins, RefusedAt}
+use Rattle.bt_grammar.specs.Form.{Item}
+use Rattle.bt_grammar.specs.Tokens.{items, item}
+use Rattle.bt_grammar.specs.Grammar.{Begins, RefusedAt}
 use Rattle.bt_parser.specs.Levels.{deep_from}
-use Rattle.bt_parser.specs.Refusals.{IsDepthFault, IsCountFault, NoDepthFault, NoCountFault, IsAccepted, IsRefusal}
+use Rattle.bt_grammar.specs.Refusals.{IsDepthFault, IsCountFault, NoDepthFault, NoCountFault, IsAccepted, IsRefusal}
 use Rattle.bt_parser.specs.Outcomes.{Gives, answer_of, IsRight, Answers}
-use Rattle.bt_parser.proofs.Steps.{length-items}
+use Rattle.bt_grammar.proofs.Steps.{length-items}
 use Rattle.bt_parser.proofs.DeepFrom.{some_depth, no_depth}
-use Rattle.bt_parser.proofs.Decide.{accepted, refused_whole, refused_front, too_many, too_deep, begun_end, tree_begins, depth_least, count_begins, count_one, count_place, few_tree}
+use Rattle.bt_grammar.proofs.Decide.{accepted, refused_whole, refused_front, too_many, too_deep, begun_end, tree_begins, depth_least, count_begins, count_one, count_place, few_tree}
 
 items-append : (xs ys : List Token) → items (xs ++ ys) ≡ items xs ++ items ys
 items-append [] ys = refl

@@ -1,11 +1,11 @@
 -- The levels as the code keeps them, and the first token that is too deep.
 use Rattle.std.specs.Prelude.{◌≡◌, ℕ, ◌+◌, Bool, true, false, nat_lt, List, [], ◌∷◌, length, reverse, Option, Some, None, if◌then◌else◌}
 use Rattle.std.specs.List.{sum}
-use Rattle.bt_parser.specs.declared.class.Class.{Class}
-use Rattle.bt_parser.specs.declared.class.Class.TheVariants.{Increment, Decrement, Assign, Question}
+use Rattle.bt_grammar.specs.declared.class.Class.{Class}
+use Rattle.bt_grammar.specs.declared.class.Class.TheVariants.{Increment, Decrement, Assign, Question}
 use Rattle.bt_parser.specs.declared.nesting.Levels.{Levels}
-use Rattle.bt_parser.specs.Form.{Item}
-use Rattle.bt_parser.specs.Weights.{levels_behind, level_weight}
+use Rattle.bt_grammar.specs.Form.{Item}
+use Rattle.bt_grammar.specs.Weights.{levels_behind, level_weight}
 
 abbrev pub levels_of : Levels → List ℕ
 levels_of l = l.inner ∷ reverse l.around.items

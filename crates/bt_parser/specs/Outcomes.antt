@@ -3,16 +3,16 @@ use Rattle.std.specs.Prelude.{◌≡◌, ℕ, ◌+◌, ◌≤◌, Bool, true, na
 use Rattle.bt_lexer.specs.declared.token.Token.{Token}
 use Rattle.bt_ast.specs.declared.probe.Probe.{Probe}
 use Rattle.bt_ast.specs.declared.probe.Script.{Script}
-use Rattle.bt_parser.specs.declared.error.ParseError.{ParseError}
-use Rattle.bt_parser.specs.declared.error.ParseError.TheVariants.{Syntax, TooDeep, TooMany}
+use Rattle.bt_grammar.specs.declared.error.ParseError.{ParseError}
+use Rattle.bt_grammar.specs.declared.error.ParseError.TheVariants.{Syntax, TooDeep, TooMany}
 use Rattle.bt_parser.specs.declared.script.Outcome.{Outcome}
 use Rattle.bt_parser.specs.declared.script.Outcome.TheVariants as outcomes
-use Rattle.bt_parser.specs.Form.{Item}
-use Rattle.bt_parser.specs.Tokens.{items}
-use Rattle.bt_parser.specs.Reading.{Out, Done, Refused, starts}
-use Rattle.bt_parser.specs.Classes.{is_point}
-use Rattle.bt_parser.specs.Grammar.{Tree, RefusedAt}
-use Rattle.bt_parser.specs.Refusals.{IsCountFault, NoCountFault, IsAccepted, IsRefusal, most_probes}
+use Rattle.bt_grammar.specs.Form.{Item}
+use Rattle.bt_grammar.specs.Tokens.{items}
+use Rattle.bt_grammar.specs.Reading.{Out, Done, Refused, starts}
+use Rattle.bt_grammar.specs.Classes.{is_point}
+use Rattle.bt_grammar.specs.Grammar.{Tree, RefusedAt}
+use Rattle.bt_grammar.specs.Refusals.{IsCountFault, NoCountFault, IsAccepted, IsRefusal, most_probes}
 
 -- one probe that was read, or none
 abbrev pub Tells : Out Probe → Option Probe → List Item → Type 0

@@ -1,13 +1,13 @@
 // How deep tokens are nested.
 ghost use Rattle.std.specs.Prelude.{◌≡◌, ◌∷◌, [], ◌≤◌, ◌<◌, IfOk, IfSome, OnOk, length};
 ghost use Rattle.bt_parser.specs.Levels.{IsWeighed, deep_from, is_other_operator, levels_of};
-ghost use Rattle.bt_parser.specs.Tokens.{items};
-ghost use Rattle.bt_parser.specs.Weights.{closed, counted, is_operator, levels_behind, opened, reset};
+ghost use Rattle.bt_grammar.specs.Tokens.{items};
+ghost use Rattle.bt_grammar.specs.Weights.{closed, counted, is_operator, levels_behind, opened, reset};
 
-use crate::class::Class;
 use crate::cursor::class_of;
 use crate::tables::{prefix_of, tier_of, update_of};
 use bt_core::memory::Memory;
+use bt_grammar::class::Class;
 use bt_lexer::token::Token;
 use std::alloc::Global;
 

@@ -1,6 +1,6 @@
 use Rattle.std.proofs.Common.{◌≡◌, ◌≤◌, [], ◌∷◌, drop}
 use Rattle.bt_parser.specs.Levels.{IsWeighed, deep_from, levels_of}
-use Rattle.bt_parser.specs.Tokens.{items}
+use Rattle.bt_grammar.specs.Tokens.{items}
 use Rattle.bt_parser.proofs.nesting.first_too_deep.Given as goal
 
 abbrev pub invariant-loop-i : goal.invariant-loop-i

@@ -1,10 +1,10 @@
 use Rattle.std.proofs.Common.{arith, ◌≡◌, ◌≢◌, ◌++◌, ◌∷◌, [], length, true, false}
 use Rattle.std.proofs.lemmas.Grind.{common_steps}
-use Rattle.bt_parser.specs.Form.{OneProbe}
+use Rattle.bt_grammar.specs.Form.{OneProbe}
 use Rattle.bt_parser.specs.Outcomes.{another}
-use Rattle.bt_parser.specs.Reading.{Done, Refused, reads}
-use Rattle.bt_parser.specs.Refusals.{most_probes}
-use Rattle.bt_parser.specs.Tokens.{items}
+use Rattle.bt_grammar.specs.Reading.{Done, Refused, reads}
+use Rattle.bt_grammar.specs.Refusals.{most_probes}
+use Rattle.bt_grammar.specs.Tokens.{items}
 use Rattle.bt_parser.proofs.Ends.{full, refused_next, refused_short, read_next, whole, refused_left}
 use Rattle.bt_parser.proofs.script.script.Goals as goal
 

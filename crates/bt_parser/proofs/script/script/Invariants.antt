@@ -1,8 +1,8 @@
 use Rattle.std.proofs.Common.{◌≡◌, ◌≤◌, length}
-use Rattle.bt_parser.specs.Counts.{probes_read}
-use Rattle.bt_parser.specs.Reading.{Done}
-use Rattle.bt_parser.specs.Refusals.{most_probes}
-use Rattle.bt_parser.specs.Tokens.{items}
+use Rattle.bt_grammar.specs.Counts.{probes_read}
+use Rattle.bt_grammar.specs.Reading.{Done}
+use Rattle.bt_grammar.specs.Refusals.{most_probes}
+use Rattle.bt_grammar.specs.Tokens.{items}
 use Rattle.bt_parser.proofs.script.script.Given as goal
 
 -- the probes so far stand at the front

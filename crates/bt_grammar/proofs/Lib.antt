@@ -1,0 +1,15 @@
+pub mod AllClasses
+pub mod Sound
+pub mod Complete
+pub mod Viable
+pub mod CheckedFirst
+pub mod CheckedStops
+pub mod CheckedAlive
+pub mod Checked
+pub mod Depth
+pub mod Enough
+pub mod Steps
+pub mod Counts
+pub mod Decide
+pub mod Scripts
+pub mod OneAnswer
