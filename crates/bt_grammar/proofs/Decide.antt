@@ -1,6 +1,7 @@
 -- The first fault of a list of tokens, by what reading it or a front of it answers.
 use Rattle.std.proofs.Common.{◌≡◌, ℕ, zero, suc, ◌+◌, ◌<◌, ◌≤◌, true, false, List, [], ◌∷◌, ◌++◌, length, take, drop, refl, sym, ◌∙◌, ap, subst, inl, inr, ◌⊎◌, append_assoc, arith, length-append}
 use Rattle.std.proofs.lemmas.List.{append-nil, take-append-drop, take-append-le, drop-append-le, take_all, length-take-le, length-drop}
+use Rattle.bt_core.specs.declared.limits.TheConstants.{NESTING, PROBES}
 use Rattle.bt_ast.specs.declared.probe.Probe.{Probe}
 use Rattle.bt_ast.specs.declared.probe.Script.{Script}
 use Rattle.bt_grammar.specs.declared.error.ParseError.{ParseError}
@@ -12,7 +13,7 @@ use Rattle.bt_grammar.proofs.Sound.{DoneBoth, and_then-done}
 use Rattle.bt_grammar.specs.Grammar.{Tree, IsTreeOf, Begins, RefusedAt, whole_at}
 use Rattle.bt_grammar.specs.Counts.{probes_read}
 use Rattle.bt_grammar.specs.Weights.{weight}
-use Rattle.bt_grammar.specs.Refusals.{IsSyntaxFault, IsDepthFault, IsCountFault, NoDepthFault, NoCountFault, Holds, NotAfter, IsRefusal, IsAccepted, token_of, order_of, deepest_weight, most_probes}
+use Rattle.bt_grammar.specs.Refusals.{IsSyntaxFault, IsDepthFault, IsCountFault, NoDepthFault, NoCountFault, Holds, NotAfter, IsRefusal, IsAccepted, token_of, order_of}
 use Rattle.bt_grammar.proofs.Depth.{whole_begins_at, more_at}
 use Rattle.bt_grammar.proofs.Counts.{tree_read, probe_starts}
 
@@ -65,7 +66,7 @@ syntax_cut ts cut after t z n e r en =
     (λ u y more q b. let h : t ≡ u = cc (q) in r.no_further u z more (ap (λ x. x ∷ z) h) b)
     (λ probes w. r.no_further t z (z ++ after) refl (subst Begins is (tree_begins ts probes w)))
 
-less : (a b : ℕ) → (a < b) ⊎ (b ≤ a)
+pub less : (a b : ℕ) → (a < b) ⊎ (b ≤ a)
 less a zero = inr (omega arith)
 less zero (suc b) = inl (omega arith)
 less (suc a) (suc b) = elim (less a b) [ inl h ↦ inl (omega arith) | inr h ↦ inr (omega arith) ]
@@ -83,14 +84,14 @@ syntax_least ts n m f g = elim (less m n) [ inr le ↦ le | inl short ↦ absurd
 -- ---- depth
 
 pub depth_least : (ts : List Item) (n m : ℕ) → IsDepthFault ts n → IsDepthFault ts m → n ≤ m
-depth_least ts n m f g = elim (less m n) [ inr le ↦ le | inl short ↦ (let h : weight (take (m + 1) ts) ≤ deepest_weight = f.first m short in absurd (omega (arith, h, g.deep))) ]
+depth_least ts n m f g = elim (less m n) [ inr le ↦ le | inl short ↦ (let h : weight (take (m + 1) ts) ≤ NESTING = f.first m short in absurd (omega (arith, h, g.deep))) ]
 
 -- ---- the number of probes
 
-count_read : (ts : List Item) (n : ℕ) (f : IsCountFault ts n) → probes_read most_probes ts ≡ Done f.probes (f.next ∷ f.rest)
+count_read : (ts : List Item) (n : ℕ) (f : IsCountFault ts n) → probes_read PROBES ts ≡ Done f.probes (f.next ∷ f.rest)
 count_read ts n f =
     let e : probes_read (length f.probes) (take n ts ++ drop n ts) ≡ Done f.probes (drop n ts) = tree_read (take n ts) f.probes (drop n ts) f.tree in
-    subst (λ z. probes_read most_probes ts ≡ Done f.probes z) f.is
+    subst (λ z. probes_read PROBES ts ≡ Done f.probes z) f.is
     (subst (λ z. probes_read z ts ≡ Done f.probes (drop n ts)) f.full
     (subst (λ z. probes_read (length f.probes) z ≡ Done f.probes (drop n ts)) (take-append-drop n ts) e))
 
@@ -177,11 +178,11 @@ farther (suc k) (suc m) ts ps qs r s e e' short =
     subst Another er (farther k m a.r1 a'.a b'.a a'.r1 b'.r1 a'.front (ap (probes_read m) (sym q) ∙ b'.front) (omega arith))
 
 -- no more than so many probes are read, and no other one begins behind as many as there may be
-pub few : (k : ℕ) (ts : List Item) (probes : List Probe) (r : List Item) → probes_read k ts ≡ Done probes r → k ≤ most_probes
-    → (k < most_probes → Another r → ⊥) → (k ≡ most_probes → starts (λ c _. is_point c) r ≡ false) → (n : ℕ) → IsCountFault ts n → ⊥
-few k ts probes r e bound none_less none_full n f = elim (less k most_probes) [
-  | inl short ↦ none_less short (farther k most_probes ts probes f.probes r (f.next ∷ f.rest) e (count_read ts n f) short)
-  | inr long ↦ (let h : k ≡ most_probes = omega arith in
+pub few : (k : ℕ) (ts : List Item) (probes : List Probe) (r : List Item) → probes_read k ts ≡ Done probes r → k ≤ PROBES
+    → (k < PROBES → Another r → ⊥) → (k ≡ PROBES → starts (λ c _. is_point c) r ≡ false) → (n : ℕ) → IsCountFault ts n → ⊥
+few k ts probes r e bound none_less none_full n f = elim (less k PROBES) [
+  | inl short ↦ none_less short (farther k PROBES ts probes f.probes r (f.next ∷ f.rest) e (count_read ts n f) short)
+  | inr long ↦ (let h : k ≡ PROBES = omega arith in
       let q : Done probes r ≡ Done f.probes (f.next ∷ f.rest) = sym (subst (λ z. probes_read z ts ≡ Done probes r) h e) ∙ count_read ts n f in
       let qr : r ≡ f.next ∷ f.rest = cc (q) in
       let no : starts (λ c _. is_point c) (f.next ∷ f.rest) ≡ false = subst (λ z. starts (λ c _. is_point c) z ≡ false) qr (none_full h) in
@@ -191,7 +192,7 @@ few k ts probes r e bound none_less none_full n f = elim (less k most_probes) [
 none_left : Another [] → ⊥
 none_left a = let h : starts (λ c _. is_point c) [] ≡ true = probe_starts [] a.probe a.rest a.is in cc (h)
 
-pub few_tree : (ts : List Item) (probes : List Probe) → Tree ts probes → length probes ≤ most_probes → (n : ℕ) → IsCountFault ts n → ⊥
+pub few_tree : (ts : List Item) (probes : List Probe) → Tree ts probes → length probes ≤ PROBES → (n : ℕ) → IsCountFault ts n → ⊥
 few_tree ts probes w bound n f =
     let e : probes_read (length probes) ts ≡ Done probes [] = subst (λ z. probes_read (length probes) z ≡ Done probes []) (append-nil ts) (tree_read ts probes [] w) in
     few (length probes) ts probes [] e bound (λ _. none_left) (λ _. refl) n f
@@ -201,7 +202,7 @@ few_tree ts probes w bound n f =
 not_after : (a b : ParseError) → token_of a ≤ token_of b → order_of a ≤ order_of b → NotAfter a b
 not_after a b le order = elim (less (token_of a) (token_of b)) [ inl h ↦ inl h | inr h ↦ inr (omega arith, order) ]
 
-pub accepted : (ts : List Item) (script : Script) → IsTreeOf ts script → length script.probes ≤ most_probes → NoDepthFault ts → IsAccepted ts script
+pub accepted : (ts : List Item) (script : Script) → IsTreeOf ts script → length script.probes ≤ PROBES → NoDepthFault ts → IsAccepted ts script
 accepted ts script w bound shallow = record { tree = w; no_fault = none }
   where
     none : (other : ParseError) → Holds ts other → ⊥

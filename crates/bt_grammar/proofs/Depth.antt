@@ -61,7 +61,7 @@ any_by k n ts a e = let f : Found (sens_of n) (read_at k n) (whole_at k n) ts a 
 abbrev it : Class → Item
 it c = item_of c
 
-abbrev deepest : ℕ
+abbrev pub deepest : ℕ
 deepest = 20
 
 pub any : (n : Part) → Completed (whole_at deepest n) []

@@ -13,3 +13,5 @@ pub mod Counts
 pub mod Decide
 pub mod Scripts
 pub mod OneAnswer
+pub mod Fronts
+pub mod FewProbes

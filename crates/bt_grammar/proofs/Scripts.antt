@@ -1,9 +1,7 @@
 -- What the loop over probes answers.
 use Rattle.std.proofs.Common.{◌≡◌, ℕ, zero, suc, ◌+◌, ◌*◌, ◌<◌, ◌≤◌, Bool, true, false, List, [], ◌∷◌, ◌++◌, length, take, drop, refl, sym, ◌∙◌, ap, subst, arith, length-append}
-use Rattle.std.specs.Prelude.{nat_le, ◌&&◌}
 use Rattle.std.proofs.lemmas.List.{append-nil}
-use Rattle.std.proofs.lemmas.Bool.{leb-true}
-use Rattle.bt_grammar.proofs.AllClasses.{and_first, and_second}
+use Rattle.bt_core.specs.declared.limits.TheConstants.{PROBES}
 use Rattle.bt_ast.specs.declared.probe.Probe.{Probe}
 use Rattle.bt_grammar.specs.Classes.{is_point}
 use Rattle.bt_grammar.specs.Form.{Item, OneProbe, WholeScript, Call}
@@ -12,8 +10,7 @@ use Rattle.bt_grammar.specs.Tables.{width}
 use Rattle.bt_grammar.specs.Reading.{Out, Done, Refused, and_then, starts, reads, goes_on}
 use Rattle.bt_grammar.specs.Grammar.{Tree, RefusedAt, Answer}
 use Rattle.bt_grammar.specs.Counts.{probes_read}
-use Rattle.bt_grammar.specs.Weights.{levels_from, levels_behind, level_weight}
-use Rattle.bt_grammar.specs.Refusals.{IsCountFault, NoCountFault, most_probes, deepest_weight}
+use Rattle.bt_grammar.specs.Refusals.{IsCountFault, NoCountFault}
 use Rattle.bt_grammar.proofs.Depth.{exact}
 use Rattle.bt_grammar.proofs.Enough.{reads_is}
 use Rattle.bt_grammar.proofs.Counts.{ReadTree, read_tree, script_behind, another_probe, no_probe, probe_starts}
@@ -51,10 +48,10 @@ drop_front [] rest = refl
 drop_front (f ∷ front) rest = drop_front front rest
 
 -- another probe behind as many as there may be
-pub full_at : (ts : List Item) (probes : List Probe) (t : Item) (z : List Item) (n : ℕ) → probes_read most_probes ts ≡ Done probes (t ∷ z)
+pub full_at : (ts : List Item) (probes : List Probe) (t : Item) (z : List Item) (n : ℕ) → probes_read PROBES ts ≡ Done probes (t ∷ z)
     → is_point t.class ≡ true → n + length (t ∷ z) ≡ length ts → IsCountFault ts n
 full_at ts probes t z n e h en =
-    let r : ReadTree most_probes ts probes (t ∷ z) = read_tree 63 ts probes (t ∷ z) e in
+    let r : ReadTree PROBES ts probes (t ∷ z) = read_tree 63 ts probes (t ∷ z) e in
     let place : n ≡ length r.front = omega (arith, en, ap length r.is, length-append r.front (t ∷ z)) in
     record {
       probes = probes;
@@ -67,28 +64,8 @@ full_at ts probes t z n e h en =
     }
 
 -- no other probe begins too late
-pub few_refused : (k : ℕ) (ts : List Item) (probes : List Probe) (r r' : List Item) → probes_read k ts ≡ Done probes r → k < most_probes → reads OneProbe r ≡ Refused r' → NoCountFault ts
+pub few_refused : (k : ℕ) (ts : List Item) (probes : List Probe) (r r' : List Item) → probes_read k ts ≡ Done probes r → k < PROBES → reads OneProbe r ≡ Refused r' → NoCountFault ts
 few_refused k ts probes r r' e short h n f = few k ts probes r e (omega arith) (λ _ a. let q : Refused r' ≡ Done a.probe a.rest = sym h ∙ a.is in cc (q)) (λ q. absurd (omega (arith, q))) n f
 
-pub few_behind : (k : ℕ) (ts : List Item) (probes : List Probe) (r : List Item) → probes_read k ts ≡ Done probes r → k ≤ most_probes → starts (λ c _. is_point c) r ≡ false → NoCountFault ts
+pub few_behind : (k : ℕ) (ts : List Item) (probes : List Probe) (r : List Item) → probes_read k ts ≡ Done probes r → k ≤ PROBES → starts (λ c _. is_point c) r ≡ false → NoCountFault ts
 few_behind k ts probes r e bound s n f = few k ts probes r e bound (λ _ a. let y : starts (λ c _. is_point c) r ≡ true = probe_starts r a.probe a.rest a.is in cc (y, s)) (λ _. s) n f
-
--- ---- levels
-
--- one more token
-pub levels_next : (levels : List ℕ) (ts : List Item) (t : Item) → levels_from levels (ts ++ t ∷ []) ≡ levels_behind t.class (levels_from levels ts)
-levels_next levels [] t = refl
-levels_next levels (u ∷ ts) t = levels_next (levels_behind u.class levels) ts t
-
--- whether no token makes the levels too heavy
-abbrev pub all_light : List ℕ → List Item → Bool
-all_light levels [] = true
-all_light levels (t ∷ ts) = nat_le (level_weight (levels_behind t.class levels)) deepest_weight && all_light (levels_behind t.class levels) ts
-
-pub light_until : (levels : List ℕ) (front rest : List Item) → all_light levels front ≡ true → (m : ℕ) → m < length front
-    → level_weight (levels_from levels (take (m + 1) (front ++ rest))) ≤ deepest_weight
-light_until levels [] rest h m within = absurd (omega arith)
-light_until levels (t ∷ front) rest h zero within = leb-true (level_weight (levels_behind t.class levels)) deepest_weight (and_first _ (all_light (levels_behind t.class levels) front) h)
-light_until levels (t ∷ front) rest h (suc m) within =
-    let e : suc m + 1 ≡ suc (m + 1) = omega arith in
-    rw e (light_until (levels_behind t.class levels) front rest (and_second (nat_le (level_weight (levels_behind t.class levels)) deepest_weight) _ h) m (omega arith))

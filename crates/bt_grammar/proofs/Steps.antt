@@ -37,19 +37,9 @@ refused_some n ts r e =
     let f : Stuck false never ⊥ (λ _ _. false) (reads n) (begins_at d n) ts r = reads_refused d n ts r e in
     record { xs = f.xs; is = f.is; begun = (d, f.begun); again = f.again; moved = f.moved; led = f.led }
 
-pub shorter : (n : Part) → nul n ≡ false → (ts : List Item) (a : Of n) (r : List Item) → reads n ts ≡ Done a r → length r < length ts
-shorter n h ts a r e =
-    let f : Found (sens_of n) (reads n) (some_whole n) ts a r = found_some n ts a r e in
-    let some : 0 < length f.xs = not_nil f.xs (λ z. let q : nul n ≡ true = null_some n a (subst (λ x. some_whole n x a) z f.whole) in cc (q, h)) in
-    omega (arith, ap length f.is, length-append f.xs r)
-
 pub length-items : (ts : List Token) → length (items ts) ≡ length ts
 length-items [] = refl
 length-items (t ∷ ts) = ap suc (length-items ts)
-
--- the rest of the tokens is shorter
-pub rest_shorter : (n : Part) → nul n ≡ false → (old new : List Token) (a : Of n) → reads n (items old) ≡ Done a (items new) → length new < length old
-rest_shorter n h old new a e = rw (← length-items new, ← length-items old) (shorter n h (items old) a (items new) e)
 
 module _ {A B : Type 0} (f : A → B → A) (Q : Form B) (ok : FineAt true Q) (edge : Led Q ⊎ Calm (sens Q) (first Q)) (some : nullable Q ≡ false) where
   sl : Class → Bool

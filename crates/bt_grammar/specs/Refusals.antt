@@ -1,5 +1,6 @@
 -- Where a list of tokens is refused, and for what.
 use Rattle.std.specs.Prelude.{◌≡◌, ℕ, ◌+◌, ◌<◌, ◌≤◌, true, List, ◌∷◌, length, take, drop, ◌⊎◌}
+use Rattle.bt_core.specs.declared.limits.TheConstants.{NESTING, PROBES}
 use Rattle.bt_ast.specs.declared.probe.Probe.{Probe}
 use Rattle.bt_ast.specs.declared.probe.Script.{Script}
 use Rattle.bt_grammar.specs.declared.error.ParseError.{ParseError}
@@ -16,23 +17,17 @@ pub record IsSyntaxFault (ts : List Item) (n : ℕ) : Type 0 where
   pub begun : Begins (take n ts)
   pub longest : (m : ℕ) → n < m → m ≤ length ts → Begins (take m ts) → ⊥
 
-abbrev pub deepest_weight : ℕ
-deepest_weight = 64
-
 -- the first token whose weight is above the limit
 pub record IsDepthFault (ts : List Item) (n : ℕ) : Type 0 where
   pub within : n < length ts
-  pub deep : deepest_weight < weight (take (n + 1) ts)
-  pub first : (m : ℕ) → m < n → weight (take (m + 1) ts) ≤ deepest_weight
-
-abbrev pub most_probes : ℕ
-most_probes = 64
+  pub deep : NESTING < weight (take (n + 1) ts)
+  pub first : (m : ℕ) → m < n → weight (take (m + 1) ts) ≤ NESTING
 
 -- as many tokens are as many probes as there may be, and the next one begins another
 pub record IsCountFault (ts : List Item) (n : ℕ) : Type 0 where
   pub probes : List Probe
   pub tree : Tree (take n ts) probes
-  pub full : length probes ≡ most_probes
+  pub full : length probes ≡ PROBES
   pub next : Item
   pub rest : List Item
   pub is : drop n ts ≡ next ∷ rest

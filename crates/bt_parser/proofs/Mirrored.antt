@@ -43,11 +43,6 @@ pub choice_then : {A B : Type 0} (b : Bool) (x y : Out A) (f : A → List Item �
 choice_then true x y f = refl
 choice_then false x y f = refl
 
--- a token that is there is passed over
-pub mark_there : (c : Class) (ts : List Item) → starts (ends c) ts ≡ true → read reads (mark c) ts ≡ Done (front_place ts) (rest_of ts)
-mark_there c [] h = cc
-mark_there c (t ∷ r) h = rw h refl
-
 -- ---- the parts
 
 pub operand_is : (p : Bool) (tier : Tier) (ts : List Item) → read reads (operand p tier) ts ≡ operand_by p (tighter tier) ts

@@ -96,10 +96,6 @@ right_some tokens d answer e a =
 
 -- ---- an answer or want of memory
 
-pub ok_of : (front : List Token) (deep : Option ℕ) (r : Result Script ParseError) → Answers front deep r → IfOk r (λ script. Answers front deep (Ok script))
-ok_of front deep (Ok script) a = a
-ok_of front deep (Err fault) a = tt
-
 pub err_of : (front : List Token) (deep : Option ℕ) (r : Result Script ParseError) → Answers front deep r → IfErr r (λ fault. fault ≢ Memory → Answers front deep (Err fault))
 err_of front deep (Ok script) a = tt
 err_of front deep (Err fault) a = λ _. a

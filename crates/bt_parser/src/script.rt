@@ -11,12 +11,13 @@ use crate::fault::Fault;
 use crate::probe::probe;
 use bt_ast::probe::Probe;
 use bt_core::items::Items;
+use bt_core::limits::PROBES;
 use bt_core::memory::Memory;
 use bt_grammar::class::Class;
 use std::alloc::Global;
 
 /// The most probes of a script.
-const MOST_PROBES: usize = 64;
+const MOST_PROBES: usize = PROBES as usize;
 
 /// What reading a script comes to.
 #[derive(Drop)]

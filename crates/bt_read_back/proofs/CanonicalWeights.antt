@@ -5,6 +5,7 @@ use Rattle.std.specs.List.{sum}
 use Rattle.std.proofs.lemmas.Bool.{false≢true}
 use Rattle.std.proofs.lemmas.Bool.Decides.{nat_tests}
 use Rattle.std.proofs.lemmas.List.Sums.{sum_by-cons}
+use Rattle.bt_core.specs.declared.limits.TheConstants.{NESTING}
 use Rattle.bt_lexer.specs.declared.token.TokenKind.{TokenKind}
 use Rattle.bt_grammar.specs.declared.class.Class.{Class}
 use Rattle.bt_grammar.specs.declared.class.Class.TheVariants.{OpenBrace, CloseBrace, OpenParen, CloseParen, OpenBracket, CloseBracket, Comma, Semicolon, Dot, Arrow, Minus, NumberLiteral}
@@ -12,7 +13,7 @@ use Rattle.bt_grammar.specs.Classes.{is_dot}
 use Rattle.bt_grammar.specs.Form.{Item}
 use Rattle.bt_grammar.specs.Tokens.{class_of}
 use Rattle.bt_grammar.specs.Weights.{is_operator, reset, counted, opened, closed, levels_behind, levels_from, level_weight, weight}
-use Rattle.bt_grammar.specs.Refusals.{NoDepthFault, deepest_weight}
+use Rattle.bt_grammar.specs.Refusals.{NoDepthFault}
 use Rattle.bt_read_back.proofs.Lexemes.{Are}
 
 -- ---- levels with no more operators
@@ -103,7 +104,7 @@ lighter_weight ms ns h = let l = same_length ms ns h in let s = less_sum ms ns h
 
 abbrev pub Light : List ℕ → List Class → Type 0
 Light levels [] = Unit {0}
-Light levels (c ∷ cs) = (level_weight (levels_behind c levels) ≤ deepest_weight) × Light (levels_behind c levels) cs
+Light levels (c ∷ cs) = (level_weight (levels_behind c levels) ≤ NESTING) × Light (levels_behind c levels) cs
 
 abbrev pub behind : List ℕ → List Class → List ℕ
 behind levels [] = levels
@@ -119,8 +120,8 @@ kind_classes (k ∷ ks) = class_of k ∷ kind_classes ks
 
 -- from levels with no more operators the second classes are not too deep where the first are not, and end in such levels
 abbrev pub NoDeeper : List Class → List Class → Type 0
-NoDeeper cs ds = (ns ms : List ℕ) → NoMore ms ns → level_weight ns ≤ deepest_weight → Light ns cs
-    → Light ms ds × NoMore (behind ms ds) (behind ns cs) × (level_weight (behind ns cs) ≤ deepest_weight)
+NoDeeper cs ds = (ns ms : List ℕ) → NoMore ms ns → level_weight ns ≤ NESTING → Light ns cs
+    → Light ms ds × NoMore (behind ms ds) (behind ns cs) × (level_weight (behind ns cs) ≤ NESTING)
 
 -- the kinds, than the items
 abbrev pub Shallow : List Item → List TokenKind → Type 0
@@ -148,7 +149,7 @@ no_deeper_both cs ds cs' ds' f g = λ ns ms h w light.
     let (l', b', w2) = g (behind ns cs) (behind ms ds) b w' (light_back ns cs cs' light) in (
       light_both ms ds ds' l l',
       subst (λ (z : List ℕ). NoMore z (behind ns (cs ++ cs'))) (sym (behind_both ms ds ds')) (subst (λ (z : List ℕ). NoMore (behind (behind ms ds) ds') z) (sym (behind_both ns cs cs')) b'),
-      subst (λ (z : List ℕ). level_weight z ≤ deepest_weight) (sym (behind_both ns cs cs')) w2,
+      subst (λ (z : List ℕ). level_weight z ≤ NESTING) (sym (behind_both ns cs cs')) w2,
     )
 
 items_both : (ts us : List Item) → item_classes (ts ++ us) ≡ item_classes ts ++ item_classes us
@@ -173,7 +174,7 @@ shallow_both ts us vs ks ls e f g =
 same_class : (c : Class) → NoDeeper (c ∷ []) (c ∷ [])
 same_class c = λ ns ms h w light.
     let b = no_more_behind c ms ns h in
-    let small : level_weight (levels_behind c ms) ≤ deepest_weight = (let l = lighter_weight (levels_behind c ms) (levels_behind c ns) b in let k = light.0 in omega arith) in
+    let small : level_weight (levels_behind c ms) ≤ NESTING = (let l = lighter_weight (levels_behind c ms) (levels_behind c ns) b in let k = light.0 in omega arith) in
     ((small, tt), b, light.0)
 
 -- a token of the same class
@@ -210,39 +211,39 @@ limit m n = by_test (nat_le m n) refl
     by_test false h = inr (first_of (omega arith, grind (arith, nat_tests)))
 
 -- where the tokens before are not too deep, a token is not, since it would be the first one
-next_within : (ts : List Item) → NoDepthFault ts → (k : ℕ) → suc k ≤ length ts → ((m : ℕ) → m < k → weight (take (m + 1) ts) ≤ deepest_weight)
-    → (weight (take (k + 1) ts) ≤ deepest_weight) ⊎ (deepest_weight < weight (take (k + 1) ts)) → weight (take (k + 1) ts) ≤ deepest_weight
+next_within : (ts : List Item) → NoDepthFault ts → (k : ℕ) → suc k ≤ length ts → ((m : ℕ) → m < k → weight (take (m + 1) ts) ≤ NESTING)
+    → (weight (take (k + 1) ts) ≤ NESTING) ⊎ (NESTING < weight (take (k + 1) ts)) → weight (take (k + 1) ts) ≤ NESTING
 next_within ts none k le before (inl h) = h
 next_within ts none k le before (inr h) = absurd (none k (record { within = omega arith; deep = h; first = before }))
 
-within_next : (ts : List Item) (k : ℕ) → ((m : ℕ) → m < k → weight (take (m + 1) ts) ≤ deepest_weight) → weight (take (k + 1) ts) ≤ deepest_weight
-    → (m : ℕ) → m < suc k → (suc m ≤ k) ⊎ (k < suc m) → weight (take (m + 1) ts) ≤ deepest_weight
+within_next : (ts : List Item) (k : ℕ) → ((m : ℕ) → m < k → weight (take (m + 1) ts) ≤ NESTING) → weight (take (k + 1) ts) ≤ NESTING
+    → (m : ℕ) → m < suc k → (suc m ≤ k) ⊎ (k < suc m) → weight (take (m + 1) ts) ≤ NESTING
 within_next ts k before here m less (inl h) = before m (omega arith)
-within_next ts k before here m less (inr h) = let e : k ≡ m = omega arith in subst (λ (j : ℕ). weight (take (j + 1) ts) ≤ deepest_weight) e here
+within_next ts k before here m less (inr h) = let e : k ≡ m = omega arith in subst (λ (j : ℕ). weight (take (j + 1) ts) ≤ NESTING) e here
 
-all_within : (ts : List Item) → NoDepthFault ts → (k : ℕ) → k ≤ length ts → (m : ℕ) → m < k → weight (take (m + 1) ts) ≤ deepest_weight
+all_within : (ts : List Item) → NoDepthFault ts → (k : ℕ) → k ≤ length ts → (m : ℕ) → m < k → weight (take (m + 1) ts) ≤ NESTING
 all_within ts none zero le m less = absurd (omega arith)
 all_within ts none (suc k) le m less =
-    let before : (j : ℕ) → j < k → weight (take (j + 1) ts) ≤ deepest_weight = all_within ts none k (omega arith) in
-    within_next ts k before (next_within ts none k le before (limit (weight (take (k + 1) ts)) deepest_weight)) m less (limit (suc m) k)
+    let before : (j : ℕ) → j < k → weight (take (j + 1) ts) ≤ NESTING = all_within ts none k (omega arith) in
+    within_next ts k before (next_within ts none k le before (limit (weight (take (k + 1) ts)) NESTING)) m less (limit (suc m) k)
 
-light_by : (levels : List ℕ) (ts : List Item) → ((m : ℕ) → m < length ts → level_weight (levels_from levels (take (m + 1) ts)) ≤ deepest_weight) → Light levels (item_classes ts)
+light_by : (levels : List ℕ) (ts : List Item) → ((m : ℕ) → m < length ts → level_weight (levels_from levels (take (m + 1) ts)) ≤ NESTING) → Light levels (item_classes ts)
 light_by levels [] h = tt
 light_by levels (t ∷ ts) h = (
   h 0 (omega arith),
   light_by (levels_behind t.class levels) ts (λ m l. let e : suc m + 1 ≡ suc (m + 1) = omega arith in
-      subst (λ (k : ℕ). level_weight (levels_from levels (take k (t ∷ ts))) ≤ deepest_weight) e (h (suc m) (omega arith))),
+      subst (λ (k : ℕ). level_weight (levels_from levels (take k (t ∷ ts))) ≤ NESTING) e (h (suc m) (omega arith))),
 )
 
 pub light_items : (ts : List Item) → NoDepthFault ts → Light (0 ∷ []) (item_classes ts)
 unfolding weight
 light_items ts none = light_by (0 ∷ []) ts (all_within ts none (length ts) (omega arith))
 
-light_take : (levels : List ℕ) (ts : List Item) → Light levels (item_classes ts) → (m : ℕ) → m < length ts → level_weight (levels_from levels (take (m + 1) ts)) ≤ deepest_weight
+light_take : (levels : List ℕ) (ts : List Item) → Light levels (item_classes ts) → (m : ℕ) → m < length ts → level_weight (levels_from levels (take (m + 1) ts)) ≤ NESTING
 light_take levels [] h m l = absurd (omega arith)
 light_take levels (t ∷ ts) h zero l = h.0
 light_take levels (t ∷ ts) h (suc m) l = let e : suc m + 1 ≡ suc (m + 1) = omega arith in
-    subst (λ (k : ℕ). level_weight (levels_from levels (take k (t ∷ ts))) ≤ deepest_weight) (sym e) (light_take (levels_behind t.class levels) ts h.1 m (omega arith))
+    subst (λ (k : ℕ). level_weight (levels_from levels (take k (t ∷ ts))) ≤ NESTING) (sym e) (light_take (levels_behind t.class levels) ts h.1 m (omega arith))
 
 pub light_no_fault : (ts : List Item) → Light (0 ∷ []) (item_classes ts) → NoDepthFault ts
 unfolding weight

@@ -1,5 +1,6 @@
 use Rattle.std.proofs.Common.{arith, ◌≡◌, ◌∙◌, ◌+◌, ◌≤◌, ◌∷◌, drop}
 use Rattle.std.proofs.lemmas.Grind.{common_steps}
+use Rattle.bt_core.specs.declared.limits.TheConstants.{NESTING}
 use Rattle.bt_parser.specs.Levels.{levels_of}
 use Rattle.bt_parser.proofs.DeepFrom.{stop_at, go_on}
 use Rattle.bt_parser.proofs.nesting.first_too_deep.Goals as goal
@@ -12,7 +13,7 @@ returns-then-levels-gt64-clause-value c =
 pub loop-i-preserved : goal.loop-i-preserved
 loop-i-preserved c =
     let d : drop c.loop-i.i c.args.tokens.now ≡ c.index-tokens-i.result ∷ drop (c.loop-i.i + 1) c.args.tokens.now = grind (arith, common_steps) in
-    let light : c.pass.new.self.weight ≤ 64 = grind (arith, common_steps) in
+    let light : c.pass.new.self.weight ≤ NESTING = grind (arith, common_steps) in
     record {
       deep = go_on c.loop-i.i (levels_of c.loop-i.levels) c.pass.new.self c.args.tokens.now c.index-tokens-i.result d (grind (arith, common_steps)) (grind (arith, common_steps)) light ∙ c.loop-i.invariant.deep;
       weighed = grind (arith, common_steps);
