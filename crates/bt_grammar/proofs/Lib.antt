@@ -15,3 +15,7 @@ pub mod Scripts
 pub mod OneAnswer
 pub mod Fronts
 pub mod FewProbes
+pub mod TreeMentions
+pub mod MentionForms
+pub mod MentionParts
+pub mod MentionLaws

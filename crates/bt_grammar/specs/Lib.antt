@@ -11,3 +11,4 @@ pub mod Fine
 pub mod Weights
 pub mod Refusals
 pub mod Counts
+pub mod Mentions
