@@ -12,6 +12,9 @@ use bt_grammar::class::Class;
 use bt_lexer::token::Token;
 use std::alloc::Global;
 
+/// The most brackets and operators that may be open at one token.
+const MOST_WEIGHT: u64 = NESTING as u64;
+
 /// The counts of operators in the levels that are open.
 #[derive(Drop)]
 pub struct Levels {
@@ -143,7 +146,7 @@ pub fn first_too_deep(alloc: Global, tokens: &[Token]) -> Result<Option<usize>, 
     let mut levels = Levels::new(alloc);
     for (i, token) in tokens.iter().enumerate() {
         levels.pass(class_of(&token.kind))?;
-        if levels.weight > u64::from(NESTING) {
+        if levels.weight > MOST_WEIGHT {
             return Ok(Some(i));
         }
     }
