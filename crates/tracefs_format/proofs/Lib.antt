@@ -1,6 +1,8 @@
 pub mod BytesLemmas
 pub mod LayoutLaws
+pub mod Lists
 pub mod LoopLemmas
+pub mod NameLaws
 pub mod SameLaws
 pub mod SpellingLaws
 pub mod StripLaws

@@ -10,6 +10,7 @@ use Rattle.std.specs.Cmp.Lexicographic.{slice_cmp}
 use Rattle.std.proofs.lemmas.List.{map_push}
 use Rattle.std.proofs.lemmas.List.Folds.{list_any-append}
 use Rattle.std.proofs.lemmas.Map.Text.{is_eq-slice_cmp}
+use Rattle.bt_core.specs.declared.limits.TheConstants.{LAYOUT_END}
 use Rattle.tracefs_format.specs.declared.field.Field.{Field}
 use Rattle.tracefs_format.specs.FieldLines.{Description, description}
 use Rattle.tracefs_format.specs.Layouts.{is_taken, field_fault}
@@ -47,11 +48,11 @@ inserted name copied other old new same h = h ∙ ap (λ v. cond v true old) (is
     ∙ elim (bytes_eq name other) as (λ v. cond v true old ≡ (v || old)) [ true ↦ refl | false ↦ refl ]
 
 pub added-fault : (fields : List Field) (names : BTreeSet (List ℕ)) (size number : ℕ) (ds : List Description) (d : Description) (new : Bool) → IsTable fields names size → map description fields ≡ ds
-    → d.offset + d.size ≤ 4096 → new ≡ not (is_known names d.name) → new ≡ true → field_fault number ds (Some d) ≡ None
+    → d.offset + d.size ≤ LAYOUT_END → new ≡ not (is_known names d.name) → new ≡ true → field_fault number ds (Some d) ≡ None
 added-fault fields names size number ds d new t seen within told fresh =
     let unknown : is_known names d.name ≡ false = elim (is_known names d.name) as (λ v. not v ≡ true → v ≡ false) [ true ↦ λ h. absurd cc | false ↦ λ h. refl ] (sym told ∙ fresh) in
     let untaken : is_taken d.name ds ≡ false = ap (is_taken d.name) (sym seen) ∙ sym (known-taken fields names size d.name t) ∙ unknown in
-    rw (le-ltb 4096 (d.offset + d.size) within, untaken) refl
+    rw (le-ltb LAYOUT_END (d.offset + d.size) within, untaken) refl
 
 pub added-fields : (fields later : List Field) (f : Field) (ds : List Description) (d : Description) → map description fields ≡ ds → later ≡ fields ++ f ∷ [] → description f ≡ d → map description later ≡ ds ++ d ∷ []
 added-fields fields later f ds d seen added same = ap (map description) added ∙ map_push description fields f ∙ ap (λ xs. xs ++ description f ∷ []) seen ∙ ap (λ x. ds ++ x ∷ []) same
