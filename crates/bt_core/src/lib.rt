@@ -3,6 +3,7 @@
 
 pub mod agg;
 pub mod boxed;
+pub mod bytes;
 pub mod context;
 pub mod item;
 pub mod items;
