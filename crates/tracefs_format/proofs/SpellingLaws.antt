@@ -1,7 +1,7 @@
 -- Lines: what is read on a line is spelled there, and what is spelled there is read.
 use Rattle.std.proofs.Common.{◌≡◌, ℕ, ◌≤◌, Bool, true, false, cond, not, eqb, ◌&&◌, List, [], ◌∷◌, ◌++◌, length, Option, Some, None, refl, ap, sym, subst, ◌∙◌, arith, eq-eqb}
 use Rattle.std.specs.Prelude.{◌==◌, nat_lt, nat_le, codes}
-use Rattle.std.specs.Char.{is_ascii_digit}
+use Rattle.bt_core.specs.Bytes.{is_digit, is_word_byte}
 use Rattle.std.specs.List.{list_all}
 use Rattle.std.specs.Option.{option_map}
 use Rattle.std.specs.Str.{bytes_eq}
@@ -9,7 +9,7 @@ use Rattle.std.proofs.lemmas.Bool.{eqb-true, leb-true, le-leb, lt-ltb}
 use Rattle.std.proofs.lemmas.List.{nil_from_length}
 use Rattle.tracefs_format.specs.declared.field.FieldKind.{FieldKind}
 use Rattle.std.proofs.lemmas.Slice.Eq.{bytes_eq-Decides}
-use Rattle.tracefs_format.specs.Bytes.{is_blank, is_word_byte, without_front, longest_beginning, cut_at, after, labelled, decimal_value, number_in, flag_in}
+use Rattle.tracefs_format.specs.Bytes.{is_blank, without_front, longest_beginning, cut_at, after, labelled, decimal_value, number_in, flag_in}
 use Rattle.tracefs_format.specs.Declarations.{declared_name, declared_kind}
 use Rattle.tracefs_format.specs.FieldLines.{Description, IsLabelled, IsNumber, IsFieldLine, flag_bytes}
 use Rattle.tracefs_format.specs.Lines.{AreBlanks, IsWord, IsDecimal, IsNameLine, IsIdLine}
@@ -32,15 +32,15 @@ chosen false x y h = absurd cc
 pub number_in-IsDecimal : (greatest : ℕ) (bytes : List ℕ) (n : ℕ) → number_in greatest bytes ≡ Some n → IsDecimal bytes n × (n ≤ greatest)
 number_in-IsDecimal greatest [] n h = absurd cc
 number_in-IsDecimal greatest (b ∷ bs) n h =
-    let found = chosen (list_all is_ascii_digit (b ∷ bs) && nat_le (decimal_value (b ∷ bs)) greatest) (decimal_value (b ∷ bs)) n h in
-    let parts = and-parts (list_all is_ascii_digit (b ∷ bs)) (nat_le (decimal_value (b ∷ bs)) greatest) found.0 in
+    let found = chosen (list_all is_digit (b ∷ bs) && nat_le (decimal_value (b ∷ bs)) greatest) (decimal_value (b ∷ bs)) n h in
+    let parts = and-parts (list_all is_digit (b ∷ bs)) (nat_le (decimal_value (b ∷ bs)) greatest) found.0 in
     (record { some = λ e. cc; digits_only = parts.0; value = sym found.1 }, subst (λ m. m ≤ greatest) found.1 (leb-true (decimal_value (b ∷ bs)) greatest parts.1))
 
 pub IsDecimal-number_in : (greatest : ℕ) (bytes : List ℕ) (n : ℕ) → IsDecimal bytes n → n ≤ greatest → number_in greatest bytes ≡ Some n
 IsDecimal-number_in greatest [] n d h = absurd (d.some refl)
 IsDecimal-number_in greatest (b ∷ bs) n d h =
     let fits : nat_le (decimal_value (b ∷ bs)) greatest ≡ true = le-leb (decimal_value (b ∷ bs)) greatest (subst (λ m. m ≤ greatest) d.value h) in
-    let both : (list_all is_ascii_digit (b ∷ bs) && nat_le (decimal_value (b ∷ bs)) greatest) ≡ true = and-both (list_all is_ascii_digit (b ∷ bs)) (nat_le (decimal_value (b ∷ bs)) greatest) d.digits_only fits in
+    let both : (list_all is_digit (b ∷ bs) && nat_le (decimal_value (b ∷ bs)) greatest) ≡ true = and-both (list_all is_digit (b ∷ bs)) (nat_le (decimal_value (b ∷ bs)) greatest) d.digits_only fits in
     ap (λ v. cond v (Some (decimal_value (b ∷ bs))) None) both ∙ ap Some (sym d.value)
 
 pub flag_in-flag_bytes : (bytes : List ℕ) (flag : Bool) → flag_in bytes ≡ Some flag → bytes ≡ flag_bytes flag
@@ -90,7 +90,7 @@ parts-cut_at byte (x ∷ front) rest h =
 blank_other : (b : ℕ) → is_blank b ≡ true → is_other 59 b ≡ true
 blank_other b h = grind arith
 
-digit_other : (b : ℕ) → is_ascii_digit b ≡ true → is_other 59 b ≡ true
+digit_other : (b : ℕ) → is_digit b ≡ true → is_other 59 b ≡ true
 digit_other b h = grind arith
 
 blanks_other : (bs : List ℕ) → AreBlanks bs → list_all (is_other 59) bs ≡ true
@@ -217,7 +217,7 @@ field_on-IsFieldLine line d h =
     })
 
 number_other : (label part : List ℕ) (n : ℕ) → IsNumber label n part → list_all (is_other 59) label ≡ true → list_all (is_other 59) part ≡ true
-number_other label part n s h = labelled_other label s.digits part s.labelled h (list_all-weaker is_ascii_digit (is_other 59) digit_other s.digits s.decimal.digits_only)
+number_other label part n s h = labelled_other label s.digits part s.labelled h (list_all-weaker is_digit (is_other 59) digit_other s.digits s.decimal.digits_only)
 
 flag_other : (flag : Bool) → list_all (is_other 59) (flag_bytes flag) ≡ true
 flag_other true = refl
@@ -254,12 +254,12 @@ word_kept : (bytes : List ℕ) → IsWord bytes → without_front is_blank bytes
 word_kept [] w = absurd (w.some refl)
 word_kept (b ∷ bs) w = rw (word_not_blank b (and-parts (is_word_byte b) (list_all is_word_byte bs) w.word).0) refl
 
-digit_not_blank : (b : ℕ) → is_ascii_digit b ≡ true → is_blank b ≡ false
+digit_not_blank : (b : ℕ) → is_digit b ≡ true → is_blank b ≡ false
 digit_not_blank b h = grind arith
 
 digits_kept : (bytes : List ℕ) (n : ℕ) → IsDecimal bytes n → without_front is_blank bytes ≡ bytes
 digits_kept [] n d = absurd (d.some refl)
-digits_kept (b ∷ bs) n d = rw (digit_not_blank b (and-parts (is_ascii_digit b) (list_all is_ascii_digit bs) d.digits_only).0) refl
+digits_kept (b ∷ bs) n d = rw (digit_not_blank b (and-parts (is_digit b) (list_all is_digit bs) d.digits_only).0) refl
 
 word_in-IsWord : (bytes name : List ℕ) → word_in bytes ≡ Some name → (bytes ≡ name) × IsWord name
 word_in-IsWord [] name h = absurd cc

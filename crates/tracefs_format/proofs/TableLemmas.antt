@@ -5,11 +5,8 @@ use Rattle.std.specs.Prelude.{nat_lt}
 use Rattle.std.specs.List.{list_any}
 use Rattle.std.specs.Str.{bytes_eq}
 use Rattle.std.specs.BTreeSet.{BTreeSet}
-use Rattle.std.specs.Ordering.{nat_cmp, is_eq}
-use Rattle.std.specs.Cmp.Lexicographic.{slice_cmp}
 use Rattle.std.proofs.lemmas.List.{map_push}
 use Rattle.std.proofs.lemmas.List.Folds.{list_any-append}
-use Rattle.std.proofs.lemmas.Map.Text.{is_eq-slice_cmp}
 use Rattle.bt_core.specs.declared.limits.TheConstants.{LAYOUT_END}
 use Rattle.tracefs_format.specs.declared.field.Field.{Field}
 use Rattle.tracefs_format.specs.FieldLines.{Description, description}
@@ -41,11 +38,6 @@ table-push fields names later size f t others = record {
       ∙ sym (ap (list_any test) (map_push description fields f) ∙ list_any-append test (map description fields) (description f ∷ []));
   covers = ap (λ n. max n (end_of f)) t.covers ∙ sym (greatest_end-push fields f);
 }
-
--- what a set has after a name was inserted
-pub inserted : (name copied other : List ℕ) (old new : Bool) → copied ≡ name → new ≡ cond (is_eq (slice_cmp nat_cmp copied other)) true old → new ≡ (bytes_eq name other || old)
-inserted name copied other old new same h = h ∙ ap (λ v. cond v true old) (is_eq-slice_cmp copied other ∙ ap (λ l. bytes_eq l other) same)
-    ∙ elim (bytes_eq name other) as (λ v. cond v true old ≡ (v || old)) [ true ↦ refl | false ↦ refl ]
 
 pub added-fault : (fields : List Field) (names : BTreeSet (List ℕ)) (size number : ℕ) (ds : List Description) (d : Description) (new : Bool) → IsTable fields names size → map description fields ≡ ds
     → d.offset + d.size ≤ LAYOUT_END → new ≡ not (is_known names d.name) → new ≡ true → field_fault number ds (Some d) ≡ None

@@ -5,9 +5,13 @@ use Rattle.tracefs_format.specs.declared.field.Field.{Field}
 use Rattle.tracefs_format.specs.declared.format.Format.{Format}
 use Rattle.tracefs_format.specs.Names.{tracepoint_name}
 
+-- the first field of this name
+abbrev pub field_called : List ℕ → List Field → Option Field
+field_called name fields = find (λ f. bytes_eq f.name name) fields
+
 -- the first field of this name; the empty name finds none
 abbrev pub field_named : List ℕ → List Field → Option Field
-field_named name fields = if nat_lt 0 (length name) then find (λ f. bytes_eq f.name name) fields else None
+field_named name fields = if nat_lt 0 (length name) then field_called name fields else None
 
 -- the field is one of these, and has this name, which isn't empty
 pub record IsFieldNamed (name : List ℕ) (fields : List Field) (f : Field) : Type 0 where

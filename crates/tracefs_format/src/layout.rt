@@ -33,10 +33,12 @@ impl Layout {
         if name.is_empty() {
             return None;
         }
-        self.fields
-            .as_slice()
-            .iter()
-            .find(|field| field.name.as_slice() == name)
+        for field in self.fields.as_slice() {
+            if field.name.as_slice() == name {
+                return Some(field);
+            }
+        }
+        None
     }
 }
 

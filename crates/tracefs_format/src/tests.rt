@@ -4,7 +4,7 @@ use crate::field::{Field, FieldKind};
 use crate::format::Format;
 use crate::layout::Layout;
 use crate::reading::read_layout;
-use crate::table::copied;
+use bt_core::items::Items;
 use bt_core::memory::TryCopy;
 use std::alloc::Global;
 use std::test::Fail;
@@ -345,8 +345,8 @@ field:struct k k_1;offset:0;size:3;signed:0;\n",
 fn formats_are_copied_and_errors_printed(rt: HostRuntime) -> Result<(), Fail> {
     let alloc = rt.alloc();
     let format = Format {
-        system: copied(alloc, b"raw_syscalls")?,
-        text: copied(alloc, SYS_ENTER)?,
+        system: Items::from_slice(alloc, b"raw_syscalls")?,
+        text: Items::from_slice(alloc, SYS_ENTER)?,
         layout: read_layout(alloc, SYS_ENTER)?,
     };
     assert_eq!(rt; format.try_copy(alloc)?, format);
