@@ -12,7 +12,9 @@ pub mod limits;
 pub mod map;
 pub mod memory;
 pub mod operator;
+pub mod order;
 pub mod place;
+pub mod port;
 pub mod step;
 #[cfg(test)]
 mod tests;
