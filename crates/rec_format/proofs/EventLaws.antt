@@ -4,7 +4,7 @@ use Rattle.std.specs.Prelude.{nat_lt, unwrap_or, ◌==◌}
 use Rattle.std.specs.Int.{w16, w32, w64, to_le_bytes, from_le_bytes}
 use Rattle.std.specs.List.{slice_get}
 use Rattle.std.specs.Option.{option_map}
-use Rattle.std.proofs.lemmas.Bool.{ltb-false, le-ltb, eq-eqb}
+use Rattle.std.proofs.lemmas.Bool.{ltb-false, le-ltb, eq-eqb, or_parts}
 use Rattle.std.proofs.lemmas.List.{length-take, take-append-drop}
 use Rattle.std.proofs.lemmas.Option.{same_Some}
 use Rattle.byteorder.specs.Endian.{little_number}
@@ -21,7 +21,7 @@ use Rattle.rec_format.specs.Events.{part_of_event, IsEvent, format_with, length_
 use Rattle.rec_format.specs.Recordings.{IsFormat, AreApart, AreFormats}
 use Rattle.rec_format.specs.Answers.{event_of}
 use Rattle.rec_format.proofs.Fields.{IsBytes, IsBytes-take, wide16, from_le_bytes-front}
-use Rattle.rec_format.proofs.Lists.{or_parts, suffix_fits, prefix_fits}
+use Rattle.rec_format.proofs.Lists.{suffix_fits, prefix_fits}
 use Rattle.rec_format.proofs.PartLaws.{event_reads}
 use Rattle.rec_format.proofs.TableLaws.{later, found_there}
 use Rattle.rec_format.proofs.EntryLaws.{IsReadable}

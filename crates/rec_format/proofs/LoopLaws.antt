@@ -2,7 +2,7 @@
 use Rattle.std.proofs.Common.{◌≡◌, ℕ, ◌+◌, ◌<◌, ◌≤◌, Bool, true, false, cond, ◌||◌, Option, Some, None, List, [], ◌∷◌, ◌++◌, length, refl, ap, sym, subst, ◌∙◌, append_assoc, arith, inl, inr}
 use Rattle.std.specs.Prelude.{nat_lt}
 use Rattle.std.specs.List.{list_any}
-use Rattle.std.proofs.lemmas.Bool.{ltb-false}
+use Rattle.std.proofs.lemmas.Bool.{ltb-false, or_parts}
 use Rattle.std.proofs.lemmas.List.Sums.{sum_by-append}
 use Rattle.bt_core.specs.declared.limits.TheConstants.{EVENTS}
 use Rattle.tracefs_format.specs.declared.format.Format.{Format}
@@ -20,7 +20,7 @@ use Rattle.rec_format.specs.Recordings.{part_of_format, formats_bytes, track_byt
 use Rattle.rec_format.specs.Faults.{FormatFails, HasFormats, least_after, HeadHasFault, TrackFails, CpuFails, HasTracks}
 use Rattle.rec_format.specs.Answers.{AddsFormat}
 use Rattle.rec_format.proofs.Fields.{IsBytes}
-use Rattle.rec_format.proofs.Lists.{or_parts, suffix_fits, each_more, spelled_more, length_more}
+use Rattle.rec_format.proofs.Lists.{suffix_fits, each_more, spelled_more, length_more}
 use Rattle.rec_format.proofs.PartLaws.{format_reads, cpu_reads, cut_short, refused}
 
 -- ---- formats

@@ -1,18 +1,58 @@
 -- What a valid recording has at each place.
-use Rattle.std.proofs.Common.{◌≡◌, ℕ, zero, suc, ◌+◌, ◌<◌, ◌≤◌, Option, Some, None, List, [], ◌∷◌, length, refl, ap, sym, subst, ◌∙◌, arith}
-use Rattle.std.specs.Prelude.{option_and_then}
+use Rattle.std.proofs.Common.{◌≡◌, ◌⊎◌, ℕ, zero, suc, ◌+◌, ◌<◌, ◌≤◌, true, false, Option, Some, None, List, [], ◌∷◌, length, refl, ap, sym, subst, ◌∙◌, arith, inl, inr}
+use Rattle.std.specs.Prelude.{option_and_then, ◌==◌, ◌&&◌}
+use Rattle.std.specs.Str.{bytes_eq}
+use Rattle.std.proofs.lemmas.Bool.{cases_lt, eq-eqb, or_parts, and_from}
+use Rattle.std.proofs.lemmas.Slice.Eq.{bytes_eq-Decides}
 use Rattle.std.specs.List.{slice_get}
 use Rattle.std.proofs.lemmas.Option.{same_Some}
 use Rattle.tracefs_format.specs.declared.format.Format.{Format}
+use Rattle.tracefs_format.specs.ByName.{IsNamed, is_same_tracepoint}
 use Rattle.tracefs_format.proofs.ForOthers.{all_at}
+use Rattle.rec_format.specs.Checks.{is_same_event}
 use Rattle.rec_format.specs.declared.recording.Recording.{Recording}
 use Rattle.rec_format.specs.declared.recording.CpuTrack.{CpuTrack}
 use Rattle.rec_format.specs.declared.recording.Event.{Event}
 use Rattle.rec_format.specs.Entries.{EntryKind, time_of, AreInTime}
 use Rattle.rec_format.specs.Events.{IsEvent, events}
 use Rattle.rec_format.specs.Places.{event_at_place, HasFormat}
-use Rattle.rec_format.specs.Recordings.{IsTrack, AreNumbered, IsValidRecording}
+use Rattle.rec_format.specs.Recordings.{IsTrack, AreApart, AreNumbered, IsValidRecording}
 use Rattle.rec_format.proofs.EventLaws.{event_id, two_bytes}
+
+-- ---- formats
+
+apart_at : (fs : List Format) (i j : ℕ) (f g : Format) → AreApart fs → slice_get fs i ≡ Some f → slice_get fs j ≡ Some g → i < j → is_same_event g f ≡ false
+apart_at [] i j f g apart first second order = absurd cc
+apart_at (x ∷ xs) zero zero f g apart first second order = absurd (omega arith)
+apart_at (x ∷ xs) zero (suc j) f g apart first second order =
+    ap (λ (y : Format). is_same_event g y) (sym (same_Some x f first)) ∙ all_at (λ (y : Format). is_same_event y x ≡ false) xs j g apart.0 second
+apart_at (x ∷ xs) (suc i) zero f g apart first second order = absurd (omega arith)
+apart_at (x ∷ xs) (suc i) (suc j) f g apart first second order = apart_at xs i j f g apart.1 first second (omega arith)
+
+-- two formats have one ID, or are called the same
+abbrev pub AreAlike : Format → Format → Type 0
+AreAlike f g = (f.layout.id ≡ g.layout.id) ⊎ IsNamed f g.system g.layout.name
+
+alike_swapped : (f g : Format) → AreAlike f g → AreAlike g f
+alike_swapped f g (inl id) = inl (sym id)
+alike_swapped f g (inr named) = inr (record { of_system = sym named.of_system; called = sym named.called })
+
+not_alike : (f g : Format) → is_same_event g f ≡ false → AreAlike f g → ⊥
+not_alike f g apart (inl id) =
+    let tests = or_parts (f.layout.id == g.layout.id) (is_same_tracepoint f g) apart in
+    let same = eq-eqb f.layout.id g.layout.id id in cc
+not_alike f g apart (inr named) =
+    let tests = or_parts (f.layout.id == g.layout.id) (is_same_tracepoint f g) apart in
+    let same = and_from (bytes_eq f.system g.system) (bytes_eq f.layout.name g.layout.name) ((bytes_eq-Decides f.system g.system).1 named.of_system) ((bytes_eq-Decides f.layout.name g.layout.name).1 named.called) in cc
+
+pub one_format : (fs : List Format) (i j : ℕ) (f g : Format) → AreApart fs → slice_get fs i ≡ Some f → slice_get fs j ≡ Some g → AreAlike f g → i ≡ j
+one_format fs i j f g apart first second alike = elim (cases_lt i j) [
+  | inl less ↦ absurd (not_alike f g (apart_at fs i j f g apart first second less) alike)
+  | inr more ↦ elim (cases_lt j i) [
+    | inl less ↦ absurd (not_alike g f (apart_at fs j i g f apart second first less) (alike_swapped f g alike))
+    | inr same ↦ omega arith
+  ]
+]
 
 -- ---- entries in time
 

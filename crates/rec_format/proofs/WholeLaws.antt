@@ -2,7 +2,7 @@
 use Rattle.std.proofs.Common.{◌≡◌, ℕ, ◌≤◌, Bool, true, false, cond, not, ◌||◌, Option, Some, None, List, [], ◌∷◌, ◌≢◌, ◌++◌, length, refl, ap, sym, ◌∙◌, append_assoc, arith}
 use Rattle.std.specs.Prelude.{nat_lt, codes, ◌==◌}
 use Rattle.std.specs.Str.{bytes_eq}
-use Rattle.std.proofs.lemmas.Bool.{ltb-false, eqb-false, eqb-true}
+use Rattle.std.proofs.lemmas.Bool.{ltb-false, eqb-false, eqb-true, or_parts}
 use Rattle.std.proofs.lemmas.Slice.Eq.{bytes_eq-Decides}
 use Rattle.bt_core.specs.declared.limits.TheConstants.{CPUS, FORMATS}
 use Rattle.tracefs_format.specs.declared.format.Format.{Format}
@@ -15,7 +15,6 @@ use Rattle.rec_format.specs.Parts.{HeaderPart, header_bytes}
 use Rattle.rec_format.specs.Checks.{header_fault}
 use Rattle.rec_format.specs.Recordings.{header_of, formats_bytes, tracks_bytes, recording_bytes, IsValidRecording}
 use Rattle.rec_format.specs.Faults.{HasHeader, HasFormats, HasTracks}
-use Rattle.rec_format.proofs.Lists.{or_parts}
 
 record Bounds (h : HeaderPart) : Type 0 where
   magic : h.magic ≡ codes "BTRACE01"

@@ -1,6 +1,7 @@
 -- What a CPU's track holds are entries, one after the other. How they are spelled, which lists of them are valid, and which
 -- fault comes first, is said here for any kind of entry.
-use Rattle.std.specs.Prelude.{◌≡◌, ◌≢◌, ◌⊎◌, ◌≤◌, ◌<◌, ◌||◌, ℕ, ⊤, nat_lt, List, [], ◌∷◌, ◌++◌, length, Option, Some, None, if◌then◌else◌}
+use Rattle.std.specs.Prelude.{◌≡◌, ◌≢◌, ◌⊎◌, ◌≤◌, ◌<◌, ◌||◌, ℕ, ⊤, nat_lt}
+use Rattle.std.specs.Prelude.{List, [], ◌∷◌, ◌++◌, length, Option, Some, None, if◌then◌else◌}
 use Rattle.std.specs.List.{flat_map, AllByRecursion}
 use Rattle.tracefs_format.specs.declared.format.Format.{Format}
 use Rattle.rec_format.specs.declared.error.RecordingError.{RecordingError}
@@ -45,11 +46,12 @@ entry_fault kind formats earliest latest cpu place part =
     else kind.own_fault formats cpu place part
 
 -- the entry behind these is cut short or refused
-abbrev pub NextEntryFails : {E P : Type 0} → EntryKind E P → ℕ → List Format → ℕ → ℕ → ℕ → List E → List ℕ → RecordingError → Type 0
+abbrev pub NextEntryFails : {E P : Type 0} → EntryKind E P → ℕ → List Format → ℕ → ℕ → ℕ → List E → List ℕ → RecordingError
+    → Type 0
 NextEntryFails kind whole formats start end cpu entries bytes e =
     IsCutShort kind.IsWhole kind.spelling whole bytes e
     ⊎ IsRefused kind.IsWhole kind.spelling
-        (λ part e. entry_fault kind formats (time_after kind start entries) end cpu (length entries) part ≡ Some e) bytes e
+    (λ part e. entry_fault kind formats (time_after kind start entries) end cpu (length entries) part ≡ Some e) bytes e
 
 -- fewer entries than there should be stand there and pass, and the next one fails
 pub record EntryFails {E P : Type 0} (kind : EntryKind E P) (whole : ℕ) (formats : List Format) (start end cpu count : ℕ)

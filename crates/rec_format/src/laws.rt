@@ -1,5 +1,7 @@
 // Laws of the definitions: what bytes spell, which fault they have, and what a valid recording has at each place.
 ghost use Rattle.std.specs.Prelude.{◌≡◌, ◌≤◌, ◌<◌, ℕ, Some, List, slice_get, slice_index};
+ghost use Rattle.tracefs_format.specs.declared.format.Format.{Format};
+ghost use Rattle.tracefs_format.specs.ByName.{IsNamed};
 ghost use Rattle.rec_format.specs.declared.error.RecordingError.{RecordingError};
 ghost use Rattle.rec_format.specs.declared.recording.CpuTrack.{CpuTrack};
 ghost use Rattle.rec_format.specs.declared.recording.Event.{Event};
@@ -19,6 +21,16 @@ pub fn one_fault()
         → IsRecordingFault bytes a → IsRecordingFault bytes b → a ≡ b }
     ensures none_beside { (bytes : List ℕ) (recording : Recording) (e : RecordingError) → AreBytes bytes
         → IsValidRecording recording → bytes ≡ recording_bytes recording → IsRecordingFault bytes e → ⊥ }
+{}
+
+/// Two formats of a valid recording that have one ID, or one system and name, stand at one place.
+pub fn formats_are_apart()
+    ensures id { (r : Recording) (i j : ℕ) (first second : Format) → IsValidRecording r
+        → slice_get r.formats i ≡ Some first → slice_get r.formats j ≡ Some second
+        → first.layout.id ≡ second.layout.id → i ≡ j }
+    ensures name { (r : Recording) (i j : ℕ) (first second : Format) → IsValidRecording r
+        → slice_get r.formats i ≡ Some first → slice_get r.formats j ≡ Some second
+        → IsNamed first second.system second.layout.name → i ≡ j }
 {}
 
 /// Each event of a valid recording has its format: it stands at the event's `format` place, the payload begins with its ID,

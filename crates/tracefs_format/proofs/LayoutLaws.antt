@@ -4,7 +4,7 @@ use Rattle.std.specs.Prelude.{◌==◌, nat_lt, nat_eq, codes, is_some, IfOk, If
 use Rattle.std.specs.List.{list_any, starts_with, AllByRecursion, cons_option}
 use Rattle.std.specs.Option.{option_or}
 use Rattle.std.specs.Str.{bytes_eq}
-use Rattle.std.proofs.lemmas.Bool.{lt-ltb, le-ltb, ltb-false}
+use Rattle.std.proofs.lemmas.Bool.{lt-ltb, le-ltb, ltb-false, and_parts, or_parts, and_from}
 use Rattle.std.proofs.lemmas.List.{append-nil}
 use Rattle.std.proofs.lemmas.List.Folds.{list_any-append}
 use Rattle.std.proofs.lemmas.Slice.Eq.{bytes_eq-Decides}
@@ -25,14 +25,10 @@ use Rattle.tracefs_format.specs.Declarations.{kind_of, is_char_words, declared_t
 use Rattle.tracefs_format.specs.Kinds.{fits_kind, is_number_size}
 use Rattle.tracefs_format.specs.Tables.{Answers, Fails, IsReadOf}
 use Rattle.tracefs_format.proofs.SameLaws.{same_layout}
-use Rattle.tracefs_format.proofs.StripLaws.{some_is, and-parts}
+use Rattle.tracefs_format.proofs.StripLaws.{some_is}
 use Rattle.tracefs_format.proofs.SpellingLaws.{field_on-IsFieldLine, IsFieldLine-field_on, name_on-IsNameLine, IsNameLine-name_on, id_on-IsIdLine, IsIdLine-id_on}
 
 -- ---- tests
-
-or-false : (a b : Bool) → (a || b) ≡ false → (a ≡ false) × (b ≡ false)
-or-false true b h = absurd cc
-or-false false b h = (refl, h)
 
 spread : (n a b : Bool) → (n && (a || (b || false))) ≡ ((n && a) || (n && b))
 spread true a true = refl
@@ -45,9 +41,6 @@ none_or (Some e) b h = absurd cc
 
 true_false : true ≡ false → ⊥
 true_false h = cc
-
-and_true : {a b : Bool} → a ≡ true → b ≡ true → (a && b) ≡ true
-and_true h k = rw (h, k) refl
 
 and_false : (a : Bool) → (a && false) ≡ false
 and_false true = refl
@@ -82,7 +75,7 @@ apart-from name [] h e = refl
 apart-from name (b ∷ bs) h e =
     let some : nat_lt 0 (length (b ∷ bs)) ≡ true = lt-ltb 0 (length (b ∷ bs)) (omega arith) in
     let same : bytes_eq name (b ∷ bs) ≡ true = (bytes_eq-Decides name (b ∷ bs)).1 e in
-    absurd (true_false (sym (and_true some same) ∙ h))
+    absurd (true_false (sym (and_from (nat_lt 0 (length (b ∷ bs))) (bytes_eq name (b ∷ bs)) some same) ∙ h))
 
 untaken-from : (name other : List ℕ) → (name ≡ other → other ≡ []) → (nat_lt 0 (length other) && bytes_eq name other) ≡ false
 untaken-from name [] h = refl
@@ -102,7 +95,7 @@ AreApartFrom name fs = AllByRecursion (λ g. name ≡ g.name → g.name ≡ []) 
 new-parts : (earlier : List Description) (d : Description) (fs : List Field) → AreNew (earlier ++ d ∷ []) fs → AreNew earlier fs × AreApartFrom d.name fs
 new-parts earlier d [] h = (tt, tt)
 new-parts earlier d (g ∷ fs) h =
-    let here = or-false (is_taken g.name earlier) (nat_lt 0 (length g.name) && bytes_eq d.name g.name) (sym (taken-push g.name earlier d) ∙ h.0) in
+    let here = or_parts (is_taken g.name earlier) (nat_lt 0 (length g.name) && bytes_eq d.name g.name) (sym (taken-push g.name earlier d) ∙ h.0) in
     let rest = new-parts earlier d fs h.1 in
     ((here.0, rest.0), (apart-from d.name g.name here.1, rest.1))
 
@@ -325,7 +318,7 @@ kind_of-sized type is_array size =
     let array = cond is_array (cond chars Chars Other) number in
     let relative = cond (starts_with nat_eq type (codes "__rel_loc")) Other array in
     sized-if (starts_with nat_eq type (codes "__data_loc")) (cond (is_text && size == 4) DataLoc Other) relative size
-    (λ h. sized-if (is_text && size == 4) DataLoc Other size (λ k. (and-parts is_text (size == 4) k).1) refl)
+    (λ h. sized-if (is_text && size == 4) DataLoc Other size (λ k. (and_parts is_text (size == 4) k).1) refl)
     (sized-if (starts_with nat_eq type (codes "__rel_loc")) Other array size (λ h. refl)
     (sized-if is_array (cond chars Chars Other) number size (λ h. sized-if chars Chars Other size (λ k. refl) refl)
     (sized-if (is_number_size size) Number Other size (λ h. h) refl)))

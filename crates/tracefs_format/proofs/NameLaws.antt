@@ -3,7 +3,7 @@ use Rattle.std.proofs.Common.{◌≡◌, ◌≢◌, ℕ, zero, suc, Bool, true, 
 use Rattle.std.specs.Prelude.{nat_lt, IsTrue}
 use Rattle.std.specs.List.{find, slice_get, AllByRecursion}
 use Rattle.std.specs.Str.{bytes_eq}
-use Rattle.std.proofs.lemmas.Bool.{lt-ltb}
+use Rattle.std.proofs.lemmas.Bool.{lt-ltb, and_parts}
 use Rattle.std.proofs.lemmas.Option.{same_Some}
 use Rattle.std.proofs.lemmas.Slice.Eq.{bytes_eq-Decides}
 use Rattle.tracefs_format.specs.declared.field.Field.{Field}
@@ -14,7 +14,6 @@ use Rattle.tracefs_format.specs.Layouts.{HaveNamesApart}
 use Rattle.tracefs_format.specs.Names.{has_no_colon}
 use Rattle.tracefs_format.proofs.Lists.{all_at}
 use Rattle.tracefs_format.proofs.SpellingLaws.{parts-cut_at}
-use Rattle.tracefs_format.proofs.StripLaws.{and-parts}
 
 -- ---- fields
 
@@ -80,5 +79,5 @@ full_name-is_same f g h k =
     let is = full_name-IsNamed f g h k ((bytes_eq-Decides (full_name f) (full_name g)).0 e) in
     rw ((bytes_eq-Decides f.system g.system).1 is.of_system, (bytes_eq-Decides f.layout.name g.layout.name).1 is.called) refl)
     (λ e.
-    let parts = and-parts (bytes_eq f.system g.system) (bytes_eq f.layout.name g.layout.name) e in
+    let parts = and_parts (bytes_eq f.system g.system) (bytes_eq f.layout.name g.layout.name) e in
     (bytes_eq-Decides (full_name f) (full_name g)).1 (IsNamed-full_name f g (record { of_system = (bytes_eq-Decides f.system g.system).0 parts.0; called = (bytes_eq-Decides f.layout.name g.layout.name).0 parts.1 })))

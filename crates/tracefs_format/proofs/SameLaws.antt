@@ -26,8 +26,8 @@ pub same_field : (f g : Field) → description f ≡ description g → f ≡ g
 same_field f g e =
     let P : Description → Type 0 = λ d. (p : IsTrue (fits_kind d.kind d.size)) (q : d.offset + d.size ≤ LAYOUT_END) → field_of (description f) f.sized f.inside ≡ field_of d p q in
     subst P e (λ p q.
-        ap (λ (s : IsTrue (fits_kind f.kind f.size)). field_of (description f) s f.inside) (test_prop (fits_kind f.kind f.size) f.sized p)
-        ∙ ap (λ (s : f.offset + f.size ≤ LAYOUT_END). field_of (description f) p s) (order_prop (f.offset + f.size) LAYOUT_END f.inside q)) g.sized g.inside
+    ap (λ (s : IsTrue (fits_kind f.kind f.size)). field_of (description f) s f.inside) (test_prop (fits_kind f.kind f.size) f.sized p)
+    ∙ ap (λ (s : f.offset + f.size ≤ LAYOUT_END). field_of (description f) p s) (order_prop (f.offset + f.size) LAYOUT_END f.inside q)) g.sized g.inside
 
 abbrev first_of_two : List Description → Description → Description
 first_of_two [] d = d

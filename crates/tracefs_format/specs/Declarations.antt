@@ -1,5 +1,6 @@
 -- The name and the kind of a field, by its declaration.
-use Rattle.std.specs.Prelude.{ℕ, Bool, false, ◌==◌, ◌&&◌, not, nat_eq, codes, List, [], ◌∷◌, Option, None, is_some, unwrap_or, if◌then◌else◌}
+use Rattle.std.specs.Prelude.{ℕ, Bool, false, ◌==◌, ◌&&◌, not, nat_eq, codes}
+use Rattle.std.specs.Prelude.{List, [], ◌∷◌, Option, None, is_some, unwrap_or, if◌then◌else◌}
 use Rattle.std.specs.List.{list_any, starts_with, ends_with}
 use Rattle.std.specs.Str.{bytes_eq}
 use Rattle.bt_core.specs.Bytes.{is_word_byte}

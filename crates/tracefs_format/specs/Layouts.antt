@@ -1,5 +1,6 @@
 -- Format texts: which layout one has, and the first rule that it breaks where it has none.
-use Rattle.std.specs.Prelude.{◌≡◌, ◌+◌, ◌≤◌, ◌&&◌, ℕ, Bool, not, nat_lt, nat_eq, codes, ⊤, List, [], ◌∷◌, ◌++◌, length, filter, drop, slice_index_or, Option, Some, None, is_some, if◌then◌else◌}
+use Rattle.std.specs.Prelude.{◌≡◌, ◌+◌, ◌≤◌, ◌&&◌, ℕ, Bool, not, nat_lt, nat_eq, codes, ⊤, List}
+use Rattle.std.specs.Prelude.{[], ◌∷◌, ◌++◌, length, filter, drop, slice_index_or, Option, Some, None, is_some, if◌then◌else◌}
 use Rattle.std.specs.List.{list_any, starts_with, take_while, filter_map, AllByRecursion}
 use Rattle.std.specs.Option.{option_or}
 use Rattle.std.specs.Str.{bytes_eq}

@@ -36,11 +36,13 @@ pub fn fields_inside()
 
 /// A name finds a field of a text's layout exactly where it is that field's, and not empty.
 pub fn one_field_of_a_name()
-    ensures { (text name : List ℕ) (layout : Layout) (field : Field) → IsLayoutOf text layout → (field_named name layout.fields ≡ Some field) ↔ IsFieldNamed name layout.fields field }
+    ensures { (text name : List ℕ) (layout : Layout) (field : Field) → IsLayoutOf text layout
+        → (field_named name layout.fields ≡ Some field) ↔ IsFieldNamed name layout.fields field }
 {}
 
 /// Where no colon stands in their systems, two tracepoints are called by one name exactly where they belong to one
 /// system and have one name.
 pub fn one_tracepoint_of_a_name()
-    ensures { (f g : Format) → IsTrue (has_no_colon f.system) → IsTrue (has_no_colon g.system) → (full_name f ≡ full_name g) ↔ IsNamed f g.system g.layout.name }
+    ensures { (f g : Format) → IsTrue (has_no_colon f.system) → IsTrue (has_no_colon g.system)
+        → (full_name f ≡ full_name g) ↔ IsNamed f g.system g.layout.name }
 {}

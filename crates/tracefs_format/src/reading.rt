@@ -1,5 +1,6 @@
 // Reading a format text.
-ghost use Rattle.std.specs.Prelude.{◌≡◌, ◌≢◌, ◌⊎◌, ◌∷◌, [], ◌++◌, ◌+◌, ◌<◌, ◌^◌, drop, length, IfOk, IfErr, Some, Ok, Err};
+ghost use Rattle.std.specs.Prelude.{◌≡◌, ◌≢◌, ◌⊎◌, ◌∷◌, [], ◌++◌, ◌+◌, ◌<◌};
+ghost use Rattle.std.specs.Prelude.{◌^◌, drop, length, IfOk, IfErr, Some, Ok, Err};
 ghost use Rattle.tracefs_format.specs.declared.layout.Layout.{Layout};
 ghost use Rattle.tracefs_format.specs.declared.error.FormatError.{FormatError};
 ghost use Rattle.tracefs_format.specs.Lines.{text_lines};

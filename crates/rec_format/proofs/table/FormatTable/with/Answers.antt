@@ -1,4 +1,5 @@
 use Rattle.std.proofs.Common.{◌≡◌, ◌||◌, ◌∷◌, ◌++◌, true, false, List, ℕ, Bool, refl, ap, sym, ◌∙◌, inr, arith, length}
+use Rattle.std.proofs.lemmas.Bool.{or_from}
 use Rattle.std.specs.Prelude.{is_some, IsTrue}
 use Rattle.std.specs.List.{list_any}
 use Rattle.std.specs.Ordering.{nat_cmp}
@@ -22,10 +23,6 @@ or_first false b h = absurd cc
 or_second : (a b : Bool) → b ≡ true → (a || b) ≡ true
 or_second true b h = refl
 or_second false b h = h
-
-or_none : (a b : Bool) → a ≡ false → b ≡ false → (a || b) ≡ false
-or_none true b h k = absurd cc
-or_none false b h k = k
 
 pub returns-then-contains_key : goal.returns-then-contains_key
 returns-then-contains_key c =
@@ -65,7 +62,7 @@ returns c =
     let by_id : Bool = is_some (get nat_cmp c.self.inside.places f.layout.id) in
     let by_name : Bool = contains (slice_cmp nat_cmp) c.self.inside.names (full_name f) in
     let named : c.in_ok-name.name ≡ full_name f = c.in_ok-name.ensures ∙ ap (λ (l : List ℕ). c.args.part.system.now ++ 58 ∷ l) c.as_slice.ensures in
-    let none : (by_id || by_name) ≡ false = or_none by_id by_name (sym c.contains_key.ensures ∙ c.if-contains_key.false) (ap (contains (slice_cmp nat_cmp) c.self.inside.names) (sym named) ∙ sym c.contains.ensures ∙ c.if-contains.false) in
+    let none : (by_id || by_name) ≡ false = or_from by_id by_name (sym c.contains_key.ensures ∙ c.if-contains_key.false) (ap (contains (slice_cmp nat_cmp) c.self.inside.names) (sym named) ∙ sym c.contains.ensures ∙ c.if-contains.false) in
     record {
       layout = c.in-Ok.layout;
       added = grind arith;

@@ -1,31 +1,11 @@
 // Numbers and strings of payloads, with fields as format texts give them.
-use crate::reading::{int_field, str_field};
-use bt_core::text::Str64;
+use event_record::reading::{int_field, str_field};
 use std::test::Fail;
-use tracefs_format::field::{Field, FieldKind};
+use tracefs_format::field::FieldKind;
 use tracefs_format::reading::read_layout;
 
-/// The number of a field, if it is one inside the payload.
-fn number(field: &Field, payload: &[u8]) -> Option<i64> {
-    let end = field.offset as usize + field.size as usize;
-    match field.kind {
-        FieldKind::Number if end <= payload.len() => Some(int_field(field, payload)),
-        _ => None,
-    }
-}
-
-/// The string of a field, if it has one inside the payload.
-fn string(field: &Field, payload: &[u8]) -> Option<Str64> {
-    let end = field.offset as usize + field.size as usize;
-    if end > payload.len() {
-        return None;
-    }
-    match field.kind {
-        FieldKind::Chars => Some(str_field(field, payload)),
-        FieldKind::DataLoc => Some(str_field(field, payload)),
-        _ => None,
-    }
-}
+/// The bytes from place 1 on are those of -2, and those from place 8 on are 0xff and 0x01.
+const NUMBERS: [u8; 10] = [0x7f, 0xfe, 0xff, 0xff, 0xff, 0xff, 0xff, 0xff, 0xff, 0x01];
 
 #[test]
 fn numbers_are_little_endian_and_signed_where_the_field_is(rt: HostRuntime) -> Result<(), Fail> {
@@ -43,17 +23,15 @@ field:void * h;offset:1;size:8;signed:0;\n\
 field:u8 i;offset:0;size:1;signed:1;\n\
 field:u16 j;offset:8;size:2;signed:0;\n",
     )?;
-    // The bytes from place 1 on are those of -2, and those from place 8 on are 0xff and 0x01.
-    let payload = [0x7f, 0xfe, 0xff, 0xff, 0xff, 0xff, 0xff, 0xff, 0xff, 0x01];
     let wanted = [-2, 254, -2, 65_534, -2, 4_294_967_294, -2, -2, 127, 511];
     assert_eq!(rt; layout.fields.len(), wanted.len());
-    for (field, want) in layout.fields.as_slice().iter().zip(&wanted) {
+    for (field, number) in layout.fields.as_slice().iter().zip(&wanted) {
+        assert!(rt; field.kind == FieldKind::Number && field.offset + field.size <= 10);
         assert_eq!(rt;
-            number(field, &payload),
-            Some(*want),
-            "at offset {} and size {}",
-            field.offset,
-            field.size
+            int_field(field, &NUMBERS),
+            *number,
+            "at offset {}",
+            field.offset
         );
     }
     Ok(())
@@ -71,15 +49,15 @@ field:__data_loc char[] far;offset:16;size:4;signed:0;\n\
 field:char long[80];offset:20;size:80;signed:0;\n",
     )?;
     let mut payload = [b'a'; 100];
-    payload[..20].copy_from_slice(&[
-        b'b', b'a', b's', b'h', 0, b'x', 0, 0, 94, 0, 6, 0, 95, 0, 6, 0, 0xff, 0xff, 0xff, 0xff,
-    ]);
+    payload[..20].copy_from_slice(b"bash\0x\0\0\x5e\0\x06\0\x5f\0\x06\0\xff\xff\xff\xff");
     let wanted: [&[u8]; 5] = [b"bash", b"aaaaaa", b"", b"", &[b'a'; 63]];
     assert_eq!(rt; layout.fields.len(), wanted.len());
-    for (field, want) in layout.fields.as_slice().iter().zip(&wanted) {
+    for (field, text) in layout.fields.as_slice().iter().zip(&wanted) {
+        assert!(rt; field.kind == FieldKind::Chars || field.kind == FieldKind::DataLoc);
+        assert!(rt; field.offset + field.size <= 100);
         assert_eq!(rt;
-            string(field, &payload),
-            Some(Str64::of(want)),
+            str_field(field, &payload).bytes(),
+            *text,
             "at offset {}",
             field.offset
         );
