@@ -1,7 +1,7 @@
 -- The lines of a listing.
 use Rattle.std.proofs.Common.{◌≡◌, ℕ, suc, ◌+◌, ◌-◌, ◌*◌, ◌<◌, ◌≤◌, ap, sym, ◌∙◌, List, [], ◌∷◌, ◌++◌, append_assoc, append-nil, length, take, drop, arith}
 use Rattle.std.specs.Prelude.{map}
-use Rattle.std.proofs.lemmas.List.{drop-drop}
+use Rattle.bpf_encode.proofs.Bytes.{slot_after}
 use Rattle.bpf_encode.specs.Listing.{hex_byte, joined, line, four_digits, slots_in, lines_from, spaced}
 
 -- blanks before the bytes are a blank and those between
@@ -22,9 +22,6 @@ line_written old n slot t1 t2 t3 t4 h e1 e2 e3 e4 =
     ∙ append_assoc ((old ++ four_digits n) ++ 58 ∷ []) (32 ∷ joined (map hex_byte slot)) (10 ∷ [])
     ∙ append_assoc (old ++ four_digits n) (58 ∷ []) (32 ∷ (joined (map hex_byte slot) ++ 10 ∷ []))
     ∙ append_assoc old (four_digits n) (58 ∷ 32 ∷ (joined (map hex_byte slot) ++ 10 ∷ []))
-
-slot_after : (bytes : List ℕ) (place : ℕ) → drop 8 (drop (8 * place) bytes) ≡ drop (8 * (place + 1)) bytes
-slot_after bytes place = drop-drop 8 (8 * place) bytes ∙ ap (λ k. drop k bytes) (omega arith)
 
 -- one line more
 pub lines_more : (bytes text new slot : List ℕ) (slots n : ℕ) → n < slots → slot ≡ take 8 (drop (8 * n) bytes) → new ≡ text ++ line n slot → text ++ lines_from n (slots_in (slots - n) (drop (8 * n) bytes)) ≡ new ++ lines_from (n + 1) (slots_in (slots - (n + 1)) (drop (8 * (n + 1)) bytes))

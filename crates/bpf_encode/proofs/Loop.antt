@@ -1,15 +1,12 @@
 -- What is decoded after some slots.
 use Rattle.std.proofs.Common.{◌≡◌, ℕ, suc, ◌+◌, ◌-◌, ◌*◌, ◌<◌, ◌≤◌, refl, ap, sym, ◌∙◌, List, [], ◌∷◌, ◌++◌, append_assoc, append-nil, drop, Bool, arith}
 use Rattle.std.specs.Prelude.{Result, Ok, Err, MatchResult}
-use Rattle.std.proofs.lemmas.List.{drop-drop}
 use Rattle.bpf_insn.specs.declared.insn.Insn.{Insn}
 use Rattle.bpf_insn.specs.Code.{is_wide}
 use Rattle.bpf_encode.specs.declared.decode.DecodeError.{DecodeError}
 use Rattle.bpf_encode.specs.declared.decode.DecodeError.TheVariants.{BadLength, BadOpcode, BadField, HalfWide, Memory}
+use Rattle.bpf_encode.proofs.Bytes.{slot_after}
 use Rattle.bpf_encode.specs.Slots.{slot_decoded, followed, with_rest, decoded, after_code, FaultIs}
-
-slot_after : (bytes : List ℕ) (place : ℕ) → drop 8 (drop (8 * place) bytes) ≡ drop (8 * (place + 1)) bytes
-slot_after bytes place = drop-drop 8 (8 * place) bytes ∙ ap (λ k. drop k bytes) (omega arith)
 
 -- one slot more
 with_slot : (bytes : List ℕ) (slots place : ℕ) (owed : Bool) (is : List Insn) (r : Result Insn DecodeError) → place < slots → slot_decoded place owed (drop (8 * place) bytes) ≡ r → after_code is (decoded place owed (slots - place) (drop (8 * place) bytes)) ≡ after_code is (with_rest r (λ i. decoded (place + 1) (is_wide i) (slots - (place + 1)) (drop (8 * (place + 1)) bytes)))
