@@ -32,8 +32,10 @@ pub slot_again : (s : Slot) (rest : List ℕ) → FitsSlot s → slot_in (slot_b
 slot_again s rest fits =
     let d : (s.dst + 16 * s.src) % 16 ≡ s.dst = let f = fits.dst in omega arith in
     let r : (s.dst + 16 * s.src) / 16 ≡ s.src = let f = fits.dst in omega arith in
-    let o : cast_signed w16 (from_le_bytes w16 (to_le_bytes w16 (cast_unsigned w16 s.offset))) ≡ s.offset = ap (cast_signed w16) (from_le_bytes-to_le_bytes_2 _ (below_16 s.offset fits.offset)) ∙ to_z-of_z w16 s.offset fits.offset in
-    let i : cast_signed w32 (from_le_bytes w32 (to_le_bytes w32 (cast_unsigned w32 s.imm))) ≡ s.imm = ap (cast_signed w32) (from_le_bytes-to_le_bytes_4 _ (below_32 s.imm fits.imm)) ∙ to_z-of_z w32 s.imm fits.imm in
+    let o : cast_signed w16 (from_le_bytes w16 (to_le_bytes w16 (cast_unsigned w16 s.offset))) ≡ s.offset =
+        ap (cast_signed w16) (from_le_bytes-to_le_bytes_2 _ (below_16 s.offset fits.offset)) ∙ to_z-of_z w16 s.offset fits.offset in
+    let i : cast_signed w32 (from_le_bytes w32 (to_le_bytes w32 (cast_unsigned w32 s.imm))) ≡ s.imm =
+        ap (cast_signed w32) (from_le_bytes-to_le_bytes_4 _ (below_32 s.imm fits.imm)) ∙ to_z-of_z w32 s.imm fits.imm in
     λ k. record { opcode = s.opcode; dst = d k; src = r k; offset = o k; imm = i k }
 
 pub drop_slot : (s : Slot) (rest : List ℕ) → drop 8 (slot_bytes s ++ rest) ≡ rest
@@ -59,15 +61,18 @@ four_below : (a b c d : ℕ) → a < 256 → b < 256 → c < 256 → d < 256 →
 four_below a b c d ha hb hc hd = omega arith
 
 -- eight bytes are those of the slot that they spell
-bytes_again : (b0 b1 b2 b3 b4 b5 b6 b7 : ℕ) (rest : List ℕ) → b2 < 256 → b3 < 256 → b4 < 256 → b5 < 256 → b6 < 256 → b7 < 256 → slot_bytes (slot_in (b0 ∷ b1 ∷ b2 ∷ b3 ∷ b4 ∷ b5 ∷ b6 ∷ b7 ∷ rest)) ++ rest ≡ b0 ∷ b1 ∷ b2 ∷ b3 ∷ b4 ∷ b5 ∷ b6 ∷ b7 ∷ rest
+bytes_again : (b0 b1 b2 b3 b4 b5 b6 b7 : ℕ) (rest : List ℕ) → b2 < 256 → b3 < 256 → b4 < 256 → b5 < 256 → b6 < 256 → b7 < 256
+    → slot_bytes (slot_in (b0 ∷ b1 ∷ b2 ∷ b3 ∷ b4 ∷ b5 ∷ b6 ∷ b7 ∷ rest)) ++ rest ≡ b0 ∷ b1 ∷ b2 ∷ b3 ∷ b4 ∷ b5 ∷ b6 ∷ b7 ∷ rest
 bytes_again b0 b1 b2 b3 b4 b5 b6 b7 rest h2 h3 h4 h5 h6 h7 =
     let two = b2 ∷ b3 ∷ [] in
     let four = b4 ∷ b5 ∷ b6 ∷ b7 ∷ [] in
     let n2 = from_le_bytes w16 two in
     let n4 = from_le_bytes w32 four in
     let r : b1 % 16 + 16 * (b1 / 16) ≡ b1 = omega arith in
-    let o : to_le_bytes w16 (cast_unsigned w16 (cast_signed w16 n2)) ≡ two = ap (to_le_bytes w16) (of_z-to_z w16 n2 (two_below b2 b3 h2 h3)) ∙ le_bytes_2 two n2 refl (below_two b2 b3 h2 h3) refl in
-    let i : to_le_bytes w32 (cast_unsigned w32 (cast_signed w32 n4)) ≡ four = ap (to_le_bytes w32) (of_z-to_z w32 n4 (four_below b4 b5 b6 b7 h4 h5 h6 h7)) ∙ le_bytes_4 four n4 refl (below_four b4 b5 b6 b7 h4 h5 h6 h7) refl in
+    let o : to_le_bytes w16 (cast_unsigned w16 (cast_signed w16 n2)) ≡ two = ap (to_le_bytes w16) (of_z-to_z w16 n2 (two_below b2 b3 h2 h3))
+        ∙ le_bytes_2 two n2 refl (below_two b2 b3 h2 h3) refl in
+    let i : to_le_bytes w32 (cast_unsigned w32 (cast_signed w32 n4)) ≡ four = ap (to_le_bytes w32) (of_z-to_z w32 n4 (four_below b4 b5 b6 b7 h4 h5 h6 h7))
+        ∙ le_bytes_4 four n4 refl (below_four b4 b5 b6 b7 h4 h5 h6 h7) refl in
     λ k. b0 ∷ r k ∷ ((o k ++ i k) ++ rest)
 
 few : {P : Type 0} (n : ℕ) → 8 ≤ n → n < 8 → P
@@ -100,7 +105,8 @@ pub rest_of : (bs : List ℕ) (k : ℕ) → take (length bs - k) (drop k bs) ≡
 rest_of bs k = ap (λ n. take n (drop k bs)) (sym (length-drop k bs)) ∙ take_whole (drop k bs)
 
 -- the numbers that are read from it
-pub offset_read : (bs : List ℕ) (z : ℤ) → AreBytes bs → z ≡ cast_signed w16 (little_number 2 (take (length bs - 2) (drop 2 bs))) → cast_signed w16 (cast_unsigned w16 z) ≡ (slot_in bs).offset
+pub offset_read : (bs : List ℕ) (z : ℤ) → AreBytes bs → z ≡ cast_signed w16 (little_number 2 (take (length bs - 2) (drop 2 bs)))
+    → cast_signed w16 (cast_unsigned w16 z) ≡ (slot_in bs).offset
 offset_read bs z h e =
     let n = from_le_bytes w16 (get_or bs 2 0 ∷ get_or bs 3 0 ∷ []) in
     let e0 = get_or-drop 2 bs 0 0 in
@@ -109,7 +115,8 @@ offset_read bs z h e =
     let all : z ≡ cast_signed w16 n = e ∙ ap (λ l. cast_signed w16 (little_number 2 l)) (rest_of bs 2) ∙ ap (cast_signed w16) same in
     ap (λ y. cast_signed w16 (cast_unsigned w16 y)) all ∙ ap (cast_signed w16) (of_z-to_z w16 n (two_below _ _ (h 2) (h 3)))
 
-pub imm_read : (bs : List ℕ) (z : ℤ) → AreBytes bs → z ≡ cast_signed w32 (little_number 4 (take (length bs - 4) (drop 4 bs))) → cast_signed w32 (cast_unsigned w32 z) ≡ (slot_in bs).imm
+pub imm_read : (bs : List ℕ) (z : ℤ) → AreBytes bs → z ≡ cast_signed w32 (little_number 4 (take (length bs - 4) (drop 4 bs)))
+    → cast_signed w32 (cast_unsigned w32 z) ≡ (slot_in bs).imm
 imm_read bs z h e =
     let n = from_le_bytes w32 (get_or bs 4 0 ∷ get_or bs 5 0 ∷ get_or bs 6 0 ∷ get_or bs 7 0 ∷ []) in
     let e0 = get_or-drop 4 bs 0 0 in
@@ -135,7 +142,8 @@ at_least n h = grind arith
 pub next_some : (bs : List ℕ) → 16 ≤ length bs → next_upper bs ≡ Some (cast_unsigned w32 (slot_in (drop 8 bs)).imm)
 next_some bs h = ap (λ (b : Bool). cond b (Some (cast_unsigned w32 (slot_in (drop 8 bs)).imm)) None) (at_least (length bs) h)
 
-pub next_read : (bs : List ℕ) (s : Slot) (n : ℕ) → AreBytes bs → 16 ≤ length bs → s ≡ slot_in (take (length bs - 8) (drop 8 bs)) → n ≡ cast_unsigned w32 (cast_signed w32 (cast_unsigned w32 s.imm)) → Some n ≡ next_upper bs
+pub next_read : (bs : List ℕ) (s : Slot) (n : ℕ) → AreBytes bs → 16 ≤ length bs → s ≡ slot_in (take (length bs - 8) (drop 8 bs))
+    → n ≡ cast_unsigned w32 (cast_signed w32 (cast_unsigned w32 s.imm)) → Some n ≡ next_upper bs
 next_read bs s n h long e f =
     let e2 : s ≡ slot_in (drop 8 bs) = e ∙ ap slot_in (rest_of bs 8) in
     let all : n ≡ cast_unsigned w32 (slot_in (drop 8 bs)).imm =

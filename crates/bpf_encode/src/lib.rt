@@ -10,5 +10,3 @@ mod fields;
 pub mod laws;
 pub mod listing;
 mod slot_bytes;
-#[cfg(test)]
-mod tests;

@@ -29,18 +29,22 @@ put_in : (b : Bool) (e : Entry) (xs ys : List Entry) → cond b (e ∷ (xs ++ ys
 put_in true e xs ys = refl
 put_in false e xs ys = refl
 
-pub entries_at-snoc : (ss : List Step) (fs : List ℕ) (s : Step) (f : ℕ) → length fs ≡ length ss → entries_at s.object (ss ++ s ∷ []) (fs ++ f ∷ []) ≡ entries_at s.object ss fs ++ entry_of s f ∷ []
+pub entries_at-snoc : (ss : List Step) (fs : List ℕ) (s : Step) (f : ℕ) → length fs ≡ length ss
+    → entries_at s.object (ss ++ s ∷ []) (fs ++ f ∷ []) ≡ entries_at s.object ss fs ++ entry_of s f ∷ []
 entries_at-snoc [] [] s f e = ap (λ (b : Bool). cond b (entry_of s f ∷ []) []) (same_as_itself s.object)
 entries_at-snoc [] (g ∷ gs) s f e = absurd (omega arith)
 entries_at-snoc (x ∷ xs) [] s f e = absurd (omega arith)
-entries_at-snoc (x ∷ xs) (g ∷ gs) s f e = ap (λ (z : List Entry). cond (is_same_object x.object s.object) (entry_of x g ∷ z) z) (entries_at-snoc xs gs s f (omega arith)) ∙ put_in (is_same_object x.object s.object) (entry_of x g) (entries_at s.object xs gs) (entry_of s f ∷ [])
+entries_at-snoc (x ∷ xs) (g ∷ gs) s f e = ap (λ (z : List Entry). cond (is_same_object x.object s.object) (entry_of x g ∷ z) z)
+    (entries_at-snoc xs gs s f (omega arith)) ∙ put_in (is_same_object x.object s.object) (entry_of x g) (entries_at s.object xs gs) (entry_of s f ∷ [])
 
 passed_over : (b : Bool) (es : List Entry) (e : Entry) → (b ≡ true → ⊥) → cond b (e ∷ es) es ≡ es
 passed_over true es e never = absurd (never refl)
 passed_over false es e never = refl
 
-pub entries_at-snoc_other : (o : ObjectId) (ss : List Step) (fs : List ℕ) (s : Step) (f : ℕ) → o ≢ s.object → length fs ≡ length ss → entries_at o (ss ++ s ∷ []) (fs ++ f ∷ []) ≡ entries_at o ss fs
+pub entries_at-snoc_other : (o : ObjectId) (ss : List Step) (fs : List ℕ) (s : Step) (f : ℕ) → o ≢ s.object → length fs ≡ length ss
+    → entries_at o (ss ++ s ∷ []) (fs ++ f ∷ []) ≡ entries_at o ss fs
 entries_at-snoc_other o [] [] s f ne e = passed_over (is_same_object s.object o) [] (entry_of s f) (λ q. ne (sym (is_one s.object o q)))
 entries_at-snoc_other o [] (g ∷ gs) s f ne e = absurd (omega arith)
 entries_at-snoc_other o (x ∷ xs) [] s f ne e = absurd (omega arith)
-entries_at-snoc_other o (x ∷ xs) (g ∷ gs) s f ne e = ap (λ (z : List Entry). cond (is_same_object x.object o) (entry_of x g ∷ z) z) (entries_at-snoc_other o xs gs s f ne (omega arith))
+entries_at-snoc_other o (x ∷ xs) (g ∷ gs) s f ne e = ap (λ (z : List Entry). cond (is_same_object x.object o) (entry_of x g ∷ z) z)
+    (entries_at-snoc_other o xs gs s f ne (omega arith))

@@ -1,7 +1,7 @@
 use Rattle.std.proofs.Common.{rules, ◌≡◌, length}
 use Rattle.turn_lock.specs.Locks.{table_of}
-use Rattle.turn_lock.proofs.Rows.{turns_changed, turns_of}
-use Rattle.turn_lock.proofs.tests.everyone_adds.Goals as goal
+use Rattle.turn_lock.proofs.HistoryLemmas.{turns_changed, turns_of}
+use Rattle.lock_tests.proofs.locks.everyone_adds.Goals as goal
 
 pub all_add_ones-requires-clause-of : goal.all_add_ones-requires-clause-of
 all_add_ones-requires-clause-of g c κs within = turns_of (table_of c.args.lock.now) 0 c.args.turns.now c.requires.turns

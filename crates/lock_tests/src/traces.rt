@@ -1,17 +1,17 @@
-// What no clause says: that steps are made, with the stamps of a worked example.
+// Traces: that steps are made and refused, with the stamps of a worked example.
 ghost use Rattle.std.specs.Prelude.{◌≡◌, ◌<◌, length, OnOk};
 ghost use Rattle.turn_lock.specs.Locks.{IsOf};
 ghost use Rattle.turn_lock.specs.Calls.{caller_of};
 ghost use Rattle.turn_lock.specs.Sums.{IsAdd};
 ghost use Rattle.stamped.specs.Traces.{actor_of, steps_of};
 
-use crate::perform::perform;
-use crate::trace::Trace;
 use bt_core::key::Key;
 use bt_core::map::MapId;
 use bt_core::memory::Memory;
 use bt_core::step::{ObjectId, Op, Reply, Step};
 use bt_core::value::Value;
+use stamped::perform::perform;
+use stamped::trace::Trace;
 use std::alloc::Global;
 use std::sync::Wait;
 use std::test::Fail;
@@ -77,40 +77,6 @@ fn one_trace_over_two_locks_counts_up(rt: HostRuntime) -> Result<(), Fail> {
     assert_eq!(rt; made[0], step_of(alloc, ObjectId::Cpu(0), 1, 5, 5));
     assert_eq!(rt; made[1], step_of(alloc, ObjectId::Out, 2, 7, 7));
     assert_eq!(rt; made[2], step_of(alloc, ObjectId::Cpu(0), 3, -2, 3));
-    Ok(())
-}
-
-#[test]
-fn a_raised_clock_is_the_next_floor(rt: HostRuntime) -> Result<(), Fail> {
-    let alloc = rt.alloc();
-    let (lock, mut turns) = TurnLock::new(alloc, Tally::new(), ObjectId::Clock, 1)?;
-    let mut trace = Trace::new(alloc, 0);
-    assert_eq!(rt; trace.clock(), 0);
-    trace.raise(7);
-    trace.raise(3);
-    trace.reserve(alloc)?;
-    perform(
-        &rt,
-        alloc,
-        &lock,
-        &mut turns[0],
-        &mut trace,
-        add(alloc, 1),
-        &Open,
-    )?;
-    assert_eq!(rt; trace.clock(), 8);
-    trace.raise(u64::MAX);
-    let at_the_end = perform(
-        &rt,
-        alloc,
-        &lock,
-        &mut turns[0],
-        &mut trace,
-        add(alloc, 1),
-        &Open,
-    );
-    assert!(rt; at_the_end.is_err());
-    assert_eq!(rt; trace.into_steps().len(), 1);
     Ok(())
 }
 

@@ -1,16 +1,11 @@
-// What no clause says: that calls return, also with many callers on few processors, that the gate
-// is told of each held turn once, and the replies and stamps of worked examples.
+// Locks: that calls return, also with many callers on few processors, that the gate is told of each
+// held turn once, and that turns of two locks are held at once.
 ghost use Rattle.std.specs.Prelude.{◌≡◌, ℕ, ◌<◌, length, slice_index_or};
 ghost use Rattle.turn_lock.specs.Locks.{table_of, IsOf};
 ghost use Rattle.turn_lock.specs.Calls.{caller_of, AreTurns};
 ghost use Rattle.turn_lock.specs.Sums.{IsAdd};
 ghost use Rattle.bt_core.specs.declared.step.Reply.TheVariants.{Done};
 
-use crate::gate::{Gate, Open};
-use crate::lock::TurnLock;
-use crate::object::SeqObject;
-use crate::tally::{Balky, Tally};
-use crate::turn::Turn;
 use bt_core::key::Key;
 use bt_core::map::MapId;
 use bt_core::memory::Memory;
@@ -23,6 +18,11 @@ use std::sync::{Arc, Mutex, Wait};
 use std::test::Fail;
 use std::thread;
 use std::thread::Threads;
+use turn_lock::gate::{Gate, Open};
+use turn_lock::lock::TurnLock;
+use turn_lock::object::SeqObject;
+use turn_lock::tally::Tally;
+use turn_lock::turn::Turn;
 
 fn add(alloc: Global, number: i64) -> Op
     ensures { IsAdd result }
@@ -73,7 +73,10 @@ fn all_add_ones<R: Threads + Wait + Sync>(
 )
     requires some { 0 < length turns.old }
     requires of { (i : ℕ) (d : Turn) → i < length turns.old → IsOf lock.now (slice_index_or turns.old i d) }
-    ensures { (i : ℕ) (d : Turn) → i < length turns.old → IsOf lock.now (slice_index_or turns.new i d) × (caller_of (slice_index_or turns.new i d) ≡ caller_of (slice_index_or turns.old i d)) }
+    ensures { (i : ℕ) (d : Turn) → i < length turns.old →
+        let before = slice_index_or turns.old i d in
+        let after = slice_index_or turns.new i d in
+        IsOf lock.now after × (caller_of after ≡ caller_of before) }
 {
     let threads = turns.len();
     thread::for_each_mut(
@@ -132,50 +135,11 @@ fn counts_up(answers: &[Answer], callers: u32, times: u32) -> bool {
 }
 
 #[test]
-fn two_callers_have_one_history(rt: HostRuntime) -> Result<(), Fail> {
-    let answers = crowd(&rt, rt.alloc(), 2, 1000)?;
-    assert_eq!(rt; answers.len(), 2000);
-    assert!(rt; counts_up(&answers, 2, 1000));
-    Ok(())
-}
-
-#[test]
-fn many_callers_get_on(rt: HostRuntime) -> Result<(), Fail> {
-    for (callers, times) in [(8, 1000), (64, 50)] {
+fn callers_have_one_history(rt: HostRuntime) -> Result<(), Fail> {
+    for (callers, times) in [(2, 1000), (8, 1000), (64, 50)] {
         let answers = crowd(&rt, rt.alloc(), callers, times)?;
         assert!(rt; counts_up(&answers, callers, times), "{callers} callers");
     }
-    Ok(())
-}
-
-#[test]
-fn a_refused_call_changes_nothing(rt: HostRuntime) -> Result<(), Fail> {
-    let alloc = rt.alloc();
-    let balky = Balky::new(vec![in alloc; 2u32]?);
-    let (lock, mut turns) = TurnLock::new(alloc, balky, ObjectId::Out, 1)?;
-    let turn = &mut turns[0];
-    let first = lock.call(&rt, alloc, turn, 0, &add(alloc, 1), &Open)?;
-    let second = lock.call(&rt, alloc, turn, 0, &add(alloc, 1), &Open);
-    let third = lock.call(&rt, alloc, turn, 0, &add(alloc, 1), &Open)?;
-    assert_eq!(rt; (sum_in(&first.0), first.1), (1, 1));
-    assert!(rt; second.is_err());
-    assert_eq!(rt; (sum_in(&third.0), third.1), (2, 2));
-    let (_balky, _joined) = lock.close(turns);
-    Ok(())
-}
-
-#[test]
-fn stamps_lie_above_the_floor_and_the_stamp_before(rt: HostRuntime) -> Result<(), Fail> {
-    let alloc = rt.alloc();
-    let (lock, mut turns) = TurnLock::new(alloc, Tally::new(), ObjectId::Clock, 1)?;
-    let turn = &mut turns[0];
-    let first = lock.call(&rt, alloc, turn, 7, &add(alloc, i64::MAX), &Open)?;
-    let second = lock.call(&rt, alloc, turn, 3, &add(alloc, 1), &Open)?;
-    let at_the_end = lock.call(&rt, alloc, turn, u64::MAX, &add(alloc, 1), &Open);
-    assert_eq!(rt; (sum_in(&first.0), first.1), (i64::MAX, 8));
-    assert_eq!(rt; (sum_in(&second.0), second.1), (i64::MIN, 9));
-    assert!(rt; at_the_end.is_err());
-    assert_eq!(rt; lock.id(), ObjectId::Clock);
     Ok(())
 }
 
