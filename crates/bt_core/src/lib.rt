@@ -14,6 +14,7 @@ pub mod memory;
 pub mod operator;
 pub mod order;
 pub mod place;
+pub mod port;
 pub mod step;
 #[cfg(test)]
 mod tests;
