@@ -13,7 +13,7 @@ use Rattle.bt_top.specs.declared.refusal.Operand.TheVariants.{Script, Recording}
 use Rattle.bt_top.specs.declared.refusal.Refusal.{Refusal}
 use Rattle.bt_top.specs.declared.refusal.Refusal.TheVariants.{Usage, ReadFault, TooLong, BadRecording, BadScript, Early, WriteFault, Memory}
 use Rattle.bt_top.specs.Refusals.{status_of, refusal_of}
-use Rattle.bt_lexer.specs.declared.line.LineColumn.{LineColumn}
+use Rattle.bt_core.specs.declared.place.Place.{Place}
 use Rattle.bt_ast.specs.declared.probe.Script.{Script as Tree}
 use Rattle.bt_top.specs.declared.refusal.ScriptFault.{ScriptFault}
 use Rattle.bt_top.specs.Script.{CountsFormat}
@@ -221,7 +221,7 @@ refused_script s r Memory sized one found = tt
 refused_script s r (BadScript f p) sized one found = (sized, one, found (λ e. cc))
 refused_script s r refusal sized one found = absurd (not_told (is_told s refusal (found (λ e. cc))))
   where
-    not_told : (f : ScriptFault) × (p : LineColumn) × (refusal ≡ BadScript f p) → ⊥
+    not_told : (f : ScriptFault) × (p : Place) × (refusal ≡ BadScript f p) → ⊥
     not_told h = let e = h.2 in cc
 
 -- a refusal of the bytes is their first fault, or want of memory

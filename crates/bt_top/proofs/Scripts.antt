@@ -6,16 +6,16 @@ use Rattle.std.proofs.lemmas.Option.{slice_get-get_or, get_or_from_slice_get, sl
 use Rattle.tracefs_format.specs.declared.format.Format.{Format}
 use Rattle.bt_lexer.specs.declared.error.LexError.{LexError}
 use Rattle.bt_lexer.specs.declared.error.LexError.TheVariants as lexical
-use Rattle.bt_lexer.specs.declared.line.LineColumn.{LineColumn}
+use Rattle.bt_core.specs.declared.place.Place.{Place}
 use Rattle.bt_lexer.specs.declared.token.Token.{Token}
 use Rattle.bt_lexer.specs.Tokens.{IsTokensOf, IsFirstFault, Gives}
 use Rattle.bt_ast.specs.declared.probe.Script.{Script as Tree}
-use Rattle.bt_parser.specs.declared.error.ParseError.{ParseError}
-use Rattle.bt_parser.specs.declared.error.ParseError.TheVariants as parsing
-use Rattle.bt_parser.specs.Form.{Item}
-use Rattle.bt_parser.specs.Grammar.{IsTreeOf}
-use Rattle.bt_parser.specs.Refusals.{IsAccepted as IsTree, IsRefusal}
-use Rattle.bt_parser.specs.Tokens.{items}
+use Rattle.bt_grammar.specs.declared.error.ParseError.{ParseError}
+use Rattle.bt_grammar.specs.declared.error.ParseError.TheVariants as parsing
+use Rattle.bt_grammar.specs.Form.{Item}
+use Rattle.bt_grammar.specs.Grammar.{IsTreeOf}
+use Rattle.bt_grammar.specs.Refusals.{IsAccepted as IsTree, IsRefusal}
+use Rattle.bt_grammar.specs.Tokens.{items}
 use Rattle.bt_top.specs.declared.refusal.ScriptFault.{ScriptFault}
 use Rattle.bt_top.specs.declared.refusal.ScriptFault.TheVariants.{BadCharacter, OpenString, OpenComment, NumberTooLarge, BadEscape, StringTooLong, Syntax, TooDeep, TooManyProbes}
 use Rattle.bt_top.specs.declared.refusal.Refusal.{Refusal}
@@ -28,14 +28,14 @@ use Rattle.bt_top.specs.Serve.{IsScriptFault}
 -- what reading the text answered: its tree, or its first fault, or want of memory
 pub record IsReadTree (text : List ℕ) (answer : Result Tree Refusal) : Type 0 where
   pub only_tree : (tree : Tree) → HasTree text tree → (answer ≡ Ok tree) ⊎ (answer ≡ Err Memory)
-  pub only_fault : (fault : ScriptFault) (place : LineColumn) → IsScriptFault text (BadScript fault place) → (answer ≡ Err (BadScript fault place)) ⊎ (answer ≡ Err Memory)
+  pub only_fault : (fault : ScriptFault) (place : Place) → IsScriptFault text (BadScript fault place) → (answer ≡ Err (BadScript fault place)) ⊎ (answer ≡ Err Memory)
 
 -- ---- a fault is told with its place
 
-pub is_told : (text : List ℕ) (refusal : Refusal) → IsScriptFault text refusal → (f : ScriptFault) × (p : LineColumn) × (refusal ≡ BadScript f p)
+pub is_told : (text : List ℕ) (refusal : Refusal) → IsScriptFault text refusal → (f : ScriptFault) × (p : Place) × (refusal ≡ BadScript f p)
 is_told text refusal (inl h) = by_fault h.fault h.first h.told
   where
-    by_fault : (fault : LexError) → IsFirstFault text fault → refusal ≡ lexical_refusal text fault → (f : ScriptFault) × (p : LineColumn) × (refusal ≡ BadScript f p)
+    by_fault : (fault : LexError) → IsFirstFault text fault → refusal ≡ lexical_refusal text fault → (f : ScriptFault) × (p : Place) × (refusal ≡ BadScript f p)
     by_fault (lexical.BadChar at) first told = (BadCharacter, place_at text at, told)
     by_fault (lexical.OpenString at) first told = (OpenString, place_at text at, told)
     by_fault (lexical.OpenComment at) first told = (OpenComment, place_at text at, told)
@@ -45,7 +45,7 @@ is_told text refusal (inl h) = by_fault h.fault h.first h.told
     by_fault lexical.Memory first told = absurd first.5.2
 is_told text refusal (inr h) = by_fault h.fault h.first h.told
   where
-    by_fault : (fault : ParseError) → IsRefusal (items h.tokens) fault → refusal ≡ parse_refusal text h.tokens fault → (f : ScriptFault) × (p : LineColumn) × (refusal ≡ BadScript f p)
+    by_fault : (fault : ParseError) → IsRefusal (items h.tokens) fault → refusal ≡ parse_refusal text h.tokens fault → (f : ScriptFault) × (p : Place) × (refusal ≡ BadScript f p)
     by_fault (parsing.Syntax n) first told = (Syntax, place_of text (slice_get h.tokens n), told)
     by_fault (parsing.TooDeep n) first told = (TooDeep, place_of text (slice_get h.tokens n), told)
     by_fault (parsing.TooMany n) first told = (TooManyProbes, place_of text (slice_get h.tokens n), told)
@@ -75,7 +75,7 @@ lexical_read text error known lexed = record {
   only_fault = λ fault place wrong. by_wrong fault place wrong;
 }
   where
-    by_wrong : (fault : ScriptFault) (place : LineColumn) → IsScriptFault text (BadScript fault place) → (◌≡◌ {A = Result Tree Refusal} (Err (lexical_refusal text error)) (Err (BadScript fault place))) ⊎ (◌≡◌ {A = Result Tree Refusal} (Err (lexical_refusal text error)) (Err Memory))
+    by_wrong : (fault : ScriptFault) (place : Place) → IsScriptFault text (BadScript fault place) → (◌≡◌ {A = Result Tree Refusal} (Err (lexical_refusal text error)) (Err (BadScript fault place))) ⊎ (◌≡◌ {A = Result Tree Refusal} (Err (lexical_refusal text error)) (Err Memory))
     by_wrong fault place (inl h) = inl (ap (λ (x : Refusal). Err x) (ap (lexical_refusal text) (sym (same_error error h.fault known (lexed.fault h.fault h.first))) ∙ sym h.told))
     by_wrong fault place (inr h) = absurd (no_tokens error h.tokens known (lexed.tokens h.tokens h.are))
 
@@ -113,7 +113,7 @@ tree_read text tokens tree lexed once is = record {
   only_fault = λ fault place wrong. absurd (by_wrong fault place wrong);
 }
   where
-    by_wrong : (fault : ScriptFault) (place : LineColumn) → IsScriptFault text (BadScript fault place) → ⊥
+    by_wrong : (fault : ScriptFault) (place : Place) → IsScriptFault text (BadScript fault place) → ⊥
     by_wrong fault place (inl h) = no_fault tokens h.fault (lexed.fault h.fault h.first)
     by_wrong fault place (inr h) = once.apart tree h.fault is (subst (λ (ts : List Token). IsRefusal (items ts) h.fault) (same_tokens tokens h.tokens (lexed.tokens h.tokens h.are)) h.first)
 
@@ -124,10 +124,10 @@ parse_read text tokens error lexed once found = record {
   only_fault = λ fault place wrong. by_wrong fault place wrong;
 }
   where
-    told : (fault : ScriptFault) (place : LineColumn) (other : List Token) (due : ParseError) → other ≡ tokens → due ≡ error → BadScript fault place ≡ parse_refusal text other due → parse_refusal text tokens error ≡ BadScript fault place
+    told : (fault : ScriptFault) (place : Place) (other : List Token) (due : ParseError) → other ≡ tokens → due ≡ error → BadScript fault place ≡ parse_refusal text other due → parse_refusal text tokens error ≡ BadScript fault place
     told fault place other due same is said = sym (said ∙ ap (λ (ts : List Token). parse_refusal text ts due) same ∙ ap (parse_refusal text tokens) is)
 
-    by_wrong : (fault : ScriptFault) (place : LineColumn) → IsScriptFault text (BadScript fault place) → (◌≡◌ {A = Result Tree Refusal} (Err (parse_refusal text tokens error)) (Err (BadScript fault place))) ⊎ (◌≡◌ {A = Result Tree Refusal} (Err (parse_refusal text tokens error)) (Err Memory))
+    by_wrong : (fault : ScriptFault) (place : Place) → IsScriptFault text (BadScript fault place) → (◌≡◌ {A = Result Tree Refusal} (Err (parse_refusal text tokens error)) (Err (BadScript fault place))) ⊎ (◌≡◌ {A = Result Tree Refusal} (Err (parse_refusal text tokens error)) (Err Memory))
     by_wrong fault place (inl h) = absurd (no_fault tokens h.fault (lexed.fault h.fault h.first))
     by_wrong fault place (inr h) =
         let same = same_tokens tokens h.tokens (lexed.tokens h.tokens h.are) in

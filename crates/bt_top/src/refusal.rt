@@ -2,8 +2,8 @@
 ghost use Rattle.std.specs.Prelude.{◌≡◌};
 ghost use Rattle.bt_top.specs.Refusals.{status_of, refusal_of};
 
+use bt_core::place::Place;
 use bt_io::shelf::ShelfError;
-use bt_lexer::line::LineColumn;
 use rec_format::error::RecordingError;
 
 /// A file that the words name.
@@ -49,7 +49,7 @@ pub enum Refusal {
     BadRecording(RecordingError),
     /// The text is no script: the first fault, and the line and column of its byte or token. That of a
     /// text that breaks off is the end of the text.
-    BadScript(ScriptFault, LineColumn),
+    BadScript(ScriptFault, Place),
     /// The file is none of those that are handled so far: a recording of more than one CPU, or a script
     /// that does not count the events of one of the recording's formats.
     Early(Operand),

@@ -2,7 +2,7 @@
 ghost use Rattle.std.specs.Prelude.{◌≡◌, ◌≢◌, ◌≤◌, ◌⊎◌, ◌↔◌, ℕ, Err, IfErr, IfOk, IsTrue, List, MatchOption, None, Ok, Some, length, slice_get};
 ghost use Rattle.bt_ast.specs.declared.probe.Script.{Script as Tree};
 ghost use Rattle.bt_lexer.specs.Places.{offset_of};
-ghost use Rattle.bt_lexer.specs.declared.line.LineColumn.{LineColumn};
+ghost use Rattle.bt_core.specs.declared.place.Place.{Place};
 ghost use Rattle.bt_top.specs.declared.refusal.ScriptFault.{ScriptFault};
 ghost use Rattle.bt_top.specs.Script.{place_of, place_at, lexical_refusal, parse_refusal, HasTree, has_star, IsFormatOf, CountsFormat};
 ghost use Rattle.bt_top.specs.Early.{event_of_points, is_count, are_count, event_of_probe, event_of_tree};
@@ -11,19 +11,20 @@ ghost use Rattle.bt_top.specs.Serve.{IsScriptFault};
 use crate::refusal::{Refusal, ScriptFault};
 use bt_ast::probe::{Point, Probe, Script};
 use bt_ast::stmt::{AggCall, Stmt, StmtKind};
+use bt_core::place::Place;
+use bt_grammar::error::ParseError;
+use bt_grammar::laws::one_answer;
 use bt_lexer::error::LexError;
 use bt_lexer::laws::few_tokens;
 use bt_lexer::lexer::lex;
-use bt_lexer::line::{LineColumn, line_column};
+use bt_lexer::line::line_column;
 use bt_lexer::token::Token;
-use bt_parser::error::ParseError;
-use bt_parser::laws::one_answer;
 use bt_parser::parse::parse;
 use std::alloc::Global;
 use tracefs_format::format::Format;
 
 /// The line and column of a byte, by its offset in the text.
-fn place_at(text: &[u8], offset: u64) -> LineColumn
+fn place_at(text: &[u8], offset: u64) -> Place
     requires within { offset ≤ length text.now }
     requires short { length text.now ≤ 65536 }
     ensures { result ≡ place_at text.now offset }
@@ -55,15 +56,12 @@ fn lexical_refusal(text: &[u8], error: LexError) -> Refusal
 }
 
 /// The line and column of the token with so many before it, or of the end of the text.
-fn place_of(text: &[u8], tokens: &[Token], number: u32) -> LineColumn
+fn place_of(text: &[u8], tokens: &[Token], number: u32) -> Place
     requires { length text.now ≤ 65536 }
     ensures { result ≡ place_of text.now (slice_get tokens.now number) }
 {
     match tokens.get(number as usize) {
-        Some(token) => LineColumn {
-            line: token.line,
-            column: token.column,
-        },
+        Some(token) => token.place,
         None => line_column(text, text.len()),
     }
 }
@@ -93,7 +91,7 @@ pub(crate) fn tree_of(alloc: Global, text: &[u8]) -> Result<Script, Refusal>
     ensures tree { IfOk result (HasTree text.now) }
     ensures fault { IfErr result (λ refusal. refusal ≢ Refusal.Memory → IsScriptFault text.now refusal) }
     ensures only_tree { (tree : Tree) → HasTree text.now tree → (result ≡ Ok tree) ⊎ (result ≡ Err Refusal.Memory) }
-    ensures only_fault { (fault : ScriptFault) (place : LineColumn) → IsScriptFault text.now (Refusal.BadScript fault place) → (result ≡ Err (Refusal.BadScript fault place)) ⊎ (result ≡ Err Refusal.Memory) }
+    ensures only_fault { (fault : ScriptFault) (place : Place) → IsScriptFault text.now (Refusal.BadScript fault place) → (result ≡ Err (Refusal.BadScript fault place)) ⊎ (result ≡ Err Refusal.Memory) }
 {
     few_tokens();
     one_answer();

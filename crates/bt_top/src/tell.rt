@@ -11,8 +11,8 @@ ghost use Rattle.bt_top.specs.Words.{named_by};
 
 use crate::refusal::{Operand, Refusal, ScriptFault};
 use crate::words::Named;
+use bt_core::place::Place;
 use bt_io::sink::{Sink, SinkFailed, write_all};
-use bt_lexer::line::LineColumn;
 use itoa::Buffer;
 use rec_format::error::{CountOf, RecordingError};
 use tracefs_format::error::FormatError;
@@ -150,7 +150,7 @@ fn script_tail(fault: ScriptFault) -> &'static str
 }
 
 /// The line on the fault of a script.
-fn script_line(fault: ScriptFault, place: LineColumn) -> Line
+fn script_line(fault: ScriptFault, place: Place) -> Line
     ensures { line_text result ≡ codes ":" ++ (decimal place.line ++ (codes ":" ++ (decimal place.column ++ (codes ": " ++ (script_fault_text fault ++ codes "\n"))))) }
 {
     Line {

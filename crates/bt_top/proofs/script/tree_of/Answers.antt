@@ -1,5 +1,5 @@
 use Rattle.bt_top.proofs.Scripts.{lexical_told, no_text, tree_read, parse_read}
-use Rattle.bt_parser.specs.Tokens.{items}
+use Rattle.bt_grammar.specs.Tokens.{items}
 use Rattle.bt_top.proofs.script.tree_of.Goals as goal
 
 pub returns-in-Err : goal.returns-in-Err
