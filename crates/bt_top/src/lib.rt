@@ -4,6 +4,7 @@
 pub mod code;
 mod count;
 mod judge;
+mod line;
 mod port;
 pub mod refusal;
 pub mod report;
