@@ -11,6 +11,4 @@ pub mod report;
 mod script;
 pub mod serve;
 mod tell;
-#[cfg(test)]
-mod tests;
 mod words;

@@ -14,7 +14,7 @@ use crate::judge::{Counting, judge};
 use crate::refusal::{Operand, Refusal, read_refusal, status_of};
 use crate::report::Report;
 use crate::tell::{tell, tell_usage};
-use crate::words::{Named, Order, named, order_of};
+use crate::words::{Named, Order, files_of, order_of};
 use bt_core::limits::{RECORDING_BYTES, SCRIPT_BYTES};
 use bt_io::shelf::Shelf;
 use bt_io::sink::{Sink, write_all};
@@ -135,7 +135,7 @@ pub fn serve<S: Shelf, K: Sink, E: Sink>(
         Order::Run(named) => run(alloc, &named, shelf, out),
     };
     if let Some(refusal) = report.refusal {
-        tell(err, &named(&order), refusal);
+        tell(err, &files_of(&order), refusal);
     }
     report
 }

@@ -44,7 +44,7 @@ fn is_operand(word: &str) -> bool
 }
 
 /// The files that an order names.
-pub(crate) fn named<'w>(order: &Order<'w>) -> Named<'w>
+pub(crate) fn files_of<'w>(order: &Order<'w>) -> Named<'w>
     ensures { named_by result ≡ operands_of (order_by order.now) }
 {
     match order {
