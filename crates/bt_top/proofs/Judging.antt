@@ -143,6 +143,7 @@ worked_answer order seen out status refusal counting work reads counted ends = r
 }
   where
     accepted = record { says = counting.recording; place = counting.format; asked = reads.asked.1 }
+
     due : IsDue reads.files None
     due = (reads.asked.0, accepted)
 

@@ -44,16 +44,12 @@ fn lexical_refusal(text: &[u8], error: LexError) -> Refusal
     match error {
         LexError::BadChar(at) => fault_at(ScriptFault::BadCharacter, place_at(text, at)),
         LexError::OpenString(at) => fault_at(ScriptFault::OpenString, place_at(text, at)),
-        LexError::OpenComment(at) => {
-            fault_at(ScriptFault::OpenComment, place_at(text, at))
-        }
+        LexError::OpenComment(at) => { fault_at(ScriptFault::OpenComment, place_at(text, at)) }
         LexError::NumberTooLarge(at) => {
             fault_at(ScriptFault::NumberTooLarge, place_at(text, at))
         }
         LexError::BadEscape(at) => fault_at(ScriptFault::BadEscape, place_at(text, at)),
-        LexError::StringTooLong(at) => {
-            fault_at(ScriptFault::StringTooLong, place_at(text, at))
-        }
+        LexError::StringTooLong(at) => { fault_at(ScriptFault::StringTooLong, place_at(text, at)) }
         LexError::Memory => Refusal::Memory,
     }
 }

@@ -136,7 +136,12 @@ fn tell_fault<E: Sink>(err: &mut E, name: &str, error: RecordingError)
             tell_event(err, name, "C9 short payload", cpu, event)
         }
         RecordingError::TrailingBytes(offset) => {
-            tell_with(err, name, "C10 trailing bytes at byte ", Piece::Number(offset))
+            tell_with(
+                err,
+                name,
+                "C10 trailing bytes at byte ",
+                Piece::Number(offset),
+            )
         }
         RecordingError::BadSystem(place) => {
             let place = Piece::Number(u64::from(place));
@@ -152,7 +157,10 @@ fn tell_recording<E: Sink>(err: &mut E, name: &str, why: RecordingRefusal)
 {
     match why {
         RecordingRefusal::TooLong => {
-            write_line(err, &[Piece::Text(name), Piece::Text(": recording too long")])
+            write_line(
+                err,
+                &[Piece::Text(name), Piece::Text(": recording too long")],
+            )
         }
         RecordingRefusal::Fault(error) => tell_fault(err, name, error),
         RecordingRefusal::NotBuilt => {
@@ -170,7 +178,10 @@ fn tell_place<E: Sink>(err: &mut E, name: &str, fault: ScriptFault, place: LineC
     let line = Piece::Number(u64::from(place.line));
     let column = Piece::Number(u64::from(place.column));
     let text = Piece::Text(script_fault_text(fault));
-    write_line(err, &[name, colon, line, colon, column, Piece::Text(": "), text]);
+    write_line(
+        err,
+        &[name, colon, line, colon, column, Piece::Text(": "), text],
+    );
 }
 
 /// Tells why a script is refused.
