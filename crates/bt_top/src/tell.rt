@@ -2,7 +2,7 @@
 ghost use Rattle.std.specs.Prelude.{◌≡◌, ◌∷◌, [], codes};
 ghost use Rattle.rec_format.specs.declared.error.RecordingError.TheVariants as wrong;
 ghost use Rattle.bt_top.specs.declared.refusal.ScriptRefusal.TheVariants as refused;
-ghost use Rattle.bt_top.specs.Lines.{Writes, sink_use, piece_by, Text};
+ghost use Rattle.bt_top.specs.Lines.{Writes, sink_use, Text, Number};
 ghost use Rattle.bt_top.specs.Refusals.{count_word, event_pieces, fault_pieces, name_of, recording_pieces, refusal_pieces, script_fault_text, script_pieces, usage_pieces};
 ghost use Rattle.bt_top.specs.Words.{named_by};
 
@@ -101,12 +101,23 @@ fn tell_text<E: Sink>(err: &mut E, name: &str, text: &'static str)
     write_line(err, &[Piece::Text(name), colon, Piece::Text(text)]);
 }
 
-/// Tells a text and a piece behind a name.
-fn tell_with<E: Sink>(err: &mut E, name: &str, text: &'static str, piece: Piece<'static>)
-    ensures { Writes (sink_use E.taken E.faults err.old err.new) (Text name.now ∷ Text (codes ": ") ∷ Text text.now ∷ piece_by piece ∷ []) }
+/// Tells a text and a number behind a name.
+fn tell_numbered<E: Sink>(err: &mut E, name: &str, text: &'static str, number: u64)
+    ensures { Writes (sink_use E.taken E.faults err.old err.new) (Text name.now ∷ Text (codes ": ") ∷ Text text.now ∷ Number number ∷ []) }
 {
     let colon = Piece::Text(": ");
-    write_line(err, &[Piece::Text(name), colon, Piece::Text(text), piece]);
+    let number = Piece::Number(number);
+    write_line(err, &[Piece::Text(name), colon, Piece::Text(text), number]);
+}
+
+/// Tells which number is out of its bounds.
+fn tell_count<E: Sink>(err: &mut E, name: &str, what: CountOf)
+    ensures { Writes (sink_use E.taken E.faults err.old err.new) (Text name.now ∷ Text (codes ": ") ∷ fault_pieces (wrong.Count what)) }
+{
+    let colon = Piece::Text(": ");
+    let head = Piece::Text("C3 bad count: ");
+    let word = Piece::Text(count_word(what));
+    write_line(err, &[Piece::Text(name), colon, head, word]);
 }
 
 /// Tells the first check that the bytes of a recording fail.
@@ -115,20 +126,16 @@ fn tell_fault<E: Sink>(err: &mut E, name: &str, error: RecordingError)
 {
     match error {
         RecordingError::Truncated(offset) => {
-            tell_with(err, name, "C1 truncated at byte ", Piece::Number(offset))
+            tell_numbered(err, name, "C1 truncated at byte ", offset)
         }
         RecordingError::BadMagic => tell_text(err, name, "C2 bad magic"),
-        RecordingError::Count(what) => {
-            tell_with(err, name, "C3 bad count: ", Piece::Text(count_word(what)))
-        }
+        RecordingError::Count(what) => tell_count(err, name, what),
         RecordingError::Format(place, rule) => tell_format(err, name, place, rule),
         RecordingError::SameEvent(place) => {
-            let place = Piece::Number(u64::from(place));
-            tell_with(err, name, "C5 same event in format ", place)
+            tell_numbered(err, name, "C5 same event in format ", u64::from(place))
         }
         RecordingError::CpuNumber(cpu) => {
-            let cpu = Piece::Number(u64::from(cpu));
-            tell_with(err, name, "C6 bad cpu number at cpu ", cpu)
+            tell_numbered(err, name, "C6 bad cpu number at cpu ", u64::from(cpu))
         }
         RecordingError::TimeOrder(cpu, event) => tell_event(err, name, "C7 time order", cpu, event),
         RecordingError::UnknownId(cpu, event) => tell_event(err, name, "C8 unknown id", cpu, event),
@@ -136,16 +143,10 @@ fn tell_fault<E: Sink>(err: &mut E, name: &str, error: RecordingError)
             tell_event(err, name, "C9 short payload", cpu, event)
         }
         RecordingError::TrailingBytes(offset) => {
-            tell_with(
-                err,
-                name,
-                "C10 trailing bytes at byte ",
-                Piece::Number(offset),
-            )
+            tell_numbered(err, name, "C10 trailing bytes at byte ", offset)
         }
         RecordingError::BadSystem(place) => {
-            let place = Piece::Number(u64::from(place));
-            tell_with(err, name, "C11 bad system in format ", place)
+            tell_numbered(err, name, "C11 bad system in format ", u64::from(place))
         }
         RecordingError::Memory => tell_text(err, name, "out of memory"),
     }
