@@ -2,9 +2,11 @@
 #![tactic(auto)]
 
 pub mod agg;
+pub mod arithmetic;
 pub mod boxed;
 pub mod bytes;
 pub mod context;
+pub mod encoding;
 pub mod item;
 pub mod items;
 pub mod key;
@@ -14,6 +16,7 @@ pub mod memory;
 pub mod operator;
 pub mod order;
 pub mod place;
+pub mod port;
 pub mod step;
 #[cfg(test)]
 mod tests;

@@ -6,7 +6,7 @@ use Rattle.rec_format.specs.declared.error.RecordingError.{RecordingError}
 use Rattle.rec_format.specs.declared.error.RecordingError.TheVariants as fault
 use Rattle.rec_format.specs.Recordings.{recording_bytes, IsValidRecording}
 use Rattle.rec_format.specs.Faults.{IsRecordingFault}
-use Rattle.bt_lexer.specs.declared.line.LineColumn.{LineColumn}
+use Rattle.bt_core.specs.declared.place.Place.{Place}
 use Rattle.bt_ast.specs.declared.probe.Script.{Script as Tree}
 use Rattle.bt_top.specs.declared.judge.Counting.{Counting}
 use Rattle.bt_top.specs.declared.refusal.ScriptFault.{ScriptFault}

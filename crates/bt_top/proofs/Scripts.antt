@@ -6,16 +6,16 @@ use Rattle.std.proofs.lemmas.Option.{slice_get-get_or, get_or_from_slice_get, sl
 use Rattle.tracefs_format.specs.declared.format.Format.{Format}
 use Rattle.bt_lexer.specs.declared.error.LexError.{LexError}
 use Rattle.bt_lexer.specs.declared.error.LexError.TheVariants as lexical
-use Rattle.bt_lexer.specs.declared.line.LineColumn.{LineColumn}
+use Rattle.bt_core.specs.declared.place.Place.{Place}
 use Rattle.bt_lexer.specs.declared.token.Token.{Token}
 use Rattle.bt_lexer.specs.Tokens.{IsTokensOf, IsFirstFault}
 use Rattle.bt_ast.specs.declared.probe.Script.{Script as Tree}
-use Rattle.bt_parser.specs.declared.error.ParseError.{ParseError}
-use Rattle.bt_parser.specs.declared.error.ParseError.TheVariants as parsing
-use Rattle.bt_parser.specs.Form.{Item}
-use Rattle.bt_parser.specs.Grammar.{IsTreeOf}
-use Rattle.bt_parser.specs.Refusals.{IsAccepted as IsTree, IsRefusal}
-use Rattle.bt_parser.specs.Tokens.{items}
+use Rattle.bt_grammar.specs.declared.error.ParseError.{ParseError}
+use Rattle.bt_grammar.specs.declared.error.ParseError.TheVariants as parsing
+use Rattle.bt_grammar.specs.Form.{Item}
+use Rattle.bt_grammar.specs.Grammar.{IsTreeOf}
+use Rattle.bt_grammar.specs.Refusals.{IsAccepted as IsTree, IsRefusal}
+use Rattle.bt_grammar.specs.Tokens.{items}
 use Rattle.bt_top.specs.declared.refusal.ScriptFault.{ScriptFault}
 use Rattle.bt_top.specs.declared.refusal.ScriptFault.TheVariants.{BadCharacter, OpenString, OpenComment, NumberTooLarge, BadEscape, StringTooLong, Syntax, TooDeep, TooManyProbes}
 use Rattle.bt_top.specs.declared.refusal.Refusal.{Refusal}
@@ -58,10 +58,10 @@ no_tree text refusal tree laws (inr a) b =
     laws.parse_apart (items a.tokens) tree a.fault (subst (λ (ts : List Token). IsTree (items ts) tree) same b.is) a.first
 
 -- a fault is told with its place
-pub is_told : (text : List ℕ) (refusal : Refusal) → IsScriptFault text refusal → (f : ScriptFault) × (p : LineColumn) × (refusal ≡ Script (Fault f p))
+pub is_told : (text : List ℕ) (refusal : Refusal) → IsScriptFault text refusal → (f : ScriptFault) × (p : Place) × (refusal ≡ Script (Fault f p))
 is_told text refusal (inl h) = by_fault h.fault h.first h.told
   where
-    by_fault : (fault : LexError) → IsFirstFault text fault → refusal ≡ lexical_refusal text fault → (f : ScriptFault) × (p : LineColumn) × (refusal ≡ Script (Fault f p))
+    by_fault : (fault : LexError) → IsFirstFault text fault → refusal ≡ lexical_refusal text fault → (f : ScriptFault) × (p : Place) × (refusal ≡ Script (Fault f p))
     by_fault (lexical.BadChar at) first told = (BadCharacter, place_at text at, told)
     by_fault (lexical.OpenString at) first told = (OpenString, place_at text at, told)
     by_fault (lexical.OpenComment at) first told = (OpenComment, place_at text at, told)
@@ -71,7 +71,7 @@ is_told text refusal (inl h) = by_fault h.fault h.first h.told
     by_fault lexical.Memory first told = absurd first.5.2
 is_told text refusal (inr h) = by_fault h.fault h.first h.told
   where
-    by_fault : (fault : ParseError) → IsRefusal (items h.tokens) fault → refusal ≡ parse_refusal text h.tokens fault → (f : ScriptFault) × (p : LineColumn) × (refusal ≡ Script (Fault f p))
+    by_fault : (fault : ParseError) → IsRefusal (items h.tokens) fault → refusal ≡ parse_refusal text h.tokens fault → (f : ScriptFault) × (p : Place) × (refusal ≡ Script (Fault f p))
     by_fault (parsing.Syntax n) first told = (Syntax, place_of text (slice_get h.tokens n), told)
     by_fault (parsing.TooDeep n) first told = (TooDeep, place_of text (slice_get h.tokens n), told)
     by_fault (parsing.TooMany n) first told = (TooManyProbes, place_of text (slice_get h.tokens n), told)

@@ -4,11 +4,10 @@ use Rattle.std.specs.List.{list_any}
 use Rattle.tracefs_format.specs.declared.format.Format.{Format}
 use Rattle.bt_lexer.specs.declared.error.LexError.{LexError}
 use Rattle.bt_lexer.specs.declared.error.LexError.TheVariants as lexical
-use Rattle.bt_lexer.specs.declared.line.LineColumn.{LineColumn}
+use Rattle.bt_core.specs.declared.place.Place.{Place}
 use Rattle.bt_lexer.specs.declared.token.Token.{Token}
 use Rattle.bt_lexer.specs.Places.{line_behind, column_behind}
 use Rattle.bt_lexer.specs.Tokens.{IsTokensOf, IsFirstFault}
-use Rattle.bt_ast.specs.declared.place.Place.{Place}
 use Rattle.bt_ast.specs.declared.expr.MapRef.{MapRef, out-MapRef}
 use Rattle.bt_ast.specs.declared.probe.Point.TheVariants.{Tracepoint}
 use Rattle.bt_ast.specs.declared.probe.Probe.{Probe}
@@ -17,10 +16,10 @@ use Rattle.bt_ast.specs.declared.stmt.AggCall.TheVariants.{Count}
 use Rattle.bt_ast.specs.declared.stmt.Block.{out-Block}
 use Rattle.bt_ast.specs.declared.stmt.Stmt.{Stmt, out-Stmt}
 use Rattle.bt_ast.specs.declared.stmt.StmtKind.TheVariants.{SetAgg}
-use Rattle.bt_parser.specs.declared.error.ParseError.{ParseError}
-use Rattle.bt_parser.specs.declared.error.ParseError.TheVariants as parsing
-use Rattle.bt_parser.specs.Refusals.{IsAccepted as IsTree, IsRefusal}
-use Rattle.bt_parser.specs.Tokens.{items}
+use Rattle.bt_grammar.specs.declared.error.ParseError.{ParseError}
+use Rattle.bt_grammar.specs.declared.error.ParseError.TheVariants as parsing
+use Rattle.bt_grammar.specs.Refusals.{IsAccepted as IsTree, IsRefusal}
+use Rattle.bt_grammar.specs.Tokens.{items}
 use Rattle.bt_top.specs.declared.refusal.ScriptFault.TheVariants.{BadCharacter, OpenString, OpenComment, NumberTooLarge, BadEscape, StringTooLong, Syntax, TooDeep, TooManyProbes}
 use Rattle.bt_top.specs.declared.refusal.Refusal.{Refusal}
 use Rattle.bt_top.specs.declared.refusal.ScriptRefusal.TheVariants.{Fault}
@@ -29,13 +28,13 @@ use Rattle.bt_top.specs.declared.refusal.Refusal.TheVariants.{Script, Memory}
 -- ---- the first fault of a script
 
 -- the line and column of a byte of the text, or of its end
-abbrev pub place_at : List ℕ → ℕ → LineColumn
+abbrev pub place_at : List ℕ → ℕ → Place
 place_at text offset = record { line = line_behind (take offset text); column = column_behind (take offset text) }
 
 -- the line and column of a token, or of the end of the text where there is none
-abbrev pub place_of : List ℕ → Option Token → LineColumn
+abbrev pub place_of : List ℕ → Option Token → Place
 place_of text None = place_at text (length text)
-place_of text (Some token) = record { line = token.line; column = token.column }
+place_of text (Some token) = token.place
 
 -- why a text is refused whose first lexical fault is this one
 abbrev pub lexical_refusal : List ℕ → LexError → Refusal

@@ -49,6 +49,6 @@ pub(crate) fn judge(alloc: Global, script: &[u8], recording: &[u8]) -> Result<Co
     rec_format::laws::one_recording();
     rec_format::laws::one_fault();
     bt_lexer::laws::one_answer();
-    bt_parser::laws::one_answer();
+    bt_grammar::laws::one_answer();
     counting_of(alloc, script, recording)
 }

@@ -2,8 +2,8 @@
 ghost use Rattle.std.specs.Prelude.{◌≡◌};
 ghost use Rattle.bt_top.specs.Refusals.{status_of, recording_refusal, read_refusal};
 
+use bt_core::place::Place;
 use bt_io::shelf::ShelfError;
-use bt_lexer::line::LineColumn;
 use rec_format::error::RecordingError;
 
 /// A file that the words name.
@@ -43,7 +43,7 @@ pub enum ScriptRefusal {
     TooLong,
     /// The text is no script: the first fault, and the place of its byte or token. That of a text that
     /// breaks off is the end of the text.
-    Fault(ScriptFault, LineColumn),
+    Fault(ScriptFault, Place),
     /// It does not count the events of one of the recording's formats, so it is not handled so far.
     NotBuilt,
 }

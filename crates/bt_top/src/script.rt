@@ -9,18 +9,19 @@ use crate::refusal::{Refusal, ScriptFault, ScriptRefusal};
 use bt_ast::probe::{Point, Probe, Script};
 use bt_ast::stmt::{AggCall, Stmt, StmtKind};
 use bt_core::limits::SCRIPT_BYTES;
+use bt_core::place::Place;
+use bt_grammar::error::ParseError;
 use bt_lexer::error::LexError;
 use bt_lexer::laws::few_tokens;
 use bt_lexer::lexer::lex;
-use bt_lexer::line::{LineColumn, line_column};
+use bt_lexer::line::line_column;
 use bt_lexer::token::Token;
-use bt_parser::error::ParseError;
 use bt_parser::parse::parse;
 use std::alloc::Global;
 use tracefs_format::format::Format;
 
 /// The line and column of a byte, by its offset in the text.
-fn place_at(text: &[u8], offset: u64) -> LineColumn
+fn place_at(text: &[u8], offset: u64) -> Place
     requires within { offset ≤ length text.now }
     requires short { length text.now ≤ SCRIPT_BYTES }
     ensures { result ≡ place_at text.now offset }
@@ -29,7 +30,7 @@ fn place_at(text: &[u8], offset: u64) -> LineColumn
 }
 
 /// The refusal of a script for its fault at a place.
-fn fault_at(fault: ScriptFault, place: LineColumn) -> Refusal
+fn fault_at(fault: ScriptFault, place: Place) -> Refusal
     ensures { result ≡ Refusal.Script (ScriptRefusal.Fault fault place) }
 {
     Refusal::Script(ScriptRefusal::Fault(fault, place))
@@ -55,15 +56,12 @@ fn lexical_refusal(text: &[u8], error: LexError) -> Refusal
 }
 
 /// The line and column of the token with so many before it, or of the end of the text.
-fn place_of(text: &[u8], tokens: &[Token], number: u32) -> LineColumn
+fn place_of(text: &[u8], tokens: &[Token], number: u32) -> Place
     requires { length text.now ≤ SCRIPT_BYTES }
     ensures { result ≡ place_of text.now (slice_get tokens.now number) }
 {
     match tokens.get(number as usize) {
-        Some(token) => LineColumn {
-            line: token.line,
-            column: token.column,
-        },
+        Some(token) => token.place,
         None => line_column(text, text.len()),
     }
 }

@@ -9,8 +9,8 @@ ghost use Rattle.bt_top.specs.Words.{named_by};
 use crate::line::{Piece, write_line};
 use crate::refusal::{Operand, RecordingRefusal, Refusal, ScriptFault, ScriptRefusal};
 use crate::words::Named;
+use bt_core::place::Place;
 use bt_io::sink::Sink;
-use bt_lexer::line::LineColumn;
 use rec_format::error::{CountOf, RecordingError};
 use tracefs_format::error::FormatError;
 
@@ -171,7 +171,7 @@ fn tell_recording<E: Sink>(err: &mut E, name: &str, why: RecordingRefusal)
 }
 
 /// Tells the fault of a script with its line and column.
-fn tell_place<E: Sink>(err: &mut E, name: &str, fault: ScriptFault, place: LineColumn)
+fn tell_place<E: Sink>(err: &mut E, name: &str, fault: ScriptFault, place: Place)
     ensures { Writes (sink_use E.taken E.faults err.old err.new) (Text name.now ∷ script_pieces (refused.Fault fault place)) }
 {
     let name = Piece::Text(name);
