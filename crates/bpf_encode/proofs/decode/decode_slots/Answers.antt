@@ -12,7 +12,8 @@ returns-in_err-insn c =
     let p = err_from_is_err_and c.from_residual.result c.from_residual.ensures.1 in
     let x = ap (slot_decoded c.loop-place.place c.loop-place.owed) (sym (rest_of c.args.bytes.now (8 * c.loop-place.place))) ∙ sym c.slot_decoded.ensures
     ∙ c.in_err-insn.was in
-    rw (p.1, p.2) (fault_of _ _ (c.loop-place.invariant ∙ decoded_bad c.args.bytes.now _ c.loop-place.place c.loop-place.owed c.loop-place.code.items _ c.loop-place-test.true x))
+    rw (p.1, p.2) (fault_of _ _ (c.loop-place.invariant ∙ decoded_bad c.args.bytes.now _ c.loop-place.place c.loop-place.owed c.loop-place.code.items _
+    c.loop-place-test.true x))
 
 pub loop-place-preserved : goal.loop-place-preserved
 loop-place-preserved c =
