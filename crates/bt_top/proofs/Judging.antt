@@ -3,6 +3,7 @@ use Rattle.std.proofs.Common.{◌≡◌, ◌≢◌, ℕ, suc, ◌+◌, ◌*◌, 
 use Rattle.std.specs.Prelude.{Option, Some, None, Result, Ok, Err, IfOk, IfErr, IfSome, IsSome, IsSomeAnd, unwrap_or, replicate}
 use Rattle.std.proofs.lemmas.List.{length-replicate}
 use Rattle.bt_core.specs.declared.limits.TheConstants.{SCRIPT_BYTES, RECORDING_BYTES}
+use Rattle.bt_io.specs.Faults.{Rose}
 use Rattle.bt_io.specs.declared.shelf.ShelfError.{ShelfError}
 use Rattle.bt_io.specs.declared.shelf.ShelfError.TheVariants as shelf
 use Rattle.bt_top.specs.declared.judge.Counting.{Counting}
@@ -16,8 +17,12 @@ use Rattle.bt_top.specs.declared.refusal.Refusal.TheVariants.{Usage, Script, Rec
 use Rattle.bt_top.specs.Count.{payloads_of, IsWorkOf}
 use Rattle.bt_top.specs.Lines.{SinkUse, SinkFailed}
 use Rattle.bt_top.specs.Refusals.{status_of, read_refusal}
-use Rattle.bt_top.specs.Serve.{Files, AreShort, IsAsked, IsDue, ShelfUse, ShelfFailed, AreHeld, MayCome, HasWork, IsWorkFor, Answers, MayStandFor, ComesIfDue, IsComplete, OnBoth, OnTold, IsDueRefusal, Reads, refusal_in}
+use Rattle.bt_top.specs.Serve.{Files, AreShort, IsAsked, IsAccepted, IsDue, ShelfUse, ShelfFailed, AreHeld, MayCome, HasWork, IsWorkFor, Answers, MayStandFor, ComesIfDue, IsComplete, OnBoth, OnTold, IsDueRefusal, Reads, refusal_in}
 use Rattle.bt_top.specs.Words.{Operands, Order, Run, operands_of}
+
+-- a count that rose in a part of a call rose in the call
+pub rose_from : (before between after : ℕ) → before ≤ between → Rose between after → Rose before after
+rose_from before between after later rose = omega (arith, later, rose)
 
 -- ---- files of which the shelf may tell nothing
 
@@ -29,8 +34,8 @@ held_or (Some bytes) other = refl
 long_list : (n : ℕ) → (bytes : List ℕ) × (n < length bytes)
 long_list n = (replicate (suc n) 0, is_longer n)
   where
-    is_longer : (k : ℕ) → k < length (replicate (suc k) 0)
-    is_longer k = omega (arith, length-replicate (suc k) 0)
+    is_longer : (k : ℕ) → k < length {A = ℕ} (replicate (suc k) 0)
+    is_longer k = omega (arith, length-replicate {A = ℕ} (suc k) 0)
 
 long_or : (n : ℕ) (told : Option (List ℕ)) → IfSome told (λ bytes. n < length bytes) → n < length (unwrap_or told (long_list n).0)
 long_or n None long = (long_list n).1
@@ -142,6 +147,7 @@ worked_answer order seen out status refusal counting work reads counted ends = r
   worked = λ has. record { accepted = accepted; counted = counted };
 }
   where
+    accepted : IsAccepted reads.files
     accepted = record { says = counting.recording; place = counting.format; asked = reads.asked.1 }
 
     due : IsDue reads.files None

@@ -59,6 +59,10 @@ rule_pieces (rule.Overlong line) = Text (codes "F4 overlong line ") ∷ Number l
 rule_pieces (rule.SameName line) = Text (codes "F5 same name line ") ∷ Number line ∷ []
 rule_pieces rule.Memory = Text (codes "out of memory") ∷ []
 
+-- the text of the format at a place breaks a rule
+abbrev pub format_pieces : ℕ → List Piece → List Piece
+format_pieces place rule = Text (codes "C4 format ") ∷ Number place ∷ Text (codes ": ") ∷ rule
+
 -- what is wrong with an event
 abbrev pub event_pieces : List ℕ → ℕ → ℕ → List Piece
 event_pieces what cpu event = Text what ∷ Text (codes " in event ") ∷ Number event ∷ Text (codes " of cpu ") ∷ Number cpu ∷ []
@@ -68,7 +72,7 @@ abbrev pub fault_pieces : RecordingError → List Piece
 fault_pieces (fault.Truncated offset) = Text (codes "C1 truncated at byte ") ∷ Number offset ∷ []
 fault_pieces fault.BadMagic = Text (codes "C2 bad magic") ∷ []
 fault_pieces (fault.Count what) = Text (codes "C3 bad count: ") ∷ Text (count_word what) ∷ []
-fault_pieces (fault.Format place broken) = Text (codes "C4 format ") ∷ Number place ∷ Text (codes ": ") ∷ rule_pieces broken
+fault_pieces (fault.Format place broken) = format_pieces place (rule_pieces broken)
 fault_pieces (fault.SameEvent place) = Text (codes "C5 same event in format ") ∷ Number place ∷ []
 fault_pieces (fault.CpuNumber cpu) = Text (codes "C6 bad cpu number at cpu ") ∷ Number cpu ∷ []
 fault_pieces (fault.TimeOrder cpu event) = event_pieces (codes "C7 time order") cpu event
