@@ -24,6 +24,10 @@ use Rattle.bt_top.specs.Words.{Operands, Order, Run, operands_of}
 pub rose_from : (before between after : ℕ) → before ≤ between → Rose between after → Rose before after
 rose_from before between after later rose = omega (arith, later, rose)
 
+-- two errors of a read that are equal
+pub read_error : {A : Type 0} {a b : ShelfError} → a ≡ b → ◌≡◌ {A = Result A ShelfError} (Err a) (Err b)
+read_error e = ap (λ (x : ShelfError). Err x) e
+
 -- ---- files of which the shelf may tell nothing
 
 held_or : (told : Option (List ℕ)) (other : List ℕ) → IfSome told (λ bytes. unwrap_or told other ≡ bytes)

@@ -4,6 +4,7 @@ use Rattle.std.specs.Prelude.{◌↔◌, ◌⊎◌, IsTrue, Option, Some, None, 
 use Rattle.std.proofs.lemmas.Bool.{cases_lt}
 use Rattle.std.proofs.lemmas.Option.{slice_get-get_or, get_or_from_slice_get, slice_get_within}
 use Rattle.tracefs_format.specs.declared.format.Format.{Format}
+use Rattle.tracefs_format.specs.ByName.{IsNamed}
 use Rattle.bt_lexer.specs.declared.error.LexError.{LexError}
 use Rattle.bt_lexer.specs.declared.error.LexError.TheVariants as lexical
 use Rattle.bt_core.specs.declared.place.Place.{Place}
@@ -89,20 +90,19 @@ parse_told text tokens error are found = inr (inr (record { tokens = tokens; fau
 -- ---- the format of an event
 
 -- the event is of a format that it was compared with
-pub format_found : (event : EventName) (formats : List Format) (place : ℕ) (f d : Format) (test : Bool) → place < length formats → f ≡ get_or formats place d → IsTrue test ↔ ((event.system ≡ f.system) × (event.name ≡ f.layout.name)) → test ≡ true → IsFormatOf event formats place
+pub format_found : (event : EventName) (formats : List Format) (place : ℕ) (f d : Format) (test : Bool) → place < length formats → f ≡ get_or formats place d → IsTrue test ↔ IsNamed f event.system event.name → test ≡ true → IsFormatOf event formats place
 format_found event formats place f d test inside is same holds =
-    let both = same.0 holds in
-    record { format = f; placed = slice_get-get_or formats place d inside ∙ ap (λ x. Some x) (sym is); system = both.0; name = both.1 }
+    record { format = f; placed = slice_get-get_or formats place d inside ∙ ap (λ x. Some x) (sym is); named = same.0 holds }
 
 -- it is of none before, and not of this one
-pub none_so_far : (event : EventName) (formats : List Format) (place : ℕ) (f d : Format) (test : Bool) → f ≡ get_or formats place d → IsTrue test ↔ ((event.system ≡ f.system) × (event.name ≡ f.layout.name)) → test ≡ false
+pub none_so_far : (event : EventName) (formats : List Format) (place : ℕ) (f d : Format) (test : Bool) → f ≡ get_or formats place d → IsTrue test ↔ IsNamed f event.system event.name → test ≡ false
     → ((k : ℕ) → k < place → IsFormatOf event formats k → ⊥) → (k : ℕ) → k < place + 1 → IsFormatOf event formats k → ⊥
 none_so_far event formats place f d test is same fails below k lt of = elim (cases_lt k place) [
   | inl less ↦ below k less of
   | inr here ↦
       let e : k ≡ place = omega arith in
       let other : of.format ≡ f = sym (get_or_from_slice_get formats place of.format d (subst (λ (i : ℕ). slice_get formats i ≡ Some of.format) e of.placed)) ∙ sym is in
-      let holds : IsTrue test = same.1 (of.system ∙ ap (λ (x : Format). x.system) other, of.name ∙ ap (λ (x : Format). x.layout.name) other) in
+      let holds : IsTrue test = same.1 (subst (λ (x : Format). IsNamed x event.system event.name) other of.named) in
       false_is_not test fails holds
 ]
   where

@@ -7,8 +7,8 @@ returns-clause-exact c =
     let files : Files = record { script = c.args.script.now; recording = c.args.recording.now } in
     let laws : AreLaws files = record {
       recording = c.one_recording.ensures;
-      fault = λ one other. c.one_fault.ensures.one c.args.recording.now one other c.type_inv.recording;
-      no_fault = λ says error. c.one_fault.ensures.none_beside c.args.recording.now says error c.type_inv.recording;
+      fault = λ one other. c.one_fault.ensures.one c.args.recording.now one other (λ i. (c.type_inv.recording i).fits);
+      no_fault = λ says error. c.one_fault.ensures.none_beside c.args.recording.now says error (λ i. (c.type_inv.recording i).fits);
       script = record {
         tokens = c.one_answer.ensures.tokens c.args.script.now;
         lexical = c.one_answer.ensures.fault c.args.script.now;

@@ -13,10 +13,10 @@ pub returns-in-Format : goal.returns-in-Format
 returns-in-Format g c = rw c.in-Format.is c.tell_format.ensures
 
 pub returns-in-SameEvent : goal.returns-in-SameEvent
-returns-in-SameEvent g c = rw c.in-SameEvent.is c.tell_numbered-in-SameEvent.ensures
+returns-in-SameEvent g c = rw (c.in-SameEvent.is, ← c.from.ensures) c.tell_numbered-in-SameEvent.ensures
 
 pub returns-in-CpuNumber : goal.returns-in-CpuNumber
-returns-in-CpuNumber g c = rw c.in-CpuNumber.is c.tell_numbered-in-CpuNumber.ensures
+returns-in-CpuNumber g c = rw (c.in-CpuNumber.is, ← c.from-in-CpuNumber.ensures) c.tell_numbered-in-CpuNumber.ensures
 
 pub returns-in-TimeOrder : goal.returns-in-TimeOrder
 returns-in-TimeOrder g c = rw c.in-TimeOrder.is c.tell_event.ensures
@@ -31,7 +31,7 @@ pub returns-in-TrailingBytes : goal.returns-in-TrailingBytes
 returns-in-TrailingBytes g c = rw c.in-TrailingBytes.is c.tell_numbered-in-TrailingBytes.ensures
 
 pub returns-in-BadSystem : goal.returns-in-BadSystem
-returns-in-BadSystem g c = rw c.in-BadSystem.is c.tell_numbered-in-BadSystem.ensures
+returns-in-BadSystem g c = rw (c.in-BadSystem.is, ← c.from-in-BadSystem.ensures) c.tell_numbered-in-BadSystem.ensures
 
 pub returns-in-Memory : goal.returns-in-Memory
 returns-in-Memory g c = rw c.in-Memory.is c.tell_text-in-Memory.ensures
