@@ -10,9 +10,9 @@ returns-in-Err-clause-read g c = rw c.read_refusal.ensures (script_unread (named
 pub returns-in-Err-read-clause-read : goal.returns-in-Err-read-clause-read
 returns-in-Err-read-clause-read g c =
     rw c.read_refusal-in-Err-read.ensures (
-      recording_unread (named_by c.args.named.now) _ c.in-Ok.script.items c.in-Err-read.error c.in-Ok.ensures.bytes c.in-Ok.ensures.fits
-      (λ e. rose_from _ _ _ c.read.ensures.later (c.in-Err-read.ensures.failed (read_error e)))
-      (λ e. rw (← c.read.ensures.kept c.args.named.now.recording.now) (c.in-Err-read.ensures.too_long (read_error e)))
+    recording_unread (named_by c.args.named.now) _ c.in-Ok.script.items c.in-Err-read.error c.in-Ok.ensures.bytes c.in-Ok.ensures.fits
+    (λ e. rose_from _ _ _ c.read.ensures.later (c.in-Err-read.ensures.failed (read_error e)))
+    (λ e. rw (← c.read.ensures.kept c.args.named.now.recording.now) (c.in-Err-read.ensures.too_long (read_error e)))
     )
 
 pub returns-clause-read : goal.returns-clause-read
