@@ -1,5 +1,6 @@
 -- Pieces that are written one after another.
-use Rattle.std.proofs.Common.{◌≡◌, ℕ, zero, suc, ◌+◌, ◌<◌, ◌≤◌, List, [], ◌∷◌, ◌++◌, refl, sym, ap, subst, ◌∙◌, arith, append_assoc, length-append, take, drop, length, get_or, codes}
+use Rattle.std.proofs.Common.{◌≡◌, ℕ, zero, suc, ◌+◌, ◌<◌, ◌≤◌, List, [], ◌∷◌, ◌++◌, refl, sym, ap, subst, ◌∙◌, arith, append_assoc, length-append, take}
+use Rattle.std.proofs.Common.{drop, length, get_or, codes}
 use Rattle.std.specs.Prelude.{Option, Some, None, Result, Ok, Err, OnErr, map}
 use Rattle.std.specs.Io.KnownBytes.{Appends}
 use Rattle.std.specs.List.{flat_map}
@@ -49,7 +50,8 @@ on_err-map (Err e) P Q f p = f p
 pub stops : (a b c : Option (List ℕ)) (pieces : List Written) (i : ℕ) (d : Written) → i < length pieces
     → Appends a b (all_bytes (take i pieces)) → AppendsPart b c (bytes_of (get_or pieces i d)) → AppendsPart a c (line_bytes (map piece_by pieces))
 stops a b c pieces i d lt before part =
-    subst (λ l. AppendsPart a c l) (sym (split pieces i (get_or pieces i d) d lt refl)) (after a b c _ _ before (AppendsPart-front b c (bytes_of (get_or pieces i d)) _ part))
+    subst (λ l. AppendsPart a c l) (sym (split pieces i (get_or pieces i d) d lt refl))
+    (after a b c _ _ before (AppendsPart-front b c (bytes_of (get_or pieces i d)) _ part))
 
 taken_all : (pieces : List Written) (i : ℕ) → length pieces ≤ i → take i pieces ≡ pieces
 taken_all [] zero past = refl

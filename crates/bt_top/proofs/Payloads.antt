@@ -1,5 +1,6 @@
 -- The payloads of a format's events, event by event.
-use Rattle.std.proofs.Common.{◌≡◌, ℕ, zero, suc, ◌+◌, ◌<◌, ◌≤◌, ◌^◌, Bool, true, false, List, [], ◌∷◌, ◌++◌, length, take, get_or, refl, sym, ap, subst, ◌∙◌, arith, append-nil, length-append}
+use Rattle.std.proofs.Common.{◌≡◌, ℕ, zero, suc, ◌+◌, ◌<◌, ◌≤◌, ◌^◌, Bool, true, false, List, [], ◌∷◌, ◌++◌, length, take, get_or, refl, sym, ap, subst, ◌∙◌}
+use Rattle.std.proofs.Common.{arith, append-nil, length-append}
 use Rattle.std.specs.Prelude.{IsTrue, Some, Ok, map, filter, nat_eq, slice_get, not}
 use Rattle.std.specs.List.{flat_map, AllByRecursion}
 use Rattle.std.proofs.lemmas.Bool.{eq-eqb, eqb-true}
@@ -29,18 +30,21 @@ payloads_at-other : (place : ℕ) (e : Event) (test : Bool) → nat_eq e.format 
 payloads_at-other place e test is fails = rw (is ∙ fails) refl
 
 -- an event of the format
-pub payloads_at-more : (place : ℕ) (events : List Event) (i : ℕ) (e d : Event) → i < length events → e ≡ get_or events i d → e.format ≡ place → payloads_at place (take (i + 1) events) ≡ payloads_at place (take i events) ++ e.payload ∷ []
+pub payloads_at-more : (place : ℕ) (events : List Event) (i : ℕ) (e d : Event) → i < length events → e ≡ get_or events i d → e.format ≡ place
+    → payloads_at place (take (i + 1) events) ≡ payloads_at place (take i events) ++ e.payload ∷ []
 payloads_at-more place events i e d inside is same =
     ap (λ (l : List Event). payloads_at place l) (take_more events i d inside ∙ ap (λ (x : Event). take i events ++ x ∷ []) (sym is))
     ∙ payloads_at-append place (take i events) (e ∷ [])
     ∙ ap (λ (l : List (List ℕ)). payloads_at place (take i events) ++ l) (payloads_at-own place e true (eq-eqb e.format place same) refl)
 
 -- an event of another format
-pub payloads_at-same : (place : ℕ) (events : List Event) (i : ℕ) (e d : Event) → i < length events → e ≡ get_or events i d → (e.format ≡ place → ⊥) → payloads_at place (take (i + 1) events) ≡ payloads_at place (take i events)
+pub payloads_at-same : (place : ℕ) (events : List Event) (i : ℕ) (e d : Event) → i < length events → e ≡ get_or events i d → (e.format ≡ place → ⊥)
+    → payloads_at place (take (i + 1) events) ≡ payloads_at place (take i events)
 payloads_at-same place events i e d inside is differs =
     ap (λ (l : List Event). payloads_at place l) (take_more events i d inside ∙ ap (λ (x : Event). take i events ++ x ∷ []) (sym is))
     ∙ payloads_at-append place (take i events) (e ∷ [])
-    ∙ ap (λ (l : List (List ℕ)). payloads_at place (take i events) ++ l) (payloads_at-other place e _ refl (is_false (nat_eq e.format place) (λ h. differs (eqb-true e.format place h))))
+    ∙ ap (λ (l : List (List ℕ)). payloads_at place (take i events) ++ l)
+    (payloads_at-other place e _ refl (is_false (nat_eq e.format place) (λ h. differs (eqb-true e.format place h))))
     ∙ append-nil _
   where
     is_false : (b : Bool) → (b ≡ true → ⊥) → b ≡ false
@@ -50,8 +54,11 @@ payloads_at-same place events i e d inside is differs =
 -- there are no more payloads than events
 pub length-payloads_at-le : (place : ℕ) (events : List Event) → length (payloads_at place events) ≤ length events
 length-payloads_at-le place events =
-    let mapped : length (payloads_at place events) ≡ length (filter (λ (e : Event). nat_eq e.format place) events) = length-map (filter (λ (e : Event). nat_eq e.format place) events) (λ (e : Event). e.payload) in
-    let split : length (filter (λ (e : Event). nat_eq e.format place) events) + length (filter (λ (e : Event). not (nat_eq e.format place)) events) ≡ length events = length-filter_both (λ (e : Event). nat_eq e.format place) (λ (e : Event). not (nat_eq e.format place)) (λ e. refl) events in
+    let mapped : length (payloads_at place events) ≡ length (filter (λ (e : Event). nat_eq e.format place) events) = length-map
+    (filter (λ (e : Event). nat_eq e.format place) events) (λ (e : Event). e.payload) in
+    let split : length (filter (λ (e : Event). nat_eq e.format place) events) + length
+    (filter (λ (e : Event). not (nat_eq e.format place)) events) ≡ length events = length-filter_both (λ (e : Event). nat_eq e.format place)
+    (λ (e : Event). not (nat_eq e.format place)) (λ e. refl) events in
     omega arith
 
 -- nor before a place
@@ -64,20 +71,28 @@ pub record IsCountedTo (place : ℕ) (events : List Event) (i : ℕ) (steps : Li
   pub sums : IsSumOfRuns (payloads_at place (take i events)) steps instructions
 
 -- one event of the format more
-pub counted_own : (place : ℕ) (events : List Event) (i : ℕ) (e d : Event) (old new : List Step) (sum count : ℕ) → i < length events → e ≡ get_or events i d → e.format ≡ place
+pub counted_own : (place : ℕ) (events : List Event) (i : ℕ) (e d : Event) (old new : List Step) (sum count : ℕ) → i < length events → e ≡ get_or events i d
+    → e.format ≡ place
     → CountsTo (length (payloads_at place (take i events))) old → IsSumOfRuns (payloads_at place (take i events)) old sum
-    → IsTrue (are_stamped 1 new) → Whole (event_run e.payload) old new (Ok (record { instructions = count })) → IsCountedTo place events (i + 1) new (sum + count)
+    → IsTrue (are_stamped 1 new) → Whole (event_run e.payload) old new (Ok (record { instructions = count }))
+    → IsCountedTo place events (i + 1) new (sum + count)
 counted_own place events i e d old new sum count inside is same counts sums stamped w =
-    let more : payloads_at place (take (i + 1) events) ≡ payloads_at place (take i events) ++ e.payload ∷ [] = payloads_at-more place events i e d inside is same in
-    let long : length (payloads_at place (take i events)) + 1 ≡ length (payloads_at place (take (i + 1) events)) = omega (arith, ap (λ (l : List (List ℕ)). length l) more, length-append (payloads_at place (take i events)) (e.payload ∷ [])) in
+    let more : payloads_at place (take (i + 1) events) ≡ payloads_at place
+    (take i events) ++ e.payload ∷ [] = payloads_at-more place events i e d inside is same in
+    let long : length (payloads_at place (take i events)) + 1 ≡ length (payloads_at place (take (i + 1) events)) = omega
+    (arith, ap (λ (l : List (List ℕ)). length l) more, length-append (payloads_at place (take i events)) (e.payload ∷ [])) in
     record {
       counts = subst (λ (n : ℕ). CountsTo n new) long (CountsTo-run (length (payloads_at place (take i events))) e.payload old new count counts stamped w);
-      sums = subst (λ (l : List (List ℕ)). IsSumOfRuns l new (sum + count)) (sym more) (IsSumOfRuns-push (payloads_at place (take i events)) e.payload old new sum count sums w);
+      sums =
+          subst (λ (l : List (List ℕ)). IsSumOfRuns l new (sum + count)) (sym more)
+          (IsSumOfRuns-push (payloads_at place (take i events)) e.payload old new sum count sums w);
     }
 
 -- one event of another format more
-pub counted_other : (place : ℕ) (events : List Event) (i : ℕ) (e d : Event) (steps : List Step) (sum : ℕ) → i < length events → e ≡ get_or events i d → (e.format ≡ place → ⊥)
-    → CountsTo (length (payloads_at place (take i events))) steps → IsSumOfRuns (payloads_at place (take i events)) steps sum → IsCountedTo place events (i + 1) steps sum
+pub counted_other : (place : ℕ) (events : List Event) (i : ℕ) (e d : Event) (steps : List Step) (sum : ℕ) → i < length events → e ≡ get_or events i d
+    → (e.format ≡ place → ⊥)
+    → CountsTo (length (payloads_at place (take i events))) steps → IsSumOfRuns (payloads_at place (take i events)) steps sum
+    → IsCountedTo place events (i + 1) steps sum
 counted_other place events i e d steps sum inside is differs counts sums =
     let same : payloads_at place (take i events) ≡ payloads_at place (take (i + 1) events) = sym (payloads_at-same place events i e d inside is differs) in
     record {

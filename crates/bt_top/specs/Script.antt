@@ -21,7 +21,8 @@ use Rattle.bt_grammar.specs.declared.error.ParseError.{ParseError}
 use Rattle.bt_grammar.specs.declared.error.ParseError.TheVariants as parsing
 use Rattle.bt_grammar.specs.Refusals.{IsAccepted as IsTree, IsRefusal}
 use Rattle.bt_grammar.specs.Tokens.{items}
-use Rattle.bt_top.specs.declared.refusal.ScriptFault.TheVariants.{BadCharacter, OpenString, OpenComment, NumberTooLarge, BadEscape, StringTooLong, Syntax, TooDeep, TooManyProbes}
+use Rattle.bt_top.specs.declared.refusal.ScriptFault.TheVariants.{BadCharacter, OpenString, OpenComment, NumberTooLarge, BadEscape, StringTooLong, Syntax}
+use Rattle.bt_top.specs.declared.refusal.ScriptFault.TheVariants.{TooDeep, TooManyProbes}
 use Rattle.bt_top.specs.declared.refusal.Refusal.{Refusal}
 use Rattle.bt_top.specs.declared.refusal.ScriptRefusal.TheVariants.{Fault}
 use Rattle.bt_top.specs.declared.refusal.Refusal.TheVariants.{Script, Memory}

@@ -119,7 +119,8 @@ struct TracepointName<'t> {
 
 /// The event of one tracepoint without `*`.
 fn event_of_points(points: &[Point]) -> Option<TracepointName<'_>>
-    ensures { MatchOption result (event_of_points points.now ≡ None) (λ event. event_of_points points.now ≡ Some (record { system = event.system.now; name = event.name.now })) }
+    ensures { MatchOption result (event_of_points points.now ≡ None)
+        (λ event. event_of_points points.now ≡ Some (record { system = event.system.now; name = event.name.now })) }
 {
     match points {
         [Point::Tracepoint { system, name, .. }] => {
@@ -161,7 +162,8 @@ fn are_count(stmts: &[Stmt]) -> bool
 
 /// The event that a probe counts, where it does nothing else.
 fn event_of_probe(probe: &Probe) -> Option<TracepointName<'_>>
-    ensures { MatchOption result (event_of_probe probe.now ≡ None) (λ event. event_of_probe probe.now ≡ Some (record { system = event.system.now; name = event.name.now })) }
+    ensures { MatchOption result (event_of_probe probe.now ≡ None)
+        (λ event. event_of_probe probe.now ≡ Some (record { system = event.system.now; name = event.name.now })) }
 {
     if !are_count(probe.block.stmts.as_slice()) {
         return None;
@@ -174,7 +176,8 @@ fn event_of_probe(probe: &Probe) -> Option<TracepointName<'_>>
 
 /// The event that a script counts, where it does nothing else.
 fn event_of_tree(tree: &Script) -> Option<TracepointName<'_>>
-    ensures { MatchOption result (event_of_tree tree.now ≡ None) (λ event. event_of_tree tree.now ≡ Some (record { system = event.system.now; name = event.name.now })) }
+    ensures { MatchOption result (event_of_tree tree.now ≡ None)
+        (λ event. event_of_tree tree.now ≡ Some (record { system = event.system.now; name = event.name.now })) }
 {
     match tree.probes.as_slice() {
         [probe] => event_of_probe(probe),
@@ -184,7 +187,8 @@ fn event_of_tree(tree: &Script) -> Option<TracepointName<'_>>
 
 /// The place of the format of the event of this system and name.
 fn place_of_format(system: &[u8], name: &[u8], formats: &[Format]) -> Option<usize>
-    ensures { MatchOption result ((place : ℕ) → ¬ IsFormatOf (record { system = system.now; name = name.now }) formats.now place) (λ place. IsFormatOf (record { system = system.now; name = name.now }) formats.now place) }
+    ensures { MatchOption result ((place : ℕ) → ¬ IsFormatOf (record { system = system.now; name = name.now }) formats.now place)
+        (λ place. IsFormatOf (record { system = system.now; name = name.now }) formats.now place) }
 {
     for place in 0..formats.len() {
         if formats[place].is_named(system, name) {

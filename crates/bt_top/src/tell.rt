@@ -3,7 +3,8 @@ ghost use Rattle.std.specs.Prelude.{◌≡◌, ◌∷◌, [], codes};
 ghost use Rattle.rec_format.specs.declared.error.RecordingError.TheVariants as wrong;
 ghost use Rattle.bt_top.specs.declared.refusal.ScriptRefusal.TheVariants as refused;
 ghost use Rattle.bt_top.specs.Lines.{Writes, sink_use, Text, Number};
-ghost use Rattle.bt_top.specs.Refusals.{count_word, event_pieces, fault_pieces, format_pieces, name_of, recording_pieces, refusal_pieces, script_fault_text, script_pieces, usage_pieces};
+ghost use Rattle.bt_top.specs.Refusals.{count_word, event_pieces, fault_pieces, format_pieces, name_of};
+ghost use Rattle.bt_top.specs.Refusals.{recording_pieces, refusal_pieces, script_fault_text, script_pieces, usage_pieces};
 ghost use Rattle.bt_top.specs.Words.{named_by};
 
 use crate::line::{Piece, write_line};
