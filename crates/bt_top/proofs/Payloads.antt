@@ -11,6 +11,7 @@ use Rattle.rec_format.specs.declared.recording.Recording.{Recording}
 use Rattle.rec_format.specs.declared.recording.CpuTrack.{CpuTrack}
 use Rattle.rec_format.specs.declared.recording.Event.{Event}
 use Rattle.rec_format.specs.Recordings.{IsValidRecording, IsEvent, AreTracks}
+use Rattle.bt_core.specs.declared.limits.TheConstants.{EVENTS}
 use Rattle.bt_core.specs.declared.step.Step.{Step}
 use Rattle.bt_core.specs.Interaction.{Whole}
 use Rattle.bt_top.specs.Code.{are_stamped}
@@ -62,7 +63,7 @@ length-payloads_at-le place events =
     omega arith
 
 -- nor before a place
-pub few_so_far : (place : ℕ) (events : List Event) (i : ℕ) → length events ≤ 1048576 → length (payloads_at place (take i events)) ≤ 1048576
+pub few_so_far : (place : ℕ) (events : List Event) (i : ℕ) → length events ≤ EVENTS → length (payloads_at place (take i events)) ≤ EVENTS
 few_so_far place events i few = omega (arith, length-payloads_at-le place (take i events), length-take i events)
 
 -- the events before a place were counted
@@ -106,7 +107,7 @@ all_events-one r track is = ap (λ (l : List CpuTrack). flat_map (λ (c : CpuTra
 
 -- what a valid recording of one CPU says of its events
 pub record AreOrdinary (events : List Event) : Type 0 where
-  pub few : length events ≤ 1048576
+  pub few : length events ≤ EVENTS
   pub short : (k : ℕ) (event : Event) → slice_get events k ≡ Some event → length event.payload < 2 ^ 32
 
 all_of : (P : Event → Type 0) (events : List Event) → AllByRecursion P events → (k : ℕ) (event : Event) → slice_get events k ≡ Some event → P event
@@ -122,7 +123,7 @@ ordinary_track r (c ∷ []) is one valid =
     let tracks = subst (λ (l : List CpuTrack). AreTracks r.formats r.start r.end l) is valid.cpus in
     let events : all_events r ≡ c.events = all_events-one r c is in
     let here : AreOrdinary c.events = record {
-      few = let total : 0 + length c.events ≤ 1048576 = tracks.few in omega arith;
+      few = omega (arith, tracks.few);
       short = λ k event e. (all_of (IsEvent r.formats) c.events tracks.each.0.events.each k event e).whole.payload;
     } in
     subst AreOrdinary (sym events) here
