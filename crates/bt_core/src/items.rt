@@ -1,5 +1,5 @@
 // A list that contracts see as the list of its items.
-ghost use Rattle.std.specs.Prelude.{◌≡◌, ◌∷◌, [], ◌++◌, ◌<◌, ◌↔◌, length, slice_get, slice_set, IsTrue, OnOk, OnErr};
+ghost use Rattle.std.specs.Prelude.{◌≡◌, ◌∷◌, [], ◌++◌, ◌<◌, ◌≤◌, ◌↔◌, length, slice_get, slice_set, insert, remove, IsTrue, IfOk, OnOk, OnErr};
 ghost use Rattle.std.specs.Option.{option_copied};
 
 use crate::memory::{Memory, TryCopy};
@@ -80,6 +80,49 @@ impl<T> Items<T> {
     {
         self.list.as_slice()
     }
+
+    /// Makes room for so many more items. The list stays as it is, also after [`Memory`].
+    pub fn reserve(&mut self, additional: usize) -> Result<(), Memory>
+        ensures { self.new ≡ self.old }
+    {
+        self.list.reserve(additional)?;
+        Ok(())
+    }
+
+    /// Takes the item at a place away. Those after it come one place forward.
+    pub fn remove(&mut self, place: usize) -> T
+        requires { place < length self.old }
+        ensures taken { slice_get self.old place ≡ Some result }
+        ensures rest { self.new ≡ remove self.old place }
+    {
+        self.list.remove(place)
+    }
+}
+
+impl<T> Items<T> {
+    ghost use Rattle.std.specs.Prelude.{◌≡◌};
+    ghost use Rattle.std.specs.Borrow.{Lends, Array, sem};
+    ghost use Rattle.bt_core.specs.contracts.items.Items.{the_row};
+    ghost use Rattle.bt_core.specs.Overwritten.{overwritten};
+
+    /// Its items as a slice to write to. What is left in the slice is the list.
+    pub fn as_mut_slice(&mut self) -> &mut [T]
+        ensures* writes_back { sem 𝓛 (Lends (the_row T.row) (Array T.row 0) self.entry result (overwritten self.old)) }
+        ensures value { result.now ≡ self.old }
+    {
+        self.list.as_mut_slice()
+    }
+}
+
+impl<T: Copy> Items<T> {
+    /// The list of a slice's items.
+    pub fn from_slice(alloc: Global, items: &[T]) -> Result<Items<T>, Memory>
+        ensures { IfOk result (λ list. list ≡ items.now) }
+    {
+        Ok(Items {
+            list: Vec::from_slice(alloc, items)?,
+        })
+    }
 }
 
 impl<T: Drop> Items<T> {
@@ -99,13 +142,24 @@ impl<T: Drop> Items<T> {
         self.list.push(item)?;
         Ok(())
     }
+
+    /// Puts an item at a place, at most the list's length, and moves the items from there on one
+    /// place back. After [`Memory`] the list is as before.
+    pub fn insert(&mut self, place: usize, item: T) -> Result<(), Memory>
+        requires { place ≤ length self.old }
+        ensures ok { OnOk result (self.new ≡ insert self.old place item) }
+        ensures err { OnErr result (self.new ≡ self.old) }
+    {
+        self.list.insert(place, item)?;
+        Ok(())
+    }
 }
 
 impl<T: TryCopy> TryCopy for Items<T> {
     ghost use Rattle.std.specs.Prelude.{◌≡◌, IfOk};
 
     fn try_copy(&self, alloc: Global) -> Result<Items<T>, Memory> {
-        let mut list = Vec::new(alloc);
+        let mut list = Vec::with_capacity(alloc, self.list.len())?;
         for item in &self.list {
             list.push(item.try_copy(alloc)?)?;
         }

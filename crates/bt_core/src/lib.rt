@@ -3,6 +3,7 @@
 
 pub mod agg;
 pub mod boxed;
+pub mod bytes;
 pub mod context;
 pub mod item;
 pub mod items;
@@ -11,7 +12,9 @@ pub mod limits;
 pub mod map;
 pub mod memory;
 pub mod operator;
+pub mod order;
 pub mod place;
+pub mod port;
 pub mod step;
 #[cfg(test)]
 mod tests;

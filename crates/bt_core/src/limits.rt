@@ -1,4 +1,5 @@
-// The limits of the profile, each one the greatest value that is accepted.
+// The limits of the profile, each one the greatest that is accepted or kept, and the number of parts of a
+// shared map.
 
 /// Bytes of a script.
 pub const SCRIPT_BYTES: u64 = 65_536;
@@ -56,3 +57,6 @@ pub const FRAME_BYTES: u64 = 512;
 
 /// Slots of a body's code.
 pub const CODE_SLOTS: u64 = 4_096;
+
+/// Parts of each shared map, numbered from 0.
+pub const PARTS: u32 = 1;
