@@ -27,21 +27,14 @@ fn bytes_at(kind: &TokenKind) -> &[u8]
     }
 }
 
-/// A list of the bytes.
-fn list_of(alloc: Global, bytes: &[u8]) -> Result<Items<u8>, Memory>
-    ensures { IfOk result (λ list. list ≡ bytes.now) }
-{
-    Ok(Items::of(Vec::from_slice(alloc, bytes)?))
-}
-
 /// The point that an attach token is.
 fn attached(alloc: Global, bytes: &[u8], place: Place) -> Result<Point, Memory>
     ensures { IfOk result (λ point. point ≡ found_point (attach_point bytes.now place) place) }
 {
     match attach_of(bytes) {
         Some(Attach::Tracepoint { system, name }) => Ok(Point::Tracepoint {
-            system: list_of(alloc, system)?,
-            name: list_of(alloc, name)?,
+            system: Items::from_slice(alloc, system)?,
+            name: Items::from_slice(alloc, name)?,
             place,
         }),
         Some(Attach::Interval { unit, number }) => Ok(Point::Interval {

@@ -11,7 +11,8 @@ use Rattle.std.proofs.lemmas.List.{append-nil}
 use Rattle.std.proofs.lemmas.List.Elements.{All-from_recursion}
 use Rattle.std.proofs.lemmas.List.Splits.{slice_split_at, slice_split_none}
 use Rattle.std.proofs.Common.{append_assoc}
-use Rattle.bt_lexer.specs.Bytes.{is_digit, is_attach_byte, Every}
+use Rattle.bt_core.specs.Bytes.{is_digit}
+use Rattle.bt_lexer.specs.Bytes.{is_attach_byte, Every}
 use Rattle.bt_lexer.specs.Words.{IsAttachWord}
 use Rattle.bt_lexer.specs.declared.token.TokenKind.{TokenKind}
 use Rattle.bt_lexer.specs.declared.token.TokenKind.TheVariants as kinds

@@ -6,7 +6,8 @@ use Rattle.std.proofs.lemmas.Bool.{false≢true}
 use Rattle.std.proofs.lemmas.Bool.Decides.{nat_tests}
 use Rattle.bt_lexer.specs.declared.token.TokenKind.{TokenKind}
 use Rattle.bt_lexer.specs.declared.token.TokenKind.TheVariants as kinds
-use Rattle.bt_lexer.specs.Bytes.{is_letter, is_word_byte, Every}
+use Rattle.bt_core.specs.Bytes.{is_letter, is_word_byte}
+use Rattle.bt_lexer.specs.Bytes.{Every}
 use Rattle.bt_lexer.specs.Marks.{marks}
 use Rattle.bt_ast.specs.declared.probe.Point.{Point}
 use Rattle.bt_ast.specs.declared.probe.Point.TheVariants as points
