@@ -19,3 +19,4 @@ pub mod TreeMentions
 pub mod MentionForms
 pub mod MentionParts
 pub mod MentionLaws
+pub mod KindClasses

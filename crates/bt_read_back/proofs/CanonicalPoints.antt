@@ -34,7 +34,8 @@ use Rattle.bt_grammar.specs.Rules.{rule}
 use Rattle.bt_read_back.specs.Bare.{bare_point}
 use Rattle.bt_grammar.proofs.AllClasses.{and_first, and_second}
 use Rattle.bt_read_back.proofs.Lexemes.{lexeme, Valid, Honest}
-use Rattle.bt_read_back.proofs.LexemesFixed.{kind_of, fixed_valid, tracepoint_kind, interval_kind, apart}
+use Rattle.bt_grammar.proofs.KindClasses.{tracepoint_kind, interval_kind, apart}
+use Rattle.bt_read_back.proofs.LexemesFixed.{kind_of, fixed_valid}
 use Rattle.bt_read_back.proofs.CanonicalWeights.{shallow_token}
 use Rattle.bt_read_back.proofs.CanonicalForms.{Lift, Again, Behind, one_item, lift_map, lift_chain, lift_comma}
 use Rattle.bt_read_back.proofs.CanonicalValues.{IsPoint, IsPoints}
