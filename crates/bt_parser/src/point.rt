@@ -1,8 +1,8 @@
 // What a probe is attached to.
-ghost use Rattle.std.specs.Prelude.{◌≡◌, ◌<◌, IfOk, IsSome, length, true};
+ghost use Rattle.std.specs.Prelude.{◌≡◌, ◌<◌, IfOk, length, true};
 ghost use Rattle.bt_grammar.specs.Attach.{attach_point};
 ghost use Rattle.bt_grammar.specs.Classes.{is_point};
-ghost use Rattle.bt_grammar.specs.Tokens.{class_of};
+ghost use Rattle.bt_grammar.specs.Tokens.{class_of, origin, point_class};
 ghost use Rattle.bt_grammar.specs.Trees.{found_point, place_of_point, place_of_points, point_of};
 
 use crate::attach::{Attach, attach_of};
@@ -16,7 +16,7 @@ use std::alloc::Global;
 
 /// The point that an attach token is, which has one of the two forms.
 fn attached(alloc: Global, bytes: &[u8], place: Place) -> Result<Point, Memory>
-    requires { IsSome (attach_point bytes.now place) }
+    requires { is_point (point_class (attach_point bytes.now origin)) ≡ true }
     ensures { IfOk result (λ point. point ≡ found_point (attach_point bytes.now place) place) }
 {
     match attach_of(bytes) {
