@@ -33,16 +33,7 @@ no_second [] now classes e v none = ap (λ z. brace_next (rest_of (items z))) v
 no_second (t ∷ []) now classes e v none = ap (λ z. brace_next (rest_of (items z))) v
 no_second (t ∷ u ∷ rest) now classes e v none = let h : length classes ≡ suc (suc (length (classes_of rest))) = ap length e in absurd (omega arith)
 
--- as many classes as tokens
-pub length-classes_of : (tokens : List Token) → length (classes_of tokens) ≡ length tokens
-length-classes_of [] = refl
-length-classes_of (t ∷ tokens) = ap suc (length-classes_of tokens)
-
-pub classes_of-drop : (n : ℕ) (tokens : List Token) → drop n (classes_of tokens) ≡ classes_of (drop n tokens)
-classes_of-drop zero tokens = refl
-classes_of-drop (suc n) [] = refl
-classes_of-drop (suc n) (t ∷ tokens) = classes_of-drop n tokens
-
+-- the classes of a front
 pub classes_of-take : (n : ℕ) (tokens : List Token) → take n (classes_of tokens) ≡ classes_of (take n tokens)
 classes_of-take zero tokens = refl
 classes_of-take (suc n) [] = refl

@@ -31,9 +31,9 @@ fn class_of(kind: &TokenKind) -> Class
 pub fn classify(alloc: Global, tokens: &[Token]) -> Result<Items<Class>, Memory>
     ensures { IfOk result (λ classes. classes ≡ classes_of tokens.now) }
 {
-    let classes = tokens
-        .iter()
-        .map(|token| class_of(&token.kind))
-        .collect(alloc)?;
-    Ok(Items::of(classes))
+    let mut classes = Items::new(alloc);
+    for token in tokens {
+        classes.push(class_of(&token.kind))?;
+    }
+    Ok(classes)
 }
