@@ -1,12 +1,12 @@
 // The top call.
 ghost use Rattle.std.specs.Prelude.{◌≡◌, ◌≢◌, ◌*◌, ◌⊎◌, ◌↔◌, ◌∷◌, [], length, Some, IfOk, IfErr, IfSome, IsNone, IsSome};
 ghost use Rattle.std.specs.Io.KnownBytes.{Keeps};
-ghost use Rattle.bt_core.specs.declared.limits.TheConstants.{SCRIPT_BYTES};
 ghost use Rattle.bt_io.specs.Faults.{Rose};
 ghost use Rattle.rec_format.specs.Recordings.{IsValidRecording};
 ghost use Rattle.bt_top.specs.Lines.{sink_use};
 ghost use Rattle.bt_top.specs.Refusals.{status_of};
-ghost use Rattle.bt_top.specs.Serve.{Answers, AsksExactly, AsksFirst, ComesIfDue, IsAnswer, IsComplete, IsWritten, OnTold, Reads, Tells, bytes_written, refusal_in, shelf_use};
+ghost use Rattle.bt_top.specs.Serve.{Answers, AsksExactly, AsksFirst, ComesIfDue, IsAnswer, IsComplete, IsWritten, OnTold, Reads, Tells};
+ghost use Rattle.bt_top.specs.Serve.{bytes_written, refusal_in, shelf_use};
 ghost use Rattle.bt_top.specs.Words.{Run, named_by, names_of, order_of};
 
 use crate::count::work_of;
@@ -117,7 +117,8 @@ pub fn serve<S: Shelf, K: Sink, E: Sink>(
     // What comes is due to the files, or is a fault before which nothing was due; at status 0 and 5 the work is the count of the events.
     ensures answered { IsAnswer (order_of words.now) (shelf_use S.held S.faults S.asked shelf.old shelf.new) (sink_use K.taken K.faults out.old out.new) result }
     ensures exact { OnTold (order_of words.now) (S.held shelf.old) (ComesIfDue result.refusal) }
-    ensures complete { OnTold (order_of words.now) (S.held shelf.old) (IsComplete (Rose (S.faults shelf.old) (S.faults shelf.new)) (Rose (K.faults out.old) (K.faults out.new)) result.status) }
+    ensures complete { OnTold (order_of words.now) (S.held shelf.old)
+        (IsComplete (Rose (S.faults shelf.old) (S.faults shelf.new)) (Rose (K.faults out.old) (K.faults out.new)) result.status) }
     ensures worked { IsSome result.work → (result.status ≡ 0) ⊎ (result.status ≡ 5) }
     ensures six_each { IfSome result.work (λ work. work.instructions ≡ 6 * length work.steps) }
 
