@@ -62,7 +62,7 @@ fn place_of(text: &[u8], tokens: &[Token], number: u32) -> Place
 {
     match tokens.get(number as usize) {
         Some(token) => token.place,
-        None => line_column(text, text.len()),
+        None => place_at(text, text.len() as u64),
     }
 }
 
