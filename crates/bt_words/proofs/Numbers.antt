@@ -31,8 +31,8 @@ refused greatest i value word within digit left past =
     let e = digit_is b digit in
     let grown = value_grows (value * 10 + digit_value b) (drop (suc i) word) in
     let whole : digits_value_after 10 (value * 10 + digit_value b) (drop (suc i) word) ≡ digits_value 10 word =
-      sym (ap (digits_value_after 10 value) (drop-cons word i 0 within)) ∙ left in
+    sym (ap (digits_value_after 10 value) (drop-cons word i 0 within)) ∙ left in
     let great : greatest < digits_value 10 word = omega (arith, e, grown, whole, past) in
     sym (ap (λ (v : Bool). cond v (Some (digits_value 10 word)) None)
-      (last_false (list_all is_digit word) (nat_le 1 (length word)) (nat_le (length word) 10) (nat_le (digits_value 10 word) greatest)
-        (not_le (digits_value 10 word) greatest great)))
+    (last_false (list_all is_digit word) (nat_le 1 (length word)) (nat_le (length word) 10) (nat_le (digits_value 10 word) greatest)
+    (not_le (digits_value 10 word) greatest great)))

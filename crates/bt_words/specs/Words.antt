@@ -36,7 +36,7 @@ are_run_words words =
 abbrev pub number_in : ℕ → List ℕ → Option ℕ
 number_in greatest word =
     if list_all is_digit word && (nat_le 1 (length word) && (nat_le (length word) 10 && nat_le (digits_value 10 word) greatest))
-      then Some (digits_value 10 word) else None
+    then Some (digits_value 10 word) else None
 
 -- two operands, read by a function of both
 abbrev pub of_two : (List ℕ → List ℕ → Option Order) → List (List ℕ) → Option Order
@@ -56,8 +56,8 @@ two_numbers made x n = numbers made (number_in 2147483647 x) (number_in 1048576 
 abbrev pub run_order : List (List ℕ) → Option Order
 run_order words =
     if are_run_words words
-      then of_two (λ script recording. Some (Run (nat_le 1 (count_by is_serial words)) (nat_le 1 (count_by is_stats words)) script recording)) (filter is_operand words)
-      else None
+    then of_two (λ script recording. Some (Run (nat_le 1 (count_by is_serial words)) (nat_le 1 (count_by is_stats words)) script recording)) (filter is_operand words)
+    else None
 
 -- the order of a command that takes no options
 abbrev pub plain_order : List ℕ → List (List ℕ) → Option Order

@@ -62,9 +62,15 @@ pub enum Order {
         recording: FileName,
     },
     /// To make the recording of two numbers.
-    Gen { x: u32, n: u32 },
+    Gen {
+        x: u32,
+        n: u32,
+    },
     /// To run the built-in script over the recording of two numbers.
-    Big { x: u32, n: u32 },
+    Big {
+        x: u32,
+        n: u32,
+    },
 }
 
 /// Why words give no order.

@@ -39,23 +39,23 @@ letter_front left zero width (b ∷ bs) c rest h =
     let test = is_letter b && not (zero && is_text_letter b) in
     let found = converted left zero width b in
     let by : (v : Bool) → test ≡ v → cond v (Some (pair found bs)) None ≡ Some (pair c rest) → LetterRead left zero width (b ∷ bs) c rest =
-      λ v. elim v as (λ v. test ≡ v → cond v (Some (pair found bs)) None ≡ Some (pair c rest) → LetterRead left zero width (b ∷ bs) c rest) [
-        | true ↦ λ e f. record {
-            letter = b;
-            spelled = ap (λ (l : List ℕ). b ∷ l) (some_second found c bs rest f);
-            known = and_left (is_letter b) (not (zero && is_text_letter b)) e;
-            filled = not_true (zero && is_text_letter b) (and_right (is_letter b) (not (zero && is_text_letter b)) e);
-            made = sym (some_first found c bs rest f);
-          }
-        | false ↦ λ e f. absurd (none_some f)
-      ] in
+    λ v. elim v as (λ v. test ≡ v → cond v (Some (pair found bs)) None ≡ Some (pair c rest) → LetterRead left zero width (b ∷ bs) c rest) [
+      | true ↦ λ e f. record {
+        letter = b;
+        spelled = ap (λ (l : List ℕ). b ∷ l) (some_second found c bs rest f);
+        known = and_left (is_letter b) (not (zero && is_text_letter b)) e;
+        filled = not_true (zero && is_text_letter b) (and_right (is_letter b) (not (zero && is_text_letter b)) e);
+        made = sym (some_first found c bs rest f);
+      }
+      | false ↦ λ e f. absurd (none_some f)
+    ] in
     by test refl h
 
 letter_read : (left zero : Bool) (width letter : ℕ) (rest : List ℕ) → is_letter letter ≡ true → (zero && is_text_letter letter) ≡ false
     → letter_at left zero width (letter ∷ rest) ≡ Some (pair (converted left zero width letter) rest)
 letter_read left zero width letter rest known filled =
     ap (λ (v : Bool). cond v (Some (pair (converted left zero width letter) rest)) None)
-      (both_true (is_letter letter) (not (zero && is_text_letter letter)) known (not_false (zero && is_text_letter letter) filled))
+    (both_true (is_letter letter) (not (zero && is_text_letter letter)) known (not_false (zero && is_text_letter letter) filled))
 
 -- conversions
 
@@ -84,10 +84,10 @@ from_stages bytes f width behind c rest fr wr nz sr lr = record {
     filled = ap (λ (z : Bool). z && is_text_letter lr.letter) (sym fr.zero) ∙ lr.filled;
   };
   spelled = fr.spelled ∙ ap (λ (l : List ℕ). flags_text fr.flags ++ l)
-    (wr.spelled ∙ ap (λ (l : List ℕ). wr.digits ++ l) (sr.spelled ∙ ap (λ (l : List ℕ). size_text sr.size ++ l) lr.spelled));
+      (wr.spelled ∙ ap (λ (l : List ℕ). wr.digits ++ l) (sr.spelled ∙ ap (λ (l : List ℕ). size_text sr.size ++ l) lr.spelled));
   made = lr.made ∙ (ap (λ (x : Bool). converted x f.zero width lr.letter) fr.left
-    ∙ (ap (λ (x : Bool). converted (has_left fr.flags) x width lr.letter) fr.zero
-    ∙ ap (λ (x : ℕ). converted (has_left fr.flags) (has_zero fr.flags) x lr.letter) wr.value));
+      ∙ (ap (λ (x : Bool). converted (has_left fr.flags) x width lr.letter) fr.zero
+      ∙ ap (λ (x : ℕ). converted (has_left fr.flags) (has_zero fr.flags) x lr.letter) wr.value));
 }
 
 conversion_front : (bytes : List ℕ) (c : Converted) (rest : List ℕ) → conversion_at bytes ≡ Some (pair c rest) → ConversionRead bytes c rest
@@ -95,16 +95,16 @@ unfolding conversion_at
 conversion_front bytes c rest h =
     let f = flags_at bytes in
     let widths : (w : Option (ℕ × List ℕ)) → width_after 0 f.rest ≡ w → (after_flag 48 f.rest).0 ≡ false → behind_width f.left f.zero w ≡ Some (pair c rest) → ConversionRead bytes c rest =
-      λ w. elim w as (λ w. width_after 0 f.rest ≡ w → (after_flag 48 f.rest).0 ≡ false → behind_width f.left f.zero w ≡ Some (pair c rest) → ConversionRead bytes c rest) [
-        | None ↦ λ e z g. absurd (none_some g)
-        | Some p ↦ λ e z g. from_stages bytes f p.0 p.1 c rest (flags_front bytes) (width_front 0 f.rest p.0 p.1 (omega arith) e) z (size_front p.1)
-            (letter_front f.left f.zero p.0 (after_size p.1) c rest g)
-      ] in
+    λ w. elim w as (λ w. width_after 0 f.rest ≡ w → (after_flag 48 f.rest).0 ≡ false → behind_width f.left f.zero w ≡ Some (pair c rest) → ConversionRead bytes c rest) [
+      | None ↦ λ e z g. absurd (none_some g)
+      | Some p ↦ λ e z g. from_stages bytes f p.0 p.1 c rest (flags_front bytes) (width_front 0 f.rest p.0 p.1 (omega arith) e) z (size_front p.1)
+          (letter_front f.left f.zero p.0 (after_size p.1) c rest g)
+    ] in
     let zeros : (v : Bool) → (after_flag 48 f.rest).0 ≡ v → behind_width f.left f.zero (cond v None (width_after 0 f.rest)) ≡ Some (pair c rest) → ConversionRead bytes c rest =
-      λ v. elim v as (λ v. (after_flag 48 f.rest).0 ≡ v → behind_width f.left f.zero (cond v None (width_after 0 f.rest)) ≡ Some (pair c rest) → ConversionRead bytes c rest) [
-        | true ↦ λ e g. absurd (none_some g)
-        | false ↦ λ e g. widths (width_after 0 f.rest) refl e g
-      ] in
+    λ v. elim v as (λ v. (after_flag 48 f.rest).0 ≡ v → behind_width f.left f.zero (cond v None (width_after 0 f.rest)) ≡ Some (pair c rest) → ConversionRead bytes c rest) [
+      | true ↦ λ e g. absurd (none_some g)
+      | false ↦ λ e g. widths (width_after 0 f.rest) refl e g
+    ] in
     zeros (after_flag 48 f.rest).0 refl h
 
 -- what stands behind flags begins with none of them
@@ -159,7 +159,7 @@ pub record FrontRead (bytes : List ℕ) (front : Front) (rest : List ℕ) : Type
 spelling_is : (s : Spelling) (rest : List ℕ) → 37 ∷ (flags_text s.flags ++ (s.width ++ (size_text s.size ++ s.letter ∷ rest))) ≡ spelling_text s ++ rest
 spelling_is s rest = ap (λ (l : List ℕ). 37 ∷ l)
     (ap (λ (l : List ℕ). flags_text s.flags ++ l) (ap (λ (l : List ℕ). s.width ++ l) (sym (append_assoc (size_text s.size) (s.letter ∷ []) rest))
-      ∙ sym (append_assoc s.width (size_text s.size ++ s.letter ∷ []) rest))
+    ∙ sym (append_assoc s.width (size_text s.size ++ s.letter ∷ []) rest))
     ∙ sym (append_assoc (flags_text s.flags) (s.width ++ (size_text s.size ++ s.letter ∷ [])) rest))
 
 shown : (bytes : List ℕ) (front : Front) (rest : List ℕ) (o : Option (Converted × List ℕ)) → conversion_at bytes ≡ o → option_map shown_front o ≡ Some (pair front rest)
@@ -179,15 +179,15 @@ percent_front : (bytes : List ℕ) (front : Front) (rest : List ℕ) → behind_
 percent_front [] front rest h = absurd (none_some h)
 percent_front (b ∷ bs) front rest h =
     let by : (v : Bool) → nat_eq b 37 ≡ v → cond v (Some (pair (Plain 37) bs)) (option_map shown_front (conversion_at (b ∷ bs))) ≡ Some (pair front rest) → FrontRead (37 ∷ b ∷ bs) front rest =
-      λ v. elim v as (λ v. nat_eq b 37 ≡ v → cond v (Some (pair (Plain 37) bs)) (option_map shown_front (conversion_at (b ∷ bs))) ≡ Some (pair front rest) → FrontRead (37 ∷ b ∷ bs) front rest) [
-        | true ↦ λ e f. record {
-            part = Percent;
-            allowed = tt;
-            spelled = ap (λ (x : ℕ). 37 ∷ x ∷ bs) (eqb-true b 37 e) ∙ ap (λ (l : List ℕ). 37 ∷ 37 ∷ l) (some_second (Plain 37) front bs rest f);
-            meant = ap front_piece (sym (some_first (Plain 37) front bs rest f));
-          }
-        | false ↦ λ e f. shown (b ∷ bs) front rest (conversion_at (b ∷ bs)) refl f
-      ] in
+    λ v. elim v as (λ v. nat_eq b 37 ≡ v → cond v (Some (pair (Plain 37) bs)) (option_map shown_front (conversion_at (b ∷ bs))) ≡ Some (pair front rest) → FrontRead (37 ∷ b ∷ bs) front rest) [
+      | true ↦ λ e f. record {
+        part = Percent;
+        allowed = tt;
+        spelled = ap (λ (x : ℕ). 37 ∷ x ∷ bs) (eqb-true b 37 e) ∙ ap (λ (l : List ℕ). 37 ∷ 37 ∷ l) (some_second (Plain 37) front bs rest f);
+        meant = ap front_piece (sym (some_first (Plain 37) front bs rest f));
+      }
+      | false ↦ λ e f. shown (b ∷ bs) front rest (conversion_at (b ∷ bs)) refl f
+    ] in
     by (nat_eq b 37) refl h
 
 -- what is read at the front is a part
@@ -195,16 +195,16 @@ pub front_part : (bytes : List ℕ) (front : Front) (rest : List ℕ) → front_
 front_part [] front rest h = absurd (none_some h)
 front_part (b ∷ bs) front rest h =
     let by : (v : Bool) → nat_eq b 37 ≡ v → cond v (behind_percent bs) (Some (pair (Plain b) bs)) ≡ Some (pair front rest) → FrontRead (b ∷ bs) front rest =
-      λ v. elim v as (λ v. nat_eq b 37 ≡ v → cond v (behind_percent bs) (Some (pair (Plain b) bs)) ≡ Some (pair front rest) → FrontRead (b ∷ bs) front rest) [
-        | true ↦ λ e f. (let read = percent_front bs front rest f in
-            record { part = read.part; allowed = read.allowed; spelled = ap (λ (x : ℕ). x ∷ bs) (eqb-true b 37 e) ∙ read.spelled; meant = read.meant })
-        | false ↦ λ e f. record {
-            part = Byte b;
-            allowed = λ is. cc (e, eq-eqb b 37 is);
-            spelled = ap (λ (l : List ℕ). b ∷ l) (some_second (Plain b) front bs rest f);
-            meant = ap front_piece (sym (some_first (Plain b) front bs rest f));
-          }
-      ] in
+    λ v. elim v as (λ v. nat_eq b 37 ≡ v → cond v (behind_percent bs) (Some (pair (Plain b) bs)) ≡ Some (pair front rest) → FrontRead (b ∷ bs) front rest) [
+      | true ↦ λ e f. (let read = percent_front bs front rest f in
+          record { part = read.part; allowed = read.allowed; spelled = ap (λ (x : ℕ). x ∷ bs) (eqb-true b 37 e) ∙ read.spelled; meant = read.meant })
+      | false ↦ λ e f. record {
+        part = Byte b;
+        allowed = λ is. cc (e, eq-eqb b 37 is);
+        spelled = ap (λ (l : List ℕ). b ∷ l) (some_second (Plain b) front bs rest f);
+        meant = ap front_piece (sym (some_first (Plain b) front bs rest f));
+      }
+    ] in
     by (nat_eq b 37) refl h
 
 -- each part is read at the front
@@ -235,7 +235,7 @@ no_percent (b ∷ bs) c rest above h =
 spelled_above : (s : Spelling) (rest : List ℕ) → IsConversion s → Above 37 (flags_text s.flags ++ (s.width ++ (size_text s.size ++ s.letter ∷ rest)))
 spelled_above s rest is =
     above_flags s.flags (s.width ++ (size_text s.size ++ s.letter ∷ rest))
-      (above_width s.width (size_text s.size ++ s.letter ∷ rest) is.number (above_size s.size s.letter rest (letter_byte s.letter is.known)))
+    (above_width s.width (size_text s.size ++ s.letter ∷ rest) is.number (above_size s.size s.letter rest (letter_byte s.letter is.known)))
 
 pub part_front : (part : Part) → IsPart part → (rest : List ℕ) → PartRead part rest
 part_front (Byte b) is rest = record { front = Plain b; read = rw (not_equal b 37 is) refl; meant = refl }

@@ -53,7 +53,7 @@ flag_front flag [] = refl
 flag_front flag (b ∷ bs) =
     let found : nat_eq b flag ≡ true → b ∷ bs ≡ flag ∷ bs = λ (e : nat_eq b flag ≡ true). ap (λ (x : ℕ). x ∷ bs) (eqb-true b flag e) in
     elim (nat_eq b flag) as (λ v. (v ≡ true → b ∷ bs ≡ flag ∷ bs) →
-      b ∷ bs ≡ flag_bytes (cond {A = Bool × List ℕ} v (true, bs) (false, b ∷ bs)).0 flag (cond {A = Bool × List ℕ} v (true, bs) (false, b ∷ bs)).1)
+    b ∷ bs ≡ flag_bytes (cond {A = Bool × List ℕ} v (true, bs) (false, b ∷ bs)).0 flag (cond {A = Bool × List ℕ} v (true, bs) (false, b ∷ bs)).1)
     [ true ↦ λ f. f refl | false ↦ λ f. refl ] found
 
 pub not_flag : (n flag : ℕ) (bytes : List ℕ) → flag ≤ n → Above n bytes → after_flag flag bytes ≡ pair false bytes
@@ -133,11 +133,11 @@ width_front n (b ∷ bs) width rest small h =
     let m = n * 10 + (b - 48) in
     let later : m ≤ 255 → width_after m bs ≡ Some (pair width rest) → WidthRead m bs width rest = λ s f. width_front m bs width rest s f in
     let second : is_digit b ≡ true → (w : Bool) → nat_le m 255 ≡ w → cond w (width_after m bs) None ≡ Some (pair width rest) → WidthRead n (b ∷ bs) width rest =
-      λ digit w. elim w as (λ w. nat_le m 255 ≡ w → cond w (width_after m bs) None ≡ Some (pair width rest) → WidthRead n (b ∷ bs) width rest)
-      [ true ↦ λ e f. width_more n b width bs rest digit (later (le_of_true m 255 e) f) | false ↦ λ e f. absurd (none_some f) ] in
+    λ digit w. elim w as (λ w. nat_le m 255 ≡ w → cond w (width_after m bs) None ≡ Some (pair width rest) → WidthRead n (b ∷ bs) width rest)
+    [ true ↦ λ e f. width_more n b width bs rest digit (later (le_of_true m 255 e) f) | false ↦ λ e f. absurd (none_some f) ] in
     let first : (v : Bool) → is_digit b ≡ v → cond v (cond (nat_le m 255) (width_after m bs) None) (Some (pair n (b ∷ bs))) ≡ Some (pair width rest) → WidthRead n (b ∷ bs) width rest =
-      λ v. elim v as (λ v. is_digit b ≡ v → cond v (cond (nat_le m 255) (width_after m bs) None) (Some (pair n (b ∷ bs))) ≡ Some (pair width rest) → WidthRead n (b ∷ bs) width rest)
-      [ true ↦ λ e f. second e (nat_le m 255) refl f | false ↦ λ e f. width_ends n (b ∷ bs) width rest small f ] in
+    λ v. elim v as (λ v. is_digit b ≡ v → cond v (cond (nat_le m 255) (width_after m bs) None) (Some (pair n (b ∷ bs))) ≡ Some (pair width rest) → WidthRead n (b ∷ bs) width rest)
+    [ true ↦ λ e f. second e (nat_le m 255) refl f | false ↦ λ e f. width_ends n (b ∷ bs) width rest small f ] in
     first (is_digit b) refl h
 
 pub width_read : (n : ℕ) (digits rest : List ℕ) → list_all is_digit digits ≡ true → digits_value_after 10 n digits ≤ 255 → Above 57 rest

@@ -37,13 +37,13 @@ same_cut (p ∷ ps) (q ∷ qs) r s allowed allowed' none none' e =
     let one = part_front p allowed.0 (parts_text ps ++ r) in
     let other = part_front q allowed'.0 (parts_text qs ++ s) in
     let same : part_text p ++ (parts_text ps ++ r) ≡ part_text q ++ (parts_text qs ++ s) =
-      sym (append_assoc (part_text p) (parts_text ps) r) ∙ (e ∙ append_assoc (part_text q) (parts_text qs) s) in
+    sym (append_assoc (part_text p) (parts_text ps) r) ∙ (e ∙ append_assoc (part_text q) (parts_text qs) s) in
     let both : Some (pair one.front (parts_text ps ++ r)) ≡ Some (pair other.front (parts_text qs ++ s)) = sym one.read ∙ (ap front_of same ∙ other.read) in
     let first = some_first one.front other.front _ _ both in
     let later = same_cut ps qs r s allowed.1 allowed'.1 none none' (some_second one.front other.front _ _ both) in
     record {
       pieces = ap (λ (x : List Piece). joined (part_piece p) x) later.pieces
-        ∙ ap (λ (x : Piece). joined x (pieces_of qs)) (sym one.meant ∙ (ap front_piece first ∙ other.meant));
+          ∙ ap (λ (x : Piece). joined x (pieces_of qs)) (sym one.meant ∙ (ap front_piece first ∙ other.meant));
       rest = later.rest;
     }
 
@@ -55,14 +55,14 @@ no_rest (b ∷ bs) = ap (λ (l : List ℕ). b ∷ l) (no_rest bs)
 pub one_format : (text : List ℕ) (ps qs : List Piece) → IsFormat text ps → IsFormat text qs → ps ≡ qs
 one_format text ps qs f g =
     let cut = same_cut f.parts g.parts [] [] f.allowed g.allowed none_at_end none_at_end
-      (no_rest (parts_text f.parts) ∙ (sym f.spelled ∙ (g.spelled ∙ sym (no_rest (parts_text g.parts))))) in
+    (no_rest (parts_text f.parts) ∙ (sym f.spelled ∙ (g.spelled ∙ sym (no_rest (parts_text g.parts))))) in
     f.meant ∙ (cut.pieces ∙ sym g.meant)
 
 -- a format has no bad place
 pub no_bad_place : (text : List ℕ) (ps : List Piece) (offset : ℕ) → IsFormat text ps → IsBadAt text offset → ⊥
 no_bad_place text ps offset f g =
     let cut = same_cut f.parts g.parts [] g.rest f.allowed g.allowed none_at_end g.bad
-      (no_rest (parts_text f.parts) ∙ (sym f.spelled ∙ g.spelled)) in
+    (no_rest (parts_text f.parts) ∙ (sym f.spelled ∙ g.spelled)) in
     g.there (sym cut.rest)
 
 -- a text has one bad place at most
@@ -70,7 +70,7 @@ pub one_bad_place : (text : List ℕ) (a b : ℕ) → IsBadAt text a → IsBadAt
 one_bad_place text a b f g =
     let cut = same_cut f.parts g.parts f.rest g.rest f.allowed g.allowed f.bad g.bad (sym f.spelled ∙ g.spelled) in
     let long : length (parts_text f.parts) + length f.rest ≡ length (parts_text g.parts) + length g.rest =
-      sym (length-append (parts_text f.parts) f.rest) ∙ (ap length (sym f.spelled ∙ g.spelled) ∙ length-append (parts_text g.parts) g.rest) in
+    sym (length-append (parts_text f.parts) f.rest) ∙ (ap length (sym f.spelled ∙ g.spelled) ∙ length-append (parts_text g.parts) g.rest) in
     let rests : length f.rest ≡ length g.rest = ap length cut.rest in
     let one = f.place in
     let other = g.place in
@@ -109,8 +109,8 @@ reached_more text bytes rest done literal done' literal' front so_far read step 
       allowed = all_more so_far.parts p.part so_far.allowed p.allowed;
       spelled = so_far.spelled ∙ (ap (λ (l : List ℕ). parts_text so_far.parts ++ l) p.spelled ∙ sym (text_more so_far.parts p.part rest));
       meant = λ more. step (pieces_of more)
-        ∙ (ap (λ (x : Piece). going_on done literal (joined x (pieces_of more))) p.meant
-        ∙ (so_far.meant (p.part ∷ more) ∙ ap pieces_of (sym (one_before so_far.parts p.part more))));
+          ∙ (ap (λ (x : Piece). going_on done literal (joined x (pieces_of more))) p.meant
+          ∙ (so_far.meant (p.part ∷ more) ∙ ap pieces_of (sym (one_before so_far.parts p.part more))));
     }
 
 no_more : (ps : List Part) → ps ++ [] ≡ ps

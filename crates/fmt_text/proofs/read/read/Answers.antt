@@ -12,7 +12,7 @@ loop-front-init c = reached_none c.args.text.now c.new-pieces.result.done c.new-
 pub loop-front-preserved : goal.loop-front-preserved
 loop-front-preserved c =
     reached_more c.args.text.now c.loop-front.rest.now c.in-Some.others.now c.loop-front.pieces.done c.loop-front.pieces.literal
-      c.add.new.self.done c.add.new.self.literal c.in-Some.front c.loop-front.invariant (sym c.in-Some.ensures) c.in_ok-add.ensures
+    c.add.new.self.done c.add.new.self.literal c.in-Some.front c.loop-front.invariant (sym c.in-Some.ensures) c.in_ok-add.ensures
 
 none_given : {A B : Type 0} (f : A → B) (o : Option A) (there : Option B) → ((x : A) → o ≡ Some x → ⊥) → option_map f o ≡ there → there ≡ None
 none_given f None there h e = sym e
@@ -29,10 +29,10 @@ no_bytes (b ∷ bs) empty is known = let e = eqb-true (length (b ∷ bs)) 0 (sym
 pub returns-then-not-is_empty : goal.returns-then-not-is_empty
 returns-then-not-is_empty c =
     reached_bad c.args.text.now c.loop-front.rest.now c.loop-front.pieces.done c.loop-front.pieces.literal _ c.loop-front.invariant
-      (none_given _ c.front_of.result _ c.in_default.not-Some c.front_of.ensures)
-      (some_bytes c.loop-front.rest.now c.is_empty.result c.is_empty.ensures c.if-not-is_empty.true) refl
+    (none_given _ c.front_of.result _ c.in_default.not-Some c.front_of.ensures)
+    (some_bytes c.loop-front.rest.now c.is_empty.result c.is_empty.ensures c.if-not-is_empty.true) refl
 
 pub returns : goal.returns
 returns c =
     reached_end c.args.text.now c.loop-front.rest.now c.loop-front.pieces.done c.loop-front.pieces.literal _ c.loop-front.invariant
-      (no_bytes c.loop-front.rest.now c.is_empty.result c.is_empty.ensures c.if-not-is_empty.false) c.in_ok-close.ensures
+    (no_bytes c.loop-front.rest.now c.is_empty.result c.is_empty.ensures c.if-not-is_empty.false) c.in_ok-close.ensures
