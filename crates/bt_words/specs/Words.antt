@@ -5,6 +5,7 @@ use Rattle.std.specs.Str.{bytes_eq}
 use Rattle.std.specs.Str.Parse.{digits_value}
 use Rattle.std.specs.declared.alloc.Global.{Global}
 use Rattle.bt_core.specs.Bytes.{is_digit}
+use Rattle.bt_core.specs.declared.limits.TheConstants.{EVENTS}
 use Rattle.bt_words.specs.declared.order.WordsError.{WordsError}
 use Rattle.bt_words.specs.declared.order.WordsError.TheVariants.{Usage, Memory}
 use Rattle.bt_words.specs.declared.order.Order.{Order}
@@ -51,7 +52,7 @@ numbers made (Some x) None = None
 numbers made (Some x) (Some n) = Some (made x n)
 
 abbrev pub two_numbers : (ℕ → ℕ → Order) → List ℕ → List ℕ → Option Order
-two_numbers made x n = numbers made (number_in 2147483647 x) (number_in 1048576 n)
+two_numbers made x n = numbers made (number_in 2147483647 x) (number_in EVENTS n)
 
 abbrev pub run_order : List (List ℕ) → Option Order
 run_order words =

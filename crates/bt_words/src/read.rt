@@ -8,13 +8,11 @@ ghost use Rattle.bt_words.specs.Files.{NamesFiles};
 use crate::number::number_in;
 use crate::order::{FileName, Order, WordsError};
 use crate::parted::{are_operands, are_run_words, count, has_empty, two_operands};
+use bt_core::limits::EVENTS;
 use std::alloc::Global;
 
-/// The greatest first number of `gen` and `big`.
+/// The greatest first number of `gen` and `big`. The greatest second one is the limit of events.
 const MOST_X: u32 = 2_147_483_647;
-
-/// The greatest number of events that `gen` and `big` take.
-const MOST_N: u32 = 1_048_576;
 
 /// What words ask for. The first is the command; behind it stand options and operands in any order,
 /// none of them empty. Options begin with `-`: `run` takes `--serial` and `--stats`, each once.
@@ -119,6 +117,6 @@ fn spelled_numbers(words: &[String]) -> Option<Numbers>
 {
     let operands = two_operands(words)?;
     let x = number_in(operands.first.as_bytes(), MOST_X)?;
-    let n = number_in(operands.second.as_bytes(), MOST_N)?;
+    let n = number_in(operands.second.as_bytes(), EVENTS)?;
     Some(Numbers { x, n })
 }
