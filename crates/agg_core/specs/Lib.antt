@@ -1,0 +1,4 @@
+pub mod Aggregates
+pub mod Answers
+pub mod Changes
+pub mod Gathering
