@@ -82,7 +82,7 @@ count-steps : (low step n : ℤ) (k : ℕ) → 0 < unsigned_abs step → low ≤
 count-steps low step n k some h =
     count-map (λ b. int_le b n) (λ j. low +ℤ pos (j * unsigned_abs step)) (upto k)
     ∙ count-upto (λ j. int_le (low +ℤ pos (j * unsigned_abs step)) n) (unsigned_abs (n -ℤ low) / unsigned_abs step + 1)
-        (λ j. reach-step low n (j * unsigned_abs step) h ∙ times-reach (unsigned_abs step) (unsigned_abs (n -ℤ low)) j some) k
+    (λ j. reach-step low n (j * unsigned_abs step) h ∙ times-reach (unsigned_abs step) (unsigned_abs (n -ℤ low)) j some) k
 
 count-no_steps : (low step n : ℤ) (k : ℕ) → n <ℤ low → count_by (λ b. int_le b n) (steps_from low step k) ≡ 0
 count-no_steps low step n k h =

@@ -42,15 +42,15 @@ counts-more kind ns n =
     let long : length (counts kind ns) ≡ size = length-map-range_with_len f 0 size in
     let within : b < length (counts kind ns) = omega arith in
     fill_by_all h (one_more b (counts kind ns)) size 0 (length-set (counts kind ns) b _ ∙ long) (λ k below. ⊎_elim
-      (λ (same : k ≡ b). subst (λ j. get_or (one_more b (counts kind ns)) j 0 ≡ h j) (sym same)
-        (get_or-set_same (counts kind ns) b _ 0 within
-          ∙ ap (λ c. (c + 1) % 2 ^ 64) (get_or-map-range_with_len f 0 size b b 0 (omega arith) (zero-add b))
-          ∙ mod_add (count_by (λ m. bucket kind m == b) ns)
-          ∙ ap (λ c. c % 2 ^ 64) (sym (count-push (λ m. bucket kind m == b) ns n ∙ ap (λ t. count_by (λ m. bucket kind m == b) ns + cond t 1 0) (eq-eqb b b refl)))))
-      (λ (other : k ≡ b → ⊥). get_or-set_other (counts kind ns) b k _ 0 other
-          ∙ get_or-map-range_with_len f 0 size k k 0 below (zero-add k)
-          ∙ ap (λ c. c % 2 ^ 64) (sym (count-push (λ m. bucket kind m == k) ns n ∙ ap (λ t. count_by (λ m. bucket kind m == k) ns + cond t 1 0) (ne_eqb b k (λ e. other (sym e))) ∙ add-zero (count_by (λ m. bucket kind m == k) ns))))
-      (cases_eq k b))
+    (λ (same : k ≡ b). subst (λ j. get_or (one_more b (counts kind ns)) j 0 ≡ h j) (sym same)
+    (get_or-set_same (counts kind ns) b _ 0 within
+    ∙ ap (λ c. (c + 1) % 2 ^ 64) (get_or-map-range_with_len f 0 size b b 0 (omega arith) (zero-add b))
+    ∙ mod_add (count_by (λ m. bucket kind m == b) ns)
+    ∙ ap (λ c. c % 2 ^ 64) (sym (count-push (λ m. bucket kind m == b) ns n ∙ ap (λ t. count_by (λ m. bucket kind m == b) ns + cond t 1 0) (eq-eqb b b refl)))))
+    (λ (other : k ≡ b → ⊥). get_or-set_other (counts kind ns) b k _ 0 other
+    ∙ get_or-map-range_with_len f 0 size k k 0 below (zero-add k)
+    ∙ ap (λ c. c % 2 ^ 64) (sym (count-push (λ m. bucket kind m == k) ns n ∙ ap (λ t. count_by (λ m. bucket kind m == k) ns + cond t 1 0) (ne_eqb b k (λ e. other (sym e))) ∙ add-zero (count_by (λ m. bucket kind m == k) ns))))
+    (cases_eq k b))
 
 pub counts-length : (kind : AggKind) (ns : List ℤ) → length (counts kind ns) ≡ suc (length (bounds kind))
 counts-length kind ns = length-map-range_with_len (λ k. count_by (λ m. bucket kind m == k) ns % 2 ^ 64) 0 (suc (length (bounds kind)))

@@ -16,17 +16,19 @@ use Rattle.agg_core.proofs.SortedRows.{Ascends, ascends-with_key, rows_at, row_a
 
 put-with_key : (k j : List Value) (ks : List (List Value)) → list_any (is_key k) ks ≡ true → list_any (is_key k) (with_key j ks) ≡ true
 put-with_key k j [] there = cc
-put-with_key k j (i ∷ is) there = elim (key_order j i) as (λ o. list_any (is_key k) (match_ordering o (j ∷ i ∷ is) (i ∷ is) (i ∷ with_key j is)) ≡ true)
-    [ Less ↦ or_right (is_key k j) (is_key k i || list_any (is_key k) is) there
-    | Equal ↦ there
-    | Greater ↦ elim (is_key k i) as (λ t. (t || list_any (is_key k) is) ≡ true → (t || list_any (is_key k) (with_key j is)) ≡ true) [ true ↦ λ e. refl | false ↦ λ e. put-with_key k j is e ] there ]
+put-with_key k j (i ∷ is) there = elim (key_order j i) as (λ o. list_any (is_key k) (match_ordering o (j ∷ i ∷ is) (i ∷ is) (i ∷ with_key j is)) ≡ true) [
+  | Less ↦ or_right (is_key k j) (is_key k i || list_any (is_key k) is) there
+  | Equal ↦ there
+  | Greater ↦ elim (is_key k i) as (λ t. (t || list_any (is_key k) is) ≡ true → (t || list_any (is_key k) (with_key j is)) ≡ true) [ true ↦ λ e. refl | false ↦ λ e. put-with_key k j is e ] there
+]
 
 put-itself : (k : List Value) (ks : List (List Value)) → list_any (is_key k) (with_key k ks) ≡ true
 put-itself k [] = λ i. is_key-same k k refl i || false
-put-itself k (j ∷ js) = elim (side k j)
-    [ Before e back ↦ rw e (λ i. is_key-same k k refl i || list_any (is_key k) (j ∷ js))
-    | Same e ↦ let here : key_order k j ≡ Equal = rw e (key_itself j) in rw here (λ i. is_key-same k j e i || list_any (is_key k) js)
-    | After e back ↦ rw e (or_right (is_key k j) (list_any (is_key k) (with_key k js)) (put-itself k js)) ]
+put-itself k (j ∷ js) = elim (side k j) [
+  | Before e back ↦ rw e (λ i. is_key-same k k refl i || list_any (is_key k) (j ∷ js))
+  | Same e ↦ let here : key_order k j ≡ Equal = rw e (key_itself j) in rw here (λ i. is_key-same k j e i || list_any (is_key k) js)
+  | After e back ↦ rw e (or_right (is_key k j) (list_any (is_key k) (with_key k js)) (put-itself k js))
+]
 
 module _ {V : Type 0} where
   ascends-with_put : (c : Change V) (ks : List (List Value)) → Ascends ks → Ascends (with_put c ks)
@@ -77,8 +79,8 @@ module _ {V : Type 0} where
     pub rows-removed : (k : List Value) → rows_of made (Removes k ∷ before) ≡ remove_entry (is_key k) (rows_of made before)
     rows-removed k = let yes = is_key-same k k refl in
         rows-remove (lives before) (lives (Removes k ∷ before)) cell (λ j. made (given_to (Removes k ∷ before) j)) k
-          (λ j e. ((λ i. not (sym e i) && lives before j), (λ i. made (cond (sym e i) [] (given_to before j)))))
-          (λ i. not (yes i) && lives before k) (put_keys before) (ascends-put_keys before)
+        (λ j e. ((λ i. not (sym e i) && lives before j), (λ i. made (cond (sym e i) [] (given_to before j)))))
+        (λ i. not (yes i) && lives before k) (put_keys before) (ascends-put_keys before)
 
     nothing : (ks : List (List Value)) → rows_at (λ j. false) (λ j. made []) ks ≡ []
     nothing [] = refl
@@ -100,9 +102,10 @@ module _ {V : Type 0} where
   -- a key that lives was put
   lives-put : (changes : List (Change V)) (k : List Value) → lives changes k ≡ true → list_any (is_key k) (put_keys changes) ≡ true
   lives-put [] k alive = cc
-  lives-put (Puts j v ∷ before) k alive = elim (is_key j k) as (λ t. is_key j k ≡ t → ((t && is_taken before k) || lives before k) ≡ true → list_any (is_key k) (with_key j (put_keys before)) ≡ true)
-      [ true ↦ λ e a. let same = is_key-true j k e in subst (λ i. list_any (is_key k) (with_key i (put_keys before)) ≡ true) (sym same) (put-itself k (put_keys before))
-      | false ↦ λ e a. put-with_key k j (put_keys before) (lives-put before k a) ] refl alive
+  lives-put (Puts j v ∷ before) k alive = elim (is_key j k) as (λ t. is_key j k ≡ t → ((t && is_taken before k) || lives before k) ≡ true → list_any (is_key k) (with_key j (put_keys before)) ≡ true) [
+    | true ↦ λ e a. let same = is_key-true j k e in subst (λ i. list_any (is_key k) (with_key i (put_keys before)) ≡ true) (sym same) (put-itself k (put_keys before))
+    | false ↦ λ e a. put-with_key k j (put_keys before) (lives-put before k a)
+  ] refl alive
   lives-put (Removes j ∷ before) k alive = lives-put before k (and_parts (not (is_key j k)) (lives before k) alive).1
   lives-put (Clears ∷ before) k alive = cc
   lives-put (Zeroes ∷ before) k alive = lives-put before k alive

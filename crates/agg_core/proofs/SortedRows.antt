@@ -33,10 +33,11 @@ below-with_key i k (j ∷ js) e b = elim (key_order k j) as (λ o. Below i (matc
 
 pub ascends-with_key : (k : List Value) (ks : List (List Value)) → Ascends ks → Ascends (with_key k ks)
 ascends-with_key k [] a = (tt, tt)
-ascends-with_key k (j ∷ js) a = elim (side k j)
-    [ Before e back ↦ rw e ((e, below-trans k j js e a.0), a)
-    | Same e ↦ rw e (rw (key_itself j) a)
-    | After e back ↦ rw e (below-with_key j k js back a.0, ascends-with_key k js a.1) ]
+ascends-with_key k (j ∷ js) a = elim (side k j) [
+  | Before e back ↦ rw e ((e, below-trans k j js e a.0), a)
+  | Same e ↦ rw e (rw (key_itself j) a)
+  | After e back ↦ rw e (below-with_key j k js back a.0, ascends-with_key k js a.1)
+]
 
 abbrev pub row_at : {C : Type 0} → (List Value → C) → List Value → (List Value × C)
 row_at cell k = (k, cell k)
@@ -95,15 +96,17 @@ lookup-past false cell j k rows e = refl
 
 lookup-fails : {C : Type 0} (p : List Value → Bool) (cell : List Value → C) (k : List Value) → p k ≡ false → (ks : List (List Value)) → lookup (is_key k) (rows_at p cell ks) ≡ None
 lookup-fails p cell k fails [] = refl
-lookup-fails p cell k fails (j ∷ js) = ap (λ r. lookup (is_key k) r) (rows_at-cons p cell j js) ∙ elim (is_key k j) as (λ t. is_key k j ≡ t → lookup (is_key k) (first_row (p j) cell j (rows_at p cell js)) ≡ None)
-    [ true ↦ λ e. let same = is_key-true k j e in let no : p j ≡ false = ap p (sym same) ∙ fails in (λ i. lookup (is_key k) (first_row (no i) cell j (rows_at p cell js))) ∙ lookup-fails p cell k fails js
-    | false ↦ λ e. lookup-past (p j) cell j k (rows_at p cell js) e ∙ lookup-fails p cell k fails js ] refl
+lookup-fails p cell k fails (j ∷ js) = ap (λ r. lookup (is_key k) r) (rows_at-cons p cell j js) ∙ elim (is_key k j) as (λ t. is_key k j ≡ t → lookup (is_key k) (first_row (p j) cell j (rows_at p cell js)) ≡ None) [
+  | true ↦ λ e. let same = is_key-true k j e in let no : p j ≡ false = ap p (sym same) ∙ fails in (λ i. lookup (is_key k) (first_row (no i) cell j (rows_at p cell js))) ∙ lookup-fails p cell k fails js
+  | false ↦ λ e. lookup-past (p j) cell j k (rows_at p cell js) e ∙ lookup-fails p cell k fails js
+] refl
 
 lookup-there : {C : Type 0} (p : List Value → Bool) (cell : List Value → C) (k : List Value) → p k ≡ true → (ks : List (List Value)) → list_any (is_key k) ks ≡ true → lookup (is_key k) (rows_at p cell ks) ≡ Some (cell k)
 lookup-there p cell k passes [] there = cc
-lookup-there p cell k passes (j ∷ js) there = ap (λ r. lookup (is_key k) r) (rows_at-cons p cell j js) ∙ elim (is_key k j) as (λ t. is_key k j ≡ t → lookup (is_key k) (first_row (p j) cell j (rows_at p cell js)) ≡ Some (cell k))
-    [ true ↦ λ e. let same = is_key-true k j e in let yes : p j ≡ true = ap p (sym same) ∙ passes in (λ i. lookup (is_key k) (first_row (yes i) cell j (rows_at p cell js))) ∙ rw e (ap (λ i. Some (cell i)) (sym same))
-    | false ↦ λ e. lookup-past (p j) cell j k (rows_at p cell js) e ∙ lookup-there p cell k passes js (rw e at there) ] refl
+lookup-there p cell k passes (j ∷ js) there = ap (λ r. lookup (is_key k) r) (rows_at-cons p cell j js) ∙ elim (is_key k j) as (λ t. is_key k j ≡ t → lookup (is_key k) (first_row (p j) cell j (rows_at p cell js)) ≡ Some (cell k)) [
+  | true ↦ λ e. let same = is_key-true k j e in let yes : p j ≡ true = ap p (sym same) ∙ passes in (λ i. lookup (is_key k) (first_row (yes i) cell j (rows_at p cell js))) ∙ rw e (ap (λ i. Some (cell i)) (sym same))
+  | false ↦ λ e. lookup-past (p j) cell j k (rows_at p cell js) e ∙ lookup-there p cell k passes js (rw e at there)
+] refl
 
 module _ {C : Type 0} (p q : List Value → Bool) (cell made : List Value → C) (k : List Value) (same : (j : List Value) → is_key k j ≡ false → (p j ≡ q j) × (cell j ≡ made j)) where
   after : (i : List Value) → key_order k i ≡ Less → (p i ≡ q i) × (cell i ≡ made i)
@@ -126,16 +129,17 @@ module _ {C : Type 0} (p q : List Value → Bool) (cell made : List Value → C)
     -- where tests and cells agree at all keys but k, and k passes the new test: the new rows are the old ones with k's row put in
     pub rows-insert : (ks : List (List Value)) → Ascends ks → rows_at q made (with_key k ks) ≡ insert_entry key_order (rows_at p cell ks) k (made k)
     rows-insert [] a = rows_at-cons q made k [] ∙ (λ i. first_row (passes i) made k [])
-    rows-insert (j ∷ js) a = elim (side k j)
-        [ Before e back ↦ rw e (insert-before (j ∷ js) (e, below-trans k j js e a.0))
-        | Same e ↦ let here : key_order k j ≡ Equal = rw e (key_itself j) in
-            rw here (subst (λ i. rows_at q made (i ∷ js) ≡ insert_entry key_order (rows_at p cell (i ∷ js)) k (made k)) e (insert-same js (rw e a.0)))
-        | After e back ↦ let s = same j (is_key-after k j e) in
-            rw e (rows_at-cons q made j (with_key k js)
-              ∙ (λ i. first_row (sym s.0 i) made j (rows-insert js a.1 i))
-              ∙ first_row-cell (p j) made cell j (insert_entry key_order (rows_at p cell js) k (made k)) (sym s.1)
-              ∙ insert-past (p j) cell j k (made k) (rows_at p cell js) e
-              ∙ ap (λ r. insert_entry key_order r k (made k)) (sym (rows_at-cons p cell j js))) ]
+    rows-insert (j ∷ js) a = elim (side k j) [
+      | Before e back ↦ rw e (insert-before (j ∷ js) (e, below-trans k j js e a.0))
+      | Same e ↦ let here : key_order k j ≡ Equal = rw e (key_itself j) in
+          rw here (subst (λ i. rows_at q made (i ∷ js) ≡ insert_entry key_order (rows_at p cell (i ∷ js)) k (made k)) e (insert-same js (rw e a.0)))
+      | After e back ↦ let s = same j (is_key-after k j e) in
+          rw e (rows_at-cons q made j (with_key k js)
+          ∙ (λ i. first_row (sym s.0 i) made j (rows-insert js a.1 i))
+          ∙ first_row-cell (p j) made cell j (insert_entry key_order (rows_at p cell js) k (made k)) (sym s.1)
+          ∙ insert-past (p j) cell j k (made k) (rows_at p cell js) e
+          ∙ ap (λ r. insert_entry key_order r k (made k)) (sym (rows_at-cons p cell j js)))
+    ]
 
   -- where tests and cells agree at all keys but k, and k fails the new test: the new rows are the old ones without k's
   module _ (fails : q k ≡ false) where
@@ -152,24 +156,26 @@ module _ {C : Type 0} (p q : List Value → Bool) (cell made : List Value → C)
 
     pub rows-remove : (ks : List (List Value)) → Ascends ks → rows_at q made ks ≡ remove_entry (is_key k) (rows_at p cell ks)
     rows-remove [] a = refl
-    rows-remove (j ∷ js) a = elim (side k j)
-        [ Before e back ↦ let low : Below k (j ∷ js) = (e, below-trans k j js e a.0) in
-            sym (rows-same p q cell made k after (j ∷ js) low) ∙ sym (remove-none p cell k (j ∷ js) low)
-        | Same e ↦ subst (λ i. rows_at q made (i ∷ js) ≡ remove_entry (is_key k) (rows_at p cell (i ∷ js))) e (remove-same js (rw e a.0))
-        | After e back ↦ let no = is_key-after k j e in let s = same j no in
-            rows_at-cons q made j js
-            ∙ (λ i. first_row (sym s.0 i) made j (rows-remove js a.1 i))
-            ∙ first_row-cell (p j) made cell j (remove_entry (is_key k) (rows_at p cell js)) (sym s.1)
-            ∙ remove-past (p j) cell j k (rows_at p cell js) no
-            ∙ ap (λ r. remove_entry (is_key k) r) (sym (rows_at-cons p cell j js)) ]
+    rows-remove (j ∷ js) a = elim (side k j) [
+      | Before e back ↦ let low : Below k (j ∷ js) = (e, below-trans k j js e a.0) in
+          sym (rows-same p q cell made k after (j ∷ js) low) ∙ sym (remove-none p cell k (j ∷ js) low)
+      | Same e ↦ subst (λ i. rows_at q made (i ∷ js) ≡ remove_entry (is_key k) (rows_at p cell (i ∷ js))) e (remove-same js (rw e a.0))
+      | After e back ↦ let no = is_key-after k j e in let s = same j no in
+          rows_at-cons q made j js
+          ∙ (λ i. first_row (sym s.0 i) made j (rows-remove js a.1 i))
+          ∙ first_row-cell (p j) made cell j (remove_entry (is_key k) (rows_at p cell js)) (sym s.1)
+          ∙ remove-past (p j) cell j k (rows_at p cell js) no
+          ∙ ap (λ r. remove_entry (is_key k) r) (sym (rows_at-cons p cell j js))
+    ]
 
 -- a key that fails adds no row
 pub rows-none : {C : Type 0} (p : List Value → Bool) (cell : List Value → C) (k : List Value) → p k ≡ false → (ks : List (List Value)) → rows_at p cell (with_key k ks) ≡ rows_at p cell ks
 rows-none p cell k fails [] = rows_at-cons p cell k [] ∙ (λ i. first_row (fails i) cell k [])
-rows-none p cell k fails (j ∷ js) = elim (key_order k j) as (λ o. rows_at p cell (match_ordering o (k ∷ j ∷ js) (j ∷ js) (j ∷ with_key k js)) ≡ rows_at p cell (j ∷ js))
-    [ Less ↦ rows_at-cons p cell k (j ∷ js) ∙ (λ i. first_row (fails i) cell k (rows_at p cell (j ∷ js)))
-    | Equal ↦ refl
-    | Greater ↦ rows_at-cons p cell j (with_key k js) ∙ (λ i. first_row (p j) cell j (rows-none p cell k fails js i)) ∙ sym (rows_at-cons p cell j js) ]
+rows-none p cell k fails (j ∷ js) = elim (key_order k j) as (λ o. rows_at p cell (match_ordering o (k ∷ j ∷ js) (j ∷ js) (j ∷ with_key k js)) ≡ rows_at p cell (j ∷ js)) [
+  | Less ↦ rows_at-cons p cell k (j ∷ js) ∙ (λ i. first_row (fails i) cell k (rows_at p cell (j ∷ js)))
+  | Equal ↦ refl
+  | Greater ↦ rows_at-cons p cell j (with_key k js) ∙ (λ i. first_row (p j) cell j (rows-none p cell k fails js i)) ∙ sym (rows_at-cons p cell j js)
+]
 
 -- the row of a key that is among the keys and passes
 pub rows-lookup : {C : Type 0} (p : List Value → Bool) (cell : List Value → C) (k : List Value) (ks : List (List Value)) → (p k ≡ true → list_any (is_key k) ks ≡ true) → lookup (is_key k) (rows_at p cell ks) ≡ cond (p k) (Some (cell k)) None

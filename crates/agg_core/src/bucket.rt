@@ -90,5 +90,9 @@ fn lhist_count(min: i64, max: i64, step: i64) -> usize
         return 0;
     }
     let steps = max.abs_diff(min).div_ceil(width);
-    if steps <= LHIST_BUCKETS as u64 { steps as usize + 2 } else { 0 }
+    if steps <= LHIST_BUCKETS as u64 {
+        steps as usize + 2
+    } else {
+        0
+    }
 }

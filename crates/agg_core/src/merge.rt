@@ -41,7 +41,10 @@ fn merge_buckets(buckets: &mut Buckets, others: &Buckets)
 {
     match (buckets, others) {
         (Buckets::Hist(counts), Buckets::Hist(more)) => merge_counts(counts, more),
-        (Buckets::Lhist(counts), Buckets::Lhist(more)) => merge_counts(counts.as_mut_slice(), more.as_slice()),
+        (Buckets::Lhist(counts), Buckets::Lhist(more)) => merge_counts(
+            counts.as_mut_slice(),
+            more.as_slice(),
+        ),
         _ => {}
     }
 }

@@ -36,4 +36,4 @@ returns c fine =
     let few : c.div_ceil-steps.result ≤ 1000 = omega (arith, fine.few) in
     let one : c.last_reached-above.result ≤ 1 = grind arith in
     lhist_reaches c.args.min c.args.max c.args.step c.args.n c.div_ceil-steps.result c.saturating_add-2.result steps some above
-      (sums _ _ _ _ _ _ (cond (int_le c.args.max c.args.n) 1 0) (c.saturating_add.ensures ∙ ap (λ q. min (q + 1) (2 ^ 64 - 1)) quotient) c.min-reached.ensures c.saturating_add-2.ensures one few (sym last))
+    (sums _ _ _ _ _ _ (cond (int_le c.args.max c.args.n) 1 0) (c.saturating_add.ensures ∙ ap (λ q. min (q + 1) (2 ^ 64 - 1)) quotient) c.min-reached.ensures c.saturating_add-2.ensures one few (sym last))
