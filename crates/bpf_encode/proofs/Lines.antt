@@ -1,7 +1,7 @@
 -- The lines of a listing.
 use Rattle.std.proofs.Common.{◌≡◌, ℕ, suc, ◌+◌, ◌-◌, ◌*◌, ◌<◌, ◌≤◌, ap, sym, ◌∙◌, List, [], ◌∷◌, ◌++◌, append_assoc, append-nil, length, take, drop, arith}
 use Rattle.std.specs.Prelude.{map}
-use Rattle.std.proofs.lemmas.List.{drop-drop}
+use Rattle.bpf_encode.proofs.Bytes.{slot_after}
 use Rattle.bpf_encode.specs.Listing.{hex_byte, joined, line, four_digits, slots_in, lines_from, spaced}
 
 -- blanks before the bytes are a blank and those between
@@ -14,7 +14,8 @@ spaced_line [] h = absurd (omega arith)
 spaced_line (b ∷ bs) h = spaced_is b bs
 
 -- a line as it is written
-pub line_written : (old : List ℕ) (n : ℕ) (slot t1 t2 t3 t4 : List ℕ) → 0 < length slot → t1 ≡ old ++ four_digits n → t2 ≡ t1 ++ 58 ∷ [] → t3 ≡ t2 ++ spaced slot → t4 ≡ t3 ++ 10 ∷ [] → t4 ≡ old ++ line n slot
+pub line_written : (old : List ℕ) (n : ℕ) (slot t1 t2 t3 t4 : List ℕ) → 0 < length slot → t1 ≡ old ++ four_digits n → t2 ≡ t1 ++ 58 ∷ []
+    → t3 ≡ t2 ++ spaced slot → t4 ≡ t3 ++ 10 ∷ [] → t4 ≡ old ++ line n slot
 line_written old n slot t1 t2 t3 t4 h e1 e2 e3 e4 =
     e4
     ∙ ap (λ (l : List ℕ). l ++ 10 ∷ []) (e3 ∙ ap (λ (l : List ℕ). l ++ spaced slot) (e2 ∙ ap (λ (l : List ℕ). l ++ 58 ∷ []) e1))
@@ -23,11 +24,9 @@ line_written old n slot t1 t2 t3 t4 h e1 e2 e3 e4 =
     ∙ append_assoc (old ++ four_digits n) (58 ∷ []) (32 ∷ (joined (map hex_byte slot) ++ 10 ∷ []))
     ∙ append_assoc old (four_digits n) (58 ∷ 32 ∷ (joined (map hex_byte slot) ++ 10 ∷ []))
 
-slot_after : (bytes : List ℕ) (place : ℕ) → drop 8 (drop (8 * place) bytes) ≡ drop (8 * (place + 1)) bytes
-slot_after bytes place = drop-drop 8 (8 * place) bytes ∙ ap (λ k. drop k bytes) (omega arith)
-
 -- one line more
-pub lines_more : (bytes text new slot : List ℕ) (slots n : ℕ) → n < slots → slot ≡ take 8 (drop (8 * n) bytes) → new ≡ text ++ line n slot → text ++ lines_from n (slots_in (slots - n) (drop (8 * n) bytes)) ≡ new ++ lines_from (n + 1) (slots_in (slots - (n + 1)) (drop (8 * (n + 1)) bytes))
+pub lines_more : (bytes text new slot : List ℕ) (slots n : ℕ) → n < slots → slot ≡ take 8 (drop (8 * n) bytes) → new ≡ text ++ line n slot
+    → text ++ lines_from n (slots_in (slots - n) (drop (8 * n) bytes)) ≡ new ++ lines_from (n + 1) (slots_in (slots - (n + 1)) (drop (8 * (n + 1)) bytes))
 lines_more bytes text new slot slots n lt s e =
     let k : slots - n ≡ suc (slots - (n + 1)) = omega arith in
     let rest = slots_in (slots - (n + 1)) (drop (8 * (n + 1)) bytes) in

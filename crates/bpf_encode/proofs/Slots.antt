@@ -6,6 +6,7 @@ use Rattle.std.specs.Int.{w16, w32, cast_unsigned, cast_signed}
 use Rattle.std.specs.Int.RustNames.{FitsSigned}
 use Rattle.std.proofs.Math.Facts.{sfits_to_z, sfits_lit}
 use Rattle.std.proofs.lemmas.Int.{of_z-to_z}
+use Rattle.std.proofs.lemmas.Bool.{and_parts, eqb-true, eq-eqb}
 use Rattle.std.proofs.lemmas.Bool.Decides.{Decides-int_eq}
 use Rattle.bpf_insn.specs.declared.form.Form.{Form}
 use Rattle.bpf_insn.specs.declared.form.Form.TheVariants.{Alu as AluForm, Neg as NegForm, End as EndForm, Jump as JumpForm, Ja as JaForm, JaLong as JaLongForm, Call as CallForm, Exit as ExitForm, Load as LoadForm, StoreImm as StoreImmForm, Store as StoreForm, Wide as WideForm, Half as HalfForm}
@@ -21,16 +22,6 @@ use Rattle.bpf_encode.specs.Decoding.{FitsSource, Fits}
 use Rattle.bpf_encode.specs.Slots.{insn_with, source_in, wide_number, is_same_slot}
 use Rattle.bpf_encode.proofs.Bytes.{FitsSlot, below_32}
 
-pub both : (a b : Bool) → IsTrue (a && b) → IsTrue a × IsTrue b
-both true b h = (refl, h)
-both false b h = absurd (cc)
-
-nat_same : (a b : ℕ) → nat_eq a b ≡ true → a ≡ b
-nat_same a b h = grind arith
-
-nat_refl : (a : ℕ) → nat_eq a a ≡ true
-nat_refl a = grind arith
-
 int_same : (a b : ℤ) → int_eq a b ≡ true → a ≡ b
 int_same a b h = grind (arith, Decides-int_eq)
 
@@ -39,15 +30,15 @@ int_refl a = grind (arith, Decides-int_eq)
 
 pub same_slot : (a b : Slot) → is_same_slot a b ≡ true → a ≡ b
 same_slot a b h =
-    let p = both _ _ h in let q = both _ _ p.1 in let r = both _ _ q.1 in let s = both _ _ r.1 in
-    let e0 = nat_same _ _ p.0 in let e1 = nat_same _ _ q.0 in let e2 = nat_same _ _ r.0 in let e3 = int_same _ _ s.0 in let e4 = int_same _ _ s.1 in
+    let p = and_parts _ _ h in let q = and_parts _ _ p.1 in let r = and_parts _ _ q.1 in let s = and_parts _ _ r.1 in
+    let e0 = eqb-true _ _ p.0 in let e1 = eqb-true _ _ q.0 in let e2 = eqb-true _ _ r.0 in let e3 = int_same _ _ s.0 in let e4 = int_same _ _ s.1 in
     λ i. record { opcode = e0 i; dst = e1 i; src = e2 i; offset = e3 i; imm = e4 i }
 
 pub slot_same : (a : Slot) → is_same_slot a a ≡ true
 slot_same a =
-    ap (λ (b : Bool). b && (nat_eq a.dst a.dst && (nat_eq a.src a.src && (int_eq a.offset a.offset && int_eq a.imm a.imm)))) (nat_refl a.opcode)
-    ∙ ap (λ (b : Bool). b && (nat_eq a.src a.src && (int_eq a.offset a.offset && int_eq a.imm a.imm))) (nat_refl a.dst)
-    ∙ ap (λ (b : Bool). b && (int_eq a.offset a.offset && int_eq a.imm a.imm)) (nat_refl a.src)
+    ap (λ (b : Bool). b && (nat_eq a.dst a.dst && (nat_eq a.src a.src && (int_eq a.offset a.offset && int_eq a.imm a.imm)))) (eq-eqb a.opcode a.opcode refl)
+    ∙ ap (λ (b : Bool). b && (nat_eq a.src a.src && (int_eq a.offset a.offset && int_eq a.imm a.imm))) (eq-eqb a.dst a.dst refl)
+    ∙ ap (λ (b : Bool). b && (int_eq a.offset a.offset && int_eq a.imm a.imm)) (eq-eqb a.src a.src refl)
     ∙ ap (λ (b : Bool). b && int_eq a.imm a.imm) (int_refl a.offset)
     ∙ int_refl a.imm
 
@@ -79,16 +70,18 @@ found_again Exit u h f e = refl
 found_again (Load z g d s o) u h f e = refl
 found_again (StoreImm z d o n) u h f e = refl
 found_again (Store z d s o) u h f e = refl
-found_again (Wide d m) u h f e = ap (λ (x : ℕ). Wide d (wide_number (cast_unsigned w32 (cast_signed w32 (m % 2 ^ 32))) x)) (e refl) ∙ ap (λ (x : ℕ). Wide d x) (wide_again m)
+found_again (Wide d m) u h f e = ap (λ (x : ℕ). Wide d (wide_number (cast_unsigned w32 (cast_signed w32 (m % 2 ^ 32))) x)) (e refl)
+    ∙ ap (λ (x : ℕ). Wide d x) (wide_again m)
 found_again Half u h f e = absurd (cc)
 
--- whatever the upper half, it is valid where the instruction is, and has its first slot
+-- whatever the upper half, it is valid and wide where the instruction is, and has its first slot
 pub record SameFirst (i j : Insn) : Type 0 where
   pub valid : is_valid j ≡ is_valid i
+  pub wide : is_wide j ≡ is_wide i
   pub same : slot_of 0 j ≡ slot_of 0 i
 
 same_first : (i j : Insn) → j ≡ i → SameFirst i j
-same_first i j e = record { valid = ap is_valid e; same = ap (slot_of 0) e }
+same_first i j e = record { valid = ap is_valid e; wide = ap is_wide e; same = ap (slot_of 0) e }
 
 pub first_again : (i : Insn) (u : ℕ) → is_half i ≡ false → Fits i → SameFirst i (insn_with (slot_of 0 i) u (form_of i))
 first_again (Alu w op d s o) u h f = same_first _ _ (found_again (Alu w op d s o) u h f (λ t. absurd (cc)))
@@ -105,7 +98,8 @@ first_again (Store z d s o) u h f = same_first _ _ refl
 first_again (Wide d m) u h f =
     let l = cast_unsigned w32 (cast_signed w32 (m % 2 ^ 32)) in
     let e : wide_number l u % 2 ^ 32 ≡ m % 2 ^ 32 = ap (λ (x : ℕ). wide_number x u % 2 ^ 32) (low_number m) ∙ low_again (m % 2 ^ 32) u (omega arith) in
-    record { valid = refl; same = ap (λ (x : ℕ). let s : Slot = record { opcode = 24; dst = d; src = 0; offset = pos 0; imm = cast_signed w32 x } in s) e }
+    record { valid = refl; wide = refl; same = ap (λ (x : ℕ). let s : Slot =
+        record { opcode = 24; dst = d; src = 0; offset = pos 0; imm = cast_signed w32 x } in s) e }
 first_again Half u h f = absurd (cc)
 
 -- its numbers are those of the slot
@@ -162,7 +156,7 @@ upper_is s u HalfForm f h = absurd (cc)
 pub member_of : (i : Insn) → IsTrue (is_valid i) → is_half i ≡ false → IsTrue (is_member (form_of i))
 member_of (Alu w op d s o) v h = refl
 member_of (Neg w d) v h = refl
-member_of (End true true d n) v h = absurd (let q = (both (is_register d) (is_end true true n) v).1 in cc)
+member_of (End true true d n) v h = absurd (let q = (and_parts (is_register d) (is_end true true n) v).1 in cc)
 member_of (End true false d n) v h = refl
 member_of (End false b d n) v h = refl
 member_of (Jump w op d s o) v h = refl
@@ -170,7 +164,7 @@ member_of (Ja o) v h = refl
 member_of (JaLong n) v h = refl
 member_of (Call n) v h = refl
 member_of Exit v h = refl
-member_of (Load z g d s o) v h = (both (is_register s) (is_load z g) (both (is_register d) (is_register s && is_load z g) v).1).1
+member_of (Load z g d s o) v h = (and_parts (is_register s) (is_load z g) (and_parts (is_register d) (is_register s && is_load z g) v).1).1
 member_of (StoreImm z d o n) v h = refl
 member_of (Store z d s o) v h = refl
 member_of (Wide d m) v h = refl
@@ -209,7 +203,7 @@ imm_fits i u f l = sfits_lit tt
 
 pub fits_slot : (i : Insn) (u : ℕ) → IsTrue (is_valid i) → Fits i → u < 2 ^ 32 → FitsSlot (slot_of u i)
 fits_slot i u v f l = record {
-  dst = register_fits (dst_of i) (both (is_register (dst_of i)) (is_register (src_of i) && has_meaning i) v).0;
+  dst = register_fits (dst_of i) (and_parts (is_register (dst_of i)) (is_register (src_of i) && has_meaning i) v).0;
   offset = offset_fits i f;
   imm = imm_fits i u f l;
 }

@@ -1,11 +1,11 @@
 -- The first fault of bytes that are no code.
-use Rattle.std.specs.Prelude.{◌≡◌, ℕ, ◌%◌, ◌^◌, ◌<◌, ◌≤◌, ◌⊎◌, Bool, true, false, List, [], ◌∷◌, ◌++◌, length, Some, None, slice_index, IsTrue}
+use Rattle.std.specs.Prelude.{◌≡◌, ℕ, ◌%◌, ◌^◌, ◌<◌, ◌≤◌, ◌⊎◌, Bool, true, false, List, [], ◌∷◌, ◌++◌, length, slice_index, IsTrue}
 use Rattle.bpf_insn.specs.declared.form.Form.{Form}
 use Rattle.bpf_insn.specs.declared.insn.Insn.{Insn}
 use Rattle.bpf_insn.specs.declared.insn.Insn.TheVariants.{Half}
 use Rattle.bpf_insn.specs.declared.slot.Slot.{Slot}
 use Rattle.bpf_insn.specs.Code.{is_valid, is_wide}
-use Rattle.bpf_insn.specs.Table.{form_at}
+use Rattle.bpf_insn.specs.Opcodes.{IsFormAt}
 use Rattle.bpf_insn.specs.Encoding.{slot_of, slot_bytes, code_bytes}
 use Rattle.bpf_encode.specs.declared.decode.DecodeError.{DecodeError}
 use Rattle.bpf_encode.specs.declared.decode.DecodeError.TheVariants.{BadLength, BadOpcode, BadField, HalfWide, Memory}
@@ -20,8 +20,10 @@ abbrev pub missing : Bool → List Insn
 missing true = Half ∷ []
 missing false = []
 
--- slot n has this fault: the bytes are those of n instructions and of a rest. Where a half is owed to the last of these, they are code but for it, and else they are code
+-- slot n has this fault: the bytes are whole slots, those of n instructions and of a rest. Where a half is owed to the last of these
+-- instructions, they are code but for it, and else they are code
 pub record FaultAt (owed : Bool) (fault : List ℕ → Type 0) (bytes : List ℕ) (n : ℕ) : Type 0 where
+  pub multiple : length bytes % 8 ≡ 0
   pub before : List Insn
   pub rest : List ℕ
   pub is_code : IsCode (before ++ missing owed)
@@ -30,14 +32,14 @@ pub record FaultAt (owed : Bool) (fault : List ℕ → Type 0) (bytes : List ℕ
   pub whole : 8 ≤ length rest
   pub at_fault : fault rest
 
--- no row of the encoding table has the opcode
+-- no form of the set has the opcode
 abbrev pub HasBadOpcode : List ℕ → Type 0
-HasBadOpcode rest = form_at (slice_index rest 0) ≡ None
+HasBadOpcode rest = (form : Form) → IsFormAt (slice_index rest 0) form → ⊥
 
--- a row has the opcode, and no instruction has the slot
+-- a form of the set has the opcode, and no instruction has the slot
 pub record HasBadField (rest : List ℕ) : Type 0 where
   pub form : Form
-  pub opcode : form_at (slice_index rest 0) ≡ Some form
+  pub opcode : IsFormAt (slice_index rest 0) form
   pub fields : (i : Insn) → IsTrue (is_valid i) → Fits i → BeginsWith (slot_of 0 i) rest → ⊥
 
 -- no half has the slot, whatever it holds
@@ -52,10 +54,14 @@ pub record IsHalfWide (rest : List ℕ) : Type 0 where
   pub fits : Fits insn
   pub spelt : slot_bytes (slot_of 0 insn) ≡ rest
 
--- what each error says of the bytes
-abbrev pub IsRefused : List ℕ → DecodeError → Type 0
-IsRefused bytes BadLength = length bytes % 8 ≡ 0 → ⊥
-IsRefused bytes (BadOpcode n) = FaultAt false HasBadOpcode bytes n
-IsRefused bytes (BadField n) = FaultAt false HasBadField bytes n ⊎ FaultAt true HasBadHalf bytes n
-IsRefused bytes (HalfWide n) = FaultAt false IsHalfWide bytes n
-IsRefused bytes Memory = Unit {0}
+-- the first fault of the bytes; want of memory is none
+abbrev pub IsFirstFault : List ℕ → DecodeError → Type 0
+IsFirstFault bytes BadLength = length bytes % 8 ≡ 0 → ⊥
+IsFirstFault bytes (BadOpcode n) = FaultAt false HasBadOpcode bytes n
+IsFirstFault bytes (BadField n) = FaultAt false HasBadField bytes n ⊎ FaultAt true HasBadHalf bytes n
+IsFirstFault bytes (HalfWide n) = FaultAt false IsHalfWide bytes n
+IsFirstFault bytes Memory = ⊥
+
+-- each number is one of 8 bits
+abbrev pub AreBytes : List ℕ → Type 0
+AreBytes bytes = (i : ℕ) → slice_index bytes i < 2 ^ 8

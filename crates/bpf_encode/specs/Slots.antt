@@ -1,5 +1,5 @@
--- What slots say, one after another.
-use Rattle.std.specs.Prelude.{◌≡◌, ℕ, zero, suc, ◌+◌, ◌*◌, ◌^◌, Bool, true, false, cond, ◌&&◌, nat_eq, nat_le, List, [], ◌∷◌, ◌++◌, length, drop, Option, Some, None, unwrap_or, Result, Ok, Err}
+-- How slots are decoded, one after another: what the code does, for its proofs. No public clause cites it.
+use Rattle.std.specs.Prelude.{◌≡◌, ℕ, zero, suc, ◌+◌, ◌*◌, ◌^◌, Bool, true, false, cond, ◌&&◌, nat_eq, nat_le, List, [], ◌∷◌, ◌++◌, length, drop, Option, Some, None, is_none, unwrap_or, Result, Ok, Err}
 use Rattle.std.specs.Ordering.{int_eq}
 use Rattle.std.specs.Int.{w32, cast_unsigned}
 use Rattle.bpf_insn.specs.declared.form.Form.{Form}
@@ -10,7 +10,7 @@ use Rattle.bpf_insn.specs.declared.insn.Source.{Source}
 use Rattle.bpf_insn.specs.declared.insn.Source.TheVariants.{Imm, Reg}
 use Rattle.bpf_insn.specs.declared.slot.Slot.{Slot}
 use Rattle.bpf_insn.specs.Code.{is_valid, is_wide}
-use Rattle.bpf_insn.specs.Table.{form_at}
+use Rattle.bpf_insn.specs.Classes.{class_form}
 use Rattle.bpf_insn.specs.Encoding.{slot_of}
 use Rattle.bpf_encode.specs.declared.decode.DecodeError.{DecodeError}
 use Rattle.bpf_encode.specs.declared.decode.DecodeError.TheVariants.{BadLength, BadOpcode, BadField, HalfWide, Memory}
@@ -45,10 +45,6 @@ is_same_slot a b = nat_eq a.opcode b.opcode && (nat_eq a.dst b.dst && (nat_eq a.
 abbrev pub next_upper : List ℕ → Option ℕ
 next_upper bytes = cond (nat_le 16 (length bytes)) (Some (cast_unsigned w32 (slot_in (drop 8 bytes)).imm)) None
 
-abbrev pub is_none : Option ℕ → Bool
-is_none None = true
-is_none (Some n) = false
-
 -- a wide load has a second slot
 abbrev pub completed : ℕ → Option ℕ → Insn → Result Insn DecodeError
 completed n next i = cond (is_wide i && is_none next) (Err (HalfWide n)) (Ok i)
@@ -67,7 +63,7 @@ half_decoded n s = cond (is_same_slot (slot_of (cast_unsigned w32 s.imm) Half) s
 -- slot n, at the front of bytes; owed says whether a half is due
 abbrev pub slot_decoded : ℕ → Bool → List ℕ → Result Insn DecodeError
 slot_decoded n true bytes = half_decoded n (slot_in bytes)
-slot_decoded n false bytes = first_decoded n (slot_in bytes) (next_upper bytes) (form_at (slot_in bytes).opcode)
+slot_decoded n false bytes = first_decoded n (slot_in bytes) (next_upper bytes) (class_form (slot_in bytes).opcode)
 
 abbrev pub followed : Insn → Result (List Insn) DecodeError → Result (List Insn) DecodeError
 followed i (Ok is) = Ok (i ∷ is)

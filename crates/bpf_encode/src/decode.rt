@@ -1,12 +1,12 @@
 // From bytes to instructions.
-ghost use Rattle.std.specs.Prelude.{◌≡◌, ◌<◌, ◌≤◌, ◌*◌, ◌/◌, ◌^◌, ◌%◌, ⊤, ℕ, List, false, length, Ok, IfOk, MatchResult};
+ghost use Rattle.std.specs.Prelude.{◌≡◌, ◌<◌, ◌≤◌, ◌*◌, ◌/◌, ◌^◌, ◌%◌, ◌≢◌, ◌⊎◌, ℕ, List, false, length, Ok, Err, IfOk, IfErr, MatchResult};
 ghost use Rattle.bpf_insn.specs.declared.insn.Insn.{Insn as InsnValue};
 ghost use Rattle.bpf_insn.specs.Code.{is_wide};
-ghost use Rattle.bpf_insn.specs.Table.{form_at};
+ghost use Rattle.bpf_insn.specs.Classes.{class_form};
 ghost use Rattle.bpf_encode.specs.Decoding.{IsCodeOf};
-ghost use Rattle.bpf_encode.specs.Faults.{IsRefused};
+ghost use Rattle.bpf_encode.specs.Faults.{IsFirstFault};
 ghost use Rattle.bpf_encode.specs.Slots.{is_same_slot, next_upper, checked, first_decoded, half_decoded, slot_decoded, decoded, FaultIs};
-ghost use Rattle.bpf_encode.specs.declared.decode.DecodeError.TheVariants.{Memory as OutOfMemory};
+ghost use Rattle.bpf_encode.specs.declared.decode.DecodeError.{DecodeError as ErrorValue};
 
 use crate::fields::insn_with;
 use crate::slot_bytes::slot_at;
@@ -94,7 +94,7 @@ fn checked(number: u32, slot: Slot, next: Option<u32>, insn: Insn) -> Result<Ins
 
 // The slot of an instruction, of which a wide load takes the next one too.
 fn first_decoded(number: u32, slot: Slot, next: Option<u32>) -> Result<Insn, DecodeError>
-    ensures { result ≡ first_decoded number slot next (form_at slot.opcode) }
+    ensures { result ≡ first_decoded number slot next (class_form slot.opcode) }
 {
     match Form::at(slot.opcode) {
         None => Err(DecodeError::BadOpcode(number)),
@@ -131,7 +131,9 @@ fn slot_decoded(number: u32, owed: bool, bytes: &[u8]) -> Result<Insn, DecodeErr
 fn decode_slots(alloc: Global, bytes: &[u8]) -> Result<Vec<Insn>, DecodeError>
     requires whole { length bytes.now % 8 ≡ 0 }
     requires short { length bytes.now < 2 ^ 35 }
-    ensures { MatchResult result (λ code. decoded 0 false (length bytes.now / 8) bytes.now ≡ Ok code.items) (λ e. FaultIs (decoded 0 false (length bytes.now / 8) bytes.now) e) }
+    ensures {
+        let answer = decoded 0 false (length bytes.now / 8) bytes.now in
+        MatchResult result (λ code. answer ≡ Ok code.items) (λ e. FaultIs answer e) }
 {
     let mut code = Vec::new(alloc);
     let mut owed = false;
@@ -149,9 +151,15 @@ fn decode_slots(alloc: Global, bytes: &[u8]) -> Result<Vec<Insn>, DecodeError>
 /// Faults are looked for slot by slot, once the length is a multiple of eight.
 pub fn decode(alloc: Global, bytes: &[u8]) -> Result<Vec<Insn>, DecodeError>
     requires short { length bytes.now < 2 ^ 35 }
+    // What is decoded is the code that the bytes are.
     ensures code { IfOk result (λ code. IsCodeOf code.items bytes.now) }
-    ensures exact { (code : List InsnValue) → IsCodeOf code bytes.now → MatchResult result (λ answer. answer.items ≡ code) (λ e. e ≡ OutOfMemory) }
-    ensures refused { MatchResult result (λ _. ⊤) (λ e. IsRefused bytes.now e) }
+    // The code that the bytes are is decoded, unless memory runs out.
+    ensures only { (code : List InsnValue) → IsCodeOf code bytes.now →
+        MatchResult result (λ answer. answer.items ≡ code) (λ e. e ≡ DecodeError.Memory) }
+    // Any other error is the first fault of the bytes.
+    ensures fault { IfErr result (λ e. e ≢ DecodeError.Memory → IsFirstFault bytes.now e) }
+    // The first fault of the bytes is answered, unless memory runs out.
+    ensures refused { (e : ErrorValue) → IsFirstFault bytes.now e → (result ≡ Err e) ⊎ (result ≡ Err DecodeError.Memory) }
 {
     if bytes.len() % 8 != 0 {
         return Err(DecodeError::BadLength);

@@ -1,5 +1,6 @@
 // Listings.
 ghost use Rattle.std.specs.Prelude.{◌≡◌, ◌<◌, ◌≤◌, ◌+◌, ◌*◌, ◌%◌, ◌++◌, ◌∷◌, [], length, IfOk, OnOk};
+ghost use Rattle.bt_core.specs.declared.limits.TheConstants.{CODE_SLOTS};
 ghost use Rattle.bpf_encode.specs.Listing.{four_digits, hex_byte, line, listing_of, spaced};
 
 use bt_core::memory::Memory;
@@ -7,13 +8,13 @@ use hex::encode_to_slice;
 use std::alloc::Global;
 
 /// A line for each slot: its number, counted from 0, in four decimal digits, a colon and a blank, and
-/// its eight bytes in lower-case hexadecimal, joined by blanks. The bytes are those of at most 4,096
-/// whole slots.
+/// its eight bytes in lower-case hexadecimal, joined by blanks. The bytes are whole slots, at most
+/// [`bt_core::limits::CODE_SLOTS`] of them.
 ///
 /// [`Memory`] where there is no room for the lines.
 pub fn listing(alloc: Global, bytes: &[u8]) -> Result<Vec<u8>, Memory>
     requires whole { length bytes.now % 8 ≡ 0 }
-    requires short { length bytes.now ≤ 8 * 4096 }
+    requires short { length bytes.now ≤ 8 * CODE_SLOTS }
     ensures { IfOk result (λ text. text.items ≡ listing_of bytes.now) }
 {
     let mut text = Vec::new(alloc);

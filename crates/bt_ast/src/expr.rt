@@ -1,9 +1,9 @@
 // Expressions, by the sections on expressions, operators, builtins, maps and variables of the bpftrace language
 // reference. The place of a node is that of its first token.
-use crate::place::Place;
 use bt_core::boxed::Boxed;
 use bt_core::items::Items;
 use bt_core::operator::{BinOp, UnOp};
+use bt_core::place::Place;
 
 /// A builtin variable.
 #[derive(Clone, Copy, PartialEq, Eq, Debug)]

@@ -3,7 +3,6 @@
 
 pub mod attached;
 pub mod expr;
-pub mod place;
 pub mod probe;
 pub mod stmt;
 #[cfg(test)]

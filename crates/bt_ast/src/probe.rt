@@ -1,8 +1,8 @@
 // Probes and scripts, by the section on probes of the bpftrace language reference. The place of a node is that of its first token.
 use crate::expr::Expr;
-use crate::place::Place;
 use crate::stmt::Block;
 use bt_core::items::Items;
+use bt_core::place::Place;
 
 /// The unit of an interval's number: seconds, milliseconds, microseconds, or times a second.
 #[derive(Clone, Copy, PartialEq, Eq, Debug)]

@@ -1,9 +1,9 @@
 // Statements and blocks, by the sections on statements, map functions and functions of the bpftrace language
 // reference. The place of a node is that of its first token.
 use crate::expr::{Expr, IncDec, MapRef, Target};
-use crate::place::Place;
 use bt_core::items::Items;
 use bt_core::operator::BinOp;
+use bt_core::place::Place;
 
 /// What is gathered in an aggregation map: a map function and its arguments.
 #[derive(PartialEq, Debug, Drop)]

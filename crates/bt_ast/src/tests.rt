@@ -1,6 +1,5 @@
 // The texts of trees as a reader would write them, a blank after each token.
 use crate::expr::{Builtin, Expr, ExprKind, IncDec, MapRef, Target, VarRef};
-use crate::place::Place;
 use crate::probe::{Point, Probe, Script, Unit};
 use crate::stmt::{AggCall, Block, Stmt, StmtKind};
 use crate::text::to_text;
@@ -8,6 +7,7 @@ use bt_core::boxed::Boxed;
 use bt_core::items::Items;
 use bt_core::memory::Memory;
 use bt_core::operator::{BinOp, UnOp};
+use bt_core::place::Place;
 use std::alloc::Global;
 use std::test::Fail;
 

@@ -2,6 +2,7 @@
 ghost use Rattle.std.specs.Prelude.{◌≡◌, ◌≤◌, length, IfOk};
 
 use crate::items::Items;
+use crate::limits::KEY_PARTS;
 use crate::memory::{Memory, TryCopy};
 use crate::value::Value;
 use std::alloc::Global;
@@ -15,13 +16,14 @@ pub struct Key {
 
 impl Model for Key {
     ghost use Rattle.std.specs.Prelude.{List, ◌≤◌, length};
+    ghost use Rattle.bt_core.specs.declared.limits.TheConstants.{KEY_PARTS};
     ghost use Rattle.bt_core.specs.declared.value.Value.{Value as Part};
 
     ghost Value = { List Part };
 
     ghost view = { λ s. s.parts };
 
-    ghost invariant = { λ s. length s.parts ≤ 4 };
+    ghost invariant = { λ s. length s.parts ≤ KEY_PARTS };
 
     ghost inverse = { λ parts. record { parts = parts } };
 }
@@ -29,7 +31,7 @@ impl Model for Key {
 impl Key {
     /// The key of these parts, of which there are at most four.
     pub fn of(parts: Vec<Value>) -> Key
-        requires { length parts.items ≤ 4 }
+        requires { length parts.items ≤ KEY_PARTS }
         ensures { result ≡ parts.items }
     {
         Key {
@@ -40,7 +42,7 @@ impl Key {
     /// Its parts in their order.
     pub fn parts(&self) -> &[Value]
         ensures value { result.now ≡ self.now }
-        ensures few { length self.now ≤ 4 }
+        ensures few { length self.now ≤ KEY_PARTS }
     {
         self.parts.as_slice()
     }

@@ -2,9 +2,11 @@
 #![tactic(auto)]
 
 pub mod agg;
+pub mod arithmetic;
 pub mod boxed;
 pub mod bytes;
 pub mod context;
+pub mod encoding;
 pub mod item;
 pub mod items;
 pub mod key;

@@ -3,6 +3,7 @@ ghost use Rattle.std.specs.Prelude.{◌≡◌, length};
 ghost use Rattle.std.specs.List.{take_while};
 ghost use Rattle.bt_core.specs.Text.{IsShortText, is_text_byte, short_text};
 
+use crate::limits::STRING_BYTES;
 use std::cmp::Ordering;
 use std::fmt;
 use std::marker::Model;
@@ -10,19 +11,20 @@ use std::marker::Model;
 /// A string of a script: at most 63 bytes, none of them 0, ordered by bytes.
 #[derive(Drop)]
 pub struct Str64 {
-    bytes: [u8; 63],
+    bytes: [u8; STRING_BYTES],
     len: u8,
 }
 
 impl Model for Str64 {
-    ghost use Rattle.std.specs.Prelude.{List, ℕ, ◌≤◌, ◌≢◌, take};
+    ghost use Rattle.std.specs.Prelude.{List, ℕ, ◌≤◌, take};
+    ghost use Rattle.bt_core.specs.declared.limits.TheConstants.{STRING_BYTES};
     ghost use Rattle.bt_core.specs.Text.{IsShortText};
 
     ghost Value = { List ℕ };
 
     ghost view = { λ s. take s.len s.bytes };
 
-    ghost invariant = { λ s. (s.len ≤ 63) × IsShortText (take s.len s.bytes) };
+    ghost invariant = { λ s. (s.len ≤ STRING_BYTES) × IsShortText (take s.len s.bytes) };
 }
 
 impl Str64 {
@@ -30,9 +32,9 @@ impl Str64 {
     pub fn of(bytes: &[u8]) -> Str64
         ensures { result ≡ short_text bytes.now }
     {
-        let front = &bytes[..bytes.len().min(63)];
+        let front = &bytes[..bytes.len().min(STRING_BYTES)];
         let len = text_len(front);
-        let mut stored = [0; 63];
+        let mut stored = [0; STRING_BYTES];
         stored[..len].copy_from_slice(&front[..len]);
         Str64 {
             bytes: stored,

@@ -12,7 +12,7 @@ use Rattle.bt_lexer.specs.declared.piece.Piece.{Piece}
 use Rattle.bt_lexer.specs.declared.numbers.Digits.{Digits}
 use Rattle.bt_lexer.specs.declared.strings.StringByte.{StringByte}
 use Rattle.bt_lexer.specs.declared.strings.StringByte.TheVariants as part
-use Rattle.bt_lexer.specs.declared.place.Place.{Place}
+use Rattle.bt_lexer.specs.declared.position.Position.{Position}
 use Rattle.bt_lexer.specs.Bytes.{is_blank, is_letter, is_digit, is_word_byte, is_attach_byte, not_newline, begins}
 use Rattle.bt_lexer.specs.Numbers.{signed}
 use Rattle.bt_lexer.specs.Tokens.{first_line}
@@ -204,21 +204,21 @@ piece_at offset (b ∷ bs) = if is_blank b then separator 1
 
 -- ---- a whole text
 
-abbrev pub after_byte : Place → ℕ → Place
+abbrev pub after_byte : Position → ℕ → Position
 after_byte p b = if b == 10 then record { offset = p.offset + 1; line = p.line + 1; column = 1 } else record { offset = p.offset + 1; line = p.line; column = p.column + 1 }
 
-abbrev pub after : Place → List ℕ → Place
+abbrev pub after : Position → List ℕ → Position
 after p [] = p
 after p (b ∷ bs) = after (after_byte p b) bs
 
--- a place that is no further on in lines and columns than in bytes
-abbrev pub IsPlace : Place → Type 0
-IsPlace p = (p.line ≤ p.offset + 1) × (p.column ≤ p.offset + 1)
+-- a position that is no further on in lines and columns than in bytes
+abbrev pub IsPosition : Position → Type 0
+IsPosition p = (p.line ≤ p.offset + 1) × (p.column ≤ p.offset + 1)
 
-abbrev pub token_at : TokenKind → Place → ℕ → Token
-token_at kind p n = record { kind = kind; start = p.offset; end = p.offset + n; line = p.line; column = p.column }
+abbrev pub token_at : TokenKind → Position → ℕ → Token
+token_at kind p n = record { kind = kind; start = p.offset; end = p.offset + n; place = record { line = p.line; column = p.column } }
 
-abbrev pub tokens_at : Option TokenKind → Place → ℕ → List Token
+abbrev pub tokens_at : Option TokenKind → Position → ℕ → List Token
 tokens_at None p n = []
 tokens_at (Some kind) p n = token_at kind p n ∷ []
 
@@ -226,17 +226,17 @@ abbrev pub prepend : List Token → Result (List Token) LexError → Result (Lis
 prepend ts (Ok more) = Ok (ts ++ more)
 prepend ts (Err e) = Err e
 
-abbrev pub lex_piece : (ℕ → Result (List Token) LexError) → Place → Result Piece LexError → Result (List Token) LexError
+abbrev pub lex_piece : (ℕ → Result (List Token) LexError) → Position → Result Piece LexError → Result (List Token) LexError
 lex_piece more p (Ok piece) = prepend (tokens_at piece.kind p piece.len) (more (piece.len - 1))
 lex_piece more p (Err e) = Err e
 
 -- the tokens, after so many bytes that are still to pass
-abbrev pub lexed_from : ℕ → Place → List ℕ → Result (List Token) LexError
+abbrev pub lexed_from : ℕ → Position → List ℕ → Result (List Token) LexError
 lexed_from k p [] = Ok []
 lexed_from (suc k) p (b ∷ bs) = lexed_from k (after_byte p b) bs
 lexed_from zero p (b ∷ bs) = lex_piece (λ k. lexed_from k (after_byte p b) bs) p (piece_at p.offset (b ∷ bs))
 
-abbrev pub start : Place
+abbrev pub start : Position
 start = record { offset = 0; line = 1; column = 1 }
 
 abbrev pub lexed : List ℕ → Result (List Token) LexError

@@ -82,8 +82,7 @@ token_behind before kind bs = record {
   kind = kind;
   start = length before;
   end = length before + length bs;
-  line = line_behind before;
-  column = column_behind before;
+  place = record { line = line_behind before; column = column_behind before };
 }
 
 -- the token of a piece, or none of a separator

@@ -1,13 +1,13 @@
 // A whole text.
 ghost use Rattle.std.specs.Prelude.{◌≡◌, ◌+◌, ◌<◌, ◌≤◌, ◌^◌, ◌++◌, ◌≢◌, length, IfErr, IfOk, List, OnOk};
 ghost use Rattle.bt_lexer.specs.Tokens.{first_line, Gives, IsFirstFault, IsTokensOf};
-ghost use Rattle.bt_lexer.specs.Scan.{lexed, lexed_from, tokens_at, IsPlace};
+ghost use Rattle.bt_lexer.specs.Scan.{lexed, lexed_from, tokens_at, IsPosition};
 ghost use Rattle.bt_lexer.specs.declared.error.LexError.TheVariants.{Memory};
 
 use crate::bytes::line_len;
 use crate::error::LexError;
 use crate::piece::{Piece, piece_at};
-use crate::place::Place;
+use crate::position::Position;
 use crate::token::{Token, TokenKind};
 use bt_core::items::Items;
 use std::alloc::Global;
@@ -26,36 +26,36 @@ fn first_line_len(text: &[u8]) -> usize
 /// Adds the token of a piece of so many bytes, and nothing for a separator.
 fn push_token(
     tokens: &mut Vec<Token>,
-    place: Place,
+    position: Position,
     kind: Option<TokenKind>,
     len: usize,
 ) -> Result<(), LexError>
     requires some { 0 < len }
-    requires room { place.offset + len < 2 ^ 32 }
-    requires place { IsPlace place }
-    ensures ok { OnOk result (tokens.new.items ≡ tokens.old.items ++ tokens_at kind place len) }
+    requires room { position.offset + len < 2 ^ 32 }
+    requires position { IsPosition position }
+    ensures ok { OnOk result (tokens.new.items ≡ tokens.old.items ++ tokens_at kind position len) }
     ensures err { IfErr result (λ e. e ≡ Memory) }
 {
     if let Some(kind) = kind {
-        tokens.push(place.token(kind, len))?;
+        tokens.push(position.token(kind, len))?;
     }
     Ok(())
 }
 
-/// The tokens of the rest of a text, from a place on.
-fn tokens_from(alloc: Global, start: Place, text: &[u8]) -> Result<Items<Token>, LexError>
+/// The tokens of the rest of a text, from a position on.
+fn tokens_from(alloc: Global, start: Position, text: &[u8]) -> Result<Items<Token>, LexError>
     requires room { start.offset + length text.now < 2 ^ 32 }
-    requires place { IsPlace start }
+    requires position { IsPosition start }
     ensures { Gives result (lexed_from 0 start text.now) }
 {
     let mut tokens = Vec::new(alloc);
-    let mut place = start;
+    let mut position = start;
     let mut rest = text;
     while !rest.is_empty() {
-        let Piece { kind, len } = piece_at(alloc, place.offset as u64, rest)?;
-        push_token(&mut tokens, place, kind, len)?;
+        let Piece { kind, len } = piece_at(alloc, position.offset as u64, rest)?;
+        push_token(&mut tokens, position, kind, len)?;
         let (passed, more) = rest.split_at(len);
-        place = place.after(passed);
+        position = position.after(passed);
         rest = more;
     }
     Ok(Items::of(tokens))
@@ -67,7 +67,7 @@ fn tokens_of(alloc: Global, text: &[u8]) -> Result<Items<Token>, LexError>
     ensures { Gives result (lexed text.now) }
 {
     let (line, rest) = text.split_at(first_line_len(text));
-    let start = Place::start().after(line);
+    let start = Position::start().after(line);
     tokens_from(alloc, start, rest)
 }
 

@@ -9,7 +9,7 @@ pub mod line;
 mod marks;
 mod numbers;
 mod piece;
-mod place;
+mod position;
 mod separators;
 mod strings;
 #[cfg(test)]

@@ -2,9 +2,10 @@
 use crate::error::LexError;
 use crate::laws::{a_space_ends_a_token, one_answer};
 use crate::lexer::lex;
-use crate::line::{LineColumn, line_column};
+use crate::line::{line_column};
 use crate::token::{Token, TokenKind};
 use bt_core::items::Items;
+use bt_core::place::Place;
 use std::alloc::Global;
 use std::fmt::Write;
 use std::test::Fail;
@@ -57,7 +58,7 @@ fn write_place(out: &mut String, token: &Token) -> Result<(), Fail> {
     write!(
         out,
         "{}-{} {}:{}, ",
-        token.start, token.end, token.line, token.column
+        token.start, token.end, token.place.line, token.place.column
     )?;
     Ok(())
 }
@@ -222,9 +223,9 @@ fn a_text_without_tokens_has_none(rt: HostRuntime) -> Result<(), Fail> {
 #[test]
 fn an_offset_has_a_line_and_a_column_up_to_the_end(rt: HostRuntime) -> Result<(), Fail> {
     let text = b"a\nbc";
-    assert_eq!(rt; line_column(text, 0), LineColumn { line: 1, column: 1 });
-    assert_eq!(rt; line_column(text, 1), LineColumn { line: 1, column: 2 });
-    assert_eq!(rt; line_column(text, 2), LineColumn { line: 2, column: 1 });
-    assert_eq!(rt; line_column(text, 4), LineColumn { line: 2, column: 3 });
+    assert_eq!(rt; line_column(text, 0), Place { line: 1, column: 1 });
+    assert_eq!(rt; line_column(text, 1), Place { line: 1, column: 2 });
+    assert_eq!(rt; line_column(text, 2), Place { line: 2, column: 1 });
+    assert_eq!(rt; line_column(text, 4), Place { line: 2, column: 3 });
     Ok(())
 }

@@ -1,5 +1,6 @@
 // Tokens and where they stand.
 use bt_core::items::Items;
+use bt_core::place::Place;
 
 /// What a token is, with the bytes of the token, or what they stand for.
 #[derive(PartialEq, Eq, Debug, Drop)]
@@ -20,8 +21,7 @@ pub enum TokenKind {
     Mark(Items<u8>),
 }
 
-/// A token, its span in bytes, and the line and column at which it begins. Lines and columns count
-/// from 1, and a column counts bytes.
+/// A token, its span in bytes, and the place at which it begins.
 #[derive(PartialEq, Eq, Debug, Drop)]
 pub struct Token {
     pub kind: TokenKind,
@@ -29,6 +29,5 @@ pub struct Token {
     pub start: u32,
     /// How many bytes stand before its end.
     pub end: u32,
-    pub line: u32,
-    pub column: u32,
+    pub place: Place,
 }

@@ -2,19 +2,19 @@
 use Rattle.std.proofs.Common.{◌≡◌, List, [], ◌∷◌, ◌++◌, Some, refl, sym, ◌∙◌, ap, append_assoc}
 use Rattle.std.proofs.lemmas.List.{append-nil}
 use Rattle.bt_lexer.specs.declared.token.TokenKind.{TokenKind}
-use Rattle.bt_ast.specs.declared.place.Place.{Place}
+use Rattle.bt_core.specs.declared.place.Place.{Place}
 use Rattle.bt_ast.specs.declared.expr.Expr.{Expr}
 use Rattle.bt_ast.specs.declared.stmt.Block.{Block}
 use Rattle.bt_ast.specs.declared.stmt.Stmt.{Stmt}
-use Rattle.bt_parser.specs.declared.class.Class.{Class}
-use Rattle.bt_parser.specs.declared.class.Class.TheVariants.{IfWord, ElseWord, WhileWord, UnrollWord, CloseBrace, Semicolon}
-use Rattle.bt_parser.specs.Form.{Item, Simple, Arm, Tail, Control, Body, Braced, Form, Or, Then, Map, Call}
-use Rattle.bt_parser.specs.Reading.{Out, Done, Refused, Unfinished, and_then, read, reads}
-use Rattle.bt_parser.specs.Rules.{rule, mark, in_parens, a_number}
-use Rattle.bt_parser.specs.Trees.{second, nothing}
+use Rattle.bt_grammar.specs.declared.class.Class.{Class}
+use Rattle.bt_grammar.specs.declared.class.Class.TheVariants.{IfWord, ElseWord, WhileWord, UnrollWord, CloseBrace, Semicolon}
+use Rattle.bt_grammar.specs.Form.{Item, Simple, Arm, Tail, Control, Body, Braced, Form, Or, Then, Map, Call}
+use Rattle.bt_grammar.specs.Reading.{Out, Done, Refused, Unfinished, and_then, read, reads}
+use Rattle.bt_grammar.specs.Rules.{rule, mark, in_parens, a_number}
+use Rattle.bt_grammar.specs.Trees.{second, nothing}
 use Rattle.bt_parser.specs.Mirror.{class_at}
 use Rattle.bt_parser.specs.Statements.{turns_by, arm_by, arms_on, arms_turn, control_by, body_on, after_simple, body_turn, block_by}
-use Rattle.bt_parser.proofs.Enough.{reads_is}
+use Rattle.bt_grammar.proofs.Enough.{reads_is}
 use Rattle.bt_parser.proofs.Mirrored.{and_then_assoc, and_then_same, it}
 
 pub turns_is : (ts : List Item) → read reads (in_parens a_number) ts ≡ turns_by ts

@@ -5,23 +5,24 @@ use Rattle.std.specs.List.{sum}
 use Rattle.std.proofs.lemmas.List.{length-reverse, reverse-append}
 use Rattle.std.proofs.lemmas.List.Sums.{sum_by-append}
 use Rattle.std.proofs.lemmas.Bool.Decides.{leb_tells}
+use Rattle.bt_core.specs.declared.limits.TheConstants.{NESTING}
 use Rattle.bt_parser.specs.declared.nesting.Levels.{Levels}
 use Rattle.bt_lexer.specs.declared.token.Token.{Token}
-use Rattle.bt_parser.specs.Tokens.{class_of, items}
-use Rattle.bt_parser.specs.Form.{Item}
+use Rattle.bt_grammar.specs.Tokens.{class_of, items}
+use Rattle.bt_grammar.specs.Form.{Item}
 use Rattle.bt_parser.specs.Levels.{deep_from, levels_of, IsWeighed}
-use Rattle.bt_parser.specs.Weights.{levels_behind, levels_from, level_weight, weight}
-use Rattle.bt_parser.specs.Refusals.{IsDepthFault, NoDepthFault, deepest_weight}
+use Rattle.bt_grammar.specs.Weights.{levels_behind, levels_from, level_weight, weight}
+use Rattle.bt_grammar.specs.Refusals.{IsDepthFault, NoDepthFault}
 
 -- a place that is found, and what stands before it
 pub record Deep (i : ℕ) (levels : List ℕ) (ts : List Item) (d : ℕ) : Type 0 where
   pub n : ℕ
   pub is : d ≡ i + n
   pub within : n < length ts
-  pub deep : deepest_weight < level_weight (levels_from levels (take (n + 1) ts))
-  pub first : (m : ℕ) → m < n → level_weight (levels_from levels (take (m + 1) ts)) ≤ deepest_weight
+  pub deep : NESTING < level_weight (levels_from levels (take (n + 1) ts))
+  pub first : (m : ℕ) → m < n → level_weight (levels_from levels (take (m + 1) ts)) ≤ NESTING
 
-tell : (w : ℕ) → ((nat_lt 64 w ≡ true) × (64 < w)) ⊎ ((nat_lt 64 w ≡ false) × (w ≤ 64))
+tell : (w : ℕ) → ((nat_lt NESTING w ≡ true) × (NESTING < w)) ⊎ ((nat_lt NESTING w ≡ false) × (w ≤ NESTING))
 tell w = elim (leb_tells 65 w) [ inl h ↦ inl (h.0, omega (arith, h.1)) | inr h ↦ inr (h.0, omega (arith, h.1)) ]
 
 pub found_deep : (i : ℕ) (levels : List ℕ) (ts : List Item) (d : ℕ) → deep_from i levels ts ≡ Some d → Deep i levels ts d
@@ -35,7 +36,7 @@ found_deep i levels (t ∷ ts) d e = elim (tell (level_weight (levels_behind t.c
         n = suc r.n;
         is = omega (arith, r.is);
         within = omega (arith, r.within);
-        deep = subst (λ z. deepest_weight < level_weight (levels_from levels (take z (t ∷ ts)))) (next r.n) r.deep;
+        deep = subst (λ z. NESTING < level_weight (levels_from levels (take z (t ∷ ts)))) (next r.n) r.deep;
         first = λ m short. before m (h.1) r.n r.first short;
       })
 ]
@@ -43,22 +44,22 @@ found_deep i levels (t ∷ ts) d e = elim (tell (level_weight (levels_behind t.c
     next : (n : ℕ) → suc (n + 1) ≡ suc n + 1
     next n = omega arith
 
-    before : (m : ℕ) → level_weight (levels_behind t.class levels) ≤ 64 → (n : ℕ) → ((m : ℕ) → m < n → level_weight (levels_from (levels_behind t.class levels) (take (m + 1) ts)) ≤ deepest_weight)
-        → m < suc n → level_weight (levels_from levels (take (m + 1) (t ∷ ts))) ≤ deepest_weight
+    before : (m : ℕ) → level_weight (levels_behind t.class levels) ≤ NESTING → (n : ℕ) → ((m : ℕ) → m < n → level_weight (levels_from (levels_behind t.class levels) (take (m + 1) ts)) ≤ NESTING)
+        → m < suc n → level_weight (levels_from levels (take (m + 1) (t ∷ ts))) ≤ NESTING
     before zero light n first short = light
-    before (suc m) light n first short = subst (λ z. level_weight (levels_from levels (take z (t ∷ ts))) ≤ deepest_weight) (next m) (first m (omega arith))
+    before (suc m) light n first short = subst (λ z. level_weight (levels_from levels (take z (t ∷ ts))) ≤ NESTING) (next m) (first m (omega arith))
 
-pub none_deep : (i : ℕ) (levels : List ℕ) (ts : List Item) → deep_from i levels ts ≡ None → (m : ℕ) → m < length ts → level_weight (levels_from levels (take (m + 1) ts)) ≤ deepest_weight
+pub none_deep : (i : ℕ) (levels : List ℕ) (ts : List Item) → deep_from i levels ts ≡ None → (m : ℕ) → m < length ts → level_weight (levels_from levels (take (m + 1) ts)) ≤ NESTING
 none_deep i levels [] e m within = absurd (omega arith)
 none_deep i levels (t ∷ ts) e m within = elim (tell (level_weight (levels_behind t.class levels))) [
   | inl h ↦ (let q : ◌≡◌ {A = Option ℕ} (Some i) None = rw (h.0) at e in cc (q))
   | inr h ↦ at_place m (h.1) (none_deep (i + 1) (levels_behind t.class levels) ts (rw (h.0) at e)) within
 ]
   where
-    at_place : (m : ℕ) → level_weight (levels_behind t.class levels) ≤ 64 → ((m : ℕ) → m < length ts → level_weight (levels_from (levels_behind t.class levels) (take (m + 1) ts)) ≤ deepest_weight)
-        → m < suc (length ts) → level_weight (levels_from levels (take (m + 1) (t ∷ ts))) ≤ deepest_weight
+    at_place : (m : ℕ) → level_weight (levels_behind t.class levels) ≤ NESTING → ((m : ℕ) → m < length ts → level_weight (levels_from (levels_behind t.class levels) (take (m + 1) ts)) ≤ NESTING)
+        → m < suc (length ts) → level_weight (levels_from levels (take (m + 1) (t ∷ ts))) ≤ NESTING
     at_place zero light first short = light
-    at_place (suc m) light first short = let e : suc (m + 1) ≡ suc m + 1 = omega arith in subst (λ z. level_weight (levels_from levels (take z (t ∷ ts))) ≤ deepest_weight) e (first m (omega arith))
+    at_place (suc m) light first short = let e : suc (m + 1) ≡ suc m + 1 = omega arith in subst (λ z. level_weight (levels_from levels (take z (t ∷ ts))) ≤ NESTING) e (first m (omega arith))
 
 pub some_depth : (ts : List Item) (d : ℕ) → deep_from 0 (0 ∷ []) ts ≡ Some d → IsDepthFault ts d
 unfolding weight
@@ -70,8 +71,8 @@ some_depth ts d e =
 pub no_depth : (ts : List Item) → deep_from 0 (0 ∷ []) ts ≡ None → NoDepthFault ts
 unfolding weight
 no_depth ts e n f =
-    let h : level_weight (levels_from (0 ∷ []) (take (n + 1) ts)) ≤ deepest_weight = none_deep 0 (0 ∷ []) ts e n f.within in
-    let g : deepest_weight < level_weight (levels_from (0 ∷ []) (take (n + 1) ts)) = f.deep in
+    let h : level_weight (levels_from (0 ∷ []) (take (n + 1) ts)) ≤ NESTING = none_deep 0 (0 ∷ []) ts e n f.within in
+    let g : NESTING < level_weight (levels_from (0 ∷ []) (take (n + 1) ts)) = f.deep in
     absurd (omega (arith, h, g))
 
 -- ---- the weight that is kept
@@ -91,22 +92,22 @@ weighs l w = omega (arith, w, sum-cons l.inner (reverse l.around.items), sum-rev
 
 -- ---- one token of the loop
 
-heavy : (levels : List ℕ) (l : Levels) (t : Token) → levels_of l ≡ levels_behind (class_of t.kind) levels → IsWeighed l → (b : Bool) → nat_lt 64 l.weight ≡ b
-    → nat_lt 64 (level_weight (levels_behind (class_of t.kind) levels)) ≡ b
-heavy levels l t e w b h = ap (λ z. nat_lt 64 (level_weight z)) (sym e) ∙ ap (nat_lt 64) (weighs l w) ∙ h
+heavy : (levels : List ℕ) (l : Levels) (t : Token) → levels_of l ≡ levels_behind (class_of t.kind) levels → IsWeighed l → (b : Bool) → nat_lt NESTING l.weight ≡ b
+    → nat_lt NESTING (level_weight (levels_behind (class_of t.kind) levels)) ≡ b
+heavy levels l t e w b h = ap (λ z. nat_lt NESTING (level_weight z)) (sym e) ∙ ap (nat_lt NESTING) (weighs l w) ∙ h
 
 pub stop_at : (i : ℕ) (levels : List ℕ) (l : Levels) (tokens : List Token) (t : Token) → drop i tokens ≡ t ∷ drop (i + 1) tokens
-    → levels_of l ≡ levels_behind (class_of t.kind) levels → IsWeighed l → 64 < l.weight → Some i ≡ deep_from i levels (items (drop i tokens))
+    → levels_of l ≡ levels_behind (class_of t.kind) levels → IsWeighed l → NESTING < l.weight → Some i ≡ deep_from i levels (items (drop i tokens))
 stop_at i levels l tokens t d e w h = elim (tell l.weight) [
-  | inr n ↦ (let light : l.weight ≤ 64 = n.1 in absurd (omega (arith, h, light)))
+  | inr n ↦ (let light : l.weight ≤ NESTING = n.1 in absurd (omega (arith, h, light)))
   | inl y ↦ sym (ap (λ z. deep_from i levels (items z)) d
       ∙ ap (λ b. if b then Some i else deep_from (i + 1) (levels_behind (class_of t.kind) levels) (items (drop (i + 1) tokens))) (heavy levels l t e w true y.0))
 ]
 
 pub go_on : (i : ℕ) (levels : List ℕ) (l : Levels) (tokens : List Token) (t : Token) → drop i tokens ≡ t ∷ drop (i + 1) tokens
-    → levels_of l ≡ levels_behind (class_of t.kind) levels → IsWeighed l → l.weight ≤ 64 → deep_from (i + 1) (levels_of l) (items (drop (i + 1) tokens)) ≡ deep_from i levels (items (drop i tokens))
+    → levels_of l ≡ levels_behind (class_of t.kind) levels → IsWeighed l → l.weight ≤ NESTING → deep_from (i + 1) (levels_of l) (items (drop (i + 1) tokens)) ≡ deep_from i levels (items (drop i tokens))
 go_on i levels l tokens t d e w h = elim (tell l.weight) [
-  | inl y ↦ (let big : 64 < l.weight = y.1 in absurd (omega (arith, h, big)))
+  | inl y ↦ (let big : NESTING < l.weight = y.1 in absurd (omega (arith, h, big)))
   | inr n ↦ ap (λ z. deep_from (i + 1) z (items (drop (i + 1) tokens))) e ∙ sym (ap (λ z. deep_from i levels (items z)) d
       ∙ ap (λ b. if b then Some i else deep_from (i + 1) (levels_behind (class_of t.kind) levels) (items (drop (i + 1) tokens))) (heavy levels l t e w false n.0))
 ]

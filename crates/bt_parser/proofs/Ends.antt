@@ -1,24 +1,24 @@
 -- How the loop over probes ends, and what the parser answers then.
 use Rattle.std.proofs.Common.{◌≡◌, ◌≢◌, ℕ, suc, ◌<◌, ◌≤◌, true, false, List, [], ◌∷◌, ◌++◌, length, refl, ◌∙◌, ap, subst, arith, length-append}
+use Rattle.bt_core.specs.declared.limits.TheConstants.{PROBES}
 use Rattle.bt_lexer.specs.declared.token.Token.{Token}
 use Rattle.bt_ast.specs.declared.probe.Probe.{Probe}
 use Rattle.bt_parser.specs.declared.script.Outcome.TheVariants as outcomes
-use Rattle.bt_parser.specs.Form.{OneProbe}
-use Rattle.bt_parser.specs.Reading.{Done, Refused, and_then, reads}
-use Rattle.bt_parser.specs.Tokens.{items, item}
-use Rattle.bt_parser.specs.Counts.{probes_read}
-use Rattle.bt_parser.specs.Refusals.{most_probes}
-use Rattle.bt_parser.specs.Grammar.{RefusedAt}
+use Rattle.bt_grammar.specs.Form.{OneProbe}
+use Rattle.bt_grammar.specs.Reading.{Done, Refused, and_then, reads}
+use Rattle.bt_grammar.specs.Tokens.{items, item}
+use Rattle.bt_grammar.specs.Counts.{probes_read}
+use Rattle.bt_grammar.specs.Grammar.{RefusedAt}
 use Rattle.bt_parser.specs.Outcomes.{Gives, another}
-use Rattle.bt_parser.proofs.Steps.{length-items}
-use Rattle.bt_parser.proofs.Counts.{one_more}
-use Rattle.bt_parser.proofs.Scripts.{whole_end, refused_first, refused_probe, refused_behind, full_at, few_refused, few_behind}
+use Rattle.bt_grammar.proofs.Steps.{length-items}
+use Rattle.bt_grammar.proofs.Counts.{one_more}
+use Rattle.bt_grammar.proofs.Scripts.{whole_end, refused_first, refused_probe, refused_behind, full_at, few_refused, few_behind}
 
 abbrev pub Read : List Token → List Probe → List Token → Type 0
 Read old probes left = probes_read (length probes) (items old) ≡ Done probes (items left)
 
 -- another probe begins behind the most
-pub full : (old left : List Token) (probes : List Probe) → Read old probes left → length probes ≡ most_probes → another probes (items left) ≡ true → Gives old left outcomes.Full
+pub full : (old left : List Token) (probes : List Probe) → Read old probes left → length probes ≡ PROBES → another probes (items left) ≡ true → Gives old left outcomes.Full
 full old left [] e k h n en = absurd (omega (arith, k))
 full old [] (p ∷ ps) e k h n en = cc (h)
 full old (t ∷ left) (p ∷ ps) e k h n en =
@@ -26,7 +26,7 @@ full old (t ∷ left) (p ∷ ps) e k h n en =
     (omega (arith, en, length-items (t ∷ left), length-items old))
 
 -- the next probe is refused
-pub refused_next : (old mid left : List Token) (probes : List Probe) → Read old probes mid → length probes ≤ most_probes → length probes ≢ most_probes
+pub refused_next : (old mid left : List Token) (probes : List Probe) → Read old probes mid → length probes ≤ PROBES → length probes ≢ PROBES
     → another probes (items mid) ≡ true → reads OneProbe (items mid) ≡ Refused (items left) → Gives old left outcomes.Refused
 refused_next old mid left [] e few more start h =
     let q : items old ≡ items mid = cc (e) in
@@ -34,7 +34,7 @@ refused_next old mid left [] e few more start h =
 refused_next old mid left (p ∷ ps) e few more start h =
     (refused_probe (length ps) (items old) (p ∷ ps) (items mid) (items left) e start h, few_refused (length (p ∷ ps)) (items old) (p ∷ ps) (items mid) (items left) e (below (length (p ∷ ps)) few more) h)
   where
-    below : (k : ℕ) → k ≤ most_probes → k ≢ most_probes → k < most_probes
+    below : (k : ℕ) → k ≤ PROBES → k ≢ PROBES → k < PROBES
     below k few more = omega (arith, few, more)
 
 -- what is refused is left of what there was
@@ -49,13 +49,13 @@ read_next old mid left probes p e h =
     ap (λ z. probes_read z (items old)) k ∙ one_more (length probes) (items old) probes (items mid) e ∙ ap (λ z. and_then z (λ q r. Done (probes ++ q ∷ []) r)) h
 
 -- no token is left
-pub whole : (old left : List Token) (probes : List Probe) → Read old probes left → length probes ≤ most_probes → another probes (items left) ≡ false → length left ≡ 0 → Gives old left (outcomes.Whole probes)
+pub whole : (old left : List Token) (probes : List Probe) → Read old probes left → length probes ≤ PROBES → another probes (items left) ≡ false → length left ≡ 0 → Gives old left (outcomes.Whole probes)
 whole old left [] e few h none = cc (h)
 whole old [] (p ∷ ps) e few h none = (whole_end (length ps) (items old) (p ∷ ps) e, few)
 whole old (t ∷ left) (p ∷ ps) e few h none = absurd (omega (arith, none))
 
 -- a token is left that begins no probe
-pub refused_left : (old left : List Token) (probes : List Probe) → Read old probes left → length probes ≤ most_probes → another probes (items left) ≡ false → length left ≢ 0
+pub refused_left : (old left : List Token) (probes : List Probe) → Read old probes left → length probes ≤ PROBES → another probes (items left) ≡ false → length left ≢ 0
     → Gives old left outcomes.Refused
 refused_left old left [] e few h some = cc (h)
 refused_left old [] (p ∷ ps) e few h some = absurd (some refl)

@@ -2,23 +2,23 @@
 use Rattle.std.proofs.Common.{◌≡◌, Bool, true, false, not, List, [], ◌∷◌, ◌++◌, refl, sym, ◌∙◌, inl, inr, ◌⊎◌, Option, Some, None, if◌then◌else◌}
 use Rattle.bt_core.specs.declared.operator.UnOp.{UnOp}
 use Rattle.bt_lexer.specs.declared.token.TokenKind.{TokenKind}
-use Rattle.bt_ast.specs.declared.place.Place.{Place}
+use Rattle.bt_core.specs.declared.place.Place.{Place}
 use Rattle.bt_ast.specs.declared.expr.Expr.{Expr}
 use Rattle.bt_ast.specs.declared.expr.MapRef.{MapRef}
-use Rattle.bt_parser.specs.declared.class.Class.{Class}
-use Rattle.bt_parser.specs.declared.class.Class.TheVariants.{Increment, Decrement, MapName, OpenParen, OpenBracket, CloseBracket, Comma, Question, Colon}
-use Rattle.bt_parser.specs.declared.class.Tier.{Tier}
-use Rattle.bt_parser.specs.declared.class.Tier.TheVariants.{Products, Sums, Shifts, Orders, Equalities, BitAnds, BitXors, BitOrs, AndThens, OrElses}
-use Rattle.bt_parser.specs.Classes.{is, is_step, prefix_of, joins}
-use Rattle.bt_parser.specs.Form.{Item, brace_next, Primary, Unary, Level, Expression, Values, Keyed, Assignable, Tok, Empty, Call, Then, Or, Until, Op}
-use Rattle.bt_parser.specs.Fine.{FineAt, Led}
-use Rattle.bt_parser.specs.Reading.{Out, Done, Refused, Unfinished, and_then, read, reads, goes_on, starts, rest_of, first, sens, differs}
-use Rattle.bt_parser.specs.Rules.{rule, mark, ends, optional, after_comma, value, operand, operation}
-use Rattle.bt_parser.specs.Trees.{second, snoc, pair, choose, map_ref, map_operand, binary}
+use Rattle.bt_grammar.specs.declared.class.Class.{Class}
+use Rattle.bt_grammar.specs.declared.class.Class.TheVariants.{Increment, Decrement, MapName, OpenParen, OpenBracket, CloseBracket, Comma, Question, Colon}
+use Rattle.bt_grammar.specs.declared.class.Tier.{Tier}
+use Rattle.bt_grammar.specs.declared.class.Tier.TheVariants.{Products, Sums, Shifts, Orders, Equalities, BitAnds, BitXors, BitOrs, AndThens, OrElses}
+use Rattle.bt_grammar.specs.Classes.{is, is_step, prefix_of, joins}
+use Rattle.bt_grammar.specs.Form.{Item, brace_next, Primary, Unary, Level, Expression, Values, Keyed, Assignable, Tok, Empty, Call, Then, Or, Until, Op}
+use Rattle.bt_grammar.specs.Fine.{FineAt, Led}
+use Rattle.bt_grammar.specs.Reading.{Out, Done, Refused, Unfinished, and_then, read, reads, goes_on, starts, rest_of, first, sens, differs}
+use Rattle.bt_grammar.specs.Rules.{rule, mark, ends, optional, after_comma, value, operand, operation}
+use Rattle.bt_grammar.specs.Trees.{second, snoc, pair, choose, map_ref, map_operand, binary}
 use Rattle.bt_parser.specs.Mirror.{class_at, front_place, operator_at, when, prefix_at, named, operand_by, tighter, level_on, level_by, level_turn, choice_by, expression_by, unary_by, primary_by, keyed_by, map_by, assignable_by, values_on, values_behind, values_turn, step_at, step_on, map_value}
-use Rattle.bt_parser.proofs.Enough.{reads_is}
-use Rattle.bt_parser.proofs.Steps.{goes_on_stop, goes_on_more}
-use Rattle.bt_parser.proofs.Checked.{fine_rule}
+use Rattle.bt_grammar.proofs.Enough.{reads_is}
+use Rattle.bt_grammar.proofs.Steps.{goes_on_stop, goes_on_more}
+use Rattle.bt_grammar.proofs.Checked.{fine_rule}
 
 -- ---- outcomes one after another
 
@@ -42,11 +42,6 @@ choice false x y z w hit miss = miss refl
 pub choice_then : {A B : Type 0} (b : Bool) (x y : Out A) (f : A → List Item → Out B) → and_then (if b then x else y) f ≡ (if b then and_then x f else and_then y f)
 choice_then true x y f = refl
 choice_then false x y f = refl
-
--- a token that is there is passed over
-pub mark_there : (c : Class) (ts : List Item) → starts (ends c) ts ≡ true → read reads (mark c) ts ≡ Done (front_place ts) (rest_of ts)
-mark_there c [] h = cc
-mark_there c (t ∷ r) h = rw h refl
 
 -- ---- the parts
 

@@ -1,10 +1,10 @@
 -- Which marks count.
 use Rattle.std.proofs.Common.{◌≡◌, ◌||◌, refl}
 use Rattle.std.specs.Prelude.{is_some}
-use Rattle.bt_parser.specs.declared.class.Class.{Class}
-use Rattle.bt_parser.specs.declared.class.Class.TheVariants.{BeginWord}
-use Rattle.bt_parser.specs.Classes.{tier_of, update_of, prefix_of}
-use Rattle.bt_parser.specs.Weights.{is_operator}
+use Rattle.bt_grammar.specs.declared.class.Class.{Class}
+use Rattle.bt_grammar.specs.declared.class.Class.TheVariants.{BeginWord}
+use Rattle.bt_grammar.specs.Classes.{tier_of, update_of, prefix_of}
+use Rattle.bt_grammar.specs.Weights.{is_operator}
 use Rattle.bt_parser.specs.Levels.{is_other_operator}
 
 -- they are the operators of a tier, before `=` and before an operand, and the others

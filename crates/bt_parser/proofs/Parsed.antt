@@ -5,19 +5,19 @@ use Rattle.std.proofs.lemmas.List.{append-nil, take-append-drop, take_all, lengt
 use Rattle.std.proofs.lemmas.Bool.Decides.{leb_tells}
 use Rattle.bt_lexer.specs.declared.token.Token.{Token}
 use Rattle.bt_ast.specs.declared.probe.Script.{Script}
-use Rattle.bt_parser.specs.declared.error.ParseError.{ParseError}
-use Rattle.bt_parser.specs.declared.error.ParseError.TheVariants.{Syntax, TooDeep, TooMany, Memory}
+use Rattle.bt_grammar.specs.declared.error.ParseError.{ParseError}
+use Rattle.bt_grammar.specs.declared.error.ParseError.TheVariants.{Syntax, TooDeep, TooMany, Memory}
 use Rattle.bt_parser.specs.declared.script.Outcome.{Outcome}
 use Rattle.bt_parser.specs.declared.script.Outcome.TheVariants as outcomes
-use Rattle.bt_parser.specs.Form.{Item}
-use Rattle.bt_parser.specs.Tokens.{items, item}
-use Rattle.bt_parser.specs.Grammar.{Begins, RefusedAt}
+use Rattle.bt_grammar.specs.Form.{Item}
+use Rattle.bt_grammar.specs.Tokens.{items, item}
+use Rattle.bt_grammar.specs.Grammar.{Begins, RefusedAt}
 use Rattle.bt_parser.specs.Levels.{deep_from}
-use Rattle.bt_parser.specs.Refusals.{IsDepthFault, IsCountFault, NoDepthFault, NoCountFault, IsAccepted, IsRefusal}
+use Rattle.bt_grammar.specs.Refusals.{IsDepthFault, IsCountFault, NoDepthFault, NoCountFault, IsAccepted, IsRefusal}
 use Rattle.bt_parser.specs.Outcomes.{Gives, answer_of, IsRight, Answers}
-use Rattle.bt_parser.proofs.Steps.{length-items}
+use Rattle.bt_grammar.proofs.Steps.{length-items}
 use Rattle.bt_parser.proofs.DeepFrom.{some_depth, no_depth}
-use Rattle.bt_parser.proofs.Decide.{accepted, refused_whole, refused_front, too_many, too_deep, begun_end, tree_begins, depth_least, count_begins, count_one, count_place, few_tree}
+use Rattle.bt_grammar.proofs.Decide.{accepted, refused_whole, refused_front, too_many, too_deep, begun_end, tree_begins, depth_least, count_begins, count_one, count_place, few_tree}
 
 items-append : (xs ys : List Token) → items (xs ++ ys) ≡ items xs ++ items ys
 items-append [] ys = refl
@@ -95,10 +95,6 @@ right_some tokens d answer e a =
     subst (IsRight (items tokens)) (sym a.is) (some_of (items tokens) (items (drop (d + 1) tokens)) (take (d + 1) tokens) d split len deep a.left a.outcome a.place a.gives a.at)
 
 -- ---- an answer or want of memory
-
-pub ok_of : (front : List Token) (deep : Option ℕ) (r : Result Script ParseError) → Answers front deep r → IfOk r (λ script. Answers front deep (Ok script))
-ok_of front deep (Ok script) a = a
-ok_of front deep (Err fault) a = tt
 
 pub err_of : (front : List Token) (deep : Option ℕ) (r : Result Script ParseError) → Answers front deep r → IfErr r (λ fault. fault ≢ Memory → Answers front deep (Err fault))
 err_of front deep (Ok script) a = tt

@@ -1,18 +1,18 @@
 -- Each part of a probe is read by its steps.
 use Rattle.std.proofs.Common.{◌≡◌, Bool, true, false, List, [], ◌∷◌, ◌++◌, refl, sym, ◌∙◌, inr, ◌⊎◌}
 use Rattle.bt_ast.specs.declared.probe.Point.{Point}
-use Rattle.bt_parser.specs.declared.class.Class.{Class}
-use Rattle.bt_parser.specs.declared.class.Class.TheVariants.{Comma, Slash}
-use Rattle.bt_parser.specs.Classes.{is}
-use Rattle.bt_parser.specs.Form.{Item, Points, OneProbe}
-use Rattle.bt_parser.specs.Fine.{Led}
-use Rattle.bt_parser.specs.Reading.{Done, and_then, read, reads, goes_on, starts, rest_of, first, sens, differs}
-use Rattle.bt_parser.specs.Rules.{ends, after_comma}
-use Rattle.bt_parser.specs.Trees.{snoc}
+use Rattle.bt_grammar.specs.declared.class.Class.{Class}
+use Rattle.bt_grammar.specs.declared.class.Class.TheVariants.{Comma, Slash}
+use Rattle.bt_grammar.specs.Classes.{is}
+use Rattle.bt_grammar.specs.Form.{Item, Points, OneProbe}
+use Rattle.bt_grammar.specs.Fine.{Led}
+use Rattle.bt_grammar.specs.Reading.{Done, and_then, read, reads, goes_on, starts, rest_of, first, sens, differs}
+use Rattle.bt_grammar.specs.Rules.{ends, after_comma}
+use Rattle.bt_grammar.specs.Trees.{snoc}
 use Rattle.bt_parser.specs.Probes.{point_form, points_on, points_by, points_turn, predicate_form, predicate_by, probe_by}
-use Rattle.bt_parser.proofs.Enough.{reads_is}
-use Rattle.bt_parser.proofs.Steps.{goes_on_stop, goes_on_more}
-use Rattle.bt_parser.proofs.Checked.{fine_rule}
+use Rattle.bt_grammar.proofs.Enough.{reads_is}
+use Rattle.bt_grammar.proofs.Steps.{goes_on_stop, goes_on_more}
+use Rattle.bt_grammar.proofs.Checked.{fine_rule}
 use Rattle.bt_parser.proofs.Mirrored.{and_then_assoc, same_twice}
 
 pub points_start : (ts : List Item) → reads Points ts ≡ points_by ts

@@ -1,20 +1,20 @@
 -- Each part of a statement is read by its steps.
 use Rattle.std.proofs.Common.{◌≡◌, Bool, true, false, List, [], ◌∷◌, refl, sym, ◌∙◌, Some}
 use Rattle.bt_lexer.specs.declared.token.TokenKind.{TokenKind}
-use Rattle.bt_ast.specs.declared.place.Place.{Place}
+use Rattle.bt_core.specs.declared.place.Place.{Place}
 use Rattle.bt_ast.specs.declared.expr.MapRef.{MapRef}
 use Rattle.bt_ast.specs.declared.expr.Target.{Target}
 use Rattle.bt_ast.specs.declared.expr.VarRef.{VarRef}
-use Rattle.bt_parser.specs.declared.class.Class.{Class}
-use Rattle.bt_parser.specs.declared.class.Class.TheVariants.{CountWord, LhistWord, PrintfWord, PrintWord, ClearWord, ZeroWord, DeleteWord, ExitWord, BreakWord, ContinueWord, ReturnWord, MapName, VarName, ShlAssign, ShrAssign, AddAssign, SubAssign, MulAssign, DivAssign, ModAssign, AndAssign, OrAssign, XorAssign, OpenParen, CloseParen, OpenBracket, CloseBracket, Comma, Assign, Minus, Increment, Decrement}
-use Rattle.bt_parser.specs.Classes.{is, gathers}
-use Rattle.bt_parser.specs.Form.{Item, Values, Int, Aggregation, Update, AfterMap, AfterVar, Printf, Print, Delete, CallOrJump, Simple, Tok, Call, Map, Then, Or, Until}
-use Rattle.bt_parser.specs.Reading.{Out, Done, Refused, Unfinished, and_then, read, reads, starts, goes_on}
-use Rattle.bt_parser.specs.Rules.{rule, mark, ends, in_parens, value}
-use Rattle.bt_parser.specs.Trees.{gather_map, set_map, on_item, delete_all, delete_keyed, delete_key}
+use Rattle.bt_grammar.specs.declared.class.Class.{Class}
+use Rattle.bt_grammar.specs.declared.class.Class.TheVariants.{CountWord, LhistWord, PrintfWord, PrintWord, ClearWord, ZeroWord, DeleteWord, ExitWord, BreakWord, ContinueWord, ReturnWord, MapName, VarName, ShlAssign, ShrAssign, AddAssign, SubAssign, MulAssign, DivAssign, ModAssign, AndAssign, OrAssign, XorAssign, OpenParen, CloseParen, OpenBracket, CloseBracket, Comma, Assign, Minus, Increment, Decrement}
+use Rattle.bt_grammar.specs.Classes.{is, gathers}
+use Rattle.bt_grammar.specs.Form.{Item, Values, Int, Aggregation, Update, AfterMap, AfterVar, Printf, Print, Delete, CallOrJump, Simple, Tok, Call, Map, Then, Or, Until}
+use Rattle.bt_grammar.specs.Reading.{Out, Done, Refused, Unfinished, and_then, read, reads, starts, goes_on}
+use Rattle.bt_grammar.specs.Rules.{rule, mark, ends, in_parens, value}
+use Rattle.bt_grammar.specs.Trees.{gather_map, set_map, on_item, delete_all, delete_keyed, delete_key}
 use Rattle.bt_parser.specs.Mirror.{class_at, when, named, named_form, step_at}
 use Rattle.bt_parser.specs.Statements.{given, int_by, parens_by, count_form, count_by, gather_form, gatherer_at, gather_by, lhist_form, lhist_by, aggregation_by, begins_aggregation, update_at, update_by, set_map_by, after_map_by, after_var_by, map_form, whole_map_by, in_parens_map, map_in_parens_by, printf_by, limit_form, limit_by, limits_form, limits_by, print_by, delete_on, delete_by, call_at, call_by, simple_by}
-use Rattle.bt_parser.proofs.Enough.{reads_is}
+use Rattle.bt_grammar.proofs.Enough.{reads_is}
 use Rattle.bt_parser.proofs.Mirrored.{and_then_assoc, and_then_same, choice, choice_then, values_start, it}
 
 -- ---- numbers and map functions

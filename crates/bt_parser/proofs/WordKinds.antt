@@ -5,11 +5,11 @@ use Rattle.bt_lexer.specs.declared.token.TokenKind.{TokenKind}
 use Rattle.bt_lexer.specs.declared.token.TokenKind.TheVariants as kinds
 use Rattle.bt_ast.specs.declared.probe.Point.{Point}
 use Rattle.bt_ast.specs.declared.probe.Point.TheVariants as points
-use Rattle.bt_parser.specs.declared.class.Class.{Class}
-use Rattle.bt_parser.specs.declared.class.Class.TheVariants.{AddAssign, Ampersand, AndAnd, AndAssign, ArgsWord, Arrow, Assign, AvgWord, Bang, Bar, BeginWord, BreakWord, Caret, ClearWord, CloseBrace, CloseBracket, CloseParen, Colon, CommWord, Comma, ContinueWord, CountWord, CpuWord, Decrement, DeleteWord, DivAssign, Dot, ElapsedWord, ElseWord, EndWord, EqualMark, ExitWord, Foreign, GidWord, Greater, GreaterOrEqual, HistWord, IfWord, Increment, Less, LessOrEqual, LhistWord, MaxWord, MinWord, Minus, ModAssign, MulAssign, NotEqualMark, NsecsWord, OpenBrace, OpenBracket, OpenParen, OrAssign, OrOr, OtherWord, Percent, PidWord, Plus, PrintWord, PrintfWord, Question, ReturnWord, Semicolon, ShlAssign, ShlMark, ShrAssign, ShrMark, Slash, Star, SubAssign, SumWord, TidWord, Tilde, UidWord, UnrollWord, WhileWord, XorAssign, ZeroWord}
-use Rattle.bt_parser.specs.Classes.{is_word}
-use Rattle.bt_parser.specs.Attach.{attach_point}
-use Rattle.bt_parser.specs.Tokens.{word_class, mark_class, point_class, class_of, origin}
+use Rattle.bt_grammar.specs.declared.class.Class.{Class}
+use Rattle.bt_grammar.specs.declared.class.Class.TheVariants.{AddAssign, Ampersand, AndAnd, AndAssign, ArgsWord, Arrow, Assign, AvgWord, Bang, Bar, BeginWord, BreakWord, Caret, ClearWord, CloseBrace, CloseBracket, CloseParen, Colon, CommWord, Comma, ContinueWord, CountWord, CpuWord, Decrement, DeleteWord, DivAssign, Dot, ElapsedWord, ElseWord, EndWord, EqualMark, ExitWord, Foreign, GidWord, Greater, GreaterOrEqual, HistWord, IfWord, Increment, Less, LessOrEqual, LhistWord, MaxWord, MinWord, Minus, ModAssign, MulAssign, NotEqualMark, NsecsWord, OpenBrace, OpenBracket, OpenParen, OrAssign, OrOr, OtherWord, Percent, PidWord, Plus, PrintWord, PrintfWord, Question, ReturnWord, Semicolon, ShlAssign, ShlMark, ShrAssign, ShrMark, Slash, Star, SubAssign, SumWord, TidWord, Tilde, UidWord, UnrollWord, WhileWord, XorAssign, ZeroWord}
+use Rattle.bt_grammar.specs.Classes.{is_word}
+use Rattle.bt_grammar.specs.Attach.{attach_point}
+use Rattle.bt_grammar.specs.Tokens.{word_class, mark_class, point_class, class_of, origin}
 use Rattle.bt_parser.specs.Mirror.{is_word_kind}
 
 -- the class beside the first text that the bytes are

@@ -3,8 +3,8 @@ use Rattle.std.specs.Prelude.{◌≡◌, ◌≢◌, List, Result, Ok, Err}
 use Rattle.bt_lexer.specs.declared.token.Token.{Token}
 use Rattle.bt_parser.specs.declared.fault.Fault.{Fault}
 use Rattle.bt_parser.specs.declared.fault.Fault.TheVariants.{OutOfMemory}
-use Rattle.bt_parser.specs.Tokens.{items}
-use Rattle.bt_parser.specs.Reading.{Out, Done, Refused}
+use Rattle.bt_grammar.specs.Tokens.{items}
+use Rattle.bt_grammar.specs.Reading.{Out, Done, Refused}
 
 -- the outcome, with the tokens that are left, unless there is no memory
 abbrev pub Reads : {A : Type 0} → Out A → Result A Fault → List Token → Type 0

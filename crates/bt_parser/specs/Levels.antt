@@ -1,11 +1,12 @@
 -- The levels as the code keeps them, and the first token that is too deep.
 use Rattle.std.specs.Prelude.{◌≡◌, ℕ, ◌+◌, Bool, true, false, nat_lt, List, [], ◌∷◌, length, reverse, Option, Some, None, if◌then◌else◌}
 use Rattle.std.specs.List.{sum}
-use Rattle.bt_parser.specs.declared.class.Class.{Class}
-use Rattle.bt_parser.specs.declared.class.Class.TheVariants.{Increment, Decrement, Assign, Question}
+use Rattle.bt_core.specs.declared.limits.TheConstants.{NESTING}
+use Rattle.bt_grammar.specs.declared.class.Class.{Class}
+use Rattle.bt_grammar.specs.declared.class.Class.TheVariants.{Increment, Decrement, Assign, Question}
 use Rattle.bt_parser.specs.declared.nesting.Levels.{Levels}
-use Rattle.bt_parser.specs.Form.{Item}
-use Rattle.bt_parser.specs.Weights.{levels_behind, level_weight}
+use Rattle.bt_grammar.specs.Form.{Item}
+use Rattle.bt_grammar.specs.Weights.{levels_behind, level_weight}
 
 abbrev pub levels_of : Levels → List ℕ
 levels_of l = l.inner ∷ reverse l.around.items
@@ -16,7 +17,7 @@ IsWeighed l = l.weight ≡ length l.around.items + (l.inner + sum l.around.items
 -- the place of the first token that makes the levels too heavy, counted on
 abbrev pub deep_from : ℕ → List ℕ → List Item → Option ℕ
 deep_from i levels [] = None
-deep_from i levels (t ∷ ts) = if nat_lt 64 (level_weight (levels_behind t.class levels)) then Some i else deep_from (i + 1) (levels_behind t.class levels) ts
+deep_from i levels (t ∷ ts) = if nat_lt NESTING (level_weight (levels_behind t.class levels)) then Some i else deep_from (i + 1) (levels_behind t.class levels) ts
 
 -- an operator that neither is of a tier nor stands before its operand, nor updates
 abbrev pub is_other_operator : Class → Bool

@@ -1,7 +1,7 @@
 -- The steps of the functions that read.
 use Rattle.std.specs.Prelude.{ℕ, suc, Bool, true, false, List, [], ◌∷◌, ◌++◌, Option, Some, None, if◌then◌else◌}
 use Rattle.bt_core.specs.declared.operator.UnOp.{UnOp}
-use Rattle.bt_ast.specs.declared.place.Place.{Place}
+use Rattle.bt_core.specs.declared.place.Place.{Place}
 use Rattle.bt_ast.specs.declared.expr.Builtin.{Builtin}
 use Rattle.bt_ast.specs.declared.expr.Expr.{Expr}
 use Rattle.bt_ast.specs.declared.expr.ExprKind.TheVariants as exprs
@@ -12,16 +12,16 @@ use Rattle.bt_ast.specs.declared.expr.Target.TheVariants as targets
 use Rattle.bt_ast.specs.declared.expr.VarRef.{VarRef}
 use Rattle.bt_lexer.specs.declared.token.TokenKind.{TokenKind}
 use Rattle.bt_lexer.specs.declared.token.TokenKind.TheVariants as kinds
-use Rattle.bt_parser.specs.declared.class.Class.{Class}
-use Rattle.bt_parser.specs.declared.class.Class.TheVariants.{Increment, Decrement, MapName, VarName, NumberLiteral, TextLiteral, ArgsWord, OpenParen, CloseParen, OpenBracket, CloseBracket, Comma, Question, Colon}
-use Rattle.bt_parser.specs.declared.class.Tier.{Tier}
-use Rattle.bt_parser.specs.declared.class.Tier.TheVariants.{Products, Sums, Shifts, Orders, Equalities, BitAnds, BitXors, BitOrs, AndThens, OrElses}
+use Rattle.bt_grammar.specs.declared.class.Class.{Class}
+use Rattle.bt_grammar.specs.declared.class.Class.TheVariants.{Increment, Decrement, MapName, VarName, NumberLiteral, TextLiteral, ArgsWord, OpenParen, CloseParen, OpenBracket, CloseBracket, Comma, Question, Colon}
+use Rattle.bt_grammar.specs.declared.class.Tier.{Tier}
+use Rattle.bt_grammar.specs.declared.class.Tier.TheVariants.{Products, Sums, Shifts, Orders, Equalities, BitAnds, BitXors, BitOrs, AndThens, OrElses}
 use Rattle.bt_parser.specs.declared.cursor.Named.{Named}
-use Rattle.bt_parser.specs.Classes.{is, tier_number, is_builtin, is_step, is_dot, is_word, builtin_of, prefix_of, joins}
-use Rattle.bt_parser.specs.Form.{Item, brace_next, Primary, Unary, Level, Expression, Keyed, Assignable, Form, Tok, Map, Then, Or}
-use Rattle.bt_parser.specs.Reading.{Out, Done, and_then, read, reads, goes_on, starts, rest_of}
-use Rattle.bt_parser.specs.Rules.{mark, ends, optional, after_comma, value, operation}
-use Rattle.bt_parser.specs.Trees.{second, snoc, bytes_at, expr, place_of_expr, place_of_map, binary, binary_kind, number_expr, text_expr, builtin_expr, field_expr, var_operand, step_after}
+use Rattle.bt_grammar.specs.Classes.{is, tier_number, is_builtin, is_step, is_dot, is_word, builtin_of, prefix_of, joins}
+use Rattle.bt_grammar.specs.Form.{Item, brace_next, Primary, Unary, Level, Expression, Keyed, Assignable, Form, Tok, Map, Then, Or}
+use Rattle.bt_grammar.specs.Reading.{Out, Done, and_then, read, reads, goes_on, starts, rest_of}
+use Rattle.bt_grammar.specs.Rules.{mark, ends, optional, after_comma, value, operation}
+use Rattle.bt_grammar.specs.Trees.{second, snoc, bytes_at, expr, place_of_expr, place_of_map, binary, binary_kind, number_expr, text_expr, builtin_expr, field_expr, var_operand, step_after}
 
 infixl 10 ◌>>=◌
 abbrev pub ◌>>=◌ : {A B : Type 0} → Out A → (A → List Item → Out B) → Out B

@@ -1,18 +1,19 @@
 -- What reading a script comes to, and the answer of the parser.
 use Rattle.std.specs.Prelude.{◌≡◌, ℕ, ◌+◌, ◌≤◌, Bool, true, nat_lt, nat_le, List, [], ◌∷◌, length, Option, Some, None, Result, Ok, Err, if◌then◌else◌}
+use Rattle.bt_core.specs.declared.limits.TheConstants.{PROBES}
 use Rattle.bt_lexer.specs.declared.token.Token.{Token}
 use Rattle.bt_ast.specs.declared.probe.Probe.{Probe}
 use Rattle.bt_ast.specs.declared.probe.Script.{Script}
-use Rattle.bt_parser.specs.declared.error.ParseError.{ParseError}
-use Rattle.bt_parser.specs.declared.error.ParseError.TheVariants.{Syntax, TooDeep, TooMany}
+use Rattle.bt_grammar.specs.declared.error.ParseError.{ParseError}
+use Rattle.bt_grammar.specs.declared.error.ParseError.TheVariants.{Syntax, TooDeep, TooMany}
 use Rattle.bt_parser.specs.declared.script.Outcome.{Outcome}
 use Rattle.bt_parser.specs.declared.script.Outcome.TheVariants as outcomes
-use Rattle.bt_parser.specs.Form.{Item}
-use Rattle.bt_parser.specs.Tokens.{items}
-use Rattle.bt_parser.specs.Reading.{Out, Done, Refused, starts}
-use Rattle.bt_parser.specs.Classes.{is_point}
-use Rattle.bt_parser.specs.Grammar.{Tree, RefusedAt}
-use Rattle.bt_parser.specs.Refusals.{IsCountFault, NoCountFault, IsAccepted, IsRefusal, most_probes}
+use Rattle.bt_grammar.specs.Form.{Item}
+use Rattle.bt_grammar.specs.Tokens.{items}
+use Rattle.bt_grammar.specs.Reading.{Out, Done, Refused, starts}
+use Rattle.bt_grammar.specs.Classes.{is_point}
+use Rattle.bt_grammar.specs.Grammar.{Tree, RefusedAt}
+use Rattle.bt_grammar.specs.Refusals.{IsCountFault, NoCountFault, IsAccepted, IsRefusal}
 
 -- one probe that was read, or none
 abbrev pub Tells : Out Probe → Option Probe → List Item → Type 0
@@ -26,7 +27,7 @@ another (p ∷ ps) ts = starts (λ c _. is_point c) ts
 
 -- what an outcome says of the tokens that there were, where these are left
 abbrev pub Gives : List Token → List Token → Outcome → Type 0
-Gives old left (outcomes.Whole probes) = Tree (items old) probes × (length probes ≤ most_probes)
+Gives old left (outcomes.Whole probes) = Tree (items old) probes × (length probes ≤ PROBES)
 Gives old left outcomes.Refused = RefusedAt (items old) (items left) × NoCountFault (items old)
 Gives old left outcomes.Full = (n : ℕ) → n + length left ≡ length old → IsCountFault (items old) n
 

@@ -1,13 +1,13 @@
 -- Attach tokens as the code takes them apart.
 use Rattle.std.specs.Prelude.{ℕ, ◌+◌, ◌-◌, ◌*◌, ◌^◌, Bool, not, ◌==◌, nat_lt, List, [], ◌∷◌, Option, Some, None, if◌then◌else◌}
 use Rattle.std.specs.Str.Parse.{digits_value}
-use Rattle.bt_ast.specs.declared.place.Place.{Place}
+use Rattle.bt_core.specs.declared.place.Place.{Place}
 use Rattle.bt_ast.specs.declared.probe.Point.{Point}
 use Rattle.bt_ast.specs.declared.probe.Point.TheVariants as points
 use Rattle.bt_parser.specs.declared.attach.Attach.{Attach}
 use Rattle.bt_parser.specs.declared.attach.Attach.TheVariants as attaches
 use Rattle.bt_lexer.specs.Bytes.{is_digit}
-use Rattle.bt_parser.specs.Attach.{are_digits}
+use Rattle.bt_grammar.specs.Attach.{are_digits}
 
 abbrev pub is_colon : ℕ → Bool
 is_colon b = b == 58

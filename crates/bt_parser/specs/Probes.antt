@@ -3,12 +3,12 @@ use Rattle.std.specs.Prelude.{true, List, [], ◌∷◌, ◌++◌, Option, Some,
 use Rattle.bt_ast.specs.declared.expr.Expr.{Expr}
 use Rattle.bt_ast.specs.declared.probe.Point.{Point}
 use Rattle.bt_ast.specs.declared.probe.Probe.{Probe}
-use Rattle.bt_parser.specs.declared.class.Class.TheVariants.{Comma, Slash}
-use Rattle.bt_parser.specs.Classes.{is_point}
-use Rattle.bt_parser.specs.Form.{Item, Expression, Points, Braced, Form, Tok, Call, Map, Then, Until}
-use Rattle.bt_parser.specs.Reading.{Out, Done, read, reads, goes_on, starts, rest_of}
-use Rattle.bt_parser.specs.Rules.{mark, ends, optional, after_comma}
-use Rattle.bt_parser.specs.Trees.{second, snoc, point_at, probe_of}
+use Rattle.bt_grammar.specs.declared.class.Class.TheVariants.{Comma, Slash}
+use Rattle.bt_grammar.specs.Classes.{is_point}
+use Rattle.bt_grammar.specs.Form.{Item, Expression, Points, Braced, Form, Tok, Call, Map, Then, Until}
+use Rattle.bt_grammar.specs.Reading.{Out, Done, read, reads, goes_on, starts, rest_of}
+use Rattle.bt_grammar.specs.Rules.{mark, ends, optional, after_comma}
+use Rattle.bt_grammar.specs.Trees.{second, snoc, point_at, probe_of}
 use Rattle.bt_parser.specs.Mirror.{◌>>=◌}
 
 abbrev pub point_form : Form Point

@@ -1,7 +1,7 @@
 -- The steps of the functions that read statements.
 use Rattle.std.specs.Prelude.{ℤ, Bool, true, false, List, [], ◌∷◌, ◌++◌, Option, Some, None, if◌then◌else◌}
 use Rattle.bt_core.specs.declared.operator.BinOp.{BinOp}
-use Rattle.bt_ast.specs.declared.place.Place.{Place}
+use Rattle.bt_core.specs.declared.place.Place.{Place}
 use Rattle.bt_ast.specs.declared.expr.Expr.{Expr}
 use Rattle.bt_ast.specs.declared.expr.MapRef.{MapRef, roll-MapRef}
 use Rattle.bt_ast.specs.declared.expr.Target.{Target}
@@ -14,16 +14,16 @@ use Rattle.bt_ast.specs.declared.stmt.Stmt.{Stmt}
 use Rattle.bt_ast.specs.declared.stmt.StmtKind.{StmtKind}
 use Rattle.bt_ast.specs.declared.stmt.StmtKind.TheVariants as stmts
 use Rattle.bt_parser.specs.declared.agg.Bounds.{Bounds}
-use Rattle.bt_parser.specs.declared.class.Class.{Class}
-use Rattle.bt_parser.specs.declared.class.Class.TheVariants.{IfWord, ElseWord, WhileWord, UnrollWord, CountWord, LhistWord, PrintfWord, PrintWord, ClearWord, ZeroWord, DeleteWord, ExitWord, BreakWord, ContinueWord, MapName, VarName, TextLiteral, OpenBrace, CloseBrace, OpenParen, CloseParen, OpenBracket, CloseBracket, Comma, Semicolon, Assign, Increment, Decrement}
+use Rattle.bt_grammar.specs.declared.class.Class.{Class}
+use Rattle.bt_grammar.specs.declared.class.Class.TheVariants.{IfWord, ElseWord, WhileWord, UnrollWord, CountWord, LhistWord, PrintfWord, PrintWord, ClearWord, ZeroWord, DeleteWord, ExitWord, BreakWord, ContinueWord, MapName, VarName, TextLiteral, OpenBrace, CloseBrace, OpenParen, CloseParen, OpenBracket, CloseBracket, Comma, Semicolon, Assign, Increment, Decrement}
 use Rattle.bt_parser.specs.declared.cursor.Named.{Named}
-use Rattle.bt_parser.specs.Classes.{is, gathers, update_of}
-use Rattle.bt_parser.specs.Tables.{is_call, is_control, fst_of}
-use Rattle.bt_parser.specs.Form.{Item, Expression, Keyed, Assignable, Int, Aggregation, Update, AfterMap, AfterVar, Printf, Print, Delete, CallOrJump, Simple, Arm, Tail, Control, Body, Braced, Form, Tok, Empty, Map, Then, Or, Until}
-use Rattle.bt_parser.specs.Reading.{Out, Done, Refused, read, reads, starts, rest_of}
-use Rattle.bt_parser.specs.Rules.{mark, ends, optional, in_parens, after_comma, empty_parens, value, a_number}
-use Rattle.bt_parser.specs.Trees.{pair, negated, count_call, gather_call, gathering, lhist_call, map_ref, step_after, place_of_map, place_of_target, stmt, top_and_div}
-use Rattle.bt_parser.specs.Form.{Call}
+use Rattle.bt_grammar.specs.Classes.{is, gathers, update_of}
+use Rattle.bt_grammar.specs.Tables.{is_call, is_control, fst_of}
+use Rattle.bt_grammar.specs.Form.{Item, Expression, Keyed, Assignable, Int, Aggregation, Update, AfterMap, AfterVar, Printf, Print, Delete, CallOrJump, Simple, Arm, Tail, Control, Body, Braced, Form, Tok, Empty, Map, Then, Or, Until}
+use Rattle.bt_grammar.specs.Reading.{Out, Done, Refused, read, reads, starts, rest_of}
+use Rattle.bt_grammar.specs.Rules.{mark, ends, optional, in_parens, after_comma, empty_parens, value, a_number}
+use Rattle.bt_grammar.specs.Trees.{pair, negated, count_call, gather_call, gathering, lhist_call, map_ref, step_after, place_of_map, place_of_target, stmt, top_and_div}
+use Rattle.bt_grammar.specs.Form.{Call}
 use Rattle.bt_parser.specs.Mirror.{◌>>=◌, class_at, front_place, when, named_form, var_of, values_on, values_behind, step_of}
 
 -- what is made of a value

@@ -1,20 +1,20 @@
 // What is gathered in aggregation maps.
 ghost use Rattle.std.specs.Prelude.{◌≡◌, ◌<◌, OnOk, length};
 ghost use Rattle.bt_parser.specs.Contract.{Reads};
-ghost use Rattle.bt_parser.specs.Form.{Aggregation, Int};
-ghost use Rattle.bt_parser.specs.Reading.{read, reads};
-ghost use Rattle.bt_parser.specs.Rules.{in_parens, value};
+ghost use Rattle.bt_grammar.specs.Form.{Aggregation, Int};
+ghost use Rattle.bt_grammar.specs.Reading.{read, reads};
+ghost use Rattle.bt_grammar.specs.Rules.{in_parens, value};
 ghost use Rattle.bt_parser.specs.Statements.{bounds_by, count_form, gather_form, lhist_form};
-ghost use Rattle.bt_parser.specs.Tokens.{items};
-ghost use Rattle.bt_parser.specs.Trees.{gathering};
+ghost use Rattle.bt_grammar.specs.Tokens.{items};
+ghost use Rattle.bt_grammar.specs.Trees.{gathering};
 
-use crate::class::Class;
 use crate::cursor::Cursor;
 use crate::expr::expression;
 use crate::fault::Fault;
 use bt_ast::expr::Expr;
-use bt_ast::place::Place;
 use bt_ast::stmt::AggCall;
+use bt_core::place::Place;
+use bt_grammar::class::Class;
 use std::alloc::Global;
 
 /// A number, with a `-` before it or none.

@@ -1,20 +1,20 @@
 // What stands behind a map or a variable at the front of a statement.
 ghost use Rattle.std.specs.Prelude.{◌≡◌, ◌<◌, OnOk, length};
 ghost use Rattle.bt_parser.specs.Contract.{Reads};
-ghost use Rattle.bt_parser.specs.Form.{AfterMap, AfterVar, Update};
-ghost use Rattle.bt_parser.specs.Reading.{reads};
+ghost use Rattle.bt_grammar.specs.Form.{AfterMap, AfterVar, Update};
+ghost use Rattle.bt_grammar.specs.Reading.{reads};
 ghost use Rattle.bt_parser.specs.Statements.{given};
-ghost use Rattle.bt_parser.specs.Tokens.{items};
-ghost use Rattle.bt_parser.specs.Trees.{place_of_target, step_after};
+ghost use Rattle.bt_grammar.specs.Tokens.{items};
+ghost use Rattle.bt_grammar.specs.Trees.{place_of_target, step_after};
 
 use crate::agg::aggregation;
-use crate::class::Class;
 use crate::cursor::Cursor;
 use crate::expr::expression;
 use crate::fault::Fault;
 use bt_ast::expr::{IncDec, MapRef, Target, VarRef};
-use bt_ast::place::Place;
 use bt_ast::stmt::StmtKind;
+use bt_core::place::Place;
+use bt_grammar::class::Class;
 use std::alloc::Global;
 
 fn place_of_target(target: &Target) -> Place

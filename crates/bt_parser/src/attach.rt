@@ -1,13 +1,13 @@
 // Attach tokens: which are points, and of what.
 ghost use Rattle.std.specs.Prelude.{◌≡◌, ◌∷◌, ◌≤◌, [], length, take_while, IfNone, IfSome};
 ghost use Rattle.std.specs.List.{list_all, slice_split};
-ghost use Rattle.bt_ast.specs.declared.place.Place.{Place};
-ghost use Rattle.bt_parser.specs.Attach.{attach_point, interval_point, is_interval_word, is_name, is_name_byte, is_tracepoint_word, tracepoint_point, unit_of};
-ghost use Rattle.bt_parser.specs.Tokens.{origin, point_class};
+ghost use Rattle.bt_core.specs.declared.place.Place.{Place};
+ghost use Rattle.bt_grammar.specs.Attach.{attach_point, interval_point, is_interval_word, is_name, is_name_byte, is_tracepoint_word, tracepoint_point, unit_of};
+ghost use Rattle.bt_grammar.specs.Tokens.{origin, point_class};
 ghost use Rattle.bt_parser.specs.Points.{is_colon, not_colon, number_of, point_named, with_digit, with_digits};
 
-use crate::class::Class;
 use bt_ast::probe::Unit;
+use bt_grammar::class::Class;
 
 /// What an attach token names.
 #[derive(Clone, Copy)]

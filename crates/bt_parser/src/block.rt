@@ -1,20 +1,20 @@
 // Blocks and the statements that have them.
 ghost use Rattle.std.specs.Prelude.{◌≡◌, ◌<◌, OnOk, length};
 ghost use Rattle.bt_parser.specs.Contract.{Reads};
-ghost use Rattle.bt_parser.specs.Form.{Arm, Body, Braced, Control};
-ghost use Rattle.bt_parser.specs.Reading.{read, reads};
-ghost use Rattle.bt_parser.specs.Rules.{a_number, in_parens};
+ghost use Rattle.bt_grammar.specs.Form.{Arm, Body, Braced, Control};
+ghost use Rattle.bt_grammar.specs.Reading.{read, reads};
+ghost use Rattle.bt_grammar.specs.Rules.{a_number, in_parens};
 ghost use Rattle.bt_parser.specs.Statements.{branches_by};
-ghost use Rattle.bt_parser.specs.Tokens.{items};
+ghost use Rattle.bt_grammar.specs.Tokens.{items};
 
 use crate::agg::in_parens;
-use crate::class::Class;
 use crate::cursor::Cursor;
 use crate::fault::Fault;
 use crate::simple::simple;
 use bt_ast::expr::Expr;
 use bt_ast::stmt::{Block, Stmt, StmtKind};
 use bt_core::items::Items;
+use bt_grammar::class::Class;
 use std::alloc::Global;
 
 /// A number in parentheses.

@@ -1,20 +1,20 @@
 // Calls and jumps.
 ghost use Rattle.std.specs.Prelude.{◌≡◌, ◌<◌, ◌≤◌, [], OnOk, length};
 ghost use Rattle.bt_parser.specs.Contract.{Reads};
-ghost use Rattle.bt_parser.specs.Form.{CallOrJump, Delete, Print, Printf};
+ghost use Rattle.bt_grammar.specs.Form.{CallOrJump, Delete, Print, Printf};
 ghost use Rattle.bt_parser.specs.Mirror.{class_at, values_on};
-ghost use Rattle.bt_parser.specs.Reading.{read, reads};
+ghost use Rattle.bt_grammar.specs.Reading.{read, reads};
 ghost use Rattle.bt_parser.specs.Statements.{behind_word, delete_on, exit_by, in_parens_map, limit_form, limits_form, map_form};
-ghost use Rattle.bt_parser.specs.Tokens.{items};
+ghost use Rattle.bt_grammar.specs.Tokens.{items};
 
-use crate::class::Class;
 use crate::cursor::{Cursor, Named};
 use crate::expr::{expression, values};
 use crate::fault::Fault;
 use bt_ast::expr::{Expr, MapRef};
-use bt_ast::place::Place;
 use bt_ast::stmt::{Stmt, StmtKind};
 use bt_core::items::Items;
+use bt_core::place::Place;
+use bt_grammar::class::Class;
 use std::alloc::Global;
 
 /// A map that is named as a whole.

@@ -1,19 +1,18 @@
 // The tokens that are left.
 ghost use Rattle.std.specs.Prelude.{◌≡◌, ◌<◌, ◌≤◌, IfOk, List, OnOk, OnSome, length, true};
-ghost use Rattle.bt_parser.specs.declared.class.Class.{Class};
-ghost use Rattle.bt_parser.specs.Classes.{is, is_word, joins};
+ghost use Rattle.bt_grammar.specs.declared.class.Class.{Class};
+ghost use Rattle.bt_grammar.specs.Classes.{is, is_word, joins};
 ghost use Rattle.bt_parser.specs.Contract.{Reads};
-ghost use Rattle.bt_parser.specs.Form.{brace_next};
-ghost use Rattle.bt_parser.specs.Reading.{read, reads, rest_of, starts};
-ghost use Rattle.bt_parser.specs.Rules.{a_number, ends, mark};
+ghost use Rattle.bt_grammar.specs.Form.{brace_next};
+ghost use Rattle.bt_grammar.specs.Reading.{read, reads, rest_of, starts};
+ghost use Rattle.bt_grammar.specs.Rules.{a_number, ends, mark};
 ghost use Rattle.bt_parser.specs.Mirror.{class_at, front_place, named_form, operator_at, prefix_at, builtin_at, step_at, when, word_form};
 ghost use Rattle.bt_parser.specs.Probes.{point_form};
 ghost use Rattle.bt_parser.specs.Statements.{begins_aggregation, begins_control, call_at, gatherer_at, update_at};
-ghost use Rattle.bt_parser.specs.Tokens.{class_of, items, place_of_token};
-ghost use Rattle.bt_parser.specs.Trees.{kind_bytes, kind_number};
+ghost use Rattle.bt_grammar.specs.Tokens.{class_of, items};
+ghost use Rattle.bt_grammar.specs.Trees.{kind_bytes, kind_number};
 
 use crate::attach::attach_class;
-use crate::class::{Class, Tier};
 use crate::fault::Fault;
 use crate::marks::mark_class;
 use crate::point::point_of;
@@ -22,11 +21,12 @@ use crate::tables::{
 };
 use crate::words::word_class;
 use bt_ast::expr::Builtin;
-use bt_ast::place::Place;
 use bt_ast::probe::Point;
 use bt_core::items::Items;
 use bt_core::memory::{Memory, TryCopy};
 use bt_core::operator::{BinOp, UnOp};
+use bt_core::place::Place;
+use bt_grammar::class::{Class, Tier};
 use bt_lexer::token::{Token, TokenKind};
 use std::alloc::Global;
 use std::marker::Model;
@@ -73,16 +73,6 @@ fn is(expected: Class, class: Class) -> bool
     ensures { result ≡ is expected class }
 {
     class == expected
-}
-
-/// Where a token begins.
-fn place_of(token: &Token) -> Place
-    ensures { result ≡ place_of_token token.now }
-{
-    Place {
-        line: token.line,
-        column: token.column,
-    }
 }
 
 /// The bytes of a token, none of a number.
@@ -270,7 +260,7 @@ impl<'a> Cursor<'a> {
     {
         match self.rest {
             [] => Place { line: 1, column: 1 },
-            [token, ..] => place_of(token),
+            [token, ..] => token.place,
         }
     }
 
@@ -285,7 +275,7 @@ impl<'a> Cursor<'a> {
             [] => Place { line: 1, column: 1 },
             [token, rest @ ..] => {
                 self.rest = rest;
-                place_of(token)
+                token.place
             }
         }
     }
@@ -317,7 +307,7 @@ impl<'a> Cursor<'a> {
         self.rest = rest;
         Ok(Named {
             bytes,
-            place: place_of(token),
+            place: token.place,
         })
     }
 
@@ -351,7 +341,7 @@ impl<'a> Cursor<'a> {
         self.rest = rest;
         Ok(Named {
             bytes,
-            place: place_of(token),
+            place: token.place,
         })
     }
 
@@ -367,7 +357,7 @@ impl<'a> Cursor<'a> {
         if !is_point(class) {
             return Err(Fault::Syntax);
         }
-        let point = point_of(alloc, class, &token.kind, place_of(token))?;
+        let point = point_of(alloc, class, &token.kind, token.place)?;
         self.rest = rest;
         Ok(point)
     }

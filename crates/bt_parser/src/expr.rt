@@ -1,24 +1,24 @@
 // Expressions.
 ghost use Rattle.std.specs.Prelude.{◌≡◌, ◌<◌, ◌≤◌, IfOk, OnOk, length};
 ghost use Rattle.bt_parser.specs.Contract.{Reads};
-ghost use Rattle.bt_parser.specs.Form.{Assignable, Expression, Keyed, Level, Primary, Unary};
-ghost use Rattle.bt_parser.specs.Reading.{reads};
+ghost use Rattle.bt_grammar.specs.Form.{Assignable, Expression, Keyed, Level, Primary, Unary};
+ghost use Rattle.bt_grammar.specs.Reading.{reads};
 ghost use Rattle.bt_parser.specs.Mirror.{joined, operand_by, values_behind};
 ghost use Rattle.bt_ast.specs.declared.expr.ExprKind.TheVariants as exprs;
-ghost use Rattle.bt_parser.specs.Tokens.{items};
-ghost use Rattle.bt_parser.specs.Trees.{expr, place_of_expr};
+ghost use Rattle.bt_grammar.specs.Tokens.{items};
+ghost use Rattle.bt_grammar.specs.Trees.{expr, place_of_expr};
 
-use crate::class::{Class, Tier};
 use crate::cursor::{Cursor, Named};
 use crate::fault::Fault;
 use crate::leaf::{leaf, map_value, step_value};
 use crate::tables::{binary_of, tighter};
 use bt_ast::expr::{Expr, ExprKind, MapRef, Target, VarRef};
-use bt_ast::place::Place;
 use bt_core::boxed::Boxed;
 use bt_core::items::Items;
 use bt_core::memory::Memory;
 use bt_core::operator::UnOp;
+use bt_core::place::Place;
+use bt_grammar::class::{Class, Tier};
 use std::alloc::Global;
 
 /// Two operands joined by the operator that a mark is.

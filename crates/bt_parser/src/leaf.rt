@@ -2,16 +2,16 @@
 ghost use Rattle.std.specs.Prelude.{◌≡◌, ◌<◌, ◌≤◌, OnOk, length};
 ghost use Rattle.bt_ast.specs.declared.expr.ExprKind.TheVariants as exprs;
 ghost use Rattle.bt_parser.specs.Contract.{Reads};
-ghost use Rattle.bt_parser.specs.Reading.{Done, read, reads};
+ghost use Rattle.bt_grammar.specs.Reading.{Done, read, reads};
 ghost use Rattle.bt_parser.specs.Mirror.{builtin_form, field_form, leaf, map_value, number_form, step_at, step_of, step_on, text_form, variable_form};
-ghost use Rattle.bt_parser.specs.Tokens.{items};
-ghost use Rattle.bt_parser.specs.Trees.{expr};
+ghost use Rattle.bt_grammar.specs.Tokens.{items};
+ghost use Rattle.bt_grammar.specs.Trees.{expr};
 
-use crate::class::Class;
 use crate::cursor::{Cursor, Named};
 use crate::fault::Fault;
 use bt_ast::expr::{Expr, ExprKind, IncDec, MapRef, Target, VarRef};
-use bt_ast::place::Place;
+use bt_core::place::Place;
+use bt_grammar::class::Class;
 use std::alloc::Global;
 
 /// `++` or `--` before its target.

@@ -1,8 +1,8 @@
 // The classes of marks.
 ghost use Rattle.std.specs.Prelude.{◌≡◌};
-ghost use Rattle.bt_parser.specs.Tokens.{mark_class};
+ghost use Rattle.bt_grammar.specs.Tokens.{mark_class};
 
-use crate::class::Class;
+use bt_grammar::class::Class;
 
 /// The class of a mark.
 pub fn mark_class(mark: &[u8]) -> Class

@@ -1,15 +1,19 @@
 // How deep tokens are nested.
 ghost use Rattle.std.specs.Prelude.{◌≡◌, ◌∷◌, [], ◌≤◌, ◌<◌, IfOk, IfSome, OnOk, length};
 ghost use Rattle.bt_parser.specs.Levels.{IsWeighed, deep_from, is_other_operator, levels_of};
-ghost use Rattle.bt_parser.specs.Tokens.{items};
-ghost use Rattle.bt_parser.specs.Weights.{closed, counted, is_operator, levels_behind, opened, reset};
+ghost use Rattle.bt_grammar.specs.Tokens.{items};
+ghost use Rattle.bt_grammar.specs.Weights.{closed, counted, is_operator, levels_behind, opened, reset};
 
-use crate::class::Class;
 use crate::cursor::class_of;
 use crate::tables::{prefix_of, tier_of, update_of};
+use bt_core::limits::NESTING;
 use bt_core::memory::Memory;
+use bt_grammar::class::Class;
 use bt_lexer::token::Token;
 use std::alloc::Global;
+
+/// The most brackets and operators that may be open at one token.
+const MOST_WEIGHT: u64 = NESTING as u64;
 
 /// The counts of operators in the levels that are open.
 #[derive(Drop)]
@@ -48,7 +52,7 @@ impl Levels {
     fn new(alloc: Global) -> Levels
         ensures levels { levels_of result ≡ 0 ∷ [] }
         ensures weighed { IsWeighed result }
-        ensures light { result.weight ≤ 64 }
+        ensures light { result.weight ≤ NESTING }
     {
         Levels {
             inner: 0,
@@ -60,7 +64,7 @@ impl Levels {
     /// Opens a level.
     fn open(&mut self) -> Result<(), Memory>
         requires weighed { IsWeighed self.old }
-        requires light { self.old.weight ≤ 64 }
+        requires light { self.old.weight ≤ NESTING }
         ensures levels { OnOk result (levels_of self.new ≡ opened (levels_of self.old)) }
         ensures weighed { OnOk result (IsWeighed self.new) }
     {
@@ -97,7 +101,7 @@ impl Levels {
     /// Counts an operator.
     fn count(&mut self)
         requires weighed { IsWeighed self.old }
-        requires light { self.old.weight ≤ 64 }
+        requires light { self.old.weight ≤ NESTING }
         ensures levels { levels_of self.new ≡ counted (levels_of self.old) }
         ensures weighed { IsWeighed self.new }
     {
@@ -108,7 +112,7 @@ impl Levels {
     /// Passes over a token.
     fn pass(&mut self, class: Class) -> Result<(), Memory>
         requires weighed { IsWeighed self.old }
-        requires light { self.old.weight ≤ 64 }
+        requires light { self.old.weight ≤ NESTING }
         ensures levels { OnOk result (levels_of self.new ≡ levels_behind class (levels_of self.old)) }
         ensures weighed { OnOk result (IsWeighed self.new) }
     {
@@ -142,7 +146,7 @@ pub fn first_too_deep(alloc: Global, tokens: &[Token]) -> Result<Option<usize>, 
     let mut levels = Levels::new(alloc);
     for (i, token) in tokens.iter().enumerate() {
         levels.pass(class_of(&token.kind))?;
-        if levels.weight > 64 {
+        if levels.weight > MOST_WEIGHT {
             return Ok(Some(i));
         }
     }

@@ -1,15 +1,15 @@
 // The parser.
 ghost use Rattle.std.specs.Prelude.{◌≡◌, ◌≢◌, ◌<◌, ◌^◌, Err, IfErr, IfOk, None, Ok, length};
 ghost use Rattle.bt_parser.specs.Outcomes.{Answers, answer_of};
-ghost use Rattle.bt_parser.specs.Refusals.{IsAccepted, IsRefusal};
-ghost use Rattle.bt_parser.specs.Tokens.{items};
-ghost use Rattle.bt_parser.specs.declared.error.ParseError.TheVariants.{Memory};
+ghost use Rattle.bt_grammar.specs.Refusals.{IsAccepted, IsRefusal};
+ghost use Rattle.bt_grammar.specs.Tokens.{items};
+ghost use Rattle.bt_grammar.specs.declared.error.ParseError.TheVariants.{Memory};
 
 use crate::cursor::Cursor;
-use crate::error::ParseError;
 use crate::nesting::first_too_deep;
 use crate::script::{Outcome, script};
 use bt_ast::probe::Script;
+use bt_grammar::error::ParseError;
 use bt_lexer::token::Token;
 use std::alloc::Global;
 

@@ -1,14 +1,14 @@
 // What a probe is attached to.
 ghost use Rattle.std.specs.Prelude.{◌≡◌, IfOk};
-ghost use Rattle.bt_parser.specs.Attach.{attach_point};
-ghost use Rattle.bt_parser.specs.Trees.{found_point, kind_bytes, place_of_point, place_of_points, point_of};
+ghost use Rattle.bt_grammar.specs.Attach.{attach_point};
+ghost use Rattle.bt_grammar.specs.Trees.{found_point, kind_bytes, place_of_point, place_of_points, point_of};
 
 use crate::attach::{Attach, attach_of};
-use crate::class::Class;
-use bt_ast::place::Place;
 use bt_ast::probe::Point;
 use bt_core::items::Items;
 use bt_core::memory::Memory;
+use bt_core::place::Place;
+use bt_grammar::class::Class;
 use bt_lexer::token::TokenKind;
 use std::alloc::Global;
 

@@ -1,13 +1,12 @@
 // Probes.
 ghost use Rattle.std.specs.Prelude.{◌≡◌, ◌<◌, ◌≤◌, OnOk, length};
 ghost use Rattle.bt_parser.specs.Contract.{Reads};
-ghost use Rattle.bt_parser.specs.Form.{OneProbe, Points};
+ghost use Rattle.bt_grammar.specs.Form.{OneProbe, Points};
 ghost use Rattle.bt_parser.specs.Probes.{predicate_form};
-ghost use Rattle.bt_parser.specs.Reading.{read, reads};
-ghost use Rattle.bt_parser.specs.Tokens.{items};
+ghost use Rattle.bt_grammar.specs.Reading.{read, reads};
+ghost use Rattle.bt_grammar.specs.Tokens.{items};
 
 use crate::block::block;
-use crate::class::Class;
 use crate::cursor::Cursor;
 use crate::expr::expression;
 use crate::fault::Fault;
@@ -15,6 +14,7 @@ use crate::point::place_of_points;
 use bt_ast::expr::Expr;
 use bt_ast::probe::{Point, Probe};
 use bt_core::items::Items;
+use bt_grammar::class::Class;
 use std::alloc::Global;
 
 /// What a probe is attached to, between commas, one at least.

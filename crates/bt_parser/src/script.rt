@@ -1,22 +1,23 @@
 // The probes of a script, and how many there may be.
 ghost use Rattle.std.specs.Prelude.{◌≡◌, ◌<◌, ◌≤◌, IfOk, IfSome, length};
-ghost use Rattle.bt_parser.specs.Classes.{is_point};
-ghost use Rattle.bt_parser.specs.Form.{OneProbe};
+ghost use Rattle.bt_grammar.specs.Classes.{is_point};
+ghost use Rattle.bt_grammar.specs.Form.{OneProbe};
 ghost use Rattle.bt_parser.specs.Outcomes.{Gives, Tells, another};
-ghost use Rattle.bt_parser.specs.Reading.{reads, starts};
-ghost use Rattle.bt_parser.specs.Tokens.{items};
+ghost use Rattle.bt_grammar.specs.Reading.{reads, starts};
+ghost use Rattle.bt_grammar.specs.Tokens.{items};
 
-use crate::class::Class;
 use crate::cursor::Cursor;
 use crate::fault::Fault;
 use crate::probe::probe;
 use bt_ast::probe::Probe;
 use bt_core::items::Items;
+use bt_core::limits::PROBES;
 use bt_core::memory::Memory;
+use bt_grammar::class::Class;
 use std::alloc::Global;
 
 /// The most probes of a script.
-const MOST_PROBES: usize = 64;
+const MOST_PROBES: usize = PROBES as usize;
 
 /// What reading a script comes to.
 #[derive(Drop)]

@@ -1,20 +1,20 @@
 // Simple statements.
 ghost use Rattle.std.specs.Prelude.{◌≡◌, ◌<◌, OnOk, length};
 ghost use Rattle.bt_parser.specs.Contract.{Reads};
-ghost use Rattle.bt_parser.specs.Form.{Simple};
-ghost use Rattle.bt_parser.specs.Reading.{reads};
+ghost use Rattle.bt_grammar.specs.Form.{Simple};
+ghost use Rattle.bt_grammar.specs.Reading.{reads};
 ghost use Rattle.bt_parser.specs.Statements.{step_stmt_by};
-ghost use Rattle.bt_parser.specs.Tokens.{items};
+ghost use Rattle.bt_grammar.specs.Tokens.{items};
 
 use crate::assign::{after_map, after_var};
 use crate::call::call;
-use crate::class::Class;
 use crate::cursor::{Cursor, Named};
 use crate::expr::{assignable, keyed};
 use crate::fault::Fault;
 use bt_ast::expr::{IncDec, VarRef};
-use bt_ast::place::Place;
 use bt_ast::stmt::{Stmt, StmtKind};
+use bt_core::place::Place;
+use bt_grammar::class::Class;
 use std::alloc::Global;
 
 /// The statement of a `++` or `--` that stands at the place, before its target.

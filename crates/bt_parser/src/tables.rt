@@ -1,12 +1,12 @@
 // What a class of tokens is in the grammar: a builtin variable, an operator, and of which tier.
 ghost use Rattle.std.specs.Prelude.{◌≡◌, ◌≤◌};
-ghost use Rattle.bt_parser.specs.Classes.{binary_of, builtin_of, gathers, is_point, prefix_of, tier_number, tier_of, update_of};
+ghost use Rattle.bt_grammar.specs.Classes.{binary_of, builtin_of, gathers, is_point, prefix_of, tier_number, tier_of, update_of};
 ghost use Rattle.bt_parser.specs.Mirror.{tier_rank, tighter};
-ghost use Rattle.bt_parser.specs.Tables.{is_call, is_control};
+ghost use Rattle.bt_grammar.specs.Tables.{is_call, is_control};
 
-use crate::class::{Class, Tier};
 use bt_ast::expr::Builtin;
 use bt_core::operator::{BinOp, UnOp};
+use bt_grammar::class::{Class, Tier};
 
 /// The builtin variable that a word names.
 pub fn builtin_of(class: Class) -> Option<Builtin>

@@ -1,8 +1,8 @@
 // The classes of words.
 ghost use Rattle.std.specs.Prelude.{◌≡◌};
-ghost use Rattle.bt_parser.specs.Tokens.{word_class};
+ghost use Rattle.bt_grammar.specs.Tokens.{word_class};
 
-use crate::class::Class;
+use bt_grammar::class::Class;
 
 /// The class of a word.
 pub fn word_class(word: &[u8]) -> Class

@@ -2,7 +2,7 @@
 use Rattle.std.proofs.Common.{◌≡◌, ℕ, Bool, true, false, ◌&&◌, List, [], ◌∷◌, codes, refl, subst}
 use Rattle.std.specs.Prelude.{Option, Some, None, bytes_eq, not, if◌then◌else◌}
 use Rattle.std.proofs.lemmas.Slice.Eq.{bytes_eq-Decides}
-use Rattle.bt_ast.specs.declared.place.Place.{Place}
+use Rattle.bt_core.specs.declared.place.Place.{Place}
 use Rattle.bt_ast.specs.declared.expr.Expr.{Expr}
 use Rattle.bt_ast.specs.declared.expr.MapRef.{MapRef, out-MapRef}
 use Rattle.bt_ast.specs.declared.probe.Point.{Point}

@@ -3,6 +3,6 @@ pub mod Scripts
 pub mod Counts
 pub mod EventRuns
 pub mod Payloads
-pub mod Texts
+pub mod LineLaws
 pub mod Judging
 pub mod Due

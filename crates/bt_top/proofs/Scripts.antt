@@ -6,36 +6,62 @@ use Rattle.std.proofs.lemmas.Option.{slice_get-get_or, get_or_from_slice_get, sl
 use Rattle.tracefs_format.specs.declared.format.Format.{Format}
 use Rattle.bt_lexer.specs.declared.error.LexError.{LexError}
 use Rattle.bt_lexer.specs.declared.error.LexError.TheVariants as lexical
-use Rattle.bt_lexer.specs.declared.line.LineColumn.{LineColumn}
+use Rattle.bt_core.specs.declared.place.Place.{Place}
 use Rattle.bt_lexer.specs.declared.token.Token.{Token}
-use Rattle.bt_lexer.specs.Tokens.{IsTokensOf, IsFirstFault, Gives}
+use Rattle.bt_lexer.specs.Tokens.{IsTokensOf, IsFirstFault}
 use Rattle.bt_ast.specs.declared.probe.Script.{Script as Tree}
-use Rattle.bt_parser.specs.declared.error.ParseError.{ParseError}
-use Rattle.bt_parser.specs.declared.error.ParseError.TheVariants as parsing
-use Rattle.bt_parser.specs.Form.{Item}
-use Rattle.bt_parser.specs.Grammar.{IsTreeOf}
-use Rattle.bt_parser.specs.Refusals.{IsAccepted as IsTree, IsRefusal}
-use Rattle.bt_parser.specs.Tokens.{items}
+use Rattle.bt_grammar.specs.declared.error.ParseError.{ParseError}
+use Rattle.bt_grammar.specs.declared.error.ParseError.TheVariants as parsing
+use Rattle.bt_grammar.specs.Form.{Item}
+use Rattle.bt_grammar.specs.Grammar.{IsTreeOf}
+use Rattle.bt_grammar.specs.Refusals.{IsAccepted as IsTree, IsRefusal}
+use Rattle.bt_grammar.specs.Tokens.{items}
 use Rattle.bt_top.specs.declared.refusal.ScriptFault.{ScriptFault}
 use Rattle.bt_top.specs.declared.refusal.ScriptFault.TheVariants.{BadCharacter, OpenString, OpenComment, NumberTooLarge, BadEscape, StringTooLong, Syntax, TooDeep, TooManyProbes}
 use Rattle.bt_top.specs.declared.refusal.Refusal.{Refusal}
-use Rattle.bt_top.specs.declared.refusal.Refusal.TheVariants.{BadScript, Memory}
-use Rattle.bt_top.specs.Script.{place_at, place_of, lexical_refusal, parse_refusal, HasTree, EventName, IsFormatOf, CountsFormat}
+use Rattle.bt_top.specs.declared.refusal.ScriptRefusal.TheVariants.{Fault}
+use Rattle.bt_top.specs.declared.refusal.Refusal.TheVariants.{Script, Memory}
+use Rattle.bt_top.specs.Script.{place_at, place_of, lexical_refusal, parse_refusal, HasTree, IsScriptFault, EventName, IsFormatOf, CountsFormat}
 use Rattle.bt_top.specs.Early.{event_of_tree}
 use Rattle.bt_top.proofs.EarlyTrees.{is_early, is_event}
-use Rattle.bt_top.specs.Serve.{IsScriptFault}
+use Rattle.bt_top.specs.Serve.{IsScriptRefusal}
 
--- what reading the text answered: its tree, or its first fault, or want of memory
-pub record IsReadTree (text : List ℕ) (answer : Result Tree Refusal) : Type 0 where
-  pub only_tree : (tree : Tree) → HasTree text tree → (answer ≡ Ok tree) ⊎ (answer ≡ Err Memory)
-  pub only_fault : (fault : ScriptFault) (place : LineColumn) → IsScriptFault text (BadScript fault place) → (answer ≡ Err (BadScript fault place)) ⊎ (answer ≡ Err Memory)
+-- ---- the first fault of a script
 
--- ---- a fault is told with its place
+-- what the laws of the lexer and of the parser say of a text
+pub record AreScriptLaws (text : List ℕ) : Type 0 where
+  pub tokens : (one other : List Token) → IsTokensOf text one → IsTokensOf text other → one ≡ other
+  pub lexical : (one other : LexError) → IsFirstFault text one → IsFirstFault text other → one ≡ other
+  pub lexical_apart : (tokens : List Token) (fault : LexError) → IsTokensOf text tokens → IsFirstFault text fault → ⊥
+  pub tree : (ts : List Item) (one other : Tree) → IsTreeOf ts one → IsTreeOf ts other → one ≡ other
+  pub parse : (ts : List Item) (one other : ParseError) → IsRefusal ts one → IsRefusal ts other → one ≡ other
+  pub parse_apart : (ts : List Item) (tree : Tree) (fault : ParseError) → IsTree ts tree → IsRefusal ts fault → ⊥
 
-pub is_told : (text : List ℕ) (refusal : Refusal) → IsScriptFault text refusal → (f : ScriptFault) × (p : LineColumn) × (refusal ≡ BadScript f p)
+pub one_script_fault : (text : List ℕ) (one other : Refusal) → AreScriptLaws text → IsScriptFault text one → IsScriptFault text other → one ≡ other
+one_script_fault text one other laws (inl a) (inl b) = a.told ∙ ap (lexical_refusal text) (laws.lexical a.fault b.fault a.first b.first) ∙ sym b.told
+one_script_fault text one other laws (inl a) (inr b) = absurd (laws.lexical_apart b.tokens a.fault b.are a.first)
+one_script_fault text one other laws (inr a) (inl b) = absurd (laws.lexical_apart a.tokens b.fault a.are b.first)
+one_script_fault text one other laws (inr a) (inr b) =
+    let same = laws.tokens a.tokens b.tokens a.are b.are in
+    let fault = laws.parse (items b.tokens) a.fault b.fault (subst (λ (ts : List Token). IsRefusal (items ts) a.fault) same a.first) b.first in
+    a.told ∙ ap (λ (ts : List Token). parse_refusal text ts a.fault) same ∙ ap (parse_refusal text b.tokens) fault ∙ sym b.told
+
+pub one_tree : (text : List ℕ) (one other : Tree) → AreScriptLaws text → HasTree text one → HasTree text other → one ≡ other
+one_tree text one other laws a b =
+    let same = laws.tokens a.tokens b.tokens a.are b.are in
+    laws.tree (items b.tokens) one other (subst (λ (ts : List Token). IsTreeOf (items ts) one) same a.is.tree) b.is.tree
+
+pub no_tree : (text : List ℕ) (refusal : Refusal) (tree : Tree) → AreScriptLaws text → IsScriptFault text refusal → HasTree text tree → ⊥
+no_tree text refusal tree laws (inl a) b = laws.lexical_apart b.tokens a.fault b.are a.first
+no_tree text refusal tree laws (inr a) b =
+    let same = laws.tokens b.tokens a.tokens b.are a.are in
+    laws.parse_apart (items a.tokens) tree a.fault (subst (λ (ts : List Token). IsTree (items ts) tree) same b.is) a.first
+
+-- a fault is told with its place
+pub is_told : (text : List ℕ) (refusal : Refusal) → IsScriptFault text refusal → (f : ScriptFault) × (p : Place) × (refusal ≡ Script (Fault f p))
 is_told text refusal (inl h) = by_fault h.fault h.first h.told
   where
-    by_fault : (fault : LexError) → IsFirstFault text fault → refusal ≡ lexical_refusal text fault → (f : ScriptFault) × (p : LineColumn) × (refusal ≡ BadScript f p)
+    by_fault : (fault : LexError) → IsFirstFault text fault → refusal ≡ lexical_refusal text fault → (f : ScriptFault) × (p : Place) × (refusal ≡ Script (Fault f p))
     by_fault (lexical.BadChar at) first told = (BadCharacter, place_at text at, told)
     by_fault (lexical.OpenString at) first told = (OpenString, place_at text at, told)
     by_fault (lexical.OpenComment at) first told = (OpenComment, place_at text at, told)
@@ -45,98 +71,20 @@ is_told text refusal (inl h) = by_fault h.fault h.first h.told
     by_fault lexical.Memory first told = absurd first.5.2
 is_told text refusal (inr h) = by_fault h.fault h.first h.told
   where
-    by_fault : (fault : ParseError) → IsRefusal (items h.tokens) fault → refusal ≡ parse_refusal text h.tokens fault → (f : ScriptFault) × (p : LineColumn) × (refusal ≡ BadScript f p)
+    by_fault : (fault : ParseError) → IsRefusal (items h.tokens) fault → refusal ≡ parse_refusal text h.tokens fault → (f : ScriptFault) × (p : Place) × (refusal ≡ Script (Fault f p))
     by_fault (parsing.Syntax n) first told = (Syntax, place_of text (slice_get h.tokens n), told)
     by_fault (parsing.TooDeep n) first told = (TooDeep, place_of text (slice_get h.tokens n), told)
     by_fault (parsing.TooMany n) first told = (TooManyProbes, place_of text (slice_get h.tokens n), told)
     by_fault parsing.Memory first told = absurd first.holds
 
--- ---- the text has no tokens
+-- what the lexer and the parser refuse is the first fault, or memory ran out
+pub lexical_told : (text : List ℕ) (error : LexError) → (error ≢ lexical.Memory → IsFirstFault text error) → IsScriptRefusal text (lexical_refusal text error)
+lexical_told text lexical.Memory found = inl refl
+lexical_told text error found = inr (inl (record { fault = error; first = found (λ e. cc); told = refl }))
 
-pub record IsLexed (text : List ℕ) (answer : Result (List Token) LexError) : Type 0 where
-  pub tokens : (tokens : List Token) → IsTokensOf text tokens → Gives answer (Ok tokens)
-  pub fault : (fault : LexError) → IsFirstFault text fault → Gives answer (Err fault)
-
-no_tokens : (error : LexError) (tokens : List Token) → error ≢ lexical.Memory → Gives (Err error) (Ok tokens) → ⊥
-no_tokens error tokens known gives = let e = gives known in no e
-  where
-    no : ◌≡◌ {A = Result (List Token) LexError} (Ok tokens) (Err error) → ⊥
-    no e = cc
-
-same_error : (error other : LexError) → error ≢ lexical.Memory → Gives {A = List Token} (Err error) (Err other) → other ≡ error
-same_error error other known gives = let e = gives known in same e
-  where
-    same : ◌≡◌ {A = Result (List Token) LexError} (Err other) (Err error) → other ≡ error
-    same e = cc
-
-lexical_read : (text : List ℕ) (error : LexError) → error ≢ lexical.Memory → IsLexed text (Err error) → IsReadTree text (Err (lexical_refusal text error))
-lexical_read text error known lexed = record {
-  only_tree = λ tree has. absurd (no_tokens error has.tokens known (lexed.tokens has.tokens has.are));
-  only_fault = λ fault place wrong. by_wrong fault place wrong;
-}
-  where
-    by_wrong : (fault : ScriptFault) (place : LineColumn) → IsScriptFault text (BadScript fault place) → (◌≡◌ {A = Result Tree Refusal} (Err (lexical_refusal text error)) (Err (BadScript fault place))) ⊎ (◌≡◌ {A = Result Tree Refusal} (Err (lexical_refusal text error)) (Err Memory))
-    by_wrong fault place (inl h) = inl (ap (λ (x : Refusal). Err x) (ap (lexical_refusal text) (sym (same_error error h.fault known (lexed.fault h.fault h.first))) ∙ sym h.told))
-    by_wrong fault place (inr h) = absurd (no_tokens error h.tokens known (lexed.tokens h.tokens h.are))
-
-pub no_text : (text : List ℕ) (error : LexError) → IsLexed text (Err error) → IsReadTree text (Err (lexical_refusal text error))
-no_text text lexical.Memory lexed = record { only_tree = λ tree has. inr refl; only_fault = λ fault place wrong. inr refl }
-no_text text error lexed = lexical_read text error (λ e. cc) lexed
-
-pub lexical_told : (text : List ℕ) (error : LexError) → (error ≢ lexical.Memory → IsFirstFault text error) → lexical_refusal text error ≢ Memory → IsScriptFault text (lexical_refusal text error)
-lexical_told text lexical.Memory found known = absurd (known refl)
-lexical_told text error found known = inl (record { fault = error; first = found (λ e. cc); told = refl })
-
--- ---- the text has tokens
-
--- a list of tokens has one answer
-pub record HasOneAnswer (ts : List Item) : Type 0 where
-  pub tree : (one other : Tree) → IsTreeOf ts one → IsTreeOf ts other → one ≡ other
-  pub fault : (one other : ParseError) → IsRefusal ts one → IsRefusal ts other → one ≡ other
-  pub apart : (tree : Tree) (fault : ParseError) → IsTree ts tree → IsRefusal ts fault → ⊥
-
-same_tokens : (tokens other : List Token) → Gives (Ok tokens) (Ok other) → other ≡ tokens
-same_tokens tokens other gives = same gives
-  where
-    same : ◌≡◌ {A = Result (List Token) LexError} (Ok other) (Ok tokens) → other ≡ tokens
-    same e = cc
-
-no_fault : (tokens : List Token) (fault : LexError) → Gives (Ok tokens) (Err fault) → ⊥
-no_fault tokens fault gives = no gives
-  where
-    no : ◌≡◌ {A = Result (List Token) LexError} (Err fault) (Ok tokens) → ⊥
-    no e = cc
-
-pub tree_read : (text : List ℕ) (tokens : List Token) (tree : Tree) → IsLexed text (Ok tokens) → HasOneAnswer (items tokens) → IsTree (items tokens) tree → IsReadTree text (Ok tree)
-tree_read text tokens tree lexed once is = record {
-  only_tree = λ other has. inl (ap (λ (x : Tree). Ok x) (once.tree tree other is.tree (subst (λ (ts : List Token). IsTree (items ts) other) (same_tokens tokens has.tokens (lexed.tokens has.tokens has.are)) has.is).tree));
-  only_fault = λ fault place wrong. absurd (by_wrong fault place wrong);
-}
-  where
-    by_wrong : (fault : ScriptFault) (place : LineColumn) → IsScriptFault text (BadScript fault place) → ⊥
-    by_wrong fault place (inl h) = no_fault tokens h.fault (lexed.fault h.fault h.first)
-    by_wrong fault place (inr h) = once.apart tree h.fault is (subst (λ (ts : List Token). IsRefusal (items ts) h.fault) (same_tokens tokens h.tokens (lexed.tokens h.tokens h.are)) h.first)
-
-pub parse_read : (text : List ℕ) (tokens : List Token) (error : ParseError) → IsLexed text (Ok tokens) → HasOneAnswer (items tokens) → (error ≢ parsing.Memory → IsRefusal (items tokens) error) → IsReadTree text (Err (parse_refusal text tokens error))
-parse_read text tokens parsing.Memory lexed once found = record { only_tree = λ tree has. inr refl; only_fault = λ fault place wrong. inr refl }
-parse_read text tokens error lexed once found = record {
-  only_tree = λ tree has. absurd (once.apart tree error (subst (λ (ts : List Token). IsTree (items ts) tree) (same_tokens tokens has.tokens (lexed.tokens has.tokens has.are)) has.is) (found (λ e. cc)));
-  only_fault = λ fault place wrong. by_wrong fault place wrong;
-}
-  where
-    told : (fault : ScriptFault) (place : LineColumn) (other : List Token) (due : ParseError) → other ≡ tokens → due ≡ error → BadScript fault place ≡ parse_refusal text other due → parse_refusal text tokens error ≡ BadScript fault place
-    told fault place other due same is said = sym (said ∙ ap (λ (ts : List Token). parse_refusal text ts due) same ∙ ap (parse_refusal text tokens) is)
-
-    by_wrong : (fault : ScriptFault) (place : LineColumn) → IsScriptFault text (BadScript fault place) → (◌≡◌ {A = Result Tree Refusal} (Err (parse_refusal text tokens error)) (Err (BadScript fault place))) ⊎ (◌≡◌ {A = Result Tree Refusal} (Err (parse_refusal text tokens error)) (Err Memory))
-    by_wrong fault place (inl h) = absurd (no_fault tokens h.fault (lexed.fault h.fault h.first))
-    by_wrong fault place (inr h) =
-        let same = same_tokens tokens h.tokens (lexed.tokens h.tokens h.are) in
-        let is = once.fault h.fault error (subst (λ (ts : List Token). IsRefusal (items ts) h.fault) same h.first) (found (λ e. cc)) in
-        inl (ap (λ (x : Refusal). Err x) (told fault place h.tokens h.fault same is h.told))
-
-pub parse_told : (text : List ℕ) (tokens : List Token) (error : ParseError) → IsTokensOf text tokens → (error ≢ parsing.Memory → IsRefusal (items tokens) error) → parse_refusal text tokens error ≢ Memory → IsScriptFault text (parse_refusal text tokens error)
-parse_told text tokens parsing.Memory are found known = absurd (known refl)
-parse_told text tokens error are found known = inr (record { tokens = tokens; fault = error; are = are; first = found (λ e. cc); told = refl })
+pub parse_told : (text : List ℕ) (tokens : List Token) (error : ParseError) → IsTokensOf text tokens → (error ≢ parsing.Memory → IsRefusal (items tokens) error) → IsScriptRefusal text (parse_refusal text tokens error)
+parse_told text tokens parsing.Memory are found = inl refl
+parse_told text tokens error are found = inr (inr (record { tokens = tokens; fault = error; are = are; first = found (λ e. cc); told = refl }))
 
 -- ---- the format of an event
 

@@ -1,9 +1,9 @@
 pub mod Words
+pub mod Lines
 pub mod Script
 pub mod Early
 pub mod Code
 pub mod Runs
 pub mod Count
-pub mod Lines
 pub mod Refusals
 pub mod Serve

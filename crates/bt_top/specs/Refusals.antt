@@ -1,6 +1,5 @@
 -- The status and the line of each refusal.
-use Rattle.std.specs.Prelude.{ℕ, List, ◌++◌, codes, Option, Some, None}
-use Rattle.std.specs.Fmt.{decimal}
+use Rattle.std.specs.Prelude.{ℕ, List, [], ◌∷◌, ◌++◌, codes, Option, Some, None}
 use Rattle.bt_io.specs.declared.shelf.ShelfError.{ShelfError}
 use Rattle.bt_io.specs.declared.shelf.ShelfError.TheVariants as shelf
 use Rattle.tracefs_format.specs.declared.error.FormatError.{FormatError}
@@ -10,35 +9,40 @@ use Rattle.rec_format.specs.declared.error.CountOf.TheVariants.{Cpus, Formats, E
 use Rattle.rec_format.specs.declared.error.RecordingError.{RecordingError}
 use Rattle.rec_format.specs.declared.error.RecordingError.TheVariants as fault
 use Rattle.bt_top.specs.declared.refusal.Operand.{Operand}
-use Rattle.bt_top.specs.declared.refusal.Operand.TheVariants.{Script, Recording}
+use Rattle.bt_top.specs.declared.refusal.Operand.TheVariants as operand
 use Rattle.bt_top.specs.declared.refusal.ScriptFault.{ScriptFault}
 use Rattle.bt_top.specs.declared.refusal.ScriptFault.TheVariants.{BadCharacter, OpenString, OpenComment, NumberTooLarge, BadEscape, StringTooLong, Syntax, TooDeep, TooManyProbes}
+use Rattle.bt_top.specs.declared.refusal.ScriptRefusal.{ScriptRefusal}
+use Rattle.bt_top.specs.declared.refusal.ScriptRefusal.TheVariants as script
+use Rattle.bt_top.specs.declared.refusal.RecordingRefusal.{RecordingRefusal}
+use Rattle.bt_top.specs.declared.refusal.RecordingRefusal.TheVariants as recording
 use Rattle.bt_top.specs.declared.refusal.Refusal.{Refusal}
-use Rattle.bt_top.specs.declared.refusal.Refusal.TheVariants.{Usage, ReadFault, TooLong, BadRecording, BadScript, Early, WriteFault, Memory}
+use Rattle.bt_top.specs.declared.refusal.Refusal.TheVariants.{Usage, Script, Recording, ReadFault, WriteFault, Memory}
+use Rattle.bt_top.specs.Lines.{Piece, Text, Number}
 use Rattle.bt_top.specs.Words.{Operands}
 
 abbrev pub status_of : Option Refusal → ℕ
 status_of None = 0
 status_of (Some Usage) = 1
+status_of (Some (Script why)) = 2
+status_of (Some (Recording why)) = 3
 status_of (Some (ReadFault operand)) = 4
-status_of (Some (TooLong Script)) = 2
-status_of (Some (TooLong Recording)) = 3
-status_of (Some (BadRecording error)) = 3
-status_of (Some (BadScript fault place)) = 2
-status_of (Some (Early Script)) = 2
-status_of (Some (Early Recording)) = 3
 status_of (Some WriteFault) = 5
 status_of (Some Memory) = 6
 
 -- why a file is not read
-abbrev pub refusal_of : Operand → ShelfError → Refusal
-refusal_of operand shelf.Failed = ReadFault operand
-refusal_of operand shelf.TooLong = TooLong operand
-refusal_of operand shelf.Memory = Memory
+abbrev pub read_refusal : Operand → ShelfError → Refusal
+read_refusal file shelf.Failed = ReadFault file
+read_refusal operand.Script shelf.TooLong = Script script.TooLong
+read_refusal operand.Recording shelf.TooLong = Recording recording.TooLong
+read_refusal file shelf.Memory = Memory
 
-abbrev pub name_of : Operands → Operand → List ℕ
-name_of names Script = names.script
-name_of names Recording = names.recording
+-- why the bytes of a recording are refused
+abbrev pub recording_refusal : RecordingError → Refusal
+recording_refusal fault.Memory = Memory
+recording_refusal error = Recording (recording.Fault error)
+
+-- ---- the lines
 
 abbrev pub count_word : CountOf → List ℕ
 count_word Cpus = codes "cpus"
@@ -47,31 +51,32 @@ count_word Events = codes "events"
 count_word Span = codes "span"
 
 -- the rule that a format text breaks, with its line
-abbrev pub rule_text : FormatError → List ℕ
-rule_text rule.NoName = codes "F1 no name"
-rule_text rule.BadId = codes "F2 bad id"
-rule_text (rule.BadField line) = codes "F3 bad line " ++ decimal line
-rule_text (rule.Overlong line) = codes "F4 overlong line " ++ decimal line
-rule_text (rule.SameName line) = codes "F5 same name line " ++ decimal line
-rule_text rule.Memory = codes "out of memory"
+abbrev pub rule_pieces : FormatError → List Piece
+rule_pieces rule.NoName = Text (codes "F1 no name") ∷ []
+rule_pieces rule.BadId = Text (codes "F2 bad id") ∷ []
+rule_pieces (rule.BadField line) = Text (codes "F3 bad line ") ∷ Number line ∷ []
+rule_pieces (rule.Overlong line) = Text (codes "F4 overlong line ") ∷ Number line ∷ []
+rule_pieces (rule.SameName line) = Text (codes "F5 same name line ") ∷ Number line ∷ []
+rule_pieces rule.Memory = Text (codes "out of memory") ∷ []
 
-abbrev pub event_text : List ℕ → ℕ → ℕ → List ℕ
-event_text what cpu event = what ++ (codes " in event " ++ (decimal event ++ (codes " of cpu " ++ decimal cpu)))
+-- what is wrong with an event
+abbrev pub event_pieces : List ℕ → ℕ → ℕ → List Piece
+event_pieces what cpu event = Text what ∷ Text (codes " in event ") ∷ Number event ∷ Text (codes " of cpu ") ∷ Number cpu ∷ []
 
 -- what is wrong with a recording, with its offset or places
-abbrev pub fault_text : RecordingError → List ℕ
-fault_text (fault.Truncated offset) = codes "C1 truncated at byte " ++ decimal offset
-fault_text fault.BadMagic = codes "C2 bad magic"
-fault_text (fault.Count what) = codes "C3 bad count: " ++ count_word what
-fault_text (fault.Format place broken) = codes "C4 format " ++ (decimal place ++ (codes ": " ++ rule_text broken))
-fault_text (fault.SameEvent place) = codes "C5 same event in format " ++ decimal place
-fault_text (fault.CpuNumber cpu) = codes "C6 bad cpu number at cpu " ++ decimal cpu
-fault_text (fault.TimeOrder cpu event) = event_text (codes "C7 time order") cpu event
-fault_text (fault.UnknownId cpu event) = event_text (codes "C8 unknown id") cpu event
-fault_text (fault.ShortPayload cpu event) = event_text (codes "C9 short payload") cpu event
-fault_text (fault.TrailingBytes offset) = codes "C10 trailing bytes at byte " ++ decimal offset
-fault_text (fault.BadSystem place) = codes "C11 bad system in format " ++ decimal place
-fault_text fault.Memory = codes "out of memory"
+abbrev pub fault_pieces : RecordingError → List Piece
+fault_pieces (fault.Truncated offset) = Text (codes "C1 truncated at byte ") ∷ Number offset ∷ []
+fault_pieces fault.BadMagic = Text (codes "C2 bad magic") ∷ []
+fault_pieces (fault.Count what) = Text (codes "C3 bad count: ") ∷ Text (count_word what) ∷ []
+fault_pieces (fault.Format place broken) = Text (codes "C4 format ") ∷ Number place ∷ Text (codes ": ") ∷ rule_pieces broken
+fault_pieces (fault.SameEvent place) = Text (codes "C5 same event in format ") ∷ Number place ∷ []
+fault_pieces (fault.CpuNumber cpu) = Text (codes "C6 bad cpu number at cpu ") ∷ Number cpu ∷ []
+fault_pieces (fault.TimeOrder cpu event) = event_pieces (codes "C7 time order") cpu event
+fault_pieces (fault.UnknownId cpu event) = event_pieces (codes "C8 unknown id") cpu event
+fault_pieces (fault.ShortPayload cpu event) = event_pieces (codes "C9 short payload") cpu event
+fault_pieces (fault.TrailingBytes offset) = Text (codes "C10 trailing bytes at byte ") ∷ Number offset ∷ []
+fault_pieces (fault.BadSystem place) = Text (codes "C11 bad system in format ") ∷ Number place ∷ []
+fault_pieces fault.Memory = Text (codes "out of memory") ∷ []
 
 -- what is wrong with a script
 abbrev pub script_fault_text : ScriptFault → List ℕ
@@ -85,18 +90,32 @@ script_fault_text Syntax = codes "P1 syntax"
 script_fault_text TooDeep = codes "P2 too deep"
 script_fault_text TooManyProbes = codes "P3 too many probes"
 
--- what is written on words that break the rule
-abbrev pub usage_line : List ℕ
-usage_line = codes "usage: btreplay run SCRIPT RECORDING\n"
+-- why a script is refused, behind its name
+abbrev pub script_pieces : ScriptRefusal → List Piece
+script_pieces script.TooLong = Text (codes ": script too long") ∷ []
+script_pieces (script.Fault wrong place) =
+    Text (codes ":") ∷ Number place.line ∷ Text (codes ":") ∷ Number place.column ∷ Text (codes ": ") ∷ Text (script_fault_text wrong) ∷ []
+script_pieces script.NotBuilt = Text (codes ": not built yet") ∷ []
 
--- the line of a refusal, where the words name these operands
-abbrev pub line_of : Operands → Refusal → List ℕ
-line_of names Usage = usage_line
-line_of names (ReadFault operand) = name_of names operand ++ codes ": read fault\n"
-line_of names (TooLong Script) = names.script ++ codes ": script too long\n"
-line_of names (TooLong Recording) = names.recording ++ codes ": recording too long\n"
-line_of names (BadRecording error) = names.recording ++ (codes ": " ++ (fault_text error ++ codes "\n"))
-line_of names (BadScript fault place) = names.script ++ (codes ":" ++ (decimal place.line ++ (codes ":" ++ (decimal place.column ++ (codes ": " ++ (script_fault_text fault ++ codes "\n"))))))
-line_of names (Early operand) = name_of names operand ++ codes ": not built yet\n"
-line_of names WriteFault = codes "write fault\n"
-line_of names Memory = codes "out of memory\n"
+-- why a recording is refused, behind its name
+abbrev pub recording_pieces : RecordingRefusal → List Piece
+recording_pieces recording.TooLong = Text (codes ": recording too long") ∷ []
+recording_pieces (recording.Fault error) = Text (codes ": ") ∷ fault_pieces error
+recording_pieces recording.NotBuilt = Text (codes ": not built yet") ∷ []
+
+-- what is told of words that break the rule
+abbrev pub usage_pieces : List Piece
+usage_pieces = Text (codes "usage: btreplay run SCRIPT RECORDING") ∷ []
+
+abbrev pub name_of : Operands → Operand → List ℕ
+name_of names operand.Script = names.script
+name_of names operand.Recording = names.recording
+
+-- what is told of a refusal, where the words name these operands
+abbrev pub refusal_pieces : Operands → Refusal → List Piece
+refusal_pieces names Usage = usage_pieces
+refusal_pieces names (Script why) = Text names.script ∷ script_pieces why
+refusal_pieces names (Recording why) = Text names.recording ∷ recording_pieces why
+refusal_pieces names (ReadFault file) = Text (name_of names file) ∷ Text (codes ": read fault") ∷ []
+refusal_pieces names WriteFault = Text (codes "write fault") ∷ []
+refusal_pieces names Memory = Text (codes "out of memory") ∷ []

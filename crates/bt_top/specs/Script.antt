@@ -1,14 +1,13 @@
 -- What a script is, and the scripts that run so far: they count the events of one of the recording's formats.
-use Rattle.std.specs.Prelude.{◌≡◌, ℕ, Bool, false, ◌==◌, List, [], ◌∷◌, codes, take, length, slice_get, Option, Some, None}
+use Rattle.std.specs.Prelude.{◌≡◌, ℕ, Bool, false, ◌==◌, ◌⊎◌, List, [], ◌∷◌, codes, take, length, slice_get, Option, Some, None}
 use Rattle.std.specs.List.{list_any}
 use Rattle.tracefs_format.specs.declared.format.Format.{Format}
 use Rattle.bt_lexer.specs.declared.error.LexError.{LexError}
 use Rattle.bt_lexer.specs.declared.error.LexError.TheVariants as lexical
-use Rattle.bt_lexer.specs.declared.line.LineColumn.{LineColumn}
+use Rattle.bt_core.specs.declared.place.Place.{Place}
 use Rattle.bt_lexer.specs.declared.token.Token.{Token}
 use Rattle.bt_lexer.specs.Places.{line_behind, column_behind}
 use Rattle.bt_lexer.specs.Tokens.{IsTokensOf, IsFirstFault}
-use Rattle.bt_ast.specs.declared.place.Place.{Place}
 use Rattle.bt_ast.specs.declared.expr.MapRef.{MapRef, out-MapRef}
 use Rattle.bt_ast.specs.declared.probe.Point.TheVariants.{Tracepoint}
 use Rattle.bt_ast.specs.declared.probe.Probe.{Probe}
@@ -17,40 +16,41 @@ use Rattle.bt_ast.specs.declared.stmt.AggCall.TheVariants.{Count}
 use Rattle.bt_ast.specs.declared.stmt.Block.{out-Block}
 use Rattle.bt_ast.specs.declared.stmt.Stmt.{Stmt, out-Stmt}
 use Rattle.bt_ast.specs.declared.stmt.StmtKind.TheVariants.{SetAgg}
-use Rattle.bt_parser.specs.declared.error.ParseError.{ParseError}
-use Rattle.bt_parser.specs.declared.error.ParseError.TheVariants as parsing
-use Rattle.bt_parser.specs.Refusals.{IsAccepted as IsTree, IsRefusal}
-use Rattle.bt_parser.specs.Tokens.{items}
+use Rattle.bt_grammar.specs.declared.error.ParseError.{ParseError}
+use Rattle.bt_grammar.specs.declared.error.ParseError.TheVariants as parsing
+use Rattle.bt_grammar.specs.Refusals.{IsAccepted as IsTree, IsRefusal}
+use Rattle.bt_grammar.specs.Tokens.{items}
 use Rattle.bt_top.specs.declared.refusal.ScriptFault.TheVariants.{BadCharacter, OpenString, OpenComment, NumberTooLarge, BadEscape, StringTooLong, Syntax, TooDeep, TooManyProbes}
 use Rattle.bt_top.specs.declared.refusal.Refusal.{Refusal}
-use Rattle.bt_top.specs.declared.refusal.Refusal.TheVariants.{BadScript, Memory}
+use Rattle.bt_top.specs.declared.refusal.ScriptRefusal.TheVariants.{Fault}
+use Rattle.bt_top.specs.declared.refusal.Refusal.TheVariants.{Script, Memory}
 
 -- ---- the first fault of a script
 
 -- the line and column of a byte of the text, or of its end
-abbrev pub place_at : List ℕ → ℕ → LineColumn
+abbrev pub place_at : List ℕ → ℕ → Place
 place_at text offset = record { line = line_behind (take offset text); column = column_behind (take offset text) }
 
 -- the line and column of a token, or of the end of the text where there is none
-abbrev pub place_of : List ℕ → Option Token → LineColumn
+abbrev pub place_of : List ℕ → Option Token → Place
 place_of text None = place_at text (length text)
-place_of text (Some token) = record { line = token.line; column = token.column }
+place_of text (Some token) = token.place
 
 -- why a text is refused whose first lexical fault is this one
 abbrev pub lexical_refusal : List ℕ → LexError → Refusal
-lexical_refusal text (lexical.BadChar at) = BadScript BadCharacter (place_at text at)
-lexical_refusal text (lexical.OpenString at) = BadScript OpenString (place_at text at)
-lexical_refusal text (lexical.OpenComment at) = BadScript OpenComment (place_at text at)
-lexical_refusal text (lexical.NumberTooLarge at) = BadScript NumberTooLarge (place_at text at)
-lexical_refusal text (lexical.BadEscape at) = BadScript BadEscape (place_at text at)
-lexical_refusal text (lexical.StringTooLong at) = BadScript StringTooLong (place_at text at)
+lexical_refusal text (lexical.BadChar at) = Script (Fault BadCharacter (place_at text at))
+lexical_refusal text (lexical.OpenString at) = Script (Fault OpenString (place_at text at))
+lexical_refusal text (lexical.OpenComment at) = Script (Fault OpenComment (place_at text at))
+lexical_refusal text (lexical.NumberTooLarge at) = Script (Fault NumberTooLarge (place_at text at))
+lexical_refusal text (lexical.BadEscape at) = Script (Fault BadEscape (place_at text at))
+lexical_refusal text (lexical.StringTooLong at) = Script (Fault StringTooLong (place_at text at))
 lexical_refusal text lexical.Memory = Memory
 
 -- why a text is refused whose tokens have this first fault
 abbrev pub parse_refusal : List ℕ → List Token → ParseError → Refusal
-parse_refusal text tokens (parsing.Syntax n) = BadScript Syntax (place_of text (slice_get tokens n))
-parse_refusal text tokens (parsing.TooDeep n) = BadScript TooDeep (place_of text (slice_get tokens n))
-parse_refusal text tokens (parsing.TooMany n) = BadScript TooManyProbes (place_of text (slice_get tokens n))
+parse_refusal text tokens (parsing.Syntax n) = Script (Fault Syntax (place_of text (slice_get tokens n)))
+parse_refusal text tokens (parsing.TooDeep n) = Script (Fault TooDeep (place_of text (slice_get tokens n)))
+parse_refusal text tokens (parsing.TooMany n) = Script (Fault TooManyProbes (place_of text (slice_get tokens n)))
 parse_refusal text tokens parsing.Memory = Memory
 
 -- the text's first lexical fault is told by this refusal
@@ -66,6 +66,10 @@ pub record IsParseFault (text : List ℕ) (refusal : Refusal) : Type 0 where
   pub are : IsTokensOf text tokens
   pub first : IsRefusal (items tokens) fault
   pub told : refusal ≡ parse_refusal text tokens fault
+
+-- the refusal tells the first lexical fault of the text, or the first fault of its tokens
+abbrev pub IsScriptFault : List ℕ → Refusal → Type 0
+IsScriptFault text refusal = IsLexicalFault text refusal ⊎ IsParseFault text refusal
 
 -- the tree of the text's tokens
 pub record HasTree (text : List ℕ) (tree : Tree) : Type 0 where

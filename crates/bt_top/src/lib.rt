@@ -4,12 +4,11 @@
 pub mod code;
 mod count;
 mod judge;
+mod line;
 mod port;
 pub mod refusal;
 pub mod report;
 mod script;
 pub mod serve;
 mod tell;
-#[cfg(test)]
-mod tests;
 mod words;

@@ -1,9 +1,9 @@
 // Why a call is refused.
 ghost use Rattle.std.specs.Prelude.{◌≡◌};
-ghost use Rattle.bt_top.specs.Refusals.{status_of, refusal_of};
+ghost use Rattle.bt_top.specs.Refusals.{status_of, recording_refusal, read_refusal};
 
+use bt_core::place::Place;
 use bt_io::shelf::ShelfError;
-use bt_lexer::line::LineColumn;
 use rec_format::error::RecordingError;
 
 /// A file that the words name.
@@ -36,25 +36,43 @@ pub enum ScriptFault {
     TooManyProbes,
 }
 
-/// Why a call is refused.
+/// Why a script is refused.
+#[derive(Clone, Copy, PartialEq, Eq, Debug)]
+pub enum ScriptRefusal {
+    /// It has more bytes than it may have.
+    TooLong,
+    /// The text is no script: the first fault, and the place of its byte or token. That of a text that
+    /// breaks off is the end of the text.
+    Fault(ScriptFault, Place),
+    /// It does not count the events of one of the recording's formats, so it is not handled so far.
+    NotBuilt,
+}
+
+/// Why a recording is refused.
+#[derive(Clone, Copy, PartialEq, Eq, Debug)]
+pub enum RecordingRefusal {
+    /// It has more bytes than it may have.
+    TooLong,
+    /// The bytes are no recording: the first check that they fail.
+    Fault(RecordingError),
+    /// It has more than one CPU, so it is not handled so far.
+    NotBuilt,
+}
+
+/// Why a call is refused. Each has its exit status.
 #[derive(Clone, Copy, PartialEq, Eq, Debug)]
 pub enum Refusal {
-    /// The words break the rule.
+    /// The words break the rule: status 1.
     Usage,
-    /// The file could not be read.
+    /// The script is refused: status 2.
+    Script(ScriptRefusal),
+    /// The recording is refused: status 3.
+    Recording(RecordingRefusal),
+    /// The file could not be read: status 4.
     ReadFault(Operand),
-    /// The file is longer than it may be.
-    TooLong(Operand),
-    /// The bytes are no recording: the first check that they fail.
-    BadRecording(RecordingError),
-    /// The text is no script: the first fault, and the line and column of its byte or token. That of a
-    /// text that breaks off is the end of the text.
-    BadScript(ScriptFault, LineColumn),
-    /// The file is none of those that are handled so far: a recording of more than one CPU, or a script
-    /// that does not count the events of one of the recording's formats.
-    Early(Operand),
-    /// The output took less than the text.
+    /// The output took less than the text: status 5.
     WriteFault,
+    /// Memory ran out: status 6.
     Memory,
 }
 
@@ -65,10 +83,8 @@ pub(crate) fn status_of(refusal: Option<Refusal>) -> u8
     match refusal {
         None => 0,
         Some(Refusal::Usage) => 1,
-        Some(Refusal::TooLong(Operand::Script) | Refusal::Early(Operand::Script)) => 2,
-        Some(Refusal::TooLong(Operand::Recording) | Refusal::Early(Operand::Recording)) => 3,
-        Some(Refusal::BadRecording(_)) => 3,
-        Some(Refusal::BadScript(_, _)) => 2,
+        Some(Refusal::Script(_)) => 2,
+        Some(Refusal::Recording(_)) => 3,
         Some(Refusal::ReadFault(_)) => 4,
         Some(Refusal::WriteFault) => 5,
         Some(Refusal::Memory) => 6,
@@ -76,12 +92,23 @@ pub(crate) fn status_of(refusal: Option<Refusal>) -> u8
 }
 
 /// Why a file is not read.
-pub(crate) fn refusal_of(operand: Operand, error: ShelfError) -> Refusal
-    ensures { result ≡ refusal_of operand error }
+pub(crate) fn read_refusal(operand: Operand, error: ShelfError) -> Refusal
+    ensures { result ≡ read_refusal operand error }
+{
+    match (error, operand) {
+        (ShelfError::Failed, operand) => Refusal::ReadFault(operand),
+        (ShelfError::TooLong, Operand::Script) => Refusal::Script(ScriptRefusal::TooLong),
+        (ShelfError::TooLong, Operand::Recording) => Refusal::Recording(RecordingRefusal::TooLong),
+        (ShelfError::Memory, _) => Refusal::Memory,
+    }
+}
+
+/// Why the bytes of a recording are refused.
+pub(crate) fn recording_refusal(error: RecordingError) -> Refusal
+    ensures { result ≡ recording_refusal error }
 {
     match error {
-        ShelfError::Failed => Refusal::ReadFault(operand),
-        ShelfError::TooLong => Refusal::TooLong(operand),
-        ShelfError::Memory => Refusal::Memory,
+        RecordingError::Memory => Refusal::Memory,
+        error => Refusal::Recording(RecordingRefusal::Fault(error)),
     }
 }

@@ -1,87 +1,85 @@
 // The trees of scripts, and those that run so far.
-ghost use Rattle.std.specs.Prelude.{◌≡◌, ◌≢◌, ◌≤◌, ◌⊎◌, ◌↔◌, ℕ, Err, IfErr, IfOk, IsTrue, List, MatchOption, None, Ok, Some, length, slice_get};
-ghost use Rattle.bt_ast.specs.declared.probe.Script.{Script as Tree};
+ghost use Rattle.std.specs.Prelude.{◌≡◌, ◌≤◌, ◌↔◌, ℕ, IfErr, IfOk, IsTrue, MatchOption, None, Some, length, slice_get};
 ghost use Rattle.bt_lexer.specs.Places.{offset_of};
-ghost use Rattle.bt_lexer.specs.declared.line.LineColumn.{LineColumn};
-ghost use Rattle.bt_top.specs.declared.refusal.ScriptFault.{ScriptFault};
 ghost use Rattle.bt_top.specs.Script.{place_of, place_at, lexical_refusal, parse_refusal, HasTree, has_star, IsFormatOf, CountsFormat};
 ghost use Rattle.bt_top.specs.Early.{event_of_points, is_count, are_count, event_of_probe, event_of_tree};
-ghost use Rattle.bt_top.specs.Serve.{IsScriptFault};
+ghost use Rattle.bt_top.specs.Serve.{IsScriptRefusal};
 
-use crate::refusal::{Refusal, ScriptFault};
+use crate::refusal::{Refusal, ScriptFault, ScriptRefusal};
 use bt_ast::probe::{Point, Probe, Script};
 use bt_ast::stmt::{AggCall, Stmt, StmtKind};
+use bt_core::limits::SCRIPT_BYTES;
+use bt_core::place::Place;
+use bt_grammar::error::ParseError;
 use bt_lexer::error::LexError;
 use bt_lexer::laws::few_tokens;
 use bt_lexer::lexer::lex;
-use bt_lexer::line::{LineColumn, line_column};
+use bt_lexer::line::line_column;
 use bt_lexer::token::Token;
-use bt_parser::error::ParseError;
-use bt_parser::laws::one_answer;
 use bt_parser::parse::parse;
 use std::alloc::Global;
 use tracefs_format::format::Format;
 
 /// The line and column of a byte, by its offset in the text.
-fn place_at(text: &[u8], offset: u64) -> LineColumn
+fn place_at(text: &[u8], offset: u64) -> Place
     requires within { offset ≤ length text.now }
-    requires short { length text.now ≤ 65536 }
+    requires short { length text.now ≤ SCRIPT_BYTES }
     ensures { result ≡ place_at text.now offset }
 {
     line_column(text, offset as usize)
 }
 
+/// The refusal of a script for its fault at a place.
+fn fault_at(fault: ScriptFault, place: Place) -> Refusal
+    ensures { result ≡ Refusal.Script (ScriptRefusal.Fault fault place) }
+{
+    Refusal::Script(ScriptRefusal::Fault(fault, place))
+}
+
 /// Why a text is refused whose first lexical fault is this one.
 fn lexical_refusal(text: &[u8], error: LexError) -> Refusal
     requires within { offset_of error ≤ length text.now }
-    requires short { length text.now ≤ 65536 }
+    requires short { length text.now ≤ SCRIPT_BYTES }
     ensures { result ≡ lexical_refusal text.now error }
 {
     match error {
-        LexError::BadChar(at) => Refusal::BadScript(ScriptFault::BadCharacter, place_at(text, at)),
-        LexError::OpenString(at) => Refusal::BadScript(ScriptFault::OpenString, place_at(text, at)),
-        LexError::OpenComment(at) => {
-            Refusal::BadScript(ScriptFault::OpenComment, place_at(text, at))
-        }
+        LexError::BadChar(at) => fault_at(ScriptFault::BadCharacter, place_at(text, at)),
+        LexError::OpenString(at) => fault_at(ScriptFault::OpenString, place_at(text, at)),
+        LexError::OpenComment(at) => { fault_at(ScriptFault::OpenComment, place_at(text, at)) }
         LexError::NumberTooLarge(at) => {
-            Refusal::BadScript(ScriptFault::NumberTooLarge, place_at(text, at))
+            fault_at(ScriptFault::NumberTooLarge, place_at(text, at))
         }
-        LexError::BadEscape(at) => Refusal::BadScript(ScriptFault::BadEscape, place_at(text, at)),
-        LexError::StringTooLong(at) => {
-            Refusal::BadScript(ScriptFault::StringTooLong, place_at(text, at))
-        }
+        LexError::BadEscape(at) => fault_at(ScriptFault::BadEscape, place_at(text, at)),
+        LexError::StringTooLong(at) => { fault_at(ScriptFault::StringTooLong, place_at(text, at)) }
         LexError::Memory => Refusal::Memory,
     }
 }
 
 /// The line and column of the token with so many before it, or of the end of the text.
-fn place_of(text: &[u8], tokens: &[Token], number: u32) -> LineColumn
-    requires { length text.now ≤ 65536 }
+fn place_of(text: &[u8], tokens: &[Token], number: u32) -> Place
+    requires { length text.now ≤ SCRIPT_BYTES }
     ensures { result ≡ place_of text.now (slice_get tokens.now number) }
 {
     match tokens.get(number as usize) {
-        Some(token) => LineColumn {
-            line: token.line,
-            column: token.column,
-        },
+        Some(token) => token.place,
         None => line_column(text, text.len()),
     }
 }
 
 /// Why a text is refused whose tokens have this first fault.
 fn parse_refusal(text: &[u8], tokens: &[Token], error: ParseError) -> Refusal
-    requires { length text.now ≤ 65536 }
+    requires { length text.now ≤ SCRIPT_BYTES }
     ensures { result ≡ parse_refusal text.now tokens.now error }
 {
     match error {
         ParseError::Syntax(number) => {
-            Refusal::BadScript(ScriptFault::Syntax, place_of(text, tokens, number))
+            fault_at(ScriptFault::Syntax, place_of(text, tokens, number))
         }
         ParseError::TooDeep(number) => {
-            Refusal::BadScript(ScriptFault::TooDeep, place_of(text, tokens, number))
+            fault_at(ScriptFault::TooDeep, place_of(text, tokens, number))
         }
         ParseError::TooMany(number) => {
-            Refusal::BadScript(ScriptFault::TooManyProbes, place_of(text, tokens, number))
+            fault_at(ScriptFault::TooManyProbes, place_of(text, tokens, number))
         }
         ParseError::Memory => Refusal::Memory,
     }
@@ -89,14 +87,11 @@ fn parse_refusal(text: &[u8], tokens: &[Token], error: ParseError) -> Refusal
 
 /// The tree of a script, or its first fault.
 pub(crate) fn tree_of(alloc: Global, text: &[u8]) -> Result<Script, Refusal>
-    requires { length text.now ≤ 65536 }
+    requires { length text.now ≤ SCRIPT_BYTES }
     ensures tree { IfOk result (HasTree text.now) }
-    ensures fault { IfErr result (λ refusal. refusal ≢ Refusal.Memory → IsScriptFault text.now refusal) }
-    ensures only_tree { (tree : Tree) → HasTree text.now tree → (result ≡ Ok tree) ⊎ (result ≡ Err Refusal.Memory) }
-    ensures only_fault { (fault : ScriptFault) (place : LineColumn) → IsScriptFault text.now (Refusal.BadScript fault place) → (result ≡ Err (Refusal.BadScript fault place)) ⊎ (result ≡ Err Refusal.Memory) }
+    ensures fault { IfErr result (IsScriptRefusal text.now) }
 {
     few_tokens();
-    one_answer();
     let tokens = match lex(alloc, text) {
         Ok(tokens) => tokens,
         Err(LexError::Memory) => return Err(Refusal::Memory),

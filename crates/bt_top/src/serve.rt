@@ -1,20 +1,20 @@
 // The top call.
-ghost use Rattle.std.specs.Prelude.{◌≡◌, ◌<◌, ◌≤◌, ◌*◌, ◌⊎◌, ◌↔◌, ◌∷◌, [], length, map, string_bytes, Option, Some, None, IfOk, IfErr, IfSome, IsNone, IsSome};
-ghost use Rattle.std.specs.Io.KnownBytes.{Appends, Keeps};
+ghost use Rattle.std.specs.Prelude.{◌≡◌, ◌≢◌, ◌*◌, ◌⊎◌, ◌↔◌, ◌∷◌, [], length, Some, IfOk, IfErr, IfSome, IsNone, IsSome};
+ghost use Rattle.std.specs.Io.KnownBytes.{Keeps};
+ghost use Rattle.bt_core.specs.declared.limits.TheConstants.{SCRIPT_BYTES};
 ghost use Rattle.bt_io.specs.Faults.{Rose};
-ghost use Rattle.bt_io.specs.Taken.{AppendsPart};
 ghost use Rattle.rec_format.specs.Recordings.{IsValidRecording};
-ghost use Rattle.bt_top.specs.Count.{payloads_of};
-ghost use Rattle.bt_top.specs.Words.{operands_of, named_by};
-ghost use Rattle.bt_top.specs.Refusals.{status_of, usage_line, line_of};
-ghost use Rattle.bt_top.specs.Serve.{CountsEvents, MayCome, IsDue, OnBoth, ComesIfDue, refusal_in, HasWork, IsCount, AsksFirst, WritesUnless};
+ghost use Rattle.bt_top.specs.Lines.{sink_use};
+ghost use Rattle.bt_top.specs.Refusals.{status_of};
+ghost use Rattle.bt_top.specs.Serve.{Answers, AsksExactly, AsksFirst, ComesIfDue, IsAnswer, IsComplete, IsWritten, OnTold, Reads, Tells, bytes_written, refusal_in, shelf_use};
+ghost use Rattle.bt_top.specs.Words.{Run, named_by, names_of, order_of};
 
 use crate::count::work_of;
 use crate::judge::{Counting, judge};
-use crate::refusal::{Operand, Refusal, refusal_of, status_of};
-use crate::report::{Report, Work};
+use crate::refusal::{Operand, Refusal, read_refusal, status_of};
+use crate::report::Report;
 use crate::tell::{tell, tell_usage};
-use crate::words::{Named, operands_of};
+use crate::words::{Named, Order, files_of, order_of};
 use bt_core::limits::{RECORDING_BYTES, SCRIPT_BYTES};
 use bt_io::shelf::Shelf;
 use bt_io::sink::{Sink, write_all};
@@ -28,23 +28,23 @@ fn read_files<S: Shelf>(
 ) -> Result<Counting, Refusal>
     ensures valid { IfOk result (λ counting. IsValidRecording counting.recording) }
     ensures one_cpu { IfOk result (λ counting. length counting.recording.cpus ≡ 1) }
-    ensures counted { IfOk result (λ counting. CountsEvents (S.held shelf.old named.now.script.now) (S.held shelf.old named.now.recording.now) (payloads_of counting.format counting.recording)) }
-    ensures exact { OnBoth (S.held shelf.old named.now.script.now) (S.held shelf.old named.now.recording.now) (ComesIfDue (refusal_in result)) }
-    ensures refused { IfErr result (MayCome (Rose (S.faults shelf.old) (S.faults shelf.new)) ⊥ (S.held shelf.old named.now.script.now) (S.held shelf.old named.now.recording.now)) }
-    ensures asked { AsksFirst (S.asked shelf.old) (S.asked shelf.new) (named.now.script.now ∷ named.now.recording.now ∷ []) }
+    ensures read { Reads (Run (named_by named.now)) (shelf_use S.held S.faults S.asked shelf.old shelf.new) result }
+    ensures exact { OnTold (Some (Run (named_by named.now))) (S.held shelf.old) (ComesIfDue (refusal_in result)) }
+    ensures asked { AsksFirst (S.asked shelf.old) (S.asked shelf.new) (names_of (Some (Run (named_by named.now)))) }
+    ensures asked_exactly { AsksExactly (Some (Run (named_by named.now))) (refusal_in result) (shelf_use S.held S.faults S.asked shelf.old shelf.new) }
 {
     let script = match shelf.read(alloc, named.script, SCRIPT_BYTES) {
         Ok(script) => script,
-        Err(error) => return Err(refusal_of(Operand::Script, error)),
+        Err(error) => return Err(read_refusal(Operand::Script, error)),
     };
     let recording = match shelf.read(alloc, named.recording, RECORDING_BYTES) {
         Ok(recording) => recording,
-        Err(error) => return Err(refusal_of(Operand::Recording, error)),
+        Err(error) => return Err(read_refusal(Operand::Recording, error)),
     };
     judge(alloc, script.as_slice(), recording.as_slice())
 }
 
-/// A run that was refused before anything was written.
+/// A call that was refused before anything was written.
 fn refused(refusal: Refusal) -> Report
     ensures { result ≡ record { status = status_of (Some refusal); refusal = Some refusal; work = None } }
 {
@@ -58,15 +58,14 @@ fn refused(refusal: Refusal) -> Report
 /// Counts the events and writes how many they are.
 fn run<S: Shelf, K: Sink>(alloc: Global, named: &Named<'_>, shelf: &mut S, out: &mut K) -> Report
     ensures status { result.status ≡ status_of result.refusal }
-    ensures refused { IfSome result.refusal (MayCome (Rose (S.faults shelf.old) (S.faults shelf.new)) (Rose (K.faults out.old) (K.faults out.new)) (S.held shelf.old named.now.script.now) (S.held shelf.old named.now.recording.now)) }
-    ensures exact { OnBoth (S.held shelf.old named.now.script.now) (S.held shelf.old named.now.recording.now) (ComesIfDue result.refusal) }
-    ensures counted { HasWork result.refusal → IsCount (S.held shelf.old named.now.script.now) (S.held shelf.old named.now.recording.now) result.work }
-    ensures worked { IsSome result.work → HasWork result.refusal }
+    ensures known { result.refusal ≢ Some Refusal.Usage }
+    ensures asked { AsksFirst (S.asked shelf.old) (S.asked shelf.new) (names_of (Some (Run (named_by named.now)))) }
+    ensures asked_exactly { AsksExactly (Some (Run (named_by named.now))) result.refusal (shelf_use S.held S.faults S.asked shelf.old shelf.new) }
+    ensures answered { Answers (Run (named_by named.now)) (shelf_use S.held S.faults S.asked shelf.old shelf.new) (sink_use K.taken K.faults out.old out.new) result }
+    ensures exact { OnTold (Some (Run (named_by named.now))) (S.held shelf.old) (ComesIfDue result.refusal) }
+    ensures worked { IsSome result.work → (result.status ≡ 0) ⊎ (result.status ≡ 5) }
     ensures six_each { IfSome result.work (λ work. work.instructions ≡ 6 * length work.steps) }
-    ensures written { result.refusal ≡ None → IfSome result.work (λ work. Appends (K.taken out.old) (K.taken out.new) work.text) }
-    ensures part { result.refusal ≡ Some Refusal.WriteFault → IfSome result.work (λ work. AppendsPart (K.taken out.old) (K.taken out.new) work.text) }
-    ensures nothing { IsNone result.work → Keeps (K.taken out.old) (K.taken out.new) }
-    ensures asked { AsksFirst (S.asked shelf.old) (S.asked shelf.new) (named.now.script.now ∷ named.now.recording.now ∷ []) }
+    ensures written { IsWritten (sink_use K.taken K.faults out.old out.new) result.refusal (bytes_written (Some (Run (named_by named.now))) result.work) }
 {
     let counting = match read_files(alloc, named, shelf) {
         Ok(counting) => counting,
@@ -110,37 +109,33 @@ pub fn serve<S: Shelf, K: Sink, E: Sink>(
 ) -> Report
     ensures status { result.status ≡ status_of result.refusal }
 
-    // The words are refused exactly where they break the rule, and then no file is asked for.
-    ensures usage { (result.refusal ≡ Some Refusal.Usage) ↔ IsNone (operands_of (map string_bytes words.now)) }
-    ensures asked { IfSome (operands_of (map string_bytes words.now)) (λ names. AsksFirst (S.asked shelf.old) (S.asked shelf.new) (names.script ∷ names.recording ∷ [])) }
-    ensures asked_nothing { IsNone (operands_of (map string_bytes words.now)) → S.asked shelf.new ≡ S.asked shelf.old }
+    // The words are refused exactly where they give no order, and then no file is asked for.
+    ensures usage { (result.refusal ≡ Some Refusal.Usage) ↔ IsNone (order_of words.now) }
+    ensures asked { AsksFirst (S.asked shelf.old) (S.asked shelf.new) (names_of (order_of words.now)) }
+    ensures asked_exactly { AsksExactly (order_of words.now) result.refusal (shelf_use S.held S.faults S.asked shelf.old shelf.new) }
 
-    // Each other refusal comes only where it may, and exactly where it is due unless a fault comes.
-    ensures refused { IfSome (operands_of (map string_bytes words.now)) (λ names. IfSome result.refusal (MayCome (Rose (S.faults shelf.old) (S.faults shelf.new)) (Rose (K.faults out.old) (K.faults out.new)) (S.held shelf.old names.script) (S.held shelf.old names.recording))) }
-    ensures exact { IfSome (operands_of (map string_bytes words.now)) (λ names. OnBoth (S.held shelf.old names.script) (S.held shelf.old names.recording) (ComesIfDue result.refusal)) }
-    ensures complete { IfSome (operands_of (map string_bytes words.now)) (λ names. OnBoth (S.held shelf.old names.script) (S.held shelf.old names.recording) (λ script recording. IsDue script recording None → ¬ Rose (S.faults shelf.old) (S.faults shelf.new) → ¬ Rose (K.faults out.old) (K.faults out.new) → (result.status ≡ 0) ⊎ (result.status ≡ 6))) }
-
-    // At status 0 and 5 the work is the count of the events, by a run of the code for each, and its
-    // text is what was written.
-    ensures counted { (result.status ≡ 0) ⊎ (result.status ≡ 5) → IfSome (operands_of (map string_bytes words.now)) (λ names. IsCount (S.held shelf.old names.script) (S.held shelf.old names.recording) result.work) }
+    // What comes is due to the files, or is a fault before which nothing was due; at status 0 and 5 the work is the count of the events.
+    ensures answered { IsAnswer (order_of words.now) (shelf_use S.held S.faults S.asked shelf.old shelf.new) (sink_use K.taken K.faults out.old out.new) result }
+    ensures exact { OnTold (order_of words.now) (S.held shelf.old) (ComesIfDue result.refusal) }
+    ensures complete { OnTold (order_of words.now) (S.held shelf.old) (IsComplete (Rose (S.faults shelf.old) (S.faults shelf.new)) (Rose (K.faults out.old) (K.faults out.new)) result.status) }
     ensures worked { IsSome result.work → (result.status ≡ 0) ⊎ (result.status ≡ 5) }
     ensures six_each { IfSome result.work (λ work. work.instructions ≡ 6 * length work.steps) }
-    ensures written { result.status ≡ 0 → IfSome result.work (λ work. Appends (K.taken out.old) (K.taken out.new) work.text) }
-    ensures part { result.status ≡ 5 → IfSome result.work (λ work. AppendsPart (K.taken out.old) (K.taken out.new) work.text) }
-    ensures nothing { IsNone result.work → Keeps (K.taken out.old) (K.taken out.new) }
 
-    // The line of the refusal is told, or a prefix of it where the count of faults rose.
-    ensures told { IfSome (operands_of (map string_bytes words.now)) (λ names. IfSome result.refusal (λ refusal. WritesUnless (Rose (E.faults err.old) (E.faults err.new)) (E.taken err.old) (E.taken err.new) (line_of names refusal))) }
-    ensures told_usage { IsNone (operands_of (map string_bytes words.now)) → WritesUnless (Rose (E.faults err.old) (E.faults err.new)) (E.taken err.old) (E.taken err.new) usage_line }
-    ensures told_nothing { result.status ≡ 0 → Keeps (E.taken err.old) (E.taken err.new) }
+    // What the command writes is appended to the output whole, or a prefix after a fault of the write, and nothing before it.
+    ensures written { IsWritten (sink_use K.taken K.faults out.old out.new) result.refusal (bytes_written (order_of words.now) result.work) }
+
+    // The line of the refusal is appended to `err`, or a prefix of it where the count of its faults rose.
+    ensures told { Tells (order_of words.now) result.refusal (sink_use E.taken E.faults err.old err.new) }
 {
-    let Some(named) = operands_of(words) else {
+    let Some(order) = order_of(words) else {
         tell_usage(err);
         return refused(Refusal::Usage);
     };
-    let report = run(alloc, &named, shelf, out);
+    let report = match order {
+        Order::Run(named) => run(alloc, &named, shelf, out),
+    };
     if let Some(refusal) = report.refusal {
-        tell(err, &named, refusal);
+        tell(err, &files_of(&order), refusal);
     }
     report
 }

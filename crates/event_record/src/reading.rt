@@ -1,9 +1,9 @@
 // Reading the fields of a payload.
 ghost use Rattle.std.specs.Prelude.{◌≡◌, ◌≤◌, ◌⊎◌, length, IsTrue};
-ghost use Rattle.byteorder.specs.Endian.{twos_complement};
+ghost use Rattle.std.specs.Int.{w32, w64, from_le_bytes, cast_signed};
 ghost use Rattle.tracefs_format.specs.Kinds.{is_number_size};
 ghost use Rattle.tracefs_format.specs.Sizes.{end_of};
-ghost use Rattle.event_record.specs.Fields.{byte_number, field_bytes, field_number, field_text, located};
+ghost use Rattle.event_record.specs.Fields.{field_bytes, width_of, field_number, field_text, located};
 
 use bt_core::text::Str64;
 use byteorder::{ByteOrder, LittleEndian};
@@ -25,9 +25,9 @@ pub fn int_field(field: &Field, payload: &[u8]) -> i64
     }
 }
 
-/// The string of a field: the bytes of an array of characters, or those that a data location says,
-/// before the first zero byte and at most 63. A data location that points outside the payload reads
-/// as the empty string.
+/// The string of a field: of the first 63 bytes of an array of characters, or of those that a data
+/// location says, the ones before the first zero byte. A data location that points outside the
+/// payload reads as the empty string.
 pub fn str_field(field: &Field, payload: &[u8]) -> Str64
     requires text { field.now.kind ≡ FieldKind.Chars ⊎ field.now.kind ≡ FieldKind.DataLoc }
     requires inside { end_of field.now ≤ length payload.now }
@@ -53,7 +53,7 @@ fn bytes_of<'a>(field: &Field, payload: &'a [u8]) -> &'a [u8]
 /// The signed number of 1, 2, 4 or 8 bytes.
 fn signed_number(bytes: &[u8]) -> i64
     requires { IsTrue (is_number_size (length bytes.now)) }
-    ensures { result ≡ twos_complement (length bytes.now) (byte_number bytes.now) }
+    ensures { result ≡ cast_signed (width_of (length bytes.now)) (from_le_bytes (width_of (length bytes.now)) bytes.now) }
 {
     match bytes.len() {
         1 => i64::from(bytes[0].cast_signed()),
@@ -66,7 +66,7 @@ fn signed_number(bytes: &[u8]) -> i64
 /// The unsigned number of 1, 2, 4 or 8 bytes, as the signed number of the same 64 bits.
 fn unsigned_number(bytes: &[u8]) -> i64
     requires { IsTrue (is_number_size (length bytes.now)) }
-    ensures { result ≡ twos_complement 8 (byte_number bytes.now) }
+    ensures { result ≡ cast_signed w64 (from_le_bytes (width_of (length bytes.now)) bytes.now) }
 {
     match bytes.len() {
         1 => i64::from(bytes[0]),
@@ -80,7 +80,7 @@ fn unsigned_number(bytes: &[u8]) -> i64
 /// bits how many they are. Where they are not all inside the payload there are none.
 fn located<'a>(word: &[u8], payload: &'a [u8]) -> &'a [u8]
     requires { length word.now ≡ 4 }
-    ensures { result.now ≡ located (byte_number word.now) payload.now }
+    ensures { result.now ≡ located (from_le_bytes w32 word.now) payload.now }
 {
     let word = LittleEndian::read_u32(word);
     let place = (word % 65_536) as usize;

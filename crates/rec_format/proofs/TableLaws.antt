@@ -1,21 +1,26 @@
 -- What the tables of formats find.
 use Rattle.std.proofs.Common.{◌≡◌, ℕ, suc, Bool, true, false, cond, ◌||◌, Option, Some, None, List, [], ◌∷◌, ◌++◌, length, refl, ap, sym, subst, ◌∙◌, arith}
-use Rattle.std.specs.Prelude.{is_some, ◌==◌, nat_lt}
-use Rattle.std.specs.List.{list_any, slice_get}
+use Rattle.std.specs.Prelude.{is_some, ◌==◌, ◌&&◌, not, nat_lt, nat_le, IsTrue}
+use Rattle.std.specs.List.{list_all, list_any, slice_get, AllByRecursion}
 use Rattle.std.specs.Option.{option_map, option_or}
 use Rattle.std.specs.Str.{bytes_eq}
 use Rattle.std.specs.Ordering.{nat_cmp, is_eq}
 use Rattle.std.specs.Cmp.Lexicographic.{slice_cmp}
 use Rattle.std.specs.BTreeMap.{BTreeMap, get}
 use Rattle.std.specs.BTreeSet.{BTreeSet, contains}
-use Rattle.std.proofs.lemmas.Bool.{eqb-true, ltb-true}
+use Rattle.std.proofs.lemmas.Bool.{eqb-true, ltb-true, and_parts}
 use Rattle.std.specs.declared.cmp.Ordering.TheVariants.{Less, Equal, Greater}
 use Rattle.std.proofs.lemmas.List.Folds.{list_any-append}
 use Rattle.std.proofs.lemmas.Option.{same_Some}
-use Rattle.tracefs_format.proofs.TableLemmas.{inserted}
+use Rattle.tracefs_format.proofs.ForOthers.{bytes_eq-full_name, set_inserted}
 use Rattle.tracefs_format.specs.declared.format.Format.{Format}
-use Rattle.rec_format.specs.Checks.{tracepoint_name, is_same_event, format_with}
+use Rattle.tracefs_format.specs.ByName.{full_name, is_same_tracepoint}
+use Rattle.tracefs_format.specs.Names.{has_no_colon}
+use Rattle.rec_format.specs.Checks.{is_system_byte, is_system, is_same_event}
+use Rattle.rec_format.specs.Events.{format_with}
+use Rattle.rec_format.specs.declared.check.TheConstants.{SYSTEM_BYTES}
 use Rattle.rec_format.specs.Answers.{IsTable}
+use Rattle.rec_format.proofs.Lists.{each_more}
 
 -- ---- by ID
 
@@ -80,22 +85,40 @@ any_id f (g ∷ fs) =
       | false ↦ any_id f fs ∙ elim (format_with f.layout.id fs) as (λ o. is_some o ≡ is_some (option_map later o)) [ None ↦ refl | Some q ↦ refl ]
     ]
 
-any_same : (f : Format) (fs : List Format) → list_any (is_same_event f) fs ≡ (list_any (λ g. g.layout.id == f.layout.id) fs || list_any (λ g. bytes_eq (tracepoint_name g) (tracepoint_name f)) fs)
-any_same f [] = refl
-any_same f (g ∷ fs) =
-    ap (λ v. (g.layout.id == f.layout.id || bytes_eq (tracepoint_name g) (tracepoint_name f)) || v) (any_same f fs)
-    ∙ or_regrouped (g.layout.id == f.layout.id) (bytes_eq (tracepoint_name g) (tracepoint_name f)) (list_any (λ g. g.layout.id == f.layout.id) fs) (list_any (λ g. bytes_eq (tracepoint_name g) (tracepoint_name f)) fs)
+abbrev NoColon : Format → Type 0
+NoColon f = IsTrue (has_no_colon f.system)
+
+any_same : (f : Format) (fs : List Format) → NoColon f → AllByRecursion NoColon fs
+    → list_any (is_same_event f) fs ≡ (list_any (λ g. g.layout.id == f.layout.id) fs || list_any (λ g. bytes_eq (full_name g) (full_name f)) fs)
+any_same f [] h all = refl
+any_same f (g ∷ fs) h all =
+    ap (λ v. (g.layout.id == f.layout.id || is_same_tracepoint g f) || v) (any_same f fs h all.1)
+    ∙ ap (λ v. (g.layout.id == f.layout.id || v) || (list_any (λ g. g.layout.id == f.layout.id) fs || list_any (λ g. bytes_eq (full_name g) (full_name f)) fs)) (sym (bytes_eq-full_name g f all.0 h))
+    ∙ or_regrouped (g.layout.id == f.layout.id) (bytes_eq (full_name g) (full_name f)) (list_any (λ g. g.layout.id == f.layout.id) fs) (list_any (λ g. bytes_eq (full_name g) (full_name f)) fs)
 
 some_place : (o : Option (ℕ × Format)) → is_some o ≡ is_some (option_map place_in o)
 some_place None = refl
 some_place (Some q) = refl
 
-pub same_known : (fs : List Format) (places : BTreeMap ℕ ℕ) (names : BTreeSet (List ℕ)) (f : Format) → IsTable fs places names
-    → list_any (is_same_event f) fs ≡ (is_some (get nat_cmp places f.layout.id) || contains (slice_cmp nat_cmp) names (tracepoint_name f))
-same_known fs places names f t =
-    any_same f fs
-    ∙ ap (λ v. v || list_any (λ g. bytes_eq (tracepoint_name g) (tracepoint_name f)) fs) (any_id f fs ∙ some_place (format_with f.layout.id fs) ∙ ap is_some (sym (t.by_id f.layout.id)))
-    ∙ ap (λ v. is_some (get nat_cmp places f.layout.id) || v) (sym (t.by_name (tracepoint_name f)))
+pub same_known : (fs : List Format) (places : BTreeMap ℕ ℕ) (names : BTreeSet (List ℕ)) (f : Format) → NoColon f → IsTable fs places names
+    → list_any (is_same_event f) fs ≡ (is_some (get nat_cmp places f.layout.id) || contains (slice_cmp nat_cmp) names (full_name f))
+same_known fs places names f h t =
+    any_same f fs h t.systems
+    ∙ ap (λ v. v || list_any (λ g. bytes_eq (full_name g) (full_name f)) fs) (any_id f fs ∙ some_place (format_with f.layout.id fs) ∙ ap is_some (sym (t.by_id f.layout.id)))
+    ∙ ap (λ v. is_some (get nat_cmp places f.layout.id) || v) (sym (t.by_name (full_name f)))
+
+-- a system has no colon
+all_no_colon : (bytes : List ℕ) → list_all is_system_byte bytes ≡ true → IsTrue (has_no_colon bytes)
+all_no_colon [] h = refl
+all_no_colon (b ∷ bs) h =
+    let parts = and_parts (is_system_byte b) (list_all is_system_byte bs) h in
+    rw (no_colon b parts.0) (all_no_colon bs parts.1)
+  where
+    no_colon : (b : ℕ) → is_system_byte b ≡ true → not (b == 58) ≡ true
+    no_colon b h = grind arith
+
+pub system-no_colon : (system : List ℕ) → is_system system ≡ true → IsTrue (has_no_colon system)
+system-no_colon system h = all_no_colon system (and_parts (nat_lt 0 (length system) && nat_le (length system) SYSTEM_BYTES) (list_all is_system_byte system) h).1
 
 -- ---- a format is added
 
@@ -126,12 +149,12 @@ equal_cmp x y =
       | false ↦ λ more. elim (x == y) as (λ b. is_eq (cond b Equal Greater) ≡ b) [ true ↦ refl | false ↦ refl ]
     ]) refl
 
-pub table_added : (fs later : List Format) (places places_later : BTreeMap ℕ ℕ) (names names_later : BTreeSet (List ℕ)) (f : Format) (place : ℕ) (name : List ℕ) → IsTable fs places names
-    → later ≡ fs ++ f ∷ [] → place ≡ length fs → name ≡ tracepoint_name f → is_some (get nat_cmp places f.layout.id) ≡ false
+pub table_added : (fs later : List Format) (places places_later : BTreeMap ℕ ℕ) (names names_later : BTreeSet (List ℕ)) (f : Format) (place : ℕ) (name : List ℕ) → NoColon f → IsTable fs places names
+    → later ≡ fs ++ f ∷ [] → place ≡ length fs → name ≡ full_name f → is_some (get nat_cmp places f.layout.id) ≡ false
     → ((id : ℕ) → get nat_cmp places_later id ≡ cond (is_eq (nat_cmp f.layout.id id)) (Some place) (get nat_cmp places id))
     → ((other : List ℕ) → contains (slice_cmp nat_cmp) names_later other ≡ cond (is_eq (slice_cmp nat_cmp name other)) true (contains (slice_cmp nat_cmp) names other))
     → IsTable later places_later names_later
-table_added fs later places places_later names names_later f place name t added placed named fresh by_id by_name =
+table_added fs later places places_later names names_later f place name no_colon t added placed named fresh by_id by_name =
     let here : IsTable (fs ++ f ∷ []) places_later names_later = record {
       by_id = λ id.
           let now : get nat_cmp places_later id ≡ cond (f.layout.id == id) (Some place) (get nat_cmp places id) = by_id id ∙ ap (λ b. cond b (Some place) (get nat_cmp places id)) (equal_cmp f.layout.id id) in
@@ -140,10 +163,11 @@ table_added fs later places places_later names names_later f place name t added 
           added_id (f.layout.id == id) place f (format_with id fs) (get nat_cmp places id) (get nat_cmp places_later id) (length fs) (t.by_id id) now placed none
           ∙ ap (option_map place_in) (sym (with_more id fs f));
       by_name = λ other.
-          let test : Format → Bool = λ g. bytes_eq (tracepoint_name g) other in
-          inserted (tracepoint_name f) name other (contains (slice_cmp nat_cmp) names other) (contains (slice_cmp nat_cmp) names_later other) named (by_name other)
-          ∙ ap (λ v. bytes_eq (tracepoint_name f) other || v) (t.by_name other)
-          ∙ or_last (list_any test fs) (bytes_eq (tracepoint_name f) other)
+          let test : Format → Bool = λ g. bytes_eq (full_name g) other in
+          set_inserted (full_name f) name other (contains (slice_cmp nat_cmp) names other) (contains (slice_cmp nat_cmp) names_later other) named (by_name other)
+          ∙ ap (λ v. bytes_eq (full_name f) other || v) (t.by_name other)
+          ∙ or_last (list_any test fs) (bytes_eq (full_name f) other)
           ∙ sym (list_any-append test fs (f ∷ []));
+      systems = each_more NoColon fs f t.systems no_colon;
     } in
     subst (λ gs. IsTable gs places_later names_later) (sym added) here

@@ -1,93 +1,39 @@
 -- Bytes are one recording or have one fault: a reading that is a function of the bytes goes the same way.
-use Rattle.std.proofs.Common.{◌≡◌, ◌≢◌, ◌⊎◌, ℕ, zero, suc, ◌+◌, ◌-◌, ◌<◌, ◌≤◌, Bool, false, cond, ◌||◌, Option, Some, None, Result, Ok, Err, List, [], ◌∷◌, ◌++◌, length, drop, refl, ap, sym, subst, ◌∙◌, append_assoc, arith, inl, inr}
-use Rattle.std.specs.Prelude.{nat_lt, nat_le, ◌&&◌, unwrap_or, ◌==◌}
-use Rattle.std.specs.List.{flat_map, list_all, list_any, slice_get, AllByRecursion}
-use Rattle.std.specs.Option.{option_map}
-use Rattle.std.proofs.lemmas.Bool.{le-ltb, eq-eqb, ne_eqb, leb-true, and_parts}
-use Rattle.std.proofs.lemmas.List.{append-nil, length-append, length-take, take-append-drop}
-use Rattle.std.proofs.lemmas.List.Concat.{flat_map-cons}
+use Rattle.std.proofs.Common.{◌≡◌, ◌≢◌, ◌⊎◌, ℕ, ◌+◌, ◌-◌, ◌≤◌, Bool, false, cond, ◌||◌, Option, Some, None, Result, Ok, Err, List, [], ◌∷◌, ◌++◌, length, refl, ap, sym, subst, ◌∙◌, append_assoc, arith, inl, inr}
+use Rattle.std.specs.Prelude.{nat_lt, nat_le, ◌&&◌, ◌==◌}
+use Rattle.std.specs.List.{list_all, list_any, AllByRecursion}
+use Rattle.std.proofs.lemmas.Bool.{le-ltb, ne_eqb, leb-true, and_parts}
+use Rattle.std.proofs.lemmas.List.{append-nil, length-append}
 use Rattle.std.proofs.lemmas.Option.{same_Some}
-use Rattle.byteorder.specs.Endian.{little_bytes, little_number}
-use Rattle.byteorder.specs.Numbers.{length-bytes_low_first, little_number-reads_back}
+use Rattle.bt_core.specs.declared.limits.TheConstants.{CPUS, FORMATS, EVENTS}
 use Rattle.tracefs_format.specs.declared.format.Format.{Format}
 use Rattle.tracefs_format.specs.declared.error.FormatError.{FormatError}
 use Rattle.tracefs_format.specs.declared.layout.Layout.{Layout}
 use Rattle.tracefs_format.specs.Layouts.{IsLayoutOf, layout_fault}
-use Rattle.tracefs_format.proofs.LayoutLaws.{layout_or_fault, IsLayoutOf-read, one_layout}
+use Rattle.tracefs_format.proofs.ForOthers.{text_layout_or_fault, text_no_fault, text_one_layout}
+use Rattle.rec_format.specs.declared.check.TheConstants.{SYSTEM_BYTES}
 use Rattle.rec_format.specs.declared.error.RecordingError.{RecordingError}
 use Rattle.rec_format.specs.declared.error.RecordingError.TheVariants as fault
 use Rattle.rec_format.specs.declared.error.CountOf.TheVariants as count
 use Rattle.rec_format.specs.declared.recording.Recording.{Recording}
 use Rattle.rec_format.specs.declared.recording.CpuTrack.{CpuTrack}
 use Rattle.rec_format.specs.declared.recording.Event.{Event}
-use Rattle.rec_format.specs.Parts.{HeaderPart, header_bytes, header_at, FormatPart, IsFormatPart, format_bytes, format_at, CpuPart, IsCpuPart, cpu_bytes, cpu_at, EventPart, IsEventPart, event_bytes, event_at}
-use Rattle.rec_format.specs.Checks.{header_fault, is_system_byte, is_system, is_same_event, format_of, IsFormatFault, format_with, payload_fault, time_after, event_fault, least_after, total_events, cpu_fault}
-use Rattle.rec_format.specs.Recordings.{header_of, part_of_format, part_of_event, head_of_track, formats_bytes, events_bytes, track_bytes, tracks_bytes, recording_bytes, IsFormat, AreApart, AreFormats, IsEvent, AreInTime, IsTrack, AreNumbered, IsValidRecording}
-use Rattle.rec_format.specs.Faults.{IsCutShort, IsRefused, HeaderFails, HasHeader, FormatFails, HasFormats, EventFails, HasEvents, TrackFails, CpuFails, HasTracks, IsRecordingFault}
-use Rattle.rec_format.specs.Answers.{Answers, event_of, IsSpelled}
+use Rattle.rec_format.specs.Parts.{HeaderPart, header_bytes, FormatPart, IsFormatPart, format_bytes, CpuPart, IsCpuPart, cpu_bytes}
+use Rattle.rec_format.specs.Fronts.{header_at, format_at, cpu_at}
+use Rattle.rec_format.specs.Stops.{IsCutShort, IsRefused}
+use Rattle.rec_format.specs.Checks.{header_fault, is_system_byte, is_system, is_same_event, format_of, IsFormatFault, cpu_fault}
+use Rattle.rec_format.specs.Entries.{entries_bytes, HasEntries}
+use Rattle.rec_format.specs.Events.{events}
+use Rattle.rec_format.specs.Recordings.{header_of, part_of_format, head_of_track, formats_bytes, track_bytes, tracks_bytes, recording_bytes, total_entries, IsFormat, AreApart, AreFormats, IsTrack, AreNumbered, IsValidRecording}
+use Rattle.rec_format.specs.Faults.{HeaderFails, HasHeader, FormatFails, HasFormats, least_after, HeadHasFault, TrackFails, CpuFails, HasTracks, IsRecordingFault}
+use Rattle.rec_format.specs.Answers.{Answers, IsSpelled}
 use Rattle.rec_format.proofs.Fields.{IsBytes}
-use Rattle.rec_format.proofs.PartLaws.{header_reads, format_reads, cpu_reads, event_reads, nothing_read}
-use Rattle.rec_format.proofs.TableLaws.{later}
-use Rattle.rec_format.proofs.LoopLaws.{or_parts, suffix_fits, time_more, least_more, total_more, total_first}
-
--- ---- steps that may fail
-
-abbrev then_read : {A B : Type 0} → Result A RecordingError → (A → Result B RecordingError) → Result B RecordingError
-then_read (Ok x) f = f x
-then_read (Err e) f = Err e
-
--- a part that stands there, or else the length of all bytes
-abbrev whole_part : {P : Type 0} → ℕ → Option (P × List ℕ) → Result (P × List ℕ) RecordingError
-whole_part whole None = Err (fault.Truncated whole)
-whole_part whole (Some p) = Ok p
-
--- a value, unless there is a fault
-abbrev unless_fault : {A : Type 0} → Option RecordingError → A → Result A RecordingError
-unless_fault None x = Ok x
-unless_fault (Some e) x = Err e
-
--- items one after the other, each by those before it
-many : {X : Type 0} → (List X → List ℕ → Result (X × List ℕ) RecordingError) → ℕ → List X → List ℕ → Result (List X × List ℕ) RecordingError
-many step zero acc bytes = Ok (acc, bytes)
-many step (suc n) acc bytes = then_read (step acc bytes) (λ x. many step n (acc ++ x.0 ∷ []) x.1)
-
--- each item fits behind those before it
-abbrev Chain : {X : Type 0} → (List X → X → Type 0) → List X → List X → Type 0
-Chain Fits acc [] = Unit {0}
-Chain Fits acc (x ∷ xs) = Fits acc x × Chain Fits (acc ++ x ∷ []) xs
-
-many_again : {X : Type 0} (step : List X → List ℕ → Result (X × List ℕ) RecordingError) (spelling : X → List ℕ) (Fits : List X → X → Type 0)
-    → ((acc : List X) (x : X) (rest : List ℕ) → Fits acc x → step acc (spelling x ++ rest) ≡ Ok (x, rest))
-    → (xs acc : List X) (n : ℕ) (rest : List ℕ) → Chain Fits acc xs → many step (length xs + n) acc (flat_map spelling xs ++ rest) ≡ many step n (acc ++ xs) rest
-unfolding many
-many_again step spelling Fits law [] acc n rest chain = ap (λ (k : ℕ). many step k acc rest) (omega arith) ∙ ap (λ a. many step n a rest) (sym (append-nil acc))
-many_again step spelling Fits law (x ∷ xs) acc n rest chain =
-    let count : length (x ∷ xs) + n ≡ suc (length xs + n) = omega arith in
-    let bytes : flat_map spelling (x ∷ xs) ++ rest ≡ spelling x ++ (flat_map spelling xs ++ rest) =
-    ap (λ (l : List ℕ). l ++ rest) (flat_map-cons spelling x xs) ∙ append_assoc (spelling x) (flat_map spelling xs) rest in
-    ap (λ (k : ℕ). many step k acc (flat_map spelling (x ∷ xs) ++ rest)) count
-    ∙ ap (many step (suc (length xs + n)) acc) bytes
-    ∙ ap (λ r. then_read r (λ y. many step (length xs + n) (acc ++ y.0 ∷ []) y.1)) (law acc x (flat_map spelling xs ++ rest) chain.0)
-    ∙ many_again step spelling Fits law xs (acc ++ x ∷ []) n rest chain.1
-    ∙ ap (λ a. many step n a rest) (append_assoc acc (x ∷ []) xs)
-
-many_all : {X : Type 0} (step : List X → List ℕ → Result (X × List ℕ) RecordingError) (spelling : X → List ℕ) (Fits : List X → X → Type 0)
-    → ((acc : List X) (x : X) (rest : List ℕ) → Fits acc x → step acc (spelling x ++ rest) ≡ Ok (x, rest))
-    → (xs : List X) (n : ℕ) (bytes rest : List ℕ) → Chain Fits [] xs → length xs ≡ n → bytes ≡ flat_map spelling xs ++ rest → many step n [] bytes ≡ Ok (xs, rest)
-unfolding many
-many_all step spelling Fits law xs n bytes rest chain counted spelled =
-    let count : n ≡ length xs + 0 = omega (arith, counted) in
-    ap (λ (k : ℕ). many step k [] bytes) count ∙ ap (many step (length xs + 0) []) spelled ∙ many_again step spelling Fits law xs [] 0 rest chain
-
-many_fails : {X : Type 0} (step : List X → List ℕ → Result (X × List ℕ) RecordingError) (spelling : X → List ℕ) (Fits : List X → X → Type 0)
-    → ((acc : List X) (x : X) (rest : List ℕ) → Fits acc x → step acc (spelling x ++ rest) ≡ Ok (x, rest))
-    → (xs : List X) (n : ℕ) (bytes rest : List ℕ) (e : RecordingError) → Chain Fits [] xs → length xs < n → bytes ≡ flat_map spelling xs ++ rest → step xs rest ≡ Err e → many step n [] bytes ≡ Err e
-unfolding many
-many_fails step spelling Fits law xs n bytes rest e chain due spelled fails =
-    let left : ℕ = n - (length xs + 1) in
-    let count : n ≡ length xs + suc left = omega arith in
-    ap (λ (k : ℕ). many step k [] bytes) count ∙ ap (many step (length xs + suc left) []) spelled ∙ many_again step spelling Fits law xs [] (suc left) rest chain
-    ∙ ap (λ r. then_read r (λ y. many step left (xs ++ y.0 ∷ []) y.1)) fails
+use Rattle.rec_format.proofs.Lists.{suffix_fits}
+use Rattle.rec_format.proofs.Many.{then_read, whole_part, unless_fault, many, Chain, many_all, many_fails}
+use Rattle.rec_format.proofs.PartLaws.{header_reads, format_reads, cpu_reads, nothing_read}
+use Rattle.rec_format.proofs.EntryLaws.{read_entry, entries_again, entries_fail}
+use Rattle.rec_format.proofs.EventLaws.{events_readable}
+use Rattle.rec_format.proofs.LoopLaws.{least_more, total_more, total_first}
 
 -- ---- the header
 
@@ -115,19 +61,19 @@ layout_read text (inl l) = Ok l.0
 layout_read text (inr e) = Err e.0
 
 read_text : List ℕ → Result Layout FormatError
-read_text text = layout_read text (layout_or_fault text)
+read_text text = layout_read text (text_layout_or_fault text)
 
 text_again : (text : List ℕ) (layout : Layout) → IsLayoutOf text layout → read_text text ≡ Ok layout
 unfolding read_text
-text_again text layout is = (elim (layout_or_fault text) as (λ o. layout_read text o ≡ Ok layout) [
-  | inl l ↦ ap (λ (x : Layout). Ok x) (one_layout text l.0 layout l.1 is)
-  | inr e ↦ let clash : None ≡ Some e.0 = sym (IsLayoutOf-read text layout is).0 ∙ e.1 in absurd cc
+text_again text layout is = (elim (text_layout_or_fault text) as (λ o. layout_read text o ≡ Ok layout) [
+  | inl l ↦ ap (λ (x : Layout). Ok x) (text_one_layout text l.0 layout l.1 is)
+  | inr e ↦ let clash : None ≡ Some e.0 = sym (text_no_fault text layout is) ∙ e.1 in absurd cc
 ])
 
 text_fails : (text : List ℕ) (e : FormatError) → layout_fault text ≡ Some e → read_text text ≡ Err e
 unfolding read_text
-text_fails text e broken = (elim (layout_or_fault text) as (λ o. layout_read text o ≡ Err e) [
-  | inl l ↦ let clash : None ≡ Some e = sym (IsLayoutOf-read text l.0 l.1).0 ∙ broken in absurd cc
+text_fails text e broken = (elim (text_layout_or_fault text) as (λ o. layout_read text o ≡ Err e) [
+  | inl l ↦ let clash : None ≡ Some e = sym (text_no_fault text l.0 l.1) ∙ broken in absurd cc
   | inr f ↦ ap (λ (x : FormatError). Err x) (same_Some f.0 e (sym f.1 ∙ broken))
 ])
 
@@ -151,9 +97,9 @@ after_format earlier r = then_read r (λ p. then_read (checked_format earlier p.
 
 system_short : (f : Format) → IsFormat f → IsFormatPart (part_of_format f)
 system_short f is =
-    let tests = and_parts (nat_lt 0 (length f.system) && nat_le (length f.system) 64) (list_all is_system_byte f.system) is.system in
-    let lengths = and_parts (nat_lt 0 (length f.system)) (nat_le (length f.system) 64) tests.0 in
-    let short = leb-true (length f.system) 64 lengths.1 in
+    let tests = and_parts (nat_lt 0 (length f.system) && nat_le (length f.system) SYSTEM_BYTES) (list_all is_system_byte f.system) is.system in
+    let lengths = and_parts (nat_lt 0 (length f.system)) (nat_le (length f.system) SYSTEM_BYTES) tests.0 in
+    let short = leb-true (length f.system) SYSTEM_BYTES lengths.1 in
     record { system = omega arith; text = is.short }
 
 format_step : (whole : ℕ) (earlier : List Format) (f : Format) (rest : List ℕ) → FormatFits earlier f → read_format whole earlier (format_bytes (part_of_format f) ++ rest) ≡ Ok (f, rest)
@@ -207,113 +153,16 @@ formats_fail whole n bytes e fits f =
     many_fails (read_format whole) format_spelling FormatFits (format_step whole) f.formats n bytes f.rest e (formats_chain f.formats [] f.pass.each f.pass.apart) f.due f.spelled
     (format_stops whole f.formats f.rest e (suffix_fits (formats_bytes f.formats) f.rest bytes f.spelled fits) f.fails)
 
--- ---- an event
-
-pick_at : (P : Format → Type 0) (fs : List Format) (i : ℕ) (f : Format) → AllByRecursion P fs → slice_get fs i ≡ Some f → P f
-pick_at P [] i f all h = absurd cc
-pick_at P (g ∷ gs) zero f all h = subst P (same_Some g f h) all.0
-pick_at P (g ∷ gs) (suc i) f all h = pick_at P gs i f all.1 h
-
--- the format at a place is the one that is found by its ID
-known_format : (fs : List Format) (i : ℕ) (f : Format) → AreApart fs → slice_get fs i ≡ Some f → format_with f.layout.id fs ≡ Some (i, f)
-known_format [] i f apart h = absurd cc
-known_format (g ∷ gs) zero f apart h =
-    let same : g ≡ f = same_Some g f h in
-    ap (λ b. cond b (Some (0, g)) (option_map later (format_with f.layout.id gs))) (eq-eqb g.layout.id f.layout.id (ap (λ (x : Format). x.layout.id) same)) ∙ ap (λ (x : Format). Some (0, x)) same
-known_format (g ∷ gs) (suc i) f apart h =
-    let other : is_same_event f g ≡ false = pick_at (λ x. is_same_event x g ≡ false) gs i f apart.0 h in
-    ap (λ b. cond b (Some (0, g)) (option_map later (format_with f.layout.id gs))) (or_parts (g.layout.id == f.layout.id) _ other).0 ∙ ap (option_map later) (known_format gs i f apart.1 h)
-
-abbrev place_of : List Format → EventPart → ℕ
-place_of formats part = unwrap_or (option_map (λ found. found.0) (format_with (little_number 2 part.payload) formats)) 0
-
-read_event : ℕ → List Format → ℕ → ℕ → ℕ → List Event → List ℕ → Result (Event × List ℕ) RecordingError
-read_event whole formats start end cpu acc bytes =
-    then_read (whole_part whole (event_at bytes)) (λ p. unless_fault (event_fault formats (time_after start acc) end cpu (length acc) p.0) (event_of p.0 (place_of formats p.0), p.1))
-
-abbrev after_event : List Format → ℕ → ℕ → ℕ → List Event → Result (EventPart × List ℕ) RecordingError → Result (Event × List ℕ) RecordingError
-after_event formats start end cpu acc r = then_read r (λ p. unless_fault (event_fault formats (time_after start acc) end cpu (length acc) p.0) (event_of p.0 (place_of formats p.0), p.1))
-
-record EventFits (formats : List Format) (start end : ℕ) (acc : List Event) (e : Event) : Type 0 where
-  is : IsEvent formats e
-  low : time_after start acc ≤ e.time
-  high : e.time ≤ end
-
--- the ID that an event's payload begins with
-event_id : (formats : List Format) (e : Event) → AreFormats formats → (is : IsEvent formats e) → little_number 2 e.payload ≡ is.format.layout.id
-event_id formats e pass is =
-    let f : IsFormat is.format = pick_at IsFormat formats e.format is.format pass.each is.placed in
-    let payload : e.payload ≡ little_bytes 2 is.format.layout.id ++ drop 2 e.payload = sym (take-append-drop 2 e.payload) ∙ ap (λ (l : List ℕ). l ++ drop 2 e.payload) is.begins in
-    ap (λ (l : List ℕ). little_number 2 l) payload ∙ little_number-reads_back 2 is.format.layout.id (drop 2 e.payload) (omega (arith, f.layout.id.within))
-
-event_known : (formats : List Format) (e : Event) → AreFormats formats → (is : IsEvent formats e) → format_with (little_number 2 e.payload) formats ≡ Some (e.format, is.format)
-event_known formats e pass is = ap (λ (id : ℕ). format_with id formats) (event_id formats e pass is) ∙ known_format formats e.format is.format pass.apart is.placed
-
-no_fault : (formats : List Format) (earliest latest cpu place : ℕ) (e : Event) → AreFormats formats → IsEvent formats e → earliest ≤ e.time → e.time ≤ latest → event_fault formats earliest latest cpu place (part_of_event e) ≡ None
-no_fault formats earliest latest cpu place e pass is low high =
-    let len : ℕ = length e.payload in
-    let two : 2 ≤ len = omega (arith, ap length is.begins, length-take 2 e.payload, length-bytes_low_first 0 2 is.format.layout.id) in
-    let behind : Option RecordingError = payload_fault cpu place len (format_with (little_number 2 e.payload) formats) in
-    let on_len : Bool → Option RecordingError = λ b. cond b (Some (fault.ShortPayload cpu place)) behind in
-    ap (λ b. cond (b || nat_lt latest e.time) (Some (fault.TimeOrder cpu place)) (on_len (nat_lt len 2))) (le-ltb e.time earliest low)
-    ∙ ap (λ b. cond b (Some (fault.TimeOrder cpu place)) (on_len (nat_lt len 2))) (le-ltb latest e.time high)
-    ∙ ap on_len (le-ltb len 2 two)
-    ∙ ap (payload_fault cpu place len) (event_known formats e pass is)
-    ∙ ap (λ b. cond b (Some (fault.ShortPayload cpu place)) None) (le-ltb len is.format.layout.size is.long)
-
-event_step : (whole : ℕ) (formats : List Format) (start end cpu : ℕ) → AreFormats formats → (acc : List Event) (e : Event) (rest : List ℕ) → EventFits formats start end acc e
-    → read_event whole formats start end cpu acc (event_bytes (part_of_event e) ++ rest) ≡ Ok (e, rest)
-unfolding read_event
-event_step whole formats start end cpu pass acc e rest fits =
-    let part : EventPart = part_of_event e in
-    let place : place_of formats part ≡ e.format = ap (λ o. unwrap_or (option_map (λ (found : ℕ × Format). found.0) o) 0) (event_known formats e pass fits.is) in
-    ap (λ o. after_event formats start end cpu acc (whole_part whole o)) (event_reads.again part rest fits.is.whole)
-    ∙ ap (λ o. unless_fault o (event_of part (place_of formats part), rest)) (no_fault formats (time_after start acc) end cpu (length acc) e pass fits.is fits.low fits.high)
-    ∙ ap (λ (i : ℕ). Ok (event_of part i, rest)) place
-
-event_stops : (whole : ℕ) (formats : List Format) (start end cpu : ℕ) (acc : List Event) (bytes : List ℕ) (e : RecordingError) → IsBytes bytes
-    → IsCutShort IsEventPart event_bytes whole bytes e
-    ⊎ IsRefused IsEventPart event_bytes (λ part e. event_fault formats (time_after start acc) end cpu (length acc) part ≡ Some e) bytes e → read_event whole formats start end cpu acc bytes ≡ Err e
-unfolding read_event
-event_stops whole formats start end cpu acc bytes e fits (inl cut) =
-    ap (λ o. after_event formats start end cpu acc (whole_part whole o)) (nothing_read event_reads whole bytes e fits cut) ∙ ap (λ (x : RecordingError). Err x) (sym cut.told)
-event_stops whole formats start end cpu acc bytes e fits (inr r) =
-    ap (λ o. after_event formats start end cpu acc (whole_part whole o)) (ap event_at r.spelled ∙ event_reads.again r.part r.rest r.is_whole)
-    ∙ ap (λ o. unless_fault o (event_of r.part (place_of formats r.part), r.rest)) r.has_fault
-
-events_chain : (formats : List Format) (start end : ℕ) (es acc : List Event) → AllByRecursion (IsEvent formats) es → AreInTime (time_after start acc) end es → Chain (EventFits formats start end) acc es
-events_chain formats start end [] acc each in_time = tt
-events_chain formats start end (e ∷ es) acc each in_time = (
-  record { is = each.0; low = in_time.0; high = in_time.1 },
-  events_chain formats start end es (acc ++ e ∷ []) each.1 (subst (λ (t : ℕ). AreInTime t end es) (sym (time_more start acc e)) in_time.2),
-)
-
-abbrev event_spelling : Event → List ℕ
-event_spelling e = event_bytes (part_of_event e)
-
-events_again : (whole : ℕ) (formats : List Format) (start end cpu n : ℕ) (bytes rest : List ℕ) (es : List Event) → AreFormats formats → HasEvents formats start end n bytes es rest
-    → many (read_event whole formats start end cpu) n [] bytes ≡ Ok (es, rest)
-events_again whole formats start end cpu n bytes rest es pass has =
-    many_all (read_event whole formats start end cpu) event_spelling (EventFits formats start end) (event_step whole formats start end cpu pass) es n bytes rest
-    (events_chain formats start end es [] has.pass.each has.pass.in_time) has.counted has.spelled
-
-events_fail : (whole : ℕ) (formats : List Format) (start end cpu n : ℕ) (bytes : List ℕ) (e : RecordingError) → IsBytes bytes → AreFormats formats → EventFails whole formats start end cpu n bytes e
-    → many (read_event whole formats start end cpu) n [] bytes ≡ Err e
-events_fail whole formats start end cpu n bytes e fits pass f =
-    many_fails (read_event whole formats start end cpu) event_spelling (EventFits formats start end) (event_step whole formats start end cpu pass) f.events n bytes f.rest e
-    (events_chain formats start end f.events [] f.pass.each f.pass.in_time) f.due f.spelled
-    (event_stops whole formats start end cpu f.events f.rest e (suffix_fits (events_bytes f.events) f.rest bytes f.spelled fits) f.fails)
-
 -- ---- a CPU
 
 abbrev track_of : CpuPart → List Event × List ℕ → CpuTrack × List ℕ
 track_of head es = (record { number = head.number; events = es.0 }, es.1)
 
 abbrev read_rest : ℕ → List Format → ℕ → ℕ → List CpuTrack → CpuPart × List ℕ → Result (CpuTrack × List ℕ) RecordingError
-read_rest whole formats start end acc h = then_read (many (read_event whole formats start end (length acc)) h.0.events [] h.1) (λ es. Ok (track_of h.0 es))
+read_rest whole formats start end acc h = then_read (many (read_entry events events_readable whole formats start end (length acc)) h.0.entries [] h.1) (λ es. Ok (track_of h.0 es))
 
 abbrev after_head : ℕ → List Format → ℕ → ℕ → List CpuTrack → Result (CpuPart × List ℕ) RecordingError → Result (CpuTrack × List ℕ) RecordingError
-after_head whole formats start end acc r = then_read r (λ h. then_read (unless_fault (cpu_fault (length acc) (least_after 0 acc) (total_events acc) h.0) h) (read_rest whole formats start end acc))
+after_head whole formats start end acc r = then_read r (λ h. then_read (unless_fault (cpu_fault (length acc) (least_after 0 acc) (total_entries acc) h.0) h) (read_rest whole formats start end acc))
 
 read_track : ℕ → List Format → ℕ → ℕ → List CpuTrack → List ℕ → Result (CpuTrack × List ℕ) RecordingError
 read_track whole formats start end acc bytes = after_head whole formats start end acc (whole_part whole (cpu_at bytes))
@@ -321,29 +170,29 @@ read_track whole formats start end acc bytes = after_head whole formats start en
 record TrackFits (formats : List Format) (start end : ℕ) (acc : List CpuTrack) (c : CpuTrack) : Type 0 where
   is : IsTrack formats start end c
   low : least_after 0 acc ≤ c.number
-  few : total_events acc + length c.events ≤ 1048576
+  few : total_entries acc + length c.events ≤ EVENTS
 
-no_head_fault : (place least announced : ℕ) (head : CpuPart) → least ≤ head.number → announced + head.events ≤ 1048576 → cpu_fault place least announced head ≡ None
+no_head_fault : (place least announced : ℕ) (head : CpuPart) → least ≤ head.number → announced + head.entries ≤ EVENTS → cpu_fault place least announced head ≡ None
 no_head_fault place least announced head low few =
     let on_events : Bool → Option RecordingError = λ b. cond b (Some (fault.Count count.Events)) None in
-    ap (λ b. cond b (Some (fault.CpuNumber place)) (on_events (nat_lt 1048576 (announced + head.events)))) (le-ltb head.number least low)
-    ∙ ap on_events (le-ltb 1048576 (announced + head.events) few)
+    ap (λ b. cond b (Some (fault.CpuNumber place)) (on_events (nat_lt EVENTS (announced + head.entries)))) (le-ltb head.number least low)
+    ∙ ap on_events (le-ltb EVENTS (announced + head.entries) few)
 
 track_step : (whole : ℕ) (formats : List Format) (start end : ℕ) → AreFormats formats → (acc : List CpuTrack) (c : CpuTrack) (rest : List ℕ) → TrackFits formats start end acc c
     → read_track whole formats start end acc (track_bytes c ++ rest) ≡ Ok (c, rest)
 unfolding read_track
 track_step whole formats start end pass acc c rest fits =
     let head : CpuPart = head_of_track c in
-    let behind : List ℕ = events_bytes c.events ++ rest in
-    let is : IsCpuPart head = record { number = fits.is.number; events = omega (arith, fits.few) } in
-    let has : HasEvents formats start end (length c.events) behind c.events rest = record { spelled = refl; pass = fits.is.events; counted = refl } in
-    ap (λ o. after_head whole formats start end acc (whole_part whole o)) (ap cpu_at (append_assoc (cpu_bytes head) (events_bytes c.events) rest) ∙ cpu_reads.again head behind is)
-    ∙ ap (λ o. then_read (unless_fault o (head, behind)) (read_rest whole formats start end acc)) (no_head_fault (length acc) (least_after 0 acc) (total_events acc) head fits.low fits.few)
-    ∙ ap (λ r. then_read r (λ es. Ok (track_of head es))) (events_again whole formats start end (length acc) (length c.events) behind rest c.events pass has)
+    let behind : List ℕ = entries_bytes events c.events ++ rest in
+    let is : IsCpuPart head = record { number = fits.is.number; entries = omega (arith, fits.few) } in
+    let has : HasEntries events formats start end (length c.events) behind c.events rest = record { spelled = refl; pass = fits.is.events; counted = refl } in
+    ap (λ o. after_head whole formats start end acc (whole_part whole o)) (ap cpu_at (append_assoc (cpu_bytes head) (entries_bytes events c.events) rest) ∙ cpu_reads.again head behind is)
+    ∙ ap (λ o. then_read (unless_fault o (head, behind)) (read_rest whole formats start end acc)) (no_head_fault (length acc) (least_after 0 acc) (total_entries acc) head fits.low fits.few)
+    ∙ ap (λ r. then_read r (λ es. Ok (track_of head es))) (entries_again events events_readable whole formats start end (length acc) (length c.events) behind rest c.events pass has)
 
 track_stops : (whole : ℕ) (formats : List Format) (start end : ℕ) (acc : List CpuTrack) (bytes : List ℕ) (e : RecordingError) → AreFormats formats → IsBytes bytes
     → IsCutShort IsCpuPart cpu_bytes whole bytes e
-    ⊎ (IsRefused IsCpuPart cpu_bytes (λ head e. cpu_fault (length acc) (least_after 0 acc) (total_events acc) head ≡ Some e) bytes e
+    ⊎ (IsRefused IsCpuPart cpu_bytes (HeadHasFault acc) bytes e
     ⊎ TrackFails whole formats start end acc bytes e) → read_track whole formats start end acc bytes ≡ Err e
 unfolding read_track
 track_stops whole formats start end acc bytes e pass fits (inl cut) =
@@ -354,9 +203,9 @@ track_stops whole formats start end acc bytes e pass fits (inr (inl r)) =
 track_stops whole formats start end acc bytes e pass fits (inr (inr t)) =
     ap (λ o. after_head whole formats start end acc (whole_part whole o)) (ap cpu_at t.spelled ∙ cpu_reads.again t.head t.rest t.is_whole)
     ∙ ap (λ o. then_read (unless_fault o (t.head, t.rest)) (read_rest whole formats start end acc)) t.passes
-    ∙ ap (λ r. then_read r (λ es. Ok (track_of t.head es))) (events_fail whole formats start end (length acc) t.head.events t.rest e (suffix_fits (cpu_bytes t.head) t.rest bytes t.spelled fits) pass t.fails)
+    ∙ ap (λ r. then_read r (λ es. Ok (track_of t.head es))) (entries_fail events events_readable whole formats start end (length acc) t.head.entries t.rest e (suffix_fits (cpu_bytes t.head) t.rest bytes t.spelled fits) pass t.fails)
 
-tracks_chain : (formats : List Format) (start end : ℕ) (cs acc : List CpuTrack) → AllByRecursion (IsTrack formats start end) cs → AreNumbered (least_after 0 acc) cs → total_events acc + total_events cs ≤ 1048576
+tracks_chain : (formats : List Format) (start end : ℕ) (cs acc : List CpuTrack) → AllByRecursion (IsTrack formats start end) cs → AreNumbered (least_after 0 acc) cs → total_entries acc + total_entries cs ≤ EVENTS
     → Chain (TrackFits formats start end) acc cs
 tracks_chain formats start end [] acc each numbered few = tt
 tracks_chain formats start end (c ∷ cs) acc each numbered few = (
@@ -398,11 +247,11 @@ header_passes r v =
     let n : ℕ = length r.cpus in
     let on_span : Bool → Option RecordingError = λ b. cond b (Some (fault.Count count.Span)) None in
     let on_formats : Bool → Option RecordingError = λ b. cond b (Some (fault.Count count.Formats)) (on_span (nat_lt r.end r.start)) in
-    let on_cpus : Bool → Option RecordingError = λ b. cond b (Some (fault.Count count.Cpus)) (on_formats (nat_lt 4096 (length r.formats))) in
+    let on_cpus : Bool → Option RecordingError = λ b. cond b (Some (fault.Count count.Cpus)) (on_formats (nat_lt FORMATS (length r.formats))) in
     let some : (n == 0) ≡ false = ne_eqb n 0 (λ e. omega (arith, v.some_cpus, e)) in
-    ap (λ b. on_cpus (b || nat_lt 64 n)) some
-    ∙ ap on_cpus (le-ltb 64 n v.few_cpus)
-    ∙ ap on_formats (le-ltb 4096 (length r.formats) v.few_formats)
+    ap (λ b. on_cpus (b || nat_lt CPUS n)) some
+    ∙ ap on_cpus (le-ltb CPUS n v.few_cpus)
+    ∙ ap on_formats (le-ltb FORMATS (length r.formats) v.few_formats)
     ∙ ap on_span (le-ltb r.end r.start v.span)
 
 whole_again : (r : Recording) (bytes rest : List ℕ) → IsValidRecording r → bytes ≡ recording_bytes r ++ rest → read_whole bytes ≡ finish (length bytes) r rest

@@ -2,8 +2,9 @@
 use Rattle.std.proofs.Common.{◌≡◌, ℕ, ◌≤◌, Bool, true, false, cond, not, ◌||◌, Option, Some, None, List, [], ◌∷◌, ◌≢◌, ◌++◌, length, refl, ap, sym, ◌∙◌, append_assoc, arith}
 use Rattle.std.specs.Prelude.{nat_lt, codes, ◌==◌}
 use Rattle.std.specs.Str.{bytes_eq}
-use Rattle.std.proofs.lemmas.Bool.{ltb-false, eqb-false, eqb-true}
+use Rattle.std.proofs.lemmas.Bool.{ltb-false, eqb-false, eqb-true, or_parts}
 use Rattle.std.proofs.lemmas.Slice.Eq.{bytes_eq-Decides}
+use Rattle.bt_core.specs.declared.limits.TheConstants.{CPUS, FORMATS}
 use Rattle.tracefs_format.specs.declared.format.Format.{Format}
 use Rattle.rec_format.specs.declared.error.RecordingError.{RecordingError}
 use Rattle.rec_format.specs.declared.error.RecordingError.TheVariants as fault
@@ -14,13 +15,12 @@ use Rattle.rec_format.specs.Parts.{HeaderPart, header_bytes}
 use Rattle.rec_format.specs.Checks.{header_fault}
 use Rattle.rec_format.specs.Recordings.{header_of, formats_bytes, tracks_bytes, recording_bytes, IsValidRecording}
 use Rattle.rec_format.specs.Faults.{HasHeader, HasFormats, HasTracks}
-use Rattle.rec_format.proofs.LoopLaws.{or_parts}
 
 record Bounds (h : HeaderPart) : Type 0 where
   magic : h.magic ≡ codes "BTRACE01"
   some_cpus : (h.cpus == 0) ≡ false
-  few_cpus : h.cpus ≤ 64
-  few_formats : h.formats ≤ 4096
+  few_cpus : h.cpus ≤ CPUS
+  few_formats : h.formats ≤ FORMATS
   span : h.start ≤ h.end
 
 not_false : (b : Bool) → not b ≡ false → b ≡ true
@@ -34,8 +34,8 @@ same_magic m h = (bytes_eq-Decides m (codes "BTRACE01")).0 (not_false (bytes_eq 
 header_bounds : (h : HeaderPart) → header_fault h ≡ None → Bounds h
 header_bounds h none =
     let m : Bool = not (bytes_eq h.magic (codes "BTRACE01")) in
-    let c : Bool = h.cpus == 0 || nat_lt 64 h.cpus in
-    let f : Bool = nat_lt 4096 h.formats in
+    let c : Bool = h.cpus == 0 || nat_lt CPUS h.cpus in
+    let f : Bool = nat_lt FORMATS h.formats in
     let s : Bool = nat_lt h.end h.start in
     let on_span : Bool → Option RecordingError = λ b. cond b (Some (fault.Count count.Span)) None in
     let on_formats : Bool → Option RecordingError = λ b. cond b (Some (fault.Count count.Formats)) (on_span s) in
@@ -50,8 +50,8 @@ header_bounds h none =
           | false ↦ λ e3 g3. (elim s as (λ b. s ≡ b → on_span b ≡ None → Bounds h) [
             | true ↦ λ e g. absurd cc
             | false ↦ λ e4 g4.
-                let cpus = or_parts (h.cpus == 0) (nat_lt 64 h.cpus) e2 in
-                record { magic = same_magic h.magic e1; some_cpus = cpus.0; few_cpus = ltb-false 64 h.cpus cpus.1; few_formats = ltb-false 4096 h.formats e3; span = ltb-false h.end h.start e4 }
+                let cpus = or_parts (h.cpus == 0) (nat_lt CPUS h.cpus) e2 in
+                record { magic = same_magic h.magic e1; some_cpus = cpus.0; few_cpus = ltb-false CPUS h.cpus cpus.1; few_formats = ltb-false FORMATS h.formats e3; span = ltb-false h.end h.start e4 }
           ]) refl g3
         ]) refl g2
       ]) refl g1

@@ -3,12 +3,13 @@ use Rattle.std.proofs.Common.{◌≡◌, ℕ, ◌+◌, ◌<◌, ◌≤◌, Resul
 use Rattle.std.specs.Prelude.{OnOk}
 use Rattle.std.specs.List.{flat_map, AllByRecursion}
 use Rattle.std.proofs.lemmas.List.{take_more, flat_map_more}
+use Rattle.bt_core.specs.declared.limits.TheConstants.{EVENTS}
 use Rattle.tracefs_format.specs.declared.format.Format.{Format}
 use Rattle.rec_format.specs.declared.recording.CpuTrack.{CpuTrack}
 use Rattle.rec_format.specs.declared.recording.Event.{Event}
 use Rattle.rec_format.specs.Parts.{IsEventPart}
-use Rattle.rec_format.specs.Checks.{total_events}
-use Rattle.rec_format.specs.Recordings.{part_of_event, IsEvent, IsTrack}
+use Rattle.rec_format.specs.Events.{part_of_event, IsEvent}
+use Rattle.rec_format.specs.Recordings.{total_entries, IsTrack}
 use Rattle.rec_format.specs.Answers.{CanWriteTrack}
 use Rattle.rec_format.proofs.LoopLaws.{total_first}
 
@@ -48,7 +49,7 @@ each_other : {X : Type 0} (P Q : X → Type 0) → ((x : X) → P x → Q x) →
 each_other P Q f [] all = tt
 each_other P Q f (x ∷ xs) all = (f x all.0, each_other P Q f xs all.1)
 
-pub tracks_writable : (formats : List Format) (start end : ℕ) (cs : List CpuTrack) → AllByRecursion (IsTrack formats start end) cs → total_events cs ≤ 1048576 → AllByRecursion CanWriteTrack cs
+pub tracks_writable : (formats : List Format) (start end : ℕ) (cs : List CpuTrack) → AllByRecursion (IsTrack formats start end) cs → total_entries cs ≤ EVENTS → AllByRecursion CanWriteTrack cs
 tracks_writable formats start end [] all few = tt
 tracks_writable formats start end (c ∷ cs) all few = (
   record {

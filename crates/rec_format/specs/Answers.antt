@@ -1,24 +1,27 @@
--- What a reader answers.
-use Rattle.std.specs.Prelude.{◌≡◌, ◌≢◌, ◌<◌, ◌^◌, ◌++◌, ◌∷◌, ℕ, List, [], Some, Result, Ok, Err, true, false, length}
+-- What the functions inside the reader answer, and what the writer needs. No public contract cites these definitions.
+use Rattle.std.specs.Prelude.{◌≡◌, ◌≢◌, ◌<◌, ◌^◌, ◌++◌, ◌∷◌, ℕ, List, [], Some, Result, Ok, Err, IsTrue, true, false, length}
 use Rattle.std.specs.List.{list_any, AllByRecursion}
 use Rattle.std.specs.Ordering.{nat_cmp}
 use Rattle.std.specs.Option.{option_map}
+use Rattle.std.specs.Int.{w16, from_le_bytes}
 use Rattle.std.specs.Str.{bytes_eq}
 use Rattle.std.specs.Cmp.Lexicographic.{slice_cmp}
 use Rattle.std.specs.BTreeSet.{BTreeSet, contains}
-use Rattle.byteorder.specs.Endian.{little_number}
 use Rattle.std.specs.BTreeMap.{BTreeMap, get}
 use Rattle.tracefs_format.specs.declared.format.Format.{Format}
 use Rattle.tracefs_format.specs.declared.layout.Layout.{Layout}
+use Rattle.tracefs_format.specs.ByName.{full_name}
 use Rattle.tracefs_format.specs.Layouts.{IsLayoutOf}
+use Rattle.tracefs_format.specs.Names.{has_no_colon}
 use Rattle.rec_format.specs.declared.error.RecordingError.{RecordingError}
 use Rattle.rec_format.specs.declared.error.RecordingError.TheVariants as fault
 use Rattle.rec_format.specs.declared.recording.CpuTrack.{CpuTrack}
 use Rattle.rec_format.specs.declared.recording.Event.{Event}
 use Rattle.rec_format.specs.declared.recording.Recording.{Recording}
-use Rattle.rec_format.specs.Recordings.{part_of_event, recording_bytes, IsValidRecording}
+use Rattle.rec_format.specs.Recordings.{recording_bytes, IsValidRecording}
 use Rattle.rec_format.specs.Parts.{FormatPart, EventPart, IsEventPart}
-use Rattle.rec_format.specs.Checks.{is_system, is_same_event, tracepoint_name, format_of, format_with}
+use Rattle.rec_format.specs.Checks.{is_system, is_same_event, format_of}
+use Rattle.rec_format.specs.Events.{part_of_event, format_with}
 
 -- a value of which the one holds, or a fault of which the other holds; and at any time want of memory
 abbrev pub Answers : {T : Type 0} → Result T RecordingError → (T → Type 0) → (RecordingError → Type 0) → Type 0
@@ -28,7 +31,8 @@ Answers (Err e) P Q = e ≢ fault.Memory → Q e
 -- the tables find each format by its ID, and each tracepoint by its name
 pub record IsTable (formats : List Format) (places : BTreeMap ℕ ℕ) (names : BTreeSet (List ℕ)) : Type 0 where
   pub by_id : (id : ℕ) → get nat_cmp places id ≡ option_map (λ found. found.0) (format_with id formats)
-  pub by_name : (name : List ℕ) → contains (slice_cmp nat_cmp) names name ≡ list_any (λ f. bytes_eq (tracepoint_name f) name) formats
+  pub by_name : (name : List ℕ) → contains (slice_cmp nat_cmp) names name ≡ list_any (λ f. bytes_eq (full_name f) name) formats
+  pub systems : AllByRecursion (λ f. IsTrue (has_no_colon f.system)) formats
 
 -- these formats, and behind them the one of this part
 pub record AddsFormat (earlier : List Format) (part : FormatPart) (later : List Format) : Type 0 where
@@ -44,7 +48,7 @@ event_of e format = record { time = e.time; pid = e.pid; tid = e.tid; uid = e.ui
 
 -- the format whose ID the payload begins with has this place
 abbrev pub IsPlaced : List Format → List ℕ → ℕ → Type 0
-IsPlaced formats payload place = option_map (λ found. found.0) (format_with (little_number 2 payload) formats) ≡ Some place
+IsPlaced formats payload place = option_map (λ found. found.0) (format_with (from_le_bytes w16 payload) formats) ≡ Some place
 
 -- the recording is valid, and the bytes are its spelling
 pub record IsSpelled (bytes : List ℕ) (r : Recording) : Type 0 where

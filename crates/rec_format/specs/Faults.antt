@@ -1,27 +1,16 @@
 -- The first fault of bytes that are no recording: the parts before it stand there and pass their checks.
-use Rattle.std.specs.Prelude.{◌≡◌, ◌≢◌, ◌⊎◌, ◌<◌, ℕ, List, [], ◌++◌, length, Some, None}
+use Rattle.std.specs.Prelude.{◌≡◌, ◌≢◌, ◌⊎◌, ◌+◌, ◌<◌, ℕ, List, [], ◌∷◌, ◌++◌, length, Some, None}
 use Rattle.tracefs_format.specs.declared.format.Format.{Format}
 use Rattle.rec_format.specs.declared.error.RecordingError.{RecordingError}
 use Rattle.rec_format.specs.declared.error.RecordingError.TheVariants as fault
 use Rattle.rec_format.specs.declared.recording.Recording.{Recording}
 use Rattle.rec_format.specs.declared.recording.CpuTrack.{CpuTrack}
-use Rattle.rec_format.specs.declared.recording.Event.{Event}
-use Rattle.rec_format.specs.Parts.{HeaderPart, IsHeaderPart, header_bytes, IsFormatPart, format_bytes, CpuPart, IsCpuPart, cpu_bytes, IsEventPart, event_bytes}
-use Rattle.rec_format.specs.Checks.{header_fault, IsFormatFault, least_after, total_events, cpu_fault, time_after, event_fault}
-use Rattle.rec_format.specs.Recordings.{formats_bytes, events_bytes, tracks_bytes, recording_bytes, AreFormats, AreEvents, AreTracks, IsValidRecording}
-
--- no whole part stands there; it is told with the length of all the bytes
-pub record IsCutShort {P : Type 0} (IsWhole : P → Type 0) (spelling : P → List ℕ) (whole : ℕ) (bytes : List ℕ) (e : RecordingError) : Type 0 where
-  pub none : (part : P) (rest : List ℕ) → IsWhole part → bytes ≡ spelling part ++ rest → ⊥
-  pub told : e ≡ fault.Truncated whole
-
--- a whole part stands there, and it has this fault
-pub record IsRefused {P : Type 0} (IsWhole : P → Type 0) (spelling : P → List ℕ) (HasFault : P → RecordingError → Type 0) (bytes : List ℕ) (e : RecordingError) : Type 0 where
-  pub part : P
-  pub rest : List ℕ
-  pub is_whole : IsWhole part
-  pub spelled : bytes ≡ spelling part ++ rest
-  pub has_fault : HasFault part e
+use Rattle.rec_format.specs.Parts.{HeaderPart, IsHeaderPart, header_bytes, IsFormatPart, format_bytes, CpuPart, IsCpuPart, cpu_bytes}
+use Rattle.rec_format.specs.Stops.{IsCutShort, IsRefused}
+use Rattle.rec_format.specs.Checks.{header_fault, IsFormatFault, cpu_fault}
+use Rattle.rec_format.specs.Entries.{EntryFails}
+use Rattle.rec_format.specs.Events.{events}
+use Rattle.rec_format.specs.Recordings.{formats_bytes, tracks_bytes, recording_bytes, total_entries, AreFormats, AreTracks, IsValidRecording}
 
 -- ---- the header
 
@@ -53,35 +42,28 @@ pub record HasFormats (count : ℕ) (bytes : List ℕ) (formats : List Format) (
   pub pass : AreFormats formats
   pub counted : length formats ≡ count
 
--- ---- the events of a CPU
-
--- fewer events than there should be stand there and pass, and the next one fails
-pub record EventFails (whole : ℕ) (formats : List Format) (start end cpu count : ℕ) (bytes : List ℕ) (e : RecordingError) : Type 0 where
-  pub events : List Event
-  pub rest : List ℕ
-  pub spelled : bytes ≡ events_bytes events ++ rest
-  pub pass : AreEvents formats start end events
-  pub due : length events < count
-  pub fails : IsCutShort IsEventPart event_bytes whole rest e
-      ⊎ IsRefused IsEventPart event_bytes (λ part e. event_fault formats (time_after start events) end cpu (length events) part ≡ Some e) rest e
-
-pub record HasEvents (formats : List Format) (start end count : ℕ) (bytes : List ℕ) (events : List Event) (rest : List ℕ) : Type 0 where
-  pub spelled : bytes ≡ events_bytes events ++ rest
-  pub pass : AreEvents formats start end events
-  pub counted : length events ≡ count
-
 -- ---- the CPUs
 
--- the head of a CPU passes, behind so many others, and one of its events fails
-pub record TrackFails (whole : ℕ) (formats : List Format) (start end : ℕ) (cpus : List CpuTrack) (bytes : List ℕ) (e : RecordingError) : Type 0 where
+-- the least number that a CPU may have behind these, where the first of them may have this one
+abbrev pub least_after : ℕ → List CpuTrack → ℕ
+least_after least [] = least
+least_after least (c ∷ cs) = least_after (c.number + 1) cs
+
+-- the head of a CPU behind these has this fault
+abbrev pub HeadHasFault : List CpuTrack → CpuPart → RecordingError → Type 0
+HeadHasFault cpus head e = cpu_fault (length cpus) (least_after 0 cpus) (total_entries cpus) head ≡ Some e
+
+-- the head of a CPU passes, behind so many others, and one of its entries fails
+pub record TrackFails (whole : ℕ) (formats : List Format) (start end : ℕ) (cpus : List CpuTrack)
+    (bytes : List ℕ) (e : RecordingError) : Type 0 where
   pub head : CpuPart
   pub rest : List ℕ
   pub spelled : bytes ≡ cpu_bytes head ++ rest
   pub is_whole : IsCpuPart head
-  pub passes : cpu_fault (length cpus) (least_after 0 cpus) (total_events cpus) head ≡ None
-  pub fails : EventFails whole formats start end (length cpus) head.events rest e
+  pub passes : cpu_fault (length cpus) (least_after 0 cpus) (total_entries cpus) head ≡ None
+  pub fails : EntryFails events whole formats start end (length cpus) head.entries rest e
 
--- fewer CPUs than there should be stand there and pass, and the next one fails, at its head or at an event
+-- fewer CPUs than there should be stand there and pass, and the next one fails, at its head or at an entry
 pub record CpuFails (whole : ℕ) (formats : List Format) (start end count : ℕ) (bytes : List ℕ) (e : RecordingError) : Type 0 where
   pub cpus : List CpuTrack
   pub rest : List ℕ
@@ -89,8 +71,7 @@ pub record CpuFails (whole : ℕ) (formats : List Format) (start end count : ℕ
   pub pass : AreTracks formats start end cpus
   pub due : length cpus < count
   pub fails : IsCutShort IsCpuPart cpu_bytes whole rest e
-      ⊎ (IsRefused IsCpuPart cpu_bytes (λ head e. cpu_fault (length cpus) (least_after 0 cpus) (total_events cpus) head ≡ Some e) rest e
-      ⊎ TrackFails whole formats start end cpus rest e)
+      ⊎ (IsRefused IsCpuPart cpu_bytes (HeadHasFault cpus) rest e ⊎ TrackFails whole formats start end cpus rest e)
 
 pub record HasTracks (formats : List Format) (start end count : ℕ) (bytes : List ℕ) (cpus : List CpuTrack) (rest : List ℕ) : Type 0 where
   pub spelled : bytes ≡ tracks_bytes cpus ++ rest

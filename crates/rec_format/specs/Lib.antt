@@ -1,6 +1,10 @@
 pub mod Answers
 pub mod Checks
+pub mod Entries
+pub mod Events
 pub mod Faults
+pub mod Fronts
 pub mod Parts
-pub mod Pieces
+pub mod Stops
+pub mod Places
 pub mod Recordings

@@ -1,14 +1,16 @@
 -- Recordings: the one spelling of each, and which are valid.
-use Rattle.std.specs.Prelude.{◌≡◌, ◌+◌, ◌≤◌, ◌<◌, ◌^◌, ℕ, ⊤, true, false, codes, List, [], ◌∷◌, ◌++◌, length, take, slice_get, Some}
+use Rattle.std.specs.Prelude.{◌≡◌, ◌+◌, ◌≤◌, ◌<◌, ◌^◌, ℕ, ⊤, true, false, codes, sum_by, List, [], ◌∷◌, ◌++◌, length}
 use Rattle.std.specs.List.{flat_map, AllByRecursion}
-use Rattle.byteorder.specs.Endian.{little_bytes}
+use Rattle.bt_core.specs.declared.limits.TheConstants.{CPUS, FORMATS, EVENTS}
 use Rattle.tracefs_format.specs.declared.format.Format.{Format}
 use Rattle.tracefs_format.specs.Layouts.{IsLayoutOf}
 use Rattle.rec_format.specs.declared.recording.Recording.{Recording}
 use Rattle.rec_format.specs.declared.recording.CpuTrack.{CpuTrack}
-use Rattle.rec_format.specs.declared.recording.Event.{Event}
-use Rattle.rec_format.specs.Parts.{HeaderPart, header_bytes, FormatPart, format_bytes, CpuPart, cpu_bytes, EventPart, IsEventPart, event_bytes}
-use Rattle.rec_format.specs.Checks.{is_system, is_same_event, total_events}
+use Rattle.rec_format.specs.Parts.{HeaderPart, header_bytes, FormatPart, format_bytes, CpuPart, cpu_bytes}
+use Rattle.rec_format.specs.Checks.{is_system, is_same_event}
+use Rattle.rec_format.specs.Entries.{entries_bytes, AreEntries}
+use Rattle.rec_format.specs.Events.{events}
+pub use Rattle.rec_format.specs.Events.{IsEvent}
 
 -- ---- the parts that a recording is spelled with
 
@@ -18,22 +20,16 @@ header_of r = record { magic = codes "BTRACE01"; cpus = length r.cpus; formats =
 abbrev pub part_of_format : Format → FormatPart
 part_of_format f = record { system = f.system; text = f.text }
 
-abbrev pub part_of_event : Event → EventPart
-part_of_event e = record { time = e.time; pid = e.pid; tid = e.tid; uid = e.uid; gid = e.gid; comm = e.comm; payload = e.payload }
-
 abbrev pub head_of_track : CpuTrack → CpuPart
-head_of_track c = record { number = c.number; events = length c.events }
+head_of_track c = record { number = c.number; entries = length c.events }
 
--- ---- the spelling: the header, each format, and each CPU with its events
+-- ---- the spelling: the header, each format, and each CPU with its entries
 
 abbrev pub formats_bytes : List Format → List ℕ
 formats_bytes formats = flat_map (λ f. format_bytes (part_of_format f)) formats
 
-abbrev pub events_bytes : List Event → List ℕ
-events_bytes events = flat_map (λ e. event_bytes (part_of_event e)) events
-
 abbrev pub track_bytes : CpuTrack → List ℕ
-track_bytes c = cpu_bytes (head_of_track c) ++ events_bytes c.events
+track_bytes c = cpu_bytes (head_of_track c) ++ entries_bytes events c.events
 
 abbrev pub tracks_bytes : List CpuTrack → List ℕ
 tracks_bytes cpus = flat_map track_bytes cpus
@@ -58,43 +54,30 @@ pub record AreFormats (formats : List Format) : Type 0 where
   pub each : AllByRecursion IsFormat formats
   pub apart : AreApart formats
 
--- the payload begins with the ID of the event's format, and has the bytes of its layout
-pub record IsEvent (formats : List Format) (e : Event) : Type 0 where
-  pub whole : IsEventPart (part_of_event e)
-  pub format : Format
-  pub placed : slice_get formats e.format ≡ Some format
-  pub begins : take 2 e.payload ≡ little_bytes 2 format.layout.id
-  pub long : format.layout.size ≤ length e.payload
-
--- from the one time on, the times of events never fall, up to the other
-abbrev pub AreInTime : ℕ → ℕ → List Event → Type 0
-AreInTime earliest latest [] = ⊤
-AreInTime earliest latest (e ∷ es) = (earliest ≤ e.time) × (e.time ≤ latest) × AreInTime e.time latest es
-
-pub record AreEvents (formats : List Format) (start end : ℕ) (events : List Event) : Type 0 where
-  pub each : AllByRecursion (IsEvent formats) events
-  pub in_time : AreInTime start end events
-
 pub record IsTrack (formats : List Format) (start end : ℕ) (c : CpuTrack) : Type 0 where
   pub number : c.number < 2 ^ 32
-  pub events : AreEvents formats start end c.events
+  pub events : AreEntries events formats start end c.events
 
 -- each CPU has a greater number than the one before it, and the first has at least this one
 abbrev pub AreNumbered : ℕ → List CpuTrack → Type 0
 AreNumbered least [] = ⊤
 AreNumbered least (c ∷ cs) = (least ≤ c.number) × AreNumbered (c.number + 1) cs
 
+-- the entries of these CPUs
+abbrev pub total_entries : List CpuTrack → ℕ
+total_entries cpus = sum_by (λ c. length c.events) cpus
+
 pub record AreTracks (formats : List Format) (start end : ℕ) (cpus : List CpuTrack) : Type 0 where
   pub each : AllByRecursion (IsTrack formats start end) cpus
   pub numbered : AreNumbered 0 cpus
-  pub few : total_events cpus ≤ 1048576
+  pub few : total_entries cpus ≤ EVENTS
 
 pub record IsValidRecording (r : Recording) : Type 0 where
   pub start : r.start < 2 ^ 64
   pub end : r.end < 2 ^ 64
   pub span : r.start ≤ r.end
   pub some_cpus : 1 ≤ length r.cpus
-  pub few_cpus : length r.cpus ≤ 64
-  pub few_formats : length r.formats ≤ 4096
+  pub few_cpus : length r.cpus ≤ CPUS
+  pub few_formats : length r.formats ≤ FORMATS
   pub formats : AreFormats r.formats
   pub cpus : AreTracks r.formats r.start r.end r.cpus

@@ -1,15 +1,19 @@
 // The checks of the parts of a recording.
 ghost use Rattle.std.specs.Prelude.{◌≡◌};
 ghost use Rattle.std.specs.List.{list_all};
-ghost use Rattle.rec_format.specs.Parts.{header_part, cpu_part};
+ghost use Rattle.rec_format.specs.Fronts.{header_part, cpu_part};
 ghost use Rattle.rec_format.specs.Checks.{header_fault, is_system_byte, is_system, cpu_fault};
 
 use crate::error::{CountOf, RecordingError};
 use crate::part::{CpuHead, Header};
+use bt_core::bytes::is_word_byte;
 use bt_core::limits::{CPUS, EVENTS, FORMATS};
 
 /// What every recording begins with.
 pub(crate) const MAGIC: &[u8; 8] = b"BTRACE01";
+
+/// The most bytes that the name of a system may have.
+pub(crate) const SYSTEM_BYTES: usize = 64;
 
 /// The first check that a header fails.
 pub(crate) fn header_fault(header: &Header<'_>) -> Option<RecordingError>
@@ -33,7 +37,7 @@ pub(crate) fn header_fault(header: &Header<'_>) -> Option<RecordingError>
 fn is_system_byte(byte: u8) -> bool
     ensures { result ≡ is_system_byte byte }
 {
-    byte.is_ascii_alphanumeric() || byte == b'_' || byte == b'-'
+    is_word_byte(byte) || byte == b'-'
 }
 
 fn are_system_bytes(bytes: &[u8]) -> bool
@@ -46,11 +50,11 @@ fn are_system_bytes(bytes: &[u8]) -> bool
 pub(crate) fn is_system(system: &[u8]) -> bool
     ensures { result ≡ is_system system.now }
 {
-    !system.is_empty() && system.len() <= 64 && are_system_bytes(system)
+    !system.is_empty() && system.len() <= SYSTEM_BYTES && are_system_bytes(system)
 }
 
 /// The first check that the head of a CPU fails, behind so many CPUs, where its number may be so small
-/// and so many events were announced.
+/// and so many entries were announced.
 pub(crate) fn cpu_fault(
     place: u32,
     least: u64,
@@ -62,7 +66,7 @@ pub(crate) fn cpu_fault(
     if u64::from(head.number) < least {
         return Some(RecordingError::CpuNumber(place));
     }
-    if u64::from(announced) + u64::from(head.events) > u64::from(EVENTS) {
+    if u64::from(announced) + u64::from(head.entries) > u64::from(EVENTS) {
         return Some(RecordingError::Count(CountOf::Events));
     }
     None

@@ -1,6 +1,6 @@
 // The header and the formats of a recording.
 ghost use Rattle.std.specs.Prelude.{◌≡◌};
-ghost use Rattle.rec_format.specs.Parts.{header_part};
+ghost use Rattle.rec_format.specs.Fronts.{header_part};
 ghost use Rattle.rec_format.specs.Faults.{HeaderFails, HasHeader, FormatFails, HasFormats};
 ghost use Rattle.rec_format.specs.Answers.{Answers};
 

@@ -1,9 +1,14 @@
-// Laws of the definitions: what bytes spell, and which fault they have.
-ghost use Rattle.std.specs.Prelude.{◌≡◌, ◌<◌, ℕ, List, slice_index};
+// Laws of the definitions: what bytes spell, which fault they have, and what a valid recording has at each place.
+ghost use Rattle.std.specs.Prelude.{◌≡◌, ◌≤◌, ◌<◌, ℕ, Some, List, slice_get, slice_index};
+ghost use Rattle.tracefs_format.specs.declared.format.Format.{Format};
+ghost use Rattle.tracefs_format.specs.ByName.{IsNamed};
 ghost use Rattle.rec_format.specs.declared.error.RecordingError.{RecordingError};
+ghost use Rattle.rec_format.specs.declared.recording.CpuTrack.{CpuTrack};
+ghost use Rattle.rec_format.specs.declared.recording.Event.{Event};
 ghost use Rattle.rec_format.specs.declared.recording.Recording.{Recording};
 ghost use Rattle.rec_format.specs.Recordings.{recording_bytes, IsValidRecording};
 ghost use Rattle.rec_format.specs.Faults.{IsRecordingFault};
+ghost use Rattle.rec_format.specs.Places.{AreBytes, event_at_place, HasFormat};
 
 /// Two valid recordings have two spellings, so a spelling that is read gives its recording again.
 pub fn one_recording()
@@ -12,6 +17,39 @@ pub fn one_recording()
 
 /// Bytes have one first fault at most, and none where they spell a valid recording.
 pub fn one_fault()
-    ensures one { (bytes : List ℕ) (a b : RecordingError) → ((i : ℕ) → slice_index bytes i < 256) → IsRecordingFault bytes a → IsRecordingFault bytes b → a ≡ b }
-    ensures none_beside { (bytes : List ℕ) (recording : Recording) (e : RecordingError) → ((i : ℕ) → slice_index bytes i < 256) → IsValidRecording recording → bytes ≡ recording_bytes recording → IsRecordingFault bytes e → ⊥ }
+    ensures one { (bytes : List ℕ) (a b : RecordingError) → AreBytes bytes
+        → IsRecordingFault bytes a → IsRecordingFault bytes b → a ≡ b }
+    ensures none_beside { (bytes : List ℕ) (recording : Recording) (e : RecordingError) → AreBytes bytes
+        → IsValidRecording recording → bytes ≡ recording_bytes recording → IsRecordingFault bytes e → ⊥ }
+{}
+
+/// Two formats of a valid recording that have one ID, or one system and name, stand at one place.
+pub fn formats_are_apart()
+    ensures id { (r : Recording) (i j : ℕ) (first second : Format) → IsValidRecording r
+        → slice_get r.formats i ≡ Some first → slice_get r.formats j ≡ Some second
+        → first.layout.id ≡ second.layout.id → i ≡ j }
+    ensures name { (r : Recording) (i j : ℕ) (first second : Format) → IsValidRecording r
+        → slice_get r.formats i ≡ Some first → slice_get r.formats j ≡ Some second
+        → IsNamed first second.system second.layout.name → i ≡ j }
+{}
+
+/// Each event of a valid recording has its format: it stands at the event's `format` place, the payload begins with its ID,
+/// and has the bytes of its layout.
+pub fn events_have_formats()
+    ensures { (r : Recording) (cpu place : ℕ) (event : Event) → IsValidRecording r
+        → event_at_place r cpu place ≡ Some event → HasFormat r.formats event }
+{}
+
+/// The events of a CPU stand in the order of their times, from the recording's start to its end.
+pub fn events_are_in_time()
+    ensures within { (r : Recording) (cpu place : ℕ) (event : Event) → IsValidRecording r
+        → event_at_place r cpu place ≡ Some event → (r.start ≤ event.time) × (event.time ≤ r.end) }
+    ensures in_order { (r : Recording) (cpu i j : ℕ) (first second : Event) → IsValidRecording r
+        → event_at_place r cpu i ≡ Some first → event_at_place r cpu j ≡ Some second → i ≤ j → first.time ≤ second.time }
+{}
+
+/// The numbers of the CPUs rise.
+pub fn cpu_numbers_rise()
+    ensures { (r : Recording) (i j : ℕ) (first second : CpuTrack) → IsValidRecording r
+        → slice_get r.cpus i ≡ Some first → slice_get r.cpus j ≡ Some second → i < j → first.number < second.number }
 {}

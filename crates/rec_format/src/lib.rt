@@ -10,7 +10,5 @@ mod part;
 pub mod reading;
 pub mod recording;
 mod table;
-#[cfg(test)]
-mod tests;
 mod tracks;
 pub mod writing;

@@ -1,8 +1,7 @@
 // The parts of a recording at the front of bytes.
 ghost use Rattle.std.specs.Prelude.{◌≡◌};
 ghost use Rattle.std.specs.Option.{option_map};
-ghost use Rattle.rec_format.specs.Pieces.{bytes_at};
-ghost use Rattle.rec_format.specs.Parts.{header_part, header_at, format_part, format_at, cpu_part, cpu_at, event_part, event_at};
+ghost use Rattle.rec_format.specs.Fronts.{bytes_at, header_part, header_at, format_part, format_at, cpu_part, cpu_at, event_part, event_at};
 
 use crate::number::{bytes_at, sized16_at, sized32_at, u32_at, u64_at};
 
@@ -23,11 +22,11 @@ pub(crate) struct FormatText<'b> {
     pub text: &'b [u8],
 }
 
-/// The number of a CPU, and how many events it has.
+/// The number of a CPU, and how many entries it has.
 #[derive(Clone, Copy)]
 pub(crate) struct CpuHead {
     pub number: u32,
-    pub events: u32,
+    pub entries: u32,
 }
 
 /// An event, with its payload where it lies.
@@ -43,7 +42,7 @@ pub(crate) struct EventBytes<'b> {
 }
 
 /// A header, and what follows it.
-#[tactic(auto, unfolding(crate::specs::Parts::header_at))]
+#[tactic(auto, unfolding(crate::specs::Fronts::header_at))]
 pub(crate) fn header_at(bytes: &[u8]) -> Option<(Header<'_>, &[u8])>
     ensures { option_map (λ part. (header_part part.0, part.1.now)) result ≡ header_at bytes.now }
 {
@@ -63,7 +62,7 @@ pub(crate) fn header_at(bytes: &[u8]) -> Option<(Header<'_>, &[u8])>
 }
 
 /// A format, and what follows it.
-#[tactic(auto, unfolding(crate::specs::Parts::format_at))]
+#[tactic(auto, unfolding(crate::specs::Fronts::format_at))]
 pub(crate) fn format_at(bytes: &[u8]) -> Option<(FormatText<'_>, &[u8])>
     ensures { option_map (λ part. (format_part part.0, part.1.now)) result ≡ format_at bytes.now }
 {
@@ -73,13 +72,13 @@ pub(crate) fn format_at(bytes: &[u8]) -> Option<(FormatText<'_>, &[u8])>
 }
 
 /// The head of a CPU, and what follows it.
-#[tactic(auto, unfolding(crate::specs::Parts::cpu_at))]
+#[tactic(auto, unfolding(crate::specs::Fronts::cpu_at))]
 pub(crate) fn cpu_at(bytes: &[u8]) -> Option<(CpuHead, &[u8])>
     ensures { option_map (λ part. (cpu_part part.0, part.1.now)) result ≡ cpu_at bytes.now }
 {
     let (number, bytes) = u32_at(bytes)?;
-    let (events, rest) = u32_at(bytes)?;
-    Some((CpuHead { number, events }, rest))
+    let (entries, rest) = u32_at(bytes)?;
+    Some((CpuHead { number, entries }, rest))
 }
 
 /// Sixteen bytes, and what follows them.
@@ -95,7 +94,7 @@ fn comm_at(bytes: &[u8]) -> Option<([u8; 16], &[u8])>
 }
 
 /// An event, and what follows it.
-#[tactic(auto, unfolding(crate::specs::Parts::event_at))]
+#[tactic(auto, unfolding(crate::specs::Fronts::event_at))]
 pub(crate) fn event_at(bytes: &[u8]) -> Option<(EventBytes<'_>, &[u8])>
     ensures { option_map (λ part. (event_part part.0, part.1.now)) result ≡ event_at bytes.now }
 {

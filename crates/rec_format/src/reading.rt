@@ -26,7 +26,8 @@ pub fn read_recording(alloc: Global, bytes: &[u8]) -> Result<Recording, Recordin
     ensures valid { IfOk result IsValidRecording }
     ensures spelled { IfOk result (λ recording. bytes.now ≡ recording_bytes recording) }
     // A valid recording that the bytes spell is read, unless memory runs out.
-    ensures only { (recording : Recording) → IsValidRecording recording → bytes.now ≡ recording_bytes recording → (result ≡ Ok recording) ⊎ (result ≡ Err RecordingError.Memory) }
+    ensures only { (recording : Recording) → IsValidRecording recording → bytes.now ≡ recording_bytes recording
+        → (result ≡ Ok recording) ⊎ (result ≡ Err RecordingError.Memory) }
     // Any other error is the first fault of the bytes.
     ensures fault { IfErr result (λ e. e ≢ RecordingError.Memory → IsRecordingFault bytes.now e) }
     // The first fault of the bytes is answered, unless memory runs out.

@@ -1,20 +1,20 @@
 // The formats that were read so far, found by their IDs.
-ghost use Rattle.std.specs.Prelude.{◌≡◌, ◌<◌, ◌^◌, ◌++◌, ◌∷◌, [], length, IfOk};
+ghost use Rattle.std.specs.Prelude.{◌≡◌, ◌<◌, ◌^◌, [], length};
 ghost use Rattle.std.specs.Option.{option_map};
-ghost use Rattle.rec_format.specs.Parts.{format_part};
-ghost use Rattle.rec_format.specs.Checks.{IsFormatFault, format_with};
+ghost use Rattle.rec_format.specs.Checks.{IsFormatFault};
+ghost use Rattle.rec_format.specs.Events.{format_with};
+ghost use Rattle.rec_format.specs.Fronts.{format_part};
 ghost use Rattle.rec_format.specs.Answers.{Answers, AddsFormat};
 
 use crate::check::is_system;
 use crate::error::RecordingError;
 use crate::part::FormatText;
 use bt_core::items::Items;
-use bt_core::memory::Memory;
 use std::alloc::Global;
 use std::collections::{BTreeMap, BTreeSet};
 use std::marker::Model;
 use tracefs_format::error::FormatError;
-use tracefs_format::format::Format;
+use tracefs_format::format::{Format, tracepoint_name};
 use tracefs_format::reading::read_layout;
 
 /// The formats of a recording that is being read, with tables that find each by its ID, and by its
@@ -79,8 +79,8 @@ impl FormatTable {
         places.insert(layout.id, place)?;
         names.insert(name)?;
         formats.push(Format {
-            system: copied(alloc, part.system)?,
-            text: copied(alloc, part.text)?,
+            system: Items::from_slice(alloc, part.system)?,
+            text: Items::from_slice(alloc, part.text)?,
             layout,
         })?;
         Ok(FormatTable {
@@ -105,21 +105,4 @@ impl FormatTable {
     {
         self.formats
     }
-}
-
-/// A list of these bytes.
-fn copied(alloc: Global, bytes: &[u8]) -> Result<Items<u8>, Memory>
-    ensures { IfOk result (λ copied. copied ≡ bytes.now) }
-{
-    Ok(Items::of(Vec::from_slice(alloc, bytes)?))
-}
-
-/// How a tracepoint is called: its system, a colon and its name.
-fn tracepoint_name(alloc: Global, system: &[u8], name: &[u8]) -> Result<Items<u8>, Memory>
-    ensures { IfOk result (λ joined. joined ≡ system.now ++ 58 ∷ name.now) }
-{
-    let mut joined = Vec::from_slice(alloc, system)?;
-    joined.push(b':')?;
-    joined.extend_from_slice(name)?;
-    Ok(Items::of(joined))
 }

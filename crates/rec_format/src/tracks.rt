@@ -1,8 +1,10 @@
 // The CPUs of a recording and their events.
-ghost use Rattle.std.specs.Prelude.{◌≡◌, Some, None, MatchResult, IfOk};
-ghost use Rattle.rec_format.specs.Parts.{event_part};
-ghost use Rattle.rec_format.specs.Checks.{event_fault};
-ghost use Rattle.rec_format.specs.Faults.{EventFails, HasEvents, CpuFails, HasTracks};
+ghost use Rattle.std.specs.Prelude.{◌≡◌, IfOk};
+ghost use Rattle.std.specs.Result.{result_err};
+ghost use Rattle.rec_format.specs.Fronts.{event_part};
+ghost use Rattle.rec_format.specs.Entries.{entry_fault, EntryFails, HasEntries};
+ghost use Rattle.rec_format.specs.Events.{events};
+ghost use Rattle.rec_format.specs.Faults.{CpuFails, HasTracks};
 ghost use Rattle.rec_format.specs.Answers.{Answers, event_of, IsPlaced};
 
 use crate::check::cpu_fault;
@@ -35,7 +37,7 @@ fn format_of_event(
     event: &EventBytes<'_>,
 ) -> Result<u32, RecordingError>
     ensures accepted { IfOk result (λ format. IsPlaced setting.now.formats.now event.now.payload.now format) }
-    ensures checked { MatchResult result (λ _. event_fault setting.now.formats.now earliest setting.now.end cpu place (event_part event.now) ≡ None) (λ e. event_fault setting.now.formats.now earliest setting.now.end cpu place (event_part event.now) ≡ Some e) }
+    ensures checked { result_err result ≡ entry_fault events setting.now.formats.now earliest setting.now.end cpu place (event_part event.now) }
 {
     if event.time < earliest || event.time > setting.end {
         return Err(RecordingError::TimeOrder(cpu, place));
@@ -64,7 +66,7 @@ fn kept(alloc: Global, event: EventBytes<'_>, format: u32) -> Result<Event, Memo
         gid: event.gid,
         comm: event.comm,
         format,
-        payload: Items::of(Vec::from_slice(alloc, event.payload)?),
+        payload: Items::from_slice(alloc, event.payload)?,
     })
 }
 
@@ -76,7 +78,9 @@ fn read_events<'b>(
     count: u32,
     bytes: &'b [u8],
 ) -> Result<(Items<Event>, &'b [u8]), RecordingError>
-    ensures { Answers result (λ read. HasEvents setting.now.formats.now setting.now.start setting.now.end count bytes.now read.0 read.1.now) (EventFails setting.now.whole setting.now.formats.now setting.now.start setting.now.end cpu count bytes.now) }
+    ensures { Answers result
+        (λ read. HasEntries events setting.now.formats.now setting.now.start setting.now.end count bytes.now read.0 read.1.now)
+        (EntryFails events setting.now.whole setting.now.formats.now setting.now.start setting.now.end cpu count bytes.now) }
 {
     let mut events = Items::new(alloc);
     let mut rest = bytes;
@@ -100,7 +104,9 @@ pub(crate) fn read_tracks<'b>(
     count: u32,
     bytes: &'b [u8],
 ) -> Result<(Items<CpuTrack>, &'b [u8]), RecordingError>
-    ensures { Answers result (λ read. HasTracks setting.now.formats.now setting.now.start setting.now.end count bytes.now read.0 read.1.now) (CpuFails setting.now.whole setting.now.formats.now setting.now.start setting.now.end count bytes.now) }
+    ensures { Answers result
+        (λ read. HasTracks setting.now.formats.now setting.now.start setting.now.end count bytes.now read.0 read.1.now)
+        (CpuFails setting.now.whole setting.now.formats.now setting.now.start setting.now.end count bytes.now) }
 {
     let mut cpus = Items::new(alloc);
     let mut rest = bytes;
@@ -113,13 +119,13 @@ pub(crate) fn read_tracks<'b>(
         if let Some(fault) = cpu_fault(place, least, announced, head) {
             return Err(fault);
         }
-        let (events, after) = read_events(alloc, setting, place, head.events, after)?;
+        let (events, after) = read_events(alloc, setting, place, head.entries, after)?;
         cpus.push(CpuTrack {
             number: head.number,
             events,
         })?;
         least = u64::from(head.number) + 1;
-        announced += head.events;
+        announced += head.entries;
         rest = after;
     }
     Ok((cpus, rest))

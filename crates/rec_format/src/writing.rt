@@ -1,10 +1,11 @@
 // Writing a recording.
-ghost use Rattle.std.specs.Prelude.{◌≡◌, ◌≤◌, ◌<◌, ◌^◌, ◌++◌, true, length, IfOk, OnOk};
-ghost use Rattle.std.specs.List.{flat_map, AllByRecursion};
-ghost use Rattle.byteorder.specs.Endian.{little_bytes};
-ghost use Rattle.rec_format.specs.Pieces.{sized_bytes};
-ghost use Rattle.rec_format.specs.Parts.{header_bytes, format_bytes, IsEventPart, event_bytes};
-ghost use Rattle.rec_format.specs.Recordings.{header_of, part_of_format, part_of_event, formats_bytes, events_bytes, track_bytes, tracks_bytes, recording_bytes, IsValidRecording};
+ghost use Rattle.std.specs.Prelude.{◌≡◌, ◌<◌, ◌^◌, ◌++◌, length, IfOk, OnOk};
+ghost use Rattle.std.specs.Int.{w16, w32, w64, to_le_bytes};
+ghost use Rattle.std.specs.List.{AllByRecursion};
+ghost use Rattle.rec_format.specs.Parts.{sized_bytes, header_bytes, format_bytes, IsEventPart, event_bytes};
+ghost use Rattle.rec_format.specs.Entries.{entries_bytes};
+ghost use Rattle.rec_format.specs.Events.{part_of_event, events as event_entries};
+ghost use Rattle.rec_format.specs.Recordings.{header_of, part_of_format, formats_bytes, track_bytes, tracks_bytes, recording_bytes, IsValidRecording};
 ghost use Rattle.rec_format.specs.Answers.{CanWriteFormat, CanWriteTrack};
 
 use crate::check::MAGIC;
@@ -29,7 +30,7 @@ pub fn write_recording(alloc: Global, recording: &Recording) -> Result<Vec<u8>, 
 }
 
 fn push_u16(bytes: &mut Vec<u8>, number: u16) -> Result<(), AllocError>
-    ensures { OnOk result (bytes.new.items ≡ bytes.old.items ++ little_bytes 2 number) }
+    ensures { OnOk result (bytes.new.items ≡ bytes.old.items ++ to_le_bytes w16 number) }
 {
     let mut piece = [0; 2];
     LittleEndian::write_u16(&mut piece, number);
@@ -37,7 +38,7 @@ fn push_u16(bytes: &mut Vec<u8>, number: u16) -> Result<(), AllocError>
 }
 
 fn push_u32(bytes: &mut Vec<u8>, number: u32) -> Result<(), AllocError>
-    ensures { OnOk result (bytes.new.items ≡ bytes.old.items ++ little_bytes 4 number) }
+    ensures { OnOk result (bytes.new.items ≡ bytes.old.items ++ to_le_bytes w32 number) }
 {
     let mut piece = [0; 4];
     LittleEndian::write_u32(&mut piece, number);
@@ -45,7 +46,7 @@ fn push_u32(bytes: &mut Vec<u8>, number: u32) -> Result<(), AllocError>
 }
 
 fn push_u64(bytes: &mut Vec<u8>, number: u64) -> Result<(), AllocError>
-    ensures { OnOk result (bytes.new.items ≡ bytes.old.items ++ little_bytes 8 number) }
+    ensures { OnOk result (bytes.new.items ≡ bytes.old.items ++ to_le_bytes w64 number) }
 {
     let mut piece = [0; 8];
     LittleEndian::write_u64(&mut piece, number);
@@ -55,7 +56,7 @@ fn push_u64(bytes: &mut Vec<u8>, number: u64) -> Result<(), AllocError>
 /// Bytes behind their length of 16 bits.
 fn push_sized16(bytes: &mut Vec<u8>, piece: &[u8]) -> Result<(), AllocError>
     requires { length piece.now < 2 ^ 16 }
-    ensures { OnOk result (bytes.new.items ≡ bytes.old.items ++ sized_bytes 2 piece.now) }
+    ensures { OnOk result (bytes.new.items ≡ bytes.old.items ++ sized_bytes w16 piece.now) }
 {
     push_u16(bytes, piece.len() as u16)?;
     bytes.extend_from_slice(piece)
@@ -64,7 +65,7 @@ fn push_sized16(bytes: &mut Vec<u8>, piece: &[u8]) -> Result<(), AllocError>
 /// Bytes behind their length of 32 bits.
 fn push_sized32(bytes: &mut Vec<u8>, piece: &[u8]) -> Result<(), AllocError>
     requires { length piece.now < 2 ^ 32 }
-    ensures { OnOk result (bytes.new.items ≡ bytes.old.items ++ sized_bytes 4 piece.now) }
+    ensures { OnOk result (bytes.new.items ≡ bytes.old.items ++ sized_bytes w32 piece.now) }
 {
     push_u32(bytes, piece.len() as u32)?;
     bytes.extend_from_slice(piece)
@@ -114,7 +115,7 @@ fn push_event(bytes: &mut Vec<u8>, event: &Event) -> Result<(), AllocError>
 
 fn push_events(bytes: &mut Vec<u8>, events: &[Event]) -> Result<(), AllocError>
     requires { AllByRecursion (λ e. IsEventPart (part_of_event e)) events.now }
-    ensures { OnOk result (bytes.new.items ≡ bytes.old.items ++ events_bytes events.now) }
+    ensures { OnOk result (bytes.new.items ≡ bytes.old.items ++ entries_bytes event_entries events.now) }
 {
     for event in events {
         push_event(bytes, event)?;

@@ -2,7 +2,7 @@
 use Rattle.std.proofs.Common.{◌≡◌, ℕ, suc, ◌+◌, ◌-◌, ◌*◌, ◌<◌, ◌≤◌, Bool, true, false, cond, not, eqb, ltb, ◌&&◌, List, [], ◌∷◌, ◌++◌, length, take, drop, get_or, Option, Some, None, inl, inr, refl, ap, sym, eq-eqb, ◌∙◌, arith}
 use Rattle.std.specs.Prelude.{◌==◌, ◌≢◌, nat_le, position, MatchOption}
 use Rattle.std.specs.List.{list_all, prefix_len, fold, slice_split, onto_first}
-use Rattle.std.specs.Char.{is_ascii_digit}
+use Rattle.bt_core.specs.Bytes.{is_digit}
 use Rattle.std.proofs.lemmas.List.{take_all, take_more, drop_more, take_at, drop_at, length-append}
 use Rattle.std.proofs.lemmas.Bool.{cases_lt, lt-ltb, le-ltb, eqb-true, lt-leb}
 use Rattle.std.proofs.Math.Numerals.{one-add, add-one}
@@ -173,7 +173,7 @@ number_in-too_large : (greatest : ℕ) (bytes : List ℕ) → greatest < decimal
 number_in-too_large greatest [] h = refl
 number_in-too_large greatest (b ∷ bs) h =
     let much : nat_le (decimal_value (b ∷ bs)) greatest ≡ false = lt-leb (decimal_value (b ∷ bs)) greatest h in
-    rw much (elim (list_all is_ascii_digit (b ∷ bs)) as (λ v. cond (v && false) (Some (decimal_value (b ∷ bs))) None ≡ None) [ true ↦ refl | false ↦ refl ])
+    rw much (elim (list_all is_digit (b ∷ bs)) as (λ v. cond (v && false) (Some (decimal_value (b ∷ bs))) None ≡ None) [ true ↦ refl | false ↦ refl ])
 
 -- where a part of the digits makes a number that is too great, all of them do
 pub number_in-past : (greatest i : ℕ) (bytes : List ℕ) (value : ℕ) → i < length bytes → fold (λ n digit. 10 * n + (digit - 48)) value (drop i bytes) ≡ decimal_value bytes → greatest < 10 * value + (get_or bytes i 0 - 48) → number_in greatest bytes ≡ None

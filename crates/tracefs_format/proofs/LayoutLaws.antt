@@ -4,10 +4,11 @@ use Rattle.std.specs.Prelude.{◌==◌, nat_lt, nat_eq, codes, is_some, IfOk, If
 use Rattle.std.specs.List.{list_any, starts_with, AllByRecursion, cons_option}
 use Rattle.std.specs.Option.{option_or}
 use Rattle.std.specs.Str.{bytes_eq}
-use Rattle.std.proofs.lemmas.Bool.{lt-ltb, le-ltb, ltb-false}
+use Rattle.std.proofs.lemmas.Bool.{lt-ltb, le-ltb, ltb-false, and_parts, or_parts, and_from}
 use Rattle.std.proofs.lemmas.List.{append-nil}
 use Rattle.std.proofs.lemmas.List.Folds.{list_any-append}
 use Rattle.std.proofs.lemmas.Slice.Eq.{bytes_eq-Decides}
+use Rattle.bt_core.specs.declared.limits.TheConstants.{LAYOUT_END}
 use Rattle.tracefs_format.specs.declared.error.FormatError.{FormatError}
 use Rattle.tracefs_format.specs.declared.error.FormatError.TheVariants.{NoName, BadId, BadField, Overlong, SameName, Memory}
 use Rattle.tracefs_format.specs.declared.field.Field.{Field}
@@ -24,14 +25,10 @@ use Rattle.tracefs_format.specs.Declarations.{kind_of, is_char_words, declared_t
 use Rattle.tracefs_format.specs.Kinds.{fits_kind, is_number_size}
 use Rattle.tracefs_format.specs.Tables.{Answers, Fails, IsReadOf}
 use Rattle.tracefs_format.proofs.SameLaws.{same_layout}
-use Rattle.tracefs_format.proofs.StripLaws.{some_is, and-parts}
+use Rattle.tracefs_format.proofs.StripLaws.{some_is}
 use Rattle.tracefs_format.proofs.SpellingLaws.{field_on-IsFieldLine, IsFieldLine-field_on, name_on-IsNameLine, IsNameLine-name_on, id_on-IsIdLine, IsIdLine-id_on}
 
 -- ---- tests
-
-or-false : (a b : Bool) → (a || b) ≡ false → (a ≡ false) × (b ≡ false)
-or-false true b h = absurd cc
-or-false false b h = (refl, h)
 
 spread : (n a b : Bool) → (n && (a || (b || false))) ≡ ((n && a) || (n && b))
 spread true a true = refl
@@ -44,9 +41,6 @@ none_or (Some e) b h = absurd cc
 
 true_false : true ≡ false → ⊥
 true_false h = cc
-
-and_true : {a b : Bool} → a ≡ true → b ≡ true → (a && b) ≡ true
-and_true h k = rw (h, k) refl
 
 and_false : (a : Bool) → (a && false) ≡ false
 and_false true = refl
@@ -81,7 +75,7 @@ apart-from name [] h e = refl
 apart-from name (b ∷ bs) h e =
     let some : nat_lt 0 (length (b ∷ bs)) ≡ true = lt-ltb 0 (length (b ∷ bs)) (omega arith) in
     let same : bytes_eq name (b ∷ bs) ≡ true = (bytes_eq-Decides name (b ∷ bs)).1 e in
-    absurd (true_false (sym (and_true some same) ∙ h))
+    absurd (true_false (sym (and_from (nat_lt 0 (length (b ∷ bs))) (bytes_eq name (b ∷ bs)) some same) ∙ h))
 
 untaken-from : (name other : List ℕ) → (name ≡ other → other ≡ []) → (nat_lt 0 (length other) && bytes_eq name other) ≡ false
 untaken-from name [] h = refl
@@ -101,7 +95,7 @@ AreApartFrom name fs = AllByRecursion (λ g. name ≡ g.name → g.name ≡ []) 
 new-parts : (earlier : List Description) (d : Description) (fs : List Field) → AreNew (earlier ++ d ∷ []) fs → AreNew earlier fs × AreApartFrom d.name fs
 new-parts earlier d [] h = (tt, tt)
 new-parts earlier d (g ∷ fs) h =
-    let here = or-false (is_taken g.name earlier) (nat_lt 0 (length g.name) && bytes_eq d.name g.name) (sym (taken-push g.name earlier d) ∙ h.0) in
+    let here = or_parts (is_taken g.name earlier) (nat_lt 0 (length g.name) && bytes_eq d.name g.name) (sym (taken-push g.name earlier d) ∙ h.0) in
     let rest = new-parts earlier d fs h.1 in
     ((here.0, rest.0), (apart-from d.name g.name here.1, rest.1))
 
@@ -119,7 +113,7 @@ none_new (g ∷ fs) = (and_false (nat_lt 0 (length g.name)), none_new fs)
 -- the fields of lines that no rule refuses
 record AreRead (earlier : List Description) (lines : List (List ℕ)) (fs : List Field) : Type 0 where
   lines_are : AreFieldLines (filled lines) fs
-  ends_fit : AllByRecursion (λ f. end_of f ≤ 4096) fs
+  ends_fit : AllByRecursion (λ f. end_of f ≤ LAYOUT_END) fs
   names_apart : HaveNamesApart fs
   names_new : AreNew earlier fs
 
@@ -137,20 +131,20 @@ filled-cons b bs lines = rw (lt-ltb 0 (length (b ∷ bs)) (omega arith)) refl
 line_fault-some : (number : ℕ) (earlier : List Description) (b : ℕ) (bs : List ℕ) → line_fault number earlier (b ∷ bs) ≡ field_fault number earlier (field_on (b ∷ bs))
 line_fault-some number earlier b bs = rw (lt-ltb 0 (length (b ∷ bs)) (omega arith)) refl
 
-field_fault-none : (number : ℕ) (earlier : List Description) (d : Description) → field_fault number earlier (Some d) ≡ None → (d.offset + d.size ≤ 4096) × (is_taken d.name earlier ≡ false)
+field_fault-none : (number : ℕ) (earlier : List Description) (d : Description) → field_fault number earlier (Some d) ≡ None → (d.offset + d.size ≤ LAYOUT_END) × (is_taken d.name earlier ≡ false)
 field_fault-none number earlier d h =
-    (elim (nat_lt 4096 (d.offset + d.size)) as (λ v. nat_lt 4096 (d.offset + d.size) ≡ v → cond v (Some (Overlong number)) (cond (is_taken d.name earlier) (Some (SameName number)) None) ≡ None → (d.offset + d.size ≤ 4096) × (is_taken d.name earlier ≡ false)) [
+    (elim (nat_lt LAYOUT_END (d.offset + d.size)) as (λ v. nat_lt LAYOUT_END (d.offset + d.size) ≡ v → cond v (Some (Overlong number)) (cond (is_taken d.name earlier) (Some (SameName number)) None) ≡ None → (d.offset + d.size ≤ LAYOUT_END) × (is_taken d.name earlier ≡ false)) [
       | true ↦ λ e g. absurd cc
-      | false ↦ λ e g. (ltb-false 4096 (d.offset + d.size) e, untaken number (is_taken d.name earlier) g)
+      | false ↦ λ e g. (ltb-false LAYOUT_END (d.offset + d.size) e, untaken number (is_taken d.name earlier) g)
     ]) refl h
 
-none-field_fault : (number : ℕ) (earlier : List Description) (d : Description) → d.offset + d.size ≤ 4096 → is_taken d.name earlier ≡ false → field_fault number earlier (Some d) ≡ None
-none-field_fault number earlier d h k = rw (le-ltb 4096 (d.offset + d.size) h, k) refl
+none-field_fault : (number : ℕ) (earlier : List Description) (d : Description) → d.offset + d.size ≤ LAYOUT_END → is_taken d.name earlier ≡ false → field_fault number earlier (Some d) ≡ None
+none-field_fault number earlier d h k = rw (le-ltb LAYOUT_END (d.offset + d.size) h, k) refl
 
 field_read : (number : ℕ) (earlier : List Description) (line : List ℕ) (lines : List (List ℕ)) (fs : List Field) (o : Option Description) → field_on line ≡ o
     → ((gs : List Field) (d : Description) → lines_fault (number + 1) (earlier ++ d ∷ []) lines ≡ None → map description gs ≡ described lines → AreRead (earlier ++ d ∷ []) lines gs)
     → field_fault number earlier o ≡ None → lines_fault (number + 1) (earlier ++ cons_option o []) lines ≡ None → map description fs ≡ cons_option o (described lines)
-    → (g : Field) × (gs : List Field) × (fs ≡ g ∷ gs) × IsFieldLine line (description g) × (end_of g ≤ 4096) × (is_taken g.name earlier ≡ false) × AreApartFrom g.name gs × AreRead earlier lines gs
+    → (g : Field) × (gs : List Field) × (fs ≡ g ∷ gs) × IsFieldLine line (description g) × (end_of g ≤ LAYOUT_END) × (is_taken g.name earlier ≡ false) × AreApartFrom g.name gs × AreRead earlier lines gs
 field_read number earlier line lines fs None e next fault later same = absurd cc
 field_read number earlier line lines [] (Some d) e next fault later same = absurd cc
 field_read number earlier line lines (g ∷ gs) (Some d) e next fault later same =
@@ -163,7 +157,7 @@ field_read number earlier line lines (g ∷ gs) (Some d) e next fault later same
       gs,
       refl,
       subst (IsFieldLine line) (sym head) (field_on-IsFieldLine line d e),
-      subst (λ (c : Description). c.offset + c.size ≤ 4096) (sym head) free.0,
+      subst (λ (c : Description). c.offset + c.size ≤ LAYOUT_END) (sym head) free.0,
       subst (λ (c : Description). is_taken c.name earlier ≡ false) (sym head) free.1,
       subst (λ (c : Description). AreApartFrom c.name gs) (sym head) new.1,
       record { lines_are = read.lines_are; ends_fit = read.ends_fit; names_apart = read.names_apart; names_new = new.0 },
@@ -324,7 +318,7 @@ kind_of-sized type is_array size =
     let array = cond is_array (cond chars Chars Other) number in
     let relative = cond (starts_with nat_eq type (codes "__rel_loc")) Other array in
     sized-if (starts_with nat_eq type (codes "__data_loc")) (cond (is_text && size == 4) DataLoc Other) relative size
-    (λ h. sized-if (is_text && size == 4) DataLoc Other size (λ k. (and-parts is_text (size == 4) k).1) refl)
+    (λ h. sized-if (is_text && size == 4) DataLoc Other size (λ k. (and_parts is_text (size == 4) k).1) refl)
     (sized-if (starts_with nat_eq type (codes "__rel_loc")) Other array size (λ h. refl)
     (sized-if is_array (cond chars Chars Other) number size (λ h. sized-if chars Chars Other size (λ k. refl) refl)
     (sized-if (is_number_size size) Number Other size (λ h. h) refl)))
@@ -337,15 +331,34 @@ record Fields (ds : List Description) : Type 0 where
   fields : List Field
   same : map description fields ≡ ds
 
-with_field : (line : List ℕ) (o : Option Description) (ds : List Description) → field_on line ≡ o → Fields ds → Fields (cons_option o ds)
-with_field line None ds e fs = fs
-with_field line (Some d) ds e fs =
-    let f : Field = record { name = d.name; offset = d.offset; size = d.size; signed = d.signed; kind = d.kind; sized = field_line-sized line d (field_on-IsFieldLine line d e) } in
-    record { fields = f ∷ fs.fields; same = ap (λ es. d ∷ es) fs.same }
+abbrev EndInside : List Description → Type 0
+EndInside ds = AllByRecursion (λ d. d.offset + d.size ≤ LAYOUT_END) ds
 
-fields_of : (lines : List (List ℕ)) → Fields (described lines)
-fields_of [] = record { fields = []; same = refl }
-fields_of (line ∷ lines) = with_field line (field_on line) (described lines) refl (fields_of lines)
+end_inside-first : (number : ℕ) (earlier : List Description) (o : Option Description) (ds : List Description) → field_fault number earlier o ≡ None → EndInside ds → EndInside (cons_option o ds)
+end_inside-first number earlier None ds h rest = absurd cc
+end_inside-first number earlier (Some d) ds h rest = ((field_fault-none number earlier d h).0, rest)
+
+-- where no rule is broken the fields that lines describe end inside
+end_inside : (number : ℕ) (earlier : List Description) (lines : List (List ℕ)) → lines_fault number earlier lines ≡ None → EndInside (described lines)
+end_inside number earlier [] h = tt
+end_inside number earlier ([] ∷ lines) h =
+    let later : lines_fault (number + 1) (earlier ++ described ([] ∷ [])) lines ≡ None = h in
+    subst EndInside (sym (empty-passed lines)) (end_inside (number + 1) (earlier ++ described ([] ∷ [])) lines later)
+end_inside number earlier ((b ∷ bs) ∷ lines) h =
+    let faults = none_or (line_fault number earlier (b ∷ bs)) (lines_fault (number + 1) (earlier ++ described ((b ∷ bs) ∷ [])) lines) h in
+    end_inside-first number earlier (field_on (b ∷ bs)) (described lines) (sym (line_fault-some number earlier b bs) ∙ faults.0)
+    (end_inside (number + 1) (earlier ++ described ((b ∷ bs) ∷ [])) lines faults.1)
+
+with_field : (line : List ℕ) (o : Option Description) (ds : List Description) → field_on line ≡ o → EndInside (cons_option o ds) → (EndInside ds → Fields ds) → Fields (cons_option o ds)
+with_field line None ds e ends fs = fs ends
+with_field line (Some d) ds e ends fs =
+    let rest = fs ends.1 in
+    let f : Field = record { name = d.name; offset = d.offset; size = d.size; signed = d.signed; kind = d.kind; sized = field_line-sized line d (field_on-IsFieldLine line d e); inside = ends.0 } in
+    record { fields = f ∷ rest.fields; same = ap (λ es. d ∷ es) rest.same }
+
+fields_of : (lines : List (List ℕ)) → EndInside (described lines) → Fields (described lines)
+fields_of [] ends = record { fields = []; same = refl }
+fields_of (line ∷ lines) ends = with_field line (field_on line) (described lines) refl ends (fields_of lines)
 
 -- something that is there
 that : {A : Type 0} (o : Option A) → is_some o ≡ true → (x : A) × (o ≡ Some x)
@@ -361,7 +374,8 @@ no_fault-layout text h =
     let after_id = none_or (fault_unless (is_some (id_on (line_at 1 lines))) BadId) (option_or (fault_unless (bytes_eq (line_at 2 lines) (codes "format:")) (BadField 3)) (lines_fault 4 [] (read_lines (drop 3 lines)))) after_name.1 in
     let name = that (name_on (line_at 0 lines)) (there (is_some (name_on (line_at 0 lines))) NoName after_name.0) in
     let id = that (id_on (line_at 1 lines)) (there (is_some (id_on (line_at 1 lines))) BadId after_id.0) in
-    let read = fields_of (read_lines (drop 3 lines)) in
+    let after_format = none_or (fault_unless (bytes_eq (line_at 2 lines) (codes "format:")) (BadField 3)) (lines_fault 4 [] (read_lines (drop 3 lines))) after_id.1 in
+    let read = fields_of (read_lines (drop 3 lines)) (end_inside 4 [] (read_lines (drop 3 lines)) after_format.1) in
     let layout : Layout = record { name = name.0; id = id.0; fields = read.fields; size = greatest_end read.fields; covers = refl } in
     (layout, (name.1, id.1, read.same))
 
@@ -380,3 +394,10 @@ ends_below (f ∷ fs) m h = (omega arith, ends_below fs m (omega arith))
 
 pub fields_inside : (l : Layout) → AllByRecursion (λ f. end_of f ≤ l.size) l.fields
 fields_inside l = ends_below l.fields l.size (omega (arith, l.covers))
+
+greatest_end-inside : (fs : List Field) → greatest_end fs ≤ LAYOUT_END
+greatest_end-inside [] = omega arith
+greatest_end-inside (f ∷ fs) = omega (arith, f.inside, greatest_end-inside fs)
+
+pub size_inside : (l : Layout) → l.size ≤ LAYOUT_END
+size_inside l = omega (arith, l.covers, greatest_end-inside l.fields)

@@ -1,6 +1,10 @@
 pub mod BytesLemmas
+pub mod ForOthers
 pub mod LayoutLaws
+pub mod Lists
 pub mod LoopLemmas
+pub mod NameLaws
+pub mod NameSets
 pub mod SameLaws
 pub mod SpellingLaws
 pub mod StripLaws

@@ -1,8 +1,9 @@
 -- Fields and layouts are equal where what they say is.
-use Rattle.std.proofs.Common.{◌≡◌, ℕ, Bool, true, List, [], ◌∷◌, map, refl, ap, sym, subst, ◌∙◌}
+use Rattle.std.proofs.Common.{◌≡◌, ℕ, ◌+◌, ◌≤◌, Bool, true, List, [], ◌∷◌, map, refl, ap, sym, subst, ◌∙◌}
 use Rattle.std.specs.Prelude.{IsTrue}
 use mathlib.Core.Bool.{Bool-set}
 use Rattle.std.proofs.Props.{props}
+use Rattle.bt_core.specs.declared.limits.TheConstants.{LAYOUT_END}
 use Rattle.tracefs_format.specs.declared.field.Field.{Field}
 use Rattle.tracefs_format.specs.declared.layout.Layout.{Layout}
 use Rattle.tracefs_format.specs.FieldLines.{Description, description}
@@ -15,13 +16,18 @@ test_prop b = Bool-set b true
 number_prop : (m n : ℕ) → IsProp (m ≡ n)
 number_prop m n = hlevel props
 
-abbrev field_of : (d : Description) → IsTrue (fits_kind d.kind d.size) → Field
-field_of d p = record { name = d.name; offset = d.offset; size = d.size; signed = d.signed; kind = d.kind; sized = p }
+order_prop : (m n : ℕ) → IsProp (m ≤ n)
+order_prop m n = hlevel props
+
+abbrev field_of : (d : Description) → IsTrue (fits_kind d.kind d.size) → d.offset + d.size ≤ LAYOUT_END → Field
+field_of d p q = record { name = d.name; offset = d.offset; size = d.size; signed = d.signed; kind = d.kind; sized = p; inside = q }
 
 pub same_field : (f g : Field) → description f ≡ description g → f ≡ g
 same_field f g e =
-    let P : Description → Type 0 = λ d. (q : IsTrue (fits_kind d.kind d.size)) → field_of (description f) f.sized ≡ field_of d q in
-    subst P e (λ q. ap (field_of (description f)) (test_prop (fits_kind f.kind f.size) f.sized q)) g.sized
+    let P : Description → Type 0 = λ d. (p : IsTrue (fits_kind d.kind d.size)) (q : d.offset + d.size ≤ LAYOUT_END) → field_of (description f) f.sized f.inside ≡ field_of d p q in
+    subst P e (λ p q.
+    ap (λ (s : IsTrue (fits_kind f.kind f.size)). field_of (description f) s f.inside) (test_prop (fits_kind f.kind f.size) f.sized p)
+    ∙ ap (λ (s : f.offset + f.size ≤ LAYOUT_END). field_of (description f) p s) (order_prop (f.offset + f.size) LAYOUT_END f.inside q)) g.sized g.inside
 
 abbrev first_of_two : List Description → Description → Description
 first_of_two [] d = d

@@ -1,21 +1,21 @@
 -- Lines: what is read on a line is spelled there, and what is spelled there is read.
 use Rattle.std.proofs.Common.{◌≡◌, ℕ, ◌≤◌, Bool, true, false, cond, not, eqb, ◌&&◌, List, [], ◌∷◌, ◌++◌, length, Option, Some, None, refl, ap, sym, subst, ◌∙◌, arith, eq-eqb}
 use Rattle.std.specs.Prelude.{◌==◌, nat_lt, nat_le, codes}
-use Rattle.std.specs.Char.{is_ascii_digit}
+use Rattle.bt_core.specs.Bytes.{is_digit, is_word_byte}
 use Rattle.std.specs.List.{list_all}
 use Rattle.std.specs.Option.{option_map}
 use Rattle.std.specs.Str.{bytes_eq}
-use Rattle.std.proofs.lemmas.Bool.{eqb-true, leb-true, le-leb, lt-ltb}
+use Rattle.std.proofs.lemmas.Bool.{eqb-true, leb-true, le-leb, lt-ltb, and_parts, and_from}
 use Rattle.std.proofs.lemmas.List.{nil_from_length}
 use Rattle.tracefs_format.specs.declared.field.FieldKind.{FieldKind}
 use Rattle.std.proofs.lemmas.Slice.Eq.{bytes_eq-Decides}
-use Rattle.tracefs_format.specs.Bytes.{is_blank, is_word_byte, without_front, longest_beginning, cut_at, after, labelled, decimal_value, number_in, flag_in}
+use Rattle.tracefs_format.specs.Bytes.{is_blank, without_front, longest_beginning, cut_at, after, labelled, decimal_value, number_in, flag_in}
 use Rattle.tracefs_format.specs.Declarations.{declared_name, declared_kind}
 use Rattle.tracefs_format.specs.FieldLines.{Description, IsLabelled, IsNumber, IsFieldLine, flag_bytes}
 use Rattle.tracefs_format.specs.Lines.{AreBlanks, IsWord, IsDecimal, IsNameLine, IsIdLine}
 use Rattle.tracefs_format.specs.Reading.{◌>>=◌, word_in, name_on, id_on, number_after, flag_after, field_on}
 use Rattle.tracefs_format.proofs.BytesLemmas.{with_first, front_parts, after-append, after-parts}
-use Rattle.tracefs_format.proofs.StripLaws.{IsLabel, labelled-IsLabelled, IsLabelled-labelled, and-parts, and-both, list_all-both, list_all-parts, list_all-weaker, all-longest_beginning, without_front-append, some_is}
+use Rattle.tracefs_format.proofs.StripLaws.{IsLabel, labelled-IsLabelled, IsLabelled-labelled, list_all-both, list_all-parts, list_all-weaker, all-longest_beginning, without_front-append, some_is}
 
 -- the value of a step that found something
 pub bind_some : {A B : Type 0} (o : Option A) (f : A → Option B) (y : B) → (o >>= f) ≡ Some y → (x : A) × (o ≡ Some x) × (f x ≡ Some y)
@@ -32,15 +32,15 @@ chosen false x y h = absurd cc
 pub number_in-IsDecimal : (greatest : ℕ) (bytes : List ℕ) (n : ℕ) → number_in greatest bytes ≡ Some n → IsDecimal bytes n × (n ≤ greatest)
 number_in-IsDecimal greatest [] n h = absurd cc
 number_in-IsDecimal greatest (b ∷ bs) n h =
-    let found = chosen (list_all is_ascii_digit (b ∷ bs) && nat_le (decimal_value (b ∷ bs)) greatest) (decimal_value (b ∷ bs)) n h in
-    let parts = and-parts (list_all is_ascii_digit (b ∷ bs)) (nat_le (decimal_value (b ∷ bs)) greatest) found.0 in
+    let found = chosen (list_all is_digit (b ∷ bs) && nat_le (decimal_value (b ∷ bs)) greatest) (decimal_value (b ∷ bs)) n h in
+    let parts = and_parts (list_all is_digit (b ∷ bs)) (nat_le (decimal_value (b ∷ bs)) greatest) found.0 in
     (record { some = λ e. cc; digits_only = parts.0; value = sym found.1 }, subst (λ m. m ≤ greatest) found.1 (leb-true (decimal_value (b ∷ bs)) greatest parts.1))
 
 pub IsDecimal-number_in : (greatest : ℕ) (bytes : List ℕ) (n : ℕ) → IsDecimal bytes n → n ≤ greatest → number_in greatest bytes ≡ Some n
 IsDecimal-number_in greatest [] n d h = absurd (d.some refl)
 IsDecimal-number_in greatest (b ∷ bs) n d h =
     let fits : nat_le (decimal_value (b ∷ bs)) greatest ≡ true = le-leb (decimal_value (b ∷ bs)) greatest (subst (λ m. m ≤ greatest) d.value h) in
-    let both : (list_all is_ascii_digit (b ∷ bs) && nat_le (decimal_value (b ∷ bs)) greatest) ≡ true = and-both (list_all is_ascii_digit (b ∷ bs)) (nat_le (decimal_value (b ∷ bs)) greatest) d.digits_only fits in
+    let both : (list_all is_digit (b ∷ bs) && nat_le (decimal_value (b ∷ bs)) greatest) ≡ true = and_from (list_all is_digit (b ∷ bs)) (nat_le (decimal_value (b ∷ bs)) greatest) d.digits_only fits in
     ap (λ v. cond v (Some (decimal_value (b ∷ bs))) None) both ∙ ap Some (sym d.value)
 
 pub flag_in-flag_bytes : (bytes : List ℕ) (flag : Bool) → flag_in bytes ≡ Some flag → bytes ≡ flag_bytes flag
@@ -67,7 +67,7 @@ cut_with : (byte x : ℕ) (xs : List ℕ) (wanted : List ℕ × List ℕ) (o : O
 cut_with byte x xs wanted None other h e = absurd cc
 cut_with byte x xs wanted (Some parts) other h e =
     let found = h parts refl in
-    subst (IsCut byte (x ∷ xs)) (some_is e) (ap (λ l. x ∷ l) found.0, and-both (is_other byte x) (list_all (is_other byte) parts.0) other found.1)
+    subst (IsCut byte (x ∷ xs)) (some_is e) (ap (λ l. x ∷ l) found.0, and_from (is_other byte x) (list_all (is_other byte) parts.0) other found.1)
 
 pub cut_at-parts : (byte : ℕ) (xs : List ℕ) (wanted : List ℕ × List ℕ) → cut_at byte xs ≡ Some wanted → IsCut byte xs wanted
 cut_at-parts byte [] wanted h = absurd cc
@@ -81,7 +81,7 @@ cut_at-parts byte (x ∷ xs) wanted h =
 pub parts-cut_at : (byte : ℕ) (front rest : List ℕ) → list_all (is_other byte) front ≡ true → cut_at byte (front ++ byte ∷ rest) ≡ Some (front, rest)
 parts-cut_at byte [] rest h = rw (eq-eqb byte byte refl) refl
 parts-cut_at byte (x ∷ front) rest h =
-    let parts = and-parts (is_other byte x) (list_all (is_other byte) front) h in
+    let parts = and_parts (is_other byte x) (list_all (is_other byte) front) h in
     let differs : eqb x byte ≡ false = elim (eqb x byte) as (λ v. not v ≡ true → v ≡ false) [ true ↦ λ k. absurd cc | false ↦ λ k. refl ] parts.0 in
     rw differs (ap (option_map (with_first x)) (parts-cut_at byte front rest parts.1))
 
@@ -90,7 +90,7 @@ parts-cut_at byte (x ∷ front) rest h =
 blank_other : (b : ℕ) → is_blank b ≡ true → is_other 59 b ≡ true
 blank_other b h = grind arith
 
-digit_other : (b : ℕ) → is_ascii_digit b ≡ true → is_other 59 b ≡ true
+digit_other : (b : ℕ) → is_digit b ≡ true → is_other 59 b ≡ true
 digit_other b h = grind arith
 
 blanks_other : (bs : List ℕ) → AreBlanks bs → list_all (is_other 59) bs ≡ true
@@ -217,7 +217,7 @@ field_on-IsFieldLine line d h =
     })
 
 number_other : (label part : List ℕ) (n : ℕ) → IsNumber label n part → list_all (is_other 59) label ≡ true → list_all (is_other 59) part ≡ true
-number_other label part n s h = labelled_other label s.digits part s.labelled h (list_all-weaker is_ascii_digit (is_other 59) digit_other s.digits s.decimal.digits_only)
+number_other label part n s h = labelled_other label s.digits part s.labelled h (list_all-weaker is_digit (is_other 59) digit_other s.digits s.decimal.digits_only)
 
 flag_other : (flag : Bool) → list_all (is_other 59) (flag_bytes flag) ≡ true
 flag_other true = refl
@@ -252,25 +252,25 @@ word_not_blank b h = grind arith
 
 word_kept : (bytes : List ℕ) → IsWord bytes → without_front is_blank bytes ≡ bytes
 word_kept [] w = absurd (w.some refl)
-word_kept (b ∷ bs) w = rw (word_not_blank b (and-parts (is_word_byte b) (list_all is_word_byte bs) w.word).0) refl
+word_kept (b ∷ bs) w = rw (word_not_blank b (and_parts (is_word_byte b) (list_all is_word_byte bs) w.word).0) refl
 
-digit_not_blank : (b : ℕ) → is_ascii_digit b ≡ true → is_blank b ≡ false
+digit_not_blank : (b : ℕ) → is_digit b ≡ true → is_blank b ≡ false
 digit_not_blank b h = grind arith
 
 digits_kept : (bytes : List ℕ) (n : ℕ) → IsDecimal bytes n → without_front is_blank bytes ≡ bytes
 digits_kept [] n d = absurd (d.some refl)
-digits_kept (b ∷ bs) n d = rw (digit_not_blank b (and-parts (is_ascii_digit b) (list_all is_ascii_digit bs) d.digits_only).0) refl
+digits_kept (b ∷ bs) n d = rw (digit_not_blank b (and_parts (is_digit b) (list_all is_digit bs) d.digits_only).0) refl
 
 word_in-IsWord : (bytes name : List ℕ) → word_in bytes ≡ Some name → (bytes ≡ name) × IsWord name
 word_in-IsWord [] name h = absurd cc
 word_in-IsWord (b ∷ bs) name h =
     let found = chosen (nat_lt 0 (length (b ∷ bs)) && list_all is_word_byte (b ∷ bs)) (b ∷ bs) name h in
-    let parts = and-parts (nat_lt 0 (length (b ∷ bs))) (list_all is_word_byte (b ∷ bs)) found.0 in
+    let parts = and_parts (nat_lt 0 (length (b ∷ bs))) (list_all is_word_byte (b ∷ bs)) found.0 in
     (found.1, subst IsWord found.1 (record { some = λ e. cc; word = parts.1 }))
 
 IsWord-word_in : (name : List ℕ) → IsWord name → word_in name ≡ Some name
 IsWord-word_in [] w = absurd (w.some refl)
-IsWord-word_in (b ∷ bs) w = ap (λ v. cond v (Some (b ∷ bs)) None) (and-both (nat_lt 0 (length (b ∷ bs))) (list_all is_word_byte (b ∷ bs)) (lt-ltb 0 (length (b ∷ bs)) (omega arith)) w.word)
+IsWord-word_in (b ∷ bs) w = ap (λ v. cond v (Some (b ∷ bs)) None) (and_from (nat_lt 0 (length (b ∷ bs))) (list_all is_word_byte (b ∷ bs)) (lt-ltb 0 (length (b ∷ bs)) (omega arith)) w.word)
 
 pub name_on-IsNameLine : (line name : List ℕ) → name_on line ≡ Some name → IsNameLine line name
 unfolding name_on

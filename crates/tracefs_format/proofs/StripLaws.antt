@@ -1,18 +1,12 @@
 -- Bytes without their blanks, and bytes after a label: what is read is spelled so, and what is spelled so is read.
 use Rattle.std.proofs.Common.{◌≡◌, ℕ, Bool, true, false, cond, ◌&&◌, List, [], ◌∷◌, ◌++◌, Option, Some, None, refl, ap, sym, ◌∙◌, append_assoc}
+use Rattle.std.proofs.lemmas.Bool.{and_parts, and_from}
 use Rattle.std.specs.List.{list_all}
 use Rattle.std.specs.Option.{option_map}
 use Rattle.tracefs_format.specs.Bytes.{is_blank, without_front, without_end, longest_beginning, longest_ending, stripped, after, labelled}
 use Rattle.tracefs_format.specs.Lines.{AreBlanks}
 use Rattle.tracefs_format.specs.FieldLines.{IsLabelled}
 use Rattle.tracefs_format.proofs.BytesLemmas.{front_parts, end_parts, without_end-all, after-append, after-parts}
-
-pub and-parts : (a b : Bool) → (a && b) ≡ true → (a ≡ true) × (b ≡ true)
-and-parts true b h = (refl, h)
-and-parts false b h = absurd cc
-
-pub and-both : (a b : Bool) → a ≡ true → b ≡ true → (a && b) ≡ true
-and-both a b h k = rw h k
 
 and_true : (a : Bool) → (a && true) ≡ a
 and_true true = refl
@@ -27,16 +21,16 @@ list_all-append p [] ys = refl
 list_all-append p (x ∷ xs) ys = ap (λ v. p x && v) (list_all-append p xs ys) ∙ and_assoc (p x) (list_all p xs) (list_all p ys)
 
 pub list_all-both : (p : ℕ → Bool) (xs ys : List ℕ) → list_all p xs ≡ true → list_all p ys ≡ true → list_all p (xs ++ ys) ≡ true
-list_all-both p xs ys h k = list_all-append p xs ys ∙ and-both (list_all p xs) (list_all p ys) h k
+list_all-both p xs ys h k = list_all-append p xs ys ∙ and_from (list_all p xs) (list_all p ys) h k
 
 pub list_all-parts : (p : ℕ → Bool) (xs ys : List ℕ) → list_all p (xs ++ ys) ≡ true → (list_all p xs ≡ true) × (list_all p ys ≡ true)
-list_all-parts p xs ys h = and-parts (list_all p xs) (list_all p ys) (sym (list_all-append p xs ys) ∙ h)
+list_all-parts p xs ys h = and_parts (list_all p xs) (list_all p ys) (sym (list_all-append p xs ys) ∙ h)
 
 pub list_all-weaker : (p q : ℕ → Bool) → ((b : ℕ) → p b ≡ true → q b ≡ true) → (xs : List ℕ) → list_all p xs ≡ true → list_all q xs ≡ true
 list_all-weaker p q h [] k = refl
 list_all-weaker p q h (x ∷ xs) k =
-    let parts = and-parts (p x) (list_all p xs) k in
-    and-both (q x) (list_all q xs) (h x parts.0) (list_all-weaker p q h xs parts.1)
+    let parts = and_parts (p x) (list_all p xs) k in
+    and_from (q x) (list_all q xs) (h x parts.0) (list_all-weaker p q h xs parts.1)
 
 pub some_is : {A : Type 0} {x y : A} → Some x ≡ Some y → x ≡ y
 some_is h = cc
@@ -47,7 +41,7 @@ module _ (p : ℕ → Bool) where
   pub all-longest_beginning : (xs : List ℕ) → list_all p (longest_beginning p xs) ≡ true
   all-longest_beginning [] = refl
   all-longest_beginning (x ∷ xs) = (elim (p x) as (λ v. p x ≡ v → list_all p (cond v (x ∷ longest_beginning p xs) []) ≡ true)
-      [ true ↦ λ e. and-both (p x) (list_all p (longest_beginning p xs)) e (all-longest_beginning xs) | false ↦ λ e. refl ]) refl
+      [ true ↦ λ e. and_from (p x) (list_all p (longest_beginning p xs)) e (all-longest_beginning xs) | false ↦ λ e. refl ]) refl
 
   pub all-longest_ending : (xs : List ℕ) → list_all p (longest_ending p xs) ≡ true
   all-longest_ending [] = refl
@@ -57,7 +51,7 @@ module _ (p : ℕ → Bool) where
   pub without_front-append : (a xs : List ℕ) → list_all p a ≡ true → without_front p (a ++ xs) ≡ without_front p xs
   without_front-append [] xs h = refl
   without_front-append (x ∷ a) xs h =
-      let parts = and-parts (p x) (list_all p a) h in
+      let parts = and_parts (p x) (list_all p a) h in
       rw parts.0 (without_front-append a xs parts.1)
 
   pub without_end-append : (xs b : List ℕ) → list_all p b ≡ true → without_end p (xs ++ b) ≡ without_end p xs
@@ -78,7 +72,7 @@ module _ (p : ℕ → Bool) where
   without_front-all : (xs : List ℕ) → list_all p xs ≡ true → without_front p xs ≡ []
   without_front-all [] h = refl
   without_front-all (x ∷ xs) h =
-      let parts = and-parts (p x) (list_all p xs) h in
+      let parts = and_parts (p x) (list_all p xs) h in
       rw parts.0 (without_front-all xs parts.1)
 
   -- it is one which side comes first

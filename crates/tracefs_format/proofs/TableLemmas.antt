@@ -5,11 +5,9 @@ use Rattle.std.specs.Prelude.{nat_lt}
 use Rattle.std.specs.List.{list_any}
 use Rattle.std.specs.Str.{bytes_eq}
 use Rattle.std.specs.BTreeSet.{BTreeSet}
-use Rattle.std.specs.Ordering.{nat_cmp, is_eq}
-use Rattle.std.specs.Cmp.Lexicographic.{slice_cmp}
 use Rattle.std.proofs.lemmas.List.{map_push}
 use Rattle.std.proofs.lemmas.List.Folds.{list_any-append}
-use Rattle.std.proofs.lemmas.Map.Text.{is_eq-slice_cmp}
+use Rattle.bt_core.specs.declared.limits.TheConstants.{LAYOUT_END}
 use Rattle.tracefs_format.specs.declared.field.Field.{Field}
 use Rattle.tracefs_format.specs.FieldLines.{Description, description}
 use Rattle.tracefs_format.specs.Layouts.{is_taken, field_fault}
@@ -41,17 +39,12 @@ table-push fields names later size f t others = record {
   covers = ap (λ n. max n (end_of f)) t.covers ∙ sym (greatest_end-push fields f);
 }
 
--- what a set has after a name was inserted
-pub inserted : (name copied other : List ℕ) (old new : Bool) → copied ≡ name → new ≡ cond (is_eq (slice_cmp nat_cmp copied other)) true old → new ≡ (bytes_eq name other || old)
-inserted name copied other old new same h = h ∙ ap (λ v. cond v true old) (is_eq-slice_cmp copied other ∙ ap (λ l. bytes_eq l other) same)
-    ∙ elim (bytes_eq name other) as (λ v. cond v true old ≡ (v || old)) [ true ↦ refl | false ↦ refl ]
-
 pub added-fault : (fields : List Field) (names : BTreeSet (List ℕ)) (size number : ℕ) (ds : List Description) (d : Description) (new : Bool) → IsTable fields names size → map description fields ≡ ds
-    → d.offset + d.size ≤ 4096 → new ≡ not (is_known names d.name) → new ≡ true → field_fault number ds (Some d) ≡ None
+    → d.offset + d.size ≤ LAYOUT_END → new ≡ not (is_known names d.name) → new ≡ true → field_fault number ds (Some d) ≡ None
 added-fault fields names size number ds d new t seen within told fresh =
     let unknown : is_known names d.name ≡ false = elim (is_known names d.name) as (λ v. not v ≡ true → v ≡ false) [ true ↦ λ h. absurd cc | false ↦ λ h. refl ] (sym told ∙ fresh) in
     let untaken : is_taken d.name ds ≡ false = ap (is_taken d.name) (sym seen) ∙ sym (known-taken fields names size d.name t) ∙ unknown in
-    rw (le-ltb 4096 (d.offset + d.size) within, untaken) refl
+    rw (le-ltb LAYOUT_END (d.offset + d.size) within, untaken) refl
 
 pub added-fields : (fields later : List Field) (f : Field) (ds : List Description) (d : Description) → map description fields ≡ ds → later ≡ fields ++ f ∷ [] → description f ≡ d → map description later ≡ ds ++ d ∷ []
 added-fields fields later f ds d seen added same = ap (map description) added ∙ map_push description fields f ∙ ap (λ xs. xs ++ description f ∷ []) seen ∙ ap (λ x. ds ++ x ∷ []) same

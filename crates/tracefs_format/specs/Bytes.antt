@@ -1,9 +1,10 @@
 -- Words on the bytes of a format text.
-use Rattle.std.specs.Prelude.{◌≡◌, ℕ, ◌+◌, ◌*◌, ◌-◌, Bool, true, false, ◌==◌, ◌||◌, ◌&&◌, not, nat_le, nat_lt, filter, codes, List, [], ◌∷◌, length, Option, Some, None, if◌then◌else◌}
+use Rattle.std.specs.Prelude.{◌≡◌, ℕ, ◌+◌, ◌*◌, ◌-◌, Bool, true, false, ◌==◌, ◌||◌, ◌&&◌, not}
+use Rattle.std.specs.Prelude.{nat_le, nat_lt, filter, codes, List, [], ◌∷◌, length, Option, Some, None, if◌then◌else◌}
 use Rattle.std.specs.List.{list_all, fold, slice_split}
 use Rattle.std.specs.Str.{bytes_eq}
 use Rattle.std.specs.Option.{option_map, option_or}
-use Rattle.std.specs.Char.{is_ascii_alphanumeric, is_ascii_digit}
+use Rattle.bt_core.specs.Bytes.{is_digit, is_word_byte}
 use Rattle.tracefs_format.specs.declared.bytes.ByteClass.{ByteClass}
 use Rattle.tracefs_format.specs.declared.bytes.ByteClass.TheVariants.{Blank, LineEnd, Word, Separator}
 
@@ -14,10 +15,6 @@ is_blank b = b == 32 || b == 9
 -- what is passed over at the end of a line: blanks and carriage returns
 abbrev pub is_line_end : ℕ → Bool
 is_line_end b = is_blank b || b == 13
-
--- a letter or a digit, where `_` is a letter
-abbrev pub is_word_byte : ℕ → Bool
-is_word_byte b = is_ascii_alphanumeric b || b == 95
 
 -- what stands between words
 abbrev pub is_separator : ℕ → Bool
@@ -80,7 +77,7 @@ decimal_value digits = fold (λ n digit. 10 * n + (digit - 48)) 0 digits
 -- the number that bytes spell in decimal digits, if they spell one and it is at most so great
 abbrev pub number_in : ℕ → List ℕ → Option ℕ
 number_in greatest [] = None
-number_in greatest (b ∷ bs) = if list_all is_ascii_digit (b ∷ bs) && nat_le (decimal_value (b ∷ bs)) greatest then Some (decimal_value (b ∷ bs)) else None
+number_in greatest (b ∷ bs) = if list_all is_digit (b ∷ bs) && nat_le (decimal_value (b ∷ bs)) greatest then Some (decimal_value (b ∷ bs)) else None
 
 -- the flag that bytes spell, as 0 or 1
 abbrev pub flag_in : List ℕ → Option Bool

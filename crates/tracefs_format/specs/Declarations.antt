@@ -1,10 +1,12 @@
 -- The name and the kind of a field, by its declaration.
-use Rattle.std.specs.Prelude.{ℕ, Bool, false, ◌==◌, ◌&&◌, not, nat_eq, codes, List, [], ◌∷◌, Option, None, is_some, unwrap_or, if◌then◌else◌}
+use Rattle.std.specs.Prelude.{ℕ, Bool, false, ◌==◌, ◌&&◌, not, nat_eq, codes}
+use Rattle.std.specs.Prelude.{List, [], ◌∷◌, Option, None, is_some, unwrap_or, if◌then◌else◌}
 use Rattle.std.specs.List.{list_any, starts_with, ends_with}
 use Rattle.std.specs.Str.{bytes_eq}
+use Rattle.bt_core.specs.Bytes.{is_word_byte}
 use Rattle.tracefs_format.specs.declared.field.FieldKind.{FieldKind}
 use Rattle.tracefs_format.specs.declared.field.FieldKind.TheVariants.{Number, Chars, DataLoc, Other}
-use Rattle.tracefs_format.specs.Bytes.{is_word_byte, without_end, longest_ending, before_last, words}
+use Rattle.tracefs_format.specs.Bytes.{without_end, longest_ending, before_last, words}
 use Rattle.tracefs_format.specs.Kinds.{is_number_size}
 
 -- a declaration without its last bracket group, where it ends in one: what stands before its last `[`

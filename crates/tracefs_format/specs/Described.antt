@@ -1,4 +1,4 @@
--- What a line of a format text said, as the reader keeps it.
+-- What a line of a format text said, as the reader keeps it. No public contract cites this.
 use Rattle.tracefs_format.specs.declared.line.FieldLine.{FieldLine}
 use Rattle.tracefs_format.specs.FieldLines.{Description}
 

@@ -1,8 +1,10 @@
 -- Format texts: which layout one has, and the first rule that it breaks where it has none.
-use Rattle.std.specs.Prelude.{◌≡◌, ◌+◌, ◌≤◌, ◌&&◌, ℕ, Bool, not, nat_lt, nat_eq, codes, ⊤, List, [], ◌∷◌, ◌++◌, length, filter, drop, slice_index_or, Option, Some, None, is_some, if◌then◌else◌}
+use Rattle.std.specs.Prelude.{◌≡◌, ◌+◌, ◌≤◌, ◌&&◌, ℕ, Bool, not, nat_lt, nat_eq, codes, ⊤, List}
+use Rattle.std.specs.Prelude.{[], ◌∷◌, ◌++◌, length, filter, drop, slice_index_or, Option, Some, None, is_some, if◌then◌else◌}
 use Rattle.std.specs.List.{list_any, starts_with, take_while, filter_map, AllByRecursion}
 use Rattle.std.specs.Option.{option_or}
 use Rattle.std.specs.Str.{bytes_eq}
+use Rattle.bt_core.specs.declared.limits.TheConstants.{LAYOUT_END}
 use Rattle.tracefs_format.specs.declared.error.FormatError.{FormatError}
 use Rattle.tracefs_format.specs.declared.error.FormatError.TheVariants.{NoName, BadId, BadField, Overlong, SameName}
 use Rattle.tracefs_format.specs.declared.field.Field.{Field}
@@ -45,7 +47,7 @@ pub record IsLayoutOf (text : List ℕ) (layout : Layout) : Type 0 where
   pub name : IsNameLine first layout.name
   pub id : IsIdLine second layout.id
   pub fields : AreFieldLines (filled (read_lines others)) layout.fields
-  pub ends : AllByRecursion (λ f. end_of f ≤ 4096) layout.fields
+  pub ends : AllByRecursion (λ f. end_of f ≤ LAYOUT_END) layout.fields
   pub names : HaveNamesApart layout.fields
   pub size : layout.size ≡ greatest_end layout.fields
 
@@ -65,7 +67,7 @@ is_taken name earlier = nat_lt 0 (length name) && list_any (λ d. bytes_eq d.nam
 abbrev pub field_fault : ℕ → List Description → Option Description → Option FormatError
 field_fault number earlier None = Some (BadField number)
 field_fault number earlier (Some d) =
-    if nat_lt 4096 (d.offset + d.size) then Some (Overlong number)
+    if nat_lt LAYOUT_END (d.offset + d.size) then Some (Overlong number)
     else if is_taken d.name earlier then Some (SameName number)
     else None
 

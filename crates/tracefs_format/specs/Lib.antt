@@ -1,3 +1,4 @@
+pub mod ByName
 pub mod Bytes
 pub mod Declarations
 pub mod Described
@@ -5,6 +6,7 @@ pub mod FieldLines
 pub mod Kinds
 pub mod Layouts
 pub mod Lines
+pub mod Names
 pub mod Reading
 pub mod Sizes
 pub mod Tables

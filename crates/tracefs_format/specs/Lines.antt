@@ -1,8 +1,8 @@
 -- The lines of a format text, and what its first lines spell.
 use Rattle.std.specs.Prelude.{◌≡◌, ◌≢◌, ◌≤◌, ℕ, ◌==◌, codes, map, List, [], ◌++◌, IsTrue, Option, Some, None}
 use Rattle.std.specs.List.{list_all, slice_split}
-use Rattle.std.specs.Char.{is_ascii_digit}
-use Rattle.tracefs_format.specs.Bytes.{is_blank, is_line_end, is_word_byte, without_end, decimal_value}
+use Rattle.bt_core.specs.Bytes.{is_digit, is_word_byte}
+use Rattle.tracefs_format.specs.Bytes.{is_blank, is_line_end, without_end, decimal_value}
 
 -- the lines of a text, cut at its newlines, without the blanks and carriage returns at their ends
 abbrev pub text_lines : List ℕ → List (List ℕ)
@@ -25,7 +25,7 @@ pub record IsWord (bytes : List ℕ) : Type 0 where
 -- one or more decimal digits that spell this number
 pub record IsDecimal (digits : List ℕ) (n : ℕ) : Type 0 where
   pub some : digits ≢ []
-  pub digits_only : IsTrue (list_all is_ascii_digit digits)
+  pub digits_only : IsTrue (list_all is_digit digits)
   pub value : n ≡ decimal_value digits
 
 -- the line is `name:`, blanks, and this name

@@ -1,7 +1,8 @@
 -- What lines say, where they say it: the functions that go with their spellings.
 use Rattle.std.specs.Prelude.{◌==◌, ◌&&◌, ℕ, Bool, nat_lt, codes, List, length, Option, Some, None, if◌then◌else◌}
 use Rattle.std.specs.List.{list_all}
-use Rattle.tracefs_format.specs.Bytes.{is_blank, is_word_byte, without_front, cut_at, after, labelled, number_in, flag_in}
+use Rattle.bt_core.specs.Bytes.{is_word_byte}
+use Rattle.tracefs_format.specs.Bytes.{is_blank, without_front, cut_at, after, labelled, number_in, flag_in}
 use Rattle.tracefs_format.specs.Declarations.{declared_name, declared_kind}
 use Rattle.tracefs_format.specs.FieldLines.{Description}
 
@@ -48,4 +49,6 @@ field_on line = do
   size ← number_after (codes "size:") third.0
   fourth ← cut_at 59 third.1
   signed ← flag_after (codes "signed:") fourth.0
-  if length fourth.1 == 0 then Some (record { name = declared_name declaration; offset = offset; size = size; signed = signed; kind = declared_kind declaration size }) else None
+  if length fourth.1 == 0
+    then Some (record { name = declared_name declaration; offset = offset; size = size; signed = signed; kind = declared_kind declaration size })
+    else None

@@ -1,4 +1,5 @@
--- What a reader answers, and what it keeps of the fields that it has read.
+-- What the functions inside the reader answer, and what it keeps of the fields that it has read. No public contract cites these
+-- definitions.
 use Rattle.std.specs.Prelude.{◌≡◌, ◌≢◌, ℕ, Bool, ⊤, List, [], map, drop, length, nat_lt, ◌&&◌, Option, Some, None, Result, Ok, Err}
 use Rattle.std.specs.List.{list_any}
 use Rattle.std.specs.Str.{bytes_eq}

@@ -1,6 +1,9 @@
 // Classes of bytes, and cuts of byte lists.
 ghost use Rattle.std.specs.Prelude.{◌≡◌, ◌==◌, ◌<◌, ◌≤◌, ◌++◌, length, position, Option, OnSome, IfSome};
-ghost use Rattle.tracefs_format.specs.Bytes.{is_in, without_front, without_end, longest_beginning, longest_ending, stripped, cut_at, before_last, after, labelled, number_in, flag_in, Finds};
+ghost use Rattle.tracefs_format.specs.Bytes.{is_in, without_front, without_end, longest_beginning, longest_ending, stripped};
+ghost use Rattle.tracefs_format.specs.Bytes.{cut_at, before_last, after, labelled, number_in, flag_in, Finds};
+
+use bt_core::bytes::{is_digit, is_word_byte};
 
 /// A class of bytes.
 #[derive(Clone, Copy, PartialEq, Eq, Debug)]
@@ -23,8 +26,8 @@ impl ByteClass {
         match self {
             ByteClass::Blank => byte == b' ' || byte == b'\t',
             ByteClass::LineEnd => byte == b' ' || byte == b'\t' || byte == b'\r',
-            ByteClass::Word => byte.is_ascii_alphanumeric() || byte == b'_',
-            ByteClass::Separator => !(byte.is_ascii_alphanumeric() || byte == b'_'),
+            ByteClass::Word => is_word_byte(byte),
+            ByteClass::Separator => !is_word_byte(byte),
         }
     }
 }
@@ -141,7 +144,7 @@ pub fn number_in(bytes: &[u8], greatest: u32) -> Option<u32>
     }
     let mut value = 0u64;
     for byte in bytes {
-        if !byte.is_ascii_digit() {
+        if !is_digit(*byte) {
             return None;
         }
         value = 10 * value + u64::from(*byte - b'0');

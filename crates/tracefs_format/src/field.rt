@@ -1,5 +1,6 @@
 // The fields of an event.
-ghost use Rattle.std.specs.Prelude.{◌≡◌, IfOk, IsTrue};
+ghost use Rattle.std.specs.Prelude.{◌≡◌, ◌+◌, ◌≤◌, IfOk, IsTrue};
+ghost use Rattle.bt_core.specs.declared.limits.TheConstants.{LAYOUT_END};
 ghost use Rattle.tracefs_format.specs.Kinds.{fits_kind};
 
 use bt_core::items::Items;
@@ -34,6 +35,8 @@ pub struct Field {
     pub kind: FieldKind,
     /// A number has 1, 2, 4 or 8 bytes, and a data location has 4.
     pub ghost sized: { IsTrue (fits_kind kind size) },
+    /// It ends within the bytes that a layout may have.
+    pub ghost inside: { offset + size ≤ LAYOUT_END },
 }
 
 impl TryCopy for Field {

@@ -1,5 +1,6 @@
 // A tracepoint with its format text.
 ghost use Rattle.std.specs.Prelude.{◌≡◌, IfOk};
+ghost use Rattle.tracefs_format.specs.Names.{tracepoint_name};
 
 use crate::layout::Layout;
 use bt_core::items::Items;
@@ -15,6 +16,29 @@ pub struct Format {
     pub text: Items<u8>,
     /// What the text says.
     pub layout: Layout,
+}
+
+impl Format {
+    ghost use Rattle.std.specs.Prelude.{IsTrue, ◌↔◌};
+    ghost use Rattle.tracefs_format.specs.ByName.{IsNamed};
+
+    /// Whether the tracepoint belongs to this system and has this name.
+    pub fn is_named(&self, system: &[u8], name: &[u8]) -> bool
+        ensures { IsTrue result ↔ IsNamed self.now system.now name.now }
+    {
+        self.system.as_slice() == system && self.layout.name.as_slice() == name
+    }
+}
+
+/// How the tracepoint of a system and a name is called: both with a colon between them, as
+/// `sched:sched_switch`.
+pub fn tracepoint_name(alloc: Global, system: &[u8], name: &[u8]) -> Result<Items<u8>, Memory>
+    ensures { IfOk result (λ joined. joined ≡ tracepoint_name system.now name.now) }
+{
+    let mut joined = Vec::from_slice(alloc, system)?;
+    joined.push(b':')?;
+    joined.extend_from_slice(name)?;
+    Ok(Items::of(joined))
 }
 
 impl TryCopy for Format {

@@ -1,11 +1,16 @@
 // Laws of the definitions: what a format text has, and what its lines spell.
-ghost use Rattle.std.specs.Prelude.{◌≡◌, ◌≤◌, ◌↔◌, ◌⊎◌, ℕ, List, Some, None};
+ghost use Rattle.std.specs.Prelude.{◌≡◌, ◌≤◌, ◌↔◌, ◌⊎◌, ℕ, List, Some, None, IsTrue};
 ghost use Rattle.std.specs.List.{AllByRecursion};
+ghost use Rattle.bt_core.specs.declared.limits.TheConstants.{LAYOUT_END};
 ghost use Rattle.tracefs_format.specs.declared.error.FormatError.{FormatError};
+ghost use Rattle.tracefs_format.specs.declared.field.Field.{Field};
+ghost use Rattle.tracefs_format.specs.declared.format.Format.{Format};
 ghost use Rattle.tracefs_format.specs.declared.layout.Layout.{Layout};
+ghost use Rattle.tracefs_format.specs.ByName.{field_named, full_name, IsFieldNamed, IsNamed};
 ghost use Rattle.tracefs_format.specs.FieldLines.{Description, IsFieldLine};
 ghost use Rattle.tracefs_format.specs.Layouts.{IsLayoutOf, layout_fault};
 ghost use Rattle.tracefs_format.specs.Lines.{IsNameLine, IsIdLine};
+ghost use Rattle.tracefs_format.specs.Names.{has_no_colon};
 ghost use Rattle.tracefs_format.specs.Reading.{name_on, id_on, field_on};
 ghost use Rattle.tracefs_format.specs.Sizes.{end_of};
 
@@ -23,7 +28,21 @@ pub fn lines_as_spelled()
     ensures field { (line : List ℕ) (field : Description) → (field_on line ≡ Some field) ↔ IsFieldLine line field }
 {}
 
-/// Each field of a layout ends inside its size.
+/// Each field of a layout ends inside its size, and no layout is longer than a field may reach.
 pub fn fields_inside()
-    ensures { (layout : Layout) → AllByRecursion (λ f. end_of f ≤ layout.size) layout.fields }
+    ensures fields { (layout : Layout) → AllByRecursion (λ f. end_of f ≤ layout.size) layout.fields }
+    ensures small { (layout : Layout) → layout.size ≤ LAYOUT_END }
+{}
+
+/// A name finds a field of a text's layout exactly where it is that field's, and not empty.
+pub fn one_field_of_a_name()
+    ensures { (text name : List ℕ) (layout : Layout) (field : Field) → IsLayoutOf text layout
+        → (field_named name layout.fields ≡ Some field) ↔ IsFieldNamed name layout.fields field }
+{}
+
+/// Where no colon stands in their systems, two tracepoints are called by one name exactly where they belong to one
+/// system and have one name.
+pub fn one_tracepoint_of_a_name()
+    ensures { (f g : Format) → IsTrue (has_no_colon f.system) → IsTrue (has_no_colon g.system)
+        → (full_name f ≡ full_name g) ↔ IsNamed f g.system g.layout.name }
 {}

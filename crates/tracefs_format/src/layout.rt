@@ -21,6 +21,27 @@ pub struct Layout {
     pub ghost covers: { size ≡ greatest_end fields },
 }
 
+impl Layout {
+    ghost use Rattle.std.specs.Option.{option_copied};
+    ghost use Rattle.tracefs_format.specs.ByName.{field_named};
+
+    /// The field of this name, or `None` where there is none. The empty name finds none, since nothing
+    /// reads a field without a name.
+    pub fn field(&self, name: &[u8]) -> Option<&Field>
+        ensures { option_copied result ≡ field_named name.now self.now.fields }
+    {
+        if name.is_empty() {
+            return None;
+        }
+        for field in self.fields.as_slice() {
+            if field.name.as_slice() == name {
+                return Some(field);
+            }
+        }
+        None
+    }
+}
+
 impl TryCopy for Layout {
     fn try_copy(&self, alloc: Global) -> Result<Layout, Memory> {
         let name = self.name.try_copy(alloc)?;

@@ -14,6 +14,4 @@ mod line;
 mod lines;
 pub mod reading;
 mod table;
-#[cfg(test)]
-mod tests;
 mod words;

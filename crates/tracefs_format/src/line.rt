@@ -1,7 +1,8 @@
 // What the lines of a format text say.
 ghost use Rattle.std.specs.Prelude.{◌≡◌, IfSome, IsTrue};
 ghost use Rattle.std.specs.List.{list_all};
-ghost use Rattle.tracefs_format.specs.Bytes.{Finds, is_word_byte};
+ghost use Rattle.bt_core.specs.Bytes.{is_word_byte};
+ghost use Rattle.tracefs_format.specs.Bytes.{Finds};
 ghost use Rattle.tracefs_format.specs.Kinds.{fits_kind};
 ghost use Rattle.tracefs_format.specs.Reading.{word_in, name_on, id_on, number_after, flag_after, field_on};
 ghost use Rattle.tracefs_format.specs.Described.{described_by};

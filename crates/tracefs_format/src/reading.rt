@@ -1,5 +1,6 @@
 // Reading a format text.
-ghost use Rattle.std.specs.Prelude.{◌≡◌, ◌≢◌, ◌⊎◌, ◌∷◌, [], ◌++◌, ◌+◌, ◌<◌, ◌^◌, drop, length, IfOk, IfErr, Some, Ok, Err};
+ghost use Rattle.std.specs.Prelude.{◌≡◌, ◌≢◌, ◌⊎◌, ◌∷◌, [], ◌++◌, ◌+◌, ◌<◌};
+ghost use Rattle.std.specs.Prelude.{◌^◌, drop, length, IfOk, IfErr, Some, Ok, Err};
 ghost use Rattle.tracefs_format.specs.declared.layout.Layout.{Layout};
 ghost use Rattle.tracefs_format.specs.declared.error.FormatError.{FormatError};
 ghost use Rattle.tracefs_format.specs.Lines.{text_lines};
@@ -10,7 +11,8 @@ use crate::error::FormatError;
 use crate::layout::Layout;
 use crate::line::{field_on, id_on, name_on};
 use crate::lines::Lines;
-use crate::table::{FieldTable, copied};
+use crate::table::FieldTable;
+use bt_core::items::Items;
 use std::alloc::Global;
 
 /// The layout of a format text, in the form of `/sys/kernel/tracing/events/SYSTEM/EVENT/format`.
@@ -56,7 +58,7 @@ fn read(alloc: Global, text: &[u8]) -> Result<Layout, FormatError>
         return Err(FormatError::BadField(3));
     }
     let table = read_fields(alloc, lines)?;
-    Ok(table.into_layout(copied(alloc, name)?, id))
+    Ok(table.into_layout(Items::from_slice(alloc, name)?, id))
 }
 
 /// The fields that lines describe, of which the first is line 4.

@@ -75,7 +75,7 @@ impl FieldTable {
             return Err(FormatError::SameName(number));
         }
         fields.push(Field {
-            name: copied(alloc, line.name)?,
+            name: Items::from_slice(alloc, line.name)?,
             offset: line.offset,
             size: line.size,
             signed: line.signed,
@@ -101,13 +101,6 @@ impl FieldTable {
     }
 }
 
-/// A list of these bytes.
-pub fn copied(alloc: Global, bytes: &[u8]) -> Result<Items<u8>, Memory>
-    ensures { IfOk result (λ copied. copied ≡ bytes.now) }
-{
-    Ok(Items::of(Vec::from_slice(alloc, bytes)?))
-}
-
 /// Adds a name that is not empty, and answers whether it is new. An empty name is always new.
 fn note_name(alloc: Global, names: &mut BTreeSet<Items<u8>>, name: &[u8]) -> Result<bool, Memory>
     ensures new { IfOk result (λ new. new ≡ not (is_known names.old name.now)) }
@@ -116,5 +109,5 @@ fn note_name(alloc: Global, names: &mut BTreeSet<Items<u8>>, name: &[u8]) -> Res
     if name.is_empty() {
         return Ok(true);
     }
-    Ok(names.insert(copied(alloc, name)?)?)
+    Ok(names.insert(Items::from_slice(alloc, name)?)?)
 }

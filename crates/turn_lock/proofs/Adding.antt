@@ -10,9 +10,10 @@ use Rattle.turn_lock.specs.declared.view.Stage.{Stage}
 use Rattle.turn_lock.specs.declared.view.Stage.TheVariants.{Idle, Holds}
 use Rattle.turn_lock.specs.Turns.{DeskOk, after}
 use Rattle.turn_lock.specs.Calls.{Gains, Stays}
-use Rattle.turn_lock.proofs.Parts.{legal_rises, legal_snoc, stamp_snoc, ops_snoc, made_by_append, made_by_own}
+use Rattle.turn_lock.proofs.HistoryLemmas.{legal_rises, legal_snoc, stamp_snoc, ops_snoc, made_by_append, made_by_own}
 
-pub adds : {O : Type 0} (l : Law) (fits : O → List Op → Type 0) (d d' : Desk O) (h : List Entry) (e : Entry) → DeskOk l fits d h → e.caller < l.callers → l.is_own e.op → e.reply ≡ l.reply (ops h) e.op
+pub adds : {O : Type 0} (l : Law) (fits : O → List Op → Type 0) (d d' : Desk O) (h : List Entry) (e : Entry) → DeskOk l fits d h → e.caller < l.callers
+    → l.is_own e.op → e.reply ≡ l.reply (ops h) e.op
     → e.stamp ≡ suc (max e.floor d.stamp) → d'.stamp ≡ e.stamp → fits d'.object (ops h ++ e.op ∷ []) → DeskOk l fits d' (h ++ e ∷ [])
 adds l fits d d' h e ok caller own reply stamp stored object = record {
   legal = legal_snoc l [] 0 h e ok.legal record { caller = caller; own = own; reply = reply; stamp = stamp ∙ ap (λ (k : ℕ). suc (max e.floor k)) ok.stamp };
@@ -46,16 +47,19 @@ err_weaken P Q (Ok x) f h = tt
 err_weaken P Q (Err e) f h = f h
 
 -- what a caller knows after it added an entry
-pub called : (l : Law) (c : ℕ) (v : View) (h : List Entry) (e : Entry) → StartsWith h v.seen → made_by c h ≡ v.mine → e.caller ≡ c → IsLegal l (h ++ e ∷ []) → Gains l c v (after (e ∷ []) v h) e
+pub called : (l : Law) (c : ℕ) (v : View) (h : List Entry) (e : Entry) → StartsWith h v.seen → made_by c h ≡ v.mine → e.caller ≡ c → IsLegal l (h ++ e ∷ [])
+    → Gains l c v (after (e ∷ []) v h) e
 called l c v h e s own by legal = record {
-  sees = record { legal = legal; rises = legal_rises l [] 0 (h ++ e ∷ []) legal; own = made_by_append c h (e ∷ []) ∙ (λ i. own i ++ made_by_own c (e ∷ []) (by, tt) i) };
+  sees = record { legal = legal; rises = legal_rises l [] 0 (h ++ e ∷ []) legal; own = made_by_append c h (e ∷ [])
+      ∙ (λ i. own i ++ made_by_own c (e ∷ []) (by, tt) i) };
   more = (s.0, ap (λ (z : List Entry). z ++ e ∷ []) s.1);
   one_more = refl;
 }
 
 -- what a caller knows after it gave up
 pub looked_on : (l : Law) (c : ℕ) (v : View) (h : List Entry) → StartsWith h v.seen → made_by c h ≡ v.mine → IsLegal l h → Stays l c v (after [] v h)
-looked_on l c v h s own legal = subst (λ (z : List Entry × List Entry). Stays l c v (let w : View = record v { stage = Idle; mine = z.0; seen = z.1 } in w)) (λ i. (sym (append-nil v.mine) i, sym (append-nil h) i)) record {
+looked_on l c v h s own legal = subst (λ (z : List Entry × List Entry). Stays l c v (let w : View = record v { stage = Idle; mine = z.0; seen = z.1 } in w))
+    (λ i. (sym (append-nil v.mine) i, sym (append-nil h) i)) record {
   sees = record { legal = legal; rises = legal_rises l [] 0 h legal; own = own };
   more = s;
   same = refl;
@@ -71,4 +75,5 @@ each_left P (x ∷ xs) ys h = (h.0, each_left P xs ys h.1)
 
 -- the entry's stamp is above its floor, and above each stamp that was seen before
 pub above : (l : Law) (c : ℕ) (v w : View) (e : Entry) → Gains l c v w e → (e.floor < e.stamp) × Each (λ x. x.stamp < e.stamp) v.seen
-above l c v w e g = let t = rises_last 0 (v.seen ++ g.more.0) e (subst (Rises 0) g.more.1 g.sees.rises) in (t.0, each_left (λ x. x.stamp < e.stamp) v.seen g.more.0 t.2)
+above l c v w e g = let t = rises_last 0 (v.seen ++ g.more.0) e (subst (Rises 0) g.more.1 g.sees.rises) in
+    (t.0, each_left (λ x. x.stamp < e.stamp) v.seen g.more.0 t.2)

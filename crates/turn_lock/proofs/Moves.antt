@@ -19,7 +19,8 @@ use Rattle.turn_lock.specs.declared.view.View.{View}
 use Rattle.turn_lock.specs.declared.view.Desk.{Desk}
 use Rattle.turn_lock.specs.History.{Law, made_by, StartsWith, Each}
 use Rattle.turn_lock.specs.Turns.{Part, part_of, nobody, newcomer, first_view, dealer_after, past_of, taking, keepsake, at_stage, busy, waiting, StageOk, CallerOk, KnowsPast, Knows, DeskOk, IsOut, IsHome, Kept, after, drew, left, looked, noted, Finds}
-use Rattle.turn_lock.proofs.Parts.{put, put_here, put_else, at_snoc_place, Each-weaken, Each-snoc, waiting-le, waiting_put, starts_with_itself, starts_with_nothing, starts_with_start, made_by_own, made_by_others, made_by_append}
+use Rattle.turn_lock.proofs.Parts.{put, put_here, put_else, at_snoc_place, waiting-le, waiting_put}
+use Rattle.turn_lock.proofs.HistoryLemmas.{Each-weaken, Each-snoc, starts_with_itself, starts_with_nothing, starts_with_start, made_by_own, made_by_others, made_by_append}
 
 abbrev W64 : ℕ
 W64 = 2 ^ 64
@@ -52,7 +53,8 @@ moved log log' callers seat made id views v w p longer live at w_live w_caller w
 
     here : Knows log' callers' seat made id w
     here = record {
-      live = λ _. let a = mine.live live in (subst (λ (c : ℕ). c < made) (sym w_caller) a.0, ap seat w_caller ∙ a.1, ap callers' w_caller ∙ put_here callers v.caller p ∙ sym is);
+      live = λ _. let a = mine.live live in (subst (λ (c : ℕ). c < made) (sym w_caller) a.0, ap seat w_caller ∙ a.1, ap callers' w_caller
+          ∙ put_here callers v.caller p ∙ sym is);
       deals = λ h. let d = mine.deals (subst (λ (m : ℕ). 0 < m) w_made h) in (w_made ∙ d.0, d.1);
       taken = subst (λ (z : Bool × ℕ × List Past). Each (KnowsPast log' callers' seat made id z.0 z.1) z.2) (λ i. (sym w_live i, sym w_caller i, sym w_taken i))
           (Each-weaken (KnowsPast log callers seat made id v.live v.caller) (KnowsPast log' callers' seat made id v.live v.caller)
@@ -77,11 +79,14 @@ module _ {O : Type 0} (l : Law) (fits : O → List Op → Type 0) where
   Homes = List (maybe.Option S)
 
   -- the state as it is, after a load that changes no view
-  unmoved : (s : St) (i id : ℕ) (v : View) → get_elem? s.views id ≡ some v → Rule s → Rule record { words = set s.words i (get_or s.words i 0); homes = s.homes; views = set s.views id v }
-  unmoved s i id v at r = subst (λ (z : List ℕ × List View). Rule record { words = z.0; homes = s.homes; views = z.1 }) (λ k. (sym (set-get_or s.words i 0) k, sym (set_again s.views id v at) k)) r
+  unmoved : (s : St) (i id : ℕ) (v : View) → get_elem? s.views id ≡ some v → Rule s
+      → Rule record { words = set s.words i (get_or s.words i 0); homes = s.homes; views = set s.views id v }
+  unmoved s i id v at r = subst (λ (z : List ℕ × List View). Rule record { words = z.0; homes = s.homes; views = z.1 })
+      (λ k. (sym (set-get_or s.words i 0) k, sym (set_again s.views id v at) k)) r
 
   -- one more caller waits
-  stage_more : (log : List Entry) (who : ℕ → ℕ) (base count x : ℕ) (homes : Homes) (c : ℕ) (st : Stage) → StageOk log who base count homes c st → StageOk log (put who count x) base (count + 1) homes c st
+  stage_more : (log : List Entry) (who : ℕ → ℕ) (base count x : ℕ) (homes : Homes) (c : ℕ) (st : Stage) → StageOk log who base count homes c st
+      → StageOk log (put who count x) base (count + 1) homes c st
   stage_more log who base count x homes c Idle h = tt
   stage_more log who base count x homes c (Waits t) h = (h.0, omega arith, put_else who count x h.0 (λ e. omega arith) ∙ h.2, h.3)
   stage_more log who base count x homes c (Holds g) h = (omega arith, put_else who count x 0 (λ e. omega arith) ∙ h.1, h.2, h.3)
@@ -147,12 +152,16 @@ module _ {O : Type 0} (l : Law) (fits : O → List Op → Type 0) where
             (λ ne. let old = r.each d lt in subst (CallerOk r.log who' r.base (r.count + 1) s.homes d) (sym (put_else r.callers c p d ne))
             record { mine = old.mine; seen = old.seen; stage = stage_more r.log r.who r.base r.count c s.homes d (r.callers d).stage old.stage });
         others = λ d le. let old = r.others d le in (old.0, ap (λ (q : Part). q.stage) (put_else r.callers c p d (λ e. omega (arith, inside))) ∙ old.1);
-        slot = ⊎_elim (λ (t : IsOut l fits s.homes r.callers r.made r.log). inl (t.0, (t.1.0, t.1.1, (t.1.2.0, ap (λ (q : Part). q.stage) (put_else r.callers c p t.1.0 (λ e. not_idle_holds t.1.2.0 (sym idle ∙ ap (λ (q : Part). q.stage) (sym is) ∙ ap (λ (k : ℕ). (r.callers k).stage) (sym e) ∙ t.1.2.1))) ∙ t.1.2.1)))) inr r.slot;
+        slot = ⊎_elim (λ (t : IsOut l fits s.homes r.callers r.made r.log). inl
+            (t.0, (t.1.0, t.1.1, (t.1.2.0, ap (λ (q : Part). q.stage)
+            (put_else r.callers c p t.1.0 (λ e. not_idle_holds t.1.2.0 (sym idle ∙ ap (λ (q : Part). q.stage) (sym is)
+            ∙ ap (λ (k : ℕ). (r.callers k).stage) (sym e) ∙ t.1.2.1))) ∙ t.1.2.1)))) inr r.slot;
         seats = moved r.log r.log r.callers r.seat r.made id s.views v w p (starts_with_itself r.log) live at refl refl refl refl refl mine.seen r.seats;
       }
         where
           word : (n + 1) % 2 ^ 64 ≡ (r.base + (r.count + 1)) % 2 ^ 64
-          word = ap (λ (k : ℕ). (k + 1) % 2 ^ 64) n_is ∙ mod-add-mod (r.base + r.count) (2 ^ 64) 1 ∙ ap (λ (k : ℕ). k % 2 ^ 64) (let a : r.base + r.count + 1 ≡ r.base + (r.count + 1) = omega arith in a)
+          word = ap (λ (k : ℕ). (k + 1) % 2 ^ 64) n_is ∙ mod-add-mod (r.base + r.count) (2 ^ 64) 1
+              ∙ ap (λ (k : ℕ). k % 2 ^ 64) (let a : r.base + r.count + 1 ≡ r.base + (r.count + 1) = omega arith in a)
 
           own : CallerOk r.log who' r.base (r.count + 1) s.homes c (callers' c)
           own = subst (CallerOk r.log who' r.base (r.count + 1) s.homes c) (sym (put_here r.callers c p)) record {
@@ -171,14 +180,16 @@ module _ {O : Type 0} (l : Law) (fits : O → List Op → Type 0) where
   holds_is h g e = cc
 
   -- the object is taken out: no other caller had it
-  stage_out : (log : List Entry) (who : ℕ → ℕ) (base count : ℕ) (homes : Homes) (c : ℕ) (st : Stage) → StageOk {O = O} log who base count homes c st → StageOk {O = O} log who base count (none ∷ []) c st
+  stage_out : (log : List Entry) (who : ℕ → ℕ) (base count : ℕ) (homes : Homes) (c : ℕ) (st : Stage) → StageOk {O = O} log who base count homes c st
+      → StageOk {O = O} log who base count (none ∷ []) c st
   stage_out log who base count homes c Idle h = tt
   stage_out log who base count homes c (Waits t) h = h
   stage_out log who base count homes c (Holds g) h = (h.0, h.1, h.2, refl)
 
   pub looks : (W : Desk O → ℕ → List Entry → Type 0) (slots id : ℕ) (m : M) (t : ℕ) → ((d : Desk O) (k : ℕ) (h : List Entry) → Finds l fits d k h → W d k h)
       → m.0.live ≡ true → m.1 ≡ [] → m.0.stage ≡ Waits t → Allows Rule slots id m 1 (λ n. n) (λ n m'. looked W m n m')
-  looks W slots id m t tells live empty waits s r _ at _ = dite (ℕ_discrete n t) comes (λ ne. (m.0, keeps, tt, unmoved s 1 id m.0 at r, λ u e. ((λ q. absurd (ne (q ∙ waits_is u t (sym e ∙ waits)))), λ _. refl)))
+  looks W slots id m t tells live empty waits s r _ at _ = dite (ℕ_discrete n t) comes
+      (λ ne. (m.0, keeps, tt, unmoved s 1 id m.0 at r, λ u e. ((λ q. absurd (ne (q ∙ waits_is u t (sym e ∙ waits)))), λ _. refl)))
     where
       v : View
       v = m.0
@@ -214,7 +225,8 @@ module _ {O : Type 0} (l : Law) (fits : O → List Op → Type 0) where
       comes now = ⊎_elim (λ (o : IsOut l fits s.homes r.callers r.made r.log). absurd (out o)) home r.slot
         where
           first : queued.0 ≡ 0
-          first = let e = one_turn r.base (r.base + queued.0) (2 ^ 64) (omega arith) (let a = queued.1 in let b = few in omega arith) (sym n_is ∙ now ∙ queued.3) in omega (arith, e)
+          first = let e = one_turn r.base (r.base + queued.0) (2 ^ 64) (omega arith) (let a = queued.1 in let b = few in omega arith) (sym n_is ∙ now
+              ∙ queued.3) in omega (arith, e)
 
           head_is : r.who 0 ≡ c
           head_is = ap r.who (sym first) ∙ queued.2
@@ -223,10 +235,12 @@ module _ {O : Type 0} (l : Law) (fits : O → List Op → Type 0) where
           some_wait = let a = queued.1 in omega arith
 
           out : IsOut l fits s.homes r.callers r.made r.log → ⊥
-          out o = let other = subst (StageOk r.log r.who r.base r.count s.homes o.1.0) o.1.2.1 (r.each o.1.0 o.1.1).stage in let same : c ≡ o.1.0 = sym head_is ∙ other.1 in
+          out o = let other = subst (StageOk r.log r.who r.base r.count s.homes o.1.0) o.1.2.1 (r.each o.1.0 o.1.1).stage in
+              let same : c ≡ o.1.0 = sym head_is ∙ other.1 in
               not_waits_holds t o.1.2.0 (sym stage_is ∙ ap (λ (k : ℕ). (r.callers k).stage) same ∙ o.1.2.1)
 
-          home : IsHome l fits s.homes r.log → (w : View) × (a : Act S) × Valid s.homes m.1 a × Rule (stepped s 1 n id m.1 w a) × looked W m n (w, carried_after m.1 a)
+          home : IsHome l fits s.homes r.log → (w : View) × (a : Act S) × Valid s.homes m.1 a × Rule (stepped s 1 n id m.1 w a)
+              × looked W m n (w, carried_after m.1 a)
           home (d, there, ok) = (w, takes 0 (Some d), ap (λ (hs : Homes). get_elem? hs 0) there, kept, tells_so)
             where
               w : View
@@ -259,7 +273,8 @@ module _ {O : Type 0} (l : Law) (fits : O → List Op → Type 0) where
                 made = r.made;
                 legal = r.legal;
                 words = r.words;
-                few = (let a = waiting_put l.callers r.callers c p (omega (arith, inside, r.made_fits)) in let b = r.few in let e : busy (r.callers c).stage ≡ 1 = ap busy stage_is in omega arith);
+                few = (let a = waiting_put l.callers r.callers c p (omega (arith, inside, r.made_fits)) in let b = r.few in
+                    let e : busy (r.callers c).stage ≡ 1 = ap busy stage_is in omega arith);
                 small = r.small;
                 made_fits = r.made_fits;
                 each = λ e lt. dite (ℕ_discrete e c)
@@ -268,28 +283,34 @@ module _ {O : Type 0} (l : Law) (fits : O → List Op → Type 0) where
                     record { mine = old.mine; seen = old.seen; stage = stage_out r.log r.who r.base r.count s.homes e (r.callers e).stage old.stage });
                 others = λ e le. let old = r.others e le in (old.0, ap (λ (q : Part). q.stage) (put_else r.callers c p e (λ q. omega (arith, inside))) ∙ old.1);
                 slot = inl (refl, (c, inside, (r.log, ap (λ (q : Part). q.stage) (put_here r.callers c p))));
-                seats = moved r.log r.log r.callers r.seat r.made id s.views v w p (starts_with_itself r.log) live at refl refl refl refl refl mine.seen r.seats;
+                seats = moved r.log r.log r.callers r.seat r.made id s.views v w p
+                    (starts_with_itself r.log) live at refl refl refl refl refl mine.seen r.seats;
               }
 
               kept : Rule (stepped s 1 n id m.1 w (takes 0 (Some d)))
-              kept = subst (λ (z : List ℕ × Homes). Rule record { words = z.0; homes = z.1; views = set s.views id w }) (λ k. (sym (set-get_or s.words 1 0) k, sym homes_are k)) there_out
+              kept = subst (λ (z : List ℕ × Homes). Rule record { words = z.0; homes = z.1; views = set s.views id w })
+                  (λ k. (sym (set-get_or s.words 1 0) k, sym homes_are k)) there_out
 
               tells_so : looked W m n (w, (0, Some d) ∷ m.1)
               tells_so u e = (
-                (λ _. (r.log, d, (λ k. (w, (0, Some d) ∷ empty k)), tells d c r.log (ok, omega (arith, inside, r.made_fits)), mine.seen, (r.each c inside).mine ∙ ap (λ (q : Part). q.mine) is)),
+                (λ _. (r.log, d, (λ k. (w, (0, Some d) ∷ empty k)), tells d c r.log (ok, omega (arith, inside, r.made_fits)), mine.seen,
+                    (r.each c inside).mine ∙ ap (λ (q : Part). q.mine) is)),
                 λ ne. absurd (ne (now ∙ waits_is t u (sym waits ∙ e))),
               )
 
   -- the first of those that wait is done
-  stage_less : (log log' : List Entry) (who : ℕ → ℕ) (base count : ℕ) (homes homes' : Homes) (c d : ℕ) (st : Stage) → d ≢ c → who 0 ≡ c → StageOk log who base count homes d st → StageOk log' (λ k. who (k + 1)) (base + 1) (count - 1) homes' d st
+  stage_less : (log log' : List Entry) (who : ℕ → ℕ) (base count : ℕ) (homes homes' : Homes) (c d : ℕ) (st : Stage) → d ≢ c → who 0 ≡ c
+      → StageOk log who base count homes d st → StageOk log' (λ k. who (k + 1)) (base + 1) (count - 1) homes' d st
   stage_less log log' who base count homes homes' c d Idle ne first h = tt
-  stage_less log log' who base count homes homes' c d (Waits t) ne first h = let later : h.0 ≢ 0 = λ e. ne (sym h.2 ∙ ap who e ∙ first) in let k : ℕ = h.0 in let same : k - 1 + 1 ≡ k = omega arith in
+  stage_less log log' who base count homes homes' c d (Waits t) ne first h = let later : h.0 ≢ 0 = λ e. ne (sym h.2 ∙ ap who e ∙ first) in let k : ℕ = h.0 in
+      let same : k - 1 + 1 ≡ k = omega arith in
       (k - 1, (let a = h.1 in omega arith), ap who same ∙ h.2, h.3 ∙ ap (λ (z : ℕ). z % 2 ^ 64) (let a : base + k ≡ base + 1 + (k - 1) = omega arith in a))
   stage_less log log' who base count homes homes' c d (Holds g) ne first h = absurd (ne (sym h.1 ∙ first))
 
   pub leaves : (slots id : ℕ) (m : M) (h made : List Entry) (d : Desk O) → DeskOk l fits d (h ++ made) → Each (λ e. e.caller ≡ m.0.caller) made
       → m.0.live ≡ true → m ≡ (m.0, (0, Some d) ∷ []) → m.0.stage ≡ Holds h → Allows Rule slots id m 1 (λ n. (n + 1) % 2 ^ 64) (λ n m'. left made m m')
-  leaves slots id m h made d ok by live has holds s r _ at _ = (w, gives, tt, kept, λ g e. (λ k. (after made v (holds_is h g (sym holds ∙ e) k), rest (has k).1)))
+  leaves slots id m h made d ok by live has holds s r _ at _ =
+      (w, gives, tt, kept, λ g e. (λ k. (after made v (holds_is h g (sym holds ∙ e) k), rest (has k).1)))
     where
       v : View
       v = m.0
@@ -353,7 +374,8 @@ module _ {O : Type 0} (l : Law) (fits : O → List Op → Type 0) where
 
       own : CallerOk log' who' (r.base + 1) (r.count - 1) homes' c (callers' c)
       own = subst (CallerOk log' who' (r.base + 1) (r.count - 1) homes' c) (sym (put_here r.callers c p)) record {
-        mine = made_by_append c h made ∙ (λ k. made_by c (turn.2 k) ++ made_by_own c made by k) ∙ ap (λ (z : List Entry). z ++ made) ((r.each c inside).mine ∙ ap (λ (q : Part). q.mine) is);
+        mine = made_by_append c h made ∙ (λ k. made_by c (turn.2 k) ++ made_by_own c made by k)
+            ∙ ap (λ (z : List Entry). z ++ made) ((r.each c inside).mine ∙ ap (λ (q : Part). q.mine) is);
         seen = starts_with_itself log';
         stage = tt;
       }
@@ -372,20 +394,24 @@ module _ {O : Type 0} (l : Law) (fits : O → List Op → Type 0) where
         made = r.made;
         legal = ok.legal;
         words = refl;
-        few = (let a = waiting_put l.callers r.callers c p (omega (arith, inside, r.made_fits)) in let b = r.few in let e : busy (r.callers c).stage ≡ 1 = ap busy stage_is in omega arith);
+        few = (let a = waiting_put l.callers r.callers c p (omega (arith, inside, r.made_fits)) in let b = r.few in
+            let e : busy (r.callers c).stage ≡ 1 = ap busy stage_is in omega arith);
         small = r.small;
         made_fits = r.made_fits;
         each = λ e lt. dite (ℕ_discrete e c)
             (λ q. subst (λ (z : ℕ). CallerOk log' who' (r.base + 1) (r.count - 1) homes' z (callers' z)) (sym q) own)
             (λ ne. let old = r.each e lt in subst (CallerOk log' who' (r.base + 1) (r.count - 1) homes' e) (sym (put_else r.callers c p e ne))
-            record { mine = none_of e ne ∙ old.mine; seen = starts_with_start log' r.log (r.callers e).seen longer old.seen; stage = stage_less r.log log' r.who r.base r.count s.homes homes' c e (r.callers e).stage ne turn.1 old.stage });
-        others = λ e le. let old = r.others e le in let ne : e ≢ c = λ q. omega (arith, inside) in (none_of e ne ∙ old.0, ap (λ (q : Part). q.stage) (put_else r.callers c p e ne) ∙ old.1);
+            record { mine = none_of e ne ∙ old.mine; seen = starts_with_start log' r.log (r.callers e).seen longer old.seen;
+                stage = stage_less r.log log' r.who r.base r.count s.homes homes' c e (r.callers e).stage ne turn.1 old.stage });
+        others = λ e le. let old = r.others e le in let ne : e ≢ c = λ q. omega (arith, inside) in
+            (none_of e ne ∙ old.0, ap (λ (q : Part). q.stage) (put_else r.callers c p e ne) ∙ old.1);
         slot = inr (d, refl, ok);
         seats = moved r.log log' r.callers r.seat r.made id s.views v w p longer live at refl refl refl refl refl (starts_with_itself log') r.seats;
       }
 
       kept : Rule (stepped s 1 ((n + 1) % 2 ^ 64) id m.1 w gives)
-      kept = subst (λ (z : List ℕ × Homes). Rule record { words = z.0; homes = z.1; views = set s.views id w }) (λ k. (sym words_are k, sym homes_are k)) kept_so
+      kept = subst (λ (z : List ℕ × Homes). Rule record { words = z.0; homes = z.1; views = set s.views id w })
+          (λ k. (sym words_are k, sym homes_are k)) kept_so
 
   pub notes : (slots id : ℕ) (m : M) → m.0.live ≡ true → Allows Rule slots id m 1 (λ n. n) (λ n m'. noted m m')
   notes slots id m live s r _ at _ = (w, keeps, tt, kept, ((r.log, refl, made_by_mine, past, mine.seen), refl))
@@ -415,7 +441,8 @@ module _ {O : Type 0} (l : Law) (fits : O → List Op → Type 0) where
       made_by_mine = (r.each c inside).mine ∙ ap (λ (q : Part). q.mine) is
 
       past : Each (λ (q : Past). made_by q.caller r.log ≡ q.mine) v.taken
-      past = Each-weaken (KnowsPast r.log r.callers r.seat r.made id v.live c) (λ q. made_by q.caller r.log ≡ q.mine) (λ q a. (r.each q.caller a.0).mine ∙ ap (λ (z : Part). z.mine) a.2) v.taken mine.taken
+      past = Each-weaken (KnowsPast r.log r.callers r.seat r.made id v.live c) (λ q. made_by q.caller r.log ≡ q.mine) (λ q a. (r.each q.caller a.0).mine
+          ∙ ap (λ (z : Part). z.mine) a.2) v.taken mine.taken
 
       callers' : ℕ → Part
       callers' = put r.callers c p
@@ -429,7 +456,9 @@ module _ {O : Type 0} (l : Law) (fits : O → List Op → Type 0) where
 
       same_stage : (e : ℕ) → (callers' e).stage ≡ (r.callers e).stage
       same_stage e = dite (ℕ_discrete e c)
-          (λ q. ap (λ (k : ℕ). (callers' k).stage) q ∙ ap (λ (z : Part). z.stage) (put_here r.callers c p ∙ let x : p ≡ record (r.callers c) { seen = r.log } = (λ k. let z : Part = record (sym is k) { seen = r.log } in z) in x) ∙ ap (λ (k : ℕ). (r.callers k).stage) (sym q))
+          (λ q. ap (λ (k : ℕ). (callers' k).stage) q ∙ ap (λ (z : Part). z.stage) (put_here r.callers c p
+              ∙ let x : p ≡ record (r.callers c) { seen = r.log } = (λ k. let z : Part = record (sym is k) { seen = r.log } in z) in x)
+              ∙ ap (λ (k : ℕ). (r.callers k).stage) (sym q))
           (λ ne. ap (λ (z : Part). z.stage) (put_else r.callers c p e ne))
 
       kept_so : Rule record { words = s.words; homes = s.homes; views = set s.views id w }
@@ -443,7 +472,8 @@ module _ {O : Type 0} (l : Law) (fits : O → List Op → Type 0) where
         made = r.made;
         legal = r.legal;
         words = r.words;
-        few = (let a = waiting_put l.callers r.callers c p (omega (arith, inside, r.made_fits)) in let b = r.few in let e : busy (r.callers c).stage ≡ busy p.stage = ap (λ (q : Part). busy q.stage) is in omega arith);
+        few = (let a = waiting_put l.callers r.callers c p (omega (arith, inside, r.made_fits)) in let b = r.few in
+            let e : busy (r.callers c).stage ≡ busy p.stage = ap (λ (q : Part). busy q.stage) is in omega arith);
         small = r.small;
         made_fits = r.made_fits;
         each = λ e lt. dite (ℕ_discrete e c)
@@ -451,7 +481,8 @@ module _ {O : Type 0} (l : Law) (fits : O → List Op → Type 0) where
             (λ ne. subst (CallerOk r.log r.who r.base r.count s.homes e) (sym (put_else r.callers c p e ne)) (r.each e lt));
         others = λ e le. let old = r.others e le in (old.0, same_stage e ∙ old.1);
         slot = ⊎_elim (λ (t : IsOut l fits s.homes r.callers r.made r.log). inl (t.0, (t.1.0, t.1.1, (t.1.2.0, same_stage t.1.0 ∙ t.1.2.1)))) inr r.slot;
-        seats = moved r.log r.log r.callers r.seat r.made id s.views v w p (starts_with_itself r.log) live at refl refl refl refl refl (starts_with_itself r.log) r.seats;
+        seats = moved r.log r.log r.callers r.seat r.made id s.views v w p (starts_with_itself r.log) live at refl refl refl refl refl
+            (starts_with_itself r.log) r.seats;
       }
 
       kept : Rule (stepped s 1 (get_or s.words 1 0) id m.1 w keeps)
@@ -469,19 +500,24 @@ module _ {O : Type 0} (l : Law) (fits : O → List Op → Type 0) where
     made = r.made + 1;
     legal = r.legal;
     words = r.words;
-    few = (let a = waiting_put l.callers r.callers n blank (omega (arith, n_is, room)) in let b = r.few in let e : busy (r.callers n).stage ≡ 0 = ap busy fresh.1 in omega arith);
+    few = (let a = waiting_put l.callers r.callers n blank (omega (arith, n_is, room)) in let b = r.few in
+        let e : busy (r.callers n).stage ≡ 0 = ap busy fresh.1 in omega arith);
     small = r.small;
     made_fits = omega (arith, n_is, room);
     each = λ e lt. dite (ℕ_discrete e n)
         (λ q. subst (λ (z : ℕ). CallerOk r.log r.who r.base r.count s.homes z (callers' z)) (sym q) own)
         (λ ne. subst (CallerOk r.log r.who r.base r.count s.homes e) (sym (put_else r.callers n blank e ne)) (r.each e (omega (arith, n_is))));
-    others = λ e le. let old = r.others e (omega arith) in (old.0, ap (λ (z : Part). z.stage) (put_else r.callers n blank e (λ q. omega (arith, n_is))) ∙ old.1);
-    slot = ⊎_elim (λ (t : IsOut l fits s.homes r.callers r.made r.log). inl (t.0, (t.1.0, (let a = t.1.1 in omega arith), (t.1.2.0, ap (λ (z : Part). z.stage) (put_else r.callers n blank t.1.0 (λ q. let a = t.1.1 in omega (arith, n_is))) ∙ t.1.2.1)))) inr r.slot;
+    others = λ e le. let old = r.others e (omega arith) in (old.0, ap (λ (z : Part). z.stage) (put_else r.callers n blank e (λ q. omega (arith, n_is)))
+        ∙ old.1);
+    slot = ⊎_elim (λ (t : IsOut l fits s.homes r.callers r.made r.log). inl
+        (t.0, (t.1.0, (let a = t.1.1 in omega arith), (t.1.2.0,
+        ap (λ (z : Part). z.stage) (put_else r.callers n blank t.1.0 (λ q. let a = t.1.1 in omega (arith, n_is))) ∙ t.1.2.1)))) inr r.slot;
     seats = λ j x there. ⊎_elim (λ e. ⊎_elim
         (λ (t : (j ≡ id) × (dealer_after v ≡ x)). subst (λ (z : ℕ × View). Knows r.log callers' seat' (r.made + 1) z.0 z.1) (λ i. (sym t.0 i, t.1 i)) here)
         (λ (t : (j ≢ id) × (get_elem? s.views j ≡ some x)). elsewhere j x (λ h. absurd (t.0 (((r.seats j x t.1).deals h).1 ∙ sym (mine.deals deals).1))) t.1)
         (at_set s.views id j (dealer_after v) x e))
-        (λ (t : (j ≡ length (set s.views id (dealer_after v))) × (newcomer n ≡ x)). subst (λ (z : ℕ × View). Knows r.log callers' seat' (r.made + 1) z.0 z.1) (λ i. (sym t.0 i, t.1 i)) new)
+        (λ (t : (j ≡ length (set s.views id (dealer_after v))) × (newcomer n ≡ x)). subst (λ (z : ℕ × View). Knows r.log callers' seat' (r.made + 1) z.0 z.1)
+            (λ i. (sym t.0 i, t.1 i)) new)
         (at_snoc_place (set s.views id (dealer_after v)) (newcomer n) x j there);
   }
     where
@@ -510,16 +546,19 @@ module _ {O : Type 0} (l : Law) (fits : O → List Op → Type 0) where
       fresh = r.others n (omega (arith, n_is))
 
       own : CallerOk r.log r.who r.base r.count s.homes n (callers' n)
-      own = subst (CallerOk r.log r.who r.base r.count s.homes n) (sym (put_here r.callers n blank)) record { mine = fresh.0; seen = starts_with_nothing r.log; stage = tt }
+      own = subst (CallerOk r.log r.who r.base r.count s.homes n) (sym (put_here r.callers n blank)) record { mine = fresh.0;
+          seen = starts_with_nothing r.log; stage = tt }
 
       older : (c : ℕ) → c < r.made → (callers' c ≡ r.callers c) × (seat' c ≡ r.seat c)
       older c lt = (put_else r.callers n blank c (λ q. omega (arith, n_is)), put_else r.seat n last c (λ q. omega (arith, n_is)))
 
-      pasts : (j c : ℕ) (live : Bool) (ps : List Past) → Each (KnowsPast r.log r.callers r.seat r.made j live c) ps → Each (KnowsPast r.log callers' seat' (r.made + 1) j live c) ps
+      pasts : (j c : ℕ) (live : Bool) (ps : List Past) → Each (KnowsPast r.log r.callers r.seat r.made j live c) ps
+          → Each (KnowsPast r.log callers' seat' (r.made + 1) j live c) ps
       pasts j c live ps h = Each-weaken (KnowsPast r.log r.callers r.seat r.made j live c) (KnowsPast r.log callers' seat' (r.made + 1) j live c)
           (λ q a. let o = older q.caller a.0 in ((let b = a.0 in omega arith), o.1 ∙ a.1, o.0 ∙ a.2, a.3)) ps h
 
-      elsewhere : (j : ℕ) (x : View) → (0 < x.made → (x.made ≡ r.made + 1) × (j ≡ 0)) → get_elem? s.views j ≡ some x → Knows r.log callers' seat' (r.made + 1) j x
+      elsewhere : (j : ℕ) (x : View) → (0 < x.made → (x.made ≡ r.made + 1) × (j ≡ 0)) → get_elem? s.views j ≡ some x
+          → Knows r.log callers' seat' (r.made + 1) j x
       elsewhere j x d e = let k = r.seats j x e in record {
         live = λ h. let a = k.live h in let o = older x.caller a.0 in ((let b = a.0 in omega arith), o.1 ∙ a.1, o.0 ∙ a.2);
         deals = d;
@@ -602,7 +641,9 @@ module _ {O : Type 0} (l : Law) (fits : O → List Op → Type 0) where
         live = mine'.live;
         deals = mine'.deals;
         taken = Each-snoc (KnowsPast r.log r.callers seat' r.made id v.live v.caller) v.taken (past_of w) mine'.taken
-            ((theirs.live w_live).0, put_here r.seat c id, (theirs.live w_live).2 ∙ (λ i. let z : Part = record { stage = idle i; mine = w.mine; seen = w.seen } in z), λ _ q. apart (sym seat_is ∙ ap r.seat q ∙ (mine.live live).1));
+            ((theirs.live w_live).0, put_here r.seat c id, (theirs.live w_live).2
+                ∙ (λ i. let z : Part = record { stage = idle i; mine = w.mine; seen = w.seen } in z), λ _ q. apart (sym seat_is ∙ ap r.seat q
+                ∙ (mine.live live).1));
         seen = mine.seen;
       }
 

@@ -63,7 +63,8 @@ impl<O: SeqObject> TurnLock<O> {
     fn look<W: Told<Desk<O>>>(&self, seat: &mut Place<O>, ticket: u64) -> bool
         requires table { seat.old.table_id ≡ table_of self.now }
         requires view { (seat.old.me.0.live ≡ true) × (seat.old.me.0.stage ≡ Waits ticket) × (seat.old.me.1 ≡ []) }
-        requires tells { (d : Desk O) (c : ℕ) (h : List Entry) → Finds (law_of O.kind O.is_own O.reply_after self.now) (fits_of O.kind O.stands_for self.now) d c h → W.fits d c h }
+        requires tells { (d : Desk O) (c : ℕ) (h : List Entry) →
+            Finds (law_of O.kind O.is_own O.reply_after self.now) (fits_of O.kind O.stands_for self.now) d c h → W.fits d c h }
         ensures table { seat.new.table_id ≡ seat.old.table_id }
         ensures view { MatchBool result (Entered W.fits seat.old.me seat.new.me) (seat.new.me ≡ seat.old.me) }
     {
@@ -116,7 +117,8 @@ impl<O: SeqObject> TurnLock<O> {
     fn leave<W: Made>(&self, seat: &mut Place<O>)
         requires table { seat.old.table_id ≡ table_of self.now }
         requires view { seat.old.me.0.live ≡ true }
-        requires held { (h : List Entry) × (d : Desk O) × (seat.old.me.0.stage ≡ Holds h) × (seat.old.me.1 ≡ (0, Some d) ∷ []) × DeskOk (law_of O.kind O.is_own O.reply_after self.now) (fits_of O.kind O.stands_for self.now) d (h ++ W.made) }
+        requires held { (h : List Entry) × (d : Desk O) × (seat.old.me.0.stage ≡ Holds h) × (seat.old.me.1 ≡ (0, Some d) ∷ []) ×
+            DeskOk (law_of O.kind O.is_own O.reply_after self.now) (fits_of O.kind O.stands_for self.now) d (h ++ W.made) }
         requires made { Each (λ e. e.caller ≡ seat.old.me.0.caller) W.made }
         ensures table { seat.new.table_id ≡ seat.old.table_id }
         ensures view { (h : List Entry) → seat.old.me.0.stage ≡ Holds h → seat.new.me ≡ (after W.made seat.old.me.0 h, []) }
@@ -138,9 +140,13 @@ impl<O: SeqObject> TurnLock<O> {
         requires made { W.made ≡ entry caller floor desk.stamp op.now reply.now ∷ [] }
         requires view { (seat.old.me.0.live ≡ true) × (seat.old.me.0.caller ≡ caller) }
         requires slot { seat.old.me.1 ≡ (0, None) ∷ [] }
-        requires held { (h : List Entry) × (seat.old.me.0.stage ≡ Holds h) × DeskOk (law_of O.kind O.is_own O.reply_after self.now) (fits_of O.kind O.stands_for self.now) desk (h ++ entry caller floor desk.stamp op.now reply.now ∷ []) }
+        requires held { (h : List Entry) × (seat.old.me.0.stage ≡ Holds h) ×
+            DeskOk (law_of O.kind O.is_own O.reply_after self.now) (fits_of O.kind O.stands_for self.now) desk
+            (h ++ entry caller floor desk.stamp op.now reply.now ∷ []) }
         ensures table { seat.new.table_id ≡ seat.old.table_id }
-        ensures view { (h : List Entry) → seat.old.me.0.stage ≡ Holds h → (seat.new.me ≡ (after (entry caller floor desk.stamp op.now reply.now ∷ []) seat.old.me.0 h, [])) × IsLegal (law_of O.kind O.is_own O.reply_after self.now) (h ++ entry caller floor desk.stamp op.now reply.now ∷ []) }
+        ensures view { (h : List Entry) → seat.old.me.0.stage ≡ Holds h →
+            (seat.new.me ≡ (after (entry caller floor desk.stamp op.now reply.now ∷ []) seat.old.me.0 h, [])) ×
+            IsLegal (law_of O.kind O.is_own O.reply_after self.now) (h ++ entry caller floor desk.stamp op.now reply.now ∷ []) }
     {
         self.put(seat, desk);
         self.leave::<W>(seat);
@@ -151,9 +157,11 @@ impl<O: SeqObject> TurnLock<O> {
         requires table { seat.old.table_id ≡ table_of self.now }
         requires view { seat.old.me.0.live ≡ true }
         requires slot { seat.old.me.1 ≡ (0, None) ∷ [] }
-        requires held { (h : List Entry) × (seat.old.me.0.stage ≡ Holds h) × DeskOk (law_of O.kind O.is_own O.reply_after self.now) (fits_of O.kind O.stands_for self.now) desk h }
+        requires held { (h : List Entry) × (seat.old.me.0.stage ≡ Holds h) ×
+            DeskOk (law_of O.kind O.is_own O.reply_after self.now) (fits_of O.kind O.stands_for self.now) desk h }
         ensures table { seat.new.table_id ≡ seat.old.table_id }
-        ensures view { (h : List Entry) → seat.old.me.0.stage ≡ Holds h → (seat.new.me ≡ (after [] seat.old.me.0 h, [])) × IsLegal (law_of O.kind O.is_own O.reply_after self.now) h }
+        ensures view { (h : List Entry) → seat.old.me.0.stage ≡ Holds h →
+            (seat.new.me ≡ (after [] seat.old.me.0 h, [])) × IsLegal (law_of O.kind O.is_own O.reply_after self.now) h }
     {
         self.put(seat, desk);
         self.leave::<Brand>(seat);
@@ -171,10 +179,15 @@ impl<O: SeqObject> TurnLock<O> {
         requires table { seat.old.table_id ≡ table_of self.now }
         requires own { O.is_own (kind_of O.kind self.now) op.now }
         requires view { (seat.old.me.0.live ≡ true) × (seat.old.me.0.caller ≡ caller) }
-        requires held { (h : List Entry) × (d : Desk O) × (seat.old.me.0.stage ≡ Holds h) × (seat.old.me.1 ≡ (0, Some d) ∷ []) × Finds (law_of O.kind O.is_own O.reply_after self.now) (fits_of O.kind O.stands_for self.now) d caller h }
+        requires held { (h : List Entry) × (d : Desk O) × (seat.old.me.0.stage ≡ Holds h) × (seat.old.me.1 ≡ (0, Some d) ∷ []) ×
+            Finds (law_of O.kind O.is_own O.reply_after self.now) (fits_of O.kind O.stands_for self.now) d caller h }
         ensures table { seat.new.table_id ≡ seat.old.table_id }
-        ensures done { IfOk result (λ r. (h : List Entry) → seat.old.me.0.stage ≡ Holds h → (seat.new.me ≡ (after (entry caller floor r.1 op.now r.0 ∷ []) seat.old.me.0 h, [])) × IsLegal (law_of O.kind O.is_own O.reply_after self.now) (h ++ entry caller floor r.1 op.now r.0 ∷ [])) }
-        ensures memory { OnErr result ((h : List Entry) → seat.old.me.0.stage ≡ Holds h → (seat.new.me ≡ (after [] seat.old.me.0 h, [])) × IsLegal (law_of O.kind O.is_own O.reply_after self.now) h × MayRefuse (O.is_free (kind_of O.kind self.now)) h floor op.now) }
+        ensures done { IfOk result (λ r. (h : List Entry) → seat.old.me.0.stage ≡ Holds h →
+            (seat.new.me ≡ (after (entry caller floor r.1 op.now r.0 ∷ []) seat.old.me.0 h, [])) ×
+            IsLegal (law_of O.kind O.is_own O.reply_after self.now) (h ++ entry caller floor r.1 op.now r.0 ∷ [])) }
+        ensures memory { OnErr result ((h : List Entry) → seat.old.me.0.stage ≡ Holds h →
+            (seat.new.me ≡ (after [] seat.old.me.0 h, [])) × IsLegal (law_of O.kind O.is_own O.reply_after self.now) h ×
+            MayRefuse (O.is_free (kind_of O.kind self.now)) h floor op.now) }
     {
         let Desk { mut object, stamp } = self.take(seat);
         let last = floor.max(stamp);
@@ -229,7 +242,9 @@ impl<O: SeqObject> TurnLock<O> {
         requires view { (seat.old.me.0.live ≡ true) × (seat.old.me.0.stage ≡ Idle) × (seat.old.me.0.caller ≡ caller) × (seat.old.me.1 ≡ []) }
         ensures table { seat.new.table_id ≡ seat.old.table_id }
         ensures view { (seat.new.me.0.live ≡ true) × (seat.new.me.0.stage ≡ Idle) × (seat.new.me.0.caller ≡ caller) × (seat.new.me.1 ≡ []) }
-        ensures done { IfOk result (λ r. Gains (law_of O.kind O.is_own O.reply_after self.now) caller seat.old.me.0 seat.new.me.0 (entry caller floor r.1 op.now r.0)) }
+        ensures done { IfOk result (λ r.
+            Gains (law_of O.kind O.is_own O.reply_after self.now) caller seat.old.me.0 seat.new.me.0
+            (entry caller floor r.1 op.now r.0)) }
         ensures memory { OnErr result (Stays (law_of O.kind O.is_own O.reply_after self.now) caller seat.old.me.0 seat.new.me.0) }
         ensures cause { OnErr result (MayRefuse (O.is_free (kind_of O.kind self.now)) seat.new.me.0.seen floor op.now) }
     {

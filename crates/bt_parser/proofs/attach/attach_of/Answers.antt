@@ -1,5 +1,5 @@
 use Rattle.std.proofs.Common.{◌∙◌, ◌∷◌, ap}
-use Rattle.bt_parser.specs.Attach.{point_of_parts}
+use Rattle.bt_grammar.specs.Attach.{point_of_parts}
 use Rattle.bt_parser.proofs.Parts.{fourth_part}
 use Rattle.bt_parser.proofs.attach.attach_of.Goals as goal
 

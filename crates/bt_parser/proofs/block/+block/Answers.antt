@@ -1,6 +1,6 @@
 use Rattle.std.proofs.Common.{rules, arith}
 use Rattle.std.proofs.lemmas.Grind.{common_steps}
-use Rattle.bt_parser.specs.Tokens.{items}
+use Rattle.bt_grammar.specs.Tokens.{items}
 use Rattle.bt_parser.proofs.Blocks.{arm_is, arms_turns, block_is, body_start, body_turns, control_is}
 use Rattle.bt_parser.proofs.block.+block.Goals as goal
 

@@ -1,8 +1,8 @@
 use Rattle.std.proofs.Common.{◌≡◌, ◌+◌, ◌*◌, ◌<◌, ◌≤◌, length}
-use Rattle.bt_parser.specs.Form.{Body}
-use Rattle.bt_parser.specs.Reading.{reads}
+use Rattle.bt_grammar.specs.Form.{Body}
+use Rattle.bt_grammar.specs.Reading.{reads}
 use Rattle.bt_parser.specs.Statements.{arms_on, body_on, branches_by}
-use Rattle.bt_parser.specs.Tokens.{items}
+use Rattle.bt_grammar.specs.Tokens.{items}
 use Rattle.bt_parser.proofs.block.+block.Given as goal
 
 abbrev pub decreases-arm : goal.decreases-arm

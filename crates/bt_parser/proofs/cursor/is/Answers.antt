@@ -1,6 +1,6 @@
 use Rattle.std.proofs.Common.{rules, ◌∙◌, sym}
 use denote.Enum.Bare.{same_true, same_false}
-use Rattle.bt_parser.specs.contracts.class.Class.{the_type}
+use Rattle.bt_grammar.specs.contracts.class.Class.{the_type}
 use Rattle.bt_parser.proofs.Sameness.{decided}
 use Rattle.bt_parser.proofs.cursor.is.Goals as goal
 

@@ -1,6 +1,6 @@
 use Rattle.std.proofs.Common.{rules, arith}
 use Rattle.std.proofs.lemmas.Grind.{common_steps}
-use Rattle.bt_parser.specs.Tokens.{items}
+use Rattle.bt_grammar.specs.Tokens.{items}
 use Rattle.bt_parser.proofs.Mirrored.{assignable_is, expression_is, keyed_is, level_is, level_turns, primary_is, unary_is, values_turns}
 use Rattle.bt_parser.proofs.expr.+expr.Goals as goal
 

@@ -1,9 +1,9 @@
 use Rattle.std.proofs.Common.{◌≡◌, ◌+◌, ◌*◌, ◌<◌, length}
-use Rattle.bt_parser.specs.Form.{Level}
-use Rattle.bt_parser.specs.Classes.{tier_number}
-use Rattle.bt_parser.specs.Reading.{reads}
+use Rattle.bt_grammar.specs.Form.{Level}
+use Rattle.bt_grammar.specs.Classes.{tier_number}
+use Rattle.bt_grammar.specs.Reading.{reads}
 use Rattle.bt_parser.specs.Mirror.{level_on, values_on, values_behind, tier_rank}
-use Rattle.bt_parser.specs.Tokens.{items}
+use Rattle.bt_grammar.specs.Tokens.{items}
 use Rattle.bt_parser.proofs.expr.+expr.Given as goal
 
 abbrev pub decreases-keyed : goal.decreases-keyed

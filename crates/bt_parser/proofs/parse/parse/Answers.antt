@@ -1,7 +1,7 @@
 use Rattle.std.proofs.Common.{arith, ◌≡◌, ◌∷◌, [], ◌+◌, None, Some, take}
 use Rattle.std.proofs.lemmas.Grind.{common_steps}
 use Rattle.bt_parser.specs.Levels.{deep_from}
-use Rattle.bt_parser.specs.Tokens.{items}
+use Rattle.bt_grammar.specs.Tokens.{items}
 use Rattle.bt_parser.proofs.Parsed.{right_none, right_some, accepted_by, refused_by}
 use Rattle.bt_parser.proofs.parse.parse.Goals as goal
 

@@ -1,6 +1,6 @@
 use Rattle.std.proofs.Common.{rules, arith}
 use Rattle.std.proofs.lemmas.Grind.{common_steps}
-use Rattle.bt_parser.specs.Tokens.{items}
+use Rattle.bt_grammar.specs.Tokens.{items}
 use Rattle.bt_parser.proofs.Probed.{points_start, points_turns}
 use Rattle.bt_parser.proofs.probe.points.Goals as goal
 

@@ -1,8 +1,8 @@
 use Rattle.std.proofs.Common.{◌≡◌, ◌<◌, length}
-use Rattle.bt_parser.specs.Form.{Points}
+use Rattle.bt_grammar.specs.Form.{Points}
 use Rattle.bt_parser.specs.Probes.{points_on}
-use Rattle.bt_parser.specs.Reading.{reads}
-use Rattle.bt_parser.specs.Tokens.{items}
+use Rattle.bt_grammar.specs.Reading.{reads}
+use Rattle.bt_grammar.specs.Tokens.{items}
 use Rattle.bt_parser.proofs.probe.points.Given as goal
 
 -- the points so far, with what is read of the others, are the points

@@ -1,15 +1,15 @@
 use Rattle.std.proofs.Common.{◌≡◌, ◌≤◌, length}
-use Rattle.bt_parser.specs.Counts.{probes_read}
-use Rattle.bt_parser.specs.Reading.{Done}
-use Rattle.bt_parser.specs.Refusals.{most_probes}
-use Rattle.bt_parser.specs.Tokens.{items}
+use Rattle.bt_core.specs.declared.limits.TheConstants.{PROBES}
+use Rattle.bt_grammar.specs.Counts.{probes_read}
+use Rattle.bt_grammar.specs.Reading.{Done}
+use Rattle.bt_grammar.specs.Tokens.{items}
 use Rattle.bt_parser.proofs.script.script.Given as goal
 
 -- the probes so far stand at the front
 abbrev pub invariant-loop-alloc : goal.invariant-loop-alloc
 invariant-loop-alloc l = record {
   read : probes_read (length l.probes) (items l.fn.tokens) ≡ Done l.probes (items l.tokens);
-  few : length l.probes ≤ most_probes;
+  few : length l.probes ≤ PROBES;
   no_longer : length l.tokens ≤ length l.fn.tokens;
 }
 

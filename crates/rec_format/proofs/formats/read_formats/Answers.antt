@@ -1,10 +1,11 @@
 use Rattle.std.proofs.Common.{sym, arith}
 use Rattle.std.proofs.lemmas.Result.{err_from_is_err_and}
-use Rattle.rec_format.specs.Parts.{format_part}
+use Rattle.rec_format.specs.Fronts.{format_part}
 use Rattle.rec_format.specs.Recordings.{formats_bytes}
 use Rattle.rec_format.proofs.Fields.{IsBytes}
 use Rattle.rec_format.proofs.PartLaws.{format_reads}
-use Rattle.rec_format.proofs.LoopLaws.{suffix_fits, format_next, format_cut, format_refused}
+use Rattle.rec_format.proofs.Lists.{suffix_fits}
+use Rattle.rec_format.proofs.LoopLaws.{format_next, format_cut, format_refused}
 use Rattle.rec_format.proofs.formats.read_formats.Goals as goal
 
 pub returns-in_default : goal.returns-in_default

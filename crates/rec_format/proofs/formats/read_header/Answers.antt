@@ -1,5 +1,5 @@
 use Rattle.std.proofs.Common.{◌≡◌, Some, sym, arith, inl, inr}
-use Rattle.rec_format.specs.Parts.{header_part}
+use Rattle.rec_format.specs.Fronts.{header_part}
 use Rattle.rec_format.specs.Checks.{header_fault}
 use Rattle.rec_format.proofs.Fields.{IsBytes}
 use Rattle.rec_format.proofs.PartLaws.{header_reads, cut_short, refused}

@@ -2,7 +2,7 @@ use Rattle.std.proofs.Common.{◌≡◌, List, ℕ, ◌++◌, ◌-◌, sym, ap, 
 use Rattle.std.proofs.lemmas.Result.{err_from_is_err_and}
 use Rattle.std.proofs.lemmas.List.{append-nil, length-append}
 use Rattle.rec_format.specs.declared.error.RecordingError.TheVariants as fault
-use Rattle.rec_format.specs.Parts.{header_part}
+use Rattle.rec_format.specs.Fronts.{header_part}
 use Rattle.tracefs_format.specs.declared.format.Format.{Format}
 use Rattle.rec_format.specs.declared.recording.Recording.{Recording}
 use Rattle.rec_format.specs.Recordings.{recording_bytes}

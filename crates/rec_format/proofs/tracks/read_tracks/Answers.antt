@@ -1,6 +1,6 @@
 use Rattle.std.proofs.Common.{ℕ, ◌+◌, sym, subst, arith}
 use Rattle.std.proofs.lemmas.Result.{err_from_is_err_and}
-use Rattle.rec_format.specs.Parts.{cpu_part}
+use Rattle.rec_format.specs.Fronts.{cpu_part}
 use Rattle.rec_format.proofs.Fields.{IsBytes}
 use Rattle.rec_format.proofs.LoopLaws.{Counts, track_next, cpu_cut, cpu_refused, track_fails}
 use Rattle.rec_format.proofs.tracks.read_tracks.Goals as goal
@@ -30,4 +30,4 @@ loop-place-preserved c =
     let next = track_next c.args.setting.now.formats.now c.args.setting.now.start c.args.setting.now.end c.loop-place.place c.loop-place.least c.loop-place.announced
     c.args.bytes.now c.loop-place.rest.now c.in-Some.after.now c.in_ok-events.after.now c.loop-place.cpus c.push.new.self c.in_ok-events.events (cpu_part c.in-Some.head) fits c.loop-place.invariant.has c.loop-place.invariant.counts
     (sym c.in-Some.ensures) (sym c.in_default-cpu_fault.ensures) c.in_ok-events.ensures c.in_ok-push.ensures.ok in
-    record { has = next.0; counts = subst (λ (n : ℕ). Counts c.push.new.self (n + 1) (c.loop-place.announced + c.in-Some.head.events)) (sym c.from-least.ensures) next.1 }
+    record { has = next.0; counts = subst (λ (n : ℕ). Counts c.push.new.self (n + 1) (c.loop-place.announced + c.in-Some.head.entries)) (sym c.from-least.ensures) next.1 }

@@ -1,6 +1,6 @@
 use Rattle.rec_format.specs.declared.recording.Event.{Event}
 use Rattle.rec_format.specs.Parts.{event_bytes}
-use Rattle.rec_format.specs.Recordings.{part_of_event}
+use Rattle.rec_format.specs.Events.{part_of_event}
 use Rattle.rec_format.proofs.WriteLaws.{written_more}
 use Rattle.rec_format.proofs.writing.push_events.Goals as goal
 

@@ -1,5 +1,6 @@
 use Rattle.std.proofs.Common.{◌≡◌, ◌||◌, ◌∷◌, ◌++◌, true, false, List, ℕ, Bool, refl, ap, sym, ◌∙◌, inr, arith, length}
-use Rattle.std.specs.Prelude.{is_some}
+use Rattle.std.proofs.lemmas.Bool.{or_from}
+use Rattle.std.specs.Prelude.{is_some, IsTrue}
 use Rattle.std.specs.List.{list_any}
 use Rattle.std.specs.Ordering.{nat_cmp}
 use Rattle.std.specs.Cmp.Lexicographic.{slice_cmp}
@@ -7,9 +8,11 @@ use Rattle.std.specs.BTreeMap.{get}
 use Rattle.std.specs.BTreeSet.{contains}
 use Rattle.tracefs_format.specs.declared.format.Format.{Format}
 use Rattle.rec_format.specs.declared.error.RecordingError.TheVariants as fault
-use Rattle.rec_format.specs.Parts.{format_part}
-use Rattle.rec_format.specs.Checks.{is_same_event, tracepoint_name, format_of}
-use Rattle.rec_format.proofs.TableLaws.{same_known, table_added}
+use Rattle.rec_format.specs.Fronts.{format_part}
+use Rattle.tracefs_format.specs.ByName.{full_name}
+use Rattle.tracefs_format.specs.Names.{has_no_colon}
+use Rattle.rec_format.specs.Checks.{is_system, is_same_event, format_of}
+use Rattle.rec_format.proofs.TableLaws.{same_known, table_added, system-no_colon}
 use Rattle.rec_format.proofs.table.FormatTable.with.Goals as goal
 use Rattle.rec_format.proofs.table.FormatTable.with.Goals.{then-contains_key-via-then-contains_key, then-contains_key-via-else-contains_key+then-contains}
 
@@ -21,17 +24,14 @@ or_second : (a b : Bool) → b ≡ true → (a || b) ≡ true
 or_second true b h = refl
 or_second false b h = h
 
-or_none : (a b : Bool) → a ≡ false → b ≡ false → (a || b) ≡ false
-or_none true b h k = absurd cc
-or_none false b h k = k
-
 pub returns-then-contains_key : goal.returns-then-contains_key
 returns-then-contains_key c =
     let f : Format = format_of (format_part c.args.part) c.in-Ok.layout in
-    let known = same_known c.self.inside.formats c.self.inside.places c.self.inside.names f c.self.invariant in
+    let no_colon : IsTrue (has_no_colon f.system) = system-no_colon c.args.part.system.now (grind arith) in
+    let known = same_known c.self.inside.formats c.self.inside.places c.self.inside.names f no_colon c.self.invariant in
     let by_id : Bool = is_some (get nat_cmp c.self.inside.places f.layout.id) in
-    let by_name : Bool = contains (slice_cmp nat_cmp) c.self.inside.names (tracepoint_name f) in
-    let named : c.in_ok-name.name ≡ tracepoint_name f = c.in_ok-name.ensures ∙ ap (λ (l : List ℕ). c.args.part.system.now ++ 58 ∷ l) c.as_slice.ensures in
+    let by_name : Bool = contains (slice_cmp nat_cmp) c.self.inside.names (full_name f) in
+    let named : c.in_ok-name.name ≡ full_name f = c.in_ok-name.ensures ∙ ap (λ (l : List ℕ). c.args.part.system.now ++ 58 ∷ l) c.as_slice.ensures in
     let same : (by_id || by_name) ≡ true = elim c.then-contains_key.branch [
       | then-contains_key-via-then-contains_key w ↦ or_first by_id by_name (sym c.contains_key.ensures ∙ w.if-contains_key.true)
       | then-contains_key-via-else-contains_key+then-contains w ↦ or_second by_id by_name (ap (contains (slice_cmp nat_cmp) c.self.inside.names) (sym named) ∙ sym w.contains.ensures ∙ w.if-contains.true)
@@ -49,18 +49,20 @@ returns-then-contains_key c =
 pub invariant_of-result : goal.invariant_of-result
 invariant_of-result c =
     let f : Format = format_of (format_part c.args.part) c.in-Ok.layout in
-    let named : c.in_ok-name.name ≡ tracepoint_name f = c.in_ok-name.ensures ∙ ap (λ (l : List ℕ). c.args.part.system.now ++ 58 ∷ l) c.as_slice.ensures in
-    table_added c.self.inside.formats c.push.new.self c.self.inside.places c.insert.new.self c.self.inside.names c.insert-2.new.self f c.len-place.result c.in_ok-name.name c.self.invariant
+    let no_colon : IsTrue (has_no_colon f.system) = system-no_colon c.args.part.system.now (grind arith) in
+    let named : c.in_ok-name.name ≡ full_name f = c.in_ok-name.ensures ∙ ap (λ (l : List ℕ). c.args.part.system.now ++ 58 ∷ l) c.as_slice.ensures in
+    table_added c.self.inside.formats c.push.new.self c.self.inside.places c.insert.new.self c.self.inside.names c.insert-2.new.self f c.len-place.result c.in_ok-name.name no_colon c.self.invariant
     (grind arith) c.len-place.ensures named (sym c.contains_key.ensures ∙ c.if-contains_key.false) c.in_ok-insert.ensures.updates.0 c.in_ok-insert-2.ensures.updates.0
 
 pub returns : goal.returns
 returns c =
     let f : Format = format_of (format_part c.args.part) c.in-Ok.layout in
-    let known = same_known c.self.inside.formats c.self.inside.places c.self.inside.names f c.self.invariant in
+    let no_colon : IsTrue (has_no_colon f.system) = system-no_colon c.args.part.system.now (grind arith) in
+    let known = same_known c.self.inside.formats c.self.inside.places c.self.inside.names f no_colon c.self.invariant in
     let by_id : Bool = is_some (get nat_cmp c.self.inside.places f.layout.id) in
-    let by_name : Bool = contains (slice_cmp nat_cmp) c.self.inside.names (tracepoint_name f) in
-    let named : c.in_ok-name.name ≡ tracepoint_name f = c.in_ok-name.ensures ∙ ap (λ (l : List ℕ). c.args.part.system.now ++ 58 ∷ l) c.as_slice.ensures in
-    let none : (by_id || by_name) ≡ false = or_none by_id by_name (sym c.contains_key.ensures ∙ c.if-contains_key.false) (ap (contains (slice_cmp nat_cmp) c.self.inside.names) (sym named) ∙ sym c.contains.ensures ∙ c.if-contains.false) in
+    let by_name : Bool = contains (slice_cmp nat_cmp) c.self.inside.names (full_name f) in
+    let named : c.in_ok-name.name ≡ full_name f = c.in_ok-name.ensures ∙ ap (λ (l : List ℕ). c.args.part.system.now ++ 58 ∷ l) c.as_slice.ensures in
+    let none : (by_id || by_name) ≡ false = or_from by_id by_name (sym c.contains_key.ensures ∙ c.if-contains_key.false) (ap (contains (slice_cmp nat_cmp) c.self.inside.names) (sym named) ∙ sym c.contains.ensures ∙ c.if-contains.false) in
     record {
       layout = c.in-Ok.layout;
       added = grind arith;

@@ -7,7 +7,8 @@ use Rattle.turn_lock.proofs.SumLemmas.{total-snoc, total-kept}
 use Rattle.turn_lock.proofs.tally.TallySeqObject.apply.Goals as goal
 
 -- one number more
-added : (sum n : ℤ) (before : List Op) (op : Op) → sum ≡ total before → n ≡ number_of op → FitsSigned w64 n → to_z w64 ((of_z w64 sum + of_z w64 n) % 2 ^ 64) ≡ total (before ++ op ∷ [])
+added : (sum n : ℤ) (before : List Op) (op : Op) → sum ≡ total before → n ≡ number_of op → FitsSigned w64 n
+    → to_z w64 ((of_z w64 sum + of_z w64 n) % 2 ^ 64) ≡ total (before ++ op ∷ [])
 added sum n before op stands is fits =
     (λ i. to_z w64 ((of_z w64 (stands i) + of_z w64 (is i)) % 2 ^ 64)) ∙ total-snoc before op (subst (FitsSigned w64) is fits)
 

@@ -1,0 +1,72 @@
+// Worked cases: a command line over two files, and what has to come of it.
+use crate::outcome::Outcome;
+use anyhow::{Context, Result};
+use serde_json::Value;
+use std::alloc::Global;
+
+/// The words of a command line, the bytes of the files `s.bt` and `r.bin`, and what has to come.
+#[derive(Drop)]
+pub(crate) struct Case {
+    pub words: Vec<String>,
+    pub script: Vec<u8>,
+    pub recording: Vec<u8>,
+    pub wanted: Outcome,
+}
+
+/// The text of a member of an object.
+fn text_of<'v>(value: &'v Value, name: &str) -> Result<&'v str> {
+    value
+        .get(name)
+        .and_then(Value::as_str)
+        .context(format_args!("no text {name}"))
+}
+
+/// The bytes of a text of an object.
+fn bytes_of(alloc: Global, value: &Value, name: &str) -> Result<Vec<u8>> {
+    Ok(Vec::from_slice(alloc, text_of(value, name)?.as_bytes())?)
+}
+
+/// The list of an object.
+fn list_of<'v>(value: &'v Value, name: &str) -> Result<&'v Vec<Value>> {
+    value
+        .get(name)
+        .and_then(Value::as_array)
+        .context(format_args!("no list {name}"))
+}
+
+/// The words of a case.
+fn words_of(alloc: Global, value: &Value) -> Result<Vec<String>> {
+    let mut words = Vec::new(alloc);
+    for word in list_of(value, "words")? {
+        words.push(String::from_str(alloc, word.as_str().context("no word")?)?)?;
+    }
+    Ok(words)
+}
+
+impl Case {
+    /// The case of a line: an object whose `recording` is hexadecimal and whose other bytes are texts.
+    pub fn of(alloc: Global, line: &str) -> Result<Case> {
+        let value = Value::from_str(alloc, line)?;
+        let status = value.get("status").and_then(Value::as_u64);
+        Ok(Case {
+            words: words_of(alloc, &value)?,
+            script: bytes_of(alloc, &value, "script")?,
+            recording: hex::decode(alloc, text_of(&value, "recording")?)?,
+            wanted: Outcome {
+                status: status.context("no status")?,
+                out: bytes_of(alloc, &value, "out")?,
+                err: bytes_of(alloc, &value, "err")?,
+            },
+        })
+    }
+}
+
+/// The numbers of a list.
+pub(crate) fn numbers_of(alloc: Global, text: &str) -> Result<Vec<u64>> {
+    let value = Value::from_str(alloc, text)?;
+    let mut numbers = Vec::new(alloc);
+    for number in value.as_array().context("no list")? {
+        numbers.push(number.as_u64().context("no number")?)?;
+    }
+    Ok(numbers)
+}

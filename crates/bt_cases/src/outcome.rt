@@ -1,0 +1,57 @@
+// What comes of a case.
+use crate::case::Case;
+use bt_core::memory::Memory;
+use bt_io::mem_shelf::MemShelf;
+use bt_io::mem_sink::MemSink;
+use bt_top::serve::serve;
+use std::alloc::Global;
+use std::fmt;
+
+/// How many bytes a sink takes.
+const ROOM: usize = 1 << 24;
+
+/// The exit status, and the bytes that were written to the output and to `err`.
+#[derive(PartialEq, Eq, Drop)]
+pub(crate) struct Outcome {
+    pub status: u64,
+    pub out: Vec<u8>,
+    pub err: Vec<u8>,
+}
+
+/// Bytes as text, where they are such.
+fn shown(bytes: &[u8]) -> &str {
+    str::from_utf8(bytes).unwrap_or("bytes that are no text")
+}
+
+impl fmt::Display for Outcome {
+    fn fmt<W: fmt::Write>(&self, f: &mut fmt::Formatter<W>) -> fmt::Result {
+        let status = self.status;
+        let out = shown(self.out.as_slice());
+        let err = shown(self.err.as_slice());
+        write!(f, "status {status}, out {out:?}, err {err:?}")
+    }
+}
+
+/// The files of a case, by their names.
+fn files_of(alloc: Global, case: &Case) -> Result<Vec<(String, Vec<u8>)>, Memory> {
+    let mut files = Vec::new(alloc);
+    let script = Vec::from_slice(alloc, case.script.as_slice())?;
+    files.push((String::from_str(alloc, "s.bt")?, script))?;
+    let recording = Vec::from_slice(alloc, case.recording.as_slice())?;
+    files.push((String::from_str(alloc, "r.bin")?, recording))?;
+    Ok(files)
+}
+
+/// What the top call answers and writes to a case, over a shelf and sinks that never fail.
+pub(crate) fn outcome_of(alloc: Global, case: &Case) -> Result<Outcome, Memory> {
+    let mut shelf = MemShelf::new(alloc, files_of(alloc, case)?, Vec::new(alloc));
+    let mut out = MemSink::new(alloc, ROOM, ROOM, Vec::new(alloc))?;
+    let mut err = MemSink::new(alloc, ROOM, ROOM, Vec::new(alloc))?;
+    let words = case.words.as_slice();
+    let report = serve(alloc, words, &mut shelf, &mut out, &mut err);
+    Ok(Outcome {
+        status: u64::from(report.status),
+        out: Vec::from_slice(alloc, out.taken())?,
+        err: Vec::from_slice(alloc, err.taken())?,
+    })
+}

@@ -1,0 +1,14 @@
+pub mod Classes
+pub mod Form
+pub mod Attach
+pub mod Tokens
+pub mod Trees
+pub mod Rules
+pub mod Tables
+pub mod Reading
+pub mod Grammar
+pub mod Fine
+pub mod Weights
+pub mod Refusals
+pub mod Counts
+pub mod Mentions

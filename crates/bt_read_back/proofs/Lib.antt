@@ -1,0 +1,15 @@
+mod BareExprs
+mod BareStmts
+mod Lexemes
+mod LexemesKinds
+mod LexemesFixed
+mod CanonicalForms
+mod CanonicalValues
+mod CanonicalExprs
+mod CanonicalNumbers
+mod CanonicalPoints
+mod CanonicalStmts
+mod CanonicalBlocks
+mod CanonicalParts
+mod CanonicalWeights
+mod Back

@@ -1,0 +1,448 @@
+// Recordings byte by byte: what is read and written, and each check with its exact value.
+use crate::texts::SYS_ENTER;
+use rec_format::error::{CountOf, RecordingError};
+use rec_format::reading::read_recording;
+use rec_format::writing::write_recording;
+use std::test::Fail;
+use tracefs_format::error::FormatError;
+
+/// What stands before the text of a system call's entry: a header for two CPUs and one format, and the system.
+const BEFORE_TEXT: &[u8] = b"BTRACE01\x02\0\0\0\x01\0\0\0\0\0\0\0\0\0\0\0\0\x945w\0\0\0\0\
+\x0c\0raw_syscalls\x9e\x01\0\0";
+
+/// What stands behind it: three entries of system calls by bash, bash and sshd on the one CPU, and one by bash on the other.
+const AFTER_TEXT: &[u8] = b"\0\0\0\0\x03\0\0\0\
+\x01\0\0\0\0\0\0\0\x01\0\0\0\x01\0\0\0\0\0\0\0\0\0\0\0bash\0\0\0\0\0\0\0\0\0\0\0\0@\0\0\0\x15\0\0\0\0\0\0\0\0\0\
+\0\0\0\0\0\0\0\0\0\0\0\0\0\0\0\0\0\0\0\0\0\0\0\0\0\0\0\0\0\0\0\0\0\0\0\0\0\0\0\0\0\0\0\0\0\0\0\0\0\0\0\0\0\0\
+\x02\0\0\0\0\0\0\0\x01\0\0\0\x01\0\0\0\0\0\0\0\0\0\0\0bash\0\0\0\0\0\0\0\0\0\0\0\0@\0\0\0\x15\0\0\0\0\0\0\0\0\0\
+\0\0\0\0\0\0\0\0\0\0\0\0\0\0\0\0\0\0\0\0\0\0\0\0\0\0\0\0\0\0\0\0\0\0\0\0\0\0\0\0\0\0\0\0\0\0\0\0\0\0\0\0\0\0\
+\x03\0\0\0\0\0\0\0\x01\0\0\0\x01\0\0\0\0\0\0\0\0\0\0\0sshd\0\0\0\0\0\0\0\0\0\0\0\0@\0\0\0\x15\0\0\0\0\0\0\0\0\0\
+\0\0\0\0\0\0\0\0\0\0\0\0\0\0\0\0\0\0\0\0\0\0\0\0\0\0\0\0\0\0\0\0\0\0\0\0\0\0\0\0\0\0\0\0\0\0\0\0\0\0\0\0\0\0\
+\x01\0\0\0\x01\0\0\0\
+\x01\0\0\0\0\0\0\0\x01\0\0\0\x01\0\0\0\0\0\0\0\0\0\0\0bash\0\0\0\0\0\0\0\0\0\0\0\0@\0\0\0\x15\0\0\0\0\0\0\0\0\0\
+\0\0\0\0\0\0\0\0\0\0\0\0\0\0\0\0\0\0\0\0\0\0\0\0\0\0\0\0\0\0\0\0\0\0\0\0\0\0\0\0\0\0\0\0\0\0\0\0\0\0\0\0\0\0";
+
+#[test]
+fn the_worked_recording_is_read_and_written(rt: HostRuntime) -> Result<(), Fail> {
+    let alloc = rt.alloc();
+    let mut bytes = Vec::from_slice(alloc, BEFORE_TEXT)?;
+    bytes.extend_from_slice(SYS_ENTER)?;
+    bytes.extend_from_slice(AFTER_TEXT)?;
+    assert_eq!(rt; bytes.len(), 912);
+    let recording = read_recording(alloc, bytes.as_slice())?;
+    assert_eq!(rt; (recording.start, recording.end), (0, 2_000_000_000));
+    assert_eq!(rt; (recording.formats.len(), recording.cpus.len()), (1, 2));
+    let track = recording.cpus.get(0).ok_or("no CPU")?;
+    assert_eq!(rt; (track.number, track.events.len()), (0, 3));
+    let event = track.events.get(2).ok_or("no event")?;
+    assert_eq!(rt; (event.time, event.format, event.payload.len()), (3, 0, 64));
+    assert!(rt; event.comm.as_slice() == b"sshd\0\0\0\0\0\0\0\0\0\0\0\0".as_slice());
+    let written = write_recording(alloc, &recording)?;
+    assert!(rt; written.as_slice() == bytes.as_slice());
+    for len in 0..bytes.len() {
+        let error = read_recording(alloc, &bytes.as_slice()[..len]).err();
+        assert_eq!(rt; error, Some(RecordingError::Truncated(len as u64)));
+    }
+    Ok(())
+}
+
+/// The example of docs/RECORDINGS.md.
+const EXAMPLE: &[u8] = b"BTRACE01\x01\0\0\0\x01\0\0\0\xf4\x01\0\0\0\0\0\0\xd0\x07\0\0\0\0\0\0\
+\x04\0demoE\0\0\0name: tick\n\
+ID: 300\n\
+format:\n\
+\tfield:int n;\toffset:8;\tsize:4;\tsigned:1;\n\
+\x02\0\0\0\x01\0\0\0\
+\xe8\x03\0\0\0\0\0\0\xd2\x04\0\0\xd3\x04\0\0\xe8\x03\0\0d\0\0\0clock\0\0\0\0\0\0\0\0\0\0\0\x0c\0\0\0,\x01\0\0\xd3\
+\x04\0\0\xfe\xff\xff\xff";
+
+#[test]
+fn the_documented_example_is_read_and_written(rt: HostRuntime) -> Result<(), Fail> {
+    let alloc = rt.alloc();
+    let recording = read_recording(alloc, EXAMPLE)?;
+    assert_eq!(rt; (recording.start, recording.end), (500, 2_000));
+    let track = recording.cpus.get(0).ok_or("no CPU")?;
+    assert_eq!(rt; track.number, 2);
+    let event = track.events.get(0).ok_or("no event")?;
+    assert_eq!(rt; (event.time, event.pid, event.tid), (1_000, 1234, 1235));
+    assert_eq!(rt; (event.uid, event.gid, event.format), (1000, 100, 0));
+    assert!(rt; event.comm.as_slice() == b"clock\0\0\0\0\0\0\0\0\0\0\0".as_slice());
+    assert!(rt; event.payload.as_slice() == b"\x2c\x01\0\0\xd3\x04\0\0\xfe\xff\xff\xff".as_slice());
+    let written = write_recording(alloc, &recording)?;
+    assert!(rt; written.as_slice() == EXAMPLE);
+    for len in 0..EXAMPLE.len() {
+        let error = read_recording(alloc, &EXAMPLE[..len]).err();
+        assert_eq!(rt; error, Some(RecordingError::Truncated(len as u64)));
+    }
+    Ok(())
+}
+
+/// Bytes, each with the first check that they fail, if they fail one. The formats of most are `e`, whose ID is 7 and
+/// whose payloads have 4 bytes, and `f`, whose ID is 8 and whose payloads have 2; the recordings go from 5 to 9.
+const CHECKED: [(&[u8], Option<RecordingError>); 32] = [
+    // Three formats, two of one name in two systems; events at the start, at one time, and at the end.
+    (
+        b"BTRACE01\x01\0\0\0\x03\0\0\0\x05\0\0\0\0\0\0\0\t\0\0\0\0\0\0\0\
+\x01\0t\x16\0\0\0name: f\n\
+ID: 8\n\
+format:\n\
+\x01\0tB\0\0\0name: e\n\
+ID: 7\n\
+format:\n\
+\tfield:short v;\toffset:2;\tsize:2;\tsigned:1;\n\
+\x03\0u-2\x16\0\0\0name: e\n\
+ID: 9\n\
+format:\n\
+\x03\0\0\0\x03\0\0\0\
+\x05\0\0\0\0\0\0\0\x01\0\0\0\x01\0\0\0\0\0\0\0\0\0\0\0p\0\0\0\0\0\0\0\0\0\0\0\0\0\0\0\x04\0\0\0\x07\0\x05\0\
+\x05\0\0\0\0\0\0\0\x01\0\0\0\x01\0\0\0\0\0\0\0\0\0\0\0p\0\0\0\0\0\0\0\0\0\0\0\0\0\0\0\x04\0\0\0\x07\0\x05\0\
+\t\0\0\0\0\0\0\0\x01\0\0\0\x01\0\0\0\0\0\0\0\0\0\0\0p\0\0\0\0\0\0\0\0\0\0\0\0\0\0\0\x04\0\0\0\x07\0\x05\0",
+        None,
+    ),
+    // A system of 64 bytes, and a payload with a byte more than its layout.
+    (
+        b"BTRACE01\x01\0\0\0\x01\0\0\0\x05\0\0\0\0\0\0\0\t\0\0\0\0\0\0\0\
+@\0aaaaaaaaaaaaaaaaaaaaaaaaaaaaaaaaaaaaaaaaaaaaaaaaaaaaaaaaaaaaaaaaB\0\0\0name: e\n\
+ID: 7\n\
+format:\n\
+\tfield:short v;\toffset:2;\tsize:2;\tsigned:1;\n\
+\x03\0\0\0\x01\0\0\0\
+\x05\0\0\0\0\0\0\0\x01\0\0\0\x01\0\0\0\0\0\0\0\0\0\0\0p\0\0\0\0\0\0\0\0\0\0\0\0\0\0\0\x05\0\0\0\x07\0\x05\0\0",
+        None,
+    ),
+    // A CPU without events.
+    (
+        b"BTRACE01\x01\0\0\0\0\0\0\0\x05\0\0\0\0\0\0\0\x05\0\0\0\0\0\0\0\
+\0\0\0\0\0\0\0\0",
+        None,
+    ),
+    // A header that lacks a byte, which comes before its magic.
+    (
+        b"BTRACE02\x01\0\0\0\0\0\0\0\0\0\0\0\0\0\0\0\0\0\0\0\0\0\0",
+        Some(RecordingError::Truncated(31)),
+    ),
+    // A part that is not there.
+    (
+        b"BTRACE01@\0\0\0\0\x10\0\0\x01\0\0\0\0\0\0\0\x01\0\0\0\0\0\0\0",
+        Some(RecordingError::Truncated(32)),
+    ),
+    // A payload of 4,294,967,295 bytes is announced.
+    (
+        b"BTRACE01\x01\0\0\0\x01\0\0\0\x05\0\0\0\0\0\0\0\t\0\0\0\0\0\0\0\
+\x01\0tB\0\0\0name: e\n\
+ID: 7\n\
+format:\n\
+\tfield:short v;\toffset:2;\tsize:2;\tsigned:1;\n\
+\x03\0\0\0\x01\0\0\0\
+\x05\0\0\0\0\0\0\0\x01\0\0\0\x01\0\0\0\0\0\0\0\0\0\0\0p\0\0\0\0\0\0\0\0\0\0\0\0\0\0\0\
+\xff\xff\xff\xff",
+        Some(RecordingError::Truncated(157)),
+    ),
+    // Another magic.
+    (
+        b"BTRACE02\x01\0\0\0\0\0\0\0\0\0\0\0\0\0\0\0\0\0\0\0\0\0\0\0",
+        Some(RecordingError::BadMagic),
+    ),
+    // No CPU; 65 of them; then too many formats; then the span.
+    (
+        b"BTRACE01\0\0\0\0\0\0\0\0\0\0\0\0\0\0\0\0\0\0\0\0\0\0\0\0",
+        Some(RecordingError::Count(CountOf::Cpus)),
+    ),
+    (
+        b"BTRACE01A\0\0\0\x01\x10\0\0\x02\0\0\0\0\0\0\0\x01\0\0\0\0\0\0\0",
+        Some(RecordingError::Count(CountOf::Cpus)),
+    ),
+    (
+        b"BTRACE01@\0\0\0\x01\x10\0\0\x02\0\0\0\0\0\0\0\x01\0\0\0\0\0\0\0",
+        Some(RecordingError::Count(CountOf::Formats)),
+    ),
+    (
+        b"BTRACE01@\0\0\0\0\x10\0\0\x02\0\0\0\0\0\0\0\x01\0\0\0\0\0\0\0",
+        Some(RecordingError::Count(CountOf::Span)),
+    ),
+    // The first CPU announces 4,294,967,295 events.
+    (
+        b"BTRACE01\x02\0\0\0\0\0\0\0\0\0\0\0\0\0\0\0\0\0\0\0\0\0\0\0\
+\x04\0\0\0\xff\xff\xff\xff",
+        Some(RecordingError::Count(CountOf::Events)),
+    ),
+    // Both CPUs announce 1,048,577 events.
+    (
+        b"BTRACE01\x02\0\0\0\x01\0\0\0\0\0\0\0\0\0\0\0\0\0\0\0\0\0\0\0\
+\x01\0t\x16\0\0\0name: f\n\
+ID: 8\n\
+format:\n\
+\x04\0\0\0\x01\0\0\0\
+\0\0\0\0\0\0\0\0\x01\0\0\0\x01\0\0\0\0\0\0\0\0\0\0\0p\0\0\0\0\0\0\0\0\0\0\0\0\0\0\0\x02\0\0\0\x08\0\
+\x05\0\0\0\0\0\x10\0",
+        Some(RecordingError::Count(CountOf::Events)),
+    ),
+    // Systems that are none: an empty one, whose text is none either, one with a dot, and one of 65 bytes.
+    (
+        b"BTRACE01\x01\0\0\0\x01\0\0\0\x05\0\0\0\0\0\0\0\t\0\0\0\0\0\0\0\
+\0\0\x02\0\0\0e\n\
+\x03\0\0\0\x01\0\0\0\
+\x05\0\0\0\0\0\0\0\x01\0\0\0\x01\0\0\0\0\0\0\0\0\0\0\0p\0\0\0\0\0\0\0\0\0\0\0\0\0\0\0\x04\0\0\0\x07\0\x05\0",
+        Some(RecordingError::BadSystem(0)),
+    ),
+    (
+        b"BTRACE01\x01\0\0\0\x01\0\0\0\x05\0\0\0\0\0\0\0\t\0\0\0\0\0\0\0\
+\x02\0t.B\0\0\0name: e\n\
+ID: 7\n\
+format:\n\
+\tfield:short v;\toffset:2;\tsize:2;\tsigned:1;\n\
+\x03\0\0\0\x01\0\0\0\
+\x05\0\0\0\0\0\0\0\x01\0\0\0\x01\0\0\0\0\0\0\0\0\0\0\0p\0\0\0\0\0\0\0\0\0\0\0\0\0\0\0\x04\0\0\0\x07\0\x05\0",
+        Some(RecordingError::BadSystem(0)),
+    ),
+    (
+        b"BTRACE01\x01\0\0\0\x01\0\0\0\x05\0\0\0\0\0\0\0\t\0\0\0\0\0\0\0\
+A\0aaaaaaaaaaaaaaaaaaaaaaaaaaaaaaaaaaaaaaaaaaaaaaaaaaaaaaaaaaaaaaaaaB\0\0\0name: e\n\
+ID: 7\n\
+format:\n\
+\tfield:short v;\toffset:2;\tsize:2;\tsigned:1;\n\
+\x03\0\0\0\x01\0\0\0\
+\x05\0\0\0\0\0\0\0\x01\0\0\0\x01\0\0\0\0\0\0\0\0\0\0\0p\0\0\0\0\0\0\0\0\0\0\0\0\0\0\0\x04\0\0\0\x07\0\x05\0",
+        Some(RecordingError::BadSystem(0)),
+    ),
+    // A text without a name; the second format's text with a field past the limit.
+    (
+        b"BTRACE01\x01\0\0\0\x01\0\0\0\x05\0\0\0\0\0\0\0\t\0\0\0\0\0\0\0\
+\x01\0t\x02\0\0\0e\n\
+\x03\0\0\0\x01\0\0\0\
+\x05\0\0\0\0\0\0\0\x01\0\0\0\x01\0\0\0\0\0\0\0\0\0\0\0p\0\0\0\0\0\0\0\0\0\0\0\0\0\0\0\x04\0\0\0\x07\0\x05\0",
+        Some(RecordingError::Format(0, FormatError::NoName)),
+    ),
+    (
+        b"BTRACE01\x01\0\0\0\x02\0\0\0\x05\0\0\0\0\0\0\0\t\0\0\0\0\0\0\0\
+\x01\0t\x16\0\0\0name: f\n\
+ID: 8\n\
+format:\n\
+\x01\0t@\0\0\0name: e\n\
+ID: 7\n\
+format:\n\
+field:char a;offset:4096;size:1;signed:0;\n\
+\x03\0\0\0\x01\0\0\0\
+\x05\0\0\0\0\0\0\0\x01\0\0\0\x01\0\0\0\0\0\0\0\0\0\0\0p\0\0\0\0\0\0\0\0\0\0\0\0\0\0\0\x04\0\0\0\x07\0\x05\0",
+        Some(RecordingError::Format(1, FormatError::Overlong(4))),
+    ),
+    // Two formats of one ID; of one system and name.
+    (
+        b"BTRACE01\x01\0\0\0\x02\0\0\0\x05\0\0\0\0\0\0\0\t\0\0\0\0\0\0\0\
+\x01\0tB\0\0\0name: e\n\
+ID: 7\n\
+format:\n\
+\tfield:short v;\toffset:2;\tsize:2;\tsigned:1;\n\
+\x01\0uB\0\0\0name: e\n\
+ID: 7\n\
+format:\n\
+\tfield:short v;\toffset:2;\tsize:2;\tsigned:1;\n\
+\x03\0\0\0\x01\0\0\0\
+\x05\0\0\0\0\0\0\0\x01\0\0\0\x01\0\0\0\0\0\0\0\0\0\0\0p\0\0\0\0\0\0\0\0\0\0\0\0\0\0\0\x04\0\0\0\x07\0\x05\0",
+        Some(RecordingError::SameEvent(1)),
+    ),
+    (
+        b"BTRACE01\x01\0\0\0\x02\0\0\0\x05\0\0\0\0\0\0\0\t\0\0\0\0\0\0\0\
+\x01\0tB\0\0\0name: e\n\
+ID: 7\n\
+format:\n\
+\tfield:short v;\toffset:2;\tsize:2;\tsigned:1;\n\
+\x01\0t\x16\0\0\0name: e\n\
+ID: 9\n\
+format:\n\
+\x03\0\0\0\x01\0\0\0\
+\x05\0\0\0\0\0\0\0\x01\0\0\0\x01\0\0\0\0\0\0\0\0\0\0\0p\0\0\0\0\0\0\0\0\0\0\0\0\0\0\0\x04\0\0\0\x07\0\x05\0",
+        Some(RecordingError::SameEvent(1)),
+    ),
+    // A second CPU of the same number, which comes before its count.
+    (
+        b"BTRACE01\x02\0\0\0\0\0\0\0\0\0\0\0\0\0\0\0\0\0\0\0\0\0\0\0\
+\x04\0\0\0\0\0\0\0\
+\x04\0\0\0\xff\xff\xff\xff",
+        Some(RecordingError::CpuNumber(1)),
+    ),
+    // Before the start; before the event in front; after the end, which comes before its payload.
+    (
+        b"BTRACE01\x01\0\0\0\x02\0\0\0\x05\0\0\0\0\0\0\0\t\0\0\0\0\0\0\0\
+\x01\0t\x16\0\0\0name: f\n\
+ID: 8\n\
+format:\n\
+\x01\0tB\0\0\0name: e\n\
+ID: 7\n\
+format:\n\
+\tfield:short v;\toffset:2;\tsize:2;\tsigned:1;\n\
+\x03\0\0\0\x01\0\0\0\
+\x04\0\0\0\0\0\0\0\x01\0\0\0\x01\0\0\0\0\0\0\0\0\0\0\0p\0\0\0\0\0\0\0\0\0\0\0\0\0\0\0\x04\0\0\0\x07\0\x05\0",
+        Some(RecordingError::TimeOrder(0, 0)),
+    ),
+    (
+        b"BTRACE01\x01\0\0\0\x02\0\0\0\x05\0\0\0\0\0\0\0\t\0\0\0\0\0\0\0\
+\x01\0t\x16\0\0\0name: f\n\
+ID: 8\n\
+format:\n\
+\x01\0tB\0\0\0name: e\n\
+ID: 7\n\
+format:\n\
+\tfield:short v;\toffset:2;\tsize:2;\tsigned:1;\n\
+\x03\0\0\0\x02\0\0\0\
+\x06\0\0\0\0\0\0\0\x01\0\0\0\x01\0\0\0\0\0\0\0\0\0\0\0p\0\0\0\0\0\0\0\0\0\0\0\0\0\0\0\x04\0\0\0\x07\0\x05\0\
+\x05\0\0\0\0\0\0\0\x01\0\0\0\x01\0\0\0\0\0\0\0\0\0\0\0p\0\0\0\0\0\0\0\0\0\0\0\0\0\0\0\x04\0\0\0\x07\0\x05\0",
+        Some(RecordingError::TimeOrder(0, 1)),
+    ),
+    (
+        b"BTRACE01\x01\0\0\0\x02\0\0\0\x05\0\0\0\0\0\0\0\t\0\0\0\0\0\0\0\
+\x01\0t\x16\0\0\0name: f\n\
+ID: 8\n\
+format:\n\
+\x01\0tB\0\0\0name: e\n\
+ID: 7\n\
+format:\n\
+\tfield:short v;\toffset:2;\tsize:2;\tsigned:1;\n\
+\x03\0\0\0\x01\0\0\0\
+\n\
+\0\0\0\0\0\0\0\x01\0\0\0\x01\0\0\0\0\0\0\0\0\0\0\0p\0\0\0\0\0\0\0\0\0\0\0\0\0\0\0\0\0\0\0",
+        Some(RecordingError::TimeOrder(0, 0)),
+    ),
+    // Payloads of no byte, of one, of no format's ID, and with a byte too few.
+    (
+        b"BTRACE01\x01\0\0\0\x02\0\0\0\x05\0\0\0\0\0\0\0\t\0\0\0\0\0\0\0\
+\x01\0t\x16\0\0\0name: f\n\
+ID: 8\n\
+format:\n\
+\x01\0tB\0\0\0name: e\n\
+ID: 7\n\
+format:\n\
+\tfield:short v;\toffset:2;\tsize:2;\tsigned:1;\n\
+\x03\0\0\0\x02\0\0\0\
+\x05\0\0\0\0\0\0\0\x01\0\0\0\x01\0\0\0\0\0\0\0\0\0\0\0p\0\0\0\0\0\0\0\0\0\0\0\0\0\0\0\0\0\0\0\
+\n\
+\0\0\0\0\0\0\0\x01\0\0\0\x01\0\0\0\0\0\0\0\0\0\0\0p\0\0\0\0\0\0\0\0\0\0\0\0\0\0\0\0\0\0\0",
+        Some(RecordingError::ShortPayload(0, 0)),
+    ),
+    (
+        b"BTRACE01\x01\0\0\0\x02\0\0\0\x05\0\0\0\0\0\0\0\t\0\0\0\0\0\0\0\
+\x01\0t\x16\0\0\0name: f\n\
+ID: 8\n\
+format:\n\
+\x01\0tB\0\0\0name: e\n\
+ID: 7\n\
+format:\n\
+\tfield:short v;\toffset:2;\tsize:2;\tsigned:1;\n\
+\x03\0\0\0\x01\0\0\0\
+\x05\0\0\0\0\0\0\0\x01\0\0\0\x01\0\0\0\0\0\0\0\0\0\0\0p\0\0\0\0\0\0\0\0\0\0\0\0\0\0\0\x01\0\0\0\x07",
+        Some(RecordingError::ShortPayload(0, 0)),
+    ),
+    (
+        b"BTRACE01\x01\0\0\0\x02\0\0\0\x05\0\0\0\0\0\0\0\t\0\0\0\0\0\0\0\
+\x01\0t\x16\0\0\0name: f\n\
+ID: 8\n\
+format:\n\
+\x01\0tB\0\0\0name: e\n\
+ID: 7\n\
+format:\n\
+\tfield:short v;\toffset:2;\tsize:2;\tsigned:1;\n\
+\x03\0\0\0\x01\0\0\0\
+\x05\0\0\0\0\0\0\0\x01\0\0\0\x01\0\0\0\0\0\0\0\0\0\0\0p\0\0\0\0\0\0\0\0\0\0\0\0\0\0\0\x02\0\0\0\x06\0",
+        Some(RecordingError::UnknownId(0, 0)),
+    ),
+    (
+        b"BTRACE01\x01\0\0\0\x02\0\0\0\x05\0\0\0\0\0\0\0\t\0\0\0\0\0\0\0\
+\x01\0t\x16\0\0\0name: f\n\
+ID: 8\n\
+format:\n\
+\x01\0tB\0\0\0name: e\n\
+ID: 7\n\
+format:\n\
+\tfield:short v;\toffset:2;\tsize:2;\tsigned:1;\n\
+\x03\0\0\0\x01\0\0\0\
+\x05\0\0\0\0\0\0\0\x01\0\0\0\x01\0\0\0\0\0\0\0\0\0\0\0p\0\0\0\0\0\0\0\0\0\0\0\0\0\0\0\x03\0\0\0\x07\0\0",
+        Some(RecordingError::ShortPayload(0, 0)),
+    ),
+    // Two bytes behind the last event.
+    (
+        b"BTRACE01\x01\0\0\0\x02\0\0\0\x05\0\0\0\0\0\0\0\t\0\0\0\0\0\0\0\
+\x01\0t\x16\0\0\0name: f\n\
+ID: 8\n\
+format:\n\
+\x01\0tB\0\0\0name: e\n\
+ID: 7\n\
+format:\n\
+\tfield:short v;\toffset:2;\tsize:2;\tsigned:1;\n\
+\x03\0\0\0\x01\0\0\0\
+\x05\0\0\0\0\0\0\0\x01\0\0\0\x01\0\0\0\0\0\0\0\0\0\0\0p\0\0\0\0\0\0\0\0\0\0\0\0\0\0\0\x04\0\0\0\x07\0\x05\0\
+\0\0",
+        Some(RecordingError::TrailingBytes(190)),
+    ),
+    // The documented example with another byte at places 12, 163 and 120.
+    (
+        b"BTRACE01\x01\0\0\0\x02\0\0\0\xf4\x01\0\0\0\0\0\0\xd0\x07\0\0\0\0\0\0\
+\x04\0demoE\0\0\0name: tick\n\
+ID: 300\n\
+format:\n\
+\tfield:int n;\toffset:8;\tsize:4;\tsigned:1;\n\
+\x02\0\0\0\x01\0\0\0\
+\xe8\x03\0\0\0\0\0\0\xd2\x04\0\0\xd3\x04\0\0\xe8\x03\0\0d\0\0\0clock\0\0\0\0\0\0\0\0\0\0\0\x0c\0\0\0,\x01\0\0\xd3\
+\x04\0\0\xfe\xff\xff\xff",
+        Some(RecordingError::BadSystem(1)),
+    ),
+    (
+        b"BTRACE01\x01\0\0\0\x01\0\0\0\xf4\x01\0\0\0\0\0\0\xd0\x07\0\0\0\0\0\0\
+\x04\0demoE\0\0\0name: tick\n\
+ID: 300\n\
+format:\n\
+\tfield:int n;\toffset:8;\tsize:4;\tsigned:1;\n\
+\x02\0\0\0\x01\0\0\0\
+\xe8\x03\0\0\0\0\0\0\xd2\x04\0\0\xd3\x04\0\0\xe8\x03\0\0d\0\0\0clock\0\0\0\0\0\0\0\0\0\0\0\x0c\0\0\0-\x01\0\0\xd3\
+\x04\0\0\xfe\xff\xff\xff",
+        Some(RecordingError::UnknownId(0, 0)),
+    ),
+    (
+        b"BTRACE01\x01\0\0\0\x01\0\0\0\xf4\x01\0\0\0\0\0\0\xd0\x07\0\0\0\0\0\0\
+\x04\0demoE\0\0\0name: tick\n\
+ID: 300\n\
+format:\n\
+\tfield:int n;\toffset:8;\tsize:4;\tsigned:1;\n\
+\x02\0\0\0\x01\0\0\0\
+\xe8\x01\0\0\0\0\0\0\xd2\x04\0\0\xd3\x04\0\0\xe8\x03\0\0d\0\0\0clock\0\0\0\0\0\0\0\0\0\0\0\x0c\0\0\0,\x01\0\0\xd3\
+\x04\0\0\xfe\xff\xff\xff",
+        Some(RecordingError::TimeOrder(0, 0)),
+    ),
+];
+
+#[test]
+fn each_check_tells_its_place(rt: HostRuntime) {
+    for (place, (bytes, error)) in CHECKED.iter().enumerate() {
+        let found = read_recording(rt.alloc(), bytes).err();
+        assert_eq!(rt; found, *error, "at {place}");
+    }
+}
+
+#[test]
+fn errors_are_told_by_their_codes(rt: HostRuntime) -> Result<(), Fail> {
+    let told = [
+        (RecordingError::Truncated(911), "C1 truncated at byte 911"),
+        (RecordingError::BadMagic, "C2 bad magic"),
+        (RecordingError::Count(CountOf::Cpus), "C3 bad count: cpus"),
+        (RecordingError::Count(CountOf::Formats), "C3 bad count: formats"),
+        (RecordingError::Count(CountOf::Events), "C3 bad count: events"),
+        (RecordingError::Count(CountOf::Span), "C3 bad count: span"),
+        (RecordingError::Format(2, FormatError::NoName), "C4 format 2: F1 no name"),
+        (RecordingError::Format(2, FormatError::BadId), "C4 format 2: F2 bad id"),
+        (RecordingError::Format(2, FormatError::BadField(4)), "C4 format 2: F3 bad line 4"),
+        (RecordingError::Format(2, FormatError::Overlong(4)), "C4 format 2: F4 overlong line 4"),
+        (RecordingError::Format(2, FormatError::SameName(5)), "C4 format 2: F5 same name line 5"),
+        (RecordingError::SameEvent(1), "C5 same event in format 1"),
+        (RecordingError::CpuNumber(1), "C6 bad cpu number at cpu 1"),
+        (RecordingError::TimeOrder(1, 7), "C7 time order in event 7 of cpu 1"),
+        (RecordingError::UnknownId(1, 7), "C8 unknown id in event 7 of cpu 1"),
+        (RecordingError::ShortPayload(1, 7), "C9 short payload in event 7 of cpu 1"),
+        (RecordingError::TrailingBytes(912), "C10 trailing bytes at byte 912"),
+        (RecordingError::BadSystem(3), "C11 bad system in format 3"),
+        (RecordingError::Memory, "out of memory"),
+    ];
+    for (error, text) in told {
+        let line = format!(in rt.alloc(); "{error}")?;
+        assert!(rt; line.as_str() == text, "{text}");
+    }
+    Ok(())
+}

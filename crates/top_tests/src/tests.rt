@@ -1,0 +1,164 @@
+// Faults of files and sinks, want of memory, and a long recording.
+ghost use Rattle.std.specs.Prelude.{◌-◌, ◌<◌, ◌^◌, None};
+
+use bt_core::items::Items;
+use bt_core::memory::Memory;
+use bt_io::mem_shelf::MemShelf;
+use bt_io::mem_sink::MemSink;
+use bt_io::shelf::{Shelf, ShelfError};
+use bt_top::report::Report;
+use bt_top::serve::serve;
+use std::alloc::Global;
+use std::test::Fail;
+
+/// The format text of an event `e` with one field.
+const FORMAT: &[u8] = b"name: e\nID: 7\nformat:\n\tfield:long v;\toffset:8;\tsize:8;\tsigned:1;\n";
+
+/// A script that counts the events `e`.
+const COUNT: &[u8] = b"tracepoint:t:e { @ = count(); }";
+
+/// A recording of one CPU with so many events `e`.
+fn recording(alloc: Global, events: u32) -> Result<Vec<u8>, Memory> {
+    let mut bytes = Vec::from_slice(alloc, b"BTRACE01\x01\0\0\0\x01\0\0\0")?;
+    bytes.extend_from_slice(&0u64.to_le_bytes())?;
+    bytes.extend_from_slice(&2_000_000_000u64.to_le_bytes())?;
+    bytes.extend_from_slice(b"\x01\0t\x41\0\0\0")?;
+    bytes.extend_from_slice(FORMAT)?;
+    bytes.extend_from_slice(b"\0\0\0\0")?;
+    bytes.extend_from_slice(&events.to_le_bytes())?;
+    for time in 0..events {
+        bytes.extend_from_slice(&u64::from(time).to_le_bytes())?;
+        bytes.extend_from_slice(b"\x01\0\0\0\x01\0\0\0\0\0\0\0\0\0\0\0bash\0\0\0\0\0\0\0\0\0\0\0\0")?;
+        bytes.extend_from_slice(b"\x10\0\0\0\x07\0\0\0\0\0\0\0\x2a\0\0\0\0\0\0\0")?;
+    }
+    Ok(bytes)
+}
+
+/// A shelf of the counting script and of a recording, of which the calls of these numbers fail.
+fn shelf(alloc: Global, events: u32, failing: &[u32]) -> Result<MemShelf, Memory> {
+    let mut files = Vec::new(alloc);
+    let script = Vec::from_slice(alloc, COUNT)?;
+    files.push((String::from_str(alloc, "s.bt")?, script))?;
+    files.push((String::from_str(alloc, "r.bin")?, recording(alloc, events)?))?;
+    Ok(MemShelf::new(alloc, files, Vec::from_slice(alloc, failing)?))
+}
+
+/// A sink that takes `most` bytes a call, of which the calls of these numbers fail.
+fn sink(alloc: Global, most: usize, failing: &[u32]) -> Result<MemSink, Memory>
+    requires { 0 < most }
+{
+    MemSink::new(alloc, 4096, most, Vec::from_slice(alloc, failing)?)
+}
+
+/// The answer to the words `run s.bt r.bin`.
+fn answer<S: Shelf>(
+    alloc: Global,
+    shelf: &mut S,
+    out: &mut MemSink,
+    err: &mut MemSink,
+) -> Result<Report, Memory> {
+    let mut words = Vec::new(alloc);
+    for word in ["run", "s.bt", "r.bin"] {
+        words.push(String::from_str(alloc, word)?)?;
+    }
+    Ok(serve(alloc, words.as_slice(), shelf, out, err))
+}
+
+#[test]
+fn a_million_events_are_counted(rt: HostRuntime) -> Result<(), Fail> {
+    let alloc = rt.alloc();
+    let mut shelf = shelf(alloc, 1_048_576, &[])?;
+    let mut out = sink(alloc, 4096, &[])?;
+    let mut err = sink(alloc, 4096, &[])?;
+    let report = answer(alloc, &mut shelf, &mut out, &mut err)?;
+    assert!(rt; report.status == 0);
+    assert!(rt; out.taken() == b"@: 1048576\n\n".as_slice());
+    Ok(())
+}
+
+#[test]
+fn a_write_fault_leaves_a_prefix_and_the_work(rt: HostRuntime) -> Result<(), Fail> {
+    let alloc = rt.alloc();
+    let mut shelf = shelf(alloc, 3, &[])?;
+    let mut out = sink(alloc, 2, &[2])?;
+    let mut err = sink(alloc, 3, &[3])?;
+    let report = answer(alloc, &mut shelf, &mut out, &mut err)?;
+    assert!(rt; report.status == 5);
+    assert!(rt; out.taken() == b"@:".as_slice());
+    // The fault of `err` leaves a prefix of its line, and changes nothing else.
+    assert!(rt; err.taken() == b"write ".as_slice());
+    let work = report.work.ok_or("no work")?;
+    assert!(rt; work.text.as_slice() == b"@: 3\n\n".as_slice());
+    assert!(rt; work.steps.len() == 3);
+    assert!(rt; work.instructions == 18);
+    Ok(())
+}
+
+#[test]
+fn a_failing_read_is_told_of_its_file(rt: HostRuntime) -> Result<(), Fail> {
+    let alloc = rt.alloc();
+    for (call, line) in [(1, b"s.bt: read fault\n".as_slice()), (2, b"r.bin: read fault\n".as_slice())] {
+        let mut shelf = shelf(alloc, 3, &[call])?;
+        let mut out = sink(alloc, 4096, &[])?;
+        let mut err = sink(alloc, 4096, &[])?;
+        let report = answer(alloc, &mut shelf, &mut out, &mut err)?;
+        assert!(rt; report.status == 4);
+        assert!(rt; out.taken().is_empty());
+        assert!(rt; err.taken() == line);
+    }
+    Ok(())
+}
+
+/// A shelf that gives the script and answers an error for the recording. It tells no content.
+#[derive(Drop)]
+struct Refusing {
+    answer: ShelfError,
+    asked: Items<Items<u8>>,
+}
+
+impl Shelf for Refusing {
+    ghost held = { λ s name. None };
+
+    ghost faults = { λ s. 2 ^ 64 - 1 };
+
+    ghost asked = { λ s. s.asked };
+
+    fn read(&mut self, alloc: Global, name: &str, limit: u64) -> Result<Vec<u8>, ShelfError> {
+        let Ok(kept) = Vec::from_slice(alloc, name.as_bytes()) else {
+            return Err(ShelfError::Memory);
+        };
+        let Ok(()) = self.asked.push(Items::of(kept)) else {
+            return Err(ShelfError::Memory);
+        };
+        if name == "r.bin" || limit < 50 {
+            return Err(self.answer);
+        }
+        Vec::from_slice(alloc, COUNT).map_err(|_| ShelfError::Memory)
+    }
+}
+
+#[test]
+fn a_long_recording_and_want_of_memory_are_told(rt: HostRuntime) -> Result<(), Fail> {
+    let alloc = rt.alloc();
+    let rows = [
+        (ShelfError::TooLong, 3, b"r.bin: recording too long\n".as_slice()),
+        (ShelfError::Memory, 6, b"out of memory\n".as_slice()),
+    ];
+    for (answer_of_recording, status, line) in rows {
+        let mut shelf = Refusing {
+            answer: answer_of_recording,
+            asked: Items::new(alloc),
+        };
+        let mut out = sink(alloc, 4096, &[])?;
+        let mut err = sink(alloc, 4096, &[])?;
+        let report = answer(alloc, &mut shelf, &mut out, &mut err)?;
+        assert!(rt; report.status == status);
+        assert!(rt; out.taken().is_empty());
+        assert!(rt; err.taken() == line);
+        let asked = shelf.asked.as_slice();
+        assert!(rt; asked.len() == 2);
+        assert!(rt; asked[0].as_slice() == b"s.bt".as_slice());
+        assert!(rt; asked[1].as_slice() == b"r.bin".as_slice());
+    }
+    Ok(())
+}

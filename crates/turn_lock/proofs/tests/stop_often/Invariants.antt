@@ -1,5 +1,0 @@
-use Rattle.turn_lock.specs.Locks.{IsOf}
-use Rattle.turn_lock.proofs.tests.stop_often.Given as goal
-
-abbrev pub invariant-loop : goal.invariant-loop
-invariant-loop g l = IsOf l.lock l.turn
