@@ -2,7 +2,7 @@
 use Rattle.std.proofs.Common.{◌≡◌, ℕ, Bool, true, false, not, cond, List, [], ◌∷◌, refl, sym, ap, ◌∙◌, subst, arith, map, Option, Some, None}
 use Rattle.std.specs.declared.cmp.Ordering.{Ordering}
 use Rattle.std.specs.declared.cmp.Ordering.TheVariants.{Less, Equal, Greater}
-use Rattle.std.specs.List.{filter, list_any}
+use Rattle.std.specs.List.{filter, list_any, AllByRecursion}
 use Rattle.std.specs.Ordering.{match_ordering}
 use Rattle.std.specs.Map.{lookup, remove_entry}
 use Rattle.std.specs.BTreeMap.{insert_entry}
@@ -14,8 +14,7 @@ use Rattle.agg_core.proofs.KeyLaws.{key_itself, Side, Before, Same, After, side,
 
 -- the key comes before each of these
 abbrev pub Below : List Value → List (List Value) → Type 0
-Below k [] = Unit {0}
-Below k (j ∷ js) = (key_order k j ≡ Less) × Below k js
+Below k ks = AllByRecursion (λ j. key_order k j ≡ Less) ks
 
 -- keys in order, each once
 abbrev pub Ascends : List (List Value) → Type 0
