@@ -18,7 +18,5 @@ pub mod order;
 pub mod place;
 pub mod port;
 pub mod step;
-#[cfg(test)]
-mod tests;
 pub mod text;
 pub mod value;

@@ -2,10 +2,11 @@
 use Rattle.std.specs.Prelude.{ℕ, ◌-◌, List, length, min, Bool, ◌==◌, ◌||◌}
 use Rattle.bt_io.specs.Calls.{one_more, is_listed}
 
--- a sink in memory: the bytes taken, how many it can take in all and in one call, the numbers of the
--- calls that fail, and how many calls and how many faults there were
+-- a sink in memory: the bytes taken, the calls that took bytes with how many each was offered and took, how many bytes
+-- it can take in all and in one call, the numbers of the calls that fail, and how many calls and how many faults there were
 pub record SinkState : Type 0 where
   pub taken : List ℕ
+  pub offers : List (ℕ × ℕ)
   pub room : ℕ
   pub most : ℕ
   pub failing : List ℕ

@@ -8,5 +8,3 @@ mod names;
 pub mod real;
 pub mod shelf;
 pub mod sink;
-#[cfg(test)]
-mod tests;

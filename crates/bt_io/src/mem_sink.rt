@@ -4,6 +4,7 @@ ghost use Rattle.std.specs.Io.KnownBytes.{WriteAppends};
 ghost use Rattle.bt_io.specs.Calls.{one_more};
 ghost use Rattle.bt_io.specs.Faults.{Rose};
 ghost use Rattle.bt_io.specs.MemSink.{next_fails, takes};
+ghost use Rattle.bt_io.specs.Offers.{TellsOffer};
 
 use crate::calls::is_among;
 use crate::sink::{Sink, SinkFailed};
@@ -11,7 +12,7 @@ use bt_core::memory::Memory;
 use std::alloc::Global;
 use std::marker::Model;
 
-/// A sink in memory, for tests. It tells the bytes that it took.
+/// A sink in memory, for tests. It tells the bytes that it took, and the calls that took bytes.
 ///
 /// A call whose number is listed as failing answers [`SinkFailed`], and so does a call when the room
 /// is used up; the count of faults rises by one then and at no other time. Every other call takes as
@@ -20,6 +21,7 @@ use std::marker::Model;
 #[derive(Drop)]
 pub struct MemSink {
     taken: Vec<u8>,
+    offers: Vec<(usize, usize)>,
     room: usize,
     most: usize,
     failing: Vec<u32>,
@@ -33,15 +35,17 @@ impl Model for MemSink {
 
     ghost Value = { SinkState };
 
-    ghost view = { λ s. record { taken = s.taken.items; room = s.room; most = s.most; failing = s.failing.items; calls = s.calls; faults = s.faults } };
+    ghost view = { λ s. record { taken = s.taken.items; offers = s.offers.items; room = s.room; most = s.most; failing = s.failing.items;
+        calls = s.calls; faults = s.faults } };
 
-    ghost invariant = { λ s. (0 < s.most) × (vec_len s.taken ≤ s.room) × (s.room ≤ vec_capacity s.taken) };
+    ghost invariant = { λ s. (0 < s.most) × (vec_len s.taken ≤ s.room) × (s.room ≤ vec_capacity s.taken)
+        × (vec_len s.offers ≤ vec_len s.taken) × (s.room ≤ vec_capacity s.offers) };
 }
 
 impl MemSink {
     /// A sink that takes `room` bytes in all and at most `most` in one call, of which the calls listed
     /// in `failing` fail. It took nothing yet, and there was no call and no fault. [`Memory`] comes
-    /// where there is no room for `room` bytes.
+    /// where there is no room for `room` bytes and as many calls.
     pub fn new(
         alloc: Global,
         room: usize,
@@ -50,6 +54,7 @@ impl MemSink {
     ) -> Result<MemSink, Memory>
         requires { 0 < most }
         ensures empty { IfOk result (λ sink. sink.taken ≡ []) }
+        ensures unoffered { IfOk result (λ sink. sink.offers ≡ []) }
         ensures room { IfOk result (λ sink. sink.room ≡ room) }
         ensures most { IfOk result (λ sink. sink.most ≡ most) }
         ensures failing { IfOk result (λ sink. sink.failing ≡ failing.items) }
@@ -58,6 +63,7 @@ impl MemSink {
     {
         Ok(MemSink {
             taken: Vec::with_capacity(alloc, room)?,
+            offers: Vec::with_capacity(alloc, room)?,
             room,
             most,
             failing,
@@ -73,12 +79,21 @@ impl MemSink {
     {
         self.taken.as_slice()
     }
+
+    /// The calls that took bytes, each with how many bytes it was offered and how many it took.
+    pub fn offers(&self) -> &[(usize, usize)]
+        ensures { result.now ≡ self.now.offers }
+    {
+        self.offers.as_slice()
+    }
 }
 
 impl Sink for MemSink {
     ghost taken = { λ s. Some s.taken };
 
     ghost faults = { λ s. s.faults };
+
+    ghost offers = { λ s. Some s.offers };
 
     fn write(&mut self, piece: &[u8]) -> Result<usize, SinkFailed>
         requires { 0 < length piece.now }
@@ -103,6 +118,7 @@ impl Sink for MemSink {
         ensures bytes { WriteAppends (Some self.old.taken) (Some self.new.taken) result piece.now }
         ensures failed { OnErr result (Rose self.old.faults self.new.faults) }
         ensures later { self.old.faults ≤ self.new.faults }
+        ensures offered { TellsOffer (Some self.old.offers) (Some self.new.offers) (length piece.now) result }
     {
         self.calls = self.calls.saturating_add(1);
         let left = self.room - self.taken.len();
@@ -111,6 +127,7 @@ impl Sink for MemSink {
             return Err(SinkFailed);
         }
         let count = piece.len().min(self.most).min(left);
+        self.offers.push((piece.len(), count)).unwrap();
         self.taken.extend_from_slice(&piece[..count]).unwrap();
         Ok(count)
     }

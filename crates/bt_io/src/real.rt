@@ -14,9 +14,6 @@ use std::marker::Model;
 use std::rt::Files;
 use std::{fs, io};
 
-#[cfg(test)]
-mod tests;
-
 /// The files of the system, named by their paths. It tells no content.
 ///
 /// A path that cannot be opened or read to its end is a fault. An interrupted read is tried again.
@@ -106,8 +103,8 @@ fn shelf_error(error: io::Error) -> ShelfError
     }
 }
 
-/// How often a write that a signal interrupts is begun.
-const TRIES: usize = 64;
+/// How often a write that a signal interrupts is begun in one call.
+pub const TRIES: usize = 64;
 
 /// Standard output or standard error. It tells no content.
 ///
@@ -128,15 +125,21 @@ impl<P> Model for StdSink<P> {
     ghost view = { λ s. record { faults = s.faults } };
 }
 
+impl<P> StdSink<P> {
+    /// A sink over a stream. There was no fault yet.
+    pub fn over(stream: P) -> StdSink<P>
+        ensures faultless { result.faults ≡ 0 }
+    {
+        StdSink { stream, faults: 0 }
+    }
+}
+
 impl StdSink<Stdout> {
     /// Standard output. There was no fault yet.
     pub fn out(rt: HostRuntime) -> StdSink<Stdout>
         ensures faultless { result.faults ≡ 0 }
     {
-        StdSink {
-            stream: rt.stdout(),
-            faults: 0,
-        }
+        StdSink::over(rt.stdout())
     }
 }
 
@@ -145,10 +148,7 @@ impl StdSink<Stderr> {
     pub fn err(rt: HostRuntime) -> StdSink<Stderr>
         ensures faultless { result.faults ≡ 0 }
     {
-        StdSink {
-            stream: rt.stderr(),
-            faults: 0,
-        }
+        StdSink::over(rt.stderr())
     }
 }
 

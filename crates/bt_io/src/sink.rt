@@ -1,7 +1,8 @@
 // What takes bytes.
-ghost use Rattle.std.specs.Prelude.{◌<◌, ◌≤◌, ℕ, List, Option, length, IfOk, OnErr, OnOk};
+ghost use Rattle.std.specs.Prelude.{◌<◌, ◌≤◌, ℕ, List, Option, None, length, IfOk, OnErr, OnOk};
 ghost use Rattle.std.specs.Io.KnownBytes.{Appends, WriteAppends};
 ghost use Rattle.bt_io.specs.Faults.{Rose};
+ghost use Rattle.bt_io.specs.Offers.{OffersAllLeft, TellsOffer};
 ghost use Rattle.bt_io.specs.Taken.{AppendsPart};
 
 use thiserror::Error;
@@ -12,7 +13,7 @@ use thiserror::Error;
 pub struct SinkFailed;
 
 /// The most bytes that [`write_all`] offers in one call.
-const PIECE: usize = 4096;
+pub const PIECE: usize = 4096;
 
 /// What takes bytes.
 pub trait Sink {
@@ -21,6 +22,10 @@ pub trait Sink {
 
     /// How many faults there were, which never falls.
     ghost faults: { Self → ℕ };
+
+    /// The calls that took bytes, each with how many it was offered and how many it took, where the
+    /// sink tells them.
+    ghost offers: { Self → Option (List (ℕ × ℕ)) } = { λ _. None };
 
     /// Takes at least one of the first bytes of the piece, and answers how many.
     ///
@@ -31,7 +36,8 @@ pub trait Sink {
         ensures within { IfOk result (λ n. n ≤ length piece.now) }
         ensures bytes { WriteAppends (taken self.old) (taken self.new) result piece.now }
         ensures failed { OnErr result (Rose (faults self.old) (faults self.new)) }
-        ensures later { faults self.old ≤ faults self.new };
+        ensures later { faults self.old ≤ faults self.new }
+        ensures offered { TellsOffer (offers self.old) (offers self.new) (length piece.now) result };
 }
 
 /// Writes all the bytes. Each call to the sink is offered all that are left, but at most 4,096.
@@ -43,6 +49,7 @@ pub fn write_all<K: Sink>(sink: &mut K, bytes: &[u8]) -> Result<(), SinkFailed>
     ensures part { OnErr result (AppendsPart (K.taken sink.old) (K.taken sink.new) bytes.now) }
     ensures failed { OnErr result (Rose (K.faults sink.old) (K.faults sink.new)) }
     ensures later { K.faults sink.old ≤ K.faults sink.new }
+    ensures offered { OffersAllLeft (K.offers sink.old) (K.offers sink.new) (length bytes.now) }
 {
     let mut done = 0;
     while done < bytes.len() {

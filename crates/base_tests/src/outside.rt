@@ -1,41 +1,41 @@
-// What no clause says: that files are read and streams are written, and how faults of the system
-// are told apart.
-use super::{FileShelf, StdSink, TRIES};
-use crate::shelf::{Shelf, ShelfError};
-use crate::sink::{Sink, SinkFailed};
-use crate::tests::told;
+// That files are read and streams are written, and how faults of the system are told apart.
+use bt_io::real::{FileShelf, StdSink, TRIES};
+use bt_io::shelf::{Shelf, ShelfError};
+use bt_io::sink::{Sink, SinkFailed};
 use std::cell::Cell;
 use std::fmt::Display;
 use std::io::{ErrorKind, Print};
 use std::test::Fail;
 use std::{fs, io, process};
 
+fn told(read: &Result<Vec<u8>, ShelfError>) -> Result<&[u8], ShelfError> {
+    match read {
+        Ok(bytes) => Ok(bytes.as_slice()),
+        Err(error) => Err(*error),
+    }
+}
+
 #[test]
 fn real_files_are_read_and_real_streams_are_written(rt: HostRuntime) -> Result<(), Fail> {
     let alloc = rt.alloc();
     let id = process::id(rt.process());
-    let path = format!(in alloc; "/tmp/bt_io_{id}")?;
-    let missing = format!(in alloc; "/tmp/bt_io_{id}/missing")?;
+    let path = format!(in alloc; "/tmp/base_tests_{id}")?;
+    let missing = format!(in alloc; "/tmp/base_tests_{id}/missing")?;
     fs::write(&rt, path.as_str(), b"five\n".as_slice())?;
     let mut shelf = FileShelf::new(rt, alloc);
-    for (name, limit, want, faults) in [
-        (path.as_str(), 5, Ok(b"five\n".as_slice()), 0),
-        (path.as_str(), u64::MAX, Ok(b"five\n"), 0),
-        (path.as_str(), 4, Err(ShelfError::TooLong), 0),
-        ("/dev/zero", 4, Err(ShelfError::TooLong), 0),
-        ("/dev/null", 0, Ok(b""), 0),
-        (missing.as_str(), 5, Err(ShelfError::Failed), 1),
-        ("/tmp", 5, Err(ShelfError::Failed), 2),
+    for (name, limit, want) in [
+        (path.as_str(), 5, Ok(b"five\n".as_slice())),
+        (path.as_str(), u64::MAX, Ok(b"five\n")),
+        (path.as_str(), 4, Err(ShelfError::TooLong)),
+        ("/dev/zero", 4, Err(ShelfError::TooLong)),
+        ("/dev/null", 0, Ok(b"")),
+        (missing.as_str(), 5, Err(ShelfError::Failed)),
+        ("/tmp", 5, Err(ShelfError::Failed)),
     ] {
         let read = shelf.read(alloc, name, limit);
         assert_eq!(rt; told(&read), want, "at {name}");
-        assert_eq!(rt; shelf.faults, faults, "at {name}");
     }
     fs::remove_file(&rt, path.as_str())?;
-    let asked = shelf.asked.as_slice();
-    assert_eq!(rt; asked.len(), 7);
-    assert_eq!(rt; asked[3].as_slice(), b"/dev/zero".as_slice());
-
     assert_eq!(rt; StdSink::out(rt).write(b"out\n"), Ok(4));
     assert_eq!(rt; StdSink::err(rt).write(b"err\n"), Ok(4));
     Ok(())
@@ -75,21 +75,17 @@ impl Print for Stream {
 fn an_interrupted_write_is_begun_again_and_one_that_takes_nothing_is_a_fault(
     rt: HostRuntime,
 ) -> Result<(), Fail> {
-    for (interruptions, takes, want, faults) in [
-        (0, 3, Ok(3), 0),
-        (TRIES - 1, 9, Ok(5), 0),
-        (TRIES, 9, Err(SinkFailed), 1),
-        (0, 0, Err(SinkFailed), 1),
+    for (interruptions, takes, want) in [
+        (0, 3, Ok(3)),
+        (TRIES - 1, 9, Ok(5)),
+        (TRIES, 9, Err(SinkFailed)),
+        (0, 0, Err(SinkFailed)),
     ] {
-        let mut sink = StdSink {
-            stream: Stream {
-                interruptions: Cell::new(interruptions),
-                takes,
-            },
-            faults: 0,
-        };
+        let mut sink = StdSink::over(Stream {
+            interruptions: Cell::new(interruptions),
+            takes,
+        });
         assert_eq!(rt; sink.write(b"piece"), want, "{interruptions}, {takes}");
-        assert_eq!(rt; sink.faults, faults, "{interruptions}, {takes}");
     }
     Ok(())
 }
