@@ -2,11 +2,10 @@
 //! actor, the tick clock and the output. Each is a [`turn_lock::object::SeqObject`].
 #![tactic(auto)]
 
-mod cell;
-mod cells;
 pub mod clock;
+mod content;
+mod contents;
 pub mod cpu;
-mod cpu_object;
 pub mod out;
 mod place;
 mod rows;

@@ -8,7 +8,7 @@ ghost use Rattle.bt_core.specs.Order.{key_order};
 ghost use Rattle.agg_core.specs.Changes.{is_key};
 ghost use Rattle.step_objects.specs.Rows.{IsGiven, row_at};
 
-use crate::cell::Cell;
+use crate::content::Content;
 use crate::place::place;
 use bt_core::items::Items;
 use bt_core::key::Key;
@@ -105,7 +105,7 @@ impl<C: TryCopy> Rows<C> {
     }
 }
 
-impl<C: Cell> Rows<C> {
+impl<C: Content> Rows<C> {
     /// Gives a key's cell one value more, if the key has a row, and says whether it has.
     pub fn give(&mut self, kind: &C::Kind, key: &Key, given: &C::Given) -> bool
         requires { C.is_fine kind.now }
@@ -133,7 +133,7 @@ impl<C: Cell> Rows<C> {
     }
 }
 
-fn empty_all<C: Cell>(rows: &mut [(Key, C)], kind: &C::Kind)
+fn empty_all<C: Content>(rows: &mut [(Key, C)], kind: &C::Kind)
     requires { C.is_fine kind.now }
     ensures keys { map (λ r. r.0) rows.new ≡ map (λ r. r.0) rows.old }
     ensures emptied { (keys : List (List Part)) (values : List Part → List C.Given)

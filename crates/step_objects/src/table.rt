@@ -3,7 +3,7 @@ ghost use Rattle.std.specs.Prelude.{◌≡◌, List, ◌∷◌, true, false, OnO
 ghost use Rattle.agg_core.specs.Changes.{Change, Puts, Removes, Clears, Zeroes, lives};
 ghost use Rattle.step_objects.specs.Tables.{Stands};
 
-use crate::cell::Cell;
+use crate::content::Content;
 use crate::rows::Rows;
 use bt_core::key::Key;
 use bt_core::limits::KEYS;
@@ -17,7 +17,7 @@ pub struct Table<C> {
     pub lost: u64,
 }
 
-impl<C: Cell> Table<C> {
+impl<C: Content> Table<C> {
     /// Gives a key a value. The update is lost where the key does not live and as many keys live as may.
     ///
     /// After [`Memory`] the table is as before. A key that lives takes no memory.

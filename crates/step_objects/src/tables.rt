@@ -1,5 +1,5 @@
 // What is read of the tables of an actor, and done to them.
-ghost use Rattle.std.specs.Prelude.{◌≡◌, ◌<◌, ℤ, List, ◌∷◌, length, All, IfOk, OnOk, OnErr, IsOk};
+ghost use Rattle.std.specs.Prelude.{◌≡◌, ◌<◌, ℤ, List, [], ◌∷◌, length, replicate, All, IfOk, OnOk, OnErr, IsOk};
 ghost use Rattle.bt_core.specs.declared.map.MapDecl.{MapDecl as Decl};
 ghost use Rattle.bt_core.specs.declared.map.MapId.{MapId};
 ghost use Rattle.bt_core.specs.declared.step.Op.{Op};
@@ -9,6 +9,7 @@ ghost use Rattle.agg_core.specs.Changes.{Change};
 ghost use Rattle.step_objects.specs.CpuTables.{EachStands, IsInside};
 ghost use Rattle.step_objects.specs.Free.{IsFreeChange, HandsOutNoRows};
 
+use crate::rows::Rows;
 use crate::table::Table;
 use bt_core::agg::Agg;
 use bt_core::map::{AggKind, MapDecl, MapId, MapKind};
@@ -73,4 +74,18 @@ pub fn change(alloc: Global, decls: &[MapDecl], tables: &mut [Table<Agg>], op: &
         }
         _ => Ok(()),
     }
+}
+
+/// So many tables to which nothing was done.
+pub fn empty_tables(alloc: Global, count: usize) -> Result<Vec<Table<Agg>>, Memory>
+    ensures { IfOk result (λ tables. tables.items ≡ replicate count (record { rows = []; lost = 0 })) }
+{
+    let mut tables = Vec::with_capacity(alloc, count)?;
+    for _at in 0..count {
+        tables.push(Table {
+            rows: Rows::new(alloc),
+            lost: 0,
+        })?;
+    }
+    Ok(tables)
 }

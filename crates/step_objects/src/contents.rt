@@ -1,10 +1,10 @@
-// The cells of shared maps and of aggregation maps.
+// What stands under the keys of shared maps and of aggregation maps.
 ghost use Rattle.std.specs.Prelude.{◌≡◌, List, [], ◌∷◌, ◌++◌, IfOk};
 ghost use Rattle.bt_core.specs.Kinds.{IsFineKind};
 ghost use Rattle.agg_core.specs.Aggregates.{aggregate};
 ghost use Rattle.agg_core.specs.Answers.{last_given, zero_value};
 
-use crate::cell::Cell;
+use crate::content::Content;
 use agg_core::aggregation::Aggregation;
 use bt_core::agg::Agg;
 use bt_core::map::{AggKind, MapKind};
@@ -23,7 +23,7 @@ pub fn zero_of(kind: &MapKind) -> Value
     }
 }
 
-impl Cell for Value {
+impl Content for Value {
     type Given = Value;
     type Kind = MapKind;
 
@@ -44,7 +44,7 @@ impl Cell for Value {
     }
 }
 
-impl Cell for Agg {
+impl Content for Agg {
     type Given = i64;
     type Kind = AggKind;
 

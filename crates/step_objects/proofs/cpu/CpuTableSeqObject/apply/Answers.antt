@@ -3,7 +3,7 @@ use Rattle.std.proofs.lemmas.List.{with_items_is}
 use Rattle.agg_core.specs.Answers.{back, table_change}
 use Rattle.step_objects.specs.CpuTables.{EachStands}
 use Rattle.step_objects.proofs.CpuLaws.{cpu-more}
-use Rattle.step_objects.proofs.cpu_object.CpuTableSeqObject.apply.Goals as goal
+use Rattle.step_objects.proofs.cpu.CpuTableSeqObject.apply.Goals as goal
 
 pub returns-clause-taken : goal.returns-clause-taken
 returns-clause-taken c before s =
