@@ -1,6 +1,6 @@
 -- The aggregate of one number more, and of no numbers.
-use Rattle.std.proofs.Common.{◌≡◌, ℕ, suc, ◌+◌, ℤ, pos, ◌+ℤ◌, List, [], ◌∷◌, ◌++◌, length, refl, sym, ap, ◌∙◌, arith, w64, FitsSigned, Some, fold}
-use Rattle.std.specs.Int.{int_wrap, int_min, int_max, int_wrapping_add}
+use Rattle.std.proofs.Common.{◌≡◌, ℕ, ℤ, pos, ◌+ℤ◌, List, [], ◌∷◌, ◌++◌, length, refl, sym, ap, ◌∙◌, arith, w64, FitsSigned, Some, fold}
+use Rattle.std.specs.Int.{int_min, int_max, int_wrapping_add}
 use Rattle.std.specs.List.{reduce}
 use Rattle.std.proofs.lemmas.Int.{wrapping_add_is, int_wrap-add_left, SFits-int_wrap, ints}
 use Rattle.std.proofs.lemmas.List.{length_push}
@@ -10,8 +10,8 @@ use Rattle.bt_core.specs.declared.map.AggKind.TheVariants.{Hist, Lhist, Count, S
 use Rattle.bt_core.specs.declared.agg.Buckets.TheVariants as held
 use Rattle.bt_core.specs.declared.agg.Agg.{Agg}
 use Rattle.std.proofs.Common.{replicate}
-use Rattle.agg_core.specs.Aggregates.{aggregate, signed, bucket, buckets_of, bounds}
-use Rattle.agg_core.specs.Gathering.{with_number, beside, with_bucket, emptied}
+use Rattle.agg_core.specs.Aggregates.{aggregate, either, signed, bucket, buckets_of}
+use Rattle.agg_core.specs.Gathering.{with_number, with_bucket, emptied}
 use Rattle.agg_core.proofs.CountLaws.{counts-more, counts-none, counts-length, hist-none}
 
 count-more : (ns : List ℤ) (n : ℤ) → int_wrapping_add w64 (signed (pos (length ns))) (pos 1) ≡ signed (pos (length (ns ++ n ∷ [])))
@@ -26,7 +26,7 @@ sum-more ns n fits = let sum : ℤ = fold ◌+ℤ◌ (pos 0) ns in
     ∙ int_wrap-add_left w64 sum n
     ∙ ap signed (sym (fold_push ◌+ℤ◌ (pos 0) ns n))
 
-reduce-more : (f : ℤ → ℤ → ℤ) (ns : List ℤ) (n : ℤ) → Some (beside f (reduce f ns) n) ≡ reduce f (ns ++ n ∷ [])
+reduce-more : (f : ℤ → ℤ → ℤ) (ns : List ℤ) (n : ℤ) → either f (reduce f ns) (Some n) ≡ reduce f (ns ++ n ∷ [])
 reduce-more f [] n = refl
 reduce-more f (m ∷ ms) n = ap (λ (z : ℤ). Some z) (sym (fold_push f m ms n))
 

@@ -3,7 +3,7 @@ use Rattle.std.proofs.Common.{◌≡◌, ℕ, zero, suc, ◌+◌, ◌%◌, ◌^�
 use Rattle.std.specs.List.{range_with_len, count_by}
 use Rattle.bt_core.specs.declared.map.AggKind.{AggKind}
 use Rattle.bt_core.specs.declared.map.AggKind.TheVariants.{Hist, Lhist, Count, Sum, Min, Max, Avg}
-use Rattle.agg_core.specs.Aggregates.{bounds, bucket, counts, buckets_of, upto}
+use Rattle.agg_core.specs.Aggregates.{bounds, bucket, counts, buckets_of}
 use Rattle.agg_core.specs.Gathering.{one_more}
 use Rattle.std.specs.Int.RustNames.{int_le}
 use Rattle.std.proofs.Common.{get_or, ⊎_elim, zero-add, add-zero}

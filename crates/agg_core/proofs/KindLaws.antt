@@ -1,13 +1,12 @@
 -- The answers of objects are of the kinds of their operations.
-use Rattle.std.proofs.Common.{◌≡◌, ℕ, ◌==◌, ◌&&◌, ◌<◌, Bool, true, false, cond, List, [], ◌∷◌, ◌++◌, map, reverse, fold, length, Option, Some, None, refl, sym, ap, ◌∙◌, subst, ℤ, zero, suc}
+use Rattle.std.proofs.Common.{◌≡◌, ℕ, ◌==◌, ◌&&◌, ◌<◌, Bool, true, false, cond, List, [], ◌∷◌, ◌++◌, map, fold, Option, Some, None, refl, sym, ap, ◌∙◌, subst, ℤ, zero, suc}
 use Rattle.std.specs.Prelude.{IsSomeAnd, slice_get}
-use Rattle.std.specs.List.{All, AllByRecursion, filter}
+use Rattle.std.specs.List.{All, AllByRecursion}
 use Rattle.std.specs.Ordering.{match_ordering}
 use Rattle.std.specs.declared.cmp.Ordering.TheVariants.{Less, Equal, Greater}
 use Rattle.std.proofs.lemmas.Bool.{eqb-true}
 use Rattle.std.proofs.lemmas.List.{reverse-append}
 use Rattle.std.proofs.lemmas.List.Elements.{All-from_recursion, recursion_from_All, All-map, All-filter, All-weaker}
-use Rattle.bt_core.specs.declared.map.AggKind.{AggKind}
 use Rattle.bt_core.specs.declared.map.MapDecl.{MapDecl}
 use Rattle.bt_core.specs.declared.map.MapId.{MapId}
 use Rattle.bt_core.specs.declared.map.MapKind.{MapKind}
@@ -18,13 +17,12 @@ use Rattle.bt_core.specs.declared.step.ObjectId.TheVariants.{Shared, Cpu, Clock,
 use Rattle.bt_core.specs.declared.step.Op.{Op}
 use Rattle.bt_core.specs.declared.step.Op.TheVariants.{Get, Set, Delete, Clear, Zero, ReadAll, Add, ClearOf, ZeroOf, Read, Cross, Check, Stop, Emit}
 use Rattle.bt_core.specs.declared.value.Value.{Value}
-use Rattle.bt_core.specs.declared.value.Value.TheVariants.{Int, Str}
-use Rattle.bt_core.specs.Kinds.{HasShape, IsOfKind, IsShared, IsAggregation, IsAggOf, IsFineKind, IsFineMapKind, IsFineDecl}
+use Rattle.bt_core.specs.Kinds.{HasShape, IsOfKind, IsShared, IsAggregation, IsAggOf, IsFineMapKind, IsFineDecl}
 use Rattle.bt_core.specs.Order.{key_order}
 use Rattle.bt_core.specs.Ports.{Setting, CanStep, IsReplyOf, IsSharedOp, IsTableOp, IsSharedReply, IsTableReply, IsClockReply}
 use Rattle.agg_core.specs.Aggregates.{aggregate}
 use Rattle.agg_core.specs.Answers.{shared_change, table_change, where_same, back, zero_value, last_given, shared_answer, table_answer, clock_answer, answer, kind_of_decl, agg_kind_of}
-use Rattle.agg_core.specs.Changes.{Change, Puts, Removes, Clears, Zeroes, Leaves, is_key, with_key, put_keys, lives, live_keys, is_taken, given_after, given_to, rows_of}
+use Rattle.agg_core.specs.Changes.{Change, Puts, Removes, Clears, Zeroes, Leaves, is_key, with_key, put_keys, lives, live_keys, is_taken, given_to, rows_of}
 use Rattle.agg_core.proofs.CountLaws.{buckets-fit}
 
 abbrev Each : {A : Type 0} → (A → Type 0) → List A → Type 0
@@ -70,8 +68,8 @@ module _ {V : Type 0} (P : List Value → Type 0) (Q : V → Type 0) where
       → (changes : List (Change V)) → Each (Fits P Q) changes → All (λ row. P row.0 × R row.1) (rows_of made changes)
   rows-fit R made good changes all =
       All-map (λ row. P row.0 × R row.1) (λ k. (k, made (given_to changes k))) (live_keys changes)
-        (All-filter (lives changes) (λ k. P k × R (made (given_to changes k))) (put_keys changes)
-          (λ i d low. (All-from_recursion P (put_keys changes) (put_keys-fit changes all) i d low, good _ (given-fits changes _ all))))
+      (All-filter (lives changes) (λ k. P k × R (made (given_to changes k))) (put_keys changes)
+      (λ i d low. (All-from_recursion P (put_keys changes) (put_keys-fit changes all) i d low, good _ (given-fits changes _ all))))
 
   -- the changes of operations that fit, looking back
   back-fits : (change : Op → Change V) (Own : Op → Type 0) → ((op : Op) → Own op → Fits P Q (change op))
@@ -176,7 +174,7 @@ read-kind maps before m fine all None is own = absurd own
 read-kind maps before m fine all (Some decl) is own =
     let good = found-fine maps m.0 decl (recursion_from_All IsFineDecl maps fine) is in
     rows-fit (HasShape decl.key_shape) Any (IsAggOf decl.kind) (aggregate (agg_kind_of decl.kind)) (λ ns each. made-fits decl.kind ns own good) (back (table_change m) before)
-      (back-fits (HasShape decl.key_shape) Any (table_change m) (IsTableOp maps) (table-fits maps m decl is) before (recursion_from_All (IsTableOp maps) before all))
+    (back-fits (HasShape decl.key_shape) Any (table_change m) (IsTableOp maps) (table-fits maps m decl is) before (recursion_from_All (IsTableOp maps) before all))
 
 pub table_answer-kind : (maps : List MapDecl) (before : List Op) (op : Op) → All IsFineDecl maps → All (IsTableOp maps) before → IsTableOp maps op → IsTableReply maps op (table_answer maps before op)
 table_answer-kind maps before (Read m) fine all own = read-kind maps before m fine all (slice_get maps m.0) refl own

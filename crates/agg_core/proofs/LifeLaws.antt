@@ -1,12 +1,12 @@
 -- Which keys live, by their last puts.
-use Rattle.std.proofs.Common.{◌≡◌, Bool, true, false, not, ◌&&◌, ◌||◌, List, [], ◌∷◌, ◌++◌, refl, sym, ap, ◌∙◌, subst, inl, inr, ⊎_elim, ◌⊎◌}
-use Rattle.std.specs.List.{filter, list_any, Contains}
+use Rattle.std.proofs.Common.{◌≡◌, Bool, true, false, not, ◌&&◌, ◌||◌, List, [], ◌∷◌, ◌++◌, refl, ap, ◌∙◌, inl, inr, ⊎_elim, ◌⊎◌}
+use Rattle.std.specs.List.{list_any}
 use Rattle.std.specs.List.Sorted.{IsStrictlySortedBy}
 use Rattle.std.proofs.lemmas.Bool.{and_parts, or_parts, or_right}
 use Rattle.std.proofs.lemmas.List.Kept.{IsStrictlySortedBy-filter}
 use Rattle.bt_core.specs.declared.value.Value.{Value}
 use Rattle.bt_core.specs.Order.{key_order}
-use Rattle.agg_core.specs.Changes.{Change, Puts, Removes, Clears, Zeroes, Leaves, is_key, is_put_of, is_taken, ends, lives, put_keys, live_keys}
+use Rattle.agg_core.specs.Changes.{Change, Puts, Removes, Clears, Zeroes, Leaves, is_put_of, is_taken, ends, lives, put_keys, live_keys}
 use Rattle.agg_core.specs.Lives.{IsPutForGood}
 use Rattle.agg_core.proofs.KeyLaws.{is_key-true, is_key-same}
 use Rattle.agg_core.proofs.Running.{ascends-put_keys}
@@ -39,17 +39,17 @@ module _ {V : Type 0} where
   put-lives (c ∷ before) k alive = ⊎_elim
       (λ (l : (is_put_of k c && is_taken before k) ≡ true). let two = and_parts (is_put_of k c) (is_taken before k) l in put_here c before k two.0 two.1)
       (λ (r : (not (ends k c) && lives before k) ≡ true).
-        let two = and_parts (not (ends k c)) (lives before k) r in
-        let put = put-lives before k two.1 in
-        let no : ends k c ≡ false = is_false (ends k c) two.0 in
-        record {
-          later = c ∷ put.later;
-          given = put.given;
-          before = put.before;
-          made = ap (λ l. c ∷ l) put.made;
-          taken = put.taken;
-          lasts = (λ i. no i || list_any (ends k) put.later) ∙ put.lasts;
-        })
+      let two = and_parts (not (ends k c)) (lives before k) r in
+      let put = put-lives before k two.1 in
+      let no : ends k c ≡ false = is_false (ends k c) two.0 in
+      record {
+        later = c ∷ put.later;
+        given = put.given;
+        before = put.before;
+        made = ap (λ l. c ∷ l) put.made;
+        taken = put.taken;
+        lasts = (λ i. no i || list_any (ends k) put.later) ∙ put.lasts;
+      })
       (either_true (is_put_of k c && is_taken before k) (not (ends k c) && lives before k) alive)
 
   lives-after : (later : List (Change V)) (k : List Value) (v : V) (before : List (Change V)) → is_taken before k ≡ true → list_any (ends k) later ≡ false → lives (later ++ Puts k v ∷ before) k ≡ true
@@ -58,7 +58,7 @@ module _ {V : Type 0} where
       let two = or_parts (ends k c) (list_any (ends k) later) lasts in
       let rest = lives-after later k v before taken two.1 in
       or_right (is_put_of k c && is_taken (later ++ Puts k v ∷ before) k) (not (ends k c) && lives (later ++ Puts k v ∷ before) k)
-        (λ i. not (two.0 i) && rest i)
+      (λ i. not (two.0 i) && rest i)
 
   pub lives-put_for_good : (changes : List (Change V)) (k : List Value) → IsPutForGood changes k → lives changes k ≡ true
   lives-put_for_good changes k put = ap (λ l. lives l k) put.made ∙ lives-after put.later k put.given put.before put.taken put.lasts

@@ -1,8 +1,8 @@
 -- The aggregates of two lists, merged.
-use Rattle.std.proofs.Common.{◌≡◌, ℕ, zero, suc, ◌+◌, ◌%◌, ◌^◌, ℤ, pos, ◌+ℤ◌, List, [], ◌∷◌, ◌++◌, length, refl, sym, ap, ◌∙◌, arith, w64, FitsSigned, Option, Some, None, fold, map, cond, ◌==◌}
-use Rattle.std.specs.Int.{int_wrap, int_min, int_max, int_wrapping_add}
+use Rattle.std.proofs.Common.{◌≡◌, ℕ, zero, suc, ◌+◌, ◌%◌, ◌^◌, ℤ, pos, ◌+ℤ◌, List, [], ◌∷◌, ◌++◌, length, refl, sym, ap, ◌∙◌, arith, w64, Some, fold, map, cond, ◌==◌}
+use Rattle.std.specs.Int.{int_min, int_max}
 use Rattle.std.specs.List.{reduce, range_with_len, count_by}
-use Rattle.std.proofs.lemmas.Int.{wrapping_add_is, int_wrap-add_left, int_wrap-add_right, SFits-int_wrap, ints}
+use Rattle.std.proofs.lemmas.Int.{int_wrap-add_left, int_wrap-add_right, ints}
 use Rattle.std.proofs.lemmas.List.{length-append}
 use Rattle.std.proofs.lemmas.List.Sums.{fold-append, sum_by-append}
 use Rattle.bt_core.specs.declared.map.AggKind.{AggKind}

@@ -1,6 +1,5 @@
 -- What a map holds after one more change, by what it held before.
-use Rattle.std.proofs.Common.{◌≡◌, ℕ, Bool, true, false, not, ◌&&◌, ◌||◌, cond, List, [], ◌∷◌, ◌++◌, refl, sym, ap, ◌∙◌, subst, arith, map, length, Option, Some, None, ltb}
-use Rattle.std.specs.declared.cmp.Ordering.{Ordering}
+use Rattle.std.proofs.Common.{◌≡◌, Bool, true, false, not, ◌&&◌, ◌||◌, cond, List, [], ◌∷◌, ◌++◌, refl, sym, ap, ◌∙◌, subst, map, length, Some, None, ltb}
 use Rattle.std.specs.declared.cmp.Ordering.TheVariants.{Less, Equal, Greater}
 use Rattle.std.specs.List.{filter, list_any}
 use Rattle.std.specs.Ordering.{match_ordering}
@@ -10,7 +9,7 @@ use Rattle.std.proofs.lemmas.List.{length-map}
 use Rattle.std.proofs.lemmas.Bool.{or_parts, and_parts, or_right}
 use Rattle.bt_core.specs.declared.value.Value.{Value}
 use Rattle.bt_core.specs.Order.{key_order}
-use Rattle.agg_core.specs.Changes.{is_key, Change, Puts, Removes, Clears, Zeroes, Leaves, with_key, with_put, put_keys, takes, lives, is_taken, is_put_of, ends, live_keys, given_after, given_to, is_lost, lost_updates, rows_of}
+use Rattle.agg_core.specs.Changes.{is_key, Change, Puts, Removes, Clears, Zeroes, Leaves, with_key, with_put, put_keys, lives, is_taken, live_keys, given_to, rows_of}
 use Rattle.agg_core.proofs.KeyLaws.{is_key-true, is_key-same, key_itself, Before, Same, After, side}
 use Rattle.agg_core.proofs.SortedRows.{Ascends, ascends-with_key, rows_at, row_at, rows-insert, rows-remove, rows-none, rows-lookup}
 

@@ -1,6 +1,5 @@
 -- Rows in key order, made of keys in key order.
-use Rattle.std.proofs.Common.{◌≡◌, ℕ, Bool, true, false, not, cond, List, [], ◌∷◌, refl, sym, ap, ◌∙◌, subst, arith, map, Option, Some, None}
-use Rattle.std.specs.declared.cmp.Ordering.{Ordering}
+use Rattle.std.proofs.Common.{◌≡◌, Bool, true, false, cond, List, [], ◌∷◌, refl, sym, ap, ◌∙◌, subst, map, Some, None}
 use Rattle.std.specs.declared.cmp.Ordering.TheVariants.{Less, Equal, Greater}
 use Rattle.std.specs.List.{filter, list_any, AllByRecursion}
 use Rattle.std.specs.Ordering.{match_ordering}
@@ -10,7 +9,7 @@ use Rattle.bt_core.specs.declared.value.Value.{Value}
 use Rattle.bt_core.specs.Order.{key_order}
 use Rattle.agg_core.specs.Changes.{is_key, with_key}
 use Rattle.bt_core.proofs.OrderLaws.{keys_total}
-use Rattle.agg_core.proofs.KeyLaws.{key_itself, Side, Before, Same, After, side, is_key-true, is_key-same, is_key-before, is_key-after}
+use Rattle.agg_core.proofs.KeyLaws.{key_itself, Before, Same, After, side, is_key-true, is_key-same, is_key-before, is_key-after}
 
 -- the key comes before each of these
 abbrev pub Below : List Value → List (List Value) → Type 0

@@ -1,5 +1,5 @@
 -- The aggregate of a list of numbers, and of two aggregates.
-use Rattle.std.specs.Prelude.{◌≡◌, ℕ, suc, ◌+◌, ◌*◌, ◌%◌, ◌^◌, ℤ, pos, ◌+ℤ◌, ◌==◌, List, [], ◌∷◌, ◌++◌, map, length, fold, count_by, Option, None, Some}
+use Rattle.std.specs.Prelude.{ℕ, suc, ◌+◌, ◌*◌, ◌%◌, ◌^◌, ℤ, pos, ◌+ℤ◌, ◌==◌, List, [], ◌∷◌, ◌++◌, map, length, fold, count_by, Option, None, Some}
 use Rattle.std.specs.Int.{w64, int_wrap, int_min, int_max}
 use Rattle.std.specs.Int.RustNames.{int_le, unsigned_abs}
 use Rattle.std.specs.List.{range_with_len, reduce}

@@ -1,15 +1,10 @@
 -- Only for proofs: what the code does to an aggregate at one number more, and at no numbers.
-use Rattle.std.specs.Prelude.{ℕ, ◌+◌, ◌%◌, ◌^◌, ℤ, pos, List, length, slice_set, slice_index, replicate, Option, None, Some}
+use Rattle.std.specs.Prelude.{ℕ, ◌+◌, ◌%◌, ◌^◌, ℤ, pos, List, length, slice_set, slice_index, replicate, Some}
 use Rattle.std.specs.Int.{w64, int_min, int_max, int_wrapping_add}
 use Rattle.bt_core.specs.declared.agg.Agg.{Agg}
 use Rattle.bt_core.specs.declared.agg.Buckets.{Buckets}
 use Rattle.bt_core.specs.declared.agg.Buckets.TheVariants as held
-use Rattle.agg_core.specs.Aggregates.{bucket, either, both_buckets}
-
--- the number beside what is there, by f
-abbrev pub beside : (ℤ → ℤ → ℤ) → Option ℤ → ℤ → ℤ
-beside f None n = n
-beside f (Some m) n = f m n
+use Rattle.agg_core.specs.Aggregates.{bucket, either}
 
 abbrev pub one_more : ℕ → List ℕ → List ℕ
 one_more b cs = slice_set cs b ((slice_index cs b + 1) % 2 ^ 64)
@@ -25,8 +20,8 @@ with_number a n = record {
   kind = a.kind;
   count = int_wrapping_add w64 a.count (pos 1);
   sum = int_wrapping_add w64 a.sum n;
-  least = Some (beside int_min a.least n);
-  greatest = Some (beside int_max a.greatest n);
+  least = either int_min a.least (Some n);
+  greatest = either int_max a.greatest (Some n);
   buckets = with_bucket (bucket a.kind n) a.buckets;
 }
 

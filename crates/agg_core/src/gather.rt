@@ -1,11 +1,11 @@
 // Numbers into aggregates.
 ghost use Rattle.std.specs.Prelude.{◌≡◌, ◌+◌, ◌%◌, ◌^◌, [], IfOk, replicate, length};
-ghost use Rattle.std.specs.Int.{int_min, int_max};
 ghost use Rattle.bt_core.specs.Kinds.{IsFineKind};
 ghost use Rattle.agg_core.specs.Aggregates.{buckets_of};
-ghost use Rattle.agg_core.specs.Gathering.{with_number, beside, with_bucket, one_more, emptied};
+ghost use Rattle.agg_core.specs.Gathering.{with_number, with_bucket, one_more, emptied};
 
 use crate::bucket::{bucket_count, bucket_or_first};
+use crate::merge::{greater, lesser};
 use bt_core::agg::{Agg, Buckets};
 use bt_core::items::Items;
 use bt_core::map::AggKind;
@@ -19,27 +19,9 @@ pub fn take_number(agg: &mut Agg, n: i64)
 {
     agg.count = agg.count.wrapping_add(1);
     agg.sum = agg.sum.wrapping_add(n);
-    agg.least = Some(lesser(agg.least, n));
-    agg.greatest = Some(greater(agg.greatest, n));
+    agg.least = lesser(agg.least, Some(n));
+    agg.greatest = greater(agg.greatest, Some(n));
     count_in(&mut agg.buckets, bucket_or_first(agg.kind, n));
-}
-
-fn lesser(least: Option<i64>, n: i64) -> i64
-    ensures { result ≡ beside int_min least n }
-{
-    match least {
-        None => n,
-        Some(m) => m.min(n),
-    }
-}
-
-fn greater(greatest: Option<i64>, n: i64) -> i64
-    ensures { result ≡ beside int_max greatest n }
-{
-    match greatest {
-        None => n,
-        Some(m) => m.max(n),
-    }
 }
 
 fn count_in(buckets: &mut Buckets, bucket: usize)

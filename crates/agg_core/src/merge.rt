@@ -16,7 +16,8 @@ pub fn take_in(agg: &mut Agg, other: &Agg)
     merge_buckets(&mut agg.buckets, &other.buckets);
 }
 
-fn lesser(one: Option<i64>, other: Option<i64>) -> Option<i64>
+// The lesser number, or the one that is there.
+pub fn lesser(one: Option<i64>, other: Option<i64>) -> Option<i64>
     ensures { result ≡ either int_min one other }
 {
     match (one, other) {
@@ -26,7 +27,8 @@ fn lesser(one: Option<i64>, other: Option<i64>) -> Option<i64>
     }
 }
 
-fn greater(one: Option<i64>, other: Option<i64>) -> Option<i64>
+// The greater number, or the one that is there.
+pub fn greater(one: Option<i64>, other: Option<i64>) -> Option<i64>
     ensures { result ≡ either int_max one other }
 {
     match (one, other) {

@@ -1,7 +1,7 @@
 -- A loop that lets one cell after another forget its values.
-use Rattle.std.proofs.Common.{◌≡◌, ◌≢◌, ℕ, zero, suc, ◌+◌, ◌<◌, ◌≤◌, List, [], ◌∷◌, length, map, refl, sym, ap, ◌∙◌, subst, arith, get_or, set, ⊎_elim, inl, inr}
+use Rattle.std.proofs.Common.{◌≡◌, ◌≢◌, ℕ, zero, suc, ◌+◌, ◌<◌, ◌≤◌, List, [], ◌∷◌, length, map, refl, sym, ap, ◌∙◌, subst, arith, get_or, set, ⊎_elim}
 use Rattle.std.proofs.lemmas.List.{length-set, get_or-set_same, get_or-set_other, get_or_default}
-use Rattle.std.proofs.lemmas.Bool.{cases_eq, cases_lt}
+use Rattle.std.proofs.lemmas.Bool.{cases_eq}
 use Rattle.bt_core.specs.declared.value.Value.{Value}
 use Rattle.step_objects.specs.Rows.{row_at}
 
@@ -26,17 +26,17 @@ module _ {V C : Type 0} (cell : List V → C) (olds : List (List Value × C)) wh
       record {
         long = length-set rows i (x.0, new) ∙ e.long;
         names = λ j d h. ⊎_elim
-          (λ (same : j ≡ i). subst (λ n. (get_or (set rows i (x.0, new)) n d).0 ≡ (get_or olds n d).0) (sym same)
+            (λ (same : j ≡ i). subst (λ n. (get_or (set rows i (x.0, new)) n d).0 ≡ (get_or olds n d).0) (sym same)
             (ap (λ r. r.0) (get_or-set_same rows i (x.0, new) d within) ∙ ap (λ r. r.0) (is ∙ get_or_default rows i x d within) ∙ e.names i d here))
-          (λ (other : j ≡ i → ⊥). ap (λ r. r.0) (get_or-set_other rows i j (x.0, new) d other) ∙ e.names j d h)
-          (cases_eq j i);
+            (λ (other : j ≡ i → ⊥). ap (λ r. r.0) (get_or-set_other rows i j (x.0, new) d other) ∙ e.names j d h)
+            (cases_eq j i);
         rest = λ j d l h. let other : j ≢ i = λ same. absurd (omega arith) in get_or-set_other rows i j (x.0, new) d other ∙ e.rest j d (omega arith) h;
         done = λ values made j d l h. ⊎_elim
-          (λ (same : j ≡ i). subst (λ n. (get_or (set rows i (x.0, new)) n d).1 ≡ cell []) (sym same)
+            (λ (same : j ≡ i). subst (λ n. (get_or (set rows i (x.0, new)) n d).1 ≡ cell []) (sym same)
             (ap (λ r. r.1) (get_or-set_same rows i (x.0, new) d within)
-              ∙ emptied (values (get_or olds i x).0) (ap (λ r. r.1) (is ∙ e.rest i x (omega arith) here) ∙ made i x here)))
-          (λ (other : j ≡ i → ⊥). ap (λ r. r.1) (get_or-set_other rows i j (x.0, new) d other) ∙ e.done values made j d (omega (arith, other)) h)
-          (cases_eq j i);
+            ∙ emptied (values (get_or olds i x).0) (ap (λ r. r.1) (is ∙ e.rest i x (omega arith) here) ∙ made i x here)))
+            (λ (other : j ≡ i → ⊥). ap (λ r. r.1) (get_or-set_other rows i j (x.0, new) d other) ∙ e.done values made j d (omega (arith, other)) h)
+            (cases_eq j i);
       }
 
 -- a list each of whose elements is f of the other's
@@ -70,6 +70,6 @@ module _ {V C : Type 0} (cell : List V → C) (olds rows : List (List Value × C
   emptying-all all keys values is =
       let made = subst (λ l. MadeOf cell l values) (sym is) (made_at cell values keys) in
       pointwise_map (λ r. row_at (λ k. cell []) r.0) olds rows e.long (λ j d w h.
-          let name : (get_or rows j w).0 ≡ (get_or olds j d).0 = e.names j w h ∙ ap (λ r. r.0) (get_or_default olds j w d h) in
-          let done : (get_or rows j w).1 ≡ cell [] = e.done values made j w (omega arith) h in λ i. (name i, done i))
+      let name : (get_or rows j w).0 ≡ (get_or olds j d).0 = e.names j w h ∙ ap (λ r. r.0) (get_or_default olds j w d h) in
+      let done : (get_or rows j w).1 ≡ cell [] = e.done values made j w (omega arith) h in λ i. (name i, done i))
       ∙ ap (map (λ r. row_at (λ k. cell []) r.0)) is ∙ same_keys (λ k. cell (values k)) (λ k. cell []) keys

@@ -1,9 +1,9 @@
 -- Rows in key order: where a key's row stands, and what keeps them in order.
-use Rattle.std.proofs.Common.{◌≡◌, ℕ, zero, suc, ◌+◌, ◌<◌, ◌≤◌, Bool, true, false, ◌&&◌, cond, List, [], ◌∷◌, length, refl, sym, ap, ◌∙◌, subst, arith, map, Some, None, get_or, set, take, drop, Result, Ok, Err}
+use Rattle.std.proofs.Common.{◌≡◌, ℕ, zero, suc, ◌+◌, ◌<◌, ◌≤◌, true, false, ◌&&◌, cond, List, [], ◌∷◌, length, refl, sym, ap, ◌∙◌, subst, arith, map, None, get_or, Result, Ok, Err}
 use Rattle.std.specs.declared.cmp.Ordering.{Ordering}
 use Rattle.std.specs.declared.cmp.Ordering.TheVariants.{Less, Equal, Greater}
-use Rattle.std.specs.Ordering.{is_lt, is_eq, ordering_index, match_ordering, ordering_reverse}
-use Rattle.std.specs.List.{insert, remove, HoldsAt, AllWithin}
+use Rattle.std.specs.Ordering.{is_lt, match_ordering, ordering_reverse}
+use Rattle.std.specs.List.{HoldsAt, AllWithin}
 use Rattle.std.specs.List.Sorted.{IsSortedBy, IsPartitionPoint, IsBinarySearchResult, IsSearchInRange}
 use Rattle.std.specs.Map.{lookup, remove_entry}
 use Rattle.std.specs.BTreeMap.{insert_entry}
@@ -13,8 +13,8 @@ use Rattle.bt_core.specs.declared.value.Value.{Value}
 use Rattle.bt_core.specs.Order.{key_order}
 use Rattle.agg_core.specs.Changes.{is_key}
 use Rattle.bt_core.proofs.OrderLaws.{keys_total, key_order-Equal}
-use Rattle.agg_core.proofs.KeyLaws.{key_itself, is_key-same, Side, Before, Same, After, side}
-use Rattle.step_objects.specs.Rows.{is_before, in_order, StandsAt, BelongsAt, IsPlaceOf, row_at}
+use Rattle.agg_core.proofs.KeyLaws.{key_itself, Before, Same, After, side}
+use Rattle.step_objects.specs.Rows.{is_before, in_order, StandsAt, BelongsAt, IsPlaceOf}
 
 lt-Less : (o : Ordering) → is_lt o ≡ true → o ≡ Less
 lt-Less Less e = refl
@@ -99,29 +99,31 @@ module _ {C : Type 0} where
   before-insert : (j k : List Value) (w : C) (rows : List (List Value × C)) → key_order j k ≡ Less → is_before j rows ≡ true → is_before j (insert_entry key_order rows k w) ≡ true
   before-insert j k w [] e b = and_from (is_lt (key_order j k)) true (ap is_lt e) refl
   before-insert j k w (r ∷ rs) e b = let parts = and_parts (is_lt (key_order j r.0)) (is_before j rs) b in
-      elim (key_order k r.0) as (λ o. is_before j (match_ordering o ((k, w) ∷ r ∷ rs) ((r.0, w) ∷ rs) (r ∷ insert_entry key_order rs k w)) ≡ true)
-        [ Less ↦ and_from (is_lt (key_order j k)) (is_before j (r ∷ rs)) (ap is_lt e) b
+      elim (key_order k r.0) as (λ o. is_before j (match_ordering o ((k, w) ∷ r ∷ rs) ((r.0, w) ∷ rs) (r ∷ insert_entry key_order rs k w)) ≡ true) [
+        | Less ↦ and_from (is_lt (key_order j k)) (is_before j (r ∷ rs)) (ap is_lt e) b
         | Equal ↦ b
-        | Greater ↦ and_from (is_lt (key_order j r.0)) (is_before j (insert_entry key_order rs k w)) parts.0 (before-insert j k w rs e parts.1) ]
+        | Greater ↦ and_from (is_lt (key_order j r.0)) (is_before j (insert_entry key_order rs k w)) parts.0 (before-insert j k w rs e parts.1)
+      ]
 
   pub in_order-insert : (k : List Value) (w : C) (rows : List (List Value × C)) → in_order rows ≡ true → in_order (insert_entry key_order rows k w) ≡ true
   in_order-insert k w [] o = refl
-  in_order-insert k w (r ∷ rs) o = let parts = and_parts (is_before r.0 rs) (in_order rs) o in elim (side k r.0)
-      [ Before e back ↦ rw e (and_from (is_before k (r ∷ rs)) (in_order (r ∷ rs)) (and_from (is_lt (key_order k r.0)) (is_before k rs) (ap is_lt e) (before-trans k r.0 rs e parts.0)) o)
-      | Same e ↦ let here : key_order k r.0 ≡ Equal = subst (λ j. key_order k j ≡ Equal) e (key_itself k) in rw here o
-      | After e back ↦ rw e (and_from (is_before r.0 (insert_entry key_order rs k w)) (in_order (insert_entry key_order rs k w)) (before-insert r.0 k w rs back parts.0) (in_order-insert k w rs parts.1)) ]
+  in_order-insert k w (r ∷ rs) o = let parts = and_parts (is_before r.0 rs) (in_order rs) o in elim (side k r.0) [
+    | Before e back ↦ rw e (and_from (is_before k (r ∷ rs)) (in_order (r ∷ rs)) (and_from (is_lt (key_order k r.0)) (is_before k rs) (ap is_lt e) (before-trans k r.0 rs e parts.0)) o)
+    | Same e ↦ let here : key_order k r.0 ≡ Equal = subst (λ j. key_order k j ≡ Equal) e (key_itself k) in rw here o
+    | After e back ↦ rw e (and_from (is_before r.0 (insert_entry key_order rs k w)) (in_order (insert_entry key_order rs k w)) (before-insert r.0 k w rs back parts.0) (in_order-insert k w rs parts.1))
+  ]
 
   before-remove : (j k : List Value) (rows : List (List Value × C)) → is_before j rows ≡ true → is_before j (remove_entry (is_key k) rows) ≡ true
   before-remove j k [] b = refl
   before-remove j k (r ∷ rs) b = let parts = and_parts (is_lt (key_order j r.0)) (is_before j rs) b in
       elim (is_key k r.0) as (λ t. is_before j (cond t rs (r ∷ remove_entry (is_key k) rs)) ≡ true)
-        [ true ↦ parts.1 | false ↦ and_from (is_lt (key_order j r.0)) (is_before j (remove_entry (is_key k) rs)) parts.0 (before-remove j k rs parts.1) ]
+      [ true ↦ parts.1 | false ↦ and_from (is_lt (key_order j r.0)) (is_before j (remove_entry (is_key k) rs)) parts.0 (before-remove j k rs parts.1) ]
 
   pub in_order-remove : (k : List Value) (rows : List (List Value × C)) → in_order rows ≡ true → in_order (remove_entry (is_key k) rows) ≡ true
   in_order-remove k [] o = refl
   in_order-remove k (r ∷ rs) o = let parts = and_parts (is_before r.0 rs) (in_order rs) o in
       elim (is_key k r.0) as (λ t. in_order (cond t rs (r ∷ remove_entry (is_key k) rs)) ≡ true)
-        [ true ↦ parts.1 | false ↦ and_from (is_before r.0 (remove_entry (is_key k) rs)) (in_order (remove_entry (is_key k) rs)) (before-remove r.0 k rs parts.0) (in_order-remove k rs parts.1) ]
+      [ true ↦ parts.1 | false ↦ and_from (is_before r.0 (remove_entry (is_key k) rs)) (in_order (remove_entry (is_key k) rs)) (before-remove r.0 k rs parts.0) (in_order-remove k rs parts.1) ]
 
 -- what is changed in each cell moves no row
 before-keys : {C D : Type 0} (k : List Value) (rows : List (List Value × C)) (others : List (List Value × D)) → map (λ r. r.0) rows ≡ map (λ r. r.0) others → is_before k rows ≡ is_before k others

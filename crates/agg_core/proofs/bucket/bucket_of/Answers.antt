@@ -1,4 +1,4 @@
-use Rattle.std.proofs.Common.{◌≡◌, ◌≤◌, arith, FitsSigned, w64}
+use Rattle.std.proofs.Common.{arith, FitsSigned, w64}
 use Rattle.std.proofs.lemmas.Int.{to_z-of_z}
 use Rattle.agg_core.proofs.BucketCounts.{bucket-small}
 use Rattle.agg_core.proofs.bucket.bucket_of.Goals as goal

@@ -1,5 +1,5 @@
-use Rattle.std.proofs.Common.{rules, ◌≡◌, ℕ, ℤ, arith, sym, ◌∙◌, ap, FitsSigned, w64}
-use Rattle.std.proofs.lemmas.Int.{ints, to_z-of_z}
+use Rattle.std.proofs.Common.{rules, sym, FitsSigned, w64}
+use Rattle.std.proofs.lemmas.Int.{to_z-of_z}
 use Rattle.agg_core.proofs.BucketLemmas.{no_bucket}
 use Rattle.agg_core.proofs.bucket.bucket_or_first.Goals as goal
 

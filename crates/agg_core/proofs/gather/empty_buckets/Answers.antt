@@ -1,4 +1,4 @@
-use Rattle.std.proofs.Common.{◌≡◌, ℕ, suc, sym, ◌∙◌, ap, replicate, length, [], List, rules}
+use Rattle.std.proofs.Common.{◌≡◌, ℕ, sym, ◌∙◌, ap, replicate, [], List, rules}
 use Rattle.agg_core.specs.Aggregates.{counts}
 use Rattle.bt_core.specs.declared.agg.Buckets.TheVariants as held
 use Rattle.agg_core.proofs.CountLaws.{counts-none, hist-none}

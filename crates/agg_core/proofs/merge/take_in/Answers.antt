@@ -1,4 +1,4 @@
-use Rattle.std.proofs.Common.{rules, ◌≡◌, ℤ, ◌+ℤ◌, w64, FitsSigned}
+use Rattle.std.proofs.Common.{rules, w64, FitsSigned}
 use Rattle.std.proofs.lemmas.Int.{wrapping_add_is}
 use Rattle.agg_core.proofs.merge.take_in.Goals as goal
 

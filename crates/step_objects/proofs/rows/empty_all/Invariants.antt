@@ -1,4 +1,3 @@
-use Rattle.std.proofs.Common.{◌≡◌}
 use Rattle.step_objects.proofs.EmptyLaws.{Emptying}
 use Rattle.step_objects.proofs.rows.empty_all.Given as goal
 

@@ -1,6 +1,5 @@
-use Rattle.std.proofs.Common.{◌≡◌, ap, subst, w64, FitsSigned}
+use Rattle.std.proofs.Common.{◌≡◌, ap, w64, FitsSigned}
 use Rattle.std.proofs.lemmas.Int.{to_z-of_z}
-use Rattle.bt_core.specs.Kinds.{IsFineKind}
 use Rattle.bt_core.specs.declared.agg.Agg.{Agg}
 use Rattle.agg_core.proofs.AggregateLaws.{added}
 use Rattle.agg_core.proofs.aggregation.AggAggregation.add.Goals as goal

@@ -1,8 +1,8 @@
-use Rattle.std.proofs.Common.{◌≡◌, ◌∙◌, ap, sym, refl, ℤ, pos, None, [], arith, w64, FitsSigned}
+use Rattle.std.proofs.Common.{◌≡◌, ◌∙◌, ap, sym, pos, None, [], arith, w64, FitsSigned}
 use Rattle.std.specs.Int.{int_wrap}
 use Rattle.std.proofs.lemmas.Int.{int_wrap_fits, ints}
 use Rattle.bt_core.specs.declared.agg.Agg.{Agg}
-use Rattle.agg_core.specs.Aggregates.{aggregate, buckets_of}
+use Rattle.agg_core.specs.Aggregates.{buckets_of}
 use Rattle.agg_core.specs.Gathering.{emptied}
 use Rattle.agg_core.proofs.AggregateLaws.{buckets-emptied}
 use Rattle.agg_core.proofs.aggregation.AggAggregation.reset.Goals as goal

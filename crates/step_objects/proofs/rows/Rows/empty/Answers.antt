@@ -1,4 +1,4 @@
-use Rattle.std.proofs.Common.{rules, ◌≡◌, true, sym, ◌∙◌, ap, arith, length, map, List, subst}
+use Rattle.std.proofs.Common.{◌≡◌, true, sym, ◌∙◌, arith, length, subst}
 use Rattle.std.proofs.lemmas.List.{with_items_is}
 use Rattle.step_objects.specs.Rows.{in_order}
 use Rattle.step_objects.proofs.RowLaws.{in_order-keys}
