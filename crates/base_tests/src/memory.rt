@@ -17,10 +17,7 @@ use std::alloc::Global;
 use std::test::Fail;
 
 fn key(alloc: Global) -> Result<Key, Memory> {
-    Ok(Key::of(vec![in alloc;
-        Value::Int(-2),
-        Value::Str(Str64::of(b"k")),
-    ]?))
+    Ok(Key::of(vec![in alloc; Value::Int(-2), Value::Str(Str64::of(b"k"))]?))
 }
 
 fn lhist(alloc: Global) -> Result<Agg, Memory> {
@@ -49,7 +46,10 @@ fn lists_boxes_and_bytes_of_keys_are_made(rt: HostRuntime) -> Result<(), Fail> {
     assert_eq!(rt; Boxed::new(alloc, 7u64)?.try_copy(alloc)?.into_inner(), 7);
     let bytes = encode_key(alloc, &key(alloc)?)?;
     assert_eq!(rt; bytes.len(), 72);
-    assert_eq!(rt; &bytes[..9], b"\xfe\xff\xff\xff\xff\xff\xff\xffk".as_slice());
+    assert_eq!(rt;
+        &bytes[..9],
+        b"\xfe\xff\xff\xff\xff\xff\xff\xffk".as_slice()
+    );
     Ok(())
 }
 
@@ -77,7 +77,10 @@ fn copies_are_made(rt: HostRuntime) -> Result<(), Fail> {
 #[test]
 fn a_shelf_and_a_sink_in_memory_are_made(rt: HostRuntime) -> Result<(), Fail> {
     let alloc = rt.alloc();
-    let file = (String::from_str(alloc, "a")?, Vec::from_slice(alloc, b"abc")?);
+    let file = (
+        String::from_str(alloc, "a")?,
+        Vec::from_slice(alloc, b"abc")?,
+    );
     let mut shelf = MemShelf::new(alloc, vec![in alloc; file]?, Vec::new(alloc));
     let read = shelf.read(alloc, "a", 3);
     assert!(rt; read.is_ok());

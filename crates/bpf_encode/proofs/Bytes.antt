@@ -33,9 +33,9 @@ slot_again s rest fits =
     let d : (s.dst + 16 * s.src) % 16 ≡ s.dst = let f = fits.dst in omega arith in
     let r : (s.dst + 16 * s.src) / 16 ≡ s.src = let f = fits.dst in omega arith in
     let o : cast_signed w16 (from_le_bytes w16 (to_le_bytes w16 (cast_unsigned w16 s.offset))) ≡ s.offset =
-        ap (cast_signed w16) (from_le_bytes-to_le_bytes_2 _ (below_16 s.offset fits.offset)) ∙ to_z-of_z w16 s.offset fits.offset in
+    ap (cast_signed w16) (from_le_bytes-to_le_bytes_2 _ (below_16 s.offset fits.offset)) ∙ to_z-of_z w16 s.offset fits.offset in
     let i : cast_signed w32 (from_le_bytes w32 (to_le_bytes w32 (cast_unsigned w32 s.imm))) ≡ s.imm =
-        ap (cast_signed w32) (from_le_bytes-to_le_bytes_4 _ (below_32 s.imm fits.imm)) ∙ to_z-of_z w32 s.imm fits.imm in
+    ap (cast_signed w32) (from_le_bytes-to_le_bytes_4 _ (below_32 s.imm fits.imm)) ∙ to_z-of_z w32 s.imm fits.imm in
     λ k. record { opcode = s.opcode; dst = d k; src = r k; offset = o k; imm = i k }
 
 pub drop_slot : (s : Slot) (rest : List ℕ) → drop 8 (slot_bytes s ++ rest) ≡ rest
@@ -70,9 +70,9 @@ bytes_again b0 b1 b2 b3 b4 b5 b6 b7 rest h2 h3 h4 h5 h6 h7 =
     let n4 = from_le_bytes w32 four in
     let r : b1 % 16 + 16 * (b1 / 16) ≡ b1 = omega arith in
     let o : to_le_bytes w16 (cast_unsigned w16 (cast_signed w16 n2)) ≡ two = ap (to_le_bytes w16) (of_z-to_z w16 n2 (two_below b2 b3 h2 h3))
-        ∙ le_bytes_2 two n2 refl (below_two b2 b3 h2 h3) refl in
+    ∙ le_bytes_2 two n2 refl (below_two b2 b3 h2 h3) refl in
     let i : to_le_bytes w32 (cast_unsigned w32 (cast_signed w32 n4)) ≡ four = ap (to_le_bytes w32) (of_z-to_z w32 n4 (four_below b4 b5 b6 b7 h4 h5 h6 h7))
-        ∙ le_bytes_4 four n4 refl (below_four b4 b5 b6 b7 h4 h5 h6 h7) refl in
+    ∙ le_bytes_4 four n4 refl (below_four b4 b5 b6 b7 h4 h5 h6 h7) refl in
     λ k. b0 ∷ r k ∷ ((o k ++ i k) ++ rest)
 
 few : {P : Type 0} (n : ℕ) → 8 ≤ n → n < 8 → P

@@ -45,8 +45,13 @@ half_ok : (n upper slots : ℕ) (bs : List ℕ) (i : Insn) → Linked true upper
 half_ok n upper slots bs i l true t h =
     let e : Half ≡ i = cc in
     let s : slot_of upper Half ≡ slot_in bs = ap (λ (u : ℕ). slot_of u Half) (l.same refl) ∙ same_slot _ _ t in
-    subst (IsOfSlot true upper slots bs) e (record { valid = refl; half = refl; fits = tt; slot = s;
-        linked = record { more = λ w. false_true w; same = λ w. false_true w } })
+    subst (IsOfSlot true upper slots bs) e (record {
+      valid = refl;
+      half = refl;
+      fits = tt;
+      slot = s;
+      linked = record { more = λ w. false_true w; same = λ w. false_true w };
+    })
 half_ok n upper slots bs i l false t h = absurd (cc)
 
 -- the upper half that stands in the next slot
@@ -187,8 +192,19 @@ stopped : (n : ℕ) (owed : Bool) (upper slots : ℕ) (bs : List ℕ) (e : Decod
     → Faulty n owed upper bs e
 stopped n owed upper slots bs e hb l h =
     let z : n ≡ n + 0 = omega arith in
-    record { before = []; rest = bs; left = slots; at_end = owed; valid = tt; halves = missing_follows owed; fits = tt; split = refl; long = l; bytes = hb;
-        stops = subst (λ k. slot_decoded k owed bs ≡ Err e) z h }
+    record {
+      before = [];
+      rest = bs;
+      left = slots;
+      at_end = owed;
+      valid = tt;
+      halves = missing_follows owed;
+      fits = tt;
+      split = refl;
+      long = l;
+      bytes = hb;
+      stops = subst (λ k. slot_decoded k owed bs ≡ Err e) z h;
+    }
 
 -- so many slots are code with these bytes, or one of them is at fault
 pub outcome : (slots n : ℕ) (owed : Bool) (upper : ℕ) (bs : List ℕ) → AreBytes bs → length bs ≡ 8 * slots → Linked owed upper slots bs
@@ -231,7 +247,7 @@ half_is i h = absurd (cc)
 pub half_found : (n upper : ℕ) → upper < 2 ^ 32 → half_decoded n (slot_of upper Half) ≡ Ok Half
 half_found n upper lt =
     ap (λ (u : ℕ). cond {A = Result Insn DecodeError} (is_same_slot (slot_of u Half) (slot_of upper Half)) (Ok Half) (Err (BadField n)))
-        (of_z-to_z w32 upper lt)
+    (of_z-to_z w32 upper lt)
     ∙ ap (λ (b : Bool). cond {A = Result Insn DecodeError} b (Ok Half) (Err (BadField n))) (slot_same (slot_of upper Half))
 
 no_gap : (b : Bool) (o : Option ℕ) (u : ℕ) → (b ≡ true → o ≡ Some u) → (b && is_none o) ≡ false
@@ -253,7 +269,7 @@ next_found s u (j ∷ js) lt h =
     let bs = slot_bytes s ++ bytes_after u (j ∷ js) in
     let long : 16 ≤ length bs = omega arith in
     let e : slot_in (drop 8 bs) ≡ slot_of u Half = ap (λ (k : Insn). slot_in (slot_bytes (slot_of u k) ++ bytes_after (upper_of j) js)) (sym (half_is j h.0))
-        ∙ slot_again (slot_of u Half) (bytes_after (upper_of j) js) (fits_slot Half u refl tt lt) in
+    ∙ slot_again (slot_of u Half) (bytes_after (upper_of j) js) (fits_slot Half u refl tt lt) in
     next_some bs long ∙ ap (λ (t : Slot). Some (cast_unsigned w32 t.imm)) e ∙ ap (λ (x : ℕ). Some x) (of_z-to_z w32 u lt)
 
 slot_found : (n : ℕ) (owed : Bool) (upper : ℕ) (i : Insn) (is : List Insn) → IsTrue (is_valid i) → Fits i → is_half i ≡ owed → HalvesFollow (is_wide i) is
@@ -261,7 +277,7 @@ slot_found : (n : ℕ) (owed : Bool) (upper : ℕ) (i : Insn) (is : List Insn) �
 slot_found n true upper i is v f h hs lt =
     let rest = bytes_after (upper_of i) is in
     let e : slot_in (slot_bytes (slot_of upper i) ++ rest) ≡ slot_of upper Half = slot_again (slot_of upper i) rest (fits_slot i upper v f lt)
-        ∙ ap (slot_of upper) (sym (half_is i h)) in
+    ∙ ap (slot_of upper) (sym (half_is i h)) in
     ap (half_decoded n) e ∙ half_found n upper lt ∙ ap (λ (x : Insn). Ok x) (half_is i h)
 slot_found n false upper i is v f h hs lt =
     let rest = bytes_after (upper_of i) is in
@@ -275,7 +291,7 @@ complete : (n : ℕ) (owed : Bool) (upper : ℕ) (is : List Insn) → AllByRecur
 complete n owed upper [] v h f lt = refl
 complete n owed upper (i ∷ is) v h f lt =
     ap (λ (x : Result Insn DecodeError). with_rest x (λ j. decoded (n + 1) (is_wide j) (length is) (bytes_after (upper_of i) is)))
-        (slot_found n owed upper i is v.0 f.0 h.0 h.1 lt)
+    (slot_found n owed upper i is v.0 f.0 h.0 h.1 lt)
     ∙ ap (followed i) (complete (n + 1) (is_wide i) (upper_of i) is v.1 h.1 f.1 (upper_fits i f.0))
 
 pub length_of_code : (upper : ℕ) (is : List Insn) → length (bytes_after upper is) ≡ 8 * length is

@@ -16,7 +16,7 @@ with_slot bytes slots place owed is r lt e =
     let s : slots - place ≡ suc (slots - (place + 1)) = omega arith in
     ap (λ k. after_code is (decoded place owed k (drop (8 * place) bytes))) s
     ∙ ap (λ (x : Result Insn DecodeError). after_code is (with_rest x
-        (λ i. decoded (place + 1) (is_wide i) (slots - (place + 1)) (drop 8 (drop (8 * place) bytes))))) e
+    (λ i. decoded (place + 1) (is_wide i) (slots - (place + 1)) (drop 8 (drop (8 * place) bytes))))) e
     ∙ ap (λ bs. after_code is (with_rest r (λ i. decoded (place + 1) (is_wide i) (slots - (place + 1)) bs))) (slot_after bytes place)
 
 pub decoded_more : (bytes : List ℕ) (slots place : ℕ) (owed : Bool) (is : List Insn) (i : Insn) → place < slots

@@ -1,6 +1,6 @@
 -- The first fault of bytes is the one that decoding finds.
-use Rattle.std.proofs.Common.{◌≡◌, ◌≢◌, ◌⊎◌, ℕ, zero, suc, ◌+◌, ◌-◌, ◌*◌, ◌<◌, ◌≤◌, refl, ap, sym, ◌∙◌, subst, inl, inr, List, [], ◌∷◌, ◌++◌, length, length-append, drop, Option, Some, None, Bool, true, false, arith}
-use Rattle.std.specs.Prelude.{◌/◌, ◌%◌, ◌^◌, cond, ◌&&◌, Result, Ok, Err, MatchResult, is_none, unwrap_or, IsTrue, slice_index}
+use Rattle.std.proofs.Common.{◌≡◌, ◌⊎◌, ℕ, zero, suc, ◌+◌, ◌-◌, ◌*◌, ◌<◌, ◌≤◌, refl, ap, sym, ◌∙◌, subst, inl, inr, List, [], ◌∷◌, ◌++◌, length, length-append, drop, Option, Some, None, Bool, true, false, arith}
+use Rattle.std.specs.Prelude.{◌/◌, ◌%◌, ◌^◌, cond, ◌&&◌, Result, Ok, Err, MatchResult, unwrap_or, IsTrue, slice_index}
 use Rattle.std.specs.Int.{w32, cast_unsigned}
 use Rattle.std.specs.List.{AllByRecursion}
 use Rattle.std.proofs.Math.Bool.{and-false}
@@ -18,10 +18,10 @@ use Rattle.bpf_insn.proofs.Rules.{found, found_fits, form_found}
 use Rattle.bpf_encode.specs.declared.decode.DecodeError.{DecodeError}
 use Rattle.bpf_encode.specs.declared.decode.DecodeError.TheVariants.{BadLength, BadOpcode, BadField, HalfWide, Memory}
 use Rattle.bpf_encode.specs.Decoding.{Fits, IsCodeOf, slot_in}
-use Rattle.bpf_encode.specs.Faults.{AreBytes, BeginsWith, missing, FaultAt, HasBadOpcode, HasBadField, HasBadHalf, IsHalfWide, IsFirstFault}
+use Rattle.bpf_encode.specs.Faults.{AreBytes, missing, FaultAt, HasBadOpcode, HasBadField, HasBadHalf, IsHalfWide, IsFirstFault}
 use Rattle.bpf_encode.specs.Slots.{insn_with, is_same_slot, next_upper, completed, checked, first_decoded, half_decoded, slot_decoded, followed, with_rest, decoded, FaultIs}
 use Rattle.bpf_encode.proofs.Bytes.{slot_again, split_again, offset_fits, imm_fits, below_32, next_some}
-use Rattle.bpf_encode.proofs.Slots.{same_slot, slot_same, SameFirst, first_again, insn_fits, member_of, upper_aside, fits_slot, upper_fits}
+use Rattle.bpf_encode.proofs.Slots.{same_slot, slot_same, first_again, insn_fits, member_of, upper_aside, fits_slot, upper_fits}
 use Rattle.bpf_encode.proofs.Decoding.{half_is, half_found, length_of_code, complete_at, whole_of_code, next_below}
 
 -- an instruction with its half or without is passed, whatever the upper half of its number
@@ -45,7 +45,7 @@ slot_passed : (n : ℕ) (owed : Bool) (upper : ℕ) (i : Insn) (rest : List ℕ)
     → 8 ≤ length rest → Passes n owed (slot_bytes (slot_of upper i) ++ rest) i
 slot_passed n true upper i rest v f h lt long =
     let e : slot_in (slot_bytes (slot_of upper i) ++ rest) ≡ slot_of upper Half = slot_again (slot_of upper i) rest (fits_slot i upper v f lt)
-        ∙ ap (slot_of upper) (sym (half_is i h)) in
+    ∙ ap (slot_of upper) (sym (half_is i h)) in
     record { insn = Half; decoded = ap (half_decoded n) e ∙ half_found n upper lt; wide = ap is_wide (half_is i h) }
 slot_passed n false upper i rest v f h lt long =
     let bs = slot_bytes (slot_of upper i) ++ rest in
@@ -55,8 +55,8 @@ slot_passed n false upper i rest v f h lt long =
     record {
       insn = insn_with (slot_of 0 i) u (form_of i);
       decoded = ap (λ (s : Slot). first_decoded n s (next_upper bs) (class_form s.opcode)) e
-        ∙ ap (λ (o : Option ℕ). first_decoded n (slot_of 0 i) o (class_form (opcode_of (form_of i)))) (next_some bs more)
-        ∙ first_passed n i u v f h;
+          ∙ ap (λ (o : Option ℕ). first_decoded n (slot_of 0 i) o (class_form (opcode_of (form_of i)))) (next_some bs more)
+          ∙ first_passed n i u v f h;
       wide = (first_again i u h f).wide;
     }
 
@@ -85,7 +85,7 @@ reaches n owed upper (i ∷ is) rest left at_end e v h f lt l s =
     ∙ ap (λ r. with_rest r (λ j. decoded (n + 1) (is_wide j) (length is + suc left) more)) p.decoded
     ∙ ap (λ b. followed p.insn (decoded (n + 1) b (length is + suc left) more)) p.wide
     ∙ ap (followed p.insn) (reaches (n + 1) (is_wide i) (upper_of i) is rest left at_end e v.1 h.1 f.1 (upper_fits i f.0) l
-        (subst (λ x. slot_decoded x at_end rest ≡ Err e) m s))
+    (subst (λ x. slot_decoded x at_end rest ≡ Err e) m s))
 
 all_front : (P : Insn → Type 0) (is js : List Insn) → AllByRecursion P (is ++ js) → AllByRecursion P is
 all_front P [] js a = tt
@@ -101,7 +101,7 @@ reached : (bs : List ℕ) (n : ℕ) (at_end : Bool) (fault : List ℕ → Type 0
 reached bs n at_end fault e r s =
     let w = r.is_code.well_formed in
     let all : length bs ≡ 8 * length r.before + length r.rest = ap length r.split ∙ length-append (bytes_after 0 r.before) r.rest
-        ∙ ap (λ k. k + length r.rest) (length_of_code 0 r.before) in
+    ∙ ap (λ k. k + length r.rest) (length_of_code 0 r.before) in
     let left = length r.rest / 8 - 1 in
     let whole : length r.rest ≡ 8 * suc left = (let a = r.multiple in let b = r.whole in omega arith) in
     let slots : length bs / 8 ≡ length r.before + suc left = omega arith in
@@ -109,7 +109,7 @@ reached bs n at_end fault e r s =
     ap (λ k. decoded 0 false k bs) slots
     ∙ ap (decoded 0 false (length r.before + suc left)) r.split
     ∙ reaches 0 false 0 r.before r.rest left at_end e (all_front (λ i. IsTrue (is_valid i)) r.before (missing at_end) w.valid) w.halves
-        (all_front Fits r.before (missing at_end) r.is_code.fits) (omega arith) whole (subst (λ k. slot_decoded k at_end r.rest ≡ Err e) z s)
+    (all_front Fits r.before (missing at_end) r.is_code.fits) (omega arith) whole (subst (λ k. slot_decoded k at_end r.rest ≡ Err e) z s)
 
 rest_bytes : (bs : List ℕ) (n : ℕ) (at_end : Bool) (fault : List ℕ → Type 0) (r : FaultAt at_end fault bs n) → AreBytes bs → AreBytes r.rest
 rest_bytes bs n at_end fault r h = bytes_of_rest bs (bytes_after 0 r.before) r.rest h r.split
@@ -135,8 +135,11 @@ field_stops n rest h long bad =
     let j = insn_with s (unwrap_or (next_upper rest) 0) bad.form in
     let fits = insn_fits s (unwrap_or (next_upper rest) 0) bad.form (offset_fits rest h) (imm_fits rest h) (next_below rest h) in
     ap (first_decoded n s (next_upper rest)) (form_found s.opcode bad.form bad.opcode)
-    ∙ checked_stops n s (next_upper rest) j (λ v e. bad.fields j v fits (drop 8 rest, ap (λ (t : Slot). slot_bytes t ++ drop 8 rest) e
-        ∙ split_again rest h long)) _ refl
+    ∙ checked_stops n s (next_upper rest) j (λ v e. bad.fields j v fits (
+      drop 8 rest,
+      ap (λ (t : Slot). slot_bytes t ++ drop 8 rest) e
+          ∙ split_again rest h long,
+    )) _ refl
 
 -- a slot of no half
 half_checked : (n : ℕ) (s : Slot) → (slot_of (cast_unsigned w32 s.imm) Half ≡ s → ⊥) → (b : Bool)
@@ -147,8 +150,11 @@ half_checked n s none false t = ap (λ (b : Bool). cond {A = Result Insn DecodeE
 half_stops : (n : ℕ) (rest : List ℕ) → AreBytes rest → 8 ≤ length rest → HasBadHalf rest → slot_decoded n true rest ≡ Err (BadField n)
 half_stops n rest h long bad =
     let s = slot_in rest in
-    half_checked n s (λ e. bad (cast_unsigned w32 s.imm) (below_32 s.imm (imm_fits rest h)) (drop 8 rest, ap (λ (t : Slot). slot_bytes t ++ drop 8 rest) e
-        ∙ split_again rest h long)) _ refl
+    half_checked n s (λ e. bad (cast_unsigned w32 s.imm) (below_32 s.imm (imm_fits rest h)) (
+      drop 8 rest,
+      ap (λ (t : Slot). slot_bytes t ++ drop 8 rest) e
+          ∙ split_again rest h long,
+    )) _ refl
 
 -- a wide load with nothing after it
 wide_no_half : (i : Insn) → IsTrue (is_wide i) → is_half i ≡ false

@@ -1,6 +1,6 @@
 -- What a fault says of the bytes.
 use Rattle.std.proofs.Common.{◌≡◌, ◌≢◌, ℕ, suc, ◌+◌, ◌*◌, ◌<◌, ◌≤◌, refl, ap, sym, ◌∙◌, subst, inl, inr, List, [], ◌∷◌, ◌++◌, append-nil, length, length-append, drop, Option, Some, None, Bool, true, false, arith}
-use Rattle.std.specs.Prelude.{◌/◌, ◌%◌, cond, ◌&&◌, nat_le, Result, Ok, Err, is_none, unwrap_or, IsTrue, slice_index}
+use Rattle.std.specs.Prelude.{◌/◌, ◌%◌, cond, ◌&&◌, nat_le, Result, Ok, Err, is_none, unwrap_or, IsTrue}
 use Rattle.std.specs.Int.{w32, cast_unsigned}
 use Rattle.std.specs.List.{AllByRecursion}
 use Rattle.std.proofs.lemmas.List.{length-drop}
@@ -40,10 +40,18 @@ fault_at : (bs : List ℕ) (e : DecodeError) (r : Faulty 0 false 0 bs e) (b : Bo
 fault_at bs e r b fault t f =
     let long : 8 ≤ length r.rest = (let l = r.long in omega arith) in
     let slots : length bs ≡ 8 * length r.before + length r.rest = ap length r.split ∙ length-append (bytes_after 0 r.before) r.rest
-        ∙ ap (λ k. k + length r.rest) (length_of_code 0 r.before) in
+    ∙ ap (λ k. k + length r.rest) (length_of_code 0 r.before) in
     let multiple : length bs % 8 ≡ 0 = (let l = r.long in omega arith) in
-    record { multiple = multiple; before = r.before; rest = r.rest; is_code = subst (λ b. IsCode (r.before ++ missing b)) t (code_before bs e r); many = refl;
-        split = r.split; whole = long; at_fault = f }
+    record {
+      multiple = multiple;
+      before = r.before;
+      rest = r.rest;
+      is_code = subst (λ b. IsCode (r.before ++ missing b)) t (code_before bs e r);
+      many = refl;
+      split = r.split;
+      whole = long;
+      at_fault = f;
+    }
 
 -- a second slot that is no half
 bad_half : (rest : List ℕ) → is_same_slot (slot_of (cast_unsigned w32 (slot_in rest).imm) Half) (slot_in rest) ≡ false → HasBadHalf rest
@@ -150,8 +158,11 @@ field_stops bs e r f t o true x h =
 field_stops bs e r f t o false x h =
     let same : BadField (length r.before) ≡ e = cc in
     subst (IsFirstFault bs) same (inl (fault_at bs e r false HasBadField t
-        (record { form = f; opcode = found_fits (slot_in r.rest).opcode f (r.bytes 0) o;
-        fields = λ i v fits b. bad_field r.rest f r.bytes o x i v fits b (is_half i) refl })))
+    (record {
+      form = f;
+      opcode = found_fits (slot_in r.rest).opcode f (r.bytes 0) o;
+      fields = λ i v fits b. bad_field r.rest f r.bytes o x i v fits b (is_half i) refl;
+    })))
 
 first_stops : (bs : List ℕ) (e : DecodeError) (r : Faulty 0 false 0 bs e) → r.at_end ≡ false → (o : Option Form) → class_form (slot_in r.rest).opcode ≡ o
     → first_decoded (length r.before) (slot_in r.rest) (next_upper r.rest) o ≡ Err e → IsFirstFault bs e

@@ -98,8 +98,12 @@ first_again (Store z d s o) u h f = same_first _ _ refl
 first_again (Wide d m) u h f =
     let l = cast_unsigned w32 (cast_signed w32 (m % 2 ^ 32)) in
     let e : wide_number l u % 2 ^ 32 ≡ m % 2 ^ 32 = ap (λ (x : ℕ). wide_number x u % 2 ^ 32) (low_number m) ∙ low_again (m % 2 ^ 32) u (omega arith) in
-    record { valid = refl; wide = refl; same = ap (λ (x : ℕ). let s : Slot =
-        record { opcode = 24; dst = d; src = 0; offset = pos 0; imm = cast_signed w32 x } in s) e }
+    record {
+      valid = refl;
+      wide = refl;
+      same = ap (λ (x : ℕ). let s : Slot =
+          record { opcode = 24; dst = d; src = 0; offset = pos 0; imm = cast_signed w32 x } in s) e;
+    }
 first_again Half u h f = absurd (cc)
 
 -- its numbers are those of the slot

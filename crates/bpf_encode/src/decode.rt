@@ -131,8 +131,7 @@ fn slot_decoded(number: u32, owed: bool, bytes: &[u8]) -> Result<Insn, DecodeErr
 fn decode_slots(alloc: Global, bytes: &[u8]) -> Result<Vec<Insn>, DecodeError>
     requires whole { length bytes.now % 8 ≡ 0 }
     requires short { length bytes.now < 2 ^ 35 }
-    ensures {
-        let answer = decoded 0 false (length bytes.now / 8) bytes.now in
+    ensures { let answer = decoded 0 false (length bytes.now / 8) bytes.now in
         MatchResult result (λ code. answer ≡ Ok code.items) (λ e. FaultIs answer e) }
 {
     let mut code = Vec::new(alloc);

@@ -5,8 +5,6 @@ pub mod attached;
 pub mod expr;
 pub mod probe;
 pub mod stmt;
-#[cfg(test)]
-mod tests;
 pub mod text;
 mod words;
 mod write_agg;

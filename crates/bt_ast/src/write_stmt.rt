@@ -43,7 +43,8 @@ fn write_step_stmt(out: &mut Vec<u8>, step: &IncDec) -> Result<(), Memory>
 }
 
 fn write_printf(out: &mut Vec<u8>, format: &[u8], values: &[Expr]) -> Result<(), Memory>
-    ensures { OnOk result (out.new.items ≡ out.old.items ++ simple (call_text (codes "printf") (quoted_text format.now ++ marked (codes ",") (map expr_text values.now)))) }
+    ensures { OnOk result (out.new.items ≡ out.old.items ++ simple
+        (call_text (codes "printf") (quoted_text format.now ++ marked (codes ",") (map expr_text values.now)))) }
 {
     open_call(out, b"printf")?;
     write_quoted(out, format)?;
@@ -80,7 +81,8 @@ fn write_print(
 }
 
 fn write_delete_key(out: &mut Vec<u8>, map: &MapRef, key: &Expr) -> Result<(), Memory>
-    ensures { OnOk result (out.new.items ≡ out.old.items ++ simple (call_text (codes "delete") (map_text map.now ++ (token (codes ",") ++ expr_text key.now)))) }
+    ensures { OnOk result (out.new.items ≡ out.old.items ++ simple
+        (call_text (codes "delete") (map_text map.now ++ (token (codes ",") ++ expr_text key.now)))) }
 {
     open_call(out, b"delete")?;
     write_map(out, map)?;

@@ -8,14 +8,19 @@ mod tally;
 use anyhow::{Context, Result};
 use case::{Case, numbers_of};
 use outcome::outcome_of;
-use std::alloc::Global;
 use std::fs;
+use std::rt::Files;
 use tally::Tally;
 
 /// Runs the cases of a file, one a line, and counts how they end. Those whose numbers are listed, the first
 /// line being 1, are not built yet, so they are to differ.
-fn run_file(rt: &HostRuntime, name: &str, not_built: &[u64], tally: &mut Tally) -> Result<()> {
-    let alloc: Global = rt.alloc();
+fn run_file<R: Files + Print + AllocGlobal>(
+    rt: &R,
+    name: &str,
+    not_built: &[u64],
+    tally: &mut Tally,
+) -> Result<()> {
+    let alloc = rt.alloc();
     let text = fs::read_to_string(rt, name).context(format_args!("reading {name}"))?;
     let mut number = 0u64;
     for line in text.as_str().lines() {

@@ -34,6 +34,9 @@ impl fmt::Display for Tally {
         let agree = self.agree;
         let differ = self.differ;
         let not_built = self.not_built;
-        write!(f, "{agree} cases agree, {differ} differ, {not_built} are not built yet")
+        write!(
+            f,
+            "{agree} cases agree, {differ} differ, {not_built} are not built yet"
+        )
     }
 }

@@ -20,8 +20,8 @@ split (t ∷ front) rest (x ∷ xs) ys e =
     let head : t ≡ x = cc (e) in
     let tail : front ++ rest ≡ xs ++ ys = cc (e) in
     elim (split front rest xs ys tail) [
-    | inl (more, is) ↦ inl (more, (let q : x ∷ xs ≡ t ∷ (front ++ more) = cc in q))
-    | inr (more, is, rest_is) ↦ inr (more, (let q : t ∷ front ≡ x ∷ (xs ++ more) = cc in q), rest_is)
+      | inl (more, is) ↦ inl (more, (let q : x ∷ xs ≡ t ∷ (front ++ more) = cc in q))
+      | inr (more, is, rest_is) ↦ inr (more, (let q : t ∷ front ≡ x ∷ (xs ++ more) = cc in q), rest_is)
     ]
 
 nothing_left : (front rest : List Item) → front ++ rest ≡ [] → front ≡ []

@@ -1,10 +1,5 @@
+-- what crates above cite
 pub mod AllClasses
-pub mod Sound
-pub mod Complete
-pub mod Viable
-pub mod CheckedFirst
-pub mod CheckedStops
-pub mod CheckedAlive
 pub mod Checked
 pub mod Depth
 pub mod Enough
@@ -12,10 +7,19 @@ pub mod Steps
 pub mod Counts
 pub mod Decide
 pub mod Scripts
-pub mod OneAnswer
-pub mod Fronts
 pub mod FewProbes
-pub mod TreeMentions
-pub mod MentionForms
-pub mod MentionParts
-pub mod MentionLaws
+pub mod KindClasses
+
+-- what only this crate cites
+mod Sound
+mod Complete
+mod Viable
+mod CheckedFirst
+mod CheckedStops
+mod CheckedAlive
+mod OneAnswer
+mod Fronts
+mod TreeMentions
+mod MentionForms
+mod MentionParts
+mod MentionLaws

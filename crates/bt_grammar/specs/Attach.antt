@@ -2,7 +2,7 @@
 use Rattle.std.specs.Prelude.{ℕ, ◌^◌, Bool, false, ◌||◌, ◌&&◌, ◌==◌, nat_lt, bytes_eq, codes, List, [], ◌∷◌, Option, Some, None, if◌then◌else◌}
 use Rattle.std.specs.List.{slice_split, list_all}
 use Rattle.std.specs.Str.Parse.{digits_value}
-use Rattle.bt_lexer.specs.Bytes.{is_word_byte, is_digit}
+use Rattle.bt_core.specs.Bytes.{is_word_byte, is_digit}
 use Rattle.bt_core.specs.declared.place.Place.{Place}
 use Rattle.bt_ast.specs.declared.probe.Unit.{Unit as TimeUnit}
 use Rattle.bt_ast.specs.declared.probe.Unit.TheVariants as units

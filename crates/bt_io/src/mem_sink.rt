@@ -35,8 +35,15 @@ impl Model for MemSink {
 
     ghost Value = { SinkState };
 
-    ghost view = { λ s. record { taken = s.taken.items; offers = s.offers.items; room = s.room; most = s.most; failing = s.failing.items;
-        calls = s.calls; faults = s.faults } };
+    ghost view = { λ s. record {
+      taken = s.taken.items;
+      offers = s.offers.items;
+      room = s.room;
+      most = s.most;
+      failing = s.failing.items;
+      calls = s.calls;
+      faults = s.faults;
+    } };
 
     ghost invariant = { λ s. (0 < s.most) × (vec_len s.taken ≤ s.room) × (s.room ≤ vec_capacity s.taken)
         × (vec_len s.offers ≤ vec_len s.taken) × (s.room ≤ vec_capacity s.offers) };

@@ -4,7 +4,9 @@ use Rattle.std.specs.Prelude.{◌⊎◌, ◌==◌}
 use Rattle.std.specs.Char.{digit_value}
 use Rattle.std.proofs.lemmas.Bool.{false≢true, le-ltb}
 use Rattle.std.proofs.lemmas.List.{append_cancel_left}
-use Rattle.bt_lexer.specs.Bytes.{is_word_byte, is_attach_byte, Every, begins}
+use Rattle.bt_core.specs.declared.limits.TheConstants.{STRING_TOKEN_BYTES}
+use Rattle.bt_core.specs.Bytes.{is_word_byte}
+use Rattle.bt_lexer.specs.Bytes.{is_attach_byte, Every, begins}
 use Rattle.bt_lexer.specs.Words.{IsWord, IsAttach}
 use Rattle.bt_lexer.specs.Numbers.{AreDigits, IsNumber, signed}
 use Rattle.bt_lexer.specs.Strings.{IsString}
@@ -174,10 +176,10 @@ blank_longest kind bs rest t (m ∷ more) after other e h =
 
 -- ---- no fault begins at a token before a blank
 
-string_found : (offset : ℕ) (bs text rest : List ℕ) → length text ≤ 1024 → IsString bs text → (piece : Piece) × (piece_at offset (bs ++ 32 ∷ rest) ≡ Ok piece)
+string_found : (offset : ℕ) (bs text rest : List ℕ) → length text ≤ STRING_TOKEN_BYTES → IsString bs text → (piece : Piece) × (piece_at offset (bs ++ 32 ∷ rest) ≡ Ok piece)
 string_found offset bs text rest small s =
     let parts : bs ++ 32 ∷ rest ≡ 34 ∷ s.0 ++ (34 ∷ 32 ∷ rest) = ap (λ (l : List ℕ). l ++ 32 ∷ rest) s.1 ∙ ap (λ (l : List ℕ). 34 ∷ l) (append_assoc s.0 (34 ∷ []) (32 ∷ rest)) in
-    (record { kind = Some (kinds.Text text); len = length s.0 + 2 }, at_string offset (bs ++ 32 ∷ rest) s.0 text (34 ∷ 32 ∷ rest) (parts, s.2) ∙ rw (le-ltb 1024 (length text) small) refl)
+    (record { kind = Some (kinds.Text text); len = length s.0 + 2 }, at_string offset (bs ++ 32 ∷ rest) s.0 text (34 ∷ 32 ∷ rest) (parts, s.2) ∙ rw (le-ltb STRING_TOKEN_BYTES (length text) small) refl)
 
 ok_or_fault : (piece : Piece) (fault : LexError) (found : Result Piece LexError) → found ≡ Ok piece → found ≡ Err fault → ⊥
 ok_or_fault piece fault found e f = cc
@@ -187,7 +189,7 @@ string_sound : (offset : ℕ) (kind : TokenKind) (bs rest body : List ℕ) (faul
 string_sound offset kind bs rest body fault t limits e f =
     let s = string_of kind bs (32 ∷ rest) body t e in
     let q : kind ≡ kinds.Text s.0 = cc s.1 in
-    let small : length s.0 ≤ 1024 = subst (λ (k : TokenKind). IsWithinLimits k bs) q limits in
+    let small : length s.0 ≤ STRING_TOKEN_BYTES = subst (λ (k : TokenKind). IsWithinLimits k bs) q limits in
     let found = string_found offset bs s.0 rest small s.2 in
     ok_or_fault found.0 fault (piece_at offset (bs ++ 32 ∷ rest)) found.1 (fault_complete offset (bs ++ 32 ∷ rest) fault f)
 

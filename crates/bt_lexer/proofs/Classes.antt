@@ -2,7 +2,8 @@
 use Rattle.std.proofs.Common.{◌≡◌, ℕ, Bool, true, false, cond, List, ◌∷◌, refl, ap, sym, arith}
 use Rattle.std.specs.Prelude.{Result, if◌then◌else◌, ◌==◌}
 use Rattle.std.proofs.lemmas.Bool.Decides.{nat_tests}
-use Rattle.bt_lexer.specs.Bytes.{is_blank, is_letter, is_digit}
+use Rattle.bt_core.specs.Bytes.{is_letter, is_digit}
+use Rattle.bt_lexer.specs.Bytes.{is_blank}
 use Rattle.bt_lexer.specs.declared.piece.Piece.{Piece}
 use Rattle.bt_lexer.specs.declared.error.LexError.{LexError}
 use Rattle.bt_lexer.specs.Scan.{piece_at, separator, word_piece, number_piece, map_piece, var_piece, string_piece, slash_piece, mark_piece}

@@ -3,7 +3,9 @@ use Rattle.std.proofs.Common.{◌≡◌, ℕ, ◌+◌, ◌^◌, ◌<◌, true, f
 use Rattle.std.specs.Prelude.{◌⊎◌}
 use Rattle.std.proofs.lemmas.Bool.{false≢true, lt-ltb, le-ltb}
 use Rattle.std.proofs.lemmas.List.{drop_at, append-nil, append_cancel_left}
-use Rattle.bt_lexer.specs.Bytes.{is_blank, is_digit, is_word_byte, Every, begins}
+use Rattle.bt_core.specs.declared.limits.TheConstants.{STRING_TOKEN_BYTES}
+use Rattle.bt_core.specs.Bytes.{is_digit, is_word_byte}
+use Rattle.bt_lexer.specs.Bytes.{is_blank, Every, begins}
 use Rattle.bt_lexer.specs.Words.{IsWord, IsAttach}
 use Rattle.bt_lexer.specs.Numbers.{AreDigits, IsNumber, value_of, signed}
 use Rattle.bt_lexer.specs.Strings.{IsString, NoEscape, EndsLine}
@@ -169,7 +171,7 @@ found_fault offset b bs (faults.OpenComment at) h =
     ap (piece_at offset) h.1 ∙ piece_by_class offset 47 (42 ∷ h.0) ∙ slash_opens offset h.0 h.2 ∙ rw h.3 refl
 found_fault offset b bs (faults.NumberTooLarge at) h = at_number offset b bs h.0 h.1 h.2 h.3 ∙ rw (le-ltb h.2 (2 ^ 64) h.4, h.5) refl
 found_fault offset b bs (faults.BadEscape at) h = at_string offset (b ∷ bs) h.0 h.1 (92 ∷ h.2) h.3 ∙ escape_fails offset h.1 (length h.0) h.2 h.4 ∙ ap (λ (k : ℕ). Err (faults.BadEscape k)) (let q = h.5 in omega arith)
-found_fault offset b bs (faults.StringTooLong at) h = at_string offset (b ∷ bs) h.0 h.1 (34 ∷ h.2) h.3 ∙ rw (lt-ltb 1024 (length h.1) h.4, h.5) refl
+found_fault offset b bs (faults.StringTooLong at) h = at_string offset (b ∷ bs) h.0 h.1 (34 ∷ h.2) h.3 ∙ rw (lt-ltb STRING_TOKEN_BYTES (length h.1) h.4, h.5) refl
 found_fault offset b bs faults.Memory h = absurd h
 
 no_number : (number rest : List ℕ) (n : ℕ) → BeginsWithNumber [] number n rest → ⊥

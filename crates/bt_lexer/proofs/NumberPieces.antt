@@ -7,7 +7,8 @@ use Rattle.std.proofs.lemmas.Bool.{false≢true, ltb-true, ltb-false, lt-ltb, le
 use Rattle.std.proofs.lemmas.Bool.Decides.{nat_tests}
 use Rattle.std.proofs.lemmas.List.{drop_at}
 use Rattle.std.proofs.Math.Nat.{mul-le-mul_left, mul-one}
-use Rattle.bt_lexer.specs.Bytes.{is_digit, is_word_byte, begins}
+use Rattle.bt_core.specs.Bytes.{is_digit, is_word_byte}
+use Rattle.bt_lexer.specs.Bytes.{begins}
 use Rattle.bt_lexer.specs.Numbers.{AreDigits, IsNumber, not_underscore, value_of}
 use Rattle.bt_lexer.specs.Tokens.{IsLongest}
 use Rattle.bt_lexer.specs.Scan.{fits, limited, pushed, digits, behind_prefix, number_at, number_before, number_piece}

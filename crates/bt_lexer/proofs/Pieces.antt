@@ -6,7 +6,7 @@ use Rattle.std.specs.Prelude.{ℤ, ◌⊎◌}
 use Rattle.std.proofs.lemmas.Bool.{false≢true}
 use Rattle.std.proofs.lemmas.Bool.Decides.{nat_tests}
 use Rattle.std.proofs.lemmas.List.Elements.{All-contains, All-from_recursion}
-use Rattle.bt_lexer.specs.Bytes.{is_letter, is_digit}
+use Rattle.bt_core.specs.Bytes.{is_letter, is_digit}
 use Rattle.bt_lexer.specs.Words.{IsWord, IsAttach, IsAttachWord, IsMapName, IsVarName}
 use Rattle.bt_lexer.specs.Strings.{IsString}
 use Rattle.bt_lexer.specs.Separators.{IsSeparator}

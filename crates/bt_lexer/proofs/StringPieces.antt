@@ -3,6 +3,7 @@ use Rattle.std.proofs.Common.{◌≡◌, ℕ, ◌+◌, true, false, List, [], �
 use Rattle.std.specs.Prelude.{◌==◌}
 use Rattle.std.proofs.lemmas.Bool.{ltb-true}
 use Rattle.std.proofs.lemmas.List.{length-append, append-nil}
+use Rattle.bt_core.specs.declared.limits.TheConstants.{STRING_TOKEN_BYTES}
 use Rattle.bt_lexer.specs.Strings.{IsEscape, IsPlain, IsSpelling, IsSpelled, NoEscape}
 use Rattle.bt_lexer.specs.Tokens.{IsLongest}
 use Rattle.bt_lexer.specs.Scan.{escape_of, escaped_byte, string_byte, closed, string_step, string_from, string_piece}
@@ -127,8 +128,8 @@ string_longest source text rest s more after kind e h =
     cc u.2
 
 closed_sound : (offset : ℕ) (source text rest : List ℕ) → IsSpelled source text → Answers offset (34 ∷ source ++ 34 ∷ rest) (closed offset text (length source))
-closed_sound offset source text rest s = decided (Answers offset (34 ∷ source ++ 34 ∷ rest)) (nat_lt 1024 (length text)) _ _
-    (λ l. (source, text, rest, (refl, s), ltb-true 1024 (length text) l, refl))
+closed_sound offset source text rest s = decided (Answers offset (34 ∷ source ++ 34 ∷ rest)) (nat_lt STRING_TOKEN_BYTES (length text)) _ _
+    (λ l. (source, text, rest, (refl, s), ltb-true STRING_TOKEN_BYTES (length text) l, refl))
     (λ l. record {
       piece = 34 ∷ source ++ 34 ∷ [];
       rest = rest;

@@ -4,7 +4,8 @@ use Rattle.std.specs.Prelude.{◌⊎◌}
 use Rattle.std.proofs.lemmas.Bool.Decides.{nat_tests}
 use Rattle.std.proofs.lemmas.Slice.Eq.{bytes_eq-Decides}
 use Rattle.std.proofs.lemmas.List.{take_at, drop_at, length-append, append_cancel_left}
-use Rattle.bt_lexer.specs.Bytes.{is_letter, is_word_byte, is_attach_byte, Every, begins}
+use Rattle.bt_core.specs.Bytes.{is_letter, is_word_byte}
+use Rattle.bt_lexer.specs.Bytes.{is_attach_byte, Every, begins}
 use Rattle.bt_lexer.specs.Words.{IsWord, IsAttach, IsAttachWord}
 use Rattle.bt_lexer.specs.Tokens.{IsPiece, IsLongest}
 use Rattle.bt_lexer.specs.Scan.{word_piece, word_of, word_len, attach_len, is_attach_word, is_colon, map_piece, var_piece}

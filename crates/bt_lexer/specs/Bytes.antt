@@ -1,24 +1,11 @@
 -- Classes of bytes, and lists whose bytes are all of one class.
-use Rattle.std.specs.Prelude.{◌≡◌, ℕ, Bool, true, false, ◌&&◌, ◌||◌, nat_le, ◌==◌, List, [], ◌∷◌, if◌then◌else◌}
+use Rattle.std.specs.Prelude.{◌≡◌, ℕ, Bool, true, false, ◌||◌, ◌==◌, List, [], ◌∷◌, if◌then◌else◌}
 use Rattle.std.specs.List.{AllByRecursion}
-
-abbrev pub within : ℕ → ℕ → ℕ → Bool
-within low high b = nat_le low b && nat_le b high
+use Rattle.bt_core.specs.Bytes.{is_word_byte}
 
 -- space, tab, newline or carriage return
 abbrev pub is_blank : ℕ → Bool
 is_blank b = b == 32 || (b == 9 || (b == 10 || b == 13))
-
--- an ASCII letter or `_`
-abbrev pub is_letter : ℕ → Bool
-is_letter b = within 65 90 b || (within 97 122 b || b == 95)
-
-abbrev pub is_digit : ℕ → Bool
-is_digit b = within 48 57 b
-
--- a letter or digit
-abbrev pub is_word_byte : ℕ → Bool
-is_word_byte b = is_letter b || is_digit b
 
 -- a letter, a digit, `-`, `*` or `:`
 abbrev pub is_attach_byte : ℕ → Bool

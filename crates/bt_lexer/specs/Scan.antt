@@ -3,6 +3,7 @@
 use Rattle.std.specs.Prelude.{ℕ, zero, suc, ◌+◌, ◌-◌, ◌*◌, ◌^◌, ◌<◌, ◌≤◌, Bool, true, false, ◌||◌, ◌&&◌, nat_lt, ◌==◌, bytes_eq, codes, List, [], ◌∷◌, ◌++◌, length, take, drop, take_while, Option, Some, None, Result, Ok, Err, if◌then◌else◌}
 use Rattle.std.specs.List.{list_any}
 use Rattle.std.specs.Char.{digit_value}
+use Rattle.bt_core.specs.declared.limits.TheConstants.{STRING_TOKEN_BYTES}
 use Rattle.bt_lexer.specs.declared.token.Token.{Token}
 use Rattle.bt_lexer.specs.declared.token.TokenKind.{TokenKind}
 use Rattle.bt_lexer.specs.declared.token.TokenKind.TheVariants as kinds
@@ -13,7 +14,8 @@ use Rattle.bt_lexer.specs.declared.numbers.Digits.{Digits}
 use Rattle.bt_lexer.specs.declared.strings.StringByte.{StringByte}
 use Rattle.bt_lexer.specs.declared.strings.StringByte.TheVariants as part
 use Rattle.bt_lexer.specs.declared.position.Position.{Position}
-use Rattle.bt_lexer.specs.Bytes.{is_blank, is_letter, is_digit, is_word_byte, is_attach_byte, not_newline, begins}
+use Rattle.bt_core.specs.Bytes.{is_letter, is_digit, is_word_byte}
+use Rattle.bt_lexer.specs.Bytes.{is_blank, is_attach_byte, not_newline, begins}
 use Rattle.bt_lexer.specs.Numbers.{signed}
 use Rattle.bt_lexer.specs.Tokens.{first_line}
 
@@ -115,7 +117,7 @@ string_byte true b = escaped_byte (escape_of b)
 string_byte false b = if b == 34 then part.Close else (if b == 10 then part.EndOfLine else (if b == 0 then part.Zero else (if b == 92 then part.Escape else part.Add b)))
 
 abbrev pub closed : ℕ → List ℕ → ℕ → Result Piece LexError
-closed offset text n = if nat_lt 1024 (length text) then Err (StringTooLong offset) else token_piece (kinds.Text text) (n + 2)
+closed offset text n = if nat_lt STRING_TOKEN_BYTES (length text) then Err (StringTooLong offset) else token_piece (kinds.Text text) (n + 2)
 
 abbrev pub string_step : (Bool → List ℕ → Result Piece LexError) → ℕ → List ℕ → ℕ → StringByte → Result Piece LexError
 string_step more offset text n part.Close = closed offset text n

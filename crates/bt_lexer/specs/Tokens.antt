@@ -1,11 +1,13 @@
 -- The tokens of a text, and its first lexical fault.
 use Rattle.std.specs.Prelude.{◌≡◌, ◌≢◌, ℕ, ◌+◌, ◌^◌, ◌<◌, ◌≤◌, ◌⊎◌, true, List, [], ◌∷◌, ◌++◌, length, take_while, ◌&&◌, ◌==◌, if◌then◌else◌, Option, Some, None, Result, Ok, Err}
+use Rattle.bt_core.specs.declared.limits.TheConstants.{STRING_TOKEN_BYTES}
 use Rattle.bt_lexer.specs.declared.token.Token.{Token}
 use Rattle.bt_lexer.specs.declared.token.TokenKind.{TokenKind}
 use Rattle.bt_lexer.specs.declared.token.TokenKind.TheVariants as kinds
 use Rattle.bt_lexer.specs.declared.error.LexError.{LexError}
 use Rattle.bt_lexer.specs.declared.error.LexError.TheVariants as faults
-use Rattle.bt_lexer.specs.Bytes.{begins, is_word_byte, not_newline}
+use Rattle.bt_core.specs.Bytes.{is_word_byte}
+use Rattle.bt_lexer.specs.Bytes.{begins, not_newline}
 use Rattle.bt_lexer.specs.Words.{IsWord, IsAttach, IsMapName, IsVarName}
 use Rattle.bt_lexer.specs.Numbers.{IsNumber, signed}
 use Rattle.bt_lexer.specs.Strings.{IsString, IsSpelled, NoEscape, EndsLine}
@@ -61,7 +63,7 @@ IsFault offset bs (faults.NumberTooLarge at) =
 IsFault offset bs (faults.BadEscape at) =
     (source text rest : List ℕ) × BeginsWithString bs source text (92 ∷ rest) × NoEscape rest × (at ≡ offset + 1 + length source)
 IsFault offset bs (faults.StringTooLong at) =
-    (source text rest : List ℕ) × BeginsWithString bs source text (34 ∷ rest) × (1024 < length text) × (at ≡ offset)
+    (source text rest : List ℕ) × BeginsWithString bs source text (34 ∷ rest) × (STRING_TOKEN_BYTES < length text) × (at ≡ offset)
 IsFault offset bs faults.Memory = ⊥
 
 -- The piece stands at the front: it is the longest that begins there, and no fault begins there.
@@ -73,7 +75,7 @@ pub record Stands (kind : Option TokenKind) (bs rest : List ℕ) : Type 0 where
 -- The numbers and texts that no fault refuses.
 abbrev pub IsWithinLimits : TokenKind → List ℕ → Type 0
 IsWithinLimits (kinds.Number value) bs = (n : ℕ) → IsNumber bs n → n < 2 ^ 64
-IsWithinLimits (kinds.Text text) bs = length text ≤ 1024
+IsWithinLimits (kinds.Text text) bs = length text ≤ STRING_TOKEN_BYTES
 IsWithinLimits _ bs = Unit {0}
 
 -- A token, with its span and its place, where these bytes stand before it.

@@ -1,6 +1,7 @@
 -- Words, attach tokens, and the names of maps and variables.
 use Rattle.std.specs.Prelude.{◌≡◌, ℕ, ◌⊎◌, List, [], ◌∷◌, ◌++◌, codes}
-use Rattle.bt_lexer.specs.Bytes.{is_letter, is_word_byte, is_attach_byte, Every}
+use Rattle.bt_core.specs.Bytes.{is_letter, is_word_byte}
+use Rattle.bt_lexer.specs.Bytes.{is_attach_byte, Every}
 use Rattle.std.specs.Prelude.{true}
 
 -- a letter, then letters and digits

@@ -2,7 +2,7 @@
 ghost use Rattle.std.specs.Prelude.{◌≡◌};
 ghost use Rattle.bt_lexer.specs.declared.error.LexError.TheVariants.{Memory};
 
-use std::alloc::{AllocError, AllocFailed};
+use std::alloc::AllocFailed;
 use thiserror::Error;
 
 /// The first lexical fault of a text, with its offset in bytes, or want of memory.
@@ -31,10 +31,10 @@ pub enum LexError {
     Memory,
 }
 
-impl From<AllocError> for LexError {
+impl From<bt_core::memory::Memory> for LexError {
     ghost from_gives = { λ _ e. e ≡ Memory };
 
-    fn from(_error: AllocError) -> LexError {
+    fn from(_error: bt_core::memory::Memory) -> LexError {
         LexError::Memory
     }
 }

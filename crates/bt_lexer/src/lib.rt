@@ -12,7 +12,5 @@ mod piece;
 mod position;
 mod separators;
 mod strings;
-#[cfg(test)]
-mod tests;
 pub mod token;
 mod words;

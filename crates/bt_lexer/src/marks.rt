@@ -3,10 +3,10 @@ ghost use Rattle.std.specs.Prelude.{◌≡◌, ◌+◌, ◌<◌, ◌≤◌, ◌^
 ghost use Rattle.bt_lexer.specs.Scan.{is_double, is_single, is_triple, mark_len, mark_piece, IsWithin};
 ghost use Rattle.bt_lexer.specs.Tokens.{Gives};
 
-use crate::bytes::list_of;
 use crate::error::LexError;
 use crate::piece::Piece;
 use crate::token::TokenKind;
+use bt_core::items::Items;
 use std::alloc::Global;
 
 /// Whether a byte is a mark.
@@ -57,6 +57,6 @@ pub fn mark_piece(alloc: Global, offset: u64, bytes: &[u8]) -> Result<Piece, Lex
     if len == 0 {
         return Err(LexError::BadChar(offset));
     }
-    let mark = list_of(alloc, &bytes[..len])?;
+    let mark = Items::from_slice(alloc, &bytes[..len])?;
     Ok(Piece::token(TokenKind::Mark(mark), len))
 }

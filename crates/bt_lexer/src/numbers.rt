@@ -1,7 +1,8 @@
 // Numbers: decimal, hexadecimal and octal.
 ghost use Rattle.std.specs.Prelude.{◌≡◌, ◌+◌, ◌<◌, ◌≤◌, ◌^◌, length, Some, IfOk, true};
 ghost use Rattle.std.specs.Char.{digit_value};
-ghost use Rattle.bt_lexer.specs.Bytes.{begins, is_digit};
+ghost use Rattle.bt_core.specs.Bytes.{is_digit};
+ghost use Rattle.bt_lexer.specs.Bytes.{begins};
 ghost use Rattle.bt_lexer.specs.Scan.{digits, fits, number_at, number_piece, pushed, IsWithin};
 ghost use Rattle.bt_lexer.specs.Tokens.{Gives};
 

@@ -1,13 +1,16 @@
 // Words, attach tokens, and the names of maps and variables.
 ghost use Rattle.std.specs.Prelude.{◌≡◌, ◌+◌, ◌<◌, ◌≤◌, ◌^◌, length, take_while, IfOk, true};
-ghost use Rattle.bt_lexer.specs.Bytes.{begins, is_letter, is_word_byte, is_attach_byte};
+ghost use Rattle.bt_core.specs.Bytes.{is_letter, is_word_byte};
+ghost use Rattle.bt_lexer.specs.Bytes.{begins, is_attach_byte};
 ghost use Rattle.bt_lexer.specs.Scan.{attach_len, is_attach_word, is_colon, map_piece, name_len, var_piece, word_len, word_piece, IsWithin};
 ghost use Rattle.bt_lexer.specs.Tokens.{Gives};
 
-use crate::bytes::{begins_with_letter, is_word_byte, list_of};
+use crate::bytes::begins_with_letter;
 use crate::error::LexError;
 use crate::piece::Piece;
 use crate::token::TokenKind;
+use bt_core::bytes::is_word_byte;
+use bt_core::items::Items;
 use std::alloc::Global;
 
 /// How many letters and digits stand at the front.
@@ -60,10 +63,10 @@ pub fn word_piece(alloc: Global, bytes: &[u8]) -> Result<Piece, LexError>
     let (word, rest) = bytes.split_at(len);
     if is_attach_word(word) && begins_with_colon(rest) {
         let len = len + attach_len(rest);
-        let point = list_of(alloc, &bytes[..len])?;
+        let point = Items::from_slice(alloc, &bytes[..len])?;
         Ok(Piece::token(TokenKind::Attach(point), len))
     } else {
-        let word = list_of(alloc, word)?;
+        let word = Items::from_slice(alloc, word)?;
         Ok(Piece::token(TokenKind::Word(word), len))
     }
 }
@@ -76,7 +79,7 @@ pub fn map_piece(alloc: Global, bytes: &[u8]) -> Result<Piece, LexError>
     ensures within { IfOk result (λ piece. IsWithin (length bytes.now) piece) }
 {
     let len = 1 + name_len(&bytes[1..]);
-    let name = list_of(alloc, &bytes[..len])?;
+    let name = Items::from_slice(alloc, &bytes[..len])?;
     Ok(Piece::token(TokenKind::Map(name), len))
 }
 
@@ -104,6 +107,6 @@ pub fn var_piece(alloc: Global, offset: u64, bytes: &[u8]) -> Result<Piece, LexE
         return Err(LexError::BadChar(offset));
     }
     let len = 1 + word_len(name);
-    let name = list_of(alloc, &bytes[..len])?;
+    let name = Items::from_slice(alloc, &bytes[..len])?;
     Ok(Piece::token(TokenKind::Var(name), len))
 }

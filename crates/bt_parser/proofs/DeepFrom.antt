@@ -1,5 +1,5 @@
 -- The first token that is too deep.
-use Rattle.std.proofs.Common.{◌≡◌, ℕ, zero, suc, ◌+◌, ◌<◌, ◌≤◌, Bool, true, false, List, [], ◌∷◌, ◌++◌, length, reverse, take, drop, Option, Some, None, refl, sym, ◌∙◌, ap, subst, inl, inr, ◌⊎◌, arith}
+use Rattle.std.proofs.Common.{◌≡◌, ℕ, zero, suc, ◌+◌, ◌<◌, ◌≤◌, Bool, true, false, List, [], ◌∷◌, ◌++◌, length, map, reverse, take, drop, Option, Some, None, refl, sym, ◌∙◌, ap, subst, inl, inr, ◌⊎◌, arith}
 use Rattle.std.specs.Prelude.{nat_lt, if◌then◌else◌}
 use Rattle.std.specs.List.{sum}
 use Rattle.std.proofs.lemmas.List.{length-reverse, reverse-append}
@@ -8,11 +8,20 @@ use Rattle.std.proofs.lemmas.Bool.Decides.{leb_tells}
 use Rattle.bt_core.specs.declared.limits.TheConstants.{NESTING}
 use Rattle.bt_parser.specs.declared.nesting.Levels.{Levels}
 use Rattle.bt_lexer.specs.declared.token.Token.{Token}
+use Rattle.bt_grammar.specs.declared.class.Class.{Class}
+use Rattle.bt_parser.specs.ClassLists.{classes_of}
 use Rattle.bt_grammar.specs.Tokens.{class_of, items}
 use Rattle.bt_grammar.specs.Form.{Item}
 use Rattle.bt_parser.specs.Levels.{deep_from, levels_of, IsWeighed}
 use Rattle.bt_grammar.specs.Weights.{levels_behind, levels_from, level_weight, weight}
 use Rattle.bt_grammar.specs.Refusals.{IsDepthFault, NoDepthFault}
+
+abbrev pub item_classes : List Item → List Class
+item_classes ts = map (λ t. t.class) ts
+
+pub classes_are : (tokens : List Token) → classes_of tokens ≡ item_classes (items tokens)
+classes_are [] = refl
+classes_are (t ∷ tokens) = ap (λ z. class_of t.kind ∷ z) (classes_are tokens)
 
 -- a place that is found, and what stands before it
 pub record Deep (i : ℕ) (levels : List ℕ) (ts : List Item) (d : ℕ) : Type 0 where
@@ -25,7 +34,7 @@ pub record Deep (i : ℕ) (levels : List ℕ) (ts : List Item) (d : ℕ) : Type 
 tell : (w : ℕ) → ((nat_lt NESTING w ≡ true) × (NESTING < w)) ⊎ ((nat_lt NESTING w ≡ false) × (w ≤ NESTING))
 tell w = elim (leb_tells 65 w) [ inl h ↦ inl (h.0, omega (arith, h.1)) | inr h ↦ inr (h.0, omega (arith, h.1)) ]
 
-pub found_deep : (i : ℕ) (levels : List ℕ) (ts : List Item) (d : ℕ) → deep_from i levels ts ≡ Some d → Deep i levels ts d
+pub found_deep : (i : ℕ) (levels : List ℕ) (ts : List Item) (d : ℕ) → deep_from i levels (item_classes ts) ≡ Some d → Deep i levels ts d
 found_deep i levels [] d e = cc (e)
 found_deep i levels (t ∷ ts) d e = elim (tell (level_weight (levels_behind t.class levels))) [
   | inl h ↦ (let q : Some i ≡ Some d = rw (h.0) at e in
@@ -49,7 +58,7 @@ found_deep i levels (t ∷ ts) d e = elim (tell (level_weight (levels_behind t.c
     before zero light n first short = light
     before (suc m) light n first short = subst (λ z. level_weight (levels_from levels (take z (t ∷ ts))) ≤ NESTING) (next m) (first m (omega arith))
 
-pub none_deep : (i : ℕ) (levels : List ℕ) (ts : List Item) → deep_from i levels ts ≡ None → (m : ℕ) → m < length ts → level_weight (levels_from levels (take (m + 1) ts)) ≤ NESTING
+pub none_deep : (i : ℕ) (levels : List ℕ) (ts : List Item) → deep_from i levels (item_classes ts) ≡ None → (m : ℕ) → m < length ts → level_weight (levels_from levels (take (m + 1) ts)) ≤ NESTING
 none_deep i levels [] e m within = absurd (omega arith)
 none_deep i levels (t ∷ ts) e m within = elim (tell (level_weight (levels_behind t.class levels))) [
   | inl h ↦ (let q : ◌≡◌ {A = Option ℕ} (Some i) None = rw (h.0) at e in cc (q))
@@ -61,14 +70,14 @@ none_deep i levels (t ∷ ts) e m within = elim (tell (level_weight (levels_behi
     at_place zero light first short = light
     at_place (suc m) light first short = let e : suc (m + 1) ≡ suc m + 1 = omega arith in subst (λ z. level_weight (levels_from levels (take z (t ∷ ts))) ≤ NESTING) e (first m (omega arith))
 
-pub some_depth : (ts : List Item) (d : ℕ) → deep_from 0 (0 ∷ []) ts ≡ Some d → IsDepthFault ts d
+pub some_depth : (ts : List Item) (d : ℕ) → deep_from 0 (0 ∷ []) (item_classes ts) ≡ Some d → IsDepthFault ts d
 unfolding weight
 some_depth ts d e =
     let r : Deep 0 (0 ∷ []) ts d = found_deep 0 (0 ∷ []) ts d e in
     let q : r.n ≡ d = omega (arith, r.is) in
     subst (IsDepthFault ts) q (record { within = r.within; deep = r.deep; first = r.first })
 
-pub no_depth : (ts : List Item) → deep_from 0 (0 ∷ []) ts ≡ None → NoDepthFault ts
+pub no_depth : (ts : List Item) → deep_from 0 (0 ∷ []) (item_classes ts) ≡ None → NoDepthFault ts
 unfolding weight
 no_depth ts e n f =
     let h : level_weight (levels_from (0 ∷ []) (take (n + 1) ts)) ≤ NESTING = none_deep 0 (0 ∷ []) ts e n f.within in
@@ -92,22 +101,22 @@ weighs l w = omega (arith, w, sum-cons l.inner (reverse l.around.items), sum-rev
 
 -- ---- one token of the loop
 
-heavy : (levels : List ℕ) (l : Levels) (t : Token) → levels_of l ≡ levels_behind (class_of t.kind) levels → IsWeighed l → (b : Bool) → nat_lt NESTING l.weight ≡ b
-    → nat_lt NESTING (level_weight (levels_behind (class_of t.kind) levels)) ≡ b
-heavy levels l t e w b h = ap (λ z. nat_lt NESTING (level_weight z)) (sym e) ∙ ap (nat_lt NESTING) (weighs l w) ∙ h
+heavy : (levels : List ℕ) (l : Levels) (k : Class) → levels_of l ≡ levels_behind k levels → IsWeighed l → (b : Bool) → nat_lt NESTING l.weight ≡ b
+    → nat_lt NESTING (level_weight (levels_behind k levels)) ≡ b
+heavy levels l k e w b h = ap (λ z. nat_lt NESTING (level_weight z)) (sym e) ∙ ap (nat_lt NESTING) (weighs l w) ∙ h
 
-pub stop_at : (i : ℕ) (levels : List ℕ) (l : Levels) (tokens : List Token) (t : Token) → drop i tokens ≡ t ∷ drop (i + 1) tokens
-    → levels_of l ≡ levels_behind (class_of t.kind) levels → IsWeighed l → NESTING < l.weight → Some i ≡ deep_from i levels (items (drop i tokens))
-stop_at i levels l tokens t d e w h = elim (tell l.weight) [
+pub stop_at : (i : ℕ) (levels : List ℕ) (l : Levels) (classes : List Class) (k : Class) → drop i classes ≡ k ∷ drop (i + 1) classes
+    → levels_of l ≡ levels_behind k levels → IsWeighed l → NESTING < l.weight → Some i ≡ deep_from i levels (drop i classes)
+stop_at i levels l classes k d e w h = elim (tell l.weight) [
   | inr n ↦ (let light : l.weight ≤ NESTING = n.1 in absurd (omega (arith, h, light)))
-  | inl y ↦ sym (ap (λ z. deep_from i levels (items z)) d
-      ∙ ap (λ b. if b then Some i else deep_from (i + 1) (levels_behind (class_of t.kind) levels) (items (drop (i + 1) tokens))) (heavy levels l t e w true y.0))
+  | inl y ↦ sym (ap (deep_from i levels) d
+      ∙ ap (λ b. if b then Some i else deep_from (i + 1) (levels_behind k levels) (drop (i + 1) classes)) (heavy levels l k e w true y.0))
 ]
 
-pub go_on : (i : ℕ) (levels : List ℕ) (l : Levels) (tokens : List Token) (t : Token) → drop i tokens ≡ t ∷ drop (i + 1) tokens
-    → levels_of l ≡ levels_behind (class_of t.kind) levels → IsWeighed l → l.weight ≤ NESTING → deep_from (i + 1) (levels_of l) (items (drop (i + 1) tokens)) ≡ deep_from i levels (items (drop i tokens))
-go_on i levels l tokens t d e w h = elim (tell l.weight) [
+pub go_on : (i : ℕ) (levels : List ℕ) (l : Levels) (classes : List Class) (k : Class) → drop i classes ≡ k ∷ drop (i + 1) classes
+    → levels_of l ≡ levels_behind k levels → IsWeighed l → l.weight ≤ NESTING → deep_from (i + 1) (levels_of l) (drop (i + 1) classes) ≡ deep_from i levels (drop i classes)
+go_on i levels l classes k d e w h = elim (tell l.weight) [
   | inl y ↦ (let big : NESTING < l.weight = y.1 in absurd (omega (arith, h, big)))
-  | inr n ↦ ap (λ z. deep_from (i + 1) z (items (drop (i + 1) tokens))) e ∙ sym (ap (λ z. deep_from i levels (items z)) d
-      ∙ ap (λ b. if b then Some i else deep_from (i + 1) (levels_behind (class_of t.kind) levels) (items (drop (i + 1) tokens))) (heavy levels l t e w false n.0))
+  | inr n ↦ ap (λ z. deep_from (i + 1) z (drop (i + 1) classes)) e ∙ sym (ap (deep_from i levels) d
+      ∙ ap (λ b. if b then Some i else deep_from (i + 1) (levels_behind k levels) (drop (i + 1) classes)) (heavy levels l k e w false n.0))
 ]

@@ -9,3 +9,4 @@ mod Parsed
 mod Stated
 mod Blocks
 mod Probed
+mod Fronts

@@ -12,11 +12,12 @@ use Rattle.bt_parser.specs.declared.script.Outcome.TheVariants as outcomes
 use Rattle.bt_grammar.specs.Form.{Item}
 use Rattle.bt_grammar.specs.Tokens.{items, item}
 use Rattle.bt_grammar.specs.Grammar.{Begins, RefusedAt}
+use Rattle.bt_parser.specs.ClassLists.{classes_of}
 use Rattle.bt_parser.specs.Levels.{deep_from}
 use Rattle.bt_grammar.specs.Refusals.{IsDepthFault, IsCountFault, NoDepthFault, NoCountFault, IsAccepted, IsRefusal}
 use Rattle.bt_parser.specs.Outcomes.{Gives, answer_of, IsRight, Answers}
 use Rattle.bt_grammar.proofs.Steps.{length-items}
-use Rattle.bt_parser.proofs.DeepFrom.{some_depth, no_depth}
+use Rattle.bt_parser.proofs.DeepFrom.{classes_are, some_depth, no_depth}
 use Rattle.bt_grammar.proofs.Decide.{accepted, refused_whole, refused_front, too_many, too_deep, begun_end, tree_begins, depth_least, count_begins, count_one, count_place, few_tree}
 
 items-append : (xs ys : List Token) → items (xs ++ ys) ≡ items xs ++ items ys
@@ -32,8 +33,8 @@ none_of old left outcomes.Refused place g at shallow =
 none_of old left outcomes.Full place g at shallow =
     too_many (items old) (items old) [] place (sym (append-nil (items old))) (g place at) (λ m f. absurd (shallow m f))
 
-pub right_none : (tokens : List Token) (answer : Result Script ParseError) → deep_from 0 (0 ∷ []) (items tokens) ≡ None → Answers tokens None answer → IsRight (items tokens) answer
-right_none tokens answer e a = subst (IsRight (items tokens)) (sym a.is) (none_of tokens a.left a.outcome a.place a.gives a.at (no_depth (items tokens) e))
+pub right_none : (tokens : List Token) (answer : Result Script ParseError) → deep_from 0 (0 ∷ []) (classes_of tokens) ≡ None → Answers tokens None answer → IsRight (items tokens) answer
+right_none tokens answer e a = subst (IsRight (items tokens)) (sym a.is) (none_of tokens a.left a.outcome a.place a.gives a.at (no_depth (items tokens) (ap (deep_from 0 (0 ∷ [])) (sym (classes_are tokens)) ∙ e)))
 
 tells_le : (a b : ℕ) → ((nat_le a b ≡ true) × (a ≤ b)) ⊎ ((nat_le a b ≡ false) × (b < a))
 tells_le a b = leb_tells a b
@@ -84,10 +85,10 @@ module _ (ts after : List Item) (cut : List Token) (d : ℕ) (e : ts ≡ items c
           let all : take (place + 1) (items cut) ≡ items cut = take_all (place + 1) (items cut) (omega (arith, h, len-items)) in
           subst Begins all (count_begins (items cut) place c)
 
-pub right_some : (tokens : List Token) (d : ℕ) (answer : Result Script ParseError) → deep_from 0 (0 ∷ []) (items tokens) ≡ Some d → Answers (take (d + 1) tokens) (Some d) answer
+pub right_some : (tokens : List Token) (d : ℕ) (answer : Result Script ParseError) → deep_from 0 (0 ∷ []) (classes_of tokens) ≡ Some d → Answers (take (d + 1) tokens) (Some d) answer
     → IsRight (items tokens) answer
 right_some tokens d answer e a =
-    let deep : IsDepthFault (items tokens) d = some_depth (items tokens) d e in
+    let deep : IsDepthFault (items tokens) d = some_depth (items tokens) d (ap (deep_from 0 (0 ∷ [])) (sym (classes_are tokens)) ∙ e) in
     let within : d < length (items tokens) = deep.within in
     let split : items tokens ≡ items (take (d + 1) tokens) ++ items (drop (d + 1) tokens) =
     ap items (sym (take-append-drop (d + 1) tokens)) ∙ items-append (take (d + 1) tokens) (drop (d + 1) tokens) in

@@ -11,7 +11,7 @@ use Rattle.std.proofs.lemmas.Bool.{leb-true}
 use Rattle.std.proofs.lemmas.Str.{digit_value_digit}
 use Rattle.bt_grammar.proofs.AllClasses.{and_first, and_second}
 use Rattle.std.proofs.lemmas.Bool.Decides.{leb_tells}
-use Rattle.bt_lexer.specs.Bytes.{is_digit}
+use Rattle.bt_core.specs.Bytes.{is_digit}
 use Rattle.bt_core.specs.declared.place.Place.{Place}
 use Rattle.bt_grammar.specs.Attach.{is_name, is_name_byte, point_of_parts}
 use Rattle.bt_parser.specs.Points.{is_colon, not_colon, limited, with_digit, with_digits, and_more, number_of}

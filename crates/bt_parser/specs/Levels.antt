@@ -5,7 +5,6 @@ use Rattle.bt_core.specs.declared.limits.TheConstants.{NESTING}
 use Rattle.bt_grammar.specs.declared.class.Class.{Class}
 use Rattle.bt_grammar.specs.declared.class.Class.TheVariants.{Increment, Decrement, Assign, Question}
 use Rattle.bt_parser.specs.declared.nesting.Levels.{Levels}
-use Rattle.bt_grammar.specs.Form.{Item}
 use Rattle.bt_grammar.specs.Weights.{levels_behind, level_weight}
 
 abbrev pub levels_of : Levels → List ℕ
@@ -14,10 +13,10 @@ levels_of l = l.inner ∷ reverse l.around.items
 abbrev pub IsWeighed : Levels → Type 0
 IsWeighed l = l.weight ≡ length l.around.items + (l.inner + sum l.around.items)
 
--- the place of the first token that makes the levels too heavy, counted on
-abbrev pub deep_from : ℕ → List ℕ → List Item → Option ℕ
+-- the place of the first of these classes of tokens that makes the levels too heavy, counted on
+abbrev pub deep_from : ℕ → List ℕ → List Class → Option ℕ
 deep_from i levels [] = None
-deep_from i levels (t ∷ ts) = if nat_lt NESTING (level_weight (levels_behind t.class levels)) then Some i else deep_from (i + 1) (levels_behind t.class levels) ts
+deep_from i levels (c ∷ cs) = if nat_lt NESTING (level_weight (levels_behind c levels)) then Some i else deep_from (i + 1) (levels_behind c levels) cs
 
 -- an operator that neither is of a tier nor stands before its operand, nor updates
 abbrev pub is_other_operator : Class → Bool

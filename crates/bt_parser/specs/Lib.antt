@@ -1,3 +1,4 @@
+pub mod ClassLists
 pub mod Contract
 pub mod Points
 pub mod Mirror

@@ -6,7 +6,7 @@ use Rattle.bt_ast.specs.declared.probe.Point.{Point}
 use Rattle.bt_ast.specs.declared.probe.Point.TheVariants as points
 use Rattle.bt_parser.specs.declared.attach.Attach.{Attach}
 use Rattle.bt_parser.specs.declared.attach.Attach.TheVariants as attaches
-use Rattle.bt_lexer.specs.Bytes.{is_digit}
+use Rattle.bt_core.specs.Bytes.{is_digit}
 use Rattle.bt_grammar.specs.Attach.{are_digits}
 
 abbrev pub is_colon : ℕ → Bool

@@ -1,6 +1,7 @@
 // What is gathered in aggregation maps.
-ghost use Rattle.std.specs.Prelude.{◌≡◌, ◌<◌, OnOk, length};
+ghost use Rattle.std.specs.Prelude.{◌≡◌, ◌<◌, OnOk, length, true};
 ghost use Rattle.bt_parser.specs.Contract.{Reads};
+ghost use Rattle.bt_grammar.specs.Classes.{gathers};
 ghost use Rattle.bt_grammar.specs.Form.{Aggregation, Int};
 ghost use Rattle.bt_grammar.specs.Reading.{read, reads};
 ghost use Rattle.bt_grammar.specs.Rules.{in_parens, value};
@@ -55,6 +56,7 @@ fn count(tokens: &mut Cursor<'_>) -> Result<(AggCall, Place), Fault>
 
 /// The map function of one number that a word names.
 fn gathering(class: Class, value: Expr) -> AggCall
+    requires { gathers class ≡ true }
     ensures { result ≡ gathering class value }
 {
     match class {
@@ -62,7 +64,8 @@ fn gathering(class: Class, value: Expr) -> AggCall
         Class::MinWord => AggCall::Min(value),
         Class::MaxWord => AggCall::Max(value),
         Class::AvgWord => AggCall::Avg(value),
-        _ => AggCall::Hist(value),
+        Class::HistWord => AggCall::Hist(value),
+        _ => unreachable!(),
     }
 }
 

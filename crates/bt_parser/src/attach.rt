@@ -7,6 +7,7 @@ ghost use Rattle.bt_grammar.specs.Tokens.{origin, point_class};
 ghost use Rattle.bt_parser.specs.Points.{is_colon, not_colon, number_of, point_named, with_digit, with_digits};
 
 use bt_ast::probe::Unit;
+use bt_core::bytes::{is_digit, is_word_byte};
 use bt_grammar::class::Class;
 
 /// What an attach token names.
@@ -56,7 +57,7 @@ fn is_name(bytes: &[u8]) -> bool
 fn is_name_byte(b: u8) -> bool
     ensures { result ≡ is_name_byte b }
 {
-    b.is_ascii_alphanumeric() || matches!(b, b'_' | b'-' | b'*')
+    is_word_byte(b) || matches!(b, b'-' | b'*')
 }
 
 fn unit_of(word: &[u8]) -> Option<Unit>
@@ -75,7 +76,7 @@ fn unit_of(word: &[u8]) -> Option<Unit>
 fn with_digit(number: u64, b: u8) -> Option<u64>
     ensures { result ≡ with_digit number b }
 {
-    if !b.is_ascii_digit() {
+    if !is_digit(b) {
         return None;
     }
     number.checked_mul(10)?.checked_add((b - b'0') as u64)

@@ -1,10 +1,11 @@
 // Calls and jumps.
-ghost use Rattle.std.specs.Prelude.{◌≡◌, ◌<◌, ◌≤◌, [], OnOk, length};
+ghost use Rattle.std.specs.Prelude.{◌≡◌, ◌<◌, ◌≤◌, [], OnOk, length, true};
 ghost use Rattle.bt_parser.specs.Contract.{Reads};
 ghost use Rattle.bt_grammar.specs.Form.{CallOrJump, Delete, Print, Printf};
 ghost use Rattle.bt_parser.specs.Mirror.{class_at, values_on};
 ghost use Rattle.bt_grammar.specs.Reading.{read, reads};
 ghost use Rattle.bt_parser.specs.Statements.{behind_word, delete_on, exit_by, in_parens_map, limit_form, limits_form, map_form};
+ghost use Rattle.bt_grammar.specs.Tables.{is_call};
 ghost use Rattle.bt_grammar.specs.Tokens.{items};
 
 use crate::cursor::{Cursor, Named};
@@ -166,6 +167,7 @@ fn exit(tokens: &mut Cursor<'_>) -> Result<StmtKind, Fault>
 
 /// What follows the first word of a call or jump.
 fn behind_word(alloc: Global, tokens: &mut Cursor<'_>, class: Class) -> Result<StmtKind, Fault>
+    requires { is_call class ≡ true }
     ensures reads { Reads (behind_word class (items tokens.old)) result tokens.new }
     ensures no_longer { OnOk result (length tokens.new ≤ length tokens.old) }
 {
@@ -178,7 +180,8 @@ fn behind_word(alloc: Global, tokens: &mut Cursor<'_>, class: Class) -> Result<S
         Class::ExitWord => exit(tokens),
         Class::BreakWord => Ok(StmtKind::Break),
         Class::ContinueWord => Ok(StmtKind::Continue),
-        _ => Ok(StmtKind::Return),
+        Class::ReturnWord => Ok(StmtKind::Return),
+        _ => unreachable!(),
     }
 }
 

@@ -1,7 +1,9 @@
 // The tokens that are left.
-ghost use Rattle.std.specs.Prelude.{◌≡◌, ◌<◌, ◌≤◌, IfOk, List, OnOk, OnSome, length, true};
+ghost use Rattle.std.specs.Prelude.{◌≡◌, ◌<◌, ◌≤◌, IfOk, IfSome, IsSome, IsTrue, List, OnOk, false, length, true};
 ghost use Rattle.bt_grammar.specs.declared.class.Class.{Class};
-ghost use Rattle.bt_grammar.specs.Classes.{is, is_word, joins};
+ghost use Rattle.bt_grammar.specs.declared.class.Class.TheVariants.{NumberLiteral};
+ghost use Rattle.bt_grammar.specs.Classes.{gathers, is, is_point, joins, tier_of};
+ghost use Rattle.bt_parser.specs.ClassLists.{classes_of, is_number_kind};
 ghost use Rattle.bt_parser.specs.Contract.{Reads};
 ghost use Rattle.bt_grammar.specs.Form.{brace_next};
 ghost use Rattle.bt_grammar.specs.Reading.{read, reads, rest_of, starts};
@@ -9,17 +11,15 @@ ghost use Rattle.bt_grammar.specs.Rules.{a_number, ends, mark};
 ghost use Rattle.bt_parser.specs.Mirror.{class_at, front_place, named_form, operator_at, prefix_at, builtin_at, step_at, when, word_form};
 ghost use Rattle.bt_parser.specs.Probes.{point_form};
 ghost use Rattle.bt_parser.specs.Statements.{begins_aggregation, begins_control, call_at, gatherer_at, update_at};
+ghost use Rattle.bt_grammar.specs.Tables.{is_call};
 ghost use Rattle.bt_grammar.specs.Tokens.{class_of, items};
 ghost use Rattle.bt_grammar.specs.Trees.{kind_bytes, kind_number};
 
-use crate::attach::attach_class;
 use crate::fault::Fault;
-use crate::marks::mark_class;
 use crate::point::point_of;
 use crate::tables::{
     builtin_of, gathers, is_call, is_control, is_point, prefix_of, tier_of, update_of,
 };
-use crate::words::word_class;
 use bt_ast::expr::Builtin;
 use bt_ast::probe::Point;
 use bt_core::items::Items;
@@ -38,34 +38,23 @@ pub struct Named {
     pub place: Place,
 }
 
-/// The tokens that are left. After a refusal the refused token is the first of them.
+/// The tokens that are left, with the class of each. After a refusal the refused token is the first of them.
 #[derive(Drop)]
 pub struct Cursor<'a> {
     rest: &'a [Token],
+    classes: &'a [Class],
 }
 
 impl<'a> Model for Cursor<'a> {
-    ghost use Rattle.std.specs.Prelude.{List};
+    ghost use Rattle.std.specs.Prelude.{◌≡◌, List};
     ghost use Rattle.bt_lexer.specs.declared.token.Token.{Token};
+    ghost use Rattle.bt_parser.specs.ClassLists.{classes_of};
 
     ghost Value = { List Token };
 
     ghost view = { λ c. c.rest.now };
-}
 
-/// The class of a token.
-pub fn class_of(kind: &TokenKind) -> Class
-    ensures { result ≡ class_of kind.now }
-{
-    match kind {
-        TokenKind::Word(word) => word_class(word.as_slice()),
-        TokenKind::Attach(bytes) => attach_class(bytes.as_slice()),
-        TokenKind::Map(_) => Class::MapName,
-        TokenKind::Var(_) => Class::VarName,
-        TokenKind::Number(_) => Class::NumberLiteral,
-        TokenKind::Text(_) => Class::TextLiteral,
-        TokenKind::Mark(mark) => mark_class(mark.as_slice()),
-    }
+    ghost invariant = { λ c. c.classes.now ≡ classes_of c.rest.now };
 }
 
 /// Whether a class is the expected one.
@@ -75,8 +64,9 @@ fn is(expected: Class, class: Class) -> bool
     class == expected
 }
 
-/// The bytes of a token, none of a number.
+/// The bytes of a token that is no number.
 fn bytes_of(alloc: Global, kind: &TokenKind) -> Result<Items<u8>, Memory>
+    requires { is_number_kind kind.now ≡ false }
     ensures { IfOk result (λ bytes. bytes ≡ kind_bytes kind.now) }
 {
     match kind {
@@ -86,26 +76,19 @@ fn bytes_of(alloc: Global, kind: &TokenKind) -> Result<Items<u8>, Memory>
         | TokenKind::Var(bytes)
         | TokenKind::Text(bytes)
         | TokenKind::Mark(bytes) => bytes.try_copy(alloc),
-        TokenKind::Number(_) => Ok(Items::new(alloc)),
+        TokenKind::Number(_) => unreachable!(),
     }
 }
 
-/// The number that a token is, 0 of any other token.
+/// The number that a token is.
 fn number_of(kind: &TokenKind) -> i64
+    requires { is_number_kind kind.now ≡ true }
     ensures { result ≡ kind_number kind.now }
 {
     match kind {
         TokenKind::Number(number) => *number,
-        _ => 0,
+        _ => unreachable!(),
     }
-}
-
-/// Whether a token is a word.
-#[tactic(auto, using(crate::proofs::WordKinds::word_kinds))]
-fn is_word(kind: &TokenKind) -> bool
-    ensures { result ≡ is_word (class_of kind.now) }
-{
-    matches!(kind, TokenKind::Word(_))
 }
 
 /// Whether an operator of a class is of the tier, where a brace stands after it or not.
@@ -116,16 +99,6 @@ fn joins(in_predicate: bool, tier: Tier, class: Class, before_brace: bool) -> bo
     tier_of(class) == Some(tier) && !ends_predicate
 }
 
-/// Whether the first of the tokens is an opening brace.
-fn begins_with_brace(tokens: &[Token]) -> bool
-    ensures { result ≡ brace_next (items tokens.now) }
-{
-    match tokens {
-        [] => false,
-        [token, ..] => is(Class::OpenBrace, class_of(&token.kind)),
-    }
-}
-
 /// The class where the test holds.
 fn when(test: bool, class: Class) -> Option<Class>
     ensures { result ≡ when test class }
@@ -134,11 +107,12 @@ fn when(test: bool, class: Class) -> Option<Class>
 }
 
 impl<'a> Cursor<'a> {
-    /// A cursor at the first of the tokens.
-    pub fn new(rest: &'a [Token]) -> Cursor<'a>
+    /// A cursor at the first of the tokens, which have these classes.
+    pub fn new(rest: &'a [Token], classes: &'a [Class]) -> Cursor<'a>
+        requires { classes.now ≡ classes_of rest.now }
         ensures { result ≡ rest.now }
     {
-        Cursor { rest }
+        Cursor { rest, classes }
     }
 
     /// How many tokens are left.
@@ -150,64 +124,78 @@ impl<'a> Cursor<'a> {
 
     /// The class of the next token.
     pub fn peek(&self) -> Option<Class>
-        ensures { result ≡ class_at (items self.now) }
+        ensures class { result ≡ class_at (items self.now) }
+        ensures some { IsSome result → 0 < length self.now }
     {
-        match self.rest {
+        match self.classes {
             [] => None,
-            [token, ..] => Some(class_of(&token.kind)),
+            [class, ..] => Some(*class),
+        }
+    }
+
+    /// Whether an opening brace stands behind the next token.
+    fn is_before_brace(&self) -> bool
+        ensures { result ≡ brace_next (rest_of (items self.now)) }
+    {
+        match self.classes {
+            [_, class, ..] => is(Class::OpenBrace, *class),
+            _ => false,
         }
     }
 
     /// Whether the next token is of the class.
     pub fn sees(&self, class: Class) -> bool
-        ensures { result ≡ starts (ends class) (items self.now) }
+        ensures class { result ≡ starts (ends class) (items self.now) }
+        ensures some { IsTrue result → 0 < length self.now }
     {
-        match self.rest {
-            [] => false,
-            [token, ..] => is(class, class_of(&token.kind)),
+        match self.peek() {
+            None => false,
+            Some(next) => is(class, next),
         }
     }
 
     /// The class of the next token where it is a binary operator of the tier.
     pub fn operator(&self, in_predicate: bool, tier: Tier) -> Option<Class>
-        ensures { result ≡ operator_at in_predicate tier (items self.now) }
+        ensures class { result ≡ operator_at in_predicate tier (items self.now) }
+        ensures tier { IfSome result (λ class. IsSome (tier_of class)) }
+        ensures some { IsSome result → 0 < length self.now }
     {
-        match self.rest {
-            [] => None,
-            [token, rest @ ..] => {
-                let class = class_of(&token.kind);
-                when(
-                    joins(in_predicate, tier, class, begins_with_brace(rest)),
-                    class,
-                )
-            }
-        }
+        let class = self.peek()?;
+        when(
+            joins(in_predicate, tier, class, self.is_before_brace()),
+            class,
+        )
     }
 
     /// The operator before an operand that comes next.
     pub fn prefix(&self) -> Option<UnOp>
-        ensures { result ≡ prefix_at (items self.now) }
+        ensures class { result ≡ prefix_at (items self.now) }
+        ensures some { IsSome result → 0 < length self.now }
     {
         prefix_of(self.peek()?)
     }
 
     /// The builtin variable that comes next.
     pub fn builtin(&self) -> Option<Builtin>
-        ensures { result ≡ builtin_at (items self.now) }
+        ensures class { result ≡ builtin_at (items self.now) }
+        ensures some { IsSome result → 0 < length self.now }
     {
         builtin_of(self.peek()?)
     }
 
     /// The operator of the mark with `=` that comes next.
     pub fn update(&self) -> Option<BinOp>
-        ensures { result ≡ update_at (items self.now) }
+        ensures class { result ≡ update_at (items self.now) }
+        ensures some { IsSome result → 0 < length self.now }
     {
         update_of(self.peek()?)
     }
 
     /// The word that comes next where it is a map function of one number.
     pub fn gatherer(&self) -> Option<Class>
-        ensures { result ≡ gatherer_at (items self.now) }
+        ensures class { result ≡ gatherer_at (items self.now) }
+        ensures gathers { IfSome result (λ class. gathers class ≡ true) }
+        ensures some { IsSome result → 0 < length self.now }
     {
         let class = self.peek()?;
         when(gathers(class), class)
@@ -215,7 +203,9 @@ impl<'a> Cursor<'a> {
 
     /// The word that comes next where it begins a call or is a jump.
     pub fn call_word(&self) -> Option<Class>
-        ensures { result ≡ call_at (items self.now) }
+        ensures class { result ≡ call_at (items self.now) }
+        ensures call { IfSome result (λ class. is_call class ≡ true) }
+        ensures some { IsSome result → 0 < length self.now }
     {
         let class = self.peek()?;
         when(is_call(class), class)
@@ -245,7 +235,8 @@ impl<'a> Cursor<'a> {
 
     /// Whether the step that comes next is `++` and not `--`.
     pub fn step(&self) -> Option<bool>
-        ensures { result ≡ step_at (items self.now) }
+        ensures class { result ≡ step_at (items self.now) }
+        ensures some { IsSome result → 0 < length self.now }
     {
         match self.peek()? {
             Class::Increment => Some(true),
@@ -254,30 +245,28 @@ impl<'a> Cursor<'a> {
         }
     }
 
-    /// Where the next token begins.
+    /// Where the next token begins, which is there.
     pub fn place(&self) -> Place
+        requires { 0 < length self.now }
         ensures { result ≡ front_place (items self.now) }
     {
         match self.rest {
-            [] => Place { line: 1, column: 1 },
+            [] => unreachable!(),
             [token, ..] => token.place,
         }
     }
 
-    /// Passes over the next token, and answers its place.
+    /// Passes over the next token, which is there, and answers its place.
     pub fn skip(&mut self) -> Place
+        requires { 0 < length self.old }
         ensures place { result ≡ front_place (items self.old) }
         ensures items { items self.new ≡ rest_of (items self.old) }
-        ensures shorter { OnSome (class_at (items self.old)) (length self.new < length self.old) }
-        ensures starts { (c : Class) → starts (ends c) (items self.old) ≡ true → length self.new < length self.old }
+        ensures shorter { length self.new < length self.old }
     {
-        match self.rest {
-            [] => Place { line: 1, column: 1 },
-            [token, rest @ ..] => {
-                self.rest = rest;
-                token.place
-            }
-        }
+        let place = self.place();
+        self.rest = &self.rest[1..];
+        self.classes = &self.classes[1..];
+        place
     }
 
     /// Passes over the next token, which is of the class, and answers its place.
@@ -292,23 +281,21 @@ impl<'a> Cursor<'a> {
         }
     }
 
-    /// Passes over the next token, which is of the class, and answers its bytes and its place.
+    /// Passes over the next token, which is of the class, and answers its bytes and its place. No number has bytes.
     pub fn named(&mut self, alloc: Global, class: Class) -> Result<Named, Fault>
+        requires { is NumberLiteral class ≡ false }
         ensures reads { Reads (read reads (named_form class) (items self.old)) result self.new }
         ensures shorter { OnOk result (length self.new < length self.old) }
     {
-        let [token, rest @ ..] = self.rest else {
+        let [token, ..] = self.rest else {
             return Err(Fault::Syntax);
         };
-        if !is(class, class_of(&token.kind)) {
+        if !self.sees(class) {
             return Err(Fault::Syntax);
         }
         let bytes = bytes_of(alloc, &token.kind)?;
-        self.rest = rest;
-        Ok(Named {
-            bytes,
-            place: token.place,
-        })
+        let place = self.skip();
+        Ok(Named { bytes, place })
     }
 
     /// Passes over the next token, which is a number, and answers it.
@@ -316,14 +303,15 @@ impl<'a> Cursor<'a> {
         ensures reads { Reads (read reads a_number (items self.old)) result self.new }
         ensures shorter { OnOk result (length self.new < length self.old) }
     {
-        let [token, rest @ ..] = self.rest else {
+        let [token, ..] = self.rest else {
             return Err(Fault::Syntax);
         };
-        if !is(Class::NumberLiteral, class_of(&token.kind)) {
+        if !self.sees(Class::NumberLiteral) {
             return Err(Fault::Syntax);
         }
-        self.rest = rest;
-        Ok(number_of(&token.kind))
+        let number = number_of(&token.kind);
+        self.skip();
+        Ok(number)
     }
 
     /// Passes over the next token, which is a word of any class, and answers its bytes and its place.
@@ -331,18 +319,15 @@ impl<'a> Cursor<'a> {
         ensures reads { Reads (read reads word_form (items self.old)) result self.new }
         ensures shorter { OnOk result (length self.new < length self.old) }
     {
-        let [token, rest @ ..] = self.rest else {
+        let [token, ..] = self.rest else {
             return Err(Fault::Syntax);
         };
-        if !is_word(&token.kind) {
+        let TokenKind::Word(word) = &token.kind else {
             return Err(Fault::Syntax);
-        }
-        let bytes = bytes_of(alloc, &token.kind)?;
-        self.rest = rest;
-        Ok(Named {
-            bytes,
-            place: token.place,
-        })
+        };
+        let bytes = word.try_copy(alloc)?;
+        let place = self.skip();
+        Ok(Named { bytes, place })
     }
 
     /// Passes over the next token, which is what a probe is attached to, and answers that.
@@ -350,15 +335,14 @@ impl<'a> Cursor<'a> {
         ensures reads { Reads (read reads point_form (items self.old)) result self.new }
         ensures shorter { OnOk result (length self.new < length self.old) }
     {
-        let [token, rest @ ..] = self.rest else {
+        let ([token, ..], [class, ..]) = (self.rest, self.classes) else {
             return Err(Fault::Syntax);
         };
-        let class = class_of(&token.kind);
-        if !is_point(class) {
+        if !is_point(*class) {
             return Err(Fault::Syntax);
         }
-        let point = point_of(alloc, class, &token.kind, token.place)?;
-        self.rest = rest;
+        let point = point_of(alloc, *class, &token.kind, token.place)?;
+        self.skip();
         Ok(point)
     }
 }

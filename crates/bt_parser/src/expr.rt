@@ -1,6 +1,7 @@
 // Expressions.
-ghost use Rattle.std.specs.Prelude.{◌≡◌, ◌<◌, ◌≤◌, IfOk, OnOk, length};
+ghost use Rattle.std.specs.Prelude.{◌≡◌, ◌<◌, ◌≤◌, IfOk, IsSome, OnOk, length};
 ghost use Rattle.bt_parser.specs.Contract.{Reads};
+ghost use Rattle.bt_grammar.specs.Classes.{tier_of};
 ghost use Rattle.bt_grammar.specs.Form.{Assignable, Expression, Keyed, Level, Primary, Unary};
 ghost use Rattle.bt_grammar.specs.Reading.{reads};
 ghost use Rattle.bt_parser.specs.Mirror.{joined, operand_by, values_behind};
@@ -23,6 +24,7 @@ use std::alloc::Global;
 
 /// Two operands joined by the operator that a mark is.
 fn join(alloc: Global, class: Class, left: Expr, right: Expr) -> Result<Expr, Memory>
+    requires { IsSome (tier_of class) }
     ensures { IfOk result (λ e. e ≡ joined class left right) }
 {
     let place = left.place;

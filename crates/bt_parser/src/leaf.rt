@@ -47,7 +47,9 @@ pub fn map_value(tokens: &mut Cursor<'_>, map: MapRef) -> Expr
     Expr { kind, place }
 }
 
+/// A number, where a token comes next.
 fn number(tokens: &mut Cursor<'_>) -> Result<Expr, Fault>
+    requires { 0 < length tokens.old }
     ensures reads { Reads (read reads number_form (items tokens.old)) result tokens.new }
     ensures shorter { OnOk result (length tokens.new < length tokens.old) }
 {

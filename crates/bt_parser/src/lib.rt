@@ -6,6 +6,7 @@ mod assign;
 mod attach;
 mod block;
 mod call;
+mod classes;
 mod cursor;
 mod expr;
 mod fault;

@@ -1,15 +1,12 @@
 // How deep tokens are nested.
 ghost use Rattle.std.specs.Prelude.{◌≡◌, ◌∷◌, [], ◌≤◌, ◌<◌, IfOk, IfSome, OnOk, length};
 ghost use Rattle.bt_parser.specs.Levels.{IsWeighed, deep_from, is_other_operator, levels_of};
-ghost use Rattle.bt_grammar.specs.Tokens.{items};
 ghost use Rattle.bt_grammar.specs.Weights.{closed, counted, is_operator, levels_behind, opened, reset};
 
-use crate::cursor::class_of;
 use crate::tables::{prefix_of, tier_of, update_of};
 use bt_core::limits::NESTING;
 use bt_core::memory::Memory;
 use bt_grammar::class::Class;
-use bt_lexer::token::Token;
 use std::alloc::Global;
 
 /// The most brackets and operators that may be open at one token.
@@ -138,14 +135,14 @@ impl Levels {
     }
 }
 
-/// The place of the first token behind which more than 64 brackets and operators are open.
-pub fn first_too_deep(alloc: Global, tokens: &[Token]) -> Result<Option<usize>, Memory>
-    ensures value { IfOk result (λ found. found ≡ deep_from 0 (0 ∷ []) (items tokens.now)) }
-    ensures within { IfOk result (λ found. IfSome found (λ place. place < length tokens.now)) }
+/// The place of the first of these classes of tokens behind which more than 64 brackets and operators are open.
+pub fn first_too_deep(alloc: Global, classes: &[Class]) -> Result<Option<usize>, Memory>
+    ensures value { IfOk result (λ found. found ≡ deep_from 0 (0 ∷ []) classes.now) }
+    ensures within { IfOk result (λ found. IfSome found (λ place. place < length classes.now)) }
 {
     let mut levels = Levels::new(alloc);
-    for (i, token) in tokens.iter().enumerate() {
-        levels.pass(class_of(&token.kind))?;
+    for (i, class) in classes.iter().enumerate() {
+        levels.pass(*class)?;
         if levels.weight > MOST_WEIGHT {
             return Ok(Some(i));
         }

@@ -1,14 +1,17 @@
 // The parser.
 ghost use Rattle.std.specs.Prelude.{◌≡◌, ◌≢◌, ◌<◌, ◌^◌, Err, IfErr, IfOk, None, Ok, length};
+ghost use Rattle.bt_parser.specs.ClassLists.{classes_of};
 ghost use Rattle.bt_parser.specs.Outcomes.{Answers, answer_of};
 ghost use Rattle.bt_grammar.specs.Refusals.{IsAccepted, IsRefusal};
 ghost use Rattle.bt_grammar.specs.Tokens.{items};
 ghost use Rattle.bt_grammar.specs.declared.error.ParseError.TheVariants.{Memory};
 
+use crate::classes::classify;
 use crate::cursor::Cursor;
 use crate::nesting::first_too_deep;
 use crate::script::{Outcome, script};
 use bt_ast::probe::Script;
+use bt_grammar::class::Class;
 use bt_grammar::error::ParseError;
 use bt_lexer::token::Token;
 use std::alloc::Global;
@@ -61,19 +64,30 @@ pub fn parse(alloc: Global, tokens: &[Token]) -> Result<Script, ParseError>
     ensures tree { IfOk result (λ script. IsAccepted (items tokens.now) script) }
     ensures fault { IfErr result (λ fault. fault ≢ Memory → IsRefusal (items tokens.now) fault) }
 {
-    match first_too_deep(alloc, tokens)? {
-        None => parse_front(alloc, tokens, None),
-        Some(deep) => parse_front(alloc, &tokens[..deep + 1], Some(deep as u32)),
+    let classes = classify(alloc, tokens)?;
+    let classes = classes.as_slice();
+    match first_too_deep(alloc, classes)? {
+        None => parse_front(alloc, tokens, classes, None),
+        Some(deep) => {
+            let end = deep + 1;
+            parse_front(alloc, &tokens[..end], &classes[..end], Some(deep as u32))
+        }
     }
 }
 
-/// The answer for a front of the tokens that ends behind the first token that is too deep, or for all.
-fn parse_front(alloc: Global, front: &[Token], deep: Option<u32>) -> Result<Script, ParseError>
-    requires { length front.now < 2 ^ 32 }
+/// The answer for a front of the tokens, of these classes, that ends behind the first token that is too deep, or for all.
+fn parse_front(
+    alloc: Global,
+    front: &[Token],
+    classes: &[Class],
+    deep: Option<u32>,
+) -> Result<Script, ParseError>
+    requires short { length front.now < 2 ^ 32 }
+    requires classes { classes.now ≡ classes_of front.now }
     ensures ok { IfOk result (λ script. Answers front.now deep (Ok script)) }
     ensures err { IfErr result (λ fault. fault ≢ Memory → Answers front.now deep (Err fault)) }
 {
-    let mut tokens = Cursor::new(front);
+    let mut tokens = Cursor::new(front, classes);
     let outcome = script(alloc, &mut tokens)?;
     let place = front.len() - tokens.left();
     answer_of(outcome, place as u32, deep)

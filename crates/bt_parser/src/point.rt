@@ -1,7 +1,9 @@
 // What a probe is attached to.
-ghost use Rattle.std.specs.Prelude.{◌≡◌, IfOk};
+ghost use Rattle.std.specs.Prelude.{◌≡◌, ◌<◌, IfOk, length, true};
 ghost use Rattle.bt_grammar.specs.Attach.{attach_point};
-ghost use Rattle.bt_grammar.specs.Trees.{found_point, kind_bytes, place_of_point, place_of_points, point_of};
+ghost use Rattle.bt_grammar.specs.Classes.{is_point};
+ghost use Rattle.bt_grammar.specs.Tokens.{class_of, origin, point_class};
+ghost use Rattle.bt_grammar.specs.Trees.{found_point, place_of_point, place_of_points, point_of};
 
 use crate::attach::{Attach, attach_of};
 use bt_ast::probe::Point;
@@ -12,36 +14,15 @@ use bt_grammar::class::Class;
 use bt_lexer::token::TokenKind;
 use std::alloc::Global;
 
-/// The bytes of a token, none of a number.
-fn bytes_at(kind: &TokenKind) -> &[u8]
-    ensures { result.now ≡ kind_bytes kind.now }
-{
-    match kind {
-        TokenKind::Word(bytes)
-        | TokenKind::Attach(bytes)
-        | TokenKind::Map(bytes)
-        | TokenKind::Var(bytes)
-        | TokenKind::Text(bytes)
-        | TokenKind::Mark(bytes) => bytes.as_slice(),
-        TokenKind::Number(_) => &[],
-    }
-}
-
-/// A list of the bytes.
-fn list_of(alloc: Global, bytes: &[u8]) -> Result<Items<u8>, Memory>
-    ensures { IfOk result (λ list. list ≡ bytes.now) }
-{
-    Ok(Items::of(Vec::from_slice(alloc, bytes)?))
-}
-
-/// The point that an attach token is.
+/// The point that an attach token is, which has one of the two forms.
 fn attached(alloc: Global, bytes: &[u8], place: Place) -> Result<Point, Memory>
+    requires { is_point (point_class (attach_point bytes.now origin)) ≡ true }
     ensures { IfOk result (λ point. point ≡ found_point (attach_point bytes.now place) place) }
 {
     match attach_of(bytes) {
         Some(Attach::Tracepoint { system, name }) => Ok(Point::Tracepoint {
-            system: list_of(alloc, system)?,
-            name: list_of(alloc, name)?,
+            system: Items::from_slice(alloc, system)?,
+            name: Items::from_slice(alloc, name)?,
             place,
         }),
         Some(Attach::Interval { unit, number }) => Ok(Point::Interval {
@@ -49,23 +30,28 @@ fn attached(alloc: Global, bytes: &[u8], place: Place) -> Result<Point, Memory>
             number,
             place,
         }),
-        None => Ok(Point::Begin { place }),
+        None => unreachable!(),
     }
 }
 
-/// The point that a token of a class is.
+/// The point that a token is, which is of this class.
 pub fn point_of(
     alloc: Global,
     class: Class,
     kind: &TokenKind,
     place: Place,
 ) -> Result<Point, Memory>
+    requires class { class ≡ class_of kind.now }
+    requires point { is_point class ≡ true }
     ensures { IfOk result (λ point. point ≡ point_of class kind.now place) }
 {
     match class {
         Class::BeginWord => Ok(Point::Begin { place }),
         Class::EndWord => Ok(Point::End { place }),
-        _ => attached(alloc, bytes_at(kind), place),
+        _ => match kind {
+            TokenKind::Attach(bytes) => attached(alloc, bytes.as_slice(), place),
+            _ => unreachable!(),
+        },
     }
 }
 
@@ -80,12 +66,13 @@ fn place_of_point(point: &Point) -> Place
     }
 }
 
-/// Where the first of some points stands.
+/// Where the first of some points stands, of which there is one at least.
 pub fn place_of_points(points: &[Point]) -> Place
+    requires { 0 < length points.now }
     ensures { result ≡ place_of_points points.now }
 {
     match points {
-        [] => Place { line: 1, column: 1 },
+        [] => unreachable!(),
         [point, ..] => place_of_point(point),
     }
 }

@@ -1,5 +1,5 @@
 // Probes.
-ghost use Rattle.std.specs.Prelude.{◌≡◌, ◌<◌, ◌≤◌, OnOk, length};
+ghost use Rattle.std.specs.Prelude.{◌≡◌, ◌<◌, ◌≤◌, IfOk, OnOk, length};
 ghost use Rattle.bt_parser.specs.Contract.{Reads};
 ghost use Rattle.bt_grammar.specs.Form.{OneProbe, Points};
 ghost use Rattle.bt_parser.specs.Probes.{predicate_form};
@@ -21,6 +21,7 @@ use std::alloc::Global;
 fn points(alloc: Global, tokens: &mut Cursor<'_>) -> Result<Items<Point>, Fault>
     ensures reads { Reads (reads Points (items tokens.old)) result tokens.new }
     ensures shorter { OnOk result (length tokens.new < length tokens.old) }
+    ensures some { IfOk result (λ points. 0 < length points) }
 {
     let mut points = Items::new(alloc);
     points.push(tokens.point(alloc)?)?;

@@ -9,11 +9,11 @@ ghost use Rattle.bt_grammar.specs.Tokens.{items};
 use crate::cursor::Cursor;
 use crate::fault::Fault;
 use crate::probe::probe;
+use crate::tables::is_point;
 use bt_ast::probe::Probe;
 use bt_core::items::Items;
 use bt_core::limits::PROBES;
 use bt_core::memory::Memory;
-use bt_grammar::class::Class;
 use std::alloc::Global;
 
 /// The most probes of a script.
@@ -34,10 +34,10 @@ pub enum Outcome {
 fn begins_probe(tokens: &Cursor<'_>) -> bool
     ensures { result ≡ starts (λ c _. is_point c) (items tokens.now) }
 {
-    matches!(
-        tokens.peek(),
-        Some(Class::BeginWord | Class::EndWord | Class::TracepointPoint | Class::IntervalPoint)
-    )
+    match tokens.peek() {
+        None => false,
+        Some(class) => is_point(class),
+    }
 }
 
 /// Whether another probe is to be read behind these: the first one always, and one of which the first token is there.

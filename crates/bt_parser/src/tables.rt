@@ -1,7 +1,7 @@
 // What a class of tokens is in the grammar: a builtin variable, an operator, and of which tier.
-ghost use Rattle.std.specs.Prelude.{◌≡◌, ◌≤◌};
+ghost use Rattle.std.specs.Prelude.{◌≡◌, ◌≤◌, true};
 ghost use Rattle.bt_grammar.specs.Classes.{binary_of, builtin_of, gathers, is_point, prefix_of, tier_number, tier_of, update_of};
-ghost use Rattle.bt_parser.specs.Mirror.{tier_rank, tighter};
+ghost use Rattle.bt_parser.specs.Mirror.{is_binary, tier_rank, tighter};
 ghost use Rattle.bt_grammar.specs.Tables.{is_call, is_control};
 
 use bt_ast::expr::Builtin;
@@ -79,6 +79,7 @@ pub fn tier_of(class: Class) -> Option<Tier>
 
 /// The operator on numbers that a mark of a tier is, other than `&&` and `||`.
 pub fn binary_of(class: Class) -> BinOp
+    requires { is_binary class ≡ true }
     ensures { result ≡ binary_of class }
 {
     match class {
@@ -97,7 +98,8 @@ pub fn binary_of(class: Class) -> BinOp
         Class::NotEqualMark => BinOp::Ne,
         Class::Ampersand => BinOp::BitAnd,
         Class::Caret => BinOp::BitXor,
-        _ => BinOp::BitOr,
+        Class::Bar => BinOp::BitOr,
+        _ => unreachable!(),
     }
 }
 

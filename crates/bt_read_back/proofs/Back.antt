@@ -16,6 +16,7 @@ use Rattle.bt_grammar.specs.Form.{WholeScript}
 use Rattle.bt_grammar.specs.Tokens.{items}
 use Rattle.bt_grammar.specs.Grammar.{IsTreeOf}
 use Rattle.bt_read_back.specs.Bare.{bare, bare_probe}
+use Rattle.bt_read_back.specs.ReadBack.{IsAcceptedAs, IsReadAs}
 use Rattle.bt_read_back.proofs.Lexemes.{Are, read_back, honest_tokens}
 use Rattle.bt_read_back.proofs.CanonicalWeights.{Shallow, shallow_no_fault}
 use Rattle.bt_read_back.proofs.CanonicalParts.{lift_part}
@@ -41,9 +42,9 @@ back text tokens script t (d, w) =
     let (probes, w', r) = read (items again) are in
     record { kinds = ks; again = again; same = script_of probes; shallow = s; are = are; lexed = subst (λ (z : List ℕ). IsTokensOf z again) r.0 is; tree = (d, w'); is = ap script_of r.1 }
 
-pub tree_is_read_back : (text : List ℕ) (tokens : List Token) (script : Script) → IsTokensOf text tokens → IsTreeOf (items tokens) script
-    → (again : List Token) × (same : Script) × IsTokensOf (script_text script) again × IsTreeOf (items again) same × (bare same ≡ bare script)
-tree_is_read_back text tokens script t tree = let b = back text tokens script t tree in (b.again, b.same, b.lexed, b.tree, b.is)
+pub tree_is_read_back : (text : List ℕ) (tokens : List Token) (script : Script) → IsTokensOf text tokens → IsTreeOf (items tokens) script → IsReadAs (script_text script) script
+tree_is_read_back text tokens script t tree =
+    let b = back text tokens script t tree in record { tokens = b.again; lexed = b.lexed; same = b.same; tree = b.tree; is = b.is }
 
 -- ---- the number of probes
 
@@ -52,9 +53,9 @@ same_count same script e = sym (length-map same.probes bare_probe) ∙ (ap (λ (
 
 -- nothing is refused in what is read back
 pub accepted_again : (text : List ℕ) (tokens : List Token) (script : Script) → IsTokensOf text tokens → IsAccepted (items tokens) script
-    → (again : List Token) × (same : Script) × IsTokensOf (script_text script) again × IsAccepted (items again) same × (bare same ≡ bare script)
+    → IsAcceptedAs (script_text script) script
 accepted_again text tokens script t a =
     let b = back text tokens script t a.tree in
     let few : length b.same.probes ≤ PROBES = subst (λ (n : ℕ). n ≤ PROBES) (sym (same_count b.same script b.is)) (few_probes (items tokens) script a) in
     let shallow : NoDepthFault (items b.again) = shallow_no_fault (items tokens) (items b.again) b.kinds b.shallow b.are (λ n f. a.no_fault (TooDeep n) f) in
-    (b.again, b.same, b.lexed, accepted (items b.again) b.same b.tree few shallow, b.is)
+    record { tokens = b.again; lexed = b.lexed; same = b.same; accepted = accepted (items b.again) b.same b.tree few shallow; is = b.is }

@@ -31,7 +31,8 @@ use Rattle.bt_read_back.specs.Bare.{bare_var, bare_expr, bare_target, bare_map}
 use Rattle.bt_grammar.proofs.AllClasses.{and_first, implies1, is_same}
 use Rattle.bt_read_back.proofs.BareExprs.{Number_text, Number_bare, Text_text, Text_bare, Builtin_text, Builtin_bare, Field_text, Field_bare, Var_text, Var_bare, Map_text, Map_bare, Step_text, Step_bare, Paren_text, Paren_bare, Unary_text, Unary_bare, Binary_text, Binary_bare, AndThen_text, AndThen_bare, OrElse_text, OrElse_bare, Choose_text, Choose_bare, map_target_text, map_target_bare, var_target_text, var_target_bare, map_ref_text, map_ref_bare, step_text_is, step_bare_is}
 use Rattle.bt_read_back.proofs.Lexemes.{lexeme}
-use Rattle.bt_read_back.proofs.LexemesFixed.{kind_of, is_fixed, map_kind, var_kind, number_kind, text_kind, word_kind}
+use Rattle.bt_grammar.proofs.KindClasses.{map_kind, var_kind, number_kind, text_kind, word_kind}
+use Rattle.bt_read_back.proofs.LexemesFixed.{kind_of, is_fixed}
 use Rattle.bt_read_back.proofs.CanonicalForms.{Lift, Behind, Before, Both, Maybe, Kept, Fixed, Marked, Op-back, lift_kept, lift_fixed, lift_mark, lift_empty, lift_map, lift_then, lift_or, lift_until, lift_op, lift_chain, lift_as, lift_dot, lift_optional, lift_pair, lift_second, lift_comma}
 use Rattle.bt_read_back.proofs.CanonicalValues.{IsExpr, IsValues, IsKeys, IsMapRef, IsTarget, Value}
 

@@ -15,7 +15,7 @@ use Rattle.bt_grammar.specs.Rules.{rule, a_number}
 use Rattle.bt_grammar.proofs.AllClasses.{is_same, is_refl}
 use Rattle.bt_read_back.proofs.Lexemes.{Sound, Valid, Honest}
 use Rattle.bt_read_back.proofs.LexemesKinds.{sound_valid, decimal_writes}
-use Rattle.bt_read_back.proofs.LexemesFixed.{number_kind}
+use Rattle.bt_grammar.proofs.KindClasses.{number_kind}
 use Rattle.bt_read_back.proofs.CanonicalWeights.{NoDeeper, item_classes, shallow_one, number_shallow}
 use Rattle.bt_read_back.proofs.CanonicalForms.{Lift, Again, lift_kept, lift_map, one_item, written_one}
 use Rattle.bt_read_back.proofs.CanonicalValues.{IsInt}

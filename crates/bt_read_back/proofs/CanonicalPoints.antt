@@ -11,7 +11,8 @@ use Rattle.std.proofs.lemmas.List.{append-nil}
 use Rattle.std.proofs.lemmas.List.Elements.{All-from_recursion}
 use Rattle.std.proofs.lemmas.List.Splits.{slice_split_at, slice_split_none}
 use Rattle.std.proofs.Common.{append_assoc}
-use Rattle.bt_lexer.specs.Bytes.{is_digit, is_attach_byte, Every}
+use Rattle.bt_core.specs.Bytes.{is_digit}
+use Rattle.bt_lexer.specs.Bytes.{is_attach_byte, Every}
 use Rattle.bt_lexer.specs.Words.{IsAttachWord}
 use Rattle.bt_lexer.specs.declared.token.TokenKind.{TokenKind}
 use Rattle.bt_lexer.specs.declared.token.TokenKind.TheVariants as kinds
@@ -33,7 +34,8 @@ use Rattle.bt_grammar.specs.Rules.{rule}
 use Rattle.bt_read_back.specs.Bare.{bare_point}
 use Rattle.bt_grammar.proofs.AllClasses.{and_first, and_second}
 use Rattle.bt_read_back.proofs.Lexemes.{lexeme, Valid, Honest}
-use Rattle.bt_read_back.proofs.LexemesFixed.{kind_of, fixed_valid, tracepoint_kind, interval_kind, apart}
+use Rattle.bt_grammar.proofs.KindClasses.{tracepoint_kind, interval_kind, apart}
+use Rattle.bt_read_back.proofs.LexemesFixed.{kind_of, fixed_valid}
 use Rattle.bt_read_back.proofs.CanonicalWeights.{shallow_token}
 use Rattle.bt_read_back.proofs.CanonicalForms.{Lift, Again, Behind, one_item, lift_map, lift_chain, lift_comma}
 use Rattle.bt_read_back.proofs.CanonicalValues.{IsPoint, IsPoints}

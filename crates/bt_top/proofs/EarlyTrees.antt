@@ -42,7 +42,8 @@ counted_kind kind h = absurd cc
 counted_stmts : (stmts : List Stmt) → are_count stmts ≡ true → IsCounted stmts
 counted_stmts [] h = absurd cc
 counted_stmts (stmt ∷ other ∷ more) h = absurd cc
-counted_stmts (stmt ∷ []) h = let k = counted_kind (out-Stmt stmt).kind h in record { stmt = stmt; only = refl; map = k.0; word = k.1; sets = k.2; holds = k.3 }
+counted_stmts (stmt ∷ []) h =
+    let k = counted_kind (out-Stmt stmt).kind h in record { stmt = stmt; only = refl; map = k.0; word = k.1; sets = k.2; holds = k.3 }
 
 both : (a b : Bool) → a && b ≡ true → (a ≡ true) × (b ≡ true)
 both true true h = (refl, refl)
@@ -59,11 +60,13 @@ record IsPlainPoint (points : List Point) (event : EventName) : Type 0 where
   one_system : has_star event.system ≡ false
   one_name : has_star event.name ≡ false
 
-plain : (system name : List ℕ) (place : Place) (event : EventName) (a b : Bool) → has_star system ≡ a → has_star name ≡ b → (if not a && not b then Some (record { system = system; name = name }) else None) ≡ Some event → IsPlainPoint (Tracepoint system name place ∷ []) event
+plain : (system name : List ℕ) (place : Place) (event : EventName) (a b : Bool) → has_star system ≡ a → has_star name ≡ b
+    → (if not a && not b then Some (record { system = system; name = name }) else None) ≡ Some event → IsPlainPoint (Tracepoint system name place ∷ []) event
 plain system name place event false false p q h =
     subst (IsPlainPoint (Tracepoint system name place ∷ [])) (same h) (record { at = place; point = refl; one_system = p; one_name = q })
   where
-    same : ◌≡◌ {A = Option EventName} (Some (record { system = system; name = name })) (Some event) → ◌≡◌ {A = EventName} (record { system = system; name = name }) event
+    same : ◌≡◌ {A = Option EventName} (Some (record { system = system; name = name })) (Some event)
+        → ◌≡◌ {A = EventName} (record { system = system; name = name }) event
     same e = cc
 plain system name place event true b p q h = absurd cc
 plain system name place event false true p q h = absurd cc
@@ -73,14 +76,16 @@ plain_point [] event h = absurd cc
 plain_point (Tracepoint system name place ∷ []) event h = plain system name place event (has_star system) (has_star name) refl refl h
 plain_point (point ∷ points) event h = absurd cc
 
-no_predicate : (predicate : Option Expr) (points : List Point) (event : EventName) → event_where predicate points ≡ Some event → (predicate ≡ None) × IsPlainPoint points event
+no_predicate : (predicate : Option Expr) (points : List Point) (event : EventName) → event_where predicate points ≡ Some event → (predicate ≡ None)
+    × IsPlainPoint points event
 no_predicate None points event h = (refl, plain_point points event h)
 no_predicate (Some predicate) points event h = absurd cc
 
 early_probe : (probe : Probe) (event : EventName) → event_of_probe probe ≡ Some event → IsEarlyProbe probe event
 early_probe probe event h = by_count (are_count (out-Block probe.block).stmts) refl h
   where
-    by_count : (b : Bool) → are_count (out-Block probe.block).stmts ≡ b → (if b then event_where probe.predicate probe.points else None) ≡ Some event → IsEarlyProbe probe event
+    by_count : (b : Bool) → are_count (out-Block probe.block).stmts ≡ b → (if b then event_where probe.predicate probe.points else None) ≡ Some event
+        → IsEarlyProbe probe event
     by_count false is found = absurd cc
     by_count true is found =
         let c = counted_stmts (out-Block probe.block).stmts is in

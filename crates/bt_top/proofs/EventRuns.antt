@@ -1,5 +1,6 @@
 -- What the runs of the code do: each makes one step in six instructions.
-use Rattle.std.proofs.Common.{◌≡◌, ℕ, suc, pos, ◌+◌, ◌*◌, List, [], ◌∷◌, ◌++◌, length, Bool, true, false, refl, sym, ap, subst, ◌∙◌, arith, append-nil, length-append}
+use Rattle.std.proofs.Common.{◌≡◌, ℕ, suc, pos, ◌+◌, ◌*◌, List, [], ◌∷◌, ◌++◌, length, Bool, true, false, refl, sym, ap, subst, ◌∙◌, arith, append-nil}
+use Rattle.std.proofs.Common.{length-append}
 use Rattle.std.specs.Prelude.{IsTrue, ◌&&◌, nat_eq, Result, Ok, Err, OnOk, OnErr, replicate, sum_by}
 use Rattle.std.specs.List.{flat_map}
 use Rattle.std.proofs.lemmas.Bool.{eqb-true, eq-eqb}
@@ -52,16 +53,24 @@ pub never_traps : (payload : List ℕ) (old new : List Step) (trap : Trap) → W
 never_traps payload old new trap w = no_trap w.made trap (subst (λ t. Runs t w.made (Err trap)) (event_run_is payload) w.runs)
 
 -- what the machine performed is the run
-pub Whole-event_run : (code : List Insn) (payload : List ℕ) (old new : List Step) (n : ℕ) → code ≡ counting_code → Whole (machine_run count_helper code 24588 0 (entry_state (replicate 128 0) payload)) old new (Ok (record { instructions = n })) → Whole (event_run payload) old new (Ok (record { instructions = n }))
+pub Whole-event_run : (code : List Insn) (payload : List ℕ) (old new : List Step) (n : ℕ) → code ≡ counting_code
+    → Whole (machine_run count_helper code 24588 0 (entry_state (replicate 128 0) payload)) old new (Ok (record { instructions = n }))
+    → Whole (event_run payload) old new (Ok (record { instructions = n }))
 unfolding event_run
-Whole-event_run code payload old new n is w = subst (λ (c : List Insn). Whole (machine_run count_helper c 24588 0 (entry_state (replicate 128 0) payload)) old new (Ok (record { instructions = n }))) is w
+Whole-event_run code payload old new n is w =
+    subst (λ (c : List Insn). Whole (machine_run count_helper c 24588 0 (entry_state (replicate 128 0) payload)) old new
+    (Ok (record { instructions = n }))) is w
 
 -- the machine does not trap
-pub never_traps_there : (code : List Insn) (payload : List ℕ) (old new : List Step) (trap : Trap) → code ≡ counting_code → Whole (machine_run count_helper code 24588 0 (entry_state (replicate 128 0) payload)) old new (Err trap) → ⊥
+pub never_traps_there : (code : List Insn) (payload : List ℕ) (old new : List Step) (trap : Trap) → code ≡ counting_code
+    → Whole (machine_run count_helper code 24588 0 (entry_state (replicate 128 0) payload)) old new (Err trap) → ⊥
 unfolding event_run
-never_traps_there code payload old new trap is w = never_traps payload old new trap (subst (λ (c : List Insn). Whole (machine_run count_helper c 24588 0 (entry_state (replicate 128 0) payload)) old new (Err trap)) is w)
+never_traps_there code payload old new trap is w =
+    never_traps payload old new trap
+    (subst (λ (c : List Insn). Whole (machine_run count_helper c 24588 0 (entry_state (replicate 128 0) payload)) old new (Err trap)) is w)
 
-pub unreached : (code : List Insn) (payload : List ℕ) (old new : List Step) (trap : Trap) → code ≡ counting_code → (trap ≡ Memory → ⊥) → TrapPerformed (machine_run count_helper code 24588 0 (entry_state (replicate 128 0) payload)) old new trap → ⊥
+pub unreached : (code : List Insn) (payload : List ℕ) (old new : List Step) (trap : Trap) → code ≡ counting_code → (trap ≡ Memory → ⊥)
+    → TrapPerformed (machine_run count_helper code 24588 0 (entry_state (replicate 128 0) payload)) old new trap → ⊥
 unreached code payload old new (BadJump n) is not w = never_traps_there code payload old new (BadJump n) is w
 unreached code payload old new (BadAddress n) is not w = never_traps_there code payload old new (BadAddress n) is w
 unreached code payload old new (UnsetRegister n) is not w = never_traps_there code payload old new (UnsetRegister n) is w
@@ -104,9 +113,11 @@ is_done_is (Last v) h = absurd (cc)
 is_done_is (Stopped v) h = absurd (cc)
 
 -- the stamp of the last step follows from how many there are
-last_stamped : (first : ℕ) (xs : List Step) (s : Step) → IsTrue (are_stamped first (xs ++ s ∷ [])) → IsTrue (nat_eq s.actor 0 && (nat_eq s.stamp (length xs + first) && is_done s.reply))
+last_stamped : (first : ℕ) (xs : List Step) (s : Step) → IsTrue (are_stamped first (xs ++ s ∷ []))
+    → IsTrue (nat_eq s.actor 0 && (nat_eq s.stamp (length xs + first) && is_done s.reply))
 last_stamped first [] s h =
-    let here : IsTrue (nat_eq s.actor 0 && (nat_eq s.stamp first && is_done s.reply)) = (both (nat_eq s.actor 0 && (nat_eq s.stamp first && is_done s.reply)) true h).0 in
+    let here : IsTrue (nat_eq s.actor 0 && (nat_eq s.stamp first && is_done s.reply)) =
+    (both (nat_eq s.actor 0 && (nat_eq s.stamp first && is_done s.reply)) true h).0 in
     let e : first ≡ length {A = Step} [] + first = omega arith in
     subst (λ (n : ℕ). IsTrue (nat_eq s.actor 0 && (nat_eq s.stamp n && is_done s.reply))) e here
 last_stamped first (x ∷ xs) s h =
@@ -115,12 +126,14 @@ last_stamped first (x ∷ xs) s h =
     subst (λ (n : ℕ). IsTrue (nat_eq s.actor 0 && (nat_eq s.stamp n && is_done s.reply))) e rest
 
 -- one step more, with the next stamp
-pub are_stamped-push : (first : ℕ) (xs : List Step) (s : Step) → IsTrue (are_stamped first xs) → s.actor ≡ 0 → s.stamp ≡ length xs + first → s.reply ≡ Done → IsTrue (are_stamped first (xs ++ s ∷ []))
+pub are_stamped-push : (first : ℕ) (xs : List Step) (s : Step) → IsTrue (are_stamped first xs) → s.actor ≡ 0 → s.stamp ≡ length xs + first → s.reply ≡ Done
+    → IsTrue (are_stamped first (xs ++ s ∷ []))
 are_stamped-push first [] s all actor stamp reply =
     let at : s.stamp ≡ first = omega arith in
     let done : IsTrue (is_done s.reply) = rw reply refl in
     and_is (nat_eq s.actor 0 && (nat_eq s.stamp first && is_done s.reply)) true
-    (and_is (nat_eq s.actor 0) (nat_eq s.stamp first && is_done s.reply) (eq-eqb s.actor 0 actor) (and_is (nat_eq s.stamp first) (is_done s.reply) (eq-eqb s.stamp first at) done)) refl
+    (and_is (nat_eq s.actor 0) (nat_eq s.stamp first && is_done s.reply) (eq-eqb s.actor 0 actor)
+    (and_is (nat_eq s.stamp first) (is_done s.reply) (eq-eqb s.stamp first at) done)) refl
 are_stamped-push first (x ∷ xs) s all actor stamp reply =
     let p = both _ _ all in
     and_is _ _ p.0 (are_stamped-push (suc first) xs s p.1 actor (omega arith) reply)
@@ -136,7 +149,8 @@ step_is s stamp actor at reply call =
     ∙ ap (λ (x : Reply). record { actor = 0; object = Cpu 0; stamp = stamp; op = Add (record { 0 = 0 }) [] (pos 1); reply = x }) reply
 
 -- the run of one event more counts one more
-pub CountsTo-run : (n : ℕ) (payload : List ℕ) (old new : List Step) (count : ℕ) → CountsTo n old → IsTrue (are_stamped 1 new) → Whole (event_run payload) old new (Ok (record { instructions = count })) → CountsTo (n + 1) new
+pub CountsTo-run : (n : ℕ) (payload : List ℕ) (old new : List Step) (count : ℕ) → CountsTo n old → IsTrue (are_stamped 1 new)
+    → Whole (event_run payload) old new (Ok (record { instructions = count })) → CountsTo (n + 1) new
 CountsTo-run n payload old new count counts stamped w =
     let one = makes_one payload w.made count w.runs in
     let grew : new ≡ old ++ one.step ∷ [] = w.grew ∙ ap (λ l. old ++ l) one.alone in
@@ -147,7 +161,8 @@ CountsTo-run n payload old new count counts stamped w =
     let is : one.step ≡ count_step (n + 1) = step_is one.step (n + 1) (eqb-true one.step.actor 0 a.0) at (is_done_is one.step.reply b.1) one.call in
     subst (λ (l : List Step). CountsTo (n + 1) l) (sym (grew ∙ ap (λ (s : Step). old ++ s ∷ []) is)) (one_more n old counts)
 
-AreRunsOver-push : (payloads : List (List ℕ)) (payload : List ℕ) (runs : List EventRun) (run : EventRun) → AreRunsOver payloads runs → Runs (event_run payload) run.steps (Ok (record { instructions = run.instructions })) → AreRunsOver (payloads ++ payload ∷ []) (runs ++ run ∷ [])
+AreRunsOver-push : (payloads : List (List ℕ)) (payload : List ℕ) (runs : List EventRun) (run : EventRun) → AreRunsOver payloads runs
+    → Runs (event_run payload) run.steps (Ok (record { instructions = run.instructions })) → AreRunsOver (payloads ++ payload ∷ []) (runs ++ run ∷ [])
 AreRunsOver-push [] payload [] run all one = (one, tt)
 AreRunsOver-push [] payload (r ∷ rs) run all one = absurd all
 AreRunsOver-push (p ∷ ps) payload [] run all one = absurd all
@@ -158,7 +173,8 @@ pub no_runs : IsSumOfRuns [] [] 0
 no_runs = record { runs = []; over = tt; joined = refl; summed = refl }
 
 -- one run more
-pub IsSumOfRuns-push : (payloads : List (List ℕ)) (payload : List ℕ) (old new : List Step) (sum count : ℕ) → IsSumOfRuns payloads old sum → Whole (event_run payload) old new (Ok (record { instructions = count })) → IsSumOfRuns (payloads ++ payload ∷ []) new (sum + count)
+pub IsSumOfRuns-push : (payloads : List (List ℕ)) (payload : List ℕ) (old new : List Step) (sum count : ℕ) → IsSumOfRuns payloads old sum
+    → Whole (event_run payload) old new (Ok (record { instructions = count })) → IsSumOfRuns (payloads ++ payload ∷ []) new (sum + count)
 IsSumOfRuns-push payloads payload old new sum count so_far w =
     let run : EventRun = record { steps = w.made; instructions = count } in
     record {
@@ -171,7 +187,8 @@ IsSumOfRuns-push payloads payload old new sum count so_far w =
       summed = omega (arith, so_far.summed, sum_by-append (λ (r : EventRun). r.instructions) so_far.runs (run ∷ []));
     }
 
-six_in_all : (payloads : List (List ℕ)) (runs : List EventRun) → AreRunsOver payloads runs → sum_by (λ (r : EventRun). r.instructions) runs ≡ 6 * length (flat_map (λ (r : EventRun). r.steps) runs)
+six_in_all : (payloads : List (List ℕ)) (runs : List EventRun) → AreRunsOver payloads runs
+    → sum_by (λ (r : EventRun). r.instructions) runs ≡ 6 * length (flat_map (λ (r : EventRun). r.steps) runs)
 six_in_all [] [] all = refl
 six_in_all [] (r ∷ rs) all = absurd all
 six_in_all (p ∷ ps) [] all = absurd all
@@ -179,9 +196,11 @@ six_in_all (p ∷ ps) (r ∷ rs) all =
     let one = makes_one p r.steps r.instructions all.0 in
     let rest : sum_by (λ (x : EventRun). x.instructions) rs ≡ 6 * length (flat_map (λ (x : EventRun). x.steps) rs) = six_in_all ps rs all.1 in
     let first : length r.steps ≡ 1 = ap length one.alone in
-    let all_steps : length (r.steps ++ flat_map (λ (x : EventRun). x.steps) rs) ≡ length r.steps + length (flat_map (λ (x : EventRun). x.steps) rs) = length-append r.steps (flat_map (λ (x : EventRun). x.steps) rs) in
+    let all_steps : length (r.steps ++ flat_map (λ (x : EventRun). x.steps) rs) ≡ length r.steps + length
+    (flat_map (λ (x : EventRun). x.steps) rs) = length-append r.steps (flat_map (λ (x : EventRun). x.steps) rs) in
     let first_six : r.instructions ≡ 6 = one.six in
-    let split : sum_by (λ (x : EventRun). x.instructions) (r ∷ rs) ≡ (0 + r.instructions) + sum_by (λ (x : EventRun). x.instructions) rs = sum_by-append (λ (x : EventRun). x.instructions) (r ∷ []) rs in
+    let split : sum_by (λ (x : EventRun). x.instructions) (r ∷ rs) ≡ (0 + r.instructions) + sum_by (λ (x : EventRun). x.instructions) rs = sum_by-append
+    (λ (x : EventRun). x.instructions) (r ∷ []) rs in
     let more : sum_by (λ (x : EventRun). x.instructions) (r ∷ rs) ≡ 6 * length (r.steps ++ flat_map (λ (x : EventRun). x.steps) rs) = omega arith in
     more
 
@@ -190,6 +209,8 @@ pub six_a_step : (payloads : List (List ℕ)) (steps : List Step) (n : ℕ) → 
 six_a_step payloads steps n sum = sum.summed ∙ six_in_all payloads sum.runs sum.over ∙ ap (λ (l : List Step). 6 * length l) (sym sum.joined)
 
 -- the port's steps stay stamped, whether one was added or not
-pub stamped_after : (old new : List Step) (step : Step) (r : Result (Unit {0}) MemoryError) → OnOk r (new ≡ old ++ step ∷ []) → OnErr r (new ≡ old) → IsTrue (are_stamped 1 old) → step.actor ≡ 0 → step.stamp ≡ length old + 1 → step.reply ≡ Done → IsTrue (are_stamped 1 new)
-stamped_after old new step (Ok u) ok err all actor stamp reply = subst (λ (l : List Step). IsTrue (are_stamped 1 l)) (sym ok) (are_stamped-push 1 old step all actor stamp reply)
+pub stamped_after : (old new : List Step) (step : Step) (r : Result (Unit {0}) MemoryError) → OnOk r (new ≡ old ++ step ∷ []) → OnErr r (new ≡ old)
+    → IsTrue (are_stamped 1 old) → step.actor ≡ 0 → step.stamp ≡ length old + 1 → step.reply ≡ Done → IsTrue (are_stamped 1 new)
+stamped_after old new step (Ok u) ok err all actor stamp reply =
+    subst (λ (l : List Step). IsTrue (are_stamped 1 l)) (sym ok) (are_stamped-push 1 old step all actor stamp reply)
 stamped_after old new step (Err e) ok err all actor stamp reply = subst (λ (l : List Step). IsTrue (are_stamped 1 l)) (sym err) all

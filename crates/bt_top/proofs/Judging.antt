@@ -3,6 +3,7 @@ use Rattle.std.proofs.Common.{◌≡◌, ◌≢◌, ℕ, suc, ◌+◌, ◌*◌, 
 use Rattle.std.specs.Prelude.{Option, Some, None, Result, Ok, Err, IfOk, IfErr, IfSome, IsSome, IsSomeAnd, unwrap_or, replicate}
 use Rattle.std.proofs.lemmas.List.{length-replicate}
 use Rattle.bt_core.specs.declared.limits.TheConstants.{SCRIPT_BYTES, RECORDING_BYTES}
+use Rattle.bt_io.specs.Faults.{Rose}
 use Rattle.bt_io.specs.declared.shelf.ShelfError.{ShelfError}
 use Rattle.bt_io.specs.declared.shelf.ShelfError.TheVariants as shelf
 use Rattle.bt_top.specs.declared.judge.Counting.{Counting}
@@ -16,8 +17,17 @@ use Rattle.bt_top.specs.declared.refusal.Refusal.TheVariants.{Usage, Script, Rec
 use Rattle.bt_top.specs.Count.{payloads_of, IsWorkOf}
 use Rattle.bt_top.specs.Lines.{SinkUse, SinkFailed}
 use Rattle.bt_top.specs.Refusals.{status_of, read_refusal}
-use Rattle.bt_top.specs.Serve.{Files, AreShort, IsAsked, IsDue, ShelfUse, ShelfFailed, AreHeld, MayCome, HasWork, IsWorkFor, Answers, MayStandFor, ComesIfDue, IsComplete, OnBoth, OnTold, IsDueRefusal, Reads, refusal_in}
+use Rattle.bt_top.specs.Serve.{Files, AreShort, IsAsked, IsAccepted, IsDue, ShelfUse, ShelfFailed, AreHeld, MayCome, HasWork, IsWorkFor, Answers, MayStandFor}
+use Rattle.bt_top.specs.Serve.{ComesIfDue, IsComplete, OnBoth, OnTold, IsDueRefusal, Reads, refusal_in}
 use Rattle.bt_top.specs.Words.{Operands, Order, Run, operands_of}
+
+-- a count that rose in a part of a call rose in the call
+pub rose_from : (before between after : ℕ) → before ≤ between → Rose between after → Rose before after
+rose_from before between after later rose = omega (arith, later, rose)
+
+-- two errors of a read that are equal
+pub read_error : {A : Type 0} {a b : ShelfError} → a ≡ b → ◌≡◌ {A = Result A ShelfError} (Err a) (Err b)
+read_error e = ap (λ (x : ShelfError). Err x) e
 
 -- ---- files of which the shelf may tell nothing
 
@@ -29,8 +39,8 @@ held_or (Some bytes) other = refl
 long_list : (n : ℕ) → (bytes : List ℕ) × (n < length bytes)
 long_list n = (replicate (suc n) 0, is_longer n)
   where
-    is_longer : (k : ℕ) → k < length (replicate (suc k) 0)
-    is_longer k = omega (arith, length-replicate (suc k) 0)
+    is_longer : (k : ℕ) → k < length {A = ℕ} (replicate (suc k) 0)
+    is_longer k = omega (arith, length-replicate {A = ℕ} (suc k) 0)
 
 long_or : (n : ℕ) (told : Option (List ℕ)) → IfSome told (λ bytes. n < length bytes) → n < length (unwrap_or told (long_list n).0)
 long_or n None long = (long_list n).1
@@ -50,7 +60,8 @@ script_unread names seen error failed long = record {
   where
     came : (error : ShelfError) → (error ≡ shelf.Failed → ShelfFailed seen)
         → (error ≡ shelf.TooLong → IfSome (seen.held names.script) (λ bytes. SCRIPT_BYTES < length bytes))
-        → MayCome (record { script = unwrap_or (seen.held names.script) (long_list SCRIPT_BYTES).0; recording = unwrap_or (seen.held names.recording) [] }) (ShelfFailed seen) ⊥ (Some (read_refusal operand.Script error))
+        → MayCome (record { script = unwrap_or (seen.held names.script) (long_list SCRIPT_BYTES).0; recording = unwrap_or (seen.held names.recording) [] })
+        (ShelfFailed seen) ⊥ (Some (read_refusal operand.Script error))
     came shelf.Failed failed long = failed refl
     came shelf.TooLong failed long = long_or SCRIPT_BYTES (seen.held names.script) (long refl)
     came shelf.Memory failed long = tt
@@ -70,7 +81,8 @@ recording_unread names seen bytes error here short failed long = record {
   where
     came : (error : ShelfError) → (error ≡ shelf.Failed → ShelfFailed seen)
         → (error ≡ shelf.TooLong → IfSome (seen.held names.recording) (λ told. RECORDING_BYTES < length told))
-        → MayCome (record { script = bytes; recording = unwrap_or (seen.held names.recording) (long_list RECORDING_BYTES).0 }) (ShelfFailed seen) ⊥ (Some (read_refusal operand.Recording error))
+        → MayCome (record { script = bytes; recording = unwrap_or (seen.held names.recording) (long_list RECORDING_BYTES).0 }) (ShelfFailed seen) ⊥
+        (Some (read_refusal operand.Recording error))
     came shelf.Failed failed long = (failed refl, short)
     came shelf.TooLong failed long = (short, long_or RECORDING_BYTES (seen.held names.recording) (long refl))
     came shelf.Memory failed long = tt
@@ -79,7 +91,8 @@ recording_unread names seen bytes error here short failed long = record {
 pub both_read : (names : Operands) (seen : ShelfUse) (files : Files) (answer : Result Counting Refusal)
     → IfSome (seen.held names.script) (λ told. files.script ≡ told) → IfSome (seen.held names.recording) (λ told. files.recording ≡ told) → AreShort files
     → IfOk answer (λ counting. IsAsked files counting.recording counting.format) → IfErr answer (IsDueRefusal files) → Reads (Run names) seen answer
-both_read names seen files (Ok counting) first second short asked refused = record { files = files; held = record { script = first; recording = second }; asked = (short, asked); came = tt }
+both_read names seen files (Ok counting) first second short asked refused =
+    record { files = files; held = record { script = first; recording = second }; asked = (short, asked); came = tt }
 both_read names seen files (Err refusal) first second short asked refused =
     record { files = files; held = record { script = first; recording = second }; asked = tt; came = came refusal refused }
   where
@@ -102,16 +115,19 @@ pub on_both : (script recording : Option (List ℕ)) (files : Files) (P : Files 
 on_both None recording files P first second p = tt
 on_both (Some a) None files P first second p = tt
 on_both (Some a) (Some b) files P first second p =
-    subst (λ (x : List ℕ). P (record { script = x; recording = b })) first (subst (λ (x : List ℕ). P (record { script = files.script; recording = x })) second p)
+    subst (λ (x : List ℕ). P (record { script = x; recording = b })) first
+    (subst (λ (x : List ℕ). P (record { script = files.script; recording = x })) second p)
 
 -- ---- the whole call
 
 -- what is refused at the reads or before is answered so
 pub refused_answer : (order : Order) (seen : ShelfUse) (out : SinkUse) (refusal : Refusal) (status : ℕ)
     → Reads order seen (Err refusal) → Answers order seen out (record { status = status; refusal = Some refusal; work = None })
-refused_answer order seen out refusal status reads = record { files = reads.files; held = reads.held; came = came refusal reads.came; worked = worked refusal reads.came }
+refused_answer order seen out refusal status reads =
+    record { files = reads.files; held = reads.held; came = came refusal reads.came; worked = worked refusal reads.came }
   where
-    came : (refusal : Refusal) → MayCome reads.files (ShelfFailed seen) ⊥ (Some refusal) → MayCome reads.files (ShelfFailed seen) (SinkFailed out) (Some refusal)
+    came : (refusal : Refusal) → MayCome reads.files (ShelfFailed seen) ⊥ (Some refusal)
+        → MayCome reads.files (ShelfFailed seen) (SinkFailed out) (Some refusal)
     came Usage may = may
     came (Script why) may = may
     came (Recording why) may = may
@@ -142,6 +158,7 @@ worked_answer order seen out status refusal counting work reads counted ends = r
   worked = λ has. record { accepted = accepted; counted = counted };
 }
   where
+    accepted : IsAccepted reads.files
     accepted = record { says = counting.recording; place = counting.format; asked = reads.asked.1 }
 
     due : IsDue reads.files None
@@ -153,7 +170,8 @@ pub is_complete : (order : Order) (seen : ShelfUse) (out : SinkUse) (report : Re
     → OnTold (Some order) seen.held (IsComplete (ShelfFailed seen) (SinkFailed out) report.status)
 is_complete order seen out report status answers exact = both (seen.held (operands_of order).script) (seen.held (operands_of order).recording) exact
   where
-    ends : (refusal : Option Refusal) → report.status ≡ status_of refusal → MayCome answers.files (ShelfFailed seen) (SinkFailed out) refusal → ¬ ShelfFailed seen → ¬ SinkFailed out
+    ends : (refusal : Option Refusal) → report.status ≡ status_of refusal → MayCome answers.files (ShelfFailed seen) (SinkFailed out) refusal
+        → ¬ ShelfFailed seen → ¬ SinkFailed out
         → (refusal ≡ None) ⊎ MayStandFor refusal None → (report.status ≡ 0) ⊎ (report.status ≡ 6)
     ends None is may no_read no_write due = inl is
     ends (Some Memory) is may no_read no_write due = inr is

@@ -1,6 +1,7 @@
 -- Pieces that are written one after another.
-use Rattle.std.proofs.Common.{◌≡◌, ℕ, zero, suc, ◌+◌, ◌<◌, ◌≤◌, List, [], ◌∷◌, ◌++◌, refl, sym, ap, subst, ◌∙◌, arith, append_assoc, length-append, take, drop, length, get_or, codes}
-use Rattle.std.specs.Prelude.{Option, Some, None, Result, Ok, Err, map}
+use Rattle.std.proofs.Common.{◌≡◌, ℕ, zero, suc, ◌+◌, ◌<◌, ◌≤◌, List, [], ◌∷◌, ◌++◌, refl, sym, ap, subst, ◌∙◌, arith, append_assoc, length-append, take}
+use Rattle.std.proofs.Common.{drop, length, get_or, codes}
+use Rattle.std.specs.Prelude.{Option, Some, None, Result, Ok, Err, OnErr, map}
 use Rattle.std.specs.Io.KnownBytes.{Appends}
 use Rattle.std.specs.List.{flat_map}
 use Rattle.std.proofs.lemmas.List.{take-append-le, append-nil}
@@ -38,40 +39,25 @@ split (q ∷ pieces) (suc i) piece d lt is =
     ∙ ap (λ (l : List ℕ). bytes_of q ++ l) (split pieces i piece d (omega arith) is)
     ∙ sym (append_assoc (bytes_of q) (all_bytes (take i pieces)) (bytes_of piece ++ line_bytes (map piece_by (drop (suc i) pieces))))
 
--- one piece more
-more : (pieces : List Written) (i : ℕ) (piece d : Written) → i < length pieces → piece ≡ get_or pieces i d
-    → all_bytes (take (suc i) pieces) ≡ all_bytes (take i pieces) ++ bytes_of piece
-more [] i piece d lt is = absurd (omega arith)
-more (q ∷ pieces) zero piece d lt is = append-nil (bytes_of q) ∙ ap bytes_of (sym is)
-more (q ∷ pieces) (suc i) piece d lt is =
-    ap (λ (l : List ℕ). bytes_of q ++ l) (more pieces i piece d (omega arith) is)
-    ∙ sym (append_assoc (bytes_of q) (all_bytes (take i pieces)) (bytes_of piece))
+pub on_err : {T E : Type 0} (r : Result T E) (P : Type 0) → P → OnErr r P
+on_err (Ok x) P p = tt
+on_err (Err e) P p = p
 
-pub nothing_yet : (a : Option (List ℕ)) (pieces : List Written) → Appends a a (all_bytes (take 0 pieces))
-nothing_yet None pieces = tt
-nothing_yet (Some xs) pieces = sym (append-nil xs)
+pub on_err-map : {T E : Type 0} (r : Result T E) (P Q : Type 0) → (P → Q) → OnErr r P → OnErr r Q
+on_err-map (Ok x) P Q f p = tt
+on_err-map (Err e) P Q f p = f p
 
-pub goes_on : (a b c : Option (List ℕ)) (pieces : List Written) (i : ℕ) (piece d : Written) → i < length pieces → piece ≡ get_or pieces i d
-    → Appends a b (all_bytes (take i pieces)) → Appends b c (bytes_of piece) → Appends a c (all_bytes (take (i + 1) pieces))
-goes_on a b c pieces i piece d lt is before here =
-    let next : i + 1 ≡ suc i = omega arith in
-    rw next (subst (λ l. Appends a c l) (sym (more pieces i piece d lt is)) (Appends-then a b c _ _ before here))
-
-pub stops : (a b c : Option (List ℕ)) (pieces : List Written) (i : ℕ) (piece d : Written) → i < length pieces → piece ≡ get_or pieces i d
-    → Appends a b (all_bytes (take i pieces)) → AppendsPart b c (bytes_of piece) → AppendsPart a c (line_bytes (map piece_by pieces))
-stops a b c pieces i piece d lt is before part =
-    subst (λ l. AppendsPart a c l) (sym (split pieces i piece d lt is)) (after a b c _ _ before (AppendsPart-front b c (bytes_of piece) _ part))
+pub stops : (a b c : Option (List ℕ)) (pieces : List Written) (i : ℕ) (d : Written) → i < length pieces
+    → Appends a b (all_bytes (take i pieces)) → AppendsPart b c (bytes_of (get_or pieces i d)) → AppendsPart a c (line_bytes (map piece_by pieces))
+stops a b c pieces i d lt before part =
+    subst (λ l. AppendsPart a c l) (sym (split pieces i (get_or pieces i d) d lt refl))
+    (after a b c _ _ before (AppendsPart-front b c (bytes_of (get_or pieces i d)) _ part))
 
 taken_all : (pieces : List Written) (i : ℕ) → length pieces ≤ i → take i pieces ≡ pieces
 taken_all [] zero past = refl
 taken_all [] (suc i) past = refl
 taken_all (q ∷ pieces) zero past = absurd (omega arith)
 taken_all (q ∷ pieces) (suc i) past = ap (λ (l : List Written). q ∷ l) (taken_all pieces i (omega arith))
-
-pub ends : (a b c : Option (List ℕ)) (pieces : List Written) (i : ℕ) → length pieces ≤ i
-    → Appends a b (all_bytes (take i pieces)) → Appends b c (codes "\n") → Appends a c (line_bytes (map piece_by pieces))
-ends a b c pieces i past before here =
-    Appends-then a b c (all_bytes pieces) (codes "\n") (subst (λ (l : List Written). Appends a b (all_bytes l)) (taken_all pieces i past) before) here
 
 pub ends_early : (a b c : Option (List ℕ)) (pieces : List Written) (i : ℕ) → length pieces ≤ i
     → Appends a b (all_bytes (take i pieces)) → AppendsPart b c (codes "\n") → AppendsPart a c (line_bytes (map piece_by pieces))

@@ -1,5 +1,6 @@
 -- The payloads of a format's events, event by event.
-use Rattle.std.proofs.Common.{◌≡◌, ℕ, zero, suc, ◌+◌, ◌<◌, ◌≤◌, ◌^◌, Bool, true, false, List, [], ◌∷◌, ◌++◌, length, take, get_or, refl, sym, ap, subst, ◌∙◌, arith, append-nil, length-append}
+use Rattle.std.proofs.Common.{◌≡◌, ℕ, zero, suc, ◌+◌, ◌<◌, ◌≤◌, ◌^◌, Bool, true, false, List, [], ◌∷◌, ◌++◌, length, take, get_or, refl, sym, ap, subst, ◌∙◌}
+use Rattle.std.proofs.Common.{arith, append-nil, length-append}
 use Rattle.std.specs.Prelude.{IsTrue, Some, Ok, map, filter, nat_eq, slice_get, not}
 use Rattle.std.specs.List.{flat_map, AllByRecursion}
 use Rattle.std.proofs.lemmas.Bool.{eq-eqb, eqb-true}
@@ -10,6 +11,7 @@ use Rattle.rec_format.specs.declared.recording.Recording.{Recording}
 use Rattle.rec_format.specs.declared.recording.CpuTrack.{CpuTrack}
 use Rattle.rec_format.specs.declared.recording.Event.{Event}
 use Rattle.rec_format.specs.Recordings.{IsValidRecording, IsEvent, AreTracks}
+use Rattle.bt_core.specs.declared.limits.TheConstants.{EVENTS}
 use Rattle.bt_core.specs.declared.step.Step.{Step}
 use Rattle.bt_core.specs.Interaction.{Whole}
 use Rattle.bt_top.specs.Code.{are_stamped}
@@ -29,18 +31,21 @@ payloads_at-other : (place : ℕ) (e : Event) (test : Bool) → nat_eq e.format 
 payloads_at-other place e test is fails = rw (is ∙ fails) refl
 
 -- an event of the format
-pub payloads_at-more : (place : ℕ) (events : List Event) (i : ℕ) (e d : Event) → i < length events → e ≡ get_or events i d → e.format ≡ place → payloads_at place (take (i + 1) events) ≡ payloads_at place (take i events) ++ e.payload ∷ []
+pub payloads_at-more : (place : ℕ) (events : List Event) (i : ℕ) (e d : Event) → i < length events → e ≡ get_or events i d → e.format ≡ place
+    → payloads_at place (take (i + 1) events) ≡ payloads_at place (take i events) ++ e.payload ∷ []
 payloads_at-more place events i e d inside is same =
     ap (λ (l : List Event). payloads_at place l) (take_more events i d inside ∙ ap (λ (x : Event). take i events ++ x ∷ []) (sym is))
     ∙ payloads_at-append place (take i events) (e ∷ [])
     ∙ ap (λ (l : List (List ℕ)). payloads_at place (take i events) ++ l) (payloads_at-own place e true (eq-eqb e.format place same) refl)
 
 -- an event of another format
-pub payloads_at-same : (place : ℕ) (events : List Event) (i : ℕ) (e d : Event) → i < length events → e ≡ get_or events i d → (e.format ≡ place → ⊥) → payloads_at place (take (i + 1) events) ≡ payloads_at place (take i events)
+pub payloads_at-same : (place : ℕ) (events : List Event) (i : ℕ) (e d : Event) → i < length events → e ≡ get_or events i d → (e.format ≡ place → ⊥)
+    → payloads_at place (take (i + 1) events) ≡ payloads_at place (take i events)
 payloads_at-same place events i e d inside is differs =
     ap (λ (l : List Event). payloads_at place l) (take_more events i d inside ∙ ap (λ (x : Event). take i events ++ x ∷ []) (sym is))
     ∙ payloads_at-append place (take i events) (e ∷ [])
-    ∙ ap (λ (l : List (List ℕ)). payloads_at place (take i events) ++ l) (payloads_at-other place e _ refl (is_false (nat_eq e.format place) (λ h. differs (eqb-true e.format place h))))
+    ∙ ap (λ (l : List (List ℕ)). payloads_at place (take i events) ++ l)
+    (payloads_at-other place e _ refl (is_false (nat_eq e.format place) (λ h. differs (eqb-true e.format place h))))
     ∙ append-nil _
   where
     is_false : (b : Bool) → (b ≡ true → ⊥) → b ≡ false
@@ -50,12 +55,15 @@ payloads_at-same place events i e d inside is differs =
 -- there are no more payloads than events
 pub length-payloads_at-le : (place : ℕ) (events : List Event) → length (payloads_at place events) ≤ length events
 length-payloads_at-le place events =
-    let mapped : length (payloads_at place events) ≡ length (filter (λ (e : Event). nat_eq e.format place) events) = length-map (filter (λ (e : Event). nat_eq e.format place) events) (λ (e : Event). e.payload) in
-    let split : length (filter (λ (e : Event). nat_eq e.format place) events) + length (filter (λ (e : Event). not (nat_eq e.format place)) events) ≡ length events = length-filter_both (λ (e : Event). nat_eq e.format place) (λ (e : Event). not (nat_eq e.format place)) (λ e. refl) events in
+    let mapped : length (payloads_at place events) ≡ length (filter (λ (e : Event). nat_eq e.format place) events) = length-map
+    (filter (λ (e : Event). nat_eq e.format place) events) (λ (e : Event). e.payload) in
+    let split : length (filter (λ (e : Event). nat_eq e.format place) events) + length
+    (filter (λ (e : Event). not (nat_eq e.format place)) events) ≡ length events = length-filter_both (λ (e : Event). nat_eq e.format place)
+    (λ (e : Event). not (nat_eq e.format place)) (λ e. refl) events in
     omega arith
 
 -- nor before a place
-pub few_so_far : (place : ℕ) (events : List Event) (i : ℕ) → length events ≤ 1048576 → length (payloads_at place (take i events)) ≤ 1048576
+pub few_so_far : (place : ℕ) (events : List Event) (i : ℕ) → length events ≤ EVENTS → length (payloads_at place (take i events)) ≤ EVENTS
 few_so_far place events i few = omega (arith, length-payloads_at-le place (take i events), length-take i events)
 
 -- the events before a place were counted
@@ -64,20 +72,28 @@ pub record IsCountedTo (place : ℕ) (events : List Event) (i : ℕ) (steps : Li
   pub sums : IsSumOfRuns (payloads_at place (take i events)) steps instructions
 
 -- one event of the format more
-pub counted_own : (place : ℕ) (events : List Event) (i : ℕ) (e d : Event) (old new : List Step) (sum count : ℕ) → i < length events → e ≡ get_or events i d → e.format ≡ place
+pub counted_own : (place : ℕ) (events : List Event) (i : ℕ) (e d : Event) (old new : List Step) (sum count : ℕ) → i < length events → e ≡ get_or events i d
+    → e.format ≡ place
     → CountsTo (length (payloads_at place (take i events))) old → IsSumOfRuns (payloads_at place (take i events)) old sum
-    → IsTrue (are_stamped 1 new) → Whole (event_run e.payload) old new (Ok (record { instructions = count })) → IsCountedTo place events (i + 1) new (sum + count)
+    → IsTrue (are_stamped 1 new) → Whole (event_run e.payload) old new (Ok (record { instructions = count }))
+    → IsCountedTo place events (i + 1) new (sum + count)
 counted_own place events i e d old new sum count inside is same counts sums stamped w =
-    let more : payloads_at place (take (i + 1) events) ≡ payloads_at place (take i events) ++ e.payload ∷ [] = payloads_at-more place events i e d inside is same in
-    let long : length (payloads_at place (take i events)) + 1 ≡ length (payloads_at place (take (i + 1) events)) = omega (arith, ap (λ (l : List (List ℕ)). length l) more, length-append (payloads_at place (take i events)) (e.payload ∷ [])) in
+    let more : payloads_at place (take (i + 1) events) ≡ payloads_at place
+    (take i events) ++ e.payload ∷ [] = payloads_at-more place events i e d inside is same in
+    let long : length (payloads_at place (take i events)) + 1 ≡ length (payloads_at place (take (i + 1) events)) = omega
+    (arith, ap (λ (l : List (List ℕ)). length l) more, length-append (payloads_at place (take i events)) (e.payload ∷ [])) in
     record {
       counts = subst (λ (n : ℕ). CountsTo n new) long (CountsTo-run (length (payloads_at place (take i events))) e.payload old new count counts stamped w);
-      sums = subst (λ (l : List (List ℕ)). IsSumOfRuns l new (sum + count)) (sym more) (IsSumOfRuns-push (payloads_at place (take i events)) e.payload old new sum count sums w);
+      sums =
+          subst (λ (l : List (List ℕ)). IsSumOfRuns l new (sum + count)) (sym more)
+          (IsSumOfRuns-push (payloads_at place (take i events)) e.payload old new sum count sums w);
     }
 
 -- one event of another format more
-pub counted_other : (place : ℕ) (events : List Event) (i : ℕ) (e d : Event) (steps : List Step) (sum : ℕ) → i < length events → e ≡ get_or events i d → (e.format ≡ place → ⊥)
-    → CountsTo (length (payloads_at place (take i events))) steps → IsSumOfRuns (payloads_at place (take i events)) steps sum → IsCountedTo place events (i + 1) steps sum
+pub counted_other : (place : ℕ) (events : List Event) (i : ℕ) (e d : Event) (steps : List Step) (sum : ℕ) → i < length events → e ≡ get_or events i d
+    → (e.format ≡ place → ⊥)
+    → CountsTo (length (payloads_at place (take i events))) steps → IsSumOfRuns (payloads_at place (take i events)) steps sum
+    → IsCountedTo place events (i + 1) steps sum
 counted_other place events i e d steps sum inside is differs counts sums =
     let same : payloads_at place (take i events) ≡ payloads_at place (take (i + 1) events) = sym (payloads_at-same place events i e d inside is differs) in
     record {
@@ -91,7 +107,7 @@ all_events-one r track is = ap (λ (l : List CpuTrack). flat_map (λ (c : CpuTra
 
 -- what a valid recording of one CPU says of its events
 pub record AreOrdinary (events : List Event) : Type 0 where
-  pub few : length events ≤ 1048576
+  pub few : length events ≤ EVENTS
   pub short : (k : ℕ) (event : Event) → slice_get events k ≡ Some event → length event.payload < 2 ^ 32
 
 all_of : (P : Event → Type 0) (events : List Event) → AllByRecursion P events → (k : ℕ) (event : Event) → slice_get events k ≡ Some event → P event
@@ -107,7 +123,7 @@ ordinary_track r (c ∷ []) is one valid =
     let tracks = subst (λ (l : List CpuTrack). AreTracks r.formats r.start r.end l) is valid.cpus in
     let events : all_events r ≡ c.events = all_events-one r c is in
     let here : AreOrdinary c.events = record {
-      few = let total : 0 + length c.events ≤ 1048576 = tracks.few in omega arith;
+      few = omega (arith, tracks.few);
       short = λ k event e. (all_of (IsEvent r.formats) c.events tracks.each.0.events.each k event e).whole.payload;
     } in
     subst AreOrdinary (sym events) here

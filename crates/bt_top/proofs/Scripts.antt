@@ -1,9 +1,11 @@
 -- The tree of a script, and the format whose events it counts.
-use Rattle.std.proofs.Common.{◌≡◌, ◌≢◌, ℕ, ◌+◌, ◌<◌, ◌≤◌, Bool, true, false, List, length, get_or, Result, Ok, Err, refl, sym, ap, subst, ◌∙◌, arith, inl, inr}
+use Rattle.std.proofs.Common.{◌≡◌, ◌≢◌, ℕ, ◌+◌, ◌<◌, ◌≤◌, Bool, true, false, List, length, get_or, Result, Ok, Err, refl, sym, ap, subst, ◌∙◌, arith, inl}
+use Rattle.std.proofs.Common.{inr}
 use Rattle.std.specs.Prelude.{◌↔◌, ◌⊎◌, IsTrue, Option, Some, None, MatchOption, slice_get}
 use Rattle.std.proofs.lemmas.Bool.{cases_lt}
 use Rattle.std.proofs.lemmas.Option.{slice_get-get_or, get_or_from_slice_get, slice_get_within}
 use Rattle.tracefs_format.specs.declared.format.Format.{Format}
+use Rattle.tracefs_format.specs.ByName.{IsNamed}
 use Rattle.bt_lexer.specs.declared.error.LexError.{LexError}
 use Rattle.bt_lexer.specs.declared.error.LexError.TheVariants as lexical
 use Rattle.bt_core.specs.declared.place.Place.{Place}
@@ -17,7 +19,8 @@ use Rattle.bt_grammar.specs.Grammar.{IsTreeOf}
 use Rattle.bt_grammar.specs.Refusals.{IsAccepted as IsTree, IsRefusal}
 use Rattle.bt_grammar.specs.Tokens.{items}
 use Rattle.bt_top.specs.declared.refusal.ScriptFault.{ScriptFault}
-use Rattle.bt_top.specs.declared.refusal.ScriptFault.TheVariants.{BadCharacter, OpenString, OpenComment, NumberTooLarge, BadEscape, StringTooLong, Syntax, TooDeep, TooManyProbes}
+use Rattle.bt_top.specs.declared.refusal.ScriptFault.TheVariants.{BadCharacter, OpenString, OpenComment, NumberTooLarge, BadEscape, StringTooLong, Syntax}
+use Rattle.bt_top.specs.declared.refusal.ScriptFault.TheVariants.{TooDeep, TooManyProbes}
 use Rattle.bt_top.specs.declared.refusal.Refusal.{Refusal}
 use Rattle.bt_top.specs.declared.refusal.ScriptRefusal.TheVariants.{Fault}
 use Rattle.bt_top.specs.declared.refusal.Refusal.TheVariants.{Script, Memory}
@@ -61,7 +64,8 @@ no_tree text refusal tree laws (inr a) b =
 pub is_told : (text : List ℕ) (refusal : Refusal) → IsScriptFault text refusal → (f : ScriptFault) × (p : Place) × (refusal ≡ Script (Fault f p))
 is_told text refusal (inl h) = by_fault h.fault h.first h.told
   where
-    by_fault : (fault : LexError) → IsFirstFault text fault → refusal ≡ lexical_refusal text fault → (f : ScriptFault) × (p : Place) × (refusal ≡ Script (Fault f p))
+    by_fault : (fault : LexError) → IsFirstFault text fault → refusal ≡ lexical_refusal text fault → (f : ScriptFault) × (p : Place)
+        × (refusal ≡ Script (Fault f p))
     by_fault (lexical.BadChar at) first told = (BadCharacter, place_at text at, told)
     by_fault (lexical.OpenString at) first told = (OpenString, place_at text at, told)
     by_fault (lexical.OpenComment at) first told = (OpenComment, place_at text at, told)
@@ -71,7 +75,8 @@ is_told text refusal (inl h) = by_fault h.fault h.first h.told
     by_fault lexical.Memory first told = absurd first.5.2
 is_told text refusal (inr h) = by_fault h.fault h.first h.told
   where
-    by_fault : (fault : ParseError) → IsRefusal (items h.tokens) fault → refusal ≡ parse_refusal text h.tokens fault → (f : ScriptFault) × (p : Place) × (refusal ≡ Script (Fault f p))
+    by_fault : (fault : ParseError) → IsRefusal (items h.tokens) fault → refusal ≡ parse_refusal text h.tokens fault → (f : ScriptFault) × (p : Place)
+        × (refusal ≡ Script (Fault f p))
     by_fault (parsing.Syntax n) first told = (Syntax, place_of text (slice_get h.tokens n), told)
     by_fault (parsing.TooDeep n) first told = (TooDeep, place_of text (slice_get h.tokens n), told)
     by_fault (parsing.TooMany n) first told = (TooManyProbes, place_of text (slice_get h.tokens n), told)
@@ -82,27 +87,30 @@ pub lexical_told : (text : List ℕ) (error : LexError) → (error ≢ lexical.M
 lexical_told text lexical.Memory found = inl refl
 lexical_told text error found = inr (inl (record { fault = error; first = found (λ e. cc); told = refl }))
 
-pub parse_told : (text : List ℕ) (tokens : List Token) (error : ParseError) → IsTokensOf text tokens → (error ≢ parsing.Memory → IsRefusal (items tokens) error) → IsScriptRefusal text (parse_refusal text tokens error)
+pub parse_told : (text : List ℕ) (tokens : List Token) (error : ParseError) → IsTokensOf text tokens
+    → (error ≢ parsing.Memory → IsRefusal (items tokens) error) → IsScriptRefusal text (parse_refusal text tokens error)
 parse_told text tokens parsing.Memory are found = inl refl
 parse_told text tokens error are found = inr (inr (record { tokens = tokens; fault = error; are = are; first = found (λ e. cc); told = refl }))
 
 -- ---- the format of an event
 
 -- the event is of a format that it was compared with
-pub format_found : (event : EventName) (formats : List Format) (place : ℕ) (f d : Format) (test : Bool) → place < length formats → f ≡ get_or formats place d → IsTrue test ↔ ((event.system ≡ f.system) × (event.name ≡ f.layout.name)) → test ≡ true → IsFormatOf event formats place
+pub format_found : (event : EventName) (formats : List Format) (place : ℕ) (f d : Format) (test : Bool) → place < length formats → f ≡ get_or formats place d
+    → IsTrue test ↔ IsNamed f event.system event.name → test ≡ true → IsFormatOf event formats place
 format_found event formats place f d test inside is same holds =
-    let both = same.0 holds in
-    record { format = f; placed = slice_get-get_or formats place d inside ∙ ap (λ x. Some x) (sym is); system = both.0; name = both.1 }
+    record { format = f; placed = slice_get-get_or formats place d inside ∙ ap (λ x. Some x) (sym is); named = same.0 holds }
 
 -- it is of none before, and not of this one
-pub none_so_far : (event : EventName) (formats : List Format) (place : ℕ) (f d : Format) (test : Bool) → f ≡ get_or formats place d → IsTrue test ↔ ((event.system ≡ f.system) × (event.name ≡ f.layout.name)) → test ≡ false
+pub none_so_far : (event : EventName) (formats : List Format) (place : ℕ) (f d : Format) (test : Bool) → f ≡ get_or formats place d
+    → IsTrue test ↔ IsNamed f event.system event.name → test ≡ false
     → ((k : ℕ) → k < place → IsFormatOf event formats k → ⊥) → (k : ℕ) → k < place + 1 → IsFormatOf event formats k → ⊥
 none_so_far event formats place f d test is same fails below k lt of = elim (cases_lt k place) [
   | inl less ↦ below k less of
   | inr here ↦
       let e : k ≡ place = omega arith in
-      let other : of.format ≡ f = sym (get_or_from_slice_get formats place of.format d (subst (λ (i : ℕ). slice_get formats i ≡ Some of.format) e of.placed)) ∙ sym is in
-      let holds : IsTrue test = same.1 (of.system ∙ ap (λ (x : Format). x.system) other, of.name ∙ ap (λ (x : Format). x.layout.name) other) in
+      let other : of.format ≡ f = sym (get_or_from_slice_get formats place of.format d (subst (λ (i : ℕ). slice_get formats i ≡ Some of.format) e of.placed))
+      ∙ sym is in
+      let holds : IsTrue test = same.1 (subst (λ (x : Format). IsNamed x event.system event.name) other of.named) in
       false_is_not test fails holds
 ]
   where
@@ -111,7 +119,8 @@ none_so_far event formats place f d test is same fails below k lt of = elim (cas
     false_is_not false f h = cc
 
 -- there is no format past the last
-pub none_at_all : (event : EventName) (formats : List Format) (place : ℕ) → length formats ≤ place → ((k : ℕ) → k < place → IsFormatOf event formats k → ⊥) → (k : ℕ) → IsFormatOf event formats k → ⊥
+pub none_at_all : (event : EventName) (formats : List Format) (place : ℕ) → length formats ≤ place → ((k : ℕ) → k < place → IsFormatOf event formats k → ⊥)
+    → (k : ℕ) → IsFormatOf event formats k → ⊥
 none_at_all event formats place past below k of =
     let inside : k < length formats = slice_get_within formats k of.format of.placed in
     below k (omega arith) of
@@ -121,8 +130,10 @@ none_at_all event formats place past below k of =
 pub not_early : (tree : Tree) (formats : List Format) → event_of_tree tree ≡ None → (place : ℕ) → CountsFormat tree formats place → ⊥
 not_early tree formats none place counts = let e = is_event tree counts.event counts.early in cc
 
-counts_none : (tree : Tree) (event : EventName) (formats : List Format) → event_of_tree tree ≡ Some event → ((place : ℕ) → IsFormatOf event formats place → ⊥) → (place : ℕ) → CountsFormat tree formats place → ⊥
-counts_none tree event formats is none place counts = none place (subst (λ (x : EventName). IsFormatOf x formats place) (same counts.event (sym (is_event tree counts.event counts.early) ∙ is)) counts.of)
+counts_none : (tree : Tree) (event : EventName) (formats : List Format) → event_of_tree tree ≡ Some event → ((place : ℕ) → IsFormatOf event formats place → ⊥)
+    → (place : ℕ) → CountsFormat tree formats place → ⊥
+counts_none tree event formats is none place counts =
+    none place (subst (λ (x : EventName). IsFormatOf x formats place) (same counts.event (sym (is_event tree counts.event counts.early) ∙ is)) counts.of)
   where
     same : (other : EventName) → Some other ≡ Some event → other ≡ event
     same other e = cc

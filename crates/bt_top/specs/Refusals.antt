@@ -11,7 +11,8 @@ use Rattle.rec_format.specs.declared.error.RecordingError.TheVariants as fault
 use Rattle.bt_top.specs.declared.refusal.Operand.{Operand}
 use Rattle.bt_top.specs.declared.refusal.Operand.TheVariants as operand
 use Rattle.bt_top.specs.declared.refusal.ScriptFault.{ScriptFault}
-use Rattle.bt_top.specs.declared.refusal.ScriptFault.TheVariants.{BadCharacter, OpenString, OpenComment, NumberTooLarge, BadEscape, StringTooLong, Syntax, TooDeep, TooManyProbes}
+use Rattle.bt_top.specs.declared.refusal.ScriptFault.TheVariants.{BadCharacter, OpenString, OpenComment, NumberTooLarge, BadEscape, StringTooLong, Syntax}
+use Rattle.bt_top.specs.declared.refusal.ScriptFault.TheVariants.{TooDeep, TooManyProbes}
 use Rattle.bt_top.specs.declared.refusal.ScriptRefusal.{ScriptRefusal}
 use Rattle.bt_top.specs.declared.refusal.ScriptRefusal.TheVariants as script
 use Rattle.bt_top.specs.declared.refusal.RecordingRefusal.{RecordingRefusal}
@@ -59,6 +60,10 @@ rule_pieces (rule.Overlong line) = Text (codes "F4 overlong line ") ∷ Number l
 rule_pieces (rule.SameName line) = Text (codes "F5 same name line ") ∷ Number line ∷ []
 rule_pieces rule.Memory = Text (codes "out of memory") ∷ []
 
+-- the text of the format at a place breaks a rule
+abbrev pub format_pieces : ℕ → List Piece → List Piece
+format_pieces place rule = Text (codes "C4 format ") ∷ Number place ∷ Text (codes ": ") ∷ rule
+
 -- what is wrong with an event
 abbrev pub event_pieces : List ℕ → ℕ → ℕ → List Piece
 event_pieces what cpu event = Text what ∷ Text (codes " in event ") ∷ Number event ∷ Text (codes " of cpu ") ∷ Number cpu ∷ []
@@ -68,7 +73,7 @@ abbrev pub fault_pieces : RecordingError → List Piece
 fault_pieces (fault.Truncated offset) = Text (codes "C1 truncated at byte ") ∷ Number offset ∷ []
 fault_pieces fault.BadMagic = Text (codes "C2 bad magic") ∷ []
 fault_pieces (fault.Count what) = Text (codes "C3 bad count: ") ∷ Text (count_word what) ∷ []
-fault_pieces (fault.Format place broken) = Text (codes "C4 format ") ∷ Number place ∷ Text (codes ": ") ∷ rule_pieces broken
+fault_pieces (fault.Format place broken) = format_pieces place (rule_pieces broken)
 fault_pieces (fault.SameEvent place) = Text (codes "C5 same event in format ") ∷ Number place ∷ []
 fault_pieces (fault.CpuNumber cpu) = Text (codes "C6 bad cpu number at cpu ") ∷ Number cpu ∷ []
 fault_pieces (fault.TimeOrder cpu event) = event_pieces (codes "C7 time order") cpu event

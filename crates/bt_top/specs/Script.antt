@@ -2,6 +2,7 @@
 use Rattle.std.specs.Prelude.{◌≡◌, ℕ, Bool, false, ◌==◌, ◌⊎◌, List, [], ◌∷◌, codes, take, length, slice_get, Option, Some, None}
 use Rattle.std.specs.List.{list_any}
 use Rattle.tracefs_format.specs.declared.format.Format.{Format}
+use Rattle.tracefs_format.specs.ByName.{IsNamed}
 use Rattle.bt_lexer.specs.declared.error.LexError.{LexError}
 use Rattle.bt_lexer.specs.declared.error.LexError.TheVariants as lexical
 use Rattle.bt_core.specs.declared.place.Place.{Place}
@@ -20,7 +21,8 @@ use Rattle.bt_grammar.specs.declared.error.ParseError.{ParseError}
 use Rattle.bt_grammar.specs.declared.error.ParseError.TheVariants as parsing
 use Rattle.bt_grammar.specs.Refusals.{IsAccepted as IsTree, IsRefusal}
 use Rattle.bt_grammar.specs.Tokens.{items}
-use Rattle.bt_top.specs.declared.refusal.ScriptFault.TheVariants.{BadCharacter, OpenString, OpenComment, NumberTooLarge, BadEscape, StringTooLong, Syntax, TooDeep, TooManyProbes}
+use Rattle.bt_top.specs.declared.refusal.ScriptFault.TheVariants.{BadCharacter, OpenString, OpenComment, NumberTooLarge, BadEscape, StringTooLong, Syntax}
+use Rattle.bt_top.specs.declared.refusal.ScriptFault.TheVariants.{TooDeep, TooManyProbes}
 use Rattle.bt_top.specs.declared.refusal.Refusal.{Refusal}
 use Rattle.bt_top.specs.declared.refusal.ScriptRefusal.TheVariants.{Fault}
 use Rattle.bt_top.specs.declared.refusal.Refusal.TheVariants.{Script, Memory}
@@ -112,8 +114,7 @@ pub record IsEarlyTree (tree : Tree) (event : EventName) : Type 0 where
 pub record IsFormatOf (event : EventName) (formats : List Format) (place : ℕ) : Type 0 where
   pub format : Format
   pub placed : slice_get formats place ≡ Some format
-  pub system : event.system ≡ format.system
-  pub name : event.name ≡ format.layout.name
+  pub named : IsNamed format event.system event.name
 
 -- the tree is early, and counts the events of the format at this place
 pub record CountsFormat (tree : Tree) (formats : List Format) (place : ℕ) : Type 0 where

@@ -1,5 +1,6 @@
 // Counting the events of a recording.
 ghost use Rattle.std.specs.Prelude.{◌≡◌, ◌<◌, ◌≤◌, ◌^◌, ℕ, Some, Ok, IfOk, length, slice_get};
+ghost use Rattle.bt_core.specs.declared.limits.TheConstants.{EVENTS};
 ghost use Rattle.bt_core.specs.Interaction.{Whole};
 ghost use Rattle.bt_top.specs.Code.{counting_code};
 ghost use Rattle.bt_top.specs.Runs.{event_run, IsSumOfRuns};
@@ -55,7 +56,7 @@ fn only_events(recording: &Recording) -> &[Event]
 /// Runs the code for each event of the format at this place, and answers the steps of the runs, and how
 /// many instructions they took in all.
 fn run_events(alloc: Global, events: &[Event], format: usize) -> Result<(Items<Step>, u64), Memory>
-    requires few { length events.now ≤ 1048576 }
+    requires few { length events.now ≤ EVENTS }
     requires short { (k : ℕ) (event : Event) → slice_get events.now k ≡ Some event → length event.payload < 2 ^ 32 }
     ensures steps { IfOk result (λ ran. CountsTo (length (payloads_at format events.now)) ran.0) }
     ensures runs { IfOk result (λ ran. IsSumOfRuns (payloads_at format events.now) ran.0 ran.1) }

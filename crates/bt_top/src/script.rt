@@ -1,5 +1,5 @@
 // The trees of scripts, and those that run so far.
-ghost use Rattle.std.specs.Prelude.{◌≡◌, ◌≤◌, ◌↔◌, ℕ, IfErr, IfOk, IsTrue, MatchOption, None, Some, length, slice_get};
+ghost use Rattle.std.specs.Prelude.{◌≡◌, ◌≤◌, ℕ, IfErr, IfOk, MatchOption, None, Some, length, slice_get};
 ghost use Rattle.bt_lexer.specs.Places.{offset_of};
 ghost use Rattle.bt_top.specs.Script.{place_of, place_at, lexical_refusal, parse_refusal, HasTree, has_star, IsFormatOf, CountsFormat};
 ghost use Rattle.bt_top.specs.Early.{event_of_points, is_count, are_count, event_of_probe, event_of_tree};
@@ -62,7 +62,7 @@ fn place_of(text: &[u8], tokens: &[Token], number: u32) -> Place
 {
     match tokens.get(number as usize) {
         Some(token) => token.place,
-        None => line_column(text, text.len()),
+        None => place_at(text, text.len() as u64),
     }
 }
 
@@ -119,7 +119,8 @@ struct TracepointName<'t> {
 
 /// The event of one tracepoint without `*`.
 fn event_of_points(points: &[Point]) -> Option<TracepointName<'_>>
-    ensures { MatchOption result (event_of_points points.now ≡ None) (λ event. event_of_points points.now ≡ Some (record { system = event.system.now; name = event.name.now })) }
+    ensures { MatchOption result (event_of_points points.now ≡ None)
+        (λ event. event_of_points points.now ≡ Some (record { system = event.system.now; name = event.name.now })) }
 {
     match points {
         [Point::Tracepoint { system, name, .. }] => {
@@ -161,7 +162,8 @@ fn are_count(stmts: &[Stmt]) -> bool
 
 /// The event that a probe counts, where it does nothing else.
 fn event_of_probe(probe: &Probe) -> Option<TracepointName<'_>>
-    ensures { MatchOption result (event_of_probe probe.now ≡ None) (λ event. event_of_probe probe.now ≡ Some (record { system = event.system.now; name = event.name.now })) }
+    ensures { MatchOption result (event_of_probe probe.now ≡ None)
+        (λ event. event_of_probe probe.now ≡ Some (record { system = event.system.now; name = event.name.now })) }
 {
     if !are_count(probe.block.stmts.as_slice()) {
         return None;
@@ -174,7 +176,8 @@ fn event_of_probe(probe: &Probe) -> Option<TracepointName<'_>>
 
 /// The event that a script counts, where it does nothing else.
 fn event_of_tree(tree: &Script) -> Option<TracepointName<'_>>
-    ensures { MatchOption result (event_of_tree tree.now ≡ None) (λ event. event_of_tree tree.now ≡ Some (record { system = event.system.now; name = event.name.now })) }
+    ensures { MatchOption result (event_of_tree tree.now ≡ None)
+        (λ event. event_of_tree tree.now ≡ Some (record { system = event.system.now; name = event.name.now })) }
 {
     match tree.probes.as_slice() {
         [probe] => event_of_probe(probe),
@@ -182,19 +185,13 @@ fn event_of_tree(tree: &Script) -> Option<TracepointName<'_>>
     }
 }
 
-/// Whether an event of this system and name is of the format.
-fn is_of_format(system: &[u8], name: &[u8], format: &Format) -> bool
-    ensures { IsTrue result ↔ ((system.now ≡ format.now.system) × (name.now ≡ format.now.layout.name)) }
-{
-    system == format.system.as_slice() && name == format.layout.name.as_slice()
-}
-
 /// The place of the format of the event of this system and name.
 fn place_of_format(system: &[u8], name: &[u8], formats: &[Format]) -> Option<usize>
-    ensures { MatchOption result ((place : ℕ) → ¬ IsFormatOf (record { system = system.now; name = name.now }) formats.now place) (λ place. IsFormatOf (record { system = system.now; name = name.now }) formats.now place) }
+    ensures { MatchOption result ((place : ℕ) → ¬ IsFormatOf (record { system = system.now; name = name.now }) formats.now place)
+        (λ place. IsFormatOf (record { system = system.now; name = name.now }) formats.now place) }
 {
     for place in 0..formats.len() {
-        if is_of_format(system, name, &formats[place]) {
+        if formats[place].is_named(system, name) {
             return Some(place);
         }
     }

@@ -1,12 +1,12 @@
 // The top call.
 ghost use Rattle.std.specs.Prelude.{◌≡◌, ◌≢◌, ◌*◌, ◌⊎◌, ◌↔◌, ◌∷◌, [], length, Some, IfOk, IfErr, IfSome, IsNone, IsSome};
 ghost use Rattle.std.specs.Io.KnownBytes.{Keeps};
-ghost use Rattle.bt_core.specs.declared.limits.TheConstants.{SCRIPT_BYTES};
 ghost use Rattle.bt_io.specs.Faults.{Rose};
 ghost use Rattle.rec_format.specs.Recordings.{IsValidRecording};
 ghost use Rattle.bt_top.specs.Lines.{sink_use};
 ghost use Rattle.bt_top.specs.Refusals.{status_of};
-ghost use Rattle.bt_top.specs.Serve.{Answers, AsksExactly, AsksFirst, ComesIfDue, IsAnswer, IsComplete, IsWritten, OnTold, Reads, Tells, bytes_written, refusal_in, shelf_use};
+ghost use Rattle.bt_top.specs.Serve.{Answers, AsksExactly, AsksFirst, ComesIfDue, IsAnswer, IsComplete, IsWritten, OnTold, Reads, Tells};
+ghost use Rattle.bt_top.specs.Serve.{bytes_written, refusal_in, shelf_use};
 ghost use Rattle.bt_top.specs.Words.{Run, named_by, names_of, order_of};
 
 use crate::count::work_of;
@@ -56,12 +56,18 @@ fn refused(refusal: Refusal) -> Report
 }
 
 /// Counts the events and writes how many they are.
-fn run<S: Shelf, K: Sink>(alloc: Global, named: &Named<'_>, shelf: &mut S, out: &mut K) -> Report
+fn run_files<S: Shelf, K: Sink>(
+    alloc: Global,
+    named: &Named<'_>,
+    shelf: &mut S,
+    out: &mut K,
+) -> Report
     ensures status { result.status ≡ status_of result.refusal }
     ensures known { result.refusal ≢ Some Refusal.Usage }
     ensures asked { AsksFirst (S.asked shelf.old) (S.asked shelf.new) (names_of (Some (Run (named_by named.now)))) }
     ensures asked_exactly { AsksExactly (Some (Run (named_by named.now))) result.refusal (shelf_use S.held S.faults S.asked shelf.old shelf.new) }
-    ensures answered { Answers (Run (named_by named.now)) (shelf_use S.held S.faults S.asked shelf.old shelf.new) (sink_use K.taken K.faults out.old out.new) result }
+    ensures answered { Answers (Run (named_by named.now)) (shelf_use S.held S.faults S.asked shelf.old shelf.new)
+        (sink_use K.taken K.faults out.old out.new) result }
     ensures exact { OnTold (Some (Run (named_by named.now))) (S.held shelf.old) (ComesIfDue result.refusal) }
     ensures worked { IsSome result.work → (result.status ≡ 0) ⊎ (result.status ≡ 5) }
     ensures six_each { IfSome result.work (λ work. work.instructions ≡ 6 * length work.steps) }
@@ -83,6 +89,24 @@ fn run<S: Shelf, K: Sink>(alloc: Global, named: &Named<'_>, shelf: &mut S, out: 
         refusal,
         work: Some(work),
     }
+}
+
+/// The same. Files that are accepted are answered so where no count of faults rises.
+fn run<S: Shelf, K: Sink>(alloc: Global, named: &Named<'_>, shelf: &mut S, out: &mut K) -> Report
+    ensures status { result.status ≡ status_of result.refusal }
+    ensures known { result.refusal ≢ Some Refusal.Usage }
+    ensures asked { AsksFirst (S.asked shelf.old) (S.asked shelf.new) (names_of (Some (Run (named_by named.now)))) }
+    ensures asked_exactly { AsksExactly (Some (Run (named_by named.now))) result.refusal (shelf_use S.held S.faults S.asked shelf.old shelf.new) }
+    ensures answered { Answers (Run (named_by named.now)) (shelf_use S.held S.faults S.asked shelf.old shelf.new)
+        (sink_use K.taken K.faults out.old out.new) result }
+    ensures exact { OnTold (Some (Run (named_by named.now))) (S.held shelf.old) (ComesIfDue result.refusal) }
+    ensures complete { OnTold (Some (Run (named_by named.now))) (S.held shelf.old)
+        (IsComplete (Rose (S.faults shelf.old) (S.faults shelf.new)) (Rose (K.faults out.old) (K.faults out.new)) result.status) }
+    ensures worked { IsSome result.work → (result.status ≡ 0) ⊎ (result.status ≡ 5) }
+    ensures six_each { IfSome result.work (λ work. work.instructions ≡ 6 * length work.steps) }
+    ensures written { IsWritten (sink_use K.taken K.faults out.old out.new) result.refusal (bytes_written (Some (Run (named_by named.now))) result.work) }
+{
+    run_files(alloc, named, shelf, out)
 }
 
 /// Does what the words ask for: `run SCRIPT RECORDING` counts those events of a recording of one CPU
@@ -115,9 +139,11 @@ pub fn serve<S: Shelf, K: Sink, E: Sink>(
     ensures asked_exactly { AsksExactly (order_of words.now) result.refusal (shelf_use S.held S.faults S.asked shelf.old shelf.new) }
 
     // What comes is due to the files, or is a fault before which nothing was due; at status 0 and 5 the work is the count of the events.
-    ensures answered { IsAnswer (order_of words.now) (shelf_use S.held S.faults S.asked shelf.old shelf.new) (sink_use K.taken K.faults out.old out.new) result }
+    ensures answered { IsAnswer (order_of words.now) (shelf_use S.held S.faults S.asked shelf.old shelf.new)
+        (sink_use K.taken K.faults out.old out.new) result }
     ensures exact { OnTold (order_of words.now) (S.held shelf.old) (ComesIfDue result.refusal) }
-    ensures complete { OnTold (order_of words.now) (S.held shelf.old) (IsComplete (Rose (S.faults shelf.old) (S.faults shelf.new)) (Rose (K.faults out.old) (K.faults out.new)) result.status) }
+    ensures complete { OnTold (order_of words.now) (S.held shelf.old)
+        (IsComplete (Rose (S.faults shelf.old) (S.faults shelf.new)) (Rose (K.faults out.old) (K.faults out.new)) result.status) }
     ensures worked { IsSome result.work → (result.status ≡ 0) ⊎ (result.status ≡ 5) }
     ensures six_each { IfSome result.work (λ work. work.instructions ≡ 6 * length work.steps) }
 

@@ -3,7 +3,8 @@ ghost use Rattle.std.specs.Prelude.{◌≡◌, ◌∷◌, [], codes};
 ghost use Rattle.rec_format.specs.declared.error.RecordingError.TheVariants as wrong;
 ghost use Rattle.bt_top.specs.declared.refusal.ScriptRefusal.TheVariants as refused;
 ghost use Rattle.bt_top.specs.Lines.{Writes, sink_use, Text, Number};
-ghost use Rattle.bt_top.specs.Refusals.{count_word, event_pieces, fault_pieces, name_of, recording_pieces, refusal_pieces, script_fault_text, script_pieces, usage_pieces};
+ghost use Rattle.bt_top.specs.Refusals.{count_word, event_pieces, fault_pieces, format_pieces, name_of};
+ghost use Rattle.bt_top.specs.Refusals.{recording_pieces, refusal_pieces, script_fault_text, script_pieces, usage_pieces};
 ghost use Rattle.bt_top.specs.Words.{named_by};
 
 use crate::line::{Piece, write_line};
@@ -53,29 +54,41 @@ fn name_of<'w>(named: &Named<'w>, operand: Operand) -> &'w str
     }
 }
 
+/// Tells that the text of a format breaks a rule.
+fn tell_rule<E: Sink>(err: &mut E, name: &str, place: u32, rule: &'static str)
+    ensures { Writes (sink_use E.taken E.faults err.old err.new) (Text name.now ∷ Text (codes ": ") ∷ format_pieces place (Text rule.now ∷ [])) }
+{
+    let colon = Piece::Text(": ");
+    let head = Piece::Text("C4 format ");
+    let place = Piece::Number(u64::from(place));
+    let rule = Piece::Text(rule);
+    write_line(err, &[Piece::Text(name), colon, head, place, colon, rule]);
+}
+
+/// Tells that the text of a format breaks a rule in a line.
+fn tell_rule_at<E: Sink>(err: &mut E, name: &str, place: u32, rule: &'static str, line: u32)
+    ensures { Writes (sink_use E.taken E.faults err.old err.new) (Text name.now ∷ Text (codes ": ") ∷ format_pieces place (Text rule.now ∷ Number line ∷ [])) }
+{
+    let name = Piece::Text(name);
+    let colon = Piece::Text(": ");
+    let head = Piece::Text("C4 format ");
+    let place = Piece::Number(u64::from(place));
+    let rule = Piece::Text(rule);
+    let line = Piece::Number(u64::from(line));
+    write_line(err, &[name, colon, head, place, colon, rule, line]);
+}
+
 /// Tells which rule the text of a format breaks, and its line where it has one.
 fn tell_format<E: Sink>(err: &mut E, name: &str, place: u32, rule: FormatError)
     ensures { Writes (sink_use E.taken E.faults err.old err.new) (Text name.now ∷ Text (codes ": ") ∷ fault_pieces (wrong.Format place rule)) }
 {
-    let name = Piece::Text(name);
-    let head = Piece::Text("C4 format ");
-    let colon = Piece::Text(": ");
-    let place = Piece::Number(u64::from(place));
-    let (rule, line) = match rule {
-        FormatError::NoName => ("F1 no name", None),
-        FormatError::BadId => ("F2 bad id", None),
-        FormatError::BadField(line) => ("F3 bad line ", Some(line)),
-        FormatError::Overlong(line) => ("F4 overlong line ", Some(line)),
-        FormatError::SameName(line) => ("F5 same name line ", Some(line)),
-        FormatError::Memory => ("out of memory", None),
-    };
-    let rule = Piece::Text(rule);
-    match line {
-        None => write_line(err, &[name, colon, head, place, colon, rule]),
-        Some(line) => {
-            let line = Piece::Number(u64::from(line));
-            write_line(err, &[name, colon, head, place, colon, rule, line])
-        }
+    match rule {
+        FormatError::NoName => tell_rule(err, name, place, "F1 no name"),
+        FormatError::BadId => tell_rule(err, name, place, "F2 bad id"),
+        FormatError::BadField(line) => tell_rule_at(err, name, place, "F3 bad line ", line),
+        FormatError::Overlong(line) => tell_rule_at(err, name, place, "F4 overlong line ", line),
+        FormatError::SameName(line) => tell_rule_at(err, name, place, "F5 same name line ", line),
+        FormatError::Memory => tell_rule(err, name, place, "out of memory"),
     }
 }
 

@@ -1,9 +1,9 @@
-//! Tests of the tokens, the trees and the texts of scripts.
+//! Tests of the tokens, the trees and the texts of scripts, with what was worked out by hand.
 #![tactic(auto)]
 
 #[cfg(test)]
-mod answers;
+mod lexing;
 #[cfg(test)]
-mod read_back;
+mod parsing;
 #[cfg(test)]
-mod trees;
+mod texts;

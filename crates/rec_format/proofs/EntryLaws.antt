@@ -1,5 +1,5 @@
 -- The entries of a CPU, of any kind: one more, the next one that fails, and reading them as a function of the bytes.
-use Rattle.std.proofs.Common.{◌≡◌, ◌⊎◌, ℕ, ◌+◌, ◌<◌, ◌≤◌, Bool, true, false, cond, ◌||◌, Option, Some, None, Result, Ok, Err, List, [], ◌∷◌, ◌++◌, length, refl, ap, sym, subst, ◌∙◌, arith, inl, inr}
+use Rattle.std.proofs.Common.{◌≡◌, ℕ, ◌+◌, ◌<◌, ◌≤◌, true, false, cond, ◌||◌, Option, Some, None, Result, Ok, Err, List, [], ◌∷◌, ◌++◌, length, refl, ap, sym, subst, ◌∙◌, arith, inl, inr}
 use Rattle.std.specs.Prelude.{nat_lt}
 use Rattle.std.specs.List.{AllByRecursion}
 use Rattle.std.proofs.lemmas.Bool.{ltb-false, le-ltb, or_parts}
@@ -8,7 +8,7 @@ use Rattle.rec_format.specs.declared.error.RecordingError.{RecordingError}
 use Rattle.rec_format.specs.declared.error.RecordingError.TheVariants as fault
 use Rattle.rec_format.specs.Entries.{EntryKind, entries_bytes, time_of, AreInTime, time_after, entry_fault, NextEntryFails, EntryFails, HasEntries}
 use Rattle.rec_format.specs.Recordings.{AreFormats}
-use Rattle.rec_format.proofs.Fields.{IsBytes, Takes}
+use Rattle.rec_format.proofs.Fields.{IsBytes}
 use Rattle.rec_format.proofs.Lists.{suffix_fits, each_more, spelled_more, length_more}
 use Rattle.rec_format.proofs.Many.{then_read, whole_part, unless_fault, many, Chain, many_all, many_fails}
 use Rattle.rec_format.proofs.PartLaws.{Reads, cut_short, refused, nothing_read}

@@ -417,32 +417,67 @@ fn each_check_tells_its_place(rt: HostRuntime) {
     }
 }
 
+/// Errors, each with the text by which it is told.
+const TOLD: [(RecordingError, &[u8]); 19] = [
+    (RecordingError::Truncated(911), b"C1 truncated at byte 911"),
+    (RecordingError::BadMagic, b"C2 bad magic"),
+    (RecordingError::Count(CountOf::Cpus), b"C3 bad count: cpus"),
+    (
+        RecordingError::Count(CountOf::Formats),
+        b"C3 bad count: formats",
+    ),
+    (
+        RecordingError::Count(CountOf::Events),
+        b"C3 bad count: events",
+    ),
+    (RecordingError::Count(CountOf::Span), b"C3 bad count: span"),
+    (
+        RecordingError::Format(2, FormatError::NoName),
+        b"C4 format 2: F1 no name",
+    ),
+    (
+        RecordingError::Format(2, FormatError::BadId),
+        b"C4 format 2: F2 bad id",
+    ),
+    (
+        RecordingError::Format(2, FormatError::BadField(4)),
+        b"C4 format 2: F3 bad line 4",
+    ),
+    (
+        RecordingError::Format(2, FormatError::Overlong(4)),
+        b"C4 format 2: F4 overlong line 4",
+    ),
+    (
+        RecordingError::Format(2, FormatError::SameName(5)),
+        b"C4 format 2: F5 same name line 5",
+    ),
+    (RecordingError::SameEvent(1), b"C5 same event in format 1"),
+    (RecordingError::CpuNumber(1), b"C6 bad cpu number at cpu 1"),
+    (
+        RecordingError::TimeOrder(1, 7),
+        b"C7 time order in event 7 of cpu 1",
+    ),
+    (
+        RecordingError::UnknownId(1, 7),
+        b"C8 unknown id in event 7 of cpu 1",
+    ),
+    (
+        RecordingError::ShortPayload(1, 7),
+        b"C9 short payload in event 7 of cpu 1",
+    ),
+    (
+        RecordingError::TrailingBytes(912),
+        b"C10 trailing bytes at byte 912",
+    ),
+    (RecordingError::BadSystem(3), b"C11 bad system in format 3"),
+    (RecordingError::Memory, b"out of memory"),
+];
+
 #[test]
 fn errors_are_told_by_their_codes(rt: HostRuntime) -> Result<(), Fail> {
-    let told = [
-        (RecordingError::Truncated(911), "C1 truncated at byte 911"),
-        (RecordingError::BadMagic, "C2 bad magic"),
-        (RecordingError::Count(CountOf::Cpus), "C3 bad count: cpus"),
-        (RecordingError::Count(CountOf::Formats), "C3 bad count: formats"),
-        (RecordingError::Count(CountOf::Events), "C3 bad count: events"),
-        (RecordingError::Count(CountOf::Span), "C3 bad count: span"),
-        (RecordingError::Format(2, FormatError::NoName), "C4 format 2: F1 no name"),
-        (RecordingError::Format(2, FormatError::BadId), "C4 format 2: F2 bad id"),
-        (RecordingError::Format(2, FormatError::BadField(4)), "C4 format 2: F3 bad line 4"),
-        (RecordingError::Format(2, FormatError::Overlong(4)), "C4 format 2: F4 overlong line 4"),
-        (RecordingError::Format(2, FormatError::SameName(5)), "C4 format 2: F5 same name line 5"),
-        (RecordingError::SameEvent(1), "C5 same event in format 1"),
-        (RecordingError::CpuNumber(1), "C6 bad cpu number at cpu 1"),
-        (RecordingError::TimeOrder(1, 7), "C7 time order in event 7 of cpu 1"),
-        (RecordingError::UnknownId(1, 7), "C8 unknown id in event 7 of cpu 1"),
-        (RecordingError::ShortPayload(1, 7), "C9 short payload in event 7 of cpu 1"),
-        (RecordingError::TrailingBytes(912), "C10 trailing bytes at byte 912"),
-        (RecordingError::BadSystem(3), "C11 bad system in format 3"),
-        (RecordingError::Memory, "out of memory"),
-    ];
-    for (error, text) in told {
+    for (error, text) in TOLD {
         let line = format!(in rt.alloc(); "{error}")?;
-        assert!(rt; line.as_str() == text, "{text}");
+        assert!(rt; line.as_bytes() == text);
     }
     Ok(())
 }

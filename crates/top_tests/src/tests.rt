@@ -28,7 +28,9 @@ fn recording(alloc: Global, events: u32) -> Result<Vec<u8>, Memory> {
     bytes.extend_from_slice(&events.to_le_bytes())?;
     for time in 0..events {
         bytes.extend_from_slice(&u64::from(time).to_le_bytes())?;
-        bytes.extend_from_slice(b"\x01\0\0\0\x01\0\0\0\0\0\0\0\0\0\0\0bash\0\0\0\0\0\0\0\0\0\0\0\0")?;
+        bytes.extend_from_slice(
+            b"\x01\0\0\0\x01\0\0\0\0\0\0\0\0\0\0\0bash\0\0\0\0\0\0\0\0\0\0\0\0",
+        )?;
         bytes.extend_from_slice(b"\x10\0\0\0\x07\0\0\0\0\0\0\0\x2a\0\0\0\0\0\0\0")?;
     }
     Ok(bytes)
@@ -97,7 +99,10 @@ fn a_write_fault_leaves_a_prefix_and_the_work(rt: HostRuntime) -> Result<(), Fai
 #[test]
 fn a_failing_read_is_told_of_its_file(rt: HostRuntime) -> Result<(), Fail> {
     let alloc = rt.alloc();
-    for (call, line) in [(1, b"s.bt: read fault\n".as_slice()), (2, b"r.bin: read fault\n".as_slice())] {
+    for (call, line) in [
+        (1, b"s.bt: read fault\n".as_slice()),
+        (2, b"r.bin: read fault\n".as_slice()),
+    ] {
         let mut shelf = shelf(alloc, 3, &[call])?;
         let mut out = sink(alloc, 4096, &[])?;
         let mut err = sink(alloc, 4096, &[])?;
@@ -141,7 +146,11 @@ impl Shelf for Refusing {
 fn a_long_recording_and_want_of_memory_are_told(rt: HostRuntime) -> Result<(), Fail> {
     let alloc = rt.alloc();
     let rows = [
-        (ShelfError::TooLong, 3, b"r.bin: recording too long\n".as_slice()),
+        (
+            ShelfError::TooLong,
+            3,
+            b"r.bin: recording too long\n".as_slice(),
+        ),
         (ShelfError::Memory, 6, b"out of memory\n".as_slice()),
     ];
     for (answer_of_recording, status, line) in rows {

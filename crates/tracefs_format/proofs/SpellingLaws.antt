@@ -200,7 +200,7 @@ field_on-IsFieldLine line d h =
     let is3 = cut_at-parts 59 second.1 third cut3.1 in
     let is4 = cut_at-parts 59 third.1 fourth cut4.1 in
     let spelled1 = labelled-IsLabelled (codes "field:") first.0 declaration read1.1 in
-    subst (IsFieldLine line) ended.1 (record {
+    subst (IsFieldLine line) {x = said declaration offset size signed} ended.1 (record {
       first = first.0;
       second = second.0;
       third = third.0;

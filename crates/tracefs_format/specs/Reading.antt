@@ -50,5 +50,5 @@ field_on line = do
   fourth ← cut_at 59 third.1
   signed ← flag_after (codes "signed:") fourth.0
   if length fourth.1 == 0
-    then Some (record { name = declared_name declaration; offset = offset; size = size; signed = signed; kind = declared_kind declaration size })
-    else None
+      then Some (record { name = declared_name declaration; offset = offset; size = size; signed = signed; kind = declared_kind declaration size })
+      else None

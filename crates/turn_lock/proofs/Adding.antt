@@ -50,8 +50,12 @@ err_weaken P Q (Err e) f h = f h
 pub called : (l : Law) (c : ℕ) (v : View) (h : List Entry) (e : Entry) → StartsWith h v.seen → made_by c h ≡ v.mine → e.caller ≡ c → IsLegal l (h ++ e ∷ [])
     → Gains l c v (after (e ∷ []) v h) e
 called l c v h e s own by legal = record {
-  sees = record { legal = legal; rises = legal_rises l [] 0 (h ++ e ∷ []) legal; own = made_by_append c h (e ∷ [])
-      ∙ (λ i. own i ++ made_by_own c (e ∷ []) (by, tt) i) };
+  sees = record {
+    legal = legal;
+    rises = legal_rises l [] 0 (h ++ e ∷ []) legal;
+    own = made_by_append c h (e ∷ [])
+        ∙ (λ i. own i ++ made_by_own c (e ∷ []) (by, tt) i);
+  };
   more = (s.0, ap (λ (z : List Entry). z ++ e ∷ []) s.1);
   one_more = refl;
 }
@@ -60,10 +64,10 @@ called l c v h e s own by legal = record {
 pub looked_on : (l : Law) (c : ℕ) (v : View) (h : List Entry) → StartsWith h v.seen → made_by c h ≡ v.mine → IsLegal l h → Stays l c v (after [] v h)
 looked_on l c v h s own legal = subst (λ (z : List Entry × List Entry). Stays l c v (let w : View = record v { stage = Idle; mine = z.0; seen = z.1 } in w))
     (λ i. (sym (append-nil v.mine) i, sym (append-nil h) i)) record {
-  sees = record { legal = legal; rises = legal_rises l [] 0 h legal; own = own };
-  more = s;
-  same = refl;
-}
+      sees = record { legal = legal; rises = legal_rises l [] 0 h legal; own = own };
+      more = s;
+      same = refl;
+    }
 
 rises_last : (last : ℕ) (es : List Entry) (e : Entry) → Rises last (es ++ e ∷ []) → (e.floor < e.stamp) × (last < e.stamp) × Each (λ x. x.stamp < e.stamp) es
 rises_last last [] e r = (r.0, r.1, tt)

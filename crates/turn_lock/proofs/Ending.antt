@@ -12,7 +12,7 @@ use Rattle.turn_lock.specs.declared.view.Stage.TheVariants.{Idle, Holds}
 use Rattle.turn_lock.specs.declared.view.Past.{Past}
 use Rattle.turn_lock.specs.declared.view.View.{View}
 use Rattle.turn_lock.specs.declared.view.Desk.{Desk}
-use Rattle.turn_lock.specs.History.{Law, IsLegalAfter, made_by, StartsWith, Each}
+use Rattle.turn_lock.specs.History.{Law, made_by, StartsWith, Each}
 use Rattle.turn_lock.specs.Turns.{Part, part_of, KnowsPast, Knows, DeskOk, IsOut, IsHome, Kept, Noted, Covers, Agrees}
 use Rattle.turn_lock.proofs.HistoryLemmas.{legal_callers, Each-weaken, made_by_append}
 
@@ -75,7 +75,7 @@ module _ {O : Type 0} (l : Law) (fits : O → List Op → Type 0) where
           let a = each_at (KnowsPast r.log r.callers r.seat r.made id v.live v.caller) v.taken t.0 t.1 mine.taken t.2 in
           let b = each_at (λ (p : Past). made_by p.caller noted.0 ≡ p.mine) v.taken t.0 t.1 noted.3 t.2 in
           ap (λ (k : ℕ). made_by k r.log) (sym t.3) ∙ (r.each t.1.caller a.0).mine ∙ ap (λ (z : Part). z.mine) a.2 ∙ sym b
-              ∙ (λ i. made_by (t.3 i) (h_is i))) (covers c lt)
+          ∙ (λ i. made_by (t.3 i) (h_is i))) (covers c lt)
 
       none_left : (c : ℕ) → c < l.callers → made_by c more.0 ≡ []
       none_left c lt = cancels (made_by c h) (made_by c more.0) (sym (made_by_append c h more.0) ∙ ap (made_by c) (sym more.1) ∙ same c lt)
@@ -89,9 +89,12 @@ module _ {O : Type 0} (l : Law) (fits : O → List Op → Type 0) where
       agrees = (
         ap (made_by v.caller) (sym log_is) ∙ own_log,
         Each-weaken (KnowsPast r.log r.callers r.seat r.made id v.live v.caller) (λ (p : Past). (made_by p.caller h ≡ p.mine) × StartsWith h p.seen)
-            (λ p a. (ap (made_by p.caller) (sym log_is) ∙ (r.each p.caller a.0).mine
-                ∙ ap (λ (z : Part). z.mine) a.2, subst (λ (z : List Entry × List Entry). StartsWith z.0 z.1) (λ i. (log_is i, (a.2 i).seen))
-                (r.each p.caller a.0).seen)) v.taken mine.taken,
+            (λ p a. (
+              ap (made_by p.caller) (sym log_is) ∙ (r.each p.caller a.0).mine
+                  ∙ ap (λ (z : Part). z.mine) a.2,
+              subst (λ (z : List Entry × List Entry). StartsWith z.0 z.1) (λ i. (log_is i, (a.2 i).seen))
+                  (r.each p.caller a.0).seen,
+            )) v.taken mine.taken,
       )
 
       not_held : (g : List Entry) → Idle ≡ Holds g → ⊥
@@ -103,8 +106,12 @@ module _ {O : Type 0} (l : Law) (fits : O → List Op → Type 0) where
           (λ (t : (i : ℕ) × (p : Past) × (get_elem? v.taken i ≡ some p) × (p.caller ≡ o.1.0)).
           let a = each_at (KnowsPast r.log r.callers r.seat r.made id v.live v.caller) v.taken t.0 t.1 mine.taken t.2 in
           not_held o.1.2.0 (ap (λ (z : Part). z.stage) (sym a.2) ∙ ap (λ (k : ℕ). (r.callers k).stage) t.3 ∙ o.1.2.1))
-              (covers o.1.0 (let a = o.1.1 in let b = r.made_fits in omega arith))
+          (covers o.1.0 (let a = o.1.1 in let b = r.made_fits in omega arith))
 
       home : IsHome l fits s.homes r.log → (d : Desk O) × (get_elem? xs 0 ≡ some (Some d)) × DeskOk l fits d h × Agrees h v
-      home (d, there, ok) = (d, f.4 0 (Some d) (ap (λ (hs : List (maybe.Option (Option (Desk O)))). get_elem? hs 0) there), subst (DeskOk l fits d) log_is ok,
-          agrees)
+      home (d, there, ok) = (
+        d,
+        f.4 0 (Some d) (ap (λ (hs : List (maybe.Option (Option (Desk O)))). get_elem? hs 0) there),
+        subst (DeskOk l fits d) log_is ok,
+        agrees,
+      )

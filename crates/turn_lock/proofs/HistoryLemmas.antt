@@ -46,8 +46,11 @@ made_by_append c xs ys = filter-append (is_by c) xs ys
 pub legal_snoc : (l : Law) (before : List Op) (last : ℕ) (es : List Entry) (e : Entry) → IsLegalAfter l before last es
     → IsNext l (before ++ ops es) (stamp_after last es) e → IsLegalAfter l before last (es ++ e ∷ [])
 legal_snoc l before last [] e h n = (subst (λ (z : List Op). IsNext l z last e) (append-nil before) n, tt)
-legal_snoc l before last (x ∷ xs) e h n = (h.0, legal_snoc l (before ++ x.op ∷ []) x.stamp xs e h.1
-    (subst (λ (z : List Op). IsNext l z (stamp_after x.stamp xs) e) (sym (append_assoc before (x.op ∷ []) (ops xs))) n))
+legal_snoc l before last (x ∷ xs) e h n = (
+  h.0,
+  legal_snoc l (before ++ x.op ∷ []) x.stamp xs e h.1
+      (subst (λ (z : List Op). IsNext l z (stamp_after x.stamp xs) e) (sym (append_assoc before (x.op ∷ []) (ops xs))) n),
+)
 
 pub stamp_snoc : (last : ℕ) (es : List Entry) (e : Entry) → stamp_after last (es ++ e ∷ []) ≡ e.stamp
 stamp_snoc last [] e = refl

@@ -53,8 +53,12 @@ moved log log' callers seat made id views v w p longer live at w_live w_caller w
 
     here : Knows log' callers' seat made id w
     here = record {
-      live = λ _. let a = mine.live live in (subst (λ (c : ℕ). c < made) (sym w_caller) a.0, ap seat w_caller ∙ a.1, ap callers' w_caller
-          ∙ put_here callers v.caller p ∙ sym is);
+      live = λ _. let a = mine.live live in (
+        subst (λ (c : ℕ). c < made) (sym w_caller) a.0,
+        ap seat w_caller ∙ a.1,
+        ap callers' w_caller
+            ∙ put_here callers v.caller p ∙ sym is,
+      );
       deals = λ h. let d = mine.deals (subst (λ (m : ℕ). 0 < m) w_made h) in (w_made ∙ d.0, d.1);
       taken = subst (λ (z : Bool × ℕ × List Past). Each (KnowsPast log' callers' seat made id z.0 z.1) z.2) (λ i. (sym w_live i, sym w_caller i, sym w_taken i))
           (Each-weaken (KnowsPast log callers seat made id v.live v.caller) (KnowsPast log' callers' seat made id v.live v.caller)
@@ -152,10 +156,19 @@ module _ {O : Type 0} (l : Law) (fits : O → List Op → Type 0) where
             (λ ne. let old = r.each d lt in subst (CallerOk r.log who' r.base (r.count + 1) s.homes d) (sym (put_else r.callers c p d ne))
             record { mine = old.mine; seen = old.seen; stage = stage_more r.log r.who r.base r.count c s.homes d (r.callers d).stage old.stage });
         others = λ d le. let old = r.others d le in (old.0, ap (λ (q : Part). q.stage) (put_else r.callers c p d (λ e. omega (arith, inside))) ∙ old.1);
-        slot = ⊎_elim (λ (t : IsOut l fits s.homes r.callers r.made r.log). inl
-            (t.0, (t.1.0, t.1.1, (t.1.2.0, ap (λ (q : Part). q.stage)
-            (put_else r.callers c p t.1.0 (λ e. not_idle_holds t.1.2.0 (sym idle ∙ ap (λ (q : Part). q.stage) (sym is)
-            ∙ ap (λ (k : ℕ). (r.callers k).stage) (sym e) ∙ t.1.2.1))) ∙ t.1.2.1)))) inr r.slot;
+        slot = ⊎_elim (λ (t : IsOut l fits s.homes r.callers r.made r.log). inl (
+          t.0,
+          (
+            t.1.0,
+            t.1.1,
+            (
+              t.1.2.0,
+              ap (λ (q : Part). q.stage)
+                  (put_else r.callers c p t.1.0 (λ e. not_idle_holds t.1.2.0 (sym idle ∙ ap (λ (q : Part). q.stage) (sym is)
+                  ∙ ap (λ (k : ℕ). (r.callers k).stage) (sym e) ∙ t.1.2.1))) ∙ t.1.2.1,
+            ),
+          ),
+        )) inr r.slot;
         seats = moved r.log r.log r.callers r.seat r.made id s.views v w p (starts_with_itself r.log) live at refl refl refl refl refl mine.seen r.seats;
       }
         where
@@ -293,8 +306,14 @@ module _ {O : Type 0} (l : Law) (fits : O → List Op → Type 0) where
 
               tells_so : looked W m n (w, (0, Some d) ∷ m.1)
               tells_so u e = (
-                (λ _. (r.log, d, (λ k. (w, (0, Some d) ∷ empty k)), tells d c r.log (ok, omega (arith, inside, r.made_fits)), mine.seen,
-                    (r.each c inside).mine ∙ ap (λ (q : Part). q.mine) is)),
+                (λ _. (
+                  r.log,
+                  d,
+                  (λ k. (w, (0, Some d) ∷ empty k)),
+                  tells d c r.log (ok, omega (arith, inside, r.made_fits)),
+                  mine.seen,
+                  (r.each c inside).mine ∙ ap (λ (q : Part). q.mine) is,
+                )),
                 λ ne. absurd (ne (now ∙ waits_is t u (sym waits ∙ e))),
               )
 
@@ -401,8 +420,11 @@ module _ {O : Type 0} (l : Law) (fits : O → List Op → Type 0) where
         each = λ e lt. dite (ℕ_discrete e c)
             (λ q. subst (λ (z : ℕ). CallerOk log' who' (r.base + 1) (r.count - 1) homes' z (callers' z)) (sym q) own)
             (λ ne. let old = r.each e lt in subst (CallerOk log' who' (r.base + 1) (r.count - 1) homes' e) (sym (put_else r.callers c p e ne))
-            record { mine = none_of e ne ∙ old.mine; seen = starts_with_start log' r.log (r.callers e).seen longer old.seen;
-                stage = stage_less r.log log' r.who r.base r.count s.homes homes' c e (r.callers e).stage ne turn.1 old.stage });
+            record {
+              mine = none_of e ne ∙ old.mine;
+              seen = starts_with_start log' r.log (r.callers e).seen longer old.seen;
+              stage = stage_less r.log log' r.who r.base r.count s.homes homes' c e (r.callers e).stage ne turn.1 old.stage;
+            });
         others = λ e le. let old = r.others e le in let ne : e ≢ c = λ q. omega (arith, inside) in
             (none_of e ne ∙ old.0, ap (λ (q : Part). q.stage) (put_else r.callers c p e ne) ∙ old.1);
         slot = inr (d, refl, ok);
@@ -457,8 +479,8 @@ module _ {O : Type 0} (l : Law) (fits : O → List Op → Type 0) where
       same_stage : (e : ℕ) → (callers' e).stage ≡ (r.callers e).stage
       same_stage e = dite (ℕ_discrete e c)
           (λ q. ap (λ (k : ℕ). (callers' k).stage) q ∙ ap (λ (z : Part). z.stage) (put_here r.callers c p
-              ∙ let x : p ≡ record (r.callers c) { seen = r.log } = (λ k. let z : Part = record (sym is k) { seen = r.log } in z) in x)
-              ∙ ap (λ (k : ℕ). (r.callers k).stage) (sym q))
+          ∙ let x : p ≡ record (r.callers c) { seen = r.log } = (λ k. let z : Part = record (sym is k) { seen = r.log } in z) in x)
+          ∙ ap (λ (k : ℕ). (r.callers k).stage) (sym q))
           (λ ne. ap (λ (z : Part). z.stage) (put_else r.callers c p e ne))
 
       kept_so : Rule record { words = s.words; homes = s.homes; views = set s.views id w }
@@ -507,17 +529,28 @@ module _ {O : Type 0} (l : Law) (fits : O → List Op → Type 0) where
     each = λ e lt. dite (ℕ_discrete e n)
         (λ q. subst (λ (z : ℕ). CallerOk r.log r.who r.base r.count s.homes z (callers' z)) (sym q) own)
         (λ ne. subst (CallerOk r.log r.who r.base r.count s.homes e) (sym (put_else r.callers n blank e ne)) (r.each e (omega (arith, n_is))));
-    others = λ e le. let old = r.others e (omega arith) in (old.0, ap (λ (z : Part). z.stage) (put_else r.callers n blank e (λ q. omega (arith, n_is)))
-        ∙ old.1);
-    slot = ⊎_elim (λ (t : IsOut l fits s.homes r.callers r.made r.log). inl
-        (t.0, (t.1.0, (let a = t.1.1 in omega arith), (t.1.2.0,
-        ap (λ (z : Part). z.stage) (put_else r.callers n blank t.1.0 (λ q. let a = t.1.1 in omega (arith, n_is))) ∙ t.1.2.1)))) inr r.slot;
+    others = λ e le. let old = r.others e (omega arith) in (
+      old.0,
+      ap (λ (z : Part). z.stage) (put_else r.callers n blank e (λ q. omega (arith, n_is)))
+          ∙ old.1,
+    );
+    slot = ⊎_elim (λ (t : IsOut l fits s.homes r.callers r.made r.log). inl (
+      t.0,
+      (
+        t.1.0,
+        (let a = t.1.1 in omega arith),
+        (
+          t.1.2.0,
+          ap (λ (z : Part). z.stage) (put_else r.callers n blank t.1.0 (λ q. let a = t.1.1 in omega (arith, n_is))) ∙ t.1.2.1,
+        ),
+      ),
+    )) inr r.slot;
     seats = λ j x there. ⊎_elim (λ e. ⊎_elim
         (λ (t : (j ≡ id) × (dealer_after v ≡ x)). subst (λ (z : ℕ × View). Knows r.log callers' seat' (r.made + 1) z.0 z.1) (λ i. (sym t.0 i, t.1 i)) here)
         (λ (t : (j ≢ id) × (get_elem? s.views j ≡ some x)). elsewhere j x (λ h. absurd (t.0 (((r.seats j x t.1).deals h).1 ∙ sym (mine.deals deals).1))) t.1)
         (at_set s.views id j (dealer_after v) x e))
         (λ (t : (j ≡ length (set s.views id (dealer_after v))) × (newcomer n ≡ x)). subst (λ (z : ℕ × View). Knows r.log callers' seat' (r.made + 1) z.0 z.1)
-            (λ i. (sym t.0 i, t.1 i)) new)
+        (λ i. (sym t.0 i, t.1 i)) new)
         (at_snoc_place (set s.views id (dealer_after v)) (newcomer n) x j there);
   }
     where
@@ -546,8 +579,11 @@ module _ {O : Type 0} (l : Law) (fits : O → List Op → Type 0) where
       fresh = r.others n (omega (arith, n_is))
 
       own : CallerOk r.log r.who r.base r.count s.homes n (callers' n)
-      own = subst (CallerOk r.log r.who r.base r.count s.homes n) (sym (put_here r.callers n blank)) record { mine = fresh.0;
-          seen = starts_with_nothing r.log; stage = tt }
+      own = subst (CallerOk r.log r.who r.base r.count s.homes n) (sym (put_here r.callers n blank)) record {
+        mine = fresh.0;
+        seen = starts_with_nothing r.log;
+        stage = tt;
+      }
 
       older : (c : ℕ) → c < r.made → (callers' c ≡ r.callers c) × (seat' c ≡ r.seat c)
       older c lt = (put_else r.callers n blank c (λ q. omega (arith, n_is)), put_else r.seat n last c (λ q. omega (arith, n_is)))
@@ -640,10 +676,14 @@ module _ {O : Type 0} (l : Law) (fits : O → List Op → Type 0) where
       here = record {
         live = mine'.live;
         deals = mine'.deals;
-        taken = Each-snoc (KnowsPast r.log r.callers seat' r.made id v.live v.caller) v.taken (past_of w) mine'.taken
-            ((theirs.live w_live).0, put_here r.seat c id, (theirs.live w_live).2
-                ∙ (λ i. let z : Part = record { stage = idle i; mine = w.mine; seen = w.seen } in z), λ _ q. apart (sym seat_is ∙ ap r.seat q
-                ∙ (mine.live live).1));
+        taken = Each-snoc (KnowsPast r.log r.callers seat' r.made id v.live v.caller) v.taken (past_of w) mine'.taken (
+          (theirs.live w_live).0,
+          put_here r.seat c id,
+          (theirs.live w_live).2
+              ∙ (λ i. let z : Part = record { stage = idle i; mine = w.mine; seen = w.seen } in z),
+          λ _ q. apart (sym seat_is ∙ ap r.seat q
+              ∙ (mine.live live).1),
+        );
         seen = mine.seen;
       }
 

@@ -1,17 +1,11 @@
 -- A function changed at one number, and how many callers wait.
-use Rattle.std.proofs.Common.{◌≡◌, ◌≢◌, ◌⊎◌, ℕ, zero, suc, ◌+◌, ◌<◌, ◌≤◌, Bool, cond, eqb, List, [], ◌∷◌, ◌++◌, length, sym, refl, ap, ◌∙◌, subst, inl, inr, ⊎_elim, arith, eq-eqb, ne_eqb, append_assoc}
-use Rattle.std.proofs.lemmas.List.{append-nil}
-use Rattle.std.proofs.lemmas.List.Elements.{filter-append}
+use Rattle.std.proofs.Common.{◌≡◌, ◌≢◌, ◌⊎◌, ℕ, zero, suc, ◌+◌, ◌<◌, ◌≤◌, Bool, cond, eqb, List, [], ◌∷◌, ◌++◌, length, sym, refl, ap, ◌∙◌, inl, inr, ⊎_elim, arith, eq-eqb, ne_eqb}
 use mathlib.Core.Logic.{dite}
-use mathlib.Core.List.{map-append}
 use mathlib.Core.Option.{some, some-injective, some-ne-none}
 use native.Mathlib.Decide.{ℕ_discrete}
 use lib.ListN.{get_elem?}
-use Rattle.bt_core.specs.declared.step.Op.{Op}
-use Rattle.turn_lock.specs.declared.entry.Entry.{Entry}
 use Rattle.turn_lock.specs.declared.view.Stage.{Stage}
 use Rattle.turn_lock.specs.declared.view.Stage.TheVariants.{Idle, Waits, Holds}
-use Rattle.turn_lock.specs.History.{Law, IsNext, IsLegalAfter, ops, op_of, made_by, is_by, StartsWith, stamp_after, Each, Rises}
 use Rattle.turn_lock.specs.Turns.{Part, busy, waiting}
 
 abbrev pub put : {A : Type 0} → (ℕ → A) → ℕ → A → ℕ → A
@@ -48,6 +42,6 @@ pub waiting_put : (n : ℕ) (f : ℕ → Part) (c : ℕ) (p : Part) → c < n �
 waiting_put zero f c p lt = absurd (omega arith)
 waiting_put (suc n) f c p lt = dite (ℕ_discrete n c)
     (λ e. let a = waiting_else n f c p (omega arith) in let b : busy (put f c p n).stage ≡ busy p.stage = ap (λ (k : ℕ). busy (put f c p k).stage) e
-        ∙ ap (λ (q : Part). busy q.stage) (put_here f c p) in
+    ∙ ap (λ (q : Part). busy q.stage) (put_here f c p) in
     let d : busy (f n).stage ≡ busy (f c).stage = ap (λ (k : ℕ). busy (f k).stage) e in omega arith)
     (λ ne. let a = waiting_put n f c p (omega arith) in let b = ap (λ (q : Part). busy q.stage) (put_else f c p n ne) in omega arith)

@@ -13,7 +13,7 @@ total-snoc before op fits = let sum : ℤ = fold ◌+ℤ◌ (pos 0) (map number_
     wrapping_add_is w64 (int_wrap w64 sum) (number_of op) (SFits-int_wrap w64 sum) fits
     ∙ int_wrap-add_left w64 sum (number_of op)
     ∙ ap (int_wrap w64) (sym (ap (fold ◌+ℤ◌ (pos 0)) (map-append number_of before (op ∷ []))
-        ∙ fold-append ◌+ℤ◌ (pos 0) (map number_of before) (number_of op ∷ [])))
+    ∙ fold-append ◌+ℤ◌ (pos 0) (map number_of before) (number_of op ∷ [])))
 
 -- a total is kept by a machine word
 pub total-kept : (ops : List Op) → to_z w64 (of_z w64 (total ops)) ≡ total ops

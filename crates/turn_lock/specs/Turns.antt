@@ -137,7 +137,8 @@ after made v h = record v { stage = Idle; mine = v.mine ++ made; seen = h ++ mad
 -- the view with all of a history, in which its callers' entries are those that it knows
 abbrev pub Noted : View → View → Type 0
 Noted v w =
-    (h : List Entry) × (w ≡ record v { seen = h }) × (made_by v.caller h ≡ v.mine) × Each (λ (p : Past). made_by p.caller h ≡ p.mine) v.taken × StartsWith h v.seen
+    (h : List Entry) × (w ≡ record v { seen = h }) × (made_by v.caller h ≡ v.mine) × Each (λ (p : Past). made_by p.caller h ≡ p.mine) v.taken
+    × StartsWith h v.seen
 
 -- the steps
 module _ {S : Type 0} where
@@ -154,7 +155,8 @@ module _ {O : Type 0} (fits : Desk O → ℕ → List Entry → Type 0) where
   -- the seat's turn has come: it has the object, and knows the whole history
   abbrev pub Entered : Me (Option (Desk O)) View → Me (Option (Desk O)) View → Type 0
   Entered m m' =
-      (h : List Entry) × (d : Desk O) × (m' ≡ (at_stage m.0 (Holds h), (0, Some d) ∷ [])) × fits d m.0.caller h × StartsWith h m.0.seen × (made_by m.0.caller h ≡ m.0.mine)
+      (h : List Entry) × (d : Desk O) × (m' ≡ (at_stage m.0 (Holds h), (0, Some d) ∷ [])) × fits d m.0.caller h × StartsWith h m.0.seen
+      × (made_by m.0.caller h ≡ m.0.mine)
 
   abbrev pub looked : Me (Option (Desk O)) View → ℕ → Me (Option (Desk O)) View → Type 0
   looked m n m' = (t : ℕ) → m.0.stage ≡ Waits t → (n ≡ t → Entered m m') × (n ≢ t → m' ≡ m)

@@ -16,17 +16,17 @@ returns-then-bytes-ne0-clause-refused c = λ e f. inl (ap (λ (x : DecodeError).
 pub returns-clause-code : goal.returns-clause-code
 returns-clause-code c =
     either c.decode_slots.result _ _ _ _ (λ code d. found_code c.args.bytes.now code.items (λ i. (c.type_inv.bytes i).fits) c.if-bytes-ne0.false d)
-        (λ e f. tt) c.decode_slots.ensures
+    (λ e f. tt) c.decode_slots.ensures
 
 pub returns-clause-only : goal.returns-clause-only
 returns-clause-only c = λ code is.
     either c.decode_slots.result _ _ _ _ (λ answer d. same_code _ answer.items code d (complete_at code c.args.bytes.now is))
-        (λ e f. only_memory c.args.bytes.now e code is f) c.decode_slots.ensures
+    (λ e f. only_memory c.args.bytes.now e code is f) c.decode_slots.ensures
 
 pub returns-clause-fault : goal.returns-clause-fault
 returns-clause-fault c =
     either c.decode_slots.result _ _ _ _ (λ code d. tt) (λ e f known. fault_is c.args.bytes.now e
-        (λ i. (c.type_inv.bytes i).fits) c.if-bytes-ne0.false f known) c.decode_slots.ensures
+    (λ i. (c.type_inv.bytes i).fits) c.if-bytes-ne0.false f known) c.decode_slots.ensures
 
 pub returns-clause-refused : goal.returns-clause-refused
 returns-clause-refused c = λ e f. fault_answered (λ code. code.items) c.args.bytes.now c.decode_slots.result e

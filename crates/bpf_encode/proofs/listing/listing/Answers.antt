@@ -10,4 +10,4 @@ loop-number-preserved c =
     let eight : 8 * n + 8 - 8 * n ≡ 8 = omega arith in
     c.loop-number.invariant
     ∙ lines_more bs c.loop-number.text.items _ (take (8 * n + 8 - 8 * n) (drop (8 * n) bs)) (length bs / 8) n c.loop-number-test.true
-        (ap (λ (k : ℕ). take k (drop (8 * n) bs)) eight) c.in_ok-push_line.ensures
+    (ap (λ (k : ℕ). take k (drop (8 * n) bs)) eight) c.in_ok-push_line.ensures

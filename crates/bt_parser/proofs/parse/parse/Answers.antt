@@ -1,26 +1,32 @@
-use Rattle.std.proofs.Common.{arith, ◌≡◌, ◌∷◌, [], ◌+◌, None, Some, take}
+use Rattle.std.proofs.Common.{arith, ◌≡◌, ◌∷◌, [], ◌+◌, ◌∙◌, None, Some, ap, take}
 use Rattle.std.proofs.lemmas.Grind.{common_steps}
+use Rattle.bt_parser.specs.ClassLists.{classes_of}
 use Rattle.bt_parser.specs.Levels.{deep_from}
 use Rattle.bt_grammar.specs.Tokens.{items}
+use Rattle.bt_parser.proofs.Fronts.{classes_of-take}
 use Rattle.bt_parser.proofs.Parsed.{right_none, right_some, accepted_by, refused_by}
 use Rattle.bt_parser.proofs.parse.parse.Goals as goal
 
 pub returns-in-None-clause-tree : goal.returns-in-None-clause-tree
 returns-in-None-clause-tree c =
-    let e : deep_from 0 (0 ∷ []) (items c.args.tokens.now) ≡ None = grind (arith, common_steps) in
+    let e : deep_from 0 (0 ∷ []) (classes_of c.args.tokens.now) ≡ None = grind (arith, common_steps) in
     accepted_by (items c.args.tokens.now) c.args.tokens.now None c.parse_front.result (λ answer. right_none c.args.tokens.now answer e) c.parse_front.ensures.ok
 
 pub returns-in-None-clause-fault : goal.returns-in-None-clause-fault
 returns-in-None-clause-fault c =
-    let e : deep_from 0 (0 ∷ []) (items c.args.tokens.now) ≡ None = grind (arith, common_steps) in
+    let e : deep_from 0 (0 ∷ []) (classes_of c.args.tokens.now) ≡ None = grind (arith, common_steps) in
     refused_by (items c.args.tokens.now) c.args.tokens.now None c.parse_front.result (λ answer. right_none c.args.tokens.now answer e) c.parse_front.ensures.err
 
-pub returns-in-Some-clause-tree : goal.returns-in-Some-clause-tree
-returns-in-Some-clause-tree c =
-    let e : deep_from 0 (0 ∷ []) (items c.args.tokens.now) ≡ Some c.in-Some.deep = grind (arith, common_steps) in
+pub parse_front-requires-in-Some-clause-classes : goal.parse_front-requires-in-Some-clause-classes
+parse_front-requires-in-Some-clause-classes c =
+    ap (take (c.in-Some.deep + 1)) (c.as_slice-classes.ensures ∙ c.in_ok-classes.ensures) ∙ classes_of-take (c.in-Some.deep + 1) c.args.tokens.now
+
+pub returns-clause-tree : goal.returns-clause-tree
+returns-clause-tree c =
+    let e : deep_from 0 (0 ∷ []) (classes_of c.args.tokens.now) ≡ Some c.in-Some.deep = grind (arith, common_steps) in
     accepted_by (items c.args.tokens.now) (take (c.in-Some.deep + 1) c.args.tokens.now) (Some c.in-Some.deep) c.parse_front-in-Some.result (λ answer. right_some c.args.tokens.now c.in-Some.deep answer e) c.parse_front-in-Some.ensures.ok
 
-pub returns-in-Some-clause-fault : goal.returns-in-Some-clause-fault
-returns-in-Some-clause-fault c =
-    let e : deep_from 0 (0 ∷ []) (items c.args.tokens.now) ≡ Some c.in-Some.deep = grind (arith, common_steps) in
+pub returns-clause-fault : goal.returns-clause-fault
+returns-clause-fault c =
+    let e : deep_from 0 (0 ∷ []) (classes_of c.args.tokens.now) ≡ Some c.in-Some.deep = grind (arith, common_steps) in
     refused_by (items c.args.tokens.now) (take (c.in-Some.deep + 1) c.args.tokens.now) (Some c.in-Some.deep) c.parse_front-in-Some.result (λ answer. right_some c.args.tokens.now c.in-Some.deep answer e) c.parse_front-in-Some.ensures.err

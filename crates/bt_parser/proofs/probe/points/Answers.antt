@@ -11,6 +11,7 @@ pub loop-alloc-init : goal.loop-alloc-init
 loop-alloc-init c = record {
   read = rw (points_start (items c.args.tokens.now)) (first_of (search rules, grind (arith, common_steps)));
   shorter = first_of (search rules, grind (arith, common_steps));
+  some = first_of (search rules, grind (arith, common_steps));
 }
 
 pub returns-in_err-point-2-clause-reads : goal.returns-in_err-point-2-clause-reads
@@ -22,6 +23,7 @@ loop-alloc-preserved c =
     let e = points_turns c.loop-alloc.points (items c.loop-alloc.tokens) in record {
       read = rw (← c.loop-alloc.invariant.read) (first_of (search rules, grind (arith, common_steps)));
       shorter = first_of (search rules, grind (arith, common_steps));
+      some = first_of (search rules, grind (arith, common_steps));
     }
 
 pub returns-clause-reads : goal.returns-clause-reads

@@ -10,6 +10,7 @@ abbrev pub invariant-loop-alloc : goal.invariant-loop-alloc
 invariant-loop-alloc l = record {
   read : points_on l.points (items l.tokens) ≡ reads Points (items l.fn.tokens);
   shorter : length l.tokens < length l.fn.tokens;
+  some : 0 < length l.points;
 }
 
 abbrev pub decreases-loop-alloc : goal.decreases-loop-alloc

@@ -13,11 +13,15 @@ overflow_add-instructions c =
 pub loop-event-preserved : goal.loop-event-preserved
 loop-event-preserved c = elim c.if-event-format.branch [
   | then-event-format+in_ok-instructions w ↦
-      let one = counted_own c.args.format c.args.events.now c.loop-event.event-index c.event-item.result c.event-item.result c.loop-event.port.steps w.run_event.new.port.steps c.loop-event.instructions w.in_ok-instructions.field-0 c.loop-event-test.true c.event-item.is w.if-event-format.true
+      let one =
+      counted_own c.args.format c.args.events.now c.loop-event.event-index c.event-item.result c.event-item.result c.loop-event.port.steps
+      w.run_event.new.port.steps c.loop-event.instructions w.in_ok-instructions.field-0 c.loop-event-test.true c.event-item.is w.if-event-format.true
       c.loop-event.invariant.steps c.loop-event.invariant.runs w.run_event.new.port.stamped (rw w.as_slice.ensures at w.in_ok-instructions.ensures) in
       record { steps = rw w.port-is one.counts; runs = rw (w.port-is, w.instructions-is) one.sums }
   | else-event-format w ↦
-      let same = counted_other c.args.format c.args.events.now c.loop-event.event-index c.event-item.result c.event-item.result c.loop-event.port.steps c.loop-event.instructions c.loop-event-test.true c.event-item.is w.if-event-format.false
+      let same =
+      counted_other c.args.format c.args.events.now c.loop-event.event-index c.event-item.result c.event-item.result c.loop-event.port.steps
+      c.loop-event.instructions c.loop-event-test.true c.event-item.is w.if-event-format.false
       c.loop-event.invariant.steps c.loop-event.invariant.runs in
       record { steps = rw w.port-is same.counts; runs = rw (w.port-is, w.instructions-is) same.sums }
 ]

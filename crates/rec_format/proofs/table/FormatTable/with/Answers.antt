@@ -11,7 +11,7 @@ use Rattle.rec_format.specs.declared.error.RecordingError.TheVariants as fault
 use Rattle.rec_format.specs.Fronts.{format_part}
 use Rattle.tracefs_format.specs.ByName.{full_name}
 use Rattle.tracefs_format.specs.Names.{has_no_colon}
-use Rattle.rec_format.specs.Checks.{is_system, is_same_event, format_of}
+use Rattle.rec_format.specs.Checks.{is_same_event, format_of}
 use Rattle.rec_format.proofs.TableLaws.{same_known, table_added, system-no_colon}
 use Rattle.rec_format.proofs.table.FormatTable.with.Goals as goal
 use Rattle.rec_format.proofs.table.FormatTable.with.Goals.{then-contains_key-via-then-contains_key, then-contains_key-via-else-contains_key+then-contains}

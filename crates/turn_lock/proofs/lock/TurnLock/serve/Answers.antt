@@ -19,7 +19,7 @@ pass_on-requires-clause-held g c = let h = c.requires.held in let about = c.args
       adds l F c.take-object.result (record { object = c.apply.new.self; stamp = c.max-last.result + 1 }) h.0
           (entry c.args.caller c.args.floor (c.max-last.result + 1) c.args.op.now c.in-Ok.reply)
           ok h.4.1 c.requires.own (replies ∙ ap (λ k. g.O.SeqObject.reply_after k (ops h.0) c.args.op.now) ok.object.0)
-              (next_stamp _ _ _ c.max-last.ensures) refl (c.in-Ok.ensures.kind ∙ ok.object.0, taken),
+          (next_stamp _ _ _ c.max-last.ensures) refl (c.in-Ok.ensures.kind ∙ ok.object.0, taken),
     )
 
 pub returns-in-Ok-clause-done : goal.returns-in-Ok-clause-done

@@ -1,0 +1,66 @@
+-- The front of tokens, by the list of their classes.
+use Rattle.std.proofs.Common.{◌≡◌, ℕ, zero, suc, ◌+◌, ◌-◌, ◌<◌, ◌≤◌, Bool, true, false, List, [], ◌∷◌, length, get_or, take, drop, map, Option, Some, None, refl, sym, ◌∙◌, ap, subst, arith}
+use Rattle.bt_lexer.specs.declared.token.Token.{Token}
+use Rattle.bt_lexer.specs.declared.token.TokenKind.{TokenKind}
+use Rattle.bt_lexer.specs.declared.token.TokenKind.TheVariants as kinds
+use Rattle.bt_grammar.specs.declared.class.Class.{Class}
+use Rattle.bt_grammar.specs.declared.class.Tier.{Tier}
+use Rattle.bt_grammar.specs.Classes.{is, is_word, joins}
+use Rattle.bt_grammar.specs.Form.{Item, brace_next, is_brace}
+use Rattle.bt_grammar.specs.Reading.{Refused, read, reads, rest_of, starts}
+use Rattle.bt_grammar.specs.Rules.{ends}
+use Rattle.bt_grammar.specs.Tokens.{class_of, items}
+use Rattle.bt_parser.specs.ClassLists.{classes_of}
+use Rattle.bt_parser.specs.Mirror.{class_at, is_word_kind, operator_at, when, word_form}
+use Rattle.bt_parser.proofs.WordKinds.{word_kinds}
+
+pub front_class : (rest now : List Token) (classes : List Class) (d : Class) → classes ≡ classes_of rest → rest ≡ now → 1 ≤ length classes → Some (get_or classes 0 d) ≡ class_at (items now)
+front_class [] now classes d e v some = let h : length classes ≡ 0 = ap length e in absurd (omega arith)
+front_class (t ∷ rest) now classes d e v some = ap (λ z. Some (get_or z 0 d)) e ∙ ap (λ z. class_at (items z)) v
+
+pub no_front : (rest now : List Token) (classes : List Class) → classes ≡ classes_of rest → rest ≡ now → length classes < 1 → None ≡ class_at (items now)
+no_front [] now classes e v none = ap (λ z. class_at (items z)) v
+no_front (t ∷ rest) now classes e v none = let h : length classes ≡ suc (length (classes_of rest)) = ap length e in absurd (omega arith)
+
+-- the class behind the front
+pub second_class : (rest now : List Token) (classes : List Class) (d : Class) → classes ≡ classes_of rest → rest ≡ now → 2 ≤ length classes → is_brace (get_or classes 1 d) ≡ brace_next (rest_of (items now))
+second_class [] now classes d e v some = let h : length classes ≡ 0 = ap length e in absurd (omega arith)
+second_class (t ∷ []) now classes d e v some = let h : length classes ≡ 1 = ap length e in absurd (omega arith)
+second_class (t ∷ u ∷ rest) now classes d e v some = ap (λ z. is_brace (get_or z 1 d)) e ∙ ap (λ z. brace_next (rest_of (items z))) v
+
+pub no_second : (rest now : List Token) (classes : List Class) → classes ≡ classes_of rest → rest ≡ now → length classes < 2 → false ≡ brace_next (rest_of (items now))
+no_second [] now classes e v none = ap (λ z. brace_next (rest_of (items z))) v
+no_second (t ∷ []) now classes e v none = ap (λ z. brace_next (rest_of (items z))) v
+no_second (t ∷ u ∷ rest) now classes e v none = let h : length classes ≡ suc (suc (length (classes_of rest))) = ap length e in absurd (omega arith)
+
+-- the classes of a front
+pub classes_of-take : (n : ℕ) (tokens : List Token) → take n (classes_of tokens) ≡ classes_of (take n tokens)
+classes_of-take zero tokens = refl
+classes_of-take (suc n) [] = refl
+classes_of-take (suc n) (t ∷ tokens) = ap (λ z. class_of t.kind ∷ z) (classes_of-take n tokens)
+
+pub operator_is : (p : Bool) (tier : Tier) (ts : List Item) (c : Class) → Some c ≡ class_at ts → when (joins p tier c (brace_next (rest_of ts))) c ≡ operator_at p tier ts
+operator_is p tier [] c e = cc (e)
+operator_is p tier (t ∷ r) c e = let same : c ≡ t.class = cc (e) in ap (λ k. when (joins p tier k (brace_next r)) k) same
+
+-- the class of the token at the front
+pub token_class : (rest now : List Token) (t : Token) (k : Class) (b : Bool) → rest ≡ now → 1 ≤ length rest → t ≡ get_or rest 0 t → b ≡ true → b ≡ starts (ends k) (items now) → is k (class_of t.kind) ≡ true
+token_class [] now t k b v some e h s = absurd (omega arith)
+token_class (u ∷ rest) now t k b v some e h s = ap (λ z. is k (class_of z.kind)) e ∙ ap (λ z. starts (ends k) (items z)) v ∙ sym s ∙ h
+
+not_word : (kind : TokenKind) → ((bytes : List ℕ) → kind ≡ kinds.Word bytes → ⊥) → is_word_kind kind ≡ false
+not_word (kinds.Word bytes) h = absurd (h bytes refl)
+not_word (kinds.Attach bytes) h = refl
+not_word (kinds.Map name) h = refl
+not_word (kinds.Var name) h = refl
+not_word (kinds.Number n) h = refl
+not_word (kinds.Text text) h = refl
+not_word (kinds.Mark mark) h = refl
+
+-- a token that is no word is refused
+pub no_word : (rest now : List Token) (t : Token) → rest ≡ now → 1 ≤ length rest → t ≡ get_or rest 0 t → ((bytes : List ℕ) → t.kind ≡ kinds.Word bytes → ⊥)
+    → read reads word_form (items now) ≡ Refused (items now)
+no_word [] now t v some e h = absurd (omega arith)
+no_word (u ∷ rest) now t v some e h =
+    let other : is_word (class_of u.kind) ≡ false = word_kinds u.kind ∙ ap (λ (z : Token). is_word_kind z.kind) (sym e) ∙ not_word t.kind h in
+    subst (λ z. read reads word_form (items z) ≡ Refused (items z)) v (rw other refl)

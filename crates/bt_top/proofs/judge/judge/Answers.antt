@@ -1,0 +1,21 @@
+use Rattle.bt_top.specs.Serve.{Files}
+use Rattle.bt_top.proofs.Due.{AreLaws, comes_if_due}
+use Rattle.bt_top.proofs.judge.judge.Goals as goal
+
+pub returns-clause-exact : goal.returns-clause-exact
+returns-clause-exact c =
+    let files : Files = record { script = c.args.script.now; recording = c.args.recording.now } in
+    let laws : AreLaws files = record {
+      recording = c.one_recording.ensures;
+      fault = λ one other. c.one_fault.ensures.one c.args.recording.now one other (λ i. (c.type_inv.recording i).fits);
+      no_fault = λ says error. c.one_fault.ensures.none_beside c.args.recording.now says error (λ i. (c.type_inv.recording i).fits);
+      script = record {
+        tokens = c.one_answer.ensures.tokens c.args.script.now;
+        lexical = c.one_answer.ensures.fault c.args.script.now;
+        lexical_apart = c.one_answer.ensures.apart c.args.script.now;
+        tree = c.one_answer-2.ensures.tree;
+        parse = c.one_answer-2.ensures.fault;
+        parse_apart = c.one_answer-2.ensures.apart;
+      };
+    } in
+    comes_if_due files c.counting_of.result laws c.requires c.counting_of.ensures.asked c.counting_of.ensures.refused
