@@ -9,7 +9,6 @@ pub mod Decide
 pub mod Scripts
 pub mod FewProbes
 pub mod KindClasses
-
 -- what only this crate cites
 mod Sound
 mod Complete

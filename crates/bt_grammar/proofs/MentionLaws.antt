@@ -1,13 +1,12 @@
 -- The maps and strings of a tree are those of its tokens, in their order.
-use Rattle.std.proofs.Common.{◌≡◌, ℕ, suc, ◌≤◌, List, [], ◌∷◌, ◌++◌, Option, Some, None, length, map, refl, ap, sym, subst, ◌∙◌, arith, length-append}
+use Rattle.std.proofs.Common.{◌≡◌, ◌≤◌, List, [], ◌∷◌, ◌++◌, length, map, refl, ap, sym, subst, ◌∙◌, arith, length-append}
 use Rattle.std.specs.List.{filter_map}
 use Rattle.bt_ast.specs.declared.probe.Script.{Script}
 use Rattle.bt_grammar.specs.declared.class.Class.{Class}
 use Rattle.bt_grammar.specs.declared.class.Class.TheVariants.{MapName, TextLiteral}
 use Rattle.bt_grammar.specs.Form.{Item, WholeScript}
 use Rattle.bt_grammar.specs.Grammar.{IsTreeOf}
-use Rattle.bt_grammar.specs.Mentions.{Mention, OfMap, OfFormat, OfText, Mentions, Named, IsPartOf, Ended, Kept, LeftOut, plain, as_map, as_format, as_text, mentions_of, item_mentions, token_mentions, maps_of, token_maps, formats_of, token_texts}
-use Rattle.bt_grammar.proofs.MentionForms.{Tells}
+use Rattle.bt_grammar.specs.Mentions.{OfMap, OfFormat, OfText, Mentions, Named, IsPartOf, Ended, Kept, LeftOut, plain, as_map, as_format, as_text, mentions_of, item_mentions, token_mentions, maps_of, token_maps, formats_of, token_texts}
 use Rattle.bt_grammar.proofs.MentionParts.{tells_part}
 
 pub in_order : (tokens : List Item) (script : Script) → IsTreeOf tokens script → map plain (mentions_of script) ≡ token_mentions tokens

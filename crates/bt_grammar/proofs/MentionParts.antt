@@ -1,11 +1,10 @@
 -- Each part of the grammar mentions what its tokens do.
-use Rattle.std.proofs.Common.{◌≡◌, ℕ, ℤ, zero, suc, Bool, true, false, List, [], ◌∷◌, ◌++◌, Option, Some, None, map, refl, ap, sym, subst, ◌∙◌, inl, inr, append_assoc}
+use Rattle.std.proofs.Common.{◌≡◌, ℕ, ℤ, zero, suc, Bool, true, false, List, [], ◌∷◌, ◌++◌, Option, Some, None, map, refl, ap, sym, ◌∙◌, append_assoc}
 use Rattle.std.specs.Prelude.{option_map, is_some, pos}
 use Rattle.std.proofs.lemmas.List.{append-nil, map-append}
 use Rattle.bt_core.specs.declared.place.Place.{Place}
 use Rattle.bt_ast.specs.declared.expr.Builtin.{Builtin}
 use Rattle.bt_ast.specs.declared.expr.Expr.{Expr}
-use Rattle.bt_ast.specs.declared.expr.ExprKind.TheVariants as exprs
 use Rattle.bt_ast.specs.declared.expr.MapRef.{MapRef}
 use Rattle.bt_ast.specs.declared.expr.Target.{Target}
 use Rattle.bt_ast.specs.declared.expr.Target.TheVariants as targets
@@ -21,12 +20,12 @@ use Rattle.bt_grammar.specs.declared.class.Class.{Class}
 use Rattle.bt_grammar.specs.declared.class.Class.TheVariants.{IfWord, ElseWord, WhileWord, UnrollWord, CountWord, SumWord, MinWord, MaxWord, AvgWord, LhistWord, PrintfWord, PrintWord, ClearWord, ZeroWord, DeleteWord, ExitWord, BreakWord, ContinueWord, ReturnWord, ArgsWord, VarName, NumberLiteral, OpenBrace, CloseBrace, OpenParen, CloseParen, OpenBracket, CloseBracket, Comma, Semicolon, Assign, Minus, Slash, Question, Colon, Increment, AndAnd, OrOr}
 use Rattle.bt_grammar.specs.declared.class.Tier.{Tier}
 use Rattle.bt_grammar.specs.declared.class.Tier.TheVariants.{Products, Sums, Shifts, Orders, Equalities, BitAnds, BitXors, BitOrs, AndThens, OrElses}
-use Rattle.bt_grammar.specs.Classes.{is, is_word, is_builtin, is_prefix, is_update, is_step, is_dot, is_point, gathers, builtin_of, binary_of, prefix_of, update_of, tier_of, of_tier, ends_predicate, joins}
-use Rattle.bt_grammar.specs.Form.{Item, Part, Primary, Unary, Level, Expression, Values, Keyed, Assignable, Int, Aggregation, Update, AfterMap, AfterVar, Printf, Print, Delete, CallOrJump, Simple, Arm, Tail, Control, Body, Braced, Points, OneProbe, WholeScript, Of, Form, Call, Rel}
+use Rattle.bt_grammar.specs.Classes.{is, is_word, is_builtin, is_prefix, is_update, is_step, is_dot, is_point, gathers, builtin_of, binary_of, prefix_of, update_of, tier_of, of_tier, joins}
+use Rattle.bt_grammar.specs.Form.{Item, Part, Primary, Unary, Level, Expression, Values, Keyed, Assignable, Int, Aggregation, Update, AfterMap, AfterVar, Printf, Print, Delete, CallOrJump, Simple, Arm, Tail, Control, Body, Braced, Points, OneProbe, WholeScript, Of, Call, Rel}
 use Rattle.bt_grammar.specs.Grammar.{whole_at}
-use Rattle.bt_grammar.specs.Mentions.{OfMap, OfText, Mentions, joined, plain, expr_mentions, target_mentions, map_mentions, agg_mentions, arms_mentions, optional_mentions, statement_mentions, block_mentions, stmt_mentions, predicate_mentions, probe_mentions, token_mentions}
+use Rattle.bt_grammar.specs.Mentions.{OfMap, OfText, Mentions, joined, plain, expr_mentions, target_mentions, map_mentions, agg_mentions, arms_mentions, optional_mentions, statement_mentions, block_mentions, stmt_mentions, predicate_mentions, probe_mentions}
 use Rattle.bt_grammar.specs.Rules.{rule, operand, empty_parens, value, a_number}
-use Rattle.bt_grammar.specs.Trees.{pair, single, snoc, cons, nothing, bytes_at, number_at, place_of_expr, place_of_map, place_of_target, expr, map_ref, var_ref, var_target, number_expr, text_expr, builtin_kind, builtin_expr, field_expr, paren_expr, step_before, step_after, prefix_step, map_operand, var_operand, unary_op, unary, binary_kind, binary, choose, stmt, count_call, gathering, gather_call, lhist_call, update_target, step_target, gather_map, set_map, on_map, set_var, on_var, map_stmt, var_stmt, step_stmt, printf_kind, print_kind, top_and_div, clear_kind, zero_kind, delete_all, delete_keyed, delete_key, on_item, exit_stmt, break_stmt, continue_stmt, return_stmt, more_arms, last_block, if_stmt, while_stmt, unroll_stmt, block_of, with_points, probe_of}
+use Rattle.bt_grammar.specs.Trees.{pair, single, snoc, cons, nothing, bytes_at, number_at, place_of_expr, place_of_map, place_of_target, expr, map_ref, var_ref, var_target, number_expr, text_expr, builtin_kind, builtin_expr, field_expr, paren_expr, step_before, step_after, prefix_step, map_operand, var_operand, unary_op, unary, binary_kind, binary, choose, stmt, gathering, gather_call, lhist_call, update_target, step_target, gather_map, set_map, on_map, set_var, on_var, map_stmt, var_stmt, step_stmt, printf_kind, print_kind, top_and_div, clear_kind, zero_kind, delete_all, delete_keyed, delete_key, on_item, more_arms, if_stmt, while_stmt, unroll_stmt, block_of, with_points, probe_of}
 use Rattle.bt_grammar.proofs.AllClasses.{and_first, implies1}
 use Rattle.bt_grammar.proofs.MentionForms.{Telling, Tells, Nothing, Maybe, is_silent, tells_silent, tells_map_name, tells_text, tells_mark, tells_empty, tells_map, tells_then, tells_or, tells_until, tells_op, tells_chain, tells_second, tells_parens, tells_comma, tells_optional}
 use Rattle.bt_grammar.proofs.TreeMentions as trees

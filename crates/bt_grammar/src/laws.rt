@@ -1,5 +1,5 @@
 // What holds of every list of tokens.
-ghost use Rattle.std.specs.Prelude.{◌≡◌, ◌⊎◌, ◌↔◌, ◌++◌, ◌≤◌, length, List};
+ghost use Rattle.std.specs.Prelude.{◌≡◌, ◌↔◌, ◌++◌, ◌≤◌, length, List};
 ghost use Rattle.bt_ast.specs.declared.probe.Script.{Script};
 ghost use Rattle.bt_core.specs.declared.limits.TheConstants.{PROBES};
 ghost use Rattle.bt_grammar.specs.declared.error.ParseError.{ParseError};

@@ -1,5 +1,5 @@
 -- Each token takes a byte, and a fault stands within its text.
-use Rattle.std.proofs.Common.{◌≡◌, ℕ, ◌+◌, ◌<◌, ◌≤◌, List, [], ◌∷◌, ◌++◌, length, Option, Some, None, ap, arith, inl, inr}
+use Rattle.std.proofs.Common.{ℕ, ◌+◌, ◌≤◌, List, [], ◌∷◌, ◌++◌, length, Option, Some, None, ap, arith, inl, inr}
 use Rattle.std.proofs.lemmas.List.{length-append}
 use Rattle.bt_lexer.specs.Places.{offset_of}
 use Rattle.bt_lexer.specs.Tokens.{IsPiece, IsFault, Pieces, IsCut, tokens_behind, tokens_of, first_line, IsTokensOf, IsFirstFault}

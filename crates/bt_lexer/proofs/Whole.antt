@@ -1,12 +1,10 @@
 -- A whole text: what is found is its tokens or its first fault.
-use Rattle.std.proofs.Common.{◌≡◌, ℕ, zero, suc, ◌+◌, ◌<◌, ◌≤◌, true, false, cond, ◌&&◌, List, [], ◌∷◌, ◌++◌, length, take, drop, reverse, Option, Some, None, Result, Ok, Err, refl, ap, sym, subst, ◌∙◌, arith, append_assoc}
-use Rattle.std.specs.Prelude.{if◌then◌else◌, ◌==◌, take_while, count_by}
-use Rattle.std.proofs.lemmas.List.{take_at, drop_at, length-append, append-nil, reverse-append, append_cancel_left}
-use Rattle.std.proofs.lemmas.List.Sums.{take_while-cons, sum_by_push}
+use Rattle.std.proofs.Common.{◌≡◌, ℕ, zero, suc, ◌+◌, ◌<◌, ◌≤◌, ◌&&◌, List, [], ◌∷◌, ◌++◌, length, take, drop, Option, Some, None, Result, Ok, Err, refl, ap, sym, subst, ◌∙◌, arith}
+use Rattle.std.specs.Prelude.{◌==◌, take_while}
+use Rattle.std.proofs.lemmas.List.{take_at, drop_at, length-append, append_cancel_left}
 use Rattle.bt_lexer.specs.Bytes.{not_newline}
-use Rattle.bt_lexer.specs.Places.{line_behind, column_behind}
 use Rattle.bt_lexer.specs.Tokens.{IsPiece, IsFault, Stands, Pieces, IsCut, tokens_behind, tokens_of, first_line, IsTokensOf, IsFirstFault}
-use Rattle.bt_lexer.specs.Scan.{piece_at, after, after_byte, tokens_at, prepend, lexed_from, lexed}
+use Rattle.bt_lexer.specs.Scan.{piece_at, tokens_at, prepend, lexed_from, lexed}
 use Rattle.bt_lexer.specs.declared.position.Position.{Position}
 use Rattle.bt_lexer.specs.declared.piece.Piece.{Piece}
 use Rattle.bt_lexer.specs.declared.token.Token.{Token}

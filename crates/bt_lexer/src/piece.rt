@@ -1,5 +1,5 @@
 // What stands at a place of a text.
-ghost use Rattle.std.specs.Prelude.{◌≡◌, ◌+◌, ◌<◌, ◌≤◌, ◌^◌, ◌∷◌, Some, None, length, IfOk};
+ghost use Rattle.std.specs.Prelude.{◌≡◌, ◌+◌, ◌<◌, ◌^◌, ◌∷◌, Some, None, length, IfOk};
 ghost use Rattle.bt_lexer.specs.Scan.{piece_at, slash_piece, IsWithin};
 ghost use Rattle.bt_lexer.specs.Tokens.{Gives};
 

@@ -1,5 +1,5 @@
 // Strings between quotes.
-ghost use Rattle.std.specs.Prelude.{◌≡◌, ◌+◌, ◌<◌, ◌≤◌, ◌^◌, length, IfOk};
+ghost use Rattle.std.specs.Prelude.{◌≡◌, ◌+◌, ◌<◌, ◌^◌, length, IfOk};
 ghost use Rattle.bt_lexer.specs.Scan.{closed, escape_of, string_byte, string_piece, unclosed, IsWithin};
 ghost use Rattle.bt_lexer.specs.Tokens.{Gives};
 

@@ -1,5 +1,5 @@
 // Words, attach tokens, and the names of maps and variables.
-ghost use Rattle.std.specs.Prelude.{◌≡◌, ◌+◌, ◌<◌, ◌≤◌, ◌^◌, length, take_while, IfOk, true};
+ghost use Rattle.std.specs.Prelude.{◌≡◌, ◌+◌, ◌<◌, ◌≤◌, length, take_while, IfOk, true};
 ghost use Rattle.bt_core.specs.Bytes.{is_letter, is_word_byte};
 ghost use Rattle.bt_lexer.specs.Bytes.{begins, is_attach_byte};
 ghost use Rattle.bt_lexer.specs.Scan.{attach_len, is_attach_word, is_colon, map_piece, name_len, var_piece, word_len, word_piece, IsWithin};

@@ -15,7 +15,7 @@ use Rattle.bt_grammar.specs.Fine.{FineAt, Led}
 use Rattle.bt_grammar.specs.Reading.{Out, Done, Refused, Unfinished, and_then, read, reads, goes_on, starts, rest_of, first, sens, differs}
 use Rattle.bt_grammar.specs.Rules.{rule, mark, ends, optional, after_comma, value, operand, operation}
 use Rattle.bt_grammar.specs.Trees.{second, snoc, pair, choose, map_ref, map_operand, binary}
-use Rattle.bt_parser.specs.Mirror.{class_at, front_place, operator_at, when, prefix_at, named, operand_by, tighter, level_on, level_by, level_turn, choice_by, expression_by, unary_by, primary_by, keyed_by, map_by, assignable_by, values_on, values_behind, values_turn, step_at, step_on, map_value}
+use Rattle.bt_parser.specs.Mirror.{class_at, operator_at, when, prefix_at, named, operand_by, tighter, level_on, level_by, level_turn, choice_by, expression_by, unary_by, primary_by, keyed_by, map_by, assignable_by, values_on, values_behind, values_turn, step_at, step_on, map_value}
 use Rattle.bt_grammar.proofs.Enough.{reads_is}
 use Rattle.bt_grammar.proofs.Steps.{goes_on_stop, goes_on_more}
 use Rattle.bt_grammar.proofs.Checked.{fine_rule}

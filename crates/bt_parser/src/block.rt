@@ -1,5 +1,5 @@
 // Blocks and the statements that have them.
-ghost use Rattle.std.specs.Prelude.{◌≡◌, ◌<◌, OnOk, length};
+ghost use Rattle.std.specs.Prelude.{◌<◌, OnOk, length};
 ghost use Rattle.bt_parser.specs.Contract.{Reads};
 ghost use Rattle.bt_grammar.specs.Form.{Arm, Body, Braced, Control};
 ghost use Rattle.bt_grammar.specs.Reading.{read, reads};

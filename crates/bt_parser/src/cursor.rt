@@ -1,5 +1,5 @@
 // The tokens that are left.
-ghost use Rattle.std.specs.Prelude.{◌≡◌, ◌<◌, ◌≤◌, IfOk, IfSome, IsSome, IsTrue, List, OnOk, false, length, true};
+ghost use Rattle.std.specs.Prelude.{◌≡◌, ◌<◌, IfOk, IfSome, IsSome, IsTrue, List, OnOk, false, length, true};
 ghost use Rattle.bt_grammar.specs.declared.class.Class.{Class};
 ghost use Rattle.bt_grammar.specs.declared.class.Class.TheVariants.{NumberLiteral};
 ghost use Rattle.bt_grammar.specs.Classes.{gathers, is, is_point, joins, tier_of};
@@ -12,7 +12,7 @@ ghost use Rattle.bt_parser.specs.Mirror.{class_at, front_place, named_form, oper
 ghost use Rattle.bt_parser.specs.Probes.{point_form};
 ghost use Rattle.bt_parser.specs.Statements.{begins_aggregation, begins_control, call_at, gatherer_at, update_at};
 ghost use Rattle.bt_grammar.specs.Tables.{is_call};
-ghost use Rattle.bt_grammar.specs.Tokens.{class_of, items};
+ghost use Rattle.bt_grammar.specs.Tokens.{items};
 ghost use Rattle.bt_grammar.specs.Trees.{kind_bytes, kind_number};
 
 use crate::fault::Fault;

@@ -1,5 +1,5 @@
 // Expressions.
-ghost use Rattle.std.specs.Prelude.{◌≡◌, ◌<◌, ◌≤◌, IfOk, IsSome, OnOk, length};
+ghost use Rattle.std.specs.Prelude.{◌≡◌, ◌<◌, IfOk, IsSome, OnOk, length};
 ghost use Rattle.bt_parser.specs.Contract.{Reads};
 ghost use Rattle.bt_grammar.specs.Classes.{tier_of};
 ghost use Rattle.bt_grammar.specs.Form.{Assignable, Expression, Keyed, Level, Primary, Unary};

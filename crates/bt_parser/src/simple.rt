@@ -1,5 +1,5 @@
 // Simple statements.
-ghost use Rattle.std.specs.Prelude.{◌≡◌, ◌<◌, OnOk, length};
+ghost use Rattle.std.specs.Prelude.{◌<◌, OnOk, length};
 ghost use Rattle.bt_parser.specs.Contract.{Reads};
 ghost use Rattle.bt_grammar.specs.Form.{Simple};
 ghost use Rattle.bt_grammar.specs.Reading.{reads};

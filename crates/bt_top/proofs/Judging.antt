@@ -1,6 +1,6 @@
 -- What the reads, the judging and the write answer together.
-use Rattle.std.proofs.Common.{◌≡◌, ◌≢◌, ℕ, suc, ◌+◌, ◌*◌, ◌<◌, ◌≤◌, ◌⊎◌, List, [], ◌∷◌, ◌++◌, length, refl, sym, ap, subst, ◌∙◌, arith, inl, inr}
-use Rattle.std.specs.Prelude.{Option, Some, None, Result, Ok, Err, IfOk, IfErr, IfSome, IsSome, IsSomeAnd, unwrap_or, replicate}
+use Rattle.std.proofs.Common.{◌≡◌, ℕ, suc, ◌<◌, ◌≤◌, ◌⊎◌, List, [], length, refl, sym, ap, subst, arith, inl, inr}
+use Rattle.std.specs.Prelude.{Option, Some, None, Result, Ok, Err, IfOk, IfErr, IfSome, IsSomeAnd, unwrap_or, replicate}
 use Rattle.std.proofs.lemmas.List.{length-replicate}
 use Rattle.bt_core.specs.declared.limits.TheConstants.{SCRIPT_BYTES, RECORDING_BYTES}
 use Rattle.bt_io.specs.Faults.{Rose}
@@ -10,15 +10,13 @@ use Rattle.bt_top.specs.declared.judge.Counting.{Counting}
 use Rattle.bt_top.specs.declared.report.Report.{Report}
 use Rattle.bt_top.specs.declared.report.Work.{Work}
 use Rattle.bt_top.specs.declared.refusal.Operand.TheVariants as operand
-use Rattle.bt_top.specs.declared.refusal.ScriptRefusal.TheVariants as script
-use Rattle.bt_top.specs.declared.refusal.RecordingRefusal.TheVariants as recording
 use Rattle.bt_top.specs.declared.refusal.Refusal.{Refusal}
 use Rattle.bt_top.specs.declared.refusal.Refusal.TheVariants.{Usage, Script, Recording, ReadFault, WriteFault, Memory}
 use Rattle.bt_top.specs.Count.{payloads_of, IsWorkOf}
 use Rattle.bt_top.specs.Lines.{SinkUse, SinkFailed}
 use Rattle.bt_top.specs.Refusals.{status_of, read_refusal}
-use Rattle.bt_top.specs.Serve.{Files, AreShort, IsAsked, IsAccepted, IsDue, ShelfUse, ShelfFailed, AreHeld, MayCome, HasWork, IsWorkFor, Answers, MayStandFor}
-use Rattle.bt_top.specs.Serve.{ComesIfDue, IsComplete, OnBoth, OnTold, IsDueRefusal, Reads, refusal_in}
+use Rattle.bt_top.specs.Serve.{Files, AreShort, IsAsked, IsAccepted, IsDue, ShelfUse, ShelfFailed, MayCome, HasWork, IsWorkFor, Answers, MayStandFor}
+use Rattle.bt_top.specs.Serve.{ComesIfDue, IsComplete, OnBoth, OnTold, IsDueRefusal, Reads}
 use Rattle.bt_top.specs.Words.{Operands, Order, Run, operands_of}
 
 -- a count that rose in a part of a call rose in the call

@@ -1,12 +1,12 @@
 -- Pieces that are written one after another.
-use Rattle.std.proofs.Common.{◌≡◌, ℕ, zero, suc, ◌+◌, ◌<◌, ◌≤◌, List, [], ◌∷◌, ◌++◌, refl, sym, ap, subst, ◌∙◌, arith, append_assoc, length-append, take}
+use Rattle.std.proofs.Common.{◌≡◌, ℕ, zero, suc, ◌<◌, ◌≤◌, List, [], ◌∷◌, ◌++◌, refl, sym, ap, subst, ◌∙◌, arith, append_assoc, length-append, take}
 use Rattle.std.proofs.Common.{drop, length, get_or, codes}
-use Rattle.std.specs.Prelude.{Option, Some, None, Result, Ok, Err, OnErr, map}
+use Rattle.std.specs.Prelude.{Option, Result, Ok, Err, OnErr, map}
 use Rattle.std.specs.Io.KnownBytes.{Appends}
 use Rattle.std.specs.List.{flat_map}
-use Rattle.std.proofs.lemmas.List.{take-append-le, append-nil}
+use Rattle.std.proofs.lemmas.List.{take-append-le}
 use Rattle.bt_io.specs.Taken.{AppendsPart}
-use Rattle.bt_io.proofs.Appending.{Appends-then, AppendsPart-after}
+use Rattle.bt_io.proofs.Appending.{AppendsPart-after}
 use Rattle.bt_top.specs.declared.line.Piece.{Piece as Written}
 use Rattle.bt_top.specs.Lines.{piece_bytes, piece_by, line_bytes}
 

@@ -1,7 +1,7 @@
 -- The tree of a script, and the format whose events it counts.
-use Rattle.std.proofs.Common.{◌≡◌, ◌≢◌, ℕ, ◌+◌, ◌<◌, ◌≤◌, Bool, true, false, List, length, get_or, Result, Ok, Err, refl, sym, ap, subst, ◌∙◌, arith, inl}
+use Rattle.std.proofs.Common.{◌≡◌, ◌≢◌, ℕ, ◌+◌, ◌<◌, ◌≤◌, Bool, true, false, List, length, get_or, refl, sym, ap, subst, ◌∙◌, arith, inl}
 use Rattle.std.proofs.Common.{inr}
-use Rattle.std.specs.Prelude.{◌↔◌, ◌⊎◌, IsTrue, Option, Some, None, MatchOption, slice_get}
+use Rattle.std.specs.Prelude.{◌↔◌, IsTrue, Option, Some, None, MatchOption, slice_get}
 use Rattle.std.proofs.lemmas.Bool.{cases_lt}
 use Rattle.std.proofs.lemmas.Option.{slice_get-get_or, get_or_from_slice_get, slice_get_within}
 use Rattle.tracefs_format.specs.declared.format.Format.{Format}
@@ -23,7 +23,7 @@ use Rattle.bt_top.specs.declared.refusal.ScriptFault.TheVariants.{BadCharacter, 
 use Rattle.bt_top.specs.declared.refusal.ScriptFault.TheVariants.{TooDeep, TooManyProbes}
 use Rattle.bt_top.specs.declared.refusal.Refusal.{Refusal}
 use Rattle.bt_top.specs.declared.refusal.ScriptRefusal.TheVariants.{Fault}
-use Rattle.bt_top.specs.declared.refusal.Refusal.TheVariants.{Script, Memory}
+use Rattle.bt_top.specs.declared.refusal.Refusal.TheVariants.{Script}
 use Rattle.bt_top.specs.Script.{place_at, place_of, lexical_refusal, parse_refusal, HasTree, IsScriptFault, EventName, IsFormatOf, CountsFormat}
 use Rattle.bt_top.specs.Early.{event_of_tree}
 use Rattle.bt_top.proofs.EarlyTrees.{is_early, is_event}

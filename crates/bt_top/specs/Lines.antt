@@ -1,5 +1,5 @@
 -- The lines that say why a call is refused: pieces one after another, and a newline.
-use Rattle.std.specs.Prelude.{ℕ, List, [], ◌∷◌, ◌++◌, ◌⊎◌, codes, Option}
+use Rattle.std.specs.Prelude.{ℕ, List, ◌++◌, ◌⊎◌, codes, Option}
 use Rattle.std.specs.Fmt.{decimal}
 use Rattle.std.specs.Io.KnownBytes.{Appends}
 use Rattle.std.specs.List.{flat_map}

@@ -1,5 +1,5 @@
 -- The status and the line of each refusal.
-use Rattle.std.specs.Prelude.{ℕ, List, [], ◌∷◌, ◌++◌, codes, Option, Some, None}
+use Rattle.std.specs.Prelude.{ℕ, List, [], ◌∷◌, codes, Option, Some, None}
 use Rattle.bt_io.specs.declared.shelf.ShelfError.{ShelfError}
 use Rattle.bt_io.specs.declared.shelf.ShelfError.TheVariants as shelf
 use Rattle.tracefs_format.specs.declared.error.FormatError.{FormatError}

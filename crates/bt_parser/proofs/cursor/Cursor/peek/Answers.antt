@@ -1,4 +1,4 @@
-use Rattle.bt_parser.proofs.Fronts.{front_class, no_front}
+use Rattle.bt_parser.proofs.Fronts.{front_class}
 use Rattle.bt_parser.proofs.cursor.Cursor.peek.Goals as goal
 
 pub returns-in-len1-up-clause-class : goal.returns-in-len1-up-clause-class
