@@ -1,0 +1,7 @@
+pub mod Clocks
+pub mod CpuTables
+pub mod FineDecls
+pub mod Free
+pub mod Objects
+pub mod Rows
+pub mod Tables
