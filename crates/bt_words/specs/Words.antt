@@ -1,0 +1,91 @@
+-- What the words of a command line ask for.
+use Rattle.std.specs.Prelude.{◌≡◌, ℕ, Bool, true, false, not, ◌&&◌, ◌||◌, ◌==◌, nat_le, List, [], ◌∷◌, length, filter, count_by, codes, map, Option, Some, None, Result, Ok, Err, if◌then◌else◌, String, string_bytes}
+use Rattle.std.specs.List.{list_all, list_any}
+use Rattle.std.specs.Str.{bytes_eq}
+use Rattle.std.specs.Str.Parse.{digits_value}
+use Rattle.std.specs.declared.alloc.Global.{Global}
+use Rattle.bt_core.specs.Bytes.{is_digit}
+use Rattle.bt_core.specs.declared.limits.TheConstants.{EVENTS}
+use Rattle.bt_words.specs.declared.order.WordsError.{WordsError}
+use Rattle.bt_words.specs.declared.order.WordsError.TheVariants.{Usage, Memory}
+use Rattle.bt_words.specs.declared.order.Order.{Order}
+use Rattle.bt_words.specs.declared.order.Order.TheVariants.{Run, Check, Code, Gen, Big}
+
+abbrev pub is_empty : List ℕ → Bool
+is_empty word = length word == 0
+
+-- a word that begins with `-` is an option; each other one is an operand
+abbrev pub is_option : List ℕ → Bool
+is_option [] = false
+is_option (b ∷ bs) = b == 45
+
+abbrev pub is_operand : List ℕ → Bool
+is_operand word = not (is_option word)
+
+abbrev pub is_serial : List ℕ → Bool
+is_serial word = bytes_eq word (codes "--serial")
+
+abbrev pub is_stats : List ℕ → Bool
+is_stats word = bytes_eq word (codes "--stats")
+
+-- behind `run`: operands, and both options, each at most once
+abbrev pub are_run_words : List (List ℕ) → Bool
+are_run_words words =
+    list_all (λ w. is_operand w || (is_serial w || is_stats w)) words && (nat_le (count_by is_serial words) 1 && nat_le (count_by is_stats words) 1)
+
+-- the number that 1 to 10 decimal digits spell, if it is at most so great
+abbrev pub number_in : ℕ → List ℕ → Option ℕ
+number_in greatest word =
+    if list_all is_digit word && (nat_le 1 (length word) && (nat_le (length word) 10 && nat_le (digits_value 10 word) greatest))
+    then Some (digits_value 10 word) else None
+
+-- two operands, read by a function of both
+abbrev pub of_two : (List ℕ → List ℕ → Option Order) → List (List ℕ) → Option Order
+of_two read [] = None
+of_two read (a ∷ []) = None
+of_two read (a ∷ b ∷ []) = read a b
+of_two read (a ∷ b ∷ c ∷ more) = None
+
+abbrev pub numbers : (ℕ → ℕ → Order) → Option ℕ → Option ℕ → Option Order
+numbers made None n = None
+numbers made (Some x) None = None
+numbers made (Some x) (Some n) = Some (made x n)
+
+abbrev pub two_numbers : (ℕ → ℕ → Order) → List ℕ → List ℕ → Option Order
+two_numbers made x n = numbers made (number_in 2147483647 x) (number_in EVENTS n)
+
+abbrev pub run_order : List (List ℕ) → Option Order
+run_order words =
+    if are_run_words words
+    then of_two (λ script recording. Some (Run (nat_le 1 (count_by is_serial words)) (nat_le 1 (count_by is_stats words)) script recording)) (filter is_operand words)
+    else None
+
+-- the order of a command that takes no options
+abbrev pub plain_order : List ℕ → List (List ℕ) → Option Order
+plain_order command operands =
+    if bytes_eq command (codes "check") then of_two (λ script recording. Some (Check script recording)) operands
+    else if bytes_eq command (codes "code") then of_two (λ script recording. Some (Code script recording)) operands
+    else if bytes_eq command (codes "gen") then of_two (two_numbers Gen) operands
+    else if bytes_eq command (codes "big") then of_two (two_numbers Big) operands
+    else None
+
+abbrev pub order_by : List ℕ → List (List ℕ) → Option Order
+order_by command words =
+    if bytes_eq command (codes "run") then run_order words
+    else if list_all is_operand words then plain_order command (filter is_operand words)
+    else None
+
+-- the order of words: none of those behind the command is empty
+abbrev pub order_of_words : List (List ℕ) → Option Order
+order_of_words [] = None
+order_of_words (command ∷ words) = if list_any is_empty words then None else order_by command words
+
+-- the order of the words of a call
+abbrev pub order_of : List (String Global) → Option Order
+order_of words = order_of_words (map string_bytes words)
+
+-- an order is the one that there is, and words are refused only where there is none
+abbrev pub IsAnswer : Option Order → Result Order WordsError → Type 0
+IsAnswer there (Ok order) = there ≡ Some order
+IsAnswer there (Err Usage) = there ≡ None
+IsAnswer there (Err Memory) = Unit {0}
