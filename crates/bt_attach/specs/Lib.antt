@@ -1,0 +1,5 @@
+pub mod Attaching
+pub mod Marks
+pub mod Pattern
+pub mod Steps
+pub mod Ticks

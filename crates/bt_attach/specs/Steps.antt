@@ -1,0 +1,37 @@
+-- What goes with the code: what is seen of a probe behind some of its points.
+use Rattle.std.specs.Prelude.{◌≡◌, ◌≢◌, ◌≤◌, ℕ, ◌+◌, ◌&&◌, ◌||◌, Bool, true, List, [], ◌∷◌, ◌++◌, map, sum_by, length, Option, Some, None, Result, Ok, Err}
+use Rattle.std.specs.List.{list_any}
+use Rattle.bt_ast.specs.declared.probe.Point.{Point}
+use Rattle.bt_ast.specs.declared.probe.Point.TheVariants.{Begin, End, Tracepoint, Interval}
+use Rattle.bt_ast.specs.declared.attached.BodyPoint.{BodyPoint}
+use Rattle.bt_ast.specs.declared.attached.BodyPoint.TheVariants.{Begin as AtBegin, End as AtEnd, Interval as AtTicks, Event}
+use Rattle.tracefs_format.specs.declared.format.Format.{Format}
+use Rattle.bt_attach.specs.declared.error.AttachError.{AttachError}
+use Rattle.bt_attach.specs.declared.error.AttachError.TheVariants.{Memory}
+use Rattle.bt_attach.specs.declared.seen.Seen.{Seen}
+use Rattle.bt_attach.specs.Attaching.{is_begin, is_end, is_interval, is_matched, once, places, point_tick_count}
+use Rattle.bt_attach.specs.Marks.{is_named, either_each}
+
+-- with one more point
+abbrev pub added : List Format → ℕ → Seen → Point → Seen
+added formats span s (Begin place) = record s { begin = true }
+added formats span s (End place) = record s { end = true }
+added formats span s (Tracepoint system name place) = record s { marks = either_each (is_named system name) s.marks formats }
+added formats span s (Interval unit number place) = record s { interval = true; ticks = s.ticks + point_tick_count span (Interval unit number place) }
+
+-- behind these points, where so many ticks stand before the probe
+pub record IsSeen (formats : List Format) (span before : ℕ) (points : List Point) (s : Seen) : Type 0 where
+  pub begin : s.begin ≡ list_any is_begin points
+  pub finish : s.end ≡ list_any is_end points
+  pub interval : s.interval ≡ list_any is_interval points
+  pub marks : s.marks ≡ map (is_matched points) formats
+  pub ticks : s.ticks ≡ before + sum_by (point_tick_count span) points
+
+-- the bodies that the points seen give
+abbrev pub seen_points : Seen → List BodyPoint
+seen_points s = (once s.begin AtBegin ++ once s.end AtEnd) ++ (once s.interval AtTicks ++ map Event (places (λ m. m) s.marks))
+
+-- an error is the fault that there is, or want of memory
+abbrev pub Answers : {X : Type 0} → Option AttachError → (X → Type 0) → Result X AttachError → Type 0
+Answers fault P (Ok x) = (fault ≡ None) × P x
+Answers fault P (Err e) = e ≢ Memory → fault ≡ Some e

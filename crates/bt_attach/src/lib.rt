@@ -1,0 +1,9 @@
+//! What the probes of a script are attached to in a recording.
+#![tactic(auto)]
+
+pub mod error;
+mod marks;
+pub mod pattern;
+mod period;
+mod seen;
+mod ticks;
