@@ -1,6 +1,7 @@
 -- What goes with the code: what is seen of a probe behind some of its points.
-use Rattle.std.specs.Prelude.{◌≡◌, ◌≢◌, ◌≤◌, ℕ, ◌+◌, ◌&&◌, ◌||◌, Bool, true, List, [], ◌∷◌, ◌++◌, map, sum_by, length, Option, Some, None, Result, Ok, Err}
+use Rattle.std.specs.Prelude.{◌≡◌, ◌≢◌, ◌≤◌, ℕ, ◌+◌, ◌&&◌, ◌||◌, Bool, true, List, [], ◌∷◌, ◌++◌, map, sum_by, length, take, drop, Option, Some, None, Result, Ok, Err}
 use Rattle.std.specs.List.{list_any}
+use Rattle.bt_core.specs.declared.limits.TheConstants.{TICKS, BODIES}
 use Rattle.bt_ast.specs.declared.probe.Point.{Point}
 use Rattle.bt_ast.specs.declared.probe.Point.TheVariants.{Begin, End, Tracepoint, Interval}
 use Rattle.bt_ast.specs.declared.attached.BodyPoint.{BodyPoint}
@@ -9,7 +10,7 @@ use Rattle.tracefs_format.specs.declared.format.Format.{Format}
 use Rattle.bt_attach.specs.declared.error.AttachError.{AttachError}
 use Rattle.bt_attach.specs.declared.error.AttachError.TheVariants.{Memory}
 use Rattle.bt_attach.specs.declared.seen.Seen.{Seen}
-use Rattle.bt_attach.specs.Attaching.{is_begin, is_end, is_interval, is_matched, once, places, point_tick_count}
+use Rattle.bt_attach.specs.Attaching.{points_fault, is_begin, is_end, is_interval, is_matched, once, places, point_tick_count}
 use Rattle.bt_attach.specs.Marks.{is_named, either_each}
 
 -- with one more point
@@ -35,3 +36,10 @@ seen_points s = (once s.begin AtBegin ++ once s.end AtEnd) ++ (once s.interval A
 abbrev pub Answers : {X : Type 0} → Option AttachError → (X → Type 0) → Result X AttachError → Type 0
 Answers fault P (Ok x) = (fault ≡ None) × P x
 Answers fault P (Err e) = e ≢ Memory → fault ≡ Some e
+
+-- what stays while a probe's points are looked at: behind the first ones no rule was broken
+pub record NoneBroken (formats : List Format) (span ticks bodies : ℕ) (points : List Point) (place : ℕ) (s : Seen) : Type 0 where
+  pub seen : IsSeen formats span ticks (take place points) s
+  pub left : points_fault formats span ticks bodies (take place points) (drop place points) ≡ points_fault formats span ticks bodies [] points
+  pub ticks_fit : s.ticks ≤ TICKS
+  pub bodies_fit : bodies + length (seen_points s) ≤ BODIES

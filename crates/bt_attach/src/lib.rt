@@ -5,5 +5,6 @@ pub mod error;
 mod marks;
 pub mod pattern;
 mod period;
+mod probe;
 mod seen;
 mod ticks;

@@ -1,5 +1,5 @@
 // What is seen of a probe behind some of its points.
-ghost use Rattle.std.specs.Prelude.{◌≡◌, ◌+◌, ◌≤◌, ◌||◌, [], length};
+ghost use Rattle.std.specs.Prelude.{◌≡◌, ◌+◌, ◌≤◌, ◌||◌, [], length, count_by};
 ghost use Rattle.std.specs.List.{list_any};
 ghost use Rattle.bt_core.specs.declared.limits.TheConstants.{TICKS as MOST_TICKS};
 ghost use Rattle.bt_ast.specs.declared.probe.Point.{Point as PointValue};
@@ -27,12 +27,20 @@ pub(crate) struct Seen {
     pub ticks: u64,
 }
 
+fn mark_count(marks: &[bool]) -> usize
+    ensures value { result ≡ count_by (λ m. m) marks.now }
+    ensures few { result ≤ length marks.now }
+{
+    marks.iter().filter(|m| **m).count()
+}
+
 /// How many bodies the points seen give.
-pub(crate) fn body_count(seen: &Seen) -> usize
+#[tactic(auto, using(crate::proofs::SeenLemmas::seen_length))]
+pub(crate) fn body_count(seen: &Seen) -> u64
     ensures { result ≡ length (seen_points seen.now) }
 {
-    let events = seen.marks.as_slice().iter().filter(|m| **m).count();
-    usize::from(seen.begin) + usize::from(seen.end) + usize::from(seen.interval) + events
+    let events = mark_count(seen.marks.as_slice()) as u64;
+    u64::from(seen.begin) + u64::from(seen.end) + u64::from(seen.interval) + events
 }
 
 fn has_star(system: &[u8], name: &[u8]) -> bool
