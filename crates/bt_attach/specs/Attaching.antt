@@ -1,5 +1,5 @@
 -- What the probes of a script are attached to in a recording, and the first point that is attached to nothing that may be.
-use Rattle.std.specs.Prelude.{◌≡◌, ◌≢◌, ℕ, ◌+◌, ◌-◌, ◌&&◌, ◌||◌, ◌==◌, not, nat_lt, Bool, true, false, List, [], ◌∷◌, ◌++◌, map, length, sum_by, Option, Some, None, if◌then◌else◌}
+use Rattle.std.specs.Prelude.{◌≡◌, ℕ, zero, suc, ◌+◌, ◌-◌, ◌&&◌, ◌||◌, ◌==◌, not, nat_lt, Bool, true, false, List, [], ◌∷◌, ◌++◌, map, length, sum_by, Option, Some, None, if◌then◌else◌}
 use Rattle.std.specs.List.{list_any, flat_map}
 use Rattle.bt_core.specs.declared.place.Place.{Place}
 use Rattle.bt_core.specs.declared.limits.TheConstants.{BODIES, TICKS}
@@ -101,10 +101,15 @@ is_at _ _ = false
 abbrev pub bodies_at : List BodyId → BodyPoint → List ℕ
 bodies_at bodies point = places (λ (b : BodyId). is_at point b.point) bodies
 
+-- the bodies at events of each of the first so many formats
+abbrev pub at_each : List BodyId → ℕ → List (List ℕ)
+at_each bodies zero = []
+at_each bodies (suc count) = at_each bodies count ++ bodies_at bodies (Event count) ∷ []
+
 -- what the probes of a script are attached to
 pub record IsAttachedTo (script : Script) (formats : List Format) (start end : ℕ) (attached : Attached) : Type 0 where
   pub bodies : attached.bodies ≡ bodies_from formats 0 script.probes
-  pub by_format : attached.by_format ≡ map (λ format. bodies_at attached.bodies (Event format)) (places (λ (f : Format). true) formats)
+  pub by_format : attached.by_format ≡ at_each attached.bodies (length formats)
   pub begin : attached.begin ≡ bodies_at attached.bodies AtBegin
   pub finish : attached.end ≡ bodies_at attached.bodies AtEnd
   pub ticks : AreInOrder (ticks_from start (end - start) formats 0 script.probes) attached.ticks

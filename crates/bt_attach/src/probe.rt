@@ -30,6 +30,7 @@ pub(crate) fn check_points(
     ticks: u64,
     bodies: u64,
 ) -> Result<Seen, AttachError>
+    requires formats { length formats.now < 2 ^ 32 }
     requires few_ticks { ticks ≤ MOST_TICKS }
     requires few_bodies { bodies ≤ MOST_BODIES }
     ensures answer { Answers (points_fault formats.now span ticks bodies [] points.now) (IsSeen formats.now span ticks points.now) result }

@@ -37,7 +37,8 @@ fn mark_count(marks: &[bool]) -> usize
 /// How many bodies the points seen give.
 #[tactic(auto, using(crate::proofs::SeenLemmas::seen_length))]
 pub(crate) fn body_count(seen: &Seen) -> u64
-    ensures { result ≡ length (seen_points seen.now) }
+    ensures value { result ≡ length (seen_points seen.now) }
+    ensures few { result ≤ length seen.now.marks + 3 }
 {
     let events = mark_count(seen.marks.as_slice()) as u64;
     u64::from(seen.begin) + u64::from(seen.end) + u64::from(seen.interval) + events
