@@ -85,10 +85,11 @@ pub adds_from : (formats : List Format) (start span probe body t b : ℕ) (point
     → new.bodies ≡ old.bodies ++ with_probe probe (seen_points s) → new.ticks.items ≡ old.ticks.items ++ flat_map (point_ticks start span body) points
     → (points_fault formats span (length old.ticks.items) (length old.bodies) [] own ≡ None) × AddsProbe formats start span probe own old new
 adds_from formats start span probe body t b points own old new s te be pe answer few_ticks few_bodies body_is bodies ticks =
-    subst (λ (ps : List Point). (points_fault formats span (length old.ticks.items) (length old.bodies) [] ps ≡ None) × AddsProbe formats start span probe ps old new) pe
-      (ap (λ (n : ℕ). points_fault formats span n (length old.bodies) [] points) (sym te) ∙ (ap (λ (n : ℕ). points_fault formats span t n [] points) (sym be) ∙ answer.0),
-        adds_probe formats start span probe body points old new s (subst (λ (n : ℕ). IsSeen formats span n points s) te answer.1) few_ticks
-          (omega (arith, be, few_bodies)) (omega (arith, be, body_is)) bodies ticks)
+    subst (λ (ps : List Point). (points_fault formats span (length old.ticks.items) (length old.bodies) [] ps ≡ None) × AddsProbe formats start span probe ps old new) pe (
+      ap (λ (n : ℕ). points_fault formats span n (length old.bodies) [] points) (sym te) ∙ (ap (λ (n : ℕ). points_fault formats span t n [] points) (sym be) ∙ answer.0),
+      adds_probe formats start span probe body points old new s (subst (λ (n : ℕ). IsSeen formats span n points s) te answer.1) few_ticks
+          (omega (arith, be, few_bodies)) (omega (arith, be, body_is)) bodies ticks,
+    )
 
 next_drop : (probes : List Probe) (i : ℕ) (p : Probe) → i < length probes → p ≡ get_or probes i p → drop i probes ≡ p ∷ drop (i + 1) probes
 next_drop probes i p within is =
@@ -100,7 +101,7 @@ pub failed_probe : (formats : List Format) (start span : ℕ) (probes : List Pro
 failed_probe formats start span probes i p f e h within is fault =
     sym h.left ∙ (ap (probes_fault formats span (length f.ticks.items) (length f.bodies)) (next_drop probes i p within is)
     ∙ ap (λ (o : Option AttachError). or_else o (probes_fault formats span (length f.ticks.items + sum_by (point_tick_count span) p.points)
-        (length f.bodies + length (body_points formats p.points)) (drop (i + 1) probes))) fault)
+    (length f.bodies + length (body_points formats p.points)) (drop (i + 1) probes))) fault)
 
 pub next_probe : (formats : List Format) (start span : ℕ) (probes : List Probe) (i : ℕ) (p : Probe) (old new : Found) → NoneFailed formats start span probes i old → i < length probes → p ≡ get_or probes i p
     → points_fault formats span (length old.ticks.items) (length old.bodies) [] p.points ≡ None → AddsProbe formats start span i p.points old new → NoneFailed formats start span probes (i + 1) new
@@ -110,21 +111,21 @@ next_probe formats start span probes i p old new h within is none adds =
     let own = with_probe i (body_points formats p.points) in
     let mine = flat_map (point_ticks start span (length old.bodies + length (begin_and_end p.points))) p.points in
     let count : length new.bodies ≡ length old.bodies + length (body_points formats p.points) =
-      ap length adds.bodies ∙ (length-append old.bodies own
-        ∙ ap (λ (n : ℕ). length old.bodies + n) (length-map (body_points formats p.points) (λ (point : BodyPoint). let id : BodyId = record { probe = i; point = point } in id))) in
+    ap length adds.bodies ∙ (length-append old.bodies own
+    ∙ ap (λ (n : ℕ). length old.bodies + n) (length-map (body_points formats p.points) (λ (point : BodyPoint). let id : BodyId = record { probe = i; point = point } in id))) in
     record {
       bodies = ap (λ (l : List BodyId). l ++ bodies_from formats (i + 1) rest) adds.bodies
-        ∙ (append_assoc old.bodies own (bodies_from formats (i + 1) rest)
-        ∙ (ap (λ (l : List Probe). old.bodies ++ bodies_from formats i l) (sym d) ∙ h.bodies));
+          ∙ (append_assoc old.bodies own (bodies_from formats (i + 1) rest)
+          ∙ (ap (λ (l : List Probe). old.bodies ++ bodies_from formats i l) (sym d) ∙ h.bodies));
       ticks = ap (λ (n : ℕ). new.ticks.items ++ ticks_from start span formats n rest) count
-        ∙ (ap (λ (l : List Tick). l ++ ticks_from start span formats (length old.bodies + length (body_points formats p.points)) rest) adds.ticks
-        ∙ (append_assoc old.ticks.items mine (ticks_from start span formats (length old.bodies + length (body_points formats p.points)) rest)
-        ∙ (ap (λ (l : List Probe). old.ticks.items ++ ticks_from start span formats (length old.bodies) l) (sym d) ∙ h.ticks)));
+          ∙ (ap (λ (l : List Tick). l ++ ticks_from start span formats (length old.bodies + length (body_points formats p.points)) rest) adds.ticks
+          ∙ (append_assoc old.ticks.items mine (ticks_from start span formats (length old.bodies + length (body_points formats p.points)) rest)
+          ∙ (ap (λ (l : List Probe). old.ticks.items ++ ticks_from start span formats (length old.bodies) l) (sym d) ∙ h.ticks)));
       left = ap (λ (n : ℕ). probes_fault formats span n (length new.bodies) rest) adds.tick_count
-        ∙ (ap (λ (n : ℕ). probes_fault formats span (length old.ticks.items + sum_by (point_tick_count span) p.points) n rest) count
-        ∙ (sym (ap (λ (o : Option AttachError). or_else o (probes_fault formats span (length old.ticks.items + sum_by (point_tick_count span) p.points)
-              (length old.bodies + length (body_points formats p.points)) rest)) none)
-        ∙ (ap (probes_fault formats span (length old.ticks.items) (length old.bodies)) (sym d) ∙ h.left)));
+          ∙ (ap (λ (n : ℕ). probes_fault formats span (length old.ticks.items + sum_by (point_tick_count span) p.points) n rest) count
+          ∙ (sym (ap (λ (o : Option AttachError). or_else o (probes_fault formats span (length old.ticks.items + sum_by (point_tick_count span) p.points)
+          (length old.bodies + length (body_points formats p.points)) rest)) none)
+          ∙ (ap (probes_fault formats span (length old.ticks.items) (length old.bodies)) (sym d) ∙ h.left)));
       bodies_fit = adds.bodies_fit;
       ticks_fit = adds.ticks_fit;
     }
@@ -136,13 +137,14 @@ nothing_behind (x ∷ xs) = ap (λ (l : List _). x ∷ l) (nothing_behind xs)
 pub all_found : (formats : List Format) (start span : ℕ) (probes : List Probe) (i : ℕ) (f : Found) → NoneFailed formats start span probes i f → length probes ≤ i
     → (probes_fault formats span 0 0 probes ≡ None) × IsFound formats start span probes f
 all_found formats start span probes i f h past =
-    let d = drop_all i probes past in
-    (sym h.left ∙ ap (probes_fault formats span (length f.ticks.items) (length f.bodies)) d,
+    let d = drop_all i probes past in (
+      sym h.left ∙ ap (probes_fault formats span (length f.ticks.items) (length f.bodies)) d,
       record {
         bodies = sym (nothing_behind f.bodies) ∙ (ap (λ (l : List Probe). f.bodies ++ bodies_from formats i l) (sym d) ∙ h.bodies);
         ticks = sym (nothing_behind f.ticks.items) ∙ (ap (λ (l : List Probe). f.ticks.items ++ ticks_from start span formats (length f.bodies) l) (sym d) ∙ h.ticks);
         bodies_fit = h.bodies_fit;
-      })
+      },
+    )
 
 pub attached_is : (script : Script) (formats : List Format) (start end span : ℕ) (probes : List Probe) (f : Found) (a : Attached) → probes ≡ script.probes → span ≡ end - start → IsFound formats start span probes f
     → a.bodies ≡ f.bodies → a.by_format ≡ at_each f.bodies (length formats) → a.begin ≡ bodies_at f.bodies AtBegin → a.end ≡ bodies_at f.bodies AtEnd → AreInOrder f.ticks.items a.ticks
@@ -153,7 +155,7 @@ attached_is script formats start end span probes f a pe se is bodies by_format b
   begin = begin ∙ ap (λ (b : List BodyId). bodies_at b AtBegin) (sym bodies);
   finish = finish ∙ ap (λ (b : List BodyId). bodies_at b AtEnd) (sym bodies);
   ticks = subst (λ (t : List Tick). AreInOrder t a.ticks)
-    (is.ticks ∙ (ap (λ (n : ℕ). ticks_from start n formats 0 probes) se ∙ ap (ticks_from start (end - start) formats 0) pe)) order;
+      (is.ticks ∙ (ap (λ (n : ℕ). ticks_from start n formats 0 probes) se ∙ ap (ticks_from start (end - start) formats 0) pe)) order;
 }
 
 pub fault_is : (script : Script) (formats : List Format) (start end span : ℕ) (probes : List Probe) (o : Option AttachError) → probes ≡ script.probes → span ≡ end - start → probes_fault formats span 0 0 probes ≡ o

@@ -76,7 +76,7 @@ marks_set : (system name : List ℕ) (points : List Point) (p : Point) (formats 
 marks_set system name points p [] h = refl
 marks_set system name points p (f ∷ fs) h =
     ap (λ (b : Bool). b ∷ either_each (is_named system name) (map (is_matched points) fs) fs)
-      (ap (λ (v : Bool). is_matched points f || v) (sym (h f)) ∙ sym (any_more (matches_format f) points p))
+    (ap (λ (v : Bool). is_matched points f || v) (sym (h f)) ∙ sym (any_more (matches_format f) points p))
     ∙ ap (λ (bs : List Bool). is_matched (points ++ p ∷ []) f ∷ bs) (marks_set system name points p fs h)
 
 ticks_more : (span before ticks : ℕ) (points : List Point) (p : Point) → ticks ≡ before + sum_by (point_tick_count span) points
@@ -105,23 +105,23 @@ seen_more formats span before points (End place) s h = record {
   ticks = no_ticks span before s.ticks points (End place) h.ticks refl;
 }
 seen_more formats span before points (Tracepoint system name place) s h =
-  let p = Tracepoint system name place in
-  record {
-    begin = kept is_begin points p s.begin h.begin refl;
-    finish = kept is_end points p s.end h.finish refl;
-    interval = kept is_interval points p s.interval h.interval refl;
-    marks = ap (λ (m : List Bool). either_each (is_named system name) m formats) h.marks ∙ marks_set system name points p formats (λ f. refl);
-    ticks = no_ticks span before s.ticks points p h.ticks refl;
-  }
+    let p = Tracepoint system name place in
+    record {
+      begin = kept is_begin points p s.begin h.begin refl;
+      finish = kept is_end points p s.end h.finish refl;
+      interval = kept is_interval points p s.interval h.interval refl;
+      marks = ap (λ (m : List Bool). either_each (is_named system name) m formats) h.marks ∙ marks_set system name points p formats (λ f. refl);
+      ticks = no_ticks span before s.ticks points p h.ticks refl;
+    }
 seen_more formats span before points (Interval unit number place) s h =
-  let p = Interval unit number place in
-  record {
-    begin = kept is_begin points p s.begin h.begin refl;
-    finish = kept is_end points p s.end h.finish refl;
-    interval = set is_interval points p refl;
-    marks = h.marks ∙ marks_kept points p formats (λ f. refl);
-    ticks = ticks_more span before s.ticks points p h.ticks;
-  }
+    let p = Interval unit number place in
+    record {
+      begin = kept is_begin points p s.begin h.begin refl;
+      finish = kept is_end points p s.end h.finish refl;
+      interval = set is_interval points p refl;
+      marks = h.marks ∙ marks_kept points p formats (λ f. refl);
+      ticks = ticks_more span before s.ticks points p h.ticks;
+    }
 
 no_marks_yet : (formats : List Format) → replicate (length formats) false ≡ map (is_matched []) formats
 no_marks_yet [] = refl
@@ -197,22 +197,22 @@ pub next_seen : (formats : List Format) (span ticks : ℕ) (points : List Point)
     → next ≡ added formats span s p → IsSeen formats span ticks (take (i + 1) points) next
 next_seen formats span ticks points i p s next h within is made =
     subst (λ (ps : List Point). IsSeen formats span ticks ps next) (sym (next_take points i p within is))
-      (subst (λ (n : Seen). IsSeen formats span ticks (take i points ++ p ∷ []) n) (sym made) (seen_more formats span ticks (take i points) p s h))
+    (subst (λ (n : Seen). IsSeen formats span ticks (take i points ++ p ∷ []) n) (sym made) (seen_more formats span ticks (take i points) p s h))
 
 -- what the next point's faults are
 own_now : (formats : List Format) (span ticks bodies : ℕ) (points : List Point) (i : ℕ) (p : Point) (s : Seen) → NoneBroken formats span ticks bodies points i s → i < length points → p ≡ get_or points i p
     → points_fault formats span ticks bodies [] points
-      ≡ or_else (or_else (or_else (own_fault formats p) (too_many_ticks (s.ticks + point_tick_count span p) p)) (too_many_bodies (bodies + length (body_points formats (take (i + 1) points))) p))
-        (points_fault formats span ticks bodies (take (i + 1) points) (drop (i + 1) points))
+    ≡ or_else (or_else (or_else (own_fault formats p) (too_many_ticks (s.ticks + point_tick_count span p) p)) (too_many_bodies (bodies + length (body_points formats (take (i + 1) points))) p))
+    (points_fault formats span ticks bodies (take (i + 1) points) (drop (i + 1) points))
 own_now formats span ticks bodies points i p s h within is =
     let t = next_take points i p within is in
     sym h.left
     ∙ (ap (points_fault formats span ticks bodies (take i points)) (next_drop points i p within is)
     ∙ (ap (λ (ps : List Point). or_else (point_fault formats (ticks + sum_by (point_tick_count span) ps) (bodies + length (body_points formats ps)) p)
-        (points_fault formats span ticks bodies ps (drop (i + 1) points))) (sym t)
+    (points_fault formats span ticks bodies ps (drop (i + 1) points))) (sym t)
     ∙ ap (λ (n : ℕ). or_else (or_else (or_else (own_fault formats p) (too_many_ticks n p)) (too_many_bodies (bodies + length (body_points formats (take (i + 1) points))) p))
-        (points_fault formats span ticks bodies (take (i + 1) points) (drop (i + 1) points)))
-      (ap (λ (ps : List Point). ticks + sum_by (point_tick_count span) ps) t ∙ sym (ticks_more span ticks s.ticks (take i points) p h.seen.ticks))))
+    (points_fault formats span ticks bodies (take (i + 1) points) (drop (i + 1) points)))
+    (ap (λ (ps : List Point). ticks + sum_by (point_tick_count span) ps) t ∙ sym (ticks_more span ticks s.ticks (take i points) p h.seen.ticks))))
 
 pub still_none : (formats : List Format) (span ticks bodies : ℕ) (points : List Point) (i : ℕ) (p : Point) (s next : Seen) → NoneBroken formats span ticks bodies points i s → i < length points → p ≡ get_or points i p
     → or_else (own_fault formats p) (too_many_ticks (s.ticks + point_tick_count span p) p) ≡ None → next ≡ added formats span s p → bodies + length (seen_points next) ≤ BODIES
@@ -226,10 +226,10 @@ still_none formats span ticks bodies points i p s next h within is none made fit
     record {
       seen = seen;
       left = sym (own_now formats span ticks bodies points i p s h within is
-        ∙ (ap (λ (o : Option AttachError). or_else (or_else o (too_many_bodies count p)) rest) none
-        ∙ ap (λ (o : Option AttachError). or_else o rest) (few BODIES count _ small)));
+          ∙ (ap (λ (o : Option AttachError). or_else (or_else o (too_many_bodies count p)) rest) none
+          ∙ ap (λ (o : Option AttachError). or_else o rest) (few BODIES count _ small)));
       ticks_fit = (let t = not_many TICKS (s.ticks + point_tick_count span p) _ (or_else_none (own_fault formats p) _ none) in
-        let e = ap (λ (n : Seen). n.ticks) made ∙ added_ticks formats span s p in omega (arith, t, e));
+          let e = ap (λ (n : Seen). n.ticks) made ∙ added_ticks formats span s p in omega (arith, t, e));
       bodies_fit = fit;
     }
 
@@ -238,7 +238,7 @@ pub broken_here : (formats : List Format) (span ticks bodies : ℕ) (points : Li
 broken_here formats span ticks bodies points i p s e h within is fault =
     own_now formats span ticks bodies points i p s h within is
     ∙ ap (λ (o : Option AttachError). or_else (or_else o (too_many_bodies (bodies + length (body_points formats (take (i + 1) points))) p))
-        (points_fault formats span ticks bodies (take (i + 1) points) (drop (i + 1) points))) fault
+    (points_fault formats span ticks bodies (take (i + 1) points) (drop (i + 1) points))) fault
 
 pub crowded_here : (formats : List Format) (span ticks bodies : ℕ) (points : List Point) (i : ℕ) (p : Point) (s next : Seen) → NoneBroken formats span ticks bodies points i s → i < length points → p ≡ get_or points i p
     → or_else (own_fault formats p) (too_many_ticks (s.ticks + point_tick_count span p) p) ≡ None → next ≡ added formats span s p → BODIES < bodies + length (seen_points next)
@@ -256,6 +256,7 @@ crowded_here formats span ticks bodies points i p s next h within is none made p
 -- behind all points
 pub all_seen : (formats : List Format) (span ticks bodies : ℕ) (points : List Point) (i : ℕ) (s : Seen) → NoneBroken formats span ticks bodies points i s → length points ≤ i
     → (points_fault formats span ticks bodies [] points ≡ None) × IsSeen formats span ticks points s
-all_seen formats span ticks bodies points i s h past =
-    (sym h.left ∙ ap (points_fault formats span ticks bodies (take i points)) (drop_all i points past),
-      subst (λ (ps : List Point). IsSeen formats span ticks ps s) (take_all i points past) h.seen)
+all_seen formats span ticks bodies points i s h past = (
+  sym h.left ∙ ap (points_fault formats span ticks bodies (take i points)) (drop_all i points past),
+  subst (λ (ps : List Point). IsSeen formats span ticks ps s) (take_all i points past) h.seen,
+)

@@ -1,5 +1,6 @@
 -- What the probes of a script are attached to in a recording, and the first point that is attached to nothing that may be.
-use Rattle.std.specs.Prelude.{◌≡◌, ℕ, zero, suc, ◌+◌, ◌-◌, ◌&&◌, ◌||◌, ◌==◌, not, nat_lt, Bool, true, false, List, [], ◌∷◌, ◌++◌, map, length, sum_by, Option, Some, None, if◌then◌else◌}
+use Rattle.std.specs.Prelude.{◌≡◌, ℕ, zero, suc, ◌+◌, ◌-◌, ◌&&◌, ◌||◌, ◌==◌, not, nat_lt, Bool}
+use Rattle.std.specs.Prelude.{true, false, List, [], ◌∷◌, ◌++◌, map, length, sum_by, Option, Some, None, if◌then◌else◌}
 use Rattle.std.specs.List.{list_any, flat_map}
 use Rattle.bt_core.specs.declared.place.Place.{Place}
 use Rattle.bt_core.specs.declared.limits.TheConstants.{BODIES, TICKS}
@@ -75,7 +76,8 @@ body_points formats points =
 
 abbrev pub bodies_from : List Format → ℕ → List Probe → List BodyId
 bodies_from formats probe [] = []
-bodies_from formats probe (p ∷ ps) = map (λ point. record { probe = probe; point = point }) (body_points formats p.points) ++ bodies_from formats (probe + 1) ps
+bodies_from formats probe (p ∷ ps) =
+    map (λ point. record { probe = probe; point = point }) (body_points formats p.points) ++ bodies_from formats (probe + 1) ps
 
 -- the ticks of a point and of probes, before they are put in order; so many bodies stand before a probe's own
 abbrev pub point_ticks : ℕ → ℕ → ℕ → Point → List Tick

@@ -1,5 +1,6 @@
 -- What goes with the code: what is seen of a probe behind some of its points.
-use Rattle.std.specs.Prelude.{◌≡◌, ◌≢◌, ◌≤◌, ℕ, ◌+◌, ◌&&◌, ◌||◌, Bool, true, List, [], ◌∷◌, ◌++◌, map, sum_by, length, take, drop, Option, Some, None, Result, Ok, Err}
+use Rattle.std.specs.Prelude.{◌≡◌, ◌≢◌, ◌≤◌, ℕ, ◌+◌, ◌&&◌, ◌||◌, Bool, true, List, [], ◌∷◌}
+use Rattle.std.specs.Prelude.{◌++◌, map, sum_by, length, take, drop, Option, Some, None, Result, Ok, Err}
 use Rattle.std.specs.List.{list_any, flat_map}
 use Rattle.bt_core.specs.declared.limits.TheConstants.{TICKS, BODIES}
 use Rattle.bt_ast.specs.declared.probe.Point.{Point}
@@ -13,7 +14,8 @@ use Rattle.bt_attach.specs.declared.error.AttachError.TheVariants.{Memory}
 use Rattle.bt_attach.specs.declared.seen.Seen.{Seen}
 use Rattle.bt_attach.specs.declared.attach.Found.{Found}
 use Rattle.bt_ast.specs.declared.probe.Probe.{Probe}
-use Rattle.bt_attach.specs.Attaching.{points_fault, probes_fault, body_points, begin_and_end, bodies_from, point_ticks, ticks_from, is_begin, is_end, is_interval, is_matched, once, places, places_from, point_tick_count}
+use Rattle.bt_attach.specs.Attaching.{points_fault, probes_fault, body_points, begin_and_end, bodies_from, point_ticks, ticks_from}
+use Rattle.bt_attach.specs.Attaching.{is_begin, is_end, is_interval, is_matched, once, places, places_from, point_tick_count}
 use Rattle.bt_attach.specs.Marks.{is_named, either_each}
 
 -- with one more point

@@ -1,5 +1,6 @@
 -- When the ticks of intervals stand.
-use Rattle.std.specs.Prelude.{◌≡◌, ℕ, zero, suc, ◌+◌, ◌*◌, ◌/◌, ◌-◌, ◌^◌, ◌&&◌, nat_le, nat_lt, List, [], ◌∷◌, ◌++◌, Option, Some, None, if◌then◌else◌}
+use Rattle.std.specs.Prelude.{◌≡◌, ℕ, zero, suc, ◌+◌, ◌*◌, ◌/◌, ◌-◌, ◌^◌, ◌&&◌}
+use Rattle.std.specs.Prelude.{nat_le, nat_lt, List, [], ◌∷◌, ◌++◌, Option, Some, None, if◌then◌else◌}
 use Rattle.std.specs.Ordering.{nat_cmp}
 use Rattle.std.specs.List.Sorted.{IsSortedByKey, IsStableByKey}
 use Rattle.bt_ast.specs.declared.probe.Unit.{Unit as TimeUnit}
@@ -19,7 +20,7 @@ nanoseconds Hz number = 1000000000 / number
 abbrev pub period_in : TimeUnit → ℕ → Option ℕ
 period_in unit number =
     if nat_le 1 number && (nat_le 1 (nanoseconds unit number) && nat_lt (nanoseconds unit number) (2 ^ 63))
-      then Some (nanoseconds unit number) else None
+    then Some (nanoseconds unit number) else None
 
 -- how many ticks an interval has: one at each whole number of periods from the first on, up to the end
 abbrev pub tick_count : ℕ → Option ℕ → ℕ

@@ -39,8 +39,7 @@ impl Found {
         requires end { start + span < 2 ^ 64 }
         requires few_bodies { length self.bodies ≤ MOST_BODIES }
         requires few_ticks { length self.ticks.items ≤ MOST_TICKS }
-        ensures {
-            let fault = points_fault formats.now span (length self.ticks.items) (length self.bodies) [] probe.now.points in
+        ensures { let fault = points_fault formats.now span (length self.ticks.items) (length self.bodies) [] probe.now.points in
             Answers fault (AddsProbe formats.now start span place probe.now.points self) result }
     {
         let Found {
@@ -48,7 +47,14 @@ impl Found {
             mut ticks,
         } = self;
         let points = probe.points.as_slice();
-        let seen = check_points(alloc, points, formats, span, ticks.len() as u64, bodies.len() as u64)?;
+        let seen = check_points(
+            alloc,
+            points,
+            formats,
+            span,
+            ticks.len() as u64,
+            bodies.len() as u64,
+        )?;
         let body = bodies.len() as u32 + u32::from(seen.begin) + u32::from(seen.end);
         add_points(&mut ticks, start, span, body, points)?;
         add_bodies(&mut bodies, place, &seen)?;
@@ -100,7 +106,13 @@ pub fn attach(
     ensures fault { IfErr result (λ e. e ≢ AttachError.Memory → attach_fault script.now formats.now start end ≡ Some e) }
 {
     let probes = script.probes.as_slice();
-    let Found { bodies, ticks } = Found::of(alloc, probes, formats, start, end.saturating_sub(start))?;
+    let Found { bodies, ticks } = Found::of(
+        alloc,
+        probes,
+        formats,
+        start,
+        end.saturating_sub(start),
+    )?;
     let ticks = Items::of(in_order(ticks)?);
     let by_format = bodies_by_format(alloc, bodies.as_slice(), formats.len() as u32)?;
     let begin = bodies_at(alloc, bodies.as_slice(), BodyPoint::Begin)?;

@@ -11,7 +11,12 @@ use bt_core::memory::Memory;
 use std::alloc::Global;
 
 /// Adds a body of a probe, if there is one.
-fn add_once(bodies: &mut Items<BodyId>, probe: u32, some: bool, point: BodyPoint) -> Result<(), Memory>
+fn add_once(
+    bodies: &mut Items<BodyId>,
+    probe: u32,
+    some: bool,
+    point: BodyPoint,
+) -> Result<(), Memory>
     ensures { OnOk result (bodies.new ≡ bodies.old ++ with_probe probe (once some point)) }
 {
     if some {
@@ -58,7 +63,11 @@ fn is_at(point: BodyPoint, other: BodyPoint) -> bool
 }
 
 /// The numbers of the bodies that are run at a point.
-pub(crate) fn bodies_at(alloc: Global, bodies: &[BodyId], point: BodyPoint) -> Result<Items<u32>, Memory>
+pub(crate) fn bodies_at(
+    alloc: Global,
+    bodies: &[BodyId],
+    point: BodyPoint,
+) -> Result<Items<u32>, Memory>
     requires { length bodies.now < 2 ^ 32 }
     ensures { IfOk result (λ numbers. numbers ≡ bodies_at bodies.now point) }
 {
@@ -72,7 +81,11 @@ pub(crate) fn bodies_at(alloc: Global, bodies: &[BodyId], point: BodyPoint) -> R
 }
 
 /// For each of so many formats, the numbers of the bodies that its events run.
-pub(crate) fn bodies_by_format(alloc: Global, bodies: &[BodyId], count: u32) -> Result<Items<Items<u32>>, Memory>
+pub(crate) fn bodies_by_format(
+    alloc: Global,
+    bodies: &[BodyId],
+    count: u32,
+) -> Result<Items<Items<u32>>, Memory>
     requires { length bodies.now < 2 ^ 32 }
     ensures { IfOk result (λ lists. lists ≡ at_each bodies.now count) }
 {

@@ -1,6 +1,7 @@
 // Patterns of names: `*` stands for any run of bytes.
-ghost use Rattle.std.specs.Prelude.{◌≡◌, ◌+◌, ◌<◌, ◌^◌, Bool, true, false, length, replicate, IfOk, IsTrue, ◌↔◌, ◌∷◌, [], ◌&&◌, ◌||◌};
-ghost use Rattle.bt_attach.specs.Pattern.{IsMatch, matches, starred, met, after_byte};
+ghost use Rattle.std.specs.Prelude.{◌≡◌, ◌+◌, false, true, length, replicate, IfOk, IsTrue, ◌↔◌, ◌∷◌, ◌&&◌, ◌||◌};
+ghost use Rattle.bt_attach.specs.Pattern.{IsMatch, matches};
+ghost use Rattle.bt_attach.specs.Rows.{starred, met, after_byte};
 
 use bt_core::memory::Memory;
 use std::alloc::Global;

@@ -71,9 +71,16 @@ fn with_tracepoint(
     place: Place,
 ) -> Result<Seen, AttachError>
     requires { length seen.marks ≡ length formats.now }
-    ensures { Answers (own_fault formats.now (PointValue.Tracepoint system.now name.now place)) (λ next. next ≡ added formats.now 0 seen (PointValue.Tracepoint system.now name.now place)) result }
+    ensures { let point = PointValue.Tracepoint system.now name.now place in
+        Answers (own_fault formats.now point) (λ next. next ≡ added formats.now 0 seen point) result }
 {
-    let marked = mark(alloc, seen.marks.as_slice(), formats, system.as_slice(), name.as_slice())?;
+    let marked = mark(
+        alloc,
+        seen.marks.as_slice(),
+        formats,
+        system.as_slice(),
+        name.as_slice(),
+    )?;
     if !marked.found {
         return if has_star(system.as_slice(), name.as_slice()) {
             Err(AttachError::NoMatch(place))
@@ -85,11 +92,17 @@ fn with_tracepoint(
     Ok(seen)
 }
 
-fn with_interval(mut seen: Seen, span: u64, unit: Unit, number: u64, place: Place) -> Result<Seen, AttachError>
+fn with_interval(
+    mut seen: Seen,
+    span: u64,
+    unit: Unit,
+    number: u64,
+    place: Place,
+) -> Result<Seen, AttachError>
     requires { seen.ticks ≤ MOST_TICKS }
-    ensures {
-        let point = PointValue.Interval unit number place in
-        Answers (or_else (own_fault [] point) (too_many_ticks (seen.ticks + point_tick_count span point) point)) (λ next. next ≡ added [] span seen point) result }
+    ensures { let point = PointValue.Interval unit number place in
+        let fault = or_else (own_fault [] point) (too_many_ticks (seen.ticks + point_tick_count span point) point) in
+        Answers fault (λ next. next ≡ added [] span seen point) result }
 {
     let Some(period) = period_in(unit, number) else {
         return Err(AttachError::BadPeriod(place));

@@ -15,16 +15,16 @@ pub returns-in_err-bodies-clause-fault : goal.returns-in_err-bodies-clause-fault
 returns-in_err-bodies-clause-fault c =
     let p = err_from_is_err_and c.from_residual.result c.from_residual.ensures.1 in
     handed_on c.from_residual.result p.0 c.in_err-bodies.field-0.0 _ p.1 p.2
-      (λ n. fault_is c.args.script.now c.args.formats.now c.args.start c.args.end c.saturating_sub.result c.as_slice-probes.result.now _
-        c.as_slice-probes.ensures c.saturating_sub.ensures (c.in_err-bodies.ensures n))
+    (λ n. fault_is c.args.script.now c.args.formats.now c.args.start c.args.end c.saturating_sub.result c.as_slice-probes.result.now _
+    c.as_slice-probes.ensures c.saturating_sub.ensures (c.in_err-bodies.ensures n))
 
 pub returns : goal.returns
 returns c = record {
   found = attached_is c.args.script.now c.args.formats.now c.args.start c.args.end c.saturating_sub.result c.as_slice-probes.result.now c.in_ok-bodies.field-0 _
-    c.as_slice-probes.ensures c.saturating_sub.ensures c.in_ok-bodies.ensures.1 refl (cc (c.in_ok-by_format.ensures, c.as_slice.ensures))
-    (cc (c.in_ok-begin.ensures, c.as_slice-2.ensures)) (cc (c.in_ok-end.ensures, c.as_slice-3.ensures))
-    (subst (λ (l : List Tick). AreInOrder c.in_ok-bodies.field-0.ticks.items l) (sym c.of-ticks.ensures) c.in_ok-in_order.ensures);
+      c.as_slice-probes.ensures c.saturating_sub.ensures c.in_ok-bodies.ensures.1 refl (cc (c.in_ok-by_format.ensures, c.as_slice.ensures))
+      (cc (c.in_ok-begin.ensures, c.as_slice-2.ensures)) (cc (c.in_ok-end.ensures, c.as_slice-3.ensures))
+      (subst (λ (l : List Tick). AreInOrder c.in_ok-bodies.field-0.ticks.items l) (sym c.of-ticks.ensures) c.in_ok-in_order.ensures);
   allowed = fault_is c.args.script.now c.args.formats.now c.args.start c.args.end c.saturating_sub.result c.as_slice-probes.result.now _
-    c.as_slice-probes.ensures c.saturating_sub.ensures c.in_ok-bodies.ensures.0;
+      c.as_slice-probes.ensures c.saturating_sub.ensures c.in_ok-bodies.ensures.0;
   fault = tt;
 }

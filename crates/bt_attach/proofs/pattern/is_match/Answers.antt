@@ -1,5 +1,6 @@
 use Rattle.std.proofs.Common.{rules, ◌≡◌, ◌∙◌, sym, ap, arith, replicate, length, get_or, List, Bool}
-use Rattle.bt_attach.specs.Pattern.{matches, some_reached, after_byte}
+use Rattle.bt_attach.specs.Pattern.{matches}
+use Rattle.bt_attach.specs.Rows.{some_reached, after_byte}
 use Rattle.bt_attach.proofs.Rows.{first_reached, next_row, length-after_byte, all_read}
 use Rattle.bt_attach.proofs.Deciding.{matched, matching}
 use Rattle.bt_attach.proofs.pattern.is_match.Goals as goal
