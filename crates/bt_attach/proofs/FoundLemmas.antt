@@ -1,5 +1,5 @@
 -- What is found of probes, one after the other.
-use Rattle.std.proofs.Common.{◌≡◌, ◌≢◌, ◌+◌, ◌-◌, ◌<◌, ◌≤◌, ◌++◌, ℕ, ◌*◌, ◌/◌, suc, zero, Bool, true, false, cond, List, [], ◌∷◌, map, length, drop, get_or, sum_by, Option, Some, None, refl, sym, ap, ◌∙◌, arith, drop-cons, subst, append_assoc}
+use Rattle.std.proofs.Common.{◌≡◌, ◌+◌, ◌-◌, ◌<◌, ◌≤◌, ◌++◌, ℕ, ◌*◌, ◌/◌, suc, zero, Bool, cond, List, [], ◌∷◌, length, drop, get_or, sum_by, Option, Some, None, refl, sym, ap, ◌∙◌, arith, drop-cons, subst, append_assoc}
 use Rattle.std.specs.List.{list_any, flat_map}
 use Rattle.std.proofs.lemmas.List.{length-append, length-map, drop_all}
 use Rattle.std.proofs.lemmas.List.Sums.{sum_by-cons}

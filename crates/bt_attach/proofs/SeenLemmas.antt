@@ -1,5 +1,5 @@
 -- What is seen of a probe, point by point.
-use Rattle.std.proofs.Common.{◌≡◌, ◌+◌, ◌<◌, ◌≤◌, ◌++◌, ◌||◌, ◌&&◌, ℕ, suc, zero, Bool, true, false, cond, List, [], ◌∷◌, map, length, take, drop, get_or, replicate, sum_by, count_by, Option, Some, None, refl, sym, ap, ◌∙◌, arith, drop-cons, subst, nat_lt}
+use Rattle.std.proofs.Common.{◌≡◌, ◌+◌, ◌<◌, ◌≤◌, ◌++◌, ◌||◌, ℕ, suc, Bool, true, false, cond, List, [], ◌∷◌, map, length, take, drop, get_or, replicate, sum_by, count_by, Option, Some, None, refl, sym, ap, ◌∙◌, arith, drop-cons, subst, nat_lt}
 use Rattle.std.proofs.Math.Seq.{take-suc}
 use Rattle.std.proofs.lemmas.Bool.Decides.{nat_tests}
 use Rattle.std.specs.List.{list_any}

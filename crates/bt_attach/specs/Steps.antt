@@ -1,5 +1,5 @@
 -- What goes with the code: what is seen of a probe behind some of its points.
-use Rattle.std.specs.Prelude.{◌≡◌, ◌≢◌, ◌≤◌, ℕ, ◌+◌, ◌&&◌, ◌||◌, Bool, true, List, [], ◌∷◌}
+use Rattle.std.specs.Prelude.{◌≡◌, ◌≢◌, ◌≤◌, ℕ, ◌+◌, Bool, true, List, []}
 use Rattle.std.specs.Prelude.{◌++◌, map, sum_by, length, take, drop, Option, Some, None, Result, Ok, Err}
 use Rattle.std.specs.List.{list_any, flat_map}
 use Rattle.bt_core.specs.declared.limits.TheConstants.{TICKS, BODIES}

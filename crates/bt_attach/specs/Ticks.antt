@@ -1,12 +1,10 @@
 -- When the ticks of intervals stand.
-use Rattle.std.specs.Prelude.{◌≡◌, ℕ, zero, suc, ◌+◌, ◌*◌, ◌/◌, ◌-◌, ◌^◌, ◌&&◌}
+use Rattle.std.specs.Prelude.{ℕ, zero, suc, ◌+◌, ◌*◌, ◌/◌, ◌^◌, ◌&&◌}
 use Rattle.std.specs.Prelude.{nat_le, nat_lt, List, [], ◌∷◌, ◌++◌, Option, Some, None, if◌then◌else◌}
 use Rattle.std.specs.Ordering.{nat_cmp}
 use Rattle.std.specs.List.Sorted.{IsSortedByKey, IsStableByKey}
 use Rattle.bt_ast.specs.declared.probe.Unit.{Unit as TimeUnit}
 use Rattle.bt_ast.specs.declared.probe.Unit.TheVariants.{S, Ms, Us, Hz}
-use Rattle.bt_ast.specs.declared.probe.Point.{Point}
-use Rattle.bt_ast.specs.declared.probe.Point.TheVariants.{Begin, End, Tracepoint, Interval}
 use Rattle.bt_ast.specs.declared.attached.Tick.{Tick}
 
 -- the period of an interval in nanoseconds

@@ -1,4 +1,4 @@
-use Rattle.std.proofs.Common.{rules, ◌≡◌, ◌∙◌, sym, ap, arith, replicate, length, get_or, List, Bool}
+use Rattle.std.proofs.Common.{◌∙◌, sym, ap, arith, length, get_or, List, Bool}
 use Rattle.bt_attach.specs.Pattern.{matches}
 use Rattle.bt_attach.specs.Rows.{some_reached, after_byte}
 use Rattle.bt_attach.proofs.Rows.{first_reached, next_row, length-after_byte, all_read}

@@ -1,7 +1,7 @@
 use Rattle.std.proofs.Common.{refl, sym, ap, ◌∙◌, arith, Some}
 use Rattle.bt_core.specs.declared.place.Place.{Place}
 use Rattle.bt_attach.specs.declared.error.AttachError.TheVariants.{TooManyAttached}
-use Rattle.bt_attach.proofs.SeenLemmas.{seen_start, seen_marks, nothing_broken, next_seen, still_none, broken_here, crowded_here, all_seen}
+use Rattle.bt_attach.proofs.SeenLemmas.{seen_start, seen_marks, nothing_broken, next_seen, still_none, crowded_here}
 use Rattle.bt_attach.proofs.probe.check_points.Goals as goal
 
 pub loop-point-init : goal.loop-point-init

@@ -1,4 +1,4 @@
-use Rattle.bt_attach.proofs.FoundLemmas.{failed_probe, next_probe, all_found}
+use Rattle.bt_attach.proofs.FoundLemmas.{next_probe, all_found}
 use Rattle.bt_attach.proofs.attach.Found.of.Goals as goal
 
 pub loop-i-preserved : goal.loop-i-preserved
