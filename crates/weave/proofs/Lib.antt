@@ -12,3 +12,4 @@ pub mod Growth
 pub mod Example
 pub mod Apart
 pub mod Less
+pub mod Only

@@ -10,7 +10,7 @@ ghost use Rattle.bt_core.specs.Steps.{AtEach, RepliesFollow};
 ghost use Rattle.turn_lock.specs.declared.entry.Entry.{Entry};
 ghost use Rattle.stamped.specs.declared.trace.Trace.{Trace};
 ghost use Rattle.weave.specs.Lists.{SameLimits};
-ghost use Rattle.weave.specs.Order.{InOrder};
+ghost use Rattle.weave.specs.Order.{InOrder, TiesAreApart};
 ghost use Rattle.weave.specs.Woven.{IsWoven, StampsFollow, StandsBetween};
 ghost use Rattle.weave.specs.Traces.{all_steps, HaveHistories, HaveClocks, Weaves};
 
@@ -51,4 +51,11 @@ pub fn sorting_keeps_all()
 pub fn ties_are_apart()
     ensures { (main begun : ℕ) (steps : List Step) → StampsFollow main begun steps →
         AtEach (λ before s. (z : Step) → Contains before z → z.stamp ≡ s.stamp → (z.object ≢ s.object) × (z.actor ≢ s.actor)) steps }
+{}
+
+/// The woven list is the only one: two lists in order with the same steps are one list, where equal stamps stand at
+/// different objects, and so where one of them is woven.
+pub fn woven_list_is_one()
+    ensures apart { (xs ys : List Step) → IsPermutation xs ys → InOrder xs → InOrder ys → TiesAreApart xs → xs ≡ ys }
+    ensures woven { (main begun : ℕ) (xs ys : List Step) → IsPermutation xs ys → IsWoven main begun xs → InOrder ys → xs ≡ ys }
 {}
