@@ -1,0 +1,15 @@
+pub mod Among
+pub mod Rising
+pub mod Places
+pub mod Histories
+pub mod Weaving
+pub mod Orders
+pub mod Floors
+pub mod Clocks
+pub mod Bounds
+pub mod Sorting
+pub mod Growth
+pub mod Example
+pub mod Apart
+pub mod Less
+pub mod Only
