@@ -12,6 +12,7 @@ use Rattle.map_printer.specs.RowOrder.{in_value_order, top_rows}
 abbrev pub printed_map : MapDecl → List (List Value × Cell) → ℕ → ℤ → List ℕ
 printed_map decl rows top div = map_text decl.name div (top_rows top (in_value_order rows))
 
+-- a line of its own
 abbrev pub warning_text : ℕ → List ℕ → List ℕ
 warning_text lost name = codes "WARNING: " ++ (decimal lost ++ (codes " updates lost in " ++ (name ++ codes "\n")))
 

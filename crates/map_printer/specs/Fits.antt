@@ -7,6 +7,7 @@ use Rattle.bt_core.specs.declared.map.MapKind.{MapKind}
 use Rattle.bt_core.specs.declared.value.Value.{Value}
 use Rattle.bt_core.specs.Kinds.{HasShape, IsOfKind, IsAggOf}
 
+-- a map of this kind can hold it
 abbrev pub IsCellOf : MapKind → Cell → Type 0
 IsCellOf kind (cells.Value v) = IsOfKind kind v
 IsCellOf kind (cells.Agg a) = IsAggOf kind a

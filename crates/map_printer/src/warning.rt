@@ -5,6 +5,7 @@ ghost use Rattle.map_printer.specs.Ends.{lost_text, warning_text};
 use bt_core::memory::Memory;
 use itoa::Buffer;
 
+/// Writes the beginning of a warning, with the number of lost updates.
 fn write_number_lost(out: &mut Vec<u8>, lost: u64) -> Result<(), Memory>
     ensures { OnOk result (out.new.items ≡ out.old.items ++ (codes "WARNING: " ++ decimal lost)) }
 {
@@ -13,6 +14,7 @@ fn write_number_lost(out: &mut Vec<u8>, lost: u64) -> Result<(), Memory>
     Ok(())
 }
 
+/// Writes the end of a warning, with the map's name.
 fn write_lost_in(out: &mut Vec<u8>, name: &[u8]) -> Result<(), Memory>
     ensures { OnOk result (out.new.items ≡ out.old.items ++ (codes " updates lost in " ++ (name.now ++ codes "\n"))) }
 {
@@ -22,6 +24,7 @@ fn write_lost_in(out: &mut Vec<u8>, name: &[u8]) -> Result<(), Memory>
     Ok(())
 }
 
+/// Writes a whole warning.
 fn write_warning(out: &mut Vec<u8>, name: &[u8], lost: u64) -> Result<(), Memory>
     ensures { OnOk result (out.new.items ≡ out.old.items ++ warning_text lost name.now) }
 {
