@@ -21,11 +21,12 @@ use Rattle.weave.specs.Order.{InOrder}
 use Rattle.weave.specs.Traces.{all_steps, step_at, HaveHistories, HaveClocks, floors_from, floors_by}
 use Rattle.weave.specs.Woven.{begin_steps, cpu_steps, actor_clock, main_clock, IsWoven, StandsBetween}
 use Rattle.weave.proofs.Among.{Has, has_front, has_back, has_either, has_middle, each_has, has_filter, filter_has}
-use Rattle.weave.proofs.Rising.{Above, Up, Level, one_place, level_cut, level_back, has_moved}
+use Rattle.weave.proofs.Rising.{Above, Up, Level, one_place, level_cut, has_moved}
 use Rattle.weave.proofs.Places.{place_of, step_back, rises, trace_of, trace_steps}
 use Rattle.weave.proofs.Less.{less_or_not, is_less, not_less}
 use Rattle.turn_lock.proofs.HistoryLemmas.{legal_callers}
 use Rattle.weave.proofs.Floors.{greatest_has, greatest_least, last_greatest, floors_length, floor_get, floors_above, rising_rest, take_past, has_take, has_drop, has_one}
+use Rattle.weave.proofs.Earlier.{stands_earlier, begin_missing}
 use Rattle.weave.proofs.Weaving.{own, actor_steps, found}
 
 front_above : (clock : ℕ) (xs ys : List Step) → Above stamp_of clock (xs ++ ys) → Up stamp_of (xs ++ ys) → Above stamp_of clock xs × Up stamp_of xs
@@ -199,24 +200,11 @@ module _ (answer : ObjectId → List Op → Op → Reply) (traces : List Trace) 
         r.1,
       )
 
-  -- what BEGIN or a CPU made stands before a later stamp
-  stands_earlier : (before : List Step) (s : Step) (after : List Step) → steps ≡ before ++ s ∷ after → (z : Step) → Has all z → z.stamp < s.stamp → Has before z
-  stands_earlier before s after e z h lt =
-      let cut : Level stamp_of (before ++ s ∷ after) = subst (Level stamp_of) e level in
-      let l = level_back stamp_of before (s ∷ after) cut in
-      elim (has_either before (s ∷ after) z (subst (λ (x : List Step). Has x z) e (has_moved all steps z moved h))) [
-        | inl m ↦ m
-        | inr m ↦ elim m [
-          | inl q ↦ let a = ap stamp_of q in absurd (omega arith)
-          | inr n ↦ let a : s.stamp ≤ z.stamp = each_has _ after z l.0 n in absurd (omega arith)
-        ]
-      ]
-
-  begin_in : (z : Step) → Has (begin_steps main begun all) z → Has all z × (z.stamp ≤ start)
-  begin_in z h = ((filter_has (is_of main) all z (has_take begun (of_actor main all) z h)).0, greatest_has (begin_steps main begun all) z h)
+  begin_in : (z : Step) → Has (begin_steps main begun all) z → Has all z
+  begin_in z h = (filter_has (is_of main) all z (has_take begun (of_actor main all) z h)).0
 
   sooner_in : (z : Step) → Has (begin_steps main begun all ++ cpu_steps main begun all) z → Has all z
-  sooner_in z h = ⊎_elim (λ (m : Has (begin_steps main begun all) z). (begin_in z m).0)
+  sooner_in z h = ⊎_elim (λ (m : Has (begin_steps main begun all) z). begin_in z m)
       (λ (m : Has (cpu_steps main begun all) z). (filter_has (λ (s : Step). not (is_of main s)) all z m).0)
       (has_either (begin_steps main begun all) (cpu_steps main begun all) z h)
 
@@ -234,7 +222,7 @@ module _ (answer : ObjectId → List Op → Op → Reply) (traces : List Trace) 
       let p = of_actor main before in let d = drop begun p in
       let a : top ≤ greatest before = greatest_least (greatest before) (begin_steps main begun all ++ cpu_steps main begun all)
       (λ z h. let g = greatest_has (begin_steps main begun all ++ cpu_steps main begun all) z h in
-      greatest_has before z (stands_earlier before s after e z (sooner_in z h) (omega arith))) in
+      greatest_has before z (stands_earlier steps level before s after e z (has_moved all steps z moved (sooner_in z h)) (omega arith))) in
       let b : greatest d ≤ greatest before = greatest_least (greatest before) d
       (λ z h. greatest_has before z (filter_has (is_of main) before z (has_drop begun p z h)).0) in
       let c : greatest before ≤ max top (greatest d) = greatest_least (max top (greatest d)) before (λ z h. dite (ℕ_discrete z.actor main)
@@ -275,16 +263,6 @@ module _ (answer : ObjectId → List Op → Op → Reply) (traces : List Trace) 
   pub is_woven : InOrder steps → IsWoven main begun steps
   is_woven order = record { order = order; stamps = stamps_follow }
 
-  -- a step of BEGIN cannot stand after one of a CPU
-  begin_missing : (before : List Step) (s : Step) (after p q : List Step) → steps ≡ before ++ s ∷ after → of_actor main all ≡ p ++ q → length p < begun
-      → 0 < length q → start < s.stamp → ((z : Step) → Has q z → Has after z) → ⊥
-  begin_missing before s after p [] e both lt some low inn = absurd (omega arith)
-  begin_missing before s after p (z ∷ q) e both lt some low inn =
-      let t = take_past begun p z q lt in
-      let h : Has (begin_steps main begun all) z = subst (λ (l : List Step). Has l z) (sym (ap (take begun) both ∙ t.1)) (has_middle p t.0 z) in
-      let l = level_back stamp_of before (s ∷ after) (subst (Level stamp_of) e level) in
-      let a : s.stamp ≤ z.stamp = each_has _ after z l.0 (inn z (inl refl)) in let b = (begin_in z h).1 in omega arith
-
   -- each step of END has a later stamp than what the others made
   end_above : (z : Step) → Has (drop begun (of_actor main all)) z → top < z.stamp
   end_above z h =
@@ -320,7 +298,7 @@ module _ (answer : ObjectId → List Op → Op → Reply) (traces : List Trace) 
       let size : length (of_actor main all) ≡ length p + length q = ap length both ∙ length-append p q in
       let enough = clocks.begin in
       ⊎_elim
-      (λ (lt : length p < begun). absurd (begin_missing before s after p q e both lt (omega arith) r.1 (λ z h. (filter_has (is_of main) after z h).0)))
+      (λ (lt : length p < begun). absurd (begin_missing steps level main begun all before s after e p q both lt (omega arith) r.1 (λ z h. (filter_has (is_of main) after z h).0)))
       (λ (le : begun ≤ length p). ⊎_elim
       (λ (lt : begun < length p). absurd (end_early before s after q e both lt high))
       (λ (ge : length p ≤ begun). let z : length p ≡ begun = omega arith in z)

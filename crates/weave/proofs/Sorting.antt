@@ -17,9 +17,10 @@ use Rattle.bt_core.proofs.StepLists.{is_same_object-refl, is_same_object-true, o
 use Rattle.weave.specs.Lists.{stamp_of, greatest, SameLimits}
 use Rattle.weave.specs.Order.{InOrder}
 use Rattle.weave.specs.Woven.{begin_steps, main_clock, actor_clock, IsWoven, StampsFollow, StandsBetween}
-use Rattle.weave.proofs.Among.{Has, has_front, has_either, has_middle, each_has, each_from, has_filter, filter_has, has_cut, filter_cut}
-use Rattle.weave.proofs.Rising.{Up, Level, same_members, level_filter, level_back, level_cut, one_place, same_length, has_moved}
-use Rattle.weave.proofs.Floors.{greatest_has, greatest_least, filter_greatest, take_past, has_drop, has_one}
+use Rattle.weave.proofs.Among.{Has, has_front, has_either, has_middle, each_from, has_filter, filter_has, has_cut, filter_cut}
+use Rattle.weave.proofs.Rising.{Up, Level, same_members, level_filter, level_cut, one_place, same_length, has_moved}
+use Rattle.weave.proofs.Floors.{greatest_has, greatest_least, filter_greatest, has_drop, has_one}
+use Rattle.weave.proofs.Earlier.{stands_earlier, begin_missing}
 use Rattle.weave.proofs.Less.{less_or_not, is_less, not_less}
 
 on_cut : (o : ObjectId) (before : List Step) (s : Step) (after : List Step) → s.object ≡ o
@@ -126,15 +127,8 @@ module _ (main begun : ℕ) (made : List Step) (follow : StampsFollow main begun
           let f = follow t.front s t.back t.was in
           let low : greatest t.front ≤ greatest before = greatest_least (greatest before) t.front (λ z h. greatest_has before z (
           let g = greatest_has t.front z h in
-          let l = level_back stamp_of before (s ∷ after) (subst (Level stamp_of) e level) in
-          elim (has_either before (s ∷ after) z (subst (λ (x : List Step). Has x z) e
-          (has_moved made steps z moved (subst (λ (x : List Step). Has x z) (sym t.was) (has_front t.front (s ∷ t.back) z h))))) [
-            | inl m ↦ m
-            | inr m ↦ elim m [
-              | inl q ↦ let a = ap stamp_of q in absurd (omega arith)
-              | inr n ↦ let a : s.stamp ≤ z.stamp = each_has _ after z l.0 n in absurd (omega arith)
-            ]
-          ])) in
+          let m = subst (λ (x : List Step). Has x z) (sym t.was) (has_front t.front (s ∷ t.back) z h) in
+          stands_earlier steps level before s after e z (has_moved made steps z moved m) (omega arith))) in
           let high : greatest before ≤ greatest t.front = greatest_least (greatest t.front) before (λ z h. greatest_has t.front z (
           let in_made = has_moved steps made z (IsPermutation-sym made steps moved)
           (subst (λ (x : List Step). Has x z) (sym e) (has_front before (s ∷ after) z h)) in
@@ -194,16 +188,6 @@ module _ (main begun : ℕ) (made : List Step) (follow : StampsFollow main begun
           let c = ap (λ (b : Bool). cond b (main_clock main begun front)
           (max (greatest (begin_steps main begun made)) (greatest (of_actor s.actor front)))) (ne_eqb s.actor main ne) in omega arith
 
-      begin_missing : (before : List Step) (s : Step) (after : List Step) → steps ≡ before ++ s ∷ after → (p q : List Step) → of_actor main made ≡ p ++ q
-          → length p < begun → 0 < length q → greatest (begin_steps main begun made) < s.stamp → ((z : Step) → Has q z → Has after z) → ⊥
-      begin_missing before s after e p [] both lt some low inn = absurd (omega arith)
-      begin_missing before s after e p (z ∷ q) both lt some low inn =
-          let t = take_past begun p z q lt in
-          let h : Has (begin_steps main begun made) z = subst (λ (l : List Step). Has l z) (sym (ap (take begun) both ∙ t.1)) (has_middle p t.0 z) in
-          let g = greatest_has (begin_steps main begun made) z h in
-          let l = level_back stamp_of before (s ∷ after) (subst (Level stamp_of) e level) in
-          let a : s.stamp ≤ z.stamp = each_has _ after z l.0 (inn z (inl refl)) in omega arith
-
       end_early : (before : List Step) (s : Step) (after : List Step) → steps ≡ before ++ s ∷ after → (t : Twin before s) → s.actor ≢ main
           → (q : List Step) → of_actor main made ≡ of_actor main before ++ q → begun < length (of_actor main before) → ⊥
       end_early before s after e t ne q both lt =
@@ -234,7 +218,7 @@ module _ (main begun : ℕ) (made : List Step) (follow : StampsFollow main begun
           let both : of_actor main made ≡ p ++ q = sym (limits.actors main) ∙ ap (of_actor main) e ∙ of_actor-other main before s after ne in
           let n = ap length halves ∙ length-append (of_actor main t.front) (of_actor main t.back) in let m = ap length both ∙ length-append p q in
           ⊎_elim
-          (λ (lt : length p < begun). absurd (begin_missing before s after e p q both lt (omega arith) (cpu_above t.front s t.back t.was ne)
+          (λ (lt : length p < begun). absurd (begin_missing steps level main begun made before s after e p q both lt (omega arith) (cpu_above t.front s t.back t.was ne)
           (λ z h. (filter_has (is_of main) after z h).0)))
           (λ (le : begun ≤ length p). ⊎_elim
           (λ (lt : begun < length p). absurd (end_early before s after e t ne q both lt))
