@@ -113,7 +113,8 @@ fn named_files(alloc: Global, words: &[String]) -> Result<Files, WordsError>
 
 /// The numbers that the two operands spell.
 fn spelled_numbers(words: &[String]) -> Option<Numbers>
-    ensures { (made : ℕ → ℕ → OrderValue) → of_two (two_numbers made) (filter is_operand (map string_bytes words.now)) ≡ option_map (λ two. made two.x two.n) result }
+    ensures { (made : ℕ → ℕ → OrderValue) → of_two (two_numbers made) (filter is_operand (map string_bytes words.now))
+        ≡ option_map (λ two. made two.x two.n) result }
 {
     let operands = two_operands(words)?;
     let x = number_in(operands.first.as_bytes(), MOST_X)?;

@@ -1,6 +1,8 @@
-//! Tests of printf formats and of the words of a command line.
+//! Tests of what scripts are attached to, of printf formats and of the words of a command line.
 #![tactic(auto)]
 
+#[cfg(test)]
+mod attaching;
 #[cfg(test)]
 mod formats;
 #[cfg(test)]

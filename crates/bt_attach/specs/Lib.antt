@@ -1,0 +1,6 @@
+pub mod Attaching
+pub mod Marks
+pub mod Pattern
+pub mod Rows
+pub mod Steps
+pub mod Ticks

@@ -1,0 +1,153 @@
+// What is seen of a probe behind some of its points.
+ghost use Rattle.std.specs.Prelude.{◌≡◌, ◌+◌, ◌≤◌, ◌||◌, [], length, count_by};
+ghost use Rattle.std.specs.List.{list_any};
+ghost use Rattle.bt_core.specs.declared.limits.TheConstants.{TICKS as MOST_TICKS};
+ghost use Rattle.bt_ast.specs.declared.probe.Point.{Point as PointValue};
+ghost use Rattle.bt_attach.specs.Attaching.{or_else, own_fault, has_star, place_of, point_tick_count, too_many_ticks};
+ghost use Rattle.bt_attach.specs.Steps.{added, seen_points, Answers};
+
+use crate::error::AttachError;
+use crate::marks::mark;
+use crate::period::period_in;
+use bt_ast::probe::{Point, Unit};
+use bt_core::items::Items;
+use bt_core::limits::TICKS;
+use bt_core::place::Place;
+use std::alloc::Global;
+use tracefs_format::format::Format;
+
+/// Which kinds of points a probe has, which formats they match, and how many ticks there are up to
+/// and with them, those of earlier probes included.
+#[derive(Drop)]
+pub(crate) struct Seen {
+    pub begin: bool,
+    pub end: bool,
+    pub interval: bool,
+    pub marks: Items<bool>,
+    pub ticks: u64,
+}
+
+fn mark_count(marks: &[bool]) -> usize
+    ensures value { result ≡ count_by (λ m. m) marks.now }
+    ensures few { result ≤ length marks.now }
+{
+    marks.iter().filter(|m| **m).count()
+}
+
+/// How many bodies the points seen give.
+#[tactic(auto, using(crate::proofs::SeenLemmas::seen_length))]
+pub(crate) fn body_count(seen: &Seen) -> u64
+    ensures value { result ≡ length (seen_points seen.now) }
+    ensures few { result ≤ length seen.now.marks + 3 }
+{
+    let events = mark_count(seen.marks.as_slice()) as u64;
+    u64::from(seen.begin) + u64::from(seen.end) + u64::from(seen.interval) + events
+}
+
+fn has_star(system: &[u8], name: &[u8]) -> bool
+    ensures { result ≡ has_star system.now name.now }
+{
+    system.contains(&b'*') || name.contains(&b'*')
+}
+
+/// The place of a point.
+pub(crate) fn place_of(point: &Point) -> Place
+    ensures { result ≡ place_of point.now }
+{
+    match point {
+        Point::Begin { place }
+        | Point::End { place }
+        | Point::Tracepoint { place, .. }
+        | Point::Interval { place, .. } => *place,
+    }
+}
+
+fn with_tracepoint(
+    alloc: Global,
+    mut seen: Seen,
+    formats: &[Format],
+    system: &Items<u8>,
+    name: &Items<u8>,
+    place: Place,
+) -> Result<Seen, AttachError>
+    requires { length seen.marks ≡ length formats.now }
+    ensures { let point = PointValue.Tracepoint system.now name.now place in
+        Answers (own_fault formats.now point) (λ next. next ≡ added formats.now 0 seen point) result }
+{
+    let marked = mark(
+        alloc,
+        seen.marks.as_slice(),
+        formats,
+        system.as_slice(),
+        name.as_slice(),
+    )?;
+    if !marked.found {
+        return if has_star(system.as_slice(), name.as_slice()) {
+            Err(AttachError::NoMatch(place))
+        } else {
+            Err(AttachError::UnknownTracepoint(place))
+        };
+    }
+    seen.marks = marked.marks;
+    Ok(seen)
+}
+
+fn with_interval(
+    mut seen: Seen,
+    span: u64,
+    unit: Unit,
+    number: u64,
+    place: Place,
+) -> Result<Seen, AttachError>
+    requires { seen.ticks ≤ MOST_TICKS }
+    ensures { let point = PointValue.Interval unit number place in
+        let fault = or_else (own_fault [] point) (too_many_ticks (seen.ticks + point_tick_count span point) point) in
+        Answers fault (λ next. next ≡ added [] span seen point) result }
+{
+    let Some(period) = period_in(unit, number) else {
+        return Err(AttachError::BadPeriod(place));
+    };
+    let count = span / period;
+    if count > u64::from(TICKS) - seen.ticks {
+        return Err(AttachError::TooManyTicks(place));
+    }
+    seen.interval = true;
+    seen.ticks += count;
+    Ok(seen)
+}
+
+/// Adds a point, where it breaks no rule by itself and there are not too many ticks with it.
+pub(crate) fn with_point(
+    alloc: Global,
+    mut seen: Seen,
+    point: &Point,
+    formats: &[Format],
+    span: u64,
+) -> Result<Seen, AttachError>
+    requires marks { length seen.marks ≡ length formats.now }
+    requires ticks { seen.ticks ≤ MOST_TICKS }
+    ensures { Answers
+        (or_else (own_fault formats.now point.now) (too_many_ticks (seen.ticks + point_tick_count span point.now) point.now))
+        (λ next. next ≡ added formats.now span seen point.now) result }
+{
+    match point {
+        Point::Begin { .. } => {
+            seen.begin = true;
+            Ok(seen)
+        }
+        Point::End { .. } => {
+            seen.end = true;
+            Ok(seen)
+        }
+        Point::Tracepoint {
+            system,
+            name,
+            place,
+        } => with_tracepoint(alloc, seen, formats, system, name, *place),
+        Point::Interval {
+            unit,
+            number,
+            place,
+        } => with_interval(seen, span, *unit, *number, *place),
+    }
+}

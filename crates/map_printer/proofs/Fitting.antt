@@ -1,0 +1,42 @@
+-- A row that a map can hold has no more counts than its kind has buckets.
+use Rattle.std.proofs.Common.{◌≤◌, List, slice_index_or, arith}
+use Rattle.std.specs.List.{All}
+use Rattle.bt_core.specs.declared.agg.Buckets.{Buckets}
+use Rattle.bt_core.specs.declared.agg.Buckets.TheVariants as held
+use Rattle.bt_core.specs.declared.item.Cell.{Cell}
+use Rattle.bt_core.specs.declared.item.Cell.TheVariants as cells
+use Rattle.bt_core.specs.declared.map.AggKind.{AggKind}
+use Rattle.bt_core.specs.declared.map.AggKind.TheVariants.{Count, Sum, Min, Max, Avg, Hist, Lhist}
+use Rattle.bt_core.specs.declared.map.MapDecl.{MapDecl}
+use Rattle.bt_core.specs.declared.map.MapKind.{MapKind}
+use Rattle.bt_core.specs.declared.map.MapKind.TheVariants.{Ints, Strs, Aggs}
+use Rattle.bt_core.specs.declared.value.Value.{Value}
+use Rattle.bt_core.specs.Kinds.{IsFineKind, AreBucketsOf, steps_between}
+use Rattle.map_printer.specs.Counted.{FitsBuckets, FitsCell}
+use Rattle.map_printer.specs.Fits.{IsRowOf, IsCellOf}
+
+fits_buckets : (kind : AggKind) (bs : Buckets) → IsFineKind kind → AreBucketsOf kind bs → FitsBuckets kind bs
+fits_buckets kind held.Plain f e = tt
+fits_buckets Hist (held.Hist counts) f e = omega arith
+fits_buckets Hist (held.Lhist counts) f e = absurd e
+fits_buckets (Lhist min max step) (held.Hist counts) f e = absurd e
+fits_buckets (Lhist min max step) (held.Lhist counts) f e = let few : steps_between min max step ≤ 1000 = f.few in omega arith
+fits_buckets Count (held.Hist counts) f e = tt
+fits_buckets Count (held.Lhist counts) f e = tt
+fits_buckets Sum (held.Hist counts) f e = tt
+fits_buckets Sum (held.Lhist counts) f e = tt
+fits_buckets Min (held.Hist counts) f e = tt
+fits_buckets Min (held.Lhist counts) f e = tt
+fits_buckets Max (held.Hist counts) f e = tt
+fits_buckets Max (held.Lhist counts) f e = tt
+fits_buckets Avg (held.Hist counts) f e = tt
+fits_buckets Avg (held.Lhist counts) f e = tt
+
+fits_cell : (kind : MapKind) (cell : Cell) → IsCellOf kind cell → FitsCell cell
+fits_cell kind (cells.Value v) e = tt
+fits_cell Ints (cells.Agg a) e = absurd e
+fits_cell Strs (cells.Agg a) e = absurd e
+fits_cell (Aggs kind) (cells.Agg a) e = fits_buckets a.kind a.buckets e.1.kind e.1.counts
+
+pub rows_counted : (decl : MapDecl) (rows : List (List Value × Cell)) → All (IsRowOf decl) rows → All (λ row. FitsCell row.1) rows
+rows_counted decl rows e = λ k d less. fits_cell decl.kind (slice_index_or rows k d).1 (e k d less).1

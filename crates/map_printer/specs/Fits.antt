@@ -1,0 +1,16 @@
+-- Rows that a map can hold.
+use Rattle.std.specs.Prelude.{List}
+use Rattle.bt_core.specs.declared.item.Cell.{Cell}
+use Rattle.bt_core.specs.declared.item.Cell.TheVariants as cells
+use Rattle.bt_core.specs.declared.map.MapDecl.{MapDecl}
+use Rattle.bt_core.specs.declared.map.MapKind.{MapKind}
+use Rattle.bt_core.specs.declared.value.Value.{Value}
+use Rattle.bt_core.specs.Kinds.{HasShape, IsOfKind, IsAggOf}
+
+abbrev pub IsCellOf : MapKind → Cell → Type 0
+IsCellOf kind (cells.Value v) = IsOfKind kind v
+IsCellOf kind (cells.Agg a) = IsAggOf kind a
+
+-- the key has the map's shape, and the map can hold what stands under it
+abbrev pub IsRowOf : MapDecl → (List Value × Cell) → Type 0
+IsRowOf decl row = HasShape decl.key_shape row.0 × IsCellOf decl.kind row.1
