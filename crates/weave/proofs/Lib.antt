@@ -13,3 +13,4 @@ pub mod Example
 pub mod Apart
 pub mod Less
 pub mod Only
+pub mod Earlier
