@@ -1,10 +1,11 @@
 // Patterns of names: `*` stands for any run of bytes.
-ghost use Rattle.std.specs.Prelude.{◌≡◌, ◌+◌, false, true, length, replicate, IfOk, IsTrue, ◌↔◌, ◌∷◌, ◌&&◌, ◌||◌};
+ghost use Rattle.std.specs.Prelude.{◌≡◌, ◌+◌, false, true, length, replicate, IfOk, OnOk, IsTrue, ◌↔◌, ◌∷◌, ◌&&◌, ◌||◌};
 ghost use Rattle.bt_attach.specs.Pattern.{IsMatch, matches};
 ghost use Rattle.bt_attach.specs.Rows.{starred, met, after_byte};
 
 use bt_core::memory::Memory;
 use std::alloc::Global;
+use std::mem;
 
 /// The byte that stands for any run of bytes.
 const STAR: u8 = 42;
@@ -22,42 +23,42 @@ fn both(a: bool, b: bool) -> bool
 }
 
 /// The places that are reached behind a `*`: each from the first one that was reached on.
-fn starred(alloc: Global, row: &[bool]) -> Result<Vec<bool>, Memory>
-    ensures { IfOk result (λ next. next.items ≡ starred false row.now) }
+fn starred(row: &[bool], next: &mut Vec<bool>) -> Result<(), Memory>
+    ensures { OnOk result (next.new.items ≡ starred false row.now) }
 {
-    let mut next = Vec::new(alloc);
+    next.clear();
     let mut reached = false;
     for here in row {
         reached = either(reached, *here);
         next.push(reached)?;
     }
-    Ok(next)
+    Ok(())
 }
 
 /// The places that are reached behind a byte: one further, where the name has this byte.
-fn met(alloc: Global, byte: u8, name: &[u8], row: &[bool]) -> Result<Vec<bool>, Memory>
+fn met(byte: u8, name: &[u8], row: &[bool], next: &mut Vec<bool>) -> Result<(), Memory>
     requires { length row.now ≡ length name.now + 1 }
-    ensures { IfOk result (λ next. next.items ≡ met byte false row.now name.now) }
+    ensures { OnOk result (next.new.items ≡ met byte false row.now name.now) }
 {
-    let mut next = Vec::new(alloc);
+    next.clear();
     let mut reached = false;
     for (i, other) in name.iter().enumerate() {
         next.push(reached)?;
         reached = both(row[i], *other == byte);
     }
     next.push(reached)?;
-    Ok(next)
+    Ok(())
 }
 
-/// The places that are reached behind one byte of a pattern.
-fn after_byte(alloc: Global, byte: u8, name: &[u8], row: &[bool]) -> Result<Vec<bool>, Memory>
+/// Puts the places that are reached behind one more byte of a pattern in the place of a list's items.
+fn after_byte(byte: u8, name: &[u8], row: &[bool], next: &mut Vec<bool>) -> Result<(), Memory>
     requires { length row.now ≡ length name.now + 1 }
-    ensures { IfOk result (λ next. next.items ≡ after_byte byte row.now name.now) }
+    ensures { OnOk result (next.new.items ≡ after_byte byte row.now name.now) }
 {
     if byte == STAR {
-        starred(alloc, row)
+        starred(row, next)
     } else {
-        met(alloc, byte, name, row)
+        met(byte, name, row, next)
     }
 }
 
@@ -77,8 +78,10 @@ pub fn is_match(alloc: Global, pattern: &[u8], name: &[u8]) -> Result<bool, Memo
     ensures matched { IfOk result (λ yes. IsTrue yes ↔ IsMatch pattern.now name.now) }
 {
     let mut row = first_row(alloc, name)?;
+    let mut next = Vec::with_capacity(alloc, row.len())?;
     for byte in pattern {
-        row = after_byte(alloc, *byte, name, &row)?;
+        after_byte(*byte, name, &row, &mut next)?;
+        mem::swap(&mut row, &mut next);
     }
     Ok(row[name.len()])
 }

@@ -1,4 +1,4 @@
-use Rattle.std.proofs.Common.{◌∙◌, sym, ap, arith, length, get_or, List, Bool}
+use Rattle.std.proofs.Common.{◌≡◌, ◌∙◌, sym, ap, arith, length, get_or, List, Bool}
 use Rattle.bt_attach.specs.Pattern.{matches}
 use Rattle.bt_attach.specs.Rows.{some_reached, after_byte}
 use Rattle.bt_attach.proofs.Rows.{first_reached, next_row, length-after_byte, all_read}
@@ -16,9 +16,11 @@ loop-byte-init c =
 pub loop-byte-preserved : goal.loop-byte-preserved
 loop-byte-preserved c =
     let row = c.loop-byte.row.items in
-    let e = c.in_ok-row-2.ensures ∙ ap (λ (r : List Bool). after_byte (get_or c.args.pattern.now c.loop-byte.byte-index 0) r c.args.name.now) c.deref.ensures.value in
+    let next = c.swap.new.x.items in
+    let e : next ≡ after_byte (get_or c.args.pattern.now c.loop-byte.byte-index 0) row c.args.name.now =
+    cc (c.in_ok-after_byte.ensures, c.deref.ensures.value, c.swap.ensures.x_after) in
     record {
-      left = next_row c.args.pattern.now c.args.name.now row c.in_ok-row-2.row.items c.loop-byte.byte-index _ c.loop-byte-test.true e c.loop-byte.invariant.long c.loop-byte.invariant.left;
+      left = next_row c.args.pattern.now c.args.name.now row next c.loop-byte.byte-index _ c.loop-byte-test.true e c.loop-byte.invariant.long c.loop-byte.invariant.left;
       long = ap length e ∙ length-after_byte _ row c.args.name.now c.loop-byte.invariant.long;
     }
 
