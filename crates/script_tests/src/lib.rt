@@ -1,8 +1,6 @@
-//! Tests of what scripts are attached to, of printf formats and of the words of a command line.
+//! Tests of printf formats and of the words of a command line.
 #![tactic(auto)]
 
-#[cfg(test)]
-mod attaching;
 #[cfg(test)]
 mod formats;
 #[cfg(test)]
