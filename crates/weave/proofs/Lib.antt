@@ -14,3 +14,4 @@ pub mod Apart
 pub mod Less
 pub mod Only
 pub mod Earlier
+pub mod Ending
