@@ -1,2 +1,4 @@
+pub mod Arguments
+pub mod Deciding
 pub mod Formats
 pub mod Reading

@@ -3,6 +3,7 @@
 //! The formats are those of `printf` in the bpftrace language reference, in the profile of this project.
 #![tactic(auto)]
 
+pub mod arguments;
 mod conversion;
 pub mod laws;
 pub mod piece;

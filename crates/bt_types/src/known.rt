@@ -1,0 +1,129 @@
+// What is known at a place of the walk: what earlier mentions decided.
+ghost use Rattle.std.specs.Prelude.{◌≡◌, ◌==◌, Bool, true, false, Some, None, OnOk, IfOk, MatchOption, IsTrue, slice_get};
+ghost use Rattle.std.specs.List.{list_any};
+ghost use Rattle.std.specs.Option.{option_copied};
+ghost use Rattle.typed_tree.specs.Scope.{is_fine_decl};
+ghost use Rattle.bt_types.specs.Known.{has_name, place_of, decl_in, var_in, event_field, with_name, with_mention, with_decl, with_var, begun};
+
+use bt_core::items::Items;
+use bt_core::map::{MapDecl, MapId, MapKind, Shape};
+use bt_core::memory::{Memory, TryCopy};
+use bt_core::place::Place;
+use std::alloc::Global;
+use fmt_text::piece::Piece;
+use tracefs_format::field::Field;
+use tracefs_format::layout::Layout;
+
+/// A variable of a body and what it holds.
+#[derive(Debug, Drop)]
+pub struct Var {
+    pub name: Items<u8>,
+    pub shape: Shape,
+}
+
+/// A call of `printf`: where its format stands, the format's text, and its pieces.
+#[derive(Debug, Drop)]
+pub struct Printed {
+    pub place: Place,
+    pub text: Items<u8>,
+    pub pieces: Items<Piece>,
+}
+
+/// What is known at a place of the walk.
+///
+/// Of the body: the layout of its event, if it has one; the variables that it has assigned, in the order of their first
+/// assignments; the numbers of the maps and of the calls of `printf` that it has named. Of the script: the names of maps, in
+/// the order of their tokens and in that of their mentions; what was decided of maps; and the calls of `printf`.
+#[derive(Debug, Drop)]
+pub struct Known {
+    pub event: Option<Layout>,
+    pub vars: Items<Var>,
+    pub named: Items<u32>,
+    pub calls: Items<u32>,
+    pub names: Items<Items<u8>>,
+    pub mentioned: Items<Items<u8>>,
+    pub decided: Items<MapDecl>,
+    pub printed: Items<Printed>,
+}
+
+/// The place of a name among names.
+fn place_of(names: &[Items<u8>], name: &[u8]) -> Option<usize>
+    ensures { MatchOption result (has_name name.now names.now ≡ false)
+        (λ i. (has_name name.now names.now ≡ true) × (i ≡ place_of name.now names.now) × (slice_get names.now i ≡ Some name.now)) }
+{
+    for (i, other) in names.iter().enumerate() {
+        if other.as_slice() == name {
+            return Some(i);
+        }
+    }
+    None
+}
+
+/// A place as a number of a map, a variable or a format.
+pub(crate) fn number_of(place: usize) -> Result<u32, Memory>
+    ensures { IfOk result (λ n. n ≡ place) }
+{
+    match u32::try_from(place) {
+        Ok(number) => Ok(number),
+        Err(_) => Err(Memory),
+    }
+}
+
+/// The first declaration of this name.
+fn decl_in<'a>(decls: &'a [MapDecl], name: &[u8]) -> Option<&'a MapDecl>
+    ensures { option_copied result ≡ decl_in name.now decls.now }
+{
+    for decl in decls {
+        if decl.name.as_slice() == name {
+            return Some(decl);
+        }
+    }
+    None
+}
+
+/// The variable of this name, with its place.
+fn var_at(vars: &[Var], name: &[u8]) -> Option<(usize, Shape)>
+    ensures { MatchOption result (var_in name.now vars.now ≡ None)
+        (λ found. (var_in name.now vars.now ≡ Some found.1) × (slice_get vars.now found.0 ≡ Some (record { name = name.now; shape = found.1 }))) }
+{
+    for (i, var) in vars.iter().enumerate() {
+        if var.name.as_slice() == name {
+            return Some((i, var.shape));
+        }
+    }
+    None
+}
+
+impl Known {
+    /// What was decided of the map of this name.
+    pub(crate) fn decl(&self, name: &[u8]) -> Option<&MapDecl>
+        ensures { option_copied result ≡ decl_in name.now self.now.decided }
+    {
+        decl_in(self.decided.as_slice(), name)
+    }
+
+    /// The variable of this name: its place and what it holds.
+    pub(crate) fn var(&self, name: &[u8]) -> Option<(usize, Shape)>
+        ensures { MatchOption result (var_in name.now self.now.vars ≡ None)
+            (λ found. (var_in name.now self.now.vars ≡ Some found.1) × (slice_get self.now.vars found.0 ≡ Some (record { name = name.now; shape = found.1 }))) }
+    {
+        var_at(self.vars.as_slice(), name)
+    }
+
+    /// The field of the event that has this name.
+    pub(crate) fn field(&self, name: &[u8]) -> Option<&Field>
+        ensures { option_copied result ≡ event_field self.now.event name.now }
+    {
+        match &self.event {
+            None => None,
+            Some(layout) => layout.field(name),
+        }
+    }
+
+    /// Whether a map was mentioned.
+    pub(crate) fn is_mentioned(&self, name: &[u8]) -> bool
+        ensures { result ≡ has_name name.now self.now.mentioned }
+    {
+        place_of(self.mentioned.as_slice(), name).is_some()
+    }
+}

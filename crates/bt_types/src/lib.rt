@@ -1,0 +1,6 @@
+//! The types of a script: its first fault in walk order, or its typed trees.
+#![tactic(auto)]
+
+pub mod fault;
+pub mod known;
+pub mod trial;

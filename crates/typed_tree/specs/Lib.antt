@@ -1,0 +1,4 @@
+pub mod Bodies
+pub mod Parts
+pub mod Scope
+pub mod Script

@@ -1,0 +1,7 @@
+//! Typed scripts: trees in which each map, variable, field and format is found, and each operand has its type.
+#![tactic(auto)]
+
+pub mod body;
+pub mod expr;
+pub mod script;
+pub mod stmt;
