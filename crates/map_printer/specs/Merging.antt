@@ -2,10 +2,12 @@
 use Rattle.std.specs.Prelude.{◌≡◌, List, Option, None, Some, fold}
 use Rattle.std.specs.BTreeMap.{insert_entry}
 use Rattle.std.specs.List.{All}
-use Rattle.std.specs.Map.{lookup, set_value}
+use Rattle.std.specs.Map.{lookup, set_value, values_of}
 use Rattle.bt_core.specs.declared.item.Cell.{Cell}
 use Rattle.bt_core.specs.declared.item.Cell.TheVariants as cells
 use Rattle.bt_core.specs.declared.map.AggKind.{AggKind}
+use Rattle.bt_core.specs.declared.map.MapKind.{MapKind}
+use Rattle.bt_core.specs.declared.map.MapKind.TheVariants.{Aggs}
 use Rattle.bt_core.specs.declared.value.Value.{Value}
 use Rattle.bt_core.specs.Order.{key_order}
 use Rattle.agg_core.specs.Changes.{is_key}
@@ -26,4 +28,9 @@ HasAggKind kind (cells.Value v) = Unit {0}
 HasAggKind kind (cells.Agg a) = a.kind ≡ kind
 
 abbrev pub AllHaveAggKind : AggKind → List (List Value × Cell) → Type 0
-AllHaveAggKind kind rows = All (λ row. HasAggKind kind row.1) rows
+AllHaveAggKind kind rows = All (HasAggKind kind) (values_of rows)
+
+-- no aggregate here is of another kind than the map's
+abbrev pub AllHaveKind : MapKind → List (List Value × Cell) → Type 0
+AllHaveKind (Aggs kind) rows = AllHaveAggKind kind rows
+AllHaveKind kind rows = Unit {0}
