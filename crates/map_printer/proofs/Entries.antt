@@ -8,20 +8,20 @@ use Rattle.bt_core.specs.declared.item.Cell.{Cell}
 use Rattle.bt_core.specs.declared.value.Value.{Value}
 use Rattle.agg_core.specs.Changes.{is_key}
 use Rattle.agg_core.proofs.SortedRows.{Ascends, ascends-with_key}
-use Rattle.map_printer.specs.Merged.{keys_of, cells_at}
+use Rattle.map_printer.specs.Merged.{ordered_keys, cells_at}
 use Rattle.map_printer.proofs.KeySets.{has, has-with_key}
 
 -- a row has the key
 abbrev pub names : List Value → List (List Value × Cell) → Bool
 names k rows = list_any (λ row. is_key k row.0) rows
 
-pub ascends-keys_of : (rows : List (List Value × Cell)) → Ascends (keys_of rows)
-ascends-keys_of [] = tt
-ascends-keys_of (r ∷ rs) = ascends-with_key r.0 (keys_of rs) (ascends-keys_of rs)
+pub ascends-ordered_keys : (rows : List (List Value × Cell)) → Ascends (ordered_keys rows)
+ascends-ordered_keys [] = tt
+ascends-ordered_keys (r ∷ rs) = ascends-with_key r.0 (ordered_keys rs) (ascends-ordered_keys rs)
 
-pub has-keys_of : (k : List Value) (rows : List (List Value × Cell)) → has k (keys_of rows) ≡ names k rows
-has-keys_of k [] = refl
-has-keys_of k (r ∷ rs) = has-with_key k r.0 (keys_of rs) ∙ ap (λ (t : Bool). is_key k r.0 || t) (has-keys_of k rs)
+pub has-ordered_keys : (k : List Value) (rows : List (List Value × Cell)) → has k (ordered_keys rows) ≡ names k rows
+has-ordered_keys k [] = refl
+has-ordered_keys k (r ∷ rs) = has-with_key k r.0 (ordered_keys rs) ∙ ap (λ (t : Bool). is_key k r.0 || t) (has-ordered_keys k rs)
 
 pub names-append : (k : List Value) (xs ys : List (List Value × Cell)) → names k (xs ++ ys) ≡ (names k xs || names k ys)
 names-append k xs ys = list_any-append (λ row. is_key k row.0) xs ys

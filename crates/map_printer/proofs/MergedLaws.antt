@@ -13,10 +13,10 @@ use Rattle.bt_core.specs.Order.{key_order}
 use Rattle.agg_core.specs.Changes.{is_key, with_key}
 use Rattle.agg_core.proofs.KeyLaws.{key_itself, Before, Same, After, side, is_key-same, is_key-before, is_key-after}
 use Rattle.agg_core.proofs.SortedRows.{Below, Ascends, ascends-with_key, below-trans, row_at, rows_at, rows-insert}
-use Rattle.map_printer.specs.Merged.{keys_of, cells_at, joined, both_cells, merged_rows}
+use Rattle.map_printer.specs.Merged.{ordered_keys, cells_at, joined, both_cells, merged_rows}
 use Rattle.map_printer.specs.Merging.{row_beside, with_row}
 use Rattle.map_printer.proofs.KeySets.{has, has-with_key, key_flip, below_none, same_keys}
-use Rattle.map_printer.proofs.Entries.{names, ascends-keys_of, has-keys_of, names-append, cells_at-append, cells_at-cons, cells_at-none, holds}
+use Rattle.map_printer.proofs.Entries.{names, ascends-ordered_keys, has-ordered_keys, names-append, cells_at-append, cells_at-cons, cells_at-none, holds}
 
 -- what the rows hold at a key, joined
 abbrev cell_of : List (List Value × Cell) → List Value → Cell
@@ -33,10 +33,10 @@ or_flip false true = refl
 or_flip false false = refl
 
 -- one row more gives its key
-keys_more : (rows : List (List Value × Cell)) (row : List Value × Cell) → keys_of (rows ++ row ∷ []) ≡ with_key row.0 (keys_of rows)
-keys_more rows row = same_keys _ _ (ascends-keys_of (rows ++ row ∷ [])) (ascends-with_key row.0 (keys_of rows) (ascends-keys_of rows))
-    (λ k. has-keys_of k (rows ++ row ∷ []) ∙ names-append k rows (row ∷ []) ∙ or_flip (names k rows) (is_key k row.0)
-    ∙ ap (λ (t : Bool). is_key k row.0 || t) (sym (has-keys_of k rows)) ∙ sym (has-with_key k row.0 (keys_of rows)))
+keys_more : (rows : List (List Value × Cell)) (row : List Value × Cell) → ordered_keys (rows ++ row ∷ []) ≡ with_key row.0 (ordered_keys rows)
+keys_more rows row = same_keys _ _ (ascends-ordered_keys (rows ++ row ∷ [])) (ascends-with_key row.0 (ordered_keys rows) (ascends-ordered_keys rows))
+    (λ k. has-ordered_keys k (rows ++ row ∷ []) ∙ names-append k rows (row ∷ []) ∙ or_flip (names k rows) (is_key k row.0)
+    ∙ ap (λ (t : Bool). is_key k row.0 || t) (sym (has-ordered_keys k rows)) ∙ sym (has-with_key k row.0 (ordered_keys rows)))
 
 module _ (cell : List Value → Cell) where
   lookup_none : (k : List Value) (ks : List (List Value)) → has k ks ≡ false → lookup (is_key k) (map (row_at cell) ks) ≡ None
@@ -84,25 +84,25 @@ module _ (rows : List (List Value × Cell)) (row : List Value × Cell) where
       ∙ sym (fold-append both_cells h.first h.later (row.1 ∷ []))
       ∙ ap joined (sym (here ∙ ap (λ (l : List Cell). l ++ row.1 ∷ []) h.is))
 
-  inserted : insert_entry key_order (map (row_at (cell_of rows)) (keys_of rows)) row.0 (cell_of (rows ++ row ∷ []) row.0) ≡ merged_rows (rows ++ row ∷ [])
+  inserted : insert_entry key_order (map (row_at (cell_of rows)) (ordered_keys rows)) row.0 (cell_of (rows ++ row ∷ []) row.0) ≡ merged_rows (rows ++ row ∷ [])
   inserted =
-      ap (λ (l : List (List Value × Cell)). insert_entry key_order l row.0 (cell_of (rows ++ row ∷ []) row.0)) (sym (as_rows (cell_of rows) (keys_of rows)))
-      ∙ sym (rows-insert (λ _. true) (λ _. true) (cell_of rows) (cell_of (rows ++ row ∷ [])) row.0 (λ j e. (refl, others j e)) refl (keys_of rows) (ascends-keys_of rows))
-      ∙ as_rows (cell_of (rows ++ row ∷ [])) (with_key row.0 (keys_of rows))
+      ap (λ (l : List (List Value × Cell)). insert_entry key_order l row.0 (cell_of (rows ++ row ∷ []) row.0)) (sym (as_rows (cell_of rows) (ordered_keys rows)))
+      ∙ sym (rows-insert (λ _. true) (λ _. true) (cell_of rows) (cell_of (rows ++ row ∷ [])) row.0 (λ j e. (refl, others j e)) refl (ordered_keys rows) (ascends-ordered_keys rows))
+      ∙ as_rows (cell_of (rows ++ row ∷ [])) (with_key row.0 (ordered_keys rows))
       ∙ ap (map (row_at (cell_of (rows ++ row ∷ [])))) (sym (keys_more rows row))
 
   -- the merged rows with one row more are those of the rows with it
   one_more : with_row (merged_rows rows) row ≡ merged_rows (rows ++ row ∷ [])
-  one_more = by_test (has row.0 (keys_of rows)) refl
+  one_more = by_test (has row.0 (ordered_keys rows)) refl
     where
-      by_test : (t : Bool) → has row.0 (keys_of rows) ≡ t → with_row (merged_rows rows) row ≡ merged_rows (rows ++ row ∷ [])
+      by_test : (t : Bool) → has row.0 (ordered_keys rows) ≡ t → with_row (merged_rows rows) row ≡ merged_rows (rows ++ row ∷ [])
       by_test true e =
-          ap (λ (o : Option Cell). row_beside o (merged_rows rows) row) (lookup_some (cell_of rows) row.0 (keys_of rows) e)
-          ∙ put_there (cell_of rows) row.0 (both_cells (cell_of rows row.0) row.1) (keys_of rows) (ascends-keys_of rows) e
-          ∙ ap (λ (c : Cell). insert_entry key_order (merged_rows rows) row.0 c) (more_cells (sym (has-keys_of row.0 rows) ∙ e)) ∙ inserted
+          ap (λ (o : Option Cell). row_beside o (merged_rows rows) row) (lookup_some (cell_of rows) row.0 (ordered_keys rows) e)
+          ∙ put_there (cell_of rows) row.0 (both_cells (cell_of rows row.0) row.1) (ordered_keys rows) (ascends-ordered_keys rows) e
+          ∙ ap (λ (c : Cell). insert_entry key_order (merged_rows rows) row.0 c) (more_cells (sym (has-ordered_keys row.0 rows) ∙ e)) ∙ inserted
       by_test false e =
-          ap (λ (o : Option Cell). row_beside o (merged_rows rows) row) (lookup_none (cell_of rows) row.0 (keys_of rows) e)
-          ∙ ap (λ (c : Cell). insert_entry key_order (merged_rows rows) row.0 c) (new_cell (sym (has-keys_of row.0 rows) ∙ e)) ∙ inserted
+          ap (λ (o : Option Cell). row_beside o (merged_rows rows) row) (lookup_none (cell_of rows) row.0 (ordered_keys rows) e)
+          ∙ ap (λ (c : Cell). insert_entry key_order (merged_rows rows) row.0 c) (new_cell (sym (has-ordered_keys row.0 rows) ∙ e)) ∙ inserted
 
 more_rows : (rows more : List (List Value × Cell)) → fold with_row (merged_rows rows) more ≡ merged_rows (rows ++ more)
 more_rows rows [] = ap merged_rows (sym (append-nil rows))

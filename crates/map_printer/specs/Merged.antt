@@ -32,9 +32,9 @@ abbrev pub all_rows : MapKind → List Reply → List (List Value × Cell)
 all_rows kind replies = flat_map (rows_in kind) replies
 
 -- the keys of the rows, in key order, each once
-abbrev pub keys_of : List (List Value × Cell) → List (List Value)
-keys_of [] = []
-keys_of (row ∷ rows) = with_key row.0 (keys_of rows)
+abbrev pub ordered_keys : List (List Value × Cell) → List (List Value)
+ordered_keys [] = []
+ordered_keys (row ∷ rows) = with_key row.0 (ordered_keys rows)
 
 -- what stands under the key in these rows, in their order
 abbrev pub cells_at : List Value → List (List Value × Cell) → List Cell
@@ -52,7 +52,7 @@ joined (cell ∷ later) = fold both_cells cell later
 
 -- each key of the rows with what they hold under it
 abbrev pub merged_rows : List (List Value × Cell) → List (List Value × Cell)
-merged_rows rows = map (λ key. (key, joined (cells_at key rows))) (keys_of rows)
+merged_rows rows = map (λ key. (key, joined (cells_at key rows))) (ordered_keys rows)
 
 -- the rows of a map of this kind: all keys of the replies in key order, each once, under each the merged aggregate of its
 -- aggregates, or the value of the first reply that holds it
