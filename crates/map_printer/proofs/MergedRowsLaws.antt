@@ -189,7 +189,7 @@ module _ (kind : MapKind) (rs : List Reply) where
   unfolding merged
   alone made are =
       let same = same_keys (keys_of made) (ordered_keys rows) (ascends_from_sorted (keys_of made) are.in_order) (ascends-ordered_keys rows)
-          (λ k. same_tests (has k (keys_of made)) (has k (ordered_keys rows))
-          (λ h. has_from_contains k (ordered_keys rows) (to_order k ((are.keys k).0 (contains_from_has k (keys_of made) h))))
-          (λ h. has_from_contains k (keys_of made) ((are.keys k).1 (from_order k (contains_from_has k (ordered_keys rows) h))))) in
+      (λ k. same_tests (has k (keys_of made)) (has k (ordered_keys rows))
+      (λ h. has_from_contains k (ordered_keys rows) (to_order k ((are.keys k).0 (contains_from_has k (keys_of made) h))))
+      (λ h. has_from_contains k (keys_of made) ((are.keys k).1 (from_order k (contains_from_has k (ordered_keys rows) h))))) in
       rows_by_keys made are.cells ∙ ap (map (row_at cell_at)) same
