@@ -1,16 +1,24 @@
 // What the tested calls ask of their arguments, as tests of the arguments.
-ghost use Rattle.std.specs.Prelude.{◌≡◌, IsTrue, All, length, pos, ◌≤ℤ◌};
+ghost use Rattle.std.specs.Prelude.{◌≡◌, IsTrue, All, IfOk, IsSomeAnd, length, slice_get};
+ghost use Rattle.fmt_text.specs.Arguments.{AreArgumentsOf};
 ghost use Rattle.bt_core.specs.Kinds.{HasShape, IsOfShape, IsOfKind, IsFineKind, AreBucketsOf, IsAggOf};
+ghost use Rattle.map_printer.specs.Ends.{AllRowsFit};
 ghost use Rattle.map_printer.specs.Fits.{IsCellOf, IsRowOf};
+ghost use Rattle.map_printer.specs.ItemTexts.{CanPrint, IsItemOf};
 ghost use Rattle.map_printer.specs.Merged.{HasRowsOf};
 
 use bt_core::agg::{Agg, Buckets};
-use bt_core::item::Cell;
+use bt_core::item::{Cell, Item};
+use bt_core::items::Items;
 use bt_core::key::Key;
 use bt_core::limits::LHIST_BUCKETS;
-use bt_core::map::{AggKind, MapDecl, MapKind, Shape};
+use bt_core::map::{AggKind, MapDecl, MapId, MapKind, Shape};
+use bt_core::memory::Memory;
 use bt_core::step::Reply;
 use bt_core::value::Value;
+use fmt_text::arguments::argument_shapes;
+use fmt_text::piece::Piece;
+use std::alloc::Global;
 
 fn is_of_shape(shape: Shape, value: &Value) -> bool
     ensures { IsTrue result → IsOfShape shape value.now }
@@ -47,7 +55,8 @@ fn is_of_kind(kind: MapKind, value: &Value) -> bool
 fn are_bounds(min: i64, max: i64, step: i64) -> bool
     ensures { IsTrue result → IsFineKind (AggKind.Lhist min max step) }
 {
-    min < max && 1 <= step
+    min < max
+        && 1 <= step
         && max.abs_diff(min).div_ceil(step.unsigned_abs()) <= LHIST_BUCKETS as u64
 }
 
@@ -168,4 +177,62 @@ pub fn have_rows_of(kind: MapKind, replies: &[Reply]) -> bool
         }
     }
     true
+}
+
+/// Whether the rows of each map are such as it can hold.
+pub fn rows_fit(maps: &[MapDecl], rows: &[Items<(Key, Cell)>]) -> bool
+    ensures { IsTrue result → AllRowsFit maps.now rows.now }
+{
+    match (maps, rows) {
+        ([decl, maps @ ..], [first, rows @ ..]) => {
+            are_rows_of(decl, first.as_slice()) && rows_fit(maps, rows)
+        }
+        _ => true,
+    }
+}
+
+fn are_arguments_of(alloc: Global, pieces: &[Piece], values: &[Value]) -> Result<bool, Memory>
+    ensures { IfOk result (λ fit. IsTrue fit → AreArgumentsOf pieces.now values.now) }
+{
+    let shapes = argument_shapes(alloc, pieces)?;
+    Ok(has_shape(shapes.as_slice(), values))
+}
+
+fn is_call_of(
+    alloc: Global,
+    formats: &[Items<Piece>],
+    format: u32,
+    values: &[Value],
+) -> Result<bool, Memory>
+    ensures { IfOk result (λ fit. IsTrue fit → IsSomeAnd (slice_get formats.now format) (λ pieces. AreArgumentsOf pieces values.now)) }
+{
+    match formats.get(format as usize) {
+        Some(pieces) => are_arguments_of(alloc, pieces.as_slice(), values),
+        None => Ok(false),
+    }
+}
+
+fn can_print(maps: &[MapDecl], map: MapId, rows: &[(Key, Cell)], div: i64) -> bool
+    ensures { IsTrue result → IsSomeAnd (slice_get maps.now map.0) (CanPrint rows.now div) }
+{
+    match maps.get(map.0 as usize) {
+        Some(decl) => 1 <= div && are_rows_of(decl, rows),
+        None => false,
+    }
+}
+
+/// Whether the item is one of a script with these formats and maps.
+pub fn is_item_of(
+    alloc: Global,
+    formats: &[Items<Piece>],
+    maps: &[MapDecl],
+    item: &Item,
+) -> Result<bool, Memory>
+    ensures { IfOk result (λ fit. IsTrue fit → IsItemOf formats.now maps.now item.now) }
+{
+    match item {
+        Item::Printf { format, values } => is_call_of(alloc, formats, *format, values.as_slice()),
+        Item::Map { map, rows, div, .. } => Ok(can_print(maps, *map, rows.as_slice(), *div)),
+        Item::Cut { .. } => Ok(true),
+    }
 }

@@ -105,3 +105,39 @@ pub fn printed(
     }
     Ok(print_map(alloc, decl, rows, top, div)?)
 }
+
+/// The row of a map without a key.
+pub fn one_row(alloc: Global, cell: Cell) -> Result<Vec<(Key, Cell)>, Memory> {
+    let key = Key::of(Vec::new(alloc));
+    let mut rows = Vec::new(alloc);
+    rows.push((key, cell))?;
+    Ok(rows)
+}
+
+/// A bar of so many signs in 52 columns.
+fn push_bar(text: &mut Vec<u8>, signs: usize) -> Result<(), Memory> {
+    for column in 0..52 {
+        text.push(if column < signs { b'@' } else { b' ' })?;
+    }
+    Ok(())
+}
+
+/// The text with a bar of n signs in the place of each `{n}`.
+pub fn with_bars(alloc: Global, text: &[u8]) -> Result<Vec<u8>, Memory> {
+    let mut whole = Vec::new(alloc);
+    let mut signs = None;
+    for byte in text {
+        match (signs, *byte) {
+            (None, b'{') => signs = Some(0),
+            (None, other) => whole.push(other)?,
+            (Some(n), b'}') => {
+                push_bar(&mut whole, n)?;
+                signs = None;
+            }
+            (Some(n), digit) => signs = Some(
+                (n * 10 + usize::from(digit.saturating_sub(b'0'))) % 100,
+            ),
+        }
+    }
+    Ok(whole)
+}

@@ -4,6 +4,14 @@
 #[cfg(test)]
 mod checks;
 #[cfg(test)]
+mod ends;
+#[cfg(test)]
 mod fixtures;
+#[cfg(test)]
+mod formats;
+#[cfg(test)]
+mod histograms;
+#[cfg(test)]
+mod merging;
 #[cfg(test)]
 mod values;
