@@ -187,7 +187,8 @@ pub fn rows_fit(maps: &[MapDecl], rows: &[Items<(Key, Cell)>]) -> bool
         ([decl, maps @ ..], [first, rows @ ..]) => {
             are_rows_of(decl, first.as_slice()) && rows_fit(maps, rows)
         }
-        _ => true,
+        ([], _) => true,
+        ([_, ..], []) => false,
     }
 }
 

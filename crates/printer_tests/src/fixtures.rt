@@ -134,9 +134,7 @@ pub fn with_bars(alloc: Global, text: &[u8]) -> Result<Vec<u8>, Memory> {
                 push_bar(&mut whole, n)?;
                 signs = None;
             }
-            (Some(n), digit) => signs = Some(
-                (n * 10 + usize::from(digit.saturating_sub(b'0'))) % 100,
-            ),
+            (Some(n), digit) => signs = Some(n % 10 * 10 + usize::from(digit.saturating_sub(b'0'))),
         }
     }
     Ok(whole)

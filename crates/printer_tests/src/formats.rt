@@ -20,10 +20,7 @@ fn call_text(alloc: Global, format: &[u8], values: &[Part]) -> Result<Vec<u8>, F
 
 #[test]
 fn calls_are_rendered(rt: HostRuntime) -> Result<(), Fail> {
-    let minus_one = Part::N(-1);
-    let least = Part::N(i64::MIN);
-    let minus = Part::N(-42);
-    let cases: [(&[u8], &[Part], &[u8]); 21] = [
+    let cases: [(&'static [u8], &'static [Part], &'static [u8]); 21] = [
         (
             b"%-6s|%5d|%08x|%c%%\n",
             &[Part::S(b"ab"), Part::N(-3), Part::N(255), Part::N(65)],
@@ -36,17 +33,29 @@ fn calls_are_rendered(rt: HostRuntime) -> Result<(), Fail> {
         ),
         (
             b"%d %i %u %x %X",
-            &[minus_one, minus_one, minus_one, minus_one, minus_one],
+            &[
+                Part::N(-1),
+                Part::N(-1),
+                Part::N(-1),
+                Part::N(-1),
+                Part::N(-1),
+            ],
             b"-1 -1 18446744073709551615 ffffffffffffffff FFFFFFFFFFFFFFFF",
         ),
         (
             b"%d %u %x",
-            &[least, least, least],
+            &[Part::N(i64::MIN), Part::N(i64::MIN), Part::N(i64::MIN)],
             b"-9223372036854775808 9223372036854775808 8000000000000000",
         ),
         (
             b"%08d|%-08d|%0-8d|%8d|%3d",
-            &[minus, minus, minus, minus, Part::N(12345)],
+            &[
+                Part::N(-42),
+                Part::N(-42),
+                Part::N(-42),
+                Part::N(-42),
+                Part::N(12345),
+            ],
             b"-0000042|-42     |-42     |     -42|12345",
         ),
         (
@@ -64,7 +73,7 @@ fn calls_are_rendered(rt: HostRuntime) -> Result<(), Fail> {
             &[Part::N(321), Part::N(354), Part::N(99)],
             b"A    b|c    |",
         ),
-        (b"%c%c", &[Part::N(0), minus_one], b"\x00\xff"),
+        (b"%c%c", &[Part::N(0), Part::N(-1)], b"\x00\xff"),
         (
             b"%5s|%-5s|%2s|%s|%1s",
             &[
