@@ -1,4 +1,6 @@
 pub mod Arguments
+pub mod Columns
 pub mod Deciding
 pub mod Formats
 pub mod Reading
+pub mod Rendered
