@@ -3,7 +3,7 @@ use crate::scripts::{SECOND, attached_to, three_formats};
 use std::test::Fail;
 
 /// Scripts over two seconds, and the ticks of each: after how many half seconds, and the body.
-const TICKS: [(&[u8], [(u64, u32); 6]); 3] = [
+const TICKS: [(&[u8], [(u8, u32); 6]); 3] = [
     // Both points of a probe run its one body, also at one time.
     (
         b"BEGIN, interval:s:1, interval:ms:500 { }",
@@ -31,7 +31,7 @@ fn ticks_stand_by_time_and_then_by_probe(rt: HostRuntime) -> Result<(), Fail> {
             let after = tick.time.wrapping_sub(77);
             assert_eq!(rt;
                 (after, tick.body),
-                (half_seconds * (SECOND / 2), body),
+                (u64::from(half_seconds) * (SECOND / 2), body),
                 "{text:?}"
             );
         }
