@@ -221,7 +221,7 @@ words_answer (Some order) seen out status = record {
 }
 
 -- what holds of all files holds of told ones
-pub on_told : (order : Option Order) (held : List ℕ → Option (List ℕ)) (P : Order → Files → Type 0)
+on_told : (order : Option Order) (held : List ℕ → Option (List ℕ)) (P : Order → Files → Type 0)
     → ((order : Order) (files : Files) → P order files) → OnTold order held P
 on_told None held P p = tt
 on_told (Some order) held P p = both (held (operands_of order).script) (held (operands_of order).recording)
@@ -230,3 +230,11 @@ on_told (Some order) held P p = both (held (operands_of order).script) (held (op
     both None b = tt
     both (Some a) None = tt
     both (Some a) (Some b) = p order (record { script = a; recording = b })
+
+pub memory_exact : (order : Option Order) (held : List ℕ → Option (List ℕ)) → OnTold order held (ComesIfDue (Some Memory))
+memory_exact order held = on_told order held (ComesIfDue (Some Memory)) (λ o files due is. inr tt)
+
+pub memory_complete : (order : Option Order) (held : List ℕ → Option (List ℕ)) (read_failed write_failed : Type 0)
+    → OnTold order held (IsComplete read_failed write_failed 6)
+memory_complete order held read_failed write_failed =
+    on_told order held (IsComplete read_failed write_failed 6) (λ o files due no_read no_write. inr refl)

@@ -31,7 +31,7 @@ use Rattle.bt_top.specs.declared.refusal.Refusal.TheVariants.{Script}
 use Rattle.bt_top.specs.Script.{place_at, place_of, lexical_refusal, parse_refusal, attach_refusal, HasTree, IsTextFault, IsAttachFault, IsScriptFault, EventName, IsFormatOf, CountsFormat}
 use Rattle.bt_top.specs.Early.{event_of_tree}
 use Rattle.bt_top.proofs.EarlyTrees.{is_early, is_event}
-use Rattle.bt_top.specs.Serve.{IsTextRefusal, IsToldFault, IsScriptRefusal}
+use Rattle.bt_top.specs.Serve.{IsTextRefusal, IsScriptRefusal}
 
 -- ---- the first fault of a script
 

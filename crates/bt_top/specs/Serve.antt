@@ -15,7 +15,7 @@ use Rattle.bt_top.specs.declared.refusal.ScriptFault.{ScriptFault}
 use Rattle.bt_top.specs.declared.refusal.ScriptRefusal.TheVariants as script
 use Rattle.bt_top.specs.declared.refusal.RecordingRefusal.TheVariants as recording
 use Rattle.bt_top.specs.declared.refusal.Refusal.{Refusal}
-use Rattle.bt_top.specs.declared.refusal.Refusal.TheVariants.{Usage, Script, Recording, ReadFault, WriteFault, Memory}
+use Rattle.bt_top.specs.declared.refusal.Refusal.TheVariants.{Script, Recording, ReadFault, WriteFault, Memory}
 use Rattle.bt_top.specs.declared.words.Operands.{Operands}
 use Rattle.bt_top.specs.declared.words.Order.{Order}
 use Rattle.bt_top.specs.declared.words.Order.TheVariants.{Run, Check}

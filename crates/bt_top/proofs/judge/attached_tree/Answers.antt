@@ -1,4 +1,4 @@
-use Rattle.std.proofs.Common.{◌≡◌, arith, refl}
+use Rattle.std.proofs.Common.{arith}
 use Rattle.bt_grammar.specs.Tokens.{items}
 use Rattle.bt_top.proofs.Scripts.{attach_told}
 use Rattle.bt_top.proofs.judge.attached_tree.Goals as goal

@@ -1,5 +1,6 @@
-use Rattle.std.proofs.Common.{◌≡◌, inr}
-use Rattle.bt_top.proofs.Judging.{is_complete, nothing_asked, words_answer, on_told}
+use Rattle.bt_io.specs.Faults.{Rose}
+use Rattle.bt_top.specs.Words.{order_of}
+use Rattle.bt_top.proofs.Judging.{is_complete, nothing_asked, words_answer, memory_exact, memory_complete}
 use Rattle.bt_top.proofs.serve.serve.Goals as goal
 
 pub returns-in-Err-Memory-clause-asked : goal.returns-in-Err-Memory-clause-asked
@@ -9,11 +10,13 @@ pub returns-in-Err-Memory-clause-answered : goal.returns-in-Err-Memory-clause-an
 returns-in-Err-Memory-clause-answered g c = rw c.refused-in-Err-Memory.ensures (words_answer _ _ _ _)
 
 pub returns-in-Err-Memory-clause-exact : goal.returns-in-Err-Memory-clause-exact
-returns-in-Err-Memory-clause-exact g c = rw c.refused-in-Err-Memory.ensures (on_told _ _ _ (λ order files due is. inr tt))
+returns-in-Err-Memory-clause-exact g c = rw c.refused-in-Err-Memory.ensures (memory_exact (order_of c.args.words.now) (g.S.Shelf.held c.args.shelf.now))
 
 pub returns-in-Err-Memory-clause-complete : goal.returns-in-Err-Memory-clause-complete
 returns-in-Err-Memory-clause-complete g c =
-    rw c.refused-in-Err-Memory.ensures (on_told _ _ _ (λ order files due no_read no_write. inr (search rules)))
+    let read_failed : Type 0 = Rose (g.S.Shelf.faults c.args.shelf.now) (g.S.Shelf.faults c.args.shelf.now) in
+    let write_failed : Type 0 = Rose (g.K.Sink.faults c.args.out.now) (g.K.Sink.faults c.args.out.now) in
+    rw c.refused-in-Err-Memory.ensures (memory_complete (order_of c.args.words.now) (g.S.Shelf.held c.args.shelf.now) read_failed write_failed)
 
 pub returns-clause-complete : goal.returns-clause-complete
 returns-clause-complete g c =
