@@ -1,6 +1,6 @@
 -- What the reads, the judging and the write answer together.
 use Rattle.std.proofs.Common.{◌≡◌, ℕ, suc, ◌<◌, ◌≤◌, ◌⊎◌, List, [], length, refl, sym, ap, subst, arith, inl, inr}
-use Rattle.std.specs.Prelude.{Option, Some, None, Result, Ok, Err, IfOk, IfErr, IfSome, IsSomeAnd, unwrap_or, replicate}
+use Rattle.std.specs.Prelude.{Option, Some, None, Result, Ok, Err, IfOk, IfErr, IfSome, unwrap_or, replicate}
 use Rattle.std.proofs.lemmas.List.{length-replicate}
 use Rattle.bt_core.specs.declared.limits.TheConstants.{SCRIPT_BYTES, RECORDING_BYTES}
 use Rattle.bt_io.specs.Faults.{Rose}
@@ -15,9 +15,13 @@ use Rattle.bt_top.specs.declared.refusal.Refusal.TheVariants.{Usage, Script, Rec
 use Rattle.bt_top.specs.Count.{payloads_of, IsWorkOf}
 use Rattle.bt_top.specs.Lines.{SinkUse, SinkFailed}
 use Rattle.bt_top.specs.Refusals.{status_of, read_refusal}
-use Rattle.bt_top.specs.Serve.{Files, AreShort, IsAsked, IsAccepted, IsDue, ShelfUse, ShelfFailed, MayCome, HasWork, IsWorkFor, Answers, MayStandFor}
-use Rattle.bt_top.specs.Serve.{ComesIfDue, IsComplete, OnBoth, OnTold, IsDueRefusal, Reads}
-use Rattle.bt_top.specs.Words.{Operands, Order, Run, operands_of}
+use Rattle.bt_top.specs.Due.{Files, IsCounted, IsDue}
+use Rattle.bt_top.specs.Serve.{ShelfUse, ShelfFailed, AsksFirst, AsksExactly, MayCome, HasWork, Answers, IsAnswer, MayStandFor, ComesIfDue, IsComplete}
+use Rattle.bt_top.specs.Serve.{OnBoth, OnTold, IsDueRefusal, IsRun, IsJudged, Reads}
+use Rattle.bt_top.specs.Words.{operands_of, names_of}
+use Rattle.bt_top.specs.declared.words.Order.{Order}
+use Rattle.bt_top.specs.declared.words.Order.TheVariants.{Run, Check}
+use Rattle.bt_top.proofs.Due.{judged_is_due}
 
 -- a count that rose in a part of a call rose in the call
 pub rose_from : (before between after : ℕ) → before ≤ between → Rose between after → Rose before after
@@ -45,56 +49,56 @@ long_or n None long = (long_list n).1
 long_or n (Some bytes) long = long
 
 -- the script is not read
-pub script_unread : (names : Operands) (seen : ShelfUse) (error : ShelfError)
+pub script_unread : (order : Order) (seen : ShelfUse) (error : ShelfError)
     → (error ≡ shelf.Failed → ShelfFailed seen)
-    → (error ≡ shelf.TooLong → IfSome (seen.held names.script) (λ bytes. SCRIPT_BYTES < length bytes))
-    → Reads (Run names) seen (Err (read_refusal operand.Script error))
-script_unread names seen error failed long = record {
-  files = record { script = unwrap_or (seen.held names.script) (long_list SCRIPT_BYTES).0; recording = unwrap_or (seen.held names.recording) [] };
+    → (error ≡ shelf.TooLong → IfSome (seen.held (operands_of order).script) (λ bytes. SCRIPT_BYTES < length bytes))
+    → Reads order seen (Err (read_refusal operand.Script error))
+script_unread order seen error failed long = record {
+  files = record { script = unwrap_or (seen.held (operands_of order).script) (long_list SCRIPT_BYTES).0; recording = unwrap_or (seen.held (operands_of order).recording) [] };
   held = record { script = held_or _ _; recording = held_or _ _ };
-  asked = tt;
+  judged = tt;
   came = came error failed long;
 }
   where
     came : (error : ShelfError) → (error ≡ shelf.Failed → ShelfFailed seen)
-        → (error ≡ shelf.TooLong → IfSome (seen.held names.script) (λ bytes. SCRIPT_BYTES < length bytes))
-        → MayCome (record { script = unwrap_or (seen.held names.script) (long_list SCRIPT_BYTES).0; recording = unwrap_or (seen.held names.recording) [] })
+        → (error ≡ shelf.TooLong → IfSome (seen.held (operands_of order).script) (λ bytes. SCRIPT_BYTES < length bytes))
+        → MayCome order (record { script = unwrap_or (seen.held (operands_of order).script) (long_list SCRIPT_BYTES).0; recording = unwrap_or (seen.held (operands_of order).recording) [] })
         (ShelfFailed seen) ⊥ (Some (read_refusal operand.Script error))
     came shelf.Failed failed long = failed refl
-    came shelf.TooLong failed long = long_or SCRIPT_BYTES (seen.held names.script) (long refl)
+    came shelf.TooLong failed long = long_or SCRIPT_BYTES (seen.held (operands_of order).script) (long refl)
     came shelf.Memory failed long = tt
 
 -- the script is read, and the recording is not
-pub recording_unread : (names : Operands) (seen : ShelfUse) (bytes : List ℕ) (error : ShelfError)
-    → IfSome (seen.held names.script) (λ told. bytes ≡ told) → length bytes ≤ SCRIPT_BYTES
+pub recording_unread : (order : Order) (seen : ShelfUse) (bytes : List ℕ) (error : ShelfError)
+    → IfSome (seen.held (operands_of order).script) (λ told. bytes ≡ told) → length bytes ≤ SCRIPT_BYTES
     → (error ≡ shelf.Failed → ShelfFailed seen)
-    → (error ≡ shelf.TooLong → IfSome (seen.held names.recording) (λ told. RECORDING_BYTES < length told))
-    → Reads (Run names) seen (Err (read_refusal operand.Recording error))
-recording_unread names seen bytes error here short failed long = record {
-  files = record { script = bytes; recording = unwrap_or (seen.held names.recording) (long_list RECORDING_BYTES).0 };
+    → (error ≡ shelf.TooLong → IfSome (seen.held (operands_of order).recording) (λ told. RECORDING_BYTES < length told))
+    → Reads order seen (Err (read_refusal operand.Recording error))
+recording_unread order seen bytes error here short failed long = record {
+  files = record { script = bytes; recording = unwrap_or (seen.held (operands_of order).recording) (long_list RECORDING_BYTES).0 };
   held = record { script = here; recording = held_or _ _ };
-  asked = tt;
+  judged = tt;
   came = came error failed long;
 }
   where
     came : (error : ShelfError) → (error ≡ shelf.Failed → ShelfFailed seen)
-        → (error ≡ shelf.TooLong → IfSome (seen.held names.recording) (λ told. RECORDING_BYTES < length told))
-        → MayCome (record { script = bytes; recording = unwrap_or (seen.held names.recording) (long_list RECORDING_BYTES).0 }) (ShelfFailed seen) ⊥
+        → (error ≡ shelf.TooLong → IfSome (seen.held (operands_of order).recording) (λ told. RECORDING_BYTES < length told))
+        → MayCome order (record { script = bytes; recording = unwrap_or (seen.held (operands_of order).recording) (long_list RECORDING_BYTES).0 }) (ShelfFailed seen) ⊥
         (Some (read_refusal operand.Recording error))
     came shelf.Failed failed long = (failed refl, short)
-    came shelf.TooLong failed long = (short, long_or RECORDING_BYTES (seen.held names.recording) (long refl))
+    came shelf.TooLong failed long = (short, long_or RECORDING_BYTES (seen.held (operands_of order).recording) (long refl))
     came shelf.Memory failed long = tt
 
 -- both are read
-pub both_read : (names : Operands) (seen : ShelfUse) (files : Files) (answer : Result Counting Refusal)
-    → IfSome (seen.held names.script) (λ told. files.script ≡ told) → IfSome (seen.held names.recording) (λ told. files.recording ≡ told) → AreShort files
-    → IfOk answer (λ counting. IsAsked files counting.recording counting.format) → IfErr answer (IsDueRefusal files) → Reads (Run names) seen answer
-both_read names seen files (Ok counting) first second short asked refused =
-    record { files = files; held = record { script = first; recording = second }; asked = (short, asked); came = tt }
-both_read names seen files (Err refusal) first second short asked refused =
-    record { files = files; held = record { script = first; recording = second }; asked = tt; came = came refusal refused }
+pub both_read : (order : Order) (seen : ShelfUse) (files : Files) (answer : Result Counting Refusal)
+    → IfSome (seen.held (operands_of order).script) (λ told. files.script ≡ told) → IfSome (seen.held (operands_of order).recording) (λ told. files.recording ≡ told) → IfOk answer (IsJudged order files)
+    → IfErr answer (IsDueRefusal order files) → Reads order seen answer
+both_read order seen files (Ok counting) first second judged refused =
+    record { files = files; held = record { script = first; recording = second }; judged = judged; came = tt }
+both_read order seen files (Err refusal) first second judged refused =
+    record { files = files; held = record { script = first; recording = second }; judged = tt; came = came refusal refused }
   where
-    due_comes : (refusal : Refusal) → IsDue files (Some refusal) → MayCome files (ShelfFailed seen) ⊥ (Some refusal)
+    due_comes : (refusal : Refusal) → IsDue order files (Some refusal) → MayCome order files (ShelfFailed seen) ⊥ (Some refusal)
     due_comes Usage due = due
     due_comes (Script why) due = due
     due_comes (Recording why) due = due
@@ -102,45 +106,40 @@ both_read names seen files (Err refusal) first second short asked refused =
     due_comes WriteFault due = absurd due
     due_comes Memory due = tt
 
-    came : (refusal : Refusal) → IsDueRefusal files refusal → MayCome files (ShelfFailed seen) ⊥ (Some refusal)
-    came refusal (inl memory) = subst (λ (r : Refusal). MayCome files (ShelfFailed seen) ⊥ (Some r)) (sym memory) tt
+    came : (refusal : Refusal) → IsDueRefusal order files refusal → MayCome order files (ShelfFailed seen) ⊥ (Some refusal)
+    came refusal (inl memory) = subst (λ (r : Refusal). MayCome order files (ShelfFailed seen) ⊥ (Some r)) (sym memory) tt
     came refusal (inr due) = due_comes refusal due
 
--- ---- what is due to told files
-
-pub on_both : (script recording : Option (List ℕ)) (files : Files) (P : Files → Type 0)
-    → IfSome script (λ told. files.script ≡ told) → IfSome recording (λ told. files.recording ≡ told) → P files → OnBoth script recording P
-on_both None recording files P first second p = tt
-on_both (Some a) None files P first second p = tt
-on_both (Some a) (Some b) files P first second p =
-    subst (λ (x : List ℕ). P (record { script = x; recording = b })) first
-    (subst (λ (x : List ℕ). P (record { script = files.script; recording = x })) second p)
-
 -- ---- the whole call
+
+-- before the write there is no fault of it
+may_later : (order : Order) (files : Files) (read_failed write_failed : Type 0) (refusal : Refusal)
+    → MayCome order files read_failed ⊥ (Some refusal) → MayCome order files read_failed write_failed (Some refusal)
+may_later order files read_failed write_failed Usage may = may
+may_later order files read_failed write_failed (Script why) may = may
+may_later order files read_failed write_failed (Recording why) may = may
+may_later order files read_failed write_failed (ReadFault operand.Script) may = may
+may_later order files read_failed write_failed (ReadFault operand.Recording) may = may
+may_later order files read_failed write_failed WriteFault may = absurd may.0
+may_later order files read_failed write_failed Memory may = tt
 
 -- what is refused at the reads or before is answered so
 pub refused_answer : (order : Order) (seen : ShelfUse) (out : SinkUse) (refusal : Refusal) (status : ℕ)
     → Reads order seen (Err refusal) → Answers order seen out (record { status = status; refusal = Some refusal; work = None })
 refused_answer order seen out refusal status reads =
-    record { files = reads.files; held = reads.held; came = came refusal reads.came; worked = worked refusal reads.came }
-  where
-    came : (refusal : Refusal) → MayCome reads.files (ShelfFailed seen) ⊥ (Some refusal)
-        → MayCome reads.files (ShelfFailed seen) (SinkFailed out) (Some refusal)
-    came Usage may = may
-    came (Script why) may = may
-    came (Recording why) may = may
-    came (ReadFault operand.Script) may = may
-    came (ReadFault operand.Recording) may = may
-    came WriteFault may = absurd may.0
-    came Memory may = tt
+    record { files = reads.files; held = reads.held; came = may_later order reads.files (ShelfFailed seen) (SinkFailed out) refusal reads.came; worked = tt }
 
-    worked : (refusal : Refusal) → MayCome reads.files (ShelfFailed seen) ⊥ (Some refusal) → HasWork (Some refusal) → IsSomeAnd None (IsWorkFor reads.files)
-    worked WriteFault may has = absurd may.0
-    worked refusal may has = absurd has
+-- and there is no work
+pub refused_work : (order : Order) (seen : ShelfUse) (refusal : Refusal) → Reads order seen (Err refusal) → HasWork (Some refusal) (Some order) → ⊥
+refused_work order seen refusal reads has = no_work refusal reads.came has
+  where
+    no_work : (refusal : Refusal) → MayCome order reads.files (ShelfFailed seen) ⊥ (Some refusal) → HasWork (Some refusal) (Some order) → ⊥
+    no_work WriteFault may has = may.0
+    no_work refusal may has = has
 
 pub memory_answer : (order : Order) (seen : ShelfUse) (out : SinkUse) (status : ℕ) (counting : Counting)
     → Reads order seen (Ok counting) → Answers order seen out (record { status = status; refusal = Some Memory; work = None })
-memory_answer order seen out status counting reads = record { files = reads.files; held = reads.held; came = tt; worked = λ has. absurd has }
+memory_answer order seen out status counting reads = record { files = reads.files; held = reads.held; came = tt; worked = tt }
 
 pub worked_answer : (order : Order) (seen : ShelfUse) (out : SinkUse) (status : ℕ) (refusal : Option Refusal) (counting : Counting) (work : Work)
     → Reads order seen (Ok counting) → IsWorkOf (payloads_of counting.format counting.recording) work
@@ -150,17 +149,29 @@ worked_answer order seen out status refusal counting work reads counted ends = r
   files = reads.files;
   held = reads.held;
   came = elim ends [
-    | inl e ↦ subst (λ (r : Option Refusal). MayCome reads.files (ShelfFailed seen) (SinkFailed out) r) (sym e) due
-    | inr e ↦ subst (λ (r : Option Refusal). MayCome reads.files (ShelfFailed seen) (SinkFailed out) r) (sym e.0) (e.1, due)
+    | inl e ↦ subst (λ (r : Option Refusal). MayCome order reads.files (ShelfFailed seen) (SinkFailed out) r) (sym e) due
+    | inr e ↦ subst (λ (r : Option Refusal). MayCome order reads.files (ShelfFailed seen) (SinkFailed out) r) (sym e.0) (e.1, due)
   ];
-  worked = λ has. record { accepted = accepted; counted = counted };
+  worked = record { counting = counting_in order reads.judged; counted = worked_in order reads.judged };
 }
   where
-    accepted : IsAccepted reads.files
-    accepted = record { says = counting.recording; place = counting.format; asked = reads.asked.1 }
+    due : IsDue order reads.files None
+    due = judged_is_due order reads.files counting reads.judged
 
-    due : IsDue reads.files None
-    due = (reads.asked.0, accepted)
+    counting_in : (order : Order) → IsJudged order reads.files counting → IsCounted reads.files
+    counting_in (Run operands) judged = record { says = counting.recording; place = counting.format; asked = judged }
+    counting_in (Check operands) judged = absurd judged
+
+    worked_in : (order : Order) (judged : IsJudged order reads.files counting)
+        → IsWorkOf (payloads_of (counting_in order judged).place (counting_in order judged).says) work
+    worked_in (Run operands) judged = counted
+    worked_in (Check operands) judged = absurd judged
+
+-- work of a run is there where all was written, and where a part was
+pub run_work : (order : Order) (refusal : Option Refusal) → IsRun order → (refusal ≡ None) ⊎ (refusal ≡ Some WriteFault) → HasWork refusal (Some order)
+run_work (Run operands) refusal run (inl e) = subst (λ (r : Option Refusal). HasWork r (Some (Run operands))) (sym e) tt
+run_work (Run operands) refusal run (inr e) = subst (λ (r : Option Refusal). HasWork r (Some (Run operands))) (sym e) tt
+run_work (Check operands) refusal run ends = absurd run
 
 -- accepted files are answered with success where no count rose, or memory ran out
 pub is_complete : (order : Order) (seen : ShelfUse) (out : SinkUse) (report : Report)
@@ -168,7 +179,7 @@ pub is_complete : (order : Order) (seen : ShelfUse) (out : SinkUse) (report : Re
     → OnTold (Some order) seen.held (IsComplete (ShelfFailed seen) (SinkFailed out) report.status)
 is_complete order seen out report status answers exact = both (seen.held (operands_of order).script) (seen.held (operands_of order).recording) exact
   where
-    ends : (refusal : Option Refusal) → report.status ≡ status_of refusal → MayCome answers.files (ShelfFailed seen) (SinkFailed out) refusal
+    ends : (refusal : Option Refusal) → report.status ≡ status_of refusal → MayCome order answers.files (ShelfFailed seen) (SinkFailed out) refusal
         → ¬ ShelfFailed seen → ¬ SinkFailed out
         → (refusal ≡ None) ⊎ MayStandFor refusal None → (report.status ≡ 0) ⊎ (report.status ≡ 6)
     ends None is may no_read no_write due = inl is
@@ -179,7 +190,51 @@ is_complete order seen out report status answers exact = both (seen.held (operan
     ends (Some refusal) is may no_read no_write (inl e) = absurd (cc)
     ends (Some refusal) is may no_read no_write (inr stands) = absurd stands
 
-    both : (a b : Option (List ℕ)) → OnBoth a b (ComesIfDue report.refusal) → OnBoth a b (IsComplete (ShelfFailed seen) (SinkFailed out) report.status)
+    both : (a b : Option (List ℕ)) → OnBoth a b (ComesIfDue report.refusal order)
+        → OnBoth a b (IsComplete (ShelfFailed seen) (SinkFailed out) report.status order)
     both None b exact = tt
     both (Some a) None exact = tt
     both (Some a) (Some b) exact = λ due no_read no_write. ends report.refusal status answers.came no_read no_write (exact None due)
+
+-- ---- want of memory at the words, whatever they ask for
+
+pub nothing_asked : (order : Option Order) (names : List (List ℕ)) → AsksFirst names names (names_of order)
+nothing_asked None names = refl
+nothing_asked (Some order) names = inl refl
+
+pub nothing_asked_exactly : (order : Option Order) (seen : ShelfUse) → seen.asked_after ≡ seen.asked → AsksExactly order (Some Memory) seen
+nothing_asked_exactly None seen same = same
+nothing_asked_exactly (Some order) seen same = tt
+
+pub words_answer : (order : Option Order) (seen : ShelfUse) (out : SinkUse) (status : ℕ)
+    → IsAnswer order seen out (record { status = status; refusal = Some Memory; work = None })
+words_answer None seen out status = tt
+words_answer (Some order) seen out status = record {
+  files =
+      record {
+        script = unwrap_or (seen.held (operands_of order).script) [];
+        recording = unwrap_or (seen.held (operands_of order).recording) [];
+      };
+  held = record { script = held_or _ _; recording = held_or _ _ };
+  came = tt;
+  worked = tt;
+}
+
+-- what holds of all files holds of told ones
+on_told : (order : Option Order) (held : List ℕ → Option (List ℕ)) (P : Order → Files → Type 0)
+    → ((order : Order) (files : Files) → P order files) → OnTold order held P
+on_told None held P p = tt
+on_told (Some order) held P p = both (held (operands_of order).script) (held (operands_of order).recording)
+  where
+    both : (a b : Option (List ℕ)) → OnBoth a b (P order)
+    both None b = tt
+    both (Some a) None = tt
+    both (Some a) (Some b) = p order (record { script = a; recording = b })
+
+pub memory_exact : (order : Option Order) (held : List ℕ → Option (List ℕ)) → OnTold order held (ComesIfDue (Some Memory))
+memory_exact order held = on_told order held (ComesIfDue (Some Memory)) (λ o files due is. inr tt)
+
+pub memory_complete : (order : Option Order) (held : List ℕ → Option (List ℕ)) (read_failed write_failed : Type 0)
+    → OnTold order held (IsComplete read_failed write_failed 6)
+memory_complete order held read_failed write_failed =
+    on_told order held (IsComplete read_failed write_failed 6) (λ o files due no_read no_write. inr refl)

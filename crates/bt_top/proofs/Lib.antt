@@ -4,5 +4,5 @@ pub mod Counts
 pub mod EventRuns
 pub mod Payloads
 pub mod LineLaws
-pub mod Judging
 pub mod Due
+pub mod Judging

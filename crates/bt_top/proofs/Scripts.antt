@@ -9,6 +9,10 @@ use Rattle.tracefs_format.specs.ByName.{IsNamed}
 use Rattle.bt_lexer.specs.declared.error.LexError.{LexError}
 use Rattle.bt_lexer.specs.declared.error.LexError.TheVariants as lexical
 use Rattle.bt_core.specs.declared.place.Place.{Place}
+use Rattle.rec_format.specs.declared.recording.Recording.{Recording as Recorded}
+use Rattle.bt_attach.specs.declared.error.AttachError.{AttachError}
+use Rattle.bt_attach.specs.declared.error.AttachError.TheVariants as attaching
+use Rattle.bt_attach.specs.Attaching.{attach_fault}
 use Rattle.bt_lexer.specs.declared.token.Token.{Token}
 use Rattle.bt_lexer.specs.Tokens.{IsTokensOf, IsFirstFault}
 use Rattle.bt_ast.specs.declared.probe.Script.{Script as Tree}
@@ -20,14 +24,14 @@ use Rattle.bt_grammar.specs.Refusals.{IsAccepted as IsTree, IsRefusal}
 use Rattle.bt_grammar.specs.Tokens.{items}
 use Rattle.bt_top.specs.declared.refusal.ScriptFault.{ScriptFault}
 use Rattle.bt_top.specs.declared.refusal.ScriptFault.TheVariants.{BadCharacter, OpenString, OpenComment, NumberTooLarge, BadEscape, StringTooLong, Syntax}
-use Rattle.bt_top.specs.declared.refusal.ScriptFault.TheVariants.{TooDeep, TooManyProbes}
+use Rattle.bt_top.specs.declared.refusal.ScriptFault.TheVariants.{TooDeep, TooManyProbes, UnknownTracepoint, NoMatch, BadPeriod, TooManyTicks, TooManyAttached}
 use Rattle.bt_top.specs.declared.refusal.Refusal.{Refusal}
 use Rattle.bt_top.specs.declared.refusal.ScriptRefusal.TheVariants.{Fault}
 use Rattle.bt_top.specs.declared.refusal.Refusal.TheVariants.{Script}
-use Rattle.bt_top.specs.Script.{place_at, place_of, lexical_refusal, parse_refusal, HasTree, IsScriptFault, EventName, IsFormatOf, CountsFormat}
+use Rattle.bt_top.specs.Script.{place_at, place_of, lexical_refusal, parse_refusal, attach_refusal, HasTree, IsTextFault, IsAttachFault, IsScriptFault, EventName, IsFormatOf, CountsFormat}
 use Rattle.bt_top.specs.Early.{event_of_tree}
 use Rattle.bt_top.proofs.EarlyTrees.{is_early, is_event}
-use Rattle.bt_top.specs.Serve.{IsScriptRefusal}
+use Rattle.bt_top.specs.Serve.{IsTextRefusal, IsScriptRefusal}
 
 -- ---- the first fault of a script
 
@@ -40,11 +44,11 @@ pub record AreScriptLaws (text : List ℕ) : Type 0 where
   pub parse : (ts : List Item) (one other : ParseError) → IsRefusal ts one → IsRefusal ts other → one ≡ other
   pub parse_apart : (ts : List Item) (tree : Tree) (fault : ParseError) → IsTree ts tree → IsRefusal ts fault → ⊥
 
-pub one_script_fault : (text : List ℕ) (one other : Refusal) → AreScriptLaws text → IsScriptFault text one → IsScriptFault text other → one ≡ other
-one_script_fault text one other laws (inl a) (inl b) = a.told ∙ ap (lexical_refusal text) (laws.lexical a.fault b.fault a.first b.first) ∙ sym b.told
-one_script_fault text one other laws (inl a) (inr b) = absurd (laws.lexical_apart b.tokens a.fault b.are a.first)
-one_script_fault text one other laws (inr a) (inl b) = absurd (laws.lexical_apart a.tokens b.fault a.are b.first)
-one_script_fault text one other laws (inr a) (inr b) =
+pub one_text_fault : (text : List ℕ) (one other : Refusal) → AreScriptLaws text → IsTextFault text one → IsTextFault text other → one ≡ other
+one_text_fault text one other laws (inl a) (inl b) = a.told ∙ ap (lexical_refusal text) (laws.lexical a.fault b.fault a.first b.first) ∙ sym b.told
+one_text_fault text one other laws (inl a) (inr b) = absurd (laws.lexical_apart b.tokens a.fault b.are a.first)
+one_text_fault text one other laws (inr a) (inl b) = absurd (laws.lexical_apart a.tokens b.fault a.are b.first)
+one_text_fault text one other laws (inr a) (inr b) =
     let same = laws.tokens a.tokens b.tokens a.are b.are in
     let fault = laws.parse (items b.tokens) a.fault b.fault (subst (λ (ts : List Token). IsRefusal (items ts) a.fault) same a.first) b.first in
     a.told ∙ ap (λ (ts : List Token). parse_refusal text ts a.fault) same ∙ ap (parse_refusal text b.tokens) fault ∙ sym b.told
@@ -54,14 +58,14 @@ one_tree text one other laws a b =
     let same = laws.tokens a.tokens b.tokens a.are b.are in
     laws.tree (items b.tokens) one other (subst (λ (ts : List Token). IsTreeOf (items ts) one) same a.is.tree) b.is.tree
 
-pub no_tree : (text : List ℕ) (refusal : Refusal) (tree : Tree) → AreScriptLaws text → IsScriptFault text refusal → HasTree text tree → ⊥
+pub no_tree : (text : List ℕ) (refusal : Refusal) (tree : Tree) → AreScriptLaws text → IsTextFault text refusal → HasTree text tree → ⊥
 no_tree text refusal tree laws (inl a) b = laws.lexical_apart b.tokens a.fault b.are a.first
 no_tree text refusal tree laws (inr a) b =
     let same = laws.tokens b.tokens a.tokens b.are a.are in
     laws.parse_apart (items a.tokens) tree a.fault (subst (λ (ts : List Token). IsTree (items ts) tree) same b.is) a.first
 
 -- a fault is told with its place
-pub is_told : (text : List ℕ) (refusal : Refusal) → IsScriptFault text refusal → (f : ScriptFault) × (p : Place) × (refusal ≡ Script (Fault f p))
+pub is_told : (text : List ℕ) (refusal : Refusal) → IsTextFault text refusal → (f : ScriptFault) × (p : Place) × (refusal ≡ Script (Fault f p))
 is_told text refusal (inl h) = by_fault h.fault h.first h.told
   where
     by_fault : (fault : LexError) → IsFirstFault text fault → refusal ≡ lexical_refusal text fault → (f : ScriptFault) × (p : Place)
@@ -83,14 +87,87 @@ is_told text refusal (inr h) = by_fault h.fault h.first h.told
     by_fault parsing.Memory first told = absurd first.holds
 
 -- what the lexer and the parser refuse is the first fault, or memory ran out
-pub lexical_told : (text : List ℕ) (error : LexError) → (error ≢ lexical.Memory → IsFirstFault text error) → IsScriptRefusal text (lexical_refusal text error)
+pub lexical_told : (text : List ℕ) (error : LexError) → (error ≢ lexical.Memory → IsFirstFault text error) → IsTextRefusal text (lexical_refusal text error)
 lexical_told text lexical.Memory found = inl refl
 lexical_told text error found = inr (inl (record { fault = error; first = found (λ e. cc); told = refl }))
 
 pub parse_told : (text : List ℕ) (tokens : List Token) (error : ParseError) → IsTokensOf text tokens
-    → (error ≢ parsing.Memory → IsRefusal (items tokens) error) → IsScriptRefusal text (parse_refusal text tokens error)
+    → (error ≢ parsing.Memory → IsRefusal (items tokens) error) → IsTextRefusal text (parse_refusal text tokens error)
 parse_told text tokens parsing.Memory are found = inl refl
 parse_told text tokens error are found = inr (inr (record { tokens = tokens; fault = error; are = are; first = found (λ e. cc); told = refl }))
+
+-- ---- the first fault of a script over a recording
+
+-- the first failing point of a tree is one
+same_fault : (a b : Option AttachError) (one other : AttachError) → a ≡ b → a ≡ Some one → b ≡ Some other → one ≡ other
+same_fault a b one other e is was = cc
+
+one_attach_fault : (text : List ℕ) (says : Recorded) (one other : Refusal) → AreScriptLaws text
+    → IsAttachFault text says one → IsAttachFault text says other → one ≡ other
+one_attach_fault text says one other laws a b =
+    let tree = one_tree text a.tree b.tree laws a.has b.has in
+    let fault = same_fault _ _ a.fault b.fault (ap (λ (t : Tree). attach_fault t says.formats says.start says.end) tree) a.first b.first in
+    a.told ∙ ap attach_refusal fault ∙ sym b.told
+
+pub one_script_fault : (text : List ℕ) (says : Recorded) (one other : Refusal) → AreScriptLaws text
+    → IsScriptFault text says one → IsScriptFault text says other → one ≡ other
+one_script_fault text says one other laws (inl a) (inl b) = one_text_fault text one other laws a b
+one_script_fault text says one other laws (inl a) (inr b) = absurd (no_tree text one b.tree laws a b.has)
+one_script_fault text says one other laws (inr a) (inl b) = absurd (no_tree text other a.tree laws b a.has)
+one_script_fault text says one other laws (inr a) (inr b) = one_attach_fault text says one other laws a b
+
+-- a script with a fault is not accepted
+pub no_script_fault : (text : List ℕ) (says : Recorded) (refusal : Refusal) (tree : Tree) → AreScriptLaws text → IsScriptFault text says refusal
+    → HasTree text tree → attach_fault tree says.formats says.start says.end ≡ None → ⊥
+no_script_fault text says refusal tree laws (inl a) has none = no_tree text refusal tree laws a has
+no_script_fault text says refusal tree laws (inr a) has none =
+    some_is_not _ _ a.fault (ap (λ (t : Tree). attach_fault t says.formats says.start says.end) (one_tree text a.tree tree laws a.has has)) a.first none
+  where
+    some_is_not : (a b : Option AttachError) (fault : AttachError) → a ≡ b → a ≡ Some fault → b ≡ None → ⊥
+    some_is_not a b fault e is none = cc
+
+-- what the lexer and the parser refuse, as a fault over a recording
+pub text_told : (text : List ℕ) (says : Recorded) (refusal : Refusal) → IsTextRefusal text refusal → IsScriptRefusal text says refusal
+text_told text says refusal (inl memory) = inl memory
+text_told text says refusal (inr wrong) =
+    let told = is_told text refusal wrong in
+    inr (record { fault = told.0; place = told.1; told = told.2; first = inl (subst (λ (r : Refusal). IsTextFault text r) told.2 wrong) })
+
+-- what attaching refuses
+pub attach_told : (text : List ℕ) (says : Recorded) (tree : Tree) (error : AttachError) → HasTree text tree
+    → (error ≢ attaching.Memory → attach_fault tree says.formats says.start says.end ≡ Some error)
+    → IsScriptRefusal text says (attach_refusal error)
+attach_told text says tree (attaching.UnknownTracepoint at) has found = inr (record {
+  fault = UnknownTracepoint;
+  place = at;
+  told = refl;
+  first = inr (record { tree = tree; fault = attaching.UnknownTracepoint at; has = has; first = found (λ e. cc); told = refl });
+})
+attach_told text says tree (attaching.NoMatch at) has found = inr (record {
+  fault = NoMatch;
+  place = at;
+  told = refl;
+  first = inr (record { tree = tree; fault = attaching.NoMatch at; has = has; first = found (λ e. cc); told = refl });
+})
+attach_told text says tree (attaching.BadPeriod at) has found = inr (record {
+  fault = BadPeriod;
+  place = at;
+  told = refl;
+  first = inr (record { tree = tree; fault = attaching.BadPeriod at; has = has; first = found (λ e. cc); told = refl });
+})
+attach_told text says tree (attaching.TooManyTicks at) has found = inr (record {
+  fault = TooManyTicks;
+  place = at;
+  told = refl;
+  first = inr (record { tree = tree; fault = attaching.TooManyTicks at; has = has; first = found (λ e. cc); told = refl });
+})
+attach_told text says tree (attaching.TooManyAttached at) has found = inr (record {
+  fault = TooManyAttached;
+  place = at;
+  told = refl;
+  first = inr (record { tree = tree; fault = attaching.TooManyAttached at; has = has; first = found (λ e. cc); told = refl });
+})
+attach_told text says tree attaching.Memory has found = inl refl
 
 -- ---- the format of an event
 

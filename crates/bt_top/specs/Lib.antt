@@ -6,4 +6,5 @@ pub mod Code
 pub mod Runs
 pub mod Count
 pub mod Refusals
+pub mod Due
 pub mod Serve

@@ -12,7 +12,7 @@ use Rattle.bt_top.specs.declared.refusal.Operand.{Operand}
 use Rattle.bt_top.specs.declared.refusal.Operand.TheVariants as operand
 use Rattle.bt_top.specs.declared.refusal.ScriptFault.{ScriptFault}
 use Rattle.bt_top.specs.declared.refusal.ScriptFault.TheVariants.{BadCharacter, OpenString, OpenComment, NumberTooLarge, BadEscape, StringTooLong, Syntax}
-use Rattle.bt_top.specs.declared.refusal.ScriptFault.TheVariants.{TooDeep, TooManyProbes}
+use Rattle.bt_top.specs.declared.refusal.ScriptFault.TheVariants.{TooDeep, TooManyProbes, UnknownTracepoint, NoMatch, BadPeriod, TooManyTicks, TooManyAttached}
 use Rattle.bt_top.specs.declared.refusal.ScriptRefusal.{ScriptRefusal}
 use Rattle.bt_top.specs.declared.refusal.ScriptRefusal.TheVariants as script
 use Rattle.bt_top.specs.declared.refusal.RecordingRefusal.{RecordingRefusal}
@@ -20,7 +20,7 @@ use Rattle.bt_top.specs.declared.refusal.RecordingRefusal.TheVariants as recordi
 use Rattle.bt_top.specs.declared.refusal.Refusal.{Refusal}
 use Rattle.bt_top.specs.declared.refusal.Refusal.TheVariants.{Usage, Script, Recording, ReadFault, WriteFault, Memory}
 use Rattle.bt_top.specs.Lines.{Piece, Text, Number}
-use Rattle.bt_top.specs.Words.{Operands}
+use Rattle.bt_top.specs.declared.words.Operands.{Operands}
 
 abbrev pub status_of : Option Refusal → ℕ
 status_of None = 0
@@ -94,6 +94,11 @@ script_fault_text StringTooLong = codes "X6 string too long"
 script_fault_text Syntax = codes "P1 syntax"
 script_fault_text TooDeep = codes "P2 too deep"
 script_fault_text TooManyProbes = codes "P3 too many probes"
+script_fault_text UnknownTracepoint = codes "A1 unknown tracepoint"
+script_fault_text NoMatch = codes "A2 no match"
+script_fault_text BadPeriod = codes "A3 bad period"
+script_fault_text TooManyTicks = codes "A4 too many ticks"
+script_fault_text TooManyAttached = codes "A5 too many attachments"
 
 -- why a script is refused, behind its name
 abbrev pub script_pieces : ScriptRefusal → List Piece
@@ -108,9 +113,12 @@ recording_pieces recording.TooLong = Text (codes ": recording too long") ∷ []
 recording_pieces (recording.Fault error) = Text (codes ": ") ∷ fault_pieces error
 recording_pieces recording.NotBuilt = Text (codes ": not built yet") ∷ []
 
--- what is told of words that break the rule
+-- what is told of words that break the rule, or ask for what is not built: how what is built is used
 abbrev pub usage_pieces : List Piece
-usage_pieces = Text (codes "usage: btreplay run SCRIPT RECORDING") ∷ []
+usage_pieces =
+    Text (codes "usage: btreplay run SCRIPT RECORDING\n")
+    ∷ Text (codes "       btreplay check SCRIPT RECORDING")
+    ∷ []
 
 abbrev pub name_of : Operands → Operand → List ℕ
 name_of names operand.Script = names.script

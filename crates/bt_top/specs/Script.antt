@@ -3,6 +3,10 @@ use Rattle.std.specs.Prelude.{◌≡◌, ℕ, Bool, false, ◌==◌, ◌⊎◌, 
 use Rattle.std.specs.List.{list_any}
 use Rattle.tracefs_format.specs.declared.format.Format.{Format}
 use Rattle.tracefs_format.specs.ByName.{IsNamed}
+use Rattle.rec_format.specs.declared.recording.Recording.{Recording as Recorded}
+use Rattle.bt_attach.specs.declared.error.AttachError.{AttachError}
+use Rattle.bt_attach.specs.declared.error.AttachError.TheVariants as attaching
+use Rattle.bt_attach.specs.Attaching.{attach_fault}
 use Rattle.bt_lexer.specs.declared.error.LexError.{LexError}
 use Rattle.bt_lexer.specs.declared.error.LexError.TheVariants as lexical
 use Rattle.bt_core.specs.declared.place.Place.{Place}
@@ -22,7 +26,7 @@ use Rattle.bt_grammar.specs.declared.error.ParseError.TheVariants as parsing
 use Rattle.bt_grammar.specs.Refusals.{IsAccepted as IsTree, IsRefusal}
 use Rattle.bt_grammar.specs.Tokens.{items}
 use Rattle.bt_top.specs.declared.refusal.ScriptFault.TheVariants.{BadCharacter, OpenString, OpenComment, NumberTooLarge, BadEscape, StringTooLong, Syntax}
-use Rattle.bt_top.specs.declared.refusal.ScriptFault.TheVariants.{TooDeep, TooManyProbes}
+use Rattle.bt_top.specs.declared.refusal.ScriptFault.TheVariants.{TooDeep, TooManyProbes, UnknownTracepoint, NoMatch, BadPeriod, TooManyTicks, TooManyAttached}
 use Rattle.bt_top.specs.declared.refusal.Refusal.{Refusal}
 use Rattle.bt_top.specs.declared.refusal.ScriptRefusal.TheVariants.{Fault}
 use Rattle.bt_top.specs.declared.refusal.Refusal.TheVariants.{Script, Memory}
@@ -55,6 +59,15 @@ parse_refusal text tokens (parsing.TooDeep n) = Script (Fault TooDeep (place_of 
 parse_refusal text tokens (parsing.TooMany n) = Script (Fault TooManyProbes (place_of text (slice_get tokens n)))
 parse_refusal text tokens parsing.Memory = Memory
 
+-- why a script is refused of whose points this is the first fault
+abbrev pub attach_refusal : AttachError → Refusal
+attach_refusal (attaching.UnknownTracepoint place) = Script (Fault UnknownTracepoint place)
+attach_refusal (attaching.NoMatch place) = Script (Fault NoMatch place)
+attach_refusal (attaching.BadPeriod place) = Script (Fault BadPeriod place)
+attach_refusal (attaching.TooManyTicks place) = Script (Fault TooManyTicks place)
+attach_refusal (attaching.TooManyAttached place) = Script (Fault TooManyAttached place)
+attach_refusal attaching.Memory = Memory
+
 -- the text's first lexical fault is told by this refusal
 pub record IsLexicalFault (text : List ℕ) (refusal : Refusal) : Type 0 where
   pub fault : LexError
@@ -70,14 +83,26 @@ pub record IsParseFault (text : List ℕ) (refusal : Refusal) : Type 0 where
   pub told : refusal ≡ parse_refusal text tokens fault
 
 -- the refusal tells the first lexical fault of the text, or the first fault of its tokens
-abbrev pub IsScriptFault : List ℕ → Refusal → Type 0
-IsScriptFault text refusal = IsLexicalFault text refusal ⊎ IsParseFault text refusal
+abbrev pub IsTextFault : List ℕ → Refusal → Type 0
+IsTextFault text refusal = IsLexicalFault text refusal ⊎ IsParseFault text refusal
 
 -- the tree of the text's tokens
 pub record HasTree (text : List ℕ) (tree : Tree) : Type 0 where
   pub tokens : List Token
   pub are : IsTokensOf text tokens
   pub is : IsTree (items tokens) tree
+
+-- the text has a tree, and the first of its points that breaks a rule over this recording is told by this refusal
+pub record IsAttachFault (text : List ℕ) (says : Recorded) (refusal : Refusal) : Type 0 where
+  pub tree : Tree
+  pub fault : AttachError
+  pub has : HasTree text tree
+  pub first : attach_fault tree says.formats says.start says.end ≡ Some fault
+  pub told : refusal ≡ attach_refusal fault
+
+-- the refusal tells the first fault of a script over a recording, in the order lexing, parsing, attaching
+abbrev pub IsScriptFault : List ℕ → Recorded → Refusal → Type 0
+IsScriptFault text says refusal = IsTextFault text refusal ⊎ IsAttachFault text says refusal
 
 -- ---- the scripts that run so far
 

@@ -1,90 +1,30 @@
 -- What the top call answers.
-use Rattle.std.specs.Prelude.{◌≡◌, ◌≢◌, ℕ, ◌++◌, ◌<◌, ◌≤◌, ◌⊎◌, List, [], ◌∷◌, length, Option, Some, None, Result, Ok, Err, IfOk, IfErr, IfSome, IsSomeAnd}
+use Rattle.std.specs.Prelude.{◌≡◌, ◌≢◌, ℕ, ◌++◌, ◌<◌, ◌≤◌, ◌⊎◌, List, [], ◌∷◌, length, Option, Some, None, Result, Ok, Err, IfOk, IfErr, IfSome}
 use Rattle.std.specs.Io.KnownBytes.{Appends, Keeps}
-use Rattle.bt_core.specs.declared.limits.TheConstants.{SCRIPT_BYTES, RECORDING_BYTES}
+use Rattle.bt_core.specs.declared.limits.TheConstants.{SCRIPT_BYTES}
+use Rattle.bt_core.specs.declared.place.Place.{Place}
 use Rattle.bt_io.specs.Faults.{Rose}
 use Rattle.bt_io.specs.Taken.{AppendsPart}
 use Rattle.rec_format.specs.declared.recording.Recording.{Recording as Recorded}
-use Rattle.rec_format.specs.Recordings.{recording_bytes, IsValidRecording}
-use Rattle.rec_format.specs.Faults.{IsRecordingFault}
-use Rattle.bt_ast.specs.declared.probe.Script.{Script as Tree}
+use Rattle.bt_top.specs.declared.judge.Accepted.{Accepted}
 use Rattle.bt_top.specs.declared.judge.Counting.{Counting}
 use Rattle.bt_top.specs.declared.report.Report.{Report}
 use Rattle.bt_top.specs.declared.report.Work.{Work}
 use Rattle.bt_top.specs.declared.refusal.Operand.TheVariants as operand
+use Rattle.bt_top.specs.declared.refusal.ScriptFault.{ScriptFault}
 use Rattle.bt_top.specs.declared.refusal.ScriptRefusal.TheVariants as script
 use Rattle.bt_top.specs.declared.refusal.RecordingRefusal.TheVariants as recording
 use Rattle.bt_top.specs.declared.refusal.Refusal.{Refusal}
-use Rattle.bt_top.specs.declared.refusal.Refusal.TheVariants.{Usage, Script, Recording, ReadFault, WriteFault, Memory}
+use Rattle.bt_top.specs.declared.refusal.Refusal.TheVariants.{Script, Recording, ReadFault, WriteFault, Memory}
+use Rattle.bt_top.specs.declared.words.Operands.{Operands}
+use Rattle.bt_top.specs.declared.words.Order.{Order}
+use Rattle.bt_top.specs.declared.words.Order.TheVariants.{Run, Check}
 use Rattle.bt_top.specs.Count.{payloads_of, IsWorkOf}
+use Rattle.bt_top.specs.Due.{Files, IsAsked, IsCounted, IsFault, IsDue}
 use Rattle.bt_top.specs.Lines.{SinkUse, SinkFailed, Writes}
-use Rattle.bt_top.specs.Refusals.{usage_pieces, refusal_pieces}
-use Rattle.bt_top.specs.Script.{IsScriptFault, HasTree, CountsFormat}
-use Rattle.bt_top.specs.Words.{Operands, Order, Run, operands_of}
-
--- ---- what two files bring about, where no fault comes and memory suffices
-
--- the bytes of the two files
-pub record Files : Type 0 where
-  pub script : List ℕ
-  pub recording : List ℕ
-
--- neither file is longer than it may be
-pub record AreShort (files : Files) : Type 0 where
-  pub script : length files.script ≤ SCRIPT_BYTES
-  pub recording : length files.recording ≤ RECORDING_BYTES
-
--- the bytes are the spelling of this valid recording
-pub record IsRecording (bytes : List ℕ) (says : Recorded) : Type 0 where
-  pub valid : IsValidRecording says
-  pub spelled : bytes ≡ recording_bytes says
-
--- a recording of more than one CPU
-pub record HasMoreCpus (bytes : List ℕ) : Type 0 where
-  pub says : Recorded
-  pub is : IsRecording bytes says
-  pub more : 1 < length says.cpus
-
--- a recording of one CPU
-pub record HasOneCpu (bytes : List ℕ) (says : Recorded) : Type 0 where
-  pub is : IsRecording bytes says
-  pub one_cpu : length says.cpus ≡ 1
-
--- a recording of one CPU, and a script whose tree counts the events of none of its formats
-pub record IsOtherScript (files : Files) : Type 0 where
-  pub says : Recorded
-  pub one : HasOneCpu files.recording says
-  pub tree : Tree
-  pub has : HasTree files.script tree
-  pub other : (place : ℕ) → CountsFormat tree says.formats place → ⊥
-
--- a recording of one CPU, and a script whose tree counts the events of its format at this place
-pub record IsAsked (files : Files) (says : Recorded) (place : ℕ) : Type 0 where
-  pub one : HasOneCpu files.recording says
-  pub tree : Tree
-  pub has : HasTree files.script tree
-  pub counts : CountsFormat tree says.formats place
-
--- a recording of one CPU, and a script whose tree counts the events of one of its formats
-pub record IsAccepted (files : Files) : Type 0 where
-  pub says : Recorded
-  pub place : ℕ
-  pub asked : IsAsked files says place
-
--- what is due to two files: their first refusal in the order script read, recording read, recording, lexing, parsing, script, or none
-abbrev pub IsDue : Files → Option Refusal → Type 0
-IsDue files (Some (Script script.TooLong)) = SCRIPT_BYTES < length files.script
-IsDue files (Some (Recording recording.TooLong)) = (length files.script ≤ SCRIPT_BYTES) × (RECORDING_BYTES < length files.recording)
-IsDue files (Some (Recording (recording.Fault error))) = AreShort files × IsRecordingFault files.recording error
-IsDue files (Some (Recording recording.NotBuilt)) = AreShort files × HasMoreCpus files.recording
-IsDue files (Some (Script (script.Fault wrong place))) =
-    AreShort files × ((says : Recorded) × HasOneCpu files.recording says) × IsScriptFault files.script (Script (script.Fault wrong place))
-IsDue files (Some (Script script.NotBuilt)) = AreShort files × IsOtherScript files
-IsDue files None = AreShort files × IsAccepted files
-IsDue files (Some Usage) = ⊥
-IsDue files (Some (ReadFault file)) = ⊥
-IsDue files (Some WriteFault) = ⊥
-IsDue files (Some Memory) = ⊥
+use Rattle.bt_top.specs.Refusals.{refusal_pieces}
+use Rattle.bt_top.specs.Script.{IsTextFault, IsScriptFault, CountsFormat}
+use Rattle.bt_top.specs.Words.{operands_of, operands_in}
 
 -- ---- what comes of a call
 
@@ -128,30 +68,30 @@ pub record AreHeld (held : List ℕ → Option (List ℕ)) (names : Operands) (f
 
 -- what may come of files: what is due to them; want of memory; a fault of the script's read; a fault of the recording's read where the
 -- script is not too long; or a fault of the write where nothing is refused; faults only where their counts rose
-abbrev pub MayCome : Files → (read_failed write_failed : Type 0) → Option Refusal → Type 0
-MayCome files read_failed write_failed (Some Memory) = Unit {0}
-MayCome files read_failed write_failed (Some (ReadFault operand.Script)) = read_failed
-MayCome files read_failed write_failed (Some (ReadFault operand.Recording)) = read_failed × (length files.script ≤ SCRIPT_BYTES)
-MayCome files read_failed write_failed (Some WriteFault) = write_failed × IsDue files None
-MayCome files read_failed write_failed due = IsDue files due
+abbrev pub MayCome : Order → Files → (read_failed write_failed : Type 0) → Option Refusal → Type 0
+MayCome order files read_failed write_failed (Some Memory) = Unit {0}
+MayCome order files read_failed write_failed (Some (ReadFault operand.Script)) = read_failed
+MayCome order files read_failed write_failed (Some (ReadFault operand.Recording)) = read_failed × (length files.script ≤ SCRIPT_BYTES)
+MayCome order files read_failed write_failed (Some WriteFault) = write_failed × IsDue order files None
+MayCome order files read_failed write_failed due = IsDue order files due
 
 -- work is there after a whole run, and after one whose text was not wholly written
-abbrev pub HasWork : Option Refusal → Type 0
-HasWork None = Unit {0}
-HasWork (Some WriteFault) = Unit {0}
-HasWork (Some refusal) = ⊥
+abbrev pub HasWork : Option Refusal → Option Order → Type 0
+HasWork None (Some (Run operands)) = Unit {0}
+HasWork (Some WriteFault) (Some (Run operands)) = Unit {0}
+HasWork refusal order = ⊥
 
 -- the work of counting the events that the script of these files counts
 pub record IsWorkFor (files : Files) (work : Work) : Type 0 where
-  pub accepted : IsAccepted files
-  pub counted : IsWorkOf (payloads_of accepted.place accepted.says) work
+  pub counting : IsCounted files
+  pub counted : IsWorkOf (payloads_of counting.place counting.says) work
 
 -- the answer to an order, over files that hold what the shelf tells of them
 pub record Answers (order : Order) (shelf : ShelfUse) (out : SinkUse) (report : Report) : Type 0 where
   pub files : Files
   pub held : AreHeld shelf.held (operands_of order) files
-  pub came : MayCome files (ShelfFailed shelf) (SinkFailed out) report.refusal
-  pub worked : HasWork report.refusal → IsSomeAnd report.work (IsWorkFor files)
+  pub came : MayCome order files (ShelfFailed shelf) (SinkFailed out) report.refusal
+  pub worked : IfSome report.work (IsWorkFor files)
 
 -- the answer to an order, where the words give one
 abbrev pub IsAnswer : Option Order → ShelfUse → SinkUse → Report → Type 0
@@ -168,12 +108,12 @@ MayStandFor (Some WriteFault) due = due ≡ None
 MayStandFor refusal due = ⊥
 
 -- what is due to the files comes, unless a fault or want of memory stands for it
-abbrev pub ComesIfDue : Option Refusal → Files → Type 0
-ComesIfDue refusal files = (due : Option Refusal) → IsDue files due → (refusal ≡ due) ⊎ MayStandFor refusal due
+abbrev pub ComesIfDue : Option Refusal → Order → Files → Type 0
+ComesIfDue refusal order files = (due : Option Refusal) → IsDue order files due → (refusal ≡ due) ⊎ MayStandFor refusal due
 
--- where the files are accepted and no count of faults rose, the status is that of success or of want of memory
-abbrev pub IsComplete : (read_failed write_failed : Type 0) → ℕ → Files → Type 0
-IsComplete read_failed write_failed status files = IsDue files None → ¬ read_failed → ¬ write_failed → (status ≡ 0) ⊎ (status ≡ 6)
+-- where nothing is due to the files and no count of faults rose, the status is that of success or of want of memory
+abbrev pub IsComplete : (read_failed write_failed : Type 0) → ℕ → Order → Files → Type 0
+IsComplete read_failed write_failed status order files = IsDue order files None → ¬ read_failed → ¬ write_failed → (status ≡ 0) ⊎ (status ≡ 6)
 
 -- a fact on two files, where both are told
 abbrev pub OnBoth : Option (List ℕ) → Option (List ℕ) → (Files → Type 0) → Type 0
@@ -181,14 +121,14 @@ OnBoth None recording P = Unit {0}
 OnBoth (Some script) None P = Unit {0}
 OnBoth (Some script) (Some recording) P = P (record { script = script; recording = recording })
 
--- a fact on the two files of an order, where the shelf tells both
-abbrev pub OnTold : Option Order → (List ℕ → Option (List ℕ)) → (Files → Type 0) → Type 0
+-- a fact on an order and its two files, where the shelf tells both
+abbrev pub OnTold : Option Order → (List ℕ → Option (List ℕ)) → (Order → Files → Type 0) → Type 0
 OnTold None held P = Unit {0}
-OnTold (Some order) held P = OnBoth (held (operands_of order).script) (held (operands_of order).recording) P
+OnTold (Some order) held P = OnBoth (held (operands_of order).script) (held (operands_of order).recording) (P order)
 
 -- ---- what is written
 
--- the bytes that a command writes: for a run the text of its work
+-- the bytes that a command writes: a run writes the text of its work
 abbrev pub bytes_written : Option Order → Option Work → List ℕ
 bytes_written (Some (Run operands)) (Some work) = work.text
 bytes_written order work = []
@@ -202,8 +142,7 @@ IsWritten out (Some refusal) bytes = Keeps out.taken out.taken_after
 -- nothing is told at status 0, and else the line of the refusal
 abbrev pub Tells : Option Order → Option Refusal → SinkUse → Type 0
 Tells order None err = Keeps err.taken err.taken_after
-Tells None (Some refusal) err = Writes err usage_pieces
-Tells (Some order) (Some refusal) err = Writes err (refusal_pieces (operands_of order) refusal)
+Tells order (Some refusal) err = Writes err (refusal_pieces (operands_in order) refusal)
 
 -- ---- what the steps of a call answer
 
@@ -212,17 +151,55 @@ abbrev pub refusal_in : {A : Type 0} → Result A Refusal → Option Refusal
 refusal_in (Ok a) = None
 refusal_in (Err refusal) = Some refusal
 
--- want of memory, or a fault of the script that is told so
-abbrev pub IsScriptRefusal : List ℕ → Refusal → Type 0
-IsScriptRefusal text refusal = (refusal ≡ Memory) ⊎ IsScriptFault text refusal
+-- want of memory, or a fault of the text that is told so
+abbrev pub IsTextRefusal : List ℕ → Refusal → Type 0
+IsTextRefusal text refusal = (refusal ≡ Memory) ⊎ IsTextFault text refusal
+
+-- the first fault of a script over a recording, with its place
+pub record IsToldFault (text : List ℕ) (says : Recorded) (refusal : Refusal) : Type 0 where
+  pub fault : ScriptFault
+  pub place : Place
+  pub told : refusal ≡ Script (script.Fault fault place)
+  pub first : IsScriptFault text says (Script (script.Fault fault place))
+
+-- want of memory, or a fault of the script
+abbrev pub IsScriptRefusal : List ℕ → Recorded → Refusal → Type 0
+IsScriptRefusal text says refusal = (refusal ≡ Memory) ⊎ IsToldFault text says refusal
+
+-- want of memory, or what refuses the files
+abbrev pub IsFaultRefusal : Files → Refusal → Type 0
+IsFaultRefusal files refusal = (refusal ≡ Memory) ⊎ IsFault files refusal
 
 -- want of memory, or what is due to the files
-abbrev pub IsDueRefusal : Files → Refusal → Type 0
-IsDueRefusal files refusal = (refusal ≡ Memory) ⊎ IsDue files (Some refusal)
+abbrev pub IsDueRefusal : Order → Files → Refusal → Type 0
+IsDueRefusal order files refusal = (refusal ≡ Memory) ⊎ IsDue order files (Some refusal)
+
+-- the accepted recording has one CPU, and the script counts the events of its format at this place
+pub record Counts (accepted : Accepted) (counting : Counting) : Type 0 where
+  pub same : counting.recording ≡ accepted.recording
+  pub one_cpu : length accepted.recording.cpus ≡ 1
+  pub counts : CountsFormat accepted.tree accepted.recording.formats counting.format
+
+-- what a run of accepted files asks for is not built
+abbrev pub IsLeft : Accepted → Refusal → Type 0
+IsLeft accepted (Recording recording.NotBuilt) = 1 < length accepted.recording.cpus
+IsLeft accepted (Script script.NotBuilt) =
+    (length accepted.recording.cpus ≡ 1) × ((place : ℕ) → CountsFormat accepted.tree accepted.recording.formats place → ⊥)
+IsLeft accepted refusal = ⊥
+
+-- to count is what a run does
+abbrev pub IsRun : Order → Type 0
+IsRun (Run operands) = Unit {0}
+IsRun (Check operands) = ⊥
+
+-- what is to be counted
+abbrev pub IsJudged : Order → Files → Counting → Type 0
+IsJudged (Run operands) files counting = IsAsked files counting.recording counting.format
+IsJudged (Check operands) files counting = ⊥
 
 -- what the two reads answer: the recording and the format whose events are counted, or what may come of the files before the write
 pub record Reads (order : Order) (shelf : ShelfUse) (answer : Result Counting Refusal) : Type 0 where
   pub files : Files
   pub held : AreHeld shelf.held (operands_of order) files
-  pub asked : IfOk answer (λ counting. AreShort files × IsAsked files counting.recording counting.format)
-  pub came : IfErr answer (λ refusal. MayCome files (ShelfFailed shelf) ⊥ (Some refusal))
+  pub judged : IfOk answer (IsJudged order files)
+  pub came : IfErr answer (λ refusal. MayCome order files (ShelfFailed shelf) ⊥ (Some refusal))

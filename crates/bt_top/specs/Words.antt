@@ -1,51 +1,38 @@
--- What the words of a command line ask for.
-use Rattle.std.specs.Prelude.{ℕ, Bool, false, ◌&&◌, not, List, [], ◌∷◌, codes, map, nat_eq, Option, Some, None, if◌then◌else◌, String, string_bytes}
-use Rattle.std.specs.Cmp.Lexicographic.{pointwise}
+-- What the words of a command line ask for, as far as it is built.
+use Rattle.std.specs.Prelude.{ℕ, false, List, [], ◌∷◌, Option, Some, None, String}
+use Rattle.std.specs.Option.{option_and_then}
 use Rattle.std.specs.declared.alloc.Global.{Global}
-use Rattle.bt_top.specs.declared.words.Named.{Named}
-use Rattle.bt_top.specs.declared.words.Order.{Order as Asked}
-use Rattle.bt_top.specs.declared.words.Order.TheVariants.{Run as AsksRun}
-
--- the names of the script and of the recording
-pub record Operands : Type 0 where
-  pub script : List ℕ
-  pub recording : List ℕ
-
--- what the words ask for: to run a script over a recording
-pub data Order : Type 0 where
-  Run : (operands : Operands) → Order
+use Rattle.bt_words.specs.declared.order.Order.{Order as Asked}
+use Rattle.bt_words.specs.declared.order.Order.TheVariants as asked
+use Rattle.bt_words.specs.Words.{order_of as order_asked}
+use Rattle.bt_top.specs.declared.words.Operands.{Operands}
+use Rattle.bt_top.specs.declared.words.Order.{Order}
+use Rattle.bt_top.specs.declared.words.Order.TheVariants.{Run, Check}
 
 -- the names of the files that an order reads
 abbrev pub operands_of : Order → Operands
 operands_of (Run operands) = operands
+operands_of (Check operands) = operands
 
--- not empty, and no option
-abbrev pub is_operand : List ℕ → Bool
-is_operand [] = false
-is_operand (b ∷ bs) = not (nat_eq b 45)
+-- of the orders that words give those that are built: `run` without options, and `check`
+abbrev pub built_order : Asked → Option Order
+built_order (asked.Run false false script recording) = Some (Run (record { script = script; recording = recording }))
+built_order (asked.Run serial stats script recording) = None
+built_order (asked.Check script recording) = Some (Check (record { script = script; recording = recording }))
+built_order (asked.Code script recording) = None
+built_order (asked.Gen x n) = None
+built_order (asked.Big x n) = None
 
--- the order of some words, or none where they break the rule
-abbrev pub order_of_words : List (List ℕ) → Option Order
-order_of_words [] = None
-order_of_words (w ∷ []) = None
-order_of_words (w ∷ s ∷ []) = None
-order_of_words (w ∷ s ∷ r ∷ []) =
-    if pointwise nat_eq w (codes "run") && (is_operand s && is_operand r) then Some (Run (record { script = s; recording = r })) else None
-order_of_words (w ∷ s ∷ r ∷ x ∷ xs) = None
-
--- the order of the words of a call
+-- the order of the words of a call, or none where they break the rule or ask for what is not built
 abbrev pub order_of : List (String Global) → Option Order
-order_of words = order_of_words (map string_bytes words)
+order_of words = option_and_then built_order (order_asked words)
+
+-- the operands of an order, which have no names where there is none
+abbrev pub operands_in : Option Order → Operands
+operands_in None = record { script = []; recording = [] }
+operands_in (Some order) = operands_of order
 
 -- the names of the files that are read for an order, in their order; none without an order
 abbrev pub names_of : Option Order → List (List ℕ)
 names_of None = []
 names_of (Some order) = (operands_of order).script ∷ (operands_of order).recording ∷ []
-
--- the operands that are borrowed
-abbrev pub named_by : Named → Operands
-named_by named = record { script = named.script.now; recording = named.recording.now }
-
--- the order that is borrowed
-abbrev pub order_by : Asked → Order
-order_by (AsksRun named) = Run (named_by named)

@@ -1,12 +1,27 @@
 // What the two files ask for.
-ghost use Rattle.std.specs.Prelude.{◌≡◌, IfOk, IfErr};
-ghost use Rattle.bt_top.specs.Serve.{AreShort, ComesIfDue, IsAsked, IsDueRefusal, refusal_in};
+ghost use Rattle.std.specs.Prelude.{◌≡◌, ◌≤◌, length, None, IfOk, IfErr};
+ghost use Rattle.bt_core.specs.declared.limits.TheConstants.{SCRIPT_BYTES};
+ghost use Rattle.rec_format.specs.Recordings.{IsValidRecording};
+ghost use Rattle.bt_attach.specs.Attaching.{attach_fault};
+ghost use Rattle.bt_top.specs.Due.{AreAccepted, AreShort};
+ghost use Rattle.bt_top.specs.Script.{HasTree};
+ghost use Rattle.bt_top.specs.Serve.{ComesIfDue, Counts, IsDueRefusal, IsFaultRefusal, IsJudged, IsLeft, IsScriptRefusal, refusal_in};
 
 use crate::refusal::{RecordingRefusal, Refusal, ScriptRefusal, recording_refusal};
-use crate::script::{counted_format, tree_of};
+use crate::script::{attach_refusal, counted_format, tree_of};
+use crate::words::Order;
+use bt_ast::probe::Script;
+use bt_attach::attach::attach;
 use rec_format::reading::read_recording;
 use rec_format::recording::Recording;
 use std::alloc::Global;
+
+/// Two files that are accepted: the recording, and the tree of the script.
+#[derive(Drop)]
+pub(crate) struct Accepted {
+    pub recording: Recording,
+    pub tree: Script,
+}
 
 /// A recording, and the place of its format whose events are to be counted.
 #[derive(Drop)]
@@ -15,40 +30,90 @@ pub(crate) struct Counting {
     pub format: usize,
 }
 
-/// What is to be counted, where the recording is valid and has one CPU, and the script has a tree that
-/// counts the events of one of its formats. The recording is refused before the script is.
-fn counting_of(alloc: Global, script: &[u8], recording: &[u8]) -> Result<Counting, Refusal>
+/// The tree of a script whose probes may all be attached to the recording.
+fn attached_tree(alloc: Global, script: &[u8], recording: &Recording) -> Result<Script, Refusal>
+    requires short { length script.now ≤ SCRIPT_BYTES }
+    requires valid { IsValidRecording recording.now }
+    ensures tree { IfOk result (HasTree script.now) }
+    ensures attached { IfOk result (λ tree. attach_fault tree recording.now.formats recording.now.start recording.now.end ≡ None) }
+    ensures fault { IfErr result (IsScriptRefusal script.now recording.now) }
+{
+    bt_grammar::laws::few_probes();
+    let tree = match tree_of(alloc, script) {
+        Ok(tree) => tree,
+        Err(refusal) => return Err(refusal),
+    };
+    let formats = recording.formats.as_slice();
+    match attach(alloc, &tree, formats, recording.start, recording.end) {
+        Ok(_) => Ok(tree),
+        Err(error) => Err(attach_refusal(error)),
+    }
+}
+
+/// Two files of which nothing is refused. The recording is refused before the script is.
+fn accept(alloc: Global, script: &[u8], recording: &[u8]) -> Result<Accepted, Refusal>
     requires { AreShort (record { script = script.now; recording = recording.now }) }
-    ensures asked { IfOk result (λ counting. IsAsked (record { script = script.now; recording = recording.now }) counting.recording counting.format) }
-    ensures refused { IfErr result (IsDueRefusal (record { script = script.now; recording = recording.now })) }
+    ensures accepted { IfOk result (λ accepted. AreAccepted (record { script = script.now; recording = recording.now }) accepted.recording accepted.tree) }
+    ensures refused { IfErr result (IsFaultRefusal (record { script = script.now; recording = recording.now })) }
 {
     let recording = match read_recording(alloc, recording) {
         Ok(recording) => recording,
         Err(error) => return Err(recording_refusal(error)),
     };
+    match attached_tree(alloc, script, &recording) {
+        Ok(tree) => Ok(Accepted { recording, tree }),
+        Err(refusal) => Err(refusal),
+    }
+}
+
+/// What is to be counted, where a recording has one CPU and the tree of a script counts the events of one
+/// of its formats. That the recording has more is told before anything of the script.
+fn counting_of(accepted: Accepted) -> Result<Counting, Refusal>
+    requires { 1 ≤ length accepted.recording.cpus }
+    ensures counting { IfOk result (Counts accepted) }
+    ensures left { IfErr result (IsLeft accepted) }
+{
+    let Accepted { recording, tree } = accepted;
     if recording.cpus.len() > 1 {
         return Err(Refusal::Recording(RecordingRefusal::NotBuilt));
     }
-    let tree = match tree_of(alloc, script) {
-        Ok(tree) => tree,
-        Err(refusal) => return Err(refusal),
-    };
     match counted_format(&tree, recording.formats.as_slice()) {
         Some(format) => Ok(Counting { recording, format }),
         None => Err(Refusal::Script(ScriptRefusal::NotBuilt)),
     }
 }
 
-/// The same. Of what is due to the files there is only one thing, so that comes unless memory runs out.
-pub(crate) fn judge(alloc: Global, script: &[u8], recording: &[u8]) -> Result<Counting, Refusal>
+/// What an order asks of two files.
+fn asked(alloc: Global, order: &Order, script: &[u8], recording: &[u8]) -> Result<Counting, Refusal>
     requires { AreShort (record { script = script.now; recording = recording.now }) }
-    ensures asked { IfOk result (λ counting. IsAsked (record { script = script.now; recording = recording.now }) counting.recording counting.format) }
-    ensures refused { IfErr result (IsDueRefusal (record { script = script.now; recording = recording.now })) }
-    ensures exact { ComesIfDue (refusal_in result) (record { script = script.now; recording = recording.now }) }
+    ensures judged { IfOk result (IsJudged order.now (record { script = script.now; recording = recording.now })) }
+    ensures refused { IfErr result (IsDueRefusal order.now (record { script = script.now; recording = recording.now })) }
+{
+    let accepted = match accept(alloc, script, recording) {
+        Ok(accepted) => accepted,
+        Err(refusal) => return Err(refusal),
+    };
+    match order {
+        Order::Run(_) => counting_of(accepted),
+        Order::Check(_) => Err(Refusal::Script(ScriptRefusal::NotBuilt)),
+    }
+}
+
+/// The same. Of what is due to the files there is only one thing, so that comes unless memory runs out.
+pub(crate) fn judge(
+    alloc: Global,
+    order: &Order,
+    script: &[u8],
+    recording: &[u8],
+) -> Result<Counting, Refusal>
+    requires { AreShort (record { script = script.now; recording = recording.now }) }
+    ensures judged { IfOk result (IsJudged order.now (record { script = script.now; recording = recording.now })) }
+    ensures refused { IfErr result (IsDueRefusal order.now (record { script = script.now; recording = recording.now })) }
+    ensures exact { ComesIfDue (refusal_in result) order.now (record { script = script.now; recording = recording.now }) }
 {
     rec_format::laws::one_recording();
     rec_format::laws::one_fault();
     bt_lexer::laws::one_answer();
     bt_grammar::laws::one_answer();
-    counting_of(alloc, script, recording)
+    asked(alloc, order, script, recording)
 }

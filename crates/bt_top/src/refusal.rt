@@ -13,7 +13,7 @@ pub enum Operand {
     Recording,
 }
 
-/// What is wrong with a script: the first fault of its text, or of its tokens.
+/// What is wrong with a script: the first fault of its text, of its tokens, or of the points of its probes.
 #[derive(Clone, Copy, PartialEq, Eq, Debug)]
 pub enum ScriptFault {
     /// X1: no token begins with this byte, or it does not fit the token that it stands in.
@@ -34,6 +34,16 @@ pub enum ScriptFault {
     TooDeep,
     /// P3: the 65th probe begins here.
     TooManyProbes,
+    /// A1: the tracepoint, which has no `*`, is that of none of the recording's formats.
+    UnknownTracepoint,
+    /// A2: the tracepoint with `*` matches none of the recording's formats.
+    NoMatch,
+    /// A3: the interval's number is 0, or its period is 0 or above 2^63 - 1 nanoseconds.
+    BadPeriod,
+    /// A4: with this point there are more than 100,000 ticks.
+    TooManyTicks,
+    /// A5: with this point there are more than 4,096 bodies.
+    TooManyAttached,
 }
 
 /// Why a script is refused.
@@ -41,10 +51,11 @@ pub enum ScriptFault {
 pub enum ScriptRefusal {
     /// It has more bytes than it may have.
     TooLong,
-    /// The text is no script: the first fault, and the place of its byte or token. That of a text that
-    /// breaks off is the end of the text.
+    /// The text is no script, or none for this recording: the first fault, and the place of its byte, token
+    /// or point. That of a text that breaks off is the end of the text.
     Fault(ScriptFault, Place),
-    /// It does not count the events of one of the recording's formats, so it is not handled so far.
+    /// Nothing is wrong with it so far, and what comes next is not built: of a script that is run, whatever
+    /// does more than count the events of one of the recording's formats.
     NotBuilt,
 }
 
@@ -55,14 +66,14 @@ pub enum RecordingRefusal {
     TooLong,
     /// The bytes are no recording: the first check that they fail.
     Fault(RecordingError),
-    /// It has more than one CPU, so it is not handled so far.
+    /// Nothing is wrong with it, but it has more than one CPU, and to run it is not built.
     NotBuilt,
 }
 
 /// Why a call is refused. Each has its exit status.
 #[derive(Clone, Copy, PartialEq, Eq, Debug)]
 pub enum Refusal {
-    /// The words break the rule: status 1.
+    /// The words break the rule, or ask for what is not built: status 1.
     Usage,
     /// The script is refused: status 2.
     Script(ScriptRefusal),

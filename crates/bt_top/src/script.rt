@@ -1,13 +1,14 @@
 // The trees of scripts, and those that run so far.
 ghost use Rattle.std.specs.Prelude.{◌≡◌, ◌≤◌, ℕ, IfErr, IfOk, MatchOption, None, Some, length, slice_get};
 ghost use Rattle.bt_lexer.specs.Places.{offset_of};
-ghost use Rattle.bt_top.specs.Script.{place_of, place_at, lexical_refusal, parse_refusal, HasTree, has_star, IsFormatOf, CountsFormat};
+ghost use Rattle.bt_top.specs.Script.{place_of, place_at, lexical_refusal, parse_refusal, attach_refusal, HasTree, has_star, IsFormatOf, CountsFormat};
 ghost use Rattle.bt_top.specs.Early.{event_of_points, is_count, are_count, event_of_probe, event_of_tree};
-ghost use Rattle.bt_top.specs.Serve.{IsScriptRefusal};
+ghost use Rattle.bt_top.specs.Serve.{IsTextRefusal};
 
 use crate::refusal::{Refusal, ScriptFault, ScriptRefusal};
 use bt_ast::probe::{Point, Probe, Script};
 use bt_ast::stmt::{AggCall, Stmt, StmtKind};
+use bt_attach::error::AttachError;
 use bt_core::limits::SCRIPT_BYTES;
 use bt_core::place::Place;
 use bt_grammar::error::ParseError;
@@ -85,11 +86,25 @@ fn parse_refusal(text: &[u8], tokens: &[Token], error: ParseError) -> Refusal
     }
 }
 
+/// Why a script is refused of whose points this is the first fault.
+pub(crate) fn attach_refusal(error: AttachError) -> Refusal
+    ensures { result ≡ attach_refusal error }
+{
+    match error {
+        AttachError::UnknownTracepoint(place) => fault_at(ScriptFault::UnknownTracepoint, place),
+        AttachError::NoMatch(place) => fault_at(ScriptFault::NoMatch, place),
+        AttachError::BadPeriod(place) => fault_at(ScriptFault::BadPeriod, place),
+        AttachError::TooManyTicks(place) => fault_at(ScriptFault::TooManyTicks, place),
+        AttachError::TooManyAttached(place) => fault_at(ScriptFault::TooManyAttached, place),
+        AttachError::Memory => Refusal::Memory,
+    }
+}
+
 /// The tree of a script, or its first fault.
 pub(crate) fn tree_of(alloc: Global, text: &[u8]) -> Result<Script, Refusal>
     requires { length text.now ≤ SCRIPT_BYTES }
     ensures tree { IfOk result (HasTree text.now) }
-    ensures fault { IfErr result (IsScriptRefusal text.now) }
+    ensures fault { IfErr result (IsTextRefusal text.now) }
 {
     few_tokens();
     let tokens = match lex(alloc, text) {

@@ -5,11 +5,10 @@ ghost use Rattle.bt_top.specs.declared.refusal.ScriptRefusal.TheVariants as refu
 ghost use Rattle.bt_top.specs.Lines.{Writes, sink_use, Text, Number};
 ghost use Rattle.bt_top.specs.Refusals.{count_word, event_pieces, fault_pieces, format_pieces, name_of};
 ghost use Rattle.bt_top.specs.Refusals.{recording_pieces, refusal_pieces, script_fault_text, script_pieces, usage_pieces};
-ghost use Rattle.bt_top.specs.Words.{named_by};
 
 use crate::line::{Piece, write_line};
 use crate::refusal::{Operand, RecordingRefusal, Refusal, ScriptFault, ScriptRefusal};
-use crate::words::Named;
+use crate::words::Operands;
 use bt_core::place::Place;
 use bt_io::sink::Sink;
 use rec_format::error::{CountOf, RecordingError};
@@ -41,16 +40,21 @@ fn script_fault_text(fault: ScriptFault) -> &'static str
         ScriptFault::Syntax => "P1 syntax",
         ScriptFault::TooDeep => "P2 too deep",
         ScriptFault::TooManyProbes => "P3 too many probes",
+        ScriptFault::UnknownTracepoint => "A1 unknown tracepoint",
+        ScriptFault::NoMatch => "A2 no match",
+        ScriptFault::BadPeriod => "A3 bad period",
+        ScriptFault::TooManyTicks => "A4 too many ticks",
+        ScriptFault::TooManyAttached => "A5 too many attachments",
     }
 }
 
 /// The name of the file that the operand gives.
-fn name_of<'w>(named: &Named<'w>, operand: Operand) -> &'w str
-    ensures { result.now ≡ name_of (named_by named.now) operand }
+fn name_of(names: &Operands, operand: Operand) -> &str
+    ensures { result.now ≡ name_of names.now operand }
 {
     match operand {
-        Operand::Script => named.script,
-        Operand::Recording => named.recording,
+        Operand::Script => names.script.as_str(),
+        Operand::Recording => names.recording.as_str(),
     }
 }
 
@@ -213,26 +217,35 @@ fn tell_script<E: Sink>(err: &mut E, name: &str, why: ScriptRefusal)
     }
 }
 
-/// Tells how the program is used.
+/// Tells how the program is used, as far as it is built.
 pub(crate) fn tell_usage<E: Sink>(err: &mut E)
     ensures { Writes (sink_use E.taken E.faults err.old err.new) usage_pieces }
 {
-    write_line(err, &[Piece::Text("usage: btreplay run SCRIPT RECORDING")]);
+    let run = Piece::Text("usage: btreplay run SCRIPT RECORDING\n");
+    let check = Piece::Text("       btreplay check SCRIPT RECORDING");
+    write_line(err, &[run, check]);
+}
+
+/// Tells that memory ran out.
+pub(crate) fn tell_memory<E: Sink>(err: &mut E)
+    ensures { Writes (sink_use E.taken E.faults err.old err.new) (Text (codes "out of memory") ∷ []) }
+{
+    write_line(err, &[Piece::Text("out of memory")]);
 }
 
 /// Tells a refusal, where the words name these files.
-pub(crate) fn tell<E: Sink>(err: &mut E, named: &Named<'_>, refusal: Refusal)
-    ensures { Writes (sink_use E.taken E.faults err.old err.new) (refusal_pieces (named_by named.now) refusal) }
+pub(crate) fn tell<E: Sink>(err: &mut E, names: &Operands, refusal: Refusal)
+    ensures { Writes (sink_use E.taken E.faults err.old err.new) (refusal_pieces names.now refusal) }
 {
     match refusal {
         Refusal::Usage => tell_usage(err),
-        Refusal::Script(why) => tell_script(err, named.script, why),
-        Refusal::Recording(why) => tell_recording(err, named.recording, why),
+        Refusal::Script(why) => tell_script(err, names.script.as_str(), why),
+        Refusal::Recording(why) => tell_recording(err, names.recording.as_str(), why),
         Refusal::ReadFault(operand) => {
-            let name = Piece::Text(name_of(named, operand));
+            let name = Piece::Text(name_of(names, operand));
             write_line(err, &[name, Piece::Text(": read fault")])
         }
         Refusal::WriteFault => write_line(err, &[Piece::Text("write fault")]),
-        Refusal::Memory => write_line(err, &[Piece::Text("out of memory")]),
+        Refusal::Memory => tell_memory(err),
     }
 }

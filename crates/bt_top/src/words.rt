@@ -1,53 +1,51 @@
 // What the words of a command line ask for.
-ghost use Rattle.std.specs.Prelude.{◌≡◌, MatchOption, None, Some};
-ghost use Rattle.bt_top.specs.Words.{is_operand, order_of, order_by, named_by, operands_of};
+ghost use Rattle.std.specs.Prelude.{◌≡◌, None, Some, Err, IfOk};
+ghost use Rattle.bt_words.specs.Words.{order_of as order_asked};
+ghost use Rattle.bt_top.specs.Words.{operands_of, order_of};
+
+use bt_words::order::{FileName, Order as Asked, WordsError};
+use bt_words::read::read_words;
+use std::alloc::Global;
 
 /// The files that the words of a command name.
-#[derive(Clone, Copy)]
-pub(crate) struct Named<'w> {
-    pub script: &'w str,
-    pub recording: &'w str,
+#[derive(Drop)]
+pub(crate) struct Operands {
+    pub script: FileName,
+    pub recording: FileName,
 }
 
 /// What the words ask for: a command, and the files that it reads.
-#[derive(Clone, Copy)]
-pub(crate) enum Order<'w> {
-    Run(Named<'w>),
+#[derive(Drop)]
+pub(crate) enum Order {
+    /// To run the script over the recording.
+    Run(Operands),
+    /// To do all of a run up to the code.
+    Check(Operands),
 }
 
-/// The order that the words give: `run SCRIPT RECORDING`, or none.
-pub(crate) fn order_of(words: &[String]) -> Option<Order<'_>>
-    ensures { MatchOption result (order_of words.now ≡ None) (λ order. order_of words.now ≡ Some (order_by order)) }
+/// The order that the words give, where it is built: `run` without options, or `check`.
+pub(crate) fn order_of(alloc: Global, words: &[String]) -> Result<Order, WordsError>
+    ensures found { IfOk result (λ order. order_of words.now ≡ Some order) }
+    ensures usage { result ≡ Err WordsError.Usage → order_of words.now ≡ None }
+    ensures broken { order_asked words.now ≡ None → result ≡ Err WordsError.Usage }
 {
-    match words {
-        [word, script, recording] => {
-            let script = script.as_str();
-            let recording = recording.as_str();
-            if word.as_str() == "run" && is_operand(script) && is_operand(recording) {
-                Some(Order::Run(Named { script, recording }))
-            } else {
-                None
-            }
-        }
-        _ => None,
-    }
-}
-
-/// Whether a word is an operand: not empty, and no option.
-fn is_operand(word: &str) -> bool
-    ensures { result ≡ is_operand word.now }
-{
-    match word.as_bytes() {
-        [] => false,
-        [first, ..] => *first != b'-',
+    match read_words(alloc, words)? {
+        Asked::Run {
+            serial: false,
+            stats: false,
+            script,
+            recording,
+        } => Ok(Order::Run(Operands { script, recording })),
+        Asked::Check { script, recording } => Ok(Order::Check(Operands { script, recording })),
+        _ => Err(WordsError::Usage),
     }
 }
 
 /// The files that an order names.
-pub(crate) fn files_of<'w>(order: &Order<'w>) -> Named<'w>
-    ensures { named_by result ≡ operands_of (order_by order.now) }
+pub(crate) fn operands_of(order: &Order) -> &Operands
+    ensures { result.now ≡ operands_of order.now }
 {
     match order {
-        Order::Run(named) => *named,
+        Order::Run(operands) | Order::Check(operands) => operands,
     }
 }

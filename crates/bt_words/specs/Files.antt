@@ -10,4 +10,4 @@ use Rattle.bt_words.specs.Words.{of_two}
 abbrev pub NamesFiles : List (List ℕ) → Result Files WordsError → Type 0
 NamesFiles operands (Ok files) = operands ≡ files.script ∷ files.recording ∷ []
 NamesFiles operands (Err Usage) = (read : List ℕ → List ℕ → Option Order) → of_two read operands ≡ None
-NamesFiles operands (Err Memory) = Unit {0}
+NamesFiles operands (Err Memory) = (script : List ℕ) × (recording : List ℕ) × (operands ≡ script ∷ recording ∷ [])

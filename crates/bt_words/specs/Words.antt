@@ -1,5 +1,5 @@
 -- What the words of a command line ask for.
-use Rattle.std.specs.Prelude.{◌≡◌, ℕ, Bool, true, false, not, ◌&&◌, ◌||◌, ◌==◌, nat_le, List, [], ◌∷◌, length, filter, count_by, codes, map, Option, Some, None, Result, Ok, Err, if◌then◌else◌, String, string_bytes}
+use Rattle.std.specs.Prelude.{◌≡◌, ℕ, Bool, true, false, not, ◌&&◌, ◌||◌, ◌==◌, nat_le, List, [], ◌∷◌, length, filter, count_by, codes, map, Option, Some, None, Result, Ok, Err, IsSome, if◌then◌else◌, String, string_bytes}
 use Rattle.std.specs.List.{list_all, list_any}
 use Rattle.std.specs.Str.{bytes_eq}
 use Rattle.std.specs.Str.Parse.{digits_value}
@@ -84,8 +84,8 @@ order_of_words (command ∷ words) = if list_any is_empty words then None else o
 abbrev pub order_of : List (String Global) → Option Order
 order_of words = order_of_words (map string_bytes words)
 
--- an order is the one that there is, and words are refused only where there is none
+-- an order is the one that there is; words are refused only where there is none, and memory runs out only where there is one
 abbrev pub IsAnswer : Option Order → Result Order WordsError → Type 0
 IsAnswer there (Ok order) = there ≡ Some order
 IsAnswer there (Err Usage) = there ≡ None
-IsAnswer there (Err Memory) = Unit {0}
+IsAnswer there (Err Memory) = IsSome there

@@ -1,5 +1,5 @@
 // Reading words.
-ghost use Rattle.std.specs.Prelude.{◌≡◌, ◌≢◌, ℕ, None, Some, map, filter, string_bytes, IfOk, IfErr};
+ghost use Rattle.std.specs.Prelude.{◌≡◌, ◌↔◌, ℕ, None, Some, Err, map, filter, string_bytes, IfOk};
 ghost use Rattle.std.specs.Option.{option_map};
 ghost use Rattle.bt_words.specs.declared.order.Order.{Order as OrderValue};
 ghost use Rattle.bt_words.specs.Words.{is_operand, of_two, two_numbers, run_order, plain_order, order_of, IsAnswer};
@@ -20,10 +20,10 @@ const MOST_X: u32 = 2_147_483_647;
 /// # Errors
 ///
 /// [`WordsError::Usage`] where the words break this rule, and only there. [`WordsError::Memory`] may
-/// come at any words.
+/// come at any other words.
 pub fn read_words(alloc: Global, words: &[String]) -> Result<Order, WordsError>
     ensures found { IfOk result (λ order. order_of words.now ≡ Some order) }
-    ensures usage { IfErr result (λ e. e ≢ WordsError.Memory → order_of words.now ≡ None) }
+    ensures usage { (result ≡ Err WordsError.Usage) ↔ (order_of words.now ≡ None) }
 {
     order(alloc, words)
 }

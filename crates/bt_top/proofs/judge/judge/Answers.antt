@@ -1,4 +1,4 @@
-use Rattle.bt_top.specs.Serve.{Files}
+use Rattle.bt_top.specs.Due.{Files}
 use Rattle.bt_top.proofs.Due.{AreLaws, comes_if_due}
 use Rattle.bt_top.proofs.judge.judge.Goals as goal
 
@@ -18,4 +18,4 @@ returns-clause-exact c =
         parse_apart = c.one_answer-2.ensures.apart;
       };
     } in
-    comes_if_due files c.counting_of.result laws c.requires c.counting_of.ensures.asked c.counting_of.ensures.refused
+    comes_if_due c.args.order.now files c.asked.result laws c.asked.ensures.judged c.asked.ensures.refused

@@ -5,8 +5,8 @@ use Rattle.bt_top.specs.declared.refusal.Refusal.TheVariants.{WriteFault}
 use Rattle.bt_top.specs.Count.{payloads_of}
 use Rattle.bt_top.proofs.EventRuns.{six_a_step}
 use Rattle.bt_top.proofs.Judging.{worked_answer}
-use Rattle.bt_top.proofs.serve.run_files.Goals as goal
-use Rattle.bt_top.proofs.serve.run_files.Goals.{in-Ok-write_all, in-Err-write_all}
+use Rattle.bt_top.proofs.serve.perform.Goals as goal
+use Rattle.bt_top.proofs.serve.perform.Goals.{in-Ok-write_all, in-Err-write_all}
 
 pub returns-clause-answered : goal.returns-clause-answered
 returns-clause-answered g c =
