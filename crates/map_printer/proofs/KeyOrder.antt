@@ -1,5 +1,5 @@
 -- The order that is derived for keys is the order of keys.
-use Rattle.std.proofs.Common.{◌≡◌, List, refl, ap}
+use Rattle.std.proofs.Common.{◌≡◌, refl, ap}
 use Rattle.std.specs.declared.cmp.Ordering.{Ordering}
 use Rattle.std.specs.Cmp.Lexicographic.{slice_cmp}
 use Rattle.bt_core.specs.declared.value.Value.{Value}

@@ -1,5 +1,5 @@
 -- The merged rows of replies that fit a declaration fit it.
-use Rattle.std.proofs.Common.{◌≡◌, ℕ, suc, Bool, true, false, ◌||◌, cond, List, [], ◌∷◌, ◌++◌, length, map, refl, sym, ap, ◌∙◌, subst}
+use Rattle.std.proofs.Common.{◌≡◌, ℕ, suc, Bool, true, false, ◌||◌, cond, List, [], ◌∷◌, length, refl, sym, ap, ◌∙◌, subst}
 use Rattle.std.specs.Prelude.{fold}
 use Rattle.std.specs.List.{All, AllByRecursion, Contains}
 use Rattle.std.proofs.lemmas.List.Elements.{All-nil, All-map, All-weaker, All-head, All-tail, All-append, All-contains_itself, recursion_from_All}
@@ -16,14 +16,14 @@ use Rattle.bt_core.specs.declared.map.MapKind.TheVariants.{Ints, Strs, Aggs}
 use Rattle.bt_core.specs.declared.step.Reply.{Reply}
 use Rattle.bt_core.specs.declared.step.Reply.TheVariants as replies
 use Rattle.bt_core.specs.declared.value.Value.{Value}
-use Rattle.bt_core.specs.Kinds.{HasShape, IsOfKind, IsAggOf, AreBucketsOf}
+use Rattle.bt_core.specs.Kinds.{HasShape, IsAggOf, AreBucketsOf}
 use Rattle.agg_core.specs.Aggregates.{merged as merged_agg, both_counts, both_buckets}
 use Rattle.agg_core.specs.Changes.{is_key}
 use Rattle.agg_core.proofs.KeyLaws.{is_key-true}
 use Rattle.agg_core.proofs.SortedRows.{row_at}
 use Rattle.map_printer.specs.Fits.{IsCellOf, IsRowOf, IsReadReply}
 use Rattle.map_printer.specs.Merged.{all_rows, rows_in, agg_row, value_row, ordered_keys, cells_at, joined, both_cells, merged, HasRowsOf}
-use Rattle.map_printer.proofs.Entries.{names, has-ordered_keys, cells_at-cons, holds}
+use Rattle.map_printer.proofs.Entries.{names, has-ordered_keys, cells_at-cons}
 use Rattle.map_printer.proofs.KeyLists.{has_from_contains}
 
 -- as many counts as before

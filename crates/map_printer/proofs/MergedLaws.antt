@@ -1,7 +1,6 @@
 -- Rows that are merged one after the other are the merged rows.
-use Rattle.std.proofs.Common.{◌≡◌, Bool, true, false, ◌||◌, not, cond, List, [], ◌∷◌, ◌++◌, Option, Some, None, map, refl, sym, ap, ◌∙◌, append_assoc}
+use Rattle.std.proofs.Common.{◌≡◌, Bool, true, false, ◌||◌, cond, List, [], ◌∷◌, ◌++◌, Option, Some, None, map, refl, sym, ap, ◌∙◌, append_assoc}
 use Rattle.std.specs.Prelude.{fold}
-use Rattle.std.specs.declared.cmp.Ordering.TheVariants.{Less, Equal, Greater}
 use Rattle.std.specs.List.{filter}
 use Rattle.std.specs.BTreeMap.{insert_entry}
 use Rattle.std.specs.Map.{lookup, set_value}
@@ -12,7 +11,7 @@ use Rattle.bt_core.specs.declared.value.Value.{Value}
 use Rattle.bt_core.specs.Order.{key_order}
 use Rattle.agg_core.specs.Changes.{is_key, with_key}
 use Rattle.agg_core.proofs.KeyLaws.{key_itself, Before, Same, After, side, is_key-same, is_key-before, is_key-after}
-use Rattle.agg_core.proofs.SortedRows.{Below, Ascends, ascends-with_key, below-trans, row_at, rows_at, rows-insert}
+use Rattle.agg_core.proofs.SortedRows.{Ascends, ascends-with_key, below-trans, row_at, rows_at, rows-insert}
 use Rattle.map_printer.specs.Merged.{ordered_keys, cells_at, joined, both_cells, merged_rows}
 use Rattle.map_printer.specs.Merging.{row_beside, with_row}
 use Rattle.map_printer.proofs.KeySets.{has, has-with_key, key_flip, below_none, same_keys}

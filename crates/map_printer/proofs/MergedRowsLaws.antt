@@ -1,5 +1,5 @@
 -- The merged rows are those that are described, and no others are.
-use Rattle.std.proofs.Common.{◌≡◌, ℕ, Bool, true, false, ◌||◌, cond, List, [], ◌∷◌, ◌++◌, map, refl, sym, ap, ◌∙◌, subst}
+use Rattle.std.proofs.Common.{◌≡◌, Bool, true, false, ◌||◌, cond, List, [], ◌∷◌, ◌++◌, map, refl, sym, ap, ◌∙◌, subst}
 use Rattle.std.specs.Prelude.{fold}
 use Rattle.std.specs.List.{All, AllByRecursion, Contains}
 use Rattle.std.specs.List.Sorted.{IsStrictlySortedBy}
@@ -17,8 +17,8 @@ use Rattle.bt_core.specs.declared.value.Value.{Value}
 use Rattle.bt_core.specs.Order.{key_order}
 use Rattle.agg_core.specs.Aggregates.{merged as merged_agg}
 use Rattle.agg_core.specs.Changes.{is_key}
-use Rattle.agg_core.proofs.SortedRows.{Ascends, row_at}
-use Rattle.map_printer.specs.Merged.{all_rows, rows_in, agg_row, value_row, ordered_keys, cells_at, joined, both_cells, merged_rows, merged}
+use Rattle.agg_core.proofs.SortedRows.{row_at}
+use Rattle.map_printer.specs.Merged.{all_rows, rows_in, agg_row, value_row, ordered_keys, cells_at, joined, both_cells, merged}
 use Rattle.map_printer.specs.MergedRows.{IsFirst, IsMergedOf, StandsFor, AreMergedRows}
 use Rattle.map_printer.proofs.KeySets.{has, same_keys}
 use Rattle.map_printer.proofs.Entries.{names, ascends-ordered_keys, has-ordered_keys, cells_at-cons, holds}

@@ -1,11 +1,11 @@
 -- The rows of a map as one list, from the replies of the objects that hold parts of it.
-use Rattle.std.specs.Prelude.{ℤ, pos, List, [], ◌∷◌, map, fold}
+use Rattle.std.specs.Prelude.{pos, List, [], ◌∷◌, map, fold}
 use Rattle.std.specs.List.{All, filter, flat_map}
 use Rattle.bt_core.specs.declared.agg.Agg.{Agg}
 use Rattle.bt_core.specs.declared.item.Cell.{Cell}
 use Rattle.bt_core.specs.declared.item.Cell.TheVariants as cells
 use Rattle.bt_core.specs.declared.map.MapKind.{MapKind}
-use Rattle.bt_core.specs.declared.map.MapKind.TheVariants.{Ints, Strs, Aggs}
+use Rattle.bt_core.specs.declared.map.MapKind.TheVariants.{Aggs}
 use Rattle.bt_core.specs.declared.step.Reply.{Reply}
 use Rattle.bt_core.specs.declared.step.Reply.TheVariants as replies
 use Rattle.bt_core.specs.declared.value.Value.{Value}

@@ -1,5 +1,5 @@
 -- Only for proofs: rows that are merged one after the other.
-use Rattle.std.specs.Prelude.{◌≡◌, List, Option, None, Some, fold}
+use Rattle.std.specs.Prelude.{◌≡◌, List, Option, None, Some}
 use Rattle.std.specs.BTreeMap.{insert_entry}
 use Rattle.std.specs.List.{All}
 use Rattle.std.specs.Map.{lookup, set_value, values_of}

@@ -2,4 +2,6 @@
 #![tactic(auto)]
 
 #[cfg(test)]
+mod ends;
+#[cfg(test)]
 mod woven;

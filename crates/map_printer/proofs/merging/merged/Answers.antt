@@ -1,4 +1,4 @@
-use Rattle.std.proofs.Common.{◌≡◌, List, [], subst, ap, ◌∙◌}
+use Rattle.std.proofs.Common.{◌≡◌, List, subst, ap, ◌∙◌}
 use Rattle.std.specs.Prelude.{IfOk, fold}
 use Rattle.bt_core.specs.declared.item.Cell.{Cell}
 use Rattle.bt_core.specs.declared.value.Value.{Value}
