@@ -1,0 +1,2 @@
+pub mod AgendaLaws
+pub mod LoopLaws

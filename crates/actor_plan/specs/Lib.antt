@@ -1,0 +1,5 @@
+pub mod Agendas
+pub mod Contexts
+pub mod Plans
+pub mod Programs
+pub mod Steps

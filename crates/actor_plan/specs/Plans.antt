@@ -1,0 +1,38 @@
+-- What is told of the bodies of a script, and when one of them may be run.
+use Rattle.std.specs.Prelude.{◌≡◌, ℕ, ◌<◌, ◌≤◌, List, length, slice_get, slice_index}
+use Rattle.bt_core.specs.declared.context.Context.{Context}
+use Rattle.bt_core.specs.declared.map.MapDecl.{MapDecl}
+use Rattle.bt_core.specs.declared.step.Reply.{Reply}
+use Rattle.bt_core.specs.Interaction.{Interaction, Asks, Ended, Call}
+use Rattle.bt_core.specs.Ports.{Setting, CanStep, IsReplyOf}
+
+-- The actor that runs the bodies, the number of actors, the script's maps by their numbers, the layout size of each body by its
+-- number, and what the run of a body asks at a context and a payload, which ends with the count of its instructions.
+pub record Plan : Type 0 where
+  pub actor : ℕ
+  pub actors : ℕ
+  pub maps : List MapDecl
+  pub sizes : List ℕ
+  pub run : ℕ → Context → List ℕ → Interaction ℕ
+
+-- each of these maps is served at its number
+abbrev pub AreServed : List MapDecl → List MapDecl → Type 0
+AreServed maps served = (number : ℕ) → number < length maps → slice_get served number ≡ slice_get maps number
+
+-- a port makes the steps of the plan's actor, among as many actors, and serves the script's maps
+pub record ServesPlan (plan : Plan) (setting : Setting) : Type 0 where
+  pub actor : setting.actor ≡ plan.actor
+  pub actors : setting.actors ≡ plan.actors
+  pub maps : AreServed plan.maps setting.maps
+
+-- a body may be run: there is one of this number, the payload has its layout's size or more, and the context names its length
+pub record CanRun (plan : Plan) (body : ℕ) (context : Context) (payload : List ℕ) : Type 0 where
+  pub known : body < length plan.sizes
+  pub long : slice_index plan.sizes body ≤ length payload
+  pub counted : context.payload_len ≡ length payload
+
+-- under replies of the kinds that the operations have, each operation that is asked is one that a port of this setting can make
+abbrev pub OnlyAsks : {A : Type 0} → Setting → Interaction A → Type 0
+OnlyAsks setting (Ended a) = Unit {0}
+OnlyAsks setting (Asks c f) =
+    CanStep setting c.object c.op × ((r : Reply) → IsReplyOf setting.maps c.object c.op r → OnlyAsks setting (f r))
