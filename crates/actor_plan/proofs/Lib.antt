@@ -1,2 +1,4 @@
 pub mod AgendaLaws
+pub mod AskLaws
 pub mod LoopLaws
+pub mod ProgramLaws

@@ -86,6 +86,10 @@ items_program checks work (i ∷ is) = and_then (goes_on checks) (λ on.
     if on then and_then (work i) (λ count. and_then (items_program checks work is) (λ rest. Ended (after_count count rest)))
     else Ended (record { to_end = false; instructions = 0 }))
 
+-- what is left of a program, where what came before it went on to its end
+abbrev pub then_program : Interaction Outcome → Outcome → Interaction Outcome
+then_program rest o = if o.to_end then and_then rest (λ q. Ended (after_count o.instructions q)) else Ended o
+
 -- a CPU, if it is there: its agenda, with checks where the script has an exit
 abbrev pub track_program : Plan → Bool → Recording → Attached → Option CpuTrack → Interaction Outcome
 track_program plan exits r attached None = Ended (record { to_end = true; instructions = 0 })
