@@ -17,7 +17,7 @@ use Rattle.rec_format.specs.Recordings.{IsValidRecording}
 use Rattle.rec_format.proofs.PlaceLaws.{track_at}
 use Rattle.actor_plan.specs.declared.agenda.AgendaItem.{AgendaItem}
 use Rattle.actor_plan.specs.declared.agenda.AgendaItem.TheVariants as item
-use Rattle.actor_plan.specs.Agendas.{AreInTurn, events_on_track, events_where, is_between, items_from, agenda_of}
+use Rattle.actor_plan.specs.Agendas.{AreInTurn, events_of, events_on_track, events_where, is_between, items_from, agenda_of}
 use Rattle.actor_plan.specs.Steps.{events_on, earlier, earlier_count, taken}
 
 -- ---- tests of times
@@ -99,7 +99,7 @@ abbrev pub NoneBefore : ℕ → List Tick → Type 0
 NoneBefore time [] = Unit {0}
 NoneBefore time (t ∷ ts) = (time ≤ t.time) × NoneBefore t.time ts
 
-from_start : (time : ℕ) (ts : List Tick) → NoneBefore time ts → NoneBefore 0 ts
+pub from_start : (time : ℕ) (ts : List Tick) → NoneBefore time ts → NoneBefore 0 ts
 from_start time [] h = tt
 from_start time (t ∷ ts) h = (omega arith, h.1)
 
@@ -151,11 +151,15 @@ few_events r cpu d valid lt =
     let most : EVENTS ≤ 2 ^ 32 = lit≤ tt in
     omega (arith, one, few, most)
 
+pub times_are : (r : Recording) (cpu : ℕ) (d : CpuTrack) → IsValidRecording r → cpu < length r.cpus → AreInTime events r.start r.end (events_of r cpu)
+times_are r cpu d valid lt =
+    let track = get_or r.cpus cpu d in
+    let at = slice_get-get_or r.cpus cpu d lt in
+    subst (λ o. AreInTime events r.start r.end (events_on_track o)) (sym at) (track_at r cpu track valid at).events.in_time
+
 pub agenda_is : (r : Recording) (attached : Attached) (cpu : ℕ) (d : CpuTrack) → IsValidRecording r → AreInTurn attached.ticks → cpu < length r.cpus
     → taken 0 (get_or r.cpus cpu d).events 0 attached.ticks ≡ agenda_of r attached cpu
 unfolding agenda_of
 agenda_is r attached cpu d valid turn lt =
-    let track = get_or r.cpus cpu d in
-    let at = slice_get-get_or r.cpus cpu d lt in
-    let times = (track_at r cpu track valid at).events.in_time in
-    sym (ap (λ o. items_from 0 (events_on_track o) 0 0 attached.ticks) at ∙ taken_all r.start r.end 0 track.events 0 attached.ticks times (none_before attached.ticks turn))
+    ap (λ o. taken 0 (events_on_track o) 0 attached.ticks) (sym (slice_get-get_or r.cpus cpu d lt))
+    ∙ sym (taken_all r.start r.end 0 (events_of r cpu) 0 attached.ticks (times_are r cpu d valid lt) (none_before attached.ticks turn))

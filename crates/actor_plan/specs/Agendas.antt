@@ -1,5 +1,6 @@
 -- Agendas: which events and ticks a CPU takes, and in which order.
-use Rattle.std.specs.Prelude.{◌≡◌, ℕ, suc, ◌+◌, ◌≤◌, ◌&&◌, nat_le, nat_lt, Bool, List, [], ◌∷◌, ◌++◌, slice_get, Option, Some, None, if◌then◌else◌}
+use Rattle.std.specs.Prelude.{◌≡◌, ℕ, suc, ⊤, ◌+◌, ◌<◌, ◌≤◌, ◌&&◌, nat_le, nat_lt, Bool, List, [], ◌∷◌, ◌++◌, length, slice_get, Option, Some, None, if◌then◌else◌}
+use Rattle.std.specs.List.{AllByRecursion, filter_map, range_with_len}
 use Rattle.bt_ast.specs.declared.attached.Attached.{Attached}
 use Rattle.bt_ast.specs.declared.attached.Tick.{Tick}
 use Rattle.rec_format.specs.declared.recording.CpuTrack.{CpuTrack}
@@ -41,3 +42,35 @@ items_from first events time place (t ∷ ts) =
 -- the agenda of a CPU
 unfoldable pub agenda_of : Recording → Attached → ℕ → List AgendaItem
 agenda_of r attached cpu = items_from 0 (events_of r cpu) 0 0 attached.ticks
+
+-- ---- what an agenda is, item by item
+
+abbrev pub tick_place : AgendaItem → Option ℕ
+tick_place (item.Tick place) = Some place
+tick_place (item.Event place) = None
+
+abbrev pub event_place : AgendaItem → Option ℕ
+event_place (item.Tick place) = None
+event_place (item.Event place) = Some place
+
+-- an event is before a time, and one is not; of a tick it says nothing
+abbrev pub IsBefore : List Event → ℕ → AgendaItem → Type 0
+IsBefore events time (item.Tick place) = ⊤
+IsBefore events time (item.Event place) = (e : Event) → slice_get events place ≡ Some e → e.time < time
+
+abbrev pub IsNotBefore : List Event → ℕ → AgendaItem → Type 0
+IsNotBefore events time (item.Tick place) = ⊤
+IsNotBefore events time (item.Event place) = (e : Event) → slice_get events place ≡ Some e → time ≤ e.time
+
+-- what stands before and behind a tick of this time
+pub record StandsAt (events : List Event) (time : ℕ) (before after : List AgendaItem) : Type 0 where
+  pub earlier : AllByRecursion (IsBefore events time) before
+  pub later : AllByRecursion (IsNotBefore events time) after
+
+-- all ticks and all events stand in it, each once and both in their order; and each tick stands after the events with a smaller
+-- time and before those with its time or more
+pub record IsAgenda (ticks : List Tick) (events : List Event) (items : List AgendaItem) : Type 0 where
+  pub ticks_are : filter_map tick_place items ≡ range_with_len 0 (length ticks)
+  pub events_are : filter_map event_place items ≡ range_with_len 0 (length events)
+  pub stands : (before after : List AgendaItem) (place : ℕ) (t : Tick) → items ≡ before ++ item.Tick place ∷ after → slice_get ticks place ≡ Some t
+      → StandsAt events t.time before after

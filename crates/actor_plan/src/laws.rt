@@ -1,13 +1,16 @@
 // Laws of programs and agendas.
-ghost use Rattle.std.specs.Prelude.{◌≡◌, ◌++◌, ℕ, Bool, List, length, Some};
+ghost use Rattle.std.specs.Prelude.{◌≡◌, ◌<◌, ◌++◌, ℕ, Bool, List, length, Some};
 ghost use Rattle.bt_ast.specs.declared.attached.Attached.{Attached};
+ghost use Rattle.bt_ast.specs.declared.attached.Tick.{Tick};
 ghost use Rattle.bt_core.specs.declared.context.Context.{Context};
 ghost use Rattle.bt_core.specs.declared.step.Reply.{Reply};
 ghost use Rattle.bt_core.specs.Interaction.{Interaction, and_then, calls, value_under};
 ghost use Rattle.bt_core.specs.Ports.{Setting};
+ghost use Rattle.rec_format.specs.declared.recording.Event.{Event};
 ghost use Rattle.rec_format.specs.declared.recording.Recording.{Recording};
 ghost use Rattle.rec_format.specs.Recordings.{IsValidRecording};
 ghost use Rattle.actor_plan.specs.declared.agenda.AgendaItem.{AgendaItem};
+ghost use Rattle.actor_plan.specs.Agendas.{AreInTurn, IsAgenda, agenda_of, events_of};
 ghost use Rattle.actor_plan.specs.Plans.{Plan, CanRun, HasBodies, OnlyAsks};
 ghost use Rattle.actor_plan.specs.Programs.{actor_program, items_program, then_program};
 
@@ -32,4 +35,13 @@ pub fn programs_are_admitted()
         HasBodies plan r.formats attached → setting.ticks ≡ length attached.ticks →
         ((body : ℕ) (context : Context) (payload : List ℕ) → CanRun plan body context payload → OnlyAsks setting (plan.run body context payload)) →
         OnlyAsks setting (actor_program plan exits r attached) }
+{}
+
+/// The agenda of a CPU has all its events and all ticks, each once and in their order, and each tick stands after the events
+/// with a smaller time and before those with its time or more; and no other list does.
+pub fn agendas_are_one()
+    ensures is { (r : Recording) (attached : Attached) (cpu : ℕ) → IsValidRecording r → AreInTurn attached.ticks → cpu < length r.cpus →
+        IsAgenda attached.ticks (events_of r cpu) (agenda_of r attached cpu) }
+    ensures only { (ticks : List Tick) (events : List Event) (one other : List AgendaItem) →
+        IsAgenda ticks events one → IsAgenda ticks events other → one ≡ other }
 {}
