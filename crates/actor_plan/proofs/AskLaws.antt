@@ -21,7 +21,8 @@ use Rattle.actor_plan.specs.declared.agenda.AgendaItem.TheVariants as item
 use Rattle.actor_plan.specs.Agendas.{agenda_of}
 use Rattle.actor_plan.specs.Contexts.{event_context, tick_context, begin_context, end_context}
 use Rattle.actor_plan.specs.Plans.{Plan, CanRun, IsBodyFor, HasBodies, OnlyAsks}
-use Rattle.actor_plan.specs.Programs.{Outcome, after_count, in_turn, goes_on, crosses_last, event_work, tick_work, item_work, where_some, items_program, track_program, begin_program, end_program, cpu_program, main_program, actor_program}
+use Rattle.actor_plan.specs.declared.outcome.Outcome.{Outcome}
+use Rattle.actor_plan.specs.Programs.{after_count, in_turn, goes_on, crosses_last, event_work, tick_work, item_work, where_some, items_program, track_program, begin_program, end_program, cpu_program, main_program, actor_program}
 
 asks_then : {A B : Type 0} (s : Setting) (t : Interaction A) (k : A → Interaction B) → OnlyAsks s t → ((a : A) → OnlyAsks s (k a)) → OnlyAsks s (and_then t k)
 asks_then s (Ended a) k h g = g a

@@ -2,7 +2,8 @@
 use Rattle.std.proofs.Common.{◌≡◌, ℕ, ◌+◌, Bool, true, false, List, [], ◌∷◌, ◌++◌, refl, sym, ap, ◌∙◌, add_assoc, zero-add, if◌then◌else◌}
 use Rattle.bt_core.specs.Interaction.{Interaction, Ended, Asks, and_then}
 use Rattle.bt_core.proofs.InteractionLaws.{and_then_assoc, and_then-Ended}
-use Rattle.actor_plan.specs.Programs.{Outcome, after_count, goes_on, items_program, then_program}
+use Rattle.actor_plan.specs.declared.outcome.Outcome.{Outcome}
+use Rattle.actor_plan.specs.Programs.{after_count, goes_on, items_program, then_program}
 
 after_none : (o : Outcome) → after_count 0 o ≡ o
 after_none o = ap (λ n. record { to_end = o.to_end; instructions = n }) (zero-add o.instructions)

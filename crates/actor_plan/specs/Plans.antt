@@ -5,9 +5,10 @@ use Rattle.bt_ast.specs.declared.attached.Tick.{Tick}
 use Rattle.bt_core.specs.declared.context.Context.{Context}
 use Rattle.bt_core.specs.declared.map.MapDecl.{MapDecl}
 use Rattle.bt_core.specs.declared.step.Reply.{Reply}
-use Rattle.bt_core.specs.Interaction.{Interaction, Asks, Ended, Call}
+use Rattle.bt_core.specs.Interaction.{Interaction, Asks, Ended, Call, value_under}
 use Rattle.bt_core.specs.Ports.{Setting, CanStep, IsReplyOf}
 use Rattle.tracefs_format.specs.declared.format.Format.{Format}
+use Rattle.actor_plan.specs.declared.limits.TheConstants.{RUN_INSTRUCTIONS}
 
 -- The actor that runs the bodies, the number of actors, the script's maps by their numbers, the layout size of each body by its
 -- number, and what the run of a body asks at a context and a payload, which ends with the count of its instructions.
@@ -44,6 +45,10 @@ pub record HasBodies (plan : Plan) (formats : List Format) (attached : Attached)
   pub ticks : All (λ (t : Tick). IsBodyFor plan 0 t.body) attached.ticks
   pub begin : All (IsBodyFor plan 0) attached.begin
   pub finish : All (IsBodyFor plan 0) attached.end
+
+-- whatever is replied, no run of a body takes more instructions than the limit
+abbrev pub TakesFew : Plan → Type 0
+TakesFew plan = (body : ℕ) (context : Context) (payload : List ℕ) (replies : List Reply) (count : ℕ) → value_under (plan.run body context payload) replies ≡ Some count → count ≤ RUN_INSTRUCTIONS
 
 -- under replies of the kinds that the operations have, each operation that is asked is one that a port of this setting can make
 abbrev pub OnlyAsks : {A : Type 0} → Setting → Interaction A → Type 0

@@ -13,14 +13,10 @@ use Rattle.rec_format.specs.declared.recording.Event.{Event}
 use Rattle.rec_format.specs.declared.recording.Recording.{Recording}
 use Rattle.actor_plan.specs.declared.agenda.AgendaItem.{AgendaItem}
 use Rattle.actor_plan.specs.declared.agenda.AgendaItem.TheVariants as item
+use Rattle.actor_plan.specs.declared.outcome.Outcome.{Outcome}
 use Rattle.actor_plan.specs.Agendas.{agenda_of}
 use Rattle.actor_plan.specs.Contexts.{event_context, tick_context, begin_context, end_context}
 use Rattle.actor_plan.specs.Plans.{Plan}
-
--- how a program ended: whether the actor went on to its end, and how many instructions its bodies took
-pub record Outcome : Type 0 where
-  pub to_end : Bool
-  pub instructions : ℕ
 
 -- the runs of bodies, one after the other; the value is the sum of their counts
 abbrev pub in_turn : (ℕ → Interaction ℕ) → List ℕ → Interaction ℕ

@@ -3,5 +3,9 @@
 
 pub mod agenda;
 pub mod bodies;
+mod clock;
 pub mod context;
+mod in_turn;
 pub mod laws;
+pub mod limits;
+pub mod outcome;
