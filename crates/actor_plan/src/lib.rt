@@ -6,6 +6,7 @@ pub mod bodies;
 mod clock;
 pub mod context;
 mod in_turn;
+mod item;
 pub mod laws;
 pub mod limits;
 pub mod outcome;
