@@ -1,6 +1,6 @@
 -- What the agenda of a CPU has.
-use Rattle.std.proofs.Common.{◌≡◌, ℕ, zero, suc, ◌+◌, ◌-◌, ◌<◌, ◌≤◌, Bool, true, false, List, [], ◌∷◌, ◌++◌, drop, length, refl, sym, ap, ◌∙◌, subst, arith}
-use Rattle.std.specs.Prelude.{nat_lt, nat_le, slice_get, Some, None, Option, ◌&&◌, ⊤, if◌then◌else◌}
+use Rattle.std.proofs.Common.{◌≡◌, ℕ, zero, suc, ◌+◌, ◌<◌, ◌≤◌, Bool, true, false, List, [], ◌∷◌, ◌++◌, drop, length, refl, sym, ap, ◌∙◌, subst, arith}
+use Rattle.std.specs.Prelude.{nat_lt, nat_le, slice_get, Some, ⊤, if◌then◌else◌}
 use Rattle.std.specs.List.{AllByRecursion, filter_map, range_with_len}
 use Rattle.std.proofs.lemmas.Bool.Decides.{nat_tests}
 use Rattle.std.proofs.lemmas.List.Elements.{filter_map-append}
@@ -10,12 +10,10 @@ use Rattle.bt_ast.specs.declared.attached.Attached.{Attached}
 use Rattle.bt_ast.specs.declared.attached.Tick.{Tick}
 use Rattle.rec_format.specs.declared.recording.Event.{Event}
 use Rattle.rec_format.specs.declared.recording.Recording.{Recording}
-use Rattle.rec_format.specs.Entries.{AreInTime}
-use Rattle.rec_format.specs.Events.{events}
 use Rattle.rec_format.specs.Recordings.{IsValidRecording}
 use Rattle.actor_plan.specs.declared.agenda.AgendaItem.{AgendaItem}
 use Rattle.actor_plan.specs.declared.agenda.AgendaItem.TheVariants as item
-use Rattle.actor_plan.specs.Agendas.{AreInTurn, IsAgenda, IsBefore, IsNotBefore, StandsAt, agenda_of, events_of, events_where, is_between, items_from, tick_place, event_place}
+use Rattle.actor_plan.specs.Agendas.{AreInTurn, IsAgenda, IsNotBefore, StandsAt, agenda_of, events_of, events_where, is_between, items_from, tick_place, event_place}
 use Rattle.actor_plan.specs.Steps.{events_on, earlier, earlier_count, taken}
 use Rattle.actor_plan.proofs.AgendaLaws.{NoneBefore, none_before, taken_all, times_are}
 use Rattle.actor_plan.proofs.LoopLaws.{few_earlier}

@@ -1,6 +1,6 @@
 -- The list that the loops make is the agenda, where events and ticks stand in the order of their times.
-use Rattle.std.proofs.Common.{◌≡◌, ℕ, zero, suc, ◌+◌, ◌<◌, ◌≤◌, Bool, true, false, List, [], ◌∷◌, ◌++◌, drop, length, refl, sym, ap, ◌∙◌, subst, arith, get_or, lit≤, if◌then◌else◌, inl, inr}
-use Rattle.std.specs.Prelude.{nat_lt, nat_le, slice_get, Some, ◌&&◌, ◌^◌}
+use Rattle.std.proofs.Common.{◌≡◌, ℕ, suc, ◌+◌, ◌<◌, ◌≤◌, Bool, true, false, List, [], ◌∷◌, ◌++◌, drop, length, refl, sym, ap, ◌∙◌, subst, arith, get_or, lit≤, if◌then◌else◌, inl, inr}
+use Rattle.std.specs.Prelude.{nat_lt, nat_le, slice_get, Some, ◌^◌}
 use Rattle.std.proofs.lemmas.Bool.{cases_lt}
 use Rattle.std.proofs.lemmas.Bool.Decides.{nat_tests}
 use Rattle.std.proofs.lemmas.Option.{slice_get-get_or}
@@ -15,7 +15,6 @@ use Rattle.rec_format.specs.Entries.{AreInTime}
 use Rattle.rec_format.specs.Events.{events}
 use Rattle.rec_format.specs.Recordings.{IsValidRecording}
 use Rattle.rec_format.proofs.PlaceLaws.{track_at}
-use Rattle.actor_plan.specs.declared.agenda.AgendaItem.{AgendaItem}
 use Rattle.actor_plan.specs.declared.agenda.AgendaItem.TheVariants as item
 use Rattle.actor_plan.specs.Agendas.{AreInTurn, events_of, events_on_track, events_where, is_between, items_from, agenda_of}
 use Rattle.actor_plan.specs.Steps.{events_on, earlier, earlier_count, taken}

@@ -1,6 +1,6 @@
 -- Programs ask only what ports can do.
 use Rattle.std.proofs.Common.{◌≡◌, ℕ, ◌+◌, ◌<◌, ◌≤◌, Bool, true, false, List, [], ◌∷◌, length, refl, sym, ap, ◌∙◌, subst, arith, if◌then◌else◌}
-use Rattle.std.specs.Prelude.{nat_lt, slice_get, slice_index, slice_index_or, Option, Some, None, All, option_and_then}
+use Rattle.std.specs.Prelude.{nat_lt, slice_get, slice_index_or, Option, Some, None, option_and_then}
 use Rattle.std.specs.List.{AllByRecursion}
 use Rattle.std.proofs.lemmas.Option.{slice_get_within}
 use Rattle.std.proofs.lemmas.List.Elements.{recursion_from_All}
@@ -12,7 +12,7 @@ use Rattle.bt_core.specs.Ports.{Setting}
 use Rattle.rec_format.specs.declared.recording.CpuTrack.{CpuTrack}
 use Rattle.rec_format.specs.declared.recording.Event.{Event}
 use Rattle.rec_format.specs.declared.recording.Recording.{Recording}
-use Rattle.rec_format.specs.Places.{event_at_place, HasFormat}
+use Rattle.rec_format.specs.Places.{event_at_place}
 use Rattle.rec_format.specs.Recordings.{IsValidRecording}
 use Rattle.rec_format.proofs.ForOthers.{recorded_format}
 use Rattle.tracefs_format.proofs.ForOthers.{all_at}

@@ -1,5 +1,5 @@
 -- The runs of bodies, one after the other.
-use Rattle.std.proofs.Common.{◌≡◌, ℕ, ◌+◌, ◌*◌, ◌<◌, ◌≤◌, List, [], ◌∷◌, drop, length, get_or, map, refl, sym, ap, ◌∙◌, arith, subst, add_assoc, zero-add, add-zero}
+use Rattle.std.proofs.Common.{◌≡◌, ℕ, ◌+◌, ◌<◌, ◌≤◌, List, ◌∷◌, drop, length, get_or, map, sym, ap, ◌∙◌, subst, add_assoc, zero-add, add-zero}
 use Rattle.std.specs.Prelude.{All}
 use Rattle.std.proofs.lemmas.List.{at_drop_more, at_drop_all}
 use Rattle.bt_core.specs.declared.context.Context.{Context}
@@ -7,7 +7,7 @@ use Rattle.bt_core.specs.declared.step.Step.{Step}
 use Rattle.bt_core.specs.Interaction.{Interaction, and_then, Ended, Left, Whole, Part}
 use Rattle.bt_core.proofs.InteractionLaws.{Left-here, Left-and_then, Left-is, Left-Part, Left-Whole, Part-and_then, Whole-Ended, and_then_assoc, and_then-Ended, value_under-Runs}
 use Rattle.actor_plan.specs.declared.limits.TheConstants.{RUN_INSTRUCTIONS}
-use Rattle.actor_plan.specs.Plans.{Plan, CanRun, IsBodyFor, ServesPlan, TakesFew}
+use Rattle.actor_plan.specs.Plans.{Plan, CanRun, IsBodyFor, TakesFew}
 use Rattle.actor_plan.specs.Programs.{in_turn}
 
 -- a body that may be run at this context and payload

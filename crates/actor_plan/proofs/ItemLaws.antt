@@ -1,6 +1,6 @@
 -- The items of an agenda: which bodies are run at them.
-use Rattle.std.proofs.Common.{◌≡◌, ℕ, ◌*◌, ◌<◌, ◌≤◌, List, [], length, get_or, refl, sym, ap, ◌∙◌, arith, subst, lit≤, Ok, Err, IfOk, Result}
-use Rattle.std.specs.Prelude.{All, Some, None, Option, slice_get, slice_index_or, unwrap_or}
+use Rattle.std.proofs.Common.{◌≡◌, ℕ, ◌*◌, ◌≤◌, List, [], length, refl, sym, ap, ◌∙◌, arith, subst, lit≤, Ok, Err, IfOk, Result}
+use Rattle.std.specs.Prelude.{All, Some, None, slice_get, slice_index_or, unwrap_or}
 use Rattle.std.proofs.lemmas.Option.{slice_get_within, get_or_from_slice_get, unwrap_or-slice_get}
 use Rattle.bt_ast.specs.declared.attached.Attached.{Attached}
 use Rattle.bt_ast.specs.declared.attached.Tick.{Tick}
@@ -16,8 +16,7 @@ use Rattle.rec_format.specs.declared.recording.Recording.{Recording}
 use Rattle.rec_format.specs.Places.{HasFormat}
 use Rattle.actor_plan.specs.declared.limits.TheConstants.{RUN_INSTRUCTIONS}
 use Rattle.actor_plan.specs.Contexts.{tick_context}
-use Rattle.actor_plan.specs.Plans.{Plan, CanRun, IsBodyFor, TakesFew}
-use Rattle.actor_plan.specs.Programs.{event_work}
+use Rattle.actor_plan.specs.Plans.{Plan, CanRun, IsBodyFor}
 use Rattle.actor_plan.specs.Ready.{IsReady}
 use Rattle.actor_plan.proofs.InTurnLaws.{takes_few}
 

@@ -1,13 +1,13 @@
 -- Only one list is an agenda of these ticks and events.
-use Rattle.std.proofs.Common.{◌≡◌, ℕ, zero, suc, ◌+◌, ◌<◌, ◌≤◌, List, [], ◌∷◌, ◌++◌, length, refl, sym, ap, ◌∙◌, subst, arith, get_or}
-use Rattle.std.specs.Prelude.{slice_get, Some, None, Option, ⊤}
+use Rattle.std.proofs.Common.{◌≡◌, ℕ, zero, suc, ◌+◌, ◌<◌, ◌≤◌, List, [], ◌∷◌, ◌++◌, length, refl, ap, ◌∙◌, subst, arith, get_or}
+use Rattle.std.specs.Prelude.{slice_get, Some}
 use Rattle.std.specs.List.{AllByRecursion, filter_map, range_with_len}
-use Rattle.std.proofs.lemmas.Option.{slice_get-get_or, same_Some}
+use Rattle.std.proofs.lemmas.Option.{slice_get-get_or}
 use Rattle.bt_ast.specs.declared.attached.Tick.{Tick}
 use Rattle.rec_format.specs.declared.recording.Event.{Event}
 use Rattle.actor_plan.specs.declared.agenda.AgendaItem.{AgendaItem}
 use Rattle.actor_plan.specs.declared.agenda.AgendaItem.TheVariants as item
-use Rattle.actor_plan.specs.Agendas.{tick_place, event_place, IsBefore, IsNotBefore, StandsAt, IsAgenda}
+use Rattle.actor_plan.specs.Agendas.{tick_place, event_place, IsNotBefore, StandsAt, IsAgenda}
 
 -- where the first tick of a list stands
 record FirstTick (place : ℕ) (items : List AgendaItem) : Type 0 where

@@ -1,11 +1,11 @@
 -- The program of some items and then others.
 use Rattle.std.proofs.Common.{◌≡◌, ℕ, ◌+◌, Bool, true, false, List, [], ◌∷◌, ◌++◌, refl, sym, ap, ◌∙◌, add_assoc, zero-add, if◌then◌else◌}
-use Rattle.bt_core.specs.Interaction.{Interaction, Ended, Asks, and_then}
+use Rattle.bt_core.specs.Interaction.{Interaction, Ended, and_then}
 use Rattle.bt_core.proofs.InteractionLaws.{and_then_assoc, and_then-Ended}
 use Rattle.actor_plan.specs.declared.outcome.Outcome.{Outcome}
 use Rattle.actor_plan.specs.Programs.{after_count, goes_on, items_program, then_program}
 
-after_none : (o : Outcome) → after_count 0 o ≡ o
+pub after_none : (o : Outcome) → after_count 0 o ≡ o
 after_none o = ap (λ n. record { to_end = o.to_end; instructions = n }) (zero-add o.instructions)
 
 after_both : (m n : ℕ) (o : Outcome) → after_count (m + n) o ≡ after_count m (after_count n o)
@@ -17,7 +17,7 @@ then_counted_by rest n m true =
     ap (and_then rest) (λ i q. Ended (after_both n m q i)) ∙ sym (and_then_assoc rest (λ q. Ended (after_count m q)) (λ q. Ended (after_count n q)))
 then_counted_by rest n m false = refl
 
-then_counted : (rest : Interaction Outcome) (n : ℕ) (o : Outcome) → then_program rest (after_count n o) ≡ and_then (then_program rest o) (λ q. Ended (after_count n q))
+pub then_counted : (rest : Interaction Outcome) (n : ℕ) (o : Outcome) → then_program rest (after_count n o) ≡ and_then (then_program rest o) (λ q. Ended (after_count n q))
 then_counted rest n o = then_counted_by rest n o.instructions o.to_end
 
 module _ {I : Type 0} (checks : Bool) (work : I → Interaction ℕ) where

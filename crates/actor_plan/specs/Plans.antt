@@ -5,7 +5,7 @@ use Rattle.bt_ast.specs.declared.attached.Tick.{Tick}
 use Rattle.bt_core.specs.declared.context.Context.{Context}
 use Rattle.bt_core.specs.declared.map.MapDecl.{MapDecl}
 use Rattle.bt_core.specs.declared.step.Reply.{Reply}
-use Rattle.bt_core.specs.Interaction.{Interaction, Asks, Ended, Call, value_under}
+use Rattle.bt_core.specs.Interaction.{Interaction, Asks, Ended, value_under}
 use Rattle.bt_core.specs.Ports.{Setting, CanStep, IsReplyOf}
 use Rattle.tracefs_format.specs.declared.format.Format.{Format}
 use Rattle.actor_plan.specs.declared.limits.TheConstants.{RUN_INSTRUCTIONS}

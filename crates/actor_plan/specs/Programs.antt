@@ -1,6 +1,6 @@
 -- What each actor of a run does, over what is told of the bodies.
-use Rattle.std.specs.Prelude.{◌≡◌, ℕ, ◌+◌, ◌<◌, nat_lt, Bool, true, false, not, if◌then◌else◌}
-use Rattle.std.specs.Prelude.{List, [], ◌∷◌, length, slice_get, slice_index, slice_index_or, Contains, Option, Some, None}
+use Rattle.std.specs.Prelude.{ℕ, ◌+◌, nat_lt, Bool, true, false, not, if◌then◌else◌}
+use Rattle.std.specs.Prelude.{List, [], ◌∷◌, length, slice_get, slice_index_or, Option, Some, None}
 use Rattle.bt_ast.specs.declared.attached.Attached.{Attached}
 use Rattle.bt_ast.specs.declared.attached.Tick.{Tick}
 use Rattle.bt_core.specs.declared.step.ObjectId.TheVariants.{Clock}

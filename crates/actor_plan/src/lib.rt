@@ -10,3 +10,4 @@ mod item;
 pub mod laws;
 pub mod limits;
 pub mod outcome;
+pub mod program;

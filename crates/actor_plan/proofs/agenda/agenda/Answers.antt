@@ -3,7 +3,7 @@ use Rattle.rec_format.specs.declared.recording.CpuTrack.{CpuTrack}
 use Rattle.actor_plan.specs.declared.agenda.AgendaItem.{AgendaItem}
 use Rattle.actor_plan.specs.Agendas.{agenda_of}
 use Rattle.actor_plan.specs.Steps.{taken}
-use Rattle.actor_plan.proofs.AgendaLaws.{agenda_is, few_events}
+use Rattle.actor_plan.proofs.AgendaLaws.{agenda_is}
 use Rattle.actor_plan.proofs.agenda.agenda.Goals as goal
 
 pub returns : goal.returns

@@ -1,4 +1,4 @@
-use Rattle.std.proofs.Common.{◌≡◌, ◌∙◌, get_or}
+use Rattle.std.proofs.Common.{◌∙◌, get_or}
 use Rattle.bt_ast.specs.declared.attached.Tick.{Tick}
 use Rattle.actor_plan.proofs.LoopLaws.{one_tick, next_within}
 use Rattle.actor_plan.proofs.agenda.items_of.Goals as goal

@@ -1,9 +1,6 @@
-use Rattle.std.proofs.Common.{rules, ◌≡◌, ℕ, ◌+◌, ◌*◌, ◌<◌, ◌≤◌, length, get_or, refl, ap, ◌∙◌, arith, lit≤, Fits}
+use Rattle.std.proofs.Common.{◌≡◌, ℕ, ◌<◌, ◌≤◌, length, get_or, refl, ◌∙◌, arith}
 use Rattle.std.proofs.lemmas.Result.{err_from_is_err_and}
-use Rattle.bt_core.specs.declared.limits.TheConstants.{BODIES}
 use Rattle.bt_core.specs.Interaction.{Interaction}
-use Rattle.actor_plan.specs.declared.limits.TheConstants.{RUN_INSTRUCTIONS}
-use Rattle.actor_plan.specs.Plans.{Plan}
 use Rattle.actor_plan.proofs.InTurnLaws.{takes_few, none_yet, one_body, body_stops, all_done}
 use Rattle.actor_plan.proofs.in_turn.run_in_turn.Goals as goal
 

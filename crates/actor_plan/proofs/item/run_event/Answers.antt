@@ -1,18 +1,18 @@
-use Rattle.std.proofs.Common.{◌≡◌, ℕ, ◌≤◌, List, [], length, ap, ◌∙◌, refl, sym, subst}
+use Rattle.std.proofs.Common.{◌≡◌, ℕ, ◌≤◌, List, [], length, ◌∙◌, refl, sym, subst}
 use Rattle.std.specs.Prelude.{All, slice_index_or}
 use Rattle.bt_core.specs.Interaction.{Interaction, Whole, Performed}
 use Rattle.bt_core.proofs.InteractionLaws.{Whole-Ended}
 use Rattle.bt_core.specs.declared.limits.TheConstants.{BODIES}
 use Rattle.actor_plan.specs.Plans.{IsBodyFor}
 use Rattle.actor_plan.specs.Contexts.{event_context}
-use Rattle.actor_plan.specs.Programs.{in_turn, event_work}
+use Rattle.actor_plan.specs.Programs.{in_turn}
 use Rattle.actor_plan.proofs.ItemLaws.{known_at, few_at, listed, unlisted}
 use Rattle.actor_plan.proofs.item.run_event.Goals as goal
 
 pub run_in_turn-requires-clause-known : goal.run_in_turn-requires-clause-known
 run_in_turn-requires-clause-known g c =
     let here = known_at (g.B.Bodies.plan c.args.bodies.now) c.args.recording.now c.args.attached.now (g.P.Port.fixed c.args.port.now).setting c.requires.ready c.args.event.now c.in-Some.which.now
-      c.as_slice-in-Some.result.now c.requires.recorded c.in-Some.ensures c.as_slice-in-Some.ensures in
+    c.as_slice-in-Some.result.now c.requires.recorded c.in-Some.ensures c.as_slice-in-Some.ensures in
     subst (λ (l : List ℕ). All (IsBodyFor (g.B.Bodies.plan c.args.bodies.now) (length c.as_slice-in-Some.result.now)) l) (sym c.as_slice.ensures) here
 
 pub run_in_turn-requires-clause-few_bodies : goal.run_in_turn-requires-clause-few_bodies
