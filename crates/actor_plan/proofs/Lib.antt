@@ -1,0 +1,10 @@
+pub mod AgendaFacts
+pub mod AgendaLaws
+pub mod AskLaws
+pub mod CpuLaws
+pub mod InTurnLaws
+pub mod ItemLaws
+pub mod LoopLaws
+pub mod OnlyAgenda
+pub mod ProgramLaws
+pub mod TakingLaws

@@ -1,0 +1,14 @@
+use Rattle.std.proofs.Common.{◌≡◌, ◌+◌, ◌-◌, ◌≤◌, ◌++◌, drop, length}
+use Rattle.actor_plan.specs.Steps.{earlier, earlier_count}
+use Rattle.actor_plan.proofs.agenda.push_earlier.Given as goal
+
+-- what there is, with what is to come, is the whole
+abbrev pub invariant-loop-place : goal.invariant-loop-place
+invariant-loop-place l = record {
+  items : l.items ++ earlier l.time l.place (drop l.place l.events) ≡ l.fn.items ++ earlier l.time l.from (drop l.from l.events);
+  count : l.place + earlier_count l.time (drop l.place l.events) ≡ l.from + earlier_count l.time (drop l.from l.events);
+  within : l.place ≤ length l.events;
+}
+
+abbrev pub decreases-loop-place : goal.decreases-loop-place
+decreases-loop-place l = length l.events - l.place

@@ -1,0 +1,13 @@
+use Rattle.std.proofs.Common.{sym, ap, ◌∙◌}
+use Rattle.bt_core.specs.declared.step.ObjectId.TheVariants.{Clock}
+use Rattle.bt_core.specs.declared.step.Op.TheVariants.{Cross}
+use Rattle.bt_core.specs.Interaction.{last_reply}
+use Rattle.bt_core.proofs.InteractionLaws.{Whole-ask, Whole-value}
+use Rattle.actor_plan.specs.Programs.{crosses_last, tells_last}
+use Rattle.actor_plan.proofs.clock.crosses_last.Goals as goal
+
+pub returns-clause-performed : goal.returns-clause-performed
+returns-clause-performed g c = let old = g.P.Port.steps c.args.port.now in let new = g.P.Port.steps c.step.new.self in
+    Whole-value (crosses_last c.args.tick) old new (tells_last (last_reply new)) c.is_last.result
+    (Whole-ask tells_last old new (g.P.Port.fixed c.args.port.now).setting.actor Clock (Cross c.args.tick) c.in_ok-step.ensures.made)
+    (sym (c.is_last.ensures ∙ ap tells_last c.last.ensures))
