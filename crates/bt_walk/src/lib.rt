@@ -1,0 +1,9 @@
+//! What a body does: the operations that it makes and how its run ends, and its walk through a port.
+#![tactic(auto)]
+
+pub mod access;
+pub mod ending;
+pub mod flow;
+pub mod sweep;
+pub mod value;
+pub mod view;
