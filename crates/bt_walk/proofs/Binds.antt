@@ -1,5 +1,6 @@
 -- What was done of one thing after another.
-use Rattle.std.proofs.Common.{◌≡◌, ℕ, List, refl, sym, ap, ◌∙◌, subst, Bool, true, false, Ok, Err, Result}
+use Rattle.std.proofs.Common.{◌≡◌, ℕ, ℤ, List, refl, sym, ap, ◌∙◌, subst, Bool, true, false, Ok, Err, Result, SFits, to_z, of_z, w64}
+use Rattle.std.proofs.lemmas.Int.{to_z-of_z}
 use Rattle.bt_core.specs.declared.memory.Memory.{Memory}
 use Rattle.bt_core.specs.declared.step.ObjectId.{ObjectId}
 use Rattle.bt_core.specs.declared.step.Op.{Op}
@@ -57,3 +58,40 @@ Told-done object op old new actor u m scene frame = Whole-next _ _ _ _ _ _ _ _ (
 
 pub Get-done : (m : MapId) (key : List Value) (value : Value) (old new : List Step) (actor : ℕ) → MakesStep old new actor (part m key) (ops.Get key) → value ≡ value_of (last_reply new) → (scene : Scene) (frame : Frame) → Whole (get m key scene frame) old new (value, frame)
 Get-done m key value old new actor s e scene frame = Whole-next _ _ _ _ _ _ _ _ (Asked-done (part m key) (ops.Get key) scene frame old new actor s) _ _ (Given-done _ _ _ _ _ _ (sym e) refl)
+
+pub Number-done : (a x : ℤ) (scene : Scene) (frame : Frame) (s : List Step) → SFits w64 x → a ≡ x → Whole (given a scene frame) s s (to_z w64 (of_z w64 x), frame)
+Number-done a x scene frame s f e = Given-done _ _ _ _ _ _ (e ∙ sym (to_z-of_z w64 x f)) refl
+
+pub Number-seen : (look : Scene → Frame → ℤ) (x : ℤ) (scene : Scene) (frame : Frame) (s : List Step) → SFits w64 x → look scene frame ≡ x → Whole (seen look scene frame) s s (to_z w64 (of_z w64 x), frame)
+Number-seen look x scene frame s f e = Seen-done _ _ _ _ _ (e ∙ sym (to_z-of_z w64 x f))
+
+module _ {A : Type 0} (b : Bool) (one other : Does A) (scene : Scene) (frame : Frame) (s t : List Step) where
+  pub Whole-yes : (w : A × Frame) → b ≡ true → Whole (one scene frame) s t w → Whole (choose b one other scene frame) s t w
+  unfolding choose
+  Whole-yes w e p = subst (λ x. Whole (choose x one other scene frame) s t w) (sym e) p
+
+  pub Whole-no : (w : A × Frame) → b ≡ false → Whole (other scene frame) s t w → Whole (choose b one other scene frame) s t w
+  unfolding choose
+  Whole-no w e p = subst (λ x. Whole (choose x one other scene frame) s t w) (sym e) p
+
+  pub Part-yes : b ≡ true → Part (one scene frame) s t → Part (choose b one other scene frame) s t
+  unfolding choose
+  Part-yes e p = subst (λ x. Part (choose x one other scene frame) s t) (sym e) p
+
+  pub Part-no : b ≡ false → Part (other scene frame) s t → Part (choose b one other scene frame) s t
+  unfolding choose
+  Part-no e p = subst (λ x. Part (choose x one other scene frame) s t) (sym e) p
+
+  pub Walked-yes : (r : Result A Memory) (after : Frame) → b ≡ true → Walked one scene frame s t r after → Walked (choose b one other) scene frame s t r after
+  unfolding choose
+  Walked-yes r after e p = subst (λ x. Walked (choose x one other) scene frame s t r after) (sym e) p
+
+  pub Walked-no : (r : Result A Memory) (after : Frame) → b ≡ false → Walked other scene frame s t r after → Walked (choose b one other) scene frame s t r after
+  unfolding choose
+  Walked-no r after e p = subst (λ x. Walked (choose x one other) scene frame s t r after) (sym e) p
+
+-- one thing more was done of what is left
+pub Left-next : {A B : Type 0} (whole : Interaction (B × Frame)) (d : Does A) (k : A → Does B) (scene : Scene) (frame after : Frame) (old mid new : List Step) (a : A) →
+    Left whole old mid (bind d k scene frame) → Whole (d scene frame) mid new (a, after) → Left whole old new (k a scene after)
+unfolding bind
+Left-next whole d k scene frame after old mid new a p q = Left-and_then whole (d scene frame) (λ p. k p.0 scene p.1) old mid new (a, after) p q

@@ -87,6 +87,13 @@ step_at m key plus prefix =
 abbrev pub step_map : MapId → List (Does Value) → Bool → Bool → Does ℤ
 step_map m keys plus prefix = bind (in_order keys) (λ key. step_at m key plus prefix)
 
+-- a number or a string as a value
+abbrev pub number_value : Does ℤ → Does Value
+number_value d = bind d (λ n. given (Int n))
+
+abbrev pub text_value : Does (List ℕ) → Does Value
+text_value d = bind d (λ s. given (Str s))
+
 -- each kind of expression, by what its parts do
 abbrev pub num_layer : NumExpr-F (Does Value) (Does ℤ) (Does (List ℕ)) → Does ℤ
 num_layer (NumExpr-F.Number n) = given n
@@ -112,8 +119,8 @@ str_layer (StrExpr-F.StrExpr::Map m keys) = read_text m keys
 str_layer (StrExpr-F.StrExpr::Choose test one other) = either test one other
 
 abbrev pub any_layer : AnyExpr-F (Does Value) (Does ℤ) (Does (List ℕ)) → Does Value
-any_layer (AnyExpr-F.Num number) = bind number (λ n. given (Int n))
-any_layer (AnyExpr-F.Str text) = bind text (λ s. given (Str s))
+any_layer (AnyExpr-F.Num number) = number_value number
+any_layer (AnyExpr-F.Str text) = text_value text
 
 -- what an expression does, one that is a whole number, and one that is a string
 abbrev pub value_does : AnyExpr → Does Value

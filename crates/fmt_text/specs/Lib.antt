@@ -1,3 +1,5 @@
 pub mod Arguments
+pub mod Columns
 pub mod Formats
 pub mod Reading
+pub mod Rendered

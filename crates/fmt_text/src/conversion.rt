@@ -97,7 +97,8 @@ fn is_letter(byte: u8) -> bool
     matches!(byte, b'd' | b'i' | b'u' | b'x' | b'X' | b's' | b'c')
 }
 
-fn is_text_letter(byte: u8) -> bool
+/// Whether a letter is that of a text, which is not filled with zeros.
+pub(crate) fn is_text_letter(byte: u8) -> bool
     ensures { result ≡ is_text_letter byte }
 {
     matches!(byte, b's' | b'c')

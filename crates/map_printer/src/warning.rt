@@ -1,9 +1,11 @@
-// The warnings of lost updates.
-ghost use Rattle.std.specs.Prelude.{◌≡◌, ◌++◌, OnOk, codes, decimal};
+// The warnings of lost updates and of a cut loop.
+ghost use Rattle.std.specs.Prelude.{◌≡◌, ◌++◌, IfOk, OnOk, codes, decimal};
 ghost use Rattle.map_printer.specs.Ends.{lost_text, warning_text};
+ghost use Rattle.map_printer.specs.ItemTexts.{cut_text};
 
 use bt_core::memory::Memory;
 use itoa::Buffer;
+use std::alloc::Global;
 
 /// Writes the beginning of a warning, with the number of lost updates.
 fn write_number_lost(out: &mut Vec<u8>, lost: u64) -> Result<(), Memory>
@@ -42,4 +44,19 @@ pub fn write_lost(out: &mut Vec<u8>, name: &[u8], lost: u64) -> Result<(), Memor
         write_warning(out, name, lost)?;
     }
     Ok(())
+}
+
+/// The warning that a run was cut at the loop on this line.
+///
+/// # Errors
+///
+/// [`Memory`] may come at any line.
+pub fn print_cut(alloc: Global, line: u32) -> Result<Vec<u8>, Memory>
+    ensures { IfOk result (λ text. text.items ≡ cut_text line) }
+{
+    let mut text = Vec::new(alloc);
+    text.extend_from_slice(b"WARNING: loop limit reached at line ")?;
+    text.extend_from_slice(Buffer::new().format(line).as_bytes())?;
+    text.push(b'\n')?;
+    Ok(text)
 }

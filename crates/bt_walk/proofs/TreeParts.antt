@@ -1,0 +1,49 @@
+-- What fits of a tree, from the fit of the whole: the parts that name a field, a map or an operator's own.
+use Rattle.std.proofs.Common.{◌≡◌, ◌++◌, ℕ, zero, suc, ◌<◌, length, arith, List, [], ◌∷◌, map, Bool, true, sym, ap, ◌∙◌, subst}
+use Rattle.std.specs.Prelude.{IsTrue, ◌&&◌, get_or}
+use Rattle.std.specs.List.{list_all}
+use Rattle.std.proofs.lemmas.Bool.{and_parts}
+use Rattle.std.proofs.lemmas.List.Folds.{list_all-append}
+use Rattle.bt_core.specs.declared.map.MapId.{MapId}
+use Rattle.bt_core.specs.declared.map.MapKind.TheVariants.{Ints}
+use Rattle.bt_core.specs.declared.map.Shape.TheVariants.{Int, Str}
+use Rattle.tracefs_format.specs.declared.field.Field.{Field}
+use Rattle.typed_tree.specs.declared.expr.AnyExpr.{AnyExpr}
+use Rattle.typed_tree.specs.declared.expr.AnyExpr.TheOpen.{NumExpr-F, StrExpr-F, AnyExpr-F}
+use Rattle.typed_tree.specs.declared.expr.NumExpr.{NumExpr, fold-roll-NumExpr}
+use Rattle.typed_tree.specs.declared.expr.NumExpr.TheVariants as nums
+use Rattle.typed_tree.specs.declared.expr.StrExpr.{StrExpr, fold-roll-StrExpr}
+use Rattle.typed_tree.specs.declared.expr.StrExpr.TheVariants as strs
+use Rattle.typed_tree.specs.Parts.{Part, Made, made_of, any_layer, num_layer, str_layer, num_parts, str_parts, parts_in, key_shapes, keyed_parts, FieldOf, MapOf, Stepped}
+use Rattle.typed_tree.specs.Scope.{fits, all_fit, is_declared, decl_of}
+use Rattle.bt_walk.specs.declared.view.View.{View}
+use Rattle.bt_walk.specs.Walked.{Fits, scope_in, all_made}
+
+pub num_field_parts : (v : View) (e : NumExpr) (f : Field) → e ≡ nums.Field f → Fits v (num_parts e) → fits (scope_in v) (FieldOf f Int) ≡ true
+num_field_parts v e f h fit =
+    let is : num_parts e ≡ FieldOf f Int ∷ [] = ap num_parts h ∙ (ap num_parts (sym (nums.rolls-Field f)) ∙ fold-roll-NumExpr Made (List Part) (List Part) any_layer num_layer str_layer (NumExpr-F.NumExpr::Field f)) in
+    (and_parts (fits (scope_in v) (FieldOf f Int)) true (subst (λ (l : List Part). all_fit (scope_in v) l ≡ true) is fit)).0
+
+pub str_field_parts : (v : View) (e : StrExpr) (f : Field) → e ≡ strs.Field f → Fits v (str_parts e) → fits (scope_in v) (FieldOf f Str) ≡ true
+str_field_parts v e f h fit =
+    let is : str_parts e ≡ FieldOf f Str ∷ [] = ap str_parts h ∙ (ap str_parts (sym (strs.rolls-Field f)) ∙ fold-roll-StrExpr Made (List Part) (List Part) any_layer num_layer str_layer (StrExpr-F.StrExpr::Field f)) in
+    (and_parts (fits (scope_in v) (FieldOf f Str)) true (subst (λ (l : List Part). all_fit (scope_in v) l ≡ true) is fit)).0
+
+pub step_map_parts : (v : View) (e : NumExpr) (m : MapId) (keys : List AnyExpr) (plus prefix : Bool) → e ≡ nums.StepMap m keys plus prefix → Fits v (num_parts e) →
+    IsTrue (is_declared (decl_of m.0 v.body.now.maps) Ints (key_shapes (all_made keys)))
+step_map_parts v e m keys plus prefix h fit =
+    let is : num_parts e ≡ Stepped plus prefix ∷ keyed_parts m.0 (all_made keys) Int =
+        ap num_parts h ∙ (ap num_parts (sym (nums.rolls-StepMap m keys plus prefix)) ∙ fold-roll-NumExpr Made (List Part) (List Part) any_layer num_layer str_layer (NumExpr-F.StepMap m keys plus prefix)) in
+    (and_parts (fits (scope_in v) (MapOf m.0 (key_shapes (all_made keys)) Int)) (all_fit (scope_in v) (parts_in (all_made keys))) (subst (λ (l : List Part). all_fit (scope_in v) l ≡ true) is fit)).0
+
+-- an expression of several
+pub one_fits : (v : View) (es : List AnyExpr) (n : ℕ) (e : AnyExpr) → n < length es → e ≡ get_or es n e → Fits v (parts_in (all_made es)) → Fits v (made_of e).parts
+one_fits v [] n e h i fit = absurd (omega (arith, h))
+one_fits v (x ∷ xs) zero e h i fit =
+    let both : list_all (fits (scope_in v)) ((made_of x).parts ++ parts_in (all_made xs)) ≡ true = fit in
+    let p = and_parts (all_fit (scope_in v) (made_of x).parts) (all_fit (scope_in v) (parts_in (all_made xs))) (sym (list_all-append (fits (scope_in v)) (made_of x).parts (parts_in (all_made xs))) ∙ both) in
+    subst (λ (y : AnyExpr). Fits v (made_of y).parts) (sym i) p.0
+one_fits v (x ∷ xs) (suc n) e h i fit =
+    let both : list_all (fits (scope_in v)) ((made_of x).parts ++ parts_in (all_made xs)) ≡ true = fit in
+    let p = and_parts (all_fit (scope_in v) (made_of x).parts) (all_fit (scope_in v) (parts_in (all_made xs))) (sym (list_all-append (fits (scope_in v)) (made_of x).parts (parts_in (all_made xs))) ∙ both) in
+    one_fits v xs n e (omega (arith, h)) i p.1
