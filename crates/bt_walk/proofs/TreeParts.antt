@@ -1,5 +1,6 @@
 -- What fits of a tree, from the fit of the whole: the parts that name a field, a map or an operator's own.
-use Rattle.std.proofs.Common.{◌≡◌, ◌++◌, ℕ, zero, suc, ◌<◌, length, arith, List, [], ◌∷◌, map, Bool, true, sym, ap, ◌∙◌, subst}
+use Rattle.std.proofs.Common.{◌≡◌, ◌++◌, ℕ, zero, suc, ◌<◌, ◌≤◌, length, arith, List, [], ◌∷◌, map, Bool, true, sym, ap, ◌∙◌, subst}
+use denote.Param.Weighed.{most}
 use Rattle.std.specs.Prelude.{IsTrue, ◌&&◌, get_or}
 use Rattle.std.specs.List.{list_all}
 use Rattle.std.proofs.lemmas.Bool.{and_parts}
@@ -47,3 +48,9 @@ one_fits v (x ∷ xs) (suc n) e h i fit =
     let both : list_all (fits (scope_in v)) ((made_of x).parts ++ parts_in (all_made xs)) ≡ true = fit in
     let p = and_parts (all_fit (scope_in v) (made_of x).parts) (all_fit (scope_in v) (parts_in (all_made xs))) (sym (list_all-append (fits (scope_in v)) (made_of x).parts (parts_in (all_made xs))) ∙ both) in
     one_fits v xs n e (omega (arith, h)) i p.1
+
+-- an expression of several is no larger than the largest
+pub one_size : {A : Type 0} (size : A → ℕ) (xs : List A) (n : ℕ) (x : A) → n < length xs → x ≡ get_or xs n x → size x ≤ most size xs
+one_size size [] n x h i = absurd (omega (arith, h))
+one_size size (y ∷ ys) zero x h i = let e : size x ≡ size y = ap size i in omega (arith, e)
+one_size size (y ∷ ys) (suc n) x h i = let below : size x ≤ most size ys = one_size size ys n x (omega (arith, h)) i in omega (arith, below)

@@ -1,4 +1,3 @@
-pub mod Merged
 pub mod Does
 pub mod Maps
 pub mod Exprs

@@ -17,7 +17,9 @@ use Rattle.bt_walk.specs.Maps.{number_of, text_of}
 use Rattle.bt_walk.specs.Walked.{Fits, IsServed, scope_in, scene_in, all_made}
 use Rattle.bt_walk.proofs.Binds.{Part-first, Part-next, Whole-next, Walked-next, Given-done, Seen-done, Changed-done, Number-done, Number-seen, Whole-yes, Whole-no, Part-yes, Part-no, Walked-yes, Walked-no}
 use Rattle.bt_walk.proofs.Declared.{shared, valued, few_values, keyed, held, field_inside, part_below}
-use Rattle.bt_walk.proofs.TreeParts.{num_field_parts, str_field_parts, step_map_parts, one_fits}
+use Rattle.bt_walk.proofs.TreeParts.{num_field_parts, str_field_parts, step_map_parts, one_fits, one_size}
+use Rattle.typed_tree.proofs.expr.AnyExpr.TheLaws.{the_size}
+use denote.Param.Weighed.{most}
 use Rattle.bt_walk.proofs.Gathers.{gathers-start, gathers-stop, gathers-next, gathers-drop, gathers-end, shapes-next, shapes-end}
 use Rattle.bt_walk.proofs.ExprDoes as does
 use Rattle.bt_walk.proofs.value.+value.Goals as goal
@@ -302,7 +304,8 @@ pub values-value-requires : goal.values-value-requires
 values-value-requires g t c =
     let fit : Fits c.args.view.now (made_of c.key-item.result).parts = one_fits c.args.view.now c.args.keys.now c.loop-key.key-index c.key-item.result c.loop-key-test.true c.key-item.is c.requires.fits in
     let same : IsServed c.args.view.now (g.P.Port.fixed c.loop-key.port).setting = rw c.loop-key.invariant.kept c.requires.served in
-    λ κs h. (search rules, (h.0, (h.1, (same, fit))))
+    let below : the_size c.key-item.result ≤ most the_size c.args.keys.now = one_size the_size c.args.keys.now c.loop-key.key-index c.key-item.result c.loop-key-test.true c.key-item.is in
+    λ κs h. (omega (arith, below, c.decreases), (h.0, (h.1, (same, fit))))
 
 pub values-returns-in_err-part-clause-walked : goal.values-returns-in_err-part-clause-walked
 values-returns-in_err-part-clause-walked g t c =
