@@ -15,15 +15,18 @@ use Rattle.bt_core.specs.declared.value.Value.{Value}
 use Rattle.bt_core.specs.declared.value.Value.TheVariants.{Int, Str}
 use Rattle.bt_core.specs.KeyBytes.{part_of}
 use Rattle.bt_core.specs.Kinds.{HasShape, IsOfShape, IsOfKind, IsShared, IsAggregation}
-use Rattle.bt_core.specs.Ports.{Setting}
+use Rattle.bt_core.specs.declared.step.ObjectId.TheVariants.{Cpu}
+use Rattle.bt_core.specs.declared.step.Op.TheVariants.{Set, Delete, Add}
+use Rattle.bt_core.specs.Ports.{Setting, CanStep}
 use Rattle.tracefs_format.specs.declared.field.Field.{Field}
 use Rattle.tracefs_format.specs.declared.layout.Layout.{Layout}
 use Rattle.tracefs_format.specs.Sizes.{end_of, greatest_end}
 use Rattle.typed_tree.specs.Parts.{FieldOf}
-use Rattle.typed_tree.specs.Scope.{decl_of, same_shape, same_shapes, same_kind, same_field, same_field_kind, same_bool, has_field, is_shape, shape_of_field, is_agg, is_shared, is_declared, is_fine_decl, is_fine_kind, kind_of_shape, fits, Scope}
+use Rattle.typed_tree.specs.Scope.{decl_of, same_shape, same_shapes, same_kind, same_field, same_field_kind, same_bool, has_field, is_shape, shape_of_field, is_agg, is_shared, is_there, is_declared, is_fine_decl, is_fine_kind, kind_of_shape, fits, Scope}
 use Rattle.std.specs.Str.{bytes_eq}
 use Rattle.bt_walk.specs.declared.view.View.{View}
-use Rattle.bt_walk.specs.Walked.{IsServed, NamesShared, HoldsUnder, scope_in, least_length}
+use Rattle.bt_walk.specs.Maps.{part, kind_of, kind_or_numbers}
+use Rattle.bt_walk.specs.Walked.{IsServed, CanSweep, NamesShared, HoldsUnder, scope_in, least_length}
 
 -- ---- equal shapes
 
@@ -176,3 +179,34 @@ field_inside v setting f h s e =
 
 pub part_below : (key : List Value) → part_of key < PARTS
 part_below key = omega arith
+
+-- ---- operations that can be made
+
+kind_holds : (k : MapKind) (h : Shape) (value : Value) → k ≡ kind_of_shape h → IsOfShape h value → IsOfKind k value
+kind_holds k shapes.Int (Int n) e p = subst (λ (x : MapKind). IsOfKind x (Int n)) (sym e) tt
+kind_holds k shapes.Int (Str s) e p = absurd p
+kind_holds k shapes.Str (Int n) e p = absurd p
+kind_holds k shapes.Str (Str s) e p = subst (λ (x : MapKind). IsOfKind x (Str s)) (sym e) tt
+
+kind_shared : (k : MapKind) (h : Shape) → k ≡ kind_of_shape h → IsShared k
+kind_shared k shapes.Int e = subst (λ (x : MapKind). IsShared x) (sym e) tt
+kind_shared k shapes.Str e = subst (λ (x : MapKind). IsShared x) (sym e) tt
+
+pub set_can : (setting : Setting) (m : MapId) (keys : List Shape) (h : Shape) (key : List Value) (value : Value) → Found setting m keys (λ k. k ≡ kind_of_shape h) → HasShape keys key → IsOfShape h value → CanStep setting (part m key) (Set key value)
+set_can setting m keys h key value f s p =
+    (part_below key, rw f.here (kind_shared f.decl.kind h f.kind, (subst (λ (l : List Shape). HasShape l key) (sym f.shaped) s, kind_holds f.decl.kind h value f.kind p)))
+
+pub delete_can : (setting : Setting) (m : MapId) (keys : List Shape) (key : List Value) → Found setting m keys IsShared → HasShape keys key → CanStep setting (part m key) (Delete key)
+delete_can setting m keys key f s = (part_below key, rw f.here (f.kind, subst (λ (l : List Shape). HasShape l key) (sym f.shaped) s))
+
+pub add_can : (v : View) (setting : Setting) (m : MapId) (keys : List Shape) (key : List Value) (n : ℤ) → IsServed v setting → Found setting m keys IsAggregation → HasShape keys key → CanStep setting (Cpu v.actor) (Add m key n)
+add_can v setting m keys key n s f h =
+    (omega (arith, s.can.actor_is_below, s.can.actors_are_the_ports), rw f.here (f.kind, subst (λ (l : List Shape). HasShape l key) (sym f.shaped) h))
+
+sweep_case : (v : View) (setting : Setting) (m : MapId) (o : Option MapDecl) → IsServed v setting → decl_of m.0 v.body.now.maps ≡ o → is_there o ≡ true → CanSweep setting m (kind_or_numbers o) v.actors
+sweep_case v setting m None s e h = cc
+sweep_case v setting m (Some decl) s e h =
+    record { declared = rw (served setting.maps m.0 v.body.now.maps decl s.can.maps_are_served e) refl; tables = s.can.actors_are_the_ports }
+
+pub sweep_can : (v : View) (setting : Setting) (m : MapId) → IsServed v setting → IsTrue (is_there (decl_of m.0 v.body.now.maps)) → CanSweep setting m (kind_of m v.body.now.maps) v.actors
+sweep_can v setting m s h = sweep_case v setting m (decl_of m.0 v.body.now.maps) s refl h

@@ -40,9 +40,11 @@ set_map m keys d = bind (in_order keys) (λ key. bind d (λ value. plain (set m 
 abbrev pub update_variable : ℕ → BinOp → Does ℤ → Does Flow
 update_variable var op d = bind d (λ b. bind (number_variable var) (λ a. plain (assigned var (Int (binary_value op a b)))))
 
+abbrev pub update_at : MapId → List Value → BinOp → ℤ → Does Flow
+update_at m key op b = bind (get m key) (λ old. plain (set m key (Int (binary_value op (number_of old) b))))
+
 abbrev pub update_map : MapId → List (Does Value) → BinOp → Does ℤ → Does Flow
-update_map m keys op d =
-    bind (in_order keys) (λ key. bind d (λ b. bind (get m key) (λ old. plain (set m key (Int (binary_value op (number_of old) b))))))
+update_map m keys op d = bind (in_order keys) (λ key. bind d (λ b. update_at m key op b))
 
 -- the number that an aggregation takes in; `count()` takes in 1
 abbrev pub number_or_one : Option NumExpr → Does ℤ

@@ -2,8 +2,11 @@
 #![tactic(auto)]
 
 pub mod access;
+pub mod body;
 pub mod ending;
 pub mod flow;
+pub mod stmt;
 pub mod sweep;
 pub mod value;
 pub mod view;
+pub mod walk;
