@@ -56,7 +56,7 @@ turns_no (Stop x) left rest e = ap given (Some_is (Stop x) left e)
     Some_is : (a b : Flow) → Some a ≡ Some b → a ≡ b
     Some_is a b e = cc
 
-done_with : (whole : Interaction (Flow × Frame)) (d : Does Flow) (flow : Flow) (scene : Scene) (frame : Frame) (old now : List Step) → d ≡ given flow → Left whole old now (d scene frame) → Whole whole old now (flow, frame)
+pub done_with : (whole : Interaction (Flow × Frame)) (d : Does Flow) (flow : Flow) (scene : Scene) (frame : Frame) (old now : List Step) → d ≡ given flow → Left whole old now (d scene frame) → Whole whole old now (flow, frame)
 done_with whole d flow scene frame old now e p = Left-Whole _ _ _ _ _ _ (Left-is _ _ _ _ _ p (ap (λ (x : Does Flow). x scene frame) e)) (Given-done _ _ _ _ _ _ refl refl)
 
 -- ---- blocks

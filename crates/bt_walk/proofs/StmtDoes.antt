@@ -17,7 +17,7 @@ use Rattle.typed_tree.specs.declared.stmt.TypedBlock.{TypedBlock, fold_out-Typed
 use Rattle.typed_tree.specs.declared.stmt.TypedStmt.{TypedStmt, fold-roll-TypedStmt}
 use Rattle.typed_tree.specs.declared.stmt.TypedStmt.TheVariants as stmts
 use Rattle.typed_tree.specs.declared.stmt.TypedStmt.TheOpen.{TypedStmt-F, TypedBlock-F}
-use Rattle.typed_tree.specs.declared.stmt.TypedStmt.TheShapes.{former-TypedStmt-If-0-at-0}
+use Rattle.typed_tree.specs.declared.stmt.TypedStmt.TheShapes.{former-TypedStmt-If-0-at-2}
 use Rattle.typed_tree.specs.Parts as tree
 use Rattle.typed_tree.specs.Parts.{Part, made_of, num_parts, parts_in, stmt_parts, block_parts, set_var_parts, set_map_parts, update_var_parts, update_map_parts, gather_parts, printf_parts, delete_parts, Shown, Cleared, Zeroed, Looped, Unrolled, Ending, arm_parts, otherwise_parts, option_inside, joined}
 use Rattle.typed_tree.specs.Scope.{fits, all_fit, decl_of, is_there}
@@ -133,7 +133,7 @@ unroll_fits v s n block line h fit = fits_is v s (λ inside. Unrolled n line ∷
 abbrev pub arm_of : NumExpr × TypedBlock → Does ℤ × Does Flow
 arm_of arm = (number_does arm.0, block_does arm.1)
 
-arms_mapped : (arms : List (NumExpr × TypedBlock)) → map arm_does (map (former-TypedStmt-If-0-at-0.map TypedBlock (Does Flow) block_does) arms) ≡ map arm_of arms
+arms_mapped : (arms : List (NumExpr × TypedBlock)) → map arm_does (map (former-TypedStmt-If-0-at-2.map TypedBlock (Does Flow) block_does) arms) ≡ map arm_of arms
 arms_mapped [] = refl
 arms_mapped (arm ∷ arms) = ap (λ (l : List (Does ℤ × Does Flow)). arm_of arm ∷ l) (arms_mapped arms)
 
@@ -151,7 +151,7 @@ if_stmt s arms otherwise arms1 h e = ap stmt_does h ∙ if_is arms otherwise ∙
 abbrev arm_made : Bool → NumExpr × TypedBlock → List Part
 arm_made inside arm = arm_parts (arm.0, block_parts arm.1 inside)
 
-parts_mapped : (inside : Bool) (arms : List (NumExpr × TypedBlock)) → map (λ (arm : NumExpr × (Bool → List Part)). arm_parts (arm.0, arm.1 inside)) (map (former-TypedStmt-If-0-at-0.map TypedBlock (Bool → List Part) block_parts) arms) ≡ map (arm_made inside) arms
+parts_mapped : (inside : Bool) (arms : List (NumExpr × TypedBlock)) → map (λ (arm : NumExpr × (Bool → List Part)). arm_parts (arm.0, arm.1 inside)) (map (former-TypedStmt-If-0-at-2.map TypedBlock (Bool → List Part) block_parts) arms) ≡ map (arm_made inside) arms
 parts_mapped inside [] = refl
 parts_mapped inside (arm ∷ arms) = ap (λ (l : List (List Part)). arm_made inside arm ∷ l) (parts_mapped inside arms)
 

@@ -1,7 +1,6 @@
 // The walk of a body.
 ghost use Rattle.std.specs.Prelude.{◌≡◌, ◌++◌, IfOk, map};
 ghost use Rattle.bt_core.specs.Interaction.{Performed};
-ghost use Rattle.bt_core.specs.declared.map.Shape.{Shape as Type};
 ghost use Rattle.typed_tree.specs.Bodies.{predicate_parts};
 ghost use Rattle.bt_walk.specs.Stmts.{block_does};
 ghost use Rattle.bt_walk.specs.Walk.{walk, fresh, guarded, unassigned};

@@ -340,6 +340,7 @@ pub fn jump<P: Port>(alloc: Global, jump: Jump, port: &mut P) -> Result<Flow, Me
 /// Emits the line of a loop whose next turn is not made.
 pub fn cut<P: Port>(alloc: Global, line: u32, port: &mut P) -> Result<Flow, Memory>
     ensures made { Made (cut line) (P.steps port.old) (P.steps port.new) result }
+    ensures stops { IfOk result (λ flow. flow ≡ Flow.Stop Ending.Cut) }
     ensures kept { P.fixed port.new ≡ P.fixed port.old }
 {
     tell(alloc, ObjectId::Out, Op::Emit(Item::Cut { line }), port)?;

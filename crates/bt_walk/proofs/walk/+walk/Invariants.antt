@@ -1,6 +1,5 @@
 use Rattle.std.proofs.Common.{◌≡◌, ◌≤◌, ◌+◌, ◌-◌, ◌*◌, map, drop, option_map}
 use Rattle.bt_core.specs.Interaction.{Left}
-use Rattle.typed_tree.specs.declared.stmt.TypedBlock.{out-TypedBlock}
 use Rattle.bt_walk.specs.Exprs.{number_does}
 use Rattle.bt_walk.specs.Stmts.{stmt_does, block_does, in_turn, first_arm, block_or_next, turns, while_true}
 use Rattle.bt_walk.specs.Walked.{scene_in}
@@ -29,7 +28,7 @@ decreases-walk_while-loop-value g l = l.frame.turns
 abbrev pub invariant-walk_stmt-loop-arm : goal.invariant-walk_stmt-loop-arm
 invariant-walk_stmt-loop-arm g l = record {
   left : Left (stmt_does l.s (scene_in l.view) l.fn.frame) (g.P.Port.steps l.fn.port) (g.P.Port.steps l.port)
-      (first_arm (map arm_of (drop l.arm-index l.arms)) (block_or_next (option_map block_does l.otherwise)) (scene_in l.view) l.frame);
+      (first_arm (map arm_of (drop l.arm-index l.arm-items)) (block_or_next (option_map block_does l.otherwise)) (scene_in l.view) l.frame);
   kept : g.P.Port.fixed l.port ≡ g.P.Port.fixed l.fn.port;
   turns : l.frame.turns ≤ l.fn.frame.turns;
 }
@@ -37,7 +36,7 @@ invariant-walk_stmt-loop-arm g l = record {
 abbrev pub invariant-walk_block-loop-stmt : goal.invariant-walk_block-loop-stmt
 invariant-walk_block-loop-stmt g l = record {
   left : Left (block_does l.block (scene_in l.view) l.fn.frame) (g.P.Port.steps l.fn.port) (g.P.Port.steps l.port)
-      (in_turn (map stmt_does (drop l.stmt-index (out-TypedBlock l.block).stmts)) (scene_in l.view) l.frame);
+      (in_turn (map stmt_does (drop l.stmt-index l.stmt-items)) (scene_in l.view) l.frame);
   kept : g.P.Port.fixed l.port ≡ g.P.Port.fixed l.fn.port;
   turns : l.frame.turns ≤ l.fn.frame.turns;
 }
