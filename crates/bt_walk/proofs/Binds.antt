@@ -1,0 +1,97 @@
+-- What was done of one thing after another.
+use Rattle.std.proofs.Common.{◌≡◌, ℕ, ℤ, List, refl, sym, ap, ◌∙◌, subst, Bool, true, false, Ok, Err, Result, SFits, to_z, of_z, w64}
+use Rattle.std.proofs.lemmas.Int.{to_z-of_z}
+use Rattle.bt_core.specs.declared.memory.Memory.{Memory}
+use Rattle.bt_core.specs.declared.step.ObjectId.{ObjectId}
+use Rattle.bt_core.specs.declared.step.Op.{Op}
+use Rattle.bt_core.specs.declared.step.Op.TheVariants as ops
+use Rattle.bt_core.specs.declared.step.Reply.{Reply}
+use Rattle.bt_core.specs.declared.step.Step.{Step}
+use Rattle.bt_core.specs.declared.map.MapId.{MapId}
+use Rattle.bt_core.specs.declared.value.Value.{Value}
+use Rattle.bt_core.specs.Interaction.{Interaction, Ended, ask, and_then, Whole, Part, Left, MakesStep, last_reply}
+use Rattle.bt_core.proofs.InteractionLaws.{Whole-and_then, Part-after, Part-and_then, Performed-none, Whole-Ended, Whole-ask, Left-and_then, Left-Part, Left-Whole}
+use Rattle.bt_walk.specs.declared.flow.Frame.{Frame}
+use Rattle.bt_walk.specs.Does.{Scene, Does, given, seen, changed, asked, bind, choose, told}
+use Rattle.bt_walk.specs.Maps.{value_of, part, get}
+use Rattle.bt_walk.specs.Walked.{Walked, Made}
+
+pub Given-done : {A : Type 0} (a b : A) (scene : Scene) (frame after : Frame) (s : List Step) → a ≡ b → frame ≡ after → Whole (given a scene frame) s s (b, after)
+unfolding given
+Given-done {A} a b scene frame after s e h = Whole-Ended _ _ _ (ap (λ (x : A). (x, frame)) e ∙ ap (λ (x : Frame). (b, x)) h)
+
+pub Seen-done : {A : Type 0} (look : Scene → Frame → A) (a : A) (scene : Scene) (frame : Frame) (s : List Step) → look scene frame ≡ a → Whole (seen look scene frame) s s (a, frame)
+unfolding seen
+Seen-done {A} look a scene frame s e = Whole-Ended _ _ _ (ap (λ (x : A). (x, frame)) e)
+
+pub Changed-done : (change : Frame → Frame) (scene : Scene) (frame after : Frame) (s : List Step) (u : Unit {0}) → change frame ≡ after → Whole (changed change scene frame) s s (u, after)
+unfolding changed
+Changed-done change scene frame after s u e = Whole-Ended _ _ _ (ap (λ (x : Frame). (tt, x)) e)
+
+pub Asked-done : (object : ObjectId) (op : Op) (scene : Scene) (frame : Frame) (old new : List Step) (actor : ℕ) → MakesStep old new actor object op → Whole (asked object op scene frame) old new (last_reply new, frame)
+unfolding asked
+Asked-done object op scene frame old new actor m = Whole-ask (λ r. (r, frame)) old new actor object op m
+
+pub Part-none : {A : Type 0} (d : Does A) (scene : Scene) (frame : Frame) (old new : List Step) → new ≡ old → Part (d scene frame) old new
+Part-none d scene frame old new e = Performed-none _ _ _ e
+
+module _ {A B : Type 0} (d : Does A) (k : A → Does B) (scene : Scene) (frame : Frame) (old : List Step) where
+  pub Part-first : (new : List Step) → Part (d scene frame) old new → Part (bind d k scene frame) old new
+  unfolding bind
+  Part-first new p = Part-and_then _ _ _ _ p
+
+  module _ (between : Frame) (mid : List Step) (a : A) (p : Whole (d scene frame) old mid (a, between)) where
+    pub Part-next : (new : List Step) → Part (k a scene between) mid new → Part (bind d k scene frame) old new
+    unfolding bind
+    Part-next new q = Part-after _ _ _ _ _ _ p q
+
+    pub Whole-next : (new : List Step) (w : B × Frame) → Whole (k a scene between) mid new w → Whole (bind d k scene frame) old new w
+    unfolding bind
+    Whole-next new w q = Whole-and_then _ _ _ _ _ _ _ p q
+
+    pub Walked-next : (new : List Step) (r : Result B Memory) (after : Frame) → Walked (k a) scene between mid new r after → Walked (bind d k) scene frame old new r after
+    Walked-next new (Ok b) after q = Whole-next new (b, after) q
+    Walked-next new (Err x) after q = Part-next new q
+
+pub Told-done : (object : ObjectId) (op : Op) (old new : List Step) (actor : ℕ) (u : Unit {0}) → MakesStep old new actor object op → (scene : Scene) (frame : Frame) → Whole (told object op scene frame) old new (u, frame)
+Told-done object op old new actor u m scene frame = Whole-next _ _ _ _ _ _ _ _ (Asked-done object op scene frame old new actor m) _ _ (Given-done _ _ _ _ _ _ refl refl)
+
+pub Get-done : (m : MapId) (key : List Value) (value : Value) (old new : List Step) (actor : ℕ) → MakesStep old new actor (part m key) (ops.Get key) → value ≡ value_of (last_reply new) → (scene : Scene) (frame : Frame) → Whole (get m key scene frame) old new (value, frame)
+Get-done m key value old new actor s e scene frame = Whole-next _ _ _ _ _ _ _ _ (Asked-done (part m key) (ops.Get key) scene frame old new actor s) _ _ (Given-done _ _ _ _ _ _ (sym e) refl)
+
+pub Number-done : (a x : ℤ) (scene : Scene) (frame : Frame) (s : List Step) → SFits w64 x → a ≡ x → Whole (given a scene frame) s s (to_z w64 (of_z w64 x), frame)
+Number-done a x scene frame s f e = Given-done _ _ _ _ _ _ (e ∙ sym (to_z-of_z w64 x f)) refl
+
+pub Number-seen : (look : Scene → Frame → ℤ) (x : ℤ) (scene : Scene) (frame : Frame) (s : List Step) → SFits w64 x → look scene frame ≡ x → Whole (seen look scene frame) s s (to_z w64 (of_z w64 x), frame)
+Number-seen look x scene frame s f e = Seen-done _ _ _ _ _ (e ∙ sym (to_z-of_z w64 x f))
+
+module _ {A : Type 0} (b : Bool) (one other : Does A) (scene : Scene) (frame : Frame) (s t : List Step) where
+  pub Whole-yes : (w : A × Frame) → b ≡ true → Whole (one scene frame) s t w → Whole (choose b one other scene frame) s t w
+  unfolding choose
+  Whole-yes w e p = subst (λ x. Whole (choose x one other scene frame) s t w) (sym e) p
+
+  pub Whole-no : (w : A × Frame) → b ≡ false → Whole (other scene frame) s t w → Whole (choose b one other scene frame) s t w
+  unfolding choose
+  Whole-no w e p = subst (λ x. Whole (choose x one other scene frame) s t w) (sym e) p
+
+  pub Part-yes : b ≡ true → Part (one scene frame) s t → Part (choose b one other scene frame) s t
+  unfolding choose
+  Part-yes e p = subst (λ x. Part (choose x one other scene frame) s t) (sym e) p
+
+  pub Part-no : b ≡ false → Part (other scene frame) s t → Part (choose b one other scene frame) s t
+  unfolding choose
+  Part-no e p = subst (λ x. Part (choose x one other scene frame) s t) (sym e) p
+
+  pub Walked-yes : (r : Result A Memory) (after : Frame) → b ≡ true → Walked one scene frame s t r after → Walked (choose b one other) scene frame s t r after
+  unfolding choose
+  Walked-yes r after e p = subst (λ x. Walked (choose x one other) scene frame s t r after) (sym e) p
+
+  pub Walked-no : (r : Result A Memory) (after : Frame) → b ≡ false → Walked other scene frame s t r after → Walked (choose b one other) scene frame s t r after
+  unfolding choose
+  Walked-no r after e p = subst (λ x. Walked (choose x one other) scene frame s t r after) (sym e) p
+
+-- one thing more was done of what is left
+pub Left-next : {A B : Type 0} (whole : Interaction (B × Frame)) (d : Does A) (k : A → Does B) (scene : Scene) (frame after : Frame) (old mid new : List Step) (a : A) →
+    Left whole old mid (bind d k scene frame) → Whole (d scene frame) mid new (a, after) → Left whole old new (k a scene after)
+unfolding bind
+Left-next whole d k scene frame after old mid new a p q = Left-and_then whole (d scene frame) (λ p. k p.0 scene p.1) old mid new (a, after) p q

@@ -1,0 +1,8 @@
+pub mod Binds
+pub mod Declared
+pub mod ExprDoes
+pub mod Gathers
+pub mod Loops
+pub mod StmtDoes
+pub mod Sweeps
+pub mod TreeParts

@@ -1,0 +1,41 @@
+use Rattle.std.proofs.Common.{◌≡◌, ◌≤◌, ℤ, pos, List, map, length, Bool, true, false, refl, sym, ap, ◌∙◌, subst, SFits, w64, rules, arith}
+use Rattle.std.proofs.lemmas.Int.{to_z-of_z}
+use Rattle.std.proofs.lemmas.Result.{err_from_is_err_and}
+use Rattle.bt_core.specs.declared.map.Shape.TheVariants as shapes
+use Rattle.bt_core.specs.declared.value.Value.TheVariants.{Int}
+use Rattle.bt_core.specs.Arithmetic.{binary_value}
+use Rattle.bt_core.proofs.InteractionLaws.{Performed-none}
+use Rattle.typed_tree.specs.Parts.{made_of, num_parts, key_shapes}
+use Rattle.bt_walk.specs.Maps.{number_of, kind_of}
+use Rattle.bt_walk.specs.Walked.{all_made}
+use Rattle.bt_walk.proofs.Binds.{Part-first, Part-next, Whole-next, Walked-next, Given-done, Seen-done, Changed-done, Number-done, Told-done}
+use Rattle.bt_walk.proofs.Declared.{Found, shared, valued, gathering, few_values, keyed, held, set_can, delete_can, add_can, sweep_can, HasShape-length}
+use Rattle.bt_walk.proofs.TreeParts.{set_head, update_head, gather_head, delete_head}
+use Rattle.bt_walk.proofs.stmt.set_map.Goals as goal
+
+pub key-requires-clause-few : goal.key-requires-clause-few
+key-requires-clause-few g c =
+    let found = valued c.args.view.now (g.P.Port.fixed c.args.port.now).setting c.args.map (key_shapes (all_made c.args.keys.now)) (made_of c.args.e.now).shape c.requires.served (set_head c.args.view.now c.args.map (all_made c.args.keys.now) (made_of c.args.e.now) c.requires.fits) in found.few
+
+pub returns-in_err-key-clause-walked : goal.returns-in_err-key-clause-walked
+returns-in_err-key-clause-walked g c =
+    let p = err_from_is_err_and c.from_residual.result c.from_residual.ensures.1 in
+    rw p.1 (Part-first _ _ _ _ _ _ c.in_err-key.ensures.walked)
+
+pub returns-in_err-value-clause-walked : goal.returns-in_err-value-clause-walked
+returns-in_err-value-clause-walked g c =
+    let p = err_from_is_err_and c.from_residual-in_err-value.result c.from_residual-in_err-value.ensures.1 in
+    rw p.1 (Part-next _ _ _ _ _ _ _ _ c.in_ok-key.ensures.walked _ (Part-first _ _ _ _ _ _ c.in_err-value.ensures.walked))
+
+pub set-requires : goal.set-requires
+set-requires g c =
+    let found = valued c.args.view.now (g.P.Port.fixed c.args.port.now).setting c.args.map (key_shapes (all_made c.args.keys.now)) (made_of c.args.e.now).shape c.requires.served (set_head c.args.view.now c.args.map (all_made c.args.keys.now) (made_of c.args.e.now) c.requires.fits) in
+    rw (c.in_ok-value.ensures.kept, c.in_ok-key.ensures.kept) (set_can _ _ _ _ _ _ found c.in_ok-key.ensures.shaped c.in_ok-value.ensures.shaped)
+
+pub returns-in_err-set-clause-walked : goal.returns-in_err-set-clause-walked
+returns-in_err-set-clause-walked g c =
+    let p = err_from_is_err_and c.from_residual-in_err-set.result c.from_residual-in_err-set.ensures.1 in
+    rw p.1 (Part-next _ _ _ _ _ _ _ _ c.in_ok-key.ensures.walked _ (Part-next _ _ _ _ _ _ _ _ c.in_ok-value.ensures.walked _ (Part-first _ _ _ _ _ _ (c.in_err-set.ensures.made _ _))))
+
+pub returns-clause-walked : goal.returns-clause-walked
+returns-clause-walked g c = (Whole-next _ _ _ _ _ _ _ _ c.in_ok-key.ensures.walked _ _ (Whole-next _ _ _ _ _ _ _ _ c.in_ok-value.ensures.walked _ _ (Whole-next _ _ _ _ _ _ _ _ (c.in_ok-set.ensures.made _ _) _ _ (Given-done _ _ _ _ _ _ refl refl))))

@@ -1,0 +1,50 @@
+use Rattle.std.proofs.Common.{◌≡◌, ◌≤◌, ℤ, pos, List, map, length, Bool, true, false, refl, sym, ap, ◌∙◌, subst, SFits, w64, rules, arith}
+use Rattle.std.proofs.lemmas.Int.{to_z-of_z}
+use Rattle.std.proofs.lemmas.Result.{err_from_is_err_and}
+use Rattle.bt_core.specs.declared.map.Shape.TheVariants as shapes
+use Rattle.bt_core.specs.declared.value.Value.TheVariants.{Int}
+use Rattle.bt_core.specs.Arithmetic.{binary_value}
+use Rattle.bt_core.proofs.InteractionLaws.{Performed-none}
+use Rattle.typed_tree.specs.Parts.{made_of, num_parts, key_shapes}
+use Rattle.bt_walk.specs.Maps.{number_of, kind_of}
+use Rattle.bt_walk.specs.Walked.{all_made}
+use Rattle.bt_walk.proofs.Binds.{Part-first, Part-next, Whole-next, Walked-next, Given-done, Seen-done, Changed-done, Number-done, Told-done}
+use Rattle.bt_walk.proofs.Declared.{Found, shared, valued, gathering, few_values, keyed, held, set_can, delete_can, add_can, sweep_can, HasShape-length}
+use Rattle.bt_walk.proofs.TreeParts.{set_head, update_head, gather_head, delete_head}
+use Rattle.bt_walk.proofs.stmt.update_at.Goals as goal
+
+pub returns-in_err-again-clause-made : goal.returns-in_err-again-clause-made
+returns-in_err-again-clause-made g c scene frame =
+    let p = err_from_is_err_and c.from_residual.result c.from_residual.ensures.1 in
+    rw p.1 (Performed-none _ _ _ refl)
+
+pub returns-in_err-value-clause-made : goal.returns-in_err-value-clause-made
+returns-in_err-value-clause-made g c scene frame =
+    let p = err_from_is_err_and c.from_residual-in_err-value.result c.from_residual-in_err-value.ensures.1 in
+    let got = rw c.in_ok-again.ensures at c.in_err-value.ensures.made in
+    rw p.1 (Part-first _ _ _ _ _ _ (got scene frame))
+
+pub returns-in_err-set-clause-made : goal.returns-in_err-set-clause-made
+returns-in_err-set-clause-made g c scene frame =
+    let p = err_from_is_err_and c.from_residual-in_err-set.result c.from_residual-in_err-set.ensures.1 in
+    let got = rw c.in_ok-again.ensures at c.in_ok-value.ensures.made in
+    let fa : SFits w64 c.number_of-old.result = search rules in
+    let fr : SFits w64 c.binary-new.result = search rules in
+    let fb : SFits w64 c.args.b = search rules in
+    let stepped = simp to_z-of_z at c.binary-new.ensures in
+    let new : c.binary-new.result ≡ binary_value c.args.op (number_of c.in_ok-value.value) c.args.b = stepped ∙ ap (λ (x : ℤ). binary_value c.args.op x c.args.b) c.number_of-old.ensures in
+    let put = simp to_z-of_z at c.in_err-set.ensures.made in
+    let done = rw new at put in
+    rw p.1 (Part-next _ _ _ _ _ _ _ _ (got scene frame) _ (Part-first _ _ _ _ _ _ (done scene frame)))
+
+pub returns-clause-made : goal.returns-clause-made
+returns-clause-made g c scene frame =
+    let got = rw c.in_ok-again.ensures at c.in_ok-value.ensures.made in
+    let fa : SFits w64 c.number_of-old.result = search rules in
+    let fr : SFits w64 c.binary-new.result = search rules in
+    let fb : SFits w64 c.args.b = search rules in
+    let stepped = simp to_z-of_z at c.binary-new.ensures in
+    let new : c.binary-new.result ≡ binary_value c.args.op (number_of c.in_ok-value.value) c.args.b = stepped ∙ ap (λ (x : ℤ). binary_value c.args.op x c.args.b) c.number_of-old.ensures in
+    let put = simp to_z-of_z at c.in_ok-set.ensures.made in
+    let done = rw new at put in
+    (Whole-next _ _ _ _ _ _ _ _ (got scene frame) _ _ (Whole-next _ _ _ _ _ _ _ _ (done scene frame) _ _ (Given-done _ _ _ _ _ _ refl refl)))

@@ -1,0 +1,30 @@
+use Rattle.std.proofs.Common.{◌≡◌, ◌≤◌, ℤ, pos, List, map, length, Bool, true, false, refl, sym, ap, ◌∙◌, subst, SFits, w64, rules, arith}
+use Rattle.std.proofs.lemmas.Int.{to_z-of_z}
+use Rattle.std.proofs.lemmas.Result.{err_from_is_err_and}
+use Rattle.bt_core.specs.declared.map.Shape.TheVariants as shapes
+use Rattle.bt_core.specs.declared.value.Value.TheVariants.{Int}
+use Rattle.bt_core.specs.Arithmetic.{binary_value}
+use Rattle.bt_core.proofs.InteractionLaws.{Performed-none}
+use Rattle.typed_tree.specs.Parts.{made_of, num_parts, key_shapes}
+use Rattle.bt_walk.specs.Maps.{number_of, kind_of}
+use Rattle.bt_walk.specs.Walked.{all_made}
+use Rattle.bt_walk.proofs.Binds.{Part-first, Part-next, Whole-next, Walked-next, Given-done, Seen-done, Changed-done, Number-done, Told-done}
+use Rattle.bt_walk.proofs.Declared.{Found, shared, valued, gathering, few_values, keyed, held, set_can, delete_can, add_can, sweep_can, HasShape-length}
+use Rattle.bt_walk.proofs.TreeParts.{set_head, update_head, gather_head, delete_head}
+use Rattle.bt_walk.proofs.stmt.zero.Goals as goal
+
+pub ask_each-requires : goal.ask_each-requires
+ask_each-requires g c =
+    let kind : c.kind_of-kind.result ≡ kind_of c.args.map c.args.view.now.body.now.maps = c.kind_of-kind.ensures ∙ ap (kind_of c.args.map) c.as_slice.ensures in
+    rw kind (sweep_can c.args.view.now (g.P.Port.fixed c.args.port.now).setting c.args.map c.requires.served c.requires.named)
+
+pub returns-in_err-ask_each-clause-walked : goal.returns-in_err-ask_each-clause-walked
+returns-in_err-ask_each-clause-walked g c frame =
+    let p = err_from_is_err_and c.from_residual.result c.from_residual.ensures.1 in
+    let kind : c.kind_of-kind.result ≡ kind_of c.args.map c.args.view.now.body.now.maps = c.kind_of-kind.ensures ∙ ap (kind_of c.args.map) c.as_slice.ensures in
+    rw p.1 (Part-next _ _ _ _ _ _ _ _ (Seen-done _ _ _ _ _ (sym kind)) _ (Part-first _ _ _ _ _ _ (c.in_err-ask_each.ensures.walked frame)))
+
+pub returns-clause-walked : goal.returns-clause-walked
+returns-clause-walked g c frame =
+    let kind : c.kind_of-kind.result ≡ kind_of c.args.map c.args.view.now.body.now.maps = c.kind_of-kind.ensures ∙ ap (kind_of c.args.map) c.as_slice.ensures in
+    (Whole-next _ _ _ _ _ _ _ _ (Seen-done _ _ _ _ _ (sym kind)) _ _ (Whole-next _ _ _ _ _ _ _ _ (c.in_ok-ask_each.ensures.walked frame) _ _ (Given-done _ _ _ _ _ _ refl refl)))

@@ -1,0 +1,55 @@
+use Rattle.std.proofs.Common.{◌≡◌, ℤ, pos, Bool, cond, true, false, refl, sym, ap, ◌∙◌, subst, SFits, w64, rules}
+use Rattle.std.proofs.lemmas.Int.{to_z-of_z}
+use Rattle.std.proofs.lemmas.Result.{err_from_is_err_and}
+use Rattle.bt_core.specs.declared.value.Value.TheVariants.{Int}
+use Rattle.bt_core.proofs.InteractionLaws.{Performed-none}
+use Rattle.bt_walk.specs.Maps.{get, set, number_of, next}
+use Rattle.bt_walk.proofs.Binds.{Part-first, Part-next, Whole-next, Number-done}
+use Rattle.bt_walk.proofs.value.step_map.Goals as goal
+
+pub returns-in_err-again-clause-made : goal.returns-in_err-again-clause-made
+returns-in_err-again-clause-made g c scene frame =
+    let p = err_from_is_err_and c.from_residual.result c.from_residual.ensures.1 in
+    rw p.1 (Performed-none _ _ _ refl)
+
+pub returns-in_err-value-clause-made : goal.returns-in_err-value-clause-made
+returns-in_err-value-clause-made g c scene frame =
+    let p = err_from_is_err_and c.from_residual-in_err-value.result c.from_residual-in_err-value.ensures.1 in
+    let got = rw c.in_ok-again.ensures at c.in_err-value.ensures.made in
+    rw p.1 (Part-first _ _ _ _ _ _ (got scene frame))
+
+pub returns-in_err-set-clause-made : goal.returns-in_err-set-clause-made
+returns-in_err-set-clause-made g c scene frame =
+    let p = err_from_is_err_and c.from_residual-in_err-set.result c.from_residual-in_err-set.ensures.1 in
+    let old_fits : SFits w64 c.number_of-old.result = search rules in
+    let new_fits : SFits w64 c.next-new.result = search rules in
+    let stepped = simp to_z-of_z at c.next-new.ensures in
+    let new : c.next-new.result ≡ next c.args.plus (number_of c.in_ok-value.value) = stepped ∙ ap (next c.args.plus) c.number_of-old.ensures in
+    let got = rw c.in_ok-again.ensures at c.in_ok-value.ensures.made in
+    let put = simp to_z-of_z at c.in_err-set.ensures.made in
+    let done = rw new at put in
+    rw p.1 (Part-next _ _ _ _ _ _ _ _ (got scene frame) _ (Part-first _ _ _ _ _ _ (done scene frame)))
+
+pub returns-then-prefix-clause-made : goal.returns-then-prefix-clause-made
+returns-then-prefix-clause-made g c scene frame =
+    let old_fits : SFits w64 c.number_of-old.result = search rules in
+    let new_fits : SFits w64 c.next-new.result = search rules in
+    let stepped = simp to_z-of_z at c.next-new.ensures in
+    let new : c.next-new.result ≡ next c.args.plus (number_of c.in_ok-value.value) = stepped ∙ ap (next c.args.plus) c.number_of-old.ensures in
+    let got = rw c.in_ok-again.ensures at c.in_ok-value.ensures.made in
+    let put = simp to_z-of_z at c.in_ok-set.ensures.made in
+    let done = rw new at put in
+    Whole-next _ _ _ _ _ _ _ _ (got scene frame) _ _ (Whole-next _ _ _ _ _ _ _ _ (done scene frame) _ _
+        (Number-done _ _ _ _ _ new_fits (ap (λ b. cond b (next c.args.plus (number_of c.in_ok-value.value)) (number_of c.in_ok-value.value)) c.if-prefix.true ∙ sym new)))
+
+pub returns-else-prefix-clause-made : goal.returns-else-prefix-clause-made
+returns-else-prefix-clause-made g c scene frame =
+    let old_fits : SFits w64 c.number_of-old.result = search rules in
+    let new_fits : SFits w64 c.next-new.result = search rules in
+    let stepped = simp to_z-of_z at c.next-new.ensures in
+    let new : c.next-new.result ≡ next c.args.plus (number_of c.in_ok-value.value) = stepped ∙ ap (next c.args.plus) c.number_of-old.ensures in
+    let got = rw c.in_ok-again.ensures at c.in_ok-value.ensures.made in
+    let put = simp to_z-of_z at c.in_ok-set.ensures.made in
+    let done = rw new at put in
+    Whole-next _ _ _ _ _ _ _ _ (got scene frame) _ _ (Whole-next _ _ _ _ _ _ _ _ (done scene frame) _ _
+        (Number-done _ _ _ _ _ old_fits (ap (λ b. cond b (next c.args.plus (number_of c.in_ok-value.value)) (number_of c.in_ok-value.value)) c.if-prefix.false ∙ sym c.number_of-old.ensures)))

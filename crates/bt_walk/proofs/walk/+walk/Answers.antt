@@ -1,0 +1,211 @@
+use Rattle.std.proofs.Common.{◌≡◌, ◌≤◌, ◌<◌, ◌-◌, ◌∷◌, ◌∙◌, ℕ, suc, List, Option, Some, None, option_map, map, drop, true, false, refl, sym, ap, subst, arith, rules, SFits, w64}
+use Rattle.std.proofs.lemmas.Int.{to_z-of_z}
+use Rattle.std.proofs.lemmas.Result.{err_from_is_err_and, IfOk-weaker}
+use Rattle.bt_core.proofs.InteractionLaws.{Left-here, Left-is}
+use Rattle.typed_tree.specs.declared.stmt.TypedBlock as blocks
+use Rattle.typed_tree.specs.declared.stmt.TypedStmt as stmts
+use Rattle.typed_tree.specs.declared.stmt.TypedBlock.{TypedBlock}
+use Rattle.typed_tree.specs.declared.stmt.TypedStmt.{TypedStmt}
+use Rattle.bt_walk.specs.declared.flow.Flow.{Flow}
+use Rattle.bt_walk.specs.declared.flow.Flow.TheVariants.{Stop}
+use Rattle.bt_walk.specs.declared.ending.Ending.TheVariants.{Cut}
+use Rattle.bt_walk.specs.Does.{Does}
+use Rattle.bt_walk.specs.Flows.{leaves}
+use Rattle.bt_walk.specs.Stmts.{stmt_does, block_does, in_turn, first_arm, block_or_next}
+use Rattle.bt_walk.specs.Walked.{IsServed, StmtFits, BlockFits, Fits, scene_in}
+use Rattle.bt_walk.proofs.Binds.{Walked-next, Seen-done, Changed-done}
+use Rattle.bt_walk.proofs.Loops.{Left-Walked, done_with, block-stop, block-next, block-leaves, block-end, arm-stop, arm-yes, arm-no, arms-end, turns-start, turns-stop, turns-next, turns-leaves, turns-end, while-starts, while-stop, while-ends, while-breaks, while-leaves, while-again}
+use Rattle.bt_walk.proofs.StmtDoes.{Walked-stmt, print_stmt, if_stmt, arms_fit, otherwise_fits, block_is, stmts_fit}
+use Rattle.bt_walk.proofs.walk.+walk.Goals as goal
+
+stopped : (flow : Flow) → flow ≡ Stop Cut → leaves flow ≡ None → ⊥
+stopped flow e none = let some : leaves flow ≡ Some (Stop Cut) = ap leaves e in cc
+
+pub walk_block-loop-stmt-init : goal.walk_block-loop-stmt-init
+walk_block-loop-stmt-init g t c =
+    let is = block_is c.args.block.now ∙ ap (λ (l : List TypedStmt). in_turn (map stmt_does l)) (sym c.as_slice-stmt-items.ensures) in
+    record { left = Left-is _ _ _ _ _ (Left-here _ _) (ap (λ (d : Does Flow). d (scene_in c.args.view.now) c.args.frame.now) is); kept = refl; turns = omega arith }
+
+pub walk_block-walk_stmt-requires : goal.walk_block-walk_stmt-requires
+walk_block-walk_stmt-requires g t c κs within =
+    let fit : StmtFits c.args.view.now c.stmt-item.result = stmts_fit c.args.view.now c.args.block.now _ _ _ c.as_slice-stmt-items.ensures c.loop-stmt-test.true c.stmt-item.is c.requires.fits in
+    let same : IsServed c.args.view.now (g.P.Port.fixed c.loop-stmt.port).setting = rw c.loop-stmt.invariant.kept c.requires.served in
+    (search (rules, stmts.the_lemmas, blocks.the_lemmas), (within.0, (within.1, (same, fit))))
+
+pub walk_block-returns-in_err-flow-clause-walked : goal.walk_block-returns-in_err-flow-clause-walked
+walk_block-returns-in_err-flow-clause-walked g t c =
+    let p = err_from_is_err_and c.from_residual.result c.from_residual.ensures.1 in
+    rw p.1 (block-stop _ _ _ _ _ _ _ _ _ c.loop-stmt-test.true c.stmt-item.is c.loop-stmt.invariant.left c.in_err-flow.ensures.walked)
+
+pub walk_block-returns-else-is_next-clause-walked : goal.walk_block-returns-else-is_next-clause-walked
+walk_block-returns-else-is_next-clause-walked g t c = block-leaves _ _ _ _ _ _ _ _ _ c.loop-stmt-test.true c.stmt-item.is c.loop-stmt.invariant.left _ _ c.in_ok-flow.ensures.walked (sym c.is_next.ensures ∙ c.if-is_next.false)
+
+pub walk_block-loop-stmt-preserved : goal.walk_block-loop-stmt-preserved
+walk_block-loop-stmt-preserved g t c =
+    record {
+      left = block-next _ _ _ _ _ _ _ _ _ c.loop-stmt-test.true c.stmt-item.is c.loop-stmt.invariant.left _ _ c.in_ok-flow.ensures.walked (sym c.is_next.ensures ∙ c.if-is_next.true);
+      kept = c.in_ok-flow.ensures.kept ∙ c.loop-stmt.invariant.kept;
+      turns = omega (arith, c.in_ok-flow.ensures.turns, c.loop-stmt.invariant.turns);
+    }
+
+pub walk_block-returns-clause-walked : goal.walk_block-returns-clause-walked
+walk_block-returns-clause-walked g t c = block-end _ _ _ _ _ _ _ c.loop-stmt-test.false c.loop-stmt.invariant.left
+
+pub walk_stmt-loop-arm-init : goal.walk_stmt-loop-arm-init
+walk_stmt-loop-arm-init g t c =
+    record {
+      left = Left-is _ _ _ _ _ (Left-here _ _) (ap (λ (d : Does Flow). d (scene_in c.args.view.now) c.args.frame.now) (if_stmt _ _ _ _ c.in-If.is c.as_slice-arm-items.ensures));
+      kept = refl;
+      turns = omega arith;
+    }
+
+pub walk_stmt-number-requires-clause-served : goal.walk_stmt-number-requires-clause-served
+walk_stmt-number-requires-clause-served g t c = rw c.loop-arm.invariant.kept c.requires.served
+
+pub walk_stmt-number-requires-clause-fits : goal.walk_stmt-number-requires-clause-fits
+walk_stmt-number-requires-clause-fits g t c = (arms_fit c.args.view.now _ _ _ _ _ _ c.in-If.is c.as_slice-arm-items.ensures c.loop-arm-test.true c.arm-item.is c.requires.fits).0
+
+pub walk_stmt-returns-in_err-test-in-If-clause-walked : goal.walk_stmt-returns-in_err-test-in-If-clause-walked
+walk_stmt-returns-in_err-test-in-If-clause-walked g t c =
+    let p = err_from_is_err_and c.from_residual.result c.from_residual.ensures.1 in
+    rw p.1 (arm-stop _ _ _ _ _ _ _ _ _ _ c.loop-arm-test.true c.arm-item.is c.loop-arm.invariant.left c.in_err-test-in-If.ensures.walked)
+
+pub walk_stmt-returns-in_err-test-in-If-clause-kept : goal.walk_stmt-returns-in_err-test-in-If-clause-kept
+walk_stmt-returns-in_err-test-in-If-clause-kept g t c = c.in_err-test-in-If.ensures.kept ∙ c.loop-arm.invariant.kept
+
+pub walk_stmt-returns-in_err-test-in-If-clause-turns : goal.walk_stmt-returns-in_err-test-in-If-clause-turns
+walk_stmt-returns-in_err-test-in-If-clause-turns g t c = omega (arith, c.in_err-test-in-If.ensures.turns, c.loop-arm.invariant.turns)
+
+pub walk_stmt-walk_block-requires : goal.walk_stmt-walk_block-requires
+walk_stmt-walk_block-requires g t c κs within =
+    let fits = (arms_fit c.args.view.now _ _ _ _ _ _ c.in-If.is c.as_slice-arm-items.ensures c.loop-arm-test.true c.arm-item.is c.requires.fits) in
+    let same : IsServed c.args.view.now (g.P.Port.fixed c.number.new.port).setting = rw (c.in_ok-test-in-If.ensures.kept, c.loop-arm.invariant.kept) c.requires.served in
+    (search (rules, stmts.the_lemmas, blocks.the_lemmas), (within.0, (within.1, (same, fits.1))))
+
+pub walk_stmt-returns-then-holds-clause-walked : goal.walk_stmt-returns-then-holds-clause-walked
+walk_stmt-returns-then-holds-clause-walked g t c =
+    let tested : SFits w64 c.in_ok-test-in-If.test = search rules in
+    let test = simp to_z-of_z at c.holds.ensures in
+    let e = sym test ∙ c.if-holds.true in
+    Left-Walked (stmt_does c.args.s.now) (scene_in c.args.view.now) c.args.frame.now (block_does c.arm-item.result.1) _ _ _ _ _ _ (arm-yes _ _ _ _ _ _ _ _ _ _ c.loop-arm-test.true c.arm-item.is c.loop-arm.invariant.left _ _ c.in_ok-test-in-If.ensures.walked e) c.walk_block.ensures.walked
+
+pub walk_stmt-returns-then-holds-clause-kept : goal.walk_stmt-returns-then-holds-clause-kept
+walk_stmt-returns-then-holds-clause-kept g t c = c.walk_block.ensures.kept ∙ (c.in_ok-test-in-If.ensures.kept ∙ c.loop-arm.invariant.kept)
+
+pub walk_stmt-returns-then-holds-clause-turns : goal.walk_stmt-returns-then-holds-clause-turns
+walk_stmt-returns-then-holds-clause-turns g t c = omega (arith, c.walk_block.ensures.turns, c.in_ok-test-in-If.ensures.turns, c.loop-arm.invariant.turns)
+
+pub walk_stmt-loop-arm-preserved : goal.walk_stmt-loop-arm-preserved
+walk_stmt-loop-arm-preserved g t c =
+    let tested : SFits w64 c.in_ok-test-in-If.test = search rules in
+    let test = simp to_z-of_z at c.holds.ensures in
+    let e = sym test ∙ c.if-holds.false in
+    record {
+      left = arm-no _ _ _ _ _ _ _ _ _ _ c.loop-arm-test.true c.arm-item.is c.loop-arm.invariant.left _ _ c.in_ok-test-in-If.ensures.walked e;
+      kept = c.in_ok-test-in-If.ensures.kept ∙ c.loop-arm.invariant.kept;
+      turns = omega (arith, c.in_ok-test-in-If.ensures.turns, c.loop-arm.invariant.turns);
+    }
+
+pub walk_stmt-walk_block-requires-in-Some : goal.walk_stmt-walk_block-requires-in-Some
+walk_stmt-walk_block-requires-in-Some g t c κs within =
+    let fit = otherwise_fits c.args.view.now _ _ _ _ c.in-If.is c.in-Some.is c.requires.fits in
+    let same : IsServed c.args.view.now (g.P.Port.fixed c.loop-arm.port).setting = rw c.loop-arm.invariant.kept c.requires.served in
+    (search (rules, stmts.the_lemmas, blocks.the_lemmas), (within.0, (within.1, (same, fit))))
+
+pub walk_stmt-returns-in-Print-clause-walked : goal.walk_stmt-returns-in-Print-clause-walked
+walk_stmt-returns-in-Print-clause-walked g t c =
+    let fits : SFits w64 c.in-Print.div = search rules in
+    let shown = simp to_z-of_z at c.print.ensures.walked in
+    Walked-stmt _ _ _ _ _ _ _ _ (print_stmt _ _ _ _ c.in-Print.is) (shown _)
+
+pub walk_stmt-returns-in-Some-clause-walked : goal.walk_stmt-returns-in-Some-clause-walked
+walk_stmt-returns-in-Some-clause-walked g t c =
+    Left-Walked (stmt_does c.args.s.now) (scene_in c.args.view.now) c.args.frame.now (block_does c.in-Some.block) _ _ _ _ _ _ (Left-is _ _ _ _ _ (arms-end _ _ _ _ _ _ _ _ c.loop-arm-test.false c.loop-arm.invariant.left) (ap (λ (o : Option TypedBlock). block_or_next (option_map block_does o) (scene_in c.args.view.now) c.loop-arm.frame) c.in-Some.is)) c.walk_block-in-Some.ensures.walked
+
+pub walk_stmt-returns-in-Some-clause-kept : goal.walk_stmt-returns-in-Some-clause-kept
+walk_stmt-returns-in-Some-clause-kept g t c = c.walk_block-in-Some.ensures.kept ∙ c.loop-arm.invariant.kept
+
+pub walk_stmt-returns-in-Some-clause-turns : goal.walk_stmt-returns-in-Some-clause-turns
+walk_stmt-returns-in-Some-clause-turns g t c = omega (arith, c.walk_block-in-Some.ensures.turns, c.loop-arm.invariant.turns)
+
+pub walk_stmt-returns-in-None-clause-walked : goal.walk_stmt-returns-in-None-clause-walked
+walk_stmt-returns-in-None-clause-walked g t c =
+    done_with _ _ _ _ _ _ _ (ap (λ (o : Option TypedBlock). block_or_next (option_map block_does o)) c.in-None.is) (arms-end _ _ _ _ _ _ _ _ c.loop-arm-test.false c.loop-arm.invariant.left)
+
+pub walk_stmt-returns-in-None-clause-kept : goal.walk_stmt-returns-in-None-clause-kept
+walk_stmt-returns-in-None-clause-kept g t c = c.loop-arm.invariant.kept
+
+pub walk_stmt-returns-in-None-clause-turns : goal.walk_stmt-returns-in-None-clause-turns
+walk_stmt-returns-in-None-clause-turns g t c = c.loop-arm.invariant.turns
+
+pub walk_turn-returns-then-frame-eq0-clause-walked : goal.walk_turn-returns-then-frame-eq0-clause-walked
+walk_turn-returns-then-frame-eq0-clause-walked g t c = (Walked-next _ _ _ _ _ _ _ _ (Seen-done _ 0 _ _ _ c.if-frame-eq0.true) _ _ _ (c.cut.ensures.made _ _))
+
+pub walk_turn-returns-then-frame-eq0-clause-fewer : goal.walk_turn-returns-then-frame-eq0-clause-fewer
+walk_turn-returns-then-frame-eq0-clause-fewer g t c = IfOk-weaker c.cut.result (λ flow. flow ≡ Stop Cut) (λ flow. leaves flow ≡ None → c.args.frame.now.turns < c.args.frame.now.turns) (λ flow e none. absurd (stopped flow e none)) c.cut.ensures.stops
+
+pub walk_turn-returns-else-frame-eq0-clause-walked : goal.walk_turn-returns-else-frame-eq0-clause-walked
+walk_turn-returns-else-frame-eq0-clause-walked g t c = (Walked-next _ _ _ _ _ _ _ _ (Seen-done _ (suc (c.args.frame.now.turns - 1)) _ _ _ (omega (arith, c.if-frame-eq0.false))) _ _ _ (Walked-next _ _ _ _ _ _ _ _ (Changed-done _ _ _ _ _ tt refl) _ _ _ c.walk_block.ensures.walked))
+
+pub walk_turns-loop-made-init : goal.walk_turns-loop-made-init
+walk_turns-loop-made-init g t c = record { left = turns-start _ _ _ _ _ _; kept = refl; turns = omega arith }
+
+pub walk_turns-returns-in_err-flow-clause-walked : goal.walk_turns-returns-in_err-flow-clause-walked
+walk_turns-returns-in_err-flow-clause-walked g t c =
+    let p = err_from_is_err_and c.from_residual.result c.from_residual.ensures.1 in
+    rw p.1 (turns-stop _ _ _ _ _ _ _ _ _ _ c.loop-made-test.true c.loop-made.invariant.left c.in_err-flow.ensures.walked)
+
+pub walk_turns-returns-in-Some-clause-walked : goal.walk_turns-returns-in-Some-clause-walked
+walk_turns-returns-in-Some-clause-walked g t c = turns-leaves _ _ _ _ _ _ _ _ _ _ c.loop-made-test.true c.loop-made.invariant.left _ _ c.in_ok-flow.ensures.walked _ (sym c.leaves.ensures ∙ c.in-Some.is)
+
+pub walk_turns-loop-made-preserved : goal.walk_turns-loop-made-preserved
+walk_turns-loop-made-preserved g t c =
+    record {
+      left = turns-next _ _ _ _ _ _ _ _ _ _ c.loop-made-test.true c.loop-made.invariant.left _ _ c.in_ok-flow.ensures.walked (sym c.leaves.ensures ∙ c.in-None.is);
+      kept = c.in_ok-flow.ensures.kept ∙ c.loop-made.invariant.kept;
+      turns = omega (arith, c.in_ok-flow.ensures.turns, c.loop-made.invariant.turns);
+    }
+
+pub walk_turns-returns-clause-walked : goal.walk_turns-returns-clause-walked
+walk_turns-returns-clause-walked g t c = turns-end _ _ _ _ _ _ _ _ _ c.loop-made-test.false c.loop-made.invariant.left
+
+pub walk_while-loop-value-init : goal.walk_while-loop-value-init
+walk_while-loop-value-init g t c = record { looping = while-starts _ _ _ _ _ _; kept = refl; turns = omega arith }
+
+pub walk_while-returns-in_err-value-clause-walked : goal.walk_while-returns-in_err-value-clause-walked
+walk_while-returns-in_err-value-clause-walked g t c =
+    let p = err_from_is_err_and c.from_residual.result c.from_residual.ensures.1 in
+    rw p.1 (while-stop _ _ _ _ _ _ _ _ c.loop-value.invariant.looping _ c.in_err-value.ensures.walked)
+
+pub walk_while-returns-in_err-flow-clause-walked : goal.walk_while-returns-in_err-flow-clause-walked
+walk_while-returns-in_err-flow-clause-walked g t c =
+    let p = err_from_is_err_and c.from_residual-in_err-flow.result c.from_residual-in_err-flow.ensures.1 in
+    let tested : SFits w64 c.in_ok-value.value = search rules in
+    let test = simp to_z-of_z at c.holds.ensures in
+    let e = sym test ∙ c.if-holds.true in
+    rw p.1 (while-breaks _ _ _ _ _ _ _ _ c.loop-value.invariant.looping _ _ _ c.in_ok-value.ensures.walked _ e c.in_err-flow.ensures.walked)
+
+pub walk_while-returns-in-Some-clause-walked : goal.walk_while-returns-in-Some-clause-walked
+walk_while-returns-in-Some-clause-walked g t c =
+    let tested : SFits w64 c.in_ok-value.value = search rules in
+    let test = simp to_z-of_z at c.holds.ensures in
+    let e = sym test ∙ c.if-holds.true in
+    while-leaves _ _ _ _ _ _ _ _ c.loop-value.invariant.looping _ _ _ c.in_ok-value.ensures.walked _ _ _ e c.in_ok-flow.ensures.walked _ (sym c.leaves.ensures ∙ c.in-Some.is)
+
+pub walk_while-loop-value-preserved : goal.walk_while-loop-value-preserved
+walk_while-loop-value-preserved g t c =
+    let tested : SFits w64 c.in_ok-value.value = search rules in
+    let test = simp to_z-of_z at c.holds.ensures in
+    let e = sym test ∙ c.if-holds.true in
+    record {
+      looping = while-again _ _ _ _ _ _ _ _ c.loop-value.invariant.looping _ _ _ c.in_ok-value.ensures.walked _ _ _ e c.in_ok-flow.ensures.walked (sym c.leaves.ensures ∙ c.in-None.is) c.in_ok-value.ensures.turns (c.in_ok-flow.ensures.fewer (sym c.leaves.ensures ∙ c.in-None.is));
+      kept = c.in_ok-flow.ensures.kept ∙ (c.in_ok-value.ensures.kept ∙ c.loop-value.invariant.kept);
+      turns = omega (arith, c.in_ok-flow.ensures.turns, c.in_ok-value.ensures.turns, c.loop-value.invariant.turns);
+    }
+
+pub walk_while-returns-else-holds-clause-walked : goal.walk_while-returns-else-holds-clause-walked
+walk_while-returns-else-holds-clause-walked g t c =
+    let tested : SFits w64 c.in_ok-value.value = search rules in
+    let test = simp to_z-of_z at c.holds.ensures in
+    let e = sym test ∙ c.if-holds.false in
+    while-ends _ _ _ _ _ _ _ _ c.loop-value.invariant.looping _ _ _ c.in_ok-value.ensures.walked e

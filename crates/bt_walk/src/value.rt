@@ -1,0 +1,253 @@
+// The evaluation of expressions through a port.
+ghost use Rattle.std.specs.Prelude.{◌≡◌, ◌≤◌, length, cond, not, IfOk};
+ghost use Rattle.std.specs.Str.{bytes_eq};
+ghost use Rattle.bt_core.specs.declared.map.MapKind.TheVariants as kinds;
+ghost use Rattle.bt_core.specs.declared.value.Value.TheVariants as values;
+ghost use Rattle.bt_core.specs.Kinds.{HasShape, IsOfShape};
+ghost use Rattle.typed_tree.specs.Parts.{made_of, num_parts, str_parts, parts_in, key_shapes};
+ghost use Rattle.bt_walk.specs.Exprs.{value_does, values_do, number_does, text_does, step_at, read};
+ghost use Rattle.bt_walk.specs.Maps.{next, number_of, variable, with_variable};
+ghost use Rattle.bt_walk.specs.Does.{in_order};
+ghost use Rattle.bt_walk.specs.Walked.{Walked, all_made, Made, IsServed, Fits, NamesShared, HoldsUnder, scene_in};
+
+use crate::access::{assign, get, holds, next, number_of, set, text_of, truth, variable};
+use crate::flow::Frame;
+use crate::view::{View, builtin_value};
+use bt_core::arithmetic::{binary, unary};
+use bt_core::items::Items;
+use bt_core::key::Key;
+use bt_core::map::MapId;
+use bt_core::memory::{Memory, TryCopy};
+use bt_core::port::Port;
+use bt_core::text::Str64;
+use bt_core::value::Value;
+use event_record::reading::{int_field, str_field};
+use std::alloc::Global;
+use typed_tree::expr::{AnyExpr, NumExpr, StrExpr};
+
+/// Evaluates an expression.
+#[cycle(value)]
+pub fn value<P: Port>(
+    alloc: Global,
+    view: &View<'_>,
+    e: &AnyExpr,
+    frame: &mut Frame,
+    port: &mut P,
+) -> Result<Value, Memory>
+    requires served { IsServed view.now (P.fixed port.old).setting }
+    requires fits { Fits view.now (made_of e.now).parts }
+    ensures walked { Walked (value_does e.now) (scene_in view.now) frame.old (P.steps port.old) (P.steps port.new) result frame.new }
+    ensures shaped { IfOk result (λ value. IsOfShape (made_of e.now).shape value) }
+    ensures kept { P.fixed port.new ≡ P.fixed port.old }
+    ensures turns { frame.new.turns ≡ frame.old.turns }
+{
+    match e {
+        AnyExpr::Num(e) => {
+            let n = number(alloc, view, e, frame, port)?;
+            Ok(Value::Int(n))
+        }
+        AnyExpr::Str(e) => {
+            let s = text(alloc, view, e, frame, port)?;
+            Ok(Value::Str(s))
+        }
+    }
+}
+
+/// Evaluates a whole number.
+#[cycle(value)]
+pub fn number<P: Port>(
+    alloc: Global,
+    view: &View<'_>,
+    e: &NumExpr,
+    frame: &mut Frame,
+    port: &mut P,
+) -> Result<i64, Memory>
+    requires served { IsServed view.now (P.fixed port.old).setting }
+    requires fits { Fits view.now (num_parts e.now) }
+    ensures walked { Walked (number_does e.now) (scene_in view.now) frame.old (P.steps port.old) (P.steps port.new) result frame.new }
+    ensures kept { P.fixed port.new ≡ P.fixed port.old }
+    ensures turns { frame.new.turns ≡ frame.old.turns }
+{
+    match e {
+        NumExpr::Number(n) => Ok(*n),
+        NumExpr::Builtin(b) => Ok(builtin_value(*b, view.context)),
+        NumExpr::Field(f) => Ok(int_field(f, view.payload)),
+        NumExpr::Var(x) => Ok(number_of(&variable(*x, frame))),
+        NumExpr::Map { map, keys } => {
+            let read = read(alloc, view, *map, keys.as_slice(), frame, port)?;
+            Ok(number_of(&read))
+        }
+        NumExpr::StepVar { var, plus, prefix } => Ok(step_variable(*var, *plus, *prefix, frame)),
+        NumExpr::StepMap {
+            map,
+            keys,
+            plus,
+            prefix,
+        } => {
+            let parts = values(alloc, view, keys.as_slice(), frame, port)?;
+            let key = Key::of(parts.into_vec());
+            step_map(alloc, *map, key, *plus, *prefix, port)
+        }
+        NumExpr::Unary { op, value } => {
+            let a = number(alloc, view, value.get(), frame, port)?;
+            Ok(unary(*op, a))
+        }
+        NumExpr::Binary { op, left, right } => {
+            let a = number(alloc, view, left.get(), frame, port)?;
+            let b = number(alloc, view, right.get(), frame, port)?;
+            Ok(binary(*op, a, b))
+        }
+        NumExpr::Compare { equal, left, right } => {
+            let a = text(alloc, view, left.get(), frame, port)?;
+            let b = text(alloc, view, right.get(), frame, port)?;
+            Ok(truth(compared(*equal, &a, &b)))
+        }
+        NumExpr::AndThen { left, right } => {
+            let a = number(alloc, view, left.get(), frame, port)?;
+            if holds(a) {
+                let b = number(alloc, view, right.get(), frame, port)?;
+                Ok(truth(holds(b)))
+            } else {
+                Ok(0)
+            }
+        }
+        NumExpr::OrElse { left, right } => {
+            let a = number(alloc, view, left.get(), frame, port)?;
+            if holds(a) {
+                Ok(1)
+            } else {
+                let b = number(alloc, view, right.get(), frame, port)?;
+                Ok(truth(holds(b)))
+            }
+        }
+        NumExpr::Choose { condition, yes, no } => {
+            let test = number(alloc, view, condition.get(), frame, port)?;
+            if holds(test) {
+                number(alloc, view, yes.get(), frame, port)
+            } else {
+                number(alloc, view, no.get(), frame, port)
+            }
+        }
+    }
+}
+
+/// Evaluates a string.
+#[cycle(value)]
+pub fn text<P: Port>(
+    alloc: Global,
+    view: &View<'_>,
+    e: &StrExpr,
+    frame: &mut Frame,
+    port: &mut P,
+) -> Result<Str64, Memory>
+    requires served { IsServed view.now (P.fixed port.old).setting }
+    requires fits { Fits view.now (str_parts e.now) }
+    ensures walked { Walked (text_does e.now) (scene_in view.now) frame.old (P.steps port.old) (P.steps port.new) result frame.new }
+    ensures kept { P.fixed port.new ≡ P.fixed port.old }
+    ensures turns { frame.new.turns ≡ frame.old.turns }
+{
+    match e {
+        StrExpr::Text(s) => Ok(s.copy()),
+        StrExpr::Comm => Ok(view.context.comm.copy()),
+        StrExpr::Field(f) => Ok(str_field(f, view.payload)),
+        StrExpr::Var(x) => Ok(text_of(&variable(*x, frame))),
+        StrExpr::Map { map, keys } => {
+            let read = read(alloc, view, *map, keys.as_slice(), frame, port)?;
+            Ok(text_of(&read))
+        }
+        StrExpr::Choose { condition, yes, no } => {
+            let test = number(alloc, view, condition.get(), frame, port)?;
+            if holds(test) {
+                text(alloc, view, yes.get(), frame, port)
+            } else {
+                text(alloc, view, no.get(), frame, port)
+            }
+        }
+    }
+}
+
+/// The value of a map under a key that is evaluated first.
+#[cycle(value)]
+fn read<P: Port>(
+    alloc: Global,
+    view: &View<'_>,
+    map: MapId,
+    keys: &[AnyExpr],
+    frame: &mut Frame,
+    port: &mut P,
+) -> Result<Value, Memory>
+    requires served { IsServed view.now (P.fixed port.old).setting }
+    requires fits { Fits view.now (parts_in (all_made keys.now)) }
+    requires declared { NamesShared view.now map (key_shapes (all_made keys.now)) }
+    ensures walked { Walked (read map (values_do keys.now)) (scene_in view.now) frame.old (P.steps port.old) (P.steps port.new) result frame.new }
+    ensures kept { P.fixed port.new ≡ P.fixed port.old }
+    ensures turns { frame.new.turns ≡ frame.old.turns }
+{
+    let parts = values(alloc, view, keys, frame, port)?;
+    let key = Key::of(parts.into_vec());
+    get(alloc, map, key, port)
+}
+
+/// Evaluates expressions from left to right.
+#[cycle(value)]
+pub fn values<P: Port>(
+    alloc: Global,
+    view: &View<'_>,
+    keys: &[AnyExpr],
+    frame: &mut Frame,
+    port: &mut P,
+) -> Result<Items<Value>, Memory>
+    requires served { IsServed view.now (P.fixed port.old).setting }
+    requires fits { Fits view.now (parts_in (all_made keys.now)) }
+    ensures walked { Walked (in_order (values_do keys.now)) (scene_in view.now) frame.old (P.steps port.old) (P.steps port.new) result frame.new }
+    ensures shaped { IfOk result (λ values. HasShape (key_shapes (all_made keys.now)) values) }
+    ensures kept { P.fixed port.new ≡ P.fixed port.old }
+    ensures turns { frame.new.turns ≡ frame.old.turns }
+{
+    let mut parts = Items::new(alloc);
+    for key in keys {
+        let part = value(alloc, view, key, frame, port)?;
+        parts.push(part)?;
+    }
+    Ok(parts)
+}
+
+/// Whether two strings are equal, or whether they differ.
+fn compared(equal: bool, a: &Str64, b: &Str64) -> bool
+    ensures { result ≡ cond equal (bytes_eq a.now b.now) (not (bytes_eq a.now b.now)) }
+{
+    let same = a.bytes() == b.bytes();
+    if equal { same } else { !same }
+}
+
+/// Steps a variable, and gives its new value or its old one.
+fn step_variable(var: u32, plus: bool, prefix: bool, frame: &mut Frame) -> i64
+    ensures value { result ≡ cond prefix (next plus (number_of (variable var frame.old))) (number_of (variable var frame.old)) }
+    ensures frame { frame.new ≡ with_variable var (values.Int (next plus (number_of (variable var frame.old)))) frame.old }
+{
+    let old = number_of(&variable(var, frame));
+    let new = next(plus, old);
+    assign(var, Value::Int(new), frame);
+    if prefix { new } else { old }
+}
+
+/// Steps the value of a map under a key, and gives the new one or the old one.
+fn step_map<P: Port>(
+    alloc: Global,
+    map: MapId,
+    key: Key,
+    plus: bool,
+    prefix: bool,
+    port: &mut P,
+) -> Result<i64, Memory>
+    requires { HoldsUnder (P.fixed port.old).setting map kinds.Ints key }
+    ensures made { Made (step_at map key plus prefix) (P.steps port.old) (P.steps port.new) result }
+    ensures kept { P.fixed port.new ≡ P.fixed port.old }
+{
+    let again = key.try_copy(alloc)?;
+    let value = get(alloc, map, again, port)?;
+    let old = number_of(&value);
+    let new = next(plus, old);
+    set(alloc, map, key, Value::Int(new), port)?;
+    if prefix { Ok(new) } else { Ok(old) }
+}
