@@ -1,5 +1,6 @@
 -- Agendas: which events and ticks a CPU takes, and in which order.
-use Rattle.std.specs.Prelude.{◌≡◌, ℕ, suc, ⊤, ◌+◌, ◌<◌, ◌≤◌, ◌&&◌, nat_le, nat_lt, Bool, List, [], ◌∷◌, ◌++◌, length, slice_get, Option, Some, None, if◌then◌else◌}
+use Rattle.std.specs.Prelude.{◌≡◌, ℕ, suc, ⊤, ◌+◌, ◌<◌, ◌≤◌, ◌&&◌, nat_le, nat_lt, Bool, List, [], ◌∷◌, ◌++◌}
+use Rattle.std.specs.Prelude.{length, slice_get, Option, Some, None, if◌then◌else◌}
 use Rattle.std.specs.List.{AllByRecursion, filter_map, range_with_len}
 use Rattle.bt_ast.specs.declared.attached.Attached.{Attached}
 use Rattle.bt_ast.specs.declared.attached.Tick.{Tick}
@@ -12,7 +13,8 @@ use Rattle.actor_plan.specs.declared.agenda.AgendaItem.TheVariants as item
 -- from one tick to the next the time does not fall, and at one time the body does not fall
 pub record AreInTurn (ticks : List Tick) : Type 0 where
   pub times : (place : ℕ) (s t : Tick) → slice_get ticks place ≡ Some s → slice_get ticks (suc place) ≡ Some t → s.time ≤ t.time
-  pub bodies : (place : ℕ) (s t : Tick) → slice_get ticks place ≡ Some s → slice_get ticks (suc place) ≡ Some t → s.time ≡ t.time → s.body ≤ t.body
+  pub bodies : (place : ℕ) (s t : Tick) → slice_get ticks place ≡ Some s → slice_get ticks (suc place) ≡ Some t
+      → s.time ≡ t.time → s.body ≤ t.body
 
 -- the events of a track, if it is there
 abbrev pub events_on_track : Option CpuTrack → List Event

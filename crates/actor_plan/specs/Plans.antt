@@ -41,14 +41,16 @@ IsBodyFor plan size body = (body < length plan.sizes) × (slice_index plan.sizes
 
 -- All that is attached are bodies of the plan. Those of a format may be run at its events, and the others without a payload.
 pub record HasBodies (plan : Plan) (formats : List Format) (attached : Attached) : Type 0 where
-  pub by_format : (place : ℕ) (f : Format) → slice_get formats place ≡ Some f → All (IsBodyFor plan f.layout.size) (slice_index_or attached.by_format place [])
+  pub by_format : (place : ℕ) (f : Format) → slice_get formats place ≡ Some f
+      → All (IsBodyFor plan f.layout.size) (slice_index_or attached.by_format place [])
   pub ticks : All (λ (t : Tick). IsBodyFor plan 0 t.body) attached.ticks
   pub begin : All (IsBodyFor plan 0) attached.begin
   pub finish : All (IsBodyFor plan 0) attached.end
 
 -- whatever is replied, no run of a body takes more instructions than the limit
 abbrev pub TakesFew : Plan → Type 0
-TakesFew plan = (body : ℕ) (context : Context) (payload : List ℕ) (replies : List Reply) (count : ℕ) → value_under (plan.run body context payload) replies ≡ Some count → count ≤ RUN_INSTRUCTIONS
+TakesFew plan = (body : ℕ) (context : Context) (payload : List ℕ) (replies : List Reply) (count : ℕ)
+    → value_under (plan.run body context payload) replies ≡ Some count → count ≤ RUN_INSTRUCTIONS
 
 -- under replies of the kinds that the operations have, each operation that is asked is one that a port of this setting can make
 abbrev pub OnlyAsks : {A : Type 0} → Setting → Interaction A → Type 0

@@ -26,7 +26,8 @@ pub(crate) fn run_in_turn<B: Bodies, P: Port>(
     requires counted { context.now.payload_len ≡ length payload.now }
     requires served { ServesPlan (B.plan bodies.old) (P.fixed port.old).setting }
     requires few { TakesFew (B.plan bodies.old) }
-    ensures performed { Performed (in_turn (λ body. (B.plan bodies.old).run body context.now payload.now) which.now) (P.steps port.old) (P.steps port.new) result }
+    ensures performed { Performed (in_turn (λ body. (B.plan bodies.old).run body context.now payload.now) which.now)
+        (P.steps port.old) (P.steps port.new) result }
     ensures few { IfOk result (λ count. count ≤ MOST_BODIES * RUN_INSTRUCTIONS) }
     ensures port_kept { P.fixed port.new ≡ P.fixed port.old }
     ensures plan_kept { B.plan bodies.new ≡ B.plan bodies.old }

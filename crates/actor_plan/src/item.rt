@@ -30,7 +30,8 @@ fn run_event<B: Bodies, P: Port>(
 ) -> Result<u64, Memory>
     requires ready { IsReady (B.plan bodies.old) recording.now attached.now (P.fixed port.old).setting }
     requires recorded { HasFormat recording.now.formats event.now }
-    ensures performed { Performed (event_work (B.plan bodies.old) recording.now attached.now track.now event.now) (P.steps port.old) (P.steps port.new) result }
+    ensures performed { Performed (event_work (B.plan bodies.old) recording.now attached.now track.now event.now)
+        (P.steps port.old) (P.steps port.new) result }
     ensures few { IfOk result (λ count. count ≤ MOST_BODIES * RUN_INSTRUCTIONS) }
     ensures port_kept { P.fixed port.new ≡ P.fixed port.old }
     ensures plan_kept { B.plan bodies.new ≡ B.plan bodies.old }
@@ -62,7 +63,8 @@ fn run_tick<B: Bodies, P: Port>(
 ) -> Result<u64, Memory>
     requires ready { IsReady (B.plan bodies.old) recording.now attached.now (P.fixed port.old).setting }
     requires there { slice_get attached.now.ticks place ≡ Some tick.now }
-    ensures performed { Performed (tick_work (B.plan bodies.old) recording.now attached.now track.now place tick.now) (P.steps port.old) (P.steps port.new) result }
+    ensures performed { Performed (tick_work (B.plan bodies.old) recording.now attached.now track.now place tick.now)
+        (P.steps port.old) (P.steps port.new) result }
     ensures few { IfOk result (λ count. count ≤ MOST_BODIES * RUN_INSTRUCTIONS) }
     ensures port_kept { P.fixed port.new ≡ P.fixed port.old }
     ensures plan_kept { B.plan bodies.new ≡ B.plan bodies.old }
@@ -86,7 +88,8 @@ pub(crate) fn run_item<B: Bodies, P: Port>(
 ) -> Result<u64, Memory>
     requires ready { IsReady (B.plan bodies.old) recording.now attached.now (P.fixed port.old).setting }
     requires on_cpu { slice_get recording.now.cpus (B.plan bodies.old).actor ≡ Some track.now }
-    ensures performed { Performed (item_work (B.plan bodies.old) recording.now attached.now track.now item) (P.steps port.old) (P.steps port.new) result }
+    ensures performed { Performed (item_work (B.plan bodies.old) recording.now attached.now track.now item)
+        (P.steps port.old) (P.steps port.new) result }
     ensures few { IfOk result (λ count. count ≤ MOST_BODIES * RUN_INSTRUCTIONS) }
     ensures port_kept { P.fixed port.new ≡ P.fixed port.old }
     ensures plan_kept { B.plan bodies.new ≡ B.plan bodies.old }
