@@ -48,13 +48,25 @@ long_or : (n : ℕ) (told : Option (List ℕ)) → IfSome told (λ bytes. n < le
 long_or n None long = (long_list n).1
 long_or n (Some bytes) long = long
 
+-- files that hold what is told, and are too long where nothing is
+abbrev long_script : Order → ShelfUse → Files
+long_script order seen =
+    record {
+      script = unwrap_or (seen.held (operands_of order).script) (long_list SCRIPT_BYTES).0;
+      recording = unwrap_or (seen.held (operands_of order).recording) [];
+    }
+
+abbrev long_recording : Order → ShelfUse → List ℕ → Files
+long_recording order seen bytes =
+    record { script = bytes; recording = unwrap_or (seen.held (operands_of order).recording) (long_list RECORDING_BYTES).0 }
+
 -- the script is not read
 pub script_unread : (order : Order) (seen : ShelfUse) (error : ShelfError)
     → (error ≡ shelf.Failed → ShelfFailed seen)
     → (error ≡ shelf.TooLong → IfSome (seen.held (operands_of order).script) (λ bytes. SCRIPT_BYTES < length bytes))
     → Reads order seen (Err (read_refusal operand.Script error))
 script_unread order seen error failed long = record {
-  files = record { script = unwrap_or (seen.held (operands_of order).script) (long_list SCRIPT_BYTES).0; recording = unwrap_or (seen.held (operands_of order).recording) [] };
+  files = long_script order seen;
   held = record { script = held_or _ _; recording = held_or _ _ };
   judged = tt;
   came = came error failed long;
@@ -62,8 +74,7 @@ script_unread order seen error failed long = record {
   where
     came : (error : ShelfError) → (error ≡ shelf.Failed → ShelfFailed seen)
         → (error ≡ shelf.TooLong → IfSome (seen.held (operands_of order).script) (λ bytes. SCRIPT_BYTES < length bytes))
-        → MayCome order (record { script = unwrap_or (seen.held (operands_of order).script) (long_list SCRIPT_BYTES).0; recording = unwrap_or (seen.held (operands_of order).recording) [] })
-        (ShelfFailed seen) ⊥ (Some (read_refusal operand.Script error))
+        → MayCome order (long_script order seen) (ShelfFailed seen) ⊥ (Some (read_refusal operand.Script error))
     came shelf.Failed failed long = failed refl
     came shelf.TooLong failed long = long_or SCRIPT_BYTES (seen.held (operands_of order).script) (long refl)
     came shelf.Memory failed long = tt
@@ -75,7 +86,7 @@ pub recording_unread : (order : Order) (seen : ShelfUse) (bytes : List ℕ) (err
     → (error ≡ shelf.TooLong → IfSome (seen.held (operands_of order).recording) (λ told. RECORDING_BYTES < length told))
     → Reads order seen (Err (read_refusal operand.Recording error))
 recording_unread order seen bytes error here short failed long = record {
-  files = record { script = bytes; recording = unwrap_or (seen.held (operands_of order).recording) (long_list RECORDING_BYTES).0 };
+  files = long_recording order seen bytes;
   held = record { script = here; recording = held_or _ _ };
   judged = tt;
   came = came error failed long;
@@ -83,15 +94,15 @@ recording_unread order seen bytes error here short failed long = record {
   where
     came : (error : ShelfError) → (error ≡ shelf.Failed → ShelfFailed seen)
         → (error ≡ shelf.TooLong → IfSome (seen.held (operands_of order).recording) (λ told. RECORDING_BYTES < length told))
-        → MayCome order (record { script = bytes; recording = unwrap_or (seen.held (operands_of order).recording) (long_list RECORDING_BYTES).0 }) (ShelfFailed seen) ⊥
-        (Some (read_refusal operand.Recording error))
+        → MayCome order (long_recording order seen bytes) (ShelfFailed seen) ⊥ (Some (read_refusal operand.Recording error))
     came shelf.Failed failed long = (failed refl, short)
     came shelf.TooLong failed long = (short, long_or RECORDING_BYTES (seen.held (operands_of order).recording) (long refl))
     came shelf.Memory failed long = tt
 
 -- both are read
 pub both_read : (order : Order) (seen : ShelfUse) (files : Files) (answer : Result Counting Refusal)
-    → IfSome (seen.held (operands_of order).script) (λ told. files.script ≡ told) → IfSome (seen.held (operands_of order).recording) (λ told. files.recording ≡ told) → IfOk answer (IsJudged order files)
+    → IfSome (seen.held (operands_of order).script) (λ told. files.script ≡ told)
+    → IfSome (seen.held (operands_of order).recording) (λ told. files.recording ≡ told) → IfOk answer (IsJudged order files)
     → IfErr answer (IsDueRefusal order files) → Reads order seen answer
 both_read order seen files (Ok counting) first second judged refused =
     record { files = files; held = record { script = first; recording = second }; judged = judged; came = tt }
