@@ -39,5 +39,5 @@ scope body = scope_of body.maps body.formats body.layout body.tree.variables
 pub tree_fits : (body : TypedBody) → (all_fit (scope body) (predicate_parts body.tree.predicate) ≡ true) × (all_fit (scope body) (block_parts body.tree.block false) ≡ true)
 tree_fits body =
     let p = and_parts (all_fit (scope body) (predicate_parts body.tree.predicate)) (all_fit (scope body) (block_parts body.tree.block false))
-        (sym (list_all-append (fits (scope body)) (predicate_parts body.tree.predicate) (block_parts body.tree.block false)) ∙ body.typed) in
+    (sym (list_all-append (fits (scope body)) (predicate_parts body.tree.predicate) (block_parts body.tree.block false)) ∙ body.typed) in
     (p.0, p.1)
