@@ -89,8 +89,13 @@ found : (v : View) (setting : Setting) (m : MapId) (keys : List Shape) (holds : 
 found v setting m keys holds decl s h e k =
     let same = same_shapes-equal decl.key_shape keys e in
     let small = and_parts (is_fine_kind decl.kind) (nat_le (length decl.key_shape) KEY_PARTS) (fine m.0 v.body.now.maps decl s.fine h) in
-    record { decl = decl; here = served setting.maps m.0 v.body.now.maps decl s.can.maps_are_served h; kind = k; shaped = same;
-      few = subst (λ (l : List Shape). length l ≤ KEY_PARTS) same (leb-true (length decl.key_shape) KEY_PARTS small.1) }
+    record {
+      decl = decl;
+      here = served setting.maps m.0 v.body.now.maps decl s.can.maps_are_served h;
+      kind = k;
+      shaped = same;
+      few = subst (λ (l : List Shape). length l ≤ KEY_PARTS) same (leb-true (length decl.key_shape) KEY_PARTS small.1);
+    }
 
 not_agg : (k : MapKind) → (if is_agg k then false else true) ≡ true → IsShared k
 not_agg Ints h = tt
@@ -163,8 +168,8 @@ any_inside : (f : Field) (fs : List Field) → list_any (same_field f) fs ≡ tr
 any_inside f [] h = cc
 any_inside f (g ∷ gs) h =
     elim (or_cases (same_field f g) (list_any (same_field f) gs) h) [
-      inl e ↦ (let same : end_of f ≡ end_of g = same_field-end f g e in omega (arith, same))
-    | inr e ↦ (let below : end_of f ≤ greatest_end gs = any_inside f gs e in omega (arith, below))
+      | inl e ↦ (let same : end_of f ≡ end_of g = same_field-end f g e in omega (arith, same))
+      | inr e ↦ (let below : end_of f ≤ greatest_end gs = any_inside f gs e in omega (arith, below))
     ]
 
 layout_inside : (f : Field) (o : Option Layout) → has_field o f ≡ true → end_of f ≤ least_length o

@@ -1,3 +1,4 @@
+pub mod Bodies
 pub mod Binds
 pub mod Declared
 pub mod ExprDoes

@@ -177,5 +177,8 @@ module _ (whole : Interaction (Flow × Frame)) (line : ℕ) (test : Does ℤ) (b
         where
           more : (m : ℕ) → m ≡ l.fuel → after.turns < m → Looping whole old new line test block scene after
           more zero i b = absurd (omega (arith, b))
-          more (suc m) i b = record { fuel = m; enough = omega (arith, b);
-            left = Left-is _ _ _ _ _ while_turned (ap (λ (d : Does Flow). d scene after) (turns_on flow (tests l.fuel line test block) h) ∙ ap (λ (k : ℕ). tests k line test block scene after) (sym i)) }
+          more (suc m) i b = record {
+            fuel = m;
+            enough = omega (arith, b);
+            left = Left-is _ _ _ _ _ while_turned (ap (λ (d : Does Flow). d scene after) (turns_on flow (tests l.fuel line test block) h) ∙ ap (λ (k : ℕ). tests k line test block scene after) (sym i));
+          }

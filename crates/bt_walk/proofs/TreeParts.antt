@@ -36,7 +36,7 @@ pub step_map_parts : (v : View) (e : NumExpr) (m : MapId) (keys : List AnyExpr) 
     IsTrue (is_declared (decl_of m.0 v.body.now.maps) Ints (key_shapes (all_made keys)))
 step_map_parts v e m keys plus prefix h fit =
     let is : num_parts e ≡ Stepped plus prefix ∷ keyed_parts m.0 (all_made keys) Int =
-        ap num_parts h ∙ (ap num_parts (sym (nums.rolls-StepMap m keys plus prefix)) ∙ fold-roll-NumExpr Made (List Part) (List Part) any_layer num_layer str_layer (NumExpr-F.StepMap m keys plus prefix)) in
+    ap num_parts h ∙ (ap num_parts (sym (nums.rolls-StepMap m keys plus prefix)) ∙ fold-roll-NumExpr Made (List Part) (List Part) any_layer num_layer str_layer (NumExpr-F.StepMap m keys plus prefix)) in
     (and_parts (fits (scope_in v) (MapOf m.0 (key_shapes (all_made keys)) Int)) (all_fit (scope_in v) (parts_in (all_made keys))) (subst (λ (l : List Part). all_fit (scope_in v) l ≡ true) is fit)).0
 
 -- an expression of several

@@ -112,12 +112,7 @@ fn part(map: MapId, key: &Key) -> ObjectId
 }
 
 /// Makes a step whose reply says nothing.
-pub fn tell<P: Port>(
-    alloc: Global,
-    object: ObjectId,
-    op: Op,
-    port: &mut P,
-) -> Result<(), Memory>
+pub fn tell<P: Port>(alloc: Global, object: ObjectId, op: Op, port: &mut P) -> Result<(), Memory>
     requires { CanStep (P.fixed port.old).setting object op }
     ensures made { Made (told object op) (P.steps port.old) (P.steps port.new) result }
     ensures kept { P.fixed port.new ≡ P.fixed port.old }
@@ -127,12 +122,7 @@ pub fn tell<P: Port>(
 }
 
 /// The value of a map under a key.
-pub fn get<P: Port>(
-    alloc: Global,
-    map: MapId,
-    key: Key,
-    port: &mut P,
-) -> Result<Value, Memory>
+pub fn get<P: Port>(alloc: Global, map: MapId, key: Key, port: &mut P) -> Result<Value, Memory>
     requires { CanStep (P.fixed port.old).setting (part map key) (ops.Get key) }
     ensures made { Made (get map key) (P.steps port.old) (P.steps port.new) result }
     ensures kept { P.fixed port.new ≡ P.fixed port.old }
@@ -158,12 +148,7 @@ pub fn set<P: Port>(
 }
 
 /// Takes a key of a map away.
-pub fn delete<P: Port>(
-    alloc: Global,
-    map: MapId,
-    key: Key,
-    port: &mut P,
-) -> Result<(), Memory>
+pub fn delete<P: Port>(alloc: Global, map: MapId, key: Key, port: &mut P) -> Result<(), Memory>
     requires { CanStep (P.fixed port.old).setting (part map key) (ops.Delete key) }
     ensures made { Made (delete map key) (P.steps port.old) (P.steps port.new) result }
     ensures kept { P.fixed port.new ≡ P.fixed port.old }

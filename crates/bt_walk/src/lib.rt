@@ -5,6 +5,7 @@ pub mod access;
 pub mod body;
 pub mod ending;
 pub mod flow;
+pub mod laws;
 pub mod stmt;
 pub mod sweep;
 pub mod value;

@@ -109,9 +109,9 @@ pub fn update_variable<P: Port>(
     ensures kept { P.fixed port.new ≡ P.fixed port.old }
     ensures turns { frame.new.turns ≡ frame.old.turns }
 {
-    let b = number(alloc, view, e, frame, port)?;
+    let right = number(alloc, view, e, frame, port)?;
     let a = number_of(&variable(var, frame));
-    let result = binary(op, a, b);
+    let result = binary(op, a, right);
     assign(var, Value::Int(result), frame);
     Ok(Flow::Next)
 }
@@ -236,7 +236,12 @@ pub fn printf<P: Port>(
     ensures turns { frame.new.turns ≡ frame.old.turns }
 {
     let values = values(alloc, view, es, frame, port)?;
-    tell(alloc, ObjectId::Out, Op::Emit(Item::Printf { format, values }), port)?;
+    tell(
+        alloc,
+        ObjectId::Out,
+        Op::Emit(Item::Printf { format, values }),
+        port,
+    )?;
     Ok(Flow::Next)
 }
 

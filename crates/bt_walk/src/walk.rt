@@ -8,7 +8,10 @@ ghost use Rattle.typed_tree.specs.Parts.{num_parts};
 
 use crate::access::holds;
 use crate::flow::{Flow, Frame, is_next, leaves};
-use crate::stmt::{clear, cut, delete_at, gather, jump, print, printf, set_map, set_variable, step, update_map, update_variable, zero};
+use crate::stmt::{
+    clear, cut, delete_at, gather, jump, print, printf, set_map, set_variable, step, update_map,
+    update_variable, zero,
+};
 use crate::value::number;
 use crate::view::View;
 use bt_core::memory::Memory;
@@ -51,7 +54,16 @@ pub fn walk_stmt<P: Port>(
             keys,
             kind,
             number,
-        } => gather(alloc, view, *map, keys.as_slice(), *kind, number, frame, port),
+        } => gather(
+            alloc,
+            view,
+            *map,
+            keys.as_slice(),
+            *kind,
+            number,
+            frame,
+            port,
+        ),
         TypedStmt::Step(value) => step(alloc, view, value, frame, port),
         TypedStmt::Printf { format, values } => {
             printf(alloc, view, *format, values.as_slice(), frame, port)
@@ -103,8 +115,7 @@ pub fn walk_block<P: Port>(
 {
     for stmt in block.stmts.as_slice() {
         let flow = walk_stmt(alloc, view, stmt, frame, port)?;
-        if is_next(flow) {
-        } else {
+        if is_next(flow) {} else {
             return Ok(flow);
         }
     }

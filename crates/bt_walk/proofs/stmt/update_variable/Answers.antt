@@ -13,19 +13,19 @@ use Rattle.bt_walk.proofs.Declared.{Found, shared, valued, gathering, few_values
 use Rattle.bt_walk.proofs.TreeParts.{set_head, update_head, gather_head, delete_head}
 use Rattle.bt_walk.proofs.stmt.update_variable.Goals as goal
 
-pub returns-in_err-b-clause-walked : goal.returns-in_err-b-clause-walked
-returns-in_err-b-clause-walked g c =
+pub returns-in_err-right-clause-walked : goal.returns-in_err-right-clause-walked
+returns-in_err-right-clause-walked g c =
     let p = err_from_is_err_and c.from_residual.result c.from_residual.ensures.1 in
-    rw p.1 (Part-first _ _ _ _ _ _ c.in_err-b.ensures.walked)
+    rw p.1 (Part-first _ _ _ _ _ _ c.in_err-right.ensures.walked)
 
 pub returns-clause-walked : goal.returns-clause-walked
 returns-clause-walked g c =
     let fa : SFits w64 c.number_of-a.result = search rules in
-    let fb : SFits w64 c.in_ok-b.b = search rules in
+    let fb : SFits w64 c.in_ok-right.right = search rules in
     let fr : SFits w64 c.binary-result.result = search rules in
     let e = simp to_z-of_z at c.binary-result.ensures in
     let old = c.number_of-a.ensures ∙ ap number_of c.variable.ensures in
     let new = rw old at e in
     let put = simp to_z-of_z at c.assign.ensures in
     let done = rw new at put in
-    (Whole-next _ _ _ _ _ _ _ _ c.in_ok-b.ensures.walked _ _ (Whole-next _ _ _ _ _ _ _ _ (Seen-done _ _ _ _ _ refl) _ _ (Whole-next _ _ _ _ _ _ _ _ (Changed-done _ _ _ _ _ tt (sym done)) _ _ (Given-done _ _ _ _ _ _ refl refl))))
+    (Whole-next _ _ _ _ _ _ _ _ c.in_ok-right.ensures.walked _ _ (Whole-next _ _ _ _ _ _ _ _ (Seen-done _ _ _ _ _ refl) _ _ (Whole-next _ _ _ _ _ _ _ _ (Changed-done _ _ _ _ _ tt (sym done)) _ _ (Given-done _ _ _ _ _ _ refl refl))))

@@ -40,7 +40,7 @@ returns-then-prefix-clause-made g c scene frame =
     let put = simp to_z-of_z at c.in_ok-set.ensures.made in
     let done = rw new at put in
     Whole-next _ _ _ _ _ _ _ _ (got scene frame) _ _ (Whole-next _ _ _ _ _ _ _ _ (done scene frame) _ _
-        (Number-done _ _ _ _ _ new_fits (ap (λ b. cond b (next c.args.plus (number_of c.in_ok-value.value)) (number_of c.in_ok-value.value)) c.if-prefix.true ∙ sym new)))
+    (Number-done _ _ _ _ _ new_fits (ap (λ b. cond b (next c.args.plus (number_of c.in_ok-value.value)) (number_of c.in_ok-value.value)) c.if-prefix.true ∙ sym new)))
 
 pub returns-else-prefix-clause-made : goal.returns-else-prefix-clause-made
 returns-else-prefix-clause-made g c scene frame =
@@ -52,4 +52,4 @@ returns-else-prefix-clause-made g c scene frame =
     let put = simp to_z-of_z at c.in_ok-set.ensures.made in
     let done = rw new at put in
     Whole-next _ _ _ _ _ _ _ _ (got scene frame) _ _ (Whole-next _ _ _ _ _ _ _ _ (done scene frame) _ _
-        (Number-done _ _ _ _ _ old_fits (ap (λ b. cond b (next c.args.plus (number_of c.in_ok-value.value)) (number_of c.in_ok-value.value)) c.if-prefix.false ∙ sym c.number_of-old.ensures)))
+    (Number-done _ _ _ _ _ old_fits (ap (λ b. cond b (next c.args.plus (number_of c.in_ok-value.value)) (number_of c.in_ok-value.value)) c.if-prefix.false ∙ sym c.number_of-old.ensures)))
