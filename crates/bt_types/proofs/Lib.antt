@@ -1,1 +1,4 @@
-
+pub mod Judging
+pub mod Growing
+pub mod Finding
+pub mod Later
