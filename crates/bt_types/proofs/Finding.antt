@@ -1,5 +1,5 @@
 -- What a search of a list by name finds.
-use Rattle.std.proofs.Common.{◌≡◌, ◌≢◌, ◌++◌, ◌+◌, ℕ, ◌<◌, suc, nat_eq, Bool, true, false, cond, ◌||◌, List, [], ◌∷◌, length, drop, get_or, Option, Some, None, slice_get, refl, sym, ap, subst, ◌∙◌, arith, add-one, drop-cons}
+use Rattle.std.proofs.Common.{◌≡◌, ◌≢◌, ◌++◌, ◌+◌, ℕ, ◌<◌, suc, nat_eq, Bool, true, false, cond, ◌&&◌, ◌||◌, List, [], ◌∷◌, length, drop, get_or, Option, Some, None, slice_get, refl, sym, ap, subst, ◌∙◌, arith, add-one, drop-cons}
 use Rattle.std.specs.Str.{bytes_eq}
 use Rattle.std.proofs.lemmas.Slice.Eq.{bytes_eq-Decides}
 use Rattle.std.proofs.lemmas.Option.{slice_get_read}
@@ -63,4 +63,10 @@ other_length [] [] h = absurd (h refl)
 other_length [] (t ∷ ts) h = refl
 other_length (s ∷ ss) [] h = refl
 other_length (s ∷ ss) (t ∷ ts) h =
-    elim (same_shape s t) as (λ b. false ≡ cond b (same_shapes ss ts) false) [ true ↦ other_length ss ts (λ e. h (ap suc e)) | false ↦ refl ]
+    elim (same_shape s t) as (λ b. false ≡ (b && same_shapes ss ts)) [ true ↦ other_length ss ts (λ e. h (ap suc e)) | false ↦ refl ]
+
+-- a name that was added, and its number
+pub name_added : (names new : List (List ℕ)) (name copied : List ℕ) (n : ℕ) → has_name name names ≡ false → copied ≡ name → n ≡ length names → new ≡ names ++ copied ∷ [] → (n ≡ place_of name new) × (slice_get new n ≡ Some name)
+name_added names new name copied n h e is made =
+    let whole : new ≡ names ++ name ∷ [] = cc in
+    rw (whole, is) (sym (last_placed name names h), last_there names name)

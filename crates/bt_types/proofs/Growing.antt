@@ -4,6 +4,8 @@ use Rattle.std.specs.List.{list_any}
 use Rattle.std.specs.Str.{bytes_eq}
 use Rattle.bt_core.specs.declared.place.Place.{Place}
 use Rattle.bt_core.specs.declared.map.MapDecl.{MapDecl}
+use Rattle.bt_core.specs.declared.map.MapKind.{MapKind}
+use Rattle.bt_core.specs.declared.map.MapKind.TheVariants.{Ints, Aggs}
 use Rattle.bt_core.specs.declared.map.Shape.{Shape}
 use Rattle.typed_tree.specs.Scope.{is_fine_decl}
 use Rattle.bt_types.specs.declared.known.Known.{Known}
@@ -12,7 +14,7 @@ use Rattle.bt_types.specs.declared.known.Var.{Var}
 use Rattle.bt_types.specs.Mentions.{Sort, Whole, Text, OfMap, OfVar, OfField}
 use Rattle.bt_types.specs.Mentions.{Mention, Begins, Names, Uses, Reads, Steps, Sets, Gathers, NeedsShared, Deletes, ReadsVar, SetsVar, Args, ReadsField}
 use Rattle.bt_types.specs.Mentions.{NeedsWhole, NeedsSame, NeedsShort, NeedsBounds, NeedsTurns, NeedsRows, Prints, Jumps}
-use Rattle.bt_types.specs.Known.{has_name, place_of, decl_in, var_in, shape_in, decl_shape, has_call, call_at, printed, add_name, add_number, with_name, with_mention, with_decl, with_var, add_call, called, with_call, decide_after, set_after, learn}
+use Rattle.bt_types.specs.Known.{has_name, place_of, decl_in, var_in, shape_in, decl_shape, has_call, call_at, printed, add_name, add_number, with_name, with_mention, with_decl, with_var, add_call, called, with_call, decide_after, set_after, shapes_in, kind_for, decides, learn}
 use Rattle.bt_types.specs.Grows.{IsFrontOf, Grows}
 
 front_none : {A : Type 0} (xs : List A) → IsFrontOf xs xs
@@ -104,8 +106,9 @@ grows_var k v (Some e) = grows_none k
 pub grows_set : (k : Known) (v : Var) → Grows k (with_var k v)
 grows_set k v = grows_var k v (var_in v.name k.vars)
 
-pub grows_decides : (k : Known) (name : List ℕ) (d : MapDecl) → Grows k (with_decl (with_mention k name) d)
-grows_decides k name d =
+pub grows_decides : (k : Known) (name : List ℕ) (kind : MapKind) (shapes : List Shape) → Grows k (decides k name kind shapes)
+grows_decides k name kind shapes =
+    let d : MapDecl = record { name = name; kind = kind; key_shape = shapes } in
     let m = with_mention k name in
     grows_on k m (with_decl m d) (grows_mention k name) (grows_decl m d (decl_in d.name m.decided))
 
@@ -125,12 +128,12 @@ pub grows_learn : (k : Known) (m : Mention) → IsInner m → Grows k (learn k m
 grows_learn k (Begins event) h = absurd h
 grows_learn k (Names name) h = grows_name k name
 grows_learn k (Uses name) h = grows_mention k name
-grows_learn k (Reads name keys) h = grows_decides k name _
-grows_learn k (Steps name keys) h = grows_decides k name _
-grows_learn k (Sets name keys value) h = grows_decides k name _
-grows_learn k (Gathers name keys kind) h = grows_decides k name _
+grows_learn k (Reads name keys) h = grows_decides k name Ints (shapes_in k keys)
+grows_learn k (Steps name keys) h = grows_decides k name Ints (shapes_in k keys)
+grows_learn k (Sets name keys value) h = grows_decides k name (kind_for k value) (shapes_in k keys)
+grows_learn k (Gathers name keys kind) h = grows_decides k name (Aggs kind) (shapes_in k keys)
 grows_learn k (NeedsShared name) h = grows_none k
-grows_learn k (Deletes name keys) h = grows_decides k name _
+grows_learn k (Deletes name keys) h = grows_decides k name Ints (shapes_in k keys)
 grows_learn k (ReadsVar name) h = grows_none k
 grows_learn k (SetsVar name value) h = grows_set k _
 grows_learn k Args h = grows_none k

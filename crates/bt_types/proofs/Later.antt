@@ -87,8 +87,8 @@ fits_later a b g NoOtherwise h = tt
 fits_later a b g Ending h = tt
 
 -- a title that was there stays
-title_is : (names : List (List ℕ)) (number : ℕ) (name : List ℕ) → slice_get names number ≡ Some name → title names number ≡ name
-title_is names number name h = rw h refl
+pub title_is : (names : List (List ℕ)) (number : ℕ) (name : List ℕ) → slice_get names number ≡ Some name → title names number ≡ name
+title_is names number name h = ap (λ (o : Option (List ℕ)). elim o [ None ↦ [] | Some n ↦ n ]) h
 
 pub map_title : (a b : Known) → Grows a b → (number : ℕ) (name : List ℕ) → slice_get a.names number ≡ Some name → title b.names number ≡ title a.names number
 map_title a b g number name h = title_is b.names number name (get_later a.names b.names number name g.names h) ∙ sym (title_is a.names number name h)

@@ -1,112 +1,21 @@
 // Expressions: their first fault, or what they are as typed ones.
-ghost use Rattle.std.specs.Prelude.{◌≡◌, ◌∷◌, [], None, Some, map, MatchOption, MatchResult};
-ghost use Rattle.bt_types.specs.Mentions.{ReadsVar, ReadsField, Args, OfVar, OfField, VarWord, FieldWord};
-ghost use Rattle.bt_types.specs.Walk.{at, seen, step_seen, OnVar, of_expr, of_kind, of_map, of_step, map_read};
-ghost use Rattle.bt_core.specs.declared.map.Shape.{Shape};
-ghost use Rattle.bt_types.specs.declared.fault.TypeError.TheVariants.{Broken};
-ghost use Rattle.typed_tree.specs.Parts.{made, made_of, FieldOf, VarOf};
-ghost use Rattle.typed_tree.specs.Scope.{shape_of_field};
+ghost use Rattle.std.specs.Prelude.{map, MatchResult};
+ghost use Rattle.bt_types.specs.Walk.{of_expr, of_kind, of_map, of_step, map_read};
+ghost use Rattle.typed_tree.specs.Parts.{made_of};
 ghost use Rattle.bt_types.specs.Judge.{judged, SaysFault};
 ghost use Rattle.bt_types.specs.Checked.{Checks, ChecksNumber, ChecksAll, KeyChecked};
 
-use crate::fault::{Fault, Rule, TypeError};
-use crate::known::{Known, number_of};
-use crate::leaf::{binary, builtin, choose, literal, logical, unary, wrong_type};
+use crate::fault::TypeError;
+use crate::field::field;
+use crate::known::Known;
+use crate::leaf::{binary, builtin, choose, literal, logical, unary};
 use crate::maps::{Keyed, read, step};
-use bt_ast::expr::{Expr, ExprKind, IncDec, MapRef, Target, VarRef};
+use crate::variable::{step_variable, variable};
+use bt_ast::expr::{Expr, ExprKind, IncDec, MapRef, Target};
 use bt_core::items::Items;
-use bt_core::map::Shape;
-use bt_core::memory::TryCopy;
 use bt_core::place::Place;
 use std::alloc::Global;
-use tracefs_format::field::{Field, FieldKind};
-use typed_tree::expr::{AnyExpr, NumExpr, StrExpr};
-
-/// A rule that is broken at a place.
-fn broken(rule: Rule, place: Place) -> TypeError
-    ensures { result ≡ Broken (record { rule = rule; place = place }) }
-{
-    TypeError::Broken(Fault { rule, place })
-}
-
-/// The field of a kind that a script reads, as an expression.
-fn value_of_field(field: Field) -> Option<AnyExpr>
-    ensures { MatchOption result (shape_of_field field.kind ≡ None) (λ e. (λ (shape : Shape). (shape_of_field field.kind ≡ Some shape) × (made_of e ≡ made shape (FieldOf field shape ∷ []))) (made_of e).shape) }
-{
-    match field.kind {
-        FieldKind::Number => Some(AnyExpr::Num(NumExpr::Field(field))),
-        FieldKind::Chars => Some(AnyExpr::Str(StrExpr::Field(field))),
-        FieldKind::DataLoc => Some(AnyExpr::Str(StrExpr::Field(field))),
-        FieldKind::Other => None,
-    }
-}
-
-/// `args.name`: `args` stands at a place, and the field's name at another.
-fn field(
-    alloc: Global,
-    known: &Known,
-    name: &Items<u8>,
-    place: Place,
-    word: Place,
-) -> Result<AnyExpr, TypeError>
-    ensures { Checks (seen (at place Args ∷ at word (ReadsField name.now) ∷ []) (OfField name.now) (FieldWord name.now ∷ [])) known.now known.now result }
-{
-    if known.event.is_none() {
-        return Err(broken(Rule::NoEvent, place));
-    }
-    let Some(field) = known.field(name.as_slice()) else {
-        return Err(broken(Rule::UnknownField, word));
-    };
-    match value_of_field(field.try_copy(alloc)?) {
-        None => Err(broken(Rule::FieldNotReadable, word)),
-        Some(value) => Ok(value),
-    }
-}
-
-/// The variable of a number.
-fn variable_of(shape: Shape, number: u32) -> AnyExpr
-    ensures { made_of result ≡ made shape (VarOf number shape ∷ []) }
-{
-    match shape {
-        Shape::Int => AnyExpr::Num(NumExpr::Var(number)),
-        Shape::Str => AnyExpr::Str(StrExpr::Var(number)),
-    }
-}
-
-/// A variable that is read.
-fn variable(known: &Known, var: &VarRef) -> Result<AnyExpr, TypeError>
-    ensures { Checks (seen (at var.now.place (ReadsVar var.now.name) ∷ []) (OfVar var.now.name) (VarWord var.now.name ∷ [])) known.now known.now result }
-{
-    match known.var(var.name.as_slice()) {
-        None => Err(broken(Rule::NotSet, var.place)),
-        Some((place, shape)) => {
-            let number = number_of(place)?;
-            Ok(variable_of(shape, number))
-        }
-    }
-}
-
-/// `++` or `--` of a variable, which begins at a place.
-fn step_variable(
-    known: &Known,
-    var: &VarRef,
-    plus: bool,
-    prefix: bool,
-    place: Place,
-) -> Result<NumExpr, TypeError>
-    ensures { ChecksNumber (step_seen plus prefix place (OnVar var.now.name var.now.place)) known.now known.now result }
-{
-    match known.var(var.name.as_slice()) {
-        None => Err(broken(Rule::NotSet, var.place)),
-        Some((at, shape)) => {
-            if let Shape::Str = shape {
-                return Err(wrong_type(place));
-            }
-            let var = number_of(at)?;
-            Ok(NumExpr::StepVar { var, plus, prefix })
-        }
-    }
-}
+use typed_tree::expr::{AnyExpr, NumExpr};
 
 /// An expression: its first fault in walk order, or what it is as a typed one.
 ///

@@ -70,6 +70,13 @@ pub(crate) fn number_of(place: usize) -> Result<u32, Memory>
     }
 }
 
+/// Whether a number is one of these.
+fn has_number(numbers: &[u32], number: u32) -> bool
+    ensures { result ≡ list_any (λ n. n == number) numbers.now }
+{
+    numbers.iter().any(|n| *n == number)
+}
+
 /// The first declaration of this name.
 fn decl_in<'a>(decls: &'a [MapDecl], name: &[u8]) -> Option<&'a MapDecl>
     ensures { option_copied result ≡ decl_in name.now decls.now }
@@ -149,7 +156,7 @@ impl Known {
         ensures learned { OnOk result (self.new ≡ add_number self.old number) }
         ensures here { OnOk result (list_any (λ n. n == number) self.new.named ≡ true) }
     {
-        if !self.named.as_slice().iter().any(|n| *n == number) {
+        if !has_number(self.named.as_slice(), number) {
             self.named.push(number)?;
         }
         Ok(())
@@ -184,7 +191,7 @@ impl Known {
         kind: MapKind,
         key_shape: Items<Shape>,
     ) -> Result<(), Memory>
-        requires { IsTrue (is_fine_decl (record { name = name.now; kind = kind; key_shape = key_shape })) }
+        requires { is_fine_decl (record { name = name.now; kind = kind; key_shape = key_shape }) ≡ true }
         ensures { OnOk result (self.new ≡ with_decl self.old (record { name = name.now; kind = kind; key_shape = key_shape })) }
     {
         if self.decl(name.as_slice()).is_none() {

@@ -10,7 +10,8 @@ ghost use Rattle.bt_types.specs.Judge.{Refuses};
 ghost use Rattle.bt_types.specs.Rules.{breaks};
 ghost use Rattle.bt_types.specs.Join.{builtin_made, joined_breaks, whole_breaks, both_break, choose_breaks, logical_part};
 
-use crate::fault::{Fault, Rule, TypeError};
+use crate::fault::{Rule, TypeError};
+use crate::rules::broken;
 use bt_ast::expr::Builtin;
 use bt_core::boxed::Boxed;
 use bt_core::limits::STRING_BYTES;
@@ -25,10 +26,7 @@ use typed_tree::expr::{AnyExpr, NumBuiltin, NumExpr, StrExpr};
 pub(crate) fn wrong_type(place: Place) -> TypeError
     ensures { result ≡ Broken (record { rule = WrongType; place = place }) }
 {
-    TypeError::Broken(Fault {
-        rule: Rule::WrongType,
-        place,
-    })
+    broken(Rule::WrongType, place)
 }
 
 /// A string of at most 63 bytes.

@@ -3,8 +3,10 @@
 
 pub mod expr;
 pub mod fault;
+pub mod field;
 pub mod known;
 pub mod leaf;
 pub mod maps;
 pub mod rules;
 pub mod trial;
+pub mod variable;

@@ -1,6 +1,7 @@
 // Which rule a mention breaks.
 ghost use Rattle.std.specs.Prelude.{◌≡◌, Bool};
 ghost use Rattle.typed_tree.specs.Scope.{same_shape, same_shapes, same_agg, same_kind, is_fine_agg};
+ghost use Rattle.bt_types.specs.declared.fault.TypeError.TheVariants.{Broken};
 ghost use Rattle.bt_types.specs.Known.{decl_in};
 ghost use Rattle.bt_types.specs.Judge.{Refuses};
 ghost use Rattle.bt_types.specs.Rules.{is_one_too_many, is_agg_in, is_other_kind, is_other_key, has_other_keys, read_breaks, write_breaks};
@@ -11,13 +12,20 @@ use bt_core::limits::{KEY_PARTS, LHIST_BUCKETS, MAPS};
 use bt_core::map::{AggKind, MapKind, Shape};
 use bt_core::place::Place;
 
+/// A rule that is broken at a place.
+pub(crate) fn broken(rule: Rule, place: Place) -> TypeError
+    ensures { result ≡ Broken (record { rule = rule; place = place }) }
+{
+    TypeError::Broken(Fault { rule, place })
+}
+
 /// Goes on where no rule is broken, and otherwise answers the fault at this place.
 pub(crate) fn refuse(rule: Option<Rule>, place: Place) -> Result<(), TypeError>
     ensures { Refuses rule place result }
 {
     match rule {
         None => Ok(()),
-        Some(rule) => Err(TypeError::Broken(Fault { rule, place })),
+        Some(rule) => Err(broken(rule, place)),
     }
 }
 
