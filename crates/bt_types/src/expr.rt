@@ -97,11 +97,7 @@ pub(crate) fn check_step(
 
 /// `++` or `--` as an expression.
 #[cycle(expr)]
-fn check_stepped(
-    alloc: Global,
-    known: &mut Known,
-    stepped: &IncDec,
-) -> Result<AnyExpr, TypeError>
+fn check_stepped(alloc: Global, known: &mut Known, stepped: &IncDec) -> Result<AnyExpr, TypeError>
     ensures { Checks (of_step stepped.now) known.old known.new result }
 {
     let number = check_step(alloc, known, stepped)?;

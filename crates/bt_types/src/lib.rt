@@ -8,5 +8,4 @@ pub mod known;
 pub mod leaf;
 pub mod maps;
 pub mod rules;
-pub mod trial;
 pub mod variable;

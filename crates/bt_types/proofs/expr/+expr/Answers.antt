@@ -19,7 +19,7 @@ use Rattle.bt_types.specs.Checked.{Checked, Checks, ChecksNumber, AllChecked, Ke
 use Rattle.bt_types.proofs.Composing.{front_refused, later_refused, unary_checks, choose_checks}
 use Rattle.bt_types.proofs.Constructs.{joint_checks}
 use Rattle.bt_types.proofs.Keys.{key_checked, key_refused}
-use Rattle.bt_types.proofs.Layers.{step_is, unary_is, binary_is, and_is, or_is, choose_is, map_is, step_layer_is, on_map, on_var}
+use Rattle.bt_types.proofs.Layers.{step_is, unary_is, binary_is, and_is, or_is, choose_is, map_is, step_of_map}
 use Rattle.bt_types.proofs.Reading.{read_checks, step_checks}
 use Rattle.bt_types.proofs.Several.{left_refused, next_left, next_typing, next_grows}
 use Rattle.bt_types.proofs.expr.+expr.Goals as goal
@@ -92,7 +92,7 @@ check_kind-returns-in_ok-yes-in-Choose t c =
     let condition = subst (λ (e : Expr). Checked (of_expr e) c.args.known.now c.check_expr-in-Choose.new.known (made_of c.in_ok-condition-in-Choose.condition)) c.get-in-Choose.ensures c.in_ok-condition-in-Choose.ensures in
     let yes = subst (λ (e : Expr). Checked (of_expr e) c.check_expr-in-Choose.new.known c.check_expr-in-Choose-2.new.known (made_of c.in_ok-yes-in-Choose.yes)) c.get-in-Choose-2.ensures c.in_ok-yes-in-Choose.ensures in
     let all = subst (λ (e : Expr). Checks (choose_seen c.args.place (of_expr c.in-Choose.condition) (of_expr c.in-Choose.yes) (of_expr e)) c.args.known.now c.check_last.new.known c.check_last.result) c.get-in-Choose-3.ensures
-        (c.check_last.ensures (of_expr c.in-Choose.condition) (of_expr c.in-Choose.yes) c.args.known.now c.check_expr-in-Choose.new.known condition yes) in
+    (c.check_last.ensures (of_expr c.in-Choose.condition) (of_expr c.in-Choose.yes) c.args.known.now c.check_expr-in-Choose.new.known condition yes) in
     rw c.in-Choose.is (rw (choose_is c.in-Choose.condition c.in-Choose.yes c.in-Choose.no c.args.place) all)
 
 pub check_kind-returns-in-Unary : goal.check_kind-returns-in-Unary
@@ -170,3 +170,21 @@ pub check_map-returns-in_err-keyed : goal.check_map-returns-in_err-keyed
 check_map-returns-in_err-keyed t c =
     let p = err_from_is_err_and c.from_residual.result c.from_residual.ensures.1 in
     handed_on (map_read (of_map c.args.map.now)) c.args.known.now _ c.from_residual.result p.0 c.in_err-keyed.field-0.0 p.1 p.2 (front_refused (of_map c.args.map.now).points _ c.args.known.now _ c.in_err-keyed.ensures)
+
+pub check_step-returns-in_ok-keyed-in-Map : goal.check_step-returns-in_ok-keyed-in-Map
+check_step-returns-in_ok-keyed-in-Map t c =
+    let m = c.in-Map.map in
+    let s = out-IncDec c.args.stepped.now in
+    let named = ap (λ (x : MapSeen). x.name) (map_is m) in
+    let placed = ap (λ (x : MapSeen). x.place) (map_is m) in
+    subst (λ (x : Seen). ChecksNumber x c.args.known.now c.step.new.known c.step.result) (sym (step_of_map c.args.stepped.now m c.in-Map.is))
+    (step_checks (of_map m) s.place s.plus s.prefix c.args.known.now c.check_key.new.known c.step.new.known c.in_ok-keyed-in-Map.keyed.map.0 (map made_of c.in_ok-keyed-in-Map.keyed.keys) c.step.result
+    c.in_ok-keyed-in-Map.ensures (rw (named, placed) c.step.ensures.refuses) (rw named c.step.ensures.learned) c.step.ensures.made)
+
+pub check_step-returns-in_err-keyed-in-Map : goal.check_step-returns-in_err-keyed-in-Map
+check_step-returns-in_err-keyed-in-Map t c =
+    let m = c.in-Map.map in
+    let s = out-IncDec c.args.stepped.now in
+    let p = err_from_is_err_and c.from_residual.result c.from_residual.ensures.1 in
+    subst (λ (x : Seen). ChecksNumber x c.args.known.now c.check_key.new.known c.from_residual.result) (sym (step_of_map c.args.stepped.now m c.in-Map.is))
+    (handed_number (step_seen s.plus s.prefix s.place (OnMap (of_map m))) c.args.known.now _ c.from_residual.result p.0 c.in_err-keyed-in-Map.field-0.0 p.1 p.2 (front_refused (of_map m).points _ c.args.known.now _ c.in_err-keyed-in-Map.ensures))
