@@ -8,3 +8,4 @@ pub mod Several
 pub mod Reading
 pub mod Keys
 pub mod Layers
+pub mod Indexing

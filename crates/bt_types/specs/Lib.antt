@@ -2,6 +2,7 @@ pub mod Bodies
 pub mod Checked
 pub mod Done
 pub mod Grows
+pub mod Indexed
 pub mod Join
 pub mod Joint
 pub mod Judge

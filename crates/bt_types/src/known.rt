@@ -6,6 +6,7 @@ ghost use Rattle.typed_tree.specs.Scope.{is_fine_decl};
 ghost use Rattle.bt_types.specs.Known.{has_name, place_of, decl_in, var_in, event_field, add_name, add_number, with_name, with_mention, with_decl, with_var, begun};
 ghost use Rattle.bt_types.specs.Typing.{IsNamed};
 
+use crate::variables::Variables;
 use bt_core::items::Items;
 use bt_core::map::{MapDecl, MapId, MapKind, Shape};
 use bt_core::memory::{Memory, TryCopy};
@@ -16,14 +17,14 @@ use tracefs_format::field::Field;
 use tracefs_format::layout::Layout;
 
 /// A variable of a body and what it holds.
-#[derive(Debug, Drop)]
+#[derive(Drop)]
 pub struct Var {
     pub name: Items<u8>,
     pub shape: Shape,
 }
 
 /// A call of `printf`: where its format stands, the format's text, and its pieces.
-#[derive(Debug, Drop)]
+#[derive(Drop)]
 pub struct Printed {
     pub place: Place,
     pub text: Items<u8>,
@@ -35,10 +36,10 @@ pub struct Printed {
 /// Of the body: the layout of its event, if it has one; the variables that it has assigned, in the order of their first
 /// assignments; the numbers of the maps and of the calls of `printf` that it has named. Of the script: the names of maps, in
 /// the order of their tokens and in that of their mentions; what was decided of maps; and the calls of `printf`.
-#[derive(Debug, Drop)]
+#[derive(Drop)]
 pub struct Known {
     pub event: Option<Layout>,
-    pub vars: Items<Var>,
+    pub vars: Variables,
     pub named: Items<u32>,
     pub calls: Items<u32>,
     pub names: Items<Items<u8>>,
@@ -89,19 +90,6 @@ fn decl_in<'a>(decls: &'a [MapDecl], name: &[u8]) -> Option<&'a MapDecl>
     None
 }
 
-/// The variable of this name, with its place.
-fn var_at(vars: &[Var], name: &[u8]) -> Option<(usize, Shape)>
-    ensures { MatchOption result (var_in name.now vars.now ≡ None)
-        (λ found. (var_in name.now vars.now ≡ Some found.1) × (slice_get vars.now found.0 ≡ Some (record { name = name.now; shape = found.1 }))) }
-{
-    for (i, var) in vars.iter().enumerate() {
-        if var.name.as_slice() == name {
-            return Some((i, var.shape));
-        }
-    }
-    None
-}
-
 impl Known {
     /// What was decided of the map of this name.
     pub(crate) fn decl(&self, name: &[u8]) -> Option<&MapDecl>
@@ -115,7 +103,7 @@ impl Known {
         ensures { MatchOption result (var_in name.now self.now.vars ≡ None)
             (λ found. (var_in name.now self.now.vars ≡ Some found.1) × (slice_get self.now.vars found.0 ≡ Some (record { name = name.now; shape = found.1 }))) }
     {
-        var_at(self.vars.as_slice(), name)
+        self.vars.find(name)
     }
 
     /// The field of the event that has this name.
@@ -215,8 +203,7 @@ impl Known {
         ensures { OnOk result (self.new ≡ with_var self.old (record { name = name.now; shape = shape })) }
     {
         if self.var(name.as_slice()).is_none() {
-            let name = name.try_copy(alloc)?;
-            self.vars.push(Var { name, shape })?;
+            self.vars.push(alloc, name.as_slice(), shape)?;
         }
         Ok(())
     }
@@ -226,7 +213,7 @@ impl Known {
         ensures { self.new ≡ begun self.old event }
     {
         self.event = event;
-        self.vars = Items::new(alloc);
+        self.vars = Variables::new(alloc);
         self.named = Items::new(alloc);
         self.calls = Items::new(alloc);
     }

@@ -9,3 +9,4 @@ pub mod leaf;
 pub mod maps;
 pub mod rules;
 pub mod variable;
+pub mod variables;
