@@ -1,7 +1,7 @@
 -- What is found in a list by a key.
 use Rattle.std.proofs.Common.{◌≡◌, ◌++◌, ℕ, Bool, true, false, cond, List, [], ◌∷◌, map, Option, Some, None, slice_get, refl, sym, ap, subst, ◌∙◌}
 use Rattle.std.specs.Bool.{one_answer}
-use Rattle.std.specs.Map.{lookup, lookup_key}
+use Rattle.std.specs.Map.{lookup, lookup_key, values_of}
 use Rattle.std.specs.Str.{bytes_eq}
 use Rattle.std.proofs.lemmas.List.{map-append}
 use Rattle.std.proofs.lemmas.Slice.Eq.{bytes_eq-Decides}
@@ -56,3 +56,7 @@ var_there {K} name_of test name es vars i k v h seen value key entry =
 
 pub var_not_there : {K : Type 0} (name_of : K → List ℕ) (test : K → Bool) (name : List ℕ) (es : List (K × Shape)) (vars : List Var) → ((j : K) → test j ≡ bytes_eq (name_of j) name) → vars_by name_of es ≡ vars → None ≡ lookup test es → var_in name vars ≡ None
 var_not_there name_of test name es vars h seen value = ap (var_in name) (sym seen) ∙ (sym (lookup_var name_of test name h es) ∙ sym value)
+
+pub shapes_held : {K : Type 0} (name_of : K → List ℕ) (es : List (K × Shape)) → map (λ (v : Var). v.shape) (vars_by name_of es) ≡ values_of es
+shapes_held name_of [] = refl
+shapes_held name_of (e ∷ es) = ap (λ (l : List Shape). e.1 ∷ l) (shapes_held name_of es)

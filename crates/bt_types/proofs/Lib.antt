@@ -9,3 +9,4 @@ pub mod Reading
 pub mod Keys
 pub mod Layers
 pub mod Indexing
+pub mod Calling

@@ -7,6 +7,7 @@ pub mod field;
 pub mod known;
 pub mod leaf;
 pub mod maps;
+pub mod printed;
 pub mod rules;
 pub mod variable;
 pub mod variables;

@@ -1,7 +1,9 @@
 // The variables of a body: in the order of their first assignments, and found by their names.
-ghost use Rattle.std.specs.Prelude.{◌≡◌, ◌++◌, ◌∷◌, [], None, Some, OnOk, MatchOption, length, slice_get};
+ghost use Rattle.std.specs.Prelude.{◌≡◌, ◌++◌, ◌∷◌, [], None, Some, OnOk, IfOk, MatchOption, length, map, slice_get};
+ghost use Rattle.bt_types.specs.declared.known.Var.{Var as VarValue};
 ghost use Rattle.bt_types.specs.Known.{var_in};
 
+use bt_core::items::Items;
 use bt_core::map::Shape;
 use bt_core::memory::Memory;
 use indexmap::IndexMap;
@@ -53,6 +55,15 @@ impl Variables {
             None => None,
             Some((place, _, shape)) => Some((place, *shape)),
         }
+    }
+
+    /// What they hold, in their order.
+    #[tactic(auto, using(crate::proofs::Indexing::shapes_held))]
+    pub(crate) fn shapes(&self, alloc: Global) -> Result<Items<Shape>, Memory>
+        ensures { IfOk result (λ shapes. shapes ≡ map (λ (v : VarValue). v.shape) self.now) }
+    {
+        let shapes: Vec<Shape> = self.shapes.values().copied().collect(alloc)?;
+        Ok(Items::of(shapes))
     }
 
     /// Adds a variable at the end, where there is none of this name. After [`Memory`] nothing is known of the list.
