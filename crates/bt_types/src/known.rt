@@ -3,7 +3,8 @@ ghost use Rattle.std.specs.Prelude.{◌≡◌, ◌==◌, Bool, true, false, Some
 ghost use Rattle.std.specs.List.{list_any};
 ghost use Rattle.std.specs.Option.{option_copied};
 ghost use Rattle.typed_tree.specs.Scope.{is_fine_decl};
-ghost use Rattle.bt_types.specs.Known.{has_name, place_of, decl_in, var_in, event_field, with_name, with_mention, with_decl, with_var, begun};
+ghost use Rattle.bt_types.specs.Known.{has_name, place_of, decl_in, var_in, event_field, add_name, add_number, with_name, with_mention, with_decl, with_var, begun};
+ghost use Rattle.bt_types.specs.Typing.{IsNamed};
 
 use bt_core::items::Items;
 use bt_core::map::{MapDecl, MapId, MapKind, Shape};
@@ -69,6 +70,13 @@ pub(crate) fn number_of(place: usize) -> Result<u32, Memory>
     }
 }
 
+/// Whether a number is one of these.
+fn has_number(numbers: &[u32], number: u32) -> bool
+    ensures { result ≡ list_any (λ n. n == number) numbers.now }
+{
+    numbers.iter().any(|n| *n == number)
+}
+
 /// The first declaration of this name.
 fn decl_in<'a>(decls: &'a [MapDecl], name: &[u8]) -> Option<&'a MapDecl>
     ensures { option_copied result ≡ decl_in name.now decls.now }
@@ -125,5 +133,96 @@ impl Known {
         ensures { result ≡ has_name name.now self.now.mentioned }
     {
         place_of(self.mentioned.as_slice(), name).is_some()
+    }
+
+    /// The number of a map's name, which is added where it is new.
+    fn add_name(&mut self, alloc: Global, name: &Items<u8>) -> Result<u32, Memory>
+        ensures learned { OnOk result (self.new ≡ add_name self.old name.now) }
+        ensures placed { IfOk result (λ number. number ≡ place_of name.now self.new.names) }
+        ensures numbered { IfOk result (λ number. slice_get self.new.names number ≡ Some name.now) }
+    {
+        match place_of(self.names.as_slice(), name.as_slice()) {
+            Some(place) => number_of(place),
+            None => {
+                let number = number_of(self.names.len())?;
+                self.names.push(name.try_copy(alloc)?)?;
+                Ok(number)
+            }
+        }
+    }
+
+    /// Adds the number of a map to those that the body has named, where it is not one of them.
+    fn add_number(&mut self, number: u32) -> Result<(), Memory>
+        ensures learned { OnOk result (self.new ≡ add_number self.old number) }
+        ensures here { OnOk result (list_any (λ n. n == number) self.new.named ≡ true) }
+    {
+        if !has_number(self.named.as_slice(), number) {
+            self.named.push(number)?;
+        }
+        Ok(())
+    }
+
+    /// The number of a map, by the name of its token. It is added where it is new, to the script's maps and to those that the
+    /// body has named.
+    pub(crate) fn name(&mut self, alloc: Global, name: &Items<u8>) -> Result<MapId, Memory>
+        ensures learned { OnOk result (self.new ≡ with_name self.old name.now) }
+        ensures named { IfOk result (λ id. IsNamed self.new id.0 name.now) }
+    {
+        let number = self.add_name(alloc, name)?;
+        self.add_number(number)?;
+        Ok(MapId(number))
+    }
+
+    /// Adds the mention of a map, where it is the first.
+    pub(crate) fn mention(&mut self, alloc: Global, name: &Items<u8>) -> Result<(), Memory>
+        ensures { OnOk result (self.new ≡ with_mention self.old name.now) }
+    {
+        if !self.is_mentioned(name.as_slice()) {
+            self.mentioned.push(name.try_copy(alloc)?)?;
+        }
+        Ok(())
+    }
+
+    /// Decides what a map holds and the types of its key's parts, where that is not decided.
+    pub(crate) fn decide(
+        &mut self,
+        alloc: Global,
+        name: &Items<u8>,
+        kind: MapKind,
+        key_shape: Items<Shape>,
+    ) -> Result<(), Memory>
+        requires { is_fine_decl (record { name = name.now; kind = kind; key_shape = key_shape }) ≡ true }
+        ensures { OnOk result (self.new ≡ with_decl self.old (record { name = name.now; kind = kind; key_shape = key_shape })) }
+    {
+        if self.decl(name.as_slice()).is_none() {
+            let name = name.try_copy(alloc)?;
+            self.decided.push(MapDecl {
+                name,
+                kind,
+                key_shape,
+            })?;
+        }
+        Ok(())
+    }
+
+    /// Adds a variable, where there is none of this name.
+    pub(crate) fn set(&mut self, alloc: Global, name: &Items<u8>, shape: Shape) -> Result<(), Memory>
+        ensures { OnOk result (self.new ≡ with_var self.old (record { name = name.now; shape = shape })) }
+    {
+        if self.var(name.as_slice()).is_none() {
+            let name = name.try_copy(alloc)?;
+            self.vars.push(Var { name, shape })?;
+        }
+        Ok(())
+    }
+
+    /// Begins a body, at an event of this layout or at none.
+    pub(crate) fn begin(&mut self, alloc: Global, event: Option<Layout>)
+        ensures { self.new ≡ begun self.old event }
+    {
+        self.event = event;
+        self.vars = Items::new(alloc);
+        self.named = Items::new(alloc);
+        self.calls = Items::new(alloc);
     }
 }
