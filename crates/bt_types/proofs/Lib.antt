@@ -8,3 +8,11 @@ pub mod Several
 pub mod Reading
 pub mod Keys
 pub mod Layers
+pub mod Turns
+pub mod Numbers
+pub mod MapStatements
+pub mod MapCalls
+pub mod StmtLayers
+pub mod Printing
+pub mod Runs
+pub mod Loops

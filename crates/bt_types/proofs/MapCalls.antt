@@ -1,5 +1,5 @@
 -- Aggregations, and calls on maps.
-use Rattle.std.proofs.Common.{◌≡◌, ◌++◌, ◌&&◌, ◌≤ℤ◌, ℕ, ℤ, pos, Bool, true, false, not, List, [], ◌∷◌, length, map, Option, Some, None, Result, Ok, Err, OnOk, is_none, unsigned_abs, refl, sym, ap, subst, ◌∙◌, append-nil, append_assoc}
+use Rattle.std.proofs.Common.{◌≡◌, ◌++◌, ◌&&◌, ◌≤ℤ◌, ℕ, ℤ, pos, Bool, true, false, not, List, [], ◌∷◌, length, map, Option, Some, None, Result, Ok, Err, OnOk, IfOk, IsErrAnd, MatchResult, is_none, unsigned_abs, refl, sym, ap, subst, ◌∙◌, append-nil, append_assoc}
 use Rattle.std.specs.Prelude.{int_le}
 use Rattle.std.specs.Int.Signed.{le_z_yes}
 use Rattle.std.proofs.lemmas.Float.{T_from_true}
@@ -13,6 +13,7 @@ use Rattle.bt_core.specs.declared.map.MapKind.TheVariants.{Ints, Strs, Aggs}
 use Rattle.bt_core.specs.declared.map.Shape.{Shape}
 use Rattle.bt_core.specs.declared.map.Shape.TheVariants.{Int, Str}
 use Rattle.typed_tree.specs.declared.expr.NumExpr.{NumExpr}
+use Rattle.typed_tree.specs.declared.stmt.TypedStmt.{TypedStmt}
 use Rattle.typed_tree.specs.Scope.{kind_of_shape, is_agg, is_count, is_fine_agg, same_bool}
 use Rattle.bt_types.specs.declared.fault.Rule.{Rule}
 use Rattle.bt_types.specs.declared.fault.Rule.TheVariants.{BadBounds, OtherKeys, TooManyMaps, WrongType}
@@ -21,20 +22,20 @@ use Rattle.bt_types.specs.declared.known.Known.{Known}
 use Rattle.bt_types.specs.Grows.{Grows}
 use Rattle.bt_types.specs.Mentions.{Sort, Mention, Uses, Gathers, NeedsBounds, NeedsShared, NeedsRows, Deletes, Word, GatherWord, ShowWord, ClearWord, ZeroWord, DeleteWord, Point}
 use Rattle.bt_types.specs.Known.{shape_in, shapes_in, decl_in, with_mention, decides, learn}
-use Rattle.bt_types.specs.Judge.{judged, SaysFault, IsBreach}
+use Rattle.bt_types.specs.Judge.{judged, Says, SaysFault, IsBreach}
 use Rattle.bt_types.specs.Rules.{broken_at, breaks, are_rows, write_breaks, is_agg_in, is_one_too_many, has_other_keys}
 use Rattle.bt_types.specs.Walk.{Seen, MapSeen, at, points_of, words_of}
-use Rattle.typed_tree.specs.Parts.{Part, Gathered, Deleted, Shown, Cleared, Zeroed, Made, gather_parts, number_parts, delete_parts, key_shapes, parts_in}
+use Rattle.typed_tree.specs.Parts.{stmt_parts, Part, Gathered, Deleted, Shown, Cleared, Zeroed, Made, gather_parts, number_parts, delete_parts, key_shapes, parts_in}
 use Rattle.bt_types.specs.Typing.{IsDeclared, IsMapOf, IsNamed, AllFit, title, titles_of, word_of}
 use Rattle.bt_types.specs.Maps.{shape_held}
-use Rattle.bt_types.specs.Checked.{KeyChecked}
+use Rattle.bt_types.specs.Checked.{Checked, KeyChecked}
 use Rattle.bt_types.specs.Told.{Told, used, kind_of_call, number_of_call, gather_told, print_told, clear_told, zero_told, delete_points, delete_told}
-use Rattle.bt_types.specs.Done.{Done, UseChecked, Removed}
+use Rattle.bt_types.specs.Done.{Done, DoesIn, UseChecked, Removed}
 use Rattle.bt_types.proofs.Growing.{grows_on, grows_mention, grows_decides, shape_later}
 use Rattle.bt_types.proofs.Later.{named_later, title_is}
 use Rattle.bt_types.proofs.Reading.{shared_declares, shapes_known, same_number}
 use Rattle.bt_types.proofs.MapStatements.{Decided, keys_now, decided_went, decided_fault, map_there, map_title}
-use Rattle.bt_types.proofs.Turns.{Went, went_none, went_both, went_at, went_key, went_done, fault_first, fault_behind, fault_here, Held, held_none, held_more, held_both, held_key, held_done, held_later, done_of}
+use Rattle.bt_types.proofs.Turns.{Went, went_none, went_both, went_at, went_seen, went_key, went_done, fault_first, fault_behind, fault_here, Held, held_none, held_more, held_both, held_seen, held_key, held_done, held_later, done_of}
 
 -- a test that breaks no rule
 pub holds_not : (b : Bool) (r : Rule) → breaks (not b) r ≡ None → b ≡ true
@@ -95,6 +96,15 @@ use_done m k0 k1 k2 number keys c h is =
 pub use_refused : (m : MapSeen) (k0 k1 : Known) (number : ℕ) (keys : List Made) (e : TypeError) → KeyChecked m k0 k1 number keys → IsBreach (breaks (is_one_too_many k1 m.name) TooManyMaps) m.place e → SaysFault (judged (used m) k0) e
 use_refused m k0 k1 number keys e c h =
     fault_behind m.points (at m.place (Uses m.name) ∷ []) k0 k1 e (went_key m k0 k1 number keys c) (fault_here m.place (Uses m.name) [] k1 e h)
+
+pub use_err : {A : Type 0} (P : A → Type 0) (m : MapSeen) (k0 : Known) (r : Result A TypeError) (f : TypeError) → IsErrAnd r (λ e. e ≡ f) → SaysFault (judged (used m) k0) f
+    → MatchResult r P (λ e. SaysFault (judged (used m) k0) e)
+use_err P m k0 (Ok a) f is h = absurd is
+use_err P m k0 (Err e) f is h = subst (λ (x : TypeError). SaysFault (judged (used m) k0) x) (sym is) h
+
+pub says_err : {A : Type 0} (ps : List Point) (k0 now : Known) (r : Result A TypeError) (f : TypeError) → IsErrAnd r (λ e. e ≡ f) → SaysFault (judged ps k0) f → Says (judged ps k0) now r
+says_err ps k0 now (Ok a) f is h = absurd is
+says_err ps k0 now (Err e) f is h = subst (λ (x : TypeError). SaysFault (judged ps k0) x) (sym is) h
 
 used_went : (m : MapSeen) (k0 k1 : Known) (number : ℕ) → UseChecked m k0 k1 number → Went (used m) k0 k1
 used_went m k0 k1 number u = record { whole = u.whole; grows = u.grows }
@@ -224,3 +234,51 @@ delete_done m apart place k0 k1 k2 k3 number keys more c w held types whole r =
     (deleted_word (title (titles_of k3).maps number) m.name (length (key_shapes (keys ++ more))) (length (m.keys ++ map (λ s. s.sort) apart)) name long)
     (subst (λ (ps : List Part). Held k3 ps (m.key_words ++ words_of apart)) (sym (parts_both keys more))
     (held_both k3 (parts_in keys) (parts_in more) m.key_words (words_of apart) (held_later k1 k3 (parts_in keys) m.key_words g (held_key m k0 k1 number keys c)) (held_later k2 k3 (parts_in more) (words_of apart) r.grows held))))
+
+delete_does : (m : MapSeen) (apart : List Seen) (place : Place) (k0 k1 k2 k3 : Known) (number : ℕ) (keys more : List Made) (r : Result TypedStmt TypeError) → KeyChecked m k0 k1 number keys → Went (points_of apart) k1 k2
+    → Held k2 (parts_in more) (words_of apart) → map (shape_in k2) (m.keys ++ map (λ s. s.sort) apart) ≡ map (λ m. Some m.shape) (keys ++ more)
+    → Says (judged (delete_points m.name m.place place (m.keys ++ map (λ s. s.sort) apart)) k2) k3 r → OnOk r (Removed k2 k3 m.name (key_shapes (keys ++ more)))
+    → IfOk r (λ s. (inside : Bool) → stmt_parts s inside ≡ delete_parts number (keys ++ more)) → DoesIn (delete_told m apart place) stmt_parts k0 k3 r
+delete_does m apart place k0 k1 k2 k3 number keys more (Ok s) c w held types says removed made = λ (inside : Bool).
+    subst (λ (ps : List Part). Done (delete_told m apart place) k0 k3 ps) (sym (made inside)) (delete_done m apart place k0 k1 k2 k3 number keys more c w held types says removed)
+delete_does m apart place k0 k1 k2 k3 number keys more (Err e) c w held types says removed made =
+    fault_behind m.points (points_of apart ++ delete_points m.name m.place place (m.keys ++ map (λ s. s.sort) apart)) k0 k1 e (went_key m k0 k1 number keys c)
+    (fault_behind (points_of apart) (delete_points m.name m.place place (m.keys ++ map (λ s. s.sort) apart)) k1 k2 e w says)
+
+-- the key stands in brackets
+pub delete_alone : (m : MapSeen) (place : Place) (k0 k1 k3 : Known) (number : ℕ) (keys : List Made) (r : Result TypedStmt TypeError) → KeyChecked m k0 k1 number keys
+    → ((sorts : List Sort) → map (shape_in k1) sorts ≡ map (λ (m : Made). Some m.shape) keys → Says (judged (delete_points m.name m.place place sorts) k1) k3 r) → OnOk r (Removed k1 k3 m.name (key_shapes keys))
+    → IfOk r (λ s. (inside : Bool) → stmt_parts s inside ≡ delete_parts number keys) → DoesIn (delete_told m [] place) stmt_parts k0 k3 r
+delete_alone m place k0 k1 k3 number keys r c says removed made =
+    let e = append-nil keys in
+    let types : map (shape_in k1) (m.keys ++ []) ≡ map (λ (m : Made). Some m.shape) keys = ap (λ (l : List Sort). map (shape_in k1) l) (append-nil m.keys) ∙ c.sorts in
+    delete_does m [] place k0 k1 k1 k3 number keys [] r c (went_none k1) (held_none k1) (types ∙ ap (λ (l : List Made). map (λ (m : Made). Some m.shape) l) (sym e)) (says (m.keys ++ []) types)
+    (subst (λ (l : List Made). OnOk r (Removed k1 k3 m.name (key_shapes l))) (sym e) removed)
+    (subst (λ (l : List Made). IfOk r (λ s. (inside : Bool) → stmt_parts s inside ≡ delete_parts number l)) (sym e) made)
+
+types_more : (k : Known) (sorts : List Sort) (ms : List Made) (s : Sort) (v : Made) → map (shape_in k) sorts ≡ map (λ (m : Made). Some m.shape) ms → shape_in k s ≡ Some v.shape → map (shape_in k) (sorts ++ s ∷ []) ≡ map (λ (m : Made). Some m.shape) (ms ++ v ∷ [])
+types_more k [] [] s v h e = ap (λ (o : Option Shape). o ∷ []) e
+types_more k [] (m ∷ ms) s v h e = cc
+types_more k (x ∷ xs) [] s v h e = cc
+types_more k (x ∷ xs) (m ∷ ms) s v h e =
+    let first : shape_in k x ≡ Some m.shape = cc in
+    let rest : map (shape_in k) xs ≡ map (λ (m : Made). Some m.shape) ms = cc in
+    let more = types_more k xs ms s v rest e in
+    cc
+
+-- the key stands behind the map
+pub delete_with : (m : MapSeen) (s : Seen) (place : Place) (k0 k1 k2 k3 : Known) (number : ℕ) (keys : List Made) (v : Made) (all : List Made) (r : Result TypedStmt TypeError) → KeyChecked m k0 k1 number keys → Checked s k1 k2 v
+    → all ≡ keys ++ v ∷ [] → ((sorts : List Sort) → map (shape_in k2) sorts ≡ map (λ (m : Made). Some m.shape) all → Says (judged (delete_points m.name m.place place sorts) k2) k3 r) → OnOk r (Removed k2 k3 m.name (key_shapes all))
+    → IfOk r (λ s. (inside : Bool) → stmt_parts s inside ≡ delete_parts number all) → DoesIn (delete_told m (s ∷ []) place) stmt_parts k0 k3 r
+delete_with m s place k0 k1 k2 k3 number keys v all r c d e says removed made =
+    let types = types_more k2 m.keys keys s.sort v (types_later k1 k2 d.grows m.keys keys c.sorts) d.typing.shape in
+    let seen : Went (s.points ++ []) k1 k2 = subst (λ (ps : List Point). Went ps k1 k2) (sym (append-nil s.points)) (went_seen s k1 k2 v d) in
+    let held : Held k2 (v.parts ++ []) (s.words ++ []) = held_both k2 v.parts [] s.words [] (held_seen s k1 k2 v d) (held_none k2) in
+    delete_does m (s ∷ []) place k0 k1 k2 k3 number keys (v ∷ []) r c seen held types (says (m.keys ++ s.sort ∷ []) (types ∙ ap (λ (l : List Made). map (λ (m : Made). Some m.shape) l) (sym e)))
+    (subst (λ (l : List Made). OnOk r (Removed k2 k3 m.name (key_shapes l))) e removed)
+    (subst (λ (l : List Made). IfOk r (λ s. (inside : Bool) → stmt_parts s inside ≡ delete_parts number l)) e made)
+
+pub delete_key_fault : (m : MapSeen) (s : Seen) (place : Place) (k0 k1 : Known) (number : ℕ) (keys : List Made) (e : TypeError) → KeyChecked m k0 k1 number keys → SaysFault (judged s.points k1) e → SaysFault (judged (delete_told m (s ∷ []) place).points k0) e
+delete_key_fault m s place k0 k1 number keys e c h =
+    let last = delete_points m.name m.place place (m.keys ++ s.sort ∷ []) in
+    fault_behind m.points ((s.points ++ []) ++ last) k0 k1 e (went_key m k0 k1 number keys c) (fault_first (s.points ++ []) last k1 e (fault_first s.points [] k1 e h))

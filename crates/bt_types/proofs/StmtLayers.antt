@@ -19,11 +19,12 @@ use Rattle.typed_tree.specs.declared.stmt.TypedStmt.TheShapes.{former-TypedStmt-
 use Rattle.bt_types.specs.Walk.{Seen, MapSeen, TargetSeen, OnMap, OnVar, kind_layer, target_layer, expr_layer, step_layer, map_layer, of_expr, of_map, of_target}
 use Rattle.typed_tree.specs.declared.expr.NumExpr.{NumExpr}
 use Rattle.typed_tree.specs.declared.expr.AnyExpr.{AnyExpr}
+use Rattle.typed_tree.specs.declared.stmt.Jump.{Jump}
 use Rattle.typed_tree.specs.declared.stmt.TypedStmt.{TypedStmt, fold-roll-TypedStmt}
 use Rattle.typed_tree.specs.declared.stmt.TypedBlock.{TypedBlock, fold-roll-TypedBlock}
 use Rattle.typed_tree.specs.declared.stmt.TypedStmt.TheVariants as typed
 use Rattle.typed_tree.specs.declared.stmt.TypedStmt.TheOpen.{TypedStmt-F}
-use Rattle.typed_tree.specs.Parts.{Part, Looped, Unrolled, Ending, made_of, num_parts, joined, arm_parts, otherwise_parts, set_var_parts, set_map_parts, update_var_parts, update_map_parts, gather_parts, printf_parts, delete_parts, stmt_layer as typed_layer, block_layer as typed_block_layer, stmt_parts, block_parts}
+use Rattle.typed_tree.specs.Parts.{Part, Shown, Cleared, Zeroed, Jumped, Looped, Unrolled, Ending, made_of, num_parts, joined, arm_parts, otherwise_parts, set_var_parts, set_map_parts, update_var_parts, update_map_parts, gather_parts, printf_parts, delete_parts, stmt_layer as typed_layer, block_layer as typed_block_layer, stmt_parts, block_parts}
 use Rattle.bt_types.specs.Told.{Told, arm_told, if_told, while_told, unroll_told, block_told, stmt_kind_layer, stmt_layer, block_layer, of_stmt_kind, of_block, of_stmt}
 
 map_map : {A B C : Type 0} (f : B → C) (g : A → B) (xs : List A) → map f (map g xs) ≡ map (λ x. f (g x)) xs
@@ -96,6 +97,31 @@ pub delete_stmt : (m : MapId) (keys : List AnyExpr) (inside : Bool) → stmt_par
 delete_stmt m keys inside =
     ap (λ (s : TypedStmt). stmt_parts s inside) (sym (typed.rolls-Delete m keys))
     ∙ ap (λ (f : Bool → List Part). f inside) (fold-roll-TypedStmt (Bool → List Part) (Bool → List Part) typed_layer typed_block_layer (TypedStmt-F.Delete m keys))
+
+pub print_stmt : (m : MapId) (top : ℕ) (div : ℤ) (inside : Bool) → stmt_parts (typed.Print m top div) inside ≡ Shown m.0 top div ∷ []
+print_stmt m top div inside =
+    ap (λ (s : TypedStmt). stmt_parts s inside) (sym (typed.rolls-Print m top div))
+    ∙ ap (λ (f : Bool → List Part). f inside) (fold-roll-TypedStmt (Bool → List Part) (Bool → List Part) typed_layer typed_block_layer (TypedStmt-F.Print m top div))
+
+pub clear_stmt : (m : MapId) (inside : Bool) → stmt_parts (typed.Clear m) inside ≡ Cleared m.0 ∷ []
+clear_stmt m inside =
+    ap (λ (s : TypedStmt). stmt_parts s inside) (sym (typed.rolls-Clear m))
+    ∙ ap (λ (f : Bool → List Part). f inside) (fold-roll-TypedStmt (Bool → List Part) (Bool → List Part) typed_layer typed_block_layer (TypedStmt-F.Clear m))
+
+pub zero_stmt : (m : MapId) (inside : Bool) → stmt_parts (typed.Zero m) inside ≡ Zeroed m.0 ∷ []
+zero_stmt m inside =
+    ap (λ (s : TypedStmt). stmt_parts s inside) (sym (typed.rolls-Zero m))
+    ∙ ap (λ (f : Bool → List Part). f inside) (fold-roll-TypedStmt (Bool → List Part) (Bool → List Part) typed_layer typed_block_layer (TypedStmt-F.Zero m))
+
+pub step_stmt : (value : NumExpr) (inside : Bool) → stmt_parts (typed.Step value) inside ≡ num_parts value
+step_stmt value inside =
+    ap (λ (s : TypedStmt). stmt_parts s inside) (sym (typed.rolls-Step value))
+    ∙ ap (λ (f : Bool → List Part). f inside) (fold-roll-TypedStmt (Bool → List Part) (Bool → List Part) typed_layer typed_block_layer (TypedStmt-F.Step value))
+
+pub jump_stmt : (jump : Jump) (inside : Bool) → stmt_parts (typed.Jump jump) inside ≡ Jumped jump inside ∷ []
+jump_stmt jump inside =
+    ap (λ (s : TypedStmt). stmt_parts s inside) (sym (typed.rolls-Jump jump))
+    ∙ ap (λ (f : Bool → List Part). f inside) (fold-roll-TypedStmt (Bool → List Part) (Bool → List Part) typed_layer typed_block_layer (TypedStmt-F.Jump jump))
 
 pub while_stmt : (test : NumExpr) (block : TypedBlock) (line : ℕ) (inside : Bool) → stmt_parts (typed.While test block line) inside ≡ Looped line ∷ (num_parts test ++ block_parts block true)
 while_stmt test block line inside =

@@ -17,6 +17,7 @@ use crate::maps::Keyed;
 use crate::rules::broken;
 use crate::write::{check_shared, remove, use_map};
 use bt_ast::expr::{Expr, MapRef};
+use bt_core::items::Items;
 use bt_core::map::MapId;
 use bt_core::place::Place;
 use std::alloc::Global;
@@ -86,18 +87,19 @@ pub(crate) fn check_zero(
 fn check_removed(
     alloc: Global,
     known: &mut Known,
-    map: &MapRef,
+    name: &Items<u8>,
+    at_map: Place,
     keyed: Keyed,
     place: Place,
 ) -> Result<TypedStmt, TypeError>
     ensures says { (sorts : List Sort) → map (shape_in known.old) sorts ≡ map (λ (m : Made). Some m.shape) (map made_of keyed.keys)
-        → Says (judged (delete_points map.now.name map.now.place place sorts) known.old) known.new result }
-    ensures removed { OnOk result (Removed known.old known.new map.now.name (key_shapes (map made_of keyed.keys))) }
+        → Says (judged (delete_points name.now at_map place sorts) known.old) known.new result }
+    ensures removed { OnOk result (Removed known.old known.new name.now (key_shapes (map made_of keyed.keys))) }
     ensures made { IfOk result (λ s. (inside : Bool) → stmt_parts s inside ≡ delete_parts keyed.map.0 (map made_of keyed.keys)) }
 {
-    use_map(alloc, known, &map.name, map.place)?;
-    check_shared(known, map.name.as_slice(), place)?;
-    remove(alloc, known, &map.name, &keyed.keys, map.place)?;
+    use_map(alloc, known, name, at_map)?;
+    check_shared(known, name, place)?;
+    remove(alloc, known, name, &keyed.keys, at_map)?;
     let Keyed { map, keys } = keyed;
     Ok(TypedStmt::Delete { map, keys })
 }
@@ -112,7 +114,7 @@ pub(crate) fn check_delete(
     ensures { DoesIn (delete_told (of_map map.now) [] place) stmt_parts known.old known.new result }
 {
     let keyed = check_key(alloc, known, map)?;
-    check_removed(alloc, known, map, keyed, place)
+    check_removed(alloc, known, &map.name, map.place, keyed, place)
 }
 
 /// `delete(map, key)`.
@@ -128,5 +130,5 @@ pub(crate) fn check_delete_key(
     let mut keyed = check_key(alloc, known, map)?;
     let key = check_expr(alloc, known, key)?;
     keyed.keys.push(key)?;
-    check_removed(alloc, known, map, keyed, place)
+    check_removed(alloc, known, &map.name, map.place, keyed, place)
 }

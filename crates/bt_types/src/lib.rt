@@ -1,12 +1,17 @@
 //! The types of a script: its first fault in walk order, or its typed trees.
 #![tactic(auto)]
 
+mod assign;
+mod calls;
 pub mod expr;
 pub mod fault;
 pub mod field;
+mod gather;
 pub mod known;
 pub mod leaf;
 pub mod maps;
+mod printf;
 pub mod rules;
-pub mod trial;
+mod stmt;
 pub mod variable;
+mod write;

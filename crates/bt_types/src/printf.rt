@@ -1,10 +1,10 @@
 // Calls of `printf`.
-ghost use Rattle.std.specs.Prelude.{◌≡◌, IfOk, OnOk, map, not};
+ghost use Rattle.std.specs.Prelude.{◌≡◌, true, false, IfOk, MatchOption, OnOk, Some, map, not};
 ghost use Rattle.fmt_text.specs.Deciding.{format_pieces};
 ghost use Rattle.typed_tree.specs.Parts.{key_shapes, made_of, stmt_parts};
 ghost use Rattle.typed_tree.specs.Scope.{takes};
 ghost use Rattle.bt_types.specs.declared.fault.Rule.TheVariants.{BadFormat};
-ghost use Rattle.bt_types.specs.Known.{call_at, has_call, with_call};
+ghost use Rattle.bt_types.specs.Known.{add_call, call_at, has_call, is_call, with_call};
 ghost use Rattle.bt_types.specs.Judge.{Refuses};
 ghost use Rattle.bt_types.specs.Rules.{breaks};
 ghost use Rattle.bt_types.specs.Walk.{of_expr};
@@ -47,16 +47,22 @@ fn takes(alloc: Global, pieces: &[Piece], values: &[AnyExpr]) -> Result<bool, Me
     Ok(same_shapes(wanted.as_slice(), given.as_slice()))
 }
 
+/// Whether a call is the one with this format at this place.
+fn is_call(call: &Printed, format: &[u8], place: Place) -> bool
+    ensures { result ≡ is_call format.now place call.now }
+{
+    call.place.line == place.line
+        && call.place.column == place.column
+        && call.text.as_slice() == format
+}
+
 /// The place of a call among the calls of `printf`.
 fn call_at(calls: &[Printed], format: &[u8], place: Place) -> Option<usize>
     ensures { MatchOption result (has_call format.now place calls.now ≡ false)
         (λ i. (has_call format.now place calls.now ≡ true) × (i ≡ call_at format.now place calls.now)) }
 {
     for (i, call) in calls.iter().enumerate() {
-        if call.place.line == place.line
-            && call.place.column == place.column
-            && call.text.as_slice() == format
-        {
+        if is_call(call, format, place) {
             return Some(i);
         }
     }
@@ -64,7 +70,35 @@ fn call_at(calls: &[Printed], format: &[u8], place: Place) -> Option<usize>
 }
 
 impl Known {
-    /// A call of `printf` whose format has these pieces: its number. A new call gets the next one.
+    /// The number of a call of `printf` whose format has these pieces, which is added where it is new.
+    #[tactic(auto, using(crate::proofs::Printing::last_call))]
+    fn add_call(
+        &mut self,
+        alloc: Global,
+        format: &Items<u8>,
+        place: Place,
+        pieces: Items<Piece>,
+    ) -> Result<u32, Memory>
+        requires { format_pieces format.now ≡ Some pieces }
+        ensures learned { OnOk result (self.new ≡ add_call self.old format.now place) }
+        ensures numbered { IfOk result (λ number. number ≡ call_at format.now place self.new.printed) }
+    {
+        match call_at(self.printed.as_slice(), format.as_slice(), place) {
+            Some(found) => number_of(found),
+            None => {
+                let number = number_of(self.printed.len())?;
+                let text = format.try_copy(alloc)?;
+                self.printed.push(Printed {
+                    place,
+                    text,
+                    pieces,
+                })?;
+                Ok(number)
+            }
+        }
+    }
+
+    /// A call of `printf` whose format has these pieces: its number, which is added to those that the body has named.
     fn call(
         &mut self,
         alloc: Global,
@@ -76,20 +110,7 @@ impl Known {
         ensures learned { OnOk result (self.new ≡ with_call self.old format.now place) }
         ensures numbered { IfOk result (λ number. number ≡ call_at format.now place self.new.printed) }
     {
-        let found = match call_at(self.printed.as_slice(), format.as_slice(), place) {
-            Some(found) => found,
-            None => {
-                let next = self.printed.len();
-                let text = format.try_copy(alloc)?;
-                self.printed.push(Printed {
-                    place,
-                    text,
-                    pieces,
-                })?;
-                next
-            }
-        };
-        let number = number_of(found)?;
+        let number = self.add_call(alloc, format, place, pieces)?;
         self.calls.push(number)?;
         Ok(number)
     }
@@ -105,7 +126,7 @@ fn check_format(
     known: &mut Known,
     format: &Items<u8>,
     place: Place,
-    values: &[AnyExpr],
+    values: &Items<AnyExpr>,
 ) -> Result<u32, TypeError>
     ensures refuses { Refuses (breaks (not (takes (format_pieces format.now) (key_shapes (map made_of values.now)))) BadFormat) place result }
     ensures learned { OnOk result (known.new ≡ with_call known.old format.now place) }
@@ -114,7 +135,7 @@ fn check_format(
     match pieces_of(alloc, format.as_slice())? {
         None => Err(broken(Rule::BadFormat, place)),
         Some(pieces) => {
-            if !takes(alloc, pieces.as_slice(), values)? {
+            if !takes(alloc, pieces.as_slice(), values.as_slice())? {
                 return Err(broken(Rule::BadFormat, place));
             }
             Ok(known.call(alloc, format, place, pieces)?)
@@ -133,6 +154,6 @@ pub(crate) fn check_printf(
     ensures { DoesIn (printf_told format.now place (map of_expr values.now)) stmt_parts known.old known.new result }
 {
     let values = check_all(alloc, known, values)?;
-    let format = check_format(alloc, known, format, place, values.as_slice())?;
+    let format = check_format(alloc, known, format, place, &values)?;
     Ok(TypedStmt::Printf { format, values })
 }

@@ -93,10 +93,10 @@ pub(crate) fn use_map(
 }
 
 /// That a map is no aggregation, as far as it is decided.
-pub(crate) fn check_shared(known: &Known, name: &[u8], place: Place) -> Result<(), TypeError>
+pub(crate) fn check_shared(known: &Known, name: &Items<u8>, place: Place) -> Result<(), TypeError>
     ensures { Refuses (breaks (is_agg_in (decl_in name.now known.now.decided)) WrongType) place result }
 {
-    if is_agg(known, name) {
+    if is_agg(known, name.as_slice()) {
         return Err(broken(Rule::WrongType, place));
     }
     Ok(())
