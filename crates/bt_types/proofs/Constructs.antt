@@ -11,7 +11,7 @@ use Rattle.tracefs_format.specs.ByName.{field_called, field_named}
 use Rattle.tracefs_format.specs.declared.field.Field.{Field}
 use Rattle.tracefs_format.specs.declared.layout.Layout.{Layout}
 use Rattle.typed_tree.specs.declared.expr.AnyExpr.{AnyExpr}
-use Rattle.typed_tree.specs.Parts.{Part, Literal, FieldOf, VarOf, Joined, Stepped, Made, made, made_of}
+use Rattle.typed_tree.specs.Parts.{Literal, FieldOf, VarOf, Stepped, Made, made, made_of}
 use Rattle.typed_tree.specs.Scope.{shape_of_field}
 use Rattle.bt_types.specs.declared.fault.Fault.{Fault}
 use Rattle.bt_types.specs.declared.fault.Rule.{Rule}
@@ -20,13 +20,15 @@ use Rattle.bt_types.specs.declared.fault.TypeError.{TypeError}
 use Rattle.bt_types.specs.declared.fault.TypeError.TheVariants.{Broken, Memory}
 use Rattle.bt_types.specs.declared.known.Known.{Known}
 use Rattle.bt_types.specs.declared.known.Var.{Var}
-use Rattle.bt_types.specs.Mentions.{Text, Whole, OfVar, OfField, NeedsShort, NeedsWhole, ReadsVar, ReadsField, Args, TextWord, FieldWord, VarWord, BinaryWord, StepWord, Word}
-use Rattle.bt_types.specs.Known.{var_in, event_field, field_shape}
+use Rattle.bt_types.specs.Mentions.{Sort, Text, OfVar, OfField, NeedsShort, ReadsVar, ReadsField, Args, TextWord, FieldWord, VarWord, StepWord}
+use Rattle.bt_types.specs.Known.{var_in, event_field, field_shape, shape_in}
 use Rattle.bt_types.specs.Judge.{unless_broken, judged, SaysFault, IsBreach, Refuses}
 use Rattle.bt_types.specs.Rules.{first_of_rules, breaks, is_text, is_unreadable}
-use Rattle.bt_types.specs.Walk.{Seen, OnVar, seen, step_seen, step_points, at, operands, logical_seen, both_whole}
+use Rattle.bt_types.specs.Walk.{Seen, OnVar, seen, step_seen, step_points, at}
 use Rattle.bt_types.specs.Typing.{IsTyping, Fits, titles_of, title, word_of}
-use Rattle.bt_types.specs.Join.{joined_breaks, both_break}
+use Rattle.bt_types.specs.declared.leaf.Joint.{Joint}
+use Rattle.bt_types.specs.declared.leaf.Joint.TheVariants.{Operator, And, Or}
+use Rattle.bt_types.specs.Joint.{joint_part, joint_word, joint_points, joint_breaks, joint_seen}
 use Rattle.bt_types.specs.Checked.{Checked, Checks}
 use Rattle.bt_types.proofs.Composing.{front_refused, later_refused, breach, asked_refused, asked_whole, still, pair_checks, both_judged, operands_judged}
 use Rattle.bt_types.proofs.Finding.{same_is}
@@ -139,14 +141,23 @@ field_unreadable k name place word f e h g b =
     (breach (Some FieldNotReadable) word (Ok k) e b)
 
 -- two operands
-pub binary_checks : (s t : Seen) (k0 k1 k2 : Known) (m n : Made) (op : BinOp) (place : Place) (r : Result AnyExpr TypeError) → Checked s k0 k1 m → Checked t k1 k2 n → Refuses (joined_breaks op m.shape n.shape) place r → IfOk r (λ e. made_of e ≡ made Int (Joined op ∷ (m.parts ++ n.parts)))
-    → Checks (seen (s.points ++ (t.points ++ operands op place s.sort t.sort)) Whole (BinaryWord op ∷ (s.words ++ t.words))) k0 k2 r
-binary_checks s t k0 k1 k2 m n op place r c d h g =
-    pair_checks s t k0 k1 k2 m n (Joined op) (BinaryWord op) (operands op place s.sort t.sort) (joined_breaks op m.shape n.shape) place r c d tt refl
-    (operands_judged k2 op place s.sort t.sort m.shape n.shape (still s t k0 k1 k2 m n c d).shape d.typing.shape) h g
+joint_judged : (k : Known) (joint : Joint) (place : Place) (s t : Sort) (a b : Shape) → shape_in k s ≡ Some a → shape_in k t ≡ Some b → judged (joint_points joint place s t) k ≡ unless_broken (joint_breaks joint a b) place (Ok k)
+joint_judged k (Operator op) place s t a b g h = operands_judged k op place s t a b g h
+joint_judged k And place s t a b g h = both_judged k place s t a b g h
+joint_judged k Or place s t a b g h = both_judged k place s t a b g h
 
-pub logical_checks : (s t : Seen) (k0 k1 k2 : Known) (m n : Made) (p : Part) (w : Word) (place : Place) (r : Result AnyExpr TypeError) → Checked s k0 k1 m → Checked t k1 k2 n → Fits k2 p → word_of (titles_of k2) p ≡ w
-    → Refuses (both_break m.shape n.shape) place r → IfOk r (λ e. made_of e ≡ made Int (p ∷ (m.parts ++ n.parts))) → Checks (logical_seen w place s t) k0 k2 r
-logical_checks s t k0 k1 k2 m n p w place r c d f g h is =
-    pair_checks s t k0 k1 k2 m n p w (both_whole place s.sort t.sort) (both_break m.shape n.shape) place r c d f g
-    (both_judged k2 place s.sort t.sort m.shape n.shape (still s t k0 k1 k2 m n c d).shape d.typing.shape) h is
+joint_fits : (k : Known) (joint : Joint) → Fits k (joint_part joint)
+joint_fits k (Operator op) = tt
+joint_fits k And = tt
+joint_fits k Or = tt
+
+joint_written : (k : Known) (joint : Joint) → word_of (titles_of k) (joint_part joint) ≡ joint_word joint
+joint_written k (Operator op) = refl
+joint_written k And = refl
+joint_written k Or = refl
+
+pub joint_checks : (s t : Seen) (k0 k1 k2 : Known) (m n : Made) (joint : Joint) (place : Place) (r : Result AnyExpr TypeError) → Checked s k0 k1 m → Checked t k1 k2 n → Refuses (joint_breaks joint m.shape n.shape) place r
+    → IfOk r (λ e. made_of e ≡ made Int (joint_part joint ∷ (m.parts ++ n.parts))) → Checks (joint_seen joint place s t) k0 k2 r
+joint_checks s t k0 k1 k2 m n joint place r c d h g =
+    pair_checks s t k0 k1 k2 m n (joint_part joint) (joint_word joint) (joint_points joint place s.sort t.sort) (joint_breaks joint m.shape n.shape) place r c d (joint_fits k2 joint) (joint_written k2 joint)
+    (joint_judged k2 joint place s.sort t.sort m.shape n.shape (still s t k0 k1 k2 m n c d).shape d.typing.shape) h g

@@ -59,3 +59,6 @@ on_map m = ap of_target (sym (target.rolls-Map m)) ∙ fold-roll-Target (Place �
 
 pub on_var : (v : VarRef) → of_target (target.Var v) ≡ OnVar v.name v.place
 on_var v = ap of_target (sym (target.rolls-Var v)) ∙ fold-roll-Target (Place → Seen) TargetSeen Seen Seen MapSeen kind_layer target_layer expr_layer step_layer map_layer (Target-F.Target::Var v)
+
+pub step_of_map : (s : IncDec) (m : MapRef) → (out-IncDec s).target ≡ target.Map m → of_step s ≡ step_seen (out-IncDec s).plus (out-IncDec s).prefix (out-IncDec s).place (OnMap (of_map m))
+step_of_map s m h = step_layer_is s ∙ ap (λ (t : TargetSeen). step_seen (out-IncDec s).plus (out-IncDec s).prefix (out-IncDec s).place t) (ap of_target h ∙ on_map m)

@@ -3,6 +3,7 @@ pub mod Checked
 pub mod Done
 pub mod Grows
 pub mod Join
+pub mod Joint
 pub mod Judge
 pub mod Known
 pub mod Maps

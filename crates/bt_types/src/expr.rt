@@ -1,18 +1,21 @@
 // Expressions: their first fault, or what they are as typed ones.
 ghost use Rattle.std.specs.Prelude.{map, MatchResult};
-ghost use Rattle.bt_types.specs.Walk.{of_expr, of_kind, of_map, of_step, map_read};
+ghost use Rattle.bt_types.specs.declared.known.Known.{Known};
+ghost use Rattle.bt_types.specs.Joint.{joint_seen};
+ghost use Rattle.bt_types.specs.Walk.{Seen, of_expr, of_kind, of_map, of_step, map_read, unary_seen, choose_seen};
 ghost use Rattle.typed_tree.specs.Parts.{made_of};
 ghost use Rattle.bt_types.specs.Judge.{judged, SaysFault};
-ghost use Rattle.bt_types.specs.Checked.{Checks, ChecksNumber, ChecksAll, KeyChecked};
+ghost use Rattle.bt_types.specs.Checked.{Checked, Checks, ChecksNumber, ChecksAll, KeyChecked};
 
 use crate::fault::TypeError;
 use crate::field::field;
 use crate::known::Known;
-use crate::leaf::{binary, builtin, choose, literal, logical, unary};
+use crate::leaf::{Joint, builtin, choose, join, literal, unary};
 use crate::maps::{Keyed, read, step};
 use crate::variable::{step_variable, variable};
 use bt_ast::expr::{Expr, ExprKind, IncDec, MapRef, Target};
 use bt_core::items::Items;
+use bt_core::operator::UnOp;
 use bt_core::place::Place;
 use std::alloc::Global;
 use typed_tree::expr::{AnyExpr, NumExpr};
@@ -92,6 +95,62 @@ pub(crate) fn check_step(
     }
 }
 
+/// `++` or `--` as an expression.
+#[cycle(expr)]
+fn check_stepped(alloc: Global, known: &mut Known, stepped: &IncDec) -> Result<AnyExpr, TypeError>
+    ensures { Checks (of_step stepped.now) known.old known.new result }
+{
+    let number = check_step(alloc, known, stepped)?;
+    Ok(AnyExpr::Num(number))
+}
+
+/// An operator before an expression.
+#[cycle(expr)]
+fn check_operand(
+    alloc: Global,
+    known: &mut Known,
+    value: &Expr,
+    op: UnOp,
+    place: Place,
+) -> Result<AnyExpr, TypeError>
+    ensures { Checks (unary_seen op place (of_expr value.now)) known.old known.new result }
+{
+    let value = check_expr(alloc, known, value)?;
+    unary(alloc, op, value, place)
+}
+
+/// The second of two operands, behind the first.
+#[cycle(expr)]
+fn check_second(
+    alloc: Global,
+    known: &mut Known,
+    right: &Expr,
+    left: AnyExpr,
+    joint: Joint,
+    place: Place,
+) -> Result<AnyExpr, TypeError>
+    ensures { (s : Seen) (before : Known) → Checked s before known.old (made_of left) → Checks (joint_seen joint place s (of_expr right.now)) before known.new result }
+{
+    let right = check_expr(alloc, known, right)?;
+    join(alloc, joint, left, right, place)
+}
+
+/// The last part of `condition ? yes : no`, behind the others.
+#[cycle(expr)]
+fn check_last(
+    alloc: Global,
+    known: &mut Known,
+    no: &Expr,
+    condition: AnyExpr,
+    yes: AnyExpr,
+    place: Place,
+) -> Result<AnyExpr, TypeError>
+    ensures { (s t : Seen) (before between : Known) → Checked s before between (made_of condition) → Checked t between known.old (made_of yes) → Checks (choose_seen place s t (of_expr no.now)) before known.new result }
+{
+    let no = check_expr(alloc, known, no)?;
+    choose(alloc, condition, yes, no, place)
+}
+
 /// An expression that begins at a place.
 #[cycle(expr)]
 fn check_kind(
@@ -109,35 +168,25 @@ fn check_kind(
         ExprKind::Field { name, name_place } => field(alloc, known, name, place, *name_place),
         ExprKind::Var(var) => variable(known, var),
         ExprKind::Map(map) => check_map(alloc, known, map),
-        ExprKind::Step(stepped) => {
-            let stepped = check_step(alloc, known, stepped)?;
-            Ok(AnyExpr::Num(stepped))
-        }
+        ExprKind::Step(stepped) => check_stepped(alloc, known, stepped),
         ExprKind::Paren(value) => check_expr(alloc, known, value.get()),
-        ExprKind::Unary { op, value } => {
-            let value = check_expr(alloc, known, value.get())?;
-            unary(alloc, *op, value, place)
-        }
+        ExprKind::Unary { op, value } => check_operand(alloc, known, value.get(), *op, place),
         ExprKind::Binary { op, left, right } => {
             let left = check_expr(alloc, known, left.get())?;
-            let right = check_expr(alloc, known, right.get())?;
-            binary(alloc, *op, left, right, place)
+            check_second(alloc, known, right.get(), left, Joint::Operator(*op), place)
         }
         ExprKind::AndThen { left, right } => {
             let left = check_expr(alloc, known, left.get())?;
-            let right = check_expr(alloc, known, right.get())?;
-            logical(alloc, true, left, right, place)
+            check_second(alloc, known, right.get(), left, Joint::And, place)
         }
         ExprKind::OrElse { left, right } => {
             let left = check_expr(alloc, known, left.get())?;
-            let right = check_expr(alloc, known, right.get())?;
-            logical(alloc, false, left, right, place)
+            check_second(alloc, known, right.get(), left, Joint::Or, place)
         }
         ExprKind::Choose { condition, yes, no } => {
             let condition = check_expr(alloc, known, condition.get())?;
             let yes = check_expr(alloc, known, yes.get())?;
-            let no = check_expr(alloc, known, no.get())?;
-            choose(alloc, condition, yes, no, place)
+            check_last(alloc, known, no.get(), condition, yes, place)
         }
     }
 }

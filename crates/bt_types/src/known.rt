@@ -1,5 +1,5 @@
 // What is known at a place of the walk: what earlier mentions decided.
-ghost use Rattle.std.specs.Prelude.{◌≡◌, ◌==◌, Bool, true, false, Some, None, OnOk, IfOk, MatchOption, IsTrue, slice_get};
+ghost use Rattle.std.specs.Prelude.{◌≡◌, ◌==◌, true, false, Some, None, OnOk, IfOk, MatchOption, slice_get};
 ghost use Rattle.std.specs.List.{list_any};
 ghost use Rattle.std.specs.Option.{option_copied};
 ghost use Rattle.typed_tree.specs.Scope.{is_fine_decl};
@@ -10,8 +10,8 @@ use bt_core::items::Items;
 use bt_core::map::{MapDecl, MapId, MapKind, Shape};
 use bt_core::memory::{Memory, TryCopy};
 use bt_core::place::Place;
-use std::alloc::Global;
 use fmt_text::piece::Piece;
+use std::alloc::Global;
 use tracefs_format::field::Field;
 use tracefs_format::layout::Layout;
 
@@ -206,7 +206,12 @@ impl Known {
     }
 
     /// Adds a variable, where there is none of this name.
-    pub(crate) fn set(&mut self, alloc: Global, name: &Items<u8>, shape: Shape) -> Result<(), Memory>
+    pub(crate) fn set(
+        &mut self,
+        alloc: Global,
+        name: &Items<u8>,
+        shape: Shape,
+    ) -> Result<(), Memory>
         ensures { OnOk result (self.new ≡ with_var self.old (record { name = name.now; shape = shape })) }
     {
         if self.var(name.as_slice()).is_none() {

@@ -8,6 +8,7 @@ ghost use Rattle.bt_types.specs.declared.fault.TypeError.TheVariants.{Broken};
 ghost use Rattle.typed_tree.specs.Parts.{made, made_of, Literal, Prefixed, Joined, Chosen, num_parts, str_parts, compared};
 ghost use Rattle.bt_types.specs.Judge.{Refuses};
 ghost use Rattle.bt_types.specs.Rules.{breaks};
+ghost use Rattle.bt_types.specs.Joint.{joint_breaks, joint_part};
 ghost use Rattle.bt_types.specs.Join.{builtin_made, joined_breaks, whole_breaks, both_break, choose_breaks, logical_part};
 
 use crate::fault::{Rule, TypeError};
@@ -21,6 +22,16 @@ use bt_core::place::Place;
 use bt_core::text::Str64;
 use std::alloc::Global;
 use typed_tree::expr::{AnyExpr, NumBuiltin, NumExpr, StrExpr};
+
+/// What stands between two operands.
+#[derive(Clone, Copy)]
+pub(crate) enum Joint {
+    Operator(BinOp),
+    /// `&&`.
+    And,
+    /// `||`.
+    Or,
+}
 
 /// A value of another type is needed at this place.
 pub(crate) fn wrong_type(place: Place) -> TypeError
@@ -95,7 +106,7 @@ fn strings(alloc: Global, equal: bool, left: StrExpr, right: StrExpr) -> Result<
 }
 
 /// Two operands with an operator between them: whole numbers, or for `==` and `!=` two values of one type.
-pub(crate) fn binary(
+fn binary(
     alloc: Global,
     op: BinOp,
     left: AnyExpr,
@@ -131,7 +142,7 @@ fn logicals(alloc: Global, both: bool, left: NumExpr, right: NumExpr) -> Result<
 }
 
 /// Two operands of which the second is evaluated where the first asks for it: `&&` where `both`, otherwise `||`.
-pub(crate) fn logical(
+fn logical(
     alloc: Global,
     both: bool,
     left: AnyExpr,
@@ -147,6 +158,24 @@ pub(crate) fn logical(
             AnyExpr::Str(_) => Err(wrong_type(place)),
             AnyExpr::Num(right) => Ok(logicals(alloc, both, left, right)?),
         },
+    }
+}
+
+/// Two operands with something between them.
+pub(crate) fn join(
+    alloc: Global,
+    joint: Joint,
+    left: AnyExpr,
+    right: AnyExpr,
+    place: Place,
+) -> Result<AnyExpr, TypeError>
+    ensures refuses { Refuses (joint_breaks joint (made_of left).shape (made_of right).shape) place result }
+    ensures made { IfOk result (λ e. made_of e ≡ made Int (joint_part joint ∷ ((made_of left).parts ++ (made_of right).parts))) }
+{
+    match joint {
+        Joint::Operator(op) => binary(alloc, op, left, right, place),
+        Joint::And => logical(alloc, true, left, right, place),
+        Joint::Or => logical(alloc, false, left, right, place),
     }
 }
 

@@ -1,6 +1,7 @@
 // Variables of a body.
 ghost use Rattle.std.specs.Prelude.{◌≡◌, ◌∷◌, []};
-ghost use Rattle.typed_tree.specs.Parts.{made, made_of, VarOf};
+ghost use Rattle.bt_core.specs.declared.map.Shape.TheVariants.{Int};
+ghost use Rattle.typed_tree.specs.Parts.{made, made_of, num_parts, Stepped, VarOf};
 ghost use Rattle.bt_types.specs.Mentions.{ReadsVar, OfVar, VarWord};
 ghost use Rattle.bt_types.specs.Walk.{at, seen, step_seen, OnVar};
 ghost use Rattle.bt_types.specs.Checked.{Checks, ChecksNumber};
@@ -38,6 +39,13 @@ pub(crate) fn variable(known: &Known, var: &VarRef) -> Result<AnyExpr, TypeError
     }
 }
 
+/// `++` or `--` of the variable of a number.
+fn stepped(var: u32, plus: bool, prefix: bool) -> NumExpr
+    ensures { num_parts result ≡ (Stepped plus prefix ∷ VarOf var Int ∷ []) }
+{
+    NumExpr::StepVar { var, plus, prefix }
+}
+
 /// `++` or `--` of a variable, which begins at a place.
 #[tactic(auto, using(crate::proofs::Constructs::step_var_checked, crate::proofs::Constructs::step_unset, crate::proofs::Constructs::step_text))]
 pub(crate) fn step_variable(
@@ -51,12 +59,12 @@ pub(crate) fn step_variable(
 {
     match known.var(var.name.as_slice()) {
         None => Err(broken(Rule::NotSet, var.place)),
-        Some((at, shape)) => {
-            if let Shape::Str = shape {
-                return Err(wrong_type(place));
+        Some((at, shape)) => match shape {
+            Shape::Str => Err(wrong_type(place)),
+            Shape::Int => {
+                let number = number_of(at)?;
+                Ok(stepped(number, plus, prefix))
             }
-            let var = number_of(at)?;
-            Ok(NumExpr::StepVar { var, plus, prefix })
-        }
+        },
     }
 }

@@ -13,6 +13,6 @@ returns-in-Some-value_of_field c =
     let name = c.args.name.now in
     let read = c.in-Some-value_of_field.ensures in
     let found : event_field k.event name ≡ Some c.in_ok-try_copy.field-0 =
-        ap (event_field k.event) (sym c.as_slice.ensures) ∙ (sym c.in-Some.ensures ∙ ap (λ f. Some f) (sym c.in_ok-try_copy.ensures)) in
+    ap (event_field k.event) (sym c.as_slice.ensures) ∙ (sym c.in-Some.ensures ∙ ap (λ f. Some f) (sym c.in_ok-try_copy.ensures)) in
     subst (λ (m : Made). Checked (seen (at c.args.place Args ∷ at c.args.word (ReadsField name) ∷ []) (OfField name) (FieldWord name ∷ [])) k k m) (sym read.is)
     (field_checked k name c.args.place c.args.word c.in_ok-try_copy.field-0 read.shape found read.kind)
