@@ -1,5 +1,5 @@
 -- What is found of calls by a key.
-use Rattle.std.proofs.Common.{◌≡◌, ◌++◌, ◌+◌, ◌==◌, ◌&&◌, ◌||◌, ℕ, Bool, true, false, cond, List, [], ◌∷◌, map, Option, Some, None, refl, sym, ap, subst, ◌∙◌, arith}
+use Rattle.std.proofs.Common.{◌≡◌, ◌++◌, ◌+◌, ◌==◌, ◌&&◌, ◌||◌, ℕ, suc, Bool, true, false, cond, List, [], ◌∷◌, length, map, unwrap_or, Option, Some, None, refl, sym, ap, subst, ◌∙◌, arith}
 use Rattle.std.specs.Prelude.{MatchOption}
 use Rattle.std.specs.Bool.{one_answer}
 use Rattle.std.specs.List.{position, position_from}
@@ -13,7 +13,9 @@ use Rattle.bt_core.specs.declared.place.Place.{Place}
 use Rattle.fmt_text.specs.declared.piece.Piece.{Piece}
 use Rattle.bt_types.specs.declared.known.Printed.{Printed}
 use Rattle.bt_types.specs.Indexed.{calls_by}
-use Rattle.bt_types.specs.Known.{is_call, has_call, call_at}
+use Rattle.fmt_text.specs.Deciding.{format_pieces}
+use Rattle.bt_types.specs.Known.{is_call, has_call, call_at, printed}
+use Rattle.bt_types.proofs.Finding.{same_self}
 use Rattle.bt_types.proofs.Indexing.{bytes_eq-sym, inserted_last}
 
 eqb-sym : (a b : ℕ) → (a == b) ≡ (b == a)
@@ -41,13 +43,13 @@ one_more false rest at i (Some n) h = (h.0, (let e = h.1 in omega arith))
 -- what a search by key finds, counted from a place
 found_from : {K : Type 0} (place_of : K → Place) (text_of : K → List ℕ) (test : K → Bool) (format : List ℕ) (place : Place) → ((k : K) → test k ≡ is_call format place (record { place = place_of k; text = text_of k; pieces = [] })) → (i : ℕ) (es : List (K × List Piece))
     → MatchOption (position_from test i (keys_of es)) (has_call format place (calls_by place_of text_of es) ≡ false)
-        (λ n. (has_call format place (calls_by place_of text_of es) ≡ true) × (n ≡ call_at format place (calls_by place_of text_of es) + i))
+    (λ n. (has_call format place (calls_by place_of text_of es) ≡ true) × (n ≡ call_at format place (calls_by place_of text_of es) + i))
 found_from place_of text_of test format place h i [] = refl
 found_from place_of text_of test format place h i (e ∷ es) =
     let c : Printed = record { place = place_of e.0; text = text_of e.0; pieces = e.1 } in
     let rest : List Printed = calls_by place_of text_of es in
     subst (λ (b : Bool). MatchOption (cond b (Some i) (position_from test (i + 1) (keys_of es))) ((is_call format place c || has_call format place rest) ≡ false)
-        (λ n. ((is_call format place c || has_call format place rest) ≡ true) × (n ≡ cond (is_call format place c) 0 (call_at format place rest + 1) + i)))
+    (λ n. ((is_call format place c || has_call format place rest) ≡ true) × (n ≡ cond (is_call format place c) 0 (call_at format place rest + 1) + i)))
     (sym (h e.0))
     (one_more (is_call format place c) (has_call format place rest) (call_at format place rest) i (position_from test (i + 1) (keys_of es)) (found_from place_of text_of test format place h (i + 1) es))
 
@@ -92,3 +94,27 @@ call_pushed {K} place_of text_of eq k format place pieces es new old h seen aske
 pub pieces_held : {K : Type 0} (place_of : K → Place) (text_of : K → List ℕ) (es : List (K × List Piece)) → map (λ (c : Printed). c.pieces) (calls_by place_of text_of es) ≡ values_of es
 pieces_held place_of text_of [] = refl
 pieces_held place_of text_of (e ∷ es) = ap (λ (l : List (List Piece)). e.1 ∷ l) (pieces_held place_of text_of es)
+
+-- a call is itself
+pub same_place : (n : ℕ) → (n == n) ≡ true
+same_place n = eq-eqb n n refl
+
+pub itself : (format : List ℕ) (place : Place) → is_call format place (printed format place) ≡ true
+itself format place = (let a = same_place place.line in let b = same_place place.column in let c = same_self format in cc)
+
+-- a new call is the last one
+pub last_call : (format : List ℕ) (place : Place) (calls : List Printed) → has_call format place calls ≡ false → call_at format place (calls ++ printed format place ∷ []) ≡ length calls
+last_call format place [] h = ap (λ (b : Bool). cond b 0 1) (itself format place)
+last_call format place (p ∷ ps) h =
+    elim (is_call format place p) as (λ b. (b || has_call format place ps) ≡ false → cond b 0 (call_at format place (ps ++ printed format place ∷ []) + 1) ≡ suc (length ps))
+    [ true ↦ λ e. cc | false ↦ λ e. (let rest = last_call format place ps e in omega (arith, rest)) ] h
+
+pub last_pushed : (format text : List ℕ) (place : Place) (pieces : List Piece) (calls now : List Printed) (number : ℕ) → has_call format place calls ≡ false → format_pieces format ≡ Some pieces → text ≡ format
+    → number ≡ length calls → now ≡ calls ++ (let p : Printed = record { place = place; text = text; pieces = pieces } in p) ∷ [] → number ≡ call_at format place now
+last_pushed format text place pieces calls now number none read same n is =
+    let p : Printed = record { place = place; text = text; pieces = pieces } in
+    let e : p ≡ printed format place =
+    ap (λ (t : List ℕ). (let q : Printed = record { place = place; text = t; pieces = pieces } in q)) same
+    ∙ ap (λ (o : Option (List Piece)). (let q : Printed = record { place = place; text = format; pieces = unwrap_or o [] } in q)) (sym read) in
+    let last = last_call format place calls none in
+    n ∙ (sym last ∙ (ap (λ (q : Printed). call_at format place (calls ++ q ∷ [])) (sym e) ∙ ap (call_at format place) (sym is)))

@@ -61,7 +61,6 @@ fits_later a b g (Printed number shapes) h =
       call = h.call;
       numbered = get_later a.printed b.printed number h.call g.printed h.numbered;
       here = any_later (λ n. n == number) a.calls b.calls g.calls h.here;
-      read = h.read;
       wanted = h.wanted;
     }
 fits_later a b g (Shown number top div) h = (map_later a b g number h.0, h.1)

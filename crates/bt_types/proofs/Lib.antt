@@ -10,3 +10,11 @@ pub mod Keys
 pub mod Layers
 pub mod Indexing
 pub mod Calling
+pub mod Turns
+pub mod Numbers
+pub mod MapStatements
+pub mod MapCalls
+pub mod StmtLayers
+pub mod Printing
+pub mod Runs
+pub mod Loops

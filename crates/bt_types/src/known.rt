@@ -2,10 +2,12 @@
 ghost use Rattle.std.specs.Prelude.{◌≡◌, ◌==◌, true, false, Some, None, OnOk, IfOk, MatchOption, slice_get};
 ghost use Rattle.std.specs.List.{list_any};
 ghost use Rattle.std.specs.Option.{option_copied};
+ghost use Rattle.fmt_text.specs.Deciding.{format_pieces};
 ghost use Rattle.typed_tree.specs.Scope.{is_fine_decl};
-ghost use Rattle.bt_types.specs.Known.{has_name, place_of, decl_in, var_in, event_field, add_name, add_number, with_name, with_mention, with_decl, with_var, begun};
+ghost use Rattle.bt_types.specs.Known.{has_name, place_of, decl_in, var_in, event_field, add_name, add_number, with_name, with_mention, with_decl, with_var, add_call, call_at, with_call, begun};
 ghost use Rattle.bt_types.specs.Typing.{IsNamed};
 
+use crate::printed::Calls;
 use crate::variables::Variables;
 use bt_core::items::Items;
 use bt_core::map::{MapDecl, MapId, MapKind, Shape};
@@ -45,7 +47,7 @@ pub struct Known {
     pub names: Items<Items<u8>>,
     pub mentioned: Items<Items<u8>>,
     pub decided: Items<MapDecl>,
-    pub printed: Items<Printed>,
+    pub printed: Calls,
 }
 
 /// The place of a name among names.
@@ -216,5 +218,44 @@ impl Known {
         self.vars = Variables::new(alloc);
         self.named = Items::new(alloc);
         self.calls = Items::new(alloc);
+    }
+
+    /// The number of a call of `printf` whose format has these pieces, which is added where it is new.
+    fn add_call(
+        &mut self,
+        alloc: Global,
+        format: &Items<u8>,
+        place: Place,
+        pieces: Items<Piece>,
+    ) -> Result<u32, Memory>
+        requires { format_pieces format.now ≡ Some pieces }
+        ensures learned { OnOk result (self.new ≡ add_call self.old format.now place) }
+        ensures numbered { IfOk result (λ number. number ≡ call_at format.now place self.new.printed) }
+    {
+        match self.printed.find(alloc, format.as_slice(), place)? {
+            Some(found) => number_of(found),
+            None => {
+                let number = number_of(self.printed.len())?;
+                self.printed.push(alloc, format.as_slice(), place, pieces)?;
+                Ok(number)
+            }
+        }
+    }
+
+    /// A call of `printf` whose format has these pieces: its number, which is added to those that the body has named.
+    pub(crate) fn call(
+        &mut self,
+        alloc: Global,
+        format: &Items<u8>,
+        place: Place,
+        pieces: Items<Piece>,
+    ) -> Result<u32, Memory>
+        requires { format_pieces format.now ≡ Some pieces }
+        ensures learned { OnOk result (self.new ≡ with_call self.old format.now place) }
+        ensures numbered { IfOk result (λ number. number ≡ call_at format.now place self.new.printed) }
+    {
+        let number = self.add_call(alloc, format, place, pieces)?;
+        self.calls.push(number)?;
+        Ok(number)
     }
 }

@@ -1,3 +1,4 @@
 pub mod Stages
 pub mod Fronts
 pub mod Uniqueness
+pub mod Decided
