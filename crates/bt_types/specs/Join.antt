@@ -1,5 +1,5 @@
 -- What operators make of their operands, and what they break.
-use Rattle.std.specs.Prelude.{◌∷◌, [], List, Bool, cond, not, Option, Some}
+use Rattle.std.specs.Prelude.{◌≡◌, ◌∷◌, [], List, Bool, cond, not, Option, Some}
 use Rattle.bt_ast.specs.declared.expr.Builtin.{Builtin}
 use Rattle.bt_ast.specs.declared.expr.Builtin.TheVariants.{Pid, Tid, Uid, Gid, Comm, Cpu, Nsecs, Elapsed}
 use Rattle.bt_core.specs.declared.map.Shape.{Shape}
@@ -9,9 +9,10 @@ use Rattle.bt_core.specs.declared.operator.BinOp.TheVariants.{Eq, Ne}
 use Rattle.bt_types.specs.declared.fault.Rule.{Rule}
 use Rattle.bt_types.specs.declared.fault.Rule.TheVariants.{WrongType}
 use Rattle.typed_tree.specs.declared.expr.NumBuiltin.TheVariants as number
-use Rattle.typed_tree.specs.Scope.{same_shape}
+use Rattle.tracefs_format.specs.declared.field.Field.{Field}
+use Rattle.typed_tree.specs.Scope.{same_shape, shape_of_field}
 use Rattle.bt_types.specs.Rules.{first_of_rules, are_two}
-use Rattle.typed_tree.specs.Parts.{Part, Numeric, Command, Both, Either, Made, made}
+use Rattle.typed_tree.specs.Parts.{Part, FieldOf, Numeric, Command, Both, Either, Made, made}
 
 abbrev pub builtin_made : Builtin → Made
 builtin_made Comm = made Str (Command ∷ [])
@@ -48,3 +49,9 @@ logical_part both = cond both Both Either
 -- a value of another type than the variable's
 abbrev pub set_breaks : Option Shape → Shape → Option Rule
 set_breaks held shape = first_of_rules ((are_two held (Some shape), WrongType) ∷ [])
+
+-- a field as an expression, of the type that a script reads it in
+pub record IsFieldRead (field : Field) (m : Made) : Type 0 where
+  pub shape : Shape
+  pub kind : shape_of_field field.kind ≡ Some shape
+  pub is : m ≡ made shape (FieldOf field shape ∷ [])

@@ -2,7 +2,9 @@ pub mod Bodies
 pub mod Checked
 pub mod Done
 pub mod Grows
+pub mod Indexed
 pub mod Join
+pub mod Joint
 pub mod Judge
 pub mod Known
 pub mod Maps

@@ -12,7 +12,7 @@ use Rattle.bt_core.specs.declared.map.AggKind.TheVariants as agg
 use Rattle.bt_core.specs.declared.operator.BinOp.{BinOp}
 use Rattle.bt_core.specs.declared.place.Place.{Place}
 use Rattle.typed_tree.specs.declared.stmt.Jump.TheVariants.{Break, Continue, Exit, Return}
-use Rattle.bt_types.specs.Mentions.{Mention, Uses, Steps, Sets, Gathers, NeedsShared, Deletes, ReadsVar, SetsVar, OfVar, NeedsWhole, NeedsBounds, NeedsTurns, NeedsRows, Prints, Jumps, Point}
+use Rattle.bt_types.specs.Mentions.{Sort, Mention, Uses, Steps, Sets, Gathers, NeedsShared, Deletes, ReadsVar, SetsVar, OfVar, NeedsWhole, NeedsBounds, NeedsTurns, NeedsRows, Prints, Jumps, Point}
 use Rattle.bt_types.specs.Mentions.{Word, AssignWord, VarWord, GatherWord, DeleteWord, PrintfWord, ShowWord, ClearWord, ZeroWord, JumpWord, WhileWord, UnrollWord, ArmWord, ElseWord, NoElseWord, EndWord}
 use Rattle.bt_types.specs.Walk.{Seen, MapSeen, TargetSeen, OnMap, OnVar, at, points_of, words_of, map_words, of_expr, of_map, of_step, of_target}
 
@@ -45,9 +45,12 @@ value_told s = told s.points s.words
 abbrev pub values_told : List Seen → Told
 values_told ss = told (points_of ss) (words_of ss)
 
--- a condition: a whole number
+-- a whole number that is asked for at a place; a condition asks for it at its own
+abbrev pub number_told : Expr → Place → Told
+number_told e place = next (value_told (of_expr e)) (asks place (NeedsWhole (of_expr e).sort))
+
 abbrev pub condition_told : Expr → Told
-condition_told e = next (value_told (of_expr e)) (asks (out-Expr e).place (NeedsWhole (of_expr e).sort))
+condition_told e = number_told e (out-Expr e).place
 
 -- `target = value`: the key, the value, the target
 abbrev pub set_told : TargetSeen → Seen → Told
@@ -87,7 +90,7 @@ number_of_call (Lhist e min max step) = Some e
 -- an aggregation's number, which its word asks to be whole
 abbrev pub gathered_told : Option Expr → Place → Told
 gathered_told None word = told [] []
-gathered_told (Some e) word = next (value_told (of_expr e)) (asks word (NeedsWhole (of_expr e).sort))
+gathered_told (Some e) word = number_told e word
 
 -- the key, the number, the aggregation's bounds, the map
 abbrev pub gather_told : MapSeen → AggKind → Told → Place → Told
@@ -115,9 +118,12 @@ abbrev pub zero_told : MapSeen → Told
 zero_told m = told (used m) (ZeroWord m.name ∷ [])
 
 -- `delete`: the map and the key, and then the mention of the map; a key may stand apart from the map
+abbrev pub delete_points : List ℕ → Place → Place → List Sort → List Point
+delete_points name at_map place keys = at at_map (Uses name) ∷ at place (NeedsShared name) ∷ at at_map (Deletes name keys) ∷ []
+
 abbrev pub delete_told : MapSeen → List Seen → Place → Told
 delete_told m apart place =
-    told (m.points ++ (points_of apart ++ at m.place (Uses m.name) ∷ at place (NeedsShared m.name) ∷ at m.place (Deletes m.name (m.keys ++ map (λ s. s.sort) apart)) ∷ []))
+    told (m.points ++ (points_of apart ++ delete_points m.name m.place place (m.keys ++ map (λ s. s.sort) apart)))
     (DeleteWord m.name (length (m.keys ++ map (λ s. s.sort) apart)) ∷ (m.key_words ++ words_of apart))
 
 -- several statements, and their end

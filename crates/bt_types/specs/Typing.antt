@@ -8,13 +8,12 @@ use Rattle.bt_core.specs.declared.map.MapDecl.{MapDecl}
 use Rattle.bt_core.specs.declared.map.MapKind.{MapKind}
 use Rattle.bt_core.specs.declared.map.MapKind.TheVariants.{Aggs}
 use Rattle.bt_core.specs.declared.map.Shape.{Shape}
-use Rattle.fmt_text.specs.Arguments.{argument_shapes}
 use Rattle.fmt_text.specs.Deciding.{format_pieces}
 use Rattle.typed_tree.specs.declared.expr.NumBuiltin.{NumBuiltin}
 use Rattle.typed_tree.specs.declared.expr.NumBuiltin.TheVariants.{Pid, Tid, Uid, Gid, Cpu, Nsecs, Elapsed}
 use Rattle.typed_tree.specs.Parts.{Part, Constant, Literal, Numeric, Command, FieldOf, VarOf, MapOf, Stepped, Prefixed, Joined, Both, Either, Chosen}
 use Rattle.typed_tree.specs.Parts.{Assigned, Gathered, Deleted, Printed, Shown, Cleared, Zeroed, Jumped, Looped, Unrolled, Arm, Otherwise, NoOtherwise, Ending, Made}
-use Rattle.typed_tree.specs.Scope.{shape_of_field, kind_of_shape, is_agg, is_count, same_bool, leaves_body}
+use Rattle.typed_tree.specs.Scope.{shape_of_field, kind_of_shape, is_agg, is_count, same_bool, leaves_body, takes}
 use Rattle.bt_types.specs.declared.known.Known.{Known}
 use Rattle.bt_types.specs.declared.known.Printed.{Printed as Call}
 use Rattle.bt_types.specs.declared.known.Var.{Var}
@@ -62,8 +61,7 @@ pub record IsCallOf (k : Known) (number : ℕ) (shapes : List Shape) : Type 0 wh
   pub call : Call
   pub numbered : slice_get k.printed number ≡ Some call
   pub here : list_any (λ n. n == number) k.calls ≡ true
-  pub read : format_pieces call.text ≡ Some call.pieces
-  pub wanted : argument_shapes call.pieces ≡ shapes
+  pub wanted : takes (format_pieces call.text) shapes ≡ true
 
 -- a part has the types that were decided, and breaks no rule
 abbrev pub Fits : Known → Part → Type 0

@@ -10,6 +10,7 @@ use Rattle.bt_ast.specs.declared.expr.ExprKind.{ExprKind, fold-ExprKind}
 use Rattle.bt_ast.specs.declared.expr.ExprKind.TheOpen.{ExprKind-F, Target-F, Expr-F, IncDec-F, MapRef-F}
 use Rattle.bt_core.specs.declared.operator.BinOp.{BinOp}
 use Rattle.bt_core.specs.declared.operator.BinOp.TheVariants.{Eq, Ne}
+use Rattle.bt_core.specs.declared.operator.UnOp.{UnOp}
 use Rattle.bt_core.specs.declared.place.Place.{Place}
 use Rattle.bt_core.specs.Text.{short_text}
 use Rattle.bt_types.specs.Mentions.{Sort, Whole, Text, OfMap, OfVar, OfField, Mention, Names, Reads, Steps, ReadsVar, Args, ReadsField, NeedsWhole, NeedsSame, NeedsShort, Point}
@@ -85,6 +86,10 @@ abbrev pub target_words : TargetSeen → List Word
 target_words (OnMap m) = map_words m
 target_words (OnVar name at_var) = VarWord name ∷ []
 
+-- an operator before an expression
+abbrev pub unary_seen : UnOp → Place → Seen → Seen
+unary_seen op place e = seen (e.points ++ at place (NeedsWhole e.sort) ∷ []) Whole (UnaryWord op ∷ e.words)
+
 -- two operands of which the second is evaluated where the first asks for it, with this word between them
 abbrev pub logical_seen : Word → Place → Seen → Seen → Seen
 logical_seen word place left right =
@@ -109,7 +114,7 @@ kind_layer (ExprKind-F.ExprKind::Var v) place = seen (at v.place (ReadsVar v.nam
 kind_layer (ExprKind-F.ExprKind::Map m) place = map_read m
 kind_layer (ExprKind-F.Step s) place = s
 kind_layer (ExprKind-F.Paren e) place = e
-kind_layer (ExprKind-F.Unary op e) place = seen (e.points ++ at place (NeedsWhole e.sort) ∷ []) Whole (UnaryWord op ∷ e.words)
+kind_layer (ExprKind-F.Unary op e) place = unary_seen op place e
 kind_layer (ExprKind-F.Binary op left right) place =
     seen (left.points ++ (right.points ++ operands op place left.sort right.sort)) Whole (BinaryWord op ∷ (left.words ++ right.words))
 kind_layer (ExprKind-F.AndThen left right) place = logical_seen AndWord place left right
