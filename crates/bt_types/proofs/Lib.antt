@@ -1,15 +1,3 @@
-pub mod Judging
-pub mod Growing
-pub mod Finding
-pub mod Later
-pub mod Composing
-pub mod Constructs
-pub mod Several
-pub mod Reading
-pub mod Keys
-pub mod Layers
-pub mod Indexing
-pub mod Calling
 pub mod Turns
 pub mod Numbers
 pub mod MapStatements

@@ -1,14 +1,14 @@
 -- Loops and arms: a word, a condition and a block.
 use Rattle.std.proofs.Common.{◌≡◌, ◌≤◌, ◌++◌, ℕ, ℤ, not, unsigned_abs, List, [], ◌∷◌, None, refl, sym, ap, subst, ◌∙◌}
 use Rattle.bt_core.specs.declared.place.Place.{Place}
-use Rattle.bt_types.specs.declared.fault.Rule.TheVariants.{WrongType}
-use Rattle.bt_types.specs.declared.fault.TypeError.{TypeError}
-use Rattle.bt_types.specs.declared.known.Known.{Known}
-use Rattle.bt_types.specs.Mentions.{NeedsTurns, UnrollWord, Word}
-use Rattle.bt_types.specs.Judge.{judged, SaysFault, IsBreach}
-use Rattle.bt_types.specs.Rules.{are_turns, breaks}
+use Rattle.expr_types.specs.declared.fault.Rule.TheVariants.{WrongType}
+use Rattle.expr_types.specs.declared.fault.TypeError.{TypeError}
+use Rattle.expr_types.specs.declared.known.Known.{Known}
+use Rattle.expr_types.specs.Mentions.{NeedsTurns, UnrollWord, Word}
+use Rattle.expr_types.specs.Judge.{judged, SaysFault, IsBreach}
+use Rattle.expr_types.specs.Rules.{are_turns, breaks}
 use Rattle.typed_tree.specs.Parts.{Part, Unrolled}
-use Rattle.bt_types.specs.Typing.{Fits, titles_of, word_of}
+use Rattle.expr_types.specs.Typing.{Fits, titles_of, word_of}
 use Rattle.bt_types.specs.Told.{Told, next, says, asks, unroll_told}
 use Rattle.bt_types.specs.Done.{Done}
 use Rattle.bt_types.proofs.Turns.{done_next, done_says, done_then, refused_front, refused_next, fault_here}

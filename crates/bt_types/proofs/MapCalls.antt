@@ -15,25 +15,25 @@ use Rattle.bt_core.specs.declared.map.Shape.TheVariants.{Int, Str}
 use Rattle.typed_tree.specs.declared.expr.NumExpr.{NumExpr}
 use Rattle.typed_tree.specs.declared.stmt.TypedStmt.{TypedStmt}
 use Rattle.typed_tree.specs.Scope.{kind_of_shape, is_agg, is_count, is_fine_agg, same_bool}
-use Rattle.bt_types.specs.declared.fault.Rule.{Rule}
-use Rattle.bt_types.specs.declared.fault.Rule.TheVariants.{BadBounds, OtherKeys, TooManyMaps, WrongType}
-use Rattle.bt_types.specs.declared.fault.TypeError.{TypeError}
-use Rattle.bt_types.specs.declared.known.Known.{Known}
-use Rattle.bt_types.specs.Grows.{Grows}
-use Rattle.bt_types.specs.Mentions.{Sort, Mention, Uses, Gathers, NeedsBounds, NeedsShared, NeedsRows, Deletes, Word, GatherWord, ShowWord, ClearWord, ZeroWord, DeleteWord, Point}
-use Rattle.bt_types.specs.Known.{shape_in, shapes_in, decl_in, with_mention, decides, learn}
-use Rattle.bt_types.specs.Judge.{judged, Says, SaysFault, IsBreach}
-use Rattle.bt_types.specs.Rules.{broken_at, breaks, are_rows, write_breaks, is_agg_in, is_one_too_many, has_other_keys}
-use Rattle.bt_types.specs.Walk.{Seen, MapSeen, at, points_of, words_of}
+use Rattle.expr_types.specs.declared.fault.Rule.{Rule}
+use Rattle.expr_types.specs.declared.fault.Rule.TheVariants.{BadBounds, OtherKeys, TooManyMaps, WrongType}
+use Rattle.expr_types.specs.declared.fault.TypeError.{TypeError}
+use Rattle.expr_types.specs.declared.known.Known.{Known}
+use Rattle.expr_types.specs.Grows.{Grows}
+use Rattle.expr_types.specs.Mentions.{Sort, Mention, Uses, Gathers, NeedsBounds, NeedsShared, NeedsRows, Deletes, Word, GatherWord, ShowWord, ClearWord, ZeroWord, DeleteWord, Point}
+use Rattle.expr_types.specs.Known.{shape_in, shapes_in, decl_in, with_mention, decides, learn}
+use Rattle.expr_types.specs.Judge.{judged, Says, SaysFault, IsBreach}
+use Rattle.expr_types.specs.Rules.{broken_at, breaks, are_rows, write_breaks, is_agg_in, is_one_too_many, has_other_keys}
+use Rattle.expr_types.specs.Walk.{Seen, MapSeen, at, points_of, words_of}
 use Rattle.typed_tree.specs.Parts.{stmt_parts, Part, Gathered, Deleted, Shown, Cleared, Zeroed, Made, gather_parts, number_parts, delete_parts, key_shapes, parts_in}
-use Rattle.bt_types.specs.Typing.{IsDeclared, IsMapOf, IsNamed, AllFit, title, titles_of, word_of}
-use Rattle.bt_types.specs.Maps.{shape_held}
-use Rattle.bt_types.specs.Checked.{Checked, KeyChecked}
+use Rattle.expr_types.specs.Typing.{IsDeclared, IsMapOf, IsNamed, AllFit, title, titles_of, word_of}
+use Rattle.expr_types.specs.Maps.{shape_held}
+use Rattle.expr_types.specs.Checked.{Checked, KeyChecked}
 use Rattle.bt_types.specs.Told.{Told, used, kind_of_call, number_of_call, gather_told, print_told, clear_told, zero_told, delete_points, delete_told}
 use Rattle.bt_types.specs.Done.{Done, DoesIn, UseChecked, Removed}
-use Rattle.bt_types.proofs.Growing.{grows_on, grows_mention, grows_decides, shape_later}
-use Rattle.bt_types.proofs.Later.{named_later, title_is}
-use Rattle.bt_types.proofs.Reading.{shared_declares, shapes_known, same_number}
+use Rattle.expr_types.proofs.Growing.{grows_on, grows_mention, grows_decides, shape_later}
+use Rattle.expr_types.proofs.Later.{named_later, title_is}
+use Rattle.expr_types.proofs.Reading.{shared_declares, shapes_known, same_number}
 use Rattle.bt_types.proofs.MapStatements.{Decided, keys_now, decided_went, decided_fault, map_there, map_title}
 use Rattle.bt_types.proofs.Turns.{Went, went_none, went_both, went_at, went_seen, went_key, went_done, fault_first, fault_behind, fault_here, Held, held_none, held_more, held_both, held_seen, held_key, held_done, held_later, done_of}
 

@@ -7,26 +7,26 @@ use Rattle.bt_core.specs.declared.map.MapKind.TheVariants.{Ints, Strs, Aggs}
 use Rattle.bt_core.specs.declared.map.Shape.{Shape}
 use Rattle.bt_core.specs.declared.map.Shape.TheVariants.{Int, Str}
 use Rattle.bt_core.specs.declared.operator.BinOp.{BinOp}
-use Rattle.bt_types.specs.declared.fault.Rule.{Rule}
-use Rattle.bt_types.specs.declared.fault.TypeError.{TypeError}
-use Rattle.bt_types.specs.declared.known.Known.{Known}
+use Rattle.expr_types.specs.declared.fault.Rule.{Rule}
+use Rattle.expr_types.specs.declared.fault.TypeError.{TypeError}
+use Rattle.expr_types.specs.declared.known.Known.{Known}
 use Rattle.typed_tree.specs.Scope.{kind_of_shape, is_fine_kind}
-use Rattle.bt_types.specs.Grows.{Grows}
-use Rattle.bt_types.specs.Mentions.{Sort, Mention, NeedsWhole, Sets, Steps, Word, MapWord, AssignWord, Point}
-use Rattle.bt_types.specs.Known.{shape_in, shapes_in, kind_for, decides, learn}
-use Rattle.bt_types.specs.Judge.{judged, SaysFault, IsBreach}
-use Rattle.bt_types.specs.Rules.{broken_at, write_breaks}
-use Rattle.bt_types.specs.Walk.{Seen, MapSeen, OnMap, at, map_words}
+use Rattle.expr_types.specs.Grows.{Grows}
+use Rattle.expr_types.specs.Mentions.{Sort, Mention, NeedsWhole, Sets, Steps, Word, MapWord, AssignWord, Point}
+use Rattle.expr_types.specs.Known.{shape_in, shapes_in, kind_for, decides, learn}
+use Rattle.expr_types.specs.Judge.{judged, SaysFault, IsBreach}
+use Rattle.expr_types.specs.Rules.{broken_at, write_breaks}
+use Rattle.expr_types.specs.Walk.{Seen, MapSeen, OnMap, at, map_words}
 use Rattle.typed_tree.specs.Parts.{Part, MapOf, Assigned, Made, keyed_parts, key_shapes, parts_in, set_map_parts, update_map_parts}
-use Rattle.bt_types.specs.Typing.{IsDeclared, IsMapOf, IsNamed, Fits, title, titles_of, word_of}
-use Rattle.bt_types.specs.Join.{whole_breaks}
-use Rattle.bt_types.specs.Checked.{Checked, KeyChecked}
+use Rattle.expr_types.specs.Typing.{IsDeclared, IsMapOf, IsNamed, Fits, title, titles_of, word_of}
+use Rattle.expr_types.specs.Join.{whole_breaks}
+use Rattle.expr_types.specs.Checked.{Checked, KeyChecked}
 use Rattle.bt_types.specs.Told.{Told, set_told, update_told}
 use Rattle.bt_types.specs.Done.{Done}
-use Rattle.bt_types.proofs.Growing.{grows_on, shape_later, IsInner}
-use Rattle.bt_types.proofs.Later.{named_later, title_is}
-use Rattle.bt_types.proofs.Keys.{key_sorts_later}
-use Rattle.bt_types.proofs.Reading.{write_declares, shapes_known, same_number}
+use Rattle.expr_types.proofs.Growing.{grows_on, shape_later, IsInner}
+use Rattle.expr_types.proofs.Later.{named_later, title_is}
+use Rattle.expr_types.proofs.Keys.{key_sorts_later}
+use Rattle.expr_types.proofs.Reading.{write_declares, shapes_known, same_number}
 use Rattle.bt_types.proofs.Numbers.{whole_went, whole_fault}
 use Rattle.bt_types.proofs.Turns.{Went, went_both, went_at, went_seen, went_key, fault_first, fault_behind, fault_here, Held, held_more, held_both, held_key, held_seen, held_later, done_of}
 

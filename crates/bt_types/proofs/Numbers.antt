@@ -5,26 +5,26 @@ use Rattle.bt_core.specs.declared.map.Shape.{Shape}
 use Rattle.bt_core.specs.declared.map.Shape.TheVariants.{Int, Str}
 use Rattle.bt_core.specs.declared.operator.BinOp.{BinOp}
 use Rattle.bt_ast.specs.declared.expr.Expr.{Expr}
-use Rattle.bt_types.specs.declared.fault.Rule.{Rule}
-use Rattle.bt_types.specs.declared.fault.Rule.TheVariants.{WrongType}
-use Rattle.bt_types.specs.declared.fault.TypeError.{TypeError}
-use Rattle.bt_types.specs.declared.known.Known.{Known}
-use Rattle.bt_types.specs.declared.known.Var.{Var}
+use Rattle.expr_types.specs.declared.fault.Rule.{Rule}
+use Rattle.expr_types.specs.declared.fault.Rule.TheVariants.{WrongType}
+use Rattle.expr_types.specs.declared.fault.TypeError.{TypeError}
+use Rattle.expr_types.specs.declared.known.Known.{Known}
+use Rattle.expr_types.specs.declared.known.Var.{Var}
 use Rattle.typed_tree.specs.declared.expr.NumExpr.{NumExpr}
-use Rattle.bt_types.specs.Grows.{Grows}
-use Rattle.bt_types.specs.Mentions.{Sort, Mention, NeedsWhole, SetsVar, OfVar, Word, VarWord, AssignWord, Point}
-use Rattle.bt_types.specs.Known.{shape_in, var_in, with_var, learn}
-use Rattle.bt_types.specs.Judge.{judged, SaysFault, IsBreach, Refuses, Says}
-use Rattle.bt_types.specs.Rules.{broken_at, breaks, is_text, are_two}
-use Rattle.bt_types.specs.Walk.{Seen, OnVar, at, of_expr, step_points}
+use Rattle.expr_types.specs.Grows.{Grows}
+use Rattle.expr_types.specs.Mentions.{Sort, Mention, NeedsWhole, SetsVar, OfVar, Word, VarWord, AssignWord, Point}
+use Rattle.expr_types.specs.Known.{shape_in, var_in, with_var, learn}
+use Rattle.expr_types.specs.Judge.{judged, SaysFault, IsBreach, Refuses, Says}
+use Rattle.expr_types.specs.Rules.{broken_at, breaks, is_text, are_two}
+use Rattle.expr_types.specs.Walk.{Seen, OnVar, at, of_expr, step_points}
 use Rattle.typed_tree.specs.Parts.{Part, VarOf, Assigned, Made, num_parts, set_var_parts, update_var_parts}
-use Rattle.bt_types.specs.Typing.{IsVarOf, Fits, title, titles_of, word_of}
-use Rattle.bt_types.specs.Join.{whole_breaks, set_breaks}
-use Rattle.bt_types.specs.Checked.{Checked}
+use Rattle.expr_types.specs.Typing.{IsVarOf, Fits, title, titles_of, word_of}
+use Rattle.expr_types.specs.Join.{whole_breaks, set_breaks}
+use Rattle.expr_types.specs.Checked.{Checked}
 use Rattle.bt_types.specs.Told.{Told, next, asks, value_told, number_told, set_told, update_told}
 use Rattle.bt_types.specs.Done.{Done, Does}
-use Rattle.bt_types.proofs.Growing.{grows_none}
-use Rattle.bt_types.proofs.Later.{get_mapped, title_is}
+use Rattle.expr_types.proofs.Growing.{grows_none}
+use Rattle.expr_types.proofs.Later.{get_mapped, title_is}
 use Rattle.bt_types.proofs.Turns.{Went, went_both, went_at, went_seen, fault_first, fault_behind, fault_here, Held, held_more, held_seen, held_later, done_of, done_then, done_value, refused_next}
 
 -- the title of a variable

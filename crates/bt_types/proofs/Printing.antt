@@ -8,27 +8,27 @@ use Rattle.bt_core.specs.declared.map.Shape.{Shape}
 use Rattle.fmt_text.specs.declared.piece.Piece.{Piece}
 use Rattle.fmt_text.specs.Deciding.{format_pieces}
 use Rattle.typed_tree.specs.Scope.{takes}
-use Rattle.bt_types.specs.declared.fault.Rule.{Rule}
-use Rattle.bt_types.specs.declared.fault.Rule.TheVariants.{BadFormat}
-use Rattle.bt_types.specs.declared.fault.TypeError.{TypeError}
-use Rattle.bt_types.specs.declared.known.Known.{Known}
-use Rattle.bt_types.specs.declared.known.Printed.{Printed as Call}
-use Rattle.bt_types.specs.Grows.{Grows}
-use Rattle.bt_types.specs.Mentions.{Sort, Prints, PrintfWord, EndWord, Word}
-use Rattle.bt_types.specs.Known.{shape_in, shapes_in, is_call, has_call, call_at, printed, add_call, called, with_call}
-use Rattle.bt_types.specs.Judge.{judged, SaysFault, IsBreach}
-use Rattle.bt_types.specs.Rules.{breaks}
-use Rattle.bt_types.specs.Walk.{Seen, at, points_of, words_of}
+use Rattle.expr_types.specs.declared.fault.Rule.{Rule}
+use Rattle.expr_types.specs.declared.fault.Rule.TheVariants.{BadFormat}
+use Rattle.expr_types.specs.declared.fault.TypeError.{TypeError}
+use Rattle.expr_types.specs.declared.known.Known.{Known}
+use Rattle.expr_types.specs.declared.known.Printed.{Printed as Call}
+use Rattle.expr_types.specs.Grows.{Grows}
+use Rattle.expr_types.specs.Mentions.{Sort, Prints, PrintfWord, EndWord, Word}
+use Rattle.expr_types.specs.Known.{shape_in, shapes_in, is_call, has_call, call_at, printed, add_call, called, with_call}
+use Rattle.expr_types.specs.Judge.{judged, SaysFault, IsBreach}
+use Rattle.expr_types.specs.Rules.{breaks}
+use Rattle.expr_types.specs.Walk.{Seen, at, points_of, words_of}
 use Rattle.typed_tree.specs.Parts.{Part, Printed, Ending, Made, key_shapes, parts_in, printf_parts}
-use Rattle.bt_types.specs.Typing.{AreTyping, IsCallOf, title, titles_of}
-use Rattle.bt_types.specs.Checked.{AllChecked}
+use Rattle.expr_types.specs.Typing.{AreTyping, IsCallOf, title, titles_of}
+use Rattle.expr_types.specs.Checked.{AllChecked}
 use Rattle.bt_types.specs.Told.{printf_told}
 use Rattle.bt_types.specs.Done.{Done}
-use Rattle.bt_types.proofs.Calling.{same_place, itself}
-use Rattle.bt_types.proofs.Finding.{same_is}
-use Rattle.bt_types.proofs.Keys.{all_sorts, all_fit, all_words}
-use Rattle.bt_types.proofs.Later.{get_mapped, title_is}
-use Rattle.bt_types.proofs.Reading.{shapes_known}
+use Rattle.expr_types.proofs.Calling.{same_place, itself}
+use Rattle.expr_types.proofs.Finding.{same_is}
+use Rattle.expr_types.proofs.Keys.{all_sorts, all_fit, all_words}
+use Rattle.expr_types.proofs.Later.{get_mapped, title_is}
+use Rattle.expr_types.proofs.Reading.{shapes_known}
 use Rattle.bt_types.proofs.MapCalls.{holds_not}
 use Rattle.bt_types.proofs.Turns.{Went, went_both, went_at, fault_behind, fault_here, Held, held_none, held_more, held_both, held_later, done_of}
 

@@ -16,7 +16,7 @@ use Rattle.bt_ast.specs.declared.stmt.StmtKind.TheVariants.{If, While, Unroll, r
 use Rattle.bt_ast.specs.declared.stmt.StmtKind.TheOpen.{StmtKind-F}
 use Rattle.bt_ast.specs.declared.stmt.StmtKind.TheShapes.{former-StmtKind-If-0-at-2}
 use Rattle.typed_tree.specs.declared.stmt.TypedStmt.TheShapes.{former-TypedStmt-If-0-at-2}
-use Rattle.bt_types.specs.Walk.{Seen, MapSeen, TargetSeen, OnMap, OnVar, kind_layer, target_layer, expr_layer, step_layer, map_layer, of_expr, of_map, of_target}
+use Rattle.expr_types.specs.Walk.{Seen, MapSeen, TargetSeen, OnMap, OnVar, kind_layer, target_layer, expr_layer, step_layer, map_layer, of_expr, of_map, of_target}
 use Rattle.typed_tree.specs.declared.expr.NumExpr.{NumExpr}
 use Rattle.typed_tree.specs.declared.expr.AnyExpr.{AnyExpr}
 use Rattle.typed_tree.specs.declared.stmt.Jump.{Jump}

@@ -1,25 +1,25 @@
 -- What is done in turn.
 use Rattle.std.proofs.Common.{◌≡◌, ◌++◌, ℕ, Bool, List, [], ◌∷◌, map, Option, Some, None, Result, Ok, Err, IsErrAnd, refl, sym, ap, subst, ◌∙◌, append-nil}
 use Rattle.bt_core.specs.declared.place.Place.{Place}
-use Rattle.bt_types.specs.declared.fault.Fault.{Fault}
-use Rattle.bt_types.specs.declared.fault.Rule.{Rule}
-use Rattle.bt_types.specs.declared.fault.TypeError.{TypeError}
-use Rattle.bt_types.specs.declared.fault.TypeError.TheVariants.{Broken, Memory}
-use Rattle.bt_types.specs.declared.known.Known.{Known}
-use Rattle.bt_types.specs.Grows.{Grows}
-use Rattle.bt_types.specs.Mentions.{Mention, Point, Word}
-use Rattle.bt_types.specs.Known.{learn}
-use Rattle.bt_types.specs.Judge.{unless_broken, judged, SaysFault, IsBreach}
-use Rattle.bt_types.specs.Rules.{broken_at}
-use Rattle.bt_types.specs.Walk.{Seen, MapSeen, at}
+use Rattle.expr_types.specs.declared.fault.Fault.{Fault}
+use Rattle.expr_types.specs.declared.fault.Rule.{Rule}
+use Rattle.expr_types.specs.declared.fault.TypeError.{TypeError}
+use Rattle.expr_types.specs.declared.fault.TypeError.TheVariants.{Broken, Memory}
+use Rattle.expr_types.specs.declared.known.Known.{Known}
+use Rattle.expr_types.specs.Grows.{Grows}
+use Rattle.expr_types.specs.Mentions.{Mention, Point, Word}
+use Rattle.expr_types.specs.Known.{learn}
+use Rattle.expr_types.specs.Judge.{unless_broken, judged, SaysFault, IsBreach}
+use Rattle.expr_types.specs.Rules.{broken_at}
+use Rattle.expr_types.specs.Walk.{Seen, MapSeen, at}
 use Rattle.typed_tree.specs.Parts.{Part, Made, parts_in}
-use Rattle.bt_types.specs.Typing.{Fits, AllFit, titles_of, word_of, words_by}
-use Rattle.bt_types.specs.Checked.{Checked, AllChecked, KeyChecked}
+use Rattle.expr_types.specs.Typing.{Fits, AllFit, titles_of, word_of, words_by}
+use Rattle.expr_types.specs.Checked.{Checked, AllChecked, KeyChecked}
 use Rattle.bt_types.specs.Told.{Told, told, next, says, asks, value_told, values_told}
 use Rattle.bt_types.specs.Done.{Done, Does, DoesIn}
-use Rattle.bt_types.proofs.Judging.{judged_ok, judged_err}
-use Rattle.bt_types.proofs.Growing.{grows_none, grows_on, grows_learn, IsInner}
-use Rattle.bt_types.proofs.Later.{all_later, words_later, fits_both, words_both}
+use Rattle.expr_types.proofs.Judging.{judged_ok, judged_err}
+use Rattle.expr_types.proofs.Growing.{grows_none, grows_on, grows_learn, IsInner}
+use Rattle.expr_types.proofs.Later.{all_later, words_later, fits_both, words_both}
 
 -- mentions that break no rule inside a body
 pub record Went (ps : List Point) (before now : Known) : Type 0 where

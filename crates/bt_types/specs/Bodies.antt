@@ -9,10 +9,10 @@ use Rattle.bt_ast.specs.declared.probe.Probe.{Probe}
 use Rattle.bt_ast.specs.declared.probe.Script.{Script}
 use Rattle.tracefs_format.specs.declared.format.Format.{Format}
 use Rattle.tracefs_format.specs.declared.layout.Layout.{Layout}
-use Rattle.bt_types.specs.declared.fault.Fault.{Fault}
-use Rattle.bt_types.specs.declared.known.Known.{Known}
-use Rattle.bt_types.specs.Judge.{judged}
-use Rattle.bt_types.specs.Mentions.{Begins, ElseWord, NoElseWord}
+use Rattle.expr_types.specs.declared.fault.Fault.{Fault}
+use Rattle.expr_types.specs.declared.known.Known.{Known}
+use Rattle.expr_types.specs.Judge.{judged}
+use Rattle.expr_types.specs.Mentions.{Begins, ElseWord, NoElseWord}
 use Rattle.bt_types.specs.Told.{Told, told, next, in_turn, says, asks, condition_told, of_block}
 
 abbrev pub predicate_told : Option Expr → Told

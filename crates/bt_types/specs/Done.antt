@@ -1,16 +1,16 @@
 -- What a checked statement is, or a part of one.
 use Rattle.std.specs.Prelude.{◌≡◌, ℕ, Bool, false, List, Result, Ok, MatchResult}
 use Rattle.typed_tree.specs.Parts.{Part}
-use Rattle.bt_types.specs.declared.fault.TypeError.{TypeError}
-use Rattle.bt_types.specs.declared.known.Known.{Known}
-use Rattle.bt_types.specs.Grows.{Grows}
-use Rattle.bt_types.specs.Judge.{judged, SaysFault}
+use Rattle.expr_types.specs.declared.fault.TypeError.{TypeError}
+use Rattle.expr_types.specs.declared.known.Known.{Known}
+use Rattle.expr_types.specs.Grows.{Grows}
+use Rattle.expr_types.specs.Judge.{judged, SaysFault}
 use Rattle.bt_types.specs.Told.{Told, used}
 use Rattle.bt_core.specs.declared.map.MapKind.{MapKind}
 use Rattle.bt_core.specs.declared.map.Shape.{Shape}
 use Rattle.typed_tree.specs.Scope.{is_agg}
-use Rattle.bt_types.specs.Typing.{IsDeclared, IsNamed, AllFit, titles_of, words_by}
-use Rattle.bt_types.specs.Walk.{MapSeen}
+use Rattle.expr_types.specs.Typing.{IsDeclared, IsNamed, AllFit, titles_of, words_by}
+use Rattle.expr_types.specs.Walk.{MapSeen}
 
 -- no rule is broken, this is known now, which holds what was known before, and what was made fits that and is the script's
 pub record Done (t : Told) (before now : Known) (parts : List Part) : Type 0 where

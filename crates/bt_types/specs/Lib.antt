@@ -1,16 +1,4 @@
 pub mod Bodies
-pub mod Checked
 pub mod Done
-pub mod Grows
-pub mod Indexed
-pub mod Join
-pub mod Joint
-pub mod Judge
-pub mod Known
-pub mod Maps
-pub mod Mentions
-pub mod Rules
 pub mod Script
 pub mod Told
-pub mod Typing
-pub mod Walk

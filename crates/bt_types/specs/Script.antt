@@ -11,13 +11,13 @@ use Rattle.typed_tree.specs.declared.body.TypedBody.{TypedBody}
 use Rattle.typed_tree.specs.declared.script.Typed.{Typed}
 use Rattle.typed_tree.specs.declared.stmt.Jump.TheVariants.{Exit}
 use Rattle.typed_tree.specs.Bodies.{tree_parts}
-use Rattle.bt_types.specs.declared.known.Known.{Known}
-use Rattle.bt_types.specs.declared.known.Printed.{Printed}
+use Rattle.expr_types.specs.declared.known.Known.{Known}
+use Rattle.expr_types.specs.declared.known.Printed.{Printed}
 use Rattle.bt_types.specs.Bodies.{body_told, layout_at, nothing, script_told}
-use Rattle.bt_types.specs.Judge.{judged}
-use Rattle.bt_types.specs.Known.{decl_in}
-use Rattle.bt_types.specs.Mentions.{Word, JumpWord}
-use Rattle.bt_types.specs.Typing.{words_by}
+use Rattle.expr_types.specs.Judge.{judged}
+use Rattle.expr_types.specs.Known.{decl_in}
+use Rattle.expr_types.specs.Mentions.{Word, JumpWord}
+use Rattle.expr_types.specs.Typing.{words_by}
 
 -- a map that is never decided holds whole numbers, and its keys have no parts
 abbrev pub decl_or_none : List ℕ → Option MapDecl → MapDecl

@@ -12,9 +12,9 @@ use Rattle.bt_core.specs.declared.map.AggKind.TheVariants as agg
 use Rattle.bt_core.specs.declared.operator.BinOp.{BinOp}
 use Rattle.bt_core.specs.declared.place.Place.{Place}
 use Rattle.typed_tree.specs.declared.stmt.Jump.TheVariants.{Break, Continue, Exit, Return}
-use Rattle.bt_types.specs.Mentions.{Sort, Mention, Uses, Steps, Sets, Gathers, NeedsShared, Deletes, ReadsVar, SetsVar, OfVar, NeedsWhole, NeedsBounds, NeedsTurns, NeedsRows, Prints, Jumps, Point}
-use Rattle.bt_types.specs.Mentions.{Word, AssignWord, VarWord, GatherWord, DeleteWord, PrintfWord, ShowWord, ClearWord, ZeroWord, JumpWord, WhileWord, UnrollWord, ArmWord, ElseWord, NoElseWord, EndWord}
-use Rattle.bt_types.specs.Walk.{Seen, MapSeen, TargetSeen, OnMap, OnVar, at, points_of, words_of, map_words, of_expr, of_map, of_step, of_target}
+use Rattle.expr_types.specs.Mentions.{Sort, Mention, Uses, Steps, Sets, Gathers, NeedsShared, Deletes, ReadsVar, SetsVar, OfVar, NeedsWhole, NeedsBounds, NeedsTurns, NeedsRows, Prints, Jumps, Point}
+use Rattle.expr_types.specs.Mentions.{Word, AssignWord, VarWord, GatherWord, DeleteWord, PrintfWord, ShowWord, ClearWord, ZeroWord, JumpWord, WhileWord, UnrollWord, ArmWord, ElseWord, NoElseWord, EndWord}
+use Rattle.expr_types.specs.Walk.{Seen, MapSeen, TargetSeen, OnMap, OnVar, at, points_of, words_of, map_words, of_expr, of_map, of_step, of_target}
 
 -- what a part of a script mentions, and its words
 pub record Told : Type 0 where

@@ -1,21 +1,21 @@
 // Assignments, and whole numbers that a statement asks for.
 ghost use Rattle.std.specs.Prelude.{◌≡◌, IfOk, OnOk, Some, map, slice_get};
 ghost use Rattle.bt_core.specs.declared.map.Shape.TheVariants.{Int};
-ghost use Rattle.bt_types.specs.declared.known.Var.{Var};
-ghost use Rattle.bt_types.specs.Mentions.{NeedsWhole};
-ghost use Rattle.bt_types.specs.Known.{var_in, with_var};
-ghost use Rattle.bt_types.specs.Judge.{Refuses, Says, judged};
-ghost use Rattle.bt_types.specs.Join.{whole_breaks, set_breaks};
-ghost use Rattle.bt_types.specs.Walk.{of_expr, of_map, step_points, OnMap, OnVar};
+ghost use Rattle.expr_types.specs.declared.known.Var.{Var};
+ghost use Rattle.expr_types.specs.Mentions.{NeedsWhole};
+ghost use Rattle.expr_types.specs.Known.{var_in, with_var};
+ghost use Rattle.expr_types.specs.Judge.{Refuses, Says, judged};
+ghost use Rattle.expr_types.specs.Join.{whole_breaks, set_breaks};
+ghost use Rattle.expr_types.specs.Walk.{of_expr, of_map, step_points, OnMap, OnVar};
 ghost use Rattle.typed_tree.specs.Parts.{made_of, num_parts, stmt_parts};
 ghost use Rattle.bt_types.specs.Told.{set_told, update_told, condition_told, number_told};
 ghost use Rattle.bt_types.specs.Done.{Does, DoesIn};
 
-use crate::expr::{check_expr, check_key};
-use crate::fault::{Rule, TypeError};
-use crate::known::{Known, number_of};
-use crate::maps::Keyed;
-use crate::rules::{broken, same_shape};
+use expr_types::expr::{check_expr, check_key};
+use expr_types::fault::{Rule, TypeError};
+use expr_types::known::{Known, number_of};
+use expr_types::maps::Keyed;
+use expr_types::rules::{broken, same_shape};
 use crate::write::{write_key, write_value};
 use bt_ast::expr::{Expr, MapRef, VarRef};
 use bt_core::items::Items;

@@ -1,20 +1,20 @@
 // Calls on maps: `print`, `clear`, `zero` and `delete`.
 ghost use Rattle.std.specs.Prelude.{◌≡◌, ◌∷◌, [], Bool, List, IfOk, OnOk, MatchResult, Some, map, not, unsigned_abs};
 ghost use Rattle.typed_tree.specs.Parts.{Made, delete_parts, key_shapes, made_of, stmt_parts};
-ghost use Rattle.bt_types.specs.declared.fault.Rule.TheVariants.{WrongType};
-ghost use Rattle.bt_types.specs.Judge.{Refuses, Says, SaysFault, judged};
-ghost use Rattle.bt_types.specs.Rules.{are_rows, breaks};
-ghost use Rattle.bt_types.specs.Walk.{of_expr, of_map};
+ghost use Rattle.expr_types.specs.declared.fault.Rule.TheVariants.{WrongType};
+ghost use Rattle.expr_types.specs.Judge.{Refuses, Says, SaysFault, judged};
+ghost use Rattle.expr_types.specs.Rules.{are_rows, breaks};
+ghost use Rattle.expr_types.specs.Walk.{of_expr, of_map};
 ghost use Rattle.bt_types.specs.Told.{clear_told, delete_points, delete_told, print_told, used, zero_told};
 ghost use Rattle.bt_types.specs.Done.{DoesIn, Removed, UseChecked};
-ghost use Rattle.bt_types.specs.Known.{shape_in};
-ghost use Rattle.bt_types.specs.Mentions.{Sort};
+ghost use Rattle.expr_types.specs.Known.{shape_in};
+ghost use Rattle.expr_types.specs.Mentions.{Sort};
 
-use crate::expr::{check_expr, check_key};
-use crate::fault::{Rule, TypeError};
-use crate::known::Known;
-use crate::maps::Keyed;
-use crate::rules::broken;
+use expr_types::expr::{check_expr, check_key};
+use expr_types::fault::{Rule, TypeError};
+use expr_types::known::Known;
+use expr_types::maps::Keyed;
+use expr_types::rules::broken;
 use crate::write::{check_shared, remove, use_map};
 use bt_ast::expr::{Expr, MapRef};
 use bt_core::items::Items;

@@ -3,17 +3,7 @@
 
 mod assign;
 mod calls;
-pub mod expr;
-pub mod fault;
-pub mod field;
 mod gather;
-pub mod known;
-pub mod leaf;
-pub mod maps;
-pub mod printed;
 mod printf;
-pub mod rules;
 mod stmt;
-pub mod variable;
-pub mod variables;
 mod write;

@@ -1,9 +1,9 @@
 // Statements: their first fault, or what they are as typed ones.
 ghost use Rattle.std.specs.Prelude.{◌≡◌, ◌≤◌, true, map, not, option_map, IfOk, unsigned_abs};
-ghost use Rattle.bt_types.specs.declared.fault.Rule.TheVariants.{NoLoop, WrongType};
-ghost use Rattle.bt_types.specs.Judge.{Refuses};
-ghost use Rattle.bt_types.specs.Rules.{are_turns, breaks};
-ghost use Rattle.bt_types.specs.Walk.{of_expr, of_step, of_target};
+ghost use Rattle.expr_types.specs.declared.fault.Rule.TheVariants.{NoLoop, WrongType};
+ghost use Rattle.expr_types.specs.Judge.{Refuses};
+ghost use Rattle.expr_types.specs.Rules.{are_turns, breaks};
+ghost use Rattle.expr_types.specs.Walk.{of_expr, of_step, of_target};
 ghost use Rattle.typed_tree.specs.declared.stmt.TypedStmt.TheVariants.{Jump as JumpStmt};
 ghost use Rattle.typed_tree.specs.Parts.{joined, arm_parts, otherwise_parts, stmt_parts, block_parts};
 ghost use Rattle.bt_types.specs.Told.{in_turn, assign_told, arm_told, otherwise_told, value_told, while_told, unroll_told, of_block, of_stmt, of_stmt_kind};
@@ -13,12 +13,12 @@ use crate::assign::{
     check_condition, check_set_map, check_set_var, check_update_map, check_update_var,
 };
 use crate::calls::{check_clear, check_delete, check_delete_key, check_print, check_zero};
-use crate::expr::check_step;
-use crate::fault::{Rule, TypeError};
+use expr_types::expr::check_step;
+use expr_types::fault::{Rule, TypeError};
 use crate::gather::check_gather;
-use crate::known::Known;
+use expr_types::known::Known;
 use crate::printf::check_printf;
-use crate::rules::broken;
+use expr_types::rules::broken;
 use bt_ast::expr::{Expr, IncDec, Target};
 use bt_ast::stmt::{Block, Stmt, StmtKind};
 use bt_core::items::Items;

@@ -1,4 +1,4 @@
-use Rattle.bt_types.specs.Walk.{of_expr}
+use Rattle.expr_types.specs.Walk.{of_expr}
 use Rattle.typed_tree.specs.Parts.{made_of, num_parts}
 use Rattle.bt_types.specs.Told.{number_told}
 use Rattle.bt_types.proofs.Turns.{does_err, fault_first}

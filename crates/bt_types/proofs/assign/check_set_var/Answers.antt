@@ -1,10 +1,10 @@
 use Rattle.std.proofs.Common.{◌≡◌, Bool, Option, Some, None, sym, ap, subst, ◌∙◌}
 use Rattle.bt_core.specs.declared.map.Shape.{Shape}
-use Rattle.bt_types.specs.declared.known.Var.{Var}
-use Rattle.bt_types.specs.Judge.{IsBreach}
-use Rattle.bt_types.specs.Join.{set_breaks}
-use Rattle.bt_types.specs.Known.{var_in, with_var}
-use Rattle.bt_types.specs.Walk.{OnVar, of_expr}
+use Rattle.expr_types.specs.declared.known.Var.{Var}
+use Rattle.expr_types.specs.Judge.{IsBreach}
+use Rattle.expr_types.specs.Join.{set_breaks}
+use Rattle.expr_types.specs.Known.{var_in, with_var}
+use Rattle.expr_types.specs.Walk.{OnVar, of_expr}
 use Rattle.typed_tree.specs.Parts.{made_of, stmt_parts}
 use Rattle.bt_types.specs.Told.{set_told}
 use Rattle.bt_types.proofs.Turns.{does_in_err, fault_first}

@@ -1,6 +1,6 @@
 use Rattle.std.proofs.Common.{◌≡◌, Bool, FitsSigned, w64, sym, ap, subst, ◌∙◌}
 use Rattle.std.proofs.lemmas.Int.{to_z-of_z}
-use Rattle.bt_types.specs.Walk.{of_map}
+use Rattle.expr_types.specs.Walk.{of_map}
 use Rattle.typed_tree.specs.Parts.{stmt_parts}
 use Rattle.bt_types.proofs.Turns.{does_in_err, fault_first}
 use Rattle.bt_types.specs.Told.{print_told, used}

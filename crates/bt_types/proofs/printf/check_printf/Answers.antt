@@ -1,8 +1,8 @@
 use Rattle.std.proofs.Common.{◌≡◌, ◌∷◌, [], ◌++◌, Bool, List, map, Some, sym, ap, subst, ◌∙◌}
-use Rattle.bt_types.specs.Walk.{MapSeen, of_expr, of_map}
+use Rattle.expr_types.specs.Walk.{MapSeen, of_expr, of_map}
 use Rattle.typed_tree.specs.Parts.{made_of, stmt_parts}
 use Rattle.bt_types.proofs.Turns.{does_in_err, fault_first, fault_behind, went_key, went_seen, went_none, held_none, held_seen}
-use Rattle.bt_types.specs.Walk.{points_of}
+use Rattle.expr_types.specs.Walk.{points_of}
 use Rattle.bt_types.specs.Told.{printf_told}
 use Rattle.bt_types.proofs.Printing.{printf_done, printf_refused}
 use Rattle.bt_types.proofs.StmtLayers.{printf_stmt}

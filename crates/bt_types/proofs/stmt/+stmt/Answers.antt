@@ -3,14 +3,14 @@ use Rattle.std.proofs.lemmas.Int.{to_z-of_z}
 use Rattle.bt_ast.specs.declared.expr.Expr.{Expr}
 use Rattle.bt_ast.specs.declared.stmt.Block.{Block, out-Block}
 use Rattle.bt_ast.specs.declared.stmt.Stmt.{Stmt}
-use Rattle.bt_types.specs.declared.fault.TypeError.{TypeError}
-use Rattle.bt_types.specs.declared.known.Known.{Known}
+use Rattle.expr_types.specs.declared.fault.TypeError.{TypeError}
+use Rattle.expr_types.specs.declared.known.Known.{Known}
 use Rattle.typed_tree.specs.declared.expr.NumExpr.{NumExpr}
 use Rattle.typed_tree.specs.declared.stmt.TypedStmt.{TypedStmt}
 use Rattle.typed_tree.specs.declared.stmt.TypedBlock.{TypedBlock}
-use Rattle.bt_types.specs.Mentions.{ArmWord, WhileWord, UnrollWord, EndWord}
-use Rattle.bt_types.specs.Judge.{judged, SaysFault}
-use Rattle.bt_types.specs.Walk.{of_expr, of_map}
+use Rattle.expr_types.specs.Mentions.{ArmWord, WhileWord, UnrollWord, EndWord}
+use Rattle.expr_types.specs.Judge.{judged, SaysFault}
+use Rattle.expr_types.specs.Walk.{of_expr, of_map}
 use Rattle.typed_tree.specs.Parts.{Part, Arm, Looped, Ending, num_parts, joined, arm_parts, otherwise_parts, stmt_parts, block_parts}
 use Rattle.bt_types.specs.Told.{Told, next, says, in_turn, condition_told, arm_told, otherwise_told, if_told, while_told, unroll_told, block_told, of_block, of_stmt}
 use Rattle.bt_types.specs.Done.{Done, Does}

@@ -1,0 +1,18 @@
+use Rattle.std.proofs.Common.{◌≡◌, ◌∷◌, [], ℕ, List, Some, ap, sym, subst, ◌∙◌}
+use Rattle.typed_tree.specs.Parts.{Made, made_of}
+use Rattle.expr_types.specs.Known.{event_field}
+use Rattle.expr_types.specs.Mentions.{ReadsField, Args, OfField, FieldWord}
+use Rattle.expr_types.specs.Walk.{at, seen}
+use Rattle.expr_types.specs.Checked.{Checked}
+use Rattle.expr_types.proofs.Constructs.{field_checked}
+use Rattle.expr_types.proofs.field.field.Goals as goal
+
+pub returns-in-Some-value_of_field : goal.returns-in-Some-value_of_field
+returns-in-Some-value_of_field c =
+    let k = c.args.known.now in
+    let name = c.args.name.now in
+    let read = c.in-Some-value_of_field.ensures in
+    let found : event_field k.event name ≡ Some c.in_ok-try_copy.field-0 =
+    ap (event_field k.event) (sym c.as_slice.ensures) ∙ (sym c.in-Some.ensures ∙ ap (λ f. Some f) (sym c.in_ok-try_copy.ensures)) in
+    subst (λ (m : Made). Checked (seen (at c.args.place Args ∷ at c.args.word (ReadsField name) ∷ []) (OfField name) (FieldWord name ∷ [])) k k m) (sym read.is)
+    (field_checked k name c.args.place c.args.word c.in_ok-try_copy.field-0 read.shape found read.kind)

@@ -1,0 +1,12 @@
+pub mod Checked
+pub mod Grows
+pub mod Indexed
+pub mod Join
+pub mod Joint
+pub mod Judge
+pub mod Known
+pub mod Maps
+pub mod Mentions
+pub mod Rules
+pub mod Typing
+pub mod Walk

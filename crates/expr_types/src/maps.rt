@@ -1,0 +1,148 @@
+// Mentions of maps.
+ghost use Rattle.std.specs.Prelude.{◌≡◌, ◌∷◌, true, IfOk, OnOk, map};
+ghost use Rattle.std.specs.Option.{option_copied};
+ghost use Rattle.bt_core.specs.declared.map.MapKind.TheVariants.{Ints};
+ghost use Rattle.bt_core.specs.declared.map.Shape.TheVariants.{Int};
+ghost use Rattle.typed_tree.specs.Parts.{made_of, num_parts, key_shapes, keyed_parts, Stepped};
+ghost use Rattle.typed_tree.specs.Scope.{is_fine_kind};
+ghost use Rattle.expr_types.specs.Known.{decl_in, decides};
+ghost use Rattle.expr_types.specs.Judge.{Refuses};
+ghost use Rattle.expr_types.specs.Rules.{read_breaks, write_breaks};
+ghost use Rattle.expr_types.specs.Maps.{shape_held, read_made};
+
+use crate::fault::TypeError;
+use crate::known::Known;
+use crate::rules::{read_breaks, refuse, write_breaks};
+use bt_core::items::Items;
+use bt_core::map::{MapDecl, MapId, MapKind, Shape};
+use bt_core::memory::Memory;
+use bt_core::place::Place;
+use std::alloc::Global;
+use typed_tree::expr::{AnyExpr, NumExpr, StrExpr};
+
+/// A map and the parts of its key.
+#[derive(Drop)]
+pub struct Keyed {
+    pub map: MapId,
+    pub keys: Items<AnyExpr>,
+}
+
+/// The types of the parts of a key.
+pub fn shapes(alloc: Global, keys: &[AnyExpr]) -> Result<Items<Shape>, Memory>
+    ensures { IfOk result (λ shapes. shapes ≡ key_shapes (map made_of keys.now)) }
+{
+    let mut shapes = Items::new(alloc);
+    for key in keys {
+        shapes.push(key.shape())?;
+    }
+    Ok(shapes)
+}
+
+/// What a map holds that is no aggregation.
+fn shape_held(decl: Option<&MapDecl>) -> Shape
+    ensures { result ≡ shape_held (option_copied decl.entry) }
+{
+    match decl {
+        None => Shape::Int,
+        Some(decl) => match decl.kind {
+            MapKind::Ints => Shape::Int,
+            MapKind::Strs => Shape::Str,
+            MapKind::Aggs(_) => Shape::Int,
+        },
+    }
+}
+
+/// The value of a map.
+fn value_of(shape: Shape, keyed: Keyed) -> AnyExpr
+    ensures { made_of result ≡ read_made shape keyed.map.0 (map made_of keyed.keys) }
+{
+    let Keyed { map, keys } = keyed;
+    match shape {
+        Shape::Int => AnyExpr::Num(NumExpr::Map { map, keys }),
+        Shape::Str => AnyExpr::Str(StrExpr::Map { map, keys }),
+    }
+}
+
+/// A mention that decides that a map holds whole numbers, where nothing is decided.
+fn read_mention(
+    alloc: Global,
+    known: &mut Known,
+    name: &Items<u8>,
+    shapes: Items<Shape>,
+    place: Place,
+) -> Result<(), TypeError>
+    ensures refuses { Refuses (read_breaks known.old name.now shapes) place result }
+    ensures learned { OnOk result (known.new ≡ decides known.old name.now Ints shapes) }
+{
+    refuse(
+        read_breaks(known, name.as_slice(), shapes.as_slice()),
+        place,
+    )?;
+    known.mention(alloc, name)?;
+    known.decide(alloc, name, MapKind::Ints, shapes)?;
+    Ok(())
+}
+
+/// A read of a map.
+pub fn read(
+    alloc: Global,
+    known: &mut Known,
+    name: &Items<u8>,
+    keyed: Keyed,
+    place: Place,
+) -> Result<AnyExpr, TypeError>
+    ensures refuses { Refuses (read_breaks known.old name.now (key_shapes (map made_of keyed.keys))) place result }
+    ensures learned { OnOk result (known.new ≡ decides known.old name.now Ints (key_shapes (map made_of keyed.keys))) }
+    ensures made { IfOk result (λ e. made_of e ≡ read_made (shape_held (decl_in name.now known.new.decided)) keyed.map.0 (map made_of keyed.keys)) }
+{
+    let shapes = shapes(alloc, keyed.keys.as_slice())?;
+    read_mention(alloc, known, name, shapes, place)?;
+    Ok(value_of(shape_held(known.decl(name.as_slice())), keyed))
+}
+
+/// A mention that decides this kind, which is fine by itself.
+pub fn write(
+    alloc: Global,
+    known: &mut Known,
+    name: &Items<u8>,
+    kind: MapKind,
+    shapes: Items<Shape>,
+    place: Place,
+) -> Result<(), TypeError>
+    requires { is_fine_kind kind ≡ true }
+    ensures refuses { Refuses (write_breaks known.old name.now kind shapes) place result }
+    ensures learned { OnOk result (known.new ≡ decides known.old name.now kind shapes) }
+{
+    refuse(
+        write_breaks(known, name.as_slice(), kind, shapes.as_slice()),
+        place,
+    )?;
+    known.mention(alloc, name)?;
+    known.decide(alloc, name, kind, shapes)?;
+    Ok(())
+}
+
+/// `++` or `--` of a map.
+pub fn step(
+    alloc: Global,
+    known: &mut Known,
+    name: &Items<u8>,
+    keyed: Keyed,
+    place: Place,
+    plus: bool,
+    prefix: bool,
+) -> Result<NumExpr, TypeError>
+    ensures refuses { Refuses (write_breaks known.old name.now Ints (key_shapes (map made_of keyed.keys))) place result }
+    ensures learned { OnOk result (known.new ≡ decides known.old name.now Ints (key_shapes (map made_of keyed.keys))) }
+    ensures made { IfOk result (λ n. num_parts n ≡ (Stepped plus prefix ∷ keyed_parts keyed.map.0 (map made_of keyed.keys) Int)) }
+{
+    let shapes = shapes(alloc, keyed.keys.as_slice())?;
+    write(alloc, known, name, MapKind::Ints, shapes, place)?;
+    let Keyed { map, keys } = keyed;
+    Ok(NumExpr::StepMap {
+        map,
+        keys,
+        plus,
+        prefix,
+    })
+}
