@@ -1,4 +1,0 @@
-pub mod Bodies
-pub mod Done
-pub mod Script
-pub mod Told
