@@ -24,7 +24,7 @@ const REST: &[u8] =
     b"\x01\0\0\0\x02\0\0\0\x03\0\0\0\x04\0\0\0p\0\0\0\0\0\0\0\0\0\0\0\0\0\0\0\x02\0\0\0\x07\0";
 
 /// The bytes of a recording with events at these times.
-fn bytes_with(alloc: Global, times: &[u64]) -> Result<Vec<u8>, Memory> {
+pub(crate) fn bytes_with(alloc: Global, times: &[u64]) -> Result<Vec<u8>, Memory> {
     let mut bytes = Vec::from_slice(alloc, HEAD)?;
     bytes.extend_from_slice(&(times.len().min(99) as u32).to_le_bytes())?;
     for time in times {

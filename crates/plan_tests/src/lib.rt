@@ -3,3 +3,5 @@
 
 #[cfg(test)]
 mod agendas;
+#[cfg(test)]
+mod contexts;
