@@ -1,5 +1,6 @@
 // The text of a printf call.
-ghost use Rattle.std.specs.Prelude.{◌≡◌, ◌++◌, ◌∷◌, [], ◌-◌, ◌%◌, pos, List, IfOk, OnOk, decimal, int_lt, length, replicate, unsigned_abs, string_bytes};
+ghost use Rattle.std.specs.Prelude.{◌≡◌, ◌++◌, ◌∷◌, [], ◌-◌, ◌%◌, pos, List, IfOk, OnOk, length, replicate};
+ghost use Rattle.std.specs.Prelude.{decimal, int_lt, unsigned_abs, string_bytes};
 ghost use Rattle.std.specs.Fmt.{digits, sign_text};
 ghost use Rattle.fmt_text.specs.Arguments.{AreArgumentsOf};
 ghost use Rattle.fmt_text.specs.Rendered.{placed, number_shown, value_shown, without_sign, rendered};

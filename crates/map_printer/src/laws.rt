@@ -15,7 +15,8 @@ ghost use Rattle.map_printer.specs.MergedRows.{AreMergedRows};
 /// other rows are such.
 pub fn merged_rows_are()
     ensures these { (kind : Kind) (replies : List Reply) → AreMergedRows kind replies (merged kind replies) }
-    ensures alone { (kind : Kind) (replies : List Reply) (rows : List (List Value × CellValue)) → AreMergedRows kind replies rows → rows ≡ merged kind replies }
+    ensures alone { (kind : Kind) (replies : List Reply) (rows : List (List Value × CellValue)) →
+        AreMergedRows kind replies rows → rows ≡ merged kind replies }
 {}
 
 /// Replies to who reads a map can be merged, and the map can hold the merged rows.
