@@ -16,7 +16,7 @@ use Rattle.bt_core.specs.declared.value.Value.TheVariants.{Int, Str}
 use Rattle.bt_core.specs.KeyBytes.{part_of}
 use Rattle.bt_core.specs.Kinds.{HasShape, IsOfShape, IsOfKind, IsShared, IsAggregation}
 use Rattle.bt_core.specs.declared.step.ObjectId.TheVariants.{Cpu}
-use Rattle.bt_core.specs.declared.step.Op.TheVariants.{Set, Delete, Add}
+use Rattle.bt_core.specs.declared.step.Op.TheVariants.{Get, Set, Delete, Add}
 use Rattle.bt_core.specs.Ports.{Setting, CanStep}
 use Rattle.tracefs_format.specs.declared.field.Field.{Field}
 use Rattle.tracefs_format.specs.declared.layout.Layout.{Layout}
@@ -215,3 +215,6 @@ sweep_case v setting m (Some decl) s e h =
 
 pub sweep_can : (v : View) (setting : Setting) (m : MapId) → IsServed v setting → IsTrue (is_there (decl_of m.0 v.body.now.maps)) → CanSweep setting m (kind_of m v.body.now.maps) v.actors
 sweep_can v setting m s h = sweep_case v setting m (decl_of m.0 v.body.now.maps) s refl h
+
+pub get_can : (setting : Setting) (m : MapId) (keys : List Shape) (h : Shape) (key : List Value) → Found setting m keys (λ k. k ≡ kind_of_shape h) → HasShape keys key → CanStep setting (part m key) (Get key)
+get_can setting m keys h key f s = (part_below key, rw f.here (kind_shared f.decl.kind h f.kind, subst (λ (l : List Shape). HasShape l key) (sym f.shaped) s))

@@ -40,7 +40,7 @@ pub gathers-end : (whole : Interaction (List Value × Frame)) (es : List AnyExpr
 gathers-end whole es n scene frame parts old now h p =
     Left-Whole _ _ _ _ _ _ (Left-is _ _ _ _ _ p (ap (λ (l : List AnyExpr). gathered parts (values_do l) scene frame) (drop_all n es h))) (Given-done _ _ _ _ _ _ refl refl)
 
-HasShape-more : (hs : List Shape) (vs : List Value) (h : Shape) (v : Value) → HasShape hs vs → IsOfShape h v → HasShape (hs ++ h ∷ []) (vs ++ v ∷ [])
+pub HasShape-more : (hs : List Shape) (vs : List Value) (h : Shape) (v : Value) → HasShape hs vs → IsOfShape h v → HasShape (hs ++ h ∷ []) (vs ++ v ∷ [])
 HasShape-more [] [] h v p q = (q, tt)
 HasShape-more [] (w ∷ vs) h v p q = absurd p
 HasShape-more (s ∷ hs) [] h v p q = absurd p

@@ -1,3 +1,4 @@
+pub mod Asking
 pub mod Bodies
 pub mod Binds
 pub mod Declared

@@ -1,3 +1,4 @@
+pub mod Admits
 pub mod Does
 pub mod Maps
 pub mod Exprs

@@ -61,7 +61,8 @@ fn walk_guarded<P: Port>(
     requires served { IsServed view.now (P.fixed port.old).setting }
     requires test { Fits view.now (predicate_parts predicate.now) }
     requires fits { BlockFits view.now block.now }
-    ensures walked { Walked (guarded predicate.now (block_does block.now)) (scene_in view.now) frame.old (P.steps port.old) (P.steps port.new) result frame.new }
+    ensures walked { Walked (guarded predicate.now (block_does block.now))
+        (scene_in view.now) frame.old (P.steps port.old) (P.steps port.new) result frame.new }
     ensures kept { P.fixed port.new ≡ P.fixed port.old }
 {
     match predicate {

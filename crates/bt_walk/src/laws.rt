@@ -11,7 +11,8 @@ ghost use Rattle.bt_walk.specs.Walk.{walk};
 /// same calls under the more, and ends in the same way.
 pub fn more_replies_go_on()
     ensures begins { (body : TypedBody) (context : Context) (payload : List ℕ) (actor actors : ℕ) (replies more : List Reply) →
-        (further : List Call) × (calls (walk body context payload actor actors) (replies ++ more) ≡ calls (walk body context payload actor actors) replies ++ further) }
+        (further : List Call) ×
+        (calls (walk body context payload actor actors) (replies ++ more) ≡ calls (walk body context payload actor actors) replies ++ further) }
     ensures same { (body : TypedBody) (context : Context) (payload : List ℕ) (actor actors : ℕ) (replies more : List Reply) (ending : Ending) →
         value_under (walk body context payload actor actors) replies ≡ Some ending →
         calls (walk body context payload actor actors) (replies ++ more) ≡ calls (walk body context payload actor actors) replies }

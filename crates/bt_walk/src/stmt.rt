@@ -83,7 +83,8 @@ pub fn set_map<P: Port>(
 ) -> Result<Flow, Memory>
     requires served { IsServed view.now (P.fixed port.old).setting }
     requires fits { Fits view.now (set_map_parts map.0 (all_made keys.now) (made_of e.now)) }
-    ensures walked { Walked (set_map map (values_do keys.now) (value_does e.now)) (scene_in view.now) frame.old (P.steps port.old) (P.steps port.new) result frame.new }
+    ensures walked { Walked (set_map map (values_do keys.now) (value_does e.now))
+        (scene_in view.now) frame.old (P.steps port.old) (P.steps port.new) result frame.new }
     ensures kept { P.fixed port.new ≡ P.fixed port.old }
     ensures turns { frame.new.turns ≡ frame.old.turns }
 {
@@ -105,7 +106,8 @@ pub fn update_variable<P: Port>(
 ) -> Result<Flow, Memory>
     requires served { IsServed view.now (P.fixed port.old).setting }
     requires fits { Fits view.now (update_var_parts op var (num_parts e.now)) }
-    ensures walked { Walked (update_variable var op (number_does e.now)) (scene_in view.now) frame.old (P.steps port.old) (P.steps port.new) result frame.new }
+    ensures walked { Walked (update_variable var op (number_does e.now))
+        (scene_in view.now) frame.old (P.steps port.old) (P.steps port.new) result frame.new }
     ensures kept { P.fixed port.new ≡ P.fixed port.old }
     ensures turns { frame.new.turns ≡ frame.old.turns }
 {
@@ -129,7 +131,8 @@ pub fn update_map<P: Port>(
 ) -> Result<Flow, Memory>
     requires served { IsServed view.now (P.fixed port.old).setting }
     requires fits { Fits view.now (update_map_parts op map.0 (all_made keys.now) (num_parts e.now)) }
-    ensures walked { Walked (update_map map (values_do keys.now) op (number_does e.now)) (scene_in view.now) frame.old (P.steps port.old) (P.steps port.new) result frame.new }
+    ensures walked { Walked (update_map map (values_do keys.now) op (number_does e.now))
+        (scene_in view.now) frame.old (P.steps port.old) (P.steps port.new) result frame.new }
     ensures kept { P.fixed port.new ≡ P.fixed port.old }
     ensures turns { frame.new.turns ≡ frame.old.turns }
 {
@@ -172,7 +175,8 @@ pub fn gather<P: Port>(
 ) -> Result<Flow, Memory>
     requires served { IsServed view.now (P.fixed port.old).setting }
     requires fits { Fits view.now (gather_parts map.0 (all_made keys.now) kind number.now) }
-    ensures walked { Walked (gather map (values_do keys.now) (number_or_one number.now)) (scene_in view.now) frame.old (P.steps port.old) (P.steps port.new) result frame.new }
+    ensures walked { Walked (gather map (values_do keys.now) (number_or_one number.now))
+        (scene_in view.now) frame.old (P.steps port.old) (P.steps port.new) result frame.new }
     ensures kept { P.fixed port.new ≡ P.fixed port.old }
     ensures turns { frame.new.turns ≡ frame.old.turns }
 {

@@ -188,7 +188,8 @@ fn walk_while<P: Port>(
     requires served { IsServed view.now (P.fixed port.old).setting }
     requires fits { BlockFits view.now block.now }
     requires test { Fits view.now (num_parts test.now) }
-    ensures walked { Walked (while_true line (number_does test.now) (block_does block.now)) (scene_in view.now) frame.old (P.steps port.old) (P.steps port.new) result frame.new }
+    ensures walked { Walked (while_true line (number_does test.now) (block_does block.now))
+        (scene_in view.now) frame.old (P.steps port.old) (P.steps port.new) result frame.new }
     ensures kept { P.fixed port.new ≡ P.fixed port.old }
     ensures turns { frame.new.turns ≤ frame.old.turns }
 {
