@@ -117,8 +117,8 @@ module _ (v : View) (setting : Setting) (served : IsServed v setting) where
   gathered-good (k ∷ ks) hs vs p fit =
       let parts = split (made_of k.0).parts (parts_in (map made_of (firsts ks))) fit in
       bind-good setting (scene_in v) (IsOfShape (made_of k.0).shape) (HasShape (hs ++ (made_of k.0).shape ∷ key_shapes (map made_of (firsts ks)))) (value_does k.0) (λ value. gathered (vs ++ value ∷ []) (map value_does (firsts ks))) (k.1 parts.0)
-          (λ value shaped. subst (λ (l : List Shape). Does_good (HasShape l) (gathered (vs ++ value ∷ []) (map value_does (firsts ks)))) (append_assoc hs ((made_of k.0).shape ∷ []) (key_shapes (map made_of (firsts ks))))
-              (gathered-good ks (hs ++ (made_of k.0).shape ∷ []) (vs ++ value ∷ []) (HasShape-more hs vs (made_of k.0).shape value p shaped) parts.1))
+      (λ value shaped. subst (λ (l : List Shape). Does_good (HasShape l) (gathered (vs ++ value ∷ []) (map value_does (firsts ks)))) (append_assoc hs ((made_of k.0).shape ∷ []) (key_shapes (map made_of (firsts ks))))
+      (gathered-good ks (hs ++ (made_of k.0).shape ∷ []) (vs ++ value ∷ []) (HasShape-more hs vs (made_of k.0).shape value p shaped) parts.1))
 
   pub values-good : (ks : List ManyAny) → Fits v (parts_in (map made_of (firsts ks))) → Does_good (HasShape (key_shapes (map made_of (firsts ks)))) (in_order (map value_does (firsts ks)))
   values-good ks fit = gathered-good ks [] [] tt fit
@@ -144,7 +144,7 @@ module _ (v : View) (setting : Setting) (served : IsServed v setting) where
   step-good m ks plus prefix d key shaped =
       let found = valued v setting m _ shapes.Int served d in
       bind-good setting (scene_in v) Free Free (get m key) _ (get-good setting (scene_in v) m key (get_can setting m _ shapes.Int key found shaped))
-          (λ old h. then-given (set m key _) (λ u. _) (told-good setting (scene_in v) _ _ (set_can setting m _ shapes.Int key (Int _) found shaped tt)))
+      (λ old h. then-given (set m key _) (λ u. _) (told-good setting (scene_in v) _ _ (set_can setting m _ shapes.Int key (Int _) found shaped tt)))
 
   abbrev num_of : NumExpr-F ManyAny ManyNum ManyStr → NumExpr-F AnyExpr NumExpr StrExpr
   num_of h = map-NumExpr ManyAny ManyNum ManyStr AnyExpr NumExpr StrExpr (λ k. k.0) (λ k. k.0) (λ k. k.0) h
