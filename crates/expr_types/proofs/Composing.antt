@@ -1,5 +1,5 @@
 -- A construct from its parts.
-use Rattle.std.proofs.Common.{◌≡◌, ◌++◌, List, [], ◌∷◌, map, Option, Some, None, Result, Ok, Err, IfOk, refl, sym, ap, subst, ◌∙◌}
+use Rattle.std.proofs.Common.{◌≡◌, ◌++◌, List, [], ◌∷◌, Option, Some, None, Result, Ok, Err, IfOk, refl, sym, ap, subst, ◌∙◌}
 use Rattle.bt_core.specs.declared.place.Place.{Place}
 use Rattle.bt_core.specs.declared.map.Shape.{Shape}
 use Rattle.bt_core.specs.declared.map.Shape.TheVariants.{Int, Str}
@@ -16,11 +16,10 @@ use Rattle.expr_types.specs.declared.fault.TypeError.TheVariants.{Broken, Memory
 use Rattle.expr_types.specs.declared.known.Known.{Known}
 use Rattle.expr_types.specs.Mentions.{Sort, Whole, NeedsWhole, NeedsSame, Point, Word, UnaryWord, ChooseWord}
 use Rattle.expr_types.specs.Known.{shape_in}
-use Rattle.expr_types.specs.Grows.{Grows}
 use Rattle.expr_types.specs.Judge.{unless_broken, judged, SaysFault, IsBreach, Refuses}
 use Rattle.expr_types.specs.Rules.{first_of_rules, are_two}
 use Rattle.expr_types.specs.Walk.{Seen, seen, at, operands, both_whole, choice, choose_seen}
-use Rattle.expr_types.specs.Typing.{Fits, AllFit, titles_of, word_of, IsTyping}
+use Rattle.expr_types.specs.Typing.{Fits, titles_of, word_of, IsTyping}
 use Rattle.expr_types.specs.Join.{whole_breaks, both_break, same_breaks, joined_breaks, choose_breaks}
 use Rattle.expr_types.specs.Checked.{Checked, Checks}
 use Rattle.expr_types.proofs.Judging.{judged_ok, judged_err}

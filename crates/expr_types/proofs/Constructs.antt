@@ -1,12 +1,11 @@
 -- What is answered for a construct says what is judged of it.
-use Rattle.std.proofs.Common.{◌≡◌, ◌++◌, ◌&&◌, ℕ, nat_lt, Bool, true, false, cond, List, [], ◌∷◌, length, Option, Some, None, Result, Ok, Err, IfOk, slice_get, refl, sym, ap, subst, ◌∙◌, is_none}
+use Rattle.std.proofs.Common.{◌≡◌, ◌++◌, ℕ, nat_lt, Bool, true, false, cond, List, [], ◌∷◌, length, Option, Some, None, Result, Ok, Err, IfOk, slice_get, refl, sym, ap, subst, ◌∙◌, is_none}
 use Rattle.std.specs.Str.{bytes_eq}
 use Rattle.bt_core.specs.declared.limits.TheConstants.{STRING_BYTES}
 use Rattle.bt_core.specs.declared.place.Place.{Place}
 use Rattle.bt_core.specs.Text.{short_text}
 use Rattle.bt_core.specs.declared.map.Shape.{Shape}
 use Rattle.bt_core.specs.declared.map.Shape.TheVariants.{Int, Str}
-use Rattle.bt_core.specs.declared.operator.BinOp.{BinOp}
 use Rattle.tracefs_format.specs.ByName.{field_called, field_named}
 use Rattle.tracefs_format.specs.declared.field.Field.{Field}
 use Rattle.tracefs_format.specs.declared.layout.Layout.{Layout}
@@ -17,7 +16,6 @@ use Rattle.expr_types.specs.declared.fault.Fault.{Fault}
 use Rattle.expr_types.specs.declared.fault.Rule.{Rule}
 use Rattle.expr_types.specs.declared.fault.Rule.TheVariants.{WrongType, NotSet, NoEvent, UnknownField, FieldNotReadable}
 use Rattle.expr_types.specs.declared.fault.TypeError.{TypeError}
-use Rattle.expr_types.specs.declared.fault.TypeError.TheVariants.{Broken, Memory}
 use Rattle.expr_types.specs.declared.known.Known.{Known}
 use Rattle.expr_types.specs.declared.known.Var.{Var}
 use Rattle.expr_types.specs.Mentions.{Sort, Text, OfVar, OfField, NeedsShort, ReadsVar, ReadsField, Args, TextWord, FieldWord, VarWord, StepWord}
@@ -25,12 +23,12 @@ use Rattle.expr_types.specs.Known.{var_in, event_field, field_shape, shape_in}
 use Rattle.expr_types.specs.Judge.{unless_broken, judged, SaysFault, IsBreach, Refuses}
 use Rattle.expr_types.specs.Rules.{first_of_rules, breaks, is_text, is_unreadable}
 use Rattle.expr_types.specs.Walk.{Seen, OnVar, seen, step_seen, step_points, at}
-use Rattle.expr_types.specs.Typing.{IsTyping, Fits, titles_of, title, word_of}
+use Rattle.expr_types.specs.Typing.{Fits, titles_of, title, word_of}
 use Rattle.expr_types.specs.declared.leaf.Joint.{Joint}
 use Rattle.expr_types.specs.declared.leaf.Joint.TheVariants.{Operator, And, Or}
 use Rattle.expr_types.specs.Joint.{joint_part, joint_word, joint_points, joint_breaks, joint_seen}
 use Rattle.expr_types.specs.Checked.{Checked, Checks}
-use Rattle.expr_types.proofs.Composing.{front_refused, later_refused, breach, asked_refused, asked_whole, still, pair_checks, both_judged, operands_judged}
+use Rattle.expr_types.proofs.Composing.{breach, still, pair_checks, both_judged, operands_judged}
 use Rattle.expr_types.proofs.Finding.{same_is}
 use Rattle.expr_types.proofs.Growing.{grows_none}
 use Rattle.expr_types.proofs.Later.{get_mapped, title_is}

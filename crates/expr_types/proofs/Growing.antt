@@ -14,7 +14,7 @@ use Rattle.expr_types.specs.declared.known.Var.{Var}
 use Rattle.expr_types.specs.Mentions.{Sort, Whole, Text, OfMap, OfVar, OfField}
 use Rattle.expr_types.specs.Mentions.{Mention, Begins, Names, Uses, Reads, Steps, Sets, Gathers, NeedsShared, Deletes, ReadsVar, SetsVar, Args, ReadsField}
 use Rattle.expr_types.specs.Mentions.{NeedsWhole, NeedsSame, NeedsShort, NeedsBounds, NeedsTurns, NeedsRows, Prints, Jumps}
-use Rattle.expr_types.specs.Known.{has_name, place_of, decl_in, var_in, shape_in, decl_shape, has_call, call_at, printed, add_name, add_number, with_name, with_mention, with_decl, with_var, add_call, called, with_call, decide_after, set_after, shapes_in, kind_for, decides, learn}
+use Rattle.expr_types.specs.Known.{has_name, place_of, decl_in, var_in, shape_in, decl_shape, has_call, call_at, printed, add_name, with_name, with_mention, with_decl, with_var, add_call, with_call, decide_after, set_after, shapes_in, kind_for, decides, learn}
 use Rattle.expr_types.specs.Grows.{IsFrontOf, Grows}
 
 front_none : {A : Type 0} (xs : List A) → IsFrontOf xs xs

@@ -1,9 +1,7 @@
 -- A map and its key.
-use Rattle.std.proofs.Common.{◌≡◌, ◌++◌, ℕ, List, [], ◌∷◌, map, Option, Some, Result, Ok, Err, refl, sym, ap, subst, ◌∙◌}
+use Rattle.std.proofs.Common.{◌≡◌, ℕ, List, [], ◌∷◌, map, Some, refl, sym, ap, subst, ◌∙◌}
 use Rattle.bt_core.specs.declared.place.Place.{Place}
-use Rattle.bt_core.specs.declared.map.Shape.{Shape}
-use Rattle.typed_tree.specs.Parts.{Made, made_of, parts_in}
-use Rattle.expr_types.specs.declared.fault.Fault.{Fault}
+use Rattle.typed_tree.specs.Parts.{Made, parts_in}
 use Rattle.expr_types.specs.declared.fault.TypeError.{TypeError}
 use Rattle.expr_types.specs.declared.known.Known.{Known}
 use Rattle.expr_types.specs.Mentions.{Sort}
@@ -11,7 +9,7 @@ use Rattle.expr_types.specs.Known.{shape_in, with_name}
 use Rattle.expr_types.specs.Grows.{Grows}
 use Rattle.expr_types.specs.Judge.{judged, SaysFault}
 use Rattle.expr_types.specs.Walk.{Seen, MapSeen, points_of, words_of, key_seen}
-use Rattle.expr_types.specs.Typing.{IsNamed, IsTyping, AreTyping, AllFit, titles_of, words_by}
+use Rattle.expr_types.specs.Typing.{IsNamed, AreTyping, AllFit, titles_of, words_by}
 use Rattle.expr_types.specs.Checked.{AllChecked, KeyChecked}
 use Rattle.expr_types.proofs.Growing.{grows_on, grows_name, shape_later}
 use Rattle.expr_types.proofs.Later.{named_later, all_later, words_later, fits_both, words_both}

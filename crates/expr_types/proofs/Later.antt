@@ -1,5 +1,5 @@
 -- A typed tree stays one when more is known.
-use Rattle.std.proofs.Common.{◌≡◌, ◌++◌, ◌==◌, ◌||◌, ℕ, zero, suc, Bool, true, List, [], ◌∷◌, length, map, Option, Some, None, slice_get, refl, sym, ap, subst, ◌∙◌}
+use Rattle.std.proofs.Common.{◌≡◌, ◌++◌, ◌==◌, ◌||◌, ℕ, zero, suc, Bool, true, List, [], ◌∷◌, length, map, Option, Some, None, slice_get, refl, sym, ap, ◌∙◌}
 use Rattle.std.specs.List.{list_any}
 use Rattle.std.proofs.lemmas.List.{map-append}
 use Rattle.std.proofs.lemmas.List.Folds.{list_any-append}
@@ -9,11 +9,11 @@ use Rattle.expr_types.specs.declared.known.Known.{Known}
 use Rattle.expr_types.specs.declared.known.Printed.{Printed as Call}
 use Rattle.expr_types.specs.declared.known.Var.{Var}
 use Rattle.expr_types.specs.Mentions.{Sort, Word, VarWord, MapWord, GatherWord, DeleteWord, PrintfWord, ShowWord, ClearWord, ZeroWord}
-use Rattle.expr_types.specs.Known.{event_field, shape_in}
+use Rattle.expr_types.specs.Known.{event_field}
 use Rattle.expr_types.specs.Grows.{IsFrontOf, Grows}
 use Rattle.typed_tree.specs.Parts.{Part, Constant, Literal, Numeric, Command, FieldOf, VarOf, MapOf, Stepped, Prefixed, Joined, Both, Either, Chosen}
 use Rattle.typed_tree.specs.Parts.{Assigned, Gathered, Deleted, Printed, Shown, Cleared, Zeroed, Jumped, Looped, Unrolled, Arm, Otherwise, NoOtherwise, Ending, Made}
-use Rattle.expr_types.specs.Typing.{IsDeclared, IsNamed, IsMap, IsMapOf, IsSharedMap, IsVarOf, IsCallOf, Fits, AllFit, Titles, titles_of, title, word_of, words_by, IsTyping}
+use Rattle.expr_types.specs.Typing.{IsDeclared, IsNamed, IsMap, IsMapOf, Fits, AllFit, Titles, titles_of, title, word_of, words_by, IsTyping}
 use Rattle.expr_types.proofs.Growing.{decl_later, shape_later}
 
 -- what stands at a place of a list stands there in a longer one

@@ -1,5 +1,5 @@
 -- What is seen of a construct, by what is seen of its parts.
-use Rattle.std.proofs.Common.{◌≡◌, ◌++◌, ℕ, List, [], ◌∷◌, map, sym, ap, ◌∙◌}
+use Rattle.std.proofs.Common.{◌≡◌, ◌++◌, [], ◌∷◌, map, sym, ap, ◌∙◌}
 use Rattle.bt_core.specs.declared.place.Place.{Place}
 use Rattle.bt_ast.specs.declared.expr.Expr.{Expr}
 use Rattle.bt_ast.specs.declared.expr.ExprKind.{ExprKind, fold-roll-ExprKind}
@@ -7,7 +7,7 @@ use Rattle.bt_ast.specs.declared.expr.ExprKind.TheVariants.{Step, Unary, Binary,
 use Rattle.bt_ast.specs.declared.expr.ExprKind.TheOpen.{ExprKind-F, Target-F}
 use Rattle.bt_ast.specs.declared.expr.IncDec.{IncDec, out-IncDec, roll-out-IncDec, fold-roll-IncDec}
 use Rattle.bt_ast.specs.declared.expr.MapRef.{MapRef, out-MapRef, roll-out-MapRef, fold-roll-MapRef}
-use Rattle.bt_ast.specs.declared.expr.Target.{Target, fold-roll-Target}
+use Rattle.bt_ast.specs.declared.expr.Target.{fold-roll-Target}
 use Rattle.bt_ast.specs.declared.expr.Target.TheVariants as target
 use Rattle.bt_ast.specs.declared.expr.VarRef.{VarRef}
 use Rattle.bt_core.specs.declared.operator.BinOp.{BinOp}

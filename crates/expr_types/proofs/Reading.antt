@@ -1,6 +1,5 @@
 -- What mentions of maps decide, and reads and steps of maps.
-use Rattle.std.proofs.Common.{◌≡◌, ◌++◌, ℕ, suc, Bool, true, false, cond, not, ◌&&◌, ◌||◌, nat_lt, nat_le, List, [], ◌∷◌, length, map, unwrap_or, Option, Some, None, Result, Ok, Err, OnOk, IfOk, refl, sym, ap, subst, ◌∙◌, arith}
-use Rattle.std.specs.Prelude.{IsTrue}
+use Rattle.std.proofs.Common.{◌≡◌, ◌++◌, ℕ, suc, Bool, true, false, cond, not, ◌&&◌, ◌||◌, nat_lt, nat_le, List, [], ◌∷◌, length, map, unwrap_or, Option, Some, None, Result, Ok, Err, OnOk, IfOk, refl, sym, ap, subst, ◌∙◌}
 use Rattle.std.specs.Str.{bytes_eq}
 use Rattle.std.proofs.lemmas.Bool.{ltb-false, le-leb}
 use Rattle.bt_core.specs.declared.limits.TheConstants.{KEY_PARTS}
@@ -20,13 +19,13 @@ use Rattle.expr_types.specs.declared.fault.Rule.{Rule}
 use Rattle.expr_types.specs.declared.fault.Rule.TheVariants as rule
 use Rattle.expr_types.specs.declared.fault.TypeError.{TypeError}
 use Rattle.expr_types.specs.declared.known.Known.{Known}
-use Rattle.expr_types.specs.Mentions.{Sort, OfMap, Reads, Steps, Word, MapWord, StepWord}
-use Rattle.expr_types.specs.Known.{has_name, decl_in, decl_shape, shape_in, shapes_in, with_mention, with_decl, decide_after, decides}
+use Rattle.expr_types.specs.Mentions.{Sort, Reads, Steps, Word, MapWord, StepWord}
+use Rattle.expr_types.specs.Known.{has_name, decl_in, decl_shape, shape_in, shapes_in, with_mention, decide_after, decides}
 use Rattle.expr_types.specs.Grows.{Grows}
-use Rattle.expr_types.specs.Judge.{unless_broken, judged, SaysFault, IsBreach, Refuses}
+use Rattle.expr_types.specs.Judge.{unless_broken, judged, SaysFault, Refuses}
 use Rattle.expr_types.specs.Rules.{is_agg_in, is_other_kind, is_other_key, has_other_keys, is_one_too_many, first_of_rules, read_breaks, write_breaks}
-use Rattle.expr_types.specs.Walk.{MapSeen, OnMap, seen, at, map_read, map_words, step_seen}
-use Rattle.expr_types.specs.Typing.{IsDeclared, IsNamed, AllFit, titles_of, title, words_by}
+use Rattle.expr_types.specs.Walk.{MapSeen, OnMap, at, map_read, map_words, step_seen}
+use Rattle.expr_types.specs.Typing.{IsDeclared, titles_of, title, words_by}
 use Rattle.expr_types.specs.Checked.{Checked, Checks, ChecksNumber, KeyChecked}
 use Rattle.expr_types.specs.Maps.{shape_of_map, shape_held, read_made}
 use Rattle.expr_types.proofs.Judging.{judged_ok}

@@ -1,14 +1,11 @@
 -- What a checked expression is.
-use Rattle.std.specs.Prelude.{◌≡◌, ℕ, List, [], ◌∷◌, map, length, Option, Some, None, Result, Ok, Err, MatchResult, slice_get}
-use Rattle.bt_core.specs.declared.map.Shape.{Shape}
+use Rattle.std.specs.Prelude.{◌≡◌, ℕ, List, map, Some, Result, Ok, MatchResult}
 use Rattle.bt_core.specs.declared.map.Shape.TheVariants.{Int}
-use Rattle.expr_types.specs.declared.fault.Fault.{Fault}
 use Rattle.expr_types.specs.declared.fault.TypeError.{TypeError}
 use Rattle.expr_types.specs.declared.known.Known.{Known}
 use Rattle.typed_tree.specs.declared.expr.AnyExpr.{AnyExpr}
 use Rattle.typed_tree.specs.declared.expr.NumExpr.{NumExpr}
-use Rattle.expr_types.specs.Mentions.{Sort, Word}
-use Rattle.expr_types.specs.Known.{shape_in, shapes_in}
+use Rattle.expr_types.specs.Known.{shape_in}
 use Rattle.expr_types.specs.Grows.{Grows}
 use Rattle.expr_types.specs.Judge.{judged, SaysFault}
 use Rattle.expr_types.specs.Walk.{Seen, MapSeen, points_of}

@@ -1,5 +1,5 @@
 -- What operators make of their operands, and what they break.
-use Rattle.std.specs.Prelude.{◌≡◌, ◌∷◌, [], List, Bool, cond, not, Option, Some}
+use Rattle.std.specs.Prelude.{◌≡◌, ◌∷◌, [], Bool, cond, not, Option, Some}
 use Rattle.bt_ast.specs.declared.expr.Builtin.{Builtin}
 use Rattle.bt_ast.specs.declared.expr.Builtin.TheVariants.{Pid, Tid, Uid, Gid, Comm, Cpu, Nsecs, Elapsed}
 use Rattle.bt_core.specs.declared.map.Shape.{Shape}

@@ -1,5 +1,5 @@
 -- Two operands with something between them: inner words, by which the checker's own calls speak of all such constructs at once.
-use Rattle.std.specs.Prelude.{List, [], ◌∷◌, ◌++◌, Option}
+use Rattle.std.specs.Prelude.{List, ◌∷◌, ◌++◌, Option}
 use Rattle.bt_core.specs.declared.map.Shape.{Shape}
 use Rattle.bt_core.specs.declared.place.Place.{Place}
 use Rattle.typed_tree.specs.Parts.{Part, Joined, Both, Either}

@@ -1,5 +1,5 @@
 -- What a read of a map makes.
-use Rattle.std.specs.Prelude.{ℕ, List, map, Option, Some, None}
+use Rattle.std.specs.Prelude.{ℕ, List, Option, Some, None}
 use Rattle.bt_core.specs.declared.map.MapDecl.{MapDecl}
 use Rattle.bt_core.specs.declared.map.MapKind.{MapKind}
 use Rattle.bt_core.specs.declared.map.MapKind.TheVariants.{Ints, Strs, Aggs}

@@ -1,11 +1,11 @@
 -- The rules: what is broken at a mention, by what was known before it.
-use Rattle.std.specs.Prelude.{ℕ, ℤ, pos, nat_lt, nat_le, int_le, Bool, true, false, not, ◌&&◌, ◌||◌, List, [], ◌∷◌, length, Option, Some, None, is_none, if◌then◌else◌}
+use Rattle.std.specs.Prelude.{ℕ, ℤ, pos, nat_lt, nat_le, int_le, Bool, false, not, ◌&&◌, ◌||◌, List, [], ◌∷◌, length, Option, Some, None, is_none, if◌then◌else◌}
 use Rattle.bt_core.specs.declared.limits.TheConstants.{KEY_PARTS, MAPS, STRING_BYTES}
 use Rattle.bt_core.specs.declared.map.MapDecl.{MapDecl}
 use Rattle.bt_core.specs.declared.map.MapKind.{MapKind}
-use Rattle.bt_core.specs.declared.map.MapKind.TheVariants.{Ints, Strs, Aggs}
+use Rattle.bt_core.specs.declared.map.MapKind.TheVariants.{Ints, Aggs}
 use Rattle.bt_core.specs.declared.map.Shape.{Shape}
-use Rattle.bt_core.specs.declared.map.Shape.TheVariants.{Int, Str}
+use Rattle.bt_core.specs.declared.map.Shape.TheVariants.{Str}
 use Rattle.fmt_text.specs.Deciding.{format_pieces}
 use Rattle.tracefs_format.specs.declared.field.Field.{Field}
 use Rattle.typed_tree.specs.Scope.{same_shape, same_shapes, same_kind, is_agg, is_fine_agg, takes, shape_of_field}
@@ -13,7 +13,7 @@ use Rattle.expr_types.specs.declared.fault.Rule.{Rule}
 use Rattle.expr_types.specs.declared.fault.Rule.TheVariants as rule
 use Rattle.expr_types.specs.declared.known.Known.{Known}
 use Rattle.expr_types.specs.Known.{has_name, decl_in, var_in, event_field, shape_in, shapes_in, kind_for}
-use Rattle.expr_types.specs.Mentions.{Sort, Mention, Begins, Names, Uses, Reads, Steps, Sets, Gathers, NeedsShared, Deletes, ReadsVar, SetsVar, Args, ReadsField}
+use Rattle.expr_types.specs.Mentions.{Mention, Begins, Names, Uses, Reads, Steps, Sets, Gathers, NeedsShared, Deletes, ReadsVar, SetsVar, Args, ReadsField}
 use Rattle.expr_types.specs.Mentions.{NeedsWhole, NeedsSame, NeedsShort, NeedsBounds, NeedsTurns, NeedsRows, Prints, Jumps}
 
 -- the first rule whose test holds

@@ -26,11 +26,7 @@ use typed_tree::expr::{AnyExpr, NumExpr};
 ///
 /// The first rule that is broken, with its place, or want of memory.
 #[cycle(expr)]
-pub fn check_expr(
-    alloc: Global,
-    known: &mut Known,
-    expr: &Expr,
-) -> Result<AnyExpr, TypeError>
+pub fn check_expr(alloc: Global, known: &mut Known, expr: &Expr) -> Result<AnyExpr, TypeError>
     ensures { Checks (of_expr expr.now) known.old known.new result }
 {
     check_kind(alloc, known, &expr.kind, expr.place)
@@ -55,12 +51,9 @@ pub fn check_all(
 
 /// A map and its key.
 #[cycle(expr)]
-pub fn check_key(
-    alloc: Global,
-    known: &mut Known,
-    mapped: &MapRef,
-) -> Result<Keyed, TypeError>
-    ensures { MatchResult result (λ keyed. KeyChecked (of_map mapped.now) known.old known.new keyed.map.0 (map made_of keyed.keys)) (λ e. SaysFault (judged (of_map mapped.now).points known.old) e) }
+pub fn check_key(alloc: Global, known: &mut Known, mapped: &MapRef) -> Result<Keyed, TypeError>
+    ensures { MatchResult result (λ keyed. KeyChecked (of_map mapped.now) known.old known.new keyed.map.0 (map made_of keyed.keys))
+        (λ e. SaysFault (judged (of_map mapped.now).points known.old) e) }
 {
     let number = known.name(alloc, &mapped.name)?;
     let keys = check_all(alloc, known, mapped.keys.as_slice())?;
@@ -78,11 +71,7 @@ fn check_map(alloc: Global, known: &mut Known, map: &MapRef) -> Result<AnyExpr, 
 
 /// `++` or `--`, which also stands as a statement.
 #[cycle(expr)]
-pub fn check_step(
-    alloc: Global,
-    known: &mut Known,
-    stepped: &IncDec,
-) -> Result<NumExpr, TypeError>
+pub fn check_step(alloc: Global, known: &mut Known, stepped: &IncDec) -> Result<NumExpr, TypeError>
     ensures { ChecksNumber (of_step stepped.now) known.old known.new result }
 {
     let (plus, prefix) = (stepped.plus, stepped.prefix);
@@ -129,7 +118,8 @@ fn check_second(
     joint: Joint,
     place: Place,
 ) -> Result<AnyExpr, TypeError>
-    ensures { (s : Seen) (before : Known) → Checked s before known.old (made_of left) → Checks (joint_seen joint place s (of_expr right.now)) before known.new result }
+    ensures { (s : Seen) (before : Known) → Checked s before known.old (made_of left) →
+        Checks (joint_seen joint place s (of_expr right.now)) before known.new result }
 {
     let right = check_expr(alloc, known, right)?;
     join(alloc, joint, left, right, place)
@@ -145,7 +135,8 @@ fn check_last(
     yes: AnyExpr,
     place: Place,
 ) -> Result<AnyExpr, TypeError>
-    ensures { (s t : Seen) (before between : Known) → Checked s before between (made_of condition) → Checked t between known.old (made_of yes) → Checks (choose_seen place s t (of_expr no.now)) before known.new result }
+    ensures { (s t : Seen) (before between : Known) → Checked s before between (made_of condition) → Checked t between known.old (made_of yes) →
+        Checks (choose_seen place s t (of_expr no.now)) before known.new result }
 {
     let no = check_expr(alloc, known, no)?;
     choose(alloc, condition, yes, no, place)

@@ -4,7 +4,8 @@ ghost use Rattle.std.specs.List.{list_any};
 ghost use Rattle.std.specs.Option.{option_copied};
 ghost use Rattle.fmt_text.specs.Deciding.{format_pieces};
 ghost use Rattle.typed_tree.specs.Scope.{is_fine_decl};
-ghost use Rattle.expr_types.specs.Known.{has_name, place_of, decl_in, var_in, event_field, add_name, add_number, with_name, with_mention, with_decl, with_var, add_call, call_at, with_call, begun};
+ghost use Rattle.expr_types.specs.Known.{has_name, place_of, decl_in, var_in, event_field, add_name, add_number, with_name, with_mention};
+ghost use Rattle.expr_types.specs.Known.{with_decl, with_var, add_call, call_at, with_call, begun};
 ghost use Rattle.expr_types.specs.Typing.{IsNamed};
 
 use crate::printed::Calls;
@@ -196,12 +197,7 @@ impl Known {
     }
 
     /// Adds a variable, where there is none of this name.
-    pub fn set(
-        &mut self,
-        alloc: Global,
-        name: &Items<u8>,
-        shape: Shape,
-    ) -> Result<(), Memory>
+    pub fn set(&mut self, alloc: Global, name: &Items<u8>, shape: Shape) -> Result<(), Memory>
         ensures { OnOk result (self.new ≡ with_var self.old (record { name = name.now; shape = shape })) }
     {
         if self.var(name.as_slice()).is_none() {

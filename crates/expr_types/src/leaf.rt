@@ -69,12 +69,7 @@ pub fn builtin(builtin: Builtin) -> AnyExpr
 }
 
 /// An operator before a whole number.
-pub fn unary(
-    alloc: Global,
-    op: UnOp,
-    value: AnyExpr,
-    place: Place,
-) -> Result<AnyExpr, TypeError>
+pub fn unary(alloc: Global, op: UnOp, value: AnyExpr, place: Place) -> Result<AnyExpr, TypeError>
     ensures refuses { Refuses (whole_breaks (made_of value).shape) place result }
     ensures made { IfOk result (λ e. made_of e ≡ made Int (Prefixed op ∷ (made_of value).parts)) }
 {
@@ -218,7 +213,8 @@ pub fn choose(
     place: Place,
 ) -> Result<AnyExpr, TypeError>
     ensures refuses { Refuses (choose_breaks (made_of condition).shape (made_of yes).shape (made_of no).shape) place result }
-    ensures made { IfOk result (λ e. made_of e ≡ made (made_of yes).shape (Chosen ∷ ((made_of condition).parts ++ ((made_of yes).parts ++ (made_of no).parts)))) }
+    ensures made { IfOk result (λ e. made_of e
+        ≡ made (made_of yes).shape (Chosen ∷ ((made_of condition).parts ++ ((made_of yes).parts ++ (made_of no).parts)))) }
 {
     match condition {
         AnyExpr::Str(_) => Err(wrong_type(place)),

@@ -69,12 +69,7 @@ impl Calls {
     }
 
     /// The number of the call whose format is this and stands at this place.
-    pub fn find(
-        &self,
-        alloc: Global,
-        format: &[u8],
-        place: Place,
-    ) -> Result<Option<usize>, Memory>
+    pub fn find(&self, alloc: Global, format: &[u8], place: Place) -> Result<Option<usize>, Memory>
         ensures { IfOk result (λ found. MatchOption found (has_call format.now place self.now ≡ false)
             (λ i. (has_call format.now place self.now ≡ true) × (i ≡ call_at format.now place self.now))) }
     {

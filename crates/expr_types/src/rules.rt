@@ -158,12 +158,7 @@ pub fn read_breaks(known: &Known, name: &[u8], shapes: &[Shape]) -> Option<Rule>
 }
 
 /// The first rule that a mention breaks which decides this kind.
-pub fn write_breaks(
-    known: &Known,
-    name: &[u8],
-    kind: MapKind,
-    shapes: &[Shape],
-) -> Option<Rule>
+pub fn write_breaks(known: &Known, name: &[u8], kind: MapKind, shapes: &[Shape]) -> Option<Rule>
     ensures { result ≡ write_breaks known.now name.now kind shapes.now }
 {
     if is_one_too_many(known, name) {

@@ -1,24 +1,22 @@
-use Rattle.std.proofs.Common.{◌≡◌, ◌+◌, ◌++◌, ◌∷◌, [], List, map, take, true, false, refl, sym, ap, subst, ◌∙◌, Result, Err}
+use Rattle.std.proofs.Common.{◌≡◌, ◌+◌, List, map, take, sym, ap, subst, Result, Err}
 use Rattle.std.proofs.lemmas.Result.{err_from_is_err_and}
 use Rattle.bt_ast.specs.declared.expr.Expr.{Expr}
-use Rattle.bt_ast.specs.declared.expr.IncDec.{IncDec, out-IncDec}
+use Rattle.bt_ast.specs.declared.expr.IncDec.{out-IncDec}
 use Rattle.bt_ast.specs.declared.expr.MapRef.{out-MapRef}
-use Rattle.bt_ast.specs.declared.expr.Target.{Target}
-use Rattle.bt_core.specs.declared.map.Shape.TheVariants.{Int}
 use Rattle.typed_tree.specs.declared.expr.AnyExpr.{AnyExpr}
 use Rattle.typed_tree.specs.declared.expr.NumExpr.{NumExpr}
-use Rattle.typed_tree.specs.Parts.{Made, made, made_of, num_parts, key_shapes, Both, Either}
+use Rattle.typed_tree.specs.Parts.{made_of}
 use Rattle.expr_types.specs.declared.fault.TypeError.{TypeError}
 use Rattle.expr_types.specs.declared.known.Known.{Known}
 use Rattle.expr_types.specs.declared.leaf.Joint.TheVariants.{Operator, And, Or}
 use Rattle.expr_types.specs.Joint.{joint_seen}
 use Rattle.expr_types.specs.Judge.{judged, SaysFault}
-use Rattle.expr_types.specs.Walk.{Seen, MapSeen, TargetSeen, OnMap, points_of, of_expr, of_map, of_step, map_read, step_seen, step_points, unary_seen, choose_seen}
+use Rattle.expr_types.specs.Walk.{Seen, MapSeen, OnMap, points_of, of_expr, of_map, map_read, step_seen, unary_seen, choose_seen}
 use Rattle.expr_types.specs.Typing.{AreTyping}
 use Rattle.expr_types.specs.Checked.{Checked, Checks, ChecksNumber, AllChecked, KeyChecked}
 use Rattle.expr_types.proofs.Composing.{front_refused, later_refused, unary_checks, choose_checks}
 use Rattle.expr_types.proofs.Constructs.{joint_checks}
-use Rattle.expr_types.proofs.Keys.{key_checked, key_refused}
+use Rattle.expr_types.proofs.Keys.{key_checked}
 use Rattle.expr_types.proofs.Layers.{step_is, unary_is, binary_is, and_is, or_is, choose_is, map_is, step_of_map}
 use Rattle.expr_types.proofs.Reading.{read_checks, step_checks}
 use Rattle.expr_types.proofs.Several.{left_refused, next_left, next_typing, next_grows}

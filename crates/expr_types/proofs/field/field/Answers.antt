@@ -1,5 +1,5 @@
-use Rattle.std.proofs.Common.{◌≡◌, ◌∷◌, [], ℕ, List, Some, ap, sym, subst, ◌∙◌}
-use Rattle.typed_tree.specs.Parts.{Made, made_of}
+use Rattle.std.proofs.Common.{◌≡◌, ◌∷◌, [], Some, ap, sym, subst, ◌∙◌}
+use Rattle.typed_tree.specs.Parts.{Made}
 use Rattle.expr_types.specs.Known.{event_field}
 use Rattle.expr_types.specs.Mentions.{ReadsField, Args, OfField, FieldWord}
 use Rattle.expr_types.specs.Walk.{at, seen}

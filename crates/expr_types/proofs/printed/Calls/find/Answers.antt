@@ -1,4 +1,4 @@
-use Rattle.std.proofs.Common.{◌≡◌, ◌&&◌, ◌==◌, refl}
+use Rattle.std.proofs.Common.{◌&&◌, ◌==◌}
 use Rattle.std.specs.Str.{bytes_eq}
 use Rattle.expr_types.specs.declared.printed.CallKey.{CallKey}
 use Rattle.expr_types.proofs.Calling.{key_is, call_found}

@@ -1,4 +1,4 @@
-use Rattle.std.proofs.Common.{◌≡◌, ◌&&◌, ◌==◌, ℕ, List, refl, sym, ap, ◌∙◌}
+use Rattle.std.proofs.Common.{◌≡◌, ◌&&◌, ◌==◌, ℕ, ap, ◌∙◌}
 use Rattle.std.specs.Str.{bytes_eq}
 use Rattle.bt_core.specs.declared.place.Place.{Place}
 use Rattle.expr_types.specs.declared.printed.CallKey.{CallKey}
