@@ -35,7 +35,7 @@ use Rattle.bt_walk.specs.Walked.{IsServed, Fits, HoldsUnder, scene_in, scope_in}
 use Rattle.bt_walk.proofs.Declared.{Found, shared, valued, get_can, set_can}
 use Rattle.bt_walk.proofs.Gathers.{HasShape-more}
 
-Admits-bind : {A B : Type 0} (setting : Setting) (holds : A → Type 0) (after : B → Type 0) (t : Interaction A) (k : A → Interaction B) → Admits setting holds t → ((a : A) → holds a → Admits setting after (k a)) → Admits setting after (and_then t k)
+pub Admits-bind : {A B : Type 0} (setting : Setting) (holds : A → Type 0) (after : B → Type 0) (t : Interaction A) (k : A → Interaction B) → Admits setting holds t → ((a : A) → holds a → Admits setting after (k a)) → Admits setting after (and_then t k)
 Admits-bind setting holds after (Ended a) k p q = q a p
 Admits-bind setting holds after (Asks call next) k p q = (p.0, λ reply kind. Admits-bind setting holds after (next reply) k (p.1 reply kind) q)
 
@@ -117,8 +117,8 @@ module _ (v : View) (setting : Setting) (served : IsServed v setting) where
   gathered-good (k ∷ ks) hs vs p fit =
       let parts = split (made_of k.0).parts (parts_in (map made_of (firsts ks))) fit in
       bind-good setting (scene_in v) (IsOfShape (made_of k.0).shape) (HasShape (hs ++ (made_of k.0).shape ∷ key_shapes (map made_of (firsts ks)))) (value_does k.0) (λ value. gathered (vs ++ value ∷ []) (map value_does (firsts ks))) (k.1 parts.0)
-          (λ value shaped. subst (λ (l : List Shape). Does_good (HasShape l) (gathered (vs ++ value ∷ []) (map value_does (firsts ks)))) (append_assoc hs ((made_of k.0).shape ∷ []) (key_shapes (map made_of (firsts ks))))
-              (gathered-good ks (hs ++ (made_of k.0).shape ∷ []) (vs ++ value ∷ []) (HasShape-more hs vs (made_of k.0).shape value p shaped) parts.1))
+      (λ value shaped. subst (λ (l : List Shape). Does_good (HasShape l) (gathered (vs ++ value ∷ []) (map value_does (firsts ks)))) (append_assoc hs ((made_of k.0).shape ∷ []) (key_shapes (map made_of (firsts ks))))
+      (gathered-good ks (hs ++ (made_of k.0).shape ∷ []) (vs ++ value ∷ []) (HasShape-more hs vs (made_of k.0).shape value p shaped) parts.1))
 
   pub values-good : (ks : List ManyAny) → Fits v (parts_in (map made_of (firsts ks))) → Does_good (HasShape (key_shapes (map made_of (firsts ks)))) (in_order (map value_does (firsts ks)))
   values-good ks fit = gathered-good ks [] [] tt fit
@@ -134,7 +134,7 @@ module _ (v : View) (setting : Setting) (served : IsServed v setting) where
   map_fits : (m : MapId) (ks : List ManyAny) (h : Shape) → Fits v (keyed_parts m.0 (map made_of (firsts ks)) h) → Declares m ks h × Fits v (parts_in (map made_of (firsts ks)))
   map_fits m ks h fit = let p = and_parts (is_declared (decl_of m.0 v.body.now.maps) (kind_of_shape h) (key_shapes (map made_of (firsts ks)))) (all_fit (scope_in v) (parts_in (map made_of (firsts ks)))) fit in (p.0, p.1)
 
-  then-given : {A B : Type 0} (d : Does A) (f : A → B) → Does_good Free d → Does_good {A = B} Free (bind d (λ a. given (f a)))
+  pub then-given : {A B : Type 0} (d : Does A) (f : A → B) → Does_good Free d → Does_good {A = B} Free (bind d (λ a. given (f a)))
   then-given {A} {B} d f p = bind-good setting (scene_in v) Free Free d (λ a. given (f a)) p (λ a h. given-good setting (scene_in v) Free (f a) tt)
 
   two-given : {A B C : Type 0} (d : Does A) (e : Does B) (f : A → B → C) → Does_good Free d → Does_good Free e → Does_good {A = C} Free (bind d (λ a. bind e (λ b. given (f a b))))
@@ -144,7 +144,7 @@ module _ (v : View) (setting : Setting) (served : IsServed v setting) where
   step-good m ks plus prefix d key shaped =
       let found = valued v setting m _ shapes.Int served d in
       bind-good setting (scene_in v) Free Free (get m key) _ (get-good setting (scene_in v) m key (get_can setting m _ shapes.Int key found shaped))
-          (λ old h. then-given (set m key _) (λ u. _) (told-good setting (scene_in v) _ _ (set_can setting m _ shapes.Int key (Int _) found shaped tt)))
+      (λ old h. then-given (set m key _) (λ u. _) (told-good setting (scene_in v) _ _ (set_can setting m _ shapes.Int key (Int _) found shaped tt)))
 
   abbrev num_of : NumExpr-F ManyAny ManyNum ManyStr → NumExpr-F AnyExpr NumExpr StrExpr
   num_of h = map-NumExpr ManyAny ManyNum ManyStr AnyExpr NumExpr StrExpr (λ k. k.0) (λ k. k.0) (λ k. k.0) h
