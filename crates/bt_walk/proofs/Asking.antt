@@ -1,21 +1,18 @@
 -- What is asked by words, and by expressions.
-use Rattle.std.proofs.Common.{◌≡◌, ◌++◌, ℕ, ℤ, pos, List, [], ◌∷◌, Bool, true, false, map, refl, sym, ap, ◌∙◌, subst, append_assoc, append-nil}
-use Rattle.std.specs.Prelude.{IsTrue, ◌&&◌}
-use Rattle.std.specs.List.{list_all}
+use Rattle.std.proofs.Common.{◌≡◌, ◌++◌, ℕ, ℤ, List, [], ◌∷◌, Bool, true, false, map, sym, ◌∙◌, subst, append_assoc, append-nil}
+use Rattle.std.specs.Prelude.{IsTrue}
 use Rattle.std.proofs.lemmas.Bool.{and_parts}
 use Rattle.std.proofs.lemmas.List.Folds.{list_all-append}
 use Rattle.bt_core.specs.declared.map.MapId.{MapId}
-use Rattle.bt_core.specs.declared.map.MapKind.{MapKind}
 use Rattle.bt_core.specs.declared.map.Shape.{Shape}
 use Rattle.bt_core.specs.declared.map.Shape.TheVariants as shapes
 use Rattle.bt_core.specs.declared.step.ObjectId.{ObjectId}
 use Rattle.bt_core.specs.declared.step.Op.{Op}
-use Rattle.bt_core.specs.declared.step.Op.TheVariants.{Get, Set, Delete}
-use Rattle.bt_core.specs.declared.step.Reply.{Reply}
+use Rattle.bt_core.specs.declared.step.Op.TheVariants.{Get}
 use Rattle.bt_core.specs.declared.value.Value.{Value}
 use Rattle.bt_core.specs.declared.value.Value.TheVariants.{Int, Str}
-use Rattle.bt_core.specs.Interaction.{Interaction, Ended, Asks, and_then, ask}
-use Rattle.bt_core.specs.Kinds.{HasShape, IsOfShape, IsShared}
+use Rattle.bt_core.specs.Interaction.{Interaction, Ended, Asks, and_then}
+use Rattle.bt_core.specs.Kinds.{HasShape, IsOfShape}
 use Rattle.bt_core.specs.Ports.{Setting, CanStep, IsReplyOf}
 use Rattle.typed_tree.specs.declared.expr.AnyExpr.{AnyExpr, roll-AnyExpr, map-AnyExpr, fold-roll-AnyExpr}
 use Rattle.typed_tree.specs.declared.expr.AnyExpr.TheOpen.{NumExpr-F, StrExpr-F, AnyExpr-F}
@@ -29,10 +26,10 @@ use Rattle.bt_walk.specs.declared.flow.Frame.{Frame}
 use Rattle.bt_walk.specs.declared.view.View.{View}
 use Rattle.bt_walk.specs.Admits.{Admits}
 use Rattle.bt_walk.specs.Does.{Scene, Does, given, seen, changed, asked, bind, choose, told, gathered, in_order, either}
-use Rattle.bt_walk.specs.Exprs.{read, any_layer, num_layer, str_layer, value_does, number_does, text_does, values_do, step_at}
+use Rattle.bt_walk.specs.Exprs.{read, any_layer, num_layer, str_layer, value_does, number_does, text_does, step_at}
 use Rattle.bt_walk.specs.Maps.{part, get, set}
-use Rattle.bt_walk.specs.Walked.{IsServed, Fits, HoldsUnder, scene_in, scope_in}
-use Rattle.bt_walk.proofs.Declared.{Found, shared, valued, get_can, set_can}
+use Rattle.bt_walk.specs.Walked.{IsServed, Fits, scene_in, scope_in}
+use Rattle.bt_walk.proofs.Declared.{valued, get_can, set_can}
 use Rattle.bt_walk.proofs.Gathers.{HasShape-more}
 
 pub Admits-bind : {A B : Type 0} (setting : Setting) (holds : A → Type 0) (after : B → Type 0) (t : Interaction A) (k : A → Interaction B) → Admits setting holds t → ((a : A) → holds a → Admits setting after (k a)) → Admits setting after (and_then t k)

@@ -1,6 +1,6 @@
 -- What is asked by statements, and by whole bodies.
-use Rattle.std.proofs.Common.{◌≡◌, ◌++◌, ◌+◌, ◌<◌, ℕ, zero, suc, ℤ, pos, List, [], ◌∷◌, Option, Some, None, Bool, true, false, map, refl, sym, ap, ◌∙◌, subst, arith}
-use Rattle.std.specs.Prelude.{IsTrue, ◌&&◌, IsSomeAnd, slice_get, is_none}
+use Rattle.std.proofs.Common.{◌≡◌, ◌++◌, ◌+◌, ◌<◌, ℕ, zero, suc, ℤ, pos, List, [], ◌∷◌, Option, Some, None, Bool, true, false, map, refl, sym, ap, subst, arith}
+use Rattle.std.specs.Prelude.{IsTrue, IsSomeAnd, slice_get, is_none}
 use Rattle.std.proofs.lemmas.Bool.{and_parts}
 use Rattle.bt_core.specs.declared.context.Context.{Context}
 use Rattle.bt_core.specs.declared.map.MapDecl.{MapDecl}
@@ -22,7 +22,7 @@ use Rattle.typed_tree.specs.declared.expr.AnyExpr.{AnyExpr}
 use Rattle.typed_tree.specs.declared.expr.NumExpr.{NumExpr}
 use Rattle.typed_tree.specs.declared.stmt.Jump.TheVariants as jumps
 use Rattle.typed_tree.specs.declared.stmt.TypedBlock.{TypedBlock, roll-TypedBlock, map-TypedBlock, fold-roll-TypedBlock, ind-TypedBlock}
-use Rattle.typed_tree.specs.declared.stmt.TypedStmt.{TypedStmt, roll-TypedStmt, map-TypedStmt, fold-roll-TypedStmt, ind-TypedStmt}
+use Rattle.typed_tree.specs.declared.stmt.TypedStmt.{TypedStmt, roll-TypedStmt, map-TypedStmt, fold-roll-TypedStmt}
 use Rattle.typed_tree.specs.declared.stmt.TypedStmt.TheOpen.{TypedStmt-F, TypedBlock-F}
 use Rattle.typed_tree.specs.declared.stmt.TypedStmt.TheShapes.{former-TypedStmt-If-0-at-2}
 use Rattle.typed_tree.specs.Parts as tree
@@ -37,12 +37,12 @@ use Rattle.bt_walk.specs.declared.sweep.Sweep.{Sweep}
 use Rattle.bt_walk.specs.declared.sweep.Sweep.TheVariants.{Read, Clear, Zero}
 use Rattle.bt_walk.specs.declared.view.View.{View}
 use Rattle.bt_walk.specs.Admits.{Admits}
-use Rattle.bt_walk.specs.Does.{Scene, Does, given, seen, changed, asked, bind, told, in_order, either}
+use Rattle.bt_walk.specs.Does.{Scene, Does, given, seen, changed, asked, bind, told, in_order}
 use Rattle.bt_walk.specs.Exprs.{value_does, values_do, number_does}
 use Rattle.bt_walk.specs.Maps.{part, get, kind_of, holder, holders, sweep_op, asked_from, swept}
-use Rattle.bt_walk.specs.Stmts.{stmt_layer, block_layer, stmt_does, block_does, update_at, number_or_one, kind_seen, print, clear, zero_all, if_next, in_turn, first_arm, block_or_next, arm_does, cut, entered, turn, turns, tests, while_true, again}
+use Rattle.bt_walk.specs.Stmts.{stmt_layer, block_layer, stmt_does, block_does, number_or_one, kind_seen, print, clear, zero_all, if_next, in_turn, first_arm, arm_does, cut, entered, turn, turns, tests, while_true, again}
 use Rattle.bt_walk.specs.Walk.{walk, fresh, guarded, ending_of, tree_does}
-use Rattle.bt_walk.specs.Walked.{CanWalk, IsServed, CanSweep, Fits, NamesShared, scene_in, scope_in}
+use Rattle.bt_walk.specs.Walked.{CanWalk, IsServed, CanSweep, Fits, scene_in, scope_in}
 use Rattle.bt_walk.proofs.Asking.{Admits-bind, Good, given-good, seen-good, changed-good, bind-good, asked-good, told-good, either-good, get-good, values-good, AnyGood, any_good, num_good, split, then-given}
 use Rattle.bt_walk.proofs.Declared.{shared, valued, gathering, get_can, set_can, delete_can, add_can, sweep_can}
 use Rattle.bt_walk.proofs.TreeParts.{set_head, update_head, gather_head, delete_head}
