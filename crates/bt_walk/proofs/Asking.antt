@@ -1,21 +1,18 @@
 -- What is asked by words, and by expressions.
-use Rattle.std.proofs.Common.{◌≡◌, ◌++◌, ℕ, ℤ, pos, List, [], ◌∷◌, Bool, true, false, map, refl, sym, ap, ◌∙◌, subst, append_assoc, append-nil}
-use Rattle.std.specs.Prelude.{IsTrue, ◌&&◌}
-use Rattle.std.specs.List.{list_all}
+use Rattle.std.proofs.Common.{◌≡◌, ◌++◌, ℕ, ℤ, List, [], ◌∷◌, Bool, true, false, map, sym, ◌∙◌, subst, append_assoc, append-nil}
+use Rattle.std.specs.Prelude.{IsTrue}
 use Rattle.std.proofs.lemmas.Bool.{and_parts}
 use Rattle.std.proofs.lemmas.List.Folds.{list_all-append}
 use Rattle.bt_core.specs.declared.map.MapId.{MapId}
-use Rattle.bt_core.specs.declared.map.MapKind.{MapKind}
 use Rattle.bt_core.specs.declared.map.Shape.{Shape}
 use Rattle.bt_core.specs.declared.map.Shape.TheVariants as shapes
 use Rattle.bt_core.specs.declared.step.ObjectId.{ObjectId}
 use Rattle.bt_core.specs.declared.step.Op.{Op}
-use Rattle.bt_core.specs.declared.step.Op.TheVariants.{Get, Set, Delete}
-use Rattle.bt_core.specs.declared.step.Reply.{Reply}
+use Rattle.bt_core.specs.declared.step.Op.TheVariants.{Get}
 use Rattle.bt_core.specs.declared.value.Value.{Value}
 use Rattle.bt_core.specs.declared.value.Value.TheVariants.{Int, Str}
-use Rattle.bt_core.specs.Interaction.{Interaction, Ended, Asks, and_then, ask}
-use Rattle.bt_core.specs.Kinds.{HasShape, IsOfShape, IsShared}
+use Rattle.bt_core.specs.Interaction.{Interaction, Ended, Asks, and_then}
+use Rattle.bt_core.specs.Kinds.{HasShape, IsOfShape}
 use Rattle.bt_core.specs.Ports.{Setting, CanStep, IsReplyOf}
 use Rattle.typed_tree.specs.declared.expr.AnyExpr.{AnyExpr, roll-AnyExpr, map-AnyExpr, fold-roll-AnyExpr}
 use Rattle.typed_tree.specs.declared.expr.AnyExpr.TheOpen.{NumExpr-F, StrExpr-F, AnyExpr-F}
@@ -29,13 +26,13 @@ use Rattle.bt_walk.specs.declared.flow.Frame.{Frame}
 use Rattle.bt_walk.specs.declared.view.View.{View}
 use Rattle.bt_walk.specs.Admits.{Admits}
 use Rattle.bt_walk.specs.Does.{Scene, Does, given, seen, changed, asked, bind, choose, told, gathered, in_order, either}
-use Rattle.bt_walk.specs.Exprs.{read, any_layer, num_layer, str_layer, value_does, number_does, text_does, values_do, step_at}
+use Rattle.bt_walk.specs.Exprs.{read, any_layer, num_layer, str_layer, value_does, number_does, text_does, step_at}
 use Rattle.bt_walk.specs.Maps.{part, get, set}
-use Rattle.bt_walk.specs.Walked.{IsServed, Fits, HoldsUnder, scene_in, scope_in}
-use Rattle.bt_walk.proofs.Declared.{Found, shared, valued, get_can, set_can}
+use Rattle.bt_walk.specs.Walked.{IsServed, Fits, scene_in, scope_in}
+use Rattle.bt_walk.proofs.Declared.{valued, get_can, set_can}
 use Rattle.bt_walk.proofs.Gathers.{HasShape-more}
 
-Admits-bind : {A B : Type 0} (setting : Setting) (holds : A → Type 0) (after : B → Type 0) (t : Interaction A) (k : A → Interaction B) → Admits setting holds t → ((a : A) → holds a → Admits setting after (k a)) → Admits setting after (and_then t k)
+pub Admits-bind : {A B : Type 0} (setting : Setting) (holds : A → Type 0) (after : B → Type 0) (t : Interaction A) (k : A → Interaction B) → Admits setting holds t → ((a : A) → holds a → Admits setting after (k a)) → Admits setting after (and_then t k)
 Admits-bind setting holds after (Ended a) k p q = q a p
 Admits-bind setting holds after (Asks call next) k p q = (p.0, λ reply kind. Admits-bind setting holds after (next reply) k (p.1 reply kind) q)
 
@@ -134,7 +131,7 @@ module _ (v : View) (setting : Setting) (served : IsServed v setting) where
   map_fits : (m : MapId) (ks : List ManyAny) (h : Shape) → Fits v (keyed_parts m.0 (map made_of (firsts ks)) h) → Declares m ks h × Fits v (parts_in (map made_of (firsts ks)))
   map_fits m ks h fit = let p = and_parts (is_declared (decl_of m.0 v.body.now.maps) (kind_of_shape h) (key_shapes (map made_of (firsts ks)))) (all_fit (scope_in v) (parts_in (map made_of (firsts ks)))) fit in (p.0, p.1)
 
-  then-given : {A B : Type 0} (d : Does A) (f : A → B) → Does_good Free d → Does_good {A = B} Free (bind d (λ a. given (f a)))
+  pub then-given : {A B : Type 0} (d : Does A) (f : A → B) → Does_good Free d → Does_good {A = B} Free (bind d (λ a. given (f a)))
   then-given {A} {B} d f p = bind-good setting (scene_in v) Free Free d (λ a. given (f a)) p (λ a h. given-good setting (scene_in v) Free (f a) tt)
 
   two-given : {A B C : Type 0} (d : Does A) (e : Does B) (f : A → B → C) → Does_good Free d → Does_good Free e → Does_good {A = C} Free (bind d (λ a. bind e (λ b. given (f a b))))

@@ -1,6 +1,5 @@
 -- What was performed of a whole body.
-use Rattle.std.proofs.Common.{◌≡◌, ◌∙◌, ◌++◌, ℕ, List, true, false, refl, sym, ap, subst}
-use Rattle.std.specs.Prelude.{IsTrue, ◌&&◌}
+use Rattle.std.proofs.Common.{◌≡◌, ◌∙◌, ℕ, List, true, false, refl, sym, subst}
 use Rattle.std.proofs.lemmas.Bool.{and_parts}
 use Rattle.std.proofs.lemmas.List.Folds.{list_all-append}
 use Rattle.bt_core.specs.declared.context.Context.{Context}
@@ -8,7 +7,7 @@ use Rattle.bt_core.specs.declared.step.Step.{Step}
 use Rattle.bt_core.specs.Interaction.{Whole, Part as Begun}
 use Rattle.bt_core.proofs.InteractionLaws.{Whole-and_then, Part-and_then, Whole-Ended}
 use Rattle.typed_tree.specs.declared.body.TypedBody.{TypedBody}
-use Rattle.typed_tree.specs.Bodies.{predicate_parts, tree_parts, scope_of}
+use Rattle.typed_tree.specs.Bodies.{predicate_parts, scope_of}
 use Rattle.typed_tree.specs.Parts.{block_parts}
 use Rattle.typed_tree.specs.Scope.{Scope, fits, all_fit}
 use Rattle.bt_walk.specs.declared.ending.Ending.{Ending}

@@ -1,6 +1,6 @@
 -- What the parts of a tree that fit say of the maps that a port serves, and of the payload.
-use Rattle.std.proofs.Common.{◌≡◌, ℕ, suc, ◌+◌, ◌≤◌, ◌<◌, max, List, [], ◌∷◌, map, length, Option, Some, None, Bool, true, false, refl, sym, ap, ◌∙◌, subst, arith, rules, inl, inr, ◌⊎◌}
-use Rattle.std.specs.Prelude.{ℤ, ◌==◌, ◌&&◌, ◌||◌, if◌then◌else◌, IsTrue, All, IsSomeAnd, slice_get, nat_le}
+use Rattle.std.proofs.Common.{◌≡◌, ℕ, suc, ◌≤◌, ◌<◌, List, [], ◌∷◌, length, Option, Some, None, Bool, true, false, refl, sym, ap, ◌∙◌, subst, arith, inl, inr}
+use Rattle.std.specs.Prelude.{ℤ, ◌==◌, ◌&&◌, if◌then◌else◌, IsTrue, All, IsSomeAnd, slice_get, nat_le}
 use Rattle.std.specs.List.{list_all, list_any}
 use Rattle.std.proofs.lemmas.Bool.{and_parts, or_cases, eqb-true, leb-true}
 use Rattle.bt_core.specs.declared.limits.TheConstants.{KEY_PARTS, PARTS}
@@ -22,7 +22,7 @@ use Rattle.tracefs_format.specs.declared.field.Field.{Field}
 use Rattle.tracefs_format.specs.declared.layout.Layout.{Layout}
 use Rattle.tracefs_format.specs.Sizes.{end_of, greatest_end}
 use Rattle.typed_tree.specs.Parts.{FieldOf}
-use Rattle.typed_tree.specs.Scope.{decl_of, same_shape, same_shapes, same_kind, same_field, same_field_kind, same_bool, has_field, is_shape, shape_of_field, is_agg, is_shared, is_there, is_declared, is_fine_decl, is_fine_kind, kind_of_shape, fits, Scope}
+use Rattle.typed_tree.specs.Scope.{decl_of, same_shape, same_shapes, same_kind, same_field, same_field_kind, same_bool, has_field, is_shape, shape_of_field, is_agg, is_shared, is_there, is_declared, is_fine_decl, is_fine_kind, kind_of_shape, fits}
 use Rattle.std.specs.Str.{bytes_eq}
 use Rattle.bt_walk.specs.declared.view.View.{View}
 use Rattle.bt_walk.specs.Maps.{part, kind_of, kind_or_numbers}

@@ -1,5 +1,5 @@
 -- Expressions that are evaluated one after another.
-use Rattle.std.proofs.Common.{◌≡◌, ℕ, suc, ◌+◌, ◌<◌, ◌≤◌, ◌++◌, List, [], ◌∷◌, length, take, drop, map, refl, sym, ap, ◌∙◌, subst, arith}
+use Rattle.std.proofs.Common.{◌≡◌, ℕ, ◌+◌, ◌<◌, ◌≤◌, ◌++◌, List, [], ◌∷◌, length, take, drop, map, refl, sym, ap, ◌∙◌, subst}
 use Rattle.std.proofs.lemmas.List.{drop_more, drop_all, take_all, take_more, map-append}
 use Rattle.std.specs.Prelude.{get_or}
 use Rattle.bt_core.specs.declared.map.Shape.{Shape}
@@ -7,11 +7,11 @@ use Rattle.bt_core.specs.declared.step.Step.{Step}
 use Rattle.bt_core.specs.declared.value.Value.{Value}
 use Rattle.bt_core.specs.Interaction.{Interaction, Whole, Part, Left}
 use Rattle.bt_core.specs.Kinds.{HasShape, IsOfShape}
-use Rattle.bt_core.proofs.InteractionLaws.{Left-here, Left-Whole, Left-Part, Left-is, Left-and_then, Performed-none}
+use Rattle.bt_core.proofs.InteractionLaws.{Left-here, Left-Whole, Left-Part, Left-is, Performed-none}
 use Rattle.typed_tree.specs.declared.expr.AnyExpr.{AnyExpr}
 use Rattle.typed_tree.specs.Parts.{Made, made_of, key_shapes}
 use Rattle.bt_walk.specs.declared.flow.Frame.{Frame}
-use Rattle.bt_walk.specs.Does.{Scene, Does, bind, given, gathered, in_order}
+use Rattle.bt_walk.specs.Does.{Scene, bind, gathered, in_order}
 use Rattle.bt_walk.specs.Exprs.{value_does, values_do}
 use Rattle.bt_walk.specs.Walked.{all_made}
 use Rattle.bt_walk.proofs.Binds.{Part-first, Given-done, Left-next}

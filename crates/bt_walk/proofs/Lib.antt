@@ -1,4 +1,5 @@
 pub mod Asking
+pub mod AskingStmts
 pub mod Bodies
 pub mod Binds
 pub mod Declared

@@ -1,5 +1,5 @@
 -- Loops, blocks and arms on their way.
-use Rattle.std.proofs.Common.{◌≡◌, ℕ, zero, suc, ◌+◌, ◌-◌, ◌<◌, ◌≤◌, List, [], ◌∷◌, length, drop, map, Option, Some, None, option_map, Bool, true, false, refl, sym, ap, ◌∙◌, subst, arith, ℤ, Result, Ok, Err}
+use Rattle.std.proofs.Common.{◌≡◌, ℕ, zero, suc, ◌+◌, ◌-◌, ◌<◌, ◌≤◌, List, ◌∷◌, length, drop, map, Some, None, Bool, true, false, refl, sym, ap, ◌∙◌, arith, ℤ, Result, Ok, Err}
 use Rattle.std.proofs.lemmas.List.{drop_more, drop_all}
 use Rattle.std.specs.Prelude.{get_or}
 use Rattle.bt_core.specs.declared.step.Step.{Step}
@@ -12,12 +12,12 @@ use Rattle.typed_tree.specs.declared.stmt.TypedStmt.{TypedStmt}
 use Rattle.bt_walk.specs.declared.flow.Flow.{Flow}
 use Rattle.bt_walk.specs.declared.flow.Flow.TheVariants.{Next, Break, Continue, Stop}
 use Rattle.bt_walk.specs.declared.flow.Frame.{Frame}
-use Rattle.bt_walk.specs.Does.{Scene, Does, given, seen, bind, choose, holds, either}
+use Rattle.bt_walk.specs.Does.{Scene, Does, given, bind, choose, holds, either}
 use Rattle.bt_walk.specs.Exprs.{number_does}
 use Rattle.bt_walk.specs.Flows.{is_next, leaves}
-use Rattle.bt_walk.specs.Stmts.{stmt_does, block_does, if_next, in_turn, first_arm, block_or_next, again, turn, turns, tests, while_true}
+use Rattle.bt_walk.specs.Stmts.{stmt_does, block_does, if_next, in_turn, first_arm, again, turn, turns, tests, while_true}
 use Rattle.bt_walk.specs.Walked.{Walked}
-use Rattle.bt_walk.proofs.Binds.{Part-first, Part-next, Whole-next, Given-done, Seen-done, Left-next}
+use Rattle.bt_walk.proofs.Binds.{Part-first, Given-done, Seen-done, Left-next}
 use Rattle.bt_walk.proofs.StmtDoes.{arm_of}
 
 -- the rest of what is left was performed as far as it went

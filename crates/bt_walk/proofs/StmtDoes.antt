@@ -1,34 +1,28 @@
 -- What a statement of each kind does and which parts it has, by what its blocks do and have.
-use Rattle.std.proofs.Common.{◌≡◌, ◌++◌, ℕ, zero, suc, ◌<◌, length, ℤ, Bool, true, false, List, [], ◌∷◌, Option, Some, None, map, option_map, refl, sym, ap, ◌∙◌, subst, arith, Result}
-use Rattle.std.specs.Prelude.{IsTrue, get_or, ◌&&◌}
-use Rattle.std.specs.List.{list_all}
+use Rattle.std.proofs.Common.{◌≡◌, ◌++◌, ℕ, zero, suc, ◌<◌, length, ℤ, Bool, List, [], ◌∷◌, Option, Some, None, map, option_map, refl, sym, ap, ◌∙◌, subst, arith, Result}
+use Rattle.std.specs.Prelude.{get_or}
 use Rattle.std.proofs.lemmas.Bool.{and_parts}
 use Rattle.std.proofs.lemmas.List.Folds.{list_all-append}
-use Rattle.bt_core.specs.declared.map.AggKind.{AggKind}
 use Rattle.bt_core.specs.declared.map.MapId.{MapId}
 use Rattle.bt_core.specs.declared.memory.Memory.{Memory}
-use Rattle.bt_core.specs.declared.operator.BinOp.{BinOp}
 use Rattle.bt_core.specs.declared.step.Step.{Step}
-use Rattle.bt_core.specs.Interaction.{Whole, Part as Begun}
-use Rattle.typed_tree.specs.declared.expr.AnyExpr.{AnyExpr}
 use Rattle.typed_tree.specs.declared.expr.NumExpr.{NumExpr}
-use Rattle.typed_tree.specs.declared.stmt.Jump.{Jump}
 use Rattle.typed_tree.specs.declared.stmt.TypedBlock.{TypedBlock, fold_out-TypedBlock, out-TypedBlock}
 use Rattle.typed_tree.specs.declared.stmt.TypedStmt.{TypedStmt, fold-roll-TypedStmt}
 use Rattle.typed_tree.specs.declared.stmt.TypedStmt.TheVariants as stmts
-use Rattle.typed_tree.specs.declared.stmt.TypedStmt.TheOpen.{TypedStmt-F, TypedBlock-F}
+use Rattle.typed_tree.specs.declared.stmt.TypedStmt.TheOpen.{TypedStmt-F}
 use Rattle.typed_tree.specs.declared.stmt.TypedStmt.TheShapes.{former-TypedStmt-If-0-at-2}
 use Rattle.typed_tree.specs.Parts as tree
 use Rattle.typed_tree.specs.Parts.{Part, made_of, num_parts, parts_in, stmt_parts, block_parts, set_var_parts, set_map_parts, update_var_parts, update_map_parts, gather_parts, printf_parts, delete_parts, Shown, Cleared, Zeroed, Looped, Unrolled, Ending, arm_parts, otherwise_parts, option_inside, joined}
-use Rattle.typed_tree.specs.Scope.{fits, all_fit, decl_of, is_there}
+use Rattle.typed_tree.specs.Scope.{fits, all_fit}
 use Rattle.bt_walk.specs.declared.flow.Flow.{Flow}
 use Rattle.bt_walk.specs.declared.flow.Flow.TheVariants.{Next}
 use Rattle.bt_walk.specs.declared.flow.Frame.{Frame}
 use Rattle.bt_walk.specs.declared.view.View.{View}
 use Rattle.bt_walk.specs.Does.{Scene, Does, given}
-use Rattle.bt_walk.specs.Exprs.{value_does, values_do, number_does}
-use Rattle.bt_walk.specs.Stmts.{stmt_layer, block_layer, stmt_does, block_does, set_variable, set_map, update_variable, update_map, gather, number_or_one, plain, printf, print, clear, zero_all, delete_at, jump_to, first_arm, block_or_next, while_true, turns, in_turn, arm_does}
-use Rattle.bt_walk.specs.Walked.{Walked, Fits, StmtFits, BlockFits, all_made, scope_in}
+use Rattle.bt_walk.specs.Exprs.{number_does}
+use Rattle.bt_walk.specs.Stmts.{stmt_layer, block_layer, stmt_does, block_does, print, first_arm, block_or_next, in_turn, arm_does}
+use Rattle.bt_walk.specs.Walked.{Walked, Fits, StmtFits, BlockFits, scope_in}
 
 pub Walked-stmt : (s : TypedStmt) (d : Does Flow) (scene : Scene) (frame : Frame) (a b : List Step) (r : Result Flow Memory) (after : Frame) → stmt_does s ≡ d → Walked d scene frame a b r after → Walked (stmt_does s) scene frame a b r after
 Walked-stmt s d scene frame a b r after h p = subst (λ (x : Does Flow). Walked x scene frame a b r after) (sym h) p

@@ -1,5 +1,5 @@
 -- Objects that are asked one after another.
-use Rattle.std.proofs.Common.{◌≡◌, ℕ, suc, ◌+◌, ◌-◌, ◌<◌, ◌≤◌, ◌++◌, List, [], ◌∷◌, map, Option, Some, None, refl, sym, ap, ◌∙◌, subst, arith}
+use Rattle.std.proofs.Common.{◌≡◌, ℕ, suc, ◌+◌, ◌-◌, ◌<◌, ◌≤◌, ◌++◌, List, [], ◌∷◌, Option, Some, None, refl, ap, subst, arith}
 use Rattle.std.specs.Prelude.{All, IsSomeAnd, slice_get, get_or}
 use Rattle.std.proofs.lemmas.List.Elements.{All-push}
 use Rattle.bt_core.specs.declared.agg.Agg.{Agg}
@@ -7,7 +7,6 @@ use Rattle.bt_core.specs.declared.map.MapDecl.{MapDecl}
 use Rattle.bt_core.specs.declared.map.MapId.{MapId}
 use Rattle.bt_core.specs.declared.map.MapKind.{MapKind}
 use Rattle.bt_core.specs.declared.map.MapKind.TheVariants.{Ints, Strs, Aggs}
-use Rattle.bt_core.specs.declared.map.Shape.{Shape}
 use Rattle.bt_core.specs.declared.step.ObjectId.{ObjectId}
 use Rattle.bt_core.specs.declared.step.Op.{Op}
 use Rattle.bt_core.specs.declared.step.Op.TheVariants as ops
@@ -22,8 +21,8 @@ use Rattle.bt_core.proofs.InteractionLaws.{Left-here, Left-Whole, Left-Part, Lef
 use Rattle.map_printer.specs.Merged.{HasRowsOf}
 use Rattle.bt_walk.specs.declared.flow.Frame.{Frame}
 use Rattle.bt_walk.specs.declared.sweep.Sweep.{Sweep}
-use Rattle.bt_walk.specs.declared.sweep.Sweep.TheVariants.{Read, Clear, Zero}
-use Rattle.bt_walk.specs.Does.{Scene, Does, bind, asked, given}
+use Rattle.bt_walk.specs.declared.sweep.Sweep.TheVariants.{Read}
+use Rattle.bt_walk.specs.Does.{Scene, bind, asked}
 use Rattle.bt_walk.specs.Maps.{holder, holders, sweep_op, asked_from, swept}
 use Rattle.bt_walk.specs.Walked.{CanSweep}
 use Rattle.bt_walk.proofs.Binds.{Part-next, Whole-next, Given-done, Seen-done, Asked-done, Left-next}

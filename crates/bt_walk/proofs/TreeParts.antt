@@ -1,5 +1,5 @@
 -- What fits of a tree, from the fit of the whole: the parts that name a field, a map or an operator's own.
-use Rattle.std.proofs.Common.{◌≡◌, ◌++◌, ℕ, zero, suc, ◌<◌, ◌≤◌, length, arith, List, [], ◌∷◌, map, Bool, true, sym, ap, ◌∙◌, subst}
+use Rattle.std.proofs.Common.{◌≡◌, ◌++◌, ℕ, zero, suc, ◌<◌, ◌≤◌, length, arith, List, [], ◌∷◌, Bool, true, sym, ap, ◌∙◌, subst}
 use denote.Param.Weighed.{most}
 use Rattle.std.specs.Prelude.{IsTrue, ◌&&◌, get_or, is_none, Option}
 use Rattle.std.specs.List.{list_all}
@@ -12,7 +12,7 @@ use Rattle.bt_core.specs.declared.operator.BinOp.{BinOp}
 use Rattle.bt_core.specs.declared.map.Shape.TheVariants.{Int, Str}
 use Rattle.tracefs_format.specs.declared.field.Field.{Field}
 use Rattle.typed_tree.specs.declared.expr.AnyExpr.{AnyExpr}
-use Rattle.typed_tree.specs.declared.expr.AnyExpr.TheOpen.{NumExpr-F, StrExpr-F, AnyExpr-F}
+use Rattle.typed_tree.specs.declared.expr.AnyExpr.TheOpen.{NumExpr-F, StrExpr-F}
 use Rattle.typed_tree.specs.declared.expr.NumExpr.{NumExpr, fold-roll-NumExpr}
 use Rattle.typed_tree.specs.declared.expr.NumExpr.TheVariants as nums
 use Rattle.typed_tree.specs.declared.expr.StrExpr.{StrExpr, fold-roll-StrExpr}

@@ -1,5 +1,4 @@
 -- Computations that ask only what can be asked.
-use Rattle.std.specs.Prelude.{◌≡◌}
 use Rattle.bt_core.specs.declared.step.Reply.{Reply}
 use Rattle.bt_core.specs.Interaction.{Interaction, Ended, Asks}
 use Rattle.bt_core.specs.Ports.{Setting, CanStep, IsReplyOf}

@@ -1,5 +1,5 @@
 -- What expressions do.
-use Rattle.std.specs.Prelude.{ℕ, ◌+◌, ◌-◌, ◌%◌, ◌^◌, ℤ, pos, Bool, not, cond, List, [], ◌∷◌, map}
+use Rattle.std.specs.Prelude.{ℕ, ◌+◌, ◌-◌, ◌%◌, ◌^◌, ℤ, pos, Bool, not, cond, List, map}
 use Rattle.std.specs.Int.{w64, cast_signed}
 use Rattle.std.specs.Str.{bytes_eq}
 use Rattle.bt_core.specs.declared.context.Context.{Context}
@@ -17,7 +17,7 @@ use Rattle.typed_tree.specs.declared.expr.NumBuiltin.{NumBuiltin}
 use Rattle.typed_tree.specs.declared.expr.NumBuiltin.TheVariants.{Pid, Tid, Uid, Gid, Cpu, Nsecs, Elapsed}
 use Rattle.typed_tree.specs.declared.expr.NumExpr.{NumExpr, fold-NumExpr}
 use Rattle.typed_tree.specs.declared.expr.StrExpr.{StrExpr, fold-StrExpr}
-use Rattle.bt_walk.specs.Does.{Scene, Does, given, seen, bind, then, holds, either, in_order}
+use Rattle.bt_walk.specs.Does.{Does, given, seen, bind, then, holds, either, in_order}
 use Rattle.bt_walk.specs.Maps.{number_of, text_of, number_variable, text_variable, assigned, get, set, next}
 
 -- the builtins: times are read as the signed numbers of their 64 bits, and `elapsed` counts modulo 2^64

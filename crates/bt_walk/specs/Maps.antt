@@ -4,7 +4,7 @@ use Rattle.bt_core.specs.declared.limits.TheConstants.{PARTS}
 use Rattle.bt_core.specs.declared.map.MapDecl.{MapDecl}
 use Rattle.bt_core.specs.declared.map.MapId.{MapId}
 use Rattle.bt_core.specs.declared.map.MapKind.{MapKind}
-use Rattle.bt_core.specs.declared.map.MapKind.TheVariants.{Ints, Strs, Aggs}
+use Rattle.bt_core.specs.declared.map.MapKind.TheVariants.{Ints, Aggs}
 use Rattle.bt_core.specs.declared.operator.BinOp.TheVariants.{Add as Plus, Sub as Minus}
 use Rattle.bt_core.specs.declared.step.ObjectId.{ObjectId}
 use Rattle.bt_core.specs.declared.step.ObjectId.TheVariants.{Shared, Cpu}
@@ -20,7 +20,7 @@ use Rattle.typed_tree.specs.Scope.{decl_of}
 use Rattle.bt_walk.specs.declared.flow.Frame.{Frame}
 use Rattle.bt_walk.specs.declared.sweep.Sweep.{Sweep}
 use Rattle.bt_walk.specs.declared.sweep.Sweep.TheVariants.{Read, Clear, Zero}
-use Rattle.bt_walk.specs.Does.{Scene, Does, given, seen, changed, asked, bind, told}
+use Rattle.bt_walk.specs.Does.{Does, given, seen, changed, asked, bind, told}
 
 -- the number of a value and its text; a value of the other type is 0 and empty
 abbrev pub number_of : Value → ℤ

@@ -19,9 +19,8 @@ use Rattle.typed_tree.specs.declared.stmt.TypedStmt.TheOpen.{TypedStmt-F, TypedB
 use Rattle.bt_walk.specs.declared.ending.Ending.TheVariants as endings
 use Rattle.bt_walk.specs.declared.flow.Flow.{Flow}
 use Rattle.bt_walk.specs.declared.flow.Flow.TheVariants.{Next, Break, Continue, Stop}
-use Rattle.bt_walk.specs.declared.flow.Frame.{Frame}
 use Rattle.bt_walk.specs.declared.sweep.Sweep.TheVariants.{Read, Clear, Zero}
-use Rattle.bt_walk.specs.Does.{Does, given, seen, changed, bind, choose, then, told, holds, either, in_order}
+use Rattle.bt_walk.specs.Does.{Does, given, seen, changed, bind, then, told, either, in_order}
 use Rattle.bt_walk.specs.Maps.{number_of, number_variable, assigned, get, set, delete, add, kind_of, swept}
 use Rattle.bt_walk.specs.Exprs.{value_does, values_do, number_does}
 

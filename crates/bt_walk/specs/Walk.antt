@@ -15,7 +15,7 @@ use Rattle.bt_walk.specs.declared.ending.Ending.TheVariants.{End}
 use Rattle.bt_walk.specs.declared.flow.Flow.{Flow}
 use Rattle.bt_walk.specs.declared.flow.Flow.TheVariants.{Next, Break, Continue, Stop}
 use Rattle.bt_walk.specs.declared.flow.Frame.{Frame}
-use Rattle.bt_walk.specs.Does.{Scene, Does, given, bind, either}
+use Rattle.bt_walk.specs.Does.{Does, given, bind, either}
 use Rattle.bt_walk.specs.Exprs.{number_does}
 use Rattle.bt_walk.specs.Stmts.{block_does}
 

@@ -5,7 +5,10 @@ ghost use Rattle.bt_core.specs.declared.step.Reply.{Reply};
 ghost use Rattle.bt_core.specs.Interaction.{Call, calls, value_under};
 ghost use Rattle.typed_tree.specs.declared.body.TypedBody.{TypedBody};
 ghost use Rattle.bt_walk.specs.declared.ending.Ending.{Ending};
+ghost use Rattle.bt_core.specs.Ports.{Setting};
+ghost use Rattle.bt_walk.specs.Admits.{Admits};
 ghost use Rattle.bt_walk.specs.Walk.{walk};
+ghost use Rattle.bt_walk.specs.Walked.{CanWalk};
 
 /// Under more replies the calls of a walk begin with those under fewer. Where it has ended under the fewer, it makes the
 /// same calls under the more, and ends in the same way.
@@ -19,4 +22,11 @@ pub fn more_replies_go_on()
     ensures ended { (body : TypedBody) (context : Context) (payload : List ℕ) (actor actors : ℕ) (replies more : List Reply) (ending : Ending) →
         value_under (walk body context payload actor actors) replies ≡ Some ending →
         value_under (walk body context payload actor actors) (replies ++ more) ≡ Some ending }
+{}
+
+/// Under replies of the kinds that its operations have, a walk makes only calls that a port takes that serves the maps of
+/// its body, whose actor walks, and whose tables are those of all actors.
+pub fn only_what_is_served_is_asked()
+    ensures { (setting : Setting) (body : TypedBody) (context : Context) (payload : List ℕ) (actor actors : ℕ) →
+        CanWalk setting body context payload actor actors → Admits setting (λ ending. Unit {0}) (walk body context payload actor actors) }
 {}

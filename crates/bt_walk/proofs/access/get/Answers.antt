@@ -1,6 +1,5 @@
-use Rattle.std.proofs.Common.{subst, ◌∙◌, ap}
+use Rattle.std.proofs.Common.{◌∙◌, ap}
 use Rattle.std.proofs.lemmas.Result.{err_from_is_err_and}
-use Rattle.bt_core.specs.Interaction.{MakesStep}
 use Rattle.bt_walk.specs.Maps.{value_of}
 use Rattle.bt_core.proofs.InteractionLaws.{Performed-none}
 use Rattle.bt_walk.proofs.Binds.{Get-done}

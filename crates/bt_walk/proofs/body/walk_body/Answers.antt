@@ -1,4 +1,4 @@
-use Rattle.std.proofs.Common.{◌≡◌, ◌∙◌, sym, ap, refl, false}
+use Rattle.std.proofs.Common.{◌∙◌, ap, refl, false}
 use Rattle.std.proofs.lemmas.Result.{err_from_is_err_and}
 use Rattle.bt_core.proofs.InteractionLaws.{Performed-none}
 use Rattle.bt_walk.specs.Walk.{fresh}

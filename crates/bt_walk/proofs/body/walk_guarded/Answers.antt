@@ -1,4 +1,4 @@
-use Rattle.std.proofs.Common.{◌≡◌, ◌∙◌, sym, ap, refl, rules, SFits, w64}
+use Rattle.std.proofs.Common.{◌∙◌, sym, refl, rules, SFits, w64}
 use Rattle.std.proofs.lemmas.Int.{to_z-of_z}
 use Rattle.std.proofs.lemmas.Result.{err_from_is_err_and}
 use Rattle.bt_walk.proofs.Binds.{Part-first, Whole-next, Walked-next, Given-done, Whole-no, Walked-yes}

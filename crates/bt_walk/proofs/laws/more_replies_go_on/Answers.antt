@@ -1,4 +1,3 @@
-use Rattle.bt_walk.proofs.Asking.{get-good}
 use Rattle.bt_core.proofs.InteractionLaws.{calls-prefix, calls-append, value_under-append}
 use Rattle.bt_walk.specs.Walk.{walk}
 use Rattle.bt_walk.proofs.laws.more_replies_go_on.Goals as goal

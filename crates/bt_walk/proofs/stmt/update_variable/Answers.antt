@@ -1,16 +1,8 @@
-use Rattle.std.proofs.Common.{◌≡◌, ◌≤◌, ℤ, pos, List, map, length, Bool, true, false, refl, sym, ap, ◌∙◌, subst, SFits, w64, rules, arith}
+use Rattle.std.proofs.Common.{refl, sym, ap, ◌∙◌, SFits, w64, rules}
 use Rattle.std.proofs.lemmas.Int.{to_z-of_z}
 use Rattle.std.proofs.lemmas.Result.{err_from_is_err_and}
-use Rattle.bt_core.specs.declared.map.Shape.TheVariants as shapes
-use Rattle.bt_core.specs.declared.value.Value.TheVariants.{Int}
-use Rattle.bt_core.specs.Arithmetic.{binary_value}
-use Rattle.bt_core.proofs.InteractionLaws.{Performed-none}
-use Rattle.typed_tree.specs.Parts.{made_of, num_parts, key_shapes}
-use Rattle.bt_walk.specs.Maps.{number_of, kind_of}
-use Rattle.bt_walk.specs.Walked.{all_made}
-use Rattle.bt_walk.proofs.Binds.{Part-first, Part-next, Whole-next, Walked-next, Given-done, Seen-done, Changed-done, Number-done, Told-done}
-use Rattle.bt_walk.proofs.Declared.{Found, shared, valued, gathering, few_values, keyed, held, set_can, delete_can, add_can, sweep_can, HasShape-length}
-use Rattle.bt_walk.proofs.TreeParts.{set_head, update_head, gather_head, delete_head}
+use Rattle.bt_walk.specs.Maps.{number_of}
+use Rattle.bt_walk.proofs.Binds.{Part-first, Whole-next, Given-done, Seen-done, Changed-done}
 use Rattle.bt_walk.proofs.stmt.update_variable.Goals as goal
 
 pub returns-in_err-right-clause-walked : goal.returns-in_err-right-clause-walked

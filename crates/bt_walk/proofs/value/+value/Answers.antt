@@ -1,26 +1,18 @@
-use Rattle.std.proofs.Common.{◌≡◌, ◌≤◌, ℤ, pos, List, [], ◌∷◌, map, Bool, cond, true, false, refl, sym, ap, ◌∙◌, subst, SFits, w64, rules, arith}
-use Rattle.std.specs.Prelude.{IsTrue, IsSomeAnd, slice_get, not}
-use Rattle.std.specs.Str.{bytes_eq}
+use Rattle.std.proofs.Common.{◌≤◌, ℤ, refl, sym, ap, ◌∙◌, SFits, w64, rules, arith}
 use Rattle.std.proofs.lemmas.Int.{to_z-of_z}
 use Rattle.std.proofs.lemmas.Result.{err_from_is_err_and}
 use Rattle.bt_core.specs.declared.map.Shape.TheVariants as shapes
-use Rattle.bt_core.specs.declared.value.Value.TheVariants.{Int, Str}
+use Rattle.bt_core.specs.declared.value.Value.TheVariants.{Int}
 use Rattle.bt_core.specs.Arithmetic.{truth}
-use Rattle.bt_core.specs.Interaction.{Left}
-use Rattle.bt_core.specs.Kinds.{IsShared, HasShape}
-use Rattle.bt_core.proofs.InteractionLaws.{Performed-none}
-use Rattle.typed_tree.specs.Parts.{made_of, num_parts, str_parts, key_shapes}
-use Rattle.typed_tree.specs.Scope.{fits, all_fit}
-use Rattle.bt_walk.specs.Does.{holds, in_order, gathered}
-use Rattle.bt_walk.specs.Exprs.{values_do}
+use Rattle.typed_tree.specs.Parts.{made_of, key_shapes}
 use Rattle.bt_walk.specs.Maps.{number_of, text_of}
-use Rattle.bt_walk.specs.Walked.{Fits, IsServed, scope_in, scene_in, all_made}
+use Rattle.bt_walk.specs.Walked.{Fits, IsServed, all_made}
 use Rattle.bt_walk.proofs.Binds.{Part-first, Part-next, Whole-next, Walked-next, Given-done, Seen-done, Changed-done, Number-done, Number-seen, Whole-yes, Whole-no, Part-yes, Part-no, Walked-yes, Walked-no}
 use Rattle.bt_walk.proofs.Declared.{shared, valued, few_values, keyed, held, field_inside, part_below}
 use Rattle.bt_walk.proofs.TreeParts.{num_field_parts, str_field_parts, step_map_parts, one_fits, one_size}
 use Rattle.typed_tree.proofs.expr.AnyExpr.TheLaws.{the_size}
 use denote.Param.Weighed.{most}
-use Rattle.bt_walk.proofs.Gathers.{gathers-start, gathers-stop, gathers-next, gathers-drop, gathers-end, shapes-next, shapes-end}
+use Rattle.bt_walk.proofs.Gathers.{gathers-start, gathers-stop, gathers-next, gathers-drop, gathers-end, shapes-next}
 use Rattle.bt_walk.proofs.ExprDoes as does
 use Rattle.bt_walk.proofs.value.+value.Goals as goal
 

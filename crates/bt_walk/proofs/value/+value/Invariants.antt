@@ -1,10 +1,10 @@
-use Rattle.std.proofs.Common.{◌≡◌, ◌+◌, ◌*◌, ◌++◌, take, drop}
+use Rattle.std.proofs.Common.{◌≡◌, ◌+◌, ◌*◌, take, drop}
 use Rattle.bt_core.specs.Interaction.{Left}
 use Rattle.bt_core.specs.Kinds.{HasShape}
 use Rattle.typed_tree.specs.Parts.{key_shapes}
 use Rattle.bt_walk.specs.Does.{in_order, gathered}
 use Rattle.bt_walk.specs.Exprs.{values_do}
-use Rattle.bt_walk.specs.Walked.{scene_in, all_made, IsServed}
+use Rattle.bt_walk.specs.Walked.{scene_in, all_made}
 use Rattle.bt_walk.proofs.value.+value.Given as goal
 
 abbrev pub decreases-value : goal.decreases-value

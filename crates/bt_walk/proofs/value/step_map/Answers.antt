@@ -1,9 +1,8 @@
-use Rattle.std.proofs.Common.{◌≡◌, ℤ, pos, Bool, cond, true, false, refl, sym, ap, ◌∙◌, subst, SFits, w64, rules}
+use Rattle.std.proofs.Common.{◌≡◌, cond, refl, sym, ap, ◌∙◌, SFits, w64, rules}
 use Rattle.std.proofs.lemmas.Int.{to_z-of_z}
 use Rattle.std.proofs.lemmas.Result.{err_from_is_err_and}
-use Rattle.bt_core.specs.declared.value.Value.TheVariants.{Int}
 use Rattle.bt_core.proofs.InteractionLaws.{Performed-none}
-use Rattle.bt_walk.specs.Maps.{get, set, number_of, next}
+use Rattle.bt_walk.specs.Maps.{number_of, next}
 use Rattle.bt_walk.proofs.Binds.{Part-first, Part-next, Whole-next, Number-done}
 use Rattle.bt_walk.proofs.value.step_map.Goals as goal
 

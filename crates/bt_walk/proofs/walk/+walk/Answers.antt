@@ -1,4 +1,4 @@
-use Rattle.std.proofs.Common.{◌≡◌, ◌≤◌, ◌<◌, ◌-◌, ◌∷◌, ◌∙◌, ℕ, suc, List, Option, Some, None, option_map, map, drop, true, false, refl, sym, ap, subst, arith, rules, SFits, w64}
+use Rattle.std.proofs.Common.{◌≡◌, ◌<◌, ◌-◌, ◌∙◌, suc, List, Option, Some, None, option_map, map, refl, sym, ap, arith, rules, SFits, w64}
 use Rattle.std.proofs.lemmas.Int.{to_z-of_z}
 use Rattle.std.proofs.lemmas.Result.{err_from_is_err_and, IfOk-weaker}
 use Rattle.bt_core.proofs.InteractionLaws.{Left-here, Left-is}
@@ -11,8 +11,8 @@ use Rattle.bt_walk.specs.declared.flow.Flow.TheVariants.{Stop}
 use Rattle.bt_walk.specs.declared.ending.Ending.TheVariants.{Cut}
 use Rattle.bt_walk.specs.Does.{Does}
 use Rattle.bt_walk.specs.Flows.{leaves}
-use Rattle.bt_walk.specs.Stmts.{stmt_does, block_does, in_turn, first_arm, block_or_next}
-use Rattle.bt_walk.specs.Walked.{IsServed, StmtFits, BlockFits, Fits, scene_in}
+use Rattle.bt_walk.specs.Stmts.{stmt_does, block_does, in_turn, block_or_next}
+use Rattle.bt_walk.specs.Walked.{IsServed, StmtFits, scene_in}
 use Rattle.bt_walk.proofs.Binds.{Walked-next, Seen-done, Changed-done}
 use Rattle.bt_walk.proofs.Loops.{Left-Walked, done_with, block-stop, block-next, block-leaves, block-end, arm-stop, arm-yes, arm-no, arms-end, turns-start, turns-stop, turns-next, turns-leaves, turns-end, while-starts, while-stop, while-ends, while-breaks, while-leaves, while-again}
 use Rattle.bt_walk.proofs.StmtDoes.{Walked-stmt, print_stmt, if_stmt, arms_fit, otherwise_fits, block_is, stmts_fit}
