@@ -2,8 +2,8 @@
 ghost use Rattle.std.specs.Prelude.{◌≡◌};
 
 use bt_core::items::Items;
-use bt_core::memory::Memory as NoMemory;
-use std::alloc::{AllocError, AllocFailed};
+use bt_core::memory::{Memory as NoMemory, TryCopy};
+use std::alloc::{AllocError, AllocFailed, Global};
 use thiserror::Error;
 
 /// A piece of a format: bytes that stand for themselves, or a conversion, which stands for a value.
@@ -22,6 +22,25 @@ pub enum Piece {
         /// The letter: one of `d`, `i`, `u`, `x`, `X`, `s` and `c`.
         letter: u8,
     },
+}
+
+impl TryCopy for Piece {
+    fn try_copy(&self, alloc: Global) -> Result<Piece, NoMemory> {
+        match self {
+            Piece::Literal(bytes) => Ok(Piece::Literal(bytes.try_copy(alloc)?)),
+            Piece::Conversion {
+                left,
+                zero,
+                width,
+                letter,
+            } => Ok(Piece::Conversion {
+                left: *left,
+                zero: *zero,
+                width: *width,
+                letter: *letter,
+            }),
+        }
+    }
 }
 
 /// Why a text is no format.
