@@ -28,7 +28,8 @@ use Rattle.bt_top.specs.declared.refusal.ScriptFault.TheVariants.{TooDeep, TooMa
 use Rattle.bt_top.specs.declared.refusal.Refusal.{Refusal}
 use Rattle.bt_top.specs.declared.refusal.ScriptRefusal.TheVariants.{Fault}
 use Rattle.bt_top.specs.declared.refusal.Refusal.TheVariants.{Script}
-use Rattle.bt_top.specs.Script.{place_at, place_of, lexical_refusal, parse_refusal, attach_refusal, HasTree, IsTextFault, IsAttachFault, IsScriptFault, EventName, IsFormatOf, CountsFormat}
+use Rattle.bt_top.specs.Script.{place_at, place_of, lexical_refusal, parse_refusal, attach_refusal, HasTree, IsTextFault, IsAttachFault}
+use Rattle.bt_top.specs.Script.{IsScriptFault, EventName, IsFormatOf, CountsFormat}
 use Rattle.bt_top.specs.Early.{event_of_tree}
 use Rattle.bt_top.proofs.EarlyTrees.{is_early, is_event}
 use Rattle.bt_top.specs.Serve.{IsTextRefusal, IsScriptRefusal}

@@ -119,8 +119,9 @@ fn perform<S: Shelf, K: Sink>(alloc: Global, order: &Order, shelf: &mut S, out: 
 /// the first check that its bytes fail. A script is refused with the first lexical fault of its text, the
 /// first fault of its tokens by the grammar of the bpftrace language, or the first of its points that may
 /// not be attached over this recording, each with line and column. Not built is a run of a recording of
-/// more than one CPU, and then a run of another script. Want of memory may come at any of them. Before the write nothing goes to `out`. What is refused is told by its
-/// line to `err`, and a fault there changes nothing else.
+/// more than one CPU, and then a run of another script. Want of memory may come at any of them. Before the
+/// write nothing goes to `out`. What is refused is told by its line to `err`, and a fault there changes
+/// nothing else.
 pub fn serve<S: Shelf, K: Sink, E: Sink>(
     alloc: Global,
     words: &[String],
