@@ -91,15 +91,15 @@ abbrev pub IsRecordingLeft : Order → Files → Type 0
 IsRecordingLeft (Run operands) files = HasMoreCpus files
 IsRecordingLeft (Check operands) files = ⊥
 
--- what the order asks of the script is not built yet: to run another script than one that counts, and to check more than how it is attached
+-- what the order asks of the script is not built yet: to run another script than one that counts
 abbrev pub IsScriptLeft : Order → Files → Type 0
 IsScriptLeft (Run operands) files = IsOtherScript files
-IsScriptLeft (Check operands) files = IsChecked files
+IsScriptLeft (Check operands) files = ⊥
 
 -- the command does its work
 abbrev pub IsDone : Order → Files → Type 0
 IsDone (Run operands) files = IsCounted files
-IsDone (Check operands) files = ⊥
+IsDone (Check operands) files = IsChecked files
 
 -- what is due to the files of an order: their first refusal; or that what comes next is not built; or nothing, where the command does its work
 abbrev pub IsDue : Order → Files → Option Refusal → Type 0

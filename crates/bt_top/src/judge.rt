@@ -30,6 +30,15 @@ pub(crate) struct Counting {
     pub format: usize,
 }
 
+/// What an order asks for, where nothing of its files is refused.
+#[derive(Drop)]
+pub(crate) enum Judged {
+    /// Of a run: to count the events of a format.
+    Counting(Counting),
+    /// Of a check: nothing more.
+    Checked,
+}
+
 /// The tree of a script whose probes may all be attached to the recording.
 fn attached_tree(alloc: Global, script: &[u8], recording: &Recording) -> Result<Script, Refusal>
     requires short { length script.now ≤ SCRIPT_BYTES }
@@ -84,7 +93,7 @@ fn counting_of(accepted: Accepted) -> Result<Counting, Refusal>
 }
 
 /// What an order asks of two files.
-fn asked(alloc: Global, order: &Order, script: &[u8], recording: &[u8]) -> Result<Counting, Refusal>
+fn asked(alloc: Global, order: &Order, script: &[u8], recording: &[u8]) -> Result<Judged, Refusal>
     requires { AreShort (record { script = script.now; recording = recording.now }) }
     ensures judged { IfOk result (IsJudged order.now (record { script = script.now; recording = recording.now })) }
     ensures refused { IfErr result (IsDueRefusal order.now (record { script = script.now; recording = recording.now })) }
@@ -94,8 +103,11 @@ fn asked(alloc: Global, order: &Order, script: &[u8], recording: &[u8]) -> Resul
         Err(refusal) => return Err(refusal),
     };
     match order {
-        Order::Run(_) => counting_of(accepted),
-        Order::Check(_) => Err(Refusal::Script(ScriptRefusal::NotBuilt)),
+        Order::Run(_) => match counting_of(accepted) {
+            Ok(counting) => Ok(Judged::Counting(counting)),
+            Err(refusal) => Err(refusal),
+        },
+        Order::Check(_) => Ok(Judged::Checked),
     }
 }
 
@@ -105,7 +117,7 @@ pub(crate) fn judge(
     order: &Order,
     script: &[u8],
     recording: &[u8],
-) -> Result<Counting, Refusal>
+) -> Result<Judged, Refusal>
     requires { AreShort (record { script = script.now; recording = recording.now }) }
     ensures judged { IfOk result (IsJudged order.now (record { script = script.now; recording = recording.now })) }
     ensures refused { IfErr result (IsDueRefusal order.now (record { script = script.now; recording = recording.now })) }
