@@ -4,6 +4,7 @@
 pub mod attach;
 mod bodies;
 pub mod error;
+pub mod laws;
 mod marks;
 pub mod pattern;
 mod period;

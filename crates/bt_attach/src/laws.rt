@@ -1,0 +1,13 @@
+// Laws of the definition: what a body is made of is there.
+ghost use Rattle.std.specs.Prelude.{All, List, ℕ};
+ghost use Rattle.bt_ast.specs.declared.attached.Attached.{Attached as AttachedValue};
+ghost use Rattle.bt_ast.specs.declared.probe.Script.{Script as ScriptValue};
+ghost use Rattle.tracefs_format.specs.declared.format.Format.{Format as FormatValue};
+ghost use Rattle.bt_attach.specs.Attaching.{IsAttachedTo};
+ghost use Rattle.bt_attach.specs.There.{IsThere};
+
+/// The probe of each body stands in the script, and its event among the formats.
+pub fn bodies_are_there()
+    ensures { (script : ScriptValue) (formats : List FormatValue) (start end : ℕ) (attached : AttachedValue)
+        → IsAttachedTo script formats start end attached → All (IsThere script formats) attached.bodies }
+{}
