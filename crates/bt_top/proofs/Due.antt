@@ -81,7 +81,7 @@ no_fault files (Recording (recording.Fault error)) says tree laws a b = valid fi
 no_fault files (Script (script.Fault wrong place)) says tree laws a b =
     no_script_fault files.script says _ tree laws.script
     (subst (λ (r : Recorded). IsScriptFault files.script r (Script (script.Fault wrong place))) (one_recording files a.1 says laws a.2 b.is) a.3)
-    b.has b.attached
+    b.has b.attached b.typed
 no_fault files refusal says tree laws a b = a
 
 -- ---- what comes of accepted files

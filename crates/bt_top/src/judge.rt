@@ -4,14 +4,15 @@ ghost use Rattle.bt_core.specs.declared.limits.TheConstants.{SCRIPT_BYTES};
 ghost use Rattle.rec_format.specs.Recordings.{IsValidRecording};
 ghost use Rattle.bt_attach.specs.Attaching.{attach_fault};
 ghost use Rattle.bt_top.specs.Due.{AreAccepted, AreShort};
-ghost use Rattle.bt_top.specs.Script.{HasTree};
+ghost use Rattle.bt_top.specs.Script.{HasTree, body_fault};
 ghost use Rattle.bt_top.specs.Serve.{ComesIfDue, Counts, IsDueRefusal, IsFaultRefusal, IsJudged, IsLeft, IsScriptRefusal, refusal_in};
 
 use crate::refusal::{RecordingRefusal, Refusal, ScriptRefusal, recording_refusal};
-use crate::script::{attach_refusal, counted_format, tree_of};
+use crate::script::{attach_refusal, counted_format, tree_of, type_refusal};
 use crate::words::Order;
 use bt_ast::probe::Script;
 use bt_attach::attach::attach;
+use bt_types::script::check;
 use rec_format::reading::read_recording;
 use rec_format::recording::Recording;
 use std::alloc::Global;
@@ -39,23 +40,29 @@ pub(crate) enum Judged {
     Checked,
 }
 
-/// The tree of a script whose probes may all be attached to the recording.
-fn attached_tree(alloc: Global, script: &[u8], recording: &Recording) -> Result<Script, Refusal>
+/// The tree of a script whose probes may all be attached to the recording, and whose bodies have types.
+fn accepted_tree(alloc: Global, script: &[u8], recording: &Recording) -> Result<Script, Refusal>
     requires short { length script.now ≤ SCRIPT_BYTES }
     requires valid { IsValidRecording recording.now }
     ensures tree { IfOk result (HasTree script.now) }
     ensures attached { IfOk result (λ tree. attach_fault tree recording.now.formats recording.now.start recording.now.end ≡ None) }
+    ensures typed { IfOk result (λ tree. body_fault tree recording.now ≡ None) }
     ensures fault { IfErr result (IsScriptRefusal script.now recording.now) }
 {
     bt_grammar::laws::few_probes();
+    bt_attach::laws::bodies_are_there();
     let tree = match tree_of(alloc, script) {
         Ok(tree) => tree,
         Err(refusal) => return Err(refusal),
     };
     let formats = recording.formats.as_slice();
-    match attach(alloc, &tree, formats, recording.start, recording.end) {
+    let attached = match attach(alloc, &tree, formats, recording.start, recording.end) {
+        Ok(attached) => attached,
+        Err(error) => return Err(attach_refusal(error)),
+    };
+    match check(alloc, &tree, &attached, formats) {
         Ok(_) => Ok(tree),
-        Err(error) => Err(attach_refusal(error)),
+        Err(error) => Err(type_refusal(error)),
     }
 }
 
@@ -69,7 +76,7 @@ fn accept(alloc: Global, script: &[u8], recording: &[u8]) -> Result<Accepted, Re
         Ok(recording) => recording,
         Err(error) => return Err(recording_refusal(error)),
     };
-    match attached_tree(alloc, script, &recording) {
+    match accepted_tree(alloc, script, &recording) {
         Ok(tree) => Ok(Accepted { recording, tree }),
         Err(refusal) => Err(refusal),
     }

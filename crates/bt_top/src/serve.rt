@@ -108,17 +108,18 @@ fn perform<S: Shelf, K: Sink>(alloc: Global, order: &Order, shelf: &mut S, out: 
 /// Does what the words ask for: `run SCRIPT RECORDING` counts those events of a recording of one CPU
 /// whose format the script names, and writes the count to `out`. For each of them the machine runs one
 /// fixed piece of BPF code (RFC 9669) over the event's payload, whose call of a helper makes the event's
-/// step. `check SCRIPT RECORDING` does all of a run up to attaching, over a recording of any number of CPUs,
-/// and writes `ok` and a newline.
+/// step. `check SCRIPT RECORDING` does all of a run up to typing, over a recording of any number of CPUs, and
+/// writes `ok` and a newline.
 ///
 /// A script that runs so far is one probe on one tracepoint, without `*` and without a predicate, with the
 /// one statement `@ = count()`; blanks and comments are free.
 ///
 /// Refusals come in the order words, script read, recording read, recording, lexing, parsing, attaching,
-/// what is not built, write. A file that is too long is refused at its read. A recording is refused with
+/// typing, what is not built, write. A file that is too long is refused at its read. A recording is refused with
 /// the first check that its bytes fail. A script is refused with the first lexical fault of its text, the
-/// first fault of its tokens by the grammar of the bpftrace language, or the first of its points that may
-/// not be attached over this recording, each with line and column. Not built is a run of a recording of
+/// first fault of its tokens by the grammar of the bpftrace language, the first of its points that may not
+/// be attached over this recording, or the first rule of types that is broken in its bodies, in walk order,
+/// each with line and column. Not built is a run of a recording of
 /// more than one CPU, and then a run of another script. Want of memory may come at any of them. Before the
 /// write nothing goes to `out`. What is refused is told by its line to `err`, and a fault there changes
 /// nothing else.
