@@ -223,7 +223,8 @@ event_is_there formats Begin there = tt
 event_is_there formats End there = tt
 event_is_there formats Interval there = tt
 
-pub bodies_checked : (tree : Tree) (formats : List Format) (bodies : List BodyId) → All (IsThere tree formats) bodies → All (IsBodyOf tree formats) bodies
+pub bodies_checked : (tree : Tree) (formats : List Format) (bodies : List BodyId) → All (IsThere tree formats) bodies
+    → All (IsBodyOf tree formats) bodies
 bodies_checked tree formats bodies there =
     All-weaker (IsThere tree formats) (IsBodyOf tree formats) (λ id is. record { probe = is.probe; event = event_is_there formats id.point is.event }) bodies there
 

@@ -24,4 +24,4 @@ returns-in-Err-check-clause-fault c =
     (type_told _ c.args.recording.now c.in-Ok.tree c.in-Ok-attach.attached.bodies c.in-Err-check.error c.in-Ok.ensures.tree
     (rw c.as_slice-formats.ensures at c.in-Ok-attach.ensures.allowed)
     (bodies_of_tree c.in-Ok.tree c.args.recording.now c.in-Ok-attach.attached (rw c.as_slice-formats.ensures at c.in-Ok-attach.ensures.found))
-    (rw c.as_slice-formats.ensures at c.in-Err-check.ensures))
+    (rw c.as_slice-formats.ensures at c.in-Err-check.ensures.fault))
