@@ -8,7 +8,9 @@ use Rattle.rec_format.specs.Recordings.{recording_bytes, IsValidRecording}
 use Rattle.rec_format.specs.Faults.{IsRecordingFault}
 use Rattle.bt_ast.specs.declared.probe.Script.{Script as Tree}
 use Rattle.bt_top.specs.declared.judge.Accepted.{Accepted}
-use Rattle.bt_top.specs.declared.judge.Counting.{Counting}
+use Rattle.bt_top.specs.declared.judge.Counting.{Counting as Counted}
+use Rattle.bt_top.specs.declared.judge.Judged.{Judged}
+use Rattle.bt_top.specs.declared.judge.Judged.TheVariants.{Counting, Checked}
 use Rattle.bt_top.specs.declared.refusal.ScriptRefusal.TheVariants as script
 use Rattle.bt_top.specs.declared.refusal.RecordingRefusal.TheVariants as recording
 use Rattle.bt_top.specs.declared.refusal.Refusal.{Refusal}
@@ -79,7 +81,7 @@ no_fault files (Recording (recording.Fault error)) says tree laws a b = valid fi
 no_fault files (Script (script.Fault wrong place)) says tree laws a b =
     no_script_fault files.script says _ tree laws.script
     (subst (λ (r : Recorded). IsScriptFault files.script r (Script (script.Fault wrong place))) (one_recording files a.1 says laws a.2 b.is) a.3)
-    b.has b.attached
+    b.has b.attached b.typed
 no_fault files refusal says tree laws a b = a
 
 -- ---- what comes of accepted files
@@ -107,11 +109,11 @@ left_or_fault (Check operands) files refusal laws a b = a
 
 script_or_fault : (order : Order) (files : Files) (refusal : Refusal) → AreLaws files → IsScriptLeft order files → IsFault files refusal → ⊥
 script_or_fault (Run operands) files refusal laws a b = no_fault files refusal a.says a.tree laws b a.accepted
-script_or_fault (Check operands) files refusal laws a b = no_fault files refusal a.says a.tree laws b a.accepted
+script_or_fault (Check operands) files refusal laws a b = a
 
 done_or_fault : (order : Order) (files : Files) (refusal : Refusal) → AreLaws files → IsDone order files → IsFault files refusal → ⊥
 done_or_fault (Run operands) files refusal laws a b = no_fault files refusal a.says a.asked.tree laws b a.asked.accepted
-done_or_fault (Check operands) files refusal laws a b = a
+done_or_fault (Check operands) files refusal laws a b = no_fault files refusal a.says a.tree laws b a.accepted
 
 recording_or_script : (order : Order) (files : Files) → AreLaws files → IsRecordingLeft order files → IsScriptLeft order files → ⊥
 recording_or_script (Run operands) files laws a b = more_or_one files b.says b.tree laws a b.accepted b.one_cpu
@@ -123,7 +125,7 @@ recording_or_done (Check operands) files laws a b = a
 
 script_or_done : (order : Order) (files : Files) → AreLaws files → IsScriptLeft order files → IsDone order files → ⊥
 script_or_done (Run operands) files laws a b = other_or_counted files laws a b
-script_or_done (Check operands) files laws a b = b
+script_or_done (Check operands) files laws a b = a
 
 pub one_due : (order : Order) (files : Files) (one other : Option Refusal) → AreLaws files → IsDue order files one → IsDue order files other → one ≡ other
 one_due order files (Some (Recording recording.NotBuilt)) (Some (Recording recording.NotBuilt)) laws a b = refl
@@ -178,33 +180,22 @@ left_is_due operands files accepted (Script script.NotBuilt) is left =
 left_is_due operands files accepted refusal is left = absurd left
 
 -- what a run of accepted files counts is judged
-pub counts_is_judged : (operands : Operands) (files : Files) (accepted : Accepted) (counting : Counting)
-    → AreAccepted files accepted.recording accepted.tree → Counts accepted counting → IsJudged (Run operands) files counting
+pub counts_is_judged : (operands : Operands) (files : Files) (accepted : Accepted) (counting : Counted)
+    → AreAccepted files accepted.recording accepted.tree → Counts accepted counting → IsJudged (Run operands) files (Counting counting)
 counts_is_judged operands files accepted counting is counts =
     subst (λ (r : Recorded). IsAsked files r counting.format) (sym counts.same)
     (record { tree = accepted.tree; accepted = is; one_cpu = counts.one_cpu; counts = counts.counts })
 
--- of what the run answers
-pub run_judged : (order : Order) (operands : Operands) (files : Files) (accepted : Accepted) (answer : Result Counting Refusal) → order ≡ Run operands
-    → AreAccepted files accepted.recording accepted.tree → IfOk answer (Counts accepted) → IfOk answer (IsJudged order files)
-run_judged order operands files accepted (Ok counting) is whole counts =
-    subst (λ (o : Order). IsJudged o files counting) (sym is) (counts_is_judged operands files accepted counting whole counts)
-run_judged order operands files accepted (Err refusal) is whole counts = tt
-
-pub run_refused : (order : Order) (operands : Operands) (files : Files) (accepted : Accepted) (answer : Result Counting Refusal) → order ≡ Run operands
-    → AreAccepted files accepted.recording accepted.tree → IfErr answer (IsLeft accepted) → IfErr answer (IsDueRefusal order files)
-run_refused order operands files accepted (Ok counting) is whole left = tt
-run_refused order operands files accepted (Err refusal) is whole left =
-    subst (λ (o : Order). IsDueRefusal o files refusal) (sym is) (left_is_due operands files accepted refusal whole left)
-
 -- what is judged is due to the files
-pub judged_is_due : (order : Order) (files : Files) (counting : Counting) → IsJudged order files counting → IsDue order files None
-judged_is_due (Run operands) files counting asked = record { says = counting.recording; place = counting.format; asked = asked }
-judged_is_due (Check operands) files counting asked = asked
+pub judged_is_due : (order : Order) (files : Files) (judged : Judged) → IsJudged order files judged → IsDue order files None
+judged_is_due (Run operands) files (Counting counting) asked = record { says = counting.recording; place = counting.format; asked = asked }
+judged_is_due (Run operands) files Checked asked = absurd asked
+judged_is_due (Check operands) files (Counting counting) asked = absurd asked
+judged_is_due (Check operands) files Checked asked = asked
 
 -- what is due comes, unless memory runs out
-pub comes_if_due : (order : Order) (files : Files) (answer : Result Counting Refusal) → AreLaws files → IfOk answer (IsJudged order files)
+pub comes_if_due : (order : Order) (files : Files) (answer : Result Judged Refusal) → AreLaws files → IfOk answer (IsJudged order files)
     → IfErr answer (IsDueRefusal order files) → ComesIfDue (refusal_in answer) order files
-comes_if_due order files (Ok counting) laws judged refused = λ due is. inl (one_due order files None due laws (judged_is_due order files counting judged) is)
+comes_if_due order files (Ok asked) laws judged refused = λ due is. inl (one_due order files None due laws (judged_is_due order files asked judged) is)
 comes_if_due order files (Err refusal) laws judged (inl memory) = λ due is. inr (subst (λ (r : Refusal). MayStandFor (Some r) due) (sym memory) tt)
 comes_if_due order files (Err refusal) laws judged (inr here) = λ due is. inl (one_due order files (Some refusal) due laws here is)

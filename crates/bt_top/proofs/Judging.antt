@@ -1,12 +1,13 @@
 -- What the reads, the judging and the write answer together.
-use Rattle.std.proofs.Common.{◌≡◌, ℕ, suc, ◌<◌, ◌≤◌, ◌⊎◌, List, [], length, refl, sym, ap, subst, arith, inl, inr}
-use Rattle.std.specs.Prelude.{Option, Some, None, Result, Ok, Err, IfOk, IfErr, IfSome, unwrap_or, replicate}
+use Rattle.std.proofs.Common.{◌≡◌, ℕ, suc, ◌*◌, ◌<◌, ◌≤◌, ◌⊎◌, List, [], length, refl, sym, ap, subst, arith, inl, inr}
+use Rattle.std.specs.Prelude.{◌↔◌, Option, Some, None, Result, Ok, Err, IfOk, IfErr, IfSome, IsSome, IsSomeAnd, unwrap_or, replicate}
 use Rattle.std.proofs.lemmas.List.{length-replicate}
 use Rattle.bt_core.specs.declared.limits.TheConstants.{SCRIPT_BYTES, RECORDING_BYTES}
 use Rattle.bt_io.specs.Faults.{Rose}
 use Rattle.bt_io.specs.declared.shelf.ShelfError.{ShelfError}
 use Rattle.bt_io.specs.declared.shelf.ShelfError.TheVariants as shelf
-use Rattle.bt_top.specs.declared.judge.Counting.{Counting}
+use Rattle.bt_top.specs.declared.judge.Judged.{Judged}
+use Rattle.bt_top.specs.declared.judge.Judged.TheVariants.{Counting, Checked}
 use Rattle.bt_top.specs.declared.report.Report.{Report}
 use Rattle.bt_top.specs.declared.report.Work.{Work}
 use Rattle.bt_top.specs.declared.refusal.Operand.TheVariants as operand
@@ -17,11 +18,12 @@ use Rattle.bt_top.specs.Lines.{SinkUse, SinkFailed}
 use Rattle.bt_top.specs.Refusals.{status_of, read_refusal}
 use Rattle.bt_top.specs.Due.{Files, IsCounted, IsDue}
 use Rattle.bt_top.specs.Serve.{ShelfUse, ShelfFailed, AsksFirst, AsksExactly, MayCome, HasWork, Answers, IsAnswer, MayStandFor, ComesIfDue, IsComplete}
-use Rattle.bt_top.specs.Serve.{OnBoth, OnTold, IsDueRefusal, IsRun, IsJudged, Reads}
+use Rattle.bt_top.specs.Serve.{OnBoth, OnTold, IsDueRefusal, IsWorkFor, IsJudged, CanCount, IsDoneWork, Reads, bytes_of, bytes_written}
 use Rattle.bt_top.specs.Words.{operands_of, names_of}
 use Rattle.bt_top.specs.declared.words.Order.{Order}
 use Rattle.bt_top.specs.declared.words.Order.TheVariants.{Run, Check}
 use Rattle.bt_top.proofs.Due.{judged_is_due}
+use Rattle.bt_top.proofs.EventRuns.{six_a_step}
 
 -- a count that rose in a part of a call rose in the call
 pub rose_from : (before between after : ℕ) → before ≤ between → Rose between after → Rose before after
@@ -100,11 +102,11 @@ recording_unread order seen bytes error here short failed long = record {
     came shelf.Memory failed long = tt
 
 -- both are read
-pub both_read : (order : Order) (seen : ShelfUse) (files : Files) (answer : Result Counting Refusal)
+pub both_read : (order : Order) (seen : ShelfUse) (files : Files) (answer : Result Judged Refusal)
     → IfSome (seen.held (operands_of order).script) (λ told. files.script ≡ told)
     → IfSome (seen.held (operands_of order).recording) (λ told. files.recording ≡ told) → IfOk answer (IsJudged order files)
     → IfErr answer (IsDueRefusal order files) → Reads order seen answer
-both_read order seen files (Ok counting) first second judged refused =
+both_read order seen files (Ok asked) first second judged refused =
     record { files = files; held = record { script = first; recording = second }; judged = judged; came = tt }
 both_read order seen files (Err refusal) first second judged refused =
     record { files = files; held = record { script = first; recording = second }; judged = tt; came = came refusal refused }
@@ -148,41 +150,88 @@ refused_work order seen refusal reads has = no_work refusal reads.came has
     no_work WriteFault may has = may.0
     no_work refusal may has = has
 
-pub memory_answer : (order : Order) (seen : ShelfUse) (out : SinkUse) (status : ℕ) (counting : Counting)
-    → Reads order seen (Ok counting) → Answers order seen out (record { status = status; refusal = Some Memory; work = None })
-memory_answer order seen out status counting reads = record { files = reads.files; held = reads.held; came = tt; worked = tt }
+pub memory_answer : (order : Order) (seen : ShelfUse) (out : SinkUse) (status : ℕ) (judged : Judged)
+    → Reads order seen (Ok judged) → Answers order seen out (record { status = status; refusal = Some Memory; work = None })
+memory_answer order seen out status judged reads = record { files = reads.files; held = reads.held; came = tt; worked = tt }
 
-pub worked_answer : (order : Order) (seen : ShelfUse) (out : SinkUse) (status : ℕ) (refusal : Option Refusal) (counting : Counting) (work : Work)
-    → Reads order seen (Ok counting) → IsWorkOf (payloads_of counting.format counting.recording) work
+-- what is counted is the work for the files
+is_work_for : (order : Order) (files : Files) (judged : Judged) (work : Option Work) → IsJudged order files judged → IsDoneWork judged work
+    → IfSome work (IsWorkFor files)
+is_work_for (Run operands) files (Counting counting) (Some work) asked done =
+    record { counting = record { says = counting.recording; place = counting.format; asked = asked }; counted = done }
+is_work_for (Run operands) files (Counting counting) None asked done = tt
+is_work_for (Run operands) files Checked work asked done = absurd asked
+is_work_for (Check operands) files (Counting counting) work asked done = absurd asked
+is_work_for (Check operands) files Checked None asked done = tt
+is_work_for (Check operands) files Checked (Some work) asked done = let none : Some work ≡ None = done in absurd (cc)
+
+pub worked_answer : (order : Order) (seen : ShelfUse) (out : SinkUse) (status : ℕ) (refusal : Option Refusal) (judged : Judged) (work : Option Work)
+    → Reads order seen (Ok judged) → IsDoneWork judged work
     → (refusal ≡ None) ⊎ ((refusal ≡ Some WriteFault) × SinkFailed out)
-    → Answers order seen out (record { status = status; refusal = refusal; work = Some work })
-worked_answer order seen out status refusal counting work reads counted ends = record {
+    → Answers order seen out (record { status = status; refusal = refusal; work = work })
+worked_answer order seen out status refusal judged work reads done ends = record {
   files = reads.files;
   held = reads.held;
   came = elim ends [
     | inl e ↦ subst (λ (r : Option Refusal). MayCome order reads.files (ShelfFailed seen) (SinkFailed out) r) (sym e) due
     | inr e ↦ subst (λ (r : Option Refusal). MayCome order reads.files (ShelfFailed seen) (SinkFailed out) r) (sym e.0) (e.1, due)
   ];
-  worked = record { counting = counting_in order reads.judged; counted = worked_in order reads.judged };
+  worked = is_work_for order reads.files judged work reads.judged done;
 }
   where
     due : IsDue order reads.files None
-    due = judged_is_due order reads.files counting reads.judged
+    due = judged_is_due order reads.files judged reads.judged
 
-    counting_in : (order : Order) → IsJudged order reads.files counting → IsCounted reads.files
-    counting_in (Run operands) judged = record { says = counting.recording; place = counting.format; asked = judged }
-    counting_in (Check operands) judged = absurd judged
-
-    worked_in : (order : Order) (judged : IsJudged order reads.files counting)
-        → IsWorkOf (payloads_of (counting_in order judged).place (counting_in order judged).says) work
-    worked_in (Run operands) judged = counted
-    worked_in (Check operands) judged = absurd judged
+-- what is judged can be counted
+pub judged_can_count : (order : Order) (files : Files) (judged : Judged) → IsJudged order files judged → CanCount judged
+judged_can_count (Run operands) files (Counting counting) asked = (asked.accepted.is.valid, asked.one_cpu)
+judged_can_count (Run operands) files Checked asked = tt
+judged_can_count (Check operands) files (Counting counting) asked = absurd asked
+judged_can_count (Check operands) files Checked asked = tt
 
 -- work of a run is there where all was written, and where a part was
-pub run_work : (order : Order) (refusal : Option Refusal) → IsRun order → (refusal ≡ None) ⊎ (refusal ≡ Some WriteFault) → HasWork refusal (Some order)
-run_work (Run operands) refusal run (inl e) = subst (λ (r : Option Refusal). HasWork r (Some (Run operands))) (sym e) tt
-run_work (Run operands) refusal run (inr e) = subst (λ (r : Option Refusal). HasWork r (Some (Run operands))) (sym e) tt
-run_work (Check operands) refusal run ends = absurd run
+pub judged_work : (order : Order) (files : Files) (judged : Judged) (work : Option Work) (refusal : Option Refusal) → IsJudged order files judged
+    → IsDoneWork judged work → (refusal ≡ None) ⊎ (refusal ≡ Some WriteFault) → IsSome work ↔ HasWork refusal (Some order)
+judged_work (Run operands) files (Counting counting) work refusal asked done ends = (λ some. has, λ has. some_of work done)
+  where
+    has : HasWork refusal (Some (Run operands))
+    has = elim ends [
+      | inl e ↦ subst (λ (r : Option Refusal). HasWork r (Some (Run operands))) (sym e) tt
+      | inr e ↦ subst (λ (r : Option Refusal). HasWork r (Some (Run operands))) (sym e) tt
+    ]
+
+    some_of : (work : Option Work) → IsSomeAnd work (IsWorkOf (payloads_of counting.format counting.recording)) → IsSome work
+    some_of (Some work) done = refl
+    some_of None done = absurd done
+judged_work (Run operands) files Checked work refusal asked done ends = absurd asked
+judged_work (Check operands) files (Counting counting) work refusal asked done ends = absurd asked
+judged_work (Check operands) files Checked work refusal asked done ends =
+    (λ some. absurd (none_is_not (subst (λ (w : Option Work). IsSome w) done some)), λ has. absurd (no_work ends has))
+  where
+    none_is_not : IsSome {T = Work} None → ⊥
+    none_is_not some = cc
+
+    no_work : (refusal ≡ None) ⊎ (refusal ≡ Some WriteFault) → HasWork refusal (Some (Check operands)) → ⊥
+    no_work (inl e) has = subst (λ (r : Option Refusal). HasWork r (Some (Check operands))) e has
+    no_work (inr e) has = subst (λ (r : Option Refusal). HasWork r (Some (Check operands))) e has
+
+-- what is written of the work is what the command writes
+pub judged_bytes : (order : Order) (files : Files) (judged : Judged) (work : Option Work) → IsJudged order files judged → IsDoneWork judged work
+    → bytes_of work ≡ bytes_written (Some order) work
+judged_bytes (Run operands) files (Counting counting) (Some work) asked done = refl
+judged_bytes (Run operands) files (Counting counting) None asked done = absurd done
+judged_bytes (Run operands) files Checked work asked done = absurd asked
+judged_bytes (Check operands) files (Counting counting) work asked done = absurd asked
+judged_bytes (Check operands) files Checked None asked done = refl
+judged_bytes (Check operands) files Checked (Some work) asked done = let none : Some work ≡ None = done in absurd (cc)
+
+-- of six instructions a step
+pub judged_six : (judged : Judged) (work : Option Work) → IsDoneWork judged work → IfSome work (λ work. work.instructions ≡ 6 * length work.steps)
+judged_six (Counting counting) (Some work) done =
+    six_a_step (payloads_of counting.format counting.recording) work.steps work.instructions done.runs
+judged_six (Counting counting) None done = tt
+judged_six Checked None done = tt
+judged_six Checked (Some work) done = let none : Some work ≡ None = done in absurd (cc)
 
 -- accepted files are answered with success where no count rose, or memory ran out
 pub is_complete : (order : Order) (seen : ShelfUse) (out : SinkUse) (report : Report)

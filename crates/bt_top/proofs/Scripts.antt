@@ -1,8 +1,9 @@
 -- The tree of a script, and the format whose events it counts.
 use Rattle.std.proofs.Common.{◌≡◌, ◌≢◌, ℕ, ◌+◌, ◌<◌, ◌≤◌, Bool, true, false, List, length, get_or, refl, sym, ap, subst, ◌∙◌, arith, inl}
-use Rattle.std.proofs.Common.{inr}
+use Rattle.std.proofs.Common.{inr, All}
 use Rattle.std.specs.Prelude.{◌↔◌, IsTrue, Option, Some, None, MatchOption, slice_get}
 use Rattle.std.proofs.lemmas.Bool.{cases_lt}
+use Rattle.std.proofs.lemmas.List.Elements.{All-weaker}
 use Rattle.std.proofs.lemmas.Option.{slice_get-get_or, get_or_from_slice_get, slice_get_within}
 use Rattle.tracefs_format.specs.declared.format.Format.{Format}
 use Rattle.tracefs_format.specs.ByName.{IsNamed}
@@ -12,7 +13,16 @@ use Rattle.bt_core.specs.declared.place.Place.{Place}
 use Rattle.rec_format.specs.declared.recording.Recording.{Recording as Recorded}
 use Rattle.bt_attach.specs.declared.error.AttachError.{AttachError}
 use Rattle.bt_attach.specs.declared.error.AttachError.TheVariants as attaching
-use Rattle.bt_attach.specs.Attaching.{attach_fault}
+use Rattle.bt_attach.specs.Attaching.{attach_fault, IsAttachedTo}
+use Rattle.bt_attach.specs.There.{IsEventThere, IsThere}
+use Rattle.bt_ast.specs.declared.attached.Attached.{Attached}
+use Rattle.bt_ast.specs.declared.attached.BodyId.{BodyId}
+use Rattle.bt_ast.specs.declared.attached.BodyPoint.{BodyPoint}
+use Rattle.bt_ast.specs.declared.attached.BodyPoint.TheVariants.{Begin, End, Interval, Event}
+use Rattle.expr_types.specs.declared.fault.Fault.{Fault as TypeFault}
+use Rattle.expr_types.specs.declared.fault.TypeError.{TypeError}
+use Rattle.expr_types.specs.declared.fault.TypeError.TheVariants as typing
+use Rattle.bt_types.specs.Bodies.{type_fault, IsEventOf, IsBodyOf}
 use Rattle.bt_lexer.specs.declared.token.Token.{Token}
 use Rattle.bt_lexer.specs.Tokens.{IsTokensOf, IsFirstFault}
 use Rattle.bt_ast.specs.declared.probe.Script.{Script as Tree}
@@ -25,10 +35,12 @@ use Rattle.bt_grammar.specs.Tokens.{items}
 use Rattle.bt_top.specs.declared.refusal.ScriptFault.{ScriptFault}
 use Rattle.bt_top.specs.declared.refusal.ScriptFault.TheVariants.{BadCharacter, OpenString, OpenComment, NumberTooLarge, BadEscape, StringTooLong, Syntax}
 use Rattle.bt_top.specs.declared.refusal.ScriptFault.TheVariants.{TooDeep, TooManyProbes, UnknownTracepoint, NoMatch, BadPeriod, TooManyTicks, TooManyAttached}
+use Rattle.bt_top.specs.declared.refusal.ScriptFault.TheVariants.{Types}
 use Rattle.bt_top.specs.declared.refusal.Refusal.{Refusal}
 use Rattle.bt_top.specs.declared.refusal.ScriptRefusal.TheVariants.{Fault}
 use Rattle.bt_top.specs.declared.refusal.Refusal.TheVariants.{Script}
 use Rattle.bt_top.specs.Script.{place_at, place_of, lexical_refusal, parse_refusal, attach_refusal, HasTree, IsTextFault, IsAttachFault}
+use Rattle.bt_top.specs.Script.{type_refusal, body_fault, IsTypeFault}
 use Rattle.bt_top.specs.Script.{IsScriptFault, EventName, IsFormatOf, CountsFormat}
 use Rattle.bt_top.specs.Early.{event_of_tree}
 use Rattle.bt_top.proofs.EarlyTrees.{is_early, is_event}
@@ -110,22 +122,52 @@ one_attach_fault text says one other laws a b =
     let fault = same_fault _ _ a.fault b.fault (ap (λ (t : Tree). attach_fault t says.formats says.start says.end) tree) a.first b.first in
     a.told ∙ ap attach_refusal fault ∙ sym b.told
 
-pub one_script_fault : (text : List ℕ) (says : Recorded) (one other : Refusal) → AreScriptLaws text
-    → IsScriptFault text says one → IsScriptFault text says other → one ≡ other
-one_script_fault text says one other laws (inl a) (inl b) = one_text_fault text one other laws a b
-one_script_fault text says one other laws (inl a) (inr b) = absurd (no_tree text one b.tree laws a b.has)
-one_script_fault text says one other laws (inr a) (inl b) = absurd (no_tree text other a.tree laws b a.has)
-one_script_fault text says one other laws (inr a) (inr b) = one_attach_fault text says one other laws a b
+-- and so is the first fault of types of its bodies
+same_type_fault : (a b : Option TypeFault) (one other : TypeFault) → a ≡ b → a ≡ Some one → b ≡ Some other → one ≡ other
+same_type_fault a b one other e is was = cc
 
--- a script with a fault is not accepted
-pub no_script_fault : (text : List ℕ) (says : Recorded) (refusal : Refusal) (tree : Tree) → AreScriptLaws text → IsScriptFault text says refusal
+one_type_fault : (text : List ℕ) (says : Recorded) (one other : Refusal) → AreScriptLaws text
+    → IsTypeFault text says one → IsTypeFault text says other → one ≡ other
+one_type_fault text says one other laws a b =
+    let tree = one_tree text a.tree b.tree laws a.has b.has in
+    let fault = same_type_fault _ _ a.fault b.fault (ap (λ (t : Tree). body_fault t says) tree) a.first b.first in
+    a.told ∙ ap (λ (f : TypeFault). type_refusal (typing.Broken f)) fault ∙ sym b.told
+
+-- a tree that has a fault is no tree that has none
+attach_apart : (text : List ℕ) (says : Recorded) (refusal : Refusal) (tree : Tree) → AreScriptLaws text → IsAttachFault text says refusal
     → HasTree text tree → attach_fault tree says.formats says.start says.end ≡ None → ⊥
-no_script_fault text says refusal tree laws (inl a) has none = no_tree text refusal tree laws a has
-no_script_fault text says refusal tree laws (inr a) has none =
+attach_apart text says refusal tree laws a has none =
     some_is_not _ _ a.fault (ap (λ (t : Tree). attach_fault t says.formats says.start says.end) (one_tree text a.tree tree laws a.has has)) a.first none
   where
     some_is_not : (a b : Option AttachError) (fault : AttachError) → a ≡ b → a ≡ Some fault → b ≡ None → ⊥
     some_is_not a b fault e is none = cc
+
+type_apart : (text : List ℕ) (says : Recorded) (refusal : Refusal) (tree : Tree) → AreScriptLaws text → IsTypeFault text says refusal
+    → HasTree text tree → body_fault tree says ≡ None → ⊥
+type_apart text says refusal tree laws a has none =
+    some_is_not _ _ a.fault (ap (λ (t : Tree). body_fault t says) (one_tree text a.tree tree laws a.has has)) a.first none
+  where
+    some_is_not : (a b : Option TypeFault) (fault : TypeFault) → a ≡ b → a ≡ Some fault → b ≡ None → ⊥
+    some_is_not a b fault e is none = cc
+
+pub one_script_fault : (text : List ℕ) (says : Recorded) (one other : Refusal) → AreScriptLaws text
+    → IsScriptFault text says one → IsScriptFault text says other → one ≡ other
+one_script_fault text says one other laws (inl a) (inl b) = one_text_fault text one other laws a b
+one_script_fault text says one other laws (inl a) (inr (inl b)) = absurd (no_tree text one b.tree laws a b.has)
+one_script_fault text says one other laws (inl a) (inr (inr b)) = absurd (no_tree text one b.tree laws a b.has)
+one_script_fault text says one other laws (inr (inl a)) (inl b) = absurd (no_tree text other a.tree laws b a.has)
+one_script_fault text says one other laws (inr (inl a)) (inr (inl b)) = one_attach_fault text says one other laws a b
+one_script_fault text says one other laws (inr (inl a)) (inr (inr b)) = absurd (attach_apart text says one b.tree laws a b.has b.attached)
+one_script_fault text says one other laws (inr (inr a)) (inl b) = absurd (no_tree text other a.tree laws b a.has)
+one_script_fault text says one other laws (inr (inr a)) (inr (inl b)) = absurd (attach_apart text says other a.tree laws b a.has a.attached)
+one_script_fault text says one other laws (inr (inr a)) (inr (inr b)) = one_type_fault text says one other laws a b
+
+-- a script with a fault is not accepted
+pub no_script_fault : (text : List ℕ) (says : Recorded) (refusal : Refusal) (tree : Tree) → AreScriptLaws text → IsScriptFault text says refusal
+    → HasTree text tree → attach_fault tree says.formats says.start says.end ≡ None → body_fault tree says ≡ None → ⊥
+no_script_fault text says refusal tree laws (inl a) has none typed = no_tree text refusal tree laws a has
+no_script_fault text says refusal tree laws (inr (inl a)) has none typed = attach_apart text says refusal tree laws a has none
+no_script_fault text says refusal tree laws (inr (inr a)) has none typed = type_apart text says refusal tree laws a has typed
 
 -- what the lexer and the parser refuse, as a fault over a recording
 pub text_told : (text : List ℕ) (says : Recorded) (refusal : Refusal) → IsTextRefusal text refusal → IsScriptRefusal text says refusal
@@ -142,33 +184,63 @@ attach_told text says tree (attaching.UnknownTracepoint at) has found = inr (rec
   fault = UnknownTracepoint;
   place = at;
   told = refl;
-  first = inr (record { tree = tree; fault = attaching.UnknownTracepoint at; has = has; first = found (λ e. cc); told = refl });
+  first = inr (inl (record { tree = tree; fault = attaching.UnknownTracepoint at; has = has; first = found (λ e. cc); told = refl }));
 })
 attach_told text says tree (attaching.NoMatch at) has found = inr (record {
   fault = NoMatch;
   place = at;
   told = refl;
-  first = inr (record { tree = tree; fault = attaching.NoMatch at; has = has; first = found (λ e. cc); told = refl });
+  first = inr (inl (record { tree = tree; fault = attaching.NoMatch at; has = has; first = found (λ e. cc); told = refl }));
 })
 attach_told text says tree (attaching.BadPeriod at) has found = inr (record {
   fault = BadPeriod;
   place = at;
   told = refl;
-  first = inr (record { tree = tree; fault = attaching.BadPeriod at; has = has; first = found (λ e. cc); told = refl });
+  first = inr (inl (record { tree = tree; fault = attaching.BadPeriod at; has = has; first = found (λ e. cc); told = refl }));
 })
 attach_told text says tree (attaching.TooManyTicks at) has found = inr (record {
   fault = TooManyTicks;
   place = at;
   told = refl;
-  first = inr (record { tree = tree; fault = attaching.TooManyTicks at; has = has; first = found (λ e. cc); told = refl });
+  first = inr (inl (record { tree = tree; fault = attaching.TooManyTicks at; has = has; first = found (λ e. cc); told = refl }));
 })
 attach_told text says tree (attaching.TooManyAttached at) has found = inr (record {
   fault = TooManyAttached;
   place = at;
   told = refl;
-  first = inr (record { tree = tree; fault = attaching.TooManyAttached at; has = has; first = found (λ e. cc); told = refl });
+  first = inr (inl (record { tree = tree; fault = attaching.TooManyAttached at; has = has; first = found (λ e. cc); told = refl }));
 })
 attach_told text says tree attaching.Memory has found = inl refl
+
+-- the bodies of what the script is attached to are those of its probes over the recording, and are there
+pub bodies_of_tree : (tree : Tree) (says : Recorded) (attached : Attached) → IsAttachedTo tree says.formats says.start says.end attached
+    → type_fault tree says.formats attached.bodies ≡ body_fault tree says
+bodies_of_tree tree says attached is = ap (λ (bodies : List BodyId). type_fault tree says.formats bodies) is.bodies
+
+event_is_there : (formats : List Format) (point : BodyPoint) → IsEventThere formats point → IsEventOf formats point
+event_is_there formats (Event place) there = there
+event_is_there formats Begin there = tt
+event_is_there formats End there = tt
+event_is_there formats Interval there = tt
+
+pub bodies_checked : (tree : Tree) (formats : List Format) (bodies : List BodyId) → All (IsThere tree formats) bodies
+    → All (IsBodyOf tree formats) bodies
+bodies_checked tree formats bodies there =
+    All-weaker (IsThere tree formats) (IsBodyOf tree formats) (λ id is. record { probe = is.probe; event = event_is_there formats id.point is.event }) bodies there
+
+-- what typing refuses
+pub type_told : (text : List ℕ) (says : Recorded) (tree : Tree) (bodies : List BodyId) (error : TypeError) → HasTree text tree
+    → attach_fault tree says.formats says.start says.end ≡ None → type_fault tree says.formats bodies ≡ body_fault tree says
+    → ((fault : TypeFault) → error ≡ typing.Broken fault → type_fault tree says.formats bodies ≡ Some fault)
+    → IsScriptRefusal text says (type_refusal error)
+type_told text says tree bodies typing.Memory has attached same found = inl refl
+type_told text says tree bodies (typing.Broken fault) has attached same found = inr (record {
+  fault = Types fault.rule;
+  place = fault.place;
+  told = refl;
+  first =
+      inr (inr (record { tree = tree; fault = fault; has = has; attached = attached; first = sym same ∙ found fault refl; told = refl }));
+})
 
 -- ---- the format of an event
 

@@ -12,7 +12,7 @@ use Rattle.bt_top.specs.declared.refusal.Refusal.{Refusal}
 use Rattle.bt_top.specs.declared.refusal.Refusal.TheVariants.{Usage, Script, Recording, ReadFault, WriteFault, Memory}
 use Rattle.bt_top.specs.declared.words.Order.{Order}
 use Rattle.bt_top.specs.declared.words.Order.TheVariants.{Run, Check}
-use Rattle.bt_top.specs.Script.{IsScriptFault, HasTree, CountsFormat}
+use Rattle.bt_top.specs.Script.{IsScriptFault, HasTree, body_fault, CountsFormat}
 
 -- the bytes of the two files
 pub record Files : Type 0 where
@@ -29,14 +29,17 @@ pub record IsRecording (bytes : List ℕ) (says : Recorded) : Type 0 where
   pub valid : IsValidRecording says
   pub spelled : bytes ≡ recording_bytes says
 
--- two files that are accepted: a valid recording, and a script with a tree, of whose points none breaks a rule over this recording
+-- two files that are accepted: a valid recording, and a script with a tree, of whose points none breaks a rule over this recording, and
+-- of whose bodies none breaks a rule of types
 pub record AreAccepted (files : Files) (says : Recorded) (tree : Tree) : Type 0 where
   pub short : AreShort files
   pub is : IsRecording files.recording says
   pub has : HasTree files.script tree
   pub attached : attach_fault tree says.formats says.start says.end ≡ None
+  pub typed : body_fault tree says ≡ None
 
--- what refuses two files, whatever is asked of them: the first in the order script read, recording read, recording, lexing, parsing, attaching
+-- what refuses two files, whatever is asked of them: the first in the order script read, recording read, recording, lexing, parsing,
+-- attaching, typing
 abbrev pub IsFault : Files → Refusal → Type 0
 IsFault files (Script script.TooLong) = SCRIPT_BYTES < length files.script
 IsFault files (Recording recording.TooLong) = (length files.script ≤ SCRIPT_BYTES) × (RECORDING_BYTES < length files.recording)
@@ -91,15 +94,15 @@ abbrev pub IsRecordingLeft : Order → Files → Type 0
 IsRecordingLeft (Run operands) files = HasMoreCpus files
 IsRecordingLeft (Check operands) files = ⊥
 
--- what the order asks of the script is not built yet: to run another script than one that counts, and to check more than how it is attached
+-- what the order asks of the script is not built yet: to run another script than one that counts
 abbrev pub IsScriptLeft : Order → Files → Type 0
 IsScriptLeft (Run operands) files = IsOtherScript files
-IsScriptLeft (Check operands) files = IsChecked files
+IsScriptLeft (Check operands) files = ⊥
 
 -- the command does its work
 abbrev pub IsDone : Order → Files → Type 0
 IsDone (Run operands) files = IsCounted files
-IsDone (Check operands) files = ⊥
+IsDone (Check operands) files = IsChecked files
 
 -- what is due to the files of an order: their first refusal; or that what comes next is not built; or nothing, where the command does its work
 abbrev pub IsDue : Order → Files → Option Refusal → Type 0

@@ -13,6 +13,9 @@ use Rattle.bt_top.specs.declared.refusal.Operand.TheVariants as operand
 use Rattle.bt_top.specs.declared.refusal.ScriptFault.{ScriptFault}
 use Rattle.bt_top.specs.declared.refusal.ScriptFault.TheVariants.{BadCharacter, OpenString, OpenComment, NumberTooLarge, BadEscape, StringTooLong, Syntax}
 use Rattle.bt_top.specs.declared.refusal.ScriptFault.TheVariants.{TooDeep, TooManyProbes, UnknownTracepoint, NoMatch, BadPeriod, TooManyTicks, TooManyAttached}
+use Rattle.bt_top.specs.declared.refusal.ScriptFault.TheVariants.{Types}
+use Rattle.expr_types.specs.declared.fault.Rule.{Rule}
+use Rattle.expr_types.specs.declared.fault.Rule.TheVariants as types
 use Rattle.bt_top.specs.declared.refusal.ScriptRefusal.{ScriptRefusal}
 use Rattle.bt_top.specs.declared.refusal.ScriptRefusal.TheVariants as script
 use Rattle.bt_top.specs.declared.refusal.RecordingRefusal.{RecordingRefusal}
@@ -83,6 +86,21 @@ fault_pieces (fault.TrailingBytes offset) = Text (codes "C10 trailing bytes at b
 fault_pieces (fault.BadSystem place) = Text (codes "C11 bad system in format ") ∷ Number place ∷ []
 fault_pieces fault.Memory = Text (codes "out of memory") ∷ []
 
+-- the rule of types that a script breaks
+abbrev pub rule_text : Rule → List ℕ
+rule_text types.UnknownField = codes "Y1 unknown field"
+rule_text types.FieldNotReadable = codes "Y2 field not readable"
+rule_text types.OtherKind = codes "Y3 map used in two ways"
+rule_text types.OtherKeys = codes "Y4 key shape differs"
+rule_text types.NotSet = codes "Y5 variable not set"
+rule_text types.WrongType = codes "Y6 wrong type"
+rule_text types.BadFormat = codes "Y7 bad format"
+rule_text types.BadBounds = codes "Y8 bad lhist"
+rule_text types.AggregationRead = codes "Y9 aggregation read"
+rule_text types.NoEvent = codes "Y10 args outside a tracepoint"
+rule_text types.TooManyMaps = codes "Y11 too many maps"
+rule_text types.NoLoop = codes "Y12 jump outside a loop"
+
 -- what is wrong with a script
 abbrev pub script_fault_text : ScriptFault → List ℕ
 script_fault_text BadCharacter = codes "X1 bad character"
@@ -99,6 +117,7 @@ script_fault_text NoMatch = codes "A2 no match"
 script_fault_text BadPeriod = codes "A3 bad period"
 script_fault_text TooManyTicks = codes "A4 too many ticks"
 script_fault_text TooManyAttached = codes "A5 too many attachments"
+script_fault_text (Types rule) = rule_text rule
 
 -- why a script is refused, behind its name
 abbrev pub script_pieces : ScriptRefusal → List Piece

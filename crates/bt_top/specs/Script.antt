@@ -6,7 +6,7 @@ use Rattle.tracefs_format.specs.ByName.{IsNamed}
 use Rattle.rec_format.specs.declared.recording.Recording.{Recording as Recorded}
 use Rattle.bt_attach.specs.declared.error.AttachError.{AttachError}
 use Rattle.bt_attach.specs.declared.error.AttachError.TheVariants as attaching
-use Rattle.bt_attach.specs.Attaching.{attach_fault}
+use Rattle.bt_attach.specs.Attaching.{attach_fault, bodies_from}
 use Rattle.bt_lexer.specs.declared.error.LexError.{LexError}
 use Rattle.bt_lexer.specs.declared.error.LexError.TheVariants as lexical
 use Rattle.bt_core.specs.declared.place.Place.{Place}
@@ -26,7 +26,12 @@ use Rattle.bt_grammar.specs.declared.error.ParseError.TheVariants as parsing
 use Rattle.bt_grammar.specs.Refusals.{IsAccepted as IsTree, IsRefusal}
 use Rattle.bt_grammar.specs.Tokens.{items}
 use Rattle.bt_top.specs.declared.refusal.ScriptFault.TheVariants.{BadCharacter, OpenString, OpenComment, NumberTooLarge, BadEscape, StringTooLong, Syntax}
+use Rattle.expr_types.specs.declared.fault.Fault.{Fault as TypeFault}
+use Rattle.expr_types.specs.declared.fault.TypeError.{TypeError}
+use Rattle.expr_types.specs.declared.fault.TypeError.TheVariants as typing
+use Rattle.bt_types.specs.Bodies.{type_fault}
 use Rattle.bt_top.specs.declared.refusal.ScriptFault.TheVariants.{TooDeep, TooManyProbes, UnknownTracepoint, NoMatch, BadPeriod, TooManyTicks, TooManyAttached}
+use Rattle.bt_top.specs.declared.refusal.ScriptFault.TheVariants.{Types}
 use Rattle.bt_top.specs.declared.refusal.Refusal.{Refusal}
 use Rattle.bt_top.specs.declared.refusal.ScriptRefusal.TheVariants.{Fault}
 use Rattle.bt_top.specs.declared.refusal.Refusal.TheVariants.{Script, Memory}
@@ -68,6 +73,11 @@ attach_refusal (attaching.TooManyTicks place) = Script (Fault TooManyTicks place
 attach_refusal (attaching.TooManyAttached place) = Script (Fault TooManyAttached place)
 attach_refusal attaching.Memory = Memory
 
+-- why a script is refused in whose bodies this is the first fault of types
+abbrev pub type_refusal : TypeError → Refusal
+type_refusal (typing.Broken fault) = Script (Fault (Types fault.rule) fault.place)
+type_refusal typing.Memory = Memory
+
 -- the text's first lexical fault is told by this refusal
 pub record IsLexicalFault (text : List ℕ) (refusal : Refusal) : Type 0 where
   pub fault : LexError
@@ -100,9 +110,22 @@ pub record IsAttachFault (text : List ℕ) (says : Recorded) (refusal : Refusal)
   pub first : attach_fault tree says.formats says.start says.end ≡ Some fault
   pub told : refusal ≡ attach_refusal fault
 
--- the refusal tells the first fault of a script over a recording, in the order lexing, parsing, attaching
+-- the first rule of types that is broken in the bodies that a tree is attached to over this recording
+abbrev pub body_fault : Tree → Recorded → Option TypeFault
+body_fault tree says = type_fault tree says.formats (bodies_from says.formats 0 tree.probes)
+
+-- the text has a tree whose points may all be attached, and the first fault of types of its bodies is told by this refusal
+pub record IsTypeFault (text : List ℕ) (says : Recorded) (refusal : Refusal) : Type 0 where
+  pub tree : Tree
+  pub fault : TypeFault
+  pub has : HasTree text tree
+  pub attached : attach_fault tree says.formats says.start says.end ≡ None
+  pub first : body_fault tree says ≡ Some fault
+  pub told : refusal ≡ type_refusal (typing.Broken fault)
+
+-- the refusal tells the first fault of a script over a recording, in the order lexing, parsing, attaching, typing
 abbrev pub IsScriptFault : List ℕ → Recorded → Refusal → Type 0
-IsScriptFault text says refusal = IsTextFault text refusal ⊎ IsAttachFault text says refusal
+IsScriptFault text says refusal = IsTextFault text refusal ⊎ (IsAttachFault text says refusal ⊎ IsTypeFault text says refusal)
 
 -- ---- the scripts that run so far
 

@@ -1,13 +1,17 @@
 -- What the top call answers.
-use Rattle.std.specs.Prelude.{◌≡◌, ◌≢◌, ℕ, ◌++◌, ◌<◌, ◌≤◌, ◌⊎◌, List, [], ◌∷◌, length, Option, Some, None, Result, Ok, Err, IfOk, IfErr, IfSome}
+use Rattle.std.specs.Prelude.{◌≡◌, ◌≢◌, ℕ, ◌++◌, ◌<◌, ◌≤◌, ◌⊎◌, List, [], ◌∷◌, codes, length, Option, Some, None, Result, Ok, Err, IfOk, IfErr, IfSome}
+use Rattle.std.specs.Prelude.{IsSomeAnd}
 use Rattle.std.specs.Io.KnownBytes.{Appends, Keeps}
 use Rattle.bt_core.specs.declared.limits.TheConstants.{SCRIPT_BYTES}
 use Rattle.bt_core.specs.declared.place.Place.{Place}
 use Rattle.bt_io.specs.Faults.{Rose}
 use Rattle.bt_io.specs.Taken.{AppendsPart}
 use Rattle.rec_format.specs.declared.recording.Recording.{Recording as Recorded}
+use Rattle.rec_format.specs.Recordings.{IsValidRecording}
 use Rattle.bt_top.specs.declared.judge.Accepted.{Accepted}
-use Rattle.bt_top.specs.declared.judge.Counting.{Counting}
+use Rattle.bt_top.specs.declared.judge.Counting.{Counting as Counted}
+use Rattle.bt_top.specs.declared.judge.Judged.{Judged}
+use Rattle.bt_top.specs.declared.judge.Judged.TheVariants.{Counting, Checked}
 use Rattle.bt_top.specs.declared.report.Report.{Report}
 use Rattle.bt_top.specs.declared.report.Work.{Work}
 use Rattle.bt_top.specs.declared.refusal.Operand.TheVariants as operand
@@ -20,7 +24,7 @@ use Rattle.bt_top.specs.declared.words.Operands.{Operands}
 use Rattle.bt_top.specs.declared.words.Order.{Order}
 use Rattle.bt_top.specs.declared.words.Order.TheVariants.{Run, Check}
 use Rattle.bt_top.specs.Count.{payloads_of, IsWorkOf}
-use Rattle.bt_top.specs.Due.{Files, IsAsked, IsCounted, IsFault, IsDue}
+use Rattle.bt_top.specs.Due.{Files, IsAsked, IsCounted, IsChecked, IsFault, IsDue}
 use Rattle.bt_top.specs.Lines.{SinkUse, SinkFailed, Writes}
 use Rattle.bt_top.specs.Refusals.{refusal_pieces}
 use Rattle.bt_top.specs.Script.{IsTextFault, IsScriptFault, CountsFormat}
@@ -128,9 +132,10 @@ OnTold (Some order) held P = OnBoth (held (operands_of order).script) (held (ope
 
 -- ---- what is written
 
--- the bytes that a command writes: a run writes the text of its work
+-- the bytes that a command writes: a run writes the text of its work, and a check writes that nothing is refused
 abbrev pub bytes_written : Option Order → Option Work → List ℕ
 bytes_written (Some (Run operands)) (Some work) = work.text
+bytes_written (Some (Check operands)) None = codes "ok\n"
 bytes_written order work = []
 
 -- the output took the bytes of the command at status 0, a prefix of them after a fault of the write, and else nothing
@@ -175,7 +180,7 @@ abbrev pub IsDueRefusal : Order → Files → Refusal → Type 0
 IsDueRefusal order files refusal = (refusal ≡ Memory) ⊎ IsDue order files (Some refusal)
 
 -- the accepted recording has one CPU, and the script counts the events of its format at this place
-pub record Counts (accepted : Accepted) (counting : Counting) : Type 0 where
+pub record Counts (accepted : Accepted) (counting : Counted) : Type 0 where
   pub same : counting.recording ≡ accepted.recording
   pub one_cpu : length accepted.recording.cpus ≡ 1
   pub counts : CountsFormat accepted.tree accepted.recording.formats counting.format
@@ -187,18 +192,29 @@ IsLeft accepted (Script script.NotBuilt) =
     (length accepted.recording.cpus ≡ 1) × ((place : ℕ) → CountsFormat accepted.tree accepted.recording.formats place → ⊥)
 IsLeft accepted refusal = ⊥
 
--- to count is what a run does
-abbrev pub IsRun : Order → Type 0
-IsRun (Run operands) = Unit {0}
-IsRun (Check operands) = ⊥
+-- what an order asks for, where nothing of its files is refused
+abbrev pub IsJudged : Order → Files → Judged → Type 0
+IsJudged (Run operands) files (Counting counting) = IsAsked files counting.recording counting.format
+IsJudged (Check operands) files Checked = IsChecked files
+IsJudged order files judged = ⊥
 
--- what is to be counted
-abbrev pub IsJudged : Order → Files → Counting → Type 0
-IsJudged (Run operands) files counting = IsAsked files counting.recording counting.format
-IsJudged (Check operands) files counting = ⊥
+-- what is counted is a valid recording of one CPU
+abbrev pub CanCount : Judged → Type 0
+CanCount (Counting counting) = IsValidRecording counting.recording × (length counting.recording.cpus ≡ 1)
+CanCount Checked = Unit {0}
 
--- what the two reads answer: the recording and the format whose events are counted, or what may come of the files before the write
-pub record Reads (order : Order) (shelf : ShelfUse) (answer : Result Counting Refusal) : Type 0 where
+-- the work of what is asked for
+abbrev pub IsDoneWork : Judged → Option Work → Type 0
+IsDoneWork (Counting counting) work = IsSomeAnd work (IsWorkOf (payloads_of counting.format counting.recording))
+IsDoneWork Checked work = work ≡ None
+
+-- the bytes that are written of it
+abbrev pub bytes_of : Option Work → List ℕ
+bytes_of None = codes "ok\n"
+bytes_of (Some work) = work.text
+
+-- what the two reads answer: what the order asks for, or what may come of the files before the write
+pub record Reads (order : Order) (shelf : ShelfUse) (answer : Result Judged Refusal) : Type 0 where
   pub files : Files
   pub held : AreHeld shelf.held (operands_of order) files
   pub judged : IfOk answer (IsJudged order files)

@@ -4,14 +4,15 @@ ghost use Rattle.bt_core.specs.declared.limits.TheConstants.{SCRIPT_BYTES};
 ghost use Rattle.rec_format.specs.Recordings.{IsValidRecording};
 ghost use Rattle.bt_attach.specs.Attaching.{attach_fault};
 ghost use Rattle.bt_top.specs.Due.{AreAccepted, AreShort};
-ghost use Rattle.bt_top.specs.Script.{HasTree};
+ghost use Rattle.bt_top.specs.Script.{HasTree, body_fault};
 ghost use Rattle.bt_top.specs.Serve.{ComesIfDue, Counts, IsDueRefusal, IsFaultRefusal, IsJudged, IsLeft, IsScriptRefusal, refusal_in};
 
 use crate::refusal::{RecordingRefusal, Refusal, ScriptRefusal, recording_refusal};
-use crate::script::{attach_refusal, counted_format, tree_of};
+use crate::script::{attach_refusal, counted_format, tree_of, type_refusal};
 use crate::words::Order;
 use bt_ast::probe::Script;
 use bt_attach::attach::attach;
+use bt_types::script::check;
 use rec_format::reading::read_recording;
 use rec_format::recording::Recording;
 use std::alloc::Global;
@@ -30,23 +31,38 @@ pub(crate) struct Counting {
     pub format: usize,
 }
 
-/// The tree of a script whose probes may all be attached to the recording.
-fn attached_tree(alloc: Global, script: &[u8], recording: &Recording) -> Result<Script, Refusal>
+/// What an order asks for, where nothing of its files is refused.
+#[derive(Drop)]
+pub(crate) enum Judged {
+    /// Of a run: to count the events of a format.
+    Counting(Counting),
+    /// Of a check: nothing more.
+    Checked,
+}
+
+/// The tree of a script whose probes may all be attached to the recording, and whose bodies have types.
+fn accepted_tree(alloc: Global, script: &[u8], recording: &Recording) -> Result<Script, Refusal>
     requires short { length script.now ≤ SCRIPT_BYTES }
     requires valid { IsValidRecording recording.now }
     ensures tree { IfOk result (HasTree script.now) }
     ensures attached { IfOk result (λ tree. attach_fault tree recording.now.formats recording.now.start recording.now.end ≡ None) }
+    ensures typed { IfOk result (λ tree. body_fault tree recording.now ≡ None) }
     ensures fault { IfErr result (IsScriptRefusal script.now recording.now) }
 {
     bt_grammar::laws::few_probes();
+    bt_attach::laws::bodies_are_there();
     let tree = match tree_of(alloc, script) {
         Ok(tree) => tree,
         Err(refusal) => return Err(refusal),
     };
     let formats = recording.formats.as_slice();
-    match attach(alloc, &tree, formats, recording.start, recording.end) {
+    let attached = match attach(alloc, &tree, formats, recording.start, recording.end) {
+        Ok(attached) => attached,
+        Err(error) => return Err(attach_refusal(error)),
+    };
+    match check(alloc, &tree, &attached, formats) {
         Ok(_) => Ok(tree),
-        Err(error) => Err(attach_refusal(error)),
+        Err(error) => Err(type_refusal(error)),
     }
 }
 
@@ -60,7 +76,7 @@ fn accept(alloc: Global, script: &[u8], recording: &[u8]) -> Result<Accepted, Re
         Ok(recording) => recording,
         Err(error) => return Err(recording_refusal(error)),
     };
-    match attached_tree(alloc, script, &recording) {
+    match accepted_tree(alloc, script, &recording) {
         Ok(tree) => Ok(Accepted { recording, tree }),
         Err(refusal) => Err(refusal),
     }
@@ -84,7 +100,7 @@ fn counting_of(accepted: Accepted) -> Result<Counting, Refusal>
 }
 
 /// What an order asks of two files.
-fn asked(alloc: Global, order: &Order, script: &[u8], recording: &[u8]) -> Result<Counting, Refusal>
+fn asked(alloc: Global, order: &Order, script: &[u8], recording: &[u8]) -> Result<Judged, Refusal>
     requires { AreShort (record { script = script.now; recording = recording.now }) }
     ensures judged { IfOk result (IsJudged order.now (record { script = script.now; recording = recording.now })) }
     ensures refused { IfErr result (IsDueRefusal order.now (record { script = script.now; recording = recording.now })) }
@@ -94,8 +110,11 @@ fn asked(alloc: Global, order: &Order, script: &[u8], recording: &[u8]) -> Resul
         Err(refusal) => return Err(refusal),
     };
     match order {
-        Order::Run(_) => counting_of(accepted),
-        Order::Check(_) => Err(Refusal::Script(ScriptRefusal::NotBuilt)),
+        Order::Run(_) => match counting_of(accepted) {
+            Ok(counting) => Ok(Judged::Counting(counting)),
+            Err(refusal) => Err(refusal),
+        },
+        Order::Check(_) => Ok(Judged::Checked),
     }
 }
 
@@ -105,7 +124,7 @@ pub(crate) fn judge(
     order: &Order,
     script: &[u8],
     recording: &[u8],
-) -> Result<Counting, Refusal>
+) -> Result<Judged, Refusal>
     requires { AreShort (record { script = script.now; recording = recording.now }) }
     ensures judged { IfOk result (IsJudged order.now (record { script = script.now; recording = recording.now })) }
     ensures refused { IfErr result (IsDueRefusal order.now (record { script = script.now; recording = recording.now })) }

@@ -4,6 +4,7 @@ ghost use Rattle.bt_top.specs.Refusals.{status_of, recording_refusal, read_refus
 
 use bt_core::place::Place;
 use bt_io::shelf::ShelfError;
+use expr_types::fault::Rule;
 use rec_format::error::RecordingError;
 
 /// A file that the words name.
@@ -13,7 +14,8 @@ pub enum Operand {
     Recording,
 }
 
-/// What is wrong with a script: the first fault of its text, of its tokens, or of the points of its probes.
+/// What is wrong with a script: the first fault of its text, of its tokens, of the points of its probes, or
+/// of its types.
 #[derive(Clone, Copy, PartialEq, Eq, Debug)]
 pub enum ScriptFault {
     /// X1: no token begins with this byte, or it does not fit the token that it stands in.
@@ -44,6 +46,8 @@ pub enum ScriptFault {
     TooManyTicks,
     /// A5: with this point there are more than 4,096 bodies.
     TooManyAttached,
+    /// Y1 to Y12: the rule of types that is broken here, the first in walk order over the bodies.
+    Types(Rule),
 }
 
 /// Why a script is refused.
@@ -51,8 +55,8 @@ pub enum ScriptFault {
 pub enum ScriptRefusal {
     /// It has more bytes than it may have.
     TooLong,
-    /// The text is no script, or none for this recording: the first fault, and the place of its byte, token
-    /// or point. That of a text that breaks off is the end of the text.
+    /// The text is no script, or none for this recording: the first fault, and the place of its byte, token,
+    /// point or part of a body. That of a text that breaks off is the end of the text.
     Fault(ScriptFault, Place),
     /// Nothing is wrong with it so far, and what comes next is not built: of a script that is run, whatever
     /// does more than count the events of one of the recording's formats.

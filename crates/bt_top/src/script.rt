@@ -1,7 +1,8 @@
 // The trees of scripts, and those that run so far.
 ghost use Rattle.std.specs.Prelude.{◌≡◌, ◌≤◌, ℕ, IfErr, IfOk, MatchOption, None, Some, length, slice_get};
 ghost use Rattle.bt_lexer.specs.Places.{offset_of};
-ghost use Rattle.bt_top.specs.Script.{place_of, place_at, lexical_refusal, parse_refusal, attach_refusal, HasTree, has_star, IsFormatOf, CountsFormat};
+ghost use Rattle.bt_top.specs.Script.{place_of, place_at, lexical_refusal, parse_refusal, attach_refusal, type_refusal};
+ghost use Rattle.bt_top.specs.Script.{HasTree, has_star, IsFormatOf, CountsFormat};
 ghost use Rattle.bt_top.specs.Early.{event_of_points, is_count, are_count, event_of_probe, event_of_tree};
 ghost use Rattle.bt_top.specs.Serve.{IsTextRefusal};
 
@@ -18,6 +19,7 @@ use bt_lexer::lexer::lex;
 use bt_lexer::line::line_column;
 use bt_lexer::token::Token;
 use bt_parser::parse::parse;
+use expr_types::fault::TypeError;
 use std::alloc::Global;
 use tracefs_format::format::Format;
 
@@ -97,6 +99,16 @@ pub(crate) fn attach_refusal(error: AttachError) -> Refusal
         AttachError::TooManyTicks(place) => fault_at(ScriptFault::TooManyTicks, place),
         AttachError::TooManyAttached(place) => fault_at(ScriptFault::TooManyAttached, place),
         AttachError::Memory => Refusal::Memory,
+    }
+}
+
+/// Why a script is refused in whose bodies this is the first fault of types.
+pub(crate) fn type_refusal(error: TypeError) -> Refusal
+    ensures { result ≡ type_refusal error }
+{
+    match error {
+        TypeError::Broken(fault) => fault_at(ScriptFault::Types(fault.rule), fault.place),
+        TypeError::Memory => Refusal::Memory,
     }
 }
 

@@ -1,31 +1,29 @@
 // The top call.
 ghost use Rattle.std.specs.Prelude.{◌≡◌, ◌≢◌, ◌*◌, ◌⊎◌, ◌↔◌, length, None, Some, IfOk, IfSome, IsSome};
 ghost use Rattle.bt_io.specs.Faults.{Rose};
-ghost use Rattle.rec_format.specs.Recordings.{IsValidRecording};
 ghost use Rattle.bt_words.specs.Words.{order_of as order_asked};
 ghost use Rattle.bt_top.specs.Lines.{sink_use};
 ghost use Rattle.bt_top.specs.Refusals.{status_of};
-ghost use Rattle.bt_top.specs.Serve.{Answers, AsksExactly, AsksFirst, ComesIfDue, HasWork, IsAnswer, IsComplete, IsRun, IsWritten, OnTold, Reads, Tells};
-ghost use Rattle.bt_top.specs.Serve.{bytes_written, refusal_in, shelf_use};
+ghost use Rattle.bt_top.specs.Serve.{Answers, AsksExactly, AsksFirst, CanCount, ComesIfDue, HasWork, IsAnswer, IsComplete, IsDoneWork, IsWritten};
+ghost use Rattle.bt_top.specs.Serve.{OnTold, Reads, Tells, bytes_of, bytes_written, refusal_in, shelf_use};
 ghost use Rattle.bt_top.specs.Words.{names_of, order_of};
 
 use crate::count::work_of;
-use crate::judge::{Counting, judge};
+use crate::judge::{Judged, judge};
 use crate::refusal::{Operand, Refusal, read_refusal, status_of};
-use crate::report::Report;
+use crate::report::{Report, Work};
 use crate::tell::{tell, tell_memory, tell_usage};
 use crate::words::{Order, operands_of, order_of};
 use bt_core::limits::{RECORDING_BYTES, SCRIPT_BYTES};
+use bt_core::memory::Memory;
 use bt_io::shelf::Shelf;
 use bt_io::sink::{Sink, write_all};
 use bt_words::order::WordsError;
 use std::alloc::Global;
 
-/// Reads both files, and answers what is to be counted.
-fn read_files<S: Shelf>(alloc: Global, order: &Order, shelf: &mut S) -> Result<Counting, Refusal>
-    ensures valid { IfOk result (λ counting. IsValidRecording counting.recording) }
-    ensures one_cpu { IfOk result (λ counting. length counting.recording.cpus ≡ 1) }
-    ensures is_run { IfOk result (λ _. IsRun order.now) }
+/// Reads both files, and answers what the order asks for.
+fn read_files<S: Shelf>(alloc: Global, order: &Order, shelf: &mut S) -> Result<Judged, Refusal>
+    ensures can_count { IfOk result CanCount }
     ensures read { Reads order.now (shelf_use S.held S.faults S.asked shelf.old shelf.new) result }
     ensures exact { OnTold (Some order.now) (S.held shelf.old) (ComesIfDue (refusal_in result)) }
     ensures asked { AsksFirst (S.asked shelf.old) (S.asked shelf.new) (names_of (Some order.now)) }
@@ -54,7 +52,29 @@ fn refused(refusal: Refusal) -> Report
     }
 }
 
-/// Does what an order asks for: counts the events and writes how many they are.
+/// The work of what is asked for, where it is a run.
+fn work_for(alloc: Global, judged: &Judged) -> Result<Option<Work>, Memory>
+    requires { CanCount judged.now }
+    ensures { IfOk result (IsDoneWork judged.now) }
+{
+    match judged {
+        Judged::Counting(counting) => Ok(Some(work_of(alloc, counting)?)),
+        Judged::Checked => Ok(None),
+    }
+}
+
+/// What is written of it.
+fn bytes_of(work: &Option<Work>) -> &[u8]
+    ensures { result.now ≡ bytes_of work.now }
+{
+    match work {
+        Some(work) => work.text.as_slice(),
+        None => b"ok\n",
+    }
+}
+
+/// Does what an order asks for: counts the events and writes how many they are, or writes that nothing
+/// is refused.
 fn perform<S: Shelf, K: Sink>(alloc: Global, order: &Order, shelf: &mut S, out: &mut K) -> Report
     ensures status { result.status ≡ status_of result.refusal }
     ensures known { result.refusal ≢ Some Refusal.Usage }
@@ -67,40 +87,42 @@ fn perform<S: Shelf, K: Sink>(alloc: Global, order: &Order, shelf: &mut S, out: 
     ensures six_each { IfSome result.work (λ work. work.instructions ≡ 6 * length work.steps) }
     ensures written { IsWritten (sink_use K.taken K.faults out.old out.new) result.refusal (bytes_written (Some order.now) result.work) }
 {
-    let counting = match read_files(alloc, order, shelf) {
-        Ok(counting) => counting,
+    let judged = match read_files(alloc, order, shelf) {
+        Ok(judged) => judged,
         Err(refusal) => return refused(refusal),
     };
-    let Ok(work) = work_of(alloc, &counting) else {
+    let Ok(work) = work_for(alloc, &judged) else {
         return refused(Refusal::Memory);
     };
-    let refusal = match write_all(out, work.text.as_slice()) {
+    let refusal = match write_all(out, bytes_of(&work)) {
         Ok(()) => None,
         Err(_) => Some(Refusal::WriteFault),
     };
     Report {
         status: status_of(refusal),
         refusal,
-        work: Some(work),
+        work,
     }
 }
 
 /// Does what the words ask for: `run SCRIPT RECORDING` counts those events of a recording of one CPU
 /// whose format the script names, and writes the count to `out`. For each of them the machine runs one
 /// fixed piece of BPF code (RFC 9669) over the event's payload, whose call of a helper makes the event's
-/// step. `check SCRIPT RECORDING` does all of a run up to attaching, over a recording of any number of CPUs.
+/// step. `check SCRIPT RECORDING` does all of a run up to typing, over a recording of any number of CPUs, and
+/// writes `ok` and a newline.
 ///
 /// A script that runs so far is one probe on one tracepoint, without `*` and without a predicate, with the
 /// one statement `@ = count()`; blanks and comments are free.
 ///
 /// Refusals come in the order words, script read, recording read, recording, lexing, parsing, attaching,
-/// what is not built, write. A file that is too long is refused at its read. A recording is refused with
+/// typing, what is not built, write. A file that is too long is refused at its read. A recording is refused with
 /// the first check that its bytes fail. A script is refused with the first lexical fault of its text, the
-/// first fault of its tokens by the grammar of the bpftrace language, or the first of its points that may
-/// not be attached over this recording, each with line and column. Not built is a run of a recording of
-/// more than one CPU, then a run of another script, and whatever a check does beyond attaching. Want of
-/// memory may come at any of them. Before the write nothing goes to `out`. What is refused is told by its
-/// line to `err`, and a fault there changes nothing else.
+/// first fault of its tokens by the grammar of the bpftrace language, the first of its points that may not
+/// be attached over this recording, or the first rule of types that is broken in its bodies, in walk order,
+/// each with line and column. Not built is a run of a recording of
+/// more than one CPU, and then a run of another script. Want of memory may come at any of them. Before the
+/// write nothing goes to `out`. What is refused is told by its line to `err`, and a fault there changes
+/// nothing else.
 pub fn serve<S: Shelf, K: Sink, E: Sink>(
     alloc: Global,
     words: &[String],

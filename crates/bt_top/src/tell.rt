@@ -4,13 +4,14 @@ ghost use Rattle.rec_format.specs.declared.error.RecordingError.TheVariants as w
 ghost use Rattle.bt_top.specs.declared.refusal.ScriptRefusal.TheVariants as refused;
 ghost use Rattle.bt_top.specs.Lines.{Writes, sink_use, Text, Number};
 ghost use Rattle.bt_top.specs.Refusals.{count_word, event_pieces, fault_pieces, format_pieces, name_of};
-ghost use Rattle.bt_top.specs.Refusals.{recording_pieces, refusal_pieces, script_fault_text, script_pieces, usage_pieces};
+ghost use Rattle.bt_top.specs.Refusals.{recording_pieces, refusal_pieces, rule_text, script_fault_text, script_pieces, usage_pieces};
 
 use crate::line::{Piece, write_line};
 use crate::refusal::{Operand, RecordingRefusal, Refusal, ScriptFault, ScriptRefusal};
 use crate::words::Operands;
 use bt_core::place::Place;
 use bt_io::sink::Sink;
+use expr_types::fault::Rule;
 use rec_format::error::{CountOf, RecordingError};
 use tracefs_format::error::FormatError;
 
@@ -23,6 +24,26 @@ fn count_word(what: CountOf) -> &'static str
         CountOf::Formats => "formats",
         CountOf::Events => "events",
         CountOf::Span => "span",
+    }
+}
+
+/// The rule of types that a script breaks.
+fn rule_text(rule: Rule) -> &'static str
+    ensures { result.now ≡ rule_text rule }
+{
+    match rule {
+        Rule::UnknownField => "Y1 unknown field",
+        Rule::FieldNotReadable => "Y2 field not readable",
+        Rule::OtherKind => "Y3 map used in two ways",
+        Rule::OtherKeys => "Y4 key shape differs",
+        Rule::NotSet => "Y5 variable not set",
+        Rule::WrongType => "Y6 wrong type",
+        Rule::BadFormat => "Y7 bad format",
+        Rule::BadBounds => "Y8 bad lhist",
+        Rule::AggregationRead => "Y9 aggregation read",
+        Rule::NoEvent => "Y10 args outside a tracepoint",
+        Rule::TooManyMaps => "Y11 too many maps",
+        Rule::NoLoop => "Y12 jump outside a loop",
     }
 }
 
@@ -45,6 +66,7 @@ fn script_fault_text(fault: ScriptFault) -> &'static str
         ScriptFault::BadPeriod => "A3 bad period",
         ScriptFault::TooManyTicks => "A4 too many ticks",
         ScriptFault::TooManyAttached => "A5 too many attachments",
+        ScriptFault::Types(rule) => rule_text(rule),
     }
 }
 

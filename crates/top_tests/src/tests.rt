@@ -52,15 +52,16 @@ fn sink(alloc: Global, most: usize, failing: &[u32]) -> Result<MemSink, Memory>
     MemSink::new(alloc, 4096, most, Vec::from_slice(alloc, failing)?)
 }
 
-/// The answer to the words `run s.bt r.bin`.
+/// The answer to a command on `s.bt` and `r.bin`.
 fn answer<S: Shelf>(
     alloc: Global,
+    command: &str,
     shelf: &mut S,
     out: &mut MemSink,
     err: &mut MemSink,
 ) -> Result<Report, Memory> {
     let mut words = Vec::new(alloc);
-    for word in ["run", "s.bt", "r.bin"] {
+    for word in [command, "s.bt", "r.bin"] {
         words.push(String::from_str(alloc, word)?)?;
     }
     Ok(serve(alloc, words.as_slice(), shelf, out, err))
@@ -72,7 +73,7 @@ fn a_million_events_are_counted(rt: HostRuntime) -> Result<(), Fail> {
     let mut shelf = shelf(alloc, 1_048_576, &[])?;
     let mut out = sink(alloc, 4096, &[])?;
     let mut err = sink(alloc, 4096, &[])?;
-    let report = answer(alloc, &mut shelf, &mut out, &mut err)?;
+    let report = answer(alloc, "run", &mut shelf, &mut out, &mut err)?;
     assert!(rt; report.status == 0);
     assert!(rt; out.taken() == b"@: 1048576\n\n".as_slice());
     Ok(())
@@ -84,7 +85,7 @@ fn a_write_fault_leaves_a_prefix_and_the_work(rt: HostRuntime) -> Result<(), Fai
     let mut shelf = shelf(alloc, 3, &[])?;
     let mut out = sink(alloc, 2, &[2])?;
     let mut err = sink(alloc, 3, &[3])?;
-    let report = answer(alloc, &mut shelf, &mut out, &mut err)?;
+    let report = answer(alloc, "run", &mut shelf, &mut out, &mut err)?;
     assert!(rt; report.status == 5);
     assert!(rt; out.taken() == b"@:".as_slice());
     // The fault of `err` leaves a prefix of its line, and changes nothing else.
@@ -93,6 +94,19 @@ fn a_write_fault_leaves_a_prefix_and_the_work(rt: HostRuntime) -> Result<(), Fai
     assert!(rt; work.text.as_slice() == b"@: 3\n\n".as_slice());
     assert!(rt; work.steps.len() == 3);
     assert!(rt; work.instructions == 18);
+    Ok(())
+}
+
+#[test]
+fn a_write_fault_of_a_check_leaves_a_prefix(rt: HostRuntime) -> Result<(), Fail> {
+    let alloc = rt.alloc();
+    let mut shelf = shelf(alloc, 3, &[])?;
+    let mut out = sink(alloc, 1, &[3])?;
+    let mut err = sink(alloc, 64, &[])?;
+    let report = answer(alloc, "check", &mut shelf, &mut out, &mut err)?;
+    assert!(rt; report.status == 5 && report.work.is_none());
+    assert!(rt; out.taken() == b"ok".as_slice());
+    assert!(rt; err.taken() == b"write fault\n".as_slice());
     Ok(())
 }
 
@@ -106,7 +120,7 @@ fn a_failing_read_is_told_of_its_file(rt: HostRuntime) -> Result<(), Fail> {
         let mut shelf = shelf(alloc, 3, &[call])?;
         let mut out = sink(alloc, 4096, &[])?;
         let mut err = sink(alloc, 4096, &[])?;
-        let report = answer(alloc, &mut shelf, &mut out, &mut err)?;
+        let report = answer(alloc, "run", &mut shelf, &mut out, &mut err)?;
         assert!(rt; report.status == 4);
         assert!(rt; out.taken().is_empty());
         assert!(rt; err.taken() == line);
@@ -160,7 +174,7 @@ fn a_long_recording_and_want_of_memory_are_told(rt: HostRuntime) -> Result<(), F
         };
         let mut out = sink(alloc, 4096, &[])?;
         let mut err = sink(alloc, 4096, &[])?;
-        let report = answer(alloc, &mut shelf, &mut out, &mut err)?;
+        let report = answer(alloc, "run", &mut shelf, &mut out, &mut err)?;
         assert!(rt; report.status == status);
         assert!(rt; out.taken().is_empty());
         assert!(rt; err.taken() == line);

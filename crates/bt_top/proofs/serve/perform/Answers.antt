@@ -1,10 +1,8 @@
-use Rattle.std.proofs.Common.{◌≡◌, inl, inr}
+use Rattle.std.proofs.Common.{◌≡◌, ◌∙◌, inl, inr}
 use Rattle.std.specs.Prelude.{◌⊎◌, Some, None}
 use Rattle.bt_io.specs.Faults.{Rose}
 use Rattle.bt_top.specs.declared.refusal.Refusal.TheVariants.{WriteFault}
-use Rattle.bt_top.specs.Count.{payloads_of}
-use Rattle.bt_top.proofs.EventRuns.{six_a_step}
-use Rattle.bt_top.proofs.Judging.{worked_answer}
+use Rattle.bt_top.proofs.Judging.{worked_answer, judged_work, judged_bytes, judged_six}
 use Rattle.bt_top.proofs.serve.perform.Goals as goal
 use Rattle.bt_top.proofs.serve.perform.Goals.{in-Ok-write_all, in-Err-write_all}
 
@@ -16,9 +14,26 @@ returns-clause-answered g c =
       | in-Ok-write_all w ↦ inl w.refusal-is
       | in-Err-write_all w ↦ inr (w.refusal-is, w.in-Err-write_all.ensures.failed)
     ] in
-    worked_answer _ _ _ c.status_of.result c.match-write_all.refusal c.in-Ok.counting c.in-Ok-work_of.work c.in-Ok.ensures.read c.in-Ok-work_of.ensures ends
+    worked_answer _ _ _ c.status_of.result c.match-write_all.refusal c.in-Ok.judged c.in-Ok-work_for.work c.in-Ok.ensures.read c.in-Ok-work_for.ensures ends
+
+pub returns-clause-worked : goal.returns-clause-worked
+returns-clause-worked g c =
+    let ends : (c.match-write_all.refusal ≡ None) ⊎ (c.match-write_all.refusal ≡ Some WriteFault) =
+    elim c.match-write_all.branch [
+      | in-Ok-write_all w ↦ inl w.refusal-is
+      | in-Err-write_all w ↦ inr w.refusal-is
+    ] in
+    judged_work c.args.order.now c.in-Ok.ensures.read.files c.in-Ok.judged c.in-Ok-work_for.work c.match-write_all.refusal c.in-Ok.ensures.read.judged
+    c.in-Ok-work_for.ensures ends
 
 pub returns-clause-six_each : goal.returns-clause-six_each
-returns-clause-six_each g c =
-    six_a_step (payloads_of c.in-Ok.counting.format c.in-Ok.counting.recording) c.in-Ok-work_of.work.steps c.in-Ok-work_of.work.instructions
-    c.in-Ok-work_of.ensures.runs
+returns-clause-six_each g c = judged_six c.in-Ok.judged c.in-Ok-work_for.work c.in-Ok-work_for.ensures
+
+pub returns-clause-written : goal.returns-clause-written
+returns-clause-written g c =
+    rw (← c.bytes_of.ensures ∙ judged_bytes c.args.order.now c.in-Ok.ensures.read.files c.in-Ok.judged c.in-Ok-work_for.work c.in-Ok.ensures.read.judged
+    c.in-Ok-work_for.ensures)
+    (elim c.match-write_all.branch [
+      | in-Ok-write_all w ↦ rw w.refusal-is w.in-Ok-write_all.ensures.whole
+      | in-Err-write_all w ↦ rw w.refusal-is w.in-Err-write_all.ensures.part
+    ])

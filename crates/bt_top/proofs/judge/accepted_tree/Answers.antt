@@ -1,0 +1,27 @@
+use Rattle.std.proofs.Common.{arith}
+use Rattle.bt_grammar.specs.Tokens.{items}
+use Rattle.bt_top.proofs.Scripts.{attach_told, bodies_checked, bodies_of_tree, type_told}
+use Rattle.bt_top.proofs.judge.accepted_tree.Goals as goal
+
+pub attach-requires-clause-probes : goal.attach-requires-clause-probes
+attach-requires-clause-probes c =
+    omega (arith, c.few_probes.ensures (items c.in-Ok.ensures.tree.tokens) c.in-Ok.tree c.in-Ok.ensures.tree.is)
+
+pub returns-in-Err-attach-clause-fault : goal.returns-in-Err-attach-clause-fault
+returns-in-Err-attach-clause-fault c =
+    rw c.attach_refusal.ensures
+    (attach_told _ _ c.in-Ok.tree c.in-Err-attach.error c.in-Ok.ensures.tree (rw c.as_slice-formats.ensures at c.in-Err-attach.ensures.fault))
+
+pub check-requires : goal.check-requires
+check-requires c =
+    rw c.as_slice-formats.ensures
+    (bodies_checked c.in-Ok.tree c.args.recording.now.formats c.in-Ok-attach.attached.bodies
+    (c.bodies_are_there.ensures _ _ _ _ _ (rw c.as_slice-formats.ensures at c.in-Ok-attach.ensures.found)))
+
+pub returns-in-Err-check-clause-fault : goal.returns-in-Err-check-clause-fault
+returns-in-Err-check-clause-fault c =
+    rw c.type_refusal.ensures
+    (type_told _ c.args.recording.now c.in-Ok.tree c.in-Ok-attach.attached.bodies c.in-Err-check.error c.in-Ok.ensures.tree
+    (rw c.as_slice-formats.ensures at c.in-Ok-attach.ensures.allowed)
+    (bodies_of_tree c.in-Ok.tree c.args.recording.now c.in-Ok-attach.attached (rw c.as_slice-formats.ensures at c.in-Ok-attach.ensures.found))
+    (rw c.as_slice-formats.ensures at c.in-Err-check.ensures.fault))

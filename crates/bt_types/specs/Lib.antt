@@ -1,0 +1,4 @@
+pub mod Bodies
+pub mod Done
+pub mod Script
+pub mod Told
