@@ -1,0 +1,13 @@
+pub mod Turns
+pub mod Numbers
+pub mod MapStatements
+pub mod MapCalls
+pub mod StmtLayers
+pub mod Printing
+pub mod Runs
+pub mod Loops
+pub mod Sound
+pub mod ExitLaws
+pub mod Opens
+pub mod Scoped
+pub mod Closing

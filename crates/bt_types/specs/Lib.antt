@@ -1,4 +1,6 @@
 pub mod Bodies
 pub mod Done
+pub mod Exits
+pub mod Open
 pub mod Script
 pub mod Told

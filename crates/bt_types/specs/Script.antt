@@ -1,6 +1,5 @@
 -- What a typed script is: the script's maps, formats and bodies, with its types.
-use Rattle.std.specs.Prelude.{◌≡◌, ℕ, Bool, true, false, List, [], ◌∷◌, map, Option, Some, None, slice_get, Ok}
-use Rattle.std.specs.List.{list_any}
+use Rattle.std.specs.Prelude.{◌≡◌, ℕ, List, [], ◌∷◌, map, Option, Some, None, slice_get, Ok}
 use Rattle.bt_ast.specs.declared.attached.BodyId.{BodyId}
 use Rattle.bt_ast.specs.declared.probe.Probe.{Probe}
 use Rattle.bt_ast.specs.declared.probe.Script.{Script}
@@ -9,14 +8,13 @@ use Rattle.bt_core.specs.declared.map.MapKind.TheVariants.{Ints}
 use Rattle.tracefs_format.specs.declared.format.Format.{Format}
 use Rattle.typed_tree.specs.declared.body.TypedBody.{TypedBody}
 use Rattle.typed_tree.specs.declared.script.Typed.{Typed}
-use Rattle.typed_tree.specs.declared.stmt.Jump.TheVariants.{Exit}
 use Rattle.typed_tree.specs.Bodies.{tree_parts}
 use Rattle.expr_types.specs.declared.known.Known.{Known}
 use Rattle.expr_types.specs.declared.known.Printed.{Printed}
 use Rattle.bt_types.specs.Bodies.{body_told, layout_at, nothing, script_told}
 use Rattle.expr_types.specs.Judge.{judged}
 use Rattle.expr_types.specs.Known.{decl_in}
-use Rattle.expr_types.specs.Mentions.{Word, JumpWord}
+use Rattle.bt_types.specs.Exits.{script_exits}
 use Rattle.expr_types.specs.Typing.{words_by}
 
 -- a map that is never decided holds whole numbers, and its keys have no parts
@@ -27,10 +25,6 @@ decl_or_none name (Some decl) = decl
 -- the maps of a script in the order of their first tokens
 abbrev pub maps_of : Known → List MapDecl
 maps_of k = map (λ name. decl_or_none name (decl_in name k.decided)) k.names
-
-abbrev pub is_exit : Word → Bool
-is_exit (JumpWord Exit) = true
-is_exit other = false
 
 -- a typed body is the probe's, over the event's layout: written back it has the probe's words
 pub record IsTypedBody (script : Script) (formats : List Format) (k : Known) (id : BodyId) (body : TypedBody) : Type 0 where
@@ -53,5 +47,5 @@ pub record IsTypedScript (script : Script) (formats : List Format) (bodies : Lis
   pub whole : judged (script_told script formats bodies).points nothing ≡ Ok known
   pub maps : typed.maps ≡ maps_of known
   pub formats_read : typed.formats ≡ map (λ (p : Printed). p.pieces) known.printed
-  pub exits : typed.uses_exit ≡ list_any is_exit (script_told script formats bodies).words
+  pub exits : typed.uses_exit ≡ script_exits script
   pub each : AreTypedBodies script formats known bodies typed.bodies

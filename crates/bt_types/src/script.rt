@@ -1,28 +1,117 @@
-// The types of scripts.
-ghost use Rattle.std.specs.Prelude.{◌≡◌, All, None, Some, IfOk, IfErr};
+// Scripts: all bodies in their order, and what they are as typed ones.
+ghost use Rattle.std.specs.Prelude.{◌≡◌, All, IfErr, IfOk, IsTrue, MatchResult, None, Some, map, true};
+ghost use Rattle.std.specs.List.{list_all};
+ghost use Rattle.typed_tree.specs.Scope.{is_fine_decl};
 ghost use Rattle.expr_types.specs.declared.fault.Fault.{Fault as FaultValue};
 ghost use Rattle.expr_types.specs.declared.fault.TypeError.TheVariants.{Broken};
-ghost use Rattle.bt_types.specs.Bodies.{IsBodyOf, type_fault};
+ghost use Rattle.bt_types.specs.Bodies.{IsBodyOf, nothing, script_told, told_at, type_fault};
+ghost use Rattle.expr_types.specs.Judge.{SaysFault, judged};
+ghost use Rattle.bt_types.specs.Open.{BodiesDone, OneDone};
 ghost use Rattle.bt_types.specs.Script.{IsTypedScript};
 
-use bt_ast::attached::Attached;
+use crate::body::{OpenBody, check_body};
+use crate::close::{close_bodies, formats_of, maps_of};
+use crate::exits::script_exits;
+use bt_ast::attached::{Attached, BodyId};
 use bt_ast::probe::Script;
+use bt_core::items::Items;
 use expr_types::fault::TypeError;
+use expr_types::known::Known;
+use expr_types::printed::Calls;
+use expr_types::variables::Variables;
 use std::alloc::Global;
 use tracefs_format::format::Format;
 use typed_tree::script::Typed;
 
-/// The types of a script.
-pub fn check(
-    _alloc: Global,
-    _script: &Script,
-    _attached: &Attached,
-    _formats: &[Format],
-) -> Result<Typed, TypeError>
-    requires { All (IsBodyOf _script.now _formats.now) _attached.now.bodies }
-    ensures typed { IfOk result (λ typed. IsTypedScript _script.now _formats.now _attached.now.bodies typed) }
-    ensures allowed { IfOk result (λ _. type_fault _script.now _formats.now _attached.now.bodies ≡ None) }
-    ensures fault { (f : FaultValue) → IfErr result (λ e. e ≡ Broken f → type_fault _script.now _formats.now _attached.now.bodies ≡ Some f) }
+/// What is known before a script.
+fn nothing(alloc: Global) -> Known
+    ensures { result ≡ nothing }
 {
-    Err(TypeError::Memory)
+    Known {
+        event: None,
+        vars: Variables::new(alloc),
+        named: Items::new(alloc),
+        calls: Items::new(alloc),
+        names: Items::new(alloc),
+        mentioned: Items::new(alloc),
+        decided: Items::new(alloc),
+        printed: Calls::new(alloc),
+    }
+}
+
+/// A body of a script.
+fn check_one(
+    alloc: Global,
+    known: &mut Known,
+    script: &Script,
+    formats: &[Format],
+    id: &BodyId,
+) -> Result<OpenBody, TypeError>
+    requires { IsBodyOf script.now formats.now id.now }
+    ensures { MatchResult result (λ body. OneDone script.now formats.now id.now known.old known.new body)
+        (λ e. SaysFault (judged (told_at script.now formats.now id.now).points known.old) e) }
+{
+    let probe = &script.probes.as_slice()[id.probe as usize];
+    check_body(alloc, known, formats, id.point, probe)
+}
+
+/// All bodies in their order.
+fn check_bodies(
+    alloc: Global,
+    known: &mut Known,
+    script: &Script,
+    formats: &[Format],
+    bodies: &[BodyId],
+) -> Result<Items<OpenBody>, TypeError>
+    requires { All (IsBodyOf script.now formats.now) bodies.now }
+    ensures { MatchResult result (λ all. BodiesDone script.now formats.now bodies.now known.old known.new all)
+        (λ e. SaysFault (judged (script_told script.now formats.now bodies.now).points known.old) e) }
+{
+    let mut all = Items::new(alloc);
+    for id in bodies {
+        let body = check_one(alloc, known, script, formats, id)?;
+        all.push(body)?;
+    }
+    Ok(all)
+}
+
+/// The types of a script over a recording's formats, by the sections on types, variables and maps of the bpftrace language
+/// reference. The bodies are walked in their order, each from its beginning: its predicate, and its statements in turn. A map
+/// has the kind and the key of its first mention, and a variable the type of its first assignment in its body.
+///
+/// # Errors
+///
+/// [`TypeError::Broken`] with the first rule that is broken in the order of the walk, and its place.
+/// [`TypeError::Memory`] may come at any script.
+pub fn check(
+    alloc: Global,
+    script: &Script,
+    attached: &Attached,
+    formats: &[Format],
+) -> Result<Typed, TypeError>
+    requires { All (IsBodyOf script.now formats.now) attached.now.bodies }
+    // What is made is the script with its types.
+    ensures typed { IfOk result (λ typed. IsTypedScript script.now formats.now attached.now.bodies typed) }
+    // Then no rule is broken.
+    ensures allowed { IfOk result (λ _. type_fault script.now formats.now attached.now.bodies ≡ None) }
+    // Any error but want of memory is the first fault of the walk.
+    ensures fault { (f : FaultValue) → IfErr result (λ e. e ≡ Broken f → type_fault script.now formats.now attached.now.bodies ≡ Some f) }
+{
+    let mut known = nothing(alloc);
+    let bodies = check_bodies(
+        alloc,
+        &mut known,
+        script,
+        formats,
+        attached.bodies.as_slice(),
+    )?;
+    let maps = maps_of(alloc, &known)?;
+    let formats = formats_of(alloc, known)?;
+    let bodies = close_bodies(alloc, bodies, &maps, &formats)?;
+    Ok(Typed {
+        maps,
+        formats,
+        bodies,
+        uses_exit: script_exits(script),
+    })
 }

@@ -1,0 +1,106 @@
+-- Calls of `printf`.
+use Rattle.std.proofs.Common.{◌≡◌, ◌++◌, ◌&&◌, ◌||◌, ◌==◌, ◌+◌, ◌<◌, ℕ, suc, Bool, true, false, cond, not, nat_eq, List, [], ◌∷◌, length, map, unwrap_or, Option, Some, None, slice_get, refl, sym, ap, subst, ◌∙◌, arith, add-one, drop, get_or, drop-cons}
+use Rattle.std.specs.List.{list_any}
+use Rattle.std.specs.Str.{bytes_eq}
+use Rattle.std.proofs.lemmas.Bool.{eq-eqb}
+use Rattle.bt_core.specs.declared.place.Place.{Place}
+use Rattle.bt_core.specs.declared.map.Shape.{Shape}
+use Rattle.fmt_text.specs.declared.piece.Piece.{Piece}
+use Rattle.fmt_text.specs.Deciding.{format_pieces}
+use Rattle.typed_tree.specs.Scope.{takes}
+use Rattle.expr_types.specs.declared.fault.Rule.{Rule}
+use Rattle.expr_types.specs.declared.fault.Rule.TheVariants.{BadFormat}
+use Rattle.expr_types.specs.declared.fault.TypeError.{TypeError}
+use Rattle.expr_types.specs.declared.known.Known.{Known}
+use Rattle.expr_types.specs.declared.known.Printed.{Printed as Call}
+use Rattle.expr_types.specs.Grows.{Grows}
+use Rattle.expr_types.specs.Mentions.{Sort, Prints, PrintfWord, EndWord, Word}
+use Rattle.expr_types.specs.Known.{shape_in, shapes_in, is_call, has_call, call_at, printed, add_call, called, with_call}
+use Rattle.expr_types.specs.Judge.{judged, SaysFault, IsBreach}
+use Rattle.expr_types.specs.Rules.{breaks}
+use Rattle.expr_types.specs.Walk.{Seen, at, points_of, words_of}
+use Rattle.typed_tree.specs.Parts.{Part, Printed, Ending, Made, key_shapes, parts_in, printf_parts}
+use Rattle.expr_types.specs.Typing.{AreTyping, IsCallOf, title, titles_of}
+use Rattle.expr_types.specs.Checked.{AllChecked}
+use Rattle.bt_types.specs.Told.{printf_told}
+use Rattle.bt_types.specs.Done.{Done}
+use Rattle.expr_types.proofs.Calling.{same_place, itself}
+use Rattle.expr_types.proofs.Finding.{same_is}
+use Rattle.expr_types.proofs.Keys.{all_sorts, all_fit, all_words}
+use Rattle.expr_types.proofs.Later.{get_mapped, title_is}
+use Rattle.expr_types.proofs.Reading.{shapes_known}
+use Rattle.bt_types.proofs.MapCalls.{holds_not}
+use Rattle.bt_types.proofs.Turns.{Went, went_both, went_at, fault_behind, fault_here, Held, held_none, held_more, held_both, held_later, done_of}
+
+-- a call that is one of several, by its place among them
+pub record CallThere (calls : List Call) (number : ℕ) (format : List ℕ) : Type 0 where
+  pub call : Call
+  pub numbered : slice_get calls number ≡ Some call
+  pub text : call.text ≡ format
+
+last_holds : (a b : Bool) → (a && b) ≡ true → b ≡ true
+last_holds true b h = h
+last_holds false b h = cc
+
+text_of : (format : List ℕ) (place : Place) (p : Call) → is_call format place p ≡ true → p.text ≡ format
+text_of format place p h = same_is p.text format (last_holds (p.place.line == place.line && p.place.column == place.column) (bytes_eq p.text format) h)
+
+there_after : (format : List ℕ) (place : Place) (p : Call) (ps : List Call) → CallThere ps (call_at format place ps) format → CallThere (p ∷ ps) (call_at format place ps + 1) format
+there_after format place p ps t = record { call = t.call; numbered = rw (add-one (call_at format place ps)) t.numbered; text = t.text }
+
+pub call_there : (format : List ℕ) (place : Place) (ps : List Call) → has_call format place ps ≡ true → CallThere ps (call_at format place ps) format
+call_there format place [] h = cc
+call_there format place (p ∷ ps) h =
+    let P : Bool → Type 0 = λ b. is_call format place p ≡ b → (b || has_call format place ps) ≡ true → CallThere (p ∷ ps) (cond b 0 (call_at format place ps + 1)) format in
+    let yes_case : P true = λ e g. record { call = p; numbered = refl; text = text_of format place p e } in
+    let no_case : P false = λ e g. there_after format place p ps (call_there format place ps g) in
+    elim (is_call format place p) as P [ true ↦ yes_case | false ↦ no_case ] refl h
+
+any_last : {A : Type 0} (f : A → Bool) (xs : List A) (x : A) → f x ≡ true → list_any f (xs ++ x ∷ []) ≡ true
+any_last f [] x h = ap (λ (b : Bool). b || false) h
+any_last f (y ∷ ys) x h = elim (f y) as (λ b. (b || list_any f (ys ++ x ∷ [])) ≡ true) [ true ↦ refl | false ↦ any_last f ys x h ]
+
+-- a call that was added where it was new is there
+pub added_there : (k : Known) (format : List ℕ) (place : Place) → has_call format place (add_call k format place).printed ≡ true
+added_there k format place =
+    let P : Bool → Type 0 = λ b. has_call format place k.printed ≡ b → has_call format place (cond b k (record k { printed = k.printed ++ printed format place ∷ [] })).printed ≡ true in
+    let yes_case : P true = λ e. e in
+    let no_case : P false = λ e. any_last (is_call format place) k.printed (printed format place) (itself format place) in
+    elim (has_call format place k.printed) as P [ true ↦ yes_case | false ↦ no_case ] refl
+
+pub call_fits : (k1 k2 : Known) (format : List ℕ) (place : Place) (number : ℕ) (shapes : List Shape) → k2 ≡ with_call k1 format place → number ≡ call_at format place k2.printed → takes (format_pieces format) shapes ≡ true
+    → IsCallOf k2 number shapes × (title (titles_of k2).formats number ≡ format)
+call_fits k1 k2 format place number shapes is n h =
+    let k : Known = with_call k1 format place in
+    let i : ℕ = call_at format place (add_call k1 format place).printed in
+    let there = call_there format place (add_call k1 format place).printed (added_there k1 format place) in
+    let here = any_last (λ (m : ℕ). m == i) (add_call k1 format place).calls i (same_place i) in
+    let fits : IsCallOf k i shapes = record { call = there.call; numbered = there.numbered; here = here; wanted = ap (λ (t : List ℕ). takes (format_pieces t) shapes) there.text ∙ h } in
+    let named : title (titles_of k).formats i ≡ format = title_is (titles_of k).formats i there.call.text (get_mapped (λ (c : Call). c.text) k.printed i there.call there.numbered) ∙ there.text in
+    let same : number ≡ i = n ∙ ap (λ (x : Known). call_at format place x.printed) is in
+    rw (same, is) (fits, named)
+
+-- what the format wants, where the types of the arguments are known
+printf_is : (format : List ℕ) (place : Place) (ss : List Seen) (k : Known) (ms : List Made) → AreTyping k ss ms
+    → breaks (not (takes (format_pieces format) (shapes_in k (map (λ s. s.sort) ss)))) BadFormat ≡ breaks (not (takes (format_pieces format) (key_shapes ms))) BadFormat
+printf_is format place ss k ms t =
+    ap (λ (l : List Shape). breaks (not (takes (format_pieces format) l)) BadFormat) (shapes_known k (map (λ s. s.sort) ss) ms (all_sorts k ss ms t))
+
+pub printf_done : (format : List ℕ) (place : Place) (ss : List Seen) (k0 k1 k2 : Known) (ms : List Made) (number : ℕ) → AllChecked ss k0 k1 ms → breaks (not (takes (format_pieces format) (key_shapes ms))) BadFormat ≡ None
+    → k2 ≡ with_call k1 format place → number ≡ call_at format place k2.printed → Done (printf_told format place ss) k0 k2 (printf_parts number ms)
+printf_done format place ss k0 k1 k2 ms number c h is n =
+    let values : Went (points_of ss) k0 k1 = record { whole = c.whole; grows = c.grows } in
+    let last = went_at place (Prints format place (map (λ s. s.sort) ss)) k1 k2 tt (printf_is format place ss k1 ms c.typing ∙ h) (sym is) in
+    let f = call_fits k1 k2 format place number (key_shapes ms) is n (holds_not (takes (format_pieces format) (key_shapes ms)) BadFormat h) in
+    done_of (printf_told format place ss) k0 k2 (printf_parts number ms)
+    (went_both (points_of ss) (at place (Prints format place (map (λ s. s.sort) ss)) ∷ []) k0 k1 k2 values last)
+    (held_more k2 (Printed number (key_shapes ms)) (PrintfWord format) (parts_in ms ++ Ending ∷ []) (words_of ss ++ EndWord ∷ []) f.0 (ap (λ (t : List ℕ). PrintfWord t) f.1)
+    (held_both k2 (parts_in ms) (Ending ∷ []) (words_of ss) (EndWord ∷ []) (held_later k1 k2 (parts_in ms) (words_of ss) last.grows (record { fits = all_fit k1 ss ms c.typing; written = all_words k1 ss ms c.typing }))
+    (held_more k2 Ending EndWord [] [] tt refl (held_none k2))))
+
+pub printf_refused : (format : List ℕ) (place : Place) (ss : List Seen) (k0 k1 : Known) (ms : List Made) (e : TypeError) → AllChecked ss k0 k1 ms → IsBreach (breaks (not (takes (format_pieces format) (key_shapes ms))) BadFormat) place e
+    → SaysFault (judged (printf_told format place ss).points k0) e
+printf_refused format place ss k0 k1 ms e c h =
+    let values : Went (points_of ss) k0 k1 = record { whole = c.whole; grows = c.grows } in
+    fault_behind (points_of ss) (at place (Prints format place (map (λ s. s.sort) ss)) ∷ []) k0 k1 e values
+    (fault_here place (Prints format place (map (λ s. s.sort) ss)) [] k1 e (subst (λ (r : Option Rule). IsBreach r place e) (sym (printf_is format place ss k1 ms c.typing)) h))

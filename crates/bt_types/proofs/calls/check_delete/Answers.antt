@@ -1,0 +1,28 @@
+use Rattle.std.proofs.Common.{◌≡◌, ◌∷◌, [], ◌++◌, Bool, List, map, Some, OnOk, sym, ap, subst, ◌∙◌}
+use Rattle.bt_core.specs.declared.place.Place.{Place}
+use Rattle.expr_types.specs.Walk.{MapSeen, of_expr, of_map}
+use Rattle.expr_types.specs.Mentions.{Sort}
+use Rattle.expr_types.specs.Known.{shape_in}
+use Rattle.expr_types.specs.Judge.{judged, Says}
+use Rattle.typed_tree.specs.Parts.{Made, made_of, stmt_parts, key_shapes}
+use Rattle.bt_types.specs.Told.{delete_told, delete_points}
+use Rattle.bt_types.specs.Done.{Removed}
+use Rattle.expr_types.proofs.Layers.{map_is}
+use Rattle.bt_types.proofs.Turns.{does_in_err, fault_first}
+use Rattle.bt_types.proofs.MapCalls.{delete_alone}
+use Rattle.bt_types.proofs.calls.check_delete.Goals as goal
+
+pub returns-in_err-keyed : goal.returns-in_err-keyed
+returns-in_err-keyed c =
+    does_in_err (delete_told (of_map c.args.map.now) [] c.args.place) stmt_parts c.args.known.now _ _ c.in_err-keyed.field-0.0 c.from_residual.ensures.1
+    (fault_first (of_map c.args.map.now).points _ c.args.known.now _ c.in_err-keyed.ensures)
+
+pub returns : goal.returns
+returns c =
+    let m = c.args.map.now in
+    let named = ap (λ (s : MapSeen). s.name) (map_is m) in
+    let placed = ap (λ (s : MapSeen). s.place) (map_is m) in
+    let keys = map made_of c.in_ok-keyed.keyed.keys in
+    delete_alone (of_map c.args.map.now) c.args.place c.args.known.now c.check_key.new.known c.check_removed.new.known c.in_ok-keyed.keyed.map.0 keys c.check_removed.result c.in_ok-keyed.ensures
+    (λ sorts h. rw (named, placed) (c.check_removed.ensures.says sorts h))
+    (rw named c.check_removed.ensures.removed) c.check_removed.ensures.made

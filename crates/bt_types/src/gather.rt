@@ -1,0 +1,119 @@
+// Aggregations.
+ghost use Rattle.std.specs.Prelude.{◌≡◌, IfOk, is_none, not};
+ghost use Rattle.std.specs.Option.{option_copied};
+ghost use Rattle.typed_tree.specs.Parts.{number_parts, stmt_parts};
+ghost use Rattle.typed_tree.specs.Scope.{is_fine_agg};
+ghost use Rattle.expr_types.specs.declared.fault.Rule.TheVariants.{BadBounds};
+ghost use Rattle.expr_types.specs.Judge.{Refuses};
+ghost use Rattle.expr_types.specs.Rules.{breaks};
+ghost use Rattle.expr_types.specs.Walk.{of_map};
+ghost use Rattle.bt_types.specs.Told.{gather_told, gathered_told, kind_of_call, number_of_call};
+ghost use Rattle.bt_types.specs.Done.{Does, DoesIn};
+
+use crate::assign::check_number;
+use crate::write::write_key;
+use bt_ast::expr::{Expr, MapRef};
+use bt_ast::stmt::AggCall;
+use bt_core::map::{AggKind, MapKind};
+use bt_core::place::Place;
+use expr_types::expr::check_key;
+use expr_types::fault::{Rule, TypeError};
+use expr_types::known::Known;
+use expr_types::maps::Keyed;
+use expr_types::rules::{broken, is_fine_agg};
+use std::alloc::Global;
+use typed_tree::expr::NumExpr;
+use typed_tree::stmt::TypedStmt;
+
+/// The kind of an aggregation.
+fn kind_of_call(call: &AggCall) -> AggKind
+    ensures { result ≡ kind_of_call call.now }
+{
+    match call {
+        AggCall::Count => AggKind::Count,
+        AggCall::Sum(_) => AggKind::Sum,
+        AggCall::Min(_) => AggKind::Min,
+        AggCall::Max(_) => AggKind::Max,
+        AggCall::Avg(_) => AggKind::Avg,
+        AggCall::Hist(_) => AggKind::Hist,
+        AggCall::Lhist { min, max, step, .. } => AggKind::Lhist {
+            min: *min,
+            max: *max,
+            step: *step,
+        },
+    }
+}
+
+/// The number that an aggregation gathers.
+fn number_of_call(call: &AggCall) -> Option<&Expr>
+    ensures { option_copied result ≡ number_of_call call.now }
+{
+    match call {
+        AggCall::Count => None,
+        AggCall::Sum(number) => Some(number),
+        AggCall::Min(number) => Some(number),
+        AggCall::Max(number) => Some(number),
+        AggCall::Avg(number) => Some(number),
+        AggCall::Hist(number) => Some(number),
+        AggCall::Lhist { number, .. } => Some(number),
+    }
+}
+
+/// The number that an aggregation gathers, as a typed one. A string is refused at the aggregation's word.
+fn check_gathered(
+    alloc: Global,
+    known: &mut Known,
+    call: &AggCall,
+    word: Place,
+) -> Result<Option<NumExpr>, TypeError>
+    ensures does { Does (gathered_told (number_of_call call.now) word) number_parts known.old known.new result }
+    ensures there { IfOk result (λ number. is_none number ≡ is_none (number_of_call call.now)) }
+{
+    match number_of_call(call) {
+        None => Ok(None),
+        Some(number) => {
+            let number = check_number(alloc, known, number, word)?;
+            Ok(Some(number))
+        }
+    }
+}
+
+/// The bounds of a linear histogram.
+///
+/// # Errors
+///
+/// [`Rule::BadBounds`] at the place.
+fn check_bounds(kind: AggKind, place: Place) -> Result<(), TypeError>
+    ensures { Refuses (breaks (not (is_fine_agg kind)) BadBounds) place result }
+{
+    if !is_fine_agg(kind) {
+        return Err(broken(Rule::BadBounds, place));
+    }
+    Ok(())
+}
+
+/// `map[keys] = sum(number)` and the like: the key, the number, the bounds of a histogram, the map.
+pub(crate) fn check_gather(
+    alloc: Global,
+    known: &mut Known,
+    map: &MapRef,
+    call: &AggCall,
+    word: Place,
+) -> Result<TypedStmt, TypeError>
+    ensures { DoesIn (gather_told (of_map map.now) (kind_of_call call.now) (gathered_told (number_of_call call.now) word) word) stmt_parts
+        known.old known.new result }
+{
+    let keyed = check_key(alloc, known, map)?;
+    let number = check_gathered(alloc, known, call, word)?;
+    let kind = kind_of_call(call);
+    check_bounds(kind, word)?;
+    let of = MapKind::Aggs(kind);
+    write_key(alloc, known, &map.name, of, &keyed.keys, map.place)?;
+    let Keyed { map, keys } = keyed;
+    Ok(TypedStmt::Gather {
+        map,
+        keys,
+        kind,
+        number,
+    })
+}
