@@ -16,7 +16,7 @@ use Rattle.bt_top.specs.declared.refusal.Refusal.TheVariants.{Usage, Script, Rec
 use Rattle.bt_top.specs.Count.{payloads_of, IsWorkOf}
 use Rattle.bt_top.specs.Lines.{SinkUse, SinkFailed}
 use Rattle.bt_top.specs.Refusals.{status_of, read_refusal}
-use Rattle.bt_top.specs.Due.{Files, IsCounted, IsDue}
+use Rattle.bt_top.specs.Due.{Files, IsDue}
 use Rattle.bt_top.specs.Serve.{ShelfUse, ShelfFailed, AsksFirst, AsksExactly, MayCome, HasWork, Answers, IsAnswer, MayStandFor, ComesIfDue, IsComplete}
 use Rattle.bt_top.specs.Serve.{OnBoth, OnTold, IsDueRefusal, IsWorkFor, IsJudged, CanCount, IsDoneWork, Reads, bytes_of, bytes_written}
 use Rattle.bt_top.specs.Words.{operands_of, names_of}
