@@ -1,0 +1,173 @@
+// Scripts that break a rule of types, each with its place, and scripts that break none.
+use crate::scripts::{fault_of, two_formats};
+use bt_core::place::Place;
+use expr_types::fault::{Fault, Rule, TypeError};
+use std::test::Fail;
+
+/// Scripts over the formats `t:e` and `u:f`, with the rule that each breaks first, and the line and column of its place.
+const REFUSED: [(&[u8], Rule, u32, u32); 46] = [
+    (b"t:t:e { @x = args.nope; }", Rule::UnknownField, 1, 19),
+    (b"t:t:e, t:u:f { @x = args.c; }", Rule::UnknownField, 1, 26),
+    (b"t:t:e { @x = args.o; }", Rule::FieldNotReadable, 1, 19),
+    (b"BEGIN { @x = 1; @x = \"a\"; }", Rule::OtherKind, 1, 17),
+    (b"BEGIN { @x = count(); @x++; }", Rule::OtherKind, 1, 23),
+    (b"BEGIN { @x = count(); @x = 1; }", Rule::OtherKind, 1, 23),
+    (
+        b"BEGIN { @x = count(); @x = sum(1); }",
+        Rule::OtherKind,
+        1,
+        23,
+    ),
+    (
+        b"BEGIN { @x = lhist(1, 0, 9, 3); @x = lhist(1, 0, 9, 2); }",
+        Rule::OtherKind,
+        1,
+        33,
+    ),
+    (
+        b"BEGIN { @s = \"a\"; @s += \"b\"; }",
+        Rule::OtherKind,
+        1,
+        19,
+    ),
+    (b"BEGIN { @x = @y; @y = count(); }", Rule::OtherKind, 1, 18),
+    (
+        b"BEGIN { @x[1] = 1; @x[\"a\"] = 1; }",
+        Rule::OtherKeys,
+        1,
+        20,
+    ),
+    (b"BEGIN { @x = 1; @y = @x[1]; }", Rule::OtherKeys, 1, 22),
+    (b"BEGIN { @x[1, 2, 3, 4, 5] = 1; }", Rule::OtherKeys, 1, 9),
+    (b"BEGIN { @x[1] = 1; delete(@x); }", Rule::OtherKeys, 1, 27),
+    (b"BEGIN { @x = $y; }", Rule::NotSet, 1, 14),
+    (b"BEGIN { $y = 1; } END { @x = $y; }", Rule::NotSet, 1, 30),
+    (b"BEGIN { $y += \"b\"; }", Rule::NotSet, 1, 9),
+    (b"BEGIN { $y++; }", Rule::NotSet, 1, 9),
+    (b"BEGIN { $y = $y; }", Rule::NotSet, 1, 14),
+    (b"BEGIN { printf(\"%q\", $y); }", Rule::NotSet, 1, 22),
+    (b"BEGIN { unroll (0) { @x = $y; } }", Rule::NotSet, 1, 27),
+    (b"BEGIN { if (\"a\") { break; } }", Rule::WrongType, 1, 13),
+    (b"BEGIN / \"a\" / { }", Rule::WrongType, 1, 9),
+    (b"BEGIN { $y = 1; $y = \"a\"; }", Rule::WrongType, 1, 17),
+    (b"BEGIN { @i = 1; @i += \"b\"; }", Rule::WrongType, 1, 17),
+    (b"BEGIN { $i = 1; $i += \"b\"; }", Rule::WrongType, 1, 17),
+    (b"BEGIN { @x = sum(\"a\"); }", Rule::WrongType, 1, 14),
+    (
+        b"BEGIN { @x = lhist(\"a\", 0, 0, 1); }",
+        Rule::WrongType,
+        1,
+        14,
+    ),
+    (b"BEGIN { @x = 1 == \"a\"; }", Rule::WrongType, 1, 14),
+    (b"BEGIN { unroll (0) { } }", Rule::WrongType, 1, 9),
+    (b"BEGIN { unroll (101) { } }", Rule::WrongType, 1, 9),
+    (
+        b"BEGIN { @x = 1; print(@x, 0, 0); }",
+        Rule::WrongType,
+        1,
+        17,
+    ),
+    (
+        b"BEGIN { @x = count(); delete(@x[1]); }",
+        Rule::WrongType,
+        1,
+        23,
+    ),
+    (
+        b"BEGIN { @x = \"aaaaaaaaaaaaaaaaaaaaaaaaaaaaaaaaaaaaaaaaaaaaaaaaaaaaaaaaaaaaaaaa\"; }",
+        Rule::WrongType,
+        1,
+        14,
+    ),
+    (
+        b"BEGIN { printf(\"%d\\n\", \"a\"); }",
+        Rule::BadFormat,
+        1,
+        16,
+    ),
+    (b"BEGIN { printf(\"%q\"); }", Rule::BadFormat, 1, 16),
+    (b"BEGIN { printf(\"%d\"); }", Rule::BadFormat, 1, 16),
+    (b"BEGIN { @x = lhist(1, 0, 0, 1); }", Rule::BadBounds, 1, 14),
+    (b"BEGIN { @x = lhist(1, 0, 9, 0); }", Rule::BadBounds, 1, 14),
+    (
+        b"BEGIN { @x = lhist(1, 0, 1001, 1); }",
+        Rule::BadBounds,
+        1,
+        14,
+    ),
+    (
+        b"BEGIN { @x = count(); @y = @x; }",
+        Rule::AggregationRead,
+        1,
+        28,
+    ),
+    (
+        b"BEGIN { @x[1] = count(); @y[@x[1]] = 1; }",
+        Rule::AggregationRead,
+        1,
+        29,
+    ),
+    (b"BEGIN { @x = args.v; }", Rule::NoEvent, 1, 14),
+    (b"t:t:e, END { @x = args.v; }", Rule::NoEvent, 1, 19),
+    (b"BEGIN { break; }", Rule::NoLoop, 1, 9),
+    (
+        b"BEGIN {\n  while (1) { break; }\n  continue;\n}",
+        Rule::NoLoop,
+        3,
+        3,
+    ),
+];
+
+#[test]
+fn the_first_rule_that_is_broken_is_told(rt: HostRuntime) -> Result<(), Fail> {
+    let alloc = rt.alloc();
+    let formats = two_formats(alloc)?;
+    for (text, rule, line, column) in REFUSED {
+        let place = Place { line, column };
+        let fault = fault_of(alloc, text, formats.as_slice())?;
+        assert_eq!(rt;
+            fault,
+            Some(TypeError::Broken(Fault { rule, place })),
+            "{text:?}"
+        );
+    }
+    Ok(())
+}
+
+/// Scripts over the same that break none: the nearest to those above.
+const ACCEPTED: [&[u8]; 22] = [
+    b"t:t:e { @x = args.v; }",
+    b"t:t:e { @x = args.p; @y = args.c; @z = args.d; }",
+    b"BEGIN { @x = 1; @x = 2; }",
+    b"BEGIN { @x = count(); @x = count(); }",
+    b"BEGIN { @x = lhist(1, 0, 9, 3); @x = lhist(1, 0, 9, 3); }",
+    b"BEGIN { @x = @y; @y = 1; }",
+    b"BEGIN { @x[1] = 1; @x[2] = 1; delete(@x[1]); delete(@x, 2); }",
+    b"BEGIN { @x[1, 2, 3, 4] = 1; }",
+    b"BEGIN { $y = 1; @x = $y; $y += 2; $y++; }",
+    b"BEGIN { if (1) { @x = 1; } else { @x = 2; } }",
+    b"BEGIN / \"a\" == \"b\" / { }",
+    b"BEGIN { @x = sum(1); @y = hist(2); @z = avg(3); }",
+    b"BEGIN { unroll (1) { } unroll (100) { break; } }",
+    b"BEGIN { @x = 1; print(@x, 0, 1); print(@x); clear(@x); zero(@x); }",
+    b"BEGIN { @x = \"aaaaaaaaaaaaaaaaaaaaaaaaaaaaaaaaaaaaaaaaaaaaaaaaaaaaaaaaaaaaaaa\"; }",
+    b"BEGIN { printf(\"%d %s\\n\", 1, \"a\"); printf(\"%%\"); }",
+    b"BEGIN { @x = lhist(1, 0, 1000, 1); }",
+    b"BEGIN { @x = count(); print(@x); }",
+    b"t:t:e, t:t:e { @x = args.v; }",
+    b"BEGIN { while (1) { break; continue; } exit(); return; }",
+    b"tracepoint:t:* { @ = sum(args.v); }",
+    b"tracepoint:t:e { @[args.p] = count(); }",
+];
+
+#[test]
+fn the_nearest_scripts_have_types(rt: HostRuntime) -> Result<(), Fail> {
+    let alloc = rt.alloc();
+    let formats = two_formats(alloc)?;
+    for text in ACCEPTED {
+        let fault = fault_of(alloc, text, formats.as_slice())?;
+        assert_eq!(rt; fault, None, "{text:?}");
+    }
+    Ok(())
+}
