@@ -10,7 +10,7 @@ use Rattle.typed_tree.specs.declared.body.TypedBody.{TypedBody}
 use Rattle.typed_tree.specs.Bodies.{predicate_parts, scope_of}
 use Rattle.typed_tree.specs.Parts.{block_parts}
 use Rattle.typed_tree.specs.Scope.{Scope, fits, all_fit}
-use Rattle.bt_walk.specs.declared.ending.Ending.{Ending}
+use Rattle.bt_core.specs.declared.ending.Ending.{Ending}
 use Rattle.bt_walk.specs.declared.flow.Flow.{Flow}
 use Rattle.bt_walk.specs.declared.flow.Frame.{Frame}
 use Rattle.bt_walk.specs.Does.{Scene}

@@ -16,7 +16,7 @@ use Rattle.typed_tree.specs.declared.stmt.Jump.TheVariants as jumps
 use Rattle.typed_tree.specs.declared.stmt.TypedBlock.{TypedBlock, fold-TypedBlock}
 use Rattle.typed_tree.specs.declared.stmt.TypedStmt.{TypedStmt, fold-TypedStmt}
 use Rattle.typed_tree.specs.declared.stmt.TypedStmt.TheOpen.{TypedStmt-F, TypedBlock-F}
-use Rattle.bt_walk.specs.declared.ending.Ending.TheVariants as endings
+use Rattle.bt_core.specs.declared.ending.Ending.TheVariants as endings
 use Rattle.bt_walk.specs.declared.flow.Flow.{Flow}
 use Rattle.bt_walk.specs.declared.flow.Flow.TheVariants.{Next, Break, Continue, Stop}
 use Rattle.bt_walk.specs.declared.sweep.Sweep.TheVariants.{Read, Clear, Zero}

@@ -10,8 +10,8 @@ use Rattle.bt_core.specs.Interaction.{Interaction, Ended, and_then}
 use Rattle.typed_tree.specs.declared.body.TypedBody.{TypedBody}
 use Rattle.typed_tree.specs.declared.body.TypedTree.{TypedTree}
 use Rattle.typed_tree.specs.declared.expr.NumExpr.{NumExpr}
-use Rattle.bt_walk.specs.declared.ending.Ending.{Ending}
-use Rattle.bt_walk.specs.declared.ending.Ending.TheVariants.{End}
+use Rattle.bt_core.specs.declared.ending.Ending.{Ending}
+use Rattle.bt_core.specs.declared.ending.Ending.TheVariants.{End}
 use Rattle.bt_walk.specs.declared.flow.Flow.{Flow}
 use Rattle.bt_walk.specs.declared.flow.Flow.TheVariants.{Next, Break, Continue, Stop}
 use Rattle.bt_walk.specs.declared.flow.Frame.{Frame}

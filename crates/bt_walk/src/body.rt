@@ -7,7 +7,7 @@ ghost use Rattle.bt_walk.specs.Walk.{walk, fresh, guarded, unassigned};
 ghost use Rattle.bt_walk.specs.Walked.{Walked, CanWalk, IsServed, Fits, BlockFits, scene_in};
 
 use crate::access::holds;
-use crate::ending::Ending;
+use bt_core::ending::Ending;
 use crate::flow::{Flow, Frame, ending_of};
 use crate::value::number;
 use crate::view::View;

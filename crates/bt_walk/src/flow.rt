@@ -3,7 +3,7 @@ ghost use Rattle.std.specs.Prelude.{◌≡◌};
 ghost use Rattle.bt_walk.specs.Flows.{is_next, leaves};
 ghost use Rattle.bt_walk.specs.Walk.{ending_of};
 
-use crate::ending::Ending;
+use bt_core::ending::Ending;
 use bt_core::items::Items;
 use bt_core::value::Value;
 

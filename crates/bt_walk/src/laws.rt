@@ -4,7 +4,7 @@ ghost use Rattle.bt_core.specs.declared.context.Context.{Context};
 ghost use Rattle.bt_core.specs.declared.step.Reply.{Reply};
 ghost use Rattle.bt_core.specs.Interaction.{Call, calls, value_under};
 ghost use Rattle.typed_tree.specs.declared.body.TypedBody.{TypedBody};
-ghost use Rattle.bt_walk.specs.declared.ending.Ending.{Ending};
+ghost use Rattle.bt_core.specs.declared.ending.Ending.{Ending};
 ghost use Rattle.bt_core.specs.Ports.{Setting};
 ghost use Rattle.bt_walk.specs.Admits.{Admits};
 ghost use Rattle.bt_walk.specs.Walk.{walk};

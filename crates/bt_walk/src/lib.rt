@@ -3,7 +3,6 @@
 
 pub mod access;
 pub mod body;
-pub mod ending;
 pub mod flow;
 pub mod laws;
 pub mod stmt;

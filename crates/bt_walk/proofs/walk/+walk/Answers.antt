@@ -8,7 +8,7 @@ use Rattle.typed_tree.specs.declared.stmt.TypedBlock.{TypedBlock}
 use Rattle.typed_tree.specs.declared.stmt.TypedStmt.{TypedStmt}
 use Rattle.bt_walk.specs.declared.flow.Flow.{Flow}
 use Rattle.bt_walk.specs.declared.flow.Flow.TheVariants.{Stop}
-use Rattle.bt_walk.specs.declared.ending.Ending.TheVariants.{Cut}
+use Rattle.bt_core.specs.declared.ending.Ending.TheVariants.{Cut}
 use Rattle.bt_walk.specs.Does.{Does}
 use Rattle.bt_walk.specs.Flows.{leaves}
 use Rattle.bt_walk.specs.Stmts.{stmt_does, block_does, in_turn, block_or_next}
