@@ -1,12 +1,14 @@
 // What holds of all walks.
-ghost use Rattle.std.specs.Prelude.{◌≡◌, ◌++◌, ℕ, List, Some};
+ghost use Rattle.std.specs.Prelude.{All, ◌≡◌, ◌++◌, ℕ, List, Some, slice_get};
 ghost use Rattle.bt_core.specs.declared.context.Context.{Context};
 ghost use Rattle.bt_core.specs.declared.step.Reply.{Reply};
 ghost use Rattle.bt_core.specs.Interaction.{Call, calls, value_under};
 ghost use Rattle.typed_tree.specs.declared.body.TypedBody.{TypedBody};
 ghost use Rattle.bt_core.specs.declared.ending.Ending.{Ending};
 ghost use Rattle.bt_core.specs.Ports.{Setting};
-ghost use Rattle.bt_walk.specs.Admits.{Admits};
+ghost use Rattle.fmt_text.specs.declared.piece.Piece.{Piece};
+ghost use Rattle.map_printer.specs.ItemTexts.{IsItemOf};
+ghost use Rattle.bt_walk.specs.Admits.{Admits, AdmitsOf, EmitsOnly};
 ghost use Rattle.bt_walk.specs.Walk.{walk};
 ghost use Rattle.bt_walk.specs.Walked.{CanWalk};
 
@@ -30,3 +32,14 @@ pub fn only_what_is_served_is_asked()
     ensures { (setting : Setting) (body : TypedBody) (context : Context) (payload : List ℕ) (actor actors : ℕ) →
         CanWalk setting body context payload actor actors → Admits setting (λ ending. Unit {0}) (walk body context payload actor actors) }
 {}
+
+/// Items that a walk emits are of the script's formats and maps, where the body's formats stand at their numbers in the script's, as
+/// long as each reply is of the kind that its operation has: the values of a `printf` call fit its format, and the rows of a
+/// printed map are rows that the map can hold, divided by 1 at least. So each of them has a text.
+pub fn only_own_items_are_emitted()
+    ensures { (setting : Setting) (formats : List (List Piece)) (body : TypedBody) (context : Context) (payload : List ℕ) (actor actors : ℕ) →
+        CanWalk setting body context payload actor actors → All (λ (f : ℕ × List Piece). slice_get formats f.0 ≡ Some f.1) body.formats →
+        AdmitsOf (λ object op. EmitsOnly (IsItemOf formats setting.maps) op) setting.maps (λ ending. Unit {0}) (walk body context payload actor actors) }
+{
+    map_printer::laws::merged_rows_fit();
+}
