@@ -1,29 +1,22 @@
 -- Of what is due to two files there is only one thing, so it comes.
-use Rattle.std.proofs.Common.{◌≡◌, ◌≢◌, ◌<◌, length, refl, sym, ap, subst, ◌∙◌, arith, inl, inr}
+use Rattle.std.proofs.Common.{◌≡◌, ◌≢◌, length, refl, sym, ap, subst, ◌∙◌, arith, inl, inr}
 use Rattle.std.specs.Prelude.{Option, Some, None, Result, Ok, Err, IfOk, IfErr}
 use Rattle.rec_format.specs.declared.recording.Recording.{Recording as Recorded}
 use Rattle.rec_format.specs.declared.error.RecordingError.{RecordingError}
 use Rattle.rec_format.specs.declared.error.RecordingError.TheVariants as fault
 use Rattle.rec_format.specs.Recordings.{recording_bytes, IsValidRecording}
 use Rattle.rec_format.specs.Faults.{IsRecordingFault}
-use Rattle.bt_ast.specs.declared.probe.Script.{Script as Tree}
-use Rattle.bt_top.specs.declared.judge.Accepted.{Accepted}
-use Rattle.bt_top.specs.declared.judge.Counting.{Counting as Counted}
-use Rattle.bt_top.specs.declared.judge.Judged.{Judged}
-use Rattle.bt_top.specs.declared.judge.Judged.TheVariants.{Counting, Checked}
+use Rattle.bt_run.specs.declared.run.Job.{Job}
+use Rattle.bt_top.specs.declared.judge.ScriptJob.{ScriptJob}
 use Rattle.bt_top.specs.declared.refusal.ScriptRefusal.TheVariants as script
 use Rattle.bt_top.specs.declared.refusal.RecordingRefusal.TheVariants as recording
 use Rattle.bt_top.specs.declared.refusal.Refusal.{Refusal}
 use Rattle.bt_top.specs.declared.refusal.Refusal.TheVariants.{Script, Recording}
-use Rattle.bt_top.specs.declared.words.Operands.{Operands}
-use Rattle.bt_top.specs.declared.words.Order.{Order}
-use Rattle.bt_top.specs.declared.words.Order.TheVariants.{Run, Check}
-use Rattle.bt_top.specs.Due.{Files, AreShort, IsRecording, AreAccepted, IsFault, HasMoreCpus, IsOtherScript, IsAsked, IsCounted, IsRecordingLeft}
-use Rattle.bt_top.specs.Due.{IsScriptLeft, IsDone, IsDue}
+use Rattle.bt_top.specs.Due.{Files, AreShort, IsRecording, IsAccepted, IsFault, IsDue}
 use Rattle.bt_top.specs.Refusals.{recording_refusal}
-use Rattle.bt_top.specs.Script.{IsScriptFault, CountsFormat}
-use Rattle.bt_top.specs.Serve.{MayStandFor, ComesIfDue, refusal_in, IsScriptRefusal, IsFaultRefusal, IsDueRefusal, IsJudged, Counts, IsLeft}
-use Rattle.bt_top.proofs.Scripts.{AreScriptLaws, one_script_fault, no_script_fault, one_tree}
+use Rattle.bt_top.specs.Script.{IsScriptFault}
+use Rattle.bt_top.specs.Serve.{MayStandFor, ComesIfDue, refusal_in, IsScriptRefusal, IsFaultRefusal, IsJobOf, IsScriptJob}
+use Rattle.bt_top.proofs.Scripts.{AreScriptLaws, one_script_fault, no_script_fault}
 
 -- what the laws of the container, the lexer and the parser say of two files
 pub record AreLaws (files : Files) : Type 0 where
@@ -74,76 +67,22 @@ one_fault files (Script (script.Fault w1 p1)) other laws a b = absurd b
 one_fault files one other laws a b = absurd a
 
 -- accepted files have no fault
-no_fault : (files : Files) (refusal : Refusal) (says : Recorded) (tree : Tree) → AreLaws files → IsFault files refusal → AreAccepted files says tree → ⊥
-no_fault files (Script script.TooLong) says tree laws a b = omega (arith, b.short.script)
-no_fault files (Recording recording.TooLong) says tree laws a b = omega (arith, a.1, b.short.recording)
-no_fault files (Recording (recording.Fault error)) says tree laws a b = valid files says error laws b.is a.1
-no_fault files (Script (script.Fault wrong place)) says tree laws a b =
-    no_script_fault files.script says _ tree laws.script
-    (subst (λ (r : Recorded). IsScriptFault files.script r (Script (script.Fault wrong place))) (one_recording files a.1 says laws a.2 b.is) a.3)
-    b.has b.attached b.typed
-no_fault files refusal says tree laws a b = a
+no_fault : (files : Files) (refusal : Refusal) → AreLaws files → IsFault files refusal → IsAccepted files → ⊥
+no_fault files (Script script.TooLong) laws a b = omega (arith, a, b.accepted.short.script)
+no_fault files (Recording recording.TooLong) laws a b = omega (arith, a.1, b.accepted.short.recording)
+no_fault files (Recording (recording.Fault error)) laws a b = valid files b.says error laws b.accepted.is a.1
+no_fault files (Script (script.Fault wrong place)) laws a b =
+    no_script_fault files.script b.says _ b.tree laws.script
+    (subst (λ (r : Recorded). IsScriptFault files.script r (Script (script.Fault wrong place))) (one_recording files a.1 b.says laws a.2 b.accepted.is) a.3)
+    b.accepted.script.has b.accepted.script.attached b.accepted.script.typed
+no_fault files refusal laws a b = a
 
--- ---- what comes of accepted files
-
--- what follows for accepted files: their recording and their tree are one
-one_accepted : (files : Files) (one other : Recorded) (tree another : Tree) (P : Recorded → Tree → Type 0) → AreLaws files → AreAccepted files one tree
-    → AreAccepted files other another → P one tree → P other another
-one_accepted files one other tree another P laws a b p =
-    subst (λ (t : Tree). P other t) (one_tree files.script tree another laws.script a.has b.has)
-    (subst (λ (r : Recorded). P r tree) (one_recording files one other laws a.is b.is) p)
-
-more_or_one : (files : Files) (says : Recorded) (tree : Tree) → AreLaws files → HasMoreCpus files → AreAccepted files says tree → length says.cpus ≡ 1 → ⊥
-more_or_one files says tree laws more accepted one =
-    let too = one_accepted files more.says says more.tree tree (λ r t. 1 < length r.cpus) laws more.accepted accepted more.more in
-    omega (arith, too, one)
-
-other_or_counted : (files : Files) → AreLaws files → IsOtherScript files → IsCounted files → ⊥
-other_or_counted files laws a b =
-    a.other b.place (
-    one_accepted files b.says a.says b.asked.tree a.tree (λ r t. CountsFormat t r.formats b.place) laws b.asked.accepted a.accepted b.asked.counts)
-
-left_or_fault : (order : Order) (files : Files) (refusal : Refusal) → AreLaws files → IsRecordingLeft order files → IsFault files refusal → ⊥
-left_or_fault (Run operands) files refusal laws a b = no_fault files refusal a.says a.tree laws b a.accepted
-left_or_fault (Check operands) files refusal laws a b = a
-
-script_or_fault : (order : Order) (files : Files) (refusal : Refusal) → AreLaws files → IsScriptLeft order files → IsFault files refusal → ⊥
-script_or_fault (Run operands) files refusal laws a b = no_fault files refusal a.says a.tree laws b a.accepted
-script_or_fault (Check operands) files refusal laws a b = a
-
-done_or_fault : (order : Order) (files : Files) (refusal : Refusal) → AreLaws files → IsDone order files → IsFault files refusal → ⊥
-done_or_fault (Run operands) files refusal laws a b = no_fault files refusal a.says a.asked.tree laws b a.asked.accepted
-done_or_fault (Check operands) files refusal laws a b = no_fault files refusal a.says a.tree laws b a.accepted
-
-recording_or_script : (order : Order) (files : Files) → AreLaws files → IsRecordingLeft order files → IsScriptLeft order files → ⊥
-recording_or_script (Run operands) files laws a b = more_or_one files b.says b.tree laws a b.accepted b.one_cpu
-recording_or_script (Check operands) files laws a b = a
-
-recording_or_done : (order : Order) (files : Files) → AreLaws files → IsRecordingLeft order files → IsDone order files → ⊥
-recording_or_done (Run operands) files laws a b = more_or_one files b.says b.asked.tree laws a b.asked.accepted b.asked.one_cpu
-recording_or_done (Check operands) files laws a b = a
-
-script_or_done : (order : Order) (files : Files) → AreLaws files → IsScriptLeft order files → IsDone order files → ⊥
-script_or_done (Run operands) files laws a b = other_or_counted files laws a b
-script_or_done (Check operands) files laws a b = a
-
-pub one_due : (order : Order) (files : Files) (one other : Option Refusal) → AreLaws files → IsDue order files one → IsDue order files other → one ≡ other
-one_due order files (Some (Recording recording.NotBuilt)) (Some (Recording recording.NotBuilt)) laws a b = refl
-one_due order files (Some (Recording recording.NotBuilt)) (Some (Script script.NotBuilt)) laws a b = absurd (recording_or_script order files laws a b)
-one_due order files (Some (Recording recording.NotBuilt)) None laws a b = absurd (recording_or_done order files laws a b)
-one_due order files (Some (Recording recording.NotBuilt)) (Some other) laws a b = absurd (left_or_fault order files other laws a b)
-one_due order files (Some (Script script.NotBuilt)) (Some (Recording recording.NotBuilt)) laws a b = absurd (recording_or_script order files laws b a)
-one_due order files (Some (Script script.NotBuilt)) (Some (Script script.NotBuilt)) laws a b = refl
-one_due order files (Some (Script script.NotBuilt)) None laws a b = absurd (script_or_done order files laws a b)
-one_due order files (Some (Script script.NotBuilt)) (Some other) laws a b = absurd (script_or_fault order files other laws a b)
-one_due order files None (Some (Recording recording.NotBuilt)) laws a b = absurd (recording_or_done order files laws b a)
-one_due order files None (Some (Script script.NotBuilt)) laws a b = absurd (script_or_done order files laws b a)
-one_due order files None None laws a b = refl
-one_due order files None (Some other) laws a b = absurd (done_or_fault order files other laws a b)
-one_due order files (Some one) (Some (Recording recording.NotBuilt)) laws a b = absurd (left_or_fault order files one laws b a)
-one_due order files (Some one) (Some (Script script.NotBuilt)) laws a b = absurd (script_or_fault order files one laws b a)
-one_due order files (Some one) None laws a b = absurd (done_or_fault order files one laws b a)
-one_due order files (Some one) (Some other) laws a b = ap (λ (r : Refusal). Some r) (one_fault files one other laws a b)
+-- of what is due there is only one thing
+pub one_due : (files : Files) (one other : Option Refusal) → AreLaws files → IsDue files one → IsDue files other → one ≡ other
+one_due files None None laws a b = refl
+one_due files None (Some other) laws a b = absurd (no_fault files other laws b a)
+one_due files (Some one) None laws a b = absurd (no_fault files one laws a b)
+one_due files (Some one) (Some other) laws a b = ap (λ (r : Refusal). Some r) (one_fault files one other laws a b)
 
 -- ---- both files at hand
 
@@ -160,42 +99,23 @@ pub recording_is_fault : (files : Files) (error : RecordingError) → AreShort f
 recording_is_fault files fault.Memory short found = inl refl
 recording_is_fault files error short found = inr (short, found (λ e. cc))
 
--- what refuses the files is due to them
-pub fault_is_due : (order : Order) (files : Files) (refusal : Refusal) → IsFaultRefusal files refusal → IsDueRefusal order files refusal
-fault_is_due order files refusal (inl memory) = inl memory
-fault_is_due order files refusal (inr wrong) = inr (due refusal wrong)
-  where
-    due : (refusal : Refusal) → IsFault files refusal → IsDue order files (Some refusal)
-    due (Recording recording.NotBuilt) wrong = absurd wrong
-    due (Script script.NotBuilt) wrong = absurd wrong
-    due refusal wrong = wrong
+-- what the script asks for over the recording is what the files ask for
+pub script_is_job : (files : Files) (says : Recorded) (job : ScriptJob) → AreShort files → IsRecording files.recording says → IsScriptJob files.script says job
+    → IsJobOf files (record { recording = says; attached = job.attached; typed = job.typed })
+script_is_job files says job short is asks = record {
+  tree = asks.tree;
+  accepted = record { short = short; is = is; script = asks.script };
+  attached = asks.attached;
+  typed = asks.typed;
+}
 
--- what a run of accepted files leaves is due to them
-pub left_is_due : (operands : Operands) (files : Files) (accepted : Accepted) (refusal : Refusal) → AreAccepted files accepted.recording accepted.tree
-    → IsLeft accepted refusal → IsDueRefusal (Run operands) files refusal
-left_is_due operands files accepted (Recording recording.NotBuilt) is left =
-    inr (record { says = accepted.recording; tree = accepted.tree; accepted = is; more = left })
-left_is_due operands files accepted (Script script.NotBuilt) is left =
-    inr (record { says = accepted.recording; tree = accepted.tree; accepted = is; one_cpu = left.0; other = left.1 })
-left_is_due operands files accepted refusal is left = absurd left
-
--- what a run of accepted files counts is judged
-pub counts_is_judged : (operands : Operands) (files : Files) (accepted : Accepted) (counting : Counted)
-    → AreAccepted files accepted.recording accepted.tree → Counts accepted counting → IsJudged (Run operands) files (Counting counting)
-counts_is_judged operands files accepted counting is counts =
-    subst (λ (r : Recorded). IsAsked files r counting.format) (sym counts.same)
-    (record { tree = accepted.tree; accepted = is; one_cpu = counts.one_cpu; counts = counts.counts })
-
--- what is judged is due to the files
-pub judged_is_due : (order : Order) (files : Files) (judged : Judged) → IsJudged order files judged → IsDue order files None
-judged_is_due (Run operands) files (Counting counting) asked = record { says = counting.recording; place = counting.format; asked = asked }
-judged_is_due (Run operands) files Checked asked = absurd asked
-judged_is_due (Check operands) files (Counting counting) asked = absurd asked
-judged_is_due (Check operands) files Checked asked = asked
+-- files that ask for a job are accepted
+pub job_is_due : (files : Files) (job : Job) → IsJobOf files job → IsDue files None
+job_is_due files job of = record { says = job.recording; tree = of.tree; accepted = of.accepted }
 
 -- what is due comes, unless memory runs out
-pub comes_if_due : (order : Order) (files : Files) (answer : Result Judged Refusal) → AreLaws files → IfOk answer (IsJudged order files)
-    → IfErr answer (IsDueRefusal order files) → ComesIfDue (refusal_in answer) order files
-comes_if_due order files (Ok asked) laws judged refused = λ due is. inl (one_due order files None due laws (judged_is_due order files asked judged) is)
-comes_if_due order files (Err refusal) laws judged (inl memory) = λ due is. inr (subst (λ (r : Refusal). MayStandFor (Some r) due) (sym memory) tt)
-comes_if_due order files (Err refusal) laws judged (inr here) = λ due is. inl (one_due order files (Some refusal) due laws here is)
+pub comes_if_due : (files : Files) (answer : Result Job Refusal) → AreLaws files → IfOk answer (IsJobOf files)
+    → IfErr answer (IsFaultRefusal files) → ComesIfDue (refusal_in answer) files
+comes_if_due files (Ok job) laws asked refused = λ due is. inl (one_due files None due laws (job_is_due files job asked) is)
+comes_if_due files (Err refusal) laws asked (inl memory) = λ due is. inr (subst (λ (r : Refusal). MayStandFor (Some r) due) (sym memory) tt)
+comes_if_due files (Err refusal) laws asked (inr here) = λ due is. inl (one_due files (Some refusal) due laws here is)

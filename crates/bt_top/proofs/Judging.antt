@@ -1,29 +1,33 @@
 -- What the reads, the judging and the write answer together.
-use Rattle.std.proofs.Common.{◌≡◌, ℕ, suc, ◌*◌, ◌<◌, ◌≤◌, ◌⊎◌, List, [], length, refl, sym, ap, subst, arith, inl, inr}
+use Rattle.std.proofs.Common.{◌≡◌, ℕ, suc, ◌<◌, ◌≤◌, ◌⊎◌, List, [], length, map, refl, sym, ap, subst, ◌∙◌, arith, inl, inr}
 use Rattle.std.specs.Prelude.{◌↔◌, Option, Some, None, Result, Ok, Err, IfOk, IfErr, IfSome, IsSome, IsSomeAnd, unwrap_or, replicate}
 use Rattle.std.proofs.lemmas.List.{length-replicate}
 use Rattle.bt_core.specs.declared.limits.TheConstants.{SCRIPT_BYTES, RECORDING_BYTES}
+use Rattle.bt_core.specs.declared.step.ObjectId.{ObjectId}
+use Rattle.bt_core.specs.Steps.{on_object}
 use Rattle.bt_io.specs.Faults.{Rose}
 use Rattle.bt_io.specs.declared.shelf.ShelfError.{ShelfError}
 use Rattle.bt_io.specs.declared.shelf.ShelfError.TheVariants as shelf
-use Rattle.bt_top.specs.declared.judge.Judged.{Judged}
-use Rattle.bt_top.specs.declared.judge.Judged.TheVariants.{Counting, Checked}
+use Rattle.bt_meaning.specs.Instructions.{instructions_of}
+use Rattle.bt_meaning.specs.Interleavings.{IsReplayed}
+use Rattle.bt_meaning.specs.Prints.{printed_text}
+use Rattle.bt_meaning.specs.Replays.{cpus_of}
+use Rattle.bt_meaning.specs.Serial.{serial_steps, unstamped}
+use Rattle.bt_run.specs.declared.run.Job.{Job}
+use Rattle.bt_run.specs.declared.run.Work.{Work}
 use Rattle.bt_top.specs.declared.report.Report.{Report}
-use Rattle.bt_top.specs.declared.report.Work.{Work}
 use Rattle.bt_top.specs.declared.refusal.Operand.TheVariants as operand
 use Rattle.bt_top.specs.declared.refusal.Refusal.{Refusal}
 use Rattle.bt_top.specs.declared.refusal.Refusal.TheVariants.{Usage, Script, Recording, ReadFault, WriteFault, Memory}
-use Rattle.bt_top.specs.Count.{payloads_of, IsWorkOf}
 use Rattle.bt_top.specs.Lines.{SinkUse, SinkFailed}
 use Rattle.bt_top.specs.Refusals.{status_of, read_refusal}
-use Rattle.bt_top.specs.Due.{Files, IsDue}
+use Rattle.bt_top.specs.Due.{Files, IsDue, IsFault}
 use Rattle.bt_top.specs.Serve.{ShelfUse, ShelfFailed, AsksFirst, AsksExactly, MayCome, HasWork, Answers, IsAnswer, MayStandFor, ComesIfDue, IsComplete}
-use Rattle.bt_top.specs.Serve.{OnBoth, OnTold, IsDueRefusal, IsWorkFor, IsJudged, CanCount, IsDoneWork, Reads, bytes_of, bytes_written}
+use Rattle.bt_top.specs.Serve.{OnBoth, OnTold, IsFaultRefusal, IsJobOf, IsWorkOf, IsWorkFor, IsDoneWork, Reads, bytes_of, bytes_written, meaning_of}
 use Rattle.bt_top.specs.Words.{operands_of, names_of}
 use Rattle.bt_top.specs.declared.words.Order.{Order}
 use Rattle.bt_top.specs.declared.words.Order.TheVariants.{Run, Check}
-use Rattle.bt_top.proofs.Due.{judged_is_due}
-use Rattle.bt_top.proofs.EventRuns.{six_a_step}
+use Rattle.bt_top.proofs.Due.{job_is_due}
 
 -- a count that rose in a part of a call rose in the call
 pub rose_from : (before between after : ℕ) → before ≤ between → Rose between after → Rose before after
@@ -70,13 +74,13 @@ pub script_unread : (order : Order) (seen : ShelfUse) (error : ShelfError)
 script_unread order seen error failed long = record {
   files = long_script order seen;
   held = record { script = held_or _ _; recording = held_or _ _ };
-  judged = tt;
+  job = tt;
   came = came error failed long;
 }
   where
     came : (error : ShelfError) → (error ≡ shelf.Failed → ShelfFailed seen)
         → (error ≡ shelf.TooLong → IfSome (seen.held (operands_of order).script) (λ bytes. SCRIPT_BYTES < length bytes))
-        → MayCome order (long_script order seen) (ShelfFailed seen) ⊥ (Some (read_refusal operand.Script error))
+        → MayCome (long_script order seen) (ShelfFailed seen) ⊥ (Some (read_refusal operand.Script error))
     came shelf.Failed failed long = failed refl
     came shelf.TooLong failed long = long_or SCRIPT_BYTES (seen.held (operands_of order).script) (long refl)
     came shelf.Memory failed long = tt
@@ -90,109 +94,108 @@ pub recording_unread : (order : Order) (seen : ShelfUse) (bytes : List ℕ) (err
 recording_unread order seen bytes error here short failed long = record {
   files = long_recording order seen bytes;
   held = record { script = here; recording = held_or _ _ };
-  judged = tt;
+  job = tt;
   came = came error failed long;
 }
   where
     came : (error : ShelfError) → (error ≡ shelf.Failed → ShelfFailed seen)
         → (error ≡ shelf.TooLong → IfSome (seen.held (operands_of order).recording) (λ told. RECORDING_BYTES < length told))
-        → MayCome order (long_recording order seen bytes) (ShelfFailed seen) ⊥ (Some (read_refusal operand.Recording error))
+        → MayCome (long_recording order seen bytes) (ShelfFailed seen) ⊥ (Some (read_refusal operand.Recording error))
     came shelf.Failed failed long = (failed refl, short)
     came shelf.TooLong failed long = (short, long_or RECORDING_BYTES (seen.held (operands_of order).recording) (long refl))
     came shelf.Memory failed long = tt
 
 -- both are read
-pub both_read : (order : Order) (seen : ShelfUse) (files : Files) (answer : Result Judged Refusal)
+pub both_read : (order : Order) (seen : ShelfUse) (files : Files) (answer : Result Job Refusal)
     → IfSome (seen.held (operands_of order).script) (λ told. files.script ≡ told)
-    → IfSome (seen.held (operands_of order).recording) (λ told. files.recording ≡ told) → IfOk answer (IsJudged order files)
-    → IfErr answer (IsDueRefusal order files) → Reads order seen answer
-both_read order seen files (Ok asked) first second judged refused =
-    record { files = files; held = record { script = first; recording = second }; judged = judged; came = tt }
-both_read order seen files (Err refusal) first second judged refused =
-    record { files = files; held = record { script = first; recording = second }; judged = tt; came = came refusal refused }
+    → IfSome (seen.held (operands_of order).recording) (λ told. files.recording ≡ told) → IfOk answer (IsJobOf files)
+    → IfErr answer (IsFaultRefusal files) → Reads order seen answer
+both_read order seen files (Ok job) first second asked refused =
+    record { files = files; held = record { script = first; recording = second }; job = asked; came = tt }
+both_read order seen files (Err refusal) first second asked refused =
+    record { files = files; held = record { script = first; recording = second }; job = tt; came = came refusal refused }
   where
-    due_comes : (refusal : Refusal) → IsDue order files (Some refusal) → MayCome order files (ShelfFailed seen) ⊥ (Some refusal)
-    due_comes Usage due = due
-    due_comes (Script why) due = due
-    due_comes (Recording why) due = due
-    due_comes (ReadFault file) due = absurd due
-    due_comes WriteFault due = absurd due
-    due_comes Memory due = tt
+    fault_comes : (refusal : Refusal) → IsFault files refusal → MayCome files (ShelfFailed seen) ⊥ (Some refusal)
+    fault_comes Usage due = due
+    fault_comes (Script why) due = due
+    fault_comes (Recording why) due = due
+    fault_comes (ReadFault file) due = absurd due
+    fault_comes WriteFault due = absurd due
+    fault_comes Memory due = tt
 
-    came : (refusal : Refusal) → IsDueRefusal order files refusal → MayCome order files (ShelfFailed seen) ⊥ (Some refusal)
-    came refusal (inl memory) = subst (λ (r : Refusal). MayCome order files (ShelfFailed seen) ⊥ (Some r)) (sym memory) tt
-    came refusal (inr due) = due_comes refusal due
+    came : (refusal : Refusal) → IsFaultRefusal files refusal → MayCome files (ShelfFailed seen) ⊥ (Some refusal)
+    came refusal (inl memory) = subst (λ (r : Refusal). MayCome files (ShelfFailed seen) ⊥ (Some r)) (sym memory) tt
+    came refusal (inr due) = fault_comes refusal due
 
 -- ---- the whole call
 
 -- before the write there is no fault of it
-may_later : (order : Order) (files : Files) (read_failed write_failed : Type 0) (refusal : Refusal)
-    → MayCome order files read_failed ⊥ (Some refusal) → MayCome order files read_failed write_failed (Some refusal)
-may_later order files read_failed write_failed Usage may = may
-may_later order files read_failed write_failed (Script why) may = may
-may_later order files read_failed write_failed (Recording why) may = may
-may_later order files read_failed write_failed (ReadFault operand.Script) may = may
-may_later order files read_failed write_failed (ReadFault operand.Recording) may = may
-may_later order files read_failed write_failed WriteFault may = absurd may.0
-may_later order files read_failed write_failed Memory may = tt
+may_later : (files : Files) (read_failed write_failed : Type 0) (refusal : Refusal)
+    → MayCome files read_failed ⊥ (Some refusal) → MayCome files read_failed write_failed (Some refusal)
+may_later files read_failed write_failed Usage may = may
+may_later files read_failed write_failed (Script why) may = may
+may_later files read_failed write_failed (Recording why) may = may
+may_later files read_failed write_failed (ReadFault operand.Script) may = may
+may_later files read_failed write_failed (ReadFault operand.Recording) may = may
+may_later files read_failed write_failed WriteFault may = absurd may.0
+may_later files read_failed write_failed Memory may = tt
 
 -- what is refused at the reads or before is answered so
 pub refused_answer : (order : Order) (seen : ShelfUse) (out : SinkUse) (refusal : Refusal) (status : ℕ)
     → Reads order seen (Err refusal) → Answers order seen out (record { status = status; refusal = Some refusal; work = None })
 refused_answer order seen out refusal status reads =
-    record { files = reads.files; held = reads.held; came = may_later order reads.files (ShelfFailed seen) (SinkFailed out) refusal reads.came; worked = tt }
+    record { files = reads.files; held = reads.held; came = may_later reads.files (ShelfFailed seen) (SinkFailed out) refusal reads.came; worked = tt }
 
 -- and there is no work
 pub refused_work : (order : Order) (seen : ShelfUse) (refusal : Refusal) → Reads order seen (Err refusal) → HasWork (Some refusal) (Some order) → ⊥
 refused_work order seen refusal reads has = no_work refusal reads.came has
   where
-    no_work : (refusal : Refusal) → MayCome order reads.files (ShelfFailed seen) ⊥ (Some refusal) → HasWork (Some refusal) (Some order) → ⊥
+    no_work : (refusal : Refusal) → MayCome reads.files (ShelfFailed seen) ⊥ (Some refusal) → HasWork (Some refusal) (Some order) → ⊥
     no_work WriteFault may has = may.0
     no_work refusal may has = has
 
-pub memory_answer : (order : Order) (seen : ShelfUse) (out : SinkUse) (status : ℕ) (judged : Judged)
-    → Reads order seen (Ok judged) → Answers order seen out (record { status = status; refusal = Some Memory; work = None })
-memory_answer order seen out status judged reads = record { files = reads.files; held = reads.held; came = tt; worked = tt }
+pub memory_answer : (order : Order) (seen : ShelfUse) (out : SinkUse) (status : ℕ) (job : Job)
+    → Reads order seen (Ok job) → Answers order seen out (record { status = status; refusal = Some Memory; work = None })
+memory_answer order seen out status job reads = record { files = reads.files; held = reads.held; came = tt; worked = tt }
 
--- what is counted is the work for the files
-is_work_for : (order : Order) (files : Files) (judged : Judged) (work : Option Work) → IsJudged order files judged → IsDoneWork judged work
+-- what a run answers is the work of its job
+pub is_work_of : (job : Job) (work : Work) → IsReplayed (meaning_of job) work.steps
+    → ((object : ObjectId) → map unstamped (on_object object work.steps) ≡ on_object object (serial_steps (meaning_of job)))
+    → work.text ≡ printed_text job.typed (cpus_of (meaning_of job)) work.steps
+    → printed_text job.typed (cpus_of (meaning_of job)) work.steps ≡ printed_text job.typed (cpus_of (meaning_of job)) (serial_steps (meaning_of job))
+    → work.instructions ≡ instructions_of (meaning_of job) work.steps → IsWorkOf job work
+is_work_of job work replayed serial printed same instructions =
+    record { replayed = replayed; serial = serial; printed = printed; printed_serial = printed ∙ same; instructions = instructions }
+
+-- what is done is the work for the files
+is_work_for : (order : Order) (files : Files) (job : Job) (work : Option Work) → IsJobOf files job → IsDoneWork order job work
     → IfSome work (IsWorkFor files)
-is_work_for (Run operands) files (Counting counting) (Some work) asked done =
-    record { counting = record { says = counting.recording; place = counting.format; asked = asked }; counted = done }
-is_work_for (Run operands) files (Counting counting) None asked done = tt
-is_work_for (Run operands) files Checked work asked done = absurd asked
-is_work_for (Check operands) files (Counting counting) work asked done = absurd asked
-is_work_for (Check operands) files Checked None asked done = tt
-is_work_for (Check operands) files Checked (Some work) asked done = let none : Some work ≡ None = done in absurd (cc)
+is_work_for (Run operands) files job (Some work) of done = record { job = job; of = of; worked = done }
+is_work_for (Run operands) files job None of done = tt
+is_work_for (Check operands) files job None of done = tt
+is_work_for (Check operands) files job (Some work) of done = let none : Some work ≡ None = done in absurd (cc)
 
-pub worked_answer : (order : Order) (seen : ShelfUse) (out : SinkUse) (status : ℕ) (refusal : Option Refusal) (judged : Judged) (work : Option Work)
-    → Reads order seen (Ok judged) → IsDoneWork judged work
+pub worked_answer : (order : Order) (seen : ShelfUse) (out : SinkUse) (status : ℕ) (refusal : Option Refusal) (job : Job) (work : Option Work)
+    → Reads order seen (Ok job) → IsDoneWork order job work
     → (refusal ≡ None) ⊎ ((refusal ≡ Some WriteFault) × SinkFailed out)
     → Answers order seen out (record { status = status; refusal = refusal; work = work })
-worked_answer order seen out status refusal judged work reads done ends = record {
+worked_answer order seen out status refusal job work reads done ends = record {
   files = reads.files;
   held = reads.held;
   came = elim ends [
-    | inl e ↦ subst (λ (r : Option Refusal). MayCome order reads.files (ShelfFailed seen) (SinkFailed out) r) (sym e) due
-    | inr e ↦ subst (λ (r : Option Refusal). MayCome order reads.files (ShelfFailed seen) (SinkFailed out) r) (sym e.0) (e.1, due)
+    | inl e ↦ subst (λ (r : Option Refusal). MayCome reads.files (ShelfFailed seen) (SinkFailed out) r) (sym e) due
+    | inr e ↦ subst (λ (r : Option Refusal). MayCome reads.files (ShelfFailed seen) (SinkFailed out) r) (sym e.0) (e.1, due)
   ];
-  worked = is_work_for order reads.files judged work reads.judged done;
+  worked = is_work_for order reads.files job work reads.job done;
 }
   where
-    due : IsDue order reads.files None
-    due = judged_is_due order reads.files judged reads.judged
-
--- what is judged can be counted
-pub judged_can_count : (order : Order) (files : Files) (judged : Judged) → IsJudged order files judged → CanCount judged
-judged_can_count (Run operands) files (Counting counting) asked = (asked.accepted.is.valid, asked.one_cpu)
-judged_can_count (Run operands) files Checked asked = tt
-judged_can_count (Check operands) files (Counting counting) asked = absurd asked
-judged_can_count (Check operands) files Checked asked = tt
+    due : IsDue reads.files None
+    due = job_is_due reads.files job reads.job
 
 -- work of a run is there where all was written, and where a part was
-pub judged_work : (order : Order) (files : Files) (judged : Judged) (work : Option Work) (refusal : Option Refusal) → IsJudged order files judged
-    → IsDoneWork judged work → (refusal ≡ None) ⊎ (refusal ≡ Some WriteFault) → IsSome work ↔ HasWork refusal (Some order)
-judged_work (Run operands) files (Counting counting) work refusal asked done ends = (λ some. has, λ has. some_of work done)
+pub done_work : (order : Order) (job : Job) (work : Option Work) (refusal : Option Refusal)
+    → IsDoneWork order job work → (refusal ≡ None) ⊎ (refusal ≡ Some WriteFault) → IsSome work ↔ HasWork refusal (Some order)
+done_work (Run operands) job work refusal done ends = (λ some. has, λ has. some_of work done)
   where
     has : HasWork refusal (Some (Run operands))
     has = elim ends [
@@ -200,12 +203,10 @@ judged_work (Run operands) files (Counting counting) work refusal asked done end
       | inr e ↦ subst (λ (r : Option Refusal). HasWork r (Some (Run operands))) (sym e) tt
     ]
 
-    some_of : (work : Option Work) → IsSomeAnd work (IsWorkOf (payloads_of counting.format counting.recording)) → IsSome work
+    some_of : (work : Option Work) → IsSomeAnd work (IsWorkOf job) → IsSome work
     some_of (Some work) done = refl
     some_of None done = absurd done
-judged_work (Run operands) files Checked work refusal asked done ends = absurd asked
-judged_work (Check operands) files (Counting counting) work refusal asked done ends = absurd asked
-judged_work (Check operands) files Checked work refusal asked done ends =
+done_work (Check operands) job work refusal done ends =
     (λ some. absurd (none_is_not (subst (λ (w : Option Work). IsSome w) done some)), λ has. absurd (no_work ends has))
   where
     none_is_not : IsSome {T = Work} None → ⊥
@@ -216,22 +217,11 @@ judged_work (Check operands) files Checked work refusal asked done ends =
     no_work (inr e) has = subst (λ (r : Option Refusal). HasWork r (Some (Check operands))) e has
 
 -- what is written of the work is what the command writes
-pub judged_bytes : (order : Order) (files : Files) (judged : Judged) (work : Option Work) → IsJudged order files judged → IsDoneWork judged work
-    → bytes_of work ≡ bytes_written (Some order) work
-judged_bytes (Run operands) files (Counting counting) (Some work) asked done = refl
-judged_bytes (Run operands) files (Counting counting) None asked done = absurd done
-judged_bytes (Run operands) files Checked work asked done = absurd asked
-judged_bytes (Check operands) files (Counting counting) work asked done = absurd asked
-judged_bytes (Check operands) files Checked None asked done = refl
-judged_bytes (Check operands) files Checked (Some work) asked done = let none : Some work ≡ None = done in absurd (cc)
-
--- of six instructions a step
-pub judged_six : (judged : Judged) (work : Option Work) → IsDoneWork judged work → IfSome work (λ work. work.instructions ≡ 6 * length work.steps)
-judged_six (Counting counting) (Some work) done =
-    six_a_step (payloads_of counting.format counting.recording) work.steps work.instructions done.runs
-judged_six (Counting counting) None done = tt
-judged_six Checked None done = tt
-judged_six Checked (Some work) done = let none : Some work ≡ None = done in absurd (cc)
+pub done_bytes : (order : Order) (job : Job) (work : Option Work) → IsDoneWork order job work → bytes_of work ≡ bytes_written (Some order) work
+done_bytes (Run operands) job (Some work) done = refl
+done_bytes (Run operands) job None done = absurd done
+done_bytes (Check operands) job None done = refl
+done_bytes (Check operands) job (Some work) done = let none : Some work ≡ None = done in absurd (cc)
 
 -- accepted files are answered with success where no count rose, or memory ran out
 pub is_complete : (order : Order) (seen : ShelfUse) (out : SinkUse) (report : Report)
@@ -239,7 +229,7 @@ pub is_complete : (order : Order) (seen : ShelfUse) (out : SinkUse) (report : Re
     → OnTold (Some order) seen.held (IsComplete (ShelfFailed seen) (SinkFailed out) report.status)
 is_complete order seen out report status answers exact = both (seen.held (operands_of order).script) (seen.held (operands_of order).recording) exact
   where
-    ends : (refusal : Option Refusal) → report.status ≡ status_of refusal → MayCome order answers.files (ShelfFailed seen) (SinkFailed out) refusal
+    ends : (refusal : Option Refusal) → report.status ≡ status_of refusal → MayCome answers.files (ShelfFailed seen) (SinkFailed out) refusal
         → ¬ ShelfFailed seen → ¬ SinkFailed out
         → (refusal ≡ None) ⊎ MayStandFor refusal None → (report.status ≡ 0) ⊎ (report.status ≡ 6)
     ends None is may no_read no_write due = inl is
@@ -250,8 +240,8 @@ is_complete order seen out report status answers exact = both (seen.held (operan
     ends (Some refusal) is may no_read no_write (inl e) = absurd (cc)
     ends (Some refusal) is may no_read no_write (inr stands) = absurd stands
 
-    both : (a b : Option (List ℕ)) → OnBoth a b (ComesIfDue report.refusal order)
-        → OnBoth a b (IsComplete (ShelfFailed seen) (SinkFailed out) report.status order)
+    both : (a b : Option (List ℕ)) → OnBoth a b (ComesIfDue report.refusal)
+        → OnBoth a b (IsComplete (ShelfFailed seen) (SinkFailed out) report.status)
     both None b exact = tt
     both (Some a) None exact = tt
     both (Some a) (Some b) exact = λ due no_read no_write. ends report.refusal status answers.came no_read no_write (exact None due)
@@ -281,20 +271,19 @@ words_answer (Some order) seen out status = record {
 }
 
 -- what holds of all files holds of told ones
-on_told : (order : Option Order) (held : List ℕ → Option (List ℕ)) (P : Order → Files → Type 0)
-    → ((order : Order) (files : Files) → P order files) → OnTold order held P
+on_told : (order : Option Order) (held : List ℕ → Option (List ℕ)) (P : Files → Type 0) → ((files : Files) → P files) → OnTold order held P
 on_told None held P p = tt
 on_told (Some order) held P p = both (held (operands_of order).script) (held (operands_of order).recording)
   where
-    both : (a b : Option (List ℕ)) → OnBoth a b (P order)
+    both : (a b : Option (List ℕ)) → OnBoth a b P
     both None b = tt
     both (Some a) None = tt
-    both (Some a) (Some b) = p order (record { script = a; recording = b })
+    both (Some a) (Some b) = p (record { script = a; recording = b })
 
 pub memory_exact : (order : Option Order) (held : List ℕ → Option (List ℕ)) → OnTold order held (ComesIfDue (Some Memory))
-memory_exact order held = on_told order held (ComesIfDue (Some Memory)) (λ o files due is. inr tt)
+memory_exact order held = on_told order held (ComesIfDue (Some Memory)) (λ files due is. inr tt)
 
 pub memory_complete : (order : Option Order) (held : List ℕ → Option (List ℕ)) (read_failed write_failed : Type 0)
     → OnTold order held (IsComplete read_failed write_failed 6)
 memory_complete order held read_failed write_failed =
-    on_told order held (IsComplete read_failed write_failed 6) (λ o files due no_read no_write. inr refl)
+    on_told order held (IsComplete read_failed write_failed 6) (λ files due no_read no_write. inr refl)

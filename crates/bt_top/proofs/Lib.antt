@@ -1,8 +1,4 @@
-pub mod EarlyTrees
-pub mod Scripts
-pub mod Counts
-pub mod EventRuns
-pub mod Payloads
-pub mod LineLaws
-pub mod Due
-pub mod Judging
+mod Due
+mod Judging
+mod LineLaws
+mod Scripts

@@ -1,12 +1,9 @@
--- The tree of a script, and the format whose events it counts.
+-- The tree of a script, and its first fault.
 use Rattle.std.proofs.Common.{◌≡◌, ◌≢◌, ℕ, ◌+◌, ◌<◌, ◌≤◌, Bool, true, false, List, length, get_or, refl, sym, ap, subst, ◌∙◌, arith, inl}
 use Rattle.std.proofs.Common.{inr, All}
 use Rattle.std.specs.Prelude.{◌↔◌, IsTrue, Option, Some, None, MatchOption, slice_get}
-use Rattle.std.proofs.lemmas.Bool.{cases_lt}
 use Rattle.std.proofs.lemmas.List.Elements.{All-weaker}
-use Rattle.std.proofs.lemmas.Option.{slice_get-get_or, get_or_from_slice_get, slice_get_within}
 use Rattle.tracefs_format.specs.declared.format.Format.{Format}
-use Rattle.tracefs_format.specs.ByName.{IsNamed}
 use Rattle.bt_lexer.specs.declared.error.LexError.{LexError}
 use Rattle.bt_lexer.specs.declared.error.LexError.TheVariants as lexical
 use Rattle.bt_core.specs.declared.place.Place.{Place}
@@ -41,10 +38,12 @@ use Rattle.bt_top.specs.declared.refusal.ScriptRefusal.TheVariants.{Fault}
 use Rattle.bt_top.specs.declared.refusal.Refusal.TheVariants.{Script}
 use Rattle.bt_top.specs.Script.{place_at, place_of, lexical_refusal, parse_refusal, attach_refusal, HasTree, IsTextFault, IsAttachFault}
 use Rattle.bt_top.specs.Script.{type_refusal, body_fault, IsTypeFault}
-use Rattle.bt_top.specs.Script.{IsScriptFault, EventName, IsFormatOf, CountsFormat}
-use Rattle.bt_top.specs.Early.{event_of_tree}
-use Rattle.bt_top.proofs.EarlyTrees.{is_early, is_event}
-use Rattle.bt_top.specs.Serve.{IsTextRefusal, IsScriptRefusal}
+use Rattle.bt_top.specs.Script.{IsScriptFault}
+use Rattle.bt_top.specs.Due.{IsScriptFor}
+use Rattle.bt_top.specs.declared.judge.ScriptJob.{ScriptJob}
+use Rattle.bt_types.specs.Script.{IsTypedScript}
+use Rattle.typed_tree.specs.declared.script.Typed.{Typed}
+use Rattle.bt_top.specs.Serve.{IsTextRefusal, IsScriptRefusal, IsScriptJob}
 
 -- ---- the first fault of a script
 
@@ -242,54 +241,14 @@ type_told text says tree bodies (typing.Broken fault) has attached same found = 
       inr (inr (record { tree = tree; fault = fault; has = has; attached = attached; first = sym same ∙ found fault refl; told = refl }));
 })
 
--- ---- the format of an event
-
--- the event is of a format that it was compared with
-pub format_found : (event : EventName) (formats : List Format) (place : ℕ) (f d : Format) (test : Bool) → place < length formats → f ≡ get_or formats place d
-    → IsTrue test ↔ IsNamed f event.system event.name → test ≡ true → IsFormatOf event formats place
-format_found event formats place f d test inside is same holds =
-    record { format = f; placed = slice_get-get_or formats place d inside ∙ ap (λ x. Some x) (sym is); named = same.0 holds }
-
--- it is of none before, and not of this one
-pub none_so_far : (event : EventName) (formats : List Format) (place : ℕ) (f d : Format) (test : Bool) → f ≡ get_or formats place d
-    → IsTrue test ↔ IsNamed f event.system event.name → test ≡ false
-    → ((k : ℕ) → k < place → IsFormatOf event formats k → ⊥) → (k : ℕ) → k < place + 1 → IsFormatOf event formats k → ⊥
-none_so_far event formats place f d test is same fails below k lt of = elim (cases_lt k place) [
-  | inl less ↦ below k less of
-  | inr here ↦
-      let e : k ≡ place = omega arith in
-      let other : of.format ≡ f = sym (get_or_from_slice_get formats place of.format d (subst (λ (i : ℕ). slice_get formats i ≡ Some of.format) e of.placed))
-      ∙ sym is in
-      let holds : IsTrue test = same.1 (subst (λ (x : Format). IsNamed x event.system event.name) other of.named) in
-      false_is_not test fails holds
-]
-  where
-    false_is_not : (b : Bool) → b ≡ false → IsTrue b → ⊥
-    false_is_not true f h = cc
-    false_is_not false f h = cc
-
--- there is no format past the last
-pub none_at_all : (event : EventName) (formats : List Format) (place : ℕ) → length formats ≤ place → ((k : ℕ) → k < place → IsFormatOf event formats k → ⊥)
-    → (k : ℕ) → IsFormatOf event formats k → ⊥
-none_at_all event formats place past below k of =
-    let inside : k < length formats = slice_get_within formats k of.format of.placed in
-    below k (omega arith) of
-
--- ---- the format that a tree counts
-
-pub not_early : (tree : Tree) (formats : List Format) → event_of_tree tree ≡ None → (place : ℕ) → CountsFormat tree formats place → ⊥
-not_early tree formats none place counts = let e = is_event tree counts.event counts.early in cc
-
-counts_none : (tree : Tree) (event : EventName) (formats : List Format) → event_of_tree tree ≡ Some event → ((place : ℕ) → IsFormatOf event formats place → ⊥)
-    → (place : ℕ) → CountsFormat tree formats place → ⊥
-counts_none tree event formats is none place counts =
-    none place (subst (λ (x : EventName). IsFormatOf x formats place) (same counts.event (sym (is_event tree counts.event counts.early) ∙ is)) counts.of)
-  where
-    same : (other : EventName) → Some other ≡ Some event → other ≡ event
-    same other e = cc
-
-pub counted : (tree : Tree) (event : EventName) (formats : List Format) (found : Option ℕ) → event_of_tree tree ≡ Some event
-    → MatchOption found ((place : ℕ) → IsFormatOf event formats place → ⊥) (λ place. IsFormatOf event formats place)
-    → MatchOption found ((place : ℕ) → CountsFormat tree formats place → ⊥) (λ place. CountsFormat tree formats place)
-counted tree event formats None is none = counts_none tree event formats is none
-counted tree event formats (Some place) is of = record { event = event; early = is_early tree event is; of = of }
+-- what is attached and has its types is what the script asks for
+pub job_told : (text : List ℕ) (says : Recorded) (tree : Tree) (attached : Attached) (typed : Typed) → HasTree text tree
+    → attach_fault tree says.formats says.start says.end ≡ None → IsAttachedTo tree says.formats says.start says.end attached
+    → type_fault tree says.formats attached.bodies ≡ None → IsTypedScript tree says.formats attached.bodies typed
+    → IsScriptJob text says (record { attached = attached; typed = typed })
+job_told text says tree attached typed has none is allowed of = record {
+  tree = tree;
+  script = record { has = has; attached = none; typed = sym (bodies_of_tree tree says attached is) ∙ allowed };
+  attached = is;
+  typed = of;
+}

@@ -1,10 +1,6 @@
 pub mod Words
 pub mod Lines
 pub mod Script
-pub mod Early
-pub mod Code
-pub mod Runs
-pub mod Count
 pub mod Refusals
 pub mod Due
 pub mod Serve

@@ -124,18 +124,16 @@ abbrev pub script_pieces : ScriptRefusal → List Piece
 script_pieces script.TooLong = Text (codes ": script too long") ∷ []
 script_pieces (script.Fault wrong place) =
     Text (codes ":") ∷ Number place.line ∷ Text (codes ":") ∷ Number place.column ∷ Text (codes ": ") ∷ Text (script_fault_text wrong) ∷ []
-script_pieces script.NotBuilt = Text (codes ": not built yet") ∷ []
 
 -- why a recording is refused, behind its name
 abbrev pub recording_pieces : RecordingRefusal → List Piece
 recording_pieces recording.TooLong = Text (codes ": recording too long") ∷ []
 recording_pieces (recording.Fault error) = Text (codes ": ") ∷ fault_pieces error
-recording_pieces recording.NotBuilt = Text (codes ": not built yet") ∷ []
 
 -- what is told of words that break the rule, or ask for what is not built: how what is built is used
 abbrev pub usage_pieces : List Piece
 usage_pieces =
-    Text (codes "usage: btreplay run SCRIPT RECORDING\n")
+    Text (codes "usage: btreplay run [--serial] SCRIPT RECORDING\n")
     ∷ Text (codes "       btreplay check SCRIPT RECORDING")
     ∷ []
 

@@ -1,8 +1,5 @@
--- What a script is, and the scripts that run so far: they count the events of one of the recording's formats.
-use Rattle.std.specs.Prelude.{◌≡◌, ℕ, Bool, false, ◌==◌, ◌⊎◌, List, [], ◌∷◌, codes, take, length, slice_get, Option, Some, None}
-use Rattle.std.specs.List.{list_any}
-use Rattle.tracefs_format.specs.declared.format.Format.{Format}
-use Rattle.tracefs_format.specs.ByName.{IsNamed}
+-- The tree of a script, and its first fault over a recording.
+use Rattle.std.specs.Prelude.{◌≡◌, ℕ, ◌⊎◌, List, take, length, slice_get, Option, Some, None}
 use Rattle.rec_format.specs.declared.recording.Recording.{Recording as Recorded}
 use Rattle.bt_attach.specs.declared.error.AttachError.{AttachError}
 use Rattle.bt_attach.specs.declared.error.AttachError.TheVariants as attaching
@@ -13,14 +10,7 @@ use Rattle.bt_core.specs.declared.place.Place.{Place}
 use Rattle.bt_lexer.specs.declared.token.Token.{Token}
 use Rattle.bt_lexer.specs.Places.{line_behind, column_behind}
 use Rattle.bt_lexer.specs.Tokens.{IsTokensOf, IsFirstFault}
-use Rattle.bt_ast.specs.declared.expr.MapRef.{MapRef, out-MapRef}
-use Rattle.bt_ast.specs.declared.probe.Point.TheVariants.{Tracepoint}
-use Rattle.bt_ast.specs.declared.probe.Probe.{Probe}
 use Rattle.bt_ast.specs.declared.probe.Script.{Script as Tree}
-use Rattle.bt_ast.specs.declared.stmt.AggCall.TheVariants.{Count}
-use Rattle.bt_ast.specs.declared.stmt.Block.{out-Block}
-use Rattle.bt_ast.specs.declared.stmt.Stmt.{Stmt, out-Stmt}
-use Rattle.bt_ast.specs.declared.stmt.StmtKind.TheVariants.{SetAgg}
 use Rattle.bt_grammar.specs.declared.error.ParseError.{ParseError}
 use Rattle.bt_grammar.specs.declared.error.ParseError.TheVariants as parsing
 use Rattle.bt_grammar.specs.Refusals.{IsAccepted as IsTree, IsRefusal}
@@ -126,46 +116,3 @@ pub record IsTypeFault (text : List ℕ) (says : Recorded) (refusal : Refusal) :
 -- the refusal tells the first fault of a script over a recording, in the order lexing, parsing, attaching, typing
 abbrev pub IsScriptFault : List ℕ → Recorded → Refusal → Type 0
 IsScriptFault text says refusal = IsTextFault text refusal ⊎ (IsAttachFault text says refusal ⊎ IsTypeFault text says refusal)
-
--- ---- the scripts that run so far
-
--- the system and the name of an event
-pub record EventName : Type 0 where
-  pub system : List ℕ
-  pub name : List ℕ
-
-abbrev pub has_star : List ℕ → Bool
-has_star bytes = list_any (λ b. b == 42) bytes
-
--- a probe on one tracepoint without `*`, which names this event, with no predicate and the one statement `@ = count()`
-pub record IsEarlyProbe (probe : Probe) (event : EventName) : Type 0 where
-  pub at : Place
-  pub point : probe.points ≡ Tracepoint event.system event.name at ∷ []
-  pub one_system : has_star event.system ≡ false
-  pub one_name : has_star event.name ≡ false
-  pub no_predicate : probe.predicate ≡ None
-  pub stmt : Stmt
-  pub only : (out-Block probe.block).stmts ≡ stmt ∷ []
-  pub map : MapRef
-  pub word : Place
-  pub sets : (out-Stmt stmt).kind ≡ SetAgg map Count word
-  pub named : (out-MapRef map).name ≡ codes "@"
-  pub no_keys : (out-MapRef map).keys ≡ []
-
--- a tree of one such probe
-pub record IsEarlyTree (tree : Tree) (event : EventName) : Type 0 where
-  pub probe : Probe
-  pub one : tree.probes ≡ probe ∷ []
-  pub early : IsEarlyProbe probe event
-
--- the format at this place is that of the event
-pub record IsFormatOf (event : EventName) (formats : List Format) (place : ℕ) : Type 0 where
-  pub format : Format
-  pub placed : slice_get formats place ≡ Some format
-  pub named : IsNamed format event.system event.name
-
--- the tree is early, and counts the events of the format at this place
-pub record CountsFormat (tree : Tree) (formats : List Format) (place : ℕ) : Type 0 where
-  pub event : EventName
-  pub early : IsEarlyTree tree event
-  pub of : IsFormatOf event formats place

@@ -1,33 +1,38 @@
 -- What the top call answers.
-use Rattle.std.specs.Prelude.{◌≡◌, ◌≢◌, ℕ, ◌++◌, ◌<◌, ◌≤◌, ◌⊎◌, List, [], ◌∷◌, codes, length, Option, Some, None, Result, Ok, Err, IfOk, IfErr, IfSome}
-use Rattle.std.specs.Prelude.{IsSomeAnd}
+use Rattle.std.specs.Prelude.{◌≡◌, ◌≢◌, ℕ, ◌++◌, ◌≤◌, ◌⊎◌, List, [], ◌∷◌, codes, length, map, Option, Some, None, Result, Ok, Err, IfOk, IfErr, IfSome, IsSomeAnd}
 use Rattle.std.specs.Io.KnownBytes.{Appends, Keeps}
+use Rattle.bt_ast.specs.declared.probe.Script.{Script as Tree}
+use Rattle.bt_attach.specs.Attaching.{IsAttachedTo}
 use Rattle.bt_core.specs.declared.limits.TheConstants.{SCRIPT_BYTES}
 use Rattle.bt_core.specs.declared.place.Place.{Place}
+use Rattle.bt_core.specs.declared.step.ObjectId.{ObjectId}
+use Rattle.bt_core.specs.Steps.{on_object}
 use Rattle.bt_io.specs.Faults.{Rose}
 use Rattle.bt_io.specs.Taken.{AppendsPart}
+use Rattle.bt_meaning.specs.Instructions.{instructions_of}
+use Rattle.bt_meaning.specs.Interleavings.{IsReplayed}
+use Rattle.bt_meaning.specs.Prints.{printed_text}
+use Rattle.bt_meaning.specs.Replays.{Replay, cpus_of}
+use Rattle.bt_meaning.specs.Serial.{serial_steps, unstamped}
+use Rattle.bt_meaning.specs.Walks.{replay_of}
+use Rattle.bt_run.specs.declared.run.Job.{Job}
+use Rattle.bt_run.specs.declared.run.Work.{Work}
+use Rattle.bt_types.specs.Script.{IsTypedScript}
 use Rattle.rec_format.specs.declared.recording.Recording.{Recording as Recorded}
-use Rattle.rec_format.specs.Recordings.{IsValidRecording}
-use Rattle.bt_top.specs.declared.judge.Accepted.{Accepted}
-use Rattle.bt_top.specs.declared.judge.Counting.{Counting as Counted}
-use Rattle.bt_top.specs.declared.judge.Judged.{Judged}
-use Rattle.bt_top.specs.declared.judge.Judged.TheVariants.{Counting, Checked}
+use Rattle.bt_top.specs.declared.judge.ScriptJob.{ScriptJob}
 use Rattle.bt_top.specs.declared.report.Report.{Report}
-use Rattle.bt_top.specs.declared.report.Work.{Work}
 use Rattle.bt_top.specs.declared.refusal.Operand.TheVariants as operand
 use Rattle.bt_top.specs.declared.refusal.ScriptFault.{ScriptFault}
 use Rattle.bt_top.specs.declared.refusal.ScriptRefusal.TheVariants as script
-use Rattle.bt_top.specs.declared.refusal.RecordingRefusal.TheVariants as recording
 use Rattle.bt_top.specs.declared.refusal.Refusal.{Refusal}
 use Rattle.bt_top.specs.declared.refusal.Refusal.TheVariants.{Script, Recording, ReadFault, WriteFault, Memory}
 use Rattle.bt_top.specs.declared.words.Operands.{Operands}
 use Rattle.bt_top.specs.declared.words.Order.{Order}
 use Rattle.bt_top.specs.declared.words.Order.TheVariants.{Run, Check}
-use Rattle.bt_top.specs.Count.{payloads_of, IsWorkOf}
-use Rattle.bt_top.specs.Due.{Files, IsAsked, IsCounted, IsChecked, IsFault, IsDue}
+use Rattle.bt_top.specs.Due.{Files, AreAccepted, IsFault, IsDue, IsScriptFor}
 use Rattle.bt_top.specs.Lines.{SinkUse, SinkFailed, Writes}
 use Rattle.bt_top.specs.Refusals.{refusal_pieces}
-use Rattle.bt_top.specs.Script.{IsTextFault, IsScriptFault, CountsFormat}
+use Rattle.bt_top.specs.Script.{IsTextFault, IsScriptFault}
 use Rattle.bt_top.specs.Words.{operands_of, operands_in}
 
 -- ---- what comes of a call
@@ -72,12 +77,12 @@ pub record AreHeld (held : List ℕ → Option (List ℕ)) (names : Operands) (f
 
 -- what may come of files: what is due to them; want of memory; a fault of the script's read; a fault of the recording's read where the
 -- script is not too long; or a fault of the write where nothing is refused; faults only where their counts rose
-abbrev pub MayCome : Order → Files → (read_failed write_failed : Type 0) → Option Refusal → Type 0
-MayCome order files read_failed write_failed (Some Memory) = Unit {0}
-MayCome order files read_failed write_failed (Some (ReadFault operand.Script)) = read_failed
-MayCome order files read_failed write_failed (Some (ReadFault operand.Recording)) = read_failed × (length files.script ≤ SCRIPT_BYTES)
-MayCome order files read_failed write_failed (Some WriteFault) = write_failed × IsDue order files None
-MayCome order files read_failed write_failed due = IsDue order files due
+abbrev pub MayCome : Files → (read_failed write_failed : Type 0) → Option Refusal → Type 0
+MayCome files read_failed write_failed (Some Memory) = Unit {0}
+MayCome files read_failed write_failed (Some (ReadFault operand.Script)) = read_failed
+MayCome files read_failed write_failed (Some (ReadFault operand.Recording)) = read_failed × (length files.script ≤ SCRIPT_BYTES)
+MayCome files read_failed write_failed (Some WriteFault) = write_failed × IsDue files None
+MayCome files read_failed write_failed due = IsDue files due
 
 -- work is there after a whole run, and after one whose text was not wholly written
 abbrev pub HasWork : Option Refusal → Option Order → Type 0
@@ -85,16 +90,39 @@ HasWork None (Some (Run operands)) = Unit {0}
 HasWork (Some WriteFault) (Some (Run operands)) = Unit {0}
 HasWork refusal order = ⊥
 
--- the work of counting the events that the script of these files counts
+-- What two accepted files ask for: the recording that the one spells; what the script, with its tree, is attached to in it; and the script
+-- with its types.
+pub record IsJobOf (files : Files) (job : Job) : Type 0 where
+  pub tree : Tree
+  pub accepted : AreAccepted files job.recording tree
+  pub attached : IsAttachedTo tree job.recording.formats job.recording.start job.recording.end job.attached
+  pub typed : IsTypedScript tree job.recording.formats job.attached.bodies job.typed
+
+-- a job as the script's own meaning: its bodies are walked
+abbrev pub meaning_of : Job → Replay
+meaning_of job = replay_of job.typed job.attached job.recording
+
+-- The work of a job. Its steps are an interleaving in the order of their stamps; at each object they are those of the serial list, in its
+-- order; its text is what the script prints under them, which is also what it prints under the serial list; and its instructions are those
+-- of the bodies that were run.
+pub record IsWorkOf (job : Job) (work : Work) : Type 0 where
+  pub replayed : IsReplayed (meaning_of job) work.steps
+  pub serial : (object : ObjectId) → map unstamped (on_object object work.steps) ≡ on_object object (serial_steps (meaning_of job))
+  pub printed : work.text ≡ printed_text job.typed (cpus_of (meaning_of job)) work.steps
+  pub printed_serial : work.text ≡ printed_text job.typed (cpus_of (meaning_of job)) (serial_steps (meaning_of job))
+  pub instructions : work.instructions ≡ instructions_of (meaning_of job) work.steps
+
+-- the work of what these files ask for
 pub record IsWorkFor (files : Files) (work : Work) : Type 0 where
-  pub counting : IsCounted files
-  pub counted : IsWorkOf (payloads_of counting.place counting.says) work
+  pub job : Job
+  pub of : IsJobOf files job
+  pub worked : IsWorkOf job work
 
 -- the answer to an order, over files that hold what the shelf tells of them
 pub record Answers (order : Order) (shelf : ShelfUse) (out : SinkUse) (report : Report) : Type 0 where
   pub files : Files
   pub held : AreHeld shelf.held (operands_of order) files
-  pub came : MayCome order files (ShelfFailed shelf) (SinkFailed out) report.refusal
+  pub came : MayCome files (ShelfFailed shelf) (SinkFailed out) report.refusal
   pub worked : IfSome report.work (IsWorkFor files)
 
 -- the answer to an order, where the words give one
@@ -112,12 +140,12 @@ MayStandFor (Some WriteFault) due = due ≡ None
 MayStandFor refusal due = ⊥
 
 -- what is due to the files comes, unless a fault or want of memory stands for it
-abbrev pub ComesIfDue : Option Refusal → Order → Files → Type 0
-ComesIfDue refusal order files = (due : Option Refusal) → IsDue order files due → (refusal ≡ due) ⊎ MayStandFor refusal due
+abbrev pub ComesIfDue : Option Refusal → Files → Type 0
+ComesIfDue refusal files = (due : Option Refusal) → IsDue files due → (refusal ≡ due) ⊎ MayStandFor refusal due
 
 -- where nothing is due to the files and no count of faults rose, the status is that of success or of want of memory
-abbrev pub IsComplete : (read_failed write_failed : Type 0) → ℕ → Order → Files → Type 0
-IsComplete read_failed write_failed status order files = IsDue order files None → ¬ read_failed → ¬ write_failed → (status ≡ 0) ⊎ (status ≡ 6)
+abbrev pub IsComplete : (read_failed write_failed : Type 0) → ℕ → Files → Type 0
+IsComplete read_failed write_failed status files = IsDue files None → ¬ read_failed → ¬ write_failed → (status ≡ 0) ⊎ (status ≡ 6)
 
 -- a fact on two files, where both are told
 abbrev pub OnBoth : Option (List ℕ) → Option (List ℕ) → (Files → Type 0) → Type 0
@@ -125,10 +153,10 @@ OnBoth None recording P = Unit {0}
 OnBoth (Some script) None P = Unit {0}
 OnBoth (Some script) (Some recording) P = P (record { script = script; recording = recording })
 
--- a fact on an order and its two files, where the shelf tells both
-abbrev pub OnTold : Option Order → (List ℕ → Option (List ℕ)) → (Order → Files → Type 0) → Type 0
+-- a fact on the two files of an order, where the shelf tells both
+abbrev pub OnTold : Option Order → (List ℕ → Option (List ℕ)) → (Files → Type 0) → Type 0
 OnTold None held P = Unit {0}
-OnTold (Some order) held P = OnBoth (held (operands_of order).script) (held (operands_of order).recording) (P order)
+OnTold (Some order) held P = OnBoth (held (operands_of order).script) (held (operands_of order).recording) P
 
 -- ---- what is written
 
@@ -175,38 +203,17 @@ IsScriptRefusal text says refusal = (refusal ≡ Memory) ⊎ IsToldFault text sa
 abbrev pub IsFaultRefusal : Files → Refusal → Type 0
 IsFaultRefusal files refusal = (refusal ≡ Memory) ⊎ IsFault files refusal
 
--- want of memory, or what is due to the files
-abbrev pub IsDueRefusal : Order → Files → Refusal → Type 0
-IsDueRefusal order files refusal = (refusal ≡ Memory) ⊎ IsDue order files (Some refusal)
+-- what a script asks for over a recording
+pub record IsScriptJob (text : List ℕ) (says : Recorded) (job : ScriptJob) : Type 0 where
+  pub tree : Tree
+  pub script : IsScriptFor text says tree
+  pub attached : IsAttachedTo tree says.formats says.start says.end job.attached
+  pub typed : IsTypedScript tree says.formats job.attached.bodies job.typed
 
--- the accepted recording has one CPU, and the script counts the events of its format at this place
-pub record Counts (accepted : Accepted) (counting : Counted) : Type 0 where
-  pub same : counting.recording ≡ accepted.recording
-  pub one_cpu : length accepted.recording.cpus ≡ 1
-  pub counts : CountsFormat accepted.tree accepted.recording.formats counting.format
-
--- what a run of accepted files asks for is not built
-abbrev pub IsLeft : Accepted → Refusal → Type 0
-IsLeft accepted (Recording recording.NotBuilt) = 1 < length accepted.recording.cpus
-IsLeft accepted (Script script.NotBuilt) =
-    (length accepted.recording.cpus ≡ 1) × ((place : ℕ) → CountsFormat accepted.tree accepted.recording.formats place → ⊥)
-IsLeft accepted refusal = ⊥
-
--- what an order asks for, where nothing of its files is refused
-abbrev pub IsJudged : Order → Files → Judged → Type 0
-IsJudged (Run operands) files (Counting counting) = IsAsked files counting.recording counting.format
-IsJudged (Check operands) files Checked = IsChecked files
-IsJudged order files judged = ⊥
-
--- what is counted is a valid recording of one CPU
-abbrev pub CanCount : Judged → Type 0
-CanCount (Counting counting) = IsValidRecording counting.recording × (length counting.recording.cpus ≡ 1)
-CanCount Checked = Unit {0}
-
--- the work of what is asked for
-abbrev pub IsDoneWork : Judged → Option Work → Type 0
-IsDoneWork (Counting counting) work = IsSomeAnd work (IsWorkOf (payloads_of counting.format counting.recording))
-IsDoneWork Checked work = work ≡ None
+-- the work of what an order asks for: of a run, and none of a check
+abbrev pub IsDoneWork : Order → Job → Option Work → Type 0
+IsDoneWork (Run operands) job work = IsSomeAnd work (IsWorkOf job)
+IsDoneWork (Check operands) job work = work ≡ None
 
 -- the bytes that are written of it
 abbrev pub bytes_of : Option Work → List ℕ
@@ -214,8 +221,8 @@ bytes_of None = codes "ok\n"
 bytes_of (Some work) = work.text
 
 -- what the two reads answer: what the order asks for, or what may come of the files before the write
-pub record Reads (order : Order) (shelf : ShelfUse) (answer : Result Judged Refusal) : Type 0 where
+pub record Reads (order : Order) (shelf : ShelfUse) (answer : Result Job Refusal) : Type 0 where
   pub files : Files
   pub held : AreHeld shelf.held (operands_of order) files
-  pub judged : IfOk answer (IsJudged order files)
-  pub came : IfErr answer (λ refusal. MayCome order files (ShelfFailed shelf) ⊥ (Some refusal))
+  pub job : IfOk answer (IsJobOf files)
+  pub came : IfErr answer (λ refusal. MayCome files (ShelfFailed shelf) ⊥ (Some refusal))

@@ -1,5 +1,5 @@
 -- What the words of a command line ask for, as far as it is built.
-use Rattle.std.specs.Prelude.{ℕ, false, List, [], ◌∷◌, Option, Some, None, String}
+use Rattle.std.specs.Prelude.{ℕ, true, false, List, [], ◌∷◌, Option, Some, None, String}
 use Rattle.std.specs.Option.{option_and_then}
 use Rattle.std.specs.declared.alloc.Global.{Global}
 use Rattle.bt_words.specs.declared.order.Order.{Order as Asked}
@@ -14,10 +14,10 @@ abbrev pub operands_of : Order → Operands
 operands_of (Run operands) = operands
 operands_of (Check operands) = operands
 
--- of the orders that words give those that are built: `run` without options, and `check`
+-- of the orders that words give those that are built: `run`, with or without `--serial`, and `check`
 abbrev pub built_order : Asked → Option Order
-built_order (asked.Run false false script recording) = Some (Run (record { script = script; recording = recording }))
-built_order (asked.Run serial stats script recording) = None
+built_order (asked.Run serial false script recording) = Some (Run (record { script = script; recording = recording }))
+built_order (asked.Run serial true script recording) = None
 built_order (asked.Check script recording) = Some (Check (record { script = script; recording = recording }))
 built_order (asked.Code script recording) = None
 built_order (asked.Gen x n) = None

@@ -58,9 +58,6 @@ pub enum ScriptRefusal {
     /// The text is no script, or none for this recording: the first fault, and the place of its byte, token,
     /// point or part of a body. That of a text that breaks off is the end of the text.
     Fault(ScriptFault, Place),
-    /// Nothing is wrong with it so far, and what comes next is not built: of a script that is run, whatever
-    /// does more than count the events of one of the recording's formats.
-    NotBuilt,
 }
 
 /// Why a recording is refused.
@@ -70,8 +67,6 @@ pub enum RecordingRefusal {
     TooLong,
     /// The bytes are no recording: the first check that they fail.
     Fault(RecordingError),
-    /// Nothing is wrong with it, but it has more than one CPU, and to run it is not built.
-    NotBuilt,
 }
 
 /// Why a call is refused. Each has its exit status.

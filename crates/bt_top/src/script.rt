@@ -1,14 +1,12 @@
-// The trees of scripts, and those that run so far.
-ghost use Rattle.std.specs.Prelude.{◌≡◌, ◌≤◌, ℕ, IfErr, IfOk, MatchOption, None, Some, length, slice_get};
+// The trees of scripts, and why scripts are refused.
+ghost use Rattle.std.specs.Prelude.{◌≡◌, ◌≤◌, IfErr, IfOk, length, slice_get};
 ghost use Rattle.bt_lexer.specs.Places.{offset_of};
 ghost use Rattle.bt_top.specs.Script.{place_of, place_at, lexical_refusal, parse_refusal, attach_refusal, type_refusal};
-ghost use Rattle.bt_top.specs.Script.{HasTree, has_star, IsFormatOf, CountsFormat};
-ghost use Rattle.bt_top.specs.Early.{event_of_points, is_count, are_count, event_of_probe, event_of_tree};
+ghost use Rattle.bt_top.specs.Script.{HasTree};
 ghost use Rattle.bt_top.specs.Serve.{IsTextRefusal};
 
 use crate::refusal::{Refusal, ScriptFault, ScriptRefusal};
-use bt_ast::probe::{Point, Probe, Script};
-use bt_ast::stmt::{AggCall, Stmt, StmtKind};
+use bt_ast::probe::Script;
 use bt_attach::error::AttachError;
 use bt_core::limits::SCRIPT_BYTES;
 use bt_core::place::Place;
@@ -21,7 +19,6 @@ use bt_lexer::token::Token;
 use bt_parser::parse::parse;
 use expr_types::fault::TypeError;
 use std::alloc::Global;
-use tracefs_format::format::Format;
 
 /// The line and column of a byte, by its offset in the text.
 fn place_at(text: &[u8], offset: u64) -> Place
@@ -128,107 +125,4 @@ pub(crate) fn tree_of(alloc: Global, text: &[u8]) -> Result<Script, Refusal>
         Ok(script) => Ok(script),
         Err(error) => Err(parse_refusal(text, tokens.as_slice(), error)),
     }
-}
-
-/// Whether a name has a `*`.
-fn has_star(name: &[u8]) -> bool
-    ensures { result ≡ has_star name.now }
-{
-    name.contains(&b'*')
-}
-
-/// The system and the name of an event.
-#[derive(Clone, Copy)]
-struct TracepointName<'t> {
-    system: &'t [u8],
-    name: &'t [u8],
-}
-
-/// The event of one tracepoint without `*`.
-fn event_of_points(points: &[Point]) -> Option<TracepointName<'_>>
-    ensures { MatchOption result (event_of_points points.now ≡ None)
-        (λ event. event_of_points points.now ≡ Some (record { system = event.system.now; name = event.name.now })) }
-{
-    match points {
-        [Point::Tracepoint { system, name, .. }] => {
-            let system = system.as_slice();
-            let name = name.as_slice();
-            if !has_star(system) && !has_star(name) {
-                Some(TracepointName { system, name })
-            } else {
-                None
-            }
-        }
-        _ => None,
-    }
-}
-
-/// Whether the statement is `@ = count()`.
-fn is_count(kind: &StmtKind) -> bool
-    ensures { result ≡ is_count kind.now }
-{
-    match kind {
-        StmtKind::SetAgg {
-            map,
-            agg: AggCall::Count,
-            ..
-        } => map.name.as_slice() == b"@".as_slice() && map.keys.is_empty(),
-        _ => false,
-    }
-}
-
-/// Whether the statements are `@ = count()` alone.
-fn are_count(stmts: &[Stmt]) -> bool
-    ensures { result ≡ are_count stmts.now }
-{
-    match stmts {
-        [stmt] => is_count(&stmt.kind),
-        _ => false,
-    }
-}
-
-/// The event that a probe counts, where it does nothing else.
-fn event_of_probe(probe: &Probe) -> Option<TracepointName<'_>>
-    ensures { MatchOption result (event_of_probe probe.now ≡ None)
-        (λ event. event_of_probe probe.now ≡ Some (record { system = event.system.now; name = event.name.now })) }
-{
-    if !are_count(probe.block.stmts.as_slice()) {
-        return None;
-    }
-    match &probe.predicate {
-        None => event_of_points(probe.points.as_slice()),
-        Some(_) => None,
-    }
-}
-
-/// The event that a script counts, where it does nothing else.
-fn event_of_tree(tree: &Script) -> Option<TracepointName<'_>>
-    ensures { MatchOption result (event_of_tree tree.now ≡ None)
-        (λ event. event_of_tree tree.now ≡ Some (record { system = event.system.now; name = event.name.now })) }
-{
-    match tree.probes.as_slice() {
-        [probe] => event_of_probe(probe),
-        _ => None,
-    }
-}
-
-/// The place of the format of the event of this system and name.
-fn place_of_format(system: &[u8], name: &[u8], formats: &[Format]) -> Option<usize>
-    ensures { MatchOption result ((place : ℕ) → ¬ IsFormatOf (record { system = system.now; name = name.now }) formats.now place)
-        (λ place. IsFormatOf (record { system = system.now; name = name.now }) formats.now place) }
-{
-    for place in 0..formats.len() {
-        if formats[place].is_named(system, name) {
-            return Some(place);
-        }
-    }
-    None
-}
-
-/// The place of the format whose events the script counts, or `None` where it counts those of none.
-pub(crate) fn counted_format(tree: &Script, formats: &[Format]) -> Option<usize>
-    ensures { MatchOption result ((place : ℕ) → ¬ CountsFormat tree.now formats.now place) (λ place. CountsFormat tree.now formats.now place) }
-{
-    let event = event_of_tree(tree)?;
-    place_of_format(event.system, event.name, formats)
 }

@@ -1,29 +1,30 @@
 // The top call.
-ghost use Rattle.std.specs.Prelude.{◌≡◌, ◌≢◌, ◌*◌, ◌⊎◌, ◌↔◌, length, None, Some, IfOk, IfSome, IsSome};
+ghost use Rattle.std.specs.Prelude.{◌≡◌, ◌≢◌, ◌⊎◌, ◌↔◌, None, Some, IfOk, IfSome, IsSome};
 ghost use Rattle.bt_io.specs.Faults.{Rose};
+ghost use Rattle.bt_meaning.specs.Jobs.{IsJob};
 ghost use Rattle.bt_words.specs.Words.{order_of as order_asked};
 ghost use Rattle.bt_top.specs.Lines.{sink_use};
 ghost use Rattle.bt_top.specs.Refusals.{status_of};
-ghost use Rattle.bt_top.specs.Serve.{Answers, AsksExactly, AsksFirst, CanCount, ComesIfDue, HasWork, IsAnswer, IsComplete, IsDoneWork, IsWritten};
+ghost use Rattle.bt_top.specs.Serve.{Answers, AsksExactly, AsksFirst, ComesIfDue, HasWork, IsAnswer, IsComplete, IsDoneWork, IsWritten};
 ghost use Rattle.bt_top.specs.Serve.{OnTold, Reads, Tells, bytes_of, bytes_written, refusal_in, shelf_use};
 ghost use Rattle.bt_top.specs.Words.{names_of, order_of};
 
-use crate::count::work_of;
-use crate::judge::{Judged, judge};
+use crate::judge::judge;
 use crate::refusal::{Operand, Refusal, read_refusal, status_of};
-use crate::report::{Report, Work};
+use crate::report::Report;
 use crate::tell::{tell, tell_memory, tell_usage};
 use crate::words::{Order, operands_of, order_of};
 use bt_core::limits::{RECORDING_BYTES, SCRIPT_BYTES};
 use bt_core::memory::Memory;
 use bt_io::shelf::Shelf;
 use bt_io::sink::{Sink, write_all};
+use bt_run::run::{Job, Work, run_serial};
 use bt_words::order::WordsError;
 use std::alloc::Global;
 
-/// Reads both files, and answers what the order asks for.
-fn read_files<S: Shelf>(alloc: Global, order: &Order, shelf: &mut S) -> Result<Judged, Refusal>
-    ensures can_count { IfOk result CanCount }
+/// Reads both files, and answers what they ask for.
+fn read_files<S: Shelf>(alloc: Global, order: &Order, shelf: &mut S) -> Result<Job, Refusal>
+    ensures can_run { IfOk result (λ job. IsJob job.typed job.attached job.recording) }
     ensures read { Reads order.now (shelf_use S.held S.faults S.asked shelf.old shelf.new) result }
     ensures exact { OnTold (Some order.now) (S.held shelf.old) (ComesIfDue (refusal_in result)) }
     ensures asked { AsksFirst (S.asked shelf.old) (S.asked shelf.new) (names_of (Some order.now)) }
@@ -38,7 +39,7 @@ fn read_files<S: Shelf>(alloc: Global, order: &Order, shelf: &mut S) -> Result<J
         Ok(recording) => recording,
         Err(error) => return Err(read_refusal(Operand::Recording, error)),
     };
-    judge(alloc, order, script.as_slice(), recording.as_slice())
+    judge(alloc, script.as_slice(), recording.as_slice())
 }
 
 /// A call that was refused before anything was written.
@@ -53,13 +54,13 @@ fn refused(refusal: Refusal) -> Report
 }
 
 /// The work of what is asked for, where it is a run.
-fn work_for(alloc: Global, judged: &Judged) -> Result<Option<Work>, Memory>
-    requires { CanCount judged.now }
-    ensures { IfOk result (IsDoneWork judged.now) }
+fn work_for(alloc: Global, order: &Order, job: &Job) -> Result<Option<Work>, Memory>
+    requires { IsJob job.now.typed job.now.attached job.now.recording }
+    ensures { IfOk result (IsDoneWork order.now job.now) }
 {
-    match judged {
-        Judged::Counting(counting) => Ok(Some(work_of(alloc, counting)?)),
-        Judged::Checked => Ok(None),
+    match order {
+        Order::Run(_) => Ok(Some(run_serial(alloc, job)?)),
+        Order::Check(_) => Ok(None),
     }
 }
 
@@ -73,8 +74,7 @@ fn bytes_of(work: &Option<Work>) -> &[u8]
     }
 }
 
-/// Does what an order asks for: counts the events and writes how many they are, or writes that nothing
-/// is refused.
+/// Does what an order asks for: runs the script and writes what it prints, or writes that nothing is refused.
 fn perform<S: Shelf, K: Sink>(alloc: Global, order: &Order, shelf: &mut S, out: &mut K) -> Report
     ensures status { result.status ≡ status_of result.refusal }
     ensures known { result.refusal ≢ Some Refusal.Usage }
@@ -84,14 +84,13 @@ fn perform<S: Shelf, K: Sink>(alloc: Global, order: &Order, shelf: &mut S, out: 
         (sink_use K.taken K.faults out.old out.new) result }
     ensures exact { OnTold (Some order.now) (S.held shelf.old) (ComesIfDue result.refusal) }
     ensures worked { IsSome result.work ↔ HasWork result.refusal (Some order.now) }
-    ensures six_each { IfSome result.work (λ work. work.instructions ≡ 6 * length work.steps) }
     ensures written { IsWritten (sink_use K.taken K.faults out.old out.new) result.refusal (bytes_written (Some order.now) result.work) }
 {
-    let judged = match read_files(alloc, order, shelf) {
-        Ok(judged) => judged,
+    let job = match read_files(alloc, order, shelf) {
+        Ok(job) => job,
         Err(refusal) => return refused(refusal),
     };
-    let Ok(work) = work_for(alloc, &judged) else {
+    let Ok(work) = work_for(alloc, order, &job) else {
         return refused(Refusal::Memory);
     };
     let refusal = match write_all(out, bytes_of(&work)) {
@@ -105,22 +104,20 @@ fn perform<S: Shelf, K: Sink>(alloc: Global, order: &Order, shelf: &mut S, out: 
     }
 }
 
-/// Does what the words ask for: `run SCRIPT RECORDING` counts those events of a recording of one CPU
-/// whose format the script names, and writes the count to `out`. For each of them the machine runs one
-/// fixed piece of BPF code (RFC 9669) over the event's payload, whose call of a helper makes the event's
-/// step. `check SCRIPT RECORDING` does all of a run up to typing, over a recording of any number of CPUs, and
-/// writes `ok` and a newline.
+/// Does what the words ask for: `run SCRIPT RECORDING` and `run --serial SCRIPT RECORDING` run the script over the recording and
+/// write what it prints to `out`. So far both take the items of all CPUs one after the other, on one thread, by the walks of the
+/// script's bodies. `check SCRIPT RECORDING` does all of a run up to typing, and writes `ok` and a newline.
 ///
-/// A script that runs so far is one probe on one tracepoint, without `*` and without a predicate, with the
-/// one statement `@ = count()`; blanks and comments are free.
+/// The work that is handed back has all steps of the run in one list. It is an interleaving: `BEGIN` makes its steps first and
+/// `END` last, in between each CPU makes its whole program in its order, and each reply follows from the steps before it. The
+/// bytes written are what the script's own meaning prints under this list.
 ///
 /// Refusals come in the order words, script read, recording read, recording, lexing, parsing, attaching,
-/// typing, what is not built, write. A file that is too long is refused at its read. A recording is refused with
+/// typing, run, write. A file that is too long is refused at its read. A recording is refused with
 /// the first check that its bytes fail. A script is refused with the first lexical fault of its text, the
 /// first fault of its tokens by the grammar of the bpftrace language, the first of its points that may not
 /// be attached over this recording, or the first rule of types that is broken in its bodies, in walk order,
-/// each with line and column. Not built is a run of a recording of
-/// more than one CPU, and then a run of another script. Want of memory may come at any of them. Before the
+/// each with line and column. Want of memory may come at any of them. Before the
 /// write nothing goes to `out`. What is refused is told by its line to `err`, and a fault there changes
 /// nothing else.
 pub fn serve<S: Shelf, K: Sink, E: Sink>(
@@ -148,7 +145,6 @@ pub fn serve<S: Shelf, K: Sink, E: Sink>(
 
     // Work is there at status 0 and 5 of a run.
     ensures worked { IsSome result.work ↔ HasWork result.refusal (order_of words.now) }
-    ensures six_each { IfSome result.work (λ work. work.instructions ≡ 6 * length work.steps) }
 
     // What the command writes is appended to the output whole, or a prefix after a fault of the write, and nothing before it.
     ensures written { IsWritten (sink_use K.taken K.faults out.old out.new) result.refusal (bytes_written (order_of words.now) result.work) }

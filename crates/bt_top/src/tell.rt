@@ -203,9 +203,6 @@ fn tell_recording<E: Sink>(err: &mut E, name: &str, why: RecordingRefusal)
             )
         }
         RecordingRefusal::Fault(error) => tell_fault(err, name, error),
-        RecordingRefusal::NotBuilt => {
-            write_line(err, &[Piece::Text(name), Piece::Text(": not built yet")])
-        }
     }
 }
 
@@ -233,9 +230,6 @@ fn tell_script<E: Sink>(err: &mut E, name: &str, why: ScriptRefusal)
             write_line(err, &[Piece::Text(name), Piece::Text(": script too long")])
         }
         ScriptRefusal::Fault(fault, place) => tell_place(err, name, fault, place),
-        ScriptRefusal::NotBuilt => {
-            write_line(err, &[Piece::Text(name), Piece::Text(": not built yet")])
-        }
     }
 }
 
@@ -243,7 +237,7 @@ fn tell_script<E: Sink>(err: &mut E, name: &str, why: ScriptRefusal)
 pub(crate) fn tell_usage<E: Sink>(err: &mut E)
     ensures { Writes (sink_use E.taken E.faults err.old err.new) usage_pieces }
 {
-    let run = Piece::Text("usage: btreplay run SCRIPT RECORDING\n");
+    let run = Piece::Text("usage: btreplay run [--serial] SCRIPT RECORDING\n");
     let check = Piece::Text("       btreplay check SCRIPT RECORDING");
     write_line(err, &[run, check]);
 }

@@ -23,7 +23,7 @@ pub(crate) enum Order {
     Check(Operands),
 }
 
-/// The order that the words give, where it is built: `run` without options, or `check`.
+/// The order that the words give, where it is built: `run`, with or without `--serial`, or `check`.
 pub(crate) fn order_of(alloc: Global, words: &[String]) -> Result<Order, WordsError>
     ensures found { IfOk result (λ order. order_of words.now ≡ Some order) }
     ensures usage { result ≡ Err WordsError.Usage → order_of words.now ≡ None }
@@ -31,10 +31,10 @@ pub(crate) fn order_of(alloc: Global, words: &[String]) -> Result<Order, WordsEr
 {
     match read_words(alloc, words)? {
         Asked::Run {
-            serial: false,
             stats: false,
             script,
             recording,
+            ..
         } => Ok(Order::Run(Operands { script, recording })),
         Asked::Check { script, recording } => Ok(Order::Check(Operands { script, recording })),
         _ => Err(WordsError::Usage),

@@ -18,4 +18,4 @@ returns-clause-exact c =
         parse_apart = c.one_answer-2.ensures.apart;
       };
     } in
-    comes_if_due c.args.order.now files c.asked.result laws c.asked.ensures.judged c.asked.ensures.refused
+    comes_if_due files c.accept.result laws c.accept.ensures.job c.accept.ensures.refused

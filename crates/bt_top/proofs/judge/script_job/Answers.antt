@@ -1,7 +1,7 @@
 use Rattle.std.proofs.Common.{arith}
 use Rattle.bt_grammar.specs.Tokens.{items}
-use Rattle.bt_top.proofs.Scripts.{attach_told, bodies_checked, bodies_of_tree, type_told}
-use Rattle.bt_top.proofs.judge.accepted_tree.Goals as goal
+use Rattle.bt_top.proofs.Scripts.{attach_told, bodies_checked, bodies_of_tree, type_told, job_told}
+use Rattle.bt_top.proofs.judge.script_job.Goals as goal
 
 pub attach-requires-clause-probes : goal.attach-requires-clause-probes
 attach-requires-clause-probes c =
@@ -17,6 +17,12 @@ check-requires c =
     rw c.as_slice-formats.ensures
     (bodies_checked c.in-Ok.tree c.args.recording.now.formats c.in-Ok-attach.attached.bodies
     (c.bodies_are_there.ensures _ _ _ _ _ (rw c.as_slice-formats.ensures at c.in-Ok-attach.ensures.found)))
+
+pub returns-clause-job : goal.returns-clause-job
+returns-clause-job c =
+    job_told _ c.args.recording.now c.in-Ok.tree c.in-Ok-attach.attached c.in-Ok-check.typed c.in-Ok.ensures.tree
+    (rw c.as_slice-formats.ensures at c.in-Ok-attach.ensures.allowed) (rw c.as_slice-formats.ensures at c.in-Ok-attach.ensures.found)
+    (rw c.as_slice-formats.ensures at c.in-Ok-check.ensures.allowed) (rw c.as_slice-formats.ensures at c.in-Ok-check.ensures.typed)
 
 pub returns-in-Err-check-clause-fault : goal.returns-in-Err-check-clause-fault
 returns-in-Err-check-clause-fault c =

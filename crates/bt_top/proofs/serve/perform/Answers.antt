@@ -2,7 +2,7 @@ use Rattle.std.proofs.Common.{◌≡◌, ◌∙◌, inl, inr}
 use Rattle.std.specs.Prelude.{◌⊎◌, Some, None}
 use Rattle.bt_io.specs.Faults.{Rose}
 use Rattle.bt_top.specs.declared.refusal.Refusal.TheVariants.{WriteFault}
-use Rattle.bt_top.proofs.Judging.{worked_answer, judged_work, judged_bytes, judged_six}
+use Rattle.bt_top.proofs.Judging.{worked_answer, done_work, done_bytes}
 use Rattle.bt_top.proofs.serve.perform.Goals as goal
 use Rattle.bt_top.proofs.serve.perform.Goals.{in-Ok-write_all, in-Err-write_all}
 
@@ -14,7 +14,7 @@ returns-clause-answered g c =
       | in-Ok-write_all w ↦ inl w.refusal-is
       | in-Err-write_all w ↦ inr (w.refusal-is, w.in-Err-write_all.ensures.failed)
     ] in
-    worked_answer _ _ _ c.status_of.result c.match-write_all.refusal c.in-Ok.judged c.in-Ok-work_for.work c.in-Ok.ensures.read c.in-Ok-work_for.ensures ends
+    worked_answer _ _ _ c.status_of.result c.match-write_all.refusal c.in-Ok.job c.in-Ok-work_for.work c.in-Ok.ensures.read c.in-Ok-work_for.ensures ends
 
 pub returns-clause-worked : goal.returns-clause-worked
 returns-clause-worked g c =
@@ -23,16 +23,11 @@ returns-clause-worked g c =
       | in-Ok-write_all w ↦ inl w.refusal-is
       | in-Err-write_all w ↦ inr w.refusal-is
     ] in
-    judged_work c.args.order.now c.in-Ok.ensures.read.files c.in-Ok.judged c.in-Ok-work_for.work c.match-write_all.refusal c.in-Ok.ensures.read.judged
-    c.in-Ok-work_for.ensures ends
-
-pub returns-clause-six_each : goal.returns-clause-six_each
-returns-clause-six_each g c = judged_six c.in-Ok.judged c.in-Ok-work_for.work c.in-Ok-work_for.ensures
+    done_work c.args.order.now c.in-Ok.job c.in-Ok-work_for.work c.match-write_all.refusal c.in-Ok-work_for.ensures ends
 
 pub returns-clause-written : goal.returns-clause-written
 returns-clause-written g c =
-    rw (← c.bytes_of.ensures ∙ judged_bytes c.args.order.now c.in-Ok.ensures.read.files c.in-Ok.judged c.in-Ok-work_for.work c.in-Ok.ensures.read.judged
-    c.in-Ok-work_for.ensures)
+    rw (← c.bytes_of.ensures ∙ done_bytes c.args.order.now c.in-Ok.job c.in-Ok-work_for.work c.in-Ok-work_for.ensures)
     (elim c.match-write_all.branch [
       | in-Ok-write_all w ↦ rw w.refusal-is w.in-Ok-write_all.ensures.whole
       | in-Err-write_all w ↦ rw w.refusal-is w.in-Err-write_all.ensures.part

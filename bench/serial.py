@@ -1,0 +1,88 @@
+#!/usr/bin/env python3
+"""Measures runs on one thread by hand: python3 bench/serial.py [EVENTS]
+
+It makes a recording of EVENTS events (500,000 where nothing is said) over 4 CPUs from a fixed seed, and one of twice as many,
+at most 1,048,576 (the limit of a recording), and runs `check` and `run --serial` on both with three scripts, by the built program
+crates/bt_program/out/bt_program. For each it tells the wall time in seconds and the greatest memory in MB, and for the runs
+the ratio to `check`, and the bytes of memory for each event beside what `check` needs.
+"""
+import os
+import random
+import struct
+import sys
+import tempfile
+import time
+
+TOP = os.path.dirname(os.path.dirname(os.path.abspath(__file__)))
+PROGRAM = os.path.join(TOP, "crates", "bt_program", "out", "bt_program")
+
+# Name, ID, the fields behind the first 8 bytes, and the bytes of a payload.
+FORMATS = [
+    ("enter", 11, "\tfield:long id;\toffset:8;\tsize:8;\tsigned:1;\n", 16),
+    ("leave", 12, "\tfield:long id;\toffset:8;\tsize:8;\tsigned:1;\n\tfield:long ret;\toffset:16;\tsize:8;\tsigned:1;\n", 24),
+    ("wide", 13, "\tfield:long ret;\toffset:8;\tsize:8;\tsigned:1;\n\tfield:char text[184];\toffset:16;\tsize:184;\tsigned:0;\n", 200),
+]
+
+SCRIPTS = [
+    ("count by comm", "tracepoint:t:* { @[comm] = count(); }"),
+    ("histogram", "tracepoint:t:leave { @ = hist(args.ret); }"),
+    ("latency", "tracepoint:t:enter { @start[tid] = nsecs; } "
+                "tracepoint:t:leave /@start[tid]/ { @ns = hist(nsecs - @start[tid]); delete(@start[tid]); }"),
+]
+
+
+def recording(events, seed=7):
+    """The bytes of a recording of so many events over 4 CPUs."""
+    rng = random.Random(seed)
+    out = [b"BTRACE01" + struct.pack("<IIQQ", 4, len(FORMATS), 0, 10 ** 12)]
+    for name, number, fields, _ in FORMATS:
+        text = f"name: {name}\nID: {number}\nformat:\n{fields}".encode()
+        out.append(struct.pack("<H", 1) + b"t" + struct.pack("<I", len(text)) + text)
+    comms = [f"worker{n}".encode() for n in range(40)]
+    for cpu in range(4):
+        share = events // 4
+        out.append(struct.pack("<II", cpu, share))
+        now = 0
+        for k in range(share):
+            now += rng.randrange(1, 1000)
+            thread = 100 * cpu + rng.randrange(50)
+            name, number, _, size = FORMATS[k % 2 if rng.random() < 0.8 else 2]
+            payload = struct.pack("<Hxxi", number, thread) + struct.pack("<q", rng.randrange(-5, 1 << rng.randrange(1, 40)))
+            payload = payload.ljust(size, b"\x07")
+            out.append(struct.pack("<QIIII16sI", now, thread, thread, 0, 0, comms[thread % 40], len(payload)) + payload)
+    return b"".join(out)
+
+
+def measured(words):
+    """The wall time in seconds and the greatest memory in kilobytes of a run of the program."""
+    began = time.monotonic()
+    pid = os.posix_spawn(PROGRAM, [PROGRAM] + words, os.environ,
+                         file_actions=[(os.POSIX_SPAWN_OPEN, 1, os.devnull, os.O_WRONLY, 0)])
+    _, status, usage = os.wait4(pid, 0)
+    if status != 0:
+        sys.exit(f"{words} ended with status {status}")
+    return time.monotonic() - began, usage.ru_maxrss
+
+
+def main():
+    events = int(sys.argv[1]) if len(sys.argv) > 1 else 500_000
+    if not os.path.exists(PROGRAM):
+        sys.exit("build the program first: ./btreplay")
+    with tempfile.TemporaryDirectory() as folder:
+        print(f"{'script':16}{'events':>10}{'check s':>9}{'run s':>8}{'ratio':>7}{'check MB':>10}{'run MB':>8}{'bytes an event':>16}")
+        for count in (events, min(2 * events, 1_048_576)):
+            path = os.path.join(folder, f"{count}.bin")
+            with open(path, "wb") as file:
+                file.write(recording(count))
+            for name, script in SCRIPTS:
+                source = os.path.join(folder, "s.bt")
+                with open(source, "w") as file:
+                    file.write(script)
+                check_s, check_kb = measured(["check", source, path])
+                run_s, run_kb = measured(["run", "--serial", source, path])
+                print(f"{name:16}{count:>10}{check_s:>9.2f}{run_s:>8.2f}{run_s / check_s:>7.2f}{check_kb / 1024:>10.0f}"
+                      f"{run_kb / 1024:>8.0f}{(run_kb - check_kb) * 1024 / count:>16.0f}")
+
+
+if __name__ == "__main__":
+    main()

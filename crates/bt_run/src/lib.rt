@@ -1,0 +1,4 @@
+//! Whole runs of a script over a recording.
+#![tactic(auto)]
+
+pub mod run;
