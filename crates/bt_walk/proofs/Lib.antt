@@ -1,11 +1,15 @@
 pub mod Asking
 pub mod AskingStmts
-pub mod Bodies
 pub mod Binds
+pub mod Bodies
 pub mod Declared
 pub mod ExprDoes
 pub mod Gathers
 pub mod Loops
+pub mod ReadExprs
+pub mod ReadStmts
+pub mod Readings
+pub mod SameLaws
 pub mod StmtDoes
 pub mod Sweeps
 pub mod TreeParts
