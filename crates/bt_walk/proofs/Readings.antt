@@ -94,11 +94,11 @@ alike : (v : View) (setting : Setting) (reader : Reader) → IsServed v setting 
 alike v setting reader served takes =
     record {
       numbers = λ m keys key reply d h.
-        let f = valued v setting m keys shapes.Int served d in
-        got_number reader takes f.decl key reply f.kind (found_holds (slice_get setting.maps m.0) f.decl (λ decl. IsSharedReply decl (ops.Get key) reply) f.here h);
+          let f = valued v setting m keys shapes.Int served d in
+          got_number reader takes f.decl key reply f.kind (found_holds (slice_get setting.maps m.0) f.decl (λ decl. IsSharedReply decl (ops.Get key) reply) f.here h);
       texts = λ m keys key reply d h.
-        let f = valued v setting m keys shapes.Str served d in
-        got_text reader takes f.decl key reply f.kind (found_holds (slice_get setting.maps m.0) f.decl (λ decl. IsSharedReply decl (ops.Get key) reply) f.here h);
+          let f = valued v setting m keys shapes.Str served d in
+          got_text reader takes f.decl key reply f.kind (found_holds (slice_get setting.maps m.0) f.decl (λ decl. IsSharedReply decl (ops.Get key) reply) f.here h);
       rows = λ m n reply named h. rows_are reader takes setting.maps m n (kind_of m v.body.now.maps) reply h;
     }
 
