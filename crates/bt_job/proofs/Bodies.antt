@@ -1,5 +1,5 @@
 -- What is attached are bodies that may be run where they are attached.
-use Rattle.std.proofs.Common.{◌≡◌, ◌+◌, ◌<◌, ◌≤◌, ◌++◌, ℕ, zero, suc, Bool, true, false, List, [], ◌∷◌, length, map, All, Option, Some, None, slice_get, slice_index, get_or, refl, sym, ap, ◌∙◌, subst, arith, absurd}
+use Rattle.std.proofs.Common.{◌≡◌, ◌+◌, ◌<◌, ◌≤◌, ◌++◌, ℕ, zero, suc, Bool, true, false, List, [], ◌∷◌, length, map, All, Option, Some, None, slice_get, slice_index, get_or, refl, sym, ap, ◌∙◌, subst, arith}
 use Rattle.std.specs.List.{AllByRecursion, slice_index_or}
 use Rattle.std.proofs.lemmas.List.{length-append, get_or_append_left}
 use Rattle.std.proofs.lemmas.List.Elements.{All-from_recursion}

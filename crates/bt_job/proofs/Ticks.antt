@@ -1,5 +1,5 @@
 -- Ticks: their bodies are those of intervals, they stand in turn, and none comes or goes as they are put in order.
-use Rattle.std.proofs.Common.{◌≡◌, ◌+◌, ◌*◌, ◌/◌, ◌-◌, ◌<◌, ◌≤◌, ◌++◌, ℕ, zero, suc, Bool, true, false, cond, not, ◌&&◌, ◌||◌, List, [], ◌∷◌, length, map, filter, All, Option, Some, None, slice_get, get_or, refl, sym, ap, ◌∙◌, subst, arith, absurd, append_assoc, append-nil}
+use Rattle.std.proofs.Common.{◌≡◌, ◌+◌, ◌*◌, ◌/◌, ◌-◌, ◌<◌, ◌≤◌, ◌++◌, ℕ, zero, suc, Bool, true, false, cond, not, ◌&&◌, ◌||◌, List, [], ◌∷◌, length, map, filter, All, Option, Some, None, slice_get, get_or, refl, sym, ap, ◌∙◌, subst, arith, append_assoc, append-nil}
 use Rattle.std.specs.List.{AllByRecursion, Contains, list_any, flat_map}
 use Rattle.std.specs.Ordering.{nat_cmp, is_lt}
 use Rattle.std.specs.List.Sorted.{ties, IsStableBy, IsSortedByKey}

@@ -7,6 +7,10 @@ pub mod Declared
 pub mod ExprDoes
 pub mod Gathers
 pub mod Loops
+pub mod ReadExprs
+pub mod ReadStmts
+pub mod Readings
+pub mod SameLaws
 pub mod StmtDoes
 pub mod Sweeps
 pub mod TreeParts

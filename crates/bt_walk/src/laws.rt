@@ -9,6 +9,8 @@ ghost use Rattle.bt_core.specs.Ports.{Setting};
 ghost use Rattle.fmt_text.specs.declared.piece.Piece.{Piece};
 ghost use Rattle.map_printer.specs.ItemTexts.{IsItemOf};
 ghost use Rattle.bt_walk.specs.Admits.{Admits, AdmitsOf, EmitsOnly};
+ghost use Rattle.bt_walk.specs.Reading.{Reader, TakesWhatIsThere, own_reader, walk_by};
+ghost use Rattle.bt_walk.specs.SameUnder.{SameUnder, SameAlways, AreRepliesTo};
 ghost use Rattle.bt_walk.specs.Walk.{walk};
 ghost use Rattle.bt_walk.specs.Walked.{CanWalk};
 
@@ -43,3 +45,23 @@ pub fn only_own_items_are_emitted()
 {
     map_printer::laws::merged_rows_fit();
 }
+/// Under replies of the kinds that its operations have, a walk reads no reply as another kind than it is. So nothing depends on what
+/// it would read of such a reply: by any reader that takes what is there where it is there, and anything at all where it
+/// is not, the walk is the same.
+///
+/// The walk by a reader is this crate's walk where the reader is its own one, whatever the replies are (`own`). By another
+/// reader it is the same as long as each reply is of the kind that its call has (`same`): under a list of such replies it
+/// makes the same calls (`calls`) and ends in the same way, or does not end (`ending`).
+pub fn replies_are_what_they_are_read_as()
+    ensures own { (body : TypedBody) (context : Context) (payload : List ℕ) (actor actors : ℕ) →
+        SameAlways (walk_by own_reader body context payload actor actors) (walk body context payload actor actors) }
+    ensures same { (setting : Setting) (body : TypedBody) (context : Context) (payload : List ℕ) (actor actors : ℕ) (reader : Reader) →
+        CanWalk setting body context payload actor actors → TakesWhatIsThere reader →
+        SameUnder setting.maps (walk_by reader body context payload actor actors) (walk body context payload actor actors) }
+    ensures calls { (setting : Setting) (body : TypedBody) (context : Context) (payload : List ℕ) (actor actors : ℕ) (reader : Reader) (replies : List Reply) →
+        CanWalk setting body context payload actor actors → TakesWhatIsThere reader → AreRepliesTo setting.maps (walk body context payload actor actors) replies →
+        calls (walk_by reader body context payload actor actors) replies ≡ calls (walk body context payload actor actors) replies }
+    ensures ending { (setting : Setting) (body : TypedBody) (context : Context) (payload : List ℕ) (actor actors : ℕ) (reader : Reader) (replies : List Reply) →
+        CanWalk setting body context payload actor actors → TakesWhatIsThere reader → AreRepliesTo setting.maps (walk body context payload actor actors) replies →
+        value_under (walk_by reader body context payload actor actors) replies ≡ value_under (walk body context payload actor actors) replies }
+{}

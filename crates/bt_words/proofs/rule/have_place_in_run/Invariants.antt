@@ -1,7 +1,7 @@
 use Rattle.std.proofs.Common.{◌≡◌, ◌||◌, map, drop, string_bytes}
 use Rattle.std.specs.List.{list_all}
 use Rattle.bt_words.specs.Words.{is_operand, is_serial, is_stats}
-use Rattle.bt_words.proofs.parted.are_run_words.Given as goal
+use Rattle.bt_words.proofs.rule.have_place_in_run.Given as goal
 
 -- what is left decides
 abbrev pub invariant-loop-word : goal.invariant-loop-word

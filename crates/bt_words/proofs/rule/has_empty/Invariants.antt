@@ -1,7 +1,7 @@
 use Rattle.std.proofs.Common.{◌≡◌, map, drop, string_bytes}
 use Rattle.std.specs.List.{list_any}
 use Rattle.bt_words.specs.Words.{is_empty}
-use Rattle.bt_words.proofs.parted.has_empty.Given as goal
+use Rattle.bt_words.proofs.rule.has_empty.Given as goal
 
 -- what is left decides
 abbrev pub invariant-loop-word : goal.invariant-loop-word

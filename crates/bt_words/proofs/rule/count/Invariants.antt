@@ -1,6 +1,6 @@
 use Rattle.std.proofs.Common.{◌≡◌, ◌+◌, ◌≤◌, map, drop, count_by, string_bytes}
 use Rattle.std.specs.Str.{bytes_eq}
-use Rattle.bt_words.proofs.parted.count.Given as goal
+use Rattle.bt_words.proofs.rule.count.Given as goal
 
 -- what is found, with what is left, is the whole
 abbrev pub invariant-loop-word : goal.invariant-loop-word

@@ -1,7 +1,7 @@
 use Rattle.std.proofs.Common.{◌≡◌, map, drop, string_bytes}
 use Rattle.std.specs.List.{list_all}
 use Rattle.bt_words.specs.Words.{is_operand}
-use Rattle.bt_words.proofs.parted.are_operands.Given as goal
+use Rattle.bt_words.proofs.rule.are_operands.Given as goal
 
 -- what is left decides
 abbrev pub invariant-loop-word : goal.invariant-loop-word

@@ -1,0 +1,7 @@
+pub mod DueOrder
+pub mod Eachs
+pub mod ItemByItem
+pub mod OwnAgenda
+pub mod Rises
+pub mod SerialLaws
+pub mod Stepping
