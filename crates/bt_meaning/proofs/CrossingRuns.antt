@@ -1,5 +1,5 @@
 -- How often the runs of programs cross a tick.
-use Rattle.std.proofs.Common.{◌≡◌, ℕ, zero, suc, ◌+◌, ◌<◌, ◌≤◌, ◌==◌, ◌&&◌, Bool, true, false, not, cond, if◌then◌else◌, List, [], ◌∷◌, ◌++◌, length, sym, refl, ap, ◌∙◌, subst, arith, eq-eqb, ne_eqb}
+use Rattle.std.proofs.Common.{◌≡◌, ℕ, zero, suc, ◌+◌, ◌<◌, ◌≤◌, ◌==◌, ◌&&◌, Bool, true, false, not, cond, if◌then◌else◌, List, [], ◌∷◌, ◌++◌, sym, refl, ap, ◌∙◌, subst, arith, eq-eqb, ne_eqb}
 use Rattle.std.specs.Prelude.{slice_get, Option, Some, None}
 use Rattle.std.specs.List.{filter_map, range_with_len}
 use mathlib.Core.Logic.{dite}
@@ -9,7 +9,6 @@ use Rattle.bt_core.specs.declared.step.ObjectId.{ObjectId}
 use Rattle.bt_core.specs.declared.step.ObjectId.TheVariants.{Shared, Cpu, Clock, Out}
 use Rattle.bt_core.specs.declared.step.Op.{Op}
 use Rattle.bt_core.specs.declared.step.Op.TheVariants.{Cross, Check, Stop}
-use Rattle.bt_core.specs.declared.step.Reply.{Reply}
 use Rattle.bt_core.specs.declared.step.Step.{Step}
 use Rattle.bt_core.specs.Interaction.{Call, call_of, Interaction, Ended, Asks, and_then, ask, Runs}
 use Rattle.bt_core.specs.Steps.{is_same_object}
@@ -21,7 +20,7 @@ use Rattle.actor_plan.specs.declared.agenda.AgendaItem.TheVariants as item
 use Rattle.actor_plan.specs.declared.outcome.Outcome.{Outcome}
 use Rattle.actor_plan.specs.Agendas.{tick_place}
 use Rattle.actor_plan.specs.Contexts.{event_context, tick_context}
-use Rattle.actor_plan.specs.Programs.{in_turn, tells_stop, tells_last, goes_on, crosses_last, where_some, event_work, tick_work, item_work, after_count, items_program, then_program, begin_program, end_program, bodies_at}
+use Rattle.actor_plan.specs.Programs.{in_turn, tells_stop, tells_last, goes_on, crosses_last, where_some, event_work, tick_work, item_work, after_count, items_program, begin_program, end_program, bodies_at}
 use Rattle.bt_meaning.specs.Replays.{Replay}
 use Rattle.bt_meaning.specs.Ticks.{BodiesOnlyStop, OnlyStops, is_crossing}
 use Rattle.bt_meaning.proofs.Crossings.{mark, marks, marks_append}

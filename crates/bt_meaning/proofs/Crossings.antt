@@ -1,5 +1,5 @@
 -- How often a tick is crossed in a list, actor by actor.
-use Rattle.std.proofs.Common.{◌≡◌, ◌≢◌, ◌⊎◌, ℕ, zero, suc, ◌+◌, ◌<◌, ◌≤◌, ◌&&◌, Bool, true, false, cond, List, [], ◌∷◌, ◌++◌, map, sym, refl, ap, ◌∙◌, subst, inl, inr, arith, eq-eqb, ne_eqb}
+use Rattle.std.proofs.Common.{◌≡◌, ◌≢◌, ℕ, zero, suc, ◌+◌, ◌<◌, ◌≤◌, ◌&&◌, Bool, true, false, cond, List, [], ◌∷◌, ◌++◌, map, sym, refl, ap, ◌∙◌, subst, inl, inr, arith, eq-eqb, ne_eqb}
 use Rattle.std.specs.List.{AllByRecursion, count_by}
 use Rattle.std.proofs.lemmas.List.Sums.{sum_by-cons}
 use mathlib.Core.Logic.{dite}
@@ -28,7 +28,6 @@ module _ (k : ℕ) where
   marks_append [] ys = omega arith
   marks_append (x ∷ xs) ys = let r = marks_append xs ys in omega arith
 
-  
   pub marks_has : (ss : List Step) (s : Step) → Has ss s → is_crossing k s ≡ true → 1 ≤ marks ss
   marks_has [] s h c = absurd h
   marks_has (x ∷ xs) s (inl e) c = let a : mark x ≡ 1 = ap mark e ∙ ap (λ (b : Bool). cond b 1 0) c in omega arith

@@ -8,3 +8,5 @@ pub mod Rises
 pub mod SerialLaws
 pub mod Stepping
 pub mod TicksAfter
+pub mod WalkStops
+pub mod Walked

@@ -1,7 +1,7 @@
 -- Where a CPU is the last to cross a tick, every CPU has done what stands before that tick.
 use Rattle.std.proofs.Common.{◌≡◌, ◌≢◌, ◌⊎◌, ℕ, zero, suc, ◌+◌, ◌<◌, ◌≤◌, ◌==◌, ◌&&◌, if◌then◌else◌, Bool, true, false, cond, List, [], ◌∷◌, ◌++◌, length, get_or, sym, refl, ap, ◌∙◌, subst, inl, inr, arith, eq-eqb, eqb-true}
 use Rattle.std.specs.Prelude.{slice_get, Some, All}
-use Rattle.std.specs.List.{AllByRecursion, Contains, count_by, filter_map, range_with_len}
+use Rattle.std.specs.List.{Contains, count_by, filter_map, range_with_len}
 use Rattle.std.proofs.lemmas.List.{append-nil, append_assoc, append_cancel_left}
 use Rattle.std.proofs.lemmas.List.Elements.{filter-append, recursion_from_All}
 use Rattle.std.proofs.lemmas.Option.{slice_get-get_or}
@@ -10,9 +10,7 @@ use native.Mathlib.Decide.{ℕ_discrete}
 use Rattle.bt_ast.specs.declared.attached.Tick.{Tick}
 use Rattle.bt_core.specs.declared.step.ObjectId.{ObjectId}
 use Rattle.bt_core.specs.declared.step.ObjectId.TheVariants.{Clock}
-use Rattle.bt_core.specs.declared.step.Op.{Op}
 use Rattle.bt_core.specs.declared.step.Op.TheVariants.{Cross}
-use Rattle.bt_core.specs.declared.step.Reply.{Reply}
 use Rattle.bt_core.specs.declared.step.Reply.TheVariants.{Last}
 use Rattle.bt_core.specs.declared.step.Step.{Step}
 use Rattle.bt_core.specs.Interaction.{Interaction, Ended, and_then, Runs}
@@ -22,7 +20,7 @@ use Rattle.rec_format.specs.declared.recording.Event.{Event}
 use Rattle.rec_format.specs.Recordings.{IsValidRecording}
 use Rattle.agg_core.specs.Answers.{is_cross}
 use Rattle.weave.proofs.Less.{less_or_not}
-use Rattle.weave.proofs.Among.{Has, contains_from, has_back, has_either, has_filter, has_front, has_middle}
+use Rattle.weave.proofs.Among.{Has, contains_from, has_either, has_filter, has_front, has_middle}
 use Rattle.actor_plan.specs.declared.agenda.AgendaItem.{AgendaItem}
 use Rattle.actor_plan.specs.declared.agenda.AgendaItem.TheVariants as item
 use Rattle.actor_plan.specs.declared.outcome.Outcome.{Outcome}
@@ -32,13 +30,13 @@ use Rattle.actor_plan.specs.Programs.{after_count, item_work, items_program, tel
 use Rattle.actor_plan.proofs.AgendaFacts.{agenda_holds}
 use Rattle.actor_plan.proofs.ProgramLaws.{join}
 use Rattle.bt_meaning.specs.Interleavings.{IsInterleaving}
-use Rattle.bt_meaning.specs.Replays.{PlansAreOwn, Replay, answers_of, cpu_of, cpus_of}
+use Rattle.bt_meaning.specs.Replays.{PlansAreOwn, Replay, answers_of, cpus_of}
 use Rattle.bt_meaning.specs.Ticks.{BodiesOnlyStop, HasDoneBefore, HaveDone, IsLastCrossing, RunsTick, TicksComeAfter, is_crossing}
-use Rattle.bt_meaning.proofs.CrossingRuns.{Crossed, begin_most, crosses_first, end_most, occurs, occurs_beyond, occurs_once, program_most, runs_split, tick_cut, times, times_append}
+use Rattle.bt_meaning.proofs.CrossingRuns.{begin_most, crosses_first, end_most, occurs, occurs_beyond, occurs_once, program_most, runs_split, tick_cut, times, times_append}
 use Rattle.bt_meaning.proofs.Crossings.{mark, marks, marks_append, marks_at, marks_has, total_all, two_less}
 use Rattle.bt_meaning.proofs.Eachs.{each_from, each_has}
 use Rattle.bt_meaning.proofs.SerialLaws.{cpu_is}
-use Rattle.bt_meaning.proofs.Stepping.{AreBy, other_part}
+use Rattle.bt_meaning.proofs.Stepping.{other_part}
 
 -- of two cuts of a list, one is the earlier
 two_cuts : {A : Type 0} (p r m n : List A) → p ++ r ≡ m ++ n → ((more : List A) × (p ≡ m ++ more)) ⊎ ((x : A) × (more : List A) × (m ≡ p ++ x ∷ more) × (r ≡ (x ∷ more) ++ n))
@@ -67,9 +65,11 @@ rest_runs : (o v : Outcome) (rest : Interaction Outcome) (steps : List Step) →
 rest_runs o v rest steps on r =
     let run : Runs (and_then rest (λ q. Ended (after_count o.instructions q))) steps v =
     subst (λ (b : Bool). Runs (if b then and_then rest (λ q. Ended (after_count o.instructions q)) else Ended o) steps v) on r in
-    let c = runs_split rest (λ q. Ended (after_count o.instructions q)) steps v run in
-    (c.value, subst (λ (l : List Step). Runs rest l c.value)
-    (sym (c.whole ∙ ap (λ l. c.front ++ l) (ended_none (after_count o.instructions c.value) v c.back c.second) ∙ append-nil c.front)) c.first)
+    let c = runs_split rest (λ q. Ended (after_count o.instructions q)) steps v run in (
+      c.value,
+      subst (λ (l : List Step). Runs rest l c.value)
+          (sym (c.whole ∙ ap (λ l. c.front ++ l) (ended_none (after_count o.instructions c.value) v c.back c.second) ∙ append-nil c.front)) c.first,
+    )
 
 -- an item whose place is among those of the list
 event_cut : (items : List AgendaItem) (place : ℕ) → Has (filter_map event_place items) place → Has items (item.Event place)
