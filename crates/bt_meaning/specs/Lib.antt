@@ -6,4 +6,5 @@ pub mod Replays
 pub mod Schedules
 pub mod Serial
 pub mod Ticks
+pub mod Totals
 pub mod Walks
