@@ -5,4 +5,6 @@ pub mod Prints
 pub mod Replays
 pub mod Schedules
 pub mod Serial
+pub mod Ticks
+pub mod Totals
 pub mod Walks
