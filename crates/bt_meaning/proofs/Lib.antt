@@ -10,3 +10,5 @@ pub mod Stepping
 pub mod TicksAfter
 pub mod WalkStops
 pub mod Walked
+pub mod OwnCalls
+pub mod Placed

@@ -1,6 +1,7 @@
 pub mod Instructions
 pub mod Interleavings
 pub mod Jobs
+pub mod OwnSteps
 pub mod Prints
 pub mod Replays
 pub mod Schedules
