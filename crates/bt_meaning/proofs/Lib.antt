@@ -1,3 +1,5 @@
+pub mod CrossingRuns
+pub mod Crossings
 pub mod DueOrder
 pub mod Eachs
 pub mod ItemByItem
@@ -5,3 +7,8 @@ pub mod OwnAgenda
 pub mod Rises
 pub mod SerialLaws
 pub mod Stepping
+pub mod TicksAfter
+pub mod WalkStops
+pub mod Walked
+pub mod OwnCalls
+pub mod Placed

@@ -22,7 +22,7 @@ use Rattle.bt_meaning.proofs.OwnAgenda.{own_agenda}
 use Rattle.bt_meaning.proofs.Stepping.{other_part, replies_taken, takes_whole}
 
 module _ (p : Replay) (valid : IsValidRecording p.recording) (turn : AreInTurn p.attached.ticks) (own : PlansAreOwn p) where
-  abbrev cpus : ℕ
+  abbrev pub cpus : ℕ
   cpus = cpus_of p
 
   abbrev going : List Bool
@@ -35,7 +35,7 @@ module _ (p : Replay) (valid : IsValidRecording p.recording) (turn : AreInTurn p
   none_of_cpu cpu lt = ap (of_actor cpu) begun_whole
       ∙ other_part cpu cpus (takes_whole p cpus (begin_of p) []).made (λ e. omega arith) (takes_whole p cpus (begin_of p) []).by
 
-  cpu_is : (cpu : ℕ) (track : CpuTrack) → slice_get p.recording.cpus cpu ≡ Some track
+  pub cpu_is : (cpu : ℕ) (track : CpuTrack) → slice_get p.recording.cpus cpu ≡ Some track
       → cpu_of p cpu ≡ items_program p.exits (item_work (p.plan cpu) p.recording p.attached track) (agenda_of p.recording p.attached cpu)
   cpu_is cpu track there =
       ap (λ (n : ℕ). track_program (p.plan cpu) p.exits p.recording p.attached (slice_get p.recording.cpus n)) (own cpu)

@@ -1,6 +1,6 @@
 pub mod Asking
 pub mod AskingStmts
-mod OwnItems
+pub mod OwnItems
 pub mod Bodies
 pub mod Binds
 pub mod Declared

@@ -85,13 +85,17 @@ module _ (setting : Setting) (formats : List (List Piece)) (body : TypedBody) (c
       divides_is : (n : ℤ) → IsTrue (int_le (pos 1) n) → pos 1 ≤ℤ n
       divides_is n h = search rules
 
-  -- items that a walk emits are of these formats, which hold the body's at their numbers, and of the setting's maps
-  pub own-items : AdmitsOf (λ object op. EmitsOnly (IsItemOf formats setting.maps) op) setting.maps (λ ending. Unit {0}) (walk body context payload actor actors)
-  own-items =
-      weaker-calls (IsFineCall setting (IsItemOf formats setting.maps)) (λ object op. EmitsOnly (IsItemOf formats setting.maps) op) setting.maps (λ ending. Unit {0}) (λ object op p. p.1)
-      (walk body context payload actor actors)
-      (walk-fine setting body context payload actor actors (IsItemOf formats setting.maps) can (record {
+  -- a walk makes only calls that its port takes, and emits items of these formats, which hold the body's at their numbers, and of the
+  -- setting's maps
+  pub own-calls : AdmitsOf (IsFineCall setting (IsItemOf formats setting.maps)) setting.maps (λ ending. Unit {0}) (walk body context payload actor actors)
+  own-calls =
+      walk-fine setting body context payload actor actors (IsItemOf formats setting.maps) can (record {
         printf = λ format hs values named shaped. call_fine format hs values (format_of format body.formats) refl named shaped;
         rows = λ m top div rs named divides are. rows_fine m top div rs (decl_of m.0 body.maps) refl named divides are;
         cut = λ line. tt;
-      }))
+      })
+
+  pub own-items : AdmitsOf (λ object op. EmitsOnly (IsItemOf formats setting.maps) op) setting.maps (λ ending. Unit {0}) (walk body context payload actor actors)
+  own-items =
+      weaker-calls (IsFineCall setting (IsItemOf formats setting.maps)) (λ object op. EmitsOnly (IsItemOf formats setting.maps) op) setting.maps (λ ending. Unit {0}) (λ object op p. p.1)
+      (walk body context payload actor actors) own-calls
