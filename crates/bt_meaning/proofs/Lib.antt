@@ -4,11 +4,11 @@ pub mod DueOrder
 pub mod Eachs
 pub mod ItemByItem
 pub mod OwnAgenda
+pub mod OwnCalls
+pub mod Placed
 pub mod Rises
 pub mod SerialLaws
 pub mod Stepping
 pub mod TicksAfter
 pub mod WalkStops
 pub mod Walked
-pub mod OwnCalls
-pub mod Placed
