@@ -111,7 +111,7 @@ const ORDER: [Row; 10] = [
     ),
     // Arguments from left to right; `--` gives the old value behind the map and the new one before it.
     (
-        b"BEGIN { printf(\"%d %d %s\", @x--, --@x, @s); @s = \"a\"; }",
+        b"BEGIN { @s = \"a\"; printf(\"%d %d %s\", @x--, --@x, @s); }",
         0,
         MAIN,
         &[
@@ -120,13 +120,13 @@ const ORDER: [Row; 10] = [
             Says::Value(Part::S(b"w")),
         ],
         &[
-            Does::Get(0, &[]),
-            Does::Set(0, &[], Part::N(4)),
-            Does::Get(0, &[]),
-            Does::Set(0, &[], Part::N(3)),
+            Does::Set(0, &[], Part::S(b"a")),
             Does::Get(1, &[]),
+            Does::Set(1, &[], Part::N(4)),
+            Does::Get(1, &[]),
+            Does::Set(1, &[], Part::N(3)),
+            Does::Get(0, &[]),
             Does::Printf(0, &[Part::N(5), Part::N(3), Part::S(b"w")]),
-            Does::Set(1, &[], Part::S(b"a")),
         ],
         Ending::End,
     ),
@@ -146,8 +146,8 @@ const ORDER: [Row; 10] = [
     ),
     // Of the predicate, then of the block.
     (
-        b"BEGIN /@p == \"a\"/ { @p = \"b\"; }",
-        0,
+        b"BEGIN { @p = \"a\"; } END /@p == \"a\"/ { @p = \"b\"; }",
+        1,
         MAIN,
         &[Says::Value(Part::S(b"a"))],
         &[Does::Get(0, &[]), Does::Set(0, &[], Part::S(b"b"))],
