@@ -72,18 +72,16 @@ fn files_are_any_words(rt: HostRuntime) -> Result<(), Fail> {
         ["check", "help", "check"],
         ["code", "\u{2212}-serial", "=\n x"],
     ];
-    for [command, first, second] in cases {
-        let words = words_of(alloc, &[command, first, second])?;
-        let (read, script, recording) = match read_words(alloc, &words)? {
+    for texts in cases {
+        let words = words_of(alloc, &texts)?;
+        let (command, script, recording) = match read_words(alloc, &words)? {
             Order::Check { script, recording } => ("check", script, recording),
             Order::Code { script, recording } => ("code", script, recording),
             _ => return Err(Fail::from("no files")),
         };
-        assert_eq!(rt; read, command);
-        assert!(rt;
-            script.as_str() == first && recording.as_str() == second,
-            "{first:?}"
-        );
+        assert_eq!(rt; command, texts[0]);
+        assert_eq!(rt; script.as_str(), texts[1]);
+        assert_eq!(rt; recording.as_str(), texts[2]);
     }
     Ok(())
 }
