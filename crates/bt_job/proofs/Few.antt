@@ -6,6 +6,7 @@ use Rattle.std.proofs.lemmas.List.Sums.{sum_by-cons}
 use Rattle.bt_core.specs.declared.limits.TheConstants.{TICKS, BODIES}
 use Rattle.bt_ast.specs.declared.attached.BodyId.{BodyId}
 use Rattle.bt_ast.specs.declared.attached.BodyPoint.{BodyPoint}
+use Rattle.bt_ast.specs.declared.attached.BodyPoint.TheVariants.{Event}
 use Rattle.bt_ast.specs.declared.attached.Tick.{Tick}
 use Rattle.bt_ast.specs.declared.probe.Point.{Point}
 use Rattle.bt_ast.specs.declared.probe.Point.TheVariants.{Begin, End, Tracepoint, Interval}
@@ -63,7 +64,7 @@ none_matched k (f ∷ fs) = none_matched (k + 1) fs
 
 -- no points, no bodies
 no_points : (formats : List Format) → length (body_points formats []) ≡ 0
-no_points formats = length-map _ (places_from (is_matched []) 0 formats) ∙ none_matched 0 formats
+no_points formats = length-map (places_from (is_matched []) 0 formats) Event ∙ none_matched 0 formats
 
 -- how many ticks and bodies some probes have
 abbrev tick_sum : ℕ → List Probe → ℕ
@@ -93,7 +94,7 @@ pub bodies_length : (formats : List Format) (k : ℕ) (ps : List Probe) → leng
 bodies_length formats k [] = refl
 bodies_length formats k (p ∷ ps) =
     let e = length-append (map (λ (point : BodyPoint). record { probe = k; point = point }) (body_points formats p.points)) (bodies_from formats (k + 1) ps) in
-    let f = length-map (λ (point : BodyPoint). record { probe = k; point = point }) (body_points formats p.points) in
+    let f = length-map (body_points formats p.points) (λ (point : BodyPoint). record { probe = k; point = point }) in
     let g = bodies_length formats (k + 1) ps in omega (arith, e, f, g)
 
 first_length : (start period body k : ℕ) → length (first_ticks start period body k) ≡ k

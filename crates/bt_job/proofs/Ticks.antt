@@ -101,7 +101,7 @@ ticks_are start span formats n probe front [] e = tt
 ticks_are start span formats n probe front (p ∷ ps) e =
     let own = map (λ (point : BodyPoint). record { probe = probe; point = point }) (body_points formats p.points) in
     let later = bodies_from formats (probe + 1) ps in
-    let long = length-map (λ (point : BodyPoint). record { probe = probe; point = point }) (body_points formats p.points) in
+    let long = length-map (body_points formats p.points) (λ (point : BodyPoint). record { probe = probe; point = point }) in
     let joined = length-append front own in
     both (IsIntervals (front ++ (own ++ later))) (flat_map (point_ticks start span (n + length (begin_and_end p.points))) p.points) (ticks_from start span formats (n + length (body_points formats p.points)) ps)
     (weaker (IsTickOf (n + length (begin_and_end p.points)) p.points) (IsIntervals (front ++ (own ++ later)))

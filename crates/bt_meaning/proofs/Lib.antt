@@ -4,6 +4,8 @@ pub mod DueOrder
 pub mod Eachs
 pub mod ItemByItem
 pub mod OwnAgenda
+pub mod OwnCalls
+pub mod Placed
 pub mod Rises
 pub mod SerialLaws
 pub mod Stepping

@@ -76,6 +76,7 @@ impl Port for Written {
     }
 
     fn last(&self) -> &Reply {
-        &self.steps.as_slice()[self.steps.len() - 1].reply
+        let steps = self.steps.as_slice();
+        &steps[steps.len() - 1].reply
     }
 }
