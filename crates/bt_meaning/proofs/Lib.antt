@@ -9,6 +9,7 @@ pub mod Placed
 pub mod Rises
 pub mod SerialLaws
 pub mod Stepping
+pub mod TextLaws
 pub mod TicksAfter
 pub mod WalkStops
 pub mod Walked

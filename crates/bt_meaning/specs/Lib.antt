@@ -6,6 +6,7 @@ pub mod Prints
 pub mod Replays
 pub mod Schedules
 pub mod Serial
+pub mod Texts
 pub mod Ticks
 pub mod Totals
 pub mod Walks
