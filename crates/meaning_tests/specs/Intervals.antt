@@ -1,0 +1,82 @@
+-- Events of two CPUs that are counted, and ticks that print the counts:
+--     tracepoint:t:e { @ = count(); } interval:s:1 { print(@); }
+-- and the same with `print(@); clear(@);`. Each CPU has events at 0.5 and 1.5 seconds; the ticks stand at 1 and 2 seconds.
+use Rattle.std.specs.Prelude.{ℕ, ◌==◌, if◌then◌else◌, true, false, List, [], ◌∷◌, ◌++◌}
+use Rattle.bt_core.specs.declared.step.Step.{Step}
+use Rattle.bt_core.specs.Interaction.{Interaction, Ended}
+use Rattle.actor_plan.specs.Plans.{Plan}
+use Rattle.rec_format.specs.declared.recording.Recording.{Recording}
+use Rattle.bt_meaning.specs.Replays.{Replay}
+use Rattle.meaning_tests.specs.Written.{attached_with, tick_at, cpu_with, counts_decl, counts_one, prints, clears, adds, crosses, reads, clears_of, emits}
+
+abbrev pub two_cpus : Recording
+two_cpus = record {
+  start = 0;
+  end = 2000000000;
+  formats = [];
+  cpus = cpu_with 0 (500000000 ∷ 1500000000 ∷ []) ∷ cpu_with 1 (500000000 ∷ 1500000000 ∷ []) ∷ [];
+}
+
+-- body 0 counts, and this is body 1
+abbrev pub counting : Interaction ℕ → ℕ → Plan
+counting at_tick actor = record {
+  actor = actor;
+  actors = 3;
+  maps = counts_decl ∷ [];
+  sizes = 0 ∷ 0 ∷ [];
+  run = λ body context payload. if body == 0 then counts_one actor [] else at_tick;
+}
+
+abbrev pub replaying : Interaction ℕ → Replay
+replaying at_tick = record {
+  recording = two_cpus;
+  attached = attached_with (tick_at 1 1000000000 ∷ tick_at 1 2000000000 ∷ []);
+  exits = false;
+  maps = counts_decl ∷ [];
+  plan = counting at_tick;
+}
+
+abbrev pub printing : Replay
+printing = replaying (prints 3 (Ended 20))
+
+abbrev pub printing_and_clearing : Replay
+printing_and_clearing = replaying (prints 3 (clears 3))
+
+-- ---- prints
+
+-- an actor reads the three tables and prints the sum
+abbrev pub prints_of : ℕ → ℕ → ℕ → ℕ → List Step
+prints_of actor first second sum = reads actor 0 first ∷ reads actor 1 second ∷ reads actor 2 0 ∷ emits actor sum ∷ []
+
+abbrev pub clears_by : ℕ → List Step
+clears_by actor = clears_of actor 0 ∷ clears_of actor 1 ∷ clears_of actor 2 ∷ []
+
+-- the second events come behind the first print
+abbrev pub first_two : List Step
+first_two =
+    adds 0 ∷ adds 1 ∷ crosses 0 0 false ∷ crosses 1 0 true ∷ (prints_of 1 1 1 2
+    ++ adds 0 ∷ adds 1 ∷ crosses 0 1 false ∷ crosses 1 1 true ∷ prints_of 1 2 2 4)
+
+-- one of them comes before it
+abbrev pub first_three : List Step
+first_three =
+    adds 0 ∷ adds 1 ∷ crosses 0 0 false ∷ adds 0 ∷ crosses 1 0 true ∷ (prints_of 1 2 1 3
+    ++ adds 1 ∷ crosses 0 1 false ∷ crosses 1 1 true ∷ prints_of 1 2 2 4)
+
+-- ---- prints and clears
+
+abbrev pub two_and_two : List Step
+two_and_two =
+    adds 0 ∷ adds 1 ∷ crosses 0 0 false ∷ crosses 1 0 true ∷ (prints_of 1 1 1 2
+    ++ (clears_by 1 ++ adds 0 ∷ adds 1 ∷ crosses 0 1 false ∷ crosses 1 1 true ∷ (prints_of 1 1 1 2 ++ clears_by 1)))
+
+abbrev pub three_and_one : List Step
+three_and_one =
+    adds 0 ∷ adds 1 ∷ crosses 0 0 false ∷ adds 0 ∷ crosses 1 0 true ∷ (prints_of 1 2 1 3
+    ++ (clears_by 1 ++ adds 1 ∷ crosses 0 1 false ∷ crosses 1 1 true ∷ (prints_of 1 0 1 1 ++ clears_by 1)))
+
+-- an event is counted between the read of its table and the clear of it, and is lost
+abbrev pub two_and_one : List Step
+two_and_one =
+    adds 0 ∷ adds 1 ∷ crosses 0 0 false ∷ crosses 1 0 true ∷ (prints_of 1 1 1 2
+    ++ adds 0 ∷ (clears_by 1 ++ adds 1 ∷ crosses 0 1 false ∷ crosses 1 1 true ∷ (prints_of 1 0 1 1 ++ clears_by 1)))

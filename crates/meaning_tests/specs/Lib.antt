@@ -1,0 +1,4 @@
+pub mod Intervals
+pub mod Refused
+pub mod Serial
+pub mod Written

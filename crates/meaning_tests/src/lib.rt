@@ -1,0 +1,9 @@
+//! Tests of what a script means: worked runs, computed from the definitions, and lists that are none of its interleavings.
+#![tactic(auto)]
+
+#[cfg(test)]
+mod intervals;
+#[cfg(test)]
+mod refused;
+#[cfg(test)]
+mod serial;

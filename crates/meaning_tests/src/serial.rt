@@ -1,0 +1,34 @@
+// The list of the serial run and its text, of three scripts.
+ghost use Rattle.std.specs.Prelude.{◌≡◌, [], ◌∷◌, codes};
+ghost use Rattle.typed_tree.specs.declared.script.Typed.{Typed};
+ghost use Rattle.fmt_text.specs.declared.piece.Piece.TheVariants.{Literal};
+ghost use Rattle.bt_meaning.specs.Prints.{printed_text};
+ghost use Rattle.bt_meaning.specs.Serial.{serial_steps};
+ghost use Rattle.meaning_tests.specs.Serial.{by_cpu_decl, by_second, counted_by_cpu, n_and_i, stopped_by_count, stopped_by_tick, until_count, until_tick};
+ghost use Rattle.meaning_tests.specs.Written.{counts_decl};
+
+// The one CPU stops at the first tick.
+fn a_tick_stops()
+    ensures steps { serial_steps stopped_by_tick ≡ until_tick }
+    ensures text { (script : Typed) → script.maps ≡ counts_decl ∷ [] → printed_text script 1 until_tick ≡ codes "@: 1\n\n" }
+{}
+
+// The one CPU stops at its second event, and the bodies of `END` still run.
+fn a_count_stops()
+    ensures steps { serial_steps stopped_by_count ≡ until_count }
+    ensures text { (script : Typed) → script.maps ≡ n_and_i → script.formats ≡ (Literal (codes "bye\n") ∷ []) ∷ [] →
+        printed_text script 1 until_count ≡ codes "bye\n@n: 2\n\n@i: 2\n\n" }
+{}
+
+// A tick sees the number of the CPU that runs it, which is the last to cross it.
+fn the_last_cpu_runs_ticks()
+    ensures steps { serial_steps counted_by_cpu ≡ by_second }
+    ensures text { (script : Typed) → script.maps ≡ by_cpu_decl ∷ [] → printed_text script 2 by_second ≡ codes "@[9]: 2\n\n" }
+{}
+
+#[test]
+fn serial_runs() {
+    a_tick_stops();
+    a_count_stops();
+    the_last_cpu_runs_ticks();
+}
