@@ -1,13 +1,13 @@
 -- Where no rule of attaching is broken, there are no more bodies and ticks than a script may have.
-use Rattle.std.proofs.Common.{◌≡◌, ◌+◌, ◌*◌, ◌/◌, ◌-◌, ◌<◌, ◌≤◌, ◌++◌, ℕ, zero, suc, Bool, true, false, cond, List, [], ◌∷◌, length, map, sum_by, Option, Some, None, nat_lt, refl, sym, ap, ◌∙◌, subst, arith, append_assoc, append-nil}
-use Rattle.std.specs.List.{list_any, flat_map}
+use Rattle.std.proofs.Common.{◌≡◌, ◌+◌, ◌*◌, ◌/◌, ◌≤◌, ◌++◌, ℕ, zero, suc, Bool, true, false, List, [], ◌∷◌, length, map, sum_by, Option, Some, None, nat_lt, refl, sym, ◌∙◌, subst, arith, rules, append_assoc, append-nil}
+use Rattle.std.specs.List.{flat_map}
 use Rattle.std.proofs.lemmas.List.{length-append, length-map}
 use Rattle.std.proofs.lemmas.List.Sums.{sum_by-cons}
+use Rattle.std.proofs.lemmas.Bool.{ltb-false}
 use Rattle.bt_core.specs.declared.limits.TheConstants.{TICKS, BODIES}
 use Rattle.bt_ast.specs.declared.attached.BodyId.{BodyId}
 use Rattle.bt_ast.specs.declared.attached.BodyPoint.{BodyPoint}
 use Rattle.bt_ast.specs.declared.attached.BodyPoint.TheVariants.{Event}
-use Rattle.bt_ast.specs.declared.attached.Tick.{Tick}
 use Rattle.bt_ast.specs.declared.probe.Point.{Point}
 use Rattle.bt_ast.specs.declared.probe.Point.TheVariants.{Begin, End, Tracepoint, Interval}
 use Rattle.bt_ast.specs.declared.probe.Probe.{Probe}
@@ -29,14 +29,14 @@ few_bodies n p e = by (nat_lt BODIES n) refl
   where
     by : (b : Bool) → nat_lt BODIES n ≡ b → n ≤ BODIES
     by true f = search rules
-    by false f = omega (arith, f)
+    by false f = ltb-false BODIES n f
 
 few_ticks : (n : ℕ) (p : Point) → too_many_ticks n p ≡ None → n ≤ TICKS
 few_ticks n p e = by (nat_lt TICKS n) refl
   where
     by : (b : Bool) → nat_lt TICKS n ≡ b → n ≤ TICKS
     by true f = search rules
-    by false f = omega (arith, f)
+    by false f = ltb-false TICKS n f
 
 record AreFew (ticks bodies : ℕ) : Type 0 where
   ticks_fit : ticks ≤ TICKS
@@ -85,7 +85,7 @@ probes_few formats span ticks bodies (p ∷ ps) few e =
     let start : AreFew (ticks + 0) (bodies + length (body_points formats [])) = record { ticks_fit = omega (arith, t); bodies_fit = omega (arith, b, none) } in
     let here = points_few formats span ticks bodies [] p.points start (none_first (points_fault formats span ticks bodies [] p.points) _ e) in
     let rest = probes_few formats span (ticks + sum_by (point_tick_count span) p.points) (bodies + length (body_points formats p.points)) ps here
-        (none_second (points_fault formats span ticks bodies [] p.points) _ e) in
+    (none_second (points_fault formats span ticks bodies [] p.points) _ e) in
     let u = rest.ticks_fit in let c = rest.bodies_fit in
     record { ticks_fit = omega (arith, u); bodies_fit = omega (arith, c) }
 
@@ -94,7 +94,7 @@ pub bodies_length : (formats : List Format) (k : ℕ) (ps : List Probe) → leng
 bodies_length formats k [] = refl
 bodies_length formats k (p ∷ ps) =
     let e = length-append (map (λ (point : BodyPoint). record { probe = k; point = point }) (body_points formats p.points)) (bodies_from formats (k + 1) ps) in
-    let f = length-map (body_points formats p.points) (λ (point : BodyPoint). record { probe = k; point = point }) in
+    let f = length-map {B = BodyId} (body_points formats p.points) (λ (point : BodyPoint). record { probe = k; point = point }) in
     let g = bodies_length formats (k + 1) ps in omega (arith, e, f, g)
 
 first_length : (start period body k : ℕ) → length (first_ticks start period body k) ≡ k

@@ -1,10 +1,9 @@
 -- Lists: places where a test holds, what stands at an index, and lists that are alike by a key.
-use Rattle.std.proofs.Common.{◌≡◌, ◌+◌, ◌<◌, ◌≤◌, ◌++◌, ℕ, zero, suc, Bool, true, false, cond, not, ◌&&◌, List, [], ◌∷◌, length, map, filter, All, Option, Some, None, slice_get, get_or, refl, sym, ap, ◌∙◌, subst, arith}
-use Rattle.std.specs.List.{AllByRecursion, Contains}
+use Rattle.std.proofs.Common.{◌≡◌, ◌+◌, ◌≤◌, ◌++◌, ℕ, zero, suc, Bool, true, false, cond, not, List, [], ◌∷◌, length, filter, Some, slice_get, refl, sym, ap, ◌∙◌, subst, arith}
+use Rattle.std.specs.List.{AllByRecursion}
 use Rattle.std.specs.List.Sorted.{ties, IsStableBy}
-use Rattle.std.proofs.lemmas.List.{length-append}
 use Rattle.std.proofs.lemmas.List.Filters.{length-filter_both}
-use Rattle.bt_attach.specs.Attaching.{places_from, places}
+use Rattle.bt_attach.specs.Attaching.{places_from}
 
 module _ {A : Type 0} where
   -- where the test holds of each element that stands at a place, the fact holds of the place
@@ -14,11 +13,11 @@ module _ {A : Type 0} where
   places_are test P k (x ∷ xs) h =
       let rest = places_are test P (k + 1) xs (λ i y e t. let same : k + suc i ≡ k + 1 + i = omega arith in subst P same (h (suc i) y e t)) in
       here (test x) refl rest
-      where
-        here : (b : Bool) → test x ≡ b → AllByRecursion P (places_from test (k + 1) xs)
-            → AllByRecursion P (cond b (k ∷ places_from test (k + 1) xs) (places_from test (k + 1) xs))
-        here true e rest = (let same : k + zero ≡ k = omega arith in subst P same (h zero x refl e), rest)
-        here false e rest = rest
+    where
+      here : (b : Bool) → test x ≡ b → AllByRecursion P (places_from test (k + 1) xs)
+          → AllByRecursion P (cond b (k ∷ places_from test (k + 1) xs) (places_from test (k + 1) xs))
+      here true e rest = (let same : k + zero ≡ k = omega arith in subst P same (h zero x refl e), rest)
+      here false e rest = rest
 
   pub places_few : (test : A → Bool) (k : ℕ) (xs : List A) → length (places_from test k xs) ≤ length xs
   places_few test k [] = omega arith
@@ -32,19 +31,20 @@ module _ {A : Type 0} where
   get_behind (x ∷ xs) y ys = get_behind xs y ys
 
   pub get_front : (xs ys : List A) (i : ℕ) (x : A) → slice_get xs i ≡ Some x → slice_get (xs ++ ys) i ≡ Some x
+  get_front [] ys i x e = cc
   get_front (z ∷ xs) ys zero x e = e
   get_front (z ∷ xs) ys (suc i) x e = get_front xs ys i x e
 
+  flipped : (x : A) (p q : A → Bool) (xs : List A) (a b : Bool) → p x ≡ a → q x ≡ b → filter p (filter q xs) ≡ filter q (filter p xs)
+      → filter p (cond b (x ∷ filter q xs) (filter q xs)) ≡ filter q (cond a (x ∷ filter p xs) (filter p xs))
+  flipped x p q xs true true e f rest = rw (e, f) (ap (λ l. x ∷ l) rest)
+  flipped x p q xs true false e f rest = rw f rest
+  flipped x p q xs false true e f rest = rw e rest
+  flipped x p q xs false false e f rest = rest
+
   pub filter_flip : (p q : A → Bool) (xs : List A) → filter p (filter q xs) ≡ filter q (filter p xs)
   filter_flip p q [] = refl
-  filter_flip p q (x ∷ xs) = cases (p x) (q x) refl refl
-      where
-        cases : (a b : Bool) → p x ≡ a → q x ≡ b
-            → filter p (cond (q x) (x ∷ filter q xs) (filter q xs)) ≡ filter q (cond (p x) (x ∷ filter p xs) (filter p xs))
-        cases true true e f = rw (e, f, e, f) (ap (λ l. x ∷ l) (filter_flip p q xs))
-        cases true false e f = rw (e, f, f) (filter_flip p q xs)
-        cases false true e f = rw (e, f, e) (filter_flip p q xs)
-        cases false false e f = rw (e, f) (filter_flip p q xs)
+  filter_flip p q (x ∷ xs) = flipped x p q xs (p x) (q x) refl refl (filter_flip p q xs)
 
   length_kept : (p : A → Bool) (xs : List A) → length (filter p xs) ≤ length xs
   length_kept p xs = let both = length-filter_both p (λ x. not (p x)) (λ x. refl) xs in omega (arith, both)

@@ -1,15 +1,15 @@
 -- Ticks: their bodies are those of intervals, they stand in turn, and none comes or goes as they are put in order.
-use Rattle.std.proofs.Common.{◌≡◌, ◌+◌, ◌*◌, ◌/◌, ◌-◌, ◌<◌, ◌≤◌, ◌++◌, ℕ, zero, suc, Bool, true, false, cond, not, ◌&&◌, ◌||◌, List, [], ◌∷◌, length, map, filter, All, Option, Some, None, slice_get, get_or, refl, sym, ap, ◌∙◌, subst, arith, append_assoc, append-nil}
-use Rattle.std.specs.List.{AllByRecursion, Contains, list_any, flat_map}
+use Rattle.std.proofs.Common.{◌≡◌, ◌+◌, ◌/◌, ◌<◌, ◌≤◌, ◌++◌, ℕ, zero, suc, Bool, true, false, ◌||◌, List, [], ◌∷◌, length, map, Option, Some, None, slice_get, get_or, refl, sym, ap, ◌∙◌, subst, arith, rules, append_assoc}
+use Rattle.std.specs.List.{AllByRecursion, list_any, flat_map}
 use Rattle.std.specs.Ordering.{nat_cmp, is_lt}
-use Rattle.std.specs.List.Sorted.{ties, IsStableBy, IsSortedByKey}
+use Rattle.std.specs.List.Sorted.{IsSortedByKey}
 use Rattle.std.proofs.lemmas.List.{length-append, length-map}
-use Rattle.std.proofs.lemmas.List.Elements.{All-from_recursion}
-use Rattle.std.proofs.lemmas.List.Filters.{length-filter_both}
 use Rattle.std.proofs.lemmas.List.Sorted.{ties_still_rise}
+use Rattle.std.proofs.lemmas.Bool.Decides.{nat_tests}
+use Rattle.std.specs.Option.{option_map}
 use Rattle.bt_ast.specs.declared.attached.BodyId.{BodyId}
 use Rattle.bt_ast.specs.declared.attached.BodyPoint.{BodyPoint}
-use Rattle.bt_ast.specs.declared.attached.BodyPoint.TheVariants.{Begin as AtBegin, End as AtEnd, Interval as AtTicks, Event}
+use Rattle.bt_ast.specs.declared.attached.BodyPoint.TheVariants.{Interval as AtTicks, Event}
 use Rattle.bt_ast.specs.declared.attached.Tick.{Tick}
 use Rattle.bt_ast.specs.declared.probe.Point.{Point}
 use Rattle.bt_ast.specs.declared.probe.Point.TheVariants.{Begin, End, Tracepoint, Interval}
@@ -81,18 +81,15 @@ pub record IsIntervals (ids : List BodyId) (t : Tick) : Type 0 where
   pub point : id.point ≡ AtTicks
 
 get_mapped : {A B : Type 0} (f : A → B) (xs : List A) (i : ℕ) (x : A) → slice_get xs i ≡ Some x → slice_get (map f xs) i ≡ Some (f x)
-get_mapped f (z ∷ xs) zero x e = ap (option_of f) e
-  where
-    option_of : {A B : Type 0} → (A → B) → Option A → Option B
-    option_of g None = None
-    option_of g (Some a) = Some (g a)
+get_mapped {A = A} {B = B} f [] i x e = cc
+get_mapped f (z ∷ xs) zero x e = ap (option_map f) e
 get_mapped f (z ∷ xs) (suc i) x e = get_mapped f xs i x e
 
 get_after : {A : Type 0} (xs ys : List A) (i : ℕ) → slice_get (xs ++ ys) (length xs + i) ≡ slice_get ys i
-get_after [] ys i = refl
-get_after (x ∷ xs) ys i =
+get_after [] ys i = let same : 0 + i ≡ i = omega arith in ap (λ n. slice_get ys n) same
+get_after {A = A} (x ∷ xs) ys i =
     let same : suc (length xs) + i ≡ suc (length xs + i) = omega arith in
-    ap (λ n. slice_get (x ∷ (xs ++ ys)) n) same ∙ get_after xs ys i
+    ap (λ n. slice_get {X = A} (x ∷ (xs ++ ys)) n) same ∙ get_after xs ys i
 
 -- the ticks of some probes, whose bodies stand behind those of the probes before
 pub ticks_are : (start span : ℕ) (formats : List Format) (n probe : ℕ) (front : List BodyId) (ps : List Probe) → n ≡ length front
@@ -101,20 +98,20 @@ ticks_are start span formats n probe front [] e = tt
 ticks_are start span formats n probe front (p ∷ ps) e =
     let own = map (λ (point : BodyPoint). record { probe = probe; point = point }) (body_points formats p.points) in
     let later = bodies_from formats (probe + 1) ps in
-    let long = length-map (body_points formats p.points) (λ (point : BodyPoint). record { probe = probe; point = point }) in
+    let long = length-map {B = BodyId} (body_points formats p.points) (λ (point : BodyPoint). record { probe = probe; point = point }) in
     let joined = length-append front own in
     both (IsIntervals (front ++ (own ++ later))) (flat_map (point_ticks start span (n + length (begin_and_end p.points))) p.points) (ticks_from start span formats (n + length (body_points formats p.points)) ps)
     (weaker (IsTickOf (n + length (begin_and_end p.points)) p.points) (IsIntervals (front ++ (own ++ later)))
-      (λ t h. record {
-        id = record { probe = probe; point = AtTicks };
-        there = ap (λ i. slice_get (front ++ (own ++ later)) i) (h.runs ∙ ap (λ m. m + length (begin_and_end p.points)) e)
-            ∙ get_after front (own ++ later) (length (begin_and_end p.points))
-            ∙ get_front own later (length (begin_and_end p.points)) _ (get_mapped (λ (point : BodyPoint). record { probe = probe; point = point }) (body_points formats p.points) (length (begin_and_end p.points)) AtTicks (interval_at formats p.points h.some));
-        point = refl;
-      })
-      _ (points_of start span (n + length (begin_and_end p.points)) p.points))
+    (λ t h. record {
+      id = record { probe = probe; point = AtTicks };
+      there = ap (λ i. slice_get (front ++ (own ++ later)) i) (h.runs ∙ ap (λ m. m + length (begin_and_end p.points)) e)
+          ∙ get_after front (own ++ later) (length (begin_and_end p.points))
+          ∙ get_front own later (length (begin_and_end p.points)) _ (get_mapped (λ (point : BodyPoint). record { probe = probe; point = point }) (body_points formats p.points) (length (begin_and_end p.points)) AtTicks (interval_at formats p.points h.some));
+      point = refl;
+    })
+    _ (points_of start span (n + length (begin_and_end p.points)) p.points))
     (subst (λ (l : List BodyId). AllByRecursion (IsIntervals l) (ticks_from start span formats (n + length (body_points formats p.points)) ps)) (append_assoc front own later)
-      (ticks_are start span formats (n + length (body_points formats p.points)) (probe + 1) (front ++ own) ps (omega (arith, e, long, joined))))
+    (ticks_are start span formats (n + length (body_points formats p.points)) (probe + 1) (front ++ own) ps (omega (arith, e, long, joined))))
 
 -- ---- ticks that are put in order
 
@@ -122,7 +119,7 @@ abbrev by_time : Tick → Tick → Bool
 by_time s t = is_lt (nat_cmp s.time t.time)
 
 -- the bodies do not fall, and are none below this number
-Up : ℕ → List Tick → Type 0
+abbrev Up : ℕ → List Tick → Type 0
 Up m [] = Unit {0}
 Up m (t ∷ ts) = (m ≤ t.body) × Up t.body ts
 
@@ -143,10 +140,13 @@ up_from start span formats n (p ∷ ps) =
     up_same n (n + length (begin_and_end p.points)) p.points (flat_map (point_ticks start span (n + length (begin_and_end p.points))) p.points) _ (omega arith)
     (points_of start span (n + length (begin_and_end p.points)) p.points)
     (up_lower (n + length (begin_and_end p.points)) (n + length (body_points formats p.points)) _ (omega (arith, long))
-      (up_from start span formats (n + length (body_points formats p.points)) ps))
+    (up_from start span formats (n + length (body_points formats p.points)) ps))
 
 not_less : (a b : ℕ) → a ≤ b → is_lt (nat_cmp b a) ≡ false
-not_less a b h = nat_cmp-ltb b a ∙ le-ltb b a h
+not_less a b h = grind (arith, nat_tests)
+
+at_most : (a b : ℕ) → is_lt (nat_cmp b a) ≡ false → a ≤ b
+at_most a b h = grind (arith, nat_tests)
 
 up_sorted : (m : ℕ) (ts : List Tick) → Up m ts → IsSortedByKey (λ (t : Tick). t.body) nat_cmp ts
 up_sorted m [] h k d low within = absurd (omega (arith, within))
@@ -158,7 +158,7 @@ up_sorted m (t ∷ u ∷ ts) h (suc k) d low within =
     (up_sorted t.body (u ∷ ts) h.1 k d (omega arith) (omega (arith, within)))
 
 module _ (start span : ℕ) (formats : List Format) (ps : List Probe) (ticks : List Tick) (ordered : AreInOrder (ticks_from start span formats 0 ps) ticks) where
-  made : List Tick
+  abbrev pub made : List Tick
   made = ticks_from start span formats 0 ps
 
   pub ticks_count : length ticks ≡ length made
@@ -189,8 +189,8 @@ module _ (start span : ℕ) (formats : List Format) (ps : List Probe) (ticks : L
           → is_lt (nat_cmp (get_or ticks (k + 1) s).time (get_or ticks k s).time) ≡ false → s.time ≤ t.time
       times_rise k s t g h sorted =
           let a : is_lt (nat_cmp t.time s.time) ≡ false = subst (λ (x : Tick). is_lt (nat_cmp x.time s.time) ≡ false) (ap (λ n. get_or ticks n s) (next k) ∙ h)
-              (subst (λ (x : Tick). is_lt (nat_cmp (get_or ticks (k + 1) s).time x.time) ≡ false) g sorted) in
-          ltb-false t.time s.time (sym (nat_cmp-ltb t.time s.time) ∙ a)
+          (subst (λ (x : Tick). is_lt (nat_cmp (get_or ticks (k + 1) s).time x.time) ≡ false) g sorted) in
+          at_most s.time t.time a
 
       bodies_rise : (k : ℕ) (s t : Tick) → get_or ticks k s ≡ s → get_or ticks (suc k) s ≡ t → s.time ≡ t.time → k + 1 < length ticks → s.body ≤ t.body
       bodies_rise k s t g h same within =
