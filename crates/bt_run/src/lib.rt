@@ -1,4 +1,14 @@
 //! Whole runs of a script over a recording.
 #![tactic(auto)]
 
+pub mod job;
+mod ends;
+mod items;
+mod new_objects;
+pub mod objects;
+pub mod own;
+pub mod port;
+mod reads;
 pub mod run;
+mod serial;
+mod walks;

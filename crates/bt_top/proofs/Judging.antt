@@ -13,8 +13,8 @@ use Rattle.bt_meaning.specs.Interleavings.{IsReplayed}
 use Rattle.bt_meaning.specs.Prints.{printed_text}
 use Rattle.bt_meaning.specs.Replays.{cpus_of}
 use Rattle.bt_meaning.specs.Serial.{serial_steps, unstamped}
-use Rattle.bt_run.specs.declared.run.Job.{Job}
-use Rattle.bt_run.specs.declared.run.Work.{Work}
+use Rattle.bt_run.specs.declared.job.Job.{Job}
+use Rattle.bt_run.specs.declared.job.Work.{Work}
 use Rattle.bt_top.specs.declared.report.Report.{Report}
 use Rattle.bt_top.specs.declared.refusal.Operand.TheVariants as operand
 use Rattle.bt_top.specs.declared.refusal.Refusal.{Refusal}

@@ -10,7 +10,7 @@ use crate::refusal::{Refusal, recording_refusal};
 use crate::script::{attach_refusal, tree_of, type_refusal};
 use bt_ast::attached::Attached;
 use bt_attach::attach::attach;
-use bt_run::run::Job;
+use bt_run::job::Job;
 use bt_types::script::check;
 use rec_format::reading::read_recording;
 use rec_format::recording::Recording;

@@ -1,6 +1,6 @@
 // What a call answers.
 use crate::refusal::Refusal;
-use bt_run::run::Work;
+use bt_run::job::Work;
 
 /// What a call answers: the exit status, why it was refused where it was, and the work that was
 /// done, which is there at status 0 and 5.

@@ -18,7 +18,8 @@ use bt_core::limits::{RECORDING_BYTES, SCRIPT_BYTES};
 use bt_core::memory::Memory;
 use bt_io::shelf::Shelf;
 use bt_io::sink::{Sink, write_all};
-use bt_run::run::{Job, Work, run_serial};
+use bt_run::job::{Job, Work};
+use bt_run::run::run_serial;
 use bt_words::order::WordsError;
 use std::alloc::Global;
 
