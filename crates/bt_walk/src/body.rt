@@ -7,12 +7,12 @@ ghost use Rattle.bt_walk.specs.Walk.{walk, fresh, guarded, unassigned};
 ghost use Rattle.bt_walk.specs.Walked.{Walked, CanWalk, IsServed, Fits, BlockFits, scene_in};
 
 use crate::access::holds;
-use bt_core::ending::Ending;
 use crate::flow::{Flow, Frame, ending_of};
 use crate::value::number;
 use crate::view::View;
 use crate::walk::walk_block;
 use bt_core::context::Context;
+use bt_core::ending::Ending;
 use bt_core::items::Items;
 use bt_core::limits::LOOP_TURNS;
 use bt_core::map::Shape;

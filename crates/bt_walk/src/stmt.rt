@@ -12,12 +12,12 @@ ghost use Rattle.bt_walk.specs.Walked.{Walked, Made, IsServed, Fits, HoldsUnder,
 ghost use Rattle.bt_walk.specs.declared.flow.Frame.{Frame as Kept};
 
 use crate::access::{assign, delete, get, number_of, set, tell, variable};
-use bt_core::ending::Ending;
 use crate::flow::{Flow, Frame};
 use crate::sweep::{Sweep, ask_each};
 use crate::value::{number, value, values};
 use crate::view::{View, kind_of};
 use bt_core::arithmetic::binary;
+use bt_core::ending::Ending;
 use bt_core::item::Item;
 use bt_core::key::Key;
 use bt_core::map::{AggKind, MapId};
