@@ -311,7 +311,10 @@ const RULES: [Row; 27] = [
         0,
         MAIN,
         &[],
-        &[Does::Printf(0, &[Part::N(1)]), Does::Printf(0, &[Part::N(3)])],
+        &[
+            Does::Printf(0, &[Part::N(1)]),
+            Does::Printf(0, &[Part::N(3)]),
+        ],
         Ending::End,
     ),
     // The test of a loop is done once more than its turns.
