@@ -7,6 +7,7 @@ pub mod OwnAgenda
 pub mod Rises
 pub mod SerialLaws
 pub mod Stepping
+pub mod ThreeParts
 pub mod TicksAfter
 pub mod WalkStops
 pub mod Walked

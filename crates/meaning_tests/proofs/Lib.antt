@@ -1,3 +1,4 @@
 pub mod Checking
 pub mod Refusing
 pub mod Texts
+pub mod Walking

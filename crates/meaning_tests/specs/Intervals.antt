@@ -24,7 +24,7 @@ counting at_tick actor = record {
   actors = 3;
   maps = counts_decl ∷ [];
   sizes = 0 ∷ 0 ∷ [];
-  run = λ body context payload. if body == 0 then counts_one actor [] else at_tick;
+  run = λ body context payload. if body == 0 then counts_one actor [] 5 else at_tick;
 }
 
 abbrev pub replaying : Interaction ℕ → Replay
@@ -40,7 +40,7 @@ abbrev pub printing : Replay
 printing = replaying (prints 3 (Ended 20))
 
 abbrev pub printing_and_clearing : Replay
-printing_and_clearing = replaying (prints 3 (clears 3))
+printing_and_clearing = replaying (prints 3 (clears 3 30))
 
 -- ---- prints
 

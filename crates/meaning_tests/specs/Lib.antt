@@ -1,3 +1,4 @@
+pub mod Bodies
 pub mod Intervals
 pub mod Refused
 pub mod Serial
