@@ -1,4 +1,6 @@
 pub mod Checking
+pub mod IntervalLists
 pub mod Refusing
+pub mod ScriptReplays
 pub mod Texts
 pub mod Walking

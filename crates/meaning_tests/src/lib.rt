@@ -8,4 +8,6 @@ mod intervals;
 #[cfg(test)]
 mod refused;
 #[cfg(test)]
+mod scripts;
+#[cfg(test)]
 mod serial;
