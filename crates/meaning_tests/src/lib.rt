@@ -8,6 +8,8 @@ mod intervals;
 #[cfg(test)]
 mod refused;
 #[cfg(test)]
+mod schedules;
+#[cfg(test)]
 mod scripts;
 #[cfg(test)]
 mod serial;
