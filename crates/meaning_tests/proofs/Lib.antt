@@ -1,3 +1,4 @@
+pub mod BodyParts
 pub mod Checking
 pub mod IntervalLists
 pub mod Refusing

@@ -13,3 +13,5 @@ mod schedules;
 mod scripts;
 #[cfg(test)]
 mod serial;
+#[cfg(test)]
+mod totals;
