@@ -6,6 +6,8 @@ pub mod ItemByItem
 pub mod OwnAgenda
 pub mod Rises
 pub mod SerialLaws
+pub mod SerialMade
+pub mod Stamps
 pub mod Stepping
 pub mod ThreeParts
 pub mod TicksAfter

@@ -2,18 +2,19 @@
 -- where each actor makes the whole of its program in it and each reply follows.
 use Rattle.std.proofs.Common.{◌≡◌, ◌≢◌, ℕ, zero, suc, ◌<◌, ◌≤◌, List, [], ◌∷◌, ◌++◌, length, take, drop, refl, sym, ap, ◌∙◌, subst, arith, append-nil}
 use Rattle.std.specs.List.{AllByRecursion}
-use Rattle.std.proofs.lemmas.List.{drop_at, take_at}
-use Rattle.std.proofs.lemmas.List.Elements.{All-from_recursion, filter-append}
+use Rattle.std.proofs.lemmas.List.{drop_at, length-append, take_at}
+use Rattle.std.proofs.lemmas.List.Elements.{All-from_recursion, filter-append, recursion_from_All}
 use mathlib.Core.Logic.{dite}
 use native.Mathlib.Decide.{ℕ_discrete}
 use Rattle.bt_core.specs.declared.step.Step.{Step}
 use Rattle.bt_core.specs.Steps.{is_of, of_actor, RepliesFollow}
 use Rattle.bt_core.proofs.StepLists.{of_actor-other, of_actor-own}
+use Rattle.weave.specs.Lists.{SameLimits}
 use Rattle.weave.specs.Woven.{StandsBetween, begin_steps, end_steps}
-use Rattle.weave.proofs.Among.{has_cut}
+use Rattle.weave.proofs.Among.{Has, has_cut, has_middle}
 use Rattle.bt_meaning.specs.Interleavings.{IsInterleaving, IsWhole}
 use Rattle.bt_meaning.specs.Replays.{Replay, answers_of, begin_of, cpu_of, cpus_of, end_of}
-use Rattle.bt_meaning.proofs.Eachs.{each_back, each_from, each_front}
+use Rattle.bt_meaning.proofs.Eachs.{each_back, each_both, each_from, each_front, each_has, each_so}
 use Rattle.bt_meaning.proofs.Stepping.{AreBy, other_part, own_part}
 
 -- ---- the three parts
@@ -148,3 +149,86 @@ module _ (p : Replay) (begun : ℕ) (steps : List Step) (has : HasLimits p begun
     end = subst (λ (l : List Step). IsWhole (end_of p) l) ends_are has.end;
     replies = has.replies;
   }
+
+-- ---- and back
+
+module _ (p : Replay) (steps : List Step) (it : IsInterleaving p steps) where
+  abbrev m : ℕ
+  m = cpus_of p
+
+  firsts : AreBy m it.first
+  firsts = recursion_from_All (λ (s : Step). s.actor ≡ m) it.first it.begin_is_main
+
+  lows : AllByRecursion (λ (s : Step). s.actor < m) it.middle
+  lows = recursion_from_All (λ (s : Step). s.actor < m) it.middle it.middle_is_cpus
+
+  lasts : AreBy m it.last
+  lasts = recursion_from_All (λ (s : Step). s.actor ≡ m) it.last it.end_is_main
+
+  middle_none : of_actor m it.middle ≡ []
+  middle_none = by_list it.middle lows
+    where
+      by_list : (l : List Step) → AllByRecursion (λ (s : Step). s.actor < m) l → of_actor m l ≡ []
+      by_list [] h = refl
+      by_list (s ∷ ss) h = of_actor-other m [] s ss (λ e. let lt = h.0 in omega arith) ∙ by_list ss h.1
+
+  all_mains : of_actor m steps ≡ it.first ++ it.last
+  all_mains =
+      ap (of_actor m) it.parts ∙ filter-append (is_of m) it.first (it.middle ++ it.last)
+      ∙ (λ i. own_part m it.first firsts i ++ filter-append (is_of m) it.middle it.last i)
+      ∙ (λ i. it.first ++ (middle_none i ++ own_part m it.last lasts i))
+
+  all_owns : (cpu : ℕ) → cpu < m → of_actor cpu steps ≡ of_actor cpu it.middle
+  all_owns cpu lt =
+      let ne : m ≢ cpu = (λ e. omega arith) in
+      ap (of_actor cpu) it.parts ∙ filter-append (is_of cpu) it.first (it.middle ++ it.last)
+      ∙ (λ i. other_part cpu m it.first ne firsts i ++ filter-append (is_of cpu) it.middle it.last i)
+      ∙ (λ i. of_actor cpu it.middle ++ other_part cpu m it.last ne lasts i)
+      ∙ append-nil (of_actor cpu it.middle)
+
+  -- a step of a CPU behind so many of the main actor
+  stands_by : (firsts middle lasts before : List Step) (s : Step) (after : List Step) → AreBy m firsts → AllByRecursion (λ (t : Step). t.actor < m) middle → AreBy m lasts
+      → firsts ++ (middle ++ lasts) ≡ before ++ s ∷ after → s.actor ≢ m → length (of_actor m before) ≡ length firsts
+  stands_by [] [] (l ∷ ls) [] s after f g h e ne = let same : l ≡ s = cc in absurd (ne (ap (λ (t : Step). t.actor) (sym same) ∙ h.0))
+  stands_by [] [] (l ∷ ls) (b ∷ bs) s after f g h e ne =
+      absurd (ne (each_has (λ (t : Step). t.actor ≡ m) (l ∷ ls) s h (subst (λ (x : List Step). Has x s) (sym e) (has_middle (b ∷ bs) after s))))
+  stands_by [] [] [] [] s after f g h e ne = absurd (let t : ⊥ = cc in t)
+  stands_by [] [] [] (b ∷ bs) s after f g h e ne = absurd (let t : ⊥ = cc in t)
+  stands_by [] (x ∷ xs) ls [] s after f g h e ne = refl
+  stands_by [] (x ∷ xs) ls (b ∷ bs) s after f g h e ne =
+      let same : x ≡ b = cc in let rest : xs ++ ls ≡ bs ++ s ∷ after = cc in
+      let other : b.actor ≢ m = (λ q. let lt = g.0 in let w = ap (λ (t : Step). t.actor) same in omega arith) in
+      ap length (of_actor-other m [] b bs other) ∙ stands_by [] xs ls bs s after tt g.1 h rest ne
+  stands_by (x ∷ xs) ys ls [] s after f g h e ne = let same : x ≡ s = cc in absurd (ne (ap (λ (t : Step). t.actor) (sym same) ∙ f.0))
+  stands_by (x ∷ xs) ys ls (b ∷ bs) s after f g h e ne =
+      let same : x ≡ b = cc in let rest : xs ++ (ys ++ ls) ≡ bs ++ s ∷ after = cc in
+      ap length (of_actor-own m [] b bs (ap (λ (t : Step). t.actor) (sym same) ∙ f.0)) ∙ ap suc (stands_by xs ys ls bs s after f.1 g h rest ne)
+
+  pub limits_of : HasLimits p (length it.first) steps
+  limits_of = record {
+    actors = subst (AllByRecursion (λ (s : Step). s.actor ≤ m)) (sym it.parts)
+        (each_both (λ (s : Step). s.actor ≤ m) it.first (it.middle ++ it.last)
+        (each_so (λ (s : Step). s.actor ≡ m) (λ (s : Step). s.actor ≤ m) (λ s e. omega arith) it.first firsts)
+        (each_both (λ (s : Step). s.actor ≤ m) it.middle it.last
+        (each_so (λ (s : Step). s.actor < m) (λ (s : Step). s.actor ≤ m) (λ s e. omega arith) it.middle lows)
+        (each_so (λ (s : Step). s.actor ≡ m) (λ (s : Step). s.actor ≤ m) (λ s e. omega arith) it.last lasts)));
+    enough = (let k = ap length all_mains ∙ length-append it.first it.last in omega arith);
+    begin = subst (λ (l : List Step). IsWhole (begin_of p) l) (sym (ap (take (length it.first)) all_mains ∙ take_at it.first it.last (length it.first) refl)) it.begin;
+    each_cpu = λ cpu lt. subst (λ (l : List Step). IsWhole (cpu_of p cpu) l) (sym (all_owns cpu lt)) (it.each_cpu cpu lt);
+    end = subst (λ (l : List Step). IsWhole (end_of p) l) (sym (ap (drop (length it.first)) all_mains ∙ drop_at it.first it.last (length it.first) refl)) it.end;
+    between = λ before s after e ne. stands_by it.first it.middle it.last before s after firsts lows lasts (sym it.parts ∙ e) ne;
+    replies = it.replies;
+  }
+
+-- another list with the same limits, as one that is put in order
+pub limits_kept : (p : Replay) (begun : ℕ) (made steps : List Step) → HasLimits p begun made → SameLimits steps made → AllByRecursion (λ (s : Step). s.actor ≤ cpus_of p) steps
+    → StandsBetween (cpus_of p) begun steps → RepliesFollow (answers_of p) steps → HasLimits p begun steps
+limits_kept p begun made steps has same low between replies = record {
+  actors = low;
+  enough = (let k = ap length (same.actors (cpus_of p)) in let e = has.enough in omega arith);
+  begin = subst (λ (l : List Step). IsWhole (begin_of p) l) (sym (ap (take begun) (same.actors (cpus_of p)))) has.begin;
+  each_cpu = λ cpu lt. subst (λ (l : List Step). IsWhole (cpu_of p cpu) l) (sym (same.actors cpu)) (has.each_cpu cpu lt);
+  end = subst (λ (l : List Step). IsWhole (end_of p) l) (sym (ap (drop begun) (same.actors (cpus_of p)))) has.end;
+  between = between;
+  replies = replies;
+}
