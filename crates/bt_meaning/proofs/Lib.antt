@@ -4,11 +4,14 @@ pub mod DueOrder
 pub mod Eachs
 pub mod ItemByItem
 pub mod OwnAgenda
+pub mod OwnCalls
+pub mod Placed
 pub mod Rises
 pub mod SerialLaws
 pub mod SerialMade
 pub mod Stamps
 pub mod Stepping
+pub mod TextLaws
 pub mod ThreeParts
 pub mod TicksAfter
 pub mod WalkStops

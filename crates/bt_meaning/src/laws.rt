@@ -11,6 +11,8 @@ ghost use Rattle.actor_plan.specs.Agendas.{AreInTurn};
 ghost use Rattle.bt_walk.specs.Walk.{walk};
 ghost use Rattle.bt_meaning.specs.Interleavings.{IsInterleaving};
 ghost use Rattle.bt_meaning.specs.Jobs.{IsJob};
+ghost use Rattle.bt_meaning.specs.OwnSteps.{IsOwnStep};
+ghost use Rattle.std.specs.List.{AllByRecursion};
 ghost use Rattle.bt_meaning.specs.Replays.{PlansAreOwn, Replay};
 ghost use Rattle.bt_meaning.specs.Serial.{serial_steps};
 ghost use Rattle.bt_meaning.specs.Ticks.{BodiesOnlyStop, OnlyStops, TicksComeAfter};
@@ -38,3 +40,12 @@ pub fn ticks_come_after()
     ensures script { (script : Typed) (attached : Attached) (r : Recording) (steps : List Step) → IsJob script attached r →
         IsInterleaving (replay_of script attached r) steps → TicksComeAfter (replay_of script attached r) steps }
 {}
+
+/// In an interleaving of a script each step is one that its object takes, its reply is of the kind that its operation has, and what it
+/// emits is an item of the script's formats and maps, so that it has a text.
+pub fn steps_are_own()
+    ensures { (script : Typed) (attached : Attached) (r : Recording) (steps : List Step) → IsJob script attached r →
+        IsInterleaving (replay_of script attached r) steps → AllByRecursion (IsOwnStep script attached r) steps }
+{
+    map_printer::laws::merged_rows_fit();
+}
