@@ -7,6 +7,7 @@ use Rattle.bt_core.specs.declared.step.Op.TheVariants.{Add as AddOp}
 use Rattle.bt_core.specs.declared.step.Reply.{Reply}
 use Rattle.bt_core.specs.declared.step.Reply.TheVariants.{Done, Value, Pairs, Aggs, Last, Stopped}
 use Rattle.bt_core.specs.Interaction.{Interaction, Ended, and_then, ask}
+use Rattle.bt_core.specs.Ports.{Setting}
 use Rattle.bpf_insn.specs.declared.insn.AluOp.TheVariants.{Add, Mov}
 use Rattle.bpf_insn.specs.declared.insn.Insn.{Insn}
 use Rattle.bpf_insn.specs.declared.insn.Insn.TheVariants.{Alu, Call, Exit}
@@ -34,6 +35,10 @@ counting_bytes =
     ∷ 0x85 ∷ 0 ∷ 0 ∷ 0 ∷ 0x04 ∷ 0 ∷ 0 ∷ 0
     ∷ 0x95 ∷ 0 ∷ 0 ∷ 0 ∷ 0 ∷ 0 ∷ 0 ∷ 0
     ∷ []
+
+-- the only CPU makes the steps, and no tick stands
+abbrev pub count_setting : Setting
+count_setting = record { actor = 0; actors = 1; ticks = 0; maps = [] }
 
 -- a number is added to map 0 under the key without parts, in the only CPU's own table
 abbrev pub adding : ℤ → List ℕ → Interaction Answer

@@ -60,11 +60,15 @@ impl CountPort {
 }
 
 impl Ports for CountPort {
-    ghost use Rattle.bt_top.specs.Code.{count_helper};
+    ghost use Rattle.bt_top.specs.Code.{count_helper, count_setting};
+
+    type Home = ();
 
     ghost steps = { λ s. s.steps };
 
     ghost helper = { λ _. count_helper };
+
+    ghost fixed = { λ _. record { setting = count_setting; home = tt } };
 
     fn call(
         &mut self,
