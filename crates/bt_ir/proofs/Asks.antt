@@ -5,7 +5,7 @@ use Rattle.std.specs.Prelude.{get_or}
 use Rattle.bt_core.specs.declared.step.Step.{Step}
 use Rattle.bt_core.specs.Interaction.{Interaction, Ended, Asks, and_then, Runs, Whole, Part, Left}
 use Rattle.bt_core.specs.Ports.{Setting}
-use Rattle.bt_core.proofs.InteractionLaws.{Left-here, Left-Whole, Left-Part, Left-is, Left-and_then, Part-and_then, Whole-Ended}
+use Rattle.bt_core.proofs.InteractionLaws.{Left-Whole, Left-Part, Left-is, Left-and_then, Part-and_then, Whole-Ended}
 use Rattle.bt_ir.specs.declared.instr.Instr.{Instr}
 use Rattle.bt_ir.specs.declared.stack.State.{State}
 use Rattle.bt_ir.specs.declared.step.View.{View}

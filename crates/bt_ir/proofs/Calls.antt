@@ -1,5 +1,5 @@
 -- Single calls.
-use Rattle.std.proofs.Common.{◌≡◌, ℕ, ap, ◌∙◌, sym, List}
+use Rattle.std.proofs.Common.{◌≡◌, ℕ, sym, List}
 use Rattle.bt_core.specs.declared.map.MapId.{MapId}
 use Rattle.bt_core.specs.declared.step.Op.TheVariants as ops
 use Rattle.bt_core.specs.declared.step.Step.{Step}

@@ -1,19 +1,13 @@
 -- The run of blocks: where exits lead, and what may be asked.
-use Rattle.std.proofs.Common.{◌≡◌, ℕ, zero, suc, ◌+◌, ◌-◌, ◌*◌, ◌<◌, ◌≤◌, List, [], ◌∷◌, ◌++◌, length, Bool, true, false, Option, Some, None, refl, sym, ap, ◌∙◌, subst, arith, inl, inr}
-use Rattle.std.specs.Prelude.{ℤ, pos, negsuc, ◌⊎◌, ◌&&◌, ◌==◌, slice_get, nat_le, cond, IsTrue}
+use Rattle.std.proofs.Common.{◌≡◌, ℕ, zero, suc, ◌+◌, ◌-◌, ◌*◌, ◌<◌, ◌≤◌, List, [], ◌∷◌, length, Bool, true, false, Option, Some, refl, sym, ap, ◌∙◌, subst, arith, inl, inr}
+use Rattle.std.specs.Prelude.{ℤ, pos, negsuc, ◌⊎◌, ◌&&◌, ◌==◌, slice_get, nat_le, cond}
 use Rattle.std.proofs.lemmas.Bool.{and_parts, leb-true, eqb-true}
 use Rattle.std.proofs.Math.Nat.{mul-le-mul_right}
 use Rattle.bt_core.specs.declared.ending.Ending.{Ending}
-use Rattle.bt_core.specs.declared.map.Shape.{Shape}
-use Rattle.bt_core.specs.declared.map.Shape.TheVariants as shapes
 use Rattle.bt_core.specs.declared.step.Step.{Step}
-use Rattle.bt_core.specs.declared.value.Value.{Value}
-use Rattle.bt_core.specs.declared.value.Value.TheVariants.{Int, Str}
-use Rattle.bt_core.specs.Interaction.{Interaction, Ended, and_then, Whole, Part, Left}
-use Rattle.bt_core.specs.Kinds.{HasShape}
+use Rattle.bt_core.specs.Interaction.{Interaction, and_then, Whole, Part, Left}
 use Rattle.bt_core.specs.Ports.{Setting}
 use Rattle.bt_core.proofs.InteractionLaws.{Left-here, Left-Whole, Left-Part, Left-is, Left-and_then, Part-and_then, Whole-Ended, Performed-none}
-use Rattle.typed_tree.specs.Scope.{same_shapes}
 use Rattle.bt_ir.specs.declared.blocks.Block.{Block}
 use Rattle.bt_ir.specs.declared.blocks.Exit.{Exit}
 use Rattle.bt_ir.specs.declared.blocks.Exit.TheVariants.{Goto, Branch, Count, Gate, Again, End}
@@ -21,8 +15,8 @@ use Rattle.bt_ir.specs.declared.stack.State.{State}
 use Rattle.bt_ir.specs.declared.stack.Way.{Way}
 use Rattle.bt_ir.specs.declared.stack.Way.TheVariants.{To, Ends}
 use Rattle.bt_ir.specs.declared.step.View.{View}
-use Rattle.bt_ir.specs.Meaning.{Scene, instrs_run, way_of, after_exit, goes_on, exit_run, block_run, run_from, blocks_run, count_way, counted, turn_way}
-use Rattle.bt_ir.specs.Running.{CanAsk, MayAsk, AreReady, AllReady}
+use Rattle.bt_ir.specs.Meaning.{Scene, instrs_run, way_of, after_exit, goes_on, exit_run, block_run, run_from, blocks_run, count_way, turn_way}
+use Rattle.bt_ir.specs.Running.{MayAsk, AreReady, AllReady}
 use Rattle.bt_ir.specs.Values.{number_of, top, holds}
 use Rattle.bt_ir.specs.Ways.{depth_in, depth_at, lies_below, leads, lead_from, lead_forward}
 use Rattle.bt_ir.proofs.Asks.{Can-first, Can-after}

@@ -1,16 +1,14 @@
 -- A typed body's run needs only what it is given.
-use Rattle.std.proofs.Common.{◌≡◌, ℕ, zero, suc, ◌+◌, ◌-◌, ◌*◌, ◌<◌, ◌≤◌, List, [], ◌∷◌, ◌++◌, length, Bool, true, false, Option, Some, None, refl, sym, ap, ◌∙◌, subst, arith, inl, inr}
-use Rattle.std.specs.Prelude.{ℤ, pos, negsuc, ◌⊎◌, ◌&&◌, IsTrue, IsSomeAnd, max, slice_get, get_or, nat_le, int_le, cond}
+use Rattle.std.proofs.Common.{◌≡◌, ℕ, zero, suc, ◌+◌, ◌-◌, ◌*◌, ◌<◌, ◌≤◌, List, [], ◌∷◌, length, Bool, true, false, Option, Some, None, refl, sym, ap, subst, arith, inl, inr}
+use Rattle.std.specs.Prelude.{ℤ, pos, negsuc, ◌⊎◌, ◌&&◌, max, slice_get, get_or, int_le, cond}
 use Rattle.std.proofs.Math.Nat.{le-max_left, le-max_right}
 use Rattle.std.proofs.lemmas.Bool.{and_parts, leb-true}
 use Rattle.bt_core.specs.declared.context.Context.{Context}
-use Rattle.bt_core.specs.declared.ending.Ending.{Ending}
 use Rattle.bt_core.specs.declared.map.MapDecl.{MapDecl}
 use Rattle.bt_core.specs.declared.map.MapId.{MapId}
 use Rattle.bt_core.specs.declared.map.Shape.{Shape}
 use Rattle.bt_core.specs.declared.map.Shape.TheVariants as shapes
 use Rattle.bt_core.specs.declared.limits.TheConstants.{KEY_PARTS}
-use Rattle.bt_core.specs.Interaction.{Interaction}
 use Rattle.bt_core.specs.Kinds.{HasShape}
 use Rattle.bt_core.specs.Ports.{Setting}
 use Rattle.tracefs_format.specs.declared.field.FieldKind.{FieldKind}
@@ -23,14 +21,13 @@ use Rattle.bt_ir.specs.declared.instr.Instr.{Instr}
 use Rattle.bt_ir.specs.declared.instr.Instr.TheVariants as i
 use Rattle.bt_ir.specs.declared.probe.IrProbe.{IrProbe}
 use Rattle.bt_ir.specs.declared.stack.State.{State}
-use Rattle.bt_ir.specs.declared.stack.Way.{Way}
-use Rattle.bt_ir.specs.declared.stack.Way.TheVariants.{To, Ends}
+use Rattle.bt_ir.specs.declared.stack.Way.TheVariants.{To}
 use Rattle.bt_ir.specs.declared.step.View.{View}
 use Rattle.bt_ir.specs.Asking.{kind_of, kind_in}
 use Rattle.bt_ir.specs.Figures.{sizes_of, instr_bytes}
-use Rattle.bt_ir.specs.Meaning.{Scene, instrs_run, way_of, after_exit, goes_on, exit_run, block_run, run_from, blocks_run, count_way, turn_way}
-use Rattle.bt_ir.specs.Running.{MayAsk, CanRun, CanSweep, IsReady, AreReady, AllReady, IsServedAs, ServesInstr, ServesInstrs, ServesBlocks, end_read, ends_read, payload_need, scene_in}
-use Rattle.bt_ir.specs.Typing.{Ground, takes, names, end_with, turned, front_of, may_stand, all_stand, all_turned, stack_in, goes_with, exit_stands, block_stands, each_stands, are_typed, has_room, is_key, is_gathering, holds_shape}
+use Rattle.bt_ir.specs.Meaning.{Scene, instrs_run, after_exit, goes_on, exit_run, block_run, run_from, blocks_run, count_way, turn_way}
+use Rattle.bt_ir.specs.Running.{MayAsk, CanRun, CanSweep, IsReady, AreReady, AllReady, IsServedAs, ServesInstr, ServesInstrs, ServesBlocks, end_read, ends_read, payload_need}
+use Rattle.bt_ir.specs.Typing.{Ground, takes, names, end_with, turned, front_of, may_stand, all_stand, all_turned, stack_in, goes_with, exit_stands, block_stands, each_stands, has_room, is_key, is_gathering}
 use Rattle.bt_ir.specs.Values.{number_of, holds, top, below}
 use Rattle.bt_ir.proofs.Asks.{Can-and_then}
 use Rattle.bt_ir.proofs.Shaped.{same_shapes-is, ends_is, shaped-pop, shaped-put}

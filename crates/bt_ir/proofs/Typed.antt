@@ -1,9 +1,8 @@
 -- Typed blocks ask only for what a port takes that serves the maps that they name.
-use Rattle.std.proofs.Common.{◌≡◌, ℕ, zero, suc, ◌+◌, ◌-◌, ◌<◌, ◌≤◌, List, [], ◌∷◌, ◌++◌, length, Bool, true, false, Option, Some, None, refl, sym, ap, ◌∙◌, subst, arith, append_assoc, append-nil, length-append, inl, inr}
-use Rattle.std.specs.Prelude.{ℤ, pos, ◌&&◌, IsSomeAnd, slice_get, nat_le, cond}
-use Rattle.std.proofs.lemmas.Bool.{and_parts, leb-true}
-use Rattle.bt_core.specs.declared.limits.TheConstants.{KEY_PARTS, PARTS}
-use Rattle.bt_core.specs.declared.map.AggKind.{AggKind}
+use Rattle.std.proofs.Common.{◌≡◌, ℕ, zero, suc, ◌+◌, ◌<◌, ◌≤◌, List, [], ◌∷◌, ◌++◌, length, true, false, Option, Some, None, refl, sym, ap, ◌∙◌, subst, arith, append_assoc, append-nil}
+use Rattle.std.specs.Prelude.{ℤ, pos, ◌&&◌, slice_get, cond}
+use Rattle.std.proofs.lemmas.Bool.{and_parts}
+use Rattle.bt_core.specs.declared.limits.TheConstants.{PARTS}
 use Rattle.bt_core.specs.declared.map.MapDecl.{MapDecl}
 use Rattle.bt_core.specs.declared.map.MapId.{MapId}
 use Rattle.bt_core.specs.declared.map.MapKind.{MapKind}
@@ -17,24 +16,23 @@ use Rattle.bt_core.specs.declared.step.Op.TheVariants as ops
 use Rattle.bt_core.specs.declared.step.Reply.{Reply}
 use Rattle.bt_core.specs.declared.value.Value.{Value}
 use Rattle.bt_core.specs.declared.value.Value.TheVariants.{Int, Str}
-use Rattle.bt_core.specs.Interaction.{Interaction, Ended, Asks, and_then, ask}
 use Rattle.bt_core.specs.KeyBytes.{part_of}
 use Rattle.bt_core.specs.Kinds.{HasShape, IsOfShape, IsOfKind, IsShared, IsAggregation}
-use Rattle.bt_core.specs.Ports.{Setting, CanStep, IsSharedOp}
+use Rattle.bt_core.specs.Ports.{Setting, CanStep}
 use Rattle.typed_tree.specs.Scope.{same_shapes, same_kind, is_declared, is_shared, is_there, is_agg, kind_of_shape}
 use Rattle.bt_ir.specs.declared.instr.Instr.{Instr}
 use Rattle.bt_ir.specs.declared.instr.Instr.TheVariants as i
 use Rattle.bt_ir.specs.declared.stack.State.{State}
 use Rattle.bt_ir.specs.declared.sweep.Sweep.{Sweep}
 use Rattle.bt_ir.specs.declared.sweep.Sweep.TheVariants.{Read, Clear, Zero}
-use Rattle.bt_ir.specs.Asking.{part, told, got, kind_of, kind_in, holder, holders, sweep_op, asked_from, swept}
+use Rattle.bt_ir.specs.Asking.{part, kind_of, kind_in, holder, holders, sweep_op, asked_from, swept}
 use Rattle.bt_ir.specs.Figures.{sizes_of, instr_bytes}
-use Rattle.bt_ir.specs.Meaning.{Scene, instr_run, instrs_run, key_on, unkeyed, popped}
-use Rattle.bt_ir.specs.Running.{CanAsk, MayAsk, IsServedAs, ServesInstr, ServesInstrs}
+use Rattle.bt_ir.specs.Meaning.{Scene, instr_run, instrs_run}
+use Rattle.bt_ir.specs.Running.{CanAsk, IsServedAs, ServesInstr, ServesInstrs}
 use Rattle.bt_ir.specs.Typing.{Ground, front_of, last_of, takes, gives, names, end_with, turned, may_stand, all_stand, all_turned, has_room, holds_shape, gathers, is_key, is_gathering}
-use Rattle.bt_ir.specs.Values.{as_shape, number_of, top, below}
+use Rattle.bt_ir.specs.Values.{number_of, top, below}
 use Rattle.bt_ir.proofs.Asks.{Can-and_then}
-use Rattle.bt_ir.proofs.Shaped.{same_shapes-is, ends_is, shaped-split, shaped-pop, shaped-put, as_shape-shaped, shape_of-shaped, shaped-length}
+use Rattle.bt_ir.proofs.Shaped.{same_shapes-is, ends_is, shaped-split, shaped-pop, shaped-put, as_shape-shaped, shape_of-shaped}
 
 part_below : (key : List Value) → part_of key < PARTS
 part_below key = omega arith

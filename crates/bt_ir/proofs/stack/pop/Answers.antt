@@ -1,4 +1,4 @@
-use Rattle.std.proofs.Common.{◌≡◌, ℕ, ◌-◌, length, ◌∙◌, ap, subst, Some}
+use Rattle.std.proofs.Common.{◌≡◌, ℕ, ◌-◌, ◌∙◌, ap, subst, Some}
 use Rattle.std.specs.Prelude.{slice_get, remove}
 use Rattle.bt_ir.proofs.Stacks.{top-last, below-remove}
 use Rattle.bt_ir.proofs.stack.pop.Goals as goal
