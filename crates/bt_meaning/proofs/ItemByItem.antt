@@ -71,17 +71,17 @@ module _ {I : Type 0} (checks : Bool) (work : I → Interaction ℕ) where
 module _ (p : Replay) where
   -- ---- what is taken comes after what was there, by CPUs, and the replies follow
 
-  abbrev took : Scheduled → List Step → List Step
+  abbrev pub took : Scheduled → List Step → List Step
   took s before = then_steps p (cpu_of_due s.due) (alone p (cpu_of_due s.due) (item_of s)) before
 
-  abbrev next_going : Scheduled → List Bool → List Step → List Bool
+  abbrev pub next_going : Scheduled → List Bool → List Step → List Bool
   next_going s going before = slice_set going (cpu_of_due s.due) (then_value p (cpu_of_due s.due) (alone p (cpu_of_due s.due) (item_of s)) before).to_end
 
-  is_taken : (s : Scheduled) (ss : List Scheduled) (going : List Bool) (before : List Step) → slice_index_or going (cpu_of_due s.due) false ≡ true
+  pub is_taken : (s : Scheduled) (ss : List Scheduled) (going : List Bool) (before : List Step) → slice_index_or going (cpu_of_due s.due) false ≡ true
       → taken p (s ∷ ss) going before ≡ taken p ss (next_going s going before) (took s before)
   is_taken s ss going before e = ap (λ (b : Bool). if b then taken p ss (next_going s going before) (took s before) else taken p ss going before) e
 
-  is_passed : (s : Scheduled) (ss : List Scheduled) (going : List Bool) (before : List Step) → slice_index_or going (cpu_of_due s.due) false ≡ false
+  pub is_passed : (s : Scheduled) (ss : List Scheduled) (going : List Bool) (before : List Step) → slice_index_or going (cpu_of_due s.due) false ≡ false
       → taken p (s ∷ ss) going before ≡ taken p ss going before
   is_passed s ss going before e = ap (λ (b : Bool). if b then taken p ss (next_going s going before) (took s before) else taken p ss going before) e
 

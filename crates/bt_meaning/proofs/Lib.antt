@@ -8,8 +8,11 @@ pub mod OwnCalls
 pub mod Placed
 pub mod Rises
 pub mod SerialLaws
+pub mod SerialMade
+pub mod Stamps
 pub mod Stepping
 pub mod TextLaws
+pub mod ThreeParts
 pub mod TicksAfter
 pub mod WalkStops
 pub mod Walked

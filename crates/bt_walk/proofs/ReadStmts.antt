@@ -1,31 +1,28 @@
 -- Statements and whole bodies do the same by another way of reading that reads alike what can come.
-use Rattle.std.proofs.Common.{◌≡◌, ◌++◌, ◌+◌, ◌<◌, ℕ, zero, suc, ℤ, pos, List, [], ◌∷◌, Option, Some, None, Bool, true, false, map, refl, sym, ap, ◌∙◌, subst, arith}
-use Rattle.std.specs.Prelude.{IsTrue, IsSomeAnd, slice_get, is_none}
+use Rattle.std.proofs.Common.{◌≡◌, ◌++◌, ◌+◌, ℕ, zero, suc, ℤ, pos, List, [], ◌∷◌, Option, Some, None, Bool, true, false, map, refl, sym, ap, ◌∙◌, subst}
+use Rattle.std.specs.Prelude.{IsTrue, is_none}
 use Rattle.std.specs.List.{flat_map}
 use Rattle.std.proofs.lemmas.Bool.{and_parts}
 use Rattle.std.proofs.lemmas.List.Concat.{flat_map-append}
-use Rattle.bt_core.specs.declared.context.Context.{Context}
 use Rattle.bt_core.specs.declared.ending.Ending.{Ending}
 use Rattle.bt_core.specs.declared.item.Cell.{Cell}
 use Rattle.bt_core.specs.declared.item.Item.TheVariants as items
-use Rattle.bt_core.specs.declared.map.MapDecl.{MapDecl}
 use Rattle.bt_core.specs.declared.map.MapId.{MapId}
 use Rattle.bt_core.specs.declared.map.MapKind.{MapKind}
-use Rattle.bt_core.specs.declared.map.MapKind.TheVariants.{Ints, Strs, Aggs}
+use Rattle.bt_core.specs.declared.map.MapKind.TheVariants.{Ints}
 use Rattle.bt_core.specs.declared.map.Shape.{Shape}
 use Rattle.bt_core.specs.declared.map.Shape.TheVariants as shapes
 use Rattle.bt_core.specs.declared.operator.BinOp.{BinOp}
 use Rattle.bt_core.specs.declared.step.ObjectId.{ObjectId}
-use Rattle.bt_core.specs.declared.step.ObjectId.TheVariants.{Out, Cpu, Shared}
+use Rattle.bt_core.specs.declared.step.ObjectId.TheVariants.{Out}
 use Rattle.bt_core.specs.declared.step.Op.{Op}
 use Rattle.bt_core.specs.declared.step.Op.TheVariants as ops
 use Rattle.bt_core.specs.declared.step.Reply.{Reply}
 use Rattle.bt_core.specs.declared.value.Value.{Value}
 use Rattle.bt_core.specs.declared.value.Value.TheVariants.{Int}
 use Rattle.bt_core.specs.Arithmetic.{binary_value}
-use Rattle.bt_core.specs.Interaction.{Interaction, Ended, Call}
-use Rattle.map_printer.specs.Merged.{rows_in, all_rows, merged, merged_rows}
-use Rattle.typed_tree.specs.declared.body.TypedBody.{TypedBody}
+use Rattle.bt_core.specs.Interaction.{Ended, Call}
+use Rattle.map_printer.specs.Merged.{rows_in, merged, merged_rows}
 use Rattle.typed_tree.specs.declared.expr.AnyExpr.{AnyExpr}
 use Rattle.typed_tree.specs.declared.expr.NumExpr.{NumExpr}
 use Rattle.typed_tree.specs.declared.stmt.TypedBlock.{TypedBlock, roll-TypedBlock, map-TypedBlock, fold-roll-TypedBlock, ind-TypedBlock}
@@ -41,13 +38,13 @@ use Rattle.bt_walk.specs.declared.flow.Flow.TheVariants.{Next, Break, Continue, 
 use Rattle.bt_walk.specs.declared.flow.Frame.{Frame}
 use Rattle.bt_walk.specs.declared.sweep.Sweep.TheVariants.{Read}
 use Rattle.bt_walk.specs.declared.view.View.{View}
-use Rattle.bt_walk.specs.Does.{Scene, Does, given, seen, changed, asked, bind, then, told, in_order}
+use Rattle.bt_walk.specs.Does.{Scene, Does, given, seen, changed, asked, bind, told, in_order}
 use Rattle.bt_walk.specs.Exprs.{value_does, values_do, number_does}
-use Rattle.bt_walk.specs.Maps.{number_of, part, get, set, kind_of, holder, holders, sweep_op, asked_from, swept}
+use Rattle.bt_walk.specs.Maps.{number_of, get, set, kind_of, holder, holders, sweep_op, asked_from, swept}
 use Rattle.bt_walk.specs.Reading.{Reader, number_under, updated_under, value_by, values_by, number_by, number_or_one_by, printed, arm_by, stmt_by, block_by, guarded_by, tree_by, walk_by}
 use Rattle.bt_walk.specs.SameUnder.{SameTo}
-use Rattle.bt_walk.specs.Stmts.{plain, stmt_layer, block_layer, stmt_does, block_does, number_or_one, kind_seen, print, clear, zero_all, jump_to, cut, update_at, if_next, in_turn, first_arm, block_or_next, arm_does, entered, turn, turns, tests, while_true, again}
-use Rattle.bt_walk.specs.Walk.{walk, fresh, guarded, ending_of, tree_does}
+use Rattle.bt_walk.specs.Stmts.{plain, stmt_layer, block_layer, stmt_does, block_does, number_or_one, kind_seen, print, clear, zero_all, jump_to, cut, update_at, if_next, in_turn, first_arm, arm_does, entered, turn, turns, tests, while_true, again}
+use Rattle.bt_walk.specs.Walk.{walk, fresh, guarded, tree_does}
 use Rattle.bt_walk.specs.Walked.{Fits, scene_in, scope_in}
 use Rattle.bt_walk.proofs.SameLaws.{SameTo-and_then}
 use Rattle.bt_walk.proofs.ReadExprs.{ReadsAlike, call_at, Ends, Tied, given-tied, self-tied, bind-tied, bind-same, first-same, asked-tied, either-tied, AnyRead, any_read, num_read, halves, values-same, number-tied}

@@ -1,14 +1,12 @@
 -- Readers that take what is there read alike all replies of the right kinds.
-use Rattle.std.proofs.Common.{◌≡◌, ℕ, ℤ, List, Option, Some, None, refl, sym, ap, ◌∙◌, subst}
-use Rattle.std.specs.Prelude.{IsTrue, IsSomeAnd, slice_get, All}
+use Rattle.std.proofs.Common.{◌≡◌, ℕ, List, Option, Some, None, refl, subst}
+use Rattle.std.specs.Prelude.{IsSomeAnd, slice_get}
 use Rattle.bt_core.specs.declared.context.Context.{Context}
-use Rattle.bt_core.specs.declared.ending.Ending.{Ending}
 use Rattle.bt_core.specs.declared.map.AggKind.{AggKind}
 use Rattle.bt_core.specs.declared.map.MapDecl.{MapDecl}
 use Rattle.bt_core.specs.declared.map.MapId.{MapId}
 use Rattle.bt_core.specs.declared.map.MapKind.{MapKind}
 use Rattle.bt_core.specs.declared.map.MapKind.TheVariants.{Ints, Strs, Aggs}
-use Rattle.bt_core.specs.declared.map.Shape.{Shape}
 use Rattle.bt_core.specs.declared.map.Shape.TheVariants as shapes
 use Rattle.bt_core.specs.declared.step.Op.TheVariants as ops
 use Rattle.bt_core.specs.declared.step.Reply.{Reply}
@@ -16,19 +14,18 @@ use Rattle.bt_core.specs.declared.step.Reply.TheVariants as replies
 use Rattle.bt_core.specs.declared.value.Value.{Value}
 use Rattle.bt_core.specs.declared.value.Value.TheVariants.{Int, Str}
 use Rattle.bt_core.specs.Kinds.{IsOfKind}
-use Rattle.bt_core.specs.Ports.{Setting, Serves, IsReplyOf, IsSharedReply, IsTableReply}
+use Rattle.bt_core.specs.Ports.{Setting, IsReplyOf, IsSharedReply, IsTableReply}
 use Rattle.map_printer.specs.Merged.{rows_in}
 use Rattle.typed_tree.specs.declared.body.TypedBody.{TypedBody}
-use Rattle.typed_tree.specs.Scope.{is_declared, is_there, decl_of, kind_of_shape}
 use Rattle.bt_walk.specs.declared.sweep.Sweep.TheVariants.{Read}
 use Rattle.bt_walk.specs.declared.view.View.{View}
-use Rattle.bt_walk.specs.Maps.{number_of, text_of, value_of, part, kind_of, holder, sweep_op}
+use Rattle.bt_walk.specs.Maps.{number_of, text_of, value_of, kind_of, holder, sweep_op}
 use Rattle.bt_walk.specs.Reading.{Reader, TakesWhatIsThere, own_reader, walk_by}
 use Rattle.bt_walk.specs.SameUnder.{SameUnder, SameAlways, IsReplyTo}
 use Rattle.bt_walk.specs.Walk.{walk}
-use Rattle.bt_walk.specs.Walked.{CanWalk, IsServed, CanSweep}
-use Rattle.bt_walk.proofs.Declared.{Found, valued, sweep_can}
-use Rattle.bt_walk.proofs.ReadExprs.{ReadsAlike, call_at}
+use Rattle.bt_walk.specs.Walked.{CanWalk, IsServed}
+use Rattle.bt_walk.proofs.Declared.{valued}
+use Rattle.bt_walk.proofs.ReadExprs.{ReadsAlike}
 use Rattle.bt_walk.proofs.ReadStmts.{walks-same}
 
 -- what holds of the declaration that is found

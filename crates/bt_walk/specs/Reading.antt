@@ -1,5 +1,5 @@
 -- The walk by any way of reading replies.
-use Rattle.std.specs.Prelude.{◌≡◌, ℕ, ℤ, pos, Bool, cond, List, [], Option, Some, None, map}
+use Rattle.std.specs.Prelude.{◌≡◌, ℕ, ℤ, pos, Bool, cond, List, Option, Some, None, map}
 use Rattle.std.specs.List.{flat_map}
 use Rattle.bt_core.specs.declared.agg.Agg.{Agg}
 use Rattle.bt_core.specs.declared.context.Context.{Context}
@@ -9,7 +9,7 @@ use Rattle.bt_core.specs.declared.item.Item.TheVariants as items
 use Rattle.bt_core.specs.declared.map.AggKind.{AggKind}
 use Rattle.bt_core.specs.declared.map.MapId.{MapId}
 use Rattle.bt_core.specs.declared.map.MapKind.{MapKind}
-use Rattle.bt_core.specs.declared.map.MapKind.TheVariants.{Ints, Strs, Aggs}
+use Rattle.bt_core.specs.declared.map.MapKind.TheVariants.{Aggs}
 use Rattle.bt_core.specs.declared.operator.BinOp.{BinOp}
 use Rattle.bt_core.specs.declared.step.ObjectId.TheVariants.{Out}
 use Rattle.bt_core.specs.declared.step.Op.TheVariants as ops

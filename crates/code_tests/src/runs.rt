@@ -21,9 +21,13 @@ impl Ports for Counter {
     ghost use Rattle.bt_core.specs.Interaction.{Ended};
     ghost use Rattle.bpf_insn.specs.Machine.{Gave, BadArgument};
 
+    type Home = ();
+
     ghost steps = { λ _. [] };
 
     ghost helper = { λ _ number _ spaces. cond (nat_eq number 4) (Ended (Gave 0 spaces.frame)) (Ended BadArgument) };
+
+    ghost fixed = { λ _. record { setting = record { actor = 0; actors = 1; ticks = 0; maps = [] }; home = tt } };
 
     #[tactic(auto, using(bt_core::proofs::InteractionLaws::composing))]
     fn call(

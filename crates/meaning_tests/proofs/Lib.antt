@@ -1,3 +1,7 @@
+pub mod BodyParts
 pub mod Checking
+pub mod IntervalLists
 pub mod Refusing
+pub mod ScriptReplays
 pub mod Texts
+pub mod Walking

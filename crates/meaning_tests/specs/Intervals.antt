@@ -1,10 +1,10 @@
 -- Events of two CPUs that are counted, and ticks that print the counts:
 --     tracepoint:t:e { @ = count(); } interval:s:1 { print(@); }
 -- and the same with `print(@); clear(@);`. Each CPU has events at 0.5 and 1.5 seconds; the ticks stand at 1 and 2 seconds.
-use Rattle.std.specs.Prelude.{ℕ, ◌==◌, if◌then◌else◌, true, false, List, [], ◌∷◌, ◌++◌}
+use Rattle.std.specs.Prelude.{ℕ, zero, suc, true, false, List, [], ◌∷◌, ◌++◌}
+use Rattle.bt_ast.specs.declared.attached.Attached.{Attached}
 use Rattle.bt_core.specs.declared.step.Step.{Step}
 use Rattle.bt_core.specs.Interaction.{Interaction, Ended}
-use Rattle.actor_plan.specs.Plans.{Plan}
 use Rattle.rec_format.specs.declared.recording.Recording.{Recording}
 use Rattle.bt_meaning.specs.Replays.{Replay}
 use Rattle.meaning_tests.specs.Written.{attached_with, tick_at, cpu_with, counts_decl, counts_one, prints, clears, adds, crosses, reads, clears_of, emits}
@@ -17,30 +17,37 @@ two_cpus = record {
   cpus = cpu_with 0 (500000000 ∷ 1500000000 ∷ []) ∷ cpu_with 1 (500000000 ∷ 1500000000 ∷ []) ∷ [];
 }
 
--- body 0 counts, and this is body 1
-abbrev pub counting : Interaction ℕ → ℕ → Plan
-counting at_tick actor = record {
-  actor = actor;
-  actors = 3;
-  maps = counts_decl ∷ [];
-  sizes = 0 ∷ 0 ∷ [];
-  run = λ body context payload. if body == 0 then counts_one actor [] else at_tick;
-}
+-- at each event and each tick
+abbrev pub two_ticks : Attached
+two_ticks = attached_with (tick_at 1 1000000000 ∷ tick_at 1 2000000000 ∷ [])
 
-abbrev pub replaying : Interaction ℕ → Replay
-replaying at_tick = record {
+-- body 0 is run at events and body 1 at ticks, and there are no others
+abbrev pub runs_of : Interaction ℕ → Interaction ℕ → ℕ → Interaction ℕ
+runs_of at_event at_tick zero = at_event
+runs_of at_event at_tick (suc zero) = at_tick
+runs_of at_event at_tick (suc (suc body)) = Ended 0
+
+-- the bodies have layouts of these sizes, and a count takes so many instructions
+abbrev pub replaying : List ℕ → ℕ → Interaction ℕ → Replay
+replaying sizes count at_tick = record {
   recording = two_cpus;
-  attached = attached_with (tick_at 1 1000000000 ∷ tick_at 1 2000000000 ∷ []);
+  attached = two_ticks;
   exits = false;
   maps = counts_decl ∷ [];
-  plan = counting at_tick;
+  plan = λ actor. record {
+    actor = actor;
+    actors = 3;
+    maps = counts_decl ∷ [];
+    sizes = sizes;
+    run = λ body context payload. runs_of (counts_one actor [] count) at_tick body;
+  };
 }
 
 abbrev pub printing : Replay
-printing = replaying (prints 3 (Ended 20))
+printing = replaying (0 ∷ 0 ∷ []) 5 (prints 3 (Ended 20))
 
 abbrev pub printing_and_clearing : Replay
-printing_and_clearing = replaying (prints 3 (clears 3))
+printing_and_clearing = replaying (0 ∷ 0 ∷ []) 5 (prints 3 (clears 3 30))
 
 -- ---- prints
 

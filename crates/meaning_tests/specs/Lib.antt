@@ -1,4 +1,6 @@
+pub mod Bodies
 pub mod Intervals
 pub mod Refused
+pub mod Scripts
 pub mod Serial
 pub mod Written

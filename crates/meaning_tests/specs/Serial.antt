@@ -14,11 +14,7 @@ use Rattle.bt_core.specs.declared.step.Step.{Step}
 use Rattle.bt_core.specs.declared.value.Value.TheVariants.{Int}
 use Rattle.bt_core.specs.Interaction.{Interaction, Ended, Asks}
 use Rattle.bt_meaning.specs.Replays.{Replay}
-use Rattle.meaning_tests.specs.Written.{attached_with, tick_at, cpu_with, counts, counts_decl, counts_one, step, adds, crosses}
-
--- `exit()`
-abbrev pub stops : Interaction ℕ
-stops = Asks (record { object = Clock; op = Stop }) (λ reply. Ended 7)
+use Rattle.meaning_tests.specs.Written.{attached_with, tick_at, cpu_with, counts, counts_decl, counts_one, step, adds, crosses, stops}
 
 abbrev pub checks : ℕ → Bool → Step
 checks actor stopped = step actor Clock Check (Stopped stopped)
@@ -37,7 +33,7 @@ stopped_by_tick = record {
     actors = 2;
     maps = counts_decl ∷ [];
     sizes = 0 ∷ 0 ∷ [];
-    run = λ body context payload. if body == 0 then counts_one actor [] else stops;
+    run = λ body context payload. if body == 0 then counts_one actor [] 5 else stops 7;
   };
 }
 
@@ -64,7 +60,7 @@ sets n rest = Asks (record { object = Shared (record { 0 = 1 }) 0; op = Set [] (
 
 abbrev pub counts_to_two : ℕ → Interaction ℕ
 counts_to_two actor = Asks (record { object = Cpu actor; op = Add counts [] (pos 1) })
-    (λ reply. gets (λ n. sets (n +ℤ pos 1) (gets (λ m. if int_eq m (pos 2) then stops else Ended 7))))
+    (λ reply. gets (λ n. sets (n +ℤ pos 1) (gets (λ m. if int_eq m (pos 2) then stops 7 else Ended 7))))
 
 abbrev pub says_bye : Interaction ℕ
 says_bye = Asks (record { object = Out; op = Emit (Printf 0 []) }) (λ reply. Ended 2)
@@ -113,7 +109,7 @@ counted_by_cpu = record {
     actors = 3;
     maps = by_cpu_decl ∷ [];
     sizes = 0 ∷ [];
-    run = λ body context payload. counts_one actor (Int (pos context.cpu) ∷ []);
+    run = λ body context payload. counts_one actor (Int (pos context.cpu) ∷ []) 5;
   };
 }
 

@@ -14,7 +14,7 @@ use Rattle.bt_core.specs.declared.map.MapKind.TheVariants.{Aggs}
 use Rattle.bt_core.specs.declared.step.ObjectId.{ObjectId}
 use Rattle.bt_core.specs.declared.step.ObjectId.TheVariants.{Cpu, Clock, Out}
 use Rattle.bt_core.specs.declared.step.Op.{Op}
-use Rattle.bt_core.specs.declared.step.Op.TheVariants.{Add, Read, ClearOf, Emit, Cross}
+use Rattle.bt_core.specs.declared.step.Op.TheVariants.{Add, Read, ClearOf, Emit, Cross, Stop}
 use Rattle.bt_core.specs.declared.step.Reply.{Reply}
 use Rattle.bt_core.specs.declared.step.Reply.TheVariants.{Done, Last}
 use Rattle.bt_core.specs.declared.step.Reply.TheVariants as replies
@@ -58,26 +58,30 @@ counted n = record { kind = Count; count = pos n; sum = pos n; least = Some (pos
 abbrev pub row_of : ℕ → List (List Value × Cell)
 row_of n = ([], cells.Agg (counted n)) ∷ []
 
--- ---- runs of bodies, and how many instructions each takes
+-- ---- runs of bodies, which end with a value
 
--- one is added under a key
-abbrev pub counts_one : ℕ → List Value → Interaction ℕ
-counts_one actor key = Asks (record { object = Cpu actor; op = Add counts key (pos 1) }) (λ reply. Ended 5)
+-- one is added under a key: `@ = count()`, or `@[..] = count()`
+abbrev pub counts_one : {A : Type 0} → ℕ → List Value → A → Interaction A
+counts_one actor key ending = Asks (record { object = Cpu actor; op = Add counts key (pos 1) }) (λ reply. Ended ending)
 
 -- at so many tables, from this one on, an operation
-abbrev pub at_tables : Op → ℕ → ℕ → List Reply → (List Reply → Interaction ℕ) → Interaction ℕ
+abbrev pub at_tables : {A : Type 0} → Op → ℕ → ℕ → List Reply → (List Reply → Interaction A) → Interaction A
 at_tables op first zero replies rest = rest replies
 at_tables op first (suc n) replies rest =
     Asks (record { object = Cpu first; op = op }) (λ reply. at_tables op (first + 1) n (replies ++ reply ∷ []) rest)
 
--- `print(@)` of so many actors, and then more
-abbrev pub prints : ℕ → Interaction ℕ → Interaction ℕ
+-- `print(@)` where there are so many actors, and then more
+abbrev pub prints : {A : Type 0} → ℕ → Interaction A → Interaction A
 prints actors rest = at_tables (Read counts) 0 actors [] (λ replies.
     Asks (record { object = Out; op = Emit (items.Map counts (merged (Aggs Count) replies) 0 (pos 1)) }) (λ reply. rest))
 
--- `clear(@)` of so many actors
-abbrev pub clears : ℕ → Interaction ℕ
-clears actors = at_tables (ClearOf counts) 0 actors [] (λ replies. Ended 30)
+-- `clear(@)` where there are so many actors
+abbrev pub clears : {A : Type 0} → ℕ → A → Interaction A
+clears actors ending = at_tables (ClearOf counts) 0 actors [] (λ replies. Ended ending)
+
+-- `exit()`
+abbrev pub stops : {A : Type 0} → A → Interaction A
+stops ending = Asks (record { object = Clock; op = Stop }) (λ reply. Ended ending)
 
 -- ---- steps
 

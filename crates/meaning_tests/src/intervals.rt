@@ -5,9 +5,8 @@ ghost use Rattle.bt_meaning.specs.Instructions.{instructions_of};
 ghost use Rattle.bt_meaning.specs.Interleavings.{IsInterleaving};
 ghost use Rattle.bt_meaning.specs.Prints.{printed_text};
 ghost use Rattle.bt_meaning.specs.Serial.{serial_steps};
-ghost use Rattle.bt_meaning.specs.Totals.{totals, who};
 ghost use Rattle.meaning_tests.specs.Intervals.{first_three, first_two, printing, printing_and_clearing, three_and_one, two_and_one, two_and_two};
-ghost use Rattle.meaning_tests.specs.Written.{counts, counts_decl, row_of};
+ghost use Rattle.meaning_tests.specs.Written.{counts_decl};
 
 // The first print shows two counts, as in the serial run.
 fn the_first_print_may_show_two()
@@ -22,12 +21,10 @@ fn the_first_print_may_show_three()
     ensures text { (script : Typed) → script.maps ≡ counts_decl ∷ [] → printed_text script 2 first_three ≡ codes "@: 3\n\n@: 4\n\n@: 4\n\n" }
 {}
 
-// Four counts of 5 instructions and two prints of 20, whatever is printed; and the counts add up to four.
-fn sums_stay()
+// Four counts of 5 instructions and two prints of 20, whatever is printed.
+fn sums_of_instructions_stay()
     ensures two { instructions_of printing first_two ≡ 60 }
     ensures three { instructions_of printing first_three ≡ 60 }
-    ensures who { who first_three 0 ≡ 1 }
-    ensures total { totals printing counts (who first_three) ≡ row_of 4 }
 {}
 
 // The prints show 2 and 2, as in the serial run, or 3 and 1.
@@ -49,7 +46,7 @@ fn a_clear_may_lose_a_count()
 fn interval_runs() {
     the_first_print_may_show_two();
     the_first_print_may_show_three();
-    sums_stay();
+    sums_of_instructions_stay();
     clears_keep_counts_apart();
     a_clear_may_lose_a_count();
 }

@@ -2,8 +2,16 @@
 #![tactic(auto)]
 
 #[cfg(test)]
+mod bodies;
+#[cfg(test)]
 mod intervals;
 #[cfg(test)]
 mod refused;
 #[cfg(test)]
+mod schedules;
+#[cfg(test)]
+mod scripts;
+#[cfg(test)]
 mod serial;
+#[cfg(test)]
+mod totals;

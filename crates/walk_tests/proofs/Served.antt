@@ -1,5 +1,5 @@
 -- The maps of a script's body are those of the script.
-use Rattle.std.proofs.Common.{◌≡◌, ℕ, List, Option, Some, subst, sym}
+use Rattle.std.proofs.Common.{◌≡◌, ℕ, List, Some, subst}
 use Rattle.std.specs.Prelude.{All, slice_get}
 use Rattle.std.proofs.lemmas.Option.{slice_get_within, get_or_from_slice_get}
 use Rattle.std.proofs.Math.Logic.{∥∥₁_elim}

@@ -107,7 +107,8 @@ const COUNT_AND_CLEAR: &[u8] =
 
 const HALVES: &[u8] = b"tracepoint:t:e /args.v / 2 > 0/ { @ = sum(args.v); }";
 
-const STOPS: &[u8] = b"tracepoint:t:e { @n = count(); @i++; if (@i == 2) { exit(); } } END { printf(\"bye\\n\"); }";
+const STOPS: &[u8] =
+    b"tracepoint:t:e { @n = count(); @i++; if (@i == 2) { exit(); } } END { printf(\"bye\\n\"); }";
 
 const BLOCKS: &[u8] = b"#!/usr/bin/env bpftrace\n\
 BEGIN { printf(\"Tracing... Hit Ctrl-C to end.\\n\"); }\n\
@@ -223,14 +224,7 @@ const ROWS: [Row; 23] = [
     ),
     // A predicate that is 0 ends the walk.
     (HALVES, 0, AT_ONE, &[], &[], Ending::End),
-    (
-        HALVES,
-        0,
-        AT_TWO,
-        &[],
-        &[Does::Add(0, &[], 2)],
-        Ending::End,
-    ),
+    (HALVES, 0, AT_TWO, &[], &[Does::Add(0, &[], 2)], Ending::End),
     (HALVES, 0, AT_MINUS_FOUR, &[], &[], Ending::End),
     // The second event stops the run.
     (
@@ -260,23 +254,9 @@ const ROWS: [Row; 23] = [
         ],
         Ending::Exit,
     ),
-    (
-        STOPS,
-        1,
-        MAIN,
-        &[],
-        &[Does::Printf(0, &[])],
-        Ending::End,
-    ),
+    (STOPS, 1, MAIN, &[], &[Does::Printf(0, &[])], Ending::End),
     // Keys of two parts.
-    (
-        BLOCKS,
-        0,
-        MAIN,
-        &[],
-        &[Does::Printf(0, &[])],
-        Ending::End,
-    ),
+    (BLOCKS, 0, MAIN, &[], &[Does::Printf(0, &[])], Ending::End),
     (
         BLOCKS,
         1,

@@ -259,12 +259,7 @@ fn passed(
 }
 
 /// Whether the steps are just these operations.
-fn are_steps(
-    alloc: Global,
-    steps: &[Step],
-    does: &[Does],
-    moment: Moment,
-) -> Result<bool, Fail> {
+fn are_steps(alloc: Global, steps: &[Step], does: &[Does], moment: Moment) -> Result<bool, Fail> {
     let mut place = 0;
     for does in does {
         match passed(alloc, steps, place, *does, moment)? {

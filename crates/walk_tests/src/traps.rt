@@ -22,7 +22,7 @@ const LATE: Moment = Moment {
     actors: 3,
 };
 
-const ORDER: [Row; 10] = [
+const RULES: [Row; 27] = [
     // A key's parts from left to right, then the right side, then the set.
     (
         b"BEGIN { @m[@a, @b] = @c; @a = 0; @b = 0; @c = 0; }",
@@ -179,9 +179,6 @@ const ORDER: [Row; 10] = [
         )],
         Ending::End,
     ),
-];
-
-const CHOICES: [Row; 8] = [
     // The right side of `&&` only where the left one holds, and 1 for whatever holds.
     (
         b"BEGIN { $x = @a && @b; printf(\"%d\", $x); @a = 0; @b = 0; return; }",
@@ -281,9 +278,6 @@ const CHOICES: [Row; 8] = [
         &[Does::Stop],
         Ending::Exit,
     ),
-];
-
-const LOOPS: [Row; 5] = [
     // The turns of all loops of a run are counted together: 4,000 and 20 and 76 are as many as there are.
     (
         b"BEGIN { $i = 0; while ($i < 4000) { $i++; } unroll (20) { $i++; }\n while ($i < 4096) { $i++; } printf(\"%d\", $i); }",
@@ -317,7 +311,10 @@ const LOOPS: [Row; 5] = [
         0,
         MAIN,
         &[],
-        &[Does::Printf(0, &[Part::N(1)]), Does::Printf(0, &[Part::N(3)])],
+        &[
+            Does::Printf(0, &[Part::N(1)]),
+            Does::Printf(0, &[Part::N(3)]),
+        ],
         Ending::End,
     ),
     // The test of a loop is done once more than its turns.
@@ -333,9 +330,6 @@ const LOOPS: [Row; 5] = [
         ],
         Ending::End,
     ),
-];
-
-const SWEEPS: [Row; 4] = [
     // A map without rows is emitted too.
     (
         b"BEGIN { print(@a); print(@c); @a = 1; @c = count(); }",
@@ -417,10 +411,8 @@ const SWEEPS: [Row; 4] = [
 fn walks_keep_the_rules_of_evaluation(rt: HostRuntime) -> Result<(), Fail> {
     let alloc = rt.alloc();
     let formats = formats(alloc)?;
-    for rows in [&ORDER[..], &CHOICES[..], &LOOPS[..], &SWEEPS[..]] {
-        for row in rows {
-            assert!(rt; holds(alloc, row, formats.as_slice())?, "{row:?}");
-        }
+    for row in RULES {
+        assert!(rt; holds(alloc, &row, formats.as_slice())?, "{row:?}");
     }
     Ok(())
 }

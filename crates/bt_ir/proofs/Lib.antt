@@ -1,0 +1,9 @@
+pub mod Asks
+pub mod Calls
+pub mod Ranks
+pub mod Served
+pub mod Shaped
+pub mod Stacks
+pub mod Sweeps
+pub mod Turning
+pub mod Typed

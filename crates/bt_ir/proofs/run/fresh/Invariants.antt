@@ -1,0 +1,6 @@
+use Rattle.std.proofs.Common.{◌≡◌, take, map}
+use Rattle.bt_ir.specs.Values.{unassigned}
+use Rattle.bt_ir.proofs.run.fresh.Given as goal
+
+abbrev pub invariant-loop-shape : goal.invariant-loop-shape
+invariant-loop-shape l = l.variables ≡ map unassigned (take l.shape-index l.shapes)

@@ -1,0 +1,4 @@
+pub mod Callings
+pub mod CanDo
+pub mod ReadingLemmas
+pub mod Sweeping

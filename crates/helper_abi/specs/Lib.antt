@@ -1,0 +1,8 @@
+pub mod Numbers
+pub mod Reading
+pub mod Sweeps
+pub mod Steps
+pub mod Helpers
+pub mod Served
+pub mod Writing
+pub mod Running

@@ -1,0 +1,43 @@
+-- The parts of bodies by their statements.
+use Rattle.std.proofs.Common.{◌≡◌, pos, Bool, true, false, List, [], ◌∷◌, ◌++◌, map, sym, ap, ◌∙◌}
+use Rattle.std.specs.Prelude.{None}
+use Rattle.bt_core.specs.declared.map.AggKind.TheVariants.{Count}
+use Rattle.typed_tree.specs.declared.body.TypedBody.{TypedBody}
+use Rattle.typed_tree.specs.declared.stmt.TypedBlock.{TypedBlock, out-TypedBlock, roll-out-TypedBlock, fold-roll-TypedBlock}
+use Rattle.typed_tree.specs.declared.stmt.TypedStmt.{TypedStmt, fold-roll-TypedStmt}
+use Rattle.typed_tree.specs.declared.stmt.TypedStmt.TheVariants.{rolls-Gather, rolls-Print, rolls-Clear}
+use Rattle.typed_tree.specs.declared.stmt.TypedStmt.TheOpen.{TypedStmt-F}
+use Rattle.typed_tree.specs.Bodies.{predicate_parts, tree_parts}
+use Rattle.typed_tree.specs.Parts.{Part, Cleared, Ending, Gathered, NoOtherwise, Shown, block_layer, block_parts, joined, stmt_layer, stmt_parts}
+use Rattle.meaning_tests.specs.Bodies.{HasStatements, clear_statement, count_statement, print_statement}
+use Rattle.meaning_tests.specs.Written.{counts}
+
+abbrev pub parts_with : List (Bool → List Part) → List Part
+parts_with parts = NoOtherwise ∷ (joined (map (λ (k : Bool → List Part). k false) parts) ++ Ending ∷ [])
+
+block_is : (b : TypedBlock) → block_parts b ≡ (λ inside. joined (map (λ (k : Bool → List Part). k inside) (map stmt_parts (out-TypedBlock b).stmts)) ++ Ending ∷ [])
+block_is b = ap block_parts (sym (roll-out-TypedBlock b)) ∙ fold-roll-TypedBlock (Bool → List Part) (Bool → List Part) stmt_layer block_layer (out-TypedBlock b)
+
+pub parts_are : (statements : List TypedStmt) (parts : List (Bool → List Part)) (body : TypedBody) → HasStatements statements body → map stmt_parts statements ≡ parts
+    → tree_parts body.tree ≡ parts_with parts
+parts_are statements parts body has are =
+    (λ i. predicate_parts (has.always i) ++ block_is body.tree.block i false)
+    ∙ ap (λ (l : List TypedStmt). parts_with (map stmt_parts l)) has.are ∙ ap parts_with are
+
+abbrev pub count_parts : Bool → List Part
+count_parts inside = Gathered 0 [] Count true ∷ []
+
+abbrev pub print_parts : Bool → List Part
+print_parts inside = Shown 0 0 (pos 1) ∷ []
+
+abbrev pub clear_parts : Bool → List Part
+clear_parts inside = Cleared 0 ∷ []
+
+pub count_made : stmt_parts count_statement ≡ count_parts
+count_made = ap stmt_parts (sym (rolls-Gather counts [] Count None)) ∙ fold-roll-TypedStmt (Bool → List Part) (Bool → List Part) stmt_layer block_layer (TypedStmt-F.Gather counts [] Count None)
+
+pub print_made : stmt_parts print_statement ≡ print_parts
+print_made = ap stmt_parts (sym (rolls-Print counts 0 (pos 1))) ∙ fold-roll-TypedStmt (Bool → List Part) (Bool → List Part) stmt_layer block_layer (TypedStmt-F.Print counts 0 (pos 1))
+
+pub clear_made : stmt_parts clear_statement ≡ clear_parts
+clear_made = ap stmt_parts (sym (rolls-Clear counts)) ∙ fold-roll-TypedStmt (Bool → List Part) (Bool → List Part) stmt_layer block_layer (TypedStmt-F.Clear counts)
