@@ -36,15 +36,16 @@ fn run_file<R: Files + Print + AllocGlobal>(
     Ok(())
 }
 
-/// Runs the cases of both files. Which of the first are not built yet stands in a list of its own; those
-/// of the second all have to agree.
+/// Runs the cases of the three files. Which of the first are not built yet stands in a list of its own; those
+/// of the others all have to agree.
 fn main(rt: HostRuntime) -> Result<()> {
     let alloc = rt.alloc();
     let list = fs::read_to_string(&rt, "not_built.json").context("reading not_built.json")?;
     let not_built = numbers_of(alloc, list.as_str())?;
     let mut tally = Tally::default();
     run_file(&rt, "cases.jsonl", not_built.as_slice(), &mut tally)?;
-    run_file(&rt, "early.jsonl", &[], &mut tally)?;
+    run_file(&rt, "refused.jsonl", &[], &mut tally)?;
+    run_file(&rt, "rows.jsonl", &[], &mut tally)?;
     println!(rt; "{tally}")?;
     Ok(())
 }
