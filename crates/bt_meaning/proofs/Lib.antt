@@ -1,3 +1,4 @@
+pub mod Counts
 pub mod CrossingRuns
 pub mod Crossings
 pub mod DueOrder
