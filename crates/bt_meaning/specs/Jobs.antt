@@ -9,8 +9,8 @@ use Rattle.actor_plan.specs.Agendas.{AreInTurn}
 use Rattle.actor_plan.specs.Plans.{HasBodies}
 use Rattle.bt_meaning.specs.Walks.{walking}
 
--- The recording is valid; what is attached are bodies of the script, those of a format with its layout and the others without
--- one; the ticks stand in their order; and there are no more bodies and ticks than a script may have.
+-- The recording is valid; what is attached are bodies of the script, those of a format with no greater a layout than its own, and the
+-- others with none; the ticks stand in their order; and there are no more bodies and ticks than a script may have.
 pub record IsJob (script : Typed) (attached : Attached) (r : Recording) : Type 0 where
   pub valid : IsValidRecording r
   pub bodies : (actor : ℕ) → HasBodies (walking script (length r.cpus + 1) actor) r.formats attached
