@@ -93,7 +93,7 @@ fn a_write_fault_leaves_a_prefix_and_the_work(rt: HostRuntime) -> Result<(), Fai
     let work = report.work.ok_or("no work")?;
     assert!(rt; work.text.as_slice() == b"@: 3\n\n".as_slice());
     assert!(rt; work.steps.len() == 3);
-    assert!(rt; work.instructions == 18);
+    assert!(rt; work.instructions == 0);
     Ok(())
 }
 
