@@ -1,0 +1,4 @@
+pub mod KindLemmas
+pub mod ObjectLemmas
+pub mod StepLemmas
+pub mod TurnLemmas

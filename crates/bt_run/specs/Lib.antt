@@ -1,0 +1,4 @@
+pub mod Took
+pub mod Worlds
+pub mod Objects
+pub mod Runs
