@@ -1,0 +1,21 @@
+use Rattle.std.proofs.Common.{rules, ◌≡◌, ◌<◌, ◌∙◌, length, map, drop, true, ap, refl, arith}
+use Rattle.std.specs.Prelude.{replicate}
+use Rattle.std.proofs.lemmas.List.{length-replicate}
+use Rattle.bt_meaning.specs.Serial.{unstamped, taken}
+use Rattle.bt_run.specs.Counts.{taken_count}
+use Rattle.bt_run.specs.Jobs.{cpus_in, replay_with}
+use Rattle.bt_run.proofs.TakeLemmas.{loop_steps, loop_counts}
+use Rattle.bt_run.proofs.serial.take_all.Goals as goal
+
+pub loop-item-preserved : goal.loop-item-preserved
+loop-item-preserved g c = let i = c.loop-item.invariant in let t = c.in_ok-count.ensures in
+    let lt : c.loop-item.item-index < length c.args.order.now = omega arith in
+    record {
+      left = loop_steps c.args.job.now g.plans c.args.order.now c.loop-item.item-index _ c.in_ok-count.count c.loop-item.going.items _ (map unstamped c.loop-item.port.steps) _ _ lt t.next i.left;
+      counted = loop_counts c.args.job.now g.plans c.args.order.now c.loop-item.item-index _ c.in_ok-count.count c.loop-item.total _ c.loop-item.going.items _ (map unstamped c.loop-item.port.steps) _ _ lt t.next c.in_ok-total.ensures i.counted;
+      have = t.have;
+      long = t.long;
+      world = t.world;
+      among = t.among;
+      begun = t.begun ∙ i.begun;
+    }

@@ -1,0 +1,26 @@
+-- What the run on one thread makes before its steps are put in order. No public contract speaks of it.
+use Rattle.std.specs.Prelude.{◌≡◌, ℕ, ◌≤◌, List, length, map}
+use Rattle.bt_core.specs.declared.step.Step.{Step}
+use Rattle.bt_core.specs.Kinds.{IsFineDecl}
+use Rattle.bt_core.specs.Steps.{RepliesFollow}
+use Rattle.turn_lock.specs.History.{Each}
+use Rattle.weave.specs.Woven.{StampsFollow, StandsBetween}
+use Rattle.actor_plan.specs.Plans.{Plan}
+use Rattle.bt_meaning.specs.Serial.{unstamped, begun_steps, serial_steps}
+use Rattle.bt_run.specs.declared.job.Job.{Job}
+use Rattle.bt_run.specs.declared.objects.Objects.{Objects}
+use Rattle.bt_run.specs.Counts.{serial_count}
+use Rattle.bt_run.specs.Jobs.{cpus_in, replay_with, world_for}
+use Rattle.bt_run.specs.Objects.{Stand}
+use Rattle.bt_run.specs.Worlds.{answers, IsOwn}
+
+-- these steps are the serial list, stamped by both clocks, and the objects stand for them
+pub record IsMade (job : Job) (plans : ℕ → Plan) (objects : Objects) (steps : List Step) (instructions : ℕ) : Type 0 where
+  pub is_serial : serial_steps (replay_with job plans) ≡ map unstamped steps
+  pub counted : instructions ≡ serial_count (replay_with job plans)
+  pub stand : Stand (world_for job) steps objects
+  pub possible : Each (λ (s : Step). IsOwn (world_for job) s.object s.op) steps
+  pub actors : Each (λ (s : Step). s.actor ≤ cpus_in job) steps
+  pub replies : RepliesFollow (answers (world_for job)) steps
+  pub stamps : StampsFollow (cpus_in job) (length (begun_steps (replay_with job plans))) steps
+  pub between : StandsBetween (cpus_in job) (length (begun_steps (replay_with job plans))) steps

@@ -1,0 +1,22 @@
+// What is run, and what a run makes.
+use bt_ast::attached::Attached;
+use bt_core::items::Items;
+use bt_core::step::Step;
+use rec_format::recording::Recording;
+use typed_tree::script::Typed;
+
+/// A typed script, what it is attached to, and the recording that it is run over.
+#[derive(Drop)]
+pub struct Job {
+    pub recording: Recording,
+    pub attached: Attached,
+    pub typed: Typed,
+}
+
+/// What a run makes: its steps as one woven list, the text that they print, and how many instructions were executed.
+#[derive(Drop)]
+pub struct Work {
+    pub steps: Items<Step>,
+    pub text: Items<u8>,
+    pub instructions: u64,
+}

@@ -1,0 +1,218 @@
+// The run on one thread, up to its list of steps.
+ghost use Rattle.std.specs.Prelude.{◌≡◌, ◌+◌, ◌<◌, ℕ, [], true, false, length, map, replicate, slice_index_or, IfOk, OnOk};
+ghost use Rattle.actor_plan.specs.Plans.{Plan};
+ghost use Rattle.bt_meaning.specs.Schedules.{serial_order, cpu_of_due as due_cpu, item_of_due as due_item};
+ghost use Rattle.bt_meaning.specs.Replays.{begin_of, end_of};
+ghost use Rattle.bt_meaning.specs.Serial.{unstamped, then_steps, then_value, taken};
+ghost use Rattle.bt_run.specs.Counts.{taken_count, TakesNext};
+ghost use Rattle.bt_run.specs.Jobs.{cpus_in, replay_with, world_for, CanRunAll, HavePlans};
+ghost use Rattle.bt_run.specs.Made.{IsMade};
+ghost use Rattle.bt_run.specs.Objects.{Stand};
+ghost use Rattle.bt_run.specs.Runs.{first_turn};
+
+use crate::job::Job;
+use crate::objects::Objects;
+use crate::port::SerialPort;
+use actor_plan::agenda::AgendaItem;
+use actor_plan::bodies::Bodies;
+use actor_plan::program::{run_begin, run_end, take_item};
+use bt_core::memory::Memory;
+use bt_core::step::Step;
+use bt_meaning::schedule::{Due, Scheduled};
+use std::alloc::Global;
+
+/// Whose item it is.
+fn cpu_of_due(due: &Due) -> u32
+    ensures { result ≡ due_cpu due.now }
+{
+    match due {
+        Due::Tick { tick: _, cpu } => *cpu,
+        Due::Event { cpu, event: _ } => *cpu,
+    }
+}
+
+/// The item as its CPU's agenda has it.
+fn item_of_due(due: &Due) -> AgendaItem
+    ensures { result ≡ due_item due.now }
+{
+    match due {
+        Due::Tick { tick, cpu: _ } => AgendaItem::Tick(*tick),
+        Due::Event { cpu: _, event } => AgendaItem::Event(*event),
+    }
+}
+
+/// Whether a CPU's program goes on.
+fn goes_on(going: &[bool], cpu: u32) -> bool
+    ensures { result ≡ slice_index_or going.now cpu false }
+{
+    match going.get(cpu as usize) {
+        Some(on) => *on,
+        None => false,
+    }
+}
+
+/// The sum of two counts, or [`Memory`] past the greatest that fits.
+fn sum(count: u64, more: u64) -> Result<u64, Memory>
+    ensures { IfOk result (λ both. both ≡ count + more) }
+{
+    match count.checked_add(more) {
+        Some(both) => Ok(both),
+        None => Err(Memory),
+    }
+}
+
+/// Takes one item, if its CPU's program goes on, and notes whether it still does. Gives how many instructions were executed.
+fn take_next<B: Bodies>(
+    alloc: Global,
+    job: &Job,
+    item: &Scheduled,
+    going: &mut Vec<bool>,
+    bodies: &mut Vec<B>,
+    port: &mut SerialPort,
+) -> Result<u64, Memory>
+    ghost plans: { ℕ → Plan }
+    requires can { CanRunAll job.now plans }
+    requires have { HavePlans B.plan (cpus_in job.now + 1) plans bodies.old.items }
+    requires among { port.old.turn.among ≡ true }
+    requires world { port.old.world ≡ world_for job.now }
+    requires long { length going.old.items ≡ cpus_in job.now }
+    ensures next { IfOk result (λ count. TakesNext (replay_with job.now plans) item.now count
+        going.old.items (map unstamped port.old.steps) going.new.items (map unstamped port.new.steps)) }
+    ensures have { OnOk result (HavePlans B.plan (cpus_in job.now + 1) plans bodies.new.items) }
+    ensures long { OnOk result (length going.new.items ≡ cpus_in job.now) }
+    ensures world { OnOk result (port.new.world ≡ world_for job.now) }
+    ensures among { OnOk result (port.new.turn.among ≡ true) }
+    ensures begun { OnOk result (port.new.turn.begun ≡ port.old.turn.begun) }
+{
+    let cpu = cpu_of_due(&item.due);
+    if !goes_on(going.as_slice(), cpu) {
+        return Ok(0);
+    }
+    port.turn_to(cpu);
+    let track = &job.recording.cpus.as_slice()[cpu as usize];
+    let taken = take_item(
+        alloc,
+        &mut bodies[cpu as usize],
+        &job.recording,
+        &job.attached,
+        track,
+        job.typed.uses_exit,
+        item_of_due(&item.due),
+        port,
+    )?;
+    port.stands();
+    going[cpu as usize] = taken.to_end;
+    Ok(taken.instructions)
+}
+
+/// Takes all items in their order, but those of a CPU whose program has ended.
+fn take_all<B: Bodies>(
+    alloc: Global,
+    job: &Job,
+    order: &[Scheduled],
+    bodies: &mut Vec<B>,
+    port: &mut SerialPort,
+) -> Result<u64, Memory>
+    ghost plans: { ℕ → Plan }
+    requires can { CanRunAll job.now plans }
+    requires have { HavePlans B.plan (cpus_in job.now + 1) plans bodies.old.items }
+    requires among { port.old.turn.among ≡ true }
+    requires world { port.old.world ≡ world_for job.now }
+    ensures serial { OnOk result (taken (replay_with job.now plans) order.now (replicate (cpus_in job.now) true)
+        (map unstamped port.old.steps) ≡ map unstamped port.new.steps) }
+    ensures counted { IfOk result (λ count. count ≡ taken_count (replay_with job.now plans) order.now (replicate (cpus_in job.now) true)
+        (map unstamped port.old.steps)) }
+    ensures have { OnOk result (HavePlans B.plan (cpus_in job.now + 1) plans bodies.new.items) }
+    ensures world { OnOk result (port.new.world ≡ world_for job.now) }
+    ensures among { OnOk result (port.new.turn.among ≡ true) }
+    ensures begun { OnOk result (port.new.turn.begun ≡ port.old.turn.begun) }
+{
+    let mut going = vec![in alloc; true; job.recording.cpus.len()]?;
+    let mut total = 0;
+    for item in order {
+        let count = take_next(alloc, job, item, &mut going, bodies, port)?;
+        total = sum(total, count)?;
+    }
+    Ok(total)
+}
+
+/// Runs the bodies of `BEGIN`.
+fn begin<B: Bodies>(
+    alloc: Global,
+    job: &Job,
+    bodies: &mut Vec<B>,
+    port: &mut SerialPort,
+) -> Result<u64, Memory>
+    ghost plans: { ℕ → Plan }
+    requires can { CanRunAll job.now plans }
+    requires have { HavePlans B.plan (cpus_in job.now + 1) plans bodies.old.items }
+    requires first { port.old.turn ≡ first_turn (cpus_in job.now) }
+    requires none { port.old.steps ≡ [] }
+    requires world { port.old.world ≡ world_for job.now }
+    ensures serial { OnOk result (then_steps (replay_with job.now plans) (cpus_in job.now) (begin_of (replay_with job.now plans)) []
+        ≡ map unstamped port.new.steps) }
+    ensures counted { IfOk result (λ count. count ≡
+        then_value (replay_with job.now plans) (cpus_in job.now) (begin_of (replay_with job.now plans)) []) }
+    ensures have { OnOk result (HavePlans B.plan (cpus_in job.now + 1) plans bodies.new.items) }
+    ensures world { OnOk result (port.new.world ≡ world_for job.now) }
+    ensures among { OnOk result (port.new.turn.among ≡ true) }
+    ensures begun { OnOk result (port.new.turn.begun ≡ length port.new.steps) }
+{
+    let main = job.recording.cpus.len();
+    let count = run_begin(alloc, &mut bodies[main], &job.recording, &job.attached, port)?;
+    port.stands();
+    port.go_to_cpus();
+    Ok(count)
+}
+
+/// Runs the bodies of `END`.
+fn end<B: Bodies>(
+    alloc: Global,
+    job: &Job,
+    bodies: &mut Vec<B>,
+    port: &mut SerialPort,
+) -> Result<u64, Memory>
+    ghost plans: { ℕ → Plan }
+    requires can { CanRunAll job.now plans }
+    requires have { HavePlans B.plan (cpus_in job.now + 1) plans bodies.old.items }
+    requires among { port.old.turn.among ≡ true }
+    requires world { port.old.world ≡ world_for job.now }
+    ensures serial { OnOk result (then_steps (replay_with job.now plans) (cpus_in job.now) (end_of (replay_with job.now plans))
+        (map unstamped port.old.steps) ≡ map unstamped port.new.steps) }
+    ensures counted { IfOk result (λ count. count ≡
+        then_value (replay_with job.now plans) (cpus_in job.now) (end_of (replay_with job.now plans)) (map unstamped port.old.steps)) }
+    ensures world { OnOk result (port.new.world ≡ world_for job.now) }
+    ensures begun { OnOk result (port.new.turn.begun ≡ port.old.turn.begun) }
+{
+    port.go_to_end();
+    let main = job.recording.cpus.len();
+    let count = run_end(alloc, &mut bodies[main], &job.recording, &job.attached, port)?;
+    port.stands();
+    Ok(count)
+}
+
+/// Runs a job on one thread: `BEGIN`, the items in the serial order, and `END`. Gives the objects as they then are, the steps in
+/// the order in which they were made, and how many instructions were executed.
+pub(crate) fn make_steps<B: Bodies>(
+    alloc: Global,
+    job: &Job,
+    order: &[Scheduled],
+    bodies: &mut Vec<B>,
+    objects: Objects,
+) -> Result<(Objects, Vec<Step>, u64), Memory>
+    ghost plans: { ℕ → Plan }
+    requires can { CanRunAll job.now plans }
+    requires have { HavePlans B.plan (cpus_in job.now + 1) plans bodies.old.items }
+    requires order { order.now ≡ serial_order job.now.recording job.now.attached }
+    requires stand { Stand (world_for job.now) [] objects }
+    ensures { IfOk result (λ made. IsMade job.now plans made.0 made.1.items made.2) }
+{
+    let cpus = job.recording.cpus.len() as u32;
+    let ticks = job.attached.ticks.len() as u32;
+    let mut port = SerialPort::new(alloc, objects, &job.typed.maps, cpus, ticks)?;
+    let begun = begin(alloc, job, bodies, &mut port)?;
+    let taken = take_all(alloc, job, order, bodies, &mut port)?;
+    let ended = end(alloc, job, bodies, &mut port)?;
+    let (objects, steps) = port.into_parts();
+    Ok((objects, steps, sum(sum(begun, taken)?, ended)?))
+}
