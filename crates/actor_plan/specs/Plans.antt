@@ -4,6 +4,8 @@ use Rattle.bt_ast.specs.declared.attached.Attached.{Attached}
 use Rattle.bt_ast.specs.declared.attached.Tick.{Tick}
 use Rattle.bt_core.specs.declared.context.Context.{Context}
 use Rattle.bt_core.specs.declared.map.MapDecl.{MapDecl}
+use Rattle.bt_core.specs.declared.step.ObjectId.{ObjectId}
+use Rattle.bt_core.specs.declared.step.Op.{Op}
 use Rattle.bt_core.specs.declared.step.Reply.{Reply}
 use Rattle.bt_core.specs.Interaction.{Interaction, Asks, Ended, value_under}
 use Rattle.bt_core.specs.Ports.{Setting, CanStep, IsReplyOf}
@@ -52,8 +54,15 @@ abbrev pub TakesFew : Plan → Type 0
 TakesFew plan = (body : ℕ) (context : Context) (payload : List ℕ) (replies : List Reply) (count : ℕ)
     → value_under (plan.run body context payload) replies ≡ Some count → count ≤ RUN_INSTRUCTIONS
 
+-- under replies of the kinds that the operations have on these maps, each call is one of those
+abbrev pub AsksOf : {A : Type 0} → (ObjectId → Op → Type 0) → List MapDecl → Interaction A → Type 0
+AsksOf calls maps (Ended a) = Unit {0}
+AsksOf calls maps (Asks c f) = calls c.object c.op × ((r : Reply) → IsReplyOf maps c.object c.op r → AsksOf calls maps (f r))
+
 -- under replies of the kinds that the operations have, each operation that is asked is one that a port of this setting can make
 abbrev pub OnlyAsks : {A : Type 0} → Setting → Interaction A → Type 0
-OnlyAsks setting (Ended a) = Unit {0}
-OnlyAsks setting (Asks c f) =
-    CanStep setting c.object c.op × ((r : Reply) → IsReplyOf setting.maps c.object c.op r → OnlyAsks setting (f r))
+OnlyAsks setting t = AsksOf (CanStep setting) setting.maps t
+
+-- so each run of a body that may be run asks
+abbrev pub BodiesAsk : (ObjectId → Op → Type 0) → List MapDecl → Plan → Type 0
+BodiesAsk calls maps plan = (body : ℕ) (context : Context) (payload : List ℕ) → CanRun plan body context payload → AsksOf calls maps (plan.run body context payload)

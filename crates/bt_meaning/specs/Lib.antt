@@ -1,8 +1,11 @@
 pub mod Instructions
 pub mod Interleavings
 pub mod Jobs
+pub mod OwnSteps
 pub mod Prints
 pub mod Replays
 pub mod Schedules
 pub mod Serial
+pub mod Ticks
+pub mod Totals
 pub mod Walks

@@ -1,5 +1,5 @@
 -- What is printed: the items that were emitted, and at the end the maps and the lost updates.
-use Rattle.std.specs.Prelude.{ℕ, ◌+◌, ◌%◌, ◌^◌, ◌++◌, List, [], ◌∷◌, length, map, sum, Option, None, Some}
+use Rattle.std.specs.Prelude.{ℕ, ◌+◌, ◌%◌, ◌^◌, ◌++◌, List, [], ◌∷◌, map, sum, Option, None, Some}
 use Rattle.std.specs.List.{filter_map, flat_map, range_with_len}
 use Rattle.bt_core.specs.declared.item.Cell.{Cell}
 use Rattle.bt_core.specs.declared.item.Item.{Item}
@@ -13,7 +13,7 @@ use Rattle.bt_core.specs.declared.step.Op.TheVariants.{Emit}
 use Rattle.bt_core.specs.declared.step.Reply.{Reply}
 use Rattle.bt_core.specs.declared.step.Step.{Step}
 use Rattle.bt_core.specs.declared.value.Value.{Value}
-use Rattle.bt_core.specs.Steps.{on_object, operations, operation}
+use Rattle.bt_core.specs.Steps.{on_object, operations}
 use Rattle.typed_tree.specs.declared.script.Typed.{Typed}
 use Rattle.agg_core.specs.Answers.{answer, back, shared_change, table_change}
 use Rattle.agg_core.specs.Changes.{lost_updates}
@@ -70,5 +70,5 @@ unfoldable pub printed_text : Typed → ℕ → List Step → List ℕ
 printed_text script cpus steps =
     flat_map (item_text script.formats script.maps) (emitted steps)
     ++ end_text script.maps
-        (of_maps (rows_after script.maps cpus steps) 0 script.maps)
-        (of_maps (lost_after script.maps cpus steps) 0 script.maps)
+    (of_maps (rows_after script.maps cpus steps) 0 script.maps)
+    (of_maps (lost_after script.maps cpus steps) 0 script.maps)

@@ -1,5 +1,5 @@
 -- What is run over a recording, and what each actor of it does.
-use Rattle.std.specs.Prelude.{ℕ, Bool, List, length}
+use Rattle.std.specs.Prelude.{◌≡◌, ℕ, Bool, List, length}
 use Rattle.bt_ast.specs.declared.attached.Attached.{Attached}
 use Rattle.bt_core.specs.declared.map.MapDecl.{MapDecl}
 use Rattle.bt_core.specs.declared.step.ObjectId.{ObjectId}
@@ -20,6 +20,10 @@ pub record Replay : Type 0 where
   pub exits : Bool
   pub maps : List MapDecl
   pub plan : ℕ → Plan
+
+-- each plan is the one of its actor
+abbrev pub PlansAreOwn : Replay → Type 0
+PlansAreOwn p = (actor : ℕ) → (p.plan actor).actor ≡ actor
 
 -- how many CPUs there are, which is also the main actor's number
 abbrev pub cpus_of : Replay → ℕ

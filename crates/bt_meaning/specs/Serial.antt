@@ -51,8 +51,8 @@ module _ (p : Replay) where
   taken (s ∷ ss) going before =
       if slice_index_or going (cpu_of_due s.due) false
       then taken ss
-          (slice_set going (cpu_of_due s.due) (then_value (cpu_of_due s.due) (alone p (cpu_of_due s.due) (item_of_due s.due)) before).to_end)
-          (then_steps (cpu_of_due s.due) (alone p (cpu_of_due s.due) (item_of_due s.due)) before)
+      (slice_set going (cpu_of_due s.due) (then_value (cpu_of_due s.due) (alone p (cpu_of_due s.due) (item_of_due s.due)) before).to_end)
+      (then_steps (cpu_of_due s.due) (alone p (cpu_of_due s.due) (item_of_due s.due)) before)
       else taken ss going before
 
   -- BEGIN

@@ -52,10 +52,11 @@ HasShape-length (s ∷ hs) (v ∷ vs) h = ap suc (HasShape-length hs vs h.1)
 
 -- ---- declarations
 
-served_pick : (maps : List MapDecl) (n k : ℕ) (own decl : MapDecl) (rest : Option MapDecl) → slice_get maps k ≡ Some own → (rest ≡ Some decl → slice_get maps n ≡ Some decl) →
-    (b : Bool) → (k == n) ≡ b → (if b then Some own else rest) ≡ Some decl → slice_get maps n ≡ Some decl
-served_pick maps n k own decl rest a r true e g = subst (λ i. slice_get maps i ≡ Some decl) (eqb-true k n e) (a ∙ g)
-served_pick maps n k own decl rest a r false e g = r g
+-- what is found under a number is the one that is there, or one of the rest
+pub served_pick : {X : Type 0} (xs : List X) (n k : ℕ) (own found : X) (rest : Option X) → slice_get xs k ≡ Some own → (rest ≡ Some found → slice_get xs n ≡ Some found) →
+    (b : Bool) → (k == n) ≡ b → (if b then Some own else rest) ≡ Some found → slice_get xs n ≡ Some found
+served_pick xs n k own found rest a r true e g = subst (λ i. slice_get xs i ≡ Some found) (eqb-true k n e) (a ∙ g)
+served_pick xs n k own found rest a r false e g = r g
 
 pub served : (maps : List MapDecl) (n : ℕ) (ms : List (MapId × MapDecl)) (decl : MapDecl) → All (λ (m : MapId × MapDecl). slice_get maps m.0.0 ≡ Some m.1) ms →
     decl_of n ms ≡ Some decl → slice_get maps n ≡ Some decl

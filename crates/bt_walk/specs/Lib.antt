@@ -6,3 +6,5 @@ pub mod Flows
 pub mod Stmts
 pub mod Walk
 pub mod Walked
+pub mod SameUnder
+pub mod Reading

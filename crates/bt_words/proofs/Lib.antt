@@ -1,1 +1,8 @@
+mod ClapEnd
+mod ClapGets
+mod ClapRows
+mod ClapRun
+mod ClapSteps
+mod ClapTwo
 pub mod Numbers
+mod Orders

@@ -1,7 +1,8 @@
 //! What the words of a command line ask for.
 #![tactic(auto)]
 
+mod commands;
 mod number;
 pub mod order;
-mod parted;
 pub mod read;
+mod rule;

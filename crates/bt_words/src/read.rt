@@ -1,18 +1,15 @@
-// Reading words.
-ghost use Rattle.std.specs.Prelude.{◌≡◌, ◌↔◌, ℕ, None, Some, Err, map, filter, string_bytes, IfOk};
-ghost use Rattle.std.specs.Option.{option_map};
-ghost use Rattle.bt_words.specs.declared.order.Order.{Order as OrderValue};
-ghost use Rattle.bt_words.specs.Words.{is_operand, of_two, two_numbers, run_order, plain_order, order_of, IsAnswer};
-ghost use Rattle.bt_words.specs.Files.{NamesFiles};
+// Reading words: first the rule is tested, then clap reads the words that it admits.
+ghost use Rattle.std.specs.Prelude.{◌≡◌, ◌↔◌, ◌∷◌, [], IsSome, None, Some, Err, IfOk, IfErr, drop, map, true, string_bytes};
+ghost use Rattle.clap.specs.Words.{app_of, found_of, matches_of, rows_of, takes};
+ghost use Rattle.bt_words.specs.Commands.{AreTwoOperands};
+ghost use Rattle.bt_words.specs.Words.{order_by, order_of, plain_order, run_order, IsAnswer};
 
-use crate::number::number_in;
+use crate::commands::{run_command, two_command};
+use crate::number::{Numbers, two_numbers};
 use crate::order::{FileName, Order, WordsError};
-use crate::parted::{are_operands, are_run_words, count, has_empty, two_operands};
-use bt_core::limits::EVENTS;
+use crate::rule::is_admitted;
+use clap::{ArgMatches, Command};
 use std::alloc::Global;
-
-/// The greatest first number of `gen` and `big`. The greatest second one is the limit of events.
-const MOST_X: u32 = 2_147_483_647;
 
 /// What words ask for. The first is the command; behind it stand options and operands in any order,
 /// none of them empty. Options begin with `-`: `run` takes `--serial` and `--stats`, each once.
@@ -25,99 +22,96 @@ pub fn read_words(alloc: Global, words: &[String]) -> Result<Order, WordsError>
     ensures found { IfOk result (λ order. order_of words.now ≡ Some order) }
     ensures usage { (result ≡ Err WordsError.Usage) ↔ (order_of words.now ≡ None) }
 {
-    order(alloc, words)
-}
-
-/// Two files.
-struct Files {
-    script: FileName,
-    recording: FileName,
-}
-
-/// Two numbers.
-#[derive(Clone, Copy)]
-struct Numbers {
-    x: u32,
-    n: u32,
-}
-
-fn order(alloc: Global, words: &[String]) -> Result<Order, WordsError>
-    ensures { IsAnswer (order_of words.now) result }
-{
-    let [command, later @ ..] = words else {
-        return Err(WordsError::Usage);
-    };
-    if has_empty(later) {
+    if !is_admitted(words) {
         return Err(WordsError::Usage);
     }
-    let command = command.as_bytes();
-    if command == b"run".as_slice() {
-        run_order(alloc, later)
-    } else if are_operands(later) {
-        plain_order(alloc, command, later)
+    admitted_order(alloc, words[0].as_str(), words)
+}
+
+/// The order of words that obey the rule. The first is the command.
+fn admitted_order(alloc: Global, command: &str, words: &[String]) -> Result<Order, WordsError>
+    requires { IsSome (order_by command.now (drop 1 (map string_bytes words.now))) }
+    ensures { IsAnswer (order_by command.now (drop 1 (map string_bytes words.now))) result }
+{
+    if command == "run" {
+        run_order(alloc, words)
     } else {
-        Err(WordsError::Usage)
+        plain_order(alloc, command, two_operands(alloc, command, words)?)
     }
 }
 
+/// The order of `run`, as clap reads its options and operands.
 fn run_order(alloc: Global, words: &[String]) -> Result<Order, WordsError>
-    ensures { IsAnswer (run_order (map string_bytes words.now)) result }
+    requires { IsSome (run_order (drop 1 (map string_bytes words.now))) }
+    ensures { IsAnswer (run_order (drop 1 (map string_bytes words.now))) result }
 {
-    let serial = count(words, b"--serial");
-    let stats = count(words, b"--stats");
-    if !are_run_words(words) || serial > 1 || stats > 1 {
-        return Err(WordsError::Usage);
-    }
-    let Files { script, recording } = named_files(alloc, words)?;
+    let matches = parsed(run_command(alloc)?, words)?;
+    let script = matches.get_str("script").unwrap();
+    let recording = matches.get_str("recording").unwrap();
     Ok(Order::Run {
-        serial: serial >= 1,
-        stats: stats >= 1,
-        script,
-        recording,
+        serial: matches.get_flag("serial"),
+        stats: matches.get_flag("stats"),
+        script: FileName::of(alloc, script)?,
+        recording: FileName::of(alloc, recording)?,
     })
 }
 
-/// The order of a command that takes no options.
-fn plain_order(alloc: Global, command: &[u8], words: &[String]) -> Result<Order, WordsError>
-    ensures { IsAnswer (plain_order command.now (filter is_operand (map string_bytes words.now))) result }
+/// The order of a command that takes two operands and no options.
+fn plain_order(alloc: Global, command: &str, operands: Operands<'_>) -> Result<Order, WordsError>
+    ensures { IsAnswer (plain_order command.now (operands.entry.first.now ∷ operands.entry.second.now ∷ [])) result }
 {
-    if command == b"check".as_slice() {
-        let Files { script, recording } = named_files(alloc, words)?;
+    let Operands { first, second } = operands;
+    if command == "check" {
+        let script = FileName::of(alloc, first)?;
+        let recording = FileName::of(alloc, second)?;
         Ok(Order::Check { script, recording })
-    } else if command == b"code".as_slice() {
-        let Files { script, recording } = named_files(alloc, words)?;
+    } else if command == "code" {
+        let script = FileName::of(alloc, first)?;
+        let recording = FileName::of(alloc, second)?;
         Ok(Order::Code { script, recording })
-    } else if command == b"gen".as_slice() {
-        let Numbers { x, n } = spelled_numbers(words).ok_or(WordsError::Usage)?;
+    } else if command == "gen" {
+        let Numbers { x, n } = two_numbers(first, second).ok_or(WordsError::Usage)?;
         Ok(Order::Gen { x, n })
-    } else if command == b"big".as_slice() {
-        let Numbers { x, n } = spelled_numbers(words).ok_or(WordsError::Usage)?;
+    } else if command == "big" {
+        let Numbers { x, n } = two_numbers(first, second).ok_or(WordsError::Usage)?;
         Ok(Order::Big { x, n })
     } else {
         Err(WordsError::Usage)
     }
 }
 
-/// The files that the two operands name.
-fn named_files(alloc: Global, words: &[String]) -> Result<Files, WordsError>
-    ensures { NamesFiles (filter is_operand (map string_bytes words.now)) result }
+/// Two operands.
+#[derive(Clone, Copy)]
+struct Operands<'w> {
+    first: &'w str,
+    second: &'w str,
+}
+
+/// The operands behind a command that takes two and nothing else.
+fn two_operands<'w>(
+    alloc: Global,
+    command: &'w str,
+    words: &'w [String],
+) -> Result<Operands<'w>, WordsError>
+    requires { AreTwoOperands (drop 1 (map string_bytes words.now)) }
+    ensures found { IfOk result (λ two. drop 1 (map string_bytes words.now) ≡ two.first.now ∷ two.second.now ∷ []) }
+    ensures memory { IfErr result (λ error. error ≡ WordsError.Memory) }
 {
-    let Some(operands) = two_operands(words) else {
-        return Err(WordsError::Usage);
-    };
-    Ok(Files {
-        script: FileName::of(alloc, operands.first)?,
-        recording: FileName::of(alloc, operands.second)?,
+    let matches = parsed(two_command(alloc, command)?, words)?;
+    Ok(Operands {
+        first: matches.get_str("first").unwrap(),
+        second: matches.get_str("second").unwrap(),
     })
 }
 
-/// The numbers that the two operands spell.
-fn spelled_numbers(words: &[String]) -> Option<Numbers>
-    ensures { (made : ℕ → ℕ → OrderValue) → of_two (two_numbers made) (filter is_operand (map string_bytes words.now))
-        ≡ option_map (λ two. made two.x two.n) result }
+/// What clap reads in words that the command takes: it fails only for want of memory.
+fn parsed<'w>(command: Command<'w>, words: &'w [String]) -> Result<ArgMatches<'w>, WordsError>
+    requires { takes (app_of command) (map string_bytes words.now) ≡ true }
+    ensures matches { IfOk result (λ m. rows_of (found_of m) ≡ matches_of (app_of command.entry) (map string_bytes words.entry.now)) }
+    ensures memory { IfErr result (λ error. error ≡ WordsError.Memory) }
 {
-    let operands = two_operands(words)?;
-    let x = number_in(operands.first.as_bytes(), MOST_X)?;
-    let n = number_in(operands.second.as_bytes(), EVENTS)?;
-    Some(Numbers { x, n })
+    match command.try_get_matches_from(words) {
+        Ok(matches) => Ok(matches),
+        Err(_) => Err(WordsError::Memory),
+    }
 }

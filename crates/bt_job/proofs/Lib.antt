@@ -1,0 +1,5 @@
+mod Lists
+mod Bodies
+mod Ticks
+mod Few
+mod Jobs

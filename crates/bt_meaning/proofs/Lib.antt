@@ -1,0 +1,14 @@
+pub mod CrossingRuns
+pub mod Crossings
+pub mod DueOrder
+pub mod Eachs
+pub mod ItemByItem
+pub mod OwnAgenda
+pub mod OwnCalls
+pub mod Placed
+pub mod Rises
+pub mod SerialLaws
+pub mod Stepping
+pub mod TicksAfter
+pub mod WalkStops
+pub mod Walked

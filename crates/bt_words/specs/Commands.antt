@@ -1,0 +1,33 @@
+-- What clap is told of the commands.
+use Rattle.std.specs.Prelude.{◌≡◌, List, length, true, codes, Some}
+use Rattle.std.specs.List.{list_all}
+use Rattle.clap.specs.Words.{App, Rule, Text, new_app, new_rule, with_rule}
+use Rattle.clap.specs.Simple.{on_top}
+use Rattle.clap.specs.declared.builder.action.ArgAction.TheVariants.{SetTrue}
+use Rattle.bt_words.specs.Words.{is_operand}
+
+-- an option that is there or not, with its long name alone
+abbrev pub flag_rule : Text → Rule
+flag_rule name = record (new_rule name) { long = Some name; action = Some SetTrue }
+
+abbrev pub operand_rule : Text → Rule
+operand_rule name = record (new_rule name) { required = true }
+
+-- no flag for help, and none for the version
+abbrev pub plain_app : Text → App
+plain_app name = on_top (λ s. record s { disable_help_flag = true; disable_version_flag = true }) (new_app name)
+
+abbrev pub with_operands : App → Text → Text → App
+with_operands app first second = with_rule (with_rule app (operand_rule first)) (operand_rule second)
+
+-- a command of two operands alone
+abbrev pub two_app : Text → App
+two_app name = with_operands (plain_app name) (codes "first") (codes "second")
+
+abbrev pub run_app : App
+run_app = with_operands (with_rule (with_rule (plain_app (codes "run")) (flag_rule (codes "serial"))) (flag_rule (codes "stats")))
+    (codes "script") (codes "recording")
+
+-- what a command of two operands takes
+abbrev pub AreTwoOperands : List Text → Type 0
+AreTwoOperands words = (list_all is_operand words ≡ true) × (length words ≡ 2)

@@ -1,0 +1,61 @@
+// The commands as clap reads them: one for each command word, without flags for help or the version.
+ghost use Rattle.std.specs.Prelude.{◌≡◌, IfOk, false};
+ghost use Rattle.clap.specs.Words.{app_of, rule_of};
+ghost use Rattle.bt_words.specs.Commands.{flag_rule, operand_rule, plain_app, run_app, two_app, with_operands};
+
+use clap::{Arg, ArgAction, Command};
+use std::alloc::{AllocError, Global};
+
+/// `run`, with both options.
+pub(crate) fn run_command<'a>(alloc: Global) -> Result<Command<'a>, AllocError>
+    ensures { IfOk result (λ command. app_of command ≡ run_app) }
+{
+    let serial = flag(alloc, "serial");
+    let stats = flag(alloc, "stats");
+    let command = plain_command(alloc, "run").arg(serial)?.arg(stats)?;
+    with_operands(alloc, command, "script", "recording")
+}
+
+/// A command of two operands alone.
+pub(crate) fn two_command<'a>(alloc: Global, name: &'a str) -> Result<Command<'a>, AllocError>
+    ensures { IfOk result (λ command. app_of command ≡ two_app name.entry.now) }
+{
+    with_operands(alloc, plain_command(alloc, name), "first", "second")
+}
+
+/// A command without flags for help or the version.
+fn plain_command<'a>(alloc: Global, name: &'a str) -> Command<'a>
+    ensures { app_of result ≡ plain_app name.entry.now }
+{
+    Command::new(alloc, name)
+        .disable_help_flag(true)
+        .disable_version_flag(true)
+}
+
+/// The command with two operands more.
+fn with_operands<'a>(
+    alloc: Global,
+    command: Command<'a>,
+    first: &'a str,
+    second: &'a str,
+) -> Result<Command<'a>, AllocError>
+    ensures { IfOk result (λ all. app_of all ≡ with_operands (app_of command.entry) first.entry.now second.entry.now) }
+{
+    command
+        .arg(operand(alloc, first))?
+        .arg(operand(alloc, second))
+}
+
+/// The option `--name`.
+fn flag<'a>(alloc: Global, name: &'a str) -> Arg<'a>
+    ensures { (rule_of result ≡ flag_rule name.entry.now) × (result.global ≡ false) }
+{
+    Arg::new(alloc, name).long(name).action(ArgAction::SetTrue)
+}
+
+/// An operand that must be there.
+fn operand<'a>(alloc: Global, name: &'a str) -> Arg<'a>
+    ensures { (rule_of result ≡ operand_rule name.entry.now) × (result.global ≡ false) }
+{
+    Arg::new(alloc, name).required(true)
+}
