@@ -26,7 +26,7 @@ use Rattle.bt_run.specs.Jobs.{cpus_in, replay_with, world_for, IsPlanFor, CanRun
 use Rattle.bt_run.specs.Made.{IsMade}
 use Rattle.bt_run.specs.Runs.{Seen, IsSeen, IsRunOf, IsLeft}
 use Rattle.bt_run.specs.Worlds.{World, setting_in, answers}
-use Rattle.bt_run.proofs.Stepping.{takes_made, unstamped_length}
+use Rattle.bt_meaning.proofs.Stepping.{takes_made, unstamped_length}
 
 drop_own : (a b : List Step) → drop (length a) (a ++ b) ≡ b
 drop_own a b = drop-append-le (length a) a b (omega arith) ∙ ap (λ l. l ++ b) (drop_all (length a) a (omega arith))
