@@ -1,5 +1,9 @@
+pub mod Finals
 pub mod KindLemmas
+pub mod NewLemmas
 pub mod ObjectLemmas
+pub mod Splitting
 pub mod StepLemmas
 pub mod TakeLemmas
 pub mod TurnLemmas
+pub mod Zeros

@@ -1,7 +1,9 @@
 pub mod Counts
 pub mod Jobs
 pub mod Made
+pub mod News
 pub mod Objects
+pub mod Plans
 pub mod Runs
 pub mod Took
 pub mod Worlds

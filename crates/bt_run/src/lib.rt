@@ -2,7 +2,9 @@
 #![tactic(auto)]
 
 pub mod job;
+mod new_objects;
 pub mod objects;
 pub mod own;
 pub mod port;
 mod serial;
+mod walks;
