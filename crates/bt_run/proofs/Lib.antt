@@ -1,9 +1,12 @@
 pub mod Finals
+pub mod ItemLemmas
 pub mod KindLemmas
 pub mod NewLemmas
 pub mod ObjectLemmas
+pub mod ReadLemmas
 pub mod Splitting
 pub mod StepLemmas
 pub mod TakeLemmas
 pub mod TurnLemmas
+pub mod WalkLemmas
 pub mod Zeros

@@ -1,6 +1,7 @@
 pub mod Counts
 pub mod Jobs
 pub mod Made
+pub mod Moments
 pub mod News
 pub mod Objects
 pub mod Plans

@@ -2,9 +2,13 @@
 #![tactic(auto)]
 
 pub mod job;
+mod ends;
+mod items;
 mod new_objects;
 pub mod objects;
 pub mod own;
 pub mod port;
+mod reads;
+pub mod run;
 mod serial;
 mod walks;

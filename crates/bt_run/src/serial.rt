@@ -52,7 +52,7 @@ fn goes_on(going: &[bool], cpu: u32) -> bool
 }
 
 /// The sum of two counts, or [`Memory`] past the greatest that fits.
-fn sum(count: u64, more: u64) -> Result<u64, Memory>
+pub(crate) fn sum(count: u64, more: u64) -> Result<u64, Memory>
     ensures { IfOk result (λ both. both ≡ count + more) }
 {
     match count.checked_add(more) {

@@ -1,8 +1,5 @@
 // Bodies by the walk of their trees.
-ghost use Rattle.std.specs.Prelude.{◌≡◌, ◌+◌, ◌<◌, ◌^◌, length, IfOk};
-ghost use Rattle.bt_meaning.specs.Walks.{walking};
-ghost use Rattle.bt_run.specs.Jobs.{cpus_in, HavePlans};
-ghost use Rattle.bt_run.specs.Plans.{plan_of};
+ghost use Rattle.std.specs.Prelude.{◌<◌};
 
 use crate::job::Job;
 use actor_plan::bodies::Bodies;
@@ -23,6 +20,8 @@ pub struct Walks<'a> {
 }
 
 impl Bodies for Walks<'_> {
+    ghost use Rattle.bt_run.specs.Plans.{plan_of};
+
     ghost plan = { plan_of };
 
     fn run<P: Port>(
@@ -43,19 +42,26 @@ impl Bodies for Walks<'_> {
     }
 }
 
-/// Walks for each actor of a job: the CPUs by their places, and the main actor.
-pub(crate) fn walks_of(alloc: Global, job: &Job) -> Result<Vec<Walks<'_>>, Memory>
-    requires { cpus_in job.now + 1 < 2 ^ 32 }
-    ensures { IfOk result (λ walks. HavePlans plan_of (cpus_in job.now + 1) (walking job.now.typed (cpus_in job.now + 1)) walks.items) }
-{
-    let actors = job.recording.cpus.len() as u32 + 1;
-    let mut walks = Vec::new(alloc);
-    for actor in 0..actors {
-        walks.push(Walks {
-            script: &job.typed,
-            actor,
-            actors,
-        })?;
+impl<'a> Walks<'a> {
+    ghost use Rattle.std.specs.Prelude.{◌+◌, ◌<◌, ◌^◌, IfOk};
+    ghost use Rattle.bt_meaning.specs.Walks.{walking};
+    ghost use Rattle.bt_run.specs.Jobs.{cpus_in, HavePlans};
+    ghost use Rattle.bt_run.specs.Plans.{plan_of};
+
+    /// Walks for each actor of a job: the CPUs by their places, and the main actor.
+    pub(crate) fn of_all(alloc: Global, job: &'a Job) -> Result<Vec<Walks<'a>>, Memory>
+        requires { cpus_in job.now + 1 < 2 ^ 32 }
+        ensures { IfOk result (λ walks. HavePlans plan_of (cpus_in job.now + 1) (walking job.now.typed (cpus_in job.now + 1)) walks.items) }
+    {
+        let actors = job.recording.cpus.len() as u32 + 1;
+        let mut walks = Vec::new(alloc);
+        for actor in 0..actors {
+            walks.push(Walks {
+                script: &job.typed,
+                actor,
+                actors,
+            })?;
+        }
+        Ok(walks)
     }
-    Ok(walks)
 }

@@ -1,0 +1,21 @@
+use Rattle.std.proofs.Common.{◌≡◌, ◌<◌, ◌+◌, List, length, get_or, sym, ap, ◌∙◌, subst, arith, sum}
+use Rattle.bt_core.specs.declared.map.MapDecl.{MapDecl}
+use Rattle.bt_core.specs.declared.step.ObjectId.TheVariants.{Shared, Cpu}
+use Rattle.bt_core.specs.declared.step.Op.TheVariants.{Read, ReadAll}
+use Rattle.bt_core.specs.Steps.{on_object, operations}
+use Rattle.agg_core.specs.Answers.{shared_answer, table_answer}
+use Rattle.step_objects.specs.Objects.{cpu_kind, CpuStands, shared_kind, SharedStands}
+use Rattle.bt_run.specs.Moments.{table_reply, table_lost, part_reply, part_lost, of_first}
+use Rattle.bt_run.specs.Objects.{OwnStands, IsPartOf}
+use Rattle.bt_run.proofs.ReadLemmas.{read_more, sum_more, same_decl}
+use Rattle.bt_run.proofs.reads.table_losses.Goals as goal
+
+pub loop-table-preserved : goal.loop-table-preserved
+loop-table-preserved c = λ maps steps all. let i = c.loop-table.table-index in
+    let lt : c.loop-table.table-index < length c.args.tables.now = c.loop-table-test.true in
+    let own : OwnStands cpu_kind CpuStands (λ (ms : List MapDecl). ms ≡ maps) steps (Cpu c.loop-table.table-index) c.table-item.result = subst (OwnStands cpu_kind CpuStands (λ (ms : List MapDecl). ms ≡ maps) steps (Cpu c.loop-table.table-index)) (sym c.table-item.is) (all i c.table-item.result lt) in
+    sum_more (table_lost maps steps c.args.map) i c.loop-table.total _ c.lost.result (c.loop-table.invariant maps steps all) (c.lost.ensures (operations (on_object (Cpu i) steps)) own.stood) c.in_ok-total.ensures
+
+pub returns : goal.returns
+returns c = λ maps steps all. let f = c.loop-table-test.false in let a = c.loop-table.auto.table-index-end in
+    c.loop-table.invariant maps steps all ∙ ap (λ n. sum (of_first (table_lost maps steps c.args.map) n)) (let e : c.loop-table.table-index ≡ length c.args.tables.now = omega arith in e)

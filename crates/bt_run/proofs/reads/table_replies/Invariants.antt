@@ -1,0 +1,12 @@
+use Rattle.std.proofs.Common.{◌≡◌, List, sum}
+use Rattle.std.specs.Prelude.{Some, slice_get}
+use Rattle.bt_core.specs.declared.map.MapDecl.{MapDecl}
+use Rattle.bt_core.specs.declared.step.ObjectId.TheVariants.{Shared, Cpu}
+use Rattle.bt_core.specs.declared.step.Step.{Step}
+use Rattle.step_objects.specs.Objects.{cpu_kind, CpuStands, shared_kind, SharedStands}
+use Rattle.bt_run.specs.Moments.{table_reply, table_lost, part_reply, part_lost, of_first}
+use Rattle.bt_run.specs.Objects.{AllStand, IsPartOf}
+use Rattle.bt_run.proofs.reads.table_replies.Given as goal
+
+abbrev pub invariant-loop-table : goal.invariant-loop-table
+invariant-loop-table l = (maps : List MapDecl) (steps : List Step) → AllStand cpu_kind CpuStands (λ ms. ms ≡ maps) steps Cpu l.tables → l.replies.items ≡ of_first (table_reply maps steps l.map) l.table-index

@@ -1,0 +1,91 @@
+// What is printed at the end of a run.
+ghost use Rattle.std.specs.Prelude.{◌≡◌, ◌<◌, ◌^◌, Some, slice_get, length, All, IfOk};
+ghost use Rattle.map_printer.specs.Ends.{end_text};
+ghost use Rattle.bt_meaning.specs.Prints.{read_of, rows_after, lost_after, of_maps};
+ghost use Rattle.bt_run.specs.Moments.{Moment, IsMoment};
+
+use crate::objects::Objects;
+use crate::reads::{part_losses, part_replies, table_losses, table_replies};
+use bt_core::item::Cell;
+use bt_core::items::Items;
+use bt_core::key::Key;
+use bt_core::map::{MapDecl, MapId, MapKind};
+use bt_core::memory::Memory;
+use bt_core::step::Reply;
+use map_printer::merging::merged;
+use map_printer::printing::print_end;
+use std::alloc::Global;
+
+/// What the objects that hold a map reply to who reads it.
+fn replies_of(
+    alloc: Global,
+    objects: &Objects,
+    map: MapId,
+    decl: &MapDecl,
+) -> Result<Vec<Reply>, Memory>
+    ghost at: { Moment }
+    requires moment { IsMoment at objects.now }
+    requires declared { slice_get at.world.maps map.0 ≡ Some decl.now }
+    ensures { IfOk result (λ replies. replies.items ≡ read_of at.world.maps at.world.cpus decl.now.kind map at.steps) }
+{
+    match decl.kind {
+        MapKind::Aggs(_) => table_replies(alloc, objects.tables.as_slice(), map),
+        MapKind::Ints | MapKind::Strs => {
+            part_replies(alloc, objects.shared[map.0 as usize].parts.as_slice(), map)
+        }
+    }
+}
+
+/// The rows of a map.
+fn rows_of(
+    alloc: Global,
+    objects: &Objects,
+    map: MapId,
+    decl: &MapDecl,
+) -> Result<Items<(Key, Cell)>, Memory>
+    ghost at: { Moment }
+    requires moment { IsMoment at objects.now }
+    requires declared { slice_get at.world.maps map.0 ≡ Some decl.now }
+    ensures { IfOk result (λ rows. rows ≡ rows_after at.world.maps at.world.cpus at.steps map decl.now) }
+{
+    let replies = replies_of(alloc, objects, map, decl)?;
+    merged(alloc, decl.kind, replies.as_slice())
+}
+
+/// How many updates of a map were lost, by all objects that hold it.
+fn lost_of(objects: &Objects, map: MapId, decl: &MapDecl) -> Result<u64, Memory>
+    ghost at: { Moment }
+    requires moment { IsMoment at objects.now }
+    requires declared { slice_get at.world.maps map.0 ≡ Some decl.now }
+    ensures { IfOk result (λ lost. lost ≡ lost_after at.world.maps at.world.cpus at.steps map decl.now) }
+{
+    match decl.kind {
+        MapKind::Aggs(_) => table_losses(objects.tables.as_slice(), map),
+        MapKind::Ints | MapKind::Strs => {
+            part_losses(objects.shared[map.0 as usize].parts.as_slice(), map)
+        }
+    }
+}
+
+/// The text of the maps and of their lost updates.
+pub(crate) fn end_of(
+    alloc: Global,
+    maps: &[MapDecl],
+    objects: &Objects,
+) -> Result<Vec<u8>, Memory>
+    ghost at: { Moment }
+    requires moment { IsMoment at objects.now }
+    requires maps { maps.now ≡ at.world.maps }
+    requires few { length maps.now < 2 ^ 32 }
+    ensures { IfOk result (λ text. text.items ≡ end_text maps.now
+        (of_maps (rows_after at.world.maps at.world.cpus at.steps) 0 maps.now) (of_maps (lost_after at.world.maps at.world.cpus at.steps) 0 maps.now)) }
+{
+    let mut rows = Vec::new(alloc);
+    let mut lost = Vec::new(alloc);
+    for (map, decl) in maps.iter().enumerate() {
+        let map = MapId(map as u32);
+        rows.push(rows_of(alloc, objects, map, decl)?)?;
+        lost.push(lost_of(objects, map, decl)?)?;
+    }
+    print_end(alloc, maps, rows.as_slice(), lost.as_slice())
+}

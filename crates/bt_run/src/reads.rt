@@ -1,0 +1,81 @@
+// What is read of the objects that hold a map.
+ghost use Rattle.std.specs.Prelude.{◌≡◌, ◌<◌, List, All, IfOk, length, sum, Some, slice_get};
+ghost use Rattle.bt_core.specs.declared.map.MapDecl.{MapDecl};
+ghost use Rattle.bt_core.specs.declared.step.ObjectId.TheVariants.{Shared as PartOf, Cpu as TablesOf};
+ghost use Rattle.bt_core.specs.declared.step.Step.{Step};
+ghost use Rattle.step_objects.specs.Objects.{cpu_kind, CpuStands, shared_kind, SharedStands, IsAggMap};
+ghost use Rattle.bt_run.specs.declared.own.OwnObject.{OwnObject};
+ghost use Rattle.bt_run.specs.Moments.{table_reply, table_lost, part_reply, part_lost, of_first};
+ghost use Rattle.bt_run.specs.Objects.{AllStand, IsPartOf};
+
+use crate::own::OwnObject;
+use crate::serial::sum;
+use bt_core::map::MapId;
+use bt_core::memory::Memory;
+use bt_core::step::Reply;
+use std::alloc::Global;
+use step_objects::cpu::CpuTable;
+use step_objects::shared::SharedPart;
+
+/// The rows of an aggregation in the tables of each actor, as replies.
+pub(crate) fn table_replies(
+    alloc: Global,
+    tables: &[OwnObject<CpuTable>],
+    map: MapId,
+) -> Result<Vec<Reply>, Memory>
+    requires { All (λ (own : OwnObject CpuTable). IsAggMap (cpu_kind own.object) map) tables.now }
+    ensures { IfOk result (λ replies. (maps : List MapDecl) (steps : List Step) → AllStand cpu_kind CpuStands (λ ms. ms ≡ maps) steps TablesOf tables.now →
+        replies.items ≡ of_first (table_reply maps steps map) (length tables.now)) }
+{
+    let mut replies = Vec::new(alloc);
+    for table in tables {
+        let reply = table.object.rows(alloc, map)?;
+        replies.push(reply)?;
+    }
+    Ok(replies)
+}
+
+/// How many updates of an aggregation the tables of all actors lost.
+pub(crate) fn table_losses(tables: &[OwnObject<CpuTable>], map: MapId) -> Result<u64, Memory>
+    requires { All (λ (own : OwnObject CpuTable). IsAggMap (cpu_kind own.object) map) tables.now }
+    ensures { IfOk result (λ lost. (maps : List MapDecl) (steps : List Step) → AllStand cpu_kind CpuStands (λ ms. ms ≡ maps) steps TablesOf tables.now →
+        lost ≡ sum (of_first (table_lost maps steps map) (length tables.now))) }
+{
+    let mut total = 0;
+    for table in tables {
+        total = sum(total, table.object.lost(map))?;
+    }
+    Ok(total)
+}
+
+/// The rows of a shared map in each of its parts, as replies.
+pub(crate) fn part_replies(
+    alloc: Global,
+    parts: &[OwnObject<SharedPart>],
+    map: MapId,
+) -> Result<Vec<Reply>, Memory>
+    requires { All (λ (own : OwnObject SharedPart). (shared_kind own.object).map ≡ map) parts.now }
+    ensures { IfOk result (λ replies. (maps : List MapDecl) (steps : List Step) (decl : MapDecl) → slice_get maps map.0 ≡ Some decl →
+        AllStand shared_kind SharedStands (IsPartOf maps map.0) steps (PartOf map) parts.now →
+        replies.items ≡ of_first (part_reply maps steps map decl) (length parts.now)) }
+{
+    let mut replies = Vec::new(alloc);
+    for part in parts {
+        let reply = part.object.rows(alloc, map)?;
+        replies.push(reply)?;
+    }
+    Ok(replies)
+}
+
+/// How many updates of a shared map all its parts lost.
+pub(crate) fn part_losses(parts: &[OwnObject<SharedPart>], map: MapId) -> Result<u64, Memory>
+    requires { All (λ (own : OwnObject SharedPart). (shared_kind own.object).map ≡ map) parts.now }
+    ensures { IfOk result (λ lost. (maps : List MapDecl) (steps : List Step) → AllStand shared_kind SharedStands (IsPartOf maps map.0) steps (PartOf map) parts.now →
+        lost ≡ sum (of_first (part_lost maps steps map) (length parts.now))) }
+{
+    let mut total = 0;
+    for part in parts {
+        total = sum(total, part.object.lost(map))?;
+    }
+    Ok(total)
+}
