@@ -4,6 +4,7 @@ pub mod KindLemmas
 pub mod NewLemmas
 pub mod ObjectLemmas
 pub mod ReadLemmas
+pub mod RunLemmas
 pub mod Splitting
 pub mod StepLemmas
 pub mod TakeLemmas
