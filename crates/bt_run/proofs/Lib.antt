@@ -1,3 +1,4 @@
+pub mod EndLemmas
 pub mod Finals
 pub mod ItemLemmas
 pub mod KindLemmas

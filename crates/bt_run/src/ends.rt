@@ -5,6 +5,7 @@ ghost use Rattle.bt_meaning.specs.Prints.{read_of, rows_after, lost_after, of_ma
 ghost use Rattle.bt_run.specs.Moments.{Moment, IsMoment};
 
 use crate::job::Job;
+use crate::new_objects::number;
 use crate::objects::Objects;
 use crate::reads::{part_losses, part_replies, table_losses, table_replies};
 use bt_core::item::Cell;
@@ -79,7 +80,6 @@ pub(crate) fn end_of(
     ghost at: { Moment }
     requires moment { IsMoment at objects.now }
     requires maps { at.world.maps ≡ job.now.typed.maps }
-    requires few { length job.now.typed.maps < 2 ^ 32 }
     ensures { IfOk result (λ text. text.items ≡ end_text job.now.typed.maps
         (of_maps (rows_after at.world.maps at.world.cpus at.steps) 0 job.now.typed.maps)
         (of_maps (lost_after at.world.maps at.world.cpus at.steps) 0 job.now.typed.maps)) }
@@ -88,7 +88,7 @@ pub(crate) fn end_of(
     let mut rows = Vec::new(alloc);
     let mut lost = Vec::new(alloc);
     for (map, decl) in maps.iter().enumerate() {
-        let map = MapId(map as u32);
+        let map = MapId(number(map)?);
         rows.push(rows_of(alloc, objects, map, decl)?)?;
         lost.push(lost_of(objects, map, decl)?)?;
     }

@@ -34,8 +34,7 @@ use weave::weave::put_in_order;
 ///
 /// [`Memory`] is the one error, also where a stamp or a count would not fit.
 pub fn run_serial(alloc: Global, job: &Job) -> Result<Work, Memory>
-    requires job { IsJob job.now.typed job.now.attached job.now.recording }
-    requires few_maps { length job.now.typed.maps < 2 ^ 32 }
+    requires { IsJob job.now.typed job.now.attached job.now.recording }
     ensures replayed { let p = replay_of job.now.typed job.now.attached job.now.recording in IfOk result (λ work. IsReplayed p work.steps) }
     ensures serial { let p = replay_of job.now.typed job.now.attached job.now.recording in IfOk result (λ work. (object : ObjectId) →
         map unstamped (on_object object work.steps) ≡ on_object object (serial_steps p)) }
