@@ -129,7 +129,7 @@ module _ (p : Replay) (calls : ObjectId → Op → Type 0) (kinds : (object : Ob
 
 -- ---- scripts
 
-size_at : (bodies : List TypedBody) (i : ℕ) (b : TypedBody) → slice_get bodies i ≡ Some b → slice_index (map (λ (x : TypedBody). least_length x.layout) bodies) i ≡ least_length b.layout
+pub size_at : (bodies : List TypedBody) (i : ℕ) (b : TypedBody) → slice_get bodies i ≡ Some b → slice_index (map (λ (x : TypedBody). least_length x.layout) bodies) i ≡ least_length b.layout
 size_at [] i b e = cc
 size_at (x ∷ xs) zero b e = ap (λ (y : TypedBody). least_length y.layout) (same x b e)
   where
@@ -160,7 +160,7 @@ fine_kind Ints h = tt
 fine_kind Strs h = tt
 fine_kind (Aggs k) h = fine_agg k h
 
-all_fine : (decls : List MapDecl) → list_all is_fine_decl decls ≡ true → AllByRecursion IsFineDecl decls
+pub all_fine : (decls : List MapDecl) → list_all is_fine_decl decls ≡ true → AllByRecursion IsFineDecl decls
 all_fine [] h = tt
 all_fine (d ∷ ds) h =
     let p = and_parts (is_fine_decl d) (list_all is_fine_decl ds) h in

@@ -30,7 +30,7 @@ own_by : (w : World) (object : ObjectId) (s : Step) (rest : List Op) (b : Bool) 
 own_by w object s rest true e h all = (subst (λ o. IsOwn w o s.op) (is_same_object-true s.object object e) h, all)
 own_by w object s rest false e h all = all
 
-operations_by : (b : Bool) (s : Step) (steps : List Step) → operations (cond b (s ∷ steps) steps) ≡ cond b (s.op ∷ operations steps) (operations steps)
+pub operations_by : (b : Bool) (s : Step) (steps : List Step) → operations (cond b (s ∷ steps) steps) ≡ cond b (s.op ∷ operations steps) (operations steps)
 operations_by true s steps = refl
 operations_by false s steps = refl
 

@@ -1,9 +1,11 @@
+pub mod EndLemmas
 pub mod Finals
 pub mod ItemLemmas
 pub mod KindLemmas
 pub mod NewLemmas
 pub mod ObjectLemmas
 pub mod ReadLemmas
+pub mod RunLemmas
 pub mod Splitting
 pub mod StepLemmas
 pub mod TakeLemmas

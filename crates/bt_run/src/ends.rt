@@ -4,6 +4,8 @@ ghost use Rattle.map_printer.specs.Ends.{end_text};
 ghost use Rattle.bt_meaning.specs.Prints.{read_of, rows_after, lost_after, of_maps};
 ghost use Rattle.bt_run.specs.Moments.{Moment, IsMoment};
 
+use crate::job::Job;
+use crate::new_objects::number;
 use crate::objects::Objects;
 use crate::reads::{part_losses, part_replies, table_losses, table_replies};
 use bt_core::item::Cell;
@@ -11,10 +13,11 @@ use bt_core::items::Items;
 use bt_core::key::Key;
 use bt_core::map::{MapDecl, MapId, MapKind};
 use bt_core::memory::Memory;
-use bt_core::step::Reply;
+use bt_core::step::{Reply, Step};
 use map_printer::merging::merged;
 use map_printer::printing::print_end;
 use std::alloc::Global;
+use std::snapshot::Snapshot;
 
 /// What the objects that hold a map reply to who reads it.
 fn replies_of(
@@ -67,23 +70,25 @@ fn lost_of(objects: &Objects, map: MapId, decl: &MapDecl) -> Result<u64, Memory>
     }
 }
 
-/// The text of the maps and of their lost updates.
+/// The text of the maps and of their lost updates, after these steps were made at the objects.
 pub(crate) fn end_of(
     alloc: Global,
-    maps: &[MapDecl],
+    job: &Job,
     objects: &Objects,
+    _made: Snapshot<Vec<Step>>,
 ) -> Result<Vec<u8>, Memory>
     ghost at: { Moment }
     requires moment { IsMoment at objects.now }
-    requires maps { maps.now ≡ at.world.maps }
-    requires few { length maps.now < 2 ^ 32 }
-    ensures { IfOk result (λ text. text.items ≡ end_text maps.now
-        (of_maps (rows_after at.world.maps at.world.cpus at.steps) 0 maps.now) (of_maps (lost_after at.world.maps at.world.cpus at.steps) 0 maps.now)) }
+    requires maps { at.world.maps ≡ job.now.typed.maps }
+    ensures { IfOk result (λ text. text.items ≡ end_text job.now.typed.maps
+        (of_maps (rows_after at.world.maps at.world.cpus at.steps) 0 job.now.typed.maps)
+        (of_maps (lost_after at.world.maps at.world.cpus at.steps) 0 job.now.typed.maps)) }
 {
+    let maps = job.typed.maps.as_slice();
     let mut rows = Vec::new(alloc);
     let mut lost = Vec::new(alloc);
     for (map, decl) in maps.iter().enumerate() {
-        let map = MapId(map as u32);
+        let map = MapId(number(map)?);
         rows.push(rows_of(alloc, objects, map, decl)?)?;
         lost.push(lost_of(objects, map, decl)?)?;
     }

@@ -7,6 +7,7 @@ mod items;
 mod new_objects;
 pub mod objects;
 pub mod own;
+pub mod plans;
 pub mod port;
 mod reads;
 pub mod run;

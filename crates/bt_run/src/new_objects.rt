@@ -46,14 +46,24 @@ fn parts_of(alloc: Global, map: u32, decl: &MapDecl) -> Result<MapParts, Memory>
     }
 }
 
+/// The number of a map at a place, or [`Memory`] past the greatest that fits.
+pub(crate) fn number(place: usize) -> Result<u32, Memory>
+    ensures { IfOk result (λ map. map ≡ place) }
+{
+    match u32::try_from(place) {
+        Ok(map) => Ok(map),
+        Err(_) => Err(Memory),
+    }
+}
+
 /// The parts of all maps, each map at its number.
 fn parts_of_all(alloc: Global, maps: &[MapDecl]) -> Result<Vec<MapParts>, Memory>
-    requires { length maps.now < 2 ^ 32 }
     ensures { IfOk result (λ all. NewMaps maps.now all.items) }
 {
     let mut all = Vec::new(alloc);
     for (map, decl) in maps.iter().enumerate() {
-        all.push(parts_of(alloc, map as u32, decl)?)?;
+        let map = number(map)?;
+        all.push(parts_of(alloc, map, decl)?)?;
     }
     Ok(all)
 }
@@ -78,7 +88,6 @@ pub(crate) fn new_objects(alloc: Global, job: &Job) -> Result<Objects, Memory>
     requires some_cpus { 0 < cpus_in job.now }
     requires few_cpus { cpus_in job.now + 1 < 2 ^ 32 }
     requires few_ticks { length job.now.attached.ticks < 2 ^ 32 }
-    requires few_maps { length job.now.typed.maps < 2 ^ 32 }
     ensures { IfOk result (λ objects. Stand (world_for job.now) [] objects) }
 {
     let cpus = job.recording.cpus.len() as u32;

@@ -20,6 +20,7 @@ use bt_core::items::Items;
 use bt_core::memory::Memory;
 use bt_meaning::schedule::schedule;
 use std::alloc::Global;
+use std::snapshot::Snapshot;
 use weave::weave::put_in_order;
 
 /// Runs a job on one thread, by walking the trees of its bodies: `BEGIN`, the items of all agendas in the serial order, each by its
@@ -33,8 +34,7 @@ use weave::weave::put_in_order;
 ///
 /// [`Memory`] is the one error, also where a stamp or a count would not fit.
 pub fn run_serial(alloc: Global, job: &Job) -> Result<Work, Memory>
-    requires job { IsJob job.now.typed job.now.attached job.now.recording }
-    requires few_maps { length job.now.typed.maps < 2 ^ 32 }
+    requires { IsJob job.now.typed job.now.attached job.now.recording }
     ensures replayed { let p = replay_of job.now.typed job.now.attached job.now.recording in IfOk result (λ work. IsReplayed p work.steps) }
     ensures serial { let p = replay_of job.now.typed job.now.attached job.now.recording in IfOk result (λ work. (object : ObjectId) →
         map unstamped (on_object object work.steps) ≡ on_object object (serial_steps p)) }
@@ -50,6 +50,7 @@ pub fn run_serial(alloc: Global, job: &Job) -> Result<Work, Memory>
     let objects = new_objects(alloc, job)?;
     let (objects, mut steps, instructions) =
         make_steps(alloc, job, order.as_slice(), &mut walks, objects)?;
+    let made = Snapshot::of(&steps);
     put_in_order(&mut steps);
     let script = &job.typed;
     let mut text = Vec::new(alloc);
@@ -60,7 +61,7 @@ pub fn run_serial(alloc: Global, job: &Job) -> Result<Work, Memory>
         script.maps.as_slice(),
         steps.as_slice(),
     )?;
-    let end = end_of(alloc, script.maps.as_slice(), &objects)?;
+    let end = end_of(alloc, job, &objects, made)?;
     text.extend_from_slice(end.as_slice())?;
     Ok(Work {
         steps: Items::of(steps),

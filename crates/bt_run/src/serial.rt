@@ -1,6 +1,5 @@
 // The run on one thread, up to its list of steps.
-ghost use Rattle.std.specs.Prelude.{◌≡◌, ◌+◌, ◌<◌, ℕ, [], true, false, length, map, replicate, slice_index_or, IfOk, OnOk};
-ghost use Rattle.actor_plan.specs.Plans.{Plan};
+ghost use Rattle.std.specs.Prelude.{◌≡◌, ◌+◌, ◌<◌, [], true, false, length, map, replicate, slice_index_or, IfOk, OnOk};
 ghost use Rattle.bt_meaning.specs.Schedules.{serial_order, cpu_of_due as due_cpu, item_of_due as due_item};
 ghost use Rattle.bt_meaning.specs.Replays.{begin_of, end_of};
 ghost use Rattle.bt_meaning.specs.Serial.{unstamped, then_steps, then_value, taken};
@@ -12,6 +11,7 @@ ghost use Rattle.bt_run.specs.Runs.{first_turn};
 
 use crate::job::Job;
 use crate::objects::Objects;
+use crate::plans::ActorPlans;
 use crate::port::SerialPort;
 use actor_plan::agenda::AgendaItem;
 use actor_plan::bodies::Bodies;
@@ -62,7 +62,7 @@ pub(crate) fn sum(count: u64, more: u64) -> Result<u64, Memory>
 }
 
 /// Takes one item, if its CPU's program goes on, and notes whether it still does. Gives how many instructions were executed.
-fn take_next<B: Bodies>(
+fn take_next<B: Bodies + ActorPlans>(
     alloc: Global,
     job: &Job,
     item: &Scheduled,
@@ -70,15 +70,14 @@ fn take_next<B: Bodies>(
     bodies: &mut Vec<B>,
     port: &mut SerialPort,
 ) -> Result<u64, Memory>
-    ghost plans: { ℕ → Plan }
-    requires can { CanRunAll job.now plans }
-    requires have { HavePlans B.plan (cpus_in job.now + 1) plans bodies.old.items }
+    requires can { CanRunAll job.now (B.plans job.now) }
+    requires have { HavePlans B.plan (cpus_in job.now + 1) (B.plans job.now) bodies.old.items }
     requires among { port.old.turn.among ≡ true }
     requires world { port.old.world ≡ world_for job.now }
     requires long { length going.old.items ≡ cpus_in job.now }
-    ensures next { IfOk result (λ count. TakesNext (replay_with job.now plans) item.now count
+    ensures next { IfOk result (λ count. TakesNext (replay_with job.now (B.plans job.now)) item.now count
         going.old.items (map unstamped port.old.steps) going.new.items (map unstamped port.new.steps)) }
-    ensures have { OnOk result (HavePlans B.plan (cpus_in job.now + 1) plans bodies.new.items) }
+    ensures have { OnOk result (HavePlans B.plan (cpus_in job.now + 1) (B.plans job.now) bodies.new.items) }
     ensures long { OnOk result (length going.new.items ≡ cpus_in job.now) }
     ensures world { OnOk result (port.new.world ≡ world_for job.now) }
     ensures among { OnOk result (port.new.turn.among ≡ true) }
@@ -106,23 +105,22 @@ fn take_next<B: Bodies>(
 }
 
 /// Takes all items in their order, but those of a CPU whose program has ended.
-fn take_all<B: Bodies>(
+fn take_all<B: Bodies + ActorPlans>(
     alloc: Global,
     job: &Job,
     order: &[Scheduled],
     bodies: &mut Vec<B>,
     port: &mut SerialPort,
 ) -> Result<u64, Memory>
-    ghost plans: { ℕ → Plan }
-    requires can { CanRunAll job.now plans }
-    requires have { HavePlans B.plan (cpus_in job.now + 1) plans bodies.old.items }
+    requires can { CanRunAll job.now (B.plans job.now) }
+    requires have { HavePlans B.plan (cpus_in job.now + 1) (B.plans job.now) bodies.old.items }
     requires among { port.old.turn.among ≡ true }
     requires world { port.old.world ≡ world_for job.now }
-    ensures serial { OnOk result (taken (replay_with job.now plans) order.now (replicate (cpus_in job.now) true)
+    ensures serial { OnOk result (taken (replay_with job.now (B.plans job.now)) order.now (replicate (cpus_in job.now) true)
         (map unstamped port.old.steps) ≡ map unstamped port.new.steps) }
-    ensures counted { IfOk result (λ count. count ≡ taken_count (replay_with job.now plans) order.now (replicate (cpus_in job.now) true)
+    ensures counted { IfOk result (λ count. count ≡ taken_count (replay_with job.now (B.plans job.now)) order.now (replicate (cpus_in job.now) true)
         (map unstamped port.old.steps)) }
-    ensures have { OnOk result (HavePlans B.plan (cpus_in job.now + 1) plans bodies.new.items) }
+    ensures have { OnOk result (HavePlans B.plan (cpus_in job.now + 1) (B.plans job.now) bodies.new.items) }
     ensures world { OnOk result (port.new.world ≡ world_for job.now) }
     ensures among { OnOk result (port.new.turn.among ≡ true) }
     ensures begun { OnOk result (port.new.turn.begun ≡ port.old.turn.begun) }
@@ -137,23 +135,22 @@ fn take_all<B: Bodies>(
 }
 
 /// Runs the bodies of `BEGIN`.
-fn begin<B: Bodies>(
+fn begin<B: Bodies + ActorPlans>(
     alloc: Global,
     job: &Job,
     bodies: &mut Vec<B>,
     port: &mut SerialPort,
 ) -> Result<u64, Memory>
-    ghost plans: { ℕ → Plan }
-    requires can { CanRunAll job.now plans }
-    requires have { HavePlans B.plan (cpus_in job.now + 1) plans bodies.old.items }
+    requires can { CanRunAll job.now (B.plans job.now) }
+    requires have { HavePlans B.plan (cpus_in job.now + 1) (B.plans job.now) bodies.old.items }
     requires first { port.old.turn ≡ first_turn (cpus_in job.now) }
     requires none { port.old.steps ≡ [] }
     requires world { port.old.world ≡ world_for job.now }
-    ensures serial { OnOk result (then_steps (replay_with job.now plans) (cpus_in job.now) (begin_of (replay_with job.now plans)) []
+    ensures serial { OnOk result (then_steps (replay_with job.now (B.plans job.now)) (cpus_in job.now) (begin_of (replay_with job.now (B.plans job.now))) []
         ≡ map unstamped port.new.steps) }
     ensures counted { IfOk result (λ count. count ≡
-        then_value (replay_with job.now plans) (cpus_in job.now) (begin_of (replay_with job.now plans)) []) }
-    ensures have { OnOk result (HavePlans B.plan (cpus_in job.now + 1) plans bodies.new.items) }
+        then_value (replay_with job.now (B.plans job.now)) (cpus_in job.now) (begin_of (replay_with job.now (B.plans job.now))) []) }
+    ensures have { OnOk result (HavePlans B.plan (cpus_in job.now + 1) (B.plans job.now) bodies.new.items) }
     ensures world { OnOk result (port.new.world ≡ world_for job.now) }
     ensures among { OnOk result (port.new.turn.among ≡ true) }
     ensures begun { OnOk result (port.new.turn.begun ≡ length port.new.steps) }
@@ -166,21 +163,20 @@ fn begin<B: Bodies>(
 }
 
 /// Runs the bodies of `END`.
-fn end<B: Bodies>(
+fn end<B: Bodies + ActorPlans>(
     alloc: Global,
     job: &Job,
     bodies: &mut Vec<B>,
     port: &mut SerialPort,
 ) -> Result<u64, Memory>
-    ghost plans: { ℕ → Plan }
-    requires can { CanRunAll job.now plans }
-    requires have { HavePlans B.plan (cpus_in job.now + 1) plans bodies.old.items }
+    requires can { CanRunAll job.now (B.plans job.now) }
+    requires have { HavePlans B.plan (cpus_in job.now + 1) (B.plans job.now) bodies.old.items }
     requires among { port.old.turn.among ≡ true }
     requires world { port.old.world ≡ world_for job.now }
-    ensures serial { OnOk result (then_steps (replay_with job.now plans) (cpus_in job.now) (end_of (replay_with job.now plans))
+    ensures serial { OnOk result (then_steps (replay_with job.now (B.plans job.now)) (cpus_in job.now) (end_of (replay_with job.now (B.plans job.now)))
         (map unstamped port.old.steps) ≡ map unstamped port.new.steps) }
     ensures counted { IfOk result (λ count. count ≡
-        then_value (replay_with job.now plans) (cpus_in job.now) (end_of (replay_with job.now plans)) (map unstamped port.old.steps)) }
+        then_value (replay_with job.now (B.plans job.now)) (cpus_in job.now) (end_of (replay_with job.now (B.plans job.now))) (map unstamped port.old.steps)) }
     ensures world { OnOk result (port.new.world ≡ world_for job.now) }
     ensures begun { OnOk result (port.new.turn.begun ≡ port.old.turn.begun) }
 {
@@ -193,19 +189,18 @@ fn end<B: Bodies>(
 
 /// Runs a job on one thread: `BEGIN`, the items in the serial order, and `END`. Gives the objects as they then are, the steps in
 /// the order in which they were made, and how many instructions were executed.
-pub(crate) fn make_steps<B: Bodies>(
+pub(crate) fn make_steps<B: Bodies + ActorPlans>(
     alloc: Global,
     job: &Job,
     order: &[Scheduled],
     bodies: &mut Vec<B>,
     objects: Objects,
 ) -> Result<(Objects, Vec<Step>, u64), Memory>
-    ghost plans: { ℕ → Plan }
-    requires can { CanRunAll job.now plans }
-    requires have { HavePlans B.plan (cpus_in job.now + 1) plans bodies.old.items }
+    requires can { CanRunAll job.now (B.plans job.now) }
+    requires have { HavePlans B.plan (cpus_in job.now + 1) (B.plans job.now) bodies.old.items }
     requires order { order.now ≡ serial_order job.now.recording job.now.attached }
     requires stand { Stand (world_for job.now) [] objects }
-    ensures { IfOk result (λ made. IsMade job.now plans made.0 made.1.items made.2) }
+    ensures { IfOk result (λ made. IsMade job.now (B.plans job.now) made.0 made.1.items made.2) }
 {
     let cpus = job.recording.cpus.len() as u32;
     let ticks = job.attached.ticks.len() as u32;

@@ -2,6 +2,7 @@
 ghost use Rattle.std.specs.Prelude.{◌<◌};
 
 use crate::job::Job;
+use crate::plans::ActorPlans;
 use actor_plan::bodies::Bodies;
 use bt_core::context::Context;
 use bt_core::memory::Memory;
@@ -40,6 +41,12 @@ impl Bodies for Walks<'_> {
             }
         }
     }
+}
+
+impl ActorPlans for Walks<'_> {
+    ghost use Rattle.bt_run.specs.Plans.{walks_over};
+
+    ghost plans = { walks_over };
 }
 
 impl<'a> Walks<'a> {

@@ -1,6 +1,7 @@
-use Rattle.std.proofs.Common.{◌≡◌, ◌<◌, ◌+◌, length, refl, ap, sym, ◌∙◌, arith}
+use Rattle.std.proofs.Common.{◌≡◌, ◌<◌, ◌+◌, length, refl, ap, sym, ◌∙◌, subst, arith}
 use Rattle.std.specs.Prelude.{slice_get, Some}
 use Rattle.std.proofs.lemmas.Option.{slice_get-get_or, slice_get_within}
+use Rattle.bt_run.specs.News.{AreNewParts}
 use Rattle.bt_run.proofs.NewLemmas.{maps_more, count_more}
 use Rattle.bt_run.proofs.new_objects.parts_of_all.Goals as goal
 
@@ -11,7 +12,8 @@ loop-map-preserved c =
     let there : slice_get c.args.maps.now c.loop-map.map ≡ Some c.index-maps-map.result =
     slice_get-get_or c.args.maps.now c.loop-map.map c.index-maps-map.result c.loop-map-test.true ∙ ap Some (sym c.index-maps-map.is) in record {
       count = omega arith;
-      each = maps_more c.args.maps.now c.loop-map.all.items _ c.in_ok-parts_of.field-0 c.index-maps-map.result c.loop-map.map i there c.in_ok-parts_of.ensures c.in_ok-push.ensures.items c.loop-map.invariant.each;
+      each = maps_more c.args.maps.now c.loop-map.all.items _ c.in_ok-parts_of.field-0 c.index-maps-map.result c.loop-map.map i there
+          (subst (λ n. AreNewParts n c.index-maps-map.result c.in_ok-parts_of.field-0) c.in_ok-map.ensures c.in_ok-parts_of.ensures) c.in_ok-push.ensures.items c.loop-map.invariant.each;
     }
 
 pub returns : goal.returns

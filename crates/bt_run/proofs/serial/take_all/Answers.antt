@@ -11,8 +11,8 @@ pub loop-item-preserved : goal.loop-item-preserved
 loop-item-preserved g c = let i = c.loop-item.invariant in let t = c.in_ok-count.ensures in
     let lt : c.loop-item.item-index < length c.args.order.now = omega arith in
     record {
-      left = loop_steps c.args.job.now g.plans c.args.order.now c.loop-item.item-index _ c.in_ok-count.count c.loop-item.going.items _ (map unstamped c.loop-item.port.steps) _ _ lt t.next i.left;
-      counted = loop_counts c.args.job.now g.plans c.args.order.now c.loop-item.item-index _ c.in_ok-count.count c.loop-item.total _ c.loop-item.going.items _ (map unstamped c.loop-item.port.steps) _ _ lt t.next c.in_ok-total.ensures i.counted;
+      left = loop_steps c.args.job.now (g.B.ActorPlans.plans c.args.job.now) c.args.order.now c.loop-item.item-index _ c.in_ok-count.count c.loop-item.going.items _ (map unstamped c.loop-item.port.steps) _ _ lt t.next i.left;
+      counted = loop_counts c.args.job.now (g.B.ActorPlans.plans c.args.job.now) c.args.order.now c.loop-item.item-index _ c.in_ok-count.count c.loop-item.total _ c.loop-item.going.items _ (map unstamped c.loop-item.port.steps) _ _ lt t.next c.in_ok-total.ensures i.counted;
       have = t.have;
       long = t.long;
       world = t.world;

@@ -5,16 +5,13 @@ use Rattle.bt_run.specs.Counts.{taken_count}
 use Rattle.bt_run.specs.Jobs.{cpus_in, replay_with, world_for, HavePlans}
 use Rattle.bt_run.proofs.serial.take_all.Given as goal
 
-abbrev pub ghost-take_next : goal.ghost-take_next
-ghost-take_next g a = g.plans
-
 abbrev pub invariant-loop-item : goal.invariant-loop-item
 invariant-loop-item g l = record {
-  left : taken (replay_with l.job g.plans) (drop l.item-index l.order) l.going.items (map unstamped l.port.steps)
-      ≡ taken (replay_with l.job g.plans) l.order (replicate (cpus_in l.job) true) (map unstamped l.fn.port.steps);
-  counted : l.total + taken_count (replay_with l.job g.plans) (drop l.item-index l.order) l.going.items (map unstamped l.port.steps)
-      ≡ taken_count (replay_with l.job g.plans) l.order (replicate (cpus_in l.job) true) (map unstamped l.fn.port.steps);
-  have : HavePlans g.B.Bodies.plan (cpus_in l.job + 1) g.plans l.bodies.items;
+  left : taken (replay_with l.job (g.B.ActorPlans.plans l.job)) (drop l.item-index l.order) l.going.items (map unstamped l.port.steps)
+      ≡ taken (replay_with l.job (g.B.ActorPlans.plans l.job)) l.order (replicate (cpus_in l.job) true) (map unstamped l.fn.port.steps);
+  counted : l.total + taken_count (replay_with l.job (g.B.ActorPlans.plans l.job)) (drop l.item-index l.order) l.going.items (map unstamped l.port.steps)
+      ≡ taken_count (replay_with l.job (g.B.ActorPlans.plans l.job)) l.order (replicate (cpus_in l.job) true) (map unstamped l.fn.port.steps);
+  have : HavePlans g.B.Bodies.plan (cpus_in l.job + 1) (g.B.ActorPlans.plans l.job) l.bodies.items;
   long : length l.going.items ≡ cpus_in l.job;
   world : l.port.world ≡ world_for l.job;
   among : l.port.turn.among ≡ true;

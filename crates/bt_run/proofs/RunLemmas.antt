@@ -1,0 +1,140 @@
+-- What a run prints depends on the operations at each object alone.
+use Rattle.std.proofs.Common.{◌≡◌, ℕ, ◌+◌, Bool, true, false, cond, List, [], ◌∷◌, ◌++◌, map, sum, sym, refl, ap, ◌∙◌, subst}
+use Rattle.std.specs.Prelude.{All, Option, Some, None, IsSomeAnd, slice_get}
+use Rattle.std.specs.List.{AllByRecursion, filter_map, flat_map, cons_option}
+use Rattle.std.specs.List.Sorted.{IsPermutation}
+use Rattle.std.proofs.lemmas.List.Elements.{All-from_recursion}
+use Rattle.std.proofs.lemmas.List.Sorted.{IsPermutation-sym}
+use Rattle.bt_core.specs.declared.item.Item.{Item}
+use Rattle.bt_core.specs.declared.map.MapDecl.{MapDecl}
+use Rattle.bt_core.specs.declared.step.ObjectId.{ObjectId}
+use Rattle.bt_core.specs.declared.step.ObjectId.TheVariants.{Shared, Cpu, Clock, Out}
+use Rattle.bt_core.specs.declared.step.Op.{Op}
+use Rattle.bt_core.specs.declared.step.Op.TheVariants.{Emit}
+use Rattle.bt_core.specs.declared.step.Step.{Step}
+use Rattle.bt_core.specs.Kinds.{IsFineDecl, IsShared}
+use Rattle.bt_core.specs.Ports.{IsSharedOp, IsTableOp, IsClockOp}
+use Rattle.bt_core.specs.Steps.{is_on, is_same_object, on_object, operations}
+use Rattle.agg_core.specs.Answers.{answer}
+use Rattle.map_printer.specs.Ends.{end_text}
+use Rattle.map_printer.specs.ItemTexts.{item_text, IsItemOf}
+use Rattle.map_printer.specs.Merged.{merged}
+use Rattle.map_printer.proofs.MergedFitting.{merged_fit}
+use Rattle.turn_lock.specs.History.{Each}
+use Rattle.typed_tree.specs.declared.script.Typed.{Typed}
+use Rattle.weave.specs.Order.{InOrder}
+use Rattle.weave.proofs.Among.{each_has as each_member, each_from as each_of}
+use Rattle.weave.proofs.Rising.{has_moved}
+use Rattle.bt_walk.specs.Admits.{EmitsOnly}
+use Rattle.bt_walk.specs.declared.sweep.Sweep.TheVariants as sweeps
+use Rattle.bt_walk.specs.Maps.{sweep_op}
+use Rattle.bt_meaning.specs.Instructions.{instructions_of}
+use Rattle.bt_meaning.specs.Interleavings.{IsReplayed}
+use Rattle.bt_meaning.specs.Jobs.{IsJob}
+use Rattle.bt_meaning.specs.OwnSteps.{IsOwnStep}
+use Rattle.bt_meaning.specs.Prints.{emitted, item_in, operations_at, holders_of, lost_by, rows_after, lost_after, of_maps, printed_text}
+use Rattle.bt_meaning.specs.Serial.{unstamped, serial_steps}
+use Rattle.bt_meaning.specs.Walks.{walking, replay_of}
+use Rattle.bt_meaning.proofs.Eachs.{each_so}
+use Rattle.bt_meaning.proofs.OwnCalls.{all_fine, script_steps}
+use Rattle.bt_meaning.proofs.SerialLaws.{serial_interleaves}
+use Rattle.bt_run.specs.declared.job.Job.{Job}
+use Rattle.bt_run.specs.declared.objects.Objects.{Objects}
+use Rattle.bt_run.specs.Jobs.{cpus_in, world_for}
+use Rattle.bt_run.specs.Made.{IsMade}
+use Rattle.bt_run.specs.Moments.{Moment, IsMoment}
+use Rattle.bt_run.specs.Worlds.{World, IsOwn}
+use Rattle.bt_run.proofs.Finals.{replayed, operations_same, operations_serial}
+use Rattle.bt_run.proofs.KindLemmas.{operations_by}
+use Rattle.bt_run.proofs.Zeros.{serial_zero, instructions_zero, walk_zero}
+
+-- ---- what is emitted stands at the output
+
+not_shared : (o : Option MapDecl) (op : Op) → IsSomeAnd o (λ decl. IsShared decl.kind × IsSharedOp decl op) → item_in op ≡ None
+not_shared None op h = absurd h
+not_shared (Some d) (Emit item) h = absurd h.1
+not_shared (Some d) op h = refl
+
+not_tables : (maps : List MapDecl) (op : Op) → IsTableOp maps op → item_in op ≡ None
+not_tables maps (Emit item) h = absurd h
+not_tables maps op h = refl
+
+not_clock : (ticks : ℕ) (op : Op) → IsClockOp ticks op → item_in op ≡ None
+not_clock ticks (Emit item) h = absurd h
+not_clock ticks op h = refl
+
+by_object : (w : World) (o : ObjectId) (op : Op) (items : List Item) (rest : List Op) → IsOwn w o op → items ≡ filter_map item_in rest
+    → cons_option (item_in op) items ≡ filter_map item_in (cond (is_same_object o Out) (op ∷ rest) rest)
+by_object w (Shared m p) op items rest h e = ap (λ x. cons_option x items) (not_shared (slice_get w.maps m.0) op h.1) ∙ e
+by_object w (Cpu a) op items rest h e = ap (λ x. cons_option x items) (not_tables w.maps op h.1) ∙ e
+by_object w Clock op items rest h e = ap (λ x. cons_option x items) (not_clock w.ticks op h) ∙ e
+by_object w Out op items rest h e = ap (cons_option (item_in op)) e
+
+pub emitted_out : (w : World) (steps : List Step) → Each (λ (s : Step). IsOwn w s.object s.op) steps → emitted steps ≡ filter_map item_in (operations_at Out steps)
+emitted_out w [] h = refl
+emitted_out w (s ∷ ss) h = by_object w s.object s.op (emitted ss) (operations (on_object Out ss)) h.0 (emitted_out w ss h.1)
+    ∙ ap (filter_map item_in) (sym (operations_by (is_on Out s) s (on_object Out ss)))
+
+own_unstamped : (w : World) (steps : List Step) → Each (λ (s : Step). IsOwn w s.object s.op) steps → Each (λ (s : Step). IsOwn w s.object s.op) (map unstamped steps)
+own_unstamped w [] h = tt
+own_unstamped w (s ∷ ss) h = (h.0, own_unstamped w ss h.1)
+
+-- ---- the same text
+
+module _ (script : Typed) (cpus : ℕ) (xs ys : List Step) (same : (object : ObjectId) → operations_at object xs ≡ operations_at object ys) where
+  pub rows_same : (n : ℕ) (decls : List MapDecl) → of_maps (rows_after script.maps cpus xs) n decls ≡ of_maps (rows_after script.maps cpus ys) n decls
+  rows_same n decls = λ i. of_maps (λ m decl. merged decl.kind (map (λ object. answer script.maps cpus object (same object i) (sweep_op sweeps.Read decl.kind m)) (holders_of script.maps cpus decl.kind m))) n decls
+
+  pub losses_same : (n : ℕ) (decls : List MapDecl) → of_maps (lost_after script.maps cpus xs) n decls ≡ of_maps (lost_after script.maps cpus ys) n decls
+  losses_same n decls = λ i. of_maps (λ m decl. sum (map (λ object. lost_by decl.kind m (same object i)) (holders_of script.maps cpus decl.kind m))) n decls
+
+  pub text_same : emitted xs ≡ emitted ys → printed_text script cpus xs ≡ printed_text script cpus ys
+  unfolding printed_text
+  text_same e = λ i. flat_map (item_text script.formats script.maps) (e i) ++ end_text script.maps (rows_same 0 script.maps i) (losses_same 0 script.maps i)
+
+  -- the text is written in two parts
+  pub text_is : (text items end : List ℕ) → text ≡ items ++ end → items ≡ flat_map (item_text script.formats script.maps) (emitted ys)
+      → end ≡ end_text script.maps (of_maps (rows_after script.maps cpus xs) 0 script.maps) (of_maps (lost_after script.maps cpus xs) 0 script.maps)
+      → text ≡ printed_text script cpus ys
+  unfolding printed_text
+  text_is text items end t a b = t ∙ (λ i. a i ++ (b ∙ (λ k. end_text script.maps (rows_same 0 script.maps k) (losses_same 0 script.maps k))) i)
+
+-- ---- whole runs
+
+module _ (job : Job) (is_job : IsJob job.typed job.attached job.recording) (objects : Objects) (made steps : List Step) (n : ℕ)
+    (is : IsMade job (walking job.typed (cpus_in job + 1)) objects made n) (moved : IsPermutation made steps) (order : InOrder steps) where
+  pub run_replayed : IsReplayed (replay_of job.typed job.attached job.recording) steps
+  run_replayed = replayed job (walking job.typed (cpus_in job + 1)) objects made steps n is moved order
+      (serial_interleaves (replay_of job.typed job.attached job.recording) is_job.valid is_job.in_turn (λ actor. refl))
+
+  own_steps : AllByRecursion (IsOwnStep job.typed job.attached job.recording) steps
+  own_steps = script_steps job.typed job.attached job.recording is_job merged_fit steps run_replayed.interleaving
+
+  pub run_items : All (λ (s : Step). EmitsOnly (IsItemOf job.typed.formats job.typed.maps) s.op) steps
+  run_items = All-from_recursion (λ (s : Step). EmitsOnly (IsItemOf job.typed.formats job.typed.maps) s.op) steps
+      (each_so (IsOwnStep job.typed job.attached job.recording) (λ (s : Step). EmitsOnly (IsItemOf job.typed.formats job.typed.maps) s.op) (λ s own. own.0.1) steps own_steps)
+
+  pub run_moment : (value : List Step) → value ≡ made → IsMoment (record { world = world_for job; steps = value }) objects
+  run_moment value e = subst (λ l. IsMoment (record { world = world_for job; steps = l }) objects) (sym e) (record {
+    fine = All-from_recursion IsFineDecl job.typed.maps (all_fine job.typed.maps job.typed.fine);
+    possible = is.possible;
+    stand = is.stand;
+  })
+
+  pub run_same : (object : ObjectId) → operations_at object made ≡ operations_at object steps
+  run_same object = operations_same job (walking job.typed (cpus_in job + 1)) objects made steps n is moved order object
+
+  possible : Each (λ (s : Step). IsOwn (world_for job) s.object s.op) steps
+  possible = each_of (λ (s : Step). IsOwn (world_for job) s.object s.op) steps
+      (λ s h. each_member (λ (s : Step). IsOwn (world_for job) s.object s.op) made s is.possible (has_moved steps made s (IsPermutation-sym made steps moved) h))
+
+  pub run_prints_serial : printed_text job.typed (cpus_in job) steps ≡ printed_text job.typed (cpus_in job) (serial_steps (replay_of job.typed job.attached job.recording))
+  run_prints_serial =
+      let serial = serial_steps (replay_of job.typed job.attached job.recording) in
+      let same = λ (object : ObjectId). operations_serial job (walking job.typed (cpus_in job + 1)) objects made steps n is moved order object in
+      let own : Each (λ (s : Step). IsOwn (world_for job) s.object s.op) serial = subst (Each (λ (s : Step). IsOwn (world_for job) s.object s.op)) (sym is.is_serial) (own_unstamped (world_for job) made is.possible) in
+      text_same job.typed (cpus_in job) steps serial same
+      (emitted_out (world_for job) steps possible ∙ ap (filter_map item_in) (same Out) ∙ sym (emitted_out (world_for job) serial own))
+
+  pub run_counts : (all : List Step) → n ≡ instructions_of (replay_of job.typed job.attached job.recording) all
+  run_counts all = is.counted ∙ serial_zero (replay_of job.typed job.attached job.recording) (walk_zero job.typed (cpus_in job + 1)) ∙ sym (instructions_zero (replay_of job.typed job.attached job.recording) (walk_zero job.typed (cpus_in job + 1)) all)
