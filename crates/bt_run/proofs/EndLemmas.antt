@@ -84,7 +84,7 @@ module _ (at : Moment) (objects : Objects) (m : MapId) (decl : MapDecl) (is : Is
       h at.world.maps at.steps (subst (AllStand cpu_kind CpuStands (λ ms. ms ≡ at.world.maps) at.steps Cpu) (sym same) is.stand.tables)
       ∙ ap (λ n. sum (of_first (table_lost at.world.maps at.steps m) n)) (ap length same ∙ is.stand.table_count)
       ∙ sym (ap (λ k. sum (map (λ object. lost_by k m (operations_at object at.steps)) (holders_of at.world.maps at.world.cpus k m))) e
-        ∙ ap sum (map_twice (λ object. lost_by (Aggs kind) m (operations_at object at.steps)) (holder (Aggs kind) m) (range_with_len 0 (at.world.cpus + 1))))
+      ∙ ap sum (map_twice (λ object. lost_by (Aggs kind) m (operations_at object at.steps)) (holder (Aggs kind) m) (range_with_len 0 (at.world.cpus + 1))))
 
   -- ---- a shared map
 

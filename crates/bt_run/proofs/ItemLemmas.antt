@@ -25,4 +25,3 @@ items_more f steps i s out0 out new lt at was is =
     let one : take (i + 1) steps ≡ take i steps ++ s ∷ [] = take_more steps i s lt ∙ ap (λ x. take i steps ++ x ∷ []) (sym at) in
     is ∙ ap (λ l. l ++ flat_map f (emitted (s ∷ []))) was ∙ append_assoc out0 (flat_map f (emitted (take i steps))) (flat_map f (emitted (s ∷ [])))
     ∙ ap (λ l. out0 ++ l) (sym (flat_map-append f (emitted (take i steps)) (emitted (s ∷ []))) ∙ ap (flat_map f) (sym (ap emitted one ∙ emitted-append (take i steps) (s ∷ []))))
-

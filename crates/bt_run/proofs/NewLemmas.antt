@@ -41,7 +41,7 @@ maps_more maps all new x decl k long there one is each m e d lt found =
     let l = count_more all new x is in
     dite (ℕ_discrete m k)
     (λ same. let decls : decl ≡ e = some_same decl e (slice_get maps k) there (ap (slice_get maps) (sym same) ∙ found) in
-      subst (λ (z : ℕ × MapDecl × MapParts). AreNewParts z.0 z.1 z.2) (λ i. (sym same i, decls i, (sym (ap (λ l. get_or l m d) is ∙ ap (λ n. get_or (all ++ x ∷ []) n d) same ∙ last_at all x d k long)) i)) one)
+    subst (λ (z : ℕ × MapDecl × MapParts). AreNewParts z.0 z.1 z.2) (λ i. (sym same i, decls i, (sym (ap (λ l. get_or l m d) is ∙ ap (λ n. get_or (all ++ x ∷ []) n d) same ∙ last_at all x d k long)) i)) one)
     (λ ne. subst (λ z. AreNewParts m e z) (sym (ap (λ l. get_or l m d) is ∙ get_or-append all (x ∷ []) d m (omega arith))) (each m e d (omega arith) found))
   where
     some_same : {A : Type 0} (a b : A) (o : Option A) → o ≡ Some a → o ≡ Some b → a ≡ b

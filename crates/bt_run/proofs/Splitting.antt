@@ -33,7 +33,7 @@ module _ (main begun : ℕ) (steps : List Step) (between : StandsBetween main be
   first_own (suc k) before [] e own count = refl
   first_own (suc k) before (s ∷ ss) e own count = dite (ℕ_discrete s.actor main)
       (λ is. ap (λ (b : Bool). cond b (s ∷ of_actor main (take k ss)) (of_actor main (take k ss))) (eq-eqb s.actor main is)
-        ∙ ap (λ l. s ∷ l) (first_own k (before ++ s ∷ []) ss (one_more before s ss e) (own_more before s is ∙ ap (λ l. l ++ s ∷ []) own) (let l = length-append before (s ∷ []) in omega arith)))
+      ∙ ap (λ l. s ∷ l) (first_own k (before ++ s ∷ []) ss (one_more before s ss e) (own_more before s is ∙ ap (λ l. l ++ s ∷ []) own) (let l = length-append before (s ∷ []) in omega arith)))
       (λ ne. absurd (let q = between before s ss e ne in let l = ap length own in omega arith))
 
   pub begin_own : of_actor main (take begun steps) ≡ take begun steps
@@ -54,11 +54,11 @@ module _ (main begun : ℕ) (steps : List Step) (between : StandsBetween main be
   two_parts before [] e le = refl
   two_parts before (s ∷ ss) e le = dite (ℕ_discrete s.actor main)
       (λ is. let r = after_end (before ++ s ∷ []) ss (one_more before s ss e) (let l = long_own before s is in omega arith) in
-        sym ((λ i. (ap (λ (b : Bool). cond (not b) (s ∷ not_main ss) (not_main ss)) (eq-eqb s.actor main is) ∙ r.0) i
-          ++ (ap (λ (b : Bool). cond b (s ∷ of_actor main ss) (of_actor main ss)) (eq-eqb s.actor main is) ∙ ap (λ l. s ∷ l) r.1) i)))
+      sym ((λ i. (ap (λ (b : Bool). cond (not b) (s ∷ not_main ss) (not_main ss)) (eq-eqb s.actor main is) ∙ r.0) i
+      ++ (ap (λ (b : Bool). cond b (s ∷ of_actor main ss) (of_actor main ss)) (eq-eqb s.actor main is) ∙ ap (λ l. s ∷ l) r.1) i)))
       (λ ne. ap (λ l. s ∷ l) (two_parts (before ++ s ∷ []) ss (one_more before s ss e) (let l = long_more before s in omega arith))
-        ∙ sym (λ i. ap (λ (b : Bool). cond (not b) (s ∷ not_main ss) (not_main ss)) (ne_eqb s.actor main ne) i
-          ++ ap (λ (b : Bool). cond b (s ∷ of_actor main ss) (of_actor main ss)) (ne_eqb s.actor main ne) i))
+      ∙ sym (λ i. ap (λ (b : Bool). cond (not b) (s ∷ not_main ss) (not_main ss)) (ne_eqb s.actor main ne) i
+      ++ ap (λ (b : Bool). cond b (s ∷ of_actor main ss) (of_actor main ss)) (ne_eqb s.actor main ne) i))
 
 -- ---- what is kept of an actor
 

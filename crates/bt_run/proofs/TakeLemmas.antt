@@ -159,7 +159,7 @@ module _ (job : Job) (plans : ℕ → Plan) where
       alone_is job plans cpu i track plan there planned ∙ (λ k. alone (replay_with job plans) (is_cpu k) (is_item k)) in
       let whole : Whole t old.steps new.steps o = subst (λ (z : Interaction Outcome × List Step). Whole z.0 z.1 new.steps o) (λ k. (program k, steps k)) w in
       let r = taken_by job plans (cpu_of_due s.due) t old new o seen (world_same new.world turned.world new.turn.actor turned.turn.actor kept ∙ world)
-          (ap (λ u. u.start) turn ∙ start) (ap (λ u. u.actor) turn ∙ actor ∙ is_cpu) whole in
+      (ap (λ u. u.start) turn ∙ start) (ap (λ u. u.actor) turn ∙ actor ∙ is_cpu) whole in
       subst (λ n. TakesNext (replay_with job plans) s o.instructions going (map unstamped old.steps) (slice_set going n o.to_end) (map unstamped new.steps)) (sym is_cpu)
       (item_taken job plans s going (map unstamped old.steps) (ap (λ n. slice_index_or going n false) (sym is_cpu) ∙ on) (map unstamped new.steps) o r.0 r.1)
 

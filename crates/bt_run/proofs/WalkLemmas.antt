@@ -60,6 +60,5 @@ can_walk script body b context payload setting actor actors low e can served =
 pub walk_done : (t : Interaction Ending) (old new : List Step) (e : Ending) → Whole t old new e → Whole {A = ℕ} (and_then t (λ ending. Ended 0)) old new 0
 walk_done t old new e w = let zero : ℕ = 0 in Whole-and_then t (λ ending. Ended zero) old new new e zero w (Whole-Ended zero zero new refl)
 
-
 pub walk_stopped : (t : Interaction Ending) (old new : List Step) → Part t old new → Part {A = ℕ} (and_then t (λ ending. Ended 0)) old new
 walk_stopped t old new w = let zero : ℕ = 0 in Part-and_then t (λ ending. Ended zero) old new w

@@ -76,7 +76,7 @@ module _ (plan : Plan) (r : Recording) (attached : Attached) (none : TakesNothin
   pub item_zero : (track : CpuTrack) (i : AgendaItem) → EndsIn IsZero (item_work plan r attached track i)
   item_zero track (item.Tick place) = some_zero (tick_work plan r attached track place) (slice_get attached.ticks place)
       (λ t. ends_then (λ (last : Bool). Unit {0}) IsZero (crosses_last place) _ (ends_any (crosses_last place))
-        (λ last u. elim last as (λ b. EndsIn IsZero (if b then plan.run t.body (tick_context r track t) [] else Ended 0)) [ true ↦ none t.body (tick_context r track t) [] | false ↦ refl ]))
+      (λ last u. elim last as (λ b. EndsIn IsZero (if b then plan.run t.body (tick_context r track t) [] else Ended 0)) [ true ↦ none t.body (tick_context r track t) [] | false ↦ refl ]))
   item_zero track (item.Event place) = some_zero (event_work plan r attached track) (slice_get track.events place) (λ e. turns_zero (λ body. plan.run body (event_context r track e) e.payload) (bodies_at plan r attached e) (λ body. none body (event_context r track e) e.payload))
 
   pub items_zero : (exits : Bool) (track : CpuTrack) (items : List AgendaItem) → EndsIn TookNone (items_program exits (item_work plan r attached track) items)
@@ -131,8 +131,8 @@ module _ (p : Replay) (none : (actor : ℕ) → TakesNothing (p.plan actor)) whe
       let on = taken_zero ss (slice_set going (cpu_of_due s.due) (then_value p (cpu_of_due s.due) (alone p (cpu_of_due s.due) (item_of_due s.due)) before).to_end) (then_steps p (cpu_of_due s.due) (alone p (cpu_of_due s.due) (item_of_due s.due)) before) in
       let this = ends_then_value TookNone p (cpu_of_due s.due) (alone p (cpu_of_due s.due) (item_of_due s.due)) before (alone_zero (cpu_of_due s.due) (item_of_due s.due) (slice_get p.recording.cpus (cpu_of_due s.due))) in
       elim (slice_index_or going (cpu_of_due s.due) false) as (λ b. (if b then (then_value p (cpu_of_due s.due) (alone p (cpu_of_due s.due) (item_of_due s.due)) before).instructions
-        + taken_count p ss (slice_set going (cpu_of_due s.due) (then_value p (cpu_of_due s.due) (alone p (cpu_of_due s.due) (item_of_due s.due)) before).to_end) (then_steps p (cpu_of_due s.due) (alone p (cpu_of_due s.due) (item_of_due s.due)) before)
-        else taken_count p ss going before) ≡ 0) [ true ↦ (λ i. this i + on i) | false ↦ taken_zero ss going before ]
+      + taken_count p ss (slice_set going (cpu_of_due s.due) (then_value p (cpu_of_due s.due) (alone p (cpu_of_due s.due) (item_of_due s.due)) before).to_end) (then_steps p (cpu_of_due s.due) (alone p (cpu_of_due s.due) (item_of_due s.due)) before)
+      else taken_count p ss going before) ≡ 0) [ true ↦ (λ i. this i + on i) | false ↦ taken_zero ss going before ]
 
   pub serial_zero : serial_count p ≡ 0
   serial_zero =

@@ -14,8 +14,8 @@ module _ (p : Replay) where
       if slice_index_or going (cpu_of_due s.due) false
       then (then_value p (cpu_of_due s.due) (alone p (cpu_of_due s.due) (item_of_due s.due)) before).instructions
       + taken_count ss
-        (slice_set going (cpu_of_due s.due) (then_value p (cpu_of_due s.due) (alone p (cpu_of_due s.due) (item_of_due s.due)) before).to_end)
-        (then_steps p (cpu_of_due s.due) (alone p (cpu_of_due s.due) (item_of_due s.due)) before)
+      (slice_set going (cpu_of_due s.due) (then_value p (cpu_of_due s.due) (alone p (cpu_of_due s.due) (item_of_due s.due)) before).to_end)
+      (then_steps p (cpu_of_due s.due) (alone p (cpu_of_due s.due) (item_of_due s.due)) before)
       else taken_count ss going before
 
   -- those of BEGIN, of all items, and of END

@@ -1,9 +1,9 @@
 //! Whole runs of a script over a recording.
 #![tactic(auto)]
 
-pub mod job;
 mod ends;
 mod items;
+pub mod job;
 mod new_objects;
 pub mod objects;
 pub mod own;

@@ -69,7 +69,11 @@ fn parts_of_all(alloc: Global, maps: &[MapDecl]) -> Result<Vec<MapParts>, Memory
 }
 
 /// The tables of so many actors.
-fn tables_of(alloc: Global, maps: &Items<MapDecl>, actors: u32) -> Result<Vec<OwnObject<CpuTable>>, Memory>
+fn tables_of(
+    alloc: Global,
+    maps: &Items<MapDecl>,
+    actors: u32,
+) -> Result<Vec<OwnObject<CpuTable>>, Memory>
     requires { All IsFineDecl maps.now }
     ensures new { IfOk result (λ tables. AreNew cpu_kind CpuStands maps.now tables.items) }
     ensures count { IfOk result (λ tables. length tables.items ≡ actors) }

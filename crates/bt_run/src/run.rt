@@ -48,8 +48,13 @@ pub fn run_serial(alloc: Global, job: &Job) -> Result<Work, Memory>
     let order = schedule(alloc, &job.recording, &job.attached)?;
     let mut walks = Walks::of_all(alloc, job)?;
     let objects = new_objects(alloc, job)?;
-    let (objects, mut steps, instructions) =
-        make_steps(alloc, job, order.as_slice(), &mut walks, objects)?;
+    let (objects, mut steps, instructions) = make_steps(
+        alloc,
+        job,
+        order.as_slice(),
+        &mut walks,
+        objects,
+    )?;
     let made = Snapshot::of(&steps);
     put_in_order(&mut steps);
     let script = &job.typed;

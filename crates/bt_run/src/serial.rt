@@ -156,7 +156,13 @@ fn begin<B: Bodies + ActorPlans>(
     ensures begun { OnOk result (port.new.turn.begun ≡ length port.new.steps) }
 {
     let main = job.recording.cpus.len();
-    let count = run_begin(alloc, &mut bodies[main], &job.recording, &job.attached, port)?;
+    let count = run_begin(
+        alloc,
+        &mut bodies[main],
+        &job.recording,
+        &job.attached,
+        port,
+    )?;
     port.stands();
     port.go_to_cpus();
     Ok(count)
@@ -182,7 +188,13 @@ fn end<B: Bodies + ActorPlans>(
 {
     port.go_to_end();
     let main = job.recording.cpus.len();
-    let count = run_end(alloc, &mut bodies[main], &job.recording, &job.attached, port)?;
+    let count = run_end(
+        alloc,
+        &mut bodies[main],
+        &job.recording,
+        &job.attached,
+        port,
+    )?;
     port.stands();
     Ok(count)
 }

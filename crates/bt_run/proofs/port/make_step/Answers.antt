@@ -18,7 +18,7 @@ returns-clause-run c = let r = c.args.run.now in let run = c.requires.run in
     let made : c.push_reserved.new.self.items ≡ r.steps.items ++ s ∷ [] = c.push_reserved.ensures.items ∙ ap (λ l. l ++ s ∷ []) c.in_ok-reserve.ensures.items in
     subst (λ (z : _ × _). IsRunOf (world_of r) c.take_at.new.objects (slice_set r.lasts.items r.turn.actor c.in_ok-reply.stamp) z.0 z.1 r.turn) (λ k. (sym c.max-run.ensures k, sym made k))
     (run_more (world_of r) r.objects c.take_at.new.objects r.lasts.items r.top r.steps.items r.turn c.args.object c.args.op c.max-clock.result (c.in_ok-reply.reply, c.in_ok-reply.stamp) c.index.result.now run own
-      (c.max-clock.ensures ∙ ap (λ n. max n r.turn.floor) c.index.ensures) (c.in_ok-reply.ensures.taken (world_of r) r.steps.items run.stand own))
+    (c.max-clock.ensures ∙ ap (λ n. max n r.turn.floor) c.index.ensures) (c.in_ok-reply.ensures.taken (world_of r) r.steps.items run.stand own))
 
 pub returns-clause-replied : goal.returns-clause-replied
 returns-clause-replied c = let r = c.args.run.now in let run = c.requires.run in

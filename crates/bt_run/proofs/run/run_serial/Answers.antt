@@ -46,7 +46,7 @@ returns-clause-printed c =
     c.in_ok-write_steps.ensures ∙ (λ i. c.new-text.ensures.items i ++ flat_map (item_text (c.as_slice-2.ensures i) (c.as_slice-3.ensures i)) (emitted (c.as_slice-4.ensures.value i))) in
     c.of-2.ensures
     ∙ text_is c.args.job.now.typed (cpus_in c.args.job.now) c.of-made.result.value.items c.put_in_order.new.steps.items (λ object. ap (λ (l : List Step). operations_at object l) made ∙ same object)
-      c.extend_from_slice.new.self.items c.write_steps.new.out.items c.in_ok-end.end.items (c.in_ok-extend_from_slice.ensures.items ∙ ap (λ l. c.write_steps.new.out.items ++ l) c.as_slice-5.ensures.value) items c.in_ok-end.ensures
+    c.extend_from_slice.new.self.items c.write_steps.new.out.items c.in_ok-end.end.items (c.in_ok-extend_from_slice.ensures.items ∙ ap (λ l. c.write_steps.new.out.items ++ l) c.as_slice-5.ensures.value) items c.in_ok-end.ensures
     ∙ ap (printed_text c.args.job.now.typed (cpus_in c.args.job.now)) (sym c.of.ensures)
 
 pub returns-clause-printed_serial : goal.returns-clause-printed_serial

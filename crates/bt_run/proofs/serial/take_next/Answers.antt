@@ -17,7 +17,7 @@ take_item-requires-clause-ready g c =
     let t = c.turn_to.ensures in
     subst (λ n. IsReady (g.B.Bodies.plan c.index_mut.result.now) c.args.job.now.recording c.args.job.now.attached (setting_in c.turn_to.new.self.world n)) (sym t.actor)
     (ready c.args.job.now (g.B.ActorPlans.plans c.args.job.now) c.requires.can c.cpu_of_due-cpu.result c.turn_to.new.self.world (g.B.Bodies.plan c.index_mut.result.now) (t.world ∙ c.requires.world)
-      (plan_at c.args.job.now (g.B.ActorPlans.plans c.args.job.now) g.B.Bodies.plan c.args.bodies.now.items c.cpu_of_due-cpu.result c.index_mut.result.now c.requires.have lt c.index_mut.ensures.value))
+    (plan_at c.args.job.now (g.B.ActorPlans.plans c.args.job.now) g.B.Bodies.plan c.args.bodies.now.items c.cpu_of_due-cpu.result c.index_mut.result.now c.requires.have lt c.index_mut.ensures.value))
 
 pub take_item-requires-clause-on_cpu : goal.take_item-requires-clause-on_cpu
 take_item-requires-clause-on_cpu g c =
