@@ -32,11 +32,8 @@ use Rattle.bt_run.specs.declared.objects.Objects.{Objects}
 use Rattle.bt_run.specs.Jobs.{cpus_in, replay_with, world_for}
 use Rattle.bt_run.specs.Made.{IsMade}
 use Rattle.bt_run.specs.Worlds.{answers}
+use Rattle.bt_run.proofs.TakeLemmas.{each_recursion}
 use Rattle.bt_run.proofs.Splitting.{begin_own, two_parts, own_are, cpus_are, plain_runs, same_runs, same_parts}
-
-each_recursion : {A : Type 0} (P : A → Type 0) (xs : List A) → Each P xs → AllByRecursion P xs
-each_recursion P [] h = tt
-each_recursion P (x ∷ xs) h = (h.0, each_recursion P xs h.1)
 
 -- the serial list begins with BEGIN's steps
 begins_so : (p : Replay) → (more : List Step) × (serial_steps p ≡ begun_steps p ++ more)

@@ -35,6 +35,7 @@ use Rattle.bt_run.specs.declared.own.OwnObject.{OwnObject}
 use Rattle.bt_run.specs.declared.objects.MapParts.{MapParts}
 use Rattle.bt_run.specs.declared.objects.Objects.{Objects}
 use Rattle.bt_run.specs.Took.{Took, TookAt}
+use Rattle.bt_run.proofs.ReadLemmas.{same_decl}
 use Rattle.bt_run.specs.Worlds.{World, IsOwn, answers}
 use Rattle.bt_run.specs.Objects.{OwnStands, AllStand, IsPartOf, PartsStand, Stand, IsAnswer}
 
@@ -366,13 +367,10 @@ module _ (objects : Objects) (op : Op) (floor : ℕ) where
     pub part_there : (w : World) × (steps : List Step) × Stand w steps objects × IsOwn w object op → p < length one.parts.items
     part_there h = part_within h.0 h.1 h.2 (subst (λ o. IsOwn h.0 o op) is h.3)
 
-    same_some : (a b : MapDecl) (o : Option MapDecl) → o ≡ Some a → o ≡ Some b → a ≡ b
-    same_some a b o e f = cc
-
     pub part_own : (w : World) × (steps : List Step) × Stand w steps objects × IsOwn w object op → (d : OwnObject SharedPart) → IsSharedOp (shared_kind (slice_index_or one.parts.items p d).object).decl op
     part_own h d = let own = subst (λ o. IsOwn h.0 o op) is h.3 in let decl = decl_there h.0 h.1 h.2 own in
         let stands = (parts_of h.0 h.1 h.2 own).each p d (part_within h.0 h.1 h.2 own) in
-        subst (λ x. IsSharedOp x op) (same_some decl.0 (shared_kind (slice_index_or one.parts.items p d).object).decl (slice_get h.0.maps m.0) decl.1 stands.fit.declared) decl.3
+        subst (λ x. IsSharedOp x op) (same_decl decl.0 (shared_kind (slice_index_or one.parts.items p d).object).decl (slice_get h.0.maps m.0) decl.1 stands.fit.declared) decl.3
 
 -- the map of an operation is there
 pub map_there : (objects : Objects) (object : ObjectId) (op : Op) (m : MapId) (p : ℕ) → object ≡ Shared m p → (w : World) × (steps : List Step) × Stand w steps objects × IsOwn w object op → m.0 < length objects.shared.items

@@ -31,7 +31,7 @@ use Rattle.bt_meaning.proofs.Stepping.{takes_made, unstamped_length}
 drop_own : (a b : List Step) → drop (length a) (a ++ b) ≡ b
 drop_own a b = drop-append-le (length a) a b (omega arith) ∙ ap (λ l. l ++ b) (drop_all (length a) a (omega arith))
 
-each_recursion : {A : Type 0} (P : A → Type 0) (xs : List A) → Each P xs → AllByRecursion P xs
+pub each_recursion : {A : Type 0} (P : A → Type 0) (xs : List A) → Each P xs → AllByRecursion P xs
 each_recursion P [] h = tt
 each_recursion P (x ∷ xs) h = (h.0, each_recursion P xs h.1)
 
