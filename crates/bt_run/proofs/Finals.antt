@@ -1,6 +1,6 @@
 -- The steps of the run on one thread, put in order, are an interleaving in the order of its stamps.
-use Rattle.std.proofs.Common.{◌≡◌, ◌≢◌, ℕ, ◌+◌, ◌<◌, ◌≤◌, not, Bool, true, false, cond, List, [], ◌∷◌, ◌++◌, length, map, take, drop, sym, refl, ap, ◌∙◌, subst, arith, append_assoc, append-nil, eq-eqb, ne_eqb, length-append}
-use Rattle.std.specs.Prelude.{All, replicate}
+use Rattle.std.proofs.Common.{◌≡◌, ◌≢◌, ℕ, ◌<◌, ◌≤◌, not, true, false, List, [], ◌++◌, length, map, take, drop, sym, refl, ap, ◌∙◌, subst, arith, append_assoc, append-nil, ne_eqb, length-append}
+use Rattle.std.specs.Prelude.{replicate}
 use Rattle.std.specs.List.{AllByRecursion, filter}
 use Rattle.std.specs.List.Sorted.{IsPermutation}
 use Rattle.std.proofs.lemmas.List.{take-append-drop, length-take-le}
@@ -10,8 +10,7 @@ use Rattle.std.proofs.lemmas.List.Sorted.{IsPermutation-sym}
 use Rattle.bt_core.specs.declared.step.ObjectId.{ObjectId}
 use Rattle.bt_core.specs.declared.step.Step.{Step}
 use Rattle.bt_core.specs.Interaction.{Runs}
-use Rattle.bt_core.specs.Steps.{is_of, of_actor, on_object, operations, RepliesFollow}
-use Rattle.turn_lock.specs.History.{Each}
+use Rattle.bt_core.specs.Steps.{is_of, of_actor, on_object, operations}
 use Rattle.weave.specs.Lists.{SameLimits}
 use Rattle.weave.specs.Order.{InOrder}
 use Rattle.weave.specs.Woven.{IsWoven, StandsBetween}
@@ -20,10 +19,10 @@ use Rattle.weave.proofs.Orders.{level}
 use Rattle.weave.proofs.Rising.{has_moved}
 use Rattle.weave.proofs.Sorting.{limits, replies, woven, stands}
 use Rattle.actor_plan.specs.Plans.{Plan}
-use Rattle.bt_meaning.specs.Interleavings.{IsInterleaving, IsWhole, IsReplayed}
-use Rattle.bt_meaning.specs.Replays.{Replay, answers_of, begin_of, cpu_of, cpus_of, end_of}
+use Rattle.bt_meaning.specs.Interleavings.{IsInterleaving, IsReplayed}
+use Rattle.bt_meaning.specs.Replays.{Replay, begin_of, cpu_of, cpus_of, end_of}
 use Rattle.bt_meaning.specs.Schedules.{serial_order}
-use Rattle.bt_meaning.specs.Serial.{unstamped, then_steps, then_value, begun_steps, taken_steps, serial_steps}
+use Rattle.bt_meaning.specs.Serial.{unstamped, then_value, begun_steps, taken_steps, serial_steps}
 use Rattle.bt_meaning.proofs.Eachs.{each_so, each_back, filter_none}
 use Rattle.bt_meaning.proofs.ItemByItem.{takes_all}
 use Rattle.bt_meaning.proofs.Stepping.{own_part, other_part, takes_whole, unstamped_append, unstamped_length, unstamped_of_actor, unstamped_on_object, unstamped_operations}

@@ -1,12 +1,11 @@
 -- One step more at one of the objects.
-use Rattle.std.proofs.Common.{◌≡◌, ◌≢◌, ℕ, zero, suc, max, ◌+◌, ◌<◌, ◌≤◌, Bool, true, false, cond, List, [], ◌∷◌, ◌++◌, length, map, get_or, slice_set, Result, Ok, Err, IfOk, OnErr, sym, refl, ap, ◌∙◌, subst, arith, ne_eqb}
+use Rattle.std.proofs.Common.{◌≡◌, ◌≢◌, ℕ, suc, max, ◌+◌, ◌<◌, ◌≤◌, Bool, true, false, cond, List, [], ◌∷◌, ◌++◌, length, get_or, slice_set, Result, Ok, Err, IfOk, OnErr, sym, refl, ap, ◌∙◌, subst, arith, ne_eqb}
 use Rattle.std.specs.Prelude.{slice_get, slice_index_or, Option, Some, None, IsSomeAnd}
 use Rattle.std.proofs.lemmas.List.{append-nil, get_or-set_same, get_or-set_other, length-set}
 use Rattle.std.proofs.lemmas.Option.{slice_get_within}
 use Rattle.std.proofs.Common.{◌==◌, ◌&&◌}
 use mathlib.Core.Logic.{dite}
 use native.Mathlib.Decide.{ℕ_discrete}
-use Rattle.bt_core.specs.declared.limits.TheConstants.{PARTS}
 use Rattle.bt_core.specs.declared.map.MapDecl.{MapDecl}
 use Rattle.bt_core.specs.declared.map.MapId.{MapId}
 use Rattle.bt_core.specs.declared.memory.Memory.{Memory}
@@ -18,7 +17,7 @@ use Rattle.bt_core.specs.declared.step.Reply.TheVariants.{Done}
 use Rattle.bt_core.specs.declared.step.Step.{Step}
 use Rattle.bt_core.specs.Kinds.{IsShared}
 use Rattle.bt_core.specs.Ports.{IsSharedOp, IsTableOp, IsClockOp, IsOutOp}
-use Rattle.bt_core.specs.Steps.{is_same_object, is_on, on_object, operations}
+use Rattle.bt_core.specs.Steps.{is_same_object, on_object, operations}
 use Rattle.bt_core.proofs.StepLists.{is_same_object-refl, on_object-append, operations-append}
 use Rattle.agg_core.specs.Answers.{shared_answer, table_answer, clock_answer, kind_of_decl}
 use Rattle.step_objects.specs.declared.clock.ClockKind.{ClockKind}
@@ -36,7 +35,7 @@ use Rattle.bt_run.specs.declared.objects.MapParts.{MapParts}
 use Rattle.bt_run.specs.declared.objects.Objects.{Objects}
 use Rattle.bt_run.specs.Took.{Took, TookAt}
 use Rattle.bt_run.proofs.ReadLemmas.{same_decl}
-use Rattle.bt_run.specs.Worlds.{World, IsOwn, answers}
+use Rattle.bt_run.specs.Worlds.{World, IsOwn}
 use Rattle.bt_run.specs.Objects.{OwnStands, AllStand, IsPartOf, PartsStand, Stand, IsAnswer}
 
 greatest_snoc : (ss : List Step) (s : Step) → greatest ss ≤ s.stamp → greatest (ss ++ s ∷ []) ≡ s.stamp
