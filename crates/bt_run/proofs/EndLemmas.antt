@@ -5,7 +5,6 @@ use Rattle.std.specs.List.{range_with_len}
 use Rattle.std.proofs.lemmas.List.{drop_all}
 use Rattle.std.proofs.lemmas.List.Elements.{All-nil}
 use Rattle.std.proofs.lemmas.Option.{slice_get_within}
-use Rattle.bt_core.specs.declared.item.Cell.{Cell}
 use Rattle.bt_core.specs.declared.limits.TheConstants.{PARTS}
 use Rattle.bt_core.specs.declared.map.AggKind.{AggKind}
 use Rattle.bt_core.specs.declared.map.MapDecl.{MapDecl}
@@ -17,13 +16,12 @@ use Rattle.bt_core.specs.declared.step.ObjectId.TheVariants.{Shared, Cpu}
 use Rattle.bt_core.specs.declared.step.Op.TheVariants.{Read, ReadAll}
 use Rattle.bt_core.specs.declared.step.Reply.{Reply}
 use Rattle.bt_core.specs.declared.step.Step.{Step}
-use Rattle.bt_core.specs.declared.value.Value.{Value}
 use Rattle.bt_core.specs.Kinds.{IsShared, IsAggregation}
 use Rattle.bt_core.specs.Ports.{IsSharedOp}
-use Rattle.agg_core.specs.Answers.{kind_in, kind_of_decl, shared_answer}
+use Rattle.agg_core.specs.Answers.{kind_of_decl, shared_answer}
 use Rattle.map_printer.specs.Ends.{AllRowsFit}
-use Rattle.map_printer.specs.Fits.{IsReadReply, IsRowOf}
-use Rattle.map_printer.specs.Merged.{merged, HasRowsOf}
+use Rattle.map_printer.specs.Fits.{IsReadReply}
+use Rattle.map_printer.specs.Merged.{HasRowsOf}
 use Rattle.map_printer.proofs.MergedFitting.{merged_fit, reply_has_rows}
 use Rattle.step_objects.specs.declared.cpu.CpuTable.{CpuTable}
 use Rattle.step_objects.specs.declared.shared.SharedPart.{SharedPart}
@@ -36,7 +34,7 @@ use Rattle.bt_run.specs.declared.objects.Objects.{Objects}
 use Rattle.bt_run.specs.declared.own.OwnObject.{OwnObject}
 use Rattle.bt_run.specs.Moments.{Moment, IsMoment, table_reply, table_lost, part_reply, part_lost, of_first}
 use Rattle.bt_run.specs.Objects.{AllStand, IsPartOf, PartsStand}
-use Rattle.bt_run.specs.Worlds.{answers, IsOwn}
+use Rattle.bt_run.specs.Worlds.{answers}
 use Rattle.bt_run.proofs.KindLemmas.{answer_is_of_its_kind}
 use Rattle.bt_run.proofs.NewLemmas.{all_more}
 use Rattle.bt_run.proofs.ReadLemmas.{first_more}

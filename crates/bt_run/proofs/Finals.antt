@@ -1,6 +1,6 @@
 -- The steps of the run on one thread, put in order, are an interleaving in the order of its stamps.
-use Rattle.std.proofs.Common.{◌≡◌, ◌≢◌, ℕ, ◌+◌, ◌<◌, ◌≤◌, not, Bool, true, false, cond, List, [], ◌∷◌, ◌++◌, length, map, take, drop, sym, refl, ap, ◌∙◌, subst, arith, append_assoc, append-nil, eq-eqb, ne_eqb, length-append}
-use Rattle.std.specs.Prelude.{All, replicate}
+use Rattle.std.proofs.Common.{◌≡◌, ◌≢◌, ℕ, ◌<◌, ◌≤◌, not, true, false, List, [], ◌++◌, length, map, take, drop, sym, refl, ap, ◌∙◌, subst, arith, append_assoc, append-nil, ne_eqb, length-append}
+use Rattle.std.specs.Prelude.{replicate}
 use Rattle.std.specs.List.{AllByRecursion, filter}
 use Rattle.std.specs.List.Sorted.{IsPermutation}
 use Rattle.std.proofs.lemmas.List.{take-append-drop, length-take-le}
@@ -10,8 +10,7 @@ use Rattle.std.proofs.lemmas.List.Sorted.{IsPermutation-sym}
 use Rattle.bt_core.specs.declared.step.ObjectId.{ObjectId}
 use Rattle.bt_core.specs.declared.step.Step.{Step}
 use Rattle.bt_core.specs.Interaction.{Runs}
-use Rattle.bt_core.specs.Steps.{is_of, of_actor, on_object, operations, RepliesFollow}
-use Rattle.turn_lock.specs.History.{Each}
+use Rattle.bt_core.specs.Steps.{is_of, of_actor, on_object, operations}
 use Rattle.weave.specs.Lists.{SameLimits}
 use Rattle.weave.specs.Order.{InOrder}
 use Rattle.weave.specs.Woven.{IsWoven, StandsBetween}
@@ -20,10 +19,10 @@ use Rattle.weave.proofs.Orders.{level}
 use Rattle.weave.proofs.Rising.{has_moved}
 use Rattle.weave.proofs.Sorting.{limits, replies, woven, stands}
 use Rattle.actor_plan.specs.Plans.{Plan}
-use Rattle.bt_meaning.specs.Interleavings.{IsInterleaving, IsWhole, IsReplayed}
-use Rattle.bt_meaning.specs.Replays.{Replay, answers_of, begin_of, cpu_of, cpus_of, end_of}
+use Rattle.bt_meaning.specs.Interleavings.{IsInterleaving, IsReplayed}
+use Rattle.bt_meaning.specs.Replays.{Replay, begin_of, cpu_of, cpus_of, end_of}
 use Rattle.bt_meaning.specs.Schedules.{serial_order}
-use Rattle.bt_meaning.specs.Serial.{unstamped, then_steps, then_value, begun_steps, taken_steps, serial_steps}
+use Rattle.bt_meaning.specs.Serial.{unstamped, then_value, begun_steps, taken_steps, serial_steps}
 use Rattle.bt_meaning.proofs.Eachs.{each_so, each_back, filter_none}
 use Rattle.bt_meaning.proofs.ItemByItem.{takes_all}
 use Rattle.bt_meaning.proofs.Stepping.{own_part, other_part, takes_whole, unstamped_append, unstamped_length, unstamped_of_actor, unstamped_on_object, unstamped_operations}
@@ -32,11 +31,8 @@ use Rattle.bt_run.specs.declared.objects.Objects.{Objects}
 use Rattle.bt_run.specs.Jobs.{cpus_in, replay_with, world_for}
 use Rattle.bt_run.specs.Made.{IsMade}
 use Rattle.bt_run.specs.Worlds.{answers}
+use Rattle.bt_run.proofs.TakeLemmas.{each_recursion}
 use Rattle.bt_run.proofs.Splitting.{begin_own, two_parts, own_are, cpus_are, plain_runs, same_runs, same_parts}
-
-each_recursion : {A : Type 0} (P : A → Type 0) (xs : List A) → Each P xs → AllByRecursion P xs
-each_recursion P [] h = tt
-each_recursion P (x ∷ xs) h = (h.0, each_recursion P xs h.1)
 
 -- the serial list begins with BEGIN's steps
 begins_so : (p : Replay) → (more : List Step) × (serial_steps p ≡ begun_steps p ++ more)

@@ -6,7 +6,6 @@ use Rattle.std.proofs.lemmas.List.Elements.{All-from_recursion}
 use Rattle.bt_core.specs.declared.step.ObjectId.{ObjectId}
 use Rattle.bt_core.specs.declared.step.ObjectId.TheVariants.{Shared, Cpu, Clock, Out}
 use Rattle.bt_core.specs.declared.step.Op.{Op}
-use Rattle.bt_core.specs.declared.step.Reply.{Reply}
 use Rattle.bt_core.specs.declared.step.Step.{Step}
 use Rattle.bt_core.specs.Interaction.{last_reply}
 use Rattle.bt_core.specs.Kinds.{IsFineDecl}

@@ -1,5 +1,5 @@
 -- Objects that no step was made at.
-use Rattle.std.proofs.Common.{◌≡◌, ◌≢◌, ℕ, suc, ◌+◌, ◌<◌, ◌≤◌, List, [], ◌∷◌, ◌++◌, length, get_or, sym, refl, ap, ◌∙◌, subst, arith, length-append}
+use Rattle.std.proofs.Common.{◌≡◌, ℕ, ◌+◌, ◌<◌, List, [], ◌∷◌, ◌++◌, length, get_or, sym, refl, ap, ◌∙◌, subst, arith, length-append}
 use Rattle.std.specs.Prelude.{All, Some, slice_get, slice_index_or}
 use Rattle.std.proofs.Common.{◌-◌, Option}
 use Rattle.std.proofs.lemmas.List.{get_or-append_right}
@@ -22,7 +22,7 @@ use Rattle.bt_run.specs.declared.objects.Objects.{Objects}
 use Rattle.bt_run.specs.declared.own.OwnObject.{OwnObject}
 use Rattle.bt_run.specs.Jobs.{cpus_in, world_for}
 use Rattle.bt_run.specs.News.{IsNew, AreNew, AreNewParts, NewMaps}
-use Rattle.bt_run.specs.Objects.{OwnStands, AllStand, IsPartOf, PartsStand, Stand}
+use Rattle.bt_run.specs.Objects.{OwnStands, IsPartOf, Stand}
 
 pub all_more : {A : Type 0} (P : A → Type 0) (xs new : List A) (x : A) → All P xs → P x → new ≡ xs ++ x ∷ [] → All P new
 all_more P xs new x all one e = subst (All P) (sym e) (All-append P xs (x ∷ []) all (All-from_recursion P (x ∷ []) (one, tt)))

@@ -1,12 +1,11 @@
 -- One step more at one of the objects.
-use Rattle.std.proofs.Common.{◌≡◌, ◌≢◌, ℕ, zero, suc, max, ◌+◌, ◌<◌, ◌≤◌, Bool, true, false, cond, List, [], ◌∷◌, ◌++◌, length, map, get_or, slice_set, Result, Ok, Err, IfOk, OnErr, sym, refl, ap, ◌∙◌, subst, arith, ne_eqb}
+use Rattle.std.proofs.Common.{◌≡◌, ◌≢◌, ℕ, suc, max, ◌+◌, ◌<◌, ◌≤◌, Bool, true, false, cond, List, [], ◌∷◌, ◌++◌, length, get_or, slice_set, Result, Ok, Err, IfOk, OnErr, sym, refl, ap, ◌∙◌, subst, arith, ne_eqb}
 use Rattle.std.specs.Prelude.{slice_get, slice_index_or, Option, Some, None, IsSomeAnd}
 use Rattle.std.proofs.lemmas.List.{append-nil, get_or-set_same, get_or-set_other, length-set}
 use Rattle.std.proofs.lemmas.Option.{slice_get_within}
 use Rattle.std.proofs.Common.{◌==◌, ◌&&◌}
 use mathlib.Core.Logic.{dite}
 use native.Mathlib.Decide.{ℕ_discrete}
-use Rattle.bt_core.specs.declared.limits.TheConstants.{PARTS}
 use Rattle.bt_core.specs.declared.map.MapDecl.{MapDecl}
 use Rattle.bt_core.specs.declared.map.MapId.{MapId}
 use Rattle.bt_core.specs.declared.memory.Memory.{Memory}
@@ -18,7 +17,7 @@ use Rattle.bt_core.specs.declared.step.Reply.TheVariants.{Done}
 use Rattle.bt_core.specs.declared.step.Step.{Step}
 use Rattle.bt_core.specs.Kinds.{IsShared}
 use Rattle.bt_core.specs.Ports.{IsSharedOp, IsTableOp, IsClockOp, IsOutOp}
-use Rattle.bt_core.specs.Steps.{is_same_object, is_on, on_object, operations}
+use Rattle.bt_core.specs.Steps.{is_same_object, on_object, operations}
 use Rattle.bt_core.proofs.StepLists.{is_same_object-refl, on_object-append, operations-append}
 use Rattle.agg_core.specs.Answers.{shared_answer, table_answer, clock_answer, kind_of_decl}
 use Rattle.step_objects.specs.declared.clock.ClockKind.{ClockKind}
@@ -35,7 +34,8 @@ use Rattle.bt_run.specs.declared.own.OwnObject.{OwnObject}
 use Rattle.bt_run.specs.declared.objects.MapParts.{MapParts}
 use Rattle.bt_run.specs.declared.objects.Objects.{Objects}
 use Rattle.bt_run.specs.Took.{Took, TookAt}
-use Rattle.bt_run.specs.Worlds.{World, IsOwn, answers}
+use Rattle.bt_run.proofs.ReadLemmas.{same_decl}
+use Rattle.bt_run.specs.Worlds.{World, IsOwn}
 use Rattle.bt_run.specs.Objects.{OwnStands, AllStand, IsPartOf, PartsStand, Stand, IsAnswer}
 
 greatest_snoc : (ss : List Step) (s : Step) → greatest ss ≤ s.stamp → greatest (ss ++ s ∷ []) ≡ s.stamp
@@ -366,13 +366,10 @@ module _ (objects : Objects) (op : Op) (floor : ℕ) where
     pub part_there : (w : World) × (steps : List Step) × Stand w steps objects × IsOwn w object op → p < length one.parts.items
     part_there h = part_within h.0 h.1 h.2 (subst (λ o. IsOwn h.0 o op) is h.3)
 
-    same_some : (a b : MapDecl) (o : Option MapDecl) → o ≡ Some a → o ≡ Some b → a ≡ b
-    same_some a b o e f = cc
-
     pub part_own : (w : World) × (steps : List Step) × Stand w steps objects × IsOwn w object op → (d : OwnObject SharedPart) → IsSharedOp (shared_kind (slice_index_or one.parts.items p d).object).decl op
     part_own h d = let own = subst (λ o. IsOwn h.0 o op) is h.3 in let decl = decl_there h.0 h.1 h.2 own in
         let stands = (parts_of h.0 h.1 h.2 own).each p d (part_within h.0 h.1 h.2 own) in
-        subst (λ x. IsSharedOp x op) (same_some decl.0 (shared_kind (slice_index_or one.parts.items p d).object).decl (slice_get h.0.maps m.0) decl.1 stands.fit.declared) decl.3
+        subst (λ x. IsSharedOp x op) (same_decl decl.0 (shared_kind (slice_index_or one.parts.items p d).object).decl (slice_get h.0.maps m.0) decl.1 stands.fit.declared) decl.3
 
 -- the map of an operation is there
 pub map_there : (objects : Objects) (object : ObjectId) (op : Op) (m : MapId) (p : ℕ) → object ≡ Shared m p → (w : World) × (steps : List Step) × Stand w steps objects × IsOwn w object op → m.0 < length objects.shared.items

@@ -1,5 +1,5 @@
 -- What a run prints depends on the operations at each object alone.
-use Rattle.std.proofs.Common.{◌≡◌, ℕ, ◌+◌, Bool, true, false, cond, List, [], ◌∷◌, ◌++◌, map, sum, sym, refl, ap, ◌∙◌, subst}
+use Rattle.std.proofs.Common.{◌≡◌, ℕ, ◌+◌, cond, List, [], ◌∷◌, ◌++◌, map, sum, sym, refl, ap, ◌∙◌, subst}
 use Rattle.std.specs.Prelude.{All, Option, Some, None, IsSomeAnd, slice_get}
 use Rattle.std.specs.List.{AllByRecursion, filter_map, flat_map, cons_option}
 use Rattle.std.specs.List.Sorted.{IsPermutation}
@@ -42,7 +42,7 @@ use Rattle.bt_run.specs.declared.job.Job.{Job}
 use Rattle.bt_run.specs.declared.objects.Objects.{Objects}
 use Rattle.bt_run.specs.Jobs.{cpus_in, world_for}
 use Rattle.bt_run.specs.Made.{IsMade}
-use Rattle.bt_run.specs.Moments.{Moment, IsMoment}
+use Rattle.bt_run.specs.Moments.{IsMoment}
 use Rattle.bt_run.specs.Worlds.{World, IsOwn}
 use Rattle.bt_run.proofs.Finals.{replayed, operations_same, operations_serial}
 use Rattle.bt_run.proofs.KindLemmas.{operations_by}

@@ -1,6 +1,6 @@
 -- One step more of the actor whose turn it is.
-use Rattle.std.proofs.Common.{◌≡◌, ◌≢◌, ◌⊎◌, ℕ, zero, suc, max, ◌-◌, ◌<◌, ◌≤◌, nat_lt, Bool, true, false, cond, List, [], ◌∷◌, ◌++◌, length, drop, take, get_or, slice_index_or, slice_set, sym, refl, ap, ◌∙◌, subst, inl, inr, arith, eq-eqb, ne_eqb}
-use Rattle.std.proofs.lemmas.List.{append-nil, get_or-set_same, get_or-set_other, length-set, length-append, drop-append-le, take-append-le}
+use Rattle.std.proofs.Common.{◌≡◌, ◌≢◌, ℕ, suc, max, ◌-◌, ◌<◌, ◌≤◌, Bool, true, false, cond, List, [], ◌∷◌, ◌++◌, length, drop, take, get_or, slice_index_or, slice_set, sym, refl, ap, ◌∙◌, subst, inl, arith, eq-eqb, ne_eqb}
+use Rattle.std.proofs.lemmas.List.{append-nil, get_or-set_same, get_or-set_other, length-set, length-append, drop-append-le}
 use Rattle.std.proofs.lemmas.List.Elements.{filter-append}
 use mathlib.Core.Logic.{dite}
 use native.Mathlib.Decide.{ℕ_discrete}
@@ -9,7 +9,7 @@ use Rattle.bt_core.specs.declared.step.Op.{Op}
 use Rattle.bt_core.specs.declared.step.Reply.{Reply}
 use Rattle.bt_core.specs.declared.step.Step.{Step}
 use Rattle.turn_lock.specs.History.{Each}
-use Rattle.bt_core.specs.Steps.{is_of, of_actor, on_object, operations, AtEach, RepliesFollow}
+use Rattle.bt_core.specs.Steps.{is_of, of_actor, on_object, operations, RepliesFollow}
 use Rattle.weave.specs.Lists.{greatest}
 use Rattle.weave.specs.Woven.{begin_steps, main_clock, actor_clock, StampsFollow, StandsBetween}
 use Rattle.bt_core.proofs.StepLists.{AtEach-snoc}
@@ -18,9 +18,9 @@ use Rattle.weave.proofs.Less.{not_less}
 use Rattle.bt_core.specs.Interaction.{last_reply}
 use Rattle.bt_run.specs.declared.objects.Objects.{Objects}
 use Rattle.bt_run.specs.declared.port.Turn.{Turn}
-use Rattle.bt_run.specs.Worlds.{World, setting_in, answers, IsOwn}
+use Rattle.bt_run.specs.Worlds.{World, answers, IsOwn}
 use Rattle.bt_run.specs.Objects.{Stand, IsAnswer}
-use Rattle.bt_run.specs.Runs.{IsCpuTurn, IsMainTurn, IsTurnBy, IsTurn, IsRunOf}
+use Rattle.bt_run.specs.Runs.{IsTurnBy, IsTurn, IsRunOf}
 
 pub each_snoc : {A : Type 0} (P : A → Type 0) (xs : List A) (x : A) → Each P xs → P x → Each P (xs ++ x ∷ [])
 each_snoc P [] x e p = (p, tt)

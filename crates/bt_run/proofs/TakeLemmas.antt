@@ -1,6 +1,6 @@
 -- Items of a run, one after the other.
 use Rattle.std.proofs.Common.{◌≡◌, ℕ, zero, suc, ◌+◌, ◌<◌, ◌≤◌, Bool, true, false, if◌then◌else◌, List, [], ◌∷◌, ◌++◌, length, map, drop, get_or, slice_index_or, slice_set, refl, sym, ap, ◌∙◌, subst, arith}
-use Rattle.std.specs.Prelude.{replicate, Option, Some, None, slice_get}
+use Rattle.std.specs.Prelude.{replicate, Some, slice_get}
 use Rattle.std.specs.List.{AllByRecursion}
 use Rattle.std.proofs.lemmas.List.{drop_more, drop_all, drop-append-le}
 use Rattle.bt_core.specs.declared.step.Step.{Step}
@@ -11,7 +11,7 @@ use Rattle.turn_lock.specs.History.{Each}
 use Rattle.weave.specs.Woven.{StampsFollow, StandsBetween}
 use Rattle.actor_plan.specs.declared.agenda.AgendaItem.{AgendaItem}
 use Rattle.actor_plan.specs.declared.outcome.Outcome.{Outcome}
-use Rattle.actor_plan.specs.Plans.{Plan, ServesPlan}
+use Rattle.actor_plan.specs.Plans.{Plan}
 use Rattle.actor_plan.specs.Programs.{items_program, item_work}
 use Rattle.actor_plan.specs.Ready.{IsReady}
 use Rattle.bt_meaning.specs.declared.schedule.Scheduled.{Scheduled}
@@ -20,9 +20,8 @@ use Rattle.bt_meaning.specs.Schedules.{serial_order, cpu_of_due, item_of_due}
 use Rattle.bt_meaning.specs.Serial.{unstamped, then_steps, then_value, alone, alone_on, taken, begun_steps, taken_steps, serial_steps}
 use Rattle.bt_run.specs.declared.job.Job.{Job}
 use Rattle.bt_run.specs.declared.objects.Objects.{Objects}
-use Rattle.bt_run.specs.declared.port.Turn.{Turn}
-use Rattle.bt_run.specs.Counts.{taken_count, serial_count, TakesNext}
-use Rattle.bt_run.specs.Jobs.{cpus_in, replay_with, world_for, IsPlanFor, CanRunAll, HavePlans}
+use Rattle.bt_run.specs.Counts.{taken_count, TakesNext}
+use Rattle.bt_run.specs.Jobs.{cpus_in, replay_with, world_for, CanRunAll, HavePlans}
 use Rattle.bt_run.specs.Made.{IsMade}
 use Rattle.bt_run.specs.Runs.{Seen, IsSeen, IsRunOf, IsLeft}
 use Rattle.bt_run.specs.Worlds.{World, setting_in, answers}
@@ -31,7 +30,7 @@ use Rattle.bt_meaning.proofs.Stepping.{takes_made, unstamped_length}
 drop_own : (a b : List Step) → drop (length a) (a ++ b) ≡ b
 drop_own a b = drop-append-le (length a) a b (omega arith) ∙ ap (λ l. l ++ b) (drop_all (length a) a (omega arith))
 
-each_recursion : {A : Type 0} (P : A → Type 0) (xs : List A) → Each P xs → AllByRecursion P xs
+pub each_recursion : {A : Type 0} (P : A → Type 0) (xs : List A) → Each P xs → AllByRecursion P xs
 each_recursion P [] h = tt
 each_recursion P (x ∷ xs) h = (h.0, each_recursion P xs h.1)
 

@@ -1,17 +1,16 @@
 -- From one turn to the next.
-use Rattle.std.proofs.Common.{◌≡◌, ◌≢◌, ◌⊎◌, ℕ, zero, suc, max, ◌<◌, ◌≤◌, nat_lt, Bool, true, false, cond, List, [], ◌∷◌, ◌++◌, length, drop, take, slice_index_or, sym, refl, ap, ◌∙◌, subst, inl, inr, arith, eq-eqb, ne_eqb}
-use Rattle.std.proofs.lemmas.List.{append-nil, take_all, drop_all}
+use Rattle.std.proofs.Common.{◌≡◌, ℕ, suc, max, ◌<◌, ◌≤◌, nat_lt, Bool, true, false, cond, List, [], ◌∷◌, ◌++◌, length, take, sym, refl, ap, ◌∙◌, subst, arith, eq-eqb}
+use Rattle.std.proofs.lemmas.List.{take_all, drop_all}
 use Rattle.bt_core.specs.declared.step.Step.{Step}
 use Rattle.turn_lock.specs.History.{Each}
-use Rattle.bt_core.specs.Steps.{is_of, of_actor, on_object, AtEach, RepliesFollow}
+use Rattle.bt_core.specs.Steps.{is_of, of_actor, on_object}
 use Rattle.weave.specs.Lists.{greatest}
-use Rattle.weave.specs.Woven.{begin_steps, main_clock, actor_clock, StampsFollow, StandsBetween}
+use Rattle.weave.specs.Woven.{begin_steps, main_clock, actor_clock}
 use Rattle.weave.proofs.Among.{Has, each_has, each_from, has_middle, has_front, filter_all}
 use Rattle.bt_run.specs.declared.objects.Objects.{Objects}
 use Rattle.bt_run.specs.declared.port.Turn.{Turn}
-use Rattle.bt_run.specs.Worlds.{World, setting_in, answers, IsOwn}
-use Rattle.bt_run.specs.Objects.{Stand}
-use Rattle.bt_run.specs.Runs.{IsCpuTurn, IsMainTurn, IsTurnBy, IsTurn, IsRunOf, first_turn}
+use Rattle.bt_run.specs.Worlds.{World}
+use Rattle.bt_run.specs.Runs.{IsCpuTurn, IsTurnBy, IsRunOf, first_turn}
 
 all_own : (a : ℕ) (ss : List Step) → Each (λ s. s.actor ≡ a) ss → of_actor a ss ≡ ss
 all_own a ss by = filter_all (is_of a) ss (each_from _ ss (λ s h. eq-eqb s.actor a (each_has _ ss s by h)))

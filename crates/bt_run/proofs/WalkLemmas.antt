@@ -1,29 +1,25 @@
 -- Walks can be run for each actor of a job.
-use Rattle.std.proofs.Common.{◌≡◌, ℕ, ◌+◌, ◌<◌, ◌≤◌, List, [], ◌∷◌, ◌++◌, length, get_or, Result, Ok, Err, sym, refl, ap, ◌∙◌, subst, arith, length-append}
-use Rattle.std.specs.Prelude.{All, Some, slice_get, slice_index}
+use Rattle.std.proofs.Common.{◌≡◌, ℕ, ◌+◌, ◌<◌, ◌≤◌, List, length, get_or, refl, ◌∙◌, subst, arith}
+use Rattle.std.specs.Prelude.{All, Some, slice_get}
 use Rattle.std.proofs.lemmas.Option.{slice_get_within, get_or_from_slice_get}
 use Rattle.bt_core.specs.declared.context.Context.{Context}
 use Rattle.bt_core.specs.declared.ending.Ending.{Ending}
 use Rattle.bt_core.specs.declared.map.MapDecl.{MapDecl}
 use Rattle.bt_core.specs.declared.map.MapId.{MapId}
-use Rattle.bt_core.specs.declared.memory.Memory.{Memory}
-use Rattle.bt_core.specs.declared.step.Reply.{Reply}
 use Rattle.bt_core.specs.declared.step.Step.{Step}
-use Rattle.bt_core.specs.Interaction.{Interaction, Ended, and_then, Whole, Part, Performed}
+use Rattle.bt_core.specs.Interaction.{Interaction, Ended, and_then, Whole, Part}
 use Rattle.bt_core.specs.Ports.{Setting}
-use Rattle.bt_core.proofs.InteractionLaws.{Whole-and_then, Whole-Ended, Part-and_then, Performed-Ended}
+use Rattle.bt_core.proofs.InteractionLaws.{Whole-and_then, Whole-Ended, Part-and_then}
 use Rattle.typed_tree.specs.declared.body.TypedBody.{TypedBody}
 use Rattle.typed_tree.specs.declared.script.Typed.{Typed}
-use Rattle.actor_plan.specs.declared.limits.TheConstants.{RUN_INSTRUCTIONS}
-use Rattle.actor_plan.specs.Plans.{Plan, CanRun, ServesPlan, TakesFew}
-use Rattle.bt_walk.specs.Walk.{walk}
-use Rattle.bt_walk.specs.Walked.{CanWalk, least_length}
+use Rattle.actor_plan.specs.Plans.{CanRun, ServesPlan, TakesFew}
+use Rattle.bt_walk.specs.Walked.{CanWalk}
 use Rattle.bt_meaning.specs.Jobs.{IsJob}
-use Rattle.bt_meaning.specs.Walks.{walked, walking}
+use Rattle.bt_meaning.specs.Walks.{walking}
 use Rattle.bt_meaning.proofs.OwnCalls.{size_at}
 use Rattle.bt_meaning.proofs.Placed.{maps_placed}
 use Rattle.bt_run.specs.declared.job.Job.{Job}
-use Rattle.bt_run.specs.Jobs.{cpus_in, CanRunAll, HavePlans}
+use Rattle.bt_run.specs.Jobs.{cpus_in, CanRunAll}
 use Rattle.bt_run.proofs.Zeros.{IsZero, ends_under, walk_zero}
 
 pub walks_take_few : (script : Typed) (actors actor : ℕ) → TakesFew (walking script actors actor)

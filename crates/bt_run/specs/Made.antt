@@ -1,7 +1,6 @@
 -- What the run on one thread makes before its steps are put in order. No public contract speaks of it.
 use Rattle.std.specs.Prelude.{◌≡◌, ℕ, ◌≤◌, List, length, map}
 use Rattle.bt_core.specs.declared.step.Step.{Step}
-use Rattle.bt_core.specs.Kinds.{IsFineDecl}
 use Rattle.bt_core.specs.Steps.{RepliesFollow}
 use Rattle.turn_lock.specs.History.{Each}
 use Rattle.weave.specs.Woven.{StampsFollow, StandsBetween}

@@ -1,5 +1,5 @@
 -- What is read of the objects at the end. No public contract speaks of it.
-use Rattle.std.specs.Prelude.{◌≡◌, ℕ, ◌+◌, ◌%◌, ◌^◌, List, All, map, sum}
+use Rattle.std.specs.Prelude.{ℕ, ◌%◌, ◌^◌, List, All, map}
 use Rattle.std.specs.List.{range_with_len}
 use Rattle.bt_core.specs.declared.map.MapDecl.{MapDecl}
 use Rattle.bt_core.specs.declared.map.MapId.{MapId}

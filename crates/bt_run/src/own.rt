@@ -22,7 +22,8 @@ impl<O: SeqObject> OwnObject<O> {
     pub fn take(&mut self, alloc: Global, op: &Op, clock: u64) -> Result<(Reply, u64), Memory>
         requires { O.is_own (O.kind self.old.object) op.now }
         ensures kind { O.kind self.new.object ≡ O.kind self.old.object }
-        ensures replies { IfOk result (λ r. (before : List Op) → O.stands_for self.old.object before → r.0 ≡ O.reply_after (O.kind self.old.object) before op.now) }
+        ensures replies { IfOk result (λ r. (before : List Op) → O.stands_for self.old.object before →
+            r.0 ≡ O.reply_after (O.kind self.old.object) before op.now) }
         ensures taken { OnOk result ((before : List Op) → O.stands_for self.old.object before → O.stands_for self.new.object (before ++ op.now ∷ [])) }
         ensures stamp { IfOk result (λ r. r.1 ≡ suc (max clock self.old.clock)) }
         ensures clock { IfOk result (λ r. self.new.clock ≡ r.1) }

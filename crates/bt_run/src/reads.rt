@@ -70,7 +70,8 @@ pub(crate) fn part_replies(
 /// How many updates of a shared map all its parts lost.
 pub(crate) fn part_losses(parts: &[OwnObject<SharedPart>], map: MapId) -> Result<u64, Memory>
     requires { All (λ (own : OwnObject SharedPart). (shared_kind own.object).map ≡ map) parts.now }
-    ensures { IfOk result (λ lost. (maps : List MapDecl) (steps : List Step) → AllStand shared_kind SharedStands (IsPartOf maps map.0) steps (PartOf map) parts.now →
+    ensures { IfOk result (λ lost. (maps : List MapDecl) (steps : List Step) →
+        AllStand shared_kind SharedStands (IsPartOf maps map.0) steps (PartOf map) parts.now →
         lost ≡ sum (of_first (part_lost maps steps map) (length parts.now))) }
 {
     let mut total = 0;

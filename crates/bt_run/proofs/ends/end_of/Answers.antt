@@ -1,7 +1,6 @@
-use Rattle.std.proofs.Common.{◌≡◌, ◌≤◌, List, length, sym, ap, ◌∙◌, subst}
-use Rattle.bt_core.specs.declared.map.MapDecl.{MapDecl}
+use Rattle.std.proofs.Common.{length, sym, ap, ◌∙◌, subst}
 use Rattle.map_printer.specs.Ends.{AllRowsFit}
-use Rattle.bt_meaning.specs.Prints.{rows_after, lost_after, of_maps}
+use Rattle.bt_meaning.specs.Prints.{rows_after, lost_after}
 use Rattle.bt_run.proofs.EndLemmas.{maps_long, maps_done, rows_fit}
 use Rattle.bt_run.proofs.ends.end_of.Goals as goal
 

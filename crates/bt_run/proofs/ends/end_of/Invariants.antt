@@ -1,4 +1,4 @@
-use Rattle.std.proofs.Common.{◌≡◌, ◌++◌, drop, length}
+use Rattle.std.proofs.Common.{◌≡◌, ◌++◌, drop}
 use Rattle.bt_meaning.specs.Prints.{rows_after, lost_after, of_maps}
 use Rattle.bt_run.proofs.ends.end_of.Given as goal
 

@@ -1,4 +1,4 @@
-use Rattle.std.proofs.Common.{◌≡◌, ◌+◌, length, refl, ap, ◌∙◌, arith}
+use Rattle.std.proofs.Common.{refl, ap, ◌∙◌, arith}
 use Rattle.bt_core.specs.declared.map.MapDecl.{MapDecl}
 use Rattle.step_objects.specs.declared.shared.PartKind.{PartKind}
 use Rattle.step_objects.specs.declared.shared.SharedPart.{SharedPart}

@@ -1,7 +1,4 @@
-use Rattle.std.proofs.Common.{◌≡◌, ◌+◌, length, sym, ap, ◌∙◌, refl, subst, arith}
-use Rattle.step_objects.specs.declared.clock.ClockKind.{ClockKind}
-use Rattle.step_objects.specs.Objects.{cpu_kind, CpuStands}
-use Rattle.bt_run.specs.Jobs.{cpus_in}
+use Rattle.std.proofs.Common.{◌+◌, ap, ◌∙◌, refl, subst}
 use Rattle.bt_run.specs.News.{NewMaps}
 use Rattle.bt_run.proofs.NewLemmas.{new_stand}
 use Rattle.bt_run.proofs.new_objects.new_objects.Goals as goal

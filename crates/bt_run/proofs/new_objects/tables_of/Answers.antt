@@ -1,4 +1,4 @@
-use Rattle.std.proofs.Common.{◌≡◌, ◌+◌, length, refl, ◌∙◌, arith}
+use Rattle.std.proofs.Common.{refl, ◌∙◌, arith}
 use Rattle.step_objects.specs.declared.cpu.CpuTable.{CpuTable}
 use Rattle.step_objects.specs.Objects.{cpu_kind, CpuStands}
 use Rattle.bt_run.specs.declared.own.OwnObject.{OwnObject}

@@ -1,7 +1,6 @@
 use Rattle.std.proofs.Common.{refl}
 use Rattle.std.specs.Vec.{with_item}
 use Rattle.bt_run.specs.declared.objects.MapParts.{MapParts}
-use Rattle.bt_run.specs.declared.objects.Objects.{Objects}
 use Rattle.bt_run.proofs.ObjectLemmas.{ticks_answer, ticks_kept, out_answer, out_kept, table_answers, table_kept, shared_answers, shared_kept, part_there, part_own}
 use Rattle.bt_run.proofs.objects.take_at.Goals as goal
 

@@ -1,4 +1,4 @@
-use Rattle.std.proofs.Common.{rules, sym}
+use Rattle.std.proofs.Common.{rules}
 use Rattle.bt_run.proofs.own.take_in.Goals as goal
 
 pub returns : goal.returns

@@ -1,13 +1,10 @@
-use Rattle.std.proofs.Common.{◌≡◌, ◌<◌, ◌+◌, List, length, get_or, sym, ap, ◌∙◌, subst, arith, sum}
-use Rattle.bt_core.specs.declared.map.MapDecl.{MapDecl}
-use Rattle.bt_core.specs.declared.step.ObjectId.TheVariants.{Shared, Cpu}
-use Rattle.bt_core.specs.declared.step.Op.TheVariants.{Read, ReadAll}
+use Rattle.std.proofs.Common.{◌≡◌, ◌<◌, length, sym, ap, ◌∙◌, subst, arith, sum}
+use Rattle.bt_core.specs.declared.step.ObjectId.TheVariants.{Shared}
 use Rattle.bt_core.specs.Steps.{on_object, operations}
-use Rattle.agg_core.specs.Answers.{shared_answer, table_answer}
-use Rattle.step_objects.specs.Objects.{cpu_kind, CpuStands, shared_kind, SharedStands}
-use Rattle.bt_run.specs.Moments.{table_reply, table_lost, part_reply, part_lost, of_first}
+use Rattle.step_objects.specs.Objects.{shared_kind, SharedStands}
+use Rattle.bt_run.specs.Moments.{part_lost, of_first}
 use Rattle.bt_run.specs.Objects.{OwnStands, IsPartOf}
-use Rattle.bt_run.proofs.ReadLemmas.{read_more, sum_more, same_decl}
+use Rattle.bt_run.proofs.ReadLemmas.{sum_more}
 use Rattle.bt_run.proofs.reads.part_losses.Goals as goal
 
 pub loop-part-preserved : goal.loop-part-preserved

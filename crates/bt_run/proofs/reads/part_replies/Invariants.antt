@@ -1,10 +1,10 @@
-use Rattle.std.proofs.Common.{◌≡◌, List, sum}
+use Rattle.std.proofs.Common.{◌≡◌, List}
 use Rattle.std.specs.Prelude.{Some, slice_get}
 use Rattle.bt_core.specs.declared.map.MapDecl.{MapDecl}
-use Rattle.bt_core.specs.declared.step.ObjectId.TheVariants.{Shared, Cpu}
+use Rattle.bt_core.specs.declared.step.ObjectId.TheVariants.{Shared}
 use Rattle.bt_core.specs.declared.step.Step.{Step}
-use Rattle.step_objects.specs.Objects.{cpu_kind, CpuStands, shared_kind, SharedStands}
-use Rattle.bt_run.specs.Moments.{table_reply, table_lost, part_reply, part_lost, of_first}
+use Rattle.step_objects.specs.Objects.{shared_kind, SharedStands}
+use Rattle.bt_run.specs.Moments.{part_reply, of_first}
 use Rattle.bt_run.specs.Objects.{AllStand, IsPartOf}
 use Rattle.bt_run.proofs.reads.part_replies.Given as goal
 

@@ -1,11 +1,10 @@
 use Rattle.std.proofs.Common.{◌≡◌, List, sum}
-use Rattle.std.specs.Prelude.{Some, slice_get}
 use Rattle.bt_core.specs.declared.map.MapDecl.{MapDecl}
-use Rattle.bt_core.specs.declared.step.ObjectId.TheVariants.{Shared, Cpu}
+use Rattle.bt_core.specs.declared.step.ObjectId.TheVariants.{Cpu}
 use Rattle.bt_core.specs.declared.step.Step.{Step}
-use Rattle.step_objects.specs.Objects.{cpu_kind, CpuStands, shared_kind, SharedStands}
-use Rattle.bt_run.specs.Moments.{table_reply, table_lost, part_reply, part_lost, of_first}
-use Rattle.bt_run.specs.Objects.{AllStand, IsPartOf}
+use Rattle.step_objects.specs.Objects.{cpu_kind, CpuStands}
+use Rattle.bt_run.specs.Moments.{table_lost, of_first}
+use Rattle.bt_run.specs.Objects.{AllStand}
 use Rattle.bt_run.proofs.reads.table_losses.Given as goal
 
 abbrev pub invariant-loop-table : goal.invariant-loop-table

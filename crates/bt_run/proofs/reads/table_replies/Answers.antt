@@ -1,13 +1,13 @@
-use Rattle.std.proofs.Common.{◌≡◌, ◌<◌, ◌+◌, List, length, get_or, sym, ap, ◌∙◌, subst, arith}
+use Rattle.std.proofs.Common.{◌≡◌, ◌<◌, List, length, sym, ap, ◌∙◌, subst}
 use Rattle.bt_core.specs.declared.map.MapDecl.{MapDecl}
-use Rattle.bt_core.specs.declared.step.ObjectId.TheVariants.{Shared, Cpu}
-use Rattle.bt_core.specs.declared.step.Op.TheVariants.{Read, ReadAll}
+use Rattle.bt_core.specs.declared.step.ObjectId.TheVariants.{Cpu}
+use Rattle.bt_core.specs.declared.step.Op.TheVariants.{Read}
 use Rattle.bt_core.specs.Steps.{on_object, operations}
-use Rattle.agg_core.specs.Answers.{shared_answer, table_answer}
-use Rattle.step_objects.specs.Objects.{cpu_kind, CpuStands, shared_kind, SharedStands}
-use Rattle.bt_run.specs.Moments.{table_reply, table_lost, part_reply, part_lost, of_first}
-use Rattle.bt_run.specs.Objects.{OwnStands, IsPartOf}
-use Rattle.bt_run.proofs.ReadLemmas.{read_more, sum_more, same_decl}
+use Rattle.agg_core.specs.Answers.{table_answer}
+use Rattle.step_objects.specs.Objects.{cpu_kind, CpuStands}
+use Rattle.bt_run.specs.Moments.{table_reply}
+use Rattle.bt_run.specs.Objects.{OwnStands}
+use Rattle.bt_run.proofs.ReadLemmas.{read_more}
 use Rattle.bt_run.proofs.reads.table_replies.Goals as goal
 
 pub loop-table-preserved : goal.loop-table-preserved

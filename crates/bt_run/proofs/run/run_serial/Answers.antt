@@ -1,4 +1,4 @@
-use Rattle.std.proofs.Common.{◌≡◌, ◌+◌, ◌++◌, [], List, ℕ, map, sym, ap, ◌∙◌, refl, subst}
+use Rattle.std.proofs.Common.{◌≡◌, ◌+◌, ◌++◌, List, map, sym, ap, ◌∙◌, refl, subst}
 use Rattle.bt_meaning.specs.Interleavings.{IsReplayed}
 use Rattle.bt_meaning.specs.Serial.{unstamped, serial_steps}
 use Rattle.bt_meaning.specs.Walks.{walking, replay_of}

@@ -1,4 +1,4 @@
-use Rattle.std.proofs.Common.{rules, ◌≡◌, ◌≤◌, [], map, length, sym, ap, ◌∙◌, subst, refl, arith}
+use Rattle.std.proofs.Common.{◌≡◌, ◌≤◌, map, length, sym, ap, ◌∙◌, refl, arith}
 use Rattle.actor_plan.specs.Programs.{begin_program}
 use Rattle.bt_meaning.specs.Replays.{begin_of}
 use Rattle.bt_meaning.specs.Serial.{unstamped, then_steps, then_value}

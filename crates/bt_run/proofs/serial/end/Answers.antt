@@ -1,4 +1,4 @@
-use Rattle.std.proofs.Common.{rules, ◌≡◌, ◌≤◌, length, sym, ap, ◌∙◌, refl, arith}
+use Rattle.std.proofs.Common.{◌≡◌, ◌≤◌, sym, ap, ◌∙◌, arith}
 use Rattle.actor_plan.specs.Programs.{end_program}
 use Rattle.bt_run.specs.Jobs.{cpus_in}
 use Rattle.bt_run.proofs.TakeLemmas.{main_by, plan_at}

@@ -1,4 +1,4 @@
-use Rattle.std.proofs.Common.{◌≡◌, ◌+◌, ap, ◌∙◌, sym}
+use Rattle.std.proofs.Common.{◌+◌, ap, ◌∙◌}
 use Rattle.bt_run.proofs.TakeLemmas.{all_made}
 use Rattle.bt_run.proofs.serial.make_steps.Goals as goal
 

@@ -1,9 +1,5 @@
-use Rattle.std.proofs.Common.{rules, ◌≡◌, ◌<◌, ◌∙◌, length, map, drop, true, ap, refl, arith}
-use Rattle.std.specs.Prelude.{replicate}
-use Rattle.std.proofs.lemmas.List.{length-replicate}
-use Rattle.bt_meaning.specs.Serial.{unstamped, taken}
-use Rattle.bt_run.specs.Counts.{taken_count}
-use Rattle.bt_run.specs.Jobs.{cpus_in, replay_with}
+use Rattle.std.proofs.Common.{◌<◌, ◌∙◌, length, map, arith}
+use Rattle.bt_meaning.specs.Serial.{unstamped}
 use Rattle.bt_run.proofs.TakeLemmas.{loop_steps, loop_counts}
 use Rattle.bt_run.proofs.serial.take_all.Goals as goal
 

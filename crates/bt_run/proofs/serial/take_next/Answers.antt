@@ -4,10 +4,8 @@ use Rattle.std.proofs.lemmas.Option.{slice_get-get_or}
 use Rattle.actor_plan.specs.Plans.{Plan}
 use Rattle.actor_plan.specs.Ready.{IsReady}
 use Rattle.bt_run.specs.Worlds.{setting_in}
-use Rattle.bt_meaning.specs.Schedules.{cpu_of_due}
-use Rattle.bt_run.specs.Counts.{TakesNext}
-use Rattle.bt_run.specs.Jobs.{cpus_in, replay_with}
-use Rattle.bt_run.proofs.TakeLemmas.{ready, next_by, plan_at, item_passed, goes_within}
+use Rattle.bt_run.specs.Jobs.{cpus_in}
+use Rattle.bt_run.proofs.TakeLemmas.{ready, next_by, plan_at, goes_within}
 use Rattle.bt_run.proofs.serial.take_next.Goals as goal
 
 pub take_item-requires-clause-ready : goal.take_item-requires-clause-ready
