@@ -6,6 +6,12 @@ use Rattle.rec_format.specs.declared.error.RecordingError.{RecordingError}
 use Rattle.rec_format.specs.declared.error.RecordingError.TheVariants as fault
 use Rattle.rec_format.specs.Recordings.{recording_bytes, IsValidRecording}
 use Rattle.rec_format.specs.Faults.{IsRecordingFault}
+use Rattle.typed_tree.specs.declared.script.Typed.{Typed}
+use Rattle.bt_ast.specs.declared.attached.Attached.{Attached}
+use Rattle.bt_ast.specs.declared.probe.Script.{Script as Tree}
+use Rattle.bt_attach.specs.Attaching.{IsAttachedTo, attach_fault}
+use Rattle.bt_meaning.specs.Jobs.{IsJob}
+use Rattle.bt_types.specs.Script.{IsTypedScript}
 use Rattle.bt_run.specs.declared.job.Job.{Job}
 use Rattle.bt_top.specs.declared.judge.ScriptJob.{ScriptJob}
 use Rattle.bt_top.specs.declared.refusal.ScriptRefusal.TheVariants as script
@@ -119,3 +125,12 @@ pub comes_if_due : (files : Files) (answer : Result Job Refusal) → AreLaws fil
 comes_if_due files (Ok job) laws asked refused = λ due is. inl (one_due files None due laws (job_is_due files job asked) is)
 comes_if_due files (Err refusal) laws asked (inl memory) = λ due is. inr (subst (λ (r : Refusal). MayStandFor (Some r) due) (sym memory) tt)
 comes_if_due files (Err refusal) laws asked (inr here) = λ due is. inl (one_due files (Some refusal) due laws here is)
+
+-- what accepted files ask for can be run
+pub jobs_can_run : (files : Files) (answer : Result Job Refusal)
+    → ((tree : Tree) (typed : Typed) (attached : Attached) (r : Recorded) → IsValidRecording r → attach_fault tree r.formats r.start r.end ≡ None
+      → IsAttachedTo tree r.formats r.start r.end attached → IsTypedScript tree r.formats attached.bodies typed → IsJob typed attached r)
+    → IfOk answer (IsJobOf files) → IfOk answer (λ job. IsJob job.typed job.attached job.recording)
+jobs_can_run files (Ok job) law of =
+    law of.tree job.typed job.attached job.recording of.accepted.is.valid of.accepted.script.attached of.attached of.typed
+jobs_can_run files (Err refusal) law of = tt

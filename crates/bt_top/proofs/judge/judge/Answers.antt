@@ -1,5 +1,5 @@
 use Rattle.bt_top.specs.Due.{Files}
-use Rattle.bt_top.proofs.Due.{AreLaws, comes_if_due}
+use Rattle.bt_top.proofs.Due.{AreLaws, comes_if_due, jobs_can_run}
 use Rattle.bt_top.proofs.judge.judge.Goals as goal
 
 pub returns-clause-exact : goal.returns-clause-exact
@@ -19,3 +19,6 @@ returns-clause-exact c =
       };
     } in
     comes_if_due files c.accept.result laws c.accept.ensures.job c.accept.ensures.refused
+
+pub returns-clause-can_run : goal.returns-clause-can_run
+returns-clause-can_run c = jobs_can_run _ c.accept.result c.accepted_scripts_are_jobs.ensures c.accept.ensures.job

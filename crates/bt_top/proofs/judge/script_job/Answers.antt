@@ -18,14 +18,14 @@ check-requires c =
     (bodies_checked c.in-Ok.tree c.args.recording.now.formats c.in-Ok-attach.attached.bodies
     (c.bodies_are_there.ensures _ _ _ _ _ (rw c.as_slice-formats.ensures at c.in-Ok-attach.ensures.found)))
 
-pub returns-clause-job : goal.returns-clause-job
-returns-clause-job c =
+pub returns-in-Ok-check-clause-job : goal.returns-in-Ok-check-clause-job
+returns-in-Ok-check-clause-job c =
     job_told _ c.args.recording.now c.in-Ok.tree c.in-Ok-attach.attached c.in-Ok-check.typed c.in-Ok.ensures.tree
     (rw c.as_slice-formats.ensures at c.in-Ok-attach.ensures.allowed) (rw c.as_slice-formats.ensures at c.in-Ok-attach.ensures.found)
     (rw c.as_slice-formats.ensures at c.in-Ok-check.ensures.allowed) (rw c.as_slice-formats.ensures at c.in-Ok-check.ensures.typed)
 
-pub returns-in-Err-check-clause-fault : goal.returns-in-Err-check-clause-fault
-returns-in-Err-check-clause-fault c =
+pub returns-clause-fault : goal.returns-clause-fault
+returns-clause-fault c =
     rw c.type_refusal.ensures
     (type_told _ c.args.recording.now c.in-Ok.tree c.in-Ok-attach.attached.bodies c.in-Err-check.error c.in-Ok.ensures.tree
     (rw c.as_slice-formats.ensures at c.in-Ok-attach.ensures.allowed)

@@ -2,6 +2,3 @@ use Rattle.bt_top.proofs.tell.tell_recording.Goals as goal
 
 pub returns-in-TooLong : goal.returns-in-TooLong
 returns-in-TooLong g c = rw c.in-TooLong.is c.write_line.ensures
-
-pub returns-in-NotBuilt : goal.returns-in-NotBuilt
-returns-in-NotBuilt g c = rw c.in-NotBuilt.is c.write_line-in-NotBuilt.ensures
