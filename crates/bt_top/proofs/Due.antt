@@ -129,7 +129,7 @@ comes_if_due files (Err refusal) laws asked (inr here) = λ due is. inl (one_due
 -- what accepted files ask for can be run
 pub jobs_can_run : (files : Files) (answer : Result Job Refusal)
     → ((tree : Tree) (typed : Typed) (attached : Attached) (r : Recorded) → IsValidRecording r → attach_fault tree r.formats r.start r.end ≡ None
-      → IsAttachedTo tree r.formats r.start r.end attached → IsTypedScript tree r.formats attached.bodies typed → IsJob typed attached r)
+    → IsAttachedTo tree r.formats r.start r.end attached → IsTypedScript tree r.formats attached.bodies typed → IsJob typed attached r)
     → IfOk answer (IsJobOf files) → IfOk answer (λ job. IsJob job.typed job.attached job.recording)
 jobs_can_run files (Ok job) law of =
     law of.tree job.typed job.attached job.recording of.accepted.is.valid of.accepted.script.attached of.attached of.typed

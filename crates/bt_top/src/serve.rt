@@ -60,7 +60,10 @@ fn work_for(alloc: Global, order: &Order, job: &Job) -> Result<Option<Work>, Mem
     ensures { IfOk result (IsDoneWork order.now job.now) }
 {
     match order {
-        Order::Run(_) => Ok(Some(run_serial(alloc, job)?)),
+        Order::Run(_) => {
+            let work = run_serial(alloc, job)?;
+            Ok(Some(work))
+        }
         Order::Check(_) => Ok(None),
     }
 }

@@ -2,9 +2,10 @@
 // the frame.
 ghost use Rattle.std.specs.Prelude.{◌≡◌};
 
-use crate::kernel_rows::{
-    JUMPS, LOADS, OPERATIONS, PROGRAM_1, PROGRAM_2, PROGRAM_3, RUNS_1, RUNS_2, RUNS_3, Run, STORES,
+use crate::kernel_memory::{
+    LOADS, PROGRAM_1, PROGRAM_2, PROGRAM_3, RUNS_1, RUNS_2, RUNS_3, Run, STORES,
 };
+use crate::kernel_rows::{JUMPS, OPERATIONS};
 use bpf_encode::decode::decode;
 use bpf_interp::machine::Machine;
 use bpf_interp::ports::{PortFault, Ports};

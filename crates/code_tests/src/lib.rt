@@ -9,7 +9,11 @@ mod contexts;
 #[cfg(test)]
 mod forms;
 #[cfg(test)]
+mod helpers;
+#[cfg(test)]
 mod kernel;
+#[cfg(test)]
+mod kernel_memory;
 #[cfg(test)]
 mod kernel_rows;
 #[cfg(test)]
