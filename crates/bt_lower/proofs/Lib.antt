@@ -1,0 +1,14 @@
+pub mod Actions
+pub mod Arms
+pub mod Blocks
+pub mod Choices
+pub mod Exprs
+pub mod Lists
+pub mod Maps
+pub mod Opening
+pub mod Patches
+pub mod Slots
+pub mod Stmts
+pub mod Trees
+pub mod Turns
+pub mod Words
