@@ -73,7 +73,7 @@ keyed-is ds d w frame F =
 
 -- ---- what statements do with values that are there
 
-set_var-acts : (qs : Bool → List Part) (x : ℕ) (shape : Shape) (d : Does Value) → Acts qs (i.Store x shape) (d ∷ []) (shape ∷ []) (set_variable x d) {A = Unit {0}} (λ w vs frame. Ended tt) (λ vs frame a. with_variable x (top vs) frame)
+pub set_var-acts : (qs : Bool → List Part) (x : ℕ) (shape : Shape) (d : Does Value) → Acts qs (i.Store x shape) (d ∷ []) (shape ∷ []) (set_variable x d) {A = Unit {0}} (λ w vs frame. Ended tt) (λ vs frame a. with_variable x (top vs) frame)
 unfolding given bind changed
 set_var-acts qs x shape d = record {
   takes_them = refl;
@@ -90,7 +90,7 @@ set_var-acts qs x shape d = record {
         ∙ ap (λ (l : List Value). Ended (state (with_variable x v frame) l)) (below-append values v)
     stored s w frame values (v ∷ u ∷ vs) h = absurd (omega arith)
 
-update_var-acts : (qs : Bool → List Part) (x : ℕ) (op : BinOp) (d : Does ℤ) → Acts qs (i.UpdateVar x op) (number_value d ∷ []) (shapes.Int ∷ []) (update_variable x op d) {A = Unit {0}} (λ w vs frame. Ended tt)
+pub update_var-acts : (qs : Bool → List Part) (x : ℕ) (op : BinOp) (d : Does ℤ) → Acts qs (i.UpdateVar x op) (number_value d ∷ []) (shapes.Int ∷ []) (update_variable x op d) {A = Unit {0}} (λ w vs frame. Ended tt)
     (λ vs frame a. with_variable x (Int (binary_value op (number_of (variable x frame)) (number_of (top vs)))) frame)
 unfolding given bind changed seen
 update_var-acts qs x op d = record {
@@ -108,7 +108,7 @@ update_var-acts qs x op d = record {
         ∙ ap (λ (l : List Value). Ended (state (with_variable x (Int (binary_value op (number_of (variable x frame)) (number_of v))) frame) l)) (below-append values v)
     stored s w frame values (v ∷ u ∷ vs) h = absurd (omega arith)
 
-step-acts : (qs : Bool → List Part) (d : Does ℤ) → Acts qs i.Pop (number_value d ∷ []) (shapes.Int ∷ []) (plain d) {A = Unit {0}} (λ w vs frame. Ended tt) (λ vs frame a. frame)
+pub step-acts : (qs : Bool → List Part) (d : Does ℤ) → Acts qs i.Pop (number_value d ∷ []) (shapes.Int ∷ []) (plain d) {A = Unit {0}} (λ w vs frame. Ended tt) (λ vs frame a. frame)
 unfolding given bind
 step-acts qs d = record {
   takes_them = refl;
@@ -123,7 +123,7 @@ step-acts qs d = record {
     popped s w frame values (v ∷ []) h = ap (λ (l : List Value). Ended (state frame l)) (below-append values v)
     popped s w frame values (v ∷ u ∷ vs) h = absurd (omega arith)
 
-delete-acts : (qs : Bool → List Part) (m : MapId) (key : List Shape) (ds : List (Does Value)) → Acts qs (i.Delete m key) ds key (delete_at m ds) (λ w vs frame. asks_for (part m vs) (ops.Delete vs)) (λ vs frame a. frame)
+pub delete-acts : (qs : Bool → List Part) (m : MapId) (key : List Shape) (ds : List (Does Value)) → Acts qs (i.Delete m key) ds key (delete_at m ds) (λ w vs frame. asks_for (part m vs) (ops.Delete vs)) (λ vs frame a. frame)
 unfolding given bind asked
 delete-acts qs m key ds = record {
   takes_them = refl;
@@ -135,7 +135,7 @@ delete-acts qs m key ds = record {
   turns = λ vs frame a. refl;
 }
 
-count-acts : (qs : Bool → List Part) (m : MapId) (key : List Shape) (ds : List (Does Value)) → Acts qs (i.Count m key) ds key (gather m ds (given (pos 1))) (λ w vs frame. asks_for (Cpu w.actor) (ops.Add m vs (pos 1))) (λ vs frame a. frame)
+pub count-acts : (qs : Bool → List Part) (m : MapId) (key : List Shape) (ds : List (Does Value)) → Acts qs (i.Count m key) ds key (gather m ds (given (pos 1))) (λ w vs frame. asks_for (Cpu w.actor) (ops.Add m vs (pos 1))) (λ vs frame a. frame)
 unfolding given bind asked seen
 count-acts qs m key ds = record {
   takes_them = refl;
@@ -147,7 +147,7 @@ count-acts qs m key ds = record {
   turns = λ vs frame a. refl;
 }
 
-printf-acts : (qs : Bool → List Part) (format : ℕ) (key : List Shape) (ds : List (Does Value)) → Acts qs (i.Printf format key) ds key (printf format ds) (λ w vs frame. asks_for Out (ops.Emit (items.Printf format vs))) (λ vs frame a. frame)
+pub printf-acts : (qs : Bool → List Part) (format : ℕ) (key : List Shape) (ds : List (Does Value)) → Acts qs (i.Printf format key) ds key (printf format ds) (λ w vs frame. asks_for Out (ops.Emit (items.Printf format vs))) (λ vs frame a. frame)
 unfolding given bind asked
 printf-acts qs format key ds = record {
   takes_them = refl;
@@ -159,7 +159,7 @@ printf-acts qs format key ds = record {
   turns = λ vs frame a. refl;
 }
 
-set-acts : (qs : Bool → List Part) (m : MapId) (key : List Shape) (shape : Shape) (ds : List (Does Value)) (d : Does Value) → Acts qs (i.Set m key shape) (ds ++ d ∷ []) (key ++ shape ∷ []) (set_map m ds d) (λ w vs frame. asks_for (part m (below vs)) (ops.Set (below vs) (top vs))) (λ vs frame a. frame)
+pub set-acts : (qs : Bool → List Part) (m : MapId) (key : List Shape) (shape : Shape) (ds : List (Does Value)) (d : Does Value) → Acts qs (i.Set m key shape) (ds ++ d ∷ []) (key ++ shape ∷ []) (set_map m ds d) (λ w vs frame. asks_for (part m (below vs)) (ops.Set (below vs) (top vs))) (λ vs frame a. frame)
 unfolding given bind asked
 set-acts qs m key shape ds d = record {
   takes_them = refl;
@@ -167,5 +167,29 @@ set-acts qs m key shape ds d = record {
   is = λ w frame. keyed-is ds d w frame (λ ks v f. and_then (asks_for (part m ks) (ops.Set ks v)) (λ u. Ended (Next, f)));
   runs = λ s inside fits w same frame values vs long.
       value_over_key (λ ks v rest. and_then (asks_for (part m ks) (ops.Set ks v)) (λ u. Ended (state frame rest))) values vs (length key) (long ∙ length-append key (shape ∷ []));
+  turns = λ vs frame a. refl;
+}
+
+pub update-acts : (qs : Bool → List Part) (m : MapId) (key : List Shape) (op : BinOp) (ds : List (Does Value)) (d : Does ℤ) → Acts qs (i.Update m key op) (ds ++ number_value d ∷ []) (key ++ shapes.Int ∷ []) (update_map m ds op d) (λ w vs frame. updated m (below vs) op (number_of (top vs))) (λ vs frame a. frame)
+unfolding given bind asked
+update-acts qs m key op ds d = record {
+  takes_them = refl;
+  gives_none = refl;
+  is = λ w frame. and_then-same (in_order ds w frame) _ _ (λ p. sym (and_then_assoc (d w p.1) (λ q. Ended (Int q.0, q.1)) (λ q. and_then (updated m p.0 op (number_of q.0)) (λ u. Ended (Next, q.1)))))
+      ∙ keyed-is ds (number_value d) w frame (λ ks v f. and_then (updated m ks op (number_of v)) (λ u. Ended (Next, f)));
+  runs = λ s inside fits w same frame values vs long.
+      value_over_key (λ ks v rest. and_then (updated m ks op (number_of v)) (λ u. Ended (state frame rest))) values vs (length key) (long ∙ length-append key (shapes.Int ∷ []));
+  turns = λ vs frame a. refl;
+}
+
+pub add-acts : (qs : Bool → List Part) (m : MapId) (key : List Shape) (ds : List (Does Value)) (d : Does ℤ) → Acts qs (i.Add m key) (ds ++ number_value d ∷ []) (key ++ shapes.Int ∷ []) (gather m ds d) (λ w vs frame. asks_for (Cpu w.actor) (ops.Add m (below vs) (number_of (top vs)))) (λ vs frame a. frame)
+unfolding given bind asked seen
+add-acts qs m key ds d = record {
+  takes_them = refl;
+  gives_none = refl;
+  is = λ w frame. and_then-same (in_order ds w frame) _ _ (λ p. sym (and_then_assoc (d w p.1) (λ q. Ended (Int q.0, q.1)) (λ q. and_then (asks_for (Cpu w.actor) (ops.Add m p.0 (number_of q.0))) (λ u. Ended (Next, q.1)))))
+      ∙ keyed-is ds (number_value d) w frame (λ ks v f. and_then (asks_for (Cpu w.actor) (ops.Add m ks (number_of v))) (λ u. Ended (Next, f)));
+  runs = λ s inside fits w same frame values vs long.
+      value_over_key (λ ks v rest. and_then (asks_for (Cpu w.actor) (ops.Add m ks (number_of v))) (λ u. Ended (state frame rest))) values vs (length key) (long ∙ length-append key (shapes.Int ∷ []));
   turns = λ vs frame a. refl;
 }

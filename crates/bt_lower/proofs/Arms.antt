@@ -81,7 +81,7 @@ number-field f c new en = Lowers-leaf (i.NumberField f) (FieldOf f shapes.Int) s
 pub N-Field : (e : NumExpr) (f : Field) (c new : Code) → e ≡ nums.Field f → new ≡ pushed (i.NumberField f) c → LowersNumber e c new
 N-Field e f c new he en = num-is e (nums.Field f) _ _ _ c new he (tree.num-Field-parts f) (field_num (nums.Field f) f refl) (tree.num-Field-need f) (number-field f c new en)
 
-var-names : (s : Site) (x : ℕ) (shape : Shape) → fits s.scope (VarOf x shape) ≡ true → is_shape (slice_get s.ground.variables x) shape ≡ true
+pub var-names : (s : Site) (x : ℕ) (shape : Shape) → fits s.scope (VarOf x shape) ≡ true → is_shape (slice_get s.ground.variables x) shape ≡ true
 var-names s x shape h = ap (λ (l : List Shape). is_shape (slice_get l x) shape) s.agrees.variables ∙ h
 
 number-var : (x : ℕ) (c new : Code) → new ≡ pushed (i.Load x shapes.Int) c → LowersValue (VarOf x shapes.Int ∷ []) (number_value (number_variable x)) shapes.Int (need 8 4) c new

@@ -3,12 +3,15 @@ pub mod Arms
 pub mod Blocks
 pub mod Choices
 pub mod Exprs
+pub mod Forms
 pub mod Lists
 pub mod Maps
 pub mod Opening
 pub mod Patches
+pub mod Single
 pub mod Slots
 pub mod Stmts
+pub mod Sweeping
 pub mod Trees
 pub mod Turns
 pub mod Words

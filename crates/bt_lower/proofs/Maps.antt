@@ -40,7 +40,7 @@ use Rattle.bt_ir.proofs.Shaped.{same_shapes-is}
 
 -- ---- what a map is named for
 
-few-key : (key : List Shape) → length key ≤ KEY_PARTS → is_key key ≡ true
+pub few-key : (key : List Shape) → length key ≤ KEY_PARTS → is_key key ≡ true
 few-key key h = grind (arith, nat_tests)
 
 declared_on : (s : Site) (n : ℕ) (kind : MapKind) (key : List Shape) (o : Option MapDecl) → decl_of n s.scope.maps ≡ o → is_declared o kind key ≡ true → (is_key key && is_declared (slice_get s.ground.maps n) kind key) ≡ true

@@ -1,4 +1,4 @@
-use Rattle.std.proofs.Common.{◌≡◌, ◌∷◌, [], ◌∙◌, sym, ap, arith, SFits, w64, rules, refl}
+use Rattle.std.proofs.Common.{◌≡◌, length, ◌∷◌, [], ◌∙◌, sym, ap, arith, SFits, w64, rules, refl}
 use Rattle.std.proofs.lemmas.Int.{to_z-of_z}
 use Rattle.typed_tree.specs.Parts.{key_shapes}
 use Rattle.bt_ir.specs.declared.blocks.Exit.TheVariants.{Goto}
@@ -90,7 +90,7 @@ lower_text-returns-in_ok-lower_number-in-Choose t c =
     S-Choose _ _ _ _ _ _ _ _ _ _ _ _ _ _ _ _ _ c.in-Choose.is (c.get-in-Choose-2).ensures c.get-in-Choose.ensures c.get.ensures c.in_ok-after-in-Choose.ensures.closed c.in_ok-after-in-Choose.ensures.number c.untype.ensures c.in_ok-second-in-Choose.ensures c.in_ok-first-in-Choose.ensures c.in_ok-begin-in-Choose.ensures c.in_ok-lower_number-in-Choose.ensures
 
 pub lower_values-loop-left-init : goal.lower_values-loop-left-init
-lower_values-loop-left-init t c = record { within = omega arith; lowered = List-start _ _ _ refl }
+lower_values-loop-left-init t c = record { within = omega arith; lowered = List-start c.args.es.now (length c.args.es.now) c.args.code.now refl }
 
 pub lower_values-loop-left-preserved : goal.lower_values-loop-left-preserved
 lower_values-loop-left-preserved t c = record { within = omega (arith, c.loop-left.invariant.within); lowered = List-next _ _ _ _ _ _ c.loop-left-test.true c.loop-left.invariant.within c.index-es-left.is c.loop-left.invariant.lowered c.in_ok-lower_value.ensures }
