@@ -4,6 +4,7 @@ pub mod Blocks
 pub mod Choices
 pub mod Exprs
 pub mod Forms
+pub mod Ifs
 pub mod Lists
 pub mod Maps
 pub mod Opening

@@ -19,6 +19,7 @@ use Rattle.bt_core.specs.declared.value.Value.{Value}
 use Rattle.bt_core.specs.declared.value.Value.TheVariants.{Int}
 use Rattle.bt_core.specs.Interaction.{Interaction, Ended}
 use Rattle.bt_core.specs.Arithmetic.{binary_value}
+use Rattle.fmt_text.specs.declared.piece.Piece.{Piece}
 use Rattle.typed_tree.specs.declared.expr.AnyExpr.{AnyExpr}
 use Rattle.typed_tree.specs.declared.expr.NumExpr.{NumExpr}
 use Rattle.typed_tree.specs.declared.stmt.TypedStmt.{TypedStmt}
@@ -235,3 +236,21 @@ T-Delete s m keys es key way c c1 new hs he hk e1 lk0 =
     (need (list_frame (values_need keys)) (codes_in (values_need keys))) way c c1 new (delete-acts qs m ks (values_do keys))
     (λ t inside f. let p = fit-head t.scope (Deleted m.0 ks) ps f in (shared-case t m.0 ks (decl_of m.0 t.scope.maps) refl p.0, p.1))
     (e1 ∙ ap (λ x. pushed (i.Delete m x) c) hk) lk.lowered))
+
+format-case : (t : Site) (n : ℕ) (key : List Shape) (o : Option (List Piece)) → format_of n t.scope.formats ≡ o → takes o key ≡ true → is_format (slice_get t.ground.formats n) key ≡ true
+format-case t n key None e h = cc
+format-case t n key (Some pieces) e h = rw (t.agrees.formats n pieces e) h
+
+pub T-Printf : (s : TypedStmt) (format : ℕ) (values es : List AnyExpr) (key : List Shape) (way : Ways) (c c1 new : Code) → s ≡ stmts.Printf format values → es ≡ values → key ≡ key_shapes (all_made values) →
+    c1 ≡ pushed (i.Printf format key) c → LowersList es c1 new → LowersStmt (stmt_parts s) (stmt_does s) (stmt_need s) way c new
+T-Printf s format values es key way c c1 new hs he hk e1 lk0 =
+    let lk = subst (λ (x : List AnyExpr). LowersList x c1 new) he lk0 in
+    let ks = key_shapes (all_made values) in
+    let ps = parts_in (all_made values) in
+    let qs : Bool → List Part = λ inside. printf_parts format (all_made values) in
+    stmt-is s (stmts.Printf format values) qs (printf format (values_do values)) (need (list_frame (values_need values)) (16 + codes_in (values_need values))) way c new hs (form.Printf-parts format values) (form.Printf-does format values) (form.Printf-need format values)
+    (Stmt-less qs (printf format (values_do values)) (need (max (list_frame (values_need values)) (sizes_of ks + 0)) (16 + codes_in (values_need values))) _ way c new (max-le (omega arith) (omega (arith, lk.lowered.sizes))) (omega arith)
+    (Lowers-act qs (i.Printf format ks) ps (values_do values) ks (printf format (values_do values)) (λ w us frame. asks_for Out (ops.Emit (items.Printf format us))) (λ us frame a. frame)
+    (need (list_frame (values_need values)) (codes_in (values_need values))) way c c1 new (printf-acts qs format ks (values_do values))
+    (λ t inside f. let p = fit-head t.scope (Printed format ks) (ps ++ Ending ∷ []) f in (format-case t format ks (format_of format t.scope.formats) refl p.0, (fit-parts t.scope ps (Ending ∷ []) p.1).0))
+    (e1 ∙ ap (λ x. pushed (i.Printf format x) c) hk) lk.lowered))

@@ -197,7 +197,7 @@ Lowers-none qs way c = record {
   sound = λ bs stand t inside fits room ways o. (o, Sound-none t.ground bs (length c.blocks));
 }
 
-WaysStand-on : (bs : List Block) (leave again : ℕ) (c d : Code) → d.depth ≡ c.depth → d.stack ≡ c.stack → length c.blocks ≤ length d.blocks → WaysStand bs leave again c → WaysStand bs leave again d
+pub WaysStand-on : (bs : List Block) (leave again : ℕ) (c d : Code) → d.depth ≡ c.depth → d.stack ≡ c.stack → length c.blocks ≤ length d.blocks → WaysStand bs leave again c → WaysStand bs leave again d
 WaysStand-on bs leave again c d ed es le w = record { leaves = move leave w.leaves; goes_on = move again w.goes_on }
   where
     move : (to : ℕ) → Target bs (length c.blocks) c.depth c.stack to → Target bs (length d.blocks) d.depth d.stack to
