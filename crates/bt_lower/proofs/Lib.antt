@@ -6,6 +6,7 @@ pub mod Exprs
 pub mod Forms
 pub mod Ifs
 pub mod Lists
+pub mod Loops
 pub mod Maps
 pub mod Opening
 pub mod Patches
