@@ -16,4 +16,5 @@ pub mod Stmts
 pub mod Sweeping
 pub mod Trees
 pub mod Turns
+pub mod Whiles
 pub mod Words

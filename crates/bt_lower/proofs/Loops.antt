@@ -160,7 +160,7 @@ module _ (ps : Bool → List Part) (body : Does Flow) (n : Need) (line block : �
       unfolding given
       next-is st = refl
 
-      tests_reach : (m : ℕ) (st : Frame) → st.turns < m → st.turns ≤ turns_at → Reaches bs (length c8.blocks) ((st.turns + c.depth) * most + length (closed c8).blocks) (seen_by t.ground.maps w) (state st values) (and_then (tests m line tst body w st) k)
+      pub tests_reach : (m : ℕ) (st : Frame) → st.turns < m → st.turns ≤ turns_at → Reaches bs (length c8.blocks) ((st.turns + c.depth) * most + length (closed c8).blocks) (seen_by t.ground.maps w) (state st values) (and_then (tests m line tst body w st) k)
       tests_reach zero st lt' le = absurd (omega arith)
       tests_reach (suc m) st lt' le =
           Reaches-more bs _ _ _ (seen_by t.ground.maps w) _ _ (omega (arith, closed-length c8))
@@ -179,12 +179,12 @@ module _ (ps : Bool → List Part) (body : Does Flow) (n : Need) (line block : �
           under6 : length c.blocks + 1 ≤ length gate6.blocks
           under6 = omega (arith, len36, length-append (with_cut line (closed c)).blocks (placeholder (with_cut line (closed c)) ∷ []), closed-length (pushed (i.Cut line) (begun (End AtCut) [] (closed c))), closed-length c)
 
-some-below : {A : Type 0} (xs : List A) (b : ℕ) (x : A) → slice_get xs b ≡ Some x → b < length xs
+pub some-below : {A : Type 0} (xs : List A) (b : ℕ) (x : A) → slice_get xs b ≡ Some x → b < length xs
 some-below [] b x e = cc
 some-below (y ∷ ys) zero x e = omega arith
 some-below (y ∷ ys) (suc b) x e = let h : b < length ys = some-below ys b x e in omega arith
 
-set-slots : (xs : List Block) (a : ℕ) (v u : Block) → slice_get xs a ≡ Some u → instrs_slots u.instrs ≡ 0 → instrs_slots v.instrs ≡ 0 → exit_slots u.exit ≡ 1 → exit_slots v.exit ≡ 1 → blocks_slots (slice_set xs a v) ≡ blocks_slots xs
+pub set-slots : (xs : List Block) (a : ℕ) (v u : Block) → slice_get xs a ≡ Some u → instrs_slots u.instrs ≡ 0 → instrs_slots v.instrs ≡ 0 → exit_slots u.exit ≡ 1 → exit_slots v.exit ≡ 1 → blocks_slots (slice_set xs a v) ≡ blocks_slots xs
 set-slots [] a v u e p q r s = refl
 set-slots (x ∷ xs) zero v u e p q r s =
     let is : x ≡ u = cc in
