@@ -1,0 +1,108 @@
+-- Lowering of reads and steps of maps.
+use Rattle.std.proofs.Common.{◌≡◌, ℕ, zero, suc, ◌+◌, ◌≤◌, ◌<◌, List, [], ◌∷◌, ◌++◌, length, refl, sym, ap, ◌∙◌, subst, arith, append_assoc, append-nil, length-append, Bool, true, false, Option, Some, None}
+use Rattle.std.specs.Prelude.{ℤ, pos, max, cond, not, slice_get, ◌&&◌, nat_le}
+use Rattle.std.proofs.Math.Nat.{le-max_left, le-max_right, max-le}
+use Rattle.std.proofs.lemmas.Bool.{and_parts}
+use Rattle.std.proofs.lemmas.Bool.Decides.{nat_tests}
+use Rattle.bt_core.specs.declared.limits.TheConstants.{KEY_PARTS}
+use Rattle.bt_core.specs.declared.map.MapDecl.{MapDecl}
+use Rattle.bt_core.specs.declared.map.MapId.{MapId}
+use Rattle.bt_core.specs.declared.map.MapKind.{MapKind}
+use Rattle.bt_core.specs.declared.map.Shape.{Shape}
+use Rattle.bt_core.specs.declared.map.Shape.TheVariants as shapes
+use Rattle.bt_core.specs.declared.value.Value.{Value}
+use Rattle.bt_core.specs.declared.value.Value.TheVariants.{Int, Str}
+use Rattle.bt_core.specs.Interaction.{Interaction, Ended, Asks, and_then}
+use Rattle.bt_core.proofs.InteractionLaws.{and_then_assoc}
+use Rattle.typed_tree.specs.Parts.{Part, MapOf}
+use Rattle.typed_tree.specs.Scope.{Scope, all_fit, fits, decl_of, is_declared, same_kind, same_shapes, kind_of_shape}
+use Rattle.bt_walk.specs.declared.flow.Frame.{Frame}
+use Rattle.bt_walk.specs.Does.{Does, given, asked, bind, in_order, told}
+use Rattle.bt_walk.specs.Does.{Scene as Walked}
+use Rattle.bt_walk.specs.Exprs.{number_value, text_value, read_number, read_text, read, step_map, step_at}
+use Rattle.bt_walk.specs.Maps.{get, set}
+use Rattle.bt_ir.specs.declared.instr.Instr.{Instr}
+use Rattle.bt_ir.specs.declared.instr.Instr.TheVariants as i
+use Rattle.bt_ir.specs.Asking.{got}
+use Rattle.bt_ir.specs.Figures.{size_of, sizes_of, instr_slots, instr_bytes, by_shape}
+use Rattle.bt_ir.specs.Meaning.{instr_run, stepped}
+use Rattle.bt_ir.specs.Typing.{Ground, takes, gives, names, is_key, holds_shape, front_of}
+use Rattle.bt_ir.specs.Values.{number_of, text_of, as_shape}
+use Rattle.bt_lower.specs.declared.code.Code.{Code}
+use Rattle.bt_lower.specs.Code.{pushed}
+use Rattle.bt_lower.specs.Lowers.{state, seen_by, LowersParts, LowersValue}
+use Rattle.bt_lower.specs.Needs.{Need, need, more}
+use Rattle.bt_lower.specs.Sound.{Site}
+use Rattle.bt_lower.proofs.Blocks.{and_then-same}
+use Rattle.bt_lower.proofs.Exprs.{Parts-less, Puts, Parts-put}
+use Rattle.bt_lower.proofs.Lists.{last-append, front-append, fit-head}
+use Rattle.bt_ir.proofs.Shaped.{same_shapes-is}
+
+-- ---- what a map is named for
+
+pub few-key : (key : List Shape) → length key ≤ KEY_PARTS → is_key key ≡ true
+few-key key h = grind (arith, nat_tests)
+
+declared_on : (s : Site) (n : ℕ) (kind : MapKind) (key : List Shape) (o : Option MapDecl) → decl_of n s.scope.maps ≡ o → is_declared o kind key ≡ true → (is_key key && is_declared (slice_get s.ground.maps n) kind key) ≡ true
+declared_on s n kind key None e h = cc
+declared_on s n kind key (Some decl) e h =
+    let p = and_parts (same_kind decl.kind kind) (same_shapes decl.key_shape key) h in
+    let same : decl.key_shape ≡ key = same_shapes-is decl.key_shape key p.1 in
+    let few : length key ≤ KEY_PARTS = subst (λ (l : List Shape). length l ≤ KEY_PARTS) same (s.agrees.few n decl e) in
+    rw (few-key key few, s.agrees.maps n decl e) h
+
+pub map_names : (s : Site) (m : MapId) (key : List Shape) (shape : Shape) → fits s.scope (MapOf m.0 key shape) ≡ true → holds_shape s.ground m.0 key shape ≡ true
+map_names s m key shape h = declared_on s m.0 (kind_of_shape shape) key (decl_of m.0 s.scope.maps) refl h
+
+-- ---- reads
+
+got-number : (m : MapId) (key : List Shape) (ds : List (Does Value)) → Puts (i.Get m key shapes.Int) ds key shapes.Int (number_value (read_number m ds)) (λ w vs frame. got m vs) (λ w vs frame a. Int (number_of a)) (λ vs frame a. frame)
+unfolding given bind asked
+got-number m key ds = record {
+  takes_them = refl;
+  gives_one = refl;
+  fits = omega arith;
+  is = λ w frame. simp and_then_assoc;
+  runs = λ maps w frame values vs long.
+      ap (λ (l : List Value). and_then (got m l) (λ v. Ended (state frame (front_of (length key) (values ++ vs) ++ Int (number_of v) ∷ [])))) (last-append (length key) values vs long)
+      ∙ ap (λ (l : List Value). and_then (got m vs) (λ v. Ended (state frame (l ++ Int (number_of v) ∷ [])))) (front-append (length key) values vs long);
+  turns = λ vs frame a. refl;
+}
+
+got-text : (m : MapId) (key : List Shape) (ds : List (Does Value)) → Puts (i.Get m key shapes.Str) ds key shapes.Str (text_value (read_text m ds)) (λ w vs frame. got m vs) (λ w vs frame a. Str (text_of a)) (λ vs frame a. frame)
+unfolding given bind asked
+got-text m key ds = record {
+  takes_them = refl;
+  gives_one = refl;
+  fits = omega arith;
+  is = λ w frame. simp and_then_assoc;
+  runs = λ maps w frame values vs long.
+      ap (λ (l : List Value). and_then (got m l) (λ v. Ended (state frame (front_of (length key) (values ++ vs) ++ Str (text_of v) ∷ [])))) (last-append (length key) values vs long)
+      ∙ ap (λ (l : List Value). and_then (got m vs) (λ v. Ended (state frame (l ++ Str (text_of v) ∷ [])))) (front-append (length key) values vs long);
+  turns = λ vs frame a. refl;
+}
+
+pub stepped-puts : (m : MapId) (key : List Shape) (ds : List (Does Value)) (plus prefix : Bool) → Puts (i.StepMap m key plus prefix) ds key shapes.Int (number_value (step_map m ds plus prefix)) (λ w vs frame. stepped m vs plus prefix) (λ w vs frame a. a) (λ vs frame a. frame)
+unfolding given bind asked
+stepped-puts m key ds plus prefix = record {
+  takes_them = refl;
+  gives_one = refl;
+  fits = omega arith;
+  is = λ w frame. simp and_then_assoc;
+  runs = λ maps w frame values vs long.
+      ap (λ (l : List Value). and_then (stepped m l plus prefix) (λ v. Ended (state frame (front_of (length key) (values ++ vs) ++ v ∷ [])))) (last-append (length key) values vs long)
+      ∙ ap (λ (l : List Value). and_then (stepped m vs plus prefix) (λ v. Ended (state frame (l ++ v ∷ [])))) (front-append (length key) values vs long);
+  turns = λ vs frame a. refl;
+}
+
+pub Lowers-read_number : (m : MapId) (ps : List Part) (key : List Shape) (ds : List (Does Value)) (n : Need) (c c1 new : Code) → c1 ≡ pushed (i.Get m key shapes.Int) c → LowersParts ps ds key n c1 new →
+    LowersValue (MapOf m.0 key shapes.Int ∷ ps) (number_value (read_number m ds)) shapes.Int (need (max n.frame (sizes_of key + 8)) (16 + n.code)) c new
+Lowers-read_number m ps key ds n c c1 new e1 l =
+    Parts-put (i.Get m key shapes.Int) ps (MapOf m.0 key shapes.Int) ds key shapes.Int _ (λ w vs frame. got m vs) (λ w vs frame a. Int (number_of a)) (λ vs frame a. frame) n c c1 new
+    (got-number m key ds) (λ s f. let p = fit-head s.scope (MapOf m.0 key shapes.Int) ps f in (map_names s m key shapes.Int p.0, p.1)) e1 l
+
+pub Lowers-read_text : (m : MapId) (ps : List Part) (key : List Shape) (ds : List (Does Value)) (n : Need) (c c1 new : Code) → c1 ≡ pushed (i.Get m key shapes.Str) c → LowersParts ps ds key n c1 new →
+    LowersValue (MapOf m.0 key shapes.Str ∷ ps) (text_value (read_text m ds)) shapes.Str (need (max n.frame (sizes_of key + 64)) (40 + n.code)) c new
+Lowers-read_text m ps key ds n c c1 new e1 l =
+    Parts-put (i.Get m key shapes.Str) ps (MapOf m.0 key shapes.Str) ds key shapes.Str _ (λ w vs frame. got m vs) (λ w vs frame a. Str (text_of a)) (λ vs frame a. frame) n c c1 new
+    (got-text m key ds) (λ s f. let p = fit-head s.scope (MapOf m.0 key shapes.Str) ps f in (map_names s m key shapes.Str p.0, p.1)) e1 l

@@ -1,0 +1,4 @@
+pub mod Code
+pub mod Lowers
+pub mod Needs
+pub mod Sound

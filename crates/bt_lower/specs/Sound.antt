@@ -1,0 +1,85 @@
+-- Sound code: each instruction finds its operands and what it names, and each exit leads where it may.
+use Rattle.std.specs.Prelude.{◌≡◌, ℕ, ◌+◌, ◌<◌, ◌≤◌, true, List, [], ◌∷◌, ◌++◌, length, reverse, Option, Some, None, slice_get}
+use Rattle.bt_core.specs.declared.limits.TheConstants.{KEY_PARTS}
+use Rattle.bt_core.specs.declared.map.MapDecl.{MapDecl}
+use Rattle.bt_core.specs.declared.map.Shape.{Shape}
+use Rattle.bt_core.specs.declared.map.Shape.TheVariants.{Int}
+use Rattle.fmt_text.specs.Arguments.{argument_shapes}
+use Rattle.fmt_text.specs.declared.piece.Piece.{Piece}
+use Rattle.typed_tree.specs.Scope.{Scope, decl_of, format_of}
+use Rattle.bt_ir.specs.declared.blocks.Block.{Block}
+use Rattle.bt_ir.specs.declared.blocks.Exit.{Exit}
+use Rattle.bt_ir.specs.declared.blocks.Exit.TheVariants.{Goto, Branch, Count, Gate, Again, End}
+use Rattle.bt_ir.specs.declared.instr.Instr.{Instr}
+use Rattle.bt_ir.specs.Figures.{sizes_of, instr_bytes}
+use Rattle.bt_ir.specs.Typing.{Ground, takes, gives, names, stack_in}
+use Rattle.bt_ir.specs.Ways.{depth_at}
+use Rattle.bt_lower.specs.declared.code.Code.{Code}
+
+-- what a body may name stands on the same ground as what its instructions name
+pub record Agrees (scope : Scope) (ground : Ground) : Type 0 where
+  pub variables : ground.variables ≡ scope.variables
+  pub maps : (n : ℕ) (decl : MapDecl) → decl_of n scope.maps ≡ Some decl → slice_get ground.maps n ≡ Some decl
+  pub few : (n : ℕ) (decl : MapDecl) → decl_of n scope.maps ≡ Some decl → length decl.key_shape ≤ KEY_PARTS
+  pub formats : (n : ℕ) (pieces : List Piece) → format_of n scope.formats ≡ Some pieces → slice_get ground.formats n ≡ Some (argument_shapes pieces)
+
+pub record Site : Type 0 where
+  pub scope : Scope
+  pub ground : Ground
+  pub agrees : Agrees scope ground
+
+-- so many bytes fit into the frame beside the variables and the body's own 24
+pub record HasRoom (g : Ground) (bytes : ℕ) : Type 0 where
+  pub within : 24 + sizes_of g.variables + bytes ≤ g.frame
+
+-- the instruction names what is there, and finds its operands at the end of the stack, above the rest
+pub record MayStand (g : Ground) (i : Instr) (stack rest : List Shape) : Type 0 where
+  pub named : names g i ≡ true
+  pub found : stack ≡ rest ++ takes i
+  pub room : HasRoom g (sizes_of stack + instr_bytes i)
+
+-- from the types before them on the stack instructions lead to those after them
+abbrev pub Turns : Ground → List Instr → List Shape → List Shape → Type 0
+Turns g [] stack after = (stack ≡ after) × HasRoom g (sizes_of stack)
+Turns g (i ∷ is) stack after = (rest : List Shape) × MayStand g i stack rest × Turns g is (rest ++ gives i) after
+
+-- a block with a number below n, in at most so many loops, that finds these types on the stack
+pub record Target (bs : List Block) (n depth : ℕ) (stack : List Shape) (to : ℕ) : Type 0 where
+  pub later : to < n
+  pub loops : depth_at bs to ≤ depth
+  pub finds : stack_in (slice_get bs to) ≡ stack
+
+-- the head of a loop round what lies in so many
+pub record Back (bs : List Block) (depth : ℕ) (stack : List Shape) (head : ℕ) : Type 0 where
+  pub there : head < length bs
+  pub outside : depth_at bs head < depth
+  pub finds : stack_in (slice_get bs head) ≡ stack
+
+-- where the exit of block n may lead, with these types on the stack
+abbrev pub LeadsTo : List Block → ℕ → ℕ → List Shape → Exit → Type 0
+LeadsTo bs n depth stack (Goto b) = Target bs n depth stack b
+LeadsTo bs n depth stack (Branch first second) = (rest : List Shape) × (stack ≡ rest ++ Int ∷ []) × Target bs n depth rest first × Target bs n depth rest second
+LeadsTo bs n depth stack (Count block leave) = (rest : List Shape) × (stack ≡ rest ++ Int ∷ []) × Target bs n depth stack block × Target bs n depth stack leave
+LeadsTo bs n depth stack (Gate block cut) = Target bs n (depth + 1) stack block × Target bs n depth stack cut
+LeadsTo bs n depth stack (Again head) = Back bs depth stack head
+LeadsTo bs n depth stack (End ending) = Unit {0}
+
+pub record SoundBlock (g : Ground) (bs : List Block) (n : ℕ) (b : Block) : Type 0 where
+  pub after : List Shape
+  pub turns : Turns g b.instrs b.stack after
+  pub leads : LeadsTo bs n b.depth after b.exit
+
+-- what is open would be a sound block
+pub record Opens (g : Ground) (bs : List Block) (c : Code) : Type 0 where
+  pub after : List Shape
+  pub turns : Turns g (reverse c.instrs) c.stack after
+  pub leads : LeadsTo bs (length c.blocks) c.depth after c.exit
+
+-- so are all blocks from one number on up to another
+pub record Sound (g : Ground) (bs : List Block) (from to : ℕ) : Type 0 where
+  pub each : (n : ℕ) → from ≤ n → n < to → (b : Block) → slice_get bs n ≡ Some b → SoundBlock g bs n b
+
+-- the ways out of a loop's block find what the block finds
+pub record WaysStand (bs : List Block) (leave again : ℕ) (c : Code) : Type 0 where
+  pub leaves : Target bs (length c.blocks) c.depth c.stack leave
+  pub goes_on : Target bs (length c.blocks) c.depth c.stack again

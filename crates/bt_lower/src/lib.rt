@@ -1,0 +1,5 @@
+//! Lowering: typed bodies as blocks of typed instructions, and the two sums of what they need.
+#![tactic(auto)]
+
+pub mod code;
+pub mod value;

@@ -1,0 +1,224 @@
+// Lowering of expressions: a function puts what evaluates before what is open.
+ghost use Rattle.std.specs.Prelude.{◌≡◌, OnOk, IfOk, []};
+ghost use Rattle.bt_core.specs.declared.map.Shape.TheVariants as shapes;
+ghost use Rattle.typed_tree.specs.Parts.{num_parts, str_parts, key_shapes};
+ghost use Rattle.bt_walk.specs.Does.{given};
+ghost use Rattle.bt_walk.specs.Exprs.{number_does, text_does, number_value, text_value, tested};
+ghost use Rattle.bt_lower.specs.Lowers.{LowersAny, LowersNumber, LowersText, LowersList, LowersArm, all_made, known_need};
+ghost use Rattle.bt_ir.specs.Values.{shape_of};
+ghost use Rattle.bt_lower.specs.Needs.{number_need, text_need, more};
+
+use crate::code::Code;
+use bt_core::items::Items;
+use bt_core::map::Shape;
+use bt_core::memory::{Memory, TryCopy};
+use bt_core::value::Value;
+use bt_ir::blocks::Exit;
+use bt_ir::instr::Instr;
+use bt_ir::stack::shape_of;
+use std::alloc::Global;
+use typed_tree::expr::{AnyExpr, NumExpr, StrExpr};
+
+/// The types of a key's parts.
+pub fn shapes_of(alloc: Global, keys: &[AnyExpr]) -> Result<Items<Shape>, Memory>
+    ensures { IfOk result (λ shapes. shapes ≡ key_shapes (all_made keys.now)) }
+{
+    let mut shapes = Items::new(alloc);
+    for key in keys {
+        shapes.push(key.shape())?;
+    }
+    Ok(shapes)
+}
+
+/// Lowers an expression.
+#[cycle(value)]
+pub fn lower_value(alloc: Global, e: &AnyExpr, code: &mut Code) -> Result<(), Memory>
+    ensures { OnOk result (LowersAny e.now code.old code.new) }
+{
+    match e {
+        AnyExpr::Num(e) => lower_number(alloc, e, code)?,
+        AnyExpr::Str(e) => lower_text(alloc, e, code)?,
+    }
+    Ok(())
+}
+
+/// Lowers a whole number.
+#[cycle(value)]
+pub fn lower_number(alloc: Global, e: &NumExpr, code: &mut Code) -> Result<(), Memory>
+    ensures { OnOk result (LowersNumber e.now code.old code.new) }
+{
+    match e {
+        NumExpr::Number(n) => code.push(alloc, Instr::Put(Value::Int(*n)))?,
+        NumExpr::Builtin(b) => code.push(alloc, Instr::Builtin(*b))?,
+        NumExpr::Field(f) => {
+            let field = f.try_copy(alloc)?;
+            code.push(alloc, Instr::NumberField(field))?;
+        }
+        NumExpr::Var(x) => code.push(alloc, Instr::Load {
+            var: *x,
+            shape: Shape::Int,
+        })?,
+        NumExpr::Map { map, keys } => {
+            let key = shapes_of(alloc, keys.as_slice())?;
+            code.push(alloc, Instr::Get {
+                map: *map,
+                key,
+                shape: Shape::Int,
+            })?;
+            lower_values(alloc, keys.as_slice(), code)?;
+        }
+        NumExpr::StepVar { var, plus, prefix } => code.push(alloc, Instr::StepVar {
+            var: *var,
+            plus: *plus,
+            prefix: *prefix,
+        })?,
+        NumExpr::StepMap {
+            map,
+            keys,
+            plus,
+            prefix,
+        } => {
+            let key = shapes_of(alloc, keys.as_slice())?;
+            code.push(alloc, Instr::StepMap {
+                map: *map,
+                key,
+                plus: *plus,
+                prefix: *prefix,
+            })?;
+            lower_values(alloc, keys.as_slice(), code)?;
+        }
+        NumExpr::Unary { op, value } => {
+            code.push(alloc, Instr::Unary(*op))?;
+            lower_number(alloc, value.get(), code)?;
+        }
+        NumExpr::Binary { op, left, right } => {
+            code.push(alloc, Instr::Binary(*op))?;
+            lower_number(alloc, right.get(), code)?;
+            lower_number(alloc, left.get(), code)?;
+        }
+        NumExpr::Compare { equal, left, right } => {
+            code.push(alloc, Instr::Compare { equal: *equal })?;
+            lower_text(alloc, right.get(), code)?;
+            lower_text(alloc, left.get(), code)?;
+        }
+        NumExpr::AndThen { left, right } => {
+            let after = code.close(alloc)?;
+            code.untype();
+            let second = known_arm(alloc, Value::Int(0), after, code)?;
+            let first = tested_arm(alloc, right.get(), after, code)?;
+            code.begin(alloc, Exit::Branch { first, second }, &[Shape::Int])?;
+            lower_number(alloc, left.get(), code)?;
+        }
+        NumExpr::OrElse { left, right } => {
+            let after = code.close(alloc)?;
+            code.untype();
+            let second = tested_arm(alloc, right.get(), after, code)?;
+            let first = known_arm(alloc, Value::Int(1), after, code)?;
+            code.begin(alloc, Exit::Branch { first, second }, &[Shape::Int])?;
+            lower_number(alloc, left.get(), code)?;
+        }
+        NumExpr::Choose { condition, yes, no } => {
+            let after = code.close(alloc)?;
+            code.untype();
+            let second = lower_number_arm(alloc, no.get(), after, code)?;
+            let first = lower_number_arm(alloc, yes.get(), after, code)?;
+            code.begin(alloc, Exit::Branch { first, second }, &[Shape::Int])?;
+            lower_number(alloc, condition.get(), code)?;
+        }
+    }
+    Ok(())
+}
+
+/// Lowers a string.
+#[cycle(value)]
+pub fn lower_text(alloc: Global, e: &StrExpr, code: &mut Code) -> Result<(), Memory>
+    ensures { OnOk result (LowersText e.now code.old code.new) }
+{
+    match e {
+        StrExpr::Text(s) => code.push(alloc, Instr::Put(Value::Str(s.copy())))?,
+        StrExpr::Comm => code.push(alloc, Instr::Comm)?,
+        StrExpr::Field(f) => {
+            let field = f.try_copy(alloc)?;
+            code.push(alloc, Instr::TextField(field))?;
+        }
+        StrExpr::Var(x) => code.push(alloc, Instr::Load {
+            var: *x,
+            shape: Shape::Str,
+        })?,
+        StrExpr::Map { map, keys } => {
+            let key = shapes_of(alloc, keys.as_slice())?;
+            code.push(alloc, Instr::Get {
+                map: *map,
+                key,
+                shape: Shape::Str,
+            })?;
+            lower_values(alloc, keys.as_slice(), code)?;
+        }
+        StrExpr::Choose { condition, yes, no } => {
+            let after = code.close(alloc)?;
+            code.untype();
+            let second = lower_text_arm(alloc, no.get(), after, code)?;
+            let first = lower_text_arm(alloc, yes.get(), after, code)?;
+            code.begin(alloc, Exit::Branch { first, second }, &[Shape::Int])?;
+            lower_number(alloc, condition.get(), code)?;
+        }
+    }
+    Ok(())
+}
+
+/// Lowers expressions that are evaluated from left to right: the last one is evaluated last, so it is lowered first.
+#[cycle(value)]
+pub fn lower_values(alloc: Global, es: &[AnyExpr], code: &mut Code) -> Result<(), Memory>
+    ensures { OnOk result (LowersList es.now code.old code.new) }
+{
+    let mut left = es.len();
+    while left > 0 {
+        left -= 1;
+        lower_value(alloc, &es[left], code)?;
+    }
+    Ok(())
+}
+
+/// A block that evaluates a whole number and goes on to a block.
+#[cycle(value)]
+fn lower_number_arm(alloc: Global, e: &NumExpr, after: usize, code: &mut Code) -> Result<usize, Memory>
+    ensures { IfOk result (λ number. LowersArm (num_parts e.now) (number_value (number_does e.now)) shapes.Int (more 1 (number_need e.now)) after code.old code.new number) }
+{
+    code.begin(alloc, Exit::Goto(after), &[Shape::Int])?;
+    lower_number(alloc, e, code)?;
+    let number = code.close(alloc)?;
+    Ok(number)
+}
+
+/// Likewise a string.
+#[cycle(value)]
+fn lower_text_arm(alloc: Global, e: &StrExpr, after: usize, code: &mut Code) -> Result<usize, Memory>
+    ensures { IfOk result (λ number. LowersArm (str_parts e.now) (text_value (text_does e.now)) shapes.Str (more 1 (text_need e.now)) after code.old code.new number) }
+{
+    code.begin(alloc, Exit::Goto(after), &[Shape::Str])?;
+    lower_text(alloc, e, code)?;
+    let number = code.close(alloc)?;
+    Ok(number)
+}
+
+/// Likewise 1 where a number counts as true and otherwise 0.
+#[cycle(value)]
+fn tested_arm(alloc: Global, e: &NumExpr, after: usize, code: &mut Code) -> Result<usize, Memory>
+    ensures { IfOk result (λ number. LowersArm (num_parts e.now) (number_value (tested (number_does e.now))) shapes.Int (more 5 (number_need e.now)) after code.old code.new number) }
+{
+    code.begin(alloc, Exit::Goto(after), &[Shape::Int])?;
+    code.push(alloc, Instr::Truth)?;
+    lower_number(alloc, e, code)?;
+    let number = code.close(alloc)?;
+    Ok(number)
+}
+
+/// Likewise a value that is known.
+fn known_arm(alloc: Global, value: Value, after: usize, code: &mut Code) -> Result<usize, Memory>
+    ensures { IfOk result (λ number. LowersArm [] (given value) (shape_of value) (more 1 (known_need value)) after code.old code.new number) }
+{
+    code.begin(alloc, Exit::Goto(after), &[shape_of(&value)])?;
+    code.push(alloc, Instr::Put(value))?;
+    let number = code.close(alloc)?;
+    Ok(number)
+}
