@@ -70,10 +70,11 @@ Lowers-arm ps d shape n after c c0 c1 new b e0 l0 en eb =
           let z : sizes_of (c.stack ++ shape ∷ []) ≡ sizes_of c.stack + sizes_of (shape ∷ []) = sizes-append c.stack (shape ∷ []) in
           let p = l.sound bs (Stand-before _ _ _ _ (Grew-one c1.blocks (open_block c1)) stand) t fits c.stack refl room
           (Opens-goto t.ground bs c (shape ∷ []) after (Room-less t.ground (sizes_of (c.stack ++ shape ∷ [])) (sizes_of c.stack + n.frame) (omega (arith, l.sizes)) room) target) in
-          let s = Sound-close t.ground bs c1 (Stand-later _ _ _ _ (Grew-length _ _ l.grew) stand) p.0 in
-          (subst (λ (x : List Shape). Target bs (length (closed c1).blocks) c.depth x (length c1.blocks)) same
-          (Target-close bs c1 (length (closed c1).blocks) c.depth (Stand-later _ _ _ _ (Grew-length _ _ l.grew) stand) (omega (arith, closed-length c1)) (omega (arith, l.depth))),
-          Sound-join t.ground bs (length c.blocks) (length c1.blocks) (length (closed c1).blocks) p.1 s);
+          let s = Sound-close t.ground bs c1 (Stand-later _ _ _ _ (Grew-length _ _ l.grew) stand) p.0 in (
+            subst (λ (x : List Shape). Target bs (length (closed c1).blocks) c.depth x (length c1.blocks)) same
+                (Target-close bs c1 (length (closed c1).blocks) c.depth (Stand-later _ _ _ _ (Grew-length _ _ l.grew) stand) (omega (arith, closed-length c1)) (omega (arith, l.depth))),
+            Sound-join t.ground bs (length c.blocks) (length c1.blocks) (length (closed c1).blocks) p.1 s,
+          );
     } in
     subst (λ x. LowersArm ps d shape (more 1 n) after c new x) (sym eb) (subst (λ x. LowersArm ps d shape (more 1 n) after c x (length c1.blocks)) (sym en) arm)
 
@@ -159,9 +160,11 @@ Lowers-either ps pt px py tst x y shape nt nx ny c c0 c1 c2 c3 c4 new after firs
       subst (λ (l : List Shape). Target bs (length c3.blocks) c3.depth l second) (s1 ∙ sym s3) (subst (λ (m : ℕ). Target bs (length c3.blocks) m (untyped (closed c)).stack second) (sym d3) (Target-later bs _ _ c.depth _ _ (Grew-length _ _ lx.grew) py'.0)) in
       let z : sizes_of (c3.stack ++ shapes.Int ∷ []) ≡ sizes_of c3.stack + sizes_of (shapes.Int ∷ []) = sizes-append c3.stack (shapes.Int ∷ []) in
       let pt' = lt.sound bs (Stand-later _ _ _ _ (omega (arith, Grew-length _ _ one, Grew-length _ _ ly.grew, Grew-length _ _ lx.grew)) stand) t f.0 rest (ap (λ l. l ++ shapes.Int ∷ []) s3) (Room-less t.ground _ _ (omega arith) room)
-      (Opens-branch t.ground bs c3 first second (Room-less t.ground _ _ (omega (arith, lt.sizes, ap sizes_of s3)) room) b1 b2) in
-      (pt'.0, Sound-join t.ground bs (length c.blocks) (length (closed c).blocks) (length new.blocks) (Sound-close t.ground bs c st o)
-      (Sound-join t.ground bs (length (closed c).blocks) (length c2.blocks) (length new.blocks) py'.1 (Sound-join t.ground bs (length c2.blocks) (length c3.blocks) (length new.blocks) px'.1 pt'.1)));
+      (Opens-branch t.ground bs c3 first second (Room-less t.ground _ _ (omega (arith, lt.sizes, ap sizes_of s3)) room) b1 b2) in (
+        pt'.0,
+        Sound-join t.ground bs (length c.blocks) (length (closed c).blocks) (length new.blocks) (Sound-close t.ground bs c st o)
+            (Sound-join t.ground bs (length (closed c).blocks) (length c2.blocks) (length new.blocks) py'.1 (Sound-join t.ground bs (length c2.blocks) (length c3.blocks) (length new.blocks) px'.1 pt'.1)),
+      );
 }
   where
     e01 : c1 ≡ untyped (closed c)

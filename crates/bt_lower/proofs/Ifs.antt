@@ -118,11 +118,12 @@ Block-arm qs px py pt tst x y nt nx ny after second first b way c c1 c2 c3 c4 ne
           let z : sizes_of (c2.stack ++ shapes.Int ∷ []) ≡ sizes_of c2.stack + sizes_of (shapes.Int ∷ []) = sizes-append c2.stack (shapes.Int ∷ []) in
           let pt' = lt.sound bs (Stand-later _ _ _ _ (omega (arith, Grew-length _ _ ly.grew, Grew-length _ _ lx.grew)) (Stand-before _ _ _ _ one stand)) t f.0 c2.stack refl (Room-less t.ground _ _ (omega (arith, ap sizes_of s2)) room)
           (Opens-branch t.ground bs c2 first second (Room-less t.ground _ _ (omega (arith, lt.sizes, ap sizes_of s2)) room) b1 b2) in
-          let st : Stand (length c4.blocks) (closed c4).blocks bs = Stand-later _ _ _ _ (omega (arith, Grew-length _ _ ly.grew, Grew-length _ _ lx.grew, Grew-length _ _ lt.grew)) stand in
-          (subst (λ (l : List Shape). Target bs (length (closed c4).blocks) c.depth l (length c4.blocks)) (lt.stack c2.stack refl ∙ s2) (Target-close bs c4 (length (closed c4).blocks) c.depth st (omega (arith, closed-length c4)) (omega (arith, deep))),
-          Sound-join t.ground bs (length c.blocks) (length c1.blocks) (length (closed c4).blocks) py'.1
-          (Sound-join t.ground bs (length c1.blocks) (length c2.blocks) (length (closed c4).blocks) px'.1
-          (Sound-join t.ground bs (length c2.blocks) (length c4.blocks) (length (closed c4).blocks) pt'.1 (Sound-close t.ground bs c4 st pt'.0))));
+          let st : Stand (length c4.blocks) (closed c4).blocks bs = Stand-later _ _ _ _ (omega (arith, Grew-length _ _ ly.grew, Grew-length _ _ lx.grew, Grew-length _ _ lt.grew)) stand in (
+            subst (λ (l : List Shape). Target bs (length (closed c4).blocks) c.depth l (length c4.blocks)) (lt.stack c2.stack refl ∙ s2) (Target-close bs c4 (length (closed c4).blocks) c.depth st (omega (arith, closed-length c4)) (omega (arith, deep))),
+            Sound-join t.ground bs (length c.blocks) (length c1.blocks) (length (closed c4).blocks) py'.1
+                (Sound-join t.ground bs (length c1.blocks) (length c2.blocks) (length (closed c4).blocks) px'.1
+                (Sound-join t.ground bs (length c2.blocks) (length c4.blocks) (length (closed c4).blocks) pt'.1 (Sound-close t.ground bs c4 st pt'.0))),
+          );
     }))
   where
     lt : LowersValue pt (number_value tst) shapes.Int nt (begun (Branch first second) (shapes.Int ∷ []) c2) c4
@@ -159,9 +160,10 @@ If-open qs d n after second way c c1 c2 new e1 ea l1 en =
           let st : Stand (length c.blocks) (closed c).blocks bs = Stand-before _ _ _ _ l.grew stand in
           let at : Target bs (length (closed c).blocks) c.depth c.stack (length c.blocks) = Target-close bs c (length (closed c).blocks) c.depth st (omega (arith, closed-length c)) (omega arith) in
           let p = l.sound bs (Stand-later _ _ _ _ (Grew-length _ _ one) stand) t inside fits room (WaysStand-on bs way.leave way.again c (closed c) refl refl (Grew-length _ _ one) ways) at in
-          let to : Target bs (length c2.blocks) c2.depth (c2.stack ++ []) second = subst (λ (x : List Shape). Target bs (length c2.blocks) c2.depth x second) (sym (append-nil c2.stack ∙ l.stack)) (subst (λ (m : ℕ). Target bs (length c2.blocks) m c.stack second) (sym l.depth) p.0) in
-          (Opens-goto t.ground bs c2 [] second (Room-less t.ground _ _ (omega (arith, ap sizes_of (append-nil c2.stack ∙ l.stack))) room) to,
-          Sound-join t.ground bs (length c.blocks) (length (closed c).blocks) (length c2.blocks) (Sound-close t.ground bs c st o) p.1);
+          let to : Target bs (length c2.blocks) c2.depth (c2.stack ++ []) second = subst (λ (x : List Shape). Target bs (length c2.blocks) c2.depth x second) (sym (append-nil c2.stack ∙ l.stack)) (subst (λ (m : ℕ). Target bs (length c2.blocks) m c.stack second) (sym l.depth) p.0) in (
+            Opens-goto t.ground bs c2 [] second (Room-less t.ground _ _ (omega (arith, ap sizes_of (append-nil c2.stack ∙ l.stack))) room) to,
+            Sound-join t.ground bs (length c.blocks) (length (closed c).blocks) (length c2.blocks) (Sound-close t.ground bs c st o) p.1,
+          );
     })
   where
     l : LowersBlock qs d n (length c.blocks) way (closed c) c2 second

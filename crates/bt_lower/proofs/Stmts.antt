@@ -252,9 +252,10 @@ Lowers-into ps d n after way c c0 c1 new b e0 l0 en eb =
           let ways0 : WaysStand bs way.leave way.again (begun (Goto after) [] c) = WaysStand-on bs way.leave way.again c (begun (Goto after) [] c) refl (append-nil c.stack) (omega arith) ways in
           let p = l.sound bs (Stand-before _ _ _ _ (Grew-one c1.blocks (open_block c1)) stand) t inside fits r0 ways0
           (Opens-goto t.ground bs c [] after (none-room t c (Room-less t.ground _ _ (omega arith) room)) (none-target bs c after target)) in
-          let s = Sound-close t.ground bs c1 (Stand-later _ _ _ _ (Grew-length _ _ l.grew) stand) p.0 in
-          (subst (λ (x : List Shape). Target bs (length (closed c1).blocks) c.depth x (length c1.blocks)) same
-          (Target-close bs c1 (length (closed c1).blocks) c.depth (Stand-later _ _ _ _ (Grew-length _ _ l.grew) stand) (omega (arith, closed-length c1)) (omega (arith, l.depth))),
-          Sound-join t.ground bs (length c.blocks) (length c1.blocks) (length (closed c1).blocks) p.1 s);
+          let s = Sound-close t.ground bs c1 (Stand-later _ _ _ _ (Grew-length _ _ l.grew) stand) p.0 in (
+            subst (λ (x : List Shape). Target bs (length (closed c1).blocks) c.depth x (length c1.blocks)) same
+                (Target-close bs c1 (length (closed c1).blocks) c.depth (Stand-later _ _ _ _ (Grew-length _ _ l.grew) stand) (omega (arith, closed-length c1)) (omega (arith, l.depth))),
+            Sound-join t.ground bs (length c.blocks) (length c1.blocks) (length (closed c1).blocks) p.1 s,
+          );
     } in
     subst (λ x. LowersBlock ps d n after way c new x) (sym eb) (subst (λ x. LowersBlock ps d n after way c x (length c1.blocks)) (sym en) block)

@@ -105,16 +105,17 @@ Lowers-loop qs ps pt body tst n nt line block way c c4 c8 fit lb lt = record {
       let z : sizes_of (c4.stack ++ shapes.Int ∷ []) ≡ sizes_of c4.stack + sizes_of (shapes.Int ∷ []) = sizes-append c4.stack (shapes.Int ∷ []) in
       let pt' = lt.sound bs st8 t f.0 c4.stack refl (Room-less g _ _ (omega (arith, ap sizes_of stack4)) room) (Opens-branch g bs (closed (gated block (length (closed c).blocks) c4)) (length c4.blocks) (length c.blocks) (Room-less g _ _ (omega (arith, lt.sizes, ap sizes_of stack4)) room) to_gate to_leave) in
       let r8 : HasRoom g (sizes_of c8.stack) = Room-less g _ _ (omega (arith, ap sizes_of stack8)) room in
-      let last : length (patched (length (with_cut line (closed c)).blocks) (length c8.blocks) (closed c8)).blocks ≡ length (closed c8).blocks = length-set (closed c8).blocks (length (with_cut line (closed c)).blocks) (turn_end (length c8.blocks) (closed c8)) in
-      (record { after = c8.stack; turns = (refl, r8); leads = Target-close bs c8 (length (patched (length (with_cut line (closed c)).blocks) (length c8.blocks) (closed c8)).blocks) c8.depth st9 (omega (arith, last, closed-length c8)) (omega arith) },
-      subst (λ (m : ℕ). Sound g bs (length c.blocks) m) (sym last)
-      (Sound-join g bs _ (length (closed c).blocks) _ (Sound-close g bs c st1 o)
-      (Sound-join g bs _ (length (with_cut line (closed c)).blocks) _ (cut-sound g bs line (closed c) r0 st2)
-      (Sound-join g bs _ ((length (with_cut line (closed c)).blocks) + 1) _ (Sound-end g bs (length (with_cut line (closed c)).blocks) (length c8.blocks) (closed c8) e r8 back)
-      (subst (λ (m : ℕ). Sound g bs m (length (closed c8).blocks)) (sym len3')
-      (Sound-join g bs _ (length c4.blocks) _ pb.1
-      (Sound-join g bs _ (length (closed (gated block (length (closed c).blocks) c4)).blocks) _ (Sound-close g bs (gated block (length (closed c).blocks) c4) st6 gate)
-      (Sound-join g bs _ (length c8.blocks) _ pt'.1 (Sound-close g bs c8 st9 pt'.0)))))))));
+      let last : length (patched (length (with_cut line (closed c)).blocks) (length c8.blocks) (closed c8)).blocks ≡ length (closed c8).blocks = length-set (closed c8).blocks (length (with_cut line (closed c)).blocks) (turn_end (length c8.blocks) (closed c8)) in (
+        record { after = c8.stack; turns = (refl, r8); leads = Target-close bs c8 (length (patched (length (with_cut line (closed c)).blocks) (length c8.blocks) (closed c8)).blocks) c8.depth st9 (omega (arith, last, closed-length c8)) (omega arith) },
+        subst (λ (m : ℕ). Sound g bs (length c.blocks) m) (sym last)
+            (Sound-join g bs _ (length (closed c).blocks) _ (Sound-close g bs c st1 o)
+            (Sound-join g bs _ (length (with_cut line (closed c)).blocks) _ (cut-sound g bs line (closed c) r0 st2)
+            (Sound-join g bs _ ((length (with_cut line (closed c)).blocks) + 1) _ (Sound-end g bs (length (with_cut line (closed c)).blocks) (length c8.blocks) (closed c8) e r8 back)
+            (subst (λ (m : ℕ). Sound g bs m (length (closed c8).blocks)) (sym len3')
+            (Sound-join g bs _ (length c4.blocks) _ pb.1
+            (Sound-join g bs _ (length (closed (gated block (length (closed c).blocks) c4)).blocks) _ (Sound-close g bs (gated block (length (closed c).blocks) c4) st6 gate)
+            (Sound-join g bs _ (length c8.blocks) _ pt'.1 (Sound-close g bs c8 st9 pt'.0)))))))),
+      );
 }
   where
     len1 : length (closed c).blocks ≡ length c.blocks + 1

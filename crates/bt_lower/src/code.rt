@@ -47,16 +47,30 @@ fn take_back(alloc: Global, instr: &Instr, stack: &mut Items<Shape>) -> Result<(
     ensures { OnOk result (stack.new ≡ taken_back instr.now stack.old) }
 {
     match instr {
-        Instr::Put(_) | Instr::Builtin(_) | Instr::Comm | Instr::NumberField(_) | Instr::TextField(_) | Instr::Load { .. } | Instr::StepVar { .. } => {
-            retype(alloc, stack, 1, &[])
-        }
+        Instr::Put(_)
+        | Instr::Builtin(_)
+        | Instr::Comm
+        | Instr::NumberField(_)
+        | Instr::TextField(_)
+        | Instr::Load { .. }
+        | Instr::StepVar { .. } => { retype(alloc, stack, 1, &[]) }
         Instr::Store { shape, .. } => retype(alloc, stack, 0, &[*shape]),
         Instr::UpdateVar { .. } | Instr::Pop => retype(alloc, stack, 0, &[Shape::Int]),
         Instr::Unary(_) | Instr::Truth => retype(alloc, stack, 1, &[Shape::Int]),
         Instr::Binary(_) => retype(alloc, stack, 1, &[Shape::Int, Shape::Int]),
         Instr::Compare { .. } => retype(alloc, stack, 1, &[Shape::Str, Shape::Str]),
-        Instr::Get { key, .. } | Instr::StepMap { key, .. } => retype(alloc, stack, 1, key.as_slice()),
-        Instr::Delete { key, .. } | Instr::Count { key, .. } => retype(alloc, stack, 0, key.as_slice()),
+        Instr::Get { key, .. } | Instr::StepMap { key, .. } => retype(
+            alloc,
+            stack,
+            1,
+            key.as_slice(),
+        ),
+        Instr::Delete { key, .. } | Instr::Count { key, .. } => retype(
+            alloc,
+            stack,
+            0,
+            key.as_slice(),
+        ),
         Instr::Printf { shapes, .. } => retype(alloc, stack, 0, shapes.as_slice()),
         Instr::Set { key, shape, .. } => {
             retype(alloc, stack, 0, key.as_slice())?;
@@ -66,7 +80,8 @@ fn take_back(alloc: Global, instr: &Instr, stack: &mut Items<Shape>) -> Result<(
             retype(alloc, stack, 0, key.as_slice())?;
             retype(alloc, stack, 0, &[Shape::Int])
         }
-        Instr::Print { .. } | Instr::Clear(_) | Instr::Zero(_) | Instr::Cut(_) | Instr::Stop => retype(alloc, stack, 0, &[]),
+        Instr::Print { .. } | Instr::Clear(_) | Instr::Zero(_) | Instr::Cut(_) | Instr::Stop =>
+            retype(alloc, stack, 0, &[]),
     }
 }
 

@@ -54,24 +54,33 @@ pub fn lower_number(alloc: Global, e: &NumExpr, code: &mut Code) -> Result<(), M
             let field = f.try_copy(alloc)?;
             code.push(alloc, Instr::NumberField(field))?;
         }
-        NumExpr::Var(x) => code.push(alloc, Instr::Load {
-            var: *x,
-            shape: Shape::Int,
-        })?,
+        NumExpr::Var(x) => code.push(
+            alloc,
+            Instr::Load {
+                var: *x,
+                shape: Shape::Int,
+            },
+        )?,
         NumExpr::Map { map, keys } => {
             let key = shapes_of(alloc, keys.as_slice())?;
-            code.push(alloc, Instr::Get {
-                map: *map,
-                key,
-                shape: Shape::Int,
-            })?;
+            code.push(
+                alloc,
+                Instr::Get {
+                    map: *map,
+                    key,
+                    shape: Shape::Int,
+                },
+            )?;
             lower_values(alloc, keys.as_slice(), code)?;
         }
-        NumExpr::StepVar { var, plus, prefix } => code.push(alloc, Instr::StepVar {
-            var: *var,
-            plus: *plus,
-            prefix: *prefix,
-        })?,
+        NumExpr::StepVar { var, plus, prefix } => code.push(
+            alloc,
+            Instr::StepVar {
+                var: *var,
+                plus: *plus,
+                prefix: *prefix,
+            },
+        )?,
         NumExpr::StepMap {
             map,
             keys,
@@ -79,12 +88,15 @@ pub fn lower_number(alloc: Global, e: &NumExpr, code: &mut Code) -> Result<(), M
             prefix,
         } => {
             let key = shapes_of(alloc, keys.as_slice())?;
-            code.push(alloc, Instr::StepMap {
-                map: *map,
-                key,
-                plus: *plus,
-                prefix: *prefix,
-            })?;
+            code.push(
+                alloc,
+                Instr::StepMap {
+                    map: *map,
+                    key,
+                    plus: *plus,
+                    prefix: *prefix,
+                },
+            )?;
             lower_values(alloc, keys.as_slice(), code)?;
         }
         NumExpr::Unary { op, value } => {
@@ -141,17 +153,23 @@ pub fn lower_text(alloc: Global, e: &StrExpr, code: &mut Code) -> Result<(), Mem
             let field = f.try_copy(alloc)?;
             code.push(alloc, Instr::TextField(field))?;
         }
-        StrExpr::Var(x) => code.push(alloc, Instr::Load {
-            var: *x,
-            shape: Shape::Str,
-        })?,
+        StrExpr::Var(x) => code.push(
+            alloc,
+            Instr::Load {
+                var: *x,
+                shape: Shape::Str,
+            },
+        )?,
         StrExpr::Map { map, keys } => {
             let key = shapes_of(alloc, keys.as_slice())?;
-            code.push(alloc, Instr::Get {
-                map: *map,
-                key,
-                shape: Shape::Str,
-            })?;
+            code.push(
+                alloc,
+                Instr::Get {
+                    map: *map,
+                    key,
+                    shape: Shape::Str,
+                },
+            )?;
             lower_values(alloc, keys.as_slice(), code)?;
         }
         StrExpr::Choose { condition, yes, no } => {
@@ -181,8 +199,14 @@ pub fn lower_values(alloc: Global, es: &[AnyExpr], code: &mut Code) -> Result<()
 
 /// A block that evaluates a whole number and goes on to a block.
 #[cycle(value)]
-fn lower_number_arm(alloc: Global, e: &NumExpr, after: usize, code: &mut Code) -> Result<usize, Memory>
-    ensures { IfOk result (λ number. LowersArm (num_parts e.now) (number_value (number_does e.now)) shapes.Int (more 1 (number_need e.now)) after code.old code.new number) }
+fn lower_number_arm(
+    alloc: Global,
+    e: &NumExpr,
+    after: usize,
+    code: &mut Code,
+) -> Result<usize, Memory>
+    ensures { IfOk result (λ number. LowersArm (num_parts e.now) (number_value (number_does e.now)) shapes.Int
+        (more 1 (number_need e.now)) after code.old code.new number) }
 {
     code.begin(alloc, Exit::Goto(after), &[Shape::Int])?;
     lower_number(alloc, e, code)?;
@@ -192,8 +216,14 @@ fn lower_number_arm(alloc: Global, e: &NumExpr, after: usize, code: &mut Code) -
 
 /// Likewise a string.
 #[cycle(value)]
-fn lower_text_arm(alloc: Global, e: &StrExpr, after: usize, code: &mut Code) -> Result<usize, Memory>
-    ensures { IfOk result (λ number. LowersArm (str_parts e.now) (text_value (text_does e.now)) shapes.Str (more 1 (text_need e.now)) after code.old code.new number) }
+fn lower_text_arm(
+    alloc: Global,
+    e: &StrExpr,
+    after: usize,
+    code: &mut Code,
+) -> Result<usize, Memory>
+    ensures { IfOk result (λ number. LowersArm (str_parts e.now) (text_value (text_does e.now)) shapes.Str
+        (more 1 (text_need e.now)) after code.old code.new number) }
 {
     code.begin(alloc, Exit::Goto(after), &[Shape::Str])?;
     lower_text(alloc, e, code)?;
@@ -204,7 +234,8 @@ fn lower_text_arm(alloc: Global, e: &StrExpr, after: usize, code: &mut Code) -> 
 /// Likewise 1 where a number counts as true and otherwise 0.
 #[cycle(value)]
 fn tested_arm(alloc: Global, e: &NumExpr, after: usize, code: &mut Code) -> Result<usize, Memory>
-    ensures { IfOk result (λ number. LowersArm (num_parts e.now) (number_value (tested (number_does e.now))) shapes.Int (more 5 (number_need e.now)) after code.old code.new number) }
+    ensures { IfOk result (λ number. LowersArm (num_parts e.now) (number_value (tested (number_does e.now))) shapes.Int
+        (more 5 (number_need e.now)) after code.old code.new number) }
 {
     code.begin(alloc, Exit::Goto(after), &[Shape::Int])?;
     code.push(alloc, Instr::Truth)?;

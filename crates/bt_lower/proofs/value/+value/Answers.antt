@@ -11,7 +11,7 @@ use Rattle.bt_lower.proofs.Choices.{Lowers-arm}
 use Rattle.bt_lower.proofs.value.+value.Goals as goal
 
 pub lower_number-returns-in_ok-push-in-Number : goal.lower_number-returns-in_ok-push-in-Number
-lower_number-returns-in_ok-push-in-Number t c = 
+lower_number-returns-in_ok-push-in-Number t c =
     let fits : SFits w64 c.in-Number.n = search rules in
     let made = simp to_z-of_z at c.in_ok-push-in-Number.ensures in
     N-Number _ c.in-Number.n _ _ c.in-Number.is made
@@ -26,7 +26,7 @@ pub lower_number-returns-in_ok-push-in-Var : goal.lower_number-returns-in_ok-pus
 lower_number-returns-in_ok-push-in-Var t c = N-Var _ _ _ _ c.in-Var.is c.in_ok-push-in-Var.ensures
 
 pub lower_number-returns-in_ok-lower_values-in-Map : goal.lower_number-returns-in_ok-lower_values-in-Map
-lower_number-returns-in_ok-lower_values-in-Map t c = 
+lower_number-returns-in_ok-lower_values-in-Map t c =
     let key = c.in_ok-key-in-Map.ensures ∙ ap (λ l. key_shapes (all_made l)) c.as_slice.ensures in
     N-Map _ _ _ _ _ _ _ _ c.in-Map.is c.as_slice-in-Map.ensures key c.in_ok-push-in-Map.ensures c.in_ok-lower_values-in-Map.ensures
 
@@ -34,7 +34,7 @@ pub lower_number-returns-in_ok-push-in-StepVar : goal.lower_number-returns-in_ok
 lower_number-returns-in_ok-push-in-StepVar t c = N-StepVar _ _ _ _ _ _ c.in-StepVar.is c.in_ok-push-in-StepVar.ensures
 
 pub lower_number-returns-in_ok-lower_values-in-StepMap : goal.lower_number-returns-in_ok-lower_values-in-StepMap
-lower_number-returns-in_ok-lower_values-in-StepMap t c = 
+lower_number-returns-in_ok-lower_values-in-StepMap t c =
     let key = c.in_ok-key-in-StepMap.ensures ∙ ap (λ l. key_shapes (all_made l)) c.as_slice-in-StepMap.ensures in
     N-StepMap _ _ _ _ _ _ _ _ _ _ c.in-StepMap.is (c.as_slice-in-StepMap-2).ensures key c.in_ok-push-in-StepMap.ensures c.in_ok-lower_values-in-StepMap.ensures
 
@@ -48,15 +48,15 @@ pub lower_number-returns-in_ok-lower_text-in-Compare-2 : goal.lower_number-retur
 lower_number-returns-in_ok-lower_text-in-Compare-2 t c = N-Compare _ _ _ _ _ _ _ _ _ _ c.in-Compare.is (c.get-in-Compare-2).ensures c.get-in-Compare.ensures c.in_ok-push-in-Compare.ensures c.in_ok-lower_text-in-Compare.ensures (c.in_ok-lower_text-in-Compare-2).ensures
 
 pub lower_number-returns-in_ok-lower_number-in-AndThen : goal.lower_number-returns-in_ok-lower_number-in-AndThen
-lower_number-returns-in_ok-lower_number-in-AndThen t c = 
+lower_number-returns-in_ok-lower_number-in-AndThen t c =
     N-AndThen _ _ _ _ _ _ _ _ _ _ _ _ _ _ _ _ c.in-AndThen.is (c.get-in-AndThen-2).ensures c.get-in-AndThen.ensures refl c.in_ok-after-in-AndThen.ensures.closed c.in_ok-after-in-AndThen.ensures.number c.untype.ensures c.in_ok-second-in-AndThen.ensures c.in_ok-first-in-AndThen.ensures c.in_ok-begin-in-AndThen.ensures c.in_ok-lower_number-in-AndThen.ensures
 
 pub lower_number-returns-in_ok-lower_number-in-OrElse : goal.lower_number-returns-in_ok-lower_number-in-OrElse
-lower_number-returns-in_ok-lower_number-in-OrElse t c = 
+lower_number-returns-in_ok-lower_number-in-OrElse t c =
     N-OrElse _ _ _ _ _ _ _ _ _ _ _ _ _ _ _ _ c.in-OrElse.is (c.get-in-OrElse-2).ensures c.get-in-OrElse.ensures refl c.in_ok-after-in-OrElse.ensures.closed c.in_ok-after-in-OrElse.ensures.number c.untype-in-OrElse.ensures c.in_ok-second-in-OrElse.ensures c.in_ok-first-in-OrElse.ensures c.in_ok-begin-in-OrElse.ensures c.in_ok-lower_number-in-OrElse.ensures
 
 pub lower_number-returns-in_ok-lower_number-in-Choose : goal.lower_number-returns-in_ok-lower_number-in-Choose
-lower_number-returns-in_ok-lower_number-in-Choose t c = 
+lower_number-returns-in_ok-lower_number-in-Choose t c =
     N-Choose _ _ _ _ _ _ _ _ _ _ _ _ _ _ _ _ _ c.in-Choose.is (c.get-in-Choose-3).ensures (c.get-in-Choose-2).ensures c.get-in-Choose.ensures c.in_ok-after-in-Choose.ensures.closed c.in_ok-after-in-Choose.ensures.number c.untype-in-Choose.ensures c.in_ok-second-in-Choose.ensures c.in_ok-first-in-Choose.ensures c.in_ok-begin-in-Choose.ensures c.in_ok-lower_number-in-Choose.ensures
 
 pub lower_number_arm-returns : goal.lower_number_arm-returns
@@ -81,12 +81,12 @@ pub lower_text-returns-in_ok-push-in-Var : goal.lower_text-returns-in_ok-push-in
 lower_text-returns-in_ok-push-in-Var t c = S-Var _ _ _ _ c.in-Var.is c.in_ok-push-in-Var.ensures
 
 pub lower_text-returns-in_ok-lower_values-in-Map : goal.lower_text-returns-in_ok-lower_values-in-Map
-lower_text-returns-in_ok-lower_values-in-Map t c = 
+lower_text-returns-in_ok-lower_values-in-Map t c =
     let key = c.in_ok-key-in-Map.ensures ∙ ap (λ l. key_shapes (all_made l)) c.as_slice.ensures in
     S-Map _ _ _ _ _ _ _ _ c.in-Map.is c.as_slice-in-Map.ensures key c.in_ok-push-in-Map.ensures c.in_ok-lower_values-in-Map.ensures
 
 pub lower_text-returns-in_ok-lower_number-in-Choose : goal.lower_text-returns-in_ok-lower_number-in-Choose
-lower_text-returns-in_ok-lower_number-in-Choose t c = 
+lower_text-returns-in_ok-lower_number-in-Choose t c =
     S-Choose _ _ _ _ _ _ _ _ _ _ _ _ _ _ _ _ _ c.in-Choose.is (c.get-in-Choose-2).ensures c.get-in-Choose.ensures c.get.ensures c.in_ok-after-in-Choose.ensures.closed c.in_ok-after-in-Choose.ensures.number c.untype.ensures c.in_ok-second-in-Choose.ensures c.in_ok-first-in-Choose.ensures c.in_ok-begin-in-Choose.ensures c.in_ok-lower_number-in-Choose.ensures
 
 pub lower_values-loop-left-init : goal.lower_values-loop-left-init
