@@ -1,0 +1,35 @@
+-- What the layout of the one format is.
+use Rattle.std.proofs.Common.{◌≡◌, ℕ, ◌+◌, max, List, [], ◌∷◌, map, drop, Some, refl, ap, sym, ◌∙◌}
+use Rattle.tracefs_format.specs.declared.field.Field.{Field}
+use Rattle.tracefs_format.specs.declared.layout.Layout.{Layout}
+use Rattle.tracefs_format.specs.FieldLines.{Description, description}
+use Rattle.tracefs_format.specs.Layouts.{IsLayoutOf, line_at, read_lines, described}
+use Rattle.tracefs_format.specs.Lines.{text_lines}
+use Rattle.tracefs_format.specs.Reading.{id_on, field_on, number_after, flag_after}
+use Rattle.tracefs_format.specs.Declarations.{kind_of}
+use Rattle.tracefs_format.specs.Sizes.{end_of, greatest_end}
+use Rattle.tracefs_format.proofs.LayoutLaws.{IsLayoutOf-read}
+use Rattle.tracefs_format.proofs.StripLaws.{some_is}
+use Rattle.rec_gen.specs.declared.format.TheConstants.{TEXT}
+
+abbrev greatest : List Description → ℕ
+greatest [] = 0
+greatest (d ∷ ds) = max (d.offset + d.size) (greatest ds)
+
+ends : (fs : List Field) → greatest_end fs ≡ greatest (map description fs)
+ends [] = refl
+ends (f ∷ fs) = ap (max (end_of f)) (ends fs)
+
+computed_end : greatest (described (read_lines (drop 3 (text_lines TEXT)))) ≡ 64
+unfolding field_on number_after flag_after kind_of
+computed_end = refl
+
+computed_id : id_on (line_at 1 (text_lines TEXT)) ≡ Some 21
+unfolding id_on
+computed_id = refl
+
+pub size_is : (layout : Layout) → IsLayoutOf TEXT layout → layout.size ≡ 64
+size_is layout h = h.size ∙ ends layout.fields ∙ ap greatest (IsLayoutOf-read TEXT layout h).1.2 ∙ computed_end
+
+pub id_is : (layout : Layout) → IsLayoutOf TEXT layout → layout.id ≡ 21
+id_is layout h = some_is (sym (IsLayoutOf-read TEXT layout h).1.1 ∙ computed_id)
