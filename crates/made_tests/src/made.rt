@@ -32,12 +32,12 @@ fn the_first_events_of_a_seed(rt: HostRuntime) -> Result<(), Fail> {
             (0, 0, 0, 64)
         );
         assert!(rt; &event.comm[..4] == name);
-        assert!(rt; event.comm[4..] == [0; 12]);
+        assert!(rt; &event.comm[4..] == [0; 12].as_slice());
         let payload = event.payload.as_slice();
-        assert!(rt; payload[..4] == [21, 0, 0, 0]);
-        assert!(rt; payload[4..8] == thread.to_le_bytes());
-        assert!(rt; payload[8..16] == [call, 0, 0, 0, 0, 0, 0, 0]);
-        assert!(rt; payload[16..] == [0; 48]);
+        assert!(rt; &payload[..4] == [21, 0, 0, 0].as_slice());
+        assert!(rt; &payload[4..8] == thread.to_le_bytes().as_slice());
+        assert!(rt; &payload[8..16] == [call, 0, 0, 0, 0, 0, 0, 0].as_slice());
+        assert!(rt; &payload[16..] == [0; 48].as_slice());
     }
     let last = made.cpus.get(3).ok_or("no CPU")?;
     assert_eq!(rt; (last.number, last.events.len()), (3, 0));
