@@ -1,13 +1,15 @@
 #!/usr/bin/env python3
-"""Measures runs on one thread by hand: python3 bench/serial.py [EVENTS]
+"""Measures runs on one thread by hand: python3 bench/serial.py [EVENTS [TIMES]]
 
 It makes a recording of EVENTS events (500,000 where nothing is said) over 4 CPUs from a fixed seed, and one of twice as many,
-at most 1,048,576 (the limit of a recording), and runs `check` and `run --serial` on both with three scripts, by the built program
-crates/bt_program/out/bt_program. For each it tells the wall time in seconds and the greatest memory in MB, and for the runs
-the ratio to `check`, and the bytes of memory for each event beside what `check` needs.
+at most 1,048,576 (the limit of a recording), and runs `check` and `run --serial` on both with three scripts, TIMES times in turn
+(5 where nothing is said), by the built program crates/bt_program/out/bt_program. For each it tells the median of the wall times in
+seconds and the greatest memory in MB; for the runs the ratio of the medians, the least and the greatest ratio of a run to the `check`
+before it, and the bytes of memory for each event beside what `check` needs.
 """
 import os
 import random
+import statistics
 import struct
 import sys
 import tempfile
@@ -64,12 +66,30 @@ def measured(words):
     return time.monotonic() - began, usage.ru_maxrss
 
 
+def compared(source, path, times):
+    """The seconds of `check` and of `run --serial`, so many of each taken in turn, and the greatest memory of each in kilobytes."""
+    pairs = [(measured(["check", source, path]), measured(["run", "--serial", source, path])) for _ in range(times)]
+    checks = [check for (check, _), _ in pairs]
+    runs = [run for _, (run, _) in pairs]
+    return checks, runs, max(kb for (_, kb), _ in pairs), max(kb for _, (_, kb) in pairs)
+
+
+def told(name, count, checks, runs, check_kb, run_kb):
+    """The line of a script on a recording."""
+    ratios = [run / check for check, run in zip(checks, runs)]
+    check_s, run_s = statistics.median(checks), statistics.median(runs)
+    return (f"{name:16}{count:>10}{check_s:>9.2f}{run_s:>8.2f}{run_s / check_s:>7.2f}{min(ratios):>7.2f}{max(ratios):>7.2f}"
+            f"{check_kb / 1024:>10.0f}{run_kb / 1024:>8.0f}{(run_kb - check_kb) * 1024 / count:>16.0f}")
+
+
 def main():
     events = int(sys.argv[1]) if len(sys.argv) > 1 else 500_000
+    times = int(sys.argv[2]) if len(sys.argv) > 2 else 5
     if not os.path.exists(PROGRAM):
         sys.exit("build the program first: ./btreplay")
     with tempfile.TemporaryDirectory() as folder:
-        print(f"{'script':16}{'events':>10}{'check s':>9}{'run s':>8}{'ratio':>7}{'check MB':>10}{'run MB':>8}{'bytes an event':>16}")
+        print(f"{'script':16}{'events':>10}{'check s':>9}{'run s':>8}{'ratio':>7}{'least':>7}{'most':>7}"
+              f"{'check MB':>10}{'run MB':>8}{'bytes an event':>16}")
         for count in (events, min(2 * events, 1_048_576)):
             path = os.path.join(folder, f"{count}.bin")
             with open(path, "wb") as file:
@@ -78,10 +98,7 @@ def main():
                 source = os.path.join(folder, "s.bt")
                 with open(source, "w") as file:
                     file.write(script)
-                check_s, check_kb = measured(["check", source, path])
-                run_s, run_kb = measured(["run", "--serial", source, path])
-                print(f"{name:16}{count:>10}{check_s:>9.2f}{run_s:>8.2f}{run_s / check_s:>7.2f}{check_kb / 1024:>10.0f}"
-                      f"{run_kb / 1024:>8.0f}{(run_kb - check_kb) * 1024 / count:>16.0f}")
+                print(told(name, count, *compared(source, path, times)), flush=True)
 
 
 if __name__ == "__main__":

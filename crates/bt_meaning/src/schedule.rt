@@ -84,7 +84,8 @@ fn items_of_all(
 /// The items of all agendas in the order in which a run on one thread takes them: by time, at one time ticks before events,
 /// ticks by their order and then by CPU, and events by CPU and then by their place in the file.
 ///
-/// It takes n log n time in the number of items. [`Memory`] is its one error.
+/// It takes n log n time in the number of items, and less the fewer runs in order they stand in already, as the events of each CPU
+/// do. [`Memory`] is its one error.
 pub fn schedule(
     alloc: Global,
     recording: &Recording,
@@ -95,6 +96,6 @@ pub fn schedule(
     ensures { IfOk result (λ items. items ≡ serial_order recording.now attached.now) }
 {
     let mut items = items_of_all(alloc, attached.ticks.as_slice(), recording.cpus.as_slice())?;
-    items.sort_unstable();
+    items.sort()?;
     Ok(Items::of(items))
 }

@@ -6,9 +6,9 @@ use bt_io::real::{FileShelf, StdSink};
 use bt_io::sink::write_all;
 use bt_top::serve::serve;
 use std::alloc::Global;
-use std::env;
 use std::io::ErrorKind;
 use std::process::ExitCode;
+use std::{env, mem};
 
 /// The status of want of memory.
 const OUT_OF_MEMORY: u8 = 6;
@@ -33,5 +33,8 @@ fn main(rt: HostRuntime) -> ExitCode {
         return ExitCode::from(OUT_OF_MEMORY);
     };
     let report = serve(rt.alloc(), words.as_slice(), &mut shelf, &mut out, &mut err);
-    ExitCode::from(report.status)
+    let status = report.status;
+    // The system takes the memory back at once, where giving back each step of a long run takes a tenth of its time.
+    mem::forget(report);
+    ExitCode::from(status)
 }

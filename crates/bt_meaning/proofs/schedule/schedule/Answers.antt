@@ -9,9 +9,9 @@ pub returns : goal.returns
 unfolding serial_order
 returns c =
     let made = c.in_ok-items.items.items in
-    let sorted = c.sort_unstable.new.self.items in
+    let sorted = c.sort.new.self.items in
     c.of.ensures
-    ∙ in_order made sorted c.sort_unstable.ensures.permutation (λ k d low high.
-    ap is_lt (sym (derived_is (get_or sorted (k + 1) d) (get_or sorted k d))) ∙ c.sort_unstable.ensures.sorted k d low high)
+    ∙ in_order made sorted c.sort.ensures.permutation (λ k d low high.
+    ap is_lt (sym (derived_is (get_or sorted (k + 1) d) (get_or sorted k d))) ∙ c.in_ok-sort.ensures.sorted k d low high)
     ∙ ap (ordered is_sooner) c.in_ok-items.ensures
     ∙ (λ i. ordered is_sooner (all_due (c.as_slice.ensures i) 0 (c.as_slice-2.ensures i)))
