@@ -1,6 +1,8 @@
+pub mod Accepted
 pub mod Actions
 pub mod Arms
 pub mod Blocks
+pub mod Bodies
 pub mod Choices
 pub mod Exprs
 pub mod Forms
@@ -10,11 +12,14 @@ pub mod Loops
 pub mod Maps
 pub mod Opening
 pub mod Patches
+pub mod Placed
 pub mod Single
 pub mod Slots
 pub mod Stmts
 pub mod Sweeping
 pub mod Trees
 pub mod Turns
+pub mod Unrolled
+pub mod Unrolls
 pub mod Whiles
 pub mod Words

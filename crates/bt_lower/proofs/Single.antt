@@ -54,7 +54,7 @@ use Rattle.bt_lower.proofs.Maps.{map_names, few-key}
 use Rattle.bt_lower.proofs.Stmts.{Stmt-less, Lowers-act}
 use Rattle.bt_lower.proofs.Sweeping.{print-acts, clear-acts, zero-acts, there-names}
 
-stmt-is : (s x : TypedStmt) (ps : Bool → List Part) (d : Does Flow) (n : Need) (way : Ways) (c new : Code) → s ≡ x → stmt_parts x ≡ ps → stmt_does x ≡ d → stmt_need x ≡ n → LowersStmt ps d n way c new → LowersStmt (stmt_parts s) (stmt_does s) (stmt_need s) way c new
+pub stmt-is : (s x : TypedStmt) (ps : Bool → List Part) (d : Does Flow) (n : Need) (way : Ways) (c new : Code) → s ≡ x → stmt_parts x ≡ ps → stmt_does x ≡ d → stmt_need x ≡ n → LowersStmt ps d n way c new → LowersStmt (stmt_parts s) (stmt_does s) (stmt_need s) way c new
 stmt-is s x ps d n way c new hs hp hd hn l =
     subst (λ (y : TypedStmt). LowersStmt (stmt_parts y) (stmt_does y) (stmt_need y) way c new) (sym hs)
     (subst (λ (q : Bool → List Part). LowersStmt q (stmt_does x) (stmt_need x) way c new) (sym hp)
