@@ -18,6 +18,7 @@ pub mod Slots
 pub mod Stmts
 pub mod Sweeping
 pub mod Trees
+pub mod Totals
 pub mod Turns
 pub mod Unrolled
 pub mod Unrolls

@@ -1,6 +1,7 @@
 //! Lowering: typed bodies as blocks of typed instructions, and the two sums of what they need.
 #![tactic(auto)]
 
+pub mod body_need;
 pub mod code;
 pub mod need;
 pub mod value;
