@@ -44,7 +44,7 @@ use Rattle.bt_lower.specs.declared.code.Ways.{Ways}
 use Rattle.bt_lower.specs.Code.{pushed}
 use Rattle.bt_lower.specs.Lowers.{LowersParts, LowersValue, LowersNumber, LowersAny, LowersList, LowersStmt, all_made}
 use Rattle.bt_lower.specs.Needs.{Need, need, more, greater, beside, list_frame, sizes_in, codes_in, value_need, values_need, number_need, gather_need, stmt_need}
-use Rattle.bt_lower.specs.Sound.{Site}
+use Rattle.bt_lower.specs.Sound.{ground_in, Site}
 use Rattle.bt_lower.proofs.Actions.{set_var-acts, update_var-acts, step-acts, delete-acts, count-acts, printf-acts, set-acts, update-acts, add-acts}
 use Rattle.bt_lower.proofs.Arms.{var-names}
 use Rattle.bt_lower.proofs.Exprs.{Parts-none, Parts-less, Parts-append}
@@ -54,7 +54,7 @@ use Rattle.bt_lower.proofs.Maps.{map_names, few-key}
 use Rattle.bt_lower.proofs.Stmts.{Stmt-less, Lowers-act}
 use Rattle.bt_lower.proofs.Sweeping.{print-acts, clear-acts, zero-acts, there-names}
 
-stmt-is : (s x : TypedStmt) (ps : Bool → List Part) (d : Does Flow) (n : Need) (way : Ways) (c new : Code) → s ≡ x → stmt_parts x ≡ ps → stmt_does x ≡ d → stmt_need x ≡ n → LowersStmt ps d n way c new → LowersStmt (stmt_parts s) (stmt_does s) (stmt_need s) way c new
+pub stmt-is : (s x : TypedStmt) (ps : Bool → List Part) (d : Does Flow) (n : Need) (way : Ways) (c new : Code) → s ≡ x → stmt_parts x ≡ ps → stmt_does x ≡ d → stmt_need x ≡ n → LowersStmt ps d n way c new → LowersStmt (stmt_parts s) (stmt_does s) (stmt_need s) way c new
 stmt-is s x ps d n way c new hs hp hd hn l =
     subst (λ (y : TypedStmt). LowersStmt (stmt_parts y) (stmt_does y) (stmt_need y) way c new) (sym hs)
     (subst (λ (q : Bool → List Part). LowersStmt q (stmt_does x) (stmt_need x) way c new) (sym hp)
@@ -174,7 +174,7 @@ same_agg-agg Ints a h = cc
 same_agg-agg Strs a h = cc
 same_agg-agg (Aggs b) a h = refl
 
-gathers-case : (t : Site) (n : ℕ) (kind : AggKind) (key : List Shape) (o : Option MapDecl) → decl_of n t.scope.maps ≡ o → is_declared o (Aggs kind) key ≡ true → gathers t.ground n key ≡ true
+gathers-case : (t : Site) (n : ℕ) (kind : AggKind) (key : List Shape) (o : Option MapDecl) → decl_of n t.scope.maps ≡ o → is_declared o (Aggs kind) key ≡ true → gathers (ground_in t.ground) n key ≡ true
 gathers-case t n kind key None e h = cc
 gathers-case t n kind key (Some decl) e h =
     let p = and_parts (same_kind decl.kind (Aggs kind)) (same_shapes decl.key_shape key) h in

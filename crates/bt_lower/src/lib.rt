@@ -2,4 +2,6 @@
 #![tactic(auto)]
 
 pub mod code;
+pub mod simple;
+pub mod stmt;
 pub mod value;
