@@ -77,6 +77,7 @@ pub set_var-acts : (qs : Bool → List Part) (x : ℕ) (shape : Shape) (d : Does
 unfolding given bind changed
 set_var-acts qs x shape d = record {
   takes_them = refl;
+  reads_none = refl;
   gives_none = refl;
   is = λ w frame. simp and_then_assoc;
   runs = λ s inside fits w same frame values vs long. stored s w frame values vs long;
@@ -95,6 +96,7 @@ pub update_var-acts : (qs : Bool → List Part) (x : ℕ) (op : BinOp) (d : Does
 unfolding given bind changed seen
 update_var-acts qs x op d = record {
   takes_them = refl;
+  reads_none = refl;
   gives_none = refl;
   is = λ w frame. simp and_then_assoc;
   runs = λ s inside fits w same frame values vs long. stored s w frame values vs long;
@@ -112,6 +114,7 @@ pub step-acts : (qs : Bool → List Part) (d : Does ℤ) → Acts qs i.Pop (numb
 unfolding given bind
 step-acts qs d = record {
   takes_them = refl;
+  reads_none = refl;
   gives_none = refl;
   is = λ w frame. simp and_then_assoc;
   runs = λ s inside fits w same frame values vs long. popped s w frame values vs long;
@@ -127,6 +130,7 @@ pub delete-acts : (qs : Bool → List Part) (m : MapId) (key : List Shape) (ds :
 unfolding given bind asked
 delete-acts qs m key ds = record {
   takes_them = refl;
+  reads_none = refl;
   gives_none = refl;
   is = λ w frame. simp and_then_assoc;
   runs = λ s inside fits w same frame values vs long.
@@ -139,6 +143,7 @@ pub count-acts : (qs : Bool → List Part) (m : MapId) (key : List Shape) (ds : 
 unfolding given bind asked seen
 count-acts qs m key ds = record {
   takes_them = refl;
+  reads_none = refl;
   gives_none = refl;
   is = λ w frame. simp and_then_assoc;
   runs = λ s inside fits w same frame values vs long.
@@ -151,6 +156,7 @@ pub printf-acts : (qs : Bool → List Part) (format : ℕ) (key : List Shape) (d
 unfolding given bind asked
 printf-acts qs format key ds = record {
   takes_them = refl;
+  reads_none = refl;
   gives_none = refl;
   is = λ w frame. simp and_then_assoc;
   runs = λ s inside fits w same frame values vs long.
@@ -163,6 +169,7 @@ pub set-acts : (qs : Bool → List Part) (m : MapId) (key : List Shape) (shape :
 unfolding given bind asked
 set-acts qs m key shape ds d = record {
   takes_them = refl;
+  reads_none = refl;
   gives_none = refl;
   is = λ w frame. keyed-is ds d w frame (λ ks v f. and_then (asks_for (part m ks) (ops.Set ks v)) (λ u. Ended (Next, f)));
   runs = λ s inside fits w same frame values vs long.
@@ -174,6 +181,7 @@ pub update-acts : (qs : Bool → List Part) (m : MapId) (key : List Shape) (op :
 unfolding given bind asked
 update-acts qs m key op ds d = record {
   takes_them = refl;
+  reads_none = refl;
   gives_none = refl;
   is = λ w frame. and_then-same (in_order ds w frame) _ _ (λ p. sym (and_then_assoc (d w p.1) (λ q. Ended (Int q.0, q.1)) (λ q. and_then (updated m p.0 op (number_of q.0)) (λ u. Ended (Next, q.1)))))
       ∙ keyed-is ds (number_value d) w frame (λ ks v f. and_then (updated m ks op (number_of v)) (λ u. Ended (Next, f)));
@@ -186,6 +194,7 @@ pub add-acts : (qs : Bool → List Part) (m : MapId) (key : List Shape) (ds : Li
 unfolding given bind asked seen
 add-acts qs m key ds d = record {
   takes_them = refl;
+  reads_none = refl;
   gives_none = refl;
   is = λ w frame. and_then-same (in_order ds w frame) _ _ (λ p. sym (and_then_assoc (d w p.1) (λ q. Ended (Int q.0, q.1)) (λ q. and_then (asks_for (Cpu w.actor) (ops.Add m p.0 (number_of q.0))) (λ u. Ended (Next, q.1)))))
       ∙ keyed-is ds (number_value d) w frame (λ ks v f. and_then (asks_for (Cpu w.actor) (ops.Add m ks (number_of v))) (λ u. Ended (Next, f)));

@@ -14,6 +14,7 @@ use Rattle.bt_core.specs.declared.value.Value.TheVariants.{Int, Str}
 use Rattle.bt_core.specs.Interaction.{Interaction, Ended, and_then}
 use Rattle.bt_core.proofs.InteractionLaws.{and_then_assoc}
 use Rattle.tracefs_format.specs.declared.field.Field.{Field}
+use Rattle.tracefs_format.specs.Sizes.{end_of}
 use Rattle.typed_tree.specs.declared.expr.AnyExpr.{AnyExpr}
 use Rattle.typed_tree.specs.declared.expr.AnyExpr.TheVariants as anys
 use Rattle.typed_tree.specs.declared.expr.NumBuiltin.{NumBuiltin}
@@ -41,6 +42,7 @@ use Rattle.bt_lower.specs.Code.{pushed, begun, closed, untyped}
 use Rattle.bt_lower.specs.Lowers.{LowersParts, LowersValue, LowersNumber, LowersText, LowersAny, LowersList, LowersArm, all_made, known_need}
 use Rattle.bt_lower.specs.Needs.{Need, need, more, greater, beside, list_frame, sizes_in, codes_in, value_need, values_need, number_need, text_need}
 use Rattle.bt_lower.specs.Sound.{Site}
+use Rattle.bt_lower.proofs.Opening.{none-read}
 use Rattle.bt_lower.proofs.Exprs.{Parts-none, Parts-less, Parts-fit, Parts-append, Parts-put}
 use Rattle.bt_lower.proofs.Choices.{Lowers-arm, Lowers-either}
 use Rattle.bt_lower.proofs.Blocks.{and_then-same}
@@ -74,9 +76,12 @@ N-Builtin e b c new he en = num-is e (nums.Builtin b) _ _ _ c new he (tree.num-B
 field-names : (s : Site) (f : Field) (shape : Shape) → fits s.scope (FieldOf f shape) ≡ true → is_shape (shape_of_field f.kind) shape ≡ true
 field-names s f shape h = (and_parts (has_field s.scope.layout f) (is_shape (shape_of_field f.kind) shape) h).1
 
+field-reads : (s : Site) (f : Field) (shape : Shape) → fits s.scope (FieldOf f shape) ≡ true → end_of f ≤ s.ground.payload
+field-reads s f shape h = s.agrees.fields f (and_parts (has_field s.scope.layout f) (is_shape (shape_of_field f.kind) shape) h).0
+
 number-field : (f : Field) (c new : Code) → new ≡ pushed (i.NumberField f) c → LowersValue (FieldOf f shapes.Int ∷ []) (number_value (number_field f)) shapes.Int (need 8 8) c new
 unfolding given bind seen
-number-field f c new en = Lowers-leaf (i.NumberField f) (FieldOf f shapes.Int) shapes.Int (number_value (number_field f)) (λ w frame. Int (field_number f w.payload)) (λ frame. frame) (need 8 8) c new refl refl (omega arith) (λ w frame. refl) (λ maps w frame values. refl) (λ frame. refl) (λ s h. field-names s f shapes.Int h) (omega arith) (omega arith) en
+number-field f c new en = Lowers-leaf (i.NumberField f) (FieldOf f shapes.Int) shapes.Int (number_value (number_field f)) (λ w frame. Int (field_number f w.payload)) (λ frame. frame) (need 8 8) c new refl refl (omega arith) (λ w frame. refl) (λ maps w frame values. refl) (λ frame. refl) (λ s h. field-names s f shapes.Int h) (λ s h. field-reads s f shapes.Int h) (omega arith) (omega arith) en
 
 pub N-Field : (e : NumExpr) (f : Field) (c new : Code) → e ≡ nums.Field f → new ≡ pushed (i.NumberField f) c → LowersNumber e c new
 N-Field e f c new he en = num-is e (nums.Field f) _ _ _ c new he (tree.num-Field-parts f) (field_num (nums.Field f) f refl) (tree.num-Field-need f) (number-field f c new en)
@@ -86,7 +91,7 @@ var-names s x shape h = ap (λ (l : List Shape). is_shape (slice_get l x) shape)
 
 number-var : (x : ℕ) (c new : Code) → new ≡ pushed (i.Load x shapes.Int) c → LowersValue (VarOf x shapes.Int ∷ []) (number_value (number_variable x)) shapes.Int (need 8 4) c new
 unfolding given bind seen
-number-var x c new en = Lowers-leaf (i.Load x shapes.Int) (VarOf x shapes.Int) shapes.Int (number_value (number_variable x)) (λ w frame. Int (number_of (variable x frame))) (λ frame. frame) (need 8 4) c new refl refl (omega arith) (λ w frame. refl) (λ maps w frame values. refl) (λ frame. refl) (λ s h. var-names s x shapes.Int h) (omega arith) (omega arith) en
+number-var x c new en = Lowers-leaf (i.Load x shapes.Int) (VarOf x shapes.Int) shapes.Int (number_value (number_variable x)) (λ w frame. Int (number_of (variable x frame))) (λ frame. frame) (need 8 4) c new refl refl (omega arith) (λ w frame. refl) (λ maps w frame values. refl) (λ frame. refl) (λ s h. var-names s x shapes.Int h) (λ s f. none-read s.ground.payload) (omega arith) (omega arith) en
 
 pub N-Var : (e : NumExpr) (x : ℕ) (c new : Code) → e ≡ nums.Var x → new ≡ pushed (i.Load x shapes.Int) c → LowersNumber e c new
 N-Var e x c new he en = num-is e (nums.Var x) _ _ _ c new he (tree.num-Var-parts x) (var_num (nums.Var x) x refl) (tree.num-Var-need x) (number-var x c new en)
@@ -95,7 +100,7 @@ step-var : (x : ℕ) (plus prefix : Bool) (c new : Code) → new ≡ pushed (i.S
 unfolding given bind seen changed
 step-var x plus prefix c new en =
     Lowers-leaf (i.StepVar x plus prefix) (VarOf x shapes.Int) shapes.Int (number_value (step_variable x plus prefix)) (λ w frame. Int (cond prefix (next plus (number_of (variable x frame))) (number_of (variable x frame)))) (λ frame. with_variable x (Int (next plus (number_of (variable x frame)))) frame) (need 8 12) c new
-    refl refl (omega arith) (λ w frame. refl) (λ maps w frame values. refl) (λ frame. refl) (λ s h. var-names s x shapes.Int h) (omega arith) (omega arith) en
+    refl refl (omega arith) (λ w frame. refl) (λ maps w frame values. refl) (λ frame. refl) (λ s h. var-names s x shapes.Int h) (λ s f. none-read s.ground.payload) (omega arith) (omega arith) en
 
 pub N-StepVar : (e : NumExpr) (x : ℕ) (plus prefix : Bool) (c new : Code) → e ≡ nums.StepVar x plus prefix → new ≡ pushed (i.StepVar x plus prefix) c → LowersNumber e c new
 N-StepVar e x plus prefix c new he en =
@@ -110,14 +115,14 @@ S-Comm e c new he en = str-is e strs.Comm _ _ _ c new he tree.str-Comm-parts (co
 
 text-field : (f : Field) (c new : Code) → new ≡ pushed (i.TextField f) c → LowersValue (FieldOf f shapes.Str ∷ []) (text_value (text_field f)) shapes.Str (need 64 24) c new
 unfolding given bind seen
-text-field f c new en = Lowers-leaf (i.TextField f) (FieldOf f shapes.Str) shapes.Str (text_value (text_field f)) (λ w frame. Str (field_text f w.payload)) (λ frame. frame) (need 64 24) c new refl refl (omega arith) (λ w frame. refl) (λ maps w frame values. refl) (λ frame. refl) (λ s h. field-names s f shapes.Str h) (omega arith) (omega arith) en
+text-field f c new en = Lowers-leaf (i.TextField f) (FieldOf f shapes.Str) shapes.Str (text_value (text_field f)) (λ w frame. Str (field_text f w.payload)) (λ frame. frame) (need 64 24) c new refl refl (omega arith) (λ w frame. refl) (λ maps w frame values. refl) (λ frame. refl) (λ s h. field-names s f shapes.Str h) (λ s h. field-reads s f shapes.Str h) (omega arith) (omega arith) en
 
 pub S-Field : (e : StrExpr) (f : Field) (c new : Code) → e ≡ strs.Field f → new ≡ pushed (i.TextField f) c → LowersText e c new
 S-Field e f c new he en = str-is e (strs.Field f) _ _ _ c new he (tree.str-Field-parts f) (field_str (strs.Field f) f refl) (tree.str-Field-need f) (text-field f c new en)
 
 text-var : (x : ℕ) (c new : Code) → new ≡ pushed (i.Load x shapes.Str) c → LowersValue (VarOf x shapes.Str ∷ []) (text_value (text_variable x)) shapes.Str (need 64 24) c new
 unfolding given bind seen
-text-var x c new en = Lowers-leaf (i.Load x shapes.Str) (VarOf x shapes.Str) shapes.Str (text_value (text_variable x)) (λ w frame. Str (text_of (variable x frame))) (λ frame. frame) (need 64 24) c new refl refl (omega arith) (λ w frame. refl) (λ maps w frame values. refl) (λ frame. refl) (λ s h. var-names s x shapes.Str h) (omega arith) (omega arith) en
+text-var x c new en = Lowers-leaf (i.Load x shapes.Str) (VarOf x shapes.Str) shapes.Str (text_value (text_variable x)) (λ w frame. Str (text_of (variable x frame))) (λ frame. frame) (need 64 24) c new refl refl (omega arith) (λ w frame. refl) (λ maps w frame values. refl) (λ frame. refl) (λ s h. var-names s x shapes.Str h) (λ s f. none-read s.ground.payload) (omega arith) (omega arith) en
 
 pub S-Var : (e : StrExpr) (x : ℕ) (c new : Code) → e ≡ strs.Var x → new ≡ pushed (i.Load x shapes.Str) c → LowersText e c new
 S-Var e x c new he en = str-is e (strs.Var x) _ _ _ c new he (tree.str-Var-parts x) (var_str (strs.Var x) x refl) (tree.str-Var-need x) (text-var x c new en)
@@ -216,7 +221,7 @@ N-StepMap e m keys es plus prefix shape c c1 new he hk hs e1 l0 =
     (Parts-fit (MapOf m.0 ks shapes.Int ∷ ps) (Stepped plus prefix ∷ MapOf m.0 ks shapes.Int ∷ ps) _ _ _ c new (λ s h. (fit-head s (Stepped plus prefix) (MapOf m.0 ks shapes.Int ∷ ps) h).1)
     (Parts-put (i.StepMap m ks plus prefix) ps (MapOf m.0 ks shapes.Int) (values_do keys) ks shapes.Int (number_value (step_map m (values_do keys) plus prefix)) (λ w vs frame. stepped m vs plus prefix) (λ w vs frame a. a) (λ vs frame a. frame)
     (need (list_frame (values_need keys)) (codes_in (values_need keys))) c c1 new (stepped-puts m ks (values_do keys) plus prefix)
-    (λ s f. let p = fit-head s.scope (MapOf m.0 ks shapes.Int) ps f in (map_names s m ks shapes.Int p.0, p.1)) (e1 ∙ ap (λ x. pushed (i.StepMap m x plus prefix) c) hs) l.lowered)))
+    (λ s f. let p = fit-head s.scope (MapOf m.0 ks shapes.Int) ps f in (map_names s m ks shapes.Int p.0, p.1)) (λ s f. none-read s.ground.payload) (e1 ∙ ap (λ x. pushed (i.StepMap m x plus prefix) c) hs) l.lowered)))
 
 -- ---- choices
 
@@ -228,7 +233,7 @@ pub Lowers-known : (v : Value) (c new : Code) → new ≡ pushed (i.Put v) c →
 unfolding given
 Lowers-known v c new en =
     Parts-fit (Both ∷ []) [] _ _ _ c new (λ s h. h)
-    (Lowers-leaf (i.Put v) Both (shape_of v) (given v) (λ w frame. v) (λ frame. frame) (known_need v) c new refl refl (omega arith) (λ w frame. refl) (λ maps w frame values. refl) (λ frame. refl) (λ s f. refl) (known-size v) (omega arith) en)
+    (Lowers-leaf (i.Put v) Both (shape_of v) (given v) (λ w frame. v) (λ frame. frame) (known_need v) c new refl refl (omega arith) (λ w frame. refl) (λ maps w frame values. refl) (λ frame. refl) (λ s f. refl) (λ s f. none-read s.ground.payload) (known-size v) (omega arith) en)
 
 choose-number : (b : Bool) (x y : Does ℤ) (w : Walked) (frame : Frame) → and_then (choose b x y w frame) (λ p. Ended (Int p.0, p.1)) ≡ choose b (number_value x) (number_value y) w frame
 unfolding choose bind given

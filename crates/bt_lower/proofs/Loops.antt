@@ -21,7 +21,7 @@ use Rattle.bt_ir.specs.declared.blocks.Exit.TheVariants.{Branch, Again, End}
 use Rattle.bt_ir.specs.declared.instr.Instr.TheVariants as i
 use Rattle.bt_ir.specs.Figures.{sizes_of, instrs_slots, exit_slots, blocks_slots}
 use Rattle.bt_ir.specs.Meaning.{Scene}
-use Rattle.bt_ir.specs.Typing.{Ground, stack_in}
+use Rattle.bt_ir.specs.Typing.{stack_in}
 use Rattle.bt_ir.specs.Ways.{depth_in, depth_at}
 use Rattle.bt_ir.specs.Values.{top, number_of}
 use Rattle.bt_lower.specs.declared.code.Code.{Code}
@@ -29,7 +29,7 @@ use Rattle.bt_lower.specs.declared.code.Ways.{Ways}
 use Rattle.bt_lower.specs.Code.{pushed, begun, closed, open_block, reserved, placeholder, gated, patched, turn_end, with_cut}
 use Rattle.bt_lower.specs.Lowers.{Stand, Grew, Runs, Reaches, state, seen_by, fuel, Follows, LowersValue, LowersBlock, LowersStmt}
 use Rattle.bt_lower.specs.Needs.{Need, need, more, greater}
-use Rattle.bt_lower.specs.Sound.{Site, HasRoom, Opens, Sound, SoundBlock, Target, Back, WaysStand}
+use Rattle.bt_lower.specs.Sound.{Footing, Site, HasRoom, Opens, Sound, SoundBlock, Target, Back, WaysStand}
 use Rattle.bt_lower.proofs.Blocks.{Grew-trans, Grew-one, Grew-length, Stand-later, Stand-before, Runs-is, Runs-more, Reaches-close, Reaches-is, Reaches-more, closed-length}
 use Rattle.bt_lower.proofs.Ifs.{test-is, branches}
 use Rattle.bt_lower.proofs.Patches.{Grew-set, Stand-set, Stand-under, here-set}
@@ -194,7 +194,7 @@ set-slots (x ∷ xs) zero v u e p q r s =
 set-slots (x ∷ xs) (suc a) v u e p q r s = omega (arith, set-slots xs a v u e p q r s)
 
 -- the block that ends a turn is sound where it stands
-pub Sound-end : (g : Ground) (bs : List Block) (a head : ℕ) (d : Code) → slice_get bs a ≡ Some (turn_end head d) → HasRoom g (sizes_of d.stack) → Back bs (d.depth + 1) d.stack head → Sound g bs a (a + 1)
+pub Sound-end : (g : Footing) (bs : List Block) (a head : ℕ) (d : Code) → slice_get bs a ≡ Some (turn_end head d) → HasRoom g (sizes_of d.stack) → Back bs (d.depth + 1) d.stack head → Sound g bs a (a + 1)
 Sound-end g bs a head d e room back = record { each = each }
   where
     each : (n : ℕ) → a ≤ n → n < a + 1 → (b : Block) → slice_get bs n ≡ Some b → SoundBlock g bs n b

@@ -44,7 +44,7 @@ use Rattle.bt_lower.specs.declared.code.Ways.{Ways}
 use Rattle.bt_lower.specs.Code.{pushed}
 use Rattle.bt_lower.specs.Lowers.{LowersParts, LowersValue, LowersNumber, LowersAny, LowersList, LowersStmt, all_made}
 use Rattle.bt_lower.specs.Needs.{Need, need, more, greater, beside, list_frame, sizes_in, codes_in, value_need, values_need, number_need, gather_need, stmt_need}
-use Rattle.bt_lower.specs.Sound.{Site}
+use Rattle.bt_lower.specs.Sound.{ground_in, Site}
 use Rattle.bt_lower.proofs.Actions.{set_var-acts, update_var-acts, step-acts, delete-acts, count-acts, printf-acts, set-acts, update-acts, add-acts}
 use Rattle.bt_lower.proofs.Arms.{var-names}
 use Rattle.bt_lower.proofs.Exprs.{Parts-none, Parts-less, Parts-append}
@@ -174,7 +174,7 @@ same_agg-agg Ints a h = cc
 same_agg-agg Strs a h = cc
 same_agg-agg (Aggs b) a h = refl
 
-gathers-case : (t : Site) (n : ℕ) (kind : AggKind) (key : List Shape) (o : Option MapDecl) → decl_of n t.scope.maps ≡ o → is_declared o (Aggs kind) key ≡ true → gathers t.ground n key ≡ true
+gathers-case : (t : Site) (n : ℕ) (kind : AggKind) (key : List Shape) (o : Option MapDecl) → decl_of n t.scope.maps ≡ o → is_declared o (Aggs kind) key ≡ true → gathers (ground_in t.ground) n key ≡ true
 gathers-case t n kind key None e h = cc
 gathers-case t n kind key (Some decl) e h =
     let p = and_parts (same_kind decl.kind (Aggs kind)) (same_shapes decl.key_shape key) h in

@@ -80,6 +80,7 @@ pub print-acts : (m : MapId) (top : ℕ) (div : ℤ) → Acts (λ inside. Shown 
 unfolding given bind asked seen
 print-acts m top div = record {
   takes_them = refl;
+  reads_none = refl;
   gives_none = refl;
   is = λ w frame. ap (λ t. and_then t (λ (p : List Reply × Frame). plain (told Out (ops.Emit (items.Map m (merged (kind_of m w.maps) p.0) top div))) w p.1)) (swept-same ours.Read (kind_of m w.maps) m w frame) ∙ simp and_then_assoc;
   runs = λ s inside fit w same frame values vs long.
@@ -94,6 +95,7 @@ pub clear-acts : (m : MapId) → Acts (λ inside. Cleared m.0 ∷ []) (i.Clear m
 unfolding given bind asked seen
 clear-acts m = record {
   takes_them = refl;
+  reads_none = refl;
   gives_none = refl;
   is = λ w frame. ap (λ t. and_then t (λ p. Ended (Next, p.1))) (swept-same ours.Clear (kind_of m w.maps) m w frame) ∙ simp and_then_assoc;
   runs = λ s inside fit w same frame values vs long.
@@ -107,6 +109,7 @@ pub zero-acts : (m : MapId) → Acts (λ inside. Zeroed m.0 ∷ []) (i.Zero m) [
 unfolding given bind asked seen
 zero-acts m = record {
   takes_them = refl;
+  reads_none = refl;
   gives_none = refl;
   is = λ w frame. ap (λ t. and_then t (λ p. Ended (Next, p.1))) (swept-same ours.Zero (kind_of m w.maps) m w frame) ∙ simp and_then_assoc;
   runs = λ s inside fit w same frame values vs long.

@@ -4,4 +4,6 @@
 pub mod body_need;
 pub mod code;
 pub mod need;
+pub mod simple;
+pub mod stmt;
 pub mod value;
