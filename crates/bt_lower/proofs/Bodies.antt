@@ -23,6 +23,7 @@ use Rattle.bt_ir.specs.declared.blocks.Block.{Block}
 use Rattle.bt_ir.specs.declared.blocks.Exit.TheVariants.{Goto, Branch}
 use Rattle.bt_ir.specs.Figures.{sizes_of, blocks_slots}
 use Rattle.bt_ir.specs.Meaning.{blocks_run, run_from}
+use Rattle.bt_ir.specs.Running.{payload_need}
 use Rattle.bt_ir.specs.Typing.{stack_in, are_typed}
 use Rattle.bt_ir.specs.Ways.{depth_in, depth_at, lead_forward}
 use Rattle.bt_lower.specs.declared.code.Code.{Code}
@@ -31,8 +32,8 @@ use Rattle.bt_lower.specs.Bodies.{guarded_parts, guarded_need, LowersGuarded, Lo
 use Rattle.bt_lower.specs.Code.{nothing, begun, closed, open_block, code_slots}
 use Rattle.bt_lower.specs.Lowers.{Stand, Grew, Runs, Reaches, state, seen_by, fuel, LowersNumber, LowersBlock, LowersStmt}
 use Rattle.bt_lower.specs.Needs.{Need, need, number_need, block_need}
-use Rattle.bt_lower.specs.Sound.{Site, HasRoom, Opens, Sound, Target}
-use Rattle.bt_lower.proofs.Accepted.{lead-passes, typed-passes}
+use Rattle.bt_lower.specs.Sound.{ground_in, Site, HasRoom, Opens, Sound, Target}
+use Rattle.bt_lower.proofs.Accepted.{all-pass-tests, lead-passes, typed-passes}
 use Rattle.bt_lower.proofs.Blocks.{Grew-trans, Grew-one, Stand-later, Stand-before, Reaches-close, Reaches-more, closed-length, here-closed}
 use Rattle.bt_lower.proofs.Ifs.{Block-none, Block-arm, If-open}
 use Rattle.bt_lower.proofs.Lists.{fit-parts, fit-head}
@@ -145,7 +146,10 @@ module _ (parts : Bool → List Part) (d : Does Flow) (n : Need) (c : Code) (l :
       pub body-leads : lead_forward (closed c).blocks ≡ true
       body-leads = lead-passes t.ground (closed c).blocks (omega (arith, size)) outer sound
 
-      pub body-typed : are_typed t.ground (closed c).blocks ≡ true
+      pub body-reads : payload_need (closed c).blocks ≤ t.ground.payload
+      body-reads = (all-pass-tests t.ground (closed c).blocks sound).read
+
+      pub body-typed : are_typed (ground_in t.ground) (closed c).blocks ≡ true
       body-typed = typed-passes t.ground (closed c).blocks empty sound
 
 -- a whole tree, from the steps
@@ -160,5 +164,6 @@ Tree-steps tree c0 c1 c c2 end e0 e1 ee l0 e2 =
       runs = λ t fits w same frame. body-runs (guarded_parts tree.predicate tree.block) (guarded tree.predicate (block_does tree.block)) (guarded_need tree.predicate tree.block) c l t fits w same frame ∙ sym (and_then_assoc (guarded tree.predicate (block_does tree.block) w frame) (λ p. Ended (ending_of p.0, p.1)) (λ p. Ended p.0));
       leads = λ t fits room. body-leads (guarded_parts tree.predicate tree.block) (guarded tree.predicate (block_does tree.block)) (guarded_need tree.predicate tree.block) c l t fits room;
       typed = λ t fits room. body-typed (guarded_parts tree.predicate tree.block) (guarded tree.predicate (block_does tree.block)) (guarded_need tree.predicate tree.block) c l t fits room;
+      reads = λ t fits room. body-reads (guarded_parts tree.predicate tree.block) (guarded tree.predicate (block_does tree.block)) (guarded_need tree.predicate tree.block) c l t fits room;
       slots = body-slots (guarded_parts tree.predicate tree.block) (guarded tree.predicate (block_does tree.block)) (guarded_need tree.predicate tree.block) c l;
     })

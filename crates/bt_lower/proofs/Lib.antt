@@ -20,7 +20,6 @@ pub mod Single
 pub mod Slots
 pub mod Stmts
 pub mod Sweeping
-pub mod Totals
 pub mod Trees
 pub mod Turns
 pub mod Unrolled

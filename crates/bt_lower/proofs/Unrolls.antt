@@ -34,7 +34,7 @@ use Rattle.bt_lower.specs.Sound.{Site, HasRoom, Opens, Sound, Target, Back}
 use Rattle.bt_lower.proofs.Blocks.{Grew-trans, Grew-one, Grew-length, Stand-later, Runs-push, Reaches-close, Reaches-more, closed-length, here-closed}
 use Rattle.bt_lower.proofs.Lists.{top-append, below-append, sizes-append}
 use Rattle.bt_lower.proofs.Loops.{over, stands1, stands2, stands4, stands6, here, g09, loop_turn, some-below, set-slots, Sound-end}
-use Rattle.bt_lower.proofs.Opening.{Room-less, Sound-join, Sound-close, Target-close, Opens-push, pushed-stack}
+use Rattle.bt_lower.proofs.Opening.{Room-less, Sound-join, Sound-close, Target-close, Opens-push, none-read, pushed-stack}
 use Rattle.bt_lower.proofs.Patches.{Grew-set}
 use Rattle.bt_lower.proofs.Slots.{slots-pushed, slots-closed, slots-begun, slots-reserved, slots-gated}
 use Rattle.bt_lower.proofs.Whiles.{cut-stack, cut-slots, cut-sound, cut-target, placed}
@@ -236,13 +236,13 @@ module _ (qs ps : Bool → List Part) (body : Does Flow) (n : Need) (count line 
 
       -- the count is let go, and put
       pop_opens : Opens t.ground bs c
-      pop_opens = Opens-push t.ground bs c0 i.Pop c0.stack (sym (append-nil c0.stack)) refl (Room-less t.ground _ _ (omega (arith, sizes-append c0.stack (shapes.Int ∷ []))) room) o
+      pop_opens = Opens-push t.ground bs c0 i.Pop c0.stack (sym (append-nil c0.stack)) refl (none-read t.ground.payload) (Room-less t.ground _ _ (omega (arith, sizes-append c0.stack (shapes.Int ∷ []))) room) o
 
       last_opens : Opens t.ground bs last_code
       last_opens = record { after = h.stack; turns = (refl, full); leads = Target-close bs h (length last_code.blocks) h.depth s9 (omega (arith, last, len9)) (omega arith) }
 
       put_opens : Opens t.ground bs new
-      put_opens = Opens-push t.ground bs last_code (i.Put (Int (pos count))) c0.stack (stack8 ∙ stack1) refl (Room-less t.ground _ _ (omega (arith, ap sizes_of (append-nil c0.stack))) room) last_opens
+      put_opens = Opens-push t.ground bs last_code (i.Put (Int (pos count))) c0.stack (stack8 ∙ stack1) refl (none-read t.ground.payload) (Room-less t.ground _ _ (omega (arith, ap sizes_of (append-nil c0.stack))) room) last_opens
 
       all_sound : Sound t.ground bs (length c0.blocks) (length new.blocks)
       all_sound =

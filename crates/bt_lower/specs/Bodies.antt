@@ -17,17 +17,19 @@ use Rattle.bt_walk.specs.declared.flow.Frame.{Frame}
 use Rattle.bt_walk.specs.Does.{Scene as Walked}
 use Rattle.bt_walk.specs.Stmts.{block_does}
 use Rattle.bt_walk.specs.Walk.{guarded, tree_does, walk}
+use Rattle.bt_walk.specs.Walked.{least_length}
 use Rattle.bt_ir.specs.declared.blocks.Block.{Block}
 use Rattle.bt_ir.specs.declared.probe.IrProbe.{IrProbe}
 use Rattle.bt_ir.specs.Figures.{blocks_slots}
 use Rattle.bt_ir.specs.Meaning.{blocks_run, ir_run}
-use Rattle.bt_ir.specs.Typing.{Ground, are_typed}
+use Rattle.bt_ir.specs.Running.{payload_need}
+use Rattle.bt_ir.specs.Typing.{are_typed}
 use Rattle.bt_ir.specs.Ways.{lead_forward}
 use Rattle.bt_lower.specs.declared.code.Code.{Code}
 use Rattle.bt_lower.specs.declared.code.Ways.{Ways}
 use Rattle.bt_lower.specs.Lowers.{LowersStmt, seen_by, state}
 use Rattle.bt_lower.specs.Needs.{Need, greater, predicate_need, block_need, tree_need}
-use Rattle.bt_lower.specs.Sound.{Site, HasRoom}
+use Rattle.bt_lower.specs.Sound.{Footing, ground_in, Site, HasRoom}
 
 -- a predicate, and the statements that it guards
 abbrev pub guarded_parts : Option NumExpr → TypedBlock → Bool → List Part
@@ -44,12 +46,13 @@ pub record LowersTree (tree : TypedTree) (bs : List Block) : Type 0 where
   pub runs : (t : Site) → all_fit t.scope (tree_parts tree) ≡ true → (w : Walked) → w.maps ≡ t.scope.maps → (frame : Frame)
       → blocks_run bs (seen_by t.ground.maps w) (state frame []) ≡ and_then (tree_does tree w frame) (λ p. Ended p.0)
   pub leads : (t : Site) → all_fit t.scope (tree_parts tree) ≡ true → HasRoom t.ground (guarded_need tree.predicate tree.block).frame → lead_forward bs ≡ true
-  pub typed : (t : Site) → all_fit t.scope (tree_parts tree) ≡ true → HasRoom t.ground (guarded_need tree.predicate tree.block).frame → are_typed t.ground bs ≡ true
+  pub typed : (t : Site) → all_fit t.scope (tree_parts tree) ≡ true → HasRoom t.ground (guarded_need tree.predicate tree.block).frame → are_typed (ground_in t.ground) bs ≡ true
+  pub reads : (t : Site) → all_fit t.scope (tree_parts tree) ≡ true → HasRoom t.ground (guarded_need tree.predicate tree.block).frame → payload_need bs ≤ t.ground.payload
   pub slots : blocks_slots bs ≤ (tree_need tree).code
 
--- what the instructions of a body may name, and the bytes of its frame
-abbrev pub ground_of : List MapDecl → List (List Shape) → List Shape → ℕ → Ground
-ground_of maps formats variables frame = record { variables = variables; maps = maps; formats = formats; frame = frame }
+-- what the instructions of a body stand on: what they may name, the bytes of their frame, and the bytes of the payload that they may read
+abbrev pub footing_of : List MapDecl → List (List Shape) → List Shape → ℕ → ℕ → Footing
+footing_of maps formats variables frame payload = record { variables = variables; maps = maps; formats = formats; frame = frame; payload = payload }
 
 -- a probe of a body of a script with these maps, and with formats that want arguments of these types
 pub record IsLowered (maps : List MapDecl) (formats : List (List Shape)) (body : TypedBody) (probe : IrProbe) : Type 0 where
@@ -58,6 +61,8 @@ pub record IsLowered (maps : List MapDecl) (formats : List (List Shape)) (body :
   pub variables : probe.variables ≡ body.tree.variables
   pub maps_are : probe.maps ≡ maps
   pub formats_are : probe.formats ≡ formats
+  -- it reads no more of the payload than the layout of the body's event has
+  pub reads : payload_need probe.blocks.list ≤ least_length body.layout
   -- the two sums over the tree
   pub frame : probe.frame_need ≡ (tree_need body.tree).frame
   pub code : probe.code_need ≡ (tree_need body.tree).code
