@@ -22,7 +22,7 @@ use Rattle.bt_ir.specs.declared.blocks.Exit.TheVariants.{Goto, Branch}
 use Rattle.bt_lower.specs.declared.code.Code.{Code}
 use Rattle.bt_lower.specs.declared.code.Ways.{Ways}
 use Rattle.bt_lower.specs.Code.{begun, closed}
-use Rattle.bt_lower.specs.Lowers.{LowersNumber, LowersStmt, LowersBlock, LowersStatement, LowersStatements, LowersInto, LowersElse, LowersArms, else_parts, else_does, else_need, arms_parts, arms_do, arms_need}
+use Rattle.bt_lower.specs.Lowers.{LowersNumber, LowersStmt, LowersBlock, LowersStatement, LowersStatements, LowersInto, LowersElse, LowersArms, LowersOneArm, else_parts, else_does, else_need, arms_parts, arms_do, arms_need}
 use Rattle.bt_lower.specs.Needs.{Need, need, more, greater, all_need, arm_need, number_need, stmt_need, block_need}
 use Rattle.bt_lower.specs.Needs.{stmt_layer as stmt_needs, block_layer as block_needs}
 use Rattle.bt_lower.proofs.Ifs.{Block-none, Block-arm, If-open}
@@ -80,7 +80,7 @@ Else-some o block after way c new b e l = subst (λ (x : Option TypedBlock). Low
 
 -- ---- arms
 
-Arms-more : (arm : NumExpr × TypedBlock) (arms : List (NumExpr × TypedBlock)) (o : Option TypedBlock) (after second first b : ℕ) (way : Ways) (c c1 c2 c3 c4 new : Code) →
+pub Arms-more : (arm : NumExpr × TypedBlock) (arms : List (NumExpr × TypedBlock)) (o : Option TypedBlock) (after second first b : ℕ) (way : Ways) (c c1 c2 c3 c4 new : Code) →
     LowersArms arms o after way c c1 second → LowersInto arm.1 after way c1 c2 first → c3 ≡ begun (Branch first second) (shapes.Int ∷ []) c2 → LowersNumber arm.0 c3 c4 → new ≡ closed c4 → b ≡ length c4.blocks → LowersArms (arm ∷ arms) o after way c new b
 Arms-more arm arms o after second first b way c c1 c2 c3 c4 new ls lb e3 lt en eb =
     Block-arm (arms_parts (arm ∷ arms) o) (block_parts arm.1) (arms_parts arms o) (num_parts arm.0) (number_does arm.0) (block_does arm.1) (arms_do arms o) (number_need arm.0) (block_need arm.1) (arms_need arms o) after second first b way c c1 c2 c3 c4 new fit ls lb e3 lt en eb
@@ -97,15 +97,15 @@ Arms-more arm arms o after second first b way c c1 c2 c3 c4 new ls lb e3 lt en e
 pub Arms-start : (arms : List (NumExpr × TypedBlock)) (o : Option TypedBlock) (left after b : ℕ) (way : Ways) (c new : Code) → left ≡ length arms → LowersElse o after way c new b → LowersArms (drop left arms) o after way c new b
 Arms-start arms o left after b way c new e l = subst (λ (x : List (NumExpr × TypedBlock)). LowersArms x o after way c new b) (sym (drop_all left arms (omega arith))) l
 
-pub Arms-next : (arms : List (NumExpr × TypedBlock)) (o : Option TypedBlock) (left : ℕ) (arm : NumExpr × TypedBlock) (after second first b : ℕ) (way : Ways) (c c1 c2 c3 c4 new : Code) → 0 < left → left ≤ length arms → arm ≡ get_or arms (left - 1) arm →
-    LowersArms (drop left arms) o after way c c1 second → LowersInto arm.1 after way c1 c2 first → c3 ≡ begun (Branch first second) (shapes.Int ∷ []) c2 → LowersNumber arm.0 c3 c4 → new ≡ closed c4 → b ≡ length c4.blocks → LowersArms (drop (left - 1) arms) o after way c new b
-Arms-next arms o zero arm after second first b way c c1 c2 c3 c4 new some le is ls lb e3 lt en eb = absurd (omega arith)
-Arms-next arms o (suc n) arm after second first b way c c1 c2 c3 c4 new some le is ls lb e3 lt en eb =
+pub Arms-next : (arms : List (NumExpr × TypedBlock)) (o : Option TypedBlock) (left : ℕ) (arm : NumExpr × TypedBlock) (after next b : ℕ) (way : Ways) (c c1 new : Code) → 0 < left → left ≤ length arms → arm ≡ get_or arms (left - 1) arm →
+    LowersArms (drop left arms) o after way c c1 next → LowersOneArm arm next after way c1 new b → LowersArms (drop (left - 1) arms) o after way c new b
+Arms-next arms o zero arm after next b way c c1 new some le is ls l = absurd (omega arith)
+Arms-next arms o (suc n) arm after next b way c c1 new some le is ls l =
     let same : suc n - 1 ≡ n = omega arith in
     let at : arm ≡ get_or arms n arm = is ∙ ap (λ (m : ℕ). get_or arms m arm) same in
     subst (λ (m : ℕ). LowersArms (drop m arms) o after way c new b) (sym same)
     (subst (λ (l : List (NumExpr × TypedBlock)). LowersArms l o after way c new b) (ap (λ (x : NumExpr × TypedBlock). x ∷ drop (suc n) arms) at ∙ sym (drop-cons arms n arm (omega arith)))
-    (Arms-more arm (drop (suc n) arms) o after second first b way c c1 c2 c3 c4 new ls lb e3 lt en eb))
+    (l (drop (suc n) arms) o c ls))
 
 pub Arms-end : (arms : List (NumExpr × TypedBlock)) (o : Option TypedBlock) (left after b : ℕ) (way : Ways) (c new : Code) → left ≡ 0 → LowersArms (drop left arms) o after way c new b → LowersArms arms o after way c new b
 Arms-end arms o left after b way c new e l = subst (λ (n : ℕ). LowersArms (drop n arms) o after way c new b) e l

@@ -196,3 +196,8 @@ arms_need (arm ∷ arms) o =
 
 abbrev pub LowersArms : List (NumExpr × TypedBlock) → Option TypedBlock → ℕ → Ways → Code → Code → ℕ → Type 0
 LowersArms arms o after way old new b = LowersBlock (arms_parts arms o) (arms_do arms o) (arms_need arms o) after way old new b
+
+-- where the later arms and what comes behind them are there, there is one arm more
+abbrev pub LowersOneArm : NumExpr × TypedBlock → ℕ → ℕ → Ways → Code → Code → ℕ → Type 0
+LowersOneArm arm next after way old new b =
+    (arms : List (NumExpr × TypedBlock)) (o : Option TypedBlock) (first : Code) → LowersArms arms o after way first old next → LowersArms (arm ∷ arms) o after way first new b

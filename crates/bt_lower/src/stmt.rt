@@ -2,7 +2,7 @@
 ghost use Rattle.std.specs.Prelude.{◌≡◌, OnOk, IfOk, length};
 ghost use Rattle.typed_tree.specs.declared.stmt.TypedStmt.TheVariants as stmts;
 ghost use Rattle.bt_lower.specs.Code.{with_cut};
-ghost use Rattle.bt_lower.specs.Lowers.{LowersSingle, LowersStatement, LowersStatements, LowersInto, LowersElse, LowersArms};
+ghost use Rattle.bt_lower.specs.Lowers.{LowersSingle, LowersStatement, LowersStatements, LowersInto, LowersElse, LowersArms, LowersOneArm};
 
 use crate::code::{Code, Ways};
 use crate::simple::{
@@ -57,7 +57,7 @@ pub fn lower_stmt(alloc: Global, s: &TypedStmt, way: Ways, code: &mut Code) -> R
             condition,
             block,
             line,
-        } => lower_while(alloc, condition, block, *line, code)?,
+        } => lower_while(alloc, block, condition, *line, code)?,
         TypedStmt::Unroll { turns, block, line } => {
             lower_unroll(alloc, *turns, block, *line, code)?
         }
@@ -141,17 +141,32 @@ fn lower_arms(
     let mut left = arms.len();
     while left > 0 {
         left -= 1;
-        let arm = &arms[left];
-        let first = lower_into(alloc, &arm.1, after, way, code)?;
-        let exit = Exit::Branch {
-            first,
-            second: next,
-        };
-        code.begin(alloc, exit, &[Shape::Int])?;
-        lower_number(alloc, &arm.0, code)?;
-        next = code.close(alloc)?;
+        next = lower_arm(alloc, &arms[left], next, after, way, code)?;
     }
     Ok(next)
+}
+
+/// The blocks of an arm: where its test does not hold, it goes on to the block `next`.
+#[cycle(stmt)]
+fn lower_arm(
+    alloc: Global,
+    arm: &(NumExpr, TypedBlock),
+    next: usize,
+    after: usize,
+    way: Ways,
+    code: &mut Code,
+) -> Result<usize, Memory>
+    ensures { IfOk result (λ number. LowersOneArm arm.now next after way code.old code.new number) }
+{
+    let first = lower_into(alloc, &arm.1, after, way, code)?;
+    let exit = Exit::Branch {
+        first,
+        second: next,
+    };
+    code.begin(alloc, exit, &[Shape::Int])?;
+    lower_number(alloc, &arm.0, code)?;
+    let number = code.close(alloc)?;
+    Ok(number)
 }
 
 /// The block of an `else`, or, where there is none, the block that follows.
@@ -178,8 +193,8 @@ fn lower_else(
 #[cycle(stmt)]
 fn lower_while(
     alloc: Global,
-    condition: &NumExpr,
     block: &TypedBlock,
+    condition: &NumExpr,
     line: u32,
     code: &mut Code,
 ) -> Result<(), Memory>

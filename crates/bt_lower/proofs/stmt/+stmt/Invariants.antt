@@ -15,6 +15,9 @@ decreases-lower_into l = 5 * goal.size-lower_into l + 1
 abbrev pub decreases-lower_else : goal.decreases-lower_else
 decreases-lower_else l = 5 * goal.size-lower_else l + 2
 
+abbrev pub decreases-lower_arm : goal.decreases-lower_arm
+decreases-lower_arm l = 5 * goal.size-lower_arm l + 2
+
 abbrev pub decreases-lower_arms : goal.decreases-lower_arms
 decreases-lower_arms l = 5 * goal.size-lower_arms l + 3
 
