@@ -1,6 +1,8 @@
+pub mod Accepted
 pub mod Actions
 pub mod Arms
 pub mod Blocks
+pub mod Bodies
 pub mod Branches
 pub mod Choices
 pub mod Exprs
@@ -12,6 +14,7 @@ pub mod Loops
 pub mod Maps
 pub mod Opening
 pub mod Patches
+pub mod Placed
 pub mod Rest
 pub mod Single
 pub mod Slots
@@ -19,6 +22,8 @@ pub mod Stmts
 pub mod Sweeping
 pub mod Trees
 pub mod Turns
+pub mod Unrolled
+pub mod Unrolls
 pub mod Whiled
 pub mod Whiles
 pub mod Words

@@ -1,6 +1,6 @@
 -- What the code of a typed body needs: bytes of frame and slots of code. Both are sums over the tree, and do not depend on how code
 -- is generated.
-use Rattle.std.specs.Prelude.{ℕ, ◌+◌, max, List, [], ◌∷◌, Option, Some, None, map}
+use Rattle.std.specs.Prelude.{ℕ, ◌+◌, max, List, [], ◌∷◌, Option, Some, None, map, option_map}
 use Rattle.typed_tree.specs.declared.body.TypedTree.{TypedTree}
 use Rattle.typed_tree.specs.declared.expr.AnyExpr.{AnyExpr, fold-AnyExpr}
 use Rattle.typed_tree.specs.declared.expr.NumExpr.{NumExpr, fold-NumExpr}
@@ -13,20 +13,15 @@ use Rattle.typed_tree.specs.declared.stmt.TypedBlock.{TypedBlock, fold-TypedBloc
 use Rattle.typed_tree.specs.declared.stmt.TypedStmt.TheOpen.{TypedStmt-F, TypedBlock-F}
 use Rattle.typed_tree.specs.Parts.{made_of}
 use Rattle.bt_ir.specs.Figures.{sizes_of, by_shape}
+pub use Rattle.bt_lower.specs.declared.need.Need.{Need}
+pub use Rattle.bt_lower.specs.declared.need.Valued.{Valued}
+use Rattle.bt_lower.specs.declared.need.Listed.{Listed}
 
--- the bytes of frame that a construct needs, and the slots of its code
-pub record Need : Type 0 where
-  pub frame : ℕ
-  pub code : ℕ
-
+-- so many bytes of frame and slots
 abbrev pub need : ℕ → ℕ → Need
 need frame code = record { frame = frame; code = code }
 
--- an expression: the bytes of its value, and what it needs
-pub record Valued : Type 0 where
-  pub size : ℕ
-  pub need : Need
-
+-- an expression by the bytes of its value and what it needs
 abbrev pub valued : ℕ → Need → Valued
 valued size n = record { size = size; need = n }
 
@@ -42,6 +37,22 @@ sizes_in (v ∷ vs) = v.size + sizes_in vs
 abbrev pub codes_in : List Valued → ℕ
 codes_in [] = 0
 codes_in (v ∷ vs) = v.need.code + codes_in vs
+
+-- all of them
+abbrev pub listed : List Valued → Listed
+listed vs = record { sizes = sizes_in vs; need = need (list_frame vs) (codes_in vs) }
+
+-- one before others
+abbrev pub before : Valued → Listed → Listed
+before v vs = record { sizes = v.size + vs.sizes; need = need (max v.need.frame (v.size + vs.need.frame)) (v.need.code + vs.need.code) }
+
+-- the one, and then the other beside so many bytes
+abbrev pub then_beside : ℕ → Need → Need → Need
+then_beside bytes a b = need (max a.frame (bytes + b.frame)) (a.code + b.code)
+
+-- what so many bytes and slots beside a key come to
+abbrev pub under : Listed → ℕ → ℕ → Need
+under keys frame slots = need (max keys.need.frame (keys.sizes + frame)) (slots + keys.need.code)
 
 -- a key, and what stands beside it
 abbrev pub beside : List Valued → ℕ → ℕ
@@ -144,6 +155,13 @@ stmt_need = fold-TypedStmt Need Need stmt_layer block_layer
 
 abbrev pub block_need : TypedBlock → Need
 block_need = fold-TypedBlock Need Need stmt_layer block_layer
+
+-- the arms of an `if`, and the block of an `else`
+abbrev pub tree_arms_need : List (NumExpr × TypedBlock) → Need
+tree_arms_need arms = all_need (map (λ (arm : NumExpr × TypedBlock). arm_need (arm.0, block_need arm.1)) arms)
+
+abbrev pub tree_else_need : Option TypedBlock → Need
+tree_else_need otherwise = otherwise_need (option_map block_need otherwise)
 
 abbrev pub predicate_need : Option NumExpr → Need
 predicate_need None = need 0 0

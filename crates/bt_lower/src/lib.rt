@@ -2,6 +2,7 @@
 #![tactic(auto)]
 
 pub mod code;
+pub mod need;
 pub mod simple;
 pub mod stmt;
 pub mod value;
