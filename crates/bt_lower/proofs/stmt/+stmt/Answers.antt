@@ -6,10 +6,15 @@ use Rattle.typed_tree.specs.declared.stmt.TypedBlock.{TypedBlock}
 use Rattle.typed_tree.specs.declared.stmt.TypedBlock as blocks
 use Rattle.typed_tree.specs.declared.stmt.TypedStmt as trees
 use Rattle.typed_tree.specs.declared.stmt.TypedStmt.TheVariants as stmts
-use Rattle.bt_lower.proofs.Branches.{Else-none, Else-some, Arms-start, Arms-more, Arms-next, Arms-end, T-If, T-If-none, T-If-else}
+use Rattle.std.specs.Prelude.{ℤ}
+use Rattle.bt_core.specs.declared.value.Value.TheVariants.{Int}
+use Rattle.bt_ir.specs.declared.instr.Instr.TheVariants as i
+use Rattle.bt_lower.specs.Code.{pushed}
+use Rattle.bt_lower.proofs.Branches.{Else-none, Else-some, Arms-start, Arms-more, Arms-next, T-If, T-If-none, T-If-else, Is-bare}
 use Rattle.bt_lower.proofs.Jumps.{Same, Same-single}
 use Rattle.bt_lower.proofs.Rest.{Rest-start, Rest-next, Rest-end}
 use Rattle.bt_lower.proofs.Stmts.{Lowers-into}
+use Rattle.bt_lower.proofs.Unrolled.{unroll-steps}
 use Rattle.bt_lower.proofs.Whiled.{T-While}
 use Rattle.bt_lower.proofs.stmt.+stmt.Goals as goal
 
@@ -58,9 +63,6 @@ lower_stmt-returns-in_ok-print-in-Print t c =
 pub lower_stmt-returns-in_ok-jump-in-Jump : goal.lower_stmt-returns-in_ok-jump-in-Jump
 lower_stmt-returns-in_ok-jump-in-Jump t c = Same _ _ _ _ _ c.in-Jump.is c.in_ok-jump-in-Jump.ensures
 
-pub lower_stmt-returns-in_ok-lower_if-in-If : goal.lower_stmt-returns-in_ok-lower_if-in-If
-lower_stmt-returns-in_ok-lower_if-in-If t c = Same _ _ _ _ _ (c.in-If.is ∙ ap (λ (l : List (NumExpr × TypedBlock)). stmts.If l c.in-If.otherwise) (sym c.as_slice-in-If.ensures)) c.in_ok-lower_if-in-If.ensures
-
 pub lower_block-loop-left-init : goal.lower_block-loop-left-init
 lower_block-loop-left-init t c = record { within = omega arith; lowered = Rest-start c.as_slice-stmts.result.now _ _ _ refl }
 
@@ -73,35 +75,44 @@ lower_block-returns t c = Rest-end _ _ c.loop-left.left _ _ _ (omega (arith, c.l
 pub lower_into-returns : goal.lower_into-returns
 lower_into-returns t c = Lowers-into _ _ _ _ _ _ _ _ _ _ c.in_ok-begin.ensures c.in_ok-lower_block.ensures c.in_ok-number.ensures.closed c.in_ok-number.ensures.number
 
-pub lower_if-returns-in_ok-begin : goal.lower_if-returns-in_ok-begin
-lower_if-returns-in_ok-begin t c = T-If _ _ _ _ _ _ _ _ _ c.if-arms-gt0.true c.in_ok-after.ensures.closed c.in_ok-after.ensures.number c.in_ok-first.ensures c.in_ok-begin.ensures
-
-pub lower_if-returns-in_ok-lower_block-in-Some : goal.lower_if-returns-in_ok-lower_block-in-Some
-lower_if-returns-in_ok-lower_block-in-Some t c = T-If-else _ _ _ _ _ _ (omega (arith, c.if-arms-gt0.false)) c.in-Some.is c.in_ok-lower_block-in-Some.ensures
-
-pub lower_if-returns-in-None : goal.lower_if-returns-in-None
-lower_if-returns-in-None t c = T-If-none _ _ _ _ (omega (arith, c.if-arms-gt0.false)) c.in-None.is
-
 pub lower_else-returns-in-None : goal.lower_else-returns-in-None
 lower_else-returns-in-None t c = Else-none _ _ _ _ c.in-None.is
 
 pub lower_else-returns-in_ok-number-in-Some : goal.lower_else-returns-in_ok-number-in-Some
 lower_else-returns-in_ok-number-in-Some t c = Else-some _ _ _ _ _ _ _ c.in-Some.is c.in_ok-number-in-Some.ensures
 
-pub lower_arms-loop-left-init : goal.lower_arms-loop-left-init
-lower_arms-loop-left-init t c = record { within = omega arith; lowered = Arms-start c.args.arms.now _ _ _ _ _ _ _ refl c.in_ok-next.ensures }
+pub lower_while-returns : goal.lower_while-returns
+lower_while-returns t c = λ way. T-While _ _ _ _ _ _ _ _ _ way _ _ _ _ _ _ _ _ _ _ _ c.in_ok-leave.ensures.closed c.in_ok-leave.ensures.number c.in_ok-cut.ensures.made c.in_ok-cut.ensures.number c.in_ok-again.ensures.reserved c.in_ok-again.ensures.number c.in_ok-turn.ensures c.gate.ensures c.in_ok-first.ensures.closed c.in_ok-first.ensures.number c.in_ok-begin.ensures c.in_ok-lower_number.ensures c.in_ok-head.ensures.closed c.in_ok-head.ensures.number c.in_ok-patch.ensures
 
-pub lower_arms-loop-left-preserved : goal.lower_arms-loop-left-preserved
-lower_arms-loop-left-preserved t c = record {
-  within = omega (arith, c.loop-left.invariant.within);
-  lowered = Arms-next c.args.arms.now c.args.otherwise.now c.loop-left.left c.index-arms-left.result _ _ _ _ _ _ _ c.loop-left-test.true c.loop-left.invariant.within c.index-arms-left.is c.loop-left.invariant.lowered (c.in_ok-next-2).ensures;
-}
+pub lower_stmt-returns-in_ok-lower_if-in-If : goal.lower_stmt-returns-in_ok-lower_if-in-If
+lower_stmt-returns-in_ok-lower_if-in-If t c = c.in_ok-lower_if-in-If.ensures _ _ c.in-If.is
+
+pub lower_only_else-returns-in_ok-lower_block-in-Some : goal.lower_only_else-returns-in_ok-lower_block-in-Some
+lower_only_else-returns-in_ok-lower_block-in-Some t c = T-If-else _ _ _ _ _ c.in-Some.is c.in_ok-lower_block-in-Some.ensures
+
+pub lower_only_else-returns-in-None : goal.lower_only_else-returns-in-None
+lower_only_else-returns-in-None t c = T-If-none _ _ _ c.in-None.is
 
 pub lower_arm-returns : goal.lower_arm-returns
 lower_arm-returns t c = λ arms o first ls. Arms-more _ arms o _ _ _ _ _ first _ _ _ _ _ ls c.in_ok-first.ensures c.in_ok-begin.ensures c.in_ok-lower_number.ensures c.in_ok-number.ensures.closed c.in_ok-number.ensures.number
 
-pub lower_arms-returns : goal.lower_arms-returns
-lower_arms-returns t c = Arms-end c.args.arms.now c.args.otherwise.now c.loop-left.left _ _ _ _ _ (omega (arith, c.loop-left-test.false)) c.loop-left.invariant.lowered
+pub lower_unroll-returns : goal.lower_unroll-returns
+lower_unroll-returns t c =
+    let fits : SFits w64 c.from.result = search rules in
+    let made = simp to_z-of_z at (c.in_ok-push-2).ensures in
+    λ way. unroll-steps _ _ _ _ _ _ _ _ _ c.in_ok-push.ensures c.in_ok-leave.ensures.closed c.in_ok-leave.ensures.number c.in_ok-cut.ensures.made c.in_ok-cut.ensures.number c.in_ok-again.ensures.reserved c.in_ok-again.ensures.number _ _ way _ _ _ _ _ _ _ _ _ _ c.in_ok-turn.ensures c.gate.ensures c.in_ok-gate.ensures.closed c.in_ok-gate.ensures.number c.in_ok-begin.ensures c.in_ok-head.ensures.closed c.in_ok-head.ensures.number c.in_ok-patch.ensures (made ∙ ap (λ (n : ℤ). pushed (i.Put (Int n)) c.patch.new.self) c.from.ensures)
 
-pub lower_while-returns : goal.lower_while-returns
-lower_while-returns t c = λ way. T-While _ _ _ _ _ _ _ _ _ way _ _ _ _ _ _ _ _ _ _ _ c.in_ok-leave.ensures.closed c.in_ok-leave.ensures.number c.in_ok-cut.ensures.made c.in_ok-cut.ensures.number c.in_ok-again.ensures.reserved c.in_ok-again.ensures.number c.in_ok-turn.ensures c.gate.ensures c.in_ok-first.ensures.closed c.in_ok-first.ensures.number c.in_ok-begin.ensures c.in_ok-lower_number.ensures c.in_ok-head.ensures.closed c.in_ok-head.ensures.number c.in_ok-patch.ensures
+pub lower_if-loop-left-init : goal.lower_if-loop-left-init
+lower_if-loop-left-init t c = record { within = omega arith; lowered = Arms-start _ _ _ _ _ _ _ _ c.args.code.now c.close.new.self _ c.in-If.is c.as_slice-arms.ensures refl c.in_ok-after.ensures.closed c.in_ok-next.ensures }
+
+pub lower_if-lower_arm-requires : goal.lower_if-lower_arm-requires
+lower_if-lower_arm-requires t c = search (rules, trees.the_lemmas, blocks.the_lemmas)
+
+pub lower_if-loop-left-preserved : goal.lower_if-loop-left-preserved
+lower_if-loop-left-preserved t c = record {
+  within = omega (arith, c.loop-left.invariant.within);
+  lowered = Arms-next _ _ c.loop-left.left c.index-arms-left.result _ _ _ _ _ _ _ c.loop-left-test.true c.loop-left.invariant.within c.index-arms-left.is c.loop-left.invariant.lowered (c.in_ok-next-2).ensures;
+}
+
+pub lower_if-returns-in_ok-begin : goal.lower_if-returns-in_ok-begin
+lower_if-returns-in_ok-begin t c = λ arms o is. T-If _ _ c.loop-left.left _ _ _ _ _ _ (omega (arith, c.if-left-eq0.false)) (omega (arith, c.loop-left-test.false)) c.in_ok-after.ensures.number c.loop-left.invariant.lowered c.in_ok-begin.ensures
