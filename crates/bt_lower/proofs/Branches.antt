@@ -22,7 +22,7 @@ use Rattle.bt_ir.specs.declared.blocks.Exit.TheVariants.{Goto, Branch}
 use Rattle.bt_lower.specs.declared.code.Code.{Code}
 use Rattle.bt_lower.specs.declared.code.Ways.{Ways}
 use Rattle.bt_lower.specs.Code.{begun, closed}
-use Rattle.bt_lower.specs.Lowers.{LowersNumber, LowersStmt, LowersBlock, LowersStatement, LowersStatements, LowersInto, LowersElse, LowersArms, else_parts, else_does, else_need, arms_parts, arms_do, arms_need}
+use Rattle.bt_lower.specs.Lowers.{LowersNumber, LowersStmt, LowersBlock, LowersStatement, LowersStatements, LowersInto, LowersElse, LowersArms, LowersOneArm, else_parts, else_does, else_need, arms_parts, arms_do, arms_need}
 use Rattle.bt_lower.specs.Needs.{Need, need, more, greater, all_need, arm_need, number_need, stmt_need, block_need}
 use Rattle.bt_lower.specs.Needs.{stmt_layer as stmt_needs, block_layer as block_needs}
 use Rattle.bt_lower.proofs.Ifs.{Block-none, Block-arm, If-open}
@@ -80,7 +80,7 @@ Else-some o block after way c new b e l = subst (λ (x : Option TypedBlock). Low
 
 -- ---- arms
 
-Arms-more : (arm : NumExpr × TypedBlock) (arms : List (NumExpr × TypedBlock)) (o : Option TypedBlock) (after second first b : ℕ) (way : Ways) (c c1 c2 c3 c4 new : Code) →
+pub Arms-more : (arm : NumExpr × TypedBlock) (arms : List (NumExpr × TypedBlock)) (o : Option TypedBlock) (after second first b : ℕ) (way : Ways) (c c1 c2 c3 c4 new : Code) →
     LowersArms arms o after way c c1 second → LowersInto arm.1 after way c1 c2 first → c3 ≡ begun (Branch first second) (shapes.Int ∷ []) c2 → LowersNumber arm.0 c3 c4 → new ≡ closed c4 → b ≡ length c4.blocks → LowersArms (arm ∷ arms) o after way c new b
 Arms-more arm arms o after second first b way c c1 c2 c3 c4 new ls lb e3 lt en eb =
     Block-arm (arms_parts (arm ∷ arms) o) (block_parts arm.1) (arms_parts arms o) (num_parts arm.0) (number_does arm.0) (block_does arm.1) (arms_do arms o) (number_need arm.0) (block_need arm.1) (arms_need arms o) after second first b way c c1 c2 c3 c4 new fit ls lb e3 lt en eb
@@ -94,21 +94,33 @@ Arms-more arm arms o after second first b way c c1 c2 c3 c4 new ls lb e3 lt en e
         let r = fit-parts s (num_parts arm.0) (block_parts arm.1 inside) q.1 in
         (r.0, (r.1, p.1))
 
-pub Arms-start : (arms : List (NumExpr × TypedBlock)) (o : Option TypedBlock) (left after b : ℕ) (way : Ways) (c new : Code) → left ≡ length arms → LowersElse o after way c new b → LowersArms (drop left arms) o after way c new b
-Arms-start arms o left after b way c new e l = subst (λ (x : List (NumExpr × TypedBlock)). LowersArms x o after way c new b) (sym (drop_all left arms (omega arith))) l
+-- the arms of a statement that are left to lower, and what is there of the others
+pub record ArmsLeft (s : TypedStmt) (arms rest : List (NumExpr × TypedBlock)) (after : ℕ) (way : Ways) (old new : Code) (b : ℕ) : Type 0 where
+  pub otherwise : Option TypedBlock
+  pub is : s ≡ stmts.If arms otherwise
+  pub lowered : LowersArms rest otherwise after way old new b
 
-pub Arms-next : (arms : List (NumExpr × TypedBlock)) (o : Option TypedBlock) (left : ℕ) (arm : NumExpr × TypedBlock) (after second first b : ℕ) (way : Ways) (c c1 c2 c3 c4 new : Code) → 0 < left → left ≤ length arms → arm ≡ get_or arms (left - 1) arm →
-    LowersArms (drop left arms) o after way c c1 second → LowersInto arm.1 after way c1 c2 first → c3 ≡ begun (Branch first second) (shapes.Int ∷ []) c2 → LowersNumber arm.0 c3 c4 → new ≡ closed c4 → b ≡ length c4.blocks → LowersArms (drop (left - 1) arms) o after way c new b
-Arms-next arms o zero arm after second first b way c c1 c2 c3 c4 new some le is ls lb e3 lt en eb = absurd (omega arith)
-Arms-next arms o (suc n) arm after second first b way c c1 c2 c3 c4 new some le is ls lb e3 lt en eb =
+pub Arms-start : (s : TypedStmt) (es arms : List (NumExpr × TypedBlock)) (o : Option TypedBlock) (left after b : ℕ) (way : Ways) (c c1 new : Code) → s ≡ stmts.If es o → arms ≡ es → left ≡ length arms → c1 ≡ closed c → LowersElse o after way c1 new b →
+    ArmsLeft s arms (drop left arms) after way (closed c) new b
+Arms-start s es arms o left after b way c c1 new h ea e e1 l = record {
+  otherwise = o;
+  is = h ∙ ap (λ (x : List (NumExpr × TypedBlock)). stmts.If x o) (sym ea);
+  lowered = subst (λ (x : List (NumExpr × TypedBlock)). LowersArms x o after way (closed c) new b) (sym (drop_all left arms (omega arith))) (subst (λ (x : Code). LowersElse o after way x new b) e1 l);
+}
+
+arms-next : (arms : List (NumExpr × TypedBlock)) (o : Option TypedBlock) (left : ℕ) (arm : NumExpr × TypedBlock) (after next b : ℕ) (way : Ways) (c c1 new : Code) → 0 < left → left ≤ length arms → arm ≡ get_or arms (left - 1) arm →
+    LowersArms (drop left arms) o after way c c1 next → LowersOneArm (arm.0, arm.1) next after way c1 new b → LowersArms (drop (left - 1) arms) o after way c new b
+arms-next arms o zero arm after next b way c c1 new some le is ls l = absurd (omega arith)
+arms-next arms o (suc n) arm after next b way c c1 new some le is ls l =
     let same : suc n - 1 ≡ n = omega arith in
     let at : arm ≡ get_or arms n arm = is ∙ ap (λ (m : ℕ). get_or arms m arm) same in
     subst (λ (m : ℕ). LowersArms (drop m arms) o after way c new b) (sym same)
     (subst (λ (l : List (NumExpr × TypedBlock)). LowersArms l o after way c new b) (ap (λ (x : NumExpr × TypedBlock). x ∷ drop (suc n) arms) at ∙ sym (drop-cons arms n arm (omega arith)))
-    (Arms-more arm (drop (suc n) arms) o after second first b way c c1 c2 c3 c4 new ls lb e3 lt en eb))
+    (l (drop (suc n) arms) o c ls))
 
-pub Arms-end : (arms : List (NumExpr × TypedBlock)) (o : Option TypedBlock) (left after b : ℕ) (way : Ways) (c new : Code) → left ≡ 0 → LowersArms (drop left arms) o after way c new b → LowersArms arms o after way c new b
-Arms-end arms o left after b way c new e l = subst (λ (n : ℕ). LowersArms (drop n arms) o after way c new b) e l
+pub Arms-next : (s : TypedStmt) (arms : List (NumExpr × TypedBlock)) (left : ℕ) (arm : NumExpr × TypedBlock) (after next b : ℕ) (way : Ways) (c c1 new : Code) → 0 < left → left ≤ length arms → arm ≡ get_or arms (left - 1) arm →
+    ArmsLeft s arms (drop left arms) after way c c1 next → LowersOneArm (arm.0, arm.1) next after way c1 new b → ArmsLeft s arms (drop (left - 1) arms) after way c new b
+Arms-next s arms left arm after next b way c c1 new some le is ls l = record { otherwise = ls.otherwise; is = ls.is; lowered = arms-next arms ls.otherwise left arm after next b way c c1 new some le is ls.lowered l }
 
 -- ---- the statement
 
@@ -128,20 +140,31 @@ arms-code : (arms : List (NumExpr × TypedBlock)) (o : Option TypedBlock) → (a
 arms-code [] o = omega arith
 arms-code (arm ∷ arms) o = omega (arith, arms-code arms o)
 
-pub T-If : (arms : List (NumExpr × TypedBlock)) (o : Option TypedBlock) (after first : ℕ) (way : Ways) (c c1 c2 new : Code) → 0 < length arms → c1 ≡ closed c → after ≡ length c.blocks → LowersArms arms o after way c1 c2 first → new ≡ begun (Goto first) [] c2 → LowersStatement (stmts.If arms o) way c new
-T-If arms o after first way c c1 c2 new some e1 ea l en =
+all-arms : (arms : List (NumExpr × TypedBlock)) (o : Option TypedBlock) (after first : ℕ) (way : Ways) (c c1 c2 new : Code) → 0 < length arms → c1 ≡ closed c → after ≡ length c.blocks → LowersArms arms o after way c1 c2 first → new ≡ begun (Goto first) [] c2 → LowersStatement (stmts.If arms o) way c new
+all-arms arms o after first way c c1 c2 new some e1 ea l en =
     If-is arms o way c new
     (Stmt-less (arms_parts arms o) (arms_do arms o) (more 2 (arms_need arms o)) (greater (all_need (map arm_needs arms)) (else_need o)) way c new (arms-frame arms o) (omega (arith, arms-code arms o))
     (If-open (arms_parts arms o) (arms_do arms o) (arms_need arms o) after first way c c1 c2 new e1 ea l en))
 
+pub T-If : (s : TypedStmt) (arms : List (NumExpr × TypedBlock)) (left after first : ℕ) (way : Ways) (c c2 new : Code) → 0 < length arms → left ≡ 0 → after ≡ length c.blocks → ArmsLeft s arms (drop left arms) after way (closed c) c2 first → new ≡ begun (Goto first) [] c2 → LowersStatement s way c new
+T-If s arms left after first way c c2 new some e ea l en =
+    subst (λ (x : TypedStmt). LowersStatement x way c new) (sym l.is)
+    (all-arms arms l.otherwise after first way c (closed c) c2 new some refl ea (subst (λ (n : ℕ). LowersArms (drop n arms) l.otherwise after way (closed c) c2 first) e l.lowered) en)
+
 -- an `if` without any arm is its `else`
-bare : (arms : List (NumExpr × TypedBlock)) (o : Option TypedBlock) (way : Ways) (c new : Code) → length arms ≡ 0 → LowersStmt (else_parts o) (else_does o) (else_need o) way c new → LowersStatement (stmts.If arms o) way c new
-bare [] o way c new e l = If-is [] o way c new (Stmt-less (else_parts o) (else_does o) (else_need o) (greater (need 0 0) (else_need o)) way c new (le-max_right 0 (else_need o).frame) (omega arith) l)
-bare (arm ∷ arms) o way c new e l = absurd (omega arith)
+bare : (o : Option TypedBlock) (way : Ways) (c new : Code) → LowersStmt (else_parts o) (else_does o) (else_need o) way c new → LowersStatement (stmts.If [] o) way c new
+bare o way c new l = If-is [] o way c new (Stmt-less (else_parts o) (else_does o) (else_need o) (greater (need 0 0) (else_need o)) way c new (le-max_right 0 (else_need o).frame) (omega arith) l)
 
-pub T-If-none : (arms : List (NumExpr × TypedBlock)) (o : Option TypedBlock) (way : Ways) (c : Code) → length arms ≡ 0 → o ≡ None → LowersStatement (stmts.If arms o) way c c
-T-If-none arms o way c e h = subst (λ (x : Option TypedBlock). LowersStatement (stmts.If arms x) way c c) (sym h) (bare arms None way c c e (Lowers-none (else_parts None) way c))
+pub T-If-none : (o : Option TypedBlock) (way : Ways) (c : Code) → o ≡ None → LowersStatement (stmts.If [] o) way c c
+T-If-none o way c h = subst (λ (x : Option TypedBlock). LowersStatement (stmts.If [] x) way c c) (sym h) (bare None way c c (Lowers-none (else_parts None) way c))
 
-pub T-If-else : (arms : List (NumExpr × TypedBlock)) (o : Option TypedBlock) (block : TypedBlock) (way : Ways) (c new : Code) → length arms ≡ 0 → o ≡ Some block → LowersStatements block way c new → LowersStatement (stmts.If arms o) way c new
-T-If-else arms o block way c new e h l = subst (λ (x : Option TypedBlock). LowersStatement (stmts.If arms x) way c new) (sym h)
-    (bare arms (Some block) way c new e (Stmt-fit (block_parts block) (else_parts (Some block)) (block_does block) (block_need block) way c new (λ s inside f. (fit-head s Otherwise (block_parts block inside) f).1) l))
+pub T-If-else : (o : Option TypedBlock) (block : TypedBlock) (way : Ways) (c new : Code) → o ≡ Some block → LowersStatements block way c new → LowersStatement (stmts.If [] o) way c new
+T-If-else o block way c new h l = subst (λ (x : Option TypedBlock). LowersStatement (stmts.If [] x) way c new) (sym h)
+    (bare (Some block) way c new (Stmt-fit (block_parts block) (else_parts (Some block)) (block_does block) (block_need block) way c new (λ s inside f. (fit-head s Otherwise (block_parts block inside) f).1) l))
+
+no-arms : (arms : List (NumExpr × TypedBlock)) → length arms ≡ 0 → [] ≡ arms
+no-arms [] e = refl
+no-arms (arm ∷ arms) e = absurd (omega arith)
+
+pub Is-bare : (s : TypedStmt) (es arms : List (NumExpr × TypedBlock)) (o : Option TypedBlock) (way : Ways) (c new : Code) → s ≡ stmts.If es o → arms ≡ es → length arms ≡ 0 → LowersStatement (stmts.If [] o) way c new → LowersStatement s way c new
+Is-bare s es arms o way c new h ea e l = subst (λ (x : TypedStmt). LowersStatement x way c new) (sym (h ∙ ap (λ (x : List (NumExpr × TypedBlock)). stmts.If x o) (sym (no-arms arms e ∙ ea)))) l

@@ -13,6 +13,7 @@ use Rattle.typed_tree.specs.declared.expr.NumExpr.{NumExpr}
 use Rattle.typed_tree.specs.declared.expr.StrExpr.{StrExpr}
 use Rattle.typed_tree.specs.declared.stmt.TypedBlock.{TypedBlock}
 use Rattle.typed_tree.specs.declared.stmt.TypedStmt.{TypedStmt}
+use Rattle.typed_tree.specs.declared.stmt.TypedStmt.TheVariants as stmts
 use Rattle.typed_tree.specs.Parts.{Part, Made, made_of, parts_in, key_shapes, stmt_parts, block_parts, joined, arm_parts, otherwise_parts, option_inside, num_parts, str_parts}
 use Rattle.typed_tree.specs.Scope.{all_fit}
 use Rattle.bt_walk.specs.declared.flow.Flow.{Flow}
@@ -196,3 +197,12 @@ arms_need (arm ∷ arms) o =
 
 abbrev pub LowersArms : List (NumExpr × TypedBlock) → Option TypedBlock → ℕ → Ways → Code → Code → ℕ → Type 0
 LowersArms arms o after way old new b = LowersBlock (arms_parts arms o) (arms_do arms o) (arms_need arms o) after way old new b
+
+-- where the later arms and what comes behind them are there, there is one arm more
+abbrev pub LowersOneArm : NumExpr × TypedBlock → ℕ → ℕ → Ways → Code → Code → ℕ → Type 0
+LowersOneArm arm next after way old new b =
+    (arms : List (NumExpr × TypedBlock)) (o : Option TypedBlock) (first : Code) → LowersArms arms o after way first old next → LowersArms (arm ∷ arms) o after way first new b
+
+-- where the statement is an `if`, the new code does it
+abbrev pub LowersIf : TypedStmt → Ways → Code → Code → Type 0
+LowersIf s way old new = (arms : List (NumExpr × TypedBlock)) (o : Option TypedBlock) → s ≡ stmts.If arms o → LowersStatement s way old new

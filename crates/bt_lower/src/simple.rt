@@ -16,12 +16,7 @@ use typed_tree::expr::{AnyExpr, NumExpr};
 use typed_tree::stmt::Jump;
 
 /// Lowers `$var = value`.
-pub fn set_variable(
-    alloc: Global,
-    var: u32,
-    value: &AnyExpr,
-    code: &mut Code,
-) -> Result<(), Memory>
+pub fn set_variable(alloc: Global, var: u32, value: &AnyExpr, code: &mut Code) -> Result<(), Memory>
     ensures { OnOk result (LowersSingle (stmts.SetVar var value.now) code.old code.new) }
 {
     let shape = value.shape();
@@ -117,12 +112,7 @@ pub fn step(alloc: Global, value: &NumExpr, code: &mut Code) -> Result<(), Memor
 }
 
 /// Lowers `printf(format, values)`.
-pub fn printf(
-    alloc: Global,
-    format: u32,
-    values: &[AnyExpr],
-    code: &mut Code,
-) -> Result<(), Memory>
+pub fn printf(alloc: Global, format: u32, values: &[AnyExpr], code: &mut Code) -> Result<(), Memory>
     ensures { OnOk result (LowersSingle (stmts.Printf format values.now) code.old code.new) }
 {
     let shapes = shapes_of(alloc, values)?;
@@ -156,12 +146,7 @@ pub fn zero(alloc: Global, map: MapId, code: &mut Code) -> Result<(), Memory>
 }
 
 /// Lowers `delete(map[keys])`.
-pub fn delete_at(
-    alloc: Global,
-    map: MapId,
-    keys: &[AnyExpr],
-    code: &mut Code,
-) -> Result<(), Memory>
+pub fn delete_at(alloc: Global, map: MapId, keys: &[AnyExpr], code: &mut Code) -> Result<(), Memory>
     ensures { OnOk result (LowersSingle (stmts.Delete map keys.now) code.old code.new) }
 {
     let key = shapes_of(alloc, keys)?;

@@ -1,8 +1,8 @@
 // Lowering of statements: a function puts what a statement does before what is open.
-ghost use Rattle.std.specs.Prelude.{◌≡◌, OnOk, IfOk, length};
+ghost use Rattle.std.specs.Prelude.{◌≡◌, OnOk, IfOk, [], length};
 ghost use Rattle.typed_tree.specs.declared.stmt.TypedStmt.TheVariants as stmts;
 ghost use Rattle.bt_lower.specs.Code.{with_cut};
-ghost use Rattle.bt_lower.specs.Lowers.{LowersSingle, LowersStatement, LowersStatements, LowersInto, LowersElse, LowersArms};
+ghost use Rattle.bt_lower.specs.Lowers.{LowersSingle, LowersStatement, LowersStatements, LowersInto, LowersElse, LowersIf, LowersOneArm};
 
 use crate::code::{Code, Ways};
 use crate::simple::{
@@ -50,14 +50,12 @@ pub fn lower_stmt(alloc: Global, s: &TypedStmt, way: Ways, code: &mut Code) -> R
         TypedStmt::Zero(map) => zero(alloc, *map, code)?,
         TypedStmt::Delete { map, keys } => delete_at(alloc, *map, keys.as_slice(), code)?,
         TypedStmt::Jump(to) => jump(alloc, *to, way, code)?,
-        TypedStmt::If { arms, otherwise } => {
-            lower_if(alloc, arms.as_slice(), otherwise, way, code)?
-        }
+        TypedStmt::If { .. } => lower_if(alloc, s, way, code)?,
         TypedStmt::While {
             condition,
             block,
             line,
-        } => lower_while(alloc, condition, block, *line, code)?,
+        } => lower_while(alloc, block, condition, *line, code)?,
         TypedStmt::Unroll { turns, block, line } => {
             lower_unroll(alloc, *turns, block, *line, code)?
         }
@@ -101,57 +99,68 @@ pub fn lower_into(
     Ok(number)
 }
 
-/// Lowers an `if`: its first arm is a block that what is open goes on to.
+/// Lowers an `if`: the blocks of its arms are made from the last one to the first, and what is open goes on to the first.
 #[cycle(stmt)]
-fn lower_if(
-    alloc: Global,
-    arms: &[(NumExpr, TypedBlock)],
-    otherwise: &Option<TypedBlock>,
-    way: Ways,
-    code: &mut Code,
-) -> Result<(), Memory>
-    ensures { OnOk result (LowersStatement (stmts.If arms.now otherwise.now) way code.old code.new) }
+fn lower_if(alloc: Global, s: &TypedStmt, way: Ways, code: &mut Code) -> Result<(), Memory>
+    ensures { OnOk result (LowersIf s.now way code.old code.new) }
 {
-    if arms.len() > 0 {
-        let after = code.close(alloc)?;
-        let first = lower_arms(alloc, arms, otherwise, after, way, code)?;
-        code.begin(alloc, Exit::Goto(first), &[])?;
-    } else {
-        match otherwise {
-            Some(block) => lower_block(alloc, block, way, code)?,
-            None => {}
+    if let TypedStmt::If { arms, otherwise } = s {
+        let arms = arms.as_slice();
+        let mut left = arms.len();
+        if left == 0 {
+            return lower_only_else(alloc, otherwise, way, code);
         }
+        let after = code.close(alloc)?;
+        let mut next = lower_else(alloc, otherwise, after, way, code)?;
+        while left > 0 {
+            left -= 1;
+            let arm = &arms[left];
+            next = lower_arm(alloc, &arm.1, &arm.0, next, after, way, code)?;
+        }
+        code.begin(alloc, Exit::Goto(next), &[])?;
     }
     Ok(())
 }
 
-/// The blocks of the arms of an `if`, from the last one to the first, which go on to a block.
+/// Lowers an `if` that has no arm, and so does what its `else` does.
 #[cycle(stmt)]
-fn lower_arms(
+fn lower_only_else(
     alloc: Global,
-    arms: &[(NumExpr, TypedBlock)],
     otherwise: &Option<TypedBlock>,
+    way: Ways,
+    code: &mut Code,
+) -> Result<(), Memory>
+    ensures { OnOk result (LowersStatement (stmts.If [] otherwise.now) way code.old code.new) }
+{
+    match otherwise {
+        Some(block) => lower_block(alloc, block, way, code)?,
+        None => {}
+    }
+    Ok(())
+}
+
+/// The blocks of an arm: where its test does not hold, it goes on to the block `next`.
+#[cycle(stmt)]
+fn lower_arm(
+    alloc: Global,
+    block: &TypedBlock,
+    condition: &NumExpr,
+    next: usize,
     after: usize,
     way: Ways,
     code: &mut Code,
 ) -> Result<usize, Memory>
-    ensures { IfOk result (λ number. LowersArms arms.now otherwise.now after way code.old code.new number) }
+    ensures { IfOk result (λ number. LowersOneArm (condition.now, block.now) next after way code.old code.new number) }
 {
-    let mut next = lower_else(alloc, otherwise, after, way, code)?;
-    let mut left = arms.len();
-    while left > 0 {
-        left -= 1;
-        let arm = &arms[left];
-        let first = lower_into(alloc, &arm.1, after, way, code)?;
-        let exit = Exit::Branch {
-            first,
-            second: next,
-        };
-        code.begin(alloc, exit, &[Shape::Int])?;
-        lower_number(alloc, &arm.0, code)?;
-        next = code.close(alloc)?;
-    }
-    Ok(next)
+    let first = lower_into(alloc, block, after, way, code)?;
+    let exit = Exit::Branch {
+        first,
+        second: next,
+    };
+    code.begin(alloc, exit, &[Shape::Int])?;
+    lower_number(alloc, condition, code)?;
+    let number = code.close(alloc)?;
+    Ok(number)
 }
 
 /// The block of an `else`, or, where there is none, the block that follows.
@@ -178,8 +187,8 @@ fn lower_else(
 #[cycle(stmt)]
 fn lower_while(
     alloc: Global,
-    condition: &NumExpr,
     block: &TypedBlock,
+    condition: &NumExpr,
     line: u32,
     code: &mut Code,
 ) -> Result<(), Memory>
