@@ -162,8 +162,8 @@ Tree-steps tree c0 c1 c c2 end e0 e1 ee l0 e2 =
     let l = subst (λ (x : Code). LowersGuarded tree.predicate tree.block (record { leave = 0; again = 0 }) x c) first l1 in
     subst (λ (x : Code). LowersTree tree x.blocks) (sym e2) (record {
       runs = λ t fits w same frame. body-runs (guarded_parts tree.predicate tree.block) (guarded tree.predicate (block_does tree.block)) (guarded_need tree.predicate tree.block) c l t fits w same frame ∙ sym (and_then_assoc (guarded tree.predicate (block_does tree.block) w frame) (λ p. Ended (ending_of p.0, p.1)) (λ p. Ended p.0));
-      leads = λ t fits room. body-leads (guarded_parts tree.predicate tree.block) (guarded tree.predicate (block_does tree.block)) (guarded_need tree.predicate tree.block) c l t fits room;
-      typed = λ t fits room. body-typed (guarded_parts tree.predicate tree.block) (guarded tree.predicate (block_does tree.block)) (guarded_need tree.predicate tree.block) c l t fits room;
-      reads = λ t fits room. body-reads (guarded_parts tree.predicate tree.block) (guarded tree.predicate (block_does tree.block)) (guarded_need tree.predicate tree.block) c l t fits room;
+      leads = λ t place. body-leads (guarded_parts tree.predicate tree.block) (guarded tree.predicate (block_does tree.block)) (guarded_need tree.predicate tree.block) c l t place.named place.room;
+      typed = λ t place. body-typed (guarded_parts tree.predicate tree.block) (guarded tree.predicate (block_does tree.block)) (guarded_need tree.predicate tree.block) c l t place.named place.room;
+      reads = λ t place. body-reads (guarded_parts tree.predicate tree.block) (guarded tree.predicate (block_does tree.block)) (guarded_need tree.predicate tree.block) c l t place.named place.room;
       slots = body-slots (guarded_parts tree.predicate tree.block) (guarded tree.predicate (block_does tree.block)) (guarded_need tree.predicate tree.block) c l;
     })

@@ -35,10 +35,10 @@ use Rattle.bt_ir.specs.Meaning.{fresh, blocks_run, ir_run}
 use Rattle.bt_ir.specs.Typing.{are_typed}
 use Rattle.bt_ir.specs.Ways.{lead_forward}
 use Rattle.bt_ir.specs.Values.{unassigned}
-use Rattle.bt_lower.specs.Bodies.{footing_of, guarded_need, LowersTree}
+use Rattle.bt_lower.specs.Bodies.{footing_of, HasPlace, LowersTree}
 use Rattle.bt_lower.specs.Lowers.{state}
 use Rattle.bt_lower.specs.Needs.{tree_need}
-use Rattle.bt_lower.specs.Sound.{Agrees, Site, HasRoom}
+use Rattle.bt_lower.specs.Sound.{Agrees, Site}
 
 slice_get-map : {A B : Type 0} (f : A → B) (xs : List A) (n : ℕ) (x : A) → slice_get xs n ≡ Some x → slice_get (map f xs) n ≡ Some (f x)
 slice_get-map f [] n x e = cc
@@ -104,8 +104,8 @@ module _ (maps : List MapDecl) (formats : List (List Piece)) (body : TypedBody) 
     agrees = agrees maps formats body (tree_need body.tree).frame placed;
   }
 
-  room : HasRoom (footing_of maps (map argument_shapes formats) body.tree.variables (tree_need body.tree).frame (least_length body.layout)) (guarded_need body.tree.predicate body.tree.block).frame
-  room = record { within = omega arith }
+  place : HasPlace body.tree site
+  place = record { named = body.typed; room = record { within = omega arith } }
 
   abbrev seen : Context → List ℕ → ℕ → ℕ → Walked
   seen context payload actor actors = record { context = context; payload = payload; actor = actor; actors = actors; maps = body.maps }
@@ -118,13 +118,13 @@ module _ (maps : List MapDecl) (formats : List (List Piece)) (body : TypedBody) 
       ∙ l.runs site body.typed (seen context payload actor actors) refl (fresh_in_walk body.tree.variables)
 
   pub placed-leads : lead_forward list ≡ true
-  placed-leads = l.leads site body.typed room
+  placed-leads = l.leads site place
 
   pub placed-typed : are_typed (record { variables = body.tree.variables; maps = maps; formats = map argument_shapes formats; frame = (tree_need body.tree).frame }) list ≡ true
-  placed-typed = l.typed site body.typed room
+  placed-typed = l.typed site place
 
   pub placed-reads : payload_need list ≤ least_length body.layout
-  placed-reads = l.reads site body.typed room
+  placed-reads = l.reads site place
 
   pub placed-typed-at : (variables : List Shape) (ms : List MapDecl) (fs : List (List Shape)) (frame : ℕ) → variables ≡ body.tree.variables → ms ≡ maps → fs ≡ map argument_shapes formats → frame ≡ (tree_need body.tree).frame →
       are_typed (record { variables = variables; maps = ms; formats = fs; frame = frame }) list ≡ true

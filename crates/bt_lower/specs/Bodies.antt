@@ -39,15 +39,22 @@ abbrev pub guarded_need : Option NumExpr → TypedBlock → Need
 guarded_need predicate block = greater (predicate_need predicate) (block_need block)
 
 abbrev pub LowersGuarded : Option NumExpr → TypedBlock → Ways → Code → Code → Type 0
-LowersGuarded predicate block way old new = LowersStmt (guarded_parts predicate block) (guarded predicate (block_does block)) (guarded_need predicate block) way old new
+LowersGuarded predicate block way old new =
+    LowersStmt (guarded_parts predicate block) (guarded predicate (block_does block)) (guarded_need predicate block) way old new
 
--- blocks that do a whole tree: where what it names is there, their run is its walk, and they pass the tests of bodies in typed instructions
+-- what the tree names is there, and there is room for its values
+pub record HasPlace (tree : TypedTree) (t : Site) : Type 0 where
+  pub named : all_fit t.scope (tree_parts tree) ≡ true
+  pub room : HasRoom t.ground (guarded_need tree.predicate tree.block).frame
+
+-- blocks that do a whole tree: where what it names is there, their run is its walk, and they pass the tests of bodies in typed
+-- instructions
 pub record LowersTree (tree : TypedTree) (bs : List Block) : Type 0 where
   pub runs : (t : Site) → all_fit t.scope (tree_parts tree) ≡ true → (w : Walked) → w.maps ≡ t.scope.maps → (frame : Frame)
       → blocks_run bs (seen_by t.ground.maps w) (state frame []) ≡ and_then (tree_does tree w frame) (λ p. Ended p.0)
-  pub leads : (t : Site) → all_fit t.scope (tree_parts tree) ≡ true → HasRoom t.ground (guarded_need tree.predicate tree.block).frame → lead_forward bs ≡ true
-  pub typed : (t : Site) → all_fit t.scope (tree_parts tree) ≡ true → HasRoom t.ground (guarded_need tree.predicate tree.block).frame → are_typed (ground_in t.ground) bs ≡ true
-  pub reads : (t : Site) → all_fit t.scope (tree_parts tree) ≡ true → HasRoom t.ground (guarded_need tree.predicate tree.block).frame → payload_need bs ≤ t.ground.payload
+  pub leads : (t : Site) → HasPlace tree t → lead_forward bs ≡ true
+  pub typed : (t : Site) → HasPlace tree t → are_typed (ground_in t.ground) bs ≡ true
+  pub reads : (t : Site) → HasPlace tree t → payload_need bs ≤ t.ground.payload
   pub slots : blocks_slots bs ≤ (tree_need tree).code
 
 -- what the instructions of a body stand on: what they may name, the bytes of their frame, and the bytes of the payload that they may read
