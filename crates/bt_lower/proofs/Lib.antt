@@ -16,6 +16,7 @@ pub mod Opening
 pub mod Patches
 pub mod Placed
 pub mod Rest
+pub mod Scripts
 pub mod Single
 pub mod Slots
 pub mod Stmts

@@ -28,9 +28,10 @@ use Rattle.bt_walk.specs.Walk.{unassigned as unassigned_in_walk}
 use Rattle.bt_walk.specs.Walked.{least_length}
 use Rattle.bt_walk.proofs.Declared.{served, served_pick, fine, same_field-end}
 use Rattle.bt_ir.specs.declared.blocks.Block.{Block}
+use Rattle.bt_ir.specs.declared.probe.IrProbe.{IrProbe}
 use Rattle.bt_ir.specs.declared.stack.State.{State}
 use Rattle.bt_ir.specs.Running.{payload_need}
-use Rattle.bt_ir.specs.Meaning.{fresh, blocks_run}
+use Rattle.bt_ir.specs.Meaning.{fresh, blocks_run, ir_run}
 use Rattle.bt_ir.specs.Typing.{are_typed}
 use Rattle.bt_ir.specs.Ways.{lead_forward}
 use Rattle.bt_ir.specs.Values.{unassigned}
@@ -124,3 +125,21 @@ module _ (maps : List MapDecl) (formats : List (List Piece)) (body : TypedBody) 
 
   pub placed-reads : payload_need list ≤ least_length body.layout
   placed-reads = l.reads site body.typed room
+
+  pub placed-typed-at : (variables : List Shape) (ms : List MapDecl) (fs : List (List Shape)) (frame : ℕ) → variables ≡ body.tree.variables → ms ≡ maps → fs ≡ map argument_shapes formats → frame ≡ (tree_need body.tree).frame →
+      are_typed (record { variables = variables; maps = ms; formats = fs; frame = frame }) list ≡ true
+  placed-typed-at variables ms fs frame ev em ef eb =
+      ap (λ (x : List Shape). are_typed (record { variables = x; maps = ms; formats = fs; frame = frame }) list) ev
+      ∙ ap (λ (x : List MapDecl). are_typed (record { variables = body.tree.variables; maps = x; formats = fs; frame = frame }) list) em
+      ∙ ap (λ (x : List (List Shape)). are_typed (record { variables = body.tree.variables; maps = maps; formats = x; frame = frame }) list) ef
+      ∙ ap (λ (x : ℕ). are_typed (record { variables = body.tree.variables; maps = maps; formats = map argument_shapes formats; frame = x }) list) eb
+      ∙ placed-typed
+
+  pub placed-runs-at : (probe : IrProbe) → probe.blocks.list ≡ list → probe.variables ≡ body.tree.variables → probe.maps ≡ maps → (context : Context) (payload : List ℕ) (actor actors : ℕ) →
+      ir_run probe context payload actor actors ≡ walk body context payload actor actors
+  unfolding ir_run
+  placed-runs-at probe el ev em context payload actor actors =
+      ap (λ (x : List Block). blocks_run x (record { context = context; payload = payload; actor = actor; actors = actors; maps = probe.maps }) (fresh probe.variables)) el
+      ∙ ap (λ (x : List Shape). blocks_run list (record { context = context; payload = payload; actor = actor; actors = actors; maps = probe.maps }) (fresh x)) ev
+      ∙ ap (λ (x : List MapDecl). blocks_run list (record { context = context; payload = payload; actor = actor; actors = actors; maps = x }) (fresh body.tree.variables)) em
+      ∙ placed-runs context payload actor actors

@@ -67,10 +67,11 @@ pub record IsLowered (maps : List MapDecl) (formats : List (List Shape)) (body :
   pub frame : probe.frame_need ≡ (tree_need body.tree).frame
   pub code : probe.code_need ≡ (tree_need body.tree).code
 
--- one probe for each body, in their order
-pub record AreLowered (maps : List MapDecl) (formats : List (List Shape)) (bodies : List TypedBody) (probes : List IrProbe) : Type 0 where
-  pub as_many : length probes ≡ length bodies
+-- one probe for each of the first so many bodies, in their order
+pub record LoweredSoFar (maps : List MapDecl) (formats : List (List Shape)) (bodies : List TypedBody) (many : ℕ) (probes : List IrProbe) : Type 0 where
+  pub as_many : length probes ≡ many
   pub each : (n : ℕ) (body : TypedBody) (probe : IrProbe) → slice_get bodies n ≡ Some body → slice_get probes n ≡ Some probe → IsLowered maps formats body probe
 
+-- one for each body of a script
 abbrev pub LowersScript : Typed → List IrProbe → Type 0
-LowersScript typed probes = AreLowered typed.maps (map argument_shapes typed.formats) typed.bodies probes
+LowersScript script probes = LoweredSoFar script.maps (map argument_shapes script.formats) script.bodies (length script.bodies) probes
