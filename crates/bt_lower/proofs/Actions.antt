@@ -1,9 +1,6 @@
 -- Lowering of each kind of single statement.
-use Rattle.std.proofs.Common.{◌≡◌, ℕ, zero, suc, ◌+◌, ◌≤◌, ◌<◌, List, [], ◌∷◌, ◌++◌, length, refl, sym, ap, ◌∙◌, subst, arith, append_assoc, append-nil, length-append, Bool, true, false, Option, Some, None}
-use Rattle.std.specs.Prelude.{ℤ, pos, max, cond, not, slice_get, ◌&&◌}
-use Rattle.std.proofs.Math.Nat.{le-max_left, le-max_right, max-le}
-use Rattle.bt_core.specs.declared.ending.Ending.{Ending}
-use Rattle.bt_core.specs.declared.map.MapDecl.{MapDecl}
+use Rattle.std.proofs.Common.{◌≡◌, ℕ, ◌+◌, List, [], ◌∷◌, ◌++◌, length, refl, sym, ap, ◌∙◌, arith, append_assoc, length-append, Bool}
+use Rattle.std.specs.Prelude.{ℤ, pos}
 use Rattle.bt_core.specs.declared.map.MapId.{MapId}
 use Rattle.bt_core.specs.declared.map.Shape.{Shape}
 use Rattle.bt_core.specs.declared.map.Shape.TheVariants as shapes
@@ -12,25 +9,23 @@ use Rattle.bt_core.specs.declared.step.ObjectId.TheVariants.{Cpu, Out}
 use Rattle.bt_core.specs.declared.step.Op.TheVariants as ops
 use Rattle.bt_core.specs.declared.item.Item.TheVariants as items
 use Rattle.bt_core.specs.declared.value.Value.{Value}
-use Rattle.bt_core.specs.declared.value.Value.TheVariants.{Int, Str}
-use Rattle.bt_core.specs.Interaction.{Interaction, Ended, Asks, and_then}
+use Rattle.bt_core.specs.declared.value.Value.TheVariants.{Int}
+use Rattle.bt_core.specs.Interaction.{Interaction, Ended, and_then}
 use Rattle.bt_core.proofs.InteractionLaws.{and_then_assoc}
 use Rattle.bt_core.specs.Arithmetic.{binary_value}
 use Rattle.typed_tree.specs.Parts.{Part}
-use Rattle.typed_tree.specs.Scope.{Scope, all_fit, fits}
 use Rattle.bt_walk.specs.declared.flow.Flow.{Flow}
 use Rattle.bt_walk.specs.declared.flow.Flow.TheVariants.{Next}
 use Rattle.bt_walk.specs.declared.flow.Frame.{Frame}
-use Rattle.bt_walk.specs.Does.{Does, given, seen, changed, asked, bind, told, then, in_order}
+use Rattle.bt_walk.specs.Does.{Does, given, seen, changed, asked, bind, in_order}
 use Rattle.bt_walk.specs.Does.{Scene as Walked}
 use Rattle.bt_walk.specs.Exprs.{number_value}
 use Rattle.bt_walk.specs.Maps.{with_variable, variable}
 use Rattle.bt_walk.specs.Stmts.{set_variable, set_map, update_variable, update_map, gather, printf, delete_at, plain}
-use Rattle.bt_ir.specs.declared.instr.Instr.{Instr}
 use Rattle.bt_ir.specs.declared.instr.Instr.TheVariants as i
-use Rattle.bt_ir.specs.Asking.{part, got, told as asks_for}
+use Rattle.bt_ir.specs.Asking.{part, told as asks_for}
 use Rattle.bt_ir.specs.Meaning.{instr_run, updated}
-use Rattle.bt_ir.specs.Typing.{takes, gives, last_of, front_of}
+use Rattle.bt_ir.specs.Typing.{last_of, front_of}
 use Rattle.bt_ir.specs.Values.{top, below, number_of}
 use Rattle.bt_lower.specs.Lowers.{state, seen_by}
 use Rattle.bt_lower.specs.Sound.{Site}

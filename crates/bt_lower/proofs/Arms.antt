@@ -1,6 +1,6 @@
 -- Lowering of each kind of expression, by its tree.
-use Rattle.std.proofs.Common.{◌≡◌, ℕ, zero, suc, ◌+◌, ◌≤◌, ◌<◌, ◌-◌, List, [], ◌∷◌, ◌++◌, length, refl, sym, ap, ◌∙◌, subst, arith, append_assoc, append-nil, length-append, Bool, true, false, Option, Some, drop, drop-cons, get_or}
-use Rattle.std.specs.Prelude.{ℤ, pos, max, cond, slice_get, ◌&&◌}
+use Rattle.std.proofs.Common.{◌≡◌, ℕ, zero, suc, ◌+◌, ◌≤◌, ◌<◌, ◌-◌, List, [], ◌∷◌, ◌++◌, length, refl, sym, ap, ◌∙◌, subst, arith, Bool, true, false, drop, drop-cons, get_or}
+use Rattle.std.specs.Prelude.{ℤ, pos, max, cond, slice_get}
 use Rattle.std.proofs.Math.Nat.{le-max_left, le-max_right, max-le}
 use Rattle.std.proofs.lemmas.Bool.{and_parts}
 use Rattle.std.proofs.lemmas.List.{drop_all}
@@ -11,7 +11,7 @@ use Rattle.bt_core.specs.declared.operator.BinOp.{BinOp}
 use Rattle.bt_core.specs.declared.operator.UnOp.{UnOp}
 use Rattle.bt_core.specs.declared.value.Value.{Value}
 use Rattle.bt_core.specs.declared.value.Value.TheVariants.{Int, Str}
-use Rattle.bt_core.specs.Interaction.{Interaction, Ended, and_then}
+use Rattle.bt_core.specs.Interaction.{Ended, and_then}
 use Rattle.bt_core.proofs.InteractionLaws.{and_then_assoc}
 use Rattle.tracefs_format.specs.declared.field.Field.{Field}
 use Rattle.tracefs_format.specs.Sizes.{end_of}
@@ -23,24 +23,24 @@ use Rattle.typed_tree.specs.declared.expr.NumExpr.TheVariants as nums
 use Rattle.typed_tree.specs.declared.expr.StrExpr.{StrExpr}
 use Rattle.typed_tree.specs.declared.expr.StrExpr.TheVariants as strs
 use Rattle.typed_tree.specs.Parts.{Part, Made, made_of, num_parts, str_parts, parts_in, key_shapes, compared}
-use Rattle.typed_tree.specs.Parts.{Constant, Literal, Numeric, Command, FieldOf, VarOf, MapOf, Stepped, Prefixed, Joined, Both, Either, Chosen}
+use Rattle.typed_tree.specs.Parts.{Constant, Literal, Numeric, Command, FieldOf, VarOf, MapOf, Stepped, Joined, Both, Either, Chosen}
 use Rattle.typed_tree.specs.Scope.{Scope, all_fit, fits, is_shape, shape_of_field, has_field}
 use Rattle.event_record.specs.Fields.{field_number, field_text}
 use Rattle.bt_walk.specs.declared.flow.Frame.{Frame}
-use Rattle.bt_walk.specs.Does.{Does, given, seen, changed, bind, choose, either, holds, in_order}
+use Rattle.bt_walk.specs.Does.{Does, given, seen, changed, bind, choose, either, holds}
 use Rattle.bt_walk.specs.Does.{Scene as Walked}
-use Rattle.bt_walk.specs.Exprs.{value_does, values_do, number_does, text_does, number_value, text_value, tested, and_also, or_else, number_field, text_field, step_variable, step_map, builtin, command}
-use Rattle.bt_walk.specs.Maps.{number_variable, text_variable, assigned, with_variable, variable, next, number_of, text_of}
+use Rattle.bt_walk.specs.Exprs.{value_does, values_do, number_does, text_does, number_value, text_value, tested, number_field, text_field, step_variable, step_map}
+use Rattle.bt_walk.specs.Maps.{number_variable, text_variable, with_variable, variable, next, number_of, text_of}
 use Rattle.bt_walk.proofs.ExprDoes.{number_num, builtin_num, field_num, var_num, map_num, stepvar_num, stepmap_num, unary_num, binary_num, compare_num, andthen_num, orelse_num, choose_num, text_str, comm_str, field_str, var_str, map_str, choose_str, num_any, str_any}
 use Rattle.bt_ir.specs.declared.blocks.Exit.TheVariants.{Goto, Branch}
 use Rattle.bt_ir.specs.declared.instr.Instr.TheVariants as i
-use Rattle.bt_ir.specs.Figures.{size_of, sizes_of, by_shape}
+use Rattle.bt_ir.specs.Figures.{size_of, sizes_of}
 use Rattle.bt_ir.specs.Meaning.{stepped}
 use Rattle.bt_ir.specs.Values.{shape_of}
 use Rattle.bt_lower.specs.declared.code.Code.{Code}
 use Rattle.bt_lower.specs.Code.{pushed, begun, closed, untyped}
-use Rattle.bt_lower.specs.Lowers.{LowersParts, LowersValue, LowersNumber, LowersText, LowersAny, LowersList, LowersArm, all_made, known_need}
-use Rattle.bt_lower.specs.Needs.{Need, need, more, greater, beside, list_frame, sizes_in, codes_in, value_need, values_need, number_need, text_need}
+use Rattle.bt_lower.specs.Lowers.{LowersValue, LowersNumber, LowersText, LowersAny, LowersList, LowersArm, all_made, known_need}
+use Rattle.bt_lower.specs.Needs.{Need, need, more, greater, list_frame, codes_in, value_need, values_need, number_need, text_need}
 use Rattle.bt_lower.specs.Sound.{Site}
 use Rattle.bt_lower.proofs.Opening.{none-read}
 use Rattle.bt_lower.proofs.Exprs.{Parts-none, Parts-less, Parts-fit, Parts-append, Parts-put}

@@ -1,5 +1,5 @@
 -- Lowering of `if` over the tree: from the block of `else` and the last arm to the first one.
-use Rattle.std.proofs.Common.{◌≡◌, ℕ, zero, suc, ◌+◌, ◌*◌, ◌≤◌, ◌<◌, ◌-◌, List, [], ◌∷◌, ◌++◌, length, refl, sym, ap, ◌∙◌, subst, arith, append_assoc, Bool, true, Option, Some, None, option_map, map, drop, drop-cons, get_or}
+use Rattle.std.proofs.Common.{◌≡◌, ℕ, zero, suc, ◌+◌, ◌*◌, ◌≤◌, ◌<◌, ◌-◌, List, [], ◌∷◌, ◌++◌, length, refl, sym, ap, ◌∙◌, subst, arith, append_assoc, Bool, true, Option, Some, None, map, drop, drop-cons, get_or}
 use Rattle.std.specs.Prelude.{max}
 use Rattle.std.proofs.Math.Nat.{le-max_left, le-max_right, max-le}
 use Rattle.std.proofs.lemmas.List.{drop_all}
@@ -16,7 +16,7 @@ use Rattle.typed_tree.specs.Scope.{Scope, all_fit}
 use Rattle.bt_walk.specs.declared.flow.Flow.{Flow}
 use Rattle.bt_walk.specs.Does.{Does}
 use Rattle.bt_walk.specs.Exprs.{number_does}
-use Rattle.bt_walk.specs.Stmts.{stmt_does, block_does}
+use Rattle.bt_walk.specs.Stmts.{block_does}
 use Rattle.bt_walk.proofs.StmtDoes.{if_stmt}
 use Rattle.bt_ir.specs.declared.blocks.Exit.TheVariants.{Goto, Branch}
 use Rattle.bt_lower.specs.declared.code.Code.{Code}

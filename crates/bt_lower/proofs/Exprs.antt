@@ -1,39 +1,31 @@
 -- Lowering of expressions, construct by construct.
-use Rattle.std.proofs.Common.{◌≡◌, ℕ, suc, ◌+◌, ◌≤◌, ◌<◌, List, [], ◌∷◌, ◌++◌, length, reverse, refl, sym, ap, ◌∙◌, subst, arith, append_assoc, append-nil, length-append, Bool, true, false, Option, Some}
-use Rattle.std.specs.Prelude.{max, cond, slice_get}
+use Rattle.std.proofs.Common.{◌≡◌, ◌+◌, ◌≤◌, List, [], ◌∷◌, ◌++◌, length, refl, sym, ap, ◌∙◌, subst, arith, append_assoc, append-nil, length-append, true}
+use Rattle.std.specs.Prelude.{max}
 use Rattle.std.proofs.Math.Nat.{le-max_left, le-max_right}
-use Rattle.bt_core.specs.declared.ending.Ending.{Ending}
 use Rattle.bt_core.specs.declared.map.MapDecl.{MapDecl}
 use Rattle.bt_core.specs.declared.map.Shape.{Shape}
-use Rattle.bt_core.specs.declared.map.Shape.TheVariants as shapes
 use Rattle.bt_core.specs.declared.value.Value.{Value}
-use Rattle.bt_core.specs.declared.value.Value.TheVariants.{Int, Str}
-use Rattle.bt_core.specs.Interaction.{Interaction, Ended, Asks, and_then}
-use Rattle.bt_core.proofs.InteractionLaws.{and_then_assoc, and_then-Ended}
+use Rattle.bt_core.specs.Interaction.{Interaction, Ended, and_then}
+use Rattle.bt_core.proofs.InteractionLaws.{and_then_assoc}
 use Rattle.typed_tree.specs.Parts.{Part}
 use Rattle.typed_tree.specs.Scope.{Scope, all_fit}
 use Rattle.bt_walk.specs.declared.flow.Frame.{Frame}
-use Rattle.bt_walk.specs.Does.{Does, given, bind, choose, either, holds, gathered, in_order}
+use Rattle.bt_walk.specs.Does.{Does, given, bind, gathered, in_order}
 use Rattle.bt_walk.specs.Does.{Scene as Walked}
-use Rattle.bt_walk.specs.Exprs.{number_value}
-use Rattle.bt_ir.specs.declared.blocks.Block.{Block}
-use Rattle.bt_ir.specs.declared.blocks.Exit.TheVariants.{Goto, Branch}
 use Rattle.bt_ir.specs.declared.instr.Instr.{Instr}
-use Rattle.bt_ir.specs.declared.stack.State.{State}
-use Rattle.bt_ir.specs.Figures.{size_of, sizes_of, instr_slots, instr_bytes}
-use Rattle.bt_ir.specs.Meaning.{Scene, instr_run, run_from}
+use Rattle.bt_ir.specs.Figures.{sizes_of, instr_slots, instr_bytes}
+use Rattle.bt_ir.specs.Meaning.{instr_run}
 use Rattle.bt_ir.specs.Running.{end_read}
 use Rattle.bt_ir.specs.Typing.{takes, gives, names}
-use Rattle.bt_ir.specs.Values.{top, below, number_of}
 use Rattle.bt_lower.specs.declared.code.Code.{Code}
-use Rattle.bt_lower.specs.Code.{pushed, begun, closed, untyped, open_block, code_slots, taken_back}
-use Rattle.bt_lower.specs.Lowers.{Stand, Grew, Runs, Reaches, state, seen_by, LowersParts, LowersValue, LowersArm}
-use Rattle.bt_lower.specs.Needs.{Need, need, more, greater}
-use Rattle.bt_lower.specs.Sound.{ground_in, Site, HasRoom, Opens, Sound, Target}
-use Rattle.bt_lower.proofs.Blocks.{and_then-same, Grew-refl, Grew-trans, Grew-one, Grew-length, Stand-later, Stand-before, Runs-is, Runs-more, Runs-push, Runs-goto, Reaches-close, Reaches-more, closed-length}
-use Rattle.bt_lower.proofs.Lists.{top-append, below-append, front-append, front-none, sizes-append, fit-parts, fit-head}
-use Rattle.bt_lower.proofs.Opening.{Room-less, Sound-none, Sound-join, Sound-close, Target-close, Target-later, Opens-push, Opens-goto, Opens-branch, pushed-stack}
-use Rattle.bt_lower.proofs.Slots.{slots-pushed, slots-closed, slots-untyped, slots-begun}
+use Rattle.bt_lower.specs.Code.{pushed}
+use Rattle.bt_lower.specs.Lowers.{Runs, state, seen_by, LowersParts, LowersValue}
+use Rattle.bt_lower.specs.Needs.{Need, need}
+use Rattle.bt_lower.specs.Sound.{ground_in, Site}
+use Rattle.bt_lower.proofs.Blocks.{and_then-same, Grew-refl, Grew-trans, Grew-length, Stand-later, Stand-before, Runs-is, Runs-push}
+use Rattle.bt_lower.proofs.Lists.{sizes-append, fit-parts}
+use Rattle.bt_lower.proofs.Opening.{Room-less, Sound-none, Sound-join, Opens-push, pushed-stack}
+use Rattle.bt_lower.proofs.Slots.{slots-pushed}
 
 -- ---- one after another
 

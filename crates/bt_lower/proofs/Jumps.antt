@@ -1,5 +1,5 @@
 -- Lowering of jumps, by the tree; and of statements whose lemma speaks of another name of the same tree.
-use Rattle.std.proofs.Common.{◌≡◌, [], ◌∷◌, refl, sym, ap, ◌∙◌, subst}
+use Rattle.std.proofs.Common.{◌≡◌, [], ◌∷◌, sym, ap, subst}
 use Rattle.bt_core.specs.declared.ending.Ending.TheVariants.{Return, Exit as Exited}
 use Rattle.typed_tree.specs.declared.stmt.Jump.{Jump}
 use Rattle.typed_tree.specs.declared.stmt.Jump.TheVariants as jumps

@@ -1,7 +1,6 @@
 -- Lowering of reads and steps of maps.
-use Rattle.std.proofs.Common.{◌≡◌, ℕ, zero, suc, ◌+◌, ◌≤◌, ◌<◌, List, [], ◌∷◌, ◌++◌, length, refl, sym, ap, ◌∙◌, subst, arith, append_assoc, append-nil, length-append, Bool, true, false, Option, Some, None}
-use Rattle.std.specs.Prelude.{ℤ, pos, max, cond, not, slice_get, ◌&&◌, nat_le}
-use Rattle.std.proofs.Math.Nat.{le-max_left, le-max_right, max-le}
+use Rattle.std.proofs.Common.{◌≡◌, ℕ, ◌+◌, ◌≤◌, List, [], ◌∷◌, ◌++◌, length, refl, ap, ◌∙◌, subst, arith, Bool, true, Option, Some, None}
+use Rattle.std.specs.Prelude.{max, slice_get, ◌&&◌}
 use Rattle.std.proofs.lemmas.Bool.{and_parts}
 use Rattle.std.proofs.lemmas.Bool.Decides.{nat_tests}
 use Rattle.bt_core.specs.declared.limits.TheConstants.{KEY_PARTS}
@@ -12,30 +11,25 @@ use Rattle.bt_core.specs.declared.map.Shape.{Shape}
 use Rattle.bt_core.specs.declared.map.Shape.TheVariants as shapes
 use Rattle.bt_core.specs.declared.value.Value.{Value}
 use Rattle.bt_core.specs.declared.value.Value.TheVariants.{Int, Str}
-use Rattle.bt_core.specs.Interaction.{Interaction, Ended, Asks, and_then}
+use Rattle.bt_core.specs.Interaction.{Ended, and_then}
 use Rattle.bt_core.proofs.InteractionLaws.{and_then_assoc}
 use Rattle.typed_tree.specs.Parts.{Part, MapOf}
-use Rattle.typed_tree.specs.Scope.{Scope, all_fit, fits, decl_of, is_declared, same_kind, same_shapes, kind_of_shape}
-use Rattle.bt_walk.specs.declared.flow.Frame.{Frame}
-use Rattle.bt_walk.specs.Does.{Does, given, asked, bind, in_order, told}
-use Rattle.bt_walk.specs.Does.{Scene as Walked}
-use Rattle.bt_walk.specs.Exprs.{number_value, text_value, read_number, read_text, read, step_map, step_at}
-use Rattle.bt_walk.specs.Maps.{get, set}
-use Rattle.bt_ir.specs.declared.instr.Instr.{Instr}
+use Rattle.typed_tree.specs.Scope.{fits, decl_of, is_declared, same_kind, same_shapes, kind_of_shape}
+use Rattle.bt_walk.specs.Does.{Does, given, asked, bind}
+use Rattle.bt_walk.specs.Exprs.{number_value, text_value, read_number, read_text, step_map}
 use Rattle.bt_ir.specs.declared.instr.Instr.TheVariants as i
 use Rattle.bt_ir.specs.Asking.{got}
-use Rattle.bt_ir.specs.Figures.{size_of, sizes_of, instr_slots, instr_bytes, by_shape}
-use Rattle.bt_ir.specs.Meaning.{instr_run, stepped}
-use Rattle.bt_ir.specs.Typing.{takes, gives, names, is_key, holds_shape, front_of}
-use Rattle.bt_ir.specs.Values.{number_of, text_of, as_shape}
+use Rattle.bt_ir.specs.Figures.{sizes_of}
+use Rattle.bt_ir.specs.Meaning.{stepped}
+use Rattle.bt_ir.specs.Typing.{is_key, holds_shape, front_of}
+use Rattle.bt_ir.specs.Values.{number_of, text_of}
 use Rattle.bt_lower.specs.declared.code.Code.{Code}
 use Rattle.bt_lower.specs.Code.{pushed}
-use Rattle.bt_lower.specs.Lowers.{state, seen_by, LowersParts, LowersValue}
-use Rattle.bt_lower.specs.Needs.{Need, need, more}
+use Rattle.bt_lower.specs.Lowers.{state, LowersParts, LowersValue}
+use Rattle.bt_lower.specs.Needs.{Need, need}
 use Rattle.bt_lower.specs.Sound.{ground_in, Site}
-use Rattle.bt_lower.proofs.Blocks.{and_then-same}
 use Rattle.bt_lower.proofs.Opening.{none-read}
-use Rattle.bt_lower.proofs.Exprs.{Parts-less, Puts, Parts-put}
+use Rattle.bt_lower.proofs.Exprs.{Puts, Parts-put}
 use Rattle.bt_lower.proofs.Lists.{last-append, front-append, fit-head}
 use Rattle.bt_ir.proofs.Shaped.{same_shapes-is}
 

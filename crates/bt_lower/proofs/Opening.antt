@@ -1,12 +1,11 @@
 -- What the steps by which code is made do to its soundness.
-use Rattle.std.proofs.Common.{◌≡◌, ℕ, zero, suc, ◌+◌, ◌<◌, ◌≤◌, ◌-◌, List, [], ◌∷◌, ◌++◌, length, reverse, refl, sym, ap, ◌∙◌, arith, append_assoc, append-nil, length-append, Option, Some, subst, true, inl, inr}
+use Rattle.std.proofs.Common.{◌≡◌, ℕ, ◌+◌, ◌<◌, ◌≤◌, List, [], ◌∷◌, ◌++◌, length, reverse, refl, sym, ap, ◌∙◌, arith, Option, Some, subst, true, inl, inr}
 use Rattle.std.specs.Prelude.{◌⊎◌, slice_get}
 use Rattle.std.proofs.lemmas.Bool.{cases_lt}
 use Rattle.std.proofs.lemmas.List.{reverse-append}
 use Rattle.bt_core.specs.declared.map.Shape.{Shape}
 use Rattle.bt_core.specs.declared.map.Shape.TheVariants.{Int}
 use Rattle.bt_ir.specs.declared.instr.Instr.{Instr}
-use Rattle.bt_ir.specs.declared.blocks.Exit.{Exit}
 use Rattle.bt_ir.specs.declared.blocks.Exit.TheVariants.{Goto, Branch}
 use Rattle.bt_ir.specs.declared.blocks.Block.{Block}
 use Rattle.bt_ir.specs.Figures.{sizes_of, instr_bytes}
@@ -15,10 +14,10 @@ use Rattle.bt_ir.specs.Running.{end_read}
 use Rattle.bt_ir.specs.Ways.{depth_in}
 use Rattle.bt_lower.specs.declared.code.Code.{Code}
 use Rattle.bt_lower.specs.Code.{pushed, open_block, begun, closed, taken_back}
-use Rattle.bt_lower.specs.Sound.{Footing, ground_in, HasRoom, MayStand, Turns, Target, LeadsTo, SoundBlock, Opens, Sound}
+use Rattle.bt_lower.specs.Sound.{Footing, ground_in, HasRoom, Turns, Target, SoundBlock, Opens, Sound}
 use Rattle.bt_lower.specs.Lowers.{Stand}
 use Rattle.bt_lower.proofs.Blocks.{here-closed, closed-length}
-use Rattle.bt_lower.proofs.Lists.{front-append, sizes-append}
+use Rattle.bt_lower.proofs.Lists.{front-append}
 
 pub Room-less : (g : Footing) (a b : ℕ) → a ≤ b → HasRoom g b → HasRoom g a
 Room-less g a b le r = record { within = omega (arith, r.within) }

@@ -1,5 +1,5 @@
 -- Lowering of statements one after another, from the last one to the first.
-use Rattle.std.proofs.Common.{◌≡◌, ℕ, zero, suc, ◌+◌, ◌≤◌, ◌<◌, ◌-◌, List, [], ◌∷◌, ◌++◌, length, refl, sym, ap, ◌∙◌, subst, arith, Bool, true, map, drop, drop-cons, get_or}
+use Rattle.std.proofs.Common.{◌≡◌, ℕ, zero, suc, ◌≤◌, ◌<◌, ◌-◌, List, [], ◌∷◌, ◌++◌, length, refl, sym, ap, ◌∙◌, subst, arith, Bool, map, drop, drop-cons, get_or}
 use Rattle.std.proofs.lemmas.List.{drop_all}
 use Rattle.typed_tree.specs.declared.stmt.TypedBlock.{TypedBlock, fold_out-TypedBlock, out-TypedBlock}
 use Rattle.typed_tree.specs.declared.stmt.TypedStmt.{TypedStmt}
@@ -12,7 +12,7 @@ use Rattle.bt_walk.proofs.StmtDoes.{block_is as block-does}
 use Rattle.bt_lower.specs.declared.code.Code.{Code}
 use Rattle.bt_lower.specs.declared.code.Ways.{Ways}
 use Rattle.bt_lower.specs.Lowers.{LowersStmt, LowersStatement, LowersStatements}
-use Rattle.bt_lower.specs.Needs.{Need, need, all_need, stmt_need, block_need}
+use Rattle.bt_lower.specs.Needs.{Need, all_need, stmt_need, block_need}
 use Rattle.bt_lower.specs.Needs.{stmt_layer as stmt_needs, block_layer as block_needs}
 use Rattle.bt_lower.proofs.Lists.{fit-parts}
 use Rattle.bt_lower.proofs.Stmts.{Stmt-fit, Lowers-none, Lowers-then}

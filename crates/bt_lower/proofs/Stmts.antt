@@ -1,44 +1,42 @@
 -- Lowering of statements, construct by construct.
-use Rattle.std.proofs.Common.{◌≡◌, ℕ, zero, suc, ◌+◌, ◌*◌, ◌-◌, ◌≤◌, ◌<◌, List, [], ◌∷◌, ◌++◌, length, reverse, refl, sym, ap, ◌∙◌, subst, arith, append_assoc, append-nil, length-append, Bool, true, false, Option, Some}
-use Rattle.std.specs.Prelude.{max, cond, slice_get}
-use Rattle.std.proofs.Math.Nat.{le-max_left, le-max_right, mul-le-mul_right}
+use Rattle.std.proofs.Common.{◌≡◌, ℕ, ◌+◌, ◌*◌, ◌≤◌, List, [], ◌∷◌, ◌++◌, length, refl, sym, ap, ◌∙◌, subst, arith, append-nil, Bool, true}
+use Rattle.std.specs.Prelude.{max}
+use Rattle.std.proofs.Math.Nat.{le-max_left, le-max_right}
 use Rattle.bt_core.specs.declared.ending.Ending.{Ending}
 use Rattle.bt_core.specs.declared.ending.Ending.TheVariants.{Return, Exit as Exited}
-use Rattle.bt_core.specs.declared.map.MapDecl.{MapDecl}
 use Rattle.bt_core.specs.declared.map.Shape.{Shape}
 use Rattle.bt_core.specs.declared.value.Value.{Value}
-use Rattle.bt_core.specs.Interaction.{Interaction, Ended, Asks, and_then}
+use Rattle.bt_core.specs.Interaction.{Interaction, Ended, and_then}
 use Rattle.bt_core.proofs.InteractionLaws.{and_then_assoc}
 use Rattle.typed_tree.specs.Parts.{Part}
 use Rattle.typed_tree.specs.Scope.{Scope, all_fit}
 use Rattle.bt_walk.specs.declared.flow.Flow.{Flow}
 use Rattle.bt_walk.specs.declared.flow.Flow.TheVariants.{Next, Break, Continue, Stop}
 use Rattle.bt_walk.specs.declared.flow.Frame.{Frame}
-use Rattle.bt_walk.specs.Does.{Does, given, bind, told, then, asked, in_order}
+use Rattle.bt_walk.specs.Does.{Does, given, bind, asked, in_order}
 use Rattle.bt_walk.specs.Does.{Scene as Walked}
 use Rattle.bt_walk.specs.Stmts.{in_turn, if_next, jump_to}
 use Rattle.typed_tree.specs.declared.stmt.Jump.TheVariants as jumps
 use Rattle.bt_ir.specs.declared.blocks.Block.{Block}
 use Rattle.bt_ir.specs.declared.blocks.Exit.{Exit}
-use Rattle.bt_ir.specs.declared.blocks.Exit.TheVariants.{Goto, Branch, End}
+use Rattle.bt_ir.specs.declared.blocks.Exit.TheVariants.{Goto, End}
 use Rattle.bt_ir.specs.declared.instr.Instr.{Instr}
 use Rattle.bt_ir.specs.declared.instr.Instr.TheVariants as i
-use Rattle.bt_ir.specs.declared.stack.State.{State}
 use Rattle.bt_core.specs.declared.step.ObjectId.TheVariants.{Clock}
 use Rattle.bt_core.specs.declared.step.Op.TheVariants as ops
 use Rattle.bt_ir.specs.Asking.{told as stop_asked}
 use Rattle.bt_ir.specs.Figures.{sizes_of, instr_slots, instr_bytes}
-use Rattle.bt_ir.specs.Meaning.{Scene, instr_run, run_from}
+use Rattle.bt_ir.specs.Meaning.{Scene, instr_run}
 use Rattle.bt_ir.specs.Running.{end_read}
 use Rattle.bt_ir.specs.Typing.{takes, gives, names}
 use Rattle.bt_lower.specs.declared.code.Code.{Code}
 use Rattle.bt_lower.specs.declared.code.Ways.{Ways}
 use Rattle.bt_lower.specs.Code.{pushed, begun, closed, open_block, code_slots}
-use Rattle.bt_lower.specs.Lowers.{Stand, Grew, Runs, Reaches, state, seen_by, fuel, Follows, LowersParts, LowersStmt, LowersBlock}
-use Rattle.bt_lower.specs.Needs.{Need, need, more, greater}
-use Rattle.bt_lower.specs.Sound.{ground_in, Site, HasRoom, Opens, Sound, Target, WaysStand}
+use Rattle.bt_lower.specs.Lowers.{Runs, state, seen_by, fuel, Follows, LowersParts, LowersStmt, LowersBlock}
+use Rattle.bt_lower.specs.Needs.{Need, need, greater}
+use Rattle.bt_lower.specs.Sound.{ground_in, Site, HasRoom, Opens, Target, WaysStand}
 use Rattle.bt_lower.proofs.Blocks.{and_then-same, Grew-refl, Grew-trans, Grew-one, Grew-length, Stand-later, Stand-before, Runs-is, Runs-more, Runs-push, Runs-goto, Reaches-close, Reaches-more, closed-length}
-use Rattle.bt_lower.proofs.Lists.{front-none, sizes-append, fit-parts}
+use Rattle.bt_lower.proofs.Lists.{sizes-append}
 use Rattle.bt_lower.proofs.Opening.{Room-less, none-read, Sound-none, Sound-join, Sound-close, Target-close, Target-later, Opens-push, Opens-goto, pushed-stack}
 use Rattle.bt_lower.proofs.Slots.{slots-pushed, slots-closed, slots-begun}
 

@@ -1,9 +1,8 @@
 -- Lowering of each kind of expression.
-use Rattle.std.proofs.Common.{◌≡◌, ℕ, zero, suc, ◌+◌, ◌≤◌, ◌<◌, List, [], ◌∷◌, ◌++◌, length, refl, sym, ap, ◌∙◌, subst, arith, append_assoc, append-nil, length-append, Bool, true, false, Option, Some}
-use Rattle.std.specs.Prelude.{ℤ, pos, max, cond, not, slice_get}
+use Rattle.std.proofs.Common.{◌≡◌, ℕ, ◌+◌, ◌≤◌, List, [], ◌∷◌, ◌++◌, length, refl, sym, ap, ◌∙◌, arith, append_assoc, append-nil, Bool, true}
+use Rattle.std.specs.Prelude.{ℤ, pos, max, cond, not}
 use Rattle.std.specs.Str.{bytes_eq}
-use Rattle.std.proofs.Math.Nat.{le-max_left, le-max_right, max-le}
-use Rattle.bt_core.specs.declared.map.MapId.{MapId}
+use Rattle.std.proofs.Math.Nat.{le-max_right, max-le}
 use Rattle.bt_core.specs.declared.map.Shape.{Shape}
 use Rattle.bt_core.specs.declared.map.Shape.TheVariants as shapes
 use Rattle.bt_core.specs.declared.operator.BinOp.{BinOp}
@@ -11,35 +10,31 @@ use Rattle.bt_core.specs.declared.operator.UnOp.{UnOp}
 use Rattle.bt_core.specs.declared.value.Value.{Value}
 use Rattle.bt_core.specs.declared.value.Value.TheVariants.{Int, Str}
 use Rattle.bt_core.specs.Arithmetic.{binary_value, unary_value, truth}
-use Rattle.bt_core.specs.Interaction.{Interaction, Ended, Asks, and_then}
+use Rattle.bt_core.specs.Interaction.{Ended}
 use Rattle.bt_core.proofs.InteractionLaws.{and_then_assoc}
 use Rattle.typed_tree.specs.declared.expr.NumBuiltin.{NumBuiltin}
-use Rattle.tracefs_format.specs.declared.field.Field.{Field}
 use Rattle.typed_tree.specs.Parts.{Part, Joined, Prefixed, Both}
-use Rattle.typed_tree.specs.Scope.{Scope, all_fit, fits}
+use Rattle.typed_tree.specs.Scope.{fits}
 use Rattle.bt_walk.specs.declared.flow.Frame.{Frame}
-use Rattle.bt_walk.specs.Does.{Does, given, seen, changed, asked, bind, choose, either, holds, in_order, told}
+use Rattle.bt_walk.specs.Does.{Does, given, seen, bind, holds}
 use Rattle.bt_walk.specs.Does.{Scene as Walked}
-use Rattle.bt_walk.specs.Exprs.{number_value, text_value, before, both, compared, tested, and_also, or_else, read_number, read_text, read, step_variable, step_map, builtin, builtin_value, command, number_field, text_field}
-use Rattle.bt_walk.specs.Maps.{number_variable, text_variable, get, set, assigned, with_variable}
+use Rattle.bt_walk.specs.Exprs.{number_value, text_value, before, both, compared, tested, builtin, builtin_value, command}
 use Rattle.bt_ir.specs.declared.instr.Instr.{Instr}
 use Rattle.bt_ir.specs.declared.instr.Instr.TheVariants as i
 use Rattle.bt_core.specs.declared.map.MapDecl.{MapDecl}
-use Rattle.bt_ir.specs.Asking.{got}
-use Rattle.bt_ir.specs.Figures.{size_of, sizes_of, instr_slots, instr_bytes, by_shape}
-use Rattle.bt_ir.specs.Meaning.{instr_run, stepped}
+use Rattle.bt_ir.specs.Figures.{sizes_of, instr_slots, instr_bytes}
+use Rattle.bt_ir.specs.Meaning.{instr_run}
 use Rattle.bt_ir.specs.Running.{end_read}
 use Rattle.bt_ir.specs.Typing.{takes, gives, names}
-use Rattle.bt_ir.specs.Values.{top, below, number_of, text_of, as_shape, shape_of}
+use Rattle.bt_ir.specs.Values.{top, below, number_of, text_of}
 use Rattle.bt_lower.specs.declared.code.Code.{Code}
-use Rattle.bt_lower.specs.Code.{pushed, begun, closed, untyped}
-use Rattle.bt_lower.specs.Lowers.{state, seen_by, LowersParts, LowersValue, LowersArm, known_need}
-use Rattle.bt_lower.specs.Needs.{Need, need, more, greater}
+use Rattle.bt_lower.specs.Code.{pushed}
+use Rattle.bt_lower.specs.Lowers.{state, seen_by, LowersValue}
+use Rattle.bt_lower.specs.Needs.{Need, need, more}
 use Rattle.bt_lower.specs.Sound.{ground_in, Site}
-use Rattle.bt_lower.proofs.Blocks.{and_then-same}
 use Rattle.bt_lower.proofs.Opening.{none-read}
 use Rattle.bt_lower.proofs.Exprs.{Parts-none, Parts-less, Parts-fit, Parts-append, Puts, Parts-put}
-use Rattle.bt_lower.proofs.Lists.{top-append, below-append, last-append, front-append, fit-parts, fit-head, sizes-append}
+use Rattle.bt_lower.proofs.Lists.{top-append, below-append, fit-head}
 
 -- ---- what takes nothing off the stack
 

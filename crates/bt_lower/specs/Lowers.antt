@@ -1,9 +1,7 @@
 -- What lowering does to code: it then does a construct, and after it what it did before.
-use Rattle.std.specs.Prelude.{◌≡◌, ℕ, ◌+◌, ◌*◌, ◌<◌, ◌≤◌, max, Bool, true, List, [], ◌∷◌, ◌++◌, length, reverse, Option, Some, None, option_map, slice_get, map}
-use Rattle.bt_core.specs.declared.context.Context.{Context}
+use Rattle.std.specs.Prelude.{◌≡◌, ℕ, ◌+◌, ◌*◌, ◌<◌, ◌≤◌, max, Bool, true, List, [], ◌∷◌, ◌++◌, length, reverse, Option, option_map, slice_get, map}
 use Rattle.bt_core.specs.declared.ending.Ending.{Ending}
 use Rattle.bt_core.specs.declared.map.MapDecl.{MapDecl}
-use Rattle.bt_core.specs.declared.map.MapId.{MapId}
 use Rattle.bt_core.specs.declared.map.Shape.{Shape}
 use Rattle.bt_core.specs.declared.map.Shape.TheVariants as shapes
 use Rattle.bt_core.specs.declared.value.Value.{Value}
@@ -19,7 +17,7 @@ use Rattle.typed_tree.specs.Scope.{all_fit}
 use Rattle.bt_walk.specs.declared.flow.Flow.{Flow}
 use Rattle.bt_walk.specs.declared.flow.Flow.TheVariants.{Next, Break, Continue, Stop}
 use Rattle.bt_walk.specs.declared.flow.Frame.{Frame}
-use Rattle.bt_walk.specs.Does.{Does, in_order, given}
+use Rattle.bt_walk.specs.Does.{Does, in_order}
 use Rattle.bt_walk.specs.Does.{Scene as Walked}
 use Rattle.bt_walk.specs.Exprs.{value_does, values_do, number_does, text_does, number_value, text_value}
 use Rattle.bt_walk.specs.Stmts.{stmt_does, block_does, first_arm, block_or_next}
@@ -30,8 +28,8 @@ use Rattle.bt_ir.specs.Meaning.{Scene, code_run, run_from}
 use Rattle.bt_ir.specs.Values.{shape_of}
 use Rattle.bt_lower.specs.declared.code.Code.{Code}
 use Rattle.bt_lower.specs.declared.code.Ways.{Ways}
-use Rattle.bt_lower.specs.Code.{code_slots, closed}
-use Rattle.bt_lower.specs.Needs.{Need, need, Valued, value_need, values_need, number_need, text_need, stmt_need, block_need, otherwise_need, list_frame, sizes_in, codes_in}
+use Rattle.bt_lower.specs.Code.{code_slots}
+use Rattle.bt_lower.specs.Needs.{Need, need, value_need, values_need, number_need, text_need, stmt_need, block_need, otherwise_need, list_frame, sizes_in, codes_in}
 use Rattle.bt_lower.specs.Sound.{Site, HasRoom, Opens, Sound, Target, WaysStand}
 
 -- the blocks of a list from this number on stand in the final one

@@ -99,7 +99,9 @@ pub fn stmt_need(s: &TypedStmt) -> Result<Need, Memory>
             Ok(greater(all, otherwise)?)
         }
         TypedStmt::While {
-            condition, block, ..
+            condition,
+            block,
+            ..
         } => {
             let test = number_need(condition)?;
             let block = block_need(block)?;

@@ -1,4 +1,4 @@
-use Rattle.std.proofs.Common.{◌≡◌, refl, ap, ◌∙◌, arith}
+use Rattle.std.proofs.Common.{refl, ap, ◌∙◌, arith}
 use Rattle.bt_lower.specs.Needs.{Need}
 use Rattle.bt_lower.proofs.Placed.{placed-leads, placed-typed-at, placed-runs-at, placed-reads}
 use Rattle.bt_lower.proofs.lower.lower_body.Goals as goal

@@ -1,7 +1,6 @@
-use Rattle.std.proofs.Common.{◌≡◌, ◌-◌, ◌∙◌, sym, ap, refl, arith, List, SFits, w64, rules}
+use Rattle.std.proofs.Common.{◌∙◌, sym, ap, refl, arith, List, SFits, w64, rules}
 use Rattle.std.proofs.lemmas.Int.{to_z-of_z}
 use Rattle.typed_tree.specs.declared.expr.AnyExpr.{AnyExpr}
-use Rattle.typed_tree.specs.declared.expr.NumExpr.{NumExpr}
 use Rattle.typed_tree.specs.declared.stmt.TypedBlock.{TypedBlock}
 use Rattle.typed_tree.specs.declared.stmt.TypedBlock as blocks
 use Rattle.typed_tree.specs.declared.stmt.TypedStmt as trees
@@ -10,7 +9,7 @@ use Rattle.std.specs.Prelude.{ℤ}
 use Rattle.bt_core.specs.declared.value.Value.TheVariants.{Int}
 use Rattle.bt_ir.specs.declared.instr.Instr.TheVariants as i
 use Rattle.bt_lower.specs.Code.{pushed}
-use Rattle.bt_lower.proofs.Branches.{Else-none, Else-some, Arms-start, Arms-more, Arms-next, T-If, T-If-none, T-If-else, Is-bare}
+use Rattle.bt_lower.proofs.Branches.{Else-none, Else-some, Arms-start, Arms-more, Arms-next, T-If, T-If-none, T-If-else}
 use Rattle.bt_lower.proofs.Jumps.{Same, Same-single}
 use Rattle.bt_lower.proofs.Rest.{Rest-start, Rest-next, Rest-end}
 use Rattle.bt_lower.proofs.Stmts.{Lowers-into}
