@@ -1,2 +1,3 @@
+pub mod OwnMaps
 pub mod Passing
 pub mod Served

@@ -68,13 +68,16 @@ const STOPS: &[u8] =
 const TOP: &[u8] =
     b"BEGIN { @m[1] = 1000; @m[2] = 5000; @m[3] = 2999; print(@m, 2, 1000); clear(@m); }";
 
+const LOOPS: &[u8] = b"BEGIN { $i = 0; while ($i < 3) { $i++; if ($i == 2) { continue; } \
+unroll (2) { if ($i == 3) { break; } @x = $i; } } }";
+
 /// The number of parts of a map, each of which is read, and cleared.
 const EACH_PART: usize = PARTS as usize;
 
 /// A body of a script by its number, the moment, what is read from maps, how many steps its walk makes, and how it ends.
 type Row = (&'static [u8], usize, Moment, &'static [i64], usize, Ending);
 
-const ROWS: [Row; 11] = [
+const ROWS: [Row; 12] = [
     // A start is set; it is read twice, added and deleted; a thread without one only reads.
     (TIMES, 0, LEFT, &[], 1, Ending::End),
     (TIMES, 1, LEFT, &[100, 100], 4, Ending::End),
@@ -98,6 +101,8 @@ const ROWS: [Row; 11] = [
     (STOPS, 1, MAIN, &[], 1, Ending::End),
     // Three sets, a read of each part, one item, and each part is cleared.
     (TOP, 0, MAIN, &[], 4 + 2 * EACH_PART, Ending::End),
+    // Two turns at 1, none at 2, and at 3 the inner loop is left before its first step.
+    (LOOPS, 0, MAIN, &[], 2, Ending::End),
 ];
 
 /// The rows of the map that is read as a whole.
