@@ -127,20 +127,28 @@ abbrev pub otherwise_need : Option Need → Need
 otherwise_need None = need 0 0
 otherwise_need (Some n) = n
 
+abbrev pub set_map_need : List Valued → Need → Need
+set_map_need keys value = need (beside keys value.frame) (24 + codes_in keys + value.code)
+
+abbrev pub update_map_need : List Valued → Need → Need
+update_map_need keys value = need (beside keys (max value.frame 16)) (40 + codes_in keys + value.code)
+
+-- `printf` and `delete`
+abbrev pub taking_need : List Valued → Need
+taking_need values = need (list_frame values) (16 + codes_in values)
+
 abbrev pub stmt_layer : TypedStmt-F Need Need → Need
 stmt_layer (TypedStmt-F.SetVar var value) = more (by_shape (made_of value).shape 8 24) (value_need value).need
-stmt_layer (TypedStmt-F.SetMap m keys value) =
-    need (beside (values_need keys) (value_need value).need.frame) (24 + codes_in (values_need keys) + (value_need value).need.code)
+stmt_layer (TypedStmt-F.SetMap m keys value) = set_map_need (values_need keys) (value_need value).need
 stmt_layer (TypedStmt-F.UpdateVar var op value) = more 16 (number_need value)
-stmt_layer (TypedStmt-F.UpdateMap m keys op value) =
-    need (beside (values_need keys) (max (number_need value).frame 16)) (40 + codes_in (values_need keys) + (number_need value).code)
+stmt_layer (TypedStmt-F.UpdateMap m keys op value) = update_map_need (values_need keys) (number_need value)
 stmt_layer (TypedStmt-F.Gather m keys kind number) = gather_need (values_need keys) number
 stmt_layer (TypedStmt-F.Step value) = number_need value
-stmt_layer (TypedStmt-F.Printf format values) = need (list_frame (values_need values)) (16 + codes_in (values_need values))
+stmt_layer (TypedStmt-F.Printf format values) = taking_need (values_need values)
 stmt_layer (TypedStmt-F.Print m top div) = need 0 16
 stmt_layer (TypedStmt-F.Clear m) = need 0 12
 stmt_layer (TypedStmt-F.Zero m) = need 0 12
-stmt_layer (TypedStmt-F.Delete m keys) = need (list_frame (values_need keys)) (16 + codes_in (values_need keys))
+stmt_layer (TypedStmt-F.Delete m keys) = taking_need (values_need keys)
 stmt_layer (TypedStmt-F.Jump jump) = jump_need jump
 stmt_layer (TypedStmt-F.If arms otherwise) = greater (all_need (map arm_need arms)) (otherwise_need otherwise)
 stmt_layer (TypedStmt-F.While test block line) = more 24 (greater (number_need test) block)

@@ -1,7 +1,7 @@
 // What statements and bodies need.
 ghost use Rattle.std.specs.Prelude.{◌≡◌, ◌+◌, IfOk};
 ghost use Rattle.bt_ir.specs.Figures.{by_shape};
-ghost use Rattle.bt_lower.specs.Needs.{need, more, greater, stmt_need, block_need, arm_need, tree_else_need, gather_need, values_need, tree_need};
+ghost use Rattle.bt_lower.specs.Needs.{need, more, greater, set_map_need, update_map_need, taking_need, stmt_need, block_need, arm_need, tree_else_need, gather_need, number_need, value_need, values_need, tree_need};
 
 use crate::need::{
     Need, figures, greater, jump_need, more, number_need, predicate_need, sizes_of, sum, under,
@@ -46,6 +46,34 @@ fn gather_need(keys: &[AnyExpr], number: &Option<NumExpr>) -> Result<Need, Memor
     }
 }
 
+/// What an assignment to a map needs.
+fn set_map_need(keys: &[AnyExpr], value: &AnyExpr) -> Result<Need, Memory>
+    ensures { IfOk result (λ n. n ≡ set_map_need (values_need keys.now) (value_need value.now).need) }
+{
+    let keys = values_need(keys)?;
+    let value = value_need(value)?;
+    let all = under(keys, value.need.frame, 24)?;
+    Ok(and_code(all, value.need.code)?)
+}
+
+/// What `op=` on a map needs.
+fn update_map_need(keys: &[AnyExpr], value: &NumExpr) -> Result<Need, Memory>
+    ensures { IfOk result (λ n. n ≡ update_map_need (values_need keys.now) (number_need value.now)) }
+{
+    let keys = values_need(keys)?;
+    let value = number_need(value)?;
+    let all = under(keys, value.frame.max(16), 40)?;
+    Ok(and_code(all, value.code)?)
+}
+
+/// What a statement needs that takes values alone.
+fn taking_need(values: &[AnyExpr]) -> Result<Need, Memory>
+    ensures { IfOk result (λ n. n ≡ taking_need (values_need values.now)) }
+{
+    let values = values_need(values)?;
+    Ok(more(16, values.need)?)
+}
+
 /// What a statement needs.
 #[cycle(body_need)]
 pub fn stmt_need(s: &TypedStmt) -> Result<Need, Memory>
@@ -56,35 +84,16 @@ pub fn stmt_need(s: &TypedStmt) -> Result<Need, Memory>
             let valued = value_need(value)?;
             Ok(more(store_slots(value.shape()), valued.need)?)
         }
-        TypedStmt::SetMap { keys, value, .. } => {
-            let keys = values_need(keys.as_slice())?;
-            let valued = value_need(value)?;
-            let all = under(keys, valued.need.frame, 24)?;
-            Ok(and_code(all, valued.need.code)?)
-        }
-        TypedStmt::UpdateVar { value, .. } => {
-            let number = number_need(value)?;
-            Ok(more(16, number)?)
-        }
-        TypedStmt::UpdateMap { keys, value, .. } => {
-            let keys = values_need(keys.as_slice())?;
-            let number = number_need(value)?;
-            let all = under(keys, number.frame.max(16), 40)?;
-            Ok(and_code(all, number.code)?)
-        }
+        TypedStmt::SetMap { keys, value, .. } => Ok(set_map_need(keys.as_slice(), value)?),
+        TypedStmt::UpdateVar { value, .. } => Ok(more(16, number_need(value)?)?),
+        TypedStmt::UpdateMap { keys, value, .. } => Ok(update_map_need(keys.as_slice(), value)?),
         TypedStmt::Gather { keys, number, .. } => Ok(gather_need(keys.as_slice(), number)?),
         TypedStmt::Step(value) => Ok(number_need(value)?),
-        TypedStmt::Printf { values, .. } => {
-            let values = values_need(values.as_slice())?;
-            Ok(more(16, values.need)?)
-        }
+        TypedStmt::Printf { values, .. } => Ok(taking_need(values.as_slice())?),
         TypedStmt::Print { .. } => Ok(figures(0, 16)),
         TypedStmt::Clear(_) => Ok(figures(0, 12)),
         TypedStmt::Zero(_) => Ok(figures(0, 12)),
-        TypedStmt::Delete { keys, .. } => {
-            let keys = values_need(keys.as_slice())?;
-            Ok(more(16, keys.need)?)
-        }
+        TypedStmt::Delete { keys, .. } => Ok(taking_need(keys.as_slice())?),
         TypedStmt::Jump(to) => Ok(jump_need(*to)),
         TypedStmt::If { arms, otherwise } => {
             let arms = arms.as_slice();

@@ -115,10 +115,8 @@ pub fn number_need(e: &NumExpr) -> Result<Need, Memory>
     ensures { IfOk result (λ n. n ≡ number_need e.now) }
 {
     match e {
-        NumExpr::Number(_) => Ok(figures(8, 4)),
-        NumExpr::Builtin(_) => Ok(figures(8, 4)),
+        NumExpr::Number(_) | NumExpr::Builtin(_) | NumExpr::Var(_) => Ok(figures(8, 4)),
         NumExpr::Field(_) => Ok(figures(8, 8)),
-        NumExpr::Var(_) => Ok(figures(8, 4)),
         NumExpr::Map { keys, .. } => {
             let keys = values_need(keys.as_slice())?;
             Ok(under(keys, 8, 16)?)
@@ -144,13 +142,7 @@ pub fn number_need(e: &NumExpr) -> Result<Need, Memory>
             let left = more(48, left)?;
             Ok(then_beside(64, left, right)?)
         }
-        NumExpr::AndThen { left, right } => {
-            let left = number_need(left.get())?;
-            let right = number_need(right.get())?;
-            let both = greater(left, right)?;
-            Ok(more(16, both)?)
-        }
-        NumExpr::OrElse { left, right } => {
+        NumExpr::AndThen { left, right } | NumExpr::OrElse { left, right } => {
             let left = number_need(left.get())?;
             let right = number_need(right.get())?;
             let both = greater(left, right)?;
@@ -172,9 +164,7 @@ pub fn text_need(e: &StrExpr) -> Result<Need, Memory>
 {
     match e {
         StrExpr::Text(_) => Ok(figures(64, 32)),
-        StrExpr::Comm => Ok(figures(64, 24)),
-        StrExpr::Field(_) => Ok(figures(64, 24)),
-        StrExpr::Var(_) => Ok(figures(64, 24)),
+        StrExpr::Comm | StrExpr::Field(_) | StrExpr::Var(_) => Ok(figures(64, 24)),
         StrExpr::Map { keys, .. } => {
             let keys = values_need(keys.as_slice())?;
             Ok(under(keys, 64, 40)?)
