@@ -1,5 +1,5 @@
 -- A port over a probe's own maps serves its blocks.
-use Rattle.std.proofs.Common.{List, [], ◌∷◌, refl}
+use Rattle.std.proofs.Common.{◌≡◌, List, [], ◌∷◌, refl, sym, subst}
 use Rattle.bt_core.specs.declared.map.MapDecl.{MapDecl}
 use Rattle.bt_ir.specs.declared.blocks.Block.{Block}
 use Rattle.bt_ir.specs.declared.instr.Instr.{Instr}
@@ -39,6 +39,9 @@ instrs_served : (maps : List MapDecl) (xs : List Instr) → ServesInstrs maps ma
 instrs_served maps [] = tt
 instrs_served maps (x ∷ xs) = (instr_served maps x, instrs_served maps xs)
 
-pub blocks_served : (maps : List MapDecl) (bs : List Block) → ServesBlocks maps maps bs
+blocks_served : (maps : List MapDecl) (bs : List Block) → ServesBlocks maps maps bs
 blocks_served maps [] = tt
 blocks_served maps (b ∷ bs) = (instrs_served maps b.instrs, blocks_served maps bs)
+
+pub own_maps : (served maps : List MapDecl) (bs : List Block) → served ≡ maps → ServesBlocks served maps bs
+own_maps served maps bs e = subst (λ (m : List MapDecl). ServesBlocks m maps bs) (sym e) (blocks_served maps bs)
