@@ -10,7 +10,9 @@ use std::time::Instant;
 fn large_text(alloc: Global) -> Result<Vec<u8>, Memory> {
     let mut text = Vec::from_slice(alloc, b"BEGIN { ")?;
     for _ in 0..255 {
-        text.extend_from_slice(b"if (@a == 1) { @b = 2; } else { @c++; } unroll (2) { @d++; }    ")?;
+        text.extend_from_slice(
+            b"if (@a == 1) { @b = 2; } else { @c++; } unroll (2) { @d++; }    ",
+        )?;
         for _ in 0..24 {
             text.extend_from_slice(b"@x = 1; ")?;
         }

@@ -6,7 +6,11 @@ use std::test::Fail;
 /// The text of a script with one body, and the bytes of frame and the slots of code that the body needs.
 const NEEDS: [(&[u8], u64, u64); 4] = [
     // 24 of the body, and the command's name in the key: 64. 32 of the body, 24 of the aggregation, 24 of the name.
-    (b"tracepoint:raw_syscalls:sys_enter { @[comm] = count(); }", 88, 80),
+    (
+        b"tracepoint:raw_syscalls:sys_enter { @[comm] = count(); }",
+        88,
+        80,
+    ),
     // The step of a map needs 16 bytes and 32 slots.
     (b"tracepoint:t:e { @x++; }", 40, 64),
     // `args.v / 2 > 0`: 8 bytes on the left, and 8 more on the right; 8 + 12 + 4 + 12 + 4 slots and 8 of the predicate; the
