@@ -17,7 +17,7 @@ fn large_text(alloc: Global) -> Result<Vec<u8>, Memory> {
             text.extend_from_slice(b"@x = 1; ")?;
         }
     }
-    while text.len() < 65_535 {
+    for _ in text.len()..65_535 {
         text.push(b' ')?;
     }
     text.push(b'}')?;
