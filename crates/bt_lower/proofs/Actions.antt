@@ -1,9 +1,6 @@
 -- Lowering of each kind of single statement.
-use Rattle.std.proofs.Common.{◌≡◌, ℕ, zero, suc, ◌+◌, ◌≤◌, ◌<◌, List, [], ◌∷◌, ◌++◌, length, refl, sym, ap, ◌∙◌, subst, arith, append_assoc, append-nil, length-append, Bool, true, false, Option, Some, None}
-use Rattle.std.specs.Prelude.{ℤ, pos, max, cond, not, slice_get, ◌&&◌}
-use Rattle.std.proofs.Math.Nat.{le-max_left, le-max_right, max-le}
-use Rattle.bt_core.specs.declared.ending.Ending.{Ending}
-use Rattle.bt_core.specs.declared.map.MapDecl.{MapDecl}
+use Rattle.std.proofs.Common.{◌≡◌, ℕ, ◌+◌, List, [], ◌∷◌, ◌++◌, length, refl, sym, ap, ◌∙◌, arith, append_assoc, length-append, Bool}
+use Rattle.std.specs.Prelude.{ℤ, pos}
 use Rattle.bt_core.specs.declared.map.MapId.{MapId}
 use Rattle.bt_core.specs.declared.map.Shape.{Shape}
 use Rattle.bt_core.specs.declared.map.Shape.TheVariants as shapes
@@ -12,25 +9,23 @@ use Rattle.bt_core.specs.declared.step.ObjectId.TheVariants.{Cpu, Out}
 use Rattle.bt_core.specs.declared.step.Op.TheVariants as ops
 use Rattle.bt_core.specs.declared.item.Item.TheVariants as items
 use Rattle.bt_core.specs.declared.value.Value.{Value}
-use Rattle.bt_core.specs.declared.value.Value.TheVariants.{Int, Str}
-use Rattle.bt_core.specs.Interaction.{Interaction, Ended, Asks, and_then}
+use Rattle.bt_core.specs.declared.value.Value.TheVariants.{Int}
+use Rattle.bt_core.specs.Interaction.{Interaction, Ended, and_then}
 use Rattle.bt_core.proofs.InteractionLaws.{and_then_assoc}
 use Rattle.bt_core.specs.Arithmetic.{binary_value}
 use Rattle.typed_tree.specs.Parts.{Part}
-use Rattle.typed_tree.specs.Scope.{Scope, all_fit, fits}
 use Rattle.bt_walk.specs.declared.flow.Flow.{Flow}
 use Rattle.bt_walk.specs.declared.flow.Flow.TheVariants.{Next}
 use Rattle.bt_walk.specs.declared.flow.Frame.{Frame}
-use Rattle.bt_walk.specs.Does.{Does, given, seen, changed, asked, bind, told, then, in_order}
+use Rattle.bt_walk.specs.Does.{Does, given, seen, changed, asked, bind, in_order}
 use Rattle.bt_walk.specs.Does.{Scene as Walked}
 use Rattle.bt_walk.specs.Exprs.{number_value}
 use Rattle.bt_walk.specs.Maps.{with_variable, variable}
 use Rattle.bt_walk.specs.Stmts.{set_variable, set_map, update_variable, update_map, gather, printf, delete_at, plain}
-use Rattle.bt_ir.specs.declared.instr.Instr.{Instr}
 use Rattle.bt_ir.specs.declared.instr.Instr.TheVariants as i
-use Rattle.bt_ir.specs.Asking.{part, got, told as asks_for}
+use Rattle.bt_ir.specs.Asking.{part, told as asks_for}
 use Rattle.bt_ir.specs.Meaning.{instr_run, updated}
-use Rattle.bt_ir.specs.Typing.{takes, gives, last_of, front_of}
+use Rattle.bt_ir.specs.Typing.{last_of, front_of}
 use Rattle.bt_ir.specs.Values.{top, below, number_of}
 use Rattle.bt_lower.specs.Lowers.{state, seen_by}
 use Rattle.bt_lower.specs.Sound.{Site}
@@ -77,6 +72,7 @@ pub set_var-acts : (qs : Bool → List Part) (x : ℕ) (shape : Shape) (d : Does
 unfolding given bind changed
 set_var-acts qs x shape d = record {
   takes_them = refl;
+  reads_none = refl;
   gives_none = refl;
   is = λ w frame. simp and_then_assoc;
   runs = λ s inside fits w same frame values vs long. stored s w frame values vs long;
@@ -95,6 +91,7 @@ pub update_var-acts : (qs : Bool → List Part) (x : ℕ) (op : BinOp) (d : Does
 unfolding given bind changed seen
 update_var-acts qs x op d = record {
   takes_them = refl;
+  reads_none = refl;
   gives_none = refl;
   is = λ w frame. simp and_then_assoc;
   runs = λ s inside fits w same frame values vs long. stored s w frame values vs long;
@@ -112,6 +109,7 @@ pub step-acts : (qs : Bool → List Part) (d : Does ℤ) → Acts qs i.Pop (numb
 unfolding given bind
 step-acts qs d = record {
   takes_them = refl;
+  reads_none = refl;
   gives_none = refl;
   is = λ w frame. simp and_then_assoc;
   runs = λ s inside fits w same frame values vs long. popped s w frame values vs long;
@@ -127,6 +125,7 @@ pub delete-acts : (qs : Bool → List Part) (m : MapId) (key : List Shape) (ds :
 unfolding given bind asked
 delete-acts qs m key ds = record {
   takes_them = refl;
+  reads_none = refl;
   gives_none = refl;
   is = λ w frame. simp and_then_assoc;
   runs = λ s inside fits w same frame values vs long.
@@ -139,6 +138,7 @@ pub count-acts : (qs : Bool → List Part) (m : MapId) (key : List Shape) (ds : 
 unfolding given bind asked seen
 count-acts qs m key ds = record {
   takes_them = refl;
+  reads_none = refl;
   gives_none = refl;
   is = λ w frame. simp and_then_assoc;
   runs = λ s inside fits w same frame values vs long.
@@ -151,6 +151,7 @@ pub printf-acts : (qs : Bool → List Part) (format : ℕ) (key : List Shape) (d
 unfolding given bind asked
 printf-acts qs format key ds = record {
   takes_them = refl;
+  reads_none = refl;
   gives_none = refl;
   is = λ w frame. simp and_then_assoc;
   runs = λ s inside fits w same frame values vs long.
@@ -163,6 +164,7 @@ pub set-acts : (qs : Bool → List Part) (m : MapId) (key : List Shape) (shape :
 unfolding given bind asked
 set-acts qs m key shape ds d = record {
   takes_them = refl;
+  reads_none = refl;
   gives_none = refl;
   is = λ w frame. keyed-is ds d w frame (λ ks v f. and_then (asks_for (part m ks) (ops.Set ks v)) (λ u. Ended (Next, f)));
   runs = λ s inside fits w same frame values vs long.
@@ -174,6 +176,7 @@ pub update-acts : (qs : Bool → List Part) (m : MapId) (key : List Shape) (op :
 unfolding given bind asked
 update-acts qs m key op ds d = record {
   takes_them = refl;
+  reads_none = refl;
   gives_none = refl;
   is = λ w frame. and_then-same (in_order ds w frame) _ _ (λ p. sym (and_then_assoc (d w p.1) (λ q. Ended (Int q.0, q.1)) (λ q. and_then (updated m p.0 op (number_of q.0)) (λ u. Ended (Next, q.1)))))
       ∙ keyed-is ds (number_value d) w frame (λ ks v f. and_then (updated m ks op (number_of v)) (λ u. Ended (Next, f)));
@@ -186,6 +189,7 @@ pub add-acts : (qs : Bool → List Part) (m : MapId) (key : List Shape) (ds : Li
 unfolding given bind asked seen
 add-acts qs m key ds d = record {
   takes_them = refl;
+  reads_none = refl;
   gives_none = refl;
   is = λ w frame. and_then-same (in_order ds w frame) _ _ (λ p. sym (and_then_assoc (d w p.1) (λ q. Ended (Int q.0, q.1)) (λ q. and_then (asks_for (Cpu w.actor) (ops.Add m p.0 (number_of q.0))) (λ u. Ended (Next, q.1)))))
       ∙ keyed-is ds (number_value d) w frame (λ ks v f. and_then (asks_for (Cpu w.actor) (ops.Add m ks (number_of v))) (λ u. Ended (Next, f)));

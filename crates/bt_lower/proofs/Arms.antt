@@ -1,6 +1,6 @@
 -- Lowering of each kind of expression, by its tree.
-use Rattle.std.proofs.Common.{◌≡◌, ℕ, zero, suc, ◌+◌, ◌≤◌, ◌<◌, ◌-◌, List, [], ◌∷◌, ◌++◌, length, refl, sym, ap, ◌∙◌, subst, arith, append_assoc, append-nil, length-append, Bool, true, false, Option, Some, drop, drop-cons, get_or}
-use Rattle.std.specs.Prelude.{ℤ, pos, max, cond, slice_get, ◌&&◌}
+use Rattle.std.proofs.Common.{◌≡◌, ℕ, zero, suc, ◌+◌, ◌≤◌, ◌<◌, ◌-◌, List, [], ◌∷◌, ◌++◌, length, refl, sym, ap, ◌∙◌, subst, arith, Bool, true, false, drop, drop-cons, get_or}
+use Rattle.std.specs.Prelude.{ℤ, pos, max, cond, slice_get}
 use Rattle.std.proofs.Math.Nat.{le-max_left, le-max_right, max-le}
 use Rattle.std.proofs.lemmas.Bool.{and_parts}
 use Rattle.std.proofs.lemmas.List.{drop_all}
@@ -11,9 +11,10 @@ use Rattle.bt_core.specs.declared.operator.BinOp.{BinOp}
 use Rattle.bt_core.specs.declared.operator.UnOp.{UnOp}
 use Rattle.bt_core.specs.declared.value.Value.{Value}
 use Rattle.bt_core.specs.declared.value.Value.TheVariants.{Int, Str}
-use Rattle.bt_core.specs.Interaction.{Interaction, Ended, and_then}
+use Rattle.bt_core.specs.Interaction.{Ended, and_then}
 use Rattle.bt_core.proofs.InteractionLaws.{and_then_assoc}
 use Rattle.tracefs_format.specs.declared.field.Field.{Field}
+use Rattle.tracefs_format.specs.Sizes.{end_of}
 use Rattle.typed_tree.specs.declared.expr.AnyExpr.{AnyExpr}
 use Rattle.typed_tree.specs.declared.expr.AnyExpr.TheVariants as anys
 use Rattle.typed_tree.specs.declared.expr.NumBuiltin.{NumBuiltin}
@@ -22,25 +23,26 @@ use Rattle.typed_tree.specs.declared.expr.NumExpr.TheVariants as nums
 use Rattle.typed_tree.specs.declared.expr.StrExpr.{StrExpr}
 use Rattle.typed_tree.specs.declared.expr.StrExpr.TheVariants as strs
 use Rattle.typed_tree.specs.Parts.{Part, Made, made_of, num_parts, str_parts, parts_in, key_shapes, compared}
-use Rattle.typed_tree.specs.Parts.{Constant, Literal, Numeric, Command, FieldOf, VarOf, MapOf, Stepped, Prefixed, Joined, Both, Either, Chosen}
+use Rattle.typed_tree.specs.Parts.{Constant, Literal, Numeric, Command, FieldOf, VarOf, MapOf, Stepped, Joined, Both, Either, Chosen}
 use Rattle.typed_tree.specs.Scope.{Scope, all_fit, fits, is_shape, shape_of_field, has_field}
 use Rattle.event_record.specs.Fields.{field_number, field_text}
 use Rattle.bt_walk.specs.declared.flow.Frame.{Frame}
-use Rattle.bt_walk.specs.Does.{Does, given, seen, changed, bind, choose, either, holds, in_order}
+use Rattle.bt_walk.specs.Does.{Does, given, seen, changed, bind, choose, either, holds}
 use Rattle.bt_walk.specs.Does.{Scene as Walked}
-use Rattle.bt_walk.specs.Exprs.{value_does, values_do, number_does, text_does, number_value, text_value, tested, and_also, or_else, number_field, text_field, step_variable, step_map, builtin, command}
-use Rattle.bt_walk.specs.Maps.{number_variable, text_variable, assigned, with_variable, variable, next, number_of, text_of}
+use Rattle.bt_walk.specs.Exprs.{value_does, values_do, number_does, text_does, number_value, text_value, tested, number_field, text_field, step_variable, step_map}
+use Rattle.bt_walk.specs.Maps.{number_variable, text_variable, with_variable, variable, next, number_of, text_of}
 use Rattle.bt_walk.proofs.ExprDoes.{number_num, builtin_num, field_num, var_num, map_num, stepvar_num, stepmap_num, unary_num, binary_num, compare_num, andthen_num, orelse_num, choose_num, text_str, comm_str, field_str, var_str, map_str, choose_str, num_any, str_any}
 use Rattle.bt_ir.specs.declared.blocks.Exit.TheVariants.{Goto, Branch}
 use Rattle.bt_ir.specs.declared.instr.Instr.TheVariants as i
-use Rattle.bt_ir.specs.Figures.{size_of, sizes_of, by_shape}
+use Rattle.bt_ir.specs.Figures.{size_of, sizes_of}
 use Rattle.bt_ir.specs.Meaning.{stepped}
 use Rattle.bt_ir.specs.Values.{shape_of}
 use Rattle.bt_lower.specs.declared.code.Code.{Code}
 use Rattle.bt_lower.specs.Code.{pushed, begun, closed, untyped}
-use Rattle.bt_lower.specs.Lowers.{LowersParts, LowersValue, LowersNumber, LowersText, LowersAny, LowersList, LowersArm, all_made, known_need}
-use Rattle.bt_lower.specs.Needs.{Need, need, more, greater, beside, list_frame, sizes_in, codes_in, value_need, values_need, number_need, text_need}
+use Rattle.bt_lower.specs.Lowers.{LowersValue, LowersNumber, LowersText, LowersAny, LowersList, LowersArm, all_made, known_need}
+use Rattle.bt_lower.specs.Needs.{Need, need, more, greater, list_frame, codes_in, value_need, values_need, number_need, text_need}
 use Rattle.bt_lower.specs.Sound.{Site}
+use Rattle.bt_lower.proofs.Opening.{none-read}
 use Rattle.bt_lower.proofs.Exprs.{Parts-none, Parts-less, Parts-fit, Parts-append, Parts-put}
 use Rattle.bt_lower.proofs.Choices.{Lowers-arm, Lowers-either}
 use Rattle.bt_lower.proofs.Blocks.{and_then-same}
@@ -74,9 +76,12 @@ N-Builtin e b c new he en = num-is e (nums.Builtin b) _ _ _ c new he (tree.num-B
 field-names : (s : Site) (f : Field) (shape : Shape) → fits s.scope (FieldOf f shape) ≡ true → is_shape (shape_of_field f.kind) shape ≡ true
 field-names s f shape h = (and_parts (has_field s.scope.layout f) (is_shape (shape_of_field f.kind) shape) h).1
 
+field-reads : (s : Site) (f : Field) (shape : Shape) → fits s.scope (FieldOf f shape) ≡ true → end_of f ≤ s.ground.payload
+field-reads s f shape h = s.agrees.fields f (and_parts (has_field s.scope.layout f) (is_shape (shape_of_field f.kind) shape) h).0
+
 number-field : (f : Field) (c new : Code) → new ≡ pushed (i.NumberField f) c → LowersValue (FieldOf f shapes.Int ∷ []) (number_value (number_field f)) shapes.Int (need 8 8) c new
 unfolding given bind seen
-number-field f c new en = Lowers-leaf (i.NumberField f) (FieldOf f shapes.Int) shapes.Int (number_value (number_field f)) (λ w frame. Int (field_number f w.payload)) (λ frame. frame) (need 8 8) c new refl refl (omega arith) (λ w frame. refl) (λ maps w frame values. refl) (λ frame. refl) (λ s h. field-names s f shapes.Int h) (omega arith) (omega arith) en
+number-field f c new en = Lowers-leaf (i.NumberField f) (FieldOf f shapes.Int) shapes.Int (number_value (number_field f)) (λ w frame. Int (field_number f w.payload)) (λ frame. frame) (need 8 8) c new refl refl (omega arith) (λ w frame. refl) (λ maps w frame values. refl) (λ frame. refl) (λ s h. field-names s f shapes.Int h) (λ s h. field-reads s f shapes.Int h) (omega arith) (omega arith) en
 
 pub N-Field : (e : NumExpr) (f : Field) (c new : Code) → e ≡ nums.Field f → new ≡ pushed (i.NumberField f) c → LowersNumber e c new
 N-Field e f c new he en = num-is e (nums.Field f) _ _ _ c new he (tree.num-Field-parts f) (field_num (nums.Field f) f refl) (tree.num-Field-need f) (number-field f c new en)
@@ -86,7 +91,7 @@ var-names s x shape h = ap (λ (l : List Shape). is_shape (slice_get l x) shape)
 
 number-var : (x : ℕ) (c new : Code) → new ≡ pushed (i.Load x shapes.Int) c → LowersValue (VarOf x shapes.Int ∷ []) (number_value (number_variable x)) shapes.Int (need 8 4) c new
 unfolding given bind seen
-number-var x c new en = Lowers-leaf (i.Load x shapes.Int) (VarOf x shapes.Int) shapes.Int (number_value (number_variable x)) (λ w frame. Int (number_of (variable x frame))) (λ frame. frame) (need 8 4) c new refl refl (omega arith) (λ w frame. refl) (λ maps w frame values. refl) (λ frame. refl) (λ s h. var-names s x shapes.Int h) (omega arith) (omega arith) en
+number-var x c new en = Lowers-leaf (i.Load x shapes.Int) (VarOf x shapes.Int) shapes.Int (number_value (number_variable x)) (λ w frame. Int (number_of (variable x frame))) (λ frame. frame) (need 8 4) c new refl refl (omega arith) (λ w frame. refl) (λ maps w frame values. refl) (λ frame. refl) (λ s h. var-names s x shapes.Int h) (λ s f. none-read s.ground.payload) (omega arith) (omega arith) en
 
 pub N-Var : (e : NumExpr) (x : ℕ) (c new : Code) → e ≡ nums.Var x → new ≡ pushed (i.Load x shapes.Int) c → LowersNumber e c new
 N-Var e x c new he en = num-is e (nums.Var x) _ _ _ c new he (tree.num-Var-parts x) (var_num (nums.Var x) x refl) (tree.num-Var-need x) (number-var x c new en)
@@ -95,7 +100,7 @@ step-var : (x : ℕ) (plus prefix : Bool) (c new : Code) → new ≡ pushed (i.S
 unfolding given bind seen changed
 step-var x plus prefix c new en =
     Lowers-leaf (i.StepVar x plus prefix) (VarOf x shapes.Int) shapes.Int (number_value (step_variable x plus prefix)) (λ w frame. Int (cond prefix (next plus (number_of (variable x frame))) (number_of (variable x frame)))) (λ frame. with_variable x (Int (next plus (number_of (variable x frame)))) frame) (need 8 12) c new
-    refl refl (omega arith) (λ w frame. refl) (λ maps w frame values. refl) (λ frame. refl) (λ s h. var-names s x shapes.Int h) (omega arith) (omega arith) en
+    refl refl (omega arith) (λ w frame. refl) (λ maps w frame values. refl) (λ frame. refl) (λ s h. var-names s x shapes.Int h) (λ s f. none-read s.ground.payload) (omega arith) (omega arith) en
 
 pub N-StepVar : (e : NumExpr) (x : ℕ) (plus prefix : Bool) (c new : Code) → e ≡ nums.StepVar x plus prefix → new ≡ pushed (i.StepVar x plus prefix) c → LowersNumber e c new
 N-StepVar e x plus prefix c new he en =
@@ -110,14 +115,14 @@ S-Comm e c new he en = str-is e strs.Comm _ _ _ c new he tree.str-Comm-parts (co
 
 text-field : (f : Field) (c new : Code) → new ≡ pushed (i.TextField f) c → LowersValue (FieldOf f shapes.Str ∷ []) (text_value (text_field f)) shapes.Str (need 64 24) c new
 unfolding given bind seen
-text-field f c new en = Lowers-leaf (i.TextField f) (FieldOf f shapes.Str) shapes.Str (text_value (text_field f)) (λ w frame. Str (field_text f w.payload)) (λ frame. frame) (need 64 24) c new refl refl (omega arith) (λ w frame. refl) (λ maps w frame values. refl) (λ frame. refl) (λ s h. field-names s f shapes.Str h) (omega arith) (omega arith) en
+text-field f c new en = Lowers-leaf (i.TextField f) (FieldOf f shapes.Str) shapes.Str (text_value (text_field f)) (λ w frame. Str (field_text f w.payload)) (λ frame. frame) (need 64 24) c new refl refl (omega arith) (λ w frame. refl) (λ maps w frame values. refl) (λ frame. refl) (λ s h. field-names s f shapes.Str h) (λ s h. field-reads s f shapes.Str h) (omega arith) (omega arith) en
 
 pub S-Field : (e : StrExpr) (f : Field) (c new : Code) → e ≡ strs.Field f → new ≡ pushed (i.TextField f) c → LowersText e c new
 S-Field e f c new he en = str-is e (strs.Field f) _ _ _ c new he (tree.str-Field-parts f) (field_str (strs.Field f) f refl) (tree.str-Field-need f) (text-field f c new en)
 
 text-var : (x : ℕ) (c new : Code) → new ≡ pushed (i.Load x shapes.Str) c → LowersValue (VarOf x shapes.Str ∷ []) (text_value (text_variable x)) shapes.Str (need 64 24) c new
 unfolding given bind seen
-text-var x c new en = Lowers-leaf (i.Load x shapes.Str) (VarOf x shapes.Str) shapes.Str (text_value (text_variable x)) (λ w frame. Str (text_of (variable x frame))) (λ frame. frame) (need 64 24) c new refl refl (omega arith) (λ w frame. refl) (λ maps w frame values. refl) (λ frame. refl) (λ s h. var-names s x shapes.Str h) (omega arith) (omega arith) en
+text-var x c new en = Lowers-leaf (i.Load x shapes.Str) (VarOf x shapes.Str) shapes.Str (text_value (text_variable x)) (λ w frame. Str (text_of (variable x frame))) (λ frame. frame) (need 64 24) c new refl refl (omega arith) (λ w frame. refl) (λ maps w frame values. refl) (λ frame. refl) (λ s h. var-names s x shapes.Str h) (λ s f. none-read s.ground.payload) (omega arith) (omega arith) en
 
 pub S-Var : (e : StrExpr) (x : ℕ) (c new : Code) → e ≡ strs.Var x → new ≡ pushed (i.Load x shapes.Str) c → LowersText e c new
 S-Var e x c new he en = str-is e (strs.Var x) _ _ _ c new he (tree.str-Var-parts x) (var_str (strs.Var x) x refl) (tree.str-Var-need x) (text-var x c new en)
@@ -216,7 +221,7 @@ N-StepMap e m keys es plus prefix shape c c1 new he hk hs e1 l0 =
     (Parts-fit (MapOf m.0 ks shapes.Int ∷ ps) (Stepped plus prefix ∷ MapOf m.0 ks shapes.Int ∷ ps) _ _ _ c new (λ s h. (fit-head s (Stepped plus prefix) (MapOf m.0 ks shapes.Int ∷ ps) h).1)
     (Parts-put (i.StepMap m ks plus prefix) ps (MapOf m.0 ks shapes.Int) (values_do keys) ks shapes.Int (number_value (step_map m (values_do keys) plus prefix)) (λ w vs frame. stepped m vs plus prefix) (λ w vs frame a. a) (λ vs frame a. frame)
     (need (list_frame (values_need keys)) (codes_in (values_need keys))) c c1 new (stepped-puts m ks (values_do keys) plus prefix)
-    (λ s f. let p = fit-head s.scope (MapOf m.0 ks shapes.Int) ps f in (map_names s m ks shapes.Int p.0, p.1)) (e1 ∙ ap (λ x. pushed (i.StepMap m x plus prefix) c) hs) l.lowered)))
+    (λ s f. let p = fit-head s.scope (MapOf m.0 ks shapes.Int) ps f in (map_names s m ks shapes.Int p.0, p.1)) (λ s f. none-read s.ground.payload) (e1 ∙ ap (λ x. pushed (i.StepMap m x plus prefix) c) hs) l.lowered)))
 
 -- ---- choices
 
@@ -228,7 +233,7 @@ pub Lowers-known : (v : Value) (c new : Code) → new ≡ pushed (i.Put v) c →
 unfolding given
 Lowers-known v c new en =
     Parts-fit (Both ∷ []) [] _ _ _ c new (λ s h. h)
-    (Lowers-leaf (i.Put v) Both (shape_of v) (given v) (λ w frame. v) (λ frame. frame) (known_need v) c new refl refl (omega arith) (λ w frame. refl) (λ maps w frame values. refl) (λ frame. refl) (λ s f. refl) (known-size v) (omega arith) en)
+    (Lowers-leaf (i.Put v) Both (shape_of v) (given v) (λ w frame. v) (λ frame. frame) (known_need v) c new refl refl (omega arith) (λ w frame. refl) (λ maps w frame values. refl) (λ frame. refl) (λ s f. refl) (λ s f. none-read s.ground.payload) (known-size v) (omega arith) en)
 
 choose-number : (b : Bool) (x y : Does ℤ) (w : Walked) (frame : Frame) → and_then (choose b x y w frame) (λ p. Ended (Int p.0, p.1)) ≡ choose b (number_value x) (number_value y) w frame
 unfolding choose bind given

@@ -1,39 +1,38 @@
 -- Lowering of choices between expressions.
-use Rattle.std.proofs.Common.{◌≡◌, ℕ, zero, suc, ◌+◌, ◌≤◌, ◌<◌, List, [], ◌∷◌, ◌++◌, length, reverse, refl, sym, ap, ◌∙◌, subst, arith, append_assoc, append-nil, length-append, Bool, true, false, Option, Some}
-use Rattle.std.specs.Prelude.{ℤ, max, cond, slice_get}
+use Rattle.std.proofs.Common.{◌≡◌, ℕ, ◌+◌, ◌≤◌, List, [], ◌∷◌, ◌++◌, length, refl, sym, ap, ◌∙◌, subst, arith, Bool, true, false}
+use Rattle.std.specs.Prelude.{ℤ, max, cond}
 use Rattle.std.proofs.Math.Nat.{le-max_left, le-max_right}
 use Rattle.bt_core.specs.declared.ending.Ending.{Ending}
 use Rattle.bt_core.specs.declared.map.MapDecl.{MapDecl}
 use Rattle.bt_core.specs.declared.map.Shape.{Shape}
 use Rattle.bt_core.specs.declared.map.Shape.TheVariants as shapes
 use Rattle.bt_core.specs.declared.value.Value.{Value}
-use Rattle.bt_core.specs.declared.value.Value.TheVariants.{Int, Str}
-use Rattle.bt_core.specs.Interaction.{Interaction, Ended, Asks, and_then}
+use Rattle.bt_core.specs.declared.value.Value.TheVariants.{Int}
+use Rattle.bt_core.specs.Interaction.{Interaction, Ended, and_then}
 use Rattle.bt_core.proofs.InteractionLaws.{and_then_assoc}
 use Rattle.typed_tree.specs.Parts.{Part}
 use Rattle.typed_tree.specs.Scope.{Scope, all_fit}
 use Rattle.bt_walk.specs.declared.flow.Frame.{Frame}
-use Rattle.bt_walk.specs.Does.{Does, given, bind, choose, either, holds, gathered, in_order}
+use Rattle.bt_walk.specs.Does.{Does, given, bind, choose, either, holds, in_order}
 use Rattle.bt_walk.specs.Does.{Scene as Walked}
 use Rattle.bt_walk.specs.Exprs.{number_value}
 use Rattle.bt_ir.specs.declared.blocks.Block.{Block}
 use Rattle.bt_ir.specs.declared.blocks.Exit.TheVariants.{Goto, Branch}
 use Rattle.bt_ir.specs.declared.stack.State.{State}
-use Rattle.bt_ir.specs.declared.stack.Way.{Way}
 use Rattle.bt_ir.specs.declared.stack.Way.TheVariants.{To}
-use Rattle.bt_ir.specs.Figures.{size_of, sizes_of}
-use Rattle.bt_ir.specs.Meaning.{Scene, run_from, goes_on, with_stack, popped}
+use Rattle.bt_ir.specs.Figures.{sizes_of}
+use Rattle.bt_ir.specs.Meaning.{Scene, run_from, goes_on}
 use Rattle.bt_ir.specs.Typing.{front_of}
 use Rattle.bt_ir.specs.Values.{top, below, number_of}
 use Rattle.bt_lower.specs.declared.code.Code.{Code}
-use Rattle.bt_lower.specs.Code.{pushed, begun, closed, untyped, open_block, code_slots}
-use Rattle.bt_lower.specs.Lowers.{Stand, Grew, Runs, Reaches, state, seen_by, LowersParts, LowersValue, LowersArm}
-use Rattle.bt_lower.specs.Needs.{Need, need, more, greater}
-use Rattle.bt_lower.specs.Sound.{Site, HasRoom, Opens, Sound, Target}
-use Rattle.bt_lower.proofs.Blocks.{and_then-same, Grew-refl, Grew-trans, Grew-one, Grew-length, Stand-later, Stand-before, Runs-is, Runs-more, Runs-goto, Reaches-close, Reaches-more, closed-length}
+use Rattle.bt_lower.specs.Code.{begun, closed, untyped, open_block}
+use Rattle.bt_lower.specs.Lowers.{Stand, Grew, Runs, Reaches, state, seen_by, LowersValue, LowersArm}
+use Rattle.bt_lower.specs.Needs.{Need, need, more}
+use Rattle.bt_lower.specs.Sound.{Target}
+use Rattle.bt_lower.proofs.Blocks.{and_then-same, Grew-trans, Grew-one, Grew-length, Stand-later, Stand-before, Runs-is, Runs-goto, Reaches-close, Reaches-more, closed-length}
 use Rattle.bt_lower.proofs.Exprs.{in_order-one}
-use Rattle.bt_lower.proofs.Lists.{top-append, below-append, front-append, sizes-append, fit-parts}
-use Rattle.bt_lower.proofs.Opening.{Room-less, Sound-none, Sound-join, Sound-close, Target-close, Target-later, Opens-goto, Opens-branch}
+use Rattle.bt_lower.proofs.Lists.{top-append, below-append, front-append, sizes-append}
+use Rattle.bt_lower.proofs.Opening.{Room-less, Sound-join, Sound-close, Target-close, Target-later, Opens-goto, Opens-branch}
 use Rattle.bt_lower.proofs.Slots.{slots-closed, slots-untyped, slots-begun}
 
 one_value : (vs : List Value) → length vs ≡ 1 → (v : Value) × (vs ≡ v ∷ [])

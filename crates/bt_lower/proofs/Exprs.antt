@@ -1,38 +1,31 @@
 -- Lowering of expressions, construct by construct.
-use Rattle.std.proofs.Common.{◌≡◌, ℕ, suc, ◌+◌, ◌≤◌, ◌<◌, List, [], ◌∷◌, ◌++◌, length, reverse, refl, sym, ap, ◌∙◌, subst, arith, append_assoc, append-nil, length-append, Bool, true, false, Option, Some}
-use Rattle.std.specs.Prelude.{max, cond, slice_get}
+use Rattle.std.proofs.Common.{◌≡◌, ◌+◌, ◌≤◌, List, [], ◌∷◌, ◌++◌, length, refl, sym, ap, ◌∙◌, subst, arith, append_assoc, append-nil, length-append, true}
+use Rattle.std.specs.Prelude.{max}
 use Rattle.std.proofs.Math.Nat.{le-max_left, le-max_right}
-use Rattle.bt_core.specs.declared.ending.Ending.{Ending}
 use Rattle.bt_core.specs.declared.map.MapDecl.{MapDecl}
 use Rattle.bt_core.specs.declared.map.Shape.{Shape}
-use Rattle.bt_core.specs.declared.map.Shape.TheVariants as shapes
 use Rattle.bt_core.specs.declared.value.Value.{Value}
-use Rattle.bt_core.specs.declared.value.Value.TheVariants.{Int, Str}
-use Rattle.bt_core.specs.Interaction.{Interaction, Ended, Asks, and_then}
-use Rattle.bt_core.proofs.InteractionLaws.{and_then_assoc, and_then-Ended}
+use Rattle.bt_core.specs.Interaction.{Interaction, Ended, and_then}
+use Rattle.bt_core.proofs.InteractionLaws.{and_then_assoc}
 use Rattle.typed_tree.specs.Parts.{Part}
 use Rattle.typed_tree.specs.Scope.{Scope, all_fit}
 use Rattle.bt_walk.specs.declared.flow.Frame.{Frame}
-use Rattle.bt_walk.specs.Does.{Does, given, bind, choose, either, holds, gathered, in_order}
+use Rattle.bt_walk.specs.Does.{Does, given, bind, gathered, in_order}
 use Rattle.bt_walk.specs.Does.{Scene as Walked}
-use Rattle.bt_walk.specs.Exprs.{number_value}
-use Rattle.bt_ir.specs.declared.blocks.Block.{Block}
-use Rattle.bt_ir.specs.declared.blocks.Exit.TheVariants.{Goto, Branch}
 use Rattle.bt_ir.specs.declared.instr.Instr.{Instr}
-use Rattle.bt_ir.specs.declared.stack.State.{State}
-use Rattle.bt_ir.specs.Figures.{size_of, sizes_of, instr_slots, instr_bytes}
-use Rattle.bt_ir.specs.Meaning.{Scene, instr_run, run_from}
-use Rattle.bt_ir.specs.Typing.{Ground, takes, gives, names}
-use Rattle.bt_ir.specs.Values.{top, below, number_of}
+use Rattle.bt_ir.specs.Figures.{sizes_of, instr_slots, instr_bytes}
+use Rattle.bt_ir.specs.Meaning.{instr_run}
+use Rattle.bt_ir.specs.Running.{end_read}
+use Rattle.bt_ir.specs.Typing.{takes, gives, names}
 use Rattle.bt_lower.specs.declared.code.Code.{Code}
-use Rattle.bt_lower.specs.Code.{pushed, begun, closed, untyped, open_block, code_slots, taken_back}
-use Rattle.bt_lower.specs.Lowers.{Stand, Grew, Runs, Reaches, state, seen_by, LowersParts, LowersValue, LowersArm}
-use Rattle.bt_lower.specs.Needs.{Need, need, more, greater}
-use Rattle.bt_lower.specs.Sound.{Site, HasRoom, Opens, Sound, Target}
-use Rattle.bt_lower.proofs.Blocks.{and_then-same, Grew-refl, Grew-trans, Grew-one, Grew-length, Stand-later, Stand-before, Runs-is, Runs-more, Runs-push, Runs-goto, Reaches-close, Reaches-more, closed-length}
-use Rattle.bt_lower.proofs.Lists.{top-append, below-append, front-append, front-none, sizes-append, fit-parts, fit-head}
-use Rattle.bt_lower.proofs.Opening.{Room-less, Sound-none, Sound-join, Sound-close, Target-close, Target-later, Opens-push, Opens-goto, Opens-branch, pushed-stack}
-use Rattle.bt_lower.proofs.Slots.{slots-pushed, slots-closed, slots-untyped, slots-begun}
+use Rattle.bt_lower.specs.Code.{pushed}
+use Rattle.bt_lower.specs.Lowers.{Runs, state, seen_by, LowersParts, LowersValue}
+use Rattle.bt_lower.specs.Needs.{Need, need}
+use Rattle.bt_lower.specs.Sound.{ground_in, Site}
+use Rattle.bt_lower.proofs.Blocks.{and_then-same, Grew-refl, Grew-trans, Grew-length, Stand-later, Stand-before, Runs-is, Runs-push}
+use Rattle.bt_lower.proofs.Lists.{sizes-append, fit-parts}
+use Rattle.bt_lower.proofs.Opening.{Room-less, Sound-none, Sound-join, Opens-push, pushed-stack}
+use Rattle.bt_lower.proofs.Slots.{slots-pushed}
 
 -- ---- one after another
 
@@ -136,9 +129,9 @@ pub record Puts (i : Instr) (ds : List (Does Value)) (ss : List Shape) (shape : 
   pub turns : (vs : List Value) (frame : Frame) (a : A) → (fr vs frame a).turns ≡ frame.turns
 
 pub Parts-put : {A : Type 0} (i : Instr) (ps : List Part) (head : Part) (ds : List (Does Value)) (ss : List Shape) (shape : Shape) (d : Does Value) (t : Walked → List Value → Frame → Interaction A) (v : Walked → List Value → Frame → A → Value) (fr : List Value → Frame → A → Frame) (n : Need) (c c1 new : Code) →
-    Puts i ds ss shape d t v fr → ((s : Site) → all_fit s.scope (head ∷ ps) ≡ true → (names s.ground i ≡ true) × (all_fit s.scope ps ≡ true)) → c1 ≡ pushed i c → LowersParts ps ds ss n c1 new →
+    Puts i ds ss shape d t v fr → ((s : Site) → all_fit s.scope (head ∷ ps) ≡ true → (names (ground_in s.ground) i ≡ true) × (all_fit s.scope ps ≡ true)) → ((s : Site) → all_fit s.scope (head ∷ ps) ≡ true → end_read i ≤ s.ground.payload) → c1 ≡ pushed i c → LowersParts ps ds ss n c1 new →
     LowersValue (head ∷ ps) d shape (need (max n.frame (sizes_of ss + instr_bytes i)) (instr_slots i + n.code)) c new
-Parts-put i ps head ds ss shape d t v fr n c c1 new pu named e1 l1 =
+Parts-put i ps head ds ss shape d t v fr n c c1 new pu named reads e1 l1 =
     let l = subst (λ x. LowersParts ps ds ss n x new) e1 l1 in
     let stacked : (rest : List Shape) → c.stack ≡ rest ++ shape ∷ [] → (pushed i c).stack ≡ rest ++ ss =
     λ rest e. pushed-stack c i rest (e ∙ ap (λ x. rest ++ x) (sym pu.gives_one)) ∙ ap (λ x. rest ++ x) pu.takes_them in
@@ -164,5 +157,5 @@ Parts-put i ps head ds ss shape d t v fr n c c1 new pu named e1 l1 =
           let z : sizes_of (rest ++ ss) ≡ sizes_of rest + sizes_of ss = sizes-append rest ss in
           let y : sizes_of (rest ++ takes i) ≡ sizes_of (rest ++ ss) = ap (λ x. sizes_of (rest ++ x)) pu.takes_them in
           l.sound bs stand s f.1 rest (stacked rest e) (Room-less s.ground _ _ (omega arith) room)
-          (Opens-push s.ground bs c i rest (e ∙ ap (λ x. rest ++ x) (sym pu.gives_one)) f.0 (Room-less s.ground _ _ (omega arith) room) o);
+          (Opens-push s.ground bs c i rest (e ∙ ap (λ x. rest ++ x) (sym pu.gives_one)) f.0 (reads s fits) (Room-less s.ground _ _ (omega arith) room) o);
     }

@@ -1,13 +1,13 @@
 -- What statements of each kind are made of, do and need, by their parts.
 use Rattle.std.proofs.Common.{◌≡◌, ℕ, ◌+◌, List, [], ◌∷◌, ◌++◌, Bool, true, sym, ap, ◌∙◌, Option}
-use Rattle.std.specs.Prelude.{ℤ, max, map}
+use Rattle.std.specs.Prelude.{ℤ, max}
 use Rattle.bt_core.specs.declared.map.AggKind.{AggKind}
 use Rattle.bt_core.specs.declared.map.MapId.{MapId}
 use Rattle.bt_core.specs.declared.operator.BinOp.{BinOp}
 use Rattle.typed_tree.specs.declared.expr.AnyExpr.{AnyExpr}
 use Rattle.typed_tree.specs.declared.expr.NumExpr.{NumExpr}
 use Rattle.typed_tree.specs.declared.stmt.Jump.{Jump}
-use Rattle.typed_tree.specs.declared.stmt.TypedStmt.{TypedStmt, fold-roll-TypedStmt}
+use Rattle.typed_tree.specs.declared.stmt.TypedStmt.{fold-roll-TypedStmt}
 use Rattle.typed_tree.specs.declared.stmt.TypedStmt.TheVariants as stmts
 use Rattle.typed_tree.specs.declared.stmt.TypedStmt.TheOpen.{TypedStmt-F}
 use Rattle.typed_tree.specs.declared.stmt.TypedBlock.{TypedBlock}

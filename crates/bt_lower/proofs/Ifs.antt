@@ -1,7 +1,7 @@
 -- Lowering of `if`: the blocks of its arms.
-use Rattle.std.proofs.Common.{◌≡◌, ℕ, zero, suc, ◌+◌, ◌*◌, ◌≤◌, ◌<◌, ◌-◌, List, [], ◌∷◌, ◌++◌, length, refl, sym, ap, ◌∙◌, subst, arith, append_assoc, append-nil, length-append, Bool, true, false, Option, Some, None}
-use Rattle.std.specs.Prelude.{ℤ, max, cond, slice_get}
-use Rattle.std.proofs.Math.Nat.{le-max_left, le-max_right, max-le}
+use Rattle.std.proofs.Common.{◌≡◌, ℕ, ◌+◌, ◌*◌, ◌≤◌, List, [], ◌∷◌, ◌++◌, length, refl, sym, ap, ◌∙◌, subst, arith, append-nil, Bool, true, false}
+use Rattle.std.specs.Prelude.{ℤ, max, cond}
+use Rattle.std.proofs.Math.Nat.{le-max_left, le-max_right}
 use Rattle.bt_core.specs.declared.ending.Ending.{Ending}
 use Rattle.bt_core.specs.declared.map.Shape.{Shape}
 use Rattle.bt_core.specs.declared.map.Shape.TheVariants as shapes
@@ -12,7 +12,7 @@ use Rattle.bt_core.proofs.InteractionLaws.{and_then_assoc}
 use Rattle.typed_tree.specs.Parts.{Part}
 use Rattle.typed_tree.specs.Scope.{Scope, all_fit}
 use Rattle.bt_walk.specs.declared.flow.Flow.{Flow}
-use Rattle.bt_walk.specs.declared.flow.Flow.TheVariants.{Next, Break, Continue, Stop}
+use Rattle.bt_walk.specs.declared.flow.Flow.TheVariants.{Next}
 use Rattle.bt_walk.specs.declared.flow.Frame.{Frame}
 use Rattle.bt_walk.specs.Does.{Does, given, bind, choose, either, holds, in_order}
 use Rattle.bt_walk.specs.Does.{Scene as Walked}
@@ -24,10 +24,10 @@ use Rattle.bt_ir.specs.Meaning.{Scene}
 use Rattle.bt_ir.specs.Values.{top, number_of}
 use Rattle.bt_lower.specs.declared.code.Code.{Code}
 use Rattle.bt_lower.specs.declared.code.Ways.{Ways}
-use Rattle.bt_lower.specs.Code.{begun, closed, open_block, code_slots}
-use Rattle.bt_lower.specs.Lowers.{Stand, Grew, Runs, Reaches, state, seen_by, fuel, Follows, LowersValue, LowersStmt, LowersBlock}
-use Rattle.bt_lower.specs.Needs.{Need, need, more, greater}
-use Rattle.bt_lower.specs.Sound.{Site, HasRoom, Opens, Sound, Target, WaysStand}
+use Rattle.bt_lower.specs.Code.{begun, closed, open_block}
+use Rattle.bt_lower.specs.Lowers.{Stand, Grew, Runs, Reaches, state, seen_by, fuel, LowersValue, LowersStmt, LowersBlock}
+use Rattle.bt_lower.specs.Needs.{Need, need, more}
+use Rattle.bt_lower.specs.Sound.{Target}
 use Rattle.bt_lower.proofs.Blocks.{and_then-same, Grew-refl, Grew-trans, Grew-one, Grew-length, Stand-later, Stand-before, Runs-is, Runs-more, Runs-goto, Reaches-close, Reaches-more, closed-length}
 use Rattle.bt_lower.proofs.Choices.{Runs-branch}
 use Rattle.bt_lower.proofs.Exprs.{in_order-one}

@@ -1,43 +1,35 @@
 -- Lowering of loops: what their blocks do.
-use Rattle.std.proofs.Common.{◌≡◌, ℕ, zero, suc, ◌+◌, ◌-◌, ◌*◌, ◌<◌, ◌≤◌, List, [], ◌∷◌, ◌++◌, length, refl, sym, ap, ◌∙◌, subst, arith, Bool, true, Option, Some, length-append, length-set}
+use Rattle.std.proofs.Common.{◌≡◌, ℕ, zero, suc, ◌+◌, ◌*◌, ◌<◌, ◌≤◌, List, [], ◌∷◌, length, refl, sym, ap, ◌∙◌, subst, arith, Bool, true, Some, length-append}
 use Rattle.std.specs.Prelude.{ℤ, cond, slice_get, slice_set}
 use Rattle.bt_core.specs.declared.ending.Ending.{Ending}
 use Rattle.bt_core.specs.declared.ending.Ending.TheVariants.{Cut as AtCut}
-use Rattle.bt_core.specs.declared.map.Shape.{Shape}
 use Rattle.bt_core.specs.declared.map.Shape.TheVariants as shapes
 use Rattle.bt_core.specs.declared.value.Value.{Value}
 use Rattle.bt_core.specs.Interaction.{Interaction, Ended, and_then}
 use Rattle.typed_tree.specs.Parts.{Part}
 use Rattle.typed_tree.specs.Scope.{all_fit}
 use Rattle.bt_walk.specs.declared.flow.Flow.{Flow}
-use Rattle.bt_walk.specs.declared.flow.Flow.TheVariants.{Next, Break, Continue, Stop}
+use Rattle.bt_walk.specs.declared.flow.Flow.TheVariants.{Next, Stop}
 use Rattle.bt_walk.specs.declared.flow.Frame.{Frame}
-use Rattle.bt_walk.specs.Does.{Does, given, seen, bind, holds, either, in_order}
+use Rattle.bt_walk.specs.Does.{Does, given, bind, holds}
 use Rattle.bt_walk.specs.Does.{Scene as Walked}
 use Rattle.bt_walk.specs.Exprs.{number_value}
-use Rattle.bt_walk.specs.Stmts.{cut, turn, again, tests, while_true}
+use Rattle.bt_walk.specs.Stmts.{turn, again, tests}
 use Rattle.bt_ir.specs.declared.blocks.Block.{Block}
-use Rattle.bt_ir.specs.declared.blocks.Exit.TheVariants.{Branch, Again, End}
+use Rattle.bt_ir.specs.declared.blocks.Exit.TheVariants.{Branch, End}
 use Rattle.bt_ir.specs.declared.instr.Instr.TheVariants as i
 use Rattle.bt_ir.specs.Figures.{sizes_of, instrs_slots, exit_slots, blocks_slots}
-use Rattle.bt_ir.specs.Meaning.{Scene}
-use Rattle.bt_ir.specs.Typing.{Ground, stack_in}
-use Rattle.bt_ir.specs.Ways.{depth_in, depth_at}
 use Rattle.bt_ir.specs.Values.{top, number_of}
 use Rattle.bt_lower.specs.declared.code.Code.{Code}
-use Rattle.bt_lower.specs.declared.code.Ways.{Ways}
-use Rattle.bt_lower.specs.Code.{pushed, begun, closed, open_block, reserved, placeholder, gated, patched, turn_end, with_cut}
-use Rattle.bt_lower.specs.Lowers.{Stand, Grew, Runs, Reaches, state, seen_by, fuel, Follows, LowersValue, LowersBlock, LowersStmt}
-use Rattle.bt_lower.specs.Needs.{Need, need, more, greater}
-use Rattle.bt_lower.specs.Sound.{Site, HasRoom, Opens, Sound, SoundBlock, Target, Back, WaysStand}
-use Rattle.bt_lower.proofs.Blocks.{Grew-trans, Grew-one, Grew-length, Stand-later, Stand-before, Runs-is, Runs-more, Reaches-close, Reaches-is, Reaches-more, closed-length}
+use Rattle.bt_lower.specs.Code.{pushed, begun, closed, open_block, reserved, placeholder, gated, turn_end, with_cut}
+use Rattle.bt_lower.specs.Lowers.{Stand, Grew, Reaches, state, seen_by, LowersValue, LowersBlock}
+use Rattle.bt_lower.specs.Needs.{Need}
+use Rattle.bt_lower.specs.Sound.{Footing, Site, HasRoom, Sound, SoundBlock, Back}
+use Rattle.bt_lower.proofs.Blocks.{Grew-trans, Grew-one, Grew-length, Stand-later, Stand-before, Runs-is, Reaches-close, Reaches-is, Reaches-more, closed-length}
 use Rattle.bt_lower.proofs.Ifs.{test-is, branches}
-use Rattle.bt_lower.proofs.Patches.{Grew-set, Stand-set, Stand-under, here-set}
-use Rattle.bt_lower.proofs.Lists.{front-none, sizes-append}
-use Rattle.bt_lower.proofs.Opening.{Room-less, Sound-none, Sound-join, Sound-close, Target-close, Target-later, Opens-push, Opens-goto, Opens-branch, pushed-stack}
-use Rattle.bt_lower.proofs.Slots.{slots-pushed, slots-closed, slots-begun, slots-reserved, slots-gated}
-use Rattle.bt_lower.proofs.Stmts.{fuel-depth, WaysStand-on}
-use Rattle.bt_lower.proofs.Turns.{with_turns, Reaches-cut, Reaches-again, Runs-gate, turn_reaches}
+use Rattle.bt_lower.proofs.Patches.{Stand-set, Stand-under, here-set}
+use Rattle.bt_lower.proofs.Stmts.{fuel-depth}
+use Rattle.bt_lower.proofs.Turns.{Reaches-cut, Reaches-again, Runs-gate, turn_reaches}
 
 -- the blocks of a loop up to its gate: `c` is what follows the loop, `d` is the code that is made behind the gate, up to the loop's head
 module _ (ps : Bool → List Part) (body : Does Flow) (n : Need) (line block head : ℕ) (c c4 d : Code)
@@ -194,7 +186,7 @@ set-slots (x ∷ xs) zero v u e p q r s =
 set-slots (x ∷ xs) (suc a) v u e p q r s = omega (arith, set-slots xs a v u e p q r s)
 
 -- the block that ends a turn is sound where it stands
-pub Sound-end : (g : Ground) (bs : List Block) (a head : ℕ) (d : Code) → slice_get bs a ≡ Some (turn_end head d) → HasRoom g (sizes_of d.stack) → Back bs (d.depth + 1) d.stack head → Sound g bs a (a + 1)
+pub Sound-end : (g : Footing) (bs : List Block) (a head : ℕ) (d : Code) → slice_get bs a ≡ Some (turn_end head d) → HasRoom g (sizes_of d.stack) → Back bs (d.depth + 1) d.stack head → Sound g bs a (a + 1)
 Sound-end g bs a head d e room back = record { each = each }
   where
     each : (n : ℕ) → a ≤ n → n < a + 1 → (b : Block) → slice_get bs n ≡ Some b → SoundBlock g bs n b

@@ -1,7 +1,6 @@
 -- Lowering of reads and steps of maps.
-use Rattle.std.proofs.Common.{◌≡◌, ℕ, zero, suc, ◌+◌, ◌≤◌, ◌<◌, List, [], ◌∷◌, ◌++◌, length, refl, sym, ap, ◌∙◌, subst, arith, append_assoc, append-nil, length-append, Bool, true, false, Option, Some, None}
-use Rattle.std.specs.Prelude.{ℤ, pos, max, cond, not, slice_get, ◌&&◌, nat_le}
-use Rattle.std.proofs.Math.Nat.{le-max_left, le-max_right, max-le}
+use Rattle.std.proofs.Common.{◌≡◌, ℕ, ◌+◌, ◌≤◌, List, [], ◌∷◌, ◌++◌, length, refl, ap, ◌∙◌, subst, arith, Bool, true, Option, Some, None}
+use Rattle.std.specs.Prelude.{max, slice_get, ◌&&◌}
 use Rattle.std.proofs.lemmas.Bool.{and_parts}
 use Rattle.std.proofs.lemmas.Bool.Decides.{nat_tests}
 use Rattle.bt_core.specs.declared.limits.TheConstants.{KEY_PARTS}
@@ -12,29 +11,25 @@ use Rattle.bt_core.specs.declared.map.Shape.{Shape}
 use Rattle.bt_core.specs.declared.map.Shape.TheVariants as shapes
 use Rattle.bt_core.specs.declared.value.Value.{Value}
 use Rattle.bt_core.specs.declared.value.Value.TheVariants.{Int, Str}
-use Rattle.bt_core.specs.Interaction.{Interaction, Ended, Asks, and_then}
+use Rattle.bt_core.specs.Interaction.{Ended, and_then}
 use Rattle.bt_core.proofs.InteractionLaws.{and_then_assoc}
 use Rattle.typed_tree.specs.Parts.{Part, MapOf}
-use Rattle.typed_tree.specs.Scope.{Scope, all_fit, fits, decl_of, is_declared, same_kind, same_shapes, kind_of_shape}
-use Rattle.bt_walk.specs.declared.flow.Frame.{Frame}
-use Rattle.bt_walk.specs.Does.{Does, given, asked, bind, in_order, told}
-use Rattle.bt_walk.specs.Does.{Scene as Walked}
-use Rattle.bt_walk.specs.Exprs.{number_value, text_value, read_number, read_text, read, step_map, step_at}
-use Rattle.bt_walk.specs.Maps.{get, set}
-use Rattle.bt_ir.specs.declared.instr.Instr.{Instr}
+use Rattle.typed_tree.specs.Scope.{fits, decl_of, is_declared, same_kind, same_shapes, kind_of_shape}
+use Rattle.bt_walk.specs.Does.{Does, given, asked, bind}
+use Rattle.bt_walk.specs.Exprs.{number_value, text_value, read_number, read_text, step_map}
 use Rattle.bt_ir.specs.declared.instr.Instr.TheVariants as i
 use Rattle.bt_ir.specs.Asking.{got}
-use Rattle.bt_ir.specs.Figures.{size_of, sizes_of, instr_slots, instr_bytes, by_shape}
-use Rattle.bt_ir.specs.Meaning.{instr_run, stepped}
-use Rattle.bt_ir.specs.Typing.{Ground, takes, gives, names, is_key, holds_shape, front_of}
-use Rattle.bt_ir.specs.Values.{number_of, text_of, as_shape}
+use Rattle.bt_ir.specs.Figures.{sizes_of}
+use Rattle.bt_ir.specs.Meaning.{stepped}
+use Rattle.bt_ir.specs.Typing.{is_key, holds_shape, front_of}
+use Rattle.bt_ir.specs.Values.{number_of, text_of}
 use Rattle.bt_lower.specs.declared.code.Code.{Code}
 use Rattle.bt_lower.specs.Code.{pushed}
-use Rattle.bt_lower.specs.Lowers.{state, seen_by, LowersParts, LowersValue}
-use Rattle.bt_lower.specs.Needs.{Need, need, more}
-use Rattle.bt_lower.specs.Sound.{Site}
-use Rattle.bt_lower.proofs.Blocks.{and_then-same}
-use Rattle.bt_lower.proofs.Exprs.{Parts-less, Puts, Parts-put}
+use Rattle.bt_lower.specs.Lowers.{state, LowersParts, LowersValue}
+use Rattle.bt_lower.specs.Needs.{Need, need}
+use Rattle.bt_lower.specs.Sound.{ground_in, Site}
+use Rattle.bt_lower.proofs.Opening.{none-read}
+use Rattle.bt_lower.proofs.Exprs.{Puts, Parts-put}
 use Rattle.bt_lower.proofs.Lists.{last-append, front-append, fit-head}
 use Rattle.bt_ir.proofs.Shaped.{same_shapes-is}
 
@@ -51,7 +46,7 @@ declared_on s n kind key (Some decl) e h =
     let few : length key ≤ KEY_PARTS = subst (λ (l : List Shape). length l ≤ KEY_PARTS) same (s.agrees.few n decl e) in
     rw (few-key key few, s.agrees.maps n decl e) h
 
-pub map_names : (s : Site) (m : MapId) (key : List Shape) (shape : Shape) → fits s.scope (MapOf m.0 key shape) ≡ true → holds_shape s.ground m.0 key shape ≡ true
+pub map_names : (s : Site) (m : MapId) (key : List Shape) (shape : Shape) → fits s.scope (MapOf m.0 key shape) ≡ true → holds_shape (ground_in s.ground) m.0 key shape ≡ true
 map_names s m key shape h = declared_on s m.0 (kind_of_shape shape) key (decl_of m.0 s.scope.maps) refl h
 
 -- ---- reads
@@ -99,10 +94,10 @@ pub Lowers-read_number : (m : MapId) (ps : List Part) (key : List Shape) (ds : L
     LowersValue (MapOf m.0 key shapes.Int ∷ ps) (number_value (read_number m ds)) shapes.Int (need (max n.frame (sizes_of key + 8)) (16 + n.code)) c new
 Lowers-read_number m ps key ds n c c1 new e1 l =
     Parts-put (i.Get m key shapes.Int) ps (MapOf m.0 key shapes.Int) ds key shapes.Int _ (λ w vs frame. got m vs) (λ w vs frame a. Int (number_of a)) (λ vs frame a. frame) n c c1 new
-    (got-number m key ds) (λ s f. let p = fit-head s.scope (MapOf m.0 key shapes.Int) ps f in (map_names s m key shapes.Int p.0, p.1)) e1 l
+    (got-number m key ds) (λ s f. let p = fit-head s.scope (MapOf m.0 key shapes.Int) ps f in (map_names s m key shapes.Int p.0, p.1)) (λ s f. none-read s.ground.payload) e1 l
 
 pub Lowers-read_text : (m : MapId) (ps : List Part) (key : List Shape) (ds : List (Does Value)) (n : Need) (c c1 new : Code) → c1 ≡ pushed (i.Get m key shapes.Str) c → LowersParts ps ds key n c1 new →
     LowersValue (MapOf m.0 key shapes.Str ∷ ps) (text_value (read_text m ds)) shapes.Str (need (max n.frame (sizes_of key + 64)) (40 + n.code)) c new
 Lowers-read_text m ps key ds n c c1 new e1 l =
     Parts-put (i.Get m key shapes.Str) ps (MapOf m.0 key shapes.Str) ds key shapes.Str _ (λ w vs frame. got m vs) (λ w vs frame a. Str (text_of a)) (λ vs frame a. frame) n c c1 new
-    (got-text m key ds) (λ s f. let p = fit-head s.scope (MapOf m.0 key shapes.Str) ps f in (map_names s m key shapes.Str p.0, p.1)) e1 l
+    (got-text m key ds) (λ s f. let p = fit-head s.scope (MapOf m.0 key shapes.Str) ps f in (map_names s m key shapes.Str p.0, p.1)) (λ s f. none-read s.ground.payload) e1 l

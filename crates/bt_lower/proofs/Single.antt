@@ -1,5 +1,5 @@
 -- Lowering of each kind of single statement, by its tree.
-use Rattle.std.proofs.Common.{◌≡◌, ℕ, zero, suc, ◌+◌, ◌≤◌, ◌<◌, List, [], ◌∷◌, ◌++◌, length, refl, sym, ap, ◌∙◌, subst, arith, append_assoc, append-nil, length-append, Bool, true, false, Option, Some, None}
+use Rattle.std.proofs.Common.{◌≡◌, ℕ, ◌+◌, ◌≤◌, List, [], ◌∷◌, ◌++◌, length, refl, sym, ap, ◌∙◌, subst, arith, Bool, true, false, Option, Some, None}
 use Rattle.std.specs.Prelude.{ℤ, pos, max, slice_get, ◌&&◌, int_le}
 use Rattle.std.proofs.Math.Nat.{le-max_left, le-max_right, max-le}
 use Rattle.std.proofs.lemmas.Bool.{and_parts}
@@ -17,34 +17,33 @@ use Rattle.bt_core.specs.declared.step.Op.TheVariants as ops
 use Rattle.bt_core.specs.declared.item.Item.TheVariants as items
 use Rattle.bt_core.specs.declared.value.Value.{Value}
 use Rattle.bt_core.specs.declared.value.Value.TheVariants.{Int}
-use Rattle.bt_core.specs.Interaction.{Interaction, Ended}
+use Rattle.bt_core.specs.Interaction.{Ended}
 use Rattle.bt_core.specs.Arithmetic.{binary_value}
 use Rattle.fmt_text.specs.declared.piece.Piece.{Piece}
 use Rattle.typed_tree.specs.declared.expr.AnyExpr.{AnyExpr}
 use Rattle.typed_tree.specs.declared.expr.NumExpr.{NumExpr}
 use Rattle.typed_tree.specs.declared.stmt.TypedStmt.{TypedStmt}
 use Rattle.typed_tree.specs.declared.stmt.TypedStmt.TheVariants as stmts
-use Rattle.typed_tree.specs.Parts.{Part, Made, made_of, num_parts, parts_in, key_shapes, keyed_parts, set_var_parts, set_map_parts, update_var_parts, update_map_parts, gather_parts, printf_parts, delete_parts, stmt_parts, Assigned, VarOf, MapOf, Gathered, Deleted, Printed, Shown, Cleared, Zeroed, Ending}
-use Rattle.typed_tree.specs.Scope.{Scope, all_fit, fits, is_shape, decl_of, is_declared, is_shared, is_agg, is_there, same_agg, same_kind, same_shapes, same_bool, is_count, format_of, takes}
+use Rattle.typed_tree.specs.Parts.{Part, made_of, num_parts, parts_in, key_shapes, keyed_parts, set_var_parts, set_map_parts, update_var_parts, update_map_parts, gather_parts, printf_parts, delete_parts, stmt_parts, Assigned, VarOf, MapOf, Gathered, Deleted, Printed, Shown, Cleared, Zeroed, Ending}
+use Rattle.typed_tree.specs.Scope.{decl_of, is_declared, is_shared, is_agg, is_there, same_kind, same_shapes, same_bool, is_count, format_of, takes}
 use Rattle.bt_walk.specs.declared.flow.Flow.{Flow}
-use Rattle.bt_walk.specs.declared.flow.Frame.{Frame}
 use Rattle.bt_walk.specs.Does.{Does, given}
 use Rattle.bt_walk.specs.Exprs.{value_does, values_do, number_does, number_value}
 use Rattle.bt_walk.specs.Maps.{with_variable, variable}
-use Rattle.bt_walk.specs.Stmts.{stmt_does, set_variable, set_map, update_variable, update_map, gather, number_or_one, plain, printf, print, clear, zero_all, delete_at}
+use Rattle.bt_walk.specs.Stmts.{stmt_does, set_variable, set_map, update_variable, update_map, gather, plain, printf, print, clear, zero_all, delete_at}
 use Rattle.bt_ir.specs.declared.instr.Instr.TheVariants as i
-use Rattle.bt_ir.specs.Asking.{part, told as asks_for, kind_of}
-use Rattle.bt_ir.specs.Figures.{size_of, sizes_of, by_shape}
-use Rattle.bt_ir.specs.Meaning.{updated, printed}
-use Rattle.bt_ir.specs.Typing.{is_key, gathers, is_gathering, is_format}
+use Rattle.bt_ir.specs.Asking.{part, told as asks_for}
+use Rattle.bt_ir.specs.Figures.{sizes_of, by_shape}
+use Rattle.bt_ir.specs.Meaning.{updated}
+use Rattle.bt_ir.specs.Typing.{is_key, gathers, is_format}
 use Rattle.bt_ir.specs.Values.{top, below, number_of}
 use Rattle.bt_ir.proofs.Shaped.{same_shapes-is}
 use Rattle.bt_lower.specs.declared.code.Code.{Code}
 use Rattle.bt_lower.specs.declared.code.Ways.{Ways}
 use Rattle.bt_lower.specs.Code.{pushed}
 use Rattle.bt_lower.specs.Lowers.{LowersParts, LowersValue, LowersNumber, LowersAny, LowersList, LowersStmt, all_made}
-use Rattle.bt_lower.specs.Needs.{Need, need, more, greater, beside, list_frame, sizes_in, codes_in, value_need, values_need, number_need, gather_need, stmt_need}
-use Rattle.bt_lower.specs.Sound.{Site}
+use Rattle.bt_lower.specs.Needs.{Need, need, more, beside, list_frame, sizes_in, codes_in, value_need, values_need, number_need, stmt_need}
+use Rattle.bt_lower.specs.Sound.{ground_in, Site}
 use Rattle.bt_lower.proofs.Actions.{set_var-acts, update_var-acts, step-acts, delete-acts, count-acts, printf-acts, set-acts, update-acts, add-acts}
 use Rattle.bt_lower.proofs.Arms.{var-names}
 use Rattle.bt_lower.proofs.Exprs.{Parts-none, Parts-less, Parts-append}
@@ -54,7 +53,7 @@ use Rattle.bt_lower.proofs.Maps.{map_names, few-key}
 use Rattle.bt_lower.proofs.Stmts.{Stmt-less, Lowers-act}
 use Rattle.bt_lower.proofs.Sweeping.{print-acts, clear-acts, zero-acts, there-names}
 
-stmt-is : (s x : TypedStmt) (ps : Bool → List Part) (d : Does Flow) (n : Need) (way : Ways) (c new : Code) → s ≡ x → stmt_parts x ≡ ps → stmt_does x ≡ d → stmt_need x ≡ n → LowersStmt ps d n way c new → LowersStmt (stmt_parts s) (stmt_does s) (stmt_need s) way c new
+pub stmt-is : (s x : TypedStmt) (ps : Bool → List Part) (d : Does Flow) (n : Need) (way : Ways) (c new : Code) → s ≡ x → stmt_parts x ≡ ps → stmt_does x ≡ d → stmt_need x ≡ n → LowersStmt ps d n way c new → LowersStmt (stmt_parts s) (stmt_does s) (stmt_need s) way c new
 stmt-is s x ps d n way c new hs hp hd hn l =
     subst (λ (y : TypedStmt). LowersStmt (stmt_parts y) (stmt_does y) (stmt_need y) way c new) (sym hs)
     (subst (λ (q : Bool → List Part). LowersStmt q (stmt_does x) (stmt_need x) way c new) (sym hp)
@@ -174,7 +173,7 @@ same_agg-agg Ints a h = cc
 same_agg-agg Strs a h = cc
 same_agg-agg (Aggs b) a h = refl
 
-gathers-case : (t : Site) (n : ℕ) (kind : AggKind) (key : List Shape) (o : Option MapDecl) → decl_of n t.scope.maps ≡ o → is_declared o (Aggs kind) key ≡ true → gathers t.ground n key ≡ true
+gathers-case : (t : Site) (n : ℕ) (kind : AggKind) (key : List Shape) (o : Option MapDecl) → decl_of n t.scope.maps ≡ o → is_declared o (Aggs kind) key ≡ true → gathers (ground_in t.ground) n key ≡ true
 gathers-case t n kind key None e h = cc
 gathers-case t n kind key (Some decl) e h =
     let p = and_parts (same_kind decl.kind (Aggs kind)) (same_shapes decl.key_shape key) h in

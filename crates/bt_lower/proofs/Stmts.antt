@@ -1,44 +1,43 @@
 -- Lowering of statements, construct by construct.
-use Rattle.std.proofs.Common.{◌≡◌, ℕ, zero, suc, ◌+◌, ◌*◌, ◌-◌, ◌≤◌, ◌<◌, List, [], ◌∷◌, ◌++◌, length, reverse, refl, sym, ap, ◌∙◌, subst, arith, append_assoc, append-nil, length-append, Bool, true, false, Option, Some}
-use Rattle.std.specs.Prelude.{max, cond, slice_get}
-use Rattle.std.proofs.Math.Nat.{le-max_left, le-max_right, mul-le-mul_right}
+use Rattle.std.proofs.Common.{◌≡◌, ℕ, ◌+◌, ◌*◌, ◌≤◌, List, [], ◌∷◌, ◌++◌, length, refl, sym, ap, ◌∙◌, subst, arith, append-nil, Bool, true}
+use Rattle.std.specs.Prelude.{max}
+use Rattle.std.proofs.Math.Nat.{le-max_left, le-max_right}
 use Rattle.bt_core.specs.declared.ending.Ending.{Ending}
 use Rattle.bt_core.specs.declared.ending.Ending.TheVariants.{Return, Exit as Exited}
-use Rattle.bt_core.specs.declared.map.MapDecl.{MapDecl}
 use Rattle.bt_core.specs.declared.map.Shape.{Shape}
 use Rattle.bt_core.specs.declared.value.Value.{Value}
-use Rattle.bt_core.specs.Interaction.{Interaction, Ended, Asks, and_then}
+use Rattle.bt_core.specs.Interaction.{Interaction, Ended, and_then}
 use Rattle.bt_core.proofs.InteractionLaws.{and_then_assoc}
 use Rattle.typed_tree.specs.Parts.{Part}
 use Rattle.typed_tree.specs.Scope.{Scope, all_fit}
 use Rattle.bt_walk.specs.declared.flow.Flow.{Flow}
 use Rattle.bt_walk.specs.declared.flow.Flow.TheVariants.{Next, Break, Continue, Stop}
 use Rattle.bt_walk.specs.declared.flow.Frame.{Frame}
-use Rattle.bt_walk.specs.Does.{Does, given, bind, told, then, asked, in_order}
+use Rattle.bt_walk.specs.Does.{Does, given, bind, asked, in_order}
 use Rattle.bt_walk.specs.Does.{Scene as Walked}
 use Rattle.bt_walk.specs.Stmts.{in_turn, if_next, jump_to}
 use Rattle.typed_tree.specs.declared.stmt.Jump.TheVariants as jumps
 use Rattle.bt_ir.specs.declared.blocks.Block.{Block}
 use Rattle.bt_ir.specs.declared.blocks.Exit.{Exit}
-use Rattle.bt_ir.specs.declared.blocks.Exit.TheVariants.{Goto, Branch, End}
+use Rattle.bt_ir.specs.declared.blocks.Exit.TheVariants.{Goto, End}
 use Rattle.bt_ir.specs.declared.instr.Instr.{Instr}
 use Rattle.bt_ir.specs.declared.instr.Instr.TheVariants as i
-use Rattle.bt_ir.specs.declared.stack.State.{State}
 use Rattle.bt_core.specs.declared.step.ObjectId.TheVariants.{Clock}
 use Rattle.bt_core.specs.declared.step.Op.TheVariants as ops
 use Rattle.bt_ir.specs.Asking.{told as stop_asked}
 use Rattle.bt_ir.specs.Figures.{sizes_of, instr_slots, instr_bytes}
-use Rattle.bt_ir.specs.Meaning.{Scene, instr_run, run_from}
-use Rattle.bt_ir.specs.Typing.{Ground, takes, gives, names}
+use Rattle.bt_ir.specs.Meaning.{Scene, instr_run}
+use Rattle.bt_ir.specs.Running.{end_read}
+use Rattle.bt_ir.specs.Typing.{takes, gives, names}
 use Rattle.bt_lower.specs.declared.code.Code.{Code}
 use Rattle.bt_lower.specs.declared.code.Ways.{Ways}
 use Rattle.bt_lower.specs.Code.{pushed, begun, closed, open_block, code_slots}
-use Rattle.bt_lower.specs.Lowers.{Stand, Grew, Runs, Reaches, state, seen_by, fuel, Follows, LowersParts, LowersStmt, LowersBlock}
-use Rattle.bt_lower.specs.Needs.{Need, need, more, greater}
-use Rattle.bt_lower.specs.Sound.{Site, HasRoom, Opens, Sound, Target, WaysStand}
+use Rattle.bt_lower.specs.Lowers.{Runs, state, seen_by, fuel, Follows, LowersParts, LowersStmt, LowersBlock}
+use Rattle.bt_lower.specs.Needs.{Need, need, greater}
+use Rattle.bt_lower.specs.Sound.{ground_in, Site, HasRoom, Opens, Target, WaysStand}
 use Rattle.bt_lower.proofs.Blocks.{and_then-same, Grew-refl, Grew-trans, Grew-one, Grew-length, Stand-later, Stand-before, Runs-is, Runs-more, Runs-push, Runs-goto, Reaches-close, Reaches-more, closed-length}
-use Rattle.bt_lower.proofs.Lists.{front-none, sizes-append, fit-parts}
-use Rattle.bt_lower.proofs.Opening.{Room-less, Sound-none, Sound-join, Sound-close, Target-close, Target-later, Opens-push, Opens-goto, pushed-stack}
+use Rattle.bt_lower.proofs.Lists.{sizes-append}
+use Rattle.bt_lower.proofs.Opening.{Room-less, none-read, Sound-none, Sound-join, Sound-close, Target-close, Target-later, Opens-push, Opens-goto, pushed-stack}
 use Rattle.bt_lower.proofs.Slots.{slots-pushed, slots-closed, slots-begun}
 
 -- the fuel depends on the depth by its value alone
@@ -81,6 +80,7 @@ Stmt-fit ps qs d n way old new f l = record {
 -- what an instruction does with values that are there: it asks, and the frame is another
 pub record Acts (qs : Bool → List Part) (i : Instr) (ds : List (Does Value)) (ss : List Shape) (d : Does Flow) {A : Type 0} (t : Walked → List Value → Frame → Interaction A) (fr : List Value → Frame → A → Frame) : Type 0 where
   pub takes_them : takes i ≡ ss
+  pub reads_none : end_read i ≡ 0
   pub gives_none : gives i ≡ []
   pub is : (w : Walked) (frame : Frame) → d w frame ≡ and_then (in_order ds w frame) (λ p. and_then (t w p.0 p.1) (λ a. Ended (Next, fr p.0 p.1 a)))
   pub runs : (s : Site) (inside : Bool) → all_fit s.scope (qs inside) ≡ true → (w : Walked) → w.maps ≡ s.scope.maps → (frame : Frame) (values vs : List Value) → length vs ≡ length ss →
@@ -88,7 +88,7 @@ pub record Acts (qs : Bool → List Part) (i : Instr) (ds : List (Does Value)) (
   pub turns : (vs : List Value) (frame : Frame) (a : A) → (fr vs frame a).turns ≡ frame.turns
 
 pub Lowers-act : {A : Type 0} (qs : Bool → List Part) (i : Instr) (ps : List Part) (ds : List (Does Value)) (ss : List Shape) (d : Does Flow) (t : Walked → List Value → Frame → Interaction A) (fr : List Value → Frame → A → Frame) (n : Need) (way : Ways) (c c1 new : Code) →
-    Acts qs i ds ss d t fr → ((s : Site) (inside : Bool) → all_fit s.scope (qs inside) ≡ true → (names s.ground i ≡ true) × (all_fit s.scope ps ≡ true)) → c1 ≡ pushed i c → LowersParts ps ds ss n c1 new →
+    Acts qs i ds ss d t fr → ((s : Site) (inside : Bool) → all_fit s.scope (qs inside) ≡ true → (names (ground_in s.ground) i ≡ true) × (all_fit s.scope ps ≡ true)) → c1 ≡ pushed i c → LowersParts ps ds ss n c1 new →
     LowersStmt qs d (need (max n.frame (sizes_of ss + instr_bytes i)) (instr_slots i + n.code)) way c new
 Lowers-act qs i ps ds ss d t fr n way c c1 new ac named e1 l1 = record {
   grew = l.grew;
@@ -112,7 +112,7 @@ Lowers-act qs i ps ds ss d t fr n way c c1 new ac named e1 l1 = record {
       let b : sizes_of ss + instr_bytes i ≤ max n.frame (sizes_of ss + instr_bytes i) = le-max_right n.frame (sizes_of ss + instr_bytes i) in
       let z : sizes_of (c.stack ++ ss) ≡ sizes_of c.stack + sizes_of ss = sizes-append c.stack ss in
       let y : sizes_of (c.stack ++ takes i) ≡ sizes_of (c.stack ++ ss) = ap (λ x. sizes_of (c.stack ++ x)) ac.takes_them in
-      l.sound bs stand s f.1 c.stack stacked (Room-less s.ground _ _ (omega arith) room) (Opens-push s.ground bs c i c.stack ends f.0 (Room-less s.ground _ _ (omega arith) room) o);
+      l.sound bs stand s f.1 c.stack stacked (Room-less s.ground _ _ (omega arith) room) (Opens-push s.ground bs c i c.stack ends f.0 (omega (arith, ac.reads_none)) (Room-less s.ground _ _ (omega arith) room) o);
 }
   where
     l : LowersParts ps ds ss n (pushed i c) new
@@ -181,7 +181,7 @@ Lowers-exit qs way c c1 new e1 e =
           Runs-push bs (begun (End Exited) [] c) i.Stop _ (seen_by t.ground.maps w) (state frame values) (stop_asked Clock ops.Stop) (λ u. state frame values) (λ u. k (Stop Exited, frame)) refl
           (λ u. record { by = λ m h. sym (f.stop Exited frame) });
       sound = λ bs stand t inside fits room ways o.
-          (Opens-push t.ground bs (begun (End Exited) [] c) i.Stop c.stack refl refl (Room-less t.ground _ _ (omega (arith, ap sizes_of (append-nil c.stack))) room) (Opens-end bs t c Exited (Room-less t.ground _ _ (omega arith) room)), Sound-none t.ground bs (length c.blocks));
+          (Opens-push t.ground bs (begun (End Exited) [] c) i.Stop c.stack refl refl (none-read t.ground.payload) (Room-less t.ground _ _ (omega (arith, ap sizes_of (append-nil c.stack))) room) (Opens-end bs t c Exited (Room-less t.ground _ _ (omega arith) room)), Sound-none t.ground bs (length c.blocks));
     })
 
 -- ---- statements one after another

@@ -1,28 +1,27 @@
 -- Lowering of `print`, `clear` and `zero`.
-use Rattle.std.proofs.Common.{◌≡◌, ℕ, zero, suc, ◌+◌, List, [], ◌∷◌, ◌++◌, length, refl, sym, ap, ◌∙◌, subst, arith, append-nil, Bool, true, Option, Some, None}
-use Rattle.std.specs.Prelude.{ℤ, pos, slice_get, ◌&&◌, int_le}
+use Rattle.std.proofs.Common.{◌≡◌, ℕ, zero, suc, ◌+◌, List, [], ◌∷◌, ◌++◌, length, refl, sym, ap, ◌∙◌, arith, append-nil, true, Option, Some, None}
+use Rattle.std.specs.Prelude.{ℤ, pos, slice_get, int_le}
 use Rattle.std.proofs.lemmas.Bool.{and_parts}
 use Rattle.bt_core.specs.declared.item.Item.TheVariants as items
 use Rattle.bt_core.specs.declared.map.MapDecl.{MapDecl}
 use Rattle.bt_core.specs.declared.map.MapId.{MapId}
 use Rattle.bt_core.specs.declared.map.MapKind.{MapKind}
-use Rattle.bt_core.specs.declared.map.Shape.{Shape}
 use Rattle.bt_core.specs.declared.step.ObjectId.{ObjectId}
 use Rattle.bt_core.specs.declared.step.ObjectId.TheVariants.{Out}
 use Rattle.bt_core.specs.declared.step.Op.{Op}
 use Rattle.bt_core.specs.declared.step.Op.TheVariants as ops
 use Rattle.bt_core.specs.declared.step.Reply.{Reply}
 use Rattle.bt_core.specs.declared.value.Value.{Value}
-use Rattle.bt_core.specs.Interaction.{Interaction, Ended, Asks, Call, and_then}
+use Rattle.bt_core.specs.Interaction.{Ended, Asks, and_then}
 use Rattle.bt_core.proofs.InteractionLaws.{and_then_assoc}
 use Rattle.map_printer.specs.Merged.{merged}
-use Rattle.typed_tree.specs.Parts.{Part, Shown, Cleared, Zeroed}
-use Rattle.typed_tree.specs.Scope.{Scope, all_fit, fits, decl_of, is_there}
+use Rattle.typed_tree.specs.Parts.{Shown, Cleared, Zeroed}
+use Rattle.typed_tree.specs.Scope.{decl_of, is_there}
 use Rattle.bt_walk.specs.declared.flow.Frame.{Frame}
 use Rattle.bt_walk.specs.declared.flow.Flow.TheVariants.{Next}
 use Rattle.bt_walk.specs.declared.sweep.Sweep.{Sweep as WalkSweep}
 use Rattle.bt_walk.specs.declared.sweep.Sweep.TheVariants as sweeps
-use Rattle.bt_walk.specs.Does.{Does, given, seen, asked, bind, told}
+use Rattle.bt_walk.specs.Does.{given, seen, asked, bind, told}
 use Rattle.bt_walk.specs.Does.{Scene as Walked}
 use Rattle.bt_walk.specs.Maps.{kind_of, kind_or_numbers, swept, asked_from, holder, holders, sweep_op}
 use Rattle.bt_walk.specs.Stmts.{print, clear, zero_all, plain}
@@ -33,7 +32,6 @@ use Rattle.bt_ir.specs.Asking as ir
 use Rattle.bt_ir.specs.Meaning.{instr_run, printed}
 use Rattle.bt_lower.specs.Lowers.{state, seen_by}
 use Rattle.bt_lower.specs.Sound.{Site}
-use Rattle.bt_lower.proofs.Blocks.{and_then-same}
 use Rattle.bt_lower.proofs.Lists.{fit-head}
 use Rattle.bt_lower.proofs.Stmts.{Acts}
 
@@ -80,6 +78,7 @@ pub print-acts : (m : MapId) (top : ℕ) (div : ℤ) → Acts (λ inside. Shown 
 unfolding given bind asked seen
 print-acts m top div = record {
   takes_them = refl;
+  reads_none = refl;
   gives_none = refl;
   is = λ w frame. ap (λ t. and_then t (λ (p : List Reply × Frame). plain (told Out (ops.Emit (items.Map m (merged (kind_of m w.maps) p.0) top div))) w p.1)) (swept-same ours.Read (kind_of m w.maps) m w frame) ∙ simp and_then_assoc;
   runs = λ s inside fit w same frame values vs long.
@@ -94,6 +93,7 @@ pub clear-acts : (m : MapId) → Acts (λ inside. Cleared m.0 ∷ []) (i.Clear m
 unfolding given bind asked seen
 clear-acts m = record {
   takes_them = refl;
+  reads_none = refl;
   gives_none = refl;
   is = λ w frame. ap (λ t. and_then t (λ p. Ended (Next, p.1))) (swept-same ours.Clear (kind_of m w.maps) m w frame) ∙ simp and_then_assoc;
   runs = λ s inside fit w same frame values vs long.
@@ -107,6 +107,7 @@ pub zero-acts : (m : MapId) → Acts (λ inside. Zeroed m.0 ∷ []) (i.Zero m) [
 unfolding given bind asked seen
 zero-acts m = record {
   takes_them = refl;
+  reads_none = refl;
   gives_none = refl;
   is = λ w frame. ap (λ t. and_then t (λ p. Ended (Next, p.1))) (swept-same ours.Zero (kind_of m w.maps) m w frame) ∙ simp and_then_assoc;
   runs = λ s inside fit w same frame values vs long.

@@ -15,7 +15,7 @@ use Rattle.typed_tree.specs.declared.expr.NumExpr.TheVariants as nums
 use Rattle.typed_tree.specs.declared.expr.StrExpr.{StrExpr, fold-roll-StrExpr}
 use Rattle.typed_tree.specs.declared.expr.StrExpr.TheVariants as strs
 use Rattle.typed_tree.specs.Parts.{Part, Made, made, made_of, num_parts, str_parts, num_layer, str_layer, any_layer, compared, keyed_parts}
-use Rattle.typed_tree.specs.Parts.{Constant, Literal, Numeric, Command, FieldOf, VarOf, MapOf, Stepped, Prefixed, Joined, Both, Either, Chosen}
+use Rattle.typed_tree.specs.Parts.{Constant, Literal, Numeric, Command, FieldOf, VarOf, Stepped, Prefixed, Joined, Both, Either, Chosen}
 use Rattle.bt_lower.specs.Lowers.{all_made}
 use Rattle.bt_lower.specs.Needs.{Need, Valued, need, valued, more, greater, beside, codes_in, value_need, number_need, text_need, values_need}
 use Rattle.bt_lower.specs.Needs.{num_layer as num_needs, str_layer as str_needs, any_layer as any_needs}

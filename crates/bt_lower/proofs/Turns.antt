@@ -1,5 +1,5 @@
 -- Lowering of loops: a turn, and what follows it.
-use Rattle.std.proofs.Common.{◌≡◌, ℕ, zero, suc, ◌+◌, ◌-◌, ◌*◌, ◌<◌, ◌≤◌, List, [], ◌∷◌, ◌++◌, length, refl, sym, ap, ◌∙◌, subst, arith, Option, Some}
+use Rattle.std.proofs.Common.{◌≡◌, ℕ, zero, suc, ◌+◌, ◌-◌, ◌*◌, ◌<◌, ◌≤◌, List, [], length, refl, sym, ap, ◌∙◌, subst, arith, Option, Some}
 use Rattle.std.specs.Prelude.{slice_get}
 use Rattle.bt_core.specs.declared.ending.Ending.{Ending}
 use Rattle.bt_core.specs.declared.ending.Ending.TheVariants.{Cut as AtCut}
@@ -8,24 +8,24 @@ use Rattle.bt_core.specs.declared.map.Shape.{Shape}
 use Rattle.bt_core.specs.declared.step.ObjectId.TheVariants.{Out}
 use Rattle.bt_core.specs.declared.step.Op.TheVariants as ops
 use Rattle.bt_core.specs.declared.value.Value.{Value}
-use Rattle.bt_core.specs.Interaction.{Interaction, Ended, Asks, and_then}
+use Rattle.bt_core.specs.Interaction.{Interaction, Ended, and_then}
 use Rattle.bt_core.proofs.InteractionLaws.{and_then_assoc}
 use Rattle.bt_walk.specs.declared.flow.Flow.{Flow}
 use Rattle.bt_walk.specs.declared.flow.Flow.TheVariants.{Next, Break, Continue, Stop}
 use Rattle.bt_walk.specs.declared.flow.Frame.{Frame}
-use Rattle.bt_walk.specs.Does.{Does, given, seen, changed, asked, bind, told, then}
+use Rattle.bt_walk.specs.Does.{Does, given, seen, changed, asked, bind}
 use Rattle.bt_walk.specs.Does.{Scene as Walked}
-use Rattle.bt_walk.specs.Stmts.{cut, entered, turn, again}
+use Rattle.bt_walk.specs.Stmts.{cut, turn, again}
 use Rattle.bt_ir.specs.declared.blocks.Block.{Block}
-use Rattle.bt_ir.specs.declared.blocks.Exit.TheVariants.{Goto, Gate, Again, End}
+use Rattle.bt_ir.specs.declared.blocks.Exit.TheVariants.{Again, End}
 use Rattle.bt_ir.specs.declared.instr.Instr.TheVariants as i
 use Rattle.bt_ir.specs.declared.stack.State.{State}
 use Rattle.bt_ir.specs.Asking.{told as asks_for}
 use Rattle.bt_ir.specs.Meaning.{Scene, block_run, run_from}
 use Rattle.bt_lower.specs.declared.code.Code.{Code}
-use Rattle.bt_lower.specs.Code.{pushed, begun, closed, gated, with_cut}
-use Rattle.bt_lower.specs.Lowers.{Stand, Runs, Reaches, state, seen_by}
-use Rattle.bt_lower.proofs.Blocks.{and_then-same, Runs-is, Runs-push, Reaches-close, Reaches-is, Reaches-more}
+use Rattle.bt_lower.specs.Code.{pushed, begun, gated, with_cut}
+use Rattle.bt_lower.specs.Lowers.{Stand, Runs, Reaches, state}
+use Rattle.bt_lower.proofs.Blocks.{Runs-push, Reaches-close, Reaches-is, Reaches-more}
 
 abbrev pub with_turns : ℕ → Frame → Frame
 with_turns left frame = record { variables = frame.variables; turns = left }

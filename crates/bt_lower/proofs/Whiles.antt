@@ -1,37 +1,33 @@
 -- Lowering of `while`.
-use Rattle.std.proofs.Common.{◌≡◌, ℕ, zero, suc, ◌+◌, ◌-◌, ◌*◌, ◌<◌, ◌≤◌, List, [], ◌∷◌, ◌++◌, length, refl, sym, ap, ◌∙◌, subst, arith, append-nil, Bool, true, Option, Some, length-append, length-set}
+use Rattle.std.proofs.Common.{◌≡◌, ℕ, suc, ◌+◌, ◌-◌, ◌*◌, ◌<◌, ◌≤◌, List, [], ◌∷◌, ◌++◌, length, refl, sym, ap, ◌∙◌, subst, arith, append-nil, Bool, true, Some, length-append, length-set}
 use Rattle.std.specs.Prelude.{ℤ, max, slice_get, slice_set}
 use Rattle.std.proofs.Math.Nat.{le-max_left, le-max_right}
-use Rattle.bt_core.specs.declared.ending.Ending.{Ending}
 use Rattle.bt_core.specs.declared.ending.Ending.TheVariants.{Cut as AtCut}
 use Rattle.bt_core.specs.declared.map.Shape.{Shape}
 use Rattle.bt_core.specs.declared.map.Shape.TheVariants as shapes
-use Rattle.bt_core.specs.declared.value.Value.{Value}
-use Rattle.bt_core.specs.Interaction.{Interaction, Ended, and_then}
 use Rattle.typed_tree.specs.Parts.{Part}
 use Rattle.typed_tree.specs.Scope.{Scope, all_fit}
 use Rattle.bt_walk.specs.declared.flow.Flow.{Flow}
 use Rattle.bt_walk.specs.declared.flow.Flow.TheVariants.{Next}
-use Rattle.bt_walk.specs.declared.flow.Frame.{Frame}
 use Rattle.bt_walk.specs.Does.{Does, seen, bind}
 use Rattle.bt_walk.specs.Exprs.{number_value}
 use Rattle.bt_walk.specs.Stmts.{while_true}
 use Rattle.bt_ir.specs.declared.blocks.Block.{Block}
-use Rattle.bt_ir.specs.declared.blocks.Exit.TheVariants.{Branch, Again, End}
+use Rattle.bt_ir.specs.declared.blocks.Exit.TheVariants.{Branch, End}
 use Rattle.bt_ir.specs.declared.instr.Instr.TheVariants as i
-use Rattle.bt_ir.specs.Figures.{sizes_of, instrs_slots, exit_slots, blocks_slots}
-use Rattle.bt_ir.specs.Typing.{Ground, stack_in}
-use Rattle.bt_ir.specs.Ways.{depth_in, depth_at}
+use Rattle.bt_ir.specs.Figures.{sizes_of, blocks_slots}
+use Rattle.bt_ir.specs.Typing.{stack_in}
+use Rattle.bt_ir.specs.Ways.{depth_in}
 use Rattle.bt_lower.specs.declared.code.Code.{Code}
 use Rattle.bt_lower.specs.declared.code.Ways.{Ways}
 use Rattle.bt_lower.specs.Code.{pushed, begun, closed, open_block, reserved, placeholder, gated, patched, turn_end, with_cut, code_slots}
-use Rattle.bt_lower.specs.Lowers.{Stand, Grew, Runs, Reaches, state, seen_by, fuel, Follows, LowersValue, LowersBlock, LowersStmt}
-use Rattle.bt_lower.specs.Needs.{Need, need, more, greater}
-use Rattle.bt_lower.specs.Sound.{Site, HasRoom, Opens, Sound, SoundBlock, Target, Back, WaysStand}
+use Rattle.bt_lower.specs.Lowers.{Stand, Grew, state, seen_by, fuel, LowersValue, LowersBlock, LowersStmt}
+use Rattle.bt_lower.specs.Needs.{Need, more, greater}
+use Rattle.bt_lower.specs.Sound.{Footing, HasRoom, Opens, Sound, Target, Back}
 use Rattle.bt_lower.proofs.Blocks.{Grew-trans, Grew-one, Grew-length, Stand-later, Stand-before, Reaches-close, closed-length, here-closed, slice_get-append, slice_get-seam}
 use Rattle.bt_lower.proofs.Lists.{front-none, sizes-append}
 use Rattle.bt_lower.proofs.Loops.{over, stands1, stands2, stands4, stands6, here, g09, tests_reach, some-below, set-slots, Sound-end}
-use Rattle.bt_lower.proofs.Opening.{Room-less, Sound-none, Sound-join, Sound-close, Target-close, Target-later, Opens-push, Opens-branch}
+use Rattle.bt_lower.proofs.Opening.{Room-less, none-read, Sound-join, Sound-close, Target-close, Opens-push, Opens-branch}
 use Rattle.bt_lower.proofs.Patches.{Grew-set}
 use Rattle.bt_lower.proofs.Slots.{slots-pushed, slots-closed, slots-begun, slots-reserved, slots-gated}
 
@@ -43,12 +39,12 @@ pub cut-slots : (line : ℕ) (c : Code) → code_slots (with_cut line c) ≤ cod
 cut-slots line c = omega (arith, slots-closed (pushed (i.Cut line) (begun (End AtCut) [] c)), slots-pushed (i.Cut line) (begun (End AtCut) [] c), slots-begun (End AtCut) [] c)
 
 -- the cut is sound
-pub cut-sound : (g : Ground) (bs : List Block) (line : ℕ) (c : Code) → HasRoom g (sizes_of c.stack) → Stand (length c.blocks) (with_cut line c).blocks bs → Sound g bs (length c.blocks) (length (with_cut line c).blocks)
+pub cut-sound : (g : Footing) (bs : List Block) (line : ℕ) (c : Code) → HasRoom g (sizes_of c.stack) → Stand (length c.blocks) (with_cut line c).blocks bs → Sound g bs (length c.blocks) (length (with_cut line c).blocks)
 cut-sound g bs line c room stand =
     let none : sizes_of (c.stack ++ []) ≡ sizes_of c.stack = ap sizes_of (append-nil c.stack) in
     let none2 : sizes_of ((c.stack ++ []) ++ []) ≡ sizes_of c.stack = ap sizes_of (append-nil (c.stack ++ [])) ∙ none in
     Sound-close g bs (pushed (i.Cut line) (begun (End AtCut) [] c)) stand
-    (Opens-push g bs (begun (End AtCut) [] c) (i.Cut line) (c.stack ++ []) (sym (append-nil (c.stack ++ []))) refl (Room-less g _ _ (omega (arith, none2)) room)
+    (Opens-push g bs (begun (End AtCut) [] c) (i.Cut line) (c.stack ++ []) (sym (append-nil (c.stack ++ []))) refl (none-read g.payload) (Room-less g _ _ (omega (arith, none2)) room)
     (record { after = c.stack ++ []; turns = (refl, Room-less g _ _ (omega (arith, none)) room); leads = tt }))
 
 pub cut-target : (bs : List Block) (line m depth : ℕ) (c : Code) → Stand (length c.blocks) (with_cut line c).blocks bs → length c.blocks < m → c.depth ≤ depth → Target bs m depth c.stack (length c.blocks)

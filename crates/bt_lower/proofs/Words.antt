@@ -1,9 +1,8 @@
 -- Lowering of each kind of expression.
-use Rattle.std.proofs.Common.{◌≡◌, ℕ, zero, suc, ◌+◌, ◌≤◌, ◌<◌, List, [], ◌∷◌, ◌++◌, length, refl, sym, ap, ◌∙◌, subst, arith, append_assoc, append-nil, length-append, Bool, true, false, Option, Some}
-use Rattle.std.specs.Prelude.{ℤ, pos, max, cond, not, slice_get}
+use Rattle.std.proofs.Common.{◌≡◌, ℕ, ◌+◌, ◌≤◌, List, [], ◌∷◌, ◌++◌, length, refl, sym, ap, ◌∙◌, arith, append_assoc, append-nil, Bool, true}
+use Rattle.std.specs.Prelude.{ℤ, pos, max, cond, not}
 use Rattle.std.specs.Str.{bytes_eq}
-use Rattle.std.proofs.Math.Nat.{le-max_left, le-max_right, max-le}
-use Rattle.bt_core.specs.declared.map.MapId.{MapId}
+use Rattle.std.proofs.Math.Nat.{le-max_right, max-le}
 use Rattle.bt_core.specs.declared.map.Shape.{Shape}
 use Rattle.bt_core.specs.declared.map.Shape.TheVariants as shapes
 use Rattle.bt_core.specs.declared.operator.BinOp.{BinOp}
@@ -11,33 +10,31 @@ use Rattle.bt_core.specs.declared.operator.UnOp.{UnOp}
 use Rattle.bt_core.specs.declared.value.Value.{Value}
 use Rattle.bt_core.specs.declared.value.Value.TheVariants.{Int, Str}
 use Rattle.bt_core.specs.Arithmetic.{binary_value, unary_value, truth}
-use Rattle.bt_core.specs.Interaction.{Interaction, Ended, Asks, and_then}
+use Rattle.bt_core.specs.Interaction.{Ended}
 use Rattle.bt_core.proofs.InteractionLaws.{and_then_assoc}
 use Rattle.typed_tree.specs.declared.expr.NumBuiltin.{NumBuiltin}
-use Rattle.tracefs_format.specs.declared.field.Field.{Field}
 use Rattle.typed_tree.specs.Parts.{Part, Joined, Prefixed, Both}
-use Rattle.typed_tree.specs.Scope.{Scope, all_fit, fits}
+use Rattle.typed_tree.specs.Scope.{fits}
 use Rattle.bt_walk.specs.declared.flow.Frame.{Frame}
-use Rattle.bt_walk.specs.Does.{Does, given, seen, changed, asked, bind, choose, either, holds, in_order, told}
+use Rattle.bt_walk.specs.Does.{Does, given, seen, bind, holds}
 use Rattle.bt_walk.specs.Does.{Scene as Walked}
-use Rattle.bt_walk.specs.Exprs.{number_value, text_value, before, both, compared, tested, and_also, or_else, read_number, read_text, read, step_variable, step_map, builtin, builtin_value, command, number_field, text_field}
-use Rattle.bt_walk.specs.Maps.{number_variable, text_variable, get, set, assigned, with_variable}
+use Rattle.bt_walk.specs.Exprs.{number_value, text_value, before, both, compared, tested, builtin, builtin_value, command}
 use Rattle.bt_ir.specs.declared.instr.Instr.{Instr}
 use Rattle.bt_ir.specs.declared.instr.Instr.TheVariants as i
 use Rattle.bt_core.specs.declared.map.MapDecl.{MapDecl}
-use Rattle.bt_ir.specs.Asking.{got}
-use Rattle.bt_ir.specs.Figures.{size_of, sizes_of, instr_slots, instr_bytes, by_shape}
-use Rattle.bt_ir.specs.Meaning.{instr_run, stepped}
-use Rattle.bt_ir.specs.Typing.{Ground, takes, gives, names}
-use Rattle.bt_ir.specs.Values.{top, below, number_of, text_of, as_shape, shape_of}
+use Rattle.bt_ir.specs.Figures.{sizes_of, instr_slots, instr_bytes}
+use Rattle.bt_ir.specs.Meaning.{instr_run}
+use Rattle.bt_ir.specs.Running.{end_read}
+use Rattle.bt_ir.specs.Typing.{takes, gives, names}
+use Rattle.bt_ir.specs.Values.{top, below, number_of, text_of}
 use Rattle.bt_lower.specs.declared.code.Code.{Code}
-use Rattle.bt_lower.specs.Code.{pushed, begun, closed, untyped}
-use Rattle.bt_lower.specs.Lowers.{state, seen_by, LowersParts, LowersValue, LowersArm, known_need}
-use Rattle.bt_lower.specs.Needs.{Need, need, more, greater}
-use Rattle.bt_lower.specs.Sound.{Site}
-use Rattle.bt_lower.proofs.Blocks.{and_then-same}
+use Rattle.bt_lower.specs.Code.{pushed}
+use Rattle.bt_lower.specs.Lowers.{state, seen_by, LowersValue}
+use Rattle.bt_lower.specs.Needs.{Need, need, more}
+use Rattle.bt_lower.specs.Sound.{ground_in, Site}
+use Rattle.bt_lower.proofs.Opening.{none-read}
 use Rattle.bt_lower.proofs.Exprs.{Parts-none, Parts-less, Parts-fit, Parts-append, Puts, Parts-put}
-use Rattle.bt_lower.proofs.Lists.{top-append, below-append, last-append, front-append, fit-parts, fit-head, sizes-append}
+use Rattle.bt_lower.proofs.Lists.{top-append, below-append, fit-head}
 
 -- ---- what takes nothing off the stack
 
@@ -63,27 +60,27 @@ Leaf x shape d val fr tk gv ft is runs turns = record {
 pub Lowers-leaf : (x : Instr) (head : Part) (shape : Shape) (d : Does Value) (val : Walked → Frame → Value) (fr : Frame → Frame) (n : Need) (c new : Code) → takes x ≡ [] → gives x ≡ shape ∷ [] → sizes_of (shape ∷ []) ≤ instr_bytes x →
     ((w : Walked) (frame : Frame) → d w frame ≡ Ended (val w frame, fr frame)) →
     ((maps : List MapDecl) (w : Walked) (frame : Frame) (values : List Value) → instr_run x (seen_by maps w) (state frame values) ≡ Ended (state (fr frame) (values ++ val w frame ∷ []))) →
-    ((frame : Frame) → (fr frame).turns ≡ frame.turns) → ((s : Site) → fits s.scope head ≡ true → names s.ground x ≡ true) → instr_bytes x ≤ n.frame → instr_slots x ≤ n.code → new ≡ pushed x c → LowersValue (head ∷ []) d shape n c new
-Lowers-leaf x head shape d val fr n c new tk gv ft is runs turns named hf hc e =
+    ((frame : Frame) → (fr frame).turns ≡ frame.turns) → ((s : Site) → fits s.scope head ≡ true → names (ground_in s.ground) x ≡ true) → ((s : Site) → fits s.scope head ≡ true → end_read x ≤ s.ground.payload) → instr_bytes x ≤ n.frame → instr_slots x ≤ n.code → new ≡ pushed x c → LowersValue (head ∷ []) d shape n c new
+Lowers-leaf x head shape d val fr n c new tk gv ft is runs turns named reads hf hc e =
     Parts-less (head ∷ []) (d ∷ []) (shape ∷ []) (need (max 0 (0 + instr_bytes x)) (instr_slots x + 0)) n c new (max-le (omega arith) (omega arith)) (omega arith)
     (Parts-put x [] head [] [] shape d (λ w vs frame. Ended tt) (λ w vs frame a. val w frame) (λ vs frame a. fr frame) (need 0 0) c new new
-    (Leaf x shape d val fr tk gv ft is runs turns) (λ s f. let p = fit-head s.scope head [] f in (named s p.0, p.1)) e (Parts-none new))
+    (Leaf x shape d val fr tk gv ft is runs turns) (λ s f. let p = fit-head s.scope head [] f in (named s p.0, p.1)) (λ s f. reads s (fit-head s.scope head [] f).0) e (Parts-none new))
 
 pub Lowers-number : (z : ℤ) (head : Part) (c new : Code) → new ≡ pushed (i.Put (Int z)) c → LowersValue (head ∷ []) (number_value (given z)) shapes.Int (need 8 4) c new
 unfolding given bind
-Lowers-number z head c new e = Lowers-leaf (i.Put (Int z)) head shapes.Int (number_value (given z)) (λ w frame. Int z) (λ frame. frame) (need 8 4) c new refl refl (omega arith) (λ w frame. refl) (λ maps w frame values. refl) (λ frame. refl) (λ s f. refl) (omega arith) (omega arith) e
+Lowers-number z head c new e = Lowers-leaf (i.Put (Int z)) head shapes.Int (number_value (given z)) (λ w frame. Int z) (λ frame. frame) (need 8 4) c new refl refl (omega arith) (λ w frame. refl) (λ maps w frame values. refl) (λ frame. refl) (λ s f. refl) (λ s f. none-read s.ground.payload) (omega arith) (omega arith) e
 
 pub Lowers-literal : (s : List ℕ) (head : Part) (c new : Code) → new ≡ pushed (i.Put (Str s)) c → LowersValue (head ∷ []) (text_value (given s)) shapes.Str (need 64 32) c new
 unfolding given bind
-Lowers-literal s head c new e = Lowers-leaf (i.Put (Str s)) head shapes.Str (text_value (given s)) (λ w frame. Str s) (λ frame. frame) (need 64 32) c new refl refl (omega arith) (λ w frame. refl) (λ maps w frame values. refl) (λ frame. refl) (λ s f. refl) (omega arith) (omega arith) e
+Lowers-literal s head c new e = Lowers-leaf (i.Put (Str s)) head shapes.Str (text_value (given s)) (λ w frame. Str s) (λ frame. frame) (need 64 32) c new refl refl (omega arith) (λ w frame. refl) (λ maps w frame values. refl) (λ frame. refl) (λ s f. refl) (λ s f. none-read s.ground.payload) (omega arith) (omega arith) e
 
 pub Lowers-builtin : (b : NumBuiltin) (head : Part) (c new : Code) → new ≡ pushed (i.Builtin b) c → LowersValue (head ∷ []) (number_value (builtin b)) shapes.Int (need 8 4) c new
 unfolding given bind seen
-Lowers-builtin b head c new e = Lowers-leaf (i.Builtin b) head shapes.Int (number_value (builtin b)) (λ w frame. Int (builtin_value b w.context)) (λ frame. frame) (need 8 4) c new refl refl (omega arith) (λ w frame. refl) (λ maps w frame values. refl) (λ frame. refl) (λ s f. refl) (omega arith) (omega arith) e
+Lowers-builtin b head c new e = Lowers-leaf (i.Builtin b) head shapes.Int (number_value (builtin b)) (λ w frame. Int (builtin_value b w.context)) (λ frame. frame) (need 8 4) c new refl refl (omega arith) (λ w frame. refl) (λ maps w frame values. refl) (λ frame. refl) (λ s f. refl) (λ s f. none-read s.ground.payload) (omega arith) (omega arith) e
 
 pub Lowers-command : (head : Part) (c new : Code) → new ≡ pushed i.Comm c → LowersValue (head ∷ []) (text_value command) shapes.Str (need 64 24) c new
 unfolding given bind seen
-Lowers-command head c new e = Lowers-leaf i.Comm head shapes.Str (text_value command) (λ w frame. Str w.context.comm) (λ frame. frame) (need 64 24) c new refl refl (omega arith) (λ w frame. refl) (λ maps w frame values. refl) (λ frame. refl) (λ s f. refl) (omega arith) (omega arith) e
+Lowers-command head c new e = Lowers-leaf i.Comm head shapes.Str (text_value command) (λ w frame. Str w.context.comm) (λ frame. frame) (need 64 24) c new refl refl (omega arith) (λ w frame. refl) (λ maps w frame values. refl) (λ frame. refl) (λ s f. refl) (λ s f. none-read s.ground.payload) (omega arith) (omega arith) e
 
 -- ---- operators
 
@@ -135,7 +132,7 @@ Lowers-both op pl pr l r nl nr c c1 c2 new e1 lr ll =
     Parts-less _ _ _ (need (max (max nl.frame (8 + nr.frame)) 16) (12 + (nl.code + nr.code))) _ c new
     (max-le (omega arith) (omega (arith, lr.sizes, le-max_right nl.frame (8 + nr.frame)))) (omega arith)
     (Parts-put (i.Binary op) (pl ++ pr) (Joined op) (number_value l ∷ number_value r ∷ []) (shapes.Int ∷ shapes.Int ∷ []) shapes.Int (number_value (both op l r)) (λ w vs frame. Ended tt) (λ w vs frame a. Int (binary_value op (number_of (first vs)) (number_of (top vs)))) (λ vs frame a. frame) (need (max nl.frame (8 + nr.frame)) (nl.code + nr.code)) c c1 new
-    (both-puts op l r) (λ s f. let p = fit-head s.scope (Joined op) (pl ++ pr) f in (refl, p.1)) e1
+    (both-puts op l r) (λ s f. let p = fit-head s.scope (Joined op) (pl ++ pr) f in (refl, p.1)) (λ s f. none-read s.ground.payload) e1
     (Parts-append pl pr (number_value l ∷ []) (number_value r ∷ []) (shapes.Int ∷ []) (shapes.Int ∷ []) nl nr c1 c2 new lr ll))
 
 unary-puts : (op : UnOp) (d : Does ℤ) → Puts (i.Unary op) (number_value d ∷ []) (shapes.Int ∷ []) shapes.Int (number_value (before op d)) {A = Unit {0}} (λ w vs frame. Ended tt) (λ w vs frame a. Int (unary_value op (number_of (top vs)))) (λ vs frame a. frame)
@@ -160,7 +157,7 @@ pub Lowers-unary : (op : UnOp) (pd : List Part) (d : Does ℤ) (n : Need) (c c1 
 Lowers-unary op pd d n c c1 new e1 ld =
     Parts-less _ _ _ (need (max n.frame 8) (8 + n.code)) _ c new (max-le (omega arith) (omega (arith, ld.sizes))) (omega arith)
     (Parts-put (i.Unary op) pd (Prefixed op) (number_value d ∷ []) (shapes.Int ∷ []) shapes.Int (number_value (before op d)) (λ w vs frame. Ended tt) (λ w vs frame a. Int (unary_value op (number_of (top vs)))) (λ vs frame a. frame) n c c1 new
-    (unary-puts op d) (λ s f. let p = fit-head s.scope (Prefixed op) pd f in (refl, p.1)) e1 ld)
+    (unary-puts op d) (λ s f. let p = fit-head s.scope (Prefixed op) pd f in (refl, p.1)) (λ s f. none-read s.ground.payload) e1 ld)
 
 tested-puts : (d : Does ℤ) → Puts i.Truth (number_value d ∷ []) (shapes.Int ∷ []) shapes.Int (number_value (tested d)) {A = Unit {0}} (λ w vs frame. Ended tt) (λ w vs frame a. Int (truth (holds (number_of (top vs))))) (λ vs frame a. frame)
 unfolding given bind
@@ -186,7 +183,7 @@ Lowers-tested pd d n c c1 new e1 ld =
     Parts-fit (Both ∷ pd) pd _ _ _ c new (λ s f. f)
     (Parts-less _ _ _ (need (max n.frame 8) (4 + n.code)) _ c new (max-le (omega arith) (omega (arith, ld.sizes))) (omega arith)
     (Parts-put i.Truth pd Both (number_value d ∷ []) (shapes.Int ∷ []) shapes.Int (number_value (tested d)) (λ w vs frame. Ended tt) (λ w vs frame a. Int (truth (holds (number_of (top vs))))) (λ vs frame a. frame) n c c1 new
-    (tested-puts d) (λ s f. let p = fit-head s.scope Both pd f in (refl, p.1)) e1 ld))
+    (tested-puts d) (λ s f. let p = fit-head s.scope Both pd f in (refl, p.1)) (λ s f. none-read s.ground.payload) e1 ld))
 
 compared-puts : (equal : Bool) (l r : Does (List ℕ)) → Puts (i.Compare equal) (text_value l ∷ text_value r ∷ []) (shapes.Str ∷ shapes.Str ∷ []) shapes.Int (number_value (compared equal l r)) {A = Unit {0}} (λ w vs frame. Ended tt)
     (λ w vs frame a. Int (truth (cond equal (bytes_eq (text_of (first vs)) (text_of (top vs))) (not (bytes_eq (text_of (first vs)) (text_of (top vs))))))) (λ vs frame a. frame)
@@ -220,5 +217,5 @@ Lowers-compared equal head pl pr l r nl nr c c1 c2 new e1 lr ll =
     (max-le (omega arith) (omega (arith, lr.sizes, le-max_right nl.frame (64 + nr.frame)))) (omega arith)
     (Parts-put (i.Compare equal) (pl ++ pr) head (text_value l ∷ text_value r ∷ []) (shapes.Str ∷ shapes.Str ∷ []) shapes.Int (number_value (compared equal l r)) (λ w vs frame. Ended tt)
     (λ w vs frame a. Int (truth (cond equal (bytes_eq (text_of (first vs)) (text_of (top vs))) (not (bytes_eq (text_of (first vs)) (text_of (top vs))))))) (λ vs frame a. frame) (need (max nl.frame (64 + nr.frame)) (nl.code + nr.code)) c c1 new
-    (compared-puts equal l r) (λ s f. let p = fit-head s.scope head (pl ++ pr) f in (refl, p.1)) e1
+    (compared-puts equal l r) (λ s f. let p = fit-head s.scope head (pl ++ pr) f in (refl, p.1)) (λ s f. none-read s.ground.payload) e1
     (Parts-append pl pr (text_value l ∷ []) (text_value r ∷ []) (shapes.Str ∷ []) (shapes.Str ∷ []) nl nr c1 c2 new lr ll))

@@ -11,6 +11,10 @@ use Rattle.bt_ir.specs.Figures.{instrs_slots, exit_slots, blocks_slots}
 use Rattle.bt_ir.specs.Typing.{takes, gives, front_of}
 use Rattle.bt_lower.specs.declared.code.Code.{Code}
 
+-- the code that ends a run
+abbrev pub nothing : Code
+nothing = record { blocks = []; stack = []; instrs = []; exit = End AtEnd; depth = 0 }
+
 -- the types on the stack before an instruction, from those after it
 abbrev pub taken_back : Instr → List Shape → List Shape
 taken_back i stack = front_of (length (gives i)) stack ++ takes i

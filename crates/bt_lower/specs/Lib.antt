@@ -1,3 +1,4 @@
+pub mod Bodies
 pub mod Code
 pub mod Lowers
 pub mod Needs

@@ -1,9 +1,7 @@
 -- What lowering does to code: it then does a construct, and after it what it did before.
-use Rattle.std.specs.Prelude.{◌≡◌, ℕ, ◌+◌, ◌*◌, ◌<◌, ◌≤◌, Bool, true, List, [], ◌∷◌, ◌++◌, length, reverse, Option, Some, None, slice_get, map}
-use Rattle.bt_core.specs.declared.context.Context.{Context}
+use Rattle.std.specs.Prelude.{◌≡◌, ℕ, ◌+◌, ◌*◌, ◌<◌, ◌≤◌, max, Bool, true, List, [], ◌∷◌, ◌++◌, length, reverse, Option, option_map, slice_get, map}
 use Rattle.bt_core.specs.declared.ending.Ending.{Ending}
 use Rattle.bt_core.specs.declared.map.MapDecl.{MapDecl}
-use Rattle.bt_core.specs.declared.map.MapId.{MapId}
 use Rattle.bt_core.specs.declared.map.Shape.{Shape}
 use Rattle.bt_core.specs.declared.map.Shape.TheVariants as shapes
 use Rattle.bt_core.specs.declared.value.Value.{Value}
@@ -12,14 +10,17 @@ use Rattle.typed_tree.specs.declared.expr.AnyExpr.{AnyExpr}
 use Rattle.typed_tree.specs.declared.expr.NumExpr.{NumExpr}
 use Rattle.typed_tree.specs.declared.expr.StrExpr.{StrExpr}
 use Rattle.typed_tree.specs.declared.stmt.TypedBlock.{TypedBlock}
-use Rattle.typed_tree.specs.Parts.{Part, Made, made_of, parts_in, key_shapes, block_parts, joined, arm_parts, otherwise_parts, option_inside, num_parts, str_parts}
+use Rattle.typed_tree.specs.declared.stmt.TypedStmt.{TypedStmt}
+use Rattle.typed_tree.specs.declared.stmt.TypedStmt.TheVariants as stmts
+use Rattle.typed_tree.specs.Parts.{Part, Made, made_of, parts_in, key_shapes, stmt_parts, block_parts, joined, arm_parts, otherwise_parts, option_inside, num_parts, str_parts}
 use Rattle.typed_tree.specs.Scope.{all_fit}
 use Rattle.bt_walk.specs.declared.flow.Flow.{Flow}
 use Rattle.bt_walk.specs.declared.flow.Flow.TheVariants.{Next, Break, Continue, Stop}
 use Rattle.bt_walk.specs.declared.flow.Frame.{Frame}
-use Rattle.bt_walk.specs.Does.{Does, in_order, given}
+use Rattle.bt_walk.specs.Does.{Does, in_order}
 use Rattle.bt_walk.specs.Does.{Scene as Walked}
 use Rattle.bt_walk.specs.Exprs.{value_does, values_do, number_does, text_does, number_value, text_value}
+use Rattle.bt_walk.specs.Stmts.{stmt_does, block_does, first_arm, block_or_next}
 use Rattle.bt_ir.specs.declared.blocks.Block.{Block}
 use Rattle.bt_ir.specs.declared.stack.State.{State}
 use Rattle.bt_ir.specs.Figures.{size_of, sizes_of, by_shape}
@@ -27,8 +28,8 @@ use Rattle.bt_ir.specs.Meaning.{Scene, code_run, run_from}
 use Rattle.bt_ir.specs.Values.{shape_of}
 use Rattle.bt_lower.specs.declared.code.Code.{Code}
 use Rattle.bt_lower.specs.declared.code.Ways.{Ways}
-use Rattle.bt_lower.specs.Code.{code_slots, closed}
-use Rattle.bt_lower.specs.Needs.{Need, need, Valued, value_need, values_need, number_need, text_need, list_frame, sizes_in, codes_in}
+use Rattle.bt_lower.specs.Code.{code_slots}
+use Rattle.bt_lower.specs.Needs.{Need, need, value_need, values_need, number_need, text_need, stmt_need, block_need, otherwise_need, list_frame, sizes_in, codes_in}
 use Rattle.bt_lower.specs.Sound.{Site, HasRoom, Opens, Sound, Target, WaysStand}
 
 -- the blocks of a list from this number on stand in the final one
@@ -149,3 +150,57 @@ pub record LowersBlock (parts : Bool → List Part) (d : Does Flow) (n : Need) (
   pub sound : (bs : List Block) → Stand (length old.blocks) new.blocks bs → (t : Site) (inside : Bool) → all_fit t.scope (parts inside) ≡ true
       → HasRoom t.ground (sizes_of old.stack + n.frame) → WaysStand bs way.leave way.again old → Target bs (length old.blocks) old.depth old.stack after
       → Target bs (length new.blocks) old.depth old.stack b × Sound t.ground bs (length old.blocks) (length new.blocks)
+
+-- ---- statements of the tree
+
+-- the new code does a statement of the tree; so it does one that goes nowhere else, whatever the ways out of a loop's block are
+abbrev pub LowersStatement : TypedStmt → Ways → Code → Code → Type 0
+LowersStatement s way old new = LowersStmt (stmt_parts s) (stmt_does s) (stmt_need s) way old new
+
+abbrev pub LowersSingle : TypedStmt → Code → Code → Type 0
+LowersSingle s old new = (way : Ways) → LowersStatement s way old new
+
+-- it does the statements of a block, and a block of its own does them
+abbrev pub LowersStatements : TypedBlock → Ways → Code → Code → Type 0
+LowersStatements b way old new = LowersStmt (block_parts b) (block_does b) (block_need b) way old new
+
+abbrev pub LowersInto : TypedBlock → ℕ → Ways → Code → Code → ℕ → Type 0
+LowersInto block after way old new b = LowersBlock (block_parts block) (block_does block) (block_need block) after way old new b
+
+-- the block of an `else`, or nothing
+abbrev pub else_parts : Option TypedBlock → Bool → List Part
+else_parts o inside = otherwise_parts (option_inside inside (option_map block_parts o))
+
+abbrev pub else_does : Option TypedBlock → Does Flow
+else_does o = block_or_next (option_map block_does o)
+
+abbrev pub else_need : Option TypedBlock → Need
+else_need o = otherwise_need (option_map block_need o)
+
+abbrev pub LowersElse : Option TypedBlock → ℕ → Ways → Code → Code → ℕ → Type 0
+LowersElse o after way old new b = LowersBlock (else_parts o) (else_does o) (else_need o) after way old new b
+
+-- the arms of an `if`: each has a test of 4 slots, besides what its parts need, and behind it comes what follows where the test does not hold
+abbrev pub arms_parts : List (NumExpr × TypedBlock) → Option TypedBlock → Bool → List Part
+arms_parts arms o inside = joined (map (λ arm. arm_parts (arm.0, block_parts arm.1 inside)) arms) ++ else_parts o inside
+
+abbrev pub arms_do : List (NumExpr × TypedBlock) → Option TypedBlock → Does Flow
+arms_do arms o = first_arm (map (λ arm. (number_does arm.0, block_does arm.1)) arms) (else_does o)
+
+abbrev pub arms_need : List (NumExpr × TypedBlock) → Option TypedBlock → Need
+arms_need [] o = else_need o
+arms_need (arm ∷ arms) o =
+    need (max (max (number_need arm.0).frame (block_need arm.1).frame) (arms_need arms o).frame)
+    (4 + ((number_need arm.0).code + (block_need arm.1).code) + (arms_need arms o).code)
+
+abbrev pub LowersArms : List (NumExpr × TypedBlock) → Option TypedBlock → ℕ → Ways → Code → Code → ℕ → Type 0
+LowersArms arms o after way old new b = LowersBlock (arms_parts arms o) (arms_do arms o) (arms_need arms o) after way old new b
+
+-- where the later arms and what comes behind them are there, there is one arm more
+abbrev pub LowersOneArm : NumExpr × TypedBlock → ℕ → ℕ → Ways → Code → Code → ℕ → Type 0
+LowersOneArm arm next after way old new b =
+    (arms : List (NumExpr × TypedBlock)) (o : Option TypedBlock) (first : Code) → LowersArms arms o after way first old next → LowersArms (arm ∷ arms) o after way first new b
+
+-- where the statement is an `if`, the new code does it
+abbrev pub LowersIf : TypedStmt → Ways → Code → Code → Type 0
+LowersIf s way old new = (arms : List (NumExpr × TypedBlock)) (o : Option TypedBlock) → s ≡ stmts.If arms o → LowersStatement s way old new

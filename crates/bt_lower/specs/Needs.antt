@@ -1,6 +1,6 @@
 -- What the code of a typed body needs: bytes of frame and slots of code. Both are sums over the tree, and do not depend on how code
 -- is generated.
-use Rattle.std.specs.Prelude.{ℕ, ◌+◌, max, List, [], ◌∷◌, Option, Some, None, map}
+use Rattle.std.specs.Prelude.{ℕ, ◌+◌, max, List, [], ◌∷◌, Option, Some, None, map, option_map}
 use Rattle.typed_tree.specs.declared.body.TypedTree.{TypedTree}
 use Rattle.typed_tree.specs.declared.expr.AnyExpr.{AnyExpr, fold-AnyExpr}
 use Rattle.typed_tree.specs.declared.expr.NumExpr.{NumExpr, fold-NumExpr}
@@ -13,20 +13,15 @@ use Rattle.typed_tree.specs.declared.stmt.TypedBlock.{TypedBlock, fold-TypedBloc
 use Rattle.typed_tree.specs.declared.stmt.TypedStmt.TheOpen.{TypedStmt-F, TypedBlock-F}
 use Rattle.typed_tree.specs.Parts.{made_of}
 use Rattle.bt_ir.specs.Figures.{sizes_of, by_shape}
+pub use Rattle.bt_lower.specs.declared.need.Need.{Need}
+pub use Rattle.bt_lower.specs.declared.need.Valued.{Valued}
+use Rattle.bt_lower.specs.declared.need.Listed.{Listed}
 
--- the bytes of frame that a construct needs, and the slots of its code
-pub record Need : Type 0 where
-  pub frame : ℕ
-  pub code : ℕ
-
+-- so many bytes of frame and slots
 abbrev pub need : ℕ → ℕ → Need
 need frame code = record { frame = frame; code = code }
 
--- an expression: the bytes of its value, and what it needs
-pub record Valued : Type 0 where
-  pub size : ℕ
-  pub need : Need
-
+-- an expression by the bytes of its value and what it needs
 abbrev pub valued : ℕ → Need → Valued
 valued size n = record { size = size; need = n }
 
@@ -42,6 +37,22 @@ sizes_in (v ∷ vs) = v.size + sizes_in vs
 abbrev pub codes_in : List Valued → ℕ
 codes_in [] = 0
 codes_in (v ∷ vs) = v.need.code + codes_in vs
+
+-- all of them
+abbrev pub listed : List Valued → Listed
+listed vs = record { sizes = sizes_in vs; need = need (list_frame vs) (codes_in vs) }
+
+-- one before others
+abbrev pub before : Valued → Listed → Listed
+before v vs = record { sizes = v.size + vs.sizes; need = need (max v.need.frame (v.size + vs.need.frame)) (v.need.code + vs.need.code) }
+
+-- the one, and then the other beside so many bytes
+abbrev pub then_beside : ℕ → Need → Need → Need
+then_beside bytes a b = need (max a.frame (bytes + b.frame)) (a.code + b.code)
+
+-- what so many bytes and slots beside a key come to
+abbrev pub under : Listed → ℕ → ℕ → Need
+under keys frame slots = need (max keys.need.frame (keys.sizes + frame)) (slots + keys.need.code)
 
 -- a key, and what stands beside it
 abbrev pub beside : List Valued → ℕ → ℕ
@@ -116,20 +127,28 @@ abbrev pub otherwise_need : Option Need → Need
 otherwise_need None = need 0 0
 otherwise_need (Some n) = n
 
+abbrev pub set_map_need : List Valued → Need → Need
+set_map_need keys value = need (beside keys value.frame) (24 + codes_in keys + value.code)
+
+abbrev pub update_map_need : List Valued → Need → Need
+update_map_need keys value = need (beside keys (max value.frame 16)) (40 + codes_in keys + value.code)
+
+-- `printf` and `delete`
+abbrev pub taking_need : List Valued → Need
+taking_need values = need (list_frame values) (16 + codes_in values)
+
 abbrev pub stmt_layer : TypedStmt-F Need Need → Need
 stmt_layer (TypedStmt-F.SetVar var value) = more (by_shape (made_of value).shape 8 24) (value_need value).need
-stmt_layer (TypedStmt-F.SetMap m keys value) =
-    need (beside (values_need keys) (value_need value).need.frame) (24 + codes_in (values_need keys) + (value_need value).need.code)
+stmt_layer (TypedStmt-F.SetMap m keys value) = set_map_need (values_need keys) (value_need value).need
 stmt_layer (TypedStmt-F.UpdateVar var op value) = more 16 (number_need value)
-stmt_layer (TypedStmt-F.UpdateMap m keys op value) =
-    need (beside (values_need keys) (max (number_need value).frame 16)) (40 + codes_in (values_need keys) + (number_need value).code)
+stmt_layer (TypedStmt-F.UpdateMap m keys op value) = update_map_need (values_need keys) (number_need value)
 stmt_layer (TypedStmt-F.Gather m keys kind number) = gather_need (values_need keys) number
 stmt_layer (TypedStmt-F.Step value) = number_need value
-stmt_layer (TypedStmt-F.Printf format values) = need (list_frame (values_need values)) (16 + codes_in (values_need values))
+stmt_layer (TypedStmt-F.Printf format values) = taking_need (values_need values)
 stmt_layer (TypedStmt-F.Print m top div) = need 0 16
 stmt_layer (TypedStmt-F.Clear m) = need 0 12
 stmt_layer (TypedStmt-F.Zero m) = need 0 12
-stmt_layer (TypedStmt-F.Delete m keys) = need (list_frame (values_need keys)) (16 + codes_in (values_need keys))
+stmt_layer (TypedStmt-F.Delete m keys) = taking_need (values_need keys)
 stmt_layer (TypedStmt-F.Jump jump) = jump_need jump
 stmt_layer (TypedStmt-F.If arms otherwise) = greater (all_need (map arm_need arms)) (otherwise_need otherwise)
 stmt_layer (TypedStmt-F.While test block line) = more 24 (greater (number_need test) block)
@@ -144,6 +163,13 @@ stmt_need = fold-TypedStmt Need Need stmt_layer block_layer
 
 abbrev pub block_need : TypedBlock → Need
 block_need = fold-TypedBlock Need Need stmt_layer block_layer
+
+-- the arms of an `if`, and the block of an `else`
+abbrev pub tree_arms_need : List (NumExpr × TypedBlock) → Need
+tree_arms_need arms = all_need (map (λ (arm : NumExpr × TypedBlock). arm_need (arm.0, block_need arm.1)) arms)
+
+abbrev pub tree_else_need : Option TypedBlock → Need
+tree_else_need otherwise = otherwise_need (option_map block_need otherwise)
 
 abbrev pub predicate_need : Option NumExpr → Need
 predicate_need None = need 0 0

@@ -1,7 +1,6 @@
-use Rattle.std.proofs.Common.{◌≡◌, length, ◌∷◌, [], ◌∙◌, sym, ap, arith, SFits, w64, rules, refl}
+use Rattle.std.proofs.Common.{length, ◌∙◌, ap, arith, SFits, w64, rules, refl}
 use Rattle.std.proofs.lemmas.Int.{to_z-of_z}
 use Rattle.typed_tree.specs.Parts.{key_shapes}
-use Rattle.bt_ir.specs.declared.blocks.Exit.TheVariants.{Goto}
 use Rattle.bt_ir.specs.declared.instr.Instr.TheVariants as i
 use Rattle.bt_core.specs.declared.value.Value.TheVariants.{Str}
 use Rattle.bt_lower.specs.Code.{pushed}

@@ -1,4 +1,3 @@
-use Rattle.bt_ir.specs.Values.{shape_of}
 use Rattle.std.proofs.Common.{ap, ◌∙◌, ◌∷◌, []}
 use Rattle.bt_ir.specs.declared.blocks.Exit.TheVariants.{Goto}
 use Rattle.bt_lower.specs.Code.{begun}

@@ -1,0 +1,117 @@
+use Rattle.std.proofs.Common.{◌∙◌, sym, ap, refl, arith, List, SFits, w64, rules}
+use Rattle.std.proofs.lemmas.Int.{to_z-of_z}
+use Rattle.typed_tree.specs.declared.expr.AnyExpr.{AnyExpr}
+use Rattle.typed_tree.specs.declared.stmt.TypedBlock.{TypedBlock}
+use Rattle.typed_tree.specs.declared.stmt.TypedBlock as blocks
+use Rattle.typed_tree.specs.declared.stmt.TypedStmt as trees
+use Rattle.typed_tree.specs.declared.stmt.TypedStmt.TheVariants as stmts
+use Rattle.std.specs.Prelude.{ℤ}
+use Rattle.bt_core.specs.declared.value.Value.TheVariants.{Int}
+use Rattle.bt_ir.specs.declared.instr.Instr.TheVariants as i
+use Rattle.bt_lower.specs.Code.{pushed}
+use Rattle.bt_lower.proofs.Branches.{Else-none, Else-some, Arms-start, Arms-more, Arms-next, T-If, T-If-none, T-If-else}
+use Rattle.bt_lower.proofs.Jumps.{Same, Same-single}
+use Rattle.bt_lower.proofs.Rest.{Rest-start, Rest-next, Rest-end}
+use Rattle.bt_lower.proofs.Stmts.{Lowers-into}
+use Rattle.bt_lower.proofs.Unrolled.{unroll-steps}
+use Rattle.bt_lower.proofs.Whiled.{T-While}
+use Rattle.bt_lower.proofs.stmt.+stmt.Goals as goal
+
+pub lower_stmt-returns-in_ok-set_variable-in-SetVar : goal.lower_stmt-returns-in_ok-set_variable-in-SetVar
+lower_stmt-returns-in_ok-set_variable-in-SetVar t c = Same-single _ _ _ _ _ c.in-SetVar.is c.in_ok-set_variable-in-SetVar.ensures
+
+pub lower_stmt-returns-in_ok-update_variable-in-UpdateVar : goal.lower_stmt-returns-in_ok-update_variable-in-UpdateVar
+lower_stmt-returns-in_ok-update_variable-in-UpdateVar t c = Same-single _ _ _ _ _ c.in-UpdateVar.is c.in_ok-update_variable-in-UpdateVar.ensures
+
+pub lower_stmt-returns-in_ok-step-in-Step : goal.lower_stmt-returns-in_ok-step-in-Step
+lower_stmt-returns-in_ok-step-in-Step t c = Same-single _ _ _ _ _ c.in-Step.is c.in_ok-step-in-Step.ensures
+
+pub lower_stmt-returns-in_ok-clear-in-Clear : goal.lower_stmt-returns-in_ok-clear-in-Clear
+lower_stmt-returns-in_ok-clear-in-Clear t c = Same-single _ _ _ _ _ c.in-Clear.is c.in_ok-clear-in-Clear.ensures
+
+pub lower_stmt-returns-in_ok-zero-in-Zero : goal.lower_stmt-returns-in_ok-zero-in-Zero
+lower_stmt-returns-in_ok-zero-in-Zero t c = Same-single _ _ _ _ _ c.in-Zero.is c.in_ok-zero-in-Zero.ensures
+
+pub lower_stmt-returns-in_ok-lower_while-in-While : goal.lower_stmt-returns-in_ok-lower_while-in-While
+lower_stmt-returns-in_ok-lower_while-in-While t c = Same-single _ _ _ _ _ c.in-While.is c.in_ok-lower_while-in-While.ensures
+
+pub lower_stmt-returns-in_ok-lower_unroll-in-Unroll : goal.lower_stmt-returns-in_ok-lower_unroll-in-Unroll
+lower_stmt-returns-in_ok-lower_unroll-in-Unroll t c = Same-single _ _ _ _ _ c.in-Unroll.is c.in_ok-lower_unroll-in-Unroll.ensures
+
+pub lower_stmt-returns-in_ok-set_map-in-SetMap : goal.lower_stmt-returns-in_ok-set_map-in-SetMap
+lower_stmt-returns-in_ok-set_map-in-SetMap t c = Same-single _ _ _ _ _ (c.in-SetMap.is ∙ ap (λ (l : List AnyExpr). stmts.SetMap c.in-SetMap.map l c.in-SetMap.value) (sym c.as_slice.ensures)) c.in_ok-set_map-in-SetMap.ensures
+
+pub lower_stmt-returns-in_ok-update_map-in-UpdateMap : goal.lower_stmt-returns-in_ok-update_map-in-UpdateMap
+lower_stmt-returns-in_ok-update_map-in-UpdateMap t c = Same-single _ _ _ _ _ (c.in-UpdateMap.is ∙ ap (λ (l : List AnyExpr). stmts.UpdateMap c.in-UpdateMap.map l c.in-UpdateMap.op c.in-UpdateMap.value) (sym c.as_slice-in-UpdateMap.ensures)) c.in_ok-update_map-in-UpdateMap.ensures
+
+pub lower_stmt-returns-in_ok-gather-in-Gather : goal.lower_stmt-returns-in_ok-gather-in-Gather
+lower_stmt-returns-in_ok-gather-in-Gather t c = Same-single _ _ _ _ _ (c.in-Gather.is ∙ ap (λ (l : List AnyExpr). stmts.Gather c.in-Gather.map l c.in-Gather.kind c.in-Gather.number) (sym c.as_slice-in-Gather.ensures)) c.in_ok-gather-in-Gather.ensures
+
+pub lower_stmt-returns-in_ok-printf-in-Printf : goal.lower_stmt-returns-in_ok-printf-in-Printf
+lower_stmt-returns-in_ok-printf-in-Printf t c = Same-single _ _ _ _ _ (c.in-Printf.is ∙ ap (λ (l : List AnyExpr). stmts.Printf c.in-Printf.format l) (sym c.as_slice-in-Printf.ensures)) c.in_ok-printf-in-Printf.ensures
+
+pub lower_stmt-returns-in_ok-delete_at-in-Delete : goal.lower_stmt-returns-in_ok-delete_at-in-Delete
+lower_stmt-returns-in_ok-delete_at-in-Delete t c = Same-single _ _ _ _ _ (c.in-Delete.is ∙ ap (λ (l : List AnyExpr). stmts.Delete c.in-Delete.map l) (sym c.as_slice-in-Delete.ensures)) c.in_ok-delete_at-in-Delete.ensures
+
+pub lower_stmt-returns-in_ok-print-in-Print : goal.lower_stmt-returns-in_ok-print-in-Print
+lower_stmt-returns-in_ok-print-in-Print t c =
+    let fits : SFits w64 c.in-Print.div = search rules in
+    let made = simp to_z-of_z at c.in_ok-print-in-Print.ensures in
+    Same-single _ _ _ _ _ c.in-Print.is made
+
+pub lower_stmt-returns-in_ok-jump-in-Jump : goal.lower_stmt-returns-in_ok-jump-in-Jump
+lower_stmt-returns-in_ok-jump-in-Jump t c = Same _ _ _ _ _ c.in-Jump.is c.in_ok-jump-in-Jump.ensures
+
+pub lower_block-loop-left-init : goal.lower_block-loop-left-init
+lower_block-loop-left-init t c = record { within = omega arith; lowered = Rest-start c.as_slice-stmts.result.now _ _ _ refl }
+
+pub lower_block-loop-left-preserved : goal.lower_block-loop-left-preserved
+lower_block-loop-left-preserved t c = record { within = omega (arith, c.loop-left.invariant.within); lowered = Rest-next _ _ _ _ _ _ _ c.loop-left-test.true c.loop-left.invariant.within c.index-stmts-left.is c.loop-left.invariant.lowered c.in_ok-lower_stmt.ensures }
+
+pub lower_block-returns : goal.lower_block-returns
+lower_block-returns t c = Rest-end _ _ c.loop-left.left _ _ _ (omega (arith, c.loop-left-test.false)) c.as_slice-stmts.ensures c.loop-left.invariant.lowered
+
+pub lower_into-returns : goal.lower_into-returns
+lower_into-returns t c = Lowers-into _ _ _ _ _ _ _ _ _ _ c.in_ok-begin.ensures c.in_ok-lower_block.ensures c.in_ok-number.ensures.closed c.in_ok-number.ensures.number
+
+pub lower_else-returns-in-None : goal.lower_else-returns-in-None
+lower_else-returns-in-None t c = Else-none _ _ _ _ c.in-None.is
+
+pub lower_else-returns-in_ok-number-in-Some : goal.lower_else-returns-in_ok-number-in-Some
+lower_else-returns-in_ok-number-in-Some t c = Else-some _ _ _ _ _ _ _ c.in-Some.is c.in_ok-number-in-Some.ensures
+
+pub lower_while-returns : goal.lower_while-returns
+lower_while-returns t c = λ way. T-While _ _ _ _ _ _ _ _ _ way _ _ _ _ _ _ _ _ _ _ _ c.in_ok-leave.ensures.closed c.in_ok-leave.ensures.number c.in_ok-cut.ensures.made c.in_ok-cut.ensures.number c.in_ok-again.ensures.reserved c.in_ok-again.ensures.number c.in_ok-turn.ensures c.gate.ensures c.in_ok-first.ensures.closed c.in_ok-first.ensures.number c.in_ok-begin.ensures c.in_ok-lower_number.ensures c.in_ok-head.ensures.closed c.in_ok-head.ensures.number c.in_ok-patch.ensures
+
+pub lower_stmt-returns-in_ok-lower_if-in-If : goal.lower_stmt-returns-in_ok-lower_if-in-If
+lower_stmt-returns-in_ok-lower_if-in-If t c = c.in_ok-lower_if-in-If.ensures _ _ c.in-If.is
+
+pub lower_only_else-returns-in_ok-lower_block-in-Some : goal.lower_only_else-returns-in_ok-lower_block-in-Some
+lower_only_else-returns-in_ok-lower_block-in-Some t c = T-If-else _ _ _ _ _ c.in-Some.is c.in_ok-lower_block-in-Some.ensures
+
+pub lower_only_else-returns-in-None : goal.lower_only_else-returns-in-None
+lower_only_else-returns-in-None t c = T-If-none _ _ _ c.in-None.is
+
+pub lower_arm-returns : goal.lower_arm-returns
+lower_arm-returns t c = λ arms o first ls. Arms-more _ arms o _ _ _ _ _ first _ _ _ _ _ ls c.in_ok-first.ensures c.in_ok-begin.ensures c.in_ok-lower_number.ensures c.in_ok-number.ensures.closed c.in_ok-number.ensures.number
+
+pub lower_unroll-returns : goal.lower_unroll-returns
+lower_unroll-returns t c =
+    let fits : SFits w64 c.from.result = search rules in
+    let made = simp to_z-of_z at (c.in_ok-push-2).ensures in
+    λ way. unroll-steps _ _ _ _ _ _ _ _ _ c.in_ok-push.ensures c.in_ok-leave.ensures.closed c.in_ok-leave.ensures.number c.in_ok-cut.ensures.made c.in_ok-cut.ensures.number c.in_ok-again.ensures.reserved c.in_ok-again.ensures.number _ _ way _ _ _ _ _ _ _ _ _ _ c.in_ok-turn.ensures c.gate.ensures c.in_ok-gate.ensures.closed c.in_ok-gate.ensures.number c.in_ok-begin.ensures c.in_ok-head.ensures.closed c.in_ok-head.ensures.number c.in_ok-patch.ensures (made ∙ ap (λ (n : ℤ). pushed (i.Put (Int n)) c.patch.new.self) c.from.ensures)
+
+pub lower_if-loop-left-init : goal.lower_if-loop-left-init
+lower_if-loop-left-init t c = record { within = omega arith; lowered = Arms-start _ _ _ _ _ _ _ _ c.args.code.now c.close.new.self _ c.in-If.is c.as_slice-arms.ensures refl c.in_ok-after.ensures.closed c.in_ok-next.ensures }
+
+pub lower_if-lower_arm-requires : goal.lower_if-lower_arm-requires
+lower_if-lower_arm-requires t c = search (rules, trees.the_lemmas, blocks.the_lemmas)
+
+pub lower_if-loop-left-preserved : goal.lower_if-loop-left-preserved
+lower_if-loop-left-preserved t c = record {
+  within = omega (arith, c.loop-left.invariant.within);
+  lowered = Arms-next _ _ c.loop-left.left c.index-arms-left.result _ _ _ _ _ _ _ c.loop-left-test.true c.loop-left.invariant.within c.index-arms-left.is c.loop-left.invariant.lowered (c.in_ok-next-2).ensures;
+}
+
+pub lower_if-returns-in_ok-begin : goal.lower_if-returns-in_ok-begin
+lower_if-returns-in_ok-begin t c = λ arms o is. T-If _ _ c.loop-left.left _ _ _ _ _ _ (omega (arith, c.if-left-eq0.false)) (omega (arith, c.loop-left-test.false)) c.in_ok-after.ensures.number c.loop-left.invariant.lowered c.in_ok-begin.ensures

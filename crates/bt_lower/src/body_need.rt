@@ -1,0 +1,179 @@
+// What statements and bodies need.
+ghost use Rattle.std.specs.Prelude.{◌≡◌, ◌+◌, IfOk};
+ghost use Rattle.bt_ir.specs.Figures.{by_shape};
+ghost use Rattle.bt_lower.specs.Needs.{need, more, greater, set_map_need, update_map_need, taking_need, stmt_need, block_need, arm_need, tree_else_need, gather_need, number_need, value_need, values_need, tree_need};
+
+use crate::need::{
+    Need, figures, greater, jump_need, more, number_need, predicate_need, sizes_of, sum, under,
+    value_need, values_need,
+};
+use bt_core::map::Shape;
+use bt_core::memory::Memory;
+use typed_tree::body::TypedTree;
+use typed_tree::expr::{AnyExpr, NumExpr};
+use typed_tree::stmt::{TypedBlock, TypedStmt};
+
+/// The slots of an assignment to a variable.
+fn store_slots(shape: Shape) -> u64
+    ensures { result ≡ by_shape shape 8 24 }
+{
+    match shape {
+        Shape::Int => 8,
+        Shape::Str => 24,
+    }
+}
+
+/// So many slots more behind.
+fn and_code(n: Need, code: u64) -> Result<Need, Memory>
+    ensures { IfOk result (λ all. all ≡ need n.frame (n.code + code)) }
+{
+    let code = sum(n.code, code)?;
+    Ok(figures(n.frame, code))
+}
+
+/// What an aggregation needs.
+fn gather_need(keys: &[AnyExpr], number: &Option<NumExpr>) -> Result<Need, Memory>
+    ensures { IfOk result (λ n. n ≡ gather_need (values_need keys.now) number.now) }
+{
+    let keys = values_need(keys)?;
+    match number {
+        None => more(24, keys.need),
+        Some(e) => {
+            let number = number_need(e)?;
+            let all = under(keys, number.frame, 24)?;
+            Ok(and_code(all, number.code)?)
+        }
+    }
+}
+
+/// What an assignment to a map needs.
+fn set_map_need(keys: &[AnyExpr], value: &AnyExpr) -> Result<Need, Memory>
+    ensures { IfOk result (λ n. n ≡ set_map_need (values_need keys.now) (value_need value.now).need) }
+{
+    let keys = values_need(keys)?;
+    let value = value_need(value)?;
+    let all = under(keys, value.need.frame, 24)?;
+    Ok(and_code(all, value.need.code)?)
+}
+
+/// What `op=` on a map needs.
+fn update_map_need(keys: &[AnyExpr], value: &NumExpr) -> Result<Need, Memory>
+    ensures { IfOk result (λ n. n ≡ update_map_need (values_need keys.now) (number_need value.now)) }
+{
+    let keys = values_need(keys)?;
+    let value = number_need(value)?;
+    let all = under(keys, value.frame.max(16), 40)?;
+    Ok(and_code(all, value.code)?)
+}
+
+/// What a statement needs that takes values alone.
+fn taking_need(values: &[AnyExpr]) -> Result<Need, Memory>
+    ensures { IfOk result (λ n. n ≡ taking_need (values_need values.now)) }
+{
+    let values = values_need(values)?;
+    Ok(more(16, values.need)?)
+}
+
+/// What a statement needs.
+#[cycle(body_need)]
+pub fn stmt_need(s: &TypedStmt) -> Result<Need, Memory>
+    ensures { IfOk result (λ n. n ≡ stmt_need s.now) }
+{
+    match s {
+        TypedStmt::SetVar { value, .. } => {
+            let valued = value_need(value)?;
+            Ok(more(store_slots(value.shape()), valued.need)?)
+        }
+        TypedStmt::SetMap { keys, value, .. } => Ok(set_map_need(keys.as_slice(), value)?),
+        TypedStmt::UpdateVar { value, .. } => Ok(more(16, number_need(value)?)?),
+        TypedStmt::UpdateMap { keys, value, .. } => Ok(update_map_need(keys.as_slice(), value)?),
+        TypedStmt::Gather { keys, number, .. } => Ok(gather_need(keys.as_slice(), number)?),
+        TypedStmt::Step(value) => Ok(number_need(value)?),
+        TypedStmt::Printf { values, .. } => Ok(taking_need(values.as_slice())?),
+        TypedStmt::Print { .. } => Ok(figures(0, 16)),
+        TypedStmt::Clear(_) => Ok(figures(0, 12)),
+        TypedStmt::Zero(_) => Ok(figures(0, 12)),
+        TypedStmt::Delete { keys, .. } => Ok(taking_need(keys.as_slice())?),
+        TypedStmt::Jump(to) => Ok(jump_need(*to)),
+        TypedStmt::If { arms, otherwise } => {
+            let arms = arms.as_slice();
+            let mut all = figures(0, 0);
+            let mut left = arms.len();
+            while left > 0 {
+                left -= 1;
+                let one = arm_need(&arms[left].1, &arms[left].0)?;
+                all = greater(one, all)?;
+            }
+            let otherwise = otherwise_need(otherwise)?;
+            Ok(greater(all, otherwise)?)
+        }
+        TypedStmt::While {
+            condition,
+            block,
+            ..
+        } => {
+            let test = number_need(condition)?;
+            let block = block_need(block)?;
+            let all = greater(test, block)?;
+            Ok(more(24, all)?)
+        }
+        TypedStmt::Unroll { block, .. } => {
+            let block = block_need(block)?;
+            let frame = sum(8, block.frame)?;
+            let code = sum(32, block.code)?;
+            Ok(figures(frame, code))
+        }
+    }
+}
+
+/// What a block needs.
+#[cycle(body_need)]
+pub fn block_need(block: &TypedBlock) -> Result<Need, Memory>
+    ensures { IfOk result (λ n. n ≡ block_need block.now) }
+{
+    let stmts = block.stmts.as_slice();
+    let mut all = figures(0, 0);
+    let mut left = stmts.len();
+    while left > 0 {
+        left -= 1;
+        let one = stmt_need(&stmts[left])?;
+        all = greater(one, all)?;
+    }
+    Ok(all)
+}
+
+/// What an arm of an `if` needs.
+#[cycle(body_need)]
+fn arm_need(block: &TypedBlock, test: &NumExpr) -> Result<Need, Memory>
+    ensures { IfOk result (λ n. n ≡ arm_need (test.now, block_need block.now)) }
+{
+    let test = number_need(test)?;
+    let block = block_need(block)?;
+    let one = greater(test, block)?;
+    Ok(more(8, one)?)
+}
+
+/// What the block of an `else` needs, where there is one.
+#[cycle(body_need)]
+fn otherwise_need(otherwise: &Option<TypedBlock>) -> Result<Need, Memory>
+    ensures { IfOk result (λ n. n ≡ tree_else_need otherwise.now) }
+{
+    match otherwise {
+        None => Ok(figures(0, 0)),
+        Some(block) => Ok(block_need(block)?),
+    }
+}
+
+/// What a whole body needs: 24 bytes are its own, and each variable has its bytes.
+pub fn tree_need(tree: &TypedTree) -> Result<Need, Memory>
+    ensures { IfOk result (λ n. n ≡ tree_need tree.now) }
+{
+    let variables = sizes_of(tree.variables.as_slice())?;
+    let predicate = predicate_need(&tree.predicate)?;
+    let block = block_need(&tree.block)?;
+    let guarded = greater(predicate, block)?;
+    let own = sum(24, variables)?;
+    let frame = sum(own, guarded.frame)?;
+    let code = sum(32, guarded.code)?;
+    Ok(figures(frame, code))
+}

@@ -1,0 +1,3 @@
+pub mod OwnMaps
+pub mod Passing
+pub mod Served

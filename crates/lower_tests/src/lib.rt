@@ -1,0 +1,17 @@
+//! Tests of lowering: runs of lowered bodies beside walks, the two sums, and a large script.
+#![tactic(auto)]
+
+#[cfg(test)]
+mod bodies;
+#[cfg(test)]
+mod large;
+#[cfg(test)]
+mod port;
+#[cfg(test)]
+mod replies;
+#[cfg(test)]
+mod runs;
+#[cfg(test)]
+mod scripts;
+#[cfg(test)]
+mod sums;
