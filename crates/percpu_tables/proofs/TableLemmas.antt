@@ -1,8 +1,6 @@
 -- The place of the tables of an actor, and the kind of their replies.
-use Rattle.std.proofs.Common.{◌≡◌, ℕ, ◌+◌, ◌<◌, List, [], ◌∷◌, refl, sym, ap, ◌∙◌, subst, arith, Some, Result, Ok, Err, OnOk, OnErr}
+use Rattle.std.proofs.Common.{◌≡◌, ℕ, ◌+◌, ◌<◌, List, refl, sym, ap, ◌∙◌, subst, arith, Some}
 use Rattle.std.specs.Prelude.{All, slice_get}
-use Rattle.std.specs.List.{AllByRecursion}
-use Rattle.std.proofs.lemmas.List.Elements.{All-from_recursion}
 use Rattle.bt_core.specs.declared.map.MapDecl.{MapDecl}
 use Rattle.bt_core.specs.declared.step.ObjectId.{ObjectId}
 use Rattle.bt_core.specs.declared.step.ObjectId.TheVariants.{Shared, Cpu, Clock, Out}
@@ -12,12 +10,12 @@ use Rattle.bt_core.specs.Kinds.{IsFineDecl}
 use Rattle.bt_core.specs.Ports.{IsTableOp, IsReplyOf}
 use Rattle.agg_core.specs.Answers.{table_answer}
 use Rattle.agg_core.proofs.KindLaws.{table_answer-kind}
-use Rattle.turn_lock.specs.History.{Each}
 use Rattle.stamped.specs.declared.trace.Trace.{Trace}
 use Rattle.stamped.specs.Numbered.{numbered}
 use Rattle.stamped.specs.SetSteps.{AreDistinct, IsReplied}
 use Rattle.stamped.specs.Traces.{steps_of}
 use Rattle.stamped.proofs.NumberedLemmas.{numbered_get, numbered_distinct}
+use Rattle.stamped.proofs.OutcomeLemmas.{each_all}
 use Rattle.percpu_tables.specs.Objects.{IsTableStep}
 
 pub at_table : (maps : List MapDecl) (n : ℕ) (object : ObjectId) (op : Op) (place : ℕ) → IsTableStep maps n object op → ((a : ℕ) → object ≡ Cpu a → place ≡ a)
@@ -37,19 +35,7 @@ kind_at kinds maps n place is lt = ap (λ l. slice_get l place) is ∙ numbered_
 pub tables_are_distinct : (n : ℕ) → AreDistinct (numbered Cpu 0 n)
 tables_are_distinct n = numbered_distinct Cpu (λ a b lt e. let q : a ≡ b = cc in omega arith) 0 n
 
-each_all : (P : Op → Type 0) (ops : List Op) → Each P ops → AllByRecursion P ops
-each_all P [] h = tt
-each_all P (o ∷ os) h = (h.0, each_all P os h.1)
-
 pub reply_kind : (maps : List MapDecl) (object : ObjectId) (op : Op) (place : ℕ) (trace : Trace) → All IsFineDecl maps → object ≡ Cpu place → IsTableOp maps op
     → IsReplied (IsTableOp maps) (table_answer maps) op trace → IsReplyOf maps object op (last_reply (steps_of trace))
 reply_kind maps object op place trace fine is own r = subst (λ o. IsReplyOf maps o op (last_reply (steps_of trace))) (sym is)
-    (subst (IsReplyOf maps (Cpu place) op) (sym r.replied) (table_answer-kind maps r.before op fine (All-from_recursion (IsTableOp maps) r.before (each_all (IsTableOp maps) r.before r.own)) own))
-
-pub on_ok : {A E : Type 0} (r : Result A E) (P Q : Type 0) → (P → Q) → OnOk r P → OnOk r Q
-on_ok (Ok x) P Q f h = f h
-on_ok (Err x) P Q f h = h
-
-pub on_err : {A E : Type 0} (r : Result A E) (P Q : Type 0) → (P → Q) → OnErr r P → OnErr r Q
-on_err (Ok x) P Q f h = h
-on_err (Err x) P Q f h = f h
+    (subst (IsReplyOf maps (Cpu place) op) (sym r.replied) (table_answer-kind maps r.before op fine (each_all (IsTableOp maps) r.before r.own) own))

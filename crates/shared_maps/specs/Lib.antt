@@ -1,2 +1,3 @@
 pub mod Parts
 pub mod Maps
+pub mod Refusals

@@ -1,5 +1,5 @@
 -- The parts of shared maps as objects of steps.
-use Rattle.std.specs.Prelude.{ℕ, ◌+◌, ◌<◌, List, [], ◌∷◌, ◌++◌, map}
+use Rattle.std.specs.Prelude.{◌≡◌, ℕ, ◌+◌, ◌<◌, List, [], ◌∷◌, ◌++◌, map, slice_get, Some}
 use Rattle.bt_core.specs.declared.limits.TheConstants.{PARTS}
 use Rattle.bt_core.specs.declared.map.MapDecl.{MapDecl}
 use Rattle.bt_core.specs.declared.map.MapKind.{MapKind}
@@ -11,12 +11,19 @@ use Rattle.bt_core.specs.Kinds.{IsShared}
 use Rattle.bt_core.specs.Ports.{Serves, IsSharedOp}
 use Rattle.stamped.specs.Numbered.{numbered}
 use Rattle.step_objects.specs.declared.shared.PartKind.{PartKind}
+use Rattle.step_objects.specs.declared.shared.SharedPart.{SharedPart}
 use Rattle.step_objects.specs.CpuTables.{map_at}
+use Rattle.step_objects.specs.Objects.{shared_kind}
 
 -- a part of a declared map, with an operation of its own
 abbrev pub IsPartStep : List MapDecl → ObjectId → Op → Type 0
 IsPartStep maps (Shared map part) op = (part < PARTS) × Serves maps map (λ decl. IsShared decl.kind × IsSharedOp decl op)
 IsPartStep maps object op = ⊥
+
+-- a part of a declared map
+abbrev pub IsPart : List MapDecl → ObjectId → Type 0
+IsPart maps (Shared map part) = (part < PARTS) × Serves maps map (λ decl. IsShared decl.kind)
+IsPart maps object = ⊥
 
 -- an object, and what it is made for
 abbrev pub Part : Type 0
@@ -40,3 +47,12 @@ parts_from m (decl ∷ decls) = numbered (part_at m decl) 0 (parts_in decl.kind)
 abbrev pub firsts_from : ℕ → List MapDecl → List ℕ
 firsts_from k [] = []
 firsts_from k (decl ∷ decls) = k ∷ firsts_from (k + parts_in decl.kind) decls
+
+-- each object with what it is made for
+abbrev pub made_for : List (ObjectId × SharedPart) → List Part
+made_for objects = map (λ (object : ObjectId × SharedPart). (object.0, shared_kind object.1)) objects
+
+-- this is the object, made for its map as that is declared
+abbrev pub IsPartFor : List MapDecl → ObjectId → Part → Type 0
+IsPartFor maps (Shared map p) part = (part.0 ≡ Shared map p) × (part.1.map ≡ map) × (slice_get maps map.0 ≡ Some part.1.decl)
+IsPartFor maps object part = ⊥

@@ -10,7 +10,8 @@ use Rattle.stamped.specs.SetEnds.{law_for}
 use Rattle.stamped.specs.Traces.{clock_of}
 use Rattle.step_objects.specs.Free.{IsTableFree}
 use Rattle.step_objects.specs.Objects.{cpu_kind}
-use Rattle.percpu_tables.proofs.TableLemmas.{at_table, id_at, kind_at, tables_are_distinct, reply_kind, on_ok, on_err}
+use Rattle.stamped.proofs.OutcomeLemmas.{on_ok, on_err}
+use Rattle.percpu_tables.proofs.TableLemmas.{at_table, id_at, kind_at, tables_are_distinct, reply_kind}
 use Rattle.percpu_tables.proofs.tables.Tables.step.Goals as goal
 
 pub step-requires-clause-own : goal.step-requires-clause-own

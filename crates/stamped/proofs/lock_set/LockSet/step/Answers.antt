@@ -15,21 +15,10 @@ use Rattle.stamped.specs.Rows.{Row}
 use Rattle.stamped.specs.SetTurns.{AreAt}
 use Rattle.stamped.specs.SetSteps.{AreOwn, Grows, IsReplied, IsRefused, AtPlace}
 use Rattle.stamped.specs.SetEnds.{law_for}
+use Rattle.stamped.proofs.OutcomeLemmas.{on_ok, on_err, on_both}
 use Rattle.stamped.proofs.OwnLemmas.{own_set, mine_set}
 use Rattle.stamped.proofs.SetLemmas.{in_mapped, get_map, at_length, at_place, at_set, replied, at_changed, for_at}
 use Rattle.stamped.proofs.lock_set.LockSet.step.Goals as goal
-
-on_ok : {A E : Type 0} (r : Result A E) (P Q : Type 0) → (P → Q) → OnOk r P → OnOk r Q
-on_ok (Ok x) P Q f h = f h
-on_ok (Err x) P Q f h = h
-
-on_err : {A E : Type 0} (r : Result A E) (P Q : Type 0) → (P → Q) → OnErr r P → OnErr r Q
-on_err (Ok x) P Q f h = h
-on_err (Err x) P Q f h = f h
-
-on_both : {A E : Type 0} (r : Result A E) (P Q Z : Type 0) → (P → Q → Z) → OnErr r P → OnErr r Q → OnErr r Z
-on_both (Ok x) P Q Z f p q = p
-on_both (Err x) P Q Z f p q = f p q
 
 grows : (l : Law) (o : ObjectId) (op : Op) (t u : Turn) (old new : Trace) → Performs l o op t u old new → Grows o op old new
 grows l o op t u old new p = record { reply = p.reply; steps = p.steps; floors = p.floors; clock = p.clock }
