@@ -32,6 +32,13 @@ impl Turns {
             at_parts: SetTurns::none(alloc, actor),
         }
     }
+
+    /// The actor's number.
+    pub fn actor(&self) -> u32
+        ensures { result ≡ self.now.0 }
+    {
+        self.at_parts.actor()
+    }
 }
 
 // The turns of each actor, as those at these parts.
