@@ -1,0 +1,3 @@
+pub mod Parts
+pub mod Maps
+pub mod Refusals

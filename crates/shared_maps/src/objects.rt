@@ -1,0 +1,74 @@
+// Parts of shared maps that no step was made at yet.
+ghost use Rattle.std.specs.Prelude.{◌≡◌, [], ◌++◌, OnOk, IfOk};
+ghost use Rattle.bt_core.specs.declared.limits.TheConstants.{PARTS as ALL_PARTS};
+ghost use Rattle.bt_core.specs.Kinds.{IsShared};
+ghost use Rattle.turn_lock.specs.History.{Each};
+ghost use Rattle.stamped.specs.Numbered.{numbered};
+ghost use Rattle.step_objects.specs.Objects.{SharedStands};
+ghost use Rattle.shared_maps.specs.Parts.{part_at, parts_in, parts_from, firsts_from, made_for};
+
+use bt_core::limits::PARTS;
+use bt_core::map::{MapDecl, MapId, MapKind};
+use bt_core::memory::{Memory, TryCopy};
+use bt_core::step::ObjectId;
+use std::alloc::Global;
+use step_objects::shared::SharedPart;
+
+/// Parts of shared maps, each with its identifier.
+pub(crate) type Parts = Vec<(ObjectId, SharedPart)>;
+
+// The number of a place, or [`Memory`] past the greatest that fits.
+fn number(place: usize) -> Result<u32, Memory>
+    ensures { IfOk result (λ number. number ≡ place) }
+{
+    match u32::try_from(place) {
+        Ok(number) => Ok(number),
+        Err(_) => Err(Memory),
+    }
+}
+
+// Adds all parts of the shared map with this number.
+fn push_parts(alloc: Global, objects: &mut Parts, number: u32, decl: &MapDecl) -> Result<(), Memory>
+    requires shared { IsShared decl.now.kind }
+    requires stand { Each (λ object. SharedStands object.1 []) objects.old.items }
+    ensures parts { OnOk result (made_for objects.new.items ≡ made_for objects.old.items ++ numbered (part_at number decl.now) 0 ALL_PARTS) }
+    ensures stand { OnOk result (Each (λ object. SharedStands object.1 []) objects.new.items) }
+{
+    for part in 0..PARTS {
+        let map = MapId(number);
+        let object = SharedPart::new(alloc, map, decl.try_copy(alloc)?)?;
+        objects.push((ObjectId::Shared { map, part }, object))?;
+    }
+    Ok(())
+}
+
+// Adds all parts of the map with this number, of which an aggregation has none.
+fn push_map(alloc: Global, objects: &mut Parts, number: u32, decl: &MapDecl) -> Result<(), Memory>
+    requires stand { Each (λ object. SharedStands object.1 []) objects.old.items }
+    ensures parts { OnOk result (made_for objects.new.items ≡
+        made_for objects.old.items ++ numbered (part_at number decl.now) 0 (parts_in decl.now.kind)) }
+    ensures stand { OnOk result (Each (λ object. SharedStands object.1 []) objects.new.items) }
+{
+    match decl.kind {
+        MapKind::Ints | MapKind::Strs => push_parts(alloc, objects, number, decl),
+        MapKind::Aggs(_) => Ok(()),
+    }
+}
+
+/// The parts of all shared maps, which took no operation yet, map by map; and where the parts of each map
+/// begin.
+pub(crate) fn new_parts(alloc: Global, maps: &[MapDecl]) -> Result<(Parts, Vec<u32>), Memory>
+    ensures parts { IfOk result (λ r. made_for r.0.items ≡ parts_from 0 maps.now) }
+    ensures firsts { IfOk result (λ r. r.1.items ≡ firsts_from 0 maps.now) }
+    ensures stand { IfOk result (λ r. Each (λ object. SharedStands object.1 []) r.0.items) }
+{
+    let mut objects = Vec::new(alloc);
+    let mut firsts = Vec::with_capacity(alloc, maps.len())?;
+    for (place, decl) in maps.iter().enumerate() {
+        let first = number(objects.len())?;
+        let map = number(place)?;
+        firsts.push(first)?;
+        push_map(alloc, &mut objects, map, decl)?;
+    }
+    Ok((objects, firsts))
+}

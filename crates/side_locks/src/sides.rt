@@ -1,0 +1,170 @@
+// The tick clock and the output, each behind a lock of its own.
+ghost use Rattle.std.specs.Prelude.{◌≡◌, ◌≢◌, ◌+◌, ◌<◌, ◌^◌, ◌-◌, [], ◌∷◌, IfOk, OnOk, OnErr};
+ghost use Rattle.bt_core.specs.declared.step.ObjectId.{ObjectId};
+ghost use Rattle.bt_core.specs.declared.step.ObjectId.TheVariants.{Clock as TheClock, Out as TheOut};
+ghost use Rattle.bt_core.specs.Interaction.{last_reply};
+ghost use Rattle.bt_core.specs.Ports.{IsReplyOf};
+ghost use Rattle.stamped.specs.Rows.{firsts};
+ghost use Rattle.stamped.specs.Sets as sets;
+ghost use Rattle.stamped.specs.SetTurns.{AreNew};
+ghost use Rattle.stamped.specs.SetSteps.{Grows};
+ghost use Rattle.stamped.specs.SetEnds.{IsClosed};
+ghost use Rattle.stamped.specs.Traces.{actor_of, clock_of, steps_of, HasRoom, IsSame, at_object};
+ghost use Rattle.step_objects.specs.Clocks.{clock_kind, ClockStands};
+ghost use Rattle.side_locks.specs.Turns.{clocks, outs};
+ghost use Rattle.side_locks.specs.Steps.{IsSideStep, AreBy, OwnBoth, SameOwn, RefusesAt, own_of_clock, reply_of_clock, own_of_out, reply_of_out};
+
+use crate::turns::{Turns, unwrapped, wrapped};
+use bt_core::memory::Memory;
+use bt_core::step::{ObjectId, Op};
+use stamped::lock_set::LockSet;
+use stamped::trace::Trace;
+use stamped::turns::Turns as SetTurns;
+use std::alloc::Global;
+use std::sync::Wait;
+use step_objects::clock::TickClock;
+use step_objects::out::OutLog;
+use turn_lock::gate::Gate;
+use turn_lock::object::SeqObject;
+use turn_lock::turn::Joined;
+
+/// The tick clock and the output, each behind a lock of its own. They may be shared among threads by
+/// reference.
+///
+/// Contracts see the numbers of CPUs and of ticks.
+#[derive(Drop)]
+pub struct SideLocks {
+    clock: LockSet<TickClock>,
+    out: LockSet<OutLog>,
+    cpus: u32,
+    ticks: u32,
+    ghost clock_id: { sets.ids_of clock ≡ TheClock ∷ [] },
+    ghost clock_is: { sets.kinds_of clock_kind clock ≡ record { cpus = cpus; ticks = ticks } ∷ [] },
+    ghost clock_actors: { sets.actors_of clock ≡ cpus + 1 },
+    ghost out_id: { sets.ids_of out ≡ TheOut ∷ [] },
+    ghost out_is: { sets.kinds_of (λ _. tt) out ≡ tt ∷ [] },
+    ghost out_actors: { sets.actors_of out ≡ cpus + 1 },
+}
+
+// A lock round one object that has taken no operation yet, and the turns of each actor at it.
+fn one_lock<O: SeqObject>(
+    alloc: Global,
+    id: ObjectId,
+    object: O,
+    actors: u32,
+) -> Result<(LockSet<O>, Vec<SetTurns>), Memory>
+    requires actors { 0 < actors }
+    requires object { O.stands_for object [] }
+    ensures id { IfOk result (λ r. sets.ids_of r.0 ≡ id ∷ []) }
+    ensures kind { IfOk result (λ r. sets.kinds_of O.kind r.0 ≡ O.kind object ∷ []) }
+    ensures actors { IfOk result (λ r. sets.actors_of r.0 ≡ actors) }
+    ensures turns { IfOk result (λ r. sets.AreAll r.0 r.1.items) }
+    ensures fresh { IfOk result (λ r. AreNew r.1.items) }
+{
+    let mut objects = Vec::with_capacity(alloc, 1)?;
+    objects.push_reserved((id, object));
+    LockSet::new(alloc, objects, actors)
+}
+
+impl SideLocks {
+    ghost use Rattle.side_locks.specs.Sides.{kind_of, actors_of, IsOf, AreAll};
+
+    /// A clock for so many CPUs and ticks and an output, which took no operation yet, and the turns of each
+    /// CPU and of the main actor at both. There is at least one CPU. No turn has an entry.
+    ///
+    /// After [`Memory`] nothing is left.
+    pub fn new(alloc: Global, cpus: u32, ticks: u32) -> Result<(SideLocks, Vec<Turns>), Memory>
+        requires some { 0 < cpus }
+        requires few { cpus < 2 ^ 32 - 1 }
+        ensures kind { IfOk result (λ r. kind_of r.0 ≡ record { cpus = cpus; ticks = ticks }) }
+        ensures turns { IfOk result (λ r. AreAll r.0 r.1.items) }
+        ensures fresh { IfOk result (λ r. AreNew (clocks r.1.items) × AreNew (outs r.1.items)) }
+    {
+        let actors = cpus + 1;
+        let object = TickClock::new(alloc, cpus, ticks)?;
+        let (clock, clock_rows) = one_lock(alloc, ObjectId::Clock, object, actors)?;
+        let (out, out_rows) = one_lock(alloc, ObjectId::Out, OutLog::new(alloc)?, actors)?;
+        let turns = wrapped(alloc, clock_rows, out_rows)?;
+        let sides = SideLocks {
+            clock,
+            out,
+            cpus,
+            ticks,
+        };
+        Ok((sides, turns))
+    }
+
+    /// Performs one operation at the clock or at the output, as one step of the trace, when the turn comes.
+    /// The turns are those of the trace's actor at both.
+    ///
+    /// The trace grows by this step, whose reply is of the kind that the operation has; what of it is at any
+    /// other object stays, and what of it is at the clock and at the output is still the turns' own lists
+    /// there, if it was so before. The gate is told of the turn while it is held.
+    ///
+    /// After [`Memory`] the trace and both own lists are as before. Where the trace had room for a step,
+    /// [`Memory`] is answered only where a clock stands at its end.
+    pub fn step<G: Gate, R: Wait>(
+        &self,
+        rt: &R,
+        alloc: Global,
+        turns: &mut Turns,
+        trace: &mut Trace,
+        object: ObjectId,
+        op: Op,
+        gate: &G,
+    ) -> Result<(), Memory>
+        requires own { IsSideStep (kind_of self.now).ticks object op }
+        requires turns { IsOf self.now turns.old }
+        requires actor { AreBy (actor_of trace.old) turns.old }
+        ensures turns { IsOf self.now turns.new × AreBy (actor_of trace.old) turns.new }
+        ensures actor { actor_of trace.new ≡ actor_of trace.old }
+        ensures done { OnOk result (Grows object op trace.old trace.new) }
+        ensures replied { OnOk result (IsReplyOf [] object op (last_reply (steps_of trace.new))) }
+        ensures memory { OnErr result (IsSame trace.old trace.new × SameOwn turns.old turns.new) }
+
+        // what of the trace is at each object
+        ensures own { OwnBoth turns.old trace.old → OwnBoth turns.new trace.new }
+        ensures elsewhere { (o : ObjectId) → o ≢ object → at_object o trace.new ≡ at_object o trace.old }
+
+        // with room that was reserved
+        ensures cause { HasRoom trace.old → OnErr result (RefusesAt (kind_of self.now) object (clock_of trace.old) op turns.old turns.new) }
+        ensures room { HasRoom trace.old → OnErr result (HasRoom trace.new) }
+    {
+        match object {
+            ObjectId::Clock => self
+                .clock
+                .step(rt, alloc, &mut turns.at_clock, trace, 0, op, gate),
+            ObjectId::Out => self
+                .out
+                .step(rt, alloc, &mut turns.at_out, trace, 0, op, gate),
+            _ => unreachable!(),
+        }
+    }
+
+    /// Takes all turns back, and gives the clock and the output, each with the history of its lock.
+    ///
+    /// Each stands for its history, which is legal and rises, and which has of each actor just its own list.
+    /// After [`Memory`] all of them are dropped.
+    pub fn close(
+        self,
+        alloc: Global,
+        turns: Vec<Turns>,
+    ) -> Result<((TickClock, Joined), (OutLog, Joined)), Memory>
+        requires { AreAll self turns.items }
+        ensures clock { IfOk result (λ r. IsClosed clock_kind own_of_clock reply_of_clock ClockStands (actors_of self) (kind_of self)
+            (firsts (clocks turns.items)) r.0.0 r.0.1) }
+        ensures out { IfOk result (λ r. IsClosed (λ _. tt) own_of_out reply_of_out (λ _ _. Unit {0}) (actors_of self) tt
+            (firsts (outs turns.items)) r.1.0 r.1.1) }
+    {
+        let SideLocks {
+            clock,
+            out,
+            cpus: _,
+            ticks: _,
+        } = self;
+        let (clock_rows, out_rows) = unwrapped(alloc, turns)?;
+        let mut clocks = clock.close(alloc, clock_rows)?;
+        let mut outs = out.close(alloc, out_rows)?;
+        Ok((clocks.remove(0), outs.remove(0)))
+    }
+}
