@@ -3,3 +3,5 @@ pub mod Values
 pub mod Cells
 pub mod Steps
 pub mod Moves
+pub mod Arithmetic
+pub mod Operators
