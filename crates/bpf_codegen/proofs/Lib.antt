@@ -5,3 +5,5 @@ pub mod Steps
 pub mod Moves
 pub mod Arithmetic
 pub mod Operators
+pub mod Standing
+pub mod Stacks
