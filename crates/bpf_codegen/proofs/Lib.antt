@@ -7,3 +7,4 @@ pub mod Arithmetic
 pub mod Operators
 pub mod Standing
 pub mod Stacks
+pub mod Instrs
