@@ -8,3 +8,4 @@ pub mod Operators
 pub mod Standing
 pub mod Stacks
 pub mod Instrs
+pub mod Reading

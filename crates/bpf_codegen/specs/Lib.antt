@@ -2,3 +2,4 @@ pub mod Words
 pub mod Holding
 pub mod Code
 pub mod Keeping
+pub mod Seeing
