@@ -9,3 +9,4 @@ pub mod Standing
 pub mod Stacks
 pub mod Instrs
 pub mod Reading
+pub mod Served

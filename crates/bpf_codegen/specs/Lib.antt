@@ -3,3 +3,4 @@ pub mod Holding
 pub mod Code
 pub mod Keeping
 pub mod Seeing
+pub mod Replies
