@@ -10,3 +10,4 @@ pub mod Stacks
 pub mod Instrs
 pub mod Reading
 pub mod Served
+pub mod Calls
