@@ -11,3 +11,4 @@ pub mod Instrs
 pub mod Reading
 pub mod Served
 pub mod Calls
+pub mod Fetches
