@@ -12,3 +12,4 @@ pub mod Reading
 pub mod Served
 pub mod Calls
 pub mod Fetches
+pub mod Steppers
