@@ -13,3 +13,4 @@ pub mod Served
 pub mod Calls
 pub mod Fetches
 pub mod Steppers
+pub mod Updates
