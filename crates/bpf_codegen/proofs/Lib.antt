@@ -14,3 +14,5 @@ pub mod Calls
 pub mod Fetches
 pub mod Steppers
 pub mod Updates
+pub mod Texts
+pub mod Comparing
