@@ -1,0 +1,6 @@
+pub mod Words
+pub mod Holding
+pub mod Code
+pub mod Keeping
+pub mod Seeing
+pub mod Replies

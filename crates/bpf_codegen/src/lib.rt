@@ -1,0 +1,4 @@
+//! BPF code of bodies in typed instructions.
+#![tactic(auto)]
+
+pub mod single;
