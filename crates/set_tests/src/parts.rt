@@ -47,7 +47,18 @@ fn ask<R: Wait>(
     ensures turns { IsOf maps.now turns.new × (turns.new.0 ≡ turns.old.0) }
     ensures actor { actor_of trace.new ≡ actor_of trace.old }
 {
-    maps.step(rt, alloc, turns, trace, ObjectId::Shared { map: MapId(0), part: 0 }, op, &Open)?;
+    maps.step(
+        rt,
+        alloc,
+        turns,
+        trace,
+        ObjectId::Shared {
+            map: MapId(0),
+            part: 0,
+        },
+        op,
+        &Open,
+    )?;
     Ok(rows_in(trace.last()))
 }
 
@@ -153,7 +164,11 @@ fn the_last_to_read_sees_all_keys(rt: HostRuntime) -> Result<(), Fail> {
     for (actors, times) in [(4, 100), (16, 25)] {
         let (counts, closed) = crowd(&rt, rt.alloc(), actors, times)?;
         assert_eq!(rt; counts.len(), actors as usize);
-        assert_eq!(rt; greatest(counts.as_slice()), actors as u64, "{actors} actors");
+        assert_eq!(rt;
+            greatest(counts.as_slice()),
+            actors as u64,
+            "{actors} actors"
+        );
         assert_eq!(rt; closed, PARTS as usize);
     }
     Ok(())

@@ -139,8 +139,16 @@ fn one_caller_completes_each_tick(rt: HostRuntime) -> Result<(), Fail> {
     for (cpus, ticks) in [(3, 100), (15, 25)] {
         let crossings = crowd(&rt, rt.alloc(), cpus, ticks)?;
         for tick in 0..ticks {
-            assert_eq!(rt; count_of(crossings.as_slice(), tick, true), 1, "tick {tick}");
-            assert_eq!(rt; count_of(crossings.as_slice(), tick, false), cpus as usize, "tick {tick}");
+            assert_eq!(rt;
+                count_of(crossings.as_slice(), tick, true),
+                1,
+                "tick {tick}"
+            );
+            assert_eq!(rt;
+                count_of(crossings.as_slice(), tick, false),
+                cpus as usize,
+                "tick {tick}"
+            );
         }
     }
     Ok(())

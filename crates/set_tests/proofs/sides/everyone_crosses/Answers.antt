@@ -24,10 +24,16 @@ returns g c =
     let clock_length = picked_length (λ both. both.clock) new ∙ same ∙ sym (picked_length (λ both. both.clock) old) in
     let out_length = picked_length (λ both. both.out) new ∙ same ∙ sym (picked_length (λ both. both.out) old) in
     let was_one = λ (i : ℕ) (d : Both) (lt : i < length old). picked_number (λ both. both.out) (locks_of sides.out) 0 old before.out.1 i d lt
-        ∙ sym (picked_number (λ both. both.clock) (locks_of sides.clock) 0 old before.clock.1 i d lt) in
+    ∙ sym (picked_number (λ both. both.clock) (locks_of sides.clock) 0 old before.clock.1 i d lt) in
     record {
-      clock = (clock_length ∙ before.clock.0, picked_changed (λ both. both.clock) (locks_of sides.clock) 0 old new same before.clock.1
-          (λ i d lt. ((done i d lt).0.of.clock, (done i d lt).1)));
-      out = (out_length ∙ before.out.0, picked_changed (λ both. both.out) (locks_of sides.out) 0 old new same before.out.1
-          (λ i d lt. ((done i d lt).0.of.out, (done i d lt).0.one ∙ (done i d lt).1 ∙ sym (was_one i d lt))));
+      clock = (
+        clock_length ∙ before.clock.0,
+        picked_changed (λ both. both.clock) (locks_of sides.clock) 0 old new same before.clock.1
+            (λ i d lt. ((done i d lt).0.of.clock, (done i d lt).1)),
+      );
+      out = (
+        out_length ∙ before.out.0,
+        picked_changed (λ both. both.out) (locks_of sides.out) 0 old new same before.out.1
+            (λ i d lt. ((done i d lt).0.of.out, (done i d lt).0.one ∙ (done i d lt).1 ∙ sym (was_one i d lt))),
+      );
     }
