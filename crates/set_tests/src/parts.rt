@@ -5,7 +5,7 @@ ghost use Rattle.bt_core.specs.declared.step.ObjectId.TheVariants.{Shared};
 ghost use Rattle.stamped.specs.Rows.{Row};
 ghost use Rattle.stamped.specs.Traces.{actor_of};
 ghost use Rattle.shared_maps.specs.Parts.{IsPartStep};
-ghost use Rattle.shared_maps.specs.Maps.{maps_of as maps_in, IsOf, AreAll};
+ghost use Rattle.shared_maps.specs.Maps.{maps_of as maps_in, actors_of, IsOf, AreAll};
 ghost use Rattle.set_tests.specs.Declared.{one_map, tested};
 
 use crate::fixtures::{greatest, key_of, maps_of};
@@ -136,6 +136,7 @@ fn everyone_sets<R: Threads + Wait + Sync>(
     notes: &Mutex<Vec<u64>>,
 )
     requires maps { maps_in maps.now ≡ one_map Ints }
+    requires some { 0 < actors_of maps.now }
     requires turns { AreAll maps.now all.old }
     ensures { AreAll maps.now all.new }
 {
