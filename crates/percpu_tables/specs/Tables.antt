@@ -10,7 +10,7 @@ use Rattle.percpu_tables.specs.declared.tables.Tables.{Tables}
 
 -- the declarations of the maps that the tables were made for
 abbrev pub maps_of : Tables → List MapDecl
-maps_of tables = tables.maps.value
+maps_of tables = tables.maps
 
 -- how many actors have tables
 abbrev pub actors_of : Tables → ℕ

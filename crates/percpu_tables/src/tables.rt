@@ -22,12 +22,11 @@ use crate::objects::new_tables;
 use crate::turns::{Turns, unwrapped, wrapped};
 use bt_core::items::Items;
 use bt_core::map::MapDecl;
-use bt_core::memory::Memory;
+use bt_core::memory::{Memory, TryCopy};
 use bt_core::step::{ObjectId, Op};
 use stamped::lock_set::LockSet;
 use stamped::trace::Trace;
 use std::alloc::Global;
-use std::snapshot::Snapshot;
 use std::sync::Wait;
 use step_objects::cpu::CpuTable;
 use turn_lock::gate::Gate;
@@ -40,10 +39,10 @@ use turn_lock::turn::Joined;
 #[derive(Drop)]
 pub struct Tables {
     set: LockSet<CpuTable>,
-    maps: Snapshot<Items<MapDecl>>,
-    ghost fine: { All IsFineDecl maps.value } by { fine_decls_prop maps.value },
+    maps: Items<MapDecl>,
+    ghost fine: { All IsFineDecl maps } by { fine_decls_prop maps },
     ghost ids: { sets.ids_of set ≡ numbered Cpu 0 (sets.actors_of set) },
-    ghost kinds: { sets.kinds_of cpu_kind set ≡ numbered (λ _. maps.value) 0 (sets.actors_of set) },
+    ghost kinds: { sets.kinds_of cpu_kind set ≡ numbered (λ _. maps) 0 (sets.actors_of set) },
 }
 
 // The place of the tables of an actor, and 0 for any other object.
@@ -80,7 +79,7 @@ impl Tables {
         let turns = wrapped(alloc, rows)?;
         let tables = Tables {
             set,
-            maps: Snapshot::of(maps),
+            maps: maps.try_copy(alloc)?,
         };
         Ok((tables, turns))
     }

@@ -10,7 +10,7 @@ use Rattle.shared_maps.specs.Parts.{Part, parts_from}
 
 -- the declarations of the maps that the locks were made for
 abbrev pub maps_of : SharedMaps → List MapDecl
-maps_of maps = maps.maps.value
+maps_of maps = maps.maps
 
 -- how many actors the locks were made for
 abbrev pub actors_of : SharedMaps → ℕ

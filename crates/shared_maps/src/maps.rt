@@ -19,12 +19,11 @@ use crate::objects::new_parts;
 use crate::turns::{Turns, unwrapped, wrapped};
 use bt_core::items::Items;
 use bt_core::map::MapDecl;
-use bt_core::memory::Memory;
+use bt_core::memory::{Memory, TryCopy};
 use bt_core::step::{ObjectId, Op};
 use stamped::lock_set::LockSet;
 use stamped::trace::Trace;
 use std::alloc::Global;
-use std::snapshot::Snapshot;
 use std::sync::Wait;
 use step_objects::shared::SharedPart;
 use turn_lock::gate::Gate;
@@ -37,11 +36,11 @@ use turn_lock::turn::Joined;
 #[derive(Drop)]
 pub struct SharedMaps {
     set: LockSet<SharedPart>,
-    maps: Snapshot<Items<MapDecl>>,
+    maps: Items<MapDecl>,
     firsts: Vec<u32>,
-    ghost ids: { sets.ids_of set ≡ map (λ (part : Part). part.0) (parts_from 0 maps.value) },
-    ghost kinds: { sets.kinds_of shared_kind set ≡ map (λ (part : Part). part.1) (parts_from 0 maps.value) },
-    ghost places: { firsts.items ≡ firsts_from 0 maps.value },
+    ghost ids: { sets.ids_of set ≡ map (λ (part : Part). part.0) (parts_from 0 maps) },
+    ghost kinds: { sets.kinds_of shared_kind set ≡ map (λ (part : Part). part.1) (parts_from 0 maps) },
+    ghost places: { firsts.items ≡ firsts_from 0 maps },
 }
 
 impl SharedMaps {
@@ -67,7 +66,7 @@ impl SharedMaps {
         let turns = wrapped(alloc, rows)?;
         let shared = SharedMaps {
             set,
-            maps: Snapshot::of(maps),
+            maps: maps.try_copy(alloc)?,
             firsts,
         };
         Ok((shared, turns))
