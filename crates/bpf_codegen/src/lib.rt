@@ -1,4 +1,4 @@
-//! BPF code of bodies in typed instructions.
+//! Makes BPF code of bodies in typed instructions.
 #![tactic(auto)]
 
 pub mod single;

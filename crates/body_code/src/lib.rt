@@ -1,0 +1,2 @@
+//! The code of bodies in typed instructions, as lists of BPF instructions, and what it does.
+#![tactic(auto)]
