@@ -4,13 +4,14 @@ use anyhow::{Context, Result};
 use serde_json::Value;
 use std::alloc::Global;
 
-/// The words of a command line, the bytes of the files `s.bt` and `r.bin`, and what has to come.
+/// The words of a command line, the bytes of the files `s.bt` and `r.bin`, what may come, and how often it is tried.
 #[derive(Drop)]
 pub(crate) struct Case {
     pub words: Vec<String>,
     pub script: Vec<u8>,
     pub recording: Vec<u8>,
-    pub wanted: Outcome,
+    pub wanted: Vec<Outcome>,
+    pub times: u64,
 }
 
 /// The text of a member of an object.
@@ -43,20 +44,46 @@ fn words_of(alloc: Global, value: &Value) -> Result<Vec<String>> {
     Ok(words)
 }
 
+/// The outputs that may come: the one text `out`, or the texts of the list `outs` where several schedules may be taken.
+fn outs_of(alloc: Global, value: &Value) -> Result<Vec<Vec<u8>>> {
+    let mut outs = Vec::new(alloc);
+    if value.get("outs").is_none() {
+        outs.push(bytes_of(alloc, value, "out")?)?;
+        return Ok(outs);
+    }
+    for out in list_of(value, "outs")? {
+        let text = out.as_str().context("no output")?;
+        outs.push(Vec::from_slice(alloc, text.as_bytes())?)?;
+    }
+    Ok(outs)
+}
+
+/// What may come of a case.
+fn wanted_of(alloc: Global, value: &Value) -> Result<Vec<Outcome>> {
+    let status = value.get("status").and_then(Value::as_u64);
+    let status = status.context("no status")?;
+    let mut wanted = Vec::new(alloc);
+    for out in outs_of(alloc, value)? {
+        wanted.push(Outcome {
+            status,
+            out,
+            err: bytes_of(alloc, value, "err")?,
+        })?;
+    }
+    Ok(wanted)
+}
+
 impl Case {
-    /// The case of a line: an object whose `recording` is hexadecimal and whose other bytes are texts.
+    /// The case of a line: an object whose `recording` is hexadecimal and whose other bytes are texts. It may have several `outs`
+    /// in place of its `out`, and `times`, the number of tries, which is else 1.
     pub fn of(alloc: Global, line: &str) -> Result<Case> {
         let value = Value::from_str(alloc, line)?;
-        let status = value.get("status").and_then(Value::as_u64);
         Ok(Case {
             words: words_of(alloc, &value)?,
             script: bytes_of(alloc, &value, "script")?,
             recording: hex::decode(alloc, text_of(&value, "recording")?)?,
-            wanted: Outcome {
-                status: status.context("no status")?,
-                out: bytes_of(alloc, &value, "out")?,
-                err: bytes_of(alloc, &value, "err")?,
-            },
+            wanted: wanted_of(alloc, &value)?,
+            times: value.get("times").and_then(Value::as_u64).unwrap_or(1),
         })
     }
 }

@@ -7,14 +7,27 @@ mod tally;
 
 use anyhow::{Context, Result};
 use case::{Case, numbers_of};
-use outcome::outcome_of;
+use outcome::{Outcome, differing};
 use std::fs;
 use std::rt::Files;
+use std::sync::Wait;
+use std::thread::Threads;
 use tally::Tally;
+
+/// Tells what came of a case that differs, and what may come.
+fn tell<R: Print>(rt: &R, case: &Case, differs: &Option<Outcome>) -> Result<()> {
+    if let Some(came) = differs {
+        println!(rt; "came {came}")?;
+    }
+    for wanted in case.wanted.as_slice() {
+        println!(rt; "wanted {wanted}")?;
+    }
+    Ok(())
+}
 
 /// Runs the cases of a file, one a line, and counts how they end. Those whose numbers are listed, the first
 /// line being 1, are not built yet, so they are to differ.
-fn run_file<R: Files + Print + AllocGlobal>(
+fn run_file<R: Files + Print + AllocGlobal + Threads + Wait + Sync>(
     rt: &R,
     name: &str,
     not_built: &[u64],
@@ -26,18 +39,17 @@ fn run_file<R: Files + Print + AllocGlobal>(
     for line in text.as_str().lines() {
         number = number.saturating_add(1);
         let case = Case::of(alloc, line).context(format_args!("case {number} of {name}"))?;
-        let came = outcome_of(alloc, &case)?;
-        let told = tally.count(case.wanted == came, not_built.contains(&number));
-        if let Some(told) = told {
-            let wanted = &case.wanted;
-            println!(rt; "case {number} of {name} {told}: wanted {wanted}; came {came}")?;
+        let differs = differing(rt, alloc, &case)?;
+        if let Some(told) = tally.count(differs.is_none(), not_built.contains(&number)) {
+            println!(rt; "case {number} of {name} {told}")?;
+            tell(rt, &case, &differs)?;
         }
     }
     Ok(())
 }
 
-/// Runs the cases of the three files. Which of the first are not built yet stands in a list of its own; those
-/// of the others all have to agree.
+/// Runs the cases of the four files. Which of the first are not built yet stands in a list of its own; those
+/// of the others all have to agree. The cases of the last run on threads many times.
 fn main(rt: HostRuntime) -> Result<()> {
     let alloc = rt.alloc();
     let list = fs::read_to_string(&rt, "not_built.json").context("reading not_built.json")?;
@@ -46,6 +58,7 @@ fn main(rt: HostRuntime) -> Result<()> {
     run_file(&rt, "cases.jsonl", not_built.as_slice(), &mut tally)?;
     run_file(&rt, "refused.jsonl", &[], &mut tally)?;
     run_file(&rt, "rows.jsonl", &[], &mut tally)?;
+    run_file(&rt, "schedules.jsonl", &[], &mut tally)?;
     println!(rt; "{tally}")?;
     Ok(())
 }

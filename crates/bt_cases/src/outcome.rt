@@ -6,6 +6,9 @@ use bt_io::mem_sink::MemSink;
 use bt_top::serve::serve;
 use std::alloc::Global;
 use std::fmt;
+use std::sync::Wait;
+use std::thread::Threads;
+use turn_lock::gate::Open;
 
 /// How many bytes a sink takes.
 const ROOM: usize = 1 << 24;
@@ -43,15 +46,34 @@ fn files_of(alloc: Global, case: &Case) -> Result<Vec<(String, Vec<u8>)>, Memory
 }
 
 /// What the top call answers and writes to a case, over a shelf and sinks that never fail.
-pub(crate) fn outcome_of(alloc: Global, case: &Case) -> Result<Outcome, Memory> {
+fn outcome_of<R: Threads + Wait + Sync>(
+    rt: &R,
+    alloc: Global,
+    case: &Case,
+) -> Result<Outcome, Memory> {
     let mut shelf = MemShelf::new(alloc, files_of(alloc, case)?, Vec::new(alloc));
     let mut out = MemSink::new(alloc, ROOM, ROOM, Vec::new(alloc))?;
     let mut err = MemSink::new(alloc, ROOM, ROOM, Vec::new(alloc))?;
     let words = case.words.as_slice();
-    let report = serve(alloc, words, &mut shelf, &mut out, &mut err);
+    let report = serve(rt, alloc, words, &mut shelf, &mut out, &mut err, &Open);
     Ok(Outcome {
         status: u64::from(report.status),
         out: Vec::from_slice(alloc, out.taken())?,
         err: Vec::from_slice(alloc, err.taken())?,
     })
+}
+
+/// The first outcome of the tries of a case that may not come.
+pub(crate) fn differing<R: Threads + Wait + Sync>(
+    rt: &R,
+    alloc: Global,
+    case: &Case,
+) -> Result<Option<Outcome>, Memory> {
+    for _ in 0..case.times {
+        let came = outcome_of(rt, alloc, case)?;
+        if !case.wanted.as_slice().contains(&came) {
+            return Ok(Some(came));
+        }
+    }
+    Ok(None)
 }

@@ -9,6 +9,7 @@ use std::alloc::Global;
 use std::io::ErrorKind;
 use std::process::ExitCode;
 use std::{env, mem};
+use turn_lock::gate::Open;
 
 /// The status of want of memory.
 const OUT_OF_MEMORY: u8 = 6;
@@ -32,7 +33,15 @@ fn main(rt: HostRuntime) -> ExitCode {
         let _ = write_all(&mut err, b"out of memory\n");
         return ExitCode::from(OUT_OF_MEMORY);
     };
-    let report = serve(rt.alloc(), words.as_slice(), &mut shelf, &mut out, &mut err);
+    let report = serve(
+        &rt,
+        rt.alloc(),
+        words.as_slice(),
+        &mut shelf,
+        &mut out,
+        &mut err,
+        &Open,
+    );
     let status = report.status;
     // The system takes the memory back at once, where giving back each step of a long run takes a tenth of its time.
     mem::forget(report);

@@ -1,6 +1,6 @@
 -- What the reads, the judging and the write answer together.
 use Rattle.std.proofs.Common.{◌≡◌, ℕ, suc, ◌<◌, ◌≤◌, ◌⊎◌, List, [], length, map, refl, sym, ap, subst, ◌∙◌, arith, inl, inr}
-use Rattle.std.specs.Prelude.{◌↔◌, Option, Some, None, Result, Ok, Err, IfOk, IfErr, IfSome, IsSome, IsSomeAnd, unwrap_or, replicate}
+use Rattle.std.specs.Prelude.{◌↔◌, true, false, Option, Some, None, Result, Ok, Err, IfOk, IfErr, IfSome, IsSome, IsSomeAnd, unwrap_or, replicate}
 use Rattle.std.proofs.lemmas.List.{length-replicate}
 use Rattle.bt_core.specs.declared.limits.TheConstants.{SCRIPT_BYTES, RECORDING_BYTES}
 use Rattle.bt_core.specs.declared.step.ObjectId.{ObjectId}
@@ -24,7 +24,7 @@ use Rattle.bt_top.specs.Refusals.{status_of, read_refusal}
 use Rattle.bt_top.specs.Due.{Files, IsDue, IsFault}
 use Rattle.bt_top.specs.Serve.{ShelfUse, ShelfFailed, AsksFirst, AsksExactly, MayCome, HasWork, Answers, IsAnswer, MayStandFor, ComesIfDue, IsComplete}
 use Rattle.bt_top.specs.Serve.{OnBoth, OnTold, IsFaultRefusal, IsJobOf, IsWorkOf, IsWorkFor, IsDoneWork, Reads, bytes_of, bytes_written, meaning_of}
-use Rattle.bt_top.specs.Words.{operands_of, names_of}
+use Rattle.bt_top.specs.Words.{operands_of, names_of, is_serial}
 use Rattle.bt_top.specs.declared.words.Order.{Order}
 use Rattle.bt_top.specs.declared.words.Order.TheVariants.{Run, Check}
 use Rattle.bt_top.proofs.Due.{job_is_due}
@@ -158,20 +158,31 @@ pub memory_answer : (order : Order) (seen : ShelfUse) (out : SinkUse) (status : 
     → Reads order seen (Ok job) → Answers order seen out (record { status = status; refusal = Some Memory; work = None })
 memory_answer order seen out status job reads = record { files = reads.files; held = reads.held; came = tt; worked = tt }
 
--- what a run answers is the work of its job
-pub is_work_of : (job : Job) (work : Work) → IsReplayed (meaning_of job) work.steps
+-- what a run on one thread answers is the work of its job
+pub is_serial_work : (job : Job) (work : Work) → IsReplayed (meaning_of job) work.steps
     → ((object : ObjectId) → map unstamped (on_object object work.steps) ≡ on_object object (serial_steps (meaning_of job)))
     → work.text ≡ printed_text job.typed (cpus_of (meaning_of job)) work.steps
     → printed_text job.typed (cpus_of (meaning_of job)) work.steps ≡ printed_text job.typed (cpus_of (meaning_of job)) (serial_steps (meaning_of job))
-    → work.instructions ≡ instructions_of (meaning_of job) work.steps → IsWorkOf job work
-is_work_of job work replayed serial printed same instructions =
-    record { replayed = replayed; serial = serial; printed = printed; printed_serial = printed ∙ same; instructions = instructions }
+    → work.instructions ≡ instructions_of (meaning_of job) work.steps → IsWorkOf true job work
+is_serial_work job work replayed serial printed same instructions = record {
+  replayed = replayed;
+  printed = printed;
+  instructions = instructions;
+  on_one_thread = λ yes. record { serial = serial; printed = printed ∙ same };
+}
+
+-- what a run on threads answers is too
+pub is_threads_work : (job : Job) (work : Work) → IsReplayed (meaning_of job) work.steps
+    → work.text ≡ printed_text job.typed (cpus_of (meaning_of job)) work.steps
+    → work.instructions ≡ instructions_of (meaning_of job) work.steps → IsWorkOf false job work
+is_threads_work job work replayed printed instructions =
+    record { replayed = replayed; printed = printed; instructions = instructions; on_one_thread = λ yes. absurd (cc) }
 
 -- what is done is the work for the files
 is_work_for : (order : Order) (files : Files) (job : Job) (work : Option Work) → IsJobOf files job → IsDoneWork order job work
-    → IfSome work (IsWorkFor files)
-is_work_for (Run operands) files job (Some work) of done = record { job = job; of = of; worked = done }
-is_work_for (Run operands) files job None of done = tt
+    → IfSome work (IsWorkFor (is_serial order) files)
+is_work_for (Run serial operands) files job (Some work) of done = record { job = job; of = of; worked = done }
+is_work_for (Run serial operands) files job None of done = tt
 is_work_for (Check operands) files job None of done = tt
 is_work_for (Check operands) files job (Some work) of done = let none : Some work ≡ None = done in absurd (cc)
 
@@ -195,15 +206,15 @@ worked_answer order seen out status refusal job work reads done ends = record {
 -- work of a run is there where all was written, and where a part was
 pub done_work : (order : Order) (job : Job) (work : Option Work) (refusal : Option Refusal)
     → IsDoneWork order job work → (refusal ≡ None) ⊎ (refusal ≡ Some WriteFault) → IsSome work ↔ HasWork refusal (Some order)
-done_work (Run operands) job work refusal done ends = (λ some. has, λ has. some_of work done)
+done_work (Run serial operands) job work refusal done ends = (λ some. has, λ has. some_of work done)
   where
-    has : HasWork refusal (Some (Run operands))
+    has : HasWork refusal (Some (Run serial operands))
     has = elim ends [
-      | inl e ↦ subst (λ (r : Option Refusal). HasWork r (Some (Run operands))) (sym e) tt
-      | inr e ↦ subst (λ (r : Option Refusal). HasWork r (Some (Run operands))) (sym e) tt
+      | inl e ↦ subst (λ (r : Option Refusal). HasWork r (Some (Run serial operands))) (sym e) tt
+      | inr e ↦ subst (λ (r : Option Refusal). HasWork r (Some (Run serial operands))) (sym e) tt
     ]
 
-    some_of : (work : Option Work) → IsSomeAnd work (IsWorkOf job) → IsSome work
+    some_of : (work : Option Work) → IsSomeAnd work (IsWorkOf serial job) → IsSome work
     some_of (Some work) done = refl
     some_of None done = absurd done
 done_work (Check operands) job work refusal done ends =
@@ -218,8 +229,8 @@ done_work (Check operands) job work refusal done ends =
 
 -- what is written of the work is what the command writes
 pub done_bytes : (order : Order) (job : Job) (work : Option Work) → IsDoneWork order job work → bytes_of work ≡ bytes_written (Some order) work
-done_bytes (Run operands) job (Some work) done = refl
-done_bytes (Run operands) job None done = absurd done
+done_bytes (Run serial operands) job (Some work) done = refl
+done_bytes (Run serial operands) job None done = absurd done
 done_bytes (Check operands) job None done = refl
 done_bytes (Check operands) job (Some work) done = let none : Some work ≡ None = done in absurd (cc)
 

@@ -1,4 +1,5 @@
 mod Due
+mod Headlines
 mod Judging
 mod LineLaws
 mod Scripts

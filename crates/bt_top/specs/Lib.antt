@@ -4,3 +4,4 @@ pub mod Script
 pub mod Refusals
 pub mod Due
 pub mod Serve
+pub mod Headline

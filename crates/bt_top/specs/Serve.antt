@@ -1,5 +1,5 @@
 -- What the top call answers.
-use Rattle.std.specs.Prelude.{◌≡◌, ◌≢◌, ℕ, ◌++◌, ◌≤◌, ◌⊎◌, List, [], ◌∷◌, codes, length, map, Option, Some, None, Result, Ok, Err, IfOk, IfErr, IfSome, IsSomeAnd}
+use Rattle.std.specs.Prelude.{◌≡◌, ◌≢◌, ℕ, Bool, true, ◌++◌, ◌≤◌, ◌⊎◌, List, [], ◌∷◌, codes, length, map, Option, Some, None, Result, Ok, Err, IfOk, IfErr, IfSome, IsSomeAnd}
 use Rattle.std.specs.Io.KnownBytes.{Appends, Keeps}
 use Rattle.bt_ast.specs.declared.probe.Script.{Script as Tree}
 use Rattle.bt_attach.specs.Attaching.{IsAttachedTo}
@@ -33,7 +33,7 @@ use Rattle.bt_top.specs.Due.{Files, AreAccepted, IsFault, IsDue, IsScriptFor}
 use Rattle.bt_top.specs.Lines.{SinkUse, SinkFailed, Writes}
 use Rattle.bt_top.specs.Refusals.{refusal_pieces}
 use Rattle.bt_top.specs.Script.{IsTextFault, IsScriptFault}
-use Rattle.bt_top.specs.Words.{operands_of, operands_in}
+use Rattle.bt_top.specs.Words.{operands_of, operands_in, is_serial}
 
 -- ---- what comes of a call
 
@@ -86,8 +86,8 @@ MayCome files read_failed write_failed due = IsDue files due
 
 -- work is there after a whole run, and after one whose text was not wholly written
 abbrev pub HasWork : Option Refusal → Option Order → Type 0
-HasWork None (Some (Run operands)) = Unit {0}
-HasWork (Some WriteFault) (Some (Run operands)) = Unit {0}
+HasWork None (Some (Run serial operands)) = Unit {0}
+HasWork (Some WriteFault) (Some (Run serial operands)) = Unit {0}
 HasWork refusal order = ⊥
 
 -- What two accepted files ask for: the recording that the one spells; what the script, with its tree, is attached to in it; and the script
@@ -102,28 +102,32 @@ pub record IsJobOf (files : Files) (job : Job) : Type 0 where
 abbrev pub meaning_of : Job → Replay
 meaning_of job = replay_of job.typed job.attached job.recording
 
--- The work of a job. Its steps are an interleaving in the order of their stamps; at each object they are those of the serial list, in its
--- order; its text is what the script prints under them, which is also what it prints under the serial list; and its instructions are those
--- of the bodies that were run.
-pub record IsWorkOf (job : Job) (work : Work) : Type 0 where
-  pub replayed : IsReplayed (meaning_of job) work.steps
+-- The work of a run on one thread: at each object its steps are those of the serial list, in its order, and its text is what the script
+-- prints under the serial list.
+pub record IsSerialWork (job : Job) (work : Work) : Type 0 where
   pub serial : (object : ObjectId) → map unstamped (on_object object work.steps) ≡ on_object object (serial_steps (meaning_of job))
+  pub printed : work.text ≡ printed_text job.typed (cpus_of (meaning_of job)) (serial_steps (meaning_of job))
+
+-- The work of a job. Its steps are an interleaving in the order of their stamps; its text is what the script prints under them; its
+-- instructions are those of the bodies that were run; and it is that of a run on one thread where it was one.
+pub record IsWorkOf (serial : Bool) (job : Job) (work : Work) : Type 0 where
+  pub replayed : IsReplayed (meaning_of job) work.steps
   pub printed : work.text ≡ printed_text job.typed (cpus_of (meaning_of job)) work.steps
-  pub printed_serial : work.text ≡ printed_text job.typed (cpus_of (meaning_of job)) (serial_steps (meaning_of job))
   pub instructions : work.instructions ≡ instructions_of (meaning_of job) work.steps
+  pub on_one_thread : serial ≡ true → IsSerialWork job work
 
 -- the work of what these files ask for
-pub record IsWorkFor (files : Files) (work : Work) : Type 0 where
+pub record IsWorkFor (serial : Bool) (files : Files) (work : Work) : Type 0 where
   pub job : Job
   pub of : IsJobOf files job
-  pub worked : IsWorkOf job work
+  pub worked : IsWorkOf serial job work
 
 -- the answer to an order, over files that hold what the shelf tells of them
 pub record Answers (order : Order) (shelf : ShelfUse) (out : SinkUse) (report : Report) : Type 0 where
   pub files : Files
   pub held : AreHeld shelf.held (operands_of order) files
   pub came : MayCome files (ShelfFailed shelf) (SinkFailed out) report.refusal
-  pub worked : IfSome report.work (IsWorkFor files)
+  pub worked : IfSome report.work (IsWorkFor (is_serial order) files)
 
 -- the answer to an order, where the words give one
 abbrev pub IsAnswer : Option Order → ShelfUse → SinkUse → Report → Type 0
@@ -162,7 +166,7 @@ OnTold (Some order) held P = OnBoth (held (operands_of order).script) (held (ope
 
 -- the bytes that a command writes: a run writes the text of its work, and a check writes that nothing is refused
 abbrev pub bytes_written : Option Order → Option Work → List ℕ
-bytes_written (Some (Run operands)) (Some work) = work.text
+bytes_written (Some (Run serial operands)) (Some work) = work.text
 bytes_written (Some (Check operands)) None = codes "ok\n"
 bytes_written order work = []
 
@@ -212,7 +216,7 @@ pub record IsScriptJob (text : List ℕ) (says : Recorded) (job : ScriptJob) : T
 
 -- the work of what an order asks for: of a run, and none of a check
 abbrev pub IsDoneWork : Order → Job → Option Work → Type 0
-IsDoneWork (Run operands) job work = IsSomeAnd work (IsWorkOf job)
+IsDoneWork (Run serial operands) job work = IsSomeAnd work (IsWorkOf serial job)
 IsDoneWork (Check operands) job work = work ≡ None
 
 -- the bytes that are written of it

@@ -3,9 +3,10 @@ ghost use Rattle.std.specs.Prelude.{◌≡◌, ◌≢◌, ◌⊎◌, ◌↔◌, 
 ghost use Rattle.bt_io.specs.Faults.{Rose};
 ghost use Rattle.bt_meaning.specs.Jobs.{IsJob};
 ghost use Rattle.bt_words.specs.Words.{order_of as order_asked};
+ghost use Rattle.bt_top.specs.Headline.{Headline};
 ghost use Rattle.bt_top.specs.Lines.{sink_use};
 ghost use Rattle.bt_top.specs.Refusals.{status_of};
-ghost use Rattle.bt_top.specs.Serve.{Answers, AsksExactly, AsksFirst, ComesIfDue, HasWork, IsAnswer, IsComplete, IsDoneWork, IsWritten};
+ghost use Rattle.bt_top.specs.Serve.{Answers, AsksExactly, AsksFirst, ComesIfDue, HasWork, IsAnswer, IsComplete, IsDoneWork, IsWorkOf, IsWritten};
 ghost use Rattle.bt_top.specs.Serve.{OnTold, Reads, Tells, bytes_of, bytes_written, refusal_in, shelf_use};
 ghost use Rattle.bt_top.specs.Words.{names_of, order_of};
 
@@ -22,6 +23,10 @@ use bt_run::job::{Job, Work};
 use bt_run::run::run_serial;
 use bt_words::order::WordsError;
 use std::alloc::Global;
+use std::sync::Wait;
+use std::thread::Threads;
+use thread_run::run::run_threads;
+use turn_lock::gate::Gate;
 
 /// Reads both files, and answers what they ask for.
 fn read_files<S: Shelf>(alloc: Global, order: &Order, shelf: &mut S) -> Result<Job, Refusal>
@@ -54,14 +59,38 @@ fn refused(refusal: Refusal) -> Report
     }
 }
 
+/// Runs a job: on one thread, or with each CPU on a thread of its own.
+fn run<G: Gate + Sync, R: Threads + Wait + Sync>(
+    rt: &R,
+    alloc: Global,
+    serial: bool,
+    job: &Job,
+    gate: &G,
+) -> Result<Work, Memory>
+    requires { IsJob job.now.typed job.now.attached job.now.recording }
+    ensures { IfOk result (IsWorkOf serial job.now) }
+{
+    if serial {
+        run_serial(alloc, job)
+    } else {
+        run_threads(rt, alloc, job, gate)
+    }
+}
+
 /// The work of what is asked for, where it is a run.
-fn work_for(alloc: Global, order: &Order, job: &Job) -> Result<Option<Work>, Memory>
+fn work_for<G: Gate + Sync, R: Threads + Wait + Sync>(
+    rt: &R,
+    alloc: Global,
+    order: &Order,
+    job: &Job,
+    gate: &G,
+) -> Result<Option<Work>, Memory>
     requires { IsJob job.now.typed job.now.attached job.now.recording }
     ensures { IfOk result (IsDoneWork order.now job.now) }
 {
     match order {
-        Order::Run(_) => {
-            let work = run_serial(alloc, job)?;
+        Order::Run { serial, files: _ } => {
+            let work = run(rt, alloc, *serial, job, gate)?;
             Ok(Some(work))
         }
         Order::Check(_) => Ok(None),
@@ -79,7 +108,14 @@ fn bytes_of(work: &Option<Work>) -> &[u8]
 }
 
 /// Does what an order asks for: runs the script and writes what it prints, or writes that nothing is refused.
-fn perform<S: Shelf, K: Sink>(alloc: Global, order: &Order, shelf: &mut S, out: &mut K) -> Report
+fn perform<S: Shelf, K: Sink, G: Gate + Sync, R: Threads + Wait + Sync>(
+    rt: &R,
+    alloc: Global,
+    order: &Order,
+    shelf: &mut S,
+    out: &mut K,
+    gate: &G,
+) -> Report
     ensures status { result.status ≡ status_of result.refusal }
     ensures known { result.refusal ≢ Some Refusal.Usage }
     ensures asked { AsksFirst (S.asked shelf.old) (S.asked shelf.new) (names_of (Some order.now)) }
@@ -89,12 +125,15 @@ fn perform<S: Shelf, K: Sink>(alloc: Global, order: &Order, shelf: &mut S, out: 
     ensures exact { OnTold (Some order.now) (S.held shelf.old) (ComesIfDue result.refusal) }
     ensures worked { IsSome result.work ↔ HasWork result.refusal (Some order.now) }
     ensures written { IsWritten (sink_use K.taken K.faults out.old out.new) result.refusal (bytes_written (Some order.now) result.work) }
+    ensures headline { Headline (Some order.now) (shelf_use S.held S.faults S.asked shelf.old shelf.new)
+        (sink_use K.taken K.faults out.old out.new) result }
 {
+    bt_meaning::laws::ticks_come_after();
     let job = match read_files(alloc, order, shelf) {
         Ok(job) => job,
         Err(refusal) => return refused(refusal),
     };
-    let Ok(work) = work_for(alloc, order, &job) else {
+    let Ok(work) = work_for(rt, alloc, order, &job, gate) else {
         return refused(Refusal::Memory);
     };
     let refusal = match write_all(out, bytes_of(&work)) {
@@ -108,13 +147,16 @@ fn perform<S: Shelf, K: Sink>(alloc: Global, order: &Order, shelf: &mut S, out: 
     }
 }
 
-/// Does what the words ask for: `run SCRIPT RECORDING` and `run --serial SCRIPT RECORDING` run the script over the recording and
-/// write what it prints to `out`. So far both take the items of all CPUs one after the other, on one thread, by the walks of the
-/// script's bodies. `check SCRIPT RECORDING` does all of a run up to typing, and writes `ok` and a newline.
+/// Does what the words ask for. `run SCRIPT RECORDING` runs the script over the recording, with each recorded CPU on a thread of its
+/// own, and writes what it prints to `out`; `run --serial SCRIPT RECORDING` takes the items of all CPUs one after the other, on one
+/// thread. So far both walk the script's bodies. `check SCRIPT RECORDING` does all of a run up to typing, and writes `ok` and a newline.
 ///
 /// The work that is handed back has all steps of the run in one list. It is an interleaving: `BEGIN` makes its steps first and
 /// `END` last, in between each CPU makes its whole program in its order, and each reply follows from the steps before it. The
 /// bytes written are what the script's own meaning prints under this list.
+///
+/// The gate is told of each step while it is made, and may hold it up; a run on threads takes it, and nothing else does. A run on
+/// threads may wait for others at the locks of its objects.
 ///
 /// Refusals come in the order words, script read, recording read, recording, lexing, parsing, attaching,
 /// typing, run, write. A file that is too long is refused at its read. A recording is refused with
@@ -124,12 +166,14 @@ fn perform<S: Shelf, K: Sink>(alloc: Global, order: &Order, shelf: &mut S, out: 
 /// each with line and column. Want of memory may come at any of them. Before the
 /// write nothing goes to `out`. What is refused is told by its line to `err`, and a fault there changes
 /// nothing else.
-pub fn serve<S: Shelf, K: Sink, E: Sink>(
+pub fn serve<S: Shelf, K: Sink, E: Sink, G: Gate + Sync, R: Threads + Wait + Sync>(
+    rt: &R,
     alloc: Global,
     words: &[String],
     shelf: &mut S,
     out: &mut K,
     err: &mut E,
+    gate: &G,
 ) -> Report
     ensures status { result.status ≡ status_of result.refusal }
 
@@ -153,6 +197,11 @@ pub fn serve<S: Shelf, K: Sink, E: Sink>(
     // What the command writes is appended to the output whole, or a prefix after a fault of the write, and nothing before it.
     ensures written { IsWritten (sink_use K.taken K.faults out.old out.new) result.refusal (bytes_written (order_of words.now) result.work) }
 
+    // The headline: where a run ends with status 0, the bytes written are exactly those that the script's own meaning prints under the
+    // interleaving handed back with them.
+    ensures headline { Headline (order_of words.now) (shelf_use S.held S.faults S.asked shelf.old shelf.new)
+        (sink_use K.taken K.faults out.old out.new) result }
+
     // The line of the refusal is appended to `err`, or a prefix of it where the count of its faults rose.
     ensures told { Tells (order_of words.now) result.refusal (sink_use E.taken E.faults err.old err.new) }
 {
@@ -167,7 +216,7 @@ pub fn serve<S: Shelf, K: Sink, E: Sink>(
             return refused(Refusal::Memory);
         }
     };
-    let report = perform(alloc, &order, shelf, out);
+    let report = perform(rt, alloc, &order, shelf, out, gate);
     if let Some(refusal) = report.refusal {
         tell(err, operands_of(&order), refusal);
     }

@@ -17,8 +17,8 @@ pub(crate) struct Operands {
 /// What the words ask for: a command, and the files that it reads.
 #[derive(Drop)]
 pub(crate) enum Order {
-    /// To run the script over the recording.
-    Run(Operands),
+    /// To run the script over the recording: on one thread, or with each CPU on a thread of its own.
+    Run { serial: bool, files: Operands },
     /// To do all of a run up to the code.
     Check(Operands),
 }
@@ -31,11 +31,14 @@ pub(crate) fn order_of(alloc: Global, words: &[String]) -> Result<Order, WordsEr
 {
     match read_words(alloc, words)? {
         Asked::Run {
+            serial,
             stats: false,
             script,
             recording,
-            ..
-        } => Ok(Order::Run(Operands { script, recording })),
+        } => Ok(Order::Run {
+            serial,
+            files: Operands { script, recording },
+        }),
         Asked::Check { script, recording } => Ok(Order::Check(Operands { script, recording })),
         _ => Err(WordsError::Usage),
     }
@@ -46,6 +49,10 @@ pub(crate) fn operands_of(order: &Order) -> &Operands
     ensures { result.now ≡ operands_of order.now }
 {
     match order {
-        Order::Run(operands) | Order::Check(operands) => operands,
+        Order::Run {
+            serial: _,
+            files: operands,
+        }
+        | Order::Check(operands) => operands,
     }
 }

@@ -1,5 +1,9 @@
-//! Tests of the top call: what no worked case shows, since files or sinks fail or memory runs out.
+//! Tests of the top call: what no worked case shows, since files or sinks fail, memory runs out, or steps are held up.
 #![tactic(auto)]
 
+#[cfg(test)]
+mod files;
+#[cfg(test)]
+mod side_by_side;
 #[cfg(test)]
 mod tests;

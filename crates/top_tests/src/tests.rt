@@ -1,6 +1,7 @@
 // Faults of files and sinks, want of memory, a long recording, and the steps that are handed back.
 ghost use Rattle.std.specs.Prelude.{◌-◌, ◌<◌, ◌^◌, None};
 
+use crate::files::{files, recording};
 use bt_core::items::Items;
 use bt_core::memory::Memory;
 use bt_core::step::Op;
@@ -10,42 +11,13 @@ use bt_io::shelf::{Shelf, ShelfError};
 use bt_top::report::Report;
 use bt_top::serve::serve;
 use std::alloc::Global;
+use std::sync::Wait;
 use std::test::Fail;
-
-/// The format text of an event `e` with one field.
-const FORMAT: &[u8] = b"name: e\nID: 7\nformat:\n\tfield:long v;\toffset:8;\tsize:8;\tsigned:1;\n";
+use std::thread::Threads;
+use turn_lock::gate::Open;
 
 /// A script that counts the events `e`.
 const COUNT: &[u8] = b"tracepoint:t:e { @ = count(); }";
-
-/// So many events `e` of the CPU with this number, at the times 0, 1, 2 and so on.
-fn write_cpu(bytes: &mut Vec<u8>, number: u32, events: u32) -> Result<(), Memory> {
-    bytes.extend_from_slice(&number.to_le_bytes())?;
-    bytes.extend_from_slice(&events.to_le_bytes())?;
-    for time in 0..events {
-        bytes.extend_from_slice(&u64::from(time).to_le_bytes())?;
-        bytes.extend_from_slice(
-            b"\x01\0\0\0\x01\0\0\0\0\0\0\0\0\0\0\0bash\0\0\0\0\0\0\0\0\0\0\0\0",
-        )?;
-        bytes.extend_from_slice(b"\x10\0\0\0\x07\0\0\0\0\0\0\0\x2a\0\0\0\0\0\0\0")?;
-    }
-    Ok(())
-}
-
-/// A recording of so many CPUs, each with so many events `e`.
-fn recording(alloc: Global, cpus: u32, events: u32) -> Result<Vec<u8>, Memory> {
-    let mut bytes = Vec::from_slice(alloc, b"BTRACE01")?;
-    bytes.extend_from_slice(&cpus.to_le_bytes())?;
-    bytes.extend_from_slice(b"\x01\0\0\0")?;
-    bytes.extend_from_slice(&0u64.to_le_bytes())?;
-    bytes.extend_from_slice(&2_000_000_000u64.to_le_bytes())?;
-    bytes.extend_from_slice(b"\x01\0t\x41\0\0\0")?;
-    bytes.extend_from_slice(FORMAT)?;
-    for number in 0..cpus {
-        write_cpu(&mut bytes, number, events)?;
-    }
-    Ok(bytes)
-}
 
 /// A shelf of the counting script and of a recording, of which the calls of these numbers fail.
 fn shelf(alloc: Global, events: u32, failing: &[u32]) -> Result<MemShelf, Memory> {
@@ -57,19 +29,6 @@ fn shelf(alloc: Global, events: u32, failing: &[u32]) -> Result<MemShelf, Memory
     ))
 }
 
-/// A script and a recording under their names.
-fn files(
-    alloc: Global,
-    script: &[u8],
-    recording: Vec<u8>,
-) -> Result<Vec<(String, Vec<u8>)>, Memory> {
-    let mut files = Vec::new(alloc);
-    let script = Vec::from_slice(alloc, script)?;
-    files.push((String::from_str(alloc, "s.bt")?, script))?;
-    files.push((String::from_str(alloc, "r.bin")?, recording))?;
-    Ok(files)
-}
-
 /// A sink that takes `most` bytes a call, of which the calls of these numbers fail.
 fn sink(alloc: Global, most: usize, failing: &[u32]) -> Result<MemSink, Memory>
     requires { 0 < most }
@@ -78,7 +37,8 @@ fn sink(alloc: Global, most: usize, failing: &[u32]) -> Result<MemSink, Memory>
 }
 
 /// The answer to a command and its options on `s.bt` and `r.bin`.
-fn answer<S: Shelf>(
+fn answer<S: Shelf, R: Threads + Wait + Sync>(
+    rt: &R,
     alloc: Global,
     command: &[&str],
     shelf: &mut S,
@@ -92,7 +52,7 @@ fn answer<S: Shelf>(
     for word in ["s.bt", "r.bin"] {
         words.push(String::from_str(alloc, word)?)?;
     }
-    Ok(serve(alloc, words.as_slice(), shelf, out, err))
+    Ok(serve(rt, alloc, words.as_slice(), shelf, out, err, &Open))
 }
 
 #[test]
@@ -101,7 +61,7 @@ fn a_million_events_are_counted(rt: HostRuntime) -> Result<(), Fail> {
     let mut shelf = shelf(alloc, 1_048_576, &[])?;
     let mut out = sink(alloc, 4096, &[])?;
     let mut err = sink(alloc, 4096, &[])?;
-    let report = answer(alloc, &["run"], &mut shelf, &mut out, &mut err)?;
+    let report = answer(&rt, alloc, &["run"], &mut shelf, &mut out, &mut err)?;
     assert!(rt; report.status == 0);
     assert!(rt; out.taken() == b"@: 1048576\n\n".as_slice());
     Ok(())
@@ -123,7 +83,7 @@ fn an_increment_is_a_get_and_a_set(rt: HostRuntime) -> Result<(), Fail> {
     let mut shelf = MemShelf::new(alloc, files, Vec::new(alloc));
     let mut out = sink(alloc, 4096, &[])?;
     let mut err = sink(alloc, 4096, &[])?;
-    let report = answer(alloc, &["run", "--serial"], &mut shelf, &mut out, &mut err)?;
+    let report = answer(&rt, alloc, &["run", "--serial"], &mut shelf, &mut out, &mut err)?;
     assert!(rt; out.taken() == b"@x: 2\n\n".as_slice());
     let work = report.work.ok_or("no work")?;
     assert!(rt; work.steps.len() == 4);
@@ -141,7 +101,7 @@ fn a_write_fault_leaves_a_prefix_and_the_work(rt: HostRuntime) -> Result<(), Fai
     let mut shelf = shelf(alloc, 3, &[])?;
     let mut out = sink(alloc, 2, &[2])?;
     let mut err = sink(alloc, 3, &[3])?;
-    let report = answer(alloc, &["run"], &mut shelf, &mut out, &mut err)?;
+    let report = answer(&rt, alloc, &["run"], &mut shelf, &mut out, &mut err)?;
     assert!(rt; report.status == 5);
     assert!(rt; out.taken() == b"@:".as_slice());
     // The fault of `err` leaves a prefix of its line, and changes nothing else.
@@ -159,7 +119,7 @@ fn a_write_fault_of_a_check_leaves_a_prefix(rt: HostRuntime) -> Result<(), Fail>
     let mut shelf = shelf(alloc, 3, &[])?;
     let mut out = sink(alloc, 1, &[3])?;
     let mut err = sink(alloc, 64, &[])?;
-    let report = answer(alloc, &["check"], &mut shelf, &mut out, &mut err)?;
+    let report = answer(&rt, alloc, &["check"], &mut shelf, &mut out, &mut err)?;
     assert!(rt; report.status == 5 && report.work.is_none());
     assert!(rt; out.taken() == b"ok".as_slice());
     assert!(rt; err.taken() == b"write fault\n".as_slice());
@@ -176,7 +136,7 @@ fn a_failing_read_is_told_of_its_file(rt: HostRuntime) -> Result<(), Fail> {
         let mut shelf = shelf(alloc, 3, &[call])?;
         let mut out = sink(alloc, 4096, &[])?;
         let mut err = sink(alloc, 4096, &[])?;
-        let report = answer(alloc, &["run"], &mut shelf, &mut out, &mut err)?;
+        let report = answer(&rt, alloc, &["run"], &mut shelf, &mut out, &mut err)?;
         assert!(rt; report.status == 4);
         assert!(rt; out.taken().is_empty());
         assert!(rt; err.taken() == line);
@@ -230,7 +190,7 @@ fn a_long_recording_and_want_of_memory_are_told(rt: HostRuntime) -> Result<(), F
         };
         let mut out = sink(alloc, 4096, &[])?;
         let mut err = sink(alloc, 4096, &[])?;
-        let report = answer(alloc, &["run"], &mut shelf, &mut out, &mut err)?;
+        let report = answer(&rt, alloc, &["run"], &mut shelf, &mut out, &mut err)?;
         assert!(rt; report.status == status);
         assert!(rt; out.taken().is_empty());
         assert!(rt; err.taken() == line);

@@ -1,0 +1,4 @@
+//! Stand-in.
+#![tactic(auto)]
+
+pub mod run;
