@@ -6,10 +6,12 @@ use Rattle.bt_ast.specs.declared.attached.Attached.{Attached}
 use Rattle.bt_core.specs.declared.step.Step.{Step}
 use Rattle.bt_meaning.specs.Interleavings.{IsInterleaving}
 use Rattle.bt_meaning.specs.Jobs.{IsJob}
+use Rattle.bt_meaning.specs.Replays.{Replay}
 use Rattle.bt_meaning.specs.Ticks.{TicksComeAfter}
 use Rattle.bt_meaning.specs.Walks.{replay_of}
 use Rattle.bt_run.specs.declared.job.Job.{Job}
 use Rattle.bt_run.specs.declared.job.Work.{Work}
+use Rattle.run_laws.specs.Reads.{ReadsSeeBeginnings}
 use Rattle.rec_format.specs.declared.recording.Recording.{Recording as Recorded}
 use Rattle.typed_tree.specs.declared.script.Typed.{Typed}
 use Rattle.bt_top.specs.declared.refusal.Refusal.{Refusal}
@@ -19,7 +21,7 @@ use Rattle.bt_top.specs.declared.words.Order.TheVariants.{Run, Check}
 use Rattle.bt_top.specs.Headline.{Headline, PrintsItsSteps}
 use Rattle.bt_top.specs.Lines.{SinkUse}
 use Rattle.bt_top.specs.Refusals.{status_of}
-use Rattle.bt_top.specs.Serve.{ShelfUse, IsDoneWork, IsWritten, Reads, bytes_written}
+use Rattle.bt_top.specs.Serve.{ShelfUse, IsDoneWork, IsWritten, Reads, bytes_written, meaning_of}
 
 -- no refusal has status 0
 no_success : (refusal : Refusal) → status_of (Some refusal) ≡ 0 → ⊥
@@ -47,17 +49,19 @@ written_whole out refusal status bytes is zero (inr fault) written =
 pub worked_headline : (order : Order) (seen : ShelfUse) (out : SinkUse) (status : ℕ) (refusal : Option Refusal) (job : Job) (work : Option Work)
     → ((script : Typed) (attached : Attached) (r : Recorded) (steps : List Step) → IsJob script attached r → IsInterleaving (replay_of script attached r) steps
     → TicksComeAfter (replay_of script attached r) steps)
+    → ((p : Replay) (steps : List Step) → IsInterleaving p steps → ReadsSeeBeginnings p steps)
     → Reads order seen (Ok job) → IsJob job.typed job.attached job.recording → IsDoneWork order job work → status ≡ status_of refusal
     → IsWritten out refusal (bytes_written (Some order) work) → (refusal ≡ None) ⊎ (refusal ≡ Some WriteFault)
     → Headline (Some order) seen out (record { status = status; refusal = refusal; work = work })
-worked_headline (Check names) seen out status refusal job work law reads can done is written ends = tt
-worked_headline (Run serial names) seen out status refusal job None law reads can done is written ends = absurd done
-worked_headline (Run serial names) seen out status refusal job (Some work) law reads can done is written ends = λ zero. record {
+worked_headline (Check names) seen out status refusal job work law read_law reads can done is written ends = tt
+worked_headline (Run serial names) seen out status refusal job None law read_law reads can done is written ends = absurd done
+worked_headline (Run serial names) seen out status refusal job (Some work) law read_law reads can done is written ends = λ zero. record {
   files = reads.files;
   read = reads.held;
   job = job;
   accepted = reads.job;
   interleaving = done.replayed.interleaving;
+  reads = read_law (meaning_of job) work.steps done.replayed.interleaving;
   ticks = law job.typed job.attached job.recording work.steps can done.replayed.interleaving;
   written = subst (λ (text : List ℕ). Appends out.taken out.taken_after text) done.printed (written_whole out refusal status work.text is zero ends written);
 }

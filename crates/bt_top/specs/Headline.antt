@@ -7,6 +7,7 @@ use Rattle.bt_meaning.specs.Replays.{cpus_of}
 use Rattle.bt_meaning.specs.Ticks.{TicksComeAfter}
 use Rattle.bt_run.specs.declared.job.Job.{Job}
 use Rattle.bt_run.specs.declared.job.Work.{Work}
+use Rattle.run_laws.specs.Reads.{ReadsSeeBeginnings}
 use Rattle.bt_top.specs.declared.report.Report.{Report}
 use Rattle.bt_top.specs.declared.words.Operands.{Operands}
 use Rattle.bt_top.specs.declared.words.Order.{Order}
@@ -18,7 +19,7 @@ use Rattle.bt_top.specs.Serve.{ShelfUse, AreHeld, IsJobOf, meaning_of}
 -- The two files that are read hold a script and a recording that the rules accept. The bytes written are exactly those that the script's own
 -- meaning prints under the list of steps that is handed back with them. That is one list of all steps at maps, clock and output, whoever made
 -- them, in which each CPU's events keep their order, every answer follows from the steps before it, and each tick comes after every event
--- recorded before it.
+-- recorded before it. What is read of a CPU's table while it adds there is a beginning of what it adds.
 pub record PrintsItsSteps (held : List ℕ → Option (List ℕ)) (names : Operands) (out : SinkUse) (work : Work) : Type 0 where
   pub files : Files
   pub read : AreHeld held names files
@@ -26,6 +27,7 @@ pub record PrintsItsSteps (held : List ℕ → Option (List ℕ)) (names : Opera
   pub accepted : IsJobOf files job
   pub interleaving : IsInterleaving (meaning_of job) work.steps
   pub ticks : TicksComeAfter (meaning_of job) work.steps
+  pub reads : ReadsSeeBeginnings (meaning_of job) work.steps
   pub written : Appends out.taken out.taken_after (printed_text job.typed (cpus_of (meaning_of job)) work.steps)
 
 -- so it is of every run that ends with status 0, on threads or on one

@@ -129,6 +129,7 @@ fn perform<S: Shelf, K: Sink, G: Gate + Sync, R: Threads + Wait + Sync>(
         (sink_use K.taken K.faults out.old out.new) result }
 {
     bt_meaning::laws::ticks_come_after();
+    run_laws::laws::reads_see_beginnings();
     let job = match read_files(alloc, order, shelf) {
         Ok(job) => job,
         Err(refusal) => return refused(refusal),

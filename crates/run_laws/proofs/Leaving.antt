@@ -1,9 +1,8 @@
 -- Changes that leave a map as it is do not count.
-use Rattle.std.proofs.Common.{◌≡◌, ℕ, ◌&&◌, ◌||◌, Bool, true, false, List, [], ◌∷◌, ◌++◌, length, map, refl, ap}
+use Rattle.std.proofs.Common.{◌≡◌, ◌&&◌, ◌||◌, Bool, true, false, List, [], ◌∷◌, ◌++◌, length, map, refl, ap}
 use Rattle.std.specs.Prelude.{not, cond, nat_lt}
 use Rattle.std.specs.List.{filter}
 use Rattle.bt_core.specs.declared.limits.TheConstants.{KEYS}
-use Rattle.bt_core.specs.declared.value.Value.{Value}
 use Rattle.agg_core.specs.Changes.{Change, Puts, Removes, Clears, Zeroes, Leaves, is_key, with_key, put_keys, lives, given_to, rows_of}
 
 module _ {V : Type 0} where

@@ -1,12 +1,11 @@
 -- Reads see beginnings.
 use Rattle.std.proofs.Common.{◌≡◌, ℕ, ◌&&◌, Bool, List, [], ◌∷◌, ◌++◌, map, refl, sym, ap, ◌∙◌}
-use Rattle.std.specs.Prelude.{not, reverse}
+use Rattle.std.specs.Prelude.{not}
 use Rattle.std.specs.List.{filter}
 use Rattle.std.proofs.lemmas.List.{append-nil, reverse-append}
 use Rattle.std.proofs.lemmas.List.Elements.{filter-append}
 use Rattle.bt_core.specs.declared.map.MapDecl.{MapDecl}
 use Rattle.bt_core.specs.declared.map.MapId.{MapId}
-use Rattle.bt_core.specs.declared.step.ObjectId.{ObjectId}
 use Rattle.bt_core.specs.declared.step.ObjectId.TheVariants.{Cpu}
 use Rattle.bt_core.specs.declared.step.Op.{Op}
 use Rattle.bt_core.specs.declared.step.Op.TheVariants.{Read}
@@ -15,7 +14,7 @@ use Rattle.bt_core.specs.declared.step.Step.{Step}
 use Rattle.bt_core.specs.Steps.{is_of, is_on, of_actor, on_object, operations}
 use Rattle.agg_core.specs.Aggregates.{aggregate}
 use Rattle.agg_core.specs.Answers.{table_change, table_answer, back, agg_kind_in}
-use Rattle.agg_core.specs.Changes.{Change, Leaves, rows_of}
+use Rattle.agg_core.specs.Changes.{Leaves, rows_of}
 use Rattle.bt_meaning.specs.Interleavings.{IsInterleaving}
 use Rattle.bt_meaning.specs.Replays.{Replay, answers_of}
 use Rattle.run_laws.specs.Reads.{is_add, is_read, adds_of, BeginsWith, SeesBeginning}
@@ -50,9 +49,10 @@ pass_over_reads maps ops op = refl
 
 begins : (actor : ℕ) (before : List Step) (s : Step) (after : List Step) (steps : List Step) → steps ≡ before ++ s ∷ after
     → BeginsWith (adds_of actor steps) (adds_of actor before)
-begins actor before s after steps e = let test : Step → Bool = λ x. is_on (Cpu actor) x && is_add x.op in
-    (filter test (of_actor actor (s ∷ after)),
-     ap (adds_of actor) e ∙ ap (filter test) (filter-append (is_of actor) before (s ∷ after)) ∙ filter-append test (of_actor actor before) (of_actor actor (s ∷ after)))
+begins actor before s after steps e = let test : Step → Bool = λ x. is_on (Cpu actor) x && is_add x.op in (
+  filter test (of_actor actor (s ∷ after)),
+  ap (adds_of actor) e ∙ ap (filter test) (filter-append (is_of actor) before (s ∷ after)) ∙ filter-append test (of_actor actor before) (of_actor actor (s ∷ after)),
+)
 
 pub sees_beginning : (p : Replay) (actor : ℕ) (steps : List Step) → IsInterleaving p steps
     → (before : List Step) (s : Step) (after : List Step) → steps ≡ before ++ s ∷ after → s.object ≡ Cpu actor → SeesBeginning p actor steps before s

@@ -1,5 +1,6 @@
 -- What a read of an actor's tables sees of what the actor adds.
 use Rattle.std.specs.Prelude.{◌≡◌, ℕ, ◌&&◌, not, Bool, true, false, List, ◌++◌, filter}
+use Rattle.bt_core.specs.declared.map.MapId.{MapId}
 use Rattle.bt_core.specs.declared.step.ObjectId.TheVariants.{Cpu}
 use Rattle.bt_core.specs.declared.step.Op.{Op}
 use Rattle.bt_core.specs.declared.step.Op.TheVariants.{Add, Read}
@@ -33,3 +34,8 @@ pub record SeesBeginning (p : Replay) (actor : ℕ) (steps before : List Step) (
   pub sees : BeginsWith (adds_of actor steps) (adds_of actor before)
   pub grows : AtEach (λ earlier r. BeginsWith (adds_of actor before) (adds_of actor earlier)) before
   pub reply : s.reply ≡ answers_of p (Cpu actor) (changes_at actor before) s.op
+
+-- so it is of each read at an actor's tables
+abbrev pub ReadsSeeBeginnings : Replay → List Step → Type 0
+ReadsSeeBeginnings p steps =
+    (actor : ℕ) (map : MapId) → AtEach (λ before s. s.object ≡ Cpu actor → s.op ≡ Read map → SeesBeginning p actor steps before s) steps
