@@ -3,6 +3,8 @@ use crate::outcome::Outcome;
 use anyhow::{Context, Result};
 use serde_json::Value;
 use std::alloc::Global;
+use std::fs;
+use std::rt::Files;
 
 /// The words of a command line, the bytes of the files `s.bt` and `r.bin`, what may come, and how often it is tried.
 #[derive(Drop)]
@@ -73,15 +75,25 @@ fn wanted_of(alloc: Global, value: &Value) -> Result<Vec<Outcome>> {
     Ok(wanted)
 }
 
+/// The recording of a case: the bytes of the file that `recording_file` names, or those of `recording`, which
+/// is hexadecimal.
+fn recording_of<R: Files + AllocGlobal>(rt: &R, value: &Value) -> Result<Vec<u8>> {
+    match value.get("recording_file").and_then(Value::as_str) {
+        Some(name) => Ok(fs::read(rt, name).context(format_args!("reading {name}"))?),
+        None => Ok(hex::decode(rt.alloc(), text_of(value, "recording")?)?),
+    }
+}
+
 impl Case {
-    /// The case of a line: an object whose `recording` is hexadecimal and whose other bytes are texts. It may have several `outs`
-    /// in place of its `out`, and `times`, the number of tries, which is else 1.
-    pub fn of(alloc: Global, line: &str) -> Result<Case> {
+    /// The case of a line: an object whose recording may stand in a file and whose other bytes are texts. It may have several
+    /// `outs` in place of its `out`, and `times`, the number of tries, which is else 1.
+    pub fn of<R: Files + AllocGlobal>(rt: &R, line: &str) -> Result<Case> {
+        let alloc = rt.alloc();
         let value = Value::from_str(alloc, line)?;
         Ok(Case {
             words: words_of(alloc, &value)?,
             script: bytes_of(alloc, &value, "script")?,
-            recording: hex::decode(alloc, text_of(&value, "recording")?)?,
+            recording: recording_of(rt, &value)?,
             wanted: wanted_of(alloc, &value)?,
             times: value.get("times").and_then(Value::as_u64).unwrap_or(1),
         })

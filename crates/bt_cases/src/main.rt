@@ -38,7 +38,7 @@ fn run_file<R: Files + Print + AllocGlobal + Threads + Wait + Sync>(
     let mut number = 0u64;
     for line in text.as_str().lines() {
         number = number.saturating_add(1);
-        let case = Case::of(alloc, line).context(format_args!("case {number} of {name}"))?;
+        let case = Case::of(rt, line).context(format_args!("case {number} of {name}"))?;
         let differs = differing(rt, alloc, &case)?;
         if let Some(told) = tally.count(differs.is_none(), not_built.contains(&number)) {
             println!(rt; "case {number} of {name} {told}")?;
@@ -48,8 +48,8 @@ fn run_file<R: Files + Print + AllocGlobal + Threads + Wait + Sync>(
     Ok(())
 }
 
-/// Runs the cases of the four files. Which of the first are not built yet stands in a list of its own; those
-/// of the others all have to agree. The cases of the last run on threads many times.
+/// Runs the cases of the five files. Which of the first are not built yet stands in a list of its own; those
+/// of the others all have to agree. Those of the last file run on threads many times.
 fn main(rt: HostRuntime) -> Result<()> {
     let alloc = rt.alloc();
     let list = fs::read_to_string(&rt, "not_built.json").context("reading not_built.json")?;
@@ -58,6 +58,7 @@ fn main(rt: HostRuntime) -> Result<()> {
     run_file(&rt, "cases.jsonl", not_built.as_slice(), &mut tally)?;
     run_file(&rt, "refused.jsonl", &[], &mut tally)?;
     run_file(&rt, "rows.jsonl", &[], &mut tally)?;
+    run_file(&rt, "examples.jsonl", &[], &mut tally)?;
     run_file(&rt, "schedules.jsonl", &[], &mut tally)?;
     println!(rt; "{tally}")?;
     Ok(())
