@@ -18,7 +18,7 @@ use Rattle.bt_top.specs.declared.refusal.Refusal.{Refusal}
 use Rattle.bt_top.specs.declared.refusal.Refusal.TheVariants.{Usage, Script, Recording, ReadFault, WriteFault, Memory}
 use Rattle.bt_top.specs.declared.words.Order.{Order}
 use Rattle.bt_top.specs.declared.words.Order.TheVariants.{Run, Check}
-use Rattle.bt_top.specs.Headline.{Headline, PrintsItsSteps}
+use Rattle.bt_top.specs.Headline.{Headline}
 use Rattle.bt_top.specs.Lines.{SinkUse}
 use Rattle.bt_top.specs.Refusals.{status_of}
 use Rattle.bt_top.specs.Serve.{ShelfUse, IsDoneWork, IsWritten, Reads, bytes_written, meaning_of}

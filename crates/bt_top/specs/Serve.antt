@@ -25,7 +25,7 @@ use Rattle.bt_top.specs.declared.refusal.Operand.TheVariants as operand
 use Rattle.bt_top.specs.declared.refusal.ScriptFault.{ScriptFault}
 use Rattle.bt_top.specs.declared.refusal.ScriptRefusal.TheVariants as script
 use Rattle.bt_top.specs.declared.refusal.Refusal.{Refusal}
-use Rattle.bt_top.specs.declared.refusal.Refusal.TheVariants.{Script, Recording, ReadFault, WriteFault, Memory}
+use Rattle.bt_top.specs.declared.refusal.Refusal.TheVariants.{Script, ReadFault, WriteFault, Memory}
 use Rattle.bt_top.specs.declared.words.Operands.{Operands}
 use Rattle.bt_top.specs.declared.words.Order.{Order}
 use Rattle.bt_top.specs.declared.words.Order.TheVariants.{Run, Check}

@@ -1,4 +1,4 @@
-use Rattle.bt_top.proofs.Due.{recording_is_fault, script_is_job, script_is_fault}
+use Rattle.bt_top.proofs.Due.{recording_is_fault}
 use Rattle.bt_top.proofs.judge.accept.Goals as goal
 
 pub returns-in-Err-clause-refused : goal.returns-in-Err-clause-refused
