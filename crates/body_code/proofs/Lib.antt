@@ -16,3 +16,4 @@ pub mod Steppers
 pub mod Updates
 pub mod Texts
 pub mod Comparing
+pub mod Doing

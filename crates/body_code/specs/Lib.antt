@@ -4,3 +4,4 @@ pub mod Code
 pub mod Keeping
 pub mod Seeing
 pub mod Replies
+pub mod Held
