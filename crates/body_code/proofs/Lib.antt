@@ -16,3 +16,6 @@ pub mod Steppers
 pub mod Updates
 pub mod Texts
 pub mod Comparing
+pub mod Doing
+pub mod Placing
+pub mod Formed

@@ -5,3 +5,4 @@ pub mod Keeping
 pub mod Seeing
 pub mod Replies
 pub mod Blocks
+pub mod Held
