@@ -19,3 +19,5 @@ pub mod Comparing
 pub mod Doing
 pub mod Placing
 pub mod Formed
+pub mod Jumps
+pub mod Exits
