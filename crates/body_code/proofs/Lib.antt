@@ -21,3 +21,4 @@ pub mod Placing
 pub mod Formed
 pub mod Jumps
 pub mod Exits
+pub mod Whole

@@ -5,4 +5,5 @@ pub mod Keeping
 pub mod Seeing
 pub mod Replies
 pub mod Blocks
+pub mod Bodies
 pub mod Held
