@@ -22,3 +22,4 @@ pub mod Formed
 pub mod Jumps
 pub mod Exits
 pub mod Whole
+pub mod Within
