@@ -17,3 +17,4 @@ pub mod Updates
 pub mod Texts
 pub mod Comparing
 pub mod Doing
+pub mod TextFields
