@@ -18,3 +18,5 @@ pub mod Texts
 pub mod Comparing
 pub mod Doing
 pub mod TextFields
+pub mod Named
+pub mod Tops
