@@ -20,3 +20,8 @@ pub mod Doing
 pub mod TextFields
 pub mod Named
 pub mod Tops
+pub mod Rows
+pub mod EventRows
+pub mod MapRows
+pub mod CallRows
+pub mod Runs
