@@ -23,3 +23,11 @@ pub mod Jumps
 pub mod Exits
 pub mod Whole
 pub mod Within
+pub mod TextFields
+pub mod Named
+pub mod Tops
+pub mod Rows
+pub mod EventRows
+pub mod MapRows
+pub mod CallRows
+pub mod Runs

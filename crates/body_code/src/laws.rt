@@ -1,0 +1,18 @@
+// Laws of the code of bodies.
+ghost use Rattle.std.specs.Prelude.{◌≤◌, length};
+ghost use Rattle.bt_core.specs.declared.limits.TheConstants.{FRAME_BYTES};
+ghost use Rattle.bt_ir.specs.declared.probe.IrProbe.{IrProbe};
+ghost use Rattle.body_code.specs.Blocks.{code_of};
+ghost use Rattle.body_code.specs.Bodies.{AllHeld, KeepsBody};
+
+/// The code of a body whose frame has at most 512 bytes keeps the body, where the values and numbers in the body's instructions
+/// are as a program holds them. For every actor, context and payload and under replies of their kinds it makes exactly the
+/// body's calls and ends where the body ends; it never traps, and never uses up a fuel of 4,098 times its slots.
+pub fn code_keeps_its_body()
+    ensures { (probe : IrProbe) → AllHeld probe.blocks.list → probe.frame_need ≤ FRAME_BYTES → KeepsBody probe (code_of probe) }
+{}
+
+/// The code of a body has no more slots than its probe says that the body needs.
+pub fn code_keeps_to_its_need()
+    ensures { (probe : IrProbe) → length (code_of probe) ≤ probe.code_need }
+{}
