@@ -31,3 +31,5 @@ pub mod EventRows
 pub mod MapRows
 pub mod CallRows
 pub mod Runs
+pub mod Loops
+pub mod LoopForm

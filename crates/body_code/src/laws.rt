@@ -4,6 +4,7 @@ ghost use Rattle.bt_core.specs.declared.limits.TheConstants.{FRAME_BYTES};
 ghost use Rattle.bt_ir.specs.declared.probe.IrProbe.{IrProbe};
 ghost use Rattle.body_code.specs.Blocks.{code_of};
 ghost use Rattle.body_code.specs.Bodies.{AllHeld, KeepsBody};
+ghost use Rattle.body_code.specs.Form.{HasLoopForm};
 
 /// The code of a body whose frame has at most 512 bytes keeps the body, where the values and numbers in the body's instructions
 /// are as a program holds them. For every actor, context and payload and under replies of their kinds it makes exactly the
@@ -15,4 +16,10 @@ pub fn code_keeps_its_body()
 /// The code of a body has no more slots than its probe says that the body needs.
 pub fn code_keeps_to_its_need()
     ensures { (probe : IrProbe) → length (code_of probe) ≤ probe.code_need }
+{}
+
+/// In the code of a body whose frame has at most 512 bytes each jump back ends a loop's turn, and the frame's last eight bytes,
+/// where the turns are counted, are written by the fourth slot of a gate alone.
+pub fn code_has_loop_form()
+    ensures { (probe : IrProbe) → probe.frame_need ≤ FRAME_BYTES → HasLoopForm probe (code_of probe) }
 {}
