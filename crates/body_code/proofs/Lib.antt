@@ -33,3 +33,4 @@ pub mod CallRows
 pub mod Runs
 pub mod Loops
 pub mod LoopForm
+pub mod Under
