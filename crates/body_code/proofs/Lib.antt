@@ -34,3 +34,4 @@ pub mod Runs
 pub mod Loops
 pub mod LoopForm
 pub mod Under
+pub mod Landings

@@ -27,7 +27,8 @@ pub fn code_keeps_to_its_need()
 {}
 
 /// In the code of a body whose frame has at most 512 bytes each jump back ends a loop's turn, and the frame's last eight bytes,
-/// where the turns are counted, are written by the fourth slot of a gate alone.
+/// where the turns are counted, are written by the fourth slot of a gate alone. No jump leads to the second, third or fourth slot
+/// of a gate.
 pub fn code_has_loop_form()
     ensures { (probe : IrProbe) → probe.frame_need ≤ FRAME_BYTES → HasLoopForm probe (code_of probe) }
 {}
