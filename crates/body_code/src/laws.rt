@@ -26,9 +26,9 @@ pub fn code_keeps_to_its_need()
     ensures { (probe : IrProbe) → length (code_of probe) ≤ probe.code_need }
 {}
 
-/// In the code of a body whose frame has at most 512 bytes each jump back ends a loop's turn, and the frame's last eight bytes,
-/// where the turns are counted, are written by the fourth slot of a gate alone. No jump leads to the second, third or fourth slot
-/// of a gate.
+/// In the code of a body whose frame has at most 512 bytes each exit that takes a turn is a gate, whose jump leads to the cut.
+/// Each jump back ends a loop's turn, and the frame's last eight bytes, where the turns are counted, are stored by the fourth slot
+/// of a gate alone. No jump leads to the second, third or fourth slot of a gate.
 pub fn code_has_loop_form()
     ensures { (probe : IrProbe) → probe.frame_need ≤ FRAME_BYTES → HasLoopForm probe (code_of probe) }
 {}
