@@ -35,3 +35,4 @@ pub mod Loops
 pub mod LoopForm
 pub mod Under
 pub mod Landings
+pub mod Asked
