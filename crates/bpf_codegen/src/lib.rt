@@ -1,4 +1,12 @@
 //! Makes BPF code of bodies in typed instructions.
 #![tactic(auto)]
 
-pub mod single;
+mod fields;
+mod instrs;
+mod maps;
+mod moves;
+mod operators;
+mod output;
+mod single;
+mod variables;
+mod words;
