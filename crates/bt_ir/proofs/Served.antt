@@ -13,7 +13,7 @@ use Rattle.bt_core.specs.Kinds.{HasShape}
 use Rattle.bt_core.specs.Ports.{Setting}
 use Rattle.tracefs_format.specs.declared.field.FieldKind.{FieldKind}
 use Rattle.tracefs_format.specs.declared.field.FieldKind.TheVariants.{Number, Chars, DataLoc, Other}
-use Rattle.typed_tree.specs.Scope.{same_shapes, is_shape, shape_of_field, is_declared, is_shared, is_there, kind_of_shape}
+use Rattle.typed_tree.specs.Scope.{same_shapes, is_shape, shape_of_field, is_declared, is_shared, is_there, kind_of_shape, may_print}
 use Rattle.bt_ir.specs.declared.blocks.Block.{Block}
 use Rattle.bt_ir.specs.declared.blocks.Exit.{Exit}
 use Rattle.bt_ir.specs.declared.blocks.Exit.TheVariants.{Goto, Branch, Count, Gate, Again, End}
@@ -85,7 +85,7 @@ module _ (g : Ground) (setting : Setting) (v : View) (maps : v.maps.now ≡ g.ma
   ready (i.Add m key) n e s = few key (is_gathering (slice_get g.maps m.0) key) n
   ready (i.Count m key) n e s = few key (is_gathering (slice_get g.maps m.0) key) n
   ready (i.Printf format key) n e s = tt
-  ready (i.Print m top div) n e s = swept m s (and_parts (is_there (slice_get g.maps m.0)) (int_le (pos 1) div) n).0
+  ready (i.Print m top div) n e s = swept m s (and_parts (is_there (slice_get g.maps m.0)) (may_print top div) n).0
   ready (i.Clear m) n e s = swept m s n
   ready (i.Zero m) n e s = swept m s n
   ready (i.Cut line) n e s = tt

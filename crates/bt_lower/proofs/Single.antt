@@ -25,7 +25,7 @@ use Rattle.typed_tree.specs.declared.expr.NumExpr.{NumExpr}
 use Rattle.typed_tree.specs.declared.stmt.TypedStmt.{TypedStmt}
 use Rattle.typed_tree.specs.declared.stmt.TypedStmt.TheVariants as stmts
 use Rattle.typed_tree.specs.Parts.{Part, made_of, num_parts, parts_in, key_shapes, keyed_parts, set_var_parts, set_map_parts, update_var_parts, update_map_parts, gather_parts, printf_parts, delete_parts, stmt_parts, Assigned, VarOf, MapOf, Gathered, Deleted, Printed, Shown, Cleared, Zeroed, Ending}
-use Rattle.typed_tree.specs.Scope.{decl_of, is_declared, is_shared, is_agg, is_there, same_kind, same_shapes, same_bool, is_count, format_of, takes}
+use Rattle.typed_tree.specs.Scope.{decl_of, is_declared, is_shared, is_agg, is_there, same_kind, same_shapes, same_bool, is_count, format_of, takes, may_print}
 use Rattle.bt_walk.specs.declared.flow.Flow.{Flow}
 use Rattle.bt_walk.specs.Does.{Does, given}
 use Rattle.bt_walk.specs.Exprs.{value_does, values_do, number_does, number_value}
@@ -99,7 +99,7 @@ T-Print s m n div way c new hs e1 =
     stmt-is s (stmts.Print m n div) qs (print m n div) (need 0 16) way c new hs (form.Print-parts m n div) (form.Print-does m n div) (form.Print-need m n div)
     (Stmt-less qs (print m n div) (need (max 0 0) 16) (need 0 16) way c new (omega arith) (omega arith)
     (Lowers-act qs (i.Print m n div) [] [] [] (print m n div) _ (λ vs frame a. frame) (need 0 0) way c new new (print-acts m n div)
-    (λ t inside f. let p = fit-head t.scope (Shown m.0 n div) [] f in let q = and_parts (is_there (decl_of m.0 t.scope.maps)) (int_le (pos 1) div) p.0 in (rw (there-names t m q.0) q.1, refl)) e1 (Parts-none new)))
+    (λ t inside f. let p = fit-head t.scope (Shown m.0 n div) [] f in let q = and_parts (is_there (decl_of m.0 t.scope.maps)) (may_print n div) p.0 in (rw (there-names t m q.0) q.1, refl)) e1 (Parts-none new)))
 
 pub T-Clear : (s : TypedStmt) (m : MapId) (way : Ways) (c new : Code) → s ≡ stmts.Clear m → new ≡ pushed (i.Clear m) c → LowersStmt (stmt_parts s) (stmt_does s) (stmt_need s) way c new
 T-Clear s m way c new hs e1 =

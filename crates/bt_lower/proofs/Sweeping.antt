@@ -16,7 +16,7 @@ use Rattle.bt_core.specs.Interaction.{Ended, Asks, and_then}
 use Rattle.bt_core.proofs.InteractionLaws.{and_then_assoc}
 use Rattle.map_printer.specs.Merged.{merged}
 use Rattle.typed_tree.specs.Parts.{Shown, Cleared, Zeroed}
-use Rattle.typed_tree.specs.Scope.{decl_of, is_there}
+use Rattle.typed_tree.specs.Scope.{decl_of, is_there, may_print}
 use Rattle.bt_walk.specs.declared.flow.Frame.{Frame}
 use Rattle.bt_walk.specs.declared.flow.Flow.TheVariants.{Next}
 use Rattle.bt_walk.specs.declared.sweep.Sweep.{Sweep as WalkSweep}
@@ -83,7 +83,7 @@ print-acts m top div = record {
   is = λ w frame. ap (λ t. and_then t (λ (p : List Reply × Frame). plain (told Out (ops.Emit (items.Map m (merged (kind_of m w.maps) p.0) top div))) w p.1)) (swept-same ours.Read (kind_of m w.maps) m w frame) ∙ simp and_then_assoc;
   runs = λ s inside fit w same frame values vs long.
       let p = fit-head s.scope (Shown m.0 top div) [] fit in
-      let q = and_parts (is_there (decl_of m.0 s.scope.maps)) (int_le (pos 1) div) p.0 in
+      let q = and_parts (is_there (decl_of m.0 s.scope.maps)) (may_print top div) p.0 in
       ap (λ l. instr_run (i.Print m top div) (seen_by s.ground.maps w) (state frame l)) (bare values vs long)
       ∙ ap (λ (k : MapKind). and_then (printed k m top div w.actors) (λ u. Ended (state frame values))) (kind-same s m w same q.0);
   turns = λ vs frame a. refl;

@@ -1,8 +1,7 @@
 -- Aggregations, and calls on maps.
-use Rattle.std.proofs.Common.{◌≡◌, ◌++◌, ◌&&◌, ◌≤ℤ◌, ℕ, ℤ, pos, Bool, true, false, not, List, [], ◌∷◌, length, map, Option, Some, None, Result, Ok, Err, OnOk, IfOk, IsErrAnd, MatchResult, is_none, unsigned_abs, refl, sym, ap, subst, ◌∙◌, append-nil, append_assoc}
+use Rattle.std.proofs.Common.{◌≡◌, ◌++◌, ◌^◌, ◌&&◌, ℕ, ℤ, pos, negsuc, nat_lt, w64, FitsSigned, arith, Bool, true, false, not, List, [], ◌∷◌, length, map, Option, Some, None, Result, Ok, Err, OnOk, IfOk, IsErrAnd, MatchResult, is_none, unsigned_abs, refl, sym, ap, subst, ◌∙◌, append-nil, append_assoc}
 use Rattle.std.specs.Prelude.{int_le}
-use Rattle.std.specs.Int.Signed.{le_z_yes}
-use Rattle.std.proofs.lemmas.Float.{T_from_true}
+use Rattle.std.proofs.lemmas.Bool.Decides.{nat_tests}
 use Rattle.bt_core.specs.declared.place.Place.{Place}
 use Rattle.bt_ast.specs.declared.expr.Expr.{Expr}
 use Rattle.bt_ast.specs.declared.stmt.AggCall.{AggCall}
@@ -14,7 +13,7 @@ use Rattle.bt_core.specs.declared.map.Shape.{Shape}
 use Rattle.bt_core.specs.declared.map.Shape.TheVariants.{Int, Str}
 use Rattle.typed_tree.specs.declared.expr.NumExpr.{NumExpr}
 use Rattle.typed_tree.specs.declared.stmt.TypedStmt.{TypedStmt}
-use Rattle.typed_tree.specs.Scope.{kind_of_shape, is_agg, is_count, is_fine_agg, same_bool}
+use Rattle.typed_tree.specs.Scope.{kind_of_shape, is_agg, is_count, is_fine_agg, same_bool, may_print}
 use Rattle.expr_types.specs.declared.fault.Rule.{Rule}
 use Rattle.expr_types.specs.declared.fault.Rule.TheVariants.{BadBounds, OtherKeys, TooManyMaps, WrongType}
 use Rattle.expr_types.specs.declared.fault.TypeError.{TypeError}
@@ -123,15 +122,30 @@ second_holds : (a b : Bool) → (a && b) ≡ true → b ≡ true
 second_holds true b h = h
 second_holds false b h = cc
 
-at_least_one : (top div : ℤ) → are_rows top div ≡ true → pos 1 ≤ℤ div
-at_least_one top div h = le_z_yes (T_from_true (int_le (pos 1) div) (second_holds (int_le (pos 0) top) (int_le (pos 1) div) h))
+both_true : (a b : Bool) → a ≡ true → b ≡ true → (a && b) ≡ true
+both_true true true x y = refl
+both_true true false x y = y
+both_true false b x y = x
 
-pub print_done : (m : MapSeen) (top div : ℤ) (place : Place) (k0 k1 : Known) (number rows : ℕ) → UseChecked m k0 k1 number → breaks (not (are_rows top div)) WrongType ≡ None → rows ≡ unsigned_abs top
+first_holds : (a b : Bool) → (a && b) ≡ true → a ≡ true
+first_holds true b h = refl
+first_holds false b h = cc
+
+few_rows : (top : ℤ) → FitsSigned w64 top → int_le (pos 0) top ≡ true → nat_lt (unsigned_abs top) (2 ^ 63) ≡ true
+few_rows (pos n) fits h = grind (arith, nat_tests)
+few_rows (negsuc n) fits h = cc
+
+rows_may : (top div : ℤ) → FitsSigned w64 top → are_rows top div ≡ true → may_print (unsigned_abs top) div ≡ true
+rows_may top div fits h =
+    both_true (int_le (pos 1) div) (nat_lt (unsigned_abs top) (2 ^ 63)) (second_holds (int_le (pos 0) top) (int_le (pos 1) div) h)
+    (few_rows top fits (first_holds (int_le (pos 0) top) (int_le (pos 1) div) h))
+
+pub print_done : (m : MapSeen) (top div : ℤ) (place : Place) (k0 k1 : Known) (number rows : ℕ) → FitsSigned w64 top → UseChecked m k0 k1 number → breaks (not (are_rows top div)) WrongType ≡ None → rows ≡ unsigned_abs top
     → Done (print_told m top div place) k0 k1 (Shown number rows div ∷ [])
-print_done m top div place k0 k1 number rows u h is =
+print_done m top div place k0 k1 number rows fits u h is =
     rw is (done_of (print_told m top div place) k0 k1 (Shown number (unsigned_abs top) div ∷ [])
     (went_both (used m) (at place (NeedsRows top div) ∷ []) k0 k1 k1 (used_went m k0 k1 number u) (went_at place (NeedsRows top div) k1 k1 tt h refl))
-    (held_more k1 (Shown number (unsigned_abs top) div) (ShowWord m.name (unsigned_abs top) div) [] [] (record { name = m.name; named = u.named }, at_least_one top div (holds_not (are_rows top div) WrongType h))
+    (held_more k1 (Shown number (unsigned_abs top) div) (ShowWord m.name (unsigned_abs top) div) [] [] (record { name = m.name; named = u.named }, rows_may top div fits (holds_not (are_rows top div) WrongType h))
     (ap (λ (n : List ℕ). ShowWord n (unsigned_abs top) div) (title_is k1.names number m.name u.named.numbered)) (held_none k1)))
 
 pub print_refused : (m : MapSeen) (top div : ℤ) (place : Place) (k0 k1 : Known) (number : ℕ) (e : TypeError) → UseChecked m k0 k1 number → IsBreach (breaks (not (are_rows top div)) WrongType) place e → SaysFault (judged (print_told m top div place).points k0) e

@@ -25,7 +25,7 @@ use Rattle.tracefs_format.specs.declared.layout.Layout.{Layout}
 use Rattle.typed_tree.specs.Bodies.{scope_of, tree_parts}
 use Rattle.typed_tree.specs.Parts.{Part, Constant, Literal, Numeric, Command, FieldOf, VarOf, MapOf, Stepped, Prefixed, Joined, Both, Either, Chosen}
 use Rattle.typed_tree.specs.Parts.{Assigned, Gathered, Deleted, Printed, Shown, Cleared, Zeroed, Jumped, Looped, Unrolled, Arm, Otherwise, NoOtherwise, Ending}
-use Rattle.typed_tree.specs.Scope.{Scope, decl_of, format_of, same_int, same_shape, same_shapes, same_agg, same_kind, same_bool, same_field_kind, same_field, kind_of_shape, is_agg, is_fine_decl, is_shape, has_field, is_declared, is_shared, is_there, takes, fits, all_fit, shape_of_field}
+use Rattle.typed_tree.specs.Scope.{Scope, decl_of, format_of, same_int, same_shape, same_shapes, same_agg, same_kind, same_bool, same_field_kind, same_field, kind_of_shape, is_agg, is_fine_decl, is_shape, has_field, is_declared, is_shared, is_there, takes, fits, all_fit, shape_of_field, may_print}
 use Rattle.bt_ast.specs.declared.attached.BodyId.{BodyId}
 use Rattle.bt_ast.specs.declared.probe.Script.{Script}
 use Rattle.tracefs_format.specs.declared.format.Format.{Format}
@@ -206,7 +206,7 @@ part_fits k s (MapOf number keys shape) h = map_fits k number (kind_of_shape sha
 part_fits k s (Gathered number keys kind counts) h = both_true (is_declared (decl_of number (maps_at (maps_of k) k.named)) (Aggs kind) keys) _ (map_fits k number (Aggs kind) keys h.0) h.1
 part_fits k s (Deleted number keys) h = shared_fits k number h.kind keys h.shared h.map
 part_fits k s (Printed number shapes) h = call_fits k number shapes s h
-part_fits k s (Shown number top div) h = both_true (is_there (decl_of number (maps_at (maps_of k) k.named))) (int_le (pos 1) div) (there_fits k number h.0.name h.0.named) (test_true (int_le (pos 1) div) h.1.le)
+part_fits k s (Shown number top div) h = both_true (is_there (decl_of number (maps_at (maps_of k) k.named))) (may_print top div) (there_fits k number h.0.name h.0.named) h.1
 part_fits k s (Cleared number) h = there_fits k number h.name h.named
 part_fits k s (Zeroed number) h = there_fits k number h.name h.named
 part_fits k s (Jumped jump inside) h = h

@@ -1,6 +1,6 @@
 -- What is asked by statements, and by whole bodies.
 use Rattle.std.proofs.Common.{◌≡◌, ◌++◌, ◌+◌, ◌<◌, ℕ, zero, suc, ℤ, pos, List, [], ◌∷◌, Option, Some, None, Bool, true, false, map, refl, sym, ap, subst, arith}
-use Rattle.std.specs.Prelude.{IsTrue, IsSomeAnd, slice_get, is_none, int_le}
+use Rattle.std.specs.Prelude.{IsTrue, IsSomeAnd, slice_get, is_none, int_le, nat_lt, ◌^◌}
 use Rattle.std.proofs.lemmas.Bool.{and_parts}
 use Rattle.std.specs.List.{AllByRecursion}
 use Rattle.bt_core.specs.declared.context.Context.{Context}
@@ -33,7 +33,7 @@ use Rattle.typed_tree.specs.Parts as tree
 use Rattle.typed_tree.specs.Parts.{Part, Made, made_of, num_parts, parts_in, key_shapes, stmt_parts, block_parts, arm_parts, otherwise_parts, joined, number_parts, set_map_parts, update_map_parts, Ending, Otherwise}
 use Rattle.typed_tree.specs.declared.body.TypedBody.{TypedBody}
 use Rattle.typed_tree.specs.Bodies.{predicate_parts}
-use Rattle.typed_tree.specs.Scope.{fits, all_fit, is_there, decl_of, format_of, takes}
+use Rattle.typed_tree.specs.Scope.{fits, all_fit, is_there, decl_of, format_of, takes, may_print}
 use Rattle.map_printer.specs.Merged.{merged}
 use Rattle.bt_walk.specs.declared.flow.Flow.{Flow}
 use Rattle.bt_walk.specs.declared.flow.Flow.TheVariants.{Next, Break, Continue, Stop}
@@ -295,7 +295,7 @@ module _ (v : View) (setting : Setting) (served : IsServed v setting) (fine : It
       (emits.printf format (key_shapes (map made_of es)) values (and_parts (fits (scope_in v) (tree.Printed format (key_shapes (map made_of es)))) _ fit).0 h)))
   stmt_case (TypedStmt-F.Print m top div) inside fit =
       let p = and_parts (fits (scope_in v) (tree.Shown m.0 top div)) true fit in
-      let q = and_parts (is_there (decl_of m.0 v.body.now.maps)) (int_le (pos 1) div) p.0 in print-good m top div q.0 q.1
+      let q = and_parts (is_there (decl_of m.0 v.body.now.maps)) (may_print top div) p.0 in print-good m top div q.0 (and_parts (int_le (pos 1) div) (nat_lt top (2 ^ 63)) q.1).0
   stmt_case (TypedStmt-F.Clear m) inside fit = clear-good m (and_parts (is_there (decl_of m.0 v.body.now.maps)) true fit).0
   stmt_case (TypedStmt-F.Zero m) inside fit = zero-good m (and_parts (is_there (decl_of m.0 v.body.now.maps)) true fit).0
   stmt_case (TypedStmt-F.Delete m keys) inside fit =

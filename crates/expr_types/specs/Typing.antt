@@ -13,7 +13,7 @@ use Rattle.typed_tree.specs.declared.expr.NumBuiltin.{NumBuiltin}
 use Rattle.typed_tree.specs.declared.expr.NumBuiltin.TheVariants.{Pid, Tid, Uid, Gid, Cpu, Nsecs, Elapsed}
 use Rattle.typed_tree.specs.Parts.{Part, Constant, Literal, Numeric, Command, FieldOf, VarOf, MapOf, Stepped, Prefixed, Joined, Both, Either, Chosen}
 use Rattle.typed_tree.specs.Parts.{Assigned, Gathered, Deleted, Printed, Shown, Cleared, Zeroed, Jumped, Looped, Unrolled, Arm, Otherwise, NoOtherwise, Ending, Made}
-use Rattle.typed_tree.specs.Scope.{shape_of_field, kind_of_shape, is_agg, is_count, same_bool, leaves_body, takes}
+use Rattle.typed_tree.specs.Scope.{shape_of_field, kind_of_shape, is_agg, is_count, same_bool, leaves_body, takes, may_print}
 use Rattle.expr_types.specs.declared.known.Known.{Known}
 use Rattle.expr_types.specs.declared.known.Printed.{Printed as Call}
 use Rattle.expr_types.specs.declared.known.Var.{Var}
@@ -71,7 +71,7 @@ Fits k (MapOf number keys shape) = IsMapOf k number (kind_of_shape shape) keys
 Fits k (Gathered number keys kind counts) = IsMapOf k number (Aggs kind) keys × (same_bool counts (is_count kind) ≡ true)
 Fits k (Deleted number keys) = IsSharedMap k number keys
 Fits k (Printed format shapes) = IsCallOf k format shapes
-Fits k (Shown number top div) = IsMap k number × (pos 1 ≤ℤ div)
+Fits k (Shown number top div) = IsMap k number × (may_print top div ≡ true)
 Fits k (Cleared number) = IsMap k number
 Fits k (Zeroed number) = IsMap k number
 Fits k (Jumped jump inside) = (inside || leaves_body jump) ≡ true

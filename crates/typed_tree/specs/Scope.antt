@@ -1,5 +1,5 @@
 -- What a typed tree may name, and which parts fit it.
-use Rattle.std.specs.Prelude.{ℕ, ℤ, pos, Bool, true, false, ◌&&◌, ◌||◌, ◌==◌, nat_le, int_le, int_lt, List, [], ◌∷◌, length, Option, Some, None, slice_get, if◌then◌else◌}
+use Rattle.std.specs.Prelude.{ℕ, ℤ, pos, Bool, true, false, ◌&&◌, ◌||◌, ◌==◌, ◌^◌, nat_le, int_le, int_lt, nat_lt, List, [], ◌∷◌, length, Option, Some, None, slice_get, if◌then◌else◌}
 use Rattle.std.specs.List.{list_all, list_any}
 use Rattle.std.specs.Str.{bytes_eq}
 use Rattle.bt_core.specs.declared.limits.TheConstants.{KEY_PARTS, LHIST_BUCKETS}
@@ -154,6 +154,10 @@ leaves_body Continue = false
 leaves_body Exit = true
 leaves_body Return = true
 
+-- the numbers of `print` are whole numbers of the language: how many rows it keeps, and what it divides by, which is at least 1
+abbrev pub may_print : ℕ → ℤ → Bool
+may_print top div = int_le (pos 1) div && nat_lt top (2 ^ 63)
+
 -- a part names what is there, in its type, and breaks no rule
 abbrev pub fits : Scope → Part → Bool
 fits s (FieldOf field shape) = has_field s.layout field && is_shape (shape_of_field field.kind) shape
@@ -162,7 +166,7 @@ fits s (MapOf number keys shape) = is_declared (decl_of number s.maps) (kind_of_
 fits s (Gathered number keys kind counts) = is_declared (decl_of number s.maps) (Aggs kind) keys && same_bool counts (is_count kind)
 fits s (Deleted number keys) = is_shared (decl_of number s.maps) keys
 fits s (Printed format shapes) = takes (format_of format s.formats) shapes
-fits s (Shown number top div) = is_there (decl_of number s.maps) && int_le (pos 1) div
+fits s (Shown number top div) = is_there (decl_of number s.maps) && may_print top div
 fits s (Cleared number) = is_there (decl_of number s.maps)
 fits s (Zeroed number) = is_there (decl_of number s.maps)
 fits s (Jumped jump inside) = inside || leaves_body jump

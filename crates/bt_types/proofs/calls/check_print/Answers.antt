@@ -25,4 +25,4 @@ returns c = λ (inside : Bool).
     let top : FitsSigned w64 c.args.top = c.ranges.top in
     let div : FitsSigned w64 c.args.div = c.ranges.div in
     simp to_z-of_z (rw (print_stmt c.in_ok-map.map c.in_ok-top.top c.args.div inside)
-    (print_done (of_map c.args.map.now) c.args.top c.args.div c.args.place c.args.known.now c.check_used.new.known c.in_ok-map.map.0 c.in_ok-top.top c.in_ok-map.ensures (simp to_z-of_z at c.in_ok-top.ensures.refuses) (simp to_z-of_z at c.in_ok-top.ensures.same)))
+    (print_done (of_map c.args.map.now) c.args.top c.args.div c.args.place c.args.known.now c.check_used.new.known c.in_ok-map.map.0 c.in_ok-top.top top c.in_ok-map.ensures (simp to_z-of_z at c.in_ok-top.ensures.refuses) (simp to_z-of_z at c.in_ok-top.ensures.same)))
