@@ -1,2 +1,5 @@
 pub mod Heights
 pub mod Emitting
+pub mod Loops
+pub mod Laid
+pub mod Within

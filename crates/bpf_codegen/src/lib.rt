@@ -1,8 +1,10 @@
 //! Makes BPF code of bodies in typed instructions.
 #![tactic(auto)]
 
+mod exits;
 mod fields;
 mod instrs;
+mod laying;
 mod maps;
 mod moves;
 mod operators;
