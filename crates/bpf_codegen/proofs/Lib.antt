@@ -2,4 +2,3 @@ pub mod Heights
 pub mod Emitting
 pub mod Loops
 pub mod Laid
-pub mod Within
