@@ -2,6 +2,7 @@ pub mod EndLemmas
 pub mod Finals
 pub mod ItemLemmas
 pub mod KindLemmas
+pub mod MapReads
 pub mod NewLemmas
 pub mod ObjectLemmas
 pub mod ReadLemmas

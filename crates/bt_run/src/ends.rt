@@ -5,7 +5,7 @@ ghost use Rattle.bt_meaning.specs.Prints.{read_of, rows_after, lost_after, of_ma
 ghost use Rattle.bt_run.specs.Moments.{Moment, IsMoment};
 
 use crate::job::Job;
-use crate::new_objects::number;
+use crate::numbers::number;
 use crate::objects::Objects;
 use crate::reads::{part_losses, part_replies, table_losses, table_replies};
 use bt_core::item::Cell;

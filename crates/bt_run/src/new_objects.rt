@@ -8,6 +8,7 @@ ghost use Rattle.bt_run.specs.News.{AreNew, AreNewParts, NewMaps};
 ghost use Rattle.bt_run.specs.Objects.{Stand};
 
 use crate::job::Job;
+use crate::numbers::number;
 use crate::objects::{MapParts, Objects};
 use crate::own::OwnObject;
 use bt_core::items::Items;
@@ -43,16 +44,6 @@ fn parts_of(alloc: Global, map: u32, decl: &MapDecl) -> Result<MapParts, Memory>
         MapKind::Aggs(_) => Ok(MapParts {
             parts: Vec::new(alloc),
         }),
-    }
-}
-
-/// The number of a map at a place, or [`Memory`] past the greatest that fits.
-pub(crate) fn number(place: usize) -> Result<u32, Memory>
-    ensures { IfOk result (λ map. map ≡ place) }
-{
-    match u32::try_from(place) {
-        Ok(map) => Ok(map),
-        Err(_) => Err(Memory),
     }
 }
 

@@ -8,8 +8,8 @@ ghost use Rattle.bt_run.specs.declared.own.OwnObject.{OwnObject};
 ghost use Rattle.bt_run.specs.Moments.{table_reply, table_lost, part_reply, part_lost, of_first};
 ghost use Rattle.bt_run.specs.Objects.{AllStand, IsPartOf};
 
+use crate::numbers::sum;
 use crate::own::OwnObject;
-use crate::serial::sum;
 use bt_core::map::MapId;
 use bt_core::memory::Memory;
 use bt_core::step::Reply;

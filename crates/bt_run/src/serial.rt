@@ -10,6 +10,7 @@ ghost use Rattle.bt_run.specs.Objects.{Stand};
 ghost use Rattle.bt_run.specs.Runs.{first_turn};
 
 use crate::job::Job;
+use crate::numbers::sum;
 use crate::objects::Objects;
 use crate::plans::ActorPlans;
 use crate::port::SerialPort;
@@ -48,16 +49,6 @@ fn goes_on(going: &[bool], cpu: u32) -> bool
     match going.get(cpu as usize) {
         Some(on) => *on,
         None => false,
-    }
-}
-
-/// The sum of two counts, or [`Memory`] past the greatest that fits.
-pub(crate) fn sum(count: u64, more: u64) -> Result<u64, Memory>
-    ensures { IfOk result (λ both. both ≡ count + more) }
-{
-    match count.checked_add(more) {
-        Some(both) => Ok(both),
-        None => Err(Memory),
     }
 }
 

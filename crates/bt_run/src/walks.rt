@@ -56,7 +56,7 @@ impl<'a> Walks<'a> {
     ghost use Rattle.bt_run.specs.Plans.{plan_of};
 
     /// Walks for each actor of a job: the CPUs by their places, and the main actor.
-    pub(crate) fn of_all(alloc: Global, job: &'a Job) -> Result<Vec<Walks<'a>>, Memory>
+    pub fn of_all(alloc: Global, job: &'a Job) -> Result<Vec<Walks<'a>>, Memory>
         requires { cpus_in job.now + 1 < 2 ^ 32 }
         ensures { IfOk result (λ walks. HavePlans plan_of (cpus_in job.now + 1) (walking job.now.typed (cpus_in job.now + 1)) walks.items) }
     {

@@ -1,7 +1,7 @@
 use Rattle.std.proofs.Common.{length, sym, ap, ◌∙◌, subst}
 use Rattle.map_printer.specs.Ends.{AllRowsFit}
 use Rattle.bt_meaning.specs.Prints.{rows_after, lost_after}
-use Rattle.bt_run.proofs.EndLemmas.{maps_long, maps_done, rows_fit}
+use Rattle.bt_run.proofs.MapReads.{maps_long, maps_done, rows_fit}
 use Rattle.bt_run.proofs.ends.end_of.Goals as goal
 
 pub print_end-requires-clause-rows : goal.print_end-requires-clause-rows
@@ -18,4 +18,4 @@ print_end-requires-clause-lost g c =
 pub print_end-requires-clause-fit : goal.print_end-requires-clause-fit
 print_end-requires-clause-fit g c =
     let done = c.as_slice.ensures.value ∙ maps_done (rows_after g.at.world.maps g.at.world.cpus g.at.steps) c.loop-map.rows.items c.loop-map.map c.as_slice-maps.result.now c.loop-map-test.false c.loop-map.invariant.rows in
-    subst (λ rows. AllRowsFit c.as_slice-maps.result.now rows) (sym done) (rows_fit g.at c.args.objects.now c.requires.0 c.as_slice-maps.result.now (c.requires.1 ∙ sym c.as_slice-maps.ensures))
+    subst (λ rows. AllRowsFit c.as_slice-maps.result.now rows) (sym done) (rows_fit g.at c.requires.0.fine c.requires.0.possible c.as_slice-maps.result.now (c.requires.1 ∙ sym c.as_slice-maps.ensures))
