@@ -3,6 +3,7 @@
 
 mod exits;
 mod fields;
+pub mod generate;
 mod instrs;
 mod laying;
 mod maps;
