@@ -10,7 +10,7 @@ use std::alloc::Global;
 use std::test::Fail;
 
 /// Eight variables of 64 bytes, and one string more while it is assigned, beside the body's own 24 bytes: 600 bytes.
-const EIGHT: &[u8] = b"BEGIN { $a = \"x\"; $b = \"x\"; $c = \"x\"; $d = \"x\"; \
+pub(crate) const EIGHT: &[u8] = b"BEGIN { $a = \"x\"; $b = \"x\"; $c = \"x\"; $d = \"x\"; \
 $e = \"x\"; $f = \"x\"; $g = \"x\"; $h = \"x\"; }";
 
 /// Six of them: 472 bytes.
@@ -33,7 +33,7 @@ const PUT_AND_STORE: [Place; 2] = [
 ];
 
 /// The body of a script that has one.
-fn probe_of(alloc: Global, text: &[u8]) -> Result<IrProbe, Fail> {
+pub(crate) fn probe_of(alloc: Global, text: &[u8]) -> Result<IrProbe, Fail> {
     let formats = formats(alloc)?;
     let typed = typed_of(alloc, text, formats.as_slice())?;
     let mut probes = lower(alloc, &typed)?.into_vec();
