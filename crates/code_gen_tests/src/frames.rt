@@ -14,22 +14,47 @@ pub(crate) const EIGHT: &[u8] = b"BEGIN { $a = \"x\"; $b = \"x\"; $c = \"x\"; $d
 $e = \"x\"; $f = \"x\"; $g = \"x\"; $h = \"x\"; }";
 
 /// Six of them: 472 bytes.
-const SIX: &[u8] = b"BEGIN { $a = \"x\"; $b = \"x\"; $c = \"x\"; $d = \"x\"; $e = \"x\"; $f = \"x\"; }";
+const SIX: &[u8] =
+    b"BEGIN { $a = \"x\"; $b = \"x\"; $c = \"x\"; $d = \"x\"; $e = \"x\"; $f = \"x\"; }";
 
 /// Where the variables of the six lie.
 const VARIABLES: [Place; 6] = [
-    Place { offset: 0, size: 64 },
-    Place { offset: 64, size: 64 },
-    Place { offset: 128, size: 64 },
-    Place { offset: 192, size: 64 },
-    Place { offset: 256, size: 64 },
-    Place { offset: 320, size: 64 },
+    Place {
+        offset: 0,
+        size: 64,
+    },
+    Place {
+        offset: 64,
+        size: 64,
+    },
+    Place {
+        offset: 128,
+        size: 64,
+    },
+    Place {
+        offset: 192,
+        size: 64,
+    },
+    Place {
+        offset: 256,
+        size: 64,
+    },
+    Place {
+        offset: 320,
+        size: 64,
+    },
 ];
 
 /// A string is put over the variables, and then it is taken.
 const PUT_AND_STORE: [Place; 2] = [
-    Place { offset: 384, size: 64 },
-    Place { offset: 384, size: 0 },
+    Place {
+        offset: 384,
+        size: 64,
+    },
+    Place {
+        offset: 384,
+        size: 0,
+    },
 ];
 
 /// The body of a script that has one.
