@@ -101,9 +101,10 @@ fn six_strings_lie_below_the_one_that_is_assigned(rt: HostRuntime) -> Result<(),
     let probe = probe_of(alloc, SIX)?;
     let frame = place_frame(alloc, &probe)?;
     assert_eq!(rt; frame.variables.as_slice(), &VARIABLES[..]);
-    assert_eq!(rt; frame.blocks.len(), 1);
-    let places = turns(alloc, 6)?;
-    for block in frame.blocks.as_slice() {
+    // The first block is the body's end; a run begins at the last one.
+    assert_eq!(rt; frame.blocks.len(), 2);
+    for (block, count) in frame.blocks.as_slice().iter().zip([0, 6]) {
+        let places = turns(alloc, count)?;
         assert_eq!(rt; block.puts.as_slice(), places.as_slice());
         assert_eq!(rt; (block.stack.len(), block.end), (0, 384));
     }

@@ -58,13 +58,13 @@ fn a_large_frame_is_told_first(rt: HostRuntime) -> Result<(), Fail> {
     Ok(())
 }
 
-/// `exit()`: a call of the helper 9, and the exit.
+/// `exit()`: a call of the helper 9, and an exit. Behind it stands the body's end, to which nothing leads here.
 #[test]
 fn a_body_that_stops_calls_the_helper_and_ends(rt: HostRuntime) -> Result<(), Fail> {
     let alloc = rt.alloc();
     let program = program_of(alloc, b"BEGIN { exit(); }")??;
-    let wanted = b"\x85\0\0\0\x09\0\0\0\x95\0\0\0\0\0\0\0";
+    let wanted = b"\x85\0\0\0\x09\0\0\0\x95\0\0\0\0\0\0\0\x95\0\0\0\0\0\0\0";
     assert_eq!(rt; program.bytes.as_slice(), &wanted[..]);
-    assert_eq!(rt; program.fuel, 2 * 4098);
+    assert_eq!(rt; program.fuel, 3 * 4098);
     Ok(())
 }
