@@ -1,1 +1,3 @@
-
+-- for crates that stand on the port and the worker
+pub mod ChainLemmas
+pub mod WorldLemmas

@@ -35,9 +35,8 @@ fn run_one<B: Bodies, G: Gate, R: Wait>(
     task.ended = Some(task.worker.run(rt, alloc, world));
 }
 
-/// Runs all workers, each on a thread of its own where threads can be started; where one cannot, the caller runs the worker
-/// itself. There is at least one. Each keeps how its run ended.
-pub fn run_all<B: Bodies + Send, G: Gate + Sync, R: Threads + Wait + Sync>(
+/// Runs each of these workers, on a thread of its own where threads can be started.
+fn run_each<B: Bodies + Send, G: Gate + Sync, R: Threads + Wait + Sync>(
     rt: &R,
     alloc: Global,
     world: &World,
@@ -48,5 +47,28 @@ pub fn run_all<B: Bodies + Send, G: Gate + Sync, R: Threads + Wait + Sync>(
     ensures { (i : ℕ) (d : Task B G) → i < length tasks.old → HasRun B.plan world.now (slice_index_or tasks.old i d) (slice_index_or tasks.new i d) }
 {
     let threads = tasks.len();
-    thread::for_each_mut(rt, tasks, threads, &|_, task| run_one(rt, alloc, world, task));
+    thread::for_each_mut(
+        rt,
+        tasks,
+        threads,
+        &|_, task| run_one(rt, alloc, world, task),
+    );
+}
+
+/// Runs all workers, each on a thread of its own where threads can be started; where one cannot, the caller runs the worker
+/// itself. There is at least one. Each keeps how its run ended.
+pub fn run_all<B: Bodies + Send, G: Gate + Sync, R: Threads + Wait + Sync>(
+    rt: &R,
+    alloc: Global,
+    world: &World,
+    tasks: &mut Vec<Task<B, G>>,
+)
+    requires some { 0 < length tasks.old.items }
+    requires ready { (i : ℕ) (d : Task B G) → i < length tasks.old.items →
+        IsReady B.plan world.now (slice_index_or tasks.old.items i d).worker }
+    ensures same { length tasks.new.items ≡ length tasks.old.items }
+    ensures ran { (i : ℕ) (d : Task B G) → i < length tasks.old.items →
+        HasRun B.plan world.now (slice_index_or tasks.old.items i d) (slice_index_or tasks.new.items i d) }
+{
+    run_each(rt, alloc, world, tasks.as_mut_slice());
 }

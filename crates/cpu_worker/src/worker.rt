@@ -94,7 +94,9 @@ impl<'g, B: Bodies, G: Gate> CpuWorker<'g, B, G> {
         self.trace = trace;
         outcome
     }
+}
 
+impl<'g, B: Drop, G: Gate> CpuWorker<'g, B, G> {
     /// The CPU's turns and its trace, as the run left them. It takes no memory.
     pub fn finish(self) -> (WorkerTurns, Trace)
         ensures { (result.0 ≡ self.entry.turns) × (result.1 ≡ self.entry.trace) }
