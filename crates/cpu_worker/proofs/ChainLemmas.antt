@@ -1,5 +1,5 @@
 -- Traces that grow by steps of their actor.
-use Rattle.std.proofs.Common.{◌≡◌, ℕ, ◌<◌, List, [], ◌∷◌, ◌++◌, length, refl, sym, ap, ◌∙◌, arith, append_assoc, append-nil, Result, Ok, Err, OnOk, OnErr, subst}
+use Rattle.std.proofs.Common.{◌≡◌, ℕ, max, ◌<◌, List, [], ◌∷◌, ◌++◌, length, refl, sym, ap, ◌∙◌, arith, append_assoc, append-nil, Result, Ok, Err, OnOk, OnErr, subst}
 use Rattle.bt_core.specs.declared.memory.Memory.{Memory}
 use Rattle.bt_core.specs.declared.step.ObjectId.{ObjectId}
 use Rattle.bt_core.specs.declared.step.Op.{Op}
@@ -10,6 +10,7 @@ use Rattle.turn_lock.proofs.HistoryLemmas.{Each-snoc}
 use Rattle.stamped.specs.declared.trace.Trace.{Trace}
 use Rattle.stamped.specs.SetSteps.{Grows}
 use Rattle.stamped.specs.Traces.{actor_of, clock_of, steps_of, floors_of, step_by, IsSame}
+use Rattle.weave.specs.Lists.{greatest}
 use Rattle.weave.specs.Traces.{floors_from}
 use Rattle.cpu_worker.specs.Chains.{clock_after, Climbs, IsBy, Since, HasWalked}
 
@@ -24,6 +25,11 @@ floors_snoc clock (x ∷ ss) s = ap (λ (l : List ℕ). clock ∷ l) (floors_sno
 climbs_snoc : (clock : ℕ) (ss : List Step) (s : Step) → Climbs clock ss → clock_after clock ss < s.stamp → Climbs clock (ss ++ s ∷ [])
 climbs_snoc clock [] s h lt = (lt, tt)
 climbs_snoc clock (x ∷ ss) s h lt = (h.0, climbs_snoc x.stamp ss s h.1 lt)
+
+-- where the stamps rise, the clock is the greatest of the clock at the start and of all stamps
+pub climbs_greatest : (clock : ℕ) (ss : List Step) → Climbs clock ss → clock_after clock ss ≡ max clock (greatest ss)
+climbs_greatest clock [] h = omega arith
+climbs_greatest clock (s ∷ ss) h = let r = climbs_greatest s.stamp ss h.1 in let lt : clock < s.stamp = h.0 in omega (arith, r, lt)
 
 no_floors : (fs : List ℕ) → length fs ≡ 0 → fs ≡ []
 no_floors [] e = refl

@@ -1,3 +1,4 @@
 -- for crates that stand on the port and the worker
 pub mod ChainLemmas
 pub mod WorldLemmas
+pub mod PortLemmas

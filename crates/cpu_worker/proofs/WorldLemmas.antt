@@ -11,6 +11,7 @@ use Rattle.turn_lock.specs.declared.turn.Turn.{Turn}
 use Rattle.turn_lock.specs.History.{Each}
 use Rattle.stamped.specs.declared.trace.Trace.{Trace}
 use Rattle.stamped.specs.Numbered.{numbered}
+use Rattle.stamped.specs.Rows.{Row}
 use Rattle.stamped.specs.SetSteps.{AreOwn}
 use Rattle.stamped.specs.Traces.{at_object}
 use Rattle.stamped.proofs.OwnLemmas.{own_elsewhere}
@@ -70,6 +71,32 @@ module _ (world : World) (old new : Trace) (object : ObjectId) (elsewhere : (o :
     clock = own_elsewhere (Clock ∷ []) both.clock.1 object old new (no_clock, tt) elsewhere h.clock;
     out = own_elsewhere (Out ∷ []) both.out.1 object old new (no_out, tt) elsewhere h.out;
   }
+
+  -- a step at one set, which keeps its own: the other two keep theirs
+  module _ (t u : WorkerTurns) where
+    pub keeps_at_part : (m : MapId) (p : ℕ) → object ≡ Shared m p → (AreOwn (parts.ids_of world.maps.now) t.maps.1 old → AreOwn (parts.ids_of world.maps.now) u.maps.1 new)
+        → u.tables ≡ t.tables → u.sides ≡ t.sides → KeepsOwn world t old u new
+    keeps_at_part m p is own tables_same sides_same = record {
+      maps = own;
+      tables = λ h. subst (λ (row : Row). AreOwn (tables.ids_of world.tables.now) row.1 new) (sym tables_same) (tables_stay (λ a e. let no : ⊥ = cc in no) t.tables.1 h);
+      sides = λ h. subst (λ (both : Both). OwnBoth both new) (sym sides_same) (sides_stay (λ e. let no : ⊥ = cc in no) (λ e. let no : ⊥ = cc in no) t.sides h);
+    }
+
+    pub keeps_at_tables : (a : ℕ) → object ≡ Cpu a → (AreOwn (tables.ids_of world.tables.now) t.tables.1 old → AreOwn (tables.ids_of world.tables.now) u.tables.1 new)
+        → u.maps ≡ t.maps → u.sides ≡ t.sides → KeepsOwn world t old u new
+    keeps_at_tables a is own maps_same sides_same = record {
+      maps = λ h. subst (λ (row : Row). AreOwn (parts.ids_of world.maps.now) row.1 new) (sym maps_same) (parts_stay (λ m p e. let no : ⊥ = cc in no) t.maps.1 h);
+      tables = own;
+      sides = λ h. subst (λ (both : Both). OwnBoth both new) (sym sides_same) (sides_stay (λ e. let no : ⊥ = cc in no) (λ e. let no : ⊥ = cc in no) t.sides h);
+    }
+
+    pub keeps_at_sides : ((m : MapId) (p : ℕ) → object ≢ Shared m p) → ((a : ℕ) → object ≢ Cpu a) → (OwnBoth t.sides old → OwnBoth u.sides new)
+        → u.maps ≡ t.maps → u.tables ≡ t.tables → KeepsOwn world t old u new
+    keeps_at_sides no_part no_table own maps_same tables_same = record {
+      maps = λ h. subst (λ (row : Row). AreOwn (parts.ids_of world.maps.now) row.1 new) (sym maps_same) (parts_stay no_part t.maps.1 h);
+      tables = λ h. subst (λ (row : Row). AreOwn (tables.ids_of world.tables.now) row.1 new) (sym tables_same) (tables_stay no_table t.tables.1 h);
+      sides = own;
+    }
 
 pub keeps_same : (world : World) (turns : WorkerTurns) (trace : Trace) → KeepsOwn world turns trace turns trace
 keeps_same world turns trace = record { maps = λ h. h; tables = λ h. h; sides = λ h. h }
