@@ -5,6 +5,7 @@ use Rattle.std.proofs.lemmas.Bool.Decides.{nat_tests}
 use Rattle.bt_ast.specs.declared.attached.Attached.{Attached}
 use Rattle.bt_core.specs.declared.memory.Memory.{Memory}
 use Rattle.bt_core.specs.declared.step.Step.{Step}
+use Rattle.bt_core.specs.Ports.{Setting}
 use Rattle.bt_core.specs.Interaction.{Interaction, Performed, Runs, Begins}
 use Rattle.rec_format.specs.declared.recording.Recording.{Recording}
 use Rattle.actor_plan.specs.declared.outcome.Outcome.{Outcome}
@@ -12,17 +13,21 @@ use Rattle.actor_plan.specs.Plans.{Plan}
 use Rattle.actor_plan.specs.Programs.{actor_program, cpu_program, main_program}
 use Rattle.cpu_worker.specs.declared.world_port.Start.{Start}
 use Rattle.cpu_worker.specs.AtWork.{AtWork, IsAtWork}
+use Rattle.cpu_worker.specs.Starts.{start_of}
 
--- a port's start, and what it has now
-abbrev pub at_work : Start → AtWork → AtWork
-at_work start p = record { world = start.world; first_turns = start.turns; first_trace = start.trace; turns = p.turns; trace = p.trace }
+-- the same actor, of whom it is known where it began
+abbrev pub begun : Setting → Start → AtWork → AtWork
+begun setting start p = record {
+  sets = record { maps = start.maps; tables = start.tables; sides = start.sides };
+  setting = setting;
+  first_turns = start.turns;
+  first_trace = start.trace;
+  turns = p.turns;
+  trace = p.trace;
+}
 
-abbrev pub start_of : AtWork → Start
-start_of p = record { world = p.world; turns = p.first_turns; trace = p.first_trace }
-
--- what holds of a port whose start is known
-pub left : (start : Start) (p : AtWork) → start_of p ≡ start → IsAtWork p → IsAtWork (at_work start p)
-left start p same h = subst (λ z. IsAtWork (at_work z p)) same h
+pub left : (setting : Setting) (start : Start) (p : AtWork) → p.setting ≡ setting → start_of p ≡ start → IsAtWork p → IsAtWork (begun setting start p)
+left setting start p same_setting same h = subst (λ (z : Setting × Start). IsAtWork (begun z.0 z.1 p)) (λ i. (same_setting i, same i)) h
 
 -- from no steps on, the whole of a computation is all steps, and else its first steps are
 module _ {A : Type 0} (t : Interaction A) (old new : List Step) (empty : old ≡ []) where

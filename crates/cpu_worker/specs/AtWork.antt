@@ -1,28 +1,25 @@
--- An actor at work in a world. Of a port this holds at each moment.
+-- An actor at work at sets of locks. Of a port this holds at each moment.
 use Rattle.std.specs.Prelude.{◌≡◌}
 use Rattle.bt_core.specs.Ports.{Setting}
 use Rattle.stamped.specs.declared.trace.Trace.{Trace}
 use Rattle.stamped.specs.Traces.{actor_of}
-use Rattle.cpu_worker.specs.declared.world.World.{World}
 use Rattle.cpu_worker.specs.declared.world.WorkerTurns.{WorkerTurns}
 use Rattle.cpu_worker.specs.Chains.{Since}
-use Rattle.cpu_worker.specs.Worlds.{setting_in, AreTurnsOf, KeepsOwn}
+use Rattle.cpu_worker.specs.Worlds.{Sets, AreTurnsOf, KeepsOwn}
 
--- the world, the actor's turns and trace at the start, and both now
+-- the sets, the setting, the actor's turns and trace at the start, and both now
 pub record AtWork : Type 0 where
-  pub world : World
+  pub sets : Sets
+  pub setting : Setting
   pub first_turns : WorkerTurns
   pub first_trace : Trace
   pub turns : WorkerTurns
   pub trace : Trace
 
-abbrev pub setting_of : AtWork → Setting
-setting_of p = setting_in p.world (actor_of p.first_trace)
-
--- the turns and the trace are still the actor's, each step since the start is one of its own, and each trace that was at an object
--- the turn's own list is so still
+-- the turns and the trace are still the actor's, each step since the start is one that the actor can make, and what of the trace is
+-- at an object is the turn's own list there, if it was so at the start
 pub record IsAtWork (p : AtWork) : Type 0 where
-  pub actor : actor_of p.trace ≡ actor_of p.first_trace
-  pub turns_are : AreTurnsOf p.world (actor_of p.first_trace) p.turns
-  pub own : KeepsOwn p.world p.first_turns p.first_trace p.turns p.trace
-  pub since : Since (setting_of p) p.first_trace p.trace
+  pub actor : actor_of p.trace ≡ p.setting.actor
+  pub turns_are : AreTurnsOf p.sets p.setting.actor p.turns
+  pub own : KeepsOwn p.sets p.first_turns p.first_trace p.turns p.trace
+  pub since : Since p.setting p.first_trace p.trace

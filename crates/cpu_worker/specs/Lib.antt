@@ -1,5 +1,6 @@
 pub mod Chains
 pub mod Worlds
 pub mod AtWork
+pub mod Starts
 pub mod Workers
 pub mod Tasks

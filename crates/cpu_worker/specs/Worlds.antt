@@ -8,8 +8,11 @@ use Rattle.actor_plan.specs.Agendas.{AreInTurn}
 use Rattle.actor_plan.specs.Plans.{Plan, AreServed, HasBodies, TakesFew}
 use Rattle.stamped.specs.declared.trace.Trace.{Trace}
 use Rattle.stamped.specs.SetSteps.{AreOwn}
+use Rattle.percpu_tables.specs.declared.tables.Tables.{Tables}
 use Rattle.percpu_tables.specs.Tables as tables
+use Rattle.shared_maps.specs.declared.maps.SharedMaps.{SharedMaps}
 use Rattle.shared_maps.specs.Maps as parts
+use Rattle.side_locks.specs.declared.sides.SideLocks.{SideLocks}
 use Rattle.side_locks.specs.Sides as sides
 use Rattle.side_locks.specs.Steps as side_steps
 use Rattle.side_locks.specs.Steps.{OwnBoth}
@@ -28,29 +31,38 @@ maps_in world = world.typed.now.maps
 abbrev pub setting_in : World → ℕ → Setting
 setting_in world actor = record { actor = actor; actors = cpus_in world + 1; ticks = length world.attached.now.ticks; maps = maps_in world }
 
+-- the three sets of locks
+pub record Sets : Type 0 where
+  pub maps : SharedMaps
+  pub tables : Tables
+  pub sides : SideLocks
+
+abbrev pub sets_in : World → Sets
+sets_in world = record { maps = world.maps.now; tables = world.tables.now; sides = world.sides.now }
+
 -- the turns are this actor's
 pub record AreBy (actor : ℕ) (turns : WorkerTurns) : Type 0 where
   pub maps : turns.maps.0 ≡ actor
   pub tables : turns.tables.0 ≡ actor
   pub sides : side_steps.AreBy actor turns.sides
 
--- the turns are this actor's, at the world's sets
-pub record AreTurnsOf (world : World) (actor : ℕ) (turns : WorkerTurns) : Type 0 where
-  pub maps : parts.IsOf world.maps.now turns.maps
-  pub tables : tables.IsOf world.tables.now turns.tables
-  pub sides : sides.IsOf world.sides.now turns.sides
+-- the turns are this actor's, at these sets
+pub record AreTurnsOf (sets : Sets) (actor : ℕ) (turns : WorkerTurns) : Type 0 where
+  pub maps : parts.IsOf sets.maps turns.maps
+  pub tables : tables.IsOf sets.tables turns.tables
+  pub sides : sides.IsOf sets.sides turns.sides
   pub by : AreBy actor turns
 
--- what of the trace is at each object of the world is the turn's own list there
-pub record AreOwnIn (world : World) (turns : WorkerTurns) (trace : Trace) : Type 0 where
-  pub maps : AreOwn (parts.ids_of world.maps.now) turns.maps.1 trace
-  pub tables : AreOwn (tables.ids_of world.tables.now) turns.tables.1 trace
+-- what of the trace is at each object of the sets is the turn's own list there
+pub record AreOwnIn (sets : Sets) (turns : WorkerTurns) (trace : Trace) : Type 0 where
+  pub maps : AreOwn (parts.ids_of sets.maps) turns.maps.1 trace
+  pub tables : AreOwn (tables.ids_of sets.tables) turns.tables.1 trace
   pub sides : OwnBoth turns.sides trace
 
 -- at each set, what of the trace is at its objects is the turns' own lists there, if it was so before
-pub record KeepsOwn (world : World) (old_turns : WorkerTurns) (old : Trace) (new_turns : WorkerTurns) (new : Trace) : Type 0 where
-  pub maps : AreOwn (parts.ids_of world.maps.now) old_turns.maps.1 old → AreOwn (parts.ids_of world.maps.now) new_turns.maps.1 new
-  pub tables : AreOwn (tables.ids_of world.tables.now) old_turns.tables.1 old → AreOwn (tables.ids_of world.tables.now) new_turns.tables.1 new
+pub record KeepsOwn (sets : Sets) (old_turns : WorkerTurns) (old : Trace) (new_turns : WorkerTurns) (new : Trace) : Type 0 where
+  pub maps : AreOwn (parts.ids_of sets.maps) old_turns.maps.1 old → AreOwn (parts.ids_of sets.maps) new_turns.maps.1 new
+  pub tables : AreOwn (tables.ids_of sets.tables) old_turns.tables.1 old → AreOwn (tables.ids_of sets.tables) new_turns.tables.1 new
   pub sides : OwnBoth old_turns.sides old → OwnBoth new_turns.sides new
 
 -- The recording is valid, the attached ticks stand in their order, and there are no more ticks, and nowhere more bodies, than a

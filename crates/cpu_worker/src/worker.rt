@@ -3,7 +3,7 @@ ghost use Rattle.std.specs.Prelude.{◌≡◌, [], IfOk, OnErr};
 ghost use Rattle.bt_core.specs.Interaction.{Begins, Runs};
 ghost use Rattle.stamped.specs.Traces.{actor_of, clock_of, steps_of};
 ghost use Rattle.cpu_worker.specs.Chains.{HasWalked};
-ghost use Rattle.cpu_worker.specs.Worlds.{setting_in, AreBy, AreTurnsOf, KeepsOwn};
+ghost use Rattle.cpu_worker.specs.Worlds.{sets_in, setting_in, AreBy, AreTurnsOf, KeepsOwn};
 ghost use Rattle.cpu_worker.specs.Workers.{IsReady, program_in};
 
 use crate::world::{WorkerTurns, World};
@@ -72,8 +72,8 @@ impl<'g, B: Bodies, G: Gate> CpuWorker<'g, B, G> {
         ensures whole { IfOk result (λ outcome. Runs (program_in B.plan world.now self.old) (steps_of self.new.trace) outcome) }
         ensures part { OnErr result (Begins (program_in B.plan world.now self.old) (steps_of self.new.trace)) }
         ensures walked { HasWalked (setting_in world.now self.old.cpu) (clock_of self.old.trace) self.new.trace }
-        ensures turns { AreTurnsOf world.now self.old.cpu self.new.turns }
-        ensures own { KeepsOwn world.now self.old.turns self.old.trace self.new.turns self.new.trace }
+        ensures turns { AreTurnsOf (sets_in world.now) self.old.cpu self.new.turns }
+        ensures own { KeepsOwn (sets_in world.now) self.old.turns self.old.trace self.new.turns self.new.trace }
         ensures cpu { self.new.cpu ≡ self.old.cpu }
         ensures plan_kept { B.plan self.new.bodies ≡ B.plan self.old.bodies }
     {

@@ -43,19 +43,16 @@ pub struct WorkerTurns {
 }
 
 impl WorkerTurns {
+    ghost use Rattle.cpu_worker.specs.Worlds.{AreBy};
+
     /// The turns of an actor at no lock at all. It takes no memory.
-    pub fn none(alloc: Global, actor: u32) -> WorkerTurns {
+    pub fn none(alloc: Global, actor: u32) -> WorkerTurns
+        ensures { AreBy actor result }
+    {
         WorkerTurns {
             maps: MapTurns::none(alloc, actor),
             tables: TableTurns::none(alloc, actor),
             sides: SideTurns::none(alloc, actor),
         }
-    }
-
-    /// The actor's number, as the turns at the tables have it.
-    pub fn actor(&self) -> u32
-        ensures { result ≡ self.now.tables.0 }
-    {
-        self.tables.actor()
     }
 }

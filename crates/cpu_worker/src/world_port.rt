@@ -4,13 +4,16 @@ ghost use Rattle.bt_core.specs.Interaction.{last_reply};
 ghost use Rattle.bt_core.specs.Ports.{CanStep, IsReplyOf};
 ghost use Rattle.stamped.specs.SetSteps.{Grows};
 ghost use Rattle.stamped.specs.Traces.{actor_of, steps_of, IsSame};
-ghost use Rattle.cpu_worker.specs.Worlds.{maps_in, setting_in, AreTurnsOf, KeepsOwn};
-ghost use Rattle.cpu_worker.specs.AtWork.{AtWork, IsAtWork, setting_of};
+ghost use Rattle.cpu_worker.specs.Worlds.{maps_in, sets_in, setting_in, AreTurnsOf, KeepsOwn};
+ghost use Rattle.cpu_worker.specs.AtWork.{IsAtWork};
 
 use crate::world::{WorkerTurns, World};
 use bt_core::memory::Memory;
 use bt_core::port::Port;
 use bt_core::step::{ObjectId, Op, Reply};
+use percpu_tables::tables::Tables;
+use shared_maps::maps::SharedMaps;
+use side_locks::sides::SideLocks;
 use stamped::trace::Trace;
 use std::alloc::Global;
 use std::marker::Model;
@@ -33,18 +36,45 @@ pub struct WorldPort<'w, R: Wait, G: Gate> {
 }
 
 impl<'w, R: Wait, G: Gate> Model for WorldPort<'w, R, G> {
-    ghost use Rattle.cpu_worker.specs.AtWork.{AtWork as Work, IsAtWork as IsWork};
+    ghost use Rattle.std.specs.Coded.{codes};
+    ghost use Rattle.percpu_tables.specs.contracts.tables.Tables as the_tables;
+    ghost use Rattle.shared_maps.specs.contracts.maps.SharedMaps as the_maps;
+    ghost use Rattle.side_locks.specs.contracts.sides.SideLocks as the_sides;
+    ghost use Rattle.stamped.specs.contracts.trace.Trace as the_trace;
+    ghost use Rattle.stamped.specs.Traces.{actor_of as of};
+    ghost use Rattle.cpu_worker.specs.contracts.world.WorkerTurns as the_turns;
+    ghost use Rattle.cpu_worker.specs.AtWork.{AtWork, IsAtWork as IsWork};
+    ghost use Rattle.cpu_worker.specs.Worlds.{sets_in as sets_of, setting_in as setting_for};
 
-    ghost Value = { Work };
+    ghost Value = { AtWork };
 
-    ghost view = { λ p. record { world = p.world.now; first_turns = p.first_turns.value; first_trace = p.first_trace.value; turns = p.turns; trace = p.trace } };
+    ghost coded = { Prim.hlevel (codes, the_maps.the_row.coded, the_tables.the_row.coded, the_sides.the_row.coded, the_turns.the_row.coded, the_trace.the_row.coded) };
 
-    ghost invariant = { λ p. IsWork (record { world = p.world.now; first_turns = p.first_turns.value; first_trace = p.first_trace.value; turns = p.turns; trace = p.trace }) };
+    ghost view = { λ p. record {
+        sets = sets_of p.world.now;
+        setting = setting_for p.world.now (of p.first_trace.value);
+        first_turns = p.first_turns.value;
+        first_trace = p.first_trace.value;
+        turns = p.turns;
+        trace = p.trace;
+    } };
+
+    ghost invariant = { λ p. IsWork (record {
+        sets = sets_of p.world.now;
+        setting = setting_for p.world.now (of p.first_trace.value);
+        first_turns = p.first_turns.value;
+        first_trace = p.first_trace.value;
+        turns = p.turns;
+        trace = p.trace;
+    }) };
 }
 
-/// What of a port stays the same: the world, and the actor's turns and trace when the port was made. No value of it is made.
-pub struct Start<'w> {
-    pub world: World<'w>,
+/// What of a port stays the same beside its setting: the sets of locks, and the actor's turns and trace when the port was made. No
+/// value of it is made.
+pub struct Start {
+    pub maps: SharedMaps,
+    pub tables: Tables,
+    pub sides: SideLocks,
     pub turns: WorkerTurns,
     pub trace: Trace,
 }
@@ -61,13 +91,13 @@ fn make_step<R: Wait, G: Gate>(
     op: Op,
 ) -> Result<(), Memory>
     requires can { CanStep (setting_in world.now (actor_of trace.old)) object op }
-    requires turns { AreTurnsOf world.now (actor_of trace.old) turns.old }
-    ensures turns { AreTurnsOf world.now (actor_of trace.old) turns.new }
+    requires turns { AreTurnsOf (sets_in world.now) (actor_of trace.old) turns.old }
+    ensures turns { AreTurnsOf (sets_in world.now) (actor_of trace.old) turns.new }
     ensures actor { actor_of trace.new ≡ actor_of trace.old }
     ensures done { OnOk result (Grows object op trace.old trace.new) }
     ensures replied { OnOk result (IsReplyOf (maps_in world.now) object op (last_reply (steps_of trace.new))) }
     ensures memory { OnErr result (IsSame trace.old trace.new) }
-    ensures own { KeepsOwn world.now turns.old trace.old turns.new trace.new }
+    ensures own { KeepsOwn (sets_in world.now) turns.old trace.old turns.new trace.new }
 {
     match object {
         ObjectId::Shared { map: _, part: _ } => {
@@ -78,11 +108,12 @@ fn make_step<R: Wait, G: Gate>(
         ObjectId::Cpu(_) => world
             .tables
             .step(rt, alloc, &mut turns.tables, trace, object, op, gate),
-        ObjectId::Clock | ObjectId::Out => {
-            world
-                .sides
-                .step(rt, alloc, &mut turns.sides, trace, object, op, gate)
-        }
+        ObjectId::Clock => world
+            .sides
+            .step(rt, alloc, &mut turns.sides, trace, ObjectId::Clock, op, gate),
+        ObjectId::Out => world
+            .sides
+            .step(rt, alloc, &mut turns.sides, trace, ObjectId::Out, op, gate),
     }
 }
 
@@ -103,8 +134,15 @@ impl<'w, R: Wait, G: Gate> WorldPort<'w, R, G> {
         trace: Trace,
         gate: &'w G,
     ) -> WorldPort<'w, R, G>
-        requires turns { AreTurnsOf world.now (actor_of trace) turns }
-        ensures { result ≡ record { world = world.now; first_turns = turns; first_trace = trace; turns = turns; trace = trace } }
+        requires turns { AreTurnsOf (sets_in world.now) (actor_of trace) turns }
+        ensures { result ≡ record {
+            sets = sets_in world.now;
+            setting = setting_in world.now (actor_of trace);
+            first_turns = turns;
+            first_trace = trace;
+            turns = turns;
+            trace = trace;
+        } }
     {
         let first_turns = Snapshot::of(&turns);
         let first_trace = Snapshot::of(&trace);
@@ -138,11 +176,13 @@ impl<'w, R: Wait, G: Gate> WorldPort<'w, R, G> {
 }
 
 impl<'w, R: Wait, G: Gate> Port for WorldPort<'w, R, G> {
-    type Home = Start<'w>;
+    ghost use Rattle.cpu_worker.specs.Starts.{start_of};
+
+    type Home = Start;
 
     ghost steps = { λ p. steps_of p.trace };
 
-    ghost fixed = { λ p. record { setting = setting_of p; home = record { world = p.world; turns = p.first_turns; trace = p.first_trace } } };
+    ghost fixed = { λ p. record { setting = p.setting; home = start_of p } };
 
     fn step(&mut self, alloc: Global, object: ObjectId, op: Op) -> Result<(), Memory> {
         make_step(
