@@ -53,8 +53,8 @@ module _ (setting : Setting) where
     pub since_more : Grows object op old new → Since setting start new
     since_more g = let s = step_by (actor_of old) object (clock_of new) op g.reply in
         let f : floors_of old ++ clock_of old ∷ [] ≡ floors_of start ++ floors_from (clock_of start) (h.made ++ s ∷ []) =
-          (λ i. h.floors_grew i ++ h.clock i ∷ []) ∙ append_assoc (floors_of start) (floors_from (clock_of start) h.made) (clock_after (clock_of start) h.made ∷ [])
-          ∙ ap (λ (z : List ℕ). floors_of start ++ z) (sym (floors_snoc (clock_of start) h.made s)) in
+        (λ i. h.floors_grew i ++ h.clock i ∷ []) ∙ append_assoc (floors_of start) (floors_from (clock_of start) h.made) (clock_after (clock_of start) h.made ∷ [])
+        ∙ ap (λ (z : List ℕ). floors_of start ++ z) (sym (floors_snoc (clock_of start) h.made s)) in
         let lt : clock_after (clock_of start) h.made < clock_of new = subst (λ (c : ℕ). c < clock_of new) h.clock g.clock in record {
           made = h.made ++ s ∷ [];
           steps_grew = g.steps ∙ ap (λ (z : List Step). z ++ s ∷ []) h.steps_grew ∙ append_assoc (steps_of start) h.made (s ∷ []);

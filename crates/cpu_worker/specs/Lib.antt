@@ -3,4 +3,3 @@ pub mod Worlds
 pub mod AtWork
 pub mod Starts
 pub mod Workers
-pub mod Tasks

@@ -62,12 +62,7 @@ impl<'g, B: Bodies, G: Gate> CpuWorker<'g, B, G> {
     /// turn's own list there, if it was so before.
     ///
     /// [`Memory`] is the one error. The trace then holds the steps that were made, the first of the program's.
-    pub fn run<R: Wait>(
-        &mut self,
-        rt: &R,
-        alloc: Global,
-        world: &World,
-    ) -> Result<Outcome, Memory>
+    pub fn run<R: Wait>(&mut self, rt: &R, alloc: Global, world: &World) -> Result<Outcome, Memory>
         requires { IsReady B.plan world.now self.old }
         ensures whole { IfOk result (λ outcome. Runs (program_in B.plan world.now self.old) (steps_of self.new.trace) outcome) }
         ensures part { OnErr result (Begins (program_in B.plan world.now self.old) (steps_of self.new.trace)) }

@@ -51,21 +51,21 @@ impl<'w, R: Wait, G: Gate> Model for WorldPort<'w, R, G> {
     ghost coded = { Prim.hlevel (codes, the_maps.the_row.coded, the_tables.the_row.coded, the_sides.the_row.coded, the_turns.the_row.coded, the_trace.the_row.coded) };
 
     ghost view = { λ p. record {
-        sets = sets_of p.world.now;
-        setting = setting_for p.world.now (of p.first_trace.value);
-        first_turns = p.first_turns.value;
-        first_trace = p.first_trace.value;
-        turns = p.turns;
-        trace = p.trace;
+      sets = sets_of p.world.now;
+      setting = setting_for p.world.now (of p.first_trace.value);
+      first_turns = p.first_turns.value;
+      first_trace = p.first_trace.value;
+      turns = p.turns;
+      trace = p.trace;
     } };
 
     ghost invariant = { λ p. IsWork (record {
-        sets = sets_of p.world.now;
-        setting = setting_for p.world.now (of p.first_trace.value);
-        first_turns = p.first_turns.value;
-        first_trace = p.first_trace.value;
-        turns = p.turns;
-        trace = p.trace;
+      sets = sets_of p.world.now;
+      setting = setting_for p.world.now (of p.first_trace.value);
+      first_turns = p.first_turns.value;
+      first_trace = p.first_trace.value;
+      turns = p.turns;
+      trace = p.trace;
     }) };
 }
 
@@ -108,12 +108,24 @@ fn make_step<R: Wait, G: Gate>(
         ObjectId::Cpu(_) => world
             .tables
             .step(rt, alloc, &mut turns.tables, trace, object, op, gate),
-        ObjectId::Clock => world
-            .sides
-            .step(rt, alloc, &mut turns.sides, trace, ObjectId::Clock, op, gate),
-        ObjectId::Out => world
-            .sides
-            .step(rt, alloc, &mut turns.sides, trace, ObjectId::Out, op, gate),
+        ObjectId::Clock => world.sides.step(
+            rt,
+            alloc,
+            &mut turns.sides,
+            trace,
+            ObjectId::Clock,
+            op,
+            gate,
+        ),
+        ObjectId::Out => world.sides.step(
+            rt,
+            alloc,
+            &mut turns.sides,
+            trace,
+            ObjectId::Out,
+            op,
+            gate,
+        ),
     }
 }
 
@@ -136,12 +148,12 @@ impl<'w, R: Wait, G: Gate> WorldPort<'w, R, G> {
     ) -> WorldPort<'w, R, G>
         requires turns { AreTurnsOf (sets_in world.now) (actor_of trace) turns }
         ensures { result ≡ record {
-            sets = sets_in world.now;
-            setting = setting_in world.now (actor_of trace);
-            first_turns = turns;
-            first_trace = trace;
-            turns = turns;
-            trace = trace;
+          sets = sets_in world.now;
+          setting = setting_in world.now (actor_of trace);
+          first_turns = turns;
+          first_trace = trace;
+          turns = turns;
+          trace = trace;
         } }
     {
         let first_turns = Snapshot::of(&turns);
