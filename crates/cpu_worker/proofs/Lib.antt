@@ -2,3 +2,5 @@
 pub mod ChainLemmas
 pub mod WorldLemmas
 pub mod PortLemmas
+-- for whatever is handed to threads and lends a script
+pub mod ScriptShared

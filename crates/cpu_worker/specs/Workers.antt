@@ -1,5 +1,5 @@
 -- What a clause says of a worker.
-use Rattle.std.specs.Prelude.{◌≡◌, ℕ, ◌<◌, List, []}
+use Rattle.std.specs.Prelude.{◌≡◌, ◌<◌, []}
 use Rattle.bt_core.specs.Interaction.{Interaction}
 use Rattle.stamped.specs.Traces.{actor_of, steps_of}
 use Rattle.actor_plan.specs.declared.outcome.Outcome.{Outcome}

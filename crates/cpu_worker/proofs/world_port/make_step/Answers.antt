@@ -1,6 +1,5 @@
-use Rattle.std.proofs.Common.{◌≡◌, ◌≢◌, refl, sym, subst}
+use Rattle.std.proofs.Common.{◌≢◌, refl, subst}
 use Rattle.bt_core.specs.declared.step.ObjectId.{ObjectId}
-use Rattle.stamped.specs.Traces.{at_object}
 use Rattle.cpu_worker.specs.Worlds.{sets_in}
 use Rattle.cpu_worker.proofs.WorldLemmas.{keeps_at_part, keeps_at_tables, keeps_at_clock, keeps_at_out}
 use Rattle.cpu_worker.proofs.world_port.make_step.Goals as goal

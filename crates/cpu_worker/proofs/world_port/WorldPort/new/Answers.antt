@@ -1,4 +1,4 @@
-use Rattle.std.proofs.Common.{◌≡◌, refl, sym, subst}
+use Rattle.std.proofs.Common.{refl, sym, subst}
 use Rattle.stamped.specs.Traces.{actor_of}
 use Rattle.cpu_worker.specs.AtWork.{IsAtWork}
 use Rattle.cpu_worker.specs.Worlds.{sets_in, setting_in}

@@ -1,4 +1,4 @@
-use Rattle.std.proofs.Common.{◌≡◌, ◌∙◌, sym, subst}
+use Rattle.std.proofs.Common.{◌∙◌, sym, subst}
 use Rattle.bt_core.specs.Ports.{CanStep}
 use Rattle.stamped.specs.Traces.{actor_of}
 use Rattle.cpu_worker.specs.AtWork.{AtWork}

@@ -1,2 +1,0 @@
-mod RowLemmas
-mod PlanLemmas
