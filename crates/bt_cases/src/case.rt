@@ -3,6 +3,8 @@ use crate::outcome::Outcome;
 use anyhow::{Context, Result};
 use serde_json::Value;
 use std::alloc::Global;
+use std::fs;
+use std::rt::Files;
 
 /// The words of a command line, the bytes of the files `s.bt` and `r.bin`, and what has to come.
 #[derive(Drop)]
@@ -43,15 +45,25 @@ fn words_of(alloc: Global, value: &Value) -> Result<Vec<String>> {
     Ok(words)
 }
 
+/// The recording of a case: the bytes of the file that `recording_file` names, or those of `recording`, which
+/// is hexadecimal.
+fn recording_of<R: Files + AllocGlobal>(rt: &R, value: &Value) -> Result<Vec<u8>> {
+    match value.get("recording_file").and_then(Value::as_str) {
+        Some(name) => Ok(fs::read(rt, name).context(format_args!("reading {name}"))?),
+        None => Ok(hex::decode(rt.alloc(), text_of(value, "recording")?)?),
+    }
+}
+
 impl Case {
-    /// The case of a line: an object whose `recording` is hexadecimal and whose other bytes are texts.
-    pub fn of(alloc: Global, line: &str) -> Result<Case> {
+    /// The case of a line: an object whose recording may stand in a file and whose other bytes are texts.
+    pub fn of<R: Files + AllocGlobal>(rt: &R, line: &str) -> Result<Case> {
+        let alloc = rt.alloc();
         let value = Value::from_str(alloc, line)?;
         let status = value.get("status").and_then(Value::as_u64);
         Ok(Case {
             words: words_of(alloc, &value)?,
             script: bytes_of(alloc, &value, "script")?,
-            recording: hex::decode(alloc, text_of(&value, "recording")?)?,
+            recording: recording_of(rt, &value)?,
             wanted: Outcome {
                 status: status.context("no status")?,
                 out: bytes_of(alloc, &value, "out")?,

@@ -25,7 +25,7 @@ fn run_file<R: Files + Print + AllocGlobal>(
     let mut number = 0u64;
     for line in text.as_str().lines() {
         number = number.saturating_add(1);
-        let case = Case::of(alloc, line).context(format_args!("case {number} of {name}"))?;
+        let case = Case::of(rt, line).context(format_args!("case {number} of {name}"))?;
         let came = outcome_of(alloc, &case)?;
         let told = tally.count(case.wanted == came, not_built.contains(&number));
         if let Some(told) = told {
@@ -36,7 +36,7 @@ fn run_file<R: Files + Print + AllocGlobal>(
     Ok(())
 }
 
-/// Runs the cases of the three files. Which of the first are not built yet stands in a list of its own; those
+/// Runs the cases of the four files. Which of the first are not built yet stands in a list of its own; those
 /// of the others all have to agree.
 fn main(rt: HostRuntime) -> Result<()> {
     let alloc = rt.alloc();
@@ -46,6 +46,7 @@ fn main(rt: HostRuntime) -> Result<()> {
     run_file(&rt, "cases.jsonl", not_built.as_slice(), &mut tally)?;
     run_file(&rt, "refused.jsonl", &[], &mut tally)?;
     run_file(&rt, "rows.jsonl", &[], &mut tally)?;
+    run_file(&rt, "examples.jsonl", &[], &mut tally)?;
     println!(rt; "{tally}")?;
     Ok(())
 }

@@ -1,0 +1,51 @@
+#!/usr/bin/env python3
+"""Makes the cases of examples/ that the program bt_cases runs: one for each script, with its output.
+
+  python3 tools/example_cases.py           writes crates/bt_cases/data/examples.jsonl and the recording beside it
+  python3 tools/example_cases.py --check   changes nothing, and ends with status 1 where they are not those of examples/
+
+The first comment of a script has, behind "// Run: ", the command whose output stands beside the script.
+"""
+import json
+import pathlib
+import sys
+
+TOP = pathlib.Path(__file__).resolve().parent.parent
+EXAMPLES = TOP / "examples"
+DATA = TOP / "crates" / "bt_cases" / "data"
+RECORDING = "small.btr"
+
+
+def words_of(name, script):
+    """The words of the command in a script's first comment, with the names that files have in a case."""
+    mark = "// Run: ./btreplay "
+    commands = [line[len(mark):].split() for line in script.split("\n\n")[0].splitlines() if line.startswith(mark)]
+    names = {f"examples/{name}.bt": "s.bt", f"examples/{RECORDING}": "r.bin"}
+    if len(commands) != 1 or commands[0][-2:] != list(names):
+        sys.exit(f"example_cases: examples/{name}.bt does not begin with a comment that has its command")
+    return [names.get(word, word) for word in commands[0]]
+
+
+def case_of(path):
+    """The line of a script."""
+    script = path.read_text()
+    case = {"words": words_of(path.stem, script), "script": script, "recording_file": RECORDING,
+            "status": 0, "out": path.with_suffix(".out").read_text(), "err": ""}
+    return json.dumps(case) + "\n"
+
+
+def main(arguments):
+    """Writes the two files, or compares them."""
+    if arguments not in ([], ["--check"]):
+        sys.exit(__doc__)
+    made = {DATA / "examples.jsonl": "".join(map(case_of, sorted(EXAMPLES.glob("*.bt")))).encode(),
+            DATA / RECORDING: (EXAMPLES / RECORDING).read_bytes()}
+    for path, wanted in made.items():
+        if not arguments:
+            path.write_bytes(wanted)
+        elif not path.is_file() or path.read_bytes() != wanted:
+            sys.exit(f"example_cases: {path.relative_to(TOP)} is not that of examples/: run python3 tools/example_cases.py")
+
+
+if __name__ == "__main__":
+    main(sys.argv[1:])
