@@ -48,7 +48,14 @@ impl<'w, R: Wait, G: Gate> Model for WorldPort<'w, R, G> {
 
     ghost Value = { AtWork };
 
-    ghost coded = { Prim.hlevel (codes, the_maps.the_row.coded, the_tables.the_row.coded, the_sides.the_row.coded, the_turns.the_row.coded, the_trace.the_row.coded) };
+    ghost coded = { Prim.hlevel (
+      codes,
+      the_maps.the_row.coded,
+      the_tables.the_row.coded,
+      the_sides.the_row.coded,
+      the_turns.the_row.coded,
+      the_trace.the_row.coded,
+    ) };
 
     ghost view = { λ p. record {
       sets = sets_of p.world.now;
