@@ -1,5 +1,5 @@
 -- Replays that agree have the same interleavings.
-use Rattle.std.proofs.Common.{◌≡◌, ℕ, ◌+◌, ◌<◌, List, [], All, Option, Some, None, slice_get, refl, sym, ap, ◌∙◌, subst}
+use Rattle.std.proofs.Common.{◌≡◌, ℕ, ◌+◌, ◌<◌, true, List, [], All, Option, Some, None, slice_get, refl, sym, ap, ◌∙◌, subst}
 use Rattle.std.specs.List.{AllByRecursion}
 use Rattle.std.proofs.lemmas.List.Elements.{All-from_recursion}
 use Rattle.bt_ast.specs.declared.attached.Attached.{Attached}
@@ -49,11 +49,11 @@ module _ (p : Replay) (asks : AsksObjects p) where
   kinds steps i = each_so (λ (s : Step). at_objects s.object s.op × IsReplyOf p.maps s.object s.op s.reply) (HasKind p.maps) (λ s fine. fine.1) steps
       (steps_are_fine p at_objects kinds_are asks.begin asks.cpus asks.end steps i)
 
-alike_back : {maps : List MapDecl} (t u : Interaction Outcome) → SameTo (IsReplyTo maps) (λ b a. EndAlike a b) t u → SameTo (IsReplyTo maps) EndAlike t u
-alike_back (Ended a) (Ended b) same = sym same
-alike_back (Ended a) (Asks d g) same = absurd same
-alike_back (Asks c f) (Ended b) same = absurd same
-alike_back (Asks c f) (Asks d g) same = (same.0, λ reply kind. alike_back (f reply) (g reply) (same.1 reply kind))
+alike_back : (maps : List MapDecl) (t u : Interaction Outcome) → SameTo (IsReplyTo maps) (λ b a. EndAlike a b) t u → SameTo (IsReplyTo maps) EndAlike t u
+alike_back maps (Ended a) (Ended b) same = sym same
+alike_back maps (Ended a) (Asks d g) same = absurd same
+alike_back maps (Asks c f) (Ended b) same = absurd same
+alike_back maps (Asks c f) (Asks d g) same = (same.0, λ reply kind. alike_back maps (f reply) (g reply) (same.1 reply kind))
 
 -- ---- replays that differ by their plans
 
@@ -107,7 +107,7 @@ module _ (p q : Replay) (agree : ReplaysAgree p q) where
   back_same : SamePrograms p q.plan p.plan
   back_same = record {
     begin = SameTo-sym p.maps (λ a b. Unit {0}) (begin_of p) (begin_of other) begin_same;
-    cpus = λ cpu low. alike_back (cpu_of other cpu) (cpu_of p cpu) (SameTo-sym p.maps EndAlike (cpu_of p cpu) (cpu_of other cpu) (cpus_same cpu));
+    cpus = λ cpu low. alike_back p.maps (cpu_of other cpu) (cpu_of p cpu) (SameTo-sym p.maps EndAlike (cpu_of p cpu) (cpu_of other cpu) (cpus_same cpu));
     end = SameTo-sym p.maps (λ a b. Unit {0}) (end_of p) (end_of other) end_same;
   }
 

@@ -27,13 +27,13 @@ module _ (p : Replay) (one other : ℕ → Plan) where
 
   module _ (same : SamePrograms) (steps : List Step) (kinds : AllByRecursion (HasKind p.maps) steps) where
     module _ (i : IsInterleaving (with_plans p one) steps) where
-      whole_kinds : AllByRecursion (HasKind p.maps) (i.first ++ (i.middle ++ i.last))
+      pub whole_kinds : AllByRecursion (HasKind p.maps) (i.first ++ (i.middle ++ i.last))
       whole_kinds = subst (AllByRecursion (HasKind p.maps)) i.parts kinds
 
-      rest_kinds : AllByRecursion (HasKind p.maps) (i.middle ++ i.last)
+      pub rest_kinds : AllByRecursion (HasKind p.maps) (i.middle ++ i.last)
       rest_kinds = each_back (HasKind p.maps) i.first (i.middle ++ i.last) whole_kinds
 
-      middle_kinds : AllByRecursion (HasKind p.maps) i.middle
+      pub middle_kinds : AllByRecursion (HasKind p.maps) i.middle
       middle_kinds = each_front (HasKind p.maps) i.middle i.last rest_kinds
 
       abbrev pub carried : IsInterleaving (with_plans p other) steps

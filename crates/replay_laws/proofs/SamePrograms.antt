@@ -57,16 +57,17 @@ module _ (maps : List MapDecl) where
         if on then and_then (work i) (λ count. and_then (items_program checks work is) (λ rest. Ended (after_count count rest)))
         else Ended (record { to_end = false; instructions = 0 })
 
+    going_same : (i : I) (is : List I) → SameTo (IsReplyTo maps) EndAlike (items_program checks f is) (items_program checks g is) → (on : Bool)
+        → SameTo (IsReplyTo maps) EndAlike (going f i is on) (going g i is on)
+    going_same i is rest true = after_same EndAlike (f i) (g i) (λ count. and_then (items_program checks f is) (λ rest. Ended (after_count count rest)))
+        (λ count. and_then (items_program checks g is) (λ rest. Ended (after_count count rest))) (same i)
+        (λ m n. SameTo-and_then (IsReplyTo maps) EndAlike EndAlike (items_program checks f is) (items_program checks g is)
+        (λ rest. Ended (after_count m rest)) (λ rest. Ended (after_count n rest)) rest (λ a b e. e))
+    going_same i is rest false = refl
+
     pub items_same : (is : List I) → SameTo (IsReplyTo maps) EndAlike (items_program checks f is) (items_program checks g is)
     items_same [] = refl
-    items_same (i ∷ is) = then_same EndAlike (goes_on checks) (going f i is) (going g i is) by
-      where
-        by : (on : Bool) → SameTo (IsReplyTo maps) EndAlike (going f i is on) (going g i is on)
-        by true = after_same EndAlike (f i) (g i) (λ count. and_then (items_program checks f is) (λ rest. Ended (after_count count rest)))
-            (λ count. and_then (items_program checks g is) (λ rest. Ended (after_count count rest))) (same i)
-            (λ m n. SameTo-and_then (IsReplyTo maps) EndAlike EndAlike (items_program checks f is) (items_program checks g is)
-            (λ rest. Ended (after_count m rest)) (λ rest. Ended (after_count n rest)) (items_same is) (λ a b e. e))
-        by false = refl
+    items_same (i ∷ is) = then_same EndAlike (goes_on checks) (going f i is) (going g i is) (going_same i is (items_same is))
 
   -- ---- a CPU
 
@@ -75,13 +76,13 @@ module _ (maps : List MapDecl) where
     event_same place e there =
         turn_same (λ body. one.run body (event_context r track e) e.payload) (λ body. other.run body (event_context r track e) e.payload) (bodies_at one r attached e) (agree.events place e there)
 
-    tick_same : (place : ℕ) (t : Tick) → slice_get attached.ticks place ≡ Some t → AskSame maps (tick_work one r attached track place t) (tick_work other r attached track place t)
-    tick_same place t there = then_same (λ m n. Unit {0}) (crosses_last place) (at_last one) (at_last other) by
-      where
-        abbrev at_last : Plan → Bool → Interaction ℕ
-        at_last plan last = if last then plan.run t.body (tick_context r track t) [] else Ended 0
+    abbrev at_last : Tick → Plan → Bool → Interaction ℕ
+    at_last t plan last = if last then plan.run t.body (tick_context r track t) [] else Ended 0
 
-        by : (last : Bool) → AskSame maps (at_last one last) (at_last other last)
+    tick_same : (place : ℕ) (t : Tick) → slice_get attached.ticks place ≡ Some t → AskSame maps (tick_work one r attached track place t) (tick_work other r attached track place t)
+    tick_same place t there = then_same (λ m n. Unit {0}) (crosses_last place) (at_last t one) (at_last t other) by
+      where
+        by : (last : Bool) → AskSame maps (at_last t one last) (at_last t other last)
         by true = agree.ticks place t there
         by false = tt
 
