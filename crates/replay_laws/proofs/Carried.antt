@@ -1,13 +1,11 @@
 -- Interleavings of the one are interleavings of the other.
-use Rattle.std.proofs.Common.{◌≡◌, ℕ, ◌<◌, List, [], ◌++◌, refl, sym, subst}
+use Rattle.std.proofs.Common.{ℕ, ◌<◌, List, ◌++◌, subst}
 use Rattle.std.specs.List.{AllByRecursion}
 use Rattle.bt_core.specs.declared.step.Step.{Step}
-use Rattle.bt_core.specs.Interaction.{Interaction}
 use Rattle.bt_core.specs.Steps.{is_of, of_actor}
-use Rattle.actor_plan.specs.declared.outcome.Outcome.{Outcome}
 use Rattle.actor_plan.specs.Plans.{Plan}
 use Rattle.bt_walk.specs.SameUnder.{SameTo, IsReplyTo}
-use Rattle.bt_meaning.specs.Interleavings.{IsWhole, IsInterleaving, IsReplayed}
+use Rattle.bt_meaning.specs.Interleavings.{IsInterleaving, IsReplayed}
 use Rattle.bt_meaning.specs.Replays.{Replay, cpus_of, begin_of, cpu_of, end_of}
 use Rattle.bt_meaning.proofs.Eachs.{each_front, each_back, each_kept}
 use Rattle.replay_laws.specs.Agree.{AskSame}

@@ -4,7 +4,6 @@ use Rattle.std.specs.Prelude.{Option, Some, None, slice_get}
 use Rattle.std.specs.List.{AllByRecursion}
 use Rattle.bt_ast.specs.declared.attached.Attached.{Attached}
 use Rattle.bt_ast.specs.declared.attached.Tick.{Tick}
-use Rattle.bt_core.specs.declared.context.Context.{Context}
 use Rattle.bt_core.specs.declared.map.MapDecl.{MapDecl}
 use Rattle.bt_core.specs.Interaction.{Interaction, Ended, and_then}
 use Rattle.rec_format.specs.declared.recording.CpuTrack.{CpuTrack}
@@ -18,7 +17,7 @@ use Rattle.actor_plan.specs.Plans.{Plan}
 use Rattle.actor_plan.specs.Programs.{after_count, bodies_at, crosses_last, event_work, goes_on, in_turn, item_work, items_program, tick_work, where_some}
 use Rattle.bt_walk.specs.SameUnder.{SameTo, IsReplyTo}
 use Rattle.bt_walk.proofs.SameLaws.{SameTo-self, SameTo-and_then}
-use Rattle.replay_laws.specs.Agree.{AskSame, BodiesAskSame, AskSameOn}
+use Rattle.replay_laws.specs.Agree.{AskSame, AskSameOn}
 
 -- programs that both went on to their end, or both did not
 abbrev pub EndAlike : Outcome → Outcome → Type 0

@@ -1,12 +1,11 @@
 -- Computations with the same calls: steps that are the whole of the one are the whole of the other.
-use Rattle.std.proofs.Common.{◌≡◌, ℕ, List, [], ◌∷◌, refl, sym, ap, ◌∙◌, subst}
+use Rattle.std.proofs.Common.{List, [], ◌∷◌, refl, sym, ◌∙◌, subst}
 use Rattle.std.specs.List.{AllByRecursion}
 use Rattle.bt_core.specs.declared.map.MapDecl.{MapDecl}
 use Rattle.bt_core.specs.declared.step.ObjectId.{ObjectId}
 use Rattle.bt_core.specs.declared.step.Op.{Op}
-use Rattle.bt_core.specs.declared.step.Reply.{Reply}
 use Rattle.bt_core.specs.declared.step.Step.{Step}
-use Rattle.bt_core.specs.Interaction.{Call, call_of, Interaction, Ended, Asks, Runs}
+use Rattle.bt_core.specs.Interaction.{Call, Interaction, Ended, Asks, Runs}
 use Rattle.bt_core.specs.Ports.{IsReplyOf}
 use Rattle.actor_plan.specs.Plans.{AsksOf}
 use Rattle.bt_walk.specs.SameUnder.{SameTo, IsReplyTo}

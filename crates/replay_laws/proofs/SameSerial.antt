@@ -6,7 +6,6 @@ use Rattle.bt_core.specs.declared.step.Step.{Step}
 use Rattle.bt_core.specs.Interaction.{Call, Interaction, Ended, Asks}
 use Rattle.rec_format.specs.declared.recording.CpuTrack.{CpuTrack}
 use Rattle.actor_plan.specs.declared.agenda.AgendaItem.{AgendaItem}
-use Rattle.actor_plan.specs.declared.outcome.Outcome.{Outcome}
 use Rattle.actor_plan.specs.Plans.{Plan}
 use Rattle.actor_plan.specs.Programs.{item_work}
 use Rattle.bt_walk.specs.SameUnder.{SameTo, IsReplyTo}
@@ -17,7 +16,7 @@ use Rattle.bt_meaning.specs.Serial.{alone, alone_on, next_step, then_steps, then
 use Rattle.bt_meaning.proofs.Eachs.{each_front, each_back}
 use Rattle.bt_meaning.proofs.ItemByItem.{is_passed, is_taken, takes_all}
 use Rattle.bt_meaning.proofs.Stepping.{takes_whole}
-use Rattle.replay_laws.specs.Agree.{AskSame, AskSameOn}
+use Rattle.replay_laws.specs.Agree.{AskSameOn}
 use Rattle.replay_laws.proofs.SameRuns.{HasKind}
 use Rattle.replay_laws.proofs.SamePrograms.{EndAlike, items_same, item_same}
 use Rattle.replay_laws.proofs.Carried.{with_plans, SamePrograms}
@@ -69,20 +68,20 @@ module _ (p : Replay) (one other : ℕ → Plan) where
     taken_same [] going before kinds = refl
     taken_same (s ∷ ss) going before kinds = by_bool (slice_index_or going (cpu_of_due s.due) false)
         (λ on.
-          let cpu = cpu_of_due s.due in let i = item_of_due s.due in
-          let middle = then_steps left cpu (alone left cpu i) before in
-          let next = slice_set going cpu (then_value left cpu (alone left cpu i) before).to_end in
-          let here = is_taken left s ss going before on in
-          let there = is_taken right s ss going before on in
-          let now = subst (AllByRecursion (HasKind p.maps)) here kinds in
-          let all = takes_all left ss next middle in
-          let early = each_front (HasKind p.maps) middle all.made (subst (AllByRecursion (HasKind p.maps)) all.grew now) in
-          let alike = steps_alike EndAlike cpu (alone left cpu i) (alone right cpu i) before (alone_same cpu i (slice_get p.recording.cpus cpu) refl) early in
-          here ∙ taken_same ss next middle now ∙ (λ k. taken right ss (slice_set going cpu (alike.values k)) (alike.steps k)) ∙ sym there)
+        let cpu = cpu_of_due s.due in let i = item_of_due s.due in
+        let middle = then_steps left cpu (alone left cpu i) before in
+        let next = slice_set going cpu (then_value left cpu (alone left cpu i) before).to_end in
+        let here = is_taken left s ss going before on in
+        let there = is_taken right s ss going before on in
+        let now = subst (AllByRecursion (HasKind p.maps)) here kinds in
+        let all = takes_all left ss next middle in
+        let early = each_front (HasKind p.maps) middle all.made (subst (AllByRecursion (HasKind p.maps)) all.grew now) in
+        let alike = steps_alike EndAlike cpu (alone left cpu i) (alone right cpu i) before (alone_same cpu i (slice_get p.recording.cpus cpu) refl) early in
+        here ∙ taken_same ss next middle now ∙ (λ k. taken right ss (slice_set going cpu (alike.values k)) (alike.steps k)) ∙ sym there)
         (λ off.
-          let here = is_passed left s ss going before off in
-          let there = is_passed right s ss going before off in
-          here ∙ taken_same ss going before (subst (AllByRecursion (HasKind p.maps)) here kinds) ∙ sym there)
+        let here = is_passed left s ss going before off in
+        let there = is_passed right s ss going before off in
+        here ∙ taken_same ss going before (subst (AllByRecursion (HasKind p.maps)) here kinds) ∙ sym there)
 
     module _ (same : SamePrograms p one other) (kinds : AllByRecursion (HasKind p.maps) (serial_steps left)) where
       pub serial_same : serial_steps left ≡ serial_steps right

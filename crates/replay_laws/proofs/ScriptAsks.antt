@@ -12,15 +12,15 @@ use Rattle.bt_core.specs.declared.step.ObjectId.TheVariants.{Shared, Cpu, Clock,
 use Rattle.bt_core.specs.declared.step.Op.{Op}
 use Rattle.bt_core.specs.Interaction.{Interaction, Ended, Asks, and_then}
 use Rattle.bt_core.specs.Kinds.{IsFineDecl}
-use Rattle.bt_core.specs.Ports.{Setting, CanStep}
+use Rattle.bt_core.specs.Ports.{CanStep}
 use Rattle.rec_format.specs.declared.recording.Recording.{Recording}
 use Rattle.typed_tree.specs.declared.body.TypedBody.{TypedBody}
 use Rattle.typed_tree.specs.declared.script.Typed.{Typed}
-use Rattle.actor_plan.specs.Plans.{Plan, CanRun, AsksOf, BodiesAsk}
+use Rattle.actor_plan.specs.Plans.{AsksOf, BodiesAsk}
 use Rattle.actor_plan.proofs.AskLaws.{begin_asks, end_asks, cpu_asks}
 use Rattle.bt_walk.specs.Admits.{AdmitsOf}
 use Rattle.bt_walk.specs.Walk.{walk}
-use Rattle.bt_walk.specs.Walked.{CanWalk, least_length}
+use Rattle.bt_walk.specs.Walked.{least_length}
 use Rattle.bt_walk.proofs.AskingStmts.{walk-admits}
 use Rattle.bt_meaning.specs.Jobs.{IsJob}
 use Rattle.bt_meaning.specs.OwnSteps.{setting_of}
