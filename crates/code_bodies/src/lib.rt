@@ -1,0 +1,4 @@
+//! The bodies of a script by the BPF code that was made of them.
+#![tactic(auto)]
+
+pub mod laws;
