@@ -44,7 +44,7 @@ pub record IsSeen (body : TypedBody) (context : Context) (payload : List ℕ) : 
   pub short : length payload < 2 ^ 32
   pub bytes : AreBytes payload
   pub named : context.payload_len ≡ length payload
-  pub context : IsContext context
+  pub fits : IsContext context
 
 -- the code ends by its exit
 abbrev pub EndsByExit : Ending → Result EndedRun Trap → Type 0

@@ -1,6 +1,6 @@
 pub mod SameRuns
 pub mod SamePrograms
-mod Carried
-mod SameSerial
+pub mod Carried
+pub mod SameSerial
 pub mod ScriptAsks
-mod Agreeing
+pub mod Agreeing
