@@ -1,5 +1,6 @@
 pub mod SameRuns
 pub mod SamePrograms
+pub mod Coming
 pub mod Carried
 pub mod SameSerial
 pub mod ScriptAsks

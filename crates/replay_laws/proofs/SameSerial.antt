@@ -3,12 +3,13 @@ use Rattle.std.proofs.Common.{◌≡◌, ℕ, Bool, true, false, List, [], ◌�
 use Rattle.std.specs.Prelude.{Option, Some, None, slice_get, slice_index_or, slice_set, replicate}
 use Rattle.std.specs.List.{AllByRecursion}
 use Rattle.bt_core.specs.declared.step.Step.{Step}
+use Rattle.bt_core.specs.declared.step.Reply.{Reply}
 use Rattle.bt_core.specs.Interaction.{Call, Interaction, Ended, Asks}
 use Rattle.rec_format.specs.declared.recording.CpuTrack.{CpuTrack}
 use Rattle.actor_plan.specs.declared.agenda.AgendaItem.{AgendaItem}
 use Rattle.actor_plan.specs.Plans.{Plan}
 use Rattle.actor_plan.specs.Programs.{item_work}
-use Rattle.bt_walk.specs.SameUnder.{SameTo, IsReplyTo}
+use Rattle.bt_walk.specs.SameUnder.{SameTo}
 use Rattle.bt_meaning.specs.declared.schedule.Scheduled.{Scheduled}
 use Rattle.bt_meaning.specs.Replays.{Replay, cpus_of, begin_of, end_of}
 use Rattle.bt_meaning.specs.Schedules.{serial_order, cpu_of_due, item_of_due}
@@ -16,12 +17,12 @@ use Rattle.bt_meaning.specs.Serial.{alone, alone_on, next_step, then_steps, then
 use Rattle.bt_meaning.proofs.Eachs.{each_front, each_back}
 use Rattle.bt_meaning.proofs.ItemByItem.{is_passed, is_taken, takes_all}
 use Rattle.bt_meaning.proofs.Stepping.{takes_whole}
-use Rattle.replay_laws.specs.Agree.{AskSameOn}
+use Rattle.replay_laws.specs.Agree.{Comes, AskSameOn}
 use Rattle.replay_laws.proofs.SameRuns.{HasKind}
 use Rattle.replay_laws.proofs.SamePrograms.{EndAlike, items_same, item_same}
 use Rattle.replay_laws.proofs.Carried.{with_plans, SamePrograms}
 
-module _ (p : Replay) (one other : ℕ → Plan) where
+module _ (holds : Reply → Type 0) (p : Replay) (one other : ℕ → Plan) where
   abbrev left : Replay
   left = with_plans p one
 
@@ -33,8 +34,8 @@ module _ (p : Replay) (one other : ℕ → Plan) where
     steps : then_steps left actor t before ≡ then_steps right actor u before
     values : R (then_value left actor t before) (then_value right actor u before)
 
-  steps_alike : {A B : Type 0} (R : A → B → Type 0) (actor : ℕ) (t : Interaction A) (u : Interaction B) (before : List Step) → SameTo (IsReplyTo p.maps) R t u
-      → AllByRecursion (HasKind p.maps) (then_steps left actor t before) → Alike R actor t u before
+  steps_alike : {A B : Type 0} (R : A → B → Type 0) (actor : ℕ) (t : Interaction A) (u : Interaction B) (before : List Step) → SameTo (Comes holds p.maps) R t u
+      → AllByRecursion (HasKind holds p.maps) (then_steps left actor t before) → Alike R actor t u before
   steps_alike R actor (Ended a) (Ended b) before same kinds = record { steps = refl; values = same }
   steps_alike R actor (Ended a) (Asks d g) before same kinds = absurd same
   steps_alike R actor (Asks c f) (Ended b) before same kinds = absurd same
@@ -42,8 +43,8 @@ module _ (p : Replay) (one other : ℕ → Plan) where
       let s = next_step left before actor c in
       let grew = (takes_whole left actor (f s.reply) (before ++ s ∷ [])).grew in
       let made = (takes_whole left actor (f s.reply) (before ++ s ∷ [])).made in
-      let early = each_front (HasKind p.maps) (before ++ s ∷ []) made (subst (AllByRecursion (HasKind p.maps)) grew kinds) in
-      let kind = (each_back (HasKind p.maps) before (s ∷ []) early).0 in
+      let early = each_front (HasKind holds p.maps) (before ++ s ∷ []) made (subst (AllByRecursion (HasKind holds p.maps)) grew kinds) in
+      let kind = (each_back (HasKind holds p.maps) before (s ∷ []) early).0 in
       let rest = steps_alike R actor (f s.reply) (g s.reply) (before ++ s ∷ []) (same.1 s.reply kind) kinds in
       record {
         steps = rest.steps
@@ -52,18 +53,12 @@ module _ (p : Replay) (one other : ℕ → Plan) where
             (then_value right actor (g (next_step right before actor x).reply) (before ++ next_step right before actor x ∷ []))) same.0 rest.values;
       }
 
-  module _ (items : (cpu : ℕ) (track : CpuTrack) → slice_get p.recording.cpus cpu ≡ Some track → AskSameOn p.maps (one cpu) (other cpu) p.recording p.attached track) where
-    alone_same : (cpu : ℕ) (i : AgendaItem) (o : Option CpuTrack) → slice_get p.recording.cpus cpu ≡ o → SameTo (IsReplyTo p.maps) EndAlike (alone_on left cpu i o) (alone_on right cpu i o)
-    alone_same cpu i None at = refl
-    alone_same cpu i (Some track) at =
-        items_same p.maps p.exits (item_work (one cpu) p.recording p.attached track) (item_work (other cpu) p.recording p.attached track)
-        (item_same p.maps (one cpu) (other cpu) p.recording p.attached track (items cpu track at)) (i ∷ [])
-
+  module _ (items : (cpu : ℕ) (i : AgendaItem) → SameTo (Comes holds p.maps) EndAlike (alone left cpu i) (alone right cpu i)) where
     by_bool : {A : Type 0} (b : Bool) → (b ≡ true → A) → (b ≡ false → A) → A
     by_bool true f g = f refl
     by_bool false f g = g refl
 
-    taken_same : (ss : List Scheduled) (going : List Bool) (before : List Step) → AllByRecursion (HasKind p.maps) (taken left ss going before)
+    taken_same : (ss : List Scheduled) (going : List Bool) (before : List Step) → AllByRecursion (HasKind holds p.maps) (taken left ss going before)
         → taken left ss going before ≡ taken right ss going before
     taken_same [] going before kinds = refl
     taken_same (s ∷ ss) going before kinds = by_bool (slice_index_or going (cpu_of_due s.due) false)
@@ -73,17 +68,17 @@ module _ (p : Replay) (one other : ℕ → Plan) where
         let next = slice_set going cpu (then_value left cpu (alone left cpu i) before).to_end in
         let here = is_taken left s ss going before on in
         let there = is_taken right s ss going before on in
-        let now = subst (AllByRecursion (HasKind p.maps)) here kinds in
+        let now = subst (AllByRecursion (HasKind holds p.maps)) here kinds in
         let all = takes_all left ss next middle in
-        let early = each_front (HasKind p.maps) middle all.made (subst (AllByRecursion (HasKind p.maps)) all.grew now) in
-        let alike = steps_alike EndAlike cpu (alone left cpu i) (alone right cpu i) before (alone_same cpu i (slice_get p.recording.cpus cpu) refl) early in
+        let early = each_front (HasKind holds p.maps) middle all.made (subst (AllByRecursion (HasKind holds p.maps)) all.grew now) in
+        let alike = steps_alike EndAlike cpu (alone left cpu i) (alone right cpu i) before (items cpu i) early in
         here ∙ taken_same ss next middle now ∙ (λ k. taken right ss (slice_set going cpu (alike.values k)) (alike.steps k)) ∙ sym there)
         (λ off.
         let here = is_passed left s ss going before off in
         let there = is_passed right s ss going before off in
-        here ∙ taken_same ss going before (subst (AllByRecursion (HasKind p.maps)) here kinds) ∙ sym there)
+        here ∙ taken_same ss going before (subst (AllByRecursion (HasKind holds p.maps)) here kinds) ∙ sym there)
 
-    module _ (same : SamePrograms p one other) (kinds : AllByRecursion (HasKind p.maps) (serial_steps left)) where
+    module _ (same : SamePrograms holds p one other) (kinds : AllByRecursion (HasKind holds p.maps) (serial_steps left)) where
       pub serial_same : serial_steps left ≡ serial_steps right
       unfolding serial_steps
       serial_same =
@@ -91,9 +86,9 @@ module _ (p : Replay) (one other : ℕ → Plan) where
           let order = serial_order p.recording p.attached in
           let going = replicate cpus true in
           let last = takes_whole left cpus (end_of left) (taken_steps left) in
-          let taken_kinds = each_front (HasKind p.maps) (taken_steps left) last.made (subst (AllByRecursion (HasKind p.maps)) last.grew kinds) in
+          let taken_kinds = each_front (HasKind holds p.maps) (taken_steps left) last.made (subst (AllByRecursion (HasKind holds p.maps)) last.grew kinds) in
           let middle = takes_all left order going (begun_steps left) in
-          let begun_kinds = each_front (HasKind p.maps) (begun_steps left) middle.made (subst (AllByRecursion (HasKind p.maps)) middle.grew taken_kinds) in
+          let begun_kinds = each_front (HasKind holds p.maps) (begun_steps left) middle.made (subst (AllByRecursion (HasKind holds p.maps)) middle.grew taken_kinds) in
           let begun = (steps_alike (λ a b. Unit {0}) cpus (begin_of left) (begin_of right) [] same.begin begun_kinds).steps in
           let took : taken_steps left ≡ taken_steps right = taken_same order going (begun_steps left) taken_kinds ∙ ap (taken right order going) begun in
           (steps_alike (λ a b. Unit {0}) cpus (end_of left) (end_of right) (taken_steps left) same.end kinds).steps

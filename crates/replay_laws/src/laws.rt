@@ -12,19 +12,25 @@ ghost use Rattle.bt_meaning.specs.Prints.{printed_text};
 ghost use Rattle.bt_meaning.specs.Replays.{Replay, cpus_of};
 ghost use Rattle.bt_meaning.specs.Serial.{serial_steps};
 ghost use Rattle.bt_meaning.specs.Walks.{replay_of};
-ghost use Rattle.replay_laws.specs.Agree.{ReplaysAgree};
+ghost use Rattle.replay_laws.specs.Agree.{AllReplies, ReplaysAgree};
 ghost use Rattle.replay_laws.specs.Asking.{AsksObjects};
+ghost use Rattle.replay_laws.specs.HeldReplies.{IsHeldReply};
 
 /// Where the bodies of two replays ask the same and one of the two asks only what its objects take, each interleaving of the one
-/// is one of the other, with its stamps, and the list of the serial run is the same. What the runs of the bodies count may differ.
+/// is one of the other, with its stamps, and the list of the serial run is the same. It is enough that they ask the same under replies
+/// whose values are as a program holds them, as those in a program's list of steps are. What the runs of the bodies count may differ.
 pub fn replays_agree()
-    ensures there { (p q : Replay) (steps : List Step) → ReplaysAgree p q → AsksObjects p → IsInterleaving p steps → IsInterleaving q steps }
-    ensures back { (p q : Replay) (steps : List Step) → ReplaysAgree p q → AsksObjects p → IsInterleaving q steps → IsInterleaving p steps }
-    ensures replayed_there { (p q : Replay) (steps : List Step) → ReplaysAgree p q → AsksObjects p → IsReplayed p steps → IsReplayed q steps }
-    ensures replayed_back { (p q : Replay) (steps : List Step) → ReplaysAgree p q → AsksObjects p → IsReplayed q steps → IsReplayed p steps }
-    ensures serial { (p q : Replay) → IsValidRecording p.recording → AreInTurn p.attached.ticks → ReplaysAgree p q → AsksObjects p →
-        serial_steps p ≡ serial_steps q }
-    ensures printed { (p q : Replay) (script : Typed) (steps : List Step) → ReplaysAgree p q →
+    ensures there { (p q : Replay) (steps : List Step) → ReplaysAgree IsHeldReply p q → AsksObjects p → AllReplies IsHeldReply steps →
+        IsInterleaving p steps → IsInterleaving q steps }
+    ensures back { (p q : Replay) (steps : List Step) → ReplaysAgree IsHeldReply p q → AsksObjects p → AllReplies IsHeldReply steps →
+        IsInterleaving q steps → IsInterleaving p steps }
+    ensures replayed_there { (p q : Replay) (steps : List Step) → ReplaysAgree IsHeldReply p q → AsksObjects p →
+        AllReplies IsHeldReply steps → IsReplayed p steps → IsReplayed q steps }
+    ensures replayed_back { (p q : Replay) (steps : List Step) → ReplaysAgree IsHeldReply p q → AsksObjects p →
+        AllReplies IsHeldReply steps → IsReplayed q steps → IsReplayed p steps }
+    ensures serial { (p q : Replay) → IsValidRecording p.recording → AreInTurn p.attached.ticks → ReplaysAgree IsHeldReply p q →
+        AsksObjects p → AllReplies IsHeldReply (serial_steps q) → serial_steps q ≡ serial_steps p }
+    ensures printed { (p q : Replay) (script : Typed) (steps : List Step) → ReplaysAgree IsHeldReply p q →
         printed_text script (cpus_of p) steps ≡ printed_text script (cpus_of q) steps }
 {}
 
@@ -36,10 +42,13 @@ pub fn scripts_ask_objects()
 /// So where what runs in place of a script's walks asks the same as they do, its interleavings are those of the script over the
 /// recording, and so is the list of the serial run.
 pub fn agreeing_runs_mean_the_script()
-    ensures interleavings { (script : Typed) (attached : Attached) (r : Recording) (q : Replay) (steps : List Step) → IsJob script attached r →
-        ReplaysAgree (replay_of script attached r) q → IsInterleaving q steps → IsInterleaving (replay_of script attached r) steps }
-    ensures replayed { (script : Typed) (attached : Attached) (r : Recording) (q : Replay) (steps : List Step) → IsJob script attached r →
-        ReplaysAgree (replay_of script attached r) q → IsReplayed q steps → IsReplayed (replay_of script attached r) steps }
-    ensures serial { (script : Typed) (attached : Attached) (r : Recording) (q : Replay) → IsJob script attached r →
-        ReplaysAgree (replay_of script attached r) q → serial_steps (replay_of script attached r) ≡ serial_steps q }
+    ensures interleavings { (script : Typed) (attached : Attached) (r : Recording) (q : Replay) (steps : List Step) →
+        IsJob script attached r → ReplaysAgree IsHeldReply (replay_of script attached r) q → AllReplies IsHeldReply steps → IsInterleaving q steps →
+        IsInterleaving (replay_of script attached r) steps }
+    ensures replayed { (script : Typed) (attached : Attached) (r : Recording) (q : Replay) (steps : List Step) →
+        IsJob script attached r → ReplaysAgree IsHeldReply (replay_of script attached r) q → AllReplies IsHeldReply steps → IsReplayed q steps →
+        IsReplayed (replay_of script attached r) steps }
+    ensures serial { (script : Typed) (attached : Attached) (r : Recording) (q : Replay) →
+        IsJob script attached r → ReplaysAgree IsHeldReply (replay_of script attached r) q → AllReplies IsHeldReply (serial_steps q) →
+        serial_steps q ≡ serial_steps (replay_of script attached r) }
 {}
