@@ -24,7 +24,6 @@ use Rattle.typed_tree.specs.declared.body.TypedBody.{TypedBody}
 use Rattle.typed_tree.specs.declared.script.Typed.{Typed}
 use Rattle.actor_plan.specs.Contexts.{event_context, tick_context, begin_context, end_context}
 use Rattle.actor_plan.specs.Plans.{IsBodyFor}
-use Rattle.bt_walk.specs.SameUnder.{IsReplyTo}
 use Rattle.bt_walk.specs.Walk.{walk}
 use Rattle.bt_walk.specs.Walked.{least_length}
 use Rattle.bt_walk.proofs.SameLaws.{SameTo-and_then}
@@ -34,7 +33,8 @@ use Rattle.bt_meaning.specs.Serial.{serial_steps}
 use Rattle.bt_meaning.specs.Walks.{replay_of, walked, walking}
 use Rattle.bt_meaning.proofs.Eachs.{each_so}
 use Rattle.bt_meaning.proofs.OwnCalls.{size_at}
-use Rattle.replay_laws.specs.Agree.{AskSame, AskSameOn, BodiesAskSame, ReplaysAgree}
+use Rattle.replay_laws.specs.Agree.{AllReplies, Comes, AskSame, AskSameOn, BodiesAskSame, ReplaysAgree}
+use Rattle.replay_laws.specs.HeldReplies.{IsHeldReply}
 use Rattle.replay_laws.proofs.Agreeing.{script_replayed, script_serial}
 use Rattle.code_bodies.specs.Coding.{code_replay, coded, coding, count_of, fuel_of}
 use Rattle.code_bodies.specs.Kept.{AreHeld, EndsByExit, IsSeen, KeepBodies}
@@ -51,7 +51,7 @@ module _ (script : Typed) (codes : List (List Insn)) (attached : Attached) (r : 
 
   -- the runs of a body by an actor ask the same at a context and a payload
   abbrev Same : ℕ → Context → List ℕ → ℕ → Type 0
-  Same actor context payload body = AskSame script.maps ((walking script actors actor).run body context payload) ((coding script codes actors actor).run body context payload)
+  Same actor context payload body = AskSame IsHeldReply script.maps ((walking script actors actor).run body context payload) ((coding script codes actors actor).run body context payload)
 
   body_same : (actor body size : ℕ) (context : Context) (payload : List ℕ) → actor < actors → IsBodyFor (walking script actors actor) size body
       → ((b : TypedBody) → least_length b.layout ≤ size → IsSeen b context payload) → Same actor context payload body
@@ -63,15 +63,15 @@ module _ (script : Typed) (codes : List (List Insn)) (attached : Attached) (r : 
       let code = there codes body (omega (arith, many, known, as_many)) in
       let long : least_length b.0.layout ≤ size = subst (λ (n : ℕ). n ≤ size) (size_at script.bodies body b.0 b.1) fits.1 in
       let kept = keep.each body b.0 code.0 b.1 code.1 in
-      subst (λ (z : Option TypedBody × Option (List Insn)). AskSame script.maps (walked z.0 context payload actor actors) (coded script actor actors z.1 context payload))
+      subst (λ (z : Option TypedBody × Option (List Insn)). AskSame IsHeldReply script.maps (walked z.0 context payload actor actors) (coded script actor actors z.1 context payload))
       (λ i. (sym b.1 i, sym code.1 i))
-      (SameTo-and_then (IsReplyTo script.maps) EndsByExit (λ m n. Unit {0}) (walk b.0 context payload actor actors)
+      (SameTo-and_then (Comes IsHeldReply script.maps) EndsByExit (λ m n. Unit {0}) (walk b.0 context payload actor actors)
       (script_run (desk_of script actor actors) code.0 (context_bytes context) payload (fuel_of code.0))
       (λ ending. Ended 0) (λ end. Ended (count_of end)) (kept.same context payload actor actors low (seen b.0 long)) (λ m n h. tt))
 
   bodies_same : (actor size : ℕ) (context : Context) (payload : List ℕ) (which : List ℕ) → actor < actors → AllByRecursion (IsBodyFor (walking script actors actor) size) which
       → ((b : TypedBody) → least_length b.layout ≤ size → IsSeen b context payload)
-      → BodiesAskSame script.maps (walking script actors actor) (coding script codes actors actor) which context payload
+      → BodiesAskSame IsHeldReply script.maps (walking script actors actor) (coding script codes actors actor) which context payload
   bodies_same actor size context payload which low fit seen = each_so (IsBodyFor (walking script actors actor) size) (Same actor context payload)
       (λ body fits. body_same actor body size context payload low fits seen) which fit
 
@@ -80,7 +80,7 @@ module _ (script : Typed) (codes : List (List Insn)) (attached : Attached) (r : 
     low = let within = slice_get_within r.cpus cpu track at in omega (arith, within)
 
     events_same : (place : ℕ) (e : Event) → slice_get track.events place ≡ Some e
-        → BodiesAskSame script.maps (walking script actors cpu) (coding script codes actors cpu) (slice_index_or attached.by_format e.format []) (event_context r track e) e.payload
+        → BodiesAskSame IsHeldReply script.maps (walking script actors cpu) (coding script codes actors cpu) (slice_index_or attached.by_format e.format []) (event_context r track e) e.payload
     events_same place e on =
         let placed : event_at_place r cpu place ≡ Some e = ap (λ o. option_and_then (λ (c : CpuTrack). slice_get c.events place) o) at ∙ on in
         let has = recorded_format r cpu place e job.valid placed in
@@ -97,13 +97,13 @@ module _ (script : Typed) (codes : List (List Insn)) (attached : Attached) (r : 
         let early = all_at (λ (u : Tick). u.time < 2 ^ 64) attached.ticks place t held.ticks on in
         body_same cpu t.body 0 (tick_context r track t) [] low fits (λ b long. moment_seen r job.valid track.number t.time b (number_small r job.valid cpu track at) early long)
 
-    cpu_same : AskSameOn script.maps (walking script actors cpu) (coding script codes actors cpu) r attached track
+    cpu_same : AskSameOn IsHeldReply script.maps (walking script actors cpu) (coding script codes actors cpu) r attached track
     cpu_same = record { events = events_same; ticks = ticks_same }
 
   main_low : length r.cpus < actors
   main_low = omega arith
 
-  pub agree : ReplaysAgree (replay_of script attached r) (code_replay script codes attached r)
+  pub agree : ReplaysAgree IsHeldReply (replay_of script attached r) (code_replay script codes attached r)
   agree = record {
     recording = refl;
     attached = refl;
@@ -120,8 +120,9 @@ module _ (script : Typed) (codes : List (List Insn)) (attached : Attached) (r : 
         (λ b long. moment_seen r job.valid 0 r.end b (omega arith) job.valid.end long);
   }
 
-  pub code_replayed : (steps : List Step) → IsReplayed (code_replay script codes attached r) steps → IsReplayed (replay_of script attached r) steps
-  code_replayed steps i = script_replayed script attached r job (code_replay script codes attached r) agree steps i
+  pub code_replayed : (steps : List Step) → AllReplies IsHeldReply steps → IsReplayed (code_replay script codes attached r) steps → IsReplayed (replay_of script attached r) steps
+  code_replayed steps replies i = script_replayed IsHeldReply script attached r job (code_replay script codes attached r) agree steps replies i
 
-  pub code_serial : serial_steps (replay_of script attached r) ≡ serial_steps (code_replay script codes attached r)
-  code_serial = script_serial script attached r job (code_replay script codes attached r) agree
+  pub code_serial : AllReplies IsHeldReply (serial_steps (code_replay script codes attached r))
+      → serial_steps (code_replay script codes attached r) ≡ serial_steps (replay_of script attached r)
+  code_serial replies = script_serial IsHeldReply script attached r job (code_replay script codes attached r) agree replies

@@ -18,9 +18,11 @@ use Rattle.rec_format.specs.declared.recording.Event.{Event}
 use Rattle.rec_format.specs.declared.recording.Recording.{Recording}
 use Rattle.typed_tree.specs.declared.body.TypedBody.{TypedBody}
 use Rattle.typed_tree.specs.declared.script.Typed.{Typed}
-use Rattle.bt_walk.specs.SameUnder.{SameTo, IsReplyTo}
+use Rattle.bt_walk.specs.SameUnder.{SameTo}
 use Rattle.bt_walk.specs.Walk.{walk}
 use Rattle.bt_walk.specs.Walked.{least_length}
+use Rattle.replay_laws.specs.Agree.{Comes}
+use Rattle.replay_laws.specs.HeldReplies.{IsHeldReply}
 use Rattle.code_bodies.specs.Coding.{fuel_of}
 
 abbrev pub AreBytes : List ℕ → Type 0
@@ -52,12 +54,13 @@ EndsByExit ending (Ok ended) = Unit {0}
 EndsByExit ending (Err trap) = ⊥
 
 -- Well-formed code with an instruction, which for every number of actors, actor, context and payload makes the calls of the body's walk, as
--- long as each reply is of the kind of its call, and ends by its exit where the walk ends: it neither traps nor uses up its fuel.
+-- long as each reply is of the kind of its call and as a program holds it, and ends by its exit where the walk ends: it neither traps nor
+-- uses up its fuel.
 pub record KeepsWalk (script : Typed) (body : TypedBody) (code : List Insn) : Type 0 where
   pub well_formed : IsWellFormed code
   pub begins : code ≢ []
   pub same : (context : Context) (payload : List ℕ) (actor actors : ℕ) → actor < actors → IsSeen body context payload
-      → SameTo (IsReplyTo script.maps) EndsByExit (walk body context payload actor actors)
+      → SameTo (Comes IsHeldReply script.maps) EndsByExit (walk body context payload actor actors)
       (script_run (desk_of script actor actors) code (context_bytes context) payload (fuel_of code))
 
 -- there is one code for each body, which keeps it

@@ -5,7 +5,7 @@ pub returns-clause-agree : goal.returns-clause-agree
 returns-clause-agree c script codes attached r job held keep = agree script codes attached r job held keep
 
 pub returns-clause-replayed : goal.returns-clause-replayed
-returns-clause-replayed c script codes attached r steps job held keep i = code_replayed script codes attached r job held keep steps i
+returns-clause-replayed c script codes attached r steps job held keep replies i = code_replayed script codes attached r job held keep steps replies i
 
 pub returns-clause-serial : goal.returns-clause-serial
-returns-clause-serial c script codes attached r job held keep = code_serial script codes attached r job held keep
+returns-clause-serial c script codes attached r job held keep replies = code_serial script codes attached r job held keep replies
