@@ -1,10 +1,11 @@
 -- What is told of bodies that are run by their code.
-use Rattle.std.specs.Prelude.{ℕ, ◌+◌, ◌*◌, List, length, map, Option, Some, None, Result, Ok, Err, slice_get}
+use Rattle.std.specs.Prelude.{◌≢◌, ◌≤◌, ℕ, ◌+◌, ◌*◌, List, [], length, map, Option, Some, None, Result, Ok, Err, slice_get}
 use Rattle.bt_ast.specs.declared.attached.Attached.{Attached}
 use Rattle.bt_core.specs.declared.context.Context.{Context}
 use Rattle.bt_core.specs.Interaction.{Interaction, Ended, and_then}
 use Rattle.bpf_insn.specs.declared.insn.Insn.{Insn}
 use Rattle.bpf_insn.specs.declared.trap.Trap.{Trap}
+use Rattle.bpf_insn.specs.Code.{IsWellFormed}
 use Rattle.bpf_interp.specs.declared.machine.Ended.{Ended as EndedRun}
 use Rattle.event_record.specs.Contexts.{context_bytes}
 use Rattle.helper_abi.specs.Running.{script_run}
@@ -15,6 +16,12 @@ use Rattle.typed_tree.specs.declared.script.Typed.{Typed}
 use Rattle.actor_plan.specs.Plans.{Plan}
 use Rattle.bt_walk.specs.Walked.{least_length}
 use Rattle.bt_meaning.specs.Replays.{Replay}
+
+-- the code is well formed, and has an instruction and at most 4,096
+pub record CanRunCode (code : List Insn) : Type 0 where
+  pub well_formed : IsWellFormed code
+  pub begins : code ≢ []
+  pub few : length code ≤ 4096
 
 -- the fuel of code: 4,098 times its slots
 abbrev pub fuel_of : List Insn → ℕ

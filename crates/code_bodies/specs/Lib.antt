@@ -1,3 +1,4 @@
 pub mod Coding
 pub mod Kept
+pub mod Running
 pub mod Serving
