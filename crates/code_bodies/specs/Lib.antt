@@ -1,3 +1,4 @@
+pub mod CodeFacts
 pub mod Coding
 pub mod Kept
 pub mod Running

@@ -1,6 +1,7 @@
 // Bodies by their code.
 ghost use Rattle.std.specs.Prelude.{◌≡◌, ◌<◌};
 ghost use Rattle.std.specs.List.{AllByRecursion};
+ghost use Rattle.code_bodies.specs.CodeFacts.{codes_prop};
 ghost use Rattle.code_bodies.specs.Coding.{CanRunCode};
 
 use crate::run_body::run_body;
@@ -22,7 +23,7 @@ pub struct CodeBodies<'a> {
     actor: u32,
     actors: u32,
     ghost below: { actor < actors },
-    ghost can_run: { AllByRecursion CanRunCode codes.now },
+    ghost can_run: { AllByRecursion CanRunCode codes.now } by { codes_prop codes.now },
 }
 
 impl Bodies for CodeBodies<'_> {

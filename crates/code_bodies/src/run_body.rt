@@ -3,13 +3,13 @@ ghost use Rattle.std.specs.Prelude.{◌≡◌, ◌<◌, ◌^◌, Some, length};
 ghost use Rattle.bt_core.specs.Interaction.{Performed};
 ghost use Rattle.actor_plan.specs.Plans.{AreServed};
 ghost use Rattle.bpf_interp.specs.Running.{RunPerformed};
-ghost use Rattle.event_record.specs.Contexts.{context_bytes as bytes_of};
 ghost use Rattle.helper_abi.specs.Running.{script_run};
 ghost use Rattle.helper_abi.specs.Served.{desk_of};
-ghost use Rattle.code_bodies.specs.Coding.{CanRunCode, coded, fuel_of};
+ghost use Rattle.code_bodies.specs.Coding.{CanRunCode, coded};
 ghost use Rattle.code_bodies.specs.Serving.{told};
 
 use crate::script_port::ScriptPort;
+use bpf_insn::address::CONTEXT_BYTES;
 use bpf_insn::insn::Insn;
 use bpf_insn::trap::Trap;
 use bpf_interp::machine::Ended;
@@ -24,16 +24,17 @@ use typed_tree::script::Typed;
 /// Instructions that a run may take for each slot of its code.
 const FUEL_A_SLOT: u64 = 4_098;
 
-/// Runs code at a context and a payload, with the fuel of its slots.
-fn run_at<P: Port>(
+/// Runs code through a port that serves the script's maps under their numbers.
+fn run_through<P: Port>(
     alloc: Global,
     script: &Typed,
     code: &[Insn],
-    context: &Context,
+    context: &[u8; CONTEXT_BYTES],
     payload: &[u8],
     actor: u32,
     actors: u32,
     port: &mut P,
+    fuel: u64,
 ) -> Result<Ended, Trap>
     requires can { CanRunCode code.now }
     requires short { length payload.now < 2 ^ 32 }
@@ -41,15 +42,13 @@ fn run_at<P: Port>(
     requires actor { (P.fixed port.old).setting.actor ≡ actor }
     requires actors { (P.fixed port.old).setting.actors ≡ actors }
     requires below { actor < actors }
-    ensures performed { let run = script_run (desk_of script.now actor actors) code.now (bytes_of context.now) payload.now (fuel_of code.now) in
+    ensures performed { let run = script_run (desk_of script.now actor actors) code.now context.now payload.now fuel in
         RunPerformed run (P.steps port.old) (P.steps port.new) result }
     ensures kept { P.fixed port.new ≡ P.fixed port.old }
 {
-    let bytes = context_bytes(context);
-    let fuel = FUEL_A_SLOT * code.len() as u64;
     let mut own = ScriptPort::new(port, script);
     run_code(
-        alloc, code, &bytes, payload, script, actor, actors, &mut own, fuel,
+        alloc, code, context, payload, script, actor, actors, &mut own, fuel,
     )
 }
 
@@ -85,6 +84,10 @@ pub(crate) fn run_body<P: Port>(
     ensures performed { Performed (coded script.now actor actors (Some code.now) context.now payload.now) (P.steps port.old) (P.steps port.new) result }
     ensures kept { P.fixed port.new ≡ P.fixed port.old }
 {
-    let run = run_at(alloc, script, code, context, payload, actor, actors, port);
+    let bytes = context_bytes(context);
+    let fuel = FUEL_A_SLOT * code.len() as u64;
+    let run = run_through(
+        alloc, script, code, &bytes, payload, actor, actors, port, fuel,
+    );
     count_in(run)
 }
