@@ -20,7 +20,11 @@ formed_prop code = λ one other i. record { valid = valid_prop one.valid other.v
     valid_prop = hlevel props
 
 run_prop : (code : List Insn) → IsProp (CanRunCode code)
-run_prop code = λ one other i. record { well_formed = formed_prop code one.well_formed other.well_formed i; begins = begins_prop one.begins other.begins i; few = few_prop one.few other.few i }
+run_prop code = λ one other i. record {
+  well_formed = formed_prop code one.well_formed other.well_formed i;
+  begins = begins_prop one.begins other.begins i;
+  few = few_prop one.few other.few i;
+}
   where
     begins_prop : IsProp (code ≢ [])
     begins_prop = hlevel props
