@@ -1,8 +1,7 @@
 -- What bodies see of a recording's events and moments are numbers, names and bytes as a program holds them.
-use Rattle.std.proofs.Common.{◌≡◌, ◌≢◌, ℕ, zero, suc, ◌+◌, ◌<◌, ◌≤◌, ◌^◌, min, Bool, true, false, cond, List, [], ◌∷◌, length, take, Some, refl, ap, ◌∙◌, subst, arith}
+use Rattle.std.proofs.Common.{◌≡◌, ℕ, zero, suc, ◌<◌, ◌≤◌, ◌^◌, min, Bool, true, false, cond, List, [], ◌∷◌, length, take, Some, refl, subst, arith}
 use Rattle.std.specs.Prelude.{slice_get}
 use Rattle.std.specs.List.{AllByRecursion, take_while}
-use Rattle.std.proofs.lemmas.List.{length-take}
 use Rattle.std.proofs.lemmas.List.Sums.{take_while-cons}
 use Rattle.bt_ast.specs.declared.attached.Attached.{Attached}
 use Rattle.bt_core.specs.Text.{IsShortText, is_text_byte, short_text}
@@ -16,7 +15,7 @@ use Rattle.rec_format.specs.Recordings.{IsTrack, IsValidRecording}
 use Rattle.typed_tree.specs.declared.body.TypedBody.{TypedBody}
 use Rattle.actor_plan.specs.Contexts.{event_context, moment_context}
 use Rattle.bt_walk.specs.Walked.{least_length}
-use Rattle.code_bodies.specs.Kept.{AreBytes, AreHeld, IsContext, IsSeen}
+use Rattle.code_bodies.specs.Kept.{AreBytes, AreHeld, IsSeen}
 
 short_is : (bytes : List ℕ) → IsShortText (short_text bytes)
 short_is bytes =

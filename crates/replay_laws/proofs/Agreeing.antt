@@ -1,5 +1,5 @@
 -- Replays that agree have the same interleavings.
-use Rattle.std.proofs.Common.{◌≡◌, ℕ, ◌+◌, ◌<◌, true, List, [], ◌∷◌, All, Option, Some, None, slice_get, refl, sym, ap, ◌∙◌, subst}
+use Rattle.std.proofs.Common.{◌≡◌, ℕ, ◌<◌, true, List, [], ◌∷◌, Option, Some, None, slice_get, refl, sym, ap, ◌∙◌, subst}
 use Rattle.std.specs.List.{AllByRecursion}
 use Rattle.std.proofs.lemmas.List.Elements.{All-from_recursion}
 use Rattle.bt_ast.specs.declared.attached.Attached.{Attached}
@@ -28,7 +28,7 @@ use Rattle.bt_meaning.specs.Replays.{Replay, answers_of, begin_of, cpu_of, cpus_
 use Rattle.bt_meaning.specs.Serial.{alone, alone_on, serial_steps}
 use Rattle.bt_meaning.specs.Walks.{replay_of}
 use Rattle.bt_meaning.proofs.SerialLaws.{serial_interleaves}
-use Rattle.replay_laws.specs.Agree.{AllReplies, AskSame, AskSameOn, Comes, ReplaysAgree}
+use Rattle.replay_laws.specs.Agree.{AllReplies, AskSame, Comes, ReplaysAgree}
 use Rattle.replay_laws.specs.Asking.{objects_of, AsksObjects}
 use Rattle.replay_laws.proofs.Carried.{with_plans, SamePrograms, carried, replayed}
 use Rattle.replay_laws.proofs.SamePrograms.{EndAlike, items_same, item_same, turn_same}

@@ -1,25 +1,23 @@
 -- The list of the serial run is the same.
 use Rattle.std.proofs.Common.{◌≡◌, ℕ, Bool, true, false, List, [], ◌∷◌, ◌++◌, refl, sym, ap, ◌∙◌, subst}
-use Rattle.std.specs.Prelude.{Option, Some, None, slice_get, slice_index_or, slice_set, replicate}
+use Rattle.std.specs.Prelude.{slice_index_or, slice_set, replicate}
 use Rattle.std.specs.List.{AllByRecursion}
 use Rattle.bt_core.specs.declared.step.Step.{Step}
 use Rattle.bt_core.specs.declared.step.Reply.{Reply}
 use Rattle.bt_core.specs.Interaction.{Call, Interaction, Ended, Asks}
-use Rattle.rec_format.specs.declared.recording.CpuTrack.{CpuTrack}
 use Rattle.actor_plan.specs.declared.agenda.AgendaItem.{AgendaItem}
 use Rattle.actor_plan.specs.Plans.{Plan}
-use Rattle.actor_plan.specs.Programs.{item_work}
 use Rattle.bt_walk.specs.SameUnder.{SameTo}
 use Rattle.bt_meaning.specs.declared.schedule.Scheduled.{Scheduled}
 use Rattle.bt_meaning.specs.Replays.{Replay, cpus_of, begin_of, end_of}
 use Rattle.bt_meaning.specs.Schedules.{serial_order, cpu_of_due, item_of_due}
-use Rattle.bt_meaning.specs.Serial.{alone, alone_on, next_step, then_steps, then_value, taken, begun_steps, taken_steps, serial_steps}
+use Rattle.bt_meaning.specs.Serial.{alone, next_step, then_steps, then_value, taken, begun_steps, taken_steps, serial_steps}
 use Rattle.bt_meaning.proofs.Eachs.{each_front, each_back}
 use Rattle.bt_meaning.proofs.ItemByItem.{is_passed, is_taken, takes_all}
 use Rattle.bt_meaning.proofs.Stepping.{takes_whole}
-use Rattle.replay_laws.specs.Agree.{Comes, AskSameOn}
+use Rattle.replay_laws.specs.Agree.{Comes}
 use Rattle.replay_laws.proofs.SameRuns.{HasKind}
-use Rattle.replay_laws.proofs.SamePrograms.{EndAlike, items_same, item_same}
+use Rattle.replay_laws.proofs.SamePrograms.{EndAlike}
 use Rattle.replay_laws.proofs.Carried.{with_plans, SamePrograms}
 
 module _ (holds : Reply → Type 0) (p : Replay) (one other : ℕ → Plan) where
