@@ -26,6 +26,13 @@ pub struct CodeBodies<'a> {
     ghost can_run: { AllByRecursion CanRunCode codes.now } by { codes_prop codes.now },
 }
 
+/// The length of the payload that a context names, of 32 bits.
+fn named_length(context: &Context) -> u32
+    ensures { result ≡ context.now.payload_len }
+{
+    context.payload_len
+}
+
 impl Bodies for CodeBodies<'_> {
     ghost use Rattle.code_bodies.specs.Running.{plan_of};
 
@@ -41,16 +48,19 @@ impl Bodies for CodeBodies<'_> {
     ) -> Result<u64, Memory> {
         match self.codes.get(body as usize) {
             None => Ok(0),
-            Some(code) => run_body(
-                alloc,
-                self.script,
-                code.as_slice(),
-                context,
-                payload,
-                self.actor,
-                self.actors,
-                port,
-            ),
+            Some(code) => {
+                let _length = named_length(context);
+                run_body(
+                    alloc,
+                    self.script,
+                    code.as_slice(),
+                    context,
+                    payload,
+                    self.actor,
+                    self.actors,
+                    port,
+                )
+            }
         }
     }
 }
