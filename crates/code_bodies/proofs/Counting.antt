@@ -1,5 +1,5 @@
 -- The count of a run that was performed.
-use Rattle.std.proofs.Common.{◌≡◌, ℕ, List, Result, Ok, Err, refl}
+use Rattle.std.proofs.Common.{List, Result, Ok, Err, refl}
 use Rattle.bt_core.specs.declared.step.Step.{Step}
 use Rattle.bt_core.specs.Interaction.{Interaction, Ended, and_then, Performed, Whole}
 use Rattle.bt_core.proofs.InteractionLaws.{Whole-and_then, Whole-Ended, Part-and_then}

@@ -37,8 +37,8 @@ impl<'a, 'b, P: Port> Port for ScriptPort<'a, 'b, P> {
     ghost steps = { λ s. P.steps s.port.now };
 
     ghost fixed = { λ s. record {
-        setting = with_maps s.script.now.maps (P.fixed s.port.now).setting;
-        home = ((P.fixed s.port.now).home, (P.fixed s.port.now).setting.maps, record { ref_ptr = (0, 0); ghost_name = s.port.ghost_name; now = tt });
+      setting = with_maps s.script.now.maps (P.fixed s.port.now).setting;
+      home = ((P.fixed s.port.now).home, (P.fixed s.port.now).setting.maps, record { ref_ptr = (0, 0); ghost_name = s.port.ghost_name; now = tt });
     } };
 
     fn step(&mut self, alloc: Global, object: ObjectId, op: Op) -> Result<(), Memory> {

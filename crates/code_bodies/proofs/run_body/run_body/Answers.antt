@@ -1,4 +1,4 @@
-use Rattle.std.proofs.Common.{◌≡◌, List, Result, sym, subst}
+use Rattle.std.proofs.Common.{sym, subst}
 use Rattle.bt_core.specs.Interaction.{Ended, Performed, and_then}
 use Rattle.bpf_interp.specs.Running.{RunPerformed}
 use Rattle.event_record.specs.Contexts.{context_bytes}
