@@ -4,7 +4,7 @@
   python3 tools/example_cases.py           writes crates/bt_cases/data/examples.jsonl and the recording beside it
   python3 tools/example_cases.py --check   changes nothing, and ends with status 1 where they are not those of examples/
 
-The third line of a script at the latest, after "// Run: ", is the command whose output stands beside the script.
+The first comment of a script has, behind "// Run: ", the command whose output stands beside the script.
 """
 import json
 import pathlib

@@ -1,4 +1,15 @@
 //! Makes BPF code of bodies in typed instructions.
 #![tactic(auto)]
 
-pub mod single;
+mod exits;
+mod fields;
+pub mod generate;
+mod instrs;
+mod laying;
+mod maps;
+mod moves;
+mod operators;
+mod output;
+mod single;
+mod variables;
+mod words;

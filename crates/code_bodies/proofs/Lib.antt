@@ -1,0 +1,4 @@
+mod Counting
+mod Few
+mod Means
+mod Seen

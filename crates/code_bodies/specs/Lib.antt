@@ -1,0 +1,5 @@
+pub mod CodeFacts
+pub mod Coding
+pub mod Kept
+pub mod Running
+pub mod Serving

@@ -1,0 +1,17 @@
+//! Tests of the code of bodies: their frames, their programs, and runs of these.
+#![tactic(auto)]
+
+#[cfg(test)]
+mod bodies;
+#[cfg(test)]
+mod frames;
+#[cfg(test)]
+mod port;
+#[cfg(test)]
+mod programs;
+#[cfg(test)]
+mod replies;
+#[cfg(test)]
+mod runs;
+#[cfg(test)]
+mod scripts;

@@ -1,0 +1,70 @@
+// Programs of worked bodies: how many slots they may need, and their fuel.
+use crate::frames::probe_of;
+use bpf_codegen::generate::{Program, generate_program};
+use bpf_frame::error::CodeError;
+use bt_core::memory::Memory;
+use std::alloc::Global;
+use std::test::Fail;
+
+/// The text of a body that prints a format so many times.
+fn printing(alloc: Global, times: usize) -> Result<Vec<u8>, Memory> {
+    let mut text = Vec::from_slice(alloc, b"BEGIN { ")?;
+    for _ in 0..times {
+        text.extend_from_slice(b"printf(\"a\"); ")?;
+    }
+    text.push(b'}')?;
+    Ok(text)
+}
+
+/// The program of a script's one body, or why it has none.
+fn program_of(alloc: Global, text: &[u8]) -> Result<Result<Program, CodeError>, Fail> {
+    let probe = probe_of(alloc, text)?;
+    Ok(generate_program(alloc, &probe))
+}
+
+fn fault_of(program: Result<Program, CodeError>) -> Option<CodeError> {
+    match program {
+        Ok(_) => None,
+        Err(fault) => Some(fault),
+    }
+}
+
+#[test]
+fn a_body_of_4112_slots_is_too_large(rt: HostRuntime) -> Result<(), Fail> {
+    let alloc = rt.alloc();
+    let text = printing(alloc, 255)?;
+    let fault = fault_of(program_of(alloc, text.as_slice())?);
+    assert_eq!(rt; fault, Some(CodeError::CodeTooLarge(4112)));
+    Ok(())
+}
+
+#[test]
+fn a_body_of_4096_slots_has_a_program(rt: HostRuntime) -> Result<(), Fail> {
+    let alloc = rt.alloc();
+    let text = printing(alloc, 254)?;
+    let program = program_of(alloc, text.as_slice())??;
+    let slots = program.bytes.len() / 8;
+    assert!(rt; 0 < slots && slots <= 4096);
+    assert_eq!(rt; program.bytes.len() % 8, 0);
+    assert_eq!(rt; program.fuel, 4098 * slots as u64);
+    Ok(())
+}
+
+#[test]
+fn a_large_frame_is_told_first(rt: HostRuntime) -> Result<(), Fail> {
+    let alloc = rt.alloc();
+    let fault = fault_of(program_of(alloc, crate::frames::EIGHT)?);
+    assert_eq!(rt; fault, Some(CodeError::FrameTooLarge(600)));
+    Ok(())
+}
+
+/// `exit()`: a call of the helper 9, and an exit. Behind it stands the body's end, to which nothing leads here.
+#[test]
+fn a_body_that_stops_calls_the_helper_and_ends(rt: HostRuntime) -> Result<(), Fail> {
+    let alloc = rt.alloc();
+    let program = program_of(alloc, b"BEGIN { exit(); }")??;
+    let wanted = b"\x85\0\0\0\x09\0\0\0\x95\0\0\0\0\0\0\0\x95\0\0\0\0\0\0\0";
+    assert_eq!(rt; program.bytes.as_slice(), &wanted[..]);
+    assert_eq!(rt; program.fuel, 3 * 4098);
+    Ok(())
+}

@@ -1,0 +1,5 @@
+pub mod Chains
+pub mod Worlds
+pub mod AtWork
+pub mod Starts
+pub mod Workers

@@ -1,0 +1,85 @@
+-- What a clause says of what all actors share, and of an actor's turns at it.
+use Rattle.std.specs.Prelude.{◌≡◌, ℕ, ◌+◌, ◌≤◌, List, All, length}
+use Rattle.bt_core.specs.declared.limits.TheConstants.{BODIES, TICKS}
+use Rattle.bt_core.specs.declared.map.MapDecl.{MapDecl}
+use Rattle.bt_core.specs.Ports.{Setting}
+use Rattle.rec_format.specs.Recordings.{IsValidRecording}
+use Rattle.actor_plan.specs.Agendas.{AreInTurn}
+use Rattle.actor_plan.specs.Plans.{Plan, AreServed, HasBodies, TakesFew}
+use Rattle.stamped.specs.declared.trace.Trace.{Trace}
+use Rattle.stamped.specs.SetSteps.{AreOwn}
+use Rattle.percpu_tables.specs.declared.tables.Tables.{Tables}
+use Rattle.percpu_tables.specs.Tables as tables
+use Rattle.shared_maps.specs.declared.maps.SharedMaps.{SharedMaps}
+use Rattle.shared_maps.specs.Maps as parts
+use Rattle.side_locks.specs.declared.sides.SideLocks.{SideLocks}
+use Rattle.side_locks.specs.Sides as sides
+use Rattle.side_locks.specs.Steps as side_steps
+use Rattle.side_locks.specs.Steps.{OwnBoth}
+use Rattle.cpu_worker.specs.declared.world.World.{World}
+use Rattle.cpu_worker.specs.declared.world.WorkerTurns.{WorkerTurns}
+
+-- how many CPUs there are, which is also the main actor's number
+abbrev pub cpus_in : World → ℕ
+cpus_in world = length world.recording.now.cpus
+
+-- the maps of the script
+abbrev pub maps_in : World → List MapDecl
+maps_in world = world.typed.now.maps
+
+-- for an actor: there are the CPUs and the main actor, the attached ticks, and the script's maps
+abbrev pub setting_in : World → ℕ → Setting
+setting_in world actor = record { actor = actor; actors = cpus_in world + 1; ticks = length world.attached.now.ticks; maps = maps_in world }
+
+-- the three sets of locks
+pub record Sets : Type 0 where
+  pub maps : SharedMaps
+  pub tables : Tables
+  pub sides : SideLocks
+
+abbrev pub sets_in : World → Sets
+sets_in world = record { maps = world.maps.now; tables = world.tables.now; sides = world.sides.now }
+
+-- the turns are this actor's
+pub record AreBy (actor : ℕ) (turns : WorkerTurns) : Type 0 where
+  pub maps : turns.maps.0 ≡ actor
+  pub tables : turns.tables.0 ≡ actor
+  pub sides : side_steps.AreBy actor turns.sides
+
+-- the turns are this actor's, at these sets
+pub record AreTurnsOf (sets : Sets) (actor : ℕ) (turns : WorkerTurns) : Type 0 where
+  pub maps : parts.IsOf sets.maps turns.maps
+  pub tables : tables.IsOf sets.tables turns.tables
+  pub sides : sides.IsOf sets.sides turns.sides
+  pub by : AreBy actor turns
+
+-- what of the trace is at each object of the sets is the turn's own list there
+pub record AreOwnIn (sets : Sets) (turns : WorkerTurns) (trace : Trace) : Type 0 where
+  pub maps : AreOwn (parts.ids_of sets.maps) turns.maps.1 trace
+  pub tables : AreOwn (tables.ids_of sets.tables) turns.tables.1 trace
+  pub sides : OwnBoth turns.sides trace
+
+-- at each set, what of the trace is at its objects is the turns' own lists there, if it was so before
+pub record KeepsOwn (sets : Sets) (old_turns : WorkerTurns) (old : Trace) (new_turns : WorkerTurns) (new : Trace) : Type 0 where
+  pub maps : AreOwn (parts.ids_of sets.maps) old_turns.maps.1 old → AreOwn (parts.ids_of sets.maps) new_turns.maps.1 new
+  pub tables : AreOwn (tables.ids_of sets.tables) old_turns.tables.1 old → AreOwn (tables.ids_of sets.tables) new_turns.tables.1 new
+  pub sides : OwnBoth old_turns.sides old → OwnBoth new_turns.sides new
+
+-- The recording is valid, the attached ticks stand in their order, and there are no more ticks, and nowhere more bodies, than a
+-- script may have.
+pub record CanReplay (world : World) : Type 0 where
+  pub valid : IsValidRecording world.recording.now
+  pub in_turn : AreInTurn world.attached.now.ticks
+  pub few_ticks : length world.attached.now.ticks ≤ TICKS
+  pub few_at_events : All (λ (which : List ℕ). length which ≤ BODIES) world.attached.now.by_format
+  pub few_begin : length world.attached.now.begin ≤ BODIES
+  pub few_end : length world.attached.now.end ≤ BODIES
+
+-- Bodies with this plan are made for this actor of the world: they tell as many actors and maps of the script, all that is
+-- attached is among them, and no run takes more instructions than the limit.
+pub record IsPlanIn (world : World) (actor : ℕ) (plan : Plan) : Type 0 where
+  pub actor_is : plan.actor ≡ actor
+  pub actors : plan.actors ≡ cpus_in world + 1
+  pub served : AreServed plan.maps (maps_in world)
+  pub bodies : HasBodies plan world.recording.now.formats world.attached.now
+  pub takes_few : TakesFew plan
