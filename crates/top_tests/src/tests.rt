@@ -83,7 +83,14 @@ fn an_increment_is_a_get_and_a_set(rt: HostRuntime) -> Result<(), Fail> {
     let mut shelf = MemShelf::new(alloc, files, Vec::new(alloc));
     let mut out = sink(alloc, 4096, &[])?;
     let mut err = sink(alloc, 4096, &[])?;
-    let report = answer(&rt, alloc, &["run", "--serial"], &mut shelf, &mut out, &mut err)?;
+    let report = answer(
+        &rt,
+        alloc,
+        &["run", "--serial"],
+        &mut shelf,
+        &mut out,
+        &mut err,
+    )?;
     assert!(rt; out.taken() == b"@x: 2\n\n".as_slice());
     let work = report.work.ok_or("no work")?;
     assert!(rt; work.steps.len() == 4);
