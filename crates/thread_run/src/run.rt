@@ -1,25 +1,59 @@
-// Stand-in.
+// Whole runs on threads.
 ghost use Rattle.std.specs.Prelude.{◌≡◌, IfOk};
 ghost use Rattle.bt_meaning.specs.Instructions.{instructions_of};
 ghost use Rattle.bt_meaning.specs.Interleavings.{IsReplayed};
 ghost use Rattle.bt_meaning.specs.Jobs.{IsJob};
 ghost use Rattle.bt_meaning.specs.Prints.{printed_text};
 ghost use Rattle.bt_meaning.specs.Replays.{cpus_of};
+ghost use Rattle.bt_meaning.specs.Texts.{EmitOwn};
 ghost use Rattle.bt_meaning.specs.Walks.{replay_of};
+ghost use Rattle.bt_run.specs.Jobs.{cpus_in, world_for};
+ghost use Rattle.bt_run.specs.Moments.{Moment};
+ghost use Rattle.thread_run.specs.Closed.{AreClosedAt};
 
+use crate::closed::Closed;
+use crate::ends::read_maps;
+use crate::made::make_steps;
+use bt_core::items::Items;
 use bt_core::memory::Memory;
+use bt_core::step::Step;
+use bt_meaning::text::text_of_run;
 use bt_run::job::{Job, Work};
+use bt_run::walks::Walks;
 use std::alloc::Global;
 use std::sync::Wait;
 use std::thread::Threads;
 use turn_lock::gate::Gate;
 
-/// Stand-in.
+/// The text of a run of a job that made these steps and left these objects.
+fn text_of(alloc: Global, job: &Job, closed: &Closed, steps: &[Step]) -> Result<Items<u8>, Memory>
+    ghost at: { Moment }
+    requires closed { AreClosedAt at closed.now }
+    requires world { at.world ≡ world_for job.now }
+    requires steps { at.steps ≡ steps.now }
+    requires own { EmitOwn job.now.typed steps.now }
+    ensures { IfOk result (λ text. text ≡ printed_text job.now.typed (cpus_in job.now) steps.now) }
+{
+    let script = &job.typed;
+    let (rows, lost) = read_maps(alloc, script.maps.as_slice(), closed)?;
+    text_of_run(alloc, script, steps, rows.as_slice(), lost.as_slice())
+}
+
+/// Runs a job with each CPU on a thread of its own, by walking the trees of its bodies: `BEGIN`, then all CPUs side by side, each with
+/// its agenda, and then `END`.
+///
+/// The steps are an interleaving of the script over the recording, in the order of their stamps (`replayed`): any one that the threads
+/// took. The text is what they print (`printed`), read of the objects once all locks are closed. The gate is told of each turn while it
+/// is held. Where no thread can be started, the caller runs a CPU itself.
+///
+/// # Errors
+///
+/// [`Memory`] is the one error, also where a stamp or a count would not fit.
 pub fn run_threads<G: Gate + Sync, R: Threads + Wait + Sync>(
     rt: &R,
-    _alloc: Global,
+    alloc: Global,
     job: &Job,
-    _gate: &G,
+    gate: &G,
 ) -> Result<Work, Memory>
     requires { IsJob job.now.typed job.now.attached job.now.recording }
     ensures replayed { let p = replay_of job.now.typed job.now.attached job.now.recording in IfOk result (λ work. IsReplayed p work.steps) }
@@ -28,5 +62,12 @@ pub fn run_threads<G: Gate + Sync, R: Threads + Wait + Sync>(
     ensures instructions { let p = replay_of job.now.typed job.now.attached job.now.recording in IfOk result (λ work.
         work.instructions ≡ instructions_of p work.steps) }
 {
-    Err(Memory)
+    let walks = Walks::of_all(alloc, job)?;
+    let (closed, steps, instructions) = make_steps(rt, alloc, job, walks, gate)?;
+    let text = text_of(alloc, job, &closed, steps.as_slice())?;
+    Ok(Work {
+        steps: Items::of(steps),
+        text,
+        instructions,
+    })
 }

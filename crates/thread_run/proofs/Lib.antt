@@ -1,0 +1,9 @@
+pub mod Turning
+pub mod Running
+pub mod Ending
+pub mod Counting
+pub mod Making
+pub mod Objects
+pub mod Reading
+pub mod EachMap
+pub mod Telling

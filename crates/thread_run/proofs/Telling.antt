@@ -1,0 +1,30 @@
+-- From what a run on threads makes to what it tells.
+use Rattle.std.proofs.Common.{◌≡◌, ℕ, ◌+◌, List, sym, subst}
+use Rattle.std.specs.List.{AllByRecursion}
+use Rattle.bt_core.specs.declared.step.Step.{Step}
+use Rattle.map_printer.specs.ItemTexts.{IsItemOf}
+use Rattle.map_printer.proofs.MergedFitting.{merged_fit}
+use Rattle.bt_walk.specs.Admits.{EmitsOnly}
+use Rattle.bt_meaning.specs.Jobs.{IsJob}
+use Rattle.bt_meaning.specs.OwnSteps.{IsOwnStep}
+use Rattle.bt_meaning.specs.Texts.{EmitOwn}
+use Rattle.bt_meaning.specs.Walks.{walking}
+use Rattle.bt_meaning.proofs.Eachs.{each_so}
+use Rattle.bt_meaning.proofs.OwnCalls.{script_steps}
+use Rattle.bt_run.specs.declared.job.Job.{Job}
+use Rattle.bt_run.specs.Jobs.{cpus_in, world_for}
+use Rattle.thread_run.specs.declared.closed.Closed.{Closed}
+use Rattle.thread_run.specs.Closed.{AreClosedAt}
+use Rattle.thread_run.specs.Made.{IsMade}
+
+module _ (job : Job) (is_job : IsJob job.typed job.attached job.recording) (closed : Closed) (steps : List Step) (n : ℕ)
+    (is : IsMade job (walking job.typed (cpus_in job + 1)) closed steps n) where
+  own_steps : AllByRecursion (IsOwnStep job.typed job.attached job.recording) steps
+  own_steps = script_steps job.typed job.attached job.recording is_job merged_fit steps is.replayed.interleaving
+
+  pub emit_own : EmitOwn job.typed steps
+  emit_own = each_so (IsOwnStep job.typed job.attached job.recording) (λ (s : Step). EmitsOnly (IsItemOf job.typed.formats job.typed.maps) s.op) (λ s own. own.0.1) steps own_steps
+
+  -- a copy of the steps
+  pub closed_then : (value : List Step) → value ≡ steps → AreClosedAt (record { world = world_for job; steps = value }) closed
+  closed_then value copied = subst (λ l. AreClosedAt (record { world = world_for job; steps = l }) closed) (sym copied) is.closed_at

@@ -1,0 +1,68 @@
+use Rattle.std.proofs.Common.{◌≡◌, ℕ, List, sym, subst}
+use Rattle.bt_core.specs.Kinds.{IsFineDecl}
+use Rattle.bt_core.specs.Ports.{IsTableOp}
+use Rattle.agg_core.specs.Answers.{table_answer}
+use Rattle.stamped.specs.Rows.{firsts}
+use Rattle.stamped.specs.SetEnds.{IsClosed, AreClosed}
+use Rattle.step_objects.specs.Clocks.{clock_kind, ClockStands}
+use Rattle.step_objects.specs.Objects.{shared_kind, SharedStands, cpu_kind, CpuStands}
+use Rattle.shared_maps.specs.Maps as parts_in
+use Rattle.percpu_tables.specs.Tables as tables_in
+use Rattle.side_locks.specs.Sides as sides_in
+use Rattle.side_locks.specs.Steps.{own_of_clock, reply_of_clock, own_of_out, reply_of_out}
+use Rattle.side_locks.specs.Turns.{Both, clocks, outs}
+use Rattle.bt_meaning.proofs.OwnCalls.{all_fine}
+use Rattle.std.proofs.lemmas.List.Elements.{All-from_recursion}
+use Rattle.thread_run.proofs.Making.{AreAllShut, all_maps, all_tables, all_sides, is_replayed, is_counted, is_possible, maps_are_stood, tables_are_stood}
+use Rattle.thread_run.proofs.Objects.{own_of_part, reply_of_part, out_kind, out_stands}
+use Rattle.thread_run.proofs.Turning.{from_rows}
+use Rattle.thread_run.proofs.made.make_steps.Goals as goal
+
+pub run_actors-requires-clause-turns : goal.run_actors-requires-clause-turns
+run_actors-requires-clause-turns g c κs within = let s = c.in_ok-sets.sets in let h = c.in_ok-sets.ensures.turns in
+    from_rows (record { maps = s.maps; tables = s.tables; sides = s.sides }) 0 c.in_ok-sets.turns.items h.maps.1 h.tables.1 h.sides.clock.1 h.sides.out.1
+
+pub close-requires : goal.close-requires
+close-requires g c = subst (parts_in.AreAll c.in_ok-sets.sets.maps) (sym c.in_ok-map_turns.ensures.maps)
+    (all_maps _ (g.B.ActorPlans.plans c.args.job.now) c.in_ok-all.all (c.in_ok-all.ensures (g.B.ActorPlans.plans c.args.job.now) c.requires.have))
+
+pub close-requires-2 : goal.close-requires-2
+close-requires-2 g c = subst (tables_in.AreAll c.in_ok-sets.sets.tables) (sym c.in_ok-map_turns.ensures.tables)
+    (all_tables _ (g.B.ActorPlans.plans c.args.job.now) c.in_ok-all.all (c.in_ok-all.ensures (g.B.ActorPlans.plans c.args.job.now) c.requires.have))
+
+pub close-requires-3 : goal.close-requires-3
+close-requires-3 g c = subst (sides_in.AreAll c.in_ok-sets.sets.sides) (sym c.in_ok-map_turns.ensures.sides)
+    (all_sides _ (g.B.ActorPlans.plans c.args.job.now) c.in_ok-all.all (c.in_ok-all.ensures (g.B.ActorPlans.plans c.args.job.now) c.requires.have))
+
+pub returns : goal.returns
+returns g c =
+    let s = c.in_ok-sets.sets in
+    let plans = g.B.ActorPlans.plans c.args.job.now in
+    let own : (actor : ℕ) → (plans actor).actor ≡ actor = λ actor. (c.requires.can.plans_are actor).actor_is in
+    let all = c.in_ok-all.all in
+    let done = c.in_ok-all.ensures plans c.requires.have in
+    let maps = c.in_ok-maps.maps.items in
+    let tables = c.in_ok-tables.tables.items in
+    let clock = c.in_ok-_sides._sides.0 in
+    let out = c.in_ok-_sides._sides.1 in
+    let steps = c.in_ok-steps.steps.items in
+    let moved = c.in_ok-steps.ensures.steps in
+    let order = c.in_ok-steps.ensures.order in
+    let shut : AreAllShut _ plans own all done maps tables clock out = record {
+      maps_shut = subst (λ rows. AreClosed shared_kind own_of_part reply_of_part SharedStands (parts_in.actors_of s.maps) (parts_in.kinds_of s.maps) rows maps) c.in_ok-map_turns.ensures.maps c.in_ok-maps.ensures;
+      tables_shut = subst (λ rows. AreClosed cpu_kind IsTableOp table_answer CpuStands (tables_in.actors_of s.tables) (tables_in.kinds_of s.tables) rows tables) c.in_ok-map_turns.ensures.tables c.in_ok-tables.ensures;
+      clock_shut = subst (λ (both : List Both). IsClosed clock_kind own_of_clock reply_of_clock ClockStands (sides_in.actors_of s.sides) (sides_in.kind_of s.sides) (firsts (clocks both)) clock.0 clock.1)
+          c.in_ok-map_turns.ensures.sides c.in_ok-_sides.ensures.clock;
+      out_shut = subst (λ (both : List Both). IsClosed out_kind own_of_out reply_of_out out_stands (sides_in.actors_of s.sides) tt (firsts (outs both)) out.0 out.1)
+          c.in_ok-map_turns.ensures.sides c.in_ok-_sides.ensures.out;
+    } in
+    record {
+      replayed = is_replayed _ plans own all done maps tables clock out shut steps moved order;
+      closed_at = record {
+        fine = All-from_recursion IsFineDecl c.args.job.now.typed.maps (all_fine c.args.job.now.typed.maps c.args.job.now.typed.fine);
+        possible = is_possible _ plans own all done maps tables clock out shut steps moved order;
+        maps = maps_are_stood _ plans own all done maps tables clock out shut steps moved order;
+        tables = tables_are_stood _ plans own all done maps tables clock out shut steps moved order;
+      };
+      counted = is_counted _ plans own all done maps tables clock out shut steps moved order;
+    }

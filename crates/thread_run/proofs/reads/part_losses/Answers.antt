@@ -1,0 +1,20 @@
+use Rattle.std.proofs.Common.{◌≡◌, ◌<◌, length, sym, ap, ◌∙◌, subst, arith, sum}
+use Rattle.bt_core.specs.declared.step.ObjectId.TheVariants.{Shared}
+use Rattle.bt_core.specs.Steps.{on_object, operations}
+use Rattle.step_objects.specs.declared.shared.PartKind.{PartKind}
+use Rattle.step_objects.specs.Objects.{shared_kind, SharedStands}
+use Rattle.run_ends.specs.Closed.{StandsAt}
+use Rattle.bt_run.specs.Moments.{part_lost, of_first}
+use Rattle.bt_run.proofs.ReadLemmas.{sum_more}
+use Rattle.thread_run.proofs.reads.part_losses.Goals as goal
+
+pub loop-part-preserved : goal.loop-part-preserved
+loop-part-preserved c = λ maps steps decl all. let i = c.loop-part.part-index in
+    let lt : c.loop-part.part-index < length c.args.parts.now = c.loop-part-test.true in
+    let of : PartKind = record { map = c.args.map; decl = decl } in
+    let own : StandsAt shared_kind SharedStands steps (Shared c.args.map i) of c.part-item.result.0 = subst (λ (z : _). StandsAt shared_kind SharedStands steps (Shared c.args.map i) of z.0) (sym c.part-item.is) (all i c.part-item.result lt) in
+    sum_more (part_lost maps steps c.args.map) i c.loop-part.lost _ c.lost.result (c.loop-part.invariant maps steps decl all) (c.lost.ensures (operations (on_object (Shared c.args.map i) steps)) own.stands) c.in_ok-lost.ensures
+
+pub returns : goal.returns
+returns c = λ maps steps decl all. let f = c.loop-part-test.false in let a = c.loop-part.auto.part-index-end in
+    c.loop-part.invariant maps steps decl all ∙ ap (λ n. sum (of_first (part_lost maps steps c.args.map) n)) (let e : c.loop-part.part-index ≡ length c.args.parts.now = omega arith in e)

@@ -1,0 +1,17 @@
+use Rattle.std.proofs.Common.{◌<◌, length, sym, ap, ◌∙◌, subst}
+use Rattle.bt_core.specs.declared.step.ObjectId.TheVariants.{Cpu}
+use Rattle.bt_core.specs.declared.step.Op.TheVariants.{Read}
+use Rattle.bt_core.specs.Steps.{on_object, operations}
+use Rattle.agg_core.specs.Answers.{table_answer}
+use Rattle.step_objects.specs.Objects.{cpu_kind, CpuStands}
+use Rattle.run_ends.specs.Closed.{StandsAt}
+use Rattle.bt_run.specs.Moments.{table_reply}
+use Rattle.bt_run.proofs.ReadLemmas.{read_more}
+use Rattle.thread_run.proofs.reads.table_replies.Goals as goal
+
+pub loop-table-preserved : goal.loop-table-preserved
+loop-table-preserved c = λ maps steps all. let i = c.loop-table.table-index in
+    let lt : c.loop-table.table-index < length c.args.tables.now = c.loop-table-test.true in
+    let own : StandsAt cpu_kind CpuStands steps (Cpu i) maps c.table-item.result.0 = subst (λ (z : _). StandsAt cpu_kind CpuStands steps (Cpu i) maps z.0) (sym c.table-item.is) (all i c.table-item.result lt) in
+    read_more (table_reply maps steps c.args.map) i c.loop-table.replies.items _ c.in_ok-reply.reply (c.loop-table.invariant maps steps all)
+    (c.in_ok-reply.ensures (operations (on_object (Cpu i) steps)) own.stands ∙ ap (λ ms. table_answer ms (operations (on_object (Cpu i) steps)) (Read c.args.map)) own.of_kind) c.in_ok-push.ensures.items

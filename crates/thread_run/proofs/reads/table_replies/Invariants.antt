@@ -1,0 +1,9 @@
+use Rattle.std.proofs.Common.{◌≡◌, List}
+use Rattle.bt_core.specs.declared.map.MapDecl.{MapDecl}
+use Rattle.bt_core.specs.declared.step.Step.{Step}
+use Rattle.bt_run.specs.Moments.{table_reply, of_first}
+use Rattle.thread_run.specs.Closed.{AreTablesOf}
+use Rattle.thread_run.proofs.reads.table_replies.Given as goal
+
+abbrev pub invariant-loop-table : goal.invariant-loop-table
+invariant-loop-table l = (maps : List MapDecl) (steps : List Step) → AreTablesOf steps maps l.tables → l.replies.items ≡ of_first (table_reply maps steps l.map) l.table-index

@@ -1,0 +1,5 @@
+use Rattle.bt_run.specs.Jobs.{world_for}
+use Rattle.thread_run.proofs.run.run_threads.Given as goal
+
+abbrev pub ghost-text_of : goal.ghost-text_of
+ghost-text_of g a = record { world = world_for a.job.now; steps = a.steps.now }

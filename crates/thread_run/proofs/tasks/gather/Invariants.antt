@@ -1,0 +1,12 @@
+use Rattle.std.proofs.Common.{◌≡◌, map, sum}
+use Rattle.turn_lock.specs.History.{Each}
+use Rattle.thread_run.specs.Tasks.{turns_in, trace_in, count_in, HasEndedWell}
+use Rattle.thread_run.proofs.tasks.gather.Given as goal
+
+abbrev pub invariant-loop-task : goal.invariant-loop-task
+invariant-loop-task g l = record {
+  turns : l.turns.items ≡ map turns_in l.yielded;
+  traces : l.traces.items ≡ map trace_in l.yielded;
+  instructions : l.instructions ≡ sum (map count_in l.yielded);
+  well : Each HasEndedWell l.yielded;
+}

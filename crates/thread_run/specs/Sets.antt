@@ -1,0 +1,24 @@
+-- The sets of locks of a run. No public contract speaks of it.
+use Rattle.std.specs.Prelude.{◌≡◌, ◌+◌, List, length, map}
+use Rattle.percpu_tables.specs.Tables as tables_in
+use Rattle.shared_maps.specs.Maps as parts_in
+use Rattle.side_locks.specs.Sides as sides_in
+use Rattle.bt_run.specs.declared.job.Job.{Job}
+use Rattle.bt_run.specs.Jobs.{cpus_in}
+use Rattle.cpu_worker.specs.declared.world.WorkerTurns.{WorkerTurns}
+use Rattle.thread_run.specs.declared.sets.Sets.{Sets}
+use Rattle.thread_run.specs.Turns.{at_maps, at_tables, at_sides}
+
+-- the sets are those of the job's maps and ticks, for its CPUs and the main actor
+pub record AreFor (job : Job) (sets : Sets) : Type 0 where
+  pub maps : parts_in.maps_of sets.maps ≡ job.typed.maps
+  pub maps_actors : parts_in.actors_of sets.maps ≡ cpus_in job + 1
+  pub tables : tables_in.maps_of sets.tables ≡ job.typed.maps
+  pub tables_actors : tables_in.actors_of sets.tables ≡ cpus_in job + 1
+  pub sides : sides_in.kind_of sets.sides ≡ record { cpus = cpus_in job; ticks = length job.attached.ticks }
+
+-- these are the turns of all actors at all sets
+pub record AreAllTurns (sets : Sets) (turns : List WorkerTurns) : Type 0 where
+  pub maps : parts_in.AreAll sets.maps (map at_maps turns)
+  pub tables : tables_in.AreAll sets.tables (map at_tables turns)
+  pub sides : sides_in.AreAll sets.sides (map at_sides turns)

@@ -1,0 +1,91 @@
+// All actors: the main actor before, the CPUs side by side, and the main actor after.
+ghost use Rattle.std.specs.Prelude.{◌≡◌, ℕ, ◌+◌, ◌<◌, length, IfOk};
+ghost use Rattle.turn_lock.specs.History.{Each};
+ghost use Rattle.actor_plan.specs.Plans.{Plan};
+ghost use Rattle.bt_run.specs.Jobs.{HavePlans};
+ghost use Rattle.cpu_worker.specs.Worlds.{cpus_in, sets_in, CanReplay};
+ghost use Rattle.thread_run.specs.Acts.{ArePlansIn, replay_in, HaveGone, AreDone};
+ghost use Rattle.thread_run.specs.Turns.{AreTurnsFrom, AreUnused};
+
+use crate::main_actor::{MainActor, begin, end};
+use crate::side_by_side::run_all;
+use crate::tasks::{Gathered, gather, latest_clock, new_tasks};
+use actor_plan::bodies::Bodies;
+use bt_core::memory::Memory;
+use bt_run::numbers::sum;
+use cpu_worker::world::{WorkerTurns, World};
+use stamped::trace::Trace;
+use std::alloc::Global;
+use std::sync::Wait;
+use std::thread::Threads;
+use turn_lock::gate::Gate;
+
+/// Runs all CPUs side by side, from this clock on.
+fn run_cpus<B: Bodies + Drop + Send, G: Gate + Sync, R: Threads + Wait + Sync>(
+    rt: &R,
+    alloc: Global,
+    world: &World,
+    gate: &G,
+    bodies: Vec<B>,
+    turns: Vec<WorkerTurns>,
+    clock: u64,
+) -> Result<Gathered, Memory>
+    requires replay { CanReplay world.now }
+    requires some { 0 < cpus_in world.now }
+    requires cpus { length bodies.items ≡ cpus_in world.now }
+    requires plans { ArePlansIn B.plan world.now bodies.items }
+    requires many { length turns.items ≡ cpus_in world.now }
+    requires turns { AreTurnsFrom (sets_in world.now) 0 turns.items }
+    requires unused { Each AreUnused turns.items }
+    ensures { IfOk result (λ all. (plans : ℕ → Plan) → HavePlans B.plan (cpus_in world.now) plans bodies.items →
+        HaveGone (replay_in world.now plans) world.now clock all) }
+{
+    let mut tasks = new_tasks(alloc, bodies, turns, clock, gate)?;
+    run_all(rt, alloc, world, &mut tasks);
+    gather(alloc, tasks)
+}
+
+/// Runs `BEGIN`, then all CPUs, each on a thread of its own, and then `END`.
+pub(crate) fn run_actors<B: Bodies + Drop + Send, G: Gate + Sync, R: Threads + Wait + Sync>(
+    rt: &R,
+    alloc: Global,
+    world: &World,
+    gate: &G,
+    mut bodies: Vec<B>,
+    mut turns: Vec<WorkerTurns>,
+) -> Result<Gathered, Memory>
+    requires replay { CanReplay world.now }
+    requires some { 0 < cpus_in world.now }
+    requires actors { length bodies.items ≡ cpus_in world.now + 1 }
+    requires plans { ArePlansIn B.plan world.now bodies.items }
+    requires many { length turns.items ≡ cpus_in world.now + 1 }
+    requires turns { AreTurnsFrom (sets_in world.now) 0 turns.items }
+    requires unused { Each AreUnused turns.items }
+    ensures { IfOk result (λ all. (plans : ℕ → Plan) → HavePlans B.plan (cpus_in world.now + 1) plans bodies.items →
+        AreDone (replay_in world.now plans) world.now all) }
+{
+    let cpus = world.recording.cpus.len();
+    let own = bodies.remove(cpus);
+    let own_turns = turns.remove(cpus);
+    let trace = Trace::new(alloc, cpus as u32);
+    let main = MainActor {
+        bodies: own,
+        turns: own_turns,
+        trace,
+    };
+    let (mut main, begun) = begin(rt, alloc, world, gate, main)?;
+    let clock = main.trace.clock();
+    let mut all = run_cpus(rt, alloc, world, gate, bodies, turns, clock)?;
+    main.trace.raise(latest_clock(all.traces.as_slice()));
+    let (main, finished) = end(rt, alloc, world, gate, main)?;
+    let MainActor {
+        bodies,
+        turns,
+        trace,
+    } = main;
+    drop(bodies);
+    all.instructions = sum(sum(begun, all.instructions)?, finished)?;
+    all.turns.push(turns)?;
+    all.traces.push(trace)?;
+    Ok(all)
+}

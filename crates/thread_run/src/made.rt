@@ -1,0 +1,66 @@
+// The run on threads, up to its list of steps.
+ghost use Rattle.std.specs.Prelude.{◌+◌, IfOk};
+ghost use Rattle.bt_run.specs.Jobs.{cpus_in, CanRunAll, HavePlans};
+ghost use Rattle.thread_run.specs.Made.{IsMade};
+
+use crate::actors::run_actors;
+use crate::closed::Closed;
+use crate::sets::{Sets, new_sets};
+use crate::tasks::Gathered;
+use crate::turns::parted;
+use actor_plan::bodies::Bodies;
+use bt_core::memory::Memory;
+use bt_core::step::Step;
+use bt_run::job::Job;
+use bt_run::plans::ActorPlans;
+use cpu_worker::world::World;
+use std::alloc::Global;
+use std::sync::Wait;
+use std::thread::Threads;
+use turn_lock::gate::Gate;
+use weave::weave::weave;
+
+/// Runs a job, each CPU on a thread of its own, with these bodies of its CPUs and of the main actor. Gives the closed objects, the
+/// woven steps, and how many instructions were executed.
+pub(crate) fn make_steps<
+    B: Bodies + ActorPlans + Drop + Send,
+    G: Gate + Sync,
+    R: Threads + Wait + Sync,
+>(
+    rt: &R,
+    alloc: Global,
+    job: &Job,
+    bodies: Vec<B>,
+    gate: &G,
+) -> Result<(Closed, Vec<Step>, u64), Memory>
+    requires can { CanRunAll job.now (B.plans job.now) }
+    requires have { HavePlans B.plan (cpus_in job.now + 1) (B.plans job.now) bodies.items }
+    ensures { IfOk result (λ made. IsMade job.now (B.plans job.now) made.0 made.1.items made.2) }
+{
+    let (sets, turns) = new_sets(alloc, job)?;
+    let world = World {
+        recording: &job.recording,
+        attached: &job.attached,
+        typed: &job.typed,
+        maps: &sets.maps,
+        tables: &sets.tables,
+        sides: &sets.sides,
+    };
+    let all = run_actors(rt, alloc, &world, gate, bodies, turns)?;
+    let Gathered {
+        turns,
+        traces,
+        instructions,
+    } = all;
+    let (map_turns, table_turns, side_turns) = parted(alloc, turns)?;
+    let Sets {
+        maps,
+        tables,
+        sides,
+    } = sets;
+    let maps = maps.close(alloc, map_turns)?;
+    let tables = tables.close(alloc, table_turns)?;
+    let _sides = sides.close(alloc, side_turns)?;
+    let steps = weave(alloc, traces)?;
+    Ok((Closed { maps, tables }, steps, instructions))
+}

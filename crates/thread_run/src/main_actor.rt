@@ -1,0 +1,96 @@
+// The main actor, which runs BEGIN before all CPUs and END after them.
+ghost use Rattle.std.specs.Prelude.{◌≡◌, IfOk};
+ghost use Rattle.actor_plan.specs.Programs.{begin_program, end_program};
+ghost use Rattle.cpu_worker.specs.Worlds.{sets_in, CanReplay, AreTurnsOf, IsPlanIn};
+ghost use Rattle.stamped.specs.Traces.{actor_of};
+ghost use Rattle.thread_run.specs.Acts.{HasDone};
+
+use actor_plan::bodies::Bodies;
+use actor_plan::program::{run_begin, run_end};
+use bt_core::memory::Memory;
+use cpu_worker::world::{WorkerTurns, World};
+use cpu_worker::world_port::WorldPort;
+use stamped::trace::Trace;
+use std::alloc::Global;
+use std::sync::Wait;
+use turn_lock::gate::Gate;
+
+/// The main actor, with its bodies, its turns and its trace.
+#[derive(Drop)]
+pub(crate) struct MainActor<B> {
+    pub(crate) bodies: B,
+    pub(crate) turns: WorkerTurns,
+    pub(crate) trace: Trace,
+}
+
+/// Runs the bodies of `BEGIN`, and tells how many instructions they took.
+pub(crate) fn begin<B: Bodies + Drop, G: Gate, R: Wait>(
+    rt: &R,
+    alloc: Global,
+    world: &World,
+    gate: &G,
+    main: MainActor<B>,
+) -> Result<(MainActor<B>, u64), Memory>
+    requires replay { CanReplay world.now }
+    requires turns { AreTurnsOf (sets_in world.now) (actor_of main.trace) main.turns }
+    requires plan { IsPlanIn world.now (actor_of main.trace) (B.plan main.bodies) }
+    ensures { IfOk result (λ r. HasDone B.plan world.now
+        (begin_program (B.plan main.bodies) world.now.recording.now world.now.attached.now) main r.0 r.1) }
+{
+    let MainActor {
+        mut bodies,
+        turns,
+        trace,
+    } = main;
+    let mut port = WorldPort::new(rt, world, turns, trace, gate);
+    let count = run_begin(
+        alloc,
+        &mut bodies,
+        world.recording,
+        world.attached,
+        &mut port,
+    );
+    let (turns, trace) = port.into_parts();
+    let main = MainActor {
+        bodies,
+        turns,
+        trace,
+    };
+    Ok((main, count?))
+}
+
+/// Runs the bodies of `END`, and tells how many instructions they took.
+pub(crate) fn end<B: Bodies + Drop, G: Gate, R: Wait>(
+    rt: &R,
+    alloc: Global,
+    world: &World,
+    gate: &G,
+    main: MainActor<B>,
+) -> Result<(MainActor<B>, u64), Memory>
+    requires replay { CanReplay world.now }
+    requires turns { AreTurnsOf (sets_in world.now) (actor_of main.trace) main.turns }
+    requires plan { IsPlanIn world.now (actor_of main.trace) (B.plan main.bodies) }
+    ensures { IfOk result (λ r. HasDone B.plan world.now
+        (end_program (B.plan main.bodies) world.now.recording.now world.now.attached.now) main r.0 r.1) }
+{
+    let MainActor {
+        mut bodies,
+        turns,
+        trace,
+    } = main;
+    let mut port = WorldPort::new(rt, world, turns, trace, gate);
+    let count = run_end(
+        alloc,
+        &mut bodies,
+        world.recording,
+        world.attached,
+        &mut port,
+    );
+    let (turns, trace) = port.into_parts();
+    let main = MainActor {
+        bodies,
+        turns,
+        trace,
+    };
+    Ok((main, count?))
+}

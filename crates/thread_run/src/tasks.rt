@@ -1,0 +1,104 @@
+// The CPUs of a run, each with a worker.
+ghost use Rattle.std.specs.Prelude.{◌≡◌, Some, Ok, map, sum as total, length, IfOk};
+ghost use Rattle.turn_lock.specs.History.{Each};
+ghost use Rattle.run_ends.specs.Ends.{latest};
+ghost use Rattle.thread_run.specs.Tasks.{bodies_in, turns_in, trace_in, count_in, HasEndedWell, IsFresh};
+ghost use Rattle.thread_run.specs.Turns.{AreOneActors};
+
+use crate::side_by_side::Task;
+use actor_plan::bodies::Bodies;
+use actor_plan::outcome::Outcome;
+use bt_core::memory::Memory;
+use bt_run::numbers::sum;
+use cpu_worker::worker::CpuWorker;
+use cpu_worker::world::WorkerTurns;
+use stamped::trace::Trace;
+use std::alloc::Global;
+use turn_lock::gate::Gate;
+
+/// What actors leave: their turns and their traces, in the order of the actors, and how many instructions they took.
+#[derive(Drop)]
+pub(crate) struct Gathered {
+    pub(crate) turns: Vec<WorkerTurns>,
+    pub(crate) traces: Vec<Trace>,
+    pub(crate) instructions: u64,
+}
+
+/// Workers of the CPUs with these bodies and turns, in their order. Their traces are empty and have this clock.
+pub(crate) fn new_tasks<'g, B: Bodies + Drop, G: Gate>(
+    alloc: Global,
+    mut bodies: Vec<B>,
+    mut turns: Vec<WorkerTurns>,
+    clock: u64,
+    gate: &'g G,
+) -> Result<Vec<Task<'g, B, G>>, Memory>
+    requires many { length turns.items ≡ length bodies.items }
+    requires by { Each AreOneActors turns.items }
+    ensures bodies { IfOk result (λ tasks. map bodies_in tasks.items ≡ bodies.items) }
+    ensures turns { IfOk result (λ tasks. map turns_in tasks.items ≡ turns.items) }
+    ensures fresh { IfOk result (λ tasks. Each (IsFresh clock) tasks.items) }
+{
+    let mut tasks = Vec::with_capacity(alloc, bodies.len())?;
+    'each_cpu: while !bodies.is_empty() {
+        let own = bodies.remove(0);
+        let own_turns = turns.remove(0);
+        let cpu = own_turns.tables.actor();
+        let mut trace = Trace::new(alloc, cpu);
+        trace.raise(clock);
+        let worker = CpuWorker::new(cpu, own, gate, own_turns, trace);
+        tasks.push(Task {
+            worker,
+            ended: None,
+        })?;
+    }
+    Ok(tasks)
+}
+
+/// How a worker's run ended, or [`Memory`] where it was not run.
+fn outcome_of(ended: Option<Result<Outcome, Memory>>) -> Result<Outcome, Memory>
+    ensures { IfOk result (λ outcome. ended ≡ Some (Ok outcome)) }
+{
+    match ended {
+        Some(outcome) => outcome,
+        None => Err(Memory),
+    }
+}
+
+/// What the workers leave, or [`Memory`] where one of them ended so.
+pub(crate) fn gather<B: Bodies + Drop, G: Gate>(
+    alloc: Global,
+    tasks: Vec<Task<B, G>>,
+) -> Result<Gathered, Memory>
+    ensures turns { IfOk result (λ all. all.turns.items ≡ map turns_in tasks.entry.items) }
+    ensures traces { IfOk result (λ all. all.traces.items ≡ map trace_in tasks.entry.items) }
+    ensures instructions { IfOk result (λ all. all.instructions ≡ total (map count_in tasks.entry.items)) }
+    ensures well { IfOk result (λ _. Each HasEndedWell tasks.entry.items) }
+{
+    let mut turns = Vec::with_capacity(alloc, tasks.len())?;
+    let mut traces = Vec::with_capacity(alloc, tasks.len())?;
+    let mut instructions = 0;
+    for task in tasks {
+        let Task { worker, ended } = task;
+        let (own_turns, trace) = worker.finish();
+        let outcome = outcome_of(ended)?;
+        instructions = sum(instructions, outcome.instructions)?;
+        turns.push(own_turns)?;
+        traces.push(trace)?;
+    }
+    Ok(Gathered {
+        turns,
+        traces,
+        instructions,
+    })
+}
+
+/// The latest clock of these traces, or 0.
+pub(crate) fn latest_clock(traces: &[Trace]) -> u64
+    ensures { result ≡ latest traces.now }
+{
+    let mut most = 0;
+    for trace in traces {
+        most = trace.clock().max(most);
+    }
+    most
+}

@@ -1,0 +1,59 @@
+// The turns of all actors at the three sets of locks.
+ghost use Rattle.std.specs.Prelude.{◌≡◌, map, length, IfOk};
+ghost use Rattle.thread_run.specs.Turns.{at_maps, at_tables, at_sides};
+
+use bt_core::memory::Memory;
+use cpu_worker::world::WorkerTurns;
+use percpu_tables::turns::Turns as TableTurns;
+use shared_maps::turns::Turns as MapTurns;
+use side_locks::turns::Turns as SideTurns;
+use std::alloc::Global;
+
+/// The turns of each actor at all sets, where these are its turns at each of them.
+pub(crate) fn joined(
+    alloc: Global,
+    mut maps: Vec<MapTurns>,
+    mut tables: Vec<TableTurns>,
+    mut sides: Vec<SideTurns>,
+) -> Result<Vec<WorkerTurns>, Memory>
+    requires tables { length tables.items ≡ length maps.items }
+    requires sides { length sides.items ≡ length maps.items }
+    ensures maps { IfOk result (λ all. map at_maps all.items ≡ maps.items) }
+    ensures tables { IfOk result (λ all. map at_tables all.items ≡ tables.items) }
+    ensures sides { IfOk result (λ all. map at_sides all.items ≡ sides.items) }
+{
+    let mut all = Vec::with_capacity(alloc, maps.len())?;
+    'each_actor: while !maps.is_empty() {
+        all.push(WorkerTurns {
+            maps: maps.remove(0),
+            tables: tables.remove(0),
+            sides: sides.remove(0),
+        })?;
+    }
+    Ok(all)
+}
+
+/// The turns of each actor, once for each set.
+pub(crate) fn parted(
+    alloc: Global,
+    all: Vec<WorkerTurns>,
+) -> Result<(Vec<MapTurns>, Vec<TableTurns>, Vec<SideTurns>), Memory>
+    ensures maps { IfOk result (λ r. r.0.items ≡ map at_maps all.items) }
+    ensures tables { IfOk result (λ r. r.1.items ≡ map at_tables all.items) }
+    ensures sides { IfOk result (λ r. r.2.items ≡ map at_sides all.items) }
+{
+    let mut at_maps = Vec::with_capacity(alloc, all.len())?;
+    let mut at_tables = Vec::with_capacity(alloc, all.len())?;
+    let mut at_sides = Vec::with_capacity(alloc, all.len())?;
+    for turns in all {
+        let WorkerTurns {
+            maps,
+            tables,
+            sides,
+        } = turns;
+        at_maps.push(maps)?;
+        at_tables.push(tables)?;
+        at_sides.push(sides)?;
+    }
+    Ok((at_maps, at_tables, at_sides))
+}
