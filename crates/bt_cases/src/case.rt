@@ -6,7 +6,8 @@ use std::alloc::Global;
 use std::fs;
 use std::rt::Files;
 
-/// The words of a command line, the bytes of the files `s.bt` and `r.bin`, what may come, and how often it is tried.
+/// The words of a command line, the bytes of the files `s.bt` and `r.bin`, what may come, how often it is tried, and whether the same
+/// comes on threads, without the word `--serial`.
 #[derive(Drop)]
 pub(crate) struct Case {
     pub words: Vec<String>,
@@ -14,6 +15,7 @@ pub(crate) struct Case {
     pub recording: Vec<u8>,
     pub wanted: Vec<Outcome>,
     pub times: u64,
+    pub on_threads: bool,
 }
 
 /// The text of a member of an object.
@@ -86,7 +88,7 @@ fn recording_of<R: Files + AllocGlobal>(rt: &R, value: &Value) -> Result<Vec<u8>
 
 impl Case {
     /// The case of a line: an object whose recording may stand in a file and whose other bytes are texts. It may have several
-    /// `outs` in place of its `out`, and `times`, the number of tries, which is else 1.
+    /// `outs` in place of its `out`, `times`, the number of tries, which is else 1, and `threads`, where no schedule changes the answer.
     pub fn of<R: Files + AllocGlobal>(rt: &R, line: &str) -> Result<Case> {
         let alloc = rt.alloc();
         let value = Value::from_str(alloc, line)?;
@@ -96,6 +98,7 @@ impl Case {
             recording: recording_of(rt, &value)?,
             wanted: wanted_of(alloc, &value)?,
             times: value.get("times").and_then(Value::as_u64).unwrap_or(1),
+            on_threads: value.get("threads").is_some(),
         })
     }
 }

@@ -45,16 +45,16 @@ fn files_of(alloc: Global, case: &Case) -> Result<Vec<(String, Vec<u8>)>, Memory
     Ok(files)
 }
 
-/// What the top call answers and writes to a case, over a shelf and sinks that never fail.
+/// What the top call answers and writes to words over the files of a case, on a shelf and sinks that never fail.
 fn outcome_of<R: Threads + Wait + Sync>(
     rt: &R,
     alloc: Global,
     case: &Case,
+    words: &[String],
 ) -> Result<Outcome, Memory> {
     let mut shelf = MemShelf::new(alloc, files_of(alloc, case)?, Vec::new(alloc));
     let mut out = MemSink::new(alloc, ROOM, ROOM, Vec::new(alloc))?;
     let mut err = MemSink::new(alloc, ROOM, ROOM, Vec::new(alloc))?;
-    let words = case.words.as_slice();
     let report = serve(rt, alloc, words, &mut shelf, &mut out, &mut err, &Open);
     Ok(Outcome {
         status: u64::from(report.status),
@@ -63,17 +63,45 @@ fn outcome_of<R: Threads + Wait + Sync>(
     })
 }
 
-/// The first outcome of the tries of a case that may not come.
-pub(crate) fn differing<R: Threads + Wait + Sync>(
+/// The words but `--serial`.
+fn words_on_threads(alloc: Global, words: &[String]) -> Result<Vec<String>, Memory> {
+    let mut others = Vec::new(alloc);
+    for word in words {
+        if word.as_str() != "--serial" {
+            others.push(String::from_str(alloc, word.as_str())?)?;
+        }
+    }
+    Ok(others)
+}
+
+/// The first outcome of so many tries of words that may not come.
+fn differing_by<R: Threads + Wait + Sync>(
     rt: &R,
     alloc: Global,
     case: &Case,
+    words: &[String],
+    times: u64,
 ) -> Result<Option<Outcome>, Memory> {
-    for _ in 0..case.times {
-        let came = outcome_of(rt, alloc, case)?;
+    for _ in 0..times {
+        let came = outcome_of(rt, alloc, case, words)?;
         if !case.wanted.as_slice().contains(&came) {
             return Ok(Some(came));
         }
     }
     Ok(None)
+}
+
+/// The first outcome of the tries of a case that may not come, and else that of a try on threads.
+pub(crate) fn differing<R: Threads + Wait + Sync>(
+    rt: &R,
+    alloc: Global,
+    case: &Case,
+) -> Result<Option<Outcome>, Memory> {
+    let words = case.words.as_slice();
+    let differs = differing_by(rt, alloc, case, words, case.times)?;
+    if differs.is_some() || !case.on_threads {
+        return Ok(differs);
+    }
+    let words = words_on_threads(alloc, words)?;
+    differing_by(rt, alloc, case, words.as_slice(), 1)
 }

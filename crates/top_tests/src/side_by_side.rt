@@ -131,16 +131,21 @@ fn cpus_run_side_by_side(rt: HostRuntime) -> Result<(), Fail> {
 fn every_schedule_has_as_many_steps(rt: HostRuntime) -> Result<(), Fail> {
     let rows = [
         // For each event an add, three reads and what is emitted.
-        (b"tracepoint:t:e { @ = count(); print(@); }".as_slice(), 10),
-        // Two adds, and for each of two ticks two crossings, three reads and what is emitted.
+        (
+            b"tracepoint:t:e { @ = count(); print(@); }".as_slice(),
+            1,
+            10,
+        ),
+        // Four adds, and for each of two ticks two crossings, three reads and what is emitted.
         (
             b"tracepoint:t:e { @ = count(); } interval:s:1 { print(@); }".as_slice(),
-            14,
+            2,
+            16,
         ),
     ];
-    for (script, wanted) in rows {
+    for (script, events, wanted) in rows {
         for _ in 0..50 {
-            let (report, _out) = run_on_threads(&rt, rt.alloc(), script, 1, &Open)?;
+            let (report, _out) = run_on_threads(&rt, rt.alloc(), script, events, &Open)?;
             let work = report.work.ok_or("no work")?;
             assert_eq!(rt; work.steps.len(), wanted);
         }
