@@ -116,3 +116,11 @@ closed_more maps formats [] [] b t h c = (c, tt)
 closed_more maps formats [] (x ∷ xs) b t h c = absurd h
 closed_more maps formats (y ∷ ys) [] b t h c = absurd h
 closed_more maps formats (y ∷ ys) (x ∷ xs) b t h c = (h.0, closed_more maps formats ys xs b t h.1 c)
+
+-- the trees are those of the checked bodies
+pub trees_same : (maps : List MapDecl) (formats : List (List Piece)) (bodies : List OpenBody) (typed : List TypedBody) → AllZip (IsClosed maps formats) bodies typed
+    → map (λ (b : TypedBody). b.tree) typed ≡ map (λ (b : OpenBody). b.tree) bodies
+trees_same maps formats [] [] h = refl
+trees_same maps formats [] (t ∷ ts) h = absurd h
+trees_same maps formats (b ∷ bs) [] h = absurd h
+trees_same maps formats (b ∷ bs) (t ∷ ts) h = let first = h.0.tree in let rest = trees_same maps formats bs ts h.1 in λ i. first i ∷ rest i

@@ -9,6 +9,7 @@ use Rattle.bt_ast.specs.declared.probe.Probe.{Probe}
 use Rattle.bt_ast.specs.declared.probe.Script.{Script}
 use Rattle.tracefs_format.specs.declared.format.Format.{Format}
 use Rattle.tracefs_format.specs.declared.layout.Layout.{Layout}
+use Rattle.typed_tree.specs.declared.body.TypedTree.{TypedTree}
 use Rattle.bt_types.specs.declared.body.OpenBody.{OpenBody}
 use Rattle.expr_types.specs.declared.fault.Fault.{Fault}
 use Rattle.expr_types.specs.declared.fault.TypeError.{TypeError}
@@ -17,9 +18,10 @@ use Rattle.bt_types.specs.Bodies.{begun_told, body_told, layout_at, script_told,
 use Rattle.expr_types.specs.Grows.{Grows}
 use Rattle.expr_types.specs.Judge.{judged, SaysFault}
 use Rattle.expr_types.specs.Known.{begun}
-use Rattle.expr_types.specs.Mentions.{Point}
+use Rattle.expr_types.specs.Mentions.{Point, Word}
 use Rattle.bt_types.specs.Open.{BodyDone, OneDone, IsOpen, BodiesDone, again}
 use Rattle.bt_types.specs.Told.{Told, in_turn}
+use Rattle.bt_types.specs.Under.{IsUnder, AreUnder, known_or, known_behind}
 use Rattle.expr_types.proofs.Growing.{grows_none, grows_on}
 use Rattle.expr_types.proofs.Judging.{judged_ok, judged_err}
 use Rattle.bt_types.proofs.Runs.{map_more, map_both, points_both}
@@ -96,7 +98,41 @@ one_done script formats id probe k0 k1 (Ok body) p h = record { probe = probe; o
 one_done script formats id probe k0 k1 (Err e) p h = subst (λ (t : Told). SaysFault (judged t.points k0) e) (sym (told_is script formats id probe p)) h
 
 pub bodies_begin : (script : Script) (formats : List Format) (k : Known) → BodiesDone script formats [] k k []
-bodies_begin script formats k = record { whole = refl; each = tt }
+bodies_begin script formats k = record { whole = refl; each = tt; under = tt }
+
+-- what is judged behind the first of two lists
+rest_judged : (ps qs : List Point) (before now : Known) → judged (ps ++ qs) before ≡ Ok now → judged qs (known_or before (judged ps before)) ≡ Ok now
+rest_judged ps qs before now j = by (judged ps before) refl
+  where
+    by : (r : Result Known Fault) → judged ps before ≡ r → judged qs (known_or before r) ≡ Ok now
+    by (Ok mid) e = sym (judged_ok ps qs before mid e) ∙ j
+    by (Err f) e = absurd (let bad : Err f ≡ Ok now = sym (judged_err ps qs before f e) ∙ j in cc)
+
+ok_same : (a b : Known) → ◌≡◌ {A = Result Known Fault} (Ok a) (Ok b) → a ≡ b
+ok_same a b e = cc
+
+-- one more tree
+under_more : (script : Script) (formats : List Format) (ids : List BodyId) (trees : List TypedTree) (before now : Known) (id : BodyId) (tree : TypedTree)
+    → AreUnder script formats before ids trees → judged (in_turn (map (told_at script formats) ids)).points before ≡ Ok now
+    → IsUnder (known_behind script formats now id) (told_at script formats id).words tree → AreUnder script formats before (ids ++ id ∷ []) (trees ++ tree ∷ [])
+under_more script formats [] [] before now id tree h j u =
+    (subst (λ (k : Known). IsUnder (known_behind script formats k id) (told_at script formats id).words tree) (sym (ok_same before now j)) u, tt)
+under_more script formats [] (t ∷ ts) before now id tree h j u = absurd h
+under_more script formats (i ∷ is) [] before now id tree h j u = absurd h
+under_more script formats (i ∷ is) (t ∷ ts) before now id tree h j u =
+    let rest = rest_judged (told_at script formats i).points (in_turn (map (told_at script formats) is)).points before now j in
+    (h.0, under_more script formats is ts (known_behind script formats before i) now id tree h.1 rest u)
+
+-- a body that was just checked is typed under what is known now
+just_under : (script : Script) (formats : List Format) (id : BodyId) (k0 k1 : Known) (body : OpenBody) → OneDone script formats id k0 k1 body
+    → IsUnder (known_behind script formats k0 id) (told_at script formats id).words body.tree
+just_under script formats id k0 k1 body o =
+    let d = o.done in
+    let told = told_is script formats id o.probe o.of_probe in
+    let now : known_behind script formats k0 id ≡ k1 = ap (λ (t : Told). known_or k0 (judged t.points k0)) told ∙ ap (known_or k0) d.done.whole in
+    let words : (body_told o.probe).words ≡ (told_at script formats id).words = ap (λ (t : Told). t.words) (sym told) in
+    subst (λ (k : Known). IsUnder k (told_at script formats id).words body.tree) (sym now)
+    (record { variables = d.keeps.variables; fits = d.done.fits; written = d.done.written ∙ words })
 
 pub bodies_more : (script : Script) (formats : List Format) (ids : List BodyId) (i : ℕ) (id : BodyId) (k0 k1 k2 : Known) (bodies : List OpenBody) (body : OpenBody) → i < length ids → id ≡ get_or ids i id
     → BodiesDone script formats (take i ids) k0 k1 bodies → OneDone script formats id k1 k2 body → BodiesDone script formats (take (i + 1) ids) k0 k2 (bodies ++ body ∷ [])
@@ -106,6 +142,8 @@ bodies_more script formats ids i id k0 k1 k2 bodies body within is c d =
       whole = whole_more (told_at script formats) ids i id k0 k1 k2 within is c.whole (ap (λ (t : Told). judged t.points k1) (told_is script formats id d.probe d.of_probe) ∙ d.done.done.whole);
       each = subst (λ (l : List BodyId). AllZip (IsOpen script formats k2) l (bodies ++ body ∷ [])) (sym longer)
           (zip_more (IsOpen script formats k2) (take i ids) bodies id body (opens_later script formats k1 k2 (layout_at formats id.point) (take i ids) bodies d.done.done.grows c.each) (just_open script formats id k1 k2 body d));
+      under = rw (longer, map_more (λ (b : OpenBody). b.tree) bodies body)
+          (under_more script formats (take i ids) (map (λ (b : OpenBody). b.tree) bodies) k0 k1 id body.tree c.under c.whole (just_under script formats id k1 k2 body d));
     }
 
 pub bodies_refused : (script : Script) (formats : List Format) (ids : List BodyId) (i : ℕ) (id : BodyId) (k0 k1 : Known) (bodies : List OpenBody) (e : TypeError) → i < length ids → id ≡ get_or ids i id

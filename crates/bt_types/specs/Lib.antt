@@ -4,3 +4,4 @@ pub mod Exits
 pub mod Open
 pub mod Script
 pub mod Told
+pub mod Under

@@ -18,6 +18,7 @@ use Rattle.expr_types.specs.declared.known.Known.{Known}
 use Rattle.expr_types.specs.declared.known.Var.{Var}
 use Rattle.bt_types.specs.Bodies.{body_told, layout_at, script_told}
 use Rattle.bt_types.specs.Done.{Done}
+use Rattle.bt_types.specs.Under.{AreUnder}
 use Rattle.expr_types.specs.Grows.{Grows}
 use Rattle.expr_types.specs.Judge.{judged}
 use Rattle.expr_types.specs.Known.{begun}
@@ -60,6 +61,7 @@ pub record IsOpen (script : Script) (formats : List Format) (k : Known) (id : Bo
 pub record BodiesDone (script : Script) (formats : List Format) (bodies : List BodyId) (before now : Known) (opens : List OpenBody) : Type 0 where
   pub whole : judged (script_told script formats bodies).points before ≡ Ok now
   pub each : AllZip (IsOpen script formats now) bodies opens
+  pub under : AreUnder script formats before bodies (map (λ (b : OpenBody). b.tree) opens)
 
 -- the maps and formats of these numbers
 abbrev pub map_at : List MapDecl → ℕ → Option (MapId × MapDecl)

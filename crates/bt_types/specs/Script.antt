@@ -15,6 +15,7 @@ use Rattle.bt_types.specs.Bodies.{body_told, layout_at, nothing, script_told}
 use Rattle.expr_types.specs.Judge.{judged}
 use Rattle.expr_types.specs.Known.{decl_in}
 use Rattle.bt_types.specs.Exits.{script_exits}
+use Rattle.bt_types.specs.Under.{AreUnder}
 use Rattle.expr_types.specs.Typing.{words_by}
 
 -- a map that is never decided holds whole numbers, and its keys have no parts
@@ -41,7 +42,7 @@ AreTypedBodies script formats k [] (b ∷ bs) = ⊥
 AreTypedBodies script formats k (id ∷ ids) [] = ⊥
 AreTypedBodies script formats k (id ∷ ids) (b ∷ bs) = IsTypedBody script formats k id b × AreTypedBodies script formats k ids bs
 
--- no rule is broken, and what is known at the end is what was made of the script
+-- no rule is broken, and what is known at the end is what was made of the script; each body's tree is typed under what is known in it
 pub record IsTypedScript (script : Script) (formats : List Format) (bodies : List BodyId) (typed : Typed) : Type 0 where
   pub known : Known
   pub whole : judged (script_told script formats bodies).points nothing ≡ Ok known
@@ -49,3 +50,4 @@ pub record IsTypedScript (script : Script) (formats : List Format) (bodies : Lis
   pub formats_read : typed.formats ≡ map (λ (p : Printed). p.pieces) known.printed
   pub exits : typed.uses_exit ≡ script_exits script
   pub each : AreTypedBodies script formats known bodies typed.bodies
+  pub under : AreUnder script formats nothing bodies (map (λ (b : TypedBody). b.tree) typed.bodies)
