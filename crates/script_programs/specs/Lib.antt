@@ -1,0 +1,3 @@
+pub mod Programs
+pub mod Sizes
+pub mod Making

@@ -1,0 +1,6 @@
+mod Apart
+mod Exprs
+mod OneSize
+mod Reader
+mod Shapes
+mod Stmts
