@@ -1,5 +1,7 @@
+pub mod CodeLemmas
 pub mod EndLemmas
 pub mod Finals
+pub mod HeldLemmas
 pub mod ItemLemmas
 pub mod KindLemmas
 pub mod MapReads
@@ -7,9 +9,8 @@ pub mod NewLemmas
 pub mod ObjectLemmas
 pub mod ReadLemmas
 pub mod RunLemmas
+pub mod SerialCount
 pub mod Splitting
 pub mod StepLemmas
 pub mod TakeLemmas
 pub mod TurnLemmas
-pub mod WalkLemmas
-pub mod Zeros

@@ -33,20 +33,26 @@ use Rattle.bt_meaning.specs.Interleavings.{IsReplayed}
 use Rattle.bt_meaning.specs.Jobs.{IsJob}
 use Rattle.bt_meaning.specs.OwnSteps.{IsOwnStep}
 use Rattle.bt_meaning.specs.Prints.{emitted, item_in, operations_at, holders_of, lost_by, rows_after, lost_after, of_maps, printed_text}
+use Rattle.actor_plan.specs.Plans.{Plan}
+use Rattle.bt_meaning.specs.Replays.{Replay}
 use Rattle.bt_meaning.specs.Serial.{unstamped, serial_steps}
-use Rattle.bt_meaning.specs.Walks.{walking, replay_of}
-use Rattle.bt_meaning.proofs.Eachs.{each_so}
+use Rattle.bt_meaning.proofs.Eachs.{each_from, each_has, each_so}
+use Rattle.bt_meaning.specs.Walks.{replay_of}
 use Rattle.bt_meaning.proofs.OwnCalls.{all_fine, script_steps}
 use Rattle.bt_meaning.proofs.SerialLaws.{serial_interleaves}
+use Rattle.bpf_insn.specs.declared.insn.Insn.{Insn}
+use Rattle.replay_laws.specs.Agree.{AllReplies}
+use Rattle.replay_laws.specs.HeldReplies.{IsHeldReply}
+use Rattle.code_bodies.specs.Coding.{code_replay, coding}
 use Rattle.bt_run.specs.declared.job.Job.{Job}
 use Rattle.bt_run.specs.declared.objects.Objects.{Objects}
 use Rattle.bt_run.specs.Jobs.{cpus_in, world_for}
 use Rattle.bt_run.specs.Made.{IsMade}
 use Rattle.bt_run.specs.Moments.{IsMoment}
 use Rattle.bt_run.specs.Worlds.{World, IsOwn}
-use Rattle.bt_run.proofs.Finals.{replayed, operations_same, operations_serial}
+use Rattle.bt_run.proofs.Finals.{at_objects, by_actor, replayed, operations_same, operations_serial}
 use Rattle.bt_run.proofs.KindLemmas.{operations_by}
-use Rattle.bt_run.proofs.Zeros.{serial_zero, instructions_zero, walk_zero}
+use Rattle.bt_run.proofs.SerialCount.{instructions_same, serial_counts}
 
 -- ---- what is emitted stands at the output
 
@@ -101,11 +107,36 @@ module _ (script : Typed) (cpus : ℕ) (xs ys : List Step) (same : (object : Obj
 
 -- ---- whole runs
 
-module _ (job : Job) (is_job : IsJob job.typed job.attached job.recording) (objects : Objects) (made steps : List Step) (n : ℕ)
-    (is : IsMade job (walking job.typed (cpus_in job + 1)) objects made n) (moved : IsPermutation made steps) (order : InOrder steps) where
+held_unstamped : (steps : List Step) → AllReplies IsHeldReply steps → AllReplies IsHeldReply (map unstamped steps)
+held_unstamped [] h = tt
+held_unstamped (s ∷ ss) h = (h.0, held_unstamped ss h.1)
+
+module _ (job : Job) (is_job : IsJob job.typed job.attached job.recording) (codes : List (List Insn))
+    (objects : Objects) (made steps : List Step) (n : ℕ) (is : IsMade job (coding job.typed codes (cpus_in job + 1)) objects made n) (moved : IsPermutation made steps) (order : InOrder steps)
+    (held : AllReplies IsHeldReply steps) (means : IsReplayed (code_replay job.typed codes job.attached job.recording) steps → IsReplayed (replay_of job.typed job.attached job.recording) steps)
+    (same_list : AllReplies IsHeldReply (serial_steps (code_replay job.typed codes job.attached job.recording))
+    → serial_steps (code_replay job.typed codes job.attached job.recording) ≡ serial_steps (replay_of job.typed job.attached job.recording)) where
+  abbrev coded : Replay
+  coded = code_replay job.typed codes job.attached job.recording
+
+  abbrev plans : ℕ → Plan
+  plans = coding job.typed codes (cpus_in job + 1)
+
+  coded_replayed : IsReplayed (code_replay job.typed codes job.attached job.recording) steps
+  coded_replayed = replayed job plans objects made steps n is moved order (serial_interleaves coded is_job.valid is_job.in_turn (λ actor. refl))
+
   pub run_replayed : IsReplayed (replay_of job.typed job.attached job.recording) steps
-  run_replayed = replayed job (walking job.typed (cpus_in job + 1)) objects made steps n is moved order
-      (serial_interleaves (replay_of job.typed job.attached job.recording) is_job.valid is_job.in_turn (λ actor. refl))
+  run_replayed = means coded_replayed
+
+  -- the lists of the serial runs are one
+  made_held : AllReplies IsHeldReply made
+  made_held = each_from (λ (s : Step). IsHeldReply s.reply) made (λ s h. each_has (λ (s : Step). IsHeldReply s.reply) steps s held (has_moved made steps s moved h))
+
+  pub same_serial : serial_steps (code_replay job.typed codes job.attached job.recording) ≡ serial_steps (replay_of job.typed job.attached job.recording)
+  same_serial = same_list (subst (AllReplies IsHeldReply) (sym is.is_serial) (held_unstamped made made_held))
+
+  pub run_serial_steps : (object : ObjectId) → map unstamped (on_object object steps) ≡ on_object object (serial_steps (replay_of job.typed job.attached job.recording))
+  run_serial_steps object = at_objects job plans objects made steps n is moved order object ∙ ap (on_object object) same_serial
 
   own_steps : AllByRecursion (IsOwnStep job.typed job.attached job.recording) steps
   own_steps = script_steps job.typed job.attached job.recording is_job merged_fit steps run_replayed.interleaving
@@ -122,7 +153,7 @@ module _ (job : Job) (is_job : IsJob job.typed job.attached job.recording) (obje
   })
 
   pub run_same : (object : ObjectId) → operations_at object made ≡ operations_at object steps
-  run_same object = operations_same job (walking job.typed (cpus_in job + 1)) objects made steps n is moved order object
+  run_same object = operations_same job plans objects made steps n is moved order object
 
   possible : Each (λ (s : Step). IsOwn (world_for job) s.object s.op) steps
   possible = each_of (λ (s : Step). IsOwn (world_for job) s.object s.op) steps
@@ -130,11 +161,13 @@ module _ (job : Job) (is_job : IsJob job.typed job.attached job.recording) (obje
 
   pub run_prints_serial : printed_text job.typed (cpus_in job) steps ≡ printed_text job.typed (cpus_in job) (serial_steps (replay_of job.typed job.attached job.recording))
   run_prints_serial =
-      let serial = serial_steps (replay_of job.typed job.attached job.recording) in
-      let same = λ (object : ObjectId). operations_serial job (walking job.typed (cpus_in job + 1)) objects made steps n is moved order object in
+      let serial = serial_steps (code_replay job.typed codes job.attached job.recording) in
+      let same = λ (object : ObjectId). operations_serial job plans objects made steps n is moved order object in
       let own : Each (λ (s : Step). IsOwn (world_for job) s.object s.op) serial = subst (Each (λ (s : Step). IsOwn (world_for job) s.object s.op)) (sym is.is_serial) (own_unstamped (world_for job) made is.possible) in
       text_same job.typed (cpus_in job) steps serial same
       (emitted_out (world_for job) steps possible ∙ ap (filter_map item_in) (same Out) ∙ sym (emitted_out (world_for job) serial own))
+      ∙ ap (printed_text job.typed (cpus_in job)) same_serial
 
-  pub run_counts : (all : List Step) → n ≡ instructions_of (replay_of job.typed job.attached job.recording) all
-  run_counts all = is.counted ∙ serial_zero (replay_of job.typed job.attached job.recording) (walk_zero job.typed (cpus_in job + 1)) ∙ sym (instructions_zero (replay_of job.typed job.attached job.recording) (walk_zero job.typed (cpus_in job + 1)) all)
+  pub run_counts : n ≡ instructions_of (code_replay job.typed codes job.attached job.recording) steps
+  run_counts = is.counted ∙ serial_counts coded is_job.valid is_job.in_turn (λ actor. refl)
+      ∙ sym (instructions_same coded steps (serial_steps coded) (λ a. by_actor job plans objects made steps n is moved order a))

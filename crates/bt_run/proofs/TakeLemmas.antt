@@ -1,5 +1,5 @@
 -- Items of a run, one after the other.
-use Rattle.std.proofs.Common.{◌≡◌, ℕ, zero, suc, ◌+◌, ◌<◌, ◌≤◌, Bool, true, false, if◌then◌else◌, List, [], ◌∷◌, ◌++◌, length, map, drop, get_or, slice_index_or, slice_set, refl, sym, ap, ◌∙◌, subst, arith}
+use Rattle.std.proofs.Common.{◌≡◌, ℕ, zero, suc, ◌+◌, ◌<◌, Bool, true, false, if◌then◌else◌, List, [], ◌∷◌, ◌++◌, length, map, drop, get_or, slice_index_or, slice_set, refl, sym, ap, ◌∙◌, subst, arith}
 use Rattle.std.specs.Prelude.{replicate, Some, slice_get}
 use Rattle.std.specs.List.{AllByRecursion}
 use Rattle.std.proofs.lemmas.List.{drop_more, drop_all, drop-append-le}
@@ -21,7 +21,7 @@ use Rattle.bt_meaning.specs.Serial.{unstamped, then_steps, then_value, alone, al
 use Rattle.bt_run.specs.declared.job.Job.{Job}
 use Rattle.bt_run.specs.declared.objects.Objects.{Objects}
 use Rattle.bt_run.specs.Counts.{taken_count, TakesNext}
-use Rattle.bt_run.specs.Jobs.{cpus_in, replay_with, world_for, CanRunAll, HavePlans}
+use Rattle.bt_run.specs.Jobs.{cpus_in, replay_with, world_for, CanRunAll}
 use Rattle.bt_run.specs.Made.{IsMade}
 use Rattle.bt_run.specs.Runs.{Seen, IsSeen, IsRunOf, IsLeft}
 use Rattle.bt_run.specs.Worlds.{World, setting_in, answers}
@@ -173,7 +173,3 @@ module _ (job : Job) (plans : ℕ → Plan) where
       let whole : Whole (program (plans (cpus_in job))) old.steps new.steps v = subst (λ (z : Plan × List Step). Whole (program z.0) z.1 new.steps v) (λ k. (planned k, steps k)) w in
       taken_by job plans (cpus_in job) (program (plans (cpus_in job))) old new v seen (world_same new.world turned.world new.turn.actor turned.turn.actor kept ∙ world)
       (ap (λ u. u.start) turn ∙ start) (ap (λ u. u.actor) turn ∙ actor) whole
-
-  -- bodies by their actor
-  pub plan_at : {B : Type 0} (plan_of : B → Plan) (bodies : List B) (actor : ℕ) (one : B) → HavePlans plan_of (cpus_in job + 1) plans bodies → actor ≤ cpus_in job → one ≡ get_or bodies actor one → plan_of one ≡ plans actor
-  plan_at plan_of bodies actor one have le e = ap plan_of e ∙ have.each actor one (let c = have.count in omega arith)

@@ -5,6 +5,8 @@ use Rattle.rec_format.specs.Recordings.{IsValidRecording}
 use Rattle.actor_plan.specs.Agendas.{AreInTurn}
 use Rattle.actor_plan.specs.Plans.{Plan, HasBodies, AreServed, TakesFew}
 use Rattle.bt_meaning.specs.Replays.{Replay}
+use Rattle.bpf_insn.specs.declared.insn.Insn.{Insn}
+use Rattle.code_bodies.specs.Coding.{coding}
 use Rattle.bt_run.specs.declared.job.Job.{Job}
 use Rattle.bt_run.specs.Worlds.{World}
 
@@ -20,6 +22,14 @@ replay_with job plans = record {
   maps = job.typed.maps;
   plan = plans;
 }
+
+-- the plans of the actors of a job whose bodies are run by these codes
+abbrev pub plans_by : Job → List (List Insn) → ℕ → Plan
+plans_by job codes = coding job.typed codes (cpus_in job + 1)
+
+-- what is run by them
+abbrev pub coded_by : Job → List (List Insn) → Replay
+coded_by job codes = replay_with job (plans_by job codes)
 
 -- the world that it is run in
 abbrev pub world_for : Job → World

@@ -1,10 +1,10 @@
 pub mod Counts
+pub mod Held
 pub mod Jobs
 pub mod Made
 pub mod Moments
 pub mod News
 pub mod Objects
-pub mod Plans
 pub mod Runs
 pub mod Took
 pub mod Worlds

@@ -1,16 +1,18 @@
 // What is run, and what a run makes.
+use bpf_codegen::generate::Program;
 use bt_ast::attached::Attached;
 use bt_core::items::Items;
 use bt_core::step::Step;
 use rec_format::recording::Recording;
 use typed_tree::script::Typed;
 
-/// A typed script, what it is attached to, and the recording that it is run over.
+/// A typed script, what it is attached to, the recording that it is run over, and a program for each of its bodies.
 #[derive(Drop)]
 pub struct Job {
     pub recording: Recording,
     pub attached: Attached,
     pub typed: Typed,
+    pub programs: Items<Program>,
 }
 
 /// What a run makes: its steps as one woven list, the text that they print, and how many instructions were executed.

@@ -1,7 +1,8 @@
 // Whole runs.
-ghost use Rattle.std.specs.Prelude.{◌≡◌, ◌<◌, ◌^◌, map, length, IfOk};
+ghost use Rattle.std.specs.Prelude.{◌≡◌, ◌<◌, ◌^◌, List, map, length, IfOk};
 ghost use Rattle.bt_core.specs.declared.step.ObjectId.{ObjectId};
 ghost use Rattle.bt_core.specs.Steps.{on_object};
+ghost use Rattle.bpf_insn.specs.declared.insn.Insn.{Insn};
 ghost use Rattle.bt_meaning.specs.Instructions.{instructions_of};
 ghost use Rattle.bt_meaning.specs.Interleavings.{IsReplayed};
 ghost use Rattle.bt_meaning.specs.Jobs.{IsJob};
@@ -9,32 +10,38 @@ ghost use Rattle.bt_meaning.specs.Prints.{printed_text};
 ghost use Rattle.bt_meaning.specs.Replays.{cpus_of};
 ghost use Rattle.bt_meaning.specs.Serial.{serial_steps, unstamped};
 ghost use Rattle.bt_meaning.specs.Walks.{replay_of};
+ghost use Rattle.code_bodies.specs.Coding.{code_replay};
+ghost use Rattle.script_programs.specs.Programs.{AreCodesOf, KeepScript};
 
 use crate::ends::end_of;
+use crate::held::{job_is_held, replies_are_held};
 use crate::items::write_steps;
 use crate::job::{Job, Work};
 use crate::new_objects::new_objects;
 use crate::serial::make_steps;
-use crate::walks::Walks;
 use bt_core::items::Items;
 use bt_core::memory::Memory;
 use bt_meaning::schedule::schedule;
+use code_bodies::laws::{code_means_walks, codes_take_few};
+use script_programs::codes::codes_of;
 use std::alloc::Global;
 use std::snapshot::Snapshot;
 use weave::weave::put_in_order;
 
-/// Runs a job on one thread, by walking the trees of its bodies: `BEGIN`, the items of all agendas in the serial order, each by its
-/// CPU where the CPU still goes on, and `END`.
+/// Runs a job on one thread, each body by the code that its program is: `BEGIN`, the items of all agendas in the serial order, each by
+/// its CPU where the CPU still goes on, and `END`. Each program is decoded once.
 ///
 /// The steps are an interleaving of the script over the recording, in the order of their stamps (`replayed`); at each object they are
 /// those of the serial list (`serial`); the text is what they print (`printed`), and what the serial list prints (`printed_serial`).
-/// Walks execute no instructions. It takes time linear in the steps, beside the sort of the items and that of the steps.
+/// The instructions are those that the codes of the programs take under the replies in the steps (`instructions`). Beside what the
+/// bodies take it takes time linear in the steps and the recording, and the sort of the items and that of the steps.
 ///
 /// # Errors
 ///
 /// [`Memory`] is the one error, also where a stamp or a count would not fit.
 pub fn run_serial(alloc: Global, job: &Job) -> Result<Work, Memory>
-    requires { IsJob job.now.typed job.now.attached job.now.recording }
+    requires job { IsJob job.now.typed job.now.attached job.now.recording }
+    requires programs { KeepScript job.now.typed job.now.programs }
     ensures replayed { let p = replay_of job.now.typed job.now.attached job.now.recording in IfOk result (λ work. IsReplayed p work.steps) }
     ensures serial { let p = replay_of job.now.typed job.now.attached job.now.recording in IfOk result (λ work. (object : ObjectId) →
         map unstamped (on_object object work.steps) ≡ on_object object (serial_steps p)) }
@@ -42,21 +49,25 @@ pub fn run_serial(alloc: Global, job: &Job) -> Result<Work, Memory>
         work.text ≡ printed_text job.now.typed (cpus_of p) work.steps) }
     ensures printed_serial { let p = replay_of job.now.typed job.now.attached job.now.recording in IfOk result (λ work.
         printed_text job.now.typed (cpus_of p) work.steps ≡ printed_text job.now.typed (cpus_of p) (serial_steps p)) }
-    ensures instructions { let p = replay_of job.now.typed job.now.attached job.now.recording in IfOk result (λ work.
-        work.instructions ≡ instructions_of p work.steps) }
+    ensures instructions { IfOk result (λ work. (codes : List (List Insn)) → AreCodesOf job.now.programs codes →
+        work.instructions ≡ instructions_of (code_replay job.now.typed codes job.now.attached job.now.recording) work.steps) }
 {
+    code_means_walks();
+    codes_take_few();
+    job_is_held(job);
+    let codes = codes_of(alloc, job.programs.as_slice())?;
     let order = schedule(alloc, &job.recording, &job.attached)?;
-    let mut walks = Walks::of_all(alloc, job)?;
     let objects = new_objects(alloc, job)?;
     let (objects, mut steps, instructions) = make_steps(
         alloc,
         job,
+        codes.as_slice(),
         order.as_slice(),
-        &mut walks,
         objects,
     )?;
     let made = Snapshot::of(&steps);
     put_in_order(&mut steps);
+    replies_are_held(steps.as_slice());
     let script = &job.typed;
     let mut text = Vec::new(alloc);
     write_steps(

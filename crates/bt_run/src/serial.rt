@@ -1,22 +1,25 @@
 // The run on one thread, up to its list of steps.
 ghost use Rattle.std.specs.Prelude.{◌≡◌, ◌+◌, ◌<◌, [], true, false, length, map, replicate, slice_index_or, IfOk, OnOk};
+ghost use Rattle.std.specs.List.{AllByRecursion};
+ghost use Rattle.code_bodies.specs.Coding.{CanRunCode};
 ghost use Rattle.bt_meaning.specs.Schedules.{serial_order, cpu_of_due as due_cpu, item_of_due as due_item};
 ghost use Rattle.bt_meaning.specs.Replays.{begin_of, end_of};
 ghost use Rattle.bt_meaning.specs.Serial.{unstamped, then_steps, then_value, taken};
 ghost use Rattle.bt_run.specs.Counts.{taken_count, TakesNext};
-ghost use Rattle.bt_run.specs.Jobs.{cpus_in, replay_with, world_for, CanRunAll, HavePlans};
+ghost use Rattle.bt_run.specs.Jobs.{coded_by, cpus_in, plans_by, world_for, CanRunAll};
 ghost use Rattle.bt_run.specs.Made.{IsMade};
 ghost use Rattle.bt_run.specs.Objects.{Stand};
 ghost use Rattle.bt_run.specs.Runs.{first_turn};
 
+use crate::bodies::bodies_at;
 use crate::job::Job;
 use crate::numbers::sum;
 use crate::objects::Objects;
-use crate::plans::ActorPlans;
 use crate::port::SerialPort;
 use actor_plan::agenda::AgendaItem;
-use actor_plan::bodies::Bodies;
 use actor_plan::program::{run_begin, run_end, take_item};
+use bpf_insn::insn::Insn;
+use bt_core::items::Items;
 use bt_core::memory::Memory;
 use bt_core::step::Step;
 use bt_meaning::schedule::{Due, Scheduled};
@@ -53,22 +56,21 @@ fn goes_on(going: &[bool], cpu: u32) -> bool
 }
 
 /// Takes one item, if its CPU's program goes on, and notes whether it still does. Gives how many instructions were executed.
-fn take_next<B: Bodies + ActorPlans>(
+fn take_next(
     alloc: Global,
     job: &Job,
+    codes: &[Items<Insn>],
     item: &Scheduled,
     going: &mut Vec<bool>,
-    bodies: &mut Vec<B>,
     port: &mut SerialPort,
 ) -> Result<u64, Memory>
-    requires can { CanRunAll job.now (B.plans job.now) }
-    requires have { HavePlans B.plan (cpus_in job.now + 1) (B.plans job.now) bodies.old.items }
+    requires can { CanRunAll job.now (plans_by job.now codes.now) }
+    requires can_run { AllByRecursion CanRunCode codes.now }
     requires among { port.old.turn.among ≡ true }
     requires world { port.old.world ≡ world_for job.now }
     requires long { length going.old.items ≡ cpus_in job.now }
-    ensures next { IfOk result (λ count. TakesNext (replay_with job.now (B.plans job.now)) item.now count
+    ensures next { IfOk result (λ count. TakesNext (coded_by job.now codes.now) item.now count
         going.old.items (map unstamped port.old.steps) going.new.items (map unstamped port.new.steps)) }
-    ensures have { OnOk result (HavePlans B.plan (cpus_in job.now + 1) (B.plans job.now) bodies.new.items) }
     ensures long { OnOk result (length going.new.items ≡ cpus_in job.now) }
     ensures world { OnOk result (port.new.world ≡ world_for job.now) }
     ensures among { OnOk result (port.new.turn.among ≡ true) }
@@ -80,9 +82,10 @@ fn take_next<B: Bodies + ActorPlans>(
     }
     port.turn_to(cpu);
     let track = &job.recording.cpus.as_slice()[cpu as usize];
+    let mut bodies = bodies_at(job, codes, cpu);
     let taken = take_item(
         alloc,
-        &mut bodies[cpu as usize],
+        &mut bodies,
         &job.recording,
         &job.attached,
         track,
@@ -96,22 +99,21 @@ fn take_next<B: Bodies + ActorPlans>(
 }
 
 /// Takes all items in their order, but those of a CPU whose program has ended.
-fn take_all<B: Bodies + ActorPlans>(
+fn take_all(
     alloc: Global,
     job: &Job,
+    codes: &[Items<Insn>],
     order: &[Scheduled],
-    bodies: &mut Vec<B>,
     port: &mut SerialPort,
 ) -> Result<u64, Memory>
-    requires can { CanRunAll job.now (B.plans job.now) }
-    requires have { HavePlans B.plan (cpus_in job.now + 1) (B.plans job.now) bodies.old.items }
+    requires can { CanRunAll job.now (plans_by job.now codes.now) }
+    requires can_run { AllByRecursion CanRunCode codes.now }
     requires among { port.old.turn.among ≡ true }
     requires world { port.old.world ≡ world_for job.now }
-    ensures serial { OnOk result (taken (replay_with job.now (B.plans job.now)) order.now (replicate (cpus_in job.now) true)
+    ensures serial { OnOk result (taken (coded_by job.now codes.now) order.now (replicate (cpus_in job.now) true)
         (map unstamped port.old.steps) ≡ map unstamped port.new.steps) }
-    ensures counted { IfOk result (λ count. count ≡ taken_count (replay_with job.now (B.plans job.now)) order.now (replicate (cpus_in job.now) true)
+    ensures counted { IfOk result (λ count. count ≡ taken_count (coded_by job.now codes.now) order.now (replicate (cpus_in job.now) true)
         (map unstamped port.old.steps)) }
-    ensures have { OnOk result (HavePlans B.plan (cpus_in job.now + 1) (B.plans job.now) bodies.new.items) }
     ensures world { OnOk result (port.new.world ≡ world_for job.now) }
     ensures among { OnOk result (port.new.turn.among ≡ true) }
     ensures begun { OnOk result (port.new.turn.begun ≡ port.old.turn.begun) }
@@ -119,98 +121,87 @@ fn take_all<B: Bodies + ActorPlans>(
     let mut going = vec![in alloc; true; job.recording.cpus.len()]?;
     let mut total = 0;
     for item in order {
-        let count = take_next(alloc, job, item, &mut going, bodies, port)?;
+        let count = take_next(alloc, job, codes, item, &mut going, port)?;
         total = sum(total, count)?;
     }
     Ok(total)
 }
 
 /// Runs the bodies of `BEGIN`.
-fn begin<B: Bodies + ActorPlans>(
+fn begin(
     alloc: Global,
     job: &Job,
-    bodies: &mut Vec<B>,
+    codes: &[Items<Insn>],
     port: &mut SerialPort,
 ) -> Result<u64, Memory>
-    requires can { CanRunAll job.now (B.plans job.now) }
-    requires have { HavePlans B.plan (cpus_in job.now + 1) (B.plans job.now) bodies.old.items }
+    requires can { CanRunAll job.now (plans_by job.now codes.now) }
+    requires can_run { AllByRecursion CanRunCode codes.now }
     requires first { port.old.turn ≡ first_turn (cpus_in job.now) }
     requires none { port.old.steps ≡ [] }
     requires world { port.old.world ≡ world_for job.now }
-    ensures serial { OnOk result (then_steps (replay_with job.now (B.plans job.now)) (cpus_in job.now) (begin_of (replay_with job.now (B.plans job.now))) []
+    ensures serial { OnOk result (then_steps (coded_by job.now codes.now) (cpus_in job.now) (begin_of (coded_by job.now codes.now)) []
         ≡ map unstamped port.new.steps) }
     ensures counted { IfOk result (λ count. count ≡
-        then_value (replay_with job.now (B.plans job.now)) (cpus_in job.now) (begin_of (replay_with job.now (B.plans job.now))) []) }
-    ensures have { OnOk result (HavePlans B.plan (cpus_in job.now + 1) (B.plans job.now) bodies.new.items) }
+        then_value (coded_by job.now codes.now) (cpus_in job.now) (begin_of (coded_by job.now codes.now)) []) }
     ensures world { OnOk result (port.new.world ≡ world_for job.now) }
     ensures among { OnOk result (port.new.turn.among ≡ true) }
     ensures begun { OnOk result (port.new.turn.begun ≡ length port.new.steps) }
 {
     let main = job.recording.cpus.len();
-    let count = run_begin(
-        alloc,
-        &mut bodies[main],
-        &job.recording,
-        &job.attached,
-        port,
-    )?;
+    let mut bodies = bodies_at(job, codes, main as u32);
+    let count = run_begin(alloc, &mut bodies, &job.recording, &job.attached, port)?;
     port.stands();
     port.go_to_cpus();
     Ok(count)
 }
 
 /// Runs the bodies of `END`.
-fn end<B: Bodies + ActorPlans>(
+fn end(
     alloc: Global,
     job: &Job,
-    bodies: &mut Vec<B>,
+    codes: &[Items<Insn>],
     port: &mut SerialPort,
 ) -> Result<u64, Memory>
-    requires can { CanRunAll job.now (B.plans job.now) }
-    requires have { HavePlans B.plan (cpus_in job.now + 1) (B.plans job.now) bodies.old.items }
+    requires can { CanRunAll job.now (plans_by job.now codes.now) }
+    requires can_run { AllByRecursion CanRunCode codes.now }
     requires among { port.old.turn.among ≡ true }
     requires world { port.old.world ≡ world_for job.now }
-    ensures serial { OnOk result (then_steps (replay_with job.now (B.plans job.now)) (cpus_in job.now) (end_of (replay_with job.now (B.plans job.now)))
+    ensures serial { OnOk result (then_steps (coded_by job.now codes.now) (cpus_in job.now) (end_of (coded_by job.now codes.now))
         (map unstamped port.old.steps) ≡ map unstamped port.new.steps) }
     ensures counted { IfOk result (λ count. count ≡
-        then_value (replay_with job.now (B.plans job.now)) (cpus_in job.now) (end_of (replay_with job.now (B.plans job.now))) (map unstamped port.old.steps)) }
+        then_value (coded_by job.now codes.now) (cpus_in job.now) (end_of (coded_by job.now codes.now)) (map unstamped port.old.steps)) }
     ensures world { OnOk result (port.new.world ≡ world_for job.now) }
     ensures begun { OnOk result (port.new.turn.begun ≡ port.old.turn.begun) }
 {
     port.go_to_end();
     let main = job.recording.cpus.len();
-    let count = run_end(
-        alloc,
-        &mut bodies[main],
-        &job.recording,
-        &job.attached,
-        port,
-    )?;
+    let mut bodies = bodies_at(job, codes, main as u32);
+    let count = run_end(alloc, &mut bodies, &job.recording, &job.attached, port)?;
     port.stands();
     Ok(count)
 }
 
 /// Runs a job on one thread: `BEGIN`, the items in the serial order, and `END`. Gives the objects as they then are, the steps in
 /// the order in which they were made, and how many instructions were executed.
-pub(crate) fn make_steps<B: Bodies + ActorPlans>(
+pub(crate) fn make_steps(
     alloc: Global,
     job: &Job,
+    codes: &[Items<Insn>],
     order: &[Scheduled],
-    bodies: &mut Vec<B>,
     objects: Objects,
 ) -> Result<(Objects, Vec<Step>, u64), Memory>
-    requires can { CanRunAll job.now (B.plans job.now) }
-    requires have { HavePlans B.plan (cpus_in job.now + 1) (B.plans job.now) bodies.old.items }
+    requires can { CanRunAll job.now (plans_by job.now codes.now) }
+    requires can_run { AllByRecursion CanRunCode codes.now }
     requires order { order.now ≡ serial_order job.now.recording job.now.attached }
     requires stand { Stand (world_for job.now) [] objects }
-    ensures { IfOk result (λ made. IsMade job.now (B.plans job.now) made.0 made.1.items made.2) }
+    ensures { IfOk result (λ made. IsMade job.now (plans_by job.now codes.now) made.0 made.1.items made.2) }
 {
     let cpus = job.recording.cpus.len() as u32;
     let ticks = job.attached.ticks.len() as u32;
     let mut port = SerialPort::new(alloc, objects, &job.typed.maps, cpus, ticks)?;
-    let begun = begin(alloc, job, bodies, &mut port)?;
-    let taken = take_all(alloc, job, order, bodies, &mut port)?;
-    let ended = end(alloc, job, bodies, &mut port)?;
+    let begun = begin(alloc, job, codes, &mut port)?;
+    let taken = take_all(alloc, job, codes, order, &mut port)?;
+    let ended = end(alloc, job, codes, &mut port)?;
     let (objects, steps) = port.into_parts();
     Ok((objects, steps, sum(sum(begun, taken)?, ended)?))
 }

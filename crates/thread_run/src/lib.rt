@@ -2,6 +2,7 @@
 #![tactic(auto)]
 
 mod actors;
+mod bodies;
 mod closed;
 mod ends;
 mod made;

@@ -1,18 +1,21 @@
 // The run on threads, up to its list of steps.
-ghost use Rattle.std.specs.Prelude.{◌+◌, IfOk};
-ghost use Rattle.bt_run.specs.Jobs.{cpus_in, CanRunAll, HavePlans};
+ghost use Rattle.std.specs.Prelude.{IfOk};
+ghost use Rattle.std.specs.List.{AllByRecursion};
+ghost use Rattle.code_bodies.specs.Coding.{CanRunCode};
+ghost use Rattle.bt_run.specs.Jobs.{plans_by, CanRunAll};
 ghost use Rattle.thread_run.specs.Made.{IsMade};
 
 use crate::actors::run_actors;
+use crate::bodies::all_bodies;
 use crate::closed::Closed;
 use crate::sets::{Sets, new_sets};
 use crate::tasks::Gathered;
 use crate::turns::parted;
-use actor_plan::bodies::Bodies;
+use bpf_insn::insn::Insn;
+use bt_core::items::Items;
 use bt_core::memory::Memory;
 use bt_core::step::Step;
 use bt_run::job::Job;
-use bt_run::plans::ActorPlans;
 use cpu_worker::world::World;
 use std::alloc::Global;
 use std::sync::Wait;
@@ -20,23 +23,20 @@ use std::thread::Threads;
 use turn_lock::gate::Gate;
 use weave::weave::weave;
 
-/// Runs a job, each CPU on a thread of its own, with these bodies of its CPUs and of the main actor. Gives the closed objects, the
-/// woven steps, and how many instructions were executed.
-pub(crate) fn make_steps<
-    B: Bodies + ActorPlans + Drop + Send,
-    G: Gate + Sync,
-    R: Threads + Wait + Sync,
->(
+/// Runs a job, each CPU on a thread of its own, each body by its code. Gives the closed objects, the woven steps, and how many
+/// instructions were executed.
+pub(crate) fn make_steps<G: Gate + Sync, R: Threads + Wait + Sync>(
     rt: &R,
     alloc: Global,
     job: &Job,
-    bodies: Vec<B>,
+    codes: &[Items<Insn>],
     gate: &G,
 ) -> Result<(Closed, Vec<Step>, u64), Memory>
-    requires can { CanRunAll job.now (B.plans job.now) }
-    requires have { HavePlans B.plan (cpus_in job.now + 1) (B.plans job.now) bodies.items }
-    ensures { IfOk result (λ made. IsMade job.now (B.plans job.now) made.0 made.1.items made.2) }
+    requires can { CanRunAll job.now (plans_by job.now codes.now) }
+    requires can_run { AllByRecursion CanRunCode codes.now }
+    ensures { IfOk result (λ made. IsMade job.now (plans_by job.now codes.now) made.0 made.1.items made.2) }
 {
+    let bodies = all_bodies(alloc, job, codes)?;
     let (sets, turns) = new_sets(alloc, job)?;
     let world = World {
         recording: &job.recording,

@@ -1,5 +1,6 @@
 // Whole runs on threads.
-ghost use Rattle.std.specs.Prelude.{◌≡◌, IfOk};
+ghost use Rattle.std.specs.Prelude.{◌≡◌, List, IfOk};
+ghost use Rattle.bpf_insn.specs.declared.insn.Insn.{Insn};
 ghost use Rattle.bt_meaning.specs.Instructions.{instructions_of};
 ghost use Rattle.bt_meaning.specs.Interleavings.{IsReplayed};
 ghost use Rattle.bt_meaning.specs.Jobs.{IsJob};
@@ -7,6 +8,8 @@ ghost use Rattle.bt_meaning.specs.Prints.{printed_text};
 ghost use Rattle.bt_meaning.specs.Replays.{cpus_of};
 ghost use Rattle.bt_meaning.specs.Texts.{EmitOwn};
 ghost use Rattle.bt_meaning.specs.Walks.{replay_of};
+ghost use Rattle.code_bodies.specs.Coding.{code_replay};
+ghost use Rattle.script_programs.specs.Programs.{AreCodesOf, KeepScript};
 ghost use Rattle.bt_run.specs.Jobs.{cpus_in, world_for};
 ghost use Rattle.bt_run.specs.Moments.{Moment};
 ghost use Rattle.thread_run.specs.Closed.{AreClosedAt};
@@ -18,8 +21,10 @@ use bt_core::items::Items;
 use bt_core::memory::Memory;
 use bt_core::step::Step;
 use bt_meaning::text::text_of_run;
+use bt_run::held::{job_is_held, replies_are_held};
 use bt_run::job::{Job, Work};
-use bt_run::walks::Walks;
+use code_bodies::laws::{code_means_walks, codes_take_few};
+use script_programs::codes::codes_of;
 use std::alloc::Global;
 use std::sync::Wait;
 use std::thread::Threads;
@@ -39,12 +44,13 @@ fn text_of(alloc: Global, job: &Job, closed: &Closed, steps: &[Step]) -> Result<
     text_of_run(alloc, script, steps, rows.as_slice(), lost.as_slice())
 }
 
-/// Runs a job with each CPU on a thread of its own, by walking the trees of its bodies: `BEGIN`, then all CPUs side by side, each with
-/// its agenda, and then `END`.
+/// Runs a job with each CPU on a thread of its own, each body by the code that its program is: `BEGIN`, then all CPUs side by side, each
+/// with its agenda, and then `END`. Each program is decoded once.
 ///
 /// The steps are an interleaving of the script over the recording, in the order of their stamps (`replayed`): any one that the threads
-/// took. The text is what they print (`printed`), read of the objects once all locks are closed. The gate is told of each turn while it
-/// is held. Where no thread can be started, the caller runs a CPU itself.
+/// took. The text is what they print (`printed`), read of the objects once all locks are closed. The instructions are those that the
+/// codes of the programs take under the replies in the steps (`instructions`). The gate is told of each turn while it is held. Where no
+/// thread can be started, the caller runs a CPU itself.
 ///
 /// # Errors
 ///
@@ -55,15 +61,20 @@ pub fn run_threads<G: Gate + Sync, R: Threads + Wait + Sync>(
     job: &Job,
     gate: &G,
 ) -> Result<Work, Memory>
-    requires { IsJob job.now.typed job.now.attached job.now.recording }
+    requires job { IsJob job.now.typed job.now.attached job.now.recording }
+    requires programs { KeepScript job.now.typed job.now.programs }
     ensures replayed { let p = replay_of job.now.typed job.now.attached job.now.recording in IfOk result (λ work. IsReplayed p work.steps) }
     ensures printed { let p = replay_of job.now.typed job.now.attached job.now.recording in IfOk result (λ work.
         work.text ≡ printed_text job.now.typed (cpus_of p) work.steps) }
-    ensures instructions { let p = replay_of job.now.typed job.now.attached job.now.recording in IfOk result (λ work.
-        work.instructions ≡ instructions_of p work.steps) }
+    ensures instructions { IfOk result (λ work. (codes : List (List Insn)) → AreCodesOf job.now.programs codes →
+        work.instructions ≡ instructions_of (code_replay job.now.typed codes job.now.attached job.now.recording) work.steps) }
 {
-    let walks = Walks::of_all(alloc, job)?;
-    let (closed, steps, instructions) = make_steps(rt, alloc, job, walks, gate)?;
+    code_means_walks();
+    codes_take_few();
+    job_is_held(job);
+    let codes = codes_of(alloc, job.programs.as_slice())?;
+    let (closed, steps, instructions) = make_steps(rt, alloc, job, codes.as_slice(), gate)?;
+    replies_are_held(steps.as_slice());
     let text = text_of(alloc, job, &closed, steps.as_slice())?;
     Ok(Work {
         steps: Items::of(steps),

@@ -2,16 +2,15 @@ use Rattle.std.proofs.Common.{◌≡◌, ◌+◌, true, drop, map, length}
 use Rattle.std.specs.Prelude.{replicate}
 use Rattle.bt_meaning.specs.Serial.{unstamped, taken}
 use Rattle.bt_run.specs.Counts.{taken_count}
-use Rattle.bt_run.specs.Jobs.{cpus_in, replay_with, world_for, HavePlans}
+use Rattle.bt_run.specs.Jobs.{cpus_in, plans_by, replay_with, world_for}
 use Rattle.bt_run.proofs.serial.take_all.Given as goal
 
 abbrev pub invariant-loop-item : goal.invariant-loop-item
-invariant-loop-item g l = record {
-  left : taken (replay_with l.job (g.B.ActorPlans.plans l.job)) (drop l.item-index l.order) l.going.items (map unstamped l.port.steps)
-      ≡ taken (replay_with l.job (g.B.ActorPlans.plans l.job)) l.order (replicate (cpus_in l.job) true) (map unstamped l.fn.port.steps);
-  counted : l.total + taken_count (replay_with l.job (g.B.ActorPlans.plans l.job)) (drop l.item-index l.order) l.going.items (map unstamped l.port.steps)
-      ≡ taken_count (replay_with l.job (g.B.ActorPlans.plans l.job)) l.order (replicate (cpus_in l.job) true) (map unstamped l.fn.port.steps);
-  have : HavePlans g.B.Bodies.plan (cpus_in l.job + 1) (g.B.ActorPlans.plans l.job) l.bodies.items;
+invariant-loop-item l = record {
+  left : taken (replay_with l.job (plans_by l.job l.codes)) (drop l.item-index l.order) l.going.items (map unstamped l.port.steps)
+      ≡ taken (replay_with l.job (plans_by l.job l.codes)) l.order (replicate (cpus_in l.job) true) (map unstamped l.fn.port.steps);
+  counted : l.total + taken_count (replay_with l.job (plans_by l.job l.codes)) (drop l.item-index l.order) l.going.items (map unstamped l.port.steps)
+      ≡ taken_count (replay_with l.job (plans_by l.job l.codes)) l.order (replicate (cpus_in l.job) true) (map unstamped l.fn.port.steps);
   long : length l.going.items ≡ cpus_in l.job;
   world : l.port.world ≡ world_for l.job;
   among : l.port.turn.among ≡ true;

@@ -13,6 +13,11 @@ use Rattle.side_locks.specs.Steps.{own_of_clock, reply_of_clock, own_of_out, rep
 use Rattle.side_locks.specs.Turns.{Both, clocks, outs}
 use Rattle.bt_meaning.proofs.OwnCalls.{all_fine}
 use Rattle.std.proofs.lemmas.List.Elements.{All-from_recursion}
+use denote.Param.Send.{sendable}
+use Rattle.std.proofs.Crossing.{crosses}
+use Rattle.cpu_worker.specs.Worlds.{IsPlanIn}
+use Rattle.cpu_worker.proofs.ScriptShared.{sync_typed}
+use Rattle.bt_run.specs.Jobs.{plans_by}
 use Rattle.thread_run.proofs.Making.{AreAllShut, all_maps, all_tables, all_sides, is_replayed, is_counted, is_possible, maps_are_stood, tables_are_stood}
 use Rattle.thread_run.proofs.Objects.{own_of_part, reply_of_part, out_kind, out_stands}
 use Rattle.thread_run.proofs.Turning.{from_rows}
@@ -22,25 +27,34 @@ pub run_actors-requires-clause-turns : goal.run_actors-requires-clause-turns
 run_actors-requires-clause-turns g c κs within = let s = c.in_ok-sets.sets in let h = c.in_ok-sets.ensures.turns in
     from_rows (record { maps = s.maps; tables = s.tables; sides = s.sides }) 0 c.in_ok-sets.turns.items h.maps.1 h.tables.1 h.sides.clock.1 h.sides.out.1
 
+pub run_actors-requires-send-B : goal.run_actors-requires-send-B
+run_actors-requires-send-B g c κs within = search (sync_typed, crosses, sendable) depth 60 fits 20000
+
+pub run_actors-requires-clause-plans : goal.run_actors-requires-clause-plans
+run_actors-requires-clause-plans g c κs within = λ actor d lt.
+    let of = c.requires.can.plans_are actor in
+    subst (IsPlanIn _ actor) (sym (c.in_ok-bodies.ensures.each actor d lt))
+    (record { actor_is = of.actor_is; actors = of.actors; served = of.served; bodies = of.bodies; takes_few = of.few })
+
 pub close-requires : goal.close-requires
 close-requires g c = subst (parts_in.AreAll c.in_ok-sets.sets.maps) (sym c.in_ok-map_turns.ensures.maps)
-    (all_maps _ (g.B.ActorPlans.plans c.args.job.now) c.in_ok-all.all (c.in_ok-all.ensures (g.B.ActorPlans.plans c.args.job.now) c.requires.have))
+    (all_maps _ (plans_by c.args.job.now c.args.codes.now) c.in_ok-all.all (c.in_ok-all.ensures (plans_by c.args.job.now c.args.codes.now) c.in_ok-bodies.ensures))
 
 pub close-requires-2 : goal.close-requires-2
 close-requires-2 g c = subst (tables_in.AreAll c.in_ok-sets.sets.tables) (sym c.in_ok-map_turns.ensures.tables)
-    (all_tables _ (g.B.ActorPlans.plans c.args.job.now) c.in_ok-all.all (c.in_ok-all.ensures (g.B.ActorPlans.plans c.args.job.now) c.requires.have))
+    (all_tables _ (plans_by c.args.job.now c.args.codes.now) c.in_ok-all.all (c.in_ok-all.ensures (plans_by c.args.job.now c.args.codes.now) c.in_ok-bodies.ensures))
 
 pub close-requires-3 : goal.close-requires-3
 close-requires-3 g c = subst (sides_in.AreAll c.in_ok-sets.sets.sides) (sym c.in_ok-map_turns.ensures.sides)
-    (all_sides _ (g.B.ActorPlans.plans c.args.job.now) c.in_ok-all.all (c.in_ok-all.ensures (g.B.ActorPlans.plans c.args.job.now) c.requires.have))
+    (all_sides _ (plans_by c.args.job.now c.args.codes.now) c.in_ok-all.all (c.in_ok-all.ensures (plans_by c.args.job.now c.args.codes.now) c.in_ok-bodies.ensures))
 
 pub returns : goal.returns
 returns g c =
     let s = c.in_ok-sets.sets in
-    let plans = g.B.ActorPlans.plans c.args.job.now in
+    let plans = plans_by c.args.job.now c.args.codes.now in
     let own : (actor : ℕ) → (plans actor).actor ≡ actor = λ actor. (c.requires.can.plans_are actor).actor_is in
     let all = c.in_ok-all.all in
-    let done = c.in_ok-all.ensures plans c.requires.have in
+    let done = c.in_ok-all.ensures plans c.in_ok-bodies.ensures in
     let maps = c.in_ok-maps.maps.items in
     let tables = c.in_ok-tables.tables.items in
     let clock = c.in_ok-_sides._sides.0 in

@@ -1,0 +1,6 @@
+use Rattle.code_bodies.specs.Running.{plan_of}
+use Rattle.bt_run.specs.Jobs.{plans_by, HavePlans}
+use Rattle.thread_run.proofs.bodies.all_bodies.Given as goal
+
+abbrev pub invariant-loop-actor : goal.invariant-loop-actor
+invariant-loop-actor l = HavePlans plan_of l.actor (plans_by l.job l.codes) l.bodies.items

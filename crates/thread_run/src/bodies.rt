@@ -1,0 +1,32 @@
+// The bodies of all actors by their code.
+ghost use Rattle.std.specs.Prelude.{◌+◌, ◌<◌, ◌^◌, IfOk};
+ghost use Rattle.std.specs.List.{AllByRecursion};
+ghost use Rattle.code_bodies.specs.Coding.{CanRunCode};
+ghost use Rattle.code_bodies.specs.Running.{plan_of};
+ghost use Rattle.bt_run.specs.Jobs.{cpus_in, plans_by, HavePlans};
+
+use bpf_insn::insn::Insn;
+use bt_core::items::Items;
+use bt_core::memory::Memory;
+use bt_run::bodies::bodies_at;
+use bt_run::job::Job;
+use code_bodies::code_bodies::CodeBodies;
+use std::alloc::Global;
+
+/// What runs the bodies of a job's script by these codes, for each actor: the CPUs by their places, and the main actor.
+pub(crate) fn all_bodies<'a>(
+    alloc: Global,
+    job: &'a Job,
+    codes: &'a [Items<Insn>],
+) -> Result<Vec<CodeBodies<'a>>, Memory>
+    requires few { cpus_in job.now + 1 < 2 ^ 32 }
+    requires can_run { AllByRecursion CanRunCode codes.now }
+    ensures { IfOk result (λ bodies. HavePlans plan_of (cpus_in job.now + 1) (plans_by job.now codes.now) bodies.items) }
+{
+    let actors = job.recording.cpus.len() as u32 + 1;
+    let mut bodies = Vec::new(alloc);
+    for actor in 0..actors {
+        bodies.push(bodies_at(job, codes, actor))?;
+    }
+    Ok(bodies)
+}
