@@ -1,0 +1,15 @@
+pub mod Adding
+pub mod Attach
+pub mod Body
+pub mod Few
+pub mod Grammar
+pub mod Inversion
+pub mod Keys
+pub mod MadeFormat
+pub mod Needs
+pub mod OneTree
+pub mod Sizes
+pub mod Tokens
+pub mod Typed
+pub mod Types
+pub mod Walked
