@@ -80,7 +80,7 @@ no_fault files (Recording (recording.Fault error)) laws a b = valid files b.says
 no_fault files (Script (script.Fault wrong place)) laws a b =
     no_script_fault files.script b.says _ b.tree laws.script
     (subst (λ (r : Recorded). IsScriptFault files.script r (Script (script.Fault wrong place))) (one_recording files a.1 b.says laws a.2 b.accepted.is) a.3)
-    b.accepted.script.has b.accepted.script.attached b.accepted.script.typed
+    b.accepted.script.has b.accepted.script.attached b.accepted.script.typed b.accepted.script.sized
 no_fault files refusal laws a b = a
 
 -- of what is due there is only one thing
@@ -107,12 +107,14 @@ recording_is_fault files error short found = inr (short, found (λ e. cc))
 
 -- what the script asks for over the recording is what the files ask for
 pub script_is_job : (files : Files) (says : Recorded) (job : ScriptJob) → AreShort files → IsRecording files.recording says → IsScriptJob files.script says job
-    → IsJobOf files (record { recording = says; attached = job.attached; typed = job.typed })
+    → IsJobOf files (record { recording = says; attached = job.attached; typed = job.typed; programs = job.programs })
 script_is_job files says job short is asks = record {
   tree = asks.tree;
   accepted = record { short = short; is = is; script = asks.script };
   attached = asks.attached;
   typed = asks.typed;
+  fits = asks.fits;
+  programs = asks.programs;
 }
 
 -- files that ask for a job are accepted

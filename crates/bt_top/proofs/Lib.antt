@@ -1,5 +1,10 @@
+mod Bounds
+mod Doings
 mod Due
 mod Headlines
 mod Judging
 mod LineLaws
+mod Listed
+mod Making
 mod Scripts
+mod TooLarge

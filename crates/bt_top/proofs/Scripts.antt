@@ -1,7 +1,7 @@
 -- The tree of a script, and its first fault.
 use Rattle.std.proofs.Common.{◌≡◌, ◌≢◌, ℕ, List, refl, sym, ap, subst, ◌∙◌, inl}
 use Rattle.std.proofs.Common.{inr, All}
-use Rattle.std.specs.Prelude.{Option, Some, None, slice_get}
+use Rattle.std.specs.Prelude.{Option, Some, None, Result, Ok, Err, IfOk, IfErr, slice_get}
 use Rattle.std.proofs.lemmas.List.Elements.{All-weaker}
 use Rattle.tracefs_format.specs.declared.format.Format.{Format}
 use Rattle.bt_lexer.specs.declared.error.LexError.{LexError}
@@ -37,15 +37,22 @@ use Rattle.bt_top.specs.declared.refusal.Refusal.{Refusal}
 use Rattle.bt_top.specs.declared.refusal.ScriptRefusal.TheVariants.{Fault}
 use Rattle.bt_top.specs.declared.refusal.Refusal.TheVariants.{Script}
 use Rattle.bt_top.specs.Script.{place_at, place_of, lexical_refusal, parse_refusal, attach_refusal, HasTree, IsTextFault, IsAttachFault}
-use Rattle.bt_top.specs.Script.{type_refusal, body_fault, IsTypeFault}
+use Rattle.bt_top.specs.Script.{type_refusal, body_fault, IsTypeFault, IsSizeFault}
 use Rattle.bt_top.specs.Script.{IsScriptFault}
 use Rattle.bt_types.specs.Script.{IsTypedScript}
+use Rattle.bt_ast.specs.declared.probe.Probe.{Probe}
+use Rattle.script_programs.specs.declared.error.SizeFault.{SizeFault}
+use Rattle.script_programs.specs.Programs.{KeepScript}
+use Rattle.script_programs.specs.Sizes.{first_size_fault}
 use Rattle.typed_tree.specs.declared.script.Typed.{Typed}
+use Rattle.bt_top.specs.declared.judge.ScriptJob.{ScriptJob}
+use Rattle.bt_top.specs.Doing.{HasPrograms, IsSizeAnswer}
 use Rattle.bt_top.specs.Serve.{IsTextRefusal, IsScriptRefusal, IsScriptJob}
+use Rattle.bt_top.specs.Sizes.{HasTypes, IsLarge, IsProbePlace, IsSized, TellsLarge, size_refusal, size_wrong}
 
 -- ---- the first fault of a script
 
--- what the laws of the lexer and of the parser say of a text
+-- what the laws of the lexer and of the parser say of a text, and that of sizes
 pub record AreScriptLaws (text : List ℕ) : Type 0 where
   pub tokens : (one other : List Token) → IsTokensOf text one → IsTokensOf text other → one ≡ other
   pub lexical : (one other : LexError) → IsFirstFault text one → IsFirstFault text other → one ≡ other
@@ -53,6 +60,8 @@ pub record AreScriptLaws (text : List ℕ) : Type 0 where
   pub tree : (ts : List Item) (one other : Tree) → IsTreeOf ts one → IsTreeOf ts other → one ≡ other
   pub parse : (ts : List Item) (one other : ParseError) → IsRefusal ts one → IsRefusal ts other → one ≡ other
   pub parse_apart : (ts : List Item) (tree : Tree) (fault : ParseError) → IsTree ts tree → IsRefusal ts fault → ⊥
+  pub sizes : (tree : Tree) (formats : List Format) (bodies : List BodyId) (one other : Typed) → IsTypedScript tree formats bodies one
+      → IsTypedScript tree formats bodies other → first_size_fault 0 one.bodies ≡ first_size_fault 0 other.bodies
 
 pub one_text_fault : (text : List ℕ) (one other : Refusal) → AreScriptLaws text → IsTextFault text one → IsTextFault text other → one ≡ other
 one_text_fault text one other laws (inl a) (inl b) = a.told ∙ ap (lexical_refusal text) (laws.lexical a.fault b.fault a.first b.first) ∙ sym b.told
@@ -131,7 +140,7 @@ one_type_fault text says one other laws a b =
     a.told ∙ ap (λ (f : TypeFault). type_refusal (typing.Broken f)) fault ∙ sym b.told
 
 -- a tree that has a fault is no tree that has none
-attach_apart : (text : List ℕ) (says : Recorded) (refusal : Refusal) (tree : Tree) → AreScriptLaws text → IsAttachFault text says refusal
+pub attach_apart : (text : List ℕ) (says : Recorded) (refusal : Refusal) (tree : Tree) → AreScriptLaws text → IsAttachFault text says refusal
     → HasTree text tree → attach_fault tree says.formats says.start says.end ≡ None → ⊥
 attach_apart text says refusal tree laws a has none =
     some_is_not _ _ a.fault (ap (λ (t : Tree). attach_fault t says.formats says.start says.end) (one_tree text a.tree tree laws a.has has)) a.first none
@@ -139,7 +148,7 @@ attach_apart text says refusal tree laws a has none =
     some_is_not : (a b : Option AttachError) (fault : AttachError) → a ≡ b → a ≡ Some fault → b ≡ None → ⊥
     some_is_not a b fault e is none = cc
 
-type_apart : (text : List ℕ) (says : Recorded) (refusal : Refusal) (tree : Tree) → AreScriptLaws text → IsTypeFault text says refusal
+pub type_apart : (text : List ℕ) (says : Recorded) (refusal : Refusal) (tree : Tree) → AreScriptLaws text → IsTypeFault text says refusal
     → HasTree text tree → body_fault tree says ≡ None → ⊥
 type_apart text says refusal tree laws a has none =
     some_is_not _ _ a.fault (ap (λ (t : Tree). body_fault t says) (one_tree text a.tree tree laws a.has has)) a.first none
@@ -147,24 +156,80 @@ type_apart text says refusal tree laws a has none =
     some_is_not : (a b : Option TypeFault) (fault : TypeFault) → a ≡ b → a ≡ Some fault → b ≡ None → ⊥
     some_is_not a b fault e is none = cc
 
+-- ---- sizes
+
+some_same : {A : Type 0} (a b : A) → Some a ≡ Some b → a ≡ b
+some_same a b e = cc
+
+-- typed scripts of one tree over one recording have the same first body that is too large
+one_size : (text : List ℕ) (tree : Tree) (says : Recorded) (a b : Attached) (s t : Typed) → AreScriptLaws text → HasTypes tree says a s → HasTypes tree says b t
+    → first_size_fault 0 s.bodies ≡ first_size_fault 0 t.bodies
+one_size text tree says a b s t laws one other =
+    let bodies : b.bodies ≡ a.bodies = other.attached_to.bodies ∙ sym one.attached_to.bodies in
+    laws.sizes tree says.formats a.bodies s t one.typed_of (subst (λ (l : List BodyId). IsTypedScript tree says.formats l t) bodies other.typed_of)
+
+-- the probe of a body stands at one place
+one_place : (tree : Tree) (a b : Attached) (n m : ℕ) (p q : Place) → a.bodies ≡ b.bodies → n ≡ m → IsProbePlace tree a n p → IsProbePlace tree b m q → p ≡ q
+one_place tree a b n m p q bodies same one other =
+    let ids : one.id ≡ other.id = some_same one.id other.id (sym one.of_body ∙ (λ i. slice_get (bodies i) (same i)) ∙ other.of_body) in
+    let probes : one.probe ≡ other.probe =
+    some_same one.probe other.probe (sym one.of_probe ∙ ap (λ (id : BodyId). slice_get tree.probes id.probe) ids ∙ other.of_probe) in
+    one.at ∙ ap (λ (x : Probe). x.place) probes ∙ sym other.at
+
+one_large : (text : List ℕ) (tree : Tree) (says : Recorded) (one other : Refusal) → AreScriptLaws text → IsLarge tree says one → IsLarge tree says other → one ≡ other
+one_large text tree says one other laws a b =
+    let bodies : a.attached.bodies ≡ b.attached.bodies = a.types.attached_to.bodies ∙ sym b.types.attached_to.bodies in
+    let pair : (a.large.body, a.large.much) ≡ (b.large.body, b.large.much) =
+    some_same (a.large.body, a.large.much) (b.large.body, b.large.much)
+    (sym a.large.first ∙ one_size text tree says a.attached b.attached a.typed b.typed laws a.types b.types ∙ b.large.first) in
+    let place : a.large.place ≡ b.large.place =
+    one_place tree a.attached b.attached a.large.body b.large.body a.large.place b.large.place bodies (ap (λ (p : ℕ × SizeFault). p.0) pair) a.large.at b.large.at in
+    let much : a.large.much ≡ b.large.much = ap (λ (p : ℕ × SizeFault). p.1) pair in
+    a.large.told ∙ (λ i. size_refusal (much i) (place i)) ∙ sym b.large.told
+
+one_size_fault : (text : List ℕ) (says : Recorded) (one other : Refusal) → AreScriptLaws text
+    → IsSizeFault text says one → IsSizeFault text says other → one ≡ other
+one_size_fault text says one other laws a b =
+    let tree = one_tree text a.tree b.tree laws a.has b.has in
+    one_large text b.tree says one other laws (subst (λ (t : Tree). IsLarge t says one) tree a.large) b.large
+
+-- a tree of which a body is too large is none of which no body is
+size_apart : (text : List ℕ) (says : Recorded) (refusal : Refusal) (tree : Tree) → AreScriptLaws text → IsSizeFault text says refusal
+    → HasTree text tree → IsSized tree says → ⊥
+size_apart text says refusal tree laws a has sized =
+    let large = subst (λ (t : Tree). IsLarge t says refusal) (one_tree text a.tree tree laws a.has has) a.large in
+    some_is_not (large.large.body, large.large.much)
+    (sym large.large.first ∙ one_size text tree says large.attached sized.attached large.typed sized.typed laws large.types sized.types ∙ sized.fits)
+  where
+    some_is_not : (p : ℕ × SizeFault) → Some p ≡ None → ⊥
+    some_is_not p e = cc
+
 pub one_script_fault : (text : List ℕ) (says : Recorded) (one other : Refusal) → AreScriptLaws text
     → IsScriptFault text says one → IsScriptFault text says other → one ≡ other
 one_script_fault text says one other laws (inl a) (inl b) = one_text_fault text one other laws a b
 one_script_fault text says one other laws (inl a) (inr (inl b)) = absurd (no_tree text one b.tree laws a b.has)
-one_script_fault text says one other laws (inl a) (inr (inr b)) = absurd (no_tree text one b.tree laws a b.has)
+one_script_fault text says one other laws (inl a) (inr (inr (inl b))) = absurd (no_tree text one b.tree laws a b.has)
+one_script_fault text says one other laws (inl a) (inr (inr (inr b))) = absurd (no_tree text one b.tree laws a b.has)
 one_script_fault text says one other laws (inr (inl a)) (inl b) = absurd (no_tree text other a.tree laws b a.has)
 one_script_fault text says one other laws (inr (inl a)) (inr (inl b)) = one_attach_fault text says one other laws a b
-one_script_fault text says one other laws (inr (inl a)) (inr (inr b)) = absurd (attach_apart text says one b.tree laws a b.has b.attached)
-one_script_fault text says one other laws (inr (inr a)) (inl b) = absurd (no_tree text other a.tree laws b a.has)
-one_script_fault text says one other laws (inr (inr a)) (inr (inl b)) = absurd (attach_apart text says other a.tree laws b a.has a.attached)
-one_script_fault text says one other laws (inr (inr a)) (inr (inr b)) = one_type_fault text says one other laws a b
+one_script_fault text says one other laws (inr (inl a)) (inr (inr (inl b))) = absurd (attach_apart text says one b.tree laws a b.has b.attached)
+one_script_fault text says one other laws (inr (inl a)) (inr (inr (inr b))) = absurd (attach_apart text says one b.tree laws a b.has b.attached)
+one_script_fault text says one other laws (inr (inr (inl a))) (inl b) = absurd (no_tree text other a.tree laws b a.has)
+one_script_fault text says one other laws (inr (inr (inl a))) (inr (inl b)) = absurd (attach_apart text says other a.tree laws b a.has a.attached)
+one_script_fault text says one other laws (inr (inr (inl a))) (inr (inr (inl b))) = one_type_fault text says one other laws a b
+one_script_fault text says one other laws (inr (inr (inl a))) (inr (inr (inr b))) = absurd (type_apart text says one b.tree laws a b.has b.typed)
+one_script_fault text says one other laws (inr (inr (inr a))) (inl b) = absurd (no_tree text other a.tree laws b a.has)
+one_script_fault text says one other laws (inr (inr (inr a))) (inr (inl b)) = absurd (attach_apart text says other a.tree laws b a.has a.attached)
+one_script_fault text says one other laws (inr (inr (inr a))) (inr (inr (inl b))) = absurd (type_apart text says other a.tree laws b a.has a.typed)
+one_script_fault text says one other laws (inr (inr (inr a))) (inr (inr (inr b))) = one_size_fault text says one other laws a b
 
 -- a script with a fault is not accepted
 pub no_script_fault : (text : List ℕ) (says : Recorded) (refusal : Refusal) (tree : Tree) → AreScriptLaws text → IsScriptFault text says refusal
-    → HasTree text tree → attach_fault tree says.formats says.start says.end ≡ None → body_fault tree says ≡ None → ⊥
-no_script_fault text says refusal tree laws (inl a) has none typed = no_tree text refusal tree laws a has
-no_script_fault text says refusal tree laws (inr (inl a)) has none typed = attach_apart text says refusal tree laws a has none
-no_script_fault text says refusal tree laws (inr (inr a)) has none typed = type_apart text says refusal tree laws a has typed
+    → HasTree text tree → attach_fault tree says.formats says.start says.end ≡ None → body_fault tree says ≡ None → IsSized tree says → ⊥
+no_script_fault text says refusal tree laws (inl a) has none typed sized = no_tree text refusal tree laws a has
+no_script_fault text says refusal tree laws (inr (inl a)) has none typed sized = attach_apart text says refusal tree laws a has none
+no_script_fault text says refusal tree laws (inr (inr (inl a))) has none typed sized = type_apart text says refusal tree laws a has typed
+no_script_fault text says refusal tree laws (inr (inr (inr a))) has none typed sized = size_apart text says refusal tree laws a has sized
 
 -- what the lexer and the parser refuse, as a fault over a recording
 pub text_told : (text : List ℕ) (says : Recorded) (refusal : Refusal) → IsTextRefusal text refusal → IsScriptRefusal text says refusal
@@ -236,17 +301,51 @@ type_told text says tree bodies (typing.Broken fault) has attached same found = 
   place = fault.place;
   told = refl;
   first =
-      inr (inr (record { tree = tree; fault = fault; has = has; attached = attached; first = sym same ∙ found fault refl; told = refl }));
+      inr (inr (inl (record { tree = tree; fault = fault; has = has; attached = attached; first = sym same ∙ found fault refl; told = refl })));
 })
 
--- what is attached and has its types is what the script asks for
-pub job_told : (text : List ℕ) (says : Recorded) (tree : Tree) (attached : Attached) (typed : Typed) → HasTree text tree
-    → attach_fault tree says.formats says.start says.end ≡ None → IsAttachedTo tree says.formats says.start says.end attached
-    → type_fault tree says.formats attached.bodies ≡ None → IsTypedScript tree says.formats attached.bodies typed
-    → IsScriptJob text says (record { attached = attached; typed = typed })
-job_told text says tree attached typed has none is allowed of = record {
-  tree = tree;
-  script = record { has = has; attached = none; typed = sym (bodies_of_tree tree says attached is) ∙ allowed };
-  attached = is;
-  typed = of;
-}
+-- what is attached, has its types and is not too large is what the script asks for; and what is too large refuses it
+module _ (text : List ℕ) (says : Recorded) (tree : Tree) (attached : Attached) (typed : Typed) (has : HasTree text tree)
+    (none : attach_fault tree says.formats says.start says.end ≡ None) (is : IsAttachedTo tree says.formats says.start says.end attached)
+    (allowed : type_fault tree says.formats attached.bodies ≡ None) (of : IsTypedScript tree says.formats attached.bodies typed) where
+  no_fault : body_fault tree says ≡ None
+  no_fault = sym (bodies_of_tree tree says attached is) ∙ allowed
+
+  types : HasTypes tree says attached typed
+  types = record { attached_to = is; typed_of = of }
+
+  pub job_told : (answer : Result ScriptJob Refusal) → IfOk answer (HasPrograms attached typed) → IfOk answer (IsScriptJob text says)
+  job_told (Err refusal) made = tt
+  job_told (Ok job) made = record {
+    tree = tree;
+    script = record {
+      has = has;
+      attached = none;
+      typed = no_fault;
+      sized = record { attached = attached; typed = typed; types = types; fits = made.fits };
+    };
+    attached = subst (λ (a : Attached). IsAttachedTo tree says.formats says.start says.end a) (sym made.attached_is) is;
+    typed = subst (λ (t : Typed). IsTypedScript tree says.formats job.attached.bodies t) (sym made.typed_is)
+        (subst (λ (a : Attached). IsTypedScript tree says.formats a.bodies typed) (sym made.attached_is) of);
+    fits = subst (λ (t : Typed). first_size_fault 0 t.bodies ≡ None) (sym made.typed_is) made.fits;
+    programs = subst (λ (t : Typed). KeepScript t job.programs) (sym made.typed_is) made.programs;
+  }
+
+  size_fault : (refusal : Refusal) → TellsLarge tree attached typed refusal → IsSizeFault text says refusal
+  size_fault refusal large = record {
+    tree = tree;
+    has = has;
+    attached = none;
+    typed = no_fault;
+    large = record { attached = attached; typed = typed; types = types; large = large };
+  }
+
+  pub size_told : (answer : Result ScriptJob Refusal) → IfErr answer (IsSizeAnswer tree attached typed) → IfErr answer (IsScriptRefusal text says)
+  size_told (Ok job) why = tt
+  size_told (Err refusal) (inl memory) = inl memory
+  size_told (Err refusal) (inr wrong) = inr (record {
+    fault = size_wrong wrong.much;
+    place = wrong.place;
+    told = wrong.told;
+    first = inr (inr (inr (subst (λ (r : Refusal). IsSizeFault text says r) wrong.told (size_fault refusal wrong))));
+  })

@@ -11,6 +11,7 @@ use Rattle.bt_top.specs.declared.refusal.RecordingRefusal.TheVariants as recordi
 use Rattle.bt_top.specs.declared.refusal.Refusal.{Refusal}
 use Rattle.bt_top.specs.declared.refusal.Refusal.TheVariants.{Usage, Script, Recording, ReadFault, WriteFault, Memory}
 use Rattle.bt_top.specs.Script.{IsScriptFault, HasTree, body_fault}
+use Rattle.bt_top.specs.Sizes.{IsSized}
 
 -- the bytes of the two files
 pub record Files : Type 0 where
@@ -27,11 +28,13 @@ pub record IsRecording (bytes : List ℕ) (says : Recorded) : Type 0 where
   pub valid : IsValidRecording says
   pub spelled : bytes ≡ recording_bytes says
 
--- the script has this tree, of whose points none breaks a rule over this recording, and of whose bodies none breaks a rule of types
+-- the script has this tree, of whose points none breaks a rule over this recording, and of whose bodies none breaks a rule of types or is
+-- too large
 pub record IsScriptFor (text : List ℕ) (says : Recorded) (tree : Tree) : Type 0 where
   pub has : HasTree text tree
   pub attached : attach_fault tree says.formats says.start says.end ≡ None
   pub typed : body_fault tree says ≡ None
+  pub sized : IsSized tree says
 
 -- two files that are accepted: a valid recording, and a script for it
 pub record AreAccepted (files : Files) (says : Recorded) (tree : Tree) : Type 0 where
@@ -45,7 +48,7 @@ pub record IsAccepted (files : Files) : Type 0 where
   pub tree : Tree
   pub accepted : AreAccepted files says tree
 
--- what refuses two files: the first in the order script read, recording read, recording, lexing, parsing, attaching, typing
+-- what refuses two files: the first in the order script read, recording read, recording, lexing, parsing, attaching, typing, frame and code
 abbrev pub IsFault : Files → Refusal → Type 0
 IsFault files (Script script.TooLong) = SCRIPT_BYTES < length files.script
 IsFault files (Recording recording.TooLong) = (length files.script ≤ SCRIPT_BYTES) × (RECORDING_BYTES < length files.recording)

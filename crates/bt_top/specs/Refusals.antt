@@ -13,7 +13,7 @@ use Rattle.bt_top.specs.declared.refusal.Operand.TheVariants as operand
 use Rattle.bt_top.specs.declared.refusal.ScriptFault.{ScriptFault}
 use Rattle.bt_top.specs.declared.refusal.ScriptFault.TheVariants.{BadCharacter, OpenString, OpenComment, NumberTooLarge, BadEscape, StringTooLong, Syntax}
 use Rattle.bt_top.specs.declared.refusal.ScriptFault.TheVariants.{TooDeep, TooManyProbes, UnknownTracepoint, NoMatch, BadPeriod, TooManyTicks, TooManyAttached}
-use Rattle.bt_top.specs.declared.refusal.ScriptFault.TheVariants.{Types}
+use Rattle.bt_top.specs.declared.refusal.ScriptFault.TheVariants.{Types, FrameTooLarge, CodeTooLarge}
 use Rattle.expr_types.specs.declared.fault.Rule.{Rule}
 use Rattle.expr_types.specs.declared.fault.Rule.TheVariants as types
 use Rattle.bt_top.specs.declared.refusal.ScriptRefusal.{ScriptRefusal}
@@ -118,23 +118,44 @@ script_fault_text BadPeriod = codes "A3 bad period"
 script_fault_text TooManyTicks = codes "A4 too many ticks"
 script_fault_text TooManyAttached = codes "A5 too many attachments"
 script_fault_text (Types rule) = rule_text rule
+script_fault_text (FrameTooLarge bytes) = codes "K1 frame too large: "
+script_fault_text (CodeTooLarge slots) = codes "K2 code too large: "
+
+-- how large something is that is too large, and in what that is counted
+abbrev pub size_in : ScriptFault → Option ℕ
+size_in (FrameTooLarge bytes) = Some bytes
+size_in (CodeTooLarge slots) = Some slots
+size_in wrong = None
+
+abbrev pub unit_in : ScriptFault → List ℕ
+unit_in (FrameTooLarge bytes) = codes " bytes"
+unit_in (CodeTooLarge slots) = codes " slots"
+unit_in wrong = []
+
+abbrev pub size_pieces : Option ℕ → List ℕ → List Piece
+size_pieces None unit = []
+size_pieces (Some size) unit = Number size ∷ Text unit ∷ []
 
 -- why a script is refused, behind its name
 abbrev pub script_pieces : ScriptRefusal → List Piece
 script_pieces script.TooLong = Text (codes ": script too long") ∷ []
 script_pieces (script.Fault wrong place) =
-    Text (codes ":") ∷ Number place.line ∷ Text (codes ":") ∷ Number place.column ∷ Text (codes ": ") ∷ Text (script_fault_text wrong) ∷ []
+    Text (codes ":") ∷ Number place.line ∷ Text (codes ":") ∷ Number place.column ∷ Text (codes ": ")
+    ∷ Text (script_fault_text wrong) ∷ size_pieces (size_in wrong) (unit_in wrong)
 
 -- why a recording is refused, behind its name
 abbrev pub recording_pieces : RecordingRefusal → List Piece
 recording_pieces recording.TooLong = Text (codes ": recording too long") ∷ []
 recording_pieces (recording.Fault error) = Text (codes ": ") ∷ fault_pieces error
 
--- what is told of words that break the rule, or ask for what is not built: how what is built is used
+-- what is told of words that break the rule: how the program is used
 abbrev pub usage_pieces : List Piece
 usage_pieces =
-    Text (codes "usage: btreplay run [--serial] SCRIPT RECORDING\n")
-    ∷ Text (codes "       btreplay check SCRIPT RECORDING")
+    Text (codes "usage: btreplay run [--serial] [--stats] SCRIPT RECORDING\n")
+    ∷ Text (codes "       btreplay check SCRIPT RECORDING\n")
+    ∷ Text (codes "       btreplay code SCRIPT RECORDING\n")
+    ∷ Text (codes "       btreplay gen X N\n")
+    ∷ Text (codes "       btreplay big X N")
     ∷ []
 
 abbrev pub name_of : Operands → Operand → List ℕ

@@ -25,6 +25,7 @@ use Rattle.bt_top.specs.declared.refusal.ScriptFault.TheVariants.{Types}
 use Rattle.bt_top.specs.declared.refusal.Refusal.{Refusal}
 use Rattle.bt_top.specs.declared.refusal.ScriptRefusal.TheVariants.{Fault}
 use Rattle.bt_top.specs.declared.refusal.Refusal.TheVariants.{Script, Memory}
+use Rattle.bt_top.specs.Sizes.{IsLarge}
 
 -- ---- the first fault of a script
 
@@ -113,6 +114,15 @@ pub record IsTypeFault (text : List ℕ) (says : Recorded) (refusal : Refusal) :
   pub first : body_fault tree says ≡ Some fault
   pub told : refusal ≡ type_refusal (typing.Broken fault)
 
--- the refusal tells the first fault of a script over a recording, in the order lexing, parsing, attaching, typing
+-- the text has a tree whose points may all be attached and whose bodies break no rule of types, and the first of its bodies that is too
+-- large is told by this refusal
+pub record IsSizeFault (text : List ℕ) (says : Recorded) (refusal : Refusal) : Type 0 where
+  pub tree : Tree
+  pub has : HasTree text tree
+  pub attached : attach_fault tree says.formats says.start says.end ≡ None
+  pub typed : body_fault tree says ≡ None
+  pub large : IsLarge tree says refusal
+
+-- the refusal tells the first fault of a script over a recording, in the order lexing, parsing, attaching, typing, frame and code
 abbrev pub IsScriptFault : List ℕ → Recorded → Refusal → Type 0
-IsScriptFault text says refusal = IsTextFault text refusal ⊎ (IsAttachFault text says refusal ⊎ IsTypeFault text says refusal)
+IsScriptFault text says refusal = IsTextFault text refusal ⊎ (IsAttachFault text says refusal ⊎ (IsTypeFault text says refusal ⊎ IsSizeFault text says refusal))

@@ -1,6 +1,9 @@
 -- What the top call answers.
-use Rattle.std.specs.Prelude.{◌≡◌, ◌≢◌, ℕ, Bool, true, ◌++◌, ◌≤◌, ◌⊎◌, List, [], ◌∷◌, codes, length, map, Option, Some, None, Result, Ok, Err, IfOk, IfErr, IfSome, IsSomeAnd}
+use Rattle.std.specs.Prelude.{◌≡◌, ◌≢◌, ℕ, Bool, true, false, ◌++◌, ◌≤◌, ◌⊎◌, List, [], ◌∷◌, codes, length, map, Option, Some, None}
+use Rattle.std.specs.Prelude.{Result, Ok, Err, IfOk, IfErr, IfSome, IsSomeAnd}
 use Rattle.std.specs.Io.KnownBytes.{Appends, Keeps}
+use Rattle.bpf_codegen.specs.declared.generate.Program.{Program}
+use Rattle.bpf_insn.specs.declared.insn.Insn.{Insn}
 use Rattle.bt_ast.specs.declared.probe.Script.{Script as Tree}
 use Rattle.bt_attach.specs.Attaching.{IsAttachedTo}
 use Rattle.bt_core.specs.declared.limits.TheConstants.{SCRIPT_BYTES}
@@ -18,7 +21,10 @@ use Rattle.bt_meaning.specs.Walks.{replay_of}
 use Rattle.bt_run.specs.declared.job.Job.{Job}
 use Rattle.bt_run.specs.declared.job.Work.{Work}
 use Rattle.bt_types.specs.Script.{IsTypedScript}
+use Rattle.code_bodies.specs.Coding.{code_replay}
 use Rattle.rec_format.specs.declared.recording.Recording.{Recording as Recorded}
+use Rattle.script_programs.specs.Programs.{AreCodesOf, KeepScript}
+use Rattle.script_programs.specs.Sizes.{first_size_fault}
 use Rattle.bt_top.specs.declared.judge.ScriptJob.{ScriptJob}
 use Rattle.bt_top.specs.declared.report.Report.{Report}
 use Rattle.bt_top.specs.declared.refusal.Operand.TheVariants as operand
@@ -28,12 +34,14 @@ use Rattle.bt_top.specs.declared.refusal.Refusal.{Refusal}
 use Rattle.bt_top.specs.declared.refusal.Refusal.TheVariants.{Script, ReadFault, WriteFault, Memory}
 use Rattle.bt_top.specs.declared.words.Operands.{Operands}
 use Rattle.bt_top.specs.declared.words.Order.{Order}
-use Rattle.bt_top.specs.declared.words.Order.TheVariants.{Run, Check}
+use Rattle.bt_top.specs.declared.words.Task.{Task}
+use Rattle.bt_top.specs.declared.words.Task.TheVariants.{Run, Check, Code}
 use Rattle.bt_top.specs.Due.{Files, AreAccepted, IsFault, IsDue, IsScriptFor}
-use Rattle.bt_top.specs.Lines.{SinkUse, SinkFailed, Writes}
+use Rattle.bt_top.specs.Lines.{SinkUse, SinkFailed, Writes, Text, Number, line_bytes}
+use Rattle.bt_top.specs.Listings.{script_listing}
 use Rattle.bt_top.specs.Refusals.{refusal_pieces}
 use Rattle.bt_top.specs.Script.{IsTextFault, IsScriptFault}
-use Rattle.bt_top.specs.Words.{operands_of, operands_in, is_serial}
+use Rattle.bt_top.specs.Words.{operands_in}
 
 -- ---- what comes of a call
 
@@ -68,7 +76,7 @@ names_read names outcome = names.script ∷ names.recording ∷ []
 abbrev pub AsksExactly : Option Order → Option Refusal → ShelfUse → Type 0
 AsksExactly None outcome shelf = shelf.asked_after ≡ shelf.asked
 AsksExactly (Some order) (Some Memory) shelf = Unit {0}
-AsksExactly (Some order) outcome shelf = shelf.asked_after ≡ shelf.asked ++ names_read (operands_of order) outcome
+AsksExactly (Some order) outcome shelf = shelf.asked_after ≡ shelf.asked ++ names_read order.files outcome
 
 -- the files hold what the shelf tells of them
 pub record AreHeld (held : List ℕ → Option (List ℕ)) (names : Operands) (files : Files) : Type 0 where
@@ -85,18 +93,20 @@ MayCome files read_failed write_failed (Some WriteFault) = write_failed × IsDue
 MayCome files read_failed write_failed due = IsDue files due
 
 -- work is there after a whole run, and after one whose text was not wholly written
-abbrev pub HasWork : Option Refusal → Option Order → Type 0
-HasWork None (Some (Run serial operands)) = Unit {0}
-HasWork (Some WriteFault) (Some (Run serial operands)) = Unit {0}
-HasWork refusal order = ⊥
+abbrev pub Works : Task → Type 0
+Works (Run serial stats) = Unit {0}
+Works Check = ⊥
+Works Code = ⊥
 
--- What two accepted files ask for: the recording that the one spells; what the script, with its tree, is attached to in it; and the script
--- with its types.
+-- What two accepted files ask for: the recording that the one spells; what the script, with its tree, is attached to in it; the script
+-- with its types, of which no body is too large; and a program for each body, which keeps it.
 pub record IsJobOf (files : Files) (job : Job) : Type 0 where
   pub tree : Tree
   pub accepted : AreAccepted files job.recording tree
   pub attached : IsAttachedTo tree job.recording.formats job.recording.start job.recording.end job.attached
   pub typed : IsTypedScript tree job.recording.formats job.attached.bodies job.typed
+  pub fits : first_size_fault 0 job.typed.bodies ≡ None
+  pub programs : KeepScript job.typed job.programs
 
 -- a job as the script's own meaning: its bodies are walked
 abbrev pub meaning_of : Job → Replay
@@ -109,30 +119,71 @@ pub record IsSerialWork (job : Job) (work : Work) : Type 0 where
   pub printed : work.text ≡ printed_text job.typed (cpus_of (meaning_of job)) (serial_steps (meaning_of job))
 
 -- The work of a job. Its steps are an interleaving in the order of their stamps; its text is what the script prints under them; its
--- instructions are those of the bodies that were run; and it is that of a run on one thread where it was one.
+-- instructions are those that the code of the job's programs takes under them; and it is that of a run on one thread where it was one.
 pub record IsWorkOf (serial : Bool) (job : Job) (work : Work) : Type 0 where
   pub replayed : IsReplayed (meaning_of job) work.steps
   pub printed : work.text ≡ printed_text job.typed (cpus_of (meaning_of job)) work.steps
-  pub instructions : work.instructions ≡ instructions_of (meaning_of job) work.steps
+  pub instructions : (codes : List (List Insn)) → AreCodesOf job.programs codes
+      → work.instructions ≡ instructions_of (code_replay job.typed codes job.attached job.recording) work.steps
   pub on_one_thread : serial ≡ true → IsSerialWork job work
 
--- the work of what these files ask for
-pub record IsWorkFor (serial : Bool) (files : Files) (work : Work) : Type 0 where
+-- the work of a task: of a run, and else none
+abbrev pub IsDoneWork : Task → Job → Option Work → Type 0
+IsDoneWork (Run serial stats) job work = IsSomeAnd work (IsWorkOf serial job)
+IsDoneWork Check job work = work ≡ None
+IsDoneWork Code job work = work ≡ None
+
+-- the programs that a task runs or lists
+abbrev pub programs_of : Task → Job → List Program
+programs_of (Run serial stats) job = job.programs
+programs_of Check job = []
+programs_of Code job = job.programs
+
+-- the line behind the text of a run, where it is asked for
+abbrev pub stats_line : Bool → ℕ → List ℕ
+stats_line false instructions = []
+stats_line true instructions = line_bytes (Text (codes "instructions: ") ∷ Number instructions ∷ [])
+
+-- the bytes that a task writes: a run the text of its work, and what is asked for behind it; a check that nothing is refused; and `code`
+-- the listing of the programs
+abbrev pub bytes_written : Task → Job → Option Work → List ℕ
+bytes_written (Run serial stats) job None = []
+bytes_written (Run serial stats) job (Some work) = work.text ++ stats_line stats work.instructions
+bytes_written Check job work = codes "ok\n"
+bytes_written Code job work = script_listing job.recording.formats job.attached.bodies job.programs
+
+-- the output took the bytes at status 0, a prefix of them after a fault of the write, and else nothing
+abbrev pub IsWritten : SinkUse → Option Refusal → List ℕ → Type 0
+IsWritten out None bytes = Appends out.taken out.taken_after bytes
+IsWritten out (Some WriteFault) bytes = AppendsPart out.taken out.taken_after bytes
+IsWritten out (Some refusal) bytes = Keeps out.taken out.taken_after
+
+-- what was done with files: there is the work of their job, its programs are handed back, and its bytes were written
+pub record IsDone (order : Order) (files : Files) (out : SinkUse) (report : Report) : Type 0 where
   pub job : Job
   pub of : IsJobOf files job
-  pub worked : IsWorkOf serial job work
+  pub work : IsDoneWork order.task job report.work
+  pub programs : report.programs ≡ programs_of order.task job
+  pub written : IsWritten out report.refusal (bytes_written order.task job report.work)
+
+-- nothing was done, and nothing written
+pub record IsNothing (out : SinkUse) (report : Report) : Type 0 where
+  pub work : report.work ≡ None
+  pub programs : report.programs ≡ []
+  pub written : Keeps out.taken out.taken_after
+
+-- all was done at status 0, all but a part of the writing after a fault of the write, and else nothing
+abbrev pub HasDone : Option Refusal → Order → Files → SinkUse → Report → Type 0
+HasDone None order files out report = IsDone order files out report
+HasDone (Some WriteFault) order files out report = IsDone order files out report
+HasDone (Some refusal) order files out report = IsNothing out report
 
 -- the answer to an order, over files that hold what the shelf tells of them
 pub record Answers (order : Order) (shelf : ShelfUse) (out : SinkUse) (report : Report) : Type 0 where
   pub files : Files
-  pub held : AreHeld shelf.held (operands_of order) files
+  pub held : AreHeld shelf.held order.files files
   pub came : MayCome files (ShelfFailed shelf) (SinkFailed out) report.refusal
-  pub worked : IfSome report.work (IsWorkFor (is_serial order) files)
-
--- the answer to an order, where the words give one
-abbrev pub IsAnswer : Option Order → ShelfUse → SinkUse → Report → Type 0
-IsAnswer None shelf out report = Unit {0}
-IsAnswer (Some order) shelf out report = Answers order shelf out report
+  pub done : HasDone report.refusal order files out report
 
 -- want of memory, or a fault of a step before which nothing is due: of the script's read, of the recording's where the script is not too
 -- long, and of the write where nothing is refused
@@ -160,21 +211,9 @@ OnBoth (Some script) (Some recording) P = P (record { script = script; recording
 -- a fact on the two files of an order, where the shelf tells both
 abbrev pub OnTold : Option Order → (List ℕ → Option (List ℕ)) → (Files → Type 0) → Type 0
 OnTold None held P = Unit {0}
-OnTold (Some order) held P = OnBoth (held (operands_of order).script) (held (operands_of order).recording) P
+OnTold (Some order) held P = OnBoth (held order.files.script) (held order.files.recording) P
 
--- ---- what is written
-
--- the bytes that a command writes: a run writes the text of its work, and a check writes that nothing is refused
-abbrev pub bytes_written : Option Order → Option Work → List ℕ
-bytes_written (Some (Run serial operands)) (Some work) = work.text
-bytes_written (Some (Check operands)) None = codes "ok\n"
-bytes_written order work = []
-
--- the output took the bytes of the command at status 0, a prefix of them after a fault of the write, and else nothing
-abbrev pub IsWritten : SinkUse → Option Refusal → List ℕ → Type 0
-IsWritten out None bytes = Appends out.taken out.taken_after bytes
-IsWritten out (Some WriteFault) bytes = AppendsPart out.taken out.taken_after bytes
-IsWritten out (Some refusal) bytes = Keeps out.taken out.taken_after
+-- ---- what is told
 
 -- nothing is told at status 0, and else the line of the refusal
 abbrev pub Tells : Option Order → Option Refusal → SinkUse → Type 0
@@ -213,20 +252,12 @@ pub record IsScriptJob (text : List ℕ) (says : Recorded) (job : ScriptJob) : T
   pub script : IsScriptFor text says tree
   pub attached : IsAttachedTo tree says.formats says.start says.end job.attached
   pub typed : IsTypedScript tree says.formats job.attached.bodies job.typed
-
--- the work of what an order asks for: of a run, and none of a check
-abbrev pub IsDoneWork : Order → Job → Option Work → Type 0
-IsDoneWork (Run serial operands) job work = IsSomeAnd work (IsWorkOf serial job)
-IsDoneWork (Check operands) job work = work ≡ None
-
--- the bytes that are written of it
-abbrev pub bytes_of : Option Work → List ℕ
-bytes_of None = codes "ok\n"
-bytes_of (Some work) = work.text
+  pub fits : first_size_fault 0 job.typed.bodies ≡ None
+  pub programs : KeepScript job.typed job.programs
 
 -- what the two reads answer: what the order asks for, or what may come of the files before the write
 pub record Reads (order : Order) (shelf : ShelfUse) (answer : Result Job Refusal) : Type 0 where
   pub files : Files
-  pub held : AreHeld shelf.held (operands_of order) files
+  pub held : AreHeld shelf.held order.files files
   pub job : IfOk answer (IsJobOf files)
   pub came : IfErr answer (λ refusal. MayCome files (ShelfFailed shelf) ⊥ (Some refusal))

@@ -8,8 +8,11 @@ ghost use Rattle.bt_top.specs.Serve.{ComesIfDue, IsFaultRefusal, IsJobOf, IsScri
 
 use crate::refusal::{Refusal, recording_refusal};
 use crate::script::{attach_refusal, tree_of, type_refusal};
+use crate::sizes::with_programs;
+use bpf_codegen::generate::Program;
 use bt_ast::attached::Attached;
 use bt_attach::attach::attach;
+use bt_core::items::Items;
 use bt_run::job::Job;
 use bt_types::script::check;
 use rec_format::reading::read_recording;
@@ -17,15 +20,20 @@ use rec_format::recording::Recording;
 use std::alloc::Global;
 use typed_tree::script::Typed;
 
-/// A script over a recording: what it is attached to, and the script with its types.
+/// A script over a recording: what it is attached to, the script with its types, and a program for each of its bodies.
 #[derive(Drop)]
 pub(crate) struct ScriptJob {
     pub attached: Attached,
     pub typed: Typed,
+    pub programs: Items<Program>,
 }
 
-/// What a script asks for over a recording, whose probes may all be attached to it and whose bodies have types.
-fn script_job(alloc: Global, script: &[u8], recording: &Recording) -> Result<ScriptJob, Refusal>
+/// What a script asks for over a recording, whose probes may all be attached to it and whose bodies have types and are not too large.
+pub(crate) fn script_job(
+    alloc: Global,
+    script: &[u8],
+    recording: &Recording,
+) -> Result<ScriptJob, Refusal>
     requires short { length script.now ≤ SCRIPT_BYTES }
     requires valid { IsValidRecording recording.now }
     ensures job { IfOk result (IsScriptJob script.now recording.now) }
@@ -43,7 +51,7 @@ fn script_job(alloc: Global, script: &[u8], recording: &Recording) -> Result<Scr
         Err(error) => return Err(attach_refusal(error)),
     };
     match check(alloc, &tree, &attached, formats) {
-        Ok(typed) => Ok(ScriptJob { attached, typed }),
+        Ok(typed) => with_programs(alloc, &tree, attached, typed),
         Err(error) => Err(type_refusal(error)),
     }
 }
@@ -59,10 +67,17 @@ fn accept(alloc: Global, script: &[u8], recording: &[u8]) -> Result<Job, Refusal
         Err(error) => return Err(recording_refusal(error)),
     };
     match script_job(alloc, script, &recording) {
-        Ok(ScriptJob { attached, typed }) => Ok(Job {
+        Ok(
+            ScriptJob {
+                attached,
+                typed,
+                programs,
+            },
+        ) => Ok(Job {
             recording,
             attached,
             typed,
+            programs,
         }),
         Err(refusal) => Err(refusal),
     }
@@ -81,6 +96,7 @@ pub(crate) fn judge(alloc: Global, script: &[u8], recording: &[u8]) -> Result<Jo
     rec_format::laws::one_fault();
     bt_lexer::laws::one_answer();
     bt_grammar::laws::one_answer();
+    size_laws::laws::scripts_have_one_size();
     bt_job::laws::accepted_scripts_are_jobs();
     accept(alloc, script, recording)
 }

@@ -1,11 +1,17 @@
 //! The top call: from the words of a command line to the bytes written.
 #![tactic(auto)]
 
+mod files;
 mod judge;
 mod line;
+mod listing;
+mod made;
 pub mod refusal;
 pub mod report;
 mod script;
 pub mod serve;
+mod sizes;
+mod tasks;
 mod tell;
 mod words;
+mod writing;

@@ -32,7 +32,7 @@ fn write_piece<E: Sink>(err: &mut E, piece: &Piece<'_>) -> Result<(), SinkFailed
 }
 
 /// Writes pieces and a newline, or a prefix of both where the sink fails.
-fn write_pieces<E: Sink>(err: &mut E, pieces: &[Piece<'_>]) -> Result<(), SinkFailed>
+pub(crate) fn write_pieces<E: Sink>(err: &mut E, pieces: &[Piece<'_>]) -> Result<(), SinkFailed>
     ensures whole { OnOk result (Appends (E.taken err.old) (E.taken err.new) (line_bytes (map piece_by pieces.now))) }
     ensures part { OnErr result (AppendsPart (E.taken err.old) (E.taken err.new) (line_bytes (map piece_by pieces.now))) }
     ensures failed { OnErr result (Rose (E.faults err.old) (E.faults err.new)) }

@@ -15,7 +15,7 @@ pub enum Operand {
 }
 
 /// What is wrong with a script: the first fault of its text, of its tokens, of the points of its probes, or
-/// of its types.
+/// of its types; or its first body that is too large.
 #[derive(Clone, Copy, PartialEq, Eq, Debug)]
 pub enum ScriptFault {
     /// X1: no token begins with this byte, or it does not fit the token that it stands in.
@@ -48,6 +48,10 @@ pub enum ScriptFault {
     TooManyAttached,
     /// Y1 to Y12: the rule of types that is broken here, the first in walk order over the bodies.
     Types(Rule),
+    /// K1: the frame of a body has so many bytes, more than 512.
+    FrameTooLarge(u64),
+    /// K2: the code of a body has so many slots, more than 4,096.
+    CodeTooLarge(u64),
 }
 
 /// Why a script is refused.
@@ -56,7 +60,8 @@ pub enum ScriptRefusal {
     /// It has more bytes than it may have.
     TooLong,
     /// The text is no script, or none for this recording: the first fault, and the place of its byte, token,
-    /// point or part of a body. That of a text that breaks off is the end of the text.
+    /// point or part of a body. That of a text that breaks off is the end of the text, and that of a body that is
+    /// too large the first token of its probe.
     Fault(ScriptFault, Place),
 }
 
@@ -72,7 +77,7 @@ pub enum RecordingRefusal {
 /// Why a call is refused. Each has its exit status.
 #[derive(Clone, Copy, PartialEq, Eq, Debug)]
 pub enum Refusal {
-    /// The words break the rule, or ask for what is not built: status 1.
+    /// The words break the rule: status 1.
     Usage,
     /// The script is refused: status 2.
     Script(ScriptRefusal),

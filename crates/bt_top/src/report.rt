@@ -1,12 +1,32 @@
 // What a call answers.
-use crate::refusal::Refusal;
-use bt_run::job::Work;
+ghost use Rattle.std.specs.Prelude.{◌≡◌, [], None, Some};
+ghost use Rattle.bt_top.specs.Refusals.{status_of};
 
-/// What a call answers: the exit status, why it was refused where it was, and the work that was
-/// done, which is there at status 0 and 5.
+use crate::refusal::{Refusal, status_of};
+use bpf_codegen::generate::Program;
+use bt_core::items::Items;
+use bt_run::job::Work;
+use std::alloc::Global;
+
+/// What a call answers: the exit status, why it was refused where it was, the work that was done, which is there at status 0
+/// and 5 of `run` and `big`, and the programs that were run or listed, one for each body in the order of the bodies, at status 0 and 5 of
+/// `run`, `code` and `big`.
 #[derive(PartialEq, Eq, Debug, Drop)]
 pub struct Report {
     pub status: u8,
     pub refusal: Option<Refusal>,
     pub work: Option<Work>,
+    pub programs: Items<Program>,
+}
+
+/// A call that was refused before anything was written.
+pub(crate) fn refused(alloc: Global, refusal: Refusal) -> Report
+    ensures { result ≡ record { status = status_of (Some refusal); refusal = Some refusal; work = None; programs = [] } }
+{
+    Report {
+        status: status_of(Some(refusal)),
+        refusal: Some(refusal),
+        work: None,
+        programs: Items::new(alloc),
+    }
 }

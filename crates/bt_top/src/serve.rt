@@ -1,113 +1,52 @@
 // The top call.
-ghost use Rattle.std.specs.Prelude.{◌≡◌, ◌≢◌, ◌⊎◌, ◌↔◌, None, Some, IfOk, IfSome, IsSome};
+ghost use Rattle.std.specs.Prelude.{◌≡◌, ◌≢◌, ◌↔◌, None, Some, IfSome, IsSome};
 ghost use Rattle.bt_io.specs.Faults.{Rose};
-ghost use Rattle.bt_meaning.specs.Jobs.{IsJob};
 ghost use Rattle.bt_words.specs.Words.{order_of as order_asked};
-ghost use Rattle.bt_top.specs.Headline.{Headline};
+ghost use Rattle.bt_top.specs.Commands.{HasWork, Headline, IsAnswer, MadeIsComplete};
+ghost use Rattle.bt_top.specs.Doing.{IsMadeRefusal, programs_with, work_of};
 ghost use Rattle.bt_top.specs.Lines.{sink_use};
 ghost use Rattle.bt_top.specs.Refusals.{status_of};
-ghost use Rattle.bt_top.specs.Serve.{Answers, AsksExactly, AsksFirst, ComesIfDue, HasWork, IsAnswer, IsComplete, IsDoneWork, IsWorkOf, IsWritten};
-ghost use Rattle.bt_top.specs.Serve.{OnTold, Reads, Tells, bytes_of, bytes_written, refusal_in, shelf_use};
-ghost use Rattle.bt_top.specs.Words.{names_of, order_of};
+ghost use Rattle.bt_top.specs.Serve.{Answers, AsksExactly, AsksFirst, ComesIfDue, IsComplete};
+ghost use Rattle.bt_top.specs.Serve.{OnTold, Tells, shelf_use};
+ghost use Rattle.bt_top.specs.Words.{command_of, names_of, order_of};
 
-use crate::judge::judge;
-use crate::refusal::{Operand, Refusal, read_refusal, status_of};
-use crate::report::Report;
-use crate::tell::{tell, tell_memory, tell_usage};
-use crate::words::{Order, operands_of, order_of};
-use bt_core::limits::{RECORDING_BYTES, SCRIPT_BYTES};
-use bt_core::memory::Memory;
+use crate::files::read_files;
+use crate::made::{make_big_run, make_recording};
+use crate::refusal::{Refusal, status_of};
+use crate::report::{Report, refused};
+use crate::tasks::{Done, do_task};
+use crate::tell::{tell, tell_made, tell_memory, tell_usage};
+use crate::words::{Command, Order, command_of};
+use crate::writing::write_done;
+use bpf_codegen::generate::Program;
+use bt_core::items::Items;
 use bt_io::shelf::Shelf;
-use bt_io::sink::{Sink, write_all};
-use bt_run::job::{Job, Work};
-use bt_run::run::run_serial;
+use bt_io::sink::Sink;
 use bt_words::order::WordsError;
 use std::alloc::Global;
 use std::sync::Wait;
 use std::thread::Threads;
-use thread_run::run::run_threads;
 use turn_lock::gate::Gate;
 
-/// Reads both files, and answers what they ask for.
-fn read_files<S: Shelf>(alloc: Global, order: &Order, shelf: &mut S) -> Result<Job, Refusal>
-    ensures can_run { IfOk result (λ job. IsJob job.typed job.attached job.recording) }
-    ensures read { Reads order.now (shelf_use S.held S.faults S.asked shelf.old shelf.new) result }
-    ensures exact { OnTold (Some order.now) (S.held shelf.old) (ComesIfDue (refusal_in result)) }
-    ensures asked { AsksFirst (S.asked shelf.old) (S.asked shelf.new) (names_of (Some order.now)) }
-    ensures asked_exactly { AsksExactly (Some order.now) (refusal_in result) (shelf_use S.held S.faults S.asked shelf.old shelf.new) }
+/// What was done with programs, and whether it was written.
+fn reported(alloc: Global, done: Done, programs: Items<Program>, refusal: Option<Refusal>) -> Report
+    ensures { result ≡ record { status = status_of refusal; refusal = refusal; work = work_of done; programs = programs_with done programs } }
 {
-    let names = operands_of(order);
-    let script = match shelf.read(alloc, names.script.as_str(), SCRIPT_BYTES) {
-        Ok(script) => script,
-        Err(error) => return Err(read_refusal(Operand::Script, error)),
+    let status = status_of(refusal);
+    let (work, programs) = match done {
+        Done::Ran(work) => (Some(work), programs),
+        Done::Checked => (None, Items::new(alloc)),
+        Done::Listed(_) => (None, programs),
     };
-    let recording = match shelf.read(alloc, names.recording.as_str(), RECORDING_BYTES) {
-        Ok(recording) => recording,
-        Err(error) => return Err(read_refusal(Operand::Recording, error)),
-    };
-    judge(alloc, script.as_slice(), recording.as_slice())
-}
-
-/// A call that was refused before anything was written.
-fn refused(refusal: Refusal) -> Report
-    ensures { result ≡ record { status = status_of (Some refusal); refusal = Some refusal; work = None } }
-{
     Report {
-        status: status_of(Some(refusal)),
-        refusal: Some(refusal),
-        work: None,
+        status,
+        refusal,
+        work,
+        programs,
     }
 }
 
-/// Runs a job: on one thread, or with each CPU on a thread of its own.
-fn run<G: Gate + Sync, R: Threads + Wait + Sync>(
-    rt: &R,
-    alloc: Global,
-    serial: bool,
-    job: &Job,
-    gate: &G,
-) -> Result<Work, Memory>
-    requires { IsJob job.now.typed job.now.attached job.now.recording }
-    ensures { IfOk result (IsWorkOf serial job.now) }
-{
-    if serial {
-        run_serial(alloc, job)
-    } else {
-        run_threads(rt, alloc, job, gate)
-    }
-}
-
-/// The work of what is asked for, where it is a run.
-fn work_for<G: Gate + Sync, R: Threads + Wait + Sync>(
-    rt: &R,
-    alloc: Global,
-    order: &Order,
-    job: &Job,
-    gate: &G,
-) -> Result<Option<Work>, Memory>
-    requires { IsJob job.now.typed job.now.attached job.now.recording }
-    ensures { IfOk result (IsDoneWork order.now job.now) }
-{
-    match order {
-        Order::Run { serial, files: _ } => {
-            let work = run(rt, alloc, *serial, job, gate)?;
-            Ok(Some(work))
-        }
-        Order::Check(_) => Ok(None),
-    }
-}
-
-/// What is written of it.
-fn bytes_of(work: &Option<Work>) -> &[u8]
-    ensures { result.now ≡ bytes_of work.now }
-{
-    match work {
-        Some(work) => work.text.as_slice(),
-        None => b"ok\n",
-    }
-}
-
-/// Does what an order asks for: runs the script and writes what it prints, or writes that nothing is refused.
+/// Does what an order asks for: reads its files, does its task with them, and writes what it makes.
 fn perform<S: Shelf, K: Sink, G: Gate + Sync, R: Threads + Wait + Sync>(
     rt: &R,
     alloc: Global,
@@ -123,34 +62,49 @@ fn perform<S: Shelf, K: Sink, G: Gate + Sync, R: Threads + Wait + Sync>(
     ensures answered { Answers order.now (shelf_use S.held S.faults S.asked shelf.old shelf.new)
         (sink_use K.taken K.faults out.old out.new) result }
     ensures exact { OnTold (Some order.now) (S.held shelf.old) (ComesIfDue result.refusal) }
-    ensures worked { IsSome result.work ↔ HasWork result.refusal (Some order.now) }
-    ensures written { IsWritten (sink_use K.taken K.faults out.old out.new) result.refusal (bytes_written (Some order.now) result.work) }
-    ensures headline { Headline (Some order.now) (shelf_use S.held S.faults S.asked shelf.old shelf.new)
+    ensures worked { IsSome result.work ↔ HasWork result.refusal (Some (Command.OnFiles order.now)) }
+    ensures headline { Headline (Some (Command.OnFiles order.now)) (shelf_use S.held S.faults S.asked shelf.old shelf.new)
         (sink_use K.taken K.faults out.old out.new) result }
 {
     bt_meaning::laws::ticks_come_after();
     run_laws::laws::reads_see_beginnings();
     let job = match read_files(alloc, order, shelf) {
         Ok(job) => job,
-        Err(refusal) => return refused(refusal),
+        Err(refusal) => return refused(alloc, refusal),
     };
-    let Ok(work) = work_for(rt, alloc, order, &job, gate) else {
-        return refused(Refusal::Memory);
+    let Ok(done) = do_task(rt, alloc, order.task, &job, gate) else {
+        return refused(alloc, Refusal::Memory);
     };
-    let refusal = match write_all(out, bytes_of(&work)) {
+    let refusal = match write_done(out, order.task, &done) {
         Ok(()) => None,
         Err(_) => Some(Refusal::WriteFault),
     };
-    Report {
-        status: status_of(refusal),
-        refusal,
-        work,
+    reported(alloc, done, job.programs, refusal)
+}
+
+/// A report of a command that reads no file, whose refusal is told.
+fn told<E: Sink>(err: &mut E, report: Report) -> Report
+    requires { IfSome report.refusal IsMadeRefusal }
+    ensures same { result ≡ report }
+    ensures told { Tells None report.refusal (sink_use E.taken E.faults err.old err.new) }
+{
+    if let Some(refusal) = report.refusal {
+        tell_made(err, refusal);
     }
+    report
 }
 
 /// Does what the words ask for. `run SCRIPT RECORDING` runs the script over the recording, with each recorded CPU on a thread of its
 /// own, and writes what it prints to `out`; `run --serial SCRIPT RECORDING` takes the items of all CPUs one after the other, on one
-/// thread. So far both walk the script's bodies. `check SCRIPT RECORDING` does all of a run up to typing, and writes `ok` and a newline.
+/// thread; with `--stats` the line `instructions: N` stands behind the text, with the number of instructions that were executed.
+/// `check SCRIPT RECORDING` does all of a run up to the code, and writes `ok` and a newline. `code SCRIPT RECORDING` writes the listing
+/// of the programs: for each body the line `probe P K`, P the number of its probe from 0, K one of `BEGIN`, `END`, `interval` and
+/// `tracepoint:S:E`, and then a line for each slot. `gen X N` writes the bytes of the recording of the seed X and of N events. `big X N`
+/// runs the built-in script over this recording, with each CPU on a thread of its own, and writes its text and behind it the line
+/// `summary: N events, M steps`, M the length of the list of steps.
+///
+/// The programs of the script, one for each body in the order of the bodies, are handed back by `run`, `code` and `big`. Each keeps its body:
+/// its code makes the calls of the body's walk, and ends where the walk ends.
 ///
 /// The work that is handed back has all steps of the run in one list. It is an interleaving: `BEGIN` makes its steps first and
 /// `END` last, in between each CPU makes its whole program in its order, and each reply follows from the steps before it. The
@@ -160,11 +114,11 @@ fn perform<S: Shelf, K: Sink, G: Gate + Sync, R: Threads + Wait + Sync>(
 /// threads may wait for others at the locks of its objects.
 ///
 /// Refusals come in the order words, script read, recording read, recording, lexing, parsing, attaching,
-/// typing, run, write. A file that is too long is refused at its read. A recording is refused with
+/// typing, frame and code, run, write. A file that is too long is refused at its read. A recording is refused with
 /// the first check that its bytes fail. A script is refused with the first lexical fault of its text, the
 /// first fault of its tokens by the grammar of the bpftrace language, the first of its points that may not
-/// be attached over this recording, or the first rule of types that is broken in its bodies, in walk order,
-/// each with line and column. Want of memory may come at any of them. Before the
+/// be attached over this recording, the first rule of types that is broken in its bodies, in walk order, or
+/// the first body that is too large, each with line and column. Want of memory may come at any of them. Before the
 /// write nothing goes to `out`. What is refused is told by its line to `err`, and a fault there changes
 /// nothing else.
 pub fn serve<S: Shelf, K: Sink, E: Sink, G: Gate + Sync, R: Threads + Wait + Sync>(
@@ -178,48 +132,54 @@ pub fn serve<S: Shelf, K: Sink, E: Sink, G: Gate + Sync, R: Threads + Wait + Syn
 ) -> Report
     ensures status { result.status ≡ status_of result.refusal }
 
-    // The words are refused where they break the rule, or ask for what is not built; then no file is asked for.
-    ensures broken { order_asked words.now ≡ None → result.refusal ≡ Some Refusal.Usage }
-    ensures usage { result.refusal ≡ Some Refusal.Usage → order_of words.now ≡ None }
-    ensures unordered { order_of words.now ≡ None → (result.refusal ≡ Some Refusal.Usage) ⊎ (result.refusal ≡ Some Refusal.Memory) }
+    // The words are refused exactly where they break the rule. Then no file is asked for, and none is by `gen` and `big`.
+    ensures usage { (result.refusal ≡ Some Refusal.Usage) ↔ (order_asked words.now ≡ None) }
     ensures asked { AsksFirst (S.asked shelf.old) (S.asked shelf.new) (names_of (order_of words.now)) }
     ensures asked_exactly { AsksExactly (order_of words.now) result.refusal (shelf_use S.held S.faults S.asked shelf.old shelf.new) }
 
-    // What comes is due to the files, or is a fault before which nothing was due.
-    ensures answered { IsAnswer (order_of words.now) (shelf_use S.held S.faults S.asked shelf.old shelf.new)
+    // What comes of a command on files is due to them, or is a fault before which nothing was due; and nothing but want of memory and a fault
+    // of the write refuses `gen` and `big`. At status 0 and 5 there is the work of a run, the programs of a run or a listing are those of its
+    // job, one for each body, which keeps it, and what the command writes is appended to the output: whole at status 0, and a prefix of it
+    // after a fault of the write. Else nothing is.
+    ensures answered { IsAnswer (command_of words.now) (shelf_use S.held S.faults S.asked shelf.old shelf.new)
         (sink_use K.taken K.faults out.old out.new) result }
     ensures exact { OnTold (order_of words.now) (S.held shelf.old) (ComesIfDue result.refusal) }
     ensures complete { OnTold (order_of words.now) (S.held shelf.old)
         (IsComplete (Rose (S.faults shelf.old) (S.faults shelf.new)) (Rose (K.faults out.old) (K.faults out.new)) result.status) }
+    ensures complete_made { MadeIsComplete (command_of words.now) (Rose (K.faults out.old) (K.faults out.new)) result.status }
 
-    // Work is there at status 0 and 5 of a run.
-    ensures worked { IsSome result.work ↔ HasWork result.refusal (order_of words.now) }
+    // Work is there at status 0 and 5 of `run` and `big`.
+    ensures worked { IsSome result.work ↔ HasWork result.refusal (command_of words.now) }
 
-    // What the command writes is appended to the output whole, or a prefix after a fault of the write, and nothing before it.
-    ensures written { IsWritten (sink_use K.taken K.faults out.old out.new) result.refusal (bytes_written (order_of words.now) result.work) }
-
-    // The headline: where a run ends with status 0, the bytes written are exactly those that the script's own meaning prints under the
-    // interleaving handed back with them.
-    ensures headline { Headline (order_of words.now) (shelf_use S.held S.faults S.asked shelf.old shelf.new)
+    // The headline: where `run` or `big` ends with status 0, the bytes written are exactly those that the script's own meaning prints under
+    // the interleaving handed back with them, and the line of instructions where it is asked for. Behind the text of `big`, which ends with
+    // exactly the totals of its maps, stands the line that tells its events and steps.
+    ensures headline { Headline (command_of words.now) (shelf_use S.held S.faults S.asked shelf.old shelf.new)
         (sink_use K.taken K.faults out.old out.new) result }
 
     // The line of the refusal is appended to `err`, or a prefix of it where the count of its faults rose.
     ensures told { Tells (order_of words.now) result.refusal (sink_use E.taken E.faults err.old err.new) }
 {
-    let order = match order_of(alloc, words) {
-        Ok(order) => order,
+    let command = match command_of(alloc, words) {
+        Ok(command) => command,
         Err(WordsError::Usage) => {
             tell_usage(err);
-            return refused(Refusal::Usage);
+            return refused(alloc, Refusal::Usage);
         }
         Err(WordsError::Memory) => {
             tell_memory(err);
-            return refused(Refusal::Memory);
+            return refused(alloc, Refusal::Memory);
         }
     };
-    let report = perform(rt, alloc, &order, shelf, out, gate);
-    if let Some(refusal) = report.refusal {
-        tell(err, operands_of(&order), refusal);
+    match command {
+        Command::OnFiles(order) => {
+            let report = perform(rt, alloc, &order, shelf, out, gate);
+            if let Some(refusal) = report.refusal {
+                tell(err, &order.files, refusal);
+            }
+            report
+        }
+        Command::Gen(numbers) => told(err, make_recording(alloc, numbers, out)),
+        Command::Big(numbers) => told(err, make_big_run(rt, alloc, numbers, out, gate)),
     }
-    report
 }

@@ -1,10 +1,13 @@
 // What is told of each refusal.
-ghost use Rattle.std.specs.Prelude.{◌≡◌, ◌∷◌, [], codes};
+ghost use Rattle.std.specs.Prelude.{◌≡◌, ◌∷◌, [], codes, None};
 ghost use Rattle.rec_format.specs.declared.error.RecordingError.TheVariants as wrong;
 ghost use Rattle.bt_top.specs.declared.refusal.ScriptRefusal.TheVariants as refused;
 ghost use Rattle.bt_top.specs.Lines.{Writes, sink_use, Text, Number};
 ghost use Rattle.bt_top.specs.Refusals.{count_word, event_pieces, fault_pieces, format_pieces, name_of};
-ghost use Rattle.bt_top.specs.Refusals.{recording_pieces, refusal_pieces, rule_text, script_fault_text, script_pieces, usage_pieces};
+ghost use Rattle.bt_top.specs.Refusals.{recording_pieces, refusal_pieces, rule_text, script_fault_text, script_pieces};
+ghost use Rattle.bt_top.specs.Refusals.{size_in, unit_in, usage_pieces};
+ghost use Rattle.bt_top.specs.Doing.{IsMadeRefusal};
+ghost use Rattle.bt_top.specs.Words.{operands_in};
 
 use crate::line::{Piece, write_line};
 use crate::refusal::{Operand, RecordingRefusal, Refusal, ScriptFault, ScriptRefusal};
@@ -67,6 +70,30 @@ fn script_fault_text(fault: ScriptFault) -> &'static str
         ScriptFault::TooManyTicks => "A4 too many ticks",
         ScriptFault::TooManyAttached => "A5 too many attachments",
         ScriptFault::Types(rule) => rule_text(rule),
+        ScriptFault::FrameTooLarge(_) => "K1 frame too large: ",
+        ScriptFault::CodeTooLarge(_) => "K2 code too large: ",
+    }
+}
+
+/// How large something is that is too large.
+fn size_in(fault: ScriptFault) -> Option<u64>
+    ensures { result ≡ size_in fault }
+{
+    match fault {
+        ScriptFault::FrameTooLarge(bytes) => Some(bytes),
+        ScriptFault::CodeTooLarge(slots) => Some(slots),
+        _ => None,
+    }
+}
+
+/// In what that is counted.
+fn unit_in(fault: ScriptFault) -> &'static str
+    ensures { result.now ≡ unit_in fault }
+{
+    match fault {
+        ScriptFault::FrameTooLarge(_) => " bytes",
+        ScriptFault::CodeTooLarge(_) => " slots",
+        _ => "",
     }
 }
 
@@ -214,11 +241,19 @@ fn tell_place<E: Sink>(err: &mut E, name: &str, fault: ScriptFault, place: Place
     let colon = Piece::Text(":");
     let line = Piece::Number(u64::from(place.line));
     let column = Piece::Number(u64::from(place.column));
+    let space = Piece::Text(": ");
     let text = Piece::Text(script_fault_text(fault));
-    write_line(
-        err,
-        &[name, colon, line, colon, column, Piece::Text(": "), text],
-    );
+    match size_in(fault) {
+        None => write_line(err, &[name, colon, line, colon, column, space, text]),
+        Some(size) => {
+            let size = Piece::Number(size);
+            let unit = Piece::Text(unit_in(fault));
+            write_line(
+                err,
+                &[name, colon, line, colon, column, space, text, size, unit],
+            )
+        }
+    }
 }
 
 /// Tells why a script is refused.
@@ -233,13 +268,16 @@ fn tell_script<E: Sink>(err: &mut E, name: &str, why: ScriptRefusal)
     }
 }
 
-/// Tells how the program is used, as far as it is built.
+/// Tells how the program is used.
 pub(crate) fn tell_usage<E: Sink>(err: &mut E)
     ensures { Writes (sink_use E.taken E.faults err.old err.new) usage_pieces }
 {
-    let run = Piece::Text("usage: btreplay run [--serial] SCRIPT RECORDING\n");
-    let check = Piece::Text("       btreplay check SCRIPT RECORDING");
-    write_line(err, &[run, check]);
+    let run = Piece::Text("usage: btreplay run [--serial] [--stats] SCRIPT RECORDING\n");
+    let check = Piece::Text("       btreplay check SCRIPT RECORDING\n");
+    let code = Piece::Text("       btreplay code SCRIPT RECORDING\n");
+    let made = Piece::Text("       btreplay gen X N\n");
+    let big = Piece::Text("       btreplay big X N");
+    write_line(err, &[run, check, code, made, big]);
 }
 
 /// Tells that memory ran out.
@@ -263,5 +301,16 @@ pub(crate) fn tell<E: Sink>(err: &mut E, names: &Operands, refusal: Refusal)
         }
         Refusal::WriteFault => write_line(err, &[Piece::Text("write fault")]),
         Refusal::Memory => tell_memory(err),
+    }
+}
+
+/// Tells a refusal of a command that reads no file.
+pub(crate) fn tell_made<E: Sink>(err: &mut E, refusal: Refusal)
+    requires { IsMadeRefusal refusal }
+    ensures { Writes (sink_use E.taken E.faults err.old err.new) (refusal_pieces (operands_in None) refusal) }
+{
+    match refusal {
+        Refusal::Memory => tell_memory(err),
+        _ => write_line(err, &[Piece::Text("write fault")]),
     }
 }

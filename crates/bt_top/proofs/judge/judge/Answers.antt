@@ -16,6 +16,7 @@ returns-clause-exact c =
         tree = c.one_answer-2.ensures.tree;
         parse = c.one_answer-2.ensures.fault;
         parse_apart = c.one_answer-2.ensures.apart;
+        sizes = c.scripts_have_one_size.ensures;
       };
     } in
     comes_if_due files c.accept.result laws c.accept.ensures.job c.accept.ensures.refused

@@ -1,6 +1,7 @@
 use Rattle.std.proofs.Common.{arith}
 use Rattle.bt_grammar.specs.Tokens.{items}
-use Rattle.bt_top.proofs.Scripts.{attach_told, bodies_checked, bodies_of_tree, type_told, job_told}
+use Rattle.bt_top.proofs.Scripts.{attach_told, bodies_checked, bodies_of_tree, type_told, job_told, size_told}
+use Rattle.bt_top.proofs.TooLarge.{has_probe}
 use Rattle.bt_top.proofs.judge.script_job.Goals as goal
 
 pub attach-requires-clause-probes : goal.attach-requires-clause-probes
@@ -18,11 +19,26 @@ check-requires c =
     (bodies_checked c.in-Ok.tree c.args.recording.now.formats c.in-Ok-attach.attached.bodies
     (c.bodies_are_there.ensures _ _ _ _ _ (rw c.as_slice-formats.ensures at c.in-Ok-attach.ensures.found)))
 
+pub with_programs-requires : goal.with_programs-requires
+with_programs-requires c =
+    record {
+      probes = has_probe c.in-Ok.tree c.args.recording.now.formats c.in-Ok-attach.attached c.in-Ok-check.typed
+          (rw c.as_slice-formats.ensures at c.in-Ok-check.ensures.typed);
+    }
+
 pub returns-in-Ok-check-clause-job : goal.returns-in-Ok-check-clause-job
 returns-in-Ok-check-clause-job c =
     job_told _ c.args.recording.now c.in-Ok.tree c.in-Ok-attach.attached c.in-Ok-check.typed c.in-Ok.ensures.tree
     (rw c.as_slice-formats.ensures at c.in-Ok-attach.ensures.allowed) (rw c.as_slice-formats.ensures at c.in-Ok-attach.ensures.found)
     (rw c.as_slice-formats.ensures at c.in-Ok-check.ensures.allowed) (rw c.as_slice-formats.ensures at c.in-Ok-check.ensures.typed)
+    c.with_programs.result c.with_programs.ensures.job
+
+pub returns-in-Ok-check-clause-fault : goal.returns-in-Ok-check-clause-fault
+returns-in-Ok-check-clause-fault c =
+    size_told _ c.args.recording.now c.in-Ok.tree c.in-Ok-attach.attached c.in-Ok-check.typed c.in-Ok.ensures.tree
+    (rw c.as_slice-formats.ensures at c.in-Ok-attach.ensures.allowed) (rw c.as_slice-formats.ensures at c.in-Ok-attach.ensures.found)
+    (rw c.as_slice-formats.ensures at c.in-Ok-check.ensures.allowed) (rw c.as_slice-formats.ensures at c.in-Ok-check.ensures.typed)
+    c.with_programs.result c.with_programs.ensures.refused
 
 pub returns-clause-fault : goal.returns-clause-fault
 returns-clause-fault c =

@@ -1,55 +1,58 @@
-use Rattle.std.proofs.Common.{◌≡◌, ◌∙◌, inl, inr}
+use Rattle.std.proofs.Common.{◌≡◌, refl, inl, inr}
 use Rattle.std.specs.Prelude.{◌⊎◌, Some, None}
-use Rattle.bt_io.specs.Faults.{Rose}
 use Rattle.bt_top.specs.declared.refusal.Refusal.TheVariants.{WriteFault}
-use Rattle.bt_top.specs.Lines.{sink_use}
-use Rattle.bt_top.specs.Serve.{IsWritten, bytes_written}
-use Rattle.bt_top.proofs.Headlines.{worked_headline}
-use Rattle.bt_top.proofs.Judging.{worked_answer, done_work, done_bytes}
+use Rattle.bt_top.specs.Doing.{bytes_of, programs_with}
+use Rattle.bt_top.specs.Lines.{SinkUse, sink_use}
+use Rattle.bt_top.specs.Refusals.{status_of}
+use Rattle.bt_top.specs.Serve.{ShelfUse, IsWritten, shelf_use}
+use Rattle.bt_top.proofs.Doings.{Ends, done_answer, done_work}
+use Rattle.bt_top.proofs.Headlines.{done_headline}
+use Rattle.bt_top.proofs.Judging.{kept, refused_answer}
 use Rattle.bt_top.proofs.serve.perform.Goals as goal
-use Rattle.bt_top.proofs.serve.perform.Goals.{in-Ok-write_all, in-Err-write_all}
+use Rattle.bt_top.proofs.serve.perform.Goals.{in-Ok-write_done, in-Err-write_done}
+
+pub returns-in-Err-clause-answered : goal.returns-in-Err-clause-answered
+returns-in-Err-clause-answered g c =
+    rw c.refused.ensures (refused_answer c.args.order.now _ _ c.in-Err.refusal _ c.in-Err.ensures.read (kept (g.K.Sink.taken c.args.out.now)))
 
 pub returns-clause-answered : goal.returns-clause-answered
 returns-clause-answered g c =
-    let ends : (c.match-write_all.refusal ≡ None)
-    ⊎ ((c.match-write_all.refusal ≡ Some WriteFault) × Rose (g.K.Sink.faults c.args.out.now) (g.K.Sink.faults c.write_all.new.sink)) =
-    elim c.match-write_all.branch [
-      | in-Ok-write_all w ↦ inl w.refusal-is
-      | in-Err-write_all w ↦ inr (w.refusal-is, w.in-Err-write_all.ensures.failed)
+    let out : SinkUse = sink_use g.K.Sink.taken g.K.Sink.faults c.args.out.now c.write_done.new.out in
+    let seen : ShelfUse = shelf_use g.S.Shelf.held g.S.Shelf.faults g.S.Shelf.asked c.args.shelf.now c.read_files.new.shelf in
+    let ends : Ends c.match-write_done.refusal out = elim c.match-write_done.branch [
+      | in-Ok-write_done w ↦ inl w.refusal-is
+      | in-Err-write_done w ↦ inr (w.refusal-is, w.in-Err-write_done.ensures.failed)
     ] in
-    worked_answer _ _ _ c.status_of.result c.match-write_all.refusal c.in-Ok.job c.in-Ok-work_for.work c.in-Ok.ensures.read c.in-Ok-work_for.ensures ends
+    let written : IsWritten out c.match-write_done.refusal (bytes_of c.args.order.now.task c.in-Ok-do_task.done) = elim c.match-write_done.branch [
+      | in-Ok-write_done w ↦ rw w.refusal-is w.in-Ok-write_done.ensures.whole
+      | in-Err-write_done w ↦ rw w.refusal-is w.in-Err-write_done.ensures.part
+    ] in
+    rw c.reported.ensures
+    (done_answer c.args.order.now seen out _ c.in-Ok.job c.in-Ok-do_task.done c.in-Ok.ensures.read c.in-Ok-do_task.ensures c.match-write_done.refusal ends written)
 
 pub returns-clause-worked : goal.returns-clause-worked
 returns-clause-worked g c =
-    let ends : (c.match-write_all.refusal ≡ None) ⊎ (c.match-write_all.refusal ≡ Some WriteFault) =
-    elim c.match-write_all.branch [
-      | in-Ok-write_all w ↦ inl w.refusal-is
-      | in-Err-write_all w ↦ inr w.refusal-is
+    let ends : (c.match-write_done.refusal ≡ None) ⊎ (c.match-write_done.refusal ≡ Some WriteFault) = elim c.match-write_done.branch [
+      | in-Ok-write_done w ↦ inl w.refusal-is
+      | in-Err-write_done w ↦ inr w.refusal-is
     ] in
-    done_work c.args.order.now c.in-Ok.job c.in-Ok-work_for.work c.match-write_all.refusal c.in-Ok-work_for.ensures ends
-
-pub returns-clause-written : goal.returns-clause-written
-returns-clause-written g c =
-    rw (← c.bytes_of.ensures ∙ done_bytes c.args.order.now c.in-Ok.job c.in-Ok-work_for.work c.in-Ok-work_for.ensures)
-    (elim c.match-write_all.branch [
-      | in-Ok-write_all w ↦ rw w.refusal-is w.in-Ok-write_all.ensures.whole
-      | in-Err-write_all w ↦ rw w.refusal-is w.in-Err-write_all.ensures.part
-    ])
+    rw c.reported.ensures
+    (done_work c.args.order.now.task c.args.order.now c.in-Ok.job c.in-Ok-do_task.done c.match-write_done.refusal (λ i. c.args.order.now.task) c.in-Ok-do_task.ensures ends)
 
 pub returns-clause-headline : goal.returns-clause-headline
 returns-clause-headline g c =
-    let ends : (c.match-write_all.refusal ≡ None) ⊎ (c.match-write_all.refusal ≡ Some WriteFault) =
-    elim c.match-write_all.branch [
-      | in-Ok-write_all w ↦ inl w.refusal-is
-      | in-Err-write_all w ↦ inr w.refusal-is
+    let out : SinkUse = sink_use g.K.Sink.taken g.K.Sink.faults c.args.out.now c.write_done.new.out in
+    let seen : ShelfUse = shelf_use g.S.Shelf.held g.S.Shelf.faults g.S.Shelf.asked c.args.shelf.now c.read_files.new.shelf in
+    let ends : (c.match-write_done.refusal ≡ None) ⊎ (c.match-write_done.refusal ≡ Some WriteFault) = elim c.match-write_done.branch [
+      | in-Ok-write_done w ↦ inl w.refusal-is
+      | in-Err-write_done w ↦ inr w.refusal-is
     ] in
-    let written : IsWritten (sink_use g.K.Sink.taken g.K.Sink.faults c.args.out.now c.write_all.new.sink) c.match-write_all.refusal
-    (bytes_written (Some c.args.order.now) c.in-Ok-work_for.work) =
-    rw (← c.bytes_of.ensures ∙ done_bytes c.args.order.now c.in-Ok.job c.in-Ok-work_for.work c.in-Ok-work_for.ensures)
-    (elim c.match-write_all.branch [
-      | in-Ok-write_all w ↦ rw w.refusal-is w.in-Ok-write_all.ensures.whole
-      | in-Err-write_all w ↦ rw w.refusal-is w.in-Err-write_all.ensures.part
-    ]) in
-    worked_headline c.args.order.now _ _ c.status_of.result c.match-write_all.refusal c.in-Ok.job c.in-Ok-work_for.work
-    c.ticks_come_after.ensures.script c.reads_see_beginnings.ensures c.in-Ok.ensures.read c.in-Ok.ensures.can_run c.in-Ok-work_for.ensures
-    c.status_of.ensures written ends
+    let written : IsWritten out c.match-write_done.refusal (bytes_of c.args.order.now.task c.in-Ok-do_task.done) = elim c.match-write_done.branch [
+      | in-Ok-write_done w ↦ rw w.refusal-is w.in-Ok-write_done.ensures.whole
+      | in-Err-write_done w ↦ rw w.refusal-is w.in-Err-write_done.ensures.part
+    ] in
+    let reads = c.in-Ok.ensures.read in
+    rw c.reported.ensures
+    (done_headline c.args.order.now.files seen out (status_of c.match-write_done.refusal) c.match-write_done.refusal c.in-Ok.job
+    (programs_with c.in-Ok-do_task.done c.in-Ok.job.programs) c.ticks_come_after.ensures.script c.reads_see_beginnings.ensures
+    reads.files reads.held reads.job c.in-Ok.ensures.can_run refl ends c.args.order.now.task c.in-Ok-do_task.done c.in-Ok-do_task.ensures written)

@@ -5,3 +5,9 @@ returns-in-WriteFault g c = rw c.in-WriteFault.is c.write_line-in-WriteFault.ens
 
 pub returns-in-ReadFault : goal.returns-in-ReadFault
 returns-in-ReadFault g c = rw (c.in-ReadFault.is, ← c.name_of.ensures) c.write_line.ensures
+
+pub returns-in-Memory : goal.returns-in-Memory
+returns-in-Memory g c = rw c.in-Memory.is c.tell_memory.ensures
+
+pub returns-in-Usage : goal.returns-in-Usage
+returns-in-Usage g c = rw c.in-Usage.is c.tell_usage.ensures
