@@ -102,13 +102,3 @@ impl Case {
         })
     }
 }
-
-/// The numbers of a list.
-pub(crate) fn numbers_of(alloc: Global, text: &str) -> Result<Vec<u64>> {
-    let value = Value::from_str(alloc, text)?;
-    let mut numbers = Vec::new(alloc);
-    for number in value.as_array().context("no list")? {
-        numbers.push(number.as_u64().context("no number")?)?;
-    }
-    Ok(numbers)
-}

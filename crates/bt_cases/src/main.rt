@@ -6,7 +6,7 @@ mod outcome;
 mod tally;
 
 use anyhow::{Context, Result};
-use case::{Case, numbers_of};
+use case::Case;
 use outcome::{Outcome, differing};
 use std::fs;
 use std::rt::Files;
@@ -25,12 +25,10 @@ fn tell<R: Print>(rt: &R, case: &Case, differs: &Option<Outcome>) -> Result<()> 
     Ok(())
 }
 
-/// Runs the cases of a file, one a line, and counts how they end. Those whose numbers are listed, the first
-/// line being 1, are not built yet, so they are to differ.
+/// Runs the cases of a file, one a line, and counts how they end.
 fn run_file<R: Files + Print + AllocGlobal + Threads + Wait + Sync>(
     rt: &R,
     name: &str,
-    not_built: &[u64],
     tally: &mut Tally,
 ) -> Result<()> {
     let alloc = rt.alloc();
@@ -40,26 +38,23 @@ fn run_file<R: Files + Print + AllocGlobal + Threads + Wait + Sync>(
         number = number.saturating_add(1);
         let case = Case::of(rt, line).context(format_args!("case {number} of {name}"))?;
         let differs = differing(rt, alloc, &case)?;
-        if let Some(told) = tally.count(differs.is_none(), not_built.contains(&number)) {
-            println!(rt; "case {number} of {name} {told}")?;
+        tally.count(differs.is_none());
+        if differs.is_some() {
+            println!(rt; "case {number} of {name} differs")?;
             tell(rt, &case, &differs)?;
         }
     }
     Ok(())
 }
 
-/// Runs the cases of the five files. Which of the first are not built yet stands in a list of its own; those
-/// of the others all have to agree. Those of the last file run on threads many times.
+/// Runs the cases of the five files. Those of the last file run on threads many times.
 fn main(rt: HostRuntime) -> Result<()> {
-    let alloc = rt.alloc();
-    let list = fs::read_to_string(&rt, "not_built.json").context("reading not_built.json")?;
-    let not_built = numbers_of(alloc, list.as_str())?;
     let mut tally = Tally::default();
-    run_file(&rt, "cases.jsonl", not_built.as_slice(), &mut tally)?;
-    run_file(&rt, "refused.jsonl", &[], &mut tally)?;
-    run_file(&rt, "rows.jsonl", &[], &mut tally)?;
-    run_file(&rt, "examples.jsonl", &[], &mut tally)?;
-    run_file(&rt, "schedules.jsonl", &[], &mut tally)?;
+    run_file(&rt, "cases.jsonl", &mut tally)?;
+    run_file(&rt, "refused.jsonl", &mut tally)?;
+    run_file(&rt, "rows.jsonl", &mut tally)?;
+    run_file(&rt, "examples.jsonl", &mut tally)?;
+    run_file(&rt, "schedules.jsonl", &mut tally)?;
     println!(rt; "{tally}")?;
     Ok(())
 }

@@ -2,8 +2,14 @@
 #![tactic(auto)]
 
 #[cfg(test)]
+mod commands;
+#[cfg(test)]
 mod files;
+#[cfg(test)]
+mod machine;
 #[cfg(test)]
 mod side_by_side;
 #[cfg(test)]
 mod tests;
+#[cfg(test)]
+mod totals;

@@ -2,6 +2,7 @@
 ghost use Rattle.std.specs.Prelude.{◌-◌, ◌<◌, ◌^◌, None};
 
 use crate::files::{files, recording};
+use crate::machine::instructions_of;
 use bt_core::items::Items;
 use bt_core::memory::Memory;
 use bt_core::step::Op;
@@ -116,7 +117,9 @@ fn a_write_fault_leaves_a_prefix_and_the_work(rt: HostRuntime) -> Result<(), Fai
     let work = report.work.ok_or("no work")?;
     assert!(rt; work.text.as_slice() == b"@: 3\n\n".as_slice());
     assert!(rt; work.steps.len() == 3);
-    assert!(rt; work.instructions == 0);
+    assert_eq!(rt; report.programs.len(), 1);
+    let one = instructions_of(alloc, &report.programs.as_slice()[0], 42)?;
+    assert_eq!(rt; work.instructions, one.saturating_mul(3));
     Ok(())
 }
 
