@@ -21,7 +21,7 @@ struct Answer {
 }
 
 /// The answer to words over a script and a recording of one CPU, whose events have these values.
-fn answer<R: Threads + Wait + Sync>(
+fn answer_to<R: Threads + Wait + Sync>(
     rt: &R,
     alloc: Global,
     asked: &[&str],
@@ -50,7 +50,7 @@ fn count_lines(text: &[u8]) -> usize {
 fn a_listing_has_a_line_for_each_slot(rt: HostRuntime) -> Result<(), Fail> {
     let alloc = rt.alloc();
     let script = b"tracepoint:t:e { @ = count(); }".as_slice();
-    let Answer { report, out } = answer(&rt, alloc, &["code", "s.bt", "r.bin"], script, &[])?;
+    let Answer { report, out } = answer_to(&rt, alloc, &["code", "s.bt", "r.bin"], script, &[])?;
     assert!(rt; report.status == 0 && report.work.is_none());
     let listing = out.taken();
     assert!(rt; listing.starts_with(b"probe 0 tracepoint:t:e\n0000: "));
@@ -66,7 +66,7 @@ fn a_listing_names_each_probe(rt: HostRuntime) -> Result<(), Fail> {
     let alloc = rt.alloc();
     let script = b"BEGIN { exit(); } interval:s:1 { exit(); } END, tracepoint:t:* { exit(); }";
     let words = ["code", "s.bt", "r.bin"];
-    let Answer { report, out } = answer(&rt, alloc, &words, script, &[])?;
+    let Answer { report, out } = answer_to(&rt, alloc, &words, script, &[])?;
     assert!(rt; report.status == 0);
     let wanted =
         b"probe 0 BEGIN\n0000: 85 00 00 00 09 00 00 00\n0001: 95 00 00 00 00 00 00 00\n0002: 95 00 00 00 00 00 00 00\nprobe 1 interval\n";
@@ -85,7 +85,7 @@ fn the_instructions_are_those_of_the_programs(rt: HostRuntime) -> Result<(), Fai
         ["run", "--serial", "--stats", "s.bt", "r.bin"].as_slice(),
         ["run", "--stats", "s.bt", "r.bin"].as_slice(),
     ] {
-        let Answer { report, out } = answer(&rt, alloc, words, script, &values)?;
+        let Answer { report, out } = answer_to(&rt, alloc, words, script, &values)?;
         assert!(rt; report.status == 0);
         assert_eq!(rt; report.programs.len(), 1);
         let program = &report.programs.as_slice()[0];
@@ -107,7 +107,7 @@ fn the_instructions_are_those_of_the_programs(rt: HostRuntime) -> Result<(), Fai
 #[test]
 fn made_recordings_are_read_back(rt: HostRuntime) -> Result<(), Fail> {
     let alloc = rt.alloc();
-    let Answer { report, out } = answer(&rt, alloc, &["gen", "1", "3"], b"", &[])?;
+    let Answer { report, out } = answer_to(&rt, alloc, &["gen", "1", "3"], b"", &[])?;
     assert!(rt; report.status == 0 && report.work.is_none() && report.programs.is_empty());
     assert_eq!(rt; out.taken().len(), 820);
     let made = read_recording(alloc, out.taken())?;
@@ -124,7 +124,7 @@ fn made_recordings_are_read_back(rt: HostRuntime) -> Result<(), Fail> {
         assert!(rt; event.comm.starts_with(comm));
         assert!(rt; event.payload.as_slice()[8..16] == [id, 0, 0, 0, 0, 0, 0, 0]);
     }
-    let Answer { report, out } = answer(&rt, alloc, &["gen", "1", "0"], b"", &[])?;
+    let Answer { report, out } = answer_to(&rt, alloc, &["gen", "1", "0"], b"", &[])?;
     assert!(rt; report.status == 0);
     assert_eq!(rt; out.taken().len(), 496);
     assert!(rt; read_recording(alloc, out.taken())?.cpus.len() == 4);
@@ -143,7 +143,7 @@ fn a_large_run_tells_its_events_and_steps(rt: HostRuntime) -> Result<(), Fail> {
         ("0", b"summary: 0 events, 0 steps\n".as_slice(), 0),
     ];
     for (events, wanted, steps) in rows {
-        let Answer { report, out } = answer(&rt, alloc, &["big", "1", events], b"", &[])?;
+        let Answer { report, out } = answer_to(&rt, alloc, &["big", "1", events], b"", &[])?;
         assert!(rt; report.status == 0);
         assert!(rt; out.taken() == wanted);
         assert_eq!(rt; report.programs.len(), 1);
@@ -168,8 +168,8 @@ fn counted_in(text: &str) -> Result<u64, Fail> {
 fn a_large_run_is_the_same_each_time(rt: HostRuntime) -> Result<(), Fail> {
     let alloc = rt.alloc();
     let words = ["big", "7", "20000"];
-    let first = answer(&rt, alloc, &words, b"", &[])?;
-    let second = answer(&rt, alloc, &words, b"", &[])?;
+    let first = answer_to(&rt, alloc, &words, b"", &[])?;
+    let second = answer_to(&rt, alloc, &words, b"", &[])?;
     assert!(rt; first.report.status == 0 && second.report.status == 0);
     let text = str::from_utf8(first.out.taken())?;
     assert!(rt; text.ends_with("summary: 20000 events, 60000 steps\n"));
