@@ -113,16 +113,31 @@ fn made_recordings_are_read_back(rt: HostRuntime) -> Result<(), Fail> {
     let made = read_recording(alloc, out.taken())?;
     assert!(rt; made.start == 0 && made.end == 2_000_000_000 && made.cpus.len() == 4);
     let rows = [
-        (1000, 1006, b"cron".as_slice(), 113u8),
-        (2000, 1003, b"make".as_slice(), 27),
-        (3000, 1003, b"cron".as_slice(), 212),
+        (
+            1000,
+            1006,
+            b"cron".as_slice(),
+            b"\x15\0\0\0\xee\x03\0\0\x71\0\0\0\0\0\0\0".as_slice(),
+        ),
+        (
+            2000,
+            1003,
+            b"make".as_slice(),
+            b"\x15\0\0\0\xeb\x03\0\0\x1b\0\0\0\0\0\0\0".as_slice(),
+        ),
+        (
+            3000,
+            1003,
+            b"cron".as_slice(),
+            b"\x15\0\0\0\xeb\x03\0\0\xd4\0\0\0\0\0\0\0".as_slice(),
+        ),
     ];
-    for (cpu, (time, tid, comm, id)) in made.cpus.as_slice().iter().zip(rows) {
+    for (cpu, (time, tid, comm, payload)) in made.cpus.as_slice().iter().zip(rows) {
         assert_eq!(rt; cpu.events.len(), 1);
         let event = &cpu.events.as_slice()[0];
         assert!(rt; event.time == time && event.tid == tid && event.pid == tid && event.uid == 0);
         assert!(rt; event.comm.starts_with(comm));
-        assert!(rt; event.payload.as_slice()[8..16] == [id, 0, 0, 0, 0, 0, 0, 0]);
+        assert!(rt; event.payload.len() == 64 && event.payload.as_slice().starts_with(payload));
     }
     let Answer { report, out } = answer_to(&rt, alloc, &["gen", "1", "0"], b"", &[])?;
     assert!(rt; report.status == 0);
