@@ -58,5 +58,8 @@ pub const FRAME_BYTES: u64 = 512;
 /// Slots of a body's code.
 pub const CODE_SLOTS: u64 = 4_096;
 
+/// Instructions that a run of a body's code may take for each slot of the code.
+pub const FUEL_OF_A_SLOT: u64 = 4_098;
+
 /// Parts of each shared map, numbered from 0.
-pub const PARTS: u32 = 1;
+pub const PARTS: u32 = 8;

@@ -7,8 +7,8 @@ use Rattle.std.specs.declared.cmp.Ordering.{Ordering}
 use Rattle.std.specs.declared.cmp.Ordering.TheVariants.{Less, Equal, Greater}
 use Rattle.std.specs.Ordering.{is_lt, is_eq, nat_cmp, ordering_then, ordering_reverse, on, then_cmp}
 use Rattle.std.proofs.lemmas.List.MinMax.{ranks_by}
-use Rattle.map_printer.specs.Order.{ordered}
-use Rattle.map_printer.proofs.StableOrder.{stable_order}
+use Rattle.bt_core.specs.Sorted.{ordered}
+use Rattle.bt_core.proofs.StableOrder.{stable_order}
 use Rattle.weave.proofs.Among.{Has, filter_has}
 use Rattle.weave.proofs.Rising.{same_length}
 use Rattle.bt_meaning.specs.declared.schedule.Due.{Due}

@@ -18,7 +18,7 @@ use Rattle.rec_format.specs.Entries.{AreInTime}
 use Rattle.rec_format.specs.Events.{events}
 use Rattle.rec_format.specs.Recordings.{IsValidRecording}
 use Rattle.weave.proofs.Less.{less_or_not, is_less, not_less}
-use Rattle.map_printer.specs.Order.{ordered}
+use Rattle.bt_core.specs.Sorted.{ordered}
 use Rattle.actor_plan.specs.declared.agenda.AgendaItem.{AgendaItem}
 use Rattle.actor_plan.specs.declared.agenda.AgendaItem.TheVariants as item
 use Rattle.actor_plan.specs.Agendas.{AreInTurn, IsAgenda, IsBefore, IsNotBefore, StandsAt, agenda_of, events_of, events_on_track, tick_place, event_place}

@@ -2,7 +2,7 @@
 use Rattle.std.proofs.Common.{◌≡◌, Bool, true, false, cond, List, [], ◌∷◌, ◌++◌, refl, sym, ap, ◌∙◌}
 use Rattle.std.specs.List.{AllByRecursion, filter}
 use Rattle.std.specs.Cmp.{IsStrictWeakOrder}
-use Rattle.map_printer.specs.Order.{put_in, ordered}
+use Rattle.bt_core.specs.Sorted.{put_in, ordered}
 use Rattle.bt_meaning.proofs.Eachs.{each_back, each_kept, each_so}
 
 module _ {X : Type 0} (lt : X → X → Bool) (o : IsStrictWeakOrder lt) where

@@ -8,7 +8,7 @@ use Rattle.bt_ast.specs.declared.attached.Tick.{Tick as TickTime}
 use Rattle.rec_format.specs.declared.recording.CpuTrack.{CpuTrack}
 use Rattle.rec_format.specs.declared.recording.Event.{Event as RecordedEvent}
 use Rattle.rec_format.specs.declared.recording.Recording.{Recording}
-use Rattle.map_printer.specs.Order.{ordered}
+use Rattle.bt_core.specs.Sorted.{ordered}
 use Rattle.actor_plan.specs.declared.agenda.AgendaItem.{AgendaItem}
 use Rattle.actor_plan.specs.declared.agenda.AgendaItem.TheVariants as item
 use Rattle.bt_meaning.specs.declared.schedule.Due.{Due}

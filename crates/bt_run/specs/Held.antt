@@ -4,7 +4,7 @@ use Rattle.std.specs.List.{AllByRecursion}
 use Rattle.bt_ast.specs.declared.attached.Tick.{Tick}
 use Rattle.rec_format.specs.declared.recording.CpuTrack.{CpuTrack}
 use Rattle.rec_format.specs.declared.recording.Event.{Event}
-use Rattle.code_bodies.specs.Kept.{AreBytes}
+use Rattle.event_record.specs.Contexts.{AreBytes}
 
 abbrev pub IsHeldEvent : Event → Type 0
 IsHeldEvent e = AreBytes e.comm × AreBytes e.payload

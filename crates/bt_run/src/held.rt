@@ -2,7 +2,8 @@
 ghost use Rattle.std.specs.Prelude.{◌<◌, ◌^◌, FitsSigned};
 ghost use Rattle.std.specs.Int.{w64};
 ghost use Rattle.std.specs.List.{AllByRecursion};
-ghost use Rattle.code_bodies.specs.Kept.{AreBytes, AreHeld};
+ghost use Rattle.code_bodies.specs.Kept.{AreHeld};
+ghost use Rattle.event_record.specs.Contexts.{AreBytes};
 ghost use Rattle.replay_laws.specs.Agree.{AllReplies};
 ghost use Rattle.replay_laws.specs.HeldReplies.{IsHeldReply};
 ghost use Rattle.bt_run.specs.Held.{IsHeldEvent, IsHeldTick, IsHeldTrack};

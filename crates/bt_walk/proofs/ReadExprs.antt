@@ -28,9 +28,9 @@ use Rattle.bt_walk.specs.Does.{Scene, Does, given, asked, bind, then, choose, ga
 use Rattle.bt_walk.specs.Exprs.{read, builtin, command, number_field, text_field, step_variable, any_layer, num_layer, str_layer, value_does, number_does, text_does, step_at}
 use Rattle.bt_walk.specs.Maps.{number_of, text_of, value_of, number_variable, text_variable, part, get, set, next, kind_of, holder, sweep_op}
 use Rattle.bt_walk.specs.Reading.{Reader, number_under, text_under, stepped_under, num_by, str_by, value_by, number_by, text_by}
-use Rattle.bt_walk.specs.SameUnder.{SameTo}
+use Rattle.bt_core.specs.Same.{SameTo}
 use Rattle.bt_walk.specs.Walked.{Fits, scene_in, scope_in}
-use Rattle.bt_walk.proofs.SameLaws.{SameTo-self, SameTo-and_then, SameTo-mapped}
+use Rattle.bt_core.proofs.SameLaws.{SameTo-self, SameTo-and_then, SameTo-mapped}
 
 abbrev pub call_at : ObjectId → Op → Call
 call_at object op = record { object = object; op = op }

@@ -42,11 +42,11 @@ use Rattle.bt_walk.specs.Does.{Scene, Does, given, seen, changed, asked, bind, t
 use Rattle.bt_walk.specs.Exprs.{value_does, values_do, number_does}
 use Rattle.bt_walk.specs.Maps.{number_of, get, set, kind_of, holder, holders, sweep_op, asked_from, swept}
 use Rattle.bt_walk.specs.Reading.{Reader, number_under, updated_under, value_by, values_by, number_by, number_or_one_by, printed, arm_by, stmt_by, block_by, guarded_by, tree_by, walk_by}
-use Rattle.bt_walk.specs.SameUnder.{SameTo}
+use Rattle.bt_core.specs.Same.{SameTo}
 use Rattle.bt_walk.specs.Stmts.{plain, stmt_layer, block_layer, stmt_does, block_does, number_or_one, kind_seen, print, clear, zero_all, jump_to, cut, update_at, if_next, in_turn, first_arm, arm_does, entered, turn, turns, tests, while_true, again}
 use Rattle.bt_walk.specs.Walk.{walk, fresh, guarded, tree_does}
 use Rattle.bt_walk.specs.Walked.{Fits, scene_in, scope_in}
-use Rattle.bt_walk.proofs.SameLaws.{SameTo-and_then}
+use Rattle.bt_core.proofs.SameLaws.{SameTo-and_then}
 use Rattle.bt_walk.proofs.ReadExprs.{ReadsAlike, call_at, Ends, Tied, given-tied, self-tied, bind-tied, bind-same, first-same, asked-tied, either-tied, AnyRead, any_read, num_read, halves, values-same, number-tied}
 use Rattle.bt_walk.proofs.TreeParts.{update_head}
 

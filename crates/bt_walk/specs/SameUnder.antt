@@ -4,13 +4,7 @@ use Rattle.bt_core.specs.declared.map.MapDecl.{MapDecl}
 use Rattle.bt_core.specs.declared.step.Reply.{Reply}
 use Rattle.bt_core.specs.Interaction.{Interaction, Ended, Asks, Call}
 use Rattle.bt_core.specs.Ports.{IsReplyOf}
-
--- the same calls, as long as each reply is one that can come, and ends that are alike
-abbrev pub SameTo : {A B : Type 0} → (Call → Reply → Type 0) → (A → B → Type 0) → Interaction A → Interaction B → Type 0
-SameTo comes alike (Ended a) (Ended b) = alike a b
-SameTo comes alike (Ended a) (Asks d g) = ⊥
-SameTo comes alike (Asks c f) (Ended b) = ⊥
-SameTo comes alike (Asks c f) (Asks d g) = (c ≡ d) × ((reply : Reply) → comes c reply → SameTo comes alike (f reply) (g reply))
+use Rattle.bt_core.specs.Same.{SameTo}
 
 -- a reply of the kind that the call's operation has on its object, where these maps are declared
 abbrev pub IsReplyTo : List MapDecl → Call → Reply → Type 0

@@ -26,7 +26,7 @@ use Rattle.actor_plan.specs.Contexts.{event_context, tick_context, begin_context
 use Rattle.actor_plan.specs.Plans.{IsBodyFor}
 use Rattle.bt_walk.specs.Walk.{walk}
 use Rattle.bt_walk.specs.Walked.{least_length}
-use Rattle.bt_walk.proofs.SameLaws.{SameTo-and_then}
+use Rattle.bt_core.proofs.SameLaws.{SameTo-and_then}
 use Rattle.bt_meaning.specs.Interleavings.{IsReplayed}
 use Rattle.bt_meaning.specs.Jobs.{IsJob}
 use Rattle.bt_meaning.specs.Serial.{serial_steps}

@@ -5,12 +5,11 @@ use Rattle.bt_ast.specs.declared.attached.Attached.{Attached}
 use Rattle.bt_ast.specs.declared.attached.Tick.{Tick}
 use Rattle.bt_core.specs.declared.context.Context.{Context}
 use Rattle.bt_core.specs.declared.ending.Ending.{Ending}
-use Rattle.bt_core.specs.Text.{IsShortText}
 use Rattle.bpf_insn.specs.declared.insn.Insn.{Insn}
 use Rattle.bpf_insn.specs.declared.trap.Trap.{Trap}
 use Rattle.bpf_insn.specs.Code.{IsWellFormed}
 use Rattle.bpf_interp.specs.declared.machine.Ended.{Ended as EndedRun}
-use Rattle.event_record.specs.Contexts.{context_bytes}
+use Rattle.event_record.specs.Contexts.{context_bytes, AreBytes, IsContext}
 use Rattle.helper_abi.specs.Running.{script_run}
 use Rattle.helper_abi.specs.Served.{desk_of}
 use Rattle.rec_format.specs.declared.recording.CpuTrack.{CpuTrack}
@@ -18,27 +17,12 @@ use Rattle.rec_format.specs.declared.recording.Event.{Event}
 use Rattle.rec_format.specs.declared.recording.Recording.{Recording}
 use Rattle.typed_tree.specs.declared.body.TypedBody.{TypedBody}
 use Rattle.typed_tree.specs.declared.script.Typed.{Typed}
-use Rattle.bt_walk.specs.SameUnder.{SameTo}
+use Rattle.bt_core.specs.Same.{SameTo}
 use Rattle.bt_walk.specs.Walk.{walk}
 use Rattle.bt_walk.specs.Walked.{least_length}
 use Rattle.replay_laws.specs.Agree.{Comes}
 use Rattle.replay_laws.specs.HeldReplies.{IsHeldReply}
 use Rattle.code_bodies.specs.Coding.{fuel_of}
-
-abbrev pub AreBytes : List ℕ → Type 0
-AreBytes bytes = AllByRecursion (λ b. b < 256) bytes
-
--- numbers and a name as a program holds them
-pub record IsContext (c : Context) : Type 0 where
-  pub time : c.time < 2 ^ 64
-  pub start : c.start < 2 ^ 64
-  pub pid : c.pid < 2 ^ 32
-  pub tid : c.tid < 2 ^ 32
-  pub uid : c.uid < 2 ^ 32
-  pub gid : c.gid < 2 ^ 32
-  pub cpu : c.cpu < 2 ^ 32
-  pub comm : IsShortText c.comm
-  pub comm_bytes : AreBytes c.comm
 
 -- what a body may be run at: a payload of the size of its layout or more, of fewer than 2^32 bytes, and a context that names its length
 pub record IsSeen (body : TypedBody) (context : Context) (payload : List ℕ) : Type 0 where

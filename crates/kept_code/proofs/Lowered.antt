@@ -28,12 +28,12 @@ use Rattle.helper_abi.specs.Running.{script_run}
 use Rattle.helper_abi.specs.Served.{desk_of}
 use Rattle.typed_tree.specs.declared.body.TypedBody.{TypedBody}
 use Rattle.typed_tree.specs.declared.script.Typed.{Typed}
-use Rattle.bt_walk.specs.SameUnder.{SameTo}
+use Rattle.bt_core.specs.Same.{SameTo}
 use Rattle.bt_walk.specs.Walk.{walk}
 use Rattle.bt_ir.specs.declared.probe.IrProbe.{IrProbe}
 use Rattle.bt_lower.specs.Bodies.{IsLowered, LowersScript}
 use Rattle.body_code.specs.Bodies.{IsDeskFor, IsEventFor, KeepsBody}
-use Rattle.body_code.specs.Holding.{SameEnd, SameTo as SameCodeTo}
+use Rattle.body_code.specs.Holding.{SameEnd}
 use Rattle.body_code.specs.Replies.{AnswersAt, AnswersOp, GivesValue, IsOwnReply, shape_held, shape_of_kind}
 use Rattle.body_code.specs.Words.{HasShape}
 use Rattle.replay_laws.specs.Agree.{Comes}
@@ -44,7 +44,7 @@ use Rattle.kept_code.specs.Probes.{KeepProbes}
 
 -- more replies are asked to fit, and the ends are alike in another way
 turned : {A B : Type 0} (K L : Call → Reply → Type 0) (R S : A → B → Type 0) → ((call : Call) (reply : Reply) → L call reply → K call reply) → ((a : A) (b : B) → R a b → S a b)
-    → (t : Interaction A) (u : Interaction B) → SameCodeTo K R t u → SameTo L S t u
+    → (t : Interaction A) (u : Interaction B) → SameTo K R t u → SameTo L S t u
 turned K L R S fits so (Ended a) (Ended b) same = so a b same
 turned K L R S fits so (Ended a) (Asks d g) same = absurd same
 turned K L R S fits so (Asks c f) (Ended b) same = absurd same
@@ -121,7 +121,7 @@ module _ (script : Typed) (body : TypedBody) (probe : IrProbe) (code : List Insn
     same = λ context payload actor actors low seen.
         turned (IsOwnReply probe.maps) (Comes IsHeldReply script.maps) SameEnd EndsByExit fits exits (walk body context payload actor actors)
         (script_run (desk_of script actor actors) code (context_bytes context) payload (fuel_of code))
-        (subst (λ (t : Interaction Ending). SameCodeTo (IsOwnReply probe.maps) SameEnd t (script_run (desk_of script actor actors) code (context_bytes context) payload (fuel_of code)))
+        (subst (λ (t : Interaction Ending). SameTo (IsOwnReply probe.maps) SameEnd t (script_run (desk_of script actor actors) code (context_bytes context) payload (fuel_of code)))
         (lowered.runs context payload actor actors) (keeps.same (desk_of script actor actors) context payload (desk_is actor actors low) (event_is context payload seen)));
   }
 

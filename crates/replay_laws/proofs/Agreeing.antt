@@ -21,7 +21,7 @@ use Rattle.actor_plan.specs.Contexts.{begin_context, end_context}
 use Rattle.actor_plan.specs.Plans.{Plan}
 use Rattle.actor_plan.specs.declared.outcome.Outcome.{Outcome}
 use Rattle.actor_plan.specs.Programs.{cpu_program, item_work, items_program, track_program}
-use Rattle.bt_walk.specs.SameUnder.{SameTo}
+use Rattle.bt_core.specs.Same.{SameTo}
 use Rattle.bt_meaning.specs.Interleavings.{IsInterleaving, IsReplayed}
 use Rattle.bt_meaning.specs.Jobs.{IsJob}
 use Rattle.bt_meaning.specs.Replays.{Replay, answers_of, begin_of, cpu_of, cpus_of, end_of}

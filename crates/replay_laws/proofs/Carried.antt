@@ -5,7 +5,7 @@ use Rattle.bt_core.specs.declared.step.Reply.{Reply}
 use Rattle.bt_core.specs.declared.step.Step.{Step}
 use Rattle.bt_core.specs.Steps.{is_of, of_actor}
 use Rattle.actor_plan.specs.Plans.{Plan}
-use Rattle.bt_walk.specs.SameUnder.{SameTo}
+use Rattle.bt_core.specs.Same.{SameTo}
 use Rattle.bt_meaning.specs.Interleavings.{IsInterleaving, IsReplayed}
 use Rattle.bt_meaning.specs.Replays.{Replay, cpus_of, begin_of, cpu_of, end_of}
 use Rattle.bt_meaning.proofs.Eachs.{each_front, each_back, each_kept}

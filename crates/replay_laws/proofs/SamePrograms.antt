@@ -16,8 +16,8 @@ use Rattle.actor_plan.specs.declared.outcome.Outcome.{Outcome}
 use Rattle.actor_plan.specs.Contexts.{event_context, tick_context}
 use Rattle.actor_plan.specs.Plans.{Plan}
 use Rattle.actor_plan.specs.Programs.{after_count, bodies_at, crosses_last, event_work, goes_on, in_turn, item_work, items_program, tick_work, where_some}
-use Rattle.bt_walk.specs.SameUnder.{SameTo}
-use Rattle.bt_walk.proofs.SameLaws.{SameTo-self, SameTo-and_then}
+use Rattle.bt_core.specs.Same.{SameTo}
+use Rattle.bt_core.proofs.SameLaws.{SameTo-self, SameTo-and_then}
 use Rattle.replay_laws.specs.Agree.{Comes, AskSame, AskSameOn}
 
 -- programs that both went on to their end, or both did not

@@ -9,7 +9,7 @@ use Rattle.bt_core.specs.declared.step.Step.{Step}
 use Rattle.bt_core.specs.Interaction.{Call, Interaction, Ended, Asks, Runs}
 use Rattle.bt_core.specs.Ports.{IsReplyOf}
 use Rattle.actor_plan.specs.Plans.{AsksOf}
-use Rattle.bt_walk.specs.SameUnder.{SameTo}
+use Rattle.bt_core.specs.Same.{SameTo}
 use Rattle.bt_meaning.specs.Interleavings.{IsWhole}
 use Rattle.replay_laws.specs.Agree.{Comes}
 

@@ -7,7 +7,7 @@ use Rattle.bt_core.specs.declared.step.Reply.{Reply}
 use Rattle.bt_core.specs.Interaction.{Call, Interaction, Ended, Asks}
 use Rattle.actor_plan.specs.declared.agenda.AgendaItem.{AgendaItem}
 use Rattle.actor_plan.specs.Plans.{Plan}
-use Rattle.bt_walk.specs.SameUnder.{SameTo}
+use Rattle.bt_core.specs.Same.{SameTo}
 use Rattle.bt_meaning.specs.declared.schedule.Scheduled.{Scheduled}
 use Rattle.bt_meaning.specs.Replays.{Replay, cpus_of, begin_of, end_of}
 use Rattle.bt_meaning.specs.Schedules.{serial_order, cpu_of_due, item_of_due}

@@ -14,7 +14,8 @@ use Rattle.rec_format.specs.declared.recording.Recording.{Recording}
 use Rattle.actor_plan.specs.Contexts.{event_context, tick_context, begin_context, end_context}
 use Rattle.actor_plan.specs.Plans.{Plan}
 use Rattle.actor_plan.specs.Programs.{bodies_at}
-use Rattle.bt_walk.specs.SameUnder.{SameTo, IsReplyTo}
+use Rattle.bt_walk.specs.SameUnder.{IsReplyTo}
+use Rattle.bt_core.specs.Same.{SameTo}
 use Rattle.bt_meaning.specs.Replays.{Replay, PlansAreOwn, cpus_of}
 
 -- What holds of every reply that comes is told by the one who asks, as that its numbers have 64 bits.

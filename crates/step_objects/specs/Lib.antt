@@ -1,5 +1,6 @@
 pub mod Clocks
 pub mod CpuTables
+pub mod Emptied
 pub mod FineDecls
 pub mod Free
 pub mod Objects

@@ -1,6 +1,6 @@
 use Rattle.std.proofs.Common.{◌∙◌, ◌+◌, ap, get_or, sym}
 use Rattle.std.specs.Ordering.{is_lt}
-use Rattle.map_printer.specs.Order.{ordered}
+use Rattle.bt_core.specs.Sorted.{ordered}
 use Rattle.bt_meaning.specs.Schedules.{all_due, is_sooner, serial_order}
 use Rattle.bt_meaning.proofs.DueOrder.{derived_is, in_order}
 use Rattle.bt_meaning.proofs.schedule.schedule.Goals as goal
