@@ -1,6 +1,6 @@
 -- Rows with distinct keys, sorted by their keys, are the rows in key order.
 use Rattle.std.proofs.Common.{◌≡◌, Bool, true, false, cond, List, [], ◌∷◌, refl, sym, ap, ◌∙◌, map, Some, None}
-use Rattle.std.specs.Cmp.{IsTotalOrder, IsStrictWeakOrder, on_total}
+use Rattle.std.specs.Cmp.{IsStrictWeakOrder}
 use Rattle.std.specs.List.{IsDistinct}
 use Rattle.std.specs.List.Sorted.{IsSortedBy, IsStableBy}
 use Rattle.std.specs.Map.{keys_of, lookup}

@@ -3,6 +3,7 @@ pub mod CpuTables
 pub mod Emptied
 pub mod FineDecls
 pub mod Free
+pub mod Hashing
 pub mod Objects
 pub mod Rows
 pub mod Tables

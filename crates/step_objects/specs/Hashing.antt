@@ -1,0 +1,22 @@
+-- The hash by which tables find keys.
+use Rattle.std.specs.Prelude.{ℕ, zero, suc, ◌+◌, ◌*◌, ◌/◌, ◌%◌, ◌^◌, ◌==◌, if◌then◌else◌, List, length, drop}
+use Rattle.byteorder.specs.Endian.{little_number}
+use Rattle.step_objects.specs.declared.hasher.KeyHasher.{KeyHasher}
+
+-- a state that has taken in one word more
+abbrev pub mixed : ℕ → ℕ → ℕ
+mixed state word = ((state + word) % 2 ^ 64 * 17380933483125451205) % 2 ^ 64
+
+-- a state that has taken in the first words of eight bytes each
+abbrev pub words_mixed : ℕ → List ℕ → ℕ → ℕ
+words_mixed state bytes zero = state
+words_mixed state bytes (suc n) = mixed (words_mixed state bytes n) (little_number 8 (drop (8 * n) bytes))
+
+-- a state that has taken in all words, and what is left of the bytes as one word more
+abbrev pub fed : KeyHasher → List ℕ → KeyHasher
+fed hasher bytes =
+    let words = words_mixed hasher.state bytes (length bytes / 8) in
+    record { state = if length bytes % 8 == 0 then words else mixed words (little_number (length bytes % 8) (drop (8 * (length bytes / 8)) bytes)) }
+
+abbrev pub told : KeyHasher → ℕ
+told hasher = hasher.state

@@ -1,0 +1,53 @@
+// The hash by which tables find keys.
+ghost use Rattle.std.specs.Prelude.{◌≡◌};
+ghost use Rattle.step_objects.specs.Hashing.{fed, told, mixed, words_mixed};
+
+use byteorder::{ByteOrder, LittleEndian};
+use std::hash::Hasher;
+
+const MULTIPLIER: u64 = 17_380_933_483_125_451_205;
+
+/// A hasher of an addition and a multiplication for each eight bytes. Its answers are the same in every run: keys can be made that
+/// collide, and then an operation compares the at most 4,096 keys of one table.
+#[derive(Clone, Copy)]
+pub struct KeyHasher {
+    state: u64,
+}
+
+impl Default for KeyHasher {
+    fn default() -> KeyHasher {
+        KeyHasher { state: 0 }
+    }
+}
+
+impl Hasher for KeyHasher {
+    ghost write = { fed };
+
+    ghost finish = { told };
+
+    #[inline(always)]
+    fn finish(&self) -> u64 {
+        self.state
+    }
+
+    #[inline(always)]
+    fn write(&mut self, bytes: &[u8]) {
+        let words = bytes.len() / 8;
+        let rest = bytes.len() % 8;
+        for n in 0..words {
+            self.state = mixed(self.state, LittleEndian::read_u64(&bytes[8 * n..]));
+        }
+        if rest > 0 {
+            let last = LittleEndian::read_uint(&bytes[8 * words..], rest);
+            self.state = mixed(self.state, last);
+        }
+    }
+}
+
+/// A state that has taken in one word more.
+#[inline(always)]
+fn mixed(state: u64, word: u64) -> u64
+    ensures { result ≡ mixed state word }
+{
+    state.wrapping_add(word).wrapping_mul(MULTIPLIER)
+}
