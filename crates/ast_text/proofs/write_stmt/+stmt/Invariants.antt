@@ -1,7 +1,7 @@
 use Rattle.std.proofs.Common.{◌≡◌, ◌++◌, [], codes, map, drop}
-use Rattle.bt_ast.specs.Words.{ending}
-use Rattle.bt_ast.specs.Stmts.{arms_after, arm_of, joined, stmt_text}
-use Rattle.bt_ast.proofs.write_stmt.+stmt.Given as goal
+use Rattle.ast_text.specs.Words.{ending}
+use Rattle.ast_text.specs.Stmts.{arms_after, arm_of, joined, stmt_text}
+use Rattle.ast_text.proofs.write_stmt.+stmt.Given as goal
 
 -- what is written, with what is left to write, is the whole
 abbrev pub invariant-write_kind-loop-arm : goal.invariant-write_kind-loop-arm

@@ -6,9 +6,9 @@ use Rattle.bt_ast.specs.declared.stmt.StmtKind.{fold-roll-StmtKind}
 use Rattle.bt_ast.specs.declared.stmt.StmtKind.TheVariants.{While, Unroll, If, rolls-While, rolls-Unroll, rolls-If}
 use Rattle.bt_ast.specs.declared.stmt.StmtKind.TheOpen.{StmtKind-F}
 use Rattle.bt_ast.specs.declared.stmt.StmtKind.TheShapes.{former-StmtKind-If-0-at-2}
-use Rattle.bt_ast.specs.Words.{number_text}
-use Rattle.bt_ast.specs.Exprs.{expr_text}
-use Rattle.bt_ast.specs.Stmts.{call_text, arms_text, otherwise_text, arm_of, kind_layer, block_layer, stmt_layer, kind_text, block_text}
+use Rattle.ast_text.specs.Words.{number_text}
+use Rattle.ast_text.specs.Exprs.{expr_text}
+use Rattle.ast_text.specs.Stmts.{call_text, arms_text, otherwise_text, arm_of, kind_layer, block_layer, stmt_layer, kind_text, block_text}
 
 pub while_text : (e : Expr) (b : Block) → kind_text (While e b) ≡ call_text (codes "while") (expr_text e) ++ block_text b
 while_text e b = ap kind_text (sym (rolls-While e b)) ∙ fold-roll-StmtKind (List ℕ) (List ℕ) (List ℕ) kind_layer block_layer stmt_layer (StmtKind-F.While e b)

@@ -1,6 +1,6 @@
 use Rattle.std.proofs.Common.{◌≡◌, ◌++◌, drop}
-use Rattle.bt_ast.specs.Words.{quoted_bytes}
-use Rattle.bt_ast.proofs.words.write_bytes.Given as goal
+use Rattle.ast_text.specs.Words.{quoted_bytes}
+use Rattle.ast_text.proofs.words.write_bytes.Given as goal
 
 -- what is written, with what is left to write, is the whole
 abbrev pub invariant-loop-byte : goal.invariant-loop-byte

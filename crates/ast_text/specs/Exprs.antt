@@ -6,7 +6,7 @@ use Rattle.bt_ast.specs.declared.expr.IncDec.{IncDec, fold-IncDec}
 use Rattle.bt_ast.specs.declared.expr.Target.{Target, fold-Target}
 use Rattle.bt_ast.specs.declared.expr.ExprKind.{ExprKind, fold-ExprKind}
 use Rattle.bt_ast.specs.declared.expr.ExprKind.TheOpen.{ExprKind-F, Target-F, Expr-F, IncDec-F, MapRef-F}
-use Rattle.bt_ast.specs.Words.{token, number_text, quoted_text, builtin_word, unary_mark, binary_mark}
+use Rattle.ast_text.specs.Words.{token, number_text, quoted_text, builtin_word, unary_mark, binary_mark}
 
 -- texts with a mark before the first and a comma before each other
 abbrev pub marked : List ℕ → List (List ℕ) → List ℕ

@@ -1,13 +1,13 @@
 // The texts of calls and aggregations.
 ghost use Rattle.std.specs.Prelude.{◌≡◌, ◌++◌, OnOk, codes};
-ghost use Rattle.bt_ast.specs.Words.{token, number_text};
-ghost use Rattle.bt_ast.specs.Exprs.{expr_text};
-ghost use Rattle.bt_ast.specs.Stmts.{agg_text, call_text};
+ghost use Rattle.ast_text.specs.Words.{token, number_text};
+ghost use Rattle.ast_text.specs.Exprs.{expr_text};
+ghost use Rattle.ast_text.specs.Stmts.{agg_text, call_text};
 
-use crate::expr::Expr;
-use crate::stmt::AggCall;
 use crate::words::{write_number, write_token};
 use crate::write_expr::write_expr;
+use bt_ast::expr::Expr;
+use bt_ast::stmt::AggCall;
 use bt_core::memory::Memory;
 
 /// Writes a word and the parenthesis behind it.

@@ -1,9 +1,9 @@
 // The words of a script's text.
 ghost use Rattle.std.specs.Prelude.{◌≡◌, ◌++◌, OnOk};
-ghost use Rattle.bt_ast.specs.Words.{token, ending, number_text, quoted_byte, quoted_bytes, quoted_text, builtin_word, unary_mark, binary_mark, assign_mark, unit_word};
+ghost use Rattle.ast_text.specs.Words.{token, ending, number_text, quoted_byte, quoted_bytes, quoted_text, builtin_word, unary_mark, binary_mark, assign_mark, unit_word};
 
-use crate::expr::Builtin;
-use crate::probe::Unit;
+use bt_ast::expr::Builtin;
+use bt_ast::probe::Unit;
 use bt_core::memory::Memory;
 use bt_core::operator::{BinOp, UnOp};
 use itoa::Buffer;

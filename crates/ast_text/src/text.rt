@@ -1,13 +1,13 @@
 // The texts of probes and scripts.
 ghost use Rattle.std.specs.Prelude.{◌≡◌, ◌++◌, OnOk, IfOk, codes, decimal};
-ghost use Rattle.bt_ast.specs.Words.{token, unit_word};
-ghost use Rattle.bt_ast.specs.Scripts.{point_text, points_text, predicate_text, probe_text, script_text};
+ghost use Rattle.ast_text.specs.Words.{token, unit_word};
+ghost use Rattle.ast_text.specs.Scripts.{point_text, points_text, predicate_text, probe_text, script_text};
 
-use crate::expr::Expr;
-use crate::probe::{Point, Probe, Script, Unit};
 use crate::words::{unit_word, write_token};
 use crate::write_expr::write_expr;
 use crate::write_stmt::write_block;
+use bt_ast::expr::Expr;
+use bt_ast::probe::{Point, Probe, Script, Unit};
 use bt_core::memory::Memory;
 use itoa::Buffer;
 use std::alloc::Global;

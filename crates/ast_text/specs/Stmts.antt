@@ -7,8 +7,8 @@ use Rattle.bt_ast.specs.declared.stmt.Block.{Block, fold-Block}
 use Rattle.bt_ast.specs.declared.stmt.Stmt.{Stmt, fold-Stmt}
 use Rattle.bt_ast.specs.declared.stmt.StmtKind.{StmtKind, fold-StmtKind}
 use Rattle.bt_ast.specs.declared.stmt.StmtKind.TheOpen.{StmtKind-F, Block-F, Stmt-F}
-use Rattle.bt_ast.specs.Words.{token, ending, number_text, quoted_text, assign_mark}
-use Rattle.bt_ast.specs.Exprs.{expr_text, map_text, target_text, step_text, marked}
+use Rattle.ast_text.specs.Words.{token, ending, number_text, quoted_text, assign_mark}
+use Rattle.ast_text.specs.Exprs.{expr_text, map_text, target_text, step_text, marked}
 
 -- a word and what stands in parentheses behind it
 abbrev pub call_text : List ℕ → List ℕ → List ℕ

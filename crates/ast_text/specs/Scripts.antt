@@ -5,9 +5,9 @@ use Rattle.bt_ast.specs.declared.probe.Point.{Point}
 use Rattle.bt_ast.specs.declared.probe.Point.TheVariants.{Begin, End, Tracepoint, Interval}
 use Rattle.bt_ast.specs.declared.probe.Probe.{Probe}
 use Rattle.bt_ast.specs.declared.probe.Script.{Script}
-use Rattle.bt_ast.specs.Words.{token, unit_word}
-use Rattle.bt_ast.specs.Exprs.{expr_text}
-use Rattle.bt_ast.specs.Stmts.{block_text, joined}
+use Rattle.ast_text.specs.Words.{token, unit_word}
+use Rattle.ast_text.specs.Exprs.{expr_text}
+use Rattle.ast_text.specs.Stmts.{block_text, joined}
 
 abbrev pub point_text : Point → List ℕ
 point_text (Begin place) = token (codes "BEGIN")

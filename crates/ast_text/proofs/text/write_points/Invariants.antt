@@ -1,6 +1,6 @@
 use Rattle.std.proofs.Common.{◌≡◌, ◌++◌, [], drop}
-use Rattle.bt_ast.specs.Scripts.{points_after}
-use Rattle.bt_ast.proofs.text.write_points.Given as goal
+use Rattle.ast_text.specs.Scripts.{points_after}
+use Rattle.ast_text.proofs.text.write_points.Given as goal
 
 -- what is written, with what is left to write, is the whole
 abbrev pub invariant-loop-point : goal.invariant-loop-point

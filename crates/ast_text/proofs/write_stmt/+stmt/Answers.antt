@@ -1,7 +1,7 @@
 use Rattle.std.proofs.Common.{rules, arith}
 use Rattle.std.proofs.lemmas.Grind.{common_steps}
-use Rattle.bt_ast.proofs.StmtTexts.{while_text, unroll_text, if_text}
-use Rattle.bt_ast.proofs.write_stmt.+stmt.Goals as goal
+use Rattle.ast_text.proofs.StmtTexts.{while_text, unroll_text, if_text}
+use Rattle.ast_text.proofs.write_stmt.+stmt.Goals as goal
 
 pub write_kind-returns-after-loop-arm : goal.write_kind-returns-after-loop-arm
 write_kind-returns-after-loop-arm t c = rw c.in-If.is (rw (if_text c.in-If.arms c.in-If.otherwise) (first_of (search rules, grind (arith, common_steps))))

@@ -1,12 +1,12 @@
 // The texts of expressions.
 ghost use Rattle.std.specs.Prelude.{◌≡◌, ◌++◌, OnOk, map};
-ghost use Rattle.bt_ast.specs.Words.{token};
-ghost use Rattle.bt_ast.specs.Exprs.{marked, key_text, step_mark, expr_text, kind_text, target_text, step_text, map_text};
+ghost use Rattle.ast_text.specs.Words.{token};
+ghost use Rattle.ast_text.specs.Exprs.{marked, key_text, step_mark, expr_text, kind_text, target_text, step_text, map_text};
 
-use crate::expr::{Expr, ExprKind, IncDec, MapRef, Target};
 use crate::words::{
     binary_mark, builtin_word, unary_mark, write_number, write_quoted, write_token,
 };
+use bt_ast::expr::{Expr, ExprKind, IncDec, MapRef, Target};
 use bt_core::memory::Memory;
 
 /// The mark of a step up or down.

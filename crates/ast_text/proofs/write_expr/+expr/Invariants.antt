@@ -1,6 +1,6 @@
 use Rattle.std.proofs.Common.{◌≡◌, ◌++◌, map, drop}
-use Rattle.bt_ast.specs.Exprs.{marked, expr_text}
-use Rattle.bt_ast.proofs.write_expr.+expr.Given as goal
+use Rattle.ast_text.specs.Exprs.{marked, expr_text}
+use Rattle.ast_text.proofs.write_expr.+expr.Given as goal
 
 -- what is written, with what is left to write, is the whole
 abbrev pub invariant-write_marked-loop-expr : goal.invariant-write_marked-loop-expr

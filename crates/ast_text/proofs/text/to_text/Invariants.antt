@@ -1,7 +1,7 @@
 use Rattle.std.proofs.Common.{◌≡◌, ◌++◌, map, drop}
-use Rattle.bt_ast.specs.Stmts.{joined}
-use Rattle.bt_ast.specs.Scripts.{probe_text}
-use Rattle.bt_ast.proofs.text.to_text.Given as goal
+use Rattle.ast_text.specs.Stmts.{joined}
+use Rattle.ast_text.specs.Scripts.{probe_text}
+use Rattle.ast_text.proofs.text.to_text.Given as goal
 
 -- what is written, with what is left to write, is the whole
 abbrev pub invariant-loop-probe : goal.invariant-loop-probe

@@ -1,14 +1,14 @@
 // The texts of statements and blocks.
 ghost use Rattle.std.specs.Prelude.{◌≡◌, ◌++◌, [], OnOk, map, option_map, codes};
-ghost use Rattle.bt_ast.specs.Words.{token, assign_mark, number_text, quoted_text};
-ghost use Rattle.bt_ast.specs.Exprs.{expr_text, map_text, target_text, step_text, marked};
-ghost use Rattle.bt_ast.specs.Stmts.{optional_text, simple, call_text, agg_text, otherwise_text, kind_text, block_text};
+ghost use Rattle.ast_text.specs.Words.{token, assign_mark, number_text, quoted_text};
+ghost use Rattle.ast_text.specs.Exprs.{expr_text, map_text, target_text, step_text, marked};
+ghost use Rattle.ast_text.specs.Stmts.{optional_text, simple, call_text, agg_text, otherwise_text, kind_text, block_text};
 
-use crate::expr::{Expr, IncDec, MapRef, Target};
-use crate::stmt::{AggCall, Block, StmtKind};
 use crate::words::{write_assign, write_ending, write_number, write_quoted, write_token};
 use crate::write_agg::{open_call, write_agg, write_call};
 use crate::write_expr::{write_expr, write_map, write_marked, write_step, write_target};
+use bt_ast::expr::{Expr, IncDec, MapRef, Target};
+use bt_ast::stmt::{AggCall, Block, StmtKind};
 use bt_core::memory::Memory;
 use bt_core::operator::BinOp;
 
