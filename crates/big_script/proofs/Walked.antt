@@ -21,12 +21,12 @@ use Rattle.typed_tree.specs.declared.expr.StrExpr.TheVariants as strs
 use Rattle.typed_tree.specs.declared.stmt.TypedBlock.{TypedBlock, out-TypedBlock, roll-out-TypedBlock, fold-roll-TypedBlock}
 use Rattle.typed_tree.specs.declared.stmt.TypedStmt.{TypedStmt}
 use Rattle.event_record.specs.Fields.{field_number}
-use Rattle.bt_walk.specs.declared.flow.Flow.{Flow}
-use Rattle.bt_walk.specs.Does.{Does, Scene, given, seen, asked, bind}
-use Rattle.bt_walk.specs.Exprs.{command, number_field, text_value, value_does, any_layer, num_layer, str_layer}
-use Rattle.bt_walk.specs.Stmts.{gather, in_turn, stmt_does, block_does, stmt_layer, block_layer}
-use Rattle.bt_walk.specs.Walk.{walk, fresh, guarded, ending_of}
-use Rattle.bt_walk.proofs.ExprDoes.{field_num, comm_str}
+use Rattle.walk_meaning.specs.declared.flow.Flow.{Flow}
+use Rattle.walk_meaning.specs.Does.{Does, Scene, given, seen, asked, bind}
+use Rattle.walk_meaning.specs.Exprs.{command, number_field, text_value, value_does, any_layer, num_layer, str_layer}
+use Rattle.walk_meaning.specs.Stmts.{gather, in_turn, stmt_does, block_does, stmt_layer, block_layer}
+use Rattle.walk_meaning.specs.Walk.{walk, fresh, guarded, ending_of}
+use Rattle.walk_meaning.proofs.ExprDoes.{field_num, comm_str}
 use Rattle.bt_lower.proofs.Forms.{Gather-does}
 use Rattle.big_script.proofs.Body.{IsBody, counted, gathered}
 

@@ -15,7 +15,7 @@ use Rattle.expr_types.specs.declared.known.Known.{Known}
 use Rattle.bt_types.specs.Bodies.{layout_at}
 use Rattle.bt_types.specs.Script.{AreTypedBodies}
 use Rattle.bt_attach.specs.Attaching.{is_at, bodies_at, at_each}
-use Rattle.bt_walk.specs.Walked.{least_length}
+use Rattle.walk_meaning.specs.Served.{least_length}
 use Rattle.bt_job.proofs.Lists.{places_are, places_few}
 
 -- the layout size of each typed body

@@ -19,7 +19,7 @@ use Rattle.bt_attach.specs.Attaching.{IsAttachedTo, attach_fault, probes_fault, 
 use Rattle.bt_types.specs.Bodies.{layout_at}
 use Rattle.bt_types.specs.Script.{IsTypedScript}
 use Rattle.actor_plan.specs.Plans.{HasBodies}
-use Rattle.bt_walk.specs.Walked.{least_length}
+use Rattle.walk_meaning.specs.Served.{least_length}
 use Rattle.bt_meaning.specs.Walks.{walking}
 use Rattle.bt_meaning.specs.Jobs.{IsJob}
 use Rattle.bt_job.proofs.Bodies.{IsFor, sizes_of, sized, bodies_are, at_each_at, at_each_few}

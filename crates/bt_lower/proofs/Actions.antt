@@ -14,14 +14,14 @@ use Rattle.bt_core.specs.Interaction.{Interaction, Ended, and_then}
 use Rattle.bt_core.proofs.InteractionLaws.{and_then_assoc}
 use Rattle.bt_core.specs.Arithmetic.{binary_value}
 use Rattle.typed_tree.specs.Parts.{Part}
-use Rattle.bt_walk.specs.declared.flow.Flow.{Flow}
-use Rattle.bt_walk.specs.declared.flow.Flow.TheVariants.{Next}
-use Rattle.bt_walk.specs.declared.flow.Frame.{Frame}
-use Rattle.bt_walk.specs.Does.{Does, given, seen, changed, asked, bind, in_order}
-use Rattle.bt_walk.specs.Does.{Scene as Walked}
-use Rattle.bt_walk.specs.Exprs.{number_value}
-use Rattle.bt_walk.specs.Maps.{with_variable, variable}
-use Rattle.bt_walk.specs.Stmts.{set_variable, set_map, update_variable, update_map, gather, printf, delete_at, plain}
+use Rattle.walk_meaning.specs.declared.flow.Flow.{Flow}
+use Rattle.walk_meaning.specs.declared.flow.Flow.TheVariants.{Next}
+use Rattle.walk_meaning.specs.declared.flow.Frame.{Frame}
+use Rattle.walk_meaning.specs.Does.{Does, given, seen, changed, asked, bind, in_order}
+use Rattle.walk_meaning.specs.Does.{Scene as Walked}
+use Rattle.walk_meaning.specs.Exprs.{number_value}
+use Rattle.walk_meaning.specs.Maps.{with_variable, variable}
+use Rattle.walk_meaning.specs.Stmts.{set_variable, set_map, update_variable, update_map, gather, printf, delete_at, plain}
 use Rattle.bt_ir.specs.declared.instr.Instr.TheVariants as i
 use Rattle.bt_ir.specs.Asking.{part, told as asks_for}
 use Rattle.bt_ir.specs.Meaning.{instr_run, updated}

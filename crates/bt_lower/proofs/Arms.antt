@@ -26,12 +26,12 @@ use Rattle.typed_tree.specs.Parts.{Part, Made, made_of, num_parts, str_parts, pa
 use Rattle.typed_tree.specs.Parts.{Constant, Literal, Numeric, Command, FieldOf, VarOf, MapOf, Stepped, Joined, Both, Either, Chosen}
 use Rattle.typed_tree.specs.Scope.{Scope, all_fit, fits, is_shape, shape_of_field, has_field}
 use Rattle.event_record.specs.Fields.{field_number, field_text}
-use Rattle.bt_walk.specs.declared.flow.Frame.{Frame}
-use Rattle.bt_walk.specs.Does.{Does, given, seen, changed, bind, choose, either, holds}
-use Rattle.bt_walk.specs.Does.{Scene as Walked}
-use Rattle.bt_walk.specs.Exprs.{value_does, values_do, number_does, text_does, number_value, text_value, tested, number_field, text_field, step_variable, step_map}
-use Rattle.bt_walk.specs.Maps.{number_variable, text_variable, with_variable, variable, next, number_of, text_of}
-use Rattle.bt_walk.proofs.ExprDoes.{number_num, builtin_num, field_num, var_num, map_num, stepvar_num, stepmap_num, unary_num, binary_num, compare_num, andthen_num, orelse_num, choose_num, text_str, comm_str, field_str, var_str, map_str, choose_str, num_any, str_any}
+use Rattle.walk_meaning.specs.declared.flow.Frame.{Frame}
+use Rattle.walk_meaning.specs.Does.{Does, given, seen, changed, bind, choose, either, holds}
+use Rattle.walk_meaning.specs.Does.{Scene as Walked}
+use Rattle.walk_meaning.specs.Exprs.{value_does, values_do, number_does, text_does, number_value, text_value, tested, number_field, text_field, step_variable, step_map}
+use Rattle.walk_meaning.specs.Maps.{number_variable, text_variable, with_variable, variable, next, number_of, text_of}
+use Rattle.walk_meaning.proofs.ExprDoes.{number_num, builtin_num, field_num, var_num, map_num, stepvar_num, stepmap_num, unary_num, binary_num, compare_num, andthen_num, orelse_num, choose_num, text_str, comm_str, field_str, var_str, map_str, choose_str, num_any, str_any}
 use Rattle.bt_ir.specs.declared.blocks.Exit.TheVariants.{Goto, Branch}
 use Rattle.bt_ir.specs.declared.instr.Instr.TheVariants as i
 use Rattle.bt_ir.specs.Figures.{size_of, sizes_of}

@@ -11,14 +11,14 @@ use Rattle.typed_tree.specs.declared.expr.NumExpr.{NumExpr}
 use Rattle.typed_tree.specs.declared.stmt.TypedBlock.{TypedBlock}
 use Rattle.typed_tree.specs.Parts.{Part, Otherwise, NoOtherwise, num_parts, block_parts}
 use Rattle.typed_tree.specs.Scope.{all_fit}
-use Rattle.bt_walk.specs.declared.flow.Flow.{Flow}
-use Rattle.bt_walk.specs.declared.flow.Flow.TheVariants.{Next}
-use Rattle.bt_walk.specs.declared.flow.Frame.{Frame}
-use Rattle.bt_walk.specs.Does.{Does, given, bind}
-use Rattle.bt_walk.specs.Does.{Scene as Walked}
-use Rattle.bt_walk.specs.Exprs.{number_does}
-use Rattle.bt_walk.specs.Stmts.{block_does}
-use Rattle.bt_walk.specs.Walk.{guarded, ending_of}
+use Rattle.walk_meaning.specs.declared.flow.Flow.{Flow}
+use Rattle.walk_meaning.specs.declared.flow.Flow.TheVariants.{Next}
+use Rattle.walk_meaning.specs.declared.flow.Frame.{Frame}
+use Rattle.walk_meaning.specs.Does.{Does, given, bind}
+use Rattle.walk_meaning.specs.Does.{Scene as Walked}
+use Rattle.walk_meaning.specs.Exprs.{number_does}
+use Rattle.walk_meaning.specs.Stmts.{block_does}
+use Rattle.walk_meaning.specs.Walk.{guarded, ending_of}
 use Rattle.bt_ir.specs.declared.blocks.Block.{Block}
 use Rattle.bt_ir.specs.declared.blocks.Exit.TheVariants.{Goto, Branch}
 use Rattle.bt_ir.specs.Figures.{sizes_of, blocks_slots}

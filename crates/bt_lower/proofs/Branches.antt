@@ -13,11 +13,11 @@ use Rattle.typed_tree.specs.declared.stmt.TypedStmt.TheShapes.{former-TypedStmt-
 use Rattle.typed_tree.specs.Parts.{Part, num_parts, stmt_parts, block_parts, arm_parts, otherwise_parts, joined, Arm, Otherwise}
 use Rattle.typed_tree.specs.Parts.{stmt_layer as stmt_is, block_layer as block_is}
 use Rattle.typed_tree.specs.Scope.{Scope, all_fit}
-use Rattle.bt_walk.specs.declared.flow.Flow.{Flow}
-use Rattle.bt_walk.specs.Does.{Does}
-use Rattle.bt_walk.specs.Exprs.{number_does}
-use Rattle.bt_walk.specs.Stmts.{block_does}
-use Rattle.bt_walk.proofs.StmtDoes.{if_stmt}
+use Rattle.walk_meaning.specs.declared.flow.Flow.{Flow}
+use Rattle.walk_meaning.specs.Does.{Does}
+use Rattle.walk_meaning.specs.Exprs.{number_does}
+use Rattle.walk_meaning.specs.Stmts.{block_does}
+use Rattle.walk_meaning.proofs.StmtDoes.{if_stmt}
 use Rattle.bt_ir.specs.declared.blocks.Exit.TheVariants.{Goto, Branch}
 use Rattle.bt_lower.specs.declared.code.Code.{Code}
 use Rattle.bt_lower.specs.declared.code.Ways.{Ways}

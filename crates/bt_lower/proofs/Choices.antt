@@ -12,10 +12,10 @@ use Rattle.bt_core.specs.Interaction.{Interaction, Ended, and_then}
 use Rattle.bt_core.proofs.InteractionLaws.{and_then_assoc}
 use Rattle.typed_tree.specs.Parts.{Part}
 use Rattle.typed_tree.specs.Scope.{Scope, all_fit}
-use Rattle.bt_walk.specs.declared.flow.Frame.{Frame}
-use Rattle.bt_walk.specs.Does.{Does, given, bind, choose, either, holds, in_order}
-use Rattle.bt_walk.specs.Does.{Scene as Walked}
-use Rattle.bt_walk.specs.Exprs.{number_value}
+use Rattle.walk_meaning.specs.declared.flow.Frame.{Frame}
+use Rattle.walk_meaning.specs.Does.{Does, given, bind, choose, either, holds, in_order}
+use Rattle.walk_meaning.specs.Does.{Scene as Walked}
+use Rattle.walk_meaning.specs.Exprs.{number_value}
 use Rattle.bt_ir.specs.declared.blocks.Block.{Block}
 use Rattle.bt_ir.specs.declared.blocks.Exit.TheVariants.{Goto, Branch}
 use Rattle.bt_ir.specs.declared.stack.State.{State}

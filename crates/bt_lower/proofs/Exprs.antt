@@ -9,9 +9,9 @@ use Rattle.bt_core.specs.Interaction.{Interaction, Ended, and_then}
 use Rattle.bt_core.proofs.InteractionLaws.{and_then_assoc}
 use Rattle.typed_tree.specs.Parts.{Part}
 use Rattle.typed_tree.specs.Scope.{Scope, all_fit}
-use Rattle.bt_walk.specs.declared.flow.Frame.{Frame}
-use Rattle.bt_walk.specs.Does.{Does, given, bind, gathered, in_order}
-use Rattle.bt_walk.specs.Does.{Scene as Walked}
+use Rattle.walk_meaning.specs.declared.flow.Frame.{Frame}
+use Rattle.walk_meaning.specs.Does.{Does, given, bind, gathered, in_order}
+use Rattle.walk_meaning.specs.Does.{Scene as Walked}
 use Rattle.bt_ir.specs.declared.instr.Instr.{Instr}
 use Rattle.bt_ir.specs.Figures.{sizes_of, instr_slots, instr_bytes}
 use Rattle.bt_ir.specs.Meaning.{instr_run}

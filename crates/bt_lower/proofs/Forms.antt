@@ -13,10 +13,10 @@ use Rattle.typed_tree.specs.declared.stmt.TypedStmt.TheOpen.{TypedStmt-F}
 use Rattle.typed_tree.specs.declared.stmt.TypedBlock.{TypedBlock}
 use Rattle.typed_tree.specs.Parts.{Part, made_of, num_parts, stmt_parts, block_parts, set_var_parts, set_map_parts, update_var_parts, update_map_parts, gather_parts, printf_parts, delete_parts, Shown, Cleared, Zeroed, Jumped, Looped, Unrolled}
 use Rattle.typed_tree.specs.Parts.{stmt_layer as stmt_is, block_layer as block_is}
-use Rattle.bt_walk.specs.declared.flow.Flow.{Flow}
-use Rattle.bt_walk.specs.Does.{Does}
-use Rattle.bt_walk.specs.Exprs.{value_does, values_do, number_does}
-use Rattle.bt_walk.specs.Stmts.{stmt_does, block_does, stmt_layer, block_layer, set_variable, set_map, update_variable, update_map, gather, number_or_one, plain, printf, print, clear, zero_all, delete_at, jump_to, while_true, turns}
+use Rattle.walk_meaning.specs.declared.flow.Flow.{Flow}
+use Rattle.walk_meaning.specs.Does.{Does}
+use Rattle.walk_meaning.specs.Exprs.{value_does, values_do, number_does}
+use Rattle.walk_meaning.specs.Stmts.{stmt_does, block_does, stmt_layer, block_layer, set_variable, set_map, update_variable, update_map, gather, number_or_one, plain, printf, print, clear, zero_all, delete_at, jump_to, while_true, turns}
 use Rattle.bt_ir.specs.Figures.{by_shape}
 use Rattle.bt_lower.specs.Lowers.{all_made}
 use Rattle.bt_lower.specs.Needs.{Need, need, more, greater, beside, list_frame, codes_in, value_need, values_need, number_need, gather_need, jump_need, stmt_need, block_need}

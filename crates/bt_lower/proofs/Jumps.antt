@@ -6,7 +6,7 @@ use Rattle.typed_tree.specs.declared.stmt.Jump.TheVariants as jumps
 use Rattle.typed_tree.specs.declared.stmt.TypedStmt.{TypedStmt}
 use Rattle.typed_tree.specs.declared.stmt.TypedStmt.TheVariants as stmts
 use Rattle.typed_tree.specs.Parts.{Jumped}
-use Rattle.bt_walk.specs.Stmts.{jump_to}
+use Rattle.walk_meaning.specs.Stmts.{jump_to}
 use Rattle.bt_ir.specs.declared.blocks.Exit.TheVariants.{Goto, End}
 use Rattle.bt_ir.specs.declared.instr.Instr.TheVariants as i
 use Rattle.bt_lower.specs.declared.code.Code.{Code}

@@ -15,8 +15,8 @@ use Rattle.bt_core.specs.Interaction.{Ended, and_then}
 use Rattle.bt_core.proofs.InteractionLaws.{and_then_assoc}
 use Rattle.typed_tree.specs.Parts.{Part, MapOf}
 use Rattle.typed_tree.specs.Scope.{fits, decl_of, is_declared, same_kind, same_shapes, kind_of_shape}
-use Rattle.bt_walk.specs.Does.{Does, given, asked, bind}
-use Rattle.bt_walk.specs.Exprs.{number_value, text_value, read_number, read_text, step_map}
+use Rattle.walk_meaning.specs.Does.{Does, given, asked, bind}
+use Rattle.walk_meaning.specs.Exprs.{number_value, text_value, read_number, read_text, step_map}
 use Rattle.bt_ir.specs.declared.instr.Instr.TheVariants as i
 use Rattle.bt_ir.specs.Asking.{got}
 use Rattle.bt_ir.specs.Figures.{sizes_of}

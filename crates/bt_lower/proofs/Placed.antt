@@ -21,12 +21,12 @@ use Rattle.typed_tree.specs.declared.body.TypedBody.{TypedBody}
 use Rattle.typed_tree.specs.Bodies.{scope_of}
 use Rattle.typed_tree.specs.Scope.{format_of, is_fine_kind, has_field, same_field}
 use Rattle.typed_tree.specs.Script.{IsIn, AreIn}
-use Rattle.bt_walk.specs.Does.{Scene as Walked}
-use Rattle.bt_walk.specs.Walk.{walk}
-use Rattle.bt_walk.specs.Walk.{fresh as fresh_in_walk}
-use Rattle.bt_walk.specs.Walk.{unassigned as unassigned_in_walk}
-use Rattle.bt_walk.specs.Walked.{least_length}
-use Rattle.bt_walk.proofs.Declared.{served, served_pick, fine, same_field-end}
+use Rattle.walk_meaning.specs.Does.{Scene as Walked}
+use Rattle.walk_meaning.specs.Walk.{walk}
+use Rattle.walk_meaning.specs.Walk.{fresh as fresh_in_walk}
+use Rattle.walk_meaning.specs.Walk.{unassigned as unassigned_in_walk}
+use Rattle.walk_meaning.specs.Served.{least_length}
+use Rattle.walk_meaning.proofs.Declared.{served, served_pick, fine, same_field-end}
 use Rattle.bt_ir.specs.declared.blocks.Block.{Block}
 use Rattle.bt_ir.specs.declared.probe.IrProbe.{IrProbe}
 use Rattle.bt_ir.specs.declared.stack.State.{State}

@@ -5,10 +5,10 @@ use Rattle.typed_tree.specs.declared.stmt.TypedBlock.{TypedBlock, fold_out-Typed
 use Rattle.typed_tree.specs.declared.stmt.TypedStmt.{TypedStmt}
 use Rattle.typed_tree.specs.Parts.{Part, stmt_parts, block_parts, joined, Ending}
 use Rattle.typed_tree.specs.Parts.{stmt_layer as stmt_is, block_layer as block_is}
-use Rattle.bt_walk.specs.declared.flow.Flow.{Flow}
-use Rattle.bt_walk.specs.Does.{Does}
-use Rattle.bt_walk.specs.Stmts.{stmt_does, block_does, in_turn}
-use Rattle.bt_walk.proofs.StmtDoes.{block_is as block-does}
+use Rattle.walk_meaning.specs.declared.flow.Flow.{Flow}
+use Rattle.walk_meaning.specs.Does.{Does}
+use Rattle.walk_meaning.specs.Stmts.{stmt_does, block_does, in_turn}
+use Rattle.walk_meaning.proofs.StmtDoes.{block_is as block-does}
 use Rattle.bt_lower.specs.declared.code.Code.{Code}
 use Rattle.bt_lower.specs.declared.code.Ways.{Ways}
 use Rattle.bt_lower.specs.Lowers.{LowersStmt, LowersStatement, LowersStatements}

@@ -26,11 +26,11 @@ use Rattle.typed_tree.specs.declared.stmt.TypedStmt.{TypedStmt}
 use Rattle.typed_tree.specs.declared.stmt.TypedStmt.TheVariants as stmts
 use Rattle.typed_tree.specs.Parts.{Part, made_of, num_parts, parts_in, key_shapes, keyed_parts, set_var_parts, set_map_parts, update_var_parts, update_map_parts, gather_parts, printf_parts, delete_parts, stmt_parts, Assigned, VarOf, MapOf, Gathered, Deleted, Printed, Shown, Cleared, Zeroed, Ending}
 use Rattle.typed_tree.specs.Scope.{decl_of, is_declared, is_shared, is_agg, is_there, same_kind, same_shapes, same_bool, is_count, format_of, takes, may_print}
-use Rattle.bt_walk.specs.declared.flow.Flow.{Flow}
-use Rattle.bt_walk.specs.Does.{Does, given}
-use Rattle.bt_walk.specs.Exprs.{value_does, values_do, number_does, number_value}
-use Rattle.bt_walk.specs.Maps.{with_variable, variable}
-use Rattle.bt_walk.specs.Stmts.{stmt_does, set_variable, set_map, update_variable, update_map, gather, plain, printf, print, clear, zero_all, delete_at}
+use Rattle.walk_meaning.specs.declared.flow.Flow.{Flow}
+use Rattle.walk_meaning.specs.Does.{Does, given}
+use Rattle.walk_meaning.specs.Exprs.{value_does, values_do, number_does, number_value}
+use Rattle.walk_meaning.specs.Maps.{with_variable, variable}
+use Rattle.walk_meaning.specs.Stmts.{stmt_does, set_variable, set_map, update_variable, update_map, gather, plain, printf, print, clear, zero_all, delete_at}
 use Rattle.bt_ir.specs.declared.instr.Instr.TheVariants as i
 use Rattle.bt_ir.specs.Asking.{part, told as asks_for}
 use Rattle.bt_ir.specs.Figures.{sizes_of, by_shape}

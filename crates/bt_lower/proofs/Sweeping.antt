@@ -17,14 +17,14 @@ use Rattle.bt_core.proofs.InteractionLaws.{and_then_assoc}
 use Rattle.map_printer.specs.Merged.{merged}
 use Rattle.typed_tree.specs.Parts.{Shown, Cleared, Zeroed}
 use Rattle.typed_tree.specs.Scope.{decl_of, is_there, may_print}
-use Rattle.bt_walk.specs.declared.flow.Frame.{Frame}
-use Rattle.bt_walk.specs.declared.flow.Flow.TheVariants.{Next}
-use Rattle.bt_walk.specs.declared.sweep.Sweep.{Sweep as WalkSweep}
-use Rattle.bt_walk.specs.declared.sweep.Sweep.TheVariants as sweeps
-use Rattle.bt_walk.specs.Does.{given, seen, asked, bind, told}
-use Rattle.bt_walk.specs.Does.{Scene as Walked}
-use Rattle.bt_walk.specs.Maps.{kind_of, kind_or_numbers, swept, asked_from, holder, holders, sweep_op}
-use Rattle.bt_walk.specs.Stmts.{print, clear, zero_all, plain}
+use Rattle.walk_meaning.specs.declared.flow.Frame.{Frame}
+use Rattle.walk_meaning.specs.declared.flow.Flow.TheVariants.{Next}
+use Rattle.walk_meaning.specs.declared.sweep.Sweep.{Sweep as WalkSweep}
+use Rattle.walk_meaning.specs.declared.sweep.Sweep.TheVariants as sweeps
+use Rattle.walk_meaning.specs.Does.{given, seen, asked, bind, told}
+use Rattle.walk_meaning.specs.Does.{Scene as Walked}
+use Rattle.walk_meaning.specs.Maps.{kind_of, kind_or_numbers, swept, asked_from, holder, holders, sweep_op}
+use Rattle.walk_meaning.specs.Stmts.{print, clear, zero_all, plain}
 use Rattle.bt_ir.specs.declared.instr.Instr.TheVariants as i
 use Rattle.bt_ir.specs.declared.sweep.Sweep.{Sweep}
 use Rattle.bt_ir.specs.declared.sweep.Sweep.TheVariants as ours

@@ -10,12 +10,12 @@ use Rattle.bt_core.specs.declared.value.Value.TheVariants.{Int}
 use Rattle.bt_core.specs.Interaction.{Interaction, Ended, and_then}
 use Rattle.typed_tree.specs.Parts.{Part}
 use Rattle.typed_tree.specs.Scope.{Scope, all_fit}
-use Rattle.bt_walk.specs.declared.flow.Flow.{Flow}
-use Rattle.bt_walk.specs.declared.flow.Flow.TheVariants.{Next, Stop}
-use Rattle.bt_walk.specs.declared.flow.Frame.{Frame}
-use Rattle.bt_walk.specs.Does.{Does, given}
-use Rattle.bt_walk.specs.Does.{Scene as Walked}
-use Rattle.bt_walk.specs.Stmts.{turns}
+use Rattle.walk_meaning.specs.declared.flow.Flow.{Flow}
+use Rattle.walk_meaning.specs.declared.flow.Flow.TheVariants.{Next, Stop}
+use Rattle.walk_meaning.specs.declared.flow.Frame.{Frame}
+use Rattle.walk_meaning.specs.Does.{Does, given}
+use Rattle.walk_meaning.specs.Does.{Scene as Walked}
+use Rattle.walk_meaning.specs.Stmts.{turns}
 use Rattle.bt_ir.specs.declared.blocks.Block.{Block}
 use Rattle.bt_ir.specs.declared.blocks.Exit.TheVariants.{Count, End}
 use Rattle.bt_ir.specs.declared.instr.Instr.TheVariants as i

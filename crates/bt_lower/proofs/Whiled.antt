@@ -6,8 +6,8 @@ use Rattle.typed_tree.specs.declared.stmt.TypedBlock.{TypedBlock}
 use Rattle.typed_tree.specs.declared.stmt.TypedStmt.TheVariants as stmts
 use Rattle.typed_tree.specs.Parts.{Part, num_parts, block_parts, Looped}
 use Rattle.typed_tree.specs.Scope.{Scope, all_fit}
-use Rattle.bt_walk.specs.Exprs.{number_does}
-use Rattle.bt_walk.specs.Stmts.{block_does, while_true}
+use Rattle.walk_meaning.specs.Exprs.{number_does}
+use Rattle.walk_meaning.specs.Stmts.{block_does, while_true}
 use Rattle.bt_ir.specs.declared.blocks.Exit.TheVariants.{Branch}
 use Rattle.bt_lower.specs.declared.code.Code.{Code}
 use Rattle.bt_lower.specs.declared.code.Ways.{Ways}

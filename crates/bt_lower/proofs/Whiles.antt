@@ -7,11 +7,11 @@ use Rattle.bt_core.specs.declared.map.Shape.{Shape}
 use Rattle.bt_core.specs.declared.map.Shape.TheVariants as shapes
 use Rattle.typed_tree.specs.Parts.{Part}
 use Rattle.typed_tree.specs.Scope.{Scope, all_fit}
-use Rattle.bt_walk.specs.declared.flow.Flow.{Flow}
-use Rattle.bt_walk.specs.declared.flow.Flow.TheVariants.{Next}
-use Rattle.bt_walk.specs.Does.{Does, seen, bind}
-use Rattle.bt_walk.specs.Exprs.{number_value}
-use Rattle.bt_walk.specs.Stmts.{while_true}
+use Rattle.walk_meaning.specs.declared.flow.Flow.{Flow}
+use Rattle.walk_meaning.specs.declared.flow.Flow.TheVariants.{Next}
+use Rattle.walk_meaning.specs.Does.{Does, seen, bind}
+use Rattle.walk_meaning.specs.Exprs.{number_value}
+use Rattle.walk_meaning.specs.Stmts.{while_true}
 use Rattle.bt_ir.specs.declared.blocks.Block.{Block}
 use Rattle.bt_ir.specs.declared.blocks.Exit.TheVariants.{Branch, End}
 use Rattle.bt_ir.specs.declared.instr.Instr.TheVariants as i

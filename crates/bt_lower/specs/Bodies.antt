@@ -13,11 +13,11 @@ use Rattle.typed_tree.specs.declared.stmt.TypedBlock.{TypedBlock}
 use Rattle.typed_tree.specs.Bodies.{predicate_parts, tree_parts}
 use Rattle.typed_tree.specs.Parts.{Part, block_parts}
 use Rattle.typed_tree.specs.Scope.{all_fit}
-use Rattle.bt_walk.specs.declared.flow.Frame.{Frame}
-use Rattle.bt_walk.specs.Does.{Scene as Walked}
-use Rattle.bt_walk.specs.Stmts.{block_does}
-use Rattle.bt_walk.specs.Walk.{guarded, tree_does, walk}
-use Rattle.bt_walk.specs.Walked.{least_length}
+use Rattle.walk_meaning.specs.declared.flow.Frame.{Frame}
+use Rattle.walk_meaning.specs.Does.{Scene as Walked}
+use Rattle.walk_meaning.specs.Stmts.{block_does}
+use Rattle.walk_meaning.specs.Walk.{guarded, tree_does, walk}
+use Rattle.walk_meaning.specs.Served.{least_length}
 use Rattle.bt_ir.specs.declared.blocks.Block.{Block}
 use Rattle.bt_ir.specs.declared.probe.IrProbe.{IrProbe}
 use Rattle.bt_ir.specs.Figures.{blocks_slots}

@@ -14,13 +14,13 @@ use Rattle.typed_tree.specs.declared.stmt.TypedStmt.{TypedStmt}
 use Rattle.typed_tree.specs.declared.stmt.TypedStmt.TheVariants as stmts
 use Rattle.typed_tree.specs.Parts.{Part, Made, made_of, parts_in, key_shapes, stmt_parts, block_parts, joined, arm_parts, otherwise_parts, option_inside, num_parts, str_parts}
 use Rattle.typed_tree.specs.Scope.{all_fit}
-use Rattle.bt_walk.specs.declared.flow.Flow.{Flow}
-use Rattle.bt_walk.specs.declared.flow.Flow.TheVariants.{Next, Break, Continue, Stop}
-use Rattle.bt_walk.specs.declared.flow.Frame.{Frame}
-use Rattle.bt_walk.specs.Does.{Does, in_order}
-use Rattle.bt_walk.specs.Does.{Scene as Walked}
-use Rattle.bt_walk.specs.Exprs.{value_does, values_do, number_does, text_does, number_value, text_value}
-use Rattle.bt_walk.specs.Stmts.{stmt_does, block_does, first_arm, block_or_next}
+use Rattle.walk_meaning.specs.declared.flow.Flow.{Flow}
+use Rattle.walk_meaning.specs.declared.flow.Flow.TheVariants.{Next, Break, Continue, Stop}
+use Rattle.walk_meaning.specs.declared.flow.Frame.{Frame}
+use Rattle.walk_meaning.specs.Does.{Does, in_order}
+use Rattle.walk_meaning.specs.Does.{Scene as Walked}
+use Rattle.walk_meaning.specs.Exprs.{value_does, values_do, number_does, text_does, number_value, text_value}
+use Rattle.walk_meaning.specs.Stmts.{stmt_does, block_does, first_arm, block_or_next}
 use Rattle.bt_ir.specs.declared.blocks.Block.{Block}
 use Rattle.bt_ir.specs.declared.stack.State.{State}
 use Rattle.bt_ir.specs.Figures.{size_of, sizes_of, by_shape}

@@ -2,8 +2,8 @@
 ghost use Rattle.std.specs.Prelude.{◌≡◌, OnOk, IfOk, []};
 ghost use Rattle.bt_core.specs.declared.map.Shape.TheVariants as shapes;
 ghost use Rattle.typed_tree.specs.Parts.{num_parts, str_parts, key_shapes};
-ghost use Rattle.bt_walk.specs.Does.{given};
-ghost use Rattle.bt_walk.specs.Exprs.{number_does, text_does, number_value, text_value, tested};
+ghost use Rattle.walk_meaning.specs.Does.{given};
+ghost use Rattle.walk_meaning.specs.Exprs.{number_does, text_does, number_value, text_value, tested};
 ghost use Rattle.bt_lower.specs.Lowers.{LowersAny, LowersNumber, LowersText, LowersList, LowersArm, all_made, known_need};
 ghost use Rattle.bt_ir.specs.Values.{shape_of};
 ghost use Rattle.bt_lower.specs.Needs.{number_need, text_need, more};

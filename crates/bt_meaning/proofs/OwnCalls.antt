@@ -39,11 +39,11 @@ use Rattle.map_printer.specs.ItemTexts.{IsItemOf}
 use Rattle.map_printer.specs.Merged.{merged}
 use Rattle.actor_plan.specs.Plans.{Plan, CanRun, AsksOf, BodiesAsk}
 use Rattle.actor_plan.proofs.AskLaws.{begin_asks, end_asks, cpu_asks}
-use Rattle.bt_walk.specs.Admits.{AdmitsOf, EmitsOnly}
-use Rattle.bt_walk.specs.Walk.{walk}
-use Rattle.bt_walk.specs.Walked.{CanWalk, least_length}
-use Rattle.bt_walk.proofs.Asking.{IsFineCall}
-use Rattle.bt_walk.proofs.OwnItems.{own-calls}
+use Rattle.walk_meaning.specs.Admits.{AdmitsOf, EmitsOnly}
+use Rattle.walk_meaning.specs.Walk.{walk}
+use Rattle.walk_meaning.specs.Served.{CanWalk, least_length}
+use Rattle.walk_meaning.proofs.Asking.{IsFineCall}
+use Rattle.walk_meaning.proofs.OwnItems.{own-calls}
 use Rattle.bt_meaning.specs.Interleavings.{IsWhole, IsInterleaving}
 use Rattle.bt_meaning.specs.Jobs.{IsJob}
 use Rattle.bt_meaning.specs.OwnSteps.{setting_of, IsOwnCall, IsOwnStep}

@@ -22,16 +22,16 @@ use Rattle.typed_tree.specs.declared.stmt.TypedBlock.{TypedBlock, roll-TypedBloc
 use Rattle.typed_tree.specs.declared.stmt.TypedStmt.{TypedStmt, roll-TypedStmt, map-TypedStmt, fold-roll-TypedStmt}
 use Rattle.typed_tree.specs.declared.stmt.TypedStmt.TheOpen.{TypedStmt-F, TypedBlock-F}
 use Rattle.typed_tree.specs.declared.stmt.TypedStmt.TheShapes.{former-TypedStmt-If-0-at-2}
-use Rattle.bt_walk.specs.declared.flow.Flow.{Flow}
-use Rattle.bt_walk.specs.declared.flow.Flow.TheVariants.{Next, Break, Continue, Stop}
-use Rattle.bt_walk.specs.declared.flow.Frame.{Frame}
-use Rattle.bt_walk.specs.declared.sweep.Sweep.{Sweep}
-use Rattle.bt_walk.specs.declared.sweep.Sweep.TheVariants.{Read, Clear, Zero}
-use Rattle.bt_walk.specs.Does.{Scene, Does, given, seen, changed, asked, bind, choose, told, gathered, in_order, either}
-use Rattle.bt_walk.specs.Exprs.{read, any_layer, num_layer, str_layer, value_does, values_do, number_does, text_does, step_at}
-use Rattle.bt_walk.specs.Maps.{part, get, set, holder, holders, sweep_op, asked_from, swept}
-use Rattle.bt_walk.specs.Stmts.{plain, stmt_layer, block_layer, stmt_does, block_does, number_or_one, kind_seen, print, clear, zero_all, if_next, in_turn, first_arm, arm_does, cut, entered, turn, turns, tests, while_true, again}
-use Rattle.bt_walk.specs.Walk.{walk, fresh, guarded, ending_of, tree_does}
+use Rattle.walk_meaning.specs.declared.flow.Flow.{Flow}
+use Rattle.walk_meaning.specs.declared.flow.Flow.TheVariants.{Next, Break, Continue, Stop}
+use Rattle.walk_meaning.specs.declared.flow.Frame.{Frame}
+use Rattle.walk_meaning.specs.declared.sweep.Sweep.{Sweep}
+use Rattle.walk_meaning.specs.declared.sweep.Sweep.TheVariants.{Read, Clear, Zero}
+use Rattle.walk_meaning.specs.Does.{Scene, Does, given, seen, changed, asked, bind, choose, told, gathered, in_order, either}
+use Rattle.walk_meaning.specs.Exprs.{read, any_layer, num_layer, str_layer, value_does, values_do, number_does, text_does, step_at}
+use Rattle.walk_meaning.specs.Maps.{part, get, set, holder, holders, sweep_op, asked_from, swept}
+use Rattle.walk_meaning.specs.Stmts.{plain, stmt_layer, block_layer, stmt_does, block_does, number_or_one, kind_seen, print, clear, zero_all, if_next, in_turn, first_arm, arm_does, cut, entered, turn, turns, tests, while_true, again}
+use Rattle.walk_meaning.specs.Walk.{walk, fresh, guarded, ending_of, tree_does}
 use Rattle.bt_meaning.specs.Ticks.{OnlyStops}
 
 pub stops-then : {A B : Type 0} (t : Interaction A) (k : A → Interaction B) → OnlyStops t → ((a : A) → OnlyStops (k a)) → OnlyStops (and_then t k)

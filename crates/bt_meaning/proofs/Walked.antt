@@ -7,7 +7,7 @@ use Rattle.bt_core.specs.Interaction.{Ended}
 use Rattle.rec_format.specs.declared.recording.Recording.{Recording}
 use Rattle.typed_tree.specs.declared.body.TypedBody.{TypedBody}
 use Rattle.typed_tree.specs.declared.script.Typed.{Typed}
-use Rattle.bt_walk.specs.Walk.{walk}
+use Rattle.walk_meaning.specs.Walk.{walk}
 use Rattle.bt_meaning.specs.Ticks.{BodiesOnlyStop, OnlyStops}
 use Rattle.bt_meaning.specs.Walks.{replay_of, walked}
 use Rattle.bt_meaning.proofs.WalkStops.{stops-then, walk_stops}

@@ -8,7 +8,7 @@ use Rattle.bt_core.specs.Ports.{Setting, CanStep, IsReplyOf}
 use Rattle.map_printer.specs.ItemTexts.{IsItemOf}
 use Rattle.rec_format.specs.declared.recording.Recording.{Recording}
 use Rattle.typed_tree.specs.declared.script.Typed.{Typed}
-use Rattle.bt_walk.specs.Admits.{EmitsOnly}
+use Rattle.walk_meaning.specs.Admits.{EmitsOnly}
 
 -- what an actor sees of a run: itself, all actors, the ticks that are attached, and the script's maps
 abbrev pub setting_of : Typed → Attached → Recording → ℕ → Setting

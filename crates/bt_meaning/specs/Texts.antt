@@ -8,7 +8,7 @@ use Rattle.bt_core.specs.declared.step.Step.{Step}
 use Rattle.fmt_text.specs.declared.piece.Piece.{Piece}
 use Rattle.map_printer.specs.ItemTexts.{item_text, IsItemOf}
 use Rattle.typed_tree.specs.declared.script.Typed.{Typed}
-use Rattle.bt_walk.specs.Admits.{EmitsOnly}
+use Rattle.walk_meaning.specs.Admits.{EmitsOnly}
 
 -- each item that these steps emit is one of the script's formats and maps
 abbrev pub EmitOwn : Typed → List Step → Type 0

@@ -8,7 +8,7 @@ ghost use Rattle.rec_format.specs.Recordings.{IsValidRecording};
 ghost use Rattle.typed_tree.specs.declared.body.TypedBody.{TypedBody};
 ghost use Rattle.typed_tree.specs.declared.script.Typed.{Typed};
 ghost use Rattle.actor_plan.specs.Agendas.{AreInTurn};
-ghost use Rattle.bt_walk.specs.Walk.{walk};
+ghost use Rattle.walk_meaning.specs.Walk.{walk};
 ghost use Rattle.bt_meaning.specs.Interleavings.{IsInterleaving};
 ghost use Rattle.bt_meaning.specs.Jobs.{IsJob};
 ghost use Rattle.bt_meaning.specs.OwnSteps.{IsOwnStep};

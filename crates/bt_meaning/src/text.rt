@@ -4,7 +4,7 @@ ghost use Rattle.std.specs.List.{AllByRecursion, flat_map};
 ghost use Rattle.bt_core.specs.declared.step.Step.{Step as StepValue};
 ghost use Rattle.map_printer.specs.Ends.{AllRowsFit, end_text};
 ghost use Rattle.map_printer.specs.ItemTexts.{item_text, IsItemOf};
-ghost use Rattle.bt_walk.specs.Admits.{EmitsOnly};
+ghost use Rattle.walk_meaning.specs.Admits.{EmitsOnly};
 ghost use Rattle.bt_meaning.specs.Prints.{emitted, item_in, lost_after, of_maps, printed_text, rows_after};
 ghost use Rattle.bt_meaning.specs.Texts.{EmitOwn, op_text};
 

@@ -11,7 +11,7 @@ use Rattle.bt_lexer.specs.declared.token.Token.{Token}
 use Rattle.bt_lexer.specs.Tokens.{IsTokensOf}
 use Rattle.bt_ast.specs.declared.probe.Probe.{Probe}
 use Rattle.bt_ast.specs.declared.probe.Script.{Script}
-use Rattle.bt_ast.specs.Scripts.{script_text}
+use Rattle.ast_text.specs.Scripts.{script_text}
 use Rattle.bt_grammar.specs.Form.{WholeScript}
 use Rattle.bt_grammar.specs.Tokens.{items}
 use Rattle.bt_grammar.specs.Grammar.{IsTreeOf}

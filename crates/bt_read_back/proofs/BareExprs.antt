@@ -13,9 +13,9 @@ use Rattle.bt_ast.specs.declared.expr.VarRef.{VarRef}
 use Rattle.bt_ast.specs.declared.expr.IncDec.{IncDec, roll-IncDec, fold-roll-IncDec}
 use Rattle.bt_ast.specs.declared.expr.Target.{Target, fold-roll-Target}
 use Rattle.bt_ast.specs.declared.expr.Target.TheVariants as targets
-use Rattle.bt_ast.specs.Words.{token, number_text, quoted_text, builtin_word, unary_mark, binary_mark}
-use Rattle.bt_ast.specs.Exprs as texts
-use Rattle.bt_ast.specs.Exprs.{expr_text, kind_text, target_text, step_text, map_text, key_text, step_mark}
+use Rattle.ast_text.specs.Words.{token, number_text, quoted_text, builtin_word, unary_mark, binary_mark}
+use Rattle.ast_text.specs.Exprs as texts
+use Rattle.ast_text.specs.Exprs.{expr_text, kind_text, target_text, step_text, map_text, key_text, step_mark}
 use Rattle.bt_grammar.specs.Tokens.{origin}
 use Rattle.bt_grammar.specs.Trees.{expr}
 use Rattle.bt_read_back.specs.Bare as bares

@@ -13,10 +13,10 @@ use Rattle.bt_ast.specs.declared.stmt.StmtKind.{StmtKind, fold-roll-StmtKind}
 use Rattle.bt_ast.specs.declared.stmt.StmtKind.TheVariants as stmts
 use Rattle.bt_ast.specs.declared.stmt.StmtKind.TheOpen.{StmtKind-F}
 use Rattle.bt_ast.specs.declared.stmt.StmtKind.TheShapes.{former-StmtKind-If-0-at-2}
-use Rattle.bt_ast.specs.Words.{token, ending, number_text, quoted_text, assign_mark}
-use Rattle.bt_ast.specs.Exprs.{expr_text, target_text, step_text, map_text, marked}
-use Rattle.bt_ast.specs.Stmts as texts
-use Rattle.bt_ast.specs.Stmts.{call_text, simple, agg_text, optional_text, arms_text, otherwise_text, arm_of, joined, kind_text, block_text, stmt_text}
+use Rattle.ast_text.specs.Words.{token, ending, number_text, quoted_text, assign_mark}
+use Rattle.ast_text.specs.Exprs.{expr_text, target_text, step_text, map_text, marked}
+use Rattle.ast_text.specs.Stmts as texts
+use Rattle.ast_text.specs.Stmts.{call_text, simple, agg_text, optional_text, arms_text, otherwise_text, arm_of, joined, kind_text, block_text, stmt_text}
 use Rattle.bt_grammar.specs.Tokens.{origin}
 use Rattle.bt_grammar.specs.Trees.{stmt}
 use Rattle.bt_read_back.specs.Bare as bares

@@ -6,9 +6,9 @@ use Rattle.bt_ast.specs.declared.expr.Expr.{Expr}
 use Rattle.bt_ast.specs.declared.stmt.Block.{Block, roll-Block}
 use Rattle.bt_ast.specs.declared.stmt.Stmt.{Stmt}
 use Rattle.bt_ast.specs.declared.stmt.StmtKind.TheVariants as stmts
-use Rattle.bt_ast.specs.Words.{token, ending, number_text}
-use Rattle.bt_ast.specs.Exprs.{expr_text}
-use Rattle.bt_ast.specs.Stmts.{arms_after, arm_of, otherwise_text, joined, block_text, stmt_text}
+use Rattle.ast_text.specs.Words.{token, ending, number_text}
+use Rattle.ast_text.specs.Exprs.{expr_text}
+use Rattle.ast_text.specs.Stmts.{arms_after, arm_of, otherwise_text, joined, block_text, stmt_text}
 use Rattle.bt_grammar.specs.declared.class.Class.{Class}
 use Rattle.bt_grammar.specs.declared.class.Class.TheVariants.{IfWord, ElseWord, WhileWord, UnrollWord, OpenBrace, CloseBrace, Semicolon}
 use Rattle.bt_grammar.specs.Form.{Item, Part, Expression, Simple, Arm, Tail, Control, Body, Braced, Form, Call, Map, Then, Or, Rel, whole}

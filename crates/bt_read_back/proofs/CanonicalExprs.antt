@@ -16,8 +16,8 @@ use Rattle.bt_ast.specs.declared.expr.VarRef.{VarRef}
 use Rattle.bt_ast.specs.declared.expr.IncDec.{IncDec, roll-IncDec}
 use Rattle.bt_ast.specs.declared.expr.Target.{Target}
 use Rattle.bt_ast.specs.declared.expr.Target.TheVariants as targets
-use Rattle.bt_ast.specs.Words.{token, quoted_text, quoted_bytes, unary_mark}
-use Rattle.bt_ast.specs.Exprs.{expr_text, target_text, map_text, marked, key_text, step_mark}
+use Rattle.ast_text.specs.Words.{token, quoted_text, quoted_bytes, unary_mark}
+use Rattle.ast_text.specs.Exprs.{expr_text, target_text, map_text, marked, key_text, step_mark}
 use Rattle.bt_grammar.specs.declared.class.Class.{Class}
 use Rattle.bt_grammar.specs.declared.class.Class.TheVariants.{PidWord, TidWord, UidWord, GidWord, CommWord, CpuWord, NsecsWord, ElapsedWord, ArgsWord, MapName, VarName, NumberLiteral, TextLiteral, Increment, Decrement, OpenParen, CloseParen, OpenBracket, CloseBracket, Star, Slash, Percent, Plus, Minus, ShlMark, ShrMark, Less, LessOrEqual, Greater, GreaterOrEqual, EqualMark, NotEqualMark, Ampersand, Bar, Caret, AndAnd, OrOr, Tilde, Bang, Question, Colon}
 use Rattle.bt_grammar.specs.declared.class.Tier.{Tier}

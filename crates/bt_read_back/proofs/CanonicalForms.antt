@@ -3,7 +3,7 @@ use Rattle.std.proofs.Common.{◌≡◌, ℕ, zero, suc, Bool, true, List, [], �
 use Rattle.std.specs.Prelude.{codes}
 use Rattle.std.proofs.lemmas.List.{append-nil}
 use Rattle.bt_lexer.specs.declared.token.TokenKind.{TokenKind}
-use Rattle.bt_ast.specs.Words.{token}
+use Rattle.ast_text.specs.Words.{token}
 use Rattle.bt_core.specs.declared.place.Place.{Place}
 use Rattle.bt_grammar.specs.declared.class.Class.{Class}
 use Rattle.bt_grammar.specs.declared.class.Class.TheVariants.{OpenParen, CloseParen, Comma, Dot}

@@ -5,7 +5,7 @@ use Rattle.std.specs.Int.{w64, cast_unsigned}
 use Rattle.std.proofs.Math.Nat.{mod-lt}
 use Rattle.bt_lexer.specs.declared.token.TokenKind.TheVariants as kinds
 use Rattle.bt_lexer.specs.Numbers.{signed}
-use Rattle.bt_ast.specs.Words.{number_text}
+use Rattle.ast_text.specs.Words.{number_text}
 use Rattle.bt_grammar.specs.declared.class.Class.{Class}
 use Rattle.bt_grammar.specs.declared.class.Class.TheVariants.{NumberLiteral, Minus}
 use Rattle.bt_grammar.specs.Classes.{is}

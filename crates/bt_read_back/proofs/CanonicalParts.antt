@@ -7,9 +7,9 @@ use Rattle.bt_ast.specs.declared.stmt.Block.{Block}
 use Rattle.bt_ast.specs.declared.stmt.Stmt.{Stmt}
 use Rattle.bt_ast.specs.declared.probe.Point.{Point}
 use Rattle.bt_ast.specs.declared.probe.Probe.{Probe}
-use Rattle.bt_ast.specs.Words.{token}
-use Rattle.bt_ast.specs.Stmts.{joined}
-use Rattle.bt_ast.specs.Scripts.{points_text, predicate_text, probe_text}
+use Rattle.ast_text.specs.Words.{token}
+use Rattle.ast_text.specs.Stmts.{joined}
+use Rattle.ast_text.specs.Scripts.{points_text, predicate_text, probe_text}
 use Rattle.bt_grammar.specs.declared.class.Class.{Class}
 use Rattle.bt_grammar.specs.declared.class.Class.TheVariants.{CloseBrace, Slash}
 use Rattle.bt_grammar.specs.declared.class.Tier.{Tier}

@@ -21,8 +21,8 @@ use Rattle.bt_ast.specs.declared.probe.Unit.{Unit as TimeUnit}
 use Rattle.bt_ast.specs.declared.probe.Unit.TheVariants as units
 use Rattle.bt_ast.specs.declared.probe.Point.{Point}
 use Rattle.bt_ast.specs.declared.probe.Point.TheVariants as points
-use Rattle.bt_ast.specs.Words.{token, unit_word}
-use Rattle.bt_ast.specs.Scripts.{point_text, points_after}
+use Rattle.ast_text.specs.Words.{token, unit_word}
+use Rattle.ast_text.specs.Scripts.{point_text, points_after}
 use Rattle.bt_grammar.specs.declared.class.Class.{Class}
 use Rattle.bt_grammar.specs.declared.class.Class.TheVariants.{BeginWord, EndWord, TracepointPoint, IntervalPoint, Foreign}
 use Rattle.bt_grammar.specs.Classes.{is_point}

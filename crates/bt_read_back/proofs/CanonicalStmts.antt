@@ -14,9 +14,9 @@ use Rattle.bt_ast.specs.declared.stmt.AggCall.{AggCall}
 use Rattle.bt_ast.specs.declared.stmt.AggCall.TheVariants as aggs
 use Rattle.bt_ast.specs.declared.stmt.StmtKind.{StmtKind}
 use Rattle.bt_ast.specs.declared.stmt.StmtKind.TheVariants as stmts
-use Rattle.bt_ast.specs.Words.{token, number_text, assign_mark}
-use Rattle.bt_ast.specs.Exprs.{expr_text, target_text, map_text, marked, key_text}
-use Rattle.bt_ast.specs.Stmts.{call_text, simple, agg_text, optional_text, kind_text}
+use Rattle.ast_text.specs.Words.{token, number_text, assign_mark}
+use Rattle.ast_text.specs.Exprs.{expr_text, target_text, map_text, marked, key_text}
+use Rattle.ast_text.specs.Stmts.{call_text, simple, agg_text, optional_text, kind_text}
 use Rattle.bt_grammar.specs.declared.class.Class.{Class}
 use Rattle.bt_grammar.specs.declared.class.Class.TheVariants.{CountWord, SumWord, MinWord, MaxWord, AvgWord, HistWord, LhistWord, PrintfWord, PrintWord, ClearWord, ZeroWord, DeleteWord, ExitWord, BreakWord, ContinueWord, ReturnWord, MapName, VarName, TextLiteral, ShlAssign, ShrAssign, Increment, AddAssign, SubAssign, MulAssign, DivAssign, ModAssign, AndAssign, OrAssign, XorAssign, OpenParen, CloseParen, OpenBracket, CloseBracket, Comma, Assign}
 use Rattle.bt_grammar.specs.Classes.{is, is_update, update_of, is_step, gathers}

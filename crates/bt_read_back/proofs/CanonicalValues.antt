@@ -12,10 +12,10 @@ use Rattle.bt_ast.specs.declared.stmt.Stmt.{Stmt}
 use Rattle.bt_ast.specs.declared.stmt.StmtKind.{StmtKind}
 use Rattle.bt_ast.specs.declared.probe.Point.{Point}
 use Rattle.bt_ast.specs.declared.probe.Probe.{Probe}
-use Rattle.bt_ast.specs.Words.{token, ending, number_text}
-use Rattle.bt_ast.specs.Exprs.{expr_text, target_text, map_text, marked, key_text}
-use Rattle.bt_ast.specs.Stmts.{simple, agg_text, arms_after, arm_of, otherwise_text, joined, kind_text, block_text, stmt_text}
-use Rattle.bt_ast.specs.Scripts.{point_text, points_after, probe_text}
+use Rattle.ast_text.specs.Words.{token, ending, number_text}
+use Rattle.ast_text.specs.Exprs.{expr_text, target_text, map_text, marked, key_text}
+use Rattle.ast_text.specs.Stmts.{simple, agg_text, arms_after, arm_of, otherwise_text, joined, kind_text, block_text, stmt_text}
+use Rattle.ast_text.specs.Scripts.{point_text, points_after, probe_text}
 use Rattle.bt_grammar.specs.Form.{Part, Primary, Unary, Level, Expression, Values, Keyed, Assignable, Int, Aggregation, Update, AfterMap, AfterVar, Printf, Print, Delete, CallOrJump, Simple, Arm, Tail, Control, Body, Braced, Points, OneProbe, WholeScript, Of}
 use Rattle.bt_read_back.specs.Bare.{bare_var, bare_expr, bare_target, bare_map, bare_agg, bare_arm, bare_statement, bare_block, bare_stmt, bare_point, bare_probe}
 use Rattle.bt_read_back.proofs.CanonicalForms.{Back, Same}

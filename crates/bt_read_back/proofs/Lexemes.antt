@@ -16,7 +16,7 @@ use Rattle.bt_lexer.proofs.Pieces.{form_at, some_byte, marks_pass}
 use Rattle.bt_lexer.proofs.SeparatorPieces.{one_blank}
 use Rattle.bt_lexer.proofs.Exact.{fault_complete}
 use Rattle.bt_lexer.proofs.Blanks.{token_stands, blank_stands}
-use Rattle.bt_ast.specs.Words.{token, ending, quoted_bytes}
+use Rattle.ast_text.specs.Words.{token, ending, quoted_bytes}
 use Rattle.bt_grammar.specs.Form.{Item}
 use Rattle.bt_grammar.specs.Tokens.{class_of, item, items}
 

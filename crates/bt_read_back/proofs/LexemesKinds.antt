@@ -14,7 +14,7 @@ use Rattle.bt_lexer.specs.Marks.{IsMark}
 use Rattle.bt_lexer.specs.Numbers.{AreDigits, IsNumber, value_of, not_underscore}
 use Rattle.bt_lexer.specs.Strings.{IsSpelling, IsSpelled}
 use Rattle.bt_lexer.proofs.Choices.{decided, is_eq, is_ne, ne_test, tails, nil_apart}
-use Rattle.bt_ast.specs.Words.{quoted_byte, quoted_bytes}
+use Rattle.ast_text.specs.Words.{quoted_byte, quoted_bytes}
 use Rattle.bt_read_back.proofs.Lexemes.{Sound, Valid}
 
 -- ---- numbers

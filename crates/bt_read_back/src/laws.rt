@@ -1,6 +1,6 @@
 // That the text of a tree is read back.
 ghost use Rattle.std.specs.Prelude.{List, ℕ};
-ghost use Rattle.bt_ast.specs.Scripts.{script_text};
+ghost use Rattle.ast_text.specs.Scripts.{script_text};
 ghost use Rattle.bt_ast.specs.declared.probe.Script.{Script};
 ghost use Rattle.bt_grammar.specs.Grammar.{IsTreeOf};
 ghost use Rattle.bt_grammar.specs.Refusals.{IsAccepted};

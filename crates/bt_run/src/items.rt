@@ -3,7 +3,7 @@ ghost use Rattle.std.specs.Prelude.{◌≡◌, ◌++◌, ◌∷◌, [], All, OnO
 ghost use Rattle.std.specs.List.{flat_map};
 ghost use Rattle.bt_core.specs.declared.step.Step.{Step};
 ghost use Rattle.map_printer.specs.ItemTexts.{item_text, IsItemOf};
-ghost use Rattle.bt_walk.specs.Admits.{EmitsOnly};
+ghost use Rattle.walk_meaning.specs.Admits.{EmitsOnly};
 ghost use Rattle.bt_meaning.specs.Prints.{emitted};
 
 use bt_core::items::Items;

@@ -10,9 +10,9 @@ use Rattle.bt_core.specs.declared.map.MapId.{MapId}
 use Rattle.bt_core.specs.declared.value.Value.{Value}
 use Rattle.bt_core.specs.Interaction.{Interaction, Whole, Part, Left, MakesStep, last_reply}
 use Rattle.bt_core.proofs.InteractionLaws.{Whole-and_then, Part-after, Part-and_then, Performed-none, Whole-Ended, Whole-ask, Left-and_then}
-use Rattle.bt_walk.specs.declared.flow.Frame.{Frame}
-use Rattle.bt_walk.specs.Does.{Scene, Does, given, seen, changed, asked, bind, choose, told}
-use Rattle.bt_walk.specs.Maps.{value_of, part, get}
+use Rattle.walk_meaning.specs.declared.flow.Frame.{Frame}
+use Rattle.walk_meaning.specs.Does.{Scene, Does, given, seen, changed, asked, bind, choose, told}
+use Rattle.walk_meaning.specs.Maps.{value_of, part, get}
 use Rattle.bt_walk.specs.Walked.{Walked}
 
 pub Given-done : {A : Type 0} (a b : A) (scene : Scene) (frame after : Frame) (s : List Step) → a ≡ b → frame ≡ after → Whole (given a scene frame) s s (b, after)

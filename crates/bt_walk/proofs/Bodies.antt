@@ -11,11 +11,11 @@ use Rattle.typed_tree.specs.Bodies.{predicate_parts, scope_of}
 use Rattle.typed_tree.specs.Parts.{block_parts}
 use Rattle.typed_tree.specs.Scope.{Scope, fits, all_fit}
 use Rattle.bt_core.specs.declared.ending.Ending.{Ending}
-use Rattle.bt_walk.specs.declared.flow.Flow.{Flow}
-use Rattle.bt_walk.specs.declared.flow.Frame.{Frame}
-use Rattle.bt_walk.specs.Does.{Scene}
-use Rattle.bt_walk.specs.Stmts.{block_does}
-use Rattle.bt_walk.specs.Walk.{walk, fresh, guarded, ending_of}
+use Rattle.walk_meaning.specs.declared.flow.Flow.{Flow}
+use Rattle.walk_meaning.specs.declared.flow.Frame.{Frame}
+use Rattle.walk_meaning.specs.Does.{Scene}
+use Rattle.walk_meaning.specs.Stmts.{block_does}
+use Rattle.walk_meaning.specs.Walk.{walk, fresh, guarded, ending_of}
 use Rattle.bt_walk.proofs.Binds.{Part-first, Whole-next, Given-done}
 
 module _ (body : TypedBody) (context : Context) (payload : List ℕ) (actor actors : ℕ) (frame : Frame) (old new : List Step) (start : frame ≡ fresh body.tree.variables) where

@@ -10,10 +10,11 @@ use Rattle.bt_core.specs.Kinds.{HasShape, IsOfShape}
 use Rattle.bt_core.proofs.InteractionLaws.{Left-here, Left-Whole, Left-Part, Left-is, Performed-none}
 use Rattle.typed_tree.specs.declared.expr.AnyExpr.{AnyExpr}
 use Rattle.typed_tree.specs.Parts.{Made, made_of, key_shapes}
-use Rattle.bt_walk.specs.declared.flow.Frame.{Frame}
-use Rattle.bt_walk.specs.Does.{Scene, bind, gathered, in_order}
-use Rattle.bt_walk.specs.Exprs.{value_does, values_do}
-use Rattle.bt_walk.specs.Walked.{all_made}
+use Rattle.walk_meaning.specs.declared.flow.Frame.{Frame}
+use Rattle.walk_meaning.specs.Does.{Scene, bind, gathered, in_order}
+use Rattle.walk_meaning.specs.Exprs.{value_does, values_do}
+use Rattle.walk_meaning.specs.Served.{all_made}
+use Rattle.walk_meaning.proofs.Declared.{HasShape-more}
 use Rattle.bt_walk.proofs.Binds.{Part-first, Given-done, Left-next}
 
 pub gathers-start : (es : List AnyExpr) (scene : Scene) (frame : Frame) (old : List Step) → Left (in_order (values_do es) scene frame) old old (gathered [] (values_do es) scene frame)
@@ -39,12 +40,6 @@ pub gathers-end : (whole : Interaction (List Value × Frame)) (es : List AnyExpr
     length es ≤ n → Left whole old now (gathered parts (values_do (drop n es)) scene frame) → Whole whole old now (parts, frame)
 gathers-end whole es n scene frame parts old now h p =
     Left-Whole _ _ _ _ _ _ (Left-is _ _ _ _ _ p (ap (λ (l : List AnyExpr). gathered parts (values_do l) scene frame) (drop_all n es h))) (Given-done _ _ _ _ _ _ refl refl)
-
-pub HasShape-more : (hs : List Shape) (vs : List Value) (h : Shape) (v : Value) → HasShape hs vs → IsOfShape h v → HasShape (hs ++ h ∷ []) (vs ++ v ∷ [])
-HasShape-more [] [] h v p q = (q, tt)
-HasShape-more [] (w ∷ vs) h v p q = absurd p
-HasShape-more (s ∷ hs) [] h v p q = absurd p
-HasShape-more (s ∷ hs) (w ∷ vs) h v p q = (p.0, HasShape-more hs vs h v p.1 q)
 
 shapes_more : (es : List AnyExpr) (n : ℕ) (e : AnyExpr) → n < length es → e ≡ get_or es n e → key_shapes (all_made (take (n + 1) es)) ≡ key_shapes (all_made (take n es)) ++ (made_of e).shape ∷ []
 shapes_more es n e h i =

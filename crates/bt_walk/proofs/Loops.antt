@@ -9,16 +9,16 @@ use Rattle.bt_core.proofs.InteractionLaws.{Left-here, Left-Whole, Left-Part, Lef
 use Rattle.typed_tree.specs.declared.expr.NumExpr.{NumExpr}
 use Rattle.typed_tree.specs.declared.stmt.TypedBlock.{TypedBlock}
 use Rattle.typed_tree.specs.declared.stmt.TypedStmt.{TypedStmt}
-use Rattle.bt_walk.specs.declared.flow.Flow.{Flow}
-use Rattle.bt_walk.specs.declared.flow.Flow.TheVariants.{Next, Break, Continue, Stop}
-use Rattle.bt_walk.specs.declared.flow.Frame.{Frame}
-use Rattle.bt_walk.specs.Does.{Scene, Does, given, bind, choose, holds, either}
-use Rattle.bt_walk.specs.Exprs.{number_does}
+use Rattle.walk_meaning.specs.declared.flow.Flow.{Flow}
+use Rattle.walk_meaning.specs.declared.flow.Flow.TheVariants.{Next, Break, Continue, Stop}
+use Rattle.walk_meaning.specs.declared.flow.Frame.{Frame}
+use Rattle.walk_meaning.specs.Does.{Scene, Does, given, bind, choose, holds, either}
+use Rattle.walk_meaning.specs.Exprs.{number_does}
 use Rattle.bt_walk.specs.Flows.{is_next, leaves}
-use Rattle.bt_walk.specs.Stmts.{stmt_does, block_does, if_next, in_turn, first_arm, again, turn, turns, tests, while_true}
+use Rattle.walk_meaning.specs.Stmts.{stmt_does, block_does, if_next, in_turn, first_arm, again, turn, turns, tests, while_true}
 use Rattle.bt_walk.specs.Walked.{Walked}
 use Rattle.bt_walk.proofs.Binds.{Part-first, Given-done, Seen-done, Left-next}
-use Rattle.bt_walk.proofs.StmtDoes.{arm_of}
+use Rattle.walk_meaning.proofs.StmtDoes.{arm_of}
 
 -- the rest of what is left was performed as far as it went
 pub Left-Walked : {A : Type 0} (whole : Does A) (scene : Scene) (start : Frame) (d : Does A) (frame after : Frame) (old mid new : List Step) (r : Result A Memory) → Left (whole scene start) old mid (d scene frame) →

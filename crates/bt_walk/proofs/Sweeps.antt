@@ -19,12 +19,12 @@ use Rattle.bt_core.specs.Kinds.{HasShape, IsOfKind, IsAggOf}
 use Rattle.bt_core.specs.Ports.{Setting, IsReplyOf, IsSharedReply, IsTableReply}
 use Rattle.bt_core.proofs.InteractionLaws.{Left-here, Left-Whole, Left-Part, Left-is, Performed-none}
 use Rattle.map_printer.specs.Merged.{HasRowsOf}
-use Rattle.bt_walk.specs.declared.flow.Frame.{Frame}
-use Rattle.bt_walk.specs.declared.sweep.Sweep.{Sweep}
-use Rattle.bt_walk.specs.declared.sweep.Sweep.TheVariants.{Read}
-use Rattle.bt_walk.specs.Does.{Scene, bind, asked}
-use Rattle.bt_walk.specs.Maps.{holder, holders, sweep_op, asked_from, swept}
-use Rattle.bt_walk.specs.Walked.{CanSweep}
+use Rattle.walk_meaning.specs.declared.flow.Frame.{Frame}
+use Rattle.walk_meaning.specs.declared.sweep.Sweep.{Sweep}
+use Rattle.walk_meaning.specs.declared.sweep.Sweep.TheVariants.{Read}
+use Rattle.walk_meaning.specs.Does.{Scene, bind, asked}
+use Rattle.walk_meaning.specs.Maps.{holder, holders, sweep_op, asked_from, swept}
+use Rattle.walk_meaning.specs.Served.{CanSweep}
 use Rattle.bt_walk.proofs.Binds.{Part-next, Whole-next, Given-done, Seen-done, Asked-done, Left-next}
 
 pub sweep-start : (object : ℕ → ObjectId) (op : Op) (n : ℕ) (scene : Scene) (frame : Frame) (old : List Step) → Left (asked_from object op [] 0 n scene frame) old old (asked_from object op [] 0 (n - 0) scene frame)

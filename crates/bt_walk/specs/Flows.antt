@@ -1,7 +1,7 @@
 -- Where statements lead, for the walk through a port.
 use Rattle.std.specs.Prelude.{Bool, true, false, Option, Some, None}
-use Rattle.bt_walk.specs.declared.flow.Flow.{Flow}
-use Rattle.bt_walk.specs.declared.flow.Flow.TheVariants.{Next, Break, Continue, Stop}
+use Rattle.walk_meaning.specs.declared.flow.Flow.{Flow}
+use Rattle.walk_meaning.specs.declared.flow.Flow.TheVariants.{Next, Break, Continue, Stop}
 
 -- whether the next statement follows
 abbrev pub is_next : Flow → Bool

@@ -5,11 +5,10 @@ ghost use Rattle.bt_core.specs.declared.step.ObjectId.TheVariants as objects;
 ghost use Rattle.bt_core.specs.declared.step.Op.TheVariants as ops;
 ghost use Rattle.bt_core.specs.declared.value.Value.TheVariants as values;
 ghost use Rattle.bt_core.specs.Ports.{CanStep};
-ghost use Rattle.bt_walk.specs.Does.{holds, bind, told};
-ghost use Rattle.bt_walk.specs.Maps.{number_of, text_of, value_of, variable, with_variable, part, get, set, delete, next};
+ghost use Rattle.walk_meaning.specs.Does.{holds, bind, told};
+ghost use Rattle.walk_meaning.specs.Maps.{number_of, text_of, value_of, variable, with_variable, part, get, set, delete, next};
 ghost use Rattle.bt_walk.specs.Walked.{Made};
 
-use crate::flow::Frame;
 use bt_core::arithmetic::binary;
 use bt_core::encoding::part_of;
 use bt_core::key::Key;
@@ -21,6 +20,7 @@ use bt_core::step::{ObjectId, Op, Reply};
 use bt_core::text::Str64;
 use bt_core::value::Value;
 use std::alloc::Global;
+use walk_meaning::flow::Frame;
 
 /// Whether a number counts as true.
 pub fn holds(n: i64) -> bool

@@ -2,14 +2,14 @@
 ghost use Rattle.std.specs.Prelude.{◌≡◌, ◌++◌, IfOk, map};
 ghost use Rattle.bt_core.specs.Interaction.{Performed};
 ghost use Rattle.typed_tree.specs.Bodies.{predicate_parts};
-ghost use Rattle.bt_walk.specs.Stmts.{block_does};
-ghost use Rattle.bt_walk.specs.Walk.{walk, fresh, guarded, unassigned};
-ghost use Rattle.bt_walk.specs.Walked.{Walked, CanWalk, IsServed, Fits, BlockFits, scene_in};
+ghost use Rattle.walk_meaning.specs.Stmts.{block_does};
+ghost use Rattle.walk_meaning.specs.Walk.{walk, fresh, guarded, unassigned};
+ghost use Rattle.bt_walk.specs.Walked.{Walked};
+ghost use Rattle.walk_meaning.specs.Served.{CanWalk, IsServed, Fits, BlockFits, scene_in};
 
 use crate::access::holds;
-use crate::flow::{Flow, Frame, ending_of};
+use crate::flow::ending_of;
 use crate::value::number;
-use crate::view::View;
 use crate::walk::walk_block;
 use bt_core::context::Context;
 use bt_core::ending::Ending;
@@ -24,6 +24,8 @@ use std::alloc::Global;
 use typed_tree::body::TypedBody;
 use typed_tree::expr::NumExpr;
 use typed_tree::stmt::TypedBlock;
+use walk_meaning::flow::{Flow, Frame};
+use walk_meaning::view::View;
 
 /// What a variable of this type is before its first assignment.
 fn unassigned(shape: Shape) -> Value

@@ -1,27 +1,10 @@
-// Where a statement leads, and what a run keeps.
+// Where statements lead.
 ghost use Rattle.std.specs.Prelude.{◌≡◌};
 ghost use Rattle.bt_walk.specs.Flows.{is_next, leaves};
-ghost use Rattle.bt_walk.specs.Walk.{ending_of};
+ghost use Rattle.walk_meaning.specs.Walk.{ending_of};
 
 use bt_core::ending::Ending;
-use bt_core::items::Items;
-use bt_core::value::Value;
-
-/// Where a statement leads: to the next one, out of its loop, to the next turn of its loop, or to the end of the run.
-#[derive(Clone, Copy, PartialEq, Eq, Debug)]
-pub enum Flow {
-    Next,
-    Break,
-    Continue,
-    Stop(Ending),
-}
-
-/// What the run of a body keeps: its variables by their numbers, and how many loop turns are left.
-#[derive(Drop)]
-pub struct Frame {
-    pub variables: Items<Value>,
-    pub turns: u32,
-}
+use walk_meaning::flow::Flow;
 
 /// Whether the next statement follows.
 pub fn is_next(flow: Flow) -> bool

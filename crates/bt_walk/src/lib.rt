@@ -1,10 +1,9 @@
-//! What a body does: the operations that it makes and how its run ends, and its walk through a port.
+//! The walk of a body through a port: it does what the body means.
 #![tactic(auto)]
 
 pub mod access;
 pub mod body;
 pub mod flow;
-pub mod laws;
 pub mod stmt;
 pub mod sweep;
 pub mod value;

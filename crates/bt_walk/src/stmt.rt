@@ -5,17 +5,17 @@ ghost use Rattle.bt_core.specs.declared.map.MapKind.TheVariants as kinds;
 ghost use Rattle.bt_core.specs.declared.limits.TheConstants.{KEY_PARTS as MOST_PARTS};
 ghost use Rattle.typed_tree.specs.Parts.{made_of, num_parts, parts_in, key_shapes, set_var_parts, set_map_parts, update_var_parts, update_map_parts, gather_parts, number_parts, delete_parts};
 ghost use Rattle.typed_tree.specs.Scope.{decl_of, is_there};
-ghost use Rattle.bt_walk.specs.Does.{in_order};
-ghost use Rattle.bt_walk.specs.Exprs.{value_does, values_do, number_does};
-ghost use Rattle.bt_walk.specs.Stmts.{set_variable, set_map, update_variable, update_map, update_at, gather, number_or_one, printf, print, clear, zero_all, delete_at, jump_to, cut, plain};
-ghost use Rattle.bt_walk.specs.Walked.{Walked, Made, IsServed, Fits, HoldsUnder, all_made, scene_in};
-ghost use Rattle.bt_walk.specs.declared.flow.Frame.{Frame as Kept};
+ghost use Rattle.walk_meaning.specs.Does.{in_order};
+ghost use Rattle.walk_meaning.specs.Exprs.{value_does, values_do, number_does};
+ghost use Rattle.walk_meaning.specs.Stmts.{set_variable, set_map, update_variable, update_map, update_at, gather, number_or_one, printf, print, clear, zero_all, delete_at, jump_to, cut, plain};
+ghost use Rattle.bt_walk.specs.Walked.{Walked, Made};
+ghost use Rattle.walk_meaning.specs.Served.{IsServed, Fits, HoldsUnder, all_made, scene_in};
+ghost use Rattle.walk_meaning.specs.declared.flow.Frame.{Frame as Kept};
 
 use crate::access::{assign, delete, get, number_of, set, tell, variable};
-use crate::flow::{Flow, Frame};
-use crate::sweep::{Sweep, ask_each};
+use crate::sweep::ask_each;
 use crate::value::{number, value, values};
-use crate::view::{View, kind_of};
+use crate::view::kind_of;
 use bt_core::arithmetic::binary;
 use bt_core::ending::Ending;
 use bt_core::item::Item;
@@ -30,6 +30,9 @@ use map_printer::merging::merged;
 use std::alloc::Global;
 use typed_tree::expr::{AnyExpr, NumExpr};
 use typed_tree::stmt::Jump;
+use walk_meaning::flow::{Flow, Frame};
+use walk_meaning::sweep::Sweep;
+use walk_meaning::view::View;
 
 /// Evaluates the parts of a key.
 fn key<P: Port>(

@@ -2,12 +2,12 @@
 ghost use Rattle.std.specs.Prelude.{◌≡◌, ◌<◌, All, IfOk, OnOk};
 ghost use Rattle.bt_core.specs.Ports.{CanStep};
 ghost use Rattle.map_printer.specs.Merged.{HasRowsOf};
-ghost use Rattle.bt_walk.specs.declared.sweep.Sweep.TheVariants as sweeps;
-ghost use Rattle.bt_walk.specs.declared.flow.Frame.{Frame as Kept};
-ghost use Rattle.bt_walk.specs.Maps.{holder, holders, sweep_op, swept};
-ghost use Rattle.bt_walk.specs.Walked.{Walked, scene_in, CanSweep};
+ghost use Rattle.walk_meaning.specs.declared.sweep.Sweep.TheVariants as sweeps;
+ghost use Rattle.walk_meaning.specs.declared.flow.Frame.{Frame as Kept};
+ghost use Rattle.walk_meaning.specs.Maps.{holder, holders, sweep_op, swept};
+ghost use Rattle.bt_walk.specs.Walked.{Walked};
+ghost use Rattle.walk_meaning.specs.Served.{scene_in, CanSweep};
 
-use crate::view::View;
 use bt_core::items::Items;
 use bt_core::limits::PARTS;
 use bt_core::map::{MapId, MapKind};
@@ -15,14 +15,8 @@ use bt_core::memory::Memory;
 use bt_core::port::Port;
 use bt_core::step::{ObjectId, Op, Reply};
 use std::alloc::Global;
-
-/// What is done to a whole map.
-#[derive(Clone, Copy, PartialEq, Eq, Debug)]
-pub enum Sweep {
-    Read,
-    Clear,
-    Zero,
-}
+use walk_meaning::sweep::Sweep;
+use walk_meaning::view::View;
 
 /// An object that holds a map of this kind: the table of an actor, or a part of the map.
 fn holder(kind: MapKind, map: MapId, place: u32) -> ObjectId

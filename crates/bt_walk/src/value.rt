@@ -5,14 +5,14 @@ ghost use Rattle.bt_core.specs.declared.map.MapKind.TheVariants as kinds;
 ghost use Rattle.bt_core.specs.declared.value.Value.TheVariants as values;
 ghost use Rattle.bt_core.specs.Kinds.{HasShape, IsOfShape};
 ghost use Rattle.typed_tree.specs.Parts.{made_of, num_parts, str_parts, parts_in, key_shapes};
-ghost use Rattle.bt_walk.specs.Exprs.{value_does, values_do, number_does, text_does, step_at, read};
-ghost use Rattle.bt_walk.specs.Maps.{next, number_of, variable, with_variable};
-ghost use Rattle.bt_walk.specs.Does.{in_order};
-ghost use Rattle.bt_walk.specs.Walked.{Walked, all_made, Made, IsServed, Fits, NamesShared, HoldsUnder, scene_in};
+ghost use Rattle.walk_meaning.specs.Exprs.{value_does, values_do, number_does, text_does, step_at, read};
+ghost use Rattle.walk_meaning.specs.Maps.{next, number_of, variable, with_variable};
+ghost use Rattle.walk_meaning.specs.Does.{in_order};
+ghost use Rattle.bt_walk.specs.Walked.{Walked, Made};
+ghost use Rattle.walk_meaning.specs.Served.{all_made, IsServed, Fits, NamesShared, HoldsUnder, scene_in};
 
 use crate::access::{assign, get, holds, next, number_of, set, text_of, truth, variable};
-use crate::flow::Frame;
-use crate::view::{View, builtin_value};
+use crate::view::builtin_value;
 use bt_core::arithmetic::{binary, unary};
 use bt_core::items::Items;
 use bt_core::key::Key;
@@ -24,6 +24,8 @@ use bt_core::value::Value;
 use event_record::reading::{int_field, str_field};
 use std::alloc::Global;
 use typed_tree::expr::{AnyExpr, NumExpr, StrExpr};
+use walk_meaning::flow::Frame;
+use walk_meaning::view::View;
 
 /// Evaluates an expression.
 #[cycle(value)]

@@ -1,22 +1,11 @@
-// What the run of a body sees.
+// What is read of what the run of a body sees.
 ghost use Rattle.std.specs.Prelude.{◌≡◌};
-ghost use Rattle.bt_walk.specs.Exprs.{builtin_value};
-ghost use Rattle.bt_walk.specs.Maps.{kind_of};
+ghost use Rattle.walk_meaning.specs.Exprs.{builtin_value};
+ghost use Rattle.walk_meaning.specs.Maps.{kind_of};
 
 use bt_core::context::Context;
 use bt_core::map::{MapDecl, MapId, MapKind};
-use typed_tree::body::TypedBody;
 use typed_tree::expr::NumBuiltin;
-
-/// What the run of a body sees: the body, its context and payload, the actor that runs it, and how many actors there are.
-#[derive(Clone, Copy)]
-pub struct View<'a> {
-    pub body: &'a TypedBody,
-    pub context: &'a Context,
-    pub payload: &'a [u8],
-    pub actor: u32,
-    pub actors: u32,
-}
 
 /// The value of a builtin: times as the signed numbers of their 64 bits, and `elapsed` counts modulo 2^64.
 pub fn builtin_value(builtin: NumBuiltin, context: &Context) -> i64

@@ -1,24 +1,26 @@
 // The walk of statements through a port.
 ghost use Rattle.std.specs.Prelude.{◌≡◌, ◌≤◌, ◌<◌, IfOk, None};
-ghost use Rattle.bt_walk.specs.Exprs.{number_does};
-ghost use Rattle.bt_walk.specs.Stmts.{stmt_does, block_does, turn, turns, while_true};
+ghost use Rattle.walk_meaning.specs.Exprs.{number_does};
+ghost use Rattle.walk_meaning.specs.Stmts.{stmt_does, block_does, turn, turns, while_true};
 ghost use Rattle.bt_walk.specs.Flows.{leaves};
-ghost use Rattle.bt_walk.specs.Walked.{Walked, IsServed, Fits, StmtFits, BlockFits, scene_in};
+ghost use Rattle.bt_walk.specs.Walked.{Walked};
+ghost use Rattle.walk_meaning.specs.Served.{IsServed, Fits, StmtFits, BlockFits, scene_in};
 ghost use Rattle.typed_tree.specs.Parts.{num_parts};
 
 use crate::access::holds;
-use crate::flow::{Flow, Frame, is_next, leaves};
+use crate::flow::{is_next, leaves};
 use crate::stmt::{
     clear, cut, delete_at, gather, jump, print, printf, set_map, set_variable, step, update_map,
     update_variable, zero,
 };
 use crate::value::number;
-use crate::view::View;
 use bt_core::memory::Memory;
 use bt_core::port::Port;
 use std::alloc::Global;
 use typed_tree::expr::NumExpr;
 use typed_tree::stmt::{TypedBlock, TypedStmt};
+use walk_meaning::flow::{Flow, Frame};
+use walk_meaning::view::View;
 
 /// Walks a statement.
 #[cycle(walk)]

@@ -14,7 +14,7 @@ use Rattle.rec_format.specs.Events.{IsEvent}
 use Rattle.rec_format.specs.Recordings.{IsTrack, IsValidRecording}
 use Rattle.typed_tree.specs.declared.body.TypedBody.{TypedBody}
 use Rattle.actor_plan.specs.Contexts.{event_context, moment_context}
-use Rattle.bt_walk.specs.Walked.{least_length}
+use Rattle.walk_meaning.specs.Served.{least_length}
 use Rattle.code_bodies.specs.Kept.{AreHeld, IsSeen}
 use Rattle.event_record.specs.Contexts.{AreBytes}
 

@@ -14,7 +14,7 @@ use Rattle.rec_format.specs.declared.recording.Recording.{Recording}
 use Rattle.typed_tree.specs.declared.body.TypedBody.{TypedBody}
 use Rattle.typed_tree.specs.declared.script.Typed.{Typed}
 use Rattle.actor_plan.specs.Plans.{Plan}
-use Rattle.bt_walk.specs.Walked.{least_length}
+use Rattle.walk_meaning.specs.Served.{least_length}
 use Rattle.bt_meaning.specs.Replays.{Replay}
 
 -- the code is well formed, and has an instruction and at most 4,096

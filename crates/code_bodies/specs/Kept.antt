@@ -18,8 +18,8 @@ use Rattle.rec_format.specs.declared.recording.Recording.{Recording}
 use Rattle.typed_tree.specs.declared.body.TypedBody.{TypedBody}
 use Rattle.typed_tree.specs.declared.script.Typed.{Typed}
 use Rattle.bt_core.specs.Same.{SameTo}
-use Rattle.bt_walk.specs.Walk.{walk}
-use Rattle.bt_walk.specs.Walked.{least_length}
+use Rattle.walk_meaning.specs.Walk.{walk}
+use Rattle.walk_meaning.specs.Served.{least_length}
 use Rattle.replay_laws.specs.Agree.{Comes}
 use Rattle.replay_laws.specs.HeldReplies.{IsHeldReply}
 use Rattle.code_bodies.specs.Coding.{fuel_of}

@@ -29,7 +29,7 @@ use Rattle.helper_abi.specs.Served.{desk_of}
 use Rattle.typed_tree.specs.declared.body.TypedBody.{TypedBody}
 use Rattle.typed_tree.specs.declared.script.Typed.{Typed}
 use Rattle.bt_core.specs.Same.{SameTo}
-use Rattle.bt_walk.specs.Walk.{walk}
+use Rattle.walk_meaning.specs.Walk.{walk}
 use Rattle.bt_ir.specs.declared.probe.IrProbe.{IrProbe}
 use Rattle.bt_lower.specs.Bodies.{IsLowered, LowersScript}
 use Rattle.body_code.specs.Bodies.{IsDeskFor, IsEventFor, KeepsBody}

@@ -1,6 +1,6 @@
 // The texts of the trees of scripts, as a reader would write them, a blank after each token. They show each part of a tree but the
 // grouping of operators and the places.
-use bt_ast::text::to_text;
+use ast_text::text::to_text;
 use bt_lexer::lexer::lex;
 use bt_parser::parse::parse;
 use std::test::Fail;

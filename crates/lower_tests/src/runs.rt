@@ -3,7 +3,7 @@ ghost use Rattle.std.specs.Prelude.{◌≡◌, ◌≤◌, All, Some, IsTrue, IfO
 ghost use Rattle.std.specs.Option.{option_copied};
 ghost use Rattle.bt_ir.specs.declared.probe.IrProbe.{IrProbe as Probe};
 ghost use Rattle.bt_ir.specs.Running.{payload_need};
-ghost use Rattle.bt_walk.specs.Walked.{least_length};
+ghost use Rattle.walk_meaning.specs.Served.{least_length};
 
 use crate::port::Written;
 use bt_core::context::Context;

@@ -7,8 +7,8 @@ use Rattle.bt_core.specs.Interaction.{Interaction, Ended, and_then}
 use Rattle.typed_tree.specs.declared.body.TypedBody.{TypedBody}
 use Rattle.typed_tree.specs.declared.script.Typed.{Typed}
 use Rattle.typed_tree.specs.declared.stmt.TypedStmt.{TypedStmt}
-use Rattle.bt_walk.specs.Walk.{walk}
-use Rattle.bt_walk.specs.Walked.{least_length}
+use Rattle.walk_meaning.specs.Walk.{walk}
+use Rattle.walk_meaning.specs.Served.{least_length}
 use Rattle.bt_meaning.specs.Walks.{replay_of, walked}
 use Rattle.meaning_tests.specs.Bodies.{clear_statement, print_statement}
 use Rattle.meaning_tests.specs.Intervals.{replaying, runs_of, two_cpus, two_ticks}

@@ -15,10 +15,10 @@ use Rattle.typed_tree.specs.declared.stmt.Jump.TheVariants as jumps
 use Rattle.typed_tree.specs.declared.stmt.TypedStmt.{TypedStmt, fold-roll-TypedStmt}
 use Rattle.typed_tree.specs.declared.stmt.TypedStmt.TheVariants.{rolls-Gather, rolls-Print, rolls-Clear, rolls-Jump}
 use Rattle.typed_tree.specs.declared.stmt.TypedStmt.TheOpen.{TypedStmt-F}
-use Rattle.bt_walk.specs.declared.flow.Flow.{Flow}
-use Rattle.bt_walk.specs.Does.{Does, asked, bind, given, seen}
-use Rattle.bt_walk.specs.Stmts.{block_does, block_layer, clear, gather, in_turn, jump_to, number_or_one, print, stmt_does, stmt_layer}
-use Rattle.bt_walk.specs.Walk.{ending_of, fresh, guarded, walk}
+use Rattle.walk_meaning.specs.declared.flow.Flow.{Flow}
+use Rattle.walk_meaning.specs.Does.{Does, asked, bind, given, seen}
+use Rattle.walk_meaning.specs.Stmts.{block_does, block_layer, clear, gather, in_turn, jump_to, number_or_one, print, stmt_does, stmt_layer}
+use Rattle.walk_meaning.specs.Walk.{ending_of, fresh, guarded, walk}
 use Rattle.meaning_tests.specs.Bodies.{HasStatements, clear_statement, count_statement, exit_statement, print_statement}
 use Rattle.meaning_tests.specs.Written.{clears, counts, counts_decl, counts_one, prints, stops}
 

@@ -4,7 +4,7 @@ ghost use Rattle.bt_core.specs.declared.context.Context.{Context};
 ghost use Rattle.bt_core.specs.declared.ending.Ending.TheVariants.{End, Exit};
 ghost use Rattle.bt_core.specs.Interaction.{Ended};
 ghost use Rattle.typed_tree.specs.declared.body.TypedBody.{TypedBody};
-ghost use Rattle.bt_walk.specs.Walk.{walk};
+ghost use Rattle.walk_meaning.specs.Walk.{walk};
 ghost use Rattle.meaning_tests.specs.Bodies.{HasStatements, clear_statement, count_statement, exit_statement, print_statement};
 ghost use Rattle.meaning_tests.specs.Written.{clears, counts, counts_decl, counts_one, prints, stops};
 

@@ -18,10 +18,10 @@ use Rattle.typed_tree.specs.declared.body.TypedBody.{TypedBody}
 use Rattle.typed_tree.specs.declared.script.Typed.{Typed}
 use Rattle.actor_plan.specs.Plans.{AsksOf, BodiesAsk}
 use Rattle.actor_plan.proofs.AskLaws.{begin_asks, end_asks, cpu_asks}
-use Rattle.bt_walk.specs.Admits.{AdmitsOf}
-use Rattle.bt_walk.specs.Walk.{walk}
-use Rattle.bt_walk.specs.Walked.{least_length}
-use Rattle.bt_walk.proofs.AskingStmts.{walk-admits}
+use Rattle.walk_meaning.specs.Admits.{AdmitsOf}
+use Rattle.walk_meaning.specs.Walk.{walk}
+use Rattle.walk_meaning.specs.Served.{least_length}
+use Rattle.walk_meaning.proofs.AskingStmts.{walk-admits}
 use Rattle.bt_meaning.specs.Jobs.{IsJob}
 use Rattle.bt_meaning.specs.OwnSteps.{setting_of}
 use Rattle.bt_meaning.specs.Walks.{walked, walking, replay_of}

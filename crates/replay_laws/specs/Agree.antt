@@ -14,7 +14,7 @@ use Rattle.rec_format.specs.declared.recording.Recording.{Recording}
 use Rattle.actor_plan.specs.Contexts.{event_context, tick_context, begin_context, end_context}
 use Rattle.actor_plan.specs.Plans.{Plan}
 use Rattle.actor_plan.specs.Programs.{bodies_at}
-use Rattle.bt_walk.specs.SameUnder.{IsReplyTo}
+use Rattle.walk_meaning.specs.SameUnder.{IsReplyTo}
 use Rattle.bt_core.specs.Same.{SameTo}
 use Rattle.bt_meaning.specs.Replays.{Replay, PlansAreOwn, cpus_of}
 

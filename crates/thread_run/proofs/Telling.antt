@@ -4,7 +4,7 @@ use Rattle.std.specs.List.{AllByRecursion}
 use Rattle.bt_core.specs.declared.step.Step.{Step}
 use Rattle.map_printer.specs.ItemTexts.{IsItemOf}
 use Rattle.map_printer.proofs.MergedFitting.{merged_fit}
-use Rattle.bt_walk.specs.Admits.{EmitsOnly}
+use Rattle.walk_meaning.specs.Admits.{EmitsOnly}
 use Rattle.bt_meaning.specs.Jobs.{IsJob}
 use Rattle.bt_meaning.specs.OwnSteps.{IsOwnStep}
 use Rattle.bt_meaning.specs.Texts.{EmitOwn}

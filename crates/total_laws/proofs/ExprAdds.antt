@@ -17,10 +17,10 @@ use Rattle.typed_tree.specs.Parts as tree
 use Rattle.typed_tree.specs.Parts.{Part, Made, made_of, num_parts, str_parts, parts_in}
 use Rattle.bt_meaning.specs.Totals.{Entry, added}
 use Rattle.bt_meaning.proofs.Eachs.{each_front, each_back}
-use Rattle.bt_walk.specs.declared.flow.Frame.{Frame}
-use Rattle.bt_walk.specs.Does.{Scene, Does, given, seen, changed, asked, bind, choose, told, gathered, either}
-use Rattle.bt_walk.specs.Exprs.{builtin_value, any_layer, num_layer, str_layer, value_does, values_do, number_does, text_does}
-use Rattle.bt_walk.specs.Maps.{add}
+use Rattle.walk_meaning.specs.declared.flow.Frame.{Frame}
+use Rattle.walk_meaning.specs.Does.{Scene, Does, given, seen, changed, asked, bind, choose, told, gathered, either}
+use Rattle.walk_meaning.specs.Exprs.{builtin_value, any_layer, num_layer, str_layer, value_does, values_do, number_does, text_does}
+use Rattle.walk_meaning.specs.Maps.{add}
 use Rattle.total_laws.proofs.Adding.{is_plain, Gives, gives-then}
 use Rattle.total_laws.proofs.Quiet.{AreLike, IsQuietBuiltin, IsQuiet, AreQuiet}
 

@@ -5,7 +5,7 @@ use Rattle.typed_tree.specs.declared.expr.NumBuiltin.{NumBuiltin}
 use Rattle.typed_tree.specs.declared.expr.NumBuiltin.TheVariants as builtins
 use Rattle.typed_tree.specs.Parts.{Part, Numeric, MapOf, Deleted, Cleared, Zeroed, Jumped}
 use Rattle.bt_meaning.specs.Totals.{StaysInBody}
-use Rattle.bt_walk.specs.Does.{Scene}
+use Rattle.walk_meaning.specs.Does.{Scene}
 
 -- what is seen of two scenes is alike, but for the actor and the context's `cpu`
 pub record AreLike (one two : Scene) : Type 0 where

@@ -21,8 +21,8 @@ use Rattle.typed_tree.specs.declared.script.Typed.{Typed}
 use Rattle.typed_tree.specs.Bodies.{scope_of, tree_parts}
 use Rattle.typed_tree.specs.Parts.{Part, Numeric, MapOf, Deleted, Cleared, Zeroed, Jumped}
 use Rattle.typed_tree.specs.Scope.{Scope, all_fit, fits, decl_of, is_agg, is_declared, is_shared, kind_of_shape, same_kind, same_shapes}
-use Rattle.bt_walk.proofs.Declared.{served}
-use Rattle.bt_walk.specs.Walk.{walk}
+use Rattle.walk_meaning.proofs.Declared.{served}
+use Rattle.walk_meaning.specs.Walk.{walk}
 use Rattle.bt_meaning.specs.Totals.{Entry, IsAggregationOnly, Keeps}
 use Rattle.bt_meaning.specs.Walks.{walked}
 use Rattle.bt_meaning.proofs.Placed.{maps_placed}
@@ -30,7 +30,7 @@ use Rattle.total_laws.specs.Ends.{UsesNoCpu}
 use Rattle.total_laws.proofs.Adding.{Gives, gives-then}
 use Rattle.total_laws.proofs.Quiet.{AreLike, IsQuiet, IsQuietBuiltin, AreQuiet}
 use Rattle.total_laws.proofs.StmtAdds.{scene_of, walks_add}
-use Rattle.bt_walk.specs.Does.{Scene}
+use Rattle.walk_meaning.specs.Does.{Scene}
 
 -- ---- no map of the script holds values
 

@@ -24,15 +24,15 @@ use Rattle.typed_tree.specs.Bodies.{predicate_parts, tree_parts}
 use Rattle.typed_tree.specs.Parts as tree
 use Rattle.typed_tree.specs.Parts.{Part, made_of, num_parts, parts_in, stmt_parts, block_parts, arm_parts, otherwise_parts, joined, number_parts, Ending, Otherwise}
 use Rattle.bt_meaning.specs.Totals.{Entry, added}
-use Rattle.bt_walk.specs.declared.flow.Flow.{Flow}
-use Rattle.bt_walk.specs.declared.flow.Flow.TheVariants.{Next, Break, Continue, Stop}
-use Rattle.bt_walk.specs.declared.flow.Frame.{Frame}
-use Rattle.bt_walk.specs.declared.sweep.Sweep.TheVariants.{Read}
-use Rattle.bt_walk.specs.Does.{Scene, Does, given, seen, changed, asked, bind, told, in_order}
-use Rattle.bt_walk.specs.Exprs.{value_does, values_do, number_does}
-use Rattle.bt_walk.specs.Maps.{kind_of, holder, holders, sweep_op, asked_from, swept, add}
-use Rattle.bt_walk.specs.Stmts.{plain, stmt_layer, block_layer, stmt_does, block_does, number_or_one, kind_seen, print, if_next, in_turn, first_arm, arm_does, cut, entered, turn, turns, tests, while_true, again}
-use Rattle.bt_walk.specs.Walk.{walk, fresh, guarded, ending_of, tree_does}
+use Rattle.walk_meaning.specs.declared.flow.Flow.{Flow}
+use Rattle.walk_meaning.specs.declared.flow.Flow.TheVariants.{Next, Break, Continue, Stop}
+use Rattle.walk_meaning.specs.declared.flow.Frame.{Frame}
+use Rattle.walk_meaning.specs.declared.sweep.Sweep.TheVariants.{Read}
+use Rattle.walk_meaning.specs.Does.{Scene, Does, given, seen, changed, asked, bind, told, in_order}
+use Rattle.walk_meaning.specs.Exprs.{value_does, values_do, number_does}
+use Rattle.walk_meaning.specs.Maps.{kind_of, holder, holders, sweep_op, asked_from, swept, add}
+use Rattle.walk_meaning.specs.Stmts.{plain, stmt_layer, block_layer, stmt_does, block_does, number_or_one, kind_seen, print, if_next, in_turn, first_arm, arm_does, cut, entered, turn, turns, tests, while_true, again}
+use Rattle.walk_meaning.specs.Walk.{walk, fresh, guarded, ending_of, tree_does}
 use Rattle.total_laws.proofs.Adding.{is_plain, Gives, gives-then}
 use Rattle.total_laws.proofs.ExprAdds.{Sure, given-sure, seen-sure, changed-sure, bind-sure, told-sure, add-sure, either-sure, then-given, front, back, num_sure, any_sure, values-sure}
 use Rattle.total_laws.proofs.Quiet.{AreLike, AreQuiet}

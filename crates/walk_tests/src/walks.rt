@@ -1,6 +1,6 @@
 // Walks of typed bodies through the port, under the conditions of a walk.
 ghost use Rattle.std.specs.Prelude.{◌≡◌, ◌≤◌, All, Some, IsTrue, length, slice_get};
-ghost use Rattle.bt_walk.specs.Walked.{least_length};
+ghost use Rattle.walk_meaning.specs.Served.{least_length};
 
 use crate::port::Written;
 use crate::tables::{Moment, Row};

@@ -11,7 +11,7 @@ use Rattle.bt_core.specs.declared.step.Step.{Step}
 use Rattle.bt_core.specs.Steps.{on_object}
 use Rattle.fmt_text.specs.declared.piece.Piece.{Piece}
 use Rattle.map_printer.specs.ItemTexts.{item_text, IsItemOf}
-use Rattle.bt_walk.specs.Admits.{EmitsOnly}
+use Rattle.walk_meaning.specs.Admits.{EmitsOnly}
 use Rattle.bt_meaning.specs.Prints.{emitted, operations_at, printed_text}
 use Rattle.replay_laws.specs.Agree.{AllReplies}
 use Rattle.replay_laws.specs.HeldReplies.{IsHeldReply}

@@ -1,6 +1,6 @@
 use Rattle.std.proofs.Common.{◌∙◌, ap}
 use Rattle.std.proofs.lemmas.Result.{err_from_is_err_and}
-use Rattle.bt_walk.specs.Maps.{value_of}
+use Rattle.walk_meaning.specs.Maps.{value_of}
 use Rattle.bt_core.proofs.InteractionLaws.{Performed-none}
 use Rattle.bt_walk.proofs.Binds.{Get-done}
 use Rattle.bt_walk.proofs.access.get.Goals as goal

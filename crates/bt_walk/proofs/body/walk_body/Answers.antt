@@ -1,7 +1,7 @@
 use Rattle.std.proofs.Common.{◌∙◌, ap, refl, false}
 use Rattle.std.proofs.lemmas.Result.{err_from_is_err_and}
 use Rattle.bt_core.proofs.InteractionLaws.{Performed-none}
-use Rattle.bt_walk.specs.Walk.{fresh}
+use Rattle.walk_meaning.specs.Walk.{fresh}
 use Rattle.bt_walk.proofs.Bodies.{body_begun, body_done, tree_fits}
 use Rattle.bt_walk.proofs.body.walk_body.Goals as goal
 

@@ -1,10 +1,10 @@
 use Rattle.std.proofs.Common.{refl}
 use Rattle.std.proofs.lemmas.Result.{err_from_is_err_and}
 use Rattle.typed_tree.specs.Parts.{key_shapes}
-use Rattle.bt_walk.specs.Walked.{all_made}
+use Rattle.walk_meaning.specs.Served.{all_made}
 use Rattle.bt_walk.proofs.Binds.{Part-first, Part-next, Whole-next, Given-done}
-use Rattle.bt_walk.proofs.Declared.{shared, delete_can}
-use Rattle.bt_walk.proofs.TreeParts.{delete_head}
+use Rattle.walk_meaning.proofs.Declared.{shared, delete_can}
+use Rattle.walk_meaning.proofs.TreeParts.{delete_head}
 use Rattle.bt_walk.proofs.stmt.delete_at.Goals as goal
 
 pub key-requires-clause-few : goal.key-requires-clause-few

@@ -2,10 +2,10 @@ use Rattle.std.proofs.Common.{pos, refl, SFits, w64, rules}
 use Rattle.std.proofs.lemmas.Int.{to_z-of_z}
 use Rattle.std.proofs.lemmas.Result.{err_from_is_err_and}
 use Rattle.typed_tree.specs.Parts.{key_shapes}
-use Rattle.bt_walk.specs.Walked.{all_made}
+use Rattle.walk_meaning.specs.Served.{all_made}
 use Rattle.bt_walk.proofs.Binds.{Part-first, Part-next, Whole-next, Given-done, Seen-done}
-use Rattle.bt_walk.proofs.Declared.{gathering, add_can}
-use Rattle.bt_walk.proofs.TreeParts.{gather_head}
+use Rattle.walk_meaning.proofs.Declared.{gathering, add_can}
+use Rattle.walk_meaning.proofs.TreeParts.{gather_head}
 use Rattle.bt_walk.proofs.stmt.gather.Goals as goal
 
 pub key-requires-clause-few : goal.key-requires-clause-few

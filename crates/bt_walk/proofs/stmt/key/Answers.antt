@@ -1,6 +1,6 @@
 use Rattle.std.proofs.Common.{◌≤◌, length, arith}
 use Rattle.std.proofs.lemmas.Result.{err_from_is_err_and}
-use Rattle.bt_walk.proofs.Declared.{HasShape-length}
+use Rattle.walk_meaning.proofs.Declared.{HasShape-length}
 use Rattle.bt_walk.proofs.stmt.key.Goals as goal
 
 pub returns-in_err-parts-clause-walked : goal.returns-in_err-parts-clause-walked

@@ -3,9 +3,9 @@ use Rattle.std.proofs.lemmas.Int.{to_z-of_z}
 use Rattle.std.proofs.lemmas.Result.{err_from_is_err_and}
 use Rattle.bt_core.proofs.InteractionLaws.{Performed-none}
 use Rattle.map_printer.specs.Merged.{merged}
-use Rattle.bt_walk.specs.Maps.{kind_of}
+use Rattle.walk_meaning.specs.Maps.{kind_of}
 use Rattle.bt_walk.proofs.Binds.{Part-first, Part-next, Whole-next, Given-done, Seen-done}
-use Rattle.bt_walk.proofs.Declared.{sweep_can}
+use Rattle.walk_meaning.proofs.Declared.{sweep_can}
 use Rattle.bt_walk.proofs.stmt.print.Goals as goal
 
 pub ask_each-requires : goal.ask_each-requires

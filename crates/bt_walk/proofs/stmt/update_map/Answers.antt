@@ -3,10 +3,10 @@ use Rattle.std.proofs.lemmas.Int.{to_z-of_z}
 use Rattle.std.proofs.lemmas.Result.{err_from_is_err_and}
 use Rattle.bt_core.specs.declared.map.Shape.TheVariants as shapes
 use Rattle.typed_tree.specs.Parts.{num_parts, key_shapes}
-use Rattle.bt_walk.specs.Walked.{all_made}
+use Rattle.walk_meaning.specs.Served.{all_made}
 use Rattle.bt_walk.proofs.Binds.{Part-first, Part-next, Walked-next}
-use Rattle.bt_walk.proofs.Declared.{valued, held}
-use Rattle.bt_walk.proofs.TreeParts.{update_head}
+use Rattle.walk_meaning.proofs.Declared.{valued, held}
+use Rattle.walk_meaning.proofs.TreeParts.{update_head}
 use Rattle.bt_walk.proofs.stmt.update_map.Goals as goal
 
 pub key-requires-clause-few : goal.key-requires-clause-few

@@ -1,8 +1,8 @@
 use Rattle.std.proofs.Common.{◌≡◌, refl, sym, ap, ◌∙◌}
 use Rattle.std.proofs.lemmas.Result.{err_from_is_err_and}
-use Rattle.bt_walk.specs.Maps.{kind_of}
+use Rattle.walk_meaning.specs.Maps.{kind_of}
 use Rattle.bt_walk.proofs.Binds.{Part-first, Part-next, Whole-next, Given-done, Seen-done}
-use Rattle.bt_walk.proofs.Declared.{sweep_can}
+use Rattle.walk_meaning.proofs.Declared.{sweep_can}
 use Rattle.bt_walk.proofs.stmt.zero.Goals as goal
 
 pub ask_each-requires : goal.ask_each-requires

@@ -2,7 +2,7 @@ use Rattle.std.proofs.Common.{◌<◌, ◌≤◌, ◌∙◌, refl, arith}
 use Rattle.std.proofs.lemmas.List.Elements.{All-nil}
 use Rattle.std.proofs.lemmas.Result.{err_from_is_err_and}
 use Rattle.map_printer.specs.Merged.{HasRowsOf}
-use Rattle.bt_walk.specs.Maps.{holders}
+use Rattle.walk_meaning.specs.Maps.{holders}
 use Rattle.bt_walk.proofs.Sweeps.{sweep-start, sweep-stop, sweep-next, sweep-drop, sweep-end, Swept-part, Swept-whole, rows-next}
 use Rattle.bt_walk.proofs.sweep.ask_each.Goals as goal
 

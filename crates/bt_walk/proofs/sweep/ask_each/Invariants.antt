@@ -2,10 +2,10 @@ use Rattle.std.proofs.Common.{◌≡◌, ◌-◌, []}
 use Rattle.std.specs.Prelude.{All}
 use Rattle.bt_core.specs.Interaction.{Left}
 use Rattle.map_printer.specs.Merged.{HasRowsOf}
-use Rattle.bt_walk.specs.declared.flow.Frame.{Frame}
-use Rattle.bt_walk.specs.declared.sweep.Sweep.TheVariants.{Read}
-use Rattle.bt_walk.specs.Maps.{holder, holders, sweep_op, asked_from}
-use Rattle.bt_walk.specs.Walked.{scene_in}
+use Rattle.walk_meaning.specs.declared.flow.Frame.{Frame}
+use Rattle.walk_meaning.specs.declared.sweep.Sweep.TheVariants.{Read}
+use Rattle.walk_meaning.specs.Maps.{holder, holders, sweep_op, asked_from}
+use Rattle.walk_meaning.specs.Served.{scene_in}
 use Rattle.bt_walk.proofs.sweep.ask_each.Given as goal
 
 abbrev pub invariant-loop-place : goal.invariant-loop-place

@@ -5,15 +5,16 @@ use Rattle.bt_core.specs.declared.map.Shape.TheVariants as shapes
 use Rattle.bt_core.specs.declared.value.Value.TheVariants.{Int}
 use Rattle.bt_core.specs.Arithmetic.{truth}
 use Rattle.typed_tree.specs.Parts.{made_of, key_shapes}
-use Rattle.bt_walk.specs.Maps.{number_of, text_of}
-use Rattle.bt_walk.specs.Walked.{Fits, IsServed, all_made}
+use Rattle.walk_meaning.specs.Maps.{number_of, text_of}
+use Rattle.walk_meaning.specs.Served.{Fits, IsServed, all_made}
 use Rattle.bt_walk.proofs.Binds.{Part-first, Part-next, Whole-next, Walked-next, Given-done, Seen-done, Changed-done, Number-done, Number-seen, Whole-yes, Whole-no, Part-yes, Part-no, Walked-yes, Walked-no}
-use Rattle.bt_walk.proofs.Declared.{shared, valued, few_values, keyed, held, field_inside, part_below}
-use Rattle.bt_walk.proofs.TreeParts.{num_field_parts, str_field_parts, step_map_parts, one_fits, one_size}
+use Rattle.walk_meaning.proofs.Declared.{shared, valued, few_values, keyed, held, field_inside, part_below}
+use Rattle.walk_meaning.proofs.TreeParts.{num_field_parts, str_field_parts, step_map_parts, one_fits, one_size}
 use Rattle.typed_tree.proofs.expr.AnyExpr.TheLaws.{the_size}
 use denote.Param.Weighed.{most}
 use Rattle.bt_walk.proofs.Gathers.{gathers-start, gathers-stop, gathers-next, gathers-drop, gathers-end, shapes-next}
-use Rattle.bt_walk.proofs.ExprDoes as does
+use Rattle.walk_meaning.proofs.ExprDoes as does
+use Rattle.bt_walk.proofs.WalkedAs as told
 use Rattle.bt_walk.proofs.value.+value.Goals as goal
 
 pub number-int_field-requires-clause-inside : goal.number-int_field-requires-clause-inside
@@ -24,12 +25,12 @@ number-int_field-requires-clause-inside g t c =
 pub number-returns-in_err-read-in-Map-clause-walked : goal.number-returns-in_err-read-in-Map-clause-walked
 number-returns-in_err-read-in-Map-clause-walked g t c =
     let p = err_from_is_err_and c.from_residual.result c.from_residual.ensures.1 in
-    rw p.1 (does.Part-num _ _ _ _ _ _ (does.map_num _ _ _ _ c.in-Map.is c.as_slice.ensures) (Part-first _ _ _ _ _ _ c.in_err-read-in-Map.ensures.walked))
+    rw p.1 (told.Part-num _ _ _ _ _ _ (does.map_num _ _ _ _ c.in-Map.is c.as_slice.ensures) (Part-first _ _ _ _ _ _ c.in_err-read-in-Map.ensures.walked))
 
 pub number-returns-in_err-parts-in-StepMap-clause-walked : goal.number-returns-in_err-parts-in-StepMap-clause-walked
 number-returns-in_err-parts-in-StepMap-clause-walked g t c =
     let p = err_from_is_err_and c.from_residual-in_err-parts-in-StepMap.result c.from_residual-in_err-parts-in-StepMap.ensures.1 in
-    rw p.1 (does.Part-num _ _ _ _ _ _ (does.stepmap_num _ _ _ _ _ _ c.in-StepMap.is c.as_slice-in-StepMap.ensures) (Part-first _ _ _ _ _ _ c.in_err-parts-in-StepMap.ensures.walked))
+    rw p.1 (told.Part-num _ _ _ _ _ _ (does.stepmap_num _ _ _ _ _ _ c.in-StepMap.is c.as_slice-in-StepMap.ensures) (Part-first _ _ _ _ _ _ c.in_err-parts-in-StepMap.ensures.walked))
 
 pub number-of-key-requires : goal.number-of-key-requires
 number-of-key-requires g t c =
@@ -46,32 +47,32 @@ number-step_map-requires g t c =
 pub number-returns-in_err-a-in-Unary-clause-walked : goal.number-returns-in_err-a-in-Unary-clause-walked
 number-returns-in_err-a-in-Unary-clause-walked g t c =
     let p = err_from_is_err_and c.from_residual-in_err-a-in-Unary.result c.from_residual-in_err-a-in-Unary.ensures.1 in
-    rw p.1 (does.Part-num _ _ _ _ _ _ (does.unary_num _ _ _ _ c.in-Unary.is c.get.ensures) (Part-first _ _ _ _ _ _ c.in_err-a-in-Unary.ensures.walked))
+    rw p.1 (told.Part-num _ _ _ _ _ _ (does.unary_num _ _ _ _ c.in-Unary.is c.get.ensures) (Part-first _ _ _ _ _ _ c.in_err-a-in-Unary.ensures.walked))
 
 pub number-returns-in_err-a-in-Binary-clause-walked : goal.number-returns-in_err-a-in-Binary-clause-walked
 number-returns-in_err-a-in-Binary-clause-walked g t c =
     let p = err_from_is_err_and c.from_residual-in_err-a-in-Binary.result c.from_residual-in_err-a-in-Binary.ensures.1 in
-    rw p.1 (does.Part-num _ _ _ _ _ _ (does.binary_num _ _ _ _ _ _ c.in-Binary.is c.get-in-Binary.ensures refl) (Part-first _ _ _ _ _ _ c.in_err-a-in-Binary.ensures.walked))
+    rw p.1 (told.Part-num _ _ _ _ _ _ (does.binary_num _ _ _ _ _ _ c.in-Binary.is c.get-in-Binary.ensures refl) (Part-first _ _ _ _ _ _ c.in_err-a-in-Binary.ensures.walked))
 
 pub number-returns-in_err-b-in-Binary-clause-walked : goal.number-returns-in_err-b-in-Binary-clause-walked
 number-returns-in_err-b-in-Binary-clause-walked g t c =
     let p = err_from_is_err_and c.from_residual-in_err-b-in-Binary.result c.from_residual-in_err-b-in-Binary.ensures.1 in
-    rw p.1 (does.Part-num _ _ _ _ _ _ (does.binary_num _ _ _ _ _ _ c.in-Binary.is c.get-in-Binary.ensures (c.get-in-Binary-2).ensures) (Part-next _ _ _ _ _ _ _ _ c.in_ok-a-in-Binary.ensures.walked _ (Part-first _ _ _ _ _ _ c.in_err-b-in-Binary.ensures.walked)))
+    rw p.1 (told.Part-num _ _ _ _ _ _ (does.binary_num _ _ _ _ _ _ c.in-Binary.is c.get-in-Binary.ensures (c.get-in-Binary-2).ensures) (Part-next _ _ _ _ _ _ _ _ c.in_ok-a-in-Binary.ensures.walked _ (Part-first _ _ _ _ _ _ c.in_err-b-in-Binary.ensures.walked)))
 
 pub number-returns-in_err-a-in-Compare-clause-walked : goal.number-returns-in_err-a-in-Compare-clause-walked
 number-returns-in_err-a-in-Compare-clause-walked g t c =
     let p = err_from_is_err_and c.from_residual-in_err-a-in-Compare.result c.from_residual-in_err-a-in-Compare.ensures.1 in
-    rw p.1 (does.Part-num _ _ _ _ _ _ (does.compare_num _ _ _ _ _ _ c.in-Compare.is c.get-in-Compare.ensures refl) (Part-first _ _ _ _ _ _ c.in_err-a-in-Compare.ensures.walked))
+    rw p.1 (told.Part-num _ _ _ _ _ _ (does.compare_num _ _ _ _ _ _ c.in-Compare.is c.get-in-Compare.ensures refl) (Part-first _ _ _ _ _ _ c.in_err-a-in-Compare.ensures.walked))
 
 pub number-returns-in_err-b-in-Compare-clause-walked : goal.number-returns-in_err-b-in-Compare-clause-walked
 number-returns-in_err-b-in-Compare-clause-walked g t c =
     let p = err_from_is_err_and c.from_residual-in_err-b-in-Compare.result c.from_residual-in_err-b-in-Compare.ensures.1 in
-    rw p.1 (does.Part-num _ _ _ _ _ _ (does.compare_num _ _ _ _ _ _ c.in-Compare.is c.get-in-Compare.ensures (c.get-in-Compare-2).ensures) (Part-next _ _ _ _ _ _ _ _ c.in_ok-a-in-Compare.ensures.walked _ (Part-first _ _ _ _ _ _ c.in_err-b-in-Compare.ensures.walked)))
+    rw p.1 (told.Part-num _ _ _ _ _ _ (does.compare_num _ _ _ _ _ _ c.in-Compare.is c.get-in-Compare.ensures (c.get-in-Compare-2).ensures) (Part-next _ _ _ _ _ _ _ _ c.in_ok-a-in-Compare.ensures.walked _ (Part-first _ _ _ _ _ _ c.in_err-b-in-Compare.ensures.walked)))
 
 pub number-returns-in_err-a-in-AndThen-clause-walked : goal.number-returns-in_err-a-in-AndThen-clause-walked
 number-returns-in_err-a-in-AndThen-clause-walked g t c =
     let p = err_from_is_err_and c.from_residual-in_err-a-in-AndThen.result c.from_residual-in_err-a-in-AndThen.ensures.1 in
-    rw p.1 (does.Part-num _ _ _ _ _ _ (does.andthen_num _ _ _ _ _ c.in-AndThen.is c.get-in-AndThen.ensures refl) (Part-first _ _ _ _ _ _ c.in_err-a-in-AndThen.ensures.walked))
+    rw p.1 (told.Part-num _ _ _ _ _ _ (does.andthen_num _ _ _ _ _ c.in-AndThen.is c.get-in-AndThen.ensures refl) (Part-first _ _ _ _ _ _ c.in_err-a-in-AndThen.ensures.walked))
 
 pub number-returns-in_err-b-in-AndThen-clause-walked : goal.number-returns-in_err-b-in-AndThen-clause-walked
 number-returns-in_err-b-in-AndThen-clause-walked g t c =
@@ -79,12 +80,12 @@ number-returns-in_err-b-in-AndThen-clause-walked g t c =
     let tested : SFits w64 c.in_ok-a-in-AndThen.a = search rules in
     let test = simp to_z-of_z at c.holds.ensures in
     let e = sym test ∙ c.if-holds.true in
-    rw p.1 (does.Part-num _ _ _ _ _ _ (does.andthen_num _ _ _ _ _ c.in-AndThen.is c.get-in-AndThen.ensures c.get-then-holds.ensures) (Part-next _ _ _ _ _ _ _ _ c.in_ok-a-in-AndThen.ensures.walked _ (Part-yes _ _ _ _ _ _ _ e (Part-first _ _ _ _ _ _ c.in_err-b-in-AndThen.ensures.walked))))
+    rw p.1 (told.Part-num _ _ _ _ _ _ (does.andthen_num _ _ _ _ _ c.in-AndThen.is c.get-in-AndThen.ensures c.get-then-holds.ensures) (Part-next _ _ _ _ _ _ _ _ c.in_ok-a-in-AndThen.ensures.walked _ (Part-yes _ _ _ _ _ _ _ e (Part-first _ _ _ _ _ _ c.in_err-b-in-AndThen.ensures.walked))))
 
 pub number-returns-in_err-a-in-OrElse-clause-walked : goal.number-returns-in_err-a-in-OrElse-clause-walked
 number-returns-in_err-a-in-OrElse-clause-walked g t c =
     let p = err_from_is_err_and c.from_residual-in_err-a-in-OrElse.result c.from_residual-in_err-a-in-OrElse.ensures.1 in
-    rw p.1 (does.Part-num _ _ _ _ _ _ (does.orelse_num _ _ _ _ _ c.in-OrElse.is c.get-in-OrElse.ensures refl) (Part-first _ _ _ _ _ _ c.in_err-a-in-OrElse.ensures.walked))
+    rw p.1 (told.Part-num _ _ _ _ _ _ (does.orelse_num _ _ _ _ _ c.in-OrElse.is c.get-in-OrElse.ensures refl) (Part-first _ _ _ _ _ _ c.in_err-a-in-OrElse.ensures.walked))
 
 pub number-returns-in_err-b-in-OrElse-clause-walked : goal.number-returns-in_err-b-in-OrElse-clause-walked
 number-returns-in_err-b-in-OrElse-clause-walked g t c =
@@ -92,54 +93,54 @@ number-returns-in_err-b-in-OrElse-clause-walked g t c =
     let tested : SFits w64 c.in_ok-a-in-OrElse.a = search rules in
     let test = simp to_z-of_z at c.holds-in-OrElse.ensures in
     let e = sym test ∙ (c.if-holds-2).false in
-    rw p.1 (does.Part-num _ _ _ _ _ _ (does.orelse_num _ _ _ _ _ c.in-OrElse.is c.get-in-OrElse.ensures (c.get-else-holds-2).ensures) (Part-next _ _ _ _ _ _ _ _ c.in_ok-a-in-OrElse.ensures.walked _ (Part-no _ _ _ _ _ _ _ e (Part-first _ _ _ _ _ _ c.in_err-b-in-OrElse.ensures.walked))))
+    rw p.1 (told.Part-num _ _ _ _ _ _ (does.orelse_num _ _ _ _ _ c.in-OrElse.is c.get-in-OrElse.ensures (c.get-else-holds-2).ensures) (Part-next _ _ _ _ _ _ _ _ c.in_ok-a-in-OrElse.ensures.walked _ (Part-no _ _ _ _ _ _ _ e (Part-first _ _ _ _ _ _ c.in_err-b-in-OrElse.ensures.walked))))
 
 pub number-returns-in_err-test-in-Choose-clause-walked : goal.number-returns-in_err-test-in-Choose-clause-walked
 number-returns-in_err-test-in-Choose-clause-walked g t c =
     let p = err_from_is_err_and c.from_residual-in_err-test-in-Choose.result c.from_residual-in_err-test-in-Choose.ensures.1 in
-    rw p.1 (does.Part-num _ _ _ _ _ _ (does.choose_num _ _ _ _ _ _ _ c.in-Choose.is c.get-in-Choose.ensures refl refl) (Part-first _ _ _ _ _ _ c.in_err-test-in-Choose.ensures.walked))
+    rw p.1 (told.Part-num _ _ _ _ _ _ (does.choose_num _ _ _ _ _ _ _ c.in-Choose.is c.get-in-Choose.ensures refl refl) (Part-first _ _ _ _ _ _ c.in_err-test-in-Choose.ensures.walked))
 
 pub number-returns-in-Number-clause-walked : goal.number-returns-in-Number-clause-walked
 number-returns-in-Number-clause-walked g t c =
     let f : SFits w64 c.in-Number.n = search rules in
-    (does.Whole-num _ _ _ _ _ _ _ (does.number_num _ _ c.in-Number.is) (Number-done _ _ _ _ _ f refl))
+    (told.Whole-num _ _ _ _ _ _ _ (does.number_num _ _ c.in-Number.is) (Number-done _ _ _ _ _ f refl))
 
 pub number-returns-in-Builtin-clause-walked : goal.number-returns-in-Builtin-clause-walked
 number-returns-in-Builtin-clause-walked g t c =
     let f : SFits w64 c.builtin_value.result = search rules in
-    (does.Whole-num _ _ _ _ _ _ _ (does.builtin_num _ _ c.in-Builtin.is) (Number-seen _ _ _ _ _ f (sym c.builtin_value.ensures)))
+    (told.Whole-num _ _ _ _ _ _ _ (does.builtin_num _ _ c.in-Builtin.is) (Number-seen _ _ _ _ _ f (sym c.builtin_value.ensures)))
 
 pub number-returns-in-Field-clause-walked : goal.number-returns-in-Field-clause-walked
 number-returns-in-Field-clause-walked g t c =
     let f : SFits w64 c.int_field.result = search rules in
-    (does.Whole-num _ _ _ _ _ _ _ (does.field_num _ _ c.in-Field.is) (Number-seen _ _ _ _ _ f (sym c.int_field.ensures)))
+    (told.Whole-num _ _ _ _ _ _ _ (does.field_num _ _ c.in-Field.is) (Number-seen _ _ _ _ _ f (sym c.int_field.ensures)))
 
 pub number-returns-in-Var-clause-walked : goal.number-returns-in-Var-clause-walked
 number-returns-in-Var-clause-walked g t c =
     let f : SFits w64 c.number_of.result = search rules in
-    (does.Whole-num _ _ _ _ _ _ _ (does.var_num _ _ c.in-Var.is) (Number-seen _ _ _ _ _ f (sym (c.number_of.ensures ∙ ap number_of c.variable.ensures))))
+    (told.Whole-num _ _ _ _ _ _ _ (does.var_num _ _ c.in-Var.is) (Number-seen _ _ _ _ _ f (sym (c.number_of.ensures ∙ ap number_of c.variable.ensures))))
 
 pub number-returns-in_ok-read-in-Map-clause-walked : goal.number-returns-in_ok-read-in-Map-clause-walked
 number-returns-in_ok-read-in-Map-clause-walked g t c =
     let f : SFits w64 c.number_of-in-Map.result = search rules in
-    (does.Whole-num _ _ _ _ _ _ _ (does.map_num _ _ _ _ c.in-Map.is c.as_slice.ensures) (Whole-next _ _ _ _ _ _ _ _ c.in_ok-read-in-Map.ensures.walked _ _ (Number-done _ _ _ _ _ f (sym c.number_of-in-Map.ensures))))
+    (told.Whole-num _ _ _ _ _ _ _ (does.map_num _ _ _ _ c.in-Map.is c.as_slice.ensures) (Whole-next _ _ _ _ _ _ _ _ c.in_ok-read-in-Map.ensures.walked _ _ (Number-done _ _ _ _ _ f (sym c.number_of-in-Map.ensures))))
 
 pub number-returns-in-StepVar-clause-walked : goal.number-returns-in-StepVar-clause-walked
 number-returns-in-StepVar-clause-walked g t c =
     let f : SFits w64 c.step_variable.result = search rules in
-    (does.Whole-num _ _ _ _ _ _ _ (does.stepvar_num _ _ _ _ c.in-StepVar.is) (Whole-next _ _ _ _ _ _ _ _ (Seen-done _ _ _ _ _ refl) _ _ (Whole-next _ _ _ _ _ _ _ _ (Changed-done _ _ _ _ _ tt (sym c.step_variable.ensures.frame)) _ _ (Number-done _ _ _ _ _ f (sym c.step_variable.ensures.value)))))
+    (told.Whole-num _ _ _ _ _ _ _ (does.stepvar_num _ _ _ _ c.in-StepVar.is) (Whole-next _ _ _ _ _ _ _ _ (Seen-done _ _ _ _ _ refl) _ _ (Whole-next _ _ _ _ _ _ _ _ (Changed-done _ _ _ _ _ tt (sym c.step_variable.ensures.frame)) _ _ (Number-done _ _ _ _ _ f (sym c.step_variable.ensures.value)))))
 
 pub number-returns-in_ok-parts-in-StepMap-clause-walked : goal.number-returns-in_ok-parts-in-StepMap-clause-walked
 number-returns-in_ok-parts-in-StepMap-clause-walked g t c =
     let made = rw (c.of-key.ensures, c.into_vec.ensures) at c.step_map.ensures.made in
-    (does.Walked-num _ _ _ _ _ _ _ _ (does.stepmap_num _ _ _ _ _ _ c.in-StepMap.is c.as_slice-in-StepMap.ensures) (Walked-next _ _ _ _ _ _ _ _ c.in_ok-parts-in-StepMap.ensures.walked _ _ _ (made _ _)))
+    (told.Walked-num _ _ _ _ _ _ _ _ (does.stepmap_num _ _ _ _ _ _ c.in-StepMap.is c.as_slice-in-StepMap.ensures) (Walked-next _ _ _ _ _ _ _ _ c.in_ok-parts-in-StepMap.ensures.walked _ _ _ (made _ _)))
 
 pub number-returns-in_ok-a-in-Unary-clause-walked : goal.number-returns-in_ok-a-in-Unary-clause-walked
 number-returns-in_ok-a-in-Unary-clause-walked g t c =
     let fa : SFits w64 c.in_ok-a-in-Unary.a = search rules in
     let f : SFits w64 c.unary.result = search rules in
     let e = simp to_z-of_z at c.unary.ensures in
-    (does.Whole-num _ _ _ _ _ _ _ (does.unary_num _ _ _ _ c.in-Unary.is c.get.ensures) (Whole-next _ _ _ _ _ _ _ _ c.in_ok-a-in-Unary.ensures.walked _ _ (Number-done _ _ _ _ _ f (sym e))))
+    (told.Whole-num _ _ _ _ _ _ _ (does.unary_num _ _ _ _ c.in-Unary.is c.get.ensures) (Whole-next _ _ _ _ _ _ _ _ c.in_ok-a-in-Unary.ensures.walked _ _ (Number-done _ _ _ _ _ f (sym e))))
 
 pub number-returns-in_ok-b-in-Binary-clause-walked : goal.number-returns-in_ok-b-in-Binary-clause-walked
 number-returns-in_ok-b-in-Binary-clause-walked g t c =
@@ -147,12 +148,12 @@ number-returns-in_ok-b-in-Binary-clause-walked g t c =
     let fb : SFits w64 c.in_ok-b-in-Binary.b = search rules in
     let f : SFits w64 c.binary.result = search rules in
     let e = simp to_z-of_z at c.binary.ensures in
-    (does.Whole-num _ _ _ _ _ _ _ (does.binary_num _ _ _ _ _ _ c.in-Binary.is c.get-in-Binary.ensures (c.get-in-Binary-2).ensures) (Whole-next _ _ _ _ _ _ _ _ c.in_ok-a-in-Binary.ensures.walked _ _ (Whole-next _ _ _ _ _ _ _ _ c.in_ok-b-in-Binary.ensures.walked _ _ (Number-done _ _ _ _ _ f (sym e)))))
+    (told.Whole-num _ _ _ _ _ _ _ (does.binary_num _ _ _ _ _ _ c.in-Binary.is c.get-in-Binary.ensures (c.get-in-Binary-2).ensures) (Whole-next _ _ _ _ _ _ _ _ c.in_ok-a-in-Binary.ensures.walked _ _ (Whole-next _ _ _ _ _ _ _ _ c.in_ok-b-in-Binary.ensures.walked _ _ (Number-done _ _ _ _ _ f (sym e)))))
 
 pub number-returns-in_ok-b-in-Compare-clause-walked : goal.number-returns-in_ok-b-in-Compare-clause-walked
 number-returns-in_ok-b-in-Compare-clause-walked g t c =
     let f : SFits w64 c.truth.result = search rules in
-    (does.Whole-num _ _ _ _ _ _ _ (does.compare_num _ _ _ _ _ _ c.in-Compare.is c.get-in-Compare.ensures (c.get-in-Compare-2).ensures) (Whole-next _ _ _ _ _ _ _ _ c.in_ok-a-in-Compare.ensures.walked _ _ (Whole-next _ _ _ _ _ _ _ _ c.in_ok-b-in-Compare.ensures.walked _ _ (Number-done _ _ _ _ _ f (sym (c.truth.ensures ∙ ap truth c.compared.ensures))))))
+    (told.Whole-num _ _ _ _ _ _ _ (does.compare_num _ _ _ _ _ _ c.in-Compare.is c.get-in-Compare.ensures (c.get-in-Compare-2).ensures) (Whole-next _ _ _ _ _ _ _ _ c.in_ok-a-in-Compare.ensures.walked _ _ (Whole-next _ _ _ _ _ _ _ _ c.in_ok-b-in-Compare.ensures.walked _ _ (Number-done _ _ _ _ _ f (sym (c.truth.ensures ∙ ap truth c.compared.ensures))))))
 
 pub number-returns-in_ok-b-in-AndThen-clause-walked : goal.number-returns-in_ok-b-in-AndThen-clause-walked
 number-returns-in_ok-b-in-AndThen-clause-walked g t c =
@@ -162,21 +163,21 @@ number-returns-in_ok-b-in-AndThen-clause-walked g t c =
     let fb : SFits w64 c.in_ok-b-in-AndThen.b = search rules in
     let f : SFits w64 c.truth-then-holds.result = search rules in
     let right = simp to_z-of_z at c.holds-then-holds.ensures in
-    (does.Whole-num _ _ _ _ _ _ _ (does.andthen_num _ _ _ _ _ c.in-AndThen.is c.get-in-AndThen.ensures c.get-then-holds.ensures) (Whole-next _ _ _ _ _ _ _ _ c.in_ok-a-in-AndThen.ensures.walked _ _ (Whole-yes _ _ _ _ _ _ _ _ e (Whole-next _ _ _ _ _ _ _ _ c.in_ok-b-in-AndThen.ensures.walked _ _ (Number-done _ _ _ _ _ f (sym (c.truth-then-holds.ensures ∙ ap truth right)))))))
+    (told.Whole-num _ _ _ _ _ _ _ (does.andthen_num _ _ _ _ _ c.in-AndThen.is c.get-in-AndThen.ensures c.get-then-holds.ensures) (Whole-next _ _ _ _ _ _ _ _ c.in_ok-a-in-AndThen.ensures.walked _ _ (Whole-yes _ _ _ _ _ _ _ _ e (Whole-next _ _ _ _ _ _ _ _ c.in_ok-b-in-AndThen.ensures.walked _ _ (Number-done _ _ _ _ _ f (sym (c.truth-then-holds.ensures ∙ ap truth right)))))))
 
 pub number-returns-else-holds-clause-walked : goal.number-returns-else-holds-clause-walked
 number-returns-else-holds-clause-walked g t c =
     let tested : SFits w64 c.in_ok-a-in-AndThen.a = search rules in
     let test = simp to_z-of_z at c.holds.ensures in
     let e = sym test ∙ c.if-holds.false in
-    (does.Whole-num _ _ _ _ _ _ _ (does.andthen_num _ _ _ _ _ c.in-AndThen.is c.get-in-AndThen.ensures refl) (Whole-next _ _ _ _ _ _ _ _ c.in_ok-a-in-AndThen.ensures.walked _ _ (Whole-no _ _ _ _ _ _ _ _ e (Given-done _ _ _ _ _ _ refl refl))))
+    (told.Whole-num _ _ _ _ _ _ _ (does.andthen_num _ _ _ _ _ c.in-AndThen.is c.get-in-AndThen.ensures refl) (Whole-next _ _ _ _ _ _ _ _ c.in_ok-a-in-AndThen.ensures.walked _ _ (Whole-no _ _ _ _ _ _ _ _ e (Given-done _ _ _ _ _ _ refl refl))))
 
 pub number-returns-then-holds-2-clause-walked : goal.number-returns-then-holds-2-clause-walked
 number-returns-then-holds-2-clause-walked g t c =
     let tested : SFits w64 c.in_ok-a-in-OrElse.a = search rules in
     let test = simp to_z-of_z at c.holds-in-OrElse.ensures in
     let e = sym test ∙ (c.if-holds-2).true in
-    (does.Whole-num _ _ _ _ _ _ _ (does.orelse_num _ _ _ _ _ c.in-OrElse.is c.get-in-OrElse.ensures refl) (Whole-next _ _ _ _ _ _ _ _ c.in_ok-a-in-OrElse.ensures.walked _ _ (Whole-yes _ _ _ _ _ _ _ _ e (Given-done _ _ _ _ _ _ refl refl))))
+    (told.Whole-num _ _ _ _ _ _ _ (does.orelse_num _ _ _ _ _ c.in-OrElse.is c.get-in-OrElse.ensures refl) (Whole-next _ _ _ _ _ _ _ _ c.in_ok-a-in-OrElse.ensures.walked _ _ (Whole-yes _ _ _ _ _ _ _ _ e (Given-done _ _ _ _ _ _ refl refl))))
 
 pub number-returns-in_ok-b-in-OrElse-clause-walked : goal.number-returns-in_ok-b-in-OrElse-clause-walked
 number-returns-in_ok-b-in-OrElse-clause-walked g t c =
@@ -186,21 +187,21 @@ number-returns-in_ok-b-in-OrElse-clause-walked g t c =
     let fb : SFits w64 c.in_ok-b-in-OrElse.b = search rules in
     let f : SFits w64 (c.truth-else-holds-2).result = search rules in
     let right = simp to_z-of_z at (c.holds-else-holds-2).ensures in
-    (does.Whole-num _ _ _ _ _ _ _ (does.orelse_num _ _ _ _ _ c.in-OrElse.is c.get-in-OrElse.ensures (c.get-else-holds-2).ensures) (Whole-next _ _ _ _ _ _ _ _ c.in_ok-a-in-OrElse.ensures.walked _ _ (Whole-no _ _ _ _ _ _ _ _ e (Whole-next _ _ _ _ _ _ _ _ c.in_ok-b-in-OrElse.ensures.walked _ _ (Number-done _ _ _ _ _ f (sym ((c.truth-else-holds-2).ensures ∙ ap truth right)))))))
+    (told.Whole-num _ _ _ _ _ _ _ (does.orelse_num _ _ _ _ _ c.in-OrElse.is c.get-in-OrElse.ensures (c.get-else-holds-2).ensures) (Whole-next _ _ _ _ _ _ _ _ c.in_ok-a-in-OrElse.ensures.walked _ _ (Whole-no _ _ _ _ _ _ _ _ e (Whole-next _ _ _ _ _ _ _ _ c.in_ok-b-in-OrElse.ensures.walked _ _ (Number-done _ _ _ _ _ f (sym ((c.truth-else-holds-2).ensures ∙ ap truth right)))))))
 
 pub number-returns-then-holds-3-clause-walked : goal.number-returns-then-holds-3-clause-walked
 number-returns-then-holds-3-clause-walked g t c =
     let tested : SFits w64 c.in_ok-test-in-Choose.test = search rules in
     let test = simp to_z-of_z at c.holds-in-Choose.ensures in
     let e = sym test ∙ (c.if-holds-3).true in
-    (does.Walked-num _ _ _ _ _ _ _ _ (does.choose_num _ _ _ _ _ _ _ c.in-Choose.is c.get-in-Choose.ensures (c.get-then-holds-3).ensures refl) (Walked-next _ _ _ _ _ _ _ _ c.in_ok-test-in-Choose.ensures.walked _ _ _ (Walked-yes _ _ _ _ _ _ _ _ _ e (c.number-then-holds-3).ensures.walked)))
+    (told.Walked-num _ _ _ _ _ _ _ _ (does.choose_num _ _ _ _ _ _ _ c.in-Choose.is c.get-in-Choose.ensures (c.get-then-holds-3).ensures refl) (Walked-next _ _ _ _ _ _ _ _ c.in_ok-test-in-Choose.ensures.walked _ _ _ (Walked-yes _ _ _ _ _ _ _ _ _ e (c.number-then-holds-3).ensures.walked)))
 
 pub number-returns-else-holds-3-clause-walked : goal.number-returns-else-holds-3-clause-walked
 number-returns-else-holds-3-clause-walked g t c =
     let tested : SFits w64 c.in_ok-test-in-Choose.test = search rules in
     let test = simp to_z-of_z at c.holds-in-Choose.ensures in
     let e = sym test ∙ (c.if-holds-3).false in
-    (does.Walked-num _ _ _ _ _ _ _ _ (does.choose_num _ _ _ _ _ _ _ c.in-Choose.is c.get-in-Choose.ensures refl (c.get-else-holds-3).ensures) (Walked-next _ _ _ _ _ _ _ _ c.in_ok-test-in-Choose.ensures.walked _ _ _ (Walked-no _ _ _ _ _ _ _ _ _ e (c.number-else-holds-3).ensures.walked)))
+    (told.Walked-num _ _ _ _ _ _ _ _ (does.choose_num _ _ _ _ _ _ _ c.in-Choose.is c.get-in-Choose.ensures refl (c.get-else-holds-3).ensures) (Walked-next _ _ _ _ _ _ _ _ c.in_ok-test-in-Choose.ensures.walked _ _ _ (Walked-no _ _ _ _ _ _ _ _ _ e (c.number-else-holds-3).ensures.walked)))
 
 pub read-returns-in_err-parts-clause-walked : goal.read-returns-in_err-parts-clause-walked
 read-returns-in_err-parts-clause-walked g t c =
@@ -229,59 +230,59 @@ text-str_field-requires-clause-inside g t c =
 pub text-returns-in_err-read-in-Map-clause-walked : goal.text-returns-in_err-read-in-Map-clause-walked
 text-returns-in_err-read-in-Map-clause-walked g t c =
     let p = err_from_is_err_and c.from_residual.result c.from_residual.ensures.1 in
-    rw p.1 (does.Part-str _ _ _ _ _ _ (does.map_str _ _ _ _ c.in-Map.is c.as_slice.ensures) (Part-first _ _ _ _ _ _ c.in_err-read-in-Map.ensures.walked))
+    rw p.1 (told.Part-str _ _ _ _ _ _ (does.map_str _ _ _ _ c.in-Map.is c.as_slice.ensures) (Part-first _ _ _ _ _ _ c.in_err-read-in-Map.ensures.walked))
 
 pub text-returns-in_err-test-in-Choose-clause-walked : goal.text-returns-in_err-test-in-Choose-clause-walked
 text-returns-in_err-test-in-Choose-clause-walked g t c =
     let p = err_from_is_err_and c.from_residual-in_err-test-in-Choose.result c.from_residual-in_err-test-in-Choose.ensures.1 in
-    rw p.1 (does.Part-str _ _ _ _ _ _ (does.choose_str _ _ _ _ _ _ _ c.in-Choose.is c.get.ensures refl refl) (Part-first _ _ _ _ _ _ c.in_err-test-in-Choose.ensures.walked))
+    rw p.1 (told.Part-str _ _ _ _ _ _ (does.choose_str _ _ _ _ _ _ _ c.in-Choose.is c.get.ensures refl refl) (Part-first _ _ _ _ _ _ c.in_err-test-in-Choose.ensures.walked))
 
 pub text-returns-in-Text-clause-walked : goal.text-returns-in-Text-clause-walked
-text-returns-in-Text-clause-walked g t c = (does.Whole-str _ _ _ _ _ _ _ (does.text_str _ _ c.in-Text.is) (Given-done _ _ _ _ _ _ (sym c.copy.ensures) refl))
+text-returns-in-Text-clause-walked g t c = (told.Whole-str _ _ _ _ _ _ _ (does.text_str _ _ c.in-Text.is) (Given-done _ _ _ _ _ _ (sym c.copy.ensures) refl))
 
 pub text-returns-in-Comm-clause-walked : goal.text-returns-in-Comm-clause-walked
-text-returns-in-Comm-clause-walked g t c = (does.Whole-str _ _ _ _ _ _ _ (does.comm_str _ c.in-Comm.is) (Seen-done _ _ _ _ _ (sym c.copy-in-Comm.ensures)))
+text-returns-in-Comm-clause-walked g t c = (told.Whole-str _ _ _ _ _ _ _ (does.comm_str _ c.in-Comm.is) (Seen-done _ _ _ _ _ (sym c.copy-in-Comm.ensures)))
 
 pub text-returns-in-Field-clause-walked : goal.text-returns-in-Field-clause-walked
-text-returns-in-Field-clause-walked g t c = (does.Whole-str _ _ _ _ _ _ _ (does.field_str _ _ c.in-Field.is) (Seen-done _ _ _ _ _ (sym c.str_field.ensures)))
+text-returns-in-Field-clause-walked g t c = (told.Whole-str _ _ _ _ _ _ _ (does.field_str _ _ c.in-Field.is) (Seen-done _ _ _ _ _ (sym c.str_field.ensures)))
 
 pub text-returns-in-Var-clause-walked : goal.text-returns-in-Var-clause-walked
-text-returns-in-Var-clause-walked g t c = (does.Whole-str _ _ _ _ _ _ _ (does.var_str _ _ c.in-Var.is) (Seen-done _ _ _ _ _ (sym (c.text_of.ensures ∙ ap text_of c.variable.ensures))))
+text-returns-in-Var-clause-walked g t c = (told.Whole-str _ _ _ _ _ _ _ (does.var_str _ _ c.in-Var.is) (Seen-done _ _ _ _ _ (sym (c.text_of.ensures ∙ ap text_of c.variable.ensures))))
 
 pub text-returns-in_ok-read-in-Map-clause-walked : goal.text-returns-in_ok-read-in-Map-clause-walked
-text-returns-in_ok-read-in-Map-clause-walked g t c = (does.Whole-str _ _ _ _ _ _ _ (does.map_str _ _ _ _ c.in-Map.is c.as_slice.ensures) (Whole-next _ _ _ _ _ _ _ _ c.in_ok-read-in-Map.ensures.walked _ _ (Given-done _ _ _ _ _ _ (sym c.text_of-in-Map.ensures) refl)))
+text-returns-in_ok-read-in-Map-clause-walked g t c = (told.Whole-str _ _ _ _ _ _ _ (does.map_str _ _ _ _ c.in-Map.is c.as_slice.ensures) (Whole-next _ _ _ _ _ _ _ _ c.in_ok-read-in-Map.ensures.walked _ _ (Given-done _ _ _ _ _ _ (sym c.text_of-in-Map.ensures) refl)))
 
 pub text-returns-then-holds-clause-walked : goal.text-returns-then-holds-clause-walked
 text-returns-then-holds-clause-walked g t c =
     let tested : SFits w64 c.in_ok-test-in-Choose.test = search rules in
     let test = simp to_z-of_z at c.holds.ensures in
     let e = sym test ∙ c.if-holds.true in
-    (does.Walked-str _ _ _ _ _ _ _ _ (does.choose_str _ _ _ _ _ _ _ c.in-Choose.is c.get.ensures c.get-then-holds.ensures refl) (Walked-next _ _ _ _ _ _ _ _ c.in_ok-test-in-Choose.ensures.walked _ _ _ (Walked-yes _ _ _ _ _ _ _ _ _ e c.text.ensures.walked)))
+    (told.Walked-str _ _ _ _ _ _ _ _ (does.choose_str _ _ _ _ _ _ _ c.in-Choose.is c.get.ensures c.get-then-holds.ensures refl) (Walked-next _ _ _ _ _ _ _ _ c.in_ok-test-in-Choose.ensures.walked _ _ _ (Walked-yes _ _ _ _ _ _ _ _ _ e c.text.ensures.walked)))
 
 pub text-returns-else-holds-clause-walked : goal.text-returns-else-holds-clause-walked
 text-returns-else-holds-clause-walked g t c =
     let tested : SFits w64 c.in_ok-test-in-Choose.test = search rules in
     let test = simp to_z-of_z at c.holds.ensures in
     let e = sym test ∙ c.if-holds.false in
-    (does.Walked-str _ _ _ _ _ _ _ _ (does.choose_str _ _ _ _ _ _ _ c.in-Choose.is c.get.ensures refl c.get-else-holds.ensures) (Walked-next _ _ _ _ _ _ _ _ c.in_ok-test-in-Choose.ensures.walked _ _ _ (Walked-no _ _ _ _ _ _ _ _ _ e c.text-else-holds.ensures.walked)))
+    (told.Walked-str _ _ _ _ _ _ _ _ (does.choose_str _ _ _ _ _ _ _ c.in-Choose.is c.get.ensures refl c.get-else-holds.ensures) (Walked-next _ _ _ _ _ _ _ _ c.in_ok-test-in-Choose.ensures.walked _ _ _ (Walked-no _ _ _ _ _ _ _ _ _ e c.text-else-holds.ensures.walked)))
 
 pub value-returns-in_err-n-in-Num-clause-walked : goal.value-returns-in_err-n-in-Num-clause-walked
 value-returns-in_err-n-in-Num-clause-walked g t c =
     let p = err_from_is_err_and c.from_residual.result c.from_residual.ensures.1 in
-    rw p.1 (does.Part-any _ _ _ _ _ _ (does.num_any _ _ _ c.in-Num.is refl) (Part-first _ _ _ _ _ _ c.in_err-n-in-Num.ensures.walked))
+    rw p.1 (told.Part-any _ _ _ _ _ _ (does.num_any _ _ _ c.in-Num.is refl) (Part-first _ _ _ _ _ _ c.in_err-n-in-Num.ensures.walked))
 
 pub value-returns-in_err-s-in-Str-clause-walked : goal.value-returns-in_err-s-in-Str-clause-walked
 value-returns-in_err-s-in-Str-clause-walked g t c =
     let p = err_from_is_err_and c.from_residual-in_err-s-in-Str.result c.from_residual-in_err-s-in-Str.ensures.1 in
-    rw p.1 (does.Part-any _ _ _ _ _ _ (does.str_any _ _ _ c.in-Str.is refl) (Part-first _ _ _ _ _ _ c.in_err-s-in-Str.ensures.walked))
+    rw p.1 (told.Part-any _ _ _ _ _ _ (does.str_any _ _ _ c.in-Str.is refl) (Part-first _ _ _ _ _ _ c.in_err-s-in-Str.ensures.walked))
 
 pub value-returns-in_ok-n-in-Num-clause-walked : goal.value-returns-in_ok-n-in-Num-clause-walked
 value-returns-in_ok-n-in-Num-clause-walked g t c =
     let f : SFits w64 c.in_ok-n-in-Num.n = search rules in
-    (does.Whole-any _ _ _ _ _ _ _ (does.num_any _ _ _ c.in-Num.is refl) (Whole-next _ _ _ _ _ _ _ _ c.in_ok-n-in-Num.ensures.walked _ _ (Given-done _ _ _ _ _ _ (ap (λ (n : ℤ). Int n) (sym (to_z-of_z w64 _ f))) refl)))
+    (told.Whole-any _ _ _ _ _ _ _ (does.num_any _ _ _ c.in-Num.is refl) (Whole-next _ _ _ _ _ _ _ _ c.in_ok-n-in-Num.ensures.walked _ _ (Given-done _ _ _ _ _ _ (ap (λ (n : ℤ). Int n) (sym (to_z-of_z w64 _ f))) refl)))
 
 pub value-returns-in_ok-s-in-Str-clause-walked : goal.value-returns-in_ok-s-in-Str-clause-walked
-value-returns-in_ok-s-in-Str-clause-walked g t c = (does.Whole-any _ _ _ _ _ _ _ (does.str_any _ _ _ c.in-Str.is refl) (Whole-next _ _ _ _ _ _ _ _ c.in_ok-s-in-Str.ensures.walked _ _ (Given-done _ _ _ _ _ _ refl refl)))
+value-returns-in_ok-s-in-Str-clause-walked g t c = (told.Whole-any _ _ _ _ _ _ _ (does.str_any _ _ _ c.in-Str.is refl) (Whole-next _ _ _ _ _ _ _ _ c.in_ok-s-in-Str.ensures.walked _ _ (Given-done _ _ _ _ _ _ refl refl)))
 
 pub values-loop-key-init : goal.values-loop-key-init
 values-loop-key-init g t c =

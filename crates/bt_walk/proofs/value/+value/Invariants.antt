@@ -2,9 +2,9 @@ use Rattle.std.proofs.Common.{◌≡◌, ◌+◌, ◌*◌, take, drop}
 use Rattle.bt_core.specs.Interaction.{Left}
 use Rattle.bt_core.specs.Kinds.{HasShape}
 use Rattle.typed_tree.specs.Parts.{key_shapes}
-use Rattle.bt_walk.specs.Does.{in_order, gathered}
-use Rattle.bt_walk.specs.Exprs.{values_do}
-use Rattle.bt_walk.specs.Walked.{scene_in, all_made}
+use Rattle.walk_meaning.specs.Does.{in_order, gathered}
+use Rattle.walk_meaning.specs.Exprs.{values_do}
+use Rattle.walk_meaning.specs.Served.{scene_in, all_made}
 use Rattle.bt_walk.proofs.value.+value.Given as goal
 
 abbrev pub decreases-value : goal.decreases-value

@@ -1,5 +1,5 @@
 use Rattle.std.proofs.Common.{◌≡◌, drop}
-use Rattle.bt_walk.specs.Maps.{kind_of}
+use Rattle.walk_meaning.specs.Maps.{kind_of}
 use Rattle.bt_walk.proofs.view.kind_of.Given as goal
 
 abbrev pub invariant-loop-declared : goal.invariant-loop-declared

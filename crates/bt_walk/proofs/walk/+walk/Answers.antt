@@ -6,16 +6,17 @@ use Rattle.typed_tree.specs.declared.stmt.TypedBlock as blocks
 use Rattle.typed_tree.specs.declared.stmt.TypedStmt as stmts
 use Rattle.typed_tree.specs.declared.stmt.TypedBlock.{TypedBlock}
 use Rattle.typed_tree.specs.declared.stmt.TypedStmt.{TypedStmt}
-use Rattle.bt_walk.specs.declared.flow.Flow.{Flow}
-use Rattle.bt_walk.specs.declared.flow.Flow.TheVariants.{Stop}
+use Rattle.walk_meaning.specs.declared.flow.Flow.{Flow}
+use Rattle.walk_meaning.specs.declared.flow.Flow.TheVariants.{Stop}
 use Rattle.bt_core.specs.declared.ending.Ending.TheVariants.{Cut}
-use Rattle.bt_walk.specs.Does.{Does}
+use Rattle.walk_meaning.specs.Does.{Does}
 use Rattle.bt_walk.specs.Flows.{leaves}
-use Rattle.bt_walk.specs.Stmts.{stmt_does, block_does, in_turn, block_or_next}
-use Rattle.bt_walk.specs.Walked.{IsServed, StmtFits, scene_in}
+use Rattle.walk_meaning.specs.Stmts.{stmt_does, block_does, in_turn, block_or_next}
+use Rattle.walk_meaning.specs.Served.{IsServed, StmtFits, scene_in}
 use Rattle.bt_walk.proofs.Binds.{Walked-next, Seen-done, Changed-done}
 use Rattle.bt_walk.proofs.Loops.{Left-Walked, done_with, block-stop, block-next, block-leaves, block-end, arm-stop, arm-yes, arm-no, arms-end, turns-start, turns-stop, turns-next, turns-leaves, turns-end, while-starts, while-stop, while-ends, while-breaks, while-leaves, while-again}
-use Rattle.bt_walk.proofs.StmtDoes.{Walked-stmt, print_stmt, if_stmt, arms_fit, otherwise_fits, block_is, stmts_fit}
+use Rattle.bt_walk.proofs.WalkedAs.{Walked-stmt}
+use Rattle.walk_meaning.proofs.StmtDoes.{print_stmt, if_stmt, arms_fit, otherwise_fits, block_is, stmts_fit}
 use Rattle.bt_walk.proofs.walk.+walk.Goals as goal
 
 stopped : (flow : Flow) → flow ≡ Stop Cut → leaves flow ≡ None → ⊥

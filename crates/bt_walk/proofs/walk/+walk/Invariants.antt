@@ -1,10 +1,10 @@
 use Rattle.std.proofs.Common.{◌≡◌, ◌≤◌, ◌+◌, ◌-◌, ◌*◌, map, drop, option_map}
 use Rattle.bt_core.specs.Interaction.{Left}
-use Rattle.bt_walk.specs.Exprs.{number_does}
-use Rattle.bt_walk.specs.Stmts.{stmt_does, block_does, in_turn, first_arm, block_or_next, turns, while_true}
-use Rattle.bt_walk.specs.Walked.{scene_in}
+use Rattle.walk_meaning.specs.Exprs.{number_does}
+use Rattle.walk_meaning.specs.Stmts.{stmt_does, block_does, in_turn, first_arm, block_or_next, turns, while_true}
+use Rattle.walk_meaning.specs.Served.{scene_in}
 use Rattle.bt_walk.proofs.Loops.{Looping}
-use Rattle.bt_walk.proofs.StmtDoes.{arm_of}
+use Rattle.walk_meaning.proofs.StmtDoes.{arm_of}
 use Rattle.bt_walk.proofs.walk.+walk.Given as goal
 
 abbrev pub decreases-walk_stmt : goal.decreases-walk_stmt

@@ -1,7 +1,0 @@
-use Rattle.std.proofs.Common.{◌≡◌, ◌++◌, [], drop}
-use Rattle.bt_ast.specs.Scripts.{points_after}
-use Rattle.bt_ast.proofs.text.write_points.Given as goal
-
--- what is written, with what is left to write, is the whole
-abbrev pub invariant-loop-point : goal.invariant-loop-point
-invariant-loop-point l = l.out.items ++ points_after l.mark (drop l.point-index l.points) ≡ l.fn.out.items ++ points_after [] l.fn.points

@@ -1,7 +1,0 @@
-use Rattle.std.proofs.Common.{◌≡◌, ◌++◌, drop}
-use Rattle.bt_ast.specs.Words.{quoted_bytes}
-use Rattle.bt_ast.proofs.words.write_bytes.Given as goal
-
--- what is written, with what is left to write, is the whole
-abbrev pub invariant-loop-byte : goal.invariant-loop-byte
-invariant-loop-byte l = l.out.items ++ quoted_bytes (drop l.byte-index l.text) ≡ l.fn.out.items ++ quoted_bytes l.fn.text

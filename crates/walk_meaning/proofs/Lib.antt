@@ -1,0 +1,11 @@
+pub mod Asking
+pub mod AskingStmts
+pub mod OwnItems
+pub mod Declared
+pub mod ExprDoes
+pub mod ReadExprs
+pub mod ReadStmts
+pub mod Readings
+pub mod SameLaws
+pub mod StmtDoes
+pub mod TreeParts

@@ -1,0 +1,251 @@
+-- Expressions do the same by another way of reading that reads alike what can come.
+use Rattle.std.proofs.Common.{◌≡◌, ◌++◌, ℕ, ℤ, pos, List, [], ◌∷◌, Bool, true, false, map, refl, sym, ap, ◌∙◌, subst}
+use Rattle.std.specs.Prelude.{IsTrue, cond}
+use Rattle.std.proofs.lemmas.Bool.{and_parts}
+use Rattle.std.proofs.lemmas.List.Folds.{list_all-append}
+use Rattle.bt_core.specs.declared.map.MapId.{MapId}
+use Rattle.bt_core.specs.declared.map.Shape.{Shape}
+use Rattle.bt_core.specs.declared.map.Shape.TheVariants as shapes
+use Rattle.bt_core.specs.declared.step.ObjectId.{ObjectId}
+use Rattle.bt_core.specs.declared.step.Op.{Op}
+use Rattle.bt_core.specs.declared.step.Op.TheVariants.{Get}
+use Rattle.bt_core.specs.declared.step.Reply.{Reply}
+use Rattle.bt_core.specs.declared.value.Value.{Value}
+use Rattle.bt_core.specs.declared.value.Value.TheVariants.{Int, Str}
+use Rattle.bt_core.specs.Interaction.{Call}
+use Rattle.map_printer.specs.Merged.{rows_in}
+use Rattle.typed_tree.specs.declared.expr.AnyExpr.{AnyExpr, roll-AnyExpr, map-AnyExpr, fold-roll-AnyExpr, ind-AnyExpr}
+use Rattle.typed_tree.specs.declared.expr.AnyExpr.TheOpen.{NumExpr-F, StrExpr-F, AnyExpr-F}
+use Rattle.typed_tree.specs.declared.expr.NumExpr.{NumExpr, roll-NumExpr, map-NumExpr, fold-roll-NumExpr, ind-NumExpr}
+use Rattle.typed_tree.specs.declared.expr.StrExpr.{StrExpr, roll-StrExpr, map-StrExpr, fold-roll-StrExpr}
+use Rattle.typed_tree.specs.Parts as tree
+use Rattle.typed_tree.specs.Parts.{Made, Part, made_of, num_parts, str_parts, parts_in, key_shapes, keyed_parts}
+use Rattle.typed_tree.specs.Scope.{fits, all_fit, is_declared, is_there, decl_of, kind_of_shape}
+use Rattle.walk_meaning.specs.declared.flow.Frame.{Frame}
+use Rattle.walk_meaning.specs.declared.sweep.Sweep.TheVariants.{Read}
+use Rattle.walk_meaning.specs.declared.view.View.{View}
+use Rattle.walk_meaning.specs.Does.{Scene, Does, given, asked, bind, then, choose, gathered, in_order, either}
+use Rattle.walk_meaning.specs.Exprs.{read, builtin, command, number_field, text_field, step_variable, any_layer, num_layer, str_layer, value_does, number_does, text_does, step_at}
+use Rattle.walk_meaning.specs.Maps.{number_of, text_of, value_of, number_variable, text_variable, part, get, set, next, kind_of, holder, sweep_op}
+use Rattle.walk_meaning.specs.Reading.{Reader, number_under, text_under, stepped_under, num_by, str_by, value_by, number_by, text_by}
+use Rattle.bt_core.specs.Same.{SameTo}
+use Rattle.walk_meaning.specs.Served.{Fits, scene_in, scope_in}
+use Rattle.bt_core.proofs.SameLaws.{SameTo-self, SameTo-and_then, SameTo-mapped}
+
+abbrev pub call_at : ObjectId → Op → Call
+call_at object op = record { object = object; op = op }
+
+-- the reader takes the same as the walk of each reply that can come to what the body reads
+pub record ReadsAlike (comes : Call → Reply → Type 0) (reader : Reader) (v : View) : Type 0 where
+  pub numbers : (m : MapId) (keys : List Shape) (key : List Value) (reply : Reply) → IsTrue (is_declared (decl_of m.0 v.body.now.maps) (kind_of_shape shapes.Int) keys) →
+      comes (call_at (part m key) (Get key)) reply → reader.number reply ≡ number_of (value_of reply)
+  pub texts : (m : MapId) (keys : List Shape) (key : List Value) (reply : Reply) → IsTrue (is_declared (decl_of m.0 v.body.now.maps) (kind_of_shape shapes.Str) keys) →
+      comes (call_at (part m key) (Get key)) reply → reader.text reply ≡ text_of (value_of reply)
+  pub rows : (m : MapId) (n : ℕ) (reply : Reply) → IsTrue (is_there (decl_of m.0 v.body.now.maps)) →
+      comes (call_at (holder (kind_of m v.body.now.maps) m n) (sweep_op Read (kind_of m v.body.now.maps) m)) reply → reader.rows (kind_of m v.body.now.maps) reply ≡ rows_in (kind_of m v.body.now.maps) reply
+
+module _ (comes : Call → Reply → Type 0) (scene : Scene) where
+  -- values that are so related, and one frame
+  abbrev pub Ends : {A B : Type 0} → (A → B → Type 0) → A × Frame → B × Frame → Type 0
+  Ends R p q = R p.0 q.0 × (p.1 ≡ q.1)
+
+  abbrev pub Tied : {A B : Type 0} → (A → B → Type 0) → Does A → Does B → Type 0
+  Tied R d e = (frame : Frame) → SameTo comes (Ends R) (d scene frame) (e scene frame)
+
+  abbrev pub Equal : {A : Type 0} → A → A → Type 0
+  Equal a b = a ≡ b
+
+  pub given-tied : {A B : Type 0} (R : A → B → Type 0) (a : A) (b : B) → R a b → Tied R (given a) (given b)
+  unfolding given
+  given-tied R a b p frame = (p, refl)
+
+  pub self-tied : {A : Type 0} (d : Does A) → Tied Equal d d
+  self-tied {A} d frame = SameTo-self comes (Ends (λ (a b : A). a ≡ b)) (λ p. (refl, refl)) (d scene frame)
+
+  pub bind-tied : {A B C D : Type 0} (R : A → B → Type 0) (S : C → D → Type 0) (d : Does A) (e : Does B) (k : A → Does C) (l : B → Does D) →
+      Tied R d e → ((a : A) (b : B) → R a b → Tied S (k a) (l b)) → Tied S (bind d k) (bind e l)
+  unfolding bind
+  bind-tied R S d e k l p q frame =
+      SameTo-and_then comes (Ends R) (Ends S) (d scene frame) (e scene frame) (λ w. k w.0 scene w.1) (λ z. l z.0 scene z.1) (p frame)
+      (λ w z h. subst (λ (f : Frame). SameTo comes (Ends S) (k w.0 scene w.1) (l z.0 scene f)) h.1 (q w.0 z.0 h.0 w.1))
+
+  pub bind-same : {A B C : Type 0} (S : B → C → Type 0) (d e : Does A) (k : A → Does B) (l : A → Does C) → Tied Equal d e → ((a : A) → Tied S (k a) (l a)) → Tied S (bind d k) (bind e l)
+  bind-same {A} S d e k l p q = bind-tied (λ (a b : A). a ≡ b) S d e k l p (λ a b h. subst (λ (x : A). Tied S (k a) (l x)) h (q a))
+
+  -- what follows is the same
+  pub first-same : {A B : Type 0} (d e : Does A) (k : A → Does B) → Tied Equal d e → Tied Equal (bind d k) (bind e k)
+  first-same {A} {B} d e k p = bind-same (λ (a b : B). a ≡ b) d e k k p (λ a. self-tied (k a))
+
+  pub mapped-tied : {A B : Type 0} (R : A → B → Type 0) (d : Does A) (e : Does B) (f : B → A) → Tied R d e → ((a : A) (b : B) → R a b → a ≡ f b) → Tied Equal d (bind e (λ b. given (f b)))
+  unfolding bind given
+  mapped-tied {A} R d e f p q frame = SameTo-mapped comes (Ends R) (Ends (λ (a b : A). a ≡ b)) (d scene frame) (e scene frame) (λ z. (f z.0, z.1)) (p frame) (λ w z h. (q w.0 z.0 h.0, h.1))
+
+  pub asked-tied : (object : ObjectId) (op : Op) → Tied (λ (r s : Reply). (r ≡ s) × comes (call_at object op) r) (asked object op) (asked object op)
+  unfolding asked
+  asked-tied object op frame = (refl, λ reply h. ((refl, h), refl))
+
+  pub choose-tied : {A : Type 0} (b : Bool) (one other first second : Does A) → Tied Equal one first → Tied Equal other second → Tied Equal (choose b one other) (choose b first second)
+  unfolding choose
+  choose-tied true one other first second p q = p
+  choose-tied false one other first second p q = q
+
+  pub either-tied : {A : Type 0} (test by : Does ℤ) (one other first second : Does A) → Tied Equal test by → Tied Equal one first → Tied Equal other second → Tied Equal (either test one other) (either by first second)
+  either-tied {A} test by one other first second t p q = bind-same (λ (a b : A). a ≡ b) test by _ _ t (λ n. choose-tied _ one other first second p q)
+
+module _ (comes : Call → Reply → Type 0) (reader : Reader) (v : View) (reads : ReadsAlike comes reader v) where
+  abbrev Same : {A : Type 0} → Does A → Does A → Type 0
+  Same {A} d e = Tied comes (scene_in v) (λ (a b : A). a ≡ b) d e
+
+  abbrev pub AnyRead : AnyExpr → Type 0
+  AnyRead a = Fits v (made_of a).parts → Same (value_by reader a) (value_does a)
+
+  abbrev pub NumRead : NumExpr → Type 0
+  NumRead n = Fits v (num_parts n) → Same (number_by reader n) (number_does n)
+
+  abbrev pub StrRead : StrExpr → Type 0
+  StrRead s = Fits v (str_parts s) → Same (text_by reader s) (text_does s)
+
+  abbrev ManyAny : Type 0
+  ManyAny = (a : AnyExpr) × AnyRead a
+
+  abbrev ManyNum : Type 0
+  ManyNum = (n : NumExpr) × NumRead n
+
+  abbrev ManyStr : Type 0
+  ManyStr = (s : StrExpr) × StrRead s
+
+  abbrev firsts : List ManyAny → List AnyExpr
+  firsts ks = map (λ (k : ManyAny). k.0) ks
+
+  pub halves : (a b : List Part) → Fits v (a ++ b) → Fits v a × Fits v b
+  halves a b h = let p = and_parts (all_fit (scope_in v) a) (all_fit (scope_in v) b) (sym (list_all-append (fits (scope_in v)) a b) ∙ h) in (p.0, p.1)
+
+  gathered-same : (ks : List ManyAny) (vs : List Value) → Fits v (parts_in (map made_of (firsts ks))) → Same (gathered vs (map (value_by reader) (firsts ks))) (gathered vs (map value_does (firsts ks)))
+  gathered-same [] vs fit = self-tied comes (scene_in v) (given vs)
+  gathered-same (k ∷ ks) vs fit =
+      let parts = halves (made_of k.0).parts (parts_in (map made_of (firsts ks))) fit in
+      bind-same comes (scene_in v) (λ (a b : List Value). a ≡ b) (value_by reader k.0) (value_does k.0) (λ value. gathered (vs ++ value ∷ []) (map (value_by reader) (firsts ks))) (λ value. gathered (vs ++ value ∷ []) (map value_does (firsts ks))) (k.1 parts.0)
+      (λ value. gathered-same ks (vs ++ value ∷ []) parts.1)
+
+  pub values-same : (ks : List ManyAny) → Fits v (parts_in (map made_of (firsts ks))) → Same (in_order (map (value_by reader) (firsts ks))) (in_order (map value_does (firsts ks)))
+  values-same ks fit = gathered-same ks [] fit
+
+  abbrev Declares : MapId → List Shape → Shape → Type 0
+  Declares m keys h = IsTrue (is_declared (decl_of m.0 v.body.now.maps) (kind_of_shape h) keys)
+
+  pub number-tied : (m : MapId) (keys : List Shape) (key : List Value) → Declares m keys shapes.Int → Tied comes (scene_in v) (λ (n : ℤ) (value : Value). n ≡ number_of value) (number_under reader m key) (get m key)
+  number-tied m keys key d =
+      bind-tied comes (scene_in v) (λ (r s : Reply). (r ≡ s) × comes (call_at (part m key) (Get key)) r) (λ (n : ℤ) (value : Value). n ≡ number_of value) (asked (part m key) (Get key)) (asked (part m key) (Get key)) _ _
+      (asked-tied comes (scene_in v) (part m key) (Get key))
+      (λ r s h. given-tied comes (scene_in v) (λ (n : ℤ) (value : Value). n ≡ number_of value) (reader.number r) (value_of s) (reads.numbers m keys key r d h.1 ∙ ap (λ (x : Reply). number_of (value_of x)) h.0))
+
+  text-tied : (m : MapId) (keys : List Shape) (key : List Value) → Declares m keys shapes.Str → Tied comes (scene_in v) (λ (t : List ℕ) (value : Value). t ≡ text_of value) (text_under reader m key) (get m key)
+  text-tied m keys key d =
+      bind-tied comes (scene_in v) (λ (r s : Reply). (r ≡ s) × comes (call_at (part m key) (Get key)) r) (λ (t : List ℕ) (value : Value). t ≡ text_of value) (asked (part m key) (Get key)) (asked (part m key) (Get key)) _ _
+      (asked-tied comes (scene_in v) (part m key) (Get key))
+      (λ r s h. given-tied comes (scene_in v) (λ (t : List ℕ) (value : Value). t ≡ text_of value) (reader.text r) (value_of s) (reads.texts m keys key r d h.1 ∙ ap (λ (x : Reply). text_of (value_of x)) h.0))
+
+  -- where the map is, and the parts of its key
+  map_fits : (m : MapId) (ks : List ManyAny) (h : Shape) → Fits v (keyed_parts m.0 (map made_of (firsts ks)) h) → Declares m (key_shapes (map made_of (firsts ks))) h × Fits v (parts_in (map made_of (firsts ks)))
+  map_fits m ks h fit = let p = and_parts (is_declared (decl_of m.0 v.body.now.maps) (kind_of_shape h) (key_shapes (map made_of (firsts ks)))) (all_fit (scope_in v) (parts_in (map made_of (firsts ks)))) fit in (p.0, p.1)
+
+  under-tied : {A : Type 0} (R : A → Value → Type 0) (m : MapId) (ks : List ManyAny) (under : List Value → Does A) → Fits v (parts_in (map made_of (firsts ks))) → ((key : List Value) → Tied comes (scene_in v) R (under key) (get m key)) →
+      Tied comes (scene_in v) R (bind (in_order (map (value_by reader) (firsts ks))) under) (read m (map value_does (firsts ks)))
+  under-tied R m ks under fit p =
+      bind-same comes (scene_in v) R (in_order (map (value_by reader) (firsts ks))) (in_order (map value_does (firsts ks))) under (λ key. get m key) (values-same ks fit) p
+
+  step-same : (m : MapId) (keys : List Shape) (plus prefix : Bool) (key : List Value) → Declares m keys shapes.Int → Same (stepped_under reader m plus prefix key) (step_at m key plus prefix)
+  step-same m keys plus prefix key d =
+      bind-tied comes (scene_in v) (λ (n : ℤ) (value : Value). n ≡ number_of value) (λ (a b : ℤ). a ≡ b) (number_under reader m key) (get m key) _ _ (number-tied m keys key d)
+      (λ n value h. subst (λ (x : ℤ). Same (then (set m key (Int (next plus n))) (given (cond prefix (next plus n) n))) (then (set m key (Int (next plus x))) (given (cond prefix (next plus x) x)))) h (self-tied comes (scene_in v) (then (set m key (Int (next plus n))) (given (cond prefix (next plus n) n)))))
+
+  two-same : {A B C : Type 0} (d d' : Does A) (e e' : Does B) (f : A → B → C) → Same d d' → Same e e' → Same (bind d (λ a. bind e (λ b. given (f a b)))) (bind d' (λ a. bind e' (λ b. given (f a b))))
+  two-same {A} {B} {C} d d' e e' f p q = bind-same comes (scene_in v) (λ (a b : C). a ≡ b) d d' _ _ p (λ a. first-same comes (scene_in v) e e' (λ b. given (f a b)) q)
+
+  abbrev num_of : NumExpr-F ManyAny ManyNum ManyStr → NumExpr-F AnyExpr NumExpr StrExpr
+  num_of h = map-NumExpr ManyAny ManyNum ManyStr AnyExpr NumExpr StrExpr (λ k. k.0) (λ k. k.0) (λ k. k.0) h
+
+  num_case : (h : NumExpr-F ManyAny ManyNum ManyStr) → Fits v (tree.num_layer (map-NumExpr AnyExpr NumExpr StrExpr Made (List Part) (List Part) made_of num_parts str_parts (num_of h))) →
+      Same (num_by reader (map-NumExpr AnyExpr NumExpr StrExpr (Does Value) (Does ℤ) (Does (List ℕ)) (value_by reader) (number_by reader) (text_by reader) (num_of h)))
+      (num_layer (map-NumExpr AnyExpr NumExpr StrExpr (Does Value) (Does ℤ) (Does (List ℕ)) value_does number_does text_does (num_of h)))
+  num_case (NumExpr-F.Number n) fit = self-tied comes (scene_in v) (given n)
+  num_case (NumExpr-F.Builtin b) fit = self-tied comes (scene_in v) (builtin b)
+  num_case (NumExpr-F.NumExpr::Field f) fit = self-tied comes (scene_in v) (number_field f)
+  num_case (NumExpr-F.NumExpr::Var n) fit = self-tied comes (scene_in v) (number_variable n)
+  num_case (NumExpr-F.NumExpr::Map m ks) fit =
+      let p = map_fits m ks shapes.Int fit in
+      mapped-tied comes (scene_in v) (λ (n : ℤ) (value : Value). n ≡ number_of value) (bind (in_order (map (value_by reader) (firsts ks))) (number_under reader m)) (read m (map value_does (firsts ks))) number_of
+      (under-tied (λ (n : ℤ) (value : Value). n ≡ number_of value) m ks (number_under reader m) p.1 (λ key. number-tied m _ key p.0)) (λ n value h. h)
+  num_case (NumExpr-F.StepVar n plus prefix) fit = self-tied comes (scene_in v) (step_variable n plus prefix)
+  num_case (NumExpr-F.StepMap m ks plus prefix) fit =
+      let p = map_fits m ks shapes.Int fit in
+      bind-same comes (scene_in v) (λ (a b : ℤ). a ≡ b) (in_order (map (value_by reader) (firsts ks))) (in_order (map value_does (firsts ks))) (stepped_under reader m plus prefix) (λ key. step_at m key plus prefix) (values-same ks p.1)
+      (λ key. step-same m _ plus prefix key p.0)
+  num_case (NumExpr-F.Unary op d) fit = first-same comes (scene_in v) (number_by reader d.0) (number_does d.0) _ (d.1 fit)
+  num_case (NumExpr-F.Binary op l r) fit =
+      let p = halves (num_parts l.0) (num_parts r.0) fit in two-same (number_by reader l.0) (number_does l.0) (number_by reader r.0) (number_does r.0) _ (l.1 p.0) (r.1 p.1)
+  num_case (NumExpr-F.Compare equal l r) fit =
+      let p = halves (str_parts l.0) (str_parts r.0) fit in two-same (text_by reader l.0) (text_does l.0) (text_by reader r.0) (text_does r.0) _ (l.1 p.0) (r.1 p.1)
+  num_case (NumExpr-F.AndThen l r) fit = let p = halves (num_parts l.0) (num_parts r.0) fit in
+      either-tied comes (scene_in v) (number_by reader l.0) (number_does l.0) _ _ _ _ (l.1 p.0) (first-same comes (scene_in v) (number_by reader r.0) (number_does r.0) _ (r.1 p.1)) (self-tied comes (scene_in v) (given (pos 0)))
+  num_case (NumExpr-F.OrElse l r) fit = let p = halves (num_parts l.0) (num_parts r.0) fit in
+      either-tied comes (scene_in v) (number_by reader l.0) (number_does l.0) _ _ _ _ (l.1 p.0) (self-tied comes (scene_in v) (given (pos 1))) (first-same comes (scene_in v) (number_by reader r.0) (number_does r.0) _ (r.1 p.1))
+  num_case (NumExpr-F.NumExpr::Choose t y o) fit =
+      let p = halves (num_parts t.0) (num_parts y.0 ++ num_parts o.0) fit in
+      let q = halves (num_parts y.0) (num_parts o.0) p.1 in
+      either-tied comes (scene_in v) (number_by reader t.0) (number_does t.0) _ _ _ _ (t.1 p.0) (y.1 q.0) (o.1 q.1)
+
+  abbrev str_of : StrExpr-F ManyAny ManyNum ManyStr → StrExpr-F AnyExpr NumExpr StrExpr
+  str_of h = map-StrExpr ManyAny ManyNum ManyStr AnyExpr NumExpr StrExpr (λ k. k.0) (λ k. k.0) (λ k. k.0) h
+
+  str_case : (h : StrExpr-F ManyAny ManyNum ManyStr) → Fits v (tree.str_layer (map-StrExpr AnyExpr NumExpr StrExpr Made (List Part) (List Part) made_of num_parts str_parts (str_of h))) →
+      Same (str_by reader (map-StrExpr AnyExpr NumExpr StrExpr (Does Value) (Does ℤ) (Does (List ℕ)) (value_by reader) (number_by reader) (text_by reader) (str_of h)))
+      (str_layer (map-StrExpr AnyExpr NumExpr StrExpr (Does Value) (Does ℤ) (Does (List ℕ)) value_does number_does text_does (str_of h)))
+  str_case (StrExpr-F.Text s) fit = self-tied comes (scene_in v) (given s)
+  str_case StrExpr-F.Comm fit = self-tied comes (scene_in v) command
+  str_case (StrExpr-F.StrExpr::Field f) fit = self-tied comes (scene_in v) (text_field f)
+  str_case (StrExpr-F.StrExpr::Var n) fit = self-tied comes (scene_in v) (text_variable n)
+  str_case (StrExpr-F.StrExpr::Map m ks) fit =
+      let p = map_fits m ks shapes.Str fit in
+      mapped-tied comes (scene_in v) (λ (t : List ℕ) (value : Value). t ≡ text_of value) (bind (in_order (map (value_by reader) (firsts ks))) (text_under reader m)) (read m (map value_does (firsts ks))) text_of
+      (under-tied (λ (t : List ℕ) (value : Value). t ≡ text_of value) m ks (text_under reader m) p.1 (λ key. text-tied m _ key p.0)) (λ t value h. h)
+  str_case (StrExpr-F.StrExpr::Choose t y o) fit =
+      let p = halves (num_parts t.0) (str_parts y.0 ++ str_parts o.0) fit in
+      let q = halves (str_parts y.0) (str_parts o.0) p.1 in
+      either-tied comes (scene_in v) (number_by reader t.0) (number_does t.0) _ _ _ _ (t.1 p.0) (y.1 q.0) (o.1 q.1)
+
+  abbrev any_of : AnyExpr-F ManyAny ManyNum ManyStr → AnyExpr-F AnyExpr NumExpr StrExpr
+  any_of h = map-AnyExpr ManyAny ManyNum ManyStr AnyExpr NumExpr StrExpr (λ k. k.0) (λ k. k.0) (λ k. k.0) h
+
+  any_case : (h : AnyExpr-F ManyAny ManyNum ManyStr) → Fits v (tree.any_layer (map-AnyExpr AnyExpr NumExpr StrExpr Made (List Part) (List Part) made_of num_parts str_parts (any_of h))).parts →
+      Same (any_layer (map-AnyExpr AnyExpr NumExpr StrExpr (Does Value) (Does ℤ) (Does (List ℕ)) (value_by reader) (number_by reader) (text_by reader) (any_of h)))
+      (any_layer (map-AnyExpr AnyExpr NumExpr StrExpr (Does Value) (Does ℤ) (Does (List ℕ)) value_does number_does text_does (any_of h)))
+  any_case (AnyExpr-F.Num d) fit = first-same comes (scene_in v) (number_by reader d.0) (number_does d.0) (λ n. given (Int n)) (d.1 fit)
+  any_case (AnyExpr-F.Str d) fit = first-same comes (scene_in v) (text_by reader d.0) (text_does d.0) (λ s. given (Str s)) (d.1 fit)
+
+  num_step : (x : NumExpr-F AnyExpr NumExpr StrExpr) (h : NumExpr-F ManyAny ManyNum ManyStr) → num_of h ≡ x → NumRead (roll-NumExpr x)
+  num_step x h e = subst (λ (y : NumExpr-F AnyExpr NumExpr StrExpr). NumRead (roll-NumExpr y)) e (λ fit.
+      subst (λ (d : Does ℤ). Same d (number_does (roll-NumExpr (num_of h)))) (sym (fold-roll-NumExpr (Does Value) (Does ℤ) (Does (List ℕ)) any_layer (num_by reader) (str_by reader) (num_of h)))
+      (subst (λ (d : Does ℤ). Same (num_by reader (map-NumExpr AnyExpr NumExpr StrExpr (Does Value) (Does ℤ) (Does (List ℕ)) (value_by reader) (number_by reader) (text_by reader) (num_of h))) d)
+      (sym (fold-roll-NumExpr (Does Value) (Does ℤ) (Does (List ℕ)) any_layer num_layer str_layer (num_of h)))
+      (num_case h (subst (λ (l : List Part). Fits v l) (fold-roll-NumExpr Made (List Part) (List Part) tree.any_layer tree.num_layer tree.str_layer (num_of h)) fit))))
+
+  str_step : (x : StrExpr-F AnyExpr NumExpr StrExpr) (h : StrExpr-F ManyAny ManyNum ManyStr) → str_of h ≡ x → StrRead (roll-StrExpr x)
+  str_step x h e = subst (λ (y : StrExpr-F AnyExpr NumExpr StrExpr). StrRead (roll-StrExpr y)) e (λ fit.
+      subst (λ (d : Does (List ℕ)). Same d (text_does (roll-StrExpr (str_of h)))) (sym (fold-roll-StrExpr (Does Value) (Does ℤ) (Does (List ℕ)) any_layer (num_by reader) (str_by reader) (str_of h)))
+      (subst (λ (d : Does (List ℕ)). Same (str_by reader (map-StrExpr AnyExpr NumExpr StrExpr (Does Value) (Does ℤ) (Does (List ℕ)) (value_by reader) (number_by reader) (text_by reader) (str_of h))) d)
+      (sym (fold-roll-StrExpr (Does Value) (Does ℤ) (Does (List ℕ)) any_layer num_layer str_layer (str_of h)))
+      (str_case h (subst (λ (l : List Part). Fits v l) (fold-roll-StrExpr Made (List Part) (List Part) tree.any_layer tree.num_layer tree.str_layer (str_of h)) fit))))
+
+  any_step : (x : AnyExpr-F AnyExpr NumExpr StrExpr) (h : AnyExpr-F ManyAny ManyNum ManyStr) → any_of h ≡ x → AnyRead (roll-AnyExpr x)
+  any_step x h e = subst (λ (y : AnyExpr-F AnyExpr NumExpr StrExpr). AnyRead (roll-AnyExpr y)) e (λ fit.
+      subst (λ (d : Does Value). Same d (value_does (roll-AnyExpr (any_of h)))) (sym (fold-roll-AnyExpr (Does Value) (Does ℤ) (Does (List ℕ)) any_layer (num_by reader) (str_by reader) (any_of h)))
+      (subst (λ (d : Does Value). Same (any_layer (map-AnyExpr AnyExpr NumExpr StrExpr (Does Value) (Does ℤ) (Does (List ℕ)) (value_by reader) (number_by reader) (text_by reader) (any_of h))) d)
+      (sym (fold-roll-AnyExpr (Does Value) (Does ℤ) (Does (List ℕ)) any_layer num_layer str_layer (any_of h)))
+      (any_case h (subst (λ (m : Made). Fits v m.parts) (fold-roll-AnyExpr Made (List Part) (List Part) tree.any_layer tree.num_layer tree.str_layer (any_of h)) fit))))
+
+  pub num_read : (e : NumExpr) → NumRead e
+  num_read e = ind-NumExpr AnyRead NumRead StrRead any_step num_step str_step e
+
+  pub any_read : (e : AnyExpr) → AnyRead e
+  any_read e = ind-AnyExpr AnyRead NumRead StrRead any_step num_step str_step e

@@ -1,0 +1,73 @@
+-- What expressions and statements do: they read what the body sees, change the frame of its run, and ask objects for replies.
+use Rattle.std.specs.Prelude.{ℕ, ℤ, Bool, true, false, not, List, [], ◌∷◌, ◌++◌}
+use Rattle.bt_core.specs.declared.context.Context.{Context}
+use Rattle.bt_core.specs.declared.map.MapDecl.{MapDecl}
+use Rattle.bt_core.specs.declared.map.MapId.{MapId}
+use Rattle.bt_core.specs.declared.step.ObjectId.{ObjectId}
+use Rattle.bt_core.specs.declared.step.Op.{Op}
+use Rattle.bt_core.specs.declared.step.Reply.{Reply}
+use Rattle.bt_core.specs.Arithmetic.{is_zero}
+use Rattle.bt_core.specs.Interaction.{Interaction, Ended, ask, and_then}
+use Rattle.walk_meaning.specs.declared.flow.Frame.{Frame}
+
+-- what the run of a body sees: the context, the payload, its actor, how many actors there are, and the maps that the body names
+pub record Scene : Type 0 where
+  pub context : Context
+  pub payload : List ℕ
+  pub actor : ℕ
+  pub actors : ℕ
+  pub maps : List (MapId × MapDecl)
+
+-- from what is seen and the frame to a value and the frame after it, by calls
+abbrev pub Does : Type 0 → Type 0
+Does A = Scene → Frame → Interaction (A × Frame)
+
+-- a value, and nothing else
+unfoldable pub given : {A : Type 0} → A → Does A
+given a scene frame = Ended (a, frame)
+
+-- a value that is read from what is seen and from the frame
+unfoldable pub seen : {A : Type 0} → (Scene → Frame → A) → Does A
+seen look scene frame = Ended (look scene frame, frame)
+
+-- the frame is changed
+unfoldable pub changed : (Frame → Frame) → Does (Unit {0})
+changed change scene frame = Ended (tt, change frame)
+
+-- one call, and its reply
+unfoldable pub asked : ObjectId → Op → Does Reply
+asked object op scene frame = and_then (ask object op) (λ reply. Ended (reply, frame))
+
+-- the one, and then the next, which may depend on the value of the one
+unfoldable pub bind : {A B : Type 0} → Does A → (A → Does B) → Does B
+bind one next scene frame = and_then (one scene frame) (λ p. next p.0 scene p.1)
+
+-- the one where a test holds, and otherwise the other
+unfoldable pub choose : {A : Type 0} → Bool → Does A → Does A → Does A
+choose true one other = one
+choose false one other = other
+
+-- the one, and nothing of its value
+abbrev pub then : {A B : Type 0} → Does A → Does B → Does B
+then one next = bind one (λ value. next)
+
+-- one call, whose reply says nothing
+abbrev pub told : ObjectId → Op → Does (Unit {0})
+told object op = then (asked object op) (given tt)
+
+-- a number counts as true where it is not 0
+abbrev pub holds : ℤ → Bool
+holds n = not (is_zero n)
+
+-- a test, and then only what it asks for
+abbrev pub either : {A : Type 0} → Does ℤ → Does A → Does A → Does A
+either test one other = bind test (λ n. choose (holds n) one other)
+
+-- behind the values that there are, those of all others from left to right
+abbrev pub gathered : {A : Type 0} → List A → List (Does A) → Does (List A)
+gathered values [] = given values
+gathered values (d ∷ ds) = bind d (λ value. gathered (values ++ value ∷ []) ds)
+
+-- from left to right
+abbrev pub in_order : {A : Type 0} → List (Does A) → Does (List A)
+in_order ds = gathered [] ds

@@ -1,0 +1,9 @@
+pub mod Admits
+pub mod Does
+pub mod Maps
+pub mod Exprs
+pub mod Stmts
+pub mod Walk
+pub mod Served
+pub mod SameUnder
+pub mod Reading

@@ -1,0 +1,51 @@
+-- The walk of a body: what it asks for, reply by reply, and how its run ends.
+use Rattle.std.specs.Prelude.{ℕ, pos, List, [], Option, Some, None, map}
+use Rattle.bt_core.specs.declared.context.Context.{Context}
+use Rattle.bt_core.specs.declared.limits.TheConstants.{LOOP_TURNS}
+use Rattle.bt_core.specs.declared.map.Shape.{Shape}
+use Rattle.bt_core.specs.declared.map.Shape.TheVariants as shapes
+use Rattle.bt_core.specs.declared.value.Value.{Value}
+use Rattle.bt_core.specs.declared.value.Value.TheVariants.{Int, Str}
+use Rattle.bt_core.specs.Interaction.{Interaction, Ended, and_then}
+use Rattle.typed_tree.specs.declared.body.TypedBody.{TypedBody}
+use Rattle.typed_tree.specs.declared.body.TypedTree.{TypedTree}
+use Rattle.typed_tree.specs.declared.expr.NumExpr.{NumExpr}
+use Rattle.bt_core.specs.declared.ending.Ending.{Ending}
+use Rattle.bt_core.specs.declared.ending.Ending.TheVariants.{End}
+use Rattle.walk_meaning.specs.declared.flow.Flow.{Flow}
+use Rattle.walk_meaning.specs.declared.flow.Flow.TheVariants.{Next, Break, Continue, Stop}
+use Rattle.walk_meaning.specs.declared.flow.Frame.{Frame}
+use Rattle.walk_meaning.specs.Does.{Does, given, bind, either}
+use Rattle.walk_meaning.specs.Exprs.{number_does}
+use Rattle.walk_meaning.specs.Stmts.{block_does}
+
+-- a variable that was not assigned is 0 or empty
+abbrev pub unassigned : Shape → Value
+unassigned shapes.Int = Int (pos 0)
+unassigned shapes.Str = Str []
+
+-- the frame at the start of a run
+abbrev pub fresh : List Shape → Frame
+fresh variables = record { variables = map unassigned variables; turns = LOOP_TURNS }
+
+-- a predicate comes first, and where it is 0 nothing follows
+abbrev pub guarded : Option NumExpr → Does Flow → Does Flow
+guarded None block = block
+guarded (Some e) block = either (number_does e) block (given Next)
+
+-- how the run ends that its statements led to
+abbrev pub ending_of : Flow → Ending
+ending_of Next = End
+ending_of Break = End
+ending_of Continue = End
+ending_of (Stop ending) = ending
+
+abbrev pub tree_does : TypedTree → Does Ending
+tree_does tree = bind (guarded tree.predicate (block_does tree.block)) (λ flow. given (ending_of flow))
+
+-- the walk of a body by an actor below so many, over an event with this payload
+unfoldable pub walk : TypedBody → Context → List ℕ → ℕ → ℕ → Interaction Ending
+walk body context payload actor actors =
+    and_then
+    (tree_does body.tree (record { context = context; payload = payload; actor = actor; actors = actors; maps = body.maps }) (fresh body.tree.variables))
+    (λ p. Ended p.0)
