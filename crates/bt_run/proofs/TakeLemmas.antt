@@ -18,13 +18,13 @@ use Rattle.bt_meaning.specs.declared.schedule.Scheduled.{Scheduled}
 use Rattle.bt_meaning.specs.Replays.{Replay, answers_of, begin_of, end_of}
 use Rattle.bt_meaning.specs.Schedules.{serial_order, cpu_of_due, item_of_due}
 use Rattle.bt_meaning.specs.Serial.{unstamped, then_steps, then_value, alone, alone_on, taken, begun_steps, taken_steps, serial_steps}
-use Rattle.bt_run.specs.declared.job.Job.{Job}
+use Rattle.run_base.specs.declared.job.Job.{Job}
 use Rattle.bt_run.specs.declared.objects.Objects.{Objects}
 use Rattle.bt_run.specs.Counts.{taken_count, TakesNext}
-use Rattle.bt_run.specs.Jobs.{cpus_in, replay_with, world_for, CanRunAll}
+use Rattle.run_base.specs.Jobs.{cpus_in, replay_with, world_for, CanRunAll}
 use Rattle.bt_run.specs.Made.{IsMade}
 use Rattle.bt_run.specs.Runs.{Seen, IsSeen, IsRunOf, IsLeft}
-use Rattle.bt_run.specs.Worlds.{World, setting_in, answers}
+use Rattle.run_base.specs.Worlds.{World, setting_in, answers}
 use Rattle.bt_meaning.proofs.Stepping.{takes_made, unstamped_length}
 
 drop_own : (a b : List Step) → drop (length a) (a ++ b) ≡ b

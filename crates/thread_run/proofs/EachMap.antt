@@ -15,7 +15,7 @@ use Rattle.step_objects.specs.declared.shared.SharedPart.{SharedPart}
 use Rattle.step_objects.specs.CpuTables.{map_at}
 use Rattle.shared_maps.specs.Parts.{parts_in, parts_from}
 use Rattle.bt_meaning.specs.Prints.{of_maps}
-use Rattle.bt_run.specs.Moments.{Moment}
+use Rattle.run_base.specs.Moments.{Moment}
 use Rattle.thread_run.specs.declared.closed.Closed.{Closed}
 use Rattle.thread_run.specs.Closed.{AreClosedAt, IsMapAt, PartsStand, ArePartsOf}
 use Rattle.thread_run.proofs.Objects.{all_parts}

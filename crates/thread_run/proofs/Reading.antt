@@ -25,8 +25,8 @@ use Rattle.shared_maps.specs.Parts.{part_at, parts_in, parts_from}
 use Rattle.run_ends.specs.Closed.{StandsAt, AllStand}
 use Rattle.map_printer.specs.Merged.{HasRowsOf}
 use Rattle.bt_meaning.specs.Prints.{read_of, lost_after}
-use Rattle.bt_run.specs.Moments.{Moment, table_reply, table_lost, part_reply, part_lost, of_first}
-use Rattle.bt_run.proofs.MapReads.{table_reads, table_losses, part_reads, part_losses, reads_have_rows}
+use Rattle.run_base.specs.Moments.{Moment, table_reply, table_lost, part_reply, part_lost, of_first}
+use Rattle.run_base.proofs.MapReads.{table_reads, table_losses, part_reads, part_losses, reads_have_rows}
 use Rattle.thread_run.specs.Closed.{IsMapAt, part_id, part_kind, PartsStand, TablesStand, ArePartsOf, AreTablesOf}
 use Rattle.thread_run.proofs.Objects.{ids_map, kinds_map}
 

@@ -6,8 +6,8 @@ use Rattle.bt_meaning.specs.Jobs.{IsJob}
 use Rattle.bt_meaning.proofs.Eachs.{each_so}
 use Rattle.code_bodies.specs.Coding.{CanRunCode, coding}
 use Rattle.actor_plan.specs.Plans.{TakesFew}
-use Rattle.bt_run.specs.declared.job.Job.{Job}
-use Rattle.bt_run.specs.Jobs.{cpus_in, CanRunAll}
+use Rattle.run_base.specs.declared.job.Job.{Job}
+use Rattle.run_base.specs.Jobs.{cpus_in, CanRunAll}
 
 pub few_slots : (codes : List (List Insn)) → AllByRecursion CanRunCode codes → AllByRecursion (λ (code : List Insn). length code ≤ 4096) codes
 few_slots codes can = each_so CanRunCode (λ (code : List Insn). length code ≤ 4096) (λ code c. c.few) codes can
