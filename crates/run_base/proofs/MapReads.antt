@@ -40,7 +40,7 @@ all_first P f zero h = All-nil P
 all_first P f (suc n) h = let e : suc n ≡ n + 1 = omega arith in
     all_more P (of_first f n) (of_first f (suc n)) (f n) (all_first P f n (λ k lt. h k (omega arith))) (h n (omega arith)) (ap (of_first f) e ∙ first_more f n)
 
-some_and : (H : MapDecl → Type 0) (decl : MapDecl) (o : Option MapDecl) → o ≡ Some decl → H decl → IsSomeAnd o H
+pub some_and : (H : MapDecl → Type 0) (decl : MapDecl) (o : Option MapDecl) → o ≡ Some decl → H decl → IsSomeAnd o H
 some_and H decl None e h = absurd (let z : ⊥ = cc in z)
 some_and H decl (Some x) e h = let s : decl ≡ x = cc in subst H s h
 
