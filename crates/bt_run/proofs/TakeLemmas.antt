@@ -47,14 +47,14 @@ module _ (job : Job) (plans : ℕ → Plan) where
   -- an actor's bodies can be run through a port that makes its steps
   pub ready : CanRunAll job plans → (actor : ℕ) (w : World) (plan : Plan) → w ≡ world_for job → plan ≡ plans actor → IsReady plan job.recording job.attached (setting_in w actor)
   ready can actor w plan e f = subst (λ (z : World × Plan). IsReady z.1 job.recording job.attached (setting_in z.0 actor)) (λ i. (sym e i, sym f i)) (let of = can.plans_are actor in record {
-    valid = can.valid;
+    valid = can.replay.valid;
     bodies = of.bodies;
     served = record { actor = sym of.actor_is; actors = sym of.actors; maps = of.served };
     ticks = refl;
-    takes_few = of.few;
-    few_at_events = can.few_at_events;
-    few_begin = can.few_begin;
-    few_end = can.few_end;
+    takes_few = of.takes_few;
+    few_at_events = can.replay.few_at_events;
+    few_begin = can.replay.few_begin;
+    few_end = can.replay.few_end;
   })
 
   -- what one actor did in its turn
