@@ -18,9 +18,10 @@ use Rattle.bt_meaning.specs.Prints.{read_of, lost_after}
 use Rattle.bt_run.specs.declared.objects.MapParts.{MapParts}
 use Rattle.bt_run.specs.declared.objects.Objects.{Objects}
 use Rattle.bt_run.specs.declared.own.OwnObject.{OwnObject}
-use Rattle.bt_run.specs.Moments.{Moment, IsMoment, table_reply, table_lost, part_reply, part_lost, of_first}
+use Rattle.bt_run.specs.Moments.{IsMoment}
+use Rattle.run_base.specs.Moments.{Moment, table_reply, table_lost, part_reply, part_lost, of_first}
 use Rattle.bt_run.specs.Objects.{AllStand, IsPartOf, PartsStand}
-use Rattle.bt_run.proofs.MapReads.{table_reads, table_losses, part_reads, part_losses}
+use Rattle.run_base.proofs.MapReads.{table_reads, table_losses, part_reads, part_losses}
 
 module _ (at : Moment) (objects : Objects) (m : MapId) (decl : MapDecl) (is : IsMoment at objects) (there : slice_get at.world.maps m.0 ≡ Some decl) where
   -- ---- an aggregation

@@ -1,13 +1,8 @@
-pub mod CodeLemmas
 pub mod EndLemmas
 pub mod Finals
-pub mod HeldLemmas
 pub mod ItemLemmas
-pub mod KindLemmas
-pub mod MapReads
 pub mod NewLemmas
 pub mod ObjectLemmas
-pub mod ReadLemmas
 pub mod RunLemmas
 pub mod SerialCount
 pub mod Splitting

@@ -1,10 +1,9 @@
 -- Objects that no step was made at.
-use Rattle.std.proofs.Common.{◌≡◌, ℕ, ◌+◌, ◌<◌, List, [], ◌∷◌, ◌++◌, length, get_or, sym, refl, ap, ◌∙◌, subst, arith, length-append}
-use Rattle.std.specs.Prelude.{All, Some, slice_get, slice_index_or}
+use Rattle.std.proofs.Common.{◌≡◌, ℕ, ◌+◌, ◌<◌, List, [], ◌∷◌, ◌++◌, length, get_or, sym, refl, ap, ◌∙◌, subst, arith}
+use Rattle.std.specs.Prelude.{Some, slice_get, slice_index_or}
 use Rattle.std.proofs.Common.{◌-◌, Option}
 use Rattle.std.proofs.lemmas.List.{get_or-append_right}
 use Rattle.std.proofs.Math.ListN.{get_or-append}
-use Rattle.std.proofs.lemmas.List.Elements.{All-append, All-from_recursion}
 use Rattle.std.proofs.lemmas.Option.{slice_get-get_or}
 use mathlib.Core.Logic.{dite}
 use native.Mathlib.Decide.{ℕ_discrete}
@@ -16,19 +15,14 @@ use Rattle.bt_core.specs.declared.step.Op.{Op}
 use Rattle.step_objects.specs.Clocks.{clock_kind, ClockStands}
 use Rattle.step_objects.specs.CpuTables.{map_at}
 use Rattle.step_objects.specs.Objects.{shared_kind, SharedStands, cpu_kind, CpuStands}
-use Rattle.bt_run.specs.declared.job.Job.{Job}
+use Rattle.run_base.specs.declared.job.Job.{Job}
 use Rattle.bt_run.specs.declared.objects.MapParts.{MapParts}
 use Rattle.bt_run.specs.declared.objects.Objects.{Objects}
 use Rattle.bt_run.specs.declared.own.OwnObject.{OwnObject}
-use Rattle.bt_run.specs.Jobs.{cpus_in, world_for}
+use Rattle.run_base.specs.Jobs.{cpus_in, world_for}
+use Rattle.run_base.proofs.MoreLemmas.{count_more}
 use Rattle.bt_run.specs.News.{IsNew, AreNew, AreNewParts, NewMaps}
 use Rattle.bt_run.specs.Objects.{OwnStands, IsPartOf, Stand}
-
-pub all_more : {A : Type 0} (P : A → Type 0) (xs new : List A) (x : A) → All P xs → P x → new ≡ xs ++ x ∷ [] → All P new
-all_more P xs new x all one e = subst (All P) (sym e) (All-append P xs (x ∷ []) all (All-from_recursion P (x ∷ []) (one, tt)))
-
-pub count_more : {A : Type 0} (xs new : List A) (x : A) → new ≡ xs ++ x ∷ [] → length new ≡ length xs + 1
-count_more xs new x e = let q = ap length e in let l = length-append xs (x ∷ []) in omega arith
 
 last_at : {A : Type 0} (xs : List A) (x d : A) (k : ℕ) → length xs ≡ k → get_or (xs ++ x ∷ []) k d ≡ x
 last_at xs x d k e = get_or-append_right xs (x ∷ []) k k d e (omega arith) ∙ ap (λ n. get_or (x ∷ []) n d) (let z : k - k ≡ 0 = omega arith in z)

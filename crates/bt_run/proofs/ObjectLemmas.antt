@@ -34,8 +34,8 @@ use Rattle.bt_run.specs.declared.own.OwnObject.{OwnObject}
 use Rattle.bt_run.specs.declared.objects.MapParts.{MapParts}
 use Rattle.bt_run.specs.declared.objects.Objects.{Objects}
 use Rattle.bt_run.specs.Took.{Took, TookAt}
-use Rattle.bt_run.proofs.ReadLemmas.{same_decl}
-use Rattle.bt_run.specs.Worlds.{World, IsOwn}
+use Rattle.run_base.proofs.ReadLemmas.{same_decl}
+use Rattle.run_base.specs.Worlds.{World, IsOwn}
 use Rattle.bt_run.specs.Objects.{OwnStands, AllStand, IsPartOf, PartsStand, Stand, IsAnswer}
 
 greatest_snoc : (ss : List Step) (s : Step) → greatest ss ≤ s.stamp → greatest (ss ++ s ∷ []) ≡ s.stamp

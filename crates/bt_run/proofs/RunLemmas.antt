@@ -44,14 +44,14 @@ use Rattle.bpf_insn.specs.declared.insn.Insn.{Insn}
 use Rattle.replay_laws.specs.Agree.{AllReplies}
 use Rattle.replay_laws.specs.HeldReplies.{IsHeldReply}
 use Rattle.code_bodies.specs.Coding.{code_replay, coding}
-use Rattle.bt_run.specs.declared.job.Job.{Job}
+use Rattle.run_base.specs.declared.job.Job.{Job}
 use Rattle.bt_run.specs.declared.objects.Objects.{Objects}
-use Rattle.bt_run.specs.Jobs.{cpus_in, world_for}
+use Rattle.run_base.specs.Jobs.{cpus_in, world_for}
 use Rattle.bt_run.specs.Made.{IsMade}
 use Rattle.bt_run.specs.Moments.{IsMoment}
-use Rattle.bt_run.specs.Worlds.{World, IsOwn}
+use Rattle.run_base.specs.Worlds.{World, IsOwn}
 use Rattle.bt_run.proofs.Finals.{at_objects, by_actor, replayed, operations_same, operations_serial}
-use Rattle.bt_run.proofs.KindLemmas.{operations_by}
+use Rattle.run_base.proofs.KindLemmas.{operations_by}
 use Rattle.bt_run.proofs.SerialCount.{instructions_same, serial_counts}
 
 -- ---- what is emitted stands at the output

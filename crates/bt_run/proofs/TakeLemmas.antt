@@ -18,13 +18,13 @@ use Rattle.bt_meaning.specs.declared.schedule.Scheduled.{Scheduled}
 use Rattle.bt_meaning.specs.Replays.{Replay, answers_of, begin_of, end_of}
 use Rattle.bt_meaning.specs.Schedules.{serial_order, cpu_of_due, item_of_due}
 use Rattle.bt_meaning.specs.Serial.{unstamped, then_steps, then_value, alone, alone_on, taken, begun_steps, taken_steps, serial_steps}
-use Rattle.bt_run.specs.declared.job.Job.{Job}
+use Rattle.run_base.specs.declared.job.Job.{Job}
 use Rattle.bt_run.specs.declared.objects.Objects.{Objects}
 use Rattle.bt_run.specs.Counts.{taken_count, TakesNext}
-use Rattle.bt_run.specs.Jobs.{cpus_in, replay_with, world_for, CanRunAll}
+use Rattle.run_base.specs.Jobs.{cpus_in, replay_with, world_for, CanRunAll}
 use Rattle.bt_run.specs.Made.{IsMade}
 use Rattle.bt_run.specs.Runs.{Seen, IsSeen, IsRunOf, IsLeft}
-use Rattle.bt_run.specs.Worlds.{World, setting_in, answers}
+use Rattle.run_base.specs.Worlds.{World, setting_in, answers}
 use Rattle.bt_meaning.proofs.Stepping.{takes_made, unstamped_length}
 
 drop_own : (a b : List Step) → drop (length a) (a ++ b) ≡ b
@@ -47,14 +47,14 @@ module _ (job : Job) (plans : ℕ → Plan) where
   -- an actor's bodies can be run through a port that makes its steps
   pub ready : CanRunAll job plans → (actor : ℕ) (w : World) (plan : Plan) → w ≡ world_for job → plan ≡ plans actor → IsReady plan job.recording job.attached (setting_in w actor)
   ready can actor w plan e f = subst (λ (z : World × Plan). IsReady z.1 job.recording job.attached (setting_in z.0 actor)) (λ i. (sym e i, sym f i)) (let of = can.plans_are actor in record {
-    valid = can.valid;
+    valid = can.replay.valid;
     bodies = of.bodies;
     served = record { actor = sym of.actor_is; actors = sym of.actors; maps = of.served };
     ticks = refl;
-    takes_few = of.few;
-    few_at_events = can.few_at_events;
-    few_begin = can.few_begin;
-    few_end = can.few_end;
+    takes_few = of.takes_few;
+    few_at_events = can.replay.few_at_events;
+    few_begin = can.replay.few_begin;
+    few_end = can.replay.few_end;
   })
 
   -- what one actor did in its turn

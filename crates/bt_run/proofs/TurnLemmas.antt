@@ -9,7 +9,7 @@ use Rattle.weave.specs.Woven.{begin_steps, main_clock, actor_clock}
 use Rattle.weave.proofs.Among.{Has, each_has, each_from, has_middle, has_front, filter_all}
 use Rattle.bt_run.specs.declared.objects.Objects.{Objects}
 use Rattle.bt_run.specs.declared.port.Turn.{Turn}
-use Rattle.bt_run.specs.Worlds.{World}
+use Rattle.run_base.specs.Worlds.{World}
 use Rattle.bt_run.specs.Runs.{IsCpuTurn, IsTurnBy, IsRunOf, first_turn}
 
 all_own : (a : ℕ) (ss : List Step) → Each (λ s. s.actor ≡ a) ss → of_actor a ss ≡ ss

@@ -1,10 +1,7 @@
 pub mod Counts
-pub mod Held
-pub mod Jobs
 pub mod Made
 pub mod Moments
 pub mod News
 pub mod Objects
 pub mod Runs
 pub mod Took
-pub mod Worlds

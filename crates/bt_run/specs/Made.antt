@@ -6,12 +6,12 @@ use Rattle.turn_lock.specs.History.{Each}
 use Rattle.weave.specs.Woven.{StampsFollow, StandsBetween}
 use Rattle.actor_plan.specs.Plans.{Plan}
 use Rattle.bt_meaning.specs.Serial.{unstamped, begun_steps, serial_steps}
-use Rattle.bt_run.specs.declared.job.Job.{Job}
+use Rattle.run_base.specs.declared.job.Job.{Job}
 use Rattle.bt_run.specs.declared.objects.Objects.{Objects}
 use Rattle.bt_run.specs.Counts.{serial_count}
-use Rattle.bt_run.specs.Jobs.{cpus_in, replay_with, world_for}
+use Rattle.run_base.specs.Jobs.{cpus_in, replay_with, world_for}
 use Rattle.bt_run.specs.Objects.{Stand}
-use Rattle.bt_run.specs.Worlds.{answers, IsOwn}
+use Rattle.run_base.specs.Worlds.{answers, IsOwn}
 
 -- these steps are the serial list, stamped by both clocks, and the objects stand for them
 pub record IsMade (job : Job) (plans : ℕ → Plan) (objects : Objects) (steps : List Step) (instructions : ℕ) : Type 0 where

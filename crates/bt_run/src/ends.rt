@@ -2,10 +2,9 @@
 ghost use Rattle.std.specs.Prelude.{◌≡◌, ◌<◌, ◌^◌, Some, slice_get, length, All, IfOk};
 ghost use Rattle.map_printer.specs.Ends.{end_text};
 ghost use Rattle.bt_meaning.specs.Prints.{read_of, rows_after, lost_after, of_maps};
-ghost use Rattle.bt_run.specs.Moments.{Moment, IsMoment};
+ghost use Rattle.bt_run.specs.Moments.{IsMoment};
+ghost use Rattle.run_base.specs.Moments.{Moment};
 
-use crate::job::Job;
-use crate::numbers::number;
 use crate::objects::Objects;
 use crate::reads::{part_losses, part_replies, table_losses, table_replies};
 use bt_core::item::Cell;
@@ -16,6 +15,8 @@ use bt_core::memory::Memory;
 use bt_core::step::{Reply, Step};
 use map_printer::merging::merged;
 use map_printer::printing::print_end;
+use run_base::job::Job;
+use run_base::numbers::number;
 use std::alloc::Global;
 use std::snapshot::Snapshot;
 

@@ -3,18 +3,18 @@ ghost use Rattle.std.specs.Prelude.{◌≡◌, ◌+◌, ◌<◌, ◌^◌, [], le
 ghost use Rattle.bt_core.specs.Kinds.{IsFineDecl, IsShared};
 ghost use Rattle.bt_core.specs.declared.limits.TheConstants.{PARTS as ALL_PARTS};
 ghost use Rattle.step_objects.specs.Objects.{shared_kind, SharedStands, cpu_kind, CpuStands};
-ghost use Rattle.bt_run.specs.Jobs.{cpus_in, world_for};
+ghost use Rattle.run_base.specs.Jobs.{cpus_in, world_for};
 ghost use Rattle.bt_run.specs.News.{AreNew, AreNewParts, NewMaps};
 ghost use Rattle.bt_run.specs.Objects.{Stand};
 
-use crate::job::Job;
-use crate::numbers::number;
 use crate::objects::{MapParts, Objects};
 use crate::own::OwnObject;
 use bt_core::items::Items;
 use bt_core::limits::PARTS;
 use bt_core::map::{MapDecl, MapId, MapKind};
 use bt_core::memory::{Memory, TryCopy};
+use run_base::job::Job;
+use run_base::numbers::number;
 use std::alloc::Global;
 use step_objects::clock::TickClock;
 use step_objects::cpu::CpuTable;

@@ -5,14 +5,14 @@ ghost use Rattle.bt_core.specs.declared.step.ObjectId.TheVariants.{Shared as Par
 ghost use Rattle.bt_core.specs.declared.step.Step.{Step};
 ghost use Rattle.step_objects.specs.Objects.{cpu_kind, CpuStands, shared_kind, SharedStands, IsAggMap};
 ghost use Rattle.bt_run.specs.declared.own.OwnObject.{OwnObject};
-ghost use Rattle.bt_run.specs.Moments.{table_reply, table_lost, part_reply, part_lost, of_first};
+ghost use Rattle.run_base.specs.Moments.{table_reply, table_lost, part_reply, part_lost, of_first};
 ghost use Rattle.bt_run.specs.Objects.{AllStand, IsPartOf};
 
-use crate::numbers::sum;
 use crate::own::OwnObject;
 use bt_core::map::MapId;
 use bt_core::memory::Memory;
 use bt_core::step::Reply;
+use run_base::numbers::sum;
 use std::alloc::Global;
 use step_objects::cpu::CpuTable;
 use step_objects::shared::SharedPart;

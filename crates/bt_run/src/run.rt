@@ -14,15 +14,15 @@ ghost use Rattle.code_bodies.specs.Coding.{code_replay};
 ghost use Rattle.script_programs.specs.Programs.{AreCodesOf, KeepScript};
 
 use crate::ends::end_of;
-use crate::held::{job_is_held, replies_are_held};
 use crate::items::write_steps;
-use crate::job::{Job, Work};
 use crate::new_objects::new_objects;
 use crate::serial::make_steps;
 use bt_core::items::Items;
 use bt_core::memory::Memory;
 use bt_meaning::schedule::schedule;
 use code_bodies::laws::{code_means_walks, codes_take_few};
+use run_base::held::{job_is_held, replies_are_held};
+use run_base::job::{Job, Work};
 use script_programs::codes::codes_of;
 use std::alloc::Global;
 use std::snapshot::Snapshot;

@@ -6,14 +6,11 @@ ghost use Rattle.bt_meaning.specs.Schedules.{serial_order, cpu_of_due as due_cpu
 ghost use Rattle.bt_meaning.specs.Replays.{begin_of, end_of};
 ghost use Rattle.bt_meaning.specs.Serial.{unstamped, then_steps, then_value, taken};
 ghost use Rattle.bt_run.specs.Counts.{taken_count, TakesNext};
-ghost use Rattle.bt_run.specs.Jobs.{coded_by, cpus_in, plans_by, world_for, CanRunAll};
+ghost use Rattle.run_base.specs.Jobs.{coded_by, cpus_in, plans_by, world_for, CanRunAll};
 ghost use Rattle.bt_run.specs.Made.{IsMade};
 ghost use Rattle.bt_run.specs.Objects.{Stand};
 ghost use Rattle.bt_run.specs.Runs.{first_turn};
 
-use crate::bodies::bodies_at;
-use crate::job::Job;
-use crate::numbers::sum;
 use crate::objects::Objects;
 use crate::port::SerialPort;
 use actor_plan::agenda::AgendaItem;
@@ -23,6 +20,9 @@ use bt_core::items::Items;
 use bt_core::memory::Memory;
 use bt_core::step::Step;
 use bt_meaning::schedule::{Due, Scheduled};
+use run_base::bodies::bodies_at;
+use run_base::job::Job;
+use run_base::numbers::sum;
 use std::alloc::Global;
 
 /// Whose item it is.

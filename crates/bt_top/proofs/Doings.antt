@@ -9,8 +9,8 @@ use Rattle.bt_meaning.specs.Interleavings.{IsReplayed}
 use Rattle.bt_meaning.specs.Prints.{printed_text}
 use Rattle.bt_meaning.specs.Replays.{cpus_of}
 use Rattle.bt_meaning.specs.Serial.{serial_steps, unstamped}
-use Rattle.bt_run.specs.declared.job.Job.{Job}
-use Rattle.bt_run.specs.declared.job.Work.{Work}
+use Rattle.run_base.specs.declared.job.Job.{Job}
+use Rattle.run_base.specs.declared.job.Work.{Work}
 use Rattle.code_bodies.specs.Coding.{code_replay}
 use Rattle.script_programs.specs.Programs.{AreCodesOf}
 use Rattle.bt_top.specs.declared.report.Report.{Report}

@@ -12,7 +12,7 @@ use Rattle.bt_ast.specs.declared.probe.Script.{Script as Tree}
 use Rattle.bt_attach.specs.Attaching.{IsAttachedTo, attach_fault}
 use Rattle.bt_meaning.specs.Jobs.{IsJob}
 use Rattle.bt_types.specs.Script.{IsTypedScript}
-use Rattle.bt_run.specs.declared.job.Job.{Job}
+use Rattle.run_base.specs.declared.job.Job.{Job}
 use Rattle.bt_top.specs.declared.judge.ScriptJob.{ScriptJob}
 use Rattle.bt_top.specs.declared.refusal.ScriptRefusal.TheVariants as script
 use Rattle.bt_top.specs.declared.refusal.RecordingRefusal.TheVariants as recording

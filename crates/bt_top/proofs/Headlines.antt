@@ -10,7 +10,7 @@ use Rattle.bt_meaning.specs.Jobs.{IsJob}
 use Rattle.bt_meaning.specs.Replays.{Replay}
 use Rattle.bt_meaning.specs.Ticks.{TicksComeAfter}
 use Rattle.bt_meaning.specs.Walks.{replay_of}
-use Rattle.bt_run.specs.declared.job.Job.{Job}
+use Rattle.run_base.specs.declared.job.Job.{Job}
 use Rattle.run_laws.specs.Reads.{ReadsSeeBeginnings}
 use Rattle.rec_format.specs.declared.recording.Recording.{Recording as Recorded}
 use Rattle.typed_tree.specs.declared.script.Typed.{Typed}

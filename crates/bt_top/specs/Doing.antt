@@ -6,8 +6,8 @@ use Rattle.bt_ast.specs.declared.attached.Attached.{Attached}
 use Rattle.bt_ast.specs.declared.attached.BodyId.{BodyId}
 use Rattle.bt_ast.specs.declared.probe.Script.{Script as Tree}
 use Rattle.bt_core.specs.declared.place.Place.{Place}
-use Rattle.bt_run.specs.declared.job.Job.{Job}
-use Rattle.bt_run.specs.declared.job.Work.{Work}
+use Rattle.run_base.specs.declared.job.Job.{Job}
+use Rattle.run_base.specs.declared.job.Work.{Work}
 use Rattle.rec_format.specs.declared.recording.Recording.{Recording as Recorded}
 use Rattle.rec_format.specs.Recordings.{recording_bytes}
 use Rattle.rec_gen.specs.Made.{IsMade}

@@ -5,8 +5,8 @@ use Rattle.bt_meaning.specs.Interleavings.{IsInterleaving}
 use Rattle.bt_meaning.specs.Prints.{printed_text}
 use Rattle.bt_meaning.specs.Replays.{cpus_of}
 use Rattle.bt_meaning.specs.Ticks.{TicksComeAfter}
-use Rattle.bt_run.specs.declared.job.Job.{Job}
-use Rattle.bt_run.specs.declared.job.Work.{Work}
+use Rattle.run_base.specs.declared.job.Job.{Job}
+use Rattle.run_base.specs.declared.job.Work.{Work}
 use Rattle.run_laws.specs.Reads.{ReadsSeeBeginnings}
 use Rattle.bt_top.specs.declared.report.Report.{Report}
 use Rattle.bt_top.specs.declared.words.Operands.{Operands}

@@ -18,8 +18,8 @@ use Rattle.bt_meaning.specs.Prints.{printed_text}
 use Rattle.bt_meaning.specs.Replays.{Replay, cpus_of}
 use Rattle.bt_meaning.specs.Serial.{serial_steps, unstamped}
 use Rattle.bt_meaning.specs.Walks.{replay_of}
-use Rattle.bt_run.specs.declared.job.Job.{Job}
-use Rattle.bt_run.specs.declared.job.Work.{Work}
+use Rattle.run_base.specs.declared.job.Job.{Job}
+use Rattle.run_base.specs.declared.job.Work.{Work}
 use Rattle.bt_types.specs.Script.{IsTypedScript}
 use Rattle.code_bodies.specs.Coding.{code_replay}
 use Rattle.rec_format.specs.declared.recording.Recording.{Recording as Recorded}

@@ -9,7 +9,7 @@ use crate::refusal::{Operand, Refusal, read_refusal};
 use crate::words::Order;
 use bt_core::limits::{RECORDING_BYTES, SCRIPT_BYTES};
 use bt_io::shelf::Shelf;
-use bt_run::job::Job;
+use run_base::job::Job;
 use std::alloc::Global;
 
 /// Reads both files, and answers what they ask for.

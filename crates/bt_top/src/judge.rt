@@ -13,10 +13,10 @@ use bpf_codegen::generate::Program;
 use bt_ast::attached::Attached;
 use bt_attach::attach::attach;
 use bt_core::items::Items;
-use bt_run::job::Job;
 use bt_types::script::check;
 use rec_format::reading::read_recording;
 use rec_format::recording::Recording;
+use run_base::job::Job;
 use std::alloc::Global;
 use typed_tree::script::Typed;
 

@@ -5,7 +5,7 @@ ghost use Rattle.bt_top.specs.Refusals.{status_of};
 use crate::refusal::{Refusal, status_of};
 use bpf_codegen::generate::Program;
 use bt_core::items::Items;
-use bt_run::job::Work;
+use run_base::job::Work;
 use std::alloc::Global;
 
 /// What a call answers: the exit status, why it was refused where it was, the work that was done, which is there at status 0

@@ -11,7 +11,7 @@ use crate::line::{Piece, write_pieces};
 use crate::tasks::Done;
 use crate::words::Task;
 use bt_io::sink::{Sink, SinkFailed, write_all};
-use bt_run::job::Work;
+use run_base::job::Work;
 
 /// Whether the task is a run that tells the number of its instructions.
 fn tells_instructions(task: Task) -> bool

@@ -1,11 +1,9 @@
 -- What a clause says of what all actors share, and of an actor's turns at it.
-use Rattle.std.specs.Prelude.{◌≡◌, ℕ, ◌+◌, ◌≤◌, List, All, length}
-use Rattle.bt_core.specs.declared.limits.TheConstants.{BODIES, TICKS}
+use Rattle.std.specs.Prelude.{◌≡◌, ℕ, ◌+◌, List, length}
 use Rattle.bt_core.specs.declared.map.MapDecl.{MapDecl}
 use Rattle.bt_core.specs.Ports.{Setting}
-use Rattle.rec_format.specs.Recordings.{IsValidRecording}
-use Rattle.actor_plan.specs.Agendas.{AreInTurn}
-use Rattle.actor_plan.specs.Plans.{Plan, AreServed, HasBodies, TakesFew}
+use Rattle.actor_plan.specs.Plans.{Plan}
+use Rattle.actor_plan.specs.Ready as ready
 use Rattle.stamped.specs.declared.trace.Trace.{Trace}
 use Rattle.stamped.specs.SetSteps.{AreOwn}
 use Rattle.percpu_tables.specs.declared.tables.Tables.{Tables}
@@ -65,21 +63,10 @@ pub record KeepsOwn (sets : Sets) (old_turns : WorkerTurns) (old : Trace) (new_t
   pub tables : AreOwn (tables.ids_of sets.tables) old_turns.tables.1 old → AreOwn (tables.ids_of sets.tables) new_turns.tables.1 new
   pub sides : OwnBoth old_turns.sides old → OwnBoth new_turns.sides new
 
--- The recording is valid, the attached ticks stand in their order, and there are no more ticks, and nowhere more bodies, than a
--- script may have.
-pub record CanReplay (world : World) : Type 0 where
-  pub valid : IsValidRecording world.recording.now
-  pub in_turn : AreInTurn world.attached.now.ticks
-  pub few_ticks : length world.attached.now.ticks ≤ TICKS
-  pub few_at_events : All (λ (which : List ℕ). length which ≤ BODIES) world.attached.now.by_format
-  pub few_begin : length world.attached.now.begin ≤ BODIES
-  pub few_end : length world.attached.now.end ≤ BODIES
+-- the world's recording can be replayed with what is attached
+abbrev pub CanReplay : World → Type 0
+CanReplay world = ready.CanReplay world.recording.now world.attached.now
 
--- Bodies with this plan are made for this actor of the world: they tell as many actors and maps of the script, all that is
--- attached is among them, and no run takes more instructions than the limit.
-pub record IsPlanIn (world : World) (actor : ℕ) (plan : Plan) : Type 0 where
-  pub actor_is : plan.actor ≡ actor
-  pub actors : plan.actors ≡ cpus_in world + 1
-  pub served : AreServed plan.maps (maps_in world)
-  pub bodies : HasBodies plan world.recording.now.formats world.attached.now
-  pub takes_few : TakesFew plan
+-- bodies with this plan are made for this actor of the world
+abbrev pub IsPlanIn : World → ℕ → Plan → Type 0
+IsPlanIn world = ready.IsPlanFor world.recording.now world.attached.now (maps_in world)

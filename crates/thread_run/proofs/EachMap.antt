@@ -1,5 +1,5 @@
 -- What is read map by map, over the parts of each shared map in turn.
-use Rattle.std.proofs.Common.{◌≡◌, ◌⊎◌, inl, inr, ℕ, zero, suc, ◌+◌, ◌<◌, ◌≤◌, List, [], ◌∷◌, ◌++◌, length, get_or, take, drop, refl, sym, ap, ◌∙◌, subst, arith, append_assoc, drop-drop, length-drop}
+use Rattle.std.proofs.Common.{◌≡◌, ℕ, zero, suc, ◌+◌, ◌<◌, ◌≤◌, List, [], ◌∷◌, ◌++◌, length, get_or, take, drop, refl, sym, ap, ◌∙◌, subst, arith, append_assoc, drop-drop, length-drop}
 use Rattle.std.specs.Prelude.{Some, slice_get}
 use Rattle.std.proofs.lemmas.List.{drop_more}
 use Rattle.std.proofs.lemmas.Option.{slice_get_read}
@@ -7,7 +7,7 @@ use Rattle.bt_core.specs.declared.map.AggKind.{AggKind}
 use Rattle.bt_core.specs.declared.map.MapDecl.{MapDecl}
 use Rattle.bt_core.specs.declared.map.MapId.{MapId}
 use Rattle.bt_core.specs.declared.map.MapKind.{MapKind}
-use Rattle.bt_core.specs.declared.map.MapKind.TheVariants.{Ints, Strs, Aggs}
+use Rattle.bt_core.specs.declared.map.MapKind.TheVariants.{Aggs}
 use Rattle.bt_core.specs.declared.step.Step.{Step}
 use Rattle.bt_core.specs.Kinds.{IsShared, IsAggregation}
 use Rattle.turn_lock.specs.declared.entry.Entry.{Entry}
@@ -15,15 +15,11 @@ use Rattle.step_objects.specs.declared.shared.SharedPart.{SharedPart}
 use Rattle.step_objects.specs.CpuTables.{map_at}
 use Rattle.shared_maps.specs.Parts.{parts_in, parts_from}
 use Rattle.bt_meaning.specs.Prints.{of_maps}
-use Rattle.bt_run.specs.Moments.{Moment}
+use Rattle.run_base.specs.Moments.{Moment}
 use Rattle.thread_run.specs.declared.closed.Closed.{Closed}
 use Rattle.thread_run.specs.Closed.{AreClosedAt, IsMapAt, PartsStand, ArePartsOf}
 use Rattle.thread_run.proofs.Objects.{all_parts}
 use Rattle.thread_run.proofs.Reading.{own_long, own_in_places, others_stand}
-
-pub shared_of : (kind : MapKind) → (kind ≡ Ints) ⊎ (kind ≡ Strs) → IsShared kind
-shared_of kind (inl e) = subst IsShared (sym e) tt
-shared_of kind (inr e) = subst IsShared (sym e) tt
 
 pub aggregation_of : (kind : MapKind) (k : AggKind) → kind ≡ Aggs k → IsAggregation kind
 aggregation_of kind k e = subst IsAggregation (sym e) tt

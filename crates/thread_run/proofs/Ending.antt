@@ -20,7 +20,7 @@ use Rattle.cpu_worker.specs.Chains.{IsBy}
 use Rattle.cpu_worker.specs.Worlds.{cpus_in, sets_in, setting_in, AreTurnsOf, AreOwnIn, IsPlanIn}
 use Rattle.thread_run.specs.declared.main_actor.MainActor.{MainActor}
 use Rattle.thread_run.specs.declared.tasks.Gathered.{Gathered}
-use Rattle.bt_run.specs.Jobs.{HavePlans}
+use Rattle.run_base.specs.Jobs.{HavePlans}
 use Rattle.thread_run.specs.Acts.{ArePlansIn, HasDone, replay_in, CanMake, HaveGone, AreDone}
 use Rattle.thread_run.specs.Turns.{AreUnused, AreTurnsFrom, AllOwn}
 use Rattle.thread_run.proofs.Running.{climbs_greatest, can_make}

@@ -1,6 +1,6 @@
 -- What the closed objects that hold a map tell of it.
 use Rattle.std.proofs.Common.{◌≡◌, ℕ, zero, suc, ◌+◌, ◌<◌, List, [], ◌∷◌, ◌++◌, length, map, sum, get_or, take, drop, refl, sym, ap, ◌∙◌, subst, arith}
-use Rattle.std.specs.Prelude.{All, Option, Some, None, IsSomeAnd, slice_get}
+use Rattle.std.specs.Prelude.{All, Some, slice_get}
 use Rattle.bt_core.specs.declared.limits.TheConstants.{PARTS}
 use Rattle.bt_core.specs.declared.map.AggKind.{AggKind}
 use Rattle.bt_core.specs.declared.map.MapDecl.{MapDecl}
@@ -25,8 +25,8 @@ use Rattle.shared_maps.specs.Parts.{part_at, parts_in, parts_from}
 use Rattle.run_ends.specs.Closed.{StandsAt, AllStand}
 use Rattle.map_printer.specs.Merged.{HasRowsOf}
 use Rattle.bt_meaning.specs.Prints.{read_of, lost_after}
-use Rattle.bt_run.specs.Moments.{Moment, table_reply, table_lost, part_reply, part_lost, of_first}
-use Rattle.bt_run.proofs.MapReads.{table_reads, table_losses, part_reads, part_losses, reads_have_rows}
+use Rattle.run_base.specs.Moments.{Moment, table_reply, table_lost, part_reply, part_lost, of_first}
+use Rattle.run_base.proofs.MapReads.{some_and, table_reads, table_losses, part_reads, part_losses, reads_have_rows}
 use Rattle.thread_run.specs.Closed.{IsMapAt, part_id, part_kind, PartsStand, TablesStand, ArePartsOf, AreTablesOf}
 use Rattle.thread_run.proofs.Objects.{ids_map, kinds_map}
 
@@ -122,10 +122,6 @@ module _ (steps : List Step) (m : ℕ) (decl : MapDecl) (rest : List MapDecl) (c
       (stand_back shared_kind SharedStands steps ids (map part_id (parts_from (m + 1) rest)) kinds (map part_kind (parts_from (m + 1) rest)) cs (ids_long ∙ sym kinds_long) both)
 
 -- ---- kinds of maps
-
-pub some_and : (P : MapDecl → Type 0) (decl : MapDecl) (o : Option MapDecl) → o ≡ Some decl → P decl → IsSomeAnd o P
-some_and P decl None e h = absurd (let z : ⊥ = cc in z)
-some_and P decl (Some x) e h = let s : decl ≡ x = cc in subst P s h
 
 pub agg_kind : (kind : MapKind) → IsAggregation kind → (k : AggKind) × (kind ≡ Aggs k)
 agg_kind Ints h = absurd h

@@ -25,7 +25,7 @@ use Rattle.cpu_worker.specs.Chains.{clock_after, Climbs, IsBy, HasWalked}
 use Rattle.thread_run.specs.Ran.{HasRun}
 use Rattle.cpu_worker.specs.Workers.{program_in, IsReady}
 use Rattle.cpu_worker.specs.Worlds.{cpus_in, sets_in, setting_in, AreTurnsOf, CanReplay, IsPlanIn}
-use Rattle.bt_run.specs.Jobs.{HavePlans}
+use Rattle.run_base.specs.Jobs.{HavePlans}
 use Rattle.thread_run.specs.declared.tasks.Gathered.{Gathered}
 use Rattle.thread_run.specs.Acts.{replay_in, ArePlansIn, CanMake, HaveRun, HaveGone}
 use Rattle.thread_run.specs.Tasks.{count_of, IsWell, bodies_in, turns_in, trace_in, count_in, HasEndedWell, IsFresh}

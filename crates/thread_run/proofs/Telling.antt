@@ -15,8 +15,8 @@ use Rattle.bpf_insn.specs.declared.insn.Insn.{Insn}
 use Rattle.bt_meaning.specs.Instructions.{instructions_of}
 use Rattle.bt_meaning.specs.Interleavings.{IsReplayed}
 use Rattle.code_bodies.specs.Coding.{code_replay, coding}
-use Rattle.bt_run.specs.declared.job.Job.{Job}
-use Rattle.bt_run.specs.Jobs.{cpus_in, world_for}
+use Rattle.run_base.specs.declared.job.Job.{Job}
+use Rattle.run_base.specs.Jobs.{cpus_in, world_for}
 use Rattle.thread_run.specs.declared.closed.Closed.{Closed}
 use Rattle.thread_run.specs.Closed.{AreClosedAt}
 use Rattle.thread_run.specs.Made.{IsMade}

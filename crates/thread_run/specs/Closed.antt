@@ -16,8 +16,8 @@ use Rattle.step_objects.specs.declared.shared.SharedPart.{SharedPart}
 use Rattle.step_objects.specs.Objects.{shared_kind, SharedStands, cpu_kind, CpuStands}
 use Rattle.shared_maps.specs.Parts.{Part, parts_from}
 use Rattle.run_ends.specs.Closed.{StandsAt, AllStand}
-use Rattle.bt_run.specs.Moments.{Moment}
-use Rattle.bt_run.specs.Worlds.{IsOwn}
+use Rattle.run_base.specs.Moments.{Moment}
+use Rattle.run_base.specs.Worlds.{IsOwn}
 use Rattle.thread_run.specs.declared.closed.Closed.{Closed}
 
 abbrev pub part_id : Part → ObjectId

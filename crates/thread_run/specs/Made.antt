@@ -4,8 +4,8 @@ use Rattle.bt_core.specs.declared.step.Step.{Step}
 use Rattle.actor_plan.specs.Plans.{Plan}
 use Rattle.bt_meaning.specs.Instructions.{instructions_of}
 use Rattle.bt_meaning.specs.Interleavings.{IsReplayed}
-use Rattle.bt_run.specs.declared.job.Job.{Job}
-use Rattle.bt_run.specs.Jobs.{replay_with, world_for}
+use Rattle.run_base.specs.declared.job.Job.{Job}
+use Rattle.run_base.specs.Jobs.{replay_with, world_for}
 use Rattle.thread_run.specs.declared.closed.Closed.{Closed}
 use Rattle.thread_run.specs.Closed.{AreClosedAt}
 

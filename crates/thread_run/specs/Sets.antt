@@ -3,8 +3,8 @@ use Rattle.std.specs.Prelude.{◌≡◌, ◌+◌, List, length, map}
 use Rattle.percpu_tables.specs.Tables as tables_in
 use Rattle.shared_maps.specs.Maps as parts_in
 use Rattle.side_locks.specs.Sides as sides_in
-use Rattle.bt_run.specs.declared.job.Job.{Job}
-use Rattle.bt_run.specs.Jobs.{cpus_in}
+use Rattle.run_base.specs.declared.job.Job.{Job}
+use Rattle.run_base.specs.Jobs.{cpus_in}
 use Rattle.cpu_worker.specs.declared.world.WorkerTurns.{WorkerTurns}
 use Rattle.thread_run.specs.declared.sets.Sets.{Sets}
 use Rattle.thread_run.specs.Turns.{at_maps, at_tables, at_sides}

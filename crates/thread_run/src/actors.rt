@@ -2,7 +2,7 @@
 ghost use Rattle.std.specs.Prelude.{◌≡◌, ℕ, ◌+◌, ◌<◌, length, IfOk};
 ghost use Rattle.turn_lock.specs.History.{Each};
 ghost use Rattle.actor_plan.specs.Plans.{Plan};
-ghost use Rattle.bt_run.specs.Jobs.{HavePlans};
+ghost use Rattle.run_base.specs.Jobs.{HavePlans};
 ghost use Rattle.cpu_worker.specs.Worlds.{cpus_in, sets_in, CanReplay};
 ghost use Rattle.thread_run.specs.Acts.{ArePlansIn, replay_in, HaveGone, AreDone};
 ghost use Rattle.thread_run.specs.Turns.{AreTurnsFrom, AreUnused};
@@ -12,8 +12,8 @@ use crate::side_by_side::run_all;
 use crate::tasks::{Gathered, gather, latest_clock, new_tasks};
 use actor_plan::bodies::Bodies;
 use bt_core::memory::Memory;
-use bt_run::numbers::sum;
 use cpu_worker::world::{WorkerTurns, World};
+use run_base::numbers::sum;
 use stamped::trace::Trace;
 use std::alloc::Global;
 use std::sync::Wait;

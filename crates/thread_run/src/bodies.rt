@@ -3,14 +3,14 @@ ghost use Rattle.std.specs.Prelude.{◌+◌, ◌<◌, ◌^◌, IfOk};
 ghost use Rattle.std.specs.List.{AllByRecursion};
 ghost use Rattle.code_bodies.specs.Coding.{CanRunCode};
 ghost use Rattle.code_bodies.specs.Running.{plan_of};
-ghost use Rattle.bt_run.specs.Jobs.{cpus_in, plans_by, HavePlans};
+ghost use Rattle.run_base.specs.Jobs.{cpus_in, plans_by, HavePlans};
 
 use bpf_insn::insn::Insn;
 use bt_core::items::Items;
 use bt_core::memory::Memory;
-use bt_run::bodies::bodies_at;
-use bt_run::job::Job;
 use code_bodies::code_bodies::CodeBodies;
+use run_base::bodies::bodies_at;
+use run_base::job::Job;
 use std::alloc::Global;
 
 /// What runs the bodies of a job's script by these codes, for each actor: the CPUs by their places, and the main actor.

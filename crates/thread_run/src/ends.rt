@@ -6,8 +6,8 @@ ghost use Rattle.bt_core.specs.declared.map.MapKind.TheVariants.{Aggs as IsAggs}
 ghost use Rattle.bt_core.specs.Kinds.{IsFineDecl, IsShared, IsAggregation};
 ghost use Rattle.turn_lock.specs.History.{Each};
 ghost use Rattle.bt_meaning.specs.Prints.{rows_after, lost_after, of_maps};
-ghost use Rattle.bt_run.specs.Moments.{Moment};
-ghost use Rattle.bt_run.specs.Worlds.{IsOwn};
+ghost use Rattle.run_base.specs.Moments.{Moment};
+ghost use Rattle.run_base.specs.Worlds.{IsOwn};
 ghost use Rattle.thread_run.specs.Closed.{AreClosedAt, ArePartsOf, AreTablesOf, IsMapAt};
 
 use crate::closed::Closed;
@@ -18,8 +18,8 @@ use bt_core::key::Key;
 use bt_core::limits::PARTS;
 use bt_core::map::{MapDecl, MapId, MapKind};
 use bt_core::memory::Memory;
-use bt_run::numbers::number;
 use map_printer::merging::merged;
+use run_base::numbers::number;
 use std::alloc::Global;
 use step_objects::cpu::CpuTable;
 use step_objects::shared::SharedPart;

@@ -2,7 +2,7 @@
 ghost use Rattle.std.specs.Prelude.{IfOk};
 ghost use Rattle.std.specs.List.{AllByRecursion};
 ghost use Rattle.code_bodies.specs.Coding.{CanRunCode};
-ghost use Rattle.bt_run.specs.Jobs.{plans_by, CanRunAll};
+ghost use Rattle.run_base.specs.Jobs.{plans_by, CanRunAll};
 ghost use Rattle.thread_run.specs.Made.{IsMade};
 
 use crate::actors::run_actors;
@@ -15,8 +15,8 @@ use bpf_insn::insn::Insn;
 use bt_core::items::Items;
 use bt_core::memory::Memory;
 use bt_core::step::Step;
-use bt_run::job::Job;
 use cpu_worker::world::World;
+use run_base::job::Job;
 use std::alloc::Global;
 use std::sync::Wait;
 use std::thread::Threads;

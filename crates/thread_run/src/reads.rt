@@ -4,13 +4,13 @@ ghost use Rattle.bt_core.specs.declared.map.MapDecl.{MapDecl};
 ghost use Rattle.bt_core.specs.declared.step.Step.{Step};
 ghost use Rattle.turn_lock.specs.declared.entry.Entry.{Entry};
 ghost use Rattle.step_objects.specs.Objects.{cpu_kind, shared_kind, IsAggMap};
-ghost use Rattle.bt_run.specs.Moments.{table_reply, table_lost, part_reply, part_lost, of_first};
+ghost use Rattle.run_base.specs.Moments.{table_reply, table_lost, part_reply, part_lost, of_first};
 ghost use Rattle.thread_run.specs.Closed.{ArePartsOf, AreTablesOf};
 
 use bt_core::map::MapId;
 use bt_core::memory::Memory;
 use bt_core::step::Reply;
-use bt_run::numbers::sum;
+use run_base::numbers::sum;
 use std::alloc::Global;
 use step_objects::cpu::CpuTable;
 use step_objects::shared::SharedPart;

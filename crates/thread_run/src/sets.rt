@@ -2,15 +2,15 @@
 ghost use Rattle.std.specs.Prelude.{◌≡◌, ◌+◌, ◌<◌, ◌^◌, All, length, IfOk};
 ghost use Rattle.bt_core.specs.Kinds.{IsFineDecl};
 ghost use Rattle.turn_lock.specs.History.{Each};
-ghost use Rattle.bt_run.specs.Jobs.{cpus_in};
+ghost use Rattle.run_base.specs.Jobs.{cpus_in};
 ghost use Rattle.thread_run.specs.Turns.{AreUnused};
 ghost use Rattle.thread_run.specs.Sets.{AreFor, AreAllTurns};
 
 use crate::turns::joined;
 use bt_core::memory::Memory;
-use bt_run::job::Job;
 use cpu_worker::world::WorkerTurns;
 use percpu_tables::tables::Tables;
+use run_base::job::Job;
 use shared_maps::maps::SharedMaps;
 use side_locks::sides::SideLocks;
 use std::alloc::Global;

@@ -1,7 +1,7 @@
 use Rattle.std.proofs.Common.{length, sym, ap, ◌∙◌, subst}
 use Rattle.map_printer.specs.Ends.{AllRowsFit}
 use Rattle.bt_meaning.specs.Prints.{rows_after, lost_after}
-use Rattle.bt_run.proofs.MapReads.{maps_long, maps_done, rows_fit}
+use Rattle.run_base.proofs.MapReads.{maps_long, maps_done, rows_fit}
 use Rattle.bt_run.proofs.ends.end_of.Goals as goal
 
 pub print_end-requires-clause-rows : goal.print_end-requires-clause-rows

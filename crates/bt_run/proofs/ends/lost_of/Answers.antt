@@ -1,5 +1,5 @@
 use Rattle.bt_run.proofs.EndLemmas.{tables_lost, parts_lost, parts_are}
-use Rattle.bt_run.proofs.MapReads.{is_shared}
+use Rattle.run_base.proofs.MapReads.{is_shared}
 use Rattle.bt_run.proofs.ends.lost_of.Goals as goal
 
 pub part_losses-requires : goal.part_losses-requires

@@ -1,5 +1,5 @@
 use Rattle.bt_run.proofs.EndLemmas.{tables_reply, parts_reply, parts_are}
-use Rattle.bt_run.proofs.MapReads.{is_shared}
+use Rattle.run_base.proofs.MapReads.{is_shared}
 use Rattle.bt_run.proofs.ends.replies_of.Goals as goal
 
 pub part_replies-requires : goal.part_replies-requires

@@ -5,7 +5,7 @@ use Rattle.step_objects.specs.declared.shared.SharedPart.{SharedPart}
 use Rattle.step_objects.specs.Objects.{shared_kind, SharedStands}
 use Rattle.bt_run.specs.declared.own.OwnObject.{OwnObject}
 use Rattle.bt_run.specs.News.{IsNew}
-use Rattle.bt_run.proofs.NewLemmas.{all_more, count_more}
+use Rattle.run_base.proofs.MoreLemmas.{all_more, count_more}
 use Rattle.bt_run.proofs.new_objects.all_parts.Goals as goal
 
 pub loop-preserved : goal.loop-preserved

@@ -2,7 +2,8 @@ use Rattle.std.proofs.Common.{◌≡◌, ap, sym, ◌∙◌, subst, arith}
 use Rattle.std.specs.Prelude.{slice_get, Some}
 use Rattle.std.proofs.lemmas.Option.{slice_get-get_or, slice_get_within}
 use Rattle.bt_run.specs.News.{AreNewParts}
-use Rattle.bt_run.proofs.NewLemmas.{maps_more, count_more}
+use Rattle.bt_run.proofs.NewLemmas.{maps_more}
+use Rattle.run_base.proofs.MoreLemmas.{count_more}
 use Rattle.bt_run.proofs.new_objects.parts_of_all.Goals as goal
 
 pub loop-map-preserved : goal.loop-map-preserved

@@ -3,7 +3,7 @@ use Rattle.step_objects.specs.declared.cpu.CpuTable.{CpuTable}
 use Rattle.step_objects.specs.Objects.{cpu_kind, CpuStands}
 use Rattle.bt_run.specs.declared.own.OwnObject.{OwnObject}
 use Rattle.bt_run.specs.News.{IsNew}
-use Rattle.bt_run.proofs.NewLemmas.{all_more, count_more}
+use Rattle.run_base.proofs.MoreLemmas.{all_more, count_more}
 use Rattle.bt_run.proofs.new_objects.tables_of.Goals as goal
 
 pub loop-preserved : goal.loop-preserved

@@ -1,7 +1,7 @@
 use Rattle.std.proofs.Common.{◌≡◌, max, [], ◌∷◌, ◌++◌, sym, ap, ◌∙◌, subst, slice_set}
 use Rattle.bt_core.specs.declared.step.Step.{Step}
 use Rattle.bt_run.specs.Runs.{IsRunOf, world_of}
-use Rattle.bt_run.proofs.KindLemmas.{can_any, last_is_of_its_kind}
+use Rattle.run_base.proofs.KindLemmas.{can_any, last_is_of_its_kind}
 use Rattle.bt_run.proofs.StepLemmas.{run_more, run_kept}
 use Rattle.bt_run.proofs.port.make_step.Goals as goal
 

@@ -4,7 +4,7 @@ use Rattle.bt_core.specs.declared.map.MapDecl.{MapDecl}
 use Rattle.bt_core.specs.declared.step.ObjectId.TheVariants.{Shared}
 use Rattle.bt_core.specs.declared.step.Step.{Step}
 use Rattle.step_objects.specs.Objects.{shared_kind, SharedStands}
-use Rattle.bt_run.specs.Moments.{part_reply, of_first}
+use Rattle.run_base.specs.Moments.{part_reply, of_first}
 use Rattle.bt_run.specs.Objects.{AllStand, IsPartOf}
 use Rattle.bt_run.proofs.reads.part_replies.Given as goal
 

@@ -3,9 +3,9 @@ use Rattle.bt_core.specs.declared.map.MapDecl.{MapDecl}
 use Rattle.bt_core.specs.declared.step.ObjectId.TheVariants.{Cpu}
 use Rattle.bt_core.specs.Steps.{on_object, operations}
 use Rattle.step_objects.specs.Objects.{cpu_kind, CpuStands}
-use Rattle.bt_run.specs.Moments.{table_lost, of_first}
+use Rattle.run_base.specs.Moments.{table_lost, of_first}
 use Rattle.bt_run.specs.Objects.{OwnStands}
-use Rattle.bt_run.proofs.ReadLemmas.{sum_more}
+use Rattle.run_base.proofs.ReadLemmas.{sum_more}
 use Rattle.bt_run.proofs.reads.table_losses.Goals as goal
 
 pub loop-table-preserved : goal.loop-table-preserved

@@ -17,9 +17,9 @@ use Rattle.replay_laws.specs.Agree.{AllReplies}
 use Rattle.replay_laws.specs.HeldReplies.{IsHeldReply}
 use Rattle.code_bodies.specs.Coding.{CanRunCode, code_replay, coding}
 use Rattle.script_programs.specs.Programs.{AreCodesOf, KeepScript}
-use Rattle.bt_run.specs.Jobs.{cpus_in}
+use Rattle.run_base.specs.Jobs.{cpus_in}
 use Rattle.bt_run.specs.Made.{IsMade}
-use Rattle.bt_run.proofs.CodeLemmas.{few_slots, jobs_run}
+use Rattle.run_base.proofs.CodeLemmas.{few_slots, jobs_run}
 use Rattle.bt_run.proofs.RunLemmas.{run_counts, run_items, run_moment, run_prints_serial, run_replayed, run_same, run_serial_steps, text_is}
 use Rattle.bt_run.proofs.run.run_serial.Goals as goal
 

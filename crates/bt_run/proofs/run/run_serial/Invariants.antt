@@ -1,4 +1,4 @@
-use Rattle.bt_run.specs.Jobs.{world_for}
+use Rattle.run_base.specs.Jobs.{world_for}
 use Rattle.bt_run.proofs.run.run_serial.Given as goal
 
 abbrev pub ghost-end_of : goal.ghost-end_of

@@ -1,5 +1,5 @@
 use Rattle.std.proofs.Common.{◌+◌, ap, ◌∙◌}
-use Rattle.bt_run.specs.Jobs.{plans_by}
+use Rattle.run_base.specs.Jobs.{plans_by}
 use Rattle.bt_run.proofs.TakeLemmas.{all_made}
 use Rattle.bt_run.proofs.serial.make_steps.Goals as goal
 

@@ -1,6 +1,6 @@
 use Rattle.std.proofs.Common.{◌<◌, ◌∙◌, length, map, arith}
 use Rattle.bt_meaning.specs.Serial.{unstamped}
-use Rattle.bt_run.specs.Jobs.{plans_by}
+use Rattle.run_base.specs.Jobs.{plans_by}
 use Rattle.bt_run.proofs.TakeLemmas.{loop_steps, loop_counts}
 use Rattle.bt_run.proofs.serial.take_all.Goals as goal
 

@@ -5,7 +5,7 @@ use Rattle.actor_plan.specs.Plans.{Plan}
 use Rattle.run_ends.specs.Ends.{latest}
 use Rattle.cpu_worker.specs.Worlds.{cpus_in, sets_in, AreTurnsOf, IsPlanIn}
 use Rattle.turn_lock.specs.History.{Each}
-use Rattle.bt_run.specs.Jobs.{HavePlans}
+use Rattle.run_base.specs.Jobs.{HavePlans}
 use Rattle.thread_run.specs.Acts.{ArePlansIn, HaveGone, replay_in}
 use Rattle.thread_run.specs.Turns.{AreUnused, AreTurnsFrom}
 use Rattle.thread_run.proofs.Ending.{main_plan, main_told, cpu_plans, cpu_told, all_done}

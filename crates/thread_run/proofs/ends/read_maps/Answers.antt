@@ -1,8 +1,9 @@
 use Rattle.std.proofs.Common.{◌≤◌, ◌+◌, ◌∙◌, length, sym, ap, subst, arith}
 use Rattle.step_objects.specs.CpuTables.{map_at}
 use Rattle.bt_meaning.specs.Prints.{rows_after, lost_after, of_maps}
+use Rattle.run_base.proofs.MapReads.{is_shared}
 use Rattle.thread_run.specs.Closed.{TablesStand}
-use Rattle.thread_run.proofs.EachMap.{shared_of, aggregation_of, is_map, one_more, parts_same, parts_after, within_after, own_parts}
+use Rattle.thread_run.proofs.EachMap.{aggregation_of, is_map, one_more, parts_same, parts_after, within_after, own_parts}
 use Rattle.thread_run.proofs.Reading.{tables_in_places, tables_long}
 use Rattle.thread_run.proofs.ends.read_maps.Goals as goal
 use Rattle.thread_run.proofs.ends.read_maps.Goals.{in-Aggs+in_ok-read_tables-in-Aggs, in-Ints+in_ok-map_rows-in-Ints}
@@ -22,7 +23,7 @@ read_tables-requires g c =
 
 pub read_parts-requires : goal.read_parts-requires
 read_parts-requires g c =
-    let shared = shared_of c.index-maps-map.result.kind c.in-Ints.is in (
+    let shared = is_shared c.index-maps-map.result.kind c.in-Ints.is in (
       is_map c.args.maps.now c.loop-map.map c.index-maps-map.result c.loop-map-test.true c.index-maps-map.is g.at c.args.closed.now c.in_ok-number.field-0 c.requires.0 c.requires.1 c.in_ok-number.ensures,
       (
         shared,
@@ -49,7 +50,7 @@ loop-map-preserved g c =
             (ap (λ r. r.0) w.map_rows-is ∙ w.in_ok-map_rows-in-Ints.ensures.rows ∙ ap (λ k. rows (map_at k) decl) c.in_ok-number.ensures) c.in_ok-push.ensures.items c.loop-map.invariant.rows;
         lost = one_more maps n decl lt is lost c.loop-map.lost.items c.push-in-loop-map.new.self.items (of_maps lost 0 maps) c.match-decl.map_rows.1
             (ap (λ r. r.1) w.map_rows-is ∙ w.in_ok-map_rows-in-Ints.ensures.lost ∙ ap (λ k. lost (map_at k) decl) c.in_ok-number.ensures) c.in_ok-push-2.ensures.items c.loop-map.invariant.lost;
-        within = within_after maps n decl lt is g.at.steps c.as_slice-parts.result.now c.loop-map.first c.loop-map.invariant.parts c.match-decl.first (shared_of decl.kind w.in-Ints.is) w.first-is c.loop-map.invariant.within;
-        parts = parts_after maps n decl lt is g.at.steps c.as_slice-parts.result.now c.loop-map.first c.loop-map.invariant.parts c.match-decl.first (shared_of decl.kind w.in-Ints.is) w.first-is;
+        within = within_after maps n decl lt is g.at.steps c.as_slice-parts.result.now c.loop-map.first c.loop-map.invariant.parts c.match-decl.first (is_shared decl.kind w.in-Ints.is) w.first-is c.loop-map.invariant.within;
+        parts = parts_after maps n decl lt is g.at.steps c.as_slice-parts.result.now c.loop-map.first c.loop-map.invariant.parts c.match-decl.first (is_shared decl.kind w.in-Ints.is) w.first-is;
       }
     ]

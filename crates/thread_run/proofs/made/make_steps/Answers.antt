@@ -15,9 +15,9 @@ use Rattle.bt_meaning.proofs.OwnCalls.{all_fine}
 use Rattle.std.proofs.lemmas.List.Elements.{All-from_recursion}
 use denote.Param.Send.{sendable}
 use Rattle.std.proofs.Crossing.{crosses}
-use Rattle.cpu_worker.specs.Worlds.{IsPlanIn}
+use Rattle.actor_plan.specs.Ready.{IsPlanFor}
 use Rattle.cpu_worker.proofs.ScriptShared.{sync_typed}
-use Rattle.bt_run.specs.Jobs.{plans_by}
+use Rattle.run_base.specs.Jobs.{plans_by}
 use Rattle.thread_run.proofs.Making.{AreAllShut, all_maps, all_tables, all_sides, is_replayed, is_counted, is_possible, maps_are_stood, tables_are_stood}
 use Rattle.thread_run.proofs.Objects.{own_of_part, reply_of_part, out_kind, out_stands}
 use Rattle.thread_run.proofs.Turning.{from_rows}
@@ -31,10 +31,8 @@ pub run_actors-requires-send-B : goal.run_actors-requires-send-B
 run_actors-requires-send-B g c κs within = search (sync_typed, crosses, sendable) depth 60 fits 20000
 
 pub run_actors-requires-clause-plans : goal.run_actors-requires-clause-plans
-run_actors-requires-clause-plans g c κs within = λ actor d lt.
-    let of = c.requires.can.plans_are actor in
-    subst (IsPlanIn _ actor) (sym (c.in_ok-bodies.ensures.each actor d lt))
-    (record { actor_is = of.actor_is; actors = of.actors; served = of.served; bodies = of.bodies; takes_few = of.few })
+run_actors-requires-clause-plans g c κs within = λ actor d lt. let job = c.args.job.now in
+    subst (IsPlanFor job.recording job.attached job.typed.maps actor) (sym (c.in_ok-bodies.ensures.each actor d lt)) (c.requires.can.plans_are actor)
 
 pub close-requires : goal.close-requires
 close-requires g c = subst (parts_in.AreAll c.in_ok-sets.sets.maps) (sym c.in_ok-map_turns.ensures.maps)

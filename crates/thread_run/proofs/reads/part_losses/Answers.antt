@@ -4,8 +4,8 @@ use Rattle.bt_core.specs.Steps.{on_object, operations}
 use Rattle.step_objects.specs.declared.shared.PartKind.{PartKind}
 use Rattle.step_objects.specs.Objects.{shared_kind, SharedStands}
 use Rattle.run_ends.specs.Closed.{StandsAt}
-use Rattle.bt_run.specs.Moments.{part_lost, of_first}
-use Rattle.bt_run.proofs.ReadLemmas.{sum_more}
+use Rattle.run_base.specs.Moments.{part_lost, of_first}
+use Rattle.run_base.proofs.ReadLemmas.{sum_more}
 use Rattle.thread_run.proofs.reads.part_losses.Goals as goal
 
 pub loop-part-preserved : goal.loop-part-preserved

@@ -1,7 +1,7 @@
 use Rattle.std.proofs.Common.{◌≡◌, List, sum}
 use Rattle.bt_core.specs.declared.map.MapDecl.{MapDecl}
 use Rattle.bt_core.specs.declared.step.Step.{Step}
-use Rattle.bt_run.specs.Moments.{part_lost, of_first}
+use Rattle.run_base.specs.Moments.{part_lost, of_first}
 use Rattle.thread_run.specs.Closed.{ArePartsOf}
 use Rattle.thread_run.proofs.reads.part_losses.Given as goal
 

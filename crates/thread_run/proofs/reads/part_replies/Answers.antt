@@ -6,8 +6,8 @@ use Rattle.agg_core.specs.Answers.{shared_answer}
 use Rattle.step_objects.specs.declared.shared.PartKind.{PartKind}
 use Rattle.step_objects.specs.Objects.{shared_kind, SharedStands}
 use Rattle.run_ends.specs.Closed.{StandsAt}
-use Rattle.bt_run.specs.Moments.{part_reply, of_first}
-use Rattle.bt_run.proofs.ReadLemmas.{read_more}
+use Rattle.run_base.specs.Moments.{part_reply, of_first}
+use Rattle.run_base.proofs.ReadLemmas.{read_more}
 use Rattle.thread_run.proofs.reads.part_replies.Goals as goal
 
 pub loop-part-preserved : goal.loop-part-preserved

@@ -5,8 +5,8 @@ use Rattle.bt_core.specs.Steps.{on_object, operations}
 use Rattle.agg_core.specs.Answers.{table_answer}
 use Rattle.step_objects.specs.Objects.{cpu_kind, CpuStands}
 use Rattle.run_ends.specs.Closed.{StandsAt}
-use Rattle.bt_run.specs.Moments.{table_reply}
-use Rattle.bt_run.proofs.ReadLemmas.{read_more}
+use Rattle.run_base.specs.Moments.{table_reply}
+use Rattle.run_base.proofs.ReadLemmas.{read_more}
 use Rattle.thread_run.proofs.reads.table_replies.Goals as goal
 
 pub loop-table-preserved : goal.loop-table-preserved

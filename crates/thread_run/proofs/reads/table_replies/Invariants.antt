@@ -1,7 +1,7 @@
 use Rattle.std.proofs.Common.{◌≡◌, List}
 use Rattle.bt_core.specs.declared.map.MapDecl.{MapDecl}
 use Rattle.bt_core.specs.declared.step.Step.{Step}
-use Rattle.bt_run.specs.Moments.{table_reply, of_first}
+use Rattle.run_base.specs.Moments.{table_reply, of_first}
 use Rattle.thread_run.specs.Closed.{AreTablesOf}
 use Rattle.thread_run.proofs.reads.table_replies.Given as goal
 

@@ -9,8 +9,8 @@ use Rattle.replay_laws.specs.Agree.{AllReplies}
 use Rattle.replay_laws.specs.HeldReplies.{IsHeldReply}
 use Rattle.code_bodies.specs.Coding.{CanRunCode, code_replay, coding}
 use Rattle.script_programs.specs.Programs.{AreCodesOf, KeepScript}
-use Rattle.bt_run.specs.Jobs.{cpus_in}
-use Rattle.bt_run.proofs.CodeLemmas.{few_slots, jobs_run}
+use Rattle.run_base.specs.Jobs.{cpus_in}
+use Rattle.run_base.proofs.CodeLemmas.{few_slots, jobs_run}
 use Rattle.thread_run.specs.Made.{IsMade}
 use Rattle.thread_run.proofs.Telling.{closed_then, emit_own, run_counts, run_replayed}
 use Rattle.thread_run.proofs.run.run_threads.Goals as goal

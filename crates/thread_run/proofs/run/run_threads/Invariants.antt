@@ -1,4 +1,4 @@
-use Rattle.bt_run.specs.Jobs.{world_for}
+use Rattle.run_base.specs.Jobs.{world_for}
 use Rattle.thread_run.proofs.run.run_threads.Given as goal
 
 abbrev pub ghost-text_of : goal.ghost-text_of

@@ -1,8 +1,8 @@
 use Rattle.std.proofs.Common.{length, sym, ap, ◌∙◌, subst}
 use Rattle.map_printer.specs.Ends.{AllRowsFit}
 use Rattle.bt_meaning.specs.Prints.{rows_after, lost_after, of_maps}
-use Rattle.bt_run.proofs.MapReads.{maps_long, rows_fit}
-use Rattle.bt_run.specs.Worlds.{World}
+use Rattle.run_base.proofs.MapReads.{maps_long, rows_fit}
+use Rattle.run_base.specs.Worlds.{World}
 use Rattle.thread_run.proofs.run.text_of.Goals as goal
 
 pub text_of_run-requires-clause-rows : goal.text_of_run-requires-clause-rows

@@ -1,14 +1,12 @@
 -- Jobs whose actors' bodies do what plans say. No public contract speaks of it.
-use Rattle.std.specs.Prelude.{◌≡◌, ℕ, ◌+◌, ◌<◌, ◌≤◌, List, All, length, slice_index_or}
-use Rattle.bt_core.specs.declared.limits.TheConstants.{BODIES, TICKS}
-use Rattle.rec_format.specs.Recordings.{IsValidRecording}
-use Rattle.actor_plan.specs.Agendas.{AreInTurn}
-use Rattle.actor_plan.specs.Plans.{Plan, HasBodies, AreServed, TakesFew}
+use Rattle.std.specs.Prelude.{◌≡◌, ℕ, ◌+◌, ◌<◌, List, length, slice_index_or}
+use Rattle.actor_plan.specs.Plans.{Plan}
+use Rattle.actor_plan.specs.Ready.{CanReplay, IsPlanFor}
 use Rattle.bt_meaning.specs.Replays.{Replay}
 use Rattle.bpf_insn.specs.declared.insn.Insn.{Insn}
 use Rattle.code_bodies.specs.Coding.{coding}
-use Rattle.bt_run.specs.declared.job.Job.{Job}
-use Rattle.bt_run.specs.Worlds.{World}
+use Rattle.run_base.specs.declared.job.Job.{Job}
+use Rattle.run_base.specs.Worlds.{World}
 
 abbrev pub cpus_in : Job → ℕ
 cpus_in job = length job.recording.cpus
@@ -35,23 +33,10 @@ coded_by job codes = replay_with job (plans_by job codes)
 abbrev pub world_for : Job → World
 world_for job = record { cpus = cpus_in job; ticks = length job.attached.ticks; maps = job.typed.maps }
 
--- one of the actors, whose bodies can be run
-pub record IsPlanFor (job : Job) (actor : ℕ) (plan : Plan) : Type 0 where
-  pub actor_is : plan.actor ≡ actor
-  pub actors : plan.actors ≡ cpus_in job + 1
-  pub served : AreServed plan.maps job.typed.maps
-  pub bodies : HasBodies plan job.recording.formats job.attached
-  pub few : TakesFew plan
-
 -- the job can be run, by the plans of all actors
 pub record CanRunAll (job : Job) (plans : ℕ → Plan) : Type 0 where
-  pub valid : IsValidRecording job.recording
-  pub in_turn : AreInTurn job.attached.ticks
-  pub few_ticks : length job.attached.ticks ≤ TICKS
-  pub few_at_events : All (λ (which : List ℕ). length which ≤ BODIES) job.attached.by_format
-  pub few_begin : length job.attached.begin ≤ BODIES
-  pub few_end : length job.attached.end ≤ BODIES
-  pub plans_are : (actor : ℕ) → IsPlanFor job actor (plans actor)
+  pub replay : CanReplay job.recording job.attached
+  pub plans_are : (actor : ℕ) → IsPlanFor job.recording job.attached job.typed.maps actor (plans actor)
 
 -- there are bodies for each actor, which tell its plan
 pub record HavePlans {B : Type 0} (plan_of : B → Plan) (actors : ℕ) (plans : ℕ → Plan) (bodies : List B) : Type 0 where

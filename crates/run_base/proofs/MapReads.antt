@@ -25,11 +25,11 @@ use Rattle.step_objects.specs.CpuTables.{map_at}
 use Rattle.turn_lock.specs.History.{Each}
 use Rattle.bt_meaning.specs.Prints.{operations_at, read_of, lost_by, lost_after, holders_of, rows_after, of_maps}
 use Rattle.walk_meaning.specs.Maps.{holder}
-use Rattle.bt_run.specs.Moments.{Moment, table_reply, table_lost, part_reply, part_lost, of_first}
-use Rattle.bt_run.specs.Worlds.{answers, IsOwn}
-use Rattle.bt_run.proofs.KindLemmas.{answer_is_of_its_kind}
-use Rattle.bt_run.proofs.NewLemmas.{all_more}
-use Rattle.bt_run.proofs.ReadLemmas.{first_more}
+use Rattle.run_base.specs.Moments.{Moment, table_reply, table_lost, part_reply, part_lost, of_first}
+use Rattle.run_base.specs.Worlds.{answers, IsOwn}
+use Rattle.run_base.proofs.KindLemmas.{answer_is_of_its_kind}
+use Rattle.run_base.proofs.MoreLemmas.{all_more}
+use Rattle.run_base.proofs.ReadLemmas.{first_more}
 
 map_twice : {A B C : Type 0} (f : B → C) (g : A → B) (xs : List A) → map f (map g xs) ≡ map (λ x. f (g x)) xs
 map_twice f g [] = refl
@@ -40,7 +40,7 @@ all_first P f zero h = All-nil P
 all_first P f (suc n) h = let e : suc n ≡ n + 1 = omega arith in
     all_more P (of_first f n) (of_first f (suc n)) (f n) (all_first P f n (λ k lt. h k (omega arith))) (h n (omega arith)) (ap (of_first f) e ∙ first_more f n)
 
-some_and : (H : MapDecl → Type 0) (decl : MapDecl) (o : Option MapDecl) → o ≡ Some decl → H decl → IsSomeAnd o H
+pub some_and : (H : MapDecl → Type 0) (decl : MapDecl) (o : Option MapDecl) → o ≡ Some decl → H decl → IsSomeAnd o H
 some_and H decl None e h = absurd (let z : ⊥ = cc in z)
 some_and H decl (Some x) e h = let s : decl ≡ x = cc in subst H s h
 

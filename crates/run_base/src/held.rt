@@ -6,7 +6,7 @@ ghost use Rattle.code_bodies.specs.Kept.{AreHeld};
 ghost use Rattle.event_record.specs.Contexts.{AreBytes};
 ghost use Rattle.replay_laws.specs.Agree.{AllReplies};
 ghost use Rattle.replay_laws.specs.HeldReplies.{IsHeldReply};
-ghost use Rattle.bt_run.specs.Held.{IsHeldEvent, IsHeldTick, IsHeldTrack};
+ghost use Rattle.run_base.specs.Held.{IsHeldEvent, IsHeldTick, IsHeldTrack};
 
 use crate::job::Job;
 use bt_ast::attached::Tick;

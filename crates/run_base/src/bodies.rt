@@ -3,7 +3,7 @@ ghost use Rattle.std.specs.Prelude.{◌≡◌, ◌+◌, ◌<◌, ◌≤◌, ◌^
 ghost use Rattle.std.specs.List.{AllByRecursion};
 ghost use Rattle.code_bodies.specs.Coding.{CanRunCode};
 ghost use Rattle.code_bodies.specs.Running.{plan_of};
-ghost use Rattle.bt_run.specs.Jobs.{cpus_in, plans_by};
+ghost use Rattle.run_base.specs.Jobs.{cpus_in, plans_by};
 
 use crate::job::Job;
 use bpf_insn::insn::Insn;

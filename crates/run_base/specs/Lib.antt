@@ -1,0 +1,4 @@
+pub mod Held
+pub mod Jobs
+pub mod Moments
+pub mod Worlds
