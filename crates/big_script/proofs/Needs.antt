@@ -14,7 +14,7 @@ use Rattle.typed_tree.specs.declared.expr.StrExpr.{fold-roll-StrExpr}
 use Rattle.typed_tree.specs.declared.expr.StrExpr.TheVariants as strs
 use Rattle.typed_tree.specs.declared.stmt.TypedBlock.{TypedBlock, out-TypedBlock, roll-out-TypedBlock, fold-roll-TypedBlock}
 use Rattle.typed_tree.specs.declared.stmt.TypedStmt.{TypedStmt}
-use Rattle.bt_ir.specs.Figures.{sizes_of}
+use Rattle.ir_code.specs.Figures.{sizes_of}
 use Rattle.bt_lower.specs.declared.need.Need.{Need}
 use Rattle.bt_lower.specs.declared.need.Valued.{Valued}
 use Rattle.bt_lower.specs.Needs.{need, valued, greater, all_need, gather_need, predicate_need, value_need, text_need, number_need, stmt_need, block_need, tree_need, any_layer, num_layer, str_layer, stmt_layer, block_layer}

@@ -6,10 +6,10 @@ use Rattle.bt_core.specs.declared.step.Step.{Step}
 use Rattle.bt_core.specs.Interaction.{Interaction, Ended, Asks, and_then, Runs, Whole, Part, Left}
 use Rattle.bt_core.specs.Ports.{Setting}
 use Rattle.bt_core.proofs.InteractionLaws.{Left-Whole, Left-Part, Left-is, Left-and_then, Part-and_then, Whole-Ended}
-use Rattle.bt_ir.specs.declared.instr.Instr.{Instr}
-use Rattle.bt_ir.specs.declared.stack.State.{State}
+use Rattle.ir_code.specs.declared.instr.Instr.{Instr}
+use Rattle.ir_code.specs.declared.state.State.{State}
 use Rattle.bt_ir.specs.declared.step.View.{View}
-use Rattle.bt_ir.specs.Meaning.{Scene, instr_run, instrs_run}
+use Rattle.ir_code.specs.Meaning.{Scene, instr_run, instrs_run}
 use Rattle.bt_ir.specs.Running.{CanAsk, MayAsk, IsReady, AreReady}
 
 pub Can-first : {A B : Type 0} (setting : Setting) (P : B → Type 0) (t : Interaction A) (k : A → Interaction B) → CanAsk setting P (and_then t k) → MayAsk setting t

@@ -2,7 +2,6 @@ pub mod Asks
 pub mod Calls
 pub mod Ranks
 pub mod Served
-pub mod Shaped
 pub mod Stacks
 pub mod Sweeps
 pub mod Turning

@@ -8,17 +8,18 @@ use Rattle.bt_core.specs.declared.step.Step.{Step}
 use Rattle.bt_core.specs.Interaction.{Interaction, and_then, Whole, Part, Left}
 use Rattle.bt_core.specs.Ports.{Setting}
 use Rattle.bt_core.proofs.InteractionLaws.{Left-here, Left-Whole, Left-Part, Left-is, Left-and_then, Part-and_then, Whole-Ended, Performed-none}
-use Rattle.bt_ir.specs.declared.blocks.Block.{Block}
-use Rattle.bt_ir.specs.declared.blocks.Exit.{Exit}
-use Rattle.bt_ir.specs.declared.blocks.Exit.TheVariants.{Goto, Branch, Count, Gate, Again, End}
-use Rattle.bt_ir.specs.declared.stack.State.{State}
-use Rattle.bt_ir.specs.declared.stack.Way.{Way}
-use Rattle.bt_ir.specs.declared.stack.Way.TheVariants.{To, Ends}
+use Rattle.ir_code.specs.declared.blocks.Block.{Block}
+use Rattle.ir_code.specs.declared.blocks.Exit.{Exit}
+use Rattle.ir_code.specs.declared.blocks.Exit.TheVariants.{Goto, Branch, Count, Gate, Again, End}
+use Rattle.ir_code.specs.declared.state.State.{State}
+use Rattle.ir_code.specs.declared.state.Way.{Way}
+use Rattle.ir_code.specs.declared.state.Way.TheVariants.{To, Ends}
 use Rattle.bt_ir.specs.declared.step.View.{View}
-use Rattle.bt_ir.specs.Meaning.{Scene, instrs_run, way_of, after_exit, goes_on, exit_run, block_run, run_from, blocks_run, count_way, turn_way}
+use Rattle.ir_code.specs.Meaning.{Scene, instrs_run, way_of, after_exit, goes_on, exit_run, block_run, run_from, blocks_run, count_way, turn_way}
 use Rattle.bt_ir.specs.Running.{MayAsk, AreReady, AllReady}
-use Rattle.bt_ir.specs.Values.{number_of, top, holds}
-use Rattle.bt_ir.specs.Ways.{depth_in, depth_at, lies_below, leads, lead_from, lead_forward}
+use Rattle.ir_code.specs.Values.{number_of, top, holds}
+use Rattle.ir_code.specs.Ways.{depth_in, depth_at, lies_below, leads, lead_from, lead_forward}
+use Rattle.ir_code.proofs.WayLaws.{some_block}
 use Rattle.bt_ir.proofs.Asks.{Can-first, Can-after}
 use Rattle.bt_ir.proofs.Turning.{turns_kept}
 
@@ -114,11 +115,6 @@ led_at bs k b h e =
     let p = and_parts (nat_le 1 (length bs) && depth_at bs (length bs - 1) == 0) (lead_from bs 0 bs) h in
     let at : 0 + k ≡ k = omega arith in
     subst (λ (m : ℕ). leads bs m b.depth b.exit ≡ true) at (lead_at bs 0 bs k b p.1 e)
-
-pub some_block : (bs : List Block) → lead_forward bs ≡ true → 1 ≤ length bs
-some_block bs h =
-    let p = and_parts (nat_le 1 (length bs) && depth_at bs (length bs - 1) == 0) (lead_from bs 0 bs) h in
-    leb-true 1 (length bs) (and_parts (nat_le 1 (length bs)) (depth_at bs (length bs - 1) == 0) p.0).0
 
 outermost : (bs : List Block) → lead_forward bs ≡ true → depth_at bs (length bs - 1) ≡ 0
 outermost bs h =

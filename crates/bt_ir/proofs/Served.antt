@@ -14,23 +14,24 @@ use Rattle.bt_core.specs.Ports.{Setting}
 use Rattle.tracefs_format.specs.declared.field.FieldKind.{FieldKind}
 use Rattle.tracefs_format.specs.declared.field.FieldKind.TheVariants.{Number, Chars, DataLoc, Other}
 use Rattle.typed_tree.specs.Scope.{same_shapes, is_shape, shape_of_field, is_declared, is_shared, is_there, kind_of_shape, may_print}
-use Rattle.bt_ir.specs.declared.blocks.Block.{Block}
-use Rattle.bt_ir.specs.declared.blocks.Exit.{Exit}
-use Rattle.bt_ir.specs.declared.blocks.Exit.TheVariants.{Goto, Branch, Count, Gate, Again, End}
-use Rattle.bt_ir.specs.declared.instr.Instr.{Instr}
-use Rattle.bt_ir.specs.declared.instr.Instr.TheVariants as i
-use Rattle.bt_ir.specs.declared.probe.IrProbe.{IrProbe}
-use Rattle.bt_ir.specs.declared.stack.State.{State}
-use Rattle.bt_ir.specs.declared.stack.Way.TheVariants.{To}
+use Rattle.ir_code.specs.declared.blocks.Block.{Block}
+use Rattle.ir_code.specs.declared.blocks.Exit.{Exit}
+use Rattle.ir_code.specs.declared.blocks.Exit.TheVariants.{Goto, Branch, Count, Gate, Again, End}
+use Rattle.ir_code.specs.declared.instr.Instr.{Instr}
+use Rattle.ir_code.specs.declared.instr.Instr.TheVariants as i
+use Rattle.ir_code.specs.declared.probe.IrProbe.{IrProbe}
+use Rattle.ir_code.specs.declared.state.State.{State}
+use Rattle.ir_code.specs.declared.state.Way.TheVariants.{To}
 use Rattle.bt_ir.specs.declared.step.View.{View}
-use Rattle.bt_ir.specs.Asking.{kind_of, kind_in}
-use Rattle.bt_ir.specs.Figures.{sizes_of, instr_bytes}
-use Rattle.bt_ir.specs.Meaning.{Scene, instrs_run, after_exit, goes_on, exit_run, block_run, run_from, blocks_run, count_way, turn_way}
-use Rattle.bt_ir.specs.Running.{MayAsk, CanRun, CanSweep, IsReady, AreReady, AllReady, IsServedAs, ServesInstr, ServesInstrs, ServesBlocks, end_read, ends_read, payload_need}
-use Rattle.bt_ir.specs.Typing.{Ground, takes, names, end_with, turned, front_of, may_stand, all_stand, all_turned, stack_in, goes_with, exit_stands, block_stands, each_stands, has_room, is_key, is_gathering}
-use Rattle.bt_ir.specs.Values.{number_of, holds, top, below}
+use Rattle.ir_code.specs.Asking.{kind_of, kind_in}
+use Rattle.ir_code.specs.Figures.{sizes_of, instr_bytes}
+use Rattle.ir_code.specs.Meaning.{Scene, instrs_run, after_exit, goes_on, exit_run, block_run, run_from, blocks_run, count_way, turn_way}
+use Rattle.bt_ir.specs.Running.{MayAsk, CanRun, CanSweep, IsReady, AreReady, AllReady}
+use Rattle.ir_code.specs.Serving.{IsServedAs, ServesInstr, ServesInstrs, ServesBlocks, end_read, ends_read, payload_need}
+use Rattle.ir_code.specs.Typing.{Ground, takes, names, end_with, turned, front_of, may_stand, all_stand, all_turned, stack_in, goes_with, exit_stands, block_stands, each_stands, has_room, is_key, is_gathering}
+use Rattle.ir_code.specs.Values.{number_of, holds, top, below}
 use Rattle.bt_ir.proofs.Asks.{Can-and_then}
-use Rattle.bt_ir.proofs.Shaped.{same_shapes-is, ends_is, shaped-pop, shaped-put}
+use Rattle.ir_code.proofs.Shaped.{same_shapes-is, ends_is, shaped-pop, shaped-put}
 use Rattle.bt_ir.proofs.Typed.{Footing, HasStack, all}
 
 pub here_of : (bs : List Block) (k : ℕ) (b : Block) → k < length bs → b ≡ get_or bs k b → slice_get bs k ≡ Some b

@@ -19,9 +19,9 @@ use Rattle.bt_core.specs.Kinds.{HasShape, IsOfKind, IsAggOf}
 use Rattle.bt_core.specs.Ports.{Setting, IsReplyOf, IsSharedReply, IsTableReply}
 use Rattle.bt_core.proofs.InteractionLaws.{Left-here, Left-Whole, Left-Part, Left-is, Left-and_then, Performed-none, Whole-ask, Whole-Ended}
 use Rattle.map_printer.specs.Merged.{HasRowsOf}
-use Rattle.bt_ir.specs.declared.sweep.Sweep.{Sweep}
-use Rattle.bt_ir.specs.declared.sweep.Sweep.TheVariants.{Read}
-use Rattle.bt_ir.specs.Asking.{holder, sweep_op, asked_from}
+use Rattle.ir_code.specs.declared.sweep.Sweep.{Sweep}
+use Rattle.ir_code.specs.declared.sweep.Sweep.TheVariants.{Read}
+use Rattle.ir_code.specs.Asking.{holder, sweep_op, asked_from}
 use Rattle.bt_ir.specs.Running.{CanSweep}
 
 pub sweep-start : (object : ℕ → ObjectId) (op : Op) (n : ℕ) (old : List Step) → Left (asked_from object op [] 0 n) old old (asked_from object op [] 0 (n - 0))

@@ -3,12 +3,12 @@ use Rattle.std.proofs.Common.{◌≡◌, ℕ, List, [], ◌∷◌, refl, ◌∙�
 use Rattle.bt_core.specs.declared.step.Step.{Step}
 use Rattle.bt_core.specs.declared.step.Reply.{Reply}
 use Rattle.bt_core.specs.Interaction.{Interaction, Ended, Asks, and_then, Runs, Whole}
-use Rattle.bt_ir.specs.declared.instr.Instr.{Instr}
-use Rattle.bt_ir.specs.declared.instr.Instr.TheVariants as i
-use Rattle.bt_ir.specs.declared.stack.State.{State}
-use Rattle.bt_ir.specs.declared.sweep.Sweep.TheVariants.{Clear, Zero}
-use Rattle.bt_ir.specs.Asking.{kind_of, swept}
-use Rattle.bt_ir.specs.Meaning.{Scene, instr_run, instrs_run, printed}
+use Rattle.ir_code.specs.declared.instr.Instr.{Instr}
+use Rattle.ir_code.specs.declared.instr.Instr.TheVariants as i
+use Rattle.ir_code.specs.declared.state.State.{State}
+use Rattle.ir_code.specs.declared.sweep.Sweep.TheVariants.{Clear, Zero}
+use Rattle.ir_code.specs.Asking.{kind_of, swept}
+use Rattle.ir_code.specs.Meaning.{Scene, instr_run, instrs_run, printed}
 
 -- whatever the replies are, this holds of the value
 Gives : {A : Type 0} → (A → Type 0) → Interaction A → Type 0

@@ -20,19 +20,20 @@ use Rattle.bt_core.specs.KeyBytes.{part_of}
 use Rattle.bt_core.specs.Kinds.{HasShape, IsOfShape, IsOfKind, IsShared, IsAggregation}
 use Rattle.bt_core.specs.Ports.{Setting, CanStep}
 use Rattle.typed_tree.specs.Scope.{same_shapes, same_kind, is_declared, is_shared, is_there, is_agg, kind_of_shape}
-use Rattle.bt_ir.specs.declared.instr.Instr.{Instr}
-use Rattle.bt_ir.specs.declared.instr.Instr.TheVariants as i
-use Rattle.bt_ir.specs.declared.stack.State.{State}
-use Rattle.bt_ir.specs.declared.sweep.Sweep.{Sweep}
-use Rattle.bt_ir.specs.declared.sweep.Sweep.TheVariants.{Read, Clear, Zero}
-use Rattle.bt_ir.specs.Asking.{part, kind_of, kind_in, holder, holders, sweep_op, asked_from, swept}
-use Rattle.bt_ir.specs.Figures.{sizes_of, instr_bytes}
-use Rattle.bt_ir.specs.Meaning.{Scene, instr_run, instrs_run}
-use Rattle.bt_ir.specs.Running.{CanAsk, IsServedAs, ServesInstr, ServesInstrs}
-use Rattle.bt_ir.specs.Typing.{Ground, front_of, last_of, takes, gives, names, end_with, turned, may_stand, all_stand, all_turned, has_room, holds_shape, gathers, is_key, is_gathering}
-use Rattle.bt_ir.specs.Values.{number_of, top, below}
+use Rattle.ir_code.specs.declared.instr.Instr.{Instr}
+use Rattle.ir_code.specs.declared.instr.Instr.TheVariants as i
+use Rattle.ir_code.specs.declared.state.State.{State}
+use Rattle.ir_code.specs.declared.sweep.Sweep.{Sweep}
+use Rattle.ir_code.specs.declared.sweep.Sweep.TheVariants.{Read, Clear, Zero}
+use Rattle.ir_code.specs.Asking.{part, kind_of, kind_in, holder, holders, sweep_op, asked_from, swept}
+use Rattle.ir_code.specs.Figures.{sizes_of, instr_bytes}
+use Rattle.ir_code.specs.Meaning.{Scene, instr_run, instrs_run}
+use Rattle.bt_ir.specs.Running.{CanAsk}
+use Rattle.ir_code.specs.Serving.{IsServedAs, ServesInstr, ServesInstrs}
+use Rattle.ir_code.specs.Typing.{Ground, front_of, last_of, takes, gives, names, end_with, turned, may_stand, all_stand, all_turned, has_room, holds_shape, gathers, is_key, is_gathering}
+use Rattle.ir_code.specs.Values.{number_of, top, below}
 use Rattle.bt_ir.proofs.Asks.{Can-and_then}
-use Rattle.bt_ir.proofs.Shaped.{same_shapes-is, ends_is, shaped-split, shaped-pop, shaped-put, as_shape-shaped, shape_of-shaped}
+use Rattle.ir_code.proofs.Shaped.{same_shapes-is, ends_is, shaped-split, shaped-pop, shaped-put, as_shape-shaped, shape_of-shaped}
 
 part_below : (key : List Value) → part_of key < PARTS
 part_below key = omega arith

@@ -12,59 +12,20 @@ use Rattle.bt_core.specs.Interaction.{Interaction, Ended, Asks, Whole, Part}
 use Rattle.bt_core.specs.Ports.{Setting, CanStep}
 use Rattle.tracefs_format.specs.declared.field.FieldKind.TheVariants.{Number, Chars, DataLoc}
 use Rattle.tracefs_format.specs.Sizes.{end_of}
-use Rattle.bt_ir.specs.Asking.{kind_of}
-use Rattle.bt_ir.specs.declared.blocks.Block.{Block}
-use Rattle.bt_ir.specs.declared.instr.Instr.{Instr}
-use Rattle.bt_ir.specs.declared.instr.Instr.TheVariants as i
-use Rattle.bt_ir.specs.declared.probe.IrProbe.{IrProbe}
-use Rattle.bt_ir.specs.declared.stack.State.{State}
+use Rattle.ir_code.specs.Asking.{kind_of}
+use Rattle.ir_code.specs.declared.blocks.Block.{Block}
+use Rattle.ir_code.specs.declared.instr.Instr.{Instr}
+use Rattle.ir_code.specs.declared.instr.Instr.TheVariants as i
+use Rattle.ir_code.specs.declared.probe.IrProbe.{IrProbe}
+use Rattle.ir_code.specs.declared.state.State.{State}
 use Rattle.bt_ir.specs.declared.step.View.{View}
-use Rattle.bt_ir.specs.Meaning.{Scene}
+use Rattle.ir_code.specs.Meaning.{Scene}
+use Rattle.ir_code.specs.Serving.{payload_need, ServesBlocks}
 
 -- each call can be made in this setting, whatever the replies are
 abbrev pub CanAsk : {A : Type 0} → Setting → (A → Type 0) → Interaction A → Type 0
 CanAsk setting holds (Ended a) = holds a
 CanAsk setting holds (Asks call next) = CanStep setting call.object call.op × ((reply : Reply) → CanAsk setting holds (next reply))
-
--- where an instruction reads a field, the field's end
-abbrev pub end_read : Instr → ℕ
-end_read (i.NumberField f) = end_of f
-end_read (i.TextField f) = end_of f
-end_read instr = 0
-
--- the greatest end of a field that is read
-abbrev pub ends_read : List Instr → ℕ
-ends_read [] = 0
-ends_read (x ∷ xs) = max (end_read x) (ends_read xs)
-
-abbrev pub payload_need : List Block → ℕ
-payload_need [] = 0
-payload_need (b ∷ bs) = max (ends_read b.instrs) (payload_need bs)
-
--- the map that an instruction names is served as it is declared
-abbrev pub IsServedAs : List MapDecl → List MapDecl → MapId → Type 0
-IsServedAs served maps m = slice_get served m.0 ≡ slice_get maps m.0
-
-abbrev pub ServesInstr : List MapDecl → List MapDecl → Instr → Type 0
-ServesInstr served maps (i.Get m key shape) = IsServedAs served maps m
-ServesInstr served maps (i.Set m key shape) = IsServedAs served maps m
-ServesInstr served maps (i.Delete m key) = IsServedAs served maps m
-ServesInstr served maps (i.Update m key op) = IsServedAs served maps m
-ServesInstr served maps (i.StepMap m key plus prefix) = IsServedAs served maps m
-ServesInstr served maps (i.Add m key) = IsServedAs served maps m
-ServesInstr served maps (i.Count m key) = IsServedAs served maps m
-ServesInstr served maps (i.Print m top div) = IsServedAs served maps m
-ServesInstr served maps (i.Clear m) = IsServedAs served maps m
-ServesInstr served maps (i.Zero m) = IsServedAs served maps m
-ServesInstr served maps instr = Unit {0}
-
-abbrev pub ServesInstrs : List MapDecl → List MapDecl → List Instr → Type 0
-ServesInstrs served maps [] = Unit {0}
-ServesInstrs served maps (x ∷ xs) = ServesInstr served maps x × ServesInstrs served maps xs
-
-abbrev pub ServesBlocks : List MapDecl → List MapDecl → List Block → Type 0
-ServesBlocks served maps [] = Unit {0}
-ServesBlocks served maps (b ∷ bs) = ServesInstrs served maps b.instrs × ServesBlocks served maps bs
 
 -- the conditions of a run: the payload has the fields that are read and the context names its length, the port serves the maps
 -- that instructions name as the probe declares them, and the actor is the port's and below the number of its actors

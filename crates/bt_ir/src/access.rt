@@ -3,8 +3,8 @@ ghost use Rattle.std.specs.Prelude.{◌≡◌};
 ghost use Rattle.bt_core.specs.declared.step.Op.TheVariants as ops;
 ghost use Rattle.bt_core.specs.Interaction.{Performed};
 ghost use Rattle.bt_core.specs.Ports.{CanStep};
-ghost use Rattle.bt_ir.specs.Asking.{part, told, got};
-ghost use Rattle.bt_ir.specs.Values.{value_of};
+ghost use Rattle.ir_code.specs.Asking.{part, told, got};
+ghost use Rattle.ir_code.specs.Values.{value_of};
 
 use bt_core::encoding::part_of;
 use bt_core::key::Key;

@@ -1,11 +1,7 @@
-//! The typed instructions that bodies are lowered to, and their run through a port.
+//! The run of typed instructions through a port: the reference that tests compare code with.
 #![tactic(auto)]
 
 pub mod access;
-pub mod blocks;
-pub mod figures;
-pub mod instr;
-pub mod probe;
 pub mod run;
 pub mod stack;
 pub mod step;

@@ -1,16 +1,14 @@
 // The run of a body.
 ghost use Rattle.std.specs.Prelude.{◌≡◌, ◌<◌, IfOk, IsTrue, length};
 ghost use Rattle.bt_core.specs.Interaction.{Performed};
-ghost use Rattle.bt_ir.specs.Meaning.{way_of, after_exit, fresh, blocks_run, ir_run};
+ghost use Rattle.ir_code.specs.Meaning.{way_of, after_exit, fresh, blocks_run, ir_run};
 ghost use Rattle.bt_ir.specs.Running.{MayAsk, AllReady, CanRun, scene_in};
-ghost use Rattle.bt_ir.specs.Values.{number_of};
-ghost use Rattle.bt_ir.specs.Ways.{lead_forward};
-ghost use Rattle.bt_ir.specs.Meaning.{count_way, counted};
+ghost use Rattle.ir_code.specs.Values.{number_of};
+ghost use Rattle.ir_code.specs.Ways.{lead_forward};
+ghost use Rattle.ir_code.specs.Meaning.{count_way, counted};
 ghost use Rattle.bt_core.specs.declared.value.Value.TheVariants as values;
 
-use crate::blocks::{Block, Exit};
-use crate::probe::IrProbe;
-use crate::stack::{State, Way, number_of, pop, put, unassigned};
+use crate::stack::{number_of, pop, put, unassigned};
 use crate::step::{View, holds, run_instrs};
 use bt_core::context::Context;
 use bt_core::ending::Ending;
@@ -20,6 +18,9 @@ use bt_core::map::Shape;
 use bt_core::memory::Memory;
 use bt_core::port::Port;
 use bt_core::value::Value;
+use ir_code::blocks::{Block, Exit};
+use ir_code::probe::IrProbe;
+use ir_code::state::{State, Way};
 use std::alloc::Global;
 
 /// Where a count leads: above 0 on to a block, and else out of its loop.

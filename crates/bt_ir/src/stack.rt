@@ -1,33 +1,17 @@
 // Values, and the stack that instructions work on.
 ghost use Rattle.std.specs.Prelude.{◌≡◌, IfOk, OnOk};
-ghost use Rattle.bt_ir.specs.Meaning.{put, variable, with_variable};
-ghost use Rattle.bt_ir.specs.Typing.{last_of, front_of};
-ghost use Rattle.bt_ir.specs.Values.{number_of, text_of, as_shape, shape_of, unassigned, top, below};
+ghost use Rattle.ir_code.specs.Meaning.{put, variable, with_variable};
+ghost use Rattle.ir_code.specs.Typing.{last_of, front_of};
+ghost use Rattle.ir_code.specs.Values.{number_of, text_of, as_shape, unassigned, top, below};
 
-use bt_core::ending::Ending;
 use bt_core::items::Items;
 use bt_core::map::Shape;
 use bt_core::memory::Memory;
 use bt_core::text::Str64;
 use bt_core::value::Value;
+use ir_code::state::State;
 use std::alloc::Global;
 use std::mem;
-
-/// What a run keeps: the variables by their numbers, how many loop turns are left, and the values on the stack, the first one
-/// put first.
-#[derive(Drop)]
-pub struct State {
-    pub variables: Items<Value>,
-    pub turns: u32,
-    pub stack: Items<Value>,
-}
-
-/// Where an exit leads: to a block by its number, or to the end of the run.
-#[derive(Clone, Copy, PartialEq, Eq, Debug)]
-pub enum Way {
-    To(usize),
-    Ends(Ending),
-}
 
 /// The number of a value, and 0 for a string.
 pub fn number_of(value: &Value) -> i64
@@ -46,16 +30,6 @@ pub fn text_of(value: &Value) -> Str64
     match value {
         Value::Int(_) => Str64::of(&[]),
         Value::Str(s) => s.copy(),
-    }
-}
-
-/// The type of a value.
-pub fn shape_of(value: &Value) -> Shape
-    ensures { result ≡ shape_of value.now }
-{
-    match value {
-        Value::Int(_) => Shape::Int,
-        Value::Str(_) => Shape::Str,
     }
 }
 

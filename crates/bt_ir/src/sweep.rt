@@ -3,8 +3,8 @@ ghost use Rattle.std.specs.Prelude.{◌≡◌, All, IfOk};
 ghost use Rattle.bt_core.specs.Ports.{CanStep};
 ghost use Rattle.map_printer.specs.Merged.{HasRowsOf};
 ghost use Rattle.bt_core.specs.Interaction.{Performed};
-ghost use Rattle.bt_ir.specs.declared.sweep.Sweep.TheVariants as sweeps;
-ghost use Rattle.bt_ir.specs.Asking.{holder, holders, sweep_op, swept};
+ghost use Rattle.ir_code.specs.declared.sweep.Sweep.TheVariants as sweeps;
+ghost use Rattle.ir_code.specs.Asking.{holder, holders, sweep_op, swept};
 ghost use Rattle.bt_ir.specs.Running.{CanSweep};
 
 use bt_core::items::Items;
@@ -13,15 +13,8 @@ use bt_core::map::{MapId, MapKind};
 use bt_core::memory::Memory;
 use bt_core::port::Port;
 use bt_core::step::{ObjectId, Op, Reply};
+use ir_code::sweep::Sweep;
 use std::alloc::Global;
-
-/// What is done to a whole map.
-#[derive(Clone, Copy, PartialEq, Eq, Debug)]
-pub enum Sweep {
-    Read,
-    Clear,
-    Zero,
-}
 
 /// An object that holds a map of this kind: the table of an actor, or a part of the map.
 fn holder(kind: MapKind, map: MapId, place: u32) -> ObjectId

@@ -6,14 +6,14 @@ use Rattle.std.proofs.Math.Nat.{max-le}
 use Rattle.bt_core.specs.declared.map.Shape.{Shape}
 use Rattle.bt_core.specs.declared.map.Shape.TheVariants.{Int, Str}
 use Rattle.typed_tree.specs.Scope.{same_shape, same_shapes}
-use Rattle.bt_ir.specs.declared.blocks.Block.{Block}
-use Rattle.bt_ir.specs.declared.blocks.Exit.{Exit}
-use Rattle.bt_ir.specs.declared.blocks.Exit.TheVariants.{Goto, Branch, Count, Gate, Again, End}
-use Rattle.bt_ir.specs.declared.instr.Instr.{Instr}
-use Rattle.bt_ir.specs.Figures.{sizes_of, instr_bytes}
-use Rattle.bt_ir.specs.Running.{ends_read, payload_need}
-use Rattle.bt_ir.specs.Typing.{takes, gives, names, last_of, front_of, has_room, end_with, turned, may_stand, all_stand, all_turned, stack_in, goes_with, exit_stands, block_stands, each_stands, are_typed}
-use Rattle.bt_ir.specs.Ways.{depth_at, lies_below, leads, lead_from, lead_forward}
+use Rattle.ir_code.specs.declared.blocks.Block.{Block}
+use Rattle.ir_code.specs.declared.blocks.Exit.{Exit}
+use Rattle.ir_code.specs.declared.blocks.Exit.TheVariants.{Goto, Branch, Count, Gate, Again, End}
+use Rattle.ir_code.specs.declared.instr.Instr.{Instr}
+use Rattle.ir_code.specs.Figures.{sizes_of, instr_bytes}
+use Rattle.ir_code.specs.Serving.{ends_read, payload_need}
+use Rattle.ir_code.specs.Typing.{takes, gives, names, last_of, front_of, has_room, end_with, turned, may_stand, all_stand, all_turned, stack_in, goes_with, exit_stands, block_stands, each_stands, are_typed}
+use Rattle.ir_code.specs.Ways.{depth_at, lies_below, leads, lead_from, lead_forward}
 use Rattle.bt_lower.specs.Sound.{Footing, ground_in, HasRoom, MayStand, Turns, Target, LeadsTo, SoundBlock, Sound}
 use Rattle.bt_lower.proofs.Lists.{last-append, front-append}
 use Rattle.bt_lower.proofs.Loops.{some-below}

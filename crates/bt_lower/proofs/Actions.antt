@@ -22,11 +22,11 @@ use Rattle.walk_meaning.specs.Does.{Scene as Walked}
 use Rattle.walk_meaning.specs.Exprs.{number_value}
 use Rattle.walk_meaning.specs.Maps.{with_variable, variable}
 use Rattle.walk_meaning.specs.Stmts.{set_variable, set_map, update_variable, update_map, gather, printf, delete_at, plain}
-use Rattle.bt_ir.specs.declared.instr.Instr.TheVariants as i
-use Rattle.bt_ir.specs.Asking.{part, told as asks_for}
-use Rattle.bt_ir.specs.Meaning.{instr_run, updated}
-use Rattle.bt_ir.specs.Typing.{last_of, front_of}
-use Rattle.bt_ir.specs.Values.{top, below, number_of}
+use Rattle.ir_code.specs.declared.instr.Instr.TheVariants as i
+use Rattle.ir_code.specs.Asking.{part, told as asks_for}
+use Rattle.ir_code.specs.Meaning.{instr_run, updated}
+use Rattle.ir_code.specs.Typing.{last_of, front_of}
+use Rattle.ir_code.specs.Values.{top, below, number_of}
 use Rattle.bt_lower.specs.Lowers.{state, seen_by}
 use Rattle.bt_lower.specs.Sound.{Site}
 use Rattle.bt_lower.proofs.Blocks.{and_then-same}

@@ -6,11 +6,11 @@ use Rattle.bt_core.specs.declared.ending.Ending.{Ending}
 use Rattle.bt_core.specs.declared.map.Shape.{Shape}
 use Rattle.bt_core.specs.Interaction.{Interaction, Ended, Asks, and_then}
 use Rattle.bt_core.proofs.InteractionLaws.{and_then_assoc}
-use Rattle.bt_ir.specs.declared.instr.Instr.{Instr}
-use Rattle.bt_ir.specs.declared.blocks.Exit.TheVariants.{Goto}
-use Rattle.bt_ir.specs.declared.blocks.Block.{Block}
-use Rattle.bt_ir.specs.declared.stack.State.{State}
-use Rattle.bt_ir.specs.Meaning.{Scene, instr_run, instrs_run, exit_run, code_run, block_run, run_from}
+use Rattle.ir_code.specs.declared.instr.Instr.{Instr}
+use Rattle.ir_code.specs.declared.blocks.Exit.TheVariants.{Goto}
+use Rattle.ir_code.specs.declared.blocks.Block.{Block}
+use Rattle.ir_code.specs.declared.state.State.{State}
+use Rattle.ir_code.specs.Meaning.{Scene, instr_run, instrs_run, exit_run, code_run, block_run, run_from}
 use Rattle.bt_lower.specs.declared.code.Code.{Code}
 use Rattle.bt_lower.specs.Code.{pushed, open_block, begun, closed}
 use Rattle.bt_lower.specs.Lowers.{Stand, Grew, Runs, Reaches}

@@ -19,13 +19,13 @@ use Rattle.walk_meaning.specs.Does.{Scene as Walked}
 use Rattle.walk_meaning.specs.Exprs.{number_does}
 use Rattle.walk_meaning.specs.Stmts.{block_does}
 use Rattle.walk_meaning.specs.Walk.{guarded, ending_of}
-use Rattle.bt_ir.specs.declared.blocks.Block.{Block}
-use Rattle.bt_ir.specs.declared.blocks.Exit.TheVariants.{Goto, Branch}
-use Rattle.bt_ir.specs.Figures.{sizes_of, blocks_slots}
-use Rattle.bt_ir.specs.Meaning.{blocks_run, run_from}
-use Rattle.bt_ir.specs.Running.{payload_need}
-use Rattle.bt_ir.specs.Typing.{stack_in, are_typed}
-use Rattle.bt_ir.specs.Ways.{depth_in, depth_at, lead_forward}
+use Rattle.ir_code.specs.declared.blocks.Block.{Block}
+use Rattle.ir_code.specs.declared.blocks.Exit.TheVariants.{Goto, Branch}
+use Rattle.ir_code.specs.Figures.{sizes_of, blocks_slots}
+use Rattle.ir_code.specs.Meaning.{blocks_run, run_from}
+use Rattle.ir_code.specs.Serving.{payload_need}
+use Rattle.ir_code.specs.Typing.{stack_in, are_typed}
+use Rattle.ir_code.specs.Ways.{depth_in, depth_at, lead_forward}
 use Rattle.bt_lower.specs.declared.code.Code.{Code}
 use Rattle.bt_lower.specs.declared.code.Ways.{Ways}
 use Rattle.bt_lower.specs.Bodies.{guarded_parts, guarded_need, LowersGuarded, LowersTree}

@@ -18,7 +18,7 @@ use Rattle.walk_meaning.specs.Does.{Does}
 use Rattle.walk_meaning.specs.Exprs.{number_does}
 use Rattle.walk_meaning.specs.Stmts.{block_does}
 use Rattle.walk_meaning.proofs.StmtDoes.{if_stmt}
-use Rattle.bt_ir.specs.declared.blocks.Exit.TheVariants.{Goto, Branch}
+use Rattle.ir_code.specs.declared.blocks.Exit.TheVariants.{Goto, Branch}
 use Rattle.bt_lower.specs.declared.code.Code.{Code}
 use Rattle.bt_lower.specs.declared.code.Ways.{Ways}
 use Rattle.bt_lower.specs.Code.{begun, closed}

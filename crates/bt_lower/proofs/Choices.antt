@@ -16,14 +16,14 @@ use Rattle.walk_meaning.specs.declared.flow.Frame.{Frame}
 use Rattle.walk_meaning.specs.Does.{Does, given, bind, choose, either, holds, in_order}
 use Rattle.walk_meaning.specs.Does.{Scene as Walked}
 use Rattle.walk_meaning.specs.Exprs.{number_value}
-use Rattle.bt_ir.specs.declared.blocks.Block.{Block}
-use Rattle.bt_ir.specs.declared.blocks.Exit.TheVariants.{Goto, Branch}
-use Rattle.bt_ir.specs.declared.stack.State.{State}
-use Rattle.bt_ir.specs.declared.stack.Way.TheVariants.{To}
-use Rattle.bt_ir.specs.Figures.{sizes_of}
-use Rattle.bt_ir.specs.Meaning.{Scene, run_from, goes_on}
-use Rattle.bt_ir.specs.Typing.{front_of}
-use Rattle.bt_ir.specs.Values.{top, below, number_of}
+use Rattle.ir_code.specs.declared.blocks.Block.{Block}
+use Rattle.ir_code.specs.declared.blocks.Exit.TheVariants.{Goto, Branch}
+use Rattle.ir_code.specs.declared.state.State.{State}
+use Rattle.ir_code.specs.declared.state.Way.TheVariants.{To}
+use Rattle.ir_code.specs.Figures.{sizes_of}
+use Rattle.ir_code.specs.Meaning.{Scene, run_from, goes_on}
+use Rattle.ir_code.specs.Typing.{front_of}
+use Rattle.ir_code.specs.Values.{top, below, number_of}
 use Rattle.bt_lower.specs.declared.code.Code.{Code}
 use Rattle.bt_lower.specs.Code.{begun, closed, untyped, open_block}
 use Rattle.bt_lower.specs.Lowers.{Stand, Grew, Runs, Reaches, state, seen_by, LowersValue, LowersArm}

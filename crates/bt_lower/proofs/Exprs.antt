@@ -12,11 +12,11 @@ use Rattle.typed_tree.specs.Scope.{Scope, all_fit}
 use Rattle.walk_meaning.specs.declared.flow.Frame.{Frame}
 use Rattle.walk_meaning.specs.Does.{Does, given, bind, gathered, in_order}
 use Rattle.walk_meaning.specs.Does.{Scene as Walked}
-use Rattle.bt_ir.specs.declared.instr.Instr.{Instr}
-use Rattle.bt_ir.specs.Figures.{sizes_of, instr_slots, instr_bytes}
-use Rattle.bt_ir.specs.Meaning.{instr_run}
-use Rattle.bt_ir.specs.Running.{end_read}
-use Rattle.bt_ir.specs.Typing.{takes, gives, names}
+use Rattle.ir_code.specs.declared.instr.Instr.{Instr}
+use Rattle.ir_code.specs.Figures.{sizes_of, instr_slots, instr_bytes}
+use Rattle.ir_code.specs.Meaning.{instr_run}
+use Rattle.ir_code.specs.Serving.{end_read}
+use Rattle.ir_code.specs.Typing.{takes, gives, names}
 use Rattle.bt_lower.specs.declared.code.Code.{Code}
 use Rattle.bt_lower.specs.Code.{pushed}
 use Rattle.bt_lower.specs.Lowers.{Runs, state, seen_by, LowersParts, LowersValue}

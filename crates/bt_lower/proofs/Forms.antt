@@ -17,7 +17,7 @@ use Rattle.walk_meaning.specs.declared.flow.Flow.{Flow}
 use Rattle.walk_meaning.specs.Does.{Does}
 use Rattle.walk_meaning.specs.Exprs.{value_does, values_do, number_does}
 use Rattle.walk_meaning.specs.Stmts.{stmt_does, block_does, stmt_layer, block_layer, set_variable, set_map, update_variable, update_map, gather, number_or_one, plain, printf, print, clear, zero_all, delete_at, jump_to, while_true, turns}
-use Rattle.bt_ir.specs.Figures.{by_shape}
+use Rattle.ir_code.specs.Figures.{by_shape}
 use Rattle.bt_lower.specs.Lowers.{all_made}
 use Rattle.bt_lower.specs.Needs.{Need, need, more, greater, beside, list_frame, codes_in, value_need, values_need, number_need, gather_need, jump_need, stmt_need, block_need}
 use Rattle.bt_lower.specs.Needs.{stmt_layer as stmt_needs, block_layer as block_needs}

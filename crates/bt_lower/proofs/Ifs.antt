@@ -17,11 +17,11 @@ use Rattle.walk_meaning.specs.declared.flow.Frame.{Frame}
 use Rattle.walk_meaning.specs.Does.{Does, given, bind, choose, either, holds, in_order}
 use Rattle.walk_meaning.specs.Does.{Scene as Walked}
 use Rattle.walk_meaning.specs.Exprs.{number_value}
-use Rattle.bt_ir.specs.declared.blocks.Block.{Block}
-use Rattle.bt_ir.specs.declared.blocks.Exit.TheVariants.{Goto, Branch}
-use Rattle.bt_ir.specs.Figures.{sizes_of}
-use Rattle.bt_ir.specs.Meaning.{Scene}
-use Rattle.bt_ir.specs.Values.{top, number_of}
+use Rattle.ir_code.specs.declared.blocks.Block.{Block}
+use Rattle.ir_code.specs.declared.blocks.Exit.TheVariants.{Goto, Branch}
+use Rattle.ir_code.specs.Figures.{sizes_of}
+use Rattle.ir_code.specs.Meaning.{Scene}
+use Rattle.ir_code.specs.Values.{top, number_of}
 use Rattle.bt_lower.specs.declared.code.Code.{Code}
 use Rattle.bt_lower.specs.declared.code.Ways.{Ways}
 use Rattle.bt_lower.specs.Code.{begun, closed, open_block}

@@ -7,8 +7,8 @@ use Rattle.typed_tree.specs.declared.stmt.TypedStmt.{TypedStmt}
 use Rattle.typed_tree.specs.declared.stmt.TypedStmt.TheVariants as stmts
 use Rattle.typed_tree.specs.Parts.{Jumped}
 use Rattle.walk_meaning.specs.Stmts.{jump_to}
-use Rattle.bt_ir.specs.declared.blocks.Exit.TheVariants.{Goto, End}
-use Rattle.bt_ir.specs.declared.instr.Instr.TheVariants as i
+use Rattle.ir_code.specs.declared.blocks.Exit.TheVariants.{Goto, End}
+use Rattle.ir_code.specs.declared.instr.Instr.TheVariants as i
 use Rattle.bt_lower.specs.declared.code.Code.{Code}
 use Rattle.bt_lower.specs.declared.code.Ways.{Ways}
 use Rattle.bt_lower.specs.Code.{begun, pushed}

@@ -15,11 +15,11 @@ use Rattle.walk_meaning.specs.Does.{Does, given, bind, holds}
 use Rattle.walk_meaning.specs.Does.{Scene as Walked}
 use Rattle.walk_meaning.specs.Exprs.{number_value}
 use Rattle.walk_meaning.specs.Stmts.{turn, again, tests}
-use Rattle.bt_ir.specs.declared.blocks.Block.{Block}
-use Rattle.bt_ir.specs.declared.blocks.Exit.TheVariants.{Branch, End}
-use Rattle.bt_ir.specs.declared.instr.Instr.TheVariants as i
-use Rattle.bt_ir.specs.Figures.{sizes_of, instrs_slots, exit_slots, blocks_slots}
-use Rattle.bt_ir.specs.Values.{top, number_of}
+use Rattle.ir_code.specs.declared.blocks.Block.{Block}
+use Rattle.ir_code.specs.declared.blocks.Exit.TheVariants.{Branch, End}
+use Rattle.ir_code.specs.declared.instr.Instr.TheVariants as i
+use Rattle.ir_code.specs.Figures.{sizes_of, instrs_slots, exit_slots, blocks_slots}
+use Rattle.ir_code.specs.Values.{top, number_of}
 use Rattle.bt_lower.specs.declared.code.Code.{Code}
 use Rattle.bt_lower.specs.Code.{pushed, begun, closed, open_block, reserved, placeholder, gated, turn_end, with_cut}
 use Rattle.bt_lower.specs.Lowers.{Stand, Grew, Reaches, state, seen_by, LowersValue, LowersBlock}

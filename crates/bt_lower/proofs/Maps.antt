@@ -17,12 +17,12 @@ use Rattle.typed_tree.specs.Parts.{Part, MapOf}
 use Rattle.typed_tree.specs.Scope.{fits, decl_of, is_declared, same_kind, same_shapes, kind_of_shape}
 use Rattle.walk_meaning.specs.Does.{Does, given, asked, bind}
 use Rattle.walk_meaning.specs.Exprs.{number_value, text_value, read_number, read_text, step_map}
-use Rattle.bt_ir.specs.declared.instr.Instr.TheVariants as i
-use Rattle.bt_ir.specs.Asking.{got}
-use Rattle.bt_ir.specs.Figures.{sizes_of}
-use Rattle.bt_ir.specs.Meaning.{stepped}
-use Rattle.bt_ir.specs.Typing.{is_key, holds_shape, front_of}
-use Rattle.bt_ir.specs.Values.{number_of, text_of}
+use Rattle.ir_code.specs.declared.instr.Instr.TheVariants as i
+use Rattle.ir_code.specs.Asking.{got}
+use Rattle.ir_code.specs.Figures.{sizes_of}
+use Rattle.ir_code.specs.Meaning.{stepped}
+use Rattle.ir_code.specs.Typing.{is_key, holds_shape, front_of}
+use Rattle.ir_code.specs.Values.{number_of, text_of}
 use Rattle.bt_lower.specs.declared.code.Code.{Code}
 use Rattle.bt_lower.specs.Code.{pushed}
 use Rattle.bt_lower.specs.Lowers.{state, LowersParts, LowersValue}
@@ -31,7 +31,7 @@ use Rattle.bt_lower.specs.Sound.{ground_in, Site}
 use Rattle.bt_lower.proofs.Opening.{none-read}
 use Rattle.bt_lower.proofs.Exprs.{Puts, Parts-put}
 use Rattle.bt_lower.proofs.Lists.{last-append, front-append, fit-head}
-use Rattle.bt_ir.proofs.Shaped.{same_shapes-is}
+use Rattle.ir_code.proofs.Shaped.{same_shapes-is}
 
 -- ---- what a map is named for
 

@@ -5,13 +5,13 @@ use Rattle.std.proofs.lemmas.Bool.{cases_lt}
 use Rattle.std.proofs.lemmas.List.{reverse-append}
 use Rattle.bt_core.specs.declared.map.Shape.{Shape}
 use Rattle.bt_core.specs.declared.map.Shape.TheVariants.{Int}
-use Rattle.bt_ir.specs.declared.instr.Instr.{Instr}
-use Rattle.bt_ir.specs.declared.blocks.Exit.TheVariants.{Goto, Branch}
-use Rattle.bt_ir.specs.declared.blocks.Block.{Block}
-use Rattle.bt_ir.specs.Figures.{sizes_of, instr_bytes}
-use Rattle.bt_ir.specs.Typing.{takes, gives, names, stack_in, front_of}
-use Rattle.bt_ir.specs.Running.{end_read}
-use Rattle.bt_ir.specs.Ways.{depth_in}
+use Rattle.ir_code.specs.declared.instr.Instr.{Instr}
+use Rattle.ir_code.specs.declared.blocks.Exit.TheVariants.{Goto, Branch}
+use Rattle.ir_code.specs.declared.blocks.Block.{Block}
+use Rattle.ir_code.specs.Figures.{sizes_of, instr_bytes}
+use Rattle.ir_code.specs.Typing.{takes, gives, names, stack_in, front_of}
+use Rattle.ir_code.specs.Serving.{end_read}
+use Rattle.ir_code.specs.Ways.{depth_in}
 use Rattle.bt_lower.specs.declared.code.Code.{Code}
 use Rattle.bt_lower.specs.Code.{pushed, open_block, begun, closed, taken_back}
 use Rattle.bt_lower.specs.Sound.{Footing, ground_in, HasRoom, Turns, Target, SoundBlock, Opens, Sound}

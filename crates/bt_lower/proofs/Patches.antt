@@ -1,7 +1,7 @@
 -- The block that ends a loop's turns gets its place before its exit is known.
 use Rattle.std.proofs.Common.{◌≡◌, ◌≢◌, ℕ, zero, suc, ◌-◌, ◌<◌, ◌≤◌, List, [], ◌∷◌, ◌++◌, length, refl, sym, ap, ◌∙◌, arith, Some, length-set}
 use Rattle.std.specs.Prelude.{slice_get, slice_set}
-use Rattle.bt_ir.specs.declared.blocks.Block.{Block}
+use Rattle.ir_code.specs.declared.blocks.Block.{Block}
 use Rattle.bt_lower.specs.Lowers.{Stand, Grew}
 use Rattle.bt_lower.proofs.Blocks.{Stand-before}
 

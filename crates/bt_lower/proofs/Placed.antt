@@ -27,14 +27,14 @@ use Rattle.walk_meaning.specs.Walk.{fresh as fresh_in_walk}
 use Rattle.walk_meaning.specs.Walk.{unassigned as unassigned_in_walk}
 use Rattle.walk_meaning.specs.Served.{least_length}
 use Rattle.walk_meaning.proofs.Declared.{served, served_pick, fine, same_field-end}
-use Rattle.bt_ir.specs.declared.blocks.Block.{Block}
-use Rattle.bt_ir.specs.declared.probe.IrProbe.{IrProbe}
-use Rattle.bt_ir.specs.declared.stack.State.{State}
-use Rattle.bt_ir.specs.Running.{payload_need}
-use Rattle.bt_ir.specs.Meaning.{fresh, blocks_run, ir_run}
-use Rattle.bt_ir.specs.Typing.{are_typed}
-use Rattle.bt_ir.specs.Ways.{lead_forward}
-use Rattle.bt_ir.specs.Values.{unassigned}
+use Rattle.ir_code.specs.declared.blocks.Block.{Block}
+use Rattle.ir_code.specs.declared.probe.IrProbe.{IrProbe}
+use Rattle.ir_code.specs.declared.state.State.{State}
+use Rattle.ir_code.specs.Serving.{payload_need}
+use Rattle.ir_code.specs.Meaning.{fresh, blocks_run, ir_run}
+use Rattle.ir_code.specs.Typing.{are_typed}
+use Rattle.ir_code.specs.Ways.{lead_forward}
+use Rattle.ir_code.specs.Values.{unassigned}
 use Rattle.bt_lower.specs.Bodies.{footing_of, HasPlace, LowersTree}
 use Rattle.bt_lower.specs.Lowers.{state}
 use Rattle.bt_lower.specs.Needs.{tree_need}

@@ -5,7 +5,7 @@ use Rattle.std.proofs.lemmas.Bool.{cases_lt}
 use Rattle.bt_core.specs.declared.map.MapDecl.{MapDecl}
 use Rattle.bt_core.specs.declared.map.Shape.{Shape}
 use Rattle.typed_tree.specs.declared.body.TypedBody.{TypedBody}
-use Rattle.bt_ir.specs.declared.probe.IrProbe.{IrProbe}
+use Rattle.ir_code.specs.declared.probe.IrProbe.{IrProbe}
 use Rattle.bt_lower.specs.Bodies.{IsLowered, LoweredSoFar}
 use Rattle.bt_lower.proofs.Blocks.{slice_get-append, slice_get-seam}
 use Rattle.bt_lower.proofs.Loops.{some-below}

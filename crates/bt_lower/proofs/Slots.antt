@@ -2,11 +2,11 @@
 use Rattle.std.proofs.Common.{◌≡◌, ℕ, ◌+◌, ◌≤◌, List, [], ◌∷◌, ◌++◌, reverse, refl, ap, arith}
 use Rattle.std.proofs.lemmas.List.{reverse-append}
 use Rattle.bt_core.specs.declared.map.Shape.{Shape}
-use Rattle.bt_ir.specs.declared.instr.Instr.{Instr}
-use Rattle.bt_ir.specs.declared.blocks.Block.{Block}
-use Rattle.bt_ir.specs.declared.blocks.Exit.{Exit}
-use Rattle.bt_ir.specs.declared.blocks.Exit.TheVariants as e
-use Rattle.bt_ir.specs.Figures.{instr_slots, exit_slots, instrs_slots, blocks_slots}
+use Rattle.ir_code.specs.declared.instr.Instr.{Instr}
+use Rattle.ir_code.specs.declared.blocks.Block.{Block}
+use Rattle.ir_code.specs.declared.blocks.Exit.{Exit}
+use Rattle.ir_code.specs.declared.blocks.Exit.TheVariants as e
+use Rattle.ir_code.specs.Figures.{instr_slots, exit_slots, instrs_slots, blocks_slots}
 use Rattle.bt_lower.specs.declared.code.Code.{Code}
 use Rattle.bt_lower.specs.Code.{pushed, closed, untyped, begun, reserved, gated, open_block, placeholder, code_slots}
 

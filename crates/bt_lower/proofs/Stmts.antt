@@ -17,18 +17,18 @@ use Rattle.walk_meaning.specs.Does.{Does, given, bind, asked, in_order}
 use Rattle.walk_meaning.specs.Does.{Scene as Walked}
 use Rattle.walk_meaning.specs.Stmts.{in_turn, if_next, jump_to}
 use Rattle.typed_tree.specs.declared.stmt.Jump.TheVariants as jumps
-use Rattle.bt_ir.specs.declared.blocks.Block.{Block}
-use Rattle.bt_ir.specs.declared.blocks.Exit.{Exit}
-use Rattle.bt_ir.specs.declared.blocks.Exit.TheVariants.{Goto, End}
-use Rattle.bt_ir.specs.declared.instr.Instr.{Instr}
-use Rattle.bt_ir.specs.declared.instr.Instr.TheVariants as i
+use Rattle.ir_code.specs.declared.blocks.Block.{Block}
+use Rattle.ir_code.specs.declared.blocks.Exit.{Exit}
+use Rattle.ir_code.specs.declared.blocks.Exit.TheVariants.{Goto, End}
+use Rattle.ir_code.specs.declared.instr.Instr.{Instr}
+use Rattle.ir_code.specs.declared.instr.Instr.TheVariants as i
 use Rattle.bt_core.specs.declared.step.ObjectId.TheVariants.{Clock}
 use Rattle.bt_core.specs.declared.step.Op.TheVariants as ops
-use Rattle.bt_ir.specs.Asking.{told as stop_asked}
-use Rattle.bt_ir.specs.Figures.{sizes_of, instr_slots, instr_bytes}
-use Rattle.bt_ir.specs.Meaning.{Scene, instr_run}
-use Rattle.bt_ir.specs.Running.{end_read}
-use Rattle.bt_ir.specs.Typing.{takes, gives, names}
+use Rattle.ir_code.specs.Asking.{told as stop_asked}
+use Rattle.ir_code.specs.Figures.{sizes_of, instr_slots, instr_bytes}
+use Rattle.ir_code.specs.Meaning.{Scene, instr_run}
+use Rattle.ir_code.specs.Serving.{end_read}
+use Rattle.ir_code.specs.Typing.{takes, gives, names}
 use Rattle.bt_lower.specs.declared.code.Code.{Code}
 use Rattle.bt_lower.specs.declared.code.Ways.{Ways}
 use Rattle.bt_lower.specs.Code.{pushed, begun, closed, open_block, code_slots}

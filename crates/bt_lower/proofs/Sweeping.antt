@@ -25,11 +25,11 @@ use Rattle.walk_meaning.specs.Does.{given, seen, asked, bind, told}
 use Rattle.walk_meaning.specs.Does.{Scene as Walked}
 use Rattle.walk_meaning.specs.Maps.{kind_of, kind_or_numbers, swept, asked_from, holder, holders, sweep_op}
 use Rattle.walk_meaning.specs.Stmts.{print, clear, zero_all, plain}
-use Rattle.bt_ir.specs.declared.instr.Instr.TheVariants as i
-use Rattle.bt_ir.specs.declared.sweep.Sweep.{Sweep}
-use Rattle.bt_ir.specs.declared.sweep.Sweep.TheVariants as ours
-use Rattle.bt_ir.specs.Asking as ir
-use Rattle.bt_ir.specs.Meaning.{instr_run, printed}
+use Rattle.ir_code.specs.declared.instr.Instr.TheVariants as i
+use Rattle.ir_code.specs.declared.sweep.Sweep.{Sweep}
+use Rattle.ir_code.specs.declared.sweep.Sweep.TheVariants as ours
+use Rattle.ir_code.specs.Asking as ir
+use Rattle.ir_code.specs.Meaning.{instr_run, printed}
 use Rattle.bt_lower.specs.Lowers.{state, seen_by}
 use Rattle.bt_lower.specs.Sound.{Site}
 use Rattle.bt_lower.proofs.Lists.{fit-head}

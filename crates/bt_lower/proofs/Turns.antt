@@ -16,12 +16,12 @@ use Rattle.walk_meaning.specs.declared.flow.Frame.{Frame}
 use Rattle.walk_meaning.specs.Does.{Does, given, seen, changed, asked, bind}
 use Rattle.walk_meaning.specs.Does.{Scene as Walked}
 use Rattle.walk_meaning.specs.Stmts.{cut, turn, again}
-use Rattle.bt_ir.specs.declared.blocks.Block.{Block}
-use Rattle.bt_ir.specs.declared.blocks.Exit.TheVariants.{Again, End}
-use Rattle.bt_ir.specs.declared.instr.Instr.TheVariants as i
-use Rattle.bt_ir.specs.declared.stack.State.{State}
-use Rattle.bt_ir.specs.Asking.{told as asks_for}
-use Rattle.bt_ir.specs.Meaning.{Scene, block_run, run_from}
+use Rattle.ir_code.specs.declared.blocks.Block.{Block}
+use Rattle.ir_code.specs.declared.blocks.Exit.TheVariants.{Again, End}
+use Rattle.ir_code.specs.declared.instr.Instr.TheVariants as i
+use Rattle.ir_code.specs.declared.state.State.{State}
+use Rattle.ir_code.specs.Asking.{told as asks_for}
+use Rattle.ir_code.specs.Meaning.{Scene, block_run, run_from}
 use Rattle.bt_lower.specs.declared.code.Code.{Code}
 use Rattle.bt_lower.specs.Code.{pushed, begun, gated, with_cut}
 use Rattle.bt_lower.specs.Lowers.{Stand, Runs, Reaches, state}

@@ -7,8 +7,8 @@ use Rattle.typed_tree.specs.declared.stmt.TypedStmt.TheVariants as stmts
 use Rattle.typed_tree.specs.Parts.{block_parts, stmt_parts, Unrolled}
 use Rattle.typed_tree.specs.Scope.{Scope, all_fit}
 use Rattle.walk_meaning.specs.Stmts.{stmt_does, block_does, turns}
-use Rattle.bt_ir.specs.declared.blocks.Exit.TheVariants.{Count}
-use Rattle.bt_ir.specs.declared.instr.Instr.TheVariants as i
+use Rattle.ir_code.specs.declared.blocks.Exit.TheVariants.{Count}
+use Rattle.ir_code.specs.declared.instr.Instr.TheVariants as i
 use Rattle.bt_lower.specs.declared.code.Code.{Code}
 use Rattle.bt_lower.specs.declared.code.Ways.{Ways}
 use Rattle.bt_lower.specs.Code.{pushed, begun, closed, reserved, gated, patched, with_cut}

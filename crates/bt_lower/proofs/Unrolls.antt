@@ -16,15 +16,15 @@ use Rattle.walk_meaning.specs.declared.flow.Frame.{Frame}
 use Rattle.walk_meaning.specs.Does.{Does, given}
 use Rattle.walk_meaning.specs.Does.{Scene as Walked}
 use Rattle.walk_meaning.specs.Stmts.{turns}
-use Rattle.bt_ir.specs.declared.blocks.Block.{Block}
-use Rattle.bt_ir.specs.declared.blocks.Exit.TheVariants.{Count, End}
-use Rattle.bt_ir.specs.declared.instr.Instr.TheVariants as i
-use Rattle.bt_ir.specs.declared.stack.State.{State}
-use Rattle.bt_ir.specs.Figures.{sizes_of, blocks_slots}
-use Rattle.bt_ir.specs.Meaning.{Scene, run_from, exit_run, goes_on, count_way, counted}
-use Rattle.bt_ir.specs.Typing.{stack_in}
-use Rattle.bt_ir.specs.Values.{number_of, below}
-use Rattle.bt_ir.specs.Ways.{depth_in}
+use Rattle.ir_code.specs.declared.blocks.Block.{Block}
+use Rattle.ir_code.specs.declared.blocks.Exit.TheVariants.{Count, End}
+use Rattle.ir_code.specs.declared.instr.Instr.TheVariants as i
+use Rattle.ir_code.specs.declared.state.State.{State}
+use Rattle.ir_code.specs.Figures.{sizes_of, blocks_slots}
+use Rattle.ir_code.specs.Meaning.{Scene, run_from, exit_run, goes_on, count_way, counted}
+use Rattle.ir_code.specs.Typing.{stack_in}
+use Rattle.ir_code.specs.Values.{number_of, below}
+use Rattle.ir_code.specs.Ways.{depth_in}
 use Rattle.bt_lower.specs.declared.code.Code.{Code}
 use Rattle.bt_lower.specs.declared.code.Ways.{Ways}
 use Rattle.bt_lower.specs.Code.{pushed, begun, closed, open_block, reserved, placeholder, gated, patched, turn_end, with_cut, code_slots}

@@ -8,7 +8,7 @@ use Rattle.typed_tree.specs.Parts.{Part, num_parts, block_parts, Looped}
 use Rattle.typed_tree.specs.Scope.{Scope, all_fit}
 use Rattle.walk_meaning.specs.Exprs.{number_does}
 use Rattle.walk_meaning.specs.Stmts.{block_does, while_true}
-use Rattle.bt_ir.specs.declared.blocks.Exit.TheVariants.{Branch}
+use Rattle.ir_code.specs.declared.blocks.Exit.TheVariants.{Branch}
 use Rattle.bt_lower.specs.declared.code.Code.{Code}
 use Rattle.bt_lower.specs.declared.code.Ways.{Ways}
 use Rattle.bt_lower.specs.Code.{begun, closed, reserved, gated, patched, with_cut}

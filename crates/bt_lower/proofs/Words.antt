@@ -19,14 +19,14 @@ use Rattle.walk_meaning.specs.declared.flow.Frame.{Frame}
 use Rattle.walk_meaning.specs.Does.{Does, given, seen, bind, holds}
 use Rattle.walk_meaning.specs.Does.{Scene as Walked}
 use Rattle.walk_meaning.specs.Exprs.{number_value, text_value, before, both, compared, tested, builtin, builtin_value, command}
-use Rattle.bt_ir.specs.declared.instr.Instr.{Instr}
-use Rattle.bt_ir.specs.declared.instr.Instr.TheVariants as i
+use Rattle.ir_code.specs.declared.instr.Instr.{Instr}
+use Rattle.ir_code.specs.declared.instr.Instr.TheVariants as i
 use Rattle.bt_core.specs.declared.map.MapDecl.{MapDecl}
-use Rattle.bt_ir.specs.Figures.{sizes_of, instr_slots, instr_bytes}
-use Rattle.bt_ir.specs.Meaning.{instr_run}
-use Rattle.bt_ir.specs.Running.{end_read}
-use Rattle.bt_ir.specs.Typing.{takes, gives, names}
-use Rattle.bt_ir.specs.Values.{top, below, number_of, text_of}
+use Rattle.ir_code.specs.Figures.{sizes_of, instr_slots, instr_bytes}
+use Rattle.ir_code.specs.Meaning.{instr_run}
+use Rattle.ir_code.specs.Serving.{end_read}
+use Rattle.ir_code.specs.Typing.{takes, gives, names}
+use Rattle.ir_code.specs.Values.{top, below, number_of, text_of}
 use Rattle.bt_lower.specs.declared.code.Code.{Code}
 use Rattle.bt_lower.specs.Code.{pushed}
 use Rattle.bt_lower.specs.Lowers.{state, seen_by, LowersValue}

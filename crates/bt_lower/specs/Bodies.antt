@@ -18,13 +18,13 @@ use Rattle.walk_meaning.specs.Does.{Scene as Walked}
 use Rattle.walk_meaning.specs.Stmts.{block_does}
 use Rattle.walk_meaning.specs.Walk.{guarded, tree_does, walk}
 use Rattle.walk_meaning.specs.Served.{least_length}
-use Rattle.bt_ir.specs.declared.blocks.Block.{Block}
-use Rattle.bt_ir.specs.declared.probe.IrProbe.{IrProbe}
-use Rattle.bt_ir.specs.Figures.{blocks_slots}
-use Rattle.bt_ir.specs.Meaning.{blocks_run, ir_run}
-use Rattle.bt_ir.specs.Running.{payload_need}
-use Rattle.bt_ir.specs.Typing.{are_typed}
-use Rattle.bt_ir.specs.Ways.{lead_forward}
+use Rattle.ir_code.specs.declared.blocks.Block.{Block}
+use Rattle.ir_code.specs.declared.probe.IrProbe.{IrProbe}
+use Rattle.ir_code.specs.Figures.{blocks_slots}
+use Rattle.ir_code.specs.Meaning.{blocks_run, ir_run}
+use Rattle.ir_code.specs.Serving.{payload_need}
+use Rattle.ir_code.specs.Typing.{are_typed}
+use Rattle.ir_code.specs.Ways.{lead_forward}
 use Rattle.bt_lower.specs.declared.code.Code.{Code}
 use Rattle.bt_lower.specs.declared.code.Ways.{Ways}
 use Rattle.bt_lower.specs.Lowers.{LowersStmt, seen_by, state}

@@ -2,13 +2,13 @@
 use Rattle.std.specs.Prelude.{ℕ, ◌+◌, ◌-◌, List, [], ◌∷◌, ◌++◌, length, reverse, slice_set}
 use Rattle.bt_core.specs.declared.ending.Ending.TheVariants.{End as AtEnd, Cut as AtCut}
 use Rattle.bt_core.specs.declared.map.Shape.{Shape}
-use Rattle.bt_ir.specs.declared.blocks.Block.{Block}
-use Rattle.bt_ir.specs.declared.blocks.Exit.{Exit}
-use Rattle.bt_ir.specs.declared.blocks.Exit.TheVariants.{Goto, Gate, Again, End}
-use Rattle.bt_ir.specs.declared.instr.Instr.{Instr}
-use Rattle.bt_ir.specs.declared.instr.Instr.TheVariants.{Cut}
-use Rattle.bt_ir.specs.Figures.{instrs_slots, exit_slots, blocks_slots}
-use Rattle.bt_ir.specs.Typing.{takes, gives, front_of}
+use Rattle.ir_code.specs.declared.blocks.Block.{Block}
+use Rattle.ir_code.specs.declared.blocks.Exit.{Exit}
+use Rattle.ir_code.specs.declared.blocks.Exit.TheVariants.{Goto, Gate, Again, End}
+use Rattle.ir_code.specs.declared.instr.Instr.{Instr}
+use Rattle.ir_code.specs.declared.instr.Instr.TheVariants.{Cut}
+use Rattle.ir_code.specs.Figures.{instrs_slots, exit_slots, blocks_slots}
+use Rattle.ir_code.specs.Typing.{takes, gives, front_of}
 use Rattle.bt_lower.specs.declared.code.Code.{Code}
 
 -- the code that ends a run

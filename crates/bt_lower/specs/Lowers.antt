@@ -21,11 +21,11 @@ use Rattle.walk_meaning.specs.Does.{Does, in_order}
 use Rattle.walk_meaning.specs.Does.{Scene as Walked}
 use Rattle.walk_meaning.specs.Exprs.{value_does, values_do, number_does, text_does, number_value, text_value}
 use Rattle.walk_meaning.specs.Stmts.{stmt_does, block_does, first_arm, block_or_next}
-use Rattle.bt_ir.specs.declared.blocks.Block.{Block}
-use Rattle.bt_ir.specs.declared.stack.State.{State}
-use Rattle.bt_ir.specs.Figures.{size_of, sizes_of, by_shape}
-use Rattle.bt_ir.specs.Meaning.{Scene, code_run, run_from}
-use Rattle.bt_ir.specs.Values.{shape_of}
+use Rattle.ir_code.specs.declared.blocks.Block.{Block}
+use Rattle.ir_code.specs.declared.state.State.{State}
+use Rattle.ir_code.specs.Figures.{size_of, sizes_of, by_shape}
+use Rattle.ir_code.specs.Meaning.{Scene, code_run, run_from}
+use Rattle.ir_code.specs.Values.{shape_of}
 use Rattle.bt_lower.specs.declared.code.Code.{Code}
 use Rattle.bt_lower.specs.declared.code.Ways.{Ways}
 use Rattle.bt_lower.specs.Code.{code_slots}

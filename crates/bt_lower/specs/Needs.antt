@@ -12,7 +12,7 @@ use Rattle.typed_tree.specs.declared.stmt.TypedStmt.{TypedStmt, fold-TypedStmt}
 use Rattle.typed_tree.specs.declared.stmt.TypedBlock.{TypedBlock, fold-TypedBlock}
 use Rattle.typed_tree.specs.declared.stmt.TypedStmt.TheOpen.{TypedStmt-F, TypedBlock-F}
 use Rattle.typed_tree.specs.Parts.{made_of}
-use Rattle.bt_ir.specs.Figures.{sizes_of, by_shape}
+use Rattle.ir_code.specs.Figures.{sizes_of, by_shape}
 pub use Rattle.bt_lower.specs.declared.need.Need.{Need}
 pub use Rattle.bt_lower.specs.declared.need.Valued.{Valued}
 use Rattle.bt_lower.specs.declared.need.Listed.{Listed}

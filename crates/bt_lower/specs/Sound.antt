@@ -9,14 +9,14 @@ use Rattle.fmt_text.specs.declared.piece.Piece.{Piece}
 use Rattle.tracefs_format.specs.declared.field.Field.{Field}
 use Rattle.tracefs_format.specs.Sizes.{end_of}
 use Rattle.typed_tree.specs.Scope.{Scope, decl_of, format_of, has_field}
-use Rattle.bt_ir.specs.declared.blocks.Block.{Block}
-use Rattle.bt_ir.specs.declared.blocks.Exit.{Exit}
-use Rattle.bt_ir.specs.declared.blocks.Exit.TheVariants.{Goto, Branch, Count, Gate, Again, End}
-use Rattle.bt_ir.specs.declared.instr.Instr.{Instr}
-use Rattle.bt_ir.specs.Figures.{sizes_of, instr_bytes}
-use Rattle.bt_ir.specs.Running.{end_read}
-use Rattle.bt_ir.specs.Typing.{Ground, takes, gives, names, stack_in}
-use Rattle.bt_ir.specs.Ways.{depth_at}
+use Rattle.ir_code.specs.declared.blocks.Block.{Block}
+use Rattle.ir_code.specs.declared.blocks.Exit.{Exit}
+use Rattle.ir_code.specs.declared.blocks.Exit.TheVariants.{Goto, Branch, Count, Gate, Again, End}
+use Rattle.ir_code.specs.declared.instr.Instr.{Instr}
+use Rattle.ir_code.specs.Figures.{sizes_of, instr_bytes}
+use Rattle.ir_code.specs.Serving.{end_read}
+use Rattle.ir_code.specs.Typing.{Ground, takes, gives, names, stack_in}
+use Rattle.ir_code.specs.Ways.{depth_at}
 use Rattle.bt_lower.specs.declared.code.Code.{Code}
 
 -- what code stands on: what its instructions may name, the bytes of its frame, and how many bytes of the payload they may read

@@ -10,7 +10,7 @@ use bt_core::ending::Ending;
 use bt_core::items::Items;
 use bt_core::map::Shape;
 use bt_core::memory::Memory;
-use bt_ir::blocks::{Block, Exit};
+use ir_code::blocks::{Block, Exit};
 use std::alloc::Global;
 use typed_tree::body::TypedTree;
 use typed_tree::expr::NumExpr;

@@ -1,6 +1,6 @@
 // What statements and bodies need.
 ghost use Rattle.std.specs.Prelude.{◌≡◌, ◌+◌, IfOk};
-ghost use Rattle.bt_ir.specs.Figures.{by_shape};
+ghost use Rattle.ir_code.specs.Figures.{by_shape};
 ghost use Rattle.bt_lower.specs.Needs.{need, more, greater, set_map_need, update_map_need, taking_need, stmt_need, block_need, arm_need, tree_else_need, gather_need, number_need, value_need, values_need, tree_need};
 
 use crate::need::{

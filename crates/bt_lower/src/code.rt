@@ -1,14 +1,14 @@
 // The code of a body as it is made: from its end to its start.
 ghost use Rattle.std.specs.Prelude.{◌≡◌, ◌+◌, ◌++◌, OnOk, IfOk, length, reverse};
-ghost use Rattle.bt_ir.specs.Typing.{takes, gives, front_of};
+ghost use Rattle.ir_code.specs.Typing.{takes, gives, front_of};
 ghost use Rattle.bt_lower.specs.Code.{pushed, closed, begun, untyped, reserved, gated, patched, taken_back};
 
 use bt_core::ending::Ending;
 use bt_core::items::Items;
 use bt_core::map::Shape;
 use bt_core::memory::{Memory, TryCopy};
-use bt_ir::blocks::{Block, Exit};
-use bt_ir::instr::Instr;
+use ir_code::blocks::{Block, Exit};
+use ir_code::instr::Instr;
 use std::alloc::Global;
 use std::mem;
 

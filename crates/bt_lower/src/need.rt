@@ -2,12 +2,12 @@
 // holds no body that needs so much.
 ghost use Rattle.std.specs.Prelude.{◌≡◌, ◌+◌, IfOk, []};
 ghost use Rattle.bt_core.specs.declared.map.Shape.{Shape};
-ghost use Rattle.bt_ir.specs.Figures.{by_shape, sizes_of};
+ghost use Rattle.ir_code.specs.Figures.{by_shape, sizes_of};
 ghost use Rattle.bt_lower.specs.Needs.{need, more, greater, listed, before, then_beside, under, value_need, values_need, number_need, text_need, jump_need, predicate_need};
 
 use bt_core::map::Shape;
 use bt_core::memory::Memory;
-use bt_ir::figures::size_of;
+use ir_code::figures::size_of;
 use typed_tree::expr::{AnyExpr, NumExpr, StrExpr};
 use typed_tree::stmt::Jump;
 

@@ -5,7 +5,7 @@ ghost use Rattle.typed_tree.specs.Parts.{num_parts, str_parts, key_shapes};
 ghost use Rattle.walk_meaning.specs.Does.{given};
 ghost use Rattle.walk_meaning.specs.Exprs.{number_does, text_does, number_value, text_value, tested};
 ghost use Rattle.bt_lower.specs.Lowers.{LowersAny, LowersNumber, LowersText, LowersList, LowersArm, all_made, known_need};
-ghost use Rattle.bt_ir.specs.Values.{shape_of};
+ghost use Rattle.ir_code.specs.Values.{shape_of};
 ghost use Rattle.bt_lower.specs.Needs.{number_need, text_need, more};
 
 use crate::code::Code;
@@ -13,9 +13,9 @@ use bt_core::items::Items;
 use bt_core::map::Shape;
 use bt_core::memory::{Memory, TryCopy};
 use bt_core::value::Value;
-use bt_ir::blocks::Exit;
-use bt_ir::instr::Instr;
-use bt_ir::stack::shape_of;
+use ir_code::blocks::Exit;
+use ir_code::instr::Instr;
+use ir_code::state::shape_of;
 use std::alloc::Global;
 use typed_tree::expr::{AnyExpr, NumExpr, StrExpr};
 

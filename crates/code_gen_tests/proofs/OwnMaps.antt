@@ -1,10 +1,10 @@
 -- A port over a probe's own maps serves its blocks.
 use Rattle.std.proofs.Common.{◌≡◌, List, [], ◌∷◌, refl, sym, subst}
 use Rattle.bt_core.specs.declared.map.MapDecl.{MapDecl}
-use Rattle.bt_ir.specs.declared.blocks.Block.{Block}
-use Rattle.bt_ir.specs.declared.instr.Instr.{Instr}
-use Rattle.bt_ir.specs.declared.instr.Instr.TheVariants as i
-use Rattle.bt_ir.specs.Running.{ServesInstr, ServesInstrs, ServesBlocks}
+use Rattle.ir_code.specs.declared.blocks.Block.{Block}
+use Rattle.ir_code.specs.declared.instr.Instr.{Instr}
+use Rattle.ir_code.specs.declared.instr.Instr.TheVariants as i
+use Rattle.ir_code.specs.Serving.{ServesInstr, ServesInstrs, ServesBlocks}
 
 instr_served : (maps : List MapDecl) (x : Instr) → ServesInstr maps maps x
 instr_served maps (i.Put v) = tt

@@ -4,7 +4,7 @@ use bpf_frame::error::CodeError;
 use bpf_frame::frame::{Frame, Place};
 use bpf_frame::placing::place_frame;
 use bt_core::items::Items;
-use bt_ir::probe::IrProbe;
+use ir_code::probe::IrProbe;
 use bt_lower::lower::lower;
 use std::alloc::Global;
 use std::test::Fail;

@@ -30,7 +30,7 @@ use Rattle.typed_tree.specs.declared.body.TypedBody.{TypedBody}
 use Rattle.typed_tree.specs.declared.script.Typed.{Typed}
 use Rattle.bt_core.specs.Same.{SameTo}
 use Rattle.walk_meaning.specs.Walk.{walk}
-use Rattle.bt_ir.specs.declared.probe.IrProbe.{IrProbe}
+use Rattle.ir_code.specs.declared.probe.IrProbe.{IrProbe}
 use Rattle.bt_lower.specs.Bodies.{IsLowered, LowersScript}
 use Rattle.body_code.specs.Bodies.{IsDeskFor, IsEventFor, KeepsBody}
 use Rattle.body_code.specs.Holding.{SameEnd}

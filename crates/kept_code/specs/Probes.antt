@@ -1,7 +1,7 @@
 -- Code for each body in typed instructions.
 use Rattle.std.specs.Prelude.{◌≡◌, ℕ, List, length, Some, slice_get}
 use Rattle.bpf_insn.specs.declared.insn.Insn.{Insn}
-use Rattle.bt_ir.specs.declared.probe.IrProbe.{IrProbe}
+use Rattle.ir_code.specs.declared.probe.IrProbe.{IrProbe}
 use Rattle.body_code.specs.Bodies.{KeepsBody}
 
 -- there is one code for each, which keeps it

@@ -2,7 +2,7 @@
 ghost use Rattle.std.specs.Prelude.{List};
 ghost use Rattle.bpf_insn.specs.declared.insn.Insn.{Insn};
 ghost use Rattle.typed_tree.specs.declared.script.Typed.{Typed};
-ghost use Rattle.bt_ir.specs.declared.probe.IrProbe.{IrProbe};
+ghost use Rattle.ir_code.specs.declared.probe.IrProbe.{IrProbe};
 ghost use Rattle.bt_lower.specs.Bodies.{LowersScript};
 ghost use Rattle.code_bodies.specs.Kept.{KeepBodies};
 ghost use Rattle.kept_code.specs.Probes.{KeepProbes};

@@ -1,8 +1,8 @@
 // Walks of typed bodies, and runs of lowered ones, through the port.
 ghost use Rattle.std.specs.Prelude.{◌≡◌, ◌≤◌, All, Some, IsTrue, IfOk, length, slice_get};
 ghost use Rattle.std.specs.Option.{option_copied};
-ghost use Rattle.bt_ir.specs.declared.probe.IrProbe.{IrProbe as Probe};
-ghost use Rattle.bt_ir.specs.Running.{payload_need};
+ghost use Rattle.ir_code.specs.declared.probe.IrProbe.{IrProbe as Probe};
+ghost use Rattle.ir_code.specs.Serving.{payload_need};
 ghost use Rattle.walk_meaning.specs.Served.{least_length};
 
 use crate::port::Written;
@@ -13,7 +13,7 @@ use bt_core::map::MapDecl;
 use bt_core::memory::{Memory, TryCopy};
 use bt_core::step::{Reply, Step};
 use bt_core::text::Str64;
-use bt_ir::probe::IrProbe;
+use ir_code::probe::IrProbe;
 use bt_ir::run::run_ir;
 use bt_lower::lower::lower;
 use bt_walk::body::walk_body;

@@ -7,7 +7,7 @@ use Rattle.std.proofs.lemmas.Option.{slice_get-map}
 use Rattle.bpf_codegen.specs.declared.generate.Program.{Program}
 use Rattle.bt_core.specs.declared.map.MapDecl.{MapDecl}
 use Rattle.bt_core.specs.declared.map.Shape.{Shape}
-use Rattle.bt_ir.specs.declared.probe.IrProbe.{IrProbe}
+use Rattle.ir_code.specs.declared.probe.IrProbe.{IrProbe}
 use Rattle.bt_lower.specs.Bodies.{IsLowered, LowersScript}
 use Rattle.body_code.specs.Blocks.{code_of}
 use Rattle.body_code.specs.Bodies.{KeepsBody}

@@ -2,7 +2,7 @@
 use Rattle.std.specs.Prelude.{◌≡◌, List, None}
 use Rattle.std.specs.List.{AllZip}
 use Rattle.bpf_codegen.specs.declared.generate.Program.{Program}
-use Rattle.bt_ir.specs.declared.probe.IrProbe.{IrProbe}
+use Rattle.ir_code.specs.declared.probe.IrProbe.{IrProbe}
 use Rattle.body_code.specs.Blocks.{code_of}
 use Rattle.body_code.specs.Bodies.{KeepsBody}
 use Rattle.script_programs.specs.Programs.{IsProgram}

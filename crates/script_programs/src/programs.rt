@@ -9,7 +9,7 @@ use crate::error::{ProgramsError, SizeFault};
 use bpf_codegen::generate::{Program, generate_program};
 use bpf_frame::error::CodeError;
 use bt_core::items::Items;
-use bt_ir::probe::IrProbe;
+use ir_code::probe::IrProbe;
 use bt_lower::lower::lower;
 use std::alloc::Global;
 use typed_tree::script::Typed;

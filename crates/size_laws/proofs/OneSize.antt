@@ -17,7 +17,7 @@ use Rattle.expr_types.specs.Typing.{titles_of}
 use Rattle.bt_types.specs.Bodies.{nothing, told_at}
 use Rattle.bt_types.specs.Script.{IsTypedScript}
 use Rattle.bt_types.specs.Under.{IsUnder, AreUnder, known_or, known_behind}
-use Rattle.bt_ir.specs.Figures.{sizes_of}
+use Rattle.ir_code.specs.Figures.{sizes_of}
 use Rattle.bt_lower.specs.declared.need.Need.{Need}
 use Rattle.bt_lower.specs.Needs.{need, greater, predicate_need, block_need, tree_need}
 use Rattle.script_programs.specs.Sizes.{too_large, or_else, first_size_fault}

@@ -13,7 +13,7 @@ use Rattle.typed_tree.specs.Scope.{is_count}
 use Rattle.expr_types.specs.Mentions.{Word, NumberWord, TextWord, BuiltinWord, FieldWord, VarWord, MapWord, StepWord, UnaryWord, BinaryWord, AndWord, OrWord, ChooseWord}
 use Rattle.expr_types.specs.Mentions.{AssignWord, GatherWord, DeleteWord, PrintfWord, ShowWord, ClearWord, ZeroWord, JumpWord, WhileWord, UnrollWord, ArmWord, ElseWord, NoElseWord, EndWord}
 use Rattle.expr_types.specs.Typing.{Titles, word_of, words_by}
-use Rattle.bt_ir.specs.Figures.{by_shape}
+use Rattle.ir_code.specs.Figures.{by_shape}
 use Rattle.bt_lower.specs.declared.need.Need.{Need}
 use Rattle.bt_lower.specs.declared.need.Valued.{Valued}
 use Rattle.bt_lower.specs.Needs.{need, valued, more, greater, beside, list_frame, codes_in, jump_need, all_need, set_map_need, update_map_need, taking_need}

@@ -1,5 +1,5 @@
 use Rattle.std.proofs.Common.{◌∙◌, ap}
-use Rattle.bt_ir.specs.Values.{value_of}
+use Rattle.ir_code.specs.Values.{value_of}
 use Rattle.bt_ir.proofs.Calls.{Got-done}
 use Rattle.bt_ir.proofs.access.get.Goals as goal
 

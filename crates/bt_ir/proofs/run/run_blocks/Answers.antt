@@ -2,8 +2,8 @@ use Rattle.std.proofs.Common.{◌≡◌, refl, sym, ◌∙◌, subst, Some}
 use Rattle.std.specs.Prelude.{slice_get, List}
 use Rattle.std.proofs.lemmas.Result.{err_from_is_err_and}
 use Rattle.bt_core.specs.Interaction.{Part, Whole}
-use Rattle.bt_ir.specs.declared.instr.Instr.{Instr}
-use Rattle.bt_ir.specs.Meaning.{instrs_run}
+use Rattle.ir_code.specs.declared.instr.Instr.{Instr}
+use Rattle.ir_code.specs.Meaning.{instrs_run}
 use Rattle.bt_ir.specs.Running.{scene_in}
 use Rattle.bt_ir.proofs.Ranks.{Going-starts, Going-can, Going-stops, Going-drops, Going-ends, Going-next, Going-falls, ready_at}
 use Rattle.bt_ir.proofs.Served.{here_of}

@@ -1,5 +1,5 @@
 use Rattle.std.proofs.Common.{◌≡◌}
-use Rattle.bt_ir.specs.Meaning.{blocks_run}
+use Rattle.ir_code.specs.Meaning.{blocks_run}
 use Rattle.bt_ir.specs.Running.{scene_in}
 use Rattle.bt_ir.proofs.Ranks.{Going, rank}
 use Rattle.bt_ir.proofs.run.run_blocks.Given as goal

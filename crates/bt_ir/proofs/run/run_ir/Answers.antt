@@ -4,10 +4,10 @@ use Rattle.std.proofs.lemmas.Result.{err_from_is_err_and}
 use Rattle.bt_core.specs.declared.map.MapDecl.{MapDecl}
 use Rattle.bt_core.specs.Interaction.{Part, Whole}
 use Rattle.bt_core.proofs.InteractionLaws.{Performed-none}
-use Rattle.bt_ir.specs.declared.blocks.Block.{Block}
-use Rattle.bt_ir.specs.declared.stack.State.{State}
+use Rattle.ir_code.specs.declared.blocks.Block.{Block}
+use Rattle.ir_code.specs.declared.state.State.{State}
 use Rattle.bt_ir.specs.declared.step.View.{View}
-use Rattle.bt_ir.specs.Meaning.{blocks_run, fresh, ir_run}
+use Rattle.ir_code.specs.Meaning.{blocks_run, fresh, ir_run}
 use Rattle.bt_ir.specs.Running.{scene_in}
 use Rattle.bt_ir.proofs.Served.{probe_ready, probe_asks}
 use Rattle.bt_ir.proofs.run.run_ir.Goals as goal

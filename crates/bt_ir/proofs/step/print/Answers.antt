@@ -5,7 +5,7 @@ use Rattle.bt_core.specs.declared.map.MapKind.{MapKind}
 use Rattle.bt_core.specs.Interaction.{Whole, Part}
 use Rattle.bt_core.proofs.InteractionLaws.{Part-and_then, Part-after, Whole-and_then, Performed-none}
 use Rattle.map_printer.specs.Merged.{merged}
-use Rattle.bt_ir.specs.Meaning.{printed}
+use Rattle.ir_code.specs.Meaning.{printed}
 use Rattle.bt_ir.proofs.step.print.Goals as goal
 
 pub returns-in_err-replies-clause-performed : goal.returns-in_err-replies-clause-performed

@@ -1,6 +1,6 @@
 use Rattle.std.proofs.Common.{◌≡◌, drop}
 use Rattle.bt_core.specs.Interaction.{Left}
-use Rattle.bt_ir.specs.Meaning.{instrs_run}
+use Rattle.ir_code.specs.Meaning.{instrs_run}
 use Rattle.bt_ir.specs.Running.{MayAsk, AreReady, scene_in}
 use Rattle.bt_ir.proofs.step.run_instrs.Given as goal
 

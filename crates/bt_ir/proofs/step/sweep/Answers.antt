@@ -3,7 +3,7 @@ use Rattle.std.proofs.lemmas.Result.{err_from_is_err_and}
 use Rattle.bt_core.specs.declared.map.MapKind.{MapKind}
 use Rattle.bt_core.specs.Interaction.{Whole, Part}
 use Rattle.bt_core.proofs.InteractionLaws.{Part-and_then, Whole-and_then, Whole-Ended}
-use Rattle.bt_ir.specs.Meaning.{sweep_on}
+use Rattle.ir_code.specs.Meaning.{sweep_on}
 use Rattle.bt_ir.proofs.step.sweep.Goals as goal
 
 pub returns-in_err-ask_each-clause-performed : goal.returns-in_err-ask_each-clause-performed

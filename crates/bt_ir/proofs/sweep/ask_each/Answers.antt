@@ -2,7 +2,7 @@ use Rattle.std.proofs.Common.{◌<◌, ◌≤◌, ◌∙◌, refl, arith}
 use Rattle.std.proofs.lemmas.List.Elements.{All-nil}
 use Rattle.std.proofs.lemmas.Result.{err_from_is_err_and}
 use Rattle.map_printer.specs.Merged.{HasRowsOf}
-use Rattle.bt_ir.specs.Asking.{holders}
+use Rattle.ir_code.specs.Asking.{holders}
 use Rattle.bt_ir.proofs.Sweeps.{sweep-start, sweep-stop, sweep-next, sweep-drop, sweep-end, rows-next}
 use Rattle.bt_ir.proofs.sweep.ask_each.Goals as goal
 

@@ -2,8 +2,8 @@ use Rattle.std.proofs.Common.{◌≡◌, ◌-◌, []}
 use Rattle.std.specs.Prelude.{All}
 use Rattle.bt_core.specs.Interaction.{Left}
 use Rattle.map_printer.specs.Merged.{HasRowsOf}
-use Rattle.bt_ir.specs.declared.sweep.Sweep.TheVariants.{Read}
-use Rattle.bt_ir.specs.Asking.{holder, holders, sweep_op, asked_from}
+use Rattle.ir_code.specs.declared.sweep.Sweep.TheVariants.{Read}
+use Rattle.ir_code.specs.Asking.{holder, holders, sweep_op, asked_from}
 use Rattle.bt_ir.proofs.sweep.ask_each.Given as goal
 
 abbrev pub invariant-loop-place : goal.invariant-loop-place

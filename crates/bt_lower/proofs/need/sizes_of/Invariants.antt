@@ -1,5 +1,5 @@
 use Rattle.std.proofs.Common.{◌≡◌, ◌≤◌, length, drop}
-use Rattle.bt_ir.specs.Figures.{sizes_of}
+use Rattle.ir_code.specs.Figures.{sizes_of}
 use Rattle.bt_lower.proofs.need.sizes_of.Given as goal
 
 abbrev pub invariant-loop-left : goal.invariant-loop-left

@@ -7,7 +7,7 @@ use Rattle.typed_tree.specs.declared.stmt.TypedStmt as trees
 use Rattle.typed_tree.specs.declared.stmt.TypedStmt.TheVariants as stmts
 use Rattle.std.specs.Prelude.{ℤ}
 use Rattle.bt_core.specs.declared.value.Value.TheVariants.{Int}
-use Rattle.bt_ir.specs.declared.instr.Instr.TheVariants as i
+use Rattle.ir_code.specs.declared.instr.Instr.TheVariants as i
 use Rattle.bt_lower.specs.Code.{pushed}
 use Rattle.bt_lower.proofs.Branches.{Else-none, Else-some, Arms-start, Arms-more, Arms-next, T-If, T-If-none, T-If-else}
 use Rattle.bt_lower.proofs.Jumps.{Same, Same-single}

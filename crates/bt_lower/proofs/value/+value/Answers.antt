@@ -1,7 +1,7 @@
 use Rattle.std.proofs.Common.{length, ◌∙◌, ap, arith, SFits, w64, rules, refl}
 use Rattle.std.proofs.lemmas.Int.{to_z-of_z}
 use Rattle.typed_tree.specs.Parts.{key_shapes}
-use Rattle.bt_ir.specs.declared.instr.Instr.TheVariants as i
+use Rattle.ir_code.specs.declared.instr.Instr.TheVariants as i
 use Rattle.bt_core.specs.declared.value.Value.TheVariants.{Str}
 use Rattle.bt_lower.specs.Code.{pushed}
 use Rattle.bt_lower.specs.Lowers.{all_made}

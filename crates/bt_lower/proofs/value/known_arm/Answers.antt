@@ -1,5 +1,5 @@
 use Rattle.std.proofs.Common.{ap, ◌∙◌, ◌∷◌, []}
-use Rattle.bt_ir.specs.declared.blocks.Exit.TheVariants.{Goto}
+use Rattle.ir_code.specs.declared.blocks.Exit.TheVariants.{Goto}
 use Rattle.bt_lower.specs.Code.{begun}
 use Rattle.bt_lower.proofs.Choices.{Lowers-arm}
 use Rattle.bt_lower.proofs.Arms.{Lowers-known}

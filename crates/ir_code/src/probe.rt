@@ -1,7 +1,7 @@
 // A body in typed instructions.
 ghost use Rattle.std.specs.Prelude.{◌≤◌, IsTrue};
-ghost use Rattle.bt_ir.specs.Figures.{blocks_slots};
-ghost use Rattle.bt_ir.specs.Typing.{are_typed};
+ghost use Rattle.ir_code.specs.Figures.{blocks_slots};
+ghost use Rattle.ir_code.specs.Typing.{are_typed};
 
 use crate::blocks::Blocks;
 use bt_core::items::Items;

@@ -1,6 +1,6 @@
 // Blocks of instructions.
 ghost use Rattle.std.specs.Prelude.{◌≡◌, IsTrue};
-ghost use Rattle.bt_ir.specs.Ways.{lead_forward};
+ghost use Rattle.ir_code.specs.Ways.{lead_forward};
 
 use crate::instr::Instr;
 use bt_core::ending::Ending;

@@ -13,9 +13,9 @@ use Rattle.bt_core.specs.declared.step.Reply.{Reply}
 use Rattle.bt_core.specs.declared.value.Value.{Value}
 use Rattle.bt_core.specs.Interaction.{Interaction, Ended, ask, and_then}
 use Rattle.bt_core.specs.KeyBytes.{part_of}
-use Rattle.bt_ir.specs.declared.sweep.Sweep.{Sweep}
-use Rattle.bt_ir.specs.declared.sweep.Sweep.TheVariants.{Read, Clear, Zero}
-use Rattle.bt_ir.specs.Values.{value_of}
+use Rattle.ir_code.specs.declared.sweep.Sweep.{Sweep}
+use Rattle.ir_code.specs.declared.sweep.Sweep.TheVariants.{Read, Clear, Zero}
+use Rattle.ir_code.specs.Values.{value_of}
 
 -- the part of a shared map that a key is in
 abbrev pub part : MapId → List Value → ObjectId
