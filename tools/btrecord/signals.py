@@ -8,8 +8,6 @@ import signal
 # Their defaults are to do nothing, to stop, or to go on.
 HARMLESS = {signal.SIGCHLD, signal.SIGCONT, signal.SIGTSTP, signal.SIGTTIN, signal.SIGTTOU, signal.SIGURG, signal.SIGWINCH}
 UNCATCHABLE = {signal.SIGKILL, signal.SIGSTOP}
-# Python ignores these two itself; whoever sends one means to end the program.
-IGNORED_BY_PYTHON = {signal.SIGPIPE, signal.SIGXFSZ}
 
 
 def name_of(number):
@@ -21,11 +19,17 @@ def name_of(number):
 
 
 class Signals:
-    """Holds all signals back that would end the program, but for those that its caller had it ignore (as `nohup` does)."""
+    """Holds all signals back that would end the program, but for one that `nohup` had it ignore.
+
+    A shell has its programs in the background ignore SIGINT and SIGQUIT; who sends them one nevertheless means to end them.
+    """
 
     def __enter__(self):
-        self.handlers = {number: signal.signal(number, signal.SIG_DFL) for number in IGNORED_BY_PYTHON}
-        self.held = {number for number in signal.valid_signals() - HARMLESS - UNCATCHABLE if signal.getsignal(number) != signal.SIG_IGN}
+        self.held = signal.valid_signals() - HARMLESS - UNCATCHABLE
+        if signal.getsignal(signal.SIGHUP) == signal.SIG_IGN:
+            self.held.remove(signal.SIGHUP)
+        ignored = [number for number in self.held if signal.getsignal(number) == signal.SIG_IGN]
+        self.handlers = {number: signal.signal(number, signal.SIG_DFL) for number in ignored}
         self.before = signal.pthread_sigmask(signal.SIG_BLOCK, self.held)
         return self
 
