@@ -124,11 +124,14 @@ def parts_of(data):
     header.take(16)
     features = header.number(32)
     attributes = [attributes_at(data, place, size) for place in range(at, at + length, max(size, 1))]
-    if not records and len(data) > begin:
-        raise Refused(f"perf record did not end well, so the file has no list of records; {again()}")
     if begin + records > len(data):
         raise Refused(f"the list of records ends too soon, at byte {len(data)}")
-    return Parts(attributes, begin, begin + records, section(data, begin + records, features, TRACING_DATA))
+    try:
+        return Parts(attributes, begin, begin + records, section(data, begin + records, features, TRACING_DATA))
+    except Refused as refused:
+        if not records:
+            raise Refused(f"perf record did not end well, so the file has no list of records; {again()}") from refused
+        raise
 
 
 def attributes_at(data, at, size):

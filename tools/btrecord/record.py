@@ -205,7 +205,8 @@ class Joining:
         for _ in steps:
             self.recorder.go_on()
         done = self.recorder.done
-        self.assembly.leave_out(PAST_LIMITS, max(done.read - self.handled, 0) + done.uncounted)
+        if done.full_at or self.assembly.is_full:
+            self.assembly.leave_out(PAST_LIMITS, max(done.read - self.handled, 0) + done.uncounted)
         share = f"{self.own:,} of the {self.handled:,} ({100 * self.own / max(self.handled, 1):.1f} %) are btrecord's own"
         notes = [share] if self.own else []
         return notes + ([f"nothing is known of {len(self.tasks.unknown):,} threads"] if self.tasks.unknown else [])

@@ -44,10 +44,16 @@ def near(word, pairs):
     return list(dict.fromkeys(found))[:MOST_HINTS]
 
 
+def nearest(word, pairs):
+    """A word that names tracepoints, and of another one the nearest name, or the word itself."""
+    return word if NAME.fullmatch(word) and matching(word, pairs) else (near(word, pairs) + [word])[0]
+
+
 def hint(word, pairs):
     """What a word that names no tracepoint may have meant, as the end of a sentence, or nothing."""
     if "," in word:
-        return "; give each tracepoint as a word of its own: " + " ".join(part.strip() for part in word.split(",") if part.strip())
+        parts = [part.strip() for part in word.split(",") if part.strip()]
+        return "; give each tracepoint as a word of its own: " + " ".join(nearest(part, pairs) for part in parts)
     for kind in KINDS:
         if word.startswith(kind) and word.count(":") > 1:
             rest = word[len(kind):]
