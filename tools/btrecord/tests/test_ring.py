@@ -105,8 +105,7 @@ class Rings(unittest.TestCase):
         self.assertEqual(spools[0].bytes, 3 * 16)
         found = [(when, cpu, thread) for _, window in windows(spools) for cpu, of in window for when, thread in zip(of.times, of.threads)]
         self.assertEqual(sorted(found), [(10, 0, 1), (11, 0, 2), (20, 1, 4), (30, 0, 3)])
-        ends = [until for until, _ in windows(spools, lambda time: min(time, 15))][:1]
-        self.assertEqual(ends, [15])
+        self.assertEqual(next(windows(spools, lambda time: min(time, 10)))[1], [(0, Records([10], [1], [payload(1)]))])
 
 
 class Threads(unittest.TestCase):
