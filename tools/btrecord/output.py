@@ -33,6 +33,8 @@ class Output:
     def open(self):
         """Looks at what the name stands for."""
         if self.path == "-":
+            if not sys.stdout:
+                raise Refused("standard output is closed", WRITE)
             if sys.stdout.isatty():
                 raise Refused("standard output is a terminal, and a recording is no text: name a file by -o", WORDS)
             self.stream = os.fdopen(os.dup(sys.stdout.fileno()), "wb")

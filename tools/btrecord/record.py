@@ -4,13 +4,14 @@ import heapq
 import os
 import resource
 import sys
+import tempfile
 import time
 from dataclasses import dataclass, field
 
 import container
 from assembly import PAST_LIMITS, Assembly
 from container import format_of, test_formats
-from faults import WORDS, WRITE, Ended, Refused
+from faults import WORDS, WRITE, Ended, Refused, of_file
 from instance import Instance, contents, own_name, remove_left
 from ring import page_shape
 from signals import Signals, name_of
@@ -225,7 +226,7 @@ def record(asked, open_output):
         try:
             return recorded(top, asked, wanted, output, signals, notes)
         except OSError as error:
-            raise Refused(f"{output.folder or 'temporary files'}: {error.strerror}", WRITE) from error
+            raise of_file(error.filename or output.folder or tempfile.gettempdir(), error, WRITE) from error
 
 
 def recorded(top, asked, wanted, output, signals, notes):
