@@ -1,67 +1,117 @@
-"""btrecord: makes recordings for btreplay.
+"""btrecord: makes recordings for btreplay, and tells what one holds.
 
   python3 tools/btrecord record SYSTEM:EVENT .. [--seconds N] [--buffer-kb N] -o FILE
   python3 tools/btrecord convert PERF.DATA [--formats DIR] -o FILE
+  python3 tools/btrecord info RECORDING
+  python3 tools/btrecord list [-v] RECORDING [PATTERN]
 
 This program is not proved. btreplay checks each recording that it is given.
 """
 import argparse
+import math
+import signal
 import sys
 
-from container import Refused, encoded, fitted, write_whole
+from faults import MEMORY, WORDS, WRITE, Ended, Refused
+from info import info, listing
+from output import Output
 from perfdata import convert
-from tracefs import record
+from record import LEAST_KILOBYTES, MOST_KILOBYTES, Asked, record
+
+LEAST_SECONDS, MOST_SECONDS = 0.01, 1_000_000
+
+
+class Words(argparse.ArgumentParser):
+    """The words of the program, whose faults are told as all others."""
+
+    def error(self, message):
+        self.exit(WORDS, f"btrecord: {message}\n{self.format_usage()}")
+
+
+def number(least, most, kind):
+    """A reader of numbers in a range."""
+    def read(word):
+        try:
+            found = kind(word)
+        except ValueError:
+            found = math.nan
+        if not least <= found <= most:
+            raise argparse.ArgumentTypeError(f"{word} is not a number from {least} to {most}")
+        return found
+    return read
 
 
 def words():
-    """The words of both commands."""
-    parser = argparse.ArgumentParser(prog="btrecord", description="Makes recordings for btreplay. It is not proved.")
-    commands = parser.add_subparsers(dest="command", required=True)
+    """The words of all commands."""
+    parser = Words(prog="btrecord", description="Makes recordings for btreplay, and tells what one holds. It is not proved.")
+    commands = parser.add_subparsers(dest="command", required=True, metavar="COMMAND", parser_class=Words)
     to_record = commands.add_parser("record", help="record tracepoints of all CPUs (as root)")
     to_record.add_argument("events", nargs="+", metavar="SYSTEM:EVENT", help="a tracepoint; * stands for any letters")
-    to_record.add_argument("--seconds", type=float, help="how long; without it until Ctrl-C")
-    to_record.add_argument("--buffer-kb", type=int, default=8192, help="the kernel's buffer for each CPU, in kilobytes (8192)")
+    to_record.add_argument("--seconds", type=number(LEAST_SECONDS, MOST_SECONDS, float), metavar="N", help="how long; without it until Ctrl-C")
+    to_record.add_argument("--buffer-kb", type=number(LEAST_KILOBYTES, MOST_KILOBYTES, int), default=8192, metavar="N",
+                           help="the kernel's buffer for each CPU, in kilobytes (8192)")
     to_convert = commands.add_parser("convert", help="convert a file of perf record -a -R")
     to_convert.add_argument("data", metavar="PERF.DATA")
     to_convert.add_argument("--formats", metavar="DIR", help="a folder like /sys/kernel/tracing/events, where the file has no formats")
     for command in (to_record, to_convert):
-        command.add_argument("-o", dest="output", metavar="FILE", required=True, help="the recording")
+        command.add_argument("-o", dest="output", metavar="FILE", required=True, help="the recording; - is standard output")
+    to_tell = commands.add_parser("info", help="tell what a recording holds")
+    to_list = commands.add_parser("list", help="list a recording's tracepoints")
+    to_list.add_argument("-v", dest="fields", action="store_true", help="list their fields too, as scripts see them")
+    for command in (to_tell, to_list):
+        command.add_argument("recording", metavar="RECORDING")
+    to_list.add_argument("pattern", nargs="?", default="*", metavar="PATTERN", help="SYSTEM:EVENT, where * stands for any letters")
     return parser
 
 
 def plural(count, word):
     """So many of something."""
-    return f"{count} {word}" + ("" if count == 1 else "s")
+    return f"{count:,} {word}" + ("" if count == 1 else "s")
 
 
-def report(output, done, lost, notes):
-    """What stands in the file and what does not."""
-    events = sum(len(events) for events in done.recording.cpus.values())
-    lines = [f"{plural(events, 'event')} of {plural(len(done.recording.cpus), 'CPU')} and {plural(len(done.recording.formats), 'format')} in {output}",
-             f"{plural(lost, 'event')} lost while recording"]
-    left = sum(done.left_out.values())
-    causes = "; ".join(f"{count} {cause}" for cause, count in done.left_out.items())
-    lines.append(f"{plural(left, 'event')} left out" + (f": {causes}" if causes else ""))
-    return lines + notes
+def report(output, made):
+    """What stands in the output and what does not."""
+    assembly = made.assembly
+    lines = [f"{plural(assembly.events, 'event')} of {plural(len(assembly.parts), 'CPU')} and "
+             f"{plural(len(assembly.formats), 'format')} in {output}",
+             f"{plural(made.lost, 'event')} lost while recording"]
+    causes = "; ".join(f"{count:,} {cause}" for cause, count in assembly.left_out.items())
+    lines.append(f"{plural(sum(assembly.left_out.values()), 'event')} left out" + (f": {causes}" if causes else ""))
+    return lines + made.notes
+
+
+def run(asked):
+    """Does what the words ask."""
+    if asked.command in ("info", "list"):
+        signal.signal(signal.SIGPIPE, signal.SIG_DFL)
+        lines = info(asked.recording) if asked.command == "info" else listing(asked.recording, asked.pattern, asked.fields)
+        sys.stdout.write("".join(f"{line}\n" for line in lines))
+        sys.stdout.flush()
+        return
+    if asked.command == "record":
+        made = record(Asked(asked.events, asked.seconds, asked.buffer_kb), lambda: Output(asked.output))
+    else:
+        made = convert(asked.data, asked.formats, lambda: Output(asked.output))
+    name = "standard output" if asked.output == "-" else asked.output
+    for line in report(name, made):
+        print(f"btrecord: {line}", file=sys.stderr)
 
 
 def main(arguments):
-    """Does what the words ask, and gives the status: 0, or 1 where there is no recording."""
-    asked = words().parse_args(arguments)
+    """Does what the words ask, and gives the status of README's table."""
     try:
-        if asked.command == "record":
-            made = record(asked.events, asked.seconds, asked.buffer_kb)
-            notes = [f"nothing is known of {plural(made.unknown, 'thread')}"] if made.unknown else []
-        else:
-            made = convert(asked.data, asked.formats)
-            notes = [f"{plural(made.others, 'sample')} of other events than tracepoints"] if made.others else []
-        done = fitted(made.recording)
-        write_whole(asked.output, encoded(done.recording))
-    except Refused as refused:
-        print(f"btrecord: {refused}", file=sys.stderr)
-        return 1
-    for line in report(asked.output, done, made.lost, notes):
-        print(f"btrecord: {line}", file=sys.stderr)
+        run(words().parse_args(arguments))
+    except (Refused, Ended) as fault:
+        print(f"btrecord: {fault}", file=sys.stderr)
+        return fault.status
+    except OSError as error:
+        print(f"btrecord: {error.filename or 'output'}: {error.strerror}", file=sys.stderr)
+        return WRITE
+    except MemoryError:
+        print("btrecord: out of memory", file=sys.stderr)
+        return MEMORY
+    except KeyboardInterrupt:
+        return 128 + signal.SIGINT
     return 0
 
 

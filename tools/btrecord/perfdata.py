@@ -2,11 +2,18 @@
 
 tools/perf/Documentation/perf.data-file-format.txt of Linux describes them, and include/uapi/linux/perf_event.h their records.
 """
+import functools
+import mmap
 import os
 import struct
-from typing import NamedTuple
+from array import array
+from dataclasses import dataclass, field
 
-from container import Event, Format, Recording, Refused
+from assembly import PAST_LIMITS, Assembly
+from container import format_of, test_formats
+from faults import READ, Ended, Refused, of_file
+from record import Made
+from signals import Signals, name_of
 from tasks import Change, Tasks, text_of
 
 TRACEPOINT = 2
@@ -17,13 +24,24 @@ RECORD_COMM = 3
 RECORD_FORK = 7
 RECORD_SAMPLE = 9
 RECORD_LOST_SAMPLES = 13
+RECORD_AUXTRACE = 71
 RECORD_COMPRESSED = [81, 83]
+# Such a record counts samples that a filter of the user dropped.
+LOST_BY_FILTER = 1 << 15
 
-IP, TID, TIME, ADDR, READ, CALLCHAIN, ID, CPU, PERIOD, STREAM_ID, RAW = (1 << k for k in range(11))
+IP, TID, TIME, ADDR, READ_COUNTS, CALLCHAIN, ID, CPU, PERIOD, STREAM_ID, RAW = (1 << k for k in range(11))
 IDENTIFIER = 1 << 16
 SAMPLE_ID_ALL = 1 << 18
+# The parts of a sample that have 8 bytes each, in their order, and those behind records that are no samples.
+FIXED_PARTS = [IDENTIFIER, IP, TID, TIME, ADDR, ID, STREAM_ID, CPU, PERIOD]
+PARTS_BEHIND = [TID, TIME, ID, STREAM_ID, CPU, IDENTIFIER]
 
+EVENTS_BETWEEN_SIGNALS = 8192
 GROUP_OF_COUNTS = 8
+HEAD = struct.Struct("<IHH")
+WORD = struct.Struct("<Q")
+TWO = struct.Struct("<II")
+COMMAND = "perf record -a -R -T -e {events} -o perf.data -- sleep 5"
 
 
 class Reader:
@@ -55,61 +73,76 @@ class Reader:
         return found
 
 
-class Attributes(NamedTuple):
-    """What an event of the file was opened with: its kind, the parts of its samples, and its numbers in samples."""
+@dataclass(frozen=True)
+class Attributes:
+    """What an event of the file was opened with: its kind and ID, the parts of its samples, and its numbers in samples."""
 
     kind: int
+    config: int
     samples: int
     counts: int
     all_records: bool
-    ids: list
+    ids: tuple
+
+    @functools.cached_property
+    def places(self):
+        """Where the parts of 8 bytes stand in a sample, and under None where they end."""
+        places, at = {}, 0
+        for part in FIXED_PARTS:
+            places[part] = at
+            at += 8 if self.samples & part else 0
+        return places | {None: at}
 
 
-class Sample(NamedTuple):
-    """An event of a CPU."""
-
-    time: int
-    cpu: int
-    process: int
-    thread: int
-    payload: bytes
-
-
-class Parts(NamedTuple):
-    """The sections of a file."""
+@dataclass(frozen=True)
+class Parts:
+    """The sections of a file. The records begin and end at two places."""
 
     attributes: list
-    records: tuple
+    begin: int
+    end: int
     tracing: bytes
+
+
+def again(events=()):
+    """The command that makes a file that can be converted."""
+    return "record again by: " + COMMAND.format(events=",".join(f"'{event}'" for event in events) or "'SYSTEM:EVENT'")
 
 
 def parts_of(data):
     """The sections of a file."""
     if data[:8] == b"2ELIFREP":
-        raise Refused("the file was written on a big-endian machine")
+        raise Refused("the file was written on a big-endian machine, whose records can't be replayed")
     if data[:8] != b"PERFILE2":
-        raise Refused("this is no file of perf record")
+        raise Refused(f"this is no file of perf record; {again()}")
     header = Reader(data, 8, "the header")
     if header.number(8) < 104:
-        raise Refused("the file was written to a pipe; let perf record write to a file")
+        raise Refused(f"the file was written to a pipe; {again()}")
     size = header.number(8)
     at, length = header.number(8), header.number(8)
-    records = header.number(8), header.number(8)
+    begin, records = header.number(8), header.number(8)
     header.take(16)
     features = header.number(32)
     attributes = [attributes_at(data, place, size) for place in range(at, at + length, max(size, 1))]
-    return Parts(attributes, records, section(data, sum(records), features, TRACING_DATA))
+    if begin + records > len(data):
+        raise Refused(f"the list of records ends too soon, at byte {len(data)}")
+    try:
+        return Parts(attributes, begin, begin + records, section(data, begin + records, features, TRACING_DATA))
+    except Refused as refused:
+        if not records:
+            raise Refused(f"perf record did not end well, so the file has no list of records; {again()}") from refused
+        raise
 
 
 def attributes_at(data, at, size):
     """The attributes at a place, of so many bytes with the place of their numbers."""
     entry = Reader(data, at, "the list of events")
-    kind, _, _, _ = entry.number(4), entry.number(4), entry.number(8), entry.number(8)
+    kind, _, config, _ = entry.number(4), entry.number(4), entry.number(8), entry.number(8)
     samples, counts, flags = entry.number(8), entry.number(8), entry.number(8)
     place = Reader(data, at + size - 16, "the list of events")
     where, length = place.number(8), place.number(8)
     ids = Reader(data, where, "the numbers of an event")
-    return Attributes(kind, samples, counts, bool(flags & SAMPLE_ID_ALL), [ids.number(8) for _ in range(length // 8)])
+    return Attributes(kind, config, samples, counts, bool(flags & SAMPLE_ID_ALL), tuple(ids.number(8) for _ in range(length // 8)))
 
 
 def section(data, at, features, wanted):
@@ -123,104 +156,106 @@ def section(data, at, features, wanted):
     return b""
 
 
-def formats_in(tracing):
-    """The formats that a file holds."""
+def texts_in(tracing):
+    """The texts of formats that a file holds, each with its system."""
     data = Reader(tracing, 0, "the section of formats")
     if data.take(10) != b"\x17\x08\x44tracing":
         raise Refused("the section of formats is of another form")
     data.text()
     if data.take(1) != b"\0":
-        raise Refused("the file was written on a big-endian machine")
+        raise Refused("the file was written on a big-endian machine, whose records can't be replayed")
     data.take(5)
     for _ in range(2):
         data.text()
         data.take(data.number(8))
     for _ in range(data.number(4)):
         data.take(data.number(8))
-    found = []
     for _ in range(data.number(4)):
         system = data.text()
         for _ in range(data.number(4)):
-            found.append(Format(system, data.take(data.number(8))))
-    return found
+            yield system, data.take(data.number(8))
 
 
-def formats_under(folder):
-    """The formats of a folder like /sys/kernel/tracing/events."""
-    found = []
-    for system in sorted(os.listdir(folder)):
-        if not os.path.isdir(os.path.join(folder, system)):
+def texts_under(folder):
+    """The texts of a folder like /sys/kernel/tracing/events."""
+    try:
+        for system in sorted(os.listdir(folder)):
+            if os.path.isdir(os.path.join(folder, system)):
+                for event in sorted(os.listdir(os.path.join(folder, system))):
+                    path = os.path.join(folder, system, event, "format")
+                    if os.path.exists(path):
+                        with open(path, "rb") as file:
+                            yield os.fsencode(system), file.read()
+    except OSError as error:
+        raise of_file(error.filename or folder, error, READ) from error
+
+
+def formats_for(attributes, texts):
+    """The formats of the file's tracepoints, in the order of the texts, and why some of them can't stand in a recording."""
+    wanted = {a.config for a in attributes if a.kind == TRACEPOINT}
+    formats, notes = [], []
+    for system, text in texts:
+        try:
+            format = format_of(system, text)
+        except Refused as refused:
+            notes.append(str(refused))
             continue
-        for event in sorted(os.listdir(os.path.join(folder, system))):
-            path = os.path.join(folder, system, event, "format")
-            if os.path.exists(path):
-                with open(path, "rb") as file:
-                    found.append(Format(system.encode(), file.read()))
-    if not found:
-        raise Refused(f"{folder} holds no files SYSTEM/EVENT/format")
-    return found
+        if format.layout.number in wanted:
+            formats.append(format)
+    test_formats(formats)
+    return formats, notes
 
 
 class Layouts:
-    """How samples are made up: by the number of their event, or all alike."""
+    """How samples are made up: by the number of their event, or all alike. `events` names the file's tracepoints."""
 
-    def __init__(self, attributes):
+    def __init__(self, attributes, events=()):
         if not any(a.kind == TRACEPOINT for a in attributes):
-            raise Refused("the file has no tracepoints")
+            raise Refused(f"the file has no tracepoints; {again()}")
         for a in attributes:
-            if a.kind == TRACEPOINT:
-                for part, name, option in [(RAW, "raw records", "-R"), (TIME, "times", "-T"), (CPU, "CPUs", "-a"), (TID, "threads", "-a")]:
-                    if not a.samples & part:
-                        raise Refused(f"the samples have no {name}: record with {option}")
-        self.all = attributes
-        self.alike = len({(a.samples, a.counts) for a in attributes}) == 1
-        if not self.alike and not all(a.samples & IDENTIFIER for a in attributes):
-            raise Refused("the events of the file have samples of several forms, and none tells its own")
+            for part, name in [(RAW, "raw records"), (TIME, "times"), (CPU, "CPUs"), (TID, "threads")]:
+                if a.kind == TRACEPOINT and not a.samples & part:
+                    raise Refused(f"the samples have no {name}; {again(events)}")
+        self.events = events
+        self.first = attributes[0]
         self.by_id = {number: a for a in attributes for number in a.ids}
+        self.only = self.first if len({(a.kind, a.samples, a.counts) for a in attributes}) == 1 else None
+        told = IDENTIFIER if all(a.samples & IDENTIFIER for a in attributes) else ID
+        self.number_at = self.first.places[told]
+        if not self.only and not all(a.samples & told and a.places[told] == self.number_at for a in attributes):
+            raise Refused(f"the samples have several forms and don't tell which; {again(events)}")
+        behind = [part for part in PARTS_BEHIND if self.first.samples & part]
+        self.time_behind = 8 * (len(behind) - behind.index(TIME)) if self.first.all_records and TIME in behind else None
 
-    def of_sample(self, body):
-        """The attributes of a sample's event."""
-        if self.alike and len({a.kind for a in self.all}) == 1:
-            return self.all[0]
-        if self.all[0].samples & IDENTIFIER:
-            return self.by_id.get(int.from_bytes(body[:8], "little"))
-        at = 8 * bin(self.all[0].samples & (IP | TID | TIME | ADDR)).count("1")
-        if not self.all[0].samples & ID:
-            raise Refused("the samples don't tell their events")
-        return self.by_id.get(int.from_bytes(body[at:at + 8], "little"))
+    def of_sample(self, data, at, end):
+        """The attributes of a sample's event, or none where it is of no event."""
+        if self.only:
+            return self.only
+        if at + self.number_at + 8 > end:
+            raise Refused(f"a sample ends too soon, at byte {end}")
+        return self.by_id.get(WORD.unpack_from(data, at + self.number_at)[0])
 
-    def time_of(self, body):
+    def time_of(self, data, at, end):
         """When a record that is no sample came, where that is told, and else 0."""
-        a = self.all[0]
-        if not a.all_records:
+        if self.time_behind is None or at + self.time_behind > end:
             return 0
-        order = [TID, TIME, ID, STREAM_ID, CPU, IDENTIFIER]
-        there = [part for part in order if a.samples & part]
-        if TIME not in there:
-            return 0
-        behind = len(there) - there.index(TIME)
-        return int.from_bytes(body[len(body) - 8 * behind:len(body) - 8 * behind + 8], "little")
+        return WORD.unpack_from(data, end - self.time_behind)[0]
 
 
-def sample_of(body, a):
-    """A sample of a tracepoint."""
-    r = Reader(body, 0, "a sample")
-    process = thread = when = cpu = 0
-    r.take(8 * bin(a.samples & (IDENTIFIER | IP)).count("1"))
-    if a.samples & TID:
-        process, thread = r.number(4), r.number(4)
-    if a.samples & TIME:
-        when = r.number(8)
-    r.take(8 * bin(a.samples & (ADDR | ID | STREAM_ID)).count("1"))
-    if a.samples & CPU:
-        cpu = r.number(4)
-        r.take(4)
-    r.take(8 if a.samples & PERIOD else 0)
-    if a.samples & READ:
+def raw_record(data, at, end, a):
+    """The raw record of a sample."""
+    if not a.samples & (READ_COUNTS | CALLCHAIN):
+        first = at + a.places[None] + 4
+        size = int.from_bytes(data[first - 4:first], "little")
+        if first + size > end:
+            raise Refused(f"a sample ends too soon, at byte {end}")
+        return data[first:first + size]
+    r = Reader(data[at:end], a.places[None], "a sample")
+    if a.samples & READ_COUNTS:
         pass_counts(r, a.counts)
     if a.samples & CALLCHAIN:
         r.take(8 * r.number(8))
-    return Sample(when, cpu, process, thread, r.take(r.number(4)))
+    return r.take(r.number(4))
 
 
 def pass_counts(r, form):
@@ -234,79 +269,131 @@ def pass_counts(r, form):
         r.take(times + each)
 
 
-class Found(NamedTuple):
-    """The records of a file that a recording is made of."""
+@dataclass
+class Found:
+    """The records of a file that a recording is made of: when each sample came and where it stands, and what is told of threads.
 
-    samples: list
-    changes: list
-    lost: int
-    others: int
+    The kernel tells a loss in a record of lost events. perf asks the kernel at the end for each event's lost samples and tells them
+    again, and those that no record could tell any more.
+    """
+
+    times: array = field(default_factory=lambda: array("Q"))
+    places: array = field(default_factory=lambda: array("Q"))
+    cpus: set = field(default_factory=set)
+    changes: list = field(default_factory=list)
+    others: int = 0
+    lost_events: int = 0
+    lost_samples: int = 0
+
+    @property
+    def lost(self):
+        """How many events were lost."""
+        return max(self.lost_events, self.lost_samples)
 
 
-def read_records(data, records, layouts):
-    """The samples, what is told of threads, and how many events were lost or are no tracepoints."""
-    at, length = records
-    samples, changes, lost, others = [], [], 0, 0
-    r = Reader(data, at, "the list of records")
-    while r.at < at + length:
-        kind, _, size = r.number(4), r.number(2), r.number(2)
-        body = r.take(size - 8)
+def read_records(data, parts, layouts):
+    """The records of a file."""
+    found = Found()
+    at = parts.begin
+    while at < parts.end:
+        if at + HEAD.size > parts.end:
+            raise Refused(f"the list of records ends too soon, at byte {at}")
+        kind, misc, size = HEAD.unpack_from(data, at)
+        body, end = at + HEAD.size, at + size
+        if size < HEAD.size or end > parts.end:
+            raise Refused(f"the list of records ends too soon, at byte {at}")
         if kind == RECORD_SAMPLE:
-            a = layouts.of_sample(body)
-            if a and a.kind == TRACEPOINT:
-                samples.append(sample_of(body, a))
-            else:
-                others += 1
-        elif kind == RECORD_COMM:
-            process, thread = struct.unpack_from("<II", body)
-            changes.append(Change(layouts.time_of(body), thread, process, name=text_of(body[8:])[:15]))
-        elif kind == RECORD_FORK:
-            process, _, thread, parent = struct.unpack_from("<IIII", body)
-            changes.append(Change(layouts.time_of(body), thread, process, parent=parent))
-        elif kind == RECORD_LOST:
-            lost += int.from_bytes(body[8:16], "little")
-        elif kind == RECORD_LOST_SAMPLES:
-            lost += int.from_bytes(body[:8], "little")
-        elif kind in RECORD_COMPRESSED:
-            raise Refused("the records are compressed; record without -z")
-    return Found(samples, changes, lost, others)
+            take_sample(found, data, (body, end), layouts)
+        else:
+            end += take_other(found, data, (body, end), (kind, misc), layouts)
+        at = end
+    return found
 
 
-class Converted(NamedTuple):
-    """What a file held, how many events perf lost, and how many samples are no tracepoints."""
+def take_sample(found, data, where, layouts):
+    """Notes a sample."""
+    a = layouts.of_sample(data, *where)
+    if not a or a.kind != TRACEPOINT:
+        found.others += 1
+        return
+    if where[0] + a.places[None] > where[1]:
+        raise Refused(f"a sample ends too soon, at byte {where[1]}")
+    found.times.append(WORD.unpack_from(data, where[0] + a.places[TIME])[0])
+    found.places.append(where[0])
+    found.cpus.add(TWO.unpack_from(data, where[0] + a.places[CPU])[0])
 
-    recording: Recording
-    lost: int
-    others: int
+
+def take_other(found, data, where, what, layouts):
+    """Notes a record that is no sample, and tells how many bytes stand behind it that belong to it."""
+    kind, misc = what
+    r = Reader(data[where[0]:where[1]], 0, "a record")
+    if kind == RECORD_COMM:
+        process, thread = r.number(4), r.number(4)
+        found.changes.append(Change(layouts.time_of(data, *where), thread, process, name=text_of(r.data[8:])[:15]))
+    elif kind == RECORD_FORK:
+        process, _, thread, parent = (r.number(4) for _ in range(4))
+        found.changes.append(Change(layouts.time_of(data, *where), thread, process, parent=parent))
+    elif kind == RECORD_LOST:
+        r.take(8)
+        found.lost_events += r.number(8)
+    elif kind == RECORD_LOST_SAMPLES and not misc & LOST_BY_FILTER:
+        found.lost_samples += r.number(8)
+    elif kind == RECORD_AUXTRACE:
+        return r.number(8)
+    elif kind in RECORD_COMPRESSED:
+        raise Refused(f"the records are compressed (perf record -z); {again(layouts.events)}")
+    return 0
 
 
-def convert(path, folder):
-    """A recording of a file of perf. The formats stand in it, or in a folder."""
+def mapped(path):
+    """The bytes of a file, which are not read before they are looked at."""
     try:
+        if os.path.isdir(path):
+            raise Refused(f"{path} is a folder, as perf record --threads makes; {again()}")
         with open(path, "rb") as file:
-            data = file.read()
+            size = os.fstat(file.fileno()).st_size
+            return mmap.mmap(file.fileno(), 0, access=mmap.ACCESS_READ) if size else file.read()
     except OSError as error:
-        raise Refused(f"{path}: {error.strerror}") from error
+        raise of_file(path, error, READ) from error
+
+
+def convert(path, folder, open_output):
+    """Makes a recording of a file of perf, and writes it to what `open_output` answers. The formats stand in the file, or in a folder."""
+    data = mapped(path)
     parts = parts_of(data)
-    found = read_records(data, parts.records, Layouts(parts.attributes))
-    if not folder and not parts.tracing:
+    if not folder and not parts.tracing and any(a.kind == TRACEPOINT for a in parts.attributes):
         raise Refused("the file has no formats; give them by --formats DIR")
-    formats = formats_under(folder) if folder else formats_in(parts.tracing)
-    seen = {int.from_bytes(sample.payload[:2], "little") for sample in found.samples}
-    if folder:
-        formats = [format for format in formats if id_of(format) in seen]
-    threads = Tasks(found.changes)
-    cpus = {}
-    for sample in sorted(found.samples, key=lambda sample: sample.time):
-        task = threads.at(sample.time, sample.thread, sample.cpu)
-        cpus.setdefault(sample.cpu, []).append(
-            Event(sample.time, sample.process, sample.thread, task.user, task.group, task.name, sample.payload))
-    times = [sample.time for sample in found.samples]
-    return Converted(Recording(min(times, default=0), max(times, default=0), formats, cpus), found.lost, found.others)
+    formats, notes = formats_for(parts.attributes, texts_under(folder) if folder else texts_in(parts.tracing) if parts.tracing else ())
+    layouts = Layouts(parts.attributes, [format.name for format in formats])
+    if not formats:
+        raise Refused(f"{folder or path} has no format of the file's tracepoints" + "".join(f"; {note}" for note in notes))
+    with open_output() as output, Signals() as signals:
+        found = read_records(data, parts, layouts)
+        assembly = Assembly(formats, found.cpus, output.folder)
+        assemble(data, found, layouts, assembly, signals)
+        start, end = assembly.span(min(found.times, default=0), max(found.times, default=0))
+        with output.writing() as file:
+            assembly.write(file, start, end)
+    others = [f"{found.others:,} samples of other events than tracepoints"] if found.others else []
+    return Made(assembly, found.lost, others + notes)
 
 
-def id_of(format):
-    """The ID that a format's text tells, or none."""
-    lines = format.text.split(b"\n")
-    digits = lines[1][3:].strip() if len(lines) > 1 and lines[1].startswith(b"ID:") else b""
-    return int(digits) if digits.isdigit() else None
+def assemble(data, found, layouts, assembly, signals):
+    """Puts the samples into the assembly by their times, those of one time as they stood."""
+    tasks = Tasks(sorted(found.changes, key=lambda change: change.time))
+    for handled, k in enumerate(sorted(range(len(found.times)), key=found.times.__getitem__)):
+        if handled % EVENTS_BETWEEN_SIGNALS == 0:
+            came = signals.wait(0)
+            if came:
+                raise Ended(came, name_of(came))
+        if assembly.is_full:
+            assembly.leave_out(PAST_LIMITS, len(found.times) - handled)
+            return
+        at = found.places[k]
+        end = at - HEAD.size + HEAD.unpack_from(data, at - HEAD.size)[2]
+        a = layouts.of_sample(data, at, end)
+        process, thread = TWO.unpack_from(data, at + a.places[TID])
+        cpu = TWO.unpack_from(data, at + a.places[CPU])[0]
+        tasks.go_to(found.times[k])
+        head = tasks.at(thread, cpu)._replace(process=process).head(thread)
+        assembly.take(cpu, found.times[k], head, raw_record(data, at, end, a))

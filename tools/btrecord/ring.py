@@ -3,67 +3,88 @@
 `events/header_page` and `events/header_event` of tracefs describe them.
 """
 import re
-import struct
-from typing import NamedTuple
+from dataclasses import dataclass
 
-from container import Refused
+from faults import Refused
 
 PADDING = 29
 TIME_EXTEND = 30
 TIME_STAMP = 31
 
+# The upper bits of a page's `commit` tell that records before it were lost.
+COMMIT_BITS = 0xFFFFF
+CUT = "a page of the kernel's ring buffer has a record that doesn't end in it"
 
-class PageShape(NamedTuple):
+
+@dataclass(frozen=True)
+class PageShape:
     """Where the parts of a page stand: the bytes of its `commit`, and where its records begin."""
 
     commit_size: int
     data: int
+
+    def end(self, page):
+        """Where the records of a page end."""
+        commit = int.from_bytes(page[8:8 + self.commit_size], "little") & COMMIT_BITS
+        return min(self.data + commit, len(page))
 
 
 def page_shape(header_page):
     """The shape that the file `events/header_page` tells."""
     fields = {name: (int(offset), int(size)) for name, offset, size in
               re.findall(r"field:[^;]*?(\w+);\s*offset:(\d+);\s*size:(\d+);", header_page)}
-    if fields.get("timestamp") != (0, 8) or fields.get("commit", (0, 0))[0] != 8 or "data" not in fields:
+    if fields.get("timestamp") != (0, 8) or fields.get("commit", (0, 0))[0] != 8 or fields.get("data", (1, 0))[0] % 4:
         raise Refused("the kernel's ring buffer has pages of another form")
     return PageShape(fields["commit"][1], fields["data"][0])
 
 
-def records(page, shape):
-    """The records of a page: each with its time in nanoseconds and its bytes."""
-    now, = struct.unpack_from("<Q", page, 0)
-    commit = int.from_bytes(page[8:8 + shape.commit_size], "little")
-    # The upper bits tell that records before this page were lost.
-    end = min(shape.data + (commit & 0xFFFFF), len(page))
-    found = []
+@dataclass
+class Records:
+    """Records in their order: when each came, its thread (which stands in its bytes from 4 to 8), and its bytes."""
+
+    times: list
+    threads: list
+    payloads: list
+
+
+def take_records(found, page, shape):
+    """Adds the records of a page to those that were found. Times never fall: a clock that went back counts as if it had stood still."""
+    now = int.from_bytes(page[:8], "little")
+    end = shape.end(page) & ~3
+    words = memoryview(page)[:end].cast("I")
+    latest = found.times[-1] if found.times else 0
     at = shape.data
-    while at + 4 <= end:
-        word, = struct.unpack_from("<I", page, at)
+    while at < end:
+        word = words[at >> 2]
         kind, delta = word & 31, word >> 5
-        at += 4
-        if kind == PADDING:
-            if delta == 0:
-                break
+        if kind <= 28:
             now += delta
-            at += size_at(page, at, end)
-        elif kind in (TIME_EXTEND, TIME_STAMP):
-            whole = delta + (size_at(page, at, end) << 27)
+            first = at + 4 if kind else at + 8
+            size = 4 * kind if kind else size_at(words, at) - 4
+            at = first + size
+            if size < 0 or at > end:
+                raise Refused(CUT)
+            if now > latest:
+                latest = now
+            found.times.append(latest)
+            found.threads.append(words[(first >> 2) + 1] if size >= 8 else 0)
+            found.payloads.append(page[first:at])
+            at = at + 3 & ~3
+        elif kind == PADDING:
+            if delta == 0:
+                return
+            now += delta
+            at += 4 + (size_at(words, at) + 3 & ~3)
+        else:
+            whole = delta + (size_at(words, at) << 27)
             # A stamp has the lower 59 bits of the time.
             now = (now & ~((1 << 59) - 1)) + whole if kind == TIME_STAMP else now + whole
-            at += 4
-        else:
-            now += delta
-            size = size_at(page, at, end) - 4 if kind == 0 else 4 * kind
-            at += 4 if kind == 0 else 0
-            if size < 0 or at + size > end:
-                raise Refused("a page of the kernel's ring buffer has a record that doesn't end in it")
-            found.append((now, bytes(page[at:at + size])))
-            at += (size + 3) & ~3
-    return found
+            at += 8
 
 
-def size_at(page, at, end):
-    """The number of four bytes that stands in a page."""
-    if at + 4 > end:
-        raise Refused("a page of the kernel's ring buffer has a record that doesn't end in it")
-    return struct.unpack_from("<I", page, at)[0]
+def size_at(words, at):
+    """The number that stands behind the first word of a record."""
+    place = (at >> 2) + 1
+    if place >= len(words):
+        raise Refused(CUT)
+    return words[place]

@@ -1,0 +1,183 @@
+"""Instances of tracefs: rings and enabled events of our own, which other users of tracefs don't notice."""
+import os
+import re
+import time
+
+from faults import Refused
+from spool import Spool
+
+PREFIX = "btrecord-"
+# The process, when it started (earlier versions left this out), and which of its two instances it is.
+OWN_NAME = re.compile(r"btrecord-(\d+)(?:-(\d+))?(?:-tasks)?")
+DEAD_STATES = "ZX"
+
+
+def write(path, text):
+    """Writes to a file of tracefs."""
+    try:
+        with open(path, "w") as file:
+            file.write(text)
+    except OSError as error:
+        raise Refused(f"{path}: {error.strerror}") from error
+
+
+def contents(path):
+    """A file of tracefs."""
+    try:
+        with open(path, "rb") as file:
+            return file.read()
+    except OSError as error:
+        raise Refused(f"{path}: {error.strerror}") from error
+
+
+def started(process, proc="/proc"):
+    """When a process that lives started, in the kernel's ticks since it booted, or none where it is dead."""
+    try:
+        with open(f"{proc}/{process}/stat") as file:
+            fields = file.read().rpartition(")")[2].split()
+    except (FileNotFoundError, ProcessLookupError):
+        return None
+    return None if fields[0] in DEAD_STATES else int(fields[19])
+
+
+def own_name():
+    """The name of this process's instance. With its start no later process has the same."""
+    return f"{PREFIX}{os.getpid()}-{started(os.getpid())}"
+
+
+def is_left(name, proc="/proc"):
+    """Whether an instance of this name is btrecord's, and of a process that is dead."""
+    found = OWN_NAME.fullmatch(name)
+    if not found:
+        return False
+    start = started(found[1], proc)
+    return start is None or found[2] is not None and int(found[2]) != start
+
+
+def remove_left(top, proc="/proc"):
+    """Removes the instances that dead btrecords left, and answers what is to be told of it. The kernel keeps one that is in use."""
+    told = []
+    for name in sorted(os.listdir(f"{top}/instances")):
+        if is_left(name, proc):
+            try:
+                os.rmdir(f"{top}/instances/{name}")
+                told.append(f"removed {top}/instances/{name}, which a btrecord that is dead left")
+            except OSError as error:
+                told.append(f"{top}/instances/{name}: {error.strerror}")
+    return told
+
+
+class Ring:
+    """The ring of a CPU, and what was read of it."""
+
+    def __init__(self, path, page_bytes, spool):
+        self.pipe = os.open(f"{path}/trace_pipe_raw", os.O_RDONLY | os.O_NONBLOCK)
+        self.stats = f"{path}/stats"
+        self.page_bytes = page_bytes
+        self.spool = spool
+
+    def read(self, shape, is_tracing=False, most=None, due=float("inf")):
+        """Keeps the pages that are there.
+
+        While tracing is on, a page that is less than half full is the last one: the next would be as empty, and there would always be
+        one more. The first is taken in any case, since it may be the rest of one that was read before. `most` pages are read, and none
+        after `due`, for where the ring is filled as fast as it is read. Answers how many pages were read.
+        """
+        pages = 0
+        while pages != most:
+            try:
+                page = os.read(self.pipe, self.page_bytes)
+            except BlockingIOError:
+                break
+            if not page:
+                break
+            self.spool.add(page)
+            pages += 1
+            if is_tracing and (pages > 1 and 2 * shape.end(page) < len(page) or time.monotonic() >= due):
+                break
+        return pages
+
+    def counts(self):
+        """What the kernel counted: how many events were read, are still there, and were thrown away since there was no room."""
+        found = dict(re.findall(r"^([a-z ]+): +(\d+)$", contents(self.stats).decode(), re.MULTILINE))
+        lost = sum(int(found.get(label, 0)) for label in ("overrun", "commit overrun", "dropped events"))
+        return int(found.get("read events", 0)), int(found.get("entries", 0)), lost
+
+
+class Instance:
+    """An instance with some events, which goes away with its block; `stays` tells where it could not.
+
+    Events that may not be enabled stand in `left_out`, with the cause.
+    """
+
+    def __init__(self, path, shape, page_bytes):
+        self.path = path
+        self.shape = shape
+        self.page_bytes = page_bytes
+        self.rings = {}
+        self.left_out = {}
+        self.filtered = False
+        self.stays = None
+
+    def __enter__(self):
+        try:
+            os.mkdir(self.path)
+        except OSError as error:
+            raise Refused(f"{self.path}: {error.strerror}") from error
+        return self
+
+    def set_up(self, kilobytes, folder):
+        """Makes the rings, and leaves this process out where the kernel can."""
+        write(f"{self.path}/tracing_on", "0")
+        write(f"{self.path}/trace_clock", "mono")
+        try:
+            write(f"{self.path}/buffer_size_kb", str(kilobytes))
+        except Refused as refused:
+            raise Refused(f"{refused}; ask for less by --buffer-kb") from refused
+        for cpu in self.cpus():
+            self.rings[cpu] = Ring(f"{self.path}/per_cpu/cpu{cpu}", self.page_bytes, Spool(folder, self.shape))
+        self.most = kilobytes * 1024 // self.page_bytes + 2
+        if os.path.exists(f"{self.path}/set_event_notrace_pid"):
+            write(f"{self.path}/set_event_notrace_pid", str(os.getpid()))
+            self.filtered = True
+
+    def enable(self, pairs, go_on=lambda: None):
+        """Enables events, and asks between two whether to go on. Answers those that are enabled."""
+        done = []
+        for system, event in pairs:
+            go_on()
+            try:
+                with open(f"{self.path}/events/{system}/{event}/enable", "w") as file:
+                    file.write("1")
+                done.append((system, event))
+            except OSError as error:
+                self.left_out[f"{system}:{event}"] = error.strerror
+        return done
+
+    def cpus(self):
+        """The numbers of the CPUs."""
+        return sorted(int(entry[3:]) for entry in os.listdir(f"{self.path}/per_cpu") if re.fullmatch(r"cpu\d+", entry))
+
+    def switch(self, on):
+        """Begins or ends tracing."""
+        write(f"{self.path}/tracing_on", "1" if on else "0")
+
+    def drain(self, is_tracing=False, due=float("inf")):
+        """Keeps what the rings hold; while tracing is on, at most as much as they can hold. Answers the most pages that one had."""
+        return max(ring.read(self.shape, is_tracing, self.most if is_tracing else None, due) for ring in self.rings.values())
+
+    def counts(self):
+        """How many events of all CPUs were read, are still there, and were lost."""
+        return [sum(counts) for counts in zip(*(ring.counts() for ring in self.rings.values()))] or [0, 0, 0]
+
+    def spools(self):
+        """What was kept of each CPU."""
+        return {cpu: ring.spool for cpu, ring in self.rings.items()}
+
+    def __exit__(self, *_):
+        for ring in self.rings.values():
+            os.close(ring.pipe)
+        try:
+            os.rmdir(self.path)
+        except OSError as error:
+            self.stays = f"the instance stays ({error.strerror}); remove it by: rmdir {self.path}"

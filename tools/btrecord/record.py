@@ -1,0 +1,289 @@
+"""Recording: what comes goes to files without names, and is put together when the time is over."""
+import contextlib
+import heapq
+import os
+import resource
+import sys
+import tempfile
+import time
+from dataclasses import dataclass, field
+
+import container
+from assembly import PAST_LIMITS, Assembly
+from container import format_of, test_formats
+from faults import WORDS, WRITE, Ended, Refused, of_file
+from instance import Instance, contents, own_name, remove_left
+from ring import page_shape
+from signals import Signals, name_of
+from spool import windows
+from tasks import Looks, Tasks, task_changes
+from tracepoints import chosen
+
+PLACES = ["/sys/kernel/tracing", "/sys/kernel/debug/tracing"]
+TASK_EVENTS = ["task_newtask", "task_rename"]
+TASK_KILOBYTES = 1024
+LEAST_KILOBYTES, MOST_KILOBYTES = 64, 1_048_576
+ROUND_SECONDS = 0.025
+LOOK_SECONDS = 0.25
+# Where a round finds more than this part of a ring filled, the next one follows at once.
+PRESSING = 8
+# A look at /proc takes at most this share of the time.
+LOOK_SHARE = 1 / 20
+# A ring has at least so many bytes for an event, and a recording so many more than the ring's records have in all.
+LEAST_RING_BYTES = 12
+MORE_BYTES = 24
+
+
+def nanoseconds():
+    """The clock of the instances."""
+    return time.clock_gettime_ns(time.CLOCK_MONOTONIC)
+
+
+def tracefs():
+    """Where tracefs is."""
+    if os.geteuid() != 0:
+        raise Refused("recording needs root")
+    for place in PLACES:
+        if os.path.exists(f"{place}/instances"):
+            return place
+    raise Refused(f"there is no tracefs: mount -t tracefs nodev {PLACES[0]}")
+
+
+def page_bytes(top):
+    """How long a page of the ring buffer is."""
+    path = f"{top}/buffer_subbuf_size_kb"
+    kilobytes = int(contents(path)) if os.path.exists(path) else 0
+    return max(os.sysconf("SC_PAGE_SIZE"), 1024 * kilobytes)
+
+
+def test_kilobytes(kilobytes):
+    """Refuses rings that would take more than half of the memory that is free."""
+    with open("/proc/meminfo") as file:
+        free = next(int(line.split()[1]) for line in file if line.startswith("MemAvailable:"))
+    most = min(MOST_KILOBYTES, free // 2 // os.cpu_count())
+    if kilobytes > most:
+        raise Refused(f"--buffer-kb {kilobytes}: from {LEAST_KILOBYTES} to {most} for each of {os.cpu_count()} CPUs, half of the free memory", WORDS)
+
+
+@dataclass
+class Recorded:
+    """What is known of a recording when its time is over. Times are in nanoseconds; `full_at` is when nothing more was kept."""
+
+    start: int = 0
+    end: int = 0
+    full_at: int = None
+    read: int = 0
+    lost: int = 0
+    uncounted: int = 0
+    signal: int = None
+    notes: list = field(default_factory=list)
+
+
+class Recorder:
+    """Keeps what an instance with the wanted events holds, and one with the events of tasks beside it."""
+
+    def __init__(self, main, tasks, looks, signals):
+        self.main = main
+        self.tasks = tasks
+        self.looks = looks
+        self.signals = signals
+        self.done = Recorded()
+        self.is_enough = False
+        self.is_pressed = False
+        self.next_look = 0
+
+    def go_on(self):
+        """Ends here where a signal came."""
+        came = self.signals.wait(0)
+        if came:
+            raise Ended(came, name_of(came))
+
+    def run(self, seconds, steps):
+        """Records for so many seconds, or until a signal comes. Once nothing more is kept, steps of what is to be done then are made."""
+        self.looks.look(0)
+        self.tasks.switch(True)
+        self.done.start = nanoseconds()
+        began = time.monotonic()
+        due = began + seconds if seconds else float("inf")
+        self.main.switch(True)
+        while not self.done.signal and time.monotonic() < due:
+            is_busy = next(steps, None) if self.done.full_at else self.is_pressed
+            self.done.signal = self.signals.wait(0 if is_busy else min(ROUND_SECONDS, due - time.monotonic()))
+            if not self.done.full_at and not self.done.signal:
+                self.round(due)
+        self.main.switch(False)
+        self.done.end = nanoseconds()
+        self.tasks.switch(False)
+        if not self.done.full_at:
+            self.main.drain()
+            self.tasks.drain()
+        self.count()
+
+    def round(self, due):
+        """Keeps what is there now. Where the last round left more than a recording holds, this one has all from before it, and is the last."""
+        now = nanoseconds()
+        self.is_pressed = self.main.drain(True, due) > self.main.most / PRESSING
+        if sum(ring.spool.bytes for ring in self.tasks.rings.values()) < container.MOST_BYTES:
+            self.tasks.drain(True, due)
+        if time.monotonic() >= self.next_look:
+            began = time.monotonic()
+            self.looks.look(now, min(due, began + LOOK_SECONDS))
+            self.next_look = time.monotonic() + max(LOOK_SECONDS, (time.monotonic() - began) / LOOK_SHARE)
+        if self.is_enough:
+            self.done.full_at = now
+            self.done.lost = self.main.counts()[2]
+            self.tasks.switch(False)
+            print(f"btrecord: the recording is full after {(now - self.done.start) / 1e9:.3f} s; what comes now is only counted", file=sys.stderr)
+        self.is_enough = self.holds_enough()
+
+    def holds_enough(self):
+        """Whether what is kept so far is all that a recording holds."""
+        kept = sum(ring.spool.bytes for ring in self.main.rings.values())
+        if kept < min(LEAST_RING_BYTES * container.MOST_EVENTS, container.MOST_BYTES // 4):
+            return False
+        events = self.main.counts()[0]
+        return events >= container.MOST_EVENTS or kept + MORE_BYTES * events >= container.MOST_BYTES
+
+    def count(self):
+        """What the kernel counted; behind the time at which the recording was full nothing is lost, but not kept."""
+        read, entries, lost = self.main.counts()
+        self.done.read = read
+        if self.done.full_at:
+            self.done.uncounted = entries + lost - self.done.lost
+        else:
+            self.done.lost = lost
+
+
+@dataclass
+class Asked:
+    """What to record: patterns of tracepoints, for how many seconds (none: until a signal comes), with rings of so many kilobytes."""
+
+    patterns: list
+    seconds: float
+    kilobytes: int
+    top: str = None
+
+
+@dataclass
+class Made:
+    """What stands in the output, and what is told of it."""
+
+    assembly: Assembly
+    lost: int
+    notes: list
+
+
+class Joining:
+    """Puts the events into an assembly, with what is known of their threads when they came."""
+
+    def __init__(self, recorder, texts, formats, folder):
+        self.recorder = recorder
+        self.texts = texts
+        self.formats = formats
+        self.folder = folder
+        self.assembly = None
+        self.own = 0
+        self.handled = 0
+
+    def steps(self):
+        """Puts the events of a short span of time into it, and answers that there may be more, until all are in it that fit."""
+        done, main = self.recorder.done, self.recorder.main
+        self.assembly = Assembly(self.formats, cpus_of(main), self.folder)
+        of_kernel = task_changes(self.texts, windows(self.recorder.tasks.spools()))
+        self.tasks = Tasks(heapq.merge(self.recorder.looks.changes(), of_kernel, key=lambda change: change.time))
+        latest = done.full_at or float("inf")
+        for until, found in windows(main.spools(), lambda time: self.tasks.until(min(time, latest))):
+            self.assembly.take_window([(cpu, of.times, [self.tasks.head(thread, cpu) for thread in of.threads], of.payloads) for cpu, of in found])
+            self.handled += sum(len(of.times) for _, of in found)
+            self.own += sum(of.threads.count(os.getpid()) for _, of in found)
+            if until == latest or self.assembly.is_full:
+                return
+            self.tasks.go_to(until + 1)
+            yield True
+
+    def finish(self, steps):
+        """Does what is left of the steps. Answers what is to be told."""
+        for _ in steps:
+            self.recorder.go_on()
+        done = self.recorder.done
+        if done.full_at or self.assembly.is_full:
+            self.assembly.leave_out(PAST_LIMITS, max(done.read - self.handled, 0) + done.uncounted)
+        share = f"{self.own:,} of the {self.handled:,} ({100 * self.own / max(self.handled, 1):.1f} %) are btrecord's own"
+        notes = [share] if self.own else []
+        return notes + ([f"nothing is known of {len(self.tasks.unknown):,} threads"] if self.tasks.unknown else [])
+
+
+def record(asked, open_output):
+    """Records events of all CPUs, and writes them to what `open_output` answers."""
+    top = asked.top or tracefs()
+    test_kilobytes(asked.kilobytes)
+    notes = remove_left(top)
+    wanted = chosen(top, asked.patterns)
+    test_formats(wanted.formats)
+    limits = resource.getrlimit(resource.RLIMIT_NOFILE)
+    resource.setrlimit(resource.RLIMIT_NOFILE, (limits[1], limits[1]))
+    with open_output() as output, Signals() as signals:
+        try:
+            return recorded(top, asked, wanted, output, signals, notes)
+        except OSError as error:
+            raise of_file(error.filename or output.folder or tempfile.gettempdir(), error, WRITE) from error
+
+
+def recorded(top, asked, wanted, output, signals, notes):
+    """Records, and writes the recording once its instances are gone."""
+    shape = page_shape(contents(f"{top}/events/header_page").decode())
+    size = page_bytes(top)
+    watched = [("task", event) for event in TASK_EVENTS if os.path.exists(f"{top}/events/task/{event}")]
+    texts = [format_of(system.encode(), contents(f"{top}/events/{system}/{event}/format")) for system, event in watched]
+    path = f"{top}/instances/{own_name()}"
+    main, tasks = Instance(path, shape, size), Instance(f"{path}-tasks", shape, size)
+    looks = Looks(output.folder)
+    recorder = Recorder(main, tasks, looks, signals)
+    with contextlib.ExitStack() as stack:
+        for instance, kilobytes, pairs in [(tasks, TASK_KILOBYTES, watched), (main, asked.kilobytes, wanted.pairs)]:
+            stack.enter_context(instance).set_up(kilobytes, output.folder)
+            enabled = set(instance.enable(pairs, recorder.go_on))
+        formats = [format for pair, format in zip(wanted.pairs, wanted.formats) if pair in enabled]
+        if not formats:
+            raise Refused(told_left_out(wanted.left_out | main.left_out))
+        joining = Joining(recorder, texts, formats, output.folder)
+        steps = joining.steps()
+        recorder.run(asked.seconds, steps)
+    notes += [instance.stays for instance in (main, tasks) if instance.stays]
+    notes += [told_left_out(wanted.left_out | main.left_out)] if wanted.left_out or main.left_out else []
+    notes = joining.finish(steps) + notes
+    start, end = joining.assembly.span(recorder.done.start, recorder.done.full_at or recorder.done.end)
+    with output.writing() as file:
+        joining.assembly.write(file, start, end)
+    return Made(joining.assembly, recorder.done.lost, [told_span(recorder.done, asked.seconds, end - start)] + notes)
+
+
+def told_left_out(left_out):
+    """Which tracepoints are left out, by the cause."""
+    causes = {}
+    for name, cause in left_out.items():
+        causes.setdefault(cause, []).append(name)
+    return f"{len(left_out)} tracepoints left out: " + "; ".join(f"{' '.join(names)} ({cause})" for cause, names in causes.items())
+
+
+def told_span(done, seconds, covered):
+    """Which part of the asked time the recording covers."""
+    asked = f" of the {seconds:g} s asked" if seconds else ""
+    why = "; the recording is full" if covered < done.end - done.start else f"; {name_of(done.signal)} ended it" if done.signal else ""
+    return f"it covers the first {covered / 1e9:.3f} s{asked}{why}"
+
+
+def online(path="/sys/devices/system/cpu/online"):
+    """The CPUs that are on, as the kernel lists them: `0-3,8`."""
+    found = set()
+    for part in contents(path).decode().strip().split(","):
+        first, _, last = part.partition("-")
+        found |= set(range(int(first), int(last or first) + 1))
+    return found
+
+
+def cpus_of(instance):
+    """The CPUs that the recording has: those with events, and then those that are on, as many as there is room for."""
+    busy = [cpu for cpu, ring in instance.rings.items() if ring.spool.bytes]
+    idle = sorted(online() & set(instance.rings) - set(busy))
+    return (busy + idle)[:max(container.MOST_CPUS, len(busy))]

@@ -1,0 +1,76 @@
+"""What comes while a recording is made, in files without names: the pages of rings."""
+import struct
+from bisect import bisect_right
+
+from output import nameless
+from ring import Records, take_records
+
+LENGTH = struct.Struct("<I")
+PAGES_AT_ONCE = 16
+
+
+class Spool:
+    """The pages of one CPU's ring, in the order in which they were read."""
+
+    def __init__(self, folder, shape):
+        self.file = nameless(folder)
+        self.shape = shape
+        self.bytes = 0
+
+    def add(self, page):
+        """Keeps a page up to where its records end."""
+        end = self.shape.end(page)
+        if end > self.shape.data:
+            self.file.write(LENGTH.pack(end) + page[:end])
+            self.bytes += end - self.shape.data
+
+    def chunks(self):
+        """All records, those of some pages at a time."""
+        self.file.seek(0)
+        latest = 0
+        while True:
+            found = Records([latest], [0], [b""])
+            for _ in range(PAGES_AT_ONCE):
+                head = self.file.read(LENGTH.size)
+                if not head:
+                    break
+                take_records(found, self.file.read(LENGTH.unpack(head)[0]), self.shape)
+            if not head and len(found.times) == 1:
+                return
+            latest = found.times[-1]
+            yield Records(found.times[1:], found.threads[1:], found.payloads[1:])
+
+
+class Stream:
+    """The records of a CPU that are still to be taken."""
+
+    def __init__(self, cpu, spool):
+        self.cpu = cpu
+        self.chunks = spool.chunks()
+        self.chunk = Records([], [], [])
+        self.at = 0
+
+    def has_more(self):
+        """Whether there are records; reads on where those at hand were taken."""
+        while self.chunk and self.at == len(self.chunk.times):
+            self.chunk, self.at = next(self.chunks, None), 0
+        return self.chunk is not None
+
+    def take(self, time):
+        """The records up to a time."""
+        begin, self.at = self.at, bisect_right(self.chunk.times, time, self.at)
+        return Records(self.chunk.times[begin:self.at], self.chunk.threads[begin:self.at], self.chunk.payloads[begin:self.at])
+
+
+def windows(spools, split=lambda time: time):
+    """The records of all CPUs, those of a span of time at once: when it ends, and the CPUs with the records of each.
+
+    The spans follow one another. `split` answers where one that could be so long has to end.
+    """
+    streams = [Stream(cpu, spool) for cpu, spool in sorted(spools.items())]
+    while True:
+        streams = [stream for stream in streams if stream.has_more()]
+        if not streams:
+            return
+        until = split(min(stream.chunk.times[-1] for stream in streams))
+        yield until, [(stream.cpu, found) for stream in streams for found in [stream.take(until)] if found.times]
