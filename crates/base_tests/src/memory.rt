@@ -1,7 +1,7 @@
 // That what takes memory is made where there is room.
 use bt_core::agg::{Agg, Buckets};
 use bt_core::boxed::Boxed;
-use bt_core::encoding::encode_key;
+use bt_core::encoding::{encode_key, part_of};
 use bt_core::item::{Cell, Item};
 use bt_core::items::Items;
 use bt_core::key::Key;
@@ -50,6 +50,22 @@ fn lists_boxes_and_bytes_of_keys_are_made(rt: HostRuntime) -> Result<(), Fail> {
         &bytes[..9],
         b"\xfe\xff\xff\xff\xff\xff\xff\xffk".as_slice()
     );
+    Ok(())
+}
+
+#[test]
+fn keys_go_to_parts_by_the_sums_of_their_bytes(rt: HostRuntime) -> Result<(), Fail> {
+    let alloc = rt.alloc();
+    let rows = [
+        (Value::Int(5), 5),
+        (Value::Int(13), 5),
+        (Value::Int(-1), 0),
+        (Value::Str(Str64::of(b"ab")), 3),
+    ];
+    for (value, part) in &rows {
+        let key = Key::of(vec![in alloc; value.copy()]?);
+        assert_eq!(rt; part_of(&key), *part);
+    }
     Ok(())
 }
 

@@ -205,21 +205,32 @@ fn five(alloc: Global) -> Result<Key, Memory> {
     Ok(Key::of(parts))
 }
 
-const NUMBERS: ObjectId = ObjectId::Shared {
-    map: MapId(0),
-    part: 0,
-};
+// A part of the map of numbers.
+fn numbers(part: u32) -> ObjectId {
+    ObjectId::Shared {
+        map: MapId(0),
+        part,
+    }
+}
+
+// The part that the key 5 is in.
+const FIVES: u32 = 5;
 
 #[test]
 fn helpers_of_keys_make_their_steps(rt: HostRuntime) -> Result<(), Fail> {
     let alloc = rt.alloc();
     let get = called(alloc, Helper::Get.number(), 0, KEY, TO)?;
-    assert!(rt; are(&get, &[(NUMBERS, Op::Get(five(alloc)?))]));
+    assert!(rt; are(&get, &[(numbers(FIVES), Op::Get(five(alloc)?))]));
     assert_eq!(rt; get.word, 7);
     let set = called(alloc, Helper::Set.number(), 0, KEY, VALUE)?;
-    assert!(rt; are(&set, &[(NUMBERS, Op::Set(five(alloc)?, Value::Int(9)))]));
+    assert!(rt;
+        are(
+            &set,
+            &[(numbers(FIVES), Op::Set(five(alloc)?, Value::Int(9)))]
+        )
+    );
     let delete = called(alloc, Helper::Delete.number(), 0, KEY, 0)?;
-    assert!(rt; are(&delete, &[(NUMBERS, Op::Delete(five(alloc)?))]));
+    assert!(rt; are(&delete, &[(numbers(FIVES), Op::Delete(five(alloc)?))]));
     let add = called(alloc, Helper::Aggregate.number(), 2, KEY, 3)?;
     let op = Op::Add(MapId(2), five(alloc)?, 3);
     assert!(rt; are(&add, &[(ObjectId::Cpu(1), op)]));
@@ -249,7 +260,17 @@ fn helpers_of_maps_make_their_steps(rt: HostRuntime) -> Result<(), Fail> {
     ];
     assert!(rt; are(&print, &wanted));
     let clear = called(alloc, Helper::Clear.number(), 0, 0, 0)?;
-    assert!(rt; are(&clear, &[(NUMBERS, Op::Clear)]));
+    let wanted = [
+        (numbers(0), Op::Clear),
+        (numbers(1), Op::Clear),
+        (numbers(2), Op::Clear),
+        (numbers(3), Op::Clear),
+        (numbers(4), Op::Clear),
+        (numbers(5), Op::Clear),
+        (numbers(6), Op::Clear),
+        (numbers(7), Op::Clear),
+    ];
+    assert!(rt; are(&clear, &wanted));
     let zero = called(alloc, Helper::Zero.number(), 2, 0, 0)?;
     let wanted = [(first, Op::ZeroOf(map)), (second, Op::ZeroOf(map))];
     assert!(rt; are(&zero, &wanted));

@@ -5,7 +5,7 @@ use crate::files::{files, recording};
 use crate::machine::instructions_of;
 use bt_core::items::Items;
 use bt_core::memory::Memory;
-use bt_core::step::Op;
+use bt_core::step::{Op, Step};
 use bt_io::mem_shelf::MemShelf;
 use bt_io::mem_sink::MemSink;
 use bt_io::shelf::{Shelf, ShelfError};
@@ -73,6 +73,9 @@ fn name_of(op: &Op) -> &str {
     match op {
         Op::Get(_) => "get",
         Op::Set(_, _) => "set",
+        Op::ReadAll => "read",
+        Op::Clear => "clear",
+        Op::Emit(_) => "emit",
         _ => "another",
     }
 }
@@ -99,6 +102,33 @@ fn an_increment_is_a_get_and_a_set(rt: HostRuntime) -> Result<(), Fail> {
     for (step, (actor, stamp, name)) in work.steps.as_slice().iter().zip(wanted) {
         assert!(rt; step.actor == actor && step.stamp == stamp);
         assert!(rt; name_of(&step.op) == name);
+    }
+    Ok(())
+}
+
+/// How many of the steps make this operation.
+fn count_of(steps: &[Step], name: &str) -> usize {
+    steps
+        .iter()
+        .filter(|step| name_of(&step.op) == name)
+        .count()
+}
+
+#[test]
+fn a_map_is_read_and_cleared_in_each_of_its_eight_parts(rt: HostRuntime) -> Result<(), Fail> {
+    let alloc = rt.alloc();
+    let script = b"BEGIN { @m[1] = 1; @m[9] = 2; @m[2] = 3; print(@m); clear(@m); }";
+    let files = files(alloc, script, recording(alloc, 1, 1)?)?;
+    let mut shelf = MemShelf::new(alloc, files, Vec::new(alloc));
+    let mut out = sink(alloc, 4096, &[])?;
+    let mut err = sink(alloc, 4096, &[])?;
+    let report = answer(&rt, alloc, &["run"], &mut shelf, &mut out, &mut err)?;
+    assert!(rt; out.taken() == b"@m[1]: 1\n@m[9]: 2\n@m[2]: 3\n\n".as_slice());
+    let work = report.work.ok_or("no work")?;
+    let steps = work.steps.as_slice();
+    assert_eq!(rt; steps.len(), 20);
+    for (name, count) in [("set", 3usize), ("read", 8), ("emit", 1), ("clear", 8)] {
+        assert_eq!(rt; count_of(steps, name), count);
     }
     Ok(())
 }
