@@ -14,15 +14,13 @@ use bpf_insn::insn::Insn;
 use bpf_insn::trap::Trap;
 use bpf_interp::machine::Ended;
 use bt_core::context::Context;
+use bt_core::limits::FUEL_OF_A_SLOT;
 use bt_core::memory::Memory;
 use bt_core::port::Port;
 use event_record::contexts::context_bytes;
 use helper_abi::running::run_code;
 use std::alloc::Global;
 use typed_tree::script::Typed;
-
-/// Instructions that a run may take for each slot of its code.
-const FUEL_A_SLOT: u64 = 4_098;
 
 /// Runs code through a port that serves the script's maps under their numbers.
 fn run_through<P: Port>(
@@ -85,7 +83,7 @@ pub(crate) fn run_body<P: Port>(
     ensures kept { P.fixed port.new ≡ P.fixed port.old }
 {
     let bytes = context_bytes(context);
-    let fuel = FUEL_A_SLOT * code.len() as u64;
+    let fuel = FUEL_OF_A_SLOT * code.len() as u64;
     let run = run_through(
         alloc, script, code, &bytes, payload, actor, actors, port, fuel,
     );
