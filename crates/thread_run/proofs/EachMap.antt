@@ -3,6 +3,7 @@ use Rattle.std.proofs.Common.{◌≡◌, ℕ, zero, suc, ◌+◌, ◌<◌, ◌�
 use Rattle.std.specs.Prelude.{Some, slice_get}
 use Rattle.std.proofs.lemmas.List.{drop_more}
 use Rattle.std.proofs.lemmas.Option.{slice_get_read}
+use Rattle.bt_core.specs.declared.limits.TheConstants.{PARTS}
 use Rattle.bt_core.specs.declared.map.AggKind.{AggKind}
 use Rattle.bt_core.specs.declared.map.MapDecl.{MapDecl}
 use Rattle.bt_core.specs.declared.map.MapId.{MapId}
@@ -23,9 +24,6 @@ use Rattle.thread_run.proofs.Reading.{own_long, own_in_places, others_stand}
 
 pub aggregation_of : (kind : MapKind) (k : AggKind) → kind ≡ Aggs k → IsAggregation kind
 aggregation_of kind k e = subst IsAggregation (sym e) tt
-
-one_part : (kind : MapKind) → IsShared kind → parts_in kind ≡ 1
-one_part kind shared = all_parts kind shared
 
 long_enough : {A : Type 0} (n : ℕ) (xs : List A) → length (take n xs) ≡ n → n ≤ length xs
 long_enough zero xs e = omega arith
@@ -62,18 +60,18 @@ module _ (maps : List MapDecl) (n : ℕ) (decl : MapDecl) (lt : n < length maps)
     pub parts_same : (k : AggKind) (next : ℕ) → decl.kind ≡ Aggs k → next ≡ first → PartsStand steps (parts_from (n + 1) (drop (n + 1) maps)) (drop next parts)
     parts_same k next agg e = parts_next next (let z : parts_in decl.kind ≡ 0 = ap parts_in agg in omega (arith, z, e))
 
-    pub parts_after : (next : ℕ) → IsShared decl.kind → next ≡ first + 1 → PartsStand steps (parts_from (n + 1) (drop (n + 1) maps)) (drop next parts)
-    parts_after next shared e = parts_next next (let z = one_part decl.kind shared in omega (arith, z, e))
+    pub parts_after : (next : ℕ) → IsShared decl.kind → next ≡ first + PARTS → PartsStand steps (parts_from (n + 1) (drop (n + 1) maps)) (drop next parts)
+    parts_after next shared e = parts_next next (let z = all_parts decl.kind shared in omega (arith, z, e))
 
-    pub within_after : (next : ℕ) → IsShared decl.kind → next ≡ first + 1 → first ≤ length parts → next ≤ length parts
+    pub within_after : (next : ℕ) → IsShared decl.kind → next ≡ first + PARTS → first ≤ length parts → next ≤ length parts
     within_after next shared e le =
-        let z = one_part decl.kind shared in let d = length-drop first parts in
+        let z = all_parts decl.kind shared in let d = length-drop first parts in
         let l = long_enough (parts_in decl.kind) (drop first parts) (own_long steps n decl (drop (n + 1) maps) (drop first parts) here) in omega (arith, z, d, l, e, le)
 
-    pub own_parts : (m count : ℕ) → IsShared decl.kind → m ≡ n → count ≡ 1 → ArePartsOf steps (map_at m) decl (take count (drop first parts)) × (length (take count (drop first parts)) ≡ 1)
-    own_parts m count shared e one =
-        let z : parts_in decl.kind ≡ count = one_part decl.kind shared ∙ sym one in (
+    pub own_parts : (m count : ℕ) → IsShared decl.kind → m ≡ n → count ≡ PARTS → ArePartsOf steps (map_at m) decl (take count (drop first parts)) × (length (take count (drop first parts)) ≡ PARTS)
+    own_parts m count shared e all =
+        let z : parts_in decl.kind ≡ count = all_parts decl.kind shared ∙ sym all in (
           subst (λ k. ArePartsOf steps (map_at k) decl (take count (drop first parts))) (sym e)
               (subst (λ k. ArePartsOf steps (map_at n) decl (take k (drop first parts))) z (own_in_places steps n decl (drop (n + 1) maps) (drop first parts) here)),
-          subst (λ k. length (take k (drop first parts)) ≡ k) z (own_long steps n decl (drop (n + 1) maps) (drop first parts) here) ∙ one,
+          subst (λ k. length (take k (drop first parts)) ≡ k) z (own_long steps n decl (drop (n + 1) maps) (drop first parts) here) ∙ all,
         )

@@ -1,4 +1,5 @@
-use Rattle.std.proofs.Common.{◌≤◌, ◌+◌, ◌∙◌, length, sym, ap, subst, arith}
+use Rattle.std.proofs.Common.{◌≤◌, ◌+◌, ◌∙◌, length, refl, sym, ap, subst, arith}
+use Rattle.bt_core.specs.declared.limits.TheConstants.{PARTS}
 use Rattle.step_objects.specs.CpuTables.{map_at}
 use Rattle.bt_meaning.specs.Prints.{rows_after, lost_after, of_maps}
 use Rattle.run_base.proofs.MapReads.{is_shared}
@@ -31,6 +32,11 @@ read_parts-requires g c =
             c.in_ok-number.field-0 _ shared c.in_ok-number.ensures (omega arith),
       ),
     )
+
+pub slice_bounds-own-end : goal.slice_bounds-own-end
+slice_bounds-own-end g c =
+    within_after c.args.maps.now c.loop-map.map c.index-maps-map.result c.loop-map-test.true c.index-maps-map.is g.at.steps c.as_slice-parts.result.now c.loop-map.first c.loop-map.invariant.parts
+        (c.loop-map.first + PARTS) (is_shared c.index-maps-map.result.kind c.in-Ints.is) refl c.loop-map.invariant.within
 
 pub loop-map-preserved : goal.loop-map-preserved
 loop-map-preserved g c =
