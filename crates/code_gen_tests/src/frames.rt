@@ -4,8 +4,8 @@ use bpf_frame::error::CodeError;
 use bpf_frame::frame::{Frame, Place};
 use bpf_frame::placing::place_frame;
 use bt_core::items::Items;
-use ir_code::probe::IrProbe;
 use bt_lower::lower::lower;
+use ir_code::probe::IrProbe;
 use std::alloc::Global;
 use std::test::Fail;
 

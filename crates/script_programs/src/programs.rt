@@ -9,8 +9,8 @@ use crate::error::{ProgramsError, SizeFault};
 use bpf_codegen::generate::{Program, generate_program};
 use bpf_frame::error::CodeError;
 use bt_core::items::Items;
-use ir_code::probe::IrProbe;
 use bt_lower::lower::lower;
+use ir_code::probe::IrProbe;
 use std::alloc::Global;
 use typed_tree::script::Typed;
 

@@ -36,7 +36,7 @@ read_parts-requires g c =
 pub slice_bounds-own-end : goal.slice_bounds-own-end
 slice_bounds-own-end g c =
     within_after c.args.maps.now c.loop-map.map c.index-maps-map.result c.loop-map-test.true c.index-maps-map.is g.at.steps c.as_slice-parts.result.now c.loop-map.first c.loop-map.invariant.parts
-        (c.loop-map.first + PARTS) (is_shared c.index-maps-map.result.kind c.in-Ints.is) refl c.loop-map.invariant.within
+    (c.loop-map.first + PARTS) (is_shared c.index-maps-map.result.kind c.in-Ints.is) refl c.loop-map.invariant.within
 
 pub loop-map-preserved : goal.loop-map-preserved
 loop-map-preserved g c =
