@@ -1,4 +1,4 @@
-use Rattle.std.proofs.Common.{rules, sym, ap, ◌∙◌}
+use Rattle.std.proofs.Common.{sym, ap, ◌∙◌}
 use Rattle.step_list.proofs.PlaceLemmas.{steps_snoc, within_snoc, last_told_snoc}
 use Rattle.step_list.specs.Deeds.{deed}
 use Rattle.step_list.specs.Places.{last_told}
