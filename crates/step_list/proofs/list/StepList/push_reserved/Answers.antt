@@ -1,0 +1,18 @@
+use Rattle.std.proofs.Common.{sym, ap, ◌∙◌}
+use Rattle.step_list.proofs.PlaceLemmas.{steps_snoc, within_snoc, last_told_snoc}
+use Rattle.step_list.specs.Deeds.{deed}
+use Rattle.step_list.specs.Places.{last_told}
+use Rattle.step_list.proofs.list.StepList.push_reserved.Goals as goal
+
+pub invariant_of-self : goal.invariant_of-self
+invariant_of-self c = let l = c.args.self.now in record {
+  within = within_snoc l.keys.items c.keep-mark.new.keys.items l.whole.items c.keep-mark.new.whole.items
+      l.places.items c.push_reserved.new.self.items _ (deed c.args.actor c.args.object c.args.op c.args.reply) c.keep-mark.ensures.keys c.keep-mark.ensures.whole l.within c.push_reserved.ensures.items c.keep-mark.ensures.within;
+  last_is = c.reply_of.ensures ∙ (sym (last_told_snoc l.places.items _) ∙ ap last_told (sym c.push_reserved.ensures.items));
+}
+
+pub returns : goal.returns
+returns c = let l = c.args.self.now in record {
+  steps = steps_snoc l.keys.items c.keep-mark.new.keys.items l.whole.items c.keep-mark.new.whole.items
+      l.places.items c.push_reserved.new.self.items _ (deed c.args.actor c.args.object c.args.op c.args.reply) c.keep-mark.ensures.keys c.keep-mark.ensures.whole l.within c.push_reserved.ensures.items c.keep-mark.ensures.deed;
+}

@@ -1,0 +1,4 @@
+pub mod Deeds
+pub mod Places
+pub mod Lists
+pub mod Emits

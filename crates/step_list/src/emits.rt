@@ -1,0 +1,86 @@
+// Items that the steps of a list emitted.
+ghost use Rattle.std.specs.Prelude.{◌≡◌, ◌++◌, [], List, map, OnOk};
+ghost use Rattle.std.specs.List.{cons_option, filter_map};
+ghost use Rattle.std.specs.Option.{option_map};
+ghost use Rattle.bt_core.specs.declared.value.Value.{Value as Part};
+ghost use Rattle.step_list.specs.Deeds.{deed_of};
+ghost use Rattle.step_list.specs.Places.{expanded, step_by_deed};
+ghost use Rattle.step_list.specs.Emits.{told, emit_of};
+ghost use Rattle.step_list.specs.Lists.{steps_in};
+
+use crate::deed::{Deed, Mark};
+use crate::list::{Place, StepList};
+use bt_core::item::Item;
+use bt_core::memory::Memory;
+use bt_core::step::{ObjectId, Op};
+
+/// An item that a step emitted, with the step's stamp and object.
+#[derive(Clone, Copy)]
+pub struct Emitted<'a> {
+    pub stamp: u64,
+    pub object: ObjectId,
+    pub item: &'a Item,
+}
+
+/// What a place tells that was emitted. An `Emit` is always kept whole.
+pub(crate) fn emit_at<'a>(whole: &'a [Deed], place: &Place) -> Option<Emitted<'a>>
+    ensures { (keys : List (List Part)) →
+        option_map told result ≡ emit_of (step_by_deed place.now.stamp (deed_of keys whole.now place.now.mark)) }
+{
+    match place.mark {
+        Mark::Whole(number) => match whole.get(number as usize) {
+            Some(deed) => match &deed.op {
+                Op::Emit(item) => Some(Emitted {
+                    stamp: place.stamp,
+                    object: deed.object,
+                    item,
+                }),
+                _ => None,
+            },
+            None => None,
+        },
+        Mark::GetInt { .. }
+        | Mark::SetInt { .. }
+        | Mark::Delete { .. }
+        | Mark::Add { .. }
+        | Mark::Check { .. } => None,
+    }
+}
+
+/// Puts what a place tells behind what was found.
+fn add<'a>(found: &mut Vec<Emitted<'a>>, emitted: Option<Emitted<'a>>) -> Result<(), Memory>
+    ensures { OnOk result (map told found.new.items ≡ map told found.old.items ++ cons_option (option_map told emitted.entry) []) }
+{
+    match emitted {
+        Some(emitted) => {
+            found.push(emitted)?;
+            Ok(())
+        }
+        None => Ok(()),
+    }
+}
+
+/// Puts what places tell that was emitted behind what was found, in their order.
+pub(crate) fn emits_of<'a>(
+    whole: &'a [Deed],
+    places: &[Place],
+    found: &mut Vec<Emitted<'a>>,
+) -> Result<(), Memory>
+    ensures { OnOk result ((keys : List (List Part)) →
+        map told found.new.items ≡ map told found.old.items ++ filter_map emit_of (expanded keys whole.now places.now)) }
+{
+    for place in places {
+        let emitted = emit_at(whole, place);
+        add(found, emitted)?;
+    }
+    Ok(())
+}
+
+impl StepList {
+    /// Puts what its steps emitted behind what was found, in the order of the steps. After [`Memory`] a part of it may stand there.
+    pub fn emitted<'a>(&'a self, found: &mut Vec<Emitted<'a>>) -> Result<(), Memory>
+        ensures { OnOk result (map told found.new.items ≡ map told found.old.items ++ filter_map emit_of (steps_in self.now)) }
+    {
+        emits_of(self.whole(), self.places(), found)
+    }
+}

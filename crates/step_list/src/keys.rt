@@ -1,0 +1,106 @@
+// Keys, each kept once where their hashes are apart.
+ghost use Rattle.std.specs.Prelude.{◌≡◌, ◌<◌, IsTrue, [], length, get_or, vec_len, vec_capacity, IfOk};
+ghost use Rattle.step_list.specs.Deeds.{Extends};
+
+use bt_core::key::Key;
+use bt_core::memory::{Memory, TryCopy};
+use bt_core::order::{compare_keys, keys_are_ordered};
+use bt_core::value::Value;
+use std::alloc::Global;
+use std::cmp::Ordering;
+
+/// The least number of slots.
+const SLOTS: usize = 64;
+
+/// An odd number whose bits are mixed, as the fraction of the golden ratio has them.
+const MULTIPLIER: u64 = 0x9E37_79B9_7F4A_7C15;
+
+/// A copy of the key of a number, or the key of no parts where there is no such key. [`Memory`] where there is no room for the copy.
+pub(crate) fn key_at(alloc: Global, keys: &[Key], number: u32) -> Result<Key, Memory>
+    ensures { IfOk result (λ key. key ≡ get_or keys.now number []) }
+{
+    match keys.get(number as usize) {
+        Some(key) => key.try_copy(alloc),
+        None => Ok(Key::of(Vec::new(alloc))),
+    }
+}
+
+/// Keeps a key, which is one of the keys already or is put behind them, and tells its number. There is room for it.
+///
+/// The slot of the key's hash names the number of a key, which is compared, so that any numbers may stand in the slots. Where the slot
+/// names another key, this one is put behind all keys, though it may be among them, and the slot names it from then on.
+pub(crate) fn keep_key(keys: &mut Vec<Key>, slots: &mut Vec<u32>, key: Key) -> u32
+    requires room { vec_len keys.old < vec_capacity keys.old }
+    requires few { length keys.old.items < 0xffffffff }
+    ensures kept { Extends keys.old.items keys.new.items }
+    ensures within { result < length keys.new.items }
+    ensures key { get_or keys.new.items result [] ≡ key }
+{
+    let slot = slot_of(&key, slots.len());
+    if let Some(number) = slots.get(slot) {
+        let number = *number;
+        if let Some(old) = keys.get(number as usize) {
+            if is_same(old, &key) {
+                return number;
+            }
+        }
+    }
+    let number = keys.len() as u32;
+    keys.push_reserved(key);
+    if slot < slots.len() {
+        slots[slot] = number;
+    }
+    number
+}
+
+/// Whether two keys are one.
+fn is_same(one: &Key, other: &Key) -> bool
+    ensures { IsTrue result → one.now ≡ other.now }
+{
+    keys_are_ordered();
+    match compare_keys(one, other) {
+        Ordering::Equal => true,
+        Ordering::Less | Ordering::Greater => false,
+    }
+}
+
+/// Slots for these keys and as many more, each with the number of the last key whose hash is the slot's, or 0.
+pub(crate) fn slots_for(alloc: Global, keys: &[Key]) -> Result<Vec<u32>, Memory> {
+    let count = keys.len().saturating_mul(2).saturating_add(SLOTS);
+    let mut slots = vec![in alloc; 0u32; count]?;
+    let mut number: u32 = 0;
+    for key in keys {
+        let slot = slot_of(key, slots.len());
+        slots[slot] = number;
+        number = number.wrapping_add(1);
+    }
+    Ok(slots)
+}
+
+/// The slot of a key among so many. No clause rests on which one it is.
+fn slot_of(key: &Key, slots: usize) -> usize
+    ensures { 0 < slots → result < slots }
+{
+    if slots == 0 {
+        return 0;
+    }
+    let mut sum: u64 = 0;
+    for part in key.parts() {
+        match part {
+            Value::Int(number) => {
+                sum = mixed(sum, number.cast_unsigned());
+            }
+            Value::Str(text) => {
+                for byte in text.bytes() {
+                    sum = mixed(sum, *byte as u64);
+                }
+            }
+        }
+    }
+    (sum >> 32) as usize % slots
+}
+
+/// A hash that has taken in one word more.
+fn mixed(sum: u64, word: u64) -> u64 {
+    (sum ^ word).wrapping_mul(MULTIPLIER)
+}

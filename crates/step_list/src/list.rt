@@ -1,0 +1,151 @@
+// The list of all steps of a run.
+ghost use Rattle.std.specs.Prelude.{◌≡◌, ℕ, ◌<◌, List, [], ◌∷◌, ◌++◌, map, length, vec_len, vec_capacity, slice_get, Some, None, IsTrue, IfOk, OnOk, IsOk};
+ghost use Rattle.step_list.specs.Places.{expanded, is_all_within, last_told};
+ghost use Rattle.std.specs.Coded.{Coded-set};
+
+use crate::deed::{Deed, Mark, place_of, reply_of};
+use crate::keys::slots_for;
+use crate::marking::{keep, told};
+use bt_core::key::Key;
+use bt_core::memory::Memory;
+use bt_core::step::{ObjectId, Op, Reply, Step};
+use std::alloc::Global;
+
+/// A step, in 24 bytes: its stamp, and what it did.
+#[derive(Clone, Copy)]
+pub struct Place {
+    pub stamp: u64,
+    pub mark: Mark,
+}
+
+/// Steps in the order in which they were pushed, in 24 bytes a step. What no mark tells is kept whole beside these. A key is kept once,
+/// but where another key with a hash of the same slot was kept since.
+///
+/// Contracts speak of the list of its steps, `steps_in`, and of the room that is reserved, `HasPlace`.
+#[derive(Drop)]
+pub struct StepList {
+    places: Vec<Place>,
+    keys: Vec<Key>,
+    slots: Vec<u32>,
+    whole: Vec<Deed>,
+    last: Reply,
+    ghost within: { IsTrue (is_all_within (length keys.items) (length whole.items) places.items) },
+    ghost last_is: { last ≡ last_told places.items } by { Coded-set last-code last (last_told places.items) },
+}
+
+impl StepList {
+    ghost use Rattle.bt_core.specs.declared.step.Step.{Step};
+    ghost use Rattle.step_list.specs.Lists.{steps_in, step_of, HasPlace};
+
+    /// The empty list. It takes no memory.
+    pub fn new(alloc: Global) -> StepList
+        ensures empty { steps_in result ≡ [] }
+    {
+        StepList {
+            places: Vec::new(alloc),
+            keys: Vec::new(alloc),
+            slots: Vec::new(alloc),
+            whole: Vec::new(alloc),
+            last: Reply::Done,
+        }
+    }
+
+    /// The number of its steps.
+    pub fn len(&self) -> usize
+        ensures { result ≡ length (steps_in self.now) }
+    {
+        self.places.len()
+    }
+
+    /// The reply of the last step. The list has a step.
+    pub fn last(&self) -> &Reply
+        requires { 0 < length (steps_in self.now) }
+        ensures { (before : List Step) × (step : Step) ×
+            (steps_in self.now ≡ before ++ step ∷ []) × (result.now ≡ step.reply) }
+    {
+        let found = self.places[self.places.len() - 1];
+        match place_of(&found.mark) {
+            Some(place) => &self.whole[place as usize].reply,
+            None => &self.last,
+        }
+    }
+
+    /// A copy of the step at a place, counted from 0, or `None` where there are no more than so many. [`Memory`] where there is no room
+    /// for the copy.
+    pub fn get(&self, alloc: Global, place: usize) -> Result<Option<Step>, Memory>
+        ensures { IfOk result (λ step. step ≡ slice_get (steps_in self.now) place) }
+    {
+        match self.places.get(place) {
+            None => Ok(None),
+            Some(found) => {
+                let Place { stamp, mark } = *found;
+                let deed = told(alloc, self.keys.as_slice(), self.whole.as_slice(), mark)?;
+                let Deed {
+                    actor,
+                    object,
+                    op,
+                    reply,
+                } = deed;
+                Ok(Some(Step {
+                    actor,
+                    object,
+                    stamp,
+                    op,
+                    reply,
+                }))
+            }
+        }
+    }
+
+    /// Its steps by their places.
+    pub(crate) fn places(&self) -> &[Place]
+        ensures { result.now ≡ self.now.places.items }
+    {
+        self.places.as_slice()
+    }
+
+    /// What is kept whole, in the order in which it was pushed.
+    pub(crate) fn whole(&self) -> &[Deed]
+        ensures { result.now ≡ self.now.whole.items }
+    {
+        self.whole.as_slice()
+    }
+
+    /// Makes room for one step. The steps stay, also after [`Memory`], and so does room that was there, with which it does not fail.
+    pub fn reserve(&mut self, alloc: Global) -> Result<(), Memory>
+        ensures steps { steps_in self.new ≡ steps_in self.old }
+        ensures room { OnOk result (HasPlace self.new) }
+        ensures kept { HasPlace self.old → HasPlace self.new }
+        ensures free { HasPlace self.old → IsOk result }
+    {
+        self.places.reserve(1)?;
+        self.keys.reserve(1)?;
+        self.whole.reserve(1)?;
+        if self.keys.len() >= self.slots.len() {
+            if let Ok(slots) = slots_for(alloc, self.keys.as_slice()) {
+                self.slots = slots;
+            }
+        }
+        Ok(())
+    }
+
+    /// Adds a step behind all others. There is room for it.
+    pub fn push_reserved(&mut self, actor: u32, object: ObjectId, stamp: u64, op: Op, reply: Reply)
+        requires room { HasPlace self.old }
+        ensures steps { steps_in self.new ≡ steps_in self.old ++ step_of actor stamp object op reply ∷ [] }
+    {
+        let mark = keep(
+            &mut self.keys,
+            &mut self.slots,
+            &mut self.whole,
+            Deed {
+                actor,
+                object,
+                op,
+                reply,
+            },
+        );
+        self.last = reply_of(&mark);
+        self.places.push_reserved(Place { stamp, mark });
+    }
+}

@@ -1,0 +1,202 @@
+// Marks of deeds, and deeds of marks.
+ghost use Rattle.std.specs.Prelude.{◌≡◌, ℕ, ◌<◌, IsTrue, List, [], length, vec_len, vec_capacity, IfOk};
+ghost use Rattle.bt_core.specs.declared.value.Value.{Value as Part};
+ghost use Rattle.step_list.specs.Deeds.{deed_of, is_within, Extends};
+
+use crate::deed::{Deed, Mark, actor_of, object_of, reply_of};
+use crate::keys::{keep_key, key_at};
+use bt_core::key::Key;
+use bt_core::map::MapId;
+use bt_core::memory::Memory;
+use bt_core::step::{ObjectId, Op, Reply};
+use bt_core::value::Value;
+use std::alloc::Global;
+
+/// A copy of the deed that a mark tells, by the keys and the deeds that are kept whole. [`Memory`] where there is no room for it.
+pub(crate) fn told(alloc: Global, keys: &[Key], whole: &[Deed], mark: Mark) -> Result<Deed, Memory>
+    ensures { IfOk result (λ deed. deed ≡ deed_of keys.now whole.now mark) }
+{
+    if let Mark::Whole(place) = mark {
+        return match whole.get(place as usize) {
+            Some(deed) => deed.copy(alloc),
+            None => Ok(Deed {
+                actor: 0,
+                object: ObjectId::Out,
+                op: Op::Stop,
+                reply: Reply::Done,
+            }),
+        };
+    }
+    let op = op_told(alloc, keys, &mark)?;
+    Ok(Deed {
+        actor: actor_of(&mark),
+        object: object_of(&mark),
+        op,
+        reply: reply_of(&mark),
+    })
+}
+
+/// The operation that a mark tells by itself, or a stop. [`Memory`] where there is no room for its key.
+fn op_told(alloc: Global, keys: &[Key], mark: &Mark) -> Result<Op, Memory>
+    ensures { IfOk result (λ op. op ≡ (deed_of keys.now [] mark.now).op) }
+{
+    match mark {
+        Mark::GetInt { key, .. } => Ok(Op::Get(key_at(alloc, keys, *key)?)),
+        Mark::SetInt { key, number, .. } => Ok(Op::Set(
+            key_at(alloc, keys, *key)?,
+            Value::Int(*number),
+        )),
+        Mark::Delete { key, .. } => Ok(Op::Delete(key_at(alloc, keys, *key)?)),
+        Mark::Add {
+            map,
+            key,
+            number,
+            ..
+        } => Ok(Op::Add(MapId(*map as u32), key_at(alloc, keys, *key)?, *number)),
+        Mark::Check { .. } => Ok(Op::Check),
+        Mark::Whole(_) => Ok(Op::Stop),
+    }
+}
+
+/// Keeps what a step did, and tells the mark by which it is found. There is room for a key and for a deed.
+pub(crate) fn keep(
+    keys: &mut Vec<Key>,
+    slots: &mut Vec<u32>,
+    whole: &mut Vec<Deed>,
+    deed: Deed,
+) -> Mark
+    requires keys { vec_len keys.old < vec_capacity keys.old }
+    requires whole { vec_len whole.old < vec_capacity whole.old }
+    ensures keys { Extends keys.old.items keys.new.items }
+    ensures whole { Extends whole.old.items whole.new.items }
+    ensures within { IsTrue (is_within (length keys.new.items) (length whole.new.items) result) }
+    ensures deed { deed_of keys.new.items whole.new.items result ≡ deed }
+{
+    if keys.len() >= 0xffff_ffff || deed.actor >= 256 {
+        return keep_whole(whole, deed);
+    }
+    match deed.object {
+        ObjectId::Shared { .. } => keep_shared(keys, slots, whole, deed),
+        ObjectId::Cpu(_) => keep_add(keys, slots, whole, deed),
+        ObjectId::Clock => keep_check(whole, deed),
+        ObjectId::Out => keep_whole(whole, deed),
+    }
+}
+
+/// Keeps what a step did at a part of a shared map.
+fn keep_shared(keys: &mut Vec<Key>, slots: &mut Vec<u32>, whole: &mut Vec<Deed>, deed: Deed) -> Mark
+    requires few { length keys.old.items < 0xffffffff }
+    requires actor { deed.actor < 256 }
+    requires keys { vec_len keys.old < vec_capacity keys.old }
+    requires whole { vec_len whole.old < vec_capacity whole.old }
+    ensures keys { Extends keys.old.items keys.new.items }
+    ensures whole { Extends whole.old.items whole.new.items }
+    ensures within { IsTrue (is_within (length keys.new.items) (length whole.new.items) result) }
+    ensures deed { deed_of keys.new.items whole.new.items result ≡ deed }
+{
+    let actor = deed.actor;
+    match (deed.object, deed.op, deed.reply) {
+        (ObjectId::Shared { map, part }, Op::Get(key), Reply::Value(Value::Int(number)))
+            if map.0 < 256 && part < 256 => Mark::GetInt {
+            actor: actor as u8,
+            map: map.0 as u8,
+            part: part as u8,
+            key: keep_key(keys, slots, key),
+            number,
+        },
+        (ObjectId::Shared { map, part }, Op::Set(key, Value::Int(number)), Reply::Done)
+            if map.0 < 256 && part < 256 => Mark::SetInt {
+            actor: actor as u8,
+            map: map.0 as u8,
+            part: part as u8,
+            key: keep_key(keys, slots, key),
+            number,
+        },
+        (ObjectId::Shared { map, part }, Op::Delete(key), Reply::Done)
+            if map.0 < 256 && part < 256 => Mark::Delete {
+            actor: actor as u8,
+            map: map.0 as u8,
+            part: part as u8,
+            key: keep_key(keys, slots, key),
+        },
+        (object, op, reply) => keep_whole(
+            whole,
+            Deed {
+                actor,
+                object,
+                op,
+                reply,
+            },
+        ),
+    }
+}
+
+/// Keeps what a step did at the tables of an actor.
+fn keep_add(keys: &mut Vec<Key>, slots: &mut Vec<u32>, whole: &mut Vec<Deed>, deed: Deed) -> Mark
+    requires few { length keys.old.items < 0xffffffff }
+    requires actor { deed.actor < 256 }
+    requires keys { vec_len keys.old < vec_capacity keys.old }
+    requires whole { vec_len whole.old < vec_capacity whole.old }
+    ensures keys { Extends keys.old.items keys.new.items }
+    ensures whole { Extends whole.old.items whole.new.items }
+    ensures within { IsTrue (is_within (length keys.new.items) (length whole.new.items) result) }
+    ensures deed { deed_of keys.new.items whole.new.items result ≡ deed }
+{
+    let actor = deed.actor;
+    match (deed.object, deed.op, deed.reply) {
+        (ObjectId::Cpu(owner), Op::Add(map, key, number), Reply::Done)
+            if map.0 < 256 && owner == actor => Mark::Add {
+            actor: actor as u8,
+            map: map.0 as u8,
+            key: keep_key(keys, slots, key),
+            number,
+        },
+        (object, op, reply) => keep_whole(
+            whole,
+            Deed {
+                actor,
+                object,
+                op,
+                reply,
+            },
+        ),
+    }
+}
+
+/// Keeps what a step did at the clock.
+fn keep_check(whole: &mut Vec<Deed>, deed: Deed) -> Mark
+    requires actor { deed.actor < 256 }
+    requires whole { vec_len whole.old < vec_capacity whole.old }
+    ensures whole { Extends whole.old.items whole.new.items }
+    ensures within { (keys : ℕ) → IsTrue (is_within keys (length whole.new.items) result) }
+    ensures deed { (keys : List (List Part)) → deed_of keys whole.new.items result ≡ deed }
+{
+    let actor = deed.actor;
+    match (deed.object, deed.op, deed.reply) {
+        (ObjectId::Clock, Op::Check, Reply::Stopped(stopped)) => Mark::Check {
+            actor: actor as u8,
+            stopped,
+        },
+        (object, op, reply) => keep_whole(
+            whole,
+            Deed {
+                actor,
+                object,
+                op,
+                reply,
+            },
+        ),
+    }
+}
+
+/// Keeps a deed whole, behind all others. There is room for it.
+fn keep_whole(whole: &mut Vec<Deed>, deed: Deed) -> Mark
+    requires whole { vec_len whole.old < vec_capacity whole.old }
+    ensures whole { Extends whole.old.items whole.new.items }
+    ensures within { (keys : ℕ) → IsTrue (is_within keys (length whole.new.items) result) }
+    ensures deed { (keys : List (List Part)) → deed_of keys whole.new.items result ≡ deed }
+{
+    let place = whole.len() as u64;
+    whole.push_reserved(deed);
+    Mark::Whole(place)
+}
