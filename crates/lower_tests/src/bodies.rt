@@ -118,13 +118,16 @@ fn pairs(alloc: Global) -> Result<Reply, Memory> {
     Ok(Reply::Pairs(pairs))
 }
 
-/// The numbers that are read, and then the rows of a map.
+/// The numbers that are read, and then the rows of a map, which its first part tells; the others have none.
 fn replies_of(alloc: Global, numbers: &[i64]) -> Result<Items<Reply>, Memory> {
     let mut replies = Items::new(alloc);
     for number in numbers {
         replies.push(Reply::Value(Value::Int(*number)))?;
     }
     replies.push(pairs(alloc)?)?;
+    for _part in 1..PARTS {
+        replies.push(Reply::Pairs(Items::new(alloc)))?;
+    }
     Ok(replies)
 }
 

@@ -31,7 +31,7 @@ pub(crate) enum Under {
     Count(i64),
 }
 
-/// A reply: the value of a key, the rows of a part, or the aggregates of a table.
+/// What is replied: the value of a key, the rows of a map over all its parts, or the aggregates of a table.
 #[derive(Clone, Copy, Debug)]
 pub(crate) enum Says {
     Value(Part),
@@ -140,10 +140,23 @@ fn reply_of(alloc: Global, says: Says) -> Result<Reply, Fail> {
     }
 }
 
+/// Adds a reply. The rows of a map are told by its first part, and the other parts have none.
+fn push_reply(alloc: Global, replies: &mut Items<Reply>, says: Says) -> Result<(), Fail> {
+    let others = match says {
+        Says::Rows(_) => PARTS - 1,
+        Says::Value(_) | Says::Counts(_) => 0,
+    };
+    replies.push(reply_of(alloc, says)?)?;
+    for _part in 0..others {
+        replies.push(Reply::Pairs(Items::new(alloc)))?;
+    }
+    Ok(())
+}
+
 fn replies_of(alloc: Global, said: &[Says]) -> Result<Items<Reply>, Fail> {
     let mut replies = Items::new(alloc);
     for says in said {
-        replies.push(reply_of(alloc, *says)?)?;
+        push_reply(alloc, &mut replies, *says)?;
     }
     Ok(replies)
 }
