@@ -1,10 +1,14 @@
 // Traces: the steps of one actor, with the clock at each.
 ghost use Rattle.std.specs.Prelude.{◌≡◌, ℕ, IsTrue, List, [], ◌∷◌, ◌++◌, ◌<◌, max, length, vec_len, vec_capacity, IsOk, OnOk};
+ghost use Rattle.step_list.specs.Lists.{steps_in};
+ghost use Rattle.stamped.specs.Floors.{floors_told, last_stamp, is_all_before};
 ghost use Rattle.stamped.specs.Rising.{is_rising};
 
+use crate::raised::{Raised, note};
 use bt_core::memory::Memory;
-use bt_core::step::{ObjectId, Op, Reply, Step};
+use bt_core::step::{ObjectId, Op, Reply};
 use std::alloc::Global;
+use step_list::list::StepList;
 
 /// The steps of one actor in their order, each with the clock that the actor had before it, and the
 /// actor's clock.
@@ -16,10 +20,13 @@ use std::alloc::Global;
 pub struct Trace {
     actor: u32,
     clock: u64,
-    steps: Vec<Step>,
-    floors: Vec<u64>,
-    ghost paired: { length floors.items ≡ length steps.items },
-    ghost rising: { IsTrue (is_rising 0 steps.items floors.items clock) },
+    steps: StepList,
+    stood: u64,
+    raised: Vec<Raised>,
+    ghost stood_is: { stood ≡ last_stamp 0 (steps_in steps) },
+    ghost before: { IsTrue (is_all_before (length (steps_in steps)) raised.items) },
+    ghost paired: { length (floors_told 0 0 (steps_in steps) raised.items) ≡ length (steps_in steps) },
+    ghost rising: { IsTrue (is_rising 0 (steps_in steps) (floors_told 0 0 (steps_in steps) raised.items) clock) },
 }
 
 impl Trace {
@@ -35,8 +42,9 @@ impl Trace {
         Trace {
             actor,
             clock: 0,
-            steps: Vec::new(alloc),
-            floors: Vec::new(alloc),
+            steps: StepList::new(alloc),
+            stood: 0,
+            raised: Vec::new(alloc),
         }
     }
 
@@ -44,14 +52,14 @@ impl Trace {
     ///
     /// It takes the allocator, as each call that may take memory does; the lists grow by the one
     /// that the trace was made with.
-    pub fn reserve(&mut self, _alloc: Global) -> Result<(), Memory>
+    pub fn reserve(&mut self, alloc: Global) -> Result<(), Memory>
         ensures same { IsSame self.old self.new }
         ensures room { OnOk result (HasRoom self.new) }
         ensures kept { HasRoom self.old → HasRoom self.new }
         ensures free { HasRoom self.old → IsOk result }
     {
-        self.steps.reserve(1)?;
-        self.floors.reserve(1)?;
+        self.steps.reserve(alloc)?;
+        self.raised.reserve(1)?;
         Ok(())
     }
 
@@ -61,7 +69,7 @@ impl Trace {
         ensures { (before : List Step) × (step : Step) ×
             (steps_of self.now ≡ before ++ step ∷ []) × (result.now ≡ step.reply) }
     {
-        &self.steps[self.steps.len() - 1].reply
+        self.steps.last()
     }
 
     /// The actor's clock.
@@ -82,16 +90,24 @@ impl Trace {
     }
 
     /// The steps in their order.
-    pub fn into_steps(self) -> Vec<Step>
-        ensures { result.items ≡ steps_of self }
+    pub fn into_steps(self) -> StepList
+        ensures { steps_in result ≡ steps_of self }
     {
         let Trace {
             actor: _,
             clock: _,
             steps,
-            floors: _,
+            stood: _,
+            raised: _,
         } = self;
         steps
+    }
+
+    /// The steps in their order.
+    pub fn steps(&self) -> &StepList
+        ensures { steps_in result.now ≡ steps_of self.now }
+    {
+        &self.steps
     }
 
     // Adds a step with this stamp, to which the clock then goes. There is room for it.
@@ -103,14 +119,10 @@ impl Trace {
         ensures steps { steps_of self.new ≡ steps_of self.old ++ step_by (actor_of self.old) object stamp op reply ∷ [] }
         ensures floors { floors_of self.new ≡ floors_of self.old ++ clock_of self.old ∷ [] }
     {
-        self.steps.push_reserved(Step {
-            actor: self.actor,
-            object,
-            stamp,
-            op,
-            reply,
-        });
-        self.floors.push_reserved(self.clock);
+        note(&mut self.raised, self.steps.len(), self.stood, self.clock);
+        self.steps
+            .push_reserved(self.actor, object, stamp, op, reply);
+        self.stood = stamp;
         self.clock = stamp;
     }
 }

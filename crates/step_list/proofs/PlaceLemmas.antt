@@ -1,5 +1,6 @@
 -- What places tell, with keys and deeds behind those that there are.
-use Rattle.std.proofs.Common.{◌≡◌, ◌≢◌, ℕ, zero, suc, ◌+◌, ◌<◌, ◌≤◌, nat_lt, true, List, [], ◌∷◌, ◌++◌, length, get_or, slice_get, Some, None, refl, sym, ap, ◌∙◌, subst, arith, length-append}
+use Rattle.std.proofs.Common.{◌≡◌, ◌≢◌, ℕ, zero, suc, ◌+◌, ◌<◌, ◌≤◌, nat_lt, true, List, [], ◌∷◌, ◌++◌, length, get_or, take, slice_get, Some, None, refl, sym, ap, ◌∙◌, subst, arith, length-append, append_assoc, add-one}
+use Rattle.std.proofs.Math.Seq.{take-suc}
 use Rattle.std.proofs.Math.ListN.{get_or-append}
 use Rattle.std.proofs.lemmas.List.{get_or_default}
 use Rattle.std.proofs.lemmas.Bool.{and_from, and_parts}
@@ -31,14 +32,24 @@ found_at ks ws [] i p lt e = absurd (omega arith)
 found_at ks ws (q ∷ ps) zero p lt e = ap (λ (r : Place). Some (step_by_deed r.stamp (deed_of ks ws r.mark))) e
 found_at ks ws (q ∷ ps) (suc i) p lt e = found_at ks ws ps i p (omega arith) e
 
-pub expanded_some : (ks js : List (List Value)) (ws us : List Deed) (ps qs : List Place) (i : ℕ) (p : Place) (d : Deed) → js ≡ ks → us ≡ ws → qs ≡ ps → i < length qs → p ≡ get_or qs i p
-    → d ≡ deed_of js us p.mark → Some (step_by_deed p.stamp d) ≡ slice_get (expanded ks ws ps) i
-expanded_some ks js ws us ps qs i p d j u q lt e f = ap (λ (x : Deed). Some (step_by_deed p.stamp x)) (f ∙ (λ k. deed_of (j k) (u k) p.mark))
+pub expanded_some : (ks js : List (List Value)) (ws us : List Deed) (ps qs : List Place) (i : ℕ) (p : Place) (s : Step) → js ≡ ks → us ≡ ws → qs ≡ ps → i < length qs → p ≡ get_or qs i p
+    → s ≡ step_by_deed p.stamp (deed_of js us p.mark) → Some s ≡ slice_get (expanded ks ws ps) i
+expanded_some ks js ws us ps qs i p s j u q lt e f = ap (λ (x : Step). Some x) (f ∙ (λ k. step_by_deed p.stamp (deed_of (j k) (u k) p.mark)))
     ∙ found_at ks ws ps i p (subst (λ (l : List Place). i < length l) q lt) (e ∙ ap (λ (l : List Place). get_or l i p) q)
 
 pub expanded_append : (ks : List (List Value)) (ws : List Deed) (ps qs : List Place) → expanded ks ws (ps ++ qs) ≡ expanded ks ws ps ++ expanded ks ws qs
 expanded_append ks ws [] qs = refl
 expanded_append ks ws (p ∷ ps) qs = ap (λ (l : List Step). step_by_deed p.stamp (deed_of ks ws p.mark) ∷ l) (expanded_append ks ws ps qs)
+
+-- the steps of one place more
+pub one_more_step : (ks : List (List Value)) (ws : List Deed) (ps : List Place) (i : ℕ) (d : Place) (start found news : List Step) (s : Step) → i < length ps
+    → found ≡ start ++ expanded ks ws (take i ps) → s ≡ step_by_deed (get_or ps i d).stamp (deed_of ks ws (get_or ps i d).mark) → news ≡ found ++ s ∷ []
+    → news ≡ start ++ expanded ks ws (take (i + 1) ps)
+one_more_step ks ws ps i d start found news s lt h f g =
+    let t : take (i + 1) ps ≡ take i ps ++ get_or ps i d ∷ [] = ap (λ (n : ℕ). take n ps) (add-one i) ∙ take-suc ps i d lt in
+    g ∙ ((λ k. h k ++ f k ∷ [])
+    ∙ (append_assoc start (expanded ks ws (take i ps)) (expanded ks ws (get_or ps i d ∷ []))
+    ∙ ap (λ (l : List Step). start ++ l) (sym (expanded_append ks ws (take i ps) (get_or ps i d ∷ [])) ∙ ap (expanded ks ws) (sym t))))
 
 -- a deed is told by its parts where the mark is none of a whole deed
 pub told_by_parts : (ks : List (List Value)) (ws : List Deed) (m : Mark) (a : ℕ) (o : ObjectId) (p : Op) (r : Reply) → ((k : ℕ) → m ≢ marks.Whole k)

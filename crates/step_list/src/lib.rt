@@ -3,6 +3,7 @@
 
 pub mod deed;
 pub mod emits;
+mod held;
 mod keys;
 pub mod list;
 mod marking;

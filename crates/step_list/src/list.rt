@@ -1,9 +1,13 @@
 // The list of all steps of a run.
 ghost use Rattle.std.specs.Prelude.{◌≡◌, ℕ, ◌<◌, List, [], ◌∷◌, ◌++◌, map, length, vec_len, vec_capacity, slice_get, Some, None, IsTrue, IfOk, OnOk, IsOk};
-ghost use Rattle.step_list.specs.Places.{expanded, is_all_within, last_told};
+ghost use Rattle.step_list.specs.HeldFacts.{held_prop};
+ghost use Rattle.step_list.specs.HeldReplies.{AreHeldReplies};
+ghost use Rattle.step_list.specs.Deeds.{deed_of};
+ghost use Rattle.step_list.specs.Places.{expanded, is_all_within, last_told, step_by_deed};
 ghost use Rattle.std.specs.Coded.{Coded-set};
 
 use crate::deed::{Deed, Mark, place_of, reply_of};
+use crate::held::reply_is_held;
 use crate::keys::slots_for;
 use crate::marking::{keep, told};
 use bt_core::key::Key;
@@ -19,7 +23,8 @@ pub struct Place {
 }
 
 /// Steps in the order in which they were pushed, in 24 bytes a step. What no mark tells is kept whole beside these. A key is kept once,
-/// but where another key with a hash of the same slot was kept since.
+/// but where another key with a hash of the same slot was kept since. What was replied is a number of 64 bits or a string of bytes, as its
+/// type says when it is pushed.
 ///
 /// Contracts speak of the list of its steps, `steps_in`, and of the room that is reserved, `HasPlace`.
 #[derive(Drop)]
@@ -30,6 +35,7 @@ pub struct StepList {
     whole: Vec<Deed>,
     last: Reply,
     ghost within: { IsTrue (is_all_within (length keys.items) (length whole.items) places.items) },
+    ghost held: { AreHeldReplies (expanded keys.items whole.items places.items) } by { held_prop (expanded keys.items whole.items places.items) },
     ghost last_is: { last ≡ last_told places.items } by { Coded-set last-code last (last_told places.items) },
 }
 
@@ -77,25 +83,32 @@ impl StepList {
     {
         match self.places.get(place) {
             None => Ok(None),
-            Some(found) => {
-                let Place { stamp, mark } = *found;
-                let deed = told(alloc, self.keys.as_slice(), self.whole.as_slice(), mark)?;
-                let Deed {
-                    actor,
-                    object,
-                    op,
-                    reply,
-                } = deed;
-                Ok(Some(Step {
-                    actor,
-                    object,
-                    stamp,
-                    op,
-                    reply,
-                }))
-            }
+            Some(found) => Ok(Some(step_at(
+                alloc,
+                self.keys.as_slice(),
+                self.whole.as_slice(),
+                *found,
+            )?)),
         }
     }
+
+    /// Puts copies of its steps behind those that there are, in their order. After [`Memory`] copies of the first ones may stand there.
+    pub fn copy_to(&self, alloc: Global, steps: &mut Vec<Step>) -> Result<(), Memory>
+        ensures { OnOk result (steps.new.items ≡ steps.old.items ++ steps_in self.now) }
+    {
+        copy_steps(
+            alloc,
+            self.keys.as_slice(),
+            self.whole.as_slice(),
+            self.places(),
+            steps,
+        )
+    }
+
+    /// The values that are replied in its steps are as a program holds them. Nothing runs.
+    pub fn replies_are_held(&self)
+        ensures { AreHeldReplies (steps_in self.now) }
+    {}
 
     /// Its steps by their places.
     pub(crate) fn places(&self) -> &[Place]
@@ -134,6 +147,7 @@ impl StepList {
         requires room { HasPlace self.old }
         ensures steps { steps_in self.new ≡ steps_in self.old ++ step_of actor stamp object op reply ∷ [] }
     {
+        reply_is_held(&reply);
         let mark = keep(
             &mut self.keys,
             &mut self.slots,
@@ -148,4 +162,40 @@ impl StepList {
         self.last = reply_of(&mark);
         self.places.push_reserved(Place { stamp, mark });
     }
+}
+
+/// A copy of the step that a place tells, by the keys and the deeds that are kept whole. [`Memory`] where there is no room for it.
+fn step_at(alloc: Global, keys: &[Key], whole: &[Deed], place: Place) -> Result<Step, Memory>
+    ensures { IfOk result (λ step. step ≡ step_by_deed place.stamp (deed_of keys.now whole.now place.mark)) }
+{
+    let Deed {
+        actor,
+        object,
+        op,
+        reply,
+    } = told(alloc, keys, whole, place.mark)?;
+    Ok(Step {
+        actor,
+        object,
+        stamp: place.stamp,
+        op,
+        reply,
+    })
+}
+
+/// Puts copies of the steps that places tell behind those that there are.
+fn copy_steps(
+    alloc: Global,
+    keys: &[Key],
+    whole: &[Deed],
+    places: &[Place],
+    steps: &mut Vec<Step>,
+) -> Result<(), Memory>
+    ensures { OnOk result (steps.new.items ≡ steps.old.items ++ expanded keys.now whole.now places.now) }
+{
+    for place in places {
+        let step = step_at(alloc, keys, whole, *place)?;
+        steps.push(step)?;
+    }
+    Ok(())
 }
