@@ -74,9 +74,19 @@ fn one_trace_over_two_locks_counts_up(rt: HostRuntime) -> Result<(), Fail> {
     assert_eq!(rt; trace.clock(), 3);
     let made = trace.into_steps();
     assert_eq!(rt; made.len(), 3);
-    assert_eq!(rt; made[0], step_of(alloc, ObjectId::Cpu(0), 1, 5, 5));
-    assert_eq!(rt; made[1], step_of(alloc, ObjectId::Out, 2, 7, 7));
-    assert_eq!(rt; made[2], step_of(alloc, ObjectId::Cpu(0), 3, -2, 3));
+    assert_eq!(rt;
+        made.get(alloc, 0)?,
+        Some(step_of(alloc, ObjectId::Cpu(0), 1, 5, 5))
+    );
+    assert_eq!(rt;
+        made.get(alloc, 1)?,
+        Some(step_of(alloc, ObjectId::Out, 2, 7, 7))
+    );
+    assert_eq!(rt;
+        made.get(alloc, 2)?,
+        Some(step_of(alloc, ObjectId::Cpu(0), 3, -2, 3))
+    );
+    assert_eq!(rt; made.get(alloc, 3)?, None);
     Ok(())
 }
 

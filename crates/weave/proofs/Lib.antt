@@ -4,6 +4,7 @@ pub mod Places
 pub mod Histories
 pub mod Weaving
 pub mod Orders
+pub mod Ranking
 pub mod Floors
 pub mod Clocks
 pub mod Bounds
@@ -15,3 +16,8 @@ pub mod Less
 pub mod Only
 pub mod Earlier
 pub mod Ending
+mod Listing
+mod StepOrder
+mod Picking
+mod Stable
+mod Sending

@@ -1,7 +1,9 @@
-//! Tests of the woven list: what no clause says.
+//! Tests of lists of steps and of the woven list: what no clause says.
 #![tactic(auto)]
 
 #[cfg(test)]
 mod ends;
+#[cfg(test)]
+mod lists;
 #[cfg(test)]
 mod woven;

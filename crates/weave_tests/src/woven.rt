@@ -8,17 +8,19 @@ ghost use Rattle.stamped.specs.Traces.{actor_of};
 use bt_core::key::Key;
 use bt_core::map::MapId;
 use bt_core::memory::Memory;
-use bt_core::step::{ObjectId, Op, Reply, Step};
+use bt_core::step::{ObjectId, Op, Reply};
 use stamped::perform::perform;
 use stamped::trace::Trace;
 use std::alloc::Global;
 use std::sync::Wait;
 use std::test::Fail;
+use step_list::list::StepList;
 use turn_lock::gate::Open;
 use turn_lock::lock::TurnLock;
 use turn_lock::tally::Tally;
 use turn_lock::turn::Turn;
-use weave::weave::{put_in_order, weave};
+use weave::weave::weave;
+use weave::woven::Woven;
 
 fn add(alloc: Global, number: i64) -> Op
     ensures { IsAdd result }
@@ -56,16 +58,18 @@ fn steps_come_by_stamp_and_then_by_object(rt: HostRuntime) -> Result<(), Fail> {
     add_at(&rt, alloc, &out, &mut out_turns[0], &mut first, 3)?;
     let woven = weave(alloc, vec![in alloc; second, first]?)?;
     assert_eq!(rt; woven.len(), 3);
+    let steps = woven.to_vec(alloc)?;
+    assert!(rt; steps.len() == 3);
     assert_eq!(rt;
-        (woven[0].actor, woven[0].object, woven[0].stamp),
+        (steps[0].actor, steps[0].object, steps[0].stamp),
         (0, ObjectId::Cpu(0), 1)
     );
     assert_eq!(rt;
-        (woven[1].actor, woven[1].object, woven[1].stamp),
+        (steps[1].actor, steps[1].object, steps[1].stamp),
         (1, ObjectId::Out, 1)
     );
     assert_eq!(rt;
-        (woven[2].actor, woven[2].object, woven[2].stamp),
+        (steps[2].actor, steps[2].object, steps[2].stamp),
         (0, ObjectId::Out, 2)
     );
     Ok(())
@@ -75,17 +79,19 @@ fn steps_come_by_stamp_and_then_by_object(rt: HostRuntime) -> Result<(), Fail> {
 #[test]
 fn a_million_steps_are_put_in_order(rt: HostRuntime) -> Result<(), Fail> {
     let alloc = rt.alloc();
-    let mut steps = Vec::new(alloc);
+    let mut list = StepList::new(alloc);
     for i in 0..1000000u64 {
-        steps.push(Step {
-            actor: 0,
-            object: ObjectId::Out,
-            stamp: (i * 7919) % 1000000,
-            op: Op::Check,
-            reply: Reply::Done,
-        })?;
+        list.reserve(alloc)?;
+        list.push_reserved(
+            0,
+            ObjectId::Clock,
+            (i * 7919) % 1000000,
+            Op::Check,
+            Reply::Stopped(false),
+        );
     }
-    put_in_order(&mut steps);
+    let woven = Woven::of(vec![in alloc; list]?)?;
+    let steps = woven.to_vec(alloc)?;
     assert!(rt; steps.len() == 1000000);
     assert_eq!(rt; steps[0].stamp, 0);
     assert_eq!(rt; steps[123456].stamp, 123456);
