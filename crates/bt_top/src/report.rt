@@ -11,7 +11,7 @@ use std::alloc::Global;
 /// What a call answers: the exit status, why it was refused where it was, the work that was done, which is there at status 0
 /// and 5 of `run` and `big`, and the programs that were run or listed, one for each body in the order of the bodies, at status 0 and 5 of
 /// `run`, `code` and `big`.
-#[derive(PartialEq, Eq, Debug, Drop)]
+#[derive(Debug, Drop)]
 pub struct Report {
     pub status: u8,
     pub refusal: Option<Refusal>,

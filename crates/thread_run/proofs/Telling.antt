@@ -1,5 +1,5 @@
 -- From what a run on threads makes to what it tells.
-use Rattle.std.proofs.Common.{◌≡◌, ℕ, ◌+◌, List, sym, subst}
+use Rattle.std.proofs.Common.{◌≡◌, ℕ, ◌+◌, List}
 use Rattle.std.specs.List.{AllByRecursion}
 use Rattle.bt_core.specs.declared.step.Step.{Step}
 use Rattle.map_printer.specs.ItemTexts.{IsItemOf}
@@ -16,9 +16,8 @@ use Rattle.bt_meaning.specs.Instructions.{instructions_of}
 use Rattle.bt_meaning.specs.Interleavings.{IsReplayed}
 use Rattle.code_bodies.specs.Coding.{code_replay, coding}
 use Rattle.run_base.specs.declared.job.Job.{Job}
-use Rattle.run_base.specs.Jobs.{cpus_in, world_for}
+use Rattle.run_base.specs.Jobs.{cpus_in}
 use Rattle.thread_run.specs.declared.closed.Closed.{Closed}
-use Rattle.thread_run.specs.Closed.{AreClosedAt}
 use Rattle.thread_run.specs.Made.{IsMade}
 
 module _ (job : Job) (is_job : IsJob job.typed job.attached job.recording) (codes : List (List Insn))
@@ -35,7 +34,3 @@ module _ (job : Job) (is_job : IsJob job.typed job.attached job.recording) (code
 
   pub run_counts : n ≡ instructions_of (code_replay job.typed codes job.attached job.recording) steps
   run_counts = is.counted
-
-  -- a copy of the steps
-  pub closed_then : (value : List Step) → value ≡ steps → AreClosedAt (record { world = world_for job; steps = value }) closed
-  closed_then value copied = subst (λ l. AreClosedAt (record { world = world_for job; steps = l }) closed) (sym copied) is.closed_at

@@ -14,7 +14,6 @@ use crate::turns::parted;
 use bpf_insn::insn::Insn;
 use bt_core::items::Items;
 use bt_core::memory::Memory;
-use bt_core::step::Step;
 use cpu_worker::world::World;
 use run_base::job::Job;
 use std::alloc::Global;
@@ -22,6 +21,7 @@ use std::sync::Wait;
 use std::thread::Threads;
 use turn_lock::gate::Gate;
 use weave::weave::weave;
+use weave::woven::Woven;
 
 /// Runs a job, each CPU on a thread of its own, each body by its code. Gives the closed objects, the woven steps, and how many
 /// instructions were executed.
@@ -31,10 +31,10 @@ pub(crate) fn make_steps<G: Gate + Sync, R: Threads + Wait + Sync>(
     job: &Job,
     codes: &[Items<Insn>],
     gate: &G,
-) -> Result<(Closed, Vec<Step>, u64), Memory>
+) -> Result<(Closed, Woven, u64), Memory>
     requires can { CanRunAll job.now (plans_by job.now codes.now) }
     requires can_run { AllByRecursion CanRunCode codes.now }
-    ensures { IfOk result (λ made. IsMade job.now (plans_by job.now codes.now) made.0 made.1.items made.2) }
+    ensures { IfOk result (λ made. IsMade job.now (plans_by job.now codes.now) made.0 made.1 made.2) }
 {
     let bodies = all_bodies(alloc, job, codes)?;
     let (sets, turns) = new_sets(alloc, job)?;

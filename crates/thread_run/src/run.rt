@@ -19,19 +19,19 @@ use crate::ends::read_maps;
 use crate::made::make_steps;
 use bt_core::items::Items;
 use bt_core::memory::Memory;
-use bt_core::step::Step;
 use bt_meaning::text::text_of_run;
 use code_bodies::laws::{code_means_walks, codes_take_few};
-use run_base::held::{job_is_held, replies_are_held};
+use run_base::held::job_is_held;
 use run_base::job::{Job, Work};
 use script_programs::codes::codes_of;
 use std::alloc::Global;
 use std::sync::Wait;
 use std::thread::Threads;
 use turn_lock::gate::Gate;
+use weave::woven::Woven;
 
 /// The text of a run of a job that made these steps and left these objects.
-fn text_of(alloc: Global, job: &Job, closed: &Closed, steps: &[Step]) -> Result<Items<u8>, Memory>
+fn text_of(alloc: Global, job: &Job, closed: &Closed, steps: &Woven) -> Result<Items<u8>, Memory>
     ghost at: { Moment }
     requires closed { AreClosedAt at closed.now }
     requires world { at.world ≡ world_for job.now }
@@ -74,10 +74,10 @@ pub fn run_threads<G: Gate + Sync, R: Threads + Wait + Sync>(
     job_is_held(job);
     let codes = codes_of(alloc, job.programs.as_slice())?;
     let (closed, steps, instructions) = make_steps(rt, alloc, job, codes.as_slice(), gate)?;
-    replies_are_held(steps.as_slice());
-    let text = text_of(alloc, job, &closed, steps.as_slice())?;
+    steps.replies_are_held();
+    let text = text_of(alloc, job, &closed, &steps)?;
     Ok(Work {
-        steps: Items::of(steps),
+        steps,
         text,
         instructions,
     })

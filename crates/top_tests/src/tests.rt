@@ -99,7 +99,8 @@ fn an_increment_is_a_get_and_a_set(rt: HostRuntime) -> Result<(), Fail> {
     let work = report.work.ok_or("no work")?;
     assert!(rt; work.steps.len() == 4);
     let wanted = [(0, 1, "get"), (0, 2, "set"), (1, 3, "get"), (1, 4, "set")];
-    for (step, (actor, stamp, name)) in work.steps.as_slice().iter().zip(wanted) {
+    let steps = work.steps.to_vec(alloc)?;
+    for (step, (actor, stamp, name)) in steps.iter().zip(wanted) {
         assert!(rt; step.actor == actor && step.stamp == stamp);
         assert!(rt; name_of(&step.op) == name);
     }
@@ -125,10 +126,10 @@ fn a_map_is_read_and_cleared_in_each_of_its_eight_parts(rt: HostRuntime) -> Resu
     let report = answer(&rt, alloc, &["run"], &mut shelf, &mut out, &mut err)?;
     assert!(rt; out.taken() == b"@m[1]: 1\n@m[9]: 2\n@m[2]: 3\n\n".as_slice());
     let work = report.work.ok_or("no work")?;
-    let steps = work.steps.as_slice();
+    let steps = work.steps.to_vec(alloc)?;
     assert_eq!(rt; steps.len(), 20);
     for (name, count) in [("set", 3usize), ("read", 8), ("emit", 1), ("clear", 8)] {
-        assert_eq!(rt; count_of(steps, name), count);
+        assert_eq!(rt; count_of(steps.as_slice(), name), count);
     }
     Ok(())
 }

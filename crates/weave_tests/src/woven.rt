@@ -1,5 +1,5 @@
 // The woven list: that the steps of real traces are woven, and that many steps are put in order in time.
-ghost use Rattle.std.specs.Prelude.{◌≡◌};
+ghost use Rattle.std.specs.Prelude.{◌≡◌, ◌<◌};
 ghost use Rattle.turn_lock.specs.Calls.{caller_of};
 ghost use Rattle.turn_lock.specs.Locks.{IsOf};
 ghost use Rattle.turn_lock.specs.Sums.{IsAdd};
@@ -75,26 +75,40 @@ fn steps_come_by_stamp_and_then_by_object(rt: HostRuntime) -> Result<(), Fail> {
     Ok(())
 }
 
-// The stamps are all numbers below a million, since 7919 is a prime that does not divide it.
-#[test]
-fn a_million_steps_are_put_in_order(rt: HostRuntime) -> Result<(), Fail> {
-    let alloc = rt.alloc();
+// A hundred thousand steps of one actor, with each fourth stamp from this one on.
+fn fourth(alloc: Global, actor: u32, first: u64) -> Result<StepList, Memory>
+    requires { first < 4 }
+{
     let mut list = StepList::new(alloc);
-    for i in 0..1000000u64 {
+    for i in 0..100000u64 {
         list.reserve(alloc)?;
         list.push_reserved(
-            0,
+            actor,
             ObjectId::Clock,
-            (i * 7919) % 1000000,
+            4 * i + first,
             Op::Check,
             Reply::Stopped(false),
         );
     }
-    let woven = Woven::of(vec![in alloc; list]?)?;
+    Ok(list)
+}
+
+// The stamps are all numbers below four hundred thousand.
+#[test]
+fn many_steps_are_put_in_order(rt: HostRuntime) -> Result<(), Fail> {
+    let alloc = rt.alloc();
+    let mut lists = Vec::new(alloc);
+    lists.push(fourth(alloc, 0, 2)?)?;
+    lists.push(fourth(alloc, 1, 0)?)?;
+    lists.push(fourth(alloc, 2, 3)?)?;
+    lists.push(fourth(alloc, 3, 1)?)?;
+    let woven = Woven::of(lists)?;
+    assert_eq!(rt; woven.len(), 400000);
+    assert!(rt; woven.emitted(alloc)?.is_empty());
     let steps = woven.to_vec(alloc)?;
-    assert!(rt; steps.len() == 1000000);
-    assert_eq!(rt; steps[0].stamp, 0);
-    assert_eq!(rt; steps[123456].stamp, 123456);
-    assert_eq!(rt; steps[999999].stamp, 999999);
+    assert!(rt; steps.len() == 400000);
+    assert_eq!(rt; (steps[0].stamp, steps[0].actor), (0, 1));
+    assert_eq!(rt; (steps[123456].stamp, steps[123456].actor), (123456, 1));
+    assert_eq!(rt; (steps[399999].stamp, steps[399999].actor), (399999, 2));
     Ok(())
 }

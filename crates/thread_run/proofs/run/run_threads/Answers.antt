@@ -2,17 +2,12 @@ use Rattle.std.proofs.Common.{◌+◌, List, sym, ◌∙◌, subst, refl}
 use Rattle.std.specs.List.{AllByRecursion}
 use Rattle.bpf_insn.specs.declared.insn.Insn.{Insn}
 use Rattle.bt_meaning.specs.Instructions.{instructions_of}
-use Rattle.bt_meaning.specs.Interleavings.{IsReplayed}
-use Rattle.bt_meaning.specs.Texts.{EmitOwn}
-use Rattle.bt_meaning.specs.Walks.{replay_of}
-use Rattle.replay_laws.specs.Agree.{AllReplies}
-use Rattle.replay_laws.specs.HeldReplies.{IsHeldReply}
 use Rattle.code_bodies.specs.Coding.{CanRunCode, code_replay, coding}
 use Rattle.script_programs.specs.Programs.{AreCodesOf, KeepScript}
 use Rattle.run_base.specs.Jobs.{cpus_in}
 use Rattle.run_base.proofs.CodeLemmas.{few_slots, jobs_run}
 use Rattle.thread_run.specs.Made.{IsMade}
-use Rattle.thread_run.proofs.Telling.{closed_then, emit_own, run_counts, run_replayed}
+use Rattle.thread_run.proofs.Telling.{emit_own, run_counts, run_replayed}
 use Rattle.thread_run.proofs.run.run_threads.Goals as goal
 
 pub codes_of-requires : goal.codes_of-requires
@@ -27,44 +22,33 @@ make_steps-requires-clause-can_run g c lifetimes bounds = subst (AllByRecursion 
 
 pub text_of-requires : goal.text_of-requires
 text_of-requires g c = (
-  closed_then c.args.job.now c.requires.job c.in_ok-codes.codes
-      c.in_ok-closed.closed c.in_ok-closed.steps.items c.in_ok-closed.instructions
-      (subst (λ (l : List (List Insn)). IsMade c.args.job.now (coding c.args.job.now.typed l (cpus_in c.args.job.now + 1)) c.in_ok-closed.closed c.in_ok-closed.steps.items c.in_ok-closed.instructions) c.as_slice-2.ensures c.in_ok-closed.ensures)
-      (c.code_means_walks.ensures.replayed c.args.job.now.typed c.in_ok-codes.codes c.args.job.now.attached c.args.job.now.recording c.in_ok-closed.steps.items c.requires.job c.job_is_held.ensures
-      (c.in_ok-codes.ensures.keep c.args.job.now.typed (subst (KeepScript c.args.job.now.typed) (sym c.as_slice.ensures) c.requires.programs))
-      (subst (AllReplies IsHeldReply) c.as_slice-3.ensures.value c.replies_are_held.ensures))
-      c.as_slice-4.result.now c.as_slice-4.ensures.value,
+  (subst (λ (l : List (List Insn)). IsMade c.args.job.now (coding c.args.job.now.typed l (cpus_in c.args.job.now + 1)) c.in_ok-closed.closed c.in_ok-closed.steps c.in_ok-closed.instructions) c.as_slice-2.ensures c.in_ok-closed.ensures).closed_at,
   (
     refl,
     (
       refl,
-      subst (EmitOwn c.args.job.now.typed) (sym c.as_slice-4.ensures.value)
-          (emit_own c.args.job.now c.requires.job c.in_ok-codes.codes
-          c.in_ok-closed.closed c.in_ok-closed.steps.items c.in_ok-closed.instructions
-          (subst (λ (l : List (List Insn)). IsMade c.args.job.now (coding c.args.job.now.typed l (cpus_in c.args.job.now + 1)) c.in_ok-closed.closed c.in_ok-closed.steps.items c.in_ok-closed.instructions) c.as_slice-2.ensures c.in_ok-closed.ensures)
-          (c.code_means_walks.ensures.replayed c.args.job.now.typed c.in_ok-codes.codes c.args.job.now.attached c.args.job.now.recording c.in_ok-closed.steps.items c.requires.job c.job_is_held.ensures
+      emit_own c.args.job.now c.requires.job c.in_ok-codes.codes c.in_ok-closed.closed c.in_ok-closed.steps c.in_ok-closed.instructions
+          (subst (λ (l : List (List Insn)). IsMade c.args.job.now (coding c.args.job.now.typed l (cpus_in c.args.job.now + 1)) c.in_ok-closed.closed c.in_ok-closed.steps c.in_ok-closed.instructions) c.as_slice-2.ensures c.in_ok-closed.ensures)
+          (c.code_means_walks.ensures.replayed c.args.job.now.typed c.in_ok-codes.codes c.args.job.now.attached c.args.job.now.recording c.in_ok-closed.steps c.requires.job c.job_is_held.ensures
           (c.in_ok-codes.ensures.keep c.args.job.now.typed (subst (KeepScript c.args.job.now.typed) (sym c.as_slice.ensures) c.requires.programs))
-          (subst (AllReplies IsHeldReply) c.as_slice-3.ensures.value c.replies_are_held.ensures))),
+          c.replies_are_held.ensures),
     ),
   ),
 )
 
 pub returns-clause-replayed : goal.returns-clause-replayed
 returns-clause-replayed g c =
-    subst (IsReplayed (replay_of c.args.job.now.typed c.args.job.now.attached c.args.job.now.recording)) (sym c.of.ensures)
-    (run_replayed c.args.job.now c.requires.job c.in_ok-codes.codes
-    c.in_ok-closed.closed c.in_ok-closed.steps.items c.in_ok-closed.instructions
-    (subst (λ (l : List (List Insn)). IsMade c.args.job.now (coding c.args.job.now.typed l (cpus_in c.args.job.now + 1)) c.in_ok-closed.closed c.in_ok-closed.steps.items c.in_ok-closed.instructions) c.as_slice-2.ensures c.in_ok-closed.ensures)
-    (c.code_means_walks.ensures.replayed c.args.job.now.typed c.in_ok-codes.codes c.args.job.now.attached c.args.job.now.recording c.in_ok-closed.steps.items c.requires.job c.job_is_held.ensures
+    run_replayed c.args.job.now c.requires.job c.in_ok-codes.codes c.in_ok-closed.closed c.in_ok-closed.steps c.in_ok-closed.instructions
+    (subst (λ (l : List (List Insn)). IsMade c.args.job.now (coding c.args.job.now.typed l (cpus_in c.args.job.now + 1)) c.in_ok-closed.closed c.in_ok-closed.steps c.in_ok-closed.instructions) c.as_slice-2.ensures c.in_ok-closed.ensures)
+    (c.code_means_walks.ensures.replayed c.args.job.now.typed c.in_ok-codes.codes c.args.job.now.attached c.args.job.now.recording c.in_ok-closed.steps c.requires.job c.job_is_held.ensures
     (c.in_ok-codes.ensures.keep c.args.job.now.typed (subst (KeepScript c.args.job.now.typed) (sym c.as_slice.ensures) c.requires.programs))
-    (subst (AllReplies IsHeldReply) c.as_slice-3.ensures.value c.replies_are_held.ensures)))
+    c.replies_are_held.ensures)
 
 pub returns-clause-instructions : goal.returns-clause-instructions
 returns-clause-instructions g c = λ others are.
-    run_counts c.args.job.now c.requires.job c.in_ok-codes.codes
-    c.in_ok-closed.closed c.in_ok-closed.steps.items c.in_ok-closed.instructions
-    (subst (λ (l : List (List Insn)). IsMade c.args.job.now (coding c.args.job.now.typed l (cpus_in c.args.job.now + 1)) c.in_ok-closed.closed c.in_ok-closed.steps.items c.in_ok-closed.instructions) c.as_slice-2.ensures c.in_ok-closed.ensures)
-    (c.code_means_walks.ensures.replayed c.args.job.now.typed c.in_ok-codes.codes c.args.job.now.attached c.args.job.now.recording c.in_ok-closed.steps.items c.requires.job c.job_is_held.ensures
+    run_counts c.args.job.now c.requires.job c.in_ok-codes.codes c.in_ok-closed.closed c.in_ok-closed.steps c.in_ok-closed.instructions
+    (subst (λ (l : List (List Insn)). IsMade c.args.job.now (coding c.args.job.now.typed l (cpus_in c.args.job.now + 1)) c.in_ok-closed.closed c.in_ok-closed.steps c.in_ok-closed.instructions) c.as_slice-2.ensures c.in_ok-closed.ensures)
+    (c.code_means_walks.ensures.replayed c.args.job.now.typed c.in_ok-codes.codes c.args.job.now.attached c.args.job.now.recording c.in_ok-closed.steps c.requires.job c.job_is_held.ensures
     (c.in_ok-codes.ensures.keep c.args.job.now.typed (subst (KeepScript c.args.job.now.typed) (sym c.as_slice.ensures) c.requires.programs))
-    (subst (AllReplies IsHeldReply) c.as_slice-3.ensures.value c.replies_are_held.ensures))
-    ∙ (λ i. instructions_of (code_replay c.args.job.now.typed (c.in_ok-codes.ensures.only others (subst (λ ps. AreCodesOf ps others) (sym c.as_slice.ensures) are) i) c.args.job.now.attached c.args.job.now.recording) (sym c.of.ensures i))
+    c.replies_are_held.ensures)
+    ∙ (λ i. instructions_of (code_replay c.args.job.now.typed (c.in_ok-codes.ensures.only others (subst (λ ps. AreCodesOf ps others) (sym c.as_slice.ensures) are) i) c.args.job.now.attached c.args.job.now.recording) c.in_ok-closed.steps)
