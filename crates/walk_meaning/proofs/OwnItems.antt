@@ -25,10 +25,11 @@ use Rattle.map_printer.specs.ItemTexts.{IsItemOf, CanPrint}
 use Rattle.map_printer.specs.Merged.{merged}
 use Rattle.typed_tree.specs.declared.body.TypedBody.{TypedBody}
 use Rattle.typed_tree.specs.Scope.{decl_of, format_of, is_there, takes, same_shapes}
-use Rattle.walk_meaning.specs.declared.sweep.Sweep.TheVariants.{Read}
+use Rattle.map_ops.specs.declared.sweep.Sweep.TheVariants.{Read}
 use Rattle.walk_meaning.specs.declared.view.View.{View}
 use Rattle.walk_meaning.specs.Admits.{AdmitsOf, EmitsOnly}
-use Rattle.walk_meaning.specs.Maps.{holder, kind_of, kind_or_numbers, sweep_op}
+use Rattle.map_ops.specs.Holders.{holder, kind_in, sweep_op}
+use Rattle.walk_meaning.specs.Maps.{kind_of}
 use Rattle.walk_meaning.specs.Walk.{walk}
 use Rattle.walk_meaning.specs.Served.{CanWalk}
 use Rattle.walk_meaning.proofs.Asking.{IsFineCall}
@@ -74,8 +75,8 @@ module _ (setting : Setting) (formats : List (List Piece)) (body : TypedBody) (c
       (subst (λ (l : List Shape). HasShape l values) (sym (same_shapes-equal (argument_shapes pieces) hs named)) shaped)
 
   rows_fine : (m : MapId) (top : ℕ) (div : ℤ) (rs : List Reply) (found : Option MapDecl) → decl_of m.0 body.maps ≡ found → IsTrue (is_there found) → IsTrue (int_le (pos 1) div)
-      → AllByRecursion (IsReplyIn setting (holder (kind_or_numbers found) m) (sweep_op Read (kind_or_numbers found) m)) rs
-      → IsItemOf formats setting.maps (items.Map m (merged (kind_or_numbers found) rs) top div)
+      → AllByRecursion (IsReplyIn setting (holder (kind_in found) m) (sweep_op Read (kind_in found) m)) rs
+      → IsItemOf formats setting.maps (items.Map m (merged (kind_in found) rs) top div)
   rows_fine m top div rs None e named divides are = cc
   rows_fine m top div rs (Some decl) e named divides are =
       let there = served setting.maps m.0 body.maps decl can.maps_are_served e in
