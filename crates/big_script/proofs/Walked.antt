@@ -22,7 +22,7 @@ use Rattle.typed_tree.specs.declared.stmt.TypedBlock.{TypedBlock, out-TypedBlock
 use Rattle.typed_tree.specs.declared.stmt.TypedStmt.{TypedStmt}
 use Rattle.event_record.specs.Fields.{field_number}
 use Rattle.walk_meaning.specs.declared.flow.Flow.{Flow}
-use Rattle.walk_meaning.specs.Does.{Does, Scene, given, seen, lifted, asked, bind}
+use Rattle.walk_meaning.specs.Does.{Does, Scene, given, seen, lifted, bind}
 use Rattle.walk_meaning.specs.Exprs.{command, number_field, text_value, value_does, any_layer, num_layer, str_layer}
 use Rattle.walk_meaning.specs.Stmts.{gather, in_turn, stmt_does, block_does, stmt_layer, block_layer}
 use Rattle.walk_meaning.specs.Walk.{walk, fresh, guarded, ending_of}

@@ -1,6 +1,6 @@
 -- A typed body's run needs only what it is given.
 use Rattle.std.proofs.Common.{◌≡◌, ℕ, zero, suc, ◌+◌, ◌-◌, ◌*◌, ◌<◌, ◌≤◌, List, [], ◌∷◌, length, Bool, true, false, Option, Some, None, refl, sym, ap, subst, arith, inl, inr}
-use Rattle.std.specs.Prelude.{ℤ, pos, negsuc, ◌⊎◌, ◌&&◌, max, slice_get, get_or, int_le, cond}
+use Rattle.std.specs.Prelude.{ℤ, pos, negsuc, ◌⊎◌, ◌&&◌, max, slice_get, get_or, cond}
 use Rattle.std.proofs.Math.Nat.{le-max_left, le-max_right}
 use Rattle.std.proofs.lemmas.Bool.{and_parts, leb-true}
 use Rattle.bt_core.specs.declared.context.Context.{Context}
@@ -23,7 +23,7 @@ use Rattle.ir_code.specs.declared.probe.IrProbe.{IrProbe}
 use Rattle.ir_code.specs.declared.state.State.{State}
 use Rattle.ir_code.specs.declared.state.Way.TheVariants.{To}
 use Rattle.bt_ir.specs.declared.step.View.{View}
-use Rattle.map_ops.specs.Holders.{kind_of, kind_in, CanSweep}
+use Rattle.map_ops.specs.Holders.{kind_of, CanSweep}
 use Rattle.ir_code.specs.Figures.{sizes_of, instr_bytes}
 use Rattle.ir_code.specs.Meaning.{Scene, instrs_run, after_exit, goes_on, exit_run, block_run, run_from, blocks_run, count_way, turn_way}
 use Rattle.bt_ir.specs.Running.{MayAsk, CanRun, IsReady, AreReady, AllReady}

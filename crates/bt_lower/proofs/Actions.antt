@@ -17,7 +17,7 @@ use Rattle.typed_tree.specs.Parts.{Part}
 use Rattle.walk_meaning.specs.declared.flow.Flow.{Flow}
 use Rattle.walk_meaning.specs.declared.flow.Flow.TheVariants.{Next}
 use Rattle.walk_meaning.specs.declared.flow.Frame.{Frame}
-use Rattle.walk_meaning.specs.Does.{Does, given, seen, changed, lifted, asked, bind, in_order}
+use Rattle.walk_meaning.specs.Does.{Does, given, seen, changed, lifted, bind, in_order}
 use Rattle.walk_meaning.specs.Does.{Scene as Walked}
 use Rattle.walk_meaning.specs.Exprs.{number_value}
 use Rattle.walk_meaning.specs.Maps.{with_variable, variable}

@@ -15,7 +15,7 @@ use Rattle.bt_core.specs.Interaction.{Ended, and_then}
 use Rattle.bt_core.proofs.InteractionLaws.{and_then_assoc}
 use Rattle.typed_tree.specs.Parts.{Part, MapOf}
 use Rattle.typed_tree.specs.Scope.{fits, decl_of, is_declared, same_kind, same_shapes, kind_of_shape}
-use Rattle.walk_meaning.specs.Does.{Does, given, lifted, asked, bind}
+use Rattle.walk_meaning.specs.Does.{Does, given, lifted, bind}
 use Rattle.walk_meaning.specs.Exprs.{number_value, text_value, read_number, read_text, step_map}
 use Rattle.ir_code.specs.declared.instr.Instr.TheVariants as i
 use Rattle.map_ops.specs.Asking.{got}

@@ -7,11 +7,9 @@ use Rattle.std.proofs.lemmas.Option.{slice_get_within, get_or_from_slice_get}
 use Rattle.std.proofs.Math.Logic.{∥∥₁_elim}
 use Rattle.std.proofs.Props.{props}
 use Rattle.bt_core.specs.declared.context.Context.{Context}
-use Rattle.bt_core.specs.declared.limits.TheConstants.{KEY_PARTS, LOOP_TURNS}
+use Rattle.bt_core.specs.declared.limits.TheConstants.{KEY_PARTS}
 use Rattle.bt_core.specs.declared.map.MapDecl.{MapDecl}
 use Rattle.bt_core.specs.declared.map.Shape.{Shape}
-use Rattle.bt_core.specs.declared.map.Shape.TheVariants as shapes
-use Rattle.bt_core.specs.declared.value.Value.{Value}
 use Rattle.fmt_text.specs.Arguments.{argument_shapes}
 use Rattle.fmt_text.specs.declared.piece.Piece.{Piece}
 use Rattle.tracefs_format.specs.declared.field.Field.{Field}

@@ -1,6 +1,6 @@
 -- Lowering of each kind of single statement, by its tree.
 use Rattle.std.proofs.Common.{◌≡◌, ℕ, ◌+◌, ◌≤◌, List, [], ◌∷◌, ◌++◌, length, refl, sym, ap, ◌∙◌, subst, arith, Bool, true, false, Option, Some, None}
-use Rattle.std.specs.Prelude.{ℤ, pos, max, slice_get, ◌&&◌, int_le}
+use Rattle.std.specs.Prelude.{ℤ, pos, max, slice_get, ◌&&◌}
 use Rattle.std.proofs.Math.Nat.{le-max_left, le-max_right, max-le}
 use Rattle.std.proofs.lemmas.Bool.{and_parts}
 use Rattle.bt_core.specs.declared.limits.TheConstants.{KEY_PARTS}

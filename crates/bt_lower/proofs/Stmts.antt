@@ -13,7 +13,7 @@ use Rattle.typed_tree.specs.Scope.{Scope, all_fit}
 use Rattle.walk_meaning.specs.declared.flow.Flow.{Flow}
 use Rattle.walk_meaning.specs.declared.flow.Flow.TheVariants.{Next, Break, Continue, Stop}
 use Rattle.walk_meaning.specs.declared.flow.Frame.{Frame}
-use Rattle.walk_meaning.specs.Does.{Does, given, bind, lifted, asked, in_order}
+use Rattle.walk_meaning.specs.Does.{Does, given, bind, lifted, in_order}
 use Rattle.walk_meaning.specs.Does.{Scene as Walked}
 use Rattle.walk_meaning.specs.Stmts.{in_turn, if_next, jump_to}
 use Rattle.typed_tree.specs.declared.stmt.Jump.TheVariants as jumps

@@ -1,6 +1,6 @@
 -- Lowering of `print`, `clear` and `zero`.
 use Rattle.std.proofs.Common.{◌≡◌, ℕ, List, [], ◌∷◌, ◌++◌, length, refl, sym, ap, ◌∙◌, arith, append-nil, true, Option, Some, None}
-use Rattle.std.specs.Prelude.{ℤ, pos, slice_get, int_le}
+use Rattle.std.specs.Prelude.{ℤ, slice_get}
 use Rattle.std.proofs.lemmas.Bool.{and_parts}
 use Rattle.bt_core.specs.declared.item.Item.TheVariants as items
 use Rattle.bt_core.specs.declared.map.MapDecl.{MapDecl}

@@ -13,7 +13,7 @@ use Rattle.bt_core.proofs.InteractionLaws.{and_then_assoc}
 use Rattle.walk_meaning.specs.declared.flow.Flow.{Flow}
 use Rattle.walk_meaning.specs.declared.flow.Flow.TheVariants.{Next, Break, Continue, Stop}
 use Rattle.walk_meaning.specs.declared.flow.Frame.{Frame}
-use Rattle.walk_meaning.specs.Does.{Does, given, seen, changed, lifted, asked, bind}
+use Rattle.walk_meaning.specs.Does.{Does, given, seen, changed, lifted, bind}
 use Rattle.walk_meaning.specs.Does.{Scene as Walked}
 use Rattle.walk_meaning.specs.Stmts.{cut, turn, again}
 use Rattle.ir_code.specs.declared.blocks.Block.{Block}

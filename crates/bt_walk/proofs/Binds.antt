@@ -1,5 +1,5 @@
 -- What was done of one thing after another.
-use Rattle.std.proofs.Common.{◌≡◌, ℕ, ℤ, List, refl, sym, ap, ◌∙◌, subst, Bool, true, false, Ok, Err, Result, SFits, to_z, of_z, w64}
+use Rattle.std.proofs.Common.{◌≡◌, ℤ, List, refl, sym, ap, ◌∙◌, subst, Bool, true, false, Ok, Err, Result, SFits, to_z, of_z, w64}
 use Rattle.std.proofs.lemmas.Int.{to_z-of_z}
 use Rattle.bt_core.specs.declared.map.MapId.{MapId}
 use Rattle.bt_core.specs.declared.map.MapKind.{MapKind}
@@ -9,7 +9,7 @@ use Rattle.bt_core.specs.declared.step.Op.{Op}
 use Rattle.bt_core.specs.declared.step.Reply.{Reply}
 use Rattle.bt_core.specs.declared.step.Step.{Step}
 use Rattle.bt_core.specs.declared.value.Value.{Value}
-use Rattle.bt_core.specs.Interaction.{Interaction, Ended, and_then, Whole, Part, Performed, Left}
+use Rattle.bt_core.specs.Interaction.{Interaction, Ended, Whole, Part, Performed, Left}
 use Rattle.bt_core.proofs.InteractionLaws.{Whole-and_then, Part-after, Part-and_then, Performed-none, Whole-Ended, Left-and_then}
 use Rattle.map_ops.specs.declared.sweep.Sweep.{Sweep}
 use Rattle.map_ops.specs.Asking as map

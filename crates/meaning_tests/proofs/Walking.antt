@@ -16,7 +16,7 @@ use Rattle.typed_tree.specs.declared.stmt.TypedStmt.{TypedStmt, fold-roll-TypedS
 use Rattle.typed_tree.specs.declared.stmt.TypedStmt.TheVariants.{rolls-Gather, rolls-Print, rolls-Clear, rolls-Jump}
 use Rattle.typed_tree.specs.declared.stmt.TypedStmt.TheOpen.{TypedStmt-F}
 use Rattle.walk_meaning.specs.declared.flow.Flow.{Flow}
-use Rattle.walk_meaning.specs.Does.{Does, lifted, asked, bind, given, seen}
+use Rattle.walk_meaning.specs.Does.{Does, lifted, bind, given, seen}
 use Rattle.walk_meaning.specs.Stmts.{block_does, block_layer, clear, gather, in_turn, jump_to, number_or_one, print, stmt_does, stmt_layer}
 use Rattle.walk_meaning.specs.Walk.{ending_of, fresh, guarded, walk}
 use Rattle.meaning_tests.specs.Bodies.{HasStatements, clear_statement, count_statement, exit_statement, print_statement}

@@ -1,5 +1,5 @@
 -- What words and expressions add, in two scenes that are alike.
-use Rattle.std.proofs.Common.{◌≡◌, ◌++◌, ◌+◌, ◌-◌, ◌%◌, ◌^◌, ℕ, ℤ, pos, w64, List, [], ◌∷◌, Bool, true, false, map, refl, sym, ap, subst}
+use Rattle.std.proofs.Common.{◌≡◌, ◌++◌, ◌+◌, ◌-◌, ◌%◌, ◌^◌, ℕ, ℤ, w64, List, [], ◌∷◌, Bool, true, false, map, refl, sym, ap, subst}
 use Rattle.std.specs.Int.{cast_signed}
 use Rattle.bt_core.specs.declared.map.MapId.{MapId}
 use Rattle.bt_core.specs.declared.step.ObjectId.{ObjectId}
@@ -18,7 +18,7 @@ use Rattle.typed_tree.specs.Parts.{Part, Made, made_of, num_parts, str_parts, pa
 use Rattle.bt_meaning.specs.Totals.{Entry, added}
 use Rattle.bt_meaning.proofs.Eachs.{each_front, each_back}
 use Rattle.walk_meaning.specs.declared.flow.Frame.{Frame}
-use Rattle.walk_meaning.specs.Does.{Scene, Does, given, seen, changed, lifted, asked, bind, choose, told, gathered, either}
+use Rattle.walk_meaning.specs.Does.{Scene, Does, given, seen, changed, lifted, bind, choose, told, gathered, either}
 use Rattle.map_ops.specs.Builtins.{builtin_value}
 use Rattle.walk_meaning.specs.Exprs.{any_layer, num_layer, str_layer, value_does, values_do, number_does, text_does}
 use Rattle.walk_meaning.specs.Maps.{add}

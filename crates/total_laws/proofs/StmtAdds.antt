@@ -28,11 +28,11 @@ use Rattle.walk_meaning.specs.declared.flow.Flow.{Flow}
 use Rattle.walk_meaning.specs.declared.flow.Flow.TheVariants.{Next, Break, Continue, Stop}
 use Rattle.walk_meaning.specs.declared.flow.Frame.{Frame}
 use Rattle.map_ops.specs.declared.sweep.Sweep.TheVariants.{Read}
-use Rattle.walk_meaning.specs.Does.{Scene, Does, given, seen, changed, lifted, asked, bind, told, in_order}
+use Rattle.walk_meaning.specs.Does.{Scene, Does, given, seen, changed, lifted, bind, told, in_order}
 use Rattle.walk_meaning.specs.Exprs.{value_does, values_do, number_does}
 use Rattle.walk_meaning.specs.Maps.{kind_of, swept, add}
 use Rattle.map_ops.specs.Holders.{holder, holders, sweep_op}
-use Rattle.map_ops.specs.Asking.{asked_from, swept as all_swept}
+use Rattle.map_ops.specs.Asking.{asked_from}
 use Rattle.walk_meaning.specs.Stmts.{plain, stmt_layer, block_layer, stmt_does, block_does, number_or_one, kind_seen, print, if_next, in_turn, first_arm, arm_does, cut, entered, turn, turns, tests, while_true, again}
 use Rattle.walk_meaning.specs.Walk.{walk, fresh, guarded, ending_of, tree_does}
 use Rattle.total_laws.proofs.Adding.{is_plain, Gives, gives-then}

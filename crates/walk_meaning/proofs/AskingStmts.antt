@@ -1,6 +1,6 @@
 -- What is asked by statements, and by whole bodies.
 use Rattle.std.proofs.Common.{◌≡◌, ◌++◌, ◌+◌, ◌<◌, ℕ, zero, suc, ℤ, pos, List, [], ◌∷◌, Option, Some, None, Bool, true, false, map, refl, sym, ap, subst, arith}
-use Rattle.std.specs.Prelude.{IsTrue, IsSomeAnd, slice_get, is_none, int_le, nat_lt, ◌^◌}
+use Rattle.std.specs.Prelude.{IsTrue, is_none, int_le, nat_lt, ◌^◌}
 use Rattle.std.proofs.lemmas.Bool.{and_parts}
 use Rattle.std.specs.List.{AllByRecursion}
 use Rattle.bt_core.specs.declared.context.Context.{Context}
@@ -19,7 +19,7 @@ use Rattle.bt_core.specs.declared.step.Op.TheVariants as ops
 use Rattle.bt_core.specs.declared.step.Reply.{Reply}
 use Rattle.bt_core.specs.declared.value.Value.{Value}
 use Rattle.bt_core.specs.declared.value.Value.TheVariants.{Int}
-use Rattle.bt_core.specs.Kinds.{HasShape, IsOfShape, IsShared, IsAggregation}
+use Rattle.bt_core.specs.Kinds.{HasShape, IsOfShape}
 use Rattle.bt_core.specs.Interaction.{Interaction, Ended, Asks}
 use Rattle.bt_core.specs.Ports.{Setting, CanStep, IsReplyOf}
 use Rattle.typed_tree.specs.declared.expr.AnyExpr.{AnyExpr}
@@ -30,7 +30,7 @@ use Rattle.typed_tree.specs.declared.stmt.TypedStmt.{TypedStmt, roll-TypedStmt, 
 use Rattle.typed_tree.specs.declared.stmt.TypedStmt.TheOpen.{TypedStmt-F, TypedBlock-F}
 use Rattle.typed_tree.specs.declared.stmt.TypedStmt.TheShapes.{former-TypedStmt-If-0-at-2}
 use Rattle.typed_tree.specs.Parts as tree
-use Rattle.typed_tree.specs.Parts.{Part, Made, made_of, num_parts, parts_in, key_shapes, stmt_parts, block_parts, arm_parts, otherwise_parts, joined, number_parts, set_map_parts, update_map_parts, Ending, Otherwise}
+use Rattle.typed_tree.specs.Parts.{Part, made_of, num_parts, parts_in, key_shapes, stmt_parts, block_parts, arm_parts, otherwise_parts, joined, number_parts, Ending, Otherwise}
 use Rattle.typed_tree.specs.declared.body.TypedBody.{TypedBody}
 use Rattle.typed_tree.specs.Bodies.{predicate_parts}
 use Rattle.typed_tree.specs.Scope.{fits, all_fit, is_there, decl_of, format_of, takes, may_print}
@@ -51,7 +51,7 @@ use Rattle.map_ops.proofs.Sweeping.{sweep_step}
 use Rattle.walk_meaning.specs.Stmts.{stmt_layer, block_layer, stmt_does, block_does, number_or_one, kind_seen, print, clear, zero_all, if_next, in_turn, first_arm, arm_does, cut, entered, turn, turns, tests, while_true, again}
 use Rattle.walk_meaning.specs.Walk.{walk, fresh, guarded, ending_of, tree_does}
 use Rattle.walk_meaning.specs.Served.{CanWalk, IsServed, Fits, scene_in, scope_in}
-use Rattle.walk_meaning.proofs.Asking.{IsFineCall, Admits-bind, Good, given-good, seen-good, changed-good, bind-good, asked-good, told-good, either-good, get-good, values-good, AnyGood, any_good, num_good, split, then-given}
+use Rattle.walk_meaning.proofs.Asking.{IsFineCall, Admits-bind, Good, given-good, seen-good, changed-good, bind-good, told-good, either-good, get-good, values-good, AnyGood, any_good, num_good, split, then-given}
 use Rattle.walk_meaning.proofs.Declared.{shared, valued, gathering, get_can, set_can, delete_can, add_can, sweep_can}
 use Rattle.walk_meaning.proofs.TreeParts.{set_head, update_head, gather_head, delete_head}
 

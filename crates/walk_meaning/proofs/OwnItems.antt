@@ -1,39 +1,34 @@
 -- Items that a walk emits are of the script's formats and maps.
-use Rattle.std.proofs.Common.{◌≡◌, ◌++◌, ℕ, suc, ℤ, pos, List, [], ◌∷◌, Option, Some, None, Bool, true, false, All, refl, sym, ap, ◌∙◌, subst, arith, rules}
+use Rattle.std.proofs.Common.{◌≡◌, ◌++◌, ℕ, suc, ℤ, pos, List, [], ◌∷◌, Option, Some, None, All, refl, sym, ◌∙◌, subst, arith, rules}
 use Rattle.std.specs.Prelude.{IsTrue, IsSomeAnd, slice_get, int_le, ◌≤ℤ◌, ◌==◌, if◌then◌else◌}
-use Rattle.std.specs.List.{AllByRecursion, list_all}
+use Rattle.std.specs.List.{AllByRecursion}
 use Rattle.std.proofs.lemmas.List.Elements.{All-from_recursion}
 use Rattle.bt_core.specs.declared.context.Context.{Context}
-use Rattle.bt_core.specs.declared.item.Item.{Item}
 use Rattle.bt_core.specs.declared.item.Item.TheVariants as items
 use Rattle.bt_core.specs.declared.map.MapDecl.{MapDecl}
 use Rattle.bt_core.specs.declared.map.MapId.{MapId}
 use Rattle.bt_core.specs.declared.map.MapKind.{MapKind}
 use Rattle.bt_core.specs.declared.map.MapKind.TheVariants.{Ints, Strs, Aggs}
 use Rattle.bt_core.specs.declared.map.Shape.{Shape}
-use Rattle.bt_core.specs.declared.step.ObjectId.TheVariants.{Shared, Cpu}
-use Rattle.bt_core.specs.declared.step.Op.TheVariants as ops
 use Rattle.bt_core.specs.declared.step.Reply.{Reply}
 use Rattle.bt_core.specs.declared.step.Reply.TheVariants as replies
 use Rattle.bt_core.specs.declared.value.Value.{Value}
 use Rattle.bt_core.specs.Kinds.{HasShape}
-use Rattle.bt_core.specs.Ports.{Setting, IsReplyOf}
+use Rattle.bt_core.specs.Ports.{Setting}
 use Rattle.fmt_text.specs.declared.piece.Piece.{Piece}
 use Rattle.fmt_text.specs.Arguments.{argument_shapes, AreArgumentsOf}
 use Rattle.map_printer.specs.Fits.{IsReadReply, IsRowOf}
 use Rattle.map_printer.specs.ItemTexts.{IsItemOf, CanPrint}
 use Rattle.map_printer.specs.Merged.{merged}
 use Rattle.typed_tree.specs.declared.body.TypedBody.{TypedBody}
-use Rattle.typed_tree.specs.Scope.{decl_of, format_of, is_there, takes, same_shapes}
+use Rattle.typed_tree.specs.Scope.{decl_of, format_of, is_there, takes}
 use Rattle.map_ops.specs.declared.sweep.Sweep.TheVariants.{Read}
-use Rattle.walk_meaning.specs.declared.view.View.{View}
 use Rattle.walk_meaning.specs.Admits.{AdmitsOf, EmitsOnly}
 use Rattle.map_ops.specs.Holders.{holder, kind_in, sweep_op}
-use Rattle.walk_meaning.specs.Maps.{kind_of}
 use Rattle.walk_meaning.specs.Walk.{walk}
 use Rattle.walk_meaning.specs.Served.{CanWalk}
 use Rattle.walk_meaning.proofs.Asking.{IsFineCall}
-use Rattle.walk_meaning.proofs.AskingStmts.{IsReplyIn, view_of, EmitsFine, walk-fine, weaker-calls}
+use Rattle.walk_meaning.proofs.AskingStmts.{IsReplyIn, walk-fine, weaker-calls}
 use Rattle.walk_meaning.proofs.Declared.{same_shapes-equal, served, served_pick}
 
 -- what is found of a list by its number stands in the script's list there

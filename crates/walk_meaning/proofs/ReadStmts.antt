@@ -38,7 +38,7 @@ use Rattle.walk_meaning.specs.declared.flow.Flow.TheVariants.{Next, Break, Conti
 use Rattle.walk_meaning.specs.declared.flow.Frame.{Frame}
 use Rattle.map_ops.specs.declared.sweep.Sweep.TheVariants.{Read}
 use Rattle.walk_meaning.specs.declared.view.View.{View}
-use Rattle.walk_meaning.specs.Does.{Scene, Does, given, seen, changed, lifted, asked, bind, told, in_order}
+use Rattle.walk_meaning.specs.Does.{Scene, Does, given, seen, changed, lifted, bind, told, in_order}
 use Rattle.walk_meaning.specs.Exprs.{value_does, values_do, number_does}
 use Rattle.map_ops.specs.Values.{number_of}
 use Rattle.walk_meaning.specs.Maps.{get, set, kind_of, swept}
@@ -50,7 +50,7 @@ use Rattle.walk_meaning.specs.Stmts.{plain, stmt_layer, block_layer, stmt_does, 
 use Rattle.walk_meaning.specs.Walk.{walk, fresh, guarded, tree_does}
 use Rattle.walk_meaning.specs.Served.{Fits, scene_in, scope_in}
 use Rattle.bt_core.proofs.SameLaws.{SameTo-and_then}
-use Rattle.walk_meaning.proofs.ReadExprs.{ReadsAlike, call_at, Ends, Tied, given-tied, self-tied, bind-tied, bind-same, first-same, asked-tied, either-tied, AnyRead, any_read, num_read, halves, values-same, number-tied}
+use Rattle.walk_meaning.proofs.ReadExprs.{ReadsAlike, call_at, Ends, Tied, self-tied, bind-tied, bind-same, first-same, either-tied, AnyRead, any_read, num_read, halves, values-same, number-tied}
 use Rattle.walk_meaning.proofs.TreeParts.{update_head}
 
 module _ (comes : Call → Reply → Type 0) (reader : Reader) (v : View) (reads : ReadsAlike comes reader v) where

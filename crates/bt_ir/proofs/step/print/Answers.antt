@@ -1,4 +1,4 @@
-use Rattle.std.proofs.Common.{subst, SFits, w64, rules}
+use Rattle.std.proofs.Common.{subst}
 use Rattle.bt_core.specs.declared.map.MapKind.{MapKind}
 use Rattle.bt_core.specs.Interaction.{Performed}
 use Rattle.map_ops.specs.Asking.{printed}

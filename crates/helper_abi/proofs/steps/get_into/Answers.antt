@@ -1,4 +1,4 @@
-use Rattle.std.proofs.Common.{refl, sym, ap}
+use Rattle.std.proofs.Common.{sym, ap}
 use Rattle.bt_core.proofs.InteractionLaws.{Whole-and_then, Whole-Ended}
 use Rattle.bpf_insn.specs.Machine.{Gave}
 use Rattle.bpf_insn.specs.Regions.{Spaces}
