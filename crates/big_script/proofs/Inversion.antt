@@ -8,7 +8,7 @@ use Rattle.typed_tree.specs.declared.expr.AnyExpr.{AnyExpr, roll-AnyExpr, out-An
 use Rattle.typed_tree.specs.declared.expr.AnyExpr.TheOpen.{NumExpr-F, StrExpr-F, AnyExpr-F}
 use Rattle.typed_tree.specs.declared.expr.AnyExpr.TheVariants as anys
 use Rattle.typed_tree.specs.declared.expr.NumBuiltin.{NumBuiltin}
-use Rattle.typed_tree.specs.declared.expr.NumBuiltin.TheVariants.{Pid, Tid, Uid, Gid, Cpu, Nsecs, Elapsed}
+use Rattle.typed_tree.specs.declared.expr.NumBuiltin.TheVariants.{Pid}
 use Rattle.typed_tree.specs.declared.expr.NumExpr.{NumExpr, roll-NumExpr, out-NumExpr, roll-out-NumExpr, map-NumExpr, fold-roll-NumExpr}
 use Rattle.typed_tree.specs.declared.expr.NumExpr.TheVariants as nums
 use Rattle.typed_tree.specs.declared.expr.StrExpr.{StrExpr, roll-StrExpr, out-StrExpr, roll-out-StrExpr, map-StrExpr, fold-roll-StrExpr}
@@ -118,12 +118,7 @@ field_found t e rest name ws h =
 
 no_comm : (b : NumBuiltin) → builtin_of b ≡ Comm → ⊥
 no_comm Pid h = cc
-no_comm Tid h = cc
-no_comm Uid h = cc
-no_comm Gid h = cc
-no_comm Cpu h = cc
-no_comm Nsecs h = cc
-no_comm Elapsed h = cc
+no_comm b h = cc
 
 num_no_comm : (t : Titles) (x : NumExpr-F AnyExpr NumExpr StrExpr) (rest : List Part) (ws : List Word) → words_by t (num_open x ++ rest) ≡ BuiltinWord Comm ∷ ws → ⊥
 num_no_comm t (NumExpr-F.Number n) rest ws h = cc

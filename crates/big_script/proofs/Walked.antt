@@ -22,7 +22,7 @@ use Rattle.typed_tree.specs.declared.stmt.TypedBlock.{TypedBlock, out-TypedBlock
 use Rattle.typed_tree.specs.declared.stmt.TypedStmt.{TypedStmt}
 use Rattle.event_record.specs.Fields.{field_number}
 use Rattle.walk_meaning.specs.declared.flow.Flow.{Flow}
-use Rattle.walk_meaning.specs.Does.{Does, Scene, given, seen, asked, bind}
+use Rattle.walk_meaning.specs.Does.{Does, Scene, given, seen, lifted, bind}
 use Rattle.walk_meaning.specs.Exprs.{command, number_field, text_value, value_does, any_layer, num_layer, str_layer}
 use Rattle.walk_meaning.specs.Stmts.{gather, in_turn, stmt_does, block_does, stmt_layer, block_layer}
 use Rattle.walk_meaning.specs.Walk.{walk, fresh, guarded, ending_of}
@@ -54,7 +54,7 @@ three_adds actor m n o name one two a =
 
 pub walk_is : (body : TypedBody) (is : IsBody body.tree) (context : Context) (payload : List ℕ) (actor actors : ℕ)
     → walk body context payload actor actors ≡ three_adds actor is.first is.second is.third context.comm (field_number is.one payload) (field_number is.two payload) End
-unfolding walk given seen asked bind
+unfolding walk given seen lifted bind
 walk_is body is context payload actor actors =
     let one = counted_does is.first in
     let two = gathered_does is.second agg.Hist is.one in

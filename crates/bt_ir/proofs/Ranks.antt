@@ -17,7 +17,8 @@ use Rattle.ir_code.specs.declared.state.Way.TheVariants.{To, Ends}
 use Rattle.bt_ir.specs.declared.step.View.{View}
 use Rattle.ir_code.specs.Meaning.{Scene, instrs_run, way_of, after_exit, goes_on, exit_run, block_run, run_from, blocks_run, count_way, turn_way}
 use Rattle.bt_ir.specs.Running.{MayAsk, AreReady, AllReady}
-use Rattle.ir_code.specs.Values.{number_of, top, holds}
+use Rattle.map_ops.specs.Values.{number_of, holds}
+use Rattle.ir_code.specs.Stacks.{top}
 use Rattle.ir_code.specs.Ways.{depth_in, depth_at, lies_below, leads, lead_from, lead_forward}
 use Rattle.ir_code.proofs.WayLaws.{some_block}
 use Rattle.bt_ir.proofs.Asks.{Can-first, Can-after}

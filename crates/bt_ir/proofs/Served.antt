@@ -1,6 +1,6 @@
 -- A typed body's run needs only what it is given.
 use Rattle.std.proofs.Common.{◌≡◌, ℕ, zero, suc, ◌+◌, ◌-◌, ◌*◌, ◌<◌, ◌≤◌, List, [], ◌∷◌, length, Bool, true, false, Option, Some, None, refl, sym, ap, subst, arith, inl, inr}
-use Rattle.std.specs.Prelude.{ℤ, pos, negsuc, ◌⊎◌, ◌&&◌, max, slice_get, get_or, int_le, cond}
+use Rattle.std.specs.Prelude.{ℤ, pos, negsuc, ◌⊎◌, ◌&&◌, max, slice_get, get_or, cond}
 use Rattle.std.proofs.Math.Nat.{le-max_left, le-max_right}
 use Rattle.std.proofs.lemmas.Bool.{and_parts, leb-true}
 use Rattle.bt_core.specs.declared.context.Context.{Context}
@@ -23,16 +23,17 @@ use Rattle.ir_code.specs.declared.probe.IrProbe.{IrProbe}
 use Rattle.ir_code.specs.declared.state.State.{State}
 use Rattle.ir_code.specs.declared.state.Way.TheVariants.{To}
 use Rattle.bt_ir.specs.declared.step.View.{View}
-use Rattle.ir_code.specs.Asking.{kind_of, kind_in}
+use Rattle.map_ops.specs.Holders.{kind_of, CanSweep}
 use Rattle.ir_code.specs.Figures.{sizes_of, instr_bytes}
 use Rattle.ir_code.specs.Meaning.{Scene, instrs_run, after_exit, goes_on, exit_run, block_run, run_from, blocks_run, count_way, turn_way}
-use Rattle.bt_ir.specs.Running.{MayAsk, CanRun, CanSweep, IsReady, AreReady, AllReady}
+use Rattle.bt_ir.specs.Running.{MayAsk, CanRun, IsReady, AreReady, AllReady}
 use Rattle.ir_code.specs.Serving.{IsServedAs, ServesInstr, ServesInstrs, ServesBlocks, end_read, ends_read, payload_need}
 use Rattle.ir_code.specs.Typing.{Ground, takes, names, end_with, turned, front_of, may_stand, all_stand, all_turned, stack_in, goes_with, exit_stands, block_stands, each_stands, has_room, is_key, is_gathering}
-use Rattle.ir_code.specs.Values.{number_of, holds, top, below}
+use Rattle.map_ops.specs.Values.{number_of, holds}
+use Rattle.ir_code.specs.Stacks.{top, below}
 use Rattle.bt_ir.proofs.Asks.{Can-and_then}
 use Rattle.ir_code.proofs.Shaped.{same_shapes-is, ends_is, shaped-pop, shaped-put}
-use Rattle.bt_ir.proofs.Typed.{Footing, HasStack, all}
+use Rattle.bt_ir.proofs.Typed.{sweep_case, Footing, HasStack, all}
 
 pub here_of : (bs : List Block) (k : ℕ) (b : Block) → k < length bs → b ≡ get_or bs k b → slice_get bs k ≡ Some b
 here_of [] k b h e = absurd (omega arith)
@@ -52,10 +53,6 @@ text_kind Number h = cc
 text_kind Chars h = inl refl
 text_kind DataLoc h = inr refl
 text_kind Other h = cc
-
-sweep_case : (setting : Setting) (m : MapId) (o : Option MapDecl) (actors : ℕ) → slice_get setting.maps m.0 ≡ o → is_there o ≡ true → setting.actors ≡ actors → CanSweep setting m (kind_in o) actors
-sweep_case setting m None actors s h e = cc
-sweep_case setting m (Some decl) actors s h e = record { declared = rw s refl; tables = e }
 
 few : (key : List Shape) (b : Bool) → (is_key key && b) ≡ true → length key ≤ KEY_PARTS
 few key b h = leb-true (length key) KEY_PARTS (and_parts (is_key key) b h).0

@@ -2,7 +2,7 @@
 use Rattle.std.proofs.Common.{◌≡◌, ℕ, suc, ◌-◌, List, [], ◌∷◌, length, Some, refl, ap, ◌∙◌, subst, arith}
 use Rattle.std.specs.Prelude.{slice_get, remove}
 use Rattle.bt_core.specs.declared.value.Value.{Value}
-use Rattle.ir_code.specs.Values.{top, below}
+use Rattle.ir_code.specs.Stacks.{top, below}
 
 pub top-last : (xs : List Value) (v : Value) → slice_get xs (length xs - 1) ≡ Some v → v ≡ top xs
 top-last [] v h = cc

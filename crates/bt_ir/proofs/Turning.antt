@@ -6,9 +6,10 @@ use Rattle.bt_core.specs.Interaction.{Interaction, Ended, Asks, and_then, Runs, 
 use Rattle.ir_code.specs.declared.instr.Instr.{Instr}
 use Rattle.ir_code.specs.declared.instr.Instr.TheVariants as i
 use Rattle.ir_code.specs.declared.state.State.{State}
-use Rattle.ir_code.specs.declared.sweep.Sweep.TheVariants.{Clear, Zero}
-use Rattle.ir_code.specs.Asking.{kind_of, swept}
-use Rattle.ir_code.specs.Meaning.{Scene, instr_run, instrs_run, printed}
+use Rattle.map_ops.specs.declared.sweep.Sweep.TheVariants.{Clear, Zero}
+use Rattle.map_ops.specs.Holders.{kind_of}
+use Rattle.map_ops.specs.Asking.{swept, printed}
+use Rattle.ir_code.specs.Meaning.{Scene, instr_run, instrs_run}
 
 -- whatever the replies are, this holds of the value
 Gives : {A : Type 0} → (A → Type 0) → Interaction A → Type 0

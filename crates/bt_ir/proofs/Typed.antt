@@ -23,15 +23,18 @@ use Rattle.typed_tree.specs.Scope.{same_shapes, same_kind, is_declared, is_share
 use Rattle.ir_code.specs.declared.instr.Instr.{Instr}
 use Rattle.ir_code.specs.declared.instr.Instr.TheVariants as i
 use Rattle.ir_code.specs.declared.state.State.{State}
-use Rattle.ir_code.specs.declared.sweep.Sweep.{Sweep}
-use Rattle.ir_code.specs.declared.sweep.Sweep.TheVariants.{Read, Clear, Zero}
-use Rattle.ir_code.specs.Asking.{part, kind_of, kind_in, holder, holders, sweep_op, asked_from, swept}
+use Rattle.map_ops.specs.declared.sweep.Sweep.{Sweep}
+use Rattle.map_ops.specs.declared.sweep.Sweep.TheVariants.{Read, Clear, Zero}
+use Rattle.map_ops.specs.Holders.{part, kind_of, kind_in, holder, holders, sweep_op, CanSweep}
+use Rattle.map_ops.proofs.Sweeping.{sweep_step}
+use Rattle.map_ops.specs.Asking.{asked_from, swept}
 use Rattle.ir_code.specs.Figures.{sizes_of, instr_bytes}
 use Rattle.ir_code.specs.Meaning.{Scene, instr_run, instrs_run}
 use Rattle.bt_ir.specs.Running.{CanAsk}
 use Rattle.ir_code.specs.Serving.{IsServedAs, ServesInstr, ServesInstrs}
 use Rattle.ir_code.specs.Typing.{Ground, front_of, last_of, takes, gives, names, end_with, turned, may_stand, all_stand, all_turned, has_room, holds_shape, gathers, is_key, is_gathering}
-use Rattle.ir_code.specs.Values.{number_of, top, below}
+use Rattle.map_ops.specs.Values.{number_of}
+use Rattle.ir_code.specs.Stacks.{top, below}
 use Rattle.bt_ir.proofs.Asks.{Can-and_then}
 use Rattle.ir_code.proofs.Shaped.{same_shapes-is, ends_is, shaped-split, shaped-pop, shaped-put, as_shape-shaped, shape_of-shaped}
 
@@ -120,23 +123,9 @@ add_can setting actor m key values n a f s = (a, rw f.here (f.kind, subst (λ (l
 
 -- ---- sweeps
 
-SharedOrTable : (setting : Setting) (m : MapId) (o : Option MapDecl) (sweep : Sweep) (place : ℕ) → slice_get setting.maps m.0 ≡ o → is_there o ≡ true → place < holders (kind_in o) setting.actors → CanStep setting (holder (kind_in o) m place) (sweep_op sweep (kind_in o) m)
-SharedOrTable setting m None sweep place e h l = cc
-SharedOrTable setting m (Some decl) sweep place e h l = by_kind sweep decl.kind refl l
-  where
-    shared : (k : MapKind) → decl.kind ≡ k → IsShared k → IsShared decl.kind
-    shared k e s = subst (λ (x : MapKind). IsShared x) (sym e) s
-
-    by_kind : (w : Sweep) (k : MapKind) → decl.kind ≡ k → place < holders k setting.actors → CanStep setting (holder k m place) (sweep_op w k m)
-    by_kind Read Ints k l = (l, rw e (shared Ints k tt, tt))
-    by_kind Read Strs k l = (l, rw e (shared Strs k tt, tt))
-    by_kind Clear Ints k l = (l, rw e (shared Ints k tt, tt))
-    by_kind Clear Strs k l = (l, rw e (shared Strs k tt, tt))
-    by_kind Zero Ints k l = (l, rw e (shared Ints k tt, tt))
-    by_kind Zero Strs k l = (l, rw e (shared Strs k tt, tt))
-    by_kind Read (Aggs a) k l = (l, rw e (subst (λ (x : MapKind). IsAggregation x) (sym k) tt))
-    by_kind Clear (Aggs a) k l = (l, rw e (subst (λ (x : MapKind). IsAggregation x) (sym k) tt))
-    by_kind Zero (Aggs a) k l = (l, rw e (subst (λ (x : MapKind). IsAggregation x) (sym k) tt))
+pub sweep_case : (setting : Setting) (m : MapId) (o : Option MapDecl) (actors : ℕ) → slice_get setting.maps m.0 ≡ o → is_there o ≡ true → setting.actors ≡ actors → CanSweep setting m (kind_in o) actors
+sweep_case setting m None actors s h e = cc
+sweep_case setting m (Some decl) actors s h e = record { declared = rw s refl; tables = e }
 
 asked_can : (setting : Setting) (object : ℕ → ObjectId) (op : Op) (replies : List Reply) (first n limit : ℕ) → first + n ≤ limit → ((place : ℕ) → place < limit → CanStep setting (object place) op) → CanAsk setting (λ rs. Unit {0}) (asked_from object op replies first n)
 asked_can setting object op replies first zero limit l h = tt
@@ -145,7 +134,7 @@ asked_can setting object op replies first (suc n) limit l h = (h first (omega ar
 swept_can : (setting : Setting) (maps : List MapDecl) (m : MapId) (sweep : Sweep) (actors : ℕ) → IsServedAs setting.maps maps m → is_there (slice_get maps m.0) ≡ true → actors ≡ setting.actors → CanAsk setting (λ rs. Unit {0}) (swept sweep (kind_of maps m) m actors)
 swept_can setting maps m sweep actors s h e =
     asked_can setting (holder (kind_of maps m) m) (sweep_op sweep (kind_of maps m) m) [] 0 (holders (kind_of maps m) actors) (holders (kind_of maps m) actors) (omega arith)
-    (λ place l. SharedOrTable setting m (slice_get maps m.0) sweep place s h (subst (λ (n : ℕ). place < holders (kind_of maps m) n) e l))
+    (λ place l. sweep_step setting m sweep (kind_of maps m) actors place (sweep_case setting m (slice_get maps m.0) actors s h (sym e)) l)
 
 -- ---- instructions
 

@@ -1,10 +1,7 @@
 -- What a run through a port needs and leaves.
-use Rattle.std.specs.Prelude.{◌≡◌, ℕ, ◌<◌, ◌≤◌, max, ◌⊎◌, List, [], ◌∷◌, length, Result, MatchResult, slice_get, IsSomeAnd}
+use Rattle.std.specs.Prelude.{◌≡◌, ℕ, ◌<◌, ◌≤◌, ◌⊎◌, List, [], ◌∷◌, length, Result, MatchResult}
 use Rattle.bt_core.specs.declared.context.Context.{Context}
 use Rattle.bt_core.specs.declared.limits.TheConstants.{KEY_PARTS}
-use Rattle.bt_core.specs.declared.map.MapDecl.{MapDecl}
-use Rattle.bt_core.specs.declared.map.MapId.{MapId}
-use Rattle.bt_core.specs.declared.map.MapKind.{MapKind}
 use Rattle.bt_core.specs.declared.memory.Memory.{Memory}
 use Rattle.bt_core.specs.declared.step.Reply.{Reply}
 use Rattle.bt_core.specs.declared.step.Step.{Step}
@@ -12,7 +9,7 @@ use Rattle.bt_core.specs.Interaction.{Interaction, Ended, Asks, Whole, Part}
 use Rattle.bt_core.specs.Ports.{Setting, CanStep}
 use Rattle.tracefs_format.specs.declared.field.FieldKind.TheVariants.{Number, Chars, DataLoc}
 use Rattle.tracefs_format.specs.Sizes.{end_of}
-use Rattle.ir_code.specs.Asking.{kind_of}
+use Rattle.map_ops.specs.Holders.{kind_of, CanSweep}
 use Rattle.ir_code.specs.declared.blocks.Block.{Block}
 use Rattle.ir_code.specs.declared.instr.Instr.{Instr}
 use Rattle.ir_code.specs.declared.instr.Instr.TheVariants as i
@@ -40,11 +37,6 @@ pub record CanRun (setting : Setting) (probe : IrProbe) (context : Context) (pay
 -- done whole at Ok, with this state after it, and else by its first steps
 abbrev pub Did : Interaction State → List Step → List Step → Result (Unit {0}) Memory → State → Type 0
 Did t old new r after = MatchResult r (λ u. Whole t old new after) (λ _. Part t old new)
-
--- the map is declared and holds this, and the tables of so many actors are there
-pub record CanSweep (setting : Setting) (m : MapId) (kind : MapKind) (actors : ℕ) : Type 0 where
-  pub declared : IsSomeAnd (slice_get setting.maps m.0) (λ decl. decl.kind ≡ kind)
-  pub tables : setting.actors ≡ actors
 
 abbrev pub scene_in : View → Scene
 scene_in v = record { context = v.context.now; payload = v.payload.now; actor = v.actor; actors = v.actors; maps = v.maps.now }

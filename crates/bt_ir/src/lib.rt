@@ -1,8 +1,6 @@
 //! The run of typed instructions through a port: the reference that tests compare code with.
 #![tactic(auto)]
 
-pub mod access;
 pub mod run;
 pub mod stack;
 pub mod step;
-pub mod sweep;

@@ -3,13 +3,13 @@ ghost use Rattle.std.specs.Prelude.{◌≡◌, ◌<◌, IfOk, IsTrue, length};
 ghost use Rattle.bt_core.specs.Interaction.{Performed};
 ghost use Rattle.ir_code.specs.Meaning.{way_of, after_exit, fresh, blocks_run, ir_run};
 ghost use Rattle.bt_ir.specs.Running.{MayAsk, AllReady, CanRun, scene_in};
-ghost use Rattle.ir_code.specs.Values.{number_of};
+ghost use Rattle.map_ops.specs.Values.{number_of};
 ghost use Rattle.ir_code.specs.Ways.{lead_forward};
 ghost use Rattle.ir_code.specs.Meaning.{count_way, counted};
 ghost use Rattle.bt_core.specs.declared.value.Value.TheVariants as values;
 
-use crate::stack::{number_of, pop, put, unassigned};
-use crate::step::{View, holds, run_instrs};
+use crate::stack::{pop, put};
+use crate::step::{View, run_instrs};
 use bt_core::context::Context;
 use bt_core::ending::Ending;
 use bt_core::items::Items;
@@ -21,6 +21,7 @@ use bt_core::value::Value;
 use ir_code::blocks::{Block, Exit};
 use ir_code::probe::IrProbe;
 use ir_code::state::{State, Way};
+use map_ops::values::{holds, number_of, unassigned};
 use std::alloc::Global;
 
 /// Where a count leads: above 0 on to a block, and else out of its loop.
@@ -55,7 +56,7 @@ fn leave(exit: Exit, state: &mut State) -> Result<Way, Memory>
         Exit::Goto(block) => Ok(Way::To(block)),
         Exit::Branch { first, second } => {
             let value = pop(&mut state.stack);
-            if holds(&value) {
+            if holds(number_of(&value)) {
                 Ok(Way::To(first))
             } else {
                 Ok(Way::To(second))

@@ -2,56 +2,14 @@
 ghost use Rattle.std.specs.Prelude.{◌≡◌, IfOk, OnOk};
 ghost use Rattle.ir_code.specs.Meaning.{put, variable, with_variable};
 ghost use Rattle.ir_code.specs.Typing.{last_of, front_of};
-ghost use Rattle.ir_code.specs.Values.{number_of, text_of, as_shape, unassigned, top, below};
+ghost use Rattle.ir_code.specs.Stacks.{top, below};
 
 use bt_core::items::Items;
-use bt_core::map::Shape;
 use bt_core::memory::Memory;
-use bt_core::text::Str64;
 use bt_core::value::Value;
 use ir_code::state::State;
 use std::alloc::Global;
 use std::mem;
-
-/// The number of a value, and 0 for a string.
-pub fn number_of(value: &Value) -> i64
-    ensures { result ≡ number_of value.now }
-{
-    match value {
-        Value::Int(n) => *n,
-        Value::Str(_) => 0,
-    }
-}
-
-/// The string of a value, and the empty one for a number.
-pub fn text_of(value: &Value) -> Str64
-    ensures { result ≡ text_of value.now }
-{
-    match value {
-        Value::Int(_) => Str64::of(&[]),
-        Value::Str(s) => s.copy(),
-    }
-}
-
-/// A value as one of this type.
-pub fn as_shape(shape: Shape, value: &Value) -> Value
-    ensures { result ≡ as_shape shape value.now }
-{
-    match shape {
-        Shape::Int => Value::Int(number_of(value)),
-        Shape::Str => Value::Str(text_of(value)),
-    }
-}
-
-/// What a variable of this type is before its first assignment.
-pub fn unassigned(shape: Shape) -> Value
-    ensures { result ≡ unassigned shape }
-{
-    match shape {
-        Shape::Int => Value::Int(0),
-        Shape::Str => Value::Str(Str64::of(&[])),
-    }
-}
 
 /// A variable by its number.
 pub fn variable(var: u32, state: &State) -> Value

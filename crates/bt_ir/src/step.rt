@@ -6,15 +6,15 @@ ghost use Rattle.bt_core.specs.declared.limits.TheConstants.{KEY_PARTS as MOST_P
 ghost use Rattle.bt_core.specs.declared.value.Value.TheVariants as values;
 ghost use Rattle.bt_core.specs.Arithmetic.{binary_value, unary_value, truth};
 ghost use Rattle.bt_core.specs.Interaction.{Performed};
-ghost use Rattle.ir_code.specs.Asking.{kind_of};
+ghost use Rattle.map_ops.specs.Holders.{kind_of, CanSweep};
 ghost use Rattle.ir_code.specs.Meaning.{instr_run, instrs_run, store_on, step_variable_on, update_variable_on, unary_on, binary_on, compared_on, truth_on};
-ghost use Rattle.ir_code.specs.Meaning.{get_on, set_on, delete_on, updated, update_on, stepped, step_on, add_on, count_on, printf_on, printed, sweep_on};
-ghost use Rattle.bt_ir.specs.Running.{MayAsk, Did, IsReady, AreReady, CanSweep, scene_in};
-ghost use Rattle.ir_code.specs.Values.{next, number_of, text_of, builtin_value, holds};
+ghost use Rattle.ir_code.specs.Meaning.{get_on, set_on, delete_on, updated, update_on, stepped, step_on, add_on, count_on, printf_on, sweep_on};
+ghost use Rattle.map_ops.specs.Asking.{printed};
+ghost use Rattle.bt_ir.specs.Running.{MayAsk, Did, IsReady, AreReady, scene_in};
+ghost use Rattle.map_ops.specs.Values.{next, number_of, text_of, holds};
+ghost use Rattle.map_ops.specs.Builtins.{builtin_value};
 
-use crate::access::{get, part, tell};
-use crate::stack::{as_shape, assign, number_of, pop, pop_key, put, text_of, variable};
-use crate::sweep::ask_each;
+use crate::stack::{assign, pop, pop_key, put, variable};
 use bt_core::arithmetic::{binary, unary};
 use bt_core::context::Context;
 use bt_core::item::Item;
@@ -29,10 +29,12 @@ use bt_core::value::Value;
 use event_record::reading::{int_field, str_field};
 use ir_code::instr::Instr;
 use ir_code::state::State;
-use ir_code::sweep::Sweep;
-use map_printer::merging::merged;
+use map_ops::access::{get, part, tell};
+use map_ops::builtin::builtin_value;
+use map_ops::printing::print_map;
+use map_ops::sweep::{Sweep, ask_each};
+use map_ops::values::{as_shape, holds, next, number_of, text_of};
 use std::alloc::Global;
-use typed_tree::expr::NumBuiltin;
 
 /// What a run sees: the context and the payload, the actor that runs, how many actors there are, and the script's maps.
 #[derive(Clone, Copy)]
@@ -42,21 +44,6 @@ pub struct View<'a> {
     pub actor: u32,
     pub actors: u32,
     pub maps: &'a [MapDecl],
-}
-
-/// The value of a builtin: times as the signed numbers of their 64 bits, and `elapsed` counts modulo 2^64.
-pub fn builtin_value(builtin: NumBuiltin, context: &Context) -> i64
-    ensures { result ≡ builtin_value builtin context.now }
-{
-    match builtin {
-        NumBuiltin::Pid => i64::from(context.pid),
-        NumBuiltin::Tid => i64::from(context.tid),
-        NumBuiltin::Uid => i64::from(context.uid),
-        NumBuiltin::Gid => i64::from(context.gid),
-        NumBuiltin::Cpu => i64::from(context.cpu),
-        NumBuiltin::Nsecs => context.time.cast_signed(),
-        NumBuiltin::Elapsed => context.time.wrapping_sub(context.start).cast_signed(),
-    }
 }
 
 /// What a map holds, by its declaration.
@@ -70,15 +57,10 @@ fn kind_of(maps: &[MapDecl], map: MapId) -> MapKind
 }
 
 /// One more or one less.
-fn next(plus: bool, value: &Value) -> Value
+fn stepped_value(plus: bool, value: &Value) -> Value
     ensures { result ≡ values.Int (next plus (number_of value.now)) }
 {
-    let n = number_of(value);
-    if plus {
-        Value::Int(binary(BinOp::Add, n, 1))
-    } else {
-        Value::Int(binary(BinOp::Sub, n, 1))
-    }
+    Value::Int(next(plus, number_of(value)))
 }
 
 /// What an operator makes of two numbers.
@@ -112,13 +94,6 @@ fn compared(equal: bool, a: &Value, b: &Value) -> bool
     if equal { same } else { !same }
 }
 
-/// Whether the number of a value counts as true.
-pub fn holds(value: &Value) -> bool
-    ensures { result ≡ holds (number_of value.now) }
-{
-    number_of(value) != 0
-}
-
 /// Takes a value into a variable.
 fn store(var: u32, state: &mut State)
     ensures { state.new ≡ store_on var state.old }
@@ -133,7 +108,7 @@ fn step_variable(var: u32, plus: bool, prefix: bool, state: &mut State) -> Resul
 {
     let value = variable(var, state);
     let old = as_shape(Shape::Int, &value);
-    let new = next(plus, &value);
+    let new = stepped_value(plus, &value);
     assign(var, new.copy(), state);
     if prefix {
         put(new, state)
@@ -182,7 +157,7 @@ fn truth_on(state: &mut State) -> Result<(), Memory>
     ensures { OnOk result (state.new ≡ truth_on state.old) }
 {
     let value = pop(&mut state.stack);
-    put(flag(holds(&value)), state)
+    put(flag(holds(number_of(&value))), state)
 }
 
 /// Puts the value of a map under the key on the stack.
@@ -301,7 +276,7 @@ fn step<P: Port>(
     let again = key.try_copy(alloc)?;
     let object = part(map, &key);
     let old = get(alloc, map, again, port)?;
-    let new = next(plus, &old);
+    let new = stepped_value(plus, &old);
     tell(alloc, object, Op::Set(key, new.copy()), port)?;
     if prefix {
         Ok(new)
@@ -410,16 +385,7 @@ fn print<P: Port>(
     ensures kept { P.fixed port.new ≡ P.fixed port.old }
 {
     let kind = kind_of(view.maps, map);
-    let replies = ask_each(alloc, view.actors, Sweep::Read, kind, map, port)?;
-    let rows = merged(alloc, kind, replies.as_slice())?;
-    let item = Item::Map {
-        map,
-        rows,
-        top,
-        div,
-    };
-    tell(alloc, ObjectId::Out, Op::Emit(item), port)?;
-    Ok(())
+    print_map(alloc, kind, map, top, div, view.actors, port)
 }
 
 /// Does a sweep, whose replies say nothing.
@@ -437,7 +403,7 @@ fn sweep<P: Port>(
 {
     let _ = state;
     let kind = kind_of(view.maps, map);
-    ask_each(alloc, view.actors, sweep, kind, map, port)?;
+    ask_each(alloc, sweep, kind, map, view.actors, port)?;
     Ok(())
 }
 

@@ -17,16 +17,18 @@ use Rattle.typed_tree.specs.Parts.{Part}
 use Rattle.walk_meaning.specs.declared.flow.Flow.{Flow}
 use Rattle.walk_meaning.specs.declared.flow.Flow.TheVariants.{Next}
 use Rattle.walk_meaning.specs.declared.flow.Frame.{Frame}
-use Rattle.walk_meaning.specs.Does.{Does, given, seen, changed, asked, bind, in_order}
+use Rattle.walk_meaning.specs.Does.{Does, given, seen, changed, lifted, bind, in_order}
 use Rattle.walk_meaning.specs.Does.{Scene as Walked}
 use Rattle.walk_meaning.specs.Exprs.{number_value}
 use Rattle.walk_meaning.specs.Maps.{with_variable, variable}
 use Rattle.walk_meaning.specs.Stmts.{set_variable, set_map, update_variable, update_map, gather, printf, delete_at, plain}
 use Rattle.ir_code.specs.declared.instr.Instr.TheVariants as i
-use Rattle.ir_code.specs.Asking.{part, told as asks_for}
+use Rattle.map_ops.specs.Holders.{part}
+use Rattle.map_ops.specs.Asking.{told as asks_for}
 use Rattle.ir_code.specs.Meaning.{instr_run, updated}
 use Rattle.ir_code.specs.Typing.{last_of, front_of}
-use Rattle.ir_code.specs.Values.{top, below, number_of}
+use Rattle.ir_code.specs.Stacks.{top, below}
+use Rattle.map_ops.specs.Values.{number_of}
 use Rattle.bt_lower.specs.Lowers.{state, seen_by}
 use Rattle.bt_lower.specs.Sound.{Site}
 use Rattle.bt_lower.proofs.Blocks.{and_then-same}
@@ -122,7 +124,7 @@ step-acts qs d = record {
     popped s w frame values (v ∷ u ∷ vs) h = absurd (omega arith)
 
 pub delete-acts : (qs : Bool → List Part) (m : MapId) (key : List Shape) (ds : List (Does Value)) → Acts qs (i.Delete m key) ds key (delete_at m ds) (λ w vs frame. asks_for (part m vs) (ops.Delete vs)) (λ vs frame a. frame)
-unfolding given bind asked
+unfolding given bind lifted
 delete-acts qs m key ds = record {
   takes_them = refl;
   reads_none = refl;
@@ -135,7 +137,7 @@ delete-acts qs m key ds = record {
 }
 
 pub count-acts : (qs : Bool → List Part) (m : MapId) (key : List Shape) (ds : List (Does Value)) → Acts qs (i.Count m key) ds key (gather m ds (given (pos 1))) (λ w vs frame. asks_for (Cpu w.actor) (ops.Add m vs (pos 1))) (λ vs frame a. frame)
-unfolding given bind asked seen
+unfolding given bind lifted seen
 count-acts qs m key ds = record {
   takes_them = refl;
   reads_none = refl;
@@ -148,7 +150,7 @@ count-acts qs m key ds = record {
 }
 
 pub printf-acts : (qs : Bool → List Part) (format : ℕ) (key : List Shape) (ds : List (Does Value)) → Acts qs (i.Printf format key) ds key (printf format ds) (λ w vs frame. asks_for Out (ops.Emit (items.Printf format vs))) (λ vs frame a. frame)
-unfolding given bind asked
+unfolding given bind lifted
 printf-acts qs format key ds = record {
   takes_them = refl;
   reads_none = refl;
@@ -161,7 +163,7 @@ printf-acts qs format key ds = record {
 }
 
 pub set-acts : (qs : Bool → List Part) (m : MapId) (key : List Shape) (shape : Shape) (ds : List (Does Value)) (d : Does Value) → Acts qs (i.Set m key shape) (ds ++ d ∷ []) (key ++ shape ∷ []) (set_map m ds d) (λ w vs frame. asks_for (part m (below vs)) (ops.Set (below vs) (top vs))) (λ vs frame a. frame)
-unfolding given bind asked
+unfolding given bind lifted
 set-acts qs m key shape ds d = record {
   takes_them = refl;
   reads_none = refl;
@@ -173,7 +175,7 @@ set-acts qs m key shape ds d = record {
 }
 
 pub update-acts : (qs : Bool → List Part) (m : MapId) (key : List Shape) (op : BinOp) (ds : List (Does Value)) (d : Does ℤ) → Acts qs (i.Update m key op) (ds ++ number_value d ∷ []) (key ++ shapes.Int ∷ []) (update_map m ds op d) (λ w vs frame. updated m (below vs) op (number_of (top vs))) (λ vs frame a. frame)
-unfolding given bind asked
+unfolding given bind lifted
 update-acts qs m key op ds d = record {
   takes_them = refl;
   reads_none = refl;
@@ -186,7 +188,7 @@ update-acts qs m key op ds d = record {
 }
 
 pub add-acts : (qs : Bool → List Part) (m : MapId) (key : List Shape) (ds : List (Does Value)) (d : Does ℤ) → Acts qs (i.Add m key) (ds ++ number_value d ∷ []) (key ++ shapes.Int ∷ []) (gather m ds d) (λ w vs frame. asks_for (Cpu w.actor) (ops.Add m (below vs) (number_of (top vs)))) (λ vs frame a. frame)
-unfolding given bind asked seen
+unfolding given bind lifted seen
 add-acts qs m key ds d = record {
   takes_them = refl;
   reads_none = refl;

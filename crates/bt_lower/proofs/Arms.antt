@@ -27,16 +27,16 @@ use Rattle.typed_tree.specs.Parts.{Constant, Literal, Numeric, Command, FieldOf,
 use Rattle.typed_tree.specs.Scope.{Scope, all_fit, fits, is_shape, shape_of_field, has_field}
 use Rattle.event_record.specs.Fields.{field_number, field_text}
 use Rattle.walk_meaning.specs.declared.flow.Frame.{Frame}
-use Rattle.walk_meaning.specs.Does.{Does, given, seen, changed, bind, choose, either, holds}
+use Rattle.walk_meaning.specs.Does.{Does, given, seen, changed, bind, choose, either}
+use Rattle.map_ops.specs.Values.{holds, next, number_of, text_of, shape_of}
 use Rattle.walk_meaning.specs.Does.{Scene as Walked}
 use Rattle.walk_meaning.specs.Exprs.{value_does, values_do, number_does, text_does, number_value, text_value, tested, number_field, text_field, step_variable, step_map}
-use Rattle.walk_meaning.specs.Maps.{number_variable, text_variable, with_variable, variable, next, number_of, text_of}
+use Rattle.walk_meaning.specs.Maps.{number_variable, text_variable, with_variable, variable}
 use Rattle.walk_meaning.proofs.ExprDoes.{number_num, builtin_num, field_num, var_num, map_num, stepvar_num, stepmap_num, unary_num, binary_num, compare_num, andthen_num, orelse_num, choose_num, text_str, comm_str, field_str, var_str, map_str, choose_str, num_any, str_any}
 use Rattle.ir_code.specs.declared.blocks.Exit.TheVariants.{Goto, Branch}
 use Rattle.ir_code.specs.declared.instr.Instr.TheVariants as i
 use Rattle.ir_code.specs.Figures.{size_of, sizes_of}
 use Rattle.ir_code.specs.Meaning.{stepped}
-use Rattle.ir_code.specs.Values.{shape_of}
 use Rattle.bt_lower.specs.declared.code.Code.{Code}
 use Rattle.bt_lower.specs.Code.{pushed, begun, closed, untyped}
 use Rattle.bt_lower.specs.Lowers.{LowersValue, LowersNumber, LowersText, LowersAny, LowersList, LowersArm, all_made, known_need}

@@ -13,7 +13,8 @@ use Rattle.bt_core.proofs.InteractionLaws.{and_then_assoc}
 use Rattle.typed_tree.specs.Parts.{Part}
 use Rattle.typed_tree.specs.Scope.{Scope, all_fit}
 use Rattle.walk_meaning.specs.declared.flow.Frame.{Frame}
-use Rattle.walk_meaning.specs.Does.{Does, given, bind, choose, either, holds, in_order}
+use Rattle.walk_meaning.specs.Does.{Does, given, bind, choose, either, in_order}
+use Rattle.map_ops.specs.Values.{holds, number_of}
 use Rattle.walk_meaning.specs.Does.{Scene as Walked}
 use Rattle.walk_meaning.specs.Exprs.{number_value}
 use Rattle.ir_code.specs.declared.blocks.Block.{Block}
@@ -23,7 +24,7 @@ use Rattle.ir_code.specs.declared.state.Way.TheVariants.{To}
 use Rattle.ir_code.specs.Figures.{sizes_of}
 use Rattle.ir_code.specs.Meaning.{Scene, run_from, goes_on}
 use Rattle.ir_code.specs.Typing.{front_of}
-use Rattle.ir_code.specs.Values.{top, below, number_of}
+use Rattle.ir_code.specs.Stacks.{top, below}
 use Rattle.bt_lower.specs.declared.code.Code.{Code}
 use Rattle.bt_lower.specs.Code.{begun, closed, untyped, open_block}
 use Rattle.bt_lower.specs.Lowers.{Stand, Grew, Runs, Reaches, state, seen_by, LowersValue, LowersArm}

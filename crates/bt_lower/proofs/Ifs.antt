@@ -14,14 +14,15 @@ use Rattle.typed_tree.specs.Scope.{Scope, all_fit}
 use Rattle.walk_meaning.specs.declared.flow.Flow.{Flow}
 use Rattle.walk_meaning.specs.declared.flow.Flow.TheVariants.{Next}
 use Rattle.walk_meaning.specs.declared.flow.Frame.{Frame}
-use Rattle.walk_meaning.specs.Does.{Does, given, bind, choose, either, holds, in_order}
+use Rattle.walk_meaning.specs.Does.{Does, given, bind, choose, either, in_order}
+use Rattle.map_ops.specs.Values.{holds, number_of}
 use Rattle.walk_meaning.specs.Does.{Scene as Walked}
 use Rattle.walk_meaning.specs.Exprs.{number_value}
 use Rattle.ir_code.specs.declared.blocks.Block.{Block}
 use Rattle.ir_code.specs.declared.blocks.Exit.TheVariants.{Goto, Branch}
 use Rattle.ir_code.specs.Figures.{sizes_of}
 use Rattle.ir_code.specs.Meaning.{Scene}
-use Rattle.ir_code.specs.Values.{top, number_of}
+use Rattle.ir_code.specs.Stacks.{top}
 use Rattle.bt_lower.specs.declared.code.Code.{Code}
 use Rattle.bt_lower.specs.declared.code.Ways.{Ways}
 use Rattle.bt_lower.specs.Code.{begun, closed, open_block}

@@ -9,7 +9,7 @@ use Rattle.typed_tree.specs.Parts.{Part}
 use Rattle.typed_tree.specs.Scope.{Scope, fits, all_fit}
 use Rattle.ir_code.specs.Figures.{sizes_of}
 use Rattle.ir_code.specs.Typing.{last_of, front_of}
-use Rattle.ir_code.specs.Values.{top, below}
+use Rattle.ir_code.specs.Stacks.{top, below}
 
 pub top-append : (vs : List Value) (v : Value) → top (vs ++ v ∷ []) ≡ v
 top-append [] v = refl

@@ -11,7 +11,8 @@ use Rattle.typed_tree.specs.Scope.{all_fit}
 use Rattle.walk_meaning.specs.declared.flow.Flow.{Flow}
 use Rattle.walk_meaning.specs.declared.flow.Flow.TheVariants.{Next, Stop}
 use Rattle.walk_meaning.specs.declared.flow.Frame.{Frame}
-use Rattle.walk_meaning.specs.Does.{Does, given, bind, holds}
+use Rattle.walk_meaning.specs.Does.{Does, given, bind}
+use Rattle.map_ops.specs.Values.{holds, number_of}
 use Rattle.walk_meaning.specs.Does.{Scene as Walked}
 use Rattle.walk_meaning.specs.Exprs.{number_value}
 use Rattle.walk_meaning.specs.Stmts.{turn, again, tests}
@@ -19,7 +20,7 @@ use Rattle.ir_code.specs.declared.blocks.Block.{Block}
 use Rattle.ir_code.specs.declared.blocks.Exit.TheVariants.{Branch, End}
 use Rattle.ir_code.specs.declared.instr.Instr.TheVariants as i
 use Rattle.ir_code.specs.Figures.{sizes_of, instrs_slots, exit_slots, blocks_slots}
-use Rattle.ir_code.specs.Values.{top, number_of}
+use Rattle.ir_code.specs.Stacks.{top}
 use Rattle.bt_lower.specs.declared.code.Code.{Code}
 use Rattle.bt_lower.specs.Code.{pushed, begun, closed, open_block, reserved, placeholder, gated, turn_end, with_cut}
 use Rattle.bt_lower.specs.Lowers.{Stand, Grew, Reaches, state, seen_by, LowersValue, LowersBlock}

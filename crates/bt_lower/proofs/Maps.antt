@@ -15,14 +15,14 @@ use Rattle.bt_core.specs.Interaction.{Ended, and_then}
 use Rattle.bt_core.proofs.InteractionLaws.{and_then_assoc}
 use Rattle.typed_tree.specs.Parts.{Part, MapOf}
 use Rattle.typed_tree.specs.Scope.{fits, decl_of, is_declared, same_kind, same_shapes, kind_of_shape}
-use Rattle.walk_meaning.specs.Does.{Does, given, asked, bind}
+use Rattle.walk_meaning.specs.Does.{Does, given, lifted, bind}
 use Rattle.walk_meaning.specs.Exprs.{number_value, text_value, read_number, read_text, step_map}
 use Rattle.ir_code.specs.declared.instr.Instr.TheVariants as i
-use Rattle.ir_code.specs.Asking.{got}
+use Rattle.map_ops.specs.Asking.{got}
 use Rattle.ir_code.specs.Figures.{sizes_of}
 use Rattle.ir_code.specs.Meaning.{stepped}
 use Rattle.ir_code.specs.Typing.{is_key, holds_shape, front_of}
-use Rattle.ir_code.specs.Values.{number_of, text_of}
+use Rattle.map_ops.specs.Values.{number_of, text_of}
 use Rattle.bt_lower.specs.declared.code.Code.{Code}
 use Rattle.bt_lower.specs.Code.{pushed}
 use Rattle.bt_lower.specs.Lowers.{state, LowersParts, LowersValue}
@@ -52,7 +52,7 @@ map_names s m key shape h = declared_on s m.0 (kind_of_shape shape) key (decl_of
 -- ---- reads
 
 got-number : (m : MapId) (key : List Shape) (ds : List (Does Value)) → Puts (i.Get m key shapes.Int) ds key shapes.Int (number_value (read_number m ds)) (λ w vs frame. got m vs) (λ w vs frame a. Int (number_of a)) (λ vs frame a. frame)
-unfolding given bind asked
+unfolding given bind lifted
 got-number m key ds = record {
   takes_them = refl;
   gives_one = refl;
@@ -65,7 +65,7 @@ got-number m key ds = record {
 }
 
 got-text : (m : MapId) (key : List Shape) (ds : List (Does Value)) → Puts (i.Get m key shapes.Str) ds key shapes.Str (text_value (read_text m ds)) (λ w vs frame. got m vs) (λ w vs frame a. Str (text_of a)) (λ vs frame a. frame)
-unfolding given bind asked
+unfolding given bind lifted
 got-text m key ds = record {
   takes_them = refl;
   gives_one = refl;
@@ -78,7 +78,7 @@ got-text m key ds = record {
 }
 
 pub stepped-puts : (m : MapId) (key : List Shape) (ds : List (Does Value)) (plus prefix : Bool) → Puts (i.StepMap m key plus prefix) ds key shapes.Int (number_value (step_map m ds plus prefix)) (λ w vs frame. stepped m vs plus prefix) (λ w vs frame a. a) (λ vs frame a. frame)
-unfolding given bind asked
+unfolding given bind lifted
 stepped-puts m key ds plus prefix = record {
   takes_them = refl;
   gives_one = refl;

@@ -7,11 +7,9 @@ use Rattle.std.proofs.lemmas.Option.{slice_get_within, get_or_from_slice_get}
 use Rattle.std.proofs.Math.Logic.{∥∥₁_elim}
 use Rattle.std.proofs.Props.{props}
 use Rattle.bt_core.specs.declared.context.Context.{Context}
-use Rattle.bt_core.specs.declared.limits.TheConstants.{KEY_PARTS, LOOP_TURNS}
+use Rattle.bt_core.specs.declared.limits.TheConstants.{KEY_PARTS}
 use Rattle.bt_core.specs.declared.map.MapDecl.{MapDecl}
 use Rattle.bt_core.specs.declared.map.Shape.{Shape}
-use Rattle.bt_core.specs.declared.map.Shape.TheVariants as shapes
-use Rattle.bt_core.specs.declared.value.Value.{Value}
 use Rattle.fmt_text.specs.Arguments.{argument_shapes}
 use Rattle.fmt_text.specs.declared.piece.Piece.{Piece}
 use Rattle.tracefs_format.specs.declared.field.Field.{Field}
@@ -24,7 +22,6 @@ use Rattle.typed_tree.specs.Script.{IsIn, AreIn}
 use Rattle.walk_meaning.specs.Does.{Scene as Walked}
 use Rattle.walk_meaning.specs.Walk.{walk}
 use Rattle.walk_meaning.specs.Walk.{fresh as fresh_in_walk}
-use Rattle.walk_meaning.specs.Walk.{unassigned as unassigned_in_walk}
 use Rattle.walk_meaning.specs.Served.{least_length}
 use Rattle.walk_meaning.proofs.Declared.{served, served_pick, fine, same_field-end}
 use Rattle.ir_code.specs.declared.blocks.Block.{Block}
@@ -34,7 +31,6 @@ use Rattle.ir_code.specs.Serving.{payload_need}
 use Rattle.ir_code.specs.Meaning.{fresh, blocks_run, ir_run}
 use Rattle.ir_code.specs.Typing.{are_typed}
 use Rattle.ir_code.specs.Ways.{lead_forward}
-use Rattle.ir_code.specs.Values.{unassigned}
 use Rattle.bt_lower.specs.Bodies.{footing_of, HasPlace, LowersTree}
 use Rattle.bt_lower.specs.Lowers.{state}
 use Rattle.bt_lower.specs.Needs.{tree_need}
@@ -83,16 +79,8 @@ body-in maps formats bodies number body placed here = record {
     one : AreIn maps formats bodies → IsIn maps formats body
     one are = subst (λ (b : TypedBody). IsIn maps formats b) (get_or_from_slice_get bodies number body body here) (are number body (slice_get_within bodies number body here))
 
-unassigned-same : (s : Shape) → unassigned s ≡ unassigned_in_walk s
-unassigned-same shapes.Int = refl
-unassigned-same shapes.Str = refl
-
-all-unassigned : (ss : List Shape) → map unassigned ss ≡ map unassigned_in_walk ss
-all-unassigned [] = refl
-all-unassigned (s ∷ ss) = ap (λ (v : Value). v ∷ map unassigned ss) (unassigned-same s) ∙ ap (λ (l : List Value). unassigned_in_walk s ∷ l) (all-unassigned ss)
-
 fresh-same : (ss : List Shape) → fresh ss ≡ state (fresh_in_walk ss) []
-fresh-same ss = ap (λ (l : List Value). state (record { variables = l; turns = LOOP_TURNS }) []) (all-unassigned ss)
+fresh-same ss = refl
 
 -- ---- a body of a script, and blocks that do its tree
 

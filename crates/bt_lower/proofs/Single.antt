@@ -1,6 +1,6 @@
 -- Lowering of each kind of single statement, by its tree.
 use Rattle.std.proofs.Common.{◌≡◌, ℕ, ◌+◌, ◌≤◌, List, [], ◌∷◌, ◌++◌, length, refl, sym, ap, ◌∙◌, subst, arith, Bool, true, false, Option, Some, None}
-use Rattle.std.specs.Prelude.{ℤ, pos, max, slice_get, ◌&&◌, int_le}
+use Rattle.std.specs.Prelude.{ℤ, pos, max, slice_get, ◌&&◌}
 use Rattle.std.proofs.Math.Nat.{le-max_left, le-max_right, max-le}
 use Rattle.std.proofs.lemmas.Bool.{and_parts}
 use Rattle.bt_core.specs.declared.limits.TheConstants.{KEY_PARTS}
@@ -32,11 +32,13 @@ use Rattle.walk_meaning.specs.Exprs.{value_does, values_do, number_does, number_
 use Rattle.walk_meaning.specs.Maps.{with_variable, variable}
 use Rattle.walk_meaning.specs.Stmts.{stmt_does, set_variable, set_map, update_variable, update_map, gather, plain, printf, print, clear, zero_all, delete_at}
 use Rattle.ir_code.specs.declared.instr.Instr.TheVariants as i
-use Rattle.ir_code.specs.Asking.{part, told as asks_for}
+use Rattle.map_ops.specs.Holders.{part}
+use Rattle.map_ops.specs.Asking.{told as asks_for}
 use Rattle.ir_code.specs.Figures.{sizes_of, by_shape}
 use Rattle.ir_code.specs.Meaning.{updated}
 use Rattle.ir_code.specs.Typing.{is_key, gathers, is_format}
-use Rattle.ir_code.specs.Values.{top, below, number_of}
+use Rattle.ir_code.specs.Stacks.{top, below}
+use Rattle.map_ops.specs.Values.{number_of}
 use Rattle.ir_code.proofs.Shaped.{same_shapes-is}
 use Rattle.bt_lower.specs.declared.code.Code.{Code}
 use Rattle.bt_lower.specs.declared.code.Ways.{Ways}

@@ -13,7 +13,7 @@ use Rattle.typed_tree.specs.Scope.{Scope, all_fit}
 use Rattle.walk_meaning.specs.declared.flow.Flow.{Flow}
 use Rattle.walk_meaning.specs.declared.flow.Flow.TheVariants.{Next, Break, Continue, Stop}
 use Rattle.walk_meaning.specs.declared.flow.Frame.{Frame}
-use Rattle.walk_meaning.specs.Does.{Does, given, bind, asked, in_order}
+use Rattle.walk_meaning.specs.Does.{Does, given, bind, lifted, in_order}
 use Rattle.walk_meaning.specs.Does.{Scene as Walked}
 use Rattle.walk_meaning.specs.Stmts.{in_turn, if_next, jump_to}
 use Rattle.typed_tree.specs.declared.stmt.Jump.TheVariants as jumps
@@ -24,7 +24,7 @@ use Rattle.ir_code.specs.declared.instr.Instr.{Instr}
 use Rattle.ir_code.specs.declared.instr.Instr.TheVariants as i
 use Rattle.bt_core.specs.declared.step.ObjectId.TheVariants.{Clock}
 use Rattle.bt_core.specs.declared.step.Op.TheVariants as ops
-use Rattle.ir_code.specs.Asking.{told as stop_asked}
+use Rattle.map_ops.specs.Asking.{told as stop_asked}
 use Rattle.ir_code.specs.Figures.{sizes_of, instr_slots, instr_bytes}
 use Rattle.ir_code.specs.Meaning.{Scene, instr_run}
 use Rattle.ir_code.specs.Serving.{end_read}
@@ -170,7 +170,7 @@ Lowers-return qs way c new e = subst (λ x. LowersStmt qs (given (Stop Return)) 
     (λ bs t room ways. Opens-end bs t c Return room))
 
 pub Lowers-exit : (qs : Bool → List Part) (way : Ways) (c c1 new : Code) → c1 ≡ begun (End Exited) [] c → new ≡ pushed i.Stop c1 → LowersStmt qs (jump_to jumps.Exit) (need 0 12) way c new
-unfolding given bind asked
+unfolding given bind lifted
 Lowers-exit qs way c c1 new e1 e =
     subst (λ x. LowersStmt qs (jump_to jumps.Exit) (need 0 12) way c x) (sym (e ∙ ap (pushed i.Stop) e1)) (record {
       grew = Grew-refl c.blocks;

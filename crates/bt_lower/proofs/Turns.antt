@@ -13,14 +13,14 @@ use Rattle.bt_core.proofs.InteractionLaws.{and_then_assoc}
 use Rattle.walk_meaning.specs.declared.flow.Flow.{Flow}
 use Rattle.walk_meaning.specs.declared.flow.Flow.TheVariants.{Next, Break, Continue, Stop}
 use Rattle.walk_meaning.specs.declared.flow.Frame.{Frame}
-use Rattle.walk_meaning.specs.Does.{Does, given, seen, changed, asked, bind}
+use Rattle.walk_meaning.specs.Does.{Does, given, seen, changed, lifted, bind}
 use Rattle.walk_meaning.specs.Does.{Scene as Walked}
 use Rattle.walk_meaning.specs.Stmts.{cut, turn, again}
 use Rattle.ir_code.specs.declared.blocks.Block.{Block}
 use Rattle.ir_code.specs.declared.blocks.Exit.TheVariants.{Again, End}
 use Rattle.ir_code.specs.declared.instr.Instr.TheVariants as i
 use Rattle.ir_code.specs.declared.state.State.{State}
-use Rattle.ir_code.specs.Asking.{told as asks_for}
+use Rattle.map_ops.specs.Asking.{told as asks_for}
 use Rattle.ir_code.specs.Meaning.{Scene, block_run, run_from}
 use Rattle.bt_lower.specs.declared.code.Code.{Code}
 use Rattle.bt_lower.specs.Code.{pushed, begun, gated, with_cut}
@@ -33,7 +33,7 @@ with_turns left frame = record { variables = frame.variables; turns = left }
 -- the block of the cut
 pub Reaches-cut : (bs : List Block) (line : ℕ) (c : Code) (n : ℕ) (scene : Scene) (w : Walked) (frame : Frame) (values : List Value) (k : (Flow × Frame) → Interaction Ending) → Stand (length c.blocks) (with_cut line c).blocks bs → k (Stop AtCut, frame) ≡ Ended AtCut →
     Reaches bs (length c.blocks) (n + 1) scene (state frame values) (and_then (cut line w frame) k)
-unfolding given bind asked
+unfolding given bind lifted
 Reaches-cut bs line c n scene w frame values k stand e =
     Reaches-close bs (pushed (i.Cut line) (begun (End AtCut) [] c)) n scene (state frame values) (and_then (cut line w frame) k) stand
     (Runs-push bs (begun (End AtCut) [] c) (i.Cut line) n scene (state frame values) (asks_for Out (ops.Emit (items.Cut line))) (λ u. state frame values) (λ u. k (Stop AtCut, frame)) refl
@@ -92,7 +92,7 @@ module _ (bs : List Block) (most line d L leave at_cut a head block gate n3 n4 n
       ((x : Frame) → x.turns < st.turns → Reaches bs head ((x.turns + d) * most + n9) scene (state x values) (and_then (rest w x) k)) →
       ((x : Frame) → x.turns < st.turns → Reaches bs leave ((x.turns + d) * most + L + 1) scene (state x values) (k (Next, x))) →
       Reaches bs gate ((st.turns + d) * most + n6) scene (state st values) (and_then (bind (turn line body) (λ flow. again flow rest) w st) k)
-  unfolding bind given asked
+  unfolding bind given lifted
   turn_reaches rest st goes leaves =
       Reaches-is _ _ _ scene _ _ _ (sym (and_then_assoc (turn line body w st) (λ p. again p.0 rest w p.1) k))
       (Reaches-more bs _ _ _ scene _ _ (omega (arith, next6))

@@ -23,7 +23,8 @@ use Rattle.ir_code.specs.declared.state.State.{State}
 use Rattle.ir_code.specs.Figures.{sizes_of, blocks_slots}
 use Rattle.ir_code.specs.Meaning.{Scene, run_from, exit_run, goes_on, count_way, counted}
 use Rattle.ir_code.specs.Typing.{stack_in}
-use Rattle.ir_code.specs.Values.{number_of, below}
+use Rattle.map_ops.specs.Values.{number_of}
+use Rattle.ir_code.specs.Stacks.{below}
 use Rattle.ir_code.specs.Ways.{depth_in}
 use Rattle.bt_lower.specs.declared.code.Code.{Code}
 use Rattle.bt_lower.specs.declared.code.Ways.{Ways}

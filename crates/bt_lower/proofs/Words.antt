@@ -16,9 +16,11 @@ use Rattle.typed_tree.specs.declared.expr.NumBuiltin.{NumBuiltin}
 use Rattle.typed_tree.specs.Parts.{Part, Joined, Prefixed, Both}
 use Rattle.typed_tree.specs.Scope.{fits}
 use Rattle.walk_meaning.specs.declared.flow.Frame.{Frame}
-use Rattle.walk_meaning.specs.Does.{Does, given, seen, bind, holds}
+use Rattle.walk_meaning.specs.Does.{Does, given, seen, bind}
+use Rattle.map_ops.specs.Values.{holds, number_of, text_of}
 use Rattle.walk_meaning.specs.Does.{Scene as Walked}
-use Rattle.walk_meaning.specs.Exprs.{number_value, text_value, before, both, compared, tested, builtin, builtin_value, command}
+use Rattle.walk_meaning.specs.Exprs.{number_value, text_value, before, both, compared, tested, builtin, command}
+use Rattle.map_ops.specs.Builtins.{builtin_value}
 use Rattle.ir_code.specs.declared.instr.Instr.{Instr}
 use Rattle.ir_code.specs.declared.instr.Instr.TheVariants as i
 use Rattle.bt_core.specs.declared.map.MapDecl.{MapDecl}
@@ -26,7 +28,7 @@ use Rattle.ir_code.specs.Figures.{sizes_of, instr_slots, instr_bytes}
 use Rattle.ir_code.specs.Meaning.{instr_run}
 use Rattle.ir_code.specs.Serving.{end_read}
 use Rattle.ir_code.specs.Typing.{takes, gives, names}
-use Rattle.ir_code.specs.Values.{top, below, number_of, text_of}
+use Rattle.ir_code.specs.Stacks.{top, below}
 use Rattle.bt_lower.specs.declared.code.Code.{Code}
 use Rattle.bt_lower.specs.Code.{pushed}
 use Rattle.bt_lower.specs.Lowers.{state, seen_by, LowersValue}

@@ -25,7 +25,7 @@ use Rattle.ir_code.specs.declared.blocks.Block.{Block}
 use Rattle.ir_code.specs.declared.state.State.{State}
 use Rattle.ir_code.specs.Figures.{size_of, sizes_of, by_shape}
 use Rattle.ir_code.specs.Meaning.{Scene, code_run, run_from}
-use Rattle.ir_code.specs.Values.{shape_of}
+use Rattle.map_ops.specs.Values.{shape_of}
 use Rattle.bt_lower.specs.declared.code.Code.{Code}
 use Rattle.bt_lower.specs.declared.code.Ways.{Ways}
 use Rattle.bt_lower.specs.Code.{code_slots}

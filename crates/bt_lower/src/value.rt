@@ -5,7 +5,7 @@ ghost use Rattle.typed_tree.specs.Parts.{num_parts, str_parts, key_shapes};
 ghost use Rattle.walk_meaning.specs.Does.{given};
 ghost use Rattle.walk_meaning.specs.Exprs.{number_does, text_does, number_value, text_value, tested};
 ghost use Rattle.bt_lower.specs.Lowers.{LowersAny, LowersNumber, LowersText, LowersList, LowersArm, all_made, known_need};
-ghost use Rattle.ir_code.specs.Values.{shape_of};
+ghost use Rattle.map_ops.specs.Values.{shape_of};
 ghost use Rattle.bt_lower.specs.Needs.{number_need, text_need, more};
 
 use crate::code::Code;

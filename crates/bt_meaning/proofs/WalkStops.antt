@@ -25,11 +25,13 @@ use Rattle.typed_tree.specs.declared.stmt.TypedStmt.TheShapes.{former-TypedStmt-
 use Rattle.walk_meaning.specs.declared.flow.Flow.{Flow}
 use Rattle.walk_meaning.specs.declared.flow.Flow.TheVariants.{Next, Break, Continue, Stop}
 use Rattle.walk_meaning.specs.declared.flow.Frame.{Frame}
-use Rattle.walk_meaning.specs.declared.sweep.Sweep.{Sweep}
-use Rattle.walk_meaning.specs.declared.sweep.Sweep.TheVariants.{Read, Clear, Zero}
-use Rattle.walk_meaning.specs.Does.{Scene, Does, given, seen, changed, asked, bind, choose, told, gathered, in_order, either}
+use Rattle.map_ops.specs.declared.sweep.Sweep.{Sweep}
+use Rattle.map_ops.specs.declared.sweep.Sweep.TheVariants.{Read, Clear, Zero}
+use Rattle.walk_meaning.specs.Does.{Scene, Does, given, seen, changed, lifted, asked, bind, choose, told, gathered, in_order, either}
 use Rattle.walk_meaning.specs.Exprs.{read, any_layer, num_layer, str_layer, value_does, values_do, number_does, text_does, step_at}
-use Rattle.walk_meaning.specs.Maps.{part, get, set, holder, holders, sweep_op, asked_from, swept}
+use Rattle.map_ops.specs.Holders.{part, holder, holders, sweep_op}
+use Rattle.walk_meaning.specs.Maps.{get, set, swept}
+use Rattle.map_ops.specs.Asking.{asked_from, swept as all_swept}
 use Rattle.walk_meaning.specs.Stmts.{plain, stmt_layer, block_layer, stmt_does, block_does, number_or_one, kind_seen, print, clear, zero_all, if_next, in_turn, first_arm, arm_does, cut, entered, turn, turns, tests, while_true, again}
 use Rattle.walk_meaning.specs.Walk.{walk, fresh, guarded, ending_of, tree_does}
 use Rattle.bt_meaning.specs.Ticks.{OnlyStops}
@@ -61,7 +63,7 @@ unfolding bind
 bind-stops d k p q scene frame = stops-then (d scene frame) (λ w. k w.0 scene w.1) (p scene frame) (λ w. q w.0 scene w.1)
 
 asked-stops : (object : ObjectId) (op : Op) → (object ≡ Clock → op ≡ ops.Stop) → Stops (asked object op)
-unfolding asked
+unfolding lifted
 asked-stops object op h scene frame = (h, λ reply. tt)
 
 told-stops : (object : ObjectId) (op : Op) → (object ≡ Clock → op ≡ ops.Stop) → Stops (told object op)
@@ -103,16 +105,15 @@ at_part m key op = told-stops (part m key) op (not_part m key op)
 get-stops : (m : MapId) (key : List Value) → Stops (get m key)
 get-stops m key = then-given (asked (part m key) (ops.Get key)) _ (asked-stops (part m key) (ops.Get key) (not_part m key (ops.Get key)))
 
-asked_from-stops : (sweep : Sweep) (kind : MapKind) (m : MapId) (replies : List Reply) (first n : ℕ) → Stops (asked_from (holder kind m) (sweep_op sweep kind m) replies first n)
-asked_from-stops sweep kind m replies first zero = given-stops replies
-asked_from-stops sweep kind m replies first (suc n) =
-    bind-stops (asked (holder kind m first) (sweep_op sweep kind m)) (λ reply. asked_from (holder kind m) (sweep_op sweep kind m) (replies ++ reply ∷ []) (first + 1) n)
-    (asked-stops (holder kind m first) (sweep_op sweep kind m) (not_holder kind m first (sweep_op sweep kind m)))
-    (λ reply. asked_from-stops sweep kind m (replies ++ reply ∷ []) (first + 1) n)
+asked_from-stops : (sweep : Sweep) (kind : MapKind) (m : MapId) (replies : List Reply) (first n : ℕ) → Stops (lifted (asked_from (holder kind m) (sweep_op sweep kind m) replies first n))
+unfolding lifted
+asked_from-stops sweep kind m replies first zero scene frame = tt
+asked_from-stops sweep kind m replies first (suc n) scene frame =
+    (not_holder kind m first (sweep_op sweep kind m), λ reply. asked_from-stops sweep kind m (replies ++ reply ∷ []) (first + 1) n scene frame)
 
 swept-stops : (sweep : Sweep) (kind : MapKind) (m : MapId) → Stops (swept sweep kind m)
-swept-stops sweep kind m = bind-stops (seen (λ scene frame. holders kind scene.actors)) (λ n. asked_from (holder kind m) (sweep_op sweep kind m) [] 0 n)
-    (seen-stops (λ scene frame. holders kind scene.actors)) (λ n. asked_from-stops sweep kind m [] 0 n)
+swept-stops sweep kind m = bind-stops (seen (λ scene frame. scene.actors)) (λ n. lifted (all_swept sweep kind m n))
+    (seen-stops (λ scene frame. scene.actors)) (λ n. asked_from-stops sweep kind m [] 0 (holders kind n))
 
 -- ---- expressions
 

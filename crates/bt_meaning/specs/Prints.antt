@@ -20,8 +20,8 @@ use Rattle.agg_core.specs.Changes.{lost_updates}
 use Rattle.map_printer.specs.Ends.{end_text}
 use Rattle.map_printer.specs.ItemTexts.{item_text}
 use Rattle.map_printer.specs.Merged.{merged}
-use Rattle.walk_meaning.specs.declared.sweep.Sweep.TheVariants as sweeps
-use Rattle.walk_meaning.specs.Maps.{holder, holders, sweep_op}
+use Rattle.map_ops.specs.declared.sweep.Sweep.TheVariants as sweeps
+use Rattle.map_ops.specs.Holders.{holder, holders, sweep_op}
 
 -- what an operation emits
 abbrev pub item_in : Op → Option Item

@@ -28,8 +28,8 @@ use Rattle.weave.specs.Order.{InOrder}
 use Rattle.weave.proofs.Among.{each_has as each_member, each_from as each_of}
 use Rattle.weave.proofs.Rising.{has_moved}
 use Rattle.walk_meaning.specs.Admits.{EmitsOnly}
-use Rattle.walk_meaning.specs.declared.sweep.Sweep.TheVariants as sweeps
-use Rattle.walk_meaning.specs.Maps.{sweep_op}
+use Rattle.map_ops.specs.declared.sweep.Sweep.TheVariants as sweeps
+use Rattle.map_ops.specs.Holders.{sweep_op}
 use Rattle.bt_meaning.specs.Instructions.{instructions_of}
 use Rattle.bt_meaning.specs.Interleavings.{IsReplayed}
 use Rattle.bt_meaning.specs.Jobs.{IsJob}

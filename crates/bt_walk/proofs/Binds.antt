@@ -1,18 +1,21 @@
 -- What was done of one thing after another.
-use Rattle.std.proofs.Common.{◌≡◌, ℕ, ℤ, List, refl, sym, ap, ◌∙◌, subst, Bool, true, false, Ok, Err, Result, SFits, to_z, of_z, w64}
+use Rattle.std.proofs.Common.{◌≡◌, ℤ, List, refl, sym, ap, ◌∙◌, subst, Bool, true, false, Ok, Err, Result, SFits, to_z, of_z, w64}
 use Rattle.std.proofs.lemmas.Int.{to_z-of_z}
+use Rattle.bt_core.specs.declared.map.MapId.{MapId}
+use Rattle.bt_core.specs.declared.map.MapKind.{MapKind}
 use Rattle.bt_core.specs.declared.memory.Memory.{Memory}
 use Rattle.bt_core.specs.declared.step.ObjectId.{ObjectId}
 use Rattle.bt_core.specs.declared.step.Op.{Op}
-use Rattle.bt_core.specs.declared.step.Op.TheVariants as ops
+use Rattle.bt_core.specs.declared.step.Reply.{Reply}
 use Rattle.bt_core.specs.declared.step.Step.{Step}
-use Rattle.bt_core.specs.declared.map.MapId.{MapId}
 use Rattle.bt_core.specs.declared.value.Value.{Value}
-use Rattle.bt_core.specs.Interaction.{Interaction, Whole, Part, Left, MakesStep, last_reply}
-use Rattle.bt_core.proofs.InteractionLaws.{Whole-and_then, Part-after, Part-and_then, Performed-none, Whole-Ended, Whole-ask, Left-and_then}
+use Rattle.bt_core.specs.Interaction.{Interaction, Ended, Whole, Part, Performed, Left}
+use Rattle.bt_core.proofs.InteractionLaws.{Whole-and_then, Part-after, Part-and_then, Performed-none, Whole-Ended, Left-and_then}
+use Rattle.map_ops.specs.declared.sweep.Sweep.{Sweep}
+use Rattle.map_ops.specs.Asking as map
 use Rattle.walk_meaning.specs.declared.flow.Frame.{Frame}
-use Rattle.walk_meaning.specs.Does.{Scene, Does, given, seen, changed, asked, bind, choose, told}
-use Rattle.walk_meaning.specs.Maps.{value_of, part, get}
+use Rattle.walk_meaning.specs.Does.{Scene, Does, given, seen, changed, lifted, bind, choose, told}
+use Rattle.walk_meaning.specs.Maps.{get, swept}
 use Rattle.bt_walk.specs.Walked.{Walked}
 
 pub Given-done : {A : Type 0} (a b : A) (scene : Scene) (frame after : Frame) (s : List Step) → a ≡ b → frame ≡ after → Whole (given a scene frame) s s (b, after)
@@ -26,10 +29,6 @@ Seen-done {A} look a scene frame s e = Whole-Ended _ _ _ (ap (λ (x : A). (x, fr
 pub Changed-done : (change : Frame → Frame) (scene : Scene) (frame after : Frame) (s : List Step) (u : Unit {0}) → change frame ≡ after → Whole (changed change scene frame) s s (u, after)
 unfolding changed
 Changed-done change scene frame after s u e = Whole-Ended _ _ _ (ap (λ (x : Frame). (tt, x)) e)
-
-pub Asked-done : (object : ObjectId) (op : Op) (scene : Scene) (frame : Frame) (old new : List Step) (actor : ℕ) → MakesStep old new actor object op → Whole (asked object op scene frame) old new (last_reply new, frame)
-unfolding asked
-Asked-done object op scene frame old new actor m = Whole-ask (λ r. (r, frame)) old new actor object op m
 
 pub Part-none : {A : Type 0} (d : Does A) (scene : Scene) (frame : Frame) (old new : List Step) → new ≡ old → Part (d scene frame) old new
 Part-none d scene frame old new e = Performed-none _ _ _ e
@@ -52,11 +51,25 @@ module _ {A B : Type 0} (d : Does A) (k : A → Does B) (scene : Scene) (frame :
     Walked-next new (Ok b) after q = Whole-next new (b, after) q
     Walked-next new (Err x) after q = Part-next new q
 
-pub Told-done : (object : ObjectId) (op : Op) (old new : List Step) (actor : ℕ) (u : Unit {0}) → MakesStep old new actor object op → (scene : Scene) (frame : Frame) → Whole (told object op scene frame) old new (u, frame)
-Told-done object op old new actor u m scene frame = Whole-next _ _ _ _ _ _ _ _ (Asked-done object op scene frame old new actor m) _ _ (Given-done _ _ _ _ _ _ refl refl)
+-- what objects were asked
+pub Lifted-walked : {A : Type 0} (t : Interaction A) (scene : Scene) (frame : Frame) (old new : List Step) (r : Result A Memory) → Performed t old new r → Walked (lifted t) scene frame old new r frame
+unfolding lifted
+Lifted-walked t scene frame old new (Ok a) p = Whole-and_then t (λ value. Ended (value, frame)) old new new a (a, frame) p (Whole-Ended _ _ _ refl)
+Lifted-walked t scene frame old new (Err x) p = Part-and_then t (λ value. Ended (value, frame)) old new p
 
-pub Get-done : (m : MapId) (key : List Value) (value : Value) (old new : List Step) (actor : ℕ) → MakesStep old new actor (part m key) (ops.Get key) → value ≡ value_of (last_reply new) → (scene : Scene) (frame : Frame) → Whole (get m key scene frame) old new (value, frame)
-Get-done m key value old new actor s e scene frame = Whole-next _ _ _ _ _ _ _ _ (Asked-done (part m key) (ops.Get key) scene frame old new actor s) _ _ (Given-done _ _ _ _ _ _ (sym e) refl)
+pub Told-made : (object : ObjectId) (op : Op) (old new : List Step) (r : Result (Unit {0}) Memory) → Performed (map.told object op) old new r → (scene : Scene) (frame : Frame) → Walked (told object op) scene frame old new r frame
+unfolding lifted bind given
+Told-made object op old new r p scene frame = Lifted-walked (map.told object op) scene frame old new r p
+
+pub Got-made : (m : MapId) (key : List Value) (old new : List Step) (r : Result Value Memory) → Performed (map.got m key) old new r → (scene : Scene) (frame : Frame) → Walked (get m key) scene frame old new r frame
+unfolding lifted bind given
+Got-made m key old new r p scene frame = Lifted-walked (map.got m key) scene frame old new r p
+
+pub Swept-walked : (sweep : Sweep) (kind : MapKind) (m : MapId) (scene : Scene) (frame : Frame) (old new : List Step) (r : Result (List Reply) Memory) →
+    Performed (map.swept sweep kind m scene.actors) old new r → Walked (swept sweep kind m) scene frame old new r frame
+Swept-walked sweep kind m scene frame old new r p =
+    Walked-next (seen (λ scene frame. scene.actors)) (λ actors. lifted (map.swept sweep kind m actors)) scene frame old frame old scene.actors (Seen-done _ _ _ _ _ refl) new r frame
+    (Lifted-walked (map.swept sweep kind m scene.actors) scene frame old new r p)
 
 pub Number-done : (a x : ℤ) (scene : Scene) (frame : Frame) (s : List Step) → SFits w64 x → a ≡ x → Whole (given a scene frame) s s (to_z w64 (of_z w64 x), frame)
 Number-done a x scene frame s f e = Given-done _ _ _ _ _ _ (e ∙ sym (to_z-of_z w64 x f)) refl

@@ -2,5 +2,4 @@ pub mod Bodies
 pub mod Binds
 pub mod Gathers
 pub mod Loops
-pub mod Sweeps
 pub mod WalkedAs

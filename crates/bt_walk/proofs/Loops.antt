@@ -12,7 +12,8 @@ use Rattle.typed_tree.specs.declared.stmt.TypedStmt.{TypedStmt}
 use Rattle.walk_meaning.specs.declared.flow.Flow.{Flow}
 use Rattle.walk_meaning.specs.declared.flow.Flow.TheVariants.{Next, Break, Continue, Stop}
 use Rattle.walk_meaning.specs.declared.flow.Frame.{Frame}
-use Rattle.walk_meaning.specs.Does.{Scene, Does, given, bind, choose, holds, either}
+use Rattle.walk_meaning.specs.Does.{Scene, Does, given, bind, choose, either}
+use Rattle.map_ops.specs.Values.{holds}
 use Rattle.walk_meaning.specs.Exprs.{number_does}
 use Rattle.bt_walk.specs.Flows.{is_next, leaves}
 use Rattle.walk_meaning.specs.Stmts.{stmt_does, block_does, if_next, in_turn, first_arm, again, turn, turns, tests, while_true}

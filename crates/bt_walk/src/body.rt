@@ -3,11 +3,10 @@ ghost use Rattle.std.specs.Prelude.{◌≡◌, ◌++◌, IfOk, map};
 ghost use Rattle.bt_core.specs.Interaction.{Performed};
 ghost use Rattle.typed_tree.specs.Bodies.{predicate_parts};
 ghost use Rattle.walk_meaning.specs.Stmts.{block_does};
-ghost use Rattle.walk_meaning.specs.Walk.{walk, fresh, guarded, unassigned};
+ghost use Rattle.walk_meaning.specs.Walk.{walk, fresh, guarded};
 ghost use Rattle.bt_walk.specs.Walked.{Walked};
 ghost use Rattle.walk_meaning.specs.Served.{CanWalk, IsServed, Fits, BlockFits, scene_in};
 
-use crate::access::holds;
 use crate::flow::ending_of;
 use crate::value::number;
 use crate::walk::walk_block;
@@ -18,24 +17,13 @@ use bt_core::limits::LOOP_TURNS;
 use bt_core::map::Shape;
 use bt_core::memory::Memory;
 use bt_core::port::Port;
-use bt_core::text::Str64;
-use bt_core::value::Value;
+use map_ops::values::{holds, unassigned};
 use std::alloc::Global;
 use typed_tree::body::TypedBody;
 use typed_tree::expr::NumExpr;
 use typed_tree::stmt::TypedBlock;
 use walk_meaning::flow::{Flow, Frame};
 use walk_meaning::view::View;
-
-/// What a variable of this type is before its first assignment.
-fn unassigned(shape: Shape) -> Value
-    ensures { result ≡ unassigned shape }
-{
-    match shape {
-        Shape::Int => Value::Int(0),
-        Shape::Str => Value::Str(Str64::of(&[])),
-    }
-}
 
 /// The frame at the start of a run.
 fn fresh(alloc: Global, shapes: &[Shape]) -> Result<Frame, Memory>

@@ -12,7 +12,7 @@ ghost use Rattle.bt_walk.specs.Walked.{Walked, Made};
 ghost use Rattle.walk_meaning.specs.Served.{IsServed, Fits, HoldsUnder, all_made, scene_in};
 ghost use Rattle.walk_meaning.specs.declared.flow.Frame.{Frame as Kept};
 
-use crate::access::{assign, delete, get, number_of, set, tell, variable};
+use crate::access::{assign, delete, get, set, tell, variable};
 use crate::sweep::ask_each;
 use crate::value::{number, value, values};
 use crate::view::kind_of;
@@ -26,12 +26,13 @@ use bt_core::operator::BinOp;
 use bt_core::port::Port;
 use bt_core::step::{ObjectId, Op};
 use bt_core::value::Value;
+use map_ops::sweep::Sweep;
+use map_ops::values::number_of;
 use map_printer::merging::merged;
 use std::alloc::Global;
 use typed_tree::expr::{AnyExpr, NumExpr};
 use typed_tree::stmt::Jump;
 use walk_meaning::flow::{Flow, Frame};
-use walk_meaning::sweep::Sweep;
 use walk_meaning::view::View;
 
 /// Evaluates the parts of a key.

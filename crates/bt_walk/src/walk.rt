@@ -7,7 +7,6 @@ ghost use Rattle.bt_walk.specs.Walked.{Walked};
 ghost use Rattle.walk_meaning.specs.Served.{IsServed, Fits, StmtFits, BlockFits, scene_in};
 ghost use Rattle.typed_tree.specs.Parts.{num_parts};
 
-use crate::access::holds;
 use crate::flow::{is_next, leaves};
 use crate::stmt::{
     clear, cut, delete_at, gather, jump, print, printf, set_map, set_variable, step, update_map,
@@ -16,6 +15,7 @@ use crate::stmt::{
 use crate::value::number;
 use bt_core::memory::Memory;
 use bt_core::port::Port;
+use map_ops::values::holds;
 use std::alloc::Global;
 use typed_tree::expr::NumExpr;
 use typed_tree::stmt::{TypedBlock, TypedStmt};

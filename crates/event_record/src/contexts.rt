@@ -11,8 +11,9 @@ pub const CONTEXT_BYTES: usize = 128;
 /// Bytes of its numbers, and the place of the command's name behind them.
 const NUMBER_BYTES: usize = 64;
 
-/// The numbers of a context in the order of their bytes.
-fn context_numbers(context: &Context) -> [u64; 8]
+/// The numbers of a context in the order of their bytes: its time, its time less its start modulo 2^64, pid, tid, uid,
+/// gid, the CPU's number and the payload's length.
+pub fn context_numbers(context: &Context) -> [u64; 8]
     ensures { result ≡ context_numbers context.now }
 {
     [
@@ -27,9 +28,8 @@ fn context_numbers(context: &Context) -> [u64; 8]
     ]
 }
 
-/// The bytes of a context: in eight bytes each, the lowest first, its time, its time less its start
-/// modulo 2^64, pid, tid, uid, gid, the CPU's number and the payload's length; and from byte 64 on
-/// the command's name, with zeros behind it.
+/// The bytes of a context: its numbers in eight bytes each, the lowest first, and from byte 64 on the command's name, with
+/// zeros behind it.
 pub fn context_bytes(context: &Context) -> [u8; CONTEXT_BYTES]
     ensures { result ≡ context_bytes context.now }
 {

@@ -21,8 +21,7 @@ use Rattle.typed_tree.specs.Scope.{is_agg, is_fine_decl, is_fine_kind}
 use Rattle.helper_abi.specs.Helpers.{numbered, map_id, of_sort, table_map, value_map}
 use Rattle.helper_abi.specs.Reading.{shape_bytes, shape_of}
 use Rattle.helper_abi.specs.Served.{ServesMaps, HasRoom}
-use Rattle.helper_abi.specs.Steps.{part}
-use Rattle.helper_abi.specs.Sweeps.{CanSweep}
+use Rattle.map_ops.specs.Holders.{part, CanSweep}
 
 cond_some : {A : Type 0} (b : Bool) (o : Option A) (a : A) → cond b o None ≡ Some a → (b ≡ true) × (o ≡ Some a)
 cond_some true o a e = (refl, e)

@@ -1,4 +1,3 @@
 pub mod Callings
 pub mod CanDo
 pub mod ReadingLemmas
-pub mod Sweeping

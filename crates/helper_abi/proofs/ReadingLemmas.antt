@@ -7,18 +7,13 @@ use Rattle.bt_core.specs.declared.map.MapKind.{MapKind}
 use Rattle.bt_core.specs.declared.map.MapKind.TheVariants.{Ints, Strs, Aggs}
 use Rattle.bt_core.specs.declared.map.Shape.{Shape}
 use Rattle.bt_core.specs.declared.map.Shape.TheVariants as shapes
-use Rattle.bt_core.specs.declared.step.Op.TheVariants.{Get}
-use Rattle.bt_core.specs.declared.step.Reply.{Reply}
-use Rattle.bt_core.specs.declared.step.Reply.TheVariants as replies
 use Rattle.bt_core.specs.declared.value.Value.{Value}
 use Rattle.bt_core.specs.declared.value.Value.TheVariants.{Int, Str}
 use Rattle.bt_core.specs.Kinds.{HasShape, IsOfShape, IsOfKind}
-use Rattle.bt_core.specs.Ports.{IsSharedReply}
 use Rattle.bt_core.specs.declared.limits.TheConstants.{FRAME_BYTES}
 use Rattle.bpf_insn.specs.declared.address.TheConstants.{CONTEXT, PAYLOAD, FRAME, CONTEXT_BYTES}
 use Rattle.bpf_insn.specs.Regions.{Spaces, place_in, bytes_in, is_in_frame}
 use Rattle.helper_abi.specs.Reading.{shape_bytes, bytes_of_shapes, value_in, values_in, bytes_at, shape_of}
-use Rattle.helper_abi.specs.Steps.{value_of}
 use Rattle.helper_abi.specs.Writing.{room_of}
 
 value_in-shaped : (h : Shape) (bytes : List ℕ) → IsOfShape h (value_in h bytes)
@@ -76,14 +71,6 @@ kind_room Strs (Str s) to h room = room
 kind_room (Aggs kind) (Int n) to h room = absurd h
 kind_room (Aggs kind) (Str s) to h room = absurd h
 
-reply_room : (decl : MapDecl) (key : List Value) (reply : Reply) (to : ℕ) → IsSharedReply decl (Get key) reply → IsTrue (is_in_frame to (shape_bytes (shape_of decl.kind))) → IsTrue (is_in_frame to (room_of (value_of reply)))
-reply_room decl key (replies.Value v) to h room = kind_room decl.kind v to h room
-reply_room decl key replies.Done to h room = absurd h
-reply_room decl key (replies.Pairs rows) to h room = absurd h
-reply_room decl key (replies.Aggs rows) to h room = absurd h
-reply_room decl key (replies.Last b) to h room = absurd h
-reply_room decl key (replies.Stopped b) to h room = absurd h
-
-pub served_room : (o : Option MapDecl) (key : List Value) (reply : Reply) (to : ℕ) → IsSomeAnd o (λ decl. IsSharedReply decl (Get key) reply) → IsSomeAnd o (λ decl. IsTrue (is_in_frame to (shape_bytes (shape_of decl.kind)))) → IsTrue (is_in_frame to (room_of (value_of reply)))
-served_room None key reply to h room = absurd h
-served_room (Some decl) key reply to h room = reply_room decl key reply to h room
+pub served_room : (o : Option MapDecl) (value : Value) (to : ℕ) → IsSomeAnd o (λ decl. IsOfKind decl.kind value) → IsSomeAnd o (λ decl. IsTrue (is_in_frame to (shape_bytes (shape_of decl.kind)))) → IsTrue (is_in_frame to (room_of value))
+served_room None value to h room = absurd h
+served_room (Some decl) value to h room = kind_room decl.kind value to h room

@@ -16,11 +16,12 @@ use Rattle.fmt_text.specs.declared.piece.Piece.{Piece}
 use Rattle.typed_tree.specs.Scope.{is_agg}
 use Rattle.helper_abi.specs.declared.helper.Helper.{Helper}
 use Rattle.helper_abi.specs.declared.helper.Helper.TheVariants.{Get, Set, Delete, Aggregate, Print, Clear, Zero, Printf, Exit, Cut, ReadStr}
-use Rattle.helper_abi.specs.declared.sweep.Sweep.{Sweep}
-use Rattle.helper_abi.specs.declared.sweep.Sweep.TheVariants as sweeps
+use Rattle.map_ops.specs.declared.sweep.Sweep.{Sweep}
+use Rattle.map_ops.specs.declared.sweep.Sweep.TheVariants as sweeps
 use Rattle.helper_abi.specs.Numbers.{helper_at}
 use Rattle.helper_abi.specs.Reading.{shape_bytes, shape_of, value_at, values_at, payload_text}
-use Rattle.helper_abi.specs.Steps.{wrote, part, told, got, swept_all, printed}
+use Rattle.helper_abi.specs.Steps.{wrote, told, got, swept_all, printed}
+use Rattle.map_ops.specs.Holders.{part}
 
 -- what the helpers of an actor work on: the script's maps and formats by their numbers, the actor, and how many actors there are
 pub record Desk : Type 0 where

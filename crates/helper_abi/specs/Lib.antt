@@ -1,6 +1,5 @@
 pub mod Numbers
 pub mod Reading
-pub mod Sweeps
 pub mod Steps
 pub mod Helpers
 pub mod Served

@@ -6,10 +6,10 @@ ghost use Rattle.helper_abi.specs.Served.{IsFor, desk_of};
 
 use crate::helper::Helper;
 use crate::helpers::{aggregate, cut, delete, exit, get, print, printf, read_str, set, sweep_map};
-use crate::sweep::Sweep;
 use bpf_interp::ports::{PortFault, Ports};
 use bpf_interp::regions::Regions;
 use bt_core::port::Port;
+use map_ops::sweep::Sweep;
 use std::alloc::Global;
 use typed_tree::script::Typed;
 

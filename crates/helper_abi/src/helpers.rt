@@ -11,8 +11,7 @@ use crate::printing::{print_map, sweep_all};
 use crate::reading::{
     TEXT_BYTES, key_at, payload_text, put, shape_bytes, shape_of, value_at, values_at,
 };
-use crate::steps::{get_into, part, tell};
-use crate::sweep::Sweep;
+use crate::steps::{get_into, tell};
 use bpf_interp::ports::PortFault;
 use bpf_interp::regions::Regions;
 use bt_core::item::Item;
@@ -23,6 +22,8 @@ use bt_core::step::{ObjectId, Op};
 use bt_core::value::Value;
 use fmt_text::arguments::argument_shapes;
 use fmt_text::piece::Piece;
+use map_ops::access::part;
+use map_ops::sweep::Sweep;
 use std::alloc::Global;
 
 // What has a number of 32 bits in a list.

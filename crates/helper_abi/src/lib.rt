@@ -8,4 +8,3 @@ mod printing;
 mod reading;
 pub mod running;
 mod steps;
-pub mod sweep;

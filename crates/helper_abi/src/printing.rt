@@ -1,18 +1,15 @@
 // Helpers that work on whole maps.
 ghost use Rattle.std.specs.Prelude.{◌≡◌};
 ghost use Rattle.bpf_interp.specs.Running.{Called};
+ghost use Rattle.map_ops.specs.Holders.{CanSweep};
 ghost use Rattle.helper_abi.specs.Steps.{printed, swept_all};
-ghost use Rattle.helper_abi.specs.Sweeps.{CanSweep};
 
-use crate::steps::tell;
-use crate::sweep::{Sweep, ask_each};
 use bpf_interp::ports::PortFault;
 use bpf_interp::regions::Regions;
-use bt_core::item::Item;
 use bt_core::map::{MapId, MapKind};
 use bt_core::port::Port;
-use bt_core::step::{ObjectId, Op};
-use map_printer::merging::merged;
+use map_ops::printing;
+use map_ops::sweep::{Sweep, ask_each};
 use std::alloc::Global;
 
 /// Reads all objects that hold a map and emits its merged rows.
@@ -30,21 +27,10 @@ pub fn print_map<P: Port>(
     ensures called { Called (printed memory.now kind map top div actors) (P.steps port.old) (P.steps port.new) result memory.now.frame }
     ensures kept { P.fixed port.new ≡ P.fixed port.old }
 {
-    let replies = match ask_each(alloc, port, Sweep::Read, kind, map, actors) {
-        Ok(replies) => replies,
-        Err(_) => return Err(PortFault::Memory),
-    };
-    let rows = match merged(alloc, kind, replies.as_slice()) {
-        Ok(rows) => rows,
-        Err(_) => return Err(PortFault::Memory),
-    };
-    let item = Item::Map {
-        map,
-        rows,
-        top,
-        div,
-    };
-    tell(alloc, port, ObjectId::Out, Op::Emit(item), memory)
+    match printing::print_map(alloc, kind, map, top, div, actors, port) {
+        Ok(()) => Ok(0),
+        Err(_) => Err(PortFault::Memory),
+    }
 }
 
 /// Clears all objects that hold a map, or makes their values 0 or empty.
@@ -61,7 +47,7 @@ pub fn sweep_all<P: Port>(
     ensures called { Called (swept_all memory.now sweep kind map actors) (P.steps port.old) (P.steps port.new) result memory.now.frame }
     ensures kept { P.fixed port.new ≡ P.fixed port.old }
 {
-    match ask_each(alloc, port, sweep, kind, map, actors) {
+    match ask_each(alloc, sweep, kind, map, actors, port) {
         Ok(_) => Ok(0),
         Err(_) => Err(PortFault::Memory),
     }

@@ -1,45 +1,21 @@
-// The steps of helpers on one object.
+// What helpers ask of maps.
 ghost use Rattle.std.specs.Prelude.{◌≡◌};
 ghost use Rattle.bt_core.specs.declared.step.Op.TheVariants as ops;
 ghost use Rattle.bt_core.specs.Ports.{CanStep};
 ghost use Rattle.bpf_interp.specs.Running.{Called};
+ghost use Rattle.map_ops.specs.Holders.{part};
 ghost use Rattle.helper_abi.specs.Served.{HasRoom};
-ghost use Rattle.helper_abi.specs.Steps.{value_of, part, told, got};
+ghost use Rattle.helper_abi.specs.Steps.{told, got};
 
 use crate::reading::put;
 use bpf_interp::ports::PortFault;
 use bpf_interp::regions::Regions;
-use bt_core::encoding::part_of;
 use bt_core::key::Key;
 use bt_core::map::MapId;
 use bt_core::port::Port;
-use bt_core::step::{ObjectId, Op, Reply};
-use bt_core::value::Value;
+use bt_core::step::{ObjectId, Op};
+use map_ops::access;
 use std::alloc::Global;
-
-/// The part of a shared map that a key is in.
-pub fn part(map: MapId, key: &Key) -> ObjectId
-    ensures { result ≡ part map key.now }
-{
-    ObjectId::Shared {
-        map,
-        part: part_of(key),
-    }
-}
-
-// The value of a reply.
-fn value_of(reply: &Reply) -> Value
-    ensures { result ≡ value_of reply.now }
-{
-    match reply {
-        Reply::Value(value) => value.copy(),
-        Reply::Done => Value::Int(0),
-        Reply::Pairs(_) => Value::Int(0),
-        Reply::Aggs(_) => Value::Int(0),
-        Reply::Last(_) => Value::Int(0),
-        Reply::Stopped(_) => Value::Int(0),
-    }
-}
 
 /// Makes a step whose reply says nothing.
 pub fn tell<P: Port>(
@@ -53,7 +29,7 @@ pub fn tell<P: Port>(
     ensures called { Called (told memory.now object op) (P.steps port.old) (P.steps port.new) result memory.now.frame }
     ensures kept { P.fixed port.new ≡ P.fixed port.old }
 {
-    match port.step(alloc, object, op) {
+    match access::tell(alloc, object, op, port) {
         Ok(()) => Ok(0),
         Err(_) => Err(PortFault::Memory),
     }
@@ -75,9 +51,8 @@ pub fn get_into<P: Port>(
     ensures context { memory.new.context ≡ memory.old.context }
     ensures payload { memory.new.payload ≡ memory.old.payload }
 {
-    match port.step(alloc, part(map, &key), Op::Get(key)) {
-        Ok(()) => {
-            let value = value_of(port.last());
+    match access::get(alloc, map, key, port) {
+        Ok(value) => {
             put(memory, to, &value);
             Ok(0)
         }

@@ -1,7 +1,6 @@
-pub mod Asking
 pub mod Figures
 pub mod Meaning
 pub mod Serving
 pub mod Typing
-pub mod Values
+pub mod Stacks
 pub mod Ways

@@ -6,4 +6,3 @@ pub mod figures;
 pub mod instr;
 pub mod probe;
 pub mod state;
-pub mod sweep;

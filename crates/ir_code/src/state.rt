@@ -1,6 +1,6 @@
 // What a run of typed instructions keeps.
 ghost use Rattle.std.specs.Prelude.{◌≡◌};
-ghost use Rattle.ir_code.specs.Values.{shape_of};
+ghost use Rattle.map_ops.specs.Values.{shape_of};
 
 use bt_core::ending::Ending;
 use bt_core::items::Items;

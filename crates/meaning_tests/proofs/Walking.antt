@@ -16,7 +16,7 @@ use Rattle.typed_tree.specs.declared.stmt.TypedStmt.{TypedStmt, fold-roll-TypedS
 use Rattle.typed_tree.specs.declared.stmt.TypedStmt.TheVariants.{rolls-Gather, rolls-Print, rolls-Clear, rolls-Jump}
 use Rattle.typed_tree.specs.declared.stmt.TypedStmt.TheOpen.{TypedStmt-F}
 use Rattle.walk_meaning.specs.declared.flow.Flow.{Flow}
-use Rattle.walk_meaning.specs.Does.{Does, asked, bind, given, seen}
+use Rattle.walk_meaning.specs.Does.{Does, lifted, bind, given, seen}
 use Rattle.walk_meaning.specs.Stmts.{block_does, block_layer, clear, gather, in_turn, jump_to, number_or_one, print, stmt_does, stmt_layer}
 use Rattle.walk_meaning.specs.Walk.{ending_of, fresh, guarded, walk}
 use Rattle.meaning_tests.specs.Bodies.{HasStatements, clear_statement, count_statement, exit_statement, print_statement}
@@ -56,26 +56,26 @@ exit_does = ap stmt_does (sym (rolls-Jump jumps.Exit)) ∙ fold-roll-TypedStmt (
 
 pub count_walk : (body : TypedBody) (context : Context) (payload : List ℕ) (actor actors : ℕ) → HasStatements (count_statement ∷ []) body
     → walk body context payload actor actors ≡ counts_one actor [] End
-unfolding asked bind given seen
+unfolding lifted bind given seen
 count_walk body context payload actor actors has =
     walk_is (count_statement ∷ []) (gather counts [] (number_or_one None) ∷ []) body context payload actor actors has (λ i. count_does i ∷ []) ∙ refl
 
 pub print_walk : (body : TypedBody) (context : Context) (payload : List ℕ) (actor : ℕ) → HasStatements (print_statement ∷ []) body → body.maps ≡ (counts, counts_decl) ∷ []
     → walk body context payload actor 3 ≡ prints 3 (Ended End)
-unfolding asked bind given seen
+unfolding lifted bind given seen
 print_walk body context payload actor has maps =
     walk_is (print_statement ∷ []) (print counts 0 (pos 1) ∷ []) body context payload actor 3 has (λ i. print_does i ∷ [])
     ∙ ap (λ (l : List (MapId × MapDecl)). walk_that (in_turn (print counts 0 (pos 1) ∷ [])) body.tree.variables l context payload actor 3) maps
 
 pub print_and_clear_walk : (body : TypedBody) (context : Context) (payload : List ℕ) (actor : ℕ) → HasStatements (print_statement ∷ clear_statement ∷ []) body
     → body.maps ≡ (counts, counts_decl) ∷ [] → walk body context payload actor 3 ≡ prints 3 (clears 3 End)
-unfolding asked bind given seen
+unfolding lifted bind given seen
 print_and_clear_walk body context payload actor has maps =
     walk_is (print_statement ∷ clear_statement ∷ []) (print counts 0 (pos 1) ∷ clear counts ∷ []) body context payload actor 3 has (λ i. print_does i ∷ clear_does i ∷ [])
     ∙ ap (λ (l : List (MapId × MapDecl)). walk_that (in_turn (print counts 0 (pos 1) ∷ clear counts ∷ [])) body.tree.variables l context payload actor 3) maps
 
 pub exit_walk : (body : TypedBody) (context : Context) (payload : List ℕ) (actor actors : ℕ) → HasStatements (exit_statement ∷ []) body
     → walk body context payload actor actors ≡ stops Exit
-unfolding asked bind given seen
+unfolding lifted bind given seen
 exit_walk body context payload actor actors has =
     walk_is (exit_statement ∷ []) (jump_to jumps.Exit ∷ []) body context payload actor actors has (λ i. exit_does i ∷ []) ∙ refl

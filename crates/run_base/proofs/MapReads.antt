@@ -24,7 +24,7 @@ use Rattle.map_printer.proofs.MergedFitting.{merged_fit, reply_has_rows}
 use Rattle.step_objects.specs.CpuTables.{map_at}
 use Rattle.turn_lock.specs.History.{Each}
 use Rattle.bt_meaning.specs.Prints.{operations_at, read_of, lost_by, lost_after, holders_of, rows_after, of_maps}
-use Rattle.walk_meaning.specs.Maps.{holder}
+use Rattle.map_ops.specs.Holders.{holder}
 use Rattle.run_base.specs.Moments.{Moment, table_reply, table_lost, part_reply, part_lost, of_first}
 use Rattle.run_base.specs.Worlds.{answers, IsOwn}
 use Rattle.run_base.proofs.KindLemmas.{answer_is_of_its_kind}

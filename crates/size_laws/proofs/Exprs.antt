@@ -149,12 +149,7 @@ module _ (sh : Word → Shape) (t : Titles) where
 
   numeric : (b : NumBuiltin) (st : Stack) → Pushes sh t (Numeric b ∷ []) st (valued 8 (need 8 4))
   numeric builtin.Pid st = record { item = Held (valued 8 (need 8 4)); reads = refl; worth = refl }
-  numeric builtin.Tid st = record { item = Held (valued 8 (need 8 4)); reads = refl; worth = refl }
-  numeric builtin.Uid st = record { item = Held (valued 8 (need 8 4)); reads = refl; worth = refl }
-  numeric builtin.Gid st = record { item = Held (valued 8 (need 8 4)); reads = refl; worth = refl }
-  numeric builtin.Cpu st = record { item = Held (valued 8 (need 8 4)); reads = refl; worth = refl }
-  numeric builtin.Nsecs st = record { item = Held (valued 8 (need 8 4)); reads = refl; worth = refl }
-  numeric builtin.Elapsed st = record { item = Held (valued 8 (need 8 4)); reads = refl; worth = refl }
+  numeric b st = record { item = Held (valued 8 (need 8 4)); reads = refl; worth = refl }
 
   compares : (equal : Bool) (ps qs : List Part) (st : Stack) (v w : Need) → Two ps qs st (valued 64 v) (valued 64 w)
       → Pushes sh t (Joined (compared equal) ∷ (ps ++ qs)) st (valued 8 (need (max v.frame (64 + w.frame)) (48 + v.code + w.code)))

@@ -1,5 +1,5 @@
 -- What words and expressions add, in two scenes that are alike.
-use Rattle.std.proofs.Common.{◌≡◌, ◌++◌, ◌+◌, ◌-◌, ◌%◌, ◌^◌, ℕ, ℤ, pos, w64, List, [], ◌∷◌, Bool, true, false, map, refl, sym, ap, subst}
+use Rattle.std.proofs.Common.{◌≡◌, ◌++◌, ◌+◌, ◌-◌, ◌%◌, ◌^◌, ℕ, ℤ, w64, List, [], ◌∷◌, Bool, true, false, map, refl, sym, ap, subst}
 use Rattle.std.specs.Int.{cast_signed}
 use Rattle.bt_core.specs.declared.map.MapId.{MapId}
 use Rattle.bt_core.specs.declared.step.ObjectId.{ObjectId}
@@ -18,8 +18,9 @@ use Rattle.typed_tree.specs.Parts.{Part, Made, made_of, num_parts, str_parts, pa
 use Rattle.bt_meaning.specs.Totals.{Entry, added}
 use Rattle.bt_meaning.proofs.Eachs.{each_front, each_back}
 use Rattle.walk_meaning.specs.declared.flow.Frame.{Frame}
-use Rattle.walk_meaning.specs.Does.{Scene, Does, given, seen, changed, asked, bind, choose, told, gathered, either}
-use Rattle.walk_meaning.specs.Exprs.{builtin_value, any_layer, num_layer, str_layer, value_does, values_do, number_does, text_does}
+use Rattle.walk_meaning.specs.Does.{Scene, Does, given, seen, changed, lifted, bind, choose, told, gathered, either}
+use Rattle.map_ops.specs.Builtins.{builtin_value}
+use Rattle.walk_meaning.specs.Exprs.{any_layer, num_layer, str_layer, value_does, values_do, number_does, text_does}
 use Rattle.walk_meaning.specs.Maps.{add}
 use Rattle.total_laws.proofs.Adding.{is_plain, Gives, gives-then}
 use Rattle.total_laws.proofs.Quiet.{AreLike, IsQuietBuiltin, IsQuiet, AreQuiet}
@@ -54,12 +55,12 @@ module _ (m : MapId) (one two : Scene) (like : AreLike one two) where
       )
 
   pub told-sure : (object : ObjectId) (op : Op) → is_plain one.actor object op → is_plain two.actor object op → Sure (told object op)
-  unfolding bind asked given
+  unfolding bind lifted given
   told-sure object op p q frame = (added m op ++ [], (tt, frame), (p, [], refl, λ r. (refl, refl)), (q, [], refl, λ r. (refl, refl)))
 
   -- a number goes to the table of the scene's actor
   pub add-sure : (n : MapId) (key : List Value) (number : ℤ) → Sure (add n key number)
-  unfolding bind asked given seen
+  unfolding bind lifted given seen
   add-sure n key number frame =
       (added m (ops.Add n key number) ++ [], (tt, frame), (refl, [], refl, λ r. (refl, refl)), (refl, [], refl, λ r. (refl, refl)))
 
@@ -89,13 +90,8 @@ module _ (m : MapId) (one two : Scene) (like : AreLike one two) where
   back a b h = each_back (IsQuiet one two) a b h
 
   same_builtin : (b : NumBuiltin) → IsQuietBuiltin one two b → builtin_value b one.context ≡ builtin_value b two.context
-  same_builtin builtins.Pid q = ap (λ (n : ℕ). pos n) like.pid
-  same_builtin builtins.Tid q = ap (λ (n : ℕ). pos n) like.tid
-  same_builtin builtins.Uid q = ap (λ (n : ℕ). pos n) like.uid
-  same_builtin builtins.Gid q = ap (λ (n : ℕ). pos n) like.gid
-  same_builtin builtins.Cpu q = ap (λ (n : ℕ). pos n) q
-  same_builtin builtins.Nsecs q = ap (λ (n : ℕ). cast_signed w64 n) like.time
-  same_builtin builtins.Elapsed q = λ i. cast_signed w64 ((like.time i + 2 ^ 64 - like.start i) % 2 ^ 64)
+  same_builtin builtins.Cpu q = ap (λ (n : ℕ). cast_signed w64 n) q
+  same_builtin b q = cc
 
   abbrev AnySure : AnyExpr → Type 0
   AnySure a = Calm (made_of a).parts → Sure (value_does a)

@@ -25,8 +25,8 @@ use Rattle.typed_tree.specs.declared.script.Typed.{Typed}
 use Rattle.agg_core.specs.Aggregates.{aggregate}
 use Rattle.agg_core.specs.Answers.{agg_kind_in, answer}
 use Rattle.agg_core.specs.Changes.{rows_of, lost_updates}
-use Rattle.walk_meaning.specs.declared.sweep.Sweep.TheVariants as sweeps
-use Rattle.walk_meaning.specs.Maps.{holder, sweep_op}
+use Rattle.map_ops.specs.declared.sweep.Sweep.TheVariants as sweeps
+use Rattle.map_ops.specs.Holders.{holder, sweep_op}
 use Rattle.map_printer.specs.Ends.{map_texts, warnings}
 use Rattle.map_printer.specs.ItemTexts.{item_text}
 use Rattle.map_printer.specs.Merged.{agg_row, merged, merged_rows, rows_in}

@@ -68,12 +68,7 @@ module _ (one two : Scene) (scope : Scope) (gathers : (number : ℕ) → Gathers
   quiet_builtin : (b : NumBuiltin) → SeesCpu (Numeric b) → IsQuietBuiltin one two b
   quiet_builtin builtins.Cpu (inl e) = e
   quiet_builtin builtins.Cpu (inr none) = absurd none
-  quiet_builtin builtins.Pid h = tt
-  quiet_builtin builtins.Tid h = tt
-  quiet_builtin builtins.Uid h = tt
-  quiet_builtin builtins.Gid h = tt
-  quiet_builtin builtins.Nsecs h = tt
-  quiet_builtin builtins.Elapsed h = tt
+  quiet_builtin b h = tt
 
   quiet_part : (p : Part) → fits scope p ≡ true → Keeps p → SeesCpu p → IsQuiet one two p
   quiet_part (Numeric b) f k h = quiet_builtin b h

@@ -27,10 +27,12 @@ use Rattle.bt_meaning.specs.Totals.{Entry, added}
 use Rattle.walk_meaning.specs.declared.flow.Flow.{Flow}
 use Rattle.walk_meaning.specs.declared.flow.Flow.TheVariants.{Next, Break, Continue, Stop}
 use Rattle.walk_meaning.specs.declared.flow.Frame.{Frame}
-use Rattle.walk_meaning.specs.declared.sweep.Sweep.TheVariants.{Read}
-use Rattle.walk_meaning.specs.Does.{Scene, Does, given, seen, changed, asked, bind, told, in_order}
+use Rattle.map_ops.specs.declared.sweep.Sweep.TheVariants.{Read}
+use Rattle.walk_meaning.specs.Does.{Scene, Does, given, seen, changed, lifted, bind, told, in_order}
 use Rattle.walk_meaning.specs.Exprs.{value_does, values_do, number_does}
-use Rattle.walk_meaning.specs.Maps.{kind_of, holder, holders, sweep_op, asked_from, swept, add}
+use Rattle.walk_meaning.specs.Maps.{kind_of, swept, add}
+use Rattle.map_ops.specs.Holders.{holder, holders, sweep_op}
+use Rattle.map_ops.specs.Asking.{asked_from}
 use Rattle.walk_meaning.specs.Stmts.{plain, stmt_layer, block_layer, stmt_does, block_does, number_or_one, kind_seen, print, if_next, in_turn, first_arm, arm_does, cut, entered, turn, turns, tests, while_true, again}
 use Rattle.walk_meaning.specs.Walk.{walk, fresh, guarded, ending_of, tree_does}
 use Rattle.total_laws.proofs.Adding.{is_plain, Gives, gives-then}
@@ -57,8 +59,8 @@ module _ (m : MapId) (one two : Scene) (like : AreLike one two) where
   JustReads actor frame t = Gives m actor [] (λ p. p.1 ≡ frame) t
 
   asked_from-reads : (scene : Scene) (frame : Frame) (object : ℕ → ObjectId) (op : Op) (replies : List Reply) (first n : ℕ)
-      → ((i : ℕ) → is_plain scene.actor (object i) op) → added m op ≡ [] → JustReads scene.actor frame (asked_from object op replies first n scene frame)
-  unfolding bind asked given
+      → ((i : ℕ) → is_plain scene.actor (object i) op) → added m op ≡ [] → JustReads scene.actor frame (lifted (asked_from object op replies first n) scene frame)
+  unfolding lifted
   asked_from-reads scene frame object op replies first zero fine none = (refl, refl)
   asked_from-reads scene frame object op replies first (suc n) fine none =
       (fine first, [], sym (ap (λ (l : List Entry). l ++ []) none), λ r. asked_from-reads scene frame object op (replies ++ r ∷ []) (first + 1) n fine none)
@@ -84,7 +86,7 @@ module _ (m : MapId) (one two : Scene) (like : AreLike one two) where
 
   shows-gives : (scene : Scene) (start : Frame) (kind : MapKind) (number : MapId) (top : ℕ) (div : ℤ) (w : List Reply × Frame) → w.1 ≡ start
       → Gives m scene.actor [] (λ p. p ≡ (Next, start)) (shows kind number top div w.0 scene w.1)
-  unfolding bind asked given
+  unfolding bind lifted given
   shows-gives scene start kind number top div w e = (tt, [], refl, λ r. (refl, ap (λ (f : Frame). (Next, f)) e))
 
   swept-sure : (kind : MapKind) (number : MapId) (top : ℕ) (div : ℤ) → Gets (bind (swept Read kind number) (λ replies. shows kind number top div replies))

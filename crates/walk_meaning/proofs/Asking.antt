@@ -27,9 +27,10 @@ use Rattle.typed_tree.specs.Scope.{fits, all_fit, is_declared, decl_of, kind_of_
 use Rattle.walk_meaning.specs.declared.flow.Frame.{Frame}
 use Rattle.walk_meaning.specs.declared.view.View.{View}
 use Rattle.walk_meaning.specs.Admits.{AdmitsOf, EmitsOnly}
-use Rattle.walk_meaning.specs.Does.{Scene, Does, given, seen, changed, asked, bind, choose, told, gathered, in_order, either}
+use Rattle.walk_meaning.specs.Does.{Scene, Does, given, seen, changed, lifted, asked, bind, choose, told, gathered, in_order, either}
 use Rattle.walk_meaning.specs.Exprs.{read, any_layer, num_layer, str_layer, value_does, number_does, text_does, step_at}
-use Rattle.walk_meaning.specs.Maps.{part, get, set}
+use Rattle.map_ops.specs.Holders.{part}
+use Rattle.walk_meaning.specs.Maps.{get, set}
 use Rattle.walk_meaning.specs.Served.{IsServed, Fits, scene_in, scope_in}
 use Rattle.walk_meaning.proofs.Declared.{HasShape-more, valued, get_can, set_can}
 
@@ -66,7 +67,7 @@ module _ (setting : Setting) (fine : Item → Type 0) (scene : Scene) where
   bind-good holds after d k p q frame = Admits-bind (IsFineCall setting fine) setting.maps (λ w. holds w.0) (λ w. after w.0) (d scene frame) (λ w. k w.0 scene w.1) (p frame) (λ w h. q w.0 h w.1)
 
   pub asked-good : (object : ObjectId) (op : Op) → CanStep setting object op → EmitsOnly fine op → Good (λ reply. IsReplyOf setting.maps object op reply) (asked object op)
-  unfolding asked
+  unfolding lifted
   asked-good object op p f frame = ((p, f), λ reply kind. kind)
 
   pub told-good : (object : ObjectId) (op : Op) → CanStep setting object op → EmitsOnly fine op → Good Any (told object op)

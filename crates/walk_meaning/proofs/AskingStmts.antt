@@ -1,6 +1,6 @@
 -- What is asked by statements, and by whole bodies.
 use Rattle.std.proofs.Common.{◌≡◌, ◌++◌, ◌+◌, ◌<◌, ℕ, zero, suc, ℤ, pos, List, [], ◌∷◌, Option, Some, None, Bool, true, false, map, refl, sym, ap, subst, arith}
-use Rattle.std.specs.Prelude.{IsTrue, IsSomeAnd, slice_get, is_none, int_le, nat_lt, ◌^◌}
+use Rattle.std.specs.Prelude.{IsTrue, is_none, int_le, nat_lt, ◌^◌}
 use Rattle.std.proofs.lemmas.Bool.{and_parts}
 use Rattle.std.specs.List.{AllByRecursion}
 use Rattle.bt_core.specs.declared.context.Context.{Context}
@@ -19,7 +19,7 @@ use Rattle.bt_core.specs.declared.step.Op.TheVariants as ops
 use Rattle.bt_core.specs.declared.step.Reply.{Reply}
 use Rattle.bt_core.specs.declared.value.Value.{Value}
 use Rattle.bt_core.specs.declared.value.Value.TheVariants.{Int}
-use Rattle.bt_core.specs.Kinds.{HasShape, IsOfShape, IsShared, IsAggregation}
+use Rattle.bt_core.specs.Kinds.{HasShape, IsOfShape}
 use Rattle.bt_core.specs.Interaction.{Interaction, Ended, Asks}
 use Rattle.bt_core.specs.Ports.{Setting, CanStep, IsReplyOf}
 use Rattle.typed_tree.specs.declared.expr.AnyExpr.{AnyExpr}
@@ -30,7 +30,7 @@ use Rattle.typed_tree.specs.declared.stmt.TypedStmt.{TypedStmt, roll-TypedStmt, 
 use Rattle.typed_tree.specs.declared.stmt.TypedStmt.TheOpen.{TypedStmt-F, TypedBlock-F}
 use Rattle.typed_tree.specs.declared.stmt.TypedStmt.TheShapes.{former-TypedStmt-If-0-at-2}
 use Rattle.typed_tree.specs.Parts as tree
-use Rattle.typed_tree.specs.Parts.{Part, Made, made_of, num_parts, parts_in, key_shapes, stmt_parts, block_parts, arm_parts, otherwise_parts, joined, number_parts, set_map_parts, update_map_parts, Ending, Otherwise}
+use Rattle.typed_tree.specs.Parts.{Part, made_of, num_parts, parts_in, key_shapes, stmt_parts, block_parts, arm_parts, otherwise_parts, joined, number_parts, Ending, Otherwise}
 use Rattle.typed_tree.specs.declared.body.TypedBody.{TypedBody}
 use Rattle.typed_tree.specs.Bodies.{predicate_parts}
 use Rattle.typed_tree.specs.Scope.{fits, all_fit, is_there, decl_of, format_of, takes, may_print}
@@ -38,17 +38,20 @@ use Rattle.map_printer.specs.Merged.{merged}
 use Rattle.walk_meaning.specs.declared.flow.Flow.{Flow}
 use Rattle.walk_meaning.specs.declared.flow.Flow.TheVariants.{Next, Break, Continue, Stop}
 use Rattle.walk_meaning.specs.declared.flow.Frame.{Frame}
-use Rattle.walk_meaning.specs.declared.sweep.Sweep.{Sweep}
-use Rattle.walk_meaning.specs.declared.sweep.Sweep.TheVariants.{Read, Clear, Zero}
+use Rattle.map_ops.specs.declared.sweep.Sweep.{Sweep}
+use Rattle.map_ops.specs.declared.sweep.Sweep.TheVariants.{Read, Clear, Zero}
 use Rattle.walk_meaning.specs.declared.view.View.{View}
 use Rattle.walk_meaning.specs.Admits.{Admits, AdmitsOf, EmitsOnly}
-use Rattle.walk_meaning.specs.Does.{Scene, Does, given, seen, changed, asked, bind, told, in_order}
+use Rattle.walk_meaning.specs.Does.{Scene, Does, given, seen, changed, lifted, asked, bind, told, in_order}
 use Rattle.walk_meaning.specs.Exprs.{value_does, values_do, number_does}
-use Rattle.walk_meaning.specs.Maps.{part, get, kind_of, holder, holders, sweep_op, asked_from, swept}
+use Rattle.map_ops.specs.Holders.{part, holder, holders, sweep_op, CanSweep}
+use Rattle.walk_meaning.specs.Maps.{get, kind_of, swept}
+use Rattle.map_ops.specs.Asking.{asked_from, swept as all_swept}
+use Rattle.map_ops.proofs.Sweeping.{sweep_step}
 use Rattle.walk_meaning.specs.Stmts.{stmt_layer, block_layer, stmt_does, block_does, number_or_one, kind_seen, print, clear, zero_all, if_next, in_turn, first_arm, arm_does, cut, entered, turn, turns, tests, while_true, again}
 use Rattle.walk_meaning.specs.Walk.{walk, fresh, guarded, ending_of, tree_does}
-use Rattle.walk_meaning.specs.Served.{CanWalk, IsServed, CanSweep, Fits, scene_in, scope_in}
-use Rattle.walk_meaning.proofs.Asking.{IsFineCall, Admits-bind, Good, given-good, seen-good, changed-good, bind-good, asked-good, told-good, either-good, get-good, values-good, AnyGood, any_good, num_good, split, then-given}
+use Rattle.walk_meaning.specs.Served.{CanWalk, IsServed, Fits, scene_in, scope_in}
+use Rattle.walk_meaning.proofs.Asking.{IsFineCall, Admits-bind, Good, given-good, seen-good, changed-good, bind-good, told-good, either-good, get-good, values-good, AnyGood, any_good, num_good, split, then-given}
 use Rattle.walk_meaning.proofs.Declared.{shared, valued, gathering, get_can, set_can, delete_can, add_can, sweep_can}
 use Rattle.walk_meaning.proofs.TreeParts.{set_head, update_head, gather_head, delete_head}
 
@@ -59,28 +62,6 @@ IsReplyIn setting object op reply = (i : ℕ) × IsReplyOf setting.maps (object 
 abbrev pub view_of : TypedBody → Context → List ℕ → ℕ → ℕ → View
 view_of body context payload actor actors =
     record { body = record { ref_ptr = (0, 0); now = body }; context = record { ref_ptr = (0, 0); now = context }; payload = record { ref_ptr = (0, 0); now = payload }; actor = actor; actors = actors }
-
-some_and : (o : Option MapDecl) (P Q : MapDecl → Type 0) → ((d : MapDecl) → P d → Q d) → IsSomeAnd o P → IsSomeAnd o Q
-some_and None P Q f h = absurd h
-some_and (Some d) P Q f h = f d h
-
-shared_kind : (kind : MapKind) (d : MapDecl) → d.kind ≡ kind → IsShared kind → IsShared d.kind
-shared_kind kind d e h = subst (λ (k : MapKind). IsShared k) (sym e) h
-
-agg_kind : (kind : MapKind) (d : MapDecl) → d.kind ≡ kind → IsAggregation kind → IsAggregation d.kind
-agg_kind kind d e h = subst (λ (k : MapKind). IsAggregation k) (sym e) h
-
--- each object of a sweep takes its operation
-sweep_step : (setting : Setting) (m : MapId) (sweep : Sweep) (kind : MapKind) (actors place : ℕ) → CanSweep setting m kind actors → place < holders kind actors → CanStep setting (holder kind m place) (sweep_op sweep kind m)
-sweep_step setting m Read Ints actors place can l = (l, some_and (slice_get setting.maps m.0) _ _ (λ d e. (shared_kind Ints d e tt, tt)) can.declared)
-sweep_step setting m Read Strs actors place can l = (l, some_and (slice_get setting.maps m.0) _ _ (λ d e. (shared_kind Strs d e tt, tt)) can.declared)
-sweep_step setting m Read (Aggs a) actors place can l = (omega (arith, l, can.tables), some_and (slice_get setting.maps m.0) _ _ (λ d e. agg_kind (Aggs a) d e tt) can.declared)
-sweep_step setting m Clear Ints actors place can l = (l, some_and (slice_get setting.maps m.0) _ _ (λ d e. (shared_kind Ints d e tt, tt)) can.declared)
-sweep_step setting m Clear Strs actors place can l = (l, some_and (slice_get setting.maps m.0) _ _ (λ d e. (shared_kind Strs d e tt, tt)) can.declared)
-sweep_step setting m Clear (Aggs a) actors place can l = (omega (arith, l, can.tables), some_and (slice_get setting.maps m.0) _ _ (λ d e. agg_kind (Aggs a) d e tt) can.declared)
-sweep_step setting m Zero Ints actors place can l = (l, some_and (slice_get setting.maps m.0) _ _ (λ d e. (shared_kind Ints d e tt, tt)) can.declared)
-sweep_step setting m Zero Strs actors place can l = (l, some_and (slice_get setting.maps m.0) _ _ (λ d e. (shared_kind Strs d e tt, tt)) can.declared)
-sweep_step setting m Zero (Aggs a) actors place can l = (omega (arith, l, can.tables), some_and (slice_get setting.maps m.0) _ _ (λ d e. agg_kind (Aggs a) d e tt) can.declared)
 
 -- what a body emits: the values of its `printf` calls by their formats, rows of its maps that were read, and cuts
 pub record EmitsFine (v : View) (setting : Setting) (fine : Item → Type 0) : Type 0 where
@@ -129,12 +110,11 @@ module _ (v : View) (setting : Setting) (served : IsServed v setting) (fine : It
   one_more P (r ∷ rs) reply h p = (h.0, one_more P rs reply h.1 p)
 
   asked_from-good : (object : ℕ → ObjectId) (op : Op) (n first : ℕ) (replies : List Reply) → EmitsOnly fine op → ((i : ℕ) → i < first + n → CanStep setting (object i) op)
-      → AllByRecursion (IsReplyIn setting object op) replies → Does_good (AllByRecursion (IsReplyIn setting object op)) (asked_from object op replies first n)
-  asked_from-good object op zero first replies f can are = given-good setting fine (scene_in v) (AllByRecursion (IsReplyIn setting object op)) replies are
-  asked_from-good object op (suc n) first replies f can are =
-      bind-good setting fine (scene_in v) (λ reply. IsReplyOf setting.maps (object first) op reply) (AllByRecursion (IsReplyIn setting object op)) (asked (object first) op) (λ reply. asked_from object op (replies ++ reply ∷ []) (first + 1) n)
-      (asked-good setting fine (scene_in v) (object first) op (can first (omega arith)) f)
-      (λ reply kind. asked_from-good object op n (first + 1) (replies ++ reply ∷ []) f (λ i l. can i (omega (arith, l))) (one_more (IsReplyIn setting object op) replies reply are (first, kind)))
+      → AllByRecursion (IsReplyIn setting object op) replies → Does_good (AllByRecursion (IsReplyIn setting object op)) (lifted (asked_from object op replies first n))
+  unfolding lifted
+  asked_from-good object op zero first replies f can are frame = are
+  asked_from-good object op (suc n) first replies f can are frame =
+      ((can first (omega arith), f), λ reply kind. asked_from-good object op n (first + 1) (replies ++ reply ∷ []) f (λ i l. can i (omega (arith, l))) (one_more (IsReplyIn setting object op) replies reply are (first, kind)) frame)
 
   sweep_fine : (sweep : Sweep) (kind : MapKind) (m : MapId) → EmitsOnly fine (sweep_op sweep kind m)
   sweep_fine Read Ints m = tt
@@ -152,8 +132,9 @@ module _ (v : View) (setting : Setting) (served : IsServed v setting) (fine : It
 
   swept-good : (sweep : Sweep) (kind : MapKind) (m : MapId) → CanSweep setting m kind v.actors → Does_good (Swept sweep kind m) (swept sweep kind m)
   swept-good sweep kind m can =
-      bind-good setting fine (scene_in v) (λ n. n ≡ holders kind v.actors) (Swept sweep kind m) _ (λ n. asked_from (holder kind m) (sweep_op sweep kind m) [] 0 n) (seen-is (λ n. n ≡ holders kind v.actors) _ (λ frame. refl))
-      (λ n e. asked_from-good (holder kind m) (sweep_op sweep kind m) n 0 [] (sweep_fine sweep kind m) (λ i l. sweep_step setting m sweep kind v.actors i can (omega (arith, l, e))) tt)
+      bind-good setting fine (scene_in v) (λ n. n ≡ v.actors) (Swept sweep kind m) _ (λ n. lifted (all_swept sweep kind m n)) (seen-is (λ n. n ≡ v.actors) _ (λ frame. refl))
+      (λ n e. asked_from-good (holder kind m) (sweep_op sweep kind m) (holders kind n) 0 [] (sweep_fine sweep kind m)
+      (λ i l. let below : i < holders kind n = omega (arith, l) in sweep_step setting m sweep kind v.actors i can (subst (λ (a : ℕ). i < holders kind a) e below)) tt)
 
   kind-good : (m : MapId) → Does_good (λ k. k ≡ kind_of m v.body.now.maps) (kind_seen m)
   kind-good m = seen-is (λ k. k ≡ kind_of m v.body.now.maps) _ (λ frame. refl)

@@ -25,8 +25,9 @@ use Rattle.typed_tree.specs.Parts.{FieldOf}
 use Rattle.typed_tree.specs.Scope.{decl_of, same_shape, same_shapes, same_kind, same_field, same_field_kind, same_bool, has_field, is_shape, shape_of_field, is_agg, is_shared, is_there, is_declared, is_fine_decl, is_fine_kind, kind_of_shape, fits}
 use Rattle.std.specs.Str.{bytes_eq}
 use Rattle.walk_meaning.specs.declared.view.View.{View}
-use Rattle.walk_meaning.specs.Maps.{part, kind_of, kind_or_numbers}
-use Rattle.walk_meaning.specs.Served.{IsServed, CanSweep, NamesShared, HoldsUnder, scope_in, least_length}
+use Rattle.map_ops.specs.Holders.{part, kind_in, CanSweep}
+use Rattle.walk_meaning.specs.Maps.{kind_of}
+use Rattle.walk_meaning.specs.Served.{IsServed, NamesShared, HoldsUnder, scope_in, least_length}
 
 -- ---- equal shapes
 
@@ -215,7 +216,7 @@ pub add_can : (v : View) (setting : Setting) (m : MapId) (keys : List Shape) (ke
 add_can v setting m keys key n s f h =
     (omega (arith, s.can.actor_is_below, s.can.actors_are_the_ports), rw f.here (f.kind, subst (λ (l : List Shape). HasShape l key) (sym f.shaped) h))
 
-sweep_case : (v : View) (setting : Setting) (m : MapId) (o : Option MapDecl) → IsServed v setting → decl_of m.0 v.body.now.maps ≡ o → is_there o ≡ true → CanSweep setting m (kind_or_numbers o) v.actors
+sweep_case : (v : View) (setting : Setting) (m : MapId) (o : Option MapDecl) → IsServed v setting → decl_of m.0 v.body.now.maps ≡ o → is_there o ≡ true → CanSweep setting m (kind_in o) v.actors
 sweep_case v setting m None s e h = cc
 sweep_case v setting m (Some decl) s e h =
     record { declared = rw (served setting.maps m.0 v.body.now.maps decl s.can.maps_are_served e) refl; tables = s.can.actors_are_the_ports }

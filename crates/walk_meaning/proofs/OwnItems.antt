@@ -1,38 +1,34 @@
 -- Items that a walk emits are of the script's formats and maps.
-use Rattle.std.proofs.Common.{◌≡◌, ◌++◌, ℕ, suc, ℤ, pos, List, [], ◌∷◌, Option, Some, None, Bool, true, false, All, refl, sym, ap, ◌∙◌, subst, arith, rules}
+use Rattle.std.proofs.Common.{◌≡◌, ◌++◌, ℕ, suc, ℤ, pos, List, [], ◌∷◌, Option, Some, None, All, refl, sym, ◌∙◌, subst, arith, rules}
 use Rattle.std.specs.Prelude.{IsTrue, IsSomeAnd, slice_get, int_le, ◌≤ℤ◌, ◌==◌, if◌then◌else◌}
-use Rattle.std.specs.List.{AllByRecursion, list_all}
+use Rattle.std.specs.List.{AllByRecursion}
 use Rattle.std.proofs.lemmas.List.Elements.{All-from_recursion}
 use Rattle.bt_core.specs.declared.context.Context.{Context}
-use Rattle.bt_core.specs.declared.item.Item.{Item}
 use Rattle.bt_core.specs.declared.item.Item.TheVariants as items
 use Rattle.bt_core.specs.declared.map.MapDecl.{MapDecl}
 use Rattle.bt_core.specs.declared.map.MapId.{MapId}
 use Rattle.bt_core.specs.declared.map.MapKind.{MapKind}
 use Rattle.bt_core.specs.declared.map.MapKind.TheVariants.{Ints, Strs, Aggs}
 use Rattle.bt_core.specs.declared.map.Shape.{Shape}
-use Rattle.bt_core.specs.declared.step.ObjectId.TheVariants.{Shared, Cpu}
-use Rattle.bt_core.specs.declared.step.Op.TheVariants as ops
 use Rattle.bt_core.specs.declared.step.Reply.{Reply}
 use Rattle.bt_core.specs.declared.step.Reply.TheVariants as replies
 use Rattle.bt_core.specs.declared.value.Value.{Value}
 use Rattle.bt_core.specs.Kinds.{HasShape}
-use Rattle.bt_core.specs.Ports.{Setting, IsReplyOf}
+use Rattle.bt_core.specs.Ports.{Setting}
 use Rattle.fmt_text.specs.declared.piece.Piece.{Piece}
 use Rattle.fmt_text.specs.Arguments.{argument_shapes, AreArgumentsOf}
 use Rattle.map_printer.specs.Fits.{IsReadReply, IsRowOf}
 use Rattle.map_printer.specs.ItemTexts.{IsItemOf, CanPrint}
 use Rattle.map_printer.specs.Merged.{merged}
 use Rattle.typed_tree.specs.declared.body.TypedBody.{TypedBody}
-use Rattle.typed_tree.specs.Scope.{decl_of, format_of, is_there, takes, same_shapes}
-use Rattle.walk_meaning.specs.declared.sweep.Sweep.TheVariants.{Read}
-use Rattle.walk_meaning.specs.declared.view.View.{View}
+use Rattle.typed_tree.specs.Scope.{decl_of, format_of, is_there, takes}
+use Rattle.map_ops.specs.declared.sweep.Sweep.TheVariants.{Read}
 use Rattle.walk_meaning.specs.Admits.{AdmitsOf, EmitsOnly}
-use Rattle.walk_meaning.specs.Maps.{holder, kind_of, kind_or_numbers, sweep_op}
+use Rattle.map_ops.specs.Holders.{holder, kind_in, sweep_op}
 use Rattle.walk_meaning.specs.Walk.{walk}
 use Rattle.walk_meaning.specs.Served.{CanWalk}
 use Rattle.walk_meaning.proofs.Asking.{IsFineCall}
-use Rattle.walk_meaning.proofs.AskingStmts.{IsReplyIn, view_of, EmitsFine, walk-fine, weaker-calls}
+use Rattle.walk_meaning.proofs.AskingStmts.{IsReplyIn, walk-fine, weaker-calls}
 use Rattle.walk_meaning.proofs.Declared.{same_shapes-equal, served, served_pick}
 
 -- what is found of a list by its number stands in the script's list there
@@ -74,8 +70,8 @@ module _ (setting : Setting) (formats : List (List Piece)) (body : TypedBody) (c
       (subst (λ (l : List Shape). HasShape l values) (sym (same_shapes-equal (argument_shapes pieces) hs named)) shaped)
 
   rows_fine : (m : MapId) (top : ℕ) (div : ℤ) (rs : List Reply) (found : Option MapDecl) → decl_of m.0 body.maps ≡ found → IsTrue (is_there found) → IsTrue (int_le (pos 1) div)
-      → AllByRecursion (IsReplyIn setting (holder (kind_or_numbers found) m) (sweep_op Read (kind_or_numbers found) m)) rs
-      → IsItemOf formats setting.maps (items.Map m (merged (kind_or_numbers found) rs) top div)
+      → AllByRecursion (IsReplyIn setting (holder (kind_in found) m) (sweep_op Read (kind_in found) m)) rs
+      → IsItemOf formats setting.maps (items.Map m (merged (kind_in found) rs) top div)
   rows_fine m top div rs None e named divides are = cc
   rows_fine m top div rs (Some decl) e named divides are =
       let there = served setting.maps m.0 body.maps decl can.maps_are_served e in

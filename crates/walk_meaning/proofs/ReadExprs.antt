@@ -22,11 +22,13 @@ use Rattle.typed_tree.specs.Parts as tree
 use Rattle.typed_tree.specs.Parts.{Made, Part, made_of, num_parts, str_parts, parts_in, key_shapes, keyed_parts}
 use Rattle.typed_tree.specs.Scope.{fits, all_fit, is_declared, is_there, decl_of, kind_of_shape}
 use Rattle.walk_meaning.specs.declared.flow.Frame.{Frame}
-use Rattle.walk_meaning.specs.declared.sweep.Sweep.TheVariants.{Read}
+use Rattle.map_ops.specs.declared.sweep.Sweep.TheVariants.{Read}
 use Rattle.walk_meaning.specs.declared.view.View.{View}
-use Rattle.walk_meaning.specs.Does.{Scene, Does, given, asked, bind, then, choose, gathered, in_order, either}
+use Rattle.walk_meaning.specs.Does.{Scene, Does, given, lifted, asked, bind, then, choose, gathered, in_order, either}
 use Rattle.walk_meaning.specs.Exprs.{read, builtin, command, number_field, text_field, step_variable, any_layer, num_layer, str_layer, value_does, number_does, text_does, step_at}
-use Rattle.walk_meaning.specs.Maps.{number_of, text_of, value_of, number_variable, text_variable, part, get, set, next, kind_of, holder, sweep_op}
+use Rattle.map_ops.specs.Values.{number_of, text_of, value_of, next}
+use Rattle.walk_meaning.specs.Maps.{number_variable, text_variable, get, set, kind_of}
+use Rattle.map_ops.specs.Holders.{part, holder, sweep_op}
 use Rattle.walk_meaning.specs.Reading.{Reader, number_under, text_under, stepped_under, num_by, str_by, value_by, number_by, text_by}
 use Rattle.bt_core.specs.Same.{SameTo}
 use Rattle.walk_meaning.specs.Served.{Fits, scene_in, scope_in}
@@ -81,7 +83,7 @@ module _ (comes : Call → Reply → Type 0) (scene : Scene) where
   mapped-tied {A} R d e f p q frame = SameTo-mapped comes (Ends R) (Ends (λ (a b : A). a ≡ b)) (d scene frame) (e scene frame) (λ z. (f z.0, z.1)) (p frame) (λ w z h. (q w.0 z.0 h.0, h.1))
 
   pub asked-tied : (object : ObjectId) (op : Op) → Tied (λ (r s : Reply). (r ≡ s) × comes (call_at object op) r) (asked object op) (asked object op)
-  unfolding asked
+  unfolding lifted
   asked-tied object op frame = (refl, λ reply h. ((refl, h), refl))
 
   pub choose-tied : {A : Type 0} (b : Bool) (one other first second : Does A) → Tied Equal one first → Tied Equal other second → Tied Equal (choose b one other) (choose b first second)

@@ -36,18 +36,21 @@ use Rattle.typed_tree.specs.Scope.{fits, all_fit, is_there, is_declared, decl_of
 use Rattle.walk_meaning.specs.declared.flow.Flow.{Flow}
 use Rattle.walk_meaning.specs.declared.flow.Flow.TheVariants.{Next, Break, Continue, Stop}
 use Rattle.walk_meaning.specs.declared.flow.Frame.{Frame}
-use Rattle.walk_meaning.specs.declared.sweep.Sweep.TheVariants.{Read}
+use Rattle.map_ops.specs.declared.sweep.Sweep.TheVariants.{Read}
 use Rattle.walk_meaning.specs.declared.view.View.{View}
-use Rattle.walk_meaning.specs.Does.{Scene, Does, given, seen, changed, asked, bind, told, in_order}
+use Rattle.walk_meaning.specs.Does.{Scene, Does, given, seen, changed, lifted, bind, told, in_order}
 use Rattle.walk_meaning.specs.Exprs.{value_does, values_do, number_does}
-use Rattle.walk_meaning.specs.Maps.{number_of, get, set, kind_of, holder, holders, sweep_op, asked_from, swept}
+use Rattle.map_ops.specs.Values.{number_of}
+use Rattle.walk_meaning.specs.Maps.{get, set, kind_of, swept}
+use Rattle.map_ops.specs.Holders.{holder, holders, sweep_op}
+use Rattle.map_ops.specs.Asking.{asked_from, swept as all_swept}
 use Rattle.walk_meaning.specs.Reading.{Reader, number_under, updated_under, value_by, values_by, number_by, number_or_one_by, printed, arm_by, stmt_by, block_by, guarded_by, tree_by, walk_by}
 use Rattle.bt_core.specs.Same.{SameTo}
 use Rattle.walk_meaning.specs.Stmts.{plain, stmt_layer, block_layer, stmt_does, block_does, number_or_one, kind_seen, print, clear, zero_all, jump_to, cut, update_at, if_next, in_turn, first_arm, arm_does, entered, turn, turns, tests, while_true, again}
 use Rattle.walk_meaning.specs.Walk.{walk, fresh, guarded, tree_does}
 use Rattle.walk_meaning.specs.Served.{Fits, scene_in, scope_in}
 use Rattle.bt_core.proofs.SameLaws.{SameTo-and_then}
-use Rattle.walk_meaning.proofs.ReadExprs.{ReadsAlike, call_at, Ends, Tied, given-tied, self-tied, bind-tied, bind-same, first-same, asked-tied, either-tied, AnyRead, any_read, num_read, halves, values-same, number-tied}
+use Rattle.walk_meaning.proofs.ReadExprs.{ReadsAlike, call_at, Ends, Tied, self-tied, bind-tied, bind-same, first-same, either-tied, AnyRead, any_read, num_read, halves, values-same, number-tied}
 use Rattle.walk_meaning.proofs.TreeParts.{update_head}
 
 module _ (comes : Call → Reply → Type 0) (reader : Reader) (v : View) (reads : ReadsAlike comes reader v) where
@@ -92,25 +95,22 @@ module _ (comes : Call → Reply → Type 0) (reader : Reader) (v : View) (reads
       sym (flat_map-append (rows_in kind) rs (r ∷ []))
 
   asked_from-tied : (kind : MapKind) (object : ℕ → ObjectId) (op : Op) (n start : ℕ) (replies : List Reply) → ((i : ℕ) (reply : Reply) → comes (call_at (object i) op) reply → reader.rows kind reply ≡ rows_in kind reply) →
-      flat_map (reader.rows kind) replies ≡ flat_map (rows_in kind) replies → Tied comes (scene_in v) (Rows kind) (asked_from object op replies start n) (asked_from object op replies start n)
-  asked_from-tied kind object op zero start replies alike h = given-tied comes (scene_in v) (Rows kind) replies replies (refl, h)
-  asked_from-tied kind object op (suc n) start replies alike h =
-      bind-tied comes (scene_in v) (λ (r s : Reply). (r ≡ s) × comes (call_at (object start) op) r) (Rows kind) (asked (object start) op) (asked (object start) op)
-      (λ reply. asked_from object op (replies ++ reply ∷ []) (start + 1) n) (λ reply. asked_from object op (replies ++ reply ∷ []) (start + 1) n) (asked-tied comes (scene_in v) (object start) op)
-      (λ r s i. subst (λ (x : Reply). Tied comes (scene_in v) (Rows kind) (asked_from object op (replies ++ r ∷ []) (start + 1) n) (asked_from object op (replies ++ x ∷ []) (start + 1) n)) i.0
-      (asked_from-tied kind object op n (start + 1) (replies ++ r ∷ []) alike (rows-more kind replies r h (alike start r i.1))))
+      flat_map (reader.rows kind) replies ≡ flat_map (rows_in kind) replies → Tied comes (scene_in v) (Rows kind) (lifted (asked_from object op replies start n)) (lifted (asked_from object op replies start n))
+  unfolding lifted
+  asked_from-tied kind object op zero start replies alike h frame = ((refl, h), refl)
+  asked_from-tied kind object op (suc n) start replies alike h frame =
+      (refl, λ r i. asked_from-tied kind object op n (start + 1) (replies ++ r ∷ []) alike (rows-more kind replies r h (alike start r i)) frame)
 
   abbrev kind_here : MapId → MapKind
   kind_here m = kind_of m v.body.now.maps
 
-  -- how many objects hold a map
-  abbrev count : MapId → Does ℕ
-  count m = seen (λ (scene : Scene) (frame : Frame). holders (kind_here m) scene.actors)
+  abbrev actors : Does ℕ
+  actors = seen (λ (scene : Scene) (frame : Frame). scene.actors)
 
   swept-tied : (m : MapId) → IsTrue (is_there (decl_of m.0 v.body.now.maps)) → Tied comes (scene_in v) (Rows (kind_here m)) (swept Read (kind_here m) m) (swept Read (kind_here m) m)
   swept-tied m named =
-      bind-same comes (scene_in v) (Rows (kind_here m)) (count m) (count m) (λ n. asked_from (holder (kind_here m) m) (sweep_op Read (kind_here m) m) [] 0 n) (λ n. asked_from (holder (kind_here m) m) (sweep_op Read (kind_here m) m) [] 0 n) (self (count m))
-      (λ n. asked_from-tied (kind_here m) (holder (kind_here m) m) (sweep_op Read (kind_here m) m) n 0 [] (λ i reply h. reads.rows m i reply named h) refl)
+      bind-same comes (scene_in v) (Rows (kind_here m)) actors actors (λ n. lifted (all_swept Read (kind_here m) m n)) (λ n. lifted (all_swept Read (kind_here m) m n)) (self actors)
+      (λ n. asked_from-tied (kind_here m) (holder (kind_here m) m) (sweep_op Read (kind_here m) m) (holders (kind_here m) n) 0 [] (λ i reply h. reads.rows m i reply named h) refl)
 
   shown-same : (m : MapId) (top : ℕ) (div : ℤ) (kind : MapKind) (rs qs : List Reply) → Rows kind rs qs → Same (plain (told Out (ops.Emit (items.Map m (merged_rows (flat_map (reader.rows kind) rs)) top div)))) (plain (told Out (ops.Emit (items.Map m (merged kind qs) top div))))
   unfolding merged

@@ -17,9 +17,11 @@ use Rattle.bt_core.specs.Kinds.{IsOfKind}
 use Rattle.bt_core.specs.Ports.{Setting, IsReplyOf, IsSharedReply, IsTableReply}
 use Rattle.map_printer.specs.Merged.{rows_in}
 use Rattle.typed_tree.specs.declared.body.TypedBody.{TypedBody}
-use Rattle.walk_meaning.specs.declared.sweep.Sweep.TheVariants.{Read}
+use Rattle.map_ops.specs.declared.sweep.Sweep.TheVariants.{Read}
 use Rattle.walk_meaning.specs.declared.view.View.{View}
-use Rattle.walk_meaning.specs.Maps.{number_of, text_of, value_of, kind_of, holder, sweep_op}
+use Rattle.map_ops.specs.Values.{number_of, text_of, value_of}
+use Rattle.walk_meaning.specs.Maps.{kind_of}
+use Rattle.map_ops.specs.Holders.{holder, sweep_op}
 use Rattle.walk_meaning.specs.Reading.{Reader, TakesWhatIsThere, own_reader, walk_by}
 use Rattle.walk_meaning.specs.SameUnder.{SameUnder, SameAlways, IsReplyTo}
 use Rattle.walk_meaning.specs.Walk.{walk}

@@ -1,13 +1,13 @@
 -- What expressions and statements do: they read what the body sees, change the frame of its run, and ask objects for replies.
-use Rattle.std.specs.Prelude.{ℕ, ℤ, Bool, true, false, not, List, [], ◌∷◌, ◌++◌}
+use Rattle.std.specs.Prelude.{ℕ, ℤ, Bool, true, false, List, [], ◌∷◌, ◌++◌}
 use Rattle.bt_core.specs.declared.context.Context.{Context}
 use Rattle.bt_core.specs.declared.map.MapDecl.{MapDecl}
 use Rattle.bt_core.specs.declared.map.MapId.{MapId}
 use Rattle.bt_core.specs.declared.step.ObjectId.{ObjectId}
 use Rattle.bt_core.specs.declared.step.Op.{Op}
 use Rattle.bt_core.specs.declared.step.Reply.{Reply}
-use Rattle.bt_core.specs.Arithmetic.{is_zero}
 use Rattle.bt_core.specs.Interaction.{Interaction, Ended, ask, and_then}
+use Rattle.map_ops.specs.Values.{holds}
 use Rattle.walk_meaning.specs.declared.flow.Frame.{Frame}
 
 -- what the run of a body sees: the context, the payload, its actor, how many actors there are, and the maps that the body names
@@ -34,9 +34,13 @@ seen look scene frame = Ended (look scene frame, frame)
 unfoldable pub changed : (Frame → Frame) → Does (Unit {0})
 changed change scene frame = Ended (tt, change frame)
 
+-- what objects are asked, whatever is seen; the frame stays as it is
+unfoldable pub lifted : {A : Type 0} → Interaction A → Does A
+lifted t scene frame = and_then t (λ value. Ended (value, frame))
+
 -- one call, and its reply
-unfoldable pub asked : ObjectId → Op → Does Reply
-asked object op scene frame = and_then (ask object op) (λ reply. Ended (reply, frame))
+abbrev pub asked : ObjectId → Op → Does Reply
+asked object op = lifted (ask object op)
 
 -- the one, and then the next, which may depend on the value of the one
 unfoldable pub bind : {A B : Type 0} → Does A → (A → Does B) → Does B
@@ -54,10 +58,6 @@ then one next = bind one (λ value. next)
 -- one call, whose reply says nothing
 abbrev pub told : ObjectId → Op → Does (Unit {0})
 told object op = then (asked object op) (given tt)
-
--- a number counts as true where it is not 0
-abbrev pub holds : ℤ → Bool
-holds n = not (is_zero n)
 
 -- a test, and then only what it asks for
 abbrev pub either : {A : Type 0} → Does ℤ → Does A → Does A → Does A

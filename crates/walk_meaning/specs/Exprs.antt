@@ -1,8 +1,6 @@
 -- What expressions do.
-use Rattle.std.specs.Prelude.{ℕ, ◌+◌, ◌-◌, ◌%◌, ◌^◌, ℤ, pos, Bool, not, cond, List, map}
-use Rattle.std.specs.Int.{w64, cast_signed}
+use Rattle.std.specs.Prelude.{ℕ, ℤ, pos, Bool, not, cond, List, map}
 use Rattle.std.specs.Str.{bytes_eq}
-use Rattle.bt_core.specs.declared.context.Context.{Context}
 use Rattle.bt_core.specs.declared.map.MapId.{MapId}
 use Rattle.bt_core.specs.declared.operator.BinOp.{BinOp}
 use Rattle.bt_core.specs.declared.operator.UnOp.{UnOp}
@@ -14,21 +12,12 @@ use Rattle.tracefs_format.specs.declared.field.Field.{Field}
 use Rattle.typed_tree.specs.declared.expr.AnyExpr.{AnyExpr, fold-AnyExpr}
 use Rattle.typed_tree.specs.declared.expr.AnyExpr.TheOpen.{NumExpr-F, StrExpr-F, AnyExpr-F}
 use Rattle.typed_tree.specs.declared.expr.NumBuiltin.{NumBuiltin}
-use Rattle.typed_tree.specs.declared.expr.NumBuiltin.TheVariants.{Pid, Tid, Uid, Gid, Cpu, Nsecs, Elapsed}
 use Rattle.typed_tree.specs.declared.expr.NumExpr.{NumExpr, fold-NumExpr}
 use Rattle.typed_tree.specs.declared.expr.StrExpr.{StrExpr, fold-StrExpr}
-use Rattle.walk_meaning.specs.Does.{Does, given, seen, bind, then, holds, either, in_order}
-use Rattle.walk_meaning.specs.Maps.{number_of, text_of, number_variable, text_variable, assigned, get, set, next}
-
--- the builtins: times are read as the signed numbers of their 64 bits, and `elapsed` counts modulo 2^64
-abbrev pub builtin_value : NumBuiltin → Context → ℤ
-builtin_value Pid context = pos context.pid
-builtin_value Tid context = pos context.tid
-builtin_value Uid context = pos context.uid
-builtin_value Gid context = pos context.gid
-builtin_value Cpu context = pos context.cpu
-builtin_value Nsecs context = cast_signed w64 context.time
-builtin_value Elapsed context = cast_signed w64 ((context.time + 2 ^ 64 - context.start) % 2 ^ 64)
+use Rattle.map_ops.specs.Builtins.{builtin_value}
+use Rattle.walk_meaning.specs.Does.{Does, given, seen, bind, then, either, in_order}
+use Rattle.map_ops.specs.Values.{holds, number_of, text_of, next}
+use Rattle.walk_meaning.specs.Maps.{number_variable, text_variable, assigned, get, set}
 
 abbrev pub builtin : NumBuiltin → Does ℤ
 builtin b = seen (λ scene frame. builtin_value b scene.context)

@@ -31,9 +31,11 @@ use Rattle.typed_tree.specs.declared.stmt.TypedBlock.{TypedBlock, fold-TypedBloc
 use Rattle.typed_tree.specs.declared.stmt.TypedStmt.TheOpen.{TypedStmt-F}
 use Rattle.walk_meaning.specs.declared.flow.Flow.{Flow}
 use Rattle.walk_meaning.specs.declared.flow.Flow.TheVariants.{Next}
-use Rattle.walk_meaning.specs.declared.sweep.Sweep.TheVariants.{Read}
+use Rattle.map_ops.specs.declared.sweep.Sweep.TheVariants.{Read}
 use Rattle.walk_meaning.specs.Does.{Does, given, asked, bind, then, told, either, in_order}
-use Rattle.walk_meaning.specs.Maps.{number_of, text_of, value_of, part, set, next, swept}
+use Rattle.map_ops.specs.Values.{number_of, text_of, value_of, next}
+use Rattle.map_ops.specs.Holders.{part}
+use Rattle.walk_meaning.specs.Maps.{set, swept}
 use Rattle.walk_meaning.specs.Exprs.{any_layer, num_layer, str_layer}
 use Rattle.walk_meaning.specs.Stmts.{plain, set_variable, set_map, update_variable, gather, printf, kind_seen, delete_at, first_arm, block_or_next, while_true, stmt_layer, block_layer}
 use Rattle.walk_meaning.specs.Walk.{fresh, ending_of}

@@ -68,8 +68,3 @@ HoldsUnder setting m kind key = IsSomeAnd (slice_get setting.maps m.0) (λ decl.
 -- the types and parts of expressions
 abbrev pub all_made : List AnyExpr → List Made_parts
 all_made es = map made_of es
-
--- the map is declared and holds this, and the tables of so many actors are there
-pub record CanSweep (setting : Setting) (m : MapId) (kind : MapKind) (actors : ℕ) : Type 0 where
-  pub declared : IsSomeAnd (slice_get setting.maps m.0) (λ decl. decl.kind ≡ kind)
-  pub tables : setting.actors ≡ actors

@@ -19,9 +19,10 @@ use Rattle.typed_tree.specs.declared.stmt.TypedStmt.TheOpen.{TypedStmt-F, TypedB
 use Rattle.bt_core.specs.declared.ending.Ending.TheVariants as endings
 use Rattle.walk_meaning.specs.declared.flow.Flow.{Flow}
 use Rattle.walk_meaning.specs.declared.flow.Flow.TheVariants.{Next, Break, Continue, Stop}
-use Rattle.walk_meaning.specs.declared.sweep.Sweep.TheVariants.{Read, Clear, Zero}
+use Rattle.map_ops.specs.declared.sweep.Sweep.TheVariants.{Read, Clear, Zero}
 use Rattle.walk_meaning.specs.Does.{Does, given, seen, changed, bind, then, told, either, in_order}
-use Rattle.walk_meaning.specs.Maps.{number_of, number_variable, assigned, get, set, delete, add, kind_of, swept}
+use Rattle.map_ops.specs.Values.{number_of}
+use Rattle.walk_meaning.specs.Maps.{number_variable, assigned, get, set, delete, add, kind_of, swept}
 use Rattle.walk_meaning.specs.Exprs.{value_does, values_do, number_does}
 
 -- a statement after which the next one follows

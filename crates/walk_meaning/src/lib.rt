@@ -3,5 +3,4 @@
 
 pub mod flow;
 pub mod laws;
-pub mod sweep;
 pub mod view;

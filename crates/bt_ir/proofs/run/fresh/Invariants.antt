@@ -1,5 +1,5 @@
 use Rattle.std.proofs.Common.{◌≡◌, take, map}
-use Rattle.ir_code.specs.Values.{unassigned}
+use Rattle.map_ops.specs.Values.{unassigned}
 use Rattle.bt_ir.proofs.run.fresh.Given as goal
 
 abbrev pub invariant-loop-shape : goal.invariant-loop-shape

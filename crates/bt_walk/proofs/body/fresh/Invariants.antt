@@ -1,5 +1,5 @@
 use Rattle.std.proofs.Common.{◌≡◌, take, map}
-use Rattle.walk_meaning.specs.Walk.{unassigned}
+use Rattle.map_ops.specs.Values.{unassigned}
 use Rattle.bt_walk.proofs.body.fresh.Given as goal
 
 abbrev pub invariant-loop-shape : goal.invariant-loop-shape

@@ -3,7 +3,7 @@ use Rattle.std.proofs.lemmas.Int.{to_z-of_z}
 use Rattle.std.proofs.lemmas.Result.{err_from_is_err_and}
 use Rattle.bt_core.specs.Arithmetic.{binary_value}
 use Rattle.bt_core.proofs.InteractionLaws.{Performed-none}
-use Rattle.walk_meaning.specs.Maps.{number_of}
+use Rattle.map_ops.specs.Values.{number_of}
 use Rattle.bt_walk.proofs.Binds.{Part-first, Part-next, Whole-next, Given-done}
 use Rattle.bt_walk.proofs.stmt.update_at.Goals as goal
 

@@ -1,7 +1,7 @@
 use Rattle.std.proofs.Common.{refl, sym, ap, ◌∙◌, SFits, w64, rules}
 use Rattle.std.proofs.lemmas.Int.{to_z-of_z}
 use Rattle.std.proofs.lemmas.Result.{err_from_is_err_and}
-use Rattle.walk_meaning.specs.Maps.{number_of}
+use Rattle.map_ops.specs.Values.{number_of}
 use Rattle.bt_walk.proofs.Binds.{Part-first, Whole-next, Given-done, Seen-done, Changed-done}
 use Rattle.bt_walk.proofs.stmt.update_variable.Goals as goal
 

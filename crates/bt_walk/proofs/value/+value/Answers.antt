@@ -5,7 +5,7 @@ use Rattle.bt_core.specs.declared.map.Shape.TheVariants as shapes
 use Rattle.bt_core.specs.declared.value.Value.TheVariants.{Int}
 use Rattle.bt_core.specs.Arithmetic.{truth}
 use Rattle.typed_tree.specs.Parts.{made_of, key_shapes}
-use Rattle.walk_meaning.specs.Maps.{number_of, text_of}
+use Rattle.map_ops.specs.Values.{number_of, text_of}
 use Rattle.walk_meaning.specs.Served.{Fits, IsServed, all_made}
 use Rattle.bt_walk.proofs.Binds.{Part-first, Part-next, Whole-next, Walked-next, Given-done, Seen-done, Changed-done, Number-done, Number-seen, Whole-yes, Whole-no, Part-yes, Part-no, Walked-yes, Walked-no}
 use Rattle.walk_meaning.proofs.Declared.{shared, valued, few_values, keyed, held, field_inside, part_below}

@@ -2,7 +2,7 @@ use Rattle.std.proofs.Common.{◌≡◌, cond, refl, sym, ap, ◌∙◌, SFits, 
 use Rattle.std.proofs.lemmas.Int.{to_z-of_z}
 use Rattle.std.proofs.lemmas.Result.{err_from_is_err_and}
 use Rattle.bt_core.proofs.InteractionLaws.{Performed-none}
-use Rattle.walk_meaning.specs.Maps.{number_of, next}
+use Rattle.map_ops.specs.Values.{number_of, next}
 use Rattle.bt_walk.proofs.Binds.{Part-first, Part-next, Whole-next, Number-done}
 use Rattle.bt_walk.proofs.value.step_map.Goals as goal
 

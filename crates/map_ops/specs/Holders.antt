@@ -1,19 +1,31 @@
--- What is done to all the objects that hold a map.
-use Rattle.std.specs.Prelude.{◌≡◌, ℕ, zero, suc, ◌+◌, List, [], ◌∷◌, ◌++◌, slice_get, IsSomeAnd}
+-- The objects that hold maps, and the operations on whole maps.
+use Rattle.std.specs.Prelude.{◌≡◌, ℕ, List, Option, Some, None, slice_get, IsSomeAnd}
 use Rattle.bt_core.specs.declared.limits.TheConstants.{PARTS}
 use Rattle.bt_core.specs.declared.map.MapDecl.{MapDecl}
 use Rattle.bt_core.specs.declared.map.MapId.{MapId}
 use Rattle.bt_core.specs.declared.map.MapKind.{MapKind}
-use Rattle.bt_core.specs.declared.map.MapKind.TheVariants.{Aggs}
+use Rattle.bt_core.specs.declared.map.MapKind.TheVariants.{Ints, Aggs}
 use Rattle.bt_core.specs.declared.step.ObjectId.{ObjectId}
 use Rattle.bt_core.specs.declared.step.ObjectId.TheVariants.{Shared, Cpu}
 use Rattle.bt_core.specs.declared.step.Op.{Op}
 use Rattle.bt_core.specs.declared.step.Op.TheVariants as ops
-use Rattle.bt_core.specs.declared.step.Reply.{Reply}
-use Rattle.bt_core.specs.Interaction.{Interaction, Ended, ask, and_then}
+use Rattle.bt_core.specs.declared.value.Value.{Value}
+use Rattle.bt_core.specs.KeyBytes.{part_of}
 use Rattle.bt_core.specs.Ports.{Setting}
-use Rattle.helper_abi.specs.declared.sweep.Sweep.{Sweep}
-use Rattle.helper_abi.specs.declared.sweep.Sweep.TheVariants.{Read, Clear, Zero}
+use Rattle.map_ops.specs.declared.sweep.Sweep.{Sweep}
+use Rattle.map_ops.specs.declared.sweep.Sweep.TheVariants.{Read, Clear, Zero}
+
+-- the part of a shared map that a key is in
+abbrev pub part : MapId → List Value → ObjectId
+part m key = Shared m (part_of key)
+
+-- what a map holds, by its declaration; each map that is named is declared
+abbrev pub kind_in : Option MapDecl → MapKind
+kind_in None = Ints
+kind_in (Some decl) = decl.kind
+
+abbrev pub kind_of : List MapDecl → MapId → MapKind
+kind_of maps m = kind_in (slice_get maps m.0)
 
 -- the objects that hold a map: the tables of all actors for an aggregation, and otherwise the map's parts
 abbrev pub holder : MapKind → MapId → ℕ → ObjectId
@@ -32,15 +44,6 @@ sweep_op Clear (Aggs kind) m = ops.ClearOf m
 sweep_op Clear kind m = ops.Clear
 sweep_op Zero (Aggs kind) m = ops.ZeroOf m
 sweep_op Zero kind m = ops.Zero
-
--- behind the replies that there are, those of so many objects from this one on
-abbrev pub asked_from : (ℕ → ObjectId) → Op → List Reply → ℕ → ℕ → Interaction (List Reply)
-asked_from object op replies first zero = Ended replies
-asked_from object op replies first (suc n) = and_then (ask (object first) op) (λ reply. asked_from object op (replies ++ reply ∷ []) (first + 1) n)
-
--- each object that holds a map of this kind is asked once, in order
-abbrev pub swept : Sweep → MapKind → MapId → ℕ → Interaction (List Reply)
-swept sweep kind m actors = asked_from (holder kind m) (sweep_op sweep kind m) [] 0 (holders kind actors)
 
 -- the map is declared and holds this, and the tables of so many actors are there
 pub record CanSweep (setting : Setting) (m : MapId) (kind : MapKind) (actors : ℕ) : Type 0 where

@@ -1,17 +1,13 @@
 -- Numbers, strings and replies as values.
-use Rattle.std.specs.Prelude.{ℕ, ◌+◌, ◌-◌, ◌%◌, ◌^◌, ℤ, pos, Bool, not, cond, List, [], ◌∷◌, Option, Some, None}
-use Rattle.std.specs.Int.{w64, cast_signed}
-use Rattle.bt_core.specs.declared.context.Context.{Context}
+use Rattle.std.specs.Prelude.{ℕ, ℤ, pos, Bool, not, cond, List, [], Option, Some, None}
 use Rattle.bt_core.specs.declared.map.Shape.{Shape}
 use Rattle.bt_core.specs.declared.map.Shape.TheVariants as shapes
-use Rattle.bt_core.specs.declared.operator.BinOp.TheVariants.{Add as Plus, Sub as Minus}
+use Rattle.bt_core.specs.declared.operator.BinOp.TheVariants.{Add, Sub}
 use Rattle.bt_core.specs.declared.step.Reply.{Reply}
 use Rattle.bt_core.specs.declared.step.Reply.TheVariants as replies
 use Rattle.bt_core.specs.declared.value.Value.{Value}
 use Rattle.bt_core.specs.declared.value.Value.TheVariants.{Int, Str}
 use Rattle.bt_core.specs.Arithmetic.{is_zero, binary_value}
-use Rattle.typed_tree.specs.declared.expr.NumBuiltin.{NumBuiltin}
-use Rattle.typed_tree.specs.declared.expr.NumBuiltin.TheVariants.{Pid, Tid, Uid, Gid, Cpu, Nsecs, Elapsed}
 
 -- the number of a value and its text; a value of the other type is 0 and empty
 abbrev pub number_of : Value → ℤ
@@ -52,25 +48,4 @@ holds n = not (is_zero n)
 
 -- one more or one less
 abbrev pub next : Bool → ℤ → ℤ
-next plus n = binary_value (cond plus Plus Minus) n (pos 1)
-
--- the builtins: times are read as the signed numbers of their 64 bits, and `elapsed` counts modulo 2^64
-abbrev pub builtin_value : NumBuiltin → Context → ℤ
-builtin_value Pid context = pos context.pid
-builtin_value Tid context = pos context.tid
-builtin_value Uid context = pos context.uid
-builtin_value Gid context = pos context.gid
-builtin_value Cpu context = pos context.cpu
-builtin_value Nsecs context = cast_signed w64 context.time
-builtin_value Elapsed context = cast_signed w64 ((context.time + 2 ^ 64 - context.start) % 2 ^ 64)
-
--- the value at the end of a stack, and the stack without it
-abbrev pub top : List Value → Value
-top [] = Int (pos 0)
-top (v ∷ []) = v
-top (v ∷ w ∷ vs) = top (w ∷ vs)
-
-abbrev pub below : List Value → List Value
-below [] = []
-below (v ∷ []) = []
-below (v ∷ w ∷ vs) = v ∷ below (w ∷ vs)
+next plus n = binary_value (cond plus Add Sub) n (pos 1)

@@ -1,5 +1,5 @@
 -- Objects that are asked one after another.
-use Rattle.std.proofs.Common.{◌≡◌, ℕ, suc, ◌+◌, ◌-◌, ◌<◌, ◌≤◌, ◌++◌, List, [], ◌∷◌, Option, Some, None, refl, ap, subst, arith}
+use Rattle.std.proofs.Common.{◌≡◌, ℕ, suc, ◌+◌, ◌-◌, ◌<◌, ◌≤◌, ◌++◌, List, [], ◌∷◌, Option, Some, None, refl, sym, ap, subst, arith}
 use Rattle.std.specs.Prelude.{All, IsSomeAnd, slice_get, get_or}
 use Rattle.std.proofs.lemmas.List.Elements.{All-push}
 use Rattle.bt_core.specs.declared.agg.Agg.{Agg}
@@ -15,13 +15,14 @@ use Rattle.bt_core.specs.declared.step.Reply.TheVariants as replies
 use Rattle.bt_core.specs.declared.step.Step.{Step}
 use Rattle.bt_core.specs.declared.value.Value.{Value}
 use Rattle.bt_core.specs.Interaction.{Interaction, and_then, ask, Whole, Part, Left, MakesStep, last_reply}
-use Rattle.bt_core.specs.Kinds.{HasShape, IsOfKind, IsAggOf}
-use Rattle.bt_core.specs.Ports.{Setting, IsReplyOf, IsSharedReply, IsTableReply}
+use Rattle.bt_core.specs.Kinds.{HasShape, IsOfKind, IsAggOf, IsShared, IsAggregation}
+use Rattle.bt_core.specs.Ports.{Setting, CanStep, IsReplyOf, IsSharedReply, IsTableReply}
 use Rattle.bt_core.proofs.InteractionLaws.{Left-here, Left-Whole, Left-Part, Left-is, Left-and_then, Performed-none, Whole-ask, Whole-Ended}
 use Rattle.map_printer.specs.Merged.{HasRowsOf}
-use Rattle.helper_abi.specs.declared.sweep.Sweep.{Sweep}
-use Rattle.helper_abi.specs.declared.sweep.Sweep.TheVariants.{Read}
-use Rattle.helper_abi.specs.Sweeps.{holder, sweep_op, asked_from, CanSweep}
+use Rattle.map_ops.specs.declared.sweep.Sweep.{Sweep}
+use Rattle.map_ops.specs.declared.sweep.Sweep.TheVariants.{Read, Clear, Zero}
+use Rattle.map_ops.specs.Holders.{holder, holders, sweep_op, CanSweep}
+use Rattle.map_ops.specs.Asking.{asked_from}
 
 pub sweep-start : (object : ℕ → ObjectId) (op : Op) (n : ℕ) (old : List Step) → Left (asked_from object op [] 0 n) old old (asked_from object op [] 0 (n - 0))
 sweep-start object op n old = Left-is _ _ _ _ _ (Left-here _ _) (let e : n ≡ n - 0 = omega arith in ap (λ (k : ℕ). asked_from object op [] 0 k) e)
@@ -82,3 +83,27 @@ pub rows-next : (setting : Setting) (m : MapId) (sweep : Sweep) (kind : MapKind)
     (sweep ≡ Read → All (HasRowsOf kind) before) → sweep ≡ Read → All (HasRowsOf kind) (before ++ reply ∷ [])
 rows-next setting m sweep kind actors place before reply can h rows e =
     All-push (HasRowsOf kind) before reply (rows e) (rows_of setting m kind place reply can.declared (subst (λ (s : Sweep). IsReplyOf setting.maps (holder kind m place) (sweep_op s kind m) reply) e h))
+
+-- ---- operations
+
+some_and : (o : Option MapDecl) (P Q : MapDecl → Type 0) → ((d : MapDecl) → P d → Q d) → IsSomeAnd o P → IsSomeAnd o Q
+some_and None P Q f h = absurd h
+some_and (Some d) P Q f h = f d h
+
+shared_kind : (kind : MapKind) (d : MapDecl) → d.kind ≡ kind → IsShared kind → IsShared d.kind
+shared_kind kind d e h = subst (λ (k : MapKind). IsShared k) (sym e) h
+
+agg_kind : (kind : MapKind) (d : MapDecl) → d.kind ≡ kind → IsAggregation kind → IsAggregation d.kind
+agg_kind kind d e h = subst (λ (k : MapKind). IsAggregation k) (sym e) h
+
+-- each object of a sweep takes its operation
+pub sweep_step : (setting : Setting) (m : MapId) (sweep : Sweep) (kind : MapKind) (actors place : ℕ) → CanSweep setting m kind actors → place < holders kind actors → CanStep setting (holder kind m place) (sweep_op sweep kind m)
+sweep_step setting m Read Ints actors place can l = (l, some_and (slice_get setting.maps m.0) _ _ (λ d e. (shared_kind Ints d e tt, tt)) can.declared)
+sweep_step setting m Read Strs actors place can l = (l, some_and (slice_get setting.maps m.0) _ _ (λ d e. (shared_kind Strs d e tt, tt)) can.declared)
+sweep_step setting m Read (Aggs a) actors place can l = (omega (arith, l, can.tables), some_and (slice_get setting.maps m.0) _ _ (λ d e. agg_kind (Aggs a) d e tt) can.declared)
+sweep_step setting m Clear Ints actors place can l = (l, some_and (slice_get setting.maps m.0) _ _ (λ d e. (shared_kind Ints d e tt, tt)) can.declared)
+sweep_step setting m Clear Strs actors place can l = (l, some_and (slice_get setting.maps m.0) _ _ (λ d e. (shared_kind Strs d e tt, tt)) can.declared)
+sweep_step setting m Clear (Aggs a) actors place can l = (omega (arith, l, can.tables), some_and (slice_get setting.maps m.0) _ _ (λ d e. agg_kind (Aggs a) d e tt) can.declared)
+sweep_step setting m Zero Ints actors place can l = (l, some_and (slice_get setting.maps m.0) _ _ (λ d e. (shared_kind Ints d e tt, tt)) can.declared)
+sweep_step setting m Zero Strs actors place can l = (l, some_and (slice_get setting.maps m.0) _ _ (λ d e. (shared_kind Strs d e tt, tt)) can.declared)
+sweep_step setting m Zero (Aggs a) actors place can l = (omega (arith, l, can.tables), some_and (slice_get setting.maps m.0) _ _ (λ d e. agg_kind (Aggs a) d e tt) can.declared)

@@ -2,9 +2,10 @@ use Rattle.std.proofs.Common.{◌≡◌, ◌-◌, []}
 use Rattle.std.specs.Prelude.{All}
 use Rattle.bt_core.specs.Interaction.{Left}
 use Rattle.map_printer.specs.Merged.{HasRowsOf}
-use Rattle.helper_abi.specs.declared.sweep.Sweep.TheVariants.{Read}
-use Rattle.helper_abi.specs.Sweeps.{holder, holders, sweep_op, asked_from}
-use Rattle.helper_abi.proofs.sweep.ask_each.Given as goal
+use Rattle.map_ops.specs.declared.sweep.Sweep.TheVariants.{Read}
+use Rattle.map_ops.specs.Holders.{holder, holders, sweep_op}
+use Rattle.map_ops.specs.Asking.{asked_from}
+use Rattle.map_ops.proofs.sweep.ask_each.Given as goal
 
 abbrev pub invariant-loop-place : goal.invariant-loop-place
 invariant-loop-place g l = record {

@@ -2,9 +2,9 @@ use Rattle.std.proofs.Common.{◌<◌, ◌≤◌, ◌∙◌, refl, arith}
 use Rattle.std.proofs.lemmas.List.Elements.{All-nil}
 use Rattle.std.proofs.lemmas.Result.{err_from_is_err_and}
 use Rattle.map_printer.specs.Merged.{HasRowsOf}
-use Rattle.helper_abi.specs.Sweeps.{holders}
-use Rattle.helper_abi.proofs.Sweeping.{sweep-start, sweep-stop, sweep-next, sweep-drop, sweep-end, rows-next}
-use Rattle.helper_abi.proofs.sweep.ask_each.Goals as goal
+use Rattle.map_ops.specs.Holders.{holders}
+use Rattle.map_ops.proofs.Sweeping.{sweep-start, sweep-stop, sweep-next, sweep-drop, sweep-end, rows-next}
+use Rattle.map_ops.proofs.sweep.ask_each.Goals as goal
 
 pub loop-place-init : goal.loop-place-init
 loop-place-init g c = record {

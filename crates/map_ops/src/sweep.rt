@@ -1,11 +1,10 @@
 // Operations on all the objects that hold a map.
 ghost use Rattle.std.specs.Prelude.{◌≡◌, All, IfOk};
-ghost use Rattle.bt_core.specs.Ports.{CanStep};
-ghost use Rattle.map_printer.specs.Merged.{HasRowsOf};
 ghost use Rattle.bt_core.specs.Interaction.{Performed};
-ghost use Rattle.ir_code.specs.declared.sweep.Sweep.TheVariants as sweeps;
-ghost use Rattle.ir_code.specs.Asking.{holder, holders, sweep_op, swept};
-ghost use Rattle.bt_ir.specs.Running.{CanSweep};
+ghost use Rattle.map_printer.specs.Merged.{HasRowsOf};
+ghost use Rattle.map_ops.specs.declared.sweep.Sweep.TheVariants as sweeps;
+ghost use Rattle.map_ops.specs.Asking.{swept};
+ghost use Rattle.map_ops.specs.Holders.{holder, holders, sweep_op, CanSweep};
 
 use bt_core::items::Items;
 use bt_core::limits::PARTS;
@@ -13,8 +12,15 @@ use bt_core::map::{MapId, MapKind};
 use bt_core::memory::Memory;
 use bt_core::port::Port;
 use bt_core::step::{ObjectId, Op, Reply};
-use ir_code::sweep::Sweep;
 use std::alloc::Global;
+
+/// What is done to a whole map: its rows are read, or taken away, or their values are made 0 or empty.
+#[derive(Clone, Copy, PartialEq, Eq, Debug)]
+pub enum Sweep {
+    Read,
+    Clear,
+    Zero,
+}
 
 /// An object that holds a map of this kind: the table of an actor, or a part of the map.
 fn holder(kind: MapKind, map: MapId, place: u32) -> ObjectId
@@ -53,12 +59,14 @@ fn sweep_op(sweep: Sweep, kind: MapKind, map: MapId) -> Op
 }
 
 /// Asks each object that holds a map of this kind once, in order, and gives their replies.
+///
+/// After [`Memory`] the first of them were asked.
 pub fn ask_each<P: Port>(
     alloc: Global,
-    actors: u32,
     sweep: Sweep,
     kind: MapKind,
     map: MapId,
+    actors: u32,
     port: &mut P,
 ) -> Result<Items<Reply>, Memory>
     requires { CanSweep (P.fixed port.old).setting map kind actors }

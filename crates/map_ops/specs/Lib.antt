@@ -1,0 +1,4 @@
+pub mod Values
+pub mod Builtins
+pub mod Holders
+pub mod Asking

@@ -1,0 +1,8 @@
+//! What is done to maps: the objects that hold them, what is asked of those, and what the replies tell.
+#![tactic(auto)]
+
+pub mod access;
+pub mod builtin;
+pub mod printing;
+pub mod sweep;
+pub mod values;
