@@ -1,5 +1,5 @@
 -- The text of emitted items, item by item.
-use Rattle.std.proofs.Common.{◌≡◌, ◌++◌, ℕ, zero, suc, ◌<◌, ◌≤◌, ◌+◌, List, [], ◌∷◌, length, map, take, get_or, refl, sym, ap, ◌∙◌, subst, append-nil}
+use Rattle.std.proofs.Common.{◌≡◌, ◌++◌, ℕ, zero, suc, ◌<◌, ◌≤◌, ◌+◌, List, [], ◌∷◌, length, map, take, get_or, refl, sym, ap, ◌∙◌, subst, append-nil, arith}
 use Rattle.std.specs.List.{AllByRecursion, cons_option, filter_map, flat_map}
 use Rattle.std.proofs.lemmas.List.{take_more, take_all, map-append}
 use Rattle.std.proofs.lemmas.List.Concat.{flat_map-append}
@@ -18,10 +18,8 @@ use Rattle.walk_meaning.specs.Admits.{EmitsOnly}
 use Rattle.map_printer.specs.Ends.{end_text}
 use Rattle.map_printer.specs.ItemTexts.{item_text}
 use Rattle.typed_tree.specs.declared.script.Typed.{Typed}
+use Rattle.bt_meaning.specs.Texts.{item_of}
 use Rattle.bt_meaning.specs.Prints.{emitted, item_in, rows_after, lost_after, of_maps, printed_text}
-
-abbrev pub item_of : Emitted → Item
-item_of e = e.item.now
 
 -- ---- what is told of emitted items
 
@@ -77,14 +75,14 @@ module _ (P : Item → Type 0) where
   all_own [] own = tt
   all_own (s ∷ steps) own = one_own s.op (emitted steps) own.0 (all_own steps own.1)
 
-  at_place : (found : List Emitted) (i : ℕ) (e : Emitted) → i < length found → e ≡ get_or found i e → AllByRecursion P (map item_of found) → P (item_of e)
+  pub at_place : (found : List Emitted) (i : ℕ) (e : Emitted) → i < length found → e ≡ get_or found i e → AllByRecursion P (map item_of found) → P (item_of e)
   at_place [] i e lt at h = absurd (omega arith)
   at_place (x ∷ found) zero e lt at h = subst (λ (x : Emitted). P (item_of x)) (sym at) h.0
   at_place (x ∷ found) (suc i) e lt at h = at_place found i e (omega arith) at h.1
 
-  pub item_is_own : (found : List Emitted) (steps : List Step) (i : ℕ) (e : Emitted) → map told found ≡ filter_map emit_of steps
-      → AllByRecursion (λ (s : Step). EmitsOnly P s.op) steps → i < length found → e ≡ get_or found i e → P (item_of e)
-  item_is_own found steps i e is own lt at = at_place found i e lt at (subst (AllByRecursion P) (sym (items_are found steps is)) (all_own steps own))
+  pub items_are_own : (found : List Emitted) (steps : List Step) → map told found ≡ filter_map emit_of steps
+      → AllByRecursion (λ (s : Step). EmitsOnly P s.op) steps → AllByRecursion P (map item_of found)
+  items_are_own found steps is own = subst (AllByRecursion P) (sym (items_are found steps is)) (all_own steps own)
 
 -- ---- their texts
 
@@ -99,9 +97,8 @@ module _ (f : Item → List ℕ) where
       ∙ ap (flat_map f) (sym (map-append item_of (take i found) (e ∷ []))) ∙ ap (λ l. flat_map f (map item_of l)) (sym one)
 
   -- all items
-  pub all_texts : (found : List Emitted) (steps : List Step) (i : ℕ) (text : List ℕ) → map told found ≡ filter_map emit_of steps → length found ≤ i
-      → text ≡ flat_map f (map item_of (take i found)) → text ≡ flat_map f (emitted steps)
-  all_texts found steps i text is done e = e ∙ ap (λ l. flat_map f (map item_of l)) (take_all i found done) ∙ ap (flat_map f) (items_are found steps is)
+  pub all_texts : (found : List Emitted) (i : ℕ) (text : List ℕ) → length found ≤ i → text ≡ flat_map f (map item_of (take i found)) → text ≡ flat_map f (map item_of found)
+  all_texts found i text done e = e ∙ ap (λ l. flat_map f (map item_of l)) (take_all i found done)
 
 -- the text of a run, by its two parts
 pub whole_text : (script : Typed) (cpus : ℕ) (steps : List Step) (rows : List (List (List Value × Cell))) (lost first end text : List ℕ)

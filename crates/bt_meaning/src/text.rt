@@ -1,37 +1,56 @@
 // The text of a run.
-ghost use Rattle.std.specs.Prelude.{◌≡◌, ◌++◌, ℕ, List, OnOk, IfOk, length};
+ghost use Rattle.std.specs.Prelude.{◌≡◌, ◌++◌, ℕ, List, OnOk, IfOk, length, map};
 ghost use Rattle.std.specs.List.{AllByRecursion, flat_map};
 ghost use Rattle.map_printer.specs.Ends.{AllRowsFit, end_text};
-ghost use Rattle.map_printer.specs.ItemTexts.{item_text};
+ghost use Rattle.map_printer.specs.ItemTexts.{item_text, IsItemOf};
 ghost use Rattle.bt_meaning.specs.Prints.{emitted, lost_after, of_maps, printed_text, rows_after};
-ghost use Rattle.bt_meaning.specs.Texts.{EmitOwn};
+ghost use Rattle.bt_meaning.specs.Texts.{EmitOwn, item_of};
 
-use bt_core::item::Cell;
+use bt_core::item::{Cell, Item};
 use bt_core::items::Items;
 use bt_core::key::Key;
 use bt_core::memory::Memory;
 use map_printer::item_text::print_item;
 use map_printer::printing::print_end;
 use std::alloc::Global;
+use step_list::emits::Emitted;
 use typed_tree::script::Typed;
 use weave::woven::Woven;
+
+/// Writes the text of an item.
+fn write_item(out: &mut Vec<u8>, alloc: Global, script: &Typed, item: &Item) -> Result<(), Memory>
+    requires { IsItemOf script.now.formats script.now.maps item.now }
+    ensures { OnOk result (out.new.items ≡ out.old.items ++ item_text script.now.formats script.now.maps item.now) }
+{
+    let text = print_item(
+        alloc,
+        script.formats.as_slice(),
+        script.maps.as_slice(),
+        item,
+    )?;
+    out.extend_from_slice(text.as_slice())?;
+    Ok(())
+}
+
+/// The texts of items, one behind the other.
+fn texts_of(alloc: Global, script: &Typed, emits: &[Emitted]) -> Result<Vec<u8>, Memory>
+    requires { AllByRecursion (IsItemOf script.now.formats script.now.maps) (map item_of emits.now) }
+    ensures { IfOk result (λ text. text.items ≡ flat_map (item_text script.now.formats script.now.maps) (map item_of emits.now)) }
+{
+    let mut text = Vec::new(alloc);
+    for emit in emits {
+        write_item(&mut text, alloc, script, emit.item)?;
+    }
+    Ok(text)
+}
 
 /// The text of the items that steps emitted, in the order of the steps.
 fn emitted_text(alloc: Global, script: &Typed, steps: &Woven) -> Result<Vec<u8>, Memory>
     requires { EmitOwn script.now steps.now }
     ensures { IfOk result (λ text. text.items ≡ flat_map (item_text script.now.formats script.now.maps) (emitted steps.now)) }
 {
-    let mut text = Vec::new(alloc);
     let emits = steps.emitted(alloc)?;
-    for emit in &emits {
-        let piece = print_item(
-            alloc,
-            script.formats.as_slice(),
-            script.maps.as_slice(),
-            emit.item,
-        )?;
-        text.extend_from_slice(piece.as_slice())?;
-    }
+    let text = texts_of(alloc, script, emits.as_slice())?;
     Ok(text)
 }
 
