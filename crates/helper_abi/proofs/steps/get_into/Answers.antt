@@ -10,4 +10,4 @@ use Rattle.helper_abi.proofs.steps.get_into.Goals as goal
 pub returns-in-Ok-clause-called : goal.returns-in-Ok-clause-called
 returns-in-Ok-clause-called g c =
     let frame = ap (λ (s : Spaces). Gave 0 s.frame) c.put.ensures in
-    Whole-and_then (map.got c.args.map c.args.key) (λ value. Ended (wrote c.args.memory.now c.args.to value)) _ _ _ c.in-Ok.field-0 _ c.in-Ok.ensures.performed (Whole-Ended _ _ _ (sym frame))
+    Whole-and_then (map.got c.args.map c.args.key) (λ value. Ended (wrote c.args.memory.now c.args.to value)) _ _ _ c.in-Ok.value _ c.in-Ok.ensures.performed (Whole-Ended _ _ _ (sym frame))
