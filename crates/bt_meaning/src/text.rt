@@ -1,48 +1,36 @@
 // The text of a run.
 ghost use Rattle.std.specs.Prelude.{◌≡◌, ◌++◌, ℕ, List, OnOk, IfOk, length};
 ghost use Rattle.std.specs.List.{AllByRecursion, flat_map};
-ghost use Rattle.bt_core.specs.declared.step.Step.{Step as StepValue};
 ghost use Rattle.map_printer.specs.Ends.{AllRowsFit, end_text};
-ghost use Rattle.map_printer.specs.ItemTexts.{item_text, IsItemOf};
-ghost use Rattle.walk_meaning.specs.Admits.{EmitsOnly};
-ghost use Rattle.bt_meaning.specs.Prints.{emitted, item_in, lost_after, of_maps, printed_text, rows_after};
-ghost use Rattle.bt_meaning.specs.Texts.{EmitOwn, op_text};
+ghost use Rattle.map_printer.specs.ItemTexts.{item_text};
+ghost use Rattle.bt_meaning.specs.Prints.{emitted, lost_after, of_maps, printed_text, rows_after};
+ghost use Rattle.bt_meaning.specs.Texts.{EmitOwn};
 
 use bt_core::item::Cell;
 use bt_core::items::Items;
 use bt_core::key::Key;
 use bt_core::memory::Memory;
-use bt_core::step::{Op, Step};
 use map_printer::item_text::print_item;
 use map_printer::printing::print_end;
 use std::alloc::Global;
 use typed_tree::script::Typed;
-
-/// Writes what an operation emits, if anything.
-fn write_emitted(out: &mut Vec<u8>, alloc: Global, script: &Typed, op: &Op) -> Result<(), Memory>
-    requires { EmitsOnly (IsItemOf script.now.formats script.now.maps) op.now }
-    ensures { OnOk result (out.new.items ≡ out.old.items ++ op_text script.now.formats script.now.maps op.now) }
-{
-    if let Op::Emit(item) = op {
-        let text = print_item(
-            alloc,
-            script.formats.as_slice(),
-            script.maps.as_slice(),
-            item,
-        )?;
-        out.extend_from_slice(text.as_slice())?;
-    }
-    Ok(())
-}
+use weave::woven::Woven;
 
 /// The text of the items that steps emitted, in the order of the steps.
-fn emitted_text(alloc: Global, script: &Typed, steps: &[Step]) -> Result<Vec<u8>, Memory>
+fn emitted_text(alloc: Global, script: &Typed, steps: &Woven) -> Result<Vec<u8>, Memory>
     requires { EmitOwn script.now steps.now }
     ensures { IfOk result (λ text. text.items ≡ flat_map (item_text script.now.formats script.now.maps) (emitted steps.now)) }
 {
     let mut text = Vec::new(alloc);
-    for step in steps {
-        write_emitted(&mut text, alloc, script, &step.op)?;
+    let emits = steps.emitted(alloc)?;
+    for emit in &emits {
+        let piece = print_item(
+            alloc,
+            script.formats.as_slice(),
+            script.maps.as_slice(),
+            emit.item,
+        )?;
+        text.extend_from_slice(piece.as_slice())?;
     }
     Ok(text)
 }
@@ -55,7 +43,7 @@ fn emitted_text(alloc: Global, script: &Typed, steps: &[Step]) -> Result<Vec<u8>
 pub fn text_of_run(
     alloc: Global,
     script: &Typed,
-    steps: &[Step],
+    steps: &Woven,
     rows: &[Items<(Key, Cell)>],
     lost: &[u64],
 ) -> Result<Items<u8>, Memory>

@@ -1,6 +1,5 @@
 pub mod EndLemmas
 pub mod Finals
-pub mod ItemLemmas
 pub mod NewLemmas
 pub mod ObjectLemmas
 pub mod RunLemmas

@@ -5,7 +5,9 @@ use Rattle.std.specs.List.{AllByRecursion, filter_map, flat_map, cons_option}
 use Rattle.std.specs.List.Sorted.{IsPermutation}
 use Rattle.std.proofs.lemmas.List.Elements.{All-from_recursion}
 use Rattle.std.proofs.lemmas.List.Sorted.{IsPermutation-sym}
+use Rattle.bt_core.specs.declared.item.Cell.{Cell}
 use Rattle.bt_core.specs.declared.item.Item.{Item}
+use Rattle.bt_core.specs.declared.value.Value.{Value}
 use Rattle.bt_core.specs.declared.map.MapDecl.{MapDecl}
 use Rattle.bt_core.specs.declared.step.ObjectId.{ObjectId}
 use Rattle.bt_core.specs.declared.step.ObjectId.TheVariants.{Shared, Cpu, Clock, Out}
@@ -37,6 +39,7 @@ use Rattle.actor_plan.specs.Plans.{Plan}
 use Rattle.bt_meaning.specs.Replays.{Replay}
 use Rattle.bt_meaning.specs.Serial.{unstamped, serial_steps}
 use Rattle.bt_meaning.proofs.Eachs.{each_from, each_has, each_so}
+use Rattle.bt_meaning.specs.Texts.{EmitOwn}
 use Rattle.bt_meaning.specs.Walks.{replay_of}
 use Rattle.bt_meaning.proofs.OwnCalls.{all_fine, script_steps}
 use Rattle.bt_meaning.proofs.SerialLaws.{serial_interleaves}
@@ -44,11 +47,15 @@ use Rattle.bpf_insn.specs.declared.insn.Insn.{Insn}
 use Rattle.replay_laws.specs.Agree.{AllReplies}
 use Rattle.replay_laws.specs.HeldReplies.{IsHeldReply}
 use Rattle.code_bodies.specs.Coding.{code_replay, coding}
+use Rattle.script_programs.specs.Programs.{AreCodesOf}
+use Rattle.step_list.specs.Lists.{steps_in}
 use Rattle.run_base.specs.declared.job.Job.{Job}
 use Rattle.bt_run.specs.declared.objects.Objects.{Objects}
 use Rattle.run_base.specs.Jobs.{cpus_in, world_for}
 use Rattle.bt_run.specs.Made.{IsMade}
 use Rattle.bt_run.specs.Moments.{IsMoment}
+use Rattle.bt_run.specs.Ran.{HasRun}
+use Rattle.bt_run.specs.declared.run.Ran.{Ran}
 use Rattle.run_base.specs.Worlds.{World, IsOwn}
 use Rattle.bt_run.proofs.Finals.{at_objects, by_actor, replayed, operations_same, operations_serial}
 use Rattle.run_base.proofs.KindLemmas.{operations_by}
@@ -98,12 +105,12 @@ module _ (script : Typed) (cpus : ℕ) (xs ys : List Step) (same : (object : Obj
   unfolding printed_text
   text_same e = λ i. flat_map (item_text script.formats script.maps) (e i) ++ end_text script.maps (rows_same 0 script.maps i) (losses_same 0 script.maps i)
 
-  -- the text is written in two parts
-  pub text_is : (text items end : List ℕ) → text ≡ items ++ end → items ≡ flat_map (item_text script.formats script.maps) (emitted ys)
-      → end ≡ end_text script.maps (of_maps (rows_after script.maps cpus xs) 0 script.maps) (of_maps (lost_after script.maps cpus xs) 0 script.maps)
+  -- what is told of the maps after the one list is told after the other
+  pub text_then : (rows : List (List (List Value × Cell))) (lost : List ℕ) (text : List ℕ)
+      → rows ≡ of_maps (rows_after script.maps cpus xs) 0 script.maps → lost ≡ of_maps (lost_after script.maps cpus xs) 0 script.maps
+      → ((cpus : ℕ) → rows ≡ of_maps (rows_after script.maps cpus ys) 0 script.maps → lost ≡ of_maps (lost_after script.maps cpus ys) 0 script.maps → text ≡ printed_text script cpus ys)
       → text ≡ printed_text script cpus ys
-  unfolding printed_text
-  text_is text items end t a b = t ∙ (λ i. a i ++ (b ∙ (λ k. end_text script.maps (rows_same 0 script.maps k) (losses_same 0 script.maps k))) i)
+  text_then rows lost text are were is = is cpus (are ∙ rows_same 0 script.maps) (were ∙ losses_same 0 script.maps)
 
 -- ---- whole runs
 
@@ -125,41 +132,40 @@ module _ (job : Job) (is_job : IsJob job.typed job.attached job.recording) (code
   coded_replayed : IsReplayed (code_replay job.typed codes job.attached job.recording) steps
   coded_replayed = replayed job plans objects made steps n is moved order (serial_interleaves coded is_job.valid is_job.in_turn (λ actor. refl))
 
-  pub run_replayed : IsReplayed (replay_of job.typed job.attached job.recording) steps
+  run_replayed : IsReplayed (replay_of job.typed job.attached job.recording) steps
   run_replayed = means coded_replayed
 
   -- the lists of the serial runs are one
   made_held : AllReplies IsHeldReply made
   made_held = each_from (λ (s : Step). IsHeldReply s.reply) made (λ s h. each_has (λ (s : Step). IsHeldReply s.reply) steps s held (has_moved made steps s moved h))
 
-  pub same_serial : serial_steps (code_replay job.typed codes job.attached job.recording) ≡ serial_steps (replay_of job.typed job.attached job.recording)
+  same_serial : serial_steps (code_replay job.typed codes job.attached job.recording) ≡ serial_steps (replay_of job.typed job.attached job.recording)
   same_serial = same_list (subst (AllReplies IsHeldReply) (sym is.is_serial) (held_unstamped made made_held))
 
-  pub run_serial_steps : (object : ObjectId) → map unstamped (on_object object steps) ≡ on_object object (serial_steps (replay_of job.typed job.attached job.recording))
+  run_serial_steps : (object : ObjectId) → map unstamped (on_object object steps) ≡ on_object object (serial_steps (replay_of job.typed job.attached job.recording))
   run_serial_steps object = at_objects job plans objects made steps n is moved order object ∙ ap (on_object object) same_serial
 
   own_steps : AllByRecursion (IsOwnStep job.typed job.attached job.recording) steps
   own_steps = script_steps job.typed job.attached job.recording is_job merged_fit steps run_replayed.interleaving
 
-  pub run_items : All (λ (s : Step). EmitsOnly (IsItemOf job.typed.formats job.typed.maps) s.op) steps
-  run_items = All-from_recursion (λ (s : Step). EmitsOnly (IsItemOf job.typed.formats job.typed.maps) s.op) steps
-      (each_so (IsOwnStep job.typed job.attached job.recording) (λ (s : Step). EmitsOnly (IsItemOf job.typed.formats job.typed.maps) s.op) (λ s own. own.0.1) steps own_steps)
+  emit_own : EmitOwn job.typed steps
+  emit_own = each_so (IsOwnStep job.typed job.attached job.recording) (λ (s : Step). EmitsOnly (IsItemOf job.typed.formats job.typed.maps) s.op) (λ s own. own.0.1) steps own_steps
 
-  pub run_moment : (value : List Step) → value ≡ made → IsMoment (record { world = world_for job; steps = value }) objects
-  run_moment value e = subst (λ l. IsMoment (record { world = world_for job; steps = l }) objects) (sym e) (record {
+  run_moment : IsMoment (record { world = world_for job; steps = made }) objects
+  run_moment = record {
     fine = All-from_recursion IsFineDecl job.typed.maps (all_fine job.typed.maps job.typed.fine);
     possible = is.possible;
     stand = is.stand;
-  })
+  }
 
-  pub run_same : (object : ObjectId) → operations_at object made ≡ operations_at object steps
+  run_same : (object : ObjectId) → operations_at object made ≡ operations_at object steps
   run_same object = operations_same job plans objects made steps n is moved order object
 
   possible : Each (λ (s : Step). IsOwn (world_for job) s.object s.op) steps
   possible = each_of (λ (s : Step). IsOwn (world_for job) s.object s.op) steps
       (λ s h. each_member (λ (s : Step). IsOwn (world_for job) s.object s.op) made s is.possible (has_moved steps made s (IsPermutation-sym made steps moved) h))
 
-  pub run_prints_serial : printed_text job.typed (cpus_in job) steps ≡ printed_text job.typed (cpus_in job) (serial_steps (replay_of job.typed job.attached job.recording))
+  run_prints_serial : printed_text job.typed (cpus_in job) steps ≡ printed_text job.typed (cpus_in job) (serial_steps (replay_of job.typed job.attached job.recording))
   run_prints_serial =
       let serial = serial_steps (code_replay job.typed codes job.attached job.recording) in
       let same = λ (object : ObjectId). operations_serial job plans objects made steps n is moved order object in
@@ -168,6 +174,19 @@ module _ (job : Job) (is_job : IsJob job.typed job.attached job.recording) (code
       (emitted_out (world_for job) steps possible ∙ ap (filter_map item_in) (same Out) ∙ sym (emitted_out (world_for job) serial own))
       ∙ ap (printed_text job.typed (cpus_in job)) same_serial
 
-  pub run_counts : n ≡ instructions_of (code_replay job.typed codes job.attached job.recording) steps
+  run_counts : n ≡ instructions_of (code_replay job.typed codes job.attached job.recording) steps
   run_counts = is.counted ∙ serial_counts coded is_job.valid is_job.in_turn (λ actor. refl)
       ∙ sym (instructions_same coded steps (serial_steps coded) (λ a. by_actor job plans objects made steps n is moved order a))
+
+  -- with these steps seen before they were put in order
+  pub has_run : (ran : Ran) → ran.objects ≡ objects → steps_in ran.made.value ≡ made → ran.steps ≡ steps → ran.instructions ≡ n
+      → ((others : List (List Insn)) → AreCodesOf job.programs others → codes ≡ others) → HasRun job ran
+  has_run ran o m s c only = record {
+    replayed = subst (IsReplayed (replay_of job.typed job.attached job.recording)) (sym s) run_replayed;
+    serial = λ object. ap (λ l. map unstamped (on_object object l)) s ∙ run_serial_steps object;
+    printed_serial = ap (printed_text job.typed (cpus_in job)) s ∙ run_prints_serial;
+    counted = λ others are. c ∙ run_counts ∙ (λ i. instructions_of (code_replay job.typed (only others are i) job.attached job.recording) (sym s i));
+    own = subst (EmitOwn job.typed) (sym s) emit_own;
+    moment = subst (λ (z : List Step × Objects). IsMoment (record { world = world_for job; steps = z.0 }) z.1) (λ i. (sym m i, sym o i)) run_moment;
+    same = λ object. ap (operations_at object) m ∙ run_same object ∙ ap (operations_at object) (sym s);
+  }

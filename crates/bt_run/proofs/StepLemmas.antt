@@ -105,11 +105,6 @@ actor_within cpus t steps turn = within t.among turn.by
     within true by = let l = by.actor in omega arith
     within false by = let l = by.actor in omega arith
 
-pub last_is : (ss : List Step) (d : Step) → 0 < length ss → (get_or ss (length ss - 1) d).reply ≡ last_reply ss
-last_is [] d lt = absurd (omega arith)
-last_is (s ∷ []) d lt = let e : length (s ∷ []) - 1 ≡ 0 = omega arith in ap (λ n. (get_or (s ∷ []) n d).reply) e
-last_is (s ∷ t ∷ ss) d lt = let e : length (s ∷ t ∷ ss) - 1 ≡ suc (length (t ∷ ss) - 1) = omega arith in ap (λ n. (get_or (s ∷ t ∷ ss) n d).reply) e ∙ last_is (t ∷ ss) d (omega arith)
-
 -- the run after one step more
 pub run_more : (world : World) (objects new : Objects) (lasts : List ℕ) (top : ℕ) (steps : List Step) (turn : Turn) (object : ObjectId) (op : Op) (clock : ℕ) (r : Reply × ℕ) (d : ℕ) → IsRunOf world objects lasts top steps turn → IsOwn world object op
     → clock ≡ max (slice_index_or lasts turn.actor d) turn.floor → IsAnswer world steps new object op clock r

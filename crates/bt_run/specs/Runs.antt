@@ -5,6 +5,7 @@ use Rattle.bt_core.specs.Kinds.{IsFineDecl}
 use Rattle.bt_core.specs.Ports.{Setting}
 use Rattle.bt_core.specs.Steps.{of_actor, RepliesFollow}
 use Rattle.turn_lock.specs.History.{Each}
+use Rattle.step_list.specs.Lists.{steps_in}
 use Rattle.weave.specs.Lists.{greatest}
 use Rattle.weave.specs.Woven.{begin_steps, StampsFollow, StandsBetween}
 use Rattle.bt_run.specs.declared.objects.Objects.{Objects}
@@ -23,7 +24,7 @@ pub record Seen : Type 0 where
   pub turn : Turn
 
 abbrev pub seen_of : Running → Seen
-seen_of r = record { world = world_of r; steps = r.steps.items; turn = r.turn }
+seen_of r = record { world = world_of r; steps = steps_in r.steps; turn = r.turn }
 
 -- BEGIN's turn
 abbrev pub first_turn : ℕ → Turn
@@ -66,7 +67,7 @@ pub record IsRunOf (w : World) (objects : Objects) (lasts : List ℕ) (top : ℕ
   pub turn_is : IsTurn w.cpus turn steps
 
 abbrev pub IsRunning : Running → Type 0
-IsRunning r = IsRunOf (world_of r) r.objects r.lasts.items r.top r.steps.items r.turn
+IsRunning r = IsRunOf (world_of r) r.objects r.lasts.items r.top (steps_in r.steps) r.turn
 
 -- the actor whose turn it is
 abbrev pub setting_of : Seen → Setting

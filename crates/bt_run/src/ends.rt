@@ -1,6 +1,5 @@
 // What is printed at the end of a run.
 ghost use Rattle.std.specs.Prelude.{◌≡◌, ◌<◌, ◌^◌, Some, slice_get, length, All, IfOk};
-ghost use Rattle.map_printer.specs.Ends.{end_text};
 ghost use Rattle.bt_meaning.specs.Prints.{read_of, rows_after, lost_after, of_maps};
 ghost use Rattle.bt_run.specs.Moments.{IsMoment};
 ghost use Rattle.run_base.specs.Moments.{Moment};
@@ -12,13 +11,10 @@ use bt_core::items::Items;
 use bt_core::key::Key;
 use bt_core::map::{MapDecl, MapId, MapKind};
 use bt_core::memory::Memory;
-use bt_core::step::{Reply, Step};
+use bt_core::step::Reply;
 use map_printer::merging::merged;
-use map_printer::printing::print_end;
-use run_base::job::Job;
 use run_base::numbers::number;
 use std::alloc::Global;
-use std::snapshot::Snapshot;
 
 /// What the objects that hold a map reply to who reads it.
 fn replies_of(
@@ -71,21 +67,18 @@ fn lost_of(objects: &Objects, map: MapId, decl: &MapDecl) -> Result<u64, Memory>
     }
 }
 
-/// The text of the maps and of their lost updates, after these steps were made at the objects.
-pub(crate) fn end_of(
+/// What is to be printed of each map, and how many of its updates were lost, as the objects tell it.
+pub(crate) fn read_maps(
     alloc: Global,
-    job: &Job,
+    maps: &[MapDecl],
     objects: &Objects,
-    _made: Snapshot<Vec<Step>>,
-) -> Result<Vec<u8>, Memory>
+) -> Result<(Vec<Items<(Key, Cell)>>, Vec<u64>), Memory>
     ghost at: { Moment }
     requires moment { IsMoment at objects.now }
-    requires maps { at.world.maps ≡ job.now.typed.maps }
-    ensures { IfOk result (λ text. text.items ≡ end_text job.now.typed.maps
-        (of_maps (rows_after at.world.maps at.world.cpus at.steps) 0 job.now.typed.maps)
-        (of_maps (lost_after at.world.maps at.world.cpus at.steps) 0 job.now.typed.maps)) }
+    requires maps { at.world.maps ≡ maps.now }
+    ensures rows { IfOk result (λ r. r.0.items ≡ of_maps (rows_after at.world.maps at.world.cpus at.steps) 0 maps.now) }
+    ensures lost { IfOk result (λ r. r.1.items ≡ of_maps (lost_after at.world.maps at.world.cpus at.steps) 0 maps.now) }
 {
-    let maps = job.typed.maps.as_slice();
     let mut rows = Vec::new(alloc);
     let mut lost = Vec::new(alloc);
     for (map, decl) in maps.iter().enumerate() {
@@ -93,5 +86,5 @@ pub(crate) fn end_of(
         rows.push(rows_of(alloc, objects, map, decl)?)?;
         lost.push(lost_of(objects, map, decl)?)?;
     }
-    print_end(alloc, maps, rows.as_slice(), lost.as_slice())
+    Ok((rows, lost))
 }

@@ -2,7 +2,6 @@
 #![tactic(auto)]
 
 mod ends;
-mod items;
 mod new_objects;
 pub mod objects;
 pub mod own;

@@ -3,6 +3,7 @@ ghost use Rattle.std.specs.Prelude.{◌≡◌, ◌<◌, ◌+◌, [], length, All
 ghost use Rattle.bt_core.specs.Interaction.{MakesStep, last_reply};
 ghost use Rattle.bt_core.specs.Kinds.{IsFineDecl};
 ghost use Rattle.bt_core.specs.Ports.{CanStep, IsReplyOf};
+ghost use Rattle.step_list.specs.Lists.{steps_in};
 ghost use Rattle.bt_run.specs.Objects.{Stand};
 ghost use Rattle.bt_run.specs.Runs.{world_of, seen_of, setting_of, IsRunning, IsSeen, IsLeft, first_turn};
 
@@ -11,10 +12,11 @@ use bt_core::items::Items;
 use bt_core::map::MapDecl;
 use bt_core::memory::Memory;
 use bt_core::port::Port;
-use bt_core::step::{ObjectId, Op, Reply, Step};
+use bt_core::step::{ObjectId, Op, Reply};
 use std::alloc::Global;
 use std::marker::Model;
 use std::snapshot::Snapshot;
+use step_list::list::StepList;
 
 /// Whose turn it is: its number, and how many steps there were when it began. Between `BEGIN` and `END` the turns are those
 /// of the CPUs. No clock of the actor stands below the floor.
@@ -36,7 +38,7 @@ pub struct Running {
     pub objects: Objects,
     pub lasts: Vec<u64>,
     pub top: u64,
-    pub steps: Vec<Step>,
+    pub steps: StepList,
     pub turn: Turn,
 }
 
@@ -64,32 +66,26 @@ fn make_step(alloc: Global, run: &mut Running, object: ObjectId, op: Op) -> Resu
     ensures run { IsRunning run.new }
     ensures world { world_of run.new ≡ world_of run.old }
     ensures turn { run.new.turn ≡ run.old.turn }
-    ensures made { OnOk result (MakesStep run.old.steps.items run.new.steps.items run.old.turn.actor object op) }
-    ensures replied { OnOk result (IsReplyOf run.old.maps.value object op (last_reply run.new.steps.items)) }
-    ensures none { OnErr result (run.new.steps.items ≡ run.old.steps.items) }
+    ensures made { OnOk result (MakesStep (steps_in run.old.steps) (steps_in run.new.steps) run.old.turn.actor object op) }
+    ensures replied { OnOk result (IsReplyOf run.old.maps.value object op (last_reply (steps_in run.new.steps))) }
+    ensures none { OnErr result (steps_in run.new.steps ≡ steps_in run.old.steps) }
 {
-    run.steps.reserve(1)?;
+    run.steps.reserve(alloc)?;
     let actor = run.turn.actor;
     let clock = run.lasts[actor as usize].max(run.turn.floor);
     let (reply, stamp) = take_at(alloc, &mut run.objects, object, &op, clock)?;
     run.lasts[actor as usize] = stamp;
     run.top = run.top.max(stamp);
-    run.steps.push_reserved(Step {
-        actor,
-        object,
-        stamp,
-        op,
-        reply,
-    });
+    run.steps.push_reserved(actor, object, stamp, op, reply);
     Ok(())
 }
 
 /// The reply of the last step.
-fn last_of(steps: &[Step]) -> &Reply
-    requires { 0 < length steps.now }
-    ensures { result.now ≡ last_reply steps.now }
+fn last_of(steps: &StepList) -> &Reply
+    requires { 0 < length (steps_in steps.now) }
+    ensures { result.now ≡ last_reply (steps_in steps.now) }
 {
-    &steps[steps.len() - 1].reply
+    steps.last()
 }
 
 impl Port for SerialPort {
@@ -104,7 +100,7 @@ impl Port for SerialPort {
     }
 
     fn last(&self) -> &Reply {
-        last_of(self.run.steps.as_slice())
+        last_of(&self.run.steps)
     }
 }
 
@@ -132,7 +128,7 @@ impl SerialPort {
                 objects,
                 lasts,
                 top: 0,
-                steps: Vec::new(alloc),
+                steps: StepList::new(alloc),
                 turn: Turn {
                     among: false,
                     begun: 0,
@@ -203,8 +199,8 @@ impl SerialPort {
     }
 
     /// The objects and the steps.
-    pub fn into_parts(self) -> (Objects, Vec<Step>)
-        ensures { IsLeft self result.0 result.1.items }
+    pub fn into_parts(self) -> (Objects, StepList)
+        ensures { IsLeft self result.0 (steps_in result.1) }
     {
         let SerialPort { run } = self;
         let Running {

@@ -1,5 +1,5 @@
 // Whole runs.
-ghost use Rattle.std.specs.Prelude.{◌≡◌, ◌<◌, ◌^◌, List, map, length, IfOk};
+ghost use Rattle.std.specs.Prelude.{◌≡◌, List, map, IfOk};
 ghost use Rattle.bt_core.specs.declared.step.ObjectId.{ObjectId};
 ghost use Rattle.bt_core.specs.Steps.{on_object};
 ghost use Rattle.bpf_insn.specs.declared.insn.Insn.{Insn};
@@ -12,21 +12,75 @@ ghost use Rattle.bt_meaning.specs.Serial.{serial_steps, unstamped};
 ghost use Rattle.bt_meaning.specs.Walks.{replay_of};
 ghost use Rattle.code_bodies.specs.Coding.{code_replay};
 ghost use Rattle.script_programs.specs.Programs.{AreCodesOf, KeepScript};
+ghost use Rattle.bt_run.specs.Ran.{HasRun};
 
-use crate::ends::end_of;
-use crate::items::write_steps;
+use crate::ends::read_maps;
 use crate::new_objects::new_objects;
+use crate::objects::Objects;
 use crate::serial::make_steps;
 use bt_core::items::Items;
 use bt_core::memory::Memory;
 use bt_meaning::schedule::schedule;
+use bt_meaning::text::text_of_run;
 use code_bodies::laws::{code_means_walks, codes_take_few};
-use run_base::held::{job_is_held, replies_are_held};
+use run_base::held::job_is_held;
 use run_base::job::{Job, Work};
 use script_programs::codes::codes_of;
 use std::alloc::Global;
 use std::snapshot::Snapshot;
-use weave::weave::put_in_order;
+use step_list::list::StepList;
+use weave::woven::Woven;
+
+/// A run that has ended: its objects, its steps in the order in which they were made, the same steps in the order of their stamps,
+/// and how many instructions were executed.
+#[derive(Drop)]
+struct Ran {
+    objects: Objects,
+    made: Snapshot<StepList>,
+    steps: Woven,
+    instructions: u64,
+}
+
+/// Runs a job on one thread, each body by its code, up to its list of steps.
+fn make_run(alloc: Global, job: &Job) -> Result<Ran, Memory>
+    requires job { IsJob job.now.typed job.now.attached job.now.recording }
+    requires programs { KeepScript job.now.typed job.now.programs }
+    ensures { IfOk result (λ ran. HasRun job.now ran) }
+{
+    code_means_walks();
+    codes_take_few();
+    job_is_held(job);
+    let codes = codes_of(alloc, job.programs.as_slice())?;
+    let order = schedule(alloc, &job.recording, &job.attached)?;
+    let objects = new_objects(alloc, job)?;
+    let (objects, steps, instructions) = make_steps(
+        alloc,
+        job,
+        codes.as_slice(),
+        order.as_slice(),
+        objects,
+    )?;
+    let made = Snapshot::of(&steps);
+    let steps = Woven::of(vec![in alloc; steps]?)?;
+    steps.replies_are_held();
+    Ok(Ran {
+        objects,
+        made,
+        steps,
+        instructions,
+    })
+}
+
+/// The text of a run that has ended.
+fn text_of(alloc: Global, job: &Job, ran: &Ran) -> Result<Items<u8>, Memory>
+    requires { HasRun job.now ran.now }
+    ensures { let p = replay_of job.now.typed job.now.attached job.now.recording in
+        IfOk result (λ text. text ≡ printed_text job.now.typed (cpus_of p) ran.now.steps) }
+{
+    let script = &job.typed;
+    let (rows, lost) = read_maps(alloc, script.maps.as_slice(), &ran.objects)?;
+    text_of_run(alloc, script, &ran.steps, rows.as_slice(), lost.as_slice())
+}
 
 /// Runs a job on one thread, each body by the code that its program is: `BEGIN`, the items of all agendas in the serial order, each by
 /// its CPU where the CPU still goes on, and `END`. Each program is decoded once.
@@ -34,7 +88,7 @@ use weave::weave::put_in_order;
 /// The steps are an interleaving of the script over the recording, in the order of their stamps (`replayed`); at each object they are
 /// those of the serial list (`serial`); the text is what they print (`printed`), and what the serial list prints (`printed_serial`).
 /// The instructions are those that the codes of the programs take under the replies in the steps (`instructions`). Beside what the
-/// bodies take it takes time linear in the steps and the recording, and the sort of the items and that of the steps.
+/// bodies take it takes time linear in the steps and the recording, and the sort of the items and that of what is emitted.
 ///
 /// # Errors
 ///
@@ -52,36 +106,17 @@ pub fn run_serial(alloc: Global, job: &Job) -> Result<Work, Memory>
     ensures instructions { IfOk result (λ work. (codes : List (List Insn)) → AreCodesOf job.now.programs codes →
         work.instructions ≡ instructions_of (code_replay job.now.typed codes job.now.attached job.now.recording) work.steps) }
 {
-    code_means_walks();
-    codes_take_few();
-    job_is_held(job);
-    let codes = codes_of(alloc, job.programs.as_slice())?;
-    let order = schedule(alloc, &job.recording, &job.attached)?;
-    let objects = new_objects(alloc, job)?;
-    let (objects, mut steps, instructions) = make_steps(
-        alloc,
-        job,
-        codes.as_slice(),
-        order.as_slice(),
-        objects,
-    )?;
-    let made = Snapshot::of(&steps);
-    put_in_order(&mut steps);
-    replies_are_held(steps.as_slice());
-    let script = &job.typed;
-    let mut text = Vec::new(alloc);
-    write_steps(
-        &mut text,
-        alloc,
-        script.formats.as_slice(),
-        script.maps.as_slice(),
-        steps.as_slice(),
-    )?;
-    let end = end_of(alloc, job, &objects, made)?;
-    text.extend_from_slice(end.as_slice())?;
+    let ran = make_run(alloc, job)?;
+    let text = text_of(alloc, job, &ran)?;
+    let Ran {
+        objects: _,
+        made: _,
+        steps,
+        instructions,
+    } = ran;
     Ok(Work {
-        steps: Items::of(steps),
-        text: Items::of(text),
+        steps,
+        text,
         instructions,
     })
 }

@@ -5,6 +5,7 @@ ghost use Rattle.code_bodies.specs.Coding.{CanRunCode};
 ghost use Rattle.bt_meaning.specs.Schedules.{serial_order, cpu_of_due as due_cpu, item_of_due as due_item};
 ghost use Rattle.bt_meaning.specs.Replays.{begin_of, end_of};
 ghost use Rattle.bt_meaning.specs.Serial.{unstamped, then_steps, then_value, taken};
+ghost use Rattle.step_list.specs.Lists.{steps_in};
 ghost use Rattle.bt_run.specs.Counts.{taken_count, TakesNext};
 ghost use Rattle.run_base.specs.Jobs.{coded_by, cpus_in, plans_by, world_for, CanRunAll};
 ghost use Rattle.bt_run.specs.Made.{IsMade};
@@ -18,12 +19,12 @@ use actor_plan::program::{run_begin, run_end, take_item};
 use bpf_insn::insn::Insn;
 use bt_core::items::Items;
 use bt_core::memory::Memory;
-use bt_core::step::Step;
 use bt_meaning::schedule::{Due, Scheduled};
 use run_base::bodies::bodies_at;
 use run_base::job::Job;
 use run_base::numbers::sum;
 use std::alloc::Global;
+use step_list::list::StepList;
 
 /// Whose item it is.
 fn cpu_of_due(due: &Due) -> u32
@@ -189,12 +190,12 @@ pub(crate) fn make_steps(
     codes: &[Items<Insn>],
     order: &[Scheduled],
     objects: Objects,
-) -> Result<(Objects, Vec<Step>, u64), Memory>
+) -> Result<(Objects, StepList, u64), Memory>
     requires can { CanRunAll job.now (plans_by job.now codes.now) }
     requires can_run { AllByRecursion CanRunCode codes.now }
     requires order { order.now ≡ serial_order job.now.recording job.now.attached }
     requires stand { Stand (world_for job.now) [] objects }
-    ensures { IfOk result (λ made. IsMade job.now (plans_by job.now codes.now) made.0 made.1.items made.2) }
+    ensures { IfOk result (λ made. IsMade job.now (plans_by job.now codes.now) made.0 (steps_in made.1) made.2) }
 {
     let cpus = job.recording.cpus.len() as u32;
     let ticks = job.attached.ticks.len() as u32;

@@ -1,30 +1,18 @@
-// What the types of values say of a job and of the steps of its run.
-ghost use Rattle.std.specs.Prelude.{◌<◌, ◌^◌, FitsSigned};
-ghost use Rattle.std.specs.Int.{w64};
+// What the types of values say of a job.
+ghost use Rattle.std.specs.Prelude.{◌<◌, ◌^◌};
 ghost use Rattle.std.specs.List.{AllByRecursion};
 ghost use Rattle.code_bodies.specs.Kept.{AreHeld};
 ghost use Rattle.event_record.specs.Contexts.{AreBytes};
-ghost use Rattle.replay_laws.specs.Agree.{AllReplies};
-ghost use Rattle.replay_laws.specs.HeldReplies.{IsHeldReply};
 ghost use Rattle.run_base.specs.Held.{IsHeldEvent, IsHeldTick, IsHeldTrack};
 
 use crate::job::Job;
 use bt_ast::attached::Tick;
-use bt_core::step::{Reply, Step};
-use bt_core::value::Value;
 use rec_format::recording::{CpuTrack, Event};
 
 /// Each item is a byte.
 fn bytes_are_held(bytes: &[u8])
     ensures { AreBytes bytes.now }
 {}
-
-/// The number has 64 bits.
-fn number_is_held(number: i64)
-    ensures { FitsSigned w64 number }
-{
-    let _held = number;
-}
 
 /// The time has 64 bits.
 fn time_is_held(time: u64)
@@ -75,30 +63,10 @@ fn ticks_are_held(ticks: &[Tick])
     }
 }
 
-/// A value that is replied is a number of 64 bits or a string.
-fn reply_is_held(reply: &Reply)
-    ensures { IsHeldReply reply.now }
-{
-    match reply {
-        Reply::Value(Value::Str(text)) => bytes_are_held(text.bytes()),
-        Reply::Value(Value::Int(number)) => number_is_held(*number),
-        _ => (),
-    }
-}
-
 /// The bytes and the times of a job are as a program holds them. It goes over them once and changes nothing.
 pub fn job_is_held(job: &Job)
     ensures { AreHeld job.now.attached job.now.recording }
 {
     tracks_are_held(job.recording.cpus.as_slice());
     ticks_are_held(job.attached.ticks.as_slice());
-}
-
-/// The values that are replied in steps are as a program holds them. It goes over the steps once and changes nothing.
-pub fn replies_are_held(steps: &[Step])
-    ensures { AllReplies IsHeldReply steps.now }
-{
-    for step in steps {
-        reply_is_held(&step.reply);
-    }
 }

@@ -2,9 +2,9 @@
 use bpf_codegen::generate::Program;
 use bt_ast::attached::Attached;
 use bt_core::items::Items;
-use bt_core::step::Step;
 use rec_format::recording::Recording;
 use typed_tree::script::Typed;
+use weave::woven::Woven;
 
 /// A typed script, what it is attached to, the recording that it is run over, and a program for each of its bodies.
 #[derive(Drop)]
@@ -16,9 +16,9 @@ pub struct Job {
 }
 
 /// What a run makes: its steps as one woven list, the text that they print, and how many instructions were executed.
-#[derive(PartialEq, Eq, Debug, Drop)]
+#[derive(Debug, Drop)]
 pub struct Work {
-    pub steps: Items<Step>,
+    pub steps: Woven,
     pub text: Items<u8>,
     pub instructions: u64,
 }

@@ -1,6 +1,6 @@
 use Rattle.std.proofs.Common.{◌≡◌, ◌++◌, drop}
 use Rattle.bt_meaning.specs.Prints.{rows_after, lost_after, of_maps}
-use Rattle.bt_run.proofs.ends.end_of.Given as goal
+use Rattle.bt_run.proofs.ends.read_maps.Given as goal
 
 abbrev pub ghost-rows_of : goal.ghost-rows_of
 ghost-rows_of g a = g.at
