@@ -103,13 +103,6 @@ impl Trace {
         steps
     }
 
-    /// The steps in their order.
-    pub fn steps(&self) -> &StepList
-        ensures { steps_in result.now ≡ steps_of self.now }
-    {
-        &self.steps
-    }
-
     // Adds a step with this stamp, to which the clock then goes. There is room for it.
     pub(crate) fn store(&mut self, object: ObjectId, stamp: u64, op: Op, reply: Reply)
         requires room { HasRoom self.old }

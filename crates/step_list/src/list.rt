@@ -105,11 +105,6 @@ impl StepList {
         )
     }
 
-    /// The values that are replied in its steps are as a program holds them. Nothing runs.
-    pub fn replies_are_held(&self)
-        ensures { AreHeldReplies (steps_in self.now) }
-    {}
-
     /// Its steps by their places.
     pub(crate) fn places(&self) -> &[Place]
         ensures { result.now ≡ self.now.places.items }

@@ -1,5 +1,5 @@
 -- What was emitted, in order.
-use Rattle.std.proofs.Common.{◌≡◌, ℕ, zero, suc, ◌+◌, ◌<◌, Bool, true, false, cond, List, [], ◌∷◌, ◌++◌, map, length, get_or, take, append-nil, Option, None, Some, sym, refl, ap, ◌∙◌, subst, arith, add-one}
+use Rattle.std.proofs.Common.{◌≡◌, ℕ, ◌+◌, ◌<◌, Bool, true, false, cond, List, [], ◌∷◌, ◌++◌, map, length, get_or, take, Option, None, Some, sym, refl, ap, ◌∙◌, subst}
 use Rattle.std.specs.Cmp.{IsTotalOrder, IsStrictWeakOrder, nat_cmp_total}
 use Rattle.std.specs.List.{filter_map}
 use Rattle.std.specs.List.Sorted.{IsSortedBy, IsStableBy}
@@ -18,9 +18,7 @@ use Rattle.step_list.specs.Emits.{Sent, told, sent, emit_of}
 use Rattle.step_list.specs.declared.emits.Emitted.{Emitted}
 use Rattle.step_list.specs.declared.list.StepList.{StepList}
 use Rattle.step_list.specs.Lists.{steps_in}
-use Rattle.std.proofs.Math.Seq.{take-suc}
 use Rattle.std.proofs.lemmas.List.Elements.{filter_map-append}
-use Rattle.std.proofs.lemmas.List.Concat.{flat_map-append}
 use Rattle.weave.specs.Listed.{listed}
 use Rattle.weave.specs.Order.{comes_before}
 use Rattle.weave.specs.Ranked.{put_in, ranked}

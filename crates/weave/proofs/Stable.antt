@@ -1,10 +1,10 @@
 -- The stable sort of a list is the one.
-use Rattle.std.proofs.Common.{◌≡◌, ℕ, suc, ◌+◌, ◌<◌, Bool, true, false, cond, not, ◌&&◌, inl, inr, List, [], ◌∷◌, length, get_or, sym, refl, ap, ◌∙◌, subst, arith, add-one}
+use Rattle.std.proofs.Common.{◌≡◌, ℕ, suc, Bool, true, false, cond, not, ◌&&◌, inl, inr, List, [], ◌∷◌, get_or, sym, refl, ap, ◌∙◌, subst, arith, add-one}
 use Rattle.std.specs.List.{filter}
 use Rattle.std.specs.Cmp.{IsStrictWeakOrder}
 use Rattle.std.specs.List.Sorted.{ties, IsSortedBy, IsStableBy}
 use Rattle.weave.specs.Ranked.{put_in, ranked}
-use Rattle.weave.proofs.Among.{Has, filter_has, has_filter}
+use Rattle.weave.proofs.Among.{Has, filter_has}
 use Rattle.weave.proofs.Ranking.{Steps, ranked_steps}
 
 false_true : {P : Type 0} → false ≡ true → P
