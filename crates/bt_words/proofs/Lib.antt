@@ -1,3 +1,4 @@
+mod Bounds
 mod ClapEnd
 mod ClapGets
 mod ClapRows

@@ -1,5 +1,5 @@
 -- What the words of a command line ask for.
-use Rattle.std.specs.Prelude.{◌≡◌, ℕ, Bool, false, not, ◌&&◌, ◌||◌, ◌==◌, nat_le, List, [], ◌∷◌, length, filter, count_by, codes, map, Option, Some, None, Result, Ok, Err, IsSome, if◌then◌else◌, String, string_bytes}
+use Rattle.std.specs.Prelude.{◌≡◌, ℕ, ◌<◌, ◌≤◌, ◌^◌, Bool, false, not, ◌&&◌, ◌||◌, ◌==◌, nat_le, List, [], ◌∷◌, length, filter, count_by, codes, map, Option, Some, None, Result, Ok, Err, IsSome, if◌then◌else◌, String, string_bytes}
 use Rattle.std.specs.List.{list_all, list_any}
 use Rattle.std.specs.Str.{bytes_eq}
 use Rattle.std.specs.Str.Parse.{digits_value}
@@ -83,6 +83,16 @@ order_of_words (command ∷ words) = if list_any is_empty words then None else o
 -- the order of the words of a call
 abbrev pub order_of : List (String Global) → Option Order
 order_of words = order_of_words (map string_bytes words)
+
+-- the bounds of the two numbers of a made recording: its seed, and its count of events
+pub record AreBounded (x n : ℕ) : Type 0 where
+  pub seed : x < 2 ^ 31
+  pub count : n ≤ EVENTS
+
+abbrev pub HasBounds : Order → Type 0
+HasBounds (Gen x n) = AreBounded x n
+HasBounds (Big x n) = AreBounded x n
+HasBounds order = Unit {0}
 
 -- an order is the one that there is; words are refused only where there is none, and memory runs out only where there is one
 abbrev pub IsAnswer : Option Order → Result Order WordsError → Type 0

@@ -2,7 +2,7 @@
 ghost use Rattle.std.specs.Prelude.{◌≡◌, ◌↔◌, ◌∷◌, [], IsSome, None, Some, Err, IfOk, IfErr, drop, map, true, string_bytes};
 ghost use Rattle.clap.specs.Words.{app_of, found_of, matches_of, rows_of, takes};
 ghost use Rattle.bt_words.specs.Commands.{AreTwoOperands};
-ghost use Rattle.bt_words.specs.Words.{order_by, order_of, plain_order, run_order, IsAnswer};
+ghost use Rattle.bt_words.specs.Words.{order_by, order_of, plain_order, run_order, HasBounds, IsAnswer};
 
 use crate::commands::{run_command, two_command};
 use crate::number::{Numbers, two_numbers};
@@ -12,7 +12,8 @@ use clap::{ArgMatches, Command};
 use std::alloc::Global;
 
 /// What words ask for. The first is the command; behind it stand options and operands in any order,
-/// none of them empty. Options begin with `-`: `run` takes `--serial` and `--stats`, each once.
+/// none of them empty. Options begin with `-`: `run` takes `--serial` and `--stats`, each once. The numbers of
+/// `gen` and `big` are at most 2,147,483,647 and the limit of events.
 ///
 /// # Errors
 ///
@@ -20,6 +21,7 @@ use std::alloc::Global;
 /// come at any other words.
 pub fn read_words(alloc: Global, words: &[String]) -> Result<Order, WordsError>
     ensures found { IfOk result (λ order. order_of words.now ≡ Some order) }
+    ensures bounded { IfOk result HasBounds }
     ensures usage { (result ≡ Err WordsError.Usage) ↔ (order_of words.now ≡ None) }
 {
     if !is_admitted(words) {

@@ -1,6 +1,7 @@
 use Rattle.std.proofs.Common.{◌∙◌, Option, ap, is_some, subst, sym}
 use Rattle.bt_words.specs.declared.order.Order.{Order}
 use Rattle.bt_words.specs.Words.{IsAnswer, order_of}
+use Rattle.bt_words.proofs.Bounds.{bounded_order}
 use Rattle.bt_words.proofs.Orders.{first_word, found_order, usage_alone}
 use Rattle.bt_words.proofs.read.read_words.Goals as goal
 
@@ -14,6 +15,13 @@ returns-clause-found c =
     let first = first_word c.args.words.now c.index-words-0.result c.as_str.result.now c.index-words-0.is c.as_str.ensures.value c.if-not-is_admitted.ensures in
     found_order (order_of c.args.words.now) c.admitted_order.result
     (subst (λ (there : Option Order). IsAnswer there c.admitted_order.result) (sym first) c.admitted_order.ensures)
+
+pub returns-clause-bounded : goal.returns-clause-bounded
+returns-clause-bounded c =
+    let first = first_word c.args.words.now c.index-words-0.result c.as_str.result.now c.index-words-0.is c.as_str.ensures.value c.if-not-is_admitted.ensures in
+    bounded_order c.args.words.now c.admitted_order.result
+    (found_order (order_of c.args.words.now) c.admitted_order.result
+    (subst (λ (there : Option Order). IsAnswer there c.admitted_order.result) (sym first) c.admitted_order.ensures))
 
 pub returns-clause-usage : goal.returns-clause-usage
 returns-clause-usage c =
