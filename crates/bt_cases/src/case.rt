@@ -48,11 +48,19 @@ fn words_of(alloc: Global, value: &Value) -> Result<Vec<String>> {
     Ok(words)
 }
 
-/// The outputs that may come: the one text `out`, or the texts of the list `outs` where several schedules may be taken.
+/// The one output that may come: the text `out`, or the bytes of `out_hex`, which is hexadecimal.
+fn out_of(alloc: Global, value: &Value) -> Result<Vec<u8>> {
+    match value.get("out_hex").and_then(Value::as_str) {
+        Some(digits) => Ok(hex::decode(alloc, digits)?),
+        None => bytes_of(alloc, value, "out"),
+    }
+}
+
+/// The outputs that may come: the one of the case, or the texts of the list `outs` where several schedules may be taken.
 fn outs_of(alloc: Global, value: &Value) -> Result<Vec<Vec<u8>>> {
     let mut outs = Vec::new(alloc);
     if value.get("outs").is_none() {
-        outs.push(bytes_of(alloc, value, "out")?)?;
+        outs.push(out_of(alloc, value)?)?;
         return Ok(outs);
     }
     for out in list_of(value, "outs")? {
@@ -87,8 +95,8 @@ fn recording_of<R: Files + AllocGlobal>(rt: &R, value: &Value) -> Result<Vec<u8>
 }
 
 impl Case {
-    /// The case of a line: an object whose recording may stand in a file and whose other bytes are texts. It may have several
-    /// `outs` in place of its `out`, `times`, the number of tries, which is else 1, and `threads`, where no schedule changes the answer.
+    /// The case of a line: an object whose recording may stand in a file and whose other bytes are texts. It may have
+    /// hexadecimal `out_hex` or several `outs` in place of its `out`, `times`, the number of tries, which is else 1, and `threads`, where no schedule changes the answer.
     pub fn of<R: Files + AllocGlobal>(rt: &R, line: &str) -> Result<Case> {
         let alloc = rt.alloc();
         let value = Value::from_str(alloc, line)?;

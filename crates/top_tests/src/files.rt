@@ -1,6 +1,14 @@
-// Recordings, and files under their names.
+// Recordings, files under their names, and calls over them.
 use bt_core::memory::Memory;
+use bt_io::mem_shelf::MemShelf;
+use bt_io::mem_sink::MemSink;
+use bt_io::shelf::Shelf;
+use bt_top::report::Report;
+use bt_top::serve::serve;
 use std::alloc::Global;
+use std::sync::Wait;
+use std::thread::Threads;
+use turn_lock::gate::Gate;
 
 /// The format text of an event `e` with one field.
 const FORMAT: &[u8] = b"name: e\nID: 7\nformat:\n\tfield:long v;\toffset:8;\tsize:8;\tsigned:1;\n";
@@ -75,4 +83,45 @@ pub fn files(
     files.push((String::from_str(alloc, "s.bt")?, script))?;
     files.push((String::from_str(alloc, "r.bin")?, recording))?;
     Ok(files)
+}
+
+/// What a call answers to words on files and sinks.
+pub fn report_on<S: Shelf, G: Gate + Sync, R: Threads + Wait + Sync>(
+    rt: &R,
+    alloc: Global,
+    asked: &[&str],
+    shelf: &mut S,
+    out: &mut MemSink,
+    err: &mut MemSink,
+    gate: &G,
+) -> Result<Report, Memory> {
+    let mut words = Vec::new(alloc);
+    for word in asked {
+        words.push(String::from_str(alloc, word)?)?;
+    }
+    Ok(serve(rt, alloc, words.as_slice(), shelf, out, err, gate))
+}
+
+/// What a call answered, and what it wrote.
+#[derive(Drop)]
+pub struct Answer {
+    pub report: Report,
+    pub out: MemSink,
+}
+
+/// The answer to words over a script and the bytes of a recording, on a shelf and sinks that do not fail.
+pub fn answer_to<G: Gate + Sync, R: Threads + Wait + Sync>(
+    rt: &R,
+    alloc: Global,
+    asked: &[&str],
+    script: &[u8],
+    recording: Vec<u8>,
+    gate: &G,
+) -> Result<Answer, Memory> {
+    let files = files(alloc, script, recording)?;
+    let mut shelf = MemShelf::new(alloc, files, Vec::new(alloc));
+    let mut out = MemSink::new(alloc, 1 << 20, 4096, Vec::new(alloc))?;
+    let mut err = MemSink::new(alloc, 4096, 4096, Vec::new(alloc))?;
+    let report = report_on(rt, alloc, asked, &mut shelf, &mut out, &mut err, gate)?;
+    Ok(Answer { report, out })
 }

@@ -4,6 +4,7 @@ use bpf_encode::decode::decode;
 use bpf_interp::machine::Machine;
 use bpf_interp::ports::{PortFault, Ports};
 use bpf_interp::regions::Regions;
+use bt_core::limits::CODE_SLOTS;
 use std::alloc::Global;
 use std::test::Fail;
 
@@ -40,7 +41,7 @@ impl Ports for Done {
 pub fn instructions_of(alloc: Global, program: &Program, value: i64) -> Result<u64, Fail> {
     let bytes = program.bytes.as_slice();
     let code = decode(alloc, &bytes[..bytes.len().min(32_768)])?;
-    if code.is_empty() || code.len() > 4096 {
+    if code.is_empty() || code.len() as u64 > CODE_SLOTS {
         return Err(Fail::from("no code"));
     }
     let mut payload = [7, 0, 0, 0, 0, 0, 0, 0, 0, 0, 0, 0, 0, 0, 0, 0];

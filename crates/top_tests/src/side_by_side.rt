@@ -1,19 +1,12 @@
 // That CPUs run side by side, each at an object of its own.
-use crate::files::{files, recording};
+use crate::files::{Answer, answer_to, recording};
 use bt_core::map::MapId;
-use bt_core::memory::Memory;
 use bt_core::step::ObjectId;
-use bt_io::mem_shelf::MemShelf;
-use bt_io::mem_sink::MemSink;
-use bt_top::report::Report;
-use bt_top::serve::serve;
-use std::alloc::Global;
 use std::sync::atomic::AtomicU64;
 use std::sync::atomic::Ordering::SeqCst;
 use std::sync::{Mutex, Wait};
 use std::test::Fail;
 use std::thread;
-use std::thread::Threads;
 use turn_lock::gate::{Gate, Open};
 
 /// How often an actor looks whether the other one holds a turn too.
@@ -76,26 +69,8 @@ fn first_part(map: u32) -> ObjectId {
     }
 }
 
-/// What a script does over two CPUs, each with so many events, on threads: the report, and what was written.
-fn run_on_threads<G: Gate + Sync, R: Threads + Wait + Sync>(
-    rt: &R,
-    alloc: Global,
-    script: &[u8],
-    events: u32,
-    gate: &G,
-) -> Result<(Report, MemSink), Memory> {
-    let mut words = Vec::new(alloc);
-    for word in ["run", "s.bt", "r.bin"] {
-        words.push(String::from_str(alloc, word)?)?;
-    }
-    let files = files(alloc, script, recording(alloc, 2, events)?)?;
-    let mut shelf = MemShelf::new(alloc, files, Vec::new(alloc));
-    let mut out = MemSink::new(alloc, 4096, 4096, Vec::new(alloc))?;
-    let mut err = MemSink::new(alloc, 4096, 4096, Vec::new(alloc))?;
-    let words = words.as_slice();
-    let report = serve(rt, alloc, words, &mut shelf, &mut out, &mut err, gate);
-    Ok((report, out))
-}
+/// The words of a run on threads.
+const RUN: [&str; 3] = ["run", "s.bt", "r.bin"];
 
 #[test]
 fn cpus_run_side_by_side(rt: HostRuntime) -> Result<(), Fail> {
@@ -117,7 +92,9 @@ fn cpus_run_side_by_side(rt: HostRuntime) -> Result<(), Fail> {
             second: Noted::none(),
             missed: AtomicU64::new(0),
         };
-        let (report, out) = run_on_threads(&rt, rt.alloc(), script, 1, &gate)?;
+        let alloc = rt.alloc();
+        let recording = recording(alloc, 2, 1)?;
+        let Answer { report, out } = answer_to(&rt, alloc, &RUN, script, recording, &gate)?;
         assert!(rt; report.status == 0);
         assert!(rt; out.taken() == wanted);
         assert!(rt; *gate.first.object.lock(&rt) == Some(first));
@@ -145,7 +122,9 @@ fn every_schedule_has_as_many_steps(rt: HostRuntime) -> Result<(), Fail> {
     ];
     for (script, events, wanted) in rows {
         for _ in 0..50 {
-            let (report, _out) = run_on_threads(&rt, rt.alloc(), script, events, &Open)?;
+            let alloc = rt.alloc();
+            let recording = recording(alloc, 2, events)?;
+            let Answer { report, .. } = answer_to(&rt, alloc, &RUN, script, recording, &Open)?;
             let work = report.work.ok_or("no work")?;
             assert_eq!(rt; work.steps.len(), wanted);
         }

@@ -1,7 +1,7 @@
 // Faults of files and sinks, want of memory, a long recording, and the steps that are handed back.
 ghost use Rattle.std.specs.Prelude.{◌-◌, ◌<◌, ◌^◌, None};
 
-use crate::files::{files, recording};
+use crate::files::{Answer, answer_to, files, recording, report_on};
 use crate::machine::instructions_of;
 use bt_core::items::Items;
 use bt_core::memory::Memory;
@@ -9,16 +9,15 @@ use bt_core::step::{Op, Step};
 use bt_io::mem_shelf::MemShelf;
 use bt_io::mem_sink::MemSink;
 use bt_io::shelf::{Shelf, ShelfError};
-use bt_top::report::Report;
-use bt_top::serve::serve;
 use std::alloc::Global;
-use std::sync::Wait;
 use std::test::Fail;
-use std::thread::Threads;
 use turn_lock::gate::Open;
 
 /// A script that counts the events `e`.
 const COUNT: &[u8] = b"tracepoint:t:e { @ = count(); }";
+
+/// The words that run it.
+const RUN: [&str; 3] = ["run", "s.bt", "r.bin"];
 
 /// A shelf of the counting script and of a recording, of which the calls of these numbers fail.
 fn shelf(alloc: Global, events: u32, failing: &[u32]) -> Result<MemShelf, Memory> {
@@ -37,32 +36,12 @@ fn sink(alloc: Global, most: usize, failing: &[u32]) -> Result<MemSink, Memory>
     MemSink::new(alloc, 4096, most, Vec::from_slice(alloc, failing)?)
 }
 
-/// The answer to a command and its options on `s.bt` and `r.bin`.
-fn answer<S: Shelf, R: Threads + Wait + Sync>(
-    rt: &R,
-    alloc: Global,
-    command: &[&str],
-    shelf: &mut S,
-    out: &mut MemSink,
-    err: &mut MemSink,
-) -> Result<Report, Memory> {
-    let mut words = Vec::new(alloc);
-    for word in command {
-        words.push(String::from_str(alloc, word)?)?;
-    }
-    for word in ["s.bt", "r.bin"] {
-        words.push(String::from_str(alloc, word)?)?;
-    }
-    Ok(serve(rt, alloc, words.as_slice(), shelf, out, err, &Open))
-}
-
 #[test]
 fn a_million_events_are_counted(rt: HostRuntime) -> Result<(), Fail> {
     let alloc = rt.alloc();
-    let mut shelf = shelf(alloc, 1_048_576, &[])?;
-    let mut out = sink(alloc, 4096, &[])?;
-    let mut err = sink(alloc, 4096, &[])?;
-    let report = answer(&rt, alloc, &["run"], &mut shelf, &mut out, &mut err)?;
+    let words = ["run", "s.bt", "r.bin"];
+    let recording = recording(alloc, 1, 1_048_576)?;
+    let Answer { report, out } = answer_to(&rt, alloc, &words, COUNT, recording, &Open)?;
     assert!(rt; report.status == 0);
     assert!(rt; out.taken() == b"@: 1048576\n\n".as_slice());
     Ok(())
@@ -83,19 +62,10 @@ fn name_of(op: &Op) -> &str {
 #[test]
 fn an_increment_is_a_get_and_a_set(rt: HostRuntime) -> Result<(), Fail> {
     let alloc = rt.alloc();
-    let files = files(alloc, b"tracepoint:t:e { @x++; }", recording(alloc, 2, 1)?)?;
-    let mut shelf = MemShelf::new(alloc, files, Vec::new(alloc));
-    let mut out = sink(alloc, 4096, &[])?;
-    let mut err = sink(alloc, 4096, &[])?;
-    let report = answer(
-        &rt,
-        alloc,
-        &["run", "--serial"],
-        &mut shelf,
-        &mut out,
-        &mut err,
-    )?;
-    assert!(rt; out.taken() == b"@x: 2\n\n".as_slice());
+    let words = ["run", "--serial", "s.bt", "r.bin"];
+    let script = b"tracepoint:t:e { @x++; }".as_slice();
+    let recording = recording(alloc, 2, 1)?;
+    let Answer { report, .. } = answer_to(&rt, alloc, &words, script, recording, &Open)?;
     let work = report.work.ok_or("no work")?;
     assert!(rt; work.steps.len() == 4);
     let wanted = [(0, 1, "get"), (0, 2, "set"), (1, 3, "get"), (1, 4, "set")];
@@ -118,13 +88,10 @@ fn count_of(steps: &[Step], name: &str) -> usize {
 #[test]
 fn a_map_is_read_and_cleared_in_each_of_its_eight_parts(rt: HostRuntime) -> Result<(), Fail> {
     let alloc = rt.alloc();
-    let script = b"BEGIN { @m[1] = 1; @m[9] = 2; @m[2] = 3; print(@m); clear(@m); }";
-    let files = files(alloc, script, recording(alloc, 1, 1)?)?;
-    let mut shelf = MemShelf::new(alloc, files, Vec::new(alloc));
-    let mut out = sink(alloc, 4096, &[])?;
-    let mut err = sink(alloc, 4096, &[])?;
-    let report = answer(&rt, alloc, &["run"], &mut shelf, &mut out, &mut err)?;
-    assert!(rt; out.taken() == b"@m[1]: 1\n@m[9]: 2\n@m[2]: 3\n\n".as_slice());
+    let words = ["run", "s.bt", "r.bin"];
+    let script = b"BEGIN { @m[1] = 1; @m[9] = 2; @m[2] = 3; print(@m); clear(@m); }".as_slice();
+    let recording = recording(alloc, 1, 1)?;
+    let Answer { report, .. } = answer_to(&rt, alloc, &words, script, recording, &Open)?;
     let work = report.work.ok_or("no work")?;
     let steps = work.steps.to_vec(alloc)?;
     assert_eq!(rt; steps.len(), 20);
@@ -140,7 +107,7 @@ fn a_write_fault_leaves_a_prefix_and_the_work(rt: HostRuntime) -> Result<(), Fai
     let mut shelf = shelf(alloc, 3, &[])?;
     let mut out = sink(alloc, 2, &[2])?;
     let mut err = sink(alloc, 3, &[3])?;
-    let report = answer(&rt, alloc, &["run"], &mut shelf, &mut out, &mut err)?;
+    let report = report_on(&rt, alloc, &RUN, &mut shelf, &mut out, &mut err, &Open)?;
     assert!(rt; report.status == 5);
     assert!(rt; out.taken() == b"@:".as_slice());
     // The fault of `err` leaves a prefix of its line, and changes nothing else.
@@ -160,7 +127,15 @@ fn a_write_fault_of_a_check_leaves_a_prefix(rt: HostRuntime) -> Result<(), Fail>
     let mut shelf = shelf(alloc, 3, &[])?;
     let mut out = sink(alloc, 1, &[3])?;
     let mut err = sink(alloc, 64, &[])?;
-    let report = answer(&rt, alloc, &["check"], &mut shelf, &mut out, &mut err)?;
+    let report = report_on(
+        &rt,
+        alloc,
+        &["check", "s.bt", "r.bin"],
+        &mut shelf,
+        &mut out,
+        &mut err,
+        &Open,
+    )?;
     assert!(rt; report.status == 5 && report.work.is_none());
     assert!(rt; out.taken() == b"ok".as_slice());
     assert!(rt; err.taken() == b"write fault\n".as_slice());
@@ -177,7 +152,7 @@ fn a_failing_read_is_told_of_its_file(rt: HostRuntime) -> Result<(), Fail> {
         let mut shelf = shelf(alloc, 3, &[call])?;
         let mut out = sink(alloc, 4096, &[])?;
         let mut err = sink(alloc, 4096, &[])?;
-        let report = answer(&rt, alloc, &["run"], &mut shelf, &mut out, &mut err)?;
+        let report = report_on(&rt, alloc, &RUN, &mut shelf, &mut out, &mut err, &Open)?;
         assert!(rt; report.status == 4);
         assert!(rt; out.taken().is_empty());
         assert!(rt; err.taken() == line);
@@ -231,7 +206,7 @@ fn a_long_recording_and_want_of_memory_are_told(rt: HostRuntime) -> Result<(), F
         };
         let mut out = sink(alloc, 4096, &[])?;
         let mut err = sink(alloc, 4096, &[])?;
-        let report = answer(&rt, alloc, &["run"], &mut shelf, &mut out, &mut err)?;
+        let report = report_on(&rt, alloc, &RUN, &mut shelf, &mut out, &mut err, &Open)?;
         assert!(rt; report.status == status);
         assert!(rt; out.taken().is_empty());
         assert!(rt; err.taken() == line);
