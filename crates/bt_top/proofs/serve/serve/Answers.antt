@@ -5,6 +5,7 @@ use Rattle.bt_top.specs.Orders.{files_in, files_of}
 use Rattle.bt_top.specs.Serve.{ComesIfDue, IsComplete, OnTold}
 use Rattle.std.specs.Prelude.{Some}
 use Rattle.bt_top.proofs.Answering.{is_complete, kept, on_order, words_answer}
+use Rattle.bt_top.proofs.Headlines.{refused_headline}
 use Rattle.bt_top.proofs.Performing.{memory_complete, memory_exact, nothing_asked}
 use Rattle.bt_top.proofs.serve.serve.Goals as goal
 
@@ -30,3 +31,7 @@ pub returns-clause-complete : goal.returns-clause-complete
 returns-clause-complete g c =
     rw c.in-Ok.ensures.found
     (is_complete c.in-Ok.order _ _ c.perform-report.result c.perform-report.ensures.status c.perform-report.ensures.answered c.perform-report.ensures.exact)
+
+pub returns-in-Err-Memory-clause-headline : goal.returns-in-Err-Memory-clause-headline
+returns-in-Err-Memory-clause-headline g c =
+    rw c.refused-in-Err-Memory.ensures (refused_headline (order_of c.args.words.now) _ _ Memory)
