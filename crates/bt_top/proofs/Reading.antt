@@ -151,8 +151,11 @@ module _ (s r : List ℕ) (seen : ShelfUse) (text : List ℕ) (short : length te
   recording_exact error None p told long = tt
   recording_exact error (Some a) None told long = tt
   recording_exact shelf.Failed (Some a) (Some b) told long = λ due is.
-      inr (inr ((λ e. short_not_long a b (subst (λ (l : List ℕ). length l ≤ SCRIPT_BYTES) told short)
-      (subst (λ (d : Option Refusal). IsDue (on_script s r) (a ∷ b ∷ []) d) e is)), inl refl))
+      inr (inr (
+        (λ e. short_not_long a b (subst (λ (l : List ℕ). length l ≤ SCRIPT_BYTES) told short)
+            (subst (λ (d : Option Refusal). IsDue (on_script s r) (a ∷ b ∷ []) d) e is)),
+        inl refl,
+      ))
   recording_exact shelf.TooLong (Some a) (Some b) told long = λ due is.
       inl (long_recording_is_due a b due (subst (λ (l : List ℕ). length l ≤ SCRIPT_BYTES) told short) (long refl) is)
   recording_exact shelf.Memory (Some a) (Some b) told long = λ due is. inr tt

@@ -75,12 +75,12 @@ fn steps_come_by_stamp_and_then_by_object(rt: HostRuntime) -> Result<(), Fail> {
     Ok(())
 }
 
-// A hundred thousand steps of one actor, with each fourth stamp from this one on.
+// A quarter of a million steps of one actor, with each fourth stamp from this one on.
 fn fourth(alloc: Global, actor: u32, first: u64) -> Result<StepList, Memory>
     requires { first < 4 }
 {
     let mut list = StepList::new(alloc);
-    for i in 0..100000u64 {
+    for i in 0..250000u64 {
         list.reserve(alloc)?;
         list.push_reserved(
             actor,
@@ -93,9 +93,9 @@ fn fourth(alloc: Global, actor: u32, first: u64) -> Result<StepList, Memory>
     Ok(list)
 }
 
-// The stamps are all numbers below four hundred thousand.
+// The stamps are all numbers below a million.
 #[test]
-fn many_steps_are_put_in_order(rt: HostRuntime) -> Result<(), Fail> {
+fn a_million_steps_are_put_in_order(rt: HostRuntime) -> Result<(), Fail> {
     let alloc = rt.alloc();
     let mut lists = Vec::new(alloc);
     lists.push(fourth(alloc, 0, 2)?)?;
@@ -103,12 +103,12 @@ fn many_steps_are_put_in_order(rt: HostRuntime) -> Result<(), Fail> {
     lists.push(fourth(alloc, 2, 3)?)?;
     lists.push(fourth(alloc, 3, 1)?)?;
     let woven = Woven::of(lists)?;
-    assert_eq!(rt; woven.len(), 400000);
+    assert_eq!(rt; woven.len(), 1000000);
     assert!(rt; woven.emitted(alloc)?.is_empty());
     let steps = woven.to_vec(alloc)?;
-    assert!(rt; steps.len() == 400000);
+    assert!(rt; steps.len() == 1000000);
     assert_eq!(rt; (steps[0].stamp, steps[0].actor), (0, 1));
     assert_eq!(rt; (steps[123456].stamp, steps[123456].actor), (123456, 1));
-    assert_eq!(rt; (steps[399999].stamp, steps[399999].actor), (399999, 2));
+    assert_eq!(rt; (steps[999999].stamp, steps[999999].actor), (999999, 2));
     Ok(())
 }
