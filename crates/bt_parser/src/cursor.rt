@@ -65,17 +65,17 @@ fn is(expected: Class, class: Class) -> bool
 }
 
 /// The bytes of a token that is no number.
-fn bytes_of(alloc: Global, kind: &TokenKind) -> Result<Items<u8>, Memory>
+fn bytes_of(kind: &TokenKind) -> &[u8]
     requires { is_number_kind kind.now ≡ false }
-    ensures { IfOk result (λ bytes. bytes ≡ kind_bytes kind.now) }
+    ensures { result.now ≡ kind_bytes kind.now }
 {
     match kind {
-        TokenKind::Word(bytes)
-        | TokenKind::Attach(bytes)
-        | TokenKind::Map(bytes)
-        | TokenKind::Var(bytes)
-        | TokenKind::Text(bytes)
-        | TokenKind::Mark(bytes) => bytes.try_copy(alloc),
+        TokenKind::Word(bytes) => bytes.as_slice(),
+        TokenKind::Attach(bytes) => bytes.as_slice(),
+        TokenKind::Map(bytes) => bytes.as_slice(),
+        TokenKind::Var(bytes) => bytes.as_slice(),
+        TokenKind::Text(bytes) => bytes.as_slice(),
+        TokenKind::Mark(bytes) => bytes.as_slice(),
         TokenKind::Number(_) => unreachable!(),
     }
 }
@@ -293,7 +293,7 @@ impl<'a> Cursor<'a> {
         if !self.sees(class) {
             return Err(Fault::Syntax);
         }
-        let bytes = bytes_of(alloc, &token.kind)?;
+        let bytes = Items::from_slice(alloc, bytes_of(&token.kind))?;
         let place = self.skip();
         Ok(Named { bytes, place })
     }

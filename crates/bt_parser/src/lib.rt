@@ -16,6 +16,7 @@ mod nesting;
 pub mod parse;
 mod point;
 mod probe;
+mod rows;
 mod script;
 mod simple;
 mod tables;
