@@ -1,5 +1,5 @@
 -- What a run prints depends on the operations at each object alone.
-use Rattle.std.proofs.Common.{◌≡◌, ℕ, ◌+◌, cond, List, [], ◌∷◌, ◌++◌, map, sum, sym, refl, ap, ◌∙◌, subst}
+use Rattle.std.proofs.Common.{◌≡◌, ℕ, ◌+◌, cond, List, [], ◌∷◌, ◌++◌, map, sum, sym, refl, ap, ◌∙◌, subst, append-nil}
 use Rattle.std.specs.Prelude.{All, Option, Some, None, IsSomeAnd, slice_get}
 use Rattle.std.specs.List.{AllByRecursion, filter_map, flat_map, cons_option}
 use Rattle.std.specs.List.Sorted.{IsPermutation}
@@ -48,7 +48,9 @@ use Rattle.replay_laws.specs.Agree.{AllReplies}
 use Rattle.replay_laws.specs.HeldReplies.{IsHeldReply}
 use Rattle.code_bodies.specs.Coding.{code_replay, coding}
 use Rattle.script_programs.specs.Programs.{AreCodesOf}
+use Rattle.step_list.specs.declared.list.StepList.{StepList}
 use Rattle.step_list.specs.Lists.{steps_in}
+use Rattle.weave.specs.Listed.{listed}
 use Rattle.run_base.specs.declared.job.Job.{Job}
 use Rattle.bt_run.specs.declared.objects.Objects.{Objects}
 use Rattle.run_base.specs.Jobs.{cpus_in, world_for}
@@ -111,6 +113,11 @@ module _ (script : Typed) (cpus : ℕ) (xs ys : List Step) (same : (object : Obj
       → ((cpus : ℕ) → rows ≡ of_maps (rows_after script.maps cpus ys) 0 script.maps → lost ≡ of_maps (lost_after script.maps cpus ys) 0 script.maps → text ≡ printed_text script cpus ys)
       → text ≡ printed_text script cpus ys
   text_then rows lost text are were is = is cpus (are ∙ rows_same 0 script.maps) (were ∙ losses_same 0 script.maps)
+
+-- ---- one list alone
+
+pub one_list : (l : StepList) (before lists : List StepList) → before ≡ [] → lists ≡ before ++ l ∷ [] → listed lists ≡ steps_in l
+one_list l before lists none is = ap listed (is ∙ ap (λ x. x ++ l ∷ []) none) ∙ append-nil (steps_in l)
 
 -- ---- whole runs
 

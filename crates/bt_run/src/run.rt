@@ -12,6 +12,9 @@ ghost use Rattle.bt_meaning.specs.Serial.{serial_steps, unstamped};
 ghost use Rattle.bt_meaning.specs.Walks.{replay_of};
 ghost use Rattle.code_bodies.specs.Coding.{code_replay};
 ghost use Rattle.script_programs.specs.Programs.{AreCodesOf, KeepScript};
+ghost use Rattle.step_list.specs.Lists.{steps_in};
+ghost use Rattle.run_base.specs.Jobs.{world_for};
+ghost use Rattle.run_base.specs.Moments.{Moment};
 ghost use Rattle.bt_run.specs.Ran.{HasRun};
 
 use crate::ends::read_maps;
@@ -61,7 +64,9 @@ fn make_run(alloc: Global, job: &Job) -> Result<Ran, Memory>
         objects,
     )?;
     let made = Snapshot::of(&steps);
-    let steps = Woven::of(vec![in alloc; steps]?)?;
+    let mut lists = Vec::new(alloc);
+    lists.push(steps)?;
+    let steps = Woven::of(lists)?;
     steps.replies_are_held();
     Ok(Ran {
         objects,
@@ -73,13 +78,17 @@ fn make_run(alloc: Global, job: &Job) -> Result<Ran, Memory>
 
 /// The text of a run that has ended.
 fn text_of(alloc: Global, job: &Job, ran: &Ran) -> Result<Items<u8>, Memory>
-    requires { HasRun job.now ran.now }
+    ghost at: { Moment }
+    requires run { HasRun job.now ran.now }
+    requires world { at.world ≡ world_for job.now }
+    requires made { at.steps ≡ steps_in ran.now.made.value }
     ensures { let p = replay_of job.now.typed job.now.attached job.now.recording in
         IfOk result (λ text. text ≡ printed_text job.now.typed (cpus_of p) ran.now.steps) }
 {
     let script = &job.typed;
     let (rows, lost) = read_maps(alloc, script.maps.as_slice(), &ran.objects)?;
-    text_of_run(alloc, script, &ran.steps, rows.as_slice(), lost.as_slice())
+    let text = text_of_run(alloc, script, &ran.steps, rows.as_slice(), lost.as_slice())?;
+    Ok(text)
 }
 
 /// Runs a job on one thread, each body by the code that its program is: `BEGIN`, the items of all agendas in the serial order, each by

@@ -1,4 +1,4 @@
-use Rattle.std.proofs.Common.{◌≡◌, ◌+◌, ◌++◌, List, [], ◌∷◌, refl, sym, ap, ◌∙◌, subst, append-nil}
+use Rattle.std.proofs.Common.{◌+◌, List, refl, sym, ap, ◌∙◌, subst}
 use Rattle.std.specs.List.{AllByRecursion}
 use Rattle.std.specs.List.Sorted.{IsPermutation}
 use Rattle.bpf_insn.specs.declared.insn.Insn.{Insn}
@@ -9,7 +9,7 @@ use Rattle.script_programs.specs.Programs.{AreCodesOf, KeepScript}
 use Rattle.run_base.specs.Jobs.{cpus_in}
 use Rattle.bt_run.specs.Made.{IsMade}
 use Rattle.run_base.proofs.CodeLemmas.{few_slots, jobs_run}
-use Rattle.bt_run.proofs.RunLemmas.{has_run}
+use Rattle.bt_run.proofs.RunLemmas.{has_run, one_list}
 use Rattle.bt_run.proofs.run.make_run.Goals as goal
 
 pub codes_of-requires : goal.codes_of-requires
@@ -28,7 +28,7 @@ returns c =
     let steps = steps_in c.in_ok-objects-2.steps in
     has_run job c.requires.job c.in_ok-codes.codes c.in_ok-objects-2.objects steps c.in_ok-steps.steps c.in_ok-objects-2.instructions
     (subst (λ (l : List (List Insn)). IsMade job (coding job.typed l (cpus_in job + 1)) c.in_ok-objects-2.objects steps c.in_ok-objects-2.instructions) c.as_slice-2.ensures c.in_ok-objects-2.ensures)
-    (subst (λ (l : List Step). IsPermutation l c.in_ok-steps.steps) (append-nil steps) c.in_ok-steps.ensures.steps) c.in_ok-steps.ensures.order c.replies_are_held.ensures
+    (subst (λ (l : List Step). IsPermutation l c.in_ok-steps.steps) (one_list c.in_ok-objects-2.steps c.new-lists.result.items c.push.new.self.items c.new-lists.ensures.items c.in_ok-push.ensures.items) c.in_ok-steps.ensures.steps) c.in_ok-steps.ensures.order c.replies_are_held.ensures
     (c.code_means_walks.ensures.replayed job.typed c.in_ok-codes.codes job.attached job.recording c.in_ok-steps.steps c.requires.job c.job_is_held.ensures keep c.replies_are_held.ensures)
     (c.code_means_walks.ensures.serial job.typed c.in_ok-codes.codes job.attached job.recording c.requires.job c.job_is_held.ensures keep)
     _ refl (ap steps_in c.of-made.ensures) refl refl

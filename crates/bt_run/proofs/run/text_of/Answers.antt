@@ -1,32 +1,42 @@
-use Rattle.std.proofs.Common.{length, sym, ap, ◌∙◌, subst, refl}
+use Rattle.std.proofs.Common.{List, length, sym, ap, ◌∙◌, subst}
+use Rattle.bt_core.specs.declared.step.Step.{Step}
 use Rattle.map_printer.specs.Ends.{AllRowsFit}
-use Rattle.bt_meaning.specs.Prints.{rows_after, lost_after, of_maps}
-use Rattle.step_list.specs.Lists.{steps_in}
+use Rattle.bt_meaning.specs.Prints.{rows_after, lost_after, of_maps, operations_at}
 use Rattle.run_base.specs.Jobs.{cpus_in}
+use Rattle.run_base.specs.Worlds.{World}
 use Rattle.run_base.proofs.MapReads.{maps_long, rows_fit}
+use Rattle.bt_run.specs.Moments.{IsMoment}
 use Rattle.bt_run.proofs.RunLemmas.{text_then}
 use Rattle.bt_run.proofs.run.text_of.Goals as goal
 
+pub read_maps-requires : goal.read_maps-requires
+read_maps-requires g c = (
+  subst (λ (z : World × List Step). IsMoment (record { world = z.0; steps = z.1 }) c.args.ran.now.objects) (λ i. (sym c.requires.1.0 i, sym c.requires.1.1 i)) c.requires.0.moment,
+  ap (λ (w : World). w.maps) c.requires.1.0 ∙ sym c.as_slice.ensures,
+)
+
 pub text_of_run-requires-clause-rows : goal.text_of_run-requires-clause-rows
-text_of_run-requires-clause-rows c = let job = c.args.job.now in
-    ap length (c.as_slice-2.ensures.value ∙ c.in_ok-rows.ensures.rows)
-    ∙ maps_long (rows_after job.typed.maps (cpus_in job) (steps_in c.args.ran.now.made.value)) 0 c.as_slice.result.now ∙ ap length c.as_slice.ensures
+text_of_run-requires-clause-rows g c = ap length (c.as_slice-2.ensures.value ∙ c.in_ok-rows.ensures.rows)
+    ∙ maps_long (rows_after g.at.world.maps g.at.world.cpus g.at.steps) 0 c.as_slice.result.now ∙ ap length c.as_slice.ensures
 
 pub text_of_run-requires-clause-lost : goal.text_of_run-requires-clause-lost
-text_of_run-requires-clause-lost c = let job = c.args.job.now in
-    ap length (c.as_slice-3.ensures.value ∙ c.in_ok-rows.ensures.lost)
-    ∙ maps_long (lost_after job.typed.maps (cpus_in job) (steps_in c.args.ran.now.made.value)) 0 c.as_slice.result.now ∙ ap length c.as_slice.ensures
+text_of_run-requires-clause-lost g c = ap length (c.as_slice-3.ensures.value ∙ c.in_ok-rows.ensures.lost)
+    ∙ maps_long (lost_after g.at.world.maps g.at.world.cpus g.at.steps) 0 c.as_slice.result.now ∙ ap length c.as_slice.ensures
 
 pub text_of_run-requires-clause-fit : goal.text_of_run-requires-clause-fit
-text_of_run-requires-clause-fit c =
-    let job = c.args.job.now in let moment = c.requires.moment in
-    let rows = c.as_slice-2.ensures.value ∙ c.in_ok-rows.ensures.rows ∙ ap (of_maps (rows_after job.typed.maps (cpus_in job) (steps_in c.args.ran.now.made.value)) 0) c.as_slice.ensures in
-    subst (AllRowsFit job.typed.maps) (sym rows) (rows_fit _ moment.fine moment.possible job.typed.maps refl)
+text_of_run-requires-clause-fit g c =
+    let maps = c.args.job.now.typed.maps in
+    let rows = c.as_slice-2.ensures.value ∙ c.in_ok-rows.ensures.rows ∙ ap (of_maps (rows_after g.at.world.maps g.at.world.cpus g.at.steps) 0) c.as_slice.ensures in
+    let moment = subst (λ (z : World × List Step). IsMoment (record { world = z.0; steps = z.1 }) c.args.ran.now.objects) (λ i. (sym c.requires.1.0 i, sym c.requires.1.1 i)) c.requires.0.moment in
+    subst (AllRowsFit maps) (sym rows) (rows_fit g.at moment.fine moment.possible maps (ap (λ (w : World). w.maps) c.requires.1.0))
 
 pub returns : goal.returns
-returns c =
-    let job = c.args.job.now in let at = steps_in c.args.ran.now.made.value in
-    text_then job.typed (cpus_in job) at c.args.ran.now.steps c.requires.same c.as_slice-2.result.now c.as_slice-3.result.now _
-    (c.as_slice-2.ensures.value ∙ c.in_ok-rows.ensures.rows ∙ ap (of_maps (rows_after job.typed.maps (cpus_in job) at) 0) c.as_slice.ensures)
-    (c.as_slice-3.ensures.value ∙ c.in_ok-rows.ensures.lost ∙ ap (of_maps (lost_after job.typed.maps (cpus_in job) at) 0) c.as_slice.ensures)
-    c.in_ok-text_of_run.ensures
+returns g c =
+    let script = c.args.job.now.typed in
+    text_then script (cpus_in c.args.job.now) g.at.steps c.args.ran.now.steps (λ object. ap (operations_at object) c.requires.1.1 ∙ c.requires.0.same object)
+    c.as_slice-2.result.now c.as_slice-3.result.now _
+    (c.as_slice-2.ensures.value ∙ c.in_ok-rows.ensures.rows ∙ ap (of_maps (rows_after g.at.world.maps g.at.world.cpus g.at.steps) 0) c.as_slice.ensures
+    ∙ (λ i. of_maps (rows_after (c.requires.1.0 i).maps (c.requires.1.0 i).cpus g.at.steps) 0 script.maps))
+    (c.as_slice-3.ensures.value ∙ c.in_ok-rows.ensures.lost ∙ ap (of_maps (lost_after g.at.world.maps g.at.world.cpus g.at.steps) 0) c.as_slice.ensures
+    ∙ (λ i. of_maps (lost_after (c.requires.1.0 i).maps (c.requires.1.0 i).cpus g.at.steps) 0 script.maps))
+    c.in_ok-text.ensures
