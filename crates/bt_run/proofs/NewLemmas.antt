@@ -1,8 +1,8 @@
 -- Objects that no step was made at.
-use Rattle.std.proofs.Common.{◌≡◌, ℕ, ◌+◌, ◌<◌, List, [], ◌∷◌, ◌++◌, length, get_or, sym, refl, ap, ◌∙◌, subst, arith}
-use Rattle.std.specs.Prelude.{Some, slice_get, slice_index_or}
+use Rattle.std.proofs.Common.{◌≡◌, ℕ, ◌+◌, ◌<◌, List, [], ◌∷◌, ◌++◌, length, replicate, get_or, sym, refl, ap, ◌∙◌, subst, arith}
+use Rattle.std.specs.Prelude.{All, Some, slice_get, slice_index_or}
 use Rattle.std.proofs.Common.{◌-◌, Option}
-use Rattle.std.proofs.lemmas.List.{get_or-append_right}
+use Rattle.std.proofs.lemmas.List.{get_or-append_right, get_or-replicate, length-replicate}
 use Rattle.std.proofs.Math.ListN.{get_or-append}
 use Rattle.std.proofs.lemmas.Option.{slice_get-get_or}
 use mathlib.Core.Logic.{dite}
@@ -12,6 +12,8 @@ use Rattle.bt_core.specs.declared.map.MapKind.TheVariants.{Ints}
 use Rattle.bt_core.specs.declared.step.ObjectId.{ObjectId}
 use Rattle.bt_core.specs.declared.step.ObjectId.TheVariants.{Shared, Cpu, Clock}
 use Rattle.bt_core.specs.declared.step.Op.{Op}
+use Rattle.bt_core.specs.declared.step.Step.{Step}
+use Rattle.bt_core.specs.Kinds.{IsFineDecl}
 use Rattle.step_objects.specs.Clocks.{clock_kind, ClockStands}
 use Rattle.step_objects.specs.CpuTables.{map_at}
 use Rattle.step_objects.specs.Objects.{shared_kind, SharedStands, cpu_kind, CpuStands}
@@ -20,6 +22,8 @@ use Rattle.bt_run.specs.declared.objects.MapParts.{MapParts}
 use Rattle.bt_run.specs.declared.objects.Objects.{Objects}
 use Rattle.bt_run.specs.declared.own.OwnObject.{OwnObject}
 use Rattle.run_base.specs.Jobs.{cpus_in, world_for}
+use Rattle.run_base.specs.Worlds.{World}
+use Rattle.bt_run.specs.Runs.{IsRunOf, first_turn}
 use Rattle.run_base.proofs.MoreLemmas.{count_more}
 use Rattle.bt_run.specs.News.{IsNew, AreNew, AreNewParts, NewMaps}
 use Rattle.bt_run.specs.Objects.{OwnStands, IsPartOf, Stand}
@@ -62,3 +66,27 @@ new_stand job objects maps tables count ticks out =
       ticks = new_stands clock_kind ClockStands (λ of. of ≡ record { cpus = cpus_in job; ticks = length job.attached.ticks }) (record { cpus = cpus_in job; ticks = length job.attached.ticks }) Clock objects.ticks refl ticks;
       out = out;
     }
+
+-- ---- a run that begins
+
+none : (before : List Step) (s : Step) (after : List Step) → [] ≡ before ++ s ∷ after → ⊥
+none [] s after e = let n : 0 ≡ suc (length after) = ap length e in absurd (omega arith)
+none (b ∷ before) s after e = let n : 0 ≡ suc (length (before ++ s ∷ after)) = ap length e in absurd (omega arith)
+
+pub new_run : (w : World) (objects : Objects) (lasts : List ℕ) → All IsFineDecl w.maps → Stand w [] objects → lasts ≡ replicate (w.cpus + 1) 0
+    → IsRunOf w objects lasts 0 [] (first_turn w.cpus)
+new_run w objects lasts fine stand zeros = record {
+  fine = fine;
+  stand = stand;
+  possible = tt;
+  count = ap length zeros ∙ length-replicate (w.cpus + 1) 0;
+  lasts_are = λ a d lt.
+      let long : length lasts ≡ w.cpus + 1 = ap length zeros ∙ length-replicate (w.cpus + 1) 0 in
+      ap (λ (l : List ℕ). get_or l a d) zeros ∙ get_or-replicate (w.cpus + 1) a 0 d (omega arith);
+  top_is = refl;
+  actors = tt;
+  replies = λ before s after e. absurd (none before s after e);
+  stamps = λ before s after e. absurd (none before s after e);
+  between = λ before s after e. absurd (none before s after e);
+  turn_is = record { start = omega arith; own = tt; by = record { actor = refl; floor = refl; begun = omega arith } };
+}
