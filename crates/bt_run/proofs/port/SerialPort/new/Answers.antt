@@ -15,4 +15,4 @@ invariant_of-result c =
     (new_run (record { cpus = c.args.cpus; ticks = c.args.ticks; maps = c.of.result.value }) c.args.objects c.in_ok-lasts.lasts.items
     (subst (All IsFineDecl) (sym c.of.ensures) c.requires.fine)
     (subst (λ (maps : List MapDecl). Stand (record { cpus = c.args.cpus; ticks = c.args.ticks; maps = maps }) [] c.args.objects) (sym c.of.ensures) c.requires.stand)
-    c.in_ok-lasts.ensures.items)
+    (c.in_ok-lasts.ensures.items_if_clones_equal (λ y h. h)))
