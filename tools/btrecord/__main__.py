@@ -2,6 +2,8 @@
 
   python3 tools/btrecord record SYSTEM:EVENT .. [--seconds N] [--buffer-kb N] -o FILE
   python3 tools/btrecord convert PERF.DATA [--formats DIR] -o FILE
+  python3 tools/btrecord cut RECORDING [WHICH ..] -o FILE
+  python3 tools/btrecord dump [--chrome] RECORDING [WHICH ..] [-o FILE]
   python3 tools/btrecord info RECORDING
   python3 tools/btrecord list [-v] RECORDING [PATTERN]
 
@@ -12,11 +14,15 @@ import math
 import signal
 import sys
 
+import selection
+from cutting import cut
+from dumping import dump, lines
 from faults import MEMORY, WORDS, WRITE, Ended, Refused
 from info import info, listing
 from output import Output
 from perfdata import convert
 from record import LEAST_KILOBYTES, MOST_KILOBYTES, Asked, record
+from timeline import timeline
 
 LEAST_SECONDS, MOST_SECONDS = 0.01, 1_000_000
 
@@ -41,6 +47,32 @@ def number(least, most, kind):
     return read
 
 
+def parts(kind):
+    """A reader of words with commas between them."""
+    def read(word):
+        return [kind(part) for part in word.split(",")]
+    return read
+
+
+def told_moment(word):
+    """A reader of times."""
+    try:
+        return selection.moment(word)
+    except ValueError as fault:
+        raise argparse.ArgumentTypeError(f"{word} is no time: seconds as dump shows them (12.5), nanoseconds (12500000000ns), "
+                                         "or with + before either, counted from the recording's start (+0.5)") from fault
+
+
+def add_selection(command):
+    """Adds the words that tell which events of a recording are meant."""
+    command.add_argument("--from", dest="begin", type=told_moment, metavar="TIME", help="events from this time on: 12.5, 12500000000ns, or +0.5")
+    command.add_argument("--to", dest="end", type=told_moment, metavar="TIME", help="events up to this time")
+    for word, kind, metavar, help in [("--comm", str, "NAME", "events of threads of this name; * stands for any letters"),
+                                      ("--pid", number(0, 4_294_967_295, int), "N", "events of this process"),
+                                      ("--event", str, "SYSTEM:EVENT", "events of this tracepoint; * stands for any letters")]:
+        command.add_argument(word, type=parts(kind), action="extend", default=[], metavar=metavar, help=help + "; several with commas between")
+
+
 def words():
     """The words of all commands."""
     parser = Words(prog="btrecord", description="Makes recordings for btreplay, and tells what one holds. It is not proved.")
@@ -55,10 +87,17 @@ def words():
     to_convert.add_argument("--formats", metavar="DIR", help="a folder like /sys/kernel/tracing/events, where the file has no formats")
     for command in (to_record, to_convert):
         command.add_argument("-o", dest="output", metavar="FILE", required=True, help="the recording; - is standard output")
+    to_cut = commands.add_parser("cut", help="write a part of a recording, as a recording")
+    to_cut.add_argument("-o", dest="output", metavar="FILE", required=True, help="the new recording; - is standard output")
+    to_dump = commands.add_parser("dump", help="print a recording's events, as perf script does")
+    to_dump.add_argument("--chrome", action="store_true", help="as a timeline for a trace viewer (JSON)")
+    to_dump.add_argument("-o", dest="output", metavar="FILE", help="where to; without it standard output")
+    for command in (to_cut, to_dump):
+        add_selection(command)
     to_tell = commands.add_parser("info", help="tell what a recording holds")
     to_list = commands.add_parser("list", help="list a recording's tracepoints")
     to_list.add_argument("-v", dest="fields", action="store_true", help="list their fields too, as scripts see them")
-    for command in (to_tell, to_list):
+    for command in (to_cut, to_dump, to_tell, to_list):
         command.add_argument("recording", metavar="RECORDING")
     to_list.add_argument("pattern", nargs="?", default="*", metavar="PATTERN", help="SYSTEM:EVENT, where * stands for any letters")
     return parser
@@ -80,21 +119,43 @@ def report(output, made):
     return lines + made.notes
 
 
+def tell(lines):
+    """Tells lines."""
+    for line in lines:
+        print(f"btrecord: {line}", file=sys.stderr)
+
+
 def run(asked):
     """Does what the words ask."""
-    if asked.command in ("info", "list"):
+    if asked.command in ("info", "list", "dump"):
         signal.signal(signal.SIGPIPE, signal.SIG_DFL)
+    if asked.command in ("info", "list"):
         lines = info(asked.recording) if asked.command == "info" else listing(asked.recording, asked.pattern, asked.fields)
         sys.stdout.write("".join(f"{line}\n" for line in lines))
         sys.stdout.flush()
-        return
+    elif asked.command in ("cut", "dump"):
+        run_part(asked)
+    else:
+        run_making(asked)
+
+
+def run_part(asked):
+    """Writes a part of a recording, or prints it."""
+    which = selection.Asked(asked.begin, asked.end, asked.comm, asked.pid, asked.event)
+    if asked.command == "cut":
+        tell(cut(asked.recording, which, lambda: Output(asked.output)))
+    else:
+        open_output = (lambda: Output(asked.output)) if asked.output not in (None, "-") else None
+        dump(asked.recording, which, open_output, timeline if asked.chrome else lines)
+
+
+def run_making(asked):
+    """Makes a recording."""
     if asked.command == "record":
         made = record(Asked(asked.events, asked.seconds, asked.buffer_kb), lambda: Output(asked.output))
     else:
         made = convert(asked.data, asked.formats, lambda: Output(asked.output))
-    name = "standard output" if asked.output == "-" else asked.output
-    for line in report(name, made):
-        print(f"btrecord: {line}", file=sys.stderr)
+    tell(report("standard output" if asked.output == "-" else asked.output, made))
 
 
 def main(arguments):
