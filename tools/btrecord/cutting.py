@@ -75,5 +75,5 @@ def cut(path, asked, open_output):
                 file.write(spelled_format(format))
             shutil.copyfileobj(scratch, file, COPIED)
     events = sum(count for _, count in contents.cpus)
-    return [f"{kept:,} of the {events:,} events are in {output.path}, from {told_time(selection.start)} to {told_time(selection.end)} s",
+    return [f"{kept:,} of the {events:,} events are in {output.name}, from {told_time(selection.start)} to {told_time(selection.end)} s",
             f"{len(selection.formats):,} of the {len(contents.formats):,} formats and all CPUs are kept"]
