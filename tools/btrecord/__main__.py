@@ -9,6 +9,7 @@
 
 This program is not proved. btreplay checks each recording that it is given.
 """
+import contextlib
 import signal
 import sys
 
@@ -49,27 +50,40 @@ def tell(lines):
 
 def run(asked):
     """Does what the words ask, and answers the status."""
-    if asked.command in ("info", "list", "dump"):
-        signal.signal(signal.SIGPIPE, signal.SIG_DFL)
-    if asked.command in ("info", "list"):
-        told = info(asked.recording) if asked.command == "info" else listing(asked.recording, asked.pattern, asked.fields)
-        sys.stdout.write("".join(f"{line}\n" for line in told))
-        sys.stdout.flush()
-    elif asked.command in ("cut", "dump"):
-        run_part(asked)
-    else:
+    if asked.command in ("record", "convert"):
         return run_making(asked)
+    if asked.command == "cut":
+        tell(cut(asked.recording, which(asked), lambda: Output(asked.output)))
+    else:
+        with ended_by_pipe():
+            run_telling(asked)
     return 0
 
 
-def run_part(asked):
-    """Writes a part of a recording, or prints it."""
-    which = selection.Asked(asked.begin, asked.end, asked.comm, asked.pid, asked.event)
-    if asked.command == "cut":
-        tell(cut(asked.recording, which, lambda: Output(asked.output)))
-    else:
+@contextlib.contextmanager
+def ended_by_pipe():
+    """Has the program end without a word where nobody reads its output any more."""
+    before = signal.signal(signal.SIGPIPE, signal.SIG_DFL)
+    try:
+        yield
+    finally:
+        signal.signal(signal.SIGPIPE, before)
+
+
+def which(asked):
+    """The events that the words ask for."""
+    return selection.Asked(asked.begin, asked.end, asked.comm, asked.pid, asked.event)
+
+
+def run_telling(asked):
+    """Prints what a recording holds."""
+    if asked.command == "dump":
         open_output = (lambda: Output(asked.output)) if asked.output not in (None, "-") else None
-        dump(asked.recording, which, open_output, timeline if asked.chrome else lines)
+        dump(asked.recording, which(asked), open_output, timeline if asked.chrome else lines)
+        return
+    told = info(asked.recording) if asked.command == "info" else listing(asked.recording, asked.pattern, asked.fields)
+    sys.stdout.write("".join(f"{line}\n" for line in told))
+    sys.stdout.flush()
 
 
 def run_making(asked):

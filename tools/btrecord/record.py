@@ -110,8 +110,8 @@ class Recorder:
 
         Once nothing more is kept, steps of what is to be done then are made.
         """
-        self.looks.look(0)
         self.tasks.switch(True)
+        self.looks.look(0)
         self.done.start = nanoseconds()
         began = time.monotonic()
         due = began + seconds if seconds else float("inf")
