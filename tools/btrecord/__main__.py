@@ -14,12 +14,13 @@ import signal
 import sys
 
 import selection
+import tracedat
 from cutting import cut
 from dumping import dump, lines
 from faults import MEMORY, WRITE, Ended, Refused
 from info import info, listing
 from output import Output
-from perfdata import convert
+from perfdata import convert, mapped
 from record import Asked, record
 from script import points_in
 from timeline import timeline
@@ -93,7 +94,11 @@ def run_making(asked):
         made = record(Asked(patterns, asked.seconds, asked.buffer_kb, processes=asked.pid, command=asked.program, is_all=asked.is_all,
                             filters=asked.filters, keeps_latest=asked.keep == "latest", tell=tell), lambda: Output(asked.output))
     else:
-        made = convert(asked.data, asked.formats, lambda: Output(asked.output))
+        data = mapped(asked.data)
+        if data[:len(tracedat.MAGIC)] == tracedat.MAGIC:
+            made = tracedat.convert_trace(data, asked.data, lambda: Output(asked.output))
+        else:
+            made = convert(data, asked.data, asked.formats, lambda: Output(asked.output))
     tell(report("standard output" if asked.output == "-" else asked.output, made))
     return made.status
 
