@@ -98,7 +98,7 @@ def run_making(asked):
         if data[:len(tracedat.MAGIC)] == tracedat.MAGIC:
             made = tracedat.convert_trace(data, asked.data, lambda: Output(asked.output))
         else:
-            made = convert(data, asked.data, asked.formats, lambda: Output(asked.output))
+            made = convert(asked.data, asked.formats, lambda: Output(asked.output), data)
     tell(report("standard output" if asked.output == "-" else asked.output, made))
     return made.status
 
