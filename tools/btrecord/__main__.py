@@ -1,67 +1,30 @@
-"""btrecord: makes recordings for btreplay, and tells what one holds.
+"""btrecord: makes recordings for btreplay, takes parts of them, and tells what one holds.
 
-  python3 tools/btrecord record SYSTEM:EVENT .. [--seconds N] [--buffer-kb N] -o FILE
+  python3 tools/btrecord record SYSTEM:EVENT .. [OPTIONS] -o FILE [-- COMMAND ..]
   python3 tools/btrecord convert PERF.DATA [--formats DIR] -o FILE
+  python3 tools/btrecord cut RECORDING [WHICH ..] -o FILE
+  python3 tools/btrecord dump [--chrome] RECORDING [WHICH ..] [-o FILE]
   python3 tools/btrecord info RECORDING
   python3 tools/btrecord list [-v] RECORDING [PATTERN]
 
 This program is not proved. btreplay checks each recording that it is given.
 """
-import argparse
-import math
+import contextlib
 import signal
 import sys
 
-from faults import MEMORY, WORDS, WRITE, Ended, Refused
+import selection
+import tracedat
+from cutting import cut
+from dumping import dump, lines
+from faults import MEMORY, WRITE, Ended, Refused
 from info import info, listing
 from output import Output
-from perfdata import convert
-from record import LEAST_KILOBYTES, MOST_KILOBYTES, Asked, record
-
-LEAST_SECONDS, MOST_SECONDS = 0.01, 1_000_000
-
-
-class Words(argparse.ArgumentParser):
-    """The words of the program, whose faults are told as all others."""
-
-    def error(self, message):
-        self.exit(WORDS, f"btrecord: {message}\n{self.format_usage()}")
-
-
-def number(least, most, kind):
-    """A reader of numbers in a range."""
-    def read(word):
-        try:
-            found = kind(word)
-        except ValueError:
-            found = math.nan
-        if not least <= found <= most:
-            raise argparse.ArgumentTypeError(f"{word} is not a number from {least} to {most}")
-        return found
-    return read
-
-
-def words():
-    """The words of all commands."""
-    parser = Words(prog="btrecord", description="Makes recordings for btreplay, and tells what one holds. It is not proved.")
-    commands = parser.add_subparsers(dest="command", required=True, metavar="COMMAND", parser_class=Words)
-    to_record = commands.add_parser("record", help="record tracepoints of all CPUs (as root)")
-    to_record.add_argument("events", nargs="+", metavar="SYSTEM:EVENT", help="a tracepoint; * stands for any letters")
-    to_record.add_argument("--seconds", type=number(LEAST_SECONDS, MOST_SECONDS, float), metavar="N", help="how long; without it until Ctrl-C")
-    to_record.add_argument("--buffer-kb", type=number(LEAST_KILOBYTES, MOST_KILOBYTES, int), default=8192, metavar="N",
-                           help="the kernel's buffer for each CPU, in kilobytes (8192)")
-    to_convert = commands.add_parser("convert", help="convert a file of perf record -a -R")
-    to_convert.add_argument("data", metavar="PERF.DATA")
-    to_convert.add_argument("--formats", metavar="DIR", help="a folder like /sys/kernel/tracing/events, where the file has no formats")
-    for command in (to_record, to_convert):
-        command.add_argument("-o", dest="output", metavar="FILE", required=True, help="the recording; - is standard output")
-    to_tell = commands.add_parser("info", help="tell what a recording holds")
-    to_list = commands.add_parser("list", help="list a recording's tracepoints")
-    to_list.add_argument("-v", dest="fields", action="store_true", help="list their fields too, as scripts see them")
-    for command in (to_tell, to_list):
-        command.add_argument("recording", metavar="RECORDING")
-    to_list.add_argument("pattern", nargs="?", default="*", metavar="PATTERN", help="SYSTEM:EVENT, where * stands for any letters")
-    return parser
+from perfdata import convert, mapped
+from record import Asked, record
+from script import points_in
+from timeline import timeline
+from words import parsed
 
 
 def plural(count, word):
@@ -80,29 +43,72 @@ def report(output, made):
     return lines + made.notes
 
 
-def run(asked):
-    """Does what the words ask."""
-    if asked.command in ("info", "list"):
-        signal.signal(signal.SIGPIPE, signal.SIG_DFL)
-        lines = info(asked.recording) if asked.command == "info" else listing(asked.recording, asked.pattern, asked.fields)
-        sys.stdout.write("".join(f"{line}\n" for line in lines))
-        sys.stdout.flush()
-        return
-    if asked.command == "record":
-        made = record(Asked(asked.events, asked.seconds, asked.buffer_kb), lambda: Output(asked.output))
-    else:
-        made = convert(asked.data, asked.formats, lambda: Output(asked.output))
-    name = "standard output" if asked.output == "-" else asked.output
-    for line in report(name, made):
+def tell(lines):
+    """Tells lines."""
+    for line in lines:
         print(f"btrecord: {line}", file=sys.stderr)
+
+
+def run(asked):
+    """Does what the words ask, and answers the status."""
+    if asked.command in ("record", "convert"):
+        return run_making(asked)
+    if asked.command == "cut":
+        tell(cut(asked.recording, which(asked), lambda: Output(asked.output)))
+    else:
+        with ended_by_pipe():
+            run_telling(asked)
+    return 0
+
+
+@contextlib.contextmanager
+def ended_by_pipe():
+    """Has the program end without a word where nobody reads its output any more."""
+    before = signal.signal(signal.SIGPIPE, signal.SIG_DFL)
+    try:
+        yield
+    finally:
+        signal.signal(signal.SIGPIPE, before)
+
+
+def which(asked):
+    """The events that the words ask for."""
+    return selection.Asked(asked.begin, asked.end, asked.comm, asked.pid, asked.event)
+
+
+def run_telling(asked):
+    """Prints what a recording holds."""
+    if asked.command == "dump":
+        open_output = (lambda: Output(asked.output)) if asked.output not in (None, "-") else None
+        dump(asked.recording, which(asked), open_output, timeline if asked.chrome else lines)
+        return
+    told = info(asked.recording) if asked.command == "info" else listing(asked.recording, asked.pattern, asked.fields)
+    sys.stdout.write("".join(f"{line}\n" for line in told))
+    sys.stdout.flush()
+
+
+def run_making(asked):
+    """Makes a recording, and answers the status of the command that ran meanwhile."""
+    if asked.command == "record":
+        patterns = asked.events + [point for path in asked.scripts for point in points_in(path)]
+        made = record(Asked(patterns, asked.seconds, asked.buffer_kb, processes=asked.pid, command=asked.program, is_all=asked.is_all,
+                            filters=asked.filters, keeps_latest=asked.keep == "latest", tell=tell), lambda: Output(asked.output))
+    else:
+        data = mapped(asked.data)
+        if data[:len(tracedat.MAGIC)] == tracedat.MAGIC:
+            made = tracedat.convert_trace(data, asked.data, lambda: Output(asked.output))
+        else:
+            made = convert(asked.data, asked.formats, lambda: Output(asked.output), data)
+    tell(report("standard output" if asked.output == "-" else asked.output, made))
+    return made.status
 
 
 def main(arguments):
     """Does what the words ask, and gives the status of README's table."""
     try:
-        run(words().parse_args(arguments))
+        return run(parsed(arguments))
     except (Refused, Ended) as fault:
-        print(f"btrecord: {fault}", file=sys.stderr)
+        tell(str(fault).split("\n"))
         return fault.status
     except OSError as error:
         print(f"btrecord: {error.filename or 'output'}: {error.strerror}", file=sys.stderr)
@@ -112,7 +118,6 @@ def main(arguments):
         return MEMORY
     except KeyboardInterrupt:
         return 128 + signal.SIGINT
-    return 0
 
 
 if __name__ == "__main__":

@@ -23,13 +23,14 @@ class BadFormat(Exception):
 
 @dataclass(frozen=True)
 class Field:
-    """A field of a record: how it is declared, where it stands, and how a script may read it."""
+    """A field of a record: how it is declared, where it stands, how a script may read it, and whether a number has a sign."""
 
     name: bytes
     declaration: bytes
     offset: int
     size: int
     kind: str
+    signed: bool = False
 
 
 @dataclass(frozen=True)
@@ -75,12 +76,13 @@ def field_on(line):
         return None
     declaration = labelled(b"field:", parts[0])
     offset, size = (number_in(labelled(label, part) or b"", MOST_NUMBER) for label, part in ((b"offset:", parts[1]), (b"size:", parts[2])))
-    if declaration is None or offset is None or size is None or labelled(b"signed:", parts[3]) not in (b"0", b"1"):
+    signed = labelled(b"signed:", parts[3])
+    if declaration is None or offset is None or size is None or signed not in (b"0", b"1"):
         return None
     is_array = declaration.endswith(b"]") and b"[" in declaration
     named = declaration[:declaration.rindex(b"[")] if is_array else declaration
     name = LAST_WORD.search(named)[0]
-    return Field(name, declaration, offset, size, kind_of(named[:len(named) - len(name)], is_array, size))
+    return Field(name, declaration, offset, size, kind_of(named[:len(named) - len(name)], is_array, size), signed == b"1")
 
 
 def fields_on(lines):

@@ -1,11 +1,12 @@
 """What a recording holds, in words."""
-import re
 from array import array
 from collections import Counter
 
 from faults import Refused
 from format_text import CHARS, DATA_LOC, NUMBER
 from reading import read_file
+from selection import fits, without_kind
+from values import shown
 
 MOST_NAMES = 20
 MOST_PROCESSES = 20
@@ -46,12 +47,6 @@ def gaps(times, start, end):
             found.append((time - before, before))
         before = time
     return sorted(found, key=lambda gap: (-gap[0], gap[1]))[:MOST_GAPS]
-
-
-def shown(name):
-    """A thread's name as text, whatever its bytes are."""
-    text = name.split(b"\0", 1)[0].decode("utf-8", "backslashreplace")
-    return "".join(letter if letter.isprintable() else f"\\x{ord(letter):02x}" for letter in text)
 
 
 def most(counted, limit, name):
@@ -98,19 +93,10 @@ def fields_of(layout):
             for field in named]
 
 
-def fits(pattern):
-    """Whether the tracepoint of a format fits a pattern: by SYSTEM:EVENT, or where the pattern has no colon also by its event alone."""
-    found = re.compile(".*".join(re.escape(part) for part in pattern.split("*")))
-    return lambda format: found.fullmatch(format.name) or ":" not in pattern and found.fullmatch(format.layout.name.decode())
-
-
 def listing(path, pattern, with_fields):
     """The tracepoints of a recording that fit a pattern, by name, and with their fields where that is asked."""
     formats = sorted(read_file(path).formats, key=lambda format: format.name)
-    for kind in ("tracepoint:", "t:"):
-        if pattern.startswith(kind):
-            pattern = pattern[len(kind):]
-            break
+    pattern = without_kind(pattern)
     lines = []
     for format in filter(fits(pattern), formats):
         lines.append(f"tracepoint:{format.name}")

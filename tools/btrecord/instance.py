@@ -3,7 +3,7 @@ import os
 import re
 import time
 
-from faults import Refused
+from faults import WORDS, Refused
 from spool import Spool
 
 PREFIX = "btrecord-"
@@ -12,10 +12,10 @@ OWN_NAME = re.compile(r"btrecord-(\d+)(?:-(\d+))?(?:-tasks)?")
 DEAD_STATES = "ZX"
 
 
-def write(path, text):
-    """Writes to a file of tracefs."""
+def write(path, text, more=os.O_TRUNC):
+    """Writes to a file of tracefs, or behind what it has where `more` is 0."""
     try:
-        with open(path, "w") as file:
+        with open(os.open(path, os.O_WRONLY | os.O_CREAT | more), "w") as file:
             file.write(text)
     except OSError as error:
         raise Refused(f"{path}: {error.strerror}") from error
@@ -99,9 +99,16 @@ class Ring:
 
     def counts(self):
         """What the kernel counted: how many events were read, are still there, and were thrown away since there was no room."""
-        found = dict(re.findall(r"^([a-z ]+): +(\d+)$", contents(self.stats).decode(), re.MULTILINE))
-        lost = sum(int(found.get(label, 0)) for label in ("overrun", "commit overrun", "dropped events"))
-        return int(found.get("read events", 0)), int(found.get("entries", 0)), lost
+        found = self.found()
+        return found.get("read events", 0), found.get("entries", 0), sum(found.get(label, 0) for label in ("overrun", "commit overrun", "dropped events"))
+
+    def overwritten(self):
+        """How many events the kernel wrote others over."""
+        return self.found().get("overrun", 0)
+
+    def found(self):
+        """The numbers that the kernel shows of the ring."""
+        return {label: int(number) for label, number in re.findall(r"^([a-z ]+): +(\d+)$", contents(self.stats).decode(), re.MULTILINE)}
 
 
 class Instance:
@@ -141,6 +148,24 @@ class Instance:
             write(f"{self.path}/set_event_notrace_pid", str(os.getpid()))
             self.filtered = True
 
+    def follow(self, threads_of):
+        """Has only those threads recorded that `threads_of` answers, and what they start. They are asked for until no more come."""
+        write(f"{self.path}/options/event-fork", "1")
+        done = set()
+        while new := threads_of() - done:
+            write(f"{self.path}/set_event_pid", " ".join(map(str, sorted(new))) + "\n", 0)
+            done |= new
+
+    def filter(self, pairs, expression):
+        """Has the kernel keep only those events for which an expression holds. What it says against one is told."""
+        for system, event in pairs:
+            path = f"{self.path}/events/{system}/{event}/filter"
+            try:
+                write(path, expression)
+            except Refused as refused:
+                told = contents(path).decode(errors="replace").rstrip() if "parse_error" in contents(path).decode(errors="replace") else str(refused)
+                raise Refused(f"--filter {system}:{event}: the kernel does not take it:\n{told}", WORDS) from refused
+
     def enable(self, pairs, go_on=lambda: None):
         """Enables events, and asks between two whether to go on. Answers those that are enabled."""
         done = []
@@ -169,6 +194,10 @@ class Instance:
     def counts(self):
         """How many events of all CPUs were read, are still there, and were lost."""
         return [sum(counts) for counts in zip(*(ring.counts() for ring in self.rings.values()))] or [0, 0, 0]
+
+    def overwritten(self):
+        """How many events of all CPUs the kernel wrote others over."""
+        return sum(ring.overwritten() for ring in self.rings.values())
 
     def spools(self):
         """What was kept of each CPU."""

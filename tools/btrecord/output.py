@@ -22,6 +22,8 @@ class Output:
 
     def __init__(self, path):
         self.path = path
+        self.is_standard = path == "-"
+        self.name = "standard output" if self.is_standard else path
         self.old = None
         self.stream = None
         self.folder = None
@@ -32,7 +34,7 @@ class Output:
 
     def open(self):
         """Looks at what the name stands for."""
-        if self.path == "-":
+        if self.is_standard:
             if not sys.stdout:
                 raise Refused("standard output is closed", WRITE)
             if sys.stdout.isatty():

@@ -357,9 +357,9 @@ def mapped(path):
         raise of_file(path, error, READ) from error
 
 
-def convert(path, folder, open_output):
+def convert(path, folder, open_output, data=None):
     """Makes a recording of a file of perf, and writes it to what `open_output` answers. The formats stand in the file, or in a folder."""
-    data = mapped(path)
+    data = mapped(path) if data is None else data
     parts = parts_of(data)
     if not folder and not parts.tracing and any(a.kind == TRACEPOINT for a in parts.attributes):
         raise Refused("the file has no formats; give them by --formats DIR")

@@ -2,7 +2,12 @@
 
 docs/RECORDINGS.md has the checks C1 to C11 and their order.
 """
-from dataclasses import dataclass
+import heapq
+import mmap
+import os
+import stat
+from dataclasses import dataclass, field
+from typing import NamedTuple
 
 import container
 from container import CPU, EVENT, HEADER, MAGIC, SYSTEM, Format
@@ -16,12 +21,28 @@ class BadRecording(Exception):
 
 @dataclass(frozen=True)
 class Contents:
-    """A recording beside its events: its span, its formats in their order, and each CPU's number and how many events it has."""
+    """A recording beside its events: its span, its formats in their order, each CPU's number and how many events it has, and where these begin."""
 
     start: int
     end: int
     formats: list
     cpus: list
+    begins: list = field(default_factory=list)
+
+
+class Event(NamedTuple):
+    """An event of a recording. It stands in the recording's bytes from `at` to `end`, and its payload from `payload` on."""
+
+    time: int
+    cpu: int
+    process: int
+    thread: int
+    user: int
+    group: int
+    name: bytes
+    at: int
+    payload: int
+    end: int
 
 
 def whole(data, at, size):
@@ -108,6 +129,7 @@ def read_recording(data, take=lambda *event: None):
         announced += count
         if announced > container.MOST_EVENTS:
             raise BadRecording("C3 bad count: events")
+        contents.begins.append(behind)
         at = read_events(data, behind, (number, place), count, contents, take)
         contents.cpus.append((number, count))
         before = number
@@ -116,16 +138,48 @@ def read_recording(data, take=lambda *event: None):
     return contents
 
 
-def read_file(path, take=lambda *event: None):
-    """What a file holds that is a recording; its faults are told as `btreplay check` tells them."""
+def bytes_of(path):
+    """The bytes of a file: mapped, so that only what is looked at takes memory, or read where that can't be, as of a pipe."""
     try:
         with open(path, "rb") as file:
-            data = file.read(container.MOST_BYTES + 1)
+            status = os.fstat(file.fileno())
+            if not stat.S_ISREG(status.st_mode) or not status.st_size:
+                data = file.read(container.MOST_BYTES + 1)
+            elif status.st_size <= container.MOST_BYTES:
+                return mmap.mmap(file.fileno(), 0, access=mmap.ACCESS_READ)
+            else:
+                data = None
     except OSError as error:
         raise of_file(path, error, READ) from error
-    if len(data) > container.MOST_BYTES:
+    if data is None or len(data) > container.MOST_BYTES:
         raise Refused(f"{path}: recording too long", RECORDING)
+    return data
+
+
+def read_file(path, take=lambda *event: None):
+    """What a file holds that is a recording; its faults are told as `btreplay check` tells them."""
+    return opened(path, take)[1]
+
+
+def opened(path, take=lambda *event: None):
+    """The bytes of a file that is a recording, and what they hold; its faults are told as `btreplay check` tells them."""
+    data = bytes_of(path)
     try:
-        return read_recording(data, take)
+        return data, read_recording(data, take)
     except BadRecording as fault:
         raise Refused(f"{path}: {fault}", RECORDING) from fault
+
+
+def events_of(data, contents, place):
+    """The events of the CPU at this place of a recording that was checked, in their order."""
+    number, count = contents.cpus[place]
+    at, unpack, head = contents.begins[place], EVENT.unpack_from, EVENT.size
+    for _ in range(count):
+        time, process, thread, user, group, name, size = unpack(data, at)
+        yield Event(time, number, process, thread, user, group, name, at, at + head, at + head + size)
+        at += head + size
+
+
+def by_time(data, contents):
+    """The events of all CPUs by their times, and those of one time in the order of the CPUs."""
+    return heapq.merge(*(events_of(data, contents, place) for place in range(len(contents.cpus))), key=lambda event: event.time)

@@ -6,18 +6,22 @@ import resource
 import sys
 import tempfile
 import time
+from bisect import bisect_left
 from dataclasses import dataclass, field
 
 import container
 from assembly import PAST_LIMITS, Assembly
+from command import Command
 from container import format_of, test_formats
 from faults import WORDS, WRITE, Ended, Refused, of_file
-from instance import Instance, contents, own_name, remove_left
-from ring import page_shape
+from instance import Instance, contents, own_name, remove_left, started
+from latest import RollingLooks, fits_from, whole_from
+from life import Silence, Signs, told_growing, told_rolling, told_start
+from ring import Records, page_shape
 from signals import Signals, name_of
 from spool import windows
 from tasks import Looks, Tasks, task_changes
-from tracepoints import chosen
+from tracepoints import chosen, matching
 
 PLACES = ["/sys/kernel/tracing", "/sys/kernel/debug/tracing"]
 TASK_EVENTS = ["task_newtask", "task_rename"]
@@ -75,18 +79,21 @@ class Recorded:
     read: int = 0
     lost: int = 0
     uncounted: int = 0
+    overwritten: int = 0
     signal: int = None
-    notes: list = field(default_factory=list)
+    cause: str = None
 
 
 class Recorder:
     """Keeps what an instance with the wanted events holds, and one with the events of tasks beside it."""
 
-    def __init__(self, main, tasks, looks, signals):
+    def __init__(self, main, tasks, looks, signals, target=None, signs=None):
         self.main = main
         self.tasks = tasks
         self.looks = looks
         self.signals = signals
+        self.target = target or Target()
+        self.signs = signs or Silence()
         self.done = Recorded()
         self.is_enough = False
         self.is_pressed = False
@@ -99,21 +106,28 @@ class Recorder:
             raise Ended(came, name_of(came))
 
     def run(self, seconds, steps):
-        """Records for so many seconds, or until a signal comes. Once nothing more is kept, steps of what is to be done then are made."""
-        self.looks.look(0)
+        """Records for so many seconds, until a signal comes, or until the target has ended.
+
+        Once nothing more is kept, steps of what is to be done then are made.
+        """
         self.tasks.switch(True)
+        self.looks.look(0)
         self.done.start = nanoseconds()
         began = time.monotonic()
         due = began + seconds if seconds else float("inf")
         self.main.switch(True)
-        while not self.done.signal and time.monotonic() < due:
+        self.target.begin()
+        while not self.done.signal and not self.done.cause and time.monotonic() < due:
             is_busy = next(steps, None) if self.done.full_at else self.is_pressed
-            self.done.signal = self.signals.wait(0 if is_busy else min(ROUND_SECONDS, due - time.monotonic()))
+            self.done.cause = self.target.ended()
+            self.done.signal = self.signals.wait(0 if is_busy or self.done.cause else min(ROUND_SECONDS, due - time.monotonic()))
             if not self.done.full_at and not self.done.signal:
                 self.round(due)
         self.main.switch(False)
+        self.signs.close()
         self.done.end = nanoseconds()
         self.tasks.switch(False)
+        self.target.end()
         if not self.done.full_at:
             self.main.drain()
             self.tasks.drain()
@@ -125,16 +139,29 @@ class Recorder:
         self.is_pressed = self.main.drain(True, due) > self.main.most / PRESSING
         if sum(ring.spool.bytes for ring in self.tasks.rings.values()) < container.MOST_BYTES:
             self.tasks.drain(True, due)
-        if time.monotonic() >= self.next_look:
-            began = time.monotonic()
-            self.looks.look(now, min(due, began + LOOK_SECONDS))
-            self.next_look = time.monotonic() + max(LOOK_SECONDS, (time.monotonic() - began) / LOOK_SHARE)
+        self.look(now, due)
+        if self.signs.is_due():
+            self.show()
         if self.is_enough:
+            self.signs.close()
             self.done.full_at = now
             self.done.lost = self.main.counts()[2]
             self.tasks.switch(False)
             print(f"btrecord: the recording is full after {(now - self.done.start) / 1e9:.3f} s; what comes now is only counted", file=sys.stderr)
         self.is_enough = self.holds_enough()
+
+    def look(self, now, due):
+        """Looks at the threads that live, where it is time to."""
+        if time.monotonic() >= self.next_look:
+            began = time.monotonic()
+            self.looks.look(now, min(due, began + LOOK_SECONDS))
+            self.next_look = time.monotonic() + max(LOOK_SECONDS, (time.monotonic() - began) / LOOK_SHARE)
+
+    def show(self):
+        """Shows how far the recording is."""
+        read, entries, lost = self.main.counts()
+        kept = sum(ring.spool.bytes for ring in self.main.rings.values())
+        self.signs.show(told_growing(read + entries, kept + MORE_BYTES * read, lost))
 
     def holds_enough(self):
         """Whether what is kept so far is all that a recording holds."""
@@ -154,23 +181,101 @@ class Recorder:
             self.done.lost = lost
 
 
+class LatestRecorder(Recorder):
+    """Leaves what comes in the kernel's rings, where later events overwrite earlier ones, and keeps what is there at the end."""
+
+    def round(self, due):
+        """Looks at the threads alone."""
+        self.look(nanoseconds(), due)
+        if self.signs.is_due():
+            self.show()
+
+    def show(self):
+        """Shows what there is."""
+        _, entries, lost = self.main.counts()
+        overwritten = self.main.overwritten()
+        self.signs.show(told_rolling(entries, overwritten, lost - overwritten))
+
+    def count(self):
+        """What the kernel counted. What was overwritten is not lost, since later events were wanted."""
+        self.done.read, _, lost = self.main.counts()
+        self.done.overwritten = self.main.overwritten()
+        self.done.lost = lost - self.done.overwritten
+
+
+class Target:
+    """Whose end is also the recording's: of a command, of some processes, or nobody's."""
+
+    def __init__(self, command=None, processes=()):
+        self.command = command
+        self.starts = {process: started(process) for process in processes}
+        for process, start in self.starts.items():
+            if start is None:
+                raise Refused(f"--pid {process}: there is no such process", WORDS)
+
+    def threads(self):
+        """The threads that are recorded, where not all are."""
+        if self.command:
+            return {self.command.process}
+        found = set()
+        for process in self.starts:
+            with contextlib.suppress(FileNotFoundError, ProcessLookupError):
+                found |= set(map(int, os.listdir(f"/proc/{process}/task")))
+        return found
+
+    def begin(self):
+        """Begins the command."""
+        if self.command:
+            self.command.go()
+
+    def ended(self):
+        """How it ended, or nothing while it lives."""
+        if self.command:
+            return self.command.told() if self.command.has_ended() else None
+        if self.starts and all(started(process) != start for process, start in self.starts.items()):
+            return "all of its processes ended" if len(self.starts) > 1 else f"process {next(iter(self.starts))} ended"
+        return None
+
+    def end(self):
+        """Has the command end."""
+        if self.command:
+            self.command.end()
+
+
 @dataclass
 class Asked:
-    """What to record: patterns of tracepoints, for how many seconds (none: until a signal comes), with rings of so many kilobytes."""
+    """What to record.
+
+    Patterns of tracepoints, for how many seconds (none: until a signal comes), with rings of so many kilobytes; only what some processes
+    or a command do, but for a command with `is_all`; only events for which the expression of a pattern holds; and of all events the latest.
+    """
 
     patterns: list
     seconds: float
     kilobytes: int
     top: str = None
+    processes: list = ()
+    command: list = ()
+    is_all: bool = False
+    filters: list = ()
+    keeps_latest: bool = False
+    tell: object = None
+
+    @property
+    def is_of_some(self):
+        """Whether only some threads are recorded."""
+        return bool(self.processes or self.command and not self.is_all)
 
 
 @dataclass
 class Made:
-    """What stands in the output, and what is told of it."""
+    """What stands in the output, what is told of it, and the status that the program ends with."""
 
     assembly: Assembly
     lost: int
     notes: list
+    status: int = 0
+    signal: int = None
 
 
 class Joining:
@@ -184,6 +289,25 @@ class Joining:
         self.assembly = None
         self.own = 0
         self.handled = 0
+        self.begin = 0
+        self.before = 0
+
+    def keep_latest(self):
+        """Leaves out what is before the time from which on all events of all CPUs are there, and fit."""
+        main = self.recorder.main
+        room = container.MOST_BYTES - container.head_bytes(self.formats, len(cpus_of(main)))
+        self.begin = max(whole_from(main), fits_from(main.spools(), room))
+
+    def later(self, window):
+        """Of the events of some CPUs those that are not left out."""
+        if not self.begin:
+            return window
+        found = []
+        for cpu, of in window:
+            first = bisect_left(of.times, self.begin)
+            self.before += first
+            found.append((cpu, Records(of.times[first:], of.threads[first:], of.payloads[first:])))
+        return [(cpu, of) for cpu, of in found if of.times]
 
     def steps(self):
         """Puts the events of a short span of time into it, and answers that there may be more, until all are in it that fit."""
@@ -193,6 +317,7 @@ class Joining:
         self.tasks = Tasks(heapq.merge(self.recorder.looks.changes(), of_kernel, key=lambda change: change.time))
         latest = done.full_at or float("inf")
         for until, found in windows(main.spools(), lambda time: self.tasks.until(min(time, latest))):
+            found = self.later(found)
             self.assembly.take_window([(cpu, of.times, [self.tasks.head(thread, cpu) for thread in of.threads], of.payloads) for cpu, of in found])
             self.handled += sum(len(of.times) for _, of in found)
             self.own += sum(of.threads.count(os.getpid()) for _, of in found)
@@ -220,16 +345,31 @@ def record(asked, open_output):
     notes = remove_left(top)
     wanted = chosen(top, asked.patterns)
     test_formats(wanted.formats)
+    filters = [(filtered(pattern, wanted.pairs), expression) for pattern, expression in asked.filters]
     limits = resource.getrlimit(resource.RLIMIT_NOFILE)
     resource.setrlimit(resource.RLIMIT_NOFILE, (limits[1], limits[1]))
-    with open_output() as output, Signals() as signals:
+    with open_output() as output, Signals() as signals, contextlib.ExitStack() as stack:
+        command = stack.enter_context(Command(asked.command, signals, output.is_standard)) if asked.command else None
+        target = Target(command, asked.processes)
         try:
-            return recorded(top, asked, wanted, output, signals, notes)
+            made = recorded(top, asked, wanted, filters, output, signals, target, notes)
         except OSError as error:
             raise of_file(error.filename or output.folder or tempfile.gettempdir(), error, WRITE) from error
+        if command and not command.wait():
+            made.notes.append(f"{asked.command[0]} was told to end, and still runs as process {command.process}")
+        made.status = command.exit_status(made.signal) if command else 0
+        return made
 
 
-def recorded(top, asked, wanted, output, signals, notes):
+def filtered(pattern, pairs):
+    """The tracepoints that an expression is for."""
+    found = matching(pattern, pairs)
+    if not found:
+        raise Refused(f"--filter {pattern}: no tracepoint of this name is recorded", WORDS)
+    return found
+
+
+def recorded(top, asked, wanted, filters, output, signals, target, notes):
     """Records, and writes the recording once its instances are gone."""
     shape = page_shape(contents(f"{top}/events/header_page").decode())
     size = page_bytes(top)
@@ -237,25 +377,52 @@ def recorded(top, asked, wanted, output, signals, notes):
     texts = [format_of(system.encode(), contents(f"{top}/events/{system}/{event}/format")) for system, event in watched]
     path = f"{top}/instances/{own_name()}"
     main, tasks = Instance(path, shape, size), Instance(f"{path}-tasks", shape, size)
-    looks = Looks(output.folder)
-    recorder = Recorder(main, tasks, looks, signals)
+    looks = (RollingLooks if asked.keeps_latest else Looks)(output.folder)
+    recorder = (LatestRecorder if asked.keeps_latest else Recorder)(main, tasks, looks, signals, target, Signs() if asked.tell else None)
     with contextlib.ExitStack() as stack:
         for instance, kilobytes, pairs in [(tasks, TASK_KILOBYTES, watched), (main, asked.kilobytes, wanted.pairs)]:
             stack.enter_context(instance).set_up(kilobytes, output.folder)
+            if instance is main:
+                narrow(main, asked, filters, target)
             enabled = set(instance.enable(pairs, recorder.go_on))
         formats = [format for pair, format in zip(wanted.pairs, wanted.formats) if pair in enabled]
         if not formats:
             raise Refused(told_left_out(wanted.left_out | main.left_out))
         joining = Joining(recorder, texts, formats, output.folder)
         steps = joining.steps()
+        if asked.tell:
+            asked.tell([told_start(asked, len(formats), len(online() & set(main.rings)), output.name)])
         recorder.run(asked.seconds, steps)
+        if asked.keeps_latest:
+            joining.keep_latest()
     notes += [instance.stays for instance in (main, tasks) if instance.stays]
     notes += [told_left_out(wanted.left_out | main.left_out)] if wanted.left_out or main.left_out else []
+    return written(recorder.done, joining, steps, output, asked, notes)
+
+
+def narrow(main, asked, filters, target):
+    """Has the kernel keep only what is asked for."""
+    if asked.is_of_some:
+        main.follow(target.threads)
+    for pairs, expression in filters:
+        main.filter(pairs, expression)
+
+
+def written(done, joining, steps, output, asked, notes):
+    """Writes the recording, and answers what is to be told."""
     notes = joining.finish(steps) + notes
-    start, end = joining.assembly.span(recorder.done.start, recorder.done.full_at or recorder.done.end)
+    start, end = joining.assembly.span(max(done.start, joining.begin), done.full_at or done.end)
     with output.writing() as file:
         joining.assembly.write(file, start, end)
-    return Made(joining.assembly, recorder.done.lost, [told_span(recorder.done, asked.seconds, end - start)] + notes)
+    if asked.keeps_latest:
+        notes = told_before(done, joining) + notes
+    return Made(joining.assembly, done.lost, [told_span(done, asked, end - start)] + notes, signal=done.signal)
+
+
+def told_before(done, joining):
+    """What came before a recording that keeps the latest events."""
+    told = [f"{done.overwritten:,} earlier events were overwritten"]
+    return told + ([f"{joining.before:,} more were left out, so that it has all events of all CPUs from its start on"] if joining.before else [])
 
 
 def told_left_out(left_out):
@@ -266,11 +433,14 @@ def told_left_out(left_out):
     return f"{len(left_out)} tracepoints left out: " + "; ".join(f"{' '.join(names)} ({cause})" for cause, names in causes.items())
 
 
-def told_span(done, seconds, covered):
+def told_span(done, asked, covered):
     """Which part of the asked time the recording covers."""
-    asked = f" of the {seconds:g} s asked" if seconds else ""
-    why = "; the recording is full" if covered < done.end - done.start else f"; {name_of(done.signal)} ended it" if done.signal else ""
-    return f"it covers the first {covered / 1e9:.3f} s{asked}{why}"
+    span = f" of the {asked.seconds:g} s asked" if asked.seconds else ""
+    why = f"; {done.cause}" if done.cause else f"; {name_of(done.signal)} ended it" if done.signal else ""
+    if asked.keeps_latest:
+        return f"it covers the last {covered / 1e9:.3f} s of {(done.end - done.start) / 1e9:.3f} s{why}"
+    why = "; the recording is full" if covered < done.end - done.start else why
+    return f"it covers the first {covered / 1e9:.3f} s{span}{why}"
 
 
 def online(path="/sys/devices/system/cpu/online"):

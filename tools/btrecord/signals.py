@@ -38,9 +38,14 @@ class Signals:
         came = signal.sigtimedwait(self.held, max(seconds, 0))
         return came.si_signo if came else None
 
+    def give_back(self, but=()):
+        """Makes all as it was before, but for how these signals are taken."""
+        for number, handler in self.handlers.items():
+            if number not in but:
+                signal.signal(number, handler)
+        signal.pthread_sigmask(signal.SIG_SETMASK, self.before)
+
     def __exit__(self, *_):
         while self.wait(0):
             pass
-        for number, handler in self.handlers.items():
-            signal.signal(number, handler)
-        signal.pthread_sigmask(signal.SIG_SETMASK, self.before)
+        self.give_back()

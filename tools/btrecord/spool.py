@@ -1,4 +1,5 @@
 """What comes while a recording is made, in files without names: the pages of rings."""
+import itertools
 import struct
 from bisect import bisect_right
 
@@ -24,21 +25,29 @@ class Spool:
             self.file.write(LENGTH.pack(end) + page[:end])
             self.bytes += end - self.shape.data
 
+    def pages(self):
+        """The pages that were kept, in their order."""
+        self.file.seek(0)
+        while head := self.file.read(LENGTH.size):
+            yield self.file.read(LENGTH.unpack(head)[0])
+
     def chunks(self):
         """All records, those of some pages at a time."""
-        self.file.seek(0)
-        latest = 0
-        while True:
-            found = Records([latest], [0], [b""])
-            for _ in range(PAGES_AT_ONCE):
-                head = self.file.read(LENGTH.size)
-                if not head:
-                    break
-                take_records(found, self.file.read(LENGTH.unpack(head)[0]), self.shape)
-            if not head and len(found.times) == 1:
-                return
-            latest = found.times[-1]
-            yield Records(found.times[1:], found.threads[1:], found.payloads[1:])
+        return chunks_of(self.pages(), self.shape)
+
+
+def chunks_of(pages, shape):
+    """The records of a CPU's pages, those of some pages at a time."""
+    latest = 0
+    while True:
+        found, count = Records([latest], [0], [b""]), 0
+        for page in itertools.islice(pages, PAGES_AT_ONCE):
+            take_records(found, page, shape)
+            count += 1
+        if not count:
+            return
+        latest = found.times[-1]
+        yield Records(found.times[1:], found.threads[1:], found.payloads[1:])
 
 
 class Stream:

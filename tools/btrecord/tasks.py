@@ -94,16 +94,25 @@ class Looks:
         status = read(f"{self.proc}/{process}/task/{thread}/status")
         if status and self.bytes < MOST_LOOKED:
             name = read(f"{self.proc}/{process}/task/{thread}/comm").rstrip(b"\n")
-            self.file.write(LOOK.pack(now, thread, process, number_in(status, b"Uid"), number_in(status, b"Gid"), name))
-            self.bytes += LOOK.size
+            self.keep(thread, LOOK.pack(now, thread, process, number_in(status, b"Uid"), number_in(status, b"Gid"), name))
         return bool(status)
+
+    def keep(self, thread, look):
+        """Writes what a look at a thread shows."""
+        self.file.write(look)
+        self.bytes += LOOK.size
 
     def changes(self):
         """What was found, by time."""
-        self.file.seek(0)
-        while found := self.file.read(LOOK.size):
-            now, thread, process, user, group, name = LOOK.unpack(found)
-            yield Change(now, thread, process, user, group, text_of(name))
+        return changes_in(self.file)
+
+
+def changes_in(file):
+    """What was found by looks that were written to a file."""
+    file.seek(0)
+    while found := file.read(LOOK.size):
+        now, thread, process, user, group, name = LOOK.unpack(found)
+        yield Change(now, thread, process, user, group, text_of(name))
 
 
 def text_of(field):

@@ -104,12 +104,14 @@ class Kernel:
         inside = os.path.relpath(path, self.top)
         for cpu, pages in self.pages.items():
             self.put(f"{inside}/per_cpu/cpu{cpu}/trace_pipe_raw", b"" if path.endswith("-tasks") else b"".join(pages))
-            self.put(f"{inside}/per_cpu/cpu{cpu}/stats", self.stats.encode())
+            self.put(f"{inside}/per_cpu/cpu{cpu}/stats", (self.stats if isinstance(self.stats, str) else self.stats[cpu]).encode())
         for folder, _, files in os.walk(f"{self.top}/events"):
             if "enable" in files and folder not in self.refused:
                 self.put(f"{inside}/{os.path.relpath(folder, self.top)}/enable", b"0")
         if self.has_filter:
             self.put(f"{inside}/set_event_notrace_pid")
+        self.put(f"{inside}/set_event_pid")
+        self.put(f"{inside}/options/event-fork", b"0")
 
     def rmdir(self, path, *rest, **named):
         """Removes a folder; an instance goes with its files, whose contents are kept for the test."""
