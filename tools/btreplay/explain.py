@@ -45,17 +45,9 @@ def formats_at(text, at, head):
     return [format for format in head.formats if any(matcher(point)(format) for point in points)]
 
 
-def field_named(text, at):
-    """The name of the field that is read at the offset of `args`, or at that of the name itself."""
-    behind = [token for token in tokens_of(text) if token.at >= at][:3]
-    if behind and behind[0].text == "args" and len(behind) == 3:
-        return behind[2].text
-    return behind[0].text if behind else ""
-
-
 def about_fields(text, at, head):
     """The fields of the first event of the probe that lacks a field, or has it in a form that cannot be read."""
-    name = field_named(text, at)
+    name = word_at(text, at)
     for format in formats_at(text, at, head):
         fields = {field.name.decode(): field for field in format.layout.fields if field.name}
         if name in fields and fields[name].kind in SEEN:
@@ -75,11 +67,12 @@ def explained(refusal, text, recording):
     at = offset_of(text, refusal.line, refusal.column) if text is not None and refusal.line else None
     if at is not None:
         lines += pointed(text, refusal.line, refusal.column)
-    lines += meaning_of(refusal.code, refusal.text)
+    meaning = meaning_of(refusal.code, refusal.text)
     head = head_of_file(recording)
-    if at is not None and refusal.code in ("X1", "P1"):
-        lines += [f"In the place of bpftrace's: {hint}" for hint in at_refusal(text, at)]
-    elif at is not None and head and refusal.code in ("A1", "A2"):
+    hints = at_refusal(text, at) if at is not None and refusal.code in ("X1", "P1") else []
+    # What is known of the very word stands in the place of what is said of all.
+    lines += meaning[:1] + [f"Here: {hint}" for hint in hints] if hints else meaning
+    if at is not None and head and refusal.code in ("A1", "A2"):
         lines += about_tracepoint(text, at, head)
     elif at is not None and head and refusal.code in ("Y1", "Y2"):
         lines += about_fields(text, at, head)
@@ -90,6 +83,6 @@ def explanation(ended, text, names, recording):
     """All lines for a script's check: of a refusal by its name, or of an accepted script the notes on it."""
     script, shown = names
     if ended.status == 0 and text is not None:
-        return notes_of(text, probes_of(text), recording, shown, False) or ["Nothing is to be said of this script: it prints the same in every order of CPUs."]
+        return notes_of(text, probes_of(text), recording, shown, False) or ["This script prints the same in every order of CPUs."]
     refusal = refusal_in(ended.told, [shown, recording])
     return explained(refusal, text if refusal.name == shown else None, recording) if refusal else []

@@ -1,6 +1,7 @@
 """What bpftrace has and this language does not, and what to write in its place: found by the token at which a script is refused."""
 import re
 
+from btreplay.script import end_of
 from btreplay.tokens import MARK, NUMBER, POINT, STRING, WORD, tokens_of
 
 # Functions and words of bpftrace. Each text says what to do here.
@@ -18,15 +19,16 @@ WORDS = {
     "strftime": "the clock on the wall is not in a recording: print nsecs, or elapsed / 1000000 for milliseconds from the start",
     "ntop": "print the number by %x", "probe": "give each point a probe of its own", "func": "give each point a probe of its own",
     "for": "there is no loop over a map or a range: print(@m) prints all rows, and while and unroll repeat",
-    "let": "a variable begins with its first assignment: $x = 0;", "sizeof": "write the number",
+    "let": "a variable begins with its first assignment, as $x = 0", "sizeof": "write the number",
     "curtask": "the kernel's memory is not in a recording; tid is the thread", "cgroup": "the group of a task is not in a recording",
     "rand": "a script over a recording has no chance in it", "username": "print uid", "errorf": "write printf", "jiffies": "take nsecs",
     "has_key": "a map's value is 0 or the empty string where there is nothing: if (@m[k] != 0)",
-    "len": "count in a map of numbers beside it: @n++", "exit": "write exit(); without an argument",
+    "len": "count in a map of numbers beside it: @n++",
     "ppid": "the parent is not in a recording; sched:sched_process_fork has parent_pid and child_pid",
+    "and": "write &&", "or": "write ||", "not": "write !",
     "begin": "write BEGIN", "end": "write END", "fn": "there are no functions of one's own", "macro": "there are no macros",
     "import": "a script is one file", "config": "there is no config block", "struct": "there are no structs: fields are read by their names, as args.f",
-    "else": "if and else need their braces", "strlen": "the length of a string cannot be asked",
+    "strlen": "the length of a string cannot be asked",
     "signal": "nothing is sent to a process: a recording is over", "override": "nothing is changed: a recording is over",
 }
 PROBES = {"kprobe", "kretprobe", "k", "kr", "uprobe", "uretprobe", "u", "ur", "usdt", "profile", "p", "hardware", "h", "software", "s",
@@ -85,6 +87,15 @@ def at_mark(tokens, place):
     return ""
 
 
+def in_call(tokens, place):
+    """A hint for what stands in the brackets of `print` or `exit` and does not belong there."""
+    opened = opened_by(tokens, place)
+    for word, hint in (("print", "print takes a whole map, as print(@m) or print(@m, 10); text is printed by printf"), ("exit", "exit takes nothing: exit()")):
+        if any(at and tokens[at].text == "(" and tokens[at - 1].text == word for at in opened):
+            return hint
+    return ""
+
+
 def known(token):
     """A hint for a word that bpftrace has."""
     if token.text in PROBES:
@@ -102,7 +113,7 @@ def at_refusal(text, at):
         return ["the script ends too early: look for a brace that is missing"] if at >= len(text.rstrip()) else []
     token = tokens[place]
     before = tokens[place - 1] if place else None
-    found = {POINT: lambda: at_point(token.text), NUMBER: lambda: at_number(token.text) if at > token.at else "",
+    found = in_call(tokens, place) or {POINT: lambda: at_point(token.text), NUMBER: lambda: at_number(token.text) if at > token.at else "",
              MARK: lambda: at_mark(tokens, place), WORD: lambda: known(token)}.get(token.kind, lambda: "")()
     if not found and token.text == "$":
         found = "there are no arguments of a script, as $1: write the value"
@@ -112,9 +123,19 @@ def at_refusal(text, at):
         found = 'a string stands in double quotes: "text"'
     elif not found and before and before.kind in (WORD, STRING, NUMBER):
         found = known(before) if before.kind == WORD and token.text != ";" else ""
-    if not found and before and is_end_of_a_statement(before) and token.kind not in (MARK, "other"):
+    if not found and before and needs_braces(tokens, place):
+        found = "the blocks of if, else, while and unroll need their braces"
+    elif not found and before and is_end_of_a_statement(before) and token.kind not in (MARK, "other"):
         found = "a ; stands between two statements"
     return [found] if found else []
+
+
+def needs_braces(tokens, place):
+    """Whether a block without braces begins at a place: behind `else`, or behind the condition of `if`, `while` or `unroll`."""
+    if tokens[place - 1].text == "else":
+        return True
+    closed = [at for at in range(place - 1) if tokens[at].text == "(" and end_of(tokens, at) == place]
+    return bool(closed) and closed[0] > 0 and tokens[closed[0] - 1].text in ("if", "while", "unroll")
 
 
 def is_end_of_a_statement(token):

@@ -17,7 +17,7 @@ def about_order(probes, head):
     reasons = reasons_of(probes) if head is None or head.cpus > 1 else []
     if not reasons:
         return []
-    return [f"{', and '.join(reasons)}: the answer depends on the order in which CPUs are taken; with --serial it is that of the events' times"]
+    return [f"{', and '.join(reasons)}, so the answer depends on the order of CPUs; run --serial takes all events by their times"]
 
 
 def never_set(probes, text):
