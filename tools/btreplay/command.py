@@ -203,7 +203,8 @@ def main(words):
         with contextlib.suppress(OSError):
             os.dup2(os.open(os.devnull, os.O_WRONLY), 1)
     except OSError as error:
-        tell([f"{error.filename or 'the program'}: {error.strerror}"])
+        is_lacking = error.filename == "rt" and isinstance(error, FileNotFoundError)
+        tell(["the toolchain is not there: rt is not on the path" if is_lacking else f"{error.filename or 'the program'}: {error.strerror}"])
     except KeyboardInterrupt:
         return end_as(-2)
     return FAILED

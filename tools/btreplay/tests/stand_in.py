@@ -16,10 +16,33 @@ printf '%s\\n' "$@" >"$STAND_IN/words"
 script= recording=
 for word in "$@"; do script=$recording recording=$word; done
 case $script in /dev/fd/*) cat "$script" >"$STAND_IN/script" ;; esac
+[ ! -p "$script" ] || : <"$script"
 printf %s "$STAND_IN_OUT"
 [ -z "$STAND_IN_ERR" ] || printf '%s\\n' "$STAND_IN_ERR" | sed "s|@SCRIPT@|$script|;s|@RECORDING@|$recording|" >&2
 eval "$STAND_IN_DOES"
 exit "${STAND_IN_STATUS:-0}"
+"""
+
+# The stand-in for the toolchain counts its builds, and leaves the program where `rt try` leaves it, for as long as that runs.
+RT = """#!/bin/sh
+case $1 in
+version) echo "kit of the test" ;;
+try)
+    echo "$*" >>"$STAND_IN/builds"
+    [ -z "$STAND_IN_FAILS" ] || { echo "error: $STAND_IN_FAILS"; exit 2; }
+    mkdir "$TMPDIR/try" && cp "$STAND_IN/lib/bt_program" "$TMPDIR/try/program" || exit 3
+    shift 4
+    "$TMPDIR/try/program" "$@"
+    ;;
+ci)
+    echo "rt: bt_core proved"
+    echo "rt: bt_program proved"
+    ;;
+run)
+    [ -z "$STAND_IN_FAILS" ] || { echo "error: $STAND_IN_FAILS"; exit 1; }
+    mkdir -p out && cp "$STAND_IN/lib/bt_program" out/bt_program && echo "logic=proved"
+    ;;
+esac
 """
 
 
@@ -60,6 +83,17 @@ class Installed:
         for tool in ("btreplay", "btrecord"):
             copied(TOOLS / tool, self.top / "tools" / tool)
 
+    def check_out(self):
+        """Makes it a checkout of two crates, with a stand-in for the toolchain on the path."""
+        for name in ("bt_core", "bt_program", "other"):
+            (self.top / "crates" / name / "src").mkdir(parents=True)
+            (self.top / "crates" / name / "src" / "main.rt").write_text(f"// {name}\n")
+        (self.top / "crates.txt").write_text("# NAME: below\nbt_core: thiserror\nbt_program: bt_core\nother: bt_core\n")
+        (self.top / "HANDLES").write_text("Handles allowed: none.\n")
+        (self.folder / "bin").mkdir()
+        (self.folder / "bin" / "rt").write_text(RT)
+        (self.folder / "bin" / "rt").chmod(0o755)
+
     def write(self, name, content):
         """Writes a file that words name, and gives its path."""
         path = self.folder / name
@@ -69,7 +103,8 @@ class Installed:
     def environment(self, out="", err="", status=0, does=":", more=()):
         """The environment by which the stand-in does what a test asks."""
         return {**os.environ, "STAND_IN": str(self.folder), "STAND_IN_OUT": out, "STAND_IN_ERR": err, "STAND_IN_STATUS": str(status),
-                "STAND_IN_DOES": does, **dict(more)}
+                "STAND_IN_DOES": does, "PATH": f"{self.folder}/bin:{os.environ['PATH']}",
+                "XDG_CACHE_HOME": f"{self.folder}/cache", "STAND_IN_FAILS": "", **dict(more)}
 
     def run(self, *words, given=b"", **how):
         """Runs the command, and gives its status, what it printed and what it told."""
