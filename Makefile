@@ -27,8 +27,8 @@ install:
 	./btreplay --version >'$(LIB)/version'
 	install -m 755 '$(PROGRAM)' '$(LIB)/bt_program'
 	install -m 755 btreplay '$(LIB)/btreplay'
-	set -e; cd tools; for file in $$(find $(TOOLS) -name '*.py' ! -path '*/tests/*'); do \
-	    install -D -m 644 "$$file" '$(abspath $(LIB))/tools/'"$$file"; done
+	set -e; lib=$$(cd '$(LIB)' && pwd); cd tools; for file in $$(find $(TOOLS) -name '*.py' ! -path '*/tests/*'); do \
+	    install -D -m 644 "$$file" "$$lib/tools/$$file"; done
 	set -e; for tool in $(TOOLS); do ln -sfn ../lib/btreplay/btreplay '$(BIN)/'"$$tool"; done
 	install -m 644 $(PAGES) '$(MAN)'
 	set -e; for tool in $(TOOLS); do install -m 644 tools/btreplay/completion.bash '$(COMPLETION)/'"$$tool"; done
