@@ -43,10 +43,23 @@ def run_program(program, words, handles=(), output=None, meanwhile=lambda: None)
 def is_read_no_more(handle=1):
     """Whether standard output is a pipe or a socket whose other end is closed."""
     poll = select.poll()
-    with contextlib.suppress(OSError, ValueError):
-        poll.register(handle, select.POLLOUT)
-        return any(found & (select.POLLERR | select.POLLNVAL) for _, found in poll.poll(0))
-    return True
+    poll.register(handle, select.POLLOUT)
+    return any(found & select.POLLERR for _, found in poll.poll(0))
+
+
+def hold_streams():
+    """Puts a file that takes nothing in the place of each standard stream that is closed, so that no file of this command gets its number.
+
+    The program does not get it: it finds the stream closed. What this command says goes nowhere then, and is never refused for its letters."""
+    for number in (0, 1, 2):
+        try:
+            os.fstat(number)
+        except OSError:
+            os.open(os.devnull, os.O_RDONLY)
+    sys.stdout = sys.stdout or open(os.devnull, "w")
+    sys.stderr = sys.stderr or open(os.devnull, "w")
+    for stream in (sys.stdout, sys.stderr):
+        stream.reconfigure(errors="backslashreplace")
 
 
 def tell(lines):
@@ -58,7 +71,7 @@ def tell(lines):
 
 def pass_on(told):
     """Writes what the program told, to the byte."""
-    with contextlib.suppress(OSError, AttributeError):
+    with contextlib.suppress(OSError):
         sys.stderr.buffer.write(told)
         sys.stderr.flush()
 

@@ -4,6 +4,7 @@ import pathlib
 import struct
 import subprocess
 import sys
+import tempfile
 
 TOOLS = pathlib.Path(__file__).resolve().parent.parent.parent
 TOP = TOOLS.parent
@@ -108,8 +109,11 @@ class Installed:
 
     def run(self, *words, given=b"", **how):
         """Runs the command, and gives its status, what it printed and what it told."""
-        done = subprocess.run([str(self.top / "btreplay"), *words], input=given, stdout=subprocess.PIPE, stderr=subprocess.PIPE, cwd=self.folder,
-                              env=self.environment(**how), timeout=30)
+        with tempfile.TemporaryFile() as file:
+            file.write(given)
+            file.seek(0)
+            done = subprocess.run([str(self.top / "btreplay"), *words], stdin=file, stdout=subprocess.PIPE, stderr=subprocess.PIPE, cwd=self.folder,
+                                  env=self.environment(**how), timeout=120)
         return done.returncode, done.stdout.decode(), done.stderr.decode()
 
     def words(self):

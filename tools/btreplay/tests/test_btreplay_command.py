@@ -95,6 +95,25 @@ class Command(unittest.TestCase):
                                   env=self.at.environment(err="write fault", status=5))
         self.assertEqual((done.returncode, done.stderr), (5, b"write fault\n"))
 
+    def test_streams_that_are_closed(self):
+        """The program finds closed what is closed, and nothing of this command stands in its place."""
+        self.at.write("pair.bt", PAIR)
+        for closed, wanted in ((">&-", "0 2"), ("2>&-", "0 1"), ("<&- >&- 2>&-", "")):
+            does = 'for n in 0 1 2; do [ ! -e /proc/$$/fd/$n ] || open="$open${open:+ }$n"; done; echo "$open" >"$STAND_IN/open"'
+            done = subprocess.run(["sh", "-c", f'"$0" run pair.bt r.btr {closed}', str(self.at.top / "btreplay")], stdin=subprocess.DEVNULL,
+                                  stdout=subprocess.DEVNULL, stderr=subprocess.DEVNULL, cwd=self.at.folder, env=self.at.environment(does=does))
+            opened = (self.at.folder / "open").read_text().strip().split()
+            self.assertEqual((done.returncode, [number for number in opened if number != "2"]), (0, [number for number in wanted.split() if number != "2"]))
+
+    def test_names_that_are_no_text(self):
+        name = b"\xff.bt"
+        with open(os.path.join(os.fsencode(str(self.at.folder)), name), "wb") as file:
+            file.write(PAIR.encode())
+        for command in ("run", "explain"):
+            done = subprocess.run([os.fsencode(str(self.at.top / "btreplay")), command.encode(), name, b"r.btr"], stdin=subprocess.DEVNULL,
+                                  stdout=subprocess.PIPE, stderr=subprocess.STDOUT, cwd=self.at.folder, env=self.at.environment())
+            self.assertEqual((done.returncode, done.stdout.decode().replace("btreplay: ", "")), (0, ORDER.replace("btreplay: ", "")))
+
     def test_signals_reach_the_program(self):
         for number in (signal.SIGTERM, signal.SIGINT):
             child = subprocess.Popen([str(self.at.top / "btreplay"), "run", "s.bt", "r.btr"], stdout=subprocess.PIPE, stderr=subprocess.PIPE,
@@ -103,7 +122,7 @@ class Command(unittest.TestCase):
             # The program stands in the list of processes until the command has waited for it.
             time.sleep(0.3)
             child.send_signal(number)
-            self.assertEqual((child.communicate(timeout=20)[1], child.returncode), (b"", -number))
+            self.assertEqual((child.communicate(timeout=120)[1], child.returncode), (b"", -number))
             with self.assertRaises(ProcessLookupError):
                 os.kill(running, 0)
 
@@ -121,7 +140,7 @@ class Command(unittest.TestCase):
         ours, theirs = pty.openpty()
         try:
             subprocess.run([str(self.at.top / "btreplay"), *words], stdin=subprocess.DEVNULL, stdout=subprocess.DEVNULL, stderr=theirs, cwd=self.at.folder,
-                           env=self.at.environment(**how), timeout=30)
+                           env=self.at.environment(**how), timeout=120)
             os.write(theirs, b"end\n")
             told = b""
             while not told.endswith(b"end\r\n"):
@@ -206,7 +225,7 @@ class Builds(unittest.TestCase):
     def test_two_at_once_build_once(self):
         children = [subprocess.Popen([str(self.at.top / "btreplay"), "--unproved", "gen", "1", "2"], stdout=subprocess.PIPE, stderr=subprocess.PIPE,
                                      cwd=self.at.folder, env=self.at.environment(out="x")) for _ in range(3)]
-        self.assertEqual([(child.communicate(timeout=60)[0], child.returncode) for child in children], [(b"x", 0)] * 3)
+        self.assertEqual([(child.communicate(timeout=120)[0], child.returncode) for child in children], [(b"x", 0)] * 3)
         self.assertEqual(self.builds(), 1)
 
     def test_where_nothing_can_be_kept(self):
