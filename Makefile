@@ -1,0 +1,45 @@
+# make            proves and builds the program, where that is not done yet
+# make install    puts the program, its tools, their man pages and the completion for bash under PREFIX (/usr/local)
+# make uninstall  removes them again
+# make check      runs the tests of tools/
+# DESTDIR stands in front of PREFIX, as for packages. PROGRAM names the program, where that is not the one built here.
+PREFIX ?= /usr/local
+DESTDIR ?=
+PROGRAM ?= crates/bt_program/out/bt_program
+
+BIN = $(DESTDIR)$(PREFIX)/bin
+LIB = $(DESTDIR)$(PREFIX)/lib/btreplay
+MAN = $(DESTDIR)$(PREFIX)/share/man/man1
+COMPLETION = $(DESTDIR)$(PREFIX)/share/bash-completion/completions
+TOOLS = $(notdir $(wildcard tools/btreplay tools/btrecord tools/btreport))
+PAGES = $(wildcard $(TOOLS:%=docs/%.1))
+
+all:
+	./btreplay big 1 3 >/dev/null
+
+check:
+	python3 tools/check
+
+install:
+	@test -x '$(PROGRAM)' || { echo "make install: there is no $(PROGRAM): make without words proves and builds it" >&2; exit 1; }
+	install -d '$(BIN)' '$(LIB)' '$(MAN)' '$(COMPLETION)'
+	! test -e '$(LIB)/version' || rm -rf '$(LIB)/tools'
+	./btreplay --version >'$(LIB)/version'
+	install -m 755 '$(PROGRAM)' '$(LIB)/bt_program'
+	install -m 755 btreplay '$(LIB)/btreplay'
+	set -e; lib=$$(cd '$(LIB)' && pwd); cd tools; for file in $$(find $(TOOLS) -name '*.py' ! -path '*/tests/*'); do \
+	    install -D -m 644 "$$file" "$$lib/tools/$$file"; done
+	set -e; for tool in $(TOOLS); do ln -sfn ../lib/btreplay/btreplay '$(BIN)/'"$$tool"; done
+	install -m 644 $(PAGES) '$(MAN)'
+	set -e; for tool in $(TOOLS); do install -m 644 tools/btreplay/completion.bash '$(COMPLETION)/'"$$tool"; done
+
+# What is removed is what was put there: links that lead to the folder of btreplay, and that folder where it has the word of its version.
+uninstall:
+	set -e; for tool in btreplay btrecord btreport; do \
+	    if test "$$(readlink '$(BIN)/'"$$tool")" = ../lib/btreplay/btreplay; then \
+	        rm -f '$(BIN)/'"$$tool" '$(MAN)/'"$$tool.1" '$(COMPLETION)/'"$$tool"; \
+	    fi; \
+	done
+	! test -e '$(LIB)/version' || rm -rf '$(LIB)'
+
+.PHONY: all check install uninstall

@@ -1,0 +1,211 @@
+"""The words of the command `btreplay`, and what it does beside running the program."""
+import contextlib
+import os
+import subprocess
+import sys
+from dataclasses import dataclass
+
+from btreplay import proved, unproved
+from btreplay.places import is_checkout
+from btreplay.running import Ended, end_as, hold_streams, is_read_no_more, pass_on, run_program, tell
+
+HELP = """usage: btreplay run [--serial] [--stats] SCRIPT RECORDING    runs the script over the recording, and writes what it prints
+       btreplay check SCRIPT RECORDING                      looks both over for all that refuses them
+       btreplay explain SCRIPT RECORDING                    the same, and what a fault means and how it is mended
+       btreplay code SCRIPT RECORDING                       lists the BPF code of each body
+       btreplay gen X N                                     writes a made recording of N events
+       btreplay big X N                                     runs a built-in script over it
+       btreplay --help | --version
+
+SCRIPT may be - for standard input, or -e 'PROGRAM' for a script as it stands.
+--serial takes the events of all CPUs in one order, by their times; --stats tells how many instructions were run.
+"""
+UNPROVED_HELP = """btreplay --unproved and the words of a command do it by a build that is not proved, which is there within a minute or two.
+"""
+TAKES_SCRIPT = ("run", "check", "code", "explain")
+FAILED = 1
+MOST_SCRIPT = 65_536
+
+
+class BadWords(Exception):
+    """Why words are none of this command's own."""
+
+
+@dataclass
+class Asked:
+    """A call of the program: its words, the two operands where there are two, the handles that it takes, and how a script is called."""
+
+    words: list
+    script: str = None
+    recording: str = None
+    shown: str = None
+    text: bytes = None
+    handles: tuple = ()
+
+    @property
+    def command(self):
+        """The command's word."""
+        return self.words[0] if self.words else ""
+
+
+def handle_of(script):
+    """A handle of a file without a name that holds a script."""
+    handle = os.memfd_create("script", 0)
+    with os.fdopen(os.dup(handle), "wb") as file:
+        file.write(script)
+    return handle
+
+
+def standard_input():
+    """What standard input holds, as far as one byte more than a script may have."""
+    with contextlib.suppress(OSError), os.fdopen(os.dup(0), "rb") as file:
+        return file.read(MOST_SCRIPT + 1)
+    raise BadWords("standard input could not be read")
+
+
+def operands(words):
+    """The places of the words behind the command that are no options; `-` alone is standard input."""
+    return [place for place, word in enumerate(words) if place and (word == "-" or not word.startswith("-"))]
+
+
+def asked_of(words):
+    """What words ask for. A script that stands in them or on standard input is put into a file without a name."""
+    asked = Asked(list(words))
+    if asked.command not in TAKES_SCRIPT:
+        return asked
+    given = None
+    if "-e" in asked.words[:-1]:
+        place = asked.words.index("-e")
+        given = os.fsencode(asked.words[place + 1])
+        del asked.words[place:place + 2]
+        asked.words.insert((operands(asked.words) or [len(asked.words)])[0], "-e")
+        at = asked.words.index("-e")
+    else:
+        places = operands(asked.words)
+        at = places[0] if len(places) == 2 else None
+        if at is not None and asked.words[at] == "-":
+            given = standard_input()
+    if given is not None:
+        asked.shown, asked.text = asked.words[at], given
+        handle = handle_of(given)
+        asked.handles = (handle,)
+        asked.words[at] = f"/dev/fd/{handle}"
+    found = [asked.words[place] for place in operands(asked.words)]
+    if len(found) == 2:
+        asked.script, asked.recording = found
+        asked.shown = asked.shown or asked.script
+    return asked
+
+
+def named_as_asked(told, asked):
+    """What the program told, with the name of a script that has no file of its own as the words have it."""
+    if asked.handles and told.startswith(os.fsencode(asked.script or "") + b":"):
+        return os.fsencode(asked.shown) + told[len(os.fsencode(asked.script)):]
+    return told
+
+
+def script_text(asked):
+    """The text of the script, or none where it cannot be read."""
+    from btreplay.refusal import text_of_file
+    from btreplay.tokens import text_of
+    content = asked.text if asked.text is not None else text_of_file(asked.script)
+    return None if content is None else text_of(content)
+
+
+def run_asked(program, asked):
+    """Runs the program, passes on what it tells, and adds what this command has to say. It gives the status."""
+    notes = []
+
+    def look():
+        if asked.command == "run" and asked.script is not None:
+            from btreplay.notes import notes_of
+            from btreplay.script import probes_of
+            text = script_text(asked)
+            if text is not None:
+                notes.extend(notes_of(text, probes_of(text), asked.recording, asked.shown, "--serial" in asked.words))
+
+    ended, _ = run_program(program, asked.words, asked.handles, meanwhile=look)
+    ended = Ended(ended.status, named_as_asked(ended.told, asked))
+    if ended.told == b"write fault\n" and is_read_no_more():
+        return ended.status
+    pass_on(ended.told)
+    tell(notes if ended.status == 0 else after_refusal(ended, asked))
+    return end_as(ended.status)
+
+
+def after_refusal(ended, asked):
+    """What is told behind a refusal; where standard error is a terminal, the script's line with a caret first."""
+    if asked.script is None or ended.status <= 0:
+        return []
+    from btreplay.refusal import about_files, pointed, refusal_in
+    refusal = refusal_in(ended.told, [asked.shown]) if sys.stderr.isatty() else None
+    text = script_text(asked) if refusal and refusal.line else None
+    if text is not None:
+        pass_on("".join(f"{line}\n" for line in pointed(text, refusal.line, refusal.column)).encode())
+    return about_files(ended.status, ended.told, asked.script, asked.recording) if not asked.handles else []
+
+
+def explain(program, asked):
+    """Checks a script, and writes what there is to say behind what the program tells."""
+    if asked.script is None:
+        raise BadWords("explain takes a script and a recording")
+    from btreplay.explain import explanation
+    asked.words[0] = "check"
+    ended, output = run_program(program, asked.words, asked.handles, output=subprocess.PIPE)
+    ended = Ended(ended.status, named_as_asked(ended.told, asked))
+    sys.stdout.buffer.write(output)
+    sys.stdout.flush()
+    pass_on(ended.told)
+    for line in explanation(ended, script_text(asked), (asked.script, asked.shown), asked.recording):
+        print(line)
+    sys.stdout.flush()
+    tell(after_refusal_files(ended, asked))
+    return end_as(ended.status)
+
+
+def after_refusal_files(ended, asked):
+    """What is told of files that were refused, where the script is one."""
+    from btreplay.refusal import about_files
+    return about_files(ended.status, ended.told, asked.script, asked.recording) if not asked.handles else []
+
+
+def answer(words):
+    """Does what words ask for, and gives the status."""
+    is_unproved = words[:1] == ["--unproved"]
+    words = words[is_unproved:]
+    if words[:1] in (["--help"], ["-h"]):
+        print(HELP + (UNPROVED_HELP if is_checkout() else ""), end="")
+        return 0
+    if words[:1] in (["--version"], ["-V"]):
+        print(proved.version())
+        return 0
+    asked = asked_of(words)
+    does = explain if asked.command == "explain" else run_asked
+    if not is_unproved:
+        return does(proved.program(), asked)
+    if not is_checkout():
+        raise BadWords("--unproved is for a checkout of the repository; the program that is installed here is proved")
+    tell(["this build is not proved"])
+    with unproved.build() as program:
+        return does(program, asked)
+
+
+def main(words):
+    """Does what words ask for. Where the program cannot be run that is told, with what its build said, and the status is 1."""
+    hold_streams()
+    try:
+        return answer(words)
+    except unproved.NotBuilt as fault:
+        pass_on(str(fault).encode(errors="replace"))
+        tell(["the program could not be built"])
+    except BadWords as fault:
+        tell([str(fault)])
+    except BrokenPipeError:
+        with contextlib.suppress(OSError):
+            os.dup2(os.open(os.devnull, os.O_WRONLY), 1)
+    except OSError as error:
+        is_lacking = error.filename == "rt" and isinstance(error, FileNotFoundError)
+        tell(["the toolchain is not there: rt is not on the path" if is_lacking else f"{error.filename or 'the program'}: {error.strerror}"])
+    except KeyboardInterrupt:
+        return end_as(-2)
+    return FAILED

@@ -1,0 +1,109 @@
+"""The proved program: where it is, how it is proved and built, and with what it was."""
+import contextlib
+import os
+import pathlib
+import shutil
+import subprocess
+import sys
+import tempfile
+
+from btreplay.places import CRATE, CRATES, INSTALLED, INSTALLED_VERSION, TOP, is_checkout
+from btreplay.running import tell
+from btreplay.unproved import NotBuilt, kit, needed
+
+PROGRAM = CRATE / "out" / "bt_program"
+RECORD = CRATE / "out" / "proved_at"
+
+
+def is_current():
+    """Whether the program is built and none of its sources is newer."""
+    try:
+        built = PROGRAM.stat()
+    except OSError:
+        return False
+    sources = [TOP / "crates.txt"] + [path for crate in CRATES.iterdir() for path in [crate / "src", *(crate / "src").rglob("*")]]
+    return os.access(PROGRAM, os.X_OK) and not any(path.stat().st_mtime_ns > built.st_mtime_ns for path in sources if path.exists())
+
+
+def copy_crates(folder):
+    """Copies what the proofs read, without the edits that they must refuse."""
+    for name in ("crates.txt", "HANDLES"):
+        shutil.copy(TOP / name, folder)
+    for crate in CRATES.iterdir():
+        shutil.copytree(crate, pathlib.Path(folder, "crates", crate.name), ignore=lambda path, names: {"out", "must-fail"} if path == str(crate) else ())
+
+
+def prove(log):
+    """Proves the crates below the program and the program, in a copy of them.
+
+    The gate takes the longest chain of crates first, as many crates at a time as processors and memory hold, and what it proves is kept on
+    this machine. Its progress goes to standard error, and what it says to the log."""
+    count, proved = len(needed()), 0
+    with tempfile.TemporaryDirectory(prefix="btreplay-") as folder:
+        copy_crates(folder)
+        with subprocess.Popen(["rt", "ci", "bt_program"], cwd=folder, stdin=subprocess.DEVNULL, stdout=subprocess.PIPE, stderr=subprocess.STDOUT) as gate:
+            for line in gate.stdout:
+                log.write(line)
+                if line.startswith(b"rt: ") and line.endswith(b" proved\n"):
+                    proved += 1
+                    tell([f"crate {proved} of {count} is proved"])
+
+
+def build():
+    """Proves and builds the program. What the copy's proofs did not keep is proved here, crate by crate."""
+    tell([f"proving and building the program, {len(needed())} crates; this takes a while the first time"])
+    with tempfile.TemporaryFile() as log:
+        with contextlib.suppress(FileNotFoundError):
+            RECORD.unlink()
+        prove(log)
+        # With no words the program only says how it is used, so its own status says nothing here.
+        run = subprocess.run(["rt", "run"], cwd=CRATE, stdin=subprocess.DEVNULL, stdout=subprocess.PIPE, stderr=subprocess.STDOUT)
+        log.write(run.stdout)
+        is_proved = any(line.startswith(b"logic=proved") for line in run.stdout.splitlines())
+        if not is_proved or not os.access(PROGRAM, os.X_OK):
+            log.seek(0)
+            raise NotBuilt(log.read().decode(errors="replace"))
+    PROGRAM.touch()
+    with contextlib.suppress(OSError):
+        RECORD.write_text(f"proved with {kit()} at {commit()}\n")
+
+
+def program():
+    """The path of the proved program, which is proved and built first where that is wanted."""
+    if not is_checkout():
+        return INSTALLED
+    if not is_current():
+        build()
+    return PROGRAM
+
+
+def git(*words):
+    """What git answers of this repository, or none."""
+    with contextlib.suppress(OSError):
+        done = subprocess.run(["git", "-C", str(TOP), *words], stdin=subprocess.DEVNULL, stdout=subprocess.PIPE, stderr=subprocess.DEVNULL)
+        return done.stdout.decode(errors="replace").strip() if done.returncode == 0 else None
+    return None
+
+
+def commit():
+    """The commit of the sources, in words."""
+    found = git("rev-parse", "--short=12", "HEAD")
+    if not found:
+        return "no known commit"
+    return f"commit {found}" + (", changed since" if git("status", "--porcelain", "--", "crates", "crates.txt") else "")
+
+
+def version():
+    """What --version tells: with what the program was proved, and at which commit."""
+    if not is_checkout():
+        return INSTALLED_VERSION.read_text().strip() if INSTALLED_VERSION.is_file() else "btreplay, installed without a word of its version"
+    if not is_current():
+        return f"btreplay at {commit()}, not proved and built here"
+    with contextlib.suppress(OSError):
+        return f"btreplay, {RECORD.read_text().strip()}"
+    return f"btreplay, proved with {kit()} at {commit()}"
+
+
+if __name__ == "__main__":
+    print(version())
+    sys.exit(0)

@@ -1,0 +1,103 @@
+"""What a recording holds, as far as a script's points ask for it: its formats, its span, and which of them have events.
+
+A recording is read by tools/btrecord's own code, and through a map of its file, so that it takes no memory. Nothing is told of one that is
+damaged: the program refuses that.
+"""
+import contextlib
+import mmap
+import os
+import re
+import stat
+import struct
+import sys
+import time
+from dataclasses import dataclass
+
+from btreplay.places import TOOLS
+
+if str(TOOLS / "btrecord") not in sys.path:
+    sys.path.append(str(TOOLS / "btrecord"))
+
+import reading  # noqa: E402  (the line above finds it)
+from container import CPU, EVENT, HEADER, MAGIC, MOST_BYTES  # noqa: E402
+
+LENGTH = struct.Struct("<I")
+SOME_EVENTS = 65_536
+
+
+@dataclass(frozen=True)
+class Head:
+    """What stands before a recording's events: its formats, its span in nanoseconds, how many CPUs it has, and where the events begin."""
+
+    formats: list
+    span: int
+    cpus: int
+    behind: int
+
+
+@contextlib.contextmanager
+def mapped(path):
+    """The bytes of a file, or none where it is no regular file, is empty or longer than a recording, or cannot be read."""
+    data = None
+    with contextlib.suppress(OSError, ValueError):
+        if stat.S_ISREG(os.stat(path).st_mode) and os.path.getsize(path) <= MOST_BYTES:
+            with open(path, "rb") as file:
+                data = mmap.mmap(file.fileno(), 0, access=mmap.ACCESS_READ)
+    try:
+        yield data
+    finally:
+        if data is not None:
+            data.close()
+
+
+def begins_a_recording(path):
+    """Whether a regular file begins as recordings do."""
+    with contextlib.suppress(OSError):
+        if stat.S_ISREG(os.stat(path).st_mode):
+            with open(path, "rb") as file:
+                return file.read(len(MAGIC)) == MAGIC
+    return False
+
+
+def head_of(data):
+    """What stands before the events in a recording's bytes, or none where that is damaged."""
+    try:
+        cpus, formats, start, end = reading.read_header(data)
+        found, behind = reading.read_formats(data, HEADER.size, formats)
+    except reading.BadRecording:
+        return None
+    return Head(found, end - start, cpus, behind)
+
+
+def head_of_file(path):
+    """What stands before the events in a recording, or none."""
+    with mapped(path) as data:
+        return head_of(data) if data is not None else None
+
+
+def without_events(data, head, groups, until):
+    """The keys of those groups of IDs that no event belongs to. None are told where the recording is damaged, or `until` comes first."""
+    left, at, size = dict(groups), head.behind, len(data)
+    wanted = set().union(*left.values()) if left else set()
+    with contextlib.suppress(struct.error, IndexError):
+        for _ in range(head.cpus):
+            _, count = CPU.unpack_from(data, at)
+            at += CPU.size
+            for event in range(count):
+                payload = at + EVENT.size
+                which = data[payload] | data[payload + 1] << 8
+                if which in wanted:
+                    left = {key: group for key, group in left.items() if which not in group}
+                    wanted = set().union(*left.values())
+                if not left or event % SOME_EVENTS == 0 and time.monotonic() > until:
+                    return set()
+                at = payload + LENGTH.unpack_from(data, payload - LENGTH.size)[0]
+        return set(left) if at == size else set()
+    return set()
+
+
+def matcher(point):
+    """Whether a format fits a point `tracepoint:SYSTEM:EVENT`, where `*` stands for any characters."""
+    _, _, name = point.partition(":")
+    found = re.compile(".*".join(map(re.escape, name.split("*"))))
+    return lambda format: name.count(":") == 1 and found.fullmatch(format.name)

@@ -1,0 +1,93 @@
+"""What the program refuses, and what can be said of it at once: where in the script it is, why a file could not be read, and operands in the other order."""
+import os
+import re
+import stat
+from dataclasses import dataclass
+
+from btreplay.recorded import begins_a_recording
+from btreplay.tokens import offset_of
+
+SCRIPT, RECORDING, READ, WRITE = 2, 3, 4, 5
+MOST_SCRIPT = 65_536
+WIDTH = 120
+
+
+@dataclass(frozen=True)
+class Refusal:
+    """A line of the program that refuses a file: its name, the code and the text of the fault, and its place, for a script's."""
+
+    name: str
+    code: str
+    text: str
+    line: int = 0
+    column: int = 0
+
+
+def refusal_in(told, names):
+    """The refusal that the program told of a file of one of these names, or none."""
+    for name in names:
+        for line in told.decode(errors="surrogateescape").splitlines():
+            if line.startswith(f"{name}:"):
+                found = re.fullmatch(r"(?:(\d+):(\d+):)? (?:([A-Z]\d+) )?(.*)", line[len(name) + 1:])
+                if found:
+                    return Refusal(name, found[3] or "", found[4], int(found[1] or 0), int(found[2] or 0))
+    return None
+
+
+def shown(letters):
+    """Letters of a script as a terminal may show them: bytes of a letter together, a tab as a blank, and no control."""
+    text = letters.encode("latin-1").decode(errors="replace")
+    return "".join(letter if letter.isprintable() else " " if letter == "\t" else "?" for letter in text)
+
+
+def pointed(text, line, column):
+    """The line of a script, and below it a caret at the column. Of a long line it is a part."""
+    at = offset_of(text, line, column)
+    begin = text.rfind("\n", 0, at) + 1
+    end = text.find("\n", at)
+    before, behind = shown(text[begin:at]), shown(text[at:end if end >= 0 else len(text)])
+    if len(before) + len(behind) > WIDTH:
+        before = "..." + before[-WIDTH // 2:] if len(before) > WIDTH // 2 + 3 else before
+        room = WIDTH - len(before)
+        behind = behind[:room - 3] + "..." if len(behind) > room else behind
+    return ["  " + (before + behind).rstrip(), "  " + " " * len(before) + "^"]
+
+
+def why_unread(path):
+    """Why a file cannot be read, in words."""
+    try:
+        found = os.stat(path)
+        if stat.S_ISDIR(found.st_mode):
+            return "it is a folder"
+        if stat.S_ISREG(found.st_mode):
+            with open(path, "rb") as file:
+                file.read(1)
+        return "the system could not read it"
+    except FileNotFoundError:
+        folder = os.path.dirname(path) or "."
+        return "there is no such file" if os.path.isdir(folder) else f"there is no folder {folder}"
+    except PermissionError:
+        return "there is no permission to read it"
+    except (OSError, ValueError) as error:
+        return getattr(error, "strerror", None) or "no file has such a name"
+
+
+def about_files(status, told, script, recording):
+    """Lines for files that were not read, and for operands in the other order."""
+    if status == READ:
+        name = next((name for name in (script, recording) if told == f"{name}: read fault\n".encode(errors="surrogateescape")), None)
+        return [f"{name}: {why_unread(name)}"] if name is not None else []
+    if status in (SCRIPT, RECORDING) and begins_a_recording(script) and not begins_a_recording(recording):
+        return [f"{script} is a recording and {recording} is none: the script comes first, then the recording"]
+    return []
+
+
+def text_of_file(path):
+    """The bytes of a script, as far as a script may go; none where it is no regular file or cannot be read."""
+    try:
+        if not stat.S_ISREG(os.stat(path).st_mode):
+            return None
+        with open(path, "rb") as file:
+            return file.read(MOST_SCRIPT)
+    except (OSError, ValueError):
+        return None

@@ -1,0 +1,264 @@
+"""Tests of the command, by a stand-in for the program: what reaches it, what comes from it, and what is told beside it."""
+import os
+import pty
+import re
+import signal
+import subprocess
+import tempfile
+import time
+import unittest
+
+from stand_in import TOP, Installed, two_kinds
+
+ORDER = "btreplay: @x is set in one probe and read in another, so the answer depends on the order of CPUs; run --serial takes all events by their times\n"
+PAIR = "t:a:seen { @x[tid] = nsecs; } t:a:seen /@x[tid]/ { @h = hist(nsecs - @x[tid]); }"
+
+
+class Command(unittest.TestCase):
+    def setUp(self):
+        folder = tempfile.TemporaryDirectory()
+        self.addCleanup(folder.cleanup)
+        self.at = Installed(folder.name)
+        self.at.write("r.btr", two_kinds())
+        self.at.write("s.bt", "t:a:seen { @ = count(); }")
+
+    def test_words_text_and_status_are_the_programs_own(self):
+        self.assertEqual(self.at.run("run", "--serial", "s.bt", "r.btr", "--stats", out="a\n\nb"), (0, "a\n\nb", ""))
+        self.assertEqual(self.at.words(), ["run", "--serial", "s.bt", "r.btr", "--stats"])
+        for status in (1, 2, 3, 5, 6, 77):
+            self.assertEqual(self.at.run("gen", "1", "2", status=status, err="some fault"), (status, "", "some fault\n"))
+        self.assertEqual(self.at.run("any", "", "words -e", status=1), (1, "", ""))
+        self.assertEqual(self.at.words(), ["any", "", "words -e"])
+
+    def test_the_order_of_cpus_is_told_once_and_for_a_run_without_serial_alone(self):
+        self.at.write("pair.bt", PAIR)
+        self.assertEqual(self.at.run("run", "pair.bt", "r.btr", out="text"), (0, "text", ORDER))
+        for words in (["run", "--serial", "pair.bt", "r.btr"], ["run", "pair.bt", "r.btr", "--serial"], ["check", "pair.bt", "r.btr"],
+                      ["code", "pair.bt", "r.btr"]):
+            self.assertEqual(self.at.run(*words, out="text"), (0, "text", ""))
+        self.at.write("one.btr", two_kinds(cpus=1))
+        self.assertEqual(self.at.run("run", "pair.bt", "one.btr"), (0, "", ""))
+        self.assertEqual(self.at.run("run", "pair.bt", "r.btr", status=2, err="pair.bt:1:1: K1 frame too large"),
+                         (2, "", "pair.bt:1:1: K1 frame too large\n"))
+
+    def test_a_script_in_the_words(self):
+        self.assertEqual(self.at.run("run", "-e", PAIR, "r.btr", out="text"), (0, "text", ORDER))
+        for words in (["run", "--serial", "-e", "BEGIN { }", "r.btr"], ["run", "r.btr", "--serial", "-e", "BEGIN { }"],
+                      ["run", "-e", "BEGIN { }", "--serial", "r.btr"]):
+            self.assertEqual(self.at.run(*words)[0], 0)
+            got = self.at.words()
+            operands = [word for word in got if not word.startswith("-")]
+            self.assertEqual((got[0], got.count("--serial"), len(got), operands[2]), ("run", 1, 4, "r.btr"))
+            self.assertRegex(operands[1], r"/dev/fd/\d+")
+            self.assertEqual((self.at.folder / "script").read_text(), "BEGIN { }")
+        self.assertEqual(self.at.run("check", "-e", "BEGIN #", "r.btr", status=2, err="@SCRIPT@:1:7: X1 bad character"),
+                         (2, "", "-e:1:7: X1 bad character\n"))
+        self.assertEqual(self.at.run("run", "-e", status=1, err="usage"), (1, "", "usage\n"))
+        self.assertEqual(self.at.words(), ["run", "-e"])
+
+    def test_a_script_on_standard_input(self):
+        script = b"BEGIN { } // \xff\x00"
+        self.assertEqual(self.at.run("run", "-", "r.btr", given=script, status=2, err="@SCRIPT@:1:14: P1 syntax"), (2, "", "-:1:14: P1 syntax\n"))
+        self.assertEqual((self.at.folder / "script").read_bytes(), script)
+        self.at.run("run", "-", "r.btr", given=b" " * 200_000)
+        self.assertEqual(len((self.at.folder / "script").read_bytes()), 65_537)
+
+    def test_why_a_file_was_not_read(self):
+        self.at.write("shut.bt", "BEGIN { }")
+        os.chmod(self.at.folder / "shut.bt", 0)
+        for name, why in {"no.bt": "there is no such file", ".": "it is a folder", "no/s.bt": "there is no folder no",
+                          "s.bt/x": "Not a directory", "shut.bt": "there is no permission to read it"}.items():
+            if name == "shut.bt" and os.access(self.at.folder / name, os.R_OK):
+                continue
+            self.assertEqual(self.at.run("run", name, "r.btr", status=4, err=f"{name}: read fault"),
+                             (4, "", f"{name}: read fault\nbtreplay: {name}: {why}\n"))
+        self.assertEqual(self.at.run("run", "s.bt", "no.btr", status=4, err="no.btr: read fault")[2],
+                         "no.btr: read fault\nbtreplay: no.btr: there is no such file\n")
+
+    def test_operands_in_the_other_order(self):
+        told = "btreplay: r.btr is a recording and s.bt is none: the script comes first, then the recording\n"
+        self.assertEqual(self.at.run("check", "r.btr", "s.bt", status=3, err="s.bt: C1 truncated at byte 25"), (3, "", "s.bt: C1 truncated at byte 25\n" + told))
+        self.assertEqual(self.at.run("check", "r.btr", "s.bt", status=2, err="r.btr: script too long"), (2, "", "r.btr: script too long\n" + told))
+        self.assertEqual(self.at.run("check", "r.btr", "r.btr", status=2, err="r.btr:1:1: P1 syntax"), (2, "", "r.btr:1:1: P1 syntax\n"))
+
+    def test_a_reader_that_goes_away(self):
+        """As `| head -1`: the program's own word for it, its end by the signal, and its status pass without a line."""
+        for does in ("sleep 0.2; echo 'write fault' >&2; exit 5", "sleep 0.2; echo text; kill -PIPE $$"):
+            child = subprocess.Popen([str(self.at.top / "btreplay"), "run", "s.bt", "r.btr"], stdout=subprocess.PIPE, stderr=subprocess.PIPE,
+                                     cwd=self.at.folder, env=self.at.environment(does=does))
+            child.stdout.close()
+            self.assertEqual(child.stderr.read(), b"")
+            child.stderr.close()
+            self.assertIn(child.wait(), (5, -signal.SIGPIPE))
+        with open("/dev/full", "wb") as full:
+            done = subprocess.run([str(self.at.top / "btreplay"), "run", "s.bt", "r.btr"], stdout=full, stderr=subprocess.PIPE, cwd=self.at.folder,
+                                  env=self.at.environment(err="write fault", status=5))
+        self.assertEqual((done.returncode, done.stderr), (5, b"write fault\n"))
+
+    def test_streams_that_are_closed(self):
+        """The program finds closed what is closed, and nothing of this command stands in its place."""
+        self.at.write("pair.bt", PAIR)
+        for closed, wanted in ((">&-", "0 2"), ("2>&-", "0 1"), ("<&- >&- 2>&-", "")):
+            does = 'for n in 0 1 2; do [ ! -e /proc/$$/fd/$n ] || open="$open${open:+ }$n"; done; echo "$open" >"$STAND_IN/open"'
+            done = subprocess.run(["sh", "-c", f'"$0" run pair.bt r.btr {closed}', str(self.at.top / "btreplay")], stdin=subprocess.DEVNULL,
+                                  stdout=subprocess.DEVNULL, stderr=subprocess.DEVNULL, cwd=self.at.folder, env=self.at.environment(does=does))
+            opened = (self.at.folder / "open").read_text().strip().split()
+            self.assertEqual((done.returncode, [number for number in opened if number != "2"]), (0, [number for number in wanted.split() if number != "2"]))
+
+    def test_names_that_are_no_text(self):
+        name = b"\xff.bt"
+        with open(os.path.join(os.fsencode(str(self.at.folder)), name), "wb") as file:
+            file.write(PAIR.encode())
+        for command in ("run", "explain"):
+            done = subprocess.run([os.fsencode(str(self.at.top / "btreplay")), command.encode(), name, b"r.btr"], stdin=subprocess.DEVNULL,
+                                  stdout=subprocess.PIPE, stderr=subprocess.STDOUT, cwd=self.at.folder, env=self.at.environment())
+            self.assertEqual((done.returncode, done.stdout.decode().replace("btreplay: ", "")), (0, ORDER.replace("btreplay: ", "")))
+
+    def test_signals_reach_the_program(self):
+        for number in (signal.SIGTERM, signal.SIGINT):
+            child = subprocess.Popen([str(self.at.top / "btreplay"), "run", "s.bt", "r.btr"], stdout=subprocess.PIPE, stderr=subprocess.PIPE,
+                                     cwd=self.at.folder, env=self.at.environment(does="echo $$; exec sleep 60"))
+            running = int(child.stdout.readline())
+            # The program stands in the list of processes until the command has waited for it.
+            time.sleep(0.3)
+            child.send_signal(number)
+            self.assertEqual((child.communicate(timeout=120)[1], child.returncode), (b"", -number))
+            with self.assertRaises(ProcessLookupError):
+                os.kill(running, 0)
+
+    def test_a_caret_on_a_terminal(self):
+        self.at.write("s.bt", "BEGIN {\n\tprintf(\"\u00e4%d\\n\", comm);\n}\n")
+        self.assertEqual(self.told_on_a_terminal("check", "s.bt", "r.btr", status=2, err="s.bt:2:9: Y7 bad format"),
+                         ["s.bt:2:9: Y7 bad format", "   printf(\"\u00e4%d\\n\", comm);", "          ^"])
+        self.assertEqual(self.told_on_a_terminal("check", "-e", "BEGIN #", "r.btr", status=2, err="@SCRIPT@:1:7: X1 bad character"),
+                         ["-e:1:7: X1 bad character", "  BEGIN #", "        ^"])
+        self.assertEqual(self.told_on_a_terminal("check", "s.bt", "r.btr", status=3, err="r.btr: C2 bad magic"), ["r.btr: C2 bad magic"])
+        self.assertEqual(self.told_on_a_terminal("run", "s.bt", "r.btr"), [])
+
+    def told_on_a_terminal(self, *words, **how):
+        """The lines that come where standard error is a terminal."""
+        ours, theirs = pty.openpty()
+        try:
+            subprocess.run([str(self.at.top / "btreplay"), *words], stdin=subprocess.DEVNULL, stdout=subprocess.DEVNULL, stderr=theirs, cwd=self.at.folder,
+                           env=self.at.environment(**how), timeout=120)
+            os.write(theirs, b"end\n")
+            told = b""
+            while not told.endswith(b"end\r\n"):
+                told += os.read(ours, 4096)
+        finally:
+            os.close(ours)
+            os.close(theirs)
+        return told.decode().replace("\r\n", "\n").splitlines()[:-1]
+
+    def test_help_and_version(self):
+        status, out, err = self.at.run("--help")
+        self.assertEqual((status, err), (0, ""))
+        for word in ("run [--serial] [--stats] SCRIPT RECORDING", "explain", "-e 'PROGRAM'", "--version"):
+            self.assertIn(word, out)
+        self.assertNotIn("--unproved", out)
+        (self.at.top / "version").write_text("btreplay, proved with a kit at a commit\n")
+        self.assertEqual(self.at.run("--version"), (0, "btreplay, proved with a kit at a commit\n", ""))
+        self.assertEqual(self.at.run("--unproved", "check", "s.bt", "r.btr")[0], 1)
+
+    def test_without_python(self):
+        os.mkdir(self.at.folder / "empty")
+        for name in ("readlink", "dirname", "sh"):
+            os.symlink(subprocess.run(["which", name], stdout=subprocess.PIPE).stdout.decode().strip(), self.at.folder / "empty" / name)
+        done = subprocess.run([str(self.at.top / "btreplay"), "check", "s.bt", "r.btr"], stdout=subprocess.PIPE, stderr=subprocess.PIPE,
+                              env={"PATH": str(self.at.folder / "empty")})
+        self.assertEqual((done.returncode, done.stdout, done.stderr), (1, b"", b"btreplay: this command needs python3, and there is none on the path\n"))
+
+
+class Builds(unittest.TestCase):
+    def setUp(self):
+        folder = tempfile.TemporaryDirectory()
+        self.addCleanup(folder.cleanup)
+        self.at = Installed(folder.name)
+        self.at.check_out()
+        self.at.write("r.btr", two_kinds())
+        self.at.write("s.bt", "t:a:seen { @ = count(); }")
+        self.source = self.at.top / "crates" / "bt_core" / "src" / "main.rt"
+
+    def builds(self):
+        """How often the toolchain was asked to build."""
+        path = self.at.folder / "builds"
+        return len(path.read_text().splitlines()) if path.exists() else 0
+
+    def unproved(self, *words, **how):
+        """Runs the command by the build that is not proved."""
+        return self.at.run("--unproved", *words, **how)
+
+    def test_one_build_for_the_same_sources(self):
+        told = "btreplay: this build is not proved\n"
+        for _ in range(3):
+            self.assertEqual(self.unproved("run", "s.bt", "r.btr", out="text", status=3), (3, "text", told))
+            self.assertEqual(self.at.words(), ["run", "s.bt", "r.btr"])
+        self.assertEqual(self.builds(), 1)
+        (self.at.top / "crates" / "other" / "src" / "main.rt").write_text("// not below the program\n")
+        self.unproved("gen", "1", "2")
+        self.assertEqual(self.builds(), 1)
+        before = self.source.read_text()
+        self.source.write_text("// changed\n")
+        self.unproved("gen", "1", "2")
+        self.assertEqual(self.builds(), 2)
+        self.source.write_text(before)
+        self.unproved("gen", "1", "2")
+        self.assertEqual(self.builds(), 2)
+
+    def test_builds_are_bounded_and_nothing_else_is_left(self):
+        for number in range(5):
+            self.source.write_text(f"// {number}\n")
+            self.unproved("gen", "1", "2")
+        kept = sorted(path.name for path in (self.at.folder / "cache" / "btreplay").iterdir())
+        self.assertEqual((len(kept), kept[0]), (4, "lock"))
+        self.assertTrue(all(re.fullmatch("unproved-[0-9a-f]{32}", name) for name in kept[1:]))
+        self.unproved("gen", "1", "2")
+        self.assertEqual(self.builds(), 5)
+
+    def test_a_build_that_fails_is_told_and_not_kept(self):
+        status, out, err = self.unproved("gen", "1", "2", more={"STAND_IN_FAILS": "no such type"})
+        self.assertEqual((status, out), (1, ""))
+        self.assertEqual(err, "btreplay: this build is not proved\nerror: no such type\nbtreplay: the program could not be built\n")
+        self.assertEqual([path.name for path in (self.at.folder / "cache" / "btreplay").iterdir()], ["lock"])
+        self.assertEqual(self.unproved("gen", "1", "2", out="x")[:2], (0, "x"))
+
+    def test_two_at_once_build_once(self):
+        children = [subprocess.Popen([str(self.at.top / "btreplay"), "--unproved", "gen", "1", "2"], stdout=subprocess.PIPE, stderr=subprocess.PIPE,
+                                     cwd=self.at.folder, env=self.at.environment(out="x")) for _ in range(3)]
+        self.assertEqual([(child.communicate(timeout=120)[0], child.returncode) for child in children], [(b"x", 0)] * 3)
+        self.assertEqual(self.builds(), 1)
+
+    def test_where_nothing_can_be_kept(self):
+        self.at.write("file", "")
+        self.assertEqual(self.unproved("gen", "1", "2", out="x", more={"XDG_CACHE_HOME": f"{self.at.folder}/file", "TMPDIR": str(self.at.folder)})[:2], (0, "x"))
+        self.assertEqual([path.name for path in self.at.folder.glob("btreplay-*")], [])
+
+    def test_the_proved_program_is_built_once_and_again_for_newer_sources(self):
+        told = ("btreplay: proving and building the program, 2 crates; this takes a while the first time\n"
+                "btreplay: crate 1 of 2 is proved\nbtreplay: crate 2 of 2 is proved\n")
+        self.assertRegex(self.at.run("--version")[1], r"^btreplay at .*, not proved and built here\n$")
+        self.assertEqual(self.at.run("gen", "1", "2", out="x"), (0, "x", told))
+        self.assertEqual(self.at.run("gen", "1", "2", out="x"), (0, "x", ""))
+        self.assertRegex(self.at.run("--version")[1], r"^btreplay, proved with kit of the test at ")
+        later = time.time() + 10
+        os.utime(self.source, (later, later))
+        status, out, err = self.at.run("gen", "1", "2", out="x", more={"STAND_IN_FAILS": "not proved"})
+        self.assertEqual((status, out), (1, ""))
+        self.assertTrue(err.endswith("rt: bt_core proved\nrt: bt_program proved\nerror: not proved\nbtreplay: the program could not be built\n"), err)
+
+    def test_no_toolchain(self):
+        os.unlink(self.at.folder / "bin" / "rt")
+        python = os.path.dirname(os.path.realpath(subprocess.run(["which", "python3"], stdout=subprocess.PIPE).stdout.decode().strip()))
+        status, _, err = self.unproved("gen", "1", "2", more={"PATH": f"{python}:/usr/bin:/bin"})
+        self.assertEqual((status, err.splitlines()[-1]), (1, "btreplay: the toolchain is not there: rt is not on the path"))
+
+
+class Pages(unittest.TestCase):
+    def test_the_man_page_has_all_words(self):
+        page = (TOP / "docs" / "btreplay.1").read_text().replace("\\-", "-")
+        for word in ("explain", "--unproved", "--help", "--version", "-e", "XDG_CACHE_HOME"):
+            self.assertIn(word, page)
+
+
+if __name__ == "__main__":
+    unittest.main()
