@@ -40,6 +40,15 @@ class Outputs(unittest.TestCase):
             with self.subTest(name):
                 self.assertEqual(question(start, events), (EXAMPLES / f"{name}.out").read_text())
 
+    def test_in_another_order(self):
+        """What is run without --serial comes out the same where the last CPU goes first."""
+        start, events = read_recording((EXAMPLES / "small.btr").read_bytes())
+        events.sort(key=lambda one: (-one.cpu, one.time))
+        for name, question in questions.QUESTIONS.items():
+            if "run --serial" not in (EXAMPLES / f"{name}.bt").read_text():
+                with self.subTest(name):
+                    self.assertEqual(question(start, events), (EXAMPLES / f"{name}.out").read_text())
+
 
 class Recording(unittest.TestCase):
     def test_the_example_of_the_page(self):
