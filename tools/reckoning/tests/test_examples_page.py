@@ -90,7 +90,7 @@ class Page(unittest.TestCase):
         self.assertGreater(len(rows), 25)
         for name, scripts, events in rows:
             patterns = events.replace("'", "").strip("`| ").split()
-            if "calls of interest" in scripts or "btrecord" in scripts:
+            if "btrecord" in scripts:
                 continue
             named = re.findall(r"\w+\.bt", scripts)
             text = "\n".join(self.scripts[script] for script in named) if named else scripts
