@@ -1,7 +1,7 @@
 #!/usr/bin/env python3
 """Makes the cases of examples/ that the program bt_cases runs: one for each script, with its output.
 
-  python3 tools/example_cases.py           writes crates/bt_cases/data/examples.jsonl and the recording beside it
+  python3 tools/example_cases.py           writes crates/bt_cases/data/examples.jsonl, the recording beside it, and how many cases agree
   python3 tools/example_cases.py --check   changes nothing, and ends with status 1 where they are not those of examples/
 
 The first comment of a script has, behind "// Run: ", the command whose output stands beside the script.
@@ -34,12 +34,19 @@ def case_of(path):
     return json.dumps(case) + "\n"
 
 
+def agreeing(examples):
+    """What bt_cases prints where all cases agree: those of examples/, and those of the other files, one a line."""
+    others = [path for path in DATA.glob("*.jsonl") if path.name != "examples.jsonl"]
+    return f"{examples.count(chr(10)) + sum(path.read_text().count(chr(10)) for path in others)} cases agree, 0 differ\n"
+
+
 def main(arguments):
-    """Writes the two files, or compares them."""
+    """Writes the three files, or compares them."""
     if arguments not in ([], ["--check"]):
         sys.exit(__doc__)
-    made = {DATA / "examples.jsonl": "".join(map(case_of, sorted(EXAMPLES.glob("*.bt")))).encode(),
-            DATA / RECORDING: (EXAMPLES / RECORDING).read_bytes()}
+    examples = "".join(map(case_of, sorted(EXAMPLES.glob("*.bt"))))
+    made = {DATA / "examples.jsonl": examples.encode(), DATA / RECORDING: (EXAMPLES / RECORDING).read_bytes(),
+            DATA.parent / "stdout": agreeing(examples).encode()}
     for path, wanted in made.items():
         if not arguments:
             path.write_bytes(wanted)

@@ -7,7 +7,8 @@ PAGES are README.md, examples/README.md and those of docs/ for users, where none
 What is tried, in a folder of its own:
 - in a block marked console each line after "$ ", whose output is what stands up to the next such line;
 - in a block marked text, that ends in a line with a fault, the script or recording before it;
-- a script in backquotes, as a whole line: it is to be accepted, or in a table with a column "Prints here" to be run.
+- a script in backquotes, as a whole line: it is to be accepted, or in a table with a column "Prints here" to be run, where the
+  lines that the command adds behind "btreplay: " are left out.
 """
 import argparse
 import os
@@ -89,7 +90,7 @@ class Follower:
             (self.folder / "s.bt").write_text(scripts[0])
             wanted = [part.replace("\\|", "|") for part in re.findall(r"`([^`]*)`", cells[prints])]
             came = self.output_of(f"./btreplay run --serial s.bt {RECORDING}")
-            self.compare(scripts[0], wanted, [part for part in came.splitlines() if part])
+            self.compare(scripts[0], wanted, [part for part in came.splitlines() if part and not part.startswith("btreplay: ")])
             return
         for script in scripts:
             (self.folder / "s.bt").write_text(script)
