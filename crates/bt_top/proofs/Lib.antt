@@ -1,10 +1,10 @@
-mod Answering
+mod Bounds
+mod Doings
 mod Due
 mod Headlines
+mod Judging
 mod LineLaws
 mod Listed
 mod Making
-mod Performing
-mod Reading
 mod Scripts
 mod TooLarge
