@@ -15,9 +15,10 @@ def told_start(asked, formats, cpus, output):
     if asked.command and not asked.is_all:
         who = f"of {asked.command[0]} and what it starts (-a records all)"
     elif asked.processes:
-        who = f"of process {' '.join(map(str, asked.processes))} and what it starts"
+        one = len(asked.processes) == 1
+        who = f"of {'process' if one else 'processes'} {', '.join(map(str, asked.processes))} and what {'it starts' if one else 'they start'}"
     until = [f"{asked.seconds:g} s are over"] if asked.seconds else []
-    until += [f"{asked.command[0]} ends"] if asked.command else ["it ends"] if asked.processes else []
+    until += [f"{asked.command[0]} ends"] if asked.command else ["it ends" if one else "they end"] if asked.processes else []
     kept = ", of which the latest events are kept" if asked.keeps_latest else ""
     return (f"recording {formats:,} tracepoint{'' if formats == 1 else 's'} {who} into {output}{kept}, until "
             + ", ".join(until + ["Ctrl-C comes"]).replace(", Ctrl-C", " or Ctrl-C"))

@@ -296,7 +296,7 @@ class Joining:
         """Leaves out what is before the time from which on all events of all CPUs are there, and fit."""
         main = self.recorder.main
         room = container.MOST_BYTES - container.head_bytes(self.formats, len(cpus_of(main)))
-        self.begin = max(whole_from(main), fits_from(main.spools(), room))
+        self.begin = max(whole_from(main), fits_from(main.spools(), room, self.recorder.go_on))
 
     def later(self, window):
         """Of the events of some CPUs those that are not left out."""

@@ -307,8 +307,10 @@ class Life(unittest.TestCase):
         asked.is_all = asked.keeps_latest = True
         self.assertEqual(told_start(asked, 2, 4, "f"),
                          "recording 2 tracepoints on 4 CPUs into f, of which the latest events are kept, until 5 s are over, dd ends or Ctrl-C comes")
-        asked = Asked(["a:b"], None, 64, processes=[7, 8])
-        self.assertEqual(told_start(asked, 2, 4, "f"), "recording 2 tracepoints of process 7 8 and what it starts into f, until it ends or Ctrl-C comes")
+        asked = Asked(["a:b"], None, 64, processes=[7])
+        self.assertEqual(told_start(asked, 2, 4, "f"), "recording 2 tracepoints of process 7 and what it starts into f, until it ends or Ctrl-C comes")
+        asked.processes = [7, 8]
+        self.assertEqual(told_start(asked, 2, 4, "f"), "recording 2 tracepoints of processes 7, 8 and what they start into f, until they end or Ctrl-C comes")
 
     def test_signs(self):
         self.assertEqual(told_growing(524_288, 1000, 3), "524,288 events, 50 % of what a recording holds, 3 lost")
@@ -379,9 +381,10 @@ class Real(unittest.TestCase):
         process = subprocess.Popen(["sh", "-c", "while :; do sleep 0.01; done"])
         self.addCleanup(process.wait)
         self.addCleanup(process.kill)
-        status, told, events = self.told("raw_syscalls:*", "--pid", str(process.pid), "--keep", "latest", "--seconds", "0.5", "-o", self.path)
+        status, told, events = self.told("raw_syscalls:*", "--pid", str(process.pid), "--keep", "latest", "--seconds", "1", "-o", self.path)
         self.assertEqual(status, 0, told)
-        self.assertEqual({name for *_, name in events}, {b"sh", b"sleep"})
+        names = {name for *_, name in events}
+        self.assertTrue({b"sh"} <= names <= {b"sh", b"sleep"}, names)
         self.assertIn("it covers the last ", told)
 
 
