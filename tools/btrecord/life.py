@@ -25,11 +25,11 @@ def told_start(asked, formats, cpus, output):
 
 
 class Signs:
-    """Signs of life on a stream, each after so many seconds."""
+    """Signs of life on a stream, each after so many seconds. A stream that a command shares has no line that is written again."""
 
-    def __init__(self, stream=None):
+    def __init__(self, stream=None, is_shared=False):
         self.stream = stream or sys.stderr
-        self.is_terminal = self.stream.isatty()
+        self.is_terminal = self.stream.isatty() and not is_shared
         self.began = time.monotonic()
         self.seconds = TERMINAL_SECONDS if self.is_terminal else OTHER_SECONDS
         self.next = self.began + self.seconds

@@ -378,7 +378,7 @@ def recorded(top, asked, wanted, filters, output, signals, target, notes):
     path = f"{top}/instances/{own_name()}"
     main, tasks = Instance(path, shape, size), Instance(f"{path}-tasks", shape, size)
     looks = (RollingLooks if asked.keeps_latest else Looks)(output.folder)
-    recorder = (LatestRecorder if asked.keeps_latest else Recorder)(main, tasks, looks, signals, target, Signs() if asked.tell else None)
+    recorder = (LatestRecorder if asked.keeps_latest else Recorder)(main, tasks, looks, signals, target, Signs(is_shared=bool(asked.command)) if asked.tell else None)
     with contextlib.ExitStack() as stack:
         for instance, kilobytes, pairs in [(tasks, TASK_KILOBYTES, watched), (main, asked.kilobytes, wanted.pairs)]:
             stack.enter_context(instance).set_up(kilobytes, output.folder)

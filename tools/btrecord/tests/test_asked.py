@@ -319,6 +319,7 @@ class Life(unittest.TestCase):
         with unittest.mock.patch("time.monotonic", lambda: self.now):
             self.now = 100.0
             screen, other = Signs(Terminal()), Signs(io.StringIO())
+            self.assertFalse(Signs(Terminal(), is_shared=True).is_terminal)
             self.assertFalse(screen.is_due())
             self.now = 101.0
             self.assertEqual((screen.is_due(), other.is_due()), (True, False))
