@@ -211,12 +211,12 @@ class Latest(Tree):
         self.assertTrue(made.notes[2].startswith("30 more were left out"), made.notes)
 
     def test_a_signal_ends_it(self):
-        process = subprocess.Popen([sys.executable, f"{HERE}/fake_recorder.py", self.top, self.path, "60", "latest"], stdout=subprocess.PIPE, text=True)
-        due, path = time.monotonic() + 20, pathlib.Path(self.top, "instances")
+        process = subprocess.Popen([sys.executable, f"{HERE}/fake_recorder.py", self.top, self.path, "1000", "latest"], stdout=subprocess.PIPE, text=True)
+        due, path = time.monotonic() + 100, pathlib.Path(self.top, "instances")
         while time.monotonic() < due and not any(found.read_text() == "1" for found in path.glob("btrecord-*[0-9]/tracing_on")):
             time.sleep(0.02)
         process.send_signal(signal.SIGINT)
-        told = process.communicate(timeout=20)[0]
+        told = process.communicate(timeout=100)[0]
         self.assertEqual((process.returncode, os.listdir(path)), (0, []))
         self.assertRegex(told, r"it covers the last .* s; SIGINT ended it\n0 earlier events were overwritten\n")
         self.assertEqual(sum(count for _, count in read_recording(pathlib.Path(self.path).read_bytes()).cpus), 2)
