@@ -55,11 +55,12 @@ def whole_from(main):
     return latest
 
 
-def fits_from(spools, room):
-    """From when on all events fit into a recording that has room for so many bytes of them."""
+def fits_from(spools, room, go_on=lambda: None):
+    """From when on all events fit into a recording that has room for so many bytes of them. Asks now and then whether to go on."""
     events = size = 0
     held = deque()
     for until, found in windows(spools):
+        go_on()
         times = array("Q", (time for _, of in found for time in of.times))
         sizes = array("I", (EVENT.size + len(payload) for _, of in found for payload in of.payloads))
         held.append((until, times, sizes, sum(sizes)))

@@ -15,20 +15,21 @@ def told_start(asked, formats, cpus, output):
     if asked.command and not asked.is_all:
         who = f"of {asked.command[0]} and what it starts (-a records all)"
     elif asked.processes:
-        who = f"of process {' '.join(map(str, asked.processes))} and what it starts"
+        one = len(asked.processes) == 1
+        who = f"of {'process' if one else 'processes'} {', '.join(map(str, asked.processes))} and what {'it starts' if one else 'they start'}"
     until = [f"{asked.seconds:g} s are over"] if asked.seconds else []
-    until += [f"{asked.command[0]} ends"] if asked.command else ["it ends"] if asked.processes else []
+    until += [f"{asked.command[0]} ends"] if asked.command else ["it ends" if one else "they end"] if asked.processes else []
     kept = ", of which the latest events are kept" if asked.keeps_latest else ""
     return (f"recording {formats:,} tracepoint{'' if formats == 1 else 's'} {who} into {output}{kept}, until "
             + ", ".join(until + ["Ctrl-C comes"]).replace(", Ctrl-C", " or Ctrl-C"))
 
 
 class Signs:
-    """Signs of life on a stream, each after so many seconds."""
+    """Signs of life on a stream, each after so many seconds. A stream that a command shares has no line that is written again."""
 
-    def __init__(self, stream=None):
+    def __init__(self, stream=None, is_shared=False):
         self.stream = stream or sys.stderr
-        self.is_terminal = self.stream.isatty()
+        self.is_terminal = self.stream.isatty() and not is_shared
         self.began = time.monotonic()
         self.seconds = TERMINAL_SECONDS if self.is_terminal else OTHER_SECONDS
         self.next = self.began + self.seconds

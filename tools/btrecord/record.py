@@ -296,7 +296,7 @@ class Joining:
         """Leaves out what is before the time from which on all events of all CPUs are there, and fit."""
         main = self.recorder.main
         room = container.MOST_BYTES - container.head_bytes(self.formats, len(cpus_of(main)))
-        self.begin = max(whole_from(main), fits_from(main.spools(), room))
+        self.begin = max(whole_from(main), fits_from(main.spools(), room, self.recorder.go_on))
 
     def later(self, window):
         """Of the events of some CPUs those that are not left out."""
@@ -378,7 +378,7 @@ def recorded(top, asked, wanted, filters, output, signals, target, notes):
     path = f"{top}/instances/{own_name()}"
     main, tasks = Instance(path, shape, size), Instance(f"{path}-tasks", shape, size)
     looks = (RollingLooks if asked.keeps_latest else Looks)(output.folder)
-    recorder = (LatestRecorder if asked.keeps_latest else Recorder)(main, tasks, looks, signals, target, Signs() if asked.tell else None)
+    recorder = (LatestRecorder if asked.keeps_latest else Recorder)(main, tasks, looks, signals, target, Signs(is_shared=bool(asked.command)) if asked.tell else None)
     with contextlib.ExitStack() as stack:
         for instance, kilobytes, pairs in [(tasks, TASK_KILOBYTES, watched), (main, asked.kilobytes, wanted.pairs)]:
             stack.enter_context(instance).set_up(kilobytes, output.folder)

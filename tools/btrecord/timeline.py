@@ -100,7 +100,7 @@ class Timeline:
         fields = kind.fields(payload)
         if kind.is_switch and "next_pid" in fields and "next_comm" in fields:
             yield from self.switch(event, fields)
-        elif kind.request and "dev" in fields and "sector" in fields:
+        elif kind.request and "sector" in fields and isinstance(fields.get("dev"), int) and fields["dev"] >= 0:
             yield from self.request(kind, event, fields)
         elif kind.is_begin:
             track = self.track_of(kind, event)
@@ -137,13 +137,13 @@ class Timeline:
         self.tracks[track] = f"cpu {event.cpu}"
         yield from self.stop(event.cpu, event.time, fields)
         if fields["next_pid"]:
-            self.running[event.cpu] = event.time, fields["next_comm"], fields["next_pid"]
+            self.running[event.cpu] = event.time, str(fields["next_comm"]), fields["next_pid"]
 
     def stop(self, cpu, time, fields):
         """What a CPU ran until now. The one that it ran from the start on is known by the switch away from it."""
         begin, name, thread = self.running.pop(cpu, (None, None, None))
         if begin is None and cpu not in self.switched and fields.get("prev_pid") and "prev_comm" in fields:
-            begin, name, thread = self.start, fields["prev_comm"], fields["prev_pid"]
+            begin, name, thread = self.start, str(fields["prev_comm"]), fields["prev_pid"]
         self.switched.add(cpu)
         if begin is not None:
             ends = {key: fields[key] for key in ("prev_state", "prev_prio") if key in fields}

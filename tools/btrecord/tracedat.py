@@ -20,7 +20,8 @@ OPTIONS, FLYRECORD = b"options  \0", b"flyrecord\0"
 OPTION_DONE, OPTION_CPUSTAT, OPTION_BUFFER, OPTION_CLOCK = 0, 2, 3, 4
 OPTION_HEADER, OPTION_EVENTS, OPTION_NAMES = 16, 18, 21
 COMPRESSED = 1
-MOST_PAGE = 1 << 16
+MOST_PAGE = 1 << 20
+MOST_TIME = (1 << 64) - 1
 # The clocks whose times are in nanoseconds.
 CLOCKS = {"local", "global", "mono", "mono_raw", "boot", "tai", "perf"}
 LOST = re.compile(r"^(?:overrun|commit overrun|dropped events): (\d+)$", re.MULTILINE)
@@ -39,7 +40,10 @@ class Pages:
     def chunks(self):
         """All records, those of some pages at a time."""
         pages = (self.data[at:at + self.page_bytes] for at in range(self.at, self.at + self.size, self.page_bytes))
-        return chunks_of(pages, self.shape)
+        for found in chunks_of(pages, self.shape):
+            if found.times and found.times[-1] > MOST_TIME:
+                raise Refused("a page of the kernel's ring buffer has a time that no clock has")
+            yield found
 
 
 @dataclass

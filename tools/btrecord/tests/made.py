@@ -14,11 +14,6 @@ sys.path.insert(0, os.path.dirname(HERE))
 from container import format_of  # noqa: E402
 from tasks import Task  # noqa: E402
 
-# The program itself, whose module has the name of the one that runs.
-SPEC = importlib.util.spec_from_file_location("btrecord", f"{os.path.dirname(HERE)}/__main__.py")
-program = importlib.util.module_from_spec(SPEC)
-SPEC.loader.exec_module(program)
-
 TEXT = b"name: tick\nID: 300\nformat:\n\tfield:int n;\toffset:8;\tsize:4;\tsigned:1;\n"
 DEMO = format_of(b"demo", TEXT)
 OTHER_TEXT = TEXT.replace(b"tick", b"tock").replace(b"300", b"301")
@@ -30,6 +25,17 @@ NEWTASK = (b"name: task_newtask\nID: 205\nformat:\n\tfield:unsigned short common
            b"\tfield:char comm[16];\toffset:12;\tsize:16;\tsigned:0;\n\tfield:unsigned long clone_flags;\toffset:32;\tsize:8;\tsigned:0;\n")
 RENAME = (b"name: task_rename\nID: 204\nformat:\n\tfield:pid_t pid;\toffset:8;\tsize:4;\tsigned:1;\n"
           b"\tfield:char newcomm[16];\toffset:28;\tsize:16;\tsigned:0;\n")
+
+
+def __getattr__(name):
+    """The program itself, whose module has the name of the one that runs. It is loaded where a test asks for it."""
+    if name != "program":
+        raise AttributeError(name)
+    if "btrecord" not in sys.modules:
+        spec = importlib.util.spec_from_file_location("btrecord", f"{os.path.dirname(HERE)}/__main__.py")
+        sys.modules["btrecord"] = importlib.util.module_from_spec(spec)
+        spec.loader.exec_module(sys.modules["btrecord"])
+    return sys.modules["btrecord"]
 
 
 def payload(thread=1235, number=300, n=-2):

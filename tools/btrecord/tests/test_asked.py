@@ -211,12 +211,12 @@ class Latest(Tree):
         self.assertTrue(made.notes[2].startswith("30 more were left out"), made.notes)
 
     def test_a_signal_ends_it(self):
-        process = subprocess.Popen([sys.executable, f"{HERE}/fake_recorder.py", self.top, self.path, "60", "latest"], stdout=subprocess.PIPE, text=True)
-        due, path = time.monotonic() + 20, pathlib.Path(self.top, "instances")
+        process = subprocess.Popen([sys.executable, f"{HERE}/fake_recorder.py", self.top, self.path, "1000", "latest"], stdout=subprocess.PIPE, text=True)
+        due, path = time.monotonic() + 100, pathlib.Path(self.top, "instances")
         while time.monotonic() < due and not any(found.read_text() == "1" for found in path.glob("btrecord-*[0-9]/tracing_on")):
             time.sleep(0.02)
         process.send_signal(signal.SIGINT)
-        told = process.communicate(timeout=20)[0]
+        told = process.communicate(timeout=100)[0]
         self.assertEqual((process.returncode, os.listdir(path)), (0, []))
         self.assertRegex(told, r"it covers the last .* s; SIGINT ended it\n0 earlier events were overwritten\n")
         self.assertEqual(sum(count for _, count in read_recording(pathlib.Path(self.path).read_bytes()).cpus), 2)
@@ -307,8 +307,10 @@ class Life(unittest.TestCase):
         asked.is_all = asked.keeps_latest = True
         self.assertEqual(told_start(asked, 2, 4, "f"),
                          "recording 2 tracepoints on 4 CPUs into f, of which the latest events are kept, until 5 s are over, dd ends or Ctrl-C comes")
-        asked = Asked(["a:b"], None, 64, processes=[7, 8])
-        self.assertEqual(told_start(asked, 2, 4, "f"), "recording 2 tracepoints of process 7 8 and what it starts into f, until it ends or Ctrl-C comes")
+        asked = Asked(["a:b"], None, 64, processes=[7])
+        self.assertEqual(told_start(asked, 2, 4, "f"), "recording 2 tracepoints of process 7 and what it starts into f, until it ends or Ctrl-C comes")
+        asked.processes = [7, 8]
+        self.assertEqual(told_start(asked, 2, 4, "f"), "recording 2 tracepoints of processes 7, 8 and what they start into f, until they end or Ctrl-C comes")
 
     def test_signs(self):
         self.assertEqual(told_growing(524_288, 1000, 3), "524,288 events, 50 % of what a recording holds, 3 lost")
@@ -317,6 +319,7 @@ class Life(unittest.TestCase):
         with unittest.mock.patch("time.monotonic", lambda: self.now):
             self.now = 100.0
             screen, other = Signs(Terminal()), Signs(io.StringIO())
+            self.assertFalse(Signs(Terminal(), is_shared=True).is_terminal)
             self.assertFalse(screen.is_due())
             self.now = 101.0
             self.assertEqual((screen.is_due(), other.is_due()), (True, False))
@@ -379,9 +382,10 @@ class Real(unittest.TestCase):
         process = subprocess.Popen(["sh", "-c", "while :; do sleep 0.01; done"])
         self.addCleanup(process.wait)
         self.addCleanup(process.kill)
-        status, told, events = self.told("raw_syscalls:*", "--pid", str(process.pid), "--keep", "latest", "--seconds", "0.5", "-o", self.path)
+        status, told, events = self.told("raw_syscalls:*", "--pid", str(process.pid), "--keep", "latest", "--seconds", "1", "-o", self.path)
         self.assertEqual(status, 0, told)
-        self.assertEqual({name for *_, name in events}, {b"sh", b"sleep"})
+        names = {name for *_, name in events}
+        self.assertTrue({b"sh"} <= names <= {b"sh", b"sleep"}, names)
         self.assertIn("it covers the last ", told)
 
 
