@@ -116,8 +116,10 @@ class Command(unittest.TestCase):
 
     def test_signals_reach_the_program(self):
         for number in (signal.SIGTERM, signal.SIGINT):
+            # Where the tests run behind a shell that gave them up, that signal is ignored.
             child = subprocess.Popen([str(self.at.top / "btreplay"), "run", "s.bt", "r.btr"], stdout=subprocess.PIPE, stderr=subprocess.PIPE,
-                                     cwd=self.at.folder, env=self.at.environment(does="echo $$; exec sleep 60"))
+                                     cwd=self.at.folder, env=self.at.environment(does="echo $$; exec sleep 60"),
+                                     preexec_fn=lambda: signal.signal(number, signal.SIG_DFL))
             running = int(child.stdout.readline())
             # The program stands in the list of processes until the command has waited for it.
             time.sleep(0.3)
