@@ -7,7 +7,7 @@ from dataclasses import dataclass
 
 from btreplay import proved, unproved
 from btreplay.places import is_checkout
-from btreplay.running import Ended, end_as, hold_streams, is_read_no_more, pass_on, run_program, tell
+from btreplay.running import Ended, end_as, end_in_order, hold_streams, is_read_no_more, pass_on, run_program, tell
 
 HELP = """usage: btreplay run [--serial] [--stats] SCRIPT RECORDING    runs the script over the recording, and writes what it prints
        btreplay check SCRIPT RECORDING                      looks both over for all that refuses them
@@ -193,6 +193,7 @@ def answer(words):
 def main(words):
     """Does what words ask for. Where the program cannot be run that is told, with what its build said, and the status is 1."""
     hold_streams()
+    end_in_order()
     try:
         return answer(words)
     except unproved.NotBuilt as fault:

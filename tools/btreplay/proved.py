@@ -42,11 +42,15 @@ def prove(log):
     with tempfile.TemporaryDirectory(prefix="btreplay-") as folder:
         copy_crates(folder)
         with subprocess.Popen(["rt", "ci", "bt_program"], cwd=folder, stdin=subprocess.DEVNULL, stdout=subprocess.PIPE, stderr=subprocess.STDOUT) as gate:
-            for line in gate.stdout:
-                log.write(line)
-                if line.startswith(b"rt: ") and line.endswith(b" proved\n"):
-                    proved += 1
-                    tell([f"crate {proved} of {count} is proved"])
+            try:
+                for line in gate.stdout:
+                    log.write(line)
+                    if line.startswith(b"rt: ") and line.endswith(b" proved\n"):
+                        proved += 1
+                        tell([f"crate {proved} of {count} is proved"])
+            except BaseException:
+                gate.terminate()
+                raise
 
 
 def build():

@@ -47,6 +47,13 @@ def is_read_no_more(handle=1):
     return any(found & select.POLLERR for _, found in poll.poll(0))
 
 
+def end_in_order():
+    """Lets the signals that end a program end this one as a fault does, so that what a build has begun is stopped and removed."""
+    for number in (signal.SIGTERM, signal.SIGHUP):
+        if signal.getsignal(number) != signal.SIG_IGN:
+            signal.signal(number, lambda got, _: sys.exit(128 + got))
+
+
 def hold_streams():
     """Puts a file that takes nothing in the place of each standard stream that is closed, so that no file of this command gets its number.
 

@@ -31,11 +31,13 @@ version) echo "kit of the test" ;;
 try)
     echo "$*" >>"$STAND_IN/builds"
     [ -z "$STAND_IN_FAILS" ] || { echo "error: $STAND_IN_FAILS"; exit 2; }
+    [ -z "$STAND_IN_SLOW" ] || exec sleep 60
     mkdir "$TMPDIR/try" && cp "$STAND_IN/lib/bt_program" "$TMPDIR/try/program" || exit 3
     shift 4
     "$TMPDIR/try/program" "$@"
     ;;
 ci)
+    [ -z "$STAND_IN_SLOW" ] || { echo "$PWD" >>"$STAND_IN/builds"; exec sleep 60; }
     echo "rt: bt_core proved"
     echo "rt: bt_program proved"
     ;;
@@ -105,7 +107,7 @@ class Installed:
         """The environment by which the stand-in does what a test asks."""
         return {**os.environ, "STAND_IN": str(self.folder), "STAND_IN_OUT": out, "STAND_IN_ERR": err, "STAND_IN_STATUS": str(status),
                 "STAND_IN_DOES": does, "PATH": f"{self.folder}/bin:{os.environ['PATH']}",
-                "XDG_CACHE_HOME": f"{self.folder}/cache", "STAND_IN_FAILS": "", **dict(more)}
+                "XDG_CACHE_HOME": f"{self.folder}/cache", "STAND_IN_FAILS": "", "STAND_IN_SLOW": "", **dict(more)}
 
     def run(self, *words, given=b"", **how):
         """Runs the command, and gives its status, what it printed and what it told."""

@@ -116,8 +116,10 @@ class Command(unittest.TestCase):
 
     def test_signals_reach_the_program(self):
         for number in (signal.SIGTERM, signal.SIGINT):
+            # Where the tests run behind a shell that gave them up, that signal is ignored.
             child = subprocess.Popen([str(self.at.top / "btreplay"), "run", "s.bt", "r.btr"], stdout=subprocess.PIPE, stderr=subprocess.PIPE,
-                                     cwd=self.at.folder, env=self.at.environment(does="echo $$; exec sleep 60"))
+                                     cwd=self.at.folder, env=self.at.environment(does="echo $$; exec sleep 60"),
+                                     preexec_fn=lambda: signal.signal(number, signal.SIG_DFL))
             running = int(child.stdout.readline())
             # The program stands in the list of processes until the command has waited for it.
             time.sleep(0.3)
@@ -227,6 +229,19 @@ class Builds(unittest.TestCase):
                                      cwd=self.at.folder, env=self.at.environment(out="x")) for _ in range(3)]
         self.assertEqual([(child.communicate(timeout=120)[0], child.returncode) for child in children], [(b"x", 0)] * 3)
         self.assertEqual(self.builds(), 1)
+
+    def test_a_build_that_is_stopped_leaves_nothing(self):
+        for words in (["--unproved"], []):
+            child = subprocess.Popen([str(self.at.top / "btreplay"), *words, "gen", "1", "2"], stdout=subprocess.PIPE, stderr=subprocess.PIPE, cwd=self.at.folder,
+                                     env=self.at.environment(more={"STAND_IN_SLOW": "yes", "TMPDIR": str(self.at.folder)}))
+            until, before = time.monotonic() + 60, self.builds()
+            while self.builds() == before and time.monotonic() < until:
+                time.sleep(0.05)
+            child.terminate()
+            child.communicate(timeout=120)
+            self.assertEqual(child.returncode, 128 + signal.SIGTERM)
+        self.assertEqual([path.name for path in (self.at.folder / "cache" / "btreplay").iterdir()], ["lock"])
+        self.assertEqual(list(self.at.folder.glob("btreplay-*")), [])
 
     def test_where_nothing_can_be_kept(self):
         self.at.write("file", "")
