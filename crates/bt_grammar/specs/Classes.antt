@@ -9,6 +9,7 @@ use Rattle.bt_core.specs.declared.operator.UnOp.TheVariants.{Neg, LogNot, BitNot
 use Rattle.bt_ast.specs.declared.expr.Builtin.{Builtin}
 use Rattle.bt_ast.specs.contracts.expr.Builtin as builtins
 use Rattle.bt_grammar.specs.declared.class.Class.{Class}
+use Rattle.bt_grammar.specs.declared.class.Gathering.{Gathering}
 use Rattle.bt_grammar.specs.contracts.class.Gathering as gatherings
 use Rattle.bt_grammar.specs.declared.class.Tier.{Tier}
 use Rattle.bt_grammar.specs.declared.class.Tier.TheVariants.{Products, Sums, Shifts, Orders, Equalities, BitAnds, BitXors, BitOrs, AndThens, OrElses}
@@ -195,7 +196,10 @@ is_point TracepointPoint = true
 is_point IntervalPoint = true
 is_point _ = false
 
--- a map function of one number
+-- the map function of one number that a word names
+abbrev pub gathering_of : Class → Option Gathering
+gathering_of (GatherWord gathering) = Some gathering
+gathering_of _ = None
+
 abbrev pub gathers : Class → Bool
-gathers (GatherWord gathering) = true
-gathers _ = false
+gathers c = is_some (gathering_of c)

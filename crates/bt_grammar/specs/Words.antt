@@ -1,5 +1,5 @@
 -- The words and marks that the grammar names: a list of texts with their classes, which is read both ways.
-use Rattle.std.specs.Prelude.{ℕ, bytes_eq, List, [], ◌∷◌, ◌++◌, map, if◌then◌else◌}
+use Rattle.std.specs.Prelude.{ℕ, bytes_eq, List, [], ◌∷◌, map, if◌then◌else◌}
 use Rattle.bt_grammar.specs.declared.class.Class.{Class}
 use Rattle.bt_grammar.specs.declared.class.Class.TheVariants.{OtherWord, Foreign}
 use Rattle.bt_grammar.specs.declared.words.TheConstants.{WORDS, MARKS}
@@ -27,6 +27,9 @@ word_class word = class_in words word OtherWord
 unfoldable pub mark_class : List ℕ → Class
 mark_class mark = class_in marks mark Foreign
 
--- the word or mark of a class
-unfoldable pub text_of : Class → List ℕ
-text_of class = text_in (words ++ marks) class
+-- the word of a class, and the mark
+unfoldable pub word_of : Class → List ℕ
+word_of class = text_in words class
+
+unfoldable pub mark_of : Class → List ℕ
+mark_of class = text_in marks class

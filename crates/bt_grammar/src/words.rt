@@ -1,6 +1,6 @@
 // The words and marks that the grammar names, each with its class, and the two ways through these lists.
 ghost use Rattle.std.specs.Prelude.{◌≡◌, map};
-ghost use Rattle.bt_grammar.specs.Words.{class_in, mark_class, text_in, text_of, word_class};
+ghost use Rattle.bt_grammar.specs.Words.{class_in, mark_class, mark_of, text_in, word_class, word_of};
 
 use crate::class::{Class, Gathering};
 use bt_ast::expr::Builtin;
@@ -116,4 +116,33 @@ pub fn mark_class(mark: &[u8]) -> Class
     ensures { result ≡ mark_class mark.now }
 {
     class_in(&MARKS, mark, Class::Foreign)
+}
+
+/// The text of a class in some rows, or nothing where none of them has it.
+#[tactic(auto, using(crate::proofs::SameClass::equals_is))]
+fn text_in<'a>(rows: &[(&'a [u8], Class)], class: Class) -> &'a [u8]
+    ensures { result.now ≡ text_in (map (λ row. (row.0.now, row.1)) rows.now) class }
+{
+    for (text, row) in rows {
+        if *row == class {
+            return text;
+        }
+    }
+    b""
+}
+
+/// The word of a class that has one.
+#[tactic(auto, unfolding(crate::specs::Words::word_of))]
+pub fn word_of(class: Class) -> &'static [u8]
+    ensures { result.now ≡ word_of class }
+{
+    text_in(&WORDS, class)
+}
+
+/// The mark of a class that has one.
+#[tactic(auto, unfolding(crate::specs::Words::mark_of))]
+pub fn mark_of(class: Class) -> &'static [u8]
+    ensures { result.now ≡ mark_of class }
+{
+    text_in(&MARKS, class)
 }

@@ -12,7 +12,7 @@ ghost use Rattle.bt_grammar.specs.Trees.{expr, place_of_expr};
 use crate::cursor::{Cursor, Named};
 use crate::fault::Fault;
 use crate::leaf::{leaf, map_value, step_value};
-use crate::tables::{binary_of, tighter};
+use crate::tables::tighter;
 use bt_ast::expr::{Expr, ExprKind, MapRef, Target, VarRef};
 use bt_core::boxed::Boxed;
 use bt_core::items::Items;
@@ -31,13 +31,10 @@ fn join(alloc: Global, class: Class, left: Expr, right: Expr) -> Result<Expr, Me
     let left = Boxed::new(alloc, left)?;
     let right = Boxed::new(alloc, right)?;
     let kind = match class {
+        Class::Operator(op) => ExprKind::Binary { op, left, right },
         Class::AndAnd => ExprKind::AndThen { left, right },
         Class::OrOr => ExprKind::OrElse { left, right },
-        _ => ExprKind::Binary {
-            op: binary_of(class),
-            left,
-            right,
-        },
+        _ => unreachable!(),
     };
     Ok(Expr { kind, place })
 }
