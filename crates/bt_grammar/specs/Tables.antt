@@ -8,6 +8,7 @@ use Rattle.bt_grammar.specs.declared.class.Tier.{Tier}
 use Rattle.bt_grammar.specs.Classes.{is, is_builtin, is_prefix, is_update, is_step, is_point, gathers, tier_of, tier_number, ends_predicate}
 use Rattle.bt_grammar.specs.Form.{Part, Primary, Unary, Level, Expression, Values, Keyed, Assignable, Int, Aggregation, Update, AfterMap, AfterVar, Printf, Print, Delete, CallOrJump, Simple, Arm, Tail, Control, Body, Braced, Points, OneProbe, WholeScript}
 
+-- nullable: the parts that may be empty
 abbrev pub nul : Part → Bool
 nul Tail = true
 nul _ = false
@@ -48,6 +49,7 @@ is_control c = is IfWord c || (is WhileWord c || is UnrollWord c)
 abbrev pub is_after : Class → Bool
 is_after c = is Assign c || (is_update c || is_step c)
 
+-- FIRST of each part: the classes that begin it
 abbrev pub fst_of : Part → Class → Bool
 fst_of Primary c = is_operand c
 fst_of Unary c = is_expression c
@@ -95,6 +97,7 @@ level_goes p n c b = primary_goes c || (within_tier n (tier_of c) && not (ends_p
 abbrev pub expression_goes : Bool → Class → Bool → Bool
 expression_goes p c b = is Question c || level_goes p 9 c b
 
+-- FOLLOW of each part: the classes that may stand behind a whole one, since they do not go on with it
 abbrev pub stops_of : Part → Option Class → Bool → Bool
 stops_of Primary h b = free (λ c _. primary_goes c) h b
 stops_of Unary h b = free (λ c _. primary_goes c) h b
