@@ -71,7 +71,7 @@ pass_at g (y ∷ xs) zero x h e = let same : y ≡ x = cc in ap g (sym same) ∙
 pass_at g (y ∷ xs) (suc n) x h e = pass_at g xs n x (and_second (g y) (passes_all g xs) h) e
 
 abbrev pub every_carried : (Class → Bool) → Bool
-every_carried g = passes_all (λ x. g (BuiltinWord x)) builtins && (passes_all (λ x. g (GatherWord x)) gatherings
+every_carried g = passes_all (λ (x : Builtin). g (BuiltinWord x)) builtins && (passes_all (λ x. g (GatherWord x)) gatherings
     && (passes_all (λ x. g (Operator x)) operators && passes_all (λ x. g (UpdateMark x)) operators))
 
 abbrev pub every : (Class → Bool) → Bool
@@ -84,7 +84,7 @@ every_is g h c = by c
     carried = and_second (passes_all g classes) (every_carried g) h
 
     behind_builtins : (passes_all (λ x. g (GatherWord x)) gatherings && (passes_all (λ x. g (Operator x)) operators && passes_all (λ x. g (UpdateMark x)) operators)) ≡ true
-    behind_builtins = and_second (passes_all (λ x. g (BuiltinWord x)) builtins) _ carried
+    behind_builtins = and_second (passes_all (λ (x : Builtin). g (BuiltinWord x)) builtins) _ carried
 
     behind_gatherings : (passes_all (λ x. g (Operator x)) operators && passes_all (λ x. g (UpdateMark x)) operators) ≡ true
     behind_gatherings = and_second (passes_all (λ x. g (GatherWord x)) gatherings) _ behind_builtins
@@ -191,5 +191,10 @@ is_same k c h =
     let two : carried_number k ≡ carried_number c = eqb-true (carried_number k) (carried_number c) (and_second (nat_eq (class_number k) (class_number c)) _ h) in
     sym (at_number c) ∙ ap (λ n. class_at n (carried_number c)) (sym one) ∙ ap (class_at (class_number k)) (sym two) ∙ at_number k
 
+both_true : (a b : Bool) → a ≡ true → b ≡ true → (a && b) ≡ true
+both_true true b h k = k
+both_true false b h k = h
+
 pub is_refl : (k c : Class) → c ≡ k → is k c ≡ true
-is_refl k c e = rw (e, eq-eqb (class_number k) (class_number k) refl, eq-eqb (carried_number k) (carried_number k) refl) refl
+is_refl k c e = both_true (nat_eq (class_number k) (class_number c)) (nat_eq (carried_number k) (carried_number c))
+    (eq-eqb (class_number k) (class_number c) (ap class_number (sym e))) (eq-eqb (carried_number k) (carried_number c) (ap carried_number (sym e)))
