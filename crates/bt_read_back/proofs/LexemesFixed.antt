@@ -3,7 +3,6 @@ use Rattle.std.proofs.Common.{◌≡◌, ℕ, suc, Bool, true, false, ◌&&◌, 
 use Rattle.std.specs.Prelude.{not, ◌||◌, bytes_eq, if◌then◌else◌}
 use Rattle.std.specs.List.{Contains, list_all}
 use Rattle.std.proofs.lemmas.Bool.{false≢true}
-use Rattle.std.proofs.lemmas.Bool.Decides.{decides_true}
 use Rattle.std.proofs.lemmas.Slice.Eq.{bytes_eq-Decides}
 use Rattle.bt_lexer.specs.declared.token.TokenKind.{TokenKind}
 use Rattle.bt_lexer.specs.declared.token.TokenKind.TheVariants as kinds
@@ -65,7 +64,7 @@ contained [] mark h = absurd (false≢true h)
 contained (x ∷ xs) mark h = by (bytes_eq x mark) refl
   where
     by : (b : Bool) → bytes_eq x mark ≡ b → Contains (x ∷ xs) mark
-    by true e = (0, omega arith, decides_true (bytes_eq-Decides x mark) e)
+    by true e = (0, omega arith, (bytes_eq-Decides x mark).0 e)
     by false e = let k = contained xs mark (sym (ap (λ b. b || has xs mark) e) ∙ h) in (suc k.0, omega (arith, k.1), k.2)
 
 spelled_valid : (k : TokenKind) → spelled k ≡ true → Valid k
