@@ -22,7 +22,7 @@ use Rattle.bt_grammar.specs.declared.class.Class.{Class}
 use Rattle.bt_grammar.specs.declared.class.Class.TheVariants.{IfWord, ElseWord, WhileWord, UnrollWord, CountWord, LhistWord, PrintfWord, PrintWord, ClearWord, ZeroWord, DeleteWord, ExitWord, BreakWord, ContinueWord, ReturnWord, ArgsWord, VarName, NumberLiteral, OpenBrace, CloseBrace, OpenParen, CloseParen, OpenBracket, CloseBracket, Comma, Semicolon, Assign, Question, Colon, Increment, AndAnd, OrOr, GatherWord, Operator}
 use Rattle.bt_grammar.specs.declared.class.Tier.{Tier}
 use Rattle.bt_grammar.specs.declared.class.Tier.TheVariants.{Products, Sums, Shifts, Orders, Equalities, BitAnds, BitXors, BitOrs, AndThens, OrElses}
-use Rattle.bt_grammar.specs.Classes.{is, is_word, is_builtin, is_prefix, is_update, is_step, is_dot, is_point, gathers, builtin_of, binary_of, prefix_of, update_of, tier_of, of_tier, joins}
+use Rattle.bt_grammar.specs.Classes.{is, is_word, is_builtin, is_prefix, is_update, is_step, is_dot, is_point, gathers, builtin_of, prefix_of, update_of, tier_of, of_tier, joins}
 use Rattle.bt_grammar.specs.Form.{Item, Part, Primary, Unary, Level, Expression, Values, Keyed, Assignable, Int, Aggregation, Update, AfterMap, AfterVar, Printf, Print, Delete, CallOrJump, Simple, Arm, Tail, Control, Body, Braced, Points, OneProbe, WholeScript, Of, Call, Rel}
 use Rattle.bt_grammar.specs.Grammar.{whole_at}
 use Rattle.bt_grammar.specs.Mentions.{OfMap, OfText, Mentions, joined, plain, expr_mentions, target_mentions, map_mentions, agg_mentions, arms_mentions, optional_mentions, statement_mentions, block_mentions, stmt_mentions, predicate_mentions, probe_mentions}
@@ -174,9 +174,9 @@ unary_case : (t : Item) (e : Expr) (x y : Mentions) → Nothing t x → Says exp
 unary_case t e x y ex ey = before_it (expr_mentions (unary t e)) x y ex (ap (map plain) (trees.Unary_mentions (unary_op (prefix_of t.class)) e t.place) ∙ ey)
 
 binary_is : (c : Class) (l r : Expr) (p : Place) → expr_mentions (expr (binary_kind c l r) p) ≡ expr_mentions l ++ expr_mentions r
+binary_is (Operator op) l r p = trees.Binary_mentions op l r p
 binary_is AndAnd l r p = trees.AndThen_mentions l r p
-binary_is OrOr l r p = trees.OrElse_mentions l r p
-binary_is c l r p = trees.Binary_mentions (binary_of c) l r p
+binary_is _ l r p = trees.OrElse_mentions l r p
 
 binary_case : (l : Expr) (o : Item × Expr) (x y : Mentions) → Says expr_mentions l x → Says expr_mentions o.1 y → Says expr_mentions (binary l o) (x ++ y)
 binary_case l o x y ex ey = ap (map plain) (binary_is o.0.class l o.1 (place_of_expr l)) ∙ both (expr_mentions l) (expr_mentions o.1) x y ex ey

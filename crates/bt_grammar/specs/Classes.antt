@@ -171,11 +171,6 @@ ends_predicate in_predicate c before_brace = in_predicate && (before_brace && is
 abbrev pub joins : Bool → Tier → Class → Bool → Bool
 joins in_predicate tier c before_brace = of_tier tier (tier_of c) && not (ends_predicate in_predicate c before_brace)
 
--- the operator on numbers that a mark of a tier is, other than `&&` and `||`
-abbrev pub binary_of : Class → BinOp
-binary_of (Operator op) = op
-binary_of _ = BitOr
-
 -- `++` or `--`
 abbrev pub is_step : Class → Bool
 is_step Increment = true

@@ -27,8 +27,8 @@ use Rattle.bt_ast.specs.declared.probe.Probe.{Probe}
 use Rattle.bt_grammar.specs.declared.class.Gathering.{Gathering}
 use Rattle.bt_grammar.specs.declared.class.Gathering.TheVariants.{Sum, Min, Max, Avg, Hist}
 use Rattle.bt_grammar.specs.declared.class.Class.{Class}
-use Rattle.bt_grammar.specs.declared.class.Class.TheVariants.{BeginWord, EndWord, Increment, AndAnd, OrOr, GatherWord}
-use Rattle.bt_grammar.specs.Classes.{is, builtin_of, prefix_of, update_of, binary_of}
+use Rattle.bt_grammar.specs.declared.class.Class.TheVariants.{BeginWord, EndWord, Increment, AndAnd, Operator, GatherWord}
+use Rattle.bt_grammar.specs.Classes.{is, builtin_of, prefix_of, update_of}
 use Rattle.bt_grammar.specs.Attach.{attach_point}
 use Rattle.bt_grammar.specs.Form.{Item}
 
@@ -146,9 +146,9 @@ abbrev pub unary : Item → Expr → Expr
 unary mark e = expr (exprs.Unary (unary_op (prefix_of mark.class)) e) mark.place
 
 abbrev pub binary_kind : Class → Expr → Expr → ExprKind
+binary_kind (Operator op) left right = exprs.Binary op left right
 binary_kind AndAnd left right = exprs.AndThen left right
-binary_kind OrOr left right = exprs.OrElse left right
-binary_kind c left right = exprs.Binary (binary_of c) left right
+binary_kind _ left right = exprs.OrElse left right
 
 abbrev pub binary : Expr → (Item × Expr) → Expr
 binary left right = expr (binary_kind right.0.class left right.1) (place_of_expr left)

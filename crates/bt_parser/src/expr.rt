@@ -1,7 +1,6 @@
 // Expressions.
-ghost use Rattle.std.specs.Prelude.{◌≡◌, ◌<◌, IfOk, IsSome, OnOk, length};
+ghost use Rattle.std.specs.Prelude.{◌≡◌, ◌<◌, IfOk, OnOk, length};
 ghost use Rattle.bt_parser.specs.Contract.{Reads};
-ghost use Rattle.bt_grammar.specs.Classes.{tier_of};
 ghost use Rattle.bt_grammar.specs.Form.{Assignable, Expression, Keyed, Level, Primary, Unary};
 ghost use Rattle.bt_grammar.specs.Reading.{reads};
 ghost use Rattle.bt_parser.specs.Mirror.{joined, operand_by, values_behind};
@@ -22,9 +21,8 @@ use bt_core::place::Place;
 use bt_grammar::class::{Class, Tier};
 use std::alloc::Global;
 
-/// Two operands joined by the operator that a mark is.
+/// Two operands joined by the operator that a mark of a tier is.
 fn join(alloc: Global, class: Class, left: Expr, right: Expr) -> Result<Expr, Memory>
-    requires { IsSome (tier_of class) }
     ensures { IfOk result (λ e. e ≡ joined class left right) }
 {
     let place = left.place;
@@ -33,10 +31,16 @@ fn join(alloc: Global, class: Class, left: Expr, right: Expr) -> Result<Expr, Me
     let kind = match class {
         Class::Operator(op) => ExprKind::Binary { op, left, right },
         Class::AndAnd => ExprKind::AndThen { left, right },
-        Class::OrOr => ExprKind::OrElse { left, right },
-        _ => unreachable!(),
+        _ => ExprKind::OrElse { left, right },
     };
     Ok(Expr { kind, place })
+}
+
+/// Two expressions in boxes.
+fn boxed_both(alloc: Global, a: Expr, b: Expr) -> Result<(Boxed<Expr>, Boxed<Expr>), Memory>
+    ensures { IfOk result (λ both. both ≡ (a, b)) }
+{
+    Ok((Boxed::new(alloc, a)?, Boxed::new(alloc, b)?))
 }
 
 /// `condition ? yes : no`.
@@ -45,8 +49,7 @@ fn choose(alloc: Global, condition: Expr, yes: Expr, no: Expr) -> Result<Expr, M
 {
     let place = condition.place;
     let condition = Boxed::new(alloc, condition)?;
-    let yes = Boxed::new(alloc, yes)?;
-    let no = Boxed::new(alloc, no)?;
+    let (yes, no) = boxed_both(alloc, yes, no)?;
     let kind = ExprKind::Choose { condition, yes, no };
     Ok(Expr { kind, place })
 }

@@ -23,7 +23,7 @@ use Rattle.bt_grammar.specs.declared.class.Class.{Class}
 use Rattle.bt_grammar.specs.declared.class.Class.TheVariants.{ArgsWord, MapName, VarName, NumberLiteral, TextLiteral, Increment, Decrement, OpenParen, CloseParen, OpenBracket, CloseBracket, AndAnd, OrOr, Tilde, Bang, Question, Colon, BuiltinWord, Operator}
 use Rattle.bt_grammar.specs.declared.class.Tier.{Tier}
 use Rattle.bt_grammar.specs.declared.class.Tier.TheVariants.{Products, Sums, Shifts, Orders, Equalities, BitAnds, BitXors, BitOrs, AndThens, OrElses}
-use Rattle.bt_grammar.specs.Classes.{is, is_word, is_builtin, builtin_of, is_prefix, prefix_of, is_step, binary_of, tier_of, of_tier, ends_predicate, joins}
+use Rattle.bt_grammar.specs.Classes.{is, is_word, is_builtin, builtin_of, is_prefix, prefix_of, is_step, tier_of, of_tier, ends_predicate, joins}
 use Rattle.bt_grammar.specs.Form.{Item, brace_next, Part, Primary, Unary, Level, Expression, Values, Keyed, Assignable, Call, Rel, whole}
 use Rattle.bt_grammar.specs.Words.{word_of, mark_of}
 use Rattle.bt_grammar.specs.Tokens.{origin}
@@ -101,9 +101,9 @@ binary_lexeme (Operator op) h l r p = ap (λ (z : List ℕ). expr_text l ++ (z +
 binary_lexeme _ h l r p = absurd (false≢true h)
 
 binary_bared : (c : Class) (l r : Expr) (p : Place) → bare_expr (expr (binary_kind c l r) p) ≡ expr (binary_kind c (bare_expr l) (bare_expr r)) origin
+binary_bared (Operator op) l r p = Binary_bare op l r p
 binary_bared AndAnd l r p = AndThen_bare l r p
-binary_bared OrOr l r p = OrElse_bare l r p
-binary_bared c l r p = Binary_bare (binary_of c) l r p
+binary_bared _ l r p = OrElse_bare l r p
 
 -- ---- operands
 
