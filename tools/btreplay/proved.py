@@ -1,8 +1,6 @@
 """The proved program: where it is, how it is proved and built, and with what it was."""
 import contextlib
 import os
-import pathlib
-import shutil
 import subprocess
 import sys
 import tempfile
@@ -25,36 +23,34 @@ def is_current():
     return os.access(PROGRAM, os.X_OK) and not any(path.stat().st_mtime_ns > built.st_mtime_ns for path in sources if path.exists())
 
 
-def copy_crates(folder):
-    """Copies what the proofs read, without the edits that they must refuse."""
-    for name in ("crates.txt", "HANDLES"):
-        shutil.copy(TOP / name, folder)
-    for crate in CRATES.iterdir():
-        shutil.copytree(crate, pathlib.Path(folder, "crates", crate.name), ignore=lambda path, names: {"out", "must-fail"} if path == str(crate) else ())
+def jobs():
+    """As many crates at a time as processors and memory hold, at 2 GB a crate."""
+    room = len(os.sched_getaffinity(0))
+    with contextlib.suppress(OSError, StopIteration, ValueError, IndexError):
+        with open("/proc/meminfo") as file:
+            free = next(line for line in file if line.startswith("MemAvailable:"))
+        room = min(room, int(free.split()[1]) // 2_000_000)
+    return max(room, 1)
 
 
 def prove(log):
-    """Proves the crates below the program and the program, in a copy of them.
-
-    The gate takes the longest chain of crates first, as many crates at a time as processors and memory hold, and what it proves is kept on
-    this machine. Its progress goes to standard error, and what it says to the log."""
+    """Proves the crates below the program and the program. Its progress goes to standard error, and what it says to the log."""
     count, proved = len(needed()), 0
-    with tempfile.TemporaryDirectory(prefix="btreplay-") as folder:
-        copy_crates(folder)
-        with subprocess.Popen(["rt", "ci", "bt_program"], cwd=folder, stdin=subprocess.DEVNULL, stdout=subprocess.PIPE, stderr=subprocess.STDOUT) as gate:
-            try:
-                for line in gate.stdout:
-                    log.write(line)
-                    if line.startswith(b"rt: ") and line.endswith(b" proved\n"):
-                        proved += 1
-                        tell([f"crate {proved} of {count} is proved"])
-            except BaseException:
-                gate.terminate()
-                raise
+    words = ["rt", "all", "check", "--jobs", str(jobs())]
+    with subprocess.Popen(words, cwd=CRATE, stdin=subprocess.DEVNULL, stdout=subprocess.PIPE, stderr=subprocess.STDOUT) as checks:
+        try:
+            for line in checks.stdout:
+                log.write(line)
+                if line.startswith(b"logic=proved"):
+                    proved += 1
+                    tell([f"crate {proved} of {count} is proved"])
+        except BaseException:
+            checks.terminate()
+            raise
 
 
 def build():
-    """Proves and builds the program. What the copy's proofs did not keep is proved here, crate by crate."""
+    """Proves and builds the program."""
     tell([f"proving and building the program, {len(needed())} crates; this takes a while the first time"])
     with tempfile.TemporaryFile() as log:
         with contextlib.suppress(FileNotFoundError):

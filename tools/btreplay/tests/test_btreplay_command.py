@@ -259,7 +259,7 @@ class Builds(unittest.TestCase):
         os.utime(self.source, (later, later))
         status, out, err = self.at.run("gen", "1", "2", out="x", more={"STAND_IN_FAILS": "not proved"})
         self.assertEqual((status, out), (1, ""))
-        self.assertTrue(err.endswith("rt: bt_core proved\nrt: bt_program proved\nerror: not proved\nbtreplay: the program could not be built\n"), err)
+        self.assertTrue(err.endswith("== bt_program\nlogic=proved functions=2\nerror: not proved\nbtreplay: the program could not be built\n"), err)
 
     def test_no_toolchain(self):
         os.unlink(self.at.folder / "bin" / "rt")
