@@ -4,6 +4,5 @@
 #[cfg(test)]
 mod ends;
 #[cfg(test)]
-mod lists;
 #[cfg(test)]
 mod woven;
