@@ -9,6 +9,7 @@ pub mod Decide
 pub mod Scripts
 pub mod FewProbes
 pub mod KindClasses
+pub mod SameClass
 -- what only this crate cites
 mod Sound
 mod Complete
