@@ -1,18 +1,15 @@
 -- Tests of all classes.
-use Rattle.std.proofs.Common.{◌≡◌, Bool, true, false, ◌&&◌, List, [], ◌∷◌, Option, Some, None, refl, sym, ◌∙◌, ap}
-use Rattle.std.specs.Prelude.{ℕ, zero, suc, nat_lt, nat_eq, not, if◌then◌else◌}
-use denote.Enum.Declared.{tag_of}
+use Rattle.std.proofs.Common.{◌≡◌, Bool, true, false, ◌&&◌, List, [], ◌∷◌, Option, Some, None, refl, sym, ◌∙◌, ap, inl, inr}
+use Rattle.std.specs.Prelude.{ℕ, zero, suc, nat_lt, nat_eq, not, option_map, if◌then◌else◌}
+use denote.Struct.Field.{Field}
+use denote.Enum.Enum.{tag}
+use denote.Enum.Bare.{Bare}
+use denote.Enum.Declared.{Record, Choice, rowss, intoss}
 use Rattle.std.proofs.lemmas.Bool.{eqb-true, eq-eqb}
 use Rattle.bt_grammar.specs.Classes.{class_number, carried_number, is}
-use Rattle.bt_core.specs.declared.operator.BinOp.{BinOp}
-use Rattle.bt_core.specs.declared.operator.BinOp.TheVariants as ops
-use Rattle.bt_core.specs.contracts.operator.BinOp.{the_type as operator_type}
-use Rattle.bt_ast.specs.declared.expr.Builtin.{Builtin}
-use Rattle.bt_ast.specs.declared.expr.Builtin.TheVariants.{Pid, Tid, Uid, Gid, Comm, Cpu, Nsecs, Elapsed}
-use Rattle.bt_ast.specs.contracts.expr.Builtin.{the_type as builtin_type}
-use Rattle.bt_grammar.specs.declared.class.Gathering.{Gathering}
-use Rattle.bt_grammar.specs.declared.class.Gathering.TheVariants.{Sum, Min, Max, Avg, Hist}
-use Rattle.bt_grammar.specs.contracts.class.Gathering.{the_type as gathering_type}
+use Rattle.bt_core.specs.contracts.operator.BinOp.{enum as operators}
+use Rattle.bt_ast.specs.contracts.expr.Builtin.{enum as builtins}
+use Rattle.bt_grammar.specs.contracts.class.Gathering.{enum as gatherings}
 use Rattle.bt_grammar.specs.declared.class.Class.{Class}
 use Rattle.bt_grammar.specs.declared.class.Class.TheVariants.{BeginWord, EndWord, IfWord, ElseWord, WhileWord, UnrollWord, CountWord, LhistWord, PrintfWord, PrintWord, ClearWord, ZeroWord, DeleteWord, ExitWord, BreakWord, ContinueWord, ReturnWord, ArgsWord, OtherWord, TracepointPoint, IntervalPoint, MapName, VarName, NumberLiteral, TextLiteral, Increment, Decrement, AndAnd, OrOr, Arrow, OpenBrace, CloseBrace, OpenParen, CloseParen, OpenBracket, CloseBracket, Comma, Semicolon, Dot, Assign, Tilde, Bang, Question, Colon, Foreign, BuiltinWord, GatherWord, Operator, UpdateMark}
 
@@ -31,72 +28,90 @@ both_ways f c = f c true && f c false
 abbrev pub classes : List Class
 classes = BeginWord ∷ EndWord ∷ IfWord ∷ ElseWord ∷ WhileWord ∷ UnrollWord ∷ CountWord ∷ LhistWord ∷ PrintfWord ∷ PrintWord ∷ ClearWord ∷ ZeroWord ∷ DeleteWord ∷ ExitWord ∷ BreakWord ∷ ContinueWord ∷ ReturnWord ∷ ArgsWord ∷ OtherWord ∷ TracepointPoint ∷ IntervalPoint ∷ MapName ∷ VarName ∷ NumberLiteral ∷ TextLiteral ∷ Increment ∷ Decrement ∷ AndAnd ∷ OrOr ∷ Arrow ∷ OpenBrace ∷ CloseBrace ∷ OpenParen ∷ CloseParen ∷ OpenBracket ∷ CloseBracket ∷ Comma ∷ Semicolon ∷ Dot ∷ Assign ∷ Tilde ∷ Bang ∷ Question ∷ Colon ∷ Foreign ∷ []
 
-abbrev pub builtins : List Builtin
-builtins = Pid ∷ Tid ∷ Uid ∷ Gid ∷ Comm ∷ Cpu ∷ Nsecs ∷ Elapsed ∷ []
+-- ---- the values of an enum whose variants carry nothing
 
-abbrev pub gatherings : List Gathering
-gatherings = Sum ∷ Min ∷ Max ∷ Avg ∷ Hist ∷ []
+abbrev choices_pass : (Fss : List (List Field)) → Bare Fss → (Choice Fss → Bool) → Bool
+choices_pass [] bare g = true
+choices_pass ([] ∷ Fss) bare g = g (inl tt) && choices_pass Fss bare (λ c. g (inr c))
+choices_pass ((F ∷ Fs) ∷ Fss) bare g = absurd bare
 
-abbrev pub operators : List BinOp
-operators = ops.Add ∷ ops.Sub ∷ ops.Mul ∷ ops.Div ∷ ops.Mod ∷ ops.Shl ∷ ops.Shr ∷ ops.BitAnd ∷ ops.BitOr ∷ ops.BitXor ∷ ops.Eq ∷ ops.Ne ∷ ops.Lt ∷ ops.Le ∷ ops.Gt ∷ ops.Ge ∷ []
+each_choice : (Fss : List (List Field)) (bare : Bare Fss) (g : Choice Fss → Bool) → choices_pass Fss bare g ≡ true → (c : Choice Fss) → g c ≡ true
+each_choice [] bare g h c = absurd c
+each_choice ([] ∷ Fss) bare g h (inl x) = and_first (g (inl tt)) (choices_pass Fss bare (λ d. g (inr d))) h
+each_choice ([] ∷ Fss) bare g h (inr c) = each_choice Fss bare (λ d. g (inr d)) (and_second (g (inl tt)) (choices_pass Fss bare (λ d. g (inr d))) h) c
+each_choice ((F ∷ Fs) ∷ Fss) bare g h c = absurd bare
 
--- ---- each value has its place in its list
+-- a test of all values
+abbrev pub values_pass : (N : Record) → Bare N.parts → (N.D → Bool) → Bool
+values_pass N bare g = choices_pass N.parts bare (λ c. g (N.make c))
 
-abbrev pub at : {A : Type 0} → List A → ℕ → Option A
-at [] n = None
-at (x ∷ xs) zero = Some x
-at (x ∷ xs) (suc n) = at xs n
+each_value : (N : Record) (bare : Bare N.parts) (g : N.D → Bool) → values_pass N bare g ≡ true → (x : N.D) → g x ≡ true
+each_value N bare g h x = ap g (sym (N.eta x)) ∙ each_choice N.parts bare (λ c. g (N.make c)) h (N.as_values x)
 
-builtin_at : (x : Builtin) → at builtins (tag_of builtin_type x) ≡ Some x
-builtin_at Pid = refl
-builtin_at _ = refl
+-- the variant at a place
+abbrev choice_at : (Fss : List (List Field)) → Bare Fss → ℕ → Option (Choice Fss)
+choice_at [] bare n = None
+choice_at ([] ∷ Fss) bare zero = Some (inl tt)
+choice_at ([] ∷ Fss) bare (suc n) = option_map inr (choice_at Fss bare n)
+choice_at ((F ∷ Fs) ∷ Fss) bare n = absurd bare
 
-gathering_at : (x : Gathering) → at gatherings (tag_of gathering_type x) ≡ Some x
-gathering_at Sum = refl
-gathering_at _ = refl
-
-operator_at : (x : BinOp) → at operators (tag_of operator_type x) ≡ Some x
-operator_at ops.Add = refl
-operator_at _ = refl
+choice_number : (Fss : List (List Field)) (bare : Bare Fss) (c : Choice Fss) → choice_at Fss bare (tag (rowss Fss) (intoss Fss c)) ≡ Some c
+choice_number [] bare c = absurd c
+choice_number ([] ∷ Fss) bare (inl x) = refl
+choice_number ([] ∷ Fss) bare (inr c) = ap (option_map inr) (choice_number Fss bare c)
+choice_number ((F ∷ Fs) ∷ Fss) bare c = absurd bare
 
 -- ---- a test of all classes
 
+abbrev pub at : List Class → ℕ → Option Class
+at [] n = None
+at (c ∷ cs) zero = Some c
+at (c ∷ cs) (suc n) = at cs n
+
 abbrev pub passes_all : {A : Type 0} → (A → Bool) → List A → Bool
 passes_all g [] = true
-passes_all g (c ∷ cs) = g c && passes_all g cs
+passes_all g (x ∷ xs) = g x && passes_all g xs
 
-pass_at : {A : Type 0} (g : A → Bool) (xs : List A) (n : ℕ) (x : A) → passes_all g xs ≡ true → at xs n ≡ Some x → g x ≡ true
-pass_at g [] n x h e = cc (e)
-pass_at g (y ∷ xs) zero x h e = let same : y ≡ x = cc in ap g (sym same) ∙ and_first (g y) (passes_all g xs) h
-pass_at g (y ∷ xs) (suc n) x h e = pass_at g xs n x (and_second (g y) (passes_all g xs) h) e
+pass_at : (g : Class → Bool) (cs : List Class) (n : ℕ) (c : Class) → passes_all g cs ≡ true → at cs n ≡ Some c → g c ≡ true
+pass_at g [] n c h e = cc (e)
+pass_at g (d ∷ cs) zero c h e = let same : d ≡ c = cc in ap g (sym same) ∙ and_first (g d) (passes_all g cs) h
+pass_at g (d ∷ cs) (suc n) c h e = pass_at g cs n c (and_second (g d) (passes_all g cs) h) e
 
-abbrev pub every_carried : (Class → Bool) → Bool
-every_carried g = passes_all (λ (x : Builtin). g (BuiltinWord x)) builtins && (passes_all (λ x. g (GatherWord x)) gatherings
-    && (passes_all (λ x. g (Operator x)) operators && passes_all (λ x. g (UpdateMark x)) operators))
+abbrev pub builtins_pass : (Class → Bool) → Bool
+builtins_pass g = values_pass builtins tt (λ x. g (BuiltinWord x))
+
+abbrev pub gatherings_pass : (Class → Bool) → Bool
+gatherings_pass g = values_pass gatherings tt (λ x. g (GatherWord x))
+
+abbrev pub operators_pass : (Class → Bool) → Bool
+operators_pass g = values_pass operators tt (λ x. g (Operator x))
+
+abbrev pub updates_pass : (Class → Bool) → Bool
+updates_pass g = values_pass operators tt (λ x. g (UpdateMark x))
 
 abbrev pub every : (Class → Bool) → Bool
-every g = passes_all g classes && every_carried g
+every g = passes_all g classes && (builtins_pass g && (gatherings_pass g && (operators_pass g && updates_pass g)))
 
 pub every_is : (g : Class → Bool) → every g ≡ true → (c : Class) → g c ≡ true
 every_is g h c = by c
   where
-    carried : every_carried g ≡ true
-    carried = and_second (passes_all g classes) (every_carried g) h
+    behind_classes : (builtins_pass g && (gatherings_pass g && (operators_pass g && updates_pass g))) ≡ true
+    behind_classes = and_second (passes_all g classes) _ h
 
-    behind_builtins : (passes_all (λ x. g (GatherWord x)) gatherings && (passes_all (λ x. g (Operator x)) operators && passes_all (λ x. g (UpdateMark x)) operators)) ≡ true
-    behind_builtins = and_second (passes_all (λ (x : Builtin). g (BuiltinWord x)) builtins) _ carried
+    behind_builtins : (gatherings_pass g && (operators_pass g && updates_pass g)) ≡ true
+    behind_builtins = and_second (builtins_pass g) _ behind_classes
 
-    behind_gatherings : (passes_all (λ x. g (Operator x)) operators && passes_all (λ x. g (UpdateMark x)) operators) ≡ true
-    behind_gatherings = and_second (passes_all (λ x. g (GatherWord x)) gatherings) _ behind_builtins
+    behind_gatherings : (operators_pass g && updates_pass g) ≡ true
+    behind_gatherings = and_second (gatherings_pass g) _ behind_builtins
 
     single : (n : ℕ) (k : Class) → at classes n ≡ Some k → g k ≡ true
-    single n k = pass_at g classes n k (and_first (passes_all g classes) (every_carried g) h)
+    single n k = pass_at g classes n k (and_first (passes_all g classes) _ h)
 
     by : (k : Class) → g k ≡ true
-    by (BuiltinWord x) = pass_at (λ y. g (BuiltinWord y)) builtins (tag_of builtin_type x) x (and_first _ (passes_all (λ y. g (GatherWord y)) gatherings && (passes_all (λ y. g (Operator y)) operators && passes_all (λ y. g (UpdateMark y)) operators)) carried) (builtin_at x)
-    by (GatherWord x) = pass_at (λ y. g (GatherWord y)) gatherings (tag_of gathering_type x) x (and_first _ (passes_all (λ y. g (Operator y)) operators && passes_all (λ y. g (UpdateMark y)) operators) behind_builtins) (gathering_at x)
-    by (Operator x) = pass_at (λ y. g (Operator y)) operators (tag_of operator_type x) x (and_first _ (passes_all (λ y. g (UpdateMark y)) operators) behind_gatherings) (operator_at x)
-    by (UpdateMark x) = pass_at (λ y. g (UpdateMark y)) operators (tag_of operator_type x) x (and_second (passes_all (λ y. g (Operator y)) operators) _ behind_gatherings) (operator_at x)
+    by (BuiltinWord x) = each_value builtins tt (λ y. g (BuiltinWord y)) (and_first (builtins_pass g) _ behind_classes) x
+    by (GatherWord x) = each_value gatherings tt (λ y. g (GatherWord y)) (and_first (gatherings_pass g) _ behind_builtins) x
+    by (Operator x) = each_value operators tt (λ y. g (Operator y)) (and_first (operators_pass g) _ behind_gatherings) x
+    by (UpdateMark x) = each_value operators tt (λ y. g (UpdateMark y)) (and_second (operators_pass g) _ behind_gatherings) x
     by BeginWord = single (class_number BeginWord) BeginWord refl
     by k = single (class_number k) k refl
 
@@ -142,45 +157,31 @@ never3 p q r hp hq hr c = (never1 p hp c, never1 q hq c, never1 r hr c)
 
 -- ---- which classes are equal
 
-value_at : {A : Type 0} → List A → ℕ → (A → Class) → Class
-value_at [] n f = Foreign
-value_at (x ∷ xs) zero f = f x
-value_at (x ∷ xs) (suc n) f = value_at xs n f
+or_foreign : Option Class → Class
+or_foreign (Some c) = c
+or_foreign None = Foreign
+
+made_at : (N : Record) → Bare N.parts → (N.D → Class) → ℕ → Class
+made_at N bare f n = or_foreign (option_map (λ c. f (N.make c)) (choice_at N.parts bare n))
+
+made_number : (N : Record) (bare : Bare N.parts) (f : N.D → Class) (x : N.D) → made_at N bare f (tag (rowss N.parts) (intoss N.parts (N.as_values x))) ≡ f x
+unfolding made_at or_foreign
+made_number N bare f x = ap (λ o. or_foreign (option_map (λ c. f (N.make c)) o)) (choice_number N.parts bare (N.as_values x)) ∙ ap f (N.eta x)
 
 class_at : ℕ → ℕ → Class
 class_at n carried =
-    if nat_lt n 45 then value_at classes n (λ c. c) else
-    if nat_eq n 45 then value_at builtins carried BuiltinWord else
-    if nat_eq n 46 then value_at gatherings carried GatherWord else
-    if nat_eq n 47 then value_at operators carried Operator else
-    value_at operators carried UpdateMark
-
-builtin_number : (x : Builtin) → value_at builtins (tag_of builtin_type x) BuiltinWord ≡ BuiltinWord x
-unfolding value_at
-builtin_number Pid = refl
-builtin_number _ = refl
-
-gathering_number : (x : Gathering) → value_at gatherings (tag_of gathering_type x) GatherWord ≡ GatherWord x
-unfolding value_at
-gathering_number Sum = refl
-gathering_number _ = refl
-
-operator_number : (x : BinOp) → value_at operators (tag_of operator_type x) Operator ≡ Operator x
-unfolding value_at
-operator_number ops.Add = refl
-operator_number _ = refl
-
-update_number : (x : BinOp) → value_at operators (tag_of operator_type x) UpdateMark ≡ UpdateMark x
-unfolding value_at
-update_number ops.Add = refl
-update_number _ = refl
+    if nat_lt n 45 then or_foreign (at classes n) else
+    if nat_eq n 45 then made_at builtins tt BuiltinWord carried else
+    if nat_eq n 46 then made_at gatherings tt GatherWord carried else
+    if nat_eq n 47 then made_at operators tt Operator carried else
+    made_at operators tt UpdateMark carried
 
 at_number : (c : Class) → class_at (class_number c) (carried_number c) ≡ c
-unfolding class_at value_at
-at_number (BuiltinWord x) = builtin_number x
-at_number (GatherWord x) = gathering_number x
-at_number (Operator x) = operator_number x
-at_number (UpdateMark x) = update_number x
+unfolding class_at or_foreign
+at_number (BuiltinWord x) = made_number builtins tt BuiltinWord x
+at_number (GatherWord x) = made_number gatherings tt GatherWord x
+at_number (Operator x) = made_number operators tt Operator x
+at_number (UpdateMark x) = made_number operators tt UpdateMark x
 at_number BeginWord = refl
 at_number _ = refl
 

@@ -2,6 +2,7 @@
 use Rattle.std.proofs.Common.{◌≡◌, ℕ, ℤ, zero, suc, Bool, true, false, List, [], ◌∷◌, ◌++◌, Option, Some, None, map, refl, ap, sym, ◌∙◌, append_assoc}
 use Rattle.std.specs.Prelude.{option_map, is_some, pos}
 use Rattle.std.proofs.lemmas.List.{append-nil, map-append}
+use Rattle.bt_core.specs.declared.operator.BinOp.TheVariants.{Sub, Div}
 use Rattle.bt_core.specs.declared.place.Place.{Place}
 use Rattle.bt_ast.specs.declared.expr.Builtin.{Builtin}
 use Rattle.bt_ast.specs.declared.expr.Expr.{Expr}
@@ -19,7 +20,7 @@ use Rattle.bt_ast.specs.declared.probe.Probe.{Probe}
 use Rattle.bt_grammar.specs.declared.class.Gathering.{Gathering}
 use Rattle.bt_grammar.specs.declared.class.Gathering.TheVariants.{Sum}
 use Rattle.bt_grammar.specs.declared.class.Class.{Class}
-use Rattle.bt_grammar.specs.declared.class.Class.TheVariants.{IfWord, ElseWord, WhileWord, UnrollWord, CountWord, LhistWord, PrintfWord, PrintWord, ClearWord, ZeroWord, DeleteWord, ExitWord, BreakWord, ContinueWord, ReturnWord, ArgsWord, VarName, NumberLiteral, OpenBrace, CloseBrace, OpenParen, CloseParen, OpenBracket, CloseBracket, Comma, Semicolon, Assign, Question, Colon, Increment, AndAnd, OrOr, GatherWord, Operator}
+use Rattle.bt_grammar.specs.declared.class.Class.TheVariants.{IfWord, ElseWord, WhileWord, UnrollWord, CountWord, LhistWord, PrintfWord, PrintWord, ClearWord, ZeroWord, DeleteWord, ExitWord, BreakWord, ContinueWord, ReturnWord, ArgsWord, VarName, NumberLiteral, OpenBrace, CloseBrace, OpenParen, CloseParen, OpenBracket, CloseBracket, Comma, Semicolon, Assign, Question, Colon, Increment, AndAnd, GatherWord, Operator}
 use Rattle.bt_grammar.specs.declared.class.Tier.{Tier}
 use Rattle.bt_grammar.specs.declared.class.Tier.TheVariants.{Products, Sums, Shifts, Orders, Equalities, BitAnds, BitXors, BitOrs, AndThens, OrElses}
 use Rattle.bt_grammar.specs.Classes.{is, is_word, is_builtin, is_prefix, is_update, is_step, is_dot, is_point, gathers, builtin_of, prefix_of, update_of, tier_of, of_tier, joins}

@@ -3,6 +3,8 @@ use Rattle.std.proofs.Common.{◌≡◌, ℕ, ℤ, Bool, true, false, List, [], 
 use Rattle.std.specs.Prelude.{codes, map}
 use Rattle.std.proofs.lemmas.List.{append-nil}
 use Rattle.std.proofs.lemmas.Bool.{false≢true}
+use Rattle.bt_core.specs.declared.operator.BinOp.{BinOp}
+use Rattle.bt_core.specs.declared.operator.BinOp.TheVariants as ops
 use Rattle.bt_core.specs.declared.place.Place.{Place}
 use Rattle.bt_ast.specs.declared.expr.Expr.{Expr}
 use Rattle.bt_ast.specs.declared.expr.MapRef.{MapRef, roll-MapRef}
@@ -20,12 +22,12 @@ use Rattle.ast_text.specs.Stmts.{call_text, simple, agg_text, optional_text, kin
 use Rattle.bt_grammar.specs.declared.class.Gathering.{Gathering}
 use Rattle.bt_grammar.specs.declared.class.Gathering.TheVariants.{Sum}
 use Rattle.bt_grammar.specs.declared.class.Class.{Class}
-use Rattle.bt_grammar.specs.declared.class.Class.TheVariants.{CountWord, LhistWord, PrintfWord, PrintWord, ClearWord, ZeroWord, DeleteWord, ExitWord, BreakWord, ContinueWord, ReturnWord, MapName, VarName, TextLiteral, Increment, OpenParen, CloseParen, OpenBracket, CloseBracket, Comma, Assign, GatherWord, Operator, UpdateMark}
+use Rattle.bt_grammar.specs.declared.class.Class.TheVariants.{CountWord, LhistWord, PrintfWord, PrintWord, ClearWord, ZeroWord, DeleteWord, ExitWord, BreakWord, ContinueWord, ReturnWord, MapName, VarName, TextLiteral, Increment, OpenParen, CloseParen, OpenBracket, CloseBracket, Comma, Assign, GatherWord, UpdateMark}
 use Rattle.bt_grammar.specs.Classes.{is, is_update, update_of, is_step, gathers}
 use Rattle.bt_grammar.specs.Form.{Item, Part, Expression, Values, Keyed, Assignable, Int, Aggregation, Update, AfterMap, AfterVar, Printf, Print, Delete, CallOrJump, Simple, Call, Rel}
 use Rattle.bt_grammar.specs.Words.{word_of, mark_of}
 use Rattle.bt_grammar.specs.Tokens.{origin}
-use Rattle.bt_grammar.specs.Trees.{bytes_at, kind_bytes, snoc, place_of_map, var_ref, map_ref, step_before, step_after, stmt, gathering, count_call, gather_call, lhist_call, update_target, place_of_target, step_target, gather_map, set_map, on_map, set_var, on_var, map_stmt, var_stmt, step_stmt, printf_kind, print_kind, top_and_div, clear_kind, zero_kind, delete_all, delete_keyed, delete_key, on_item, exit_stmt, break_stmt, continue_stmt, return_stmt}
+use Rattle.bt_grammar.specs.Trees.{bytes_at, kind_bytes, snoc, place_of_map, var_ref, map_ref, step_before, step_after, stmt, gathered, gathering, count_call, gather_call, lhist_call, update_target, place_of_target, step_target, gather_map, set_map, on_map, set_var, on_var, map_stmt, var_stmt, step_stmt, printf_kind, print_kind, top_and_div, clear_kind, zero_kind, delete_all, delete_keyed, delete_key, on_item, exit_stmt, break_stmt, continue_stmt, return_stmt}
 use Rattle.bt_grammar.specs.Rules.{rule, empty_parens}
 use Rattle.bt_read_back.specs.Bare.{bare_expr, bare_target, bare_map, bare_agg, bare_statement, bare_stmt}
 use Rattle.bt_grammar.proofs.AllClasses.{implies1}
