@@ -33,11 +33,11 @@ is_attach _ = false
 
 found_passes : (P : Class → Bool) (rows : List (List ℕ × Class)) (text : List ℕ) (other : Class) → passes_all (λ (row : List ℕ × Class). P row.1) rows ≡ true → P other ≡ true → P (class_in rows text other) ≡ true
 found_passes P [] text other h k = k
-found_passes P (row ∷ rows) text other h k = by (bytes_eq row.0 text)
+found_passes P (row ∷ rows) text other h k = by (bytes_eq row.0 text) (found_passes P rows text other (and_second (P row.1) (passes_all (λ (row : List ℕ × Class). P row.1) rows) h) k)
   where
-    by : (b : Bool) → P (cond b row.1 (class_in rows text other)) ≡ true
-    by true = and_first (P row.1) (passes_all (λ (row : List ℕ × Class). P row.1) rows) h
-    by false = found_passes P rows text other (and_second (P row.1) (passes_all (λ (row : List ℕ × Class). P row.1) rows) h) k
+    by : (b : Bool) → P (class_in rows text other) ≡ true → P (cond b row.1 (class_in rows text other)) ≡ true
+    by true rest = and_first (P row.1) (passes_all (λ (row : List ℕ × Class). P row.1) rows) h
+    by false rest = rest
 
 pub word_is_word : (w : List ℕ) → is_word (word_class w) ≡ true
 unfolding word_class

@@ -119,7 +119,6 @@ pub fn mark_class(mark: &[u8]) -> Class
 }
 
 /// The text of a class in some rows, or nothing where none of them has it.
-#[tactic(auto, using(crate::proofs::SameClass::equals_is))]
 fn text_in<'a>(rows: &[(&'a [u8], Class)], class: Class) -> &'a [u8]
     ensures { result.now ≡ text_in (map (λ row. (row.0.now, row.1)) rows.now) class }
 {

@@ -61,11 +61,11 @@ every_word (b ∷ bs) h = (and_first (is_word_byte b) (list_all is_word_byte bs)
 
 contained : (xs : List (List ℕ)) (mark : List ℕ) → has xs mark ≡ true → Contains xs mark
 contained [] mark h = absurd (false≢true h)
-contained (x ∷ xs) mark h = by (bytes_eq x mark) refl
+contained (x ∷ xs) mark h = by (bytes_eq x mark) refl (contained xs mark)
   where
-    by : (b : Bool) → bytes_eq x mark ≡ b → Contains (x ∷ xs) mark
-    by true e = (0, omega arith, (bytes_eq-Decides x mark).0 e)
-    by false e = let k = contained xs mark (sym (ap (λ b. b || has xs mark) e) ∙ h) in (suc k.0, omega (arith, k.1), k.2)
+    by : (b : Bool) → bytes_eq x mark ≡ b → (has xs mark ≡ true → Contains xs mark) → Contains (x ∷ xs) mark
+    by true e rest = (0, omega arith, (bytes_eq-Decides x mark).0 e)
+    by false e rest = let k = rest (sym (ap (λ b. b || has xs mark) e) ∙ h) in (suc k.0, omega (arith, k.1), k.2)
 
 spelled_valid : (k : TokenKind) → spelled k ≡ true → Valid k
 spelled_valid (kinds.Word []) h = absurd (false≢true h)
