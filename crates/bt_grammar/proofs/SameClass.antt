@@ -48,9 +48,13 @@ behind_four _ = []
 
 pub class_same : (a b : Class) → ghosts.eq a b ≡ true → a ≡ b
 class_same a b h = the_type.to_one a b (ap (intoss the_type.parts) (by_same the_type.parts
-    ((λ x y. builtins.ghosts.eq x.0 y.0), ((λ x y. gatherings.ghosts.eq x.0 y.0), ((λ x y. operators.ghosts.eq x.0 y.0), ((λ x y. operators.ghosts.eq x.0 y.0), bare_each (behind_four the_type.parts) tt))))
-    ((λ x y e. ap (λ v. (v, tt)) (same_true builtin_type tt x.0 y.0 e)), ((λ x y e. ap (λ v. (v, tt)) (same_true gathering_type tt x.0 y.0 e)),
-    ((λ x y e. ap (λ v. (v, tt)) (same_true operator_type tt x.0 y.0 e)), ((λ x y e. ap (λ v. (v, tt)) (same_true operator_type tt x.0 y.0 e)), bare_sound (behind_four the_type.parts) tt))))
+    ((λ x y. builtins.ghosts.eq x.0 y.0), ((λ x y. gatherings.ghosts.eq x.0 y.0), ((λ x y. operators.ghosts.eq x.0 y.0), ((λ x y. operators.ghosts.eq x.0 y.0), bare_each (behind_four the_type.parts) tt)))) (
+      (λ x y e. ap (λ v. (v, tt)) (same_true builtin_type tt x.0 y.0 e)),
+      (
+        (λ x y e. ap (λ v. (v, tt)) (same_true gathering_type tt x.0 y.0 e)),
+        ((λ x y e. ap (λ v. (v, tt)) (same_true operator_type tt x.0 y.0 e)), ((λ x y e. ap (λ v. (v, tt)) (same_true operator_type tt x.0 y.0 e)), bare_sound (behind_four the_type.parts) tt)),
+      ),
+    )
     (as_values a) (as_values b) h))
 
 pub class_own : (a : Class) → ghosts.eq a a ≡ true
