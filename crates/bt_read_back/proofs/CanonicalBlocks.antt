@@ -13,6 +13,7 @@ use Rattle.bt_grammar.specs.declared.class.Class.{Class}
 use Rattle.bt_grammar.specs.declared.class.Class.TheVariants.{IfWord, ElseWord, WhileWord, UnrollWord, OpenBrace, CloseBrace, Semicolon}
 use Rattle.bt_grammar.specs.Form.{Item, Part, Expression, Simple, Arm, Tail, Control, Body, Braced, Form, Call, Map, Then, Or, Rel, whole}
 use Rattle.bt_grammar.specs.Tokens.{origin}
+use Rattle.bt_grammar.specs.Words.{word_class, mark_class}
 use Rattle.bt_grammar.specs.Trees.{second, cons, nothing, more_arms, last_block, if_stmt, while_stmt, unroll_stmt, block_of}
 use Rattle.bt_grammar.specs.Rules.{rule, mark}
 use Rattle.bt_read_back.specs.Bare.{bare_arm, bare_block}
@@ -128,6 +129,7 @@ module _ (R : Rel) (calls : (n : Part) → Lift R (Call n) (Value n)) where
       semicolon = lift_second R Semicolon refl (calls Body)
 
       go : (ts : List Item) (a : List Stmt) → Honest ts → whole R Rest ts a → Again R Rest (Behind (ending (codes ";")) IsBody) ts a
+      unfolding word_class mark_class
       go ts a h (inl w) = let (ks, v, s, again) = semicolon.lift ts a h w in (ks, v, s, λ us are. let (b, w', r) = again us are in (b, inl w', r))
       go ts a h (inr (p, e, (t, ep, (et, q)))) = (
         kind_of Semicolon ∷ (kind_of CloseBrace ∷ []),
