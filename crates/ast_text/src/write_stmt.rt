@@ -2,7 +2,7 @@
 ghost use Rattle.std.specs.Prelude.{◌≡◌, ◌++◌, [], OnOk, map, option_map, codes};
 ghost use Rattle.ast_text.specs.Words.{token, assign_mark, number_text, quoted_text};
 ghost use Rattle.ast_text.specs.Exprs.{expr_text, map_text, target_text, step_text, marked};
-ghost use Rattle.ast_text.specs.Stmts.{arm_of, arms_text, optional_text, simple, call_text, agg_text, otherwise_text, kind_text, block_text};
+ghost use Rattle.ast_text.specs.Stmts.{optional_text, simple, call_text, agg_text, otherwise_text, kind_text, block_text};
 
 use crate::words::{write_assign, write_ending, write_number, write_quoted, write_token};
 use crate::write_agg::{open_call, write_agg, write_call};
@@ -152,7 +152,13 @@ fn write_kind(out: &mut Vec<u8>, kind: &StmtKind) -> Result<(), Memory>
         StmtKind::Continue => write_word(out, b"continue"),
         StmtKind::Return => write_word(out, b"return"),
         StmtKind::If { arms, otherwise } => {
-            write_arms(out, arms.as_slice())?;
+            let mut word: &[u8] = b"";
+            for arm in arms.as_slice() {
+                out.extend_from_slice(word)?;
+                write_call(out, b"if", &arm.0)?;
+                write_block(out, &arm.1)?;
+                word = b"else ";
+            }
             write_otherwise(out, otherwise)
         }
         StmtKind::While { condition, block } => {
@@ -164,21 +170,6 @@ fn write_kind(out: &mut Vec<u8>, kind: &StmtKind) -> Result<(), Memory>
             write_block(out, block)
         }
     }
-}
-
-/// Writes the arms of a choice, with `else` between them.
-#[cycle(stmt)]
-fn write_arms(out: &mut Vec<u8>, arms: &[(Expr, Block)]) -> Result<(), Memory>
-    ensures { OnOk result (out.new.items ≡ out.old.items ++ arms_text (map arm_of arms.now)) }
-{
-    let mut word: &[u8] = b"";
-    for arm in arms {
-        out.extend_from_slice(word)?;
-        write_call(out, b"if", &arm.0)?;
-        write_block(out, &arm.1)?;
-        word = b"else ";
-    }
-    Ok(())
 }
 
 /// Writes the block of `else`, where there is one.
