@@ -7,7 +7,6 @@ use Rattle.bt_ast.specs.declared.expr.Target.{Target}
 use Rattle.bt_ast.specs.declared.expr.VarRef.{VarRef}
 use Rattle.bt_core.specs.declared.operator.BinOp.{BinOp}
 use Rattle.bt_core.specs.declared.operator.BinOp.TheVariants.{Add, Sub, Mul, Div, Mod, Shl, Shr, BitAnd, BitOr, BitXor}
-use Rattle.bt_grammar.specs.declared.class.Gathering.{Gathering}
 use Rattle.bt_grammar.specs.declared.class.Class.{Class}
 use Rattle.bt_grammar.specs.declared.class.Class.TheVariants.{CountWord, LhistWord, PrintfWord, PrintWord, ClearWord, ZeroWord, DeleteWord, ExitWord, BreakWord, ContinueWord, ReturnWord, MapName, VarName, OpenParen, CloseParen, OpenBracket, CloseBracket, Comma, Assign, Increment, Decrement, GatherWord, Operator, UpdateMark}
 use Rattle.bt_grammar.specs.Classes.{is, gathering_of}
@@ -15,7 +14,7 @@ use Rattle.bt_grammar.specs.Form.{Item, Values, Int, Aggregation, Update, AfterM
 use Rattle.bt_grammar.specs.Reading.{Out, Done, Refused, Unfinished, and_then, read, reads, starts, goes_on}
 use Rattle.bt_grammar.specs.Rules.{rule, mark, ends, in_parens, value}
 use Rattle.bt_grammar.specs.Trees.{gather_map, set_map, on_item, delete_all, delete_keyed, delete_key}
-use Rattle.bt_parser.specs.Mirror.{class_at, when, named, named_form, step_at}
+use Rattle.bt_parser.specs.Mirror.{class_at, named, named_form, step_at}
 use Rattle.bt_parser.specs.Statements.{given, int_by, parens_by, count_form, count_by, gather_form, gathering_at, gather_by, lhist_form, lhist_by, aggregation_by, begins_aggregation, update_at, update_by, set_map_by, after_map_by, after_var_by, map_form, whole_map_by, in_parens_map, map_in_parens_by, printf_by, limit_form, limit_by, limits_form, limits_by, print_by, delete_on, delete_by, call_at, call_by, simple_by}
 use Rattle.bt_grammar.proofs.Enough.{reads_is}
 use Rattle.bt_parser.proofs.Mirrored.{and_then_assoc, and_then_same, choice, choice_then, values_start, it}

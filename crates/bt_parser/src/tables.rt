@@ -45,13 +45,7 @@ pub fn update_of(class: Class) -> Option<BinOp>
     ensures { result ≡ update_of class }
 {
     match class {
-        Class::UpdateMark(op) => {
-            if compares(op) {
-                None
-            } else {
-                Some(op)
-            }
-        }
+        Class::UpdateMark(op) => { if compares(op) { None } else { Some(op) } }
         _ => None,
     }
 }
