@@ -123,13 +123,13 @@ module _ (R : Rel) (calls : (n : Part) → Lift R (Call n) (Value n)) where
 
   -- a semicolon is always written
   lift_rest : ((u : Item) → u.class ≡ CloseBrace → R Body (u ∷ []) []) → Lift R Rest (Behind (ending (codes ";")) IsBody)
+  unfolding word_class mark_class
   lift_rest closes = record { lift = go }
     where
       semicolon : Lift R (Then second (mark Semicolon) (Call Body)) (Behind (ending (codes ";")) IsBody)
       semicolon = lift_second R Semicolon refl (calls Body)
 
       go : (ts : List Item) (a : List Stmt) → Honest ts → whole R Rest ts a → Again R Rest (Behind (ending (codes ";")) IsBody) ts a
-      unfolding word_class mark_class
       go ts a h (inl w) = let (ks, v, s, again) = semicolon.lift ts a h w in (ks, v, s, λ us are. let (b, w', r) = again us are in (b, inl w', r))
       go ts a h (inr (p, e, (t, ep, (et, q)))) = (
         kind_of Semicolon ∷ (kind_of CloseBrace ∷ []),

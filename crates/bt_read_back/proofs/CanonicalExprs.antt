@@ -65,10 +65,10 @@ same_var t u e = ap (λ (k : TokenKind). record { name = kind_bytes k; place = o
 -- ---- operators by their classes
 
 builtin_lexeme : (c : Class) → is_builtin c ≡ true → (p : Place) → lexeme (kind_of c) ≡ expr_text (expr (builtin_kind (builtin_of c)) p)
+unfolding word_of mark_of
 builtin_lexeme (BuiltinWord b) h p = by b ∙ sym (Builtin_text b p)
   where
     by : (x : Builtin) → lexeme (kind_of (BuiltinWord x)) ≡ token (builtin_word x)
-    unfolding word_of mark_of
     by builtins.Pid = refl
     by _ = refl
 builtin_lexeme _ h p = absurd (false≢true h)

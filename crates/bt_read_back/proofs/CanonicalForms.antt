@@ -277,10 +277,10 @@ module _ (R : Rel) where
 
   -- `.` or `->`, which is written as `.`
   pub lift_dot : Lift R (Tok is_dot) (λ t x u. x ≡ token (codes "."))
+  unfolding word_class mark_class
   lift_dot = record { lift = go }
     where
       go : (ts : List Item) (a : Item) → Honest ts → whole R (Tok is_dot) ts a → Again R (Tok is_dot) (λ t x u. x ≡ token (codes ".")) ts a
-      unfolding word_class mark_class
       go ts a h w = (
         kind_of Dot ∷ [],
         (fixed_valid Dot refl, tt),

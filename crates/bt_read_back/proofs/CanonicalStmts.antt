@@ -87,10 +87,10 @@ lhist_case p q a b x y ex (z, ey, (x1, y1, e1, (w1, f1, (g1, h1)), (x2, y2, e2, 
 -- ---- assignments
 
 update_lexeme : (c : Class) → is_update c ≡ true → lexeme (kind_of c) ≡ token (assign_mark (update_of c))
+unfolding word_of mark_of
 update_lexeme (UpdateMark op) h = by op h
   where
     by : (o : BinOp) → is_update (UpdateMark o) ≡ true → lexeme (kind_of (UpdateMark o)) ≡ token (assign_mark (update_of (UpdateMark o)))
-    unfolding word_of mark_of
     by ops.Eq h = absurd (false≢true h)
     by ops.Ne h = absurd (false≢true h)
     by ops.Lt h = absurd (false≢true h)
