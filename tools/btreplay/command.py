@@ -1,11 +1,13 @@
 """The words of the command `btreplay`, and what it does beside running the program."""
 import contextlib
 import os
+import signal
 import subprocess
 import sys
 from dataclasses import dataclass
 
 from btreplay import proved, unproved
+from btreplay.compiled import NotBuilt
 from btreplay.places import is_checkout
 from btreplay.running import Ended, end_as, end_in_order, hold_streams, is_read_no_more, pass_on, run_program, tell
 
@@ -20,7 +22,7 @@ HELP = """usage: btreplay run [--serial] [--stats] SCRIPT RECORDING    runs the 
 SCRIPT may be - for standard input, or -e 'PROGRAM' for a script as it stands.
 --serial takes the events of all CPUs in one order, by their times; --stats tells how many instructions were run.
 """
-UNPROVED_HELP = """btreplay --unproved and the words of a command do it by a build that is not proved, which is there within a minute or two.
+UNPROVED_HELP = """btreplay --unproved and the words of a command do it by a build that is not proved, which is there within some two minutes.
 """
 TAKES_SCRIPT = ("run", "check", "code", "explain")
 FAILED = 1
@@ -33,7 +35,8 @@ class BadWords(Exception):
 
 @dataclass
 class Asked:
-    """A call of the program: its words, the two operands where there are two, the handles that it takes, and how a script is called."""
+    """A call of the program: its words, the two operands where there are two, the handles that it takes, how a script is called, and whether the
+    program is the one that is not proved."""
 
     words: list
     script: str = None
@@ -41,6 +44,7 @@ class Asked:
     shown: str = None
     text: bytes = None
     handles: tuple = ()
+    is_unproved: bool = False
 
     @property
     def command(self):
@@ -135,6 +139,8 @@ def run_asked(program, asked):
 
 def after_refusal(ended, asked):
     """What is told behind a refusal; where standard error is a terminal, the script's line with a caret first."""
+    if asked.is_unproved and ended.status == -signal.SIGILL:
+        return ["a check of this build failed as it ran"]
     if asked.script is None or ended.status <= 0:
         return []
     from btreplay.refusal import about_files, pointed, refusal_in
@@ -180,6 +186,7 @@ def answer(words):
         print(proved.version())
         return 0
     asked = asked_of(words)
+    asked.is_unproved = is_unproved
     does = explain if asked.command == "explain" else run_asked
     if not is_unproved:
         return does(proved.program(), asked)
@@ -196,7 +203,7 @@ def main(words):
     end_in_order()
     try:
         return answer(words)
-    except unproved.NotBuilt as fault:
+    except NotBuilt as fault:
         pass_on(str(fault).encode(errors="replace"))
         tell(["the program could not be built"])
     except BadWords as fault:

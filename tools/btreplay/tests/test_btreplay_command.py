@@ -207,6 +207,24 @@ class Builds(unittest.TestCase):
         self.unproved("gen", "1", "2")
         self.assertEqual(self.builds(), 2)
 
+    def test_the_build_is_optimised_and_linked_as_a_proved_program_is(self):
+        self.assertEqual(self.unproved("gen", "1", "2", out="x")[:2], (0, "x"))
+        kit, links = self.at.folder / "a kit", (self.at.folder / "builds").read_text().strip()
+        self.assertNotEqual(links, str(kit))
+        work = os.path.dirname(links)
+        self.assertEqual((self.at.folder / "tools").read_text().splitlines(), [
+            f"clang --sysroot={links}/toolchain -c -x ir /dev/null -o probe.o -O0",
+            f"clang --sysroot={links}/toolchain -c -x ir {work}/code.bc -o {work}/program.o -O1",
+            f"rattle-link --target x86_64-unknown-linux-gnu --toolchain {kit}/toolchain -o {work}/program {work}/program.o {kit}/c/libos_c.a {kit}/c/liblibc_c.a"])
+        self.assertFalse(os.path.exists(work))
+        self.assertEqual(sorted(str(path.relative_to(kit)) for path in kit.rglob("*") if path.is_file()),
+                         ["START-HERE.md", "bin/rattle-link", "bin/rt", "toolchain/bin/clang"])
+
+    def test_a_check_that_fails_as_it_runs_is_told(self):
+        told = "btreplay: this build is not proved\nbtreplay: a check of this build failed as it ran\n"
+        self.assertEqual(self.unproved("gen", "1", "2", does="kill -ILL $$"), (-signal.SIGILL, "", told))
+        self.assertEqual(self.unproved("gen", "1", "2", does="kill -TERM $$"), (-signal.SIGTERM, "", told.splitlines(True)[0]))
+
     def test_builds_are_bounded_and_nothing_else_is_left(self):
         for number in range(5):
             self.source.write_text(f"// {number}\n")
@@ -222,6 +240,9 @@ class Builds(unittest.TestCase):
         self.assertEqual((status, out), (1, ""))
         self.assertEqual(err, "btreplay: this build is not proved\nerror: no such type\nbtreplay: the program could not be built\n")
         self.assertEqual([path.name for path in (self.at.folder / "cache" / "btreplay").iterdir()], ["lock"])
+        for tool in ("clang", "rattle-link"):
+            err = self.unproved("gen", "1", "2", more={"STAND_IN_BROKEN": tool})[2]
+            self.assertRegex(err, f"(?s)error: .*/{tool} is broken\n.*btreplay: the program could not be built\n$")
         self.assertEqual(self.unproved("gen", "1", "2", out="x")[:2], (0, "x"))
 
     def test_two_at_once_build_once(self):
