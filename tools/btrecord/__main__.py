@@ -15,6 +15,9 @@ import os
 import signal
 import sys
 
+if sys.version_info < (3, 8):
+    sys.exit("btrecord: Python %s is too old for this command, which needs 3.8" % sys.version.split()[0])
+
 # Who records as root, in a folder of somebody else, leaves nothing there. What Python kept of this file it kept before it read this.
 if not sys.dont_write_bytecode:
     sys.dont_write_bytecode = True

@@ -126,7 +126,7 @@ class Timeline:
             found, begin, name, system, first = stack.pop()
             if found == key:
                 last = {field if field not in first else f"end {field}": value for field, value in fields.items() if field not in KEYS}
-                yield self.span(track, begin, event.time, name, system, first | last)
+                yield self.span(track, begin, event.time, name, system, {**first, **last})
                 return
             self.cut_short.add((track, found))
             yield self.span(track, begin, event.time, name, system, first)
@@ -147,7 +147,7 @@ class Timeline:
         self.switched.add(cpu)
         if begin is not None:
             ends = {key: fields[key] for key in ("prev_state", "prev_prio") if key in fields}
-            yield self.span((CPUS, 2 * cpu + 1), begin, time, name, "sched", {"tid": thread} | ends)
+            yield self.span((CPUS, 2 * cpu + 1), begin, time, name, "sched", {"tid": thread, **ends})
 
     def request(self, kind, event, fields):
         """A block request goes to its device, or comes back from it."""
@@ -170,7 +170,7 @@ class Timeline:
             yield from self.stop(cpu, self.end, {})
         for track, stack in self.open.items():
             for _, begin, name, system, fields in stack:
-                yield self.span(track, begin, self.end, name, system, fields | {"end": "not in the recording"})
+                yield self.span(track, begin, self.end, name, system, {**fields, "end": "not in the recording"})
         for process, name in [(CPUS, "CPUs"), (DEVICES, "block devices")]:
             yield named("process", process, 0, name)
         for (process, place), name in sorted(self.tracks.items()):

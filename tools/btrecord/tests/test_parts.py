@@ -287,7 +287,7 @@ class Chrome(Parts):
         device = 254 << 20 | 16
         found = self.events((1001, 7, 8, device, 64, text(b"WS", 4)), (1002, 0, 9, device, 65), (1003, 0, 9, device, 64), (1004, 0, 9, device, 64))
         fields = {"dev": device, "sector": 64}
-        self.assertEqual(found, [("b", "block device 254:16", 0.001, None, "WS", fields | {"rwbs": "WS"}), ("e", "block device 254:16", 0.003, None, "WS", fields)])
+        self.assertEqual(found, [("b", "block device 254:16", 0.001, None, "WS", {**fields, "rwbs": "WS"}), ("e", "block device 254:16", 0.003, None, "WS", fields)])
 
     def test_a_part_and_nothing(self):
         pathlib.Path(self.path).write_bytes(viewed([(1001, 7, 10, 1), (1003, 7, 10, 2)]))

@@ -135,7 +135,7 @@ class Files(unittest.TestCase):
         return told, events
 
     def test_both_versions(self):
-        for contents in (version_6(), version_7(), version_6(pages=PAGES | {3: []})):
+        for contents in (version_6(), version_7(), version_6(pages={**PAGES, 3: []})):
             told, events = self.events(contents)
             self.assertEqual(events, EVENTS)
             self.assertEqual((self.contents.start, self.contents.end, [format.name for format in self.contents.formats]), (100, 200, ["demo:tick", "demo:tock"]))
@@ -192,7 +192,7 @@ class Files(unittest.TestCase):
 
     def test_compressed(self):
         """By zlib, and by zstd where its program is there."""
-        pages = PAGES | {2: PAGES[2] + [ticks(160, payload(5)), ticks(170, payload(5))]}
+        pages = {**PAGES, 2: PAGES[2] + [ticks(160, payload(5)), ticks(170, payload(5))]}
         _, wanted = self.events(version_7(pages))
         self.assertEqual(len(wanted), len(EVENTS) + 2)
         for name, pack in ((b"zlib", zlib.compress), (b"zstd", zstd)):
