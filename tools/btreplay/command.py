@@ -141,6 +141,9 @@ def after_refusal(ended, asked):
     """What is told behind a refusal; where standard error is a terminal, the script's line with a caret first."""
     if asked.is_unproved and ended.status == -signal.SIGILL:
         return ["a check of this build failed as it ran"]
+    if ended.status == FAILED and ended.told.startswith(b"usage: "):
+        from btreplay.refusal import about_words
+        return about_words(asked.words)
     if asked.script is None or ended.status <= 0:
         return []
     from btreplay.refusal import about_files, pointed, refusal_in
@@ -179,7 +182,7 @@ def answer(words):
     """Does what words ask for, and gives the status."""
     is_unproved = words[:1] == ["--unproved"]
     words = words[is_unproved:]
-    if words[:1] in (["--help"], ["-h"]):
+    if words[:1] in (["--help"], ["-h"]) or words[:1] and words[1:2] == ["--help"]:
         print(HELP + (UNPROVED_HELP if is_checkout() else ""), end="")
         return 0
     if words[:1] in (["--version"], ["-V"]):

@@ -8,6 +8,9 @@ from btreplay.recorded import begins_a_recording
 from btreplay.tokens import offset_of
 
 SCRIPT, RECORDING, READ, WRITE = 2, 3, 4, 5
+# The commands, each with its options and what it takes.
+FILES, NUMBERS = "a script and a recording", "two numbers, as in 7 1000"
+COMMANDS = {"run": ("--serial --stats", FILES), "check": ("", FILES), "explain": ("", FILES), "code": ("", FILES), "gen": ("", NUMBERS), "big": ("", NUMBERS)}
 MOST_SCRIPT = 65_536
 WIDTH = 120
 
@@ -80,6 +83,22 @@ def about_files(status, told, script, recording):
     if status in (SCRIPT, RECORDING) and begins_a_recording(script) and not begins_a_recording(recording):
         return [f"{script} is a recording and {recording} is none: the script comes first, then the recording"]
     return []
+
+
+def about_words(words):
+    """Lines for words that are no command: a word that none has, an option that the command does not have, or more or fewer words than it takes."""
+    if not words:
+        return []
+    if words[0] not in COMMANDS:
+        return [f"there is no command {words[0]}; btreplay --help has all of them"]
+    options, takes = COMMANDS[words[0]]
+    other = [word for word in words[1:] if word.startswith("-") and word != "-" and word not in options.split()]
+    if other[:1] == ["-e"] and takes == FILES:
+        return ["a script stands behind -e, and a recording"]
+    if other:
+        return [f"{words[0]} has no option {other[0]}" + (f"; it has {options.replace(' ', ' and ')}" if options else "")]
+    count = sum(word == "-" or not word.startswith("-") for word in words[1:])
+    return [f"{words[0]} takes {takes}" + (f", and {count} {'word stands' if count == 1 else 'words stand'} there" if count != 2 else "")]
 
 
 def text_of_file(path):

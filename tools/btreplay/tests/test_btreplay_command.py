@@ -41,6 +41,23 @@ class Command(unittest.TestCase):
         self.assertEqual(self.at.run("run", "pair.bt", "r.btr", status=2, err="pair.bt:1:1: K1 frame too large"),
                          (2, "", "pair.bt:1:1: K1 frame too large\n"))
 
+    def test_words_that_are_no_command(self):
+        """The program says how it is used; the command adds which word is wrong."""
+        self.assertEqual(self.at.run(status=1, err="usage: btreplay run .."), (1, "", "usage: btreplay run ..\n"))
+        files = "takes a script and a recording, and"
+        for words, why in ((["rum", "s.bt", "r.btr"], "there is no command rum; btreplay --help has all of them"),
+                           (["run", "s.bt"], f"run {files} 1 word stands there"),
+                           (["check"], f"check {files} 0 words stand there"),
+                           (["gen", "1", "2", "3"], "gen takes two numbers, as in 7 1000, and 3 words stand there"),
+                           (["big", "1", "x"], "big takes two numbers, as in 7 1000"),
+                           (["run", "--seriall", "s.bt", "r.btr"], "run has no option --seriall; it has --serial and --stats"),
+                           (["check", "--serial", "s.bt", "r.btr"], "check has no option --serial"),
+                           (["run", "-e"], "a script stands behind -e, and a recording"),
+                           (["run", "-e", "BEGIN { }"], f"run {files} 1 word stands there"),
+                           (["run", "-"], f"run {files} 1 word stands there")):
+            with self.subTest(words):
+                self.assertEqual(self.at.run(*words, status=1, err="usage: btreplay run .."), (1, "", f"usage: btreplay run ..\nbtreplay: {why}\n"))
+
     def test_a_script_in_the_words(self):
         self.assertEqual(self.at.run("run", "-e", PAIR, "r.btr", out="text"), (0, "text", ORDER))
         for words in (["run", "--serial", "-e", "BEGIN { }", "r.btr"], ["run", "r.btr", "--serial", "-e", "BEGIN { }"],
@@ -155,6 +172,7 @@ class Command(unittest.TestCase):
     def test_help_and_version(self):
         status, out, err = self.at.run("--help")
         self.assertEqual((status, err), (0, ""))
+        self.assertEqual(self.at.run("run", "--help"), (0, out, ""))
         for word in ("run [--serial] [--stats] SCRIPT RECORDING", "explain", "-e 'PROGRAM'", "--version"):
             self.assertIn(word, out)
         self.assertNotIn("--unproved", out)
