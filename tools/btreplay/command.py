@@ -128,7 +128,7 @@ def run_asked(program, asked):
             if text is not None:
                 notes.extend(notes_of(text, probes_of(text), asked.recording, asked.shown, "--serial" in asked.words))
 
-    ended, _ = run_program(program, asked.words, asked.handles, meanwhile=look)
+    ended, _ = run_program(program, asked.words, meanwhile=look)
     ended = Ended(ended.status, named_as_asked(ended.told, asked))
     if ended.told == b"write fault\n" and is_read_no_more():
         return ended.status
@@ -146,12 +146,12 @@ def after_refusal(ended, asked):
         return about_words(asked.words)
     if asked.script is None or ended.status <= 0:
         return []
-    from btreplay.refusal import about_files, pointed, refusal_in
+    from btreplay.refusal import pointed, refusal_in
     refusal = refusal_in(ended.told, [asked.shown]) if sys.stderr.isatty() else None
     text = script_text(asked) if refusal and refusal.line else None
     if text is not None:
         pass_on("".join(f"{line}\n" for line in pointed(text, refusal.line, refusal.column)).encode())
-    return about_files(ended.status, ended.told, asked.script, asked.recording) if not asked.handles else []
+    return after_refusal_files(ended, asked)
 
 
 def explain(program, asked):
@@ -160,7 +160,7 @@ def explain(program, asked):
         raise BadWords("explain takes a script and a recording")
     from btreplay.explain import explanation
     asked.words[0] = "check"
-    ended, output = run_program(program, asked.words, asked.handles, output=subprocess.PIPE)
+    ended, output = run_program(program, asked.words, output=subprocess.PIPE)
     ended = Ended(ended.status, named_as_asked(ended.told, asked))
     sys.stdout.buffer.write(output)
     sys.stdout.flush()
@@ -173,9 +173,10 @@ def explain(program, asked):
 
 
 def after_refusal_files(ended, asked):
-    """What is told of files that were refused, where the script is one."""
-    from btreplay.refusal import about_files
-    return about_files(ended.status, ended.told, asked.script, asked.recording) if not asked.handles else []
+    """What is told of files that were refused, of the script where it is one."""
+    from btreplay.refusal import about_files, about_recording
+    lines = about_files(ended.status, ended.told, asked.script, asked.recording) if not asked.handles else []
+    return lines or about_recording(ended.status, asked.recording)
 
 
 def answer(words):

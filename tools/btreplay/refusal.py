@@ -12,6 +12,9 @@ SCRIPT, RECORDING, READ, WRITE = 2, 3, 4, 5
 FILES, NUMBERS = "a script and a recording", "two numbers, as in 7 1000"
 COMMANDS = {"run": ("--serial --stats", FILES), "check": ("", FILES), "explain": ("", FILES), "code": ("", FILES), "gen": ("", NUMBERS), "big": ("", NUMBERS)}
 MOST_SCRIPT = 65_536
+# How files of other programs begin.
+CONVERTED = {b"\x17\x08\x44tracing": "trace-cmd", b"PERFILE2": "perf"}
+PACKED = {b"\x1f\x8b": "gzip", b"\x28\xb5\x2f\xfd": "zstd", b"\xfd7zXZ\0": "xz"}
 WIDTH = 120
 
 
@@ -85,6 +88,15 @@ def about_files(status, told, script, recording):
     return []
 
 
+def about_recording(status, recording):
+    """A line for a file of another program in the place of a recording."""
+    begin = text_of_file(recording, 16) if status == RECORDING else None
+    if begin is None:
+        return []
+    lines = [f"{recording} is a file of {name}: btrecord convert {recording} -o my.btr makes a recording of it" for magic, name in CONVERTED.items() if begin.startswith(magic)]
+    return lines + [f"{recording} is compressed by {name}: unpack it first" for magic, name in PACKED.items() if begin.startswith(magic)]
+
+
 def about_words(words):
     """Lines for words that are no command: a word that none has, an option that the command does not have, or more or fewer words than it takes."""
     if not words:
@@ -101,12 +113,12 @@ def about_words(words):
     return [f"{words[0]} takes {takes}" + (f", and {count} {'word stands' if count == 1 else 'words stand'} there" if count != 2 else "")]
 
 
-def text_of_file(path):
-    """The bytes of a script, as far as a script may go; none where it is no regular file or cannot be read."""
+def text_of_file(path, most=MOST_SCRIPT):
+    """The bytes of a script, as far as a script may go, or so many of another file; none where it is no regular file or cannot be read."""
     try:
         if not stat.S_ISREG(os.stat(path).st_mode):
             return None
         with open(path, "rb") as file:
-            return file.read(MOST_SCRIPT)
+            return file.read(most)
     except (OSError, ValueError):
         return None

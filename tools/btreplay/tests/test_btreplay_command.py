@@ -2,6 +2,7 @@
 import os
 import pty
 import re
+import shutil
 import signal
 import subprocess
 import tempfile
@@ -97,6 +98,23 @@ class Command(unittest.TestCase):
         self.assertEqual(self.at.run("check", "r.btr", "s.bt", status=3, err="s.bt: C1 truncated at byte 25"), (3, "", "s.bt: C1 truncated at byte 25\n" + told))
         self.assertEqual(self.at.run("check", "r.btr", "s.bt", status=2, err="r.btr: script too long"), (2, "", "r.btr: script too long\n" + told))
         self.assertEqual(self.at.run("check", "r.btr", "r.btr", status=2, err="r.btr:1:1: P1 syntax"), (2, "", "r.btr:1:1: P1 syntax\n"))
+
+    def test_a_file_of_another_program(self):
+        for begin, told in ((b"\x17\x08\x44tracing6", "is a file of trace-cmd: btrecord convert o.dat -o my.btr makes a recording of it"),
+                            (b"PERFILE2", "is a file of perf: btrecord convert o.dat -o my.btr makes a recording of it"),
+                            (b"\x1f\x8b\x08", "is compressed by gzip: unpack it first"), (b"\x28\xb5\x2f\xfd", "is compressed by zstd: unpack it first")):
+            self.at.write("o.dat", begin + bytes(100))
+            for words in (["run", "s.bt", "o.dat"], ["check", "-e", "BEGIN { }", "o.dat"], ["explain", "s.bt", "o.dat"]):
+                self.assertEqual(self.at.run(*words, status=3, err="o.dat: C2 bad magic")[2], f"o.dat: C2 bad magic\nbtreplay: o.dat {told}\n")
+        self.assertEqual(self.at.run("run", "s.bt", "r.btr", status=3, err="r.btr: C1 truncated")[2], "r.btr: C1 truncated\n")
+
+    def test_files_that_a_shell_leaves_open(self):
+        """As `btreplay run <(..) <(..)`, where the names are those of pipes that the shell holds open."""
+        if not shutil.which("bash"):
+            self.skipTest("there is no bash")
+        done = subprocess.run(["bash", "-c", f'"{self.at.top}/btreplay" run <(echo one) <(echo two)'], stdout=subprocess.PIPE, stderr=subprocess.STDOUT,
+                              env=self.at.environment(does='cat "$recording"'))
+        self.assertEqual((done.returncode, done.stdout, (self.at.folder / "script").read_text()), (0, b"two\n", "one\n"))
 
     def test_a_reader_that_goes_away(self):
         """As `| head -1`: the program's own word for it, its end by the signal, and its status pass without a line."""
