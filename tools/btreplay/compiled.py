@@ -18,6 +18,7 @@ from btreplay.places import CRATE
 # A higher level takes minutes more to build, and saves little time of a run.
 LEVEL = "-O1"
 CHECKS_ACCESSES = "-fsanitize=address"
+EMPTY_ARCHIVE = b"!<arch>\n"
 COMPILER = """#!/bin/sh
 # The program is what is to be built with a check of each access. It is copied, with the words of its build, and not built here.
 PATH={path}
@@ -52,11 +53,14 @@ def linked_folder(source, target, apart=()):
 def toolchain_of_links(kit, folder):
     """Makes the folder that stands for the toolchain. It has copies of the scripts of `rt`, which look beside them for all else."""
     top = folder / "kit"
-    linked_folder(kit, top, ("bin", "toolchain"))
+    linked_folder(kit, top, ("bin", "c", "toolchain"))
     scripts = [path for path in (kit / "bin").iterdir() if path.name == "rt" or path.suffix == ".py"]
     linked_folder(kit / "bin", top / "bin", [path.name for path in scripts])
     for path in scripts:
         shutil.copy(path, top / "bin" / path.name)
+    # `rt try` first looks whether the library that checks each access starts, which it does not everywhere. It is not wanted here.
+    linked_folder(kit / "c", top / "c", ("asan.a",))
+    (top / "c" / "asan.a").write_bytes(EMPTY_ARCHIVE)
     linked_folder(kit / "toolchain", top / "toolchain", ("bin",))
     linked_folder(kit / "toolchain" / "bin", top / "toolchain" / "bin", ("clang",))
     compiler = top / "toolchain" / "bin" / "clang"

@@ -34,6 +34,7 @@ try)
     echo "$kit" >>"$STAND_IN/builds"
     [ -z "$STAND_IN_FAILS" ] || { echo "error: $STAND_IN_FAILS"; exit 2; }
     [ -z "$STAND_IN_SLOW" ] || exec sleep 60
+    [ "$(cat "$kit/c/asan.a")" = '!<arch>' ] && [ "$(cat "$kit/c/libos_c.a")" = "os" ] || exit 3
     mkdir "$TMPDIR/try" && cd "$TMPDIR/try" && cp "$STAND_IN/lib/bt_program" module.bc || exit 3
     "$kit/toolchain/bin/clang" --sysroot="$kit/toolchain" -c -x ir /dev/null -o probe.o -O0 && echo "the probe is built" || exit 3
     "$kit/toolchain/bin/clang" --sysroot="$kit/toolchain" -c -x ir module.bc -o module.o -O0 -fsanitize=address && exit 3
@@ -107,7 +108,8 @@ class Installed:
         (self.top / "crates.txt").write_text("# NAME: below\nbt_core: thiserror\nbt_program: bt_core\nother: bt_core\n")
         (self.top / "HANDLES").write_text("Handles allowed: none.\n")
         kit = self.folder / "a kit"
-        for name, text in (("bin/rt", RT), ("bin/rattle-link", COMPILER), ("toolchain/bin/clang", COMPILER), ("START-HERE.md", "Read.\n")):
+        for name, text in (("bin/rt", RT), ("bin/rattle-link", COMPILER), ("toolchain/bin/clang", COMPILER), ("START-HERE.md", "Read.\n"),
+                           ("c/asan.a", "asan"), ("c/libos_c.a", "os"), ("c/liblibc_c.a", "libc")):
             (kit / name).parent.mkdir(parents=True, exist_ok=True)
             (kit / name).write_text(text)
             (kit / name).chmod(0o755)

@@ -254,7 +254,8 @@ class Builds(unittest.TestCase):
             f"rattle-link --target x86_64-unknown-linux-gnu --toolchain {kit}/toolchain -o {work}/program {work}/program.o {kit}/c/libos_c.a {kit}/c/liblibc_c.a"])
         self.assertFalse(os.path.exists(work))
         self.assertEqual(sorted(str(path.relative_to(kit)) for path in kit.rglob("*") if path.is_file()),
-                         ["START-HERE.md", "bin/rattle-link", "bin/rt", "toolchain/bin/clang"])
+                         ["START-HERE.md", "bin/rattle-link", "bin/rt", "c/asan.a", "c/liblibc_c.a", "c/libos_c.a", "toolchain/bin/clang"])
+        self.assertEqual((kit / "c" / "asan.a").read_text(), "asan")
 
     def test_a_check_that_fails_as_it_runs_is_told(self):
         told = "btreplay: this build is not proved\nbtreplay: a check of this build failed as it ran\n"
