@@ -15,7 +15,7 @@ import subprocess
 
 from btreplay.places import CRATE
 
-# A higher level takes minutes more to build, and saves little time of a run.
+# With it a million events take a few seconds; a higher level takes longer to build.
 LEVEL = "-O1"
 CHECKS_ACCESSES = "-fsanitize=address"
 EMPTY_ARCHIVE = b"!<arch>\n"
