@@ -71,7 +71,8 @@ const LOOPS: &[u8] = b"BEGIN { $i = 0; while ($i < 3) { $i++; if ($i == 2) { con
 unroll (2) { if ($i == 3) { break; } @x = $i; } } }";
 
 /// Numbers that wait in a register, as a test's outcome, as a truth and as literals, one over another and at the ends of blocks.
-const WAITS: &[u8] = b"BEGIN { $a = 7; $b = -3; $c = $a * 2 - $b % 2; $d = !($a == 7) + ($b < 0) * 4; \
+const WAITS: &[u8] =
+    b"BEGIN { $a = 7; $b = -3; $c = $a * 2 - $b % 2; $d = !($a == 7) + ($b < 0) * 4; \
 @x[1, $a > 2, $b] = $c; $a += 5000000000; @y[$a++, --$b] = $d | ($c && $d) | (!$a || $b != 3); \
 printf(\"%d %d %d %d\\n\", 1, $a == 5, ~$b, 2 - $c); if ($a >> 1 >= 2) { @z = -5; } \
 @x[0, 2 > $b ? $a : 3, comm == \"p\"] = ($a << 1) / 3; }";

@@ -100,7 +100,11 @@ fn programs_of_worked_bodies_have_few_slots(rt: HostRuntime) -> Result<(), Fail>
     let alloc = rt.alloc();
     for (text, slots) in FEW {
         let program = program_of(alloc, text)??;
-        assert!(rt; program.bytes.len() <= 8 * slots, "{} bytes, {slots} slots", program.bytes.len());
+        assert!(rt;
+            program.bytes.len() <= 8 * slots,
+            "{} bytes, {slots} slots",
+            program.bytes.len()
+        );
     }
     Ok(())
 }
