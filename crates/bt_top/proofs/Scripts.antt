@@ -45,9 +45,10 @@ use Rattle.script_programs.specs.declared.error.SizeFault.{SizeFault}
 use Rattle.script_programs.specs.Programs.{KeepScript}
 use Rattle.script_programs.specs.Sizes.{first_size_fault}
 use Rattle.typed_tree.specs.declared.script.Typed.{Typed}
-use Rattle.bt_top.specs.declared.judge.ScriptJob.{ScriptJob}
-use Rattle.bt_top.specs.Doing.{HasPrograms, IsSizeAnswer}
-use Rattle.bt_top.specs.Serve.{IsTextRefusal, IsScriptRefusal, IsScriptJob}
+use Rattle.run_base.specs.declared.job.Job.{Job}
+use Rattle.bpf_codegen.specs.declared.generate.Program.{Program}
+use Rattle.bt_top.specs.Doing.{ArePrograms, IsSizeAnswer, IsTextRefusal, IsScriptRefusal}
+use Rattle.bt_top.specs.Jobs.{AsksFor}
 use Rattle.bt_top.specs.Sizes.{HasTypes, IsLarge, IsProbePlace, IsSized, TellsLarge, size_refusal, size_wrong}
 
 -- ---- the first fault of a script
@@ -314,9 +315,9 @@ module _ (text : List ℕ) (says : Recorded) (tree : Tree) (attached : Attached)
   types : HasTypes tree says attached typed
   types = record { attached_to = is; typed_of = of }
 
-  pub job_told : (answer : Result ScriptJob Refusal) → IfOk answer (HasPrograms attached typed) → IfOk answer (IsScriptJob text says)
-  job_told (Err refusal) made = tt
-  job_told (Ok job) made = record {
+  pub job_told : (programs : List Program) → ArePrograms typed programs
+      → AsksFor text (record { recording = says; attached = attached; typed = typed; programs = programs })
+  job_told programs made = record {
     tree = tree;
     script = record {
       has = has;
@@ -324,11 +325,10 @@ module _ (text : List ℕ) (says : Recorded) (tree : Tree) (attached : Attached)
       typed = no_fault;
       sized = record { attached = attached; typed = typed; types = types; fits = made.fits };
     };
-    attached = subst (λ (a : Attached). IsAttachedTo tree says.formats says.start says.end a) (sym made.attached_is) is;
-    typed = subst (λ (t : Typed). IsTypedScript tree says.formats job.attached.bodies t) (sym made.typed_is)
-        (subst (λ (a : Attached). IsTypedScript tree says.formats a.bodies typed) (sym made.attached_is) of);
-    fits = subst (λ (t : Typed). first_size_fault 0 t.bodies ≡ None) (sym made.typed_is) made.fits;
-    programs = subst (λ (t : Typed). KeepScript t job.programs) (sym made.typed_is) made.programs;
+    attached = is;
+    typed = of;
+    fits = made.fits;
+    programs = made.programs;
   }
 
   size_fault : (refusal : Refusal) → TellsLarge tree attached typed refusal → IsSizeFault text says refusal
@@ -340,10 +340,9 @@ module _ (text : List ℕ) (says : Recorded) (tree : Tree) (attached : Attached)
     large = record { attached = attached; typed = typed; types = types; large = large };
   }
 
-  pub size_told : (answer : Result ScriptJob Refusal) → IfErr answer (IsSizeAnswer tree attached typed) → IfErr answer (IsScriptRefusal text says)
-  size_told (Ok job) why = tt
-  size_told (Err refusal) (inl memory) = inl memory
-  size_told (Err refusal) (inr wrong) = inr (record {
+  pub size_told : (refusal : Refusal) → IsSizeAnswer tree attached typed refusal → IsScriptRefusal text says refusal
+  size_told refusal (inl memory) = inl memory
+  size_told refusal (inr wrong) = inr (record {
     fault = size_wrong wrong.much;
     place = wrong.place;
     told = wrong.told;

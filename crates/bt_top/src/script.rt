@@ -3,7 +3,7 @@ ghost use Rattle.std.specs.Prelude.{◌≡◌, ◌≤◌, IfErr, IfOk, length, s
 ghost use Rattle.bt_lexer.specs.Places.{offset_of};
 ghost use Rattle.bt_top.specs.Script.{place_of, place_at, lexical_refusal, parse_refusal, attach_refusal, type_refusal};
 ghost use Rattle.bt_top.specs.Script.{HasTree};
-ghost use Rattle.bt_top.specs.Serve.{IsTextRefusal};
+ghost use Rattle.bt_top.specs.Doing.{IsTextRefusal};
 
 use crate::refusal::{Refusal, ScriptFault, ScriptRefusal};
 use bt_ast::probe::Script;
