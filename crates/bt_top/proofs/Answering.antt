@@ -13,15 +13,15 @@ use Rattle.bt_top.specs.declared.refusal.Operand.{Operand}
 use Rattle.bt_top.specs.declared.refusal.Operand.TheVariants as operand
 use Rattle.bt_top.specs.declared.refusal.Refusal.{Refusal}
 use Rattle.bt_top.specs.declared.refusal.Refusal.TheVariants.{Usage, Script, Recording, ReadFault, WriteFault, Memory}
-use Rattle.bt_top.specs.Doing.{Performs}
-use Rattle.bt_top.specs.Due.{AreShort, IsDue, IsFound, IsTooLong}
+use Rattle.bt_top.specs.Doing.{ComesOfFiles}
+use Rattle.bt_top.specs.Due.{AreShort, IsDue, IsFinding, IsTooLong}
 use Rattle.bt_top.specs.Jobs.{IsJobFor}
 use Rattle.bt_top.specs.Lines.{SinkUse, SinkFailed}
-use Rattle.bt_top.specs.Orders.{Named, files_in, files_of, names_of}
-use Rattle.bt_top.specs.Outcomes.{ComesTo, bytes_of}
+use Rattle.bt_top.specs.Orders.{NamedFile, files_in, files_of, names_of}
+use Rattle.bt_top.specs.Outcomes.{ComesTo, bytes_written}
 use Rattle.bt_top.specs.Refusals.{status_of, too_long}
-use Rattle.bt_top.specs.Serve.{ShelfUse, ShelfFailed, AreHeld, MayCome, MayStandFor, ComesIfDue, OnTold, IsReached, ReadFailed, IsComplete}
-use Rattle.bt_top.specs.Serve.{IsWritten, IsDone, HasDone, Answers, IsAnswer, Runs, HasWork}
+use Rattle.bt_top.specs.Serve.{ShelfUse, ShelfFailed, AreContentsOf, MayCome, MayStandFor, ComesIfDue, OnTold, IsReached, ReadFailed, IsComplete}
+use Rattle.bt_top.specs.Serve.{IsWritten, IsDone, IsDoneUnlessRefused, AnswersOrder, AnswersWords, IsRunOrder, HasWork}
 use Rattle.bt_top.proofs.Due.{job_accepted}
 use Rattle.bt_top.proofs.Performing.{on_told-map}
 use Rattle.bt_top.proofs.Reading.{held_or}
@@ -40,16 +40,16 @@ abbrev pub report_of : Option Refusal → Outcome → Report
 report_of refusal outcome = record { status = status_of refusal; refusal = refusal; work = outcome.work; programs = outcome.programs }
 
 -- of files that ask for a job nothing is refused
-job_is_due : (files : List Named) (contents : List (List ℕ)) (job : Job) → IsJobFor files contents job → IsDue files contents None
+job_is_due : (files : List NamedFile) (contents : List (List ℕ)) (job : Job) → IsJobFor files contents job → IsDue files contents None
 job_is_due files [] job is = absurd is.of
 job_is_due files (text ∷ []) job is = absurd is.of
 job_is_due files (text ∷ bytes ∷ more) job is = inr (is.short, job_accepted text bytes job is.of)
 
-nothing_is_due : (held : List ℕ → Option (List ℕ)) (contents : List (List ℕ)) → AreHeld held [] contents → IsDue [] contents None
+nothing_is_due : (held : List ℕ → Option (List ℕ)) (contents : List (List ℕ)) → AreContentsOf held [] contents → IsDue [] contents None
 nothing_is_due held [] are = inr (tt, refl)
 nothing_is_due held (bytes ∷ contents) are = absurd are
 
-due : (held : List ℕ → Option (List ℕ)) (order : Order) (contents : List (List ℕ)) (outcome : Outcome) → AreHeld held (files_of order) contents
+due : (held : List ℕ → Option (List ℕ)) (order : Order) (contents : List (List ℕ)) (outcome : Outcome) → AreContentsOf held (files_of order) contents
     → ComesTo order contents outcome → IsDue (files_of order) contents None
 due held (Run serial stats script recording) contents outcome are comes = job_is_due _ contents comes.0 comes.1
 due held (Check script recording) contents outcome are comes = job_is_due _ contents comes.0 comes.1
@@ -64,40 +64,40 @@ no_work outcome other is none some = none_is_not (subst (λ (o : Outcome). IsSom
     none_is_not : {A : Type 0} {o : Option A} → IsSome o → o ≡ None → ⊥
     none_is_not some none = cc
 
-runs : (order : Order) (contents : List (List ℕ)) (outcome : Outcome) → ComesTo order contents outcome → IsSome outcome.work ↔ Runs order
+runs : (order : Order) (contents : List (List ℕ)) (outcome : Outcome) → ComesTo order contents outcome → IsSome outcome.work ↔ IsRunOrder order
 runs (Run serial stats script recording) contents outcome comes = (λ some. tt, λ is. subst (λ (o : Outcome). IsSome o.work) (sym comes.2.is) refl)
 runs (Check script recording) contents outcome comes = (λ some. absurd (no_work outcome _ comes.2 refl some), λ is. absurd is)
 runs (Code script recording) contents outcome comes = (λ some. absurd (no_work outcome _ comes.2 refl some), λ is. absurd is)
 runs (Gen x n) contents outcome comes = (λ some. absurd (no_work outcome _ comes.2 refl some), λ is. absurd is)
 runs (Big x n) contents outcome comes = (λ some. tt, λ is. subst (λ (o : Outcome). IsSome o.work) (sym comes.2.is) refl)
 
-module _ (order : Order) (seen : ShelfUse) (out : SinkUse) (outcome : Outcome) (performs : Performs (files_of order) (ComesTo order) seen (Ok outcome)) where
-  is_done : (refusal : Option Refusal) → IsWritten out refusal (bytes_of outcome) → IsDone order performs.reads.contents out (report_of refusal outcome)
+module _ (order : Order) (seen : ShelfUse) (out : SinkUse) (outcome : Outcome) (performs : ComesOfFiles (files_of order) (ComesTo order) seen (Ok outcome)) where
+  is_done : (refusal : Option Refusal) → IsWritten out refusal (bytes_written outcome) → IsDone order performs.reads.contents out (report_of refusal outcome)
   is_done refusal written = record { outcome = outcome; comes = performs.reads.value; work = refl; programs = refl; written = written }
 
   nothing_due : IsDue (files_of order) performs.reads.contents None
   nothing_due = due seen.held order performs.reads.contents outcome performs.reads.held performs.reads.value
 
-  pub done_answer : (refusal : Option Refusal) → Wrote out refusal (bytes_of outcome) → Answers order seen out (report_of refusal outcome)
-  done_answer refusal (inl e) = subst (λ (r : Option Refusal). Answers order seen out (report_of r outcome)) (sym e.0) (record {
+  pub done_answer : (refusal : Option Refusal) → Wrote out refusal (bytes_written outcome) → AnswersOrder order seen out (report_of refusal outcome)
+  done_answer refusal (inl e) = subst (λ (r : Option Refusal). AnswersOrder order seen out (report_of r outcome)) (sym e.0) (record {
     contents = performs.reads.contents;
     held = performs.reads.held;
     came = nothing_due;
     done = is_done None e.1;
   })
-  done_answer refusal (inr e) = subst (λ (r : Option Refusal). Answers order seen out (report_of r outcome)) (sym e.0) (record {
+  done_answer refusal (inr e) = subst (λ (r : Option Refusal). AnswersOrder order seen out (report_of r outcome)) (sym e.0) (record {
     contents = performs.reads.contents;
     held = performs.reads.held;
     came = (e.1, nothing_due);
     done = is_done (Some WriteFault) e.2;
   })
 
-  pub done_work : (refusal : Option Refusal) → Wrote out refusal (bytes_of outcome) → IsSome outcome.work ↔ HasWork refusal (Some order)
+  pub done_work : (refusal : Option Refusal) → Wrote out refusal (bytes_written outcome) → IsSome outcome.work ↔ HasWork refusal (Some order)
   done_work refusal (inl e) = subst (λ (r : Option Refusal). IsSome outcome.work ↔ HasWork r (Some order)) (sym e.0) (runs order performs.reads.contents outcome performs.reads.value)
   done_work refusal (inr e) = subst (λ (r : Option Refusal). IsSome outcome.work ↔ HasWork r (Some order)) (sym e.0) (runs order performs.reads.contents outcome performs.reads.value)
 
   -- what came of the reads stands, also where the write fails
-  pub done_exact : (refusal : Option Refusal) → Wrote out refusal (bytes_of outcome) → OnTold seen.held (files_of order) (ComesIfDue (files_of order) refusal)
+  pub done_exact : (refusal : Option Refusal) → Wrote out refusal (bytes_written outcome) → OnTold seen.held (files_of order) (ComesIfDue (files_of order) refusal)
   done_exact refusal (inl e) = subst (λ (r : Option Refusal). OnTold seen.held (files_of order) (ComesIfDue (files_of order) r)) (sym e.0) performs.exact
   done_exact refusal (inr e) = subst (λ (r : Option Refusal). OnTold seen.held (files_of order) (ComesIfDue (files_of order) r)) (sym e.0)
       (on_told-map seen.held (files_of order) (ComesIfDue (files_of order) None) (ComesIfDue (files_of order) (Some WriteFault))
@@ -117,7 +117,7 @@ kept None = tt
 kept (Some bytes) = refl
 
 -- before the write there is no fault of it
-may_later : (files : List Named) (contents : List (List ℕ)) (read_failed write_failed : Type 0) (refusal : Refusal)
+may_later : (files : List NamedFile) (contents : List (List ℕ)) (read_failed write_failed : Type 0) (refusal : Refusal)
     → MayCome files contents read_failed ⊥ (Some refusal) → MayCome files contents read_failed write_failed (Some refusal)
 may_later files contents read_failed write_failed Usage may = may
 may_later files contents read_failed write_failed (Script why) may = may
@@ -128,32 +128,32 @@ may_later files contents read_failed write_failed Memory may = tt
 
 nothing_done : (order : Order) (contents : List (List ℕ)) (out : SinkUse) (refusal : Refusal) (read_failed : Type 0)
     → MayCome (files_of order) contents read_failed ⊥ (Some refusal) → Keeps out.taken out.taken_after
-    → HasDone (Some refusal) order contents out (refused_report refusal)
+    → IsDoneUnlessRefused (Some refusal) order contents out (refused_report refusal)
 nothing_done order contents out WriteFault read_failed may keeps = absurd may.0
 nothing_done order contents out refusal read_failed may keeps = record { work = refl; programs = refl; written = keeps }
 
 -- what does not come of files is told of none
-no_usage : (files : List Named) (contents : List (List ℕ)) → IsDue files contents (Some Usage) → ⊥
+no_usage : (files : List NamedFile) (contents : List (List ℕ)) → IsDue files contents (Some Usage) → ⊥
 no_usage files contents (inl long) = too files contents long
   where
     other : (file : Operand) → Some Usage ≡ Some (too_long file) → ⊥
     other operand.Script e = cc
     other operand.Recording e = cc
 
-    too : (files : List Named) (contents : List (List ℕ)) → IsTooLong files contents (Some Usage) → ⊥
+    too : (files : List NamedFile) (contents : List (List ℕ)) → IsTooLong files contents (Some Usage) → ⊥
     too [] contents long = long
     too (file ∷ files) [] long = long
     too (file ∷ files) (bytes ∷ contents) (inl e) = other file.operand e.1
     too (file ∷ files) (bytes ∷ contents) (inr e) = too files contents e.1
 no_usage files contents (inr found) = none contents found.1
   where
-    none : (contents : List (List ℕ)) → IsFound contents (Some Usage) → ⊥
+    none : (contents : List (List ℕ)) → IsFinding contents (Some Usage) → ⊥
     none [] is = cc
     none (text ∷ []) is = cc
     none (text ∷ bytes ∷ more) is = is
 
-module _ (order : Order) (seen : ShelfUse) (out : SinkUse) (refusal : Refusal) (performs : Performs (files_of order) (ComesTo order) seen (Err refusal)) where
-  pub refused_answer : Keeps out.taken out.taken_after → Answers order seen out (refused_report refusal)
+module _ (order : Order) (seen : ShelfUse) (out : SinkUse) (refusal : Refusal) (performs : ComesOfFiles (files_of order) (ComesTo order) seen (Err refusal)) where
+  pub refused_answer : Keeps out.taken out.taken_after → AnswersOrder order seen out (refused_report refusal)
   refused_answer keeps = record {
     contents = performs.reads.contents;
     held = performs.reads.held;
@@ -176,14 +176,14 @@ module _ (order : Order) (seen : ShelfUse) (out : SinkUse) (refusal : Refusal) (
 
 -- accepted files are answered with success where nothing failed, or memory ran out
 pub is_complete : (order : Order) (seen : ShelfUse) (out : SinkUse) (report : Report)
-    → report.status ≡ status_of report.refusal → Answers order seen out report → OnTold seen.held (files_of order) (ComesIfDue (files_of order) report.refusal)
+    → report.status ≡ status_of report.refusal → AnswersOrder order seen out report → OnTold seen.held (files_of order) (ComesIfDue (files_of order) report.refusal)
     → OnTold seen.held (files_of order) (IsComplete (files_of order) (ReadFailed (files_of order) seen) (SinkFailed out) report.status)
 is_complete order seen out report status answers exact =
     on_told-map seen.held (files_of order) (ComesIfDue (files_of order) report.refusal)
     (IsComplete (files_of order) (ReadFailed (files_of order) seen) (SinkFailed out) report.status)
     (λ contents comes due no_read no_write. ends report.refusal status answers.came no_read no_write (comes None due)) exact
   where
-    reached : (files : List Named) (contents : List (List ℕ)) (file : Operand) → ShelfFailed seen → IsReached files contents file → ReadFailed files seen
+    reached : (files : List NamedFile) (contents : List (List ℕ)) (file : Operand) → ShelfFailed seen → IsReached files contents file → ReadFailed files seen
     reached [] contents file failed is = is
     reached (first ∷ files) contents file failed is = failed
 
@@ -199,16 +199,16 @@ is_complete order seen out report status answers exact =
 
 -- ---- want of memory at the words, whatever they ask for
 
-told_or : (held : List ℕ → Option (List ℕ)) → List Named → List (List ℕ)
+told_or : (held : List ℕ → Option (List ℕ)) → List NamedFile → List (List ℕ)
 told_or held [] = []
 told_or held (file ∷ files) = unwrap_or (held file.name) [] ∷ told_or held files
 
-are_told : (held : List ℕ → Option (List ℕ)) (files : List Named) → AreHeld held files (told_or held files)
+are_told : (held : List ℕ → Option (List ℕ)) (files : List NamedFile) → AreContentsOf held files (told_or held files)
 unfolding told_or
 are_told held [] = tt
 are_told held (file ∷ files) = (held_or _ _, are_told held files)
 
-pub words_answer : (order : Option Order) (seen : ShelfUse) (out : SinkUse) → Keeps out.taken out.taken_after → IsAnswer order seen out (refused_report Memory)
+pub words_answer : (order : Option Order) (seen : ShelfUse) (out : SinkUse) → Keeps out.taken out.taken_after → AnswersWords order seen out (refused_report Memory)
 words_answer None seen out keeps = record { work = refl; programs = refl; written = keeps }
 words_answer (Some order) seen out keeps = record {
   contents = told_or seen.held (files_of order);

@@ -18,7 +18,7 @@ use Rattle.bt_top.specs.declared.refusal.RecordingRefusal.TheVariants as recordi
 use Rattle.bt_top.specs.declared.refusal.Refusal.{Refusal}
 use Rattle.bt_top.specs.declared.refusal.Refusal.TheVariants.{Script, Recording}
 use Rattle.bt_top.specs.Doing.{IsExact, IsFaultRefusal, IsScriptRefusal, refusal_in}
-use Rattle.bt_top.specs.Due.{IsRecording, IsAccepted, IsFault, IsJudged}
+use Rattle.bt_top.specs.Due.{IsRecording, IsAccepted, IsFirstRefusal, IsJudged}
 use Rattle.bt_top.specs.Jobs.{AsksFor, IsJobOf}
 use Rattle.bt_top.specs.Refusals.{recording_refusal}
 use Rattle.bt_top.specs.Script.{IsScriptFault}
@@ -46,7 +46,7 @@ one_fault_over text bytes one other a b laws is was first second =
     one_script_fault text other a b laws.script
     (subst (λ (r : Recorded). IsScriptFault text r a) (one_recording text bytes one other laws is was) first) second
 
-one_fault : (text bytes : List ℕ) (one other : Refusal) → AreLaws text bytes → IsFault text bytes one → IsFault text bytes other → one ≡ other
+one_fault : (text bytes : List ℕ) (one other : Refusal) → AreLaws text bytes → IsFirstRefusal text bytes one → IsFirstRefusal text bytes other → one ≡ other
 one_fault text bytes (Recording (recording.Fault e1)) (Recording (recording.Fault e2)) laws a b =
     ap (λ (e : RecordingError). Recording (recording.Fault e)) (laws.fault e1 e2 a b)
 one_fault text bytes (Recording (recording.Fault e1)) (Script (script.Fault w2 p2)) laws a b = absurd (valid text bytes b.0 e1 laws b.1 a)
@@ -58,7 +58,7 @@ one_fault text bytes (Script (script.Fault w1 p1)) other laws a b = absurd b
 one_fault text bytes one other laws a b = absurd a
 
 -- what is accepted has no fault
-no_fault : (text bytes : List ℕ) (refusal : Refusal) → AreLaws text bytes → IsFault text bytes refusal → IsAccepted text bytes → ⊥
+no_fault : (text bytes : List ℕ) (refusal : Refusal) → AreLaws text bytes → IsFirstRefusal text bytes refusal → IsAccepted text bytes → ⊥
 no_fault text bytes (Recording (recording.Fault error)) laws a b = valid text bytes b.says error laws b.is a
 no_fault text bytes (Script (script.Fault wrong place)) laws a b =
     no_script_fault text b.says _ b.tree laws.script
@@ -79,7 +79,7 @@ one_judged text bytes (Some one) (Some other) laws a b = ap (λ (r : Refusal). S
 script_is_fault : (text bytes : List ℕ) (says : Recorded) (refusal : Refusal) → IsRecording bytes says → IsScriptRefusal text says refusal
     → IsFaultRefusal text bytes refusal
 script_is_fault text bytes says refusal is (inl memory) = inl memory
-script_is_fault text bytes says refusal is (inr wrong) = inr (subst (λ (r : Refusal). IsFault text bytes r) (sym wrong.told) (says, is, wrong.first))
+script_is_fault text bytes says refusal is (inr wrong) = inr (subst (λ (r : Refusal). IsFirstRefusal text bytes r) (sym wrong.told) (says, is, wrong.first))
 
 pub script_refuses : (text bytes : List ℕ) (says : Recorded) (answer : Result Job Refusal) → IsRecording bytes says → IfErr answer (IsScriptRefusal text says)
     → IfErr answer (IsFaultRefusal text bytes)

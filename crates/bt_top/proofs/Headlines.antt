@@ -31,10 +31,10 @@ use Rattle.bt_top.specs.declared.refusal.Refusal.TheVariants.{Usage, Script, Rec
 use Rattle.bt_top.specs.Headline.{Headline, PrintsItsSteps, PrintsItsTotals, PrintsOfFiles}
 use Rattle.bt_top.specs.Jobs.{IsBigJob, IsJobFor, IsWorkOf, meaning_of}
 use Rattle.bt_top.specs.Lines.{SinkUse}
-use Rattle.bt_top.specs.Orders.{Named, files_of}
-use Rattle.bt_top.specs.Outcomes.{ComesTo, IsRunOf, bytes_of, ran, stats_line, summary_line}
+use Rattle.bt_top.specs.Orders.{NamedFile, files_of}
+use Rattle.bt_top.specs.Outcomes.{ComesTo, IsOutcomeOfRun, bytes_written, stats_line, summary_line}
 use Rattle.bt_top.specs.Refusals.{status_of}
-use Rattle.bt_top.specs.Serve.{ShelfUse, AreHeld}
+use Rattle.bt_top.specs.Serve.{ShelfUse, AreContentsOf}
 use Rattle.bt_top.proofs.Answering.{Wrote, refused_report, report_of}
 use Rattle.bt_top.proofs.Making.{attached_over, typed_over}
 
@@ -74,8 +74,8 @@ pub record AreRunLaws : Type 0 where
   pub totals : (script : Typed) (attached : Attached) (r : Recorded) (steps : List Step) → IsAddingRun script attached r steps
       → EndsWithTotals script attached r steps
 
-module _ (laws : AreRunLaws) (seen : ShelfUse) (out : SinkUse) (outcome : Outcome) (refusal : Option Refusal) (wrote : Wrote out refusal (bytes_of outcome)) where
-  files_can_run : (files : List Named) (contents : List (List ℕ)) (job : Job) → IsJobFor files contents job → IsJob job.typed job.attached job.recording
+module _ (laws : AreRunLaws) (seen : ShelfUse) (out : SinkUse) (outcome : Outcome) (refusal : Option Refusal) (wrote : Wrote out refusal (bytes_written outcome)) where
+  files_can_run : (files : List NamedFile) (contents : List (List ℕ)) (job : Job) → IsJobFor files contents job → IsJob job.typed job.attached job.recording
   files_can_run files [] job is = absurd is.of
   files_can_run files (text ∷ []) job is = absurd is.of
   files_can_run files (text ∷ bytes ∷ more) job is =
@@ -85,17 +85,17 @@ module _ (laws : AreRunLaws) (seen : ShelfUse) (out : SinkUse) (outcome : Outcom
   large_can_run x n job of =
       laws.jobs of.asks.tree job.typed job.attached job.recording of.valid of.asks.script.attached of.asks.attached of.asks.typed
 
-  prints : (serial : Bool) (job : Job) (rest : Work → List ℕ) → IsJob job.typed job.attached job.recording → (run : IsRunOf serial job rest outcome)
+  prints : (serial : Bool) (job : Job) (rest : Work → List ℕ) → IsJob job.typed job.attached job.recording → (run : IsOutcomeOfRun serial job rest outcome)
       → status_of refusal ≡ 0 → PrintsItsSteps job (rest run.work) out run.work
   prints serial job rest can run zero = record {
     interleaving = run.done.replayed.interleaving;
     ticks = laws.ticks job.typed job.attached job.recording run.work.steps can run.done.replayed.interleaving;
     reads = laws.reads (meaning_of job) run.work.steps run.done.replayed.interleaving;
     written = subst (λ (text : List ℕ). Appends out.taken out.taken_after (text ++ rest run.work)) run.done.printed
-        (subst (λ (o : Outcome). Appends out.taken out.taken_after (bytes_of o)) run.is (written_whole out refusal (bytes_of outcome) wrote zero));
+        (subst (λ (o : Outcome). Appends out.taken out.taken_after (bytes_written o)) run.is (written_whole out refusal (bytes_written outcome) wrote zero));
   }
 
-  adds : (x n : ℕ) (job : Job) (of : IsBigJob x n job) (rest : Work → List ℕ) (run : IsRunOf false job rest outcome)
+  adds : (x n : ℕ) (job : Job) (of : IsBigJob x n job) (rest : Work → List ℕ) (run : IsOutcomeOfRun false job rest outcome)
       → IsAddingRun job.typed job.attached job.recording run.work.steps
   adds x n job of rest run =
       let over = typed_over of.asks.tree job.recording job.attached job.typed of.asks.script.has of.asks.attached of.asks.typed in
@@ -107,7 +107,7 @@ module _ (laws : AreRunLaws) (seen : ShelfUse) (out : SinkUse) (outcome : Outcom
             (attached_over of.asks.tree job.recording job.attached of.asks.script.has of.asks.attached) over m (who run.work.steps);
       }
 
-  pub done_headline : (order : Order) (contents : List (List ℕ)) → AreHeld seen.held (files_of order) contents → ComesTo order contents outcome
+  pub done_headline : (order : Order) (contents : List (List ℕ)) → AreContentsOf seen.held (files_of order) contents → ComesTo order contents outcome
       → Headline (Some order) seen out (report_of refusal outcome)
   done_headline (Run serial stats script recording) contents held comes = λ zero.
       subst (λ (o : Outcome). IsSomeAnd o.work (PrintsOfFiles seen.held (files_of (Run serial stats script recording)) stats out)) (sym comes.2.is) (record {

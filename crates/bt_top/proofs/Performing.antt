@@ -3,21 +3,21 @@ use Rattle.std.proofs.Common.{◌≡◌, ℕ, ◌⊎◌, List, [], ◌∷◌, re
 use Rattle.std.specs.Prelude.{Option, Some, None, Result, Ok, Err, IfOk, IfErr, IfSome}
 use Rattle.bt_top.specs.declared.refusal.Refusal.{Refusal}
 use Rattle.bt_top.specs.declared.refusal.Refusal.TheVariants.{Memory}
-use Rattle.bt_top.specs.Doing.{Performs}
-use Rattle.bt_top.specs.Orders.{Named, names_of}
+use Rattle.bt_top.specs.Doing.{ComesOfFiles}
+use Rattle.bt_top.specs.Orders.{NamedFile, names_of}
 use Rattle.bt_top.specs.Serve.{ShelfUse, AsksExactly, AsksFirst, ComesIfDue, IsComplete, OnTold}
 
 -- ---- of all files alike
 
-pub nothing_asked : (files : List Named) (names : List (List ℕ)) → AsksFirst names names (names_of files)
+pub nothing_asked : (files : List NamedFile) (names : List (List ℕ)) → AsksFirst names names (names_of files)
 nothing_asked [] names = refl
 nothing_asked (file ∷ files) names = inl refl
 
-pub asked_unless : (files : List Named) (seen : ShelfUse) → AsksExactly files None seen → AsksExactly files (Some Memory) seen
+pub asked_unless : (files : List NamedFile) (seen : ShelfUse) → AsksExactly files None seen → AsksExactly files (Some Memory) seen
 asked_unless [] seen same = same
 asked_unless (file ∷ files) seen all = tt
 
-pub nothing_asked_exactly : (files : List Named) (seen : ShelfUse) → seen.asked_after ≡ seen.asked → AsksExactly files (Some Memory) seen
+pub nothing_asked_exactly : (files : List NamedFile) (seen : ShelfUse) → seen.asked_after ≡ seen.asked → AsksExactly files (Some Memory) seen
 nothing_asked_exactly [] seen same = same
 nothing_asked_exactly (file ∷ files) seen same = tt
 
@@ -30,33 +30,33 @@ if_told-map : (o : Option (List ℕ)) (Q R : List ℕ → Type 0) → ((bytes : 
 if_told-map None Q R f q = tt
 if_told-map (Some bytes) Q R f q = f bytes q
 
-on_told : (held : List ℕ → Option (List ℕ)) (files : List Named) (P : List (List ℕ) → Type 0) → ((contents : List (List ℕ)) → P contents) → OnTold held files P
+on_told : (held : List ℕ → Option (List ℕ)) (files : List NamedFile) (P : List (List ℕ) → Type 0) → ((contents : List (List ℕ)) → P contents) → OnTold held files P
 on_told held [] P p = p []
 on_told held (file ∷ files) P p =
     if_told (held file.name) (λ bytes. OnTold held files (λ contents. P (bytes ∷ contents)))
     (λ bytes. on_told held files (λ contents. P (bytes ∷ contents)) (λ contents. p (bytes ∷ contents)))
 
-pub on_told-map : (held : List ℕ → Option (List ℕ)) (files : List Named) (P Q : List (List ℕ) → Type 0) → ((contents : List (List ℕ)) → P contents → Q contents)
+pub on_told-map : (held : List ℕ → Option (List ℕ)) (files : List NamedFile) (P Q : List (List ℕ) → Type 0) → ((contents : List (List ℕ)) → P contents → Q contents)
     → OnTold held files P → OnTold held files Q
 on_told-map held [] P Q f p = f [] p
 on_told-map held (file ∷ files) P Q f p =
     if_told-map (held file.name) (λ bytes. OnTold held files (λ contents. P (bytes ∷ contents))) (λ bytes. OnTold held files (λ contents. Q (bytes ∷ contents)))
     (λ bytes. on_told-map held files (λ contents. P (bytes ∷ contents)) (λ contents. Q (bytes ∷ contents)) (λ contents. f (bytes ∷ contents))) p
 
-pub memory_exact : (held : List ℕ → Option (List ℕ)) (files : List Named) → OnTold held files (ComesIfDue files (Some Memory))
+pub memory_exact : (held : List ℕ → Option (List ℕ)) (files : List NamedFile) → OnTold held files (ComesIfDue files (Some Memory))
 memory_exact held files = on_told held files (ComesIfDue files (Some Memory)) (λ contents due is. inr tt)
 
-pub memory_complete : (held : List ℕ → Option (List ℕ)) (files : List Named) (read_failed write_failed : Type 0)
+pub memory_complete : (held : List ℕ → Option (List ℕ)) (files : List NamedFile) (read_failed write_failed : Type 0)
     → OnTold held files (IsComplete files read_failed write_failed 6)
 memory_complete held files read_failed write_failed =
     on_told held files (IsComplete files read_failed write_failed 6) (λ contents due no_read no_write. inr refl)
 
 -- ---- of an order on files
 
-module _ {A B : Type 0} (files : List Named) (Comes : List (List ℕ) → A → Type 0) (Other : List (List ℕ) → B → Type 0) (seen : ShelfUse) where
+module _ {A B : Type 0} (files : List NamedFile) (Comes : List (List ℕ) → A → Type 0) (Other : List (List ℕ) → B → Type 0) (seen : ShelfUse) where
   -- what is made of what they give
-  pub goes_on : (a : A) (b : B) → Performs files Comes seen (Ok a) → ((contents : List (List ℕ)) → Comes contents a → Other contents b)
-      → Performs files Other seen (Ok b)
+  pub goes_on : (a : A) (b : B) → ComesOfFiles files Comes seen (Ok a) → ((contents : List (List ℕ)) → Comes contents a → Other contents b)
+      → ComesOfFiles files Other seen (Ok b)
   goes_on a b p f = record {
     reads = record { contents = p.reads.contents; held = p.reads.held; value = f p.reads.contents p.reads.value; came = tt };
     asked = p.asked;
@@ -65,7 +65,7 @@ module _ {A B : Type 0} (files : List Named) (Comes : List (List ℕ) → A → 
   }
 
   -- what refuses them
-  pub stops : (refusal : Refusal) → Performs files Comes seen (Err refusal) → Performs files Other seen (Err refusal)
+  pub stops : (refusal : Refusal) → ComesOfFiles files Comes seen (Err refusal) → ComesOfFiles files Other seen (Err refusal)
   stops refusal p = record {
     reads = record { contents = p.reads.contents; held = p.reads.held; value = tt; came = p.reads.came };
     asked = p.asked;
@@ -74,7 +74,7 @@ module _ {A B : Type 0} (files : List Named) (Comes : List (List ℕ) → A → 
   }
 
   -- want of memory behind the reads
-  pub runs_out : (a : A) → Performs files Comes seen (Ok a) → Performs files Other seen (Err Memory)
+  pub runs_out : (a : A) → ComesOfFiles files Comes seen (Ok a) → ComesOfFiles files Other seen (Err Memory)
   runs_out a p = record {
     reads = record { contents = p.reads.contents; held = p.reads.held; value = tt; came = tt };
     asked = p.asked;
@@ -85,7 +85,7 @@ module _ {A B : Type 0} (files : List Named) (Comes : List (List ℕ) → A → 
 -- ---- of an order without files
 
 module _ {B : Type 0} (Other : List (List ℕ) → B → Type 0) (seen : ShelfUse) (same : seen.asked_after ≡ seen.asked) where
-  pub made : (b : B) → Other [] b → Performs [] Other seen (Ok b)
+  pub made : (b : B) → Other [] b → ComesOfFiles [] Other seen (Ok b)
   made b is = record {
     reads = record { contents = []; held = tt; value = is; came = tt };
     asked = same;
@@ -96,7 +96,7 @@ module _ {B : Type 0} (Other : List (List ℕ) → B → Type 0) (seen : ShelfUs
     ];
   }
 
-  pub not_made : Performs [] Other seen (Err Memory)
+  pub not_made : ComesOfFiles [] Other seen (Err Memory)
   not_made = record {
     reads = record { contents = []; held = tt; value = tt; came = tt };
     asked = same;
@@ -104,6 +104,6 @@ module _ {B : Type 0} (Other : List (List ℕ) → B → Type 0) (seen : ShelfUs
     exact = λ due is. inr tt;
   }
 
-  pub made_or_not : (answer : Result B Refusal) → IfOk answer (Other []) → IfErr answer (λ refusal. refusal ≡ Memory) → Performs [] Other seen answer
+  pub made_or_not : (answer : Result B Refusal) → IfOk answer (Other []) → IfErr answer (λ refusal. refusal ≡ Memory) → ComesOfFiles [] Other seen answer
   made_or_not (Ok b) is memory = made b is
-  made_or_not (Err refusal) is memory = subst (λ (r : Refusal). Performs [] Other seen (Err r)) (sym memory) not_made
+  made_or_not (Err refusal) is memory = subst (λ (r : Refusal). ComesOfFiles [] Other seen (Err r)) (sym memory) not_made

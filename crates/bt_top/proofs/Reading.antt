@@ -12,8 +12,8 @@ use Rattle.bt_top.specs.declared.refusal.RecordingRefusal.TheVariants as recordi
 use Rattle.bt_top.specs.declared.refusal.ScriptRefusal.TheVariants as script
 use Rattle.bt_top.specs.declared.refusal.Refusal.{Refusal}
 use Rattle.bt_top.specs.declared.refusal.Refusal.TheVariants.{Usage, Script, Recording, ReadFault, WriteFault, Memory}
-use Rattle.bt_top.specs.Doing.{IsExact, IsFaultRefusal, Performs, refusal_in}
-use Rattle.bt_top.specs.Due.{IsDue, IsFault}
+use Rattle.bt_top.specs.Doing.{IsExact, IsFaultRefusal, ComesOfFiles, refusal_in}
+use Rattle.bt_top.specs.Due.{IsDue, IsFirstRefusal}
 use Rattle.bt_top.specs.Jobs.{IsJobFor, IsJobOf}
 use Rattle.bt_top.specs.Orders.{on_script}
 use Rattle.bt_top.specs.Refusals.{read_refusal, too_long}
@@ -94,7 +94,7 @@ module _ (s r : List ℕ) (seen : ShelfUse) where
       → (error ≡ shelf.TooLong → IfSome (seen.held s) (λ bytes. SCRIPT_BYTES < length bytes))
       → IsErrOf {T = A} (Err error) shelf.Memory ⊎ (seen.asked_after ≡ seen.asked ++ s ∷ [])
       → (seen.asked_after ≡ seen.asked ++ s ∷ []) ⊎ (seen.asked_after ≡ seen.asked)
-      → Performs (on_script s r) Comes seen (Err (read_refusal operand.Script error))
+      → ComesOfFiles (on_script s r) Comes seen (Err (read_refusal operand.Script error))
   script_unread Comes error failed long named named_or_not = record {
     reads = record {
       contents = scripts;
@@ -166,7 +166,7 @@ module _ (s r : List ℕ) (seen : ShelfUse) (text : List ℕ) (short : length te
       → mid ≡ seen.asked ++ s ∷ []
       → IsErrOf {T = A} (Err error) shelf.Memory ⊎ (seen.asked_after ≡ mid ++ r ∷ [])
       → (seen.asked_after ≡ mid ++ r ∷ []) ⊎ (seen.asked_after ≡ mid)
-      → Performs (on_script s r) Comes seen (Err (read_refusal operand.Recording error))
+      → ComesOfFiles (on_script s r) Comes seen (Err (read_refusal operand.Recording error))
   recording_unread Comes error mid failed long before named named_or_not = record {
     reads = record {
       contents = recordings;
@@ -189,7 +189,7 @@ module _ (s r : List ℕ) (seen : ShelfUse) (text bytes : List ℕ) (short : len
   value (Ok job) of = record { short = (short, (few, tt)); of = of }
   value (Err refusal) of = tt
 
-  fault_comes : (refusal : Refusal) → IsFault text bytes refusal → MayCome (on_script s r) (text ∷ bytes ∷ []) (ShelfFailed seen) ⊥ (Some refusal)
+  fault_comes : (refusal : Refusal) → IsFirstRefusal text bytes refusal → MayCome (on_script s r) (text ∷ bytes ∷ []) (ShelfFailed seen) ⊥ (Some refusal)
   fault_comes Usage due = absurd due
   fault_comes (Script why) due = inr ((short, (few, tt)), due)
   fault_comes (Recording why) due = inr ((short, (few, tt)), due)
@@ -203,7 +203,7 @@ module _ (s r : List ℕ) (seen : ShelfUse) (text bytes : List ℕ) (short : len
   came (Err refusal) (inl memory) = subst (λ (x : Refusal). MayCome (on_script s r) (text ∷ bytes ∷ []) (ShelfFailed seen) ⊥ (Some x)) (sym memory) tt
   came (Err refusal) (inr wrong) = fault_comes refusal wrong
 
-  fault_asked : (refusal : Refusal) → IsFault text bytes refusal → seen.asked_after ≡ seen.asked ++ s ∷ r ∷ [] → AsksExactly (on_script s r) (Some refusal) seen
+  fault_asked : (refusal : Refusal) → IsFirstRefusal text bytes refusal → seen.asked_after ≡ seen.asked ++ s ∷ r ∷ [] → AsksExactly (on_script s r) (Some refusal) seen
   fault_asked Usage due all = absurd due
   fault_asked (Script script.TooLong) due all = absurd due
   fault_asked (Script (script.Fault wrong place)) due all = all
@@ -239,7 +239,7 @@ module _ (s r : List ℕ) (seen : ShelfUse) (text bytes : List ℕ) (short : len
 
   pub both_read : (answer : Result Job Refusal) (mid : List (List ℕ)) → IfOk answer (IsJobOf text bytes) → IfErr answer (IsFaultRefusal text bytes)
       → IsExact text bytes (refusal_in answer) → mid ≡ seen.asked ++ s ∷ [] → seen.asked_after ≡ mid ++ r ∷ []
-      → Performs (on_script s r) (IsJobFor (on_script s r)) seen answer
+      → ComesOfFiles (on_script s r) (IsJobFor (on_script s r)) seen answer
   both_read answer mid asked refused exact before after = record {
     reads = record {
       contents = text ∷ bytes ∷ [];

@@ -36,7 +36,7 @@ use Rattle.bt_top.specs.declared.refusal.ScriptFault.TheVariants.{Types}
 use Rattle.bt_top.specs.declared.refusal.Refusal.{Refusal}
 use Rattle.bt_top.specs.declared.refusal.ScriptRefusal.TheVariants.{Fault}
 use Rattle.bt_top.specs.declared.refusal.Refusal.TheVariants.{Script}
-use Rattle.bt_top.specs.Script.{place_at, place_of, lexical_refusal, parse_refusal, attach_refusal, HasTree, IsTextFault, IsAttachFault}
+use Rattle.bt_top.specs.Script.{offset_place, token_place, lexical_refusal, parse_refusal, attach_refusal, HasTree, IsTextFault, IsAttachFault}
 use Rattle.bt_top.specs.Script.{type_refusal, body_fault, IsTypeFault, IsSizeFault}
 use Rattle.bt_top.specs.Script.{IsScriptFault}
 use Rattle.bt_types.specs.Script.{IsTypedScript}
@@ -90,20 +90,20 @@ is_told text refusal (inl h) = by_fault h.fault h.first h.told
   where
     by_fault : (fault : LexError) → IsFirstFault text fault → refusal ≡ lexical_refusal text fault → (f : ScriptFault) × (p : Place)
         × (refusal ≡ Script (Fault f p))
-    by_fault (lexical.BadChar at) first told = (BadCharacter, place_at text at, told)
-    by_fault (lexical.OpenString at) first told = (OpenString, place_at text at, told)
-    by_fault (lexical.OpenComment at) first told = (OpenComment, place_at text at, told)
-    by_fault (lexical.NumberTooLarge at) first told = (NumberTooLarge, place_at text at, told)
-    by_fault (lexical.BadEscape at) first told = (BadEscape, place_at text at, told)
-    by_fault (lexical.StringTooLong at) first told = (StringTooLong, place_at text at, told)
+    by_fault (lexical.BadChar at) first told = (BadCharacter, offset_place text at, told)
+    by_fault (lexical.OpenString at) first told = (OpenString, offset_place text at, told)
+    by_fault (lexical.OpenComment at) first told = (OpenComment, offset_place text at, told)
+    by_fault (lexical.NumberTooLarge at) first told = (NumberTooLarge, offset_place text at, told)
+    by_fault (lexical.BadEscape at) first told = (BadEscape, offset_place text at, told)
+    by_fault (lexical.StringTooLong at) first told = (StringTooLong, offset_place text at, told)
     by_fault lexical.Memory first told = absurd first.5.2
 is_told text refusal (inr h) = by_fault h.fault h.first h.told
   where
     by_fault : (fault : ParseError) → IsRefusal (items h.tokens) fault → refusal ≡ parse_refusal text h.tokens fault → (f : ScriptFault) × (p : Place)
         × (refusal ≡ Script (Fault f p))
-    by_fault (parsing.Syntax n) first told = (Syntax, place_of text (slice_get h.tokens n), told)
-    by_fault (parsing.TooDeep n) first told = (TooDeep, place_of text (slice_get h.tokens n), told)
-    by_fault (parsing.TooMany n) first told = (TooManyProbes, place_of text (slice_get h.tokens n), told)
+    by_fault (parsing.Syntax n) first told = (Syntax, token_place text (slice_get h.tokens n), told)
+    by_fault (parsing.TooDeep n) first told = (TooDeep, token_place text (slice_get h.tokens n), told)
+    by_fault (parsing.TooMany n) first told = (TooManyProbes, token_place text (slice_get h.tokens n), told)
     by_fault parsing.Memory first told = absurd first.holds
 
 -- what the lexer and the parser refuse is the first fault, or memory ran out

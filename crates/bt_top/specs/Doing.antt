@@ -16,10 +16,10 @@ use Rattle.bt_top.specs.declared.refusal.Refusal.{Refusal}
 use Rattle.bt_top.specs.declared.refusal.Refusal.TheVariants.{Script, Memory}
 use Rattle.bt_top.specs.declared.refusal.ScriptFault.{ScriptFault}
 use Rattle.bt_top.specs.declared.refusal.ScriptRefusal.TheVariants as script
-use Rattle.bt_top.specs.Due.{IsFault, IsJudged}
-use Rattle.bt_top.specs.Orders.{Named, names_of}
+use Rattle.bt_top.specs.Due.{IsFirstRefusal, IsJudged}
+use Rattle.bt_top.specs.Orders.{NamedFile, names_of}
 use Rattle.bt_top.specs.Script.{IsScriptFault, IsTextFault}
-use Rattle.bt_top.specs.Serve.{ShelfUse, ShelfFailed, AreHeld, AsksExactly, AsksFirst, ComesIfDue, MayCome, OnTold}
+use Rattle.bt_top.specs.Serve.{ShelfUse, ShelfFailed, AreContentsOf, AsksExactly, AsksFirst, ComesIfDue, MayCome, OnTold}
 use Rattle.bt_top.specs.Sizes.{IsProbePlace, TellsLarge, size_refusal}
 
 -- why something is refused, or none where it is not
@@ -56,10 +56,10 @@ pub record TellsSize (tree : Tree) (attached : Attached) (body : ℕ) (much : Si
   pub at : IsProbePlace tree attached body place
   pub told : refusal ≡ size_refusal much place
 
--- a script with these types has these programs
-pub record ArePrograms (typed : Typed) (programs : List Program) : Type 0 where
+-- no body of a script with these types is too large, and each of these programs keeps its body
+pub record ArePrograms (typed : Typed) (made : List Program) : Type 0 where
   pub fits : first_size_fault 0 typed.bodies ≡ None
-  pub programs : KeepScript typed programs
+  pub programs : KeepScript typed made
 
 abbrev pub IsSizeAnswer : Tree → Attached → Typed → Refusal → Type 0
 IsSizeAnswer tree attached typed refusal = (refusal ≡ Memory) ⊎ TellsLarge tree attached typed refusal
@@ -68,7 +68,7 @@ IsSizeAnswer tree attached typed refusal = (refusal ≡ Memory) ⊎ TellsLarge t
 
 -- want of memory, or what refuses both
 abbrev pub IsFaultRefusal : List ℕ → List ℕ → Refusal → Type 0
-IsFaultRefusal text bytes refusal = (refusal ≡ Memory) ⊎ IsFault text bytes refusal
+IsFaultRefusal text bytes refusal = (refusal ≡ Memory) ⊎ IsFirstRefusal text bytes refusal
 
 -- of what is due to both there is only one thing, and that comes unless memory runs out
 abbrev pub IsExact : List ℕ → List ℕ → Option Refusal → Type 0
@@ -77,15 +77,15 @@ IsExact text bytes refusal = (due : Option Refusal) → IsJudged text bytes due 
 -- ---- the reads, and what is done with what they give
 
 -- what comes of files with contents that the shelf tells, before the write
-pub record Reads {A : Type 0} (files : List Named) (Comes : List (List ℕ) → A → Type 0) (shelf : ShelfUse) (answer : Result A Refusal) : Type 0 where
+pub record ComesOfContents {A : Type 0} (files : List NamedFile) (Comes : List (List ℕ) → A → Type 0) (shelf : ShelfUse) (answer : Result A Refusal) : Type 0 where
   pub contents : List (List ℕ)
-  pub held : AreHeld shelf.held files contents
+  pub held : AreContentsOf shelf.held files contents
   pub value : IfOk answer (Comes contents)
   pub came : IfErr answer (λ refusal. MayCome files contents (ShelfFailed shelf) ⊥ (Some refusal))
 
 -- the same, with the names that were asked for, and that what is due comes
-pub record Performs {A : Type 0} (files : List Named) (Comes : List (List ℕ) → A → Type 0) (shelf : ShelfUse) (answer : Result A Refusal) : Type 0 where
-  pub reads : Reads files Comes shelf answer
+pub record ComesOfFiles {A : Type 0} (files : List NamedFile) (Comes : List (List ℕ) → A → Type 0) (shelf : ShelfUse) (answer : Result A Refusal) : Type 0 where
+  pub reads : ComesOfContents files Comes shelf answer
   pub asked : AsksFirst shelf.asked shelf.asked_after (names_of files)
   pub asked_exactly : AsksExactly files (refusal_in answer) shelf
   pub exact : OnTold shelf.held files (ComesIfDue files (refusal_in answer))

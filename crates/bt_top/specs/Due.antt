@@ -9,7 +9,7 @@ use Rattle.bt_top.specs.declared.refusal.ScriptRefusal.TheVariants as script
 use Rattle.bt_top.specs.declared.refusal.RecordingRefusal.TheVariants as recording
 use Rattle.bt_top.specs.declared.refusal.Refusal.{Refusal}
 use Rattle.bt_top.specs.declared.refusal.Refusal.TheVariants.{Script, Recording}
-use Rattle.bt_top.specs.Orders.{Named, limit_of}
+use Rattle.bt_top.specs.Orders.{NamedFile, limit_of}
 use Rattle.bt_top.specs.Refusals.{too_long}
 use Rattle.bt_top.specs.Script.{IsScriptFault, HasTree, body_fault}
 use Rattle.bt_top.specs.Sizes.{IsSized}
@@ -17,13 +17,13 @@ use Rattle.bt_top.specs.Sizes.{IsSized}
 -- ---- at the reads
 
 -- each file has its contents, and is no longer than it may be
-abbrev pub AreShort : List Named → List (List ℕ) → Type 0
+abbrev pub AreShort : List NamedFile → List (List ℕ) → Type 0
 AreShort [] [] = Unit {0}
 AreShort (file ∷ files) (bytes ∷ contents) = (length bytes ≤ limit_of file.operand) × AreShort files contents
 AreShort files contents = ⊥
 
 -- the first file that is longer than it may be is due
-abbrev pub IsTooLong : List Named → List (List ℕ) → Option Refusal → Type 0
+abbrev pub IsTooLong : List NamedFile → List (List ℕ) → Option Refusal → Type 0
 IsTooLong (file ∷ files) (bytes ∷ contents) due =
     ((limit_of file.operand < length bytes) × (due ≡ Some (too_long file.operand))) ⊎ ((length bytes ≤ limit_of file.operand) × IsTooLong files contents due)
 IsTooLong files contents due = ⊥
@@ -37,7 +37,7 @@ pub record IsRecording (bytes : List ℕ) (says : Recorded) : Type 0 where
 
 -- the script has this tree, of whose points none breaks a rule over this recording, and of whose bodies none breaks a rule of types or is
 -- too large
-pub record IsScriptFor (text : List ℕ) (says : Recorded) (tree : Tree) : Type 0 where
+pub record IsAcceptedScript (text : List ℕ) (says : Recorded) (tree : Tree) : Type 0 where
   pub has : HasTree text tree
   pub attached : attach_fault tree says.formats says.start says.end ≡ None
   pub typed : body_fault tree says ≡ None
@@ -48,27 +48,27 @@ pub record IsAccepted (text bytes : List ℕ) : Type 0 where
   pub says : Recorded
   pub tree : Tree
   pub is : IsRecording bytes says
-  pub script : IsScriptFor text says tree
+  pub script : IsAcceptedScript text says tree
 
 -- what refuses a script and a recording: the first in the order recording, lexing, parsing, attaching, typing, frame and code
-abbrev pub IsFault : List ℕ → List ℕ → Refusal → Type 0
-IsFault text bytes (Recording (recording.Fault error)) = IsRecordingFault bytes error
-IsFault text bytes (Script (script.Fault wrong place)) =
+abbrev pub IsFirstRefusal : List ℕ → List ℕ → Refusal → Type 0
+IsFirstRefusal text bytes (Recording (recording.Fault error)) = IsRecordingFault bytes error
+IsFirstRefusal text bytes (Script (script.Fault wrong place)) =
     (says : Recorded) × IsRecording bytes says × IsScriptFault text says (Script (script.Fault wrong place))
-IsFault text bytes refusal = ⊥
+IsFirstRefusal text bytes refusal = ⊥
 
 -- the first refusal of a script and a recording, or nothing
 abbrev pub IsJudged : List ℕ → List ℕ → Option Refusal → Type 0
 IsJudged text bytes None = IsAccepted text bytes
-IsJudged text bytes (Some refusal) = IsFault text bytes refusal
+IsJudged text bytes (Some refusal) = IsFirstRefusal text bytes refusal
 
 -- ---- of all files
 
 -- what is found of the contents of files, of which none is too long; where there are none, nothing
-abbrev pub IsFound : List (List ℕ) → Option Refusal → Type 0
-IsFound (text ∷ bytes ∷ more) due = IsJudged text bytes due
-IsFound contents due = due ≡ None
+abbrev pub IsFinding : List (List ℕ) → Option Refusal → Type 0
+IsFinding (text ∷ bytes ∷ more) due = IsJudged text bytes due
+IsFinding contents due = due ≡ None
 
 -- what is due to files with these contents: that the first of them is too long which is so, and else what is found of them
-abbrev pub IsDue : List Named → List (List ℕ) → Option Refusal → Type 0
-IsDue files contents due = IsTooLong files contents due ⊎ (AreShort files contents × IsFound contents due)
+abbrev pub IsDue : List NamedFile → List (List ℕ) → Option Refusal → Type 0
+IsDue files contents due = IsTooLong files contents due ⊎ (AreShort files contents × IsFinding contents due)

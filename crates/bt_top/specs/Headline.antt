@@ -14,9 +14,9 @@ use Rattle.total_laws.specs.Ends.{EndsWithTotals}
 use Rattle.bt_top.specs.declared.report.Report.{Report}
 use Rattle.bt_top.specs.Jobs.{IsBigJob, IsJobFor, meaning_of}
 use Rattle.bt_top.specs.Lines.{SinkUse}
-use Rattle.bt_top.specs.Orders.{Named, files_of}
+use Rattle.bt_top.specs.Orders.{NamedFile, files_of}
 use Rattle.bt_top.specs.Outcomes.{stats_line, summary_line}
-use Rattle.bt_top.specs.Serve.{ShelfUse, AreHeld}
+use Rattle.bt_top.specs.Serve.{ShelfUse, AreContentsOf}
 
 -- The bytes written are exactly those that the script's own meaning prints under the list of steps that is handed back with them, and behind
 -- them what else is told of the run. That is one list of all steps at maps, clock and output, whoever made them, in which each CPU's events
@@ -30,9 +30,9 @@ pub record PrintsItsSteps (job : Job) (rest : List ℕ) (out : SinkUse) (work : 
 
 -- so it is of the job of the two files that are read, which hold a script and a recording that the rules accept; behind the text stands the
 -- line of instructions where it is asked for
-pub record PrintsOfFiles (held : List ℕ → Option (List ℕ)) (files : List Named) (stats : Bool) (out : SinkUse) (work : Work) : Type 0 where
+pub record PrintsOfFiles (held : List ℕ → Option (List ℕ)) (files : List NamedFile) (stats : Bool) (out : SinkUse) (work : Work) : Type 0 where
   pub contents : List (List ℕ)
-  pub read : AreHeld held files contents
+  pub read : AreContentsOf held files contents
   pub job : Job
   pub accepted : IsJobFor files contents job
   pub prints : PrintsItsSteps job (stats_line stats work.instructions) out work

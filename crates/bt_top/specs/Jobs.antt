@@ -20,8 +20,8 @@ use Rattle.run_base.specs.declared.job.Job.{Job}
 use Rattle.run_base.specs.declared.job.Work.{Work}
 use Rattle.script_programs.specs.Programs.{AreCodesOf, KeepScript}
 use Rattle.script_programs.specs.Sizes.{first_size_fault}
-use Rattle.bt_top.specs.Due.{AreShort, IsRecording, IsScriptFor}
-use Rattle.bt_top.specs.Orders.{Named}
+use Rattle.bt_top.specs.Due.{AreShort, IsRecording, IsAcceptedScript}
+use Rattle.bt_top.specs.Orders.{NamedFile}
 
 -- ---- jobs
 
@@ -29,7 +29,7 @@ use Rattle.bt_top.specs.Orders.{Named}
 -- which no body is too large; and a program for each body, which keeps it.
 pub record AsksFor (text : List ℕ) (job : Job) : Type 0 where
   pub tree : Tree
-  pub script : IsScriptFor text job.recording tree
+  pub script : IsAcceptedScript text job.recording tree
   pub attached : IsAttachedTo tree job.recording.formats job.recording.start job.recording.end job.attached
   pub typed : IsTypedScript tree job.recording.formats job.attached.bodies job.typed
   pub fits : first_size_fault 0 job.typed.bodies ≡ None
@@ -46,7 +46,7 @@ IsJobIn (text ∷ bytes ∷ more) job = IsJobOf text bytes job
 IsJobIn contents job = ⊥
 
 -- what files with these contents ask for, of which none is too long
-pub record IsJobFor (files : List Named) (contents : List (List ℕ)) (job : Job) : Type 0 where
+pub record IsJobFor (files : List NamedFile) (contents : List (List ℕ)) (job : Job) : Type 0 where
   pub short : AreShort files contents
   pub of : IsJobIn contents job
 

@@ -7,14 +7,14 @@ use Rattle.bt_top.specs.declared.refusal.Operand.{Operand}
 use Rattle.bt_top.specs.declared.refusal.Operand.TheVariants.{Script, Recording}
 
 -- a file that an order names: which of its operands it is, and its name
-pub record Named : Type 0 where
+pub record NamedFile : Type 0 where
   pub operand : Operand
   pub name : List ℕ
 
-abbrev pub on_script : List ℕ → List ℕ → List Named
+abbrev pub on_script : List ℕ → List ℕ → List NamedFile
 on_script script recording = record { operand = Script; name = script } ∷ record { operand = Recording; name = recording } ∷ []
 
-abbrev pub files_of : Order → List Named
+abbrev pub files_of : Order → List NamedFile
 files_of (Run serial stats script recording) = on_script script recording
 files_of (Check script recording) = on_script script recording
 files_of (Code script recording) = on_script script recording
@@ -22,12 +22,12 @@ files_of (Gen x n) = []
 files_of (Big x n) = []
 
 -- none are read where words give no order
-abbrev pub files_in : Option Order → List Named
+abbrev pub files_in : Option Order → List NamedFile
 files_in None = []
 files_in (Some order) = files_of order
 
-abbrev pub names_of : List Named → List (List ℕ)
-names_of files = map (λ (file : Named). file.name) files
+abbrev pub names_of : List NamedFile → List (List ℕ)
+names_of files = map (λ (file : NamedFile). file.name) files
 
 -- how many bytes a file may have
 abbrev pub limit_of : Operand → ℕ
@@ -40,6 +40,6 @@ is_same Recording Recording = true
 is_same one other = false
 
 -- the name of an operand
-abbrev pub name_of : List Named → Operand → List ℕ
-name_of [] operand = []
-name_of (file ∷ files) operand = if is_same file.operand operand then file.name else name_of files operand
+abbrev pub operand_name : List NamedFile → Operand → List ℕ
+operand_name [] operand = []
+operand_name (file ∷ files) operand = if is_same file.operand operand then file.name else operand_name files operand

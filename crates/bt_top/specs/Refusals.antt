@@ -23,7 +23,7 @@ use Rattle.bt_top.specs.declared.refusal.RecordingRefusal.TheVariants as recordi
 use Rattle.bt_top.specs.declared.refusal.Refusal.{Refusal}
 use Rattle.bt_top.specs.declared.refusal.Refusal.TheVariants.{Usage, Script, Recording, ReadFault, WriteFault, Memory}
 use Rattle.bt_top.specs.Lines.{Piece, Text, Number}
-use Rattle.bt_top.specs.Orders.{Named, name_of}
+use Rattle.bt_top.specs.Orders.{NamedFile, operand_name}
 
 abbrev pub status_of : Option Refusal → ℕ
 status_of None = 0
@@ -68,8 +68,8 @@ rule_pieces (rule.SameName line) = Text (codes "F5 same name line ") ∷ Number 
 rule_pieces rule.Memory = Text (codes "out of memory") ∷ []
 
 -- the text of the format at a place breaks a rule
-abbrev pub format_pieces : ℕ → List Piece → List Piece
-format_pieces place rule = Text (codes "C4 format ") ∷ Number place ∷ Text (codes ": ") ∷ rule
+abbrev pub broken_format_pieces : ℕ → List Piece → List Piece
+broken_format_pieces place rule = Text (codes "C4 format ") ∷ Number place ∷ Text (codes ": ") ∷ rule
 
 -- what is wrong with an event
 abbrev pub event_pieces : List ℕ → ℕ → ℕ → List Piece
@@ -80,7 +80,7 @@ abbrev pub fault_pieces : RecordingError → List Piece
 fault_pieces (fault.Truncated offset) = Text (codes "C1 truncated at byte ") ∷ Number offset ∷ []
 fault_pieces fault.BadMagic = Text (codes "C2 bad magic") ∷ []
 fault_pieces (fault.Count what) = Text (codes "C3 bad count: ") ∷ Text (count_word what) ∷ []
-fault_pieces (fault.Format place broken) = format_pieces place (rule_pieces broken)
+fault_pieces (fault.Format place broken) = broken_format_pieces place (rule_pieces broken)
 fault_pieces (fault.SameEvent place) = Text (codes "C5 same event in format ") ∷ Number place ∷ []
 fault_pieces (fault.CpuNumber cpu) = Text (codes "C6 bad cpu number at cpu ") ∷ Number cpu ∷ []
 fault_pieces (fault.TimeOrder cpu event) = event_pieces (codes "C7 time order") cpu event
@@ -163,10 +163,10 @@ usage_pieces =
     ∷ []
 
 -- what is told of a refusal, where the words name these files
-abbrev pub refusal_pieces : List Named → Refusal → List Piece
+abbrev pub refusal_pieces : List NamedFile → Refusal → List Piece
 refusal_pieces files Usage = usage_pieces
-refusal_pieces files (Script why) = Text (name_of files operand.Script) ∷ script_pieces why
-refusal_pieces files (Recording why) = Text (name_of files operand.Recording) ∷ recording_pieces why
-refusal_pieces files (ReadFault file) = Text (name_of files file) ∷ Text (codes ": read fault") ∷ []
+refusal_pieces files (Script why) = Text (operand_name files operand.Script) ∷ script_pieces why
+refusal_pieces files (Recording why) = Text (operand_name files operand.Recording) ∷ recording_pieces why
+refusal_pieces files (ReadFault file) = Text (operand_name files file) ∷ Text (codes ": read fault") ∷ []
 refusal_pieces files WriteFault = Text (codes "write fault") ∷ []
 refusal_pieces files Memory = Text (codes "out of memory") ∷ []

@@ -15,8 +15,8 @@ use Rattle.bt_top.specs.declared.refusal.Refusal.{Refusal}
 use Rattle.bt_top.specs.declared.refusal.Refusal.TheVariants.{Script, Recording, ReadFault, WriteFault, Memory}
 use Rattle.bt_top.specs.Due.{IsDue}
 use Rattle.bt_top.specs.Lines.{SinkUse, SinkFailed, Writes}
-use Rattle.bt_top.specs.Orders.{Named, files_of, limit_of, names_of}
-use Rattle.bt_top.specs.Outcomes.{ComesTo, bytes_of}
+use Rattle.bt_top.specs.Orders.{NamedFile, files_of, limit_of, names_of}
+use Rattle.bt_top.specs.Outcomes.{ComesTo, bytes_written}
 use Rattle.bt_top.specs.Refusals.{refusal_pieces, too_long}
 
 -- ---- the files that are asked for
@@ -51,65 +51,65 @@ ends_at operand.Recording (Some (ReadFault operand.Recording)) = true
 ends_at file refusal = false
 
 -- the names of the files that are read before this comes: up to the one whose read ends the call, else all
-abbrev pub names_read : List Named → Option Refusal → List (List ℕ)
+abbrev pub names_read : List NamedFile → Option Refusal → List (List ℕ)
 names_read [] refusal = []
 names_read (file ∷ files) refusal = file.name ∷ (if ends_at file.operand refusal then [] else names_read files refusal)
 
 -- exactly the names of these files were asked for; where memory ran out it may have been fewer, but none where there are no files
-abbrev pub AsksExactly : List Named → Option Refusal → ShelfUse → Type 0
+abbrev pub AsksExactly : List NamedFile → Option Refusal → ShelfUse → Type 0
 AsksExactly [] refusal shelf = shelf.asked_after ≡ shelf.asked
 AsksExactly (file ∷ files) (Some Memory) shelf = Unit {0}
 AsksExactly (file ∷ files) refusal shelf = shelf.asked_after ≡ shelf.asked ++ names_read (file ∷ files) refusal
 
 -- the contents of files are what the shelf tells of them
-abbrev pub AreHeld : (List ℕ → Option (List ℕ)) → List Named → List (List ℕ) → Type 0
-AreHeld held [] [] = Unit {0}
-AreHeld held (file ∷ files) (bytes ∷ contents) = IfSome (held file.name) (λ told. bytes ≡ told) × AreHeld held files contents
-AreHeld held files contents = ⊥
+abbrev pub AreContentsOf : (List ℕ → Option (List ℕ)) → List NamedFile → List (List ℕ) → Type 0
+AreContentsOf held [] [] = Unit {0}
+AreContentsOf held (file ∷ files) (bytes ∷ contents) = IfSome (held file.name) (λ told. bytes ≡ told) × AreContentsOf held files contents
+AreContentsOf held files contents = ⊥
 
 -- a fact on the contents of files, where the shelf tells those of each
-abbrev pub OnTold : (List ℕ → Option (List ℕ)) → List Named → (List (List ℕ) → Type 0) → Type 0
+abbrev pub OnTold : (List ℕ → Option (List ℕ)) → List NamedFile → (List (List ℕ) → Type 0) → Type 0
 OnTold held [] P = P []
 OnTold held (file ∷ files) P = IfSome (held file.name) (λ bytes. OnTold held files (λ contents. P (bytes ∷ contents)))
 
 -- ---- what comes of an order
 
 -- the read of a file is reached: none before it is longer than it may be
-abbrev pub IsReached : List Named → List (List ℕ) → Operand → Type 0
+abbrev pub IsReached : List NamedFile → List (List ℕ) → Operand → Type 0
 IsReached (file ∷ files) (bytes ∷ contents) operand = (operand ≡ file.operand) ⊎ ((length bytes ≤ limit_of file.operand) × IsReached files contents operand)
 IsReached files contents operand = ⊥
 
 -- what may come of files with these contents: what is due to them; want of memory; a fault of a read that is reached; or a fault of the write
 -- where nothing is due; faults only where their counts rose
-abbrev pub MayCome : List Named → List (List ℕ) → (read_failed write_failed : Type 0) → Option Refusal → Type 0
+abbrev pub MayCome : List NamedFile → List (List ℕ) → (read_failed write_failed : Type 0) → Option Refusal → Type 0
 MayCome files contents read_failed write_failed (Some Memory) = Unit {0}
 MayCome files contents read_failed write_failed (Some (ReadFault operand)) = read_failed × IsReached files contents operand
 MayCome files contents read_failed write_failed (Some WriteFault) = write_failed × IsDue files contents None
 MayCome files contents read_failed write_failed due = IsDue files contents due
 
 -- a fault of the read of a file stands for what is due, unless that is that a file before it is too long
-abbrev pub ReadStandsFor : List Named → Operand → Option Refusal → Type 0
+abbrev pub ReadStandsFor : List NamedFile → Operand → Option Refusal → Type 0
 ReadStandsFor [] operand due = ⊥
 ReadStandsFor (file ∷ files) operand due = (operand ≡ file.operand) ⊎ ((due ≢ Some (too_long file.operand)) × ReadStandsFor files operand due)
 
 -- want of memory, or a fault of a step before which nothing is due: of a read, and of the write where nothing is refused
-abbrev pub MayStandFor : List Named → Option Refusal → Option Refusal → Type 0
+abbrev pub MayStandFor : List NamedFile → Option Refusal → Option Refusal → Type 0
 MayStandFor files (Some Memory) due = Unit {0}
 MayStandFor files (Some (ReadFault operand)) due = ReadStandsFor files operand due
 MayStandFor files (Some WriteFault) due = due ≡ None
 MayStandFor files refusal due = ⊥
 
 -- what is due to the files comes, unless a fault or want of memory stands for it
-abbrev pub ComesIfDue : List Named → Option Refusal → List (List ℕ) → Type 0
+abbrev pub ComesIfDue : List NamedFile → Option Refusal → List (List ℕ) → Type 0
 ComesIfDue files refusal contents = (due : Option Refusal) → IsDue files contents due → (refusal ≡ due) ⊎ MayStandFor files refusal due
 
 -- a read failed: there are files, and the shelf's count of faults rose
-abbrev pub ReadFailed : List Named → ShelfUse → Type 0
+abbrev pub ReadFailed : List NamedFile → ShelfUse → Type 0
 ReadFailed [] shelf = ⊥
 ReadFailed (file ∷ files) shelf = ShelfFailed shelf
 
 -- where nothing is due to the files and nothing failed, the status is that of success or of want of memory
-abbrev pub IsComplete : List Named → (read_failed write_failed : Type 0) → ℕ → List (List ℕ) → Type 0
+abbrev pub IsComplete : List NamedFile → (read_failed write_failed : Type 0) → ℕ → List (List ℕ) → Type 0
 IsComplete files read_failed write_failed status contents = IsDue files contents None → ¬ read_failed → ¬ write_failed → (status ≡ 0) ⊎ (status ≡ 6)
 
 -- ---- what is done
@@ -126,7 +126,7 @@ pub record IsDone (order : Order) (contents : List (List ℕ)) (out : SinkUse) (
   pub comes : ComesTo order contents outcome
   pub work : report.work ≡ outcome.work
   pub programs : report.programs ≡ outcome.programs
-  pub written : IsWritten out report.refusal (bytes_of outcome)
+  pub written : IsWritten out report.refusal (bytes_written outcome)
 
 -- nothing was done, and nothing written
 pub record IsNothing (out : SinkUse) (report : Report) : Type 0 where
@@ -135,39 +135,39 @@ pub record IsNothing (out : SinkUse) (report : Report) : Type 0 where
   pub written : Keeps out.taken out.taken_after
 
 -- all was done at status 0, all but a part of the writing after a fault of the write, and else nothing
-abbrev pub HasDone : Option Refusal → Order → List (List ℕ) → SinkUse → Report → Type 0
-HasDone None order contents out report = IsDone order contents out report
-HasDone (Some WriteFault) order contents out report = IsDone order contents out report
-HasDone (Some refusal) order contents out report = IsNothing out report
+abbrev pub IsDoneUnlessRefused : Option Refusal → Order → List (List ℕ) → SinkUse → Report → Type 0
+IsDoneUnlessRefused None order contents out report = IsDone order contents out report
+IsDoneUnlessRefused (Some WriteFault) order contents out report = IsDone order contents out report
+IsDoneUnlessRefused (Some refusal) order contents out report = IsNothing out report
 
 -- the answer to an order, over files whose contents are what the shelf tells of them
-pub record Answers (order : Order) (shelf : ShelfUse) (out : SinkUse) (report : Report) : Type 0 where
+pub record AnswersOrder (order : Order) (shelf : ShelfUse) (out : SinkUse) (report : Report) : Type 0 where
   pub contents : List (List ℕ)
-  pub held : AreHeld shelf.held (files_of order) contents
+  pub held : AreContentsOf shelf.held (files_of order) contents
   pub came : MayCome (files_of order) contents (ShelfFailed shelf) (SinkFailed out) report.refusal
-  pub done : HasDone report.refusal order contents out report
+  pub done : IsDoneUnlessRefused report.refusal order contents out report
 
 -- where words give no order, nothing is done
-abbrev pub IsAnswer : Option Order → ShelfUse → SinkUse → Report → Type 0
-IsAnswer None shelf out report = IsNothing out report
-IsAnswer (Some order) shelf out report = Answers order shelf out report
+abbrev pub AnswersWords : Option Order → ShelfUse → SinkUse → Report → Type 0
+AnswersWords None shelf out report = IsNothing out report
+AnswersWords (Some order) shelf out report = AnswersOrder order shelf out report
 
 -- work is there after a whole run, and after one whose text was not wholly written
-abbrev pub Runs : Order → Type 0
-Runs (Run serial stats script recording) = Unit {0}
-Runs (Check script recording) = ⊥
-Runs (Code script recording) = ⊥
-Runs (Gen x n) = ⊥
-Runs (Big x n) = Unit {0}
+abbrev pub IsRunOrder : Order → Type 0
+IsRunOrder (Run serial stats script recording) = Unit {0}
+IsRunOrder (Check script recording) = ⊥
+IsRunOrder (Code script recording) = ⊥
+IsRunOrder (Gen x n) = ⊥
+IsRunOrder (Big x n) = Unit {0}
 
 abbrev pub HasWork : Option Refusal → Option Order → Type 0
-HasWork None (Some order) = Runs order
-HasWork (Some WriteFault) (Some order) = Runs order
+HasWork None (Some order) = IsRunOrder order
+HasWork (Some WriteFault) (Some order) = IsRunOrder order
 HasWork refusal order = ⊥
 
 -- ---- what is told
 
 -- nothing is told at status 0, and else the line of the refusal
-abbrev pub Tells : List Named → Option Refusal → SinkUse → Type 0
-Tells files None err = Keeps err.taken err.taken_after
-Tells files (Some refusal) err = Writes err (refusal_pieces files refusal)
+abbrev pub TellsRefusal : List NamedFile → Option Refusal → SinkUse → Type 0
+TellsRefusal files None err = Keeps err.taken err.taken_after
+TellsRefusal files (Some refusal) err = Writes err (refusal_pieces files refusal)

@@ -1,7 +1,7 @@
 // The files that orders name.
 ghost use Rattle.std.specs.Prelude.{IfOk};
 ghost use Rattle.bt_meaning.specs.Jobs.{IsJob};
-ghost use Rattle.bt_top.specs.Doing.{Performs};
+ghost use Rattle.bt_top.specs.Doing.{ComesOfFiles};
 ghost use Rattle.bt_top.specs.Jobs.{IsJobFor};
 ghost use Rattle.bt_top.specs.Orders.{on_script};
 ghost use Rattle.bt_top.specs.Serve.{shelf_use};
@@ -21,7 +21,7 @@ pub(crate) fn read_job<S: Shelf>(
     shelf: &mut S,
 ) -> Result<Job, Refusal>
     ensures can_run { IfOk result (λ job. IsJob job.typed job.attached job.recording) }
-    ensures performs { Performs (on_script script.now recording.now) (IsJobFor (on_script script.now recording.now))
+    ensures performs { ComesOfFiles (on_script script.now recording.now) (IsJobFor (on_script script.now recording.now))
         (shelf_use S.held S.faults S.asked shelf.old shelf.new) result }
 {
     let text = match shelf.read(alloc, script, SCRIPT_BYTES) {

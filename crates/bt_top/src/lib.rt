@@ -14,3 +14,4 @@ pub mod serve;
 mod sizes;
 mod tasks;
 mod tell;
+mod work;

@@ -1,17 +1,17 @@
 // The orders that make their recording.
-ghost use Rattle.std.specs.Prelude.{◌≡◌, [], false, IfOk, IfErr, length};
+ghost use Rattle.std.specs.Prelude.{◌≡◌, [], IfOk, IfErr};
 ghost use Rattle.bt_meaning.specs.Jobs.{IsJob};
 ghost use Rattle.rec_format.specs.Recordings.{IsValidRecording};
 ghost use Rattle.rec_gen.specs.Made.{IsMade};
-ghost use Rattle.script_programs.specs.Programs.{KeepScript};
 ghost use Rattle.bt_words.specs.declared.order.Order.{Order};
 ghost use Rattle.bt_words.specs.Words.{AreBounded};
-ghost use Rattle.bt_top.specs.Jobs.{AsksFor, IsBigJob, IsWorkOf};
+ghost use Rattle.bt_top.specs.Jobs.{AsksFor, IsBigJob};
 ghost use Rattle.bt_top.specs.Outcomes.{ComesTo, summary_line};
 
 use crate::judge::script_job;
 use crate::outcome::Outcome;
 use crate::refusal::Refusal;
+use crate::work::run;
 use big_script::script::SCRIPT;
 use bt_core::items::Items;
 use bt_core::memory::Memory;
@@ -19,15 +19,14 @@ use itoa::Buffer;
 use rec_format::recording::Recording;
 use rec_format::writing::write_recording;
 use rec_gen::generate::generate;
-use run_base::job::{Job, Work};
+use run_base::job::Job;
 use std::alloc::Global;
 use std::sync::Wait;
 use std::thread::Threads;
-use thread_run::run::run_threads;
 use turn_lock::gate::Gate;
 
 /// The bytes of the recording of a seed and a count of events.
-pub(crate) fn generated(alloc: Global, x: u32, n: u32) -> Result<Outcome, Memory>
+pub(crate) fn gen_outcome(alloc: Global, x: u32, n: u32) -> Result<Outcome, Memory>
     requires { AreBounded x n }
     ensures { IfOk result (ComesTo (Order.Gen x n) []) }
 {
@@ -81,22 +80,8 @@ fn summary_line(alloc: Global, events: u32, steps: usize) -> Result<Items<u8>, M
     Ok(Items::of(line))
 }
 
-/// Runs a job with each CPU on a thread of its own.
-fn run_large<G: Gate + Sync, R: Threads + Wait + Sync>(
-    rt: &R,
-    alloc: Global,
-    job: &Job,
-    gate: &G,
-) -> Result<Work, Memory>
-    requires job { IsJob job.now.typed job.now.attached job.now.recording }
-    requires programs { KeepScript job.now.typed job.now.programs }
-    ensures { IfOk result (IsWorkOf false job.now) }
-{
-    run_threads(rt, alloc, job, gate)
-}
-
 /// Runs the built-in script over the recording of a seed and a count of events. Behind its text stands the summary of the run.
-pub(crate) fn large_run<G: Gate + Sync, R: Threads + Wait + Sync>(
+pub(crate) fn big_outcome<G: Gate + Sync, R: Threads + Wait + Sync>(
     rt: &R,
     alloc: Global,
     x: u32,
@@ -108,7 +93,7 @@ pub(crate) fn large_run<G: Gate + Sync, R: Threads + Wait + Sync>(
     ensures memory { IfErr result (λ refusal. refusal ≡ Refusal.Memory) }
 {
     let job = big_job(alloc, x, n)?;
-    let work = run_large(rt, alloc, &job, gate)?;
+    let work = run(rt, alloc, false, &job, gate)?;
     let rest = summary_line(alloc, n, work.steps.len())?;
     Ok(Outcome {
         work: Some(work),

@@ -3,7 +3,7 @@ ghost use Rattle.std.specs.Prelude.{◌≡◌, OnOk, OnErr};
 ghost use Rattle.std.specs.Io.KnownBytes.{Appends};
 ghost use Rattle.bt_io.specs.Faults.{Rose};
 ghost use Rattle.bt_io.specs.Taken.{AppendsPart};
-ghost use Rattle.bt_top.specs.Outcomes.{bytes_of, text_of};
+ghost use Rattle.bt_top.specs.Outcomes.{bytes_written, work_text};
 
 use bpf_codegen::generate::Program;
 use bt_core::items::Items;
@@ -20,8 +20,8 @@ pub(crate) struct Outcome {
 }
 
 /// The text of the work, where there is work.
-fn text_of(work: &Option<Work>) -> &[u8]
-    ensures { result.now ≡ text_of work.now }
+fn work_text(work: &Option<Work>) -> &[u8]
+    ensures { result.now ≡ work_text work.now }
 {
     match work {
         None => &[],
@@ -31,10 +31,10 @@ fn text_of(work: &Option<Work>) -> &[u8]
 
 /// Writes the bytes of an outcome, or a prefix of them where the sink fails.
 pub(crate) fn write_outcome<K: Sink>(out: &mut K, outcome: &Outcome) -> Result<(), SinkFailed>
-    ensures whole { OnOk result (Appends (K.taken out.old) (K.taken out.new) (bytes_of outcome.now)) }
-    ensures part { OnErr result (AppendsPart (K.taken out.old) (K.taken out.new) (bytes_of outcome.now)) }
+    ensures whole { OnOk result (Appends (K.taken out.old) (K.taken out.new) (bytes_written outcome.now)) }
+    ensures part { OnErr result (AppendsPart (K.taken out.old) (K.taken out.new) (bytes_written outcome.now)) }
     ensures failed { OnErr result (Rose (K.faults out.old) (K.faults out.new)) }
 {
-    write_all(out, text_of(&outcome.work))?;
+    write_all(out, work_text(&outcome.work))?;
     write_all(out, outcome.rest.as_slice())
 }

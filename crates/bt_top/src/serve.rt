@@ -5,8 +5,8 @@ ghost use Rattle.bt_top.specs.Headline.{Headline};
 ghost use Rattle.bt_top.specs.Lines.{SinkFailed, sink_use};
 ghost use Rattle.bt_top.specs.Orders.{files_in, files_of, names_of};
 ghost use Rattle.bt_top.specs.Refusals.{status_of};
-ghost use Rattle.bt_top.specs.Serve.{Answers, AsksExactly, AsksFirst, ComesIfDue, HasWork, IsAnswer, IsComplete};
-ghost use Rattle.bt_top.specs.Serve.{OnTold, ReadFailed, Tells, shelf_use};
+ghost use Rattle.bt_top.specs.Serve.{AnswersOrder, AsksExactly, AsksFirst, ComesIfDue, HasWork, AnswersWords, IsComplete};
+ghost use Rattle.bt_top.specs.Serve.{OnTold, ReadFailed, TellsRefusal, shelf_use};
 
 use crate::outcome::{Outcome, write_outcome};
 use crate::refusal::{Refusal, status_of};
@@ -48,7 +48,7 @@ fn perform<S: Shelf, K: Sink, G: Gate + Sync, R: Threads + Wait + Sync>(
     ensures known { result.refusal ≢ Some Refusal.Usage }
     ensures asked { AsksFirst (S.asked shelf.old) (S.asked shelf.new) (names_of (files_of order.now)) }
     ensures asked_exactly { AsksExactly (files_of order.now) result.refusal (shelf_use S.held S.faults S.asked shelf.old shelf.new) }
-    ensures answered { Answers order.now (shelf_use S.held S.faults S.asked shelf.old shelf.new)
+    ensures answered { AnswersOrder order.now (shelf_use S.held S.faults S.asked shelf.old shelf.new)
         (sink_use K.taken K.faults out.old out.new) result }
     ensures exact { OnTold (S.held shelf.old) (files_of order.now) (ComesIfDue (files_of order.now) result.refusal) }
     ensures worked { IsSome result.work ↔ HasWork result.refusal (Some order.now) }
@@ -117,7 +117,7 @@ pub fn serve<S: Shelf, K: Sink, E: Sink, G: Gate + Sync, R: Threads + Wait + Syn
     // What comes of an order is due to its files, or is a fault before which nothing was due; nothing is due to `gen` and `big`. At status 0 and
     // 5 there is what the order comes to: the work of a run, the programs of a run or a listing, one for each body, which keeps it, and the
     // bytes, which are appended to the output: whole at status 0, and a prefix of them after a fault of the write. Else nothing is.
-    ensures answered { IsAnswer (order_of words.now) (shelf_use S.held S.faults S.asked shelf.old shelf.new)
+    ensures answered { AnswersWords (order_of words.now) (shelf_use S.held S.faults S.asked shelf.old shelf.new)
         (sink_use K.taken K.faults out.old out.new) result }
     ensures exact { IfSome (order_of words.now) (λ order. OnTold (S.held shelf.old) (files_of order) (ComesIfDue (files_of order) result.refusal)) }
     ensures complete { IfSome (order_of words.now) (λ order. OnTold (S.held shelf.old) (files_of order)
@@ -134,7 +134,7 @@ pub fn serve<S: Shelf, K: Sink, E: Sink, G: Gate + Sync, R: Threads + Wait + Syn
         (sink_use K.taken K.faults out.old out.new) result }
 
     // The line of the refusal is appended to `err`, or a prefix of it where the count of its faults rose.
-    ensures told { Tells (files_in (order_of words.now)) result.refusal (sink_use E.taken E.faults err.old err.new) }
+    ensures told { TellsRefusal (files_in (order_of words.now)) result.refusal (sink_use E.taken E.faults err.old err.new) }
 {
     let order = match read_words(alloc, words) {
         Ok(order) => order,

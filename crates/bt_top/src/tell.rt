@@ -3,10 +3,10 @@ ghost use Rattle.std.specs.Prelude.{◌≡◌, ◌∷◌, [], codes};
 ghost use Rattle.rec_format.specs.declared.error.RecordingError.TheVariants as wrong;
 ghost use Rattle.bt_top.specs.declared.refusal.ScriptRefusal.TheVariants as refused;
 ghost use Rattle.bt_top.specs.Lines.{Writes, sink_use, Text, Number};
-ghost use Rattle.bt_top.specs.Refusals.{count_word, event_pieces, fault_pieces, format_pieces};
+ghost use Rattle.bt_top.specs.Refusals.{count_word, event_pieces, fault_pieces, broken_format_pieces};
 ghost use Rattle.bt_top.specs.Refusals.{recording_pieces, refusal_pieces, rule_text, script_fault_text, script_pieces};
 ghost use Rattle.bt_top.specs.Refusals.{size_in, unit_in, usage_pieces};
-ghost use Rattle.bt_top.specs.Orders.{files_of, name_of, on_script};
+ghost use Rattle.bt_top.specs.Orders.{files_of, operand_name, on_script};
 
 use crate::line::{Piece, write_line};
 use crate::refusal::{Operand, RecordingRefusal, Refusal, ScriptFault, ScriptRefusal};
@@ -98,7 +98,7 @@ fn unit_in(fault: ScriptFault) -> &'static str
 
 /// The one of two names that an operand has.
 fn one_of<'o>(script: &'o FileName, recording: &'o FileName, operand: Operand) -> &'o str
-    ensures { result.now ≡ name_of (on_script script.now recording.now) operand }
+    ensures { result.now ≡ operand_name (on_script script.now recording.now) operand }
 {
     match operand {
         Operand::Script => script.as_str(),
@@ -107,8 +107,8 @@ fn one_of<'o>(script: &'o FileName, recording: &'o FileName, operand: Operand) -
 }
 
 /// The name that an order gives an operand.
-fn name_of(order: &Order, operand: Operand) -> &str
-    ensures { result.now ≡ name_of (files_of order.now) operand }
+fn operand_name(order: &Order, operand: Operand) -> &str
+    ensures { result.now ≡ operand_name (files_of order.now) operand }
 {
     match order {
         Order::Run {
@@ -125,7 +125,7 @@ fn name_of(order: &Order, operand: Operand) -> &str
 
 /// Tells that the text of a format breaks a rule.
 fn tell_rule<E: Sink>(err: &mut E, name: &str, place: u32, rule: &'static str)
-    ensures { Writes (sink_use E.taken E.faults err.old err.new) (Text name.now ∷ Text (codes ": ") ∷ format_pieces place (Text rule.now ∷ [])) }
+    ensures { Writes (sink_use E.taken E.faults err.old err.new) (Text name.now ∷ Text (codes ": ") ∷ broken_format_pieces place (Text rule.now ∷ [])) }
 {
     let colon = Piece::Text(": ");
     let head = Piece::Text("C4 format ");
@@ -136,7 +136,7 @@ fn tell_rule<E: Sink>(err: &mut E, name: &str, place: u32, rule: &'static str)
 
 /// Tells that the text of a format breaks a rule in a line.
 fn tell_rule_at<E: Sink>(err: &mut E, name: &str, place: u32, rule: &'static str, line: u32)
-    ensures { Writes (sink_use E.taken E.faults err.old err.new) (Text name.now ∷ Text (codes ": ") ∷ format_pieces place (Text rule.now ∷ Number line ∷ [])) }
+    ensures { Writes (sink_use E.taken E.faults err.old err.new) (Text name.now ∷ Text (codes ": ") ∷ broken_format_pieces place (Text rule.now ∷ Number line ∷ [])) }
 {
     let name = Piece::Text(name);
     let colon = Piece::Text(": ");
@@ -309,10 +309,14 @@ pub(crate) fn tell<E: Sink>(err: &mut E, order: &Order, refusal: Refusal)
 {
     match refusal {
         Refusal::Usage => tell_usage(err),
-        Refusal::Script(why) => tell_script(err, name_of(order, Operand::Script), why),
-        Refusal::Recording(why) => tell_recording(err, name_of(order, Operand::Recording), why),
+        Refusal::Script(why) => tell_script(err, operand_name(order, Operand::Script), why),
+        Refusal::Recording(why) => tell_recording(
+            err,
+            operand_name(order, Operand::Recording),
+            why,
+        ),
         Refusal::ReadFault(operand) => {
-            let name = Piece::Text(name_of(order, operand));
+            let name = Piece::Text(operand_name(order, operand));
             write_line(err, &[name, Piece::Text(": read fault")])
         }
         Refusal::WriteFault => write_line(err, &[Piece::Text("write fault")]),

@@ -1,6 +1,6 @@
 use Rattle.std.proofs.Common.{inl, inr}
 use Rattle.bt_top.specs.Lines.{SinkUse, sink_use}
-use Rattle.bt_top.specs.Outcomes.{bytes_of}
+use Rattle.bt_top.specs.Outcomes.{bytes_written}
 use Rattle.bt_top.specs.Serve.{ShelfUse, shelf_use}
 use Rattle.bt_top.proofs.Answering.{Wrote}
 use Rattle.bt_top.proofs.Headlines.{AreRunLaws, done_headline, refused_headline}
@@ -23,7 +23,7 @@ returns-clause-headline g c =
       few = c.script_only_adds.ensures.few;
       totals = c.totals_are_exact.ensures;
     } in
-    let wrote : Wrote out c.match-write_outcome.refusal (bytes_of c.in-Ok.outcome) = elim c.match-write_outcome.branch [
+    let wrote : Wrote out c.match-write_outcome.refusal (bytes_written c.in-Ok.outcome) = elim c.match-write_outcome.branch [
       | in-Ok-write_outcome w ↦ inl (w.refusal-is, w.in-Ok-write_outcome.ensures.whole)
       | in-Err-write_outcome w ↦ inr (w.refusal-is, w.in-Err-write_outcome.ensures.failed, w.in-Err-write_outcome.ensures.part)
     ] in
