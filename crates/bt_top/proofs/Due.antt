@@ -22,6 +22,7 @@ use Rattle.bt_top.specs.Due.{IsRecording, IsAccepted, IsFirstRefusal, IsJudged}
 use Rattle.bt_top.specs.Jobs.{AsksFor, IsJobOf}
 use Rattle.bt_top.specs.Refusals.{recording_refusal}
 use Rattle.bt_top.specs.Script.{IsScriptFault}
+use Rattle.bt_top.proofs.Asked.{can_run, of_both}
 use Rattle.bt_top.proofs.Scripts.{AreScriptLaws, one_script_fault, no_script_fault}
 
 -- what the laws of the container, the lexer and the parser say of a script and a recording
@@ -114,6 +115,5 @@ pub jobs_can_run : (text bytes : List ℕ) (answer : Result Job Refusal)
     → ((tree : Tree) (typed : Typed) (attached : Attached) (r : Recorded) → IsValidRecording r → attach_fault tree r.formats r.start r.end ≡ None
     → IsAttachedTo tree r.formats r.start r.end attached → IsTypedScript tree r.formats attached.bodies typed → IsJob typed attached r)
     → IfOk answer (IsJobOf text bytes) → IfOk answer (λ job. IsJob job.typed job.attached job.recording)
-jobs_can_run text bytes (Ok job) law of =
-    law of.asks.tree job.typed job.attached job.recording of.is.valid of.asks.script.attached of.asks.attached of.asks.typed
+jobs_can_run text bytes (Ok job) law of = can_run job law (of_both text bytes job of)
 jobs_can_run text bytes (Err refusal) law of = tt

@@ -29,13 +29,14 @@ use Rattle.bt_top.specs.declared.outcome.Outcome.{Outcome}
 use Rattle.bt_top.specs.declared.refusal.Refusal.{Refusal}
 use Rattle.bt_top.specs.declared.refusal.Refusal.TheVariants.{Usage, Script, Recording, ReadFault, WriteFault, Memory}
 use Rattle.bt_top.specs.Headline.{Headline, PrintsItsSteps, PrintsItsTotals, PrintsOfFiles}
-use Rattle.bt_top.specs.Jobs.{IsBigJob, IsJobFor, IsWorkOf, meaning_of}
+use Rattle.bt_top.specs.Jobs.{IsBigJob, meaning_of}
 use Rattle.bt_top.specs.Lines.{SinkUse}
 use Rattle.bt_top.specs.Orders.{NamedFile, files_of}
 use Rattle.bt_top.specs.Outcomes.{ComesTo, IsOutcomeOfRun, bytes_written, stats_line, summary_line}
 use Rattle.bt_top.specs.Refusals.{status_of}
 use Rattle.bt_top.specs.Serve.{ShelfUse, AreContentsOf}
 use Rattle.bt_top.proofs.Answering.{Wrote, refused_report, report_of}
+use Rattle.bt_top.proofs.Asked.{can_run, of_files, of_numbers}
 use Rattle.bt_top.proofs.Making.{attached_over, typed_over}
 
 -- no refusal has status 0
@@ -75,16 +76,6 @@ pub record AreRunLaws : Type 0 where
       → EndsWithTotals script attached r steps
 
 module _ (laws : AreRunLaws) (seen : ShelfUse) (out : SinkUse) (outcome : Outcome) (refusal : Option Refusal) (wrote : Wrote out refusal (bytes_written outcome)) where
-  files_can_run : (files : List NamedFile) (contents : List (List ℕ)) (job : Job) → IsJobFor files contents job → IsJob job.typed job.attached job.recording
-  files_can_run files [] job is = absurd is.of
-  files_can_run files (text ∷ []) job is = absurd is.of
-  files_can_run files (text ∷ bytes ∷ more) job is =
-      laws.jobs is.of.asks.tree job.typed job.attached job.recording is.of.is.valid is.of.asks.script.attached is.of.asks.attached is.of.asks.typed
-
-  large_can_run : (x n : ℕ) (job : Job) → IsBigJob x n job → IsJob job.typed job.attached job.recording
-  large_can_run x n job of =
-      laws.jobs of.asks.tree job.typed job.attached job.recording of.valid of.asks.script.attached of.asks.attached of.asks.typed
-
   prints : (serial : Bool) (job : Job) (rest : Work → List ℕ) → IsJob job.typed job.attached job.recording → (run : IsOutcomeOfRun serial job rest outcome)
       → status_of refusal ≡ 0 → PrintsItsSteps job (rest run.work) out run.work
   prints serial job rest can run zero = record {
@@ -100,7 +91,7 @@ module _ (laws : AreRunLaws) (seen : ShelfUse) (out : SinkUse) (outcome : Outcom
   adds x n job of rest run =
       let over = typed_over of.asks.tree job.recording job.attached job.typed of.asks.script.has of.asks.attached of.asks.typed in
       record {
-        job = large_can_run x n job of;
+        job = can_run job laws.jobs (of_numbers x n job of);
         only_adds = laws.only x n job.recording job.typed of.made over;
         interleaving = run.done.replayed.interleaving;
         few_keys = λ m low. laws.few x n job.recording job.attached job.typed of.made
@@ -115,7 +106,7 @@ module _ (laws : AreRunLaws) (seen : ShelfUse) (out : SinkUse) (outcome : Outcom
         read = held;
         job = comes.0;
         accepted = comes.1;
-        prints = prints serial comes.0 (λ work. stats_line stats work.instructions) (files_can_run _ contents comes.0 comes.1) comes.2 zero;
+        prints = prints serial comes.0 (λ work. stats_line stats work.instructions) (can_run comes.0 laws.jobs (of_files _ contents comes.0 comes.1)) comes.2 zero;
       })
   done_headline (Check script recording) contents held comes = tt
   done_headline (Code script recording) contents held comes = tt
@@ -124,7 +115,7 @@ module _ (laws : AreRunLaws) (seen : ShelfUse) (out : SinkUse) (outcome : Outcom
       subst (λ (o : Outcome). IsSomeAnd o.work (PrintsItsTotals x n out)) (sym comes.2.is) (record {
         job = comes.0;
         of = comes.1;
-        prints = prints false comes.0 (λ work. summary_line n (length work.steps)) (large_can_run x n comes.0 comes.1) comes.2 zero;
+        prints = prints false comes.0 (λ work. summary_line n (length work.steps)) (can_run comes.0 laws.jobs (of_numbers x n comes.0 comes.1)) comes.2 zero;
         totals = laws.totals comes.0.typed comes.0.attached comes.0.recording comes.2.work.steps
             (adds x n comes.0 comes.1 (λ work. summary_line n (length work.steps)) comes.2);
       })

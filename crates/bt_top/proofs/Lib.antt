@@ -1,4 +1,5 @@
 mod Answering
+mod Asked
 mod Due
 mod Headlines
 mod LineLaws

@@ -23,6 +23,7 @@ use Rattle.rec_gen.specs.Made.{IsMade}
 use Rattle.bt_top.specs.Doing.{IsScriptRefusal}
 use Rattle.bt_top.specs.Jobs.{AsksFor, IsBigJob}
 use Rattle.bt_top.specs.Script.{HasTree, IsScriptFault, IsSizeFault}
+use Rattle.bt_top.proofs.Asked.{can_run, of_numbers}
 use Rattle.bt_top.proofs.Scripts.{AreScriptLaws, attach_apart, no_tree, type_apart}
 
 has_tree : (tree : Tree) → IsTree tree → HasTree SCRIPT tree
@@ -75,12 +76,9 @@ big_asked x n r (Ok job) made valid same asks = record {
 }
 big_asked x n r (Err refusal) made valid same asks = tt
 
-pub big_can_run : (r : Recorded) (answer : Result Job Refusal)
+pub big_can_run : (x n : ℕ) (answer : Result Job Refusal)
     → ((tree : Tree) (typed : Typed) (attached : Attached) (r : Recorded) → IsValidRecording r → attach_fault tree r.formats r.start r.end ≡ None
     → IsAttachedTo tree r.formats r.start r.end attached → IsTypedScript tree r.formats attached.bodies typed → IsJob typed attached r)
-    → IsValidRecording r → IfOk answer (λ job. job.recording ≡ r) → IfOk answer (AsksFor SCRIPT)
-    → IfOk answer (λ job. IsJob job.typed job.attached job.recording)
-big_can_run r (Ok job) law valid same asks =
-    law asks.tree job.typed job.attached job.recording (subst (λ (says : Recorded). IsValidRecording says) (sym same) valid)
-    asks.script.attached asks.attached asks.typed
-big_can_run r (Err refusal) law valid same asks = tt
+    → IfOk answer (IsBigJob x n) → IfOk answer (λ job. IsJob job.typed job.attached job.recording)
+big_can_run x n (Ok job) law of = can_run job law (of_numbers x n job of)
+big_can_run x n (Err refusal) law of = tt

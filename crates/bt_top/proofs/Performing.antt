@@ -1,11 +1,31 @@
 -- What an order comes to, from what comes of its files.
-use Rattle.std.proofs.Common.{◌≡◌, ℕ, ◌⊎◌, List, [], ◌∷◌, refl, sym, subst, inl, inr}
-use Rattle.std.specs.Prelude.{Option, Some, None, Result, Ok, Err, IfOk, IfErr, IfSome}
+use Rattle.std.proofs.Common.{◌≡◌, ℕ, ◌⊎◌, List, [], ◌∷◌, refl, sym, ap, subst, inl, inr}
+use Rattle.std.specs.Prelude.{Bool, Option, Some, None, Result, Ok, Err, IfOk, IfErr, IfSome}
+use Rattle.bpf_codegen.specs.declared.generate.Program.{Program}
+use Rattle.rec_format.specs.declared.recording.Recording.{Recording as Recorded}
+use Rattle.rec_format.specs.Recordings.{recording_bytes}
+use Rattle.run_base.specs.declared.job.Job.{Job}
+use Rattle.run_base.specs.declared.job.Work.{Work}
+use Rattle.bt_top.specs.declared.outcome.Outcome.{Outcome}
 use Rattle.bt_top.specs.declared.refusal.Refusal.{Refusal}
 use Rattle.bt_top.specs.declared.refusal.Refusal.TheVariants.{Memory}
 use Rattle.bt_top.specs.Doing.{ComesOfFiles}
+use Rattle.bt_top.specs.Jobs.{IsWorkOf}
 use Rattle.bt_top.specs.Orders.{NamedFile, names_of}
+use Rattle.bt_top.specs.Outcomes.{IsOutcomeOfRun, gen_outcome, run_outcome}
 use Rattle.bt_top.specs.Serve.{ShelfUse, AsksExactly, AsksFirst, ComesIfDue, IsComplete, OnTold}
+
+-- ---- outcomes
+
+-- the work of a job with what stands behind its text
+pub ran_with : (serial : Bool) (job : Job) (work : Work) (rest : Work → List ℕ) (line : List ℕ) → IsWorkOf serial job work → line ≡ rest work
+    → IsOutcomeOfRun serial job rest (run_outcome job work line)
+ran_with serial job work rest line done is = record { work = work; done = done; is = ap (λ (l : List ℕ). run_outcome job work l) is }
+
+-- the bytes of a recording, with no programs
+pub made_with : (says : Recorded) (programs : List Program) (rest : List ℕ) → programs ≡ [] → rest ≡ recording_bytes says
+    → ◌≡◌ {A = Outcome} (record { work = None; programs = programs; rest = rest }) (gen_outcome says)
+made_with says programs rest none spelled = λ i. record { work = None; programs = none i; rest = spelled i }
 
 -- ---- of all files alike
 

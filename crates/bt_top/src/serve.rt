@@ -12,7 +12,7 @@ use crate::outcome::{Outcome, write_outcome};
 use crate::refusal::{Refusal, status_of};
 use crate::report::{Report, refused};
 use crate::tasks::outcome_of;
-use crate::tell::{tell, tell_memory, tell_usage};
+use crate::tell::{tell_memory, tell_refusal, tell_usage};
 use bt_io::shelf::Shelf;
 use bt_io::sink::Sink;
 use bt_words::order::{Order, WordsError};
@@ -148,8 +148,6 @@ pub fn serve<S: Shelf, K: Sink, E: Sink, G: Gate + Sync, R: Threads + Wait + Syn
         }
     };
     let report = perform(rt, alloc, &order, shelf, out, gate);
-    if let Some(refusal) = report.refusal {
-        tell(err, &order, refusal);
-    }
+    tell_refusal(err, &order, report.refusal);
     report
 }

@@ -6,7 +6,8 @@ ghost use Rattle.bt_top.specs.Lines.{Writes, sink_use, Text, Number};
 ghost use Rattle.bt_top.specs.Refusals.{count_word, event_pieces, fault_pieces, broken_format_pieces};
 ghost use Rattle.bt_top.specs.Refusals.{recording_pieces, refusal_pieces, rule_text, script_fault_text, script_pieces};
 ghost use Rattle.bt_top.specs.Refusals.{size_in, unit_in, usage_pieces};
-ghost use Rattle.bt_top.specs.Orders.{files_of, operand_name, on_script};
+ghost use Rattle.bt_top.specs.Orders.{files_of, on_script, operand_name};
+ghost use Rattle.bt_top.specs.Serve.{TellsRefusal};
 
 use crate::line::{Piece, write_line};
 use crate::refusal::{Operand, RecordingRefusal, Refusal, ScriptFault, ScriptRefusal};
@@ -304,7 +305,7 @@ pub(crate) fn tell_memory<E: Sink>(err: &mut E)
 }
 
 /// Tells a refusal of an order.
-pub(crate) fn tell<E: Sink>(err: &mut E, order: &Order, refusal: Refusal)
+fn tell<E: Sink>(err: &mut E, order: &Order, refusal: Refusal)
     ensures { Writes (sink_use E.taken E.faults err.old err.new) (refusal_pieces (files_of order.now) refusal) }
 {
     match refusal {
@@ -321,5 +322,15 @@ pub(crate) fn tell<E: Sink>(err: &mut E, order: &Order, refusal: Refusal)
         }
         Refusal::WriteFault => write_line(err, &[Piece::Text("write fault")]),
         Refusal::Memory => tell_memory(err),
+    }
+}
+
+/// Tells why an order was refused, where it was.
+pub(crate) fn tell_refusal<E: Sink>(err: &mut E, order: &Order, refusal: Option<Refusal>)
+    ensures { TellsRefusal (files_of order.now) refusal (sink_use E.taken E.faults err.old err.new) }
+{
+    match refusal {
+        None => (),
+        Some(refusal) => tell(err, order, refusal),
     }
 }
