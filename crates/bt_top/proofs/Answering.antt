@@ -1,7 +1,8 @@
 -- What a call answers, from what its order comes to and from how that is written.
 use Rattle.std.proofs.Common.{◌≡◌, ◌≢◌, ℕ, ◌⊎◌, List, [], ◌∷◌, refl, sym, ap, subst, ◌∙◌, arith, inl, inr}
-use Rattle.std.specs.Prelude.{◌↔◌, Option, Some, None, Result, Ok, Err, IfSome, IsSome, OnOk, OnErr, unwrap_or}
+use Rattle.std.specs.Prelude.{◌↔◌, Bool, false, Option, Some, None, Result, Ok, Err, IfSome, IsSome, OnOk, OnErr, unwrap_or}
 use Rattle.std.specs.Io.KnownBytes.{Appends, Keeps}
+use Rattle.std.proofs.lemmas.Bool.{false≢true}
 use Rattle.bt_io.specs.Taken.{AppendsPart}
 use Rattle.bt_words.specs.declared.order.Order.{Order}
 use Rattle.bt_words.specs.declared.order.Order.TheVariants.{Run, Check, Code, Gen, Big}
@@ -18,7 +19,7 @@ use Rattle.bt_top.specs.Due.{AreShort, IsDue, IsFinding, IsTooLong}
 use Rattle.bt_top.specs.Jobs.{IsJobFor}
 use Rattle.bt_top.specs.Lines.{SinkUse, SinkFailed}
 use Rattle.bt_top.specs.Orders.{NamedFile, files_in, files_of, names_of}
-use Rattle.bt_top.specs.Outcomes.{ComesTo, bytes_written}
+use Rattle.bt_top.specs.Outcomes.{ComesTo, IsOutcomeOfRun, bytes_written, check_outcome, code_outcome, gen_outcome}
 use Rattle.bt_top.specs.Refusals.{status_of, too_long}
 use Rattle.bt_top.specs.Serve.{ShelfUse, ShelfFailed, AreContentsOf, MayCome, MayStandFor, ComesIfDue, OnTold, IsReached, ReadFailed, IsComplete}
 use Rattle.bt_top.specs.Serve.{IsWritten, IsDone, IsDoneUnlessRefused, AnswersOrder, AnswersWords, IsRunOrder, HasWork}
@@ -58,18 +59,18 @@ due held (Gen x n) contents outcome are comes = nothing_is_due held contents are
 due held (Big x n) contents outcome are comes = nothing_is_due held contents are
 
 -- work is there exactly of a run
-no_work : (outcome other : Outcome) → outcome ≡ other → other.work ≡ None → IsSome outcome.work → ⊥
-no_work outcome other is none some = none_is_not (subst (λ (o : Outcome). IsSome o.work) is some) none
-  where
-    none_is_not : {A : Type 0} {o : Option A} → IsSome o → o ≡ None → ⊥
-    none_is_not some none = cc
+same_work : (outcome other : Outcome) → outcome ≡ other → IsSome outcome.work → IsSome other.work
+same_work outcome other is some = subst (λ (o : Outcome). IsSome o.work) is some
+
+ran : (serial : Bool) (job : Job) (rest : Work → List ℕ) (outcome : Outcome) → IsOutcomeOfRun serial job rest outcome → IsSome outcome.work
+ran serial job rest outcome run = subst (λ (o : Outcome). IsSome o.work) (sym run.is) refl
 
 runs : (order : Order) (contents : List (List ℕ)) (outcome : Outcome) → ComesTo order contents outcome → IsSome outcome.work ↔ IsRunOrder order
-runs (Run serial stats script recording) contents outcome comes = (λ some. tt, λ is. subst (λ (o : Outcome). IsSome o.work) (sym comes.2.is) refl)
-runs (Check script recording) contents outcome comes = (λ some. absurd (no_work outcome _ comes.2 refl some), λ is. absurd is)
-runs (Code script recording) contents outcome comes = (λ some. absurd (no_work outcome _ comes.2 refl some), λ is. absurd is)
-runs (Gen x n) contents outcome comes = (λ some. absurd (no_work outcome _ comes.2 refl some), λ is. absurd is)
-runs (Big x n) contents outcome comes = (λ some. tt, λ is. subst (λ (o : Outcome). IsSome o.work) (sym comes.2.is) refl)
+runs (Run serial stats script recording) contents outcome comes = (λ some. tt, λ is. ran serial comes.0 _ outcome comes.2)
+runs (Check script recording) contents outcome comes = (λ some. absurd (false≢true (same_work outcome check_outcome comes.2 some)), λ is. absurd is)
+runs (Code script recording) contents outcome comes = (λ some. absurd (false≢true (same_work outcome (code_outcome comes.0) comes.2 some)), λ is. absurd is)
+runs (Gen x n) contents outcome comes = (λ some. absurd (false≢true (same_work outcome (gen_outcome comes.0) comes.2 some)), λ is. absurd is)
+runs (Big x n) contents outcome comes = (λ some. tt, λ is. ran false comes.0 _ outcome comes.2)
 
 module _ (order : Order) (seen : ShelfUse) (out : SinkUse) (outcome : Outcome) (performs : ComesOfFiles (files_of order) (ComesTo order) seen (Ok outcome)) where
   is_done : (refusal : Option Refusal) → IsWritten out refusal (bytes_written outcome) → IsDone order performs.reads.contents out (report_of refusal outcome)
