@@ -12,7 +12,7 @@ import statistics
 import sys
 import tempfile
 
-from serial import PROGRAM, SCRIPTS, recording
+from serial import PROGRAM, SCRIPTS, make
 
 WAYS = [["check"], ["run", "--serial"], ["run"]]
 
@@ -56,8 +56,7 @@ def main():
         sys.exit("build the program first: ./btreplay")
     with tempfile.TemporaryDirectory() as folder:
         path, source = os.path.join(folder, "r.btr"), os.path.join(folder, "s.bt")
-        with open(path, "wb") as file:
-            file.write(recording(events))
+        make(path, events)
         print(f"{'command':32}{'other s':>9}{'this s':>9}{'ratio':>8}{'other MB':>10}{'this MB':>9}")
         for name, script in SCRIPTS:
             with open(source, "w") as file:

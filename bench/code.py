@@ -14,7 +14,7 @@ import sys
 import tempfile
 import time
 
-from serial import PROGRAM, SCRIPTS, recording
+from serial import PROGRAM, SCRIPTS, make
 
 WAYS = [["check"], ["run", "--serial"], ["run"]]
 
@@ -53,8 +53,7 @@ def main():
         sys.exit("build the program first: ./btreplay")
     with tempfile.TemporaryDirectory() as folder:
         path, source = os.path.join(folder, "r.bin"), os.path.join(folder, "s.bt")
-        with open(path, "wb") as file:
-            file.write(recording(events))
+        make(path, events)
         print(f"{'script':16}{'command':16}{'other s':>9}{'this s':>9}{'ratio':>8}{'instructions':>14}{'million a second':>18}")
         for name, script in SCRIPTS:
             with open(source, "w") as file:

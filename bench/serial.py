@@ -7,6 +7,7 @@ at most 1,048,576 (the limit of a recording), and runs `check` and `run --serial
 seconds and the greatest memory in MB; for the runs the ratio of the medians, the least and the greatest ratio of a run to the `check`
 before it, and the bytes of memory for each event beside what `check` needs.
 """
+import multiprocessing
 import os
 import random
 import statistics
@@ -55,6 +56,22 @@ def recording(events, seed=7):
     return b"".join(out)
 
 
+def write(path, events):
+    """Writes a recording of so many events to a file."""
+    with open(path, "wb") as file:
+        file.write(recording(events))
+
+
+def make(path, events):
+    """Makes the file of a recording of so many events in a process of its own: what the system tells of a program's greatest memory
+    begins with what the process that starts it needed at most."""
+    maker = multiprocessing.Process(target=write, args=(path, events))
+    maker.start()
+    maker.join()
+    if maker.exitcode != 0:
+        sys.exit("the recording could not be made")
+
+
 def measured(words):
     """The wall time in seconds and the greatest memory in kilobytes of a run of the program."""
     began = time.monotonic()
@@ -92,8 +109,7 @@ def main():
               f"{'check MB':>10}{'run MB':>8}{'bytes an event':>16}")
         for count in (events, min(2 * events, 1_048_576)):
             path = os.path.join(folder, f"{count}.bin")
-            with open(path, "wb") as file:
-                file.write(recording(count))
+            make(path, count)
             for name, script in SCRIPTS:
                 source = os.path.join(folder, "s.bt")
                 with open(source, "w") as file:

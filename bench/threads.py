@@ -11,7 +11,7 @@ import statistics
 import sys
 import tempfile
 
-from serial import PROGRAM, SCRIPTS, measured, recording
+from serial import PROGRAM, SCRIPTS, make, measured
 
 WAYS = [["check"], ["run", "--serial"], ["run"]]
 
@@ -33,8 +33,7 @@ def main():
         sys.exit("build the program first: ./btreplay")
     with tempfile.TemporaryDirectory() as folder:
         path = os.path.join(folder, "r.bin")
-        with open(path, "wb") as file:
-            file.write(recording(events))
+        make(path, events)
         print(f"{'script':16}{'check s':>9}{'serial s':>10}{'threads s':>11}{'ratio':>8}{'serial MB':>11}{'threads MB':>12}")
         for name, script in SCRIPTS:
             source = os.path.join(folder, "s.bt")

@@ -2,13 +2,14 @@
 use Rattle.std.specs.Prelude.{ℕ, ℤ, ◌++◌, List, [], ◌∷◌, Option, Some, None, codes, decimal, cond, nat_eq}
 use Rattle.std.specs.Int.{w64, cast_unsigned}
 use Rattle.bt_core.specs.declared.operator.BinOp.{BinOp}
-use Rattle.bt_core.specs.declared.operator.BinOp.TheVariants.{Add, Sub, Mul, Div, Mod, Shl, Shr, BitAnd, BitOr, BitXor, Eq, Ne, Lt, Le, Gt, Ge}
+use Rattle.bt_core.specs.declared.operator.BinOp.TheVariants.{Sub}
 use Rattle.bt_core.specs.declared.operator.UnOp.{UnOp}
 use Rattle.bt_core.specs.declared.operator.UnOp.TheVariants.{Neg, LogNot, BitNot}
 use Rattle.bt_ast.specs.declared.expr.Builtin.{Builtin}
-use Rattle.bt_ast.specs.declared.expr.Builtin.TheVariants.{Pid, Tid, Uid, Gid, Comm, Cpu, Nsecs, Elapsed}
 use Rattle.bt_ast.specs.declared.probe.Unit.{Unit as TimeUnit}
 use Rattle.bt_ast.specs.declared.probe.Unit.TheVariants.{S, Ms, Us, Hz}
+use Rattle.bt_grammar.specs.declared.class.Class.TheVariants.{BuiltinWord, Operator, Tilde, Bang}
+use Rattle.bt_grammar.specs.Words.{word_of, mark_of}
 
 -- a token, and a blank after it
 abbrev pub token : List ℕ → List ℕ
@@ -39,37 +40,15 @@ abbrev pub quoted_text : List ℕ → List ℕ
 quoted_text text = codes "\"" ++ (quoted_bytes text ++ token (codes "\""))
 
 abbrev pub builtin_word : Builtin → List ℕ
-builtin_word Pid = codes "pid"
-builtin_word Tid = codes "tid"
-builtin_word Uid = codes "uid"
-builtin_word Gid = codes "gid"
-builtin_word Comm = codes "comm"
-builtin_word Cpu = codes "cpu"
-builtin_word Nsecs = codes "nsecs"
-builtin_word Elapsed = codes "elapsed"
+builtin_word builtin = word_of (BuiltinWord builtin)
 
 abbrev pub unary_mark : UnOp → List ℕ
-unary_mark Neg = codes "-"
-unary_mark LogNot = codes "!"
-unary_mark BitNot = codes "~"
+unary_mark Neg = mark_of (Operator Sub)
+unary_mark LogNot = mark_of Bang
+unary_mark BitNot = mark_of Tilde
 
 abbrev pub binary_mark : BinOp → List ℕ
-binary_mark Add = codes "+"
-binary_mark Sub = codes "-"
-binary_mark Mul = codes "*"
-binary_mark Div = codes "/"
-binary_mark Mod = codes "%"
-binary_mark Shl = codes "<<"
-binary_mark Shr = codes ">>"
-binary_mark BitAnd = codes "&"
-binary_mark BitOr = codes "|"
-binary_mark BitXor = codes "^"
-binary_mark Eq = codes "=="
-binary_mark Ne = codes "!="
-binary_mark Lt = codes "<"
-binary_mark Le = codes "<="
-binary_mark Gt = codes ">"
-binary_mark Ge = codes ">="
+binary_mark op = mark_of (Operator op)
 
 -- `=`, or the operator before it
 abbrev pub assign_mark : Option BinOp → List ℕ

@@ -6,6 +6,8 @@ use bt_ast::expr::Builtin;
 use bt_ast::probe::Unit;
 use bt_core::memory::Memory;
 use bt_core::operator::{BinOp, UnOp};
+use bt_grammar::class::Class;
+use bt_grammar::words::{mark_of, word_of};
 use itoa::Buffer;
 
 /// Writes a token and a blank after it.
@@ -72,16 +74,7 @@ pub(crate) fn write_quoted(out: &mut Vec<u8>, text: &[u8]) -> Result<(), Memory>
 pub(crate) fn builtin_word(builtin: Builtin) -> &'static [u8]
     ensures { result.now ≡ builtin_word builtin }
 {
-    match builtin {
-        Builtin::Pid => b"pid",
-        Builtin::Tid => b"tid",
-        Builtin::Uid => b"uid",
-        Builtin::Gid => b"gid",
-        Builtin::Comm => b"comm",
-        Builtin::Cpu => b"cpu",
-        Builtin::Nsecs => b"nsecs",
-        Builtin::Elapsed => b"elapsed",
-    }
+    word_of(Class::BuiltinWord(builtin))
 }
 
 /// The mark of an operator before its operand.
@@ -89,9 +82,9 @@ pub(crate) fn unary_mark(op: UnOp) -> &'static [u8]
     ensures { result.now ≡ unary_mark op }
 {
     match op {
-        UnOp::Neg => b"-",
-        UnOp::LogNot => b"!",
-        UnOp::BitNot => b"~",
+        UnOp::Neg => mark_of(Class::Operator(BinOp::Sub)),
+        UnOp::LogNot => mark_of(Class::Bang),
+        UnOp::BitNot => mark_of(Class::Tilde),
     }
 }
 
@@ -99,24 +92,7 @@ pub(crate) fn unary_mark(op: UnOp) -> &'static [u8]
 pub(crate) fn binary_mark(op: BinOp) -> &'static [u8]
     ensures { result.now ≡ binary_mark op }
 {
-    match op {
-        BinOp::Add => b"+",
-        BinOp::Sub => b"-",
-        BinOp::Mul => b"*",
-        BinOp::Div => b"/",
-        BinOp::Mod => b"%",
-        BinOp::Shl => b"<<",
-        BinOp::Shr => b">>",
-        BinOp::BitAnd => b"&",
-        BinOp::BitOr => b"|",
-        BinOp::BitXor => b"^",
-        BinOp::Eq => b"==",
-        BinOp::Ne => b"!=",
-        BinOp::Lt => b"<",
-        BinOp::Le => b"<=",
-        BinOp::Gt => b">",
-        BinOp::Ge => b">=",
-    }
+    mark_of(Class::Operator(op))
 }
 
 /// Writes `=`, or the operator before it.

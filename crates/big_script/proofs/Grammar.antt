@@ -24,6 +24,7 @@ use Rattle.bt_grammar.specs.Refusals.{IsAccepted, NoDepthFault}
 use Rattle.bt_grammar.specs.Tokens.{items}
 use Rattle.bt_grammar.specs.Trees.{expr, stmt, block_of, place_of_map}
 use Rattle.bt_grammar.specs.Weights.{weight, level_weight, levels_behind, levels_from}
+use Rattle.bt_grammar.specs.Words.{word_class, mark_class}
 use Rattle.bt_grammar.proofs.Decide.{accepted}
 use Rattle.bt_grammar.proofs.Scripts.{whole_end}
 use Rattle.big_script.proofs.Tokens.{the_tokens}
@@ -65,7 +66,7 @@ abbrev pub the_items : List Item
 the_items = items the_tokens
 
 one_probe : probes_read 1 the_items ≡ Done (the_probe ∷ []) []
-unfolding reads
+unfolding reads word_class mark_class
 one_probe = refl
 
 tree : Tree the_items (the_probe ∷ [])
@@ -91,6 +92,7 @@ light_at levels (t ∷ ts) (suc n) h within =
     (light_at (levels_behind t.class levels) ts n parts.1 (omega (arith, within)))
 
 all_light : is_light (0 ∷ []) the_items ≡ true
+unfolding word_class mark_class
 all_light = refl
 
 shallow : NoDepthFault the_items

@@ -8,6 +8,7 @@ use Rattle.bt_grammar.specs.Form.{WholeScript}
 use Rattle.bt_grammar.specs.Grammar.{Tree, Answer}
 use Rattle.bt_grammar.specs.Reading.{Done, read_at}
 use Rattle.bt_grammar.specs.Tokens.{items}
+use Rattle.bt_grammar.specs.Words.{word_class, mark_class}
 use Rattle.bt_grammar.proofs.Depth.{exact}
 use Rattle.bt_lexer.specs.declared.token.Token.{Token}
 use Rattle.bt_lexer.proofs.Results.{one_list}
@@ -24,6 +25,7 @@ use Rattle.big_script.proofs.Tokens.{the_tokens, lexes}
 use Rattle.big_script.proofs.Typed.{IsTyped, typed_script}
 
 whole_read : read_at 40 WholeScript the_items ≡ Done (the_probe ∷ []) []
+unfolding word_class mark_class
 whole_read = refl
 
 answer : Answer the_items (Done (the_probe ∷ []) [])

@@ -1,6 +1,6 @@
 -- Which kinds the tokens of a class have.
-use Rattle.std.proofs.Common.{◌≡◌, ℕ, Bool, true, false, cond, List, Option, Some, None, refl, ap, sym, ◌∙◌, arith}
-use Rattle.std.specs.Prelude.{codes, nat_lt, nat_eq, bytes_eq}
+use Rattle.std.proofs.Common.{◌≡◌, ℕ, Bool, true, false, cond, List, ◌∷◌, Option, Some, None, refl, ap, sym, ◌∙◌, arith}
+use Rattle.std.specs.Prelude.{nat_lt, nat_eq, bytes_eq, not, []}
 use Rattle.std.proofs.lemmas.Bool.{false≢true}
 use Rattle.std.proofs.lemmas.Bool.Decides.{nat_tests}
 use Rattle.bt_lexer.specs.declared.token.TokenKind.{TokenKind}
@@ -8,24 +8,20 @@ use Rattle.bt_lexer.specs.declared.token.TokenKind.TheVariants as kinds
 use Rattle.bt_ast.specs.declared.probe.Point.{Point}
 use Rattle.bt_ast.specs.declared.probe.Point.TheVariants as points
 use Rattle.bt_grammar.specs.declared.class.Class.{Class}
-use Rattle.bt_grammar.specs.declared.class.Class.TheVariants.{BeginWord, EndWord, IfWord, ElseWord, WhileWord, UnrollWord, CountWord, SumWord, MinWord, MaxWord, AvgWord, HistWord, LhistWord, PrintfWord, PrintWord, ClearWord, ZeroWord, DeleteWord, ExitWord, BreakWord, ContinueWord, ReturnWord, PidWord, TidWord, UidWord, GidWord, CommWord, CpuWord, NsecsWord, ElapsedWord, ArgsWord, OtherWord, TracepointPoint, IntervalPoint, MapName, VarName, NumberLiteral, TextLiteral, ShlAssign, ShrAssign, Increment, Decrement, AddAssign, SubAssign, MulAssign, DivAssign, ModAssign, AndAssign, OrAssign, XorAssign, ShlMark, ShrMark, LessOrEqual, GreaterOrEqual, EqualMark, NotEqualMark, AndAnd, OrOr, Arrow, OpenBrace, CloseBrace, OpenParen, CloseParen, OpenBracket, CloseBracket, Comma, Semicolon, Dot, Assign, Plus, Minus, Star, Slash, Percent, Ampersand, Bar, Caret, Tilde, Bang, Less, Greater, Question, Colon, Foreign}
+use Rattle.bt_grammar.specs.declared.class.Class.TheVariants.{BuiltinWord, GatherWord, Operator, UpdateMark, OtherWord, TracepointPoint, IntervalPoint, MapName, VarName, NumberLiteral, TextLiteral, Foreign}
 use Rattle.bt_grammar.specs.Attach.{attach_point}
 use Rattle.bt_grammar.specs.Classes.{class_number, is_word}
-use Rattle.bt_grammar.specs.Tokens.{word_class, mark_class, point_class, class_of, origin}
+use Rattle.bt_grammar.specs.Tokens.{point_class, class_of, origin}
+use Rattle.bt_grammar.specs.Words.{words, marks, class_in, word_class, mark_class}
+use Rattle.bt_grammar.proofs.AllClasses.{passes_all, and_first, and_second, implies1}
 use Rattle.bt_grammar.specs.Trees.{kind_bytes, kind_number}
 
-record Passes (P : Class → Bool) (c : Class) : Type 0 where
-  passes : P c ≡ true
-
-last : (P : Class → Bool) (c : Class) → P c ≡ true → Passes P c
-last P c h = record { passes = h }
-
-either : (P : Class → Bool) (b : Bool) (x : Class) {y : Class} → P x ≡ true → Passes P y → Passes P (cond b x y)
-either P true x h k = record { passes = h }
-either P false x h k = k
-
 abbrev pub is_mark : Class → Bool
-is_mark c = nat_lt 37 (class_number c)
+is_mark (Operator op) = true
+is_mark (UpdateMark op) = true
+is_mark (BuiltinWord builtin) = false
+is_mark (GatherWord gathering) = false
+is_mark c = nat_lt 24 (class_number c)
 
 abbrev pub is_attach : Class → Bool
 is_attach TracepointPoint = true
@@ -33,17 +29,23 @@ is_attach IntervalPoint = true
 is_attach Foreign = true
 is_attach _ = false
 
-words_pass : (w : List ℕ) → Passes is_word (word_class w)
-words_pass w = either is_word (bytes_eq w (codes "BEGIN")) BeginWord refl (either is_word (bytes_eq w (codes "END")) EndWord refl (either is_word (bytes_eq w (codes "if")) IfWord refl (either is_word (bytes_eq w (codes "else")) ElseWord refl (either is_word (bytes_eq w (codes "while")) WhileWord refl (either is_word (bytes_eq w (codes "unroll")) UnrollWord refl (either is_word (bytes_eq w (codes "count")) CountWord refl (either is_word (bytes_eq w (codes "sum")) SumWord refl (either is_word (bytes_eq w (codes "min")) MinWord refl (either is_word (bytes_eq w (codes "max")) MaxWord refl (either is_word (bytes_eq w (codes "avg")) AvgWord refl (either is_word (bytes_eq w (codes "hist")) HistWord refl (either is_word (bytes_eq w (codes "lhist")) LhistWord refl (either is_word (bytes_eq w (codes "printf")) PrintfWord refl (either is_word (bytes_eq w (codes "print")) PrintWord refl (either is_word (bytes_eq w (codes "clear")) ClearWord refl (either is_word (bytes_eq w (codes "zero")) ZeroWord refl (either is_word (bytes_eq w (codes "delete")) DeleteWord refl (either is_word (bytes_eq w (codes "exit")) ExitWord refl (either is_word (bytes_eq w (codes "break")) BreakWord refl (either is_word (bytes_eq w (codes "continue")) ContinueWord refl (either is_word (bytes_eq w (codes "return")) ReturnWord refl (either is_word (bytes_eq w (codes "pid")) PidWord refl (either is_word (bytes_eq w (codes "tid")) TidWord refl (either is_word (bytes_eq w (codes "uid")) UidWord refl (either is_word (bytes_eq w (codes "gid")) GidWord refl (either is_word (bytes_eq w (codes "comm")) CommWord refl (either is_word (bytes_eq w (codes "cpu")) CpuWord refl (either is_word (bytes_eq w (codes "nsecs")) NsecsWord refl (either is_word (bytes_eq w (codes "elapsed")) ElapsedWord refl (either is_word (bytes_eq w (codes "args")) ArgsWord refl (last is_word OtherWord refl)))))))))))))))))))))))))))))))
+-- ---- what is found in a list is of one of its rows
+
+found_passes : (P : Class → Bool) (rows : List (List ℕ × Class)) (text : List ℕ) (other : Class) → passes_all (λ (row : List ℕ × Class). P row.1) rows ≡ true → P other ≡ true → P (class_in rows text other) ≡ true
+found_passes P [] text other h k = k
+found_passes P (row ∷ rows) text other h k = by (bytes_eq row.0 text) (found_passes P rows text other (and_second (P row.1) (passes_all (λ (row : List ℕ × Class). P row.1) rows) h) k)
+  where
+    by : (b : Bool) → P (class_in rows text other) ≡ true → P (cond b row.1 (class_in rows text other)) ≡ true
+    by true rest = and_first (P row.1) (passes_all (λ (row : List ℕ × Class). P row.1) rows) h
+    by false rest = rest
 
 pub word_is_word : (w : List ℕ) → is_word (word_class w) ≡ true
-word_is_word w = (words_pass w).passes
-
-marks_pass : (m : List ℕ) → Passes is_mark (mark_class m)
-marks_pass m = either is_mark (bytes_eq m (codes "<<=")) ShlAssign refl (either is_mark (bytes_eq m (codes ">>=")) ShrAssign refl (either is_mark (bytes_eq m (codes "++")) Increment refl (either is_mark (bytes_eq m (codes "--")) Decrement refl (either is_mark (bytes_eq m (codes "+=")) AddAssign refl (either is_mark (bytes_eq m (codes "-=")) SubAssign refl (either is_mark (bytes_eq m (codes "*=")) MulAssign refl (either is_mark (bytes_eq m (codes "/=")) DivAssign refl (either is_mark (bytes_eq m (codes "%=")) ModAssign refl (either is_mark (bytes_eq m (codes "&=")) AndAssign refl (either is_mark (bytes_eq m (codes "|=")) OrAssign refl (either is_mark (bytes_eq m (codes "^=")) XorAssign refl (either is_mark (bytes_eq m (codes "<<")) ShlMark refl (either is_mark (bytes_eq m (codes ">>")) ShrMark refl (either is_mark (bytes_eq m (codes "<=")) LessOrEqual refl (either is_mark (bytes_eq m (codes ">=")) GreaterOrEqual refl (either is_mark (bytes_eq m (codes "==")) EqualMark refl (either is_mark (bytes_eq m (codes "!=")) NotEqualMark refl (either is_mark (bytes_eq m (codes "&&")) AndAnd refl (either is_mark (bytes_eq m (codes "||")) OrOr refl (either is_mark (bytes_eq m (codes "->")) Arrow refl (either is_mark (bytes_eq m (codes "{")) OpenBrace refl (either is_mark (bytes_eq m (codes "}")) CloseBrace refl (either is_mark (bytes_eq m (codes "(")) OpenParen refl (either is_mark (bytes_eq m (codes ")")) CloseParen refl (either is_mark (bytes_eq m (codes "[")) OpenBracket refl (either is_mark (bytes_eq m (codes "]")) CloseBracket refl (either is_mark (bytes_eq m (codes ",")) Comma refl (either is_mark (bytes_eq m (codes ";")) Semicolon refl (either is_mark (bytes_eq m (codes ".")) Dot refl (either is_mark (bytes_eq m (codes "=")) Assign refl (either is_mark (bytes_eq m (codes "+")) Plus refl (either is_mark (bytes_eq m (codes "-")) Minus refl (either is_mark (bytes_eq m (codes "*")) Star refl (either is_mark (bytes_eq m (codes "/")) Slash refl (either is_mark (bytes_eq m (codes "%")) Percent refl (either is_mark (bytes_eq m (codes "&")) Ampersand refl (either is_mark (bytes_eq m (codes "|")) Bar refl (either is_mark (bytes_eq m (codes "^")) Caret refl (either is_mark (bytes_eq m (codes "~")) Tilde refl (either is_mark (bytes_eq m (codes "!")) Bang refl (either is_mark (bytes_eq m (codes "<")) Less refl (either is_mark (bytes_eq m (codes ">")) Greater refl (either is_mark (bytes_eq m (codes "?")) Question refl (either is_mark (bytes_eq m (codes ":")) Colon refl (last is_mark Foreign refl)))))))))))))))))))))))))))))))))))))))))))))
+unfolding word_class
+word_is_word w = found_passes is_word words w OtherWord refl refl
 
 pub mark_is_mark : (m : List ℕ) → is_mark (mark_class m) ≡ true
-mark_is_mark m = (marks_pass m).passes
+unfolding mark_class
+mark_is_mark m = found_passes is_mark marks m Foreign refl refl
 
 pub point_is_attach : (o : Option Point) → is_attach (point_class o) ≡ true
 point_is_attach None = refl
@@ -129,7 +131,11 @@ point_no_word (Some (points.Tracepoint s n p)) h = false≢true h
 point_no_word (Some (points.Interval u n p)) h = false≢true h
 
 pub mark_no_word : (c : Class) → is_mark c ≡ true → is_word c ≡ true → ⊥
-mark_no_word c h k = absurd (grind (arith, nat_tests))
+mark_no_word c h k = opposed (is_word c) k (implies1 is_mark (λ d. not (is_word d)) refl c h)
+  where
+    opposed : (b : Bool) → b ≡ true → not b ≡ true → ⊥
+    opposed true e n = false≢true n
+    opposed false e n = false≢true e
 
 pub word_kind : (c : Class) (k : TokenKind) → c ≡ class_of k → is_word c ≡ true → k ≡ kinds.Word (kind_bytes k)
 word_kind c (kinds.Word x) e h = refl

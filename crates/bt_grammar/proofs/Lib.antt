@@ -9,6 +9,8 @@ pub mod Decide
 pub mod Scripts
 pub mod FewProbes
 pub mod KindClasses
+pub mod SameClass
+pub mod Rows
 -- what only this crate cites
 mod Sound
 mod Complete

@@ -2,6 +2,7 @@
 use Rattle.std.proofs.Common.{◌≡◌, ℕ, ℤ, zero, suc, Bool, true, false, List, [], ◌∷◌, ◌++◌, Option, Some, None, map, refl, ap, sym, ◌∙◌, append_assoc}
 use Rattle.std.specs.Prelude.{option_map, is_some, pos}
 use Rattle.std.proofs.lemmas.List.{append-nil, map-append}
+use Rattle.bt_core.specs.declared.operator.BinOp.TheVariants.{Sub, Div}
 use Rattle.bt_core.specs.declared.place.Place.{Place}
 use Rattle.bt_ast.specs.declared.expr.Builtin.{Builtin}
 use Rattle.bt_ast.specs.declared.expr.Expr.{Expr}
@@ -16,16 +17,18 @@ use Rattle.bt_ast.specs.declared.stmt.StmtKind.{StmtKind}
 use Rattle.bt_ast.specs.declared.stmt.StmtKind.TheVariants as stmts
 use Rattle.bt_ast.specs.declared.probe.Point.{Point}
 use Rattle.bt_ast.specs.declared.probe.Probe.{Probe}
+use Rattle.bt_grammar.specs.declared.class.Gathering.{Gathering}
+use Rattle.bt_grammar.specs.declared.class.Gathering.TheVariants.{Sum}
 use Rattle.bt_grammar.specs.declared.class.Class.{Class}
-use Rattle.bt_grammar.specs.declared.class.Class.TheVariants.{IfWord, ElseWord, WhileWord, UnrollWord, CountWord, SumWord, MinWord, MaxWord, AvgWord, LhistWord, PrintfWord, PrintWord, ClearWord, ZeroWord, DeleteWord, ExitWord, BreakWord, ContinueWord, ReturnWord, ArgsWord, VarName, NumberLiteral, OpenBrace, CloseBrace, OpenParen, CloseParen, OpenBracket, CloseBracket, Comma, Semicolon, Assign, Minus, Slash, Question, Colon, Increment, AndAnd, OrOr}
+use Rattle.bt_grammar.specs.declared.class.Class.TheVariants.{IfWord, ElseWord, WhileWord, UnrollWord, CountWord, LhistWord, PrintfWord, PrintWord, ClearWord, ZeroWord, DeleteWord, ExitWord, BreakWord, ContinueWord, ReturnWord, ArgsWord, VarName, NumberLiteral, OpenBrace, CloseBrace, OpenParen, CloseParen, OpenBracket, CloseBracket, Comma, Semicolon, Assign, Question, Colon, Increment, AndAnd, GatherWord, Operator}
 use Rattle.bt_grammar.specs.declared.class.Tier.{Tier}
 use Rattle.bt_grammar.specs.declared.class.Tier.TheVariants.{Products, Sums, Shifts, Orders, Equalities, BitAnds, BitXors, BitOrs, AndThens, OrElses}
-use Rattle.bt_grammar.specs.Classes.{is, is_word, is_builtin, is_prefix, is_update, is_step, is_dot, is_point, gathers, builtin_of, binary_of, prefix_of, update_of, tier_of, of_tier, joins}
+use Rattle.bt_grammar.specs.Classes.{is, is_word, is_builtin, is_prefix, is_update, is_step, is_dot, is_point, gathers, builtin_of, prefix_of, update_of, tier_of, of_tier, joins}
 use Rattle.bt_grammar.specs.Form.{Item, Part, Primary, Unary, Level, Expression, Values, Keyed, Assignable, Int, Aggregation, Update, AfterMap, AfterVar, Printf, Print, Delete, CallOrJump, Simple, Arm, Tail, Control, Body, Braced, Points, OneProbe, WholeScript, Of, Call, Rel}
 use Rattle.bt_grammar.specs.Grammar.{whole_at}
 use Rattle.bt_grammar.specs.Mentions.{OfMap, OfText, Mentions, joined, plain, expr_mentions, target_mentions, map_mentions, agg_mentions, arms_mentions, optional_mentions, statement_mentions, block_mentions, stmt_mentions, predicate_mentions, probe_mentions}
 use Rattle.bt_grammar.specs.Rules.{rule, operand, empty_parens, value, a_number}
-use Rattle.bt_grammar.specs.Trees.{pair, single, snoc, cons, nothing, bytes_at, number_at, place_of_expr, place_of_map, place_of_target, expr, map_ref, var_ref, var_target, number_expr, text_expr, builtin_kind, builtin_expr, field_expr, paren_expr, step_before, step_after, prefix_step, map_operand, var_operand, unary_op, unary, binary_kind, binary, choose, stmt, gathering, gather_call, lhist_call, update_target, step_target, gather_map, set_map, on_map, set_var, on_var, map_stmt, var_stmt, step_stmt, printf_kind, print_kind, top_and_div, clear_kind, zero_kind, delete_all, delete_keyed, delete_key, on_item, more_arms, if_stmt, while_stmt, unroll_stmt, block_of, with_points, probe_of}
+use Rattle.bt_grammar.specs.Trees.{pair, single, snoc, cons, bytes_at, number_at, place_of_expr, place_of_map, place_of_target, expr, map_ref, var_ref, var_target, number_expr, text_expr, builtin_kind, builtin_expr, field_expr, paren_expr, step_before, step_after, prefix_step, map_operand, var_operand, unary_op, unary, binary_kind, binary, choose, stmt, gathering, gathered, gather_call, lhist_call, update_target, step_target, gather_map, set_map, on_map, set_var, on_var, map_stmt, var_stmt, step_stmt, printf_kind, print_kind, top_and_div, clear_kind, zero_kind, delete_all, delete_keyed, delete_key, on_item, more_arms, if_stmt, while_stmt, unroll_stmt, block_of, with_points, probe_of}
 use Rattle.bt_grammar.proofs.AllClasses.{and_first, implies1}
 use Rattle.bt_grammar.proofs.MentionForms.{Telling, Tells, Nothing, Maybe, is_silent, tells_silent, tells_map_name, tells_text, tells_mark, tells_empty, tells_map, tells_then, tells_or, tells_until, tells_op, tells_chain, tells_second, tells_parens, tells_comma, tells_optional}
 use Rattle.bt_grammar.proofs.TreeMentions as trees
@@ -172,9 +175,9 @@ unary_case : (t : Item) (e : Expr) (x y : Mentions) → Nothing t x → Says exp
 unary_case t e x y ex ey = before_it (expr_mentions (unary t e)) x y ex (ap (map plain) (trees.Unary_mentions (unary_op (prefix_of t.class)) e t.place) ∙ ey)
 
 binary_is : (c : Class) (l r : Expr) (p : Place) → expr_mentions (expr (binary_kind c l r) p) ≡ expr_mentions l ++ expr_mentions r
+binary_is (Operator op) l r p = trees.Binary_mentions op l r p
 binary_is AndAnd l r p = trees.AndThen_mentions l r p
-binary_is OrOr l r p = trees.OrElse_mentions l r p
-binary_is c l r p = trees.Binary_mentions (binary_of c) l r p
+binary_is _ l r p = trees.OrElse_mentions l r p
 
 binary_case : (l : Expr) (o : Item × Expr) (x y : Mentions) → Says expr_mentions l x → Says expr_mentions o.1 y → Says expr_mentions (binary l o) (x ++ y)
 binary_case l o x y ex ey = ap (map plain) (binary_is o.0.class l o.1 (place_of_expr l)) ∙ both (expr_mentions l) (expr_mentions o.1) x y ex ey
@@ -195,11 +198,12 @@ lone_case t = ap (map plain) (trees.map_is (bytes_at t) [] t.place)
 
 -- ---- map functions and assignments
 
+gathered_is : (g : Gathering) (e : Expr) → agg_mentions (gathered g e) ≡ expr_mentions e
+gathered_is Sum e = refl
+gathered_is _ e = refl
+
 gathering_is : (c : Class) (e : Expr) → agg_mentions (gathering c e) ≡ expr_mentions e
-gathering_is SumWord e = refl
-gathering_is MinWord e = refl
-gathering_is MaxWord e = refl
-gathering_is AvgWord e = refl
+gathering_is (GatherWord g) e = gathered_is g e
 gathering_is _ e = refl
 
 gather_case : (t : Item) (e : Expr) (x y : Mentions) → Nothing t x → Says expr_mentions e y → Says (λ a. agg_mentions a.0) (gather_call t e) (x ++ y)
@@ -390,7 +394,7 @@ module _ (R : Rel) (calls : (n : Part) → Tells R (Call n) (Value n)) where
       (tells_map R (tells_silent R (is VarName) (implies1 (is VarName) is_silent refl)) (λ t m e. ap (map plain) (trees.target_Var (var_ref t)) ∙ sym e))
 
   pub tells_Int : Tells R (rule Int) Nothing
-  tells_Int = tells_or R one_number (tells_map R (tells_second R Minus refl one_number) (λ n m e. e))
+  tells_Int = tells_or R one_number (tells_map R (tells_second R (Operator Sub) refl one_number) (λ n m e. e))
 
   pub tells_Aggregation : Tells R (rule Aggregation) (Says (λ a. agg_mentions a.0))
   tells_Aggregation =
@@ -467,7 +471,7 @@ module _ (R : Rel) (calls : (n : Part) → Tells R (Call n) (Value n)) where
       (tells_comma R (tells_map R {W = Nothing} (tells_silent R is_point (implies1 is_point is_silent refl)) (λ t m e. e))) silent_both
 
   pub tells_OneProbe : Tells R (rule OneProbe) (Says probe_mentions)
-  tells_OneProbe = tells_then R (calls Points) (tells_then R (tells_optional R (tells_second R Slash refl (tells_until R Slash refl (calls (Expression true))))) (calls Braced) behind_points_case) probe_case
+  tells_OneProbe = tells_then R (calls Points) (tells_then R (tells_optional R (tells_second R (Operator Div) refl (tells_until R (Operator Div) refl (calls (Expression true))))) (calls Braced) behind_points_case) probe_case
 
   pub tells_WholeScript : Tells R (rule WholeScript) (Says probes_mentions)
   tells_WholeScript = tells_chain R (tells_map R (calls OneProbe) (single_case probe_mentions)) (calls OneProbe) (snoc_case probe_mentions)

@@ -1,4 +1,5 @@
 pub mod Classes
+pub mod Words
 pub mod Form
 pub mod Attach
 pub mod Tokens

@@ -8,7 +8,7 @@ use Rattle.bt_grammar.specs.Rules.{rule}
 
 -- ---- what one token tells of a form
 
--- whether a form may be empty
+-- nullable: whether a form may be empty
 abbrev pub nullable : {A : Type 0} → Form A → Bool
 nullable (Tok p) = false
 nullable (Empty d) = true
@@ -20,7 +20,7 @@ nullable (Until P k) = false
 nullable (Op g Q) = false
 nullable (Chain f P Q) = nullable P
 
--- whether a form may begin with such a token: its class, and whether a brace comes after it
+-- FIRST: whether a form may begin with such a token, by its class and whether a brace comes after it
 abbrev pub first : {A : Type 0} → Form A → Class → Bool → Bool
 first (Tok p) c b = p c
 first (Empty d) c b = false
@@ -36,7 +36,7 @@ abbrev pub brace_head : Option Class → Bool
 brace_head None = false
 brace_head (Some c) = is_brace c
 
--- whether a whole one ends before such a token
+-- FOLLOW: whether such a token may stand behind a whole one, which nothing goes on with; no token is the end of the list
 abbrev pub stops : {A : Type 0} → Form A → Option Class → Bool → Bool
 stops (Tok p) h b = true
 stops (Empty d) h b = true

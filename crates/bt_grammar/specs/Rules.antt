@@ -3,8 +3,9 @@ use Rattle.std.specs.Prelude.{ℤ, Bool, true, false, [], Option, Some, None}
 use Rattle.bt_core.specs.declared.place.Place.{Place}
 use Rattle.bt_ast.specs.declared.expr.Expr.{Expr}
 use Rattle.bt_ast.specs.declared.expr.Target.TheVariants as targets
+use Rattle.bt_core.specs.declared.operator.BinOp.TheVariants.{Sub, Div}
 use Rattle.bt_grammar.specs.declared.class.Class.{Class}
-use Rattle.bt_grammar.specs.declared.class.Class.TheVariants.{IfWord, ElseWord, WhileWord, UnrollWord, CountWord, LhistWord, PrintfWord, PrintWord, ClearWord, ZeroWord, DeleteWord, ExitWord, BreakWord, ContinueWord, ReturnWord, ArgsWord, MapName, VarName, NumberLiteral, TextLiteral, OpenBrace, CloseBrace, OpenParen, CloseParen, OpenBracket, CloseBracket, Comma, Semicolon, Assign, Minus, Slash, Question, Colon}
+use Rattle.bt_grammar.specs.declared.class.Class.TheVariants.{IfWord, ElseWord, WhileWord, UnrollWord, CountWord, LhistWord, PrintfWord, PrintWord, ClearWord, ZeroWord, DeleteWord, ExitWord, BreakWord, ContinueWord, ReturnWord, ArgsWord, MapName, VarName, NumberLiteral, TextLiteral, OpenBrace, CloseBrace, OpenParen, CloseParen, OpenBracket, CloseBracket, Comma, Semicolon, Assign, Question, Colon, Operator}
 use Rattle.bt_grammar.specs.declared.class.Tier.{Tier}
 use Rattle.bt_grammar.specs.declared.class.Tier.TheVariants.{Products, Sums, Shifts, Orders, Equalities, BitAnds, BitXors, BitOrs, AndThens, OrElses}
 use Rattle.bt_grammar.specs.Classes.{is, is_word, is_builtin, is_prefix, is_update, is_step, is_dot, is_point, gathers, joins}
@@ -77,7 +78,7 @@ rule (Expression p) = Then choose (Call (Level p OrElses)) (optional (Op (ends Q
 rule Values = Chain snoc (Map single value) (after_comma value)
 rule Keyed = Then map_ref (Tok (is MapName)) (Or (Then second (mark OpenBracket) (Until (Call Values) CloseBracket)) (Empty []))
 rule Assignable = Or (Map targets.Map (Call Keyed)) (Map var_target (Tok (is VarName)))
-rule Int = Or (Map number_at (Tok (is NumberLiteral))) (Map negated (Then second (mark Minus) a_number))
+rule Int = Or (Map number_at (Tok (is NumberLiteral))) (Map negated (Then second (mark (Operator Sub)) a_number))
 rule Aggregation =
     Or (Then count_call (mark CountWord) empty_parens)
     (Or (Then gather_call (Tok gathers) (in_parens value))
@@ -121,5 +122,5 @@ rule Body =
 rule Braced = Then block_of (mark OpenBrace) (Call Body)
 rule Points = Chain snoc (Map (λ t. single (point_at t)) (Tok is_point)) (after_comma (Map point_at (Tok is_point)))
 rule OneProbe = Then with_points (Call Points)
-    (Then probe_of (optional (Then second (mark Slash) (Until (Call (Expression true)) Slash))) (Call Braced))
+    (Then probe_of (optional (Then second (mark (Operator Div)) (Until (Call (Expression true)) (Operator Div)))) (Call Braced))
 rule WholeScript = Chain snoc (Map single (Call OneProbe)) (Call OneProbe)

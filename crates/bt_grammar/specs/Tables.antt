@@ -1,12 +1,14 @@
 -- Of each part: whether it may be empty, which tokens begin it, before which it ends, and how deep it looks at once.
 -- These are checked against the rules.
 use Rattle.std.specs.Prelude.{ℕ, ◌+◌, Bool, true, false, not, ◌||◌, ◌&&◌, nat_le, Option, Some, None}
+use Rattle.bt_core.specs.declared.operator.BinOp.TheVariants.{Sub, Div}
 use Rattle.bt_grammar.specs.declared.class.Class.{Class}
-use Rattle.bt_grammar.specs.declared.class.Class.TheVariants.{IfWord, ElseWord, WhileWord, UnrollWord, CountWord, LhistWord, PrintfWord, PrintWord, ClearWord, ZeroWord, DeleteWord, ExitWord, BreakWord, ContinueWord, ReturnWord, ArgsWord, MapName, VarName, NumberLiteral, TextLiteral, OpenBrace, CloseBrace, OpenParen, OpenBracket, Comma, Assign, Minus, Slash, Question}
+use Rattle.bt_grammar.specs.declared.class.Class.TheVariants.{IfWord, ElseWord, WhileWord, UnrollWord, CountWord, LhistWord, PrintfWord, PrintWord, ClearWord, ZeroWord, DeleteWord, ExitWord, BreakWord, ContinueWord, ReturnWord, ArgsWord, MapName, VarName, NumberLiteral, TextLiteral, OpenBrace, CloseBrace, OpenParen, OpenBracket, Comma, Assign, Question, Operator}
 use Rattle.bt_grammar.specs.declared.class.Tier.{Tier}
 use Rattle.bt_grammar.specs.Classes.{is, is_builtin, is_prefix, is_update, is_step, is_point, gathers, tier_of, tier_number, ends_predicate}
 use Rattle.bt_grammar.specs.Form.{Part, Primary, Unary, Level, Expression, Values, Keyed, Assignable, Int, Aggregation, Update, AfterMap, AfterVar, Printf, Print, Delete, CallOrJump, Simple, Arm, Tail, Control, Body, Braced, Points, OneProbe, WholeScript}
 
+-- nullable: the parts that may be empty
 abbrev pub nul : Part → Bool
 nul Tail = true
 nul _ = false
@@ -47,6 +49,7 @@ is_control c = is IfWord c || (is WhileWord c || is UnrollWord c)
 abbrev pub is_after : Class → Bool
 is_after c = is Assign c || (is_update c || is_step c)
 
+-- FIRST of each part: the classes that begin it
 abbrev pub fst_of : Part → Class → Bool
 fst_of Primary c = is_operand c
 fst_of Unary c = is_expression c
@@ -55,7 +58,7 @@ fst_of (Expression p) c = is_expression c
 fst_of Values c = is_expression c
 fst_of Keyed c = is MapName c
 fst_of Assignable c = is_target c
-fst_of Int c = is NumberLiteral c || is Minus c
+fst_of Int c = is NumberLiteral c || is (Operator Sub) c
 fst_of Aggregation c = is CountWord c || (gathers c || is LhistWord c)
 fst_of Update c = is_update c || is_step c
 fst_of AfterMap c = is_after c
@@ -94,6 +97,7 @@ level_goes p n c b = primary_goes c || (within_tier n (tier_of c) && not (ends_p
 abbrev pub expression_goes : Bool → Class → Bool → Bool
 expression_goes p c b = is Question c || level_goes p 9 c b
 
+-- FOLLOW of each part: the classes that may stand behind a whole one, since they do not go on with it
 abbrev pub stops_of : Part → Option Class → Bool → Bool
 stops_of Primary h b = free (λ c _. primary_goes c) h b
 stops_of Unary h b = free (λ c _. primary_goes c) h b
@@ -114,8 +118,8 @@ stops_of _ h b = true
 
 -- whether where a part ends may depend on the token after the next
 abbrev pub sens_of : Part → Class → Bool
-sens_of (Level p tier) c = p && is Slash c
-sens_of (Expression p) c = p && is Slash c
+sens_of (Level p tier) c = p && is (Operator Div) c
+sens_of (Expression p) c = p && is (Operator Div) c
 sens_of _ c = false
 
 -- each part begins with parts of lower rank alone

@@ -24,9 +24,11 @@ use Rattle.bt_ast.specs.declared.stmt.StmtKind.TheVariants as stmts
 use Rattle.bt_ast.specs.declared.probe.Point.{Point}
 use Rattle.bt_ast.specs.declared.probe.Point.TheVariants as points
 use Rattle.bt_ast.specs.declared.probe.Probe.{Probe}
+use Rattle.bt_grammar.specs.declared.class.Gathering.{Gathering}
+use Rattle.bt_grammar.specs.declared.class.Gathering.TheVariants.{Sum, Min, Max, Avg, Hist}
 use Rattle.bt_grammar.specs.declared.class.Class.{Class}
-use Rattle.bt_grammar.specs.declared.class.Class.TheVariants.{BeginWord, EndWord, SumWord, MinWord, MaxWord, AvgWord, Increment, AndAnd, OrOr}
-use Rattle.bt_grammar.specs.Classes.{is, builtin_of, prefix_of, update_of, binary_of}
+use Rattle.bt_grammar.specs.declared.class.Class.TheVariants.{BeginWord, EndWord, Increment, AndAnd, Operator, GatherWord}
+use Rattle.bt_grammar.specs.Classes.{is, builtin_of, prefix_of, update_of}
 use Rattle.bt_grammar.specs.Attach.{attach_point}
 use Rattle.bt_grammar.specs.Form.{Item}
 
@@ -144,9 +146,9 @@ abbrev pub unary : Item → Expr → Expr
 unary mark e = expr (exprs.Unary (unary_op (prefix_of mark.class)) e) mark.place
 
 abbrev pub binary_kind : Class → Expr → Expr → ExprKind
+binary_kind (Operator op) left right = exprs.Binary op left right
 binary_kind AndAnd left right = exprs.AndThen left right
-binary_kind OrOr left right = exprs.OrElse left right
-binary_kind c left right = exprs.Binary (binary_of c) left right
+binary_kind _ left right = exprs.OrElse left right
 
 abbrev pub binary : Expr → (Item × Expr) → Expr
 binary left right = expr (binary_kind right.0.class left right.1) (place_of_expr left)
@@ -160,11 +162,15 @@ choose condition (Some c) = expr (exprs.Choose condition c.1.0 c.1.1) (place_of_
 abbrev pub stmt : Place → StmtKind → Stmt
 stmt place kind = roll-Stmt (record { kind = kind; place = place })
 
+abbrev pub gathered : Gathering → Expr → AggCall
+gathered Sum e = aggs.Sum e
+gathered Min e = aggs.Min e
+gathered Max e = aggs.Max e
+gathered Avg e = aggs.Avg e
+gathered Hist e = aggs.Hist e
+
 abbrev pub gathering : Class → Expr → AggCall
-gathering SumWord e = aggs.Sum e
-gathering MinWord e = aggs.Min e
-gathering MaxWord e = aggs.Max e
-gathering AvgWord e = aggs.Avg e
+gathering (GatherWord g) e = gathered g e
 gathering _ e = aggs.Hist e
 
 abbrev pub count_call : Place → Place → AggCall × Place

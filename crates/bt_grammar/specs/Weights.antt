@@ -1,32 +1,23 @@
 -- How deep tokens are nested.
-use Rattle.std.specs.Prelude.{ℕ, suc, ◌+◌, ◌-◌, Bool, true, false, not, ◌&&◌, nat_le, List, [], ◌∷◌, length, if◌then◌else◌}
+use Rattle.std.specs.Prelude.{ℕ, suc, ◌+◌, ◌-◌, Bool, true, false, List, [], ◌∷◌, length, if◌then◌else◌}
 use Rattle.std.specs.List.{sum}
 use Rattle.bt_grammar.specs.declared.class.Class.{Class}
-use Rattle.bt_grammar.specs.declared.class.Class.TheVariants.{ShlAssign, Colon, OpenBrace, CloseBrace, OpenParen, CloseParen, OpenBracket, CloseBracket, Comma, Semicolon, Dot, Arrow}
-use Rattle.bt_grammar.specs.Classes.{class_number}
+use Rattle.bt_grammar.specs.declared.class.Class.TheVariants.{Operator, UpdateMark, Increment, Decrement, AndAnd, OrOr, Assign, Tilde, Bang, Question, OpenBrace, CloseBrace, OpenParen, CloseParen, OpenBracket, CloseBracket, Comma, Semicolon}
 use Rattle.bt_grammar.specs.Form.{Item}
-
-abbrev pub is_punctuation : Class → Bool
-is_punctuation OpenBrace = true
-is_punctuation CloseBrace = true
-is_punctuation OpenParen = true
-is_punctuation CloseParen = true
-is_punctuation OpenBracket = true
-is_punctuation CloseBracket = true
-is_punctuation Comma = true
-is_punctuation Semicolon = true
-is_punctuation Dot = true
-is_punctuation Arrow = true
-is_punctuation Colon = true
-is_punctuation _ = false
-
--- a mark: from `<<=` to `:` in the list of classes
-abbrev pub is_mark : Class → Bool
-is_mark c = nat_le (class_number ShlAssign) (class_number c) && nat_le (class_number c) (class_number Colon)
 
 -- a mark that counts: all but braces, brackets, `,`, `;`, `.`, `->` and `:`
 abbrev pub is_operator : Class → Bool
-is_operator c = is_mark c && not (is_punctuation c)
+is_operator (Operator op) = true
+is_operator (UpdateMark op) = true
+is_operator Increment = true
+is_operator Decrement = true
+is_operator AndAnd = true
+is_operator OrOr = true
+is_operator Assign = true
+is_operator Tilde = true
+is_operator Bang = true
+is_operator Question = true
+is_operator _ = false
 
 -- The counts of operators in the levels that are open, the innermost first. The outermost level is always open.
 

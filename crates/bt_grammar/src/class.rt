@@ -1,8 +1,28 @@
 // The classes of tokens, and the tiers of binary operators.
+use bt_ast::expr::Builtin;
+use bt_core::operator::BinOp;
+
+/// A map function of one number.
+#[derive(Clone, Copy, PartialEq, Eq, Debug)]
+pub enum Gathering {
+    Sum,
+    Min,
+    Max,
+    Avg,
+    Hist,
+}
 
 /// What the grammar sees of a token: which word or mark it is, or its kind.
 #[derive(Clone, Copy, PartialEq, Eq, Debug)]
 pub enum Class {
+    /// The word of a builtin variable.
+    BuiltinWord(Builtin),
+    /// The word of a map function of one number.
+    GatherWord(Gathering),
+    /// An operator between two operands, other than `&&` and `||`. `-` is an operator before its operand too.
+    Operator(BinOp),
+    /// An operator on numbers and bits with `=` in one mark, as `+=`.
+    UpdateMark(BinOp),
     /// `BEGIN`.
     BeginWord,
     /// `END`.
@@ -17,16 +37,6 @@ pub enum Class {
     UnrollWord,
     /// `count`.
     CountWord,
-    /// `sum`.
-    SumWord,
-    /// `min`.
-    MinWord,
-    /// `max`.
-    MaxWord,
-    /// `avg`.
-    AvgWord,
-    /// `hist`.
-    HistWord,
     /// `lhist`.
     LhistWord,
     /// `printf`.
@@ -47,22 +57,6 @@ pub enum Class {
     ContinueWord,
     /// `return`.
     ReturnWord,
-    /// `pid`.
-    PidWord,
-    /// `tid`.
-    TidWord,
-    /// `uid`.
-    UidWord,
-    /// `gid`.
-    GidWord,
-    /// `comm`.
-    CommWord,
-    /// `cpu`.
-    CpuWord,
-    /// `nsecs`.
-    NsecsWord,
-    /// `elapsed`.
-    ElapsedWord,
     /// `args`.
     ArgsWord,
     /// A word that the grammar does not name.
@@ -77,42 +71,10 @@ pub enum Class {
     VarName,
     NumberLiteral,
     TextLiteral,
-    /// `<<=`.
-    ShlAssign,
-    /// `>>=`.
-    ShrAssign,
     /// `++`.
     Increment,
     /// `--`.
     Decrement,
-    /// `+=`.
-    AddAssign,
-    /// `-=`.
-    SubAssign,
-    /// `*=`.
-    MulAssign,
-    /// `/=`.
-    DivAssign,
-    /// `%=`.
-    ModAssign,
-    /// `&=`.
-    AndAssign,
-    /// `|=`.
-    OrAssign,
-    /// `^=`.
-    XorAssign,
-    /// `<<`.
-    ShlMark,
-    /// `>>`.
-    ShrMark,
-    /// `<=`.
-    LessOrEqual,
-    /// `>=`.
-    GreaterOrEqual,
-    /// `==`.
-    EqualMark,
-    /// `!=`.
-    NotEqualMark,
     /// `&&`.
     AndAnd,
     /// `||`.
@@ -139,30 +101,10 @@ pub enum Class {
     Dot,
     /// `=`.
     Assign,
-    /// `+`.
-    Plus,
-    /// `-`.
-    Minus,
-    /// `*`.
-    Star,
-    /// `/`.
-    Slash,
-    /// `%`.
-    Percent,
-    /// `&`.
-    Ampersand,
-    /// `|`.
-    Bar,
-    /// `^`.
-    Caret,
     /// `~`.
     Tilde,
     /// `!`.
     Bang,
-    /// `<`.
-    Less,
-    /// `>`.
-    Greater,
     /// `?`.
     Question,
     /// `:`.

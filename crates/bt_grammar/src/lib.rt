@@ -4,3 +4,4 @@
 pub mod class;
 pub mod error;
 pub mod laws;
+pub mod words;

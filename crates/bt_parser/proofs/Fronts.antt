@@ -1,5 +1,5 @@
 -- The front of tokens, by the list of their classes.
-use Rattle.std.proofs.Common.{◌≡◌, ℕ, zero, suc, ◌-◌, ◌<◌, ◌≤◌, Bool, true, false, List, [], ◌∷◌, length, get_or, take, Some, None, refl, sym, ◌∙◌, ap, subst, arith}
+use Rattle.std.proofs.Common.{◌≡◌, ℕ, zero, suc, ◌<◌, ◌≤◌, Bool, true, false, List, [], ◌∷◌, length, get_or, take, Some, None, refl, sym, ◌∙◌, ap, subst, arith}
 use Rattle.bt_lexer.specs.declared.token.Token.{Token}
 use Rattle.bt_lexer.specs.declared.token.TokenKind.{TokenKind}
 use Rattle.bt_lexer.specs.declared.token.TokenKind.TheVariants as kinds
@@ -7,11 +7,14 @@ use Rattle.bt_grammar.specs.declared.class.Class.{Class}
 use Rattle.bt_grammar.specs.declared.class.Tier.{Tier}
 use Rattle.bt_grammar.specs.Classes.{is, is_word, joins}
 use Rattle.bt_grammar.specs.Form.{Item, brace_next, is_brace}
-use Rattle.bt_grammar.specs.Reading.{Refused, read, reads, rest_of, starts}
+use Rattle.bt_grammar.specs.Reading.{Done, Refused, read, reads, rest_of, starts}
 use Rattle.bt_grammar.specs.Rules.{ends}
 use Rattle.bt_grammar.specs.Tokens.{class_of, items}
+use Rattle.bt_grammar.specs.Trees.{kind_bytes}
+use Rattle.bt_grammar.proofs.KindClasses.{word_is_word}
 use Rattle.bt_parser.specs.ClassLists.{classes_of}
-use Rattle.bt_parser.specs.Mirror.{class_at, is_word_kind, operator_at, when, word_form}
+use Rattle.bt_core.specs.declared.place.Place.{Place}
+use Rattle.bt_parser.specs.Mirror.{class_at, front_place, is_word_kind, operator_at, when, word_form}
 use Rattle.bt_parser.proofs.WordKinds.{word_kinds}
 
 pub front_class : (rest now : List Token) (classes : List Class) (d : Class) → classes ≡ classes_of rest → rest ≡ now → 1 ≤ length classes → Some (get_or classes 0 d) ≡ class_at (items now)
@@ -64,3 +67,16 @@ no_word [] now t v some e h = absurd (omega arith)
 no_word (u ∷ rest) now t v some e h =
     let other : is_word (class_of u.kind) ≡ false = word_kinds u.kind ∙ ap (λ (z : Token). is_word_kind z.kind) (sym e) ∙ not_word t.kind h in
     subst (λ z. read reads word_form (items z) ≡ Refused (items z)) v (rw other refl)
+
+-- a word is answered with its bytes and its place
+pub a_word : (rest now : List Token) (t : Token) (word bytes : List ℕ) (place : Place) (left : List Item) → rest ≡ now → 1 ≤ length rest → t ≡ get_or rest 0 t
+    → t.kind ≡ kinds.Word word → bytes ≡ word → place ≡ front_place (items now) → left ≡ rest_of (items now)
+    → read reads word_form (items now) ≡ Done (record { bytes = bytes; place = place }) left
+a_word [] now t word bytes place left v some e k b p l = absurd (omega arith)
+a_word (u ∷ rest) now t word bytes place left v some e k b p l =
+    let here : u.kind ≡ kinds.Word word = ap (λ (z : Token). z.kind) (sym e) ∙ k in
+    let is_one : is_word (class_of u.kind) ≡ true = ap (λ z. is_word (class_of z)) here ∙ word_is_word word in
+    let same_bytes : kind_bytes u.kind ≡ bytes = ap kind_bytes here ∙ sym b in
+    let same_place : u.place ≡ place = ap (λ z. front_place (items z)) v ∙ sym p in
+    let same_left : items rest ≡ left = ap (λ z. rest_of (items z)) v ∙ sym l in
+    subst (λ z. read reads word_form (items z) ≡ Done (record { bytes = bytes; place = place }) left) v (rw is_one (cc (same_place, same_left, same_bytes)))

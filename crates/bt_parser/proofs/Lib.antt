@@ -1,7 +1,5 @@
 mod Mirrored
 mod WordKinds
-mod Sameness
-mod Operators
 mod DeepFrom
 mod Parts
 mod Ends

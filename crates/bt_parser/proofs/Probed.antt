@@ -2,7 +2,8 @@
 use Rattle.std.proofs.Common.{◌≡◌, Bool, true, false, List, [], ◌∷◌, ◌++◌, refl, sym, ◌∙◌, inr, ◌⊎◌}
 use Rattle.bt_ast.specs.declared.probe.Point.{Point}
 use Rattle.bt_grammar.specs.declared.class.Class.{Class}
-use Rattle.bt_grammar.specs.declared.class.Class.TheVariants.{Comma, Slash}
+use Rattle.bt_core.specs.declared.operator.BinOp.TheVariants.{Div}
+use Rattle.bt_grammar.specs.declared.class.Class.TheVariants.{Comma, Operator}
 use Rattle.bt_grammar.specs.Classes.{is}
 use Rattle.bt_grammar.specs.Form.{Item, Points, OneProbe}
 use Rattle.bt_grammar.specs.Fine.{Led}
@@ -36,13 +37,13 @@ points_turns points ts = by_comma (starts (ends Comma) ts) refl
     by_comma true h = point_more points ts h ∙ sym (rw h refl)
     by_comma false h = point_stop points ts h ∙ sym (rw h refl)
 
-predicate_at : (t : Item) (r : List Item) (b : Bool) → is Slash t.class ≡ b → read reads predicate_form (t ∷ r) ≡ predicate_by (t ∷ r)
+predicate_at : (t : Item) (r : List Item) (b : Bool) → is (Operator Div) t.class ≡ b → read reads predicate_form (t ∷ r) ≡ predicate_by (t ∷ r)
 predicate_at t r true h = rw h (simp and_then_assoc)
 predicate_at t r false h = rw h refl
 
 pub predicate_is : (ts : List Item) → read reads predicate_form ts ≡ predicate_by ts
 predicate_is [] = refl
-predicate_is (t ∷ r) = predicate_at t r (is Slash t.class) refl
+predicate_is (t ∷ r) = predicate_at t r (is (Operator Div) t.class) refl
 
 pub probe_is : (ts : List Item) → reads OneProbe ts ≡ probe_by ts
 probe_is ts = rw (reads_is OneProbe ts) (simp and_then_assoc)

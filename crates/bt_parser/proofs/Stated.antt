@@ -1,29 +1,35 @@
 -- Each part of a statement is read by its steps.
-use Rattle.std.proofs.Common.{◌≡◌, Bool, true, false, List, [], ◌∷◌, refl, sym, ◌∙◌, Some}
+use Rattle.std.proofs.Common.{◌≡◌, Bool, true, false, List, [], ◌∷◌, refl, sym, ◌∙◌, Some, None}
 use Rattle.bt_lexer.specs.declared.token.TokenKind.{TokenKind}
 use Rattle.bt_core.specs.declared.place.Place.{Place}
 use Rattle.bt_ast.specs.declared.expr.MapRef.{MapRef}
 use Rattle.bt_ast.specs.declared.expr.Target.{Target}
 use Rattle.bt_ast.specs.declared.expr.VarRef.{VarRef}
+use Rattle.bt_core.specs.declared.operator.BinOp.{BinOp}
+use Rattle.bt_core.specs.declared.operator.BinOp.TheVariants.{Add, Sub, Mul, Div, Mod, Shl, Shr, BitAnd, BitOr, BitXor}
 use Rattle.bt_grammar.specs.declared.class.Class.{Class}
-use Rattle.bt_grammar.specs.declared.class.Class.TheVariants.{CountWord, LhistWord, PrintfWord, PrintWord, ClearWord, ZeroWord, DeleteWord, ExitWord, BreakWord, ContinueWord, ReturnWord, MapName, VarName, ShlAssign, ShrAssign, AddAssign, SubAssign, MulAssign, DivAssign, ModAssign, AndAssign, OrAssign, XorAssign, OpenParen, CloseParen, OpenBracket, CloseBracket, Comma, Assign, Minus, Increment, Decrement}
-use Rattle.bt_grammar.specs.Classes.{is, gathers}
+use Rattle.bt_grammar.specs.declared.class.Class.TheVariants.{CountWord, LhistWord, PrintfWord, PrintWord, ClearWord, ZeroWord, DeleteWord, ExitWord, BreakWord, ContinueWord, ReturnWord, MapName, VarName, OpenParen, CloseParen, OpenBracket, CloseBracket, Comma, Assign, Increment, Decrement, GatherWord, Operator, UpdateMark}
+use Rattle.bt_grammar.specs.Classes.{is, gathering_of}
 use Rattle.bt_grammar.specs.Form.{Item, Values, Int, Aggregation, Update, AfterMap, AfterVar, Printf, Print, Delete, CallOrJump, Simple, Tok, Call, Map, Then, Or, Until}
 use Rattle.bt_grammar.specs.Reading.{Out, Done, Refused, Unfinished, and_then, read, reads, starts, goes_on}
 use Rattle.bt_grammar.specs.Rules.{rule, mark, ends, in_parens, value}
 use Rattle.bt_grammar.specs.Trees.{gather_map, set_map, on_item, delete_all, delete_keyed, delete_key}
-use Rattle.bt_parser.specs.Mirror.{class_at, when, named, named_form, step_at}
-use Rattle.bt_parser.specs.Statements.{given, int_by, parens_by, count_form, count_by, gather_form, gatherer_at, gather_by, lhist_form, lhist_by, aggregation_by, begins_aggregation, update_at, update_by, set_map_by, after_map_by, after_var_by, map_form, whole_map_by, in_parens_map, map_in_parens_by, printf_by, limit_form, limit_by, limits_form, limits_by, print_by, delete_on, delete_by, call_at, call_by, simple_by}
+use Rattle.bt_parser.specs.Mirror.{class_at, named, named_form, step_at}
+use Rattle.bt_parser.specs.Statements.{given, int_by, parens_by, count_form, count_by, gather_form, gathering_at, gather_by, lhist_form, lhist_by, aggregation_by, begins_aggregation, update_at, update_by, set_map_by, after_map_by, after_var_by, map_form, whole_map_by, in_parens_map, map_in_parens_by, printf_by, limit_form, limit_by, limits_form, limits_by, print_by, delete_on, delete_by, call_at, call_by, simple_by}
 use Rattle.bt_grammar.proofs.Enough.{reads_is}
 use Rattle.bt_parser.proofs.Mirrored.{and_then_assoc, and_then_same, choice, choice_then, values_start, it}
 
 -- ---- numbers and map functions
 
-int_at : (c : Class) (k : TokenKind) (p : Place) (r : List Item) → read reads (rule Int) (it c k p ∷ r) ≡ int_by (starts (ends Minus) (it c k p ∷ r)) (it c k p ∷ r)
-int_at Minus k p r = simp and_then_assoc
+int_at : (c : Class) (k : TokenKind) (p : Place) (r : List Item) → read reads (rule Int) (it c k p ∷ r) ≡ int_by (starts (ends (Operator Sub)) (it c k p ∷ r)) (it c k p ∷ r)
+int_at (Operator op) k p r = int_of op
+  where
+    int_of : (o : BinOp) → read reads (rule Int) (it (Operator o) k p ∷ r) ≡ int_by (starts (ends (Operator Sub)) (it (Operator o) k p ∷ r)) (it (Operator o) k p ∷ r)
+    int_of Sub = simp and_then_assoc
+    int_of _ = refl
 int_at _ k p r = refl
 
-pub int_is : (ts : List Item) → reads Int ts ≡ int_by (starts (ends Minus) ts) ts
+pub int_is : (ts : List Item) → reads Int ts ≡ int_by (starts (ends (Operator Sub)) ts) ts
 int_is [] = reads_is Int []
 int_is (t ∷ r) = rw (reads_is Int (t ∷ r)) (int_at t.class t.kind t.place r)
 
@@ -33,13 +39,13 @@ parens_is ts = simp and_then_assoc
 pub count_is : (ts : List Item) → read reads count_form ts ≡ count_by ts
 count_is ts = simp and_then_assoc
 
-gather_at : (t : Item) (r : List Item) (b : Bool) → gathers t.class ≡ b → read reads gather_form (t ∷ r) ≡ gather_by (when b t.class) (t ∷ r)
-gather_at t r true h = rw h refl
-gather_at t r false h = rw h refl
+gather_at : (c : Class) (k : TokenKind) (p : Place) (r : List Item) → read reads gather_form (it c k p ∷ r) ≡ gather_by (gathering_of c) (it c k p ∷ r)
+gather_at (GatherWord g) k p r = refl
+gather_at _ k p r = refl
 
-pub gather_is : (ts : List Item) → read reads gather_form ts ≡ gather_by (gatherer_at ts) ts
+pub gather_is : (ts : List Item) → read reads gather_form ts ≡ gather_by (gathering_at ts) ts
 gather_is [] = refl
-gather_is (t ∷ r) = gather_at t r (gathers t.class) refl
+gather_is (t ∷ r) = gather_at t.class t.kind t.place r
 
 pub lhist_is : (ts : List Item) → read reads lhist_form ts ≡ lhist_by ts
 lhist_is ts = simp and_then_assoc
@@ -57,16 +63,20 @@ aggregation_is (t ∷ r) = rw (reads_is Aggregation (t ∷ r)) (aggregation_at t
 
 update_kind : (target : Target) (c : Class) (k : TokenKind) (p : Place) (r : List Item)
     → given target (read reads (rule Update) (it c k p ∷ r)) ≡ update_by target (step_at (it c k p ∷ r)) (update_at (it c k p ∷ r)) (it c k p ∷ r)
-update_kind target ShlAssign k p r = simp and_then_assoc
-update_kind target ShrAssign k p r = simp and_then_assoc
-update_kind target AddAssign k p r = simp and_then_assoc
-update_kind target SubAssign k p r = simp and_then_assoc
-update_kind target MulAssign k p r = simp and_then_assoc
-update_kind target DivAssign k p r = simp and_then_assoc
-update_kind target ModAssign k p r = simp and_then_assoc
-update_kind target AndAssign k p r = simp and_then_assoc
-update_kind target OrAssign k p r = simp and_then_assoc
-update_kind target XorAssign k p r = simp and_then_assoc
+update_kind target (UpdateMark op) k p r = update_of_mark op
+  where
+    update_of_mark : (o : BinOp) → given target (read reads (rule Update) (it (UpdateMark o) k p ∷ r)) ≡ update_by target None (update_at (it (UpdateMark o) k p ∷ r)) (it (UpdateMark o) k p ∷ r)
+    update_of_mark Add = simp and_then_assoc
+    update_of_mark Sub = simp and_then_assoc
+    update_of_mark Mul = simp and_then_assoc
+    update_of_mark Div = simp and_then_assoc
+    update_of_mark Mod = simp and_then_assoc
+    update_of_mark Shl = simp and_then_assoc
+    update_of_mark Shr = simp and_then_assoc
+    update_of_mark BitAnd = simp and_then_assoc
+    update_of_mark BitOr = simp and_then_assoc
+    update_of_mark BitXor = simp and_then_assoc
+    update_of_mark _ = refl
 update_kind target Increment k p r = refl
 update_kind target Decrement k p r = refl
 update_kind target _ k p r = refl

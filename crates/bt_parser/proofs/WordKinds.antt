@@ -7,7 +7,8 @@ use Rattle.bt_grammar.specs.declared.class.Class.{Class}
 use Rattle.bt_grammar.specs.declared.class.Class.TheVariants.{NumberLiteral}
 use Rattle.bt_grammar.specs.Attach.{attach_point}
 use Rattle.bt_grammar.specs.Classes.{is, is_word}
-use Rattle.bt_grammar.specs.Tokens.{class_of, mark_class, origin}
+use Rattle.bt_grammar.specs.Tokens.{class_of, origin}
+use Rattle.bt_grammar.specs.Words.{mark_class}
 use Rattle.bt_grammar.proofs.AllClasses.{is_same, is_refl}
 use Rattle.bt_grammar.proofs.KindClasses.{word_is_word, point_no_word, mark_is_mark, mark_no_word, number_kind}
 use Rattle.bt_parser.specs.ClassLists.{is_number_kind}

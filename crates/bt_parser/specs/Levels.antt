@@ -1,9 +1,8 @@
 -- The levels as the code keeps them, and the first token that is too deep.
-use Rattle.std.specs.Prelude.{◌≡◌, ℕ, ◌+◌, Bool, true, false, nat_lt, List, [], ◌∷◌, length, reverse, Option, Some, None, if◌then◌else◌}
+use Rattle.std.specs.Prelude.{◌≡◌, ℕ, ◌+◌, nat_lt, List, [], ◌∷◌, length, reverse, Option, Some, None, if◌then◌else◌}
 use Rattle.std.specs.List.{sum}
 use Rattle.bt_core.specs.declared.limits.TheConstants.{NESTING}
 use Rattle.bt_grammar.specs.declared.class.Class.{Class}
-use Rattle.bt_grammar.specs.declared.class.Class.TheVariants.{Increment, Decrement, Assign, Question}
 use Rattle.bt_parser.specs.declared.nesting.Levels.{Levels}
 use Rattle.bt_grammar.specs.Weights.{levels_behind, level_weight}
 
@@ -17,11 +16,3 @@ IsWeighed l = l.weight ≡ length l.around.items + (l.inner + sum l.around.items
 abbrev pub deep_from : ℕ → List ℕ → List Class → Option ℕ
 deep_from i levels [] = None
 deep_from i levels (c ∷ cs) = if nat_lt NESTING (level_weight (levels_behind c levels)) then Some i else deep_from (i + 1) (levels_behind c levels) cs
-
--- an operator that neither is of a tier nor stands before its operand, nor updates
-abbrev pub is_other_operator : Class → Bool
-is_other_operator Increment = true
-is_other_operator Decrement = true
-is_other_operator Assign = true
-is_other_operator Question = true
-is_other_operator _ = false

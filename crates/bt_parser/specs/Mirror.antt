@@ -1,5 +1,5 @@
 -- The steps of the functions that read.
-use Rattle.std.specs.Prelude.{ℕ, suc, Bool, true, false, List, [], ◌∷◌, ◌++◌, Option, Some, None, is_some, if◌then◌else◌}
+use Rattle.std.specs.Prelude.{ℕ, suc, Bool, true, false, List, [], ◌∷◌, ◌++◌, Option, Some, None, if◌then◌else◌}
 use Rattle.bt_core.specs.declared.operator.UnOp.{UnOp}
 use Rattle.bt_core.specs.declared.place.Place.{Place}
 use Rattle.bt_ast.specs.declared.expr.Builtin.{Builtin}
@@ -13,11 +13,11 @@ use Rattle.bt_ast.specs.declared.expr.VarRef.{VarRef}
 use Rattle.bt_lexer.specs.declared.token.TokenKind.{TokenKind}
 use Rattle.bt_lexer.specs.declared.token.TokenKind.TheVariants as kinds
 use Rattle.bt_grammar.specs.declared.class.Class.{Class}
-use Rattle.bt_grammar.specs.declared.class.Class.TheVariants.{AndAnd, OrOr, Increment, Decrement, MapName, VarName, NumberLiteral, TextLiteral, ArgsWord, OpenParen, CloseParen, OpenBracket, CloseBracket, Comma, Question, Colon}
+use Rattle.bt_grammar.specs.declared.class.Class.TheVariants.{Increment, Decrement, MapName, VarName, NumberLiteral, TextLiteral, ArgsWord, OpenParen, CloseParen, OpenBracket, CloseBracket, Comma, Question, Colon}
 use Rattle.bt_grammar.specs.declared.class.Tier.{Tier}
 use Rattle.bt_grammar.specs.declared.class.Tier.TheVariants.{Products, Sums, Shifts, Orders, Equalities, BitAnds, BitXors, BitOrs, AndThens, OrElses}
 use Rattle.bt_parser.specs.declared.cursor.Named.{Named}
-use Rattle.bt_grammar.specs.Classes.{is, tier_of, tier_number, is_builtin, is_step, is_dot, is_word, builtin_of, prefix_of, joins}
+use Rattle.bt_grammar.specs.Classes.{is, tier_number, is_builtin, is_step, is_dot, is_word, builtin_of, prefix_of, joins}
 use Rattle.bt_grammar.specs.Form.{Item, brace_next, Primary, Unary, Level, Expression, Keyed, Assignable, Form, Tok, Map, Then, Or}
 use Rattle.bt_grammar.specs.Reading.{Out, Done, and_then, read, reads, goes_on, starts, rest_of}
 use Rattle.bt_grammar.specs.Rules.{mark, ends, optional, after_comma, value, operation}
@@ -107,12 +107,6 @@ level_on p tier left ts = goes_on binary (operation p tier) left ts
 
 abbrev pub level_by : Bool → Tier → List Item → Out Expr
 level_by p tier ts = operand_by p (tighter tier) ts >>= λ x r. level_on p tier x r
-
--- a mark of a tier other than `&&` and `||`
-abbrev pub is_binary : Class → Bool
-is_binary AndAnd = false
-is_binary OrOr = false
-is_binary c = is_some (tier_of c)
 
 abbrev pub joined : Class → Expr → Expr → Expr
 joined c left right = expr (binary_kind c left right) (place_of_expr left)

@@ -3,7 +3,8 @@ use Rattle.std.specs.Prelude.{true, List, [], ◌∷◌, ◌++◌, Option, Some,
 use Rattle.bt_ast.specs.declared.expr.Expr.{Expr}
 use Rattle.bt_ast.specs.declared.probe.Point.{Point}
 use Rattle.bt_ast.specs.declared.probe.Probe.{Probe}
-use Rattle.bt_grammar.specs.declared.class.Class.TheVariants.{Comma, Slash}
+use Rattle.bt_core.specs.declared.operator.BinOp.TheVariants.{Div}
+use Rattle.bt_grammar.specs.declared.class.Class.TheVariants.{Comma, Operator}
 use Rattle.bt_grammar.specs.Classes.{is_point}
 use Rattle.bt_grammar.specs.Form.{Item, Expression, Points, Braced, Form, Tok, Call, Map, Then, Until}
 use Rattle.bt_grammar.specs.Reading.{Out, Done, read, reads, goes_on, starts, rest_of}
@@ -24,11 +25,11 @@ abbrev pub points_turn : List Point → List Item → Out (List Point)
 points_turn points ts = if starts (ends Comma) ts then (read reads point_form (rest_of ts) >>= λ p r. points_on (points ++ p ∷ []) r) else Done points ts
 
 abbrev pub predicate_form : Form (Option Expr)
-predicate_form = optional (Then second (mark Slash) (Until (Call (Expression true)) Slash))
+predicate_form = optional (Then second (mark (Operator Div)) (Until (Call (Expression true)) (Operator Div)))
 
 abbrev pub predicate_by : List Item → Out (Option Expr)
-predicate_by ts = if starts (ends Slash) ts
-    then (reads (Expression true) (rest_of ts) >>= λ x r. read reads (mark Slash) r >>= λ _ r1. Done (Some x) r1)
+predicate_by ts = if starts (ends (Operator Div)) ts
+    then (reads (Expression true) (rest_of ts) >>= λ x r. read reads (mark (Operator Div)) r >>= λ _ r1. Done (Some x) r1)
     else Done None ts
 
 abbrev pub probe_by : List Item → Out Probe

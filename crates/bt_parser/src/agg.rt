@@ -1,21 +1,21 @@
 // What is gathered in aggregation maps.
-ghost use Rattle.std.specs.Prelude.{◌≡◌, ◌<◌, OnOk, length, true};
+ghost use Rattle.std.specs.Prelude.{◌≡◌, ◌<◌, OnOk, length};
 ghost use Rattle.bt_parser.specs.Contract.{Reads};
-ghost use Rattle.bt_grammar.specs.Classes.{gathers};
 ghost use Rattle.bt_grammar.specs.Form.{Aggregation, Int};
 ghost use Rattle.bt_grammar.specs.Reading.{read, reads};
 ghost use Rattle.bt_grammar.specs.Rules.{in_parens, value};
 ghost use Rattle.bt_parser.specs.Statements.{bounds_by, count_form, gather_form, lhist_form};
 ghost use Rattle.bt_grammar.specs.Tokens.{items};
-ghost use Rattle.bt_grammar.specs.Trees.{gathering};
+ghost use Rattle.bt_grammar.specs.Trees.{gathered};
 
 use crate::cursor::Cursor;
 use crate::expr::expression;
 use crate::fault::Fault;
 use bt_ast::expr::Expr;
 use bt_ast::stmt::AggCall;
+use bt_core::operator::BinOp;
 use bt_core::place::Place;
-use bt_grammar::class::Class;
+use bt_grammar::class::{Class, Gathering};
 use std::alloc::Global;
 
 /// A number, with a `-` before it or none.
@@ -24,7 +24,7 @@ fn int(tokens: &mut Cursor<'_>) -> Result<i64, Fault>
     ensures reads { Reads (reads Int (items tokens.old)) result tokens.new }
     ensures shorter { OnOk result (length tokens.new < length tokens.old) }
 {
-    if !tokens.sees(Class::Minus) {
+    if !tokens.sees(Class::Operator(BinOp::Sub)) {
         return tokens.number();
     }
     tokens.skip();
@@ -55,17 +55,15 @@ fn count(tokens: &mut Cursor<'_>) -> Result<(AggCall, Place), Fault>
 }
 
 /// The map function of one number that a word names.
-fn gathering(class: Class, value: Expr) -> AggCall
-    requires { gathers class ≡ true }
-    ensures { result ≡ gathering class value }
+fn gathered(gathering: Gathering, value: Expr) -> AggCall
+    ensures { result ≡ gathered gathering value }
 {
-    match class {
-        Class::SumWord => AggCall::Sum(value),
-        Class::MinWord => AggCall::Min(value),
-        Class::MaxWord => AggCall::Max(value),
-        Class::AvgWord => AggCall::Avg(value),
-        Class::HistWord => AggCall::Hist(value),
-        _ => unreachable!(),
+    match gathering {
+        Gathering::Sum => AggCall::Sum(value),
+        Gathering::Min => AggCall::Min(value),
+        Gathering::Max => AggCall::Max(value),
+        Gathering::Avg => AggCall::Avg(value),
+        Gathering::Hist => AggCall::Hist(value),
     }
 }
 
@@ -74,12 +72,12 @@ fn gather(alloc: Global, tokens: &mut Cursor<'_>) -> Result<(AggCall, Place), Fa
     ensures reads { Reads (read reads gather_form (items tokens.old)) result tokens.new }
     ensures shorter { OnOk result (length tokens.new < length tokens.old) }
 {
-    let Some(class) = tokens.gatherer() else {
+    let Some(gathering) = tokens.gathering() else {
         return Err(Fault::Syntax);
     };
     let place = tokens.skip();
     let value = in_parens(alloc, tokens)?;
-    Ok((gathering(class, value), place))
+    Ok((gathered(gathering, value), place))
 }
 
 /// The bounds and the step of a linear histogram.

@@ -4,11 +4,10 @@ ghost use Rattle.bt_grammar.specs.Tokens.{class_of};
 ghost use Rattle.bt_parser.specs.ClassLists.{classes_of};
 
 use crate::attach::attach_class;
-use crate::marks::mark_class;
-use crate::words::word_class;
 use bt_core::items::Items;
 use bt_core::memory::Memory;
 use bt_grammar::class::Class;
+use bt_grammar::words::{mark_class, word_class};
 use bt_lexer::token::{Token, TokenKind};
 use std::alloc::Global;
 

@@ -2,7 +2,7 @@
 ghost use Rattle.std.specs.Prelude.{◌≡◌, ◌<◌, IfOk, IfSome, IsSome, IsTrue, List, OnOk, false, length, true};
 ghost use Rattle.bt_grammar.specs.declared.class.Class.{Class};
 ghost use Rattle.bt_grammar.specs.declared.class.Class.TheVariants.{NumberLiteral};
-ghost use Rattle.bt_grammar.specs.Classes.{gathers, is, is_point, joins, tier_of};
+ghost use Rattle.bt_grammar.specs.Classes.{is, is_point, joins, tier_of};
 ghost use Rattle.bt_parser.specs.ClassLists.{classes_of, is_number_kind};
 ghost use Rattle.bt_parser.specs.Contract.{Reads};
 ghost use Rattle.bt_grammar.specs.Form.{brace_next};
@@ -10,7 +10,7 @@ ghost use Rattle.bt_grammar.specs.Reading.{read, reads, rest_of, starts};
 ghost use Rattle.bt_grammar.specs.Rules.{a_number, ends, mark};
 ghost use Rattle.bt_parser.specs.Mirror.{class_at, front_place, named_form, operator_at, prefix_at, builtin_at, step_at, when, word_form};
 ghost use Rattle.bt_parser.specs.Probes.{point_form};
-ghost use Rattle.bt_parser.specs.Statements.{begins_aggregation, begins_control, call_at, gatherer_at, update_at};
+ghost use Rattle.bt_parser.specs.Statements.{begins_aggregation, begins_control, call_at, gathering_at, update_at};
 ghost use Rattle.bt_grammar.specs.Tables.{is_call};
 ghost use Rattle.bt_grammar.specs.Tokens.{items};
 ghost use Rattle.bt_grammar.specs.Trees.{kind_bytes, kind_number};
@@ -18,7 +18,7 @@ ghost use Rattle.bt_grammar.specs.Trees.{kind_bytes, kind_number};
 use crate::fault::Fault;
 use crate::point::point_of;
 use crate::tables::{
-    builtin_of, gathers, is_call, is_control, is_point, prefix_of, tier_of, update_of,
+    builtin_of, gathering_of, gathers, is_call, is_control, is_point, prefix_of, tier_of, update_of,
 };
 use bt_ast::expr::Builtin;
 use bt_ast::probe::Point;
@@ -26,7 +26,7 @@ use bt_core::items::Items;
 use bt_core::memory::{Memory, TryCopy};
 use bt_core::operator::{BinOp, UnOp};
 use bt_core::place::Place;
-use bt_grammar::class::{Class, Tier};
+use bt_grammar::class::{Class, Gathering, Tier};
 use bt_lexer::token::{Token, TokenKind};
 use std::alloc::Global;
 use std::marker::Model;
@@ -95,7 +95,7 @@ fn number_of(kind: &TokenKind) -> i64
 fn joins(in_predicate: bool, tier: Tier, class: Class, before_brace: bool) -> bool
     ensures { result ≡ joins in_predicate tier class before_brace }
 {
-    let ends_predicate = in_predicate && before_brace && is(Class::Slash, class);
+    let ends_predicate = in_predicate && before_brace && is(Class::Operator(BinOp::Div), class);
     tier_of(class) == Some(tier) && !ends_predicate
 }
 
@@ -191,14 +191,12 @@ impl<'a> Cursor<'a> {
         update_of(self.peek()?)
     }
 
-    /// The word that comes next where it is a map function of one number.
-    pub fn gatherer(&self) -> Option<Class>
-        ensures class { result ≡ gatherer_at (items self.now) }
-        ensures gathers { IfSome result (λ class. gathers class ≡ true) }
+    /// The map function of one number whose word comes next.
+    pub fn gathering(&self) -> Option<Gathering>
+        ensures class { result ≡ gathering_at (items self.now) }
         ensures some { IsSome result → 0 < length self.now }
     {
-        let class = self.peek()?;
-        when(gathers(class), class)
+        gathering_of(self.peek()?)
     }
 
     /// The word that comes next where it begins a call or is a jump.

@@ -1,7 +1,6 @@
 // Expressions.
-ghost use Rattle.std.specs.Prelude.{◌≡◌, ◌<◌, IfOk, IsSome, OnOk, length};
+ghost use Rattle.std.specs.Prelude.{◌≡◌, ◌<◌, IfOk, OnOk, length};
 ghost use Rattle.bt_parser.specs.Contract.{Reads};
-ghost use Rattle.bt_grammar.specs.Classes.{tier_of};
 ghost use Rattle.bt_grammar.specs.Form.{Assignable, Expression, Keyed, Level, Primary, Unary};
 ghost use Rattle.bt_grammar.specs.Reading.{reads};
 ghost use Rattle.bt_parser.specs.Mirror.{joined, operand_by, values_behind};
@@ -12,7 +11,7 @@ ghost use Rattle.bt_grammar.specs.Trees.{expr, place_of_expr};
 use crate::cursor::{Cursor, Named};
 use crate::fault::Fault;
 use crate::leaf::{leaf, map_value, step_value};
-use crate::tables::{binary_of, tighter};
+use crate::tables::tighter;
 use bt_ast::expr::{Expr, ExprKind, MapRef, Target, VarRef};
 use bt_core::boxed::Boxed;
 use bt_core::items::Items;
@@ -22,24 +21,26 @@ use bt_core::place::Place;
 use bt_grammar::class::{Class, Tier};
 use std::alloc::Global;
 
-/// Two operands joined by the operator that a mark is.
+/// Two operands joined by the operator that a mark of a tier is.
 fn join(alloc: Global, class: Class, left: Expr, right: Expr) -> Result<Expr, Memory>
-    requires { IsSome (tier_of class) }
     ensures { IfOk result (λ e. e ≡ joined class left right) }
 {
     let place = left.place;
     let left = Boxed::new(alloc, left)?;
     let right = Boxed::new(alloc, right)?;
     let kind = match class {
+        Class::Operator(op) => ExprKind::Binary { op, left, right },
         Class::AndAnd => ExprKind::AndThen { left, right },
-        Class::OrOr => ExprKind::OrElse { left, right },
-        _ => ExprKind::Binary {
-            op: binary_of(class),
-            left,
-            right,
-        },
+        _ => ExprKind::OrElse { left, right },
     };
     Ok(Expr { kind, place })
+}
+
+/// Two expressions in boxes.
+fn boxed_both(alloc: Global, a: Expr, b: Expr) -> Result<(Boxed<Expr>, Boxed<Expr>), Memory>
+    ensures { IfOk result (λ both. both ≡ (a, b)) }
+{
+    Ok((Boxed::new(alloc, a)?, Boxed::new(alloc, b)?))
 }
 
 /// `condition ? yes : no`.
@@ -48,8 +49,7 @@ fn choose(alloc: Global, condition: Expr, yes: Expr, no: Expr) -> Result<Expr, M
 {
     let place = condition.place;
     let condition = Boxed::new(alloc, condition)?;
-    let yes = Boxed::new(alloc, yes)?;
-    let no = Boxed::new(alloc, no)?;
+    let (yes, no) = boxed_both(alloc, yes, no)?;
     let kind = ExprKind::Choose { condition, yes, no };
     Ok(Expr { kind, place })
 }

@@ -1,9 +1,8 @@
 // How deep tokens are nested.
 ghost use Rattle.std.specs.Prelude.{◌≡◌, ◌∷◌, [], ◌≤◌, ◌<◌, IfOk, IfSome, OnOk, length};
-ghost use Rattle.bt_parser.specs.Levels.{IsWeighed, deep_from, is_other_operator, levels_of};
+ghost use Rattle.bt_parser.specs.Levels.{IsWeighed, deep_from, levels_of};
 ghost use Rattle.bt_grammar.specs.Weights.{closed, counted, is_operator, levels_behind, opened, reset};
 
-use crate::tables::{prefix_of, tier_of, update_of};
 use bt_core::limits::NESTING;
 use bt_core::memory::Memory;
 use bt_grammar::class::Class;
@@ -23,25 +22,23 @@ pub struct Levels {
     pub weight: u64,
 }
 
-/// Whether a mark is `++`, `--`, `=` or `?`.
-fn is_other_operator(class: Class) -> bool
-    ensures { result ≡ is_other_operator class }
-{
-    matches!(
-        class,
-        Class::Increment | Class::Decrement | Class::Assign | Class::Question
-    )
-}
-
 /// Whether a mark counts: it is neither a brace or bracket nor `,`, `;`, `.`, `->` or `:`.
-#[tactic(auto, using(crate::proofs::Operators::operator_is))]
 fn is_operator(class: Class) -> bool
     ensures { result ≡ is_operator class }
 {
-    tier_of(class).is_some()
-        || update_of(class).is_some()
-        || prefix_of(class).is_some()
-        || is_other_operator(class)
+    matches!(
+        class,
+        Class::Operator(_)
+            | Class::UpdateMark(_)
+            | Class::Increment
+            | Class::Decrement
+            | Class::AndAnd
+            | Class::OrOr
+            | Class::Assign
+            | Class::Tilde
+            | Class::Bang
+            | Class::Question
+    )
 }
 
 impl Levels {

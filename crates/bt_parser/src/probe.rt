@@ -14,6 +14,7 @@ use crate::point::place_of_points;
 use bt_ast::expr::Expr;
 use bt_ast::probe::{Point, Probe};
 use bt_core::items::Items;
+use bt_core::operator::BinOp;
 use bt_grammar::class::Class;
 use std::alloc::Global;
 
@@ -38,12 +39,12 @@ fn predicate(alloc: Global, tokens: &mut Cursor<'_>) -> Result<Option<Expr>, Fau
     ensures reads { Reads (read reads predicate_form (items tokens.old)) result tokens.new }
     ensures no_longer { OnOk result (length tokens.new ≤ length tokens.old) }
 {
-    if !tokens.sees(Class::Slash) {
+    if !tokens.sees(Class::Operator(BinOp::Div)) {
         return Ok(None);
     }
     tokens.skip();
     let value = expression(alloc, tokens, true)?;
-    tokens.expect(Class::Slash)?;
+    tokens.expect(Class::Operator(BinOp::Div))?;
     Ok(Some(value))
 }
 

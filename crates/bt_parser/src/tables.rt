@@ -1,26 +1,19 @@
 // What a class of tokens is in the grammar: a builtin variable, an operator, and of which tier.
-ghost use Rattle.std.specs.Prelude.{◌≡◌, ◌≤◌, true};
-ghost use Rattle.bt_grammar.specs.Classes.{binary_of, builtin_of, gathers, is_point, prefix_of, tier_number, tier_of, update_of};
-ghost use Rattle.bt_parser.specs.Mirror.{is_binary, tier_rank, tighter};
+ghost use Rattle.std.specs.Prelude.{◌≡◌, ◌≤◌};
+ghost use Rattle.bt_grammar.specs.Classes.{builtin_of, compares, gathering_of, gathers, is_point, prefix_of, tier_number, tier_of, tier_of_operator, update_of};
+ghost use Rattle.bt_parser.specs.Mirror.{tier_rank, tighter};
 ghost use Rattle.bt_grammar.specs.Tables.{is_call, is_control};
 
 use bt_ast::expr::Builtin;
 use bt_core::operator::{BinOp, UnOp};
-use bt_grammar::class::{Class, Tier};
+use bt_grammar::class::{Class, Gathering, Tier};
 
 /// The builtin variable that a word names.
 pub fn builtin_of(class: Class) -> Option<Builtin>
     ensures { result ≡ builtin_of class }
 {
     match class {
-        Class::PidWord => Some(Builtin::Pid),
-        Class::TidWord => Some(Builtin::Tid),
-        Class::UidWord => Some(Builtin::Uid),
-        Class::GidWord => Some(Builtin::Gid),
-        Class::CommWord => Some(Builtin::Comm),
-        Class::CpuWord => Some(Builtin::Cpu),
-        Class::NsecsWord => Some(Builtin::Nsecs),
-        Class::ElapsedWord => Some(Builtin::Elapsed),
+        Class::BuiltinWord(builtin) => Some(builtin),
         _ => None,
     }
 }
@@ -32,9 +25,19 @@ pub fn prefix_of(class: Class) -> Option<UnOp>
     match class {
         Class::Bang => Some(UnOp::LogNot),
         Class::Tilde => Some(UnOp::BitNot),
-        Class::Minus => Some(UnOp::Neg),
+        Class::Operator(BinOp::Sub) => Some(UnOp::Neg),
         _ => None,
     }
+}
+
+/// Whether an operator compares, and so has no form with `=`.
+fn compares(op: BinOp) -> bool
+    ensures { result ≡ compares op }
+{
+    matches!(
+        op,
+        BinOp::Eq | BinOp::Ne | BinOp::Lt | BinOp::Le | BinOp::Gt | BinOp::Ge
+    )
 }
 
 /// The operator that stands before `=` in one mark.
@@ -42,17 +45,24 @@ pub fn update_of(class: Class) -> Option<BinOp>
     ensures { result ≡ update_of class }
 {
     match class {
-        Class::ShlAssign => Some(BinOp::Shl),
-        Class::ShrAssign => Some(BinOp::Shr),
-        Class::AddAssign => Some(BinOp::Add),
-        Class::SubAssign => Some(BinOp::Sub),
-        Class::MulAssign => Some(BinOp::Mul),
-        Class::DivAssign => Some(BinOp::Div),
-        Class::ModAssign => Some(BinOp::Mod),
-        Class::AndAssign => Some(BinOp::BitAnd),
-        Class::OrAssign => Some(BinOp::BitOr),
-        Class::XorAssign => Some(BinOp::BitXor),
+        Class::UpdateMark(op) => { if compares(op) { None } else { Some(op) } }
         _ => None,
+    }
+}
+
+/// The tier of an operator on numbers.
+fn tier_of_operator(op: BinOp) -> Tier
+    ensures { result ≡ tier_of_operator op }
+{
+    match op {
+        BinOp::Mul | BinOp::Div | BinOp::Mod => Tier::Products,
+        BinOp::Add | BinOp::Sub => Tier::Sums,
+        BinOp::Shl | BinOp::Shr => Tier::Shifts,
+        BinOp::Lt | BinOp::Le | BinOp::Gt | BinOp::Ge => Tier::Orders,
+        BinOp::Eq | BinOp::Ne => Tier::Equalities,
+        BinOp::BitAnd => Tier::BitAnds,
+        BinOp::BitXor => Tier::BitXors,
+        BinOp::BitOr => Tier::BitOrs,
     }
 }
 
@@ -61,45 +71,10 @@ pub fn tier_of(class: Class) -> Option<Tier>
     ensures { result ≡ tier_of class }
 {
     match class {
-        Class::Star | Class::Slash | Class::Percent => Some(Tier::Products),
-        Class::Plus | Class::Minus => Some(Tier::Sums),
-        Class::ShlMark | Class::ShrMark => Some(Tier::Shifts),
-        Class::Less | Class::LessOrEqual | Class::Greater | Class::GreaterOrEqual => {
-            Some(Tier::Orders)
-        }
-        Class::EqualMark | Class::NotEqualMark => Some(Tier::Equalities),
-        Class::Ampersand => Some(Tier::BitAnds),
-        Class::Caret => Some(Tier::BitXors),
-        Class::Bar => Some(Tier::BitOrs),
+        Class::Operator(op) => Some(tier_of_operator(op)),
         Class::AndAnd => Some(Tier::AndThens),
         Class::OrOr => Some(Tier::OrElses),
         _ => None,
-    }
-}
-
-/// The operator on numbers that a mark of a tier is, other than `&&` and `||`.
-pub fn binary_of(class: Class) -> BinOp
-    requires { is_binary class ≡ true }
-    ensures { result ≡ binary_of class }
-{
-    match class {
-        Class::Star => BinOp::Mul,
-        Class::Slash => BinOp::Div,
-        Class::Percent => BinOp::Mod,
-        Class::Plus => BinOp::Add,
-        Class::Minus => BinOp::Sub,
-        Class::ShlMark => BinOp::Shl,
-        Class::ShrMark => BinOp::Shr,
-        Class::Less => BinOp::Lt,
-        Class::LessOrEqual => BinOp::Le,
-        Class::Greater => BinOp::Gt,
-        Class::GreaterOrEqual => BinOp::Ge,
-        Class::EqualMark => BinOp::Eq,
-        Class::NotEqualMark => BinOp::Ne,
-        Class::Ampersand => BinOp::BitAnd,
-        Class::Caret => BinOp::BitXor,
-        Class::Bar => BinOp::BitOr,
-        _ => unreachable!(),
     }
 }
 
@@ -122,14 +97,21 @@ pub fn tighter(tier: Tier) -> Option<Tier>
     }
 }
 
+/// The map function of one number that a word names.
+pub fn gathering_of(class: Class) -> Option<Gathering>
+    ensures { result ≡ gathering_of class }
+{
+    match class {
+        Class::GatherWord(gathering) => Some(gathering),
+        _ => None,
+    }
+}
+
 /// Whether a word is a map function of one number.
 pub fn gathers(class: Class) -> bool
     ensures { result ≡ gathers class }
 {
-    matches!(
-        class,
-        Class::SumWord | Class::MinWord | Class::MaxWord | Class::AvgWord | Class::HistWord
-    )
+    matches!(class, Class::GatherWord(_))
 }
 
 /// Whether a word begins a call or is a jump.

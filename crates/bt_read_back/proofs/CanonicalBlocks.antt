@@ -13,6 +13,7 @@ use Rattle.bt_grammar.specs.declared.class.Class.{Class}
 use Rattle.bt_grammar.specs.declared.class.Class.TheVariants.{IfWord, ElseWord, WhileWord, UnrollWord, OpenBrace, CloseBrace, Semicolon}
 use Rattle.bt_grammar.specs.Form.{Item, Part, Expression, Simple, Arm, Tail, Control, Body, Braced, Form, Call, Map, Then, Or, Rel, whole}
 use Rattle.bt_grammar.specs.Tokens.{origin}
+use Rattle.bt_grammar.specs.Words.{word_class, mark_class}
 use Rattle.bt_grammar.specs.Trees.{second, cons, nothing, more_arms, last_block, if_stmt, while_stmt, unroll_stmt, block_of}
 use Rattle.bt_grammar.specs.Rules.{rule, mark}
 use Rattle.bt_read_back.specs.Bare.{bare_arm, bare_block}
@@ -122,6 +123,7 @@ module _ (R : Rel) (calls : (n : Part) → Lift R (Call n) (Value n)) where
 
   -- a semicolon is always written
   lift_rest : ((u : Item) → u.class ≡ CloseBrace → R Body (u ∷ []) []) → Lift R Rest (Behind (ending (codes ";")) IsBody)
+  unfolding word_class mark_class
   lift_rest closes = record { lift = go }
     where
       semicolon : Lift R (Then second (mark Semicolon) (Call Body)) (Behind (ending (codes ";")) IsBody)

@@ -3,6 +3,7 @@ use Rattle.std.proofs.Common.{◌≡◌, ℕ, ℤ, pos, Bool, true, false, not, 
 use Rattle.std.specs.Prelude.{codes, map, is_some}
 use Rattle.std.proofs.lemmas.List.{append-nil}
 use Rattle.std.proofs.lemmas.Bool.{false≢true}
+use Rattle.bt_core.specs.declared.operator.BinOp.{BinOp}
 use Rattle.bt_core.specs.declared.operator.BinOp.TheVariants as ops
 use Rattle.bt_lexer.specs.declared.token.TokenKind.{TokenKind}
 use Rattle.bt_lexer.specs.declared.token.TokenKind.TheVariants as kinds
@@ -16,14 +17,15 @@ use Rattle.bt_ast.specs.declared.expr.VarRef.{VarRef}
 use Rattle.bt_ast.specs.declared.expr.IncDec.{IncDec, roll-IncDec}
 use Rattle.bt_ast.specs.declared.expr.Target.{Target}
 use Rattle.bt_ast.specs.declared.expr.Target.TheVariants as targets
-use Rattle.ast_text.specs.Words.{token, quoted_text, quoted_bytes, unary_mark}
+use Rattle.ast_text.specs.Words.{token, quoted_text, quoted_bytes, builtin_word, unary_mark, binary_mark}
 use Rattle.ast_text.specs.Exprs.{expr_text, target_text, map_text, marked, key_text, step_mark}
 use Rattle.bt_grammar.specs.declared.class.Class.{Class}
-use Rattle.bt_grammar.specs.declared.class.Class.TheVariants.{PidWord, TidWord, UidWord, GidWord, CommWord, CpuWord, NsecsWord, ElapsedWord, ArgsWord, MapName, VarName, NumberLiteral, TextLiteral, Increment, Decrement, OpenParen, CloseParen, OpenBracket, CloseBracket, Star, Slash, Percent, Plus, Minus, ShlMark, ShrMark, Less, LessOrEqual, Greater, GreaterOrEqual, EqualMark, NotEqualMark, Ampersand, Bar, Caret, AndAnd, OrOr, Tilde, Bang, Question, Colon}
+use Rattle.bt_grammar.specs.declared.class.Class.TheVariants.{ArgsWord, MapName, VarName, NumberLiteral, TextLiteral, Increment, Decrement, OpenParen, CloseParen, OpenBracket, CloseBracket, AndAnd, OrOr, Tilde, Bang, Question, Colon, BuiltinWord, Operator}
 use Rattle.bt_grammar.specs.declared.class.Tier.{Tier}
 use Rattle.bt_grammar.specs.declared.class.Tier.TheVariants.{Products, Sums, Shifts, Orders, Equalities, BitAnds, BitXors, BitOrs, AndThens, OrElses}
-use Rattle.bt_grammar.specs.Classes.{is, is_word, is_builtin, builtin_of, is_prefix, prefix_of, is_step, binary_of, tier_of, of_tier, ends_predicate, joins}
+use Rattle.bt_grammar.specs.Classes.{is, is_word, is_builtin, builtin_of, is_prefix, prefix_of, is_step, tier_of, of_tier, ends_predicate, joins}
 use Rattle.bt_grammar.specs.Form.{Item, brace_next, Part, Primary, Unary, Level, Expression, Values, Keyed, Assignable, Call, Rel, whole}
+use Rattle.bt_grammar.specs.Words.{word_of, mark_of}
 use Rattle.bt_grammar.specs.Tokens.{origin}
 use Rattle.bt_grammar.specs.Trees.{kind_bytes, kind_number, bytes_at, number_at, single, snoc, expr, place_of_expr, place_of_map, var_ref, map_ref, var_target, number_expr, text_expr, builtin_kind, builtin_expr, field_expr, paren_expr, prefix_step, map_operand, var_operand, unary_op, unary, binary_kind, binary, choose}
 use Rattle.bt_grammar.specs.Rules.{rule, operand}
@@ -63,14 +65,12 @@ same_var t u e = ap (λ (k : TokenKind). record { name = kind_bytes k; place = o
 -- ---- operators by their classes
 
 builtin_lexeme : (c : Class) → is_builtin c ≡ true → (p : Place) → lexeme (kind_of c) ≡ expr_text (expr (builtin_kind (builtin_of c)) p)
-builtin_lexeme PidWord h p = sym (Builtin_text builtins.Pid p)
-builtin_lexeme TidWord h p = sym (Builtin_text builtins.Tid p)
-builtin_lexeme UidWord h p = sym (Builtin_text builtins.Uid p)
-builtin_lexeme GidWord h p = sym (Builtin_text builtins.Gid p)
-builtin_lexeme CommWord h p = sym (Builtin_text builtins.Comm p)
-builtin_lexeme CpuWord h p = sym (Builtin_text builtins.Cpu p)
-builtin_lexeme NsecsWord h p = sym (Builtin_text builtins.Nsecs p)
-builtin_lexeme ElapsedWord h p = sym (Builtin_text builtins.Elapsed p)
+unfolding word_of mark_of
+builtin_lexeme (BuiltinWord b) h p = by b ∙ sym (Builtin_text b p)
+  where
+    by : (x : Builtin) → lexeme (kind_of (BuiltinWord x)) ≡ token (builtin_word x)
+    by builtins.Pid = refl
+    by _ = refl
 builtin_lexeme _ h p = absurd (false≢true h)
 
 builtin_bared : (o : Option Builtin) (p : Place) → bare_expr (expr (builtin_kind o) p) ≡ expr (builtin_kind o) origin
@@ -83,36 +83,27 @@ step_lexeme Decrement h = refl
 step_lexeme _ h = absurd (false≢true h)
 
 prefix_lexeme : (c : Class) → is_prefix c ≡ true → lexeme (kind_of c) ≡ token (unary_mark (unary_op (prefix_of c)))
+unfolding word_of mark_of
 prefix_lexeme Bang h = refl
 prefix_lexeme Tilde h = refl
-prefix_lexeme Minus h = refl
+prefix_lexeme (Operator ops.Sub) h = refl
 prefix_lexeme _ h = absurd (false≢true h)
+
+operator_lexeme : (op : BinOp) → lexeme (kind_of (Operator op)) ≡ token (binary_mark op)
+unfolding word_of mark_of
+operator_lexeme ops.Add = refl
+operator_lexeme _ = refl
 
 binary_lexeme : (c : Class) → is_some (tier_of c) ≡ true → (l r : Expr) (p : Place) → expr_text l ++ (lexeme (kind_of c) ++ expr_text r) ≡ expr_text (expr (binary_kind c l r) p)
 binary_lexeme AndAnd h l r p = sym (AndThen_text l r p)
 binary_lexeme OrOr h l r p = sym (OrElse_text l r p)
-binary_lexeme Star h l r p = sym (Binary_text ops.Mul l r p)
-binary_lexeme Slash h l r p = sym (Binary_text ops.Div l r p)
-binary_lexeme Percent h l r p = sym (Binary_text ops.Mod l r p)
-binary_lexeme Plus h l r p = sym (Binary_text ops.Add l r p)
-binary_lexeme Minus h l r p = sym (Binary_text ops.Sub l r p)
-binary_lexeme ShlMark h l r p = sym (Binary_text ops.Shl l r p)
-binary_lexeme ShrMark h l r p = sym (Binary_text ops.Shr l r p)
-binary_lexeme Less h l r p = sym (Binary_text ops.Lt l r p)
-binary_lexeme LessOrEqual h l r p = sym (Binary_text ops.Le l r p)
-binary_lexeme Greater h l r p = sym (Binary_text ops.Gt l r p)
-binary_lexeme GreaterOrEqual h l r p = sym (Binary_text ops.Ge l r p)
-binary_lexeme EqualMark h l r p = sym (Binary_text ops.Eq l r p)
-binary_lexeme NotEqualMark h l r p = sym (Binary_text ops.Ne l r p)
-binary_lexeme Ampersand h l r p = sym (Binary_text ops.BitAnd l r p)
-binary_lexeme Caret h l r p = sym (Binary_text ops.BitXor l r p)
-binary_lexeme Bar h l r p = sym (Binary_text ops.BitOr l r p)
+binary_lexeme (Operator op) h l r p = ap (λ (z : List ℕ). expr_text l ++ (z ++ expr_text r)) (operator_lexeme op) ∙ sym (Binary_text op l r p)
 binary_lexeme _ h l r p = absurd (false≢true h)
 
 binary_bared : (c : Class) (l r : Expr) (p : Place) → bare_expr (expr (binary_kind c l r) p) ≡ expr (binary_kind c (bare_expr l) (bare_expr r)) origin
+binary_bared (Operator op) l r p = Binary_bare op l r p
 binary_bared AndAnd l r p = AndThen_bare l r p
-binary_bared OrOr l r p = OrElse_bare l r p
-binary_bared c l r p = Binary_bare (binary_of c) l r p
+binary_bared _ l r p = OrElse_bare l r p
 
 -- ---- operands
 

@@ -10,6 +10,7 @@ use Rattle.bt_grammar.specs.declared.class.Class.TheVariants.{OpenParen, ClosePa
 use Rattle.bt_grammar.specs.Classes.{is_dot}
 use Rattle.bt_grammar.specs.Form.{Item, brace_next, Form, Tok, Empty, Map, Then, Or, Until, Op, Chain, Rel, links, whole}
 use Rattle.bt_grammar.specs.Tokens.{class_of}
+use Rattle.bt_grammar.specs.Words.{word_class, mark_class}
 use Rattle.bt_grammar.specs.Trees.{pair, second}
 use Rattle.bt_grammar.specs.Rules.{mark, optional, in_parens, after_comma}
 use Rattle.bt_grammar.proofs.AllClasses.{is_same, is_refl}
@@ -276,6 +277,7 @@ module _ (R : Rel) where
 
   -- `.` or `->`, which is written as `.`
   pub lift_dot : Lift R (Tok is_dot) (λ t x u. x ≡ token (codes "."))
+  unfolding word_class mark_class
   lift_dot = record { lift = go }
     where
       go : (ts : List Item) (a : Item) → Honest ts → whole R (Tok is_dot) ts a → Again R (Tok is_dot) (λ t x u. x ≡ token (codes ".")) ts a

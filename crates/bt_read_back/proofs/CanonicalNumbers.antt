@@ -7,7 +7,8 @@ use Rattle.bt_lexer.specs.declared.token.TokenKind.TheVariants as kinds
 use Rattle.bt_lexer.specs.Numbers.{signed}
 use Rattle.ast_text.specs.Words.{number_text}
 use Rattle.bt_grammar.specs.declared.class.Class.{Class}
-use Rattle.bt_grammar.specs.declared.class.Class.TheVariants.{NumberLiteral, Minus}
+use Rattle.bt_core.specs.declared.operator.BinOp.TheVariants.{Sub}
+use Rattle.bt_grammar.specs.declared.class.Class.TheVariants.{NumberLiteral, Operator}
 use Rattle.bt_grammar.specs.Classes.{is}
 use Rattle.bt_grammar.specs.Form.{Item, Int, Rel, whole}
 use Rattle.bt_grammar.specs.Trees.{kind_number, number_at}
@@ -32,8 +33,8 @@ number_bits t h q = let k = number_kind t.kind (sym (is_same NumberLiteral t.cla
     of_sound n (bs, (m, e, w), l) = (m, l m w, e)
 
 -- a number whose sign is a token of its own
-two_classes : (ts : List Item) (t u : Item) → ts ≡ t ∷ u ∷ [] → is Minus t.class ≡ true → is NumberLiteral u.class ≡ true → item_classes ts ≡ Minus ∷ NumberLiteral ∷ []
-two_classes ts t u e q q' = ap item_classes e ∙ (λ i. is_same Minus t.class q i ∷ is_same NumberLiteral u.class q' i ∷ [])
+two_classes : (ts : List Item) (t u : Item) → ts ≡ t ∷ u ∷ [] → is (Operator Sub) t.class ≡ true → is NumberLiteral u.class ≡ true → item_classes ts ≡ (Operator Sub) ∷ NumberLiteral ∷ []
+two_classes ts t u e q q' = ap item_classes e ∙ (λ i. is_same (Operator Sub) t.class q i ∷ is_same NumberLiteral u.class q' i ∷ [])
 
 module _ (R : Rel) where
   -- each number of 64 bits is written without a sign

@@ -11,7 +11,8 @@ use Rattle.ast_text.specs.Words.{token}
 use Rattle.ast_text.specs.Stmts.{joined}
 use Rattle.ast_text.specs.Scripts.{points_text, predicate_text, probe_text}
 use Rattle.bt_grammar.specs.declared.class.Class.{Class}
-use Rattle.bt_grammar.specs.declared.class.Class.TheVariants.{CloseBrace, Slash}
+use Rattle.bt_core.specs.declared.operator.BinOp.TheVariants.{Div}
+use Rattle.bt_grammar.specs.declared.class.Class.TheVariants.{CloseBrace, Operator}
 use Rattle.bt_grammar.specs.declared.class.Tier.{Tier}
 use Rattle.bt_grammar.specs.declared.class.Tier.TheVariants.{Products, Sums, Shifts, Orders, Equalities, BitAnds, BitXors, BitOrs, AndThens, OrElses}
 use Rattle.bt_grammar.specs.Form.{Item, is_brace, brace_next, Part, Primary, Unary, Level, Expression, Values, Keyed, Assignable, Int, Aggregation, Update, AfterMap, AfterVar, Printf, Print, Delete, CallOrJump, Simple, Arm, Tail, Control, Body, Braced, Points, OneProbe, WholeScript, Of, Call, Rel, whole}
@@ -67,7 +68,7 @@ more_case ps qs p q x y (ex, eb) (ey, ef) = (joined_by ex ey ∙ sym (joined_sno
 
 module _ (R : Rel) (calls : (n : Part) → Lift R (Call n) (Value n)) where
   lift_OneProbe : Lift R (rule OneProbe) IsProbe
-  lift_OneProbe = lift_then R (calls Points) (lift_then R (lift_as R (lift_optional R (lift_second R Slash refl (lift_until R Slash refl (calls (Expression true))))) predicate_case) (calls Braced) behind_case) probe_case
+  lift_OneProbe = lift_then R (calls Points) (lift_then R (lift_as R (lift_optional R (lift_second R (Operator Div) refl (lift_until R (Operator Div) refl (calls (Expression true))))) predicate_case) (calls Braced) behind_case) probe_case
 
   lift_WholeScript : Lift R (rule WholeScript) IsProbes
   lift_WholeScript = lift_chain R (lift_map R (calls OneProbe) one_case) (calls OneProbe) more_case

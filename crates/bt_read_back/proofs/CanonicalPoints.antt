@@ -35,7 +35,7 @@ use Rattle.bt_read_back.specs.Bare.{bare_point}
 use Rattle.bt_grammar.proofs.AllClasses.{and_first, and_second}
 use Rattle.bt_read_back.proofs.Lexemes.{lexeme, Valid, Honest}
 use Rattle.bt_grammar.proofs.KindClasses.{tracepoint_kind, interval_kind, apart}
-use Rattle.bt_read_back.proofs.LexemesFixed.{kind_of, fixed_valid}
+use Rattle.bt_read_back.proofs.LexemesFixed.{kind_of, fixed_class, fixed_valid}
 use Rattle.bt_read_back.proofs.CanonicalWeights.{shallow_token}
 use Rattle.bt_read_back.proofs.CanonicalForms.{Lift, Again, Behind, one_item, lift_map, lift_chain, lift_comma}
 use Rattle.bt_read_back.proofs.CanonicalValues.{IsPoint, IsPoints}
@@ -170,10 +170,10 @@ written_as : (class : Class) (point other : Point) → other ≡ point → Writt
 written_as class point other e w = subst (Written class) (sym e) w
 
 begin_written : (p : Place) → Written BeginWord (points.Begin p)
-begin_written p = (kind_of BeginWord, fixed_valid BeginWord refl, refl, λ c q e. subst (λ (z : Class). (is_point z ≡ true) × IsPoint (points.Begin p) (lexeme (kind_of BeginWord)) (point_of z (kind_of BeginWord) q)) (sym e) (refl, (refl, refl)))
+begin_written p = (kind_of BeginWord, fixed_valid BeginWord refl, fixed_class BeginWord refl, λ c q e. subst (λ (z : Class). (is_point z ≡ true) × IsPoint (points.Begin p) (lexeme (kind_of BeginWord)) (point_of z (kind_of BeginWord) q)) (sym (e ∙ fixed_class BeginWord refl)) (refl, (refl, refl)))
 
 end_written : (p : Place) → Written EndWord (points.End p)
-end_written p = (kind_of EndWord, fixed_valid EndWord refl, refl, λ c q e. subst (λ (z : Class). (is_point z ≡ true) × IsPoint (points.End p) (lexeme (kind_of EndWord)) (point_of z (kind_of EndWord) q)) (sym e) (refl, (refl, refl)))
+end_written p = (kind_of EndWord, fixed_valid EndWord refl, fixed_class EndWord refl, λ c q e. subst (λ (z : Class). (is_point z ≡ true) × IsPoint (points.End p) (lexeme (kind_of EndWord)) (point_of z (kind_of EndWord) q)) (sym (e ∙ fixed_class EndWord refl)) (refl, (refl, refl)))
 
 tracepoint_written : (system name : List ℕ) → is_name system ≡ true → is_name name ≡ true → (p : Place) → Written TracepointPoint (points.Tracepoint system name p)
 tracepoint_written system name s n p = (

@@ -3,6 +3,8 @@ use Rattle.std.proofs.Common.{◌≡◌, ℕ, ℤ, Bool, true, false, List, [], 
 use Rattle.std.specs.Prelude.{codes, map}
 use Rattle.std.proofs.lemmas.List.{append-nil}
 use Rattle.std.proofs.lemmas.Bool.{false≢true}
+use Rattle.bt_core.specs.declared.operator.BinOp.{BinOp}
+use Rattle.bt_core.specs.declared.operator.BinOp.TheVariants as ops
 use Rattle.bt_core.specs.declared.place.Place.{Place}
 use Rattle.bt_ast.specs.declared.expr.Expr.{Expr}
 use Rattle.bt_ast.specs.declared.expr.MapRef.{MapRef, roll-MapRef}
@@ -17,12 +19,15 @@ use Rattle.bt_ast.specs.declared.stmt.StmtKind.TheVariants as stmts
 use Rattle.ast_text.specs.Words.{token, number_text, assign_mark}
 use Rattle.ast_text.specs.Exprs.{expr_text, target_text, map_text, marked, key_text}
 use Rattle.ast_text.specs.Stmts.{call_text, simple, agg_text, optional_text, kind_text}
+use Rattle.bt_grammar.specs.declared.class.Gathering.{Gathering}
+use Rattle.bt_grammar.specs.declared.class.Gathering.TheVariants.{Sum}
 use Rattle.bt_grammar.specs.declared.class.Class.{Class}
-use Rattle.bt_grammar.specs.declared.class.Class.TheVariants.{CountWord, SumWord, MinWord, MaxWord, AvgWord, HistWord, LhistWord, PrintfWord, PrintWord, ClearWord, ZeroWord, DeleteWord, ExitWord, BreakWord, ContinueWord, ReturnWord, MapName, VarName, TextLiteral, ShlAssign, ShrAssign, Increment, AddAssign, SubAssign, MulAssign, DivAssign, ModAssign, AndAssign, OrAssign, XorAssign, OpenParen, CloseParen, OpenBracket, CloseBracket, Comma, Assign}
+use Rattle.bt_grammar.specs.declared.class.Class.TheVariants.{CountWord, LhistWord, PrintfWord, PrintWord, ClearWord, ZeroWord, DeleteWord, ExitWord, BreakWord, ContinueWord, ReturnWord, MapName, VarName, TextLiteral, Increment, OpenParen, CloseParen, OpenBracket, CloseBracket, Comma, Assign, GatherWord, UpdateMark}
 use Rattle.bt_grammar.specs.Classes.{is, is_update, update_of, is_step, gathers}
 use Rattle.bt_grammar.specs.Form.{Item, Part, Expression, Values, Keyed, Assignable, Int, Aggregation, Update, AfterMap, AfterVar, Printf, Print, Delete, CallOrJump, Simple, Call, Rel}
+use Rattle.bt_grammar.specs.Words.{word_of, mark_of}
 use Rattle.bt_grammar.specs.Tokens.{origin}
-use Rattle.bt_grammar.specs.Trees.{bytes_at, kind_bytes, snoc, place_of_map, var_ref, map_ref, step_before, step_after, stmt, gathering, count_call, gather_call, lhist_call, update_target, place_of_target, step_target, gather_map, set_map, on_map, set_var, on_var, map_stmt, var_stmt, step_stmt, printf_kind, print_kind, top_and_div, clear_kind, zero_kind, delete_all, delete_keyed, delete_key, on_item, exit_stmt, break_stmt, continue_stmt, return_stmt}
+use Rattle.bt_grammar.specs.Trees.{bytes_at, kind_bytes, snoc, place_of_map, var_ref, map_ref, step_before, step_after, stmt, gathered, gathering, count_call, gather_call, lhist_call, update_target, place_of_target, step_target, gather_map, set_map, on_map, set_var, on_var, map_stmt, var_stmt, step_stmt, printf_kind, print_kind, top_and_div, clear_kind, zero_kind, delete_all, delete_keyed, delete_key, on_item, exit_stmt, break_stmt, continue_stmt, return_stmt}
 use Rattle.bt_grammar.specs.Rules.{rule, empty_parens}
 use Rattle.bt_read_back.specs.Bare.{bare_expr, bare_target, bare_map, bare_agg, bare_statement, bare_stmt}
 use Rattle.bt_grammar.proofs.AllClasses.{implies1}
@@ -41,18 +46,19 @@ count_case : (p q p' q' : Place) (x y : List ℕ) → Marked (token (codes "coun
 count_case p q p' q' x y ex (z, ey, ez) = (joined_by ex (ey ∙ ap (λ (l : List ℕ). token (codes "(") ++ l) ez), refl)
 
 gather_lexeme : (c : Class) → gathers c ≡ true → (e : Expr) → lexeme (kind_of c) ++ (token (codes "(") ++ (expr_text e ++ token (codes ")"))) ≡ agg_text (gathering c e)
-gather_lexeme SumWord h e = refl
-gather_lexeme MinWord h e = refl
-gather_lexeme MaxWord h e = refl
-gather_lexeme AvgWord h e = refl
-gather_lexeme HistWord h e = refl
+gather_lexeme (GatherWord g) h e = by g
+  where
+    by : (x : Gathering) → lexeme (kind_of (GatherWord x)) ++ (token (codes "(") ++ (expr_text e ++ token (codes ")"))) ≡ agg_text (gathered x e)
+    by Sum = refl
+    by _ = refl
 gather_lexeme _ h e = absurd (false≢true h)
 
+gathered_bared : (g : Gathering) (e : Expr) → bare_agg (gathered g e) ≡ gathered g (bare_expr e)
+gathered_bared Sum e = refl
+gathered_bared _ e = refl
+
 gather_bared : (c : Class) (e : Expr) → bare_agg (gathering c e) ≡ gathering c (bare_expr e)
-gather_bared SumWord e = refl
-gather_bared MinWord e = refl
-gather_bared MaxWord e = refl
-gather_bared AvgWord e = refl
+gather_bared (GatherWord g) e = gathered_bared g e
 gather_bared _ e = refl
 
 gather_case : (t u : Item) (e f : Expr) (x y : List ℕ) → Fixed gathers t x u → Parens IsExpr e y f → IsAgg (gather_call t e) (x ++ y) (gather_call u f)
@@ -81,16 +87,17 @@ lhist_case p q a b x y ex (z, ey, (x1, y1, e1, (w1, f1, (g1, h1)), (x2, y2, e2, 
 -- ---- assignments
 
 update_lexeme : (c : Class) → is_update c ≡ true → lexeme (kind_of c) ≡ token (assign_mark (update_of c))
-update_lexeme ShlAssign h = refl
-update_lexeme ShrAssign h = refl
-update_lexeme AddAssign h = refl
-update_lexeme SubAssign h = refl
-update_lexeme MulAssign h = refl
-update_lexeme DivAssign h = refl
-update_lexeme ModAssign h = refl
-update_lexeme AndAssign h = refl
-update_lexeme OrAssign h = refl
-update_lexeme XorAssign h = refl
+unfolding word_of mark_of
+update_lexeme (UpdateMark op) h = by op h
+  where
+    by : (o : BinOp) → is_update (UpdateMark o) ≡ true → lexeme (kind_of (UpdateMark o)) ≡ token (assign_mark (update_of (UpdateMark o)))
+    by ops.Eq h = absurd (false≢true h)
+    by ops.Ne h = absurd (false≢true h)
+    by ops.Lt h = absurd (false≢true h)
+    by ops.Le h = absurd (false≢true h)
+    by ops.Gt h = absurd (false≢true h)
+    by ops.Ge h = absurd (false≢true h)
+    by _ h = refl
 update_lexeme _ h = absurd (false≢true h)
 
 update_case : (m n : Item) (e f : Expr) (x y : List ℕ) → Fixed is_update m x n → IsExpr e y f → IsUpdate (update_target m e) (x ++ y) (update_target n f)

@@ -8,7 +8,8 @@ use Rattle.std.proofs.lemmas.List.Sums.{sum_by-cons}
 use Rattle.bt_core.specs.declared.limits.TheConstants.{NESTING}
 use Rattle.bt_lexer.specs.declared.token.TokenKind.{TokenKind}
 use Rattle.bt_grammar.specs.declared.class.Class.{Class}
-use Rattle.bt_grammar.specs.declared.class.Class.TheVariants.{OpenBrace, CloseBrace, OpenParen, CloseParen, OpenBracket, CloseBracket, Comma, Semicolon, Dot, Arrow, Minus, NumberLiteral}
+use Rattle.bt_core.specs.declared.operator.BinOp.TheVariants.{Sub}
+use Rattle.bt_grammar.specs.declared.class.Class.TheVariants.{OpenBrace, CloseBrace, OpenParen, CloseParen, OpenBracket, CloseBracket, Comma, Semicolon, Dot, Arrow, Operator, NumberLiteral}
 use Rattle.bt_grammar.specs.Classes.{is_dot}
 use Rattle.bt_grammar.specs.Form.{Item}
 use Rattle.bt_grammar.specs.Tokens.{class_of}
@@ -191,7 +192,7 @@ dot_shallow Arrow h = λ ns ms b w light. ((let l = lighter_weight ms ns b in om
 dot_shallow _ h = absurd (false≢true h)
 
 -- a number without its sign
-pub number_shallow : NoDeeper (Minus ∷ NumberLiteral ∷ []) (NumberLiteral ∷ [])
+pub number_shallow : NoDeeper (Operator Sub ∷ NumberLiteral ∷ []) (NumberLiteral ∷ [])
 number_shallow = λ ns ms b w light. ((let l = lighter_weight ms ns b in omega arith, tt), counted_more ms ns b, light.0)
 
 -- a semicolon before a brace

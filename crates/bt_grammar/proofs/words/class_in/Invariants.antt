@@ -1,7 +1,7 @@
 use Rattle.std.proofs.Common.{◌≡◌, drop}
 use Rattle.std.specs.Prelude.{map}
-use Rattle.bt_parser.specs.ClassLists.{class_in}
-use Rattle.bt_parser.proofs.rows.class_in.Given as goal
+use Rattle.bt_grammar.specs.Words.{class_in}
+use Rattle.bt_grammar.proofs.words.class_in.Given as goal
 
 -- the rows that are left give what all rows give
 abbrev pub invariant-loop-word : goal.invariant-loop-word
