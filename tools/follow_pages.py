@@ -1,9 +1,10 @@
 #!/usr/bin/env python3
 """Follows the pages as a reader would: tries each command, script and recording on them, and compares what comes.
 
-  python3 tools/follow_pages.py [--program PROGRAM] [PAGE ..]
+  python3 tools/follow_pages.py [--program PROGRAM | --unproved] [PAGE ..]
 
-PAGES are README.md, examples/README.md and those of docs/ for users, where none is named. PROGRAM stands for ./btreplay.
+PAGES are README.md, examples/README.md and those of docs/ for users, where none is named. PROGRAM stands for ./btreplay. With --unproved
+each command is done by the build that is not proved, and what it tells of that is left out where the page does not ask for it.
 What is tried, in a folder of its own:
 - in a block marked console each line after "$ ", whose output is what stands up to the next such line;
 - in a block marked text, that ends in a line with a fault, the script or recording before it;
@@ -22,6 +23,11 @@ PAGES = ["README.md", "examples/README.md", "docs/LANGUAGE.md", "docs/DIFFERENCE
 FAULT = re.compile(r"(s\.bt:\d+:\d+|r\.btr): [A-Z]\d+ ")
 SCRIPT = re.compile(r"`((?:BEGIN|END|tracepoint:|t:|interval:|i:)[^`]*\{[^`]*\})`")
 RECORDING = "examples/small.btr"
+NOT_PROVED = "btreplay: this build is not proved\n"
+UNPROVED = """#!/bin/sh
+[ "$1" = --unproved ] || set -- --unproved "$@"
+exec '{program}' "$@"
+"""
 
 
 def blocks_of(text):
@@ -42,12 +48,16 @@ def blocks_of(text):
 class Follower:
     """What was tried so far, in a folder that has all of the repository by links."""
 
-    def __init__(self, folder, program):
-        self.folder, self.tried, self.differ = folder, 0, 0
+    def __init__(self, folder, program, is_unproved=False):
+        self.folder, self.tried, self.differ, self.is_unproved = folder, 0, 0, is_unproved
         for entry in TOP.iterdir():
             if entry.name not in (".git", "btreplay"):
                 (folder / entry.name).symlink_to(entry)
-        (folder / "btreplay").symlink_to(program)
+        if is_unproved:
+            (folder / "btreplay").write_text(UNPROVED.format(program=program))
+            (folder / "btreplay").chmod(0o755)
+        else:
+            (folder / "btreplay").symlink_to(program)
         python = [lines for mark, lines in blocks_of((TOP / "docs/RECORDINGS.md").read_text())[0] if mark == "python"]
         self.names = {}
         exec("\n".join(python[0]), self.names)
@@ -57,7 +67,8 @@ class Follower:
         """What a command writes, to both streams."""
         done = subprocess.run(["bash", "-c", command], cwd=self.folder, stdin=subprocess.DEVNULL, stdout=subprocess.PIPE,
                               stderr=subprocess.STDOUT)
-        return done.stdout.decode(errors="replace")
+        came = done.stdout.decode(errors="replace")
+        return came.replace(NOT_PROVED, "") if self.is_unproved and "--unproved" not in command else came
 
     def compare(self, what, wanted, came):
         """Counts a try, and tells where it differs."""
@@ -119,12 +130,13 @@ def main():
     """Follows the pages, and ends with status 1 where something differs."""
     words = argparse.ArgumentParser(description="Follows the pages of btreplay.")
     words.add_argument("--program", default=TOP / "btreplay", help="what stands for ./btreplay")
+    words.add_argument("--unproved", action="store_true", help="take the build that is not proved")
     words.add_argument("pages", nargs="*", metavar="PAGE")
     asked = words.parse_args()
     differ = 0
     for page in asked.pages or PAGES:
         with tempfile.TemporaryDirectory() as folder:
-            follower = Follower(pathlib.Path(folder), os.path.abspath(asked.program))
+            follower = Follower(pathlib.Path(folder), os.path.abspath(asked.program), asked.unproved)
             follower.follow(page)
             differ += follower.differ
             print(f"{page}: {follower.tried} tried, {follower.differ} differ")

@@ -10,21 +10,33 @@
 This program is not proved. btreplay checks each recording that it is given.
 """
 import contextlib
+import importlib.util
+import os
 import signal
 import sys
 
-import selection
-import tracedat
-from cutting import cut
-from dumping import dump, lines
-from faults import MEMORY, WRITE, Ended, Refused
-from info import info, listing
-from output import Output
-from perfdata import convert, mapped
-from record import Asked, record
-from script import points_in
-from timeline import timeline
-from words import parsed
+if sys.version_info < (3, 8):
+    sys.exit("btrecord: Python %s is too old for this command, which needs 3.8" % sys.version.split()[0])
+
+# Who records as root, in a folder of somebody else, leaves nothing there. What Python kept of this file it kept before it read this.
+if not sys.dont_write_bytecode:
+    sys.dont_write_bytecode = True
+    with contextlib.suppress(OSError, NotImplementedError):
+        os.unlink(importlib.util.cache_from_source(__file__))
+        os.rmdir(os.path.dirname(importlib.util.cache_from_source(__file__)))
+
+import selection  # noqa: E402
+import tracedat  # noqa: E402
+from cutting import cut  # noqa: E402
+from dumping import dump, lines  # noqa: E402
+from faults import MEMORY, WRITE, Ended, Refused  # noqa: E402
+from info import info, listing  # noqa: E402
+from output import Output  # noqa: E402
+from perfdata import convert, mapped  # noqa: E402
+from record import Asked, record  # noqa: E402
+from script import points_in  # noqa: E402
+from timeline import timeline  # noqa: E402
+from words import parsed  # noqa: E402
 
 
 def plural(count, word):

@@ -74,7 +74,7 @@ class Command:
         if self.status is None:
             process, status = os.waitpid(self.process, os.WNOHANG)
             if process:
-                self.status = os.waitstatus_to_exitcode(status)
+                self.status = -os.WTERMSIG(status) if os.WIFSIGNALED(status) else os.WEXITSTATUS(status)
         return self.status is not None
 
     def end(self):

@@ -91,7 +91,7 @@ class Attributes:
         for part in FIXED_PARTS:
             places[part] = at
             at += 8 if self.samples & part else 0
-        return places | {None: at}
+        return {**places, None: at}
 
 
 @dataclass(frozen=True)

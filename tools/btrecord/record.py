@@ -387,7 +387,7 @@ def recorded(top, asked, wanted, filters, output, signals, target, notes):
             enabled = set(instance.enable(pairs, recorder.go_on))
         formats = [format for pair, format in zip(wanted.pairs, wanted.formats) if pair in enabled]
         if not formats:
-            raise Refused(told_left_out(wanted.left_out | main.left_out))
+            raise Refused(told_left_out({**wanted.left_out, **main.left_out}))
         joining = Joining(recorder, texts, formats, output.folder)
         steps = joining.steps()
         if asked.tell:
@@ -396,7 +396,7 @@ def recorded(top, asked, wanted, filters, output, signals, target, notes):
         if asked.keeps_latest:
             joining.keep_latest()
     notes += [instance.stays for instance in (main, tasks) if instance.stays]
-    notes += [told_left_out(wanted.left_out | main.left_out)] if wanted.left_out or main.left_out else []
+    notes += [told_left_out({**wanted.left_out, **main.left_out})] if wanted.left_out or main.left_out else []
     return written(recorder.done, joining, steps, output, asked, notes)
 
 

@@ -88,7 +88,7 @@ class Timeline:
     def track_of(self, kind, event):
         """Where an event stands: at its CPU's interrupts, or at its thread. Idle threads all have the number 0, so theirs is the CPU."""
         if kind.is_of_cpu or event.thread == 0:
-            track = CPUS, 2 * event.cpu + 1
+            track = CPUS, 2 * event.cpu + 2
             self.tracks[track] = f"cpu {event.cpu} interrupts"
             return track
         self.threads[event.process, event.thread] = event.name
@@ -126,14 +126,14 @@ class Timeline:
             found, begin, name, system, first = stack.pop()
             if found == key:
                 last = {field if field not in first else f"end {field}": value for field, value in fields.items() if field not in KEYS}
-                yield self.span(track, begin, event.time, name, system, first | last)
+                yield self.span(track, begin, event.time, name, system, {**first, **last})
                 return
             self.cut_short.add((track, found))
             yield self.span(track, begin, event.time, name, system, first)
 
     def switch(self, event, fields):
         """A CPU runs another thread."""
-        track = CPUS, 2 * event.cpu
+        track = CPUS, 2 * event.cpu + 1
         self.tracks[track] = f"cpu {event.cpu}"
         yield from self.stop(event.cpu, event.time, fields)
         if fields["next_pid"]:
@@ -147,7 +147,7 @@ class Timeline:
         self.switched.add(cpu)
         if begin is not None:
             ends = {key: fields[key] for key in ("prev_state", "prev_prio") if key in fields}
-            yield self.span((CPUS, 2 * cpu), begin, time, name, "sched", {"tid": thread} | ends)
+            yield self.span((CPUS, 2 * cpu + 1), begin, time, name, "sched", {"tid": thread, **ends})
 
     def request(self, kind, event, fields):
         """A block request goes to its device, or comes back from it."""
@@ -170,7 +170,7 @@ class Timeline:
             yield from self.stop(cpu, self.end, {})
         for track, stack in self.open.items():
             for _, begin, name, system, fields in stack:
-                yield self.span(track, begin, self.end, name, system, fields | {"end": "not in the recording"})
+                yield self.span(track, begin, self.end, name, system, {**fields, "end": "not in the recording"})
         for process, name in [(CPUS, "CPUs"), (DEVICES, "block devices")]:
             yield named("process", process, 0, name)
         for (process, place), name in sorted(self.tracks.items()):

@@ -1,4 +1,4 @@
-"""Files that trace-cmd writes, as trace.dat: of its versions 6 and 7, where they are not compressed.
+"""Files that trace-cmd writes, as trace.dat: of its versions 6 and 7, also where they are compressed.
 
 The pages trace-cmd.dat.v6(5) and trace-cmd.dat.v7(5) describe them.
 """
@@ -14,6 +14,7 @@ from ring import page_shape
 from signals import Signals, name_of
 from spool import chunks_of, windows
 from tasks import Change, Tasks, task_changes
+from unpacking import Packing, blocks_of_cpu
 
 MAGIC = b"\x17\x08\x44tracing"
 OPTIONS, FLYRECORD = b"options  \0", b"flyrecord\0"
@@ -29,13 +30,21 @@ NO_PROCESSES = "the file does not tell processes: each thread counts as one, but
 
 
 class Pages:
-    """The data of a CPU: pages of the kernel's ring."""
+    """The data of a CPU: pages of the kernel's ring. Where they are compressed they stand in blocks, which are to be unpacked first."""
 
-    def __init__(self, data, at, size, page_bytes):
+    def __init__(self, data, at, size, page_bytes, packing=None):
         self.data, self.at, self.size, self.page_bytes = data, at, size, page_bytes
-        self.shape = None
+        self.shape, self.packing, self.blocks = None, packing, ()
         if at + size > len(data):
             raise Refused(f"the data of a CPU ends too soon, at byte {len(data)}")
+        if packing and size:
+            self.blocks = blocks_of_cpu(data, at)
+
+    def unpack(self, folder):
+        """Puts the pages into a file without a name, where they are compressed."""
+        if self.packing:
+            self.data, self.packing = self.packing.plain_file(self.data, self.blocks, folder), None
+            self.at, self.size = 0, len(self.data)
 
     def chunks(self):
         """All records, those of some pages at a time."""
@@ -65,11 +74,6 @@ class Found:
             self.lost.setdefault(text.partition("\n")[0], sum(map(int, LOST.findall(text))))
         elif kind == OPTION_CLOCK:
             self.clock = (re.findall(r"\[(\S+)\]", text) or [self.clock])[0]
-
-
-def plain(path):
-    """The command that makes a file that can be converted of one that is compressed."""
-    return f"make it plain by: trace-cmd convert -i {path} -o plain.dat --file-version 6 --compression none"
 
 
 def read_headers(r, found):
@@ -123,59 +127,65 @@ def read_version_6(r, size):
 
 def read_version_7(r, path):
     """The contents of a file of version 7, which stand where its options say."""
-    found, seen = Found(), set()
-    for _ in range(2):
-        r.text()
+    found, seen, packing = Found(), set(), Packing(r.text(), path)
+    r.text()
     at = r.number(8)
     while at and at not in seen:
         seen.add(at)
-        options, end = section(r.data, at, path)
+        options, end = section(r.data, at, packing)
         at = 0
         while options.at < end:
             kind, value = options.number(2), options.take(options.number(4))
             if kind == OPTION_DONE:
                 at = int.from_bytes(value, "little")
                 break
-            take_option_7(found, kind, value, r.data, path)
+            take_option_7(found, kind, value, r.data, packing)
     return found
 
 
-def section(data, at, path):
-    """A section of version 7: a reader of it, and where it ends."""
+def section_head(data, at):
+    """The head of a section of version 7: a reader of what stands behind it, its size, and whether that is compressed."""
     r = Reader(data, at, "a section")
     _, flags, _, size = r.number(2), r.number(2), r.number(4), r.number(8)
-    if flags & COMPRESSED:
-        raise Refused(f"the file is compressed; {plain(path)}")
+    return r, size, bool(flags & COMPRESSED)
+
+
+def section(data, at, packing):
+    """A section of version 7: a reader of it, and where it ends."""
+    r, size, is_packed = section_head(data, at)
+    if is_packed:
+        plain = packing.plain_block(data, r.at)
+        return Reader(plain, 0, "a section"), len(plain)
     return r, min(r.at + size, len(data))
 
 
-def take_option_7(found, kind, value, data, path):
+def take_option_7(found, kind, value, data, packing):
     """Notes an option of version 7, and what stands where it says."""
     r = Reader(value, 0, "an option")
     if kind == OPTION_BUFFER:
-        take_buffer(found, r, data, path)
+        take_buffer(found, r, data, packing)
     elif kind == OPTION_HEADER:
-        read_headers(section(data, r.number(8), path)[0], found)
+        read_headers(section(data, r.number(8), packing)[0], found)
     elif kind == OPTION_EVENTS:
-        read_systems(section(data, r.number(8), path)[0], found)
+        read_systems(section(data, r.number(8), packing)[0], found)
     elif kind == OPTION_NAMES:
-        names = section(data, r.number(8), path)[0]
+        names = section(data, r.number(8), packing)[0]
         found.names = names.take(names.number(8))
     else:
         found.take_option(kind, value)
 
 
-def take_buffer(found, r, data, path):
+def take_buffer(found, r, data, packing):
     """Notes where the data of the CPUs stands, of the buffer that is no instance's."""
     at, name, clock, size = r.number(8), r.text(), r.text(), r.number(4)
     if name:
         found.others += 1
         return
-    section(data, at, path)
+    is_packed = section_head(data, at)[2]
     found.clock = clock.decode("utf-8", "replace") or found.clock
     for _ in range(r.number(4)):
         cpu = r.number(4)
-        found.cpus[cpu] = Pages(data, r.number(8), r.number(8), page_bytes(size))
+        found.cpus[cpu] = Pages(data, r.number(8), r.number(8), page_bytes(size), packing if is_packed else None)
 
 
 def read(data, path):
@@ -239,12 +249,15 @@ def convert_trace(data, path, open_output):
     """Makes a recording of a file of trace-cmd, and writes it to what `open_output` answers."""
     found = read(data, path)
     formats, notes = formats_of(found)
-    with open_output() as output, Signals() as signals:
-        assembly = Assembly(formats, found.cpus, output.folder)
-        unknown = assemble(found, formats, assembly, signals)
-        start, end = assembly.span(assembly.first or 0, assembly.last or 0)
-        with output.writing() as file:
-            assembly.write(file, start, end)
+    with open_output() as output:
+        for pages in found.cpus.values():
+            pages.unpack(output.folder)
+        with Signals() as signals:
+            assembly = Assembly(formats, found.cpus, output.folder)
+            unknown = assemble(found, formats, assembly, signals)
+            start, end = assembly.span(assembly.first or 0, assembly.last or 0)
+            with output.writing() as file:
+                assembly.write(file, start, end)
     notes = [NO_PROCESSES] + ([f"nothing is known of {unknown:,} threads"] if unknown else []) + notes
     if found.clock == "local":
         notes.append("its clock is local: times of different CPUs may differ a little (trace-cmd record -C mono has one for all)")

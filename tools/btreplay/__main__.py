@@ -3,7 +3,7 @@ import pathlib
 import sys
 
 if sys.version_info < (3, 8):
-    sys.exit(f"btreplay: Python {sys.version.split()[0]} is too old for this command, which needs 3.8")
+    sys.exit("btreplay: Python %s is too old for this command, which needs 3.8" % sys.version.split()[0])
 
 sys.path[0] = str(pathlib.Path(__file__).resolve().parent.parent)
 

@@ -1,11 +1,13 @@
 """The words of the command `btreplay`, and what it does beside running the program."""
 import contextlib
 import os
+import signal
 import subprocess
 import sys
 from dataclasses import dataclass
 
 from btreplay import proved, unproved
+from btreplay.compiled import NotBuilt
 from btreplay.places import is_checkout
 from btreplay.running import Ended, end_as, end_in_order, hold_streams, is_read_no_more, pass_on, run_program, tell
 
@@ -20,7 +22,7 @@ HELP = """usage: btreplay run [--serial] [--stats] SCRIPT RECORDING    runs the 
 SCRIPT may be - for standard input, or -e 'PROGRAM' for a script as it stands.
 --serial takes the events of all CPUs in one order, by their times; --stats tells how many instructions were run.
 """
-UNPROVED_HELP = """btreplay --unproved and the words of a command do it by a build that is not proved, which is there within a minute or two.
+UNPROVED_HELP = """btreplay --unproved and the words of a command do it by a build that is not proved, which is there within some two minutes.
 """
 TAKES_SCRIPT = ("run", "check", "code", "explain")
 FAILED = 1
@@ -33,7 +35,8 @@ class BadWords(Exception):
 
 @dataclass
 class Asked:
-    """A call of the program: its words, the two operands where there are two, the handles that it takes, and how a script is called."""
+    """A call of the program: its words, the two operands where there are two, the handles that it takes, how a script is called, and whether the
+    program is the one that is not proved."""
 
     words: list
     script: str = None
@@ -41,6 +44,7 @@ class Asked:
     shown: str = None
     text: bytes = None
     handles: tuple = ()
+    is_unproved: bool = False
 
     @property
     def command(self):
@@ -124,7 +128,7 @@ def run_asked(program, asked):
             if text is not None:
                 notes.extend(notes_of(text, probes_of(text), asked.recording, asked.shown, "--serial" in asked.words))
 
-    ended, _ = run_program(program, asked.words, asked.handles, meanwhile=look)
+    ended, _ = run_program(program, asked.words, meanwhile=look)
     ended = Ended(ended.status, named_as_asked(ended.told, asked))
     if ended.told == b"write fault\n" and is_read_no_more():
         return ended.status
@@ -135,14 +139,19 @@ def run_asked(program, asked):
 
 def after_refusal(ended, asked):
     """What is told behind a refusal; where standard error is a terminal, the script's line with a caret first."""
+    if asked.is_unproved and ended.status == -signal.SIGILL:
+        return ["a check of this build failed as it ran"]
+    if ended.status == FAILED and ended.told.startswith(b"usage: "):
+        from btreplay.refusal import about_words
+        return about_words(asked.words)
     if asked.script is None or ended.status <= 0:
         return []
-    from btreplay.refusal import about_files, pointed, refusal_in
+    from btreplay.refusal import pointed, refusal_in
     refusal = refusal_in(ended.told, [asked.shown]) if sys.stderr.isatty() else None
     text = script_text(asked) if refusal and refusal.line else None
     if text is not None:
         pass_on("".join(f"{line}\n" for line in pointed(text, refusal.line, refusal.column)).encode())
-    return about_files(ended.status, ended.told, asked.script, asked.recording) if not asked.handles else []
+    return after_refusal_files(ended, asked)
 
 
 def explain(program, asked):
@@ -151,7 +160,7 @@ def explain(program, asked):
         raise BadWords("explain takes a script and a recording")
     from btreplay.explain import explanation
     asked.words[0] = "check"
-    ended, output = run_program(program, asked.words, asked.handles, output=subprocess.PIPE)
+    ended, output = run_program(program, asked.words, output=subprocess.PIPE)
     ended = Ended(ended.status, named_as_asked(ended.told, asked))
     sys.stdout.buffer.write(output)
     sys.stdout.flush()
@@ -164,22 +173,24 @@ def explain(program, asked):
 
 
 def after_refusal_files(ended, asked):
-    """What is told of files that were refused, where the script is one."""
-    from btreplay.refusal import about_files
-    return about_files(ended.status, ended.told, asked.script, asked.recording) if not asked.handles else []
+    """What is told of files that were refused, of the script where it is one."""
+    from btreplay.refusal import about_files, about_recording
+    lines = about_files(ended.status, ended.told, asked.script, asked.recording) if not asked.handles else []
+    return lines or about_recording(ended.status, asked.recording)
 
 
 def answer(words):
     """Does what words ask for, and gives the status."""
     is_unproved = words[:1] == ["--unproved"]
     words = words[is_unproved:]
-    if words[:1] in (["--help"], ["-h"]):
+    if words[:1] in (["--help"], ["-h"]) or words[:1] and words[1:2] == ["--help"]:
         print(HELP + (UNPROVED_HELP if is_checkout() else ""), end="")
         return 0
     if words[:1] in (["--version"], ["-V"]):
         print(proved.version())
         return 0
     asked = asked_of(words)
+    asked.is_unproved = is_unproved
     does = explain if asked.command == "explain" else run_asked
     if not is_unproved:
         return does(proved.program(), asked)
@@ -196,7 +207,7 @@ def main(words):
     end_in_order()
     try:
         return answer(words)
-    except unproved.NotBuilt as fault:
+    except NotBuilt as fault:
         pass_on(str(fault).encode(errors="replace"))
         tell(["the program could not be built"])
     except BadWords as fault:

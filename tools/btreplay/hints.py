@@ -76,6 +76,8 @@ def at_mark(tokens, place):
         return "there are no tuples: the parts of a key stand without brackets, as @m[a, b]"
     if text == "," and called == "hist":
         return "hist takes the number alone"
+    if text == ")" and called == "lhist":
+        return "lhist takes a number, the least, the greatest and a step: lhist(args.f, 0, 1000, 100)"
     if text == "[" and before[-1:] and re.fullmatch(r"[A-Za-z_]\w*|\$\w+", before[-1]):
         return "fields, strings and variables have no parts to take by [ ]"
     if text in (".", "->") and before[-1:] not in (["args"], []):
@@ -88,9 +90,10 @@ def at_mark(tokens, place):
 
 
 def in_call(tokens, place):
-    """A hint for what stands in the brackets of `print` or `exit` and does not belong there."""
+    """A hint for what stands in the brackets of a call and does not belong there."""
     opened = opened_by(tokens, place)
-    for word, hint in (("print", "print takes a whole map, as print(@m) or print(@m, 10); text is printed by printf"), ("exit", "exit takes nothing: exit()")):
+    for word, hint in (("print", "print takes a whole map, as print(@m) or print(@m, 10); text is printed by printf"), ("exit", "exit takes nothing: exit()"),
+                       ("count", "count takes nothing, and counts each time: count()")):
         if any(at and tokens[at].text == "(" and tokens[at - 1].text == word for at in opened):
             return hint
     return ""

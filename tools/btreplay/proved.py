@@ -5,9 +5,10 @@ import subprocess
 import sys
 import tempfile
 
+from btreplay.compiled import NotBuilt, asked_of_rt
 from btreplay.places import CRATE, CRATES, INSTALLED, INSTALLED_VERSION, TOP, is_checkout
 from btreplay.running import tell
-from btreplay.unproved import NotBuilt, kit, needed
+from btreplay.unproved import needed
 
 PROGRAM = CRATE / "out" / "bt_program"
 RECORD = CRATE / "out" / "proved_at"
@@ -65,7 +66,7 @@ def build():
             raise NotBuilt(log.read().decode(errors="replace"))
     PROGRAM.touch()
     with contextlib.suppress(OSError):
-        RECORD.write_text(f"proved with {kit()} at {commit()}\n")
+        RECORD.write_text(f"proved with {asked_of_rt('version')} at {commit()}\n")
 
 
 def program():
@@ -101,7 +102,7 @@ def version():
         return f"btreplay at {commit()}, not proved and built here"
     with contextlib.suppress(OSError):
         return f"btreplay, {RECORD.read_text().strip()}"
-    return f"btreplay, proved with {kit()} at {commit()}"
+    return f"btreplay, proved with {asked_of_rt('version')} at {commit()}"
 
 
 if __name__ == "__main__":

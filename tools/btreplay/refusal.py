@@ -8,7 +8,13 @@ from btreplay.recorded import begins_a_recording
 from btreplay.tokens import offset_of
 
 SCRIPT, RECORDING, READ, WRITE = 2, 3, 4, 5
+# The commands, each with its options and what it takes.
+FILES, NUMBERS = "a script and a recording", "two numbers, as in 7 1000"
+COMMANDS = {"run": ("--serial --stats", FILES), "check": ("", FILES), "explain": ("", FILES), "code": ("", FILES), "gen": ("", NUMBERS), "big": ("", NUMBERS)}
 MOST_SCRIPT = 65_536
+# How files of other programs begin.
+CONVERTED = {b"\x17\x08\x44tracing": "trace-cmd", b"PERFILE2": "perf"}
+PACKED = {b"\x1f\x8b": "gzip", b"\x28\xb5\x2f\xfd": "zstd", b"\xfd7zXZ\0": "xz"}
 WIDTH = 120
 
 
@@ -82,12 +88,37 @@ def about_files(status, told, script, recording):
     return []
 
 
-def text_of_file(path):
-    """The bytes of a script, as far as a script may go; none where it is no regular file or cannot be read."""
+def about_recording(status, recording):
+    """A line for a file of another program in the place of a recording."""
+    begin = text_of_file(recording, 16) if status == RECORDING else None
+    if begin is None:
+        return []
+    lines = [f"{recording} is a file of {name}: btrecord convert {recording} -o my.btr makes a recording of it" for magic, name in CONVERTED.items() if begin.startswith(magic)]
+    return lines + [f"{recording} is compressed by {name}: unpack it first" for magic, name in PACKED.items() if begin.startswith(magic)]
+
+
+def about_words(words):
+    """Lines for words that are no command: a word that none has, an option that the command does not have, or more or fewer words than it takes."""
+    if not words:
+        return []
+    if words[0] not in COMMANDS:
+        return [f"there is no command {words[0]}; btreplay --help has all of them"]
+    options, takes = COMMANDS[words[0]]
+    other = [word for word in words[1:] if word.startswith("-") and word != "-" and word not in options.split()]
+    if other[:1] == ["-e"] and takes == FILES:
+        return ["a script stands behind -e, and a recording"]
+    if other:
+        return [f"{words[0]} has no option {other[0]}" + (f"; it has {options.replace(' ', ' and ')}" if options else "")]
+    count = sum(word == "-" or not word.startswith("-") for word in words[1:])
+    return [f"{words[0]} takes {takes}" + (f", and {count} {'word stands' if count == 1 else 'words stand'} there" if count != 2 else "")]
+
+
+def text_of_file(path, most=MOST_SCRIPT):
+    """The bytes of a script, as far as a script may go, or so many of another file; none where it is no regular file or cannot be read."""
     try:
         if not stat.S_ISREG(os.stat(path).st_mode):
             return None
         with open(path, "rb") as file:
-            return file.read(MOST_SCRIPT)
+            return file.read(most)
     except (OSError, ValueError):
         return None

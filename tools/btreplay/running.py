@@ -18,11 +18,11 @@ class Ended:
     told: bytes
 
 
-def run_program(program, words, handles=(), output=None, meanwhile=lambda: None):
+def run_program(program, words, output=None, meanwhile=lambda: None):
     """Runs the program with words and the caller's standard input and output, and does `meanwhile` beside it.
 
-    Signals that would end this command go to the program, whose end is waited for. What the program tells is handed back."""
-    child = subprocess.Popen([str(program), *words], pass_fds=handles, stdout=output, stderr=subprocess.PIPE)
+    It has all files that the caller left open for it, as those of a shell's <(..). Signals that would end this command go to the program, whose end is waited for. What the program tells is handed back."""
+    child = subprocess.Popen([str(program), *words], close_fds=False, stdout=output, stderr=subprocess.PIPE)
     before = {}
     try:
         for number in PASSED_ON:

@@ -12,7 +12,9 @@ pub mod Reading
 pub mod Served
 pub mod Calls
 pub mod Fetches
-pub mod Steppers
+pub mod Waits
+pub mod Numbers
+pub mod StepRows
 pub mod Updates
 pub mod Texts
 pub mod Comparing

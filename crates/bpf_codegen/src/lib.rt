@@ -11,5 +11,7 @@ mod moves;
 mod operators;
 mod output;
 mod single;
+mod tops;
 mod variables;
+mod waiting;
 mod words;

@@ -70,13 +70,24 @@ const TOP: &[u8] =
 const LOOPS: &[u8] = b"BEGIN { $i = 0; while ($i < 3) { $i++; if ($i == 2) { continue; } \
 unroll (2) { if ($i == 3) { break; } @x = $i; } } }";
 
+/// Numbers that wait in a register, as a test's outcome, as a truth and as literals, one over another and at the ends of blocks.
+const WAITS: &[u8] =
+    b"BEGIN { $a = 7; $b = -3; $c = $a * 2 - $b % 2; $d = !($a == 7) + ($b < 0) * 4; \
+@x[1, $a > 2, $b] = $c; $a += 5000000000; @y[$a++, --$b] = $d | ($c && $d) | (!$a || $b != 3); \
+printf(\"%d %d %d %d\\n\", 1, $a == 5, ~$b, 2 - $c); if ($a >> 1 >= 2) { @z = -5; } \
+@x[0, 2 > $b ? $a : 3, comm == \"p\"] = ($a << 1) / 3; }";
+
+/// The same of an event's number and a builtin.
+const SEEN: &[u8] = b"tracepoint:t:e { @s = sum(args.v); @h[tid, args.v] = hist(args.v - tid); \
+@a[args.v == 2] = avg(3); @m = max(args.v * args.v); @n[tid] = min(!args.v); }";
+
 /// The number of parts of a map, each of which is read, and cleared.
 const EACH_PART: usize = PARTS as usize;
 
 /// A body of a script by its number, the moment, what is read from maps, and how many steps its walk makes.
 type Row = (&'static [u8], usize, Moment, &'static [i64], usize);
 
-const ROWS: [Row; 13] = [
+const ROWS: [Row; 16] = [
     // A start is set; it is read twice, added and deleted; a thread without one only reads.
     (TIMES, 0, LEFT, &[], 1),
     (TIMES, 1, LEFT, &[100, 100], 4),
@@ -103,6 +114,9 @@ const ROWS: [Row; 13] = [
         &[],
         1,
     ),
+    (WAITS, 0, MAIN, &[], 5),
+    (SEEN, 0, AT_TWO, &[], 5),
+    (SEEN, 0, AT_MINUS_FOUR, &[], 5),
 ];
 
 /// The rows of the map that is read as a whole.

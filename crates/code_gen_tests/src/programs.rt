@@ -68,3 +68,43 @@ fn a_body_that_stops_calls_the_helper_and_ends(rt: HostRuntime) -> Result<(), Fa
     assert_eq!(rt; program.fuel, 3 * 4098);
     Ok(())
 }
+
+/// Worked bodies, and how many slots their programs have at most.
+const FEW: [(&[u8], usize); 6] = [
+    (
+        b"tracepoint:raw_syscalls:sys_enter { @[comm] = count(); }",
+        26,
+    ),
+    (b"tracepoint:raw_syscalls:sys_enter { @ = count(); }", 8),
+    (
+        b"tracepoint:raw_syscalls:sys_enter { @ = hist(args.id); }",
+        10,
+    ),
+    (
+        b"tracepoint:raw_syscalls:sys_enter { @start[tid] = nsecs; }",
+        17,
+    ),
+    (
+        b"tracepoint:raw_syscalls:sys_enter { $i = 0; while ($i < 1000) { $i = $i + 1; } @x = $i; }",
+        31,
+    ),
+    (
+        b"tracepoint:raw_syscalls:sys_enter { @calls[comm] = count(); @ids = hist(args.id); \
+@sum = sum(args.id); }",
+        42,
+    ),
+];
+
+#[test]
+fn programs_of_worked_bodies_have_few_slots(rt: HostRuntime) -> Result<(), Fail> {
+    let alloc = rt.alloc();
+    for (text, slots) in FEW {
+        let program = program_of(alloc, text)??;
+        assert!(rt;
+            program.bytes.len() <= 8 * slots,
+            "{} bytes, {slots} slots",
+            program.bytes.len()
+        );
+    }
+    Ok(())
+}

@@ -4,6 +4,8 @@
 #[cfg(test)]
 mod bodies;
 #[cfg(test)]
+mod folds;
+#[cfg(test)]
 mod large;
 #[cfg(test)]
 mod port;

@@ -1,2 +1,3 @@
 pub mod Made
 pub mod ProgramCodes
+pub mod StillLowered

@@ -3,4 +3,5 @@
 
 pub mod codes;
 pub mod error;
+pub mod folding;
 pub mod programs;

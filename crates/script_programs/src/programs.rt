@@ -6,6 +6,7 @@ ghost use Rattle.script_programs.specs.Sizes.{first_size_fault, too_large};
 ghost use Rattle.script_programs.specs.declared.error.SizeFault.{SizeFault as Fault};
 
 use crate::error::{ProgramsError, SizeFault};
+use crate::folding::fold_all;
 use bpf_codegen::generate::{Program, generate_program};
 use bpf_frame::error::CodeError;
 use bt_core::items::Items;
@@ -50,7 +51,8 @@ pub fn programs_of(alloc: Global, script: &Typed) -> Result<Items<Program>, Prog
         first_size_fault 0 script.now.bodies ≡ Some (place, fault) }
 {
     kept_code::laws::lowered_code_keeps_bodies();
-    let probes = lower(alloc, script)?;
+    let lowered = lower(alloc, script)?;
+    let probes = fold_all(alloc, lowered)?;
     let mut programs = Items::new(alloc);
     for probe in probes.as_slice() {
         match program_at(alloc, programs.len(), probe) {

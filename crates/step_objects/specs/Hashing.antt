@@ -1,11 +1,15 @@
 -- The hash by which tables find keys.
-use Rattle.std.specs.Prelude.{ℕ, zero, suc, ◌+◌, ◌*◌, ◌/◌, ◌%◌, ◌^◌, ◌==◌, if◌then◌else◌, List, length, drop}
+use Rattle.std.specs.Prelude.{ℕ, zero, suc, ◌+◌, ◌*◌, ◌/◌, ◌%◌, ◌^◌, ◌==◌, if◌then◌else◌, List, length, drop, bit_xor}
 use Rattle.byteorder.specs.Endian.{little_number}
 use Rattle.step_objects.specs.declared.hasher.KeyHasher.{KeyHasher}
 
+-- the two halves of 128 bits, joined by xor
+abbrev pub halves_joined : ℕ → ℕ
+halves_joined product = bit_xor (product % 2 ^ 64) (product / 2 ^ 64)
+
 -- a state that has taken in one word more
 abbrev pub mixed : ℕ → ℕ → ℕ
-mixed state word = ((state + word) % 2 ^ 64 * 17380933483125451205) % 2 ^ 64
+mixed state word = halves_joined ((state + word) % 2 ^ 64 * 17380933483125451205)
 
 -- a state that has taken in the first words of eight bytes each
 abbrev pub words_mixed : ℕ → List ℕ → ℕ → ℕ

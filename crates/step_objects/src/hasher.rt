@@ -7,8 +7,9 @@ use std::hash::Hasher;
 
 const MULTIPLIER: u64 = 17_380_933_483_125_451_205;
 
-/// A hasher of an addition and a multiplication for each eight bytes. Its answers are the same in every run: keys can be made that
-/// collide, and then an operation compares the at most 4,096 keys of one table.
+/// A hasher of an addition and a multiplication to 128 bits for each eight bytes. The product's halves are joined, so that each byte of
+/// a word reaches the low bits, by which a table finds its slot. Its answers are the same in every run: keys can be made that collide,
+/// and then an operation compares the at most 4,096 keys of one table.
 #[derive(Clone, Copy)]
 pub struct KeyHasher {
     state: u64,
@@ -49,5 +50,6 @@ impl Hasher for KeyHasher {
 fn mixed(state: u64, word: u64) -> u64
     ensures { result ≡ mixed state word }
 {
-    state.wrapping_add(word).wrapping_mul(MULTIPLIER)
+    let product = state.wrapping_add(word) as u128 * MULTIPLIER as u128;
+    (product & 0xFFFF_FFFF_FFFF_FFFF) as u64 ^ (product >> 64) as u64
 }

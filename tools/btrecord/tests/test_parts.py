@@ -211,12 +211,55 @@ def text(word, size=16):
     return word.ljust(size, b"\0")
 
 
+def viewer_faults(text):
+    """What of a timeline breaks the rules of the trace event format, or is not held exactly by a viewer that reads numbers as doubles."""
+    def refused(word):
+        raise ValueError(f"{word} is no number of JSON")
+
+    whole = json.loads(text, parse_constant=refused)
+    if set(whole) != {"displayTimeUnit", "otherData", "traceEvents"} or whole["displayTimeUnit"] not in ("ms", "ns"):
+        yield f"the whole has {sorted(whole)}"
+    begun, named, used = {}, set(), set()
+    for e in whole["traceEvents"]:
+        track = e.get("pid"), e.get("tid")
+        phase, times = e.get("ph"), [e[key] for key in ("ts", "dur") if key in e]
+        wants = {"X": {"ts", "dur", "cat"}, "i": {"ts", "s", "cat"}, "b": {"ts", "id", "cat"}, "e": {"ts", "id", "cat"}, "M": set()}.get(phase)
+        if wants is None or set(e) != wants | {"ph", "pid", "tid", "name", "args"}:
+            yield f"another form: {e}"
+            continue
+        if not all(type(number) is int and 0 <= number < 1 << 32 for number in track) or not e["name"] or type(e["name"]) is not str:
+            yield f"another track or name: {e}"
+        if not all(type(time) in (int, float) and time >= 0 for time in times) or phase == "i" and e["s"] not in "gpt":
+            yield f"another time or scope: {e}"
+        if not all(type(value) is str or type(value) is int and abs(value) <= 1 << 53 for value in e["args"].values()):
+            yield f"other values: {e}"
+        if phase == "M":
+            if e["name"] not in ("process_name", "thread_name") or (track, e["name"]) in named or list(e["args"]) != ["name"]:
+                yield f"another naming: {e}"
+            named.add((track, e["name"]))
+            continue
+        used.add(track)
+        key = e["cat"], e.get("id")
+        if phase == "b":
+            if key in begun:
+                yield f"begun twice: {e}"
+            begun[key] = track, e["name"], e["ts"]
+        elif phase == "e":
+            of, name, begin = begun.pop(key, (None, None, 0))
+            if (of, name) != (track, e["name"]) or e["ts"] < begin:
+                yield f"ends what did not begin: {e}"
+    for track in used:
+        if (track, "thread_name") not in named:
+            yield f"a track without a name: {track}"
+
+
 class Chrome(Parts):
     def events(self, *events):
         """What a viewer is given: the phase, the track, the time, the length and the name of each event, and the fields."""
         pathlib.Path(self.path).write_bytes(viewed(events))
         status, out, err = self.told("dump", "--chrome", self.path)
         self.assertEqual((status, err), (0, ""))
+        self.assertEqual(list(viewer_faults(out)), [])
         whole = json.loads(out)
         self.assertEqual((whole["otherData"], whole["displayTimeUnit"]), ({"start_ns": "1000", "end_ns": "9000"}, "ns"))
         found = [e for e in whole["traceEvents"] if e["ph"] != "M"]
@@ -244,7 +287,7 @@ class Chrome(Parts):
         device = 254 << 20 | 16
         found = self.events((1001, 7, 8, device, 64, text(b"WS", 4)), (1002, 0, 9, device, 65), (1003, 0, 9, device, 64), (1004, 0, 9, device, 64))
         fields = {"dev": device, "sector": 64}
-        self.assertEqual(found, [("b", "block device 254:16", 0.001, None, "WS", fields | {"rwbs": "WS"}), ("e", "block device 254:16", 0.003, None, "WS", fields)])
+        self.assertEqual(found, [("b", "block device 254:16", 0.001, None, "WS", {**fields, "rwbs": "WS"}), ("e", "block device 254:16", 0.003, None, "WS", fields)])
 
     def test_a_part_and_nothing(self):
         pathlib.Path(self.path).write_bytes(viewed([(1001, 7, 10, 1), (1003, 7, 10, 2)]))
@@ -254,8 +297,22 @@ class Chrome(Parts):
         self.assertEqual(whole["otherData"]["start_ns"], "1002")
         self.assertEqual([e for e in json.loads(self.told("dump", "--chrome", self.path, "--pid", "1")[1])["traceEvents"] if e["ph"] != "M"], [])
 
+    def test_what_breaks_the_rules_of_a_viewer_is_found(self):
+        device = 254 << 20 | 16
+        pathlib.Path(self.path).write_bytes(viewed([(1001, 7, 10, 1), (1002, 7, 8, device, 64, text(b"WS", 4)), (1003, 0, 9, device, 64)]))
+        _, out, _ = self.told("dump", "--chrome", self.path)
+        self.assertEqual(list(viewer_faults(out)), [])
+        for old, new in [('"ph":"i"', '"ph":"Q"'), (',"s":"t"', ""), ('"ts":0.001', '"ts":-1'), ('"ts":0.001', '"ts":"0"'), ('"tid":7', '"tid":-7'), ('"n": 1', '"n": 1.5'),
+                         ('"n": 1', f'"n": {1 << 60}'), ('"name":"mark"', '"name":""'), ('"ph":"b"', '"ph":"e"'), ('"ph":"e"', '"ph":"b"'),
+                         ('"name":"thread_name"', '"name":"process_name"'), ('"displayTimeUnit":"ns"', '"displayTimeUnit":"us"')]:
+            self.assertIn(old, out)
+            self.assertNotEqual(list(viewer_faults(out.replace(old, new))), [], new)
+        with self.assertRaises(ValueError):
+            list(viewer_faults(out.replace('"n": 1', '"n": NaN')))
+
     def test_spans_of_the_examples_lie_one_in_the_other(self):
         _, out, _ = self.told("dump", "--chrome", f"{TOP}/examples/small.btr")
+        self.assertEqual(list(viewer_faults(out)), [])
         tracks = {}
         for e in json.loads(out)["traceEvents"]:
             if e["ph"] == "X":

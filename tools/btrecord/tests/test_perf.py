@@ -1,4 +1,5 @@
 """Tests of files of perf, on bytes that they make, and on files of perf itself where it is there and may record."""
+import os
 import pathlib
 import shutil
 import struct
@@ -48,6 +49,12 @@ def sample(time, cpu, payload, thread=1235, first=b""):
 def comm(time, thread, name):
     """A record of a thread's name."""
     return part(3, struct.pack("<II", 1234, thread) + name.ljust(8, b"\0") + struct.pack("<IIQII", 1234, thread, time, 0, 0))
+
+
+def apart(words):
+    """A command in a mount namespace of its own, where there can be one: perf mounts tracefs where it is not there, and leaves it so."""
+    can = os.geteuid() == 0 and shutil.which("unshare") and subprocess.run(["unshare", "--mount", "true"], stderr=subprocess.DEVNULL).returncode == 0
+    return ["unshare", "--mount", *words] if can else words
 
 
 class PerfFiles(unittest.TestCase):
@@ -156,7 +163,7 @@ class PerfFiles(unittest.TestCase):
         path = self.folder / "own.data"
         event = ["-e", "sched:sched_switch"]
         for words in [["record", "-a", "-R", "-g"] + event, ["sched", "record"], ["trace", "record"], ["record", "-z", "-a", "-R"] + event]:
-            done = subprocess.run(["perf"] + words + ["-o", str(path), "--", "sleep", "0.05"], capture_output=True, text=True)
+            done = subprocess.run(apart(["perf", *words, "-o", str(path), "--", "sleep", "0.05"]), capture_output=True, text=True)
             if done.returncode:
                 self.skipTest(f"perf {words[0]} can't record here")
             if "-z" in words and "compressed" in done.stderr:

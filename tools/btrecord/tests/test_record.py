@@ -65,14 +65,15 @@ class Recording(unittest.TestCase):
 
     def test_the_time_is_kept_while_there_is_always_more(self):
         kernel = Kernel(self.top, {0: [ticks(1, payload())] * 2000})
-        # A machine that is busy may take longer once, and not always.
+        # A machine that is busy may take longer once, and not always; where many wait for a processor all takes so much longer.
         for _ in range(4):
+            most = 1.2 * max(os.getloadavg()[0] / os.cpu_count(), 1)
             began = time.monotonic()
             self.record(kernel, seconds=0.2)
             took = time.monotonic() - began
-            if took < 1.2:
+            if took < most:
                 break
-        self.assertLess(took, 1.2)
+        self.assertLess(took, most)
 
     def test_its_own_share_is_told(self):
         kernel = Kernel(self.top, {0: [ticks(1, payload(os.getpid()), payload(1 << 30), payload(os.getpid()), payload(0))]}, has_filter=False)
@@ -123,7 +124,8 @@ class Recording(unittest.TestCase):
     def start(self, number, seconds):
         """A recorder in a process of its own, once it traces."""
         process = subprocess.Popen([sys.executable, f"{HERE}/fake_recorder.py", f"{self.top}{number}", f"{self.path}{number}", str(seconds)],
-                                   stdout=subprocess.PIPE, stderr=subprocess.PIPE, text=True)
+                                   stdout=subprocess.PIPE, stderr=subprocess.PIPE, text=True,
+                                   preexec_fn=lambda: signal.signal(signal.SIGHUP, signal.SIG_DFL))
         return process
 
     def wait_for(self, number, process):

@@ -1,14 +1,19 @@
 """Tests of the converter of trace-cmd's files, which are made here from what trace-cmd.dat.v6(5) and trace-cmd.dat.v7(5) say."""
 import contextlib
 import io
+import os
 import pathlib
+import shutil
 import struct
+import subprocess
 import tempfile
 import unittest
 import unittest.mock
+import zlib
 
 from made import HEADER_PAGE, NEWTASK, OTHER_TEXT, RENAME, TEXT, page, payload, program, ticks, word
 
+import unpacking
 from faults import REFUSED, Refused
 from reading import read_recording
 from tracedat import read
@@ -42,13 +47,13 @@ def option(kind, value):
     return struct.pack("<HI", kind, len(value)) + value
 
 
-def placed(head, table_size, table, pages):
-    """A file: its head, a table that tells where each CPU's pages stand, and the pages, aligned to their size."""
+def placed(head, table_size, table, parts):
+    """A file: its head, a table that tells where each CPU's data stands, and the data, aligned to the size of pages."""
     at = -(-(len(head) + table_size) // 4096) * 4096
     entries, body = [], b""
-    for cpu, of in pages.items():
-        entries.append((cpu, at + len(body), 4096 * len(of)))
-        body += b"".join(of)
+    for cpu, part in parts.items():
+        entries.append((cpu, at + len(body), len(part)))
+        body += part.ljust(-(-len(part) // 4096) * 4096, b"\0")
     return (head + table(entries)).ljust(at, b"\0") + body
 
 
@@ -59,22 +64,41 @@ def version_6(pages=PAGES, texts=(TEXT, OTHER_TEXT), options=((4, CLOCK), (2, ST
     head += struct.pack("<I", 3) + b"sym" + struct.pack("<I", 2) + b"pr" + long(NAMES) + struct.pack("<I", len(pages))
     if options:
         head += b"options  \0" + b"".join(option(*one) for one in options) + b"\0\0"
-    return placed(head + part, 16 * len(pages), lambda entries: b"".join(struct.pack("<QQ", at, size) for _, at, size in entries), pages)
+    return placed(head + part, 16 * len(pages), lambda entries: b"".join(struct.pack("<QQ", at, size) for _, at, size in entries),
+                  {cpu: b"".join(of) for cpu, of in pages.items()})
 
 
-def version_7(pages=PAGES, texts=(TEXT, OTHER_TEXT), clock=b"mono", flags=0, name=b""):
-    """A file of version 7, with two sections of options."""
-    head = b"\x17\x08\x44tracing7\0\0\x08" + struct.pack("<I", 4096) + b"none\0\0"
+def zstd(contents):
+    """What the program zstd makes of bytes."""
+    return subprocess.run(["zstd", "-cq"], input=contents, stdout=subprocess.PIPE, check=True).stdout
+
+
+def block(contents, pack):
+    """Bytes as a block that is compressed."""
+    packed = pack(contents)
+    return struct.pack("<II", len(packed), len(contents)) + packed
+
+
+def packed_cpu(pages, pack):
+    """The pages of a CPU, two in a block; a CPU without pages has none."""
+    blocks = [block(b"".join(pages[at:at + 2]), pack) for at in range(0, len(pages), 2)]
+    return struct.pack("<I", len(blocks)) + b"".join(blocks) if blocks else b""
+
+
+def version_7(pages=PAGES, texts=(TEXT, OTHER_TEXT), clock=b"mono", name=b"", packing=b"none", pack=None):
+    """A file of version 7, with two sections of options. Where it is compressed, that is what `pack` makes, under a name."""
+    head = b"\x17\x08\x44tracing7\0\0\x08" + struct.pack("<I", 4096) + packing + b"\x001.5\0"
     at, out = {}, b""
 
-    def section(kind, body, flags=0):
+    def section(kind, body, is_packed=False):
         nonlocal out
         at[kind] = len(head) + 8 + len(out)
-        out += struct.pack("<HHIQ", kind, flags, 0, len(body)) + body
-    section(16, headers())
-    section(18, systems(texts), flags)
-    section(21, long(NAMES))
-    section(3, b"")
+        body = block(body, pack) if is_packed and body else body
+        out += struct.pack("<HHIQ", kind, is_packed, 0, len(body)) + body
+    section(16, headers(), bool(pack))
+    section(18, systems(texts), bool(pack))
+    section(21, long(NAMES), bool(pack))
+    section(3, b"", bool(pack))
     first = b"".join(option(kind, struct.pack("<Q", at[kind])) for kind in (16, 18, 21)) + option(2, STATS) + option(99, b"new")
     # The second section stands behind the first one, whose end is an option of 14 bytes.
     section(0, first + option(0, struct.pack("<Q", len(head) + 8 + len(out) + 16 + len(first) + 14)))
@@ -84,7 +108,7 @@ def version_7(pages=PAGES, texts=(TEXT, OTHER_TEXT), clock=b"mono", flags=0, nam
         body = struct.pack("<Q", at[3]) + name + b"\0" + clock + b"\0" + struct.pack("<II", 4096, len(entries))
         body = option(3, body + b"".join(struct.pack("<IQQ", *entry) for entry in entries)) + option(0, bytes(8))
         return struct.pack("<HHIQ", 0, 0, 0, len(body)) + body
-    return placed(head + struct.pack("<Q", start) + out, 200 + 20 * len(pages), buffer, pages)
+    return placed(head + struct.pack("<Q", start) + out, 200 + 20 * len(pages), buffer, {cpu: packed_cpu(of, pack) if pack else b"".join(of) for cpu, of in pages.items()})
 
 
 class Files(unittest.TestCase):
@@ -111,7 +135,7 @@ class Files(unittest.TestCase):
         return told, events
 
     def test_both_versions(self):
-        for contents in (version_6(), version_7(), version_6(pages=PAGES | {3: []})):
+        for contents in (version_6(), version_7(), version_6(pages={**PAGES, 3: []})):
             told, events = self.events(contents)
             self.assertEqual(events, EVENTS)
             self.assertEqual((self.contents.start, self.contents.end, [format.name for format in self.contents.formats]), (100, 200, ["demo:tick", "demo:tock"]))
@@ -159,15 +183,59 @@ class Files(unittest.TestCase):
         self.assertIn("no events of the top instance; those of other instances can't be converted", told)
 
     def test_what_is_refused(self):
-        for contents, text in [(version_7(flags=1), f"the file is compressed; make it plain by: trace-cmd convert -i {self.path} -o plain.dat"),
-                               (version_6(part=b"latency  \0"), "the file holds text and no events"), (version_6(number=b"8"), "of version 8"),
+        for contents, text in [(version_6(part=b"latency  \0"), "the file holds text and no events"), (version_6(number=b"8"), "of version 8"),
                                (version_6(big=1), "big-endian"), (version_6().replace(b"header_page", b"header_pagf"), "no description")]:
             status, told = self.convert(contents)
             self.assertEqual(status, REFUSED, told)
             self.assertIn(text, told)
             self.assertFalse(self.out.exists())
 
+    def test_compressed(self):
+        """By zlib, and by zstd where its program is there."""
+        pages = {**PAGES, 2: PAGES[2] + [ticks(160, payload(5)), ticks(170, payload(5))]}
+        _, wanted = self.events(version_7(pages))
+        self.assertEqual(len(wanted), len(EVENTS) + 2)
+        for name, pack in ((b"zlib", zlib.compress), (b"zstd", zstd)):
+            if name == b"zstd" and not shutil.which("zstd"):
+                continue
+            told, events = self.events(version_7(pages, packing=name, pack=pack))
+            self.assertEqual(events, wanted)
+            self.assertIn("btrecord: 6 events lost while recording\nbtrecord: 0 events left out\n", told)
+            self.assertEqual(sorted(os.listdir(self.path.parent)), ["r.btr", "trace.dat"])
+
+    def test_compressed_by_what_is_not_there(self):
+        make = f"make it plain by: trace-cmd convert -i {self.path} -o plain.dat --file-version 6 --compression none\n"
+        with unittest.mock.patch("unpacking.module_for", lambda name: None), unittest.mock.patch("unpacking.shutil.which", lambda name: None):
+            for name, why in ((b"zlib", "zlib; "), (b"zstd", "zstd, and the program zstd is not there; "), (b"new", "new; ")):
+                self.assertEqual(self.convert(version_7(packing=name, pack=zlib.compress)), (REFUSED, f"btrecord: the file is compressed by {why}{make}"))
+                self.assertFalse(self.out.exists())
+
+    def test_compressed_and_not_whole(self):
+        """What is not of its kind, ends too soon, goes on, or is not of the size that stands before it."""
+        wrongs = [lambda part: b"x" * 20, lambda part: zlib.compress(part)[:-5], lambda part: zlib.compress(part) + b"x", lambda part: zlib.compress(part + b"x"),
+                  lambda part: zlib.compress(part[:-1])]
+        if shutil.which("zstd"):
+            wrongs += [lambda part: b"x" * 20, lambda part: zstd(part)[:-5], lambda part: zstd(part + b"x" * (3 << 20)), lambda part: zstd(part[:-1])]
+        for number, wrong in enumerate(wrongs):
+            name, well = (b"zlib", zlib.compress) if number < 5 else (b"zstd", zstd)
+            # The texts, and then the pages alone.
+            for pack in (wrong, lambda part: wrong(part) if part[:8] == PAGES[0][0][:8] else well(part)):
+                self.assertEqual(self.convert(version_7(packing=name, pack=pack)), (REFUSED, f"btrecord: {unpacking.BROKEN}\n"), number)
+                self.assertEqual(os.listdir(self.path.parent), ["trace.dat"])
+
+    def test_compressed_is_bounded(self):
+        for limit in ("MOST_BLOCK", "MOST_PLAIN"):
+            with unittest.mock.patch(f"unpacking.{limit}", 8191):
+                status, told = self.convert(version_7(packing=b"zlib", pack=zlib.compress))
+            self.assertEqual(status, REFUSED)
+            self.assertIn(unpacking.BROKEN if limit == "MOST_BLOCK" else "the file holds more than 8,191 bytes for a CPU", told)
+
     def test_one_that_ends_anywhere(self):
+        packed = version_7({0: PAGES[0]}, packing=b"zlib", pack=zlib.compress)
+        end = packed.rindex(zlib.compress(b"".join(PAGES[0]))) + len(zlib.compress(b"".join(PAGES[0])))
+        for size in range(10, end):
+            with self.assertRaises(Refused, msg=size):
+                read(packed[:size], "trace.dat")
         for whole in (version_6({0: PAGES[0]}), version_7({0: PAGES[0]})):
             for size in [*range(10, len(whole) - 8192), len(whole) - 4096, len(whole) - 1]:
                 with self.assertRaises(Refused, msg=size):

@@ -24,17 +24,21 @@ eval "$STAND_IN_DOES"
 exit "${STAND_IN_STATUS:-0}"
 """
 
-# The stand-in for the toolchain counts its builds, and leaves the program where `rt try` leaves it, for as long as that runs.
+# The stand-in for the toolchain counts its builds, and hands the program to the compiler beside it as `rt try` does.
 RT = """#!/bin/sh
+kit=$(cd "$(dirname "$(readlink -f "$0")")/.." && pwd)
 case $1 in
 version) echo "kit of the test" ;;
+doc) echo "$kit/START-HERE.md" ;;
 try)
-    echo "$*" >>"$STAND_IN/builds"
+    echo "$kit" >>"$STAND_IN/builds"
     [ -z "$STAND_IN_FAILS" ] || { echo "error: $STAND_IN_FAILS"; exit 2; }
     [ -z "$STAND_IN_SLOW" ] || exec sleep 60
-    mkdir "$TMPDIR/try" && cp "$STAND_IN/lib/bt_program" "$TMPDIR/try/program" || exit 3
-    shift 4
-    "$TMPDIR/try/program" "$@"
+    [ "$(cat "$kit/c/asan.a")" = '!<arch>' ] && [ "$(cat "$kit/c/libos_c.a")" = "os" ] || exit 3
+    mkdir "$TMPDIR/try" && cd "$TMPDIR/try" && cp "$STAND_IN/lib/bt_program" module.bc || exit 3
+    "$kit/toolchain/bin/clang" --sysroot="$kit/toolchain" -c -x ir /dev/null -o probe.o -O0 && echo "the probe is built" || exit 3
+    "$kit/toolchain/bin/clang" --sysroot="$kit/toolchain" -c -x ir module.bc -o module.o -O0 -fsanitize=address && exit 3
+    exit 2
     ;;
 all)
     [ -z "$STAND_IN_SLOW" ] || { echo "$PWD" >>"$STAND_IN/builds"; exec sleep 60; }
@@ -45,6 +49,17 @@ run)
     mkdir -p out && cp "$STAND_IN/lib/bt_program" out/bt_program && echo "logic=proved"
     ;;
 esac
+"""
+
+# The stand-in for the compiler and the linker notes its words, and copies what it is given to where the word behind -o says.
+COMPILER = """#!/bin/sh
+echo "$(basename "$0") $*" >>"$STAND_IN/tools"
+[ "$(basename "$0")" != "$STAND_IN_BROKEN" ] || { echo "error: $0 is broken"; exit 1; }
+while [ $# -gt 0 ]; do
+    case $1 in -x) source=$3 ;; -o) target=$2 source=${source:-$3} ;; esac
+    shift
+done
+cp "$source" "$target" && chmod 755 "$target"
 """
 
 
@@ -92,9 +107,14 @@ class Installed:
             (self.top / "crates" / name / "src" / "main.rt").write_text(f"// {name}\n")
         (self.top / "crates.txt").write_text("# NAME: below\nbt_core: thiserror\nbt_program: bt_core\nother: bt_core\n")
         (self.top / "HANDLES").write_text("Handles allowed: none.\n")
+        kit = self.folder / "a kit"
+        for name, text in (("bin/rt", RT), ("bin/rattle-link", COMPILER), ("toolchain/bin/clang", COMPILER), ("START-HERE.md", "Read.\n"),
+                           ("c/asan.a", "asan"), ("c/libos_c.a", "os"), ("c/liblibc_c.a", "libc")):
+            (kit / name).parent.mkdir(parents=True, exist_ok=True)
+            (kit / name).write_text(text)
+            (kit / name).chmod(0o755)
         (self.folder / "bin").mkdir()
-        (self.folder / "bin" / "rt").write_text(RT)
-        (self.folder / "bin" / "rt").chmod(0o755)
+        (self.folder / "bin" / "rt").symlink_to(kit / "bin" / "rt")
 
     def write(self, name, content):
         """Writes a file that words name, and gives its path."""
@@ -106,7 +126,7 @@ class Installed:
         """The environment by which the stand-in does what a test asks."""
         return {**os.environ, "STAND_IN": str(self.folder), "STAND_IN_OUT": out, "STAND_IN_ERR": err, "STAND_IN_STATUS": str(status),
                 "STAND_IN_DOES": does, "PATH": f"{self.folder}/bin:{os.environ['PATH']}",
-                "XDG_CACHE_HOME": f"{self.folder}/cache", "STAND_IN_FAILS": "", "STAND_IN_SLOW": "", **dict(more)}
+                "XDG_CACHE_HOME": f"{self.folder}/cache", "STAND_IN_FAILS": "", "STAND_IN_SLOW": "", "STAND_IN_BROKEN": "", **dict(more)}
 
     def run(self, *words, given=b"", **how):
         """Runs the command, and gives its status, what it printed and what it told."""

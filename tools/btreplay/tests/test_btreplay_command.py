@@ -2,6 +2,7 @@
 import os
 import pty
 import re
+import shutil
 import signal
 import subprocess
 import tempfile
@@ -40,6 +41,23 @@ class Command(unittest.TestCase):
         self.assertEqual(self.at.run("run", "pair.bt", "one.btr"), (0, "", ""))
         self.assertEqual(self.at.run("run", "pair.bt", "r.btr", status=2, err="pair.bt:1:1: K1 frame too large"),
                          (2, "", "pair.bt:1:1: K1 frame too large\n"))
+
+    def test_words_that_are_no_command(self):
+        """The program says how it is used; the command adds which word is wrong."""
+        self.assertEqual(self.at.run(status=1, err="usage: btreplay run .."), (1, "", "usage: btreplay run ..\n"))
+        files = "takes a script and a recording, and"
+        for words, why in ((["rum", "s.bt", "r.btr"], "there is no command rum; btreplay --help has all of them"),
+                           (["run", "s.bt"], f"run {files} 1 word stands there"),
+                           (["check"], f"check {files} 0 words stand there"),
+                           (["gen", "1", "2", "3"], "gen takes two numbers, as in 7 1000, and 3 words stand there"),
+                           (["big", "1", "x"], "big takes two numbers, as in 7 1000"),
+                           (["run", "--seriall", "s.bt", "r.btr"], "run has no option --seriall; it has --serial and --stats"),
+                           (["check", "--serial", "s.bt", "r.btr"], "check has no option --serial"),
+                           (["run", "-e"], "a script stands behind -e, and a recording"),
+                           (["run", "-e", "BEGIN { }"], f"run {files} 1 word stands there"),
+                           (["run", "-"], f"run {files} 1 word stands there")):
+            with self.subTest(words):
+                self.assertEqual(self.at.run(*words, status=1, err="usage: btreplay run .."), (1, "", f"usage: btreplay run ..\nbtreplay: {why}\n"))
 
     def test_a_script_in_the_words(self):
         self.assertEqual(self.at.run("run", "-e", PAIR, "r.btr", out="text"), (0, "text", ORDER))
@@ -80,6 +98,23 @@ class Command(unittest.TestCase):
         self.assertEqual(self.at.run("check", "r.btr", "s.bt", status=3, err="s.bt: C1 truncated at byte 25"), (3, "", "s.bt: C1 truncated at byte 25\n" + told))
         self.assertEqual(self.at.run("check", "r.btr", "s.bt", status=2, err="r.btr: script too long"), (2, "", "r.btr: script too long\n" + told))
         self.assertEqual(self.at.run("check", "r.btr", "r.btr", status=2, err="r.btr:1:1: P1 syntax"), (2, "", "r.btr:1:1: P1 syntax\n"))
+
+    def test_a_file_of_another_program(self):
+        for begin, told in ((b"\x17\x08\x44tracing6", "is a file of trace-cmd: btrecord convert o.dat -o my.btr makes a recording of it"),
+                            (b"PERFILE2", "is a file of perf: btrecord convert o.dat -o my.btr makes a recording of it"),
+                            (b"\x1f\x8b\x08", "is compressed by gzip: unpack it first"), (b"\x28\xb5\x2f\xfd", "is compressed by zstd: unpack it first")):
+            self.at.write("o.dat", begin + bytes(100))
+            for words in (["run", "s.bt", "o.dat"], ["check", "-e", "BEGIN { }", "o.dat"], ["explain", "s.bt", "o.dat"]):
+                self.assertEqual(self.at.run(*words, status=3, err="o.dat: C2 bad magic")[2], f"o.dat: C2 bad magic\nbtreplay: o.dat {told}\n")
+        self.assertEqual(self.at.run("run", "s.bt", "r.btr", status=3, err="r.btr: C1 truncated")[2], "r.btr: C1 truncated\n")
+
+    def test_files_that_a_shell_leaves_open(self):
+        """As `btreplay run <(..) <(..)`, where the names are those of pipes that the shell holds open."""
+        if not shutil.which("bash"):
+            self.skipTest("there is no bash")
+        done = subprocess.run(["bash", "-c", f'"{self.at.top}/btreplay" run <(echo one) <(echo two)'], stdout=subprocess.PIPE, stderr=subprocess.STDOUT,
+                              env=self.at.environment(does='cat "$recording"'))
+        self.assertEqual((done.returncode, done.stdout, (self.at.folder / "script").read_text()), (0, b"two\n", "one\n"))
 
     def test_a_reader_that_goes_away(self):
         """As `| head -1`: the program's own word for it, its end by the signal, and its status pass without a line."""
@@ -155,6 +190,7 @@ class Command(unittest.TestCase):
     def test_help_and_version(self):
         status, out, err = self.at.run("--help")
         self.assertEqual((status, err), (0, ""))
+        self.assertEqual(self.at.run("run", "--help"), (0, out, ""))
         for word in ("run [--serial] [--stats] SCRIPT RECORDING", "explain", "-e 'PROGRAM'", "--version"):
             self.assertIn(word, out)
         self.assertNotIn("--unproved", out)
@@ -207,6 +243,25 @@ class Builds(unittest.TestCase):
         self.unproved("gen", "1", "2")
         self.assertEqual(self.builds(), 2)
 
+    def test_the_build_is_optimised_and_linked_as_a_proved_program_is(self):
+        self.assertEqual(self.unproved("gen", "1", "2", out="x")[:2], (0, "x"))
+        kit, links = self.at.folder / "a kit", (self.at.folder / "builds").read_text().strip()
+        self.assertNotEqual(links, str(kit))
+        work = os.path.dirname(links)
+        self.assertEqual((self.at.folder / "tools").read_text().splitlines(), [
+            f"clang --sysroot={links}/toolchain -c -x ir /dev/null -o probe.o -O0",
+            f"clang --sysroot={links}/toolchain -c -x ir {work}/code.bc -o {work}/program.o -O1",
+            f"rattle-link --target x86_64-unknown-linux-gnu --toolchain {kit}/toolchain -o {work}/program {work}/program.o {kit}/c/libos_c.a {kit}/c/liblibc_c.a"])
+        self.assertFalse(os.path.exists(work))
+        self.assertEqual(sorted(str(path.relative_to(kit)) for path in kit.rglob("*") if path.is_file()),
+                         ["START-HERE.md", "bin/rattle-link", "bin/rt", "c/asan.a", "c/liblibc_c.a", "c/libos_c.a", "toolchain/bin/clang"])
+        self.assertEqual((kit / "c" / "asan.a").read_text(), "asan")
+
+    def test_a_check_that_fails_as_it_runs_is_told(self):
+        told = "btreplay: this build is not proved\nbtreplay: a check of this build failed as it ran\n"
+        self.assertEqual(self.unproved("gen", "1", "2", does="kill -ILL $$"), (-signal.SIGILL, "", told))
+        self.assertEqual(self.unproved("gen", "1", "2", does="kill -TERM $$"), (-signal.SIGTERM, "", told.splitlines(True)[0]))
+
     def test_builds_are_bounded_and_nothing_else_is_left(self):
         for number in range(5):
             self.source.write_text(f"// {number}\n")
@@ -222,6 +277,9 @@ class Builds(unittest.TestCase):
         self.assertEqual((status, out), (1, ""))
         self.assertEqual(err, "btreplay: this build is not proved\nerror: no such type\nbtreplay: the program could not be built\n")
         self.assertEqual([path.name for path in (self.at.folder / "cache" / "btreplay").iterdir()], ["lock"])
+        for tool in ("clang", "rattle-link"):
+            err = self.unproved("gen", "1", "2", more={"STAND_IN_BROKEN": tool})[2]
+            self.assertRegex(err, f"(?s)error: .*/{tool} is broken\n.*btreplay: the program could not be built\n$")
         self.assertEqual(self.unproved("gen", "1", "2", out="x")[:2], (0, "x"))
 
     def test_two_at_once_build_once(self):

@@ -77,6 +77,8 @@ class Hints(unittest.TestCase):
         self.check("BEGIN { @x = (int64)pid; }", "int64", "no casts")
         self.check("BEGIN { for ($kv : @x) { } }", "for", "no loop over a map")
         self.check("t:a:b { @ = hist(pid, 3); }", ", 3", "hist takes the number alone")
+        self.check("t:a:b { @ = lhist(pid, 0, 10); }", ");", "lhist(args.f, 0, 1000, 100)")
+        self.check("t:a:b { @ = count(pid); }", "pid", "count takes nothing")
         self.check("BEGIN { print(@x[1]); }", "[1", "print takes a whole map")
         self.check("BEGIN { exit(1); }", "1)", "exit takes nothing")
         self.check("t:sched_switch { }", "t:", "tracepoint:SYSTEM:EVENT")

@@ -3,6 +3,7 @@ import os
 import pathlib
 import shutil
 import subprocess
+import sys
 import tempfile
 import unittest
 
@@ -44,6 +45,19 @@ class Install(unittest.TestCase):
         self.assertEqual(self.make("uninstall"), (0, ""))
         self.assertEqual(self.files(), {"opt/some prefix/bin/other"})
         self.assertEqual(self.make("uninstall"), (0, ""))
+
+    def test_nothing_is_written_beside_the_tools(self):
+        """As where root uses them in the folder of somebody else."""
+        environment = {name: value for name, value in os.environ.items() if name != "PYTHONDONTWRITEBYTECODE"}
+        ignored = shutil.ignore_patterns("tests", "__pycache__")
+        shutil.copytree(TOP / "tools", self.folder / "top" / "tools", ignore=ignored)
+        shutil.copy(TOP / "btreplay", self.folder / "top" / "btreplay")
+        (self.folder / "btrecord").symlink_to(self.folder / "top" / "btreplay")
+        for tool, words in (("btreplay", [self.folder / "top" / "btreplay"]), ("btrecord", [self.folder / "btrecord"]),
+                            ("btrecord", [sys.executable, self.folder / "top" / "tools" / "btrecord"])):
+            done = subprocess.run([*map(str, words), "--help"], stdout=subprocess.PIPE, env=environment)
+            self.assertIn(f"usage: {tool}".encode(), done.stdout)
+            self.assertEqual(list((self.folder / "top").rglob("__pycache__")), [])
 
     def check_commands(self):
         """The commands as they are installed, called by their links from another folder."""

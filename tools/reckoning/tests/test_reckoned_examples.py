@@ -122,7 +122,7 @@ class Questions(unittest.TestCase):
     def test_lines(self):
         """A request of 7 microseconds, and an open that fails; what has no beginning gives no line."""
         where = {"dev": 1, "sector": 3, "rwbs": "R"}
-        events = [event("block:block_rq_complete", 10, where), event("block:block_rq_issue", 1000, where | {"bytes": 512, "comm": "cat"}),
+        events = [event("block:block_rq_complete", 10, where), event("block:block_rq_issue", 1000, {**where, "bytes": 512, "comm": "cat"}),
                   event("block:block_rq_complete", 8000, where, cpu=1)]
         self.assertEqual(questions.block_requests(0, events).splitlines()[1:],
                          ["        8 cat             R             3       512        7"])

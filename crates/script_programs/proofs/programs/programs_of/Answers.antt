@@ -3,6 +3,7 @@ use Rattle.bpf_codegen.specs.declared.generate.Program.{Program}
 use Rattle.bt_lower.specs.Bodies.{LowersScript}
 use Rattle.script_programs.specs.declared.error.ProgramsError.{ProgramsError}
 use Rattle.script_programs.specs.Making.{AreMade}
+use Rattle.script_programs.proofs.StillLowered.{script_still_lowered}
 use Rattle.script_programs.proofs.Made.{all_made, keep_script, next_made, script_fits, script_too_large, so_many}
 use Rattle.script_programs.proofs.programs.programs_of.Goals as goal
 
@@ -20,7 +21,8 @@ loop-probe-preserved c =
 pub returns-in-Err-clause-refused : goal.returns-in-Err-clause-refused
 returns-in-Err-clause-refused c = λ place fault e.
     (let probes = c.as_slice-probe-items.result.now in
-    let lowers : LowersScript c.args.script.now probes = subst (LowersScript c.args.script.now) (sym c.as_slice-probe-items.ensures) c.in_ok-probes.ensures in
+    let lowers : LowersScript c.args.script.now probes = subst (LowersScript c.args.script.now) (sym c.as_slice-probe-items.ensures)
+    (script_still_lowered c.args.script.now _ _ c.in_ok-lowered.ensures c.in_ok-probes.ensures) in
     let wrong = c.in-Err.ensures.refused place fault (same_error _ _ e) in
     let low = c.loop-probe-test.true in
     let many : length c.loop-probe.programs ≡ c.loop-probe.probe-index =
@@ -32,13 +34,15 @@ returns-in-Err-clause-refused c = λ place fault e.
 pub returns-clause-keep : goal.returns-clause-keep
 returns-clause-keep c =
     let probes = c.as_slice-probe-items.result.now in
-    let lowers : LowersScript c.args.script.now probes = subst (LowersScript c.args.script.now) (sym c.as_slice-probe-items.ensures) c.in_ok-probes.ensures in
+    let lowers : LowersScript c.args.script.now probes = subst (LowersScript c.args.script.now) (sym c.as_slice-probe-items.ensures)
+    (script_still_lowered c.args.script.now _ _ c.in_ok-lowered.ensures c.in_ok-probes.ensures) in
     keep_script c.args.script.now probes c.loop-probe.programs c.lowered_code_keeps_bodies.ensures lowers
     (all_made probes c.loop-probe.probe-index c.loop-probe.programs c.loop-probe-test.false c.loop-probe.invariant)
 
 pub returns-clause-fit : goal.returns-clause-fit
 returns-clause-fit c =
     let probes = c.as_slice-probe-items.result.now in
-    let lowers : LowersScript c.args.script.now probes = subst (LowersScript c.args.script.now) (sym c.as_slice-probe-items.ensures) c.in_ok-probes.ensures in
+    let lowers : LowersScript c.args.script.now probes = subst (LowersScript c.args.script.now) (sym c.as_slice-probe-items.ensures)
+    (script_still_lowered c.args.script.now _ _ c.in_ok-lowered.ensures c.in_ok-probes.ensures) in
     script_fits c.args.script.now probes c.loop-probe.programs lowers
     (all_made probes c.loop-probe.probe-index c.loop-probe.programs c.loop-probe-test.false c.loop-probe.invariant)

@@ -1,0 +1,172 @@
+// Folding of bodies.
+ghost use Rattle.std.specs.Prelude.{◌≡◌, IfOk, cond, map, List, Bool};
+ghost use Rattle.map_ops.specs.Values.{number_of, holds};
+ghost use Rattle.ir_fold.specs.Folded.{AllVary, BettersBlock, BlockVaries, AllBetter, BlocksVary, IsFoldOf, finishes, block_ends, flag_at, threaded_exit};
+
+use crate::instrs::{fold_instrs, literal_before, take_off};
+use bt_core::ending::Ending;
+use bt_core::items::Items;
+use bt_core::memory::Memory;
+use bt_core::value::Value;
+use ir_code::blocks::{Block, Blocks, Exit};
+use ir_code::probe::IrProbe;
+use map_ops::values::{holds, number_of};
+use std::alloc::Global;
+
+/// Where a branch on a literal goes.
+fn chosen(value: &Value, first: usize, second: usize) -> usize
+    ensures { result ≡ cond (holds (number_of value.now)) first second }
+{
+    if holds(number_of(value)) {
+        first
+    } else {
+        second
+    }
+}
+
+/// Whether a block does nothing but end a run.
+fn block_ends(block: &Block) -> bool
+    ensures { result ≡ block_ends block.now }
+{
+    block.instrs.len() == 0 && finishes(block.exit)
+}
+
+fn finishes(exit: Exit) -> bool
+    ensures { result ≡ finishes exit }
+{
+    match exit {
+        Exit::End(Ending::End) => true,
+        _ => false,
+    }
+}
+
+/// Which blocks do nothing but end a run.
+fn end_flags(alloc: Global, blocks: &[Block]) -> Result<Items<bool>, Memory>
+    ensures { IfOk result (λ flags. flags ≡ map block_ends blocks.now) }
+{
+    let mut flags = Items::new(alloc);
+    for block in blocks {
+        flags.push(block_ends(block))?;
+    }
+    Ok(flags)
+}
+
+/// The flag of a block.
+fn flag_at(flags: &[bool], to: usize) -> bool
+    ensures { result ≡ flag_at flags.now to }
+{
+    match flags.get(to) {
+        None => false,
+        Some(flag) => *flag,
+    }
+}
+
+/// An exit that goes to the end of a run ends it.
+fn threaded_exit(flags: &[bool], exit: Exit) -> Exit
+    ensures { result ≡ threaded_exit flags.now exit }
+{
+    match exit {
+        Exit::Goto(to) => {
+            if flag_at(flags, to) {
+                Exit::End(Ending::End)
+            } else {
+                Exit::Goto(to)
+            }
+        }
+        other => other,
+    }
+}
+
+/// A block that tests no literal and does the same.
+fn settle(alloc: Global, block: Block) -> Block
+    requires { AllVary block.instrs }
+    ensures better { (flags : List Bool) → BettersBlock flags block result }
+    ensures varies { BlockVaries result }
+{
+    let Block {
+        stack,
+        mut instrs,
+        exit,
+        depth,
+    } = block;
+    if let Exit::Branch { first, second } = exit {
+        if let Some(value) = literal_before(&instrs, 1) {
+            take_off(alloc, &mut instrs, 1);
+            let to = chosen(&value, first, second);
+            return Block {
+                stack,
+                instrs,
+                exit: Exit::Goto(to),
+                depth,
+            };
+        }
+    }
+    Block {
+        stack,
+        instrs,
+        exit,
+        depth,
+    }
+}
+
+/// A block without operators and branches on literals, which does the same.
+fn fold_block(alloc: Global, flags: &[bool], block: Block) -> Result<Block, Memory>
+    ensures better { IfOk result (λ folded. BettersBlock flags.now block folded) }
+    ensures varies { IfOk result (λ folded. BlockVaries folded) }
+{
+    let Block {
+        stack,
+        instrs,
+        exit,
+        depth,
+    } = block;
+    let instrs = fold_instrs(alloc, instrs)?;
+    let folded = Block {
+        stack,
+        instrs,
+        exit: threaded_exit(flags, exit),
+        depth,
+    };
+    Ok(settle(alloc, folded))
+}
+
+/// Blocks that do the same, number by number.
+fn fold_blocks(alloc: Global, blocks: Items<Block>) -> Result<Items<Block>, Memory>
+    ensures better { IfOk result (λ folded. AllBetter (map block_ends blocks) blocks folded) }
+    ensures varies { IfOk result (λ folded. BlocksVary folded) }
+{
+    let flags = end_flags(alloc, blocks.as_slice())?;
+    let mut folded = Items::new(alloc);
+    for block in blocks.into_vec() {
+        folded.push(fold_block(alloc, flags.as_slice(), block)?)?;
+    }
+    Ok(folded)
+}
+
+/// Folds the literals of a body.
+///
+/// The run of what it answers asks the same objects for the same, reply by reply, and ends as before, under every context, payload,
+/// actor and number of actors. It has no operator whose operands are all literals, and no branch that tests one. The blocks keep
+/// their numbers, and the probe its variables, maps, formats and both sums. After [`Memory`] the probe is dropped.
+pub fn fold(alloc: Global, probe: IrProbe) -> Result<IrProbe, Memory>
+    ensures { IfOk result (λ folded. IsFoldOf probe folded) }
+{
+    let IrProbe {
+        blocks,
+        variables,
+        maps,
+        formats,
+        frame_need,
+        code_need,
+    } = probe;
+    let Blocks { list } = blocks;
+    let list = fold_blocks(alloc, list)?;
+    Ok(IrProbe {
+        blocks: Blocks { list },
+        variables,
+        maps,
+        formats,
+        frame_need,
+        code_need,
+    })
+}
