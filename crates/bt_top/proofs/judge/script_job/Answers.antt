@@ -33,8 +33,8 @@ returns-in-Ok-programs_for-clause-asks c =
     (rw c.as_slice-formats.ensures at c.in-Ok-check.ensures.allowed) (rw c.as_slice-formats.ensures at c.in-Ok-check.ensures.typed)
     c.in-Ok-programs_for.programs c.in-Ok-programs_for.ensures.programs
 
-pub returns-clause-fault : goal.returns-clause-fault
-returns-clause-fault c =
+pub returns-in-Err-programs_for-clause-fault : goal.returns-in-Err-programs_for-clause-fault
+returns-in-Err-programs_for-clause-fault c =
     size_told _ c.args.recording c.in-Ok.tree c.in-Ok-attach.attached c.in-Ok-check.typed c.in-Ok.ensures.tree
     (rw c.as_slice-formats.ensures at c.in-Ok-attach.ensures.allowed) (rw c.as_slice-formats.ensures at c.in-Ok-attach.ensures.found)
     (rw c.as_slice-formats.ensures at c.in-Ok-check.ensures.allowed) (rw c.as_slice-formats.ensures at c.in-Ok-check.ensures.typed)
