@@ -1,6 +1,6 @@
 -- What a call answers, from what its order comes to and from how that is written.
-use Rattle.std.proofs.Common.{◌≡◌, ◌≢◌, ℕ, ◌⊎◌, List, [], ◌∷◌, refl, sym, ap, subst, ◌∙◌, arith, inl, inr}
-use Rattle.std.specs.Prelude.{◌↔◌, Bool, false, Option, Some, None, Result, Ok, Err, IfSome, IsSome, OnOk, OnErr, unwrap_or}
+use Rattle.std.proofs.Common.{◌≡◌, ◌≢◌, ℕ, ◌⊎◌, List, [], ◌∷◌, refl, sym, subst, inl, inr}
+use Rattle.std.specs.Prelude.{◌↔◌, Bool, false, Option, Some, None, Ok, Err, IfSome, IsSome, unwrap_or}
 use Rattle.std.specs.Io.KnownBytes.{Appends, Keeps}
 use Rattle.std.proofs.lemmas.Bool.{false≢true}
 use Rattle.bt_io.specs.Taken.{AppendsPart}
@@ -15,10 +15,10 @@ use Rattle.bt_top.specs.declared.refusal.Operand.TheVariants as operand
 use Rattle.bt_top.specs.declared.refusal.Refusal.{Refusal}
 use Rattle.bt_top.specs.declared.refusal.Refusal.TheVariants.{Usage, Script, Recording, ReadFault, WriteFault, Memory}
 use Rattle.bt_top.specs.Doing.{ComesOfFiles}
-use Rattle.bt_top.specs.Due.{AreShort, IsDue, IsFinding, IsTooLong}
+use Rattle.bt_top.specs.Due.{IsDue, IsFinding, IsTooLong}
 use Rattle.bt_top.specs.Jobs.{IsJobFor}
 use Rattle.bt_top.specs.Lines.{SinkUse, SinkFailed}
-use Rattle.bt_top.specs.Orders.{NamedFile, files_in, files_of, names_of}
+use Rattle.bt_top.specs.Orders.{NamedFile, files_of}
 use Rattle.bt_top.specs.Outcomes.{ComesTo, IsOutcomeOfRun, bytes_written, check_outcome, code_outcome, gen_outcome}
 use Rattle.bt_top.specs.Refusals.{status_of, too_long}
 use Rattle.bt_top.specs.Serve.{ShelfUse, ShelfFailed, AreContentsOf, MayCome, MayStandFor, ComesIfDue, OnTold, IsReached, ReadFailed, IsComplete}

@@ -1,8 +1,7 @@
 -- What a run that ends with status 0 promises.
-use Rattle.std.proofs.Common.{◌≡◌, ℕ, ◌⊎◌, List, [], ◌∷◌, ◌++◌, length, sym, ap, subst, ◌∙◌, arith, inl, inr}
+use Rattle.std.proofs.Common.{◌≡◌, ℕ, List, ◌++◌, length, sym, subst, arith, inl, inr}
 use Rattle.std.specs.Prelude.{Bool, false, Option, Some, None, IsSomeAnd}
 use Rattle.std.specs.Io.KnownBytes.{Appends}
-use Rattle.big_script.specs.declared.script.TheConstants.{SCRIPT}
 use Rattle.big_script.specs.Jobs.{IsAttachedOver, IsTypedOver, HaveFewKeys}
 use Rattle.bt_ast.specs.declared.attached.Attached.{Attached}
 use Rattle.bt_ast.specs.declared.probe.Script.{Script as Tree}
@@ -31,7 +30,7 @@ use Rattle.bt_top.specs.declared.refusal.Refusal.TheVariants.{Usage, Script, Rec
 use Rattle.bt_top.specs.Headline.{Headline, PrintsItsSteps, PrintsItsTotals, PrintsOfFiles}
 use Rattle.bt_top.specs.Jobs.{IsBigJob, meaning_of}
 use Rattle.bt_top.specs.Lines.{SinkUse}
-use Rattle.bt_top.specs.Orders.{NamedFile, files_of}
+use Rattle.bt_top.specs.Orders.{files_of}
 use Rattle.bt_top.specs.Outcomes.{ComesTo, IsOutcomeOfRun, bytes_written, stats_line, summary_line}
 use Rattle.bt_top.specs.Refusals.{status_of}
 use Rattle.bt_top.specs.Serve.{ShelfUse, AreContentsOf}

@@ -1,5 +1,5 @@
 -- What comes of the reads of a script and a recording.
-use Rattle.std.proofs.Common.{◌≡◌, ◌≢◌, ℕ, suc, ◌<◌, ◌≤◌, ◌⊎◌, List, [], ◌∷◌, ◌++◌, length, refl, sym, ap, subst, arith, inl, inr, ◌∙◌, append_assoc}
+use Rattle.std.proofs.Common.{◌≡◌, ℕ, suc, ◌<◌, ◌≤◌, ◌⊎◌, List, [], ◌∷◌, ◌++◌, length, refl, sym, ap, subst, arith, inl, inr, ◌∙◌, append_assoc}
 use Rattle.std.specs.Prelude.{Option, Some, None, Result, Ok, Err, IfOk, IfErr, IfSome, IsErrOf, unwrap_or, replicate}
 use Rattle.std.proofs.lemmas.List.{length-replicate}
 use Rattle.bt_core.specs.declared.limits.TheConstants.{SCRIPT_BYTES, RECORDING_BYTES}
@@ -16,7 +16,7 @@ use Rattle.bt_top.specs.Doing.{IsExact, IsFaultRefusal, ComesOfFiles, refusal_in
 use Rattle.bt_top.specs.Due.{IsDue, IsFirstRefusal}
 use Rattle.bt_top.specs.Jobs.{IsJobFor, IsJobOf}
 use Rattle.bt_top.specs.Orders.{on_script}
-use Rattle.bt_top.specs.Refusals.{read_refusal, too_long}
+use Rattle.bt_top.specs.Refusals.{read_refusal}
 use Rattle.bt_top.specs.Serve.{ShelfUse, ShelfFailed, AsksExactly, ComesIfDue, MayCome, MayStandFor}
 
 -- a count that rose in a part of a call rose in the call

@@ -1,7 +1,7 @@
 -- The tree of a script, and its first fault.
 use Rattle.std.proofs.Common.{◌≡◌, ◌≢◌, ℕ, List, refl, sym, ap, subst, ◌∙◌, inl}
 use Rattle.std.proofs.Common.{inr, All}
-use Rattle.std.specs.Prelude.{Option, Some, None, Result, Ok, Err, IfOk, IfErr, slice_get}
+use Rattle.std.specs.Prelude.{Option, Some, None, slice_get}
 use Rattle.std.proofs.lemmas.List.Elements.{All-weaker}
 use Rattle.tracefs_format.specs.declared.format.Format.{Format}
 use Rattle.bt_lexer.specs.declared.error.LexError.{LexError}
@@ -42,10 +42,8 @@ use Rattle.bt_top.specs.Script.{IsScriptFault}
 use Rattle.bt_types.specs.Script.{IsTypedScript}
 use Rattle.bt_ast.specs.declared.probe.Probe.{Probe}
 use Rattle.script_programs.specs.declared.error.SizeFault.{SizeFault}
-use Rattle.script_programs.specs.Programs.{KeepScript}
 use Rattle.script_programs.specs.Sizes.{first_size_fault}
 use Rattle.typed_tree.specs.declared.script.Typed.{Typed}
-use Rattle.run_base.specs.declared.job.Job.{Job}
 use Rattle.bpf_codegen.specs.declared.generate.Program.{Program}
 use Rattle.bt_top.specs.Doing.{ArePrograms, IsSizeAnswer, IsTextRefusal, IsScriptRefusal}
 use Rattle.bt_top.specs.Jobs.{AsksFor}

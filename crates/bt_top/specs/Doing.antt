@@ -7,7 +7,6 @@ use Rattle.bt_ast.specs.declared.attached.BodyId.{BodyId}
 use Rattle.bt_ast.specs.declared.probe.Script.{Script as Tree}
 use Rattle.bt_core.specs.declared.place.Place.{Place}
 use Rattle.rec_format.specs.declared.recording.Recording.{Recording as Recorded}
-use Rattle.run_base.specs.declared.job.Job.{Job}
 use Rattle.script_programs.specs.declared.error.SizeFault.{SizeFault}
 use Rattle.script_programs.specs.Programs.{KeepScript}
 use Rattle.script_programs.specs.Sizes.{first_size_fault}

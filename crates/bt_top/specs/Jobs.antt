@@ -1,5 +1,5 @@
 -- What is run, and the work of a run.
-use Rattle.std.specs.Prelude.{◌≡◌, ℕ, Bool, true, List, [], ◌∷◌, map, None}
+use Rattle.std.specs.Prelude.{◌≡◌, ℕ, Bool, true, List, ◌∷◌, map, None}
 use Rattle.big_script.specs.declared.script.TheConstants.{SCRIPT}
 use Rattle.bpf_insn.specs.declared.insn.Insn.{Insn}
 use Rattle.bt_ast.specs.declared.probe.Script.{Script as Tree}

@@ -1,6 +1,6 @@
 -- What each order comes to where nothing is refused: the work that was done, the programs that were run or listed, and the bytes that are
 -- written.
-use Rattle.std.specs.Prelude.{◌≡◌, ℕ, Bool, true, false, ◌++◌, List, [], ◌∷◌, codes, length, Option, Some, None}
+use Rattle.std.specs.Prelude.{◌≡◌, ℕ, Bool, true, false, ◌++◌, List, [], codes, length, Option, Some, None}
 use Rattle.std.specs.Fmt.{decimal}
 use Rattle.bt_words.specs.declared.order.Order.{Order}
 use Rattle.bt_words.specs.declared.order.Order.TheVariants.{Run, Check, Code, Gen, Big}

@@ -15,7 +15,7 @@ use Rattle.bt_top.specs.declared.refusal.Refusal.{Refusal}
 use Rattle.bt_top.specs.declared.refusal.Refusal.TheVariants.{Script, Recording, ReadFault, WriteFault, Memory}
 use Rattle.bt_top.specs.Due.{IsDue}
 use Rattle.bt_top.specs.Lines.{SinkUse, SinkFailed, Writes}
-use Rattle.bt_top.specs.Orders.{NamedFile, files_of, limit_of, names_of}
+use Rattle.bt_top.specs.Orders.{NamedFile, files_of, limit_of}
 use Rattle.bt_top.specs.Outcomes.{ComesTo, bytes_written}
 use Rattle.bt_top.specs.Refusals.{refusal_pieces, too_long}
 

@@ -1,4 +1,3 @@
-use Rattle.std.specs.Prelude.{None}
 use Rattle.std.proofs.Common.{◌∙◌}
 use Rattle.bt_top.proofs.Performing.{made_with}
 use Rattle.bt_top.proofs.made.gen_outcome.Goals as goal

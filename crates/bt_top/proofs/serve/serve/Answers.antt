@@ -2,7 +2,7 @@ use Rattle.bt_words.specs.declared.order.Order.{Order}
 use Rattle.bt_words.specs.Words.{order_of}
 use Rattle.bt_top.specs.declared.refusal.Refusal.TheVariants.{Memory}
 use Rattle.bt_top.specs.Orders.{files_in, files_of}
-use Rattle.bt_top.specs.Serve.{ComesIfDue, IsComplete, OnTold}
+use Rattle.bt_top.specs.Serve.{ComesIfDue, OnTold}
 use Rattle.std.specs.Prelude.{Some}
 use Rattle.bt_top.proofs.Answering.{is_complete, kept, on_order, words_answer}
 use Rattle.bt_top.proofs.Headlines.{refused_headline}
