@@ -1,5 +1,5 @@
--- Of what is due to two files there is only one thing, so it comes.
-use Rattle.std.proofs.Common.{◌≡◌, ◌≢◌, refl, sym, ap, subst, ◌∙◌, arith, inl, inr}
+-- Of what is due to a script and a recording there is only one thing, so it comes.
+use Rattle.std.proofs.Common.{◌≡◌, ◌≢◌, ℕ, List, refl, sym, ap, subst, ◌∙◌, inl, inr}
 use Rattle.std.specs.Prelude.{Option, Some, None, Result, Ok, Err, IfOk, IfErr}
 use Rattle.rec_format.specs.declared.recording.Recording.{Recording as Recorded}
 use Rattle.rec_format.specs.declared.error.RecordingError.{RecordingError}
@@ -13,126 +13,107 @@ use Rattle.bt_attach.specs.Attaching.{IsAttachedTo, attach_fault}
 use Rattle.bt_meaning.specs.Jobs.{IsJob}
 use Rattle.bt_types.specs.Script.{IsTypedScript}
 use Rattle.run_base.specs.declared.job.Job.{Job}
-use Rattle.bt_top.specs.declared.judge.ScriptJob.{ScriptJob}
 use Rattle.bt_top.specs.declared.refusal.ScriptRefusal.TheVariants as script
 use Rattle.bt_top.specs.declared.refusal.RecordingRefusal.TheVariants as recording
 use Rattle.bt_top.specs.declared.refusal.Refusal.{Refusal}
 use Rattle.bt_top.specs.declared.refusal.Refusal.TheVariants.{Script, Recording}
-use Rattle.bt_top.specs.Due.{Files, AreShort, IsRecording, IsAccepted, IsFault, IsDue}
+use Rattle.bt_top.specs.Doing.{IsExact, IsFaultRefusal, IsScriptRefusal, refusal_in}
+use Rattle.bt_top.specs.Due.{IsRecording, IsAccepted, IsFirstRefusal, IsJudged}
+use Rattle.bt_top.specs.Jobs.{AsksFor, IsJobOf}
 use Rattle.bt_top.specs.Refusals.{recording_refusal}
 use Rattle.bt_top.specs.Script.{IsScriptFault}
-use Rattle.bt_top.specs.Serve.{MayStandFor, ComesIfDue, refusal_in, IsScriptRefusal, IsFaultRefusal, IsJobOf, IsScriptJob}
+use Rattle.bt_top.proofs.Asked.{can_run, of_both}
 use Rattle.bt_top.proofs.Scripts.{AreScriptLaws, one_script_fault, no_script_fault}
 
--- what the laws of the container, the lexer and the parser say of two files
-pub record AreLaws (files : Files) : Type 0 where
+-- what the laws of the container, the lexer and the parser say of a script and a recording
+pub record AreLaws (text bytes : List ℕ) : Type 0 where
   pub recording : (one other : Recorded) → IsValidRecording one → IsValidRecording other → recording_bytes one ≡ recording_bytes other → one ≡ other
-  pub fault : (one other : RecordingError) → IsRecordingFault files.recording one → IsRecordingFault files.recording other → one ≡ other
-  pub no_fault : (says : Recorded) (error : RecordingError) → IsValidRecording says → files.recording ≡ recording_bytes says
-      → IsRecordingFault files.recording error → ⊥
-  pub script : AreScriptLaws files.script
+  pub fault : (one other : RecordingError) → IsRecordingFault bytes one → IsRecordingFault bytes other → one ≡ other
+  pub no_fault : (says : Recorded) (error : RecordingError) → IsValidRecording says → bytes ≡ recording_bytes says → IsRecordingFault bytes error → ⊥
+  pub script : AreScriptLaws text
 
-one_recording : (files : Files) (one other : Recorded) → AreLaws files → IsRecording files.recording one → IsRecording files.recording other → one ≡ other
-one_recording files one other laws a b = laws.recording one other a.valid b.valid (sym a.spelled ∙ b.spelled)
+one_recording : (text bytes : List ℕ) (one other : Recorded) → AreLaws text bytes → IsRecording bytes one → IsRecording bytes other → one ≡ other
+one_recording text bytes one other laws a b = laws.recording one other a.valid b.valid (sym a.spelled ∙ b.spelled)
 
--- ---- what refuses the files
+-- ---- what refuses them
 
-valid : (files : Files) (says : Recorded) (error : RecordingError) → AreLaws files → IsRecording files.recording says → IsRecordingFault files.recording error
-    → ⊥
-valid files says error laws is wrong = laws.no_fault says error is.valid is.spelled wrong
+valid : (text bytes : List ℕ) (says : Recorded) (error : RecordingError) → AreLaws text bytes → IsRecording bytes says → IsRecordingFault bytes error → ⊥
+valid text bytes says error laws is wrong = laws.no_fault says error is.valid is.spelled wrong
 
 -- of one valid recording the script has one first fault
-one_fault_over : (files : Files) (one other : Recorded) (a b : Refusal) → AreLaws files → IsRecording files.recording one
-    → IsRecording files.recording other → IsScriptFault files.script one a → IsScriptFault files.script other b → a ≡ b
-one_fault_over files one other a b laws is was first second =
-    one_script_fault files.script other a b laws.script
-    (subst (λ (r : Recorded). IsScriptFault files.script r a) (one_recording files one other laws is was) first) second
+one_fault_over : (text bytes : List ℕ) (one other : Recorded) (a b : Refusal) → AreLaws text bytes → IsRecording bytes one
+    → IsRecording bytes other → IsScriptFault text one a → IsScriptFault text other b → a ≡ b
+one_fault_over text bytes one other a b laws is was first second =
+    one_script_fault text other a b laws.script
+    (subst (λ (r : Recorded). IsScriptFault text r a) (one_recording text bytes one other laws is was) first) second
 
-one_fault : (files : Files) (one other : Refusal) → AreLaws files → IsFault files one → IsFault files other → one ≡ other
-one_fault files (Script script.TooLong) (Script script.TooLong) laws a b = refl
-one_fault files (Script script.TooLong) (Recording recording.TooLong) laws a b = absurd (omega (arith, b.0))
-one_fault files (Script script.TooLong) (Recording (recording.Fault e2)) laws a b = absurd (omega (arith, b.0.script))
-one_fault files (Script script.TooLong) (Script (script.Fault w2 p2)) laws a b = absurd (omega (arith, b.0.script))
-one_fault files (Script script.TooLong) other laws a b = absurd b
-one_fault files (Recording recording.TooLong) (Script script.TooLong) laws a b = absurd (omega (arith, a.0))
-one_fault files (Recording recording.TooLong) (Recording recording.TooLong) laws a b = refl
-one_fault files (Recording recording.TooLong) (Recording (recording.Fault e2)) laws a b = absurd (omega (arith, a.1, b.0.recording))
-one_fault files (Recording recording.TooLong) (Script (script.Fault w2 p2)) laws a b = absurd (omega (arith, a.1, b.0.recording))
-one_fault files (Recording recording.TooLong) other laws a b = absurd b
-one_fault files (Recording (recording.Fault e1)) (Script script.TooLong) laws a b = absurd (omega (arith, a.0.script))
-one_fault files (Recording (recording.Fault e1)) (Recording recording.TooLong) laws a b = absurd (omega (arith, b.1, a.0.recording))
-one_fault files (Recording (recording.Fault e1)) (Recording (recording.Fault e2)) laws a b =
-    ap (λ (e : RecordingError). Recording (recording.Fault e)) (laws.fault e1 e2 a.1 b.1)
-one_fault files (Recording (recording.Fault e1)) (Script (script.Fault w2 p2)) laws a b = absurd (valid files b.1 e1 laws b.2 a.1)
-one_fault files (Recording (recording.Fault e1)) other laws a b = absurd b
-one_fault files (Script (script.Fault w1 p1)) (Script script.TooLong) laws a b = absurd (omega (arith, a.0.script))
-one_fault files (Script (script.Fault w1 p1)) (Recording recording.TooLong) laws a b = absurd (omega (arith, b.1, a.0.recording))
-one_fault files (Script (script.Fault w1 p1)) (Recording (recording.Fault e2)) laws a b = absurd (valid files a.1 e2 laws a.2 b.1)
-one_fault files (Script (script.Fault w1 p1)) (Script (script.Fault w2 p2)) laws a b = one_fault_over files a.1 b.1 _ _ laws a.2 b.2 a.3 b.3
-one_fault files (Script (script.Fault w1 p1)) other laws a b = absurd b
-one_fault files one other laws a b = absurd a
+one_fault : (text bytes : List ℕ) (one other : Refusal) → AreLaws text bytes → IsFirstRefusal text bytes one → IsFirstRefusal text bytes other → one ≡ other
+one_fault text bytes (Recording (recording.Fault e1)) (Recording (recording.Fault e2)) laws a b =
+    ap (λ (e : RecordingError). Recording (recording.Fault e)) (laws.fault e1 e2 a b)
+one_fault text bytes (Recording (recording.Fault e1)) (Script (script.Fault w2 p2)) laws a b = absurd (valid text bytes b.0 e1 laws b.1 a)
+one_fault text bytes (Recording (recording.Fault e1)) other laws a b = absurd b
+one_fault text bytes (Script (script.Fault w1 p1)) (Recording (recording.Fault e2)) laws a b = absurd (valid text bytes a.0 e2 laws a.1 b)
+one_fault text bytes (Script (script.Fault w1 p1)) (Script (script.Fault w2 p2)) laws a b =
+    one_fault_over text bytes a.0 b.0 _ _ laws a.1 b.1 a.2 b.2
+one_fault text bytes (Script (script.Fault w1 p1)) other laws a b = absurd b
+one_fault text bytes one other laws a b = absurd a
 
--- accepted files have no fault
-no_fault : (files : Files) (refusal : Refusal) → AreLaws files → IsFault files refusal → IsAccepted files → ⊥
-no_fault files (Script script.TooLong) laws a b = omega (arith, a, b.accepted.short.script)
-no_fault files (Recording recording.TooLong) laws a b = omega (arith, a.1, b.accepted.short.recording)
-no_fault files (Recording (recording.Fault error)) laws a b = valid files b.says error laws b.accepted.is a.1
-no_fault files (Script (script.Fault wrong place)) laws a b =
-    no_script_fault files.script b.says _ b.tree laws.script
-    (subst (λ (r : Recorded). IsScriptFault files.script r (Script (script.Fault wrong place))) (one_recording files a.1 b.says laws a.2 b.accepted.is) a.3)
-    b.accepted.script.has b.accepted.script.attached b.accepted.script.typed b.accepted.script.sized
-no_fault files refusal laws a b = a
+-- what is accepted has no fault
+no_fault : (text bytes : List ℕ) (refusal : Refusal) → AreLaws text bytes → IsFirstRefusal text bytes refusal → IsAccepted text bytes → ⊥
+no_fault text bytes (Recording (recording.Fault error)) laws a b = valid text bytes b.says error laws b.is a
+no_fault text bytes (Script (script.Fault wrong place)) laws a b =
+    no_script_fault text b.says _ b.tree laws.script
+    (subst (λ (r : Recorded). IsScriptFault text r (Script (script.Fault wrong place))) (one_recording text bytes a.0 b.says laws a.1 b.is) a.2)
+    b.script.has b.script.attached b.script.typed b.script.sized
+no_fault text bytes refusal laws a b = a
 
 -- of what is due there is only one thing
-pub one_due : (files : Files) (one other : Option Refusal) → AreLaws files → IsDue files one → IsDue files other → one ≡ other
-one_due files None None laws a b = refl
-one_due files None (Some other) laws a b = absurd (no_fault files other laws b a)
-one_due files (Some one) None laws a b = absurd (no_fault files one laws a b)
-one_due files (Some one) (Some other) laws a b = ap (λ (r : Refusal). Some r) (one_fault files one other laws a b)
+one_judged : (text bytes : List ℕ) (one other : Option Refusal) → AreLaws text bytes → IsJudged text bytes one → IsJudged text bytes other → one ≡ other
+one_judged text bytes None None laws a b = refl
+one_judged text bytes None (Some other) laws a b = absurd (no_fault text bytes other laws b a)
+one_judged text bytes (Some one) None laws a b = absurd (no_fault text bytes one laws a b)
+one_judged text bytes (Some one) (Some other) laws a b = ap (λ (r : Refusal). Some r) (one_fault text bytes one other laws a b)
 
--- ---- both files at hand
+-- ---- both at hand
 
--- a refusal of the script refuses the files, where the recording is valid
-pub script_is_fault : (files : Files) (says : Recorded) (refusal : Refusal) → AreShort files → IsRecording files.recording says
-    → IsScriptRefusal files.script says refusal → IsFaultRefusal files refusal
-script_is_fault files says refusal short is (inl memory) = inl memory
-script_is_fault files says refusal short is (inr wrong) =
-    inr (subst (λ (r : Refusal). IsFault files r) (sym wrong.told) (short, says, is, wrong.first))
+-- a refusal of the script refuses both, where the recording is valid
+script_is_fault : (text bytes : List ℕ) (says : Recorded) (refusal : Refusal) → IsRecording bytes says → IsScriptRefusal text says refusal
+    → IsFaultRefusal text bytes refusal
+script_is_fault text bytes says refusal is (inl memory) = inl memory
+script_is_fault text bytes says refusal is (inr wrong) = inr (subst (λ (r : Refusal). IsFirstRefusal text bytes r) (sym wrong.told) (says, is, wrong.first))
 
--- a refusal of the bytes of a recording refuses the files
-pub recording_is_fault : (files : Files) (error : RecordingError) → AreShort files → (error ≢ fault.Memory → IsRecordingFault files.recording error)
-    → IsFaultRefusal files (recording_refusal error)
-recording_is_fault files fault.Memory short found = inl refl
-recording_is_fault files error short found = inr (short, found (λ e. cc))
+pub script_refuses : (text bytes : List ℕ) (says : Recorded) (answer : Result Job Refusal) → IsRecording bytes says → IfErr answer (IsScriptRefusal text says)
+    → IfErr answer (IsFaultRefusal text bytes)
+script_refuses text bytes says (Ok job) is wrong = tt
+script_refuses text bytes says (Err refusal) is wrong = script_is_fault text bytes says refusal is wrong
 
--- what the script asks for over the recording is what the files ask for
-pub script_is_job : (files : Files) (says : Recorded) (job : ScriptJob) → AreShort files → IsRecording files.recording says → IsScriptJob files.script says job
-    → IsJobOf files (record { recording = says; attached = job.attached; typed = job.typed; programs = job.programs })
-script_is_job files says job short is asks = record {
-  tree = asks.tree;
-  accepted = record { short = short; is = is; script = asks.script };
-  attached = asks.attached;
-  typed = asks.typed;
-  fits = asks.fits;
-  programs = asks.programs;
-}
+-- what the script asks for over the recording is what both ask for
+pub script_asks : (text bytes : List ℕ) (says : Recorded) (answer : Result Job Refusal) → IsRecording bytes says → IfOk answer (λ job. job.recording ≡ says)
+    → IfOk answer (AsksFor text) → IfOk answer (IsJobOf text bytes)
+script_asks text bytes says (Ok job) is same asks = record { is = subst (λ (r : Recorded). IsRecording bytes r) (sym same) is; asks = asks }
+script_asks text bytes says (Err refusal) is same asks = tt
 
--- files that ask for a job are accepted
-pub job_is_due : (files : Files) (job : Job) → IsJobOf files job → IsDue files None
-job_is_due files job of = record { says = job.recording; tree = of.tree; accepted = of.accepted }
+-- a refusal of the bytes of a recording refuses both
+pub recording_is_fault : (text bytes : List ℕ) (error : RecordingError) → (error ≢ fault.Memory → IsRecordingFault bytes error)
+    → IsFaultRefusal text bytes (recording_refusal error)
+recording_is_fault text bytes fault.Memory found = inl refl
+recording_is_fault text bytes error found = inr (found (λ e. cc))
+
+-- what asks for a job is accepted
+pub job_accepted : (text bytes : List ℕ) (job : Job) → IsJobOf text bytes job → IsAccepted text bytes
+job_accepted text bytes job of = record { says = job.recording; tree = of.asks.tree; is = of.is; script = of.asks.script }
 
 -- what is due comes, unless memory runs out
-pub comes_if_due : (files : Files) (answer : Result Job Refusal) → AreLaws files → IfOk answer (IsJobOf files)
-    → IfErr answer (IsFaultRefusal files) → ComesIfDue (refusal_in answer) files
-comes_if_due files (Ok job) laws asked refused = λ due is. inl (one_due files None due laws (job_is_due files job asked) is)
-comes_if_due files (Err refusal) laws asked (inl memory) = λ due is. inr (subst (λ (r : Refusal). MayStandFor (Some r) due) (sym memory) tt)
-comes_if_due files (Err refusal) laws asked (inr here) = λ due is. inl (one_due files (Some refusal) due laws here is)
+pub is_exact : (text bytes : List ℕ) (answer : Result Job Refusal) → AreLaws text bytes → IfOk answer (IsJobOf text bytes)
+    → IfErr answer (IsFaultRefusal text bytes) → IsExact text bytes (refusal_in answer)
+is_exact text bytes (Ok job) laws asked refused = λ due is. inl (one_judged text bytes None due laws (job_accepted text bytes job asked) is)
+is_exact text bytes (Err refusal) laws asked (inl memory) = λ due is. inr (ap (λ (r : Refusal). Some r) memory)
+is_exact text bytes (Err refusal) laws asked (inr here) = λ due is. inl (one_judged text bytes (Some refusal) due laws here is)
 
--- what accepted files ask for can be run
-pub jobs_can_run : (files : Files) (answer : Result Job Refusal)
+-- what is accepted can be run
+pub jobs_can_run : (text bytes : List ℕ) (answer : Result Job Refusal)
     → ((tree : Tree) (typed : Typed) (attached : Attached) (r : Recorded) → IsValidRecording r → attach_fault tree r.formats r.start r.end ≡ None
     → IsAttachedTo tree r.formats r.start r.end attached → IsTypedScript tree r.formats attached.bodies typed → IsJob typed attached r)
-    → IfOk answer (IsJobOf files) → IfOk answer (λ job. IsJob job.typed job.attached job.recording)
-jobs_can_run files (Ok job) law of =
-    law of.tree job.typed job.attached job.recording of.accepted.is.valid of.accepted.script.attached of.attached of.typed
-jobs_can_run files (Err refusal) law of = tt
+    → IfOk answer (IsJobOf text bytes) → IfOk answer (λ job. IsJob job.typed job.attached job.recording)
+jobs_can_run text bytes (Ok job) law of = can_run job law (of_both text bytes job of)
+jobs_can_run text bytes (Err refusal) law of = tt

@@ -1,38 +1,45 @@
 -- What a run that ends with status 0 promises.
-use Rattle.std.proofs.Common.{◌≡◌, ℕ, ◌⊎◌, List, [], ◌++◌, sym, subst, ◌∙◌, arith, inl, inr}
-use Rattle.std.specs.Prelude.{Option, Some, None}
+use Rattle.std.proofs.Common.{◌≡◌, ℕ, List, ◌++◌, length, sym, subst, arith, inl, inr}
+use Rattle.std.specs.Prelude.{Bool, false, Option, Some, None, IsSomeAnd}
 use Rattle.std.specs.Io.KnownBytes.{Appends}
-use Rattle.bpf_codegen.specs.declared.generate.Program.{Program}
+use Rattle.big_script.specs.Jobs.{IsAttachedOver, IsTypedOver, HaveFewKeys}
 use Rattle.bt_ast.specs.declared.attached.Attached.{Attached}
+use Rattle.bt_ast.specs.declared.probe.Script.{Script as Tree}
+use Rattle.bt_attach.specs.Attaching.{IsAttachedTo, attach_fault}
 use Rattle.bt_core.specs.declared.step.Step.{Step}
 use Rattle.bt_meaning.specs.Interleavings.{IsInterleaving}
 use Rattle.bt_meaning.specs.Jobs.{IsJob}
 use Rattle.bt_meaning.specs.Replays.{Replay}
 use Rattle.bt_meaning.specs.Ticks.{TicksComeAfter}
+use Rattle.bt_meaning.specs.Totals.{IsAggregationOnly, who}
 use Rattle.bt_meaning.specs.Walks.{replay_of}
+use Rattle.bt_types.specs.Script.{IsTypedScript}
+use Rattle.bt_words.specs.declared.order.Order.{Order}
+use Rattle.bt_words.specs.declared.order.Order.TheVariants.{Run, Check, Code, Gen, Big}
 use Rattle.run_base.specs.declared.job.Job.{Job}
+use Rattle.run_base.specs.declared.job.Work.{Work}
 use Rattle.run_laws.specs.Reads.{ReadsSeeBeginnings}
 use Rattle.rec_format.specs.declared.recording.Recording.{Recording as Recorded}
+use Rattle.rec_format.specs.Recordings.{IsValidRecording}
+use Rattle.rec_gen.specs.Made.{IsMade}
+use Rattle.total_laws.specs.Ends.{EndsWithTotals, IsAddingRun}
 use Rattle.typed_tree.specs.declared.script.Typed.{Typed}
+use Rattle.bt_top.specs.declared.outcome.Outcome.{Outcome}
 use Rattle.bt_top.specs.declared.refusal.Refusal.{Refusal}
 use Rattle.bt_top.specs.declared.refusal.Refusal.TheVariants.{Usage, Script, Recording, ReadFault, WriteFault, Memory}
-use Rattle.bt_top.specs.declared.tasks.Done.{Done}
-use Rattle.bt_top.specs.declared.tasks.Done.TheVariants.{Ran, Checked, Listed}
-use Rattle.bt_top.specs.declared.words.Operands.{Operands}
-use Rattle.bt_top.specs.declared.words.Command.{Command}
-use Rattle.bt_top.specs.declared.words.Command.TheVariants.{OnFiles, Gen, Big}
-use Rattle.bt_top.specs.declared.words.Task.{Task}
-use Rattle.bt_top.specs.declared.words.Task.TheVariants.{Run, Check, Code}
-use Rattle.bt_top.specs.Doing.{IsDoneOf, bytes_of, work_of}
-use Rattle.bt_top.specs.Due.{Files}
-use Rattle.bt_top.specs.Commands.{Headline}
-use Rattle.bt_top.specs.Headline.{PrintsIt}
+use Rattle.bt_top.specs.Headline.{Headline, PrintsItsSteps, PrintsItsTotals, PrintsOfFiles}
+use Rattle.bt_top.specs.Jobs.{IsBigJob, meaning_of}
 use Rattle.bt_top.specs.Lines.{SinkUse}
+use Rattle.bt_top.specs.Orders.{files_of}
+use Rattle.bt_top.specs.Outcomes.{ComesTo, IsOutcomeOfRun, bytes_written, stats_line, summary_line}
 use Rattle.bt_top.specs.Refusals.{status_of}
-use Rattle.bt_top.specs.Serve.{ShelfUse, AreHeld, IsJobOf, IsWritten, meaning_of, stats_line}
+use Rattle.bt_top.specs.Serve.{ShelfUse, AreContentsOf}
+use Rattle.bt_top.proofs.Answering.{Wrote, refused_report, report_of}
+use Rattle.bt_top.proofs.Asked.{can_run, of_files, of_numbers}
+use Rattle.bt_top.proofs.Making.{attached_over, typed_over}
 
 -- no refusal has status 0
-pub no_success : (refusal : Refusal) → status_of (Some refusal) ≡ 0 → ⊥
+no_success : (refusal : Refusal) → status_of (Some refusal) ≡ 0 → ⊥
 no_success Usage zero = omega (arith, zero)
 no_success (Script why) zero = omega (arith, zero)
 no_success (Recording why) zero = omega (arith, zero)
@@ -41,46 +48,73 @@ no_success WriteFault zero = omega (arith, zero)
 no_success Memory zero = omega (arith, zero)
 
 -- so nothing is promised of a call that is refused
-no_prints : (task : Task) (names : Operands) (seen : ShelfUse) (out : SinkUse) (refusal : Refusal)
-    → PrintsIt task names seen out (record { status = status_of (Some refusal); refusal = Some refusal; work = None; programs = [] })
-no_prints (Run serial stats) names seen out refusal = λ zero. absurd (no_success refusal zero)
-no_prints Check names seen out refusal = tt
-no_prints Code names seen out refusal = tt
-
-pub refused_headline : (command : Option Command) (seen : ShelfUse) (out : SinkUse) (refusal : Refusal)
-    → Headline command seen out (record { status = status_of (Some refusal); refusal = Some refusal; work = None; programs = [] })
+pub refused_headline : (order : Option Order) (seen : ShelfUse) (out : SinkUse) (refusal : Refusal) → Headline order seen out (refused_report refusal)
 refused_headline None seen out refusal = tt
-refused_headline (Some (OnFiles order)) seen out refusal = no_prints order.task order.files seen out refusal
-refused_headline (Some (Gen numbers)) seen out refusal = tt
-refused_headline (Some (Big numbers)) seen out refusal = λ zero. absurd (no_success refusal zero)
+refused_headline (Some (Run serial stats script recording)) seen out refusal = λ zero. absurd (no_success refusal zero)
+refused_headline (Some (Check script recording)) seen out refusal = tt
+refused_headline (Some (Code script recording)) seen out refusal = tt
+refused_headline (Some (Gen x n)) seen out refusal = tt
+refused_headline (Some (Big x n)) seen out refusal = λ zero. absurd (no_success refusal zero)
 
 -- the whole was written, or the status is not 0
-pub written_whole : (out : SinkUse) (refusal : Option Refusal) (status : ℕ) (bytes : List ℕ) → status ≡ status_of refusal → status ≡ 0
-    → (refusal ≡ None) ⊎ (refusal ≡ Some WriteFault) → IsWritten out refusal bytes → Appends out.taken out.taken_after bytes
-written_whole out refusal status bytes is zero (inl none) written = subst (λ (r : Option Refusal). IsWritten out r bytes) none written
-written_whole out refusal status bytes is zero (inr fault) written =
-    absurd (no_success WriteFault (subst (λ (r : Option Refusal). status_of r ≡ 0) fault (sym is ∙ zero)))
+written_whole : (out : SinkUse) (refusal : Option Refusal) (bytes : List ℕ) → Wrote out refusal bytes → status_of refusal ≡ 0 → Appends out.taken out.taken_after bytes
+written_whole out refusal bytes (inl e) zero = e.1
+written_whole out refusal bytes (inr e) zero = absurd (no_success WriteFault (subst (λ (r : Option Refusal). status_of r ≡ 0) e.0 zero))
 
-module _ (names : Operands) (seen : ShelfUse) (out : SinkUse) (status : ℕ) (refusal : Option Refusal) (job : Job) (programs : List Program)
-    (law : (script : Typed) (attached : Attached) (r : Recorded) (steps : List Step) → IsJob script attached r → IsInterleaving (replay_of script attached r) steps
-    → TicksComeAfter (replay_of script attached r) steps)
-    (read_law : (p : Replay) (steps : List Step) → IsInterleaving p steps → ReadsSeeBeginnings p steps)
-    (files : Files) (held : AreHeld seen.held names files) (of : IsJobOf files job) (can : IsJob job.typed job.attached job.recording)
-    (is : status ≡ status_of refusal) (ends : (refusal ≡ None) ⊎ (refusal ≡ Some WriteFault)) where
-  pub done_headline : (task : Task) (done : Done) → IsDoneOf task job done → IsWritten out refusal (bytes_of task done)
-      → PrintsIt task names seen out (record { status = status; refusal = refusal; work = work_of done; programs = programs })
-  done_headline (Run serial stats) (Ran work) did written = λ zero. record {
-    files = files;
-    read = held;
-    job = job;
-    accepted = of;
-    interleaving = did.replayed.interleaving;
-    reads = read_law (meaning_of job) work.steps did.replayed.interleaving;
-    ticks = law job.typed job.attached job.recording work.steps can did.replayed.interleaving;
-    written = subst (λ (text : List ℕ). Appends out.taken out.taken_after (text ++ stats_line stats work.instructions)) did.printed
-        (written_whole out refusal status (work.text ++ stats_line stats work.instructions) is zero ends written);
+-- what the laws say of jobs, of interleavings, and of scripts that only add
+pub record AreRunLaws : Type 0 where
+  pub jobs : (tree : Tree) (typed : Typed) (attached : Attached) (r : Recorded) → IsValidRecording r → attach_fault tree r.formats r.start r.end ≡ None
+      → IsAttachedTo tree r.formats r.start r.end attached → IsTypedScript tree r.formats attached.bodies typed → IsJob typed attached r
+  pub ticks : (script : Typed) (attached : Attached) (r : Recorded) (steps : List Step) → IsJob script attached r
+      → IsInterleaving (replay_of script attached r) steps → TicksComeAfter (replay_of script attached r) steps
+  pub reads : (p : Replay) (steps : List Step) → IsInterleaving p steps → ReadsSeeBeginnings p steps
+  pub only : (seed count : ℕ) (r : Recorded) (typed : Typed) → IsMade seed count r → IsTypedOver r typed → IsAggregationOnly typed
+  pub few : (seed count : ℕ) (r : Recorded) (attached : Attached) (typed : Typed) → IsMade seed count r → IsAttachedOver r attached → IsTypedOver r typed
+      → HaveFewKeys typed attached r
+  pub totals : (script : Typed) (attached : Attached) (r : Recorded) (steps : List Step) → IsAddingRun script attached r steps
+      → EndsWithTotals script attached r steps
+
+module _ (laws : AreRunLaws) (seen : ShelfUse) (out : SinkUse) (outcome : Outcome) (refusal : Option Refusal) (wrote : Wrote out refusal (bytes_written outcome)) where
+  prints : (serial : Bool) (job : Job) (rest : Work → List ℕ) → IsJob job.typed job.attached job.recording → (run : IsOutcomeOfRun serial job rest outcome)
+      → status_of refusal ≡ 0 → PrintsItsSteps job (rest run.work) out run.work
+  prints serial job rest can run zero = record {
+    interleaving = run.done.replayed.interleaving;
+    ticks = laws.ticks job.typed job.attached job.recording run.work.steps can run.done.replayed.interleaving;
+    reads = laws.reads (meaning_of job) run.work.steps run.done.replayed.interleaving;
+    written = subst (λ (text : List ℕ). Appends out.taken out.taken_after (text ++ rest run.work)) run.done.printed
+        (subst (λ (o : Outcome). Appends out.taken out.taken_after (bytes_written o)) run.is (written_whole out refusal (bytes_written outcome) wrote zero));
   }
-  done_headline (Run serial stats) Checked did written = absurd did
-  done_headline (Run serial stats) (Listed text) did written = absurd did
-  done_headline Check done did written = tt
-  done_headline Code done did written = tt
+
+  adds : (x n : ℕ) (job : Job) (of : IsBigJob x n job) (rest : Work → List ℕ) (run : IsOutcomeOfRun false job rest outcome)
+      → IsAddingRun job.typed job.attached job.recording run.work.steps
+  adds x n job of rest run =
+      let over = typed_over of.asks.tree job.recording job.attached job.typed of.asks.script.has of.asks.attached of.asks.typed in
+      record {
+        job = can_run job laws.jobs (of_numbers x n job of);
+        only_adds = laws.only x n job.recording job.typed of.made over;
+        interleaving = run.done.replayed.interleaving;
+        few_keys = λ m low. laws.few x n job.recording job.attached job.typed of.made
+            (attached_over of.asks.tree job.recording job.attached of.asks.script.has of.asks.attached) over m (who run.work.steps);
+      }
+
+  pub done_headline : (order : Order) (contents : List (List ℕ)) → AreContentsOf seen.held (files_of order) contents → ComesTo order contents outcome
+      → Headline (Some order) seen out (report_of refusal outcome)
+  done_headline (Run serial stats script recording) contents held comes = λ zero.
+      subst (λ (o : Outcome). IsSomeAnd o.work (PrintsOfFiles seen.held (files_of (Run serial stats script recording)) stats out)) (sym comes.2.is) (record {
+        contents = contents;
+        read = held;
+        job = comes.0;
+        accepted = comes.1;
+        prints = prints serial comes.0 (λ work. stats_line stats work.instructions) (can_run comes.0 laws.jobs (of_files _ contents comes.0 comes.1)) comes.2 zero;
+      })
+  done_headline (Check script recording) contents held comes = tt
+  done_headline (Code script recording) contents held comes = tt
+  done_headline (Gen x n) contents held comes = tt
+  done_headline (Big x n) contents held comes = λ zero.
+      subst (λ (o : Outcome). IsSomeAnd o.work (PrintsItsTotals x n out)) (sym comes.2.is) (record {
+        job = comes.0;
+        of = comes.1;
+        prints = prints false comes.0 (λ work. summary_line n (length work.steps)) (can_run comes.0 laws.jobs (of_numbers x n comes.0 comes.1)) comes.2 zero;
+        totals = laws.totals comes.0.typed comes.0.attached comes.0.recording comes.2.work.steps
+            (adds x n comes.0 comes.1 (λ work. summary_line n (length work.steps)) comes.2);
+      })

@@ -1,10 +1,11 @@
-mod Bounds
-mod Doings
+mod Answering
+mod Asked
 mod Due
 mod Headlines
-mod Judging
 mod LineLaws
 mod Listed
 mod Making
+mod Performing
+mod Reading
 mod Scripts
 mod TooLarge

@@ -1,7 +1,7 @@
 -- The tree of a script, and its first fault.
 use Rattle.std.proofs.Common.{◌≡◌, ◌≢◌, ℕ, List, refl, sym, ap, subst, ◌∙◌, inl}
 use Rattle.std.proofs.Common.{inr, All}
-use Rattle.std.specs.Prelude.{Option, Some, None, Result, Ok, Err, IfOk, IfErr, slice_get}
+use Rattle.std.specs.Prelude.{Option, Some, None, slice_get}
 use Rattle.std.proofs.lemmas.List.Elements.{All-weaker}
 use Rattle.tracefs_format.specs.declared.format.Format.{Format}
 use Rattle.bt_lexer.specs.declared.error.LexError.{LexError}
@@ -36,18 +36,17 @@ use Rattle.bt_top.specs.declared.refusal.ScriptFault.TheVariants.{Types}
 use Rattle.bt_top.specs.declared.refusal.Refusal.{Refusal}
 use Rattle.bt_top.specs.declared.refusal.ScriptRefusal.TheVariants.{Fault}
 use Rattle.bt_top.specs.declared.refusal.Refusal.TheVariants.{Script}
-use Rattle.bt_top.specs.Script.{place_at, place_of, lexical_refusal, parse_refusal, attach_refusal, HasTree, IsTextFault, IsAttachFault}
+use Rattle.bt_top.specs.Script.{offset_place, token_place, lexical_refusal, parse_refusal, attach_refusal, HasTree, IsTextFault, IsAttachFault}
 use Rattle.bt_top.specs.Script.{type_refusal, body_fault, IsTypeFault, IsSizeFault}
 use Rattle.bt_top.specs.Script.{IsScriptFault}
 use Rattle.bt_types.specs.Script.{IsTypedScript}
 use Rattle.bt_ast.specs.declared.probe.Probe.{Probe}
 use Rattle.script_programs.specs.declared.error.SizeFault.{SizeFault}
-use Rattle.script_programs.specs.Programs.{KeepScript}
 use Rattle.script_programs.specs.Sizes.{first_size_fault}
 use Rattle.typed_tree.specs.declared.script.Typed.{Typed}
-use Rattle.bt_top.specs.declared.judge.ScriptJob.{ScriptJob}
-use Rattle.bt_top.specs.Doing.{HasPrograms, IsSizeAnswer}
-use Rattle.bt_top.specs.Serve.{IsTextRefusal, IsScriptRefusal, IsScriptJob}
+use Rattle.bpf_codegen.specs.declared.generate.Program.{Program}
+use Rattle.bt_top.specs.Doing.{ArePrograms, IsSizeAnswer, IsTextRefusal, IsScriptRefusal}
+use Rattle.bt_top.specs.Jobs.{AsksFor}
 use Rattle.bt_top.specs.Sizes.{HasTypes, IsLarge, IsProbePlace, IsSized, TellsLarge, size_refusal, size_wrong}
 
 -- ---- the first fault of a script
@@ -89,20 +88,20 @@ is_told text refusal (inl h) = by_fault h.fault h.first h.told
   where
     by_fault : (fault : LexError) → IsFirstFault text fault → refusal ≡ lexical_refusal text fault → (f : ScriptFault) × (p : Place)
         × (refusal ≡ Script (Fault f p))
-    by_fault (lexical.BadChar at) first told = (BadCharacter, place_at text at, told)
-    by_fault (lexical.OpenString at) first told = (OpenString, place_at text at, told)
-    by_fault (lexical.OpenComment at) first told = (OpenComment, place_at text at, told)
-    by_fault (lexical.NumberTooLarge at) first told = (NumberTooLarge, place_at text at, told)
-    by_fault (lexical.BadEscape at) first told = (BadEscape, place_at text at, told)
-    by_fault (lexical.StringTooLong at) first told = (StringTooLong, place_at text at, told)
+    by_fault (lexical.BadChar at) first told = (BadCharacter, offset_place text at, told)
+    by_fault (lexical.OpenString at) first told = (OpenString, offset_place text at, told)
+    by_fault (lexical.OpenComment at) first told = (OpenComment, offset_place text at, told)
+    by_fault (lexical.NumberTooLarge at) first told = (NumberTooLarge, offset_place text at, told)
+    by_fault (lexical.BadEscape at) first told = (BadEscape, offset_place text at, told)
+    by_fault (lexical.StringTooLong at) first told = (StringTooLong, offset_place text at, told)
     by_fault lexical.Memory first told = absurd first.5.2
 is_told text refusal (inr h) = by_fault h.fault h.first h.told
   where
     by_fault : (fault : ParseError) → IsRefusal (items h.tokens) fault → refusal ≡ parse_refusal text h.tokens fault → (f : ScriptFault) × (p : Place)
         × (refusal ≡ Script (Fault f p))
-    by_fault (parsing.Syntax n) first told = (Syntax, place_of text (slice_get h.tokens n), told)
-    by_fault (parsing.TooDeep n) first told = (TooDeep, place_of text (slice_get h.tokens n), told)
-    by_fault (parsing.TooMany n) first told = (TooManyProbes, place_of text (slice_get h.tokens n), told)
+    by_fault (parsing.Syntax n) first told = (Syntax, token_place text (slice_get h.tokens n), told)
+    by_fault (parsing.TooDeep n) first told = (TooDeep, token_place text (slice_get h.tokens n), told)
+    by_fault (parsing.TooMany n) first told = (TooManyProbes, token_place text (slice_get h.tokens n), told)
     by_fault parsing.Memory first told = absurd first.holds
 
 -- what the lexer and the parser refuse is the first fault, or memory ran out
@@ -314,9 +313,9 @@ module _ (text : List ℕ) (says : Recorded) (tree : Tree) (attached : Attached)
   types : HasTypes tree says attached typed
   types = record { attached_to = is; typed_of = of }
 
-  pub job_told : (answer : Result ScriptJob Refusal) → IfOk answer (HasPrograms attached typed) → IfOk answer (IsScriptJob text says)
-  job_told (Err refusal) made = tt
-  job_told (Ok job) made = record {
+  pub job_told : (programs : List Program) → ArePrograms typed programs
+      → AsksFor text (record { recording = says; attached = attached; typed = typed; programs = programs })
+  job_told programs made = record {
     tree = tree;
     script = record {
       has = has;
@@ -324,11 +323,10 @@ module _ (text : List ℕ) (says : Recorded) (tree : Tree) (attached : Attached)
       typed = no_fault;
       sized = record { attached = attached; typed = typed; types = types; fits = made.fits };
     };
-    attached = subst (λ (a : Attached). IsAttachedTo tree says.formats says.start says.end a) (sym made.attached_is) is;
-    typed = subst (λ (t : Typed). IsTypedScript tree says.formats job.attached.bodies t) (sym made.typed_is)
-        (subst (λ (a : Attached). IsTypedScript tree says.formats a.bodies typed) (sym made.attached_is) of);
-    fits = subst (λ (t : Typed). first_size_fault 0 t.bodies ≡ None) (sym made.typed_is) made.fits;
-    programs = subst (λ (t : Typed). KeepScript t job.programs) (sym made.typed_is) made.programs;
+    attached = is;
+    typed = of;
+    fits = made.fits;
+    programs = made.programs;
   }
 
   size_fault : (refusal : Refusal) → TellsLarge tree attached typed refusal → IsSizeFault text says refusal
@@ -340,10 +338,9 @@ module _ (text : List ℕ) (says : Recorded) (tree : Tree) (attached : Attached)
     large = record { attached = attached; typed = typed; types = types; large = large };
   }
 
-  pub size_told : (answer : Result ScriptJob Refusal) → IfErr answer (IsSizeAnswer tree attached typed) → IfErr answer (IsScriptRefusal text says)
-  size_told (Ok job) why = tt
-  size_told (Err refusal) (inl memory) = inl memory
-  size_told (Err refusal) (inr wrong) = inr (record {
+  pub size_told : (refusal : Refusal) → IsSizeAnswer tree attached typed refusal → IsScriptRefusal text says refusal
+  size_told refusal (inl memory) = inl memory
+  size_told refusal (inr wrong) = inr (record {
     fault = size_wrong wrong.much;
     place = wrong.place;
     told = wrong.told;

@@ -1,34 +1,47 @@
--- What is done of a task, between the reads and the write. No public contract speaks of it.
-use Rattle.std.specs.Prelude.{◌≡◌, ℕ, ◌⊎◌, ◌≤◌, ◌*◌, ◌%◌, ◌++◌, ◌<◌, List, [], codes, length, Option, Some, None, slice_get}
+-- What the steps of a call answer, between the words and the write. No public contract speaks of it.
+use Rattle.std.specs.Prelude.{◌≡◌, ℕ, ◌⊎◌, ◌≤◌, ◌<◌, ◌*◌, ◌%◌, List, length, Option, Some, None, Result, Ok, Err, IfOk, IfErr, slice_get}
 use Rattle.bpf_codegen.specs.declared.generate.Program.{Program}
 use Rattle.bt_core.specs.declared.limits.TheConstants.{CODE_SLOTS}
 use Rattle.bt_ast.specs.declared.attached.Attached.{Attached}
 use Rattle.bt_ast.specs.declared.attached.BodyId.{BodyId}
 use Rattle.bt_ast.specs.declared.probe.Script.{Script as Tree}
 use Rattle.bt_core.specs.declared.place.Place.{Place}
-use Rattle.run_base.specs.declared.job.Job.{Job}
-use Rattle.run_base.specs.declared.job.Work.{Work}
 use Rattle.rec_format.specs.declared.recording.Recording.{Recording as Recorded}
-use Rattle.rec_format.specs.Recordings.{recording_bytes}
-use Rattle.rec_gen.specs.Made.{IsMade}
 use Rattle.script_programs.specs.declared.error.SizeFault.{SizeFault}
 use Rattle.script_programs.specs.Programs.{KeepScript}
 use Rattle.script_programs.specs.Sizes.{first_size_fault}
 use Rattle.typed_tree.specs.declared.script.Typed.{Typed}
-use Rattle.bt_top.specs.declared.judge.ScriptJob.{ScriptJob}
 use Rattle.bt_top.specs.declared.refusal.Refusal.{Refusal}
-use Rattle.bt_top.specs.declared.refusal.Refusal.TheVariants.{WriteFault, Memory}
-use Rattle.bt_top.specs.declared.tasks.Done.{Done}
-use Rattle.bt_top.specs.declared.tasks.Done.TheVariants.{Ran, Checked, Listed}
-use Rattle.bt_top.specs.declared.words.Numbers.{Numbers}
-use Rattle.bt_top.specs.declared.words.Task.{Task}
-use Rattle.bt_top.specs.declared.words.Task.TheVariants.{Run, Check, Code}
-use Rattle.bt_top.specs.Listings.{script_listing}
-use Rattle.bt_top.specs.Serve.{IsWorkOf, stats_line}
+use Rattle.bt_top.specs.declared.refusal.Refusal.TheVariants.{Script, Memory}
+use Rattle.bt_top.specs.declared.refusal.ScriptFault.{ScriptFault}
+use Rattle.bt_top.specs.declared.refusal.ScriptRefusal.TheVariants as script
+use Rattle.bt_top.specs.Due.{IsFirstRefusal, IsJudged}
+use Rattle.bt_top.specs.Orders.{NamedFile, names_of}
+use Rattle.bt_top.specs.Script.{IsScriptFault, IsTextFault}
+use Rattle.bt_top.specs.Serve.{ShelfUse, ShelfFailed, AreContentsOf, AsksExactly, AsksFirst, ComesIfDue, MayCome, OnTold}
 use Rattle.bt_top.specs.Sizes.{IsProbePlace, TellsLarge, size_refusal}
-use Rattle.bt_top.specs.Words.{tells_instructions}
 
--- ---- sizes
+-- why something is refused, or none where it is not
+abbrev pub refusal_in : {A : Type 0} → Result A Refusal → Option Refusal
+refusal_in (Ok a) = None
+refusal_in (Err refusal) = Some refusal
+
+-- ---- a script over a recording
+
+-- want of memory, or a fault of the text that is told so
+abbrev pub IsTextRefusal : List ℕ → Refusal → Type 0
+IsTextRefusal text refusal = (refusal ≡ Memory) ⊎ IsTextFault text refusal
+
+-- the first fault of a script over a recording, with its place
+pub record IsToldFault (text : List ℕ) (says : Recorded) (refusal : Refusal) : Type 0 where
+  pub fault : ScriptFault
+  pub place : Place
+  pub told : refusal ≡ Script (script.Fault fault place)
+  pub first : IsScriptFault text says (Script (script.Fault fault place))
+
+-- want of memory, or a fault of the script
+abbrev pub IsScriptRefusal : List ℕ → Recorded → Refusal → Type 0
+IsScriptRefusal text says refusal = (refusal ≡ Memory) ⊎ IsToldFault text says refusal
 
 -- the probe of a body is there
 pub record HasProbe (tree : Tree) (attached : Attached) (body : ℕ) : Type 0 where
@@ -42,55 +55,42 @@ pub record TellsSize (tree : Tree) (attached : Attached) (body : ℕ) (much : Si
   pub at : IsProbePlace tree attached body place
   pub told : refusal ≡ size_refusal much place
 
--- a job of a script with these types
-pub record HasPrograms (attached : Attached) (typed : Typed) (job : ScriptJob) : Type 0 where
-  pub attached_is : job.attached ≡ attached
-  pub typed_is : job.typed ≡ typed
+-- no body of a script with these types is too large, and each of these programs keeps its body
+pub record ArePrograms (typed : Typed) (made : List Program) : Type 0 where
   pub fits : first_size_fault 0 typed.bodies ≡ None
-  pub programs : KeepScript typed job.programs
+  pub programs : KeepScript typed made
 
 abbrev pub IsSizeAnswer : Tree → Attached → Typed → Refusal → Type 0
 IsSizeAnswer tree attached typed refusal = (refusal ≡ Memory) ⊎ TellsLarge tree attached typed refusal
 
--- ---- tasks
+-- ---- a script and a recording
+
+-- want of memory, or what refuses both
+abbrev pub IsFaultRefusal : List ℕ → List ℕ → Refusal → Type 0
+IsFaultRefusal text bytes refusal = (refusal ≡ Memory) ⊎ IsFirstRefusal text bytes refusal
+
+-- of what is due to both there is only one thing, and that comes unless memory runs out
+abbrev pub IsExact : List ℕ → List ℕ → Option Refusal → Type 0
+IsExact text bytes refusal = (due : Option Refusal) → IsJudged text bytes due → (refusal ≡ due) ⊎ (refusal ≡ Some Memory)
+
+-- ---- the reads, and what is done with what they give
+
+-- what comes of files with contents that the shelf tells, before the write
+pub record ComesOfContents {A : Type 0} (files : List NamedFile) (Comes : List (List ℕ) → A → Type 0) (shelf : ShelfUse) (answer : Result A Refusal) : Type 0 where
+  pub contents : List (List ℕ)
+  pub held : AreContentsOf shelf.held files contents
+  pub value : IfOk answer (Comes contents)
+  pub came : IfErr answer (λ refusal. MayCome files contents (ShelfFailed shelf) ⊥ (Some refusal))
+
+-- the same, with the names that were asked for, and that what is due comes
+pub record ComesOfFiles {A : Type 0} (files : List NamedFile) (Comes : List (List ℕ) → A → Type 0) (shelf : ShelfUse) (answer : Result A Refusal) : Type 0 where
+  pub reads : ComesOfContents files Comes shelf answer
+  pub asked : AsksFirst shelf.asked shelf.asked_after (names_of files)
+  pub asked_exactly : AsksExactly files (refusal_in answer) shelf
+  pub exact : OnTold shelf.held files (ComesIfDue files (refusal_in answer))
+
+-- ---- listings
 
 -- the bytes of a program are whole slots, and at most so many as code may have
 abbrev pub CanBeListed : Program → Type 0
 CanBeListed program = (length program.bytes % 8 ≡ 0) × (length program.bytes ≤ 8 * CODE_SLOTS)
-
--- what was done is the task's
-abbrev pub IsDoneOf : Task → Job → Done → Type 0
-IsDoneOf (Run serial stats) job (Ran work) = IsWorkOf serial job work
-IsDoneOf Check job Checked = Unit {0}
-IsDoneOf Code job (Listed text) = text ≡ script_listing job.recording.formats job.attached.bodies job.programs
-IsDoneOf task job done = ⊥
-
--- its work, the programs that are handed back, and its bytes
-abbrev pub work_of : Done → Option Work
-work_of (Ran work) = Some work
-work_of Checked = None
-work_of (Listed text) = None
-
-abbrev pub programs_with : Done → List Program → List Program
-programs_with (Ran work) programs = programs
-programs_with Checked programs = []
-programs_with (Listed text) programs = programs
-
-abbrev pub bytes_of : Task → Done → List ℕ
-bytes_of task (Ran work) = work.text ++ stats_line (tells_instructions task) work.instructions
-bytes_of task Checked = codes "ok\n"
-bytes_of task (Listed text) = text
-
--- ---- commands that make their recording
-
--- what may refuse one that reads no file
-abbrev pub IsMadeRefusal : Refusal → Type 0
-IsMadeRefusal WriteFault = Unit {0}
-IsMadeRefusal Memory = Unit {0}
-IsMadeRefusal refusal = ⊥
-
--- the bytes of the recording of two numbers
-pub record IsMadeBytes (numbers : Numbers) (bytes : List ℕ) : Type 0 where
-  pub made : Recorded
-  pub is : IsMade numbers.seed numbers.count made
-  pub spelled : bytes ≡ recording_bytes made

@@ -1,12 +1,12 @@
-pub mod Words
+pub mod Orders
 pub mod Lines
 pub mod Listings
 pub mod Sizes
 pub mod Script
 pub mod Refusals
 pub mod Due
+pub mod Jobs
+pub mod Outcomes
 pub mod Serve
 pub mod Doing
 pub mod Headline
-pub mod Made
-pub mod Commands

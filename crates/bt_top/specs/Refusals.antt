@@ -23,7 +23,7 @@ use Rattle.bt_top.specs.declared.refusal.RecordingRefusal.TheVariants as recordi
 use Rattle.bt_top.specs.declared.refusal.Refusal.{Refusal}
 use Rattle.bt_top.specs.declared.refusal.Refusal.TheVariants.{Usage, Script, Recording, ReadFault, WriteFault, Memory}
 use Rattle.bt_top.specs.Lines.{Piece, Text, Number}
-use Rattle.bt_top.specs.declared.words.Operands.{Operands}
+use Rattle.bt_top.specs.Orders.{NamedFile, operand_name}
 
 abbrev pub status_of : Option Refusal → ℕ
 status_of None = 0
@@ -34,11 +34,15 @@ status_of (Some (ReadFault operand)) = 4
 status_of (Some WriteFault) = 5
 status_of (Some Memory) = 6
 
+-- what tells that a file is longer than it may be
+abbrev pub too_long : Operand → Refusal
+too_long operand.Script = Script script.TooLong
+too_long operand.Recording = Recording recording.TooLong
+
 -- why a file is not read
 abbrev pub read_refusal : Operand → ShelfError → Refusal
 read_refusal file shelf.Failed = ReadFault file
-read_refusal operand.Script shelf.TooLong = Script script.TooLong
-read_refusal operand.Recording shelf.TooLong = Recording recording.TooLong
+read_refusal file shelf.TooLong = too_long file
 read_refusal file shelf.Memory = Memory
 
 -- why the bytes of a recording are refused
@@ -64,8 +68,8 @@ rule_pieces (rule.SameName line) = Text (codes "F5 same name line ") ∷ Number 
 rule_pieces rule.Memory = Text (codes "out of memory") ∷ []
 
 -- the text of the format at a place breaks a rule
-abbrev pub format_pieces : ℕ → List Piece → List Piece
-format_pieces place rule = Text (codes "C4 format ") ∷ Number place ∷ Text (codes ": ") ∷ rule
+abbrev pub broken_format_pieces : ℕ → List Piece → List Piece
+broken_format_pieces place rule = Text (codes "C4 format ") ∷ Number place ∷ Text (codes ": ") ∷ rule
 
 -- what is wrong with an event
 abbrev pub event_pieces : List ℕ → ℕ → ℕ → List Piece
@@ -76,7 +80,7 @@ abbrev pub fault_pieces : RecordingError → List Piece
 fault_pieces (fault.Truncated offset) = Text (codes "C1 truncated at byte ") ∷ Number offset ∷ []
 fault_pieces fault.BadMagic = Text (codes "C2 bad magic") ∷ []
 fault_pieces (fault.Count what) = Text (codes "C3 bad count: ") ∷ Text (count_word what) ∷ []
-fault_pieces (fault.Format place broken) = format_pieces place (rule_pieces broken)
+fault_pieces (fault.Format place broken) = broken_format_pieces place (rule_pieces broken)
 fault_pieces (fault.SameEvent place) = Text (codes "C5 same event in format ") ∷ Number place ∷ []
 fault_pieces (fault.CpuNumber cpu) = Text (codes "C6 bad cpu number at cpu ") ∷ Number cpu ∷ []
 fault_pieces (fault.TimeOrder cpu event) = event_pieces (codes "C7 time order") cpu event
@@ -158,15 +162,11 @@ usage_pieces =
     ∷ Text (codes "       btreplay big X N")
     ∷ []
 
-abbrev pub name_of : Operands → Operand → List ℕ
-name_of names operand.Script = names.script
-name_of names operand.Recording = names.recording
-
--- what is told of a refusal, where the words name these operands
-abbrev pub refusal_pieces : Operands → Refusal → List Piece
-refusal_pieces names Usage = usage_pieces
-refusal_pieces names (Script why) = Text names.script ∷ script_pieces why
-refusal_pieces names (Recording why) = Text names.recording ∷ recording_pieces why
-refusal_pieces names (ReadFault file) = Text (name_of names file) ∷ Text (codes ": read fault") ∷ []
-refusal_pieces names WriteFault = Text (codes "write fault") ∷ []
-refusal_pieces names Memory = Text (codes "out of memory") ∷ []
+-- what is told of a refusal, where the words name these files
+abbrev pub refusal_pieces : List NamedFile → Refusal → List Piece
+refusal_pieces files Usage = usage_pieces
+refusal_pieces files (Script why) = Text (operand_name files operand.Script) ∷ script_pieces why
+refusal_pieces files (Recording why) = Text (operand_name files operand.Recording) ∷ recording_pieces why
+refusal_pieces files (ReadFault file) = Text (operand_name files file) ∷ Text (codes ": read fault") ∷ []
+refusal_pieces files WriteFault = Text (codes "write fault") ∷ []
+refusal_pieces files Memory = Text (codes "out of memory") ∷ []

@@ -30,29 +30,29 @@ use Rattle.bt_top.specs.Sizes.{IsLarge}
 -- ---- the first fault of a script
 
 -- the line and column of a byte of the text, or of its end
-abbrev pub place_at : List ℕ → ℕ → Place
-place_at text offset = record { line = line_behind (take offset text); column = column_behind (take offset text) }
+abbrev pub offset_place : List ℕ → ℕ → Place
+offset_place text offset = record { line = line_behind (take offset text); column = column_behind (take offset text) }
 
 -- the line and column of a token, or of the end of the text where there is none
-abbrev pub place_of : List ℕ → Option Token → Place
-place_of text None = place_at text (length text)
-place_of text (Some token) = token.place
+abbrev pub token_place : List ℕ → Option Token → Place
+token_place text None = offset_place text (length text)
+token_place text (Some token) = token.place
 
 -- why a text is refused whose first lexical fault is this one
 abbrev pub lexical_refusal : List ℕ → LexError → Refusal
-lexical_refusal text (lexical.BadChar at) = Script (Fault BadCharacter (place_at text at))
-lexical_refusal text (lexical.OpenString at) = Script (Fault OpenString (place_at text at))
-lexical_refusal text (lexical.OpenComment at) = Script (Fault OpenComment (place_at text at))
-lexical_refusal text (lexical.NumberTooLarge at) = Script (Fault NumberTooLarge (place_at text at))
-lexical_refusal text (lexical.BadEscape at) = Script (Fault BadEscape (place_at text at))
-lexical_refusal text (lexical.StringTooLong at) = Script (Fault StringTooLong (place_at text at))
+lexical_refusal text (lexical.BadChar at) = Script (Fault BadCharacter (offset_place text at))
+lexical_refusal text (lexical.OpenString at) = Script (Fault OpenString (offset_place text at))
+lexical_refusal text (lexical.OpenComment at) = Script (Fault OpenComment (offset_place text at))
+lexical_refusal text (lexical.NumberTooLarge at) = Script (Fault NumberTooLarge (offset_place text at))
+lexical_refusal text (lexical.BadEscape at) = Script (Fault BadEscape (offset_place text at))
+lexical_refusal text (lexical.StringTooLong at) = Script (Fault StringTooLong (offset_place text at))
 lexical_refusal text lexical.Memory = Memory
 
 -- why a text is refused whose tokens have this first fault
 abbrev pub parse_refusal : List ℕ → List Token → ParseError → Refusal
-parse_refusal text tokens (parsing.Syntax n) = Script (Fault Syntax (place_of text (slice_get tokens n)))
-parse_refusal text tokens (parsing.TooDeep n) = Script (Fault TooDeep (place_of text (slice_get tokens n)))
-parse_refusal text tokens (parsing.TooMany n) = Script (Fault TooManyProbes (place_of text (slice_get tokens n)))
+parse_refusal text tokens (parsing.Syntax n) = Script (Fault Syntax (token_place text (slice_get tokens n)))
+parse_refusal text tokens (parsing.TooDeep n) = Script (Fault TooDeep (token_place text (slice_get tokens n)))
+parse_refusal text tokens (parsing.TooMany n) = Script (Fault TooManyProbes (token_place text (slice_get tokens n)))
 parse_refusal text tokens parsing.Memory = Memory
 
 -- why a script is refused of whose points this is the first fault

@@ -2,6 +2,7 @@
 ghost use Rattle.std.specs.Prelude.{◌≡◌};
 ghost use Rattle.bt_top.specs.Refusals.{status_of, recording_refusal, read_refusal};
 
+use bt_core::memory::Memory;
 use bt_core::place::Place;
 use bt_io::shelf::ShelfError;
 use expr_types::fault::Rule;
@@ -89,6 +90,17 @@ pub enum Refusal {
     WriteFault,
     /// Memory ran out: status 6.
     Memory,
+}
+
+impl From<Memory> for Refusal {
+    ghost use Rattle.std.specs.Prelude.{◌≡◌};
+    ghost use Rattle.bt_top.specs.declared.refusal.Refusal.TheVariants as refusal;
+
+    ghost from_gives = { λ _ refused. refused ≡ refusal.Memory };
+
+    fn from(_error: Memory) -> Refusal {
+        Refusal::Memory
+    }
 }
 
 /// The exit status of a refusal, or 0 for none.

@@ -1,9 +1,9 @@
 // The trees of scripts, and why scripts are refused.
 ghost use Rattle.std.specs.Prelude.{◌≡◌, ◌≤◌, IfErr, IfOk, length, slice_get};
 ghost use Rattle.bt_lexer.specs.Places.{offset_of};
-ghost use Rattle.bt_top.specs.Script.{place_of, place_at, lexical_refusal, parse_refusal, attach_refusal, type_refusal};
+ghost use Rattle.bt_top.specs.Script.{token_place, offset_place, lexical_refusal, parse_refusal, attach_refusal, type_refusal};
 ghost use Rattle.bt_top.specs.Script.{HasTree};
-ghost use Rattle.bt_top.specs.Serve.{IsTextRefusal};
+ghost use Rattle.bt_top.specs.Doing.{IsTextRefusal};
 
 use crate::refusal::{Refusal, ScriptFault, ScriptRefusal};
 use bt_ast::probe::Script;
@@ -21,10 +21,10 @@ use expr_types::fault::TypeError;
 use std::alloc::Global;
 
 /// The line and column of a byte, by its offset in the text.
-fn place_at(text: &[u8], offset: u64) -> Place
+fn offset_place(text: &[u8], offset: u64) -> Place
     requires within { offset ≤ length text.now }
     requires short { length text.now ≤ SCRIPT_BYTES }
-    ensures { result ≡ place_at text.now offset }
+    ensures { result ≡ offset_place text.now offset }
 {
     line_column(text, offset as usize)
 }
@@ -43,26 +43,28 @@ fn lexical_refusal(text: &[u8], error: LexError) -> Refusal
     ensures { result ≡ lexical_refusal text.now error }
 {
     match error {
-        LexError::BadChar(at) => fault_at(ScriptFault::BadCharacter, place_at(text, at)),
-        LexError::OpenString(at) => fault_at(ScriptFault::OpenString, place_at(text, at)),
-        LexError::OpenComment(at) => { fault_at(ScriptFault::OpenComment, place_at(text, at)) }
+        LexError::BadChar(at) => fault_at(ScriptFault::BadCharacter, offset_place(text, at)),
+        LexError::OpenString(at) => fault_at(ScriptFault::OpenString, offset_place(text, at)),
+        LexError::OpenComment(at) => { fault_at(ScriptFault::OpenComment, offset_place(text, at)) }
         LexError::NumberTooLarge(at) => {
-            fault_at(ScriptFault::NumberTooLarge, place_at(text, at))
+            fault_at(ScriptFault::NumberTooLarge, offset_place(text, at))
         }
-        LexError::BadEscape(at) => fault_at(ScriptFault::BadEscape, place_at(text, at)),
-        LexError::StringTooLong(at) => { fault_at(ScriptFault::StringTooLong, place_at(text, at)) }
+        LexError::BadEscape(at) => fault_at(ScriptFault::BadEscape, offset_place(text, at)),
+        LexError::StringTooLong(at) => {
+            fault_at(ScriptFault::StringTooLong, offset_place(text, at))
+        }
         LexError::Memory => Refusal::Memory,
     }
 }
 
 /// The line and column of the token with so many before it, or of the end of the text.
-fn place_of(text: &[u8], tokens: &[Token], number: u32) -> Place
+fn token_place(text: &[u8], tokens: &[Token], number: u32) -> Place
     requires { length text.now ≤ SCRIPT_BYTES }
-    ensures { result ≡ place_of text.now (slice_get tokens.now number) }
+    ensures { result ≡ token_place text.now (slice_get tokens.now number) }
 {
     match tokens.get(number as usize) {
         Some(token) => token.place,
-        None => place_at(text, text.len() as u64),
+        None => offset_place(text, text.len() as u64),
     }
 }
 
@@ -73,13 +75,16 @@ fn parse_refusal(text: &[u8], tokens: &[Token], error: ParseError) -> Refusal
 {
     match error {
         ParseError::Syntax(number) => {
-            fault_at(ScriptFault::Syntax, place_of(text, tokens, number))
+            fault_at(ScriptFault::Syntax, token_place(text, tokens, number))
         }
         ParseError::TooDeep(number) => {
-            fault_at(ScriptFault::TooDeep, place_of(text, tokens, number))
+            fault_at(ScriptFault::TooDeep, token_place(text, tokens, number))
         }
         ParseError::TooMany(number) => {
-            fault_at(ScriptFault::TooManyProbes, place_of(text, tokens, number))
+            fault_at(
+                ScriptFault::TooManyProbes,
+                token_place(text, tokens, number),
+            )
         }
         ParseError::Memory => Refusal::Memory,
     }

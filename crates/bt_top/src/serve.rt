@@ -1,52 +1,40 @@
 // The top call.
 ghost use Rattle.std.specs.Prelude.{◌≡◌, ◌≢◌, ◌↔◌, None, Some, IfSome, IsSome};
-ghost use Rattle.bt_io.specs.Faults.{Rose};
-ghost use Rattle.bt_words.specs.Words.{order_of as order_asked};
-ghost use Rattle.bt_top.specs.Commands.{HasWork, Headline, IsAnswer, MadeIsComplete};
-ghost use Rattle.bt_top.specs.Doing.{IsMadeRefusal, programs_with, work_of};
-ghost use Rattle.bt_top.specs.Lines.{sink_use};
+ghost use Rattle.bt_words.specs.Words.{HasBounds, order_of};
+ghost use Rattle.bt_top.specs.Headline.{Headline};
+ghost use Rattle.bt_top.specs.Lines.{SinkFailed, sink_use};
+ghost use Rattle.bt_top.specs.Orders.{files_in, files_of, names_of};
 ghost use Rattle.bt_top.specs.Refusals.{status_of};
-ghost use Rattle.bt_top.specs.Serve.{Answers, AsksExactly, AsksFirst, ComesIfDue, IsComplete};
-ghost use Rattle.bt_top.specs.Serve.{OnTold, Tells, shelf_use};
-ghost use Rattle.bt_top.specs.Words.{command_of, names_of, order_of};
+ghost use Rattle.bt_top.specs.Serve.{AnswersOrder, AsksExactly, AsksFirst, ComesIfDue, HasWork, AnswersWords, IsComplete};
+ghost use Rattle.bt_top.specs.Serve.{OnTold, ReadFailed, TellsRefusal, shelf_use};
 
-use crate::files::read_files;
-use crate::made::{make_big_run, make_recording};
+use crate::outcome::{Outcome, write_outcome};
 use crate::refusal::{Refusal, status_of};
 use crate::report::{Report, refused};
-use crate::tasks::{Done, do_task};
-use crate::tell::{tell, tell_made, tell_memory, tell_usage};
-use crate::words::{Command, Order, command_of};
-use crate::writing::write_done;
-use bpf_codegen::generate::Program;
-use bt_core::items::Items;
+use crate::tasks::outcome_of;
+use crate::tell::{tell_memory, tell_refusal, tell_usage};
 use bt_io::shelf::Shelf;
 use bt_io::sink::Sink;
-use bt_words::order::WordsError;
+use bt_words::order::{Order, WordsError};
+use bt_words::read::read_words;
 use std::alloc::Global;
 use std::sync::Wait;
 use std::thread::Threads;
 use turn_lock::gate::Gate;
 
-/// What was done with programs, and whether it was written.
-fn reported(alloc: Global, done: Done, programs: Items<Program>, refusal: Option<Refusal>) -> Report
-    ensures { result ≡ record { status = status_of refusal; refusal = refusal; work = work_of done; programs = programs_with done programs } }
+/// What was done, and whether it was written.
+fn reported(outcome: Outcome, refusal: Option<Refusal>) -> Report
+    ensures { result ≡ record { status = status_of refusal; refusal = refusal; work = outcome.work; programs = outcome.programs } }
 {
-    let status = status_of(refusal);
-    let (work, programs) = match done {
-        Done::Ran(work) => (Some(work), programs),
-        Done::Checked => (None, Items::new(alloc)),
-        Done::Listed(_) => (None, programs),
-    };
     Report {
-        status,
+        status: status_of(refusal),
         refusal,
-        work,
-        programs,
+        work: outcome.work,
+        programs: outcome.programs,
     }
 }
 
-/// Does what an order asks for: reads its files, does its task with them, and writes what it makes.
+/// Does what an order asks for: reads its files, does its task, and writes what it comes to.
 fn perform<S: Shelf, K: Sink, G: Gate + Sync, R: Threads + Wait + Sync>(
     rt: &R,
     alloc: Global,
@@ -55,43 +43,32 @@ fn perform<S: Shelf, K: Sink, G: Gate + Sync, R: Threads + Wait + Sync>(
     out: &mut K,
     gate: &G,
 ) -> Report
+    requires { HasBounds order.now }
     ensures status { result.status ≡ status_of result.refusal }
     ensures known { result.refusal ≢ Some Refusal.Usage }
-    ensures asked { AsksFirst (S.asked shelf.old) (S.asked shelf.new) (names_of (Some order.now)) }
-    ensures asked_exactly { AsksExactly (Some order.now) result.refusal (shelf_use S.held S.faults S.asked shelf.old shelf.new) }
-    ensures answered { Answers order.now (shelf_use S.held S.faults S.asked shelf.old shelf.new)
+    ensures asked { AsksFirst (S.asked shelf.old) (S.asked shelf.new) (names_of (files_of order.now)) }
+    ensures asked_exactly { AsksExactly (files_of order.now) result.refusal (shelf_use S.held S.faults S.asked shelf.old shelf.new) }
+    ensures answered { AnswersOrder order.now (shelf_use S.held S.faults S.asked shelf.old shelf.new)
         (sink_use K.taken K.faults out.old out.new) result }
-    ensures exact { OnTold (Some order.now) (S.held shelf.old) (ComesIfDue result.refusal) }
-    ensures worked { IsSome result.work ↔ HasWork result.refusal (Some (Command.OnFiles order.now)) }
-    ensures headline { Headline (Some (Command.OnFiles order.now)) (shelf_use S.held S.faults S.asked shelf.old shelf.new)
+    ensures exact { OnTold (S.held shelf.old) (files_of order.now) (ComesIfDue (files_of order.now) result.refusal) }
+    ensures worked { IsSome result.work ↔ HasWork result.refusal (Some order.now) }
+    ensures headline { Headline (Some order.now) (shelf_use S.held S.faults S.asked shelf.old shelf.new)
         (sink_use K.taken K.faults out.old out.new) result }
 {
+    bt_job::laws::accepted_scripts_are_jobs();
     bt_meaning::laws::ticks_come_after();
     run_laws::laws::reads_see_beginnings();
-    let job = match read_files(alloc, order, shelf) {
-        Ok(job) => job,
+    big_script::laws::script_only_adds();
+    total_laws::laws::totals_are_exact();
+    let outcome = match outcome_of(rt, alloc, order, shelf, gate) {
+        Ok(outcome) => outcome,
         Err(refusal) => return refused(alloc, refusal),
     };
-    let Ok(done) = do_task(rt, alloc, order.task, &job, gate) else {
-        return refused(alloc, Refusal::Memory);
-    };
-    let refusal = match write_done(out, order.task, &done) {
+    let refusal = match write_outcome(out, &outcome) {
         Ok(()) => None,
         Err(_) => Some(Refusal::WriteFault),
     };
-    reported(alloc, done, job.programs, refusal)
-}
-
-/// A report of a command that reads no file, whose refusal is told.
-fn told<E: Sink>(err: &mut E, report: Report) -> Report
-    requires { IfSome report.refusal IsMadeRefusal }
-    ensures same { result ≡ report }
-    ensures told { Tells None report.refusal (sink_use E.taken E.faults err.old err.new) }
-{
-    if let Some(refusal) = report.refusal {
-        tell_made(err, refusal);
-    }
-    report
+    reported(outcome, refusal)
 }
 
 /// Does what the words ask for. `run SCRIPT RECORDING` runs the script over the recording, with each recorded CPU on a thread of its
@@ -133,35 +110,34 @@ pub fn serve<S: Shelf, K: Sink, E: Sink, G: Gate + Sync, R: Threads + Wait + Syn
     ensures status { result.status ≡ status_of result.refusal }
 
     // The words are refused exactly where they break the rule. Then no file is asked for, and none is by `gen` and `big`.
-    ensures usage { (result.refusal ≡ Some Refusal.Usage) ↔ (order_asked words.now ≡ None) }
-    ensures asked { AsksFirst (S.asked shelf.old) (S.asked shelf.new) (names_of (order_of words.now)) }
-    ensures asked_exactly { AsksExactly (order_of words.now) result.refusal (shelf_use S.held S.faults S.asked shelf.old shelf.new) }
+    ensures usage { (result.refusal ≡ Some Refusal.Usage) ↔ (order_of words.now ≡ None) }
+    ensures asked { AsksFirst (S.asked shelf.old) (S.asked shelf.new) (names_of (files_in (order_of words.now))) }
+    ensures asked_exactly { AsksExactly (files_in (order_of words.now)) result.refusal (shelf_use S.held S.faults S.asked shelf.old shelf.new) }
 
-    // What comes of a command on files is due to them, or is a fault before which nothing was due; and nothing but want of memory and a fault
-    // of the write refuses `gen` and `big`. At status 0 and 5 there is the work of a run, the programs of a run or a listing are those of its
-    // job, one for each body, which keeps it, and what the command writes is appended to the output: whole at status 0, and a prefix of it
-    // after a fault of the write. Else nothing is.
-    ensures answered { IsAnswer (command_of words.now) (shelf_use S.held S.faults S.asked shelf.old shelf.new)
+    // What comes of an order is due to its files, or is a fault before which nothing was due; nothing is due to `gen` and `big`. At status 0 and
+    // 5 there is what the order comes to: the work of a run, the programs of a run or a listing, one for each body, which keeps it, and the
+    // bytes, which are appended to the output: whole at status 0, and a prefix of them after a fault of the write. Else nothing is.
+    ensures answered { AnswersWords (order_of words.now) (shelf_use S.held S.faults S.asked shelf.old shelf.new)
         (sink_use K.taken K.faults out.old out.new) result }
-    ensures exact { OnTold (order_of words.now) (S.held shelf.old) (ComesIfDue result.refusal) }
-    ensures complete { OnTold (order_of words.now) (S.held shelf.old)
-        (IsComplete (Rose (S.faults shelf.old) (S.faults shelf.new)) (Rose (K.faults out.old) (K.faults out.new)) result.status) }
-    ensures complete_made { MadeIsComplete (command_of words.now) (Rose (K.faults out.old) (K.faults out.new)) result.status }
+    ensures exact { IfSome (order_of words.now) (λ order. OnTold (S.held shelf.old) (files_of order) (ComesIfDue (files_of order) result.refusal)) }
+    ensures complete { IfSome (order_of words.now) (λ order. OnTold (S.held shelf.old) (files_of order)
+        (IsComplete (files_of order) (ReadFailed (files_of order) (shelf_use S.held S.faults S.asked shelf.old shelf.new))
+        (SinkFailed (sink_use K.taken K.faults out.old out.new)) result.status)) }
 
     // Work is there at status 0 and 5 of `run` and `big`.
-    ensures worked { IsSome result.work ↔ HasWork result.refusal (command_of words.now) }
+    ensures worked { IsSome result.work ↔ HasWork result.refusal (order_of words.now) }
 
     // The headline: where `run` or `big` ends with status 0, the bytes written are exactly those that the script's own meaning prints under
     // the interleaving handed back with them, and the line of instructions where it is asked for. Behind the text of `big`, which ends with
     // exactly the totals of its maps, stands the line that tells its events and steps.
-    ensures headline { Headline (command_of words.now) (shelf_use S.held S.faults S.asked shelf.old shelf.new)
+    ensures headline { Headline (order_of words.now) (shelf_use S.held S.faults S.asked shelf.old shelf.new)
         (sink_use K.taken K.faults out.old out.new) result }
 
     // The line of the refusal is appended to `err`, or a prefix of it where the count of its faults rose.
-    ensures told { Tells (order_of words.now) result.refusal (sink_use E.taken E.faults err.old err.new) }
+    ensures told { TellsRefusal (files_in (order_of words.now)) result.refusal (sink_use E.taken E.faults err.old err.new) }
 {
-    let command = match command_of(alloc, words) {
-        Ok(command) => command,
+    let order = match read_words(alloc, words) {
+        Ok(order) => order,
         Err(WordsError::Usage) => {
             tell_usage(err);
             return refused(alloc, Refusal::Usage);
@@ -171,15 +147,7 @@ pub fn serve<S: Shelf, K: Sink, E: Sink, G: Gate + Sync, R: Threads + Wait + Syn
             return refused(alloc, Refusal::Memory);
         }
     };
-    match command {
-        Command::OnFiles(order) => {
-            let report = perform(rt, alloc, &order, shelf, out, gate);
-            if let Some(refusal) = report.refusal {
-                tell(err, &order.files, refusal);
-            }
-            report
-        }
-        Command::Gen(numbers) => told(err, make_recording(alloc, numbers, out)),
-        Command::Big(numbers) => told(err, make_big_run(rt, alloc, numbers, out, gate)),
-    }
+    let report = perform(rt, alloc, &order, shelf, out, gate);
+    tell_refusal(err, &order, report.refusal);
+    report
 }

@@ -1,12 +1,13 @@
 // Scripts of which a body is too large.
 ghost use Rattle.std.specs.Prelude.{◌≡◌, ℕ, ◌<◌, length, IfOk, IfErr};
-ghost use Rattle.bt_top.specs.Doing.{HasPrograms, HasProbe, IsSizeAnswer, TellsSize};
+ghost use Rattle.bt_top.specs.Doing.{ArePrograms, HasProbe, IsSizeAnswer, TellsSize};
 ghost use Rattle.bt_top.specs.Sizes.{IsProbePlace, size_wrong};
 
-use crate::judge::ScriptJob;
 use crate::refusal::{Refusal, ScriptFault, ScriptRefusal};
+use bpf_codegen::generate::Program;
 use bt_ast::attached::Attached;
 use bt_ast::probe::Script;
+use bt_core::items::Items;
 use bt_core::place::Place;
 use script_programs::error::{ProgramsError, SizeFault};
 use script_programs::programs::programs_of;
@@ -41,25 +42,21 @@ fn size_refusal(script: &Script, attached: &Attached, body: u32, fault: SizeFaul
     Refusal::Script(ScriptRefusal::Fault(size_wrong(fault), place))
 }
 
-/// What a script with its types asks for: a program for each body, where none is too large.
-pub(crate) fn with_programs(
+/// A program for each body of a script with its types, where none is too large.
+pub(crate) fn programs_for(
     alloc: Global,
     script: &Script,
-    attached: Attached,
-    typed: Typed,
-) -> Result<ScriptJob, Refusal>
-    requires probes { (body : ℕ) → body < length typed.bodies → HasProbe script.now attached body }
-    ensures job { IfOk result (HasPrograms attached typed) }
-    ensures refused { IfErr result (IsSizeAnswer script.now attached typed) }
+    attached: &Attached,
+    typed: &Typed,
+) -> Result<Items<Program>, Refusal>
+    requires probes { (body : ℕ) → body < length typed.now.bodies → HasProbe script.now attached.now body }
+    ensures programs { IfOk result (ArePrograms typed.now) }
+    ensures refused { IfErr result (IsSizeAnswer script.now attached.now typed.now) }
 {
-    match programs_of(alloc, &typed) {
-        Ok(programs) => Ok(ScriptJob {
-            attached,
-            typed,
-            programs,
-        }),
+    match programs_of(alloc, typed) {
+        Ok(programs) => Ok(programs),
         Err(ProgramsError::TooLarge { body, fault }) => {
-            Err(size_refusal(script, &attached, body, fault))
+            Err(size_refusal(script, attached, body, fault))
         }
         Err(ProgramsError::Memory) => Err(Refusal::Memory),
     }

@@ -1,19 +1,19 @@
 // What is told of each refusal.
-ghost use Rattle.std.specs.Prelude.{◌≡◌, ◌∷◌, [], codes, None};
+ghost use Rattle.std.specs.Prelude.{◌≡◌, ◌∷◌, [], codes};
 ghost use Rattle.rec_format.specs.declared.error.RecordingError.TheVariants as wrong;
 ghost use Rattle.bt_top.specs.declared.refusal.ScriptRefusal.TheVariants as refused;
 ghost use Rattle.bt_top.specs.Lines.{Writes, sink_use, Text, Number};
-ghost use Rattle.bt_top.specs.Refusals.{count_word, event_pieces, fault_pieces, format_pieces, name_of};
+ghost use Rattle.bt_top.specs.Refusals.{count_word, event_pieces, fault_pieces, broken_format_pieces};
 ghost use Rattle.bt_top.specs.Refusals.{recording_pieces, refusal_pieces, rule_text, script_fault_text, script_pieces};
 ghost use Rattle.bt_top.specs.Refusals.{size_in, unit_in, usage_pieces};
-ghost use Rattle.bt_top.specs.Doing.{IsMadeRefusal};
-ghost use Rattle.bt_top.specs.Words.{operands_in};
+ghost use Rattle.bt_top.specs.Orders.{files_of, on_script, operand_name};
+ghost use Rattle.bt_top.specs.Serve.{TellsRefusal};
 
 use crate::line::{Piece, write_line};
 use crate::refusal::{Operand, RecordingRefusal, Refusal, ScriptFault, ScriptRefusal};
-use crate::words::Operands;
 use bt_core::place::Place;
 use bt_io::sink::Sink;
+use bt_words::order::{FileName, Order};
 use expr_types::fault::Rule;
 use rec_format::error::{CountOf, RecordingError};
 use tracefs_format::error::FormatError;
@@ -97,19 +97,36 @@ fn unit_in(fault: ScriptFault) -> &'static str
     }
 }
 
-/// The name of the file that the operand gives.
-fn name_of(names: &Operands, operand: Operand) -> &str
-    ensures { result.now ≡ name_of names.now operand }
+/// The one of two names that an operand has.
+fn one_of<'o>(script: &'o FileName, recording: &'o FileName, operand: Operand) -> &'o str
+    ensures { result.now ≡ operand_name (on_script script.now recording.now) operand }
 {
     match operand {
-        Operand::Script => names.script.as_str(),
-        Operand::Recording => names.recording.as_str(),
+        Operand::Script => script.as_str(),
+        Operand::Recording => recording.as_str(),
+    }
+}
+
+/// The name that an order gives an operand.
+fn operand_name(order: &Order, operand: Operand) -> &str
+    ensures { result.now ≡ operand_name (files_of order.now) operand }
+{
+    match order {
+        Order::Run {
+            serial: _,
+            stats: _,
+            script,
+            recording,
+        } => one_of(script, recording, operand),
+        Order::Check { script, recording } => one_of(script, recording, operand),
+        Order::Code { script, recording } => one_of(script, recording, operand),
+        Order::Gen { .. } | Order::Big { .. } => "",
     }
 }
 
 /// Tells that the text of a format breaks a rule.
 fn tell_rule<E: Sink>(err: &mut E, name: &str, place: u32, rule: &'static str)
-    ensures { Writes (sink_use E.taken E.faults err.old err.new) (Text name.now ∷ Text (codes ": ") ∷ format_pieces place (Text rule.now ∷ [])) }
+    ensures { Writes (sink_use E.taken E.faults err.old err.new) (Text name.now ∷ Text (codes ": ") ∷ broken_format_pieces place (Text rule.now ∷ [])) }
 {
     let colon = Piece::Text(": ");
     let head = Piece::Text("C4 format ");
@@ -120,7 +137,7 @@ fn tell_rule<E: Sink>(err: &mut E, name: &str, place: u32, rule: &'static str)
 
 /// Tells that the text of a format breaks a rule in a line.
 fn tell_rule_at<E: Sink>(err: &mut E, name: &str, place: u32, rule: &'static str, line: u32)
-    ensures { Writes (sink_use E.taken E.faults err.old err.new) (Text name.now ∷ Text (codes ": ") ∷ format_pieces place (Text rule.now ∷ Number line ∷ [])) }
+    ensures { Writes (sink_use E.taken E.faults err.old err.new) (Text name.now ∷ Text (codes ": ") ∷ broken_format_pieces place (Text rule.now ∷ Number line ∷ [])) }
 {
     let name = Piece::Text(name);
     let colon = Piece::Text(": ");
@@ -287,16 +304,20 @@ pub(crate) fn tell_memory<E: Sink>(err: &mut E)
     write_line(err, &[Piece::Text("out of memory")]);
 }
 
-/// Tells a refusal, where the words name these files.
-pub(crate) fn tell<E: Sink>(err: &mut E, names: &Operands, refusal: Refusal)
-    ensures { Writes (sink_use E.taken E.faults err.old err.new) (refusal_pieces names.now refusal) }
+/// Tells a refusal of an order.
+fn tell<E: Sink>(err: &mut E, order: &Order, refusal: Refusal)
+    ensures { Writes (sink_use E.taken E.faults err.old err.new) (refusal_pieces (files_of order.now) refusal) }
 {
     match refusal {
         Refusal::Usage => tell_usage(err),
-        Refusal::Script(why) => tell_script(err, names.script.as_str(), why),
-        Refusal::Recording(why) => tell_recording(err, names.recording.as_str(), why),
+        Refusal::Script(why) => tell_script(err, operand_name(order, Operand::Script), why),
+        Refusal::Recording(why) => tell_recording(
+            err,
+            operand_name(order, Operand::Recording),
+            why,
+        ),
         Refusal::ReadFault(operand) => {
-            let name = Piece::Text(name_of(names, operand));
+            let name = Piece::Text(operand_name(order, operand));
             write_line(err, &[name, Piece::Text(": read fault")])
         }
         Refusal::WriteFault => write_line(err, &[Piece::Text("write fault")]),
@@ -304,13 +325,12 @@ pub(crate) fn tell<E: Sink>(err: &mut E, names: &Operands, refusal: Refusal)
     }
 }
 
-/// Tells a refusal of a command that reads no file.
-pub(crate) fn tell_made<E: Sink>(err: &mut E, refusal: Refusal)
-    requires { IsMadeRefusal refusal }
-    ensures { Writes (sink_use E.taken E.faults err.old err.new) (refusal_pieces (operands_in None) refusal) }
+/// Tells why an order was refused, where it was.
+pub(crate) fn tell_refusal<E: Sink>(err: &mut E, order: &Order, refusal: Option<Refusal>)
+    ensures { TellsRefusal (files_of order.now) refusal (sink_use E.taken E.faults err.old err.new) }
 {
     match refusal {
-        Refusal::Memory => tell_memory(err),
-        _ => write_line(err, &[Piece::Text("write fault")]),
+        None => (),
+        Some(refusal) => tell(err, order, refusal),
     }
 }

@@ -1,11 +1,9 @@
-use Rattle.bt_top.specs.Due.{Files}
-use Rattle.bt_top.proofs.Due.{AreLaws, comes_if_due, jobs_can_run}
+use Rattle.bt_top.proofs.Due.{AreLaws, is_exact, jobs_can_run}
 use Rattle.bt_top.proofs.judge.judge.Goals as goal
 
 pub returns-clause-exact : goal.returns-clause-exact
 returns-clause-exact c =
-    let files : Files = record { script = c.args.script.now; recording = c.args.recording.now } in
-    let laws : AreLaws files = record {
+    let laws : AreLaws c.args.script.now c.args.recording.now = record {
       recording = c.one_recording.ensures;
       fault = λ one other. c.one_fault.ensures.one c.args.recording.now one other (λ i. (c.type_inv.recording i).fits);
       no_fault = λ says error. c.one_fault.ensures.none_beside c.args.recording.now says error (λ i. (c.type_inv.recording i).fits);
@@ -19,7 +17,8 @@ returns-clause-exact c =
         sizes = c.scripts_have_one_size.ensures;
       };
     } in
-    comes_if_due files c.accept.result laws c.accept.ensures.job c.accept.ensures.refused
+    is_exact c.args.script.now c.args.recording.now c.accept.result laws c.accept.ensures.job c.accept.ensures.refused
 
 pub returns-clause-can_run : goal.returns-clause-can_run
-returns-clause-can_run c = jobs_can_run _ c.accept.result c.accepted_scripts_are_jobs.ensures c.accept.ensures.job
+returns-clause-can_run c =
+    jobs_can_run c.args.script.now c.args.recording.now c.accept.result c.accepted_scripts_are_jobs.ensures c.accept.ensures.job

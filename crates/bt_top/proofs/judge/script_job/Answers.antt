@@ -16,34 +16,34 @@ returns-in-Err-attach-clause-fault c =
 pub check-requires : goal.check-requires
 check-requires c =
     rw c.as_slice-formats.ensures
-    (bodies_checked c.in-Ok.tree c.args.recording.now.formats c.in-Ok-attach.attached.bodies
+    (bodies_checked c.in-Ok.tree c.args.recording.formats c.in-Ok-attach.attached.bodies
     (c.bodies_are_there.ensures _ _ _ _ _ (rw c.as_slice-formats.ensures at c.in-Ok-attach.ensures.found)))
 
-pub with_programs-requires : goal.with_programs-requires
-with_programs-requires c =
+pub programs_for-requires : goal.programs_for-requires
+programs_for-requires c =
     record {
-      probes = has_probe c.in-Ok.tree c.args.recording.now.formats c.in-Ok-attach.attached c.in-Ok-check.typed
+      probes = has_probe c.in-Ok.tree c.args.recording.formats c.in-Ok-attach.attached c.in-Ok-check.typed
           (rw c.as_slice-formats.ensures at c.in-Ok-check.ensures.typed);
     }
 
-pub returns-in-Ok-check-clause-job : goal.returns-in-Ok-check-clause-job
-returns-in-Ok-check-clause-job c =
-    job_told _ c.args.recording.now c.in-Ok.tree c.in-Ok-attach.attached c.in-Ok-check.typed c.in-Ok.ensures.tree
+pub returns-in-Ok-programs_for-clause-asks : goal.returns-in-Ok-programs_for-clause-asks
+returns-in-Ok-programs_for-clause-asks c =
+    job_told _ c.args.recording c.in-Ok.tree c.in-Ok-attach.attached c.in-Ok-check.typed c.in-Ok.ensures.tree
     (rw c.as_slice-formats.ensures at c.in-Ok-attach.ensures.allowed) (rw c.as_slice-formats.ensures at c.in-Ok-attach.ensures.found)
     (rw c.as_slice-formats.ensures at c.in-Ok-check.ensures.allowed) (rw c.as_slice-formats.ensures at c.in-Ok-check.ensures.typed)
-    c.with_programs.result c.with_programs.ensures.job
+    c.in-Ok-programs_for.programs c.in-Ok-programs_for.ensures.programs
 
-pub returns-in-Ok-check-clause-fault : goal.returns-in-Ok-check-clause-fault
-returns-in-Ok-check-clause-fault c =
-    size_told _ c.args.recording.now c.in-Ok.tree c.in-Ok-attach.attached c.in-Ok-check.typed c.in-Ok.ensures.tree
+pub returns-in-Err-programs_for-clause-fault : goal.returns-in-Err-programs_for-clause-fault
+returns-in-Err-programs_for-clause-fault c =
+    size_told _ c.args.recording c.in-Ok.tree c.in-Ok-attach.attached c.in-Ok-check.typed c.in-Ok.ensures.tree
     (rw c.as_slice-formats.ensures at c.in-Ok-attach.ensures.allowed) (rw c.as_slice-formats.ensures at c.in-Ok-attach.ensures.found)
     (rw c.as_slice-formats.ensures at c.in-Ok-check.ensures.allowed) (rw c.as_slice-formats.ensures at c.in-Ok-check.ensures.typed)
-    c.with_programs.result c.with_programs.ensures.refused
+    c.in-Err-programs_for.refusal c.in-Err-programs_for.ensures.refused
 
-pub returns-clause-fault : goal.returns-clause-fault
-returns-clause-fault c =
+pub returns-in-Err-check-clause-fault : goal.returns-in-Err-check-clause-fault
+returns-in-Err-check-clause-fault c =
     rw c.type_refusal.ensures
-    (type_told _ c.args.recording.now c.in-Ok.tree c.in-Ok-attach.attached.bodies c.in-Err-check.error c.in-Ok.ensures.tree
+    (type_told _ c.args.recording c.in-Ok.tree c.in-Ok-attach.attached.bodies c.in-Err-check.error c.in-Ok.ensures.tree
     (rw c.as_slice-formats.ensures at c.in-Ok-attach.ensures.allowed)
-    (bodies_of_tree c.in-Ok.tree c.args.recording.now c.in-Ok-attach.attached (rw c.as_slice-formats.ensures at c.in-Ok-attach.ensures.found))
+    (bodies_of_tree c.in-Ok.tree c.args.recording c.in-Ok-attach.attached (rw c.as_slice-formats.ensures at c.in-Ok-attach.ensures.found))
     (rw c.as_slice-formats.ensures at c.in-Err-check.ensures.fault))

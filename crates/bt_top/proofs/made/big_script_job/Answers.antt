@@ -14,7 +14,7 @@ returns-clause-memory c =
       parse_apart = c.one_answer-2.ensures.apart;
       sizes = c.scripts_have_one_size.ensures;
     } in
-    only_memory c.args.recording.now laws
-    (c.script_is_accepted.ensures.accepted c.args.numbers.seed c.args.numbers.count c.args.recording.now c.requires.made)
-    (λ typed is. c.script_is_accepted.ensures.small c.args.numbers.seed c.args.numbers.count c.args.recording.now typed c.requires.made is)
+    only_memory c.args.recording laws
+    (c.script_is_accepted.ensures.accepted c.args.x c.args.n c.args.recording c.requires.made)
+    (λ typed is. c.script_is_accepted.ensures.small c.args.x c.args.n c.args.recording typed c.requires.made is)
     c.script_job.result c.script_job.ensures.fault

@@ -1,58 +1,42 @@
-use Rattle.std.proofs.Common.{◌≡◌, refl, inl, inr}
-use Rattle.std.specs.Prelude.{◌⊎◌, Some, None}
-use Rattle.bt_top.specs.declared.refusal.Refusal.TheVariants.{WriteFault}
-use Rattle.bt_top.specs.Doing.{bytes_of, programs_with}
+use Rattle.std.proofs.Common.{inl, inr}
 use Rattle.bt_top.specs.Lines.{SinkUse, sink_use}
-use Rattle.bt_top.specs.Refusals.{status_of}
-use Rattle.bt_top.specs.Serve.{ShelfUse, IsWritten, shelf_use}
-use Rattle.bt_top.proofs.Doings.{Ends, done_answer, done_work}
-use Rattle.bt_top.proofs.Headlines.{done_headline}
-use Rattle.bt_top.proofs.Judging.{kept, refused_answer}
+use Rattle.bt_top.specs.Outcomes.{bytes_written}
+use Rattle.bt_top.specs.Serve.{ShelfUse, shelf_use}
+use Rattle.bt_top.proofs.Answering.{Wrote, done_answer}
+use Rattle.bt_top.proofs.Headlines.{AreRunLaws, done_headline, refused_headline}
 use Rattle.bt_top.proofs.serve.perform.Goals as goal
-use Rattle.bt_top.proofs.serve.perform.Goals.{in-Ok-write_done, in-Err-write_done}
+use Rattle.bt_top.proofs.serve.perform.Goals.{in-Ok-write_outcome, in-Err-write_outcome}
+use Rattle.std.specs.Prelude.{Some}
 
-pub returns-in-Err-clause-answered : goal.returns-in-Err-clause-answered
-returns-in-Err-clause-answered g c =
-    rw c.refused.ensures (refused_answer c.args.order.now _ _ c.in-Err.refusal _ c.in-Err.ensures.read (kept (g.K.Sink.taken c.args.out.now)))
+pub returns-in-Err-clause-headline : goal.returns-in-Err-clause-headline
+returns-in-Err-clause-headline g c = rw c.refused.ensures (refused_headline (Some c.args.order.now) _ _ c.in-Err.refusal)
 
 pub returns-clause-answered : goal.returns-clause-answered
 returns-clause-answered g c =
-    let out : SinkUse = sink_use g.K.Sink.taken g.K.Sink.faults c.args.out.now c.write_done.new.out in
-    let seen : ShelfUse = shelf_use g.S.Shelf.held g.S.Shelf.faults g.S.Shelf.asked c.args.shelf.now c.read_files.new.shelf in
-    let ends : Ends c.match-write_done.refusal out = elim c.match-write_done.branch [
-      | in-Ok-write_done w ↦ inl w.refusal-is
-      | in-Err-write_done w ↦ inr (w.refusal-is, w.in-Err-write_done.ensures.failed)
+    let out : SinkUse = sink_use g.K.Sink.taken g.K.Sink.faults c.args.out.now c.write_outcome.new.out in
+    let seen : ShelfUse = shelf_use g.S.Shelf.held g.S.Shelf.faults g.S.Shelf.asked c.args.shelf.now c.outcome_of.new.shelf in
+    let wrote : Wrote out c.match-write_outcome.refusal (bytes_written c.in-Ok.outcome) = elim c.match-write_outcome.branch [
+      | in-Ok-write_outcome w ↦ inl (w.refusal-is, w.in-Ok-write_outcome.ensures.whole)
+      | in-Err-write_outcome w ↦ inr (w.refusal-is, w.in-Err-write_outcome.ensures.failed, w.in-Err-write_outcome.ensures.part)
     ] in
-    let written : IsWritten out c.match-write_done.refusal (bytes_of c.args.order.now.task c.in-Ok-do_task.done) = elim c.match-write_done.branch [
-      | in-Ok-write_done w ↦ rw w.refusal-is w.in-Ok-write_done.ensures.whole
-      | in-Err-write_done w ↦ rw w.refusal-is w.in-Err-write_done.ensures.part
-    ] in
-    rw c.reported.ensures
-    (done_answer c.args.order.now seen out _ c.in-Ok.job c.in-Ok-do_task.done c.in-Ok.ensures.read c.in-Ok-do_task.ensures c.match-write_done.refusal ends written)
-
-pub returns-clause-worked : goal.returns-clause-worked
-returns-clause-worked g c =
-    let ends : (c.match-write_done.refusal ≡ None) ⊎ (c.match-write_done.refusal ≡ Some WriteFault) = elim c.match-write_done.branch [
-      | in-Ok-write_done w ↦ inl w.refusal-is
-      | in-Err-write_done w ↦ inr w.refusal-is
-    ] in
-    rw c.reported.ensures
-    (done_work c.args.order.now.task c.args.order.now c.in-Ok.job c.in-Ok-do_task.done c.match-write_done.refusal (λ i. c.args.order.now.task) c.in-Ok-do_task.ensures ends)
+    rw c.reported.ensures (done_answer c.args.order.now seen out c.in-Ok.outcome c.in-Ok.ensures c.match-write_outcome.refusal wrote)
 
 pub returns-clause-headline : goal.returns-clause-headline
 returns-clause-headline g c =
-    let out : SinkUse = sink_use g.K.Sink.taken g.K.Sink.faults c.args.out.now c.write_done.new.out in
-    let seen : ShelfUse = shelf_use g.S.Shelf.held g.S.Shelf.faults g.S.Shelf.asked c.args.shelf.now c.read_files.new.shelf in
-    let ends : (c.match-write_done.refusal ≡ None) ⊎ (c.match-write_done.refusal ≡ Some WriteFault) = elim c.match-write_done.branch [
-      | in-Ok-write_done w ↦ inl w.refusal-is
-      | in-Err-write_done w ↦ inr w.refusal-is
+    let out : SinkUse = sink_use g.K.Sink.taken g.K.Sink.faults c.args.out.now c.write_outcome.new.out in
+    let seen : ShelfUse = shelf_use g.S.Shelf.held g.S.Shelf.faults g.S.Shelf.asked c.args.shelf.now c.outcome_of.new.shelf in
+    let laws : AreRunLaws = record {
+      jobs = c.accepted_scripts_are_jobs.ensures;
+      ticks = c.ticks_come_after.ensures.script;
+      reads = c.reads_see_beginnings.ensures;
+      only = c.script_only_adds.ensures.only;
+      few = c.script_only_adds.ensures.few;
+      totals = c.totals_are_exact.ensures;
+    } in
+    let wrote : Wrote out c.match-write_outcome.refusal (bytes_written c.in-Ok.outcome) = elim c.match-write_outcome.branch [
+      | in-Ok-write_outcome w ↦ inl (w.refusal-is, w.in-Ok-write_outcome.ensures.whole)
+      | in-Err-write_outcome w ↦ inr (w.refusal-is, w.in-Err-write_outcome.ensures.failed, w.in-Err-write_outcome.ensures.part)
     ] in
-    let written : IsWritten out c.match-write_done.refusal (bytes_of c.args.order.now.task c.in-Ok-do_task.done) = elim c.match-write_done.branch [
-      | in-Ok-write_done w ↦ rw w.refusal-is w.in-Ok-write_done.ensures.whole
-      | in-Err-write_done w ↦ rw w.refusal-is w.in-Err-write_done.ensures.part
-    ] in
-    let reads = c.in-Ok.ensures.read in
+    let reads = c.in-Ok.ensures.reads in
     rw c.reported.ensures
-    (done_headline c.args.order.now.files seen out (status_of c.match-write_done.refusal) c.match-write_done.refusal c.in-Ok.job
-    (programs_with c.in-Ok-do_task.done c.in-Ok.job.programs) c.ticks_come_after.ensures.script c.reads_see_beginnings.ensures
-    reads.files reads.held reads.job c.in-Ok.ensures.can_run refl ends c.args.order.now.task c.in-Ok-do_task.done c.in-Ok-do_task.ensures written)
+    (done_headline laws seen out c.in-Ok.outcome c.match-write_outcome.refusal wrote c.args.order.now reads.contents reads.held reads.value)

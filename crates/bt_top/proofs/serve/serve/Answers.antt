@@ -1,34 +1,37 @@
-use Rattle.bt_io.specs.Faults.{Rose}
+use Rattle.bt_words.specs.declared.order.Order.{Order}
+use Rattle.bt_words.specs.Words.{order_of}
 use Rattle.bt_top.specs.declared.refusal.Refusal.TheVariants.{Memory}
-use Rattle.bt_top.specs.Words.{command_of, order_of}
+use Rattle.bt_top.specs.Orders.{files_in, files_of}
+use Rattle.bt_top.specs.Serve.{ComesIfDue, OnTold}
+use Rattle.std.specs.Prelude.{Some}
+use Rattle.bt_top.proofs.Answering.{is_complete, kept, on_order, words_answer}
 use Rattle.bt_top.proofs.Headlines.{refused_headline}
-use Rattle.bt_top.proofs.Judging.{is_complete, kept, nothing_asked, words_answer, words_complete, memory_exact, memory_complete}
+use Rattle.bt_top.proofs.Performing.{memory_complete, memory_exact, nothing_asked}
 use Rattle.bt_top.proofs.serve.serve.Goals as goal
 
 pub returns-in-Err-Memory-clause-asked : goal.returns-in-Err-Memory-clause-asked
-returns-in-Err-Memory-clause-asked g c = nothing_asked _ _
+returns-in-Err-Memory-clause-asked g c = nothing_asked (files_in (order_of c.args.words.now)) _
 
 pub returns-in-Err-Memory-clause-answered : goal.returns-in-Err-Memory-clause-answered
-returns-in-Err-Memory-clause-answered g c = rw c.refused-in-Err-Memory.ensures (words_answer _ _ _ _ (kept (g.K.Sink.taken c.args.out.now)))
+returns-in-Err-Memory-clause-answered g c =
+    rw c.refused-in-Err-Memory.ensures (words_answer (order_of c.args.words.now) _ _ (kept (g.K.Sink.taken c.args.out.now)))
 
 pub returns-in-Err-Memory-clause-exact : goal.returns-in-Err-Memory-clause-exact
-returns-in-Err-Memory-clause-exact g c = rw c.refused-in-Err-Memory.ensures (memory_exact (order_of c.args.words.now) (g.S.Shelf.held c.args.shelf.now))
+returns-in-Err-Memory-clause-exact g c =
+    rw c.refused-in-Err-Memory.ensures
+    (on_order (order_of c.args.words.now) (λ (order : Order). OnTold (g.S.Shelf.held c.args.shelf.now) (files_of order) (ComesIfDue (files_of order) (Some Memory)))
+    (λ order. memory_exact (g.S.Shelf.held c.args.shelf.now) (files_of order)))
 
 pub returns-in-Err-Memory-clause-complete : goal.returns-in-Err-Memory-clause-complete
 returns-in-Err-Memory-clause-complete g c =
-    let read_failed : Type 0 = Rose (g.S.Shelf.faults c.args.shelf.now) (g.S.Shelf.faults c.args.shelf.now) in
-    let write_failed : Type 0 = Rose (g.K.Sink.faults c.args.out.now) (g.K.Sink.faults c.args.out.now) in
-    rw c.refused-in-Err-Memory.ensures (memory_complete (order_of c.args.words.now) (g.S.Shelf.held c.args.shelf.now) read_failed write_failed)
+    rw c.refused-in-Err-Memory.ensures
+    (on_order (order_of c.args.words.now) _ (λ order. memory_complete (g.S.Shelf.held c.args.shelf.now) (files_of order) _ _))
 
-pub returns-after-report-clause-complete : goal.returns-after-report-clause-complete
-returns-after-report-clause-complete g c =
-    rw (c.in-Ok.ensures.found, c.in-OnFiles.is)
-    (is_complete _ _ _ c.perform-report.result c.perform-report.ensures.status c.perform-report.ensures.answered c.perform-report.ensures.exact)
-
-pub returns-in-Err-Memory-clause-complete_made : goal.returns-in-Err-Memory-clause-complete_made
-returns-in-Err-Memory-clause-complete_made g c =
-    let write_failed : Type 0 = Rose (g.K.Sink.faults c.args.out.now) (g.K.Sink.faults c.args.out.now) in
-    rw c.refused-in-Err-Memory.ensures (words_complete (command_of c.args.words.now) write_failed)
+pub returns-clause-complete : goal.returns-clause-complete
+returns-clause-complete g c =
+    rw c.in-Ok.ensures.found
+    (is_complete c.in-Ok.order _ _ c.perform-report.result c.perform-report.ensures.status c.perform-report.ensures.answered c.perform-report.ensures.exact)
 
 pub returns-in-Err-Memory-clause-headline : goal.returns-in-Err-Memory-clause-headline
-returns-in-Err-Memory-clause-headline g c = rw c.refused-in-Err-Memory.ensures (refused_headline (command_of c.args.words.now) _ _ Memory)
+returns-in-Err-Memory-clause-headline g c =
+    rw c.refused-in-Err-Memory.ensures (refused_headline (order_of c.args.words.now) _ _ Memory)

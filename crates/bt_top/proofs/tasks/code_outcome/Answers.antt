@@ -3,9 +3,9 @@ use Rattle.std.specs.List.{AllByRecursion}
 use Rattle.bpf_codegen.specs.declared.generate.Program.{Program}
 use Rattle.bt_top.specs.Doing.{CanBeListed}
 use Rattle.bt_top.proofs.Listed.{can_be_listed}
-use Rattle.bt_top.proofs.tasks.do_task.Goals as goal
+use Rattle.bt_top.proofs.tasks.code_outcome.Goals as goal
 
 pub script_listing-requires : goal.script_listing-requires
-script_listing-requires g c =
+script_listing-requires c =
     subst (λ (programs : List Program). AllByRecursion CanBeListed programs) (sym c.as_slice.ensures)
-    (can_be_listed c.args.job.now.typed c.args.job.now.programs c.requires.programs)
+    (can_be_listed c.args.job.typed c.args.job.programs c.requires)

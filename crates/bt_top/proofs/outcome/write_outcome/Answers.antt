@@ -1,0 +1,8 @@
+use Rattle.bt_io.proofs.Appending.{AppendsPart-after}
+use Rattle.bt_top.proofs.outcome.write_outcome.Goals as goal
+
+pub returns-clause-part : goal.returns-clause-part
+returns-clause-part g c =
+    rw (← c.work_text.ensures, ← c.as_slice.ensures)
+    (AppendsPart-after (g.K.Sink.taken c.args.out.now) (g.K.Sink.taken c.write_all.new.sink) (g.K.Sink.taken c.write_all-2.new.sink) c.work_text.result.now _
+    c.write_all-2.result c.in_ok-write_all.ensures.whole c.write_all-2.ensures.part)

@@ -1,0 +1,35 @@
+use Rattle.std.proofs.Common.{refl}
+use Rattle.bt_words.specs.declared.order.Order.TheVariants.{Run, Check, Code, Gen}
+use Rattle.bt_top.specs.Jobs.{IsJobFor}
+use Rattle.bt_top.specs.Orders.{on_script}
+use Rattle.bt_top.specs.Outcomes.{ComesTo}
+use Rattle.bt_top.proofs.Performing.{goes_on, made}
+use Rattle.bt_top.proofs.tasks.outcome_of.Goals as goal
+
+pub returns-in_ok-run_outcome-in-Run : goal.returns-in_ok-run_outcome-in-Run
+returns-in_ok-run_outcome-in-Run g c =
+    rw c.in-Run.is
+    (goes_on _ (IsJobFor (on_script c.in-Run.script c.in-Run.recording)) (ComesTo (Run c.in-Run.serial c.in-Run.stats c.in-Run.script c.in-Run.recording)) _
+    c.in_ok-job-in-Run.job c.in_ok-run_outcome-in-Run.field-0
+    (rw (c.as_str.ensures, c.as_str-in-Run.ensures) at c.in_ok-job-in-Run.ensures.performs)
+    (λ contents is. (c.in_ok-job-in-Run.job, is, c.in_ok-run_outcome-in-Run.ensures)))
+
+pub returns-in_ok-check_outcome-in-Check : goal.returns-in_ok-check_outcome-in-Check
+returns-in_ok-check_outcome-in-Check g c =
+    rw c.in-Check.is
+    (goes_on _ (IsJobFor (on_script c.in-Check.script c.in-Check.recording)) (ComesTo (Check c.in-Check.script c.in-Check.recording)) _
+    c.in_ok-read_job-in-Check.field-0 c.in_ok-check_outcome-in-Check.field-0
+    (rw (c.as_str-in-Check.ensures, c.as_str-in-Check-2.ensures) at c.in_ok-read_job-in-Check.ensures.performs)
+    (λ contents is. (c.in_ok-read_job-in-Check.field-0, is, c.in_ok-check_outcome-in-Check.ensures)))
+
+pub returns-in_ok-code_outcome-in-Code : goal.returns-in_ok-code_outcome-in-Code
+returns-in_ok-code_outcome-in-Code g c =
+    rw c.in-Code.is
+    (goes_on _ (IsJobFor (on_script c.in-Code.script c.in-Code.recording)) (ComesTo (Code c.in-Code.script c.in-Code.recording)) _
+    c.in_ok-job-in-Code.job c.in_ok-code_outcome-in-Code.field-0
+    (rw (c.as_str-in-Code.ensures, c.as_str-in-Code-2.ensures) at c.in_ok-job-in-Code.ensures.performs)
+    (λ contents is. (c.in_ok-job-in-Code.job, is, c.in_ok-code_outcome-in-Code.ensures)))
+
+pub returns-in_ok-gen_outcome-in-Gen : goal.returns-in_ok-gen_outcome-in-Gen
+returns-in_ok-gen_outcome-in-Gen g c =
+    rw c.in-Gen.is (made (ComesTo (Gen c.in-Gen.x c.in-Gen.n)) _ refl c.in_ok-gen_outcome-in-Gen.field-0 c.in_ok-gen_outcome-in-Gen.ensures)

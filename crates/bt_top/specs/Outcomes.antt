@@ -1,0 +1,69 @@
+-- What each order comes to where nothing is refused: the work that was done, the programs that were run or listed, and the bytes that are
+-- written.
+use Rattle.std.specs.Prelude.{◌≡◌, ℕ, Bool, true, false, ◌++◌, List, [], codes, length, Option, Some, None}
+use Rattle.std.specs.Fmt.{decimal}
+use Rattle.bt_words.specs.declared.order.Order.{Order}
+use Rattle.bt_words.specs.declared.order.Order.TheVariants.{Run, Check, Code, Gen, Big}
+use Rattle.rec_format.specs.declared.recording.Recording.{Recording as Recorded}
+use Rattle.rec_format.specs.Recordings.{recording_bytes}
+use Rattle.rec_gen.specs.Made.{IsMade}
+use Rattle.run_base.specs.declared.job.Job.{Job}
+use Rattle.run_base.specs.declared.job.Work.{Work}
+use Rattle.bt_top.specs.declared.outcome.Outcome.{Outcome}
+use Rattle.bt_top.specs.Jobs.{IsBigJob, IsJobFor, IsWorkOf}
+use Rattle.bt_top.specs.Listings.{script_listing}
+use Rattle.bt_top.specs.Orders.{on_script}
+
+-- ---- outcomes
+
+-- the bytes of an outcome: the text of its work, and what stands behind it
+abbrev pub work_text : Option Work → List ℕ
+work_text None = []
+work_text (Some work) = work.text
+
+abbrev pub bytes_written : Outcome → List ℕ
+bytes_written outcome = work_text outcome.work ++ outcome.rest
+
+-- of a run: its work, and the programs of its job
+abbrev pub run_outcome : Job → Work → List ℕ → Outcome
+run_outcome job work rest = record { work = Some work; programs = job.programs; rest = rest }
+
+-- of a check that nothing is refused
+abbrev pub check_outcome : Outcome
+check_outcome = record { work = None; programs = []; rest = codes "ok\n" }
+
+-- of a listing of the programs of a job
+abbrev pub code_outcome : Job → Outcome
+code_outcome job = record { work = None; programs = job.programs; rest = script_listing job.recording.formats job.attached.bodies job.programs }
+
+-- of a recording that is made
+abbrev pub gen_outcome : Recorded → Outcome
+gen_outcome made = record { work = None; programs = []; rest = recording_bytes made }
+
+-- the line of instructions behind the text of a run, where it is asked for
+abbrev pub stats_line : Bool → ℕ → List ℕ
+stats_line false instructions = []
+stats_line true instructions = codes "instructions: " ++ decimal instructions ++ codes "\n"
+
+-- the line behind the text of a large run: how many events were asked for, and how many steps were made
+abbrev pub summary_line : ℕ → ℕ → List ℕ
+summary_line events steps = codes "summary: " ++ decimal events ++ codes " events, " ++ decimal steps ++ codes " steps\n"
+
+-- ---- what each order comes to
+
+-- a run of a job, behind whose text this stands
+pub record IsOutcomeOfRun (serial : Bool) (job : Job) (rest : Work → List ℕ) (outcome : Outcome) : Type 0 where
+  pub work : Work
+  pub done : IsWorkOf serial job work
+  pub is : outcome ≡ run_outcome job work (rest work)
+
+-- what an order comes to, over files with these contents: `run` to a run of their job, with the line of instructions behind its text where
+-- it is asked for; `check` to `ok`; `code` to the listing of their job; `gen` to the recording of its two numbers; and `big` to a run on
+-- threads of the built-in script over that recording, with the line of its events and steps behind its text
+abbrev pub ComesTo : Order → List (List ℕ) → Outcome → Type 0
+ComesTo (Run serial stats script recording) contents outcome =
+    (job : Job) × IsJobFor (on_script script recording) contents job × IsOutcomeOfRun serial job (λ work. stats_line stats work.instructions) outcome
+ComesTo (Check script recording) contents outcome = (job : Job) × IsJobFor (on_script script recording) contents job × (outcome ≡ check_outcome)
+ComesTo (Code script recording) contents outcome = (job : Job) × IsJobFor (on_script script recording) contents job × (outcome ≡ code_outcome job)
+ComesTo (Gen x n) contents outcome = (made : Recorded) × IsMade x n made × (outcome ≡ gen_outcome made)
+ComesTo (Big x n) contents outcome = (job : Job) × IsBigJob x n job × IsOutcomeOfRun false job (λ work. summary_line n (length work.steps)) outcome

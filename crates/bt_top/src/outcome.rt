@@ -1,0 +1,40 @@
+// What an order comes to, and how it is written.
+ghost use Rattle.std.specs.Prelude.{◌≡◌, OnOk, OnErr};
+ghost use Rattle.std.specs.Io.KnownBytes.{Appends};
+ghost use Rattle.bt_io.specs.Faults.{Rose};
+ghost use Rattle.bt_io.specs.Taken.{AppendsPart};
+ghost use Rattle.bt_top.specs.Outcomes.{bytes_written, work_text};
+
+use bpf_codegen::generate::Program;
+use bt_core::items::Items;
+use bt_io::sink::{Sink, SinkFailed, write_all};
+use run_base::job::Work;
+
+/// What an order comes to where nothing is refused: the work of a run, the programs that were run or listed, and the bytes that are written
+/// behind the text of the work.
+#[derive(Drop)]
+pub(crate) struct Outcome {
+    pub work: Option<Work>,
+    pub programs: Items<Program>,
+    pub rest: Items<u8>,
+}
+
+/// The text of the work, where there is work.
+fn work_text(work: &Option<Work>) -> &[u8]
+    ensures { result.now ≡ work_text work.now }
+{
+    match work {
+        None => &[],
+        Some(work) => work.text.as_slice(),
+    }
+}
+
+/// Writes the bytes of an outcome, or a prefix of them where the sink fails.
+pub(crate) fn write_outcome<K: Sink>(out: &mut K, outcome: &Outcome) -> Result<(), SinkFailed>
+    ensures whole { OnOk result (Appends (K.taken out.old) (K.taken out.new) (bytes_written outcome.now)) }
+    ensures part { OnErr result (AppendsPart (K.taken out.old) (K.taken out.new) (bytes_written outcome.now)) }
+    ensures failed { OnErr result (Rose (K.faults out.old) (K.faults out.new)) }
+{
+    write_all(out, work_text(&outcome.work))?;
+    write_all(out, outcome.rest.as_slice())
+}
