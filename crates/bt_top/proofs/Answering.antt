@@ -93,21 +93,6 @@ module _ (order : Order) (seen : ShelfUse) (out : SinkUse) (outcome : Outcome) (
     done = is_done (Some WriteFault) e.2;
   })
 
-  pub done_work : (refusal : Option Refusal) → Wrote out refusal (bytes_written outcome) → IsSome outcome.work ↔ HasWork refusal (Some order)
-  done_work refusal (inl e) = subst (λ (r : Option Refusal). IsSome outcome.work ↔ HasWork r (Some order)) (sym e.0) (runs order performs.reads.contents outcome performs.reads.value)
-  done_work refusal (inr e) = subst (λ (r : Option Refusal). IsSome outcome.work ↔ HasWork r (Some order)) (sym e.0) (runs order performs.reads.contents outcome performs.reads.value)
-
-  -- what came of the reads stands, also where the write fails
-  pub done_exact : (refusal : Option Refusal) → Wrote out refusal (bytes_written outcome) → OnTold seen.held (files_of order) (ComesIfDue (files_of order) refusal)
-  done_exact refusal (inl e) = subst (λ (r : Option Refusal). OnTold seen.held (files_of order) (ComesIfDue (files_of order) r)) (sym e.0) performs.exact
-  done_exact refusal (inr e) = subst (λ (r : Option Refusal). OnTold seen.held (files_of order) (ComesIfDue (files_of order) r)) (sym e.0)
-      (on_told-map seen.held (files_of order) (ComesIfDue (files_of order) None) (ComesIfDue (files_of order) (Some WriteFault))
-      (λ contents comes due is. inr (none_due due (comes due is))) performs.exact)
-    where
-      none_due : (due : Option Refusal) → (None ≡ due) ⊎ MayStandFor (files_of order) None due → due ≡ None
-      none_due due (inl e) = sym e
-      none_due due (inr stands) = absurd stands
-
 -- ---- what was refused
 
 abbrev pub refused_report : Refusal → Report
@@ -152,26 +137,6 @@ no_usage files contents (inr found) = none contents found.1
     none [] is = cc
     none (text ∷ []) is = cc
     none (text ∷ bytes ∷ more) is = is
-
-module _ (order : Order) (seen : ShelfUse) (out : SinkUse) (refusal : Refusal) (performs : ComesOfFiles (files_of order) (ComesTo order) seen (Err refusal)) where
-  pub refused_answer : Keeps out.taken out.taken_after → AnswersOrder order seen out (refused_report refusal)
-  refused_answer keeps = record {
-    contents = performs.reads.contents;
-    held = performs.reads.held;
-    came = may_later (files_of order) performs.reads.contents (ShelfFailed seen) (SinkFailed out) refusal performs.reads.came;
-    done = nothing_done order performs.reads.contents out refusal (ShelfFailed seen) performs.reads.came keeps;
-  }
-
-  pub refused_work : HasWork (Some refusal) (Some order) → ⊥
-  refused_work has = by refusal performs.reads.came has
-    where
-      by : (refusal : Refusal) → MayCome (files_of order) performs.reads.contents (ShelfFailed seen) ⊥ (Some refusal) → HasWork (Some refusal) (Some order) → ⊥
-      by WriteFault may has = may.0
-      by refusal may has = has
-
-  pub refused_known : Some refusal ≢ Some Usage
-  refused_known e = no_usage (files_of order) performs.reads.contents
-      (subst (λ (r : Option Refusal). MayCome (files_of order) performs.reads.contents (ShelfFailed seen) ⊥ r) e performs.reads.came)
 
 -- ---- the whole call
 
