@@ -14,7 +14,7 @@ use Rattle.bt_top.specs.declared.refusal.Operand.{Operand}
 use Rattle.bt_top.specs.declared.refusal.Operand.TheVariants as operand
 use Rattle.bt_top.specs.declared.refusal.Refusal.{Refusal}
 use Rattle.bt_top.specs.declared.refusal.Refusal.TheVariants.{Usage, Script, Recording, ReadFault, WriteFault, Memory}
-use Rattle.bt_top.specs.Doing.{ComesOfFiles}
+use Rattle.bt_top.specs.Doing.{ComesOfFiles, Wrote}
 use Rattle.bt_top.specs.Due.{IsDue, IsFinding, IsTooLong}
 use Rattle.bt_top.specs.Jobs.{IsJobFor}
 use Rattle.bt_top.specs.Lines.{SinkUse, SinkFailed}
@@ -26,14 +26,6 @@ use Rattle.bt_top.specs.Serve.{IsWritten, IsDone, IsDoneUnlessRefused, AnswersOr
 use Rattle.bt_top.proofs.Due.{job_accepted}
 use Rattle.bt_top.proofs.Performing.{on_told-map}
 use Rattle.bt_top.proofs.Reading.{held_or}
-
--- ---- how a write ends
-
--- the bytes were written, or a part of them where the count of faults rose
-abbrev pub Wrote : SinkUse → Option Refusal → List ℕ → Type 0
-Wrote out refusal bytes =
-    ((refusal ≡ None) × Appends out.taken out.taken_after bytes)
-    ⊎ ((refusal ≡ Some WriteFault) × SinkFailed out × AppendsPart out.taken out.taken_after bytes)
 
 -- ---- what was done
 
@@ -93,6 +85,17 @@ module _ (order : Order) (seen : ShelfUse) (out : SinkUse) (outcome : Outcome) (
     done = is_done (Some WriteFault) e.2;
   })
 
+  -- what came of the reads stands, also where the write fails
+  pub done_exact : (refusal : Option Refusal) → Wrote out refusal (bytes_written outcome) → OnTold seen.held (files_of order) (ComesIfDue (files_of order) refusal)
+  done_exact refusal (inl e) = subst (λ (r : Option Refusal). OnTold seen.held (files_of order) (ComesIfDue (files_of order) r)) (sym e.0) performs.exact
+  done_exact refusal (inr e) = subst (λ (r : Option Refusal). OnTold seen.held (files_of order) (ComesIfDue (files_of order) r)) (sym e.0)
+      (on_told-map seen.held (files_of order) (ComesIfDue (files_of order) None) (ComesIfDue (files_of order) (Some WriteFault))
+      (λ contents comes due is. inr (none_due due (comes due is))) performs.exact)
+    where
+      none_due : (due : Option Refusal) → (None ≡ due) ⊎ MayStandFor (files_of order) None due → due ≡ None
+      none_due due (inl e) = sym e
+      none_due due (inr stands) = absurd stands
+
 -- ---- what was refused
 
 abbrev pub refused_report : Refusal → Report
@@ -101,42 +104,6 @@ refused_report refusal = record { status = status_of (Some refusal); refusal = S
 pub kept : (told : Option (List ℕ)) → Keeps told told
 kept None = tt
 kept (Some bytes) = refl
-
--- before the write there is no fault of it
-may_later : (files : List NamedFile) (contents : List (List ℕ)) (read_failed write_failed : Type 0) (refusal : Refusal)
-    → MayCome files contents read_failed ⊥ (Some refusal) → MayCome files contents read_failed write_failed (Some refusal)
-may_later files contents read_failed write_failed Usage may = may
-may_later files contents read_failed write_failed (Script why) may = may
-may_later files contents read_failed write_failed (Recording why) may = may
-may_later files contents read_failed write_failed (ReadFault file) may = may
-may_later files contents read_failed write_failed WriteFault may = absurd may.0
-may_later files contents read_failed write_failed Memory may = tt
-
-nothing_done : (order : Order) (contents : List (List ℕ)) (out : SinkUse) (refusal : Refusal) (read_failed : Type 0)
-    → MayCome (files_of order) contents read_failed ⊥ (Some refusal) → Keeps out.taken out.taken_after
-    → IsDoneUnlessRefused (Some refusal) order contents out (refused_report refusal)
-nothing_done order contents out WriteFault read_failed may keeps = absurd may.0
-nothing_done order contents out refusal read_failed may keeps = record { work = refl; programs = refl; written = keeps }
-
--- what does not come of files is told of none
-no_usage : (files : List NamedFile) (contents : List (List ℕ)) → IsDue files contents (Some Usage) → ⊥
-no_usage files contents (inl long) = too files contents long
-  where
-    other : (file : Operand) → Some Usage ≡ Some (too_long file) → ⊥
-    other operand.Script e = cc
-    other operand.Recording e = cc
-
-    too : (files : List NamedFile) (contents : List (List ℕ)) → IsTooLong files contents (Some Usage) → ⊥
-    too [] contents long = long
-    too (file ∷ files) [] long = long
-    too (file ∷ files) (bytes ∷ contents) (inl e) = other file.operand e.1
-    too (file ∷ files) (bytes ∷ contents) (inr e) = too files contents e.1
-no_usage files contents (inr found) = none contents found.1
-  where
-    none : (contents : List (List ℕ)) → IsFinding contents (Some Usage) → ⊥
-    none [] is = cc
-    none (text ∷ []) is = cc
-    none (text ∷ bytes ∷ more) is = is
 
 -- ---- the whole call
 

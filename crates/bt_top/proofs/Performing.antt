@@ -33,6 +33,10 @@ pub nothing_asked : (files : List NamedFile) (names : List (List ℕ)) → AsksF
 nothing_asked [] names = refl
 nothing_asked (file ∷ files) names = inl refl
 
+pub nothing_asked_exactly : (files : List NamedFile) (seen : ShelfUse) → seen.asked_after ≡ seen.asked → AsksExactly files (Some Memory) seen
+nothing_asked_exactly [] seen same = same
+nothing_asked_exactly (file ∷ files) seen same = tt
+
 -- what holds of all contents holds of told ones, and what follows of each follows of them
 if_told : (o : Option (List ℕ)) (Q : List ℕ → Type 0) → ((bytes : List ℕ) → Q bytes) → IfSome o Q
 if_told None Q q = tt
