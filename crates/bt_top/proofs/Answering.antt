@@ -1,9 +1,8 @@
 -- What a call answers, from what its order comes to and from how that is written.
-use Rattle.std.proofs.Common.{◌≡◌, ◌≢◌, ℕ, ◌⊎◌, List, [], ◌∷◌, refl, sym, subst, inl, inr}
-use Rattle.std.specs.Prelude.{◌↔◌, Bool, false, Option, Some, None, Ok, Err, IfSome, IsSome, unwrap_or}
-use Rattle.std.specs.Io.KnownBytes.{Appends, Keeps}
+use Rattle.std.proofs.Common.{◌≡◌, ℕ, ◌⊎◌, List, [], ◌∷◌, refl, sym, subst, inl, inr}
+use Rattle.std.specs.Prelude.{◌↔◌, Bool, false, Option, Some, None, Ok, IfSome, IsSome, unwrap_or}
+use Rattle.std.specs.Io.KnownBytes.{Keeps}
 use Rattle.std.proofs.lemmas.Bool.{false≢true}
-use Rattle.bt_io.specs.Taken.{AppendsPart}
 use Rattle.bt_words.specs.declared.order.Order.{Order}
 use Rattle.bt_words.specs.declared.order.Order.TheVariants.{Run, Check, Code, Gen, Big}
 use Rattle.run_base.specs.declared.job.Job.{Job}
@@ -11,18 +10,17 @@ use Rattle.run_base.specs.declared.job.Work.{Work}
 use Rattle.bt_top.specs.declared.outcome.Outcome.{Outcome}
 use Rattle.bt_top.specs.declared.report.Report.{Report}
 use Rattle.bt_top.specs.declared.refusal.Operand.{Operand}
-use Rattle.bt_top.specs.declared.refusal.Operand.TheVariants as operand
 use Rattle.bt_top.specs.declared.refusal.Refusal.{Refusal}
-use Rattle.bt_top.specs.declared.refusal.Refusal.TheVariants.{Usage, Script, Recording, ReadFault, WriteFault, Memory}
+use Rattle.bt_top.specs.declared.refusal.Refusal.TheVariants.{ReadFault, WriteFault, Memory}
 use Rattle.bt_top.specs.Doing.{ComesOfFiles, Wrote}
-use Rattle.bt_top.specs.Due.{IsDue, IsFinding, IsTooLong}
+use Rattle.bt_top.specs.Due.{IsDue}
 use Rattle.bt_top.specs.Jobs.{IsJobFor}
 use Rattle.bt_top.specs.Lines.{SinkUse, SinkFailed}
 use Rattle.bt_top.specs.Orders.{NamedFile, files_of}
 use Rattle.bt_top.specs.Outcomes.{ComesTo, IsOutcomeOfRun, bytes_written, check_outcome, code_outcome, gen_outcome}
-use Rattle.bt_top.specs.Refusals.{status_of, too_long}
+use Rattle.bt_top.specs.Refusals.{status_of}
 use Rattle.bt_top.specs.Serve.{ShelfUse, ShelfFailed, AreContentsOf, MayCome, MayStandFor, ComesIfDue, OnTold, IsReached, ReadFailed, IsComplete}
-use Rattle.bt_top.specs.Serve.{IsWritten, IsDone, IsDoneUnlessRefused, AnswersOrder, AnswersWords, IsRunOrder, HasWork}
+use Rattle.bt_top.specs.Serve.{IsWritten, IsDone, AnswersOrder, AnswersWords, IsRunOrder}
 use Rattle.bt_top.proofs.Due.{job_accepted}
 use Rattle.bt_top.proofs.Performing.{on_told-map}
 use Rattle.bt_top.proofs.Reading.{held_or}

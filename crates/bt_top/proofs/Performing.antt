@@ -1,13 +1,12 @@
 -- What an order comes to, from what comes of its files.
-use Rattle.std.proofs.Common.{◌≡◌, ℕ, List, [], ◌∷◌, refl, sym, ap, subst, inl, inr}
-use Rattle.std.specs.Prelude.{Bool, Option, Some, None, Result, Ok, Err, IfOk, IfErr, IfSome}
+use Rattle.std.proofs.Common.{◌≡◌, ℕ, List, [], ◌∷◌, refl, sym, ap, inl, inr}
+use Rattle.std.specs.Prelude.{Bool, Option, Some, None, Ok, IfSome}
 use Rattle.bpf_codegen.specs.declared.generate.Program.{Program}
 use Rattle.rec_format.specs.declared.recording.Recording.{Recording as Recorded}
 use Rattle.rec_format.specs.Recordings.{recording_bytes}
 use Rattle.run_base.specs.declared.job.Job.{Job}
 use Rattle.run_base.specs.declared.job.Work.{Work}
 use Rattle.bt_top.specs.declared.outcome.Outcome.{Outcome}
-use Rattle.bt_top.specs.declared.refusal.Refusal.{Refusal}
 use Rattle.bt_top.specs.declared.refusal.Refusal.TheVariants.{Memory}
 use Rattle.bt_top.specs.Doing.{ComesOfFiles}
 use Rattle.bt_top.specs.Jobs.{IsWorkOf}
