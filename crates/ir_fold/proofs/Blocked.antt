@@ -202,11 +202,11 @@ blocks-run bs cs h scene s =
     ∙ from-runs (map block_ends bs) bs cs h (all-finish bs) ((s.turns + 1) * length bs) scene (length bs - 1) s
 
 -- an exit to such a block
-pub block-thread : (flags : List Bool) (b : Block) → BettersBlock flags b (record b { exit = threaded_exit flags b.exit })
-block-thread flags b = by b.exit
+pub block-thread : (flags : List Bool) (number : ℕ) (b : Block) → BettersBlock flags b (record b { exit = threaded_exit flags number b.exit })
+block-thread flags number b = by b.exit
   where
-    by : (x : Exit) → BettersBlock flags (record b { exit = x }) (record b { exit = threaded_exit flags x })
-    by (Goto to) = chosen to (flag_at flags to) refl
+    by : (x : Exit) → BettersBlock flags (record b { exit = x }) (record b { exit = threaded_exit flags number x })
+    by (Goto to) = behind (nat_eq (suc to) number)
       where
         chosen : (to : ℕ) (c : Bool) → flag_at flags to ≡ c → BettersBlock flags (record b { exit = Goto to })
             (record b { exit = cond c (End Finished) (Goto to) })
@@ -221,6 +221,10 @@ block-thread flags b = by b.exit
           reads = omega arith;
         }
         chosen to false e = block-self flags (record b { exit = Goto to })
+
+        behind : (c : Bool) → BettersBlock flags (record b { exit = Goto to }) (record b { exit = cond c (Goto to) (cond (flag_at flags to) (End Finished) (Goto to)) })
+        behind true = block-self flags (record b { exit = Goto to })
+        behind false = chosen to (flag_at flags to) refl
     by (Branch first second) = block-self flags (record b { exit = Branch first second })
     by (Count block leave) = block-self flags (record b { exit = Count block leave })
     by (Gate block cut) = block-self flags (record b { exit = Gate block cut })

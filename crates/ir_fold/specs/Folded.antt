@@ -87,10 +87,11 @@ flag_at flags n = is_flag (slice_get flags n)
 abbrev pub Finish : List Bool → (ℕ → State → Interaction Ending) → Type 0
 Finish flags go = (to : ℕ) (s : State) → flag_at flags to ≡ true → go to s ≡ Ended Finished
 
--- where a flagged block is next the run ends
-abbrev pub threaded_exit : List Bool → Exit → Exit
-threaded_exit flags (Goto to) = cond (flag_at flags to) (End Finished) (Goto to)
-threaded_exit flags exit = exit
+-- where a flagged block is next the run of the block that has a number ends, but where the flagged one has the number before: its code
+-- stands right behind, and no jump leads to it
+abbrev pub threaded_exit : List Bool → ℕ → Exit → Exit
+threaded_exit flags number (Goto to) = cond (nat_eq (suc to) number) (Goto to) (cond (flag_at flags to) (End Finished) (Goto to))
+threaded_exit flags number exit = exit
 
 -- a block that does the same as another, where flagged blocks do nothing but end a run
 pub record BettersBlock (flags : List Bool) (old new : Block) : Type 0 where

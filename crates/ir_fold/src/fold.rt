@@ -1,5 +1,5 @@
 // Folding of bodies.
-ghost use Rattle.std.specs.Prelude.{◌≡◌, IfOk, cond, map, List, Bool};
+ghost use Rattle.std.specs.Prelude.{◌≡◌, IfOk, cond, map, nat_eq, suc, List, Bool};
 ghost use Rattle.map_ops.specs.Values.{number_of, holds};
 ghost use Rattle.ir_fold.specs.Folded.{AllVary, BettersBlock, BlockVaries, AllBetter, BlocksVary, IsFoldOf, finishes, block_ends, flag_at, threaded_exit};
 
@@ -61,13 +61,20 @@ fn flag_at(flags: &[bool], to: usize) -> bool
     }
 }
 
-/// An exit that goes to the end of a run ends it.
-fn threaded_exit(flags: &[bool], exit: Exit) -> Exit
-    ensures { result ≡ threaded_exit flags.now exit }
+/// Whether a block has the number before: its code stands right behind that of the block that has the number.
+fn stands_behind(number: usize, block: usize) -> bool
+    ensures { result ≡ nat_eq (suc block) number }
+{
+    number > 0 && block == number - 1
+}
+
+/// An exit of the block that has a number: where it goes to the end of a run it ends it, but where that stands right behind.
+fn threaded_exit(flags: &[bool], number: usize, exit: Exit) -> Exit
+    ensures { result ≡ threaded_exit flags.now number exit }
 {
     match exit {
         Exit::Goto(to) => {
-            if flag_at(flags, to) {
+            if !stands_behind(number, to) && flag_at(flags, to) {
                 Exit::End(Ending::End)
             } else {
                 Exit::Goto(to)
@@ -109,8 +116,8 @@ fn settle(alloc: Global, block: Block) -> Block
     }
 }
 
-/// A block without operators and branches on literals, which does the same.
-fn fold_block(alloc: Global, flags: &[bool], block: Block) -> Result<Block, Memory>
+/// The block that has a number without operators and branches on literals, which does the same.
+fn fold_block(alloc: Global, flags: &[bool], number: usize, block: Block) -> Result<Block, Memory>
     ensures better { IfOk result (λ folded. BettersBlock flags.now block folded) }
     ensures varies { IfOk result (λ folded. BlockVaries folded) }
 {
@@ -124,7 +131,7 @@ fn fold_block(alloc: Global, flags: &[bool], block: Block) -> Result<Block, Memo
     let folded = Block {
         stack,
         instrs,
-        exit: threaded_exit(flags, exit),
+        exit: threaded_exit(flags, number, exit),
         depth,
     };
     Ok(settle(alloc, folded))
@@ -138,7 +145,8 @@ fn fold_blocks(alloc: Global, blocks: Items<Block>) -> Result<Items<Block>, Memo
     let flags = end_flags(alloc, blocks.as_slice())?;
     let mut folded = Items::new(alloc);
     for block in blocks.into_vec() {
-        folded.push(fold_block(alloc, flags.as_slice(), block)?)?;
+        let number = folded.len();
+        folded.push(fold_block(alloc, flags.as_slice(), number, block)?)?;
     }
     Ok(folded)
 }

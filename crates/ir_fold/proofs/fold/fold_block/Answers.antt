@@ -10,5 +10,5 @@ returns-clause-better c =
     let b = c.args.block in
     let d = with_instrs b c.in_ok-instrs.instrs in
     block-then flags b d c.settle.result (block-instrs flags b c.in_ok-instrs.instrs c.in_ok-instrs.ensures.better)
-    (block-then flags d (record d { exit = threaded_exit flags b.exit }) c.settle.result (block-thread flags d)
+    (block-then flags d (record d { exit = threaded_exit flags c.args.number b.exit }) c.settle.result (block-thread flags c.args.number d)
     (subst (λ (x : Exit). BettersBlock flags (record d { exit = x }) c.settle.result) c.threaded_exit.ensures (c.settle.ensures.better flags)))
