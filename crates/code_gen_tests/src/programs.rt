@@ -73,25 +73,25 @@ fn a_body_that_stops_calls_the_helper_and_ends(rt: HostRuntime) -> Result<(), Fa
 const FEW: [(&[u8], usize); 6] = [
     (
         b"tracepoint:raw_syscalls:sys_enter { @[comm] = count(); }",
-        26,
+        25,
     ),
-    (b"tracepoint:raw_syscalls:sys_enter { @ = count(); }", 8),
+    (b"tracepoint:raw_syscalls:sys_enter { @ = count(); }", 7),
     (
         b"tracepoint:raw_syscalls:sys_enter { @ = hist(args.id); }",
-        10,
+        9,
     ),
     (
         b"tracepoint:raw_syscalls:sys_enter { @start[tid] = nsecs; }",
-        17,
+        16,
     ),
     (
         b"tracepoint:raw_syscalls:sys_enter { $i = 0; while ($i < 1000) { $i = $i + 1; } @x = $i; }",
-        31,
+        26,
     ),
     (
         b"tracepoint:raw_syscalls:sys_enter { @calls[comm] = count(); @ids = hist(args.id); \
 @sum = sum(args.id); }",
-        42,
+        41,
     ),
 ];
 
