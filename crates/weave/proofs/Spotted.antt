@@ -1,5 +1,5 @@
 -- The spots of lists in order lead to the steps of the lists in order.
-use Rattle.std.proofs.Common.{◌≡◌, ℕ, zero, suc, ◌+◌, Bool, List, [], ◌∷◌, ◌++◌, map, length, drop, Option, None, Some, get_or, append_assoc, append-nil, sym, refl, ap, ◌∙◌, subst, arith, ◌<◌, ◌≤◌}
+use Rattle.std.proofs.Common.{◌≡◌, ℕ, zero, suc, ◌+◌, Bool, List, [], ◌∷◌, ◌++◌, map, length, drop, Option, None, Some, get_or, append_assoc, append-nil, sym, refl, ap, ◌∙◌, subst, arith, ◌<◌, ◌≤◌, ⊎_elim}
 use Rattle.std.specs.Cmp.{IsTotalOrder, IsStrictWeakOrder, nat_cmp_total}
 use Rattle.std.specs.List.{slice_get, filter_map, cons_option}
 use Rattle.std.specs.List.Sorted.{IsSortedBy, IsStableBy}
@@ -9,7 +9,7 @@ use Rattle.std.specs.declared.cmp.Ordering.{Ordering}
 use Rattle.std.proofs.lemmas.Cmp.{on_total, then_total}
 use Rattle.std.proofs.lemmas.List.{map-append, length-map, drop-drop, drop_all, drop_more}
 use Rattle.std.proofs.lemmas.List.MinMax.{ranks_by}
-use Rattle.std.proofs.lemmas.Option.{slice_get-map, slice_get_within, get_or_from_slice_get}
+use Rattle.std.proofs.lemmas.Option.{slice_get-map, slice_get_within, slice_get_cases, get_or_from_slice_get}
 use Rattle.std.proofs.lemmas.Simd.{map-map}
 use Rattle.bt_core.specs.declared.step.ObjectId.{ObjectId}
 use Rattle.bt_core.specs.declared.step.Step.{Step}
@@ -20,7 +20,7 @@ use Rattle.step_list.specs.declared.list.StepList.{StepList}
 use Rattle.step_list.specs.Lists.{steps_in}
 use Rattle.weave.specs.declared.spots.Keyed.{Keyed}
 use Rattle.weave.specs.declared.spots.Spot.{Spot}
-use Rattle.weave.specs.Keyed.{keyed_step, keyed_from, keyed_lists, keyed_before}
+use Rattle.weave.specs.Keyed.{keyed_step, keyed_at, keyed_from, keyed_lists, keyed_before}
 use Rattle.weave.specs.Listed.{listed}
 use Rattle.weave.specs.Order.{comes_before}
 use Rattle.weave.specs.Ranked.{ranked}
@@ -79,7 +79,6 @@ module _ (all : List StepList) where
   each_found = map-map (step_at all) (λ (k : Keyed). k.spot) (ranked keyed_before (keyed_lists 0 all))
       ∙ (sym (map-map (λ (p : Found). p.0) of_key (ranked keyed_before (keyed_lists 0 all)))
       ∙ (ap (map (λ (p : Found). p.0)) found_in_order ∙ map-map (λ (p : Found). p.0) of_step (ranked comes_before (listed all))))
-
 
 module _ {A B : Type 0} (h : A → Option B) where
   picks : (xs : List A) → filter_map h xs ≡ filter_map (λ (o : Option B). o) (map h xs)
@@ -156,15 +155,23 @@ sorted_keys xs ys h s = let same : key_before ≡ keyed_before = (λ i k l. key_
     (subst (λ (l : Keyed → Keyed → Bool). IsStableBy l xs ys) same s)
 
 -- one step, or one list, more
-pub one_step_more : (n i : ℕ) (steps : List Step) (s : Step) (found news whole : List Keyed) → slice_get steps i ≡ Some s
+this_step_more : (n i : ℕ) (steps : List Step) (s : Step) (found news whole : List Keyed) → slice_get steps i ≡ Some s
     → found ++ keyed_from n i (drop i steps) ≡ whole → news ≡ found ++ keyed_step n i s ∷ [] → news ++ keyed_from n (i + 1) (drop (i + 1) steps) ≡ whole
-one_step_more n i steps s found news whole e h f =
+this_step_more n i steps s found news whole e h f =
     let rest = keyed_from n (i + 1) (drop (i + 1) steps) in
     let cut : drop i steps ≡ s ∷ drop (i + 1) steps = drop_more steps i s (slice_get_within steps i s e)
     ∙ ap (λ (x : Step). x ∷ drop (i + 1) steps) (get_or_from_slice_get steps i s s e) in
     let here : keyed_from n i (drop i steps) ≡ keyed_step n i s ∷ rest = ap (keyed_from n i) cut
     ∙ ap (λ (j : ℕ). keyed_step n i s ∷ keyed_from n j (drop (i + 1) steps)) (let z : suc i ≡ i + 1 = omega arith in z) in
     ap (λ (l : List Keyed). l ++ rest) f ∙ (append_assoc found (keyed_step n i s ∷ []) rest ∙ (ap (λ (l : List Keyed). found ++ l) (sym here) ∙ h))
+
+pub one_step_more : (n i : ℕ) (steps : List Step) (found news whole : List Keyed) → i < length steps → found ++ keyed_from n i (drop i steps) ≡ whole
+    → news ≡ found ++ keyed_at n i (slice_get steps i) → news ++ keyed_from n (i + 1) (drop (i + 1) steps) ≡ whole
+one_step_more n i steps found news whole lt h f = ⊎_elim
+    (λ (w : (x : Step) × (i < length steps) × (slice_get steps i ≡ Some x) × (get_or steps i x ≡ x)).
+    this_step_more n i steps w.0 found news whole w.2 h (f ∙ ap (λ (o : Option Step). found ++ keyed_at n i o) w.2))
+    (λ (w : (length steps ≤ i) × (slice_get steps i ≡ None)). absurd (let le = w.0 in omega arith))
+    (slice_get_cases steps i).1
 
 pub all_steps_keyed : (n i : ℕ) (steps : List Step) (found whole : List Keyed) → length steps ≤ i → found ++ keyed_from n i (drop i steps) ≡ whole → found ≡ whole
 all_steps_keyed n i steps found whole le h =

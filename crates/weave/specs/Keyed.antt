@@ -1,5 +1,5 @@
 -- Spots with what their steps are put in order by. No public contract speaks of it.
-use Rattle.std.specs.Prelude.{ℕ, suc, Bool, List, [], ◌∷◌, ◌++◌}
+use Rattle.std.specs.Prelude.{ℕ, suc, Bool, Option, None, Some, List, [], ◌∷◌, ◌++◌}
 use Rattle.std.specs.Ordering.{is_lt, nat_cmp, ordering_then}
 use Rattle.bt_core.specs.declared.step.Step.{Step}
 use Rattle.bt_core.specs.Order.{object_order}
@@ -9,6 +9,11 @@ use Rattle.weave.specs.declared.spots.Keyed.{Keyed}
 
 abbrev pub keyed_step : ℕ → ℕ → Step → Keyed
 keyed_step list place s = record { stamp = s.stamp; object = s.object; spot = record { list = list; place = place } }
+
+-- the spot of the step at a place, if there is one
+abbrev pub keyed_at : ℕ → ℕ → Option Step → List Keyed
+keyed_at list place None = []
+keyed_at list place (Some s) = keyed_step list place s ∷ []
 
 -- the spots of steps of a list from a place on
 abbrev pub keyed_from : ℕ → ℕ → List Step → List Keyed

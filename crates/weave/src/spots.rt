@@ -1,7 +1,7 @@
 // Where the steps of lists lie, in their order.
-ghost use Rattle.std.specs.Prelude.{◌≡◌, ◌++◌, map, length, IfOk, OnOk};
+ghost use Rattle.std.specs.Prelude.{◌≡◌, ◌++◌, map, slice_get, IfOk, OnOk};
 ghost use Rattle.step_list.specs.Lists.{steps_in};
-ghost use Rattle.weave.specs.Keyed.{keyed_from, keyed_before, keyed_lists};
+ghost use Rattle.weave.specs.Keyed.{keyed_at, keyed_from, keyed_before, keyed_lists};
 ghost use Rattle.weave.specs.Ranked.{ranked};
 
 use bt_core::memory::Memory;
@@ -32,7 +32,7 @@ pub(crate) fn spots_in_order(alloc: Global, lists: &[StepList]) -> Result<Vec<Sp
 {
     let mut found = gathered(alloc, lists)?;
     put_in_order(&mut found)?;
-    spots_of(alloc, found)
+    spots_of(alloc, found.as_slice())
 }
 
 /// A number in 32 bits. [`Memory`] where it does not fit.
@@ -68,7 +68,24 @@ fn add_list(
 {
     let count = small(list.len())?;
     for place in 0..count {
-        if let Some(step) = list.get(alloc, place as usize)? {
+        add_step(alloc, number, list, place, found)?;
+    }
+    Ok(())
+}
+
+/// Puts the spot of the step at a place of such a list behind those that there are.
+fn add_step(
+    alloc: Global,
+    number: u32,
+    list: &StepList,
+    place: u32,
+    found: &mut Vec<Keyed>,
+) -> Result<(), Memory>
+    ensures { OnOk result (found.new.items ≡ found.old.items ++ keyed_at number place (slice_get (steps_in list.now) place)) }
+{
+    match list.get(alloc, place as usize)? {
+        None => Ok(()),
+        Some(step) => {
             found.push(Keyed {
                 stamp: step.stamp,
                 object: step.object,
@@ -77,9 +94,9 @@ fn add_list(
                     place,
                 },
             })?;
+            Ok(())
         }
     }
-    Ok(())
 }
 
 /// Puts in order by stamp, and those with one stamp by object.
@@ -91,8 +108,8 @@ fn put_in_order(found: &mut Vec<Keyed>) -> Result<(), Memory>
 }
 
 /// The spots alone.
-fn spots_of(alloc: Global, found: Vec<Keyed>) -> Result<Vec<Spot>, Memory>
-    ensures { IfOk result (λ spots. spots.items ≡ map (λ keyed. keyed.spot) found.items) }
+fn spots_of(alloc: Global, found: &[Keyed]) -> Result<Vec<Spot>, Memory>
+    ensures { IfOk result (λ spots. spots.items ≡ map (λ keyed. keyed.spot) found.now) }
 {
     let mut spots = Vec::with_capacity(alloc, found.len())?;
     for keyed in found {
