@@ -6,12 +6,11 @@ ghost use Rattle.side_locks.specs.Sides.{kind_of};
 
 use bt_ast::attached::Attached;
 use percpu_tables::tables::Tables;
-use percpu_tables::turns::Turns as TableTurns;
 use rec_format::recording::Recording;
 use shared_maps::maps::SharedMaps;
-use shared_maps::turns::Turns as MapTurns;
 use side_locks::sides::SideLocks;
-use side_locks::turns::Turns as SideTurns;
+use side_locks::turns::SideTurns;
+use stamped::turns::Turns;
 use std::alloc::Global;
 use typed_tree::script::Typed;
 
@@ -37,8 +36,8 @@ pub struct World<'w> {
 /// The turns of one actor at the three sets of locks.
 #[derive(Drop)]
 pub struct WorkerTurns {
-    pub maps: MapTurns,
-    pub tables: TableTurns,
+    pub maps: Turns,
+    pub tables: Turns,
     pub sides: SideTurns,
 }
 
@@ -50,8 +49,8 @@ impl WorkerTurns {
         ensures { AreBy actor result }
     {
         WorkerTurns {
-            maps: MapTurns::none(alloc, actor),
-            tables: TableTurns::none(alloc, actor),
+            maps: Turns::none(alloc, actor),
+            tables: Turns::none(alloc, actor),
             sides: SideTurns::none(alloc, actor),
         }
     }

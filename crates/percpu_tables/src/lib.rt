@@ -1,6 +1,5 @@
-//! The tables of all actors, each behind a lock of its own, and the turns of each actor at them.
+//! The tables of all actors, each behind a lock of its own.
 #![tactic(auto)]
 
 mod objects;
 pub mod tables;
-pub mod turns;

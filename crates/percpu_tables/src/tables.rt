@@ -19,13 +19,13 @@ ghost use Rattle.step_objects.specs.Objects.{cpu_kind, CpuStands};
 ghost use Rattle.percpu_tables.specs.Objects.{IsTableStep};
 
 use crate::objects::new_tables;
-use crate::turns::{Turns, unwrapped, wrapped};
 use bt_core::items::Items;
 use bt_core::map::MapDecl;
 use bt_core::memory::{Memory, TryCopy};
 use bt_core::step::{ObjectId, Op};
 use stamped::lock_set::LockSet;
 use stamped::trace::Trace;
+use stamped::turns::Turns;
 use std::alloc::Global;
 use std::sync::Wait;
 use step_objects::cpu::CpuTable;
@@ -59,7 +59,8 @@ impl Tables {
     ghost use Rattle.percpu_tables.specs.Tables.{maps_of, actors_of, ids_of, kinds_of, IsOf, AreAll};
 
     /// Tables for these maps that took no operation yet, for so many actors, and the turns of each actor at
-    /// them. There is at least one actor, and the declarations are well formed. No turn has an entry.
+    /// them, in the order of the actors whose tables they are. There is at least one actor, and the
+    /// declarations are well formed. No turn has an entry.
     ///
     /// After [`Memory`] nothing is left.
     pub fn new(
@@ -75,8 +76,7 @@ impl Tables {
         ensures fresh { IfOk result (λ r. AreNew r.1.items) }
     {
         let objects = new_tables(alloc, maps, actors)?;
-        let (set, rows) = LockSet::new(alloc, objects, actors)?;
-        let turns = wrapped(alloc, rows)?;
+        let (set, turns) = LockSet::new(alloc, objects, actors)?;
         let tables = Tables {
             set,
             maps: maps.try_copy(alloc)?,
@@ -124,8 +124,7 @@ impl Tables {
         ensures room { HasRoom trace.old → OnErr result (HasRoom trace.new) }
     {
         let place = place_of(object);
-        self.set
-            .step(rt, alloc, &mut turns.at_tables, trace, place, op, gate)
+        self.set.step(rt, alloc, turns, trace, place, op, gate)
     }
 
     /// Takes all turns back, and gives the tables of each actor with the history of their lock, in the order
@@ -139,7 +138,6 @@ impl Tables {
             AreClosed cpu_kind (λ maps. IsTableOp maps) table_answer CpuStands (actors_of self) (kinds_of self) turns.items closed.items) }
     {
         let Tables { set, maps: _ } = self;
-        let rows = unwrapped(alloc, turns)?;
-        set.close(alloc, rows)
+        set.close(alloc, turns)
     }
 }

@@ -10,7 +10,7 @@ use bt_core::item::Item;
 use bt_core::memory::Memory;
 use bt_core::step::{ObjectId, Op, Reply};
 use side_locks::sides::SideLocks;
-use side_locks::turns::Turns;
+use side_locks::turns::SideTurns;
 use stamped::trace::Trace;
 use std::alloc::Global;
 use std::sync::{Mutex, Wait};
@@ -27,7 +27,7 @@ fn ask<R: Wait>(
     rt: &R,
     alloc: Global,
     sides: &SideLocks,
-    turns: &mut Turns,
+    turns: &mut SideTurns,
     trace: &mut Trace,
     object: ObjectId,
     op: Op,
@@ -48,7 +48,7 @@ fn cross_all<R: Wait>(
     rt: &R,
     alloc: Global,
     sides: &SideLocks,
-    turns: &mut Turns,
+    turns: &mut SideTurns,
     ticks: u32,
     notes: &Mutex<Vec<Crossing>>,
 ) -> Result<(), Memory>
@@ -72,7 +72,7 @@ fn all_cross<R: Threads + Wait + Sync>(
     rt: &R,
     alloc: Global,
     sides: &SideLocks,
-    all: &mut [Turns],
+    all: &mut [SideTurns],
     ticks: u32,
     notes: &Mutex<Vec<Crossing>>,
 )
@@ -98,7 +98,7 @@ fn everyone_crosses<R: Threads + Wait + Sync>(
     rt: &R,
     alloc: Global,
     sides: &SideLocks,
-    all: &mut [Turns],
+    all: &mut [SideTurns],
     ticks: u32,
     notes: &Mutex<Vec<Crossing>>,
 )

@@ -16,13 +16,13 @@ ghost use Rattle.shared_maps.specs.Parts.{Part, IsPart, IsPartFor, IsPartStep, p
 ghost use Rattle.shared_maps.specs.Refusals.{RefusesAt};
 
 use crate::objects::new_parts;
-use crate::turns::{Turns, unwrapped, wrapped};
 use bt_core::items::Items;
 use bt_core::map::MapDecl;
 use bt_core::memory::{Memory, TryCopy};
 use bt_core::step::{ObjectId, Op};
 use stamped::lock_set::LockSet;
 use stamped::trace::Trace;
+use stamped::turns::Turns;
 use std::alloc::Global;
 use std::sync::Wait;
 use step_objects::shared::SharedPart;
@@ -46,8 +46,8 @@ pub struct SharedMaps {
 impl SharedMaps {
     ghost use Rattle.shared_maps.specs.Maps.{maps_of, actors_of, ids_of, kinds_of, IsOf, AreAll};
 
-    /// Parts of these maps that took no operation yet, and the turns of so many actors at them. There is at
-    /// least one actor. No turn has an entry.
+    /// Parts of these maps that took no operation yet, and the turns of so many actors at them, one at each
+    /// part, in the order of the maps and their parts. There is at least one actor. No turn has an entry.
     ///
     /// After [`Memory`] nothing is left. It is answered, too, where a part would have no number of 32 bits.
     pub fn new(
@@ -62,8 +62,7 @@ impl SharedMaps {
         ensures fresh { IfOk result (λ r. AreNew r.1.items) }
     {
         let (objects, firsts) = new_parts(alloc, maps.as_slice())?;
-        let (set, rows) = LockSet::new(alloc, objects, actors)?;
-        let turns = wrapped(alloc, rows)?;
+        let (set, turns) = LockSet::new(alloc, objects, actors)?;
         let shared = SharedMaps {
             set,
             maps: maps.try_copy(alloc)?,
@@ -122,8 +121,7 @@ impl SharedMaps {
         ensures room { HasRoom trace.old → OnErr result (HasRoom trace.new) }
     {
         let place = self.place_of(object);
-        self.set
-            .step(rt, alloc, &mut turns.at_parts, trace, place, op, gate)
+        self.set.step(rt, alloc, turns, trace, place, op, gate)
     }
 
     /// Takes all turns back, and gives each part with the history of its lock, map by map and part by part.
@@ -144,7 +142,6 @@ impl SharedMaps {
             maps: _,
             firsts: _,
         } = self;
-        let rows = unwrapped(alloc, turns)?;
-        set.close(alloc, rows)
+        set.close(alloc, turns)
     }
 }

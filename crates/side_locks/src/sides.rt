@@ -14,12 +14,12 @@ ghost use Rattle.step_objects.specs.Clocks.{clock_kind, ClockStands};
 ghost use Rattle.side_locks.specs.Turns.{clocks, outs};
 ghost use Rattle.side_locks.specs.Steps.{IsSideStep, AreBy, OwnBoth, SameOwn, RefusesAt, own_of_clock, reply_of_clock, own_of_out, reply_of_out};
 
-use crate::turns::{Turns, unwrapped, wrapped};
+use crate::turns::{SideTurns, joined, parted};
 use bt_core::memory::Memory;
 use bt_core::step::{ObjectId, Op};
 use stamped::lock_set::LockSet;
 use stamped::trace::Trace;
-use stamped::turns::Turns as SetTurns;
+use stamped::turns::Turns;
 use std::alloc::Global;
 use std::sync::Wait;
 use step_objects::clock::TickClock;
@@ -52,7 +52,7 @@ fn one_lock<O: SeqObject>(
     id: ObjectId,
     object: O,
     actors: u32,
-) -> Result<(LockSet<O>, Vec<SetTurns>), Memory>
+) -> Result<(LockSet<O>, Vec<Turns>), Memory>
     requires actors { 0 < actors }
     requires object { O.stands_for object [] }
     ensures id { IfOk result (λ r. sets.ids_of r.0 ≡ id ∷ []) }
@@ -73,7 +73,7 @@ impl SideLocks {
     /// CPU and of the main actor at both. There is at least one CPU. No turn has an entry.
     ///
     /// After [`Memory`] nothing is left.
-    pub fn new(alloc: Global, cpus: u32, ticks: u32) -> Result<(SideLocks, Vec<Turns>), Memory>
+    pub fn new(alloc: Global, cpus: u32, ticks: u32) -> Result<(SideLocks, Vec<SideTurns>), Memory>
         requires some { 0 < cpus }
         requires few { cpus < 2 ^ 32 - 1 }
         ensures kind { IfOk result (λ r. kind_of r.0 ≡ record { cpus = cpus; ticks = ticks }) }
@@ -84,7 +84,7 @@ impl SideLocks {
         let object = TickClock::new(alloc, cpus, ticks)?;
         let (clock, clock_rows) = one_lock(alloc, ObjectId::Clock, object, actors)?;
         let (out, out_rows) = one_lock(alloc, ObjectId::Out, OutLog::new(alloc)?, actors)?;
-        let turns = wrapped(alloc, clock_rows, out_rows)?;
+        let turns = joined(alloc, clock_rows, out_rows)?;
         let sides = SideLocks {
             clock,
             out,
@@ -107,7 +107,7 @@ impl SideLocks {
         &self,
         rt: &R,
         alloc: Global,
-        turns: &mut Turns,
+        turns: &mut SideTurns,
         trace: &mut Trace,
         object: ObjectId,
         op: Op,
@@ -148,7 +148,7 @@ impl SideLocks {
     pub fn close(
         self,
         alloc: Global,
-        turns: Vec<Turns>,
+        turns: Vec<SideTurns>,
     ) -> Result<((TickClock, Joined), (OutLog, Joined)), Memory>
         requires { AreAll self turns.items }
         ensures clock { IfOk result (λ r. IsClosed clock_kind own_of_clock reply_of_clock ClockStands (actors_of self) (kind_of self)
@@ -162,7 +162,7 @@ impl SideLocks {
             cpus: _,
             ticks: _,
         } = self;
-        let (clock_rows, out_rows) = unwrapped(alloc, turns)?;
+        let (clock_rows, out_rows) = parted(alloc, turns)?;
         let mut clocks = clock.close(alloc, clock_rows)?;
         let mut outs = out.close(alloc, out_rows)?;
         Ok((clocks.remove(0), outs.remove(0)))

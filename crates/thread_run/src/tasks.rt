@@ -27,8 +27,8 @@ pub(crate) struct Gathered {
 /// Workers of the CPUs with these bodies and turns, in their order. Their traces are empty and have this clock.
 pub(crate) fn new_tasks<'g, B: Bodies + Drop, G: Gate>(
     alloc: Global,
-    mut bodies: Vec<B>,
-    mut turns: Vec<WorkerTurns>,
+    bodies: Vec<B>,
+    turns: Vec<WorkerTurns>,
     clock: u64,
     gate: &'g G,
 ) -> Result<Vec<Task<'g, B, G>>, Memory>
@@ -39,9 +39,7 @@ pub(crate) fn new_tasks<'g, B: Bodies + Drop, G: Gate>(
     ensures fresh { IfOk result (λ tasks. Each (IsFresh clock) tasks.items) }
 {
     let mut tasks = Vec::with_capacity(alloc, bodies.len())?;
-    'each_cpu: while !bodies.is_empty() {
-        let own = bodies.remove(0);
-        let own_turns = turns.remove(0);
+    for (own, own_turns) in bodies.into_iter().zip(turns) {
         let cpu = own_turns.tables.actor();
         let mut trace = Trace::new(alloc, cpu);
         trace.raise(clock);

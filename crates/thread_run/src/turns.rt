@@ -4,17 +4,16 @@ ghost use Rattle.thread_run.specs.Turns.{at_maps, at_tables, at_sides};
 
 use bt_core::memory::Memory;
 use cpu_worker::world::WorkerTurns;
-use percpu_tables::turns::Turns as TableTurns;
-use shared_maps::turns::Turns as MapTurns;
-use side_locks::turns::Turns as SideTurns;
+use side_locks::turns::SideTurns;
+use stamped::turns::Turns;
 use std::alloc::Global;
 
 /// The turns of each actor at all sets, where these are its turns at each of them.
 pub(crate) fn joined(
     alloc: Global,
-    mut maps: Vec<MapTurns>,
-    mut tables: Vec<TableTurns>,
-    mut sides: Vec<SideTurns>,
+    maps: Vec<Turns>,
+    tables: Vec<Turns>,
+    sides: Vec<SideTurns>,
 ) -> Result<Vec<WorkerTurns>, Memory>
     requires tables { length tables.items ≡ length maps.items }
     requires sides { length sides.items ≡ length maps.items }
@@ -23,11 +22,11 @@ pub(crate) fn joined(
     ensures sides { IfOk result (λ all. map at_sides all.items ≡ sides.items) }
 {
     let mut all = Vec::with_capacity(alloc, maps.len())?;
-    'each_actor: while !maps.is_empty() {
+    for ((maps, tables), sides) in maps.into_iter().zip(tables).zip(sides) {
         all.push(WorkerTurns {
-            maps: maps.remove(0),
-            tables: tables.remove(0),
-            sides: sides.remove(0),
+            maps,
+            tables,
+            sides,
         })?;
     }
     Ok(all)
@@ -37,7 +36,7 @@ pub(crate) fn joined(
 pub(crate) fn parted(
     alloc: Global,
     all: Vec<WorkerTurns>,
-) -> Result<(Vec<MapTurns>, Vec<TableTurns>, Vec<SideTurns>), Memory>
+) -> Result<(Vec<Turns>, Vec<Turns>, Vec<SideTurns>), Memory>
     ensures maps { IfOk result (λ r. r.0.items ≡ map at_maps all.items) }
     ensures tables { IfOk result (λ r. r.1.items ≡ map at_tables all.items) }
     ensures sides { IfOk result (λ r. r.2.items ≡ map at_sides all.items) }

@@ -21,3 +21,4 @@ mod StepOrder
 mod Picking
 mod Stable
 mod Sending
+mod Spotted

@@ -4,4 +4,6 @@
 #[cfg(test)]
 mod ends;
 #[cfg(test)]
+mod kinds;
+#[cfg(test)]
 mod woven;

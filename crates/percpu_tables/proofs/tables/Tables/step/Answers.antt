@@ -3,7 +3,6 @@ use Rattle.std.specs.Prelude.{slice_get, IsSomeAnd}
 use Rattle.bt_core.specs.declared.map.MapDecl.{MapDecl}
 use Rattle.bt_core.specs.Ports.{IsTableOp}
 use Rattle.agg_core.specs.Answers.{table_answer}
-use Rattle.stamped.specs.Rows.{Row}
 use Rattle.stamped.specs.Sets as sets
 use Rattle.stamped.specs.SetSteps.{AreDistinct, Grows, IsReplied, IsRefused, AtPlace}
 use Rattle.stamped.specs.SetEnds.{law_for}
@@ -60,7 +59,6 @@ returns-clause-cause g c room =
     on_err c.step.result _ _ (λ r. (
       place,
       subst (λ ids. slice_get ids place ≡ Some object) c.args.self.now.ids there,
-      subst (λ (row : Row). AtPlace (refused maps) place row.1 c.step.new.turns.1) c.turns.view_is
-          (subst (λ z. IfSome z (λ ms. AtPlace (refused ms) place c.turns.inside.at_tables.1 c.step.new.turns.1)) kind r),
+      subst (λ z. IfSome z (λ ms. AtPlace (refused ms) place c.args.turns.now.1 c.step.new.turns.1)) kind r,
     ))
     (c.step.ensures.cause room)

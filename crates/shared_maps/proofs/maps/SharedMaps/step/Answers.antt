@@ -3,7 +3,6 @@ use Rattle.std.specs.Prelude.{slice_get, IsSomeAnd}
 use Rattle.bt_core.specs.declared.step.ObjectId.{ObjectId}
 use Rattle.bt_core.specs.Ports.{IsSharedOp}
 use Rattle.agg_core.specs.Answers.{shared_answer}
-use Rattle.stamped.specs.Rows.{Row}
 use Rattle.stamped.specs.Sets as sets
 use Rattle.stamped.specs.SetSteps.{AreDistinct, Grows, IsReplied, IsRefused, AtPlace}
 use Rattle.stamped.specs.Traces.{clock_of}
@@ -66,7 +65,6 @@ returns-clause-cause g c room =
       place = place;
       kind = part.1;
       there = found.1 ∙ ap (λ (o : ObjectId). Some (o, part.1)) (the_object maps object part found.2);
-      refused = subst (λ (row : Row). AtPlace (refused part.1) place row.1 c.step.new.turns.1) c.turns.view_is
-          (subst (λ z. IfSome z (λ (of : PartKind). AtPlace (refused of) place c.turns.inside.at_parts.1 c.step.new.turns.1)) kind r);
+      refused = subst (λ z. IfSome z (λ (of : PartKind). AtPlace (refused of) place c.args.turns.now.1 c.step.new.turns.1)) kind r;
     })
     (c.step.ensures.cause room)

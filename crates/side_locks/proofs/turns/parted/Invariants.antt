@@ -1,6 +1,6 @@
 use Rattle.std.proofs.Common.{◌≡◌}
 use Rattle.side_locks.specs.Turns.{clocks, outs}
-use Rattle.side_locks.proofs.turns.unwrapped.Given as goal
+use Rattle.side_locks.proofs.turns.parted.Given as goal
 
 abbrev pub invariant-loop-turns : goal.invariant-loop-turns
 invariant-loop-turns l = record {
