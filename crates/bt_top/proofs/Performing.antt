@@ -1,13 +1,12 @@
 -- What an order comes to, from what comes of its files.
-use Rattle.std.proofs.Common.{◌≡◌, ℕ, List, [], ◌∷◌, refl, sym, ap, subst, inl, inr}
-use Rattle.std.specs.Prelude.{Bool, Option, Some, None, Result, Ok, Err, IfOk, IfErr, IfSome}
+use Rattle.std.proofs.Common.{◌≡◌, ℕ, List, [], ◌∷◌, refl, sym, ap, inl, inr}
+use Rattle.std.specs.Prelude.{Bool, Option, Some, None, Ok, IfSome}
 use Rattle.bpf_codegen.specs.declared.generate.Program.{Program}
 use Rattle.rec_format.specs.declared.recording.Recording.{Recording as Recorded}
 use Rattle.rec_format.specs.Recordings.{recording_bytes}
 use Rattle.run_base.specs.declared.job.Job.{Job}
 use Rattle.run_base.specs.declared.job.Work.{Work}
 use Rattle.bt_top.specs.declared.outcome.Outcome.{Outcome}
-use Rattle.bt_top.specs.declared.refusal.Refusal.{Refusal}
 use Rattle.bt_top.specs.declared.refusal.Refusal.TheVariants.{Memory}
 use Rattle.bt_top.specs.Doing.{ComesOfFiles}
 use Rattle.bt_top.specs.Jobs.{IsWorkOf}
@@ -32,10 +31,6 @@ made_with says programs rest none spelled = λ i. record { work = None; programs
 pub nothing_asked : (files : List NamedFile) (names : List (List ℕ)) → AsksFirst names names (names_of files)
 nothing_asked [] names = refl
 nothing_asked (file ∷ files) names = inl refl
-
-pub asked_unless : (files : List NamedFile) (seen : ShelfUse) → AsksExactly files None seen → AsksExactly files (Some Memory) seen
-asked_unless [] seen same = same
-asked_unless (file ∷ files) seen all = tt
 
 pub nothing_asked_exactly : (files : List NamedFile) (seen : ShelfUse) → seen.asked_after ≡ seen.asked → AsksExactly files (Some Memory) seen
 nothing_asked_exactly [] seen same = same
@@ -84,24 +79,6 @@ module _ {A B : Type 0} (files : List NamedFile) (Comes : List (List ℕ) → A 
     exact = p.exact;
   }
 
-  -- what refuses them
-  pub stops : (refusal : Refusal) → ComesOfFiles files Comes seen (Err refusal) → ComesOfFiles files Other seen (Err refusal)
-  stops refusal p = record {
-    reads = record { contents = p.reads.contents; held = p.reads.held; value = tt; came = p.reads.came };
-    asked = p.asked;
-    asked_exactly = p.asked_exactly;
-    exact = p.exact;
-  }
-
-  -- want of memory behind the reads
-  pub runs_out : (a : A) → ComesOfFiles files Comes seen (Ok a) → ComesOfFiles files Other seen (Err Memory)
-  runs_out a p = record {
-    reads = record { contents = p.reads.contents; held = p.reads.held; value = tt; came = tt };
-    asked = p.asked;
-    asked_exactly = asked_unless files seen p.asked_exactly;
-    exact = memory_exact seen.held files;
-  }
-
 -- ---- of an order without files
 
 module _ {B : Type 0} (Other : List (List ℕ) → B → Type 0) (seen : ShelfUse) (same : seen.asked_after ≡ seen.asked) where
@@ -115,15 +92,3 @@ module _ {B : Type 0} (Other : List (List ℕ) → B → Type 0) (seen : ShelfUs
       | inr e ↦ inl (sym e.1)
     ];
   }
-
-  pub not_made : ComesOfFiles [] Other seen (Err Memory)
-  not_made = record {
-    reads = record { contents = []; held = tt; value = tt; came = tt };
-    asked = same;
-    asked_exactly = same;
-    exact = λ due is. inr tt;
-  }
-
-  pub made_or_not : (answer : Result B Refusal) → IfOk answer (Other []) → IfErr answer (λ refusal. refusal ≡ Memory) → ComesOfFiles [] Other seen answer
-  made_or_not (Ok b) is memory = made b is
-  made_or_not (Err refusal) is memory = subst (λ (r : Refusal). ComesOfFiles [] Other seen (Err r)) (sym memory) not_made
