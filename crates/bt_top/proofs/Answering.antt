@@ -16,7 +16,7 @@ use Rattle.bt_top.specs.Doing.{ComesOfFiles, Wrote}
 use Rattle.bt_top.specs.Due.{IsDue}
 use Rattle.bt_top.specs.Jobs.{IsJobFor}
 use Rattle.bt_top.specs.Lines.{SinkUse, SinkFailed}
-use Rattle.bt_top.specs.Orders.{NamedFile, files_of}
+use Rattle.bt_top.specs.Orders.{OperandFile, files_of}
 use Rattle.bt_top.specs.Outcomes.{ComesTo, IsOutcomeOfRun, bytes_written, check_outcome, code_outcome, gen_outcome}
 use Rattle.bt_top.specs.Refusals.{status_of}
 use Rattle.bt_top.specs.Serve.{ShelfUse, ShelfFailed, AreContentsOf, MayCome, MayStandFor, ComesIfDue, OnTold, IsReached, ReadFailed, IsComplete}
@@ -31,7 +31,7 @@ abbrev pub report_of : Option Refusal → Outcome → Report
 report_of refusal outcome = record { status = status_of refusal; refusal = refusal; work = outcome.work; programs = outcome.programs }
 
 -- of files that ask for a job nothing is refused
-job_is_due : (files : List NamedFile) (contents : List (List ℕ)) (job : Job) → IsJobFor files contents job → IsDue files contents None
+job_is_due : (files : List OperandFile) (contents : List (List ℕ)) (job : Job) → IsJobFor files contents job → IsDue files contents None
 job_is_due files [] job is = absurd is.of
 job_is_due files (text ∷ []) job is = absurd is.of
 job_is_due files (text ∷ bytes ∷ more) job is = inr (is.short, job_accepted text bytes job is.of)
@@ -114,7 +114,7 @@ is_complete order seen out report status answers exact =
     (IsComplete (files_of order) (ReadFailed (files_of order) seen) (SinkFailed out) report.status)
     (λ contents comes due no_read no_write. ends report.refusal status answers.came no_read no_write (comes None due)) exact
   where
-    reached : (files : List NamedFile) (contents : List (List ℕ)) (file : Operand) → ShelfFailed seen → IsReached files contents file → ReadFailed files seen
+    reached : (files : List OperandFile) (contents : List (List ℕ)) (file : Operand) → ShelfFailed seen → IsReached files contents file → ReadFailed files seen
     reached [] contents file failed is = is
     reached (first ∷ files) contents file failed is = failed
 
@@ -130,11 +130,11 @@ is_complete order seen out report status answers exact =
 
 -- ---- want of memory at the words, whatever they ask for
 
-told_or : (held : List ℕ → Option (List ℕ)) → List NamedFile → List (List ℕ)
+told_or : (held : List ℕ → Option (List ℕ)) → List OperandFile → List (List ℕ)
 told_or held [] = []
 told_or held (file ∷ files) = unwrap_or (held file.name) [] ∷ told_or held files
 
-are_told : (held : List ℕ → Option (List ℕ)) (files : List NamedFile) → AreContentsOf held files (told_or held files)
+are_told : (held : List ℕ → Option (List ℕ)) (files : List OperandFile) → AreContentsOf held files (told_or held files)
 unfolding told_or
 are_told held [] = tt
 are_told held (file ∷ files) = (held_or _ _, are_told held files)

@@ -10,7 +10,7 @@ use Rattle.bt_top.specs.declared.outcome.Outcome.{Outcome}
 use Rattle.bt_top.specs.declared.refusal.Refusal.TheVariants.{Memory}
 use Rattle.bt_top.specs.Doing.{ComesOfFiles}
 use Rattle.bt_top.specs.Jobs.{IsWorkOf}
-use Rattle.bt_top.specs.Orders.{NamedFile, names_of}
+use Rattle.bt_top.specs.Orders.{OperandFile, names_of}
 use Rattle.bt_top.specs.Outcomes.{IsOutcomeOfRun, gen_outcome, run_outcome}
 use Rattle.bt_top.specs.Serve.{ShelfUse, AsksExactly, AsksFirst, ComesIfDue, IsComplete, OnTold}
 
@@ -28,11 +28,11 @@ made_with says programs rest none spelled = λ i. record { work = None; programs
 
 -- ---- of all files alike
 
-pub nothing_asked : (files : List NamedFile) (names : List (List ℕ)) → AsksFirst names names (names_of files)
+pub nothing_asked : (files : List OperandFile) (names : List (List ℕ)) → AsksFirst names names (names_of files)
 nothing_asked [] names = refl
 nothing_asked (file ∷ files) names = inl refl
 
-pub nothing_asked_exactly : (files : List NamedFile) (seen : ShelfUse) → seen.asked_after ≡ seen.asked → AsksExactly files (Some Memory) seen
+pub nothing_asked_exactly : (files : List OperandFile) (seen : ShelfUse) → seen.asked_after ≡ seen.asked → AsksExactly files (Some Memory) seen
 nothing_asked_exactly [] seen same = same
 nothing_asked_exactly (file ∷ files) seen same = tt
 
@@ -45,30 +45,30 @@ if_told-map : (o : Option (List ℕ)) (Q R : List ℕ → Type 0) → ((bytes : 
 if_told-map None Q R f q = tt
 if_told-map (Some bytes) Q R f q = f bytes q
 
-on_told : (held : List ℕ → Option (List ℕ)) (files : List NamedFile) (P : List (List ℕ) → Type 0) → ((contents : List (List ℕ)) → P contents) → OnTold held files P
+on_told : (held : List ℕ → Option (List ℕ)) (files : List OperandFile) (P : List (List ℕ) → Type 0) → ((contents : List (List ℕ)) → P contents) → OnTold held files P
 on_told held [] P p = p []
 on_told held (file ∷ files) P p =
     if_told (held file.name) (λ bytes. OnTold held files (λ contents. P (bytes ∷ contents)))
     (λ bytes. on_told held files (λ contents. P (bytes ∷ contents)) (λ contents. p (bytes ∷ contents)))
 
-pub on_told-map : (held : List ℕ → Option (List ℕ)) (files : List NamedFile) (P Q : List (List ℕ) → Type 0) → ((contents : List (List ℕ)) → P contents → Q contents)
+pub on_told-map : (held : List ℕ → Option (List ℕ)) (files : List OperandFile) (P Q : List (List ℕ) → Type 0) → ((contents : List (List ℕ)) → P contents → Q contents)
     → OnTold held files P → OnTold held files Q
 on_told-map held [] P Q f p = f [] p
 on_told-map held (file ∷ files) P Q f p =
     if_told-map (held file.name) (λ bytes. OnTold held files (λ contents. P (bytes ∷ contents))) (λ bytes. OnTold held files (λ contents. Q (bytes ∷ contents)))
     (λ bytes. on_told-map held files (λ contents. P (bytes ∷ contents)) (λ contents. Q (bytes ∷ contents)) (λ contents. f (bytes ∷ contents))) p
 
-pub memory_exact : (held : List ℕ → Option (List ℕ)) (files : List NamedFile) → OnTold held files (ComesIfDue files (Some Memory))
+pub memory_exact : (held : List ℕ → Option (List ℕ)) (files : List OperandFile) → OnTold held files (ComesIfDue files (Some Memory))
 memory_exact held files = on_told held files (ComesIfDue files (Some Memory)) (λ contents due is. inr tt)
 
-pub memory_complete : (held : List ℕ → Option (List ℕ)) (files : List NamedFile) (read_failed write_failed : Type 0)
+pub memory_complete : (held : List ℕ → Option (List ℕ)) (files : List OperandFile) (read_failed write_failed : Type 0)
     → OnTold held files (IsComplete files read_failed write_failed 6)
 memory_complete held files read_failed write_failed =
     on_told held files (IsComplete files read_failed write_failed 6) (λ contents due no_read no_write. inr refl)
 
 -- ---- of an order on files
 
-module _ {A B : Type 0} (files : List NamedFile) (Comes : List (List ℕ) → A → Type 0) (Other : List (List ℕ) → B → Type 0) (seen : ShelfUse) where
+module _ {A B : Type 0} (files : List OperandFile) (Comes : List (List ℕ) → A → Type 0) (Other : List (List ℕ) → B → Type 0) (seen : ShelfUse) where
   -- what is made of what they give
   pub goes_on : (a : A) (b : B) → ComesOfFiles files Comes seen (Ok a) → ((contents : List (List ℕ)) → Comes contents a → Other contents b)
       → ComesOfFiles files Other seen (Ok b)

@@ -19,7 +19,7 @@ use Rattle.bt_top.specs.declared.refusal.ScriptFault.{ScriptFault}
 use Rattle.bt_top.specs.declared.refusal.ScriptRefusal.TheVariants as script
 use Rattle.bt_top.specs.Due.{IsFirstRefusal, IsJudged}
 use Rattle.bt_top.specs.Lines.{SinkUse, SinkFailed}
-use Rattle.bt_top.specs.Orders.{NamedFile, names_of}
+use Rattle.bt_top.specs.Orders.{OperandFile, names_of}
 use Rattle.bt_top.specs.Script.{IsScriptFault, IsTextFault}
 use Rattle.bt_top.specs.Serve.{ShelfUse, ShelfFailed, AreContentsOf, AsksExactly, AsksFirst, ComesIfDue, MayCome, OnTold}
 use Rattle.bt_top.specs.Sizes.{IsProbePlace, TellsLarge, size_refusal}
@@ -79,14 +79,14 @@ IsExact text bytes refusal = (due : Option Refusal) → IsJudged text bytes due 
 -- ---- the reads, and what is done with what they give
 
 -- what comes of files with contents that the shelf tells, before the write
-pub record ComesOfContents {A : Type 0} (files : List NamedFile) (Comes : List (List ℕ) → A → Type 0) (shelf : ShelfUse) (answer : Result A Refusal) : Type 0 where
+pub record ComesOfContents {A : Type 0} (files : List OperandFile) (Comes : List (List ℕ) → A → Type 0) (shelf : ShelfUse) (answer : Result A Refusal) : Type 0 where
   pub contents : List (List ℕ)
   pub held : AreContentsOf shelf.held files contents
   pub value : IfOk answer (Comes contents)
   pub came : IfErr answer (λ refusal. MayCome files contents (ShelfFailed shelf) ⊥ (Some refusal))
 
 -- the same, with the names that were asked for, and that what is due comes
-pub record ComesOfFiles {A : Type 0} (files : List NamedFile) (Comes : List (List ℕ) → A → Type 0) (shelf : ShelfUse) (answer : Result A Refusal) : Type 0 where
+pub record ComesOfFiles {A : Type 0} (files : List OperandFile) (Comes : List (List ℕ) → A → Type 0) (shelf : ShelfUse) (answer : Result A Refusal) : Type 0 where
   pub reads : ComesOfContents files Comes shelf answer
   pub asked : AsksFirst shelf.asked shelf.asked_after (names_of files)
   pub asked_exactly : AsksExactly files (refusal_in answer) shelf
