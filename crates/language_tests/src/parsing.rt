@@ -1,7 +1,7 @@
 // Where tokens are refused, how operators group, and where the nodes of a tree stand.
 use bt_ast::expr::{Expr, ExprKind};
-use bt_ast::probe::Probe;
 use bt_ast::gathering::Gathering;
+use bt_ast::probe::Probe;
 use bt_ast::stmt::{AggCall, StmtKind};
 use bt_core::place::Place;
 use bt_grammar::error::ParseError;
@@ -180,11 +180,10 @@ fn the_nodes_of_a_tree_stand_at_their_first_tokens(rt: HostRuntime) -> Result<()
     assert_eq!(rt; stmt.place, at(3, 3));
     let StmtKind::SetAgg {
         map,
-        agg:
-            AggCall::Gather {
-                function: Gathering::Hist,
-                number,
-            },
+        agg: AggCall::Gather {
+            function: Gathering::Hist,
+            number,
+        },
         agg_place,
     } = &stmt.kind
     else {
