@@ -6,7 +6,7 @@ use Rattle.std.proofs.lemmas.Int.{wrapping_add_is, int_wrap-add_left, SFits-int_
 use Rattle.std.proofs.lemmas.List.{length_push}
 use Rattle.std.proofs.lemmas.List.Sums.{fold_push}
 use Rattle.bt_core.specs.declared.map.AggKind.{AggKind}
-use Rattle.bt_core.specs.declared.map.AggKind.TheVariants.{Hist, Lhist, Count, Sum, Min, Max, Avg}
+use Rattle.bt_core.specs.declared.map.AggKind.TheVariants.{Hist, Lhist}
 use Rattle.bt_core.specs.declared.agg.Buckets.TheVariants as held
 use Rattle.bt_core.specs.declared.agg.Agg.{Agg}
 use Rattle.std.proofs.Common.{replicate}
@@ -31,13 +31,9 @@ reduce-more f [] n = refl
 reduce-more f (m ∷ ms) n = ap (λ (z : ℤ). Some z) (sym (fold_push f m ms n))
 
 buckets-more : (kind : AggKind) (ns : List ℤ) (n : ℤ) → with_bucket (bucket kind n) (buckets_of kind ns) ≡ buckets_of kind (ns ++ n ∷ [])
-buckets-more Count ns n = refl
-buckets-more Sum ns n = refl
-buckets-more Min ns n = refl
-buckets-more Max ns n = refl
-buckets-more Avg ns n = refl
 buckets-more Hist ns n = ap (λ (c : List ℕ). held.Hist c) (counts-more Hist ns n)
 buckets-more (Lhist low max step) ns n = ap (λ (c : List ℕ). held.Lhist c) (counts-more (Lhist low max step) ns n)
+buckets-more kind ns n = refl
 
 pub aggregate-more : (kind : AggKind) (ns : List ℤ) (n : ℤ) → FitsSigned w64 n → with_number (aggregate kind ns) n ≡ aggregate kind (ns ++ n ∷ [])
 aggregate-more kind ns n fits = λ i. record {
@@ -50,13 +46,9 @@ aggregate-more kind ns n fits = λ i. record {
 }
 
 pub buckets-emptied : (kind : AggKind) (ns : List ℤ) → emptied (buckets_of kind ns) ≡ buckets_of kind []
-buckets-emptied Count ns = refl
-buckets-emptied Sum ns = refl
-buckets-emptied Min ns = refl
-buckets-emptied Max ns = refl
-buckets-emptied Avg ns = refl
 buckets-emptied Hist ns = ap (λ (c : List ℕ). held.Hist c) (sym hist-none)
 buckets-emptied (Lhist low max step) ns = ap (λ (c : List ℕ). held.Lhist c) (ap (λ n. replicate n 0) (counts-length (Lhist low max step) ns) ∙ sym (counts-none (Lhist low max step)))
+buckets-emptied kind ns = refl
 
 -- what a step from one aggregate to the next says of the aggregates of lists
 pub added : (old new : Agg) (kind : AggKind) (ns : List ℤ) (n : ℤ) → FitsSigned w64 n → new ≡ with_number old n → old ≡ aggregate kind ns → new ≡ aggregate kind (ns ++ n ∷ [])

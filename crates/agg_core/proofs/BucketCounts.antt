@@ -5,7 +5,7 @@ use Rattle.std.proofs.lemmas.List.{length-append}
 use Rattle.std.proofs.lemmas.List.FromFn.{length-map-range_with_len}
 use Rattle.std.proofs.lemmas.List.Sums.{count_by-le-length}
 use Rattle.bt_core.specs.declared.map.AggKind.{AggKind}
-use Rattle.bt_core.specs.declared.map.AggKind.TheVariants.{Hist, Lhist, Count, Sum, Min, Max, Avg}
+use Rattle.bt_core.specs.declared.map.AggKind.TheVariants.{Hist, Lhist}
 use Rattle.bt_core.specs.Kinds.{steps_between, IsFineKind}
 use Rattle.agg_core.specs.Aggregates.{bounds, bucket, steps_from}
 
@@ -19,13 +19,9 @@ lhist_bounds low max step = ap (λ n. suc n) (length-append (steps_from low step
 
 few_bounds : (kind : AggKind) → IsFineKind kind → length (bounds kind) ≤ 1001
 unfolding bounds
-few_bounds Count fine = omega arith
-few_bounds Sum fine = omega arith
-few_bounds Min fine = omega arith
-few_bounds Max fine = omega arith
-few_bounds Avg fine = omega arith
 few_bounds Hist fine = omega (arith, hist_bounds)
 few_bounds (Lhist low max step) fine = omega (arith, lhist_bounds low max step, fine.few)
+few_bounds kind fine = omega arith
 
 pub bucket-small : (kind : AggKind) (n : ℤ) → IsFineKind kind → bucket kind n ≤ 1001
 bucket-small kind n fine =

@@ -6,7 +6,8 @@ use Rattle.std.proofs.lemmas.Bool.Decides.{nat_tests}
 use Rattle.std.proofs.lemmas.Bool.{cases_lt, le-leb, lt-leb, lt-ltb, le-ltb}
 use native.Mathlib.Nat.{pow-suc, le-div_iff_mul-le}
 use Rattle.std.proofs.lemmas.List.Sums.{sum_by-cons, sum_by-append}
-use Rattle.bt_core.specs.declared.map.AggKind.TheVariants.{Hist, Lhist, Count, Sum, Min, Max, Avg}
+use Rattle.bt_core.specs.declared.map.AggKind.{AggKind}
+use Rattle.bt_core.specs.declared.map.AggKind.TheVariants.{Hist, Lhist}
 use Rattle.agg_core.specs.Aggregates.{upto, powers, steps_from, bounds, bucket}
 use Rattle.bt_core.specs.Kinds.{steps_between}
 use Rattle.std.proofs.lemmas.Int.{ints}
@@ -101,6 +102,8 @@ lhist_reaches low max step n steps r is some above e =
 pub lhist_below : (low max step n : ℤ) → n <ℤ low → bucket (Lhist low max step) n ≡ cond (int_le max n) 1 0
 lhist_below low max step n h = lhist_is low max step n ∙ ap (λ m. m + cond (int_le max n) 1 0) (count-no_steps low step n (steps_between low max step) h) ∙ zero-add (cond (int_le max n) 1 0)
 
-pub no_bucket : (n : ℤ) → (bucket Count n ≡ 0) × (bucket Sum n ≡ 0) × (bucket Min n ≡ 0) × (bucket Max n ≡ 0) × (bucket Avg n ≡ 0)
+pub no_bucket : (kind : AggKind) (n : ℤ) → (kind ≡ Hist → ⊥) → ((low max step : ℤ) → kind ≡ Lhist low max step → ⊥) → bucket kind n ≡ 0
 unfolding bounds
-no_bucket n = (refl, refl, refl, refl, refl)
+no_bucket Hist n no_powers no_steps = absurd (no_powers refl)
+no_bucket (Lhist low max step) n no_powers no_steps = absurd (no_steps low max step refl)
+no_bucket kind n no_powers no_steps = refl

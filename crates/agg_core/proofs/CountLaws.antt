@@ -2,7 +2,7 @@
 use Rattle.std.proofs.Common.{◌≡◌, ℕ, zero, suc, ◌+◌, ◌%◌, ◌^◌, ◌<◌, ◌≤◌, ◌==◌, cond, Bool, List, [], ◌∷◌, ◌++◌, replicate, length, refl, sym, ap, ◌∙◌, subst, arith, ℤ, map}
 use Rattle.std.specs.List.{range_with_len, count_by}
 use Rattle.bt_core.specs.declared.map.AggKind.{AggKind}
-use Rattle.bt_core.specs.declared.map.AggKind.TheVariants.{Hist, Lhist, Count, Sum, Min, Max, Avg}
+use Rattle.bt_core.specs.declared.map.AggKind.TheVariants.{Hist, Lhist}
 use Rattle.agg_core.specs.Aggregates.{bounds, bucket, counts, buckets_of}
 use Rattle.agg_core.specs.Gathering.{one_more}
 use Rattle.std.specs.Int.RustNames.{int_le}
@@ -56,10 +56,6 @@ pub counts-length : (kind : AggKind) (ns : List ℤ) → length (counts kind ns)
 counts-length kind ns = length-map-range_with_len (λ k. count_by (λ m. bucket kind m == k) ns % 2 ^ 64) 0 (suc (length (bounds kind)))
 
 pub buckets-fit : (kind : AggKind) (ns : List ℤ) → AreBucketsOf kind (buckets_of kind ns)
-buckets-fit Count ns = tt
-buckets-fit Sum ns = tt
-buckets-fit Min ns = tt
-buckets-fit Max ns = tt
-buckets-fit Avg ns = tt
 buckets-fit Hist ns = counts-length Hist ns ∙ ap (λ n. suc n) hist_bounds
 buckets-fit (Lhist low max step) ns = counts-length (Lhist low max step) ns ∙ lhist_bounds low max step
+buckets-fit kind ns = tt

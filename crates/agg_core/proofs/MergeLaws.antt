@@ -6,7 +6,7 @@ use Rattle.std.proofs.lemmas.Int.{int_wrap-add_left, int_wrap-add_right, ints}
 use Rattle.std.proofs.lemmas.List.{length-append}
 use Rattle.std.proofs.lemmas.List.Sums.{fold-append, sum_by-append}
 use Rattle.bt_core.specs.declared.map.AggKind.{AggKind}
-use Rattle.bt_core.specs.declared.map.AggKind.TheVariants.{Hist, Lhist, Count, Sum, Min, Max, Avg}
+use Rattle.bt_core.specs.declared.map.AggKind.TheVariants.{Hist, Lhist}
 use Rattle.bt_core.specs.declared.agg.Buckets.TheVariants as held
 use Rattle.agg_core.specs.Aggregates.{aggregate, merged, signed, either, bucket, bounds, counts, both_counts, both_buckets, buckets_of}
 
@@ -48,13 +48,9 @@ pub counts-both : (kind : AggKind) (ms ns : List ℤ) → both_counts (counts ki
 counts-both kind ms ns = both-range kind ms ns 0 (suc (length (bounds kind)))
 
 buckets-both : (kind : AggKind) (ms ns : List ℤ) → both_buckets (buckets_of kind ms) (buckets_of kind ns) ≡ buckets_of kind (ms ++ ns)
-buckets-both Count ms ns = refl
-buckets-both Sum ms ns = refl
-buckets-both Min ms ns = refl
-buckets-both Max ms ns = refl
-buckets-both Avg ms ns = refl
 buckets-both Hist ms ns = ap (λ (c : List ℕ). held.Hist c) (counts-both Hist ms ns)
 buckets-both (Lhist low max step) ms ns = ap (λ (c : List ℕ). held.Lhist c) (counts-both (Lhist low max step) ms ns)
+buckets-both kind ms ns = refl
 
 -- the merge of the aggregates of two lists is the aggregate of both lists, one after the other
 pub merged-both : (kind : AggKind) (ms ns : List ℤ) → merged (aggregate kind ms) (aggregate kind ns) ≡ aggregate kind (ms ++ ns)

@@ -23,11 +23,7 @@ pub fn bucket_or_first(kind: AggKind, n: i64) -> usize
     match kind {
         AggKind::Hist => hist_bucket(n),
         AggKind::Lhist { min, max, step } => lhist_bucket(min, max, step, n),
-        AggKind::Count => 0,
-        AggKind::Sum => 0,
-        AggKind::Min => 0,
-        AggKind::Max => 0,
-        AggKind::Avg => 0,
+        _ => 0,
     }
 }
 

@@ -7,7 +7,7 @@ use Rattle.bt_ast.specs.declared.stmt.Block.{Block, fold-Block}
 use Rattle.bt_ast.specs.declared.stmt.Stmt.{Stmt, fold-Stmt}
 use Rattle.bt_ast.specs.declared.stmt.StmtKind.{StmtKind, fold-StmtKind}
 use Rattle.bt_ast.specs.declared.stmt.StmtKind.TheOpen.{StmtKind-F, Block-F, Stmt-F}
-use Rattle.ast_text.specs.Words.{token, ending, number_text, quoted_text, assign_mark}
+use Rattle.ast_text.specs.Words.{token, ending, number_text, quoted_text, assign_mark, gathering_word}
 use Rattle.ast_text.specs.Exprs.{expr_text, map_text, target_text, step_text, marked}
 
 -- a word and what stands in parentheses behind it
@@ -16,11 +16,7 @@ call_text word arguments = token word ++ (token (codes "(") ++ (arguments ++ tok
 
 abbrev pub agg_text : AggCall → List ℕ
 agg_text agg.Count = call_text (codes "count") []
-agg_text (agg.Sum e) = call_text (codes "sum") (expr_text e)
-agg_text (agg.Min e) = call_text (codes "min") (expr_text e)
-agg_text (agg.Max e) = call_text (codes "max") (expr_text e)
-agg_text (agg.Avg e) = call_text (codes "avg") (expr_text e)
-agg_text (agg.Hist e) = call_text (codes "hist") (expr_text e)
+agg_text (agg.Gather function e) = call_text (gathering_word function) (expr_text e)
 agg_text (agg.Lhist e least greatest step) =
     call_text (codes "lhist") (expr_text e ++ (token (codes ",") ++ (number_text least ++ (token (codes ",") ++ (number_text greatest ++ (token (codes ",") ++ number_text step))))))
 

@@ -6,9 +6,10 @@ use Rattle.bt_core.specs.declared.operator.BinOp.TheVariants.{Sub}
 use Rattle.bt_core.specs.declared.operator.UnOp.{UnOp}
 use Rattle.bt_core.specs.declared.operator.UnOp.TheVariants.{Neg, LogNot, BitNot}
 use Rattle.bt_ast.specs.declared.expr.Builtin.{Builtin}
+use Rattle.bt_ast.specs.declared.gathering.Gathering.{Gathering}
 use Rattle.bt_ast.specs.declared.probe.Unit.{Unit as TimeUnit}
 use Rattle.bt_ast.specs.declared.probe.Unit.TheVariants.{S, Ms, Us, Hz}
-use Rattle.bt_grammar.specs.declared.class.Class.TheVariants.{BuiltinWord, Operator, Tilde, Bang}
+use Rattle.bt_grammar.specs.declared.class.Class.TheVariants.{BuiltinWord, GatherWord, Operator, Tilde, Bang}
 use Rattle.bt_grammar.specs.Words.{word_of, mark_of}
 
 -- a token, and a blank after it
@@ -41,6 +42,9 @@ quoted_text text = codes "\"" ++ (quoted_bytes text ++ token (codes "\""))
 
 abbrev pub builtin_word : Builtin → List ℕ
 builtin_word builtin = word_of (BuiltinWord builtin)
+
+abbrev pub gathering_word : Gathering → List ℕ
+gathering_word function = word_of (GatherWord function)
 
 abbrev pub unary_mark : UnOp → List ℕ
 unary_mark Neg = mark_of (Operator Sub)

@@ -1,8 +1,9 @@
 // The words of a script's text.
 ghost use Rattle.std.specs.Prelude.{◌≡◌, ◌++◌, OnOk};
-ghost use Rattle.ast_text.specs.Words.{token, ending, number_text, quoted_byte, quoted_bytes, quoted_text, builtin_word, unary_mark, binary_mark, assign_mark, unit_word};
+ghost use Rattle.ast_text.specs.Words.{token, ending, number_text, quoted_byte, quoted_bytes, quoted_text, builtin_word, gathering_word, unary_mark, binary_mark, assign_mark, unit_word};
 
 use bt_ast::expr::Builtin;
+use bt_ast::gathering::Gathering;
 use bt_ast::probe::Unit;
 use bt_core::memory::Memory;
 use bt_core::operator::{BinOp, UnOp};
@@ -75,6 +76,13 @@ pub(crate) fn builtin_word(builtin: Builtin) -> &'static [u8]
     ensures { result.now ≡ builtin_word builtin }
 {
     word_of(Class::BuiltinWord(builtin))
+}
+
+/// The word of a map function of one number.
+pub(crate) fn gathering_word(function: Gathering) -> &'static [u8]
+    ensures { result.now ≡ gathering_word function }
+{
+    word_of(Class::GatherWord(function))
 }
 
 /// The mark of an operator before its operand.

@@ -4,7 +4,7 @@ ghost use Rattle.ast_text.specs.Words.{token, number_text};
 ghost use Rattle.ast_text.specs.Exprs.{expr_text};
 ghost use Rattle.ast_text.specs.Stmts.{agg_text, call_text};
 
-use crate::words::{write_number, write_token};
+use crate::words::{gathering_word, write_number, write_token};
 use crate::write_expr::write_expr;
 use bt_ast::expr::Expr;
 use bt_ast::stmt::AggCall;
@@ -44,11 +44,9 @@ pub(crate) fn write_agg(out: &mut Vec<u8>, agg: &AggCall) -> Result<(), Memory>
             open_call(out, b"count")?;
             write_token(out, b")")
         }
-        AggCall::Sum(number) => write_call(out, b"sum", number),
-        AggCall::Min(number) => write_call(out, b"min", number),
-        AggCall::Max(number) => write_call(out, b"max", number),
-        AggCall::Avg(number) => write_call(out, b"avg", number),
-        AggCall::Hist(number) => write_call(out, b"hist", number),
+        AggCall::Gather { function, number } => {
+            write_call(out, gathering_word(*function), number)
+        }
         AggCall::Lhist {
             number,
             min,

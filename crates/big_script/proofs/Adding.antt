@@ -8,6 +8,7 @@ use Rattle.bt_core.specs.declared.place.Place.{Place}
 use Rattle.bt_core.specs.Kinds.{IsAggregation}
 use Rattle.bt_ast.specs.declared.expr.MapRef.{MapRef}
 use Rattle.bt_ast.specs.declared.expr.Expr.{Expr}
+use Rattle.bt_ast.specs.declared.gathering.Gathering.TheVariants.{Sum, Hist}
 use Rattle.bt_ast.specs.declared.stmt.AggCall.{AggCall}
 use Rattle.bt_ast.specs.declared.stmt.AggCall.TheVariants as aggs
 use Rattle.bt_ast.specs.declared.stmt.Block.{fold-roll-Block}
@@ -42,8 +43,8 @@ gather_exits column name keys word call = set_exits (place_of_map (map_at column
 no_exit : script_exits the_tree ≡ false
 no_exit =
     let one = gather_exits 37 (codes "@calls") (comm_at 44 ∷ []) 52 aggs.Count in
-    let two = gather_exits 61 (codes "@ids") [] 68 (aggs.Hist (id_at 73 78)) in
-    let three = gather_exits 83 (codes "@sum") [] 90 (aggs.Sum (id_at 94 99)) in
+    let two = gather_exits 61 (codes "@ids") [] 68 (aggs.Gather Hist (id_at 73 78)) in
+    let three = gather_exits 83 (codes "@sum") [] 90 (aggs.Gather Sum (id_at 94 99)) in
     let block : block_exits (block_of (place 35) the_statements) ≡ false =
     fold-roll-Block Bool Bool Bool kind_exits_layer block_exits_layer stmt_exits_layer (record { stmts = the_statements; place = place 35 })
     ∙ (λ i. list_any (λ (exits : Bool). exits) (one i ∷ two i ∷ three i ∷ [])) in

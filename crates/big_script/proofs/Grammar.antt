@@ -12,6 +12,7 @@ use Rattle.bt_ast.specs.declared.expr.MapRef.{MapRef, roll-MapRef}
 use Rattle.bt_ast.specs.declared.probe.Point.TheVariants as points
 use Rattle.bt_ast.specs.declared.probe.Probe.{Probe}
 use Rattle.bt_ast.specs.declared.probe.Script.{Script}
+use Rattle.bt_ast.specs.declared.gathering.Gathering.TheVariants.{Sum, Hist}
 use Rattle.bt_ast.specs.declared.stmt.AggCall.{AggCall}
 use Rattle.bt_ast.specs.declared.stmt.AggCall.TheVariants as aggs
 use Rattle.bt_ast.specs.declared.stmt.Stmt.{Stmt}
@@ -47,8 +48,8 @@ gather_at column name keys word call = stmt (place_of_map (map_at column name ke
 abbrev pub the_statements : List Stmt
 the_statements =
     gather_at 37 (codes "@calls") (comm_at 44 ∷ []) 52 aggs.Count
-    ∷ gather_at 61 (codes "@ids") [] 68 (aggs.Hist (id_at 73 78))
-    ∷ gather_at 83 (codes "@sum") [] 90 (aggs.Sum (id_at 94 99))
+    ∷ gather_at 61 (codes "@ids") [] 68 (aggs.Gather Hist (id_at 73 78))
+    ∷ gather_at 83 (codes "@sum") [] 90 (aggs.Gather Sum (id_at 94 99))
     ∷ []
 
 abbrev pub the_probe : Probe

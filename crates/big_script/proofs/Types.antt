@@ -14,6 +14,7 @@ use Rattle.bt_ast.specs.declared.expr.ExprKind.{ExprKind, fold-roll-ExprKind}
 use Rattle.bt_ast.specs.declared.expr.ExprKind.TheVariants as exprs
 use Rattle.bt_ast.specs.declared.expr.ExprKind.TheOpen.{ExprKind-F}
 use Rattle.bt_ast.specs.declared.expr.MapRef.{MapRef, fold-roll-MapRef}
+use Rattle.bt_ast.specs.declared.gathering.Gathering.TheVariants.{Sum, Hist}
 use Rattle.bt_ast.specs.declared.stmt.AggCall.{AggCall}
 use Rattle.bt_ast.specs.declared.stmt.AggCall.TheVariants as aggs
 use Rattle.bt_ast.specs.declared.stmt.Block.{fold-roll-Block}
@@ -102,8 +103,8 @@ the_block_told = block_told (
 block_is : of_block (block_of (place 35) the_statements) false ≡ the_block_told
 block_is =
     let one = gather_is 37 (codes "@calls") (comm_at 44 ∷ []) 52 aggs.Count (comm_seen ∷ []) (told [] []) (ap (λ (s : Seen). s ∷ []) (comm_is 44)) refl in
-    let two = gather_is 61 (codes "@ids") [] 68 (aggs.Hist (id_at 73 78)) [] (number_seen 73 78 68) refl (number_is 73 78 68) in
-    let three = gather_is 83 (codes "@sum") [] 90 (aggs.Sum (id_at 94 99)) [] (number_seen 94 99 90) refl (number_is 94 99 90) in
+    let two = gather_is 61 (codes "@ids") [] 68 (aggs.Gather Hist (id_at 73 78)) [] (number_seen 73 78 68) refl (number_is 73 78 68) in
+    let three = gather_is 83 (codes "@sum") [] 90 (aggs.Gather Sum (id_at 94 99)) [] (number_seen 94 99 90) refl (number_is 94 99 90) in
     ap (λ (f : Bool → Told). f false) (fold-roll-Block (Bool → Place → Told) (Bool → Told) (Bool → Told) stmt_kind_layer block_layer stmt_layer (record { stmts = the_statements; place = place 35 }))
     ∙ (λ i. block_told (one i ∷ two i ∷ three i ∷ []))
 

@@ -3,5 +3,6 @@
 
 pub mod attached;
 pub mod expr;
+pub mod gathering;
 pub mod probe;
 pub mod stmt;

@@ -1,6 +1,7 @@
 // Statements and blocks, by the sections on statements, map functions and functions of the bpftrace language
 // reference. The place of a node is that of its first token.
 use crate::expr::{Expr, IncDec, MapRef, Target};
+use crate::gathering::Gathering;
 use bt_core::items::Items;
 use bt_core::operator::BinOp;
 use bt_core::place::Place;
@@ -9,11 +10,11 @@ use bt_core::place::Place;
 #[derive(PartialEq, Debug, Drop)]
 pub enum AggCall {
     Count,
-    Sum(Expr),
-    Min(Expr),
-    Max(Expr),
-    Avg(Expr),
-    Hist(Expr),
+    /// A map function of one number.
+    Gather {
+        function: Gathering,
+        number: Expr,
+    },
     Lhist {
         number: Expr,
         min: i64,

@@ -9,7 +9,7 @@ use Rattle.std.proofs.lemmas.Bool.{eqb-true, eq-eqb}
 use Rattle.bt_grammar.specs.Classes.{class_number, carried_number, is}
 use Rattle.bt_core.specs.contracts.operator.BinOp.{enum as operators}
 use Rattle.bt_ast.specs.contracts.expr.Builtin.{enum as builtins}
-use Rattle.bt_grammar.specs.contracts.class.Gathering.{enum as gatherings}
+use Rattle.bt_ast.specs.contracts.gathering.Gathering.{enum as gatherings}
 use Rattle.bt_grammar.specs.declared.class.Class.{Class}
 use Rattle.bt_grammar.specs.declared.class.Class.TheVariants.{BeginWord, EndWord, IfWord, ElseWord, WhileWord, UnrollWord, CountWord, LhistWord, PrintfWord, PrintWord, ClearWord, ZeroWord, DeleteWord, ExitWord, BreakWord, ContinueWord, ReturnWord, ArgsWord, OtherWord, TracepointPoint, IntervalPoint, MapName, VarName, NumberLiteral, TextLiteral, Increment, Decrement, AndAnd, OrOr, Arrow, OpenBrace, CloseBrace, OpenParen, CloseParen, OpenBracket, CloseBracket, Comma, Semicolon, Dot, Assign, Tilde, Bang, Question, Colon, Foreign, BuiltinWord, GatherWord, Operator, UpdateMark}
 

@@ -2,7 +2,7 @@
 use Rattle.std.proofs.Common.{true, false, refl}
 use Rattle.bt_core.specs.declared.operator.BinOp.TheVariants.{Add, Sub, Mul, Div, Shl, BitAnd, BitOr, BitXor, Eq, Lt}
 use Rattle.bt_ast.specs.declared.expr.Builtin.TheVariants.{Pid}
-use Rattle.bt_grammar.specs.declared.class.Gathering.TheVariants.{Sum}
+use Rattle.bt_ast.specs.declared.gathering.Gathering.TheVariants.{Sum}
 use Rattle.bt_grammar.specs.declared.class.Tier.TheVariants.{Products, Sums, Shifts, Orders, Equalities, BitAnds, BitXors, BitOrs, AndThens, OrElses}
 use Rattle.bt_grammar.specs.Form.{Part, Primary, Unary, Level, Expression, Values, Keyed, Assignable, Int, Aggregation, Update, AfterMap, AfterVar, Printf, Print, Delete, CallOrJump, Simple, Arm, Tail, Control, Body, Braced, Points, OneProbe, WholeScript}
 use Rattle.bt_grammar.specs.Rules.{rule}

@@ -17,8 +17,6 @@ use Rattle.bt_ast.specs.declared.stmt.StmtKind.{StmtKind}
 use Rattle.bt_ast.specs.declared.stmt.StmtKind.TheVariants as stmts
 use Rattle.bt_ast.specs.declared.probe.Point.{Point}
 use Rattle.bt_ast.specs.declared.probe.Probe.{Probe}
-use Rattle.bt_grammar.specs.declared.class.Gathering.{Gathering}
-use Rattle.bt_grammar.specs.declared.class.Gathering.TheVariants.{Sum}
 use Rattle.bt_grammar.specs.declared.class.Class.{Class}
 use Rattle.bt_grammar.specs.declared.class.Class.TheVariants.{IfWord, ElseWord, WhileWord, UnrollWord, CountWord, LhistWord, PrintfWord, PrintWord, ClearWord, ZeroWord, DeleteWord, ExitWord, BreakWord, ContinueWord, ReturnWord, ArgsWord, VarName, NumberLiteral, OpenBrace, CloseBrace, OpenParen, CloseParen, OpenBracket, CloseBracket, Comma, Semicolon, Assign, Question, Colon, Increment, AndAnd, GatherWord, Operator}
 use Rattle.bt_grammar.specs.declared.class.Tier.{Tier}
@@ -28,7 +26,7 @@ use Rattle.bt_grammar.specs.Form.{Item, Part, Primary, Unary, Level, Expression,
 use Rattle.bt_grammar.specs.Grammar.{whole_at}
 use Rattle.bt_grammar.specs.Mentions.{OfMap, OfText, Mentions, joined, plain, expr_mentions, target_mentions, map_mentions, agg_mentions, arms_mentions, optional_mentions, statement_mentions, block_mentions, stmt_mentions, predicate_mentions, probe_mentions}
 use Rattle.bt_grammar.specs.Rules.{rule, operand, empty_parens, value, a_number}
-use Rattle.bt_grammar.specs.Trees.{pair, single, snoc, cons, bytes_at, number_at, place_of_expr, place_of_map, place_of_target, expr, map_ref, var_ref, var_target, number_expr, text_expr, builtin_kind, builtin_expr, field_expr, paren_expr, step_before, step_after, prefix_step, map_operand, var_operand, unary_op, unary, binary_kind, binary, choose, stmt, gathering, gathered, gather_call, lhist_call, update_target, step_target, gather_map, set_map, on_map, set_var, on_var, map_stmt, var_stmt, step_stmt, printf_kind, print_kind, top_and_div, clear_kind, zero_kind, delete_all, delete_keyed, delete_key, on_item, more_arms, if_stmt, while_stmt, unroll_stmt, block_of, with_points, probe_of}
+use Rattle.bt_grammar.specs.Trees.{pair, single, snoc, cons, bytes_at, number_at, place_of_expr, place_of_map, place_of_target, expr, map_ref, var_ref, var_target, number_expr, text_expr, builtin_kind, builtin_expr, field_expr, paren_expr, step_before, step_after, prefix_step, map_operand, var_operand, unary_op, unary, binary_kind, binary, choose, stmt, gathering, gather_call, lhist_call, update_target, step_target, gather_map, set_map, on_map, set_var, on_var, map_stmt, var_stmt, step_stmt, printf_kind, print_kind, top_and_div, clear_kind, zero_kind, delete_all, delete_keyed, delete_key, on_item, more_arms, if_stmt, while_stmt, unroll_stmt, block_of, with_points, probe_of}
 use Rattle.bt_grammar.proofs.AllClasses.{and_first, implies1}
 use Rattle.bt_grammar.proofs.MentionForms.{Telling, Tells, Nothing, Maybe, is_silent, tells_silent, tells_map_name, tells_text, tells_mark, tells_empty, tells_map, tells_then, tells_or, tells_until, tells_op, tells_chain, tells_second, tells_parens, tells_comma, tells_optional}
 use Rattle.bt_grammar.proofs.TreeMentions as trees
@@ -198,12 +196,8 @@ lone_case t = ap (map plain) (trees.map_is (bytes_at t) [] t.place)
 
 -- ---- map functions and assignments
 
-gathered_is : (g : Gathering) (e : Expr) → agg_mentions (gathered g e) ≡ expr_mentions e
-gathered_is Sum e = refl
-gathered_is _ e = refl
-
 gathering_is : (c : Class) (e : Expr) → agg_mentions (gathering c e) ≡ expr_mentions e
-gathering_is (GatherWord g) e = gathered_is g e
+gathering_is (GatherWord g) e = refl
 gathering_is _ e = refl
 
 gather_case : (t : Item) (e : Expr) (x y : Mentions) → Nothing t x → Says expr_mentions e y → Says (λ a. agg_mentions a.0) (gather_call t e) (x ++ y)

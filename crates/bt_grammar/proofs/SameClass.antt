@@ -10,8 +10,8 @@ use Rattle.bt_core.specs.contracts.operator.BinOp.{the_type as operator_type}
 use Rattle.bt_core.specs.contracts.operator.BinOpPartialEq.TheImpl as operators
 use Rattle.bt_ast.specs.contracts.expr.Builtin.{the_type as builtin_type}
 use Rattle.bt_ast.specs.contracts.expr.BuiltinPartialEq.TheImpl as builtins
-use Rattle.bt_grammar.specs.contracts.class.Gathering.{the_type as gathering_type}
-use Rattle.bt_grammar.specs.contracts.class.GatheringPartialEq.TheImpl as gatherings
+use Rattle.bt_ast.specs.contracts.gathering.Gathering.{the_type as gathering_type}
+use Rattle.bt_ast.specs.contracts.gathering.GatheringPartialEq.TheImpl as gatherings
 use Rattle.bt_grammar.specs.contracts.class.Class.{the_type, as_values}
 use Rattle.bt_grammar.specs.contracts.class.ClassPartialEq.TheImpl.{ghosts}
 use Rattle.bt_grammar.specs.Classes.{is}

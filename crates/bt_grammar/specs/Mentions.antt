@@ -80,11 +80,7 @@ map_mentions = fold-MapRef (Place → Mentions) Mentions Mentions Mentions Menti
 
 abbrev pub agg_mentions : AggCall → Mentions
 agg_mentions aggs.Count = []
-agg_mentions (aggs.Sum e) = expr_mentions e
-agg_mentions (aggs.Min e) = expr_mentions e
-agg_mentions (aggs.Max e) = expr_mentions e
-agg_mentions (aggs.Avg e) = expr_mentions e
-agg_mentions (aggs.Hist e) = expr_mentions e
+agg_mentions (aggs.Gather function e) = expr_mentions e
 agg_mentions (aggs.Lhist e least greatest step) = expr_mentions e
 
 abbrev pub arms_mentions : List (Expr × Mentions) → Mentions

@@ -24,8 +24,7 @@ use Rattle.bt_ast.specs.declared.stmt.StmtKind.TheVariants as stmts
 use Rattle.bt_ast.specs.declared.probe.Point.{Point}
 use Rattle.bt_ast.specs.declared.probe.Point.TheVariants as points
 use Rattle.bt_ast.specs.declared.probe.Probe.{Probe}
-use Rattle.bt_grammar.specs.declared.class.Gathering.{Gathering}
-use Rattle.bt_grammar.specs.declared.class.Gathering.TheVariants.{Sum, Min, Max, Avg, Hist}
+use Rattle.bt_ast.specs.declared.gathering.Gathering.TheVariants.{Hist}
 use Rattle.bt_grammar.specs.declared.class.Class.{Class}
 use Rattle.bt_grammar.specs.declared.class.Class.TheVariants.{BeginWord, EndWord, Increment, AndAnd, Operator, GatherWord}
 use Rattle.bt_grammar.specs.Classes.{is, builtin_of, prefix_of, update_of}
@@ -162,16 +161,9 @@ choose condition (Some c) = expr (exprs.Choose condition c.1.0 c.1.1) (place_of_
 abbrev pub stmt : Place → StmtKind → Stmt
 stmt place kind = roll-Stmt (record { kind = kind; place = place })
 
-abbrev pub gathered : Gathering → Expr → AggCall
-gathered Sum e = aggs.Sum e
-gathered Min e = aggs.Min e
-gathered Max e = aggs.Max e
-gathered Avg e = aggs.Avg e
-gathered Hist e = aggs.Hist e
-
 abbrev pub gathering : Class → Expr → AggCall
-gathering (GatherWord g) e = gathered g e
-gathering _ e = aggs.Hist e
+gathering (GatherWord g) e = aggs.Gather g e
+gathering _ e = aggs.Gather Hist e
 
 abbrev pub count_call : Place → Place → AggCall × Place
 count_call place closing = (aggs.Count, place)

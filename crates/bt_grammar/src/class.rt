@@ -1,16 +1,7 @@
 // The classes of tokens, and the tiers of binary operators.
 use bt_ast::expr::Builtin;
+use bt_ast::gathering::Gathering;
 use bt_core::operator::BinOp;
-
-/// A map function of one number.
-#[derive(Clone, Copy, PartialEq, Eq, Debug)]
-pub enum Gathering {
-    Sum,
-    Min,
-    Max,
-    Avg,
-    Hist,
-}
 
 /// What the grammar sees of a token: which word or mark it is, or its kind.
 #[derive(Clone, Copy, PartialEq, Eq, Debug)]

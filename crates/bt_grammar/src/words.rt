@@ -2,8 +2,9 @@
 ghost use Rattle.std.specs.Prelude.{◌≡◌, map};
 ghost use Rattle.bt_grammar.specs.Words.{class_in, mark_class, mark_of, text_in, word_class, word_of};
 
-use crate::class::{Class, Gathering};
+use crate::class::Class;
 use bt_ast::expr::Builtin;
+use bt_ast::gathering::Gathering;
 use bt_core::operator::BinOp;
 
 /// The words with their classes.

@@ -2,11 +2,6 @@
 use Rattle.std.proofs.Common.{◌≡◌, ◌≢◌, ℕ, zero, suc, cond, pos, ◌&&◌, eq-eqb, rules, ◌+◌, ◌<◌, ◌≤◌, Bool, true, false, List, [], ◌∷◌, ◌++◌, map, length, All, Option, Some, None, slice_get, slice_index, get_or, refl, sym, ap, ◌∙◌, subst, arith, append_assoc, append-nil}
 use Rattle.std.specs.Prelude.{IsTrue, int_lt, int_le, nat_le, ◌<ℤ◌, ◌≤ℤ◌}
 use Rattle.std.proofs.lemmas.Bool.{and_parts, leb-true}
-use Rattle.bt_core.specs.declared.limits.TheConstants.{LHIST_BUCKETS}
-use Rattle.bt_core.specs.declared.map.AggKind.{AggKind}
-use Rattle.bt_core.specs.declared.map.AggKind.TheVariants as agg
-use Rattle.bt_core.specs.declared.map.MapKind.{MapKind}
-use Rattle.bt_core.specs.declared.map.MapKind.TheVariants.{Ints, Strs, Aggs}
 use Rattle.std.specs.List.{AllByRecursion, filter, list_all}
 use Rattle.std.proofs.lemmas.List.{length-map}
 use Rattle.std.proofs.lemmas.List.Elements.{All-from_recursion, recursion_from_All, filter-append}
@@ -24,14 +19,15 @@ use Rattle.bt_core.specs.declared.step.Op.{Op}
 use Rattle.bt_core.specs.declared.step.Reply.{Reply}
 use Rattle.bt_core.specs.declared.step.Step.{Step}
 use Rattle.bt_core.specs.Interaction.{Call, Interaction, Ended, Asks, Runs, and_then, call_of}
-use Rattle.bt_core.specs.Kinds.{IsFineDecl, IsFineKind, IsFineMapKind, steps_between}
+use Rattle.bt_core.specs.Kinds.{IsFineDecl}
 use Rattle.bt_core.specs.Ports.{Setting, CanStep, IsReplyOf}
 use Rattle.bt_core.specs.Steps.{is_of, of_actor, is_on, on_object, operation, operations, RepliesFollow}
 use Rattle.bt_core.proofs.StepLists.{is_same_object-true}
 use Rattle.rec_format.specs.declared.recording.Recording.{Recording}
 use Rattle.typed_tree.specs.declared.body.TypedBody.{TypedBody}
 use Rattle.typed_tree.specs.declared.script.Typed.{Typed}
-use Rattle.typed_tree.specs.Scope.{is_fine_decl, is_fine_kind, is_fine_agg}
+use Rattle.typed_tree.specs.Scope.{is_fine_decl}
+use Rattle.typed_tree.proofs.Same.{decl_fine}
 use Rattle.agg_core.specs.Answers.{answer}
 use Rattle.agg_core.proofs.KindLaws.{answer-kind}
 use Rattle.map_printer.specs.Fits.{IsReadReply, IsRowOf}
@@ -137,34 +133,11 @@ size_at (x ∷ xs) zero b e = ap (λ (y : TypedBody). least_length y.layout) (sa
     same x y q = cc
 size_at (x ∷ xs) (suc i) b e = size_at xs i b e
 
-fine_agg : (k : AggKind) → is_fine_agg k ≡ true → IsFineKind k
-fine_agg agg.Count h = tt
-fine_agg agg.Sum h = tt
-fine_agg agg.Min h = tt
-fine_agg agg.Max h = tt
-fine_agg agg.Avg h = tt
-fine_agg agg.Hist h = tt
-fine_agg (agg.Lhist min max step) h =
-    let one = and_parts (int_lt min max && int_le (pos 1) step) (nat_le (steps_between min max step) LHIST_BUCKETS) h in
-    let two = and_parts (int_lt min max) (int_le (pos 1) step) one.0 in
-    let few = one.1 in record { above = above two.0; wide = wide two.1; few = leb-true (steps_between min max step) LHIST_BUCKETS few }
-  where
-    above : int_lt min max ≡ true → min <ℤ max
-    above q = search rules
-
-    wide : int_le (pos 1) step ≡ true → pos 1 ≤ℤ step
-    wide q = search rules
-
-fine_kind : (k : MapKind) → is_fine_kind k ≡ true → IsFineMapKind k
-fine_kind Ints h = tt
-fine_kind Strs h = tt
-fine_kind (Aggs k) h = fine_agg k h
-
 pub all_fine : (decls : List MapDecl) → list_all is_fine_decl decls ≡ true → AllByRecursion IsFineDecl decls
 all_fine [] h = tt
 all_fine (d ∷ ds) h =
     let p = and_parts (is_fine_decl d) (list_all is_fine_decl ds) h in
-    (fine_kind d.kind (and_parts (is_fine_kind d.kind) _ p.0).0, all_fine ds p.1)
+    ((decl_fine d p.0).0, all_fine ds p.1)
 
 any_actor : (script : Typed) (attached : Attached) (r : Recording) (actor : ℕ) (object : ObjectId) (op : Op) → IsFineCall (setting_of script attached r actor) (IsItemOf script.formats script.maps) object op → IsOwnCall script attached r object op
 any_actor script attached r actor (Shared m n) op p = p

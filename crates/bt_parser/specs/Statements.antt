@@ -14,7 +14,7 @@ use Rattle.bt_ast.specs.declared.stmt.Stmt.{Stmt}
 use Rattle.bt_ast.specs.declared.stmt.StmtKind.{StmtKind}
 use Rattle.bt_ast.specs.declared.stmt.StmtKind.TheVariants as stmts
 use Rattle.bt_parser.specs.declared.agg.Bounds.{Bounds}
-use Rattle.bt_grammar.specs.declared.class.Gathering.{Gathering}
+use Rattle.bt_ast.specs.declared.gathering.Gathering.{Gathering}
 use Rattle.bt_grammar.specs.declared.class.Class.{Class}
 use Rattle.bt_grammar.specs.declared.class.Class.TheVariants.{IfWord, ElseWord, WhileWord, UnrollWord, CountWord, LhistWord, PrintfWord, PrintWord, ClearWord, ZeroWord, DeleteWord, ExitWord, BreakWord, ContinueWord, MapName, VarName, TextLiteral, OpenBrace, CloseBrace, OpenParen, CloseParen, OpenBracket, CloseBracket, Comma, Semicolon, Assign, Increment, Decrement}
 use Rattle.bt_parser.specs.declared.cursor.Named.{Named}
@@ -23,7 +23,7 @@ use Rattle.bt_grammar.specs.Tables.{is_call, is_control, fst_of}
 use Rattle.bt_grammar.specs.Form.{Item, Expression, Keyed, Assignable, Int, Aggregation, Update, AfterMap, AfterVar, Printf, Print, Delete, CallOrJump, Simple, Arm, Tail, Control, Body, Braced, Form, Tok, Empty, Map, Then, Or, Until}
 use Rattle.bt_grammar.specs.Reading.{Out, Done, Refused, read, reads, starts, rest_of}
 use Rattle.bt_grammar.specs.Rules.{mark, ends, optional, in_parens, after_comma, empty_parens, value, a_number}
-use Rattle.bt_grammar.specs.Trees.{pair, negated, count_call, gather_call, gathered, lhist_call, map_ref, step_after, place_of_map, place_of_target, stmt, top_and_div}
+use Rattle.bt_grammar.specs.Trees.{pair, negated, count_call, gather_call, lhist_call, map_ref, step_after, place_of_map, place_of_target, stmt, top_and_div}
 use Rattle.bt_grammar.specs.Form.{Call}
 use Rattle.bt_parser.specs.Mirror.{◌>>=◌, class_at, front_place, when, named_form, var_of, values_on, values_behind, step_of}
 
@@ -55,7 +55,7 @@ gathering_at (t ∷ r) = gathering_of t.class
 
 abbrev pub gather_by : Option Gathering → List Item → Out (AggCall × Place)
 gather_by None ts = Refused ts
-gather_by (Some g) ts = read reads (in_parens value) (rest_of ts) >>= λ x r. Done (gathered g x, front_place ts) r
+gather_by (Some g) ts = read reads (in_parens value) (rest_of ts) >>= λ x r. Done (aggs.Gather g x, front_place ts) r
 
 abbrev pub lhist_form : Form (AggCall × Place)
 lhist_form = Then lhist_call (mark LhistWord) (in_parens (Then pair (Until value Comma) (Then pair (Until (Call Int) Comma) (Then pair (Until (Call Int) Comma) (Call Int)))))

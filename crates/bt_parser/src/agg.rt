@@ -6,7 +6,6 @@ ghost use Rattle.bt_grammar.specs.Reading.{read, reads};
 ghost use Rattle.bt_grammar.specs.Rules.{in_parens, value};
 ghost use Rattle.bt_parser.specs.Statements.{bounds_by, count_form, gather_form, lhist_form};
 ghost use Rattle.bt_grammar.specs.Tokens.{items};
-ghost use Rattle.bt_grammar.specs.Trees.{gathered};
 
 use crate::cursor::Cursor;
 use crate::expr::expression;
@@ -15,7 +14,7 @@ use bt_ast::expr::Expr;
 use bt_ast::stmt::AggCall;
 use bt_core::operator::BinOp;
 use bt_core::place::Place;
-use bt_grammar::class::{Class, Gathering};
+use bt_grammar::class::Class;
 use std::alloc::Global;
 
 /// A number, with a `-` before it or none.
@@ -54,30 +53,17 @@ fn count(tokens: &mut Cursor<'_>) -> Result<(AggCall, Place), Fault>
     Ok((AggCall::Count, place))
 }
 
-/// The map function of one number that a word names.
-fn gathered(gathering: Gathering, value: Expr) -> AggCall
-    ensures { result ≡ gathered gathering value }
-{
-    match gathering {
-        Gathering::Sum => AggCall::Sum(value),
-        Gathering::Min => AggCall::Min(value),
-        Gathering::Max => AggCall::Max(value),
-        Gathering::Avg => AggCall::Avg(value),
-        Gathering::Hist => AggCall::Hist(value),
-    }
-}
-
 #[tactic(auto, using(crate::proofs::Stated::gather_is))]
 fn gather(alloc: Global, tokens: &mut Cursor<'_>) -> Result<(AggCall, Place), Fault>
     ensures reads { Reads (read reads gather_form (items tokens.old)) result tokens.new }
     ensures shorter { OnOk result (length tokens.new < length tokens.old) }
 {
-    let Some(gathering) = tokens.gathering() else {
+    let Some(function) = tokens.gathering() else {
         return Err(Fault::Syntax);
     };
     let place = tokens.skip();
-    let value = in_parens(alloc, tokens)?;
-    Ok((gathered(gathering, value), place))
+    let number = in_parens(alloc, tokens)?;
+    Ok((AggCall::Gather { function, number }, place))
 }
 
 /// The bounds and the step of a linear histogram.

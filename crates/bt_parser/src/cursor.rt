@@ -21,12 +21,13 @@ use crate::tables::{
     builtin_of, gathering_of, gathers, is_call, is_control, is_point, prefix_of, tier_of, update_of,
 };
 use bt_ast::expr::Builtin;
+use bt_ast::gathering::Gathering;
 use bt_ast::probe::Point;
 use bt_core::items::Items;
 use bt_core::memory::{Memory, TryCopy};
 use bt_core::operator::{BinOp, UnOp};
 use bt_core::place::Place;
-use bt_grammar::class::{Class, Gathering, Tier};
+use bt_grammar::class::{Class, Tier};
 use bt_lexer::token::{Token, TokenKind};
 use std::alloc::Global;
 use std::marker::Model;

@@ -5,8 +5,9 @@ ghost use Rattle.bt_parser.specs.Mirror.{tier_rank, tighter};
 ghost use Rattle.bt_grammar.specs.Tables.{is_call, is_control};
 
 use bt_ast::expr::Builtin;
+use bt_ast::gathering::Gathering;
 use bt_core::operator::{BinOp, UnOp};
-use bt_grammar::class::{Class, Gathering, Tier};
+use bt_grammar::class::{Class, Tier};
 
 /// The builtin variable that a word names.
 pub fn builtin_of(class: Class) -> Option<Builtin>

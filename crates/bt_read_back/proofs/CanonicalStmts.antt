@@ -19,15 +19,15 @@ use Rattle.bt_ast.specs.declared.stmt.StmtKind.TheVariants as stmts
 use Rattle.ast_text.specs.Words.{token, number_text, assign_mark}
 use Rattle.ast_text.specs.Exprs.{expr_text, target_text, map_text, marked, key_text}
 use Rattle.ast_text.specs.Stmts.{call_text, simple, agg_text, optional_text, kind_text}
-use Rattle.bt_grammar.specs.declared.class.Gathering.{Gathering}
-use Rattle.bt_grammar.specs.declared.class.Gathering.TheVariants.{Sum}
+use Rattle.bt_ast.specs.declared.gathering.Gathering.{Gathering}
+use Rattle.bt_ast.specs.declared.gathering.Gathering.TheVariants.{Sum}
 use Rattle.bt_grammar.specs.declared.class.Class.{Class}
 use Rattle.bt_grammar.specs.declared.class.Class.TheVariants.{CountWord, LhistWord, PrintfWord, PrintWord, ClearWord, ZeroWord, DeleteWord, ExitWord, BreakWord, ContinueWord, ReturnWord, MapName, VarName, TextLiteral, Increment, OpenParen, CloseParen, OpenBracket, CloseBracket, Comma, Assign, GatherWord, UpdateMark}
 use Rattle.bt_grammar.specs.Classes.{is, is_update, update_of, is_step, gathers}
 use Rattle.bt_grammar.specs.Form.{Item, Part, Expression, Values, Keyed, Assignable, Int, Aggregation, Update, AfterMap, AfterVar, Printf, Print, Delete, CallOrJump, Simple, Call, Rel}
 use Rattle.bt_grammar.specs.Words.{word_of, mark_of}
 use Rattle.bt_grammar.specs.Tokens.{origin}
-use Rattle.bt_grammar.specs.Trees.{bytes_at, kind_bytes, snoc, place_of_map, var_ref, map_ref, step_before, step_after, stmt, gathered, gathering, count_call, gather_call, lhist_call, update_target, place_of_target, step_target, gather_map, set_map, on_map, set_var, on_var, map_stmt, var_stmt, step_stmt, printf_kind, print_kind, top_and_div, clear_kind, zero_kind, delete_all, delete_keyed, delete_key, on_item, exit_stmt, break_stmt, continue_stmt, return_stmt}
+use Rattle.bt_grammar.specs.Trees.{bytes_at, kind_bytes, snoc, place_of_map, var_ref, map_ref, step_before, step_after, stmt, gathering, count_call, gather_call, lhist_call, update_target, place_of_target, step_target, gather_map, set_map, on_map, set_var, on_var, map_stmt, var_stmt, step_stmt, printf_kind, print_kind, top_and_div, clear_kind, zero_kind, delete_all, delete_keyed, delete_key, on_item, exit_stmt, break_stmt, continue_stmt, return_stmt}
 use Rattle.bt_grammar.specs.Rules.{rule, empty_parens}
 use Rattle.bt_read_back.specs.Bare.{bare_expr, bare_target, bare_map, bare_agg, bare_statement, bare_stmt}
 use Rattle.bt_grammar.proofs.AllClasses.{implies1}
@@ -46,19 +46,16 @@ count_case : (p q p' q' : Place) (x y : List ℕ) → Marked (token (codes "coun
 count_case p q p' q' x y ex (z, ey, ez) = (joined_by ex (ey ∙ ap (λ (l : List ℕ). token (codes "(") ++ l) ez), refl)
 
 gather_lexeme : (c : Class) → gathers c ≡ true → (e : Expr) → lexeme (kind_of c) ++ (token (codes "(") ++ (expr_text e ++ token (codes ")"))) ≡ agg_text (gathering c e)
+unfolding word_of
 gather_lexeme (GatherWord g) h e = by g
   where
-    by : (x : Gathering) → lexeme (kind_of (GatherWord x)) ++ (token (codes "(") ++ (expr_text e ++ token (codes ")"))) ≡ agg_text (gathered x e)
+    by : (x : Gathering) → lexeme (kind_of (GatherWord x)) ++ (token (codes "(") ++ (expr_text e ++ token (codes ")"))) ≡ agg_text (aggs.Gather x e)
     by Sum = refl
     by _ = refl
 gather_lexeme _ h e = absurd (false≢true h)
 
-gathered_bared : (g : Gathering) (e : Expr) → bare_agg (gathered g e) ≡ gathered g (bare_expr e)
-gathered_bared Sum e = refl
-gathered_bared _ e = refl
-
 gather_bared : (c : Class) (e : Expr) → bare_agg (gathering c e) ≡ gathering c (bare_expr e)
-gather_bared (GatherWord g) e = gathered_bared g e
+gather_bared (GatherWord g) e = refl
 gather_bared _ e = refl
 
 gather_case : (t u : Item) (e f : Expr) (x y : List ℕ) → Fixed gathers t x u → Parens IsExpr e y f → IsAgg (gather_call t e) (x ++ y) (gather_call u f)

@@ -62,11 +62,7 @@ bare_map = fold-MapRef ExprKind Target Expr IncDec MapRef kind_layer target_laye
 
 abbrev pub bare_agg : AggCall → AggCall
 bare_agg aggs.Count = aggs.Count
-bare_agg (aggs.Sum e) = aggs.Sum (bare_expr e)
-bare_agg (aggs.Min e) = aggs.Min (bare_expr e)
-bare_agg (aggs.Max e) = aggs.Max (bare_expr e)
-bare_agg (aggs.Avg e) = aggs.Avg (bare_expr e)
-bare_agg (aggs.Hist e) = aggs.Hist (bare_expr e)
+bare_agg (aggs.Gather function e) = aggs.Gather function (bare_expr e)
 bare_agg (aggs.Lhist e least greatest step) = aggs.Lhist (bare_expr e) least greatest step
 
 -- an arm, over a block without places

@@ -1,9 +1,8 @@
 -- What a call answers, from what its order comes to and from how that is written.
-use Rattle.std.proofs.Common.{◌≡◌, ◌≢◌, ℕ, ◌⊎◌, List, [], ◌∷◌, refl, sym, subst, inl, inr}
-use Rattle.std.specs.Prelude.{◌↔◌, Bool, false, Option, Some, None, Ok, Err, IfSome, IsSome, unwrap_or}
-use Rattle.std.specs.Io.KnownBytes.{Appends, Keeps}
+use Rattle.std.proofs.Common.{◌≡◌, ℕ, ◌⊎◌, List, [], ◌∷◌, refl, sym, subst, inl, inr}
+use Rattle.std.specs.Prelude.{◌↔◌, Bool, false, Option, Some, None, Ok, IfSome, IsSome, unwrap_or}
+use Rattle.std.specs.Io.KnownBytes.{Keeps}
 use Rattle.std.proofs.lemmas.Bool.{false≢true}
-use Rattle.bt_io.specs.Taken.{AppendsPart}
 use Rattle.bt_words.specs.declared.order.Order.{Order}
 use Rattle.bt_words.specs.declared.order.Order.TheVariants.{Run, Check, Code, Gen, Big}
 use Rattle.run_base.specs.declared.job.Job.{Job}
@@ -11,29 +10,20 @@ use Rattle.run_base.specs.declared.job.Work.{Work}
 use Rattle.bt_top.specs.declared.outcome.Outcome.{Outcome}
 use Rattle.bt_top.specs.declared.report.Report.{Report}
 use Rattle.bt_top.specs.declared.refusal.Operand.{Operand}
-use Rattle.bt_top.specs.declared.refusal.Operand.TheVariants as operand
 use Rattle.bt_top.specs.declared.refusal.Refusal.{Refusal}
-use Rattle.bt_top.specs.declared.refusal.Refusal.TheVariants.{Usage, Script, Recording, ReadFault, WriteFault, Memory}
-use Rattle.bt_top.specs.Doing.{ComesOfFiles}
-use Rattle.bt_top.specs.Due.{IsDue, IsFinding, IsTooLong}
+use Rattle.bt_top.specs.declared.refusal.Refusal.TheVariants.{ReadFault, WriteFault, Memory}
+use Rattle.bt_top.specs.Doing.{ComesOfFiles, Wrote}
+use Rattle.bt_top.specs.Due.{IsDue}
 use Rattle.bt_top.specs.Jobs.{IsJobFor}
 use Rattle.bt_top.specs.Lines.{SinkUse, SinkFailed}
-use Rattle.bt_top.specs.Orders.{NamedFile, files_of}
+use Rattle.bt_top.specs.Orders.{OperandFile, files_of}
 use Rattle.bt_top.specs.Outcomes.{ComesTo, IsOutcomeOfRun, bytes_written, check_outcome, code_outcome, gen_outcome}
-use Rattle.bt_top.specs.Refusals.{status_of, too_long}
+use Rattle.bt_top.specs.Refusals.{status_of}
 use Rattle.bt_top.specs.Serve.{ShelfUse, ShelfFailed, AreContentsOf, MayCome, MayStandFor, ComesIfDue, OnTold, IsReached, ReadFailed, IsComplete}
-use Rattle.bt_top.specs.Serve.{IsWritten, IsDone, IsDoneUnlessRefused, AnswersOrder, AnswersWords, IsRunOrder, HasWork}
+use Rattle.bt_top.specs.Serve.{IsWritten, IsDone, AnswersOrder, AnswersWords, IsRunOrder}
 use Rattle.bt_top.proofs.Due.{job_accepted}
 use Rattle.bt_top.proofs.Performing.{on_told-map}
 use Rattle.bt_top.proofs.Reading.{held_or}
-
--- ---- how a write ends
-
--- the bytes were written, or a part of them where the count of faults rose
-abbrev pub Wrote : SinkUse → Option Refusal → List ℕ → Type 0
-Wrote out refusal bytes =
-    ((refusal ≡ None) × Appends out.taken out.taken_after bytes)
-    ⊎ ((refusal ≡ Some WriteFault) × SinkFailed out × AppendsPart out.taken out.taken_after bytes)
 
 -- ---- what was done
 
@@ -41,7 +31,7 @@ abbrev pub report_of : Option Refusal → Outcome → Report
 report_of refusal outcome = record { status = status_of refusal; refusal = refusal; work = outcome.work; programs = outcome.programs }
 
 -- of files that ask for a job nothing is refused
-job_is_due : (files : List NamedFile) (contents : List (List ℕ)) (job : Job) → IsJobFor files contents job → IsDue files contents None
+job_is_due : (files : List OperandFile) (contents : List (List ℕ)) (job : Job) → IsJobFor files contents job → IsDue files contents None
 job_is_due files [] job is = absurd is.of
 job_is_due files (text ∷ []) job is = absurd is.of
 job_is_due files (text ∷ bytes ∷ more) job is = inr (is.short, job_accepted text bytes job is.of)
@@ -93,10 +83,6 @@ module _ (order : Order) (seen : ShelfUse) (out : SinkUse) (outcome : Outcome) (
     done = is_done (Some WriteFault) e.2;
   })
 
-  pub done_work : (refusal : Option Refusal) → Wrote out refusal (bytes_written outcome) → IsSome outcome.work ↔ HasWork refusal (Some order)
-  done_work refusal (inl e) = subst (λ (r : Option Refusal). IsSome outcome.work ↔ HasWork r (Some order)) (sym e.0) (runs order performs.reads.contents outcome performs.reads.value)
-  done_work refusal (inr e) = subst (λ (r : Option Refusal). IsSome outcome.work ↔ HasWork r (Some order)) (sym e.0) (runs order performs.reads.contents outcome performs.reads.value)
-
   -- what came of the reads stands, also where the write fails
   pub done_exact : (refusal : Option Refusal) → Wrote out refusal (bytes_written outcome) → OnTold seen.held (files_of order) (ComesIfDue (files_of order) refusal)
   done_exact refusal (inl e) = subst (λ (r : Option Refusal). OnTold seen.held (files_of order) (ComesIfDue (files_of order) r)) (sym e.0) performs.exact
@@ -117,62 +103,6 @@ pub kept : (told : Option (List ℕ)) → Keeps told told
 kept None = tt
 kept (Some bytes) = refl
 
--- before the write there is no fault of it
-may_later : (files : List NamedFile) (contents : List (List ℕ)) (read_failed write_failed : Type 0) (refusal : Refusal)
-    → MayCome files contents read_failed ⊥ (Some refusal) → MayCome files contents read_failed write_failed (Some refusal)
-may_later files contents read_failed write_failed Usage may = may
-may_later files contents read_failed write_failed (Script why) may = may
-may_later files contents read_failed write_failed (Recording why) may = may
-may_later files contents read_failed write_failed (ReadFault file) may = may
-may_later files contents read_failed write_failed WriteFault may = absurd may.0
-may_later files contents read_failed write_failed Memory may = tt
-
-nothing_done : (order : Order) (contents : List (List ℕ)) (out : SinkUse) (refusal : Refusal) (read_failed : Type 0)
-    → MayCome (files_of order) contents read_failed ⊥ (Some refusal) → Keeps out.taken out.taken_after
-    → IsDoneUnlessRefused (Some refusal) order contents out (refused_report refusal)
-nothing_done order contents out WriteFault read_failed may keeps = absurd may.0
-nothing_done order contents out refusal read_failed may keeps = record { work = refl; programs = refl; written = keeps }
-
--- what does not come of files is told of none
-no_usage : (files : List NamedFile) (contents : List (List ℕ)) → IsDue files contents (Some Usage) → ⊥
-no_usage files contents (inl long) = too files contents long
-  where
-    other : (file : Operand) → Some Usage ≡ Some (too_long file) → ⊥
-    other operand.Script e = cc
-    other operand.Recording e = cc
-
-    too : (files : List NamedFile) (contents : List (List ℕ)) → IsTooLong files contents (Some Usage) → ⊥
-    too [] contents long = long
-    too (file ∷ files) [] long = long
-    too (file ∷ files) (bytes ∷ contents) (inl e) = other file.operand e.1
-    too (file ∷ files) (bytes ∷ contents) (inr e) = too files contents e.1
-no_usage files contents (inr found) = none contents found.1
-  where
-    none : (contents : List (List ℕ)) → IsFinding contents (Some Usage) → ⊥
-    none [] is = cc
-    none (text ∷ []) is = cc
-    none (text ∷ bytes ∷ more) is = is
-
-module _ (order : Order) (seen : ShelfUse) (out : SinkUse) (refusal : Refusal) (performs : ComesOfFiles (files_of order) (ComesTo order) seen (Err refusal)) where
-  pub refused_answer : Keeps out.taken out.taken_after → AnswersOrder order seen out (refused_report refusal)
-  refused_answer keeps = record {
-    contents = performs.reads.contents;
-    held = performs.reads.held;
-    came = may_later (files_of order) performs.reads.contents (ShelfFailed seen) (SinkFailed out) refusal performs.reads.came;
-    done = nothing_done order performs.reads.contents out refusal (ShelfFailed seen) performs.reads.came keeps;
-  }
-
-  pub refused_work : HasWork (Some refusal) (Some order) → ⊥
-  refused_work has = by refusal performs.reads.came has
-    where
-      by : (refusal : Refusal) → MayCome (files_of order) performs.reads.contents (ShelfFailed seen) ⊥ (Some refusal) → HasWork (Some refusal) (Some order) → ⊥
-      by WriteFault may has = may.0
-      by refusal may has = has
-
-  pub refused_known : Some refusal ≢ Some Usage
-  refused_known e = no_usage (files_of order) performs.reads.contents
-      (subst (λ (r : Option Refusal). MayCome (files_of order) performs.reads.contents (ShelfFailed seen) ⊥ r) e performs.reads.came)
-
 -- ---- the whole call
 
 -- accepted files are answered with success where nothing failed, or memory ran out
@@ -184,7 +114,7 @@ is_complete order seen out report status answers exact =
     (IsComplete (files_of order) (ReadFailed (files_of order) seen) (SinkFailed out) report.status)
     (λ contents comes due no_read no_write. ends report.refusal status answers.came no_read no_write (comes None due)) exact
   where
-    reached : (files : List NamedFile) (contents : List (List ℕ)) (file : Operand) → ShelfFailed seen → IsReached files contents file → ReadFailed files seen
+    reached : (files : List OperandFile) (contents : List (List ℕ)) (file : Operand) → ShelfFailed seen → IsReached files contents file → ReadFailed files seen
     reached [] contents file failed is = is
     reached (first ∷ files) contents file failed is = failed
 
@@ -200,11 +130,11 @@ is_complete order seen out report status answers exact =
 
 -- ---- want of memory at the words, whatever they ask for
 
-told_or : (held : List ℕ → Option (List ℕ)) → List NamedFile → List (List ℕ)
+told_or : (held : List ℕ → Option (List ℕ)) → List OperandFile → List (List ℕ)
 told_or held [] = []
 told_or held (file ∷ files) = unwrap_or (held file.name) [] ∷ told_or held files
 
-are_told : (held : List ℕ → Option (List ℕ)) (files : List NamedFile) → AreContentsOf held files (told_or held files)
+are_told : (held : List ℕ → Option (List ℕ)) (files : List OperandFile) → AreContentsOf held files (told_or held files)
 unfolding told_or
 are_told held [] = tt
 are_told held (file ∷ files) = (held_or _ _, are_told held files)

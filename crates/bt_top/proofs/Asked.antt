@@ -12,7 +12,7 @@ use Rattle.rec_format.specs.Recordings.{IsValidRecording}
 use Rattle.run_base.specs.declared.job.Job.{Job}
 use Rattle.typed_tree.specs.declared.script.Typed.{Typed}
 use Rattle.bt_top.specs.Jobs.{AsksFor, IsBigJob, IsJobFor, IsJobOf}
-use Rattle.bt_top.specs.Orders.{NamedFile}
+use Rattle.bt_top.specs.Orders.{OperandFile}
 
 pub record IsAskedFor (job : Job) : Type 0 where
   pub text : List ℕ
@@ -23,7 +23,7 @@ pub record IsAskedFor (job : Job) : Type 0 where
 pub of_both : (text bytes : List ℕ) (job : Job) → IsJobOf text bytes job → IsAskedFor job
 of_both text bytes job of = record { text = text; valid = of.is.valid; asks = of.asks }
 
-pub of_files : (files : List NamedFile) (contents : List (List ℕ)) (job : Job) → IsJobFor files contents job → IsAskedFor job
+pub of_files : (files : List OperandFile) (contents : List (List ℕ)) (job : Job) → IsJobFor files contents job → IsAskedFor job
 of_files files [] job is = absurd is.of
 of_files files (text ∷ []) job is = absurd is.of
 of_files files (text ∷ bytes ∷ more) job is = of_both text bytes job is.of

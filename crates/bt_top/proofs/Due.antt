@@ -18,7 +18,7 @@ use Rattle.bt_top.specs.declared.refusal.RecordingRefusal.TheVariants as recordi
 use Rattle.bt_top.specs.declared.refusal.Refusal.{Refusal}
 use Rattle.bt_top.specs.declared.refusal.Refusal.TheVariants.{Script, Recording}
 use Rattle.bt_top.specs.Doing.{IsExact, IsFaultRefusal, IsScriptRefusal, refusal_in}
-use Rattle.bt_top.specs.Due.{IsRecording, IsAccepted, IsFirstRefusal, IsJudged}
+use Rattle.bt_top.specs.Due.{IsRecording, AreAccepted, IsFirstRefusal, IsJudged}
 use Rattle.bt_top.specs.Jobs.{AsksFor, IsJobOf}
 use Rattle.bt_top.specs.Refusals.{recording_refusal}
 use Rattle.bt_top.specs.Script.{IsScriptFault}
@@ -59,7 +59,7 @@ one_fault text bytes (Script (script.Fault w1 p1)) other laws a b = absurd b
 one_fault text bytes one other laws a b = absurd a
 
 -- what is accepted has no fault
-no_fault : (text bytes : List ℕ) (refusal : Refusal) → AreLaws text bytes → IsFirstRefusal text bytes refusal → IsAccepted text bytes → ⊥
+no_fault : (text bytes : List ℕ) (refusal : Refusal) → AreLaws text bytes → IsFirstRefusal text bytes refusal → AreAccepted text bytes → ⊥
 no_fault text bytes (Recording (recording.Fault error)) laws a b = valid text bytes b.says error laws b.is a
 no_fault text bytes (Script (script.Fault wrong place)) laws a b =
     no_script_fault text b.says _ b.tree laws.script
@@ -100,7 +100,7 @@ recording_is_fault text bytes fault.Memory found = inl refl
 recording_is_fault text bytes error found = inr (found (λ e. cc))
 
 -- what asks for a job is accepted
-pub job_accepted : (text bytes : List ℕ) (job : Job) → IsJobOf text bytes job → IsAccepted text bytes
+pub job_accepted : (text bytes : List ℕ) (job : Job) → IsJobOf text bytes job → AreAccepted text bytes
 job_accepted text bytes job of = record { says = job.recording; tree = of.asks.tree; is = of.is; script = of.asks.script }
 
 -- what is due comes, unless memory runs out

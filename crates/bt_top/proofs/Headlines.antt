@@ -27,6 +27,7 @@ use Rattle.typed_tree.specs.declared.script.Typed.{Typed}
 use Rattle.bt_top.specs.declared.outcome.Outcome.{Outcome}
 use Rattle.bt_top.specs.declared.refusal.Refusal.{Refusal}
 use Rattle.bt_top.specs.declared.refusal.Refusal.TheVariants.{Usage, Script, Recording, ReadFault, WriteFault, Memory}
+use Rattle.bt_top.specs.Doing.{Wrote}
 use Rattle.bt_top.specs.Headline.{Headline, PrintsItsSteps, PrintsItsTotals, PrintsOfFiles}
 use Rattle.bt_top.specs.Jobs.{IsBigJob, meaning_of}
 use Rattle.bt_top.specs.Lines.{SinkUse}
@@ -34,7 +35,7 @@ use Rattle.bt_top.specs.Orders.{files_of}
 use Rattle.bt_top.specs.Outcomes.{ComesTo, IsOutcomeOfRun, bytes_written, stats_line, summary_line}
 use Rattle.bt_top.specs.Refusals.{status_of}
 use Rattle.bt_top.specs.Serve.{ShelfUse, AreContentsOf}
-use Rattle.bt_top.proofs.Answering.{Wrote, refused_report, report_of}
+use Rattle.bt_top.proofs.Answering.{refused_report, report_of}
 use Rattle.bt_top.proofs.Asked.{can_run, of_files, of_numbers}
 use Rattle.bt_top.proofs.Making.{attached_over, typed_over}
 

@@ -1,17 +1,16 @@
 -- What an order comes to, from what comes of its files.
-use Rattle.std.proofs.Common.{◌≡◌, ℕ, List, [], ◌∷◌, refl, sym, ap, subst, inl, inr}
-use Rattle.std.specs.Prelude.{Bool, Option, Some, None, Result, Ok, Err, IfOk, IfErr, IfSome}
+use Rattle.std.proofs.Common.{◌≡◌, ℕ, List, [], ◌∷◌, refl, sym, ap, inl, inr}
+use Rattle.std.specs.Prelude.{Bool, Option, Some, None, Ok, IfSome}
 use Rattle.bpf_codegen.specs.declared.generate.Program.{Program}
 use Rattle.rec_format.specs.declared.recording.Recording.{Recording as Recorded}
 use Rattle.rec_format.specs.Recordings.{recording_bytes}
 use Rattle.run_base.specs.declared.job.Job.{Job}
 use Rattle.run_base.specs.declared.job.Work.{Work}
 use Rattle.bt_top.specs.declared.outcome.Outcome.{Outcome}
-use Rattle.bt_top.specs.declared.refusal.Refusal.{Refusal}
 use Rattle.bt_top.specs.declared.refusal.Refusal.TheVariants.{Memory}
 use Rattle.bt_top.specs.Doing.{ComesOfFiles}
 use Rattle.bt_top.specs.Jobs.{IsWorkOf}
-use Rattle.bt_top.specs.Orders.{NamedFile, names_of}
+use Rattle.bt_top.specs.Orders.{OperandFile, names_of}
 use Rattle.bt_top.specs.Outcomes.{IsOutcomeOfRun, gen_outcome, run_outcome}
 use Rattle.bt_top.specs.Serve.{ShelfUse, AsksExactly, AsksFirst, ComesIfDue, IsComplete, OnTold}
 
@@ -29,15 +28,11 @@ made_with says programs rest none spelled = λ i. record { work = None; programs
 
 -- ---- of all files alike
 
-pub nothing_asked : (files : List NamedFile) (names : List (List ℕ)) → AsksFirst names names (names_of files)
+pub nothing_asked : (files : List OperandFile) (names : List (List ℕ)) → AsksFirst names names (names_of files)
 nothing_asked [] names = refl
 nothing_asked (file ∷ files) names = inl refl
 
-pub asked_unless : (files : List NamedFile) (seen : ShelfUse) → AsksExactly files None seen → AsksExactly files (Some Memory) seen
-asked_unless [] seen same = same
-asked_unless (file ∷ files) seen all = tt
-
-pub nothing_asked_exactly : (files : List NamedFile) (seen : ShelfUse) → seen.asked_after ≡ seen.asked → AsksExactly files (Some Memory) seen
+pub nothing_asked_exactly : (files : List OperandFile) (seen : ShelfUse) → seen.asked_after ≡ seen.asked → AsksExactly files (Some Memory) seen
 nothing_asked_exactly [] seen same = same
 nothing_asked_exactly (file ∷ files) seen same = tt
 
@@ -50,30 +45,30 @@ if_told-map : (o : Option (List ℕ)) (Q R : List ℕ → Type 0) → ((bytes : 
 if_told-map None Q R f q = tt
 if_told-map (Some bytes) Q R f q = f bytes q
 
-on_told : (held : List ℕ → Option (List ℕ)) (files : List NamedFile) (P : List (List ℕ) → Type 0) → ((contents : List (List ℕ)) → P contents) → OnTold held files P
+on_told : (held : List ℕ → Option (List ℕ)) (files : List OperandFile) (P : List (List ℕ) → Type 0) → ((contents : List (List ℕ)) → P contents) → OnTold held files P
 on_told held [] P p = p []
 on_told held (file ∷ files) P p =
     if_told (held file.name) (λ bytes. OnTold held files (λ contents. P (bytes ∷ contents)))
     (λ bytes. on_told held files (λ contents. P (bytes ∷ contents)) (λ contents. p (bytes ∷ contents)))
 
-pub on_told-map : (held : List ℕ → Option (List ℕ)) (files : List NamedFile) (P Q : List (List ℕ) → Type 0) → ((contents : List (List ℕ)) → P contents → Q contents)
+pub on_told-map : (held : List ℕ → Option (List ℕ)) (files : List OperandFile) (P Q : List (List ℕ) → Type 0) → ((contents : List (List ℕ)) → P contents → Q contents)
     → OnTold held files P → OnTold held files Q
 on_told-map held [] P Q f p = f [] p
 on_told-map held (file ∷ files) P Q f p =
     if_told-map (held file.name) (λ bytes. OnTold held files (λ contents. P (bytes ∷ contents))) (λ bytes. OnTold held files (λ contents. Q (bytes ∷ contents)))
     (λ bytes. on_told-map held files (λ contents. P (bytes ∷ contents)) (λ contents. Q (bytes ∷ contents)) (λ contents. f (bytes ∷ contents))) p
 
-pub memory_exact : (held : List ℕ → Option (List ℕ)) (files : List NamedFile) → OnTold held files (ComesIfDue files (Some Memory))
+pub memory_exact : (held : List ℕ → Option (List ℕ)) (files : List OperandFile) → OnTold held files (ComesIfDue files (Some Memory))
 memory_exact held files = on_told held files (ComesIfDue files (Some Memory)) (λ contents due is. inr tt)
 
-pub memory_complete : (held : List ℕ → Option (List ℕ)) (files : List NamedFile) (read_failed write_failed : Type 0)
+pub memory_complete : (held : List ℕ → Option (List ℕ)) (files : List OperandFile) (read_failed write_failed : Type 0)
     → OnTold held files (IsComplete files read_failed write_failed 6)
 memory_complete held files read_failed write_failed =
     on_told held files (IsComplete files read_failed write_failed 6) (λ contents due no_read no_write. inr refl)
 
 -- ---- of an order on files
 
-module _ {A B : Type 0} (files : List NamedFile) (Comes : List (List ℕ) → A → Type 0) (Other : List (List ℕ) → B → Type 0) (seen : ShelfUse) where
+module _ {A B : Type 0} (files : List OperandFile) (Comes : List (List ℕ) → A → Type 0) (Other : List (List ℕ) → B → Type 0) (seen : ShelfUse) where
   -- what is made of what they give
   pub goes_on : (a : A) (b : B) → ComesOfFiles files Comes seen (Ok a) → ((contents : List (List ℕ)) → Comes contents a → Other contents b)
       → ComesOfFiles files Other seen (Ok b)
@@ -82,24 +77,6 @@ module _ {A B : Type 0} (files : List NamedFile) (Comes : List (List ℕ) → A 
     asked = p.asked;
     asked_exactly = p.asked_exactly;
     exact = p.exact;
-  }
-
-  -- what refuses them
-  pub stops : (refusal : Refusal) → ComesOfFiles files Comes seen (Err refusal) → ComesOfFiles files Other seen (Err refusal)
-  stops refusal p = record {
-    reads = record { contents = p.reads.contents; held = p.reads.held; value = tt; came = p.reads.came };
-    asked = p.asked;
-    asked_exactly = p.asked_exactly;
-    exact = p.exact;
-  }
-
-  -- want of memory behind the reads
-  pub runs_out : (a : A) → ComesOfFiles files Comes seen (Ok a) → ComesOfFiles files Other seen (Err Memory)
-  runs_out a p = record {
-    reads = record { contents = p.reads.contents; held = p.reads.held; value = tt; came = tt };
-    asked = p.asked;
-    asked_exactly = asked_unless files seen p.asked_exactly;
-    exact = memory_exact seen.held files;
   }
 
 -- ---- of an order without files
@@ -115,15 +92,3 @@ module _ {B : Type 0} (Other : List (List ℕ) → B → Type 0) (seen : ShelfUs
       | inr e ↦ inl (sym e.1)
     ];
   }
-
-  pub not_made : ComesOfFiles [] Other seen (Err Memory)
-  not_made = record {
-    reads = record { contents = []; held = tt; value = tt; came = tt };
-    asked = same;
-    asked_exactly = same;
-    exact = λ due is. inr tt;
-  }
-
-  pub made_or_not : (answer : Result B Refusal) → IfOk answer (Other []) → IfErr answer (λ refusal. refusal ≡ Memory) → ComesOfFiles [] Other seen answer
-  made_or_not (Ok b) is memory = made b is
-  made_or_not (Err refusal) is memory = subst (λ (r : Refusal). ComesOfFiles [] Other seen (Err r)) (sym memory) not_made

@@ -27,7 +27,7 @@ use Rattle.bt_grammar.specs.declared.error.ParseError.{ParseError}
 use Rattle.bt_grammar.specs.declared.error.ParseError.TheVariants as parsing
 use Rattle.bt_grammar.specs.Form.{Item}
 use Rattle.bt_grammar.specs.Grammar.{IsTreeOf}
-use Rattle.bt_grammar.specs.Refusals.{IsAccepted as IsTree, IsRefusal}
+use Rattle.bt_grammar.specs.Refusals.{IsAccepted, IsRefusal}
 use Rattle.bt_grammar.specs.Tokens.{items}
 use Rattle.bt_top.specs.declared.refusal.ScriptFault.{ScriptFault}
 use Rattle.bt_top.specs.declared.refusal.ScriptFault.TheVariants.{BadCharacter, OpenString, OpenComment, NumberTooLarge, BadEscape, StringTooLong, Syntax}
@@ -58,7 +58,7 @@ pub record AreScriptLaws (text : List ℕ) : Type 0 where
   pub lexical_apart : (tokens : List Token) (fault : LexError) → IsTokensOf text tokens → IsFirstFault text fault → ⊥
   pub tree : (ts : List Item) (one other : Tree) → IsTreeOf ts one → IsTreeOf ts other → one ≡ other
   pub parse : (ts : List Item) (one other : ParseError) → IsRefusal ts one → IsRefusal ts other → one ≡ other
-  pub parse_apart : (ts : List Item) (tree : Tree) (fault : ParseError) → IsTree ts tree → IsRefusal ts fault → ⊥
+  pub parse_apart : (ts : List Item) (tree : Tree) (fault : ParseError) → IsAccepted ts tree → IsRefusal ts fault → ⊥
   pub sizes : (tree : Tree) (formats : List Format) (bodies : List BodyId) (one other : Typed) → IsTypedScript tree formats bodies one
       → IsTypedScript tree formats bodies other → first_size_fault 0 one.bodies ≡ first_size_fault 0 other.bodies
 
@@ -80,7 +80,7 @@ pub no_tree : (text : List ℕ) (refusal : Refusal) (tree : Tree) → AreScriptL
 no_tree text refusal tree laws (inl a) b = laws.lexical_apart b.tokens a.fault b.are a.first
 no_tree text refusal tree laws (inr a) b =
     let same = laws.tokens b.tokens a.tokens b.are a.are in
-    laws.parse_apart (items a.tokens) tree a.fault (subst (λ (ts : List Token). IsTree (items ts) tree) same b.is) a.first
+    laws.parse_apart (items a.tokens) tree a.fault (subst (λ (ts : List Token). IsAccepted (items ts) tree) same b.is) a.first
 
 -- a fault is told with its place
 pub is_told : (text : List ℕ) (refusal : Refusal) → IsTextFault text refusal → (f : ScriptFault) × (p : Place) × (refusal ≡ Script (Fault f p))

@@ -1,5 +1,7 @@
 -- What the steps of a call answer, between the words and the write. No public contract speaks of it.
 use Rattle.std.specs.Prelude.{◌≡◌, ℕ, ◌⊎◌, ◌≤◌, ◌<◌, ◌*◌, ◌%◌, List, length, Option, Some, None, Result, Ok, Err, IfOk, IfErr, slice_get}
+use Rattle.std.specs.Io.KnownBytes.{Appends}
+use Rattle.bt_io.specs.Taken.{AppendsPart}
 use Rattle.bpf_codegen.specs.declared.generate.Program.{Program}
 use Rattle.bt_core.specs.declared.limits.TheConstants.{CODE_SLOTS}
 use Rattle.bt_ast.specs.declared.attached.Attached.{Attached}
@@ -12,11 +14,12 @@ use Rattle.script_programs.specs.Programs.{KeepScript}
 use Rattle.script_programs.specs.Sizes.{first_size_fault}
 use Rattle.typed_tree.specs.declared.script.Typed.{Typed}
 use Rattle.bt_top.specs.declared.refusal.Refusal.{Refusal}
-use Rattle.bt_top.specs.declared.refusal.Refusal.TheVariants.{Script, Memory}
+use Rattle.bt_top.specs.declared.refusal.Refusal.TheVariants.{Script, WriteFault, Memory}
 use Rattle.bt_top.specs.declared.refusal.ScriptFault.{ScriptFault}
 use Rattle.bt_top.specs.declared.refusal.ScriptRefusal.TheVariants as script
 use Rattle.bt_top.specs.Due.{IsFirstRefusal, IsJudged}
-use Rattle.bt_top.specs.Orders.{NamedFile, names_of}
+use Rattle.bt_top.specs.Lines.{SinkUse, SinkFailed}
+use Rattle.bt_top.specs.Orders.{OperandFile, names_of}
 use Rattle.bt_top.specs.Script.{IsScriptFault, IsTextFault}
 use Rattle.bt_top.specs.Serve.{ShelfUse, ShelfFailed, AreContentsOf, AsksExactly, AsksFirst, ComesIfDue, MayCome, OnTold}
 use Rattle.bt_top.specs.Sizes.{IsProbePlace, TellsLarge, size_refusal}
@@ -76,18 +79,26 @@ IsExact text bytes refusal = (due : Option Refusal) → IsJudged text bytes due 
 -- ---- the reads, and what is done with what they give
 
 -- what comes of files with contents that the shelf tells, before the write
-pub record ComesOfContents {A : Type 0} (files : List NamedFile) (Comes : List (List ℕ) → A → Type 0) (shelf : ShelfUse) (answer : Result A Refusal) : Type 0 where
+pub record ComesOfContents {A : Type 0} (files : List OperandFile) (Comes : List (List ℕ) → A → Type 0) (shelf : ShelfUse) (answer : Result A Refusal) : Type 0 where
   pub contents : List (List ℕ)
   pub held : AreContentsOf shelf.held files contents
   pub value : IfOk answer (Comes contents)
   pub came : IfErr answer (λ refusal. MayCome files contents (ShelfFailed shelf) ⊥ (Some refusal))
 
 -- the same, with the names that were asked for, and that what is due comes
-pub record ComesOfFiles {A : Type 0} (files : List NamedFile) (Comes : List (List ℕ) → A → Type 0) (shelf : ShelfUse) (answer : Result A Refusal) : Type 0 where
+pub record ComesOfFiles {A : Type 0} (files : List OperandFile) (Comes : List (List ℕ) → A → Type 0) (shelf : ShelfUse) (answer : Result A Refusal) : Type 0 where
   pub reads : ComesOfContents files Comes shelf answer
   pub asked : AsksFirst shelf.asked shelf.asked_after (names_of files)
   pub asked_exactly : AsksExactly files (refusal_in answer) shelf
   pub exact : OnTold shelf.held files (ComesIfDue files (refusal_in answer))
+
+-- ---- the write
+
+-- the bytes were written, or a part of them where the count of faults rose
+abbrev pub Wrote : SinkUse → Option Refusal → List ℕ → Type 0
+Wrote out refusal bytes =
+    ((refusal ≡ None) × Appends out.taken out.taken_after bytes)
+    ⊎ ((refusal ≡ Some WriteFault) × SinkFailed out × AppendsPart out.taken out.taken_after bytes)
 
 -- ---- listings
 

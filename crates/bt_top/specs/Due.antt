@@ -9,7 +9,7 @@ use Rattle.bt_top.specs.declared.refusal.ScriptRefusal.TheVariants as script
 use Rattle.bt_top.specs.declared.refusal.RecordingRefusal.TheVariants as recording
 use Rattle.bt_top.specs.declared.refusal.Refusal.{Refusal}
 use Rattle.bt_top.specs.declared.refusal.Refusal.TheVariants.{Script, Recording}
-use Rattle.bt_top.specs.Orders.{NamedFile, limit_of}
+use Rattle.bt_top.specs.Orders.{OperandFile, limit_of}
 use Rattle.bt_top.specs.Refusals.{too_long}
 use Rattle.bt_top.specs.Script.{IsScriptFault, HasTree, body_fault}
 use Rattle.bt_top.specs.Sizes.{IsSized}
@@ -17,13 +17,13 @@ use Rattle.bt_top.specs.Sizes.{IsSized}
 -- ---- at the reads
 
 -- each file has its contents, and is no longer than it may be
-abbrev pub AreShort : List NamedFile → List (List ℕ) → Type 0
+abbrev pub AreShort : List OperandFile → List (List ℕ) → Type 0
 AreShort [] [] = Unit {0}
 AreShort (file ∷ files) (bytes ∷ contents) = (length bytes ≤ limit_of file.operand) × AreShort files contents
 AreShort files contents = ⊥
 
 -- the first file that is longer than it may be is due
-abbrev pub IsTooLong : List NamedFile → List (List ℕ) → Option Refusal → Type 0
+abbrev pub IsTooLong : List OperandFile → List (List ℕ) → Option Refusal → Type 0
 IsTooLong (file ∷ files) (bytes ∷ contents) due =
     ((limit_of file.operand < length bytes) × (due ≡ Some (too_long file.operand))) ⊎ ((length bytes ≤ limit_of file.operand) × IsTooLong files contents due)
 IsTooLong files contents due = ⊥
@@ -44,7 +44,7 @@ pub record IsAcceptedScript (text : List ℕ) (says : Recorded) (tree : Tree) : 
   pub sized : IsSized tree says
 
 -- a script and a recording that are accepted: the recording is valid, and the script is one for it
-pub record IsAccepted (text bytes : List ℕ) : Type 0 where
+pub record AreAccepted (text bytes : List ℕ) : Type 0 where
   pub says : Recorded
   pub tree : Tree
   pub is : IsRecording bytes says
@@ -59,7 +59,7 @@ IsFirstRefusal text bytes refusal = ⊥
 
 -- the first refusal of a script and a recording, or nothing
 abbrev pub IsJudged : List ℕ → List ℕ → Option Refusal → Type 0
-IsJudged text bytes None = IsAccepted text bytes
+IsJudged text bytes None = AreAccepted text bytes
 IsJudged text bytes (Some refusal) = IsFirstRefusal text bytes refusal
 
 -- ---- of all files
@@ -70,5 +70,5 @@ IsFinding (text ∷ bytes ∷ more) due = IsJudged text bytes due
 IsFinding contents due = due ≡ None
 
 -- what is due to files with these contents: that the first of them is too long which is so, and else what is found of them
-abbrev pub IsDue : List NamedFile → List (List ℕ) → Option Refusal → Type 0
+abbrev pub IsDue : List OperandFile → List (List ℕ) → Option Refusal → Type 0
 IsDue files contents due = IsTooLong files contents due ⊎ (AreShort files contents × IsFinding contents due)

@@ -14,7 +14,7 @@ use Rattle.total_laws.specs.Ends.{EndsWithTotals}
 use Rattle.bt_top.specs.declared.report.Report.{Report}
 use Rattle.bt_top.specs.Jobs.{IsBigJob, IsJobFor, meaning_of}
 use Rattle.bt_top.specs.Lines.{SinkUse}
-use Rattle.bt_top.specs.Orders.{NamedFile, files_of}
+use Rattle.bt_top.specs.Orders.{OperandFile, files_of}
 use Rattle.bt_top.specs.Outcomes.{stats_line, summary_line}
 use Rattle.bt_top.specs.Serve.{ShelfUse, AreContentsOf}
 
@@ -30,7 +30,7 @@ pub record PrintsItsSteps (job : Job) (rest : List ℕ) (out : SinkUse) (work : 
 
 -- so it is of the job of the two files that are read, which hold a script and a recording that the rules accept; behind the text stands the
 -- line of instructions where it is asked for
-pub record PrintsOfFiles (held : List ℕ → Option (List ℕ)) (files : List NamedFile) (stats : Bool) (out : SinkUse) (work : Work) : Type 0 where
+pub record PrintsOfFiles (held : List ℕ → Option (List ℕ)) (files : List OperandFile) (stats : Bool) (out : SinkUse) (work : Work) : Type 0 where
   pub contents : List (List ℕ)
   pub read : AreContentsOf held files contents
   pub job : Job

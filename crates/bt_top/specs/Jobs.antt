@@ -21,7 +21,7 @@ use Rattle.run_base.specs.declared.job.Work.{Work}
 use Rattle.script_programs.specs.Programs.{AreCodesOf, KeepScript}
 use Rattle.script_programs.specs.Sizes.{first_size_fault}
 use Rattle.bt_top.specs.Due.{AreShort, IsRecording, IsAcceptedScript}
-use Rattle.bt_top.specs.Orders.{NamedFile}
+use Rattle.bt_top.specs.Orders.{OperandFile}
 
 -- ---- jobs
 
@@ -46,7 +46,7 @@ IsJobIn (text ∷ bytes ∷ more) job = IsJobOf text bytes job
 IsJobIn contents job = ⊥
 
 -- what files with these contents ask for, of which none is too long
-pub record IsJobFor (files : List NamedFile) (contents : List (List ℕ)) (job : Job) : Type 0 where
+pub record IsJobFor (files : List OperandFile) (contents : List (List ℕ)) (job : Job) : Type 0 where
   pub short : AreShort files contents
   pub of : IsJobIn contents job
 

@@ -7,14 +7,14 @@ use Rattle.bt_top.specs.declared.refusal.Operand.{Operand}
 use Rattle.bt_top.specs.declared.refusal.Operand.TheVariants.{Script, Recording}
 
 -- a file that an order names: which of its operands it is, and its name
-pub record NamedFile : Type 0 where
+pub record OperandFile : Type 0 where
   pub operand : Operand
   pub name : List ℕ
 
-abbrev pub on_script : List ℕ → List ℕ → List NamedFile
+abbrev pub on_script : List ℕ → List ℕ → List OperandFile
 on_script script recording = record { operand = Script; name = script } ∷ record { operand = Recording; name = recording } ∷ []
 
-abbrev pub files_of : Order → List NamedFile
+abbrev pub files_of : Order → List OperandFile
 files_of (Run serial stats script recording) = on_script script recording
 files_of (Check script recording) = on_script script recording
 files_of (Code script recording) = on_script script recording
@@ -22,12 +22,12 @@ files_of (Gen x n) = []
 files_of (Big x n) = []
 
 -- none are read where words give no order
-abbrev pub files_in : Option Order → List NamedFile
+abbrev pub files_in : Option Order → List OperandFile
 files_in None = []
 files_in (Some order) = files_of order
 
-abbrev pub names_of : List NamedFile → List (List ℕ)
-names_of files = map (λ (file : NamedFile). file.name) files
+abbrev pub names_of : List OperandFile → List (List ℕ)
+names_of files = map (λ (file : OperandFile). file.name) files
 
 -- how many bytes a file may have
 abbrev pub limit_of : Operand → ℕ
@@ -40,6 +40,6 @@ is_same Recording Recording = true
 is_same one other = false
 
 -- the name of an operand
-abbrev pub operand_name : List NamedFile → Operand → List ℕ
+abbrev pub operand_name : List OperandFile → Operand → List ℕ
 operand_name [] operand = []
 operand_name (file ∷ files) operand = if is_same file.operand operand then file.name else operand_name files operand

@@ -23,7 +23,7 @@ use Rattle.bt_top.specs.declared.refusal.RecordingRefusal.TheVariants as recordi
 use Rattle.bt_top.specs.declared.refusal.Refusal.{Refusal}
 use Rattle.bt_top.specs.declared.refusal.Refusal.TheVariants.{Usage, Script, Recording, ReadFault, WriteFault, Memory}
 use Rattle.bt_top.specs.Lines.{Piece, Text, Number}
-use Rattle.bt_top.specs.Orders.{NamedFile, operand_name}
+use Rattle.bt_top.specs.Orders.{OperandFile, operand_name}
 
 abbrev pub status_of : Option Refusal → ℕ
 status_of None = 0
@@ -163,7 +163,7 @@ usage_pieces =
     ∷ []
 
 -- what is told of a refusal, where the words name these files
-abbrev pub refusal_pieces : List NamedFile → Refusal → List Piece
+abbrev pub refusal_pieces : List OperandFile → Refusal → List Piece
 refusal_pieces files Usage = usage_pieces
 refusal_pieces files (Script why) = Text (operand_name files operand.Script) ∷ script_pieces why
 refusal_pieces files (Recording why) = Text (operand_name files operand.Recording) ∷ recording_pieces why

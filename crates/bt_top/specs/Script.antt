@@ -13,7 +13,7 @@ use Rattle.bt_lexer.specs.Tokens.{IsTokensOf, IsFirstFault}
 use Rattle.bt_ast.specs.declared.probe.Script.{Script as Tree}
 use Rattle.bt_grammar.specs.declared.error.ParseError.{ParseError}
 use Rattle.bt_grammar.specs.declared.error.ParseError.TheVariants as parsing
-use Rattle.bt_grammar.specs.Refusals.{IsAccepted as IsTree, IsRefusal}
+use Rattle.bt_grammar.specs.Refusals.{IsAccepted, IsRefusal}
 use Rattle.bt_grammar.specs.Tokens.{items}
 use Rattle.bt_top.specs.declared.refusal.ScriptFault.TheVariants.{BadCharacter, OpenString, OpenComment, NumberTooLarge, BadEscape, StringTooLong, Syntax}
 use Rattle.expr_types.specs.declared.fault.Fault.{Fault as TypeFault}
@@ -91,7 +91,7 @@ IsTextFault text refusal = IsLexicalFault text refusal ⊎ IsParseFault text ref
 pub record HasTree (text : List ℕ) (tree : Tree) : Type 0 where
   pub tokens : List Token
   pub are : IsTokensOf text tokens
-  pub is : IsTree (items tokens) tree
+  pub is : IsAccepted (items tokens) tree
 
 -- the text has a tree, and the first of its points that breaks a rule over this recording is told by this refusal
 pub record IsAttachFault (text : List ℕ) (says : Recorded) (refusal : Refusal) : Type 0 where

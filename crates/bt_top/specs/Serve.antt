@@ -15,7 +15,7 @@ use Rattle.bt_top.specs.declared.refusal.Refusal.{Refusal}
 use Rattle.bt_top.specs.declared.refusal.Refusal.TheVariants.{Script, Recording, ReadFault, WriteFault, Memory}
 use Rattle.bt_top.specs.Due.{IsDue}
 use Rattle.bt_top.specs.Lines.{SinkUse, SinkFailed, Writes}
-use Rattle.bt_top.specs.Orders.{NamedFile, files_of, limit_of}
+use Rattle.bt_top.specs.Orders.{OperandFile, files_of, limit_of}
 use Rattle.bt_top.specs.Outcomes.{ComesTo, bytes_written}
 use Rattle.bt_top.specs.Refusals.{refusal_pieces, too_long}
 
@@ -51,65 +51,65 @@ ends_at operand.Recording (Some (ReadFault operand.Recording)) = true
 ends_at file refusal = false
 
 -- the names of the files that are read before this comes: up to the one whose read ends the call, else all
-abbrev pub names_read : List NamedFile → Option Refusal → List (List ℕ)
+abbrev pub names_read : List OperandFile → Option Refusal → List (List ℕ)
 names_read [] refusal = []
 names_read (file ∷ files) refusal = file.name ∷ (if ends_at file.operand refusal then [] else names_read files refusal)
 
 -- exactly the names of these files were asked for; where memory ran out it may have been fewer, but none where there are no files
-abbrev pub AsksExactly : List NamedFile → Option Refusal → ShelfUse → Type 0
+abbrev pub AsksExactly : List OperandFile → Option Refusal → ShelfUse → Type 0
 AsksExactly [] refusal shelf = shelf.asked_after ≡ shelf.asked
 AsksExactly (file ∷ files) (Some Memory) shelf = Unit {0}
 AsksExactly (file ∷ files) refusal shelf = shelf.asked_after ≡ shelf.asked ++ names_read (file ∷ files) refusal
 
 -- the contents of files are what the shelf tells of them
-abbrev pub AreContentsOf : (List ℕ → Option (List ℕ)) → List NamedFile → List (List ℕ) → Type 0
+abbrev pub AreContentsOf : (List ℕ → Option (List ℕ)) → List OperandFile → List (List ℕ) → Type 0
 AreContentsOf held [] [] = Unit {0}
 AreContentsOf held (file ∷ files) (bytes ∷ contents) = IfSome (held file.name) (λ told. bytes ≡ told) × AreContentsOf held files contents
 AreContentsOf held files contents = ⊥
 
 -- a fact on the contents of files, where the shelf tells those of each
-abbrev pub OnTold : (List ℕ → Option (List ℕ)) → List NamedFile → (List (List ℕ) → Type 0) → Type 0
+abbrev pub OnTold : (List ℕ → Option (List ℕ)) → List OperandFile → (List (List ℕ) → Type 0) → Type 0
 OnTold held [] P = P []
 OnTold held (file ∷ files) P = IfSome (held file.name) (λ bytes. OnTold held files (λ contents. P (bytes ∷ contents)))
 
 -- ---- what comes of an order
 
 -- the read of a file is reached: none before it is longer than it may be
-abbrev pub IsReached : List NamedFile → List (List ℕ) → Operand → Type 0
+abbrev pub IsReached : List OperandFile → List (List ℕ) → Operand → Type 0
 IsReached (file ∷ files) (bytes ∷ contents) operand = (operand ≡ file.operand) ⊎ ((length bytes ≤ limit_of file.operand) × IsReached files contents operand)
 IsReached files contents operand = ⊥
 
 -- what may come of files with these contents: what is due to them; want of memory; a fault of a read that is reached; or a fault of the write
 -- where nothing is due; faults only where their counts rose
-abbrev pub MayCome : List NamedFile → List (List ℕ) → (read_failed write_failed : Type 0) → Option Refusal → Type 0
+abbrev pub MayCome : List OperandFile → List (List ℕ) → (read_failed write_failed : Type 0) → Option Refusal → Type 0
 MayCome files contents read_failed write_failed (Some Memory) = Unit {0}
 MayCome files contents read_failed write_failed (Some (ReadFault operand)) = read_failed × IsReached files contents operand
 MayCome files contents read_failed write_failed (Some WriteFault) = write_failed × IsDue files contents None
 MayCome files contents read_failed write_failed due = IsDue files contents due
 
 -- a fault of the read of a file stands for what is due, unless that is that a file before it is too long
-abbrev pub ReadStandsFor : List NamedFile → Operand → Option Refusal → Type 0
+abbrev pub ReadStandsFor : List OperandFile → Operand → Option Refusal → Type 0
 ReadStandsFor [] operand due = ⊥
 ReadStandsFor (file ∷ files) operand due = (operand ≡ file.operand) ⊎ ((due ≢ Some (too_long file.operand)) × ReadStandsFor files operand due)
 
 -- want of memory, or a fault of a step before which nothing is due: of a read, and of the write where nothing is refused
-abbrev pub MayStandFor : List NamedFile → Option Refusal → Option Refusal → Type 0
+abbrev pub MayStandFor : List OperandFile → Option Refusal → Option Refusal → Type 0
 MayStandFor files (Some Memory) due = Unit {0}
 MayStandFor files (Some (ReadFault operand)) due = ReadStandsFor files operand due
 MayStandFor files (Some WriteFault) due = due ≡ None
 MayStandFor files refusal due = ⊥
 
 -- what is due to the files comes, unless a fault or want of memory stands for it
-abbrev pub ComesIfDue : List NamedFile → Option Refusal → List (List ℕ) → Type 0
+abbrev pub ComesIfDue : List OperandFile → Option Refusal → List (List ℕ) → Type 0
 ComesIfDue files refusal contents = (due : Option Refusal) → IsDue files contents due → (refusal ≡ due) ⊎ MayStandFor files refusal due
 
 -- a read failed: there are files, and the shelf's count of faults rose
-abbrev pub ReadFailed : List NamedFile → ShelfUse → Type 0
+abbrev pub ReadFailed : List OperandFile → ShelfUse → Type 0
 ReadFailed [] shelf = ⊥
 ReadFailed (file ∷ files) shelf = ShelfFailed shelf
 
 -- where nothing is due to the files and nothing failed, the status is that of success or of want of memory
-abbrev pub IsComplete : List NamedFile → (read_failed write_failed : Type 0) → ℕ → List (List ℕ) → Type 0
+abbrev pub IsComplete : List OperandFile → (read_failed write_failed : Type 0) → ℕ → List (List ℕ) → Type 0
 IsComplete files read_failed write_failed status contents = IsDue files contents None → ¬ read_failed → ¬ write_failed → (status ≡ 0) ⊎ (status ≡ 6)
 
 -- ---- what is done
@@ -168,6 +168,6 @@ HasWork refusal order = ⊥
 -- ---- what is told
 
 -- nothing is told at status 0, and else the line of the refusal
-abbrev pub TellsRefusal : List NamedFile → Option Refusal → SinkUse → Type 0
+abbrev pub TellsRefusal : List OperandFile → Option Refusal → SinkUse → Type 0
 TellsRefusal files None err = Keeps err.taken err.taken_after
 TellsRefusal files (Some refusal) err = Writes err (refusal_pieces files refusal)

@@ -3,8 +3,11 @@ ghost use Rattle.std.specs.Prelude.{◌≡◌, OnOk, OnErr};
 ghost use Rattle.std.specs.Io.KnownBytes.{Appends};
 ghost use Rattle.bt_io.specs.Faults.{Rose};
 ghost use Rattle.bt_io.specs.Taken.{AppendsPart};
+ghost use Rattle.bt_top.specs.Doing.{Wrote};
+ghost use Rattle.bt_top.specs.Lines.{sink_use};
 ghost use Rattle.bt_top.specs.Outcomes.{bytes_written, work_text};
 
+use crate::refusal::Refusal;
 use bpf_codegen::generate::Program;
 use bt_core::items::Items;
 use bt_io::sink::{Sink, SinkFailed, write_all};
@@ -30,11 +33,21 @@ fn work_text(work: &Option<Work>) -> &[u8]
 }
 
 /// Writes the bytes of an outcome, or a prefix of them where the sink fails.
-pub(crate) fn write_outcome<K: Sink>(out: &mut K, outcome: &Outcome) -> Result<(), SinkFailed>
+fn write_outcome<K: Sink>(out: &mut K, outcome: &Outcome) -> Result<(), SinkFailed>
     ensures whole { OnOk result (Appends (K.taken out.old) (K.taken out.new) (bytes_written outcome.now)) }
     ensures part { OnErr result (AppendsPart (K.taken out.old) (K.taken out.new) (bytes_written outcome.now)) }
     ensures failed { OnErr result (Rose (K.faults out.old) (K.faults out.new)) }
 {
     write_all(out, work_text(&outcome.work))?;
     write_all(out, outcome.rest.as_slice())
+}
+
+/// Writes an outcome, and answers why its write did not end, where it did not.
+pub(crate) fn write_refusal<K: Sink>(out: &mut K, outcome: &Outcome) -> Option<Refusal>
+    ensures { Wrote (sink_use K.taken K.faults out.old out.new) result (bytes_written outcome.now) }
+{
+    match write_outcome(out, outcome) {
+        Ok(()) => None,
+        Err(_) => Some(Refusal::WriteFault),
+    }
 }

@@ -8,7 +8,7 @@ ghost use Rattle.bt_top.specs.Refusals.{status_of};
 ghost use Rattle.bt_top.specs.Serve.{AnswersOrder, AsksExactly, AsksFirst, ComesIfDue, HasWork, AnswersWords, IsComplete};
 ghost use Rattle.bt_top.specs.Serve.{OnTold, ReadFailed, TellsRefusal, shelf_use};
 
-use crate::outcome::{Outcome, write_outcome};
+use crate::outcome::{Outcome, write_refusal};
 use crate::refusal::{Refusal, status_of};
 use crate::report::{Report, refused};
 use crate::tasks::outcome_of;
@@ -64,10 +64,7 @@ fn perform<S: Shelf, K: Sink, G: Gate + Sync, R: Threads + Wait + Sync>(
         Ok(outcome) => outcome,
         Err(refusal) => return refused(alloc, refusal),
     };
-    let refusal = match write_outcome(out, &outcome) {
-        Ok(()) => None,
-        Err(_) => Some(Refusal::WriteFault),
-    };
+    let refusal = write_refusal(out, &outcome);
     reported(outcome, refusal)
 }
 

@@ -4,8 +4,11 @@ use Rattle.std.specs.Prelude.{int_le}
 use Rattle.std.proofs.lemmas.Bool.Decides.{nat_tests}
 use Rattle.bt_core.specs.declared.place.Place.{Place}
 use Rattle.bt_ast.specs.declared.expr.Expr.{Expr}
+use Rattle.bt_ast.specs.declared.gathering.Gathering.{Gathering}
+use Rattle.bt_ast.specs.declared.gathering.Gathering.TheVariants.{Sum}
+use Rattle.bt_ast.specs.declared.gathering.TheConstants.{GATHERINGS}
 use Rattle.bt_ast.specs.declared.stmt.AggCall.{AggCall}
-use Rattle.bt_ast.specs.declared.stmt.AggCall.TheVariants.{Count, Sum, Min, Max, Avg, Hist, Lhist}
+use Rattle.bt_ast.specs.declared.stmt.AggCall.TheVariants.{Count, Gather, Lhist}
 use Rattle.bt_core.specs.declared.map.AggKind.{AggKind}
 use Rattle.bt_core.specs.declared.map.MapKind.{MapKind}
 use Rattle.bt_core.specs.declared.map.MapKind.TheVariants.{Ints, Strs, Aggs}
@@ -44,11 +47,11 @@ holds_not false r h = cc
 -- only `count` has no number
 pub counts_alone : (call : AggCall) → same_bool (is_none (number_of_call call)) (is_count (kind_of_call call)) ≡ true
 counts_alone Count = refl
-counts_alone (Sum e) = refl
-counts_alone (Min e) = refl
-counts_alone (Max e) = refl
-counts_alone (Avg e) = refl
-counts_alone (Hist e) = refl
+counts_alone (Gather function e) = by function
+  where
+    by : (f : Gathering) → same_bool false (is_count (function_kind GATHERINGS f)) ≡ true
+    by Sum = refl
+    by _ = refl
 counts_alone (Lhist e min max step) = refl
 
 gathers_decide : (m : MapSeen) (kind : AggKind) (keys : List Made) (k : Known) → shapes_in k m.keys ≡ key_shapes keys → Decided m (Gathers m.name m.keys kind) (Aggs kind) keys k

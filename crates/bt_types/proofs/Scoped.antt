@@ -1,11 +1,11 @@
 -- A body that fits what is known at the end fits its own declarations.
-use Rattle.std.proofs.Common.{◌≡◌, ◌++◌, ◌&&◌, ◌||◌, ◌==◌, ◌≤◌, ◌≤ℤ◌, ℕ, ℤ, pos, negsuc, zero, suc, T, Bool, true, false, cond, not, nat_le, nat_lt, nat_eq, List, [], ◌∷◌, length, map, find, Option, Some, None, slice_get, All, refl, sym, ap, subst, ◌∙◌, arith}
+use Rattle.std.proofs.Common.{◌≡◌, ◌++◌, ◌&&◌, ◌||◌, ◌==◌, int_eq, ◌≤◌, ◌≤ℤ◌, ℕ, ℤ, pos, negsuc, zero, suc, T, Bool, true, false, cond, not, nat_le, nat_lt, nat_eq, List, [], ◌∷◌, length, map, find, Option, Some, None, slice_get, All, refl, sym, ap, subst, ◌∙◌, arith}
 use Rattle.std.specs.List.{AllByRecursion, AllZip, cons_option, list_all, list_any}
 use Rattle.std.specs.Option.{option_map}
 use Rattle.std.specs.Prelude.{int_le}
 use Rattle.std.specs.Str.{bytes_eq}
 use Rattle.std.proofs.lemmas.Bool.{eq-eqb, eqb-true}
-use Rattle.std.proofs.lemmas.Bool.Decides.{nat_tests}
+use Rattle.std.proofs.lemmas.Bool.Decides.{nat_tests, Decides-int_eq}
 use Rattle.std.proofs.lemmas.List.Elements.{All-from_recursion}
 use Rattle.bt_core.specs.declared.map.AggKind.{AggKind}
 use Rattle.bt_core.specs.declared.map.AggKind.TheVariants as agg
@@ -25,7 +25,7 @@ use Rattle.tracefs_format.specs.declared.layout.Layout.{Layout}
 use Rattle.typed_tree.specs.Bodies.{scope_of, tree_parts}
 use Rattle.typed_tree.specs.Parts.{Part, Constant, Literal, Numeric, Command, FieldOf, VarOf, MapOf, Stepped, Prefixed, Joined, Both, Either, Chosen}
 use Rattle.typed_tree.specs.Parts.{Assigned, Gathered, Deleted, Printed, Shown, Cleared, Zeroed, Jumped, Looped, Unrolled, Arm, Otherwise, NoOtherwise, Ending}
-use Rattle.typed_tree.specs.Scope.{Scope, decl_of, format_of, same_int, same_shape, same_shapes, same_agg, same_kind, same_bool, same_field_kind, same_field, kind_of_shape, is_agg, is_fine_decl, is_shape, has_field, is_declared, is_shared, is_there, takes, fits, all_fit, shape_of_field, may_print}
+use Rattle.typed_tree.specs.Scope.{Scope, decl_of, format_of, same_shape, same_shapes, same_agg, same_kind, same_bool, same_field_kind, same_field, kind_of_shape, is_agg, is_fine_decl, is_shape, has_field, is_declared, is_shared, is_there, takes, fits, all_fit, shape_of_field, may_print}
 use Rattle.bt_ast.specs.declared.attached.BodyId.{BodyId}
 use Rattle.bt_ast.specs.declared.probe.Script.{Script}
 use Rattle.tracefs_format.specs.declared.format.Format.{Format}
@@ -55,22 +55,12 @@ shapes_self : (ss : List Shape) → same_shapes ss ss ≡ true
 shapes_self [] = refl
 shapes_self (s ∷ ss) = both_true (same_shape s s) (same_shapes ss ss) (shape_self s) (shapes_self ss)
 
-nat_self : (n : ℕ) → nat_le n n ≡ true
-nat_self n = grind (arith, nat_tests)
-
-int_self : (z : ℤ) → same_int z z ≡ true
-int_self (pos n) = both_true (nat_le n n) (nat_le n n) (nat_self n) (nat_self n)
-int_self (negsuc n) = both_true (nat_le n n) (nat_le n n) (nat_self n) (nat_self n)
+int_self : (z : ℤ) → int_eq z z ≡ true
+int_self z = (Decides-int_eq z z).1 refl
 
 agg_self : (a : AggKind) → same_agg a a ≡ true
-agg_self agg.Count = refl
-agg_self agg.Sum = refl
-agg_self agg.Min = refl
-agg_self agg.Max = refl
-agg_self agg.Avg = refl
-agg_self agg.Hist = refl
-agg_self (agg.Lhist min max step) =
-    both_true (same_int min min && same_int max max) (same_int step step) (both_true (same_int min min) (same_int max max) (int_self min) (int_self max)) (int_self step)
+agg_self (agg.Lhist min max step) = both_true (int_eq min min) (int_eq max max && int_eq step step) (int_self min) (both_true (int_eq max max) (int_eq step step) (int_self max) (int_self step))
+agg_self kind = refl
 
 kind_self : (k : MapKind) → same_kind k k ≡ true
 kind_self Ints = refl

@@ -1,8 +1,11 @@
 -- The mentions of statements in walk order, and their words.
-use Rattle.std.specs.Prelude.{ℕ, ℤ, pos, unsigned_abs, Bool, true, false, List, [], ◌∷◌, ◌++◌, Option, Some, None, unwrap_or, map, length}
+use Rattle.std.specs.Prelude.{ℕ, ℤ, pos, unsigned_abs, Bool, true, false, List, [], ◌∷◌, ◌++◌, Option, Some, None, unwrap_or, map, length, if◌then◌else◌}
 use Rattle.bt_ast.specs.declared.expr.Expr.{Expr, out-Expr}
+use Rattle.bt_ast.specs.contracts.gathering.GatheringPartialEq.TheImpl as functions
+use Rattle.bt_ast.specs.declared.gathering.Gathering.{Gathering}
+use Rattle.bt_ast.specs.declared.gathering.TheConstants.{GATHERINGS}
 use Rattle.bt_ast.specs.declared.stmt.AggCall.{AggCall}
-use Rattle.bt_ast.specs.declared.stmt.AggCall.TheVariants.{Count, Sum, Min, Max, Avg, Hist, Lhist}
+use Rattle.bt_ast.specs.declared.stmt.AggCall.TheVariants.{Count, Gather, Lhist}
 use Rattle.bt_ast.specs.declared.stmt.Block.{Block, fold-Block}
 use Rattle.bt_ast.specs.declared.stmt.Stmt.{Stmt, fold-Stmt}
 use Rattle.bt_ast.specs.declared.stmt.StmtKind.{StmtKind, fold-StmtKind}
@@ -68,23 +71,20 @@ abbrev pub assign_told : Option BinOp → TargetSeen → Seen → Place → Told
 assign_told None target value place = set_told target value
 assign_told (Some op) target value place = update_told op target value place
 
+-- the kind of the first row with the function
+abbrev pub function_kind : List (Gathering × AggKind) → Gathering → AggKind
+function_kind [] function = agg.Count
+function_kind (row ∷ rows) function = if functions.ghosts.eq row.0 function then row.1 else function_kind rows function
+
 -- the kind of an aggregation, and the number that it gathers
 abbrev pub kind_of_call : AggCall → AggKind
 kind_of_call Count = agg.Count
-kind_of_call (Sum e) = agg.Sum
-kind_of_call (Min e) = agg.Min
-kind_of_call (Max e) = agg.Max
-kind_of_call (Avg e) = agg.Avg
-kind_of_call (Hist e) = agg.Hist
+kind_of_call (Gather function e) = function_kind GATHERINGS function
 kind_of_call (Lhist e min max step) = agg.Lhist min max step
 
 abbrev pub number_of_call : AggCall → Option Expr
 number_of_call Count = None
-number_of_call (Sum e) = Some e
-number_of_call (Min e) = Some e
-number_of_call (Max e) = Some e
-number_of_call (Avg e) = Some e
-number_of_call (Hist e) = Some e
+number_of_call (Gather function e) = Some e
 number_of_call (Lhist e min max step) = Some e
 
 -- an aggregation's number, which its word asks to be whole

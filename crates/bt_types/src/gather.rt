@@ -7,12 +7,13 @@ ghost use Rattle.expr_types.specs.declared.fault.Rule.TheVariants.{BadBounds};
 ghost use Rattle.expr_types.specs.Judge.{Refuses};
 ghost use Rattle.expr_types.specs.Rules.{breaks};
 ghost use Rattle.expr_types.specs.Walk.{of_map};
-ghost use Rattle.bt_types.specs.Told.{gather_told, gathered_told, kind_of_call, number_of_call};
+ghost use Rattle.bt_types.specs.Told.{gather_told, gathered_told, function_kind, kind_of_call, number_of_call};
 ghost use Rattle.bt_types.specs.Done.{Does, DoesIn};
 
 use crate::assign::check_number;
 use crate::write::write_key;
 use bt_ast::expr::{Expr, MapRef};
+use bt_ast::gathering::{GATHERINGS, Gathering};
 use bt_ast::stmt::AggCall;
 use bt_core::map::{AggKind, MapKind};
 use bt_core::place::Place;
@@ -25,17 +26,25 @@ use std::alloc::Global;
 use typed_tree::expr::NumExpr;
 use typed_tree::stmt::TypedStmt;
 
+/// The kind of the first row with a function.
+fn function_kind(rows: &[(Gathering, AggKind)], function: Gathering) -> AggKind
+    ensures { result ≡ function_kind rows.now function }
+{
+    for (row, kind) in rows {
+        if *row == function {
+            return *kind;
+        }
+    }
+    AggKind::Count
+}
+
 /// The kind of an aggregation.
 fn kind_of_call(call: &AggCall) -> AggKind
     ensures { result ≡ kind_of_call call.now }
 {
     match call {
         AggCall::Count => AggKind::Count,
-        AggCall::Sum(_) => AggKind::Sum,
-        AggCall::Min(_) => AggKind::Min,
-        AggCall::Max(_) => AggKind::Max,
-        AggCall::Avg(_) => AggKind::Avg,
-        AggCall::Hist(_) => AggKind::Hist,
+        AggCall::Gather { function, .. } => function_kind(&GATHERINGS, *function),
         AggCall::Lhist { min, max, step, .. } => AggKind::Lhist {
             min: *min,
             max: *max,
@@ -50,11 +59,7 @@ fn number_of_call(call: &AggCall) -> Option<&Expr>
 {
     match call {
         AggCall::Count => None,
-        AggCall::Sum(number) => Some(number),
-        AggCall::Min(number) => Some(number),
-        AggCall::Max(number) => Some(number),
-        AggCall::Avg(number) => Some(number),
-        AggCall::Hist(number) => Some(number),
+        AggCall::Gather { number, .. } => Some(number),
         AggCall::Lhist { number, .. } => Some(number),
     }
 }

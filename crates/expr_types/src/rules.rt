@@ -1,6 +1,6 @@
 // Which rule a mention breaks.
 ghost use Rattle.std.specs.Prelude.{◌≡◌, Bool};
-ghost use Rattle.typed_tree.specs.Scope.{same_shape, same_shapes, same_agg, same_kind, is_fine_agg};
+ghost use Rattle.typed_tree.specs.Scope.{same_shape, same_shapes, same_kind, is_fine_agg};
 ghost use Rattle.expr_types.specs.declared.fault.TypeError.TheVariants.{Broken};
 ghost use Rattle.expr_types.specs.Known.{decl_in};
 ghost use Rattle.expr_types.specs.Judge.{Refuses};
@@ -51,37 +51,14 @@ pub fn same_shapes(a: &[Shape], b: &[Shape]) -> bool
     true
 }
 
-/// Whether two aggregations are one, bounds of linear histograms included.
-fn same_agg(a: AggKind, b: AggKind) -> bool
-    ensures { result ≡ same_agg a b }
-{
-    match (a, b) {
-        (AggKind::Count, AggKind::Count) => true,
-        (AggKind::Sum, AggKind::Sum) => true,
-        (AggKind::Min, AggKind::Min) => true,
-        (AggKind::Max, AggKind::Max) => true,
-        (AggKind::Avg, AggKind::Avg) => true,
-        (AggKind::Hist, AggKind::Hist) => true,
-        (
-            AggKind::Lhist { min, max, step },
-            AggKind::Lhist {
-                min: low,
-                max: high,
-                step: wide,
-            },
-        ) => min == low && max == high && step == wide,
-        _ => false,
-    }
-}
-
-/// Whether two maps hold the same.
+/// Whether two maps hold the same, bounds of linear histograms included.
 pub fn same_kind(a: MapKind, b: MapKind) -> bool
     ensures { result ≡ same_kind a b }
 {
     match (a, b) {
         (MapKind::Ints, MapKind::Ints) => true,
         (MapKind::Strs, MapKind::Strs) => true,
-        (MapKind::Aggs(a), MapKind::Aggs(b)) => same_agg(a, b),
+        (MapKind::Aggs(a), MapKind::Aggs(b)) => a == b,
         _ => false,
     }
 }

@@ -1,5 +1,6 @@
 // Where tokens are refused, how operators group, and where the nodes of a tree stand.
 use bt_ast::expr::{Expr, ExprKind};
+use bt_ast::gathering::Gathering;
 use bt_ast::probe::Probe;
 use bt_ast::stmt::{AggCall, StmtKind};
 use bt_core::place::Place;
@@ -179,14 +180,17 @@ fn the_nodes_of_a_tree_stand_at_their_first_tokens(rt: HostRuntime) -> Result<()
     assert_eq!(rt; stmt.place, at(3, 3));
     let StmtKind::SetAgg {
         map,
-        agg: AggCall::Hist(value),
+        agg: AggCall::Gather {
+            function: Gathering::Hist,
+            number,
+        },
         agg_place,
     } = &stmt.kind
     else {
         return Err("a histogram")?;
     };
     assert_eq!(rt;
-        (map.place, *agg_place, value.place),
+        (map.place, *agg_place, number.place),
         (at(3, 3), at(3, 14), at(3, 19))
     );
     Ok(())

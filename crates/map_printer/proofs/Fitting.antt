@@ -6,7 +6,7 @@ use Rattle.bt_core.specs.declared.agg.Buckets.TheVariants as held
 use Rattle.bt_core.specs.declared.item.Cell.{Cell}
 use Rattle.bt_core.specs.declared.item.Cell.TheVariants as cells
 use Rattle.bt_core.specs.declared.map.AggKind.{AggKind}
-use Rattle.bt_core.specs.declared.map.AggKind.TheVariants.{Count, Sum, Min, Max, Avg, Hist, Lhist}
+use Rattle.bt_core.specs.declared.map.AggKind.TheVariants.{Hist, Lhist}
 use Rattle.bt_core.specs.declared.map.MapDecl.{MapDecl}
 use Rattle.bt_core.specs.declared.map.MapKind.{MapKind}
 use Rattle.bt_core.specs.declared.map.MapKind.TheVariants.{Ints, Strs, Aggs}
@@ -21,16 +21,7 @@ fits_buckets Hist (held.Hist counts) f e = omega arith
 fits_buckets Hist (held.Lhist counts) f e = absurd e
 fits_buckets (Lhist min max step) (held.Hist counts) f e = absurd e
 fits_buckets (Lhist min max step) (held.Lhist counts) f e = let few : steps_between min max step ≤ 1000 = f.few in omega arith
-fits_buckets Count (held.Hist counts) f e = tt
-fits_buckets Count (held.Lhist counts) f e = tt
-fits_buckets Sum (held.Hist counts) f e = tt
-fits_buckets Sum (held.Lhist counts) f e = tt
-fits_buckets Min (held.Hist counts) f e = tt
-fits_buckets Min (held.Lhist counts) f e = tt
-fits_buckets Max (held.Hist counts) f e = tt
-fits_buckets Max (held.Lhist counts) f e = tt
-fits_buckets Avg (held.Hist counts) f e = tt
-fits_buckets Avg (held.Lhist counts) f e = tt
+fits_buckets kind bs f e = absurd e
 
 fits_cell : (kind : MapKind) (cell : Cell) → IsCellOf kind cell → FitsCell cell
 fits_cell kind (cells.Value v) e = tt

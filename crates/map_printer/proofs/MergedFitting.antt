@@ -9,7 +9,7 @@ use Rattle.bt_core.specs.declared.agg.Buckets.TheVariants as held
 use Rattle.bt_core.specs.declared.item.Cell.{Cell}
 use Rattle.bt_core.specs.declared.item.Cell.TheVariants as cells
 use Rattle.bt_core.specs.declared.map.AggKind.{AggKind}
-use Rattle.bt_core.specs.declared.map.AggKind.TheVariants.{Count, Sum, Min, Max, Avg, Hist, Lhist}
+use Rattle.bt_core.specs.declared.map.AggKind.TheVariants.{Hist, Lhist}
 use Rattle.bt_core.specs.declared.map.MapDecl.{MapDecl}
 use Rattle.bt_core.specs.declared.map.MapKind.{MapKind}
 use Rattle.bt_core.specs.declared.map.MapKind.TheVariants.{Ints, Strs, Aggs}
@@ -40,18 +40,7 @@ both_fit kind (held.Hist cs) (held.Lhist ds) e = e
 both_fit (Lhist min max step) (held.Lhist cs) (held.Lhist ds) e = length-both_counts cs ds ∙ e
 both_fit kind (held.Lhist cs) held.Plain e = e
 both_fit kind (held.Lhist cs) (held.Hist ds) e = e
-both_fit Count (held.Hist cs) (held.Hist ds) e = absurd e
-both_fit Count (held.Lhist cs) (held.Lhist ds) e = absurd e
-both_fit Sum (held.Hist cs) (held.Hist ds) e = absurd e
-both_fit Sum (held.Lhist cs) (held.Lhist ds) e = absurd e
-both_fit Min (held.Hist cs) (held.Hist ds) e = absurd e
-both_fit Min (held.Lhist cs) (held.Lhist ds) e = absurd e
-both_fit Max (held.Hist cs) (held.Hist ds) e = absurd e
-both_fit Max (held.Lhist cs) (held.Lhist ds) e = absurd e
-both_fit Avg (held.Hist cs) (held.Hist ds) e = absurd e
-both_fit Avg (held.Lhist cs) (held.Lhist ds) e = absurd e
-both_fit (Lhist min max step) (held.Hist cs) (held.Hist ds) e = absurd e
-both_fit Hist (held.Lhist cs) (held.Lhist ds) e = absurd e
+both_fit kind bs others e = absurd e
 
 merged_fits : (kind : MapKind) (a b : Agg) → IsAggOf kind a → IsAggOf kind (merged_agg a b)
 merged_fits Ints a b e = absurd e

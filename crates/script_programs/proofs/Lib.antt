@@ -1,3 +1,4 @@
+mod Lowered
 pub mod Made
 pub mod ProgramCodes
 pub mod StillLowered

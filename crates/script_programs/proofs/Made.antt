@@ -13,7 +13,7 @@ use Rattle.body_code.specs.Blocks.{code_of}
 use Rattle.body_code.specs.Bodies.{KeepsBody}
 use Rattle.bpf_insn.specs.declared.insn.Insn.{Insn}
 use Rattle.code_bodies.specs.Kept.{KeepBodies}
-use Rattle.kept_code.specs.Probes.{KeepProbes}
+use Rattle.script_programs.specs.Probes.{KeepProbes}
 use Rattle.typed_tree.specs.declared.body.TypedBody.{TypedBody}
 use Rattle.typed_tree.specs.declared.script.Typed.{Typed}
 use Rattle.script_programs.specs.declared.error.SizeFault.{SizeFault}

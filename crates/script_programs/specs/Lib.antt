@@ -1,3 +1,4 @@
+pub mod Probes
 pub mod Programs
 pub mod Sizes
 pub mod Making

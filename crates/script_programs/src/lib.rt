@@ -4,4 +4,5 @@
 pub mod codes;
 pub mod error;
 pub mod folding;
+pub mod laws;
 pub mod programs;

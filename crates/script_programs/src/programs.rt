@@ -7,6 +7,7 @@ ghost use Rattle.script_programs.specs.declared.error.SizeFault.{SizeFault as Fa
 
 use crate::error::{ProgramsError, SizeFault};
 use crate::folding::fold_all;
+use crate::laws::lowered_code_keeps_bodies;
 use bpf_codegen::generate::{Program, generate_program};
 use bpf_frame::error::CodeError;
 use bt_core::items::Items;
@@ -50,7 +51,7 @@ pub fn programs_of(alloc: Global, script: &Typed) -> Result<Items<Program>, Prog
     ensures refused { (place : ℕ) (fault : Fault) → result ≡ Err (ProgramsError.TooLarge place fault) →
         first_size_fault 0 script.now.bodies ≡ Some (place, fault) }
 {
-    kept_code::laws::lowered_code_keeps_bodies();
+    lowered_code_keeps_bodies();
     let lowered = lower(alloc, script)?;
     let probes = fold_all(alloc, lowered)?;
     let mut programs = Items::new(alloc);

@@ -9,7 +9,7 @@ use Rattle.bt_core.specs.declared.agg.Agg.{Agg}
 use Rattle.bt_core.specs.declared.agg.Buckets.TheVariants as held
 use Rattle.bt_core.specs.declared.item.Cell.TheVariants as cells
 use Rattle.bt_core.specs.declared.map.AggKind.{AggKind}
-use Rattle.bt_core.specs.declared.map.AggKind.TheVariants.{Hist, Lhist, Count, Sum, Min, Max, Avg}
+use Rattle.bt_core.specs.declared.map.AggKind.TheVariants.{Hist, Lhist}
 use Rattle.bt_core.specs.declared.value.Value.{Value}
 use Rattle.agg_core.specs.Aggregates.{aggregate, merged, signed, either, bucket, bounds, counts, buckets_of, upto}
 use Rattle.agg_core.proofs.MergeLaws.{merged-both}
@@ -56,13 +56,9 @@ counts_flip kind ms ns = map_same (λ b. count_by (λ n. bucket kind n == b) (ms
     ap (λ (c : ℕ). c % 2 ^ 64) g)
 
 buckets_flip : (kind : AggKind) (ms ns : List ℤ) → buckets_of kind (ms ++ ns) ≡ buckets_of kind (ns ++ ms)
-buckets_flip Count ms ns = refl
-buckets_flip Sum ms ns = refl
-buckets_flip Min ms ns = refl
-buckets_flip Max ms ns = refl
-buckets_flip Avg ms ns = refl
 buckets_flip Hist ms ns = ap (λ (c : List ℕ). held.Hist c) (counts_flip Hist ms ns)
 buckets_flip (Lhist low high step) ms ns = ap (λ (c : List ℕ). held.Lhist c) (counts_flip (Lhist low high step) ms ns)
+buckets_flip kind ms ns = refl
 
 aggregate_flip : (kind : AggKind) (ms ns : List ℤ) → aggregate kind (ms ++ ns) ≡ aggregate kind (ns ++ ms)
 aggregate_flip kind ms ns =

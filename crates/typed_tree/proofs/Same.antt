@@ -1,20 +1,20 @@
 -- What the tests of types tell, for the crates above.
-use Rattle.std.proofs.Common.{◌≡◌, ◌≤◌, ◌&&◌, ℕ, ℤ, pos, negsuc, Bool, true, false, nat_le, List, [], ◌∷◌, length, refl, sym, ap, subst}
-use Rattle.std.specs.Prelude.{◌≤ℤ◌, ◌<ℤ◌, int_le, int_lt}
+use Rattle.std.proofs.Common.{int_eq, ◌≡◌, ◌≤◌, ◌&&◌, ℤ, pos, Bool, true, false, nat_le, List, [], ◌∷◌, length, refl, ap}
+use Rattle.std.specs.Prelude.{int_le, int_lt}
 use Rattle.std.specs.Int.Signed.{le_z_yes, lt_z_yes}
 use Rattle.std.proofs.lemmas.Bool.{leb-true}
+use Rattle.std.proofs.lemmas.Bool.Decides.{Decides-int_eq}
 use Rattle.std.proofs.lemmas.Float.{T_from_true}
-use Rattle.std.proofs.Math.Nat.{le_antisymm}
 use Rattle.bt_core.specs.declared.limits.TheConstants.{KEY_PARTS, LHIST_BUCKETS}
 use Rattle.bt_core.specs.declared.map.AggKind.{AggKind}
-use Rattle.bt_core.specs.declared.map.AggKind.TheVariants.{Count, Sum, Min, Max, Avg, Hist, Lhist}
+use Rattle.bt_core.specs.declared.map.AggKind.TheVariants.{Lhist}
 use Rattle.bt_core.specs.declared.map.MapDecl.{MapDecl}
 use Rattle.bt_core.specs.declared.map.MapKind.{MapKind}
 use Rattle.bt_core.specs.declared.map.MapKind.TheVariants.{Ints, Strs, Aggs}
 use Rattle.bt_core.specs.declared.map.Shape.{Shape}
 use Rattle.bt_core.specs.declared.map.Shape.TheVariants.{Int, Str}
 use Rattle.bt_core.specs.Kinds.{steps_between, IsFineKind, IsFineMapKind, IsFineDecl}
-use Rattle.typed_tree.specs.Scope.{same_int, same_shape, same_shapes, same_agg, same_kind, is_fine_agg, is_fine_kind, is_fine_decl}
+use Rattle.typed_tree.specs.Scope.{same_shape, same_shapes, same_agg, same_kind, is_fine_agg, is_fine_kind, is_fine_decl}
 
 -- both of two tests
 pub both_hold : (a b : Bool) → (a && b) ≡ true → (a ≡ true) × (b ≡ true)
@@ -37,26 +37,19 @@ shapes_are (s ∷ ss) (t ∷ ts) h =
     let r = shapes_are ss ts p.1 in
     cc
 
-int_is : (a b : ℤ) → same_int a b ≡ true → a ≡ b
-int_is (pos a) (pos b) h = let p = both_hold (nat_le a b) (nat_le b a) h in ap pos (le_antisymm (leb-true a b p.0) (leb-true b a p.1))
-int_is (pos a) (negsuc b) h = cc
-int_is (negsuc a) (pos b) h = cc
-int_is (negsuc a) (negsuc b) h = let p = both_hold (nat_le b a) (nat_le a b) h in ap negsuc (le_antisymm (leb-true a b p.1) (leb-true b a p.0))
+steps_are : (a : AggKind) (low high wide : ℤ) → same_agg a (Lhist low high wide) ≡ true → a ≡ Lhist low high wide
+steps_are (Lhist min max step) low high wide h =
+    let p = both_hold (int_eq min low) (int_eq max high && int_eq step wide) h in
+    let q = both_hold (int_eq max high) (int_eq step wide) p.1 in
+    let x = (Decides-int_eq min low).0 p.0 in
+    let y = (Decides-int_eq max high).0 q.0 in
+    let z = (Decides-int_eq step wide).0 q.1 in
+    cc
+steps_are a low high wide h = cc
 
 agg_is : (a b : AggKind) → same_agg a b ≡ true → a ≡ b
-agg_is Count Count h = refl
-agg_is Sum Sum h = refl
-agg_is Min Min h = refl
-agg_is Max Max h = refl
-agg_is Avg Avg h = refl
-agg_is Hist Hist h = refl
-agg_is (Lhist min max step) (Lhist low high wide) h =
-    let p = both_hold (same_int min low && same_int max high) (same_int step wide) h in
-    let q = both_hold (same_int min low) (same_int max high) p.0 in
-    let x = int_is min low q.0 in
-    let y = int_is max high q.1 in
-    let z = int_is step wide p.1 in
-    cc
+agg_is a (Lhist low high wide) h = steps_are a low high wide h
+agg_is (Lhist min max step) b h = cc
 agg_is a b h = cc
 
 pub kind_is : (a b : MapKind) → same_kind a b ≡ true → a ≡ b
@@ -70,12 +63,7 @@ agg_fine (Lhist min max step) h =
     let p = both_hold (int_lt min max && int_le (pos 1) step) (nat_le (steps_between min max step) LHIST_BUCKETS) h in
     let q = both_hold (int_lt min max) (int_le (pos 1) step) p.0 in
     record { above = lt_z_yes (T_from_true (int_lt min max) q.0); wide = le_z_yes (T_from_true (int_le (pos 1) step) q.1); few = leb-true (steps_between min max step) LHIST_BUCKETS p.1 }
-agg_fine Count h = tt
-agg_fine Sum h = tt
-agg_fine Min h = tt
-agg_fine Max h = tt
-agg_fine Avg h = tt
-agg_fine Hist h = tt
+agg_fine kind h = tt
 
 kind_fine : (kind : MapKind) → is_fine_kind kind ≡ true → IsFineMapKind kind
 kind_fine Ints h = tt

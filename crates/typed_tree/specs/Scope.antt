@@ -3,6 +3,7 @@ use Rattle.std.specs.Prelude.{ℕ, ℤ, pos, Bool, true, false, ◌&&◌, ◌||�
 use Rattle.std.specs.List.{list_all, list_any}
 use Rattle.std.specs.Str.{bytes_eq}
 use Rattle.bt_core.specs.declared.limits.TheConstants.{KEY_PARTS, LHIST_BUCKETS}
+use Rattle.bt_core.specs.contracts.map.AggKindPartialEq.TheImpl as agg_eq
 use Rattle.bt_core.specs.declared.map.AggKind.{AggKind}
 use Rattle.bt_core.specs.declared.map.AggKind.TheVariants as agg
 use Rattle.bt_core.specs.declared.map.MapDecl.{MapDecl}
@@ -39,9 +40,6 @@ abbrev pub format_of : ℕ → List (ℕ × List Piece) → Option (List Piece)
 format_of number [] = None
 format_of number (f ∷ fs) = if f.0 == number then Some f.1 else format_of number fs
 
-abbrev pub same_int : ℤ → ℤ → Bool
-same_int a b = int_le a b && int_le b a
-
 abbrev pub same_shape : Shape → Shape → Bool
 same_shape Int Int = true
 same_shape Int Str = false
@@ -54,16 +52,9 @@ same_shapes [] (t ∷ ts) = false
 same_shapes (s ∷ ss) [] = false
 same_shapes (s ∷ ss) (t ∷ ts) = same_shape s t && same_shapes ss ts
 
--- whether two aggregations are one
+-- whether two aggregations are one, bounds of linear histograms included
 abbrev pub same_agg : AggKind → AggKind → Bool
-same_agg agg.Count agg.Count = true
-same_agg agg.Sum agg.Sum = true
-same_agg agg.Min agg.Min = true
-same_agg agg.Max agg.Max = true
-same_agg agg.Avg agg.Avg = true
-same_agg agg.Hist agg.Hist = true
-same_agg (agg.Lhist min max step) (agg.Lhist low high wide) = same_int min low && same_int max high && same_int step wide
-same_agg a b = false
+same_agg a b = agg_eq.ghosts.eq a b
 
 abbrev pub same_kind : MapKind → MapKind → Bool
 same_kind Ints Ints = true

@@ -11,17 +11,5 @@ returns-in-Lhist c = rw c.in-Lhist.is (λ fine.
     let k : FitsSigned w64 c.in-Lhist.step = search rules in
     let e = simp to_z-of_z at c.lhist_bucket.ensures in e fine)
 
-pub returns-in-Count : goal.returns-in-Count
-returns-in-Count c fine = rw c.in-Count.is (sym (no_bucket c.args.n).0)
-
-pub returns-in-Sum : goal.returns-in-Sum
-returns-in-Sum c fine = rw c.in-Sum.is (sym (no_bucket c.args.n).1)
-
-pub returns-in-Min : goal.returns-in-Min
-returns-in-Min c fine = rw c.in-Min.is (sym (no_bucket c.args.n).2)
-
-pub returns-in-Max : goal.returns-in-Max
-returns-in-Max c fine = rw c.in-Max.is (sym (no_bucket c.args.n).3)
-
-pub returns-in-Avg : goal.returns-in-Avg
-returns-in-Avg c fine = rw c.in-Avg.is (sym (no_bucket c.args.n).4)
+pub returns-in_default : goal.returns-in_default
+returns-in_default c fine = sym (no_bucket c.args.kind c.args.n c.in_default.not-Hist c.in_default.not-Lhist)

@@ -1,3 +1,4 @@
+use Rattle.std.proofs.Common.{refl}
 use Rattle.bt_words.specs.declared.order.Order.{Order}
 use Rattle.bt_words.specs.Words.{order_of}
 use Rattle.bt_top.specs.declared.refusal.Refusal.TheVariants.{Memory}
@@ -6,7 +7,7 @@ use Rattle.bt_top.specs.Serve.{ComesIfDue, OnTold}
 use Rattle.std.specs.Prelude.{Some}
 use Rattle.bt_top.proofs.Answering.{is_complete, kept, on_order, words_answer}
 use Rattle.bt_top.proofs.Headlines.{refused_headline}
-use Rattle.bt_top.proofs.Performing.{memory_complete, memory_exact, nothing_asked}
+use Rattle.bt_top.proofs.Performing.{memory_complete, memory_exact, nothing_asked, nothing_asked_exactly}
 use Rattle.bt_top.proofs.serve.serve.Goals as goal
 
 pub returns-in-Err-Memory-clause-asked : goal.returns-in-Err-Memory-clause-asked
@@ -35,3 +36,7 @@ returns-clause-complete g c =
 pub returns-in-Err-Memory-clause-headline : goal.returns-in-Err-Memory-clause-headline
 returns-in-Err-Memory-clause-headline g c =
     rw c.refused-in-Err-Memory.ensures (refused_headline (order_of c.args.words.now) _ _ Memory)
+
+pub returns-in-Err-Memory-clause-asked_exactly : goal.returns-in-Err-Memory-clause-asked_exactly
+returns-in-Err-Memory-clause-asked_exactly g c =
+    rw c.refused-in-Err-Memory.ensures (nothing_asked_exactly (files_in (order_of c.args.words.now)) _ refl)

@@ -5,7 +5,7 @@ ghost use Rattle.typed_tree.specs.declared.script.Typed.{Typed};
 ghost use Rattle.ir_code.specs.declared.probe.IrProbe.{IrProbe};
 ghost use Rattle.bt_lower.specs.Bodies.{LowersScript};
 ghost use Rattle.code_bodies.specs.Kept.{KeepBodies};
-ghost use Rattle.kept_code.specs.Probes.{KeepProbes};
+ghost use Rattle.script_programs.specs.Probes.{KeepProbes};
 
 /// Code that keeps a body in typed instructions keeps the body that it was lowered from.
 pub fn lowered_code_keeps_bodies()

@@ -40,7 +40,7 @@ use Rattle.replay_laws.specs.Agree.{Comes}
 use Rattle.replay_laws.specs.HeldReplies.{IsHeldReply, IsHeldValue}
 use Rattle.code_bodies.specs.Coding.{fuel_of}
 use Rattle.code_bodies.specs.Kept.{EndsByExit, IsSeen, KeepsWalk, KeepBodies}
-use Rattle.kept_code.specs.Probes.{KeepProbes}
+use Rattle.script_programs.specs.Probes.{KeepProbes}
 
 -- more replies are asked to fit, and the ends are alike in another way
 turned : {A B : Type 0} (K L : Call → Reply → Type 0) (R S : A → B → Type 0) → ((call : Call) (reply : Reply) → L call reply → K call reply) → ((a : A) (b : B) → R a b → S a b)

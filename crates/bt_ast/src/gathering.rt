@@ -1,0 +1,21 @@
+// The map functions of one number, by the section on map functions of the bpftrace language reference.
+use bt_core::map::AggKind;
+
+/// A map function of one number.
+#[derive(Clone, Copy, PartialEq, Eq, Debug)]
+pub enum Gathering {
+    Sum,
+    Min,
+    Max,
+    Avg,
+    Hist,
+}
+
+/// The map functions of one number, each with what its maps gather.
+pub const GATHERINGS: [(Gathering, AggKind); 5] = [
+    (Gathering::Sum, AggKind::Sum),
+    (Gathering::Min, AggKind::Min),
+    (Gathering::Max, AggKind::Max),
+    (Gathering::Avg, AggKind::Avg),
+    (Gathering::Hist, AggKind::Hist),
+];

@@ -1,5 +1,0 @@
-use Rattle.kept_code.proofs.laws.lowered_code_keeps_bodies.Goals as goal
-use Rattle.kept_code.proofs.Lowered.{keep_bodies}
-
-pub returns : goal.returns
-returns c script probes codes lowers keep = keep_bodies script probes codes lowers keep
