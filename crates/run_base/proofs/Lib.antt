@@ -1,6 +1,7 @@
 pub mod CodeLemmas
-pub mod HeldLemmas
+pub mod ItemsKnown
 pub mod KindLemmas
 pub mod MapReads
 pub mod MoreLemmas
 pub mod ReadLemmas
+pub mod TypesSay
