@@ -7,3 +7,4 @@ pub mod Objects
 pub mod Reading
 pub mod EachMap
 pub mod Telling
+pub mod Rowing

@@ -7,10 +7,10 @@ use Rattle.thread_run.specs.Turns.{AreOneActors}
 use Rattle.thread_run.proofs.tasks.new_tasks.Given as goal
 
 abbrev pub invariant-loop-own : goal.invariant-loop-own
-invariant-loop-own g l = let bodies = zip_first l.own-iterator in let turns = zip_second l.own-iterator in record {
-  count : into_iter_len turns ≡ into_iter_len bodies;
-  bodies : map bodies_in l.tasks.items ++ into_iter_items bodies ≡ l.fn.bodies.items;
-  turns : map turns_in l.tasks.items ++ into_iter_items turns ≡ l.fn.turns.items;
+invariant-loop-own g l = let own_left = zip_first l.own-iterator in let turns_left = zip_second l.own-iterator in record {
+  count : into_iter_len turns_left ≡ into_iter_len own_left;
+  bodies : map bodies_in l.tasks.items ++ into_iter_items own_left ≡ l.fn.bodies.items;
+  turns : map turns_in l.tasks.items ++ into_iter_items turns_left ≡ l.fn.turns.items;
   fresh : Each (IsFresh l.clock) l.tasks.items;
-  by : Each AreOneActors (into_iter_items turns);
+  by : Each AreOneActors (into_iter_items turns_left);
 }

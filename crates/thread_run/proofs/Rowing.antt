@@ -1,0 +1,17 @@
+-- Lists that are made of others, item by item.
+use Rattle.std.proofs.Common.{◌≡◌, List, [], ◌∷◌, ◌++◌, map, length, append-nil, append_assoc, sym, ap, ◌∙◌, arith}
+use Rattle.std.proofs.lemmas.List.{map-append}
+
+module _ {X Y : Type 0} (f : X → Y) (made : List X) where
+  -- nothing is left, and so all is made
+  pub all_made : (left whole : List Y) → 0 ≡ length left → map f made ++ left ≡ whole → map f made ≡ whole
+  all_made [] whole e h = sym (append-nil (map f made)) ∙ h
+  all_made (y ∷ left) whole e h = absurd (omega (arith, e))
+
+  -- one more is made
+  pub one_made : (news : List X) (x : X) (y : Y) (left rest whole : List Y) → news ≡ made ++ x ∷ [] → left ≡ y ∷ rest → f x ≡ y
+      → map f made ++ left ≡ whole → map f news ++ rest ≡ whole
+  one_made news x y left rest whole e l s h =
+      ap (λ (xs : List X). map f xs ++ rest) e ∙ (ap (λ (ys : List Y). ys ++ rest) (map-append f made (x ∷ []))
+      ∙ (append_assoc (map f made) (f x ∷ []) rest ∙ (ap (λ (z : Y). map f made ++ z ∷ rest) s
+      ∙ (ap (λ (ys : List Y). map f made ++ ys) (sym l) ∙ h))))
