@@ -181,7 +181,7 @@ finish-is (Count block leave) e = absurd (cc)
 finish-is (Gate block cut) e = absurd (cc)
 finish-is (Again head) e = absurd (cc)
 
-none-is : (xs : List Instr) → nat_eq (length xs) 0 ≡ true → xs ≡ []
+pub none-is : (xs : List Instr) → nat_eq (length xs) 0 ≡ true → xs ≡ []
 none-is [] e = refl
 none-is (x ∷ xs) e = let l : length (x ∷ xs) ≡ 0 = eqb-true (length (x ∷ xs)) 0 e in absurd (omega (arith, l))
 
