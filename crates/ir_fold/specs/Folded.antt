@@ -153,6 +153,14 @@ AllShorten all [] (c ∷ cs) = ⊥
 AllShorten all (b ∷ bs) [] = ⊥
 AllShorten all (b ∷ bs) (c ∷ cs) = Shortens all b c × AllShorten all bs cs
 
+-- the last instruction makes a number its truth
+abbrev pub is_truth : Option Instr → Bool
+is_truth (Some i.Truth) = true
+is_truth o = false
+
+abbrev pub ends_in_truth : List Instr → Bool
+ends_in_truth xs = cond (nat_eq (length xs) 0) false (is_truth (slice_get xs (length xs - 1)))
+
 -- a block whose last instruction puts what a branch tests: the branch stands in its own place, or, at a literal, where that leads
 abbrev pub Tests : (first second : ℕ) → Block → Block → Type 0
 Tests first second old new = BettersBlock [] (record old { exit = Branch first second }) new × (block_slots new ≤ block_slots old)

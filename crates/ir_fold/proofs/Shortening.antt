@@ -18,13 +18,13 @@ use Rattle.bt_core.proofs.InteractionLaws.{and_then_assoc}
 use Rattle.typed_tree.specs.Scope.{same_shapes}
 use Rattle.ir_code.specs.declared.blocks.Block.{Block}
 use Rattle.ir_code.specs.declared.blocks.Exit.{Exit}
-use Rattle.ir_code.specs.declared.blocks.Exit.TheVariants.{Goto, Branch}
+use Rattle.ir_code.specs.declared.blocks.Exit.TheVariants.{Goto, Branch, Count, Gate, Again, End}
 use Rattle.ir_code.specs.declared.instr.Instr.{Instr}
 use Rattle.ir_code.specs.declared.instr.Instr.TheVariants as i
 use Rattle.ir_code.specs.declared.probe.IrProbe.{IrProbe}
 use Rattle.ir_code.specs.declared.state.State.{State}
 use Rattle.ir_code.specs.declared.state.Way.TheVariants.{To}
-use Rattle.ir_code.specs.Figures.{sizes_of, blocks_slots, block_slots}
+use Rattle.ir_code.specs.Figures.{sizes_of, instrs_slots, exit_slots, blocks_slots, block_slots}
 use Rattle.ir_code.specs.Meaning.{Scene, instrs_run, put, popped, truth_on, exit_run, goes_on, code_run, block_run, run_from, blocks_run, fresh, ir_run}
 use Rattle.ir_code.specs.Serving.{ends_read, payload_need}
 use Rattle.ir_code.specs.Stacks.{top}
@@ -32,9 +32,11 @@ use Rattle.ir_code.specs.Typing.{Ground, front_of, end_with, names, has_room, tu
 use Rattle.ir_code.specs.Ways.{depth_in, depth_at, lies_below, leads, lead_from, lead_forward}
 use Rattle.ir_code.proofs.Shaped.{same_shapes-is, ends_is}
 use Rattle.map_ops.specs.Values.{number_of, holds}
-use Rattle.ir_fold.specs.Folded.{BettersBlock, BlockVaries, BlocksVary, IsFoldOf, bare_in, flat, bare_at, GoesThrough, AllLead, AllMayStand, Shortens, AllShorten}
+use Rattle.ir_fold.specs.Folded.{BettersBlock, BlockVaries, BlocksVary, IsFoldOf, bare_in, flat, bare_at, GoesThrough, AllLead, AllMayStand, Shortens, AllShorten, Tests, is_truth, ends_in_truth, literal_before}
 use Rattle.ir_fold.proofs.Better.{and_then-same, runs-append, slots-append, turned-append, top-append, popped-is, both, split, join}
-use Rattle.ir_fold.proofs.Blocked.{none-is}
+use Rattle.ir_fold.proofs.Adding.{here, last-at, last-is}
+use Rattle.ir_fold.proofs.Alike.{leads-same, block-same, lead-whole, typed-whole}
+use Rattle.ir_fold.proofs.Blocked.{none-is, block-then, settles}
 use Rattle.ir_fold.proofs.Steady.{rank, inside, block-agrees, whole, run-whole, whole-is}
 
 -- ---- the truth of a number counts as true where the number does
@@ -277,3 +279,139 @@ module _ (bs cs : List Block) (all : AllShorten bs bs cs) (led : lead_forward bs
       let enough : rank bs (length bs - 1) s < (s.turns + 1) * length bs = omega (arith, first, some) in
       ap (λ (n : ℕ). run_from cs ((s.turns + 1) * n) scene (n - 1) s) (shorten-length bs bs cs all)
       ∙ short-runs ((s.turns + 1) * length bs) (length bs - 1) s enough ∙ sym (run-whole bs scene lead ((s.turns + 1) * length bs) (length bs - 1) s enough)
+
+-- ---- what a probe tells of its blocks
+
+module _ (bs cs : List Block) (all : AllShorten bs bs cs) where
+  stack-at : (n : ℕ) → stack_in (slice_get cs n) ≡ stack_in (slice_get bs n)
+  stack-at n = shorten-stack bs (slice_get bs n) (slice_get cs n) (shorten-at bs bs cs n all)
+
+  depth-same : (n : ℕ) → depth_at cs n ≡ depth_at bs n
+  depth-same n = shorten-depth bs (slice_get bs n) (slice_get cs n) (shorten-at bs bs cs n all)
+
+  lead-on : AllLead bs → (n : ℕ) (xs ys : List Block) → AllShorten bs xs ys → lead_from bs n xs ≡ true → lead_from cs n ys ≡ true
+  lead-on each n [] [] h l = refl
+  lead-on each n [] (y ∷ ys) h l = absurd h
+  lead-on each n (x ∷ xs) [] h l = absurd h
+  lead-on each n (x ∷ xs) (y ∷ ys) h l =
+      let p = and_parts (leads bs n x.depth x.exit) (lead_from bs (n + 1) xs) l in
+      both (leads cs n y.depth y.exit) (lead_from cs (n + 1) ys) (leads-same bs cs (shorten-length bs bs cs all) stack-at depth-same n y.depth y.exit ∙ h.0.leads each n p.0) (lead-on each (n + 1) xs ys h.1 p.1)
+
+  stand-on : (g : Ground) → AllMayStand g bs → (xs ys : List Block) → AllShorten bs xs ys → each_stands g bs xs ≡ true → each_stands g cs ys ≡ true
+  stand-on g each [] [] h l = refl
+  stand-on g each [] (y ∷ ys) h l = absurd h
+  stand-on g each (x ∷ xs) [] h l = absurd h
+  stand-on g each (x ∷ xs) (y ∷ ys) h l =
+      let p = and_parts (block_stands g bs x) (each_stands g bs xs) l in
+      both (block_stands g cs y) (each_stands g cs ys) (block-same bs cs (shorten-length bs bs cs all) stack-at depth-same g y ∙ h.0.stands g each p.0) (stand-on g each xs ys h.1 p.1)
+
+  pub short-led : lead_forward bs ≡ true → lead_forward cs ≡ true
+  short-led h =
+      let p = and_parts (nat_le 1 (length bs) && depth_at bs (length bs - 1) == 0) (lead_from bs 0 bs) h in
+      lead-whole bs cs (shorten-length bs bs cs all) stack-at depth-same h (lead-on (all-lead bs h) 0 bs cs all p.1)
+
+  pub short-typed : (g : Ground) → are_typed g bs ≡ true → are_typed g cs ≡ true
+  short-typed g h =
+      let p = and_parts (same_shapes (stack_in (slice_get bs (length bs - 1))) []) (each_stands g bs bs) h in
+      typed-whole bs cs (shorten-length bs bs cs all) stack-at depth-same g h (stand-on g (λ n b e. stand-each g bs bs n b p.1 e) bs cs all p.1)
+
+pub short-vary : (bs : List Block) (b : Block) → BlocksVary (bs ++ b ∷ []) → BlocksVary bs × BlockVaries b
+short-vary [] b h = (tt, h.0)
+short-vary (c ∷ bs) b h = let r = short-vary bs b h.1 in ((h.0, r.0), r.1)
+
+-- a probe with such blocks
+pub short-folds : (old new : IrProbe) → AllShorten old.blocks.list old.blocks.list new.blocks.list → new.variables ≡ old.variables
+    → new.maps ≡ old.maps → new.formats ≡ old.formats → new.frame_need ≡ old.frame_need → new.code_need ≡ old.code_need → BlocksVary new.blocks.list
+    → IsFoldOf old new
+unfolding ir_run
+short-folds old new all v m f n k varies = record {
+  runs = λ context payload actor actors.
+      (let scene : List MapDecl → Scene = λ (maps : List MapDecl).
+      record { context = context; payload = payload; actor = actor; actors = actors; maps = maps } in
+      ap (λ (maps : List MapDecl). blocks_run new.blocks.list (scene maps) (fresh new.variables)) m
+      ∙ ap (λ (shapes : List Shape). blocks_run new.blocks.list (scene old.maps) (fresh shapes)) v
+      ∙ shorten-run old.blocks.list new.blocks.list all old.blocks.led (scene old.maps) (fresh old.variables));
+  variables = v;
+  maps = m;
+  formats = f;
+  frame_need = n;
+  code_need = k;
+  reads = shorten-reads old.blocks.list old.blocks.list new.blocks.list all;
+  varies = varies;
+}
+
+-- one fold of another
+pub folds-then : (a b c : IrProbe) → IsFoldOf a b → IsFoldOf b c → IsFoldOf a c
+folds-then a b c p q = record {
+  runs = λ context payload actor actors. q.runs context payload actor actors ∙ p.runs context payload actor actors;
+  variables = q.variables ∙ p.variables;
+  maps = q.maps ∙ p.maps;
+  formats = q.formats ∙ p.formats;
+  frame_need = q.frame_need ∙ p.frame_need;
+  code_need = q.code_need ∙ p.code_need;
+  reads = omega (arith, p.reads, q.reads);
+  varies = q.varies;
+}
+
+-- ---- what a block's last instruction puts
+
+pub truth-last : (xs : List Instr) → ends_in_truth xs ≡ true → xs ≡ take (length xs - 1) xs ++ i.Truth ∷ []
+truth-last xs e = by (nat_eq (length xs) 0) refl e
+  where
+    is : (o : Option Instr) → is_truth o ≡ true → o ≡ Some i.Truth
+    is None t = absurd (cc)
+    is (Some i.Truth) t = refl
+    is (Some (i.Put v)) t = absurd (cc)
+    is (Some (i.Builtin b)) t = absurd (cc)
+    is (Some i.Comm) t = absurd (cc)
+    is (Some (i.NumberField f)) t = absurd (cc)
+    is (Some (i.TextField f)) t = absurd (cc)
+    is (Some (i.Load x shape)) t = absurd (cc)
+    is (Some (i.Store x shape)) t = absurd (cc)
+    is (Some (i.StepVar x plus prefix)) t = absurd (cc)
+    is (Some (i.UpdateVar x op)) t = absurd (cc)
+    is (Some (i.Unary op)) t = absurd (cc)
+    is (Some (i.Binary op)) t = absurd (cc)
+    is (Some (i.Compare equal)) t = absurd (cc)
+    is (Some (i.Get m key shape)) t = absurd (cc)
+    is (Some (i.Set m key shape)) t = absurd (cc)
+    is (Some (i.Delete m key)) t = absurd (cc)
+    is (Some (i.Update m key op)) t = absurd (cc)
+    is (Some (i.StepMap m key plus prefix)) t = absurd (cc)
+    is (Some (i.Add m key)) t = absurd (cc)
+    is (Some (i.Count m key)) t = absurd (cc)
+    is (Some (i.Printf format shapes)) t = absurd (cc)
+    is (Some (i.Print m most div)) t = absurd (cc)
+    is (Some (i.Clear m)) t = absurd (cc)
+    is (Some (i.Zero m)) t = absurd (cc)
+    is (Some (i.Cut line)) t = absurd (cc)
+    is (Some i.Stop) t = absurd (cc)
+    is (Some i.Pop) t = absurd (cc)
+
+    by : (c : Bool) → nat_eq (length xs) 0 ≡ c → cond c false (is_truth (slice_get xs (length xs - 1))) ≡ true → xs ≡ take (length xs - 1) xs ++ i.Truth ∷ []
+    by true n t = absurd (cc)
+    by false n t = last-at xs i.Truth (is (slice_get xs (length xs - 1)) t)
+
+exit-one : (e : Exit) → 1 ≤ exit_slots e
+exit-one (Goto b) = omega arith
+exit-one (Branch first second) = omega arith
+exit-one (Count block leave) = omega arith
+exit-one (Gate block cut) = omega arith
+exit-one (Again head) = omega arith
+exit-one (End ending) = omega arith
+
+-- a literal
+pub tests-literal : (b : Block) (first second : ℕ) (value : Value) (xs : List Instr) (to : ℕ) → literal_before 1 b.instrs ≡ Some value → xs ≡ take (length b.instrs - 1) b.instrs → to ≡ cond (holds (number_of value)) first second
+    → Tests first second b (record { stack = b.stack; instrs = xs; exit = Goto to; depth = b.depth })
+tests-literal b first second value xs to l x t =
+    let whole : b.instrs ≡ xs ++ i.Put value ∷ [] = last-is b.instrs value (here 1 b.instrs value l) ∙ ap (λ (ys : List Instr). ys ++ i.Put value ∷ []) (sym x) in
+    (settles [] (record b { exit = Branch first second }) first second value xs to refl l x t, omega (arith, ap instrs_slots whole, slots-append xs (i.Put value ∷ []), exit-one b.exit))
+
+-- a truth
+pub tests-truth : (b c : Block) (first second : ℕ) (xs : List Instr) → ends_in_truth b.instrs ≡ true → xs ≡ take (length b.instrs - 1) b.instrs → BettersBlock [] (record { stack = b.stack; instrs = xs; exit = Branch first second; depth = b.depth }) c → Tests first second b c
+tests-truth b c first second xs e x p =
+    let whole : b.instrs ≡ xs ++ i.Truth ∷ [] = truth-last b.instrs e ∙ ap (λ (ys : List Instr). ys ++ i.Truth ∷ []) (sym x) in
+    let mid : Block = record { stack = b.stack; instrs = xs; exit = Branch first second; depth = b.depth } in (
+      subst (λ (ys : List Instr). BettersBlock [] (record { stack = b.stack; instrs = ys; exit = Branch first second; depth = b.depth }) c) (sym whole) (block-then [] (record { stack = b.stack; instrs = xs ++ i.Truth ∷ []; exit = Branch first second; depth = b.depth }) mid c (truth-drops [] xs b.stack first second b.depth) p),
+      omega (arith, ap instrs_slots whole, slots-append xs (i.Truth ∷ []), exit-one b.exit, p.slots),
+    )
