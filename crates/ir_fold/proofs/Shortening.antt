@@ -6,14 +6,13 @@ use Rattle.std.specs.Option.{option_map}
 use Rattle.std.proofs.lemmas.Option.{slice_get-map}
 use Rattle.std.proofs.lemmas.Bool.{and_parts, eqb-true, leb-true, le-leb}
 use Rattle.bt_core.specs.declared.ending.Ending.{Ending}
-use Rattle.bt_core.specs.declared.ending.Ending.TheVariants.{End as Finished}
 use Rattle.bt_core.specs.declared.map.MapDecl.{MapDecl}
 use Rattle.bt_core.specs.declared.map.Shape.{Shape}
 use Rattle.bt_core.specs.declared.map.Shape.TheVariants as shapes
 use Rattle.bt_core.specs.declared.value.Value.{Value}
 use Rattle.bt_core.specs.declared.value.Value.TheVariants.{Int}
 use Rattle.bt_core.specs.Arithmetic.{truth}
-use Rattle.bt_core.specs.Interaction.{Interaction, Ended, and_then}
+use Rattle.bt_core.specs.Interaction.{Interaction, and_then}
 use Rattle.bt_core.proofs.InteractionLaws.{and_then_assoc}
 use Rattle.typed_tree.specs.Scope.{same_shapes}
 use Rattle.ir_code.specs.declared.blocks.Block.{Block}
@@ -28,7 +27,7 @@ use Rattle.ir_code.specs.Figures.{sizes_of, instrs_slots, exit_slots, blocks_slo
 use Rattle.ir_code.specs.Meaning.{Scene, instrs_run, put, popped, truth_on, exit_run, goes_on, code_run, block_run, run_from, blocks_run, fresh, ir_run}
 use Rattle.ir_code.specs.Serving.{ends_read, payload_need}
 use Rattle.ir_code.specs.Stacks.{top}
-use Rattle.ir_code.specs.Typing.{Ground, front_of, end_with, names, has_room, turned, may_stand, all_stand, all_turned, stack_in, goes_with, exit_stands, block_stands, each_stands, are_typed}
+use Rattle.ir_code.specs.Typing.{Ground, end_with, names, has_room, turned, may_stand, all_stand, all_turned, stack_in, goes_with, exit_stands, block_stands, each_stands, are_typed}
 use Rattle.ir_code.specs.Ways.{depth_in, depth_at, lies_below, leads, lead_from, lead_forward}
 use Rattle.ir_code.proofs.Shaped.{same_shapes-is, ends_is}
 use Rattle.map_ops.specs.Values.{number_of, holds}
@@ -37,7 +36,7 @@ use Rattle.ir_fold.proofs.Better.{and_then-same, runs-append, slots-append, turn
 use Rattle.ir_fold.proofs.Adding.{here, last-at, last-is}
 use Rattle.ir_fold.proofs.Alike.{leads-same, block-same, lead-whole, typed-whole}
 use Rattle.ir_fold.proofs.Blocked.{none-is, block-then, settles}
-use Rattle.ir_fold.proofs.Steady.{rank, inside, block-agrees, whole, run-whole, whole-is}
+use Rattle.ir_fold.proofs.Steady.{rank, block-agrees, whole, run-whole, whole-is}
 
 -- ---- the truth of a number counts as true where the number does
 

@@ -1,11 +1,10 @@
 -- With enough fuel a run does not depend on the fuel.
 use Rattle.std.proofs.Common.{◌≡◌, ℕ, zero, suc, ◌+◌, ◌-◌, ◌*◌, ◌<◌, ◌≤◌, List, [], ◌∷◌, length, Bool, true, false, Option, Some, None, refl, sym, ap, ◌∙◌, subst, arith}
-use Rattle.std.specs.Prelude.{◌&&◌, nat_le, cond, slice_get, ℤ, pos, negsuc}
+use Rattle.std.specs.Prelude.{nat_le, cond, slice_get, ℤ, pos, negsuc}
 use Rattle.std.proofs.lemmas.Bool.{and_parts, leb-true}
 use Rattle.std.proofs.Math.Nat.{mul-le-mul_right}
 use Rattle.bt_core.specs.declared.ending.Ending.{Ending}
 use Rattle.bt_core.specs.declared.item.Item.TheVariants as items
-use Rattle.bt_core.specs.declared.map.MapId.{MapId}
 use Rattle.bt_core.specs.declared.step.Reply.{Reply}
 use Rattle.bt_core.specs.declared.step.ObjectId.TheVariants.{Cpu, Clock, Out}
 use Rattle.bt_core.specs.declared.step.Op.TheVariants as ops
@@ -17,7 +16,6 @@ use Rattle.ir_code.specs.declared.blocks.Exit.TheVariants.{Goto, Branch, Count, 
 use Rattle.ir_code.specs.declared.instr.Instr.{Instr}
 use Rattle.ir_code.specs.declared.instr.Instr.TheVariants as i
 use Rattle.ir_code.specs.declared.state.State.{State}
-use Rattle.ir_code.specs.declared.state.Way.{Way}
 use Rattle.ir_code.specs.declared.state.Way.TheVariants.{To}
 use Rattle.ir_code.specs.Meaning.{Scene, instr_run, instrs_run, exit_run, goes_on, block_run, run_from, popped, put, key_on, unkeyed, updated, stepped, count_way, counted, turn_way}
 use Rattle.map_ops.specs.declared.sweep.Sweep.TheVariants.{Clear, Zero}

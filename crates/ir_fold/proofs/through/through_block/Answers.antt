@@ -1,4 +1,4 @@
-use Rattle.std.proofs.Common.{◌≡◌, map, sym, ap, ◌∙◌, inl, inr, subst, List, Option, Some}
+use Rattle.std.proofs.Common.{sym, ap, ◌∙◌, inl, inr, subst, List, Option, Some}
 use Rattle.ir_code.specs.declared.blocks.Block.{Block}
 use Rattle.ir_code.specs.declared.blocks.Exit.{Exit}
 use Rattle.ir_fold.specs.Folded.{bare_at, Shortens}
