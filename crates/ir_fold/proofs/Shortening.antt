@@ -27,11 +27,11 @@ use Rattle.ir_code.specs.Figures.{sizes_of, instrs_slots, exit_slots, blocks_slo
 use Rattle.ir_code.specs.Meaning.{Scene, instrs_run, put, popped, truth_on, exit_run, goes_on, code_run, block_run, run_from, blocks_run, fresh, ir_run}
 use Rattle.ir_code.specs.Serving.{ends_read, payload_need}
 use Rattle.ir_code.specs.Stacks.{top}
-use Rattle.ir_code.specs.Typing.{Ground, end_with, names, has_room, turned, may_stand, all_stand, all_turned, stack_in, goes_with, exit_stands, block_stands, each_stands, are_typed}
+use Rattle.ir_code.specs.Typing.{Ground, front_of, end_with, names, has_room, turned, may_stand, all_stand, all_turned, stack_in, goes_with, exit_stands, block_stands, each_stands, are_typed}
 use Rattle.ir_code.specs.Ways.{depth_in, depth_at, lies_below, leads, lead_from, lead_forward}
 use Rattle.ir_code.proofs.Shaped.{same_shapes-is, ends_is}
 use Rattle.map_ops.specs.Values.{number_of, holds}
-use Rattle.ir_fold.specs.Folded.{BettersBlock, BlockVaries, BlocksVary, IsFoldOf, bare_in, flat, bare_at, GoesThrough, AllLead, AllMayStand, Shortens, AllShorten, Tests, is_truth, ends_in_truth, literal_before}
+use Rattle.ir_fold.specs.Folded.{BettersBlock, BlockVaries, BlocksVary, IsFoldOf, bare_in, flat, bare_at, onward, way_on, ways_on, TestsNone, GoesThrough, AllLead, AllMayStand, Shortens, AllShorten, Tests, is_truth, ends_in_truth, literal_before}
 use Rattle.ir_fold.proofs.Better.{and_then-same, runs-append, slots-append, turned-append, top-append, popped-is, both, split, join}
 use Rattle.ir_fold.proofs.Adding.{here, last-at, last-is}
 use Rattle.ir_fold.proofs.Alike.{leads-same, block-same, lead-whole, typed-whole}
@@ -162,6 +162,92 @@ shortens-self bs b = record {
   slots = omega arith;
   reads = omega arith;
 }
+
+pub shortens-then : (bs : List Block) (a b c : Block) → Shortens bs a b → Shortens bs b c → Shortens bs a c
+shortens-then bs a b c p q = record {
+  stack = q.stack ∙ p.stack;
+  depth = q.depth ∙ p.depth;
+  runs = λ go through scene s. q.runs go through scene s ∙ p.runs go through scene s;
+  leads = λ all n h. q.leads all n (p.leads all n h);
+  stands = λ g all h. q.stands g all (p.stands g all h);
+  slots = omega (arith, p.slots, q.slots);
+  reads = omega (arith, p.reads, q.reads);
+}
+
+-- a way past a block that only goes on
+record Onward (bs : List Block) (to next : ℕ) : Type 0 where
+  runs : (go : ℕ → State → Interaction Ending) → GoesThrough bs go → (s : State) → go next s ≡ go to s
+  leads : AllLead bs → (n d : ℕ) → lies_below bs n d to ≡ true → lies_below bs n d next ≡ true
+  stands : (g : Ground) → AllMayStand g bs → (stack : List Shape) → goes_with bs stack to ≡ true → goes_with bs stack next ≡ true
+
+onward-is : (bs : List Block) (to : ℕ) (o : Option Exit) → bare_at (map bare_in bs) to ≡ o → Onward bs to (onward o to)
+onward-is bs to None at = record { runs = λ go through s. refl; leads = λ all n d h. h; stands = λ g all stack h. h }
+onward-is bs to (Some (Goto next)) at =
+    let m = bare-is bs to (Goto next) at in
+    record {
+      runs = λ go through s. sym (through to s (Goto next) at);
+      leads = λ all n d h.
+          (let l : lies_below bs to (depth_at bs to) next ≡ true = ap (λ (k : ℕ). lies_below bs to k next) (ap depth_in m.at) ∙ ap (λ (x : Exit). leads bs to m.block.depth x) (sym m.is) ∙ all to m.block m.at in
+          lies-through bs n d to next h l);
+      stands = λ g all stack h.
+          (let same : stack_in (slice_get bs to) ≡ stack = same_shapes-is (stack_in (slice_get bs to)) stack h in
+          let own : m.block.stack ≡ stack = sym (ap stack_in m.at) ∙ same in
+          let s = and_parts (all_stand g m.block.instrs m.block.stack) (exit_stands bs m.block.exit (all_turned m.block.instrs m.block.stack)) (all to m.block m.at) in
+          ap (λ (l : List Shape). goes_with bs l next) (sym own) ∙ ap (λ (xs : List Instr). goes_with bs (all_turned xs m.block.stack) next) (sym m.none)
+          ∙ ap (λ (x : Exit). exit_stands bs x (all_turned m.block.instrs m.block.stack)) (sym m.is) ∙ s.1);
+    }
+onward-is bs to (Some (Branch first second)) at = record { runs = λ go through s. refl; leads = λ all n d h. h; stands = λ g all stack h. h }
+onward-is bs to (Some (Count block leave)) at = record { runs = λ go through s. refl; leads = λ all n d h. h; stands = λ g all stack h. h }
+onward-is bs to (Some (Gate block cut)) at = record { runs = λ go through s. refl; leads = λ all n d h. h; stands = λ g all stack h. h }
+onward-is bs to (Some (Again head)) at = record { runs = λ go through s. refl; leads = λ all n d h. h; stands = λ g all stack h. h }
+onward-is bs to (Some (End ending)) at = record { runs = λ go through s. refl; leads = λ all n d h. h; stands = λ g all stack h. h }
+
+pub shortens-ways : (bs : List Block) (b : Block) → Shortens bs b (record b { exit = ways_on (map bare_in bs) b.exit })
+shortens-ways bs b = by b.exit
+  where
+    one : (to : ℕ) → Onward bs to (way_on (map bare_in bs) to)
+    one to = onward-is bs to (bare_at (map bare_in bs) to) refl
+
+    by : (x : Exit) → Shortens bs (record b { exit = x }) (record b { exit = ways_on (map bare_in bs) x })
+    by (Goto to) = shortens-self bs (record b { exit = Goto to })
+    by (Branch first second) = record {
+      stack = refl;
+      depth = refl;
+      runs = λ go through scene s. and_then-same (instrs_run b.instrs scene s) _ _ (λ s1. chosen go through (holds (number_of (top s1.stack))) (popped s1));
+      leads = λ all n h.
+          (let p = and_parts (lies_below bs n b.depth first) (lies_below bs n b.depth second) h in
+          both (lies_below bs n b.depth (way_on (map bare_in bs) first)) (lies_below bs n b.depth (way_on (map bare_in bs) second)) ((one first).leads all n b.depth p.0) ((one second).leads all n b.depth p.1));
+      stands = λ g all h.
+          (let t = all_turned b.instrs b.stack in
+          let rest = front_of 1 t in
+          let q = and_parts (all_stand g b.instrs b.stack) (exit_stands bs (Branch first second) t) h in
+          let r = and_parts (end_with (shapes.Int ∷ []) t && goes_with bs rest first) (goes_with bs rest second) q.1 in
+          let e = and_parts (end_with (shapes.Int ∷ []) t) (goes_with bs rest first) r.0 in
+          both (all_stand g b.instrs b.stack) (exit_stands bs (Branch (way_on (map bare_in bs) first) (way_on (map bare_in bs) second)) t) q.0
+          (both (end_with (shapes.Int ∷ []) t && goes_with bs rest (way_on (map bare_in bs) first)) (goes_with bs rest (way_on (map bare_in bs) second))
+          (both (end_with (shapes.Int ∷ []) t) (goes_with bs rest (way_on (map bare_in bs) first)) e.0 ((one first).stands g all rest e.1)) ((one second).stands g all rest r.1)));
+      slots = omega arith;
+      reads = omega arith;
+    }
+      where
+        chosen : (go : ℕ → State → Interaction Ending) → GoesThrough bs go → (c : Bool) (s : State) → goes_on go (cond c (To (way_on (map bare_in bs) first)) (To (way_on (map bare_in bs) second))) s ≡ goes_on go (cond c (To first) (To second)) s
+        chosen go through true s = (one first).runs go through s
+        chosen go through false s = (one second).runs go through s
+    by (Count block leave) = shortens-self bs (record b { exit = Count block leave })
+    by (Gate block cut) = shortens-self bs (record b { exit = Gate block cut })
+    by (Again head) = shortens-self bs (record b { exit = Again head })
+    by (End ending) = shortens-self bs (record b { exit = End ending })
+
+pub vary-ways : (bares : List (Option Exit)) (b : Block) → BlockVaries b → BlockVaries (record b { exit = ways_on bares b.exit })
+vary-ways bares b h = record { operators = h.operators; branch = by b.exit h.branch }
+  where
+    by : (x : Exit) → TestsNone x b.instrs → TestsNone (ways_on bares x) b.instrs
+    by (Goto to) t = t
+    by (Branch first second) t = t
+    by (Count block leave) t = t
+    by (Gate block cut) t = t
+    by (Again head) t = t
+    by (End ending) t = t
 
 -- ---- lists of blocks
 

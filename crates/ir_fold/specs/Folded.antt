@@ -153,6 +153,18 @@ AllShorten all [] (c ∷ cs) = ⊥
 AllShorten all (b ∷ bs) [] = ⊥
 AllShorten all (b ∷ bs) (c ∷ cs) = Shortens all b c × AllShorten all bs cs
 
+-- where a way leads that may go to a block that only goes on, and the exit of a branch by its two ways
+abbrev pub onward : Option Exit → ℕ → ℕ
+onward (Some (Goto next)) to = next
+onward o to = to
+
+abbrev pub way_on : List (Option Exit) → ℕ → ℕ
+way_on bares to = onward (bare_at bares to) to
+
+abbrev pub ways_on : List (Option Exit) → Exit → Exit
+ways_on bares (Branch first second) = Branch (way_on bares first) (way_on bares second)
+ways_on bares exit = exit
+
 -- the last instruction makes a number its truth
 abbrev pub is_truth : Option Instr → Bool
 is_truth (Some i.Truth) = true

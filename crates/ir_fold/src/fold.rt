@@ -131,8 +131,8 @@ fn fold_literals(alloc: Global, probe: IrProbe) -> Result<IrProbe, Memory>
     })
 }
 
-/// Folds the literals of a body, and then lets each block branch itself whose last instruction puts what the next block does
-/// nothing but test.
+/// Folds the literals of a body, then lets each block branch itself whose last instruction puts what the next block does nothing
+/// but test, and then each branch go past the blocks that this left without instructions.
 ///
 /// The run of what it answers asks the same objects for the same, reply by reply, and ends as before, under every context, payload,
 /// actor and number of actors. It has no operator whose operands are all literals, and no branch that tests one. The blocks keep
@@ -141,6 +141,7 @@ pub fn fold(alloc: Global, probe: IrProbe) -> Result<IrProbe, Memory>
     ensures { IfOk result (λ folded. IsFoldOf probe folded) }
 {
     let folded = fold_literals(alloc, probe)?;
-    let short = through(alloc, folded)?;
+    let tested = through(alloc, folded)?;
+    let short = through(alloc, tested)?;
     Ok(short)
 }

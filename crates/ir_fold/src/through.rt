@@ -1,7 +1,7 @@
 // Ways through blocks without instructions.
 ghost use Rattle.std.specs.Prelude.{◌≡◌, ◌⊎◌, IfOk, map, List};
 ghost use Rattle.ir_code.specs.declared.blocks.Block.{Block as IrBlock};
-ghost use Rattle.ir_fold.specs.Folded.{BlockVaries, BlocksVary, IsFoldOf, bare_in, bare_at, ends_in_truth, Shortens, AllShorten, Tests};
+ghost use Rattle.ir_fold.specs.Folded.{BlockVaries, BlocksVary, IsFoldOf, bare_in, bare_at, way_on, ways_on, ends_in_truth, Shortens, AllShorten, Tests};
 
 use crate::branches::{chosen, settle};
 use crate::instrs::{literal_before, take_off};
@@ -96,8 +96,31 @@ fn test_here(alloc: Global, block: Block, first: usize, second: usize) -> Block
     }
 }
 
+/// Where a way leads that may go to a block that only goes on.
+fn way_on(bares: &[Option<Exit>], to: usize) -> usize
+    ensures { result ≡ way_on bares.now to }
+{
+    match bare_at(bares, to) {
+        Some(Exit::Goto(next)) => next,
+        _ => to,
+    }
+}
+
+/// An exit of which no way of a branch goes to a block that only goes on.
+fn ways_on(bares: &[Option<Exit>], exit: Exit) -> Exit
+    ensures { result ≡ ways_on bares.now exit }
+{
+    match exit {
+        Exit::Branch { first, second } => Exit::Branch {
+            first: way_on(bares, first),
+            second: way_on(bares, second),
+        },
+        other => other,
+    }
+}
+
 /// A block that does the same and does not go to a block that only tests what its last instruction puts.
-fn through_block(alloc: Global, bares: &[Option<Exit>], block: Block) -> Block
+fn test_block(alloc: Global, bares: &[Option<Exit>], block: Block) -> Block
     ensures short { (bs : List IrBlock) → bares.now ≡ map bare_in bs → Shortens bs block result }
     ensures varies { BlockVaries block → BlockVaries result }
 {
@@ -107,6 +130,26 @@ fn through_block(alloc: Global, bares: &[Option<Exit>], block: Block) -> Block
         }
     }
     block
+}
+
+/// A block that does the same, where neither it nor its branch goes to a block that could be left out.
+fn through_block(alloc: Global, bares: &[Option<Exit>], block: Block) -> Block
+    ensures short { (bs : List IrBlock) → bares.now ≡ map bare_in bs → Shortens bs block result }
+    ensures varies { BlockVaries block → BlockVaries result }
+{
+    let tested = test_block(alloc, bares, block);
+    let Block {
+        stack,
+        instrs,
+        exit,
+        depth,
+    } = tested;
+    Block {
+        stack,
+        instrs,
+        exit: ways_on(bares, exit),
+        depth,
+    }
 }
 
 /// Blocks that do the same, number by number.

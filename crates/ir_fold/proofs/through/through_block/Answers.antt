@@ -1,13 +1,17 @@
-use Rattle.std.proofs.Common.{sym, ap, ◌∙◌, inl, inr, subst, List, Option, Some}
+use Rattle.std.proofs.Common.{map, List, Option, subst, sym, ap, ◌∙◌}
 use Rattle.ir_code.specs.declared.blocks.Block.{Block}
 use Rattle.ir_code.specs.declared.blocks.Exit.{Exit}
-use Rattle.ir_fold.specs.Folded.{bare_at, Shortens}
-use Rattle.ir_fold.proofs.Shortening.{shortens, shortens-self}
+use Rattle.ir_fold.specs.Folded.{BlockVaries, Shortens, bare_in, ways_on}
+use Rattle.ir_fold.proofs.Shortening.{shortens-then, shortens-ways, vary-ways}
 use Rattle.ir_fold.proofs.through.through_block.Goals as goal
 
-pub returns-in-Some-Branch-clause-short : goal.returns-in-Some-Branch-clause-short
-returns-in-Some-Branch-clause-short c bs e = elim c.test_here.ensures.tests [
-  | inl same ↦ subst (λ (b : Block). Shortens bs c.args.block b) (sym same) (shortens-self bs c.args.block)
-  | inr t ↦ shortens bs c.args.block c.test_here.result c.in-Goto.to c.in-Some-Branch.first c.in-Some-Branch.second c.in-Goto.is
-      (ap (λ (l : List (Option Exit)). bare_at l c.in-Goto.to) (sym e) ∙ sym c.bare_at.ensures ∙ c.in-Some-Branch.is ∙ ap (λ (x : Exit). Some x) c.in-Some-Branch.field-0-is) t.0 t.1
-]
+pub returns-clause-short : goal.returns-clause-short
+returns-clause-short c bs e =
+    let b : Block = c.test_block-tested.result in
+    subst (λ (x : Exit). Shortens bs c.args.block (record b { exit = x })) (ap (λ (l : List (Option Exit)). ways_on l b.exit) (sym e) ∙ sym c.ways_on.ensures)
+    (shortens-then bs c.args.block b (record b { exit = ways_on (map bare_in bs) b.exit }) (c.test_block-tested.ensures.short bs e) (shortens-ways bs b))
+
+pub returns-clause-varies : goal.returns-clause-varies
+returns-clause-varies c h =
+    let b : Block = c.test_block-tested.result in
+    subst (λ (x : Exit). BlockVaries (record b { exit = x })) (sym c.ways_on.ensures) (vary-ways c.args.bares.now b (c.test_block-tested.ensures.varies h))
