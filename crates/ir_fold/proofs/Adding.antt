@@ -165,13 +165,17 @@ here k xs z e = by (nat_le k (length xs)) refl e
     by true t e = record { enough = leb-true k (length xs) t; literal = literal-at (slice_get xs (length xs - k)) z e }
     by false t e = absurd (cc)
 
--- the last instruction is a literal
-pub last-is : (xs : List Instr) (z : Value) (h : Here 1 xs z) → xs ≡ take (length xs - 1) xs ++ i.Put z ∷ []
-last-is xs z h =
+-- the last instruction
+pub last-at : (xs : List Instr) (x : Instr) → slice_get xs (length xs - 1) ≡ Some x → xs ≡ take (length xs - 1) xs ++ x ∷ []
+last-at xs x at =
     let n = length xs - 1 in
     let e : length xs ≤ suc n = omega arith in
-    sym (take-append-drop n xs) ∙ ap (λ (l : List Instr). take n xs ++ l) (drop-at xs n (i.Put z) h.literal.is
-    ∙ ap (λ (l : List Instr). i.Put z ∷ l) (drop_of_length-le xs e))
+    sym (take-append-drop n xs) ∙ ap (λ (l : List Instr). take n xs ++ l) (drop-at xs n x at
+    ∙ ap (λ (l : List Instr). x ∷ l) (drop_of_length-le xs e))
+
+-- which is a literal
+pub last-is : (xs : List Instr) (z : Value) (h : Here 1 xs z) → xs ≡ take (length xs - 1) xs ++ i.Put z ∷ []
+last-is xs z h = last-at xs (i.Put z) h.literal.is
 
 -- and the one before it
 pub two-are : (xs : List Instr) (y z : Value) (g : Here 2 xs y) (h : Here 1 xs z) → xs ≡ take (length xs - 2) xs ++ i.Put y ∷ i.Put z ∷ []

@@ -34,6 +34,7 @@ use Rattle.ir_code.specs.Ways.{depth_in, depth_at, lies_below, leads, lead_from,
 use Rattle.ir_fold.specs.Folded.{Betters, BettersBlock, AllBetter, BlockVaries, BlocksVary, IsFoldOf, literal_before, finishes, block_ends, is_flag}
 use Rattle.ir_fold.specs.Folded.{flag_at, Finish, threaded_exit}
 use Rattle.ir_fold.proofs.Adding.{here, last-is}
+use Rattle.ir_fold.proofs.Alike.{leads-same, block-same, lead-whole, typed-whole}
 use Rattle.ir_fold.proofs.Better.{and_then-same, runs-append, slots-append, top-append, popped-is, front-stands, front-turns, both}
 
 abbrev pub with_instrs : Block → List Instr → Block
@@ -181,7 +182,7 @@ finish-is (Count block leave) e = absurd (cc)
 finish-is (Gate block cut) e = absurd (cc)
 finish-is (Again head) e = absurd (cc)
 
-none-is : (xs : List Instr) → nat_eq (length xs) 0 ≡ true → xs ≡ []
+pub none-is : (xs : List Instr) → nat_eq (length xs) 0 ≡ true → xs ≡ []
 none-is [] e = refl
 none-is (x ∷ xs) e = let l : length (x ∷ xs) ≡ 0 = eqb-true (length (x ∷ xs)) 0 e in absurd (omega (arith, l))
 
@@ -251,44 +252,6 @@ module _ (flags : List Bool) (bs cs : List Block) (all : AllBetter flags bs cs) 
   depth-same : (n : ℕ) → depth_at cs n ≡ depth_at bs n
   depth-same n = at-depth flags (slice_get bs n) (slice_get cs n) (better-at flags bs cs n all)
 
-  below-same : (n depth to : ℕ) → lies_below cs n depth to ≡ lies_below bs n depth to
-  below-same n depth to = ap (λ (d : ℕ). nat_le (to + 1) n && nat_le d depth) (depth-same to)
-
-  leads-same : (n depth : ℕ) (e : Exit) → leads cs n depth e ≡ leads bs n depth e
-  leads-same n depth (Goto b) = below-same n depth b
-  leads-same n depth (Branch first second) =
-      ap (λ (x : Bool). x && lies_below cs n depth second) (below-same n depth first)
-      ∙ ap (λ (x : Bool). lies_below bs n depth first && x) (below-same n depth second)
-  leads-same n depth (Count block leave) =
-      ap (λ (x : Bool). x && lies_below cs n depth leave) (below-same n depth block)
-      ∙ ap (λ (x : Bool). lies_below bs n depth block && x) (below-same n depth leave)
-  leads-same n depth (Gate block cut) =
-      ap (λ (x : Bool). x && lies_below cs n depth cut) (below-same n (depth + 1) block)
-      ∙ ap (λ (x : Bool). lies_below bs n (depth + 1) block && x) (below-same n depth cut)
-  leads-same n depth (Again head) =
-      ap (λ (l : ℕ). nat_le (head + 1) l && nat_le (depth_at cs head + 1) depth) (better-length flags bs cs all)
-      ∙ ap (λ (d : ℕ). nat_le (head + 1) (length bs) && nat_le (d + 1) depth) (depth-same head)
-  leads-same n depth (End ending) = refl
-
-  goes-same : (stack : List Shape) (to : ℕ) → goes_with cs stack to ≡ goes_with bs stack to
-  goes-same stack to = ap (λ (l : List Shape). same_shapes l stack) (stack-at to)
-
-  exit-same : (e : Exit) (stack : List Shape) → exit_stands cs e stack ≡ exit_stands bs e stack
-  exit-same (Goto b) stack = goes-same stack b
-  exit-same (Branch first second) stack =
-      ap (λ (x : Bool). end_with (shapes.Int ∷ []) stack && x && goes_with cs (front_of 1 stack) second) (goes-same (front_of 1 stack) first)
-      ∙ ap (λ (x : Bool). end_with (shapes.Int ∷ []) stack && goes_with bs (front_of 1 stack) first && x) (goes-same (front_of 1 stack) second)
-  exit-same (Count block leave) stack =
-      ap (λ (x : Bool). end_with (shapes.Int ∷ []) stack && x && goes_with cs stack leave) (goes-same stack block)
-      ∙ ap (λ (x : Bool). end_with (shapes.Int ∷ []) stack && goes_with bs stack block && x) (goes-same stack leave)
-  exit-same (Gate block cut) stack =
-      ap (λ (x : Bool). x && goes_with cs stack cut) (goes-same stack block) ∙ ap (λ (x : Bool). goes_with bs stack block && x) (goes-same stack cut)
-  exit-same (Again head) stack = goes-same stack head
-  exit-same (End ending) stack = refl
-
-  block-same : (g : Ground) (b : Block) → block_stands g cs b ≡ block_stands g bs b
-  block-same g b = ap (λ (x : Bool). all_stand g b.instrs b.stack && x) (exit-same b.exit (all_turned b.instrs b.stack))
-
   -- of the blocks from a number on
   lead-on : (n : ℕ) (xs ys : List Block) → AllBetter flags xs ys → lead_from bs n xs ≡ true → lead_from cs n ys ≡ true
   lead-on n [] [] h l = refl
@@ -296,7 +259,7 @@ module _ (flags : List Bool) (bs cs : List Block) (all : AllBetter flags bs cs) 
   lead-on n (x ∷ xs) [] h l = absurd h
   lead-on n (x ∷ xs) (y ∷ ys) h l =
       let p = and_parts (leads bs n x.depth x.exit) (lead_from bs (n + 1) xs) l in
-      both (leads cs n y.depth y.exit) (lead_from cs (n + 1) ys) (leads-same n y.depth y.exit ∙ h.0.leads bs n p.0) (lead-on (n + 1) xs ys h.1 p.1)
+      both (leads cs n y.depth y.exit) (lead_from cs (n + 1) ys) (leads-same bs cs (better-length flags bs cs all) stack-at depth-same n y.depth y.exit ∙ h.0.leads bs n p.0) (lead-on (n + 1) xs ys h.1 p.1)
 
   stand-on : (g : Ground) (xs ys : List Block) → AllBetter flags xs ys → each_stands g bs xs ≡ true → each_stands g cs ys ≡ true
   stand-on g [] [] h l = refl
@@ -304,23 +267,17 @@ module _ (flags : List Bool) (bs cs : List Block) (all : AllBetter flags bs cs) 
   stand-on g (x ∷ xs) [] h l = absurd h
   stand-on g (x ∷ xs) (y ∷ ys) h l =
       let p = and_parts (block_stands g bs x) (each_stands g bs xs) l in
-      both (block_stands g cs y) (each_stands g cs ys) (block-same g y ∙ h.0.stands g bs p.0) (stand-on g xs ys h.1 p.1)
+      both (block_stands g cs y) (each_stands g cs ys) (block-same bs cs (better-length flags bs cs all) stack-at depth-same g y ∙ h.0.stands g bs p.0) (stand-on g xs ys h.1 p.1)
 
   pub lead-too : lead_forward bs ≡ true → lead_forward cs ≡ true
   lead-too h =
       let p = and_parts (nat_le 1 (length bs) && depth_at bs (length bs - 1) == 0) (lead_from bs 0 bs) h in
-      both (nat_le 1 (length cs) && depth_at cs (length cs - 1) == 0) (lead_from cs 0 cs)
-      (ap (λ (l : ℕ). nat_le 1 l && depth_at cs (l - 1) == 0) (better-length flags bs cs all)
-      ∙ ap (λ (d : ℕ). nat_le 1 (length bs) && d == 0) (depth-same (length bs - 1)) ∙ p.0)
-      (lead-on 0 bs cs all p.1)
+      lead-whole bs cs (better-length flags bs cs all) stack-at depth-same h (lead-on 0 bs cs all p.1)
 
   pub typed-too : (g : Ground) → are_typed g bs ≡ true → are_typed g cs ≡ true
   typed-too g h =
       let p = and_parts (same_shapes (stack_in (slice_get bs (length bs - 1))) []) (each_stands g bs bs) h in
-      both (same_shapes (stack_in (slice_get cs (length cs - 1))) []) (each_stands g cs cs)
-      (ap (λ (l : ℕ). same_shapes (stack_in (slice_get cs (l - 1))) []) (better-length flags bs cs all)
-      ∙ ap (λ (l : List Shape). same_shapes l []) (stack-at (length bs - 1)) ∙ p.0)
-      (stand-on g bs cs all p.1)
+      typed-whole bs cs (better-length flags bs cs all) stack-at depth-same g h (stand-on g bs cs all p.1)
 
 pub better-slots : (flags : List Bool) (bs cs : List Block) → AllBetter flags bs cs → blocks_slots cs ≤ blocks_slots bs
 better-slots flags [] [] h = omega arith

@@ -1,6 +1,6 @@
 -- What folding keeps, and what it leaves.
 use Rattle.std.specs.Prelude.{◌≡◌, ℕ, suc, ◌≤◌, ◌-◌, ◌⊎◌, true, cond, nat_le, List, [], ◌∷◌, ◌++◌, length, slice_get, Option, Some, None, Bool, false}
-use Rattle.std.specs.Prelude.{nat_eq, ◌&&◌}
+use Rattle.std.specs.Prelude.{nat_eq, ◌&&◌, map}
 use Rattle.bt_core.specs.declared.operator.BinOp.{BinOp}
 use Rattle.bt_core.specs.declared.operator.UnOp.{UnOp}
 use Rattle.bt_core.specs.declared.context.Context.{Context}
@@ -17,7 +17,7 @@ use Rattle.ir_code.specs.declared.instr.Instr.TheVariants as i
 use Rattle.ir_code.specs.declared.probe.IrProbe.{IrProbe}
 use Rattle.ir_code.specs.declared.state.State.{State}
 use Rattle.ir_code.specs.Figures.{instrs_slots, block_slots}
-use Rattle.ir_code.specs.Meaning.{Scene, instrs_run, code_run, ir_run}
+use Rattle.ir_code.specs.Meaning.{Scene, instrs_run, exit_run, code_run, ir_run}
 use Rattle.ir_code.specs.Serving.{ends_read, payload_need}
 use Rattle.ir_code.specs.Typing.{Ground, all_stand, all_turned, block_stands}
 use Rattle.ir_code.specs.Ways.{leads}
@@ -110,6 +110,72 @@ AllBetter flags [] [] = Unit {0}
 AllBetter flags [] (c ∷ cs) = ⊥
 AllBetter flags (b ∷ bs) [] = ⊥
 AllBetter flags (b ∷ bs) (c ∷ cs) = BettersBlock flags b c × AllBetter flags bs cs
+
+-- ---- ways through blocks that do nothing
+
+-- the exit of a block without instructions
+abbrev pub bare_in : Block → Option Exit
+bare_in b = cond (nat_eq (length b.instrs) 0) (Some b.exit) None
+
+abbrev pub flat : Option (Option Exit) → Option Exit
+flat None = None
+flat (Some o) = o
+
+abbrev pub bare_at : List (Option Exit) → ℕ → Option Exit
+bare_at bares n = flat (slice_get bares n)
+
+-- a run goes through such a block by its exit
+abbrev pub GoesThrough : List Block → (ℕ → State → Interaction Ending) → Type 0
+GoesThrough bs go = (to : ℕ) (s : State) (exit : Exit) → bare_at (map bare_in bs) to ≡ Some exit → go to s ≡ exit_run go exit s
+
+-- each exit leads where it may, and each block may stand
+abbrev pub AllLead : List Block → Type 0
+AllLead bs = (n : ℕ) (b : Block) → slice_get bs n ≡ Some b → leads bs n b.depth b.exit ≡ true
+
+abbrev pub AllMayStand : Ground → List Block → Type 0
+AllMayStand g bs = (n : ℕ) (b : Block) → slice_get bs n ≡ Some b → block_stands g bs b ≡ true
+
+-- a block that does the same as another one of these blocks, where runs go through blocks without instructions
+pub record Shortens (bs : List Block) (old new : Block) : Type 0 where
+  pub stack : new.stack ≡ old.stack
+  pub depth : new.depth ≡ old.depth
+  pub runs : (go : ℕ → State → Interaction Ending) → GoesThrough bs go → (scene : Scene) (s : State)
+      → code_run go new.instrs new.exit scene s ≡ code_run go old.instrs old.exit scene s
+  pub leads : AllLead bs → (n : ℕ) → leads bs n old.depth old.exit ≡ true → leads bs n new.depth new.exit ≡ true
+  pub stands : (g : Ground) → AllMayStand g bs → block_stands g bs old ≡ true → block_stands g bs new ≡ true
+  pub slots : block_slots new ≤ block_slots old
+  pub reads : ends_read new.instrs ≤ ends_read old.instrs
+
+-- so block by block
+abbrev pub AllShorten : List Block → List Block → List Block → Type 0
+AllShorten all [] [] = Unit {0}
+AllShorten all [] (c ∷ cs) = ⊥
+AllShorten all (b ∷ bs) [] = ⊥
+AllShorten all (b ∷ bs) (c ∷ cs) = Shortens all b c × AllShorten all bs cs
+
+-- where a way leads that may go to a block that only goes on, and the exit of a branch by its two ways
+abbrev pub onward : Option Exit → ℕ → ℕ
+onward (Some (Goto next)) to = next
+onward o to = to
+
+abbrev pub way_on : List (Option Exit) → ℕ → ℕ
+way_on bares to = onward (bare_at bares to) to
+
+abbrev pub ways_on : List (Option Exit) → Exit → Exit
+ways_on bares (Branch first second) = Branch (way_on bares first) (way_on bares second)
+ways_on bares exit = exit
+
+-- the last instruction makes a number its truth
+abbrev pub is_truth : Option Instr → Bool
+is_truth (Some i.Truth) = true
+is_truth o = false
+
+abbrev pub ends_in_truth : List Instr → Bool
+ends_in_truth xs = cond (nat_eq (length xs) 0) false (is_truth (slice_get xs (length xs - 1)))
+
+-- a block whose last instruction puts what a branch tests: the branch stands in its own place, or, at a literal, where that leads
+abbrev pub Tests : (first second : ℕ) → Block → Block → Type 0
+Tests first second old new = BettersBlock [] (record old { exit = Branch first second }) new × (block_slots new ≤ block_slots old)
 
 -- a probe whose run is that of another under each context, payload and actor, reply by reply, with the same names and sums
 pub record IsFoldOf (old new : IrProbe) : Type 0 where

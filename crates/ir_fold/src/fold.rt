@@ -1,28 +1,16 @@
 // Folding of bodies.
-ghost use Rattle.std.specs.Prelude.{◌≡◌, IfOk, cond, map, nat_eq, suc, List, Bool};
-ghost use Rattle.map_ops.specs.Values.{number_of, holds};
-ghost use Rattle.ir_fold.specs.Folded.{AllVary, BettersBlock, BlockVaries, AllBetter, BlocksVary, IsFoldOf, finishes, block_ends, flag_at, threaded_exit};
+ghost use Rattle.std.specs.Prelude.{◌≡◌, IfOk, map, nat_eq, suc};
+ghost use Rattle.ir_fold.specs.Folded.{BettersBlock, BlockVaries, AllBetter, BlocksVary, IsFoldOf, finishes, block_ends, flag_at, threaded_exit};
 
-use crate::instrs::{fold_instrs, literal_before, take_off};
+use crate::branches::settle;
+use crate::instrs::fold_instrs;
+use crate::through::through;
 use bt_core::ending::Ending;
 use bt_core::items::Items;
 use bt_core::memory::Memory;
-use bt_core::value::Value;
 use ir_code::blocks::{Block, Blocks, Exit};
 use ir_code::probe::IrProbe;
-use map_ops::values::{holds, number_of};
 use std::alloc::Global;
-
-/// Where a branch on a literal goes.
-fn chosen(value: &Value, first: usize, second: usize) -> usize
-    ensures { result ≡ cond (holds (number_of value.now)) first second }
-{
-    if holds(number_of(value)) {
-        first
-    } else {
-        second
-    }
-}
 
 /// Whether a block does nothing but end a run.
 fn block_ends(block: &Block) -> bool
@@ -84,38 +72,6 @@ fn threaded_exit(flags: &[bool], number: usize, exit: Exit) -> Exit
     }
 }
 
-/// A block that tests no literal and does the same.
-fn settle(alloc: Global, block: Block) -> Block
-    requires { AllVary block.instrs }
-    ensures better { (flags : List Bool) → BettersBlock flags block result }
-    ensures varies { BlockVaries result }
-{
-    let Block {
-        stack,
-        mut instrs,
-        exit,
-        depth,
-    } = block;
-    if let Exit::Branch { first, second } = exit {
-        if let Some(value) = literal_before(&instrs, 1) {
-            take_off(alloc, &mut instrs, 1);
-            let to = chosen(&value, first, second);
-            return Block {
-                stack,
-                instrs,
-                exit: Exit::Goto(to),
-                depth,
-            };
-        }
-    }
-    Block {
-        stack,
-        instrs,
-        exit,
-        depth,
-    }
-}
-
 /// The block that has a number without operators and branches on literals, which does the same.
 fn fold_block(alloc: Global, flags: &[bool], number: usize, block: Block) -> Result<Block, Memory>
     ensures better { IfOk result (λ folded. BettersBlock flags.now block folded) }
@@ -151,12 +107,8 @@ fn fold_blocks(alloc: Global, blocks: Items<Block>) -> Result<Items<Block>, Memo
     Ok(folded)
 }
 
-/// Folds the literals of a body.
-///
-/// The run of what it answers asks the same objects for the same, reply by reply, and ends as before, under every context, payload,
-/// actor and number of actors. It has no operator whose operands are all literals, and no branch that tests one. The blocks keep
-/// their numbers, and the probe its variables, maps, formats and both sums. After [`Memory`] the probe is dropped.
-pub fn fold(alloc: Global, probe: IrProbe) -> Result<IrProbe, Memory>
+/// Folds the literals of a body, block by block.
+fn fold_literals(alloc: Global, probe: IrProbe) -> Result<IrProbe, Memory>
     ensures { IfOk result (λ folded. IsFoldOf probe folded) }
 {
     let IrProbe {
@@ -177,4 +129,19 @@ pub fn fold(alloc: Global, probe: IrProbe) -> Result<IrProbe, Memory>
         frame_need,
         code_need,
     })
+}
+
+/// Folds the literals of a body, then lets each block branch itself whose last instruction puts what the next block does nothing
+/// but test, and then each branch go past the blocks that this left without instructions.
+///
+/// The run of what it answers asks the same objects for the same, reply by reply, and ends as before, under every context, payload,
+/// actor and number of actors. It has no operator whose operands are all literals, and no branch that tests one. The blocks keep
+/// their numbers, and the probe its variables, maps, formats and both sums. After [`Memory`] the probe is dropped.
+pub fn fold(alloc: Global, probe: IrProbe) -> Result<IrProbe, Memory>
+    ensures { IfOk result (λ folded. IsFoldOf probe folded) }
+{
+    let folded = fold_literals(alloc, probe)?;
+    let tested = through(alloc, folded)?;
+    let short = through(alloc, tested)?;
+    Ok(short)
 }

@@ -9,7 +9,7 @@ use std::test::Fail;
 
 /// The text of a script with one body; and how many operators on numbers and how many branches its instructions have as they
 /// were lowered, and when they are folded.
-const FOLDS: [(&[u8], (usize, usize), (usize, usize)); 4] = [
+const FOLDS: [(&[u8], (usize, usize), (usize, usize)); 5] = [
     // The product of two literals, and its sum with a third.
     (b"BEGIN { $a = 2 * 3 + 1; @x = $a; }", (2, 0), (0, 0)),
     // A sum with a variable stays; the negation and the quotient of literals do not.
@@ -18,6 +18,12 @@ const FOLDS: [(&[u8], (usize, usize), (usize, usize)); 4] = [
     (b"BEGIN { if (1 > 2) { @x = 1; } }", (1, 1), (0, 0)),
     // A branch on a comparison of what is known in a run alone.
     (b"BEGIN { if (nsecs > 2) { @x = 1; } }", (1, 1), (1, 1)),
+    // A condition of two tests: the second one branches itself, and the block that only branched on their outcome stays.
+    (
+        b"BEGIN { if (nsecs > 2 && pid > 2) { @x = 1; } }",
+        (2, 2),
+        (2, 3),
+    ),
 ];
 
 /// How many operators on numbers a block has.

@@ -1,16 +1,7 @@
-use Rattle.std.proofs.Common.{refl, arith}
-use Rattle.ir_fold.proofs.Blocked.{lead-too, typed-too, better-slots, folds}
+use Rattle.ir_fold.proofs.Shortening.{folds-then}
 use Rattle.ir_fold.proofs.fold.fold.Goals as goal
 
-pub invariant_of-result : goal.invariant_of-result
-invariant_of-result c = record { led = lead-too _ c.args.probe.blocks.list c.in_ok-list.list c.in_ok-list.ensures.better c.args.probe.blocks.led }
-
-pub invariant_of-result-2 : goal.invariant_of-result-2
-invariant_of-result-2 c = record {
-  typed = typed-too _ c.args.probe.blocks.list c.in_ok-list.list c.in_ok-list.ensures.better _ c.args.probe.typed;
-  covered = (let all = better-slots _ c.args.probe.blocks.list c.in_ok-list.list c.in_ok-list.ensures.better in let within = c.args.probe.covered in omega
-      (arith, all, within));
-}
-
 pub returns : goal.returns
-returns c = folds c.args.probe _ c.in_ok-list.ensures.better refl refl refl refl refl c.in_ok-list.ensures.varies
+returns c =
+    let once = folds-then c.args.probe c.in_ok-folded.folded c.in_ok-tested.tested c.in_ok-folded.ensures (c.in_ok-tested.ensures c.in_ok-folded.ensures.varies) in
+    folds-then c.args.probe c.in_ok-tested.tested c.in_ok-short.short once (c.in_ok-short.ensures once.varies)

@@ -3,7 +3,7 @@ use Rattle.ir_code.specs.declared.instr.Instr.{Instr}
 use Rattle.ir_fold.specs.Folded.{AllVary}
 use Rattle.ir_fold.proofs.Adding.{vary-take}
 use Rattle.ir_fold.proofs.Blocked.{settles}
-use Rattle.ir_fold.proofs.fold.settle.Goals as goal
+use Rattle.ir_fold.proofs.branches.settle.Goals as goal
 
 pub returns-in-Some-clause-better : goal.returns-in-Some-clause-better
 returns-in-Some-clause-better c = λ flags.
@@ -11,7 +11,7 @@ returns-in-Some-clause-better c = λ flags.
     (sym c.literal_before.ensures ∙ c.in-Some.is) c.take_off.ensures c.chosen-to.ensures
 
 pub returns-in-Some-clause-varies : goal.returns-in-Some-clause-varies
-returns-in-Some-clause-varies c = record {
-  operators = subst (λ (l : List Instr). AllVary l) (sym c.take_off.ensures) (vary-take (length c.args.block.instrs - 1) c.args.block.instrs c.requires);
+returns-in-Some-clause-varies c vary = record {
+  operators = subst (λ (l : List Instr). AllVary l) (sym c.take_off.ensures) (vary-take (length c.args.block.instrs - 1) c.args.block.instrs vary);
   branch = tt;
 }
