@@ -10,7 +10,7 @@ use Rattle.fmt_text.specs.contracts.piece.Piece as piece_c
 use Rattle.fmt_text.specs.declared.piece.Piece.{Piece}
 use Rattle.typed_tree.specs.declared.body.TypedBody.{TypedBody}
 use Rattle.typed_tree.specs.declared.script.Typed.{Typed}
-use Rattle.typed_tree.specs.Script.{IsIn, AreIn}
+use Rattle.typed_tree.specs.Script.{AreIn}
 
 coded_decl : Coded MapDecl
 coded_decl = decl_c.the_row.coded

@@ -1,8 +1,7 @@
 -- A body that fits what is known at the end fits its own declarations.
-use Rattle.std.proofs.Common.{◌≡◌, ◌++◌, ◌&&◌, ◌||◌, ◌==◌, int_eq, ◌≤◌, ◌≤ℤ◌, ℕ, ℤ, pos, negsuc, zero, suc, T, Bool, true, false, cond, not, nat_le, nat_lt, nat_eq, List, [], ◌∷◌, length, map, find, Option, Some, None, slice_get, All, refl, sym, ap, subst, ◌∙◌, arith}
+use Rattle.std.proofs.Common.{◌≡◌, ◌++◌, ◌&&◌, ◌||◌, ◌==◌, int_eq, ◌≤◌, ℕ, ℤ, zero, suc, T, Bool, true, false, cond, not, nat_le, nat_lt, nat_eq, List, [], ◌∷◌, length, map, find, Option, Some, None, slice_get, All, refl, sym, ap, subst, ◌∙◌, arith}
 use Rattle.std.specs.List.{AllByRecursion, AllZip, cons_option, list_all, list_any}
 use Rattle.std.specs.Option.{option_map}
-use Rattle.std.specs.Prelude.{int_le}
 use Rattle.std.specs.Str.{bytes_eq}
 use Rattle.std.proofs.lemmas.Bool.{eq-eqb, eqb-true}
 use Rattle.std.proofs.lemmas.Bool.Decides.{nat_tests, Decides-int_eq}
