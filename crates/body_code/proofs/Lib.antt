@@ -1,6 +1,7 @@
 pub mod Bytes
 pub mod Values
 pub mod Cells
+pub mod High
 pub mod Steps
 pub mod Moves
 pub mod Arithmetic
