@@ -1,6 +1,8 @@
 pub mod Bytes
 pub mod Values
 pub mod Cells
+pub mod High
+pub mod Registers
 pub mod Steps
 pub mod Moves
 pub mod Arithmetic
@@ -19,6 +21,10 @@ pub mod Updates
 pub mod Texts
 pub mod Comparing
 pub mod Doing
+pub mod Laid
+pub mod HeldRows
+pub mod Entry
+pub mod Behind
 pub mod Placing
 pub mod Formed
 pub mod Jumps

@@ -1,2 +1,3 @@
 pub mod Totals
 pub mod Placed
+pub mod Numbered

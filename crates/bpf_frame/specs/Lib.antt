@@ -1,3 +1,4 @@
 pub mod Placing
 pub mod Apart
 pub mod Room
+pub mod Registers

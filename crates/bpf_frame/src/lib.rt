@@ -4,4 +4,5 @@
 pub mod error;
 pub mod frame;
 pub mod placing;
+pub mod registers;
 mod sizes;

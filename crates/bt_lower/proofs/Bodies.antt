@@ -99,7 +99,7 @@ module _ (parts : Bool → List Part) (d : Does Flow) (n : Need) (c : Code) (l :
   empty : stack_in (slice_get (closed c).blocks (length (closed c).blocks - 1)) ≡ []
   empty = ap stack_in first-block ∙ l.stack
 
-  pub body-slots : blocks_slots (closed c).blocks ≤ 32 + n.code
+  pub body-slots : blocks_slots (closed c).blocks + 4 ≤ 32 + n.code
   unfolding code_slots
   body-slots = omega (arith, slots-closed c, slots-closed nothing, l.slots)
 

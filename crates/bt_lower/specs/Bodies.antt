@@ -1,5 +1,5 @@
 -- What lowering does to bodies: the run of the blocks is the body's walk, and the two sums are carried.
-use Rattle.std.specs.Prelude.{◌≡◌, ℕ, ◌≤◌, ◌++◌, Bool, true, List, [], length, map, Option, Some, slice_get}
+use Rattle.std.specs.Prelude.{◌≡◌, ℕ, ◌+◌, ◌≤◌, ◌++◌, Bool, true, List, [], length, map, Option, Some, slice_get}
 use Rattle.bt_core.specs.declared.context.Context.{Context}
 use Rattle.bt_core.specs.declared.map.MapDecl.{MapDecl}
 use Rattle.bt_core.specs.declared.map.Shape.{Shape}
@@ -55,7 +55,7 @@ pub record LowersTree (tree : TypedTree) (bs : List Block) : Type 0 where
   pub leads : (t : Site) → HasPlace tree t → lead_forward bs ≡ true
   pub typed : (t : Site) → HasPlace tree t → are_typed (ground_in t.ground) bs ≡ true
   pub reads : (t : Site) → HasPlace tree t → payload_need bs ≤ t.ground.payload
-  pub slots : blocks_slots bs ≤ (tree_need tree).code
+  pub slots : blocks_slots bs + 4 ≤ (tree_need tree).code
 
 -- what the instructions of a body stand on: what they may name, the bytes of their frame, and the bytes of the payload that they may read
 abbrev pub footing_of : List MapDecl → List (List Shape) → List Shape → ℕ → ℕ → Footing

@@ -1,5 +1,5 @@
 // A body in typed instructions.
-ghost use Rattle.std.specs.Prelude.{◌≤◌, IsTrue};
+ghost use Rattle.std.specs.Prelude.{◌+◌, ◌≤◌, IsTrue};
 ghost use Rattle.ir_code.specs.Figures.{blocks_slots};
 ghost use Rattle.ir_code.specs.Typing.{are_typed};
 
@@ -20,6 +20,6 @@ pub struct IrProbe {
     /// Each instruction finds its operands on the stack, of their types, and what it names; and the bytes in use while it runs,
     /// the body's own 24 and those of the variables are at most the frame's.
     pub ghost typed: { IsTrue (are_typed (record { variables = variables; maps = maps; formats = formats; frame = frame_need }) blocks.list) },
-    /// The figures of all instructions and exits add up to at most the code's.
-    pub ghost covered: { blocks_slots blocks.list ≤ code_need },
+    /// The figures of all instructions and exits, and four more slots for what comes before them, add up to at most the code's.
+    pub ghost covered: { blocks_slots blocks.list + 4 ≤ code_need },
 }
