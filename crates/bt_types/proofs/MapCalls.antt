@@ -31,7 +31,7 @@ use Rattle.typed_tree.specs.Parts.{stmt_parts, Part, Gathered, Deleted, Shown, C
 use Rattle.expr_types.specs.Typing.{IsDeclared, IsMapOf, IsNamed, AllFit, title, titles_of, word_of}
 use Rattle.expr_types.specs.Maps.{shape_held}
 use Rattle.expr_types.specs.Checked.{Checked, KeyChecked}
-use Rattle.bt_types.specs.Told.{Told, used, kind_of_call, number_of_call, gather_told, print_told, clear_told, zero_told, delete_points, delete_told}
+use Rattle.bt_types.specs.Told.{Told, used, function_kind, kind_of_call, number_of_call, gather_told, print_told, clear_told, zero_told, delete_points, delete_told}
 use Rattle.bt_types.specs.Done.{Done, DoesIn, UseChecked, Removed}
 use Rattle.expr_types.proofs.Growing.{grows_on, grows_mention, grows_decides, shape_later}
 use Rattle.expr_types.proofs.Later.{named_later, title_is}
