@@ -84,10 +84,24 @@ const SEEN: &[u8] = b"tracepoint:t:e { @s = sum(args.v); @h[tid, args.v] = hist(
 /// The number of parts of a map, each of which is read, and cleared.
 const EACH_PART: usize = PARTS as usize;
 
+/// Five numbers and their sum.
+const FIVE: &[u8] =
+    b"BEGIN { $a = 1; $b = 2; $c = 3; $d = 4; $e = 5; @x = $a + $b + $c + $d + $e; }";
+
+/// A number that counts a thousand turns.
+const COUNTS: &[u8] = b"BEGIN { $i = 0; while ($i < 1000) { $i = $i + 1; } @x = $i; }";
+
+/// How many instructions it takes where the number lies in a word of the frame: 2 before the loop; 10 a turn, of which 2 test the
+/// number, 4 take the turn, 3 add 1 to the number and 1 goes back; 2 for the last test; and 9 behind the loop.
+const IN_THE_FRAME: u64 = 10_013;
+
 /// A body of a script by its number, the moment, what is read from maps, and how many steps its walk makes.
 type Row = (&'static [u8], usize, Moment, &'static [i64], usize);
 
-const ROWS: [Row; 16] = [
+const ROWS: [Row; 18] = [
+    // Five numbers, of which the first four are in registers; and one that counts.
+    (FIVE, 0, MAIN, &[], 1),
+    (COUNTS, 0, MAIN, &[], 1),
     // A start is set; it is read twice, added and deleted; a thread without one only reads.
     (TIMES, 0, LEFT, &[], 1),
     (TIMES, 1, LEFT, &[100, 100], 4),
@@ -150,7 +164,7 @@ fn agree(alloc: Global, row: &Row, formats: &[Format]) -> Result<bool, Fail> {
     let (text, number, moment, numbers, count) = *row;
     let typed = typed_of(alloc, text, formats)?;
     let ran = run_typed(alloc, &typed, number, moment, replies_of(alloc, numbers)?)?;
-    let made = run_program(alloc, &typed, number, moment, replies_of(alloc, numbers)?)?;
+    let (made, _count) = run_program(alloc, &typed, number, moment, replies_of(alloc, numbers)?)?;
     Ok(made.as_slice() == ran.as_slice() && made.len() == count)
 }
 
@@ -161,5 +175,16 @@ fn programs_make_the_steps_of_bodies(rt: HostRuntime) -> Result<(), Fail> {
     for row in ROWS {
         assert!(rt; agree(alloc, &row, formats.as_slice())?, "{row:?}");
     }
+    Ok(())
+}
+
+#[test]
+fn a_number_in_a_register_takes_fewer_instructions(rt: HostRuntime) -> Result<(), Fail> {
+    let alloc = rt.alloc();
+    let formats = formats(alloc)?;
+    let typed = typed_of(alloc, COUNTS, formats.as_slice())?;
+    let (steps, count) = run_program(alloc, &typed, 0, MAIN, Items::new(alloc))?;
+    assert_eq!(rt; steps.len(), 1);
+    assert!(rt; count < IN_THE_FRAME, "{count}");
     Ok(())
 }

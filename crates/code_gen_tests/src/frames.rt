@@ -110,3 +110,32 @@ fn six_strings_lie_below_the_one_that_is_assigned(rt: HostRuntime) -> Result<(),
     }
     Ok(())
 }
+
+/// Five numbers, of which the first four have registers.
+const FIVE: &[u8] =
+    b"BEGIN { $a = 1; $b = 2; $c = 3; $d = 4; $e = 5; @x = $a + $b + $c + $d + $e; }";
+
+/// A string and a number.
+const MIXED: &[u8] = b"BEGIN { $s = \"x\"; $a = 1; }";
+
+#[test]
+fn the_first_four_numbers_have_registers(rt: HostRuntime) -> Result<(), Fail> {
+    let alloc = rt.alloc();
+    let probe = probe_of(alloc, FIVE)?;
+    let frame = place_frame(alloc, &probe)?;
+    let registers = [Some(6), Some(7), Some(8), Some(9), None, None];
+    for (variable, register) in registers.iter().enumerate() {
+        assert_eq!(rt; frame.register_of(variable as u32), *register);
+    }
+    Ok(())
+}
+
+#[test]
+fn a_string_has_no_register(rt: HostRuntime) -> Result<(), Fail> {
+    let alloc = rt.alloc();
+    let probe = probe_of(alloc, MIXED)?;
+    let frame = place_frame(alloc, &probe)?;
+    assert_eq!(rt; frame.register_of(0), None);
+    assert_eq!(rt; frame.register_of(1), Some(6));
+    Ok(())
+}

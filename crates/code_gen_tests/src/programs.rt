@@ -86,7 +86,7 @@ const FEW: [(&[u8], usize); 6] = [
     ),
     (
         b"tracepoint:raw_syscalls:sys_enter { $i = 0; while ($i < 1000) { $i = $i + 1; } @x = $i; }",
-        25,
+        23,
     ),
     (
         b"tracepoint:raw_syscalls:sys_enter { @calls[comm] = count(); @ids = hist(args.id); \

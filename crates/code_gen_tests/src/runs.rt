@@ -138,7 +138,7 @@ fn run_code_of(
     probe: &IrProbe,
     moment: Moment,
     replies: Items<Reply>,
-) -> Result<Items<Step>, Fail> {
+) -> Result<(Items<Step>, u64), Fail> {
     let payload = moment.payload;
     let program = generate_program(alloc, probe)?;
     let bytes = program.bytes.as_slice();
@@ -151,20 +151,20 @@ fn run_code_of(
     let mut port = port_of(alloc, &typed.maps, moment, replies)?;
     let code = code.as_slice();
     let fuel = program.fuel;
-    run_code(
+    let ended = run_code(
         alloc, code, &context, payload, typed, actor, actors, &mut port, fuel,
     )?;
-    Ok(port.steps)
+    Ok((port.steps, ended.instructions))
 }
 
-/// The steps of a script's body as its program makes them.
+/// The steps of a script's body as its program makes them, and how many instructions it takes.
 pub(crate) fn run_program(
     alloc: Global,
     typed: &Typed,
     number: usize,
     moment: Moment,
     replies: Items<Reply>,
-) -> Result<Items<Step>, Fail> {
+) -> Result<(Items<Step>, u64), Fail> {
     let probes = lower(alloc, typed)?;
     match probes.get(number) {
         Some(probe) => run_code_of(alloc, typed, probe, moment, replies),
