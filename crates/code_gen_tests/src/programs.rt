@@ -70,7 +70,7 @@ fn a_body_that_stops_calls_the_helper_and_ends(rt: HostRuntime) -> Result<(), Fa
 }
 
 /// Worked bodies, and how many slots their programs have at most.
-const FEW: [(&[u8], usize); 6] = [
+const FEW: [(&[u8], usize); 7] = [
     (
         b"tracepoint:raw_syscalls:sys_enter { @[comm] = count(); }",
         25,
@@ -93,6 +93,7 @@ const FEW: [(&[u8], usize); 6] = [
 @sum = sum(args.id); }",
         41,
     ),
+    (b"tracepoint:raw_syscalls:sys_enter { @i++; }", 19),
 ];
 
 #[test]
