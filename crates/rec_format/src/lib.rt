@@ -2,6 +2,7 @@
 #![tactic(auto)]
 
 mod check;
+pub mod entries;
 pub mod error;
 mod formats;
 pub mod laws;
