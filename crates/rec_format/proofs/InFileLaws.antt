@@ -97,7 +97,7 @@ entry_lies false file rest after start format cpu n formats part is some placed 
     event_lies file rest after (start + 0) format formats part (is ∙ ap (λ (m : ℕ). drop m file) (omega arith)) some placed
 
 -- one entry more
-map_more : {X Y : Type 0} (f : X → Y) (xs : List X) (x : X) → map f (xs ++ x ∷ []) ≡ map f xs ++ f x ∷ []
+pub map_more : {X Y : Type 0} (f : X → Y) (xs : List X) (x : X) → map f (xs ++ x ∷ []) ≡ map f xs ++ f x ∷ []
 map_more f [] x = refl
 map_more f (y ∷ ys) x = ap (λ l. f y ∷ l) (map_more f ys x)
 

@@ -84,6 +84,14 @@ impl Entries {
         Ok(Entries { file, places })
     }
 
+    /// The entries at places of bytes.
+    pub(crate) fn in_bytes(alloc: Global, bytes: Vec<u8>, places: Vec<EntryPlace>) -> Result<Entries, Memory>
+        ensures { IfOk result (λ all. all ≡ entries_in bytes.items places.items) }
+    {
+        let file = Arc::new(alloc, bytes)?;
+        Ok(Entries { file, places })
+    }
+
     /// How many entries it has.
     pub fn len(&self) -> usize
         ensures { result ≡ length self.now }

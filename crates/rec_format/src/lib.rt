@@ -6,6 +6,7 @@ pub mod entries;
 pub mod error;
 mod formats;
 pub mod laws;
+pub mod made;
 mod number;
 mod part;
 pub mod reading;

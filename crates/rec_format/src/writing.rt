@@ -1,5 +1,5 @@
 // Writing a recording.
-ghost use Rattle.std.specs.Prelude.{◌≡◌, ◌<◌, ◌^◌, ◌++◌, length, IfOk, OnOk};
+ghost use Rattle.std.specs.Prelude.{◌≡◌, ◌<◌, ◌^◌, ◌∷◌, ◌++◌, length, IfOk, OnOk};
 ghost use Rattle.std.specs.Int.{w16, w32, w64, to_le_bytes};
 ghost use Rattle.std.specs.List.{AllByRecursion};
 ghost use Rattle.rec_format.specs.Parts.{sized_bytes, header_bytes, format_bytes, IsEventPart, event_bytes};
@@ -119,7 +119,8 @@ fn push_formats(bytes: &mut Vec<u8>, formats: &[Format]) -> Result<(), AllocErro
 /// The parts of an event, one after the other.
 pub(crate) fn push_event(bytes: &mut Vec<u8>, event: &EventRef<'_>) -> Result<(), AllocError>
     requires { IsEventPart (part_of_event (event_seen event.now)) }
-    ensures { OnOk result (bytes.new.items ≡ bytes.old.items ++ event_bytes (part_of_event (event_seen event.now))) }
+    ensures written { OnOk result (bytes.new.items ≡ bytes.old.items ++ event_bytes (part_of_event (event_seen event.now))) }
+    ensures whole { IsEventPart (part_of_event (event_seen event.now)) }
 {
     push_u64(bytes, event.time)?;
     push_u32(bytes, event.pid)?;
@@ -130,14 +131,23 @@ pub(crate) fn push_event(bytes: &mut Vec<u8>, event: &EventRef<'_>) -> Result<()
     push_sized32(bytes, event.payload)
 }
 
+fn push_tagged(bytes: &mut Vec<u8>, event: &EventRef<'_>) -> Result<(), AllocError>
+    requires { IsEventPart (part_of_event (event_seen event.now)) }
+    ensures { OnOk result (bytes.new.items ≡ bytes.old.items ++ 0 ∷ event_bytes (part_of_event (event_seen event.now))) }
+{
+    bytes.push(0)?;
+    push_event(bytes, event)
+}
+
 fn push_marked(bytes: &mut Vec<u8>, marks: bool, event: &EventRef<'_>) -> Result<(), AllocError>
     requires { IsEventPart (part_of_event (event_seen event.now)) }
     ensures { OnOk result (bytes.new.items ≡ bytes.old.items ++ entry_bytes marks (Occurs (part_of_event (event_seen event.now)))) }
 {
     if marks {
-        bytes.push(0)?;
+        push_tagged(bytes, event)
+    } else {
+        push_event(bytes, event)
     }
-    push_event(bytes, event)
 }
 
 fn push_entry(bytes: &mut Vec<u8>, marks: bool, entry: &EntryRef<'_>) -> Result<(), AllocError>

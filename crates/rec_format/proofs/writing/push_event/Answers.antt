@@ -5,8 +5,8 @@ use Rattle.rec_format.specs.InFile.{event_seen}
 use Rattle.rec_format.proofs.WriteLaws.{written7}
 use Rattle.rec_format.proofs.writing.push_event.Goals as goal
 
-pub returns : goal.returns
-returns c =
+pub returns-clause-written : goal.returns-clause-written
+returns-clause-written c =
     let e : Event = event_seen c.args.event.now in
     written7 c.push_sized32.result c.args.bytes.now.items c.push_u64.new.bytes.items c.push_u32.new.bytes.items c.push_u32-2.new.bytes.items c.push_u32-3.new.bytes.items c.push_u32-4.new.bytes.items
     c.extend_from_slice.new.self.items c.push_sized32.new.bytes.items
