@@ -1,6 +1,6 @@
 -- Only one list is an agenda of these ticks and entries.
-use Rattle.std.proofs.Common.{◌≡◌, ℕ, zero, suc, ◌+◌, ◌<◌, ◌≤◌, List, [], ◌∷◌, ◌++◌, length, refl, ap, ◌∙◌, subst, arith, get_or}
-use Rattle.std.specs.Prelude.{slice_get, Some}
+use Rattle.std.proofs.Common.{◌≡◌, ℕ, zero, suc, ◌+◌, ◌<◌, ◌≤◌, List, [], ◌∷◌, ◌++◌, length, refl, ap, sym, ◌∙◌, subst, arith, get_or}
+use Rattle.std.specs.Prelude.{slice_get, Option, Some, None}
 use Rattle.std.specs.List.{AllByRecursion, filter_map, range_with_len}
 use Rattle.std.proofs.lemmas.Option.{slice_get-get_or}
 use Rattle.bt_ast.specs.declared.attached.Tick.{Tick}
@@ -8,7 +8,7 @@ use Rattle.rec_format.specs.declared.recording.Entry.{Entry}
 use Rattle.rec_format.specs.Places.{entry_time}
 use Rattle.actor_plan.specs.declared.agenda.AgendaItem.{AgendaItem}
 use Rattle.actor_plan.specs.declared.agenda.AgendaItem.TheVariants as item
-use Rattle.actor_plan.specs.Agendas.{tick_place, entry_place, IsNotBefore, StandsAt, IsAgenda}
+use Rattle.actor_plan.specs.Agendas.{tick_place, entry_place, item_at, IsOfEntry, IsBefore, IsNotBefore, StandsAt, IsAgenda}
 
 -- where the first tick of a list stands
 record FirstTick (place : ℕ) (items : List AgendaItem) : Type 0 where
@@ -94,27 +94,87 @@ module _ (ticks : List Tick) (entries : List Entry) where
   abbrev pub Kinds : List AgendaItem → Type 0
   Kinds items = AllByRecursion (IsOfEntry entries) items
 
+  -- two that begin with the entry at one place begin alike
+  head_is : (i j : AgendaItem) (p q n : ℕ) → entry_place i ≡ Some p → entry_place j ≡ Some q → n ≡ p → n ≡ q → n < length entries → IsOfEntry entries i → IsOfEntry entries j → i ≡ j
+  head_is i j p q n at_i at_j pn qn lt is_i is_j =
+      let found = placed entries n lt in
+      one_item entries i j n found.0 found.1 (at_i ∙ ap (λ k. Some k) (sym pn)) (at_j ∙ ap (λ k. Some k) (sym qn)) is_i is_j
+
   same : (one other : List AgendaItem) (tick_places entry_places : List ℕ) → AllBelow (length ticks) tick_places → AllBelow (length entries) entry_places
       → filter_map tick_place one ≡ tick_places → filter_map entry_place one ≡ entry_places → filter_map tick_place other ≡ tick_places → filter_map entry_place other ≡ entry_places
       → Kinds one → Kinds other → Stands one → Stands other → one ≡ other
-
-  -- both begin with an entry
-  same_entries : (i j : AgendaItem) (p q : ℕ) (xs ys : List AgendaItem) (tp ep : List ℕ) → entry_place i ≡ Some p → entry_place j ≡ Some q → tick_place i ≡ None → tick_place j ≡ None
-      → AllBelow (length ticks) tp → AllBelow (length entries) ep → filter_map tick_place xs ≡ tp → p ∷ filter_map entry_place xs ≡ ep → filter_map tick_place ys ≡ tp → q ∷ filter_map entry_place ys ≡ ep
-      → IsOfEntry entries i × Kinds xs → IsOfEntry entries j × Kinds ys → Stands (i ∷ xs) → Stands (j ∷ ys) → i ∷ xs ≡ j ∷ ys
-  same_entries i j p q xs ys tp [] hi hj ni nj tb eb a b c d ki kj h g = absurd cc
-  same_entries i j p q xs ys tp (n ∷ ns) hi hj ni nj tb eb a b c d ki kj h g =
+  same [] [] tp ep tb eb a b c d ki kj h g = refl
+  same [] (item.Tick q ∷ ys) tp ep tb eb a b c d ki kj h g = absurd cc
+  same [] (item.Event q ∷ ys) tp ep tb eb a b c d ki kj h g = absurd cc
+  same [] (item.Lost q ∷ ys) tp ep tb eb a b c d ki kj h g = absurd cc
+  same (item.Tick p ∷ xs) [] tp ep tb eb a b c d ki kj h g = absurd cc
+  same (item.Event p ∷ xs) [] tp ep tb eb a b c d ki kj h g = absurd cc
+  same (item.Lost p ∷ xs) [] tp ep tb eb a b c d ki kj h g = absurd cc
+  same (item.Tick p ∷ xs) (item.Tick q ∷ ys) [] ep tb eb a b c d ki kj h g = absurd cc
+  same (item.Tick p ∷ xs) (item.Tick q ∷ ys) (n ∷ ns) ep tb eb a b c d ki kj h g =
+      let head : p ≡ q = cc in
+      let one_rest : filter_map tick_place xs ≡ ns = cc in
+      let other_rest : filter_map tick_place ys ≡ ns = cc in
+      let rest = same xs ys ns ep tb.1 eb one_rest b other_rest d ki.1 kj.1 (behind_first (item.Tick p) xs h) (behind_first (item.Tick q) ys g) in
+      (λ i. item.Tick (head i) ∷ rest i)
+  same (item.Event p ∷ xs) (item.Event q ∷ ys) tp [] tb eb a b c d ki kj h g = absurd cc
+  same (item.Event p ∷ xs) (item.Event q ∷ ys) tp (n ∷ ns) tb eb a b c d ki kj h g =
       let pn : n ≡ p = cc in
       let qn : n ≡ q = cc in
-      let pq : q ≡ p = cc in
       let one_rest : filter_map entry_place xs ≡ ns = cc in
       let other_rest : filter_map entry_place ys ≡ ns = cc in
-      let found = placed entries p (subst (λ k. k < length entries) pn eb.0) in
-      let head : i ≡ j = one_item entries i j p found.0 found.1 hi (hj ∙ ap (λ k. Some k) pq) ki.0 kj.0 in
-      let rest = same xs ys tp ns tb eb.1 a one_rest c other_rest ki.1 kj.1 (behind_first i xs h) (behind_first j ys g) in
-      (λ k. head k ∷ rest k)
+      let head = head_is (item.Event p) (item.Event q) p q n refl refl pn qn eb.0 ki.0 kj.0 in
+      let rest = same xs ys tp ns tb eb.1 a one_rest c other_rest ki.1 kj.1 (behind_first (item.Event p) xs h) (behind_first (item.Event q) ys g) in
+      (λ i. head i ∷ rest i)
+  same (item.Event p ∷ xs) (item.Lost q ∷ ys) tp [] tb eb a b c d ki kj h g = absurd cc
+  same (item.Event p ∷ xs) (item.Lost q ∷ ys) tp (n ∷ ns) tb eb a b c d ki kj h g =
+      let pn : n ≡ p = cc in
+      let qn : n ≡ q = cc in
+      let one_rest : filter_map entry_place xs ≡ ns = cc in
+      let other_rest : filter_map entry_place ys ≡ ns = cc in
+      let head = head_is (item.Event p) (item.Lost q) p q n refl refl pn qn eb.0 ki.0 kj.0 in
+      let rest = same xs ys tp ns tb eb.1 a one_rest c other_rest ki.1 kj.1 (behind_first (item.Event p) xs h) (behind_first (item.Lost q) ys g) in
+      (λ i. head i ∷ rest i)
+  same (item.Lost p ∷ xs) (item.Event q ∷ ys) tp [] tb eb a b c d ki kj h g = absurd cc
+  same (item.Lost p ∷ xs) (item.Event q ∷ ys) tp (n ∷ ns) tb eb a b c d ki kj h g =
+      let pn : n ≡ p = cc in
+      let qn : n ≡ q = cc in
+      let one_rest : filter_map entry_place xs ≡ ns = cc in
+      let other_rest : filter_map entry_place ys ≡ ns = cc in
+      let head = head_is (item.Lost p) (item.Event q) p q n refl refl pn qn eb.0 ki.0 kj.0 in
+      let rest = same xs ys tp ns tb eb.1 a one_rest c other_rest ki.1 kj.1 (behind_first (item.Lost p) xs h) (behind_first (item.Event q) ys g) in
+      (λ i. head i ∷ rest i)
+  same (item.Lost p ∷ xs) (item.Lost q ∷ ys) tp [] tb eb a b c d ki kj h g = absurd cc
+  same (item.Lost p ∷ xs) (item.Lost q ∷ ys) tp (n ∷ ns) tb eb a b c d ki kj h g =
+      let pn : n ≡ p = cc in
+      let qn : n ≡ q = cc in
+      let one_rest : filter_map entry_place xs ≡ ns = cc in
+      let other_rest : filter_map entry_place ys ≡ ns = cc in
+      let head = head_is (item.Lost p) (item.Lost q) p q n refl refl pn qn eb.0 ki.0 kj.0 in
+      let rest = same xs ys tp ns tb eb.1 a one_rest c other_rest ki.1 kj.1 (behind_first (item.Lost p) xs h) (behind_first (item.Lost q) ys g) in
+      (λ i. head i ∷ rest i)
+  same (item.Tick p ∷ xs) (item.Event q ∷ ys) [] ep tb eb a b c d ki kj h g = absurd cc
+  same (item.Tick p ∷ xs) (item.Event q ∷ ys) (n ∷ ns) [] tb eb a b c d ki kj h g = absurd cc
+  same (item.Tick p ∷ xs) (item.Event q ∷ ys) (n ∷ ns) (m ∷ ms) tb eb a b c d ki kj h g =
+      let tick : n ≡ p = cc in let entry : m ≡ q = cc in
+      absurd (not_both p q (item.Event q) xs ys ns ms refl refl (subst (λ k. k < length ticks) tick tb.0) (subst (λ k. k < length entries) entry eb.0) h g (b ∙ ap (λ k. k ∷ ms) entry) (c ∙ ap (λ k. k ∷ ns) tick))
+  same (item.Event p ∷ xs) (item.Tick q ∷ ys) [] ep tb eb a b c d ki kj h g = absurd cc
+  same (item.Event p ∷ xs) (item.Tick q ∷ ys) (n ∷ ns) [] tb eb a b c d ki kj h g = absurd cc
+  same (item.Event p ∷ xs) (item.Tick q ∷ ys) (n ∷ ns) (m ∷ ms) tb eb a b c d ki kj h g =
+      let tick : n ≡ q = cc in let entry : m ≡ p = cc in
+      absurd (not_both q p (item.Event p) ys xs ns ms refl refl (subst (λ k. k < length ticks) tick tb.0) (subst (λ k. k < length entries) entry eb.0) g h (d ∙ ap (λ k. k ∷ ms) entry) (a ∙ ap (λ k. k ∷ ns) tick))
+  same (item.Tick p ∷ xs) (item.Lost q ∷ ys) [] ep tb eb a b c d ki kj h g = absurd cc
+  same (item.Tick p ∷ xs) (item.Lost q ∷ ys) (n ∷ ns) [] tb eb a b c d ki kj h g = absurd cc
+  same (item.Tick p ∷ xs) (item.Lost q ∷ ys) (n ∷ ns) (m ∷ ms) tb eb a b c d ki kj h g =
+      let tick : n ≡ p = cc in let entry : m ≡ q = cc in
+      absurd (not_both p q (item.Lost q) xs ys ns ms refl refl (subst (λ k. k < length ticks) tick tb.0) (subst (λ k. k < length entries) entry eb.0) h g (b ∙ ap (λ k. k ∷ ms) entry) (c ∙ ap (λ k. k ∷ ns) tick))
+  same (item.Lost p ∷ xs) (item.Tick q ∷ ys) [] ep tb eb a b c d ki kj h g = absurd cc
+  same (item.Lost p ∷ xs) (item.Tick q ∷ ys) (n ∷ ns) [] tb eb a b c d ki kj h g = absurd cc
+  same (item.Lost p ∷ xs) (item.Tick q ∷ ys) (n ∷ ns) (m ∷ ms) tb eb a b c d ki kj h g =
+      let tick : n ≡ q = cc in let entry : m ≡ p = cc in
+      absurd (not_both q p (item.Lost p) ys xs ns ms refl refl (subst (λ k. k < length ticks) tick tb.0) (subst (λ k. k < length entries) entry eb.0) g h (d ∙ ap (λ k. k ∷ ms) entry) (a ∙ ap (λ k. k ∷ ns) tick))
 
   pub only : (one other : List AgendaItem) → IsAgenda ticks entries one → IsAgenda ticks entries other → one ≡ other
   only one other h g = same one other (range_with_len 0 (length ticks)) (range_with_len 0 (length entries))
       (range_below 0 (length ticks) (length ticks) (omega arith)) (range_below 0 (length entries) (length entries) (omega arith))
-      h.ticks_are h.entries_are g.ticks_are g.entries_are h.stands g.stands
+      h.ticks_are h.entries_are g.ticks_are g.entries_are h.kinds_are g.kinds_are h.stands g.stands
