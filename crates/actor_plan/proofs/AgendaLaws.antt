@@ -1,4 +1,4 @@
--- The list that the loops make is the agenda, where events and ticks stand in the order of their times.
+-- The list that the loops make is the agenda, where entries and ticks stand in the order of their times.
 use Rattle.std.proofs.Common.{◌≡◌, ℕ, suc, ◌+◌, ◌<◌, ◌≤◌, Bool, true, false, List, [], ◌∷◌, ◌++◌, drop, length, refl, sym, ap, ◌∙◌, subst, arith, get_or, lit≤, if◌then◌else◌, inl, inr}
 use Rattle.std.specs.Prelude.{nat_lt, nat_le, slice_get, Some, ◌^◌}
 use Rattle.std.proofs.lemmas.Bool.{cases_lt}
@@ -10,14 +10,17 @@ use Rattle.bt_ast.specs.declared.attached.Attached.{Attached}
 use Rattle.bt_ast.specs.declared.attached.Tick.{Tick}
 use Rattle.rec_format.specs.declared.recording.CpuTrack.{CpuTrack}
 use Rattle.rec_format.specs.declared.recording.Recording.{Recording}
-use Rattle.rec_format.specs.declared.recording.Event.{Event}
+use Rattle.rec_format.specs.declared.recording.Entry.{Entry}
+use Rattle.rec_format.specs.declared.recording.Entry.TheVariants as entry
 use Rattle.rec_format.specs.Entries.{AreInTime}
-use Rattle.rec_format.specs.Events.{events}
+use Rattle.rec_format.specs.EntryParts.{entries}
+use Rattle.rec_format.specs.Places.{entry_time}
 use Rattle.rec_format.specs.Recordings.{IsValidRecording}
-use Rattle.rec_format.proofs.PlaceLaws.{track_at}
+use Rattle.rec_format.specs.Checks.{has_marks}
+use Rattle.rec_format.proofs.PlaceLaws.{track_at, time_is}
 use Rattle.actor_plan.specs.declared.agenda.AgendaItem.TheVariants as item
-use Rattle.actor_plan.specs.Agendas.{AreInTurn, events_of, events_on_track, events_where, is_between, items_from, agenda_of}
-use Rattle.actor_plan.specs.Steps.{events_on, earlier, earlier_count, taken}
+use Rattle.actor_plan.specs.Agendas.{AreInTurn, entries_of, entries_on_track, item_at, entries_where, is_between, items_from, agenda_of}
+use Rattle.actor_plan.specs.Steps.{entries_on, earlier, earlier_count, taken}
 
 -- ---- tests of times
 
@@ -42,53 +45,63 @@ between_before from to x low = rw (above from x low) refl
 between_behind : (from to x : ℕ) → from ≤ x → to ≤ x → is_between from to x ≡ false
 between_behind from to x low high = rw (at_most from x low) (not_below x to high)
 
--- ---- events by a test
+-- ---- entries by a test
+
+-- from the one time on, the times of entries never fall, up to the other
+abbrev pub InTime : ℕ → ℕ → List Entry → Type 0
+InTime low high [] = Unit {0}
+InTime low high (e ∷ es) = (low ≤ entry_time e) × (entry_time e ≤ high) × InTime (entry_time e) high es
+
+pub in_time_is : (marks : Bool) (low high : ℕ) (es : List Entry) → AreInTime (entries marks) low high es → InTime low high es
+in_time_is marks low high [] times = tt
+in_time_is marks low high (entry.Event e ∷ es) times = (times.0, times.1, in_time_is marks e.time high es times.2)
+in_time_is marks low high (entry.Lost time count ∷ es) times = (times.0, times.1, in_time_is marks time high es times.2)
 
 -- from a time on they are from any earlier time on
-weaken : (t u end : ℕ) (es : List Event) → t ≤ u → AreInTime events u end es → AreInTime events t end es
+weaken : (t u end : ℕ) (es : List Entry) → t ≤ u → InTime u end es → InTime t end es
 weaken t u end [] le times = tt
 weaken t u end (e ∷ es) le times = let low = times.0 in (omega arith, times.1, times.2)
 
 -- all pass
-all_pass : (f : ℕ → Bool) → ((x : ℕ) → f x ≡ true) → (p : ℕ) (es : List Event) → events_where f p es ≡ events_on p (length es)
+all_pass : (f : ℕ → Bool) → ((x : ℕ) → f x ≡ true) → (p : ℕ) (es : List Entry) → entries_where f p es ≡ entries_on p es
 all_pass f passes p [] = refl
-all_pass f passes p (e ∷ es) = rw (passes e.time) (ap (λ l. item.Event p ∷ l) (all_pass f passes (p + 1) es))
+all_pass f passes p (e ∷ es) = rw (passes (entry_time e)) (ap (λ l. item_at p e ∷ l) (all_pass f passes (p + 1) es))
 
 -- none passes
-none_pass : (f : ℕ → Bool) (t : ℕ) → ((x : ℕ) → t ≤ x → f x ≡ false) → (end p : ℕ) (es : List Event) → AreInTime events t end es → events_where f p es ≡ []
+none_pass : (f : ℕ → Bool) (t : ℕ) → ((x : ℕ) → t ≤ x → f x ≡ false) → (end p : ℕ) (es : List Entry) → InTime t end es → entries_where f p es ≡ []
 none_pass f t fails end p [] times = refl
-none_pass f t fails end p (e ∷ es) times = rw (fails e.time times.0) (none_pass f t fails end (p + 1) es (weaken t e.time end es times.0 times.2))
+none_pass f t fails end p (e ∷ es) times = rw (fails (entry_time e) times.0) (none_pass f t fails end (p + 1) es (weaken t (entry_time e) end es times.0 times.2))
 
 -- two tests that agree from a time on
-same_pass : (f g : ℕ → Bool) (t : ℕ) → ((x : ℕ) → t ≤ x → f x ≡ g x) → (end p : ℕ) (es : List Event) → AreInTime events t end es → events_where f p es ≡ events_where g p es
+same_pass : (f g : ℕ → Bool) (t : ℕ) → ((x : ℕ) → t ≤ x → f x ≡ g x) → (end p : ℕ) (es : List Entry) → InTime t end es → entries_where f p es ≡ entries_where g p es
 same_pass f g t same end p [] times = refl
 same_pass f g t same end p (e ∷ es) times =
-    let rest : events_where f (p + 1) es ≡ events_where g (p + 1) es = same_pass f g t same end (p + 1) es (weaken t e.time end es times.0 times.2) in
-    (λ i. if same e.time times.0 i then item.Event p ∷ rest i else rest i)
+    let rest : entries_where f (p + 1) es ≡ entries_where g (p + 1) es = same_pass f g t same end (p + 1) es (weaken t (entry_time e) end es times.0 times.2) in
+    (λ i. if same (entry_time e) times.0 i then item_at p e ∷ rest i else rest i)
 
 -- those that are earlier pass, and no others
-earlier_pass : (f : ℕ → Bool) (t : ℕ) → ((x : ℕ) → x < t → f x ≡ true) → ((x : ℕ) → t ≤ x → f x ≡ false) → (low end p : ℕ) (es : List Event) → AreInTime events low end es → events_where f p es ≡ earlier t p es
+earlier_pass : (f : ℕ → Bool) (t : ℕ) → ((x : ℕ) → x < t → f x ≡ true) → ((x : ℕ) → t ≤ x → f x ≡ false) → (low end p : ℕ) (es : List Entry) → InTime low end es → entries_where f p es ≡ earlier t p es
 earlier_pass f t passes fails low end p [] times = refl
-earlier_pass f t passes fails low end p (e ∷ es) times = elim (cases_lt e.time t) [
-  | inl lt ↦ rw (passes e.time lt) (rw (below e.time t lt) (ap (λ l. item.Event p ∷ l) (earlier_pass f t passes fails e.time end (p + 1) es times.2)))
-  | inr le ↦ rw (fails e.time le) (rw (not_below e.time t le) (none_pass f t fails end (p + 1) es (weaken t e.time end es le times.2)))
+earlier_pass f t passes fails low end p (e ∷ es) times = elim (cases_lt (entry_time e) t) [
+  | inl lt ↦ rw (passes (entry_time e) lt) (rw (below (entry_time e) t lt) (ap (λ l. item_at p e ∷ l) (earlier_pass f t passes fails (entry_time e) end (p + 1) es times.2)))
+  | inr le ↦ rw (fails (entry_time e) le) (rw (not_below (entry_time e) t le) (none_pass f t fails end (p + 1) es (weaken t (entry_time e) end es le times.2)))
 ]
 
 -- what is earlier passes no test, and is left out
-skip : (t : ℕ) (f : ℕ → Bool) → ((x : ℕ) → x < t → f x ≡ false) → (p : ℕ) (es : List Event) → events_where f p es ≡ events_where f (p + earlier_count t es) (drop (earlier_count t es) es)
+skip : (t : ℕ) (f : ℕ → Bool) → ((x : ℕ) → x < t → f x ≡ false) → (p : ℕ) (es : List Entry) → entries_where f p es ≡ entries_where f (p + earlier_count t es) (drop (earlier_count t es) es)
 skip t f fails p [] = refl
-skip t f fails p (e ∷ es) = elim (cases_lt e.time t) [
-  | inl lt ↦ rw (fails e.time lt) (rw (below e.time t lt) (let q : p + 1 + earlier_count t es ≡ p + suc (earlier_count t es) = omega arith in
-      skip t f fails (p + 1) es ∙ ap (λ n. events_where f n (drop (earlier_count t es) es)) q))
-  | inr le ↦ rw (not_below e.time t le) (let q : p ≡ p + 0 = omega arith in ap (λ n. events_where f n (e ∷ es)) q)
+skip t f fails p (e ∷ es) = elim (cases_lt (entry_time e) t) [
+  | inl lt ↦ rw (fails (entry_time e) lt) (rw (below (entry_time e) t lt) (let q : p + 1 + earlier_count t es ≡ p + suc (earlier_count t es) = omega arith in
+      skip t f fails (p + 1) es ∙ ap (λ n. entries_where f n (drop (earlier_count t es) es)) q))
+  | inr le ↦ rw (not_below (entry_time e) t le) (let q : p ≡ p + 0 = omega arith in ap (λ n. entries_where f n (e ∷ es)) q)
 ]
 
 -- what is not earlier
-left : (t low end : ℕ) (es : List Event) → AreInTime events low end es → AreInTime events t end (drop (earlier_count t es) es)
+left : (t low end : ℕ) (es : List Entry) → InTime low end es → InTime t end (drop (earlier_count t es) es)
 left t low end [] times = tt
-left t low end (e ∷ es) times = elim (cases_lt e.time t) [
-  | inl lt ↦ rw (below e.time t lt) (left t e.time end es times.2)
-  | inr le ↦ rw (not_below e.time t le) (le, times.1, times.2)
+left t low end (e ∷ es) times = elim (cases_lt (entry_time e) t) [
+  | inl lt ↦ rw (below (entry_time e) t lt) (left t (entry_time e) end es times.2)
+  | inr le ↦ rw (not_below (entry_time e) t le) (le, times.1, times.2)
 ]
 
 -- ---- items
@@ -102,7 +115,7 @@ pub from_start : (time : ℕ) (ts : List Tick) → NoneBefore time ts → NoneBe
 from_start time [] h = tt
 from_start time (t ∷ ts) h = (omega arith, h.1)
 
-skip_items : (t p : ℕ) (es : List Event) (time place : ℕ) (ts : List Tick) → t ≤ time → NoneBefore time ts → items_from p es time place ts ≡ items_from (p + earlier_count t es) (drop (earlier_count t es) es) time place ts
+skip_items : (t p : ℕ) (es : List Entry) (time place : ℕ) (ts : List Tick) → t ≤ time → NoneBefore time ts → items_from p es time place ts ≡ items_from (p + earlier_count t es) (drop (earlier_count t es) es) time place ts
 skip_items t p es time place [] le h = skip t (nat_le time) (λ x lt. above time x (omega arith)) p es
 skip_items t p es time place (s ∷ ts) le h =
     let front = skip t (is_between time s.time) (λ x lt. between_before time s.time x (omega arith)) p es in
@@ -111,14 +124,14 @@ skip_items t p es time place (s ∷ ts) le h =
     (λ i. front i ++ item.Tick place ∷ back i)
 
 -- events that are all from a time on are taken as from the beginning
-from_any : (t end p : ℕ) (es : List Event) (place : ℕ) (ts : List Tick) → AreInTime events t end es → items_from p es t place ts ≡ items_from p es 0 place ts
+from_any : (t end p : ℕ) (es : List Entry) (place : ℕ) (ts : List Tick) → InTime t end es → items_from p es t place ts ≡ items_from p es 0 place ts
 from_any t end p es place [] times = same_pass (nat_le t) (nat_le 0) t (λ x le. at_most t x le ∙ sym (at_most 0 x (omega arith))) end p es times
 from_any t end p es place (s ∷ ts) times =
     let front = same_pass (is_between t s.time) (is_between 0 s.time) t (λ x le. rw (at_most t x le) (rw (at_most 0 x (omega arith)) refl)) end p es times in
     ap (λ l. l ++ item.Tick place ∷ items_from p es s.time (place + 1) ts) front
 
 -- the list that the loops make
-pub taken_all : (low end p : ℕ) (es : List Event) (place : ℕ) (ts : List Tick) → AreInTime events low end es → NoneBefore 0 ts → items_from p es 0 place ts ≡ taken p es place ts
+pub taken_all : (low end p : ℕ) (es : List Entry) (place : ℕ) (ts : List Tick) → InTime low end es → NoneBefore 0 ts → items_from p es 0 place ts ≡ taken p es place ts
 taken_all low end p es place [] times h = all_pass (nat_le 0) (λ x. at_most 0 x (omega arith)) p es
 taken_all low end p es place (s ∷ ts) times h =
     let rest = drop (earlier_count s.time es) es in
@@ -143,22 +156,22 @@ none_before (t ∷ ts) h = (omega arith, behind t ts h.times)
 
 -- ---- the agenda of a CPU
 
-pub few_events : (r : Recording) (cpu : ℕ) (d : CpuTrack) → IsValidRecording r → cpu < length r.cpus → length (get_or r.cpus cpu d).events ≤ 2 ^ 32
-few_events r cpu d valid lt =
+pub few_entries : (r : Recording) (cpu : ℕ) (d : CpuTrack) → IsValidRecording r → cpu < length r.cpus → length (get_or r.cpus cpu d).entries ≤ 2 ^ 32
+few_entries r cpu d valid lt =
     let few = valid.cpus.few in
-    let one = get_or-le-sum_by (λ (c : CpuTrack). length c.events) r.cpus cpu d lt in
+    let one = get_or-le-sum_by (λ (c : CpuTrack). length c.entries) r.cpus cpu d lt in
     let most : EVENTS ≤ 2 ^ 32 = lit≤ tt in
     omega (arith, one, few, most)
 
-pub times_are : (r : Recording) (cpu : ℕ) (d : CpuTrack) → IsValidRecording r → cpu < length r.cpus → AreInTime events r.start r.end (events_of r cpu)
+pub times_are : (r : Recording) (cpu : ℕ) (d : CpuTrack) → IsValidRecording r → cpu < length r.cpus → InTime r.start r.end (entries_of r cpu)
 times_are r cpu d valid lt =
     let track = get_or r.cpus cpu d in
     let at = slice_get-get_or r.cpus cpu d lt in
-    subst (λ o. AreInTime events r.start r.end (events_on_track o)) (sym at) (track_at r cpu track valid at).events.in_time
+    subst (λ o. InTime r.start r.end (entries_on_track o)) (sym at) (in_time_is (has_marks r.version) r.start r.end track.entries (track_at r cpu track valid at).entries.in_time)
 
 pub agenda_is : (r : Recording) (attached : Attached) (cpu : ℕ) (d : CpuTrack) → IsValidRecording r → AreInTurn attached.ticks → cpu < length r.cpus
-    → taken 0 (get_or r.cpus cpu d).events 0 attached.ticks ≡ agenda_of r attached cpu
+    → taken 0 (get_or r.cpus cpu d).entries 0 attached.ticks ≡ agenda_of r attached cpu
 unfolding agenda_of
 agenda_is r attached cpu d valid turn lt =
-    ap (λ o. taken 0 (events_on_track o) 0 attached.ticks) (sym (slice_get-get_or r.cpus cpu d lt))
-    ∙ sym (taken_all r.start r.end 0 (events_of r cpu) 0 attached.ticks (times_are r cpu d valid lt) (none_before attached.ticks turn))
+    ap (λ o. taken 0 (entries_on_track o) 0 attached.ticks) (sym (slice_get-get_or r.cpus cpu d lt))
+    ∙ sym (taken_all r.start r.end 0 (entries_of r cpu) 0 attached.ticks (times_are r cpu d valid lt) (none_before attached.ticks turn))

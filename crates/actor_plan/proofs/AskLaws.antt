@@ -10,13 +10,15 @@ use Rattle.bt_core.specs.declared.context.Context.{Context}
 use Rattle.bt_core.specs.Interaction.{Interaction, Ended, Asks, and_then}
 use Rattle.bt_core.specs.declared.map.MapDecl.{MapDecl}
 use Rattle.bt_core.specs.declared.step.ObjectId.{ObjectId}
-use Rattle.bt_core.specs.declared.step.ObjectId.TheVariants.{Clock}
+use Rattle.bt_core.specs.declared.item.Item.TheVariants.{Lost}
+use Rattle.bt_core.specs.declared.step.ObjectId.TheVariants.{Clock, Out}
 use Rattle.bt_core.specs.declared.step.Op.{Op}
-use Rattle.bt_core.specs.declared.step.Op.TheVariants.{Check, Cross}
+use Rattle.bt_core.specs.declared.step.Op.TheVariants.{Check, Cross, Emit}
 use Rattle.rec_format.specs.declared.recording.CpuTrack.{CpuTrack}
-use Rattle.rec_format.specs.declared.recording.Event.{Event}
+use Rattle.rec_format.specs.declared.recording.Entry.{Entry}
+use Rattle.rec_format.specs.declared.recording.Entry.TheVariants as entry
 use Rattle.rec_format.specs.declared.recording.Recording.{Recording}
-use Rattle.rec_format.specs.Places.{event_at_place}
+use Rattle.rec_format.specs.Places.{entry_at_place}
 use Rattle.rec_format.specs.Recordings.{IsValidRecording}
 use Rattle.rec_format.proofs.ForOthers.{recorded_format}
 use Rattle.tracefs_format.proofs.ForOthers.{all_at}
@@ -26,7 +28,7 @@ use Rattle.actor_plan.specs.Agendas.{agenda_of}
 use Rattle.actor_plan.specs.Contexts.{event_context, tick_context, begin_context, end_context}
 use Rattle.actor_plan.specs.Plans.{Plan, CanRun, IsBodyFor, HasBodies, AsksOf, BodiesAsk}
 use Rattle.actor_plan.specs.declared.outcome.Outcome.{Outcome}
-use Rattle.actor_plan.specs.Programs.{after_count, in_turn, goes_on, crosses_last, event_work, tick_work, item_work, where_some, items_program, track_program, begin_program, end_program, cpu_program, main_program, actor_program}
+use Rattle.actor_plan.specs.Programs.{after_count, in_turn, goes_on, crosses_last, entry_work, tick_work, item_work, where_some, items_program, track_program, begin_program, end_program, cpu_program, main_program, actor_program}
 
 asks_then : {A B : Type 0} (calls : ObjectId → Op → Type 0) (maps : List MapDecl) (t : Interaction A) (k : A → Interaction B) → AsksOf calls maps t → ((a : A) → AsksOf calls maps (k a)) → AsksOf calls maps (and_then t k)
 asks_then calls maps (Ended a) k h g = g a
@@ -41,7 +43,7 @@ goes_on_asks calls maps true check = (check, λ r kind. tt)
 goes_on_asks calls maps false check = tt
 
 module _ (calls : ObjectId → Op → Type 0) (maps : List MapDecl) (plan : Plan) (r : Recording) (attached : Attached) (valid : IsValidRecording r) (bodies : HasBodies plan r.formats attached)
-    (check : calls Clock Check) (cross : (tick : ℕ) → tick < length attached.ticks → calls Clock (Cross tick)) (runs : BodiesAsk calls maps plan) where
+    (check : calls Clock Check) (cross : (tick : ℕ) → tick < length attached.ticks → calls Clock (Cross tick)) (emit : (number count : ℕ) → calls Out (Emit (Lost number count))) (runs : BodiesAsk calls maps plan) where
   in_turn_asks : (context : Context) (payload : List ℕ) (size : ℕ) (which : List ℕ) → context.payload_len ≡ length payload → size ≤ length payload → AllByRecursion (IsBodyFor plan size) which
       → AsksOf calls maps (in_turn (λ body. plan.run body context payload) which)
   in_turn_asks context payload size [] counted long h = tt
@@ -52,9 +54,10 @@ module _ (calls : ObjectId → Op → Type 0) (maps : List MapDecl) (plan : Plan
       (λ n. asks_then calls maps (in_turn (λ body. plan.run body context payload) bs) (λ m. Ended (n + m)) (in_turn_asks context payload size bs counted long h.1) (λ m. tt))
 
   module _ (track : CpuTrack) (placed : slice_get r.cpus plan.actor ≡ Some track) where
-    event_asks : (place : ℕ) (e : Event) → slice_get track.events place ≡ Some e → AsksOf calls maps (event_work plan r attached track e)
-    event_asks place e there =
-        let at : event_at_place r plan.actor place ≡ Some e = ap (λ o. option_and_then (λ (c : CpuTrack). slice_get c.events place) o) placed ∙ there in
+    entry_asks : (place : ℕ) (e : Entry) → slice_get track.entries place ≡ Some e → AsksOf calls maps (entry_work plan r attached track e)
+    entry_asks place (entry.Lost time count) there = (emit track.number count, λ reply kind. tt)
+    entry_asks place (entry.Event e) there =
+        let at : entry_at_place r plan.actor place ≡ Some (entry.Event e) = ap (λ o. option_and_then (λ (c : CpuTrack). slice_get c.entries place) o) placed ∙ there in
         let has = recorded_format r plan.actor place e valid at in
         in_turn_asks (event_context r track e) e.payload has.format.layout.size (slice_index_or attached.by_format e.format []) refl has.long
         (recursion_from_All (IsBodyFor plan has.format.layout.size) (slice_index_or attached.by_format e.format []) (bodies.by_format e.format has.format has.placed))
@@ -70,7 +73,8 @@ module _ (calls : ObjectId → Op → Type 0) (maps : List MapDecl) (plan : Plan
 
     item_asks : (i : AgendaItem) → AsksOf calls maps (item_work plan r attached track i)
     item_asks (item.Tick place) = where_asks calls maps (tick_work plan r attached track place) (slice_get attached.ticks place) (tick_asks place)
-    item_asks (item.Event place) = where_asks calls maps (event_work plan r attached track) (slice_get track.events place) (event_asks place)
+    item_asks (item.Event place) = where_asks calls maps (entry_work plan r attached track) (slice_get track.entries place) (entry_asks place)
+    item_asks (item.Lost place) = where_asks calls maps (entry_work plan r attached track) (slice_get track.entries place) (entry_asks place)
 
     -- what follows the question whether to go on
     abbrev pub going : AgendaItem → Interaction Outcome → Bool → Interaction Outcome

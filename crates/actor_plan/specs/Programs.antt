@@ -3,12 +3,15 @@ use Rattle.std.specs.Prelude.{ℕ, ◌+◌, nat_lt, Bool, true, false, not, if�
 use Rattle.std.specs.Prelude.{List, [], ◌∷◌, length, slice_get, slice_index_or, Option, Some, None}
 use Rattle.bt_ast.specs.declared.attached.Attached.{Attached}
 use Rattle.bt_ast.specs.declared.attached.Tick.{Tick}
-use Rattle.bt_core.specs.declared.step.ObjectId.TheVariants.{Clock}
-use Rattle.bt_core.specs.declared.step.Op.TheVariants.{Cross, Check}
+use Rattle.bt_core.specs.declared.item.Item.TheVariants.{Lost}
+use Rattle.bt_core.specs.declared.step.ObjectId.TheVariants.{Clock, Out}
+use Rattle.bt_core.specs.declared.step.Op.TheVariants.{Cross, Check, Emit}
 use Rattle.bt_core.specs.declared.step.Reply.{Reply}
 use Rattle.bt_core.specs.declared.step.Reply.TheVariants.{Last, Stopped}
 use Rattle.bt_core.specs.Interaction.{Interaction, Ended, and_then, ask}
 use Rattle.rec_format.specs.declared.recording.CpuTrack.{CpuTrack}
+use Rattle.rec_format.specs.declared.recording.Entry.{Entry}
+use Rattle.rec_format.specs.declared.recording.Entry.TheVariants as entry
 use Rattle.rec_format.specs.declared.recording.Event.{Event}
 use Rattle.rec_format.specs.declared.recording.Recording.{Recording}
 use Rattle.actor_plan.specs.declared.agenda.AgendaItem.{AgendaItem}
@@ -45,6 +48,10 @@ abbrev pub where_some : {A : Type 0} → (A → Interaction ℕ) → Option A �
 where_some work None = Ended 0
 where_some work (Some a) = work a
 
+-- a mark of a CPU of this number: so many lost events are told of
+abbrev pub mark_work : ℕ → ℕ → Interaction ℕ
+mark_work number count = and_then (ask Out (Emit (Lost number count))) (λ reply. Ended 0)
+
 module _ (plan : Plan) (r : Recording) (attached : Attached) where
   -- the bodies that are attached to an event
   abbrev pub bodies_at : Event → List ℕ
@@ -54,6 +61,11 @@ module _ (plan : Plan) (r : Recording) (attached : Attached) where
   abbrev pub event_work : CpuTrack → Event → Interaction ℕ
   event_work track e = in_turn (λ body. plan.run body (event_context r track e) e.payload) (bodies_at e)
 
+  -- an entry of a CPU: an event, or a mark
+  abbrev pub entry_work : CpuTrack → Entry → Interaction ℕ
+  entry_work track (entry.Event e) = event_work track e
+  entry_work track (entry.Lost time count) = mark_work track.number count
+
   -- a tick, by its place, on a CPU: it is crossed, and the last to cross it runs its body
   abbrev pub tick_work : CpuTrack → ℕ → Tick → Interaction ℕ
   tick_work track place t = and_then (crosses_last place) (λ last. if last then plan.run t.body (tick_context r track t) [] else Ended 0)
@@ -61,7 +73,8 @@ module _ (plan : Plan) (r : Recording) (attached : Attached) where
   -- an item of a CPU's agenda
   abbrev pub item_work : CpuTrack → AgendaItem → Interaction ℕ
   item_work track (item.Tick place) = where_some (tick_work track place) (slice_get attached.ticks place)
-  item_work track (item.Event place) = where_some (event_work track) (slice_get track.events place)
+  item_work track (item.Event place) = where_some (entry_work track) (slice_get track.entries place)
+  item_work track (item.Lost place) = where_some (entry_work track) (slice_get track.entries place)
 
   -- the bodies of BEGIN, and those of END, in the order of the script
   abbrev pub begin_program : Interaction ℕ

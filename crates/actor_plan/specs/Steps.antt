@@ -1,32 +1,41 @@
--- What the loops over events and ticks add. No public contract speaks of it.
-use Rattle.std.specs.Prelude.{◌≡◌, ℕ, zero, suc, ◌+◌, nat_lt, List, [], ◌∷◌, ◌++◌, drop, length, if◌then◌else◌}
+-- What the loops over entries and ticks add. No public contract speaks of it.
+use Rattle.std.specs.Prelude.{◌≡◌, ℕ, suc, ◌+◌, nat_lt, List, [], ◌∷◌, ◌++◌, drop, if◌then◌else◌}
 use Rattle.bt_ast.specs.declared.attached.Tick.{Tick}
-use Rattle.rec_format.specs.declared.recording.Event.{Event}
+use Rattle.rec_format.specs.declared.recording.Entry.{Entry}
+use Rattle.rec_format.specs.declared.recording.Entry.TheVariants as entry
+use Rattle.rec_format.specs.Places.{entry_time, HasFormat}
+use Rattle.tracefs_format.specs.declared.format.Format.{Format}
 use Rattle.actor_plan.specs.declared.agenda.AgendaItem.{AgendaItem}
 use Rattle.actor_plan.specs.declared.agenda.AgendaItem.TheVariants as item
+use Rattle.actor_plan.specs.Agendas.{item_at}
 
--- so many events, the first of which has this place
-abbrev pub events_on : ℕ → ℕ → List AgendaItem
-events_on place zero = []
-events_on place (suc count) = item.Event place ∷ events_on (place + 1) count
+-- the entries, the first of which has this place
+abbrev pub entries_on : ℕ → List Entry → List AgendaItem
+entries_on place [] = []
+entries_on place (e ∷ es) = item_at place e ∷ entries_on (place + 1) es
 
--- those of these events up to the first that is not before a time, and how many they are
-abbrev pub earlier : ℕ → ℕ → List Event → List AgendaItem
+-- those of these entries up to the first that is not before a time, and how many they are
+abbrev pub earlier : ℕ → ℕ → List Entry → List AgendaItem
 earlier time place [] = []
-earlier time place (e ∷ es) = if nat_lt e.time time then item.Event place ∷ earlier time (place + 1) es else []
+earlier time place (e ∷ es) = if nat_lt (entry_time e) time then item_at place e ∷ earlier time (place + 1) es else []
 
-abbrev pub earlier_count : ℕ → List Event → ℕ
+abbrev pub earlier_count : ℕ → List Entry → ℕ
 earlier_count time [] = 0
-earlier_count time (e ∷ es) = if nat_lt e.time time then suc (earlier_count time es) else 0
+earlier_count time (e ∷ es) = if nat_lt (entry_time e) time then suc (earlier_count time es) else 0
 
--- the earlier ones of the events from a place on were added, and this is the next place
-pub record PushesEarlier (time from : ℕ) (events : List Event) (old new : List AgendaItem) (place : ℕ) : Type 0 where
-  pub items : new ≡ old ++ earlier time from events
-  pub next : place ≡ from + earlier_count time events
+-- the earlier ones of the entries from a place on were added, and this is the next place
+pub record PushesEarlier (time from : ℕ) (entries : List Entry) (old new : List AgendaItem) (place : ℕ) : Type 0 where
+  pub items : new ≡ old ++ earlier time from entries
+  pub next : place ≡ from + earlier_count time entries
 
--- the ticks, each behind the events before its time, and then the events that are left
-abbrev pub taken : ℕ → List Event → ℕ → List Tick → List AgendaItem
-taken first events place [] = events_on first (length events)
-taken first events place (t ∷ ts) =
-    earlier t.time first events
-    ++ item.Tick place ∷ taken (first + earlier_count t.time events) (drop (earlier_count t.time events) events) (place + 1) ts
+-- the ticks, each behind the entries before its time, and then the entries that are left
+abbrev pub taken : ℕ → List Entry → ℕ → List Tick → List AgendaItem
+taken first entries place [] = entries_on first entries
+taken first entries place (t ∷ ts) =
+    earlier t.time first entries
+    ++ item.Tick place ∷ taken (first + earlier_count t.time entries) (drop (earlier_count t.time entries) entries) (place + 1) ts
+
+-- where an entry is an event, it has its format
+abbrev pub IsRecorded : List Format → Entry → Type 0
+IsRecorded formats (entry.Event e) = HasFormat formats e
+IsRecorded formats (entry.Lost time count) = Unit {0}

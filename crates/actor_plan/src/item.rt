@@ -2,8 +2,10 @@
 ghost use Rattle.std.specs.Prelude.{◌≡◌, ◌≤◌, ◌*◌, Some, IfOk, slice_get};
 ghost use Rattle.bt_core.specs.declared.limits.TheConstants.{BODIES as MOST_BODIES};
 ghost use Rattle.bt_core.specs.Interaction.{Performed};
+ghost use Rattle.rec_format.specs.InFile.{event_seen, entry_seen};
 ghost use Rattle.rec_format.specs.Places.{HasFormat};
-ghost use Rattle.actor_plan.specs.Programs.{event_work, tick_work, item_work};
+ghost use Rattle.actor_plan.specs.Programs.{event_work, mark_work, entry_work, tick_work, item_work};
+ghost use Rattle.actor_plan.specs.Steps.{IsRecorded};
 ghost use Rattle.actor_plan.specs.Ready.{IsReady};
 
 use crate::agenda::AgendaItem;
@@ -13,9 +15,12 @@ use crate::context::{context_of_event, context_of_tick};
 use crate::in_turn::run_in_turn;
 use crate::limits::RUN_INSTRUCTIONS;
 use bt_ast::attached::{Attached, Tick};
+use bt_core::item::Item;
 use bt_core::memory::Memory;
 use bt_core::port::Port;
-use rec_format::recording::{CpuTrack, Event, Recording};
+use bt_core::step::{ObjectId, Op};
+use rec_format::entries::{EntryRef, EventRef};
+use rec_format::recording::{CpuTrack, Recording};
 use std::alloc::Global;
 
 /// Runs the bodies that are attached to an event, and gives the sum of their instructions.
@@ -25,12 +30,12 @@ fn run_event<B: Bodies, P: Port>(
     recording: &Recording,
     attached: &Attached,
     track: &CpuTrack,
-    event: &Event,
+    event: &EventRef<'_>,
     port: &mut P,
 ) -> Result<u64, Memory>
     requires ready { IsReady (B.plan bodies.old) recording.now attached.now (P.fixed port.old).setting }
-    requires recorded { HasFormat recording.now.formats event.now }
-    ensures performed { Performed (event_work (B.plan bodies.old) recording.now attached.now track.now event.now)
+    requires recorded { HasFormat recording.now.formats (event_seen event.now) }
+    ensures performed { Performed (event_work (B.plan bodies.old) recording.now attached.now track.now (event_seen event.now))
         (P.steps port.old) (P.steps port.new) result }
     ensures few { IfOk result (λ count. count ≤ MOST_BODIES * RUN_INSTRUCTIONS) }
     ensures port_kept { P.fixed port.new ≡ P.fixed port.old }
@@ -44,7 +49,7 @@ fn run_event<B: Bodies, P: Port>(
             bodies,
             which.as_slice(),
             &context,
-            event.payload.as_slice(),
+            event.payload,
             port,
         ),
     }
@@ -76,6 +81,44 @@ fn run_tick<B: Bodies, P: Port>(
     bodies.run(alloc, tick.body, &context, &[], port)
 }
 
+/// Tells of lost events.
+fn run_mark<P: Port>(alloc: Global, number: u32, count: u64, port: &mut P) -> Result<u64, Memory>
+    ensures performed { Performed (mark_work number count) (P.steps port.old) (P.steps port.new) result }
+    ensures none { IfOk result (λ instructions. instructions ≡ 0) }
+    ensures port_kept { P.fixed port.new ≡ P.fixed port.old }
+{
+    port.step(
+        alloc,
+        ObjectId::Out,
+        Op::Emit(Item::Lost { cpu: number, count }),
+    )?;
+    Ok(0)
+}
+
+/// Does what an entry of a CPU asks for, and gives the sum of the instructions.
+fn run_entry<B: Bodies, P: Port>(
+    alloc: Global,
+    bodies: &mut B,
+    recording: &Recording,
+    attached: &Attached,
+    track: &CpuTrack,
+    entry: &EntryRef<'_>,
+    port: &mut P,
+) -> Result<u64, Memory>
+    requires ready { IsReady (B.plan bodies.old) recording.now attached.now (P.fixed port.old).setting }
+    requires recorded { IsRecorded recording.now.formats (entry_seen entry.now) }
+    ensures performed { Performed (entry_work (B.plan bodies.old) recording.now attached.now track.now (entry_seen entry.now))
+        (P.steps port.old) (P.steps port.new) result }
+    ensures few { IfOk result (λ count. count ≤ MOST_BODIES * RUN_INSTRUCTIONS) }
+    ensures port_kept { P.fixed port.new ≡ P.fixed port.old }
+    ensures plan_kept { B.plan bodies.new ≡ B.plan bodies.old }
+{
+    match entry {
+        EntryRef::Event(event) => run_event(alloc, bodies, recording, attached, track, event, port),
+        EntryRef::Lost { count, .. } => run_mark(alloc, track.number, *count, port),
+    }
+}
+
 /// Does what an item of a CPU's agenda asks for, and gives the sum of the instructions.
 pub(crate) fn run_item<B: Bodies, P: Port>(
     alloc: Global,
@@ -99,9 +142,11 @@ pub(crate) fn run_item<B: Bodies, P: Port>(
             None => Ok(0),
             Some(tick) => run_tick(alloc, bodies, recording, attached, track, place, tick, port),
         },
-        AgendaItem::Event(place) => match track.events.get(place as usize) {
-            None => Ok(0),
-            Some(event) => run_event(alloc, bodies, recording, attached, track, event, port),
-        },
+        AgendaItem::Event(place) | AgendaItem::Lost(place) => {
+            match track.entries.get(place as usize) {
+                None => Ok(0),
+                Some(entry) => run_entry(alloc, bodies, recording, attached, track, &entry, port),
+            }
+        }
     }
 }

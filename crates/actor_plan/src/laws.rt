@@ -6,11 +6,11 @@ ghost use Rattle.bt_core.specs.declared.context.Context.{Context};
 ghost use Rattle.bt_core.specs.declared.step.Reply.{Reply};
 ghost use Rattle.bt_core.specs.Interaction.{Interaction, and_then, calls, value_under};
 ghost use Rattle.bt_core.specs.Ports.{Setting};
-ghost use Rattle.rec_format.specs.declared.recording.Event.{Event};
+ghost use Rattle.rec_format.specs.declared.recording.Entry.{Entry};
 ghost use Rattle.rec_format.specs.declared.recording.Recording.{Recording};
 ghost use Rattle.rec_format.specs.Recordings.{IsValidRecording};
 ghost use Rattle.actor_plan.specs.declared.agenda.AgendaItem.{AgendaItem};
-ghost use Rattle.actor_plan.specs.Agendas.{AreInTurn, IsAgenda, agenda_of, events_of};
+ghost use Rattle.actor_plan.specs.Agendas.{AreInTurn, IsAgenda, agenda_of, entries_of};
 ghost use Rattle.actor_plan.specs.Plans.{Plan, CanRun, HasBodies, OnlyAsks};
 ghost use Rattle.actor_plan.specs.Programs.{actor_program, items_program, then_program};
 
@@ -37,11 +37,11 @@ pub fn programs_are_admitted()
         OnlyAsks setting (actor_program plan exits r attached) }
 {}
 
-/// The agenda of a CPU has all its events and all ticks, each once and in their order, and each tick stands after the events
+/// The agenda of a CPU has all its entries and all ticks, each once and in their order, and each tick stands after the entries
 /// with a smaller time and before those with its time or more; and no other list does.
 pub fn agendas_are_one()
     ensures is { (r : Recording) (attached : Attached) (cpu : ℕ) → IsValidRecording r → AreInTurn attached.ticks → cpu < length r.cpus →
-        IsAgenda attached.ticks (events_of r cpu) (agenda_of r attached cpu) }
-    ensures only { (ticks : List Tick) (events : List Event) (one other : List AgendaItem) →
-        IsAgenda ticks events one → IsAgenda ticks events other → one ≡ other }
+        IsAgenda attached.ticks (entries_of r cpu) (agenda_of r attached cpu) }
+    ensures only { (ticks : List Tick) (entries : List Entry) (one other : List AgendaItem) →
+        IsAgenda ticks entries one → IsAgenda ticks entries other → one ≡ other }
 {}

@@ -12,7 +12,7 @@ use Rattle.bt_core.specs.declared.step.Reply.{Reply}
 use Rattle.bt_core.specs.declared.value.Value.{Value}
 use Rattle.bt_core.specs.Interaction.{Ended, and_then}
 use Rattle.bt_core.proofs.InteractionLaws.{and_then_assoc}
-use Rattle.map_printer.specs.Merged.{merged}
+use Rattle.map_rows.specs.Merged.{merged}
 use Rattle.typed_tree.specs.Parts.{Shown, Cleared, Zeroed}
 use Rattle.typed_tree.specs.Scope.{decl_of, is_there, may_print}
 use Rattle.map_ops.specs.declared.sweep.Sweep.{Sweep}

@@ -29,9 +29,9 @@ use Rattle.typed_tree.specs.Scope.{is_fine_decl}
 use Rattle.typed_tree.proofs.Same.{decl_fine}
 use Rattle.agg_core.specs.Answers.{answer}
 use Rattle.agg_core.proofs.KindLaws.{answer-kind}
-use Rattle.map_printer.specs.Fits.{IsReadReply, IsRowOf}
-use Rattle.map_printer.specs.ItemTexts.{IsItemOf}
-use Rattle.map_printer.specs.Merged.{merged}
+use Rattle.map_rows.specs.Fits.{IsReadReply, IsRowOf}
+use Rattle.map_rows.specs.Items.{IsItemOf}
+use Rattle.map_rows.specs.Merged.{merged}
 use Rattle.actor_plan.specs.Plans.{Plan, CanRun, AsksOf, BodiesAsk}
 use Rattle.actor_plan.proofs.AskLaws.{begin_asks, end_asks, cpu_asks}
 use Rattle.walk_meaning.specs.Admits.{AdmitsOf, EmitsOnly}

@@ -5,7 +5,7 @@ use Rattle.bt_core.specs.declared.step.ObjectId.{ObjectId}
 use Rattle.bt_core.specs.declared.step.Op.{Op}
 use Rattle.bt_core.specs.declared.step.Step.{Step}
 use Rattle.bt_core.specs.Ports.{Setting, CanStep, IsReplyOf}
-use Rattle.map_printer.specs.ItemTexts.{IsItemOf}
+use Rattle.map_rows.specs.Items.{IsItemOf}
 use Rattle.rec_format.specs.declared.recording.Recording.{Recording}
 use Rattle.typed_tree.specs.declared.script.Typed.{Typed}
 use Rattle.walk_meaning.specs.Admits.{EmitsOnly}

@@ -19,7 +19,7 @@ use Rattle.agg_core.specs.Answers.{answer, back, shared_change, table_change}
 use Rattle.agg_core.specs.Changes.{lost_updates}
 use Rattle.map_printer.specs.Ends.{end_text}
 use Rattle.map_printer.specs.ItemTexts.{item_text}
-use Rattle.map_printer.specs.Merged.{merged}
+use Rattle.map_rows.specs.Merged.{merged}
 use Rattle.map_ops.specs.declared.sweep.Sweep.TheVariants as sweeps
 use Rattle.map_ops.specs.Holders.{holder, holders, sweep_op}
 

@@ -3,7 +3,7 @@ use Rattle.std.specs.Prelude.{List}
 use Rattle.std.specs.List.{AllByRecursion}
 use Rattle.bt_core.specs.declared.item.Item.{Item}
 use Rattle.bt_core.specs.declared.step.Step.{Step}
-use Rattle.map_printer.specs.ItemTexts.{IsItemOf}
+use Rattle.map_rows.specs.Items.{IsItemOf}
 use Rattle.step_list.specs.declared.emits.Emitted.{Emitted}
 use Rattle.typed_tree.specs.declared.script.Typed.{Typed}
 use Rattle.walk_meaning.specs.Admits.{EmitsOnly}

@@ -47,5 +47,5 @@ pub fn steps_are_own()
     ensures { (script : Typed) (attached : Attached) (r : Recording) (steps : List Step) → IsJob script attached r →
         IsInterleaving (replay_of script attached r) steps → AllByRecursion (IsOwnStep script attached r) steps }
 {
-    map_printer::laws::merged_rows_fit();
+    map_rows::laws::merged_rows_fit();
 }

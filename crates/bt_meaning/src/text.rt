@@ -1,8 +1,10 @@
 // The text of a run.
 ghost use Rattle.std.specs.Prelude.{◌≡◌, ◌++◌, ℕ, List, OnOk, IfOk, length, map};
 ghost use Rattle.std.specs.List.{AllByRecursion, flat_map};
-ghost use Rattle.map_printer.specs.Ends.{AllRowsFit, end_text};
-ghost use Rattle.map_printer.specs.ItemTexts.{item_text, IsItemOf};
+ghost use Rattle.map_printer.specs.Ends.{end_text};
+ghost use Rattle.map_rows.specs.Fits.{AllRowsFit};
+ghost use Rattle.map_printer.specs.ItemTexts.{item_text};
+ghost use Rattle.map_rows.specs.Items.{IsItemOf};
 ghost use Rattle.bt_meaning.specs.Prints.{emitted, lost_after, of_maps, printed_text, rows_after};
 ghost use Rattle.bt_meaning.specs.Texts.{EmitOwn, item_of};
 

@@ -19,9 +19,10 @@ use Rattle.bt_core.specs.Ports.{IsSharedOp, IsTableOp, IsClockOp}
 use Rattle.bt_core.specs.Steps.{is_on, is_same_object, on_object, operations}
 use Rattle.agg_core.specs.Answers.{answer}
 use Rattle.map_printer.specs.Ends.{end_text}
-use Rattle.map_printer.specs.ItemTexts.{item_text, IsItemOf}
-use Rattle.map_printer.specs.Merged.{merged}
-use Rattle.map_printer.proofs.MergedFitting.{merged_fit}
+use Rattle.map_printer.specs.ItemTexts.{item_text}
+use Rattle.map_rows.specs.Items.{IsItemOf}
+use Rattle.map_rows.specs.Merged.{merged}
+use Rattle.map_rows.proofs.MergedFitting.{merged_fit}
 use Rattle.turn_lock.specs.History.{Each}
 use Rattle.typed_tree.specs.declared.script.Typed.{Typed}
 use Rattle.weave.specs.Order.{InOrder}

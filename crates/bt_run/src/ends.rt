@@ -12,7 +12,7 @@ use bt_core::key::Key;
 use bt_core::map::{MapDecl, MapId, MapKind};
 use bt_core::memory::Memory;
 use bt_core::step::Reply;
-use map_printer::merging::merged;
+use map_rows::merging::merged;
 use run_base::numbers::number;
 use std::alloc::Global;
 

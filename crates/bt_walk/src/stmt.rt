@@ -28,7 +28,7 @@ use bt_core::step::{ObjectId, Op};
 use bt_core::value::Value;
 use map_ops::sweep::Sweep;
 use map_ops::values::number_of;
-use map_printer::merging::merged;
+use map_rows::merging::merged;
 use std::alloc::Global;
 use typed_tree::expr::{AnyExpr, NumExpr};
 use typed_tree::stmt::Jump;

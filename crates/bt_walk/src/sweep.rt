@@ -1,6 +1,6 @@
 // Operations on all the objects that hold a map.
 ghost use Rattle.std.specs.Prelude.{◌≡◌, All, IfOk};
-ghost use Rattle.map_printer.specs.Merged.{HasRowsOf};
+ghost use Rattle.map_rows.specs.Merged.{HasRowsOf};
 ghost use Rattle.map_ops.specs.declared.sweep.Sweep.TheVariants as sweeps;
 ghost use Rattle.map_ops.specs.Holders.{CanSweep};
 ghost use Rattle.walk_meaning.specs.declared.flow.Frame.{Frame as Kept};

@@ -18,7 +18,7 @@ use Rattle.bt_core.specs.Interaction.{Interaction, and_then, ask, Whole, Part, L
 use Rattle.bt_core.specs.Kinds.{HasShape, IsOfKind, IsAggOf, IsShared, IsAggregation}
 use Rattle.bt_core.specs.Ports.{Setting, CanStep, IsReplyOf, IsSharedReply, IsTableReply}
 use Rattle.bt_core.proofs.InteractionLaws.{Left-here, Left-Whole, Left-Part, Left-is, Left-and_then, Performed-none, Whole-ask, Whole-Ended}
-use Rattle.map_printer.specs.Merged.{HasRowsOf}
+use Rattle.map_rows.specs.Merged.{HasRowsOf}
 use Rattle.map_ops.specs.declared.sweep.Sweep.{Sweep}
 use Rattle.map_ops.specs.declared.sweep.Sweep.TheVariants.{Read, Clear, Zero}
 use Rattle.map_ops.specs.Holders.{holder, holders, sweep_op, CanSweep}

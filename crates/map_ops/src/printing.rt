@@ -11,7 +11,7 @@ use bt_core::map::{MapId, MapKind};
 use bt_core::memory::Memory;
 use bt_core::port::Port;
 use bt_core::step::{ObjectId, Op};
-use map_printer::merging::merged;
+use map_rows::merging::merged;
 use std::alloc::Global;
 
 /// Prints a map of this kind: one item with the merged rows of all objects that hold it, also where there are none.

@@ -1,7 +1,7 @@
 // Operations on all the objects that hold a map.
 ghost use Rattle.std.specs.Prelude.{◌≡◌, All, IfOk};
 ghost use Rattle.bt_core.specs.Interaction.{Performed};
-ghost use Rattle.map_printer.specs.Merged.{HasRowsOf};
+ghost use Rattle.map_rows.specs.Merged.{HasRowsOf};
 ghost use Rattle.map_ops.specs.declared.sweep.Sweep.TheVariants as sweeps;
 ghost use Rattle.map_ops.specs.Asking.{swept};
 ghost use Rattle.map_ops.specs.Holders.{holder, holders, sweep_op, CanSweep};

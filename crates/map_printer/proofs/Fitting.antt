@@ -13,7 +13,7 @@ use Rattle.bt_core.specs.declared.map.MapKind.TheVariants.{Ints, Strs, Aggs}
 use Rattle.bt_core.specs.declared.value.Value.{Value}
 use Rattle.bt_core.specs.Kinds.{IsFineKind, AreBucketsOf, steps_between}
 use Rattle.map_printer.specs.Counted.{FitsBuckets, FitsCell}
-use Rattle.map_printer.specs.Fits.{IsRowOf, IsCellOf}
+use Rattle.map_rows.specs.Fits.{IsRowOf, IsCellOf}
 
 fits_buckets : (kind : AggKind) (bs : Buckets) → IsFineKind kind → AreBucketsOf kind bs → FitsBuckets kind bs
 fits_buckets kind held.Plain f e = tt

@@ -3,8 +3,6 @@ use Rattle.std.specs.Prelude.{ℕ, ℤ, pos, ◌++◌, nat_lt, List, [], ◌∷�
 use Rattle.bt_core.specs.declared.item.Cell.{Cell}
 use Rattle.bt_core.specs.declared.map.MapDecl.{MapDecl}
 use Rattle.bt_core.specs.declared.value.Value.{Value}
-use Rattle.std.specs.List.{All}
-use Rattle.map_printer.specs.Fits.{IsRowOf}
 use Rattle.map_printer.specs.Rows.{map_text}
 use Rattle.map_printer.specs.RowOrder.{in_value_order, top_rows}
 
@@ -33,8 +31,3 @@ warnings ms more = []
 -- the maps, and then the warnings
 abbrev pub end_text : List MapDecl → List (List (List Value × Cell)) → List ℕ → List ℕ
 end_text maps rows lost = map_texts maps rows ++ warnings maps lost
-
--- each map's rows are rows that it can hold
-abbrev pub AllRowsFit : List MapDecl → List (List (List Value × Cell)) → Type 0
-AllRowsFit (m ∷ ms) (rows ∷ more) = All (IsRowOf m) rows × AllRowsFit ms more
-AllRowsFit ms more = Unit {0}

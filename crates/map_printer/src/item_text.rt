@@ -1,10 +1,11 @@
 // The text of an item of output.
 ghost use Rattle.std.specs.Prelude.{◌≡◌, ◌≤ℤ◌, pos, slice_get, IfOk, IsSomeAnd};
 ghost use Rattle.fmt_text.specs.Arguments.{AreArgumentsOf};
-ghost use Rattle.map_printer.specs.ItemTexts.{call_text, declared_text, item_text, CanPrint, IsItemOf};
+ghost use Rattle.map_printer.specs.ItemTexts.{call_text, declared_text, item_text};
+ghost use Rattle.map_rows.specs.Items.{CanPrint, IsItemOf};
 
 use crate::printing::print_map;
-use crate::warning::print_cut;
+use crate::warning::{print_cut, print_lost_events};
 use bt_core::item::{Cell, Item};
 use bt_core::items::Items;
 use bt_core::key::Key;
@@ -50,7 +51,8 @@ fn print_declared(
 }
 
 /// The text of an item of output of a script with these formats and maps, each by its number: that of a
-/// `printf` call, of a map as [`print_map`] answers it, or the warning that the run was cut at a loop.
+/// `printf` call, of a map as [`print_map`] answers it, the warning that the run was cut at a loop,
+/// or the warning that events were lost.
 ///
 /// # Errors
 ///
@@ -73,5 +75,6 @@ pub fn print_item(
             div,
         } => print_declared(alloc, maps, *map, rows.as_slice(), *top, *div),
         Item::Cut { line } => print_cut(alloc, *line),
+        Item::Lost { cpu, count } => print_lost_events(alloc, *cpu, *count),
     }
 }

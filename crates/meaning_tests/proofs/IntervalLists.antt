@@ -6,7 +6,7 @@ use Rattle.bt_core.specs.declared.step.Step.{Step}
 use Rattle.bt_core.specs.Interaction.{Ended}
 use Rattle.bt_core.specs.Steps.{of_actor}
 use Rattle.actor_plan.specs.Agendas.{agenda_of}
-use Rattle.map_printer.specs.Merged.{merged}
+use Rattle.map_rows.specs.Merged.{merged}
 use Rattle.bt_meaning.specs.Interleavings.{IsInterleaving, IsWhole}
 use Rattle.bt_meaning.specs.Replays.{answers_of, cpu_of}
 use Rattle.bt_meaning.specs.Schedules.{serial_order}

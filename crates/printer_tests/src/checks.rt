@@ -2,10 +2,10 @@
 ghost use Rattle.std.specs.Prelude.{◌≡◌, IsTrue, All, IfOk, IsSomeAnd, length, slice_get};
 ghost use Rattle.fmt_text.specs.Arguments.{AreArgumentsOf};
 ghost use Rattle.bt_core.specs.Kinds.{HasShape, IsOfShape, IsOfKind, IsFineKind, AreBucketsOf, IsAggOf};
-ghost use Rattle.map_printer.specs.Ends.{AllRowsFit};
-ghost use Rattle.map_printer.specs.Fits.{IsCellOf, IsRowOf};
-ghost use Rattle.map_printer.specs.ItemTexts.{CanPrint, IsItemOf};
-ghost use Rattle.map_printer.specs.Merged.{HasRowsOf};
+ghost use Rattle.map_rows.specs.Fits.{AllRowsFit};
+ghost use Rattle.map_rows.specs.Fits.{IsCellOf, IsRowOf};
+ghost use Rattle.map_rows.specs.Items.{CanPrint, IsItemOf};
+ghost use Rattle.map_rows.specs.Merged.{HasRowsOf};
 
 use bt_core::agg::{Agg, Buckets};
 use bt_core::item::{Cell, Item};

@@ -6,8 +6,8 @@ use bt_core::items::Items;
 use bt_core::key::Key;
 use bt_core::map::{AggKind, MapKind, Shape};
 use bt_core::step::Reply;
-use map_printer::laws::{merged_rows_are, merged_rows_fit};
-use map_printer::merging::merged;
+use map_rows::laws::{merged_rows_are, merged_rows_fit};
+use map_rows::merging::merged;
 use std::alloc::Global;
 use std::test::Fail;
 

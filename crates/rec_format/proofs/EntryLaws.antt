@@ -6,7 +6,7 @@ use Rattle.std.proofs.lemmas.Bool.{ltb-false, le-ltb, or_parts}
 use Rattle.tracefs_format.specs.declared.format.Format.{Format}
 use Rattle.rec_format.specs.declared.error.RecordingError.{RecordingError}
 use Rattle.rec_format.specs.declared.error.RecordingError.TheVariants as fault
-use Rattle.rec_format.specs.Entries.{EntryKind, entries_bytes, time_of, AreInTime, time_after, entry_fault, NextEntryFails, EntryFails, HasEntries}
+use Rattle.rec_format.specs.Entries.{EntryKind, entries_bytes, time_of, AreInTime, time_after, unless_first, entry_fault, NextEntryFails, EntryFails, HasEntries}
 use Rattle.rec_format.specs.Recordings.{AreFormats}
 use Rattle.rec_format.proofs.Fields.{IsBytes}
 use Rattle.rec_format.proofs.Lists.{suffix_fits, each_more, spelled_more, length_more}
@@ -19,11 +19,12 @@ pub record IsReadable {E P : Type 0} (kind : EntryKind E P) : Type 0 where
   pub read : List ℕ → Option (P × List ℕ)
   pub reads : Reads read kind.IsWhole kind.spelling
   pub made : List Format → P → E
-  pub spells : (formats : List Format) (part : P) → kind.part_of (made formats part) ≡ part
+  pub spells : (formats : List Format) (cpu place : ℕ) (part : P) → kind.first_fault cpu place part ≡ None → kind.part_of (made formats part) ≡ part
   pub again : (formats : List Format) (e : E) → AreFormats formats → kind.IsFine formats e → made formats (kind.part_of e) ≡ e
   pub whole : (formats : List Format) (e : E) → kind.IsFine formats e → kind.IsWhole (kind.part_of e)
+  pub faultless_first : (formats : List Format) (cpu place : ℕ) (e : E) → kind.IsFine formats e → kind.first_fault cpu place (kind.part_of e) ≡ None
   pub faultless : (formats : List Format) (cpu place : ℕ) (e : E) → AreFormats formats → kind.IsFine formats e → kind.own_fault formats cpu place (kind.part_of e) ≡ None
-  pub fine : (formats : List Format) (cpu place : ℕ) (part : P) (after : List ℕ) → kind.IsWhole part → IsBytes (kind.spelling part ++ after) → kind.own_fault formats cpu place part ≡ None → kind.IsFine formats (made formats part)
+  pub fine : (formats : List Format) (cpu place : ℕ) (part : P) (after : List ℕ) → kind.IsWhole part → IsBytes (kind.spelling part ++ after) → kind.first_fault cpu place part ≡ None → kind.own_fault formats cpu place part ≡ None → kind.IsFine formats (made formats part)
 
 -- ---- times
 
@@ -41,26 +42,36 @@ record Passes {E P : Type 0} (kind : EntryKind E P) (formats : List Format) (ear
   low : earliest ≤ kind.time part
   high : kind.time part ≤ latest
   own : kind.own_fault formats cpu place part ≡ None
+  first : kind.first_fault cpu place part ≡ None
+
+none_first : (a b : Option RecordingError) → unless_first a b ≡ None → (a ≡ None) × (b ≡ None)
+none_first None b h = (refl, h)
+none_first (Some e) b h = absurd cc
 
 passes : {E P : Type 0} (kind : EntryKind E P) (formats : List Format) (earliest latest cpu place : ℕ) (part : P) → entry_fault kind formats earliest latest cpu place part ≡ None
     → Passes kind formats earliest latest cpu place part
 passes kind formats earliest latest cpu place part none =
     let time : ℕ = kind.time part in
     let own : Option RecordingError = kind.own_fault formats cpu place part in
+    let first_is = none_first (kind.first_fault cpu place part) (cond (nat_lt time earliest || nat_lt latest time) (Some (fault.TimeOrder cpu place)) own) none in
     (elim (nat_lt time earliest || nat_lt latest time) as (λ b. (nat_lt time earliest || nat_lt latest time) ≡ b → cond b (Some (fault.TimeOrder cpu place)) own ≡ None → Passes kind formats earliest latest cpu place part) [
       | true ↦ λ e h. absurd cc
       | false ↦ λ e h.
           let times = or_parts (nat_lt time earliest) (nat_lt latest time) e in
-          record { low = ltb-false time earliest times.0; high = ltb-false latest time times.1; own = h }
-    ]) refl none
+          record { low = ltb-false time earliest times.0; high = ltb-false latest time times.1; own = h; first = first_is.0 }
+    ]) refl first_is.1
+
+pub first_passes : {E P : Type 0} (kind : EntryKind E P) (formats : List Format) (earliest latest cpu place : ℕ) (part : P) → entry_fault kind formats earliest latest cpu place part ≡ None → kind.first_fault cpu place part ≡ None
+first_passes kind formats earliest latest cpu place part none = (passes kind formats earliest latest cpu place part none).first
 
 -- a part that passes
-passing : {E P : Type 0} (kind : EntryKind E P) (formats : List Format) (earliest latest cpu place : ℕ) (part : P) → earliest ≤ kind.time part → kind.time part ≤ latest → kind.own_fault formats cpu place part ≡ None
+passing : {E P : Type 0} (kind : EntryKind E P) (formats : List Format) (earliest latest cpu place : ℕ) (part : P) → earliest ≤ kind.time part → kind.time part ≤ latest → kind.first_fault cpu place part ≡ None → kind.own_fault formats cpu place part ≡ None
     → entry_fault kind formats earliest latest cpu place part ≡ None
-passing kind formats earliest latest cpu place part low high own =
+passing kind formats earliest latest cpu place part low high first own =
     let time : ℕ = kind.time part in
     let rest : Option RecordingError = kind.own_fault formats cpu place part in
-    ap (λ b. cond (b || nat_lt latest time) (Some (fault.TimeOrder cpu place)) rest) (le-ltb time earliest low)
+    ap (λ o. unless_first o (cond (nat_lt time earliest || nat_lt latest time) (Some (fault.TimeOrder cpu place)) rest)) first
+    ∙ ap (λ b. cond (b || nat_lt latest time) (Some (fault.TimeOrder cpu place)) rest) (le-ltb time earliest low)
     ∙ ap (λ b. cond b (Some (fault.TimeOrder cpu place)) rest) (le-ltb latest time high) ∙ own
 
 -- ---- one more
@@ -74,9 +85,9 @@ entry_next {E} kind r formats start end cpu n earliest bytes rest after es later
     let taken = r.reads.takes rest part after rest_fits some in
     let p = passes kind formats earliest end cpu n part none in
     let e : E = r.made formats part in
-    let spelled : kind.part_of e ≡ part = r.spells formats part in
+    let spelled : kind.part_of e ≡ part = r.spells formats cpu n part p.first in
     let same_time : time_of kind e ≡ kind.time part = ap kind.time spelled in
-    let fine = r.fine formats cpu n part after taken.1 (subst IsBytes taken.0.parts rest_fits) p.own in
+    let fine = r.fine formats cpu n part after taken.1 (subst IsBytes taken.0.parts rest_fits) p.first p.own in
     let low : time_after kind start es ≤ time_of kind e = omega (arith, p.low, time, same_time) in
     let high : time_of kind e ≤ end = omega (arith, p.high, same_time) in
     let more : HasEntries kind formats start end (n + 1) bytes (es ++ e ∷ []) after = record {
@@ -129,7 +140,7 @@ unfolding read_entry
 entry_step {E} {P} kind r whole formats start end cpu pass acc e rest fits =
     let part : P = kind.part_of e in
     ap (λ o. after_entry kind r formats start end cpu acc (whole_part whole o)) (r.reads.again part rest (r.whole formats e fits.is))
-    ∙ ap (λ o. unless_fault o (r.made formats part, rest)) (passing kind formats (time_after kind start acc) end cpu (length acc) part fits.low fits.high (r.faultless formats cpu (length acc) e pass fits.is))
+    ∙ ap (λ o. unless_fault o (r.made formats part, rest)) (passing kind formats (time_after kind start acc) end cpu (length acc) part fits.low fits.high (r.faultless_first formats cpu (length acc) e fits.is) (r.faultless formats cpu (length acc) e pass fits.is))
     ∙ ap (λ (x : E). Ok (x, rest)) (r.again formats e pass fits.is)
 
 entry_stops : {E P : Type 0} (kind : EntryKind E P) (r : IsReadable kind) (whole : ℕ) (formats : List Format) (start end cpu : ℕ) (acc : List E) (bytes : List ℕ) (e : RecordingError) → IsBytes bytes

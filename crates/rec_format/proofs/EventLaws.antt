@@ -1,4 +1,4 @@
--- Events as entries: what a payload that passes has, and which event a part makes.
+-- What a payload that passes has, and which event a part makes.
 use Rattle.std.proofs.Common.{◌≡◌, ℕ, zero, suc, ◌≤◌, true, false, cond, Option, Some, None, List, [], ◌∷◌, ◌++◌, length, take, drop, refl, ap, sym, ◌∙◌, append_assoc, arith}
 use Rattle.std.specs.Prelude.{nat_lt, unwrap_or, ◌==◌}
 use Rattle.std.specs.Int.{w16, w32, w64, to_le_bytes, from_le_bytes}
@@ -15,16 +15,13 @@ use Rattle.rec_format.specs.declared.error.RecordingError.{RecordingError}
 use Rattle.rec_format.specs.declared.error.RecordingError.TheVariants as fault
 use Rattle.rec_format.specs.declared.recording.Event.{Event}
 use Rattle.rec_format.specs.Parts.{EventPart, IsEventPart, event_bytes}
-use Rattle.rec_format.specs.Fronts.{event_at}
 use Rattle.rec_format.specs.Checks.{is_same_event}
-use Rattle.rec_format.specs.Events.{part_of_event, IsEvent, format_with, length_fault, payload_fault, events}
+use Rattle.rec_format.specs.Events.{part_of_event, IsEvent, format_with, length_fault, payload_fault}
 use Rattle.rec_format.specs.Recordings.{IsFormat, AreApart, AreFormats}
-use Rattle.rec_format.specs.Answers.{event_of}
+use Rattle.rec_format.specs.Events.{event_of}
 use Rattle.rec_format.proofs.Fields.{IsBytes, IsBytes-take, wide16, from_le_bytes-front}
 use Rattle.rec_format.proofs.Lists.{suffix_fits, prefix_fits}
-use Rattle.rec_format.proofs.PartLaws.{event_reads}
 use Rattle.rec_format.proofs.TableLaws.{later, found_there}
-use Rattle.rec_format.proofs.EntryLaws.{IsReadable}
 
 -- ---- the format of a payload
 
@@ -128,17 +125,3 @@ event_fine formats cpu place part after whole fits none =
 pub event_again : (formats : List Format) (e : Event) → AreFormats formats → IsEvent formats e → event_made formats (part_of_event e) ≡ e
 event_again formats e pass is =
     ap (λ (i : ℕ). event_of (part_of_event e) i) (place_of-Some formats e.payload e.format (ap (option_map (λ (found : ℕ × Format). found.0)) (event_known formats e pass is)))
-
--- ---- the kind
-
-abbrev pub events_readable : IsReadable events
-events_readable = record {
-  read = event_at;
-  reads = event_reads;
-  made = event_made;
-  spells = λ formats part. refl;
-  again = event_again;
-  whole = λ formats e is. is.whole;
-  faultless = faultless;
-  fine = event_fine;
-}

@@ -5,12 +5,14 @@ use Rattle.tracefs_format.specs.ByName.{IsNamed}
 use Rattle.std.specs.Prelude.{slice_get}
 use Rattle.rec_format.specs.declared.recording.Recording.{Recording}
 use Rattle.rec_format.specs.declared.recording.CpuTrack.{CpuTrack}
+use Rattle.rec_format.specs.declared.recording.Entry.{Entry}
+use Rattle.rec_format.specs.declared.recording.Entry.TheVariants as entry
 use Rattle.rec_format.specs.declared.recording.Event.{Event}
-use Rattle.rec_format.specs.Places.{event_at_place, HasFormat}
+use Rattle.rec_format.specs.Places.{entry_at_place, entry_time, HasFormat}
 use Rattle.rec_format.specs.Recordings.{IsValidRecording}
 use Rattle.rec_format.proofs.PlaceLaws as places
 
-pub recorded_format : (r : Recording) (cpu place : ℕ) (e : Event) → IsValidRecording r → event_at_place r cpu place ≡ Some e → HasFormat r.formats e
+pub recorded_format : (r : Recording) (cpu place : ℕ) (e : Event) → IsValidRecording r → entry_at_place r cpu place ≡ Some (entry.Event e) → HasFormat r.formats e
 recorded_format = places.event_has_format
 
 pub recorded_format_of_id : (r : Recording) (i j : ℕ) (f g : Format) → IsValidRecording r → slice_get r.formats i ≡ Some f → slice_get r.formats j ≡ Some g → f.layout.id ≡ g.layout.id → i ≡ j
@@ -19,11 +21,11 @@ recorded_format_of_id r i j f g valid first second same = places.one_format r.fo
 pub recorded_format_of_name : (r : Recording) (i j : ℕ) (f g : Format) → IsValidRecording r → slice_get r.formats i ≡ Some f → slice_get r.formats j ≡ Some g → IsNamed f g.system g.layout.name → i ≡ j
 recorded_format_of_name r i j f g valid first second named = places.one_format r.formats i j f g valid.formats.apart first second (inr named)
 
-pub recorded_within : (r : Recording) (cpu place : ℕ) (e : Event) → IsValidRecording r → event_at_place r cpu place ≡ Some e → (r.start ≤ e.time) × (e.time ≤ r.end)
-recorded_within = places.event_within
+pub recorded_within : (r : Recording) (cpu place : ℕ) (e : Entry) → IsValidRecording r → entry_at_place r cpu place ≡ Some e → (r.start ≤ entry_time e) × (entry_time e ≤ r.end)
+recorded_within = places.entry_within
 
-pub recorded_in_order : (r : Recording) (cpu i j : ℕ) (d e : Event) → IsValidRecording r → event_at_place r cpu i ≡ Some d → event_at_place r cpu j ≡ Some e → i ≤ j → d.time ≤ e.time
-recorded_in_order = places.events_in_order
+pub recorded_in_order : (r : Recording) (cpu i j : ℕ) (d e : Entry) → IsValidRecording r → entry_at_place r cpu i ≡ Some d → entry_at_place r cpu j ≡ Some e → i ≤ j → entry_time d ≤ entry_time e
+recorded_in_order = places.entries_in_order
 
 pub recorded_numbers_rise : (r : Recording) (i j : ℕ) (c d : CpuTrack) → IsValidRecording r → slice_get r.cpus i ≡ Some c → slice_get r.cpus j ≡ Some d → i < j → c.number < d.number
 recorded_numbers_rise r i j c d valid first second order = places.numbers_rise 0 r.cpus i j c d valid.cpus.numbered first second order

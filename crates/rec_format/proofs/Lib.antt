@@ -11,3 +11,6 @@ pub mod TableLaws
 pub mod UniqueLaws
 pub mod WholeLaws
 pub mod WriteLaws
+pub mod KindLaws
+pub mod Versions
+pub mod InFileLaws

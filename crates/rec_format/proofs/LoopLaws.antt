@@ -10,12 +10,12 @@ use Rattle.rec_format.specs.declared.error.RecordingError.{RecordingError}
 use Rattle.rec_format.specs.declared.error.RecordingError.TheVariants as fault
 use Rattle.rec_format.specs.declared.error.CountOf.TheVariants as count
 use Rattle.rec_format.specs.declared.recording.CpuTrack.{CpuTrack}
-use Rattle.rec_format.specs.declared.recording.Event.{Event}
+use Rattle.rec_format.specs.declared.recording.Entry.{Entry}
 use Rattle.rec_format.specs.Parts.{FormatPart, format_bytes, CpuPart, cpu_bytes}
 use Rattle.rec_format.specs.Fronts.{format_at, cpu_at}
 use Rattle.rec_format.specs.Checks.{is_same_event, format_of, IsFormatFault, cpu_fault}
 use Rattle.rec_format.specs.Entries.{entries_bytes, EntryFails, HasEntries}
-use Rattle.rec_format.specs.Events.{events}
+use Rattle.rec_format.specs.EntryParts.{entries}
 use Rattle.rec_format.specs.Recordings.{part_of_format, formats_bytes, track_bytes, tracks_bytes, total_entries, IsFormat, AreApart, IsTrack, AreNumbered}
 use Rattle.rec_format.specs.Faults.{FormatFails, HasFormats, least_after, HeadHasFault, TrackFails, CpuFails, HasTracks}
 use Rattle.rec_format.specs.Answers.{AddsFormat}
@@ -71,11 +71,11 @@ pub least_more : (least : ℕ) (cs : List CpuTrack) (c : CpuTrack) → least_aft
 least_more least [] c = refl
 least_more least (d ∷ ds) c = least_more (d.number + 1) ds c
 
-pub total_more : (cs : List CpuTrack) (c : CpuTrack) → total_entries (cs ++ c ∷ []) ≡ total_entries cs + length c.events
-total_more cs c = omega (arith, sum_by-append (λ (d : CpuTrack). length d.events) cs (c ∷ []))
+pub total_more : (cs : List CpuTrack) (c : CpuTrack) → total_entries (cs ++ c ∷ []) ≡ total_entries cs + length c.entries
+total_more cs c = omega (arith, sum_by-append (λ (d : CpuTrack). length d.entries) cs (c ∷ []))
 
-pub total_first : (c : CpuTrack) (cs : List CpuTrack) → total_entries (c ∷ cs) ≡ length c.events + total_entries cs
-total_first c cs = omega (arith, sum_by-append (λ (d : CpuTrack). length d.events) (c ∷ []) cs)
+pub total_first : (c : CpuTrack) (cs : List CpuTrack) → total_entries (c ∷ cs) ≡ length c.entries + total_entries cs
+total_first c cs = omega (arith, sum_by-append (λ (d : CpuTrack). length d.entries) (c ∷ []) cs)
 
 numbered_more : (least : ℕ) (cs : List CpuTrack) (c : CpuTrack) → AreNumbered least cs → least_after least cs ≤ c.number → AreNumbered least (cs ++ c ∷ [])
 numbered_more least [] c so_far low = (low, tt)
@@ -106,32 +106,32 @@ pub record Counts (cs : List CpuTrack) (least announced : ℕ) : Type 0 where
   pub least_is : least ≡ least_after 0 cs
   pub announced_is : announced ≡ total_entries cs
 
-pub track_next : (formats : List Format) (start end n least announced : ℕ) (bytes rest after behind : List ℕ) (cs later : List CpuTrack) (es : List Event) (head : CpuPart) → IsBytes bytes
-    → HasTracks formats start end n bytes cs rest → Counts cs least announced → cpu_at rest ≡ Some (head, after) → cpu_fault n least announced head ≡ None → HasEntries events formats start end head.entries after es behind
-    → later ≡ cs ++ record { number = head.number; events = es } ∷ []
-    → HasTracks formats start end (n + 1) bytes later behind × Counts later (head.number + 1) (announced + head.entries)
-track_next formats start end n least announced bytes rest after behind cs later es head fits has counts some none stand added =
-    let taken = cpu_reads.takes rest head after (suffix_fits (tracks_bytes cs) rest bytes has.spelled fits) some in
+pub track_next : (marks : Bool) (formats : List Format) (start end n least announced : ℕ) (bytes rest after behind : List ℕ) (cs later : List CpuTrack) (es : List Entry) (head : CpuPart) → IsBytes bytes
+    → HasTracks marks formats start end n bytes cs rest → Counts cs least announced → cpu_at rest ≡ Some (head, after) → cpu_fault n least announced head ≡ None → HasEntries (entries marks) formats start end head.entries after es behind
+    → later ≡ cs ++ record { number = head.number; entries = es } ∷ []
+    → HasTracks marks formats start end (n + 1) bytes later behind × Counts later (head.number + 1) (announced + head.entries)
+track_next marks formats start end n least announced bytes rest after behind cs later es head fits has counts some none stand added =
+    let taken = cpu_reads.takes rest head after (suffix_fits (tracks_bytes marks cs) rest bytes has.spelled fits) some in
     let p = head_passes n least announced head none in
-    let c : CpuTrack = record { number = head.number; events = es } in
-    let is : IsTrack formats start end c = record { number = taken.1.number; events = stand.pass } in
+    let c : CpuTrack = record { number = head.number; entries = es } in
+    let is : IsTrack marks formats start end c = record { number = taken.1.number; entries = stand.pass } in
     let low : least_after 0 cs ≤ head.number = omega (arith, p.low, counts.least_is) in
     let total : total_entries (cs ++ c ∷ []) ≡ announced + head.entries = omega (arith, total_more cs c, counts.announced_is, stand.counted) in
-    let spelled : rest ≡ track_bytes c ++ behind =
-    taken.0.parts ∙ ap (λ (l : List ℕ). cpu_bytes head ++ l) stand.spelled ∙ sym (append_assoc (cpu_bytes head) (entries_bytes events es) behind)
-    ∙ ap (λ (m : ℕ). (cpu_bytes (record { number = head.number; entries = m }) ++ entries_bytes events es) ++ behind) (sym stand.counted) in
-    let more : HasTracks formats start end (n + 1) bytes (cs ++ c ∷ []) behind = record {
-      spelled = spelled_more track_bytes cs c bytes rest (track_bytes c) behind has.spelled spelled refl;
-      pass = record { each = each_more (IsTrack formats start end) cs c has.pass.each is; numbered = numbered_more 0 cs c has.pass.numbered low; few = omega (arith, total, p.few) };
+    let spelled : rest ≡ track_bytes marks c ++ behind =
+    taken.0.parts ∙ ap (λ (l : List ℕ). cpu_bytes head ++ l) stand.spelled ∙ sym (append_assoc (cpu_bytes head) (entries_bytes (entries marks) es) behind)
+    ∙ ap (λ (m : ℕ). (cpu_bytes (record { number = head.number; entries = m }) ++ entries_bytes (entries marks) es) ++ behind) (sym stand.counted) in
+    let more : HasTracks marks formats start end (n + 1) bytes (cs ++ c ∷ []) behind = record {
+      spelled = spelled_more (track_bytes marks) cs c bytes rest (track_bytes marks c) behind has.spelled spelled refl;
+      pass = record { each = each_more (IsTrack marks formats start end) cs c has.pass.each is; numbered = numbered_more 0 cs c has.pass.numbered low; few = omega (arith, total, p.few) };
       counted = length_more cs c n has.counted;
     } in
     let now : Counts (cs ++ c ∷ []) (head.number + 1) (announced + head.entries) = record { least_is = sym (least_more 0 cs c); announced_is = sym total } in
-    let P : List CpuTrack → Type 0 = λ ds. HasTracks formats start end (n + 1) bytes ds behind × Counts ds (head.number + 1) (announced + head.entries) in
+    let P : List CpuTrack → Type 0 = λ ds. HasTracks marks formats start end (n + 1) bytes ds behind × Counts ds (head.number + 1) (announced + head.entries) in
     subst P (sym added) (more, now)
 
-pub cpu_cut : (whole : ℕ) (formats : List Format) (start end count n : ℕ) (bytes rest : List ℕ) (cs : List CpuTrack) → n < count → HasTracks formats start end n bytes cs rest → cpu_at rest ≡ None
-    → CpuFails whole formats start end count bytes (fault.Truncated whole)
-cpu_cut whole formats start end count n bytes rest cs lt has none = record {
+pub cpu_cut : (marks : Bool) (whole : ℕ) (formats : List Format) (start end count n : ℕ) (bytes rest : List ℕ) (cs : List CpuTrack) → n < count → HasTracks marks formats start end n bytes cs rest → cpu_at rest ≡ None
+    → CpuFails marks whole formats start end count bytes (fault.Truncated whole)
+cpu_cut marks whole formats start end count n bytes rest cs lt has none = record {
   cpus = cs;
   rest = rest;
   spelled = has.spelled;
@@ -146,29 +146,29 @@ head_at cs n least announced head counted counts =
     ∙ ap (λ (m : ℕ). cpu_fault n m (total_entries cs) head) (sym counts.least_is)
     ∙ ap (λ (m : ℕ). cpu_fault n least m head) (sym counts.announced_is)
 
-pub cpu_refused : (whole : ℕ) (formats : List Format) (start end count n least announced : ℕ) (bytes rest after : List ℕ) (cs : List CpuTrack) (head : CpuPart) (e : RecordingError) → IsBytes bytes → n < count
-    → HasTracks formats start end n bytes cs rest → Counts cs least announced → cpu_at rest ≡ Some (head, after) → cpu_fault n least announced head ≡ Some e → CpuFails whole formats start end count bytes e
-cpu_refused whole formats start end count n least announced bytes rest after cs head e fits lt has counts some wrong = record {
+pub cpu_refused : (marks : Bool) (whole : ℕ) (formats : List Format) (start end count n least announced : ℕ) (bytes rest after : List ℕ) (cs : List CpuTrack) (head : CpuPart) (e : RecordingError) → IsBytes bytes → n < count
+    → HasTracks marks formats start end n bytes cs rest → Counts cs least announced → cpu_at rest ≡ Some (head, after) → cpu_fault n least announced head ≡ Some e → CpuFails marks whole formats start end count bytes e
+cpu_refused marks whole formats start end count n least announced bytes rest after cs head e fits lt has counts some wrong = record {
   cpus = cs;
   rest = rest;
   spelled = has.spelled;
   pass = has.pass;
   due = omega (arith, has.counted);
-  fails = inr (inl (refused cpu_reads (HeadHasFault cs) rest head after e (suffix_fits (tracks_bytes cs) rest bytes has.spelled fits) some
+  fails = inr (inl (refused cpu_reads (HeadHasFault cs) rest head after e (suffix_fits (tracks_bytes marks cs) rest bytes has.spelled fits) some
       (head_at cs n least announced head has.counted counts ∙ wrong)));
 }
 
-pub track_fails : (whole : ℕ) (formats : List Format) (start end count n least announced : ℕ) (bytes rest after : List ℕ) (cs : List CpuTrack) (head : CpuPart) (e : RecordingError) → IsBytes bytes → n < count
-    → HasTracks formats start end n bytes cs rest → Counts cs least announced → cpu_at rest ≡ Some (head, after) → cpu_fault n least announced head ≡ None → EntryFails events whole formats start end n head.entries after e
-    → CpuFails whole formats start end count bytes e
-track_fails whole formats start end count n least announced bytes rest after cs head e fits lt has counts some none fails =
-    let taken = cpu_reads.takes rest head after (suffix_fits (tracks_bytes cs) rest bytes has.spelled fits) some in
-    let in_track : TrackFails whole formats start end cs rest e = record {
+pub track_fails : (marks : Bool) (whole : ℕ) (formats : List Format) (start end count n least announced : ℕ) (bytes rest after : List ℕ) (cs : List CpuTrack) (head : CpuPart) (e : RecordingError) → IsBytes bytes → n < count
+    → HasTracks marks formats start end n bytes cs rest → Counts cs least announced → cpu_at rest ≡ Some (head, after) → cpu_fault n least announced head ≡ None → EntryFails (entries marks) whole formats start end n head.entries after e
+    → CpuFails marks whole formats start end count bytes e
+track_fails marks whole formats start end count n least announced bytes rest after cs head e fits lt has counts some none fails =
+    let taken = cpu_reads.takes rest head after (suffix_fits (tracks_bytes marks cs) rest bytes has.spelled fits) some in
+    let in_track : TrackFails marks whole formats start end cs rest e = record {
       head = head;
       rest = after;
       spelled = taken.0.parts;
       is_whole = taken.1;
       passes = head_at cs n least announced head has.counted counts ∙ none;
-      fails = subst (λ (m : ℕ). EntryFails events whole formats start end m head.entries after e) (sym has.counted) fails;
+      fails = subst (λ (m : ℕ). EntryFails (entries marks) whole formats start end m head.entries after e) (sym has.counted) fails;
     } in
     record { cpus = cs; rest = rest; spelled = has.spelled; pass = has.pass; due = omega (arith, has.counted); fails = inr (inr in_track) }

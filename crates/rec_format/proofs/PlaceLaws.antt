@@ -1,23 +1,26 @@
 -- What a valid recording has at each place.
-use Rattle.std.proofs.Common.{◌≡◌, ◌⊎◌, ℕ, zero, suc, ◌+◌, ◌<◌, ◌≤◌, false, Some, None, List, [], ◌∷◌, refl, ap, sym, subst, ◌∙◌, arith, inl, inr}
+use Rattle.std.proofs.Common.{◌≡◌, ◌⊎◌, ℕ, zero, suc, ◌+◌, ◌<◌, ◌≤◌, Bool, true, false, Some, None, List, [], ◌∷◌, refl, ap, sym, subst, ◌∙◌, arith, inl, inr}
 use Rattle.std.specs.Prelude.{option_and_then, ◌==◌}
 use Rattle.std.specs.Str.{bytes_eq}
-use Rattle.std.proofs.lemmas.Bool.{cases_lt, eq-eqb, or_parts, and_from}
+use Rattle.std.proofs.lemmas.Bool.{cases_lt, eq-eqb, eqb-false, or_parts, and_from}
 use Rattle.std.proofs.lemmas.Slice.Eq.{bytes_eq-Decides}
 use Rattle.std.specs.List.{slice_get}
 use Rattle.std.proofs.lemmas.Option.{same_Some}
 use Rattle.tracefs_format.specs.declared.format.Format.{Format}
 use Rattle.tracefs_format.specs.ByName.{IsNamed, is_same_tracepoint}
 use Rattle.tracefs_format.proofs.ForOthers.{all_at}
-use Rattle.rec_format.specs.Checks.{is_same_event}
+use Rattle.rec_format.specs.Checks.{has_marks, is_same_event}
 use Rattle.rec_format.specs.declared.recording.Recording.{Recording}
 use Rattle.rec_format.specs.declared.recording.CpuTrack.{CpuTrack}
+use Rattle.rec_format.specs.declared.recording.Entry.{Entry}
+use Rattle.rec_format.specs.declared.recording.Entry.TheVariants as entry
 use Rattle.rec_format.specs.declared.recording.Event.{Event}
 use Rattle.rec_format.specs.Entries.{EntryKind, time_of, AreInTime}
-use Rattle.rec_format.specs.Events.{IsEvent, events}
-use Rattle.rec_format.specs.Places.{event_at_place, HasFormat}
+use Rattle.rec_format.specs.EntryParts.{part_of_entry, part_time, IsEntry, entries}
+use Rattle.rec_format.specs.Places.{entry_at_place, entry_time, HasFormat}
 use Rattle.rec_format.specs.Recordings.{IsTrack, AreApart, AreNumbered, IsValidRecording}
 use Rattle.rec_format.proofs.EventLaws.{event_id, two_bytes}
+use Rattle.rec_format.proofs.Versions.{IsVersion}
 
 -- ---- formats
 
@@ -75,44 +78,64 @@ times_rise kind earliest latest (f ∷ fs) (suc i) (suc j) d e times first secon
 
 -- ---- events of a recording
 
--- an event stands on a track
-pub record IsOnTrack (r : Recording) (cpu place : ℕ) (e : Event) : Type 0 where
+-- an entry stands on a track
+pub record IsOnTrack (r : Recording) (cpu place : ℕ) (e : Entry) : Type 0 where
   pub track : CpuTrack
   pub placed : slice_get r.cpus cpu ≡ Some track
-  pub there : slice_get track.events place ≡ Some e
+  pub there : slice_get track.entries place ≡ Some e
 
-pub on_track : (r : Recording) (cpu place : ℕ) (e : Event) → event_at_place r cpu place ≡ Some e → IsOnTrack r cpu place e
+pub on_track : (r : Recording) (cpu place : ℕ) (e : Entry) → entry_at_place r cpu place ≡ Some e → IsOnTrack r cpu place e
 on_track r cpu place e at =
-    (elim (slice_get r.cpus cpu) as (λ o. slice_get r.cpus cpu ≡ o → option_and_then (λ (c : CpuTrack). slice_get c.events place) o ≡ Some e → IsOnTrack r cpu place e) [
+    (elim (slice_get r.cpus cpu) as (λ o. slice_get r.cpus cpu ≡ o → option_and_then (λ (c : CpuTrack). slice_get c.entries place) o ≡ Some e → IsOnTrack r cpu place e) [
       | None ↦ λ h g. absurd cc
       | Some c ↦ λ h g. record { track = c; placed = h; there = g }
     ]) refl at
 
-pub track_at : (r : Recording) (cpu : ℕ) (c : CpuTrack) → IsValidRecording r → slice_get r.cpus cpu ≡ Some c → IsTrack r.formats r.start r.end c
-track_at r cpu c valid at = all_at (IsTrack r.formats r.start r.end) r.cpus cpu c valid.cpus.each at
+pub track_at : (r : Recording) (cpu : ℕ) (c : CpuTrack) → IsValidRecording r → slice_get r.cpus cpu ≡ Some c → IsTrack (has_marks r.version) r.formats r.start r.end c
+track_at r cpu c valid at = all_at (IsTrack (has_marks r.version) r.formats r.start r.end) r.cpus cpu c valid.cpus.each at
 
-pub event_is : (r : Recording) (cpu place : ℕ) (e : Event) → IsValidRecording r → event_at_place r cpu place ≡ Some e → IsEvent r.formats e
-event_is r cpu place e valid at =
+entry_is : (r : Recording) (cpu place : ℕ) (e : Entry) → IsValidRecording r → entry_at_place r cpu place ≡ Some e → IsEntry (has_marks r.version) r.formats e
+entry_is r cpu place e valid at =
     let on = on_track r cpu place e at in
-    all_at (IsEvent r.formats) on.track.events place e (track_at r cpu on.track valid on.placed).events.each on.there
+    all_at (IsEntry (has_marks r.version) r.formats) on.track.entries place e (track_at r cpu on.track valid on.placed).entries.each on.there
 
-pub event_has_format : (r : Recording) (cpu place : ℕ) (e : Event) → IsValidRecording r → event_at_place r cpu place ≡ Some e → HasFormat r.formats e
+pub event_has_format : (r : Recording) (cpu place : ℕ) (e : Event) → IsValidRecording r → entry_at_place r cpu place ≡ Some (entry.Event e) → HasFormat r.formats e
 event_has_format r cpu place e valid at =
-    let is = event_is r cpu place e valid at in
+    let is = entry_is r cpu place (entry.Event e) valid at in
     record { format = is.format; placed = is.placed; two = two_bytes r.formats e is; id = event_id r.formats e valid.formats is; long = is.long; short = is.whole.payload }
 
-pub event_within : (r : Recording) (cpu place : ℕ) (e : Event) → IsValidRecording r → event_at_place r cpu place ≡ Some e → (r.start ≤ e.time) × (e.time ≤ r.end)
-event_within r cpu place e valid at =
-    let on = on_track r cpu place e at in
-    within_time events r.start r.end on.track.events place e (track_at r cpu on.track valid on.placed).events.in_time on.there
+-- where there is a mark there may be marks, and it tells of some events
+mark_stands : (marks : Bool) (formats : List Format) (time count : ℕ) → IsEntry marks formats (entry.Lost time count) → (marks ≡ true) × (1 ≤ count)
+mark_stands true formats time count is = (refl, let some = eqb-false count 0 is.2 in omega (arith, some))
+mark_stands false formats time count is = absurd is
 
-pub events_in_order : (r : Recording) (cpu i j : ℕ) (d e : Event) → IsValidRecording r → event_at_place r cpu i ≡ Some d → event_at_place r cpu j ≡ Some e → i ≤ j → d.time ≤ e.time
-events_in_order r cpu i j d e valid first second order =
+may_have : (version : ℕ) → IsVersion version → has_marks version ≡ true → version ≡ 2
+may_have version (inl one) h = let clash : has_marks 1 ≡ true = ap has_marks (sym one) ∙ h in absurd cc
+may_have version (inr two) h = two
+
+pub mark_tells : (r : Recording) (cpu place time count : ℕ) → IsValidRecording r → entry_at_place r cpu place ≡ Some (entry.Lost time count) → (r.version ≡ 2) × (1 ≤ count)
+mark_tells r cpu place time count valid at =
+    let stands = mark_stands (has_marks r.version) r.formats time count (entry_is r cpu place (entry.Lost time count) valid at) in
+    (may_have r.version valid.version stands.0, stands.1)
+
+time_is : (e : Entry) → part_time (part_of_entry e) ≡ entry_time e
+time_is (entry.Event e) = refl
+time_is (entry.Lost time count) = refl
+
+pub entry_within : (r : Recording) (cpu place : ℕ) (e : Entry) → IsValidRecording r → entry_at_place r cpu place ≡ Some e → (r.start ≤ entry_time e) × (entry_time e ≤ r.end)
+entry_within r cpu place e valid at =
+    let on = on_track r cpu place e at in
+    subst (λ (t : ℕ). (r.start ≤ t) × (t ≤ r.end)) (time_is e)
+    (within_time (entries (has_marks r.version)) r.start r.end on.track.entries place e (track_at r cpu on.track valid on.placed).entries.in_time on.there)
+
+pub entries_in_order : (r : Recording) (cpu i j : ℕ) (d e : Entry) → IsValidRecording r → entry_at_place r cpu i ≡ Some d → entry_at_place r cpu j ≡ Some e → i ≤ j → entry_time d ≤ entry_time e
+entries_in_order r cpu i j d e valid first second order =
     let on = on_track r cpu i d first in
     let other = on_track r cpu j e second in
     let same : other.track ≡ on.track = same_Some other.track on.track (sym other.placed ∙ on.placed) in
-    let there : slice_get on.track.events j ≡ Some e = ap (λ (c : CpuTrack). slice_get c.events j) (sym same) ∙ other.there in
-    times_rise events r.start r.end on.track.events i j d e (track_at r cpu on.track valid on.placed).events.in_time on.there there order
+    let there : slice_get on.track.entries j ≡ Some e = ap (λ (c : CpuTrack). slice_get c.entries j) (sym same) ∙ other.there in
+    let rise = times_rise (entries (has_marks r.version)) r.start r.end on.track.entries i j d e (track_at r cpu on.track valid on.placed).entries.in_time on.there there order in
+    omega (arith, rise, time_is d, time_is e)
 
 -- ---- CPUs
 

@@ -17,13 +17,13 @@ use Rattle.rec_format.specs.declared.error.RecordingError.TheVariants as fault
 use Rattle.rec_format.specs.declared.error.CountOf.TheVariants as count
 use Rattle.rec_format.specs.declared.recording.Recording.{Recording}
 use Rattle.rec_format.specs.declared.recording.CpuTrack.{CpuTrack}
-use Rattle.rec_format.specs.declared.recording.Event.{Event}
+use Rattle.rec_format.specs.declared.recording.Entry.{Entry}
 use Rattle.rec_format.specs.Parts.{HeaderPart, header_bytes, FormatPart, IsFormatPart, format_bytes, CpuPart, IsCpuPart, cpu_bytes}
 use Rattle.rec_format.specs.Fronts.{header_at, format_at, cpu_at}
 use Rattle.rec_format.specs.Stops.{IsCutShort, IsRefused}
-use Rattle.rec_format.specs.Checks.{header_fault, is_system_byte, is_system, is_same_event, format_of, IsFormatFault, cpu_fault}
+use Rattle.rec_format.specs.Checks.{version_of, has_marks, header_fault, is_system_byte, is_system, is_same_event, format_of, IsFormatFault, cpu_fault}
 use Rattle.rec_format.specs.Entries.{entries_bytes, HasEntries}
-use Rattle.rec_format.specs.Events.{events}
+use Rattle.rec_format.specs.EntryParts.{entries}
 use Rattle.rec_format.specs.Recordings.{header_of, part_of_format, head_of_track, formats_bytes, track_bytes, tracks_bytes, recording_bytes, total_entries, IsFormat, AreApart, AreFormats, IsTrack, AreNumbered, IsValidRecording}
 use Rattle.rec_format.specs.Faults.{HeaderFails, HasHeader, FormatFails, HasFormats, least_after, HeadHasFault, TrackFails, CpuFails, HasTracks, IsRecordingFault}
 use Rattle.rec_format.specs.Answers.{Answers, IsSpelled}
@@ -32,8 +32,9 @@ use Rattle.rec_format.proofs.Lists.{suffix_fits}
 use Rattle.rec_format.proofs.Many.{then_read, whole_part, unless_fault, many, Chain, many_all, many_fails}
 use Rattle.rec_format.proofs.PartLaws.{header_reads, format_reads, cpu_reads, nothing_read}
 use Rattle.rec_format.proofs.EntryLaws.{read_entry, entries_again, entries_fail}
-use Rattle.rec_format.proofs.EventLaws.{events_readable}
+use Rattle.rec_format.proofs.KindLaws.{readable}
 use Rattle.rec_format.proofs.LoopLaws.{least_more, total_more, total_first}
+use Rattle.rec_format.proofs.Versions.{magic_passes, magic_long, version_back}
 
 -- ---- the header
 
@@ -155,22 +156,22 @@ formats_fail whole n bytes e fits f =
 
 -- ---- a CPU
 
-abbrev track_of : CpuPart → List Event × List ℕ → CpuTrack × List ℕ
-track_of head es = (record { number = head.number; events = es.0 }, es.1)
+abbrev track_of : CpuPart → List Entry × List ℕ → CpuTrack × List ℕ
+track_of head es = (record { number = head.number; entries = es.0 }, es.1)
 
-abbrev read_rest : ℕ → List Format → ℕ → ℕ → List CpuTrack → CpuPart × List ℕ → Result (CpuTrack × List ℕ) RecordingError
-read_rest whole formats start end acc h = then_read (many (read_entry events events_readable whole formats start end (length acc)) h.0.entries [] h.1) (λ es. Ok (track_of h.0 es))
+abbrev read_rest : (marks : Bool) → ℕ → List Format → ℕ → ℕ → List CpuTrack → CpuPart × List ℕ → Result (CpuTrack × List ℕ) RecordingError
+read_rest marks whole formats start end acc h = then_read (many (read_entry (entries marks) (readable marks) whole formats start end (length acc)) h.0.entries [] h.1) (λ es. Ok (track_of h.0 es))
 
-abbrev after_head : ℕ → List Format → ℕ → ℕ → List CpuTrack → Result (CpuPart × List ℕ) RecordingError → Result (CpuTrack × List ℕ) RecordingError
-after_head whole formats start end acc r = then_read r (λ h. then_read (unless_fault (cpu_fault (length acc) (least_after 0 acc) (total_entries acc) h.0) h) (read_rest whole formats start end acc))
+abbrev after_head : (marks : Bool) → ℕ → List Format → ℕ → ℕ → List CpuTrack → Result (CpuPart × List ℕ) RecordingError → Result (CpuTrack × List ℕ) RecordingError
+after_head marks whole formats start end acc r = then_read r (λ h. then_read (unless_fault (cpu_fault (length acc) (least_after 0 acc) (total_entries acc) h.0) h) (read_rest marks whole formats start end acc))
 
-read_track : ℕ → List Format → ℕ → ℕ → List CpuTrack → List ℕ → Result (CpuTrack × List ℕ) RecordingError
-read_track whole formats start end acc bytes = after_head whole formats start end acc (whole_part whole (cpu_at bytes))
+read_track : (marks : Bool) → ℕ → List Format → ℕ → ℕ → List CpuTrack → List ℕ → Result (CpuTrack × List ℕ) RecordingError
+read_track marks whole formats start end acc bytes = after_head marks whole formats start end acc (whole_part whole (cpu_at bytes))
 
-record TrackFits (formats : List Format) (start end : ℕ) (acc : List CpuTrack) (c : CpuTrack) : Type 0 where
-  is : IsTrack formats start end c
+record TrackFits (marks : Bool) (formats : List Format) (start end : ℕ) (acc : List CpuTrack) (c : CpuTrack) : Type 0 where
+  is : IsTrack marks formats start end c
   low : least_after 0 acc ≤ c.number
-  few : total_entries acc + length c.events ≤ EVENTS
+  few : total_entries acc + length c.entries ≤ EVENTS
 
 no_head_fault : (place least announced : ℕ) (head : CpuPart) → least ≤ head.number → announced + head.entries ≤ EVENTS → cpu_fault place least announced head ≡ None
 no_head_fault place least announced head low few =
@@ -178,53 +179,53 @@ no_head_fault place least announced head low few =
     ap (λ b. cond b (Some (fault.CpuNumber place)) (on_events (nat_lt EVENTS (announced + head.entries)))) (le-ltb head.number least low)
     ∙ ap on_events (le-ltb EVENTS (announced + head.entries) few)
 
-track_step : (whole : ℕ) (formats : List Format) (start end : ℕ) → AreFormats formats → (acc : List CpuTrack) (c : CpuTrack) (rest : List ℕ) → TrackFits formats start end acc c
-    → read_track whole formats start end acc (track_bytes c ++ rest) ≡ Ok (c, rest)
+track_step : (marks : Bool) (whole : ℕ) (formats : List Format) (start end : ℕ) → AreFormats formats → (acc : List CpuTrack) (c : CpuTrack) (rest : List ℕ) → TrackFits marks formats start end acc c
+    → read_track marks whole formats start end acc (track_bytes marks c ++ rest) ≡ Ok (c, rest)
 unfolding read_track
-track_step whole formats start end pass acc c rest fits =
+track_step marks whole formats start end pass acc c rest fits =
     let head : CpuPart = head_of_track c in
-    let behind : List ℕ = entries_bytes events c.events ++ rest in
+    let behind : List ℕ = entries_bytes (entries marks) c.entries ++ rest in
     let is : IsCpuPart head = record { number = fits.is.number; entries = omega (arith, fits.few) } in
-    let has : HasEntries events formats start end (length c.events) behind c.events rest = record { spelled = refl; pass = fits.is.events; counted = refl } in
-    ap (λ o. after_head whole formats start end acc (whole_part whole o)) (ap cpu_at (append_assoc (cpu_bytes head) (entries_bytes events c.events) rest) ∙ cpu_reads.again head behind is)
-    ∙ ap (λ o. then_read (unless_fault o (head, behind)) (read_rest whole formats start end acc)) (no_head_fault (length acc) (least_after 0 acc) (total_entries acc) head fits.low fits.few)
-    ∙ ap (λ r. then_read r (λ es. Ok (track_of head es))) (entries_again events events_readable whole formats start end (length acc) (length c.events) behind rest c.events pass has)
+    let has : HasEntries (entries marks) formats start end (length c.entries) behind c.entries rest = record { spelled = refl; pass = fits.is.entries; counted = refl } in
+    ap (λ o. after_head marks whole formats start end acc (whole_part whole o)) (ap cpu_at (append_assoc (cpu_bytes head) (entries_bytes (entries marks) c.entries) rest) ∙ cpu_reads.again head behind is)
+    ∙ ap (λ o. then_read (unless_fault o (head, behind)) (read_rest marks whole formats start end acc)) (no_head_fault (length acc) (least_after 0 acc) (total_entries acc) head fits.low fits.few)
+    ∙ ap (λ r. then_read r (λ es. Ok (track_of head es))) (entries_again (entries marks) (readable marks) whole formats start end (length acc) (length c.entries) behind rest c.entries pass has)
 
-track_stops : (whole : ℕ) (formats : List Format) (start end : ℕ) (acc : List CpuTrack) (bytes : List ℕ) (e : RecordingError) → AreFormats formats → IsBytes bytes
+track_stops : (marks : Bool) (whole : ℕ) (formats : List Format) (start end : ℕ) (acc : List CpuTrack) (bytes : List ℕ) (e : RecordingError) → AreFormats formats → IsBytes bytes
     → IsCutShort IsCpuPart cpu_bytes whole bytes e
     ⊎ (IsRefused IsCpuPart cpu_bytes (HeadHasFault acc) bytes e
-    ⊎ TrackFails whole formats start end acc bytes e) → read_track whole formats start end acc bytes ≡ Err e
+    ⊎ TrackFails marks whole formats start end acc bytes e) → read_track marks whole formats start end acc bytes ≡ Err e
 unfolding read_track
-track_stops whole formats start end acc bytes e pass fits (inl cut) =
-    ap (λ o. after_head whole formats start end acc (whole_part whole o)) (nothing_read cpu_reads whole bytes e fits cut) ∙ ap (λ (x : RecordingError). Err x) (sym cut.told)
-track_stops whole formats start end acc bytes e pass fits (inr (inl r)) =
-    ap (λ o. after_head whole formats start end acc (whole_part whole o)) (ap cpu_at r.spelled ∙ cpu_reads.again r.part r.rest r.is_whole)
-    ∙ ap (λ o. then_read (unless_fault o (r.part, r.rest)) (read_rest whole formats start end acc)) r.has_fault
-track_stops whole formats start end acc bytes e pass fits (inr (inr t)) =
-    ap (λ o. after_head whole formats start end acc (whole_part whole o)) (ap cpu_at t.spelled ∙ cpu_reads.again t.head t.rest t.is_whole)
-    ∙ ap (λ o. then_read (unless_fault o (t.head, t.rest)) (read_rest whole formats start end acc)) t.passes
-    ∙ ap (λ r. then_read r (λ es. Ok (track_of t.head es))) (entries_fail events events_readable whole formats start end (length acc) t.head.entries t.rest e (suffix_fits (cpu_bytes t.head) t.rest bytes t.spelled fits) pass t.fails)
+track_stops marks whole formats start end acc bytes e pass fits (inl cut) =
+    ap (λ o. after_head marks whole formats start end acc (whole_part whole o)) (nothing_read cpu_reads whole bytes e fits cut) ∙ ap (λ (x : RecordingError). Err x) (sym cut.told)
+track_stops marks whole formats start end acc bytes e pass fits (inr (inl r)) =
+    ap (λ o. after_head marks whole formats start end acc (whole_part whole o)) (ap cpu_at r.spelled ∙ cpu_reads.again r.part r.rest r.is_whole)
+    ∙ ap (λ o. then_read (unless_fault o (r.part, r.rest)) (read_rest marks whole formats start end acc)) r.has_fault
+track_stops marks whole formats start end acc bytes e pass fits (inr (inr t)) =
+    ap (λ o. after_head marks whole formats start end acc (whole_part whole o)) (ap cpu_at t.spelled ∙ cpu_reads.again t.head t.rest t.is_whole)
+    ∙ ap (λ o. then_read (unless_fault o (t.head, t.rest)) (read_rest marks whole formats start end acc)) t.passes
+    ∙ ap (λ r. then_read r (λ es. Ok (track_of t.head es))) (entries_fail (entries marks) (readable marks) whole formats start end (length acc) t.head.entries t.rest e (suffix_fits (cpu_bytes t.head) t.rest bytes t.spelled fits) pass t.fails)
 
-tracks_chain : (formats : List Format) (start end : ℕ) (cs acc : List CpuTrack) → AllByRecursion (IsTrack formats start end) cs → AreNumbered (least_after 0 acc) cs → total_entries acc + total_entries cs ≤ EVENTS
-    → Chain (TrackFits formats start end) acc cs
-tracks_chain formats start end [] acc each numbered few = tt
-tracks_chain formats start end (c ∷ cs) acc each numbered few = (
+tracks_chain : (marks : Bool) (formats : List Format) (start end : ℕ) (cs acc : List CpuTrack) → AllByRecursion (IsTrack marks formats start end) cs → AreNumbered (least_after 0 acc) cs → total_entries acc + total_entries cs ≤ EVENTS
+    → Chain (TrackFits marks formats start end) acc cs
+tracks_chain marks formats start end [] acc each numbered few = tt
+tracks_chain marks formats start end (c ∷ cs) acc each numbered few = (
   record { is = each.0; low = numbered.0; few = omega (arith, total_first c cs, few) },
-  tracks_chain formats start end cs (acc ++ c ∷ []) each.1 (subst (λ (n : ℕ). AreNumbered n cs) (sym (least_more 0 acc c)) numbered.1) (omega (arith, total_more acc c, total_first c cs, few)),
+  tracks_chain marks formats start end cs (acc ++ c ∷ []) each.1 (subst (λ (n : ℕ). AreNumbered n cs) (sym (least_more 0 acc c)) numbered.1) (omega (arith, total_more acc c, total_first c cs, few)),
 )
 
-tracks_again : (whole : ℕ) (formats : List Format) (start end n : ℕ) (bytes rest : List ℕ) (cs : List CpuTrack) → AreFormats formats → HasTracks formats start end n bytes cs rest
-    → many (read_track whole formats start end) n [] bytes ≡ Ok (cs, rest)
-tracks_again whole formats start end n bytes rest cs pass has =
-    many_all (read_track whole formats start end) track_bytes (TrackFits formats start end) (track_step whole formats start end pass) cs n bytes rest
-    (tracks_chain formats start end cs [] has.pass.each has.pass.numbered (omega (arith, has.pass.few))) has.counted has.spelled
+tracks_again : (marks : Bool) (whole : ℕ) (formats : List Format) (start end n : ℕ) (bytes rest : List ℕ) (cs : List CpuTrack) → AreFormats formats → HasTracks marks formats start end n bytes cs rest
+    → many (read_track marks whole formats start end) n [] bytes ≡ Ok (cs, rest)
+tracks_again marks whole formats start end n bytes rest cs pass has =
+    many_all (read_track marks whole formats start end) (track_bytes marks) (TrackFits marks formats start end) (track_step marks whole formats start end pass) cs n bytes rest
+    (tracks_chain marks formats start end cs [] has.pass.each has.pass.numbered (omega (arith, has.pass.few))) has.counted has.spelled
 
-tracks_fail : (whole : ℕ) (formats : List Format) (start end n : ℕ) (bytes : List ℕ) (e : RecordingError) → IsBytes bytes → AreFormats formats → CpuFails whole formats start end n bytes e
-    → many (read_track whole formats start end) n [] bytes ≡ Err e
-tracks_fail whole formats start end n bytes e fits pass f =
-    many_fails (read_track whole formats start end) track_bytes (TrackFits formats start end) (track_step whole formats start end pass) f.cpus n bytes f.rest e
-    (tracks_chain formats start end f.cpus [] f.pass.each f.pass.numbered (omega (arith, f.pass.few))) f.due f.spelled
-    (track_stops whole formats start end f.cpus f.rest e pass (suffix_fits (tracks_bytes f.cpus) f.rest bytes f.spelled fits) f.fails)
+tracks_fail : (marks : Bool) (whole : ℕ) (formats : List Format) (start end n : ℕ) (bytes : List ℕ) (e : RecordingError) → IsBytes bytes → AreFormats formats → CpuFails marks whole formats start end n bytes e
+    → many (read_track marks whole formats start end) n [] bytes ≡ Err e
+tracks_fail marks whole formats start end n bytes e fits pass f =
+    many_fails (read_track marks whole formats start end) (track_bytes marks) (TrackFits marks formats start end) (track_step marks whole formats start end pass) f.cpus n bytes f.rest e
+    (tracks_chain marks formats start end f.cpus [] f.pass.each f.pass.numbered (omega (arith, f.pass.few))) f.due f.spelled
+    (track_stops marks whole formats start end f.cpus f.rest e pass (suffix_fits (tracks_bytes marks f.cpus) f.rest bytes f.spelled fits) f.fails)
 
 -- ---- the whole
 
@@ -232,9 +233,13 @@ abbrev finish : ℕ → Recording → List ℕ → Result Recording RecordingErr
 finish whole r [] = Ok r
 finish whole r (b ∷ rest) = Err (fault.TrailingBytes (whole - length (b ∷ rest)))
 
+abbrev with_version : ℕ → ℕ → HeaderPart → List Format × List ℕ → Result Recording RecordingError
+with_version whole version h fs =
+    then_read (many (read_track (has_marks version) whole fs.0 h.start h.end) h.cpus [] fs.1)
+    (λ cs. finish whole (record { version = version; start = h.start; end = h.end; formats = fs.0; cpus = cs.0 }) cs.1)
+
 abbrev with_formats : ℕ → HeaderPart → List Format × List ℕ → Result Recording RecordingError
-with_formats whole h fs =
-    then_read (many (read_track whole fs.0 h.start h.end) h.cpus [] fs.1) (λ cs. finish whole (record { start = h.start; end = h.end; formats = fs.0; cpus = cs.0 }) cs.1)
+with_formats whole h fs = with_version whole (version_of h.magic) h fs
 
 abbrev with_header : ℕ → HeaderPart × List ℕ → Result Recording RecordingError
 with_header whole h = then_read (many (read_format whole) h.0.formats [] h.1) (with_formats whole h.0)
@@ -249,7 +254,8 @@ header_passes r v =
     let on_formats : Bool → Option RecordingError = λ b. cond b (Some (fault.Count count.Formats)) (on_span (nat_lt r.end r.start)) in
     let on_cpus : Bool → Option RecordingError = λ b. cond b (Some (fault.Count count.Cpus)) (on_formats (nat_lt FORMATS (length r.formats))) in
     let some : (n == 0) ≡ false = ne_eqb n 0 (λ e. omega (arith, v.some_cpus, e)) in
-    ap (λ b. on_cpus (b || nat_lt CPUS n)) some
+    ap (λ b. cond b (Some fault.BadMagic) (on_cpus (n == 0 || nat_lt CPUS n))) (magic_passes r.version v.version)
+    ∙ ap (λ b. on_cpus (b || nat_lt CPUS n)) some
     ∙ ap on_cpus (le-ltb CPUS n v.few_cpus)
     ∙ ap on_formats (le-ltb FORMATS (length r.formats) v.few_formats)
     ∙ ap on_span (le-ltb r.end r.start v.span)
@@ -258,19 +264,20 @@ whole_again : (r : Recording) (bytes rest : List ℕ) → IsValidRecording r →
 unfolding read_whole
 whole_again r bytes rest v spelled =
     let h : HeaderPart = header_of r in
-    let after_formats : List ℕ = tracks_bytes r.cpus ++ rest in
+    let after_formats : List ℕ = tracks_bytes (has_marks r.version) r.cpus ++ rest in
     let after_header : List ℕ = formats_bytes r.formats ++ after_formats in
     let header : HasHeader bytes h after_header = record {
-      spelled = spelled ∙ append_assoc (header_bytes h) (formats_bytes r.formats ++ tracks_bytes r.cpus) rest ∙ ap (λ (l : List ℕ). header_bytes h ++ l) (append_assoc (formats_bytes r.formats) (tracks_bytes r.cpus) rest);
-      is_whole = record { magic = refl; cpus = omega (arith, v.few_cpus); formats = omega (arith, v.few_formats); start = v.start; end = v.end };
+      spelled = spelled ∙ append_assoc (header_bytes h) (formats_bytes r.formats ++ tracks_bytes (has_marks r.version) r.cpus) rest ∙ ap (λ (l : List ℕ). header_bytes h ++ l) (append_assoc (formats_bytes r.formats) (tracks_bytes (has_marks r.version) r.cpus) rest);
+      is_whole = record { magic = magic_long r.version; cpus = omega (arith, v.few_cpus); formats = omega (arith, v.few_formats); start = v.start; end = v.end };
       passes = header_passes r v;
     } in
     let formats : HasFormats (length r.formats) after_header r.formats after_formats = record { spelled = refl; pass = v.formats; counted = refl } in
-    let cpus : HasTracks r.formats r.start r.end (length r.cpus) after_formats r.cpus rest = record { spelled = refl; pass = v.cpus; counted = refl } in
+    let cpus : HasTracks (has_marks r.version) r.formats r.start r.end (length r.cpus) after_formats r.cpus rest = record { spelled = refl; pass = v.cpus; counted = refl } in
     ap (λ x. then_read x (with_header (length bytes))) (header_again bytes h after_header header)
     ∙ ap (λ x. then_read x (with_formats (length bytes) h)) (formats_again (length bytes) (length r.formats) after_header after_formats r.formats formats)
-    ∙ ap (λ x. then_read x (λ cs. finish (length bytes) (record { start = r.start; end = r.end; formats = r.formats; cpus = cs.0 }) cs.1))
-    (tracks_again (length bytes) r.formats r.start r.end (length r.cpus) after_formats rest r.cpus v.formats cpus)
+    ∙ ap (λ (version : ℕ). with_version (length bytes) version h (r.formats, after_formats)) (version_back r.version v.version)
+    ∙ ap (λ x. then_read x (λ cs. finish (length bytes) (record { version = r.version; start = r.start; end = r.end; formats = r.formats; cpus = cs.0 }) cs.1))
+    (tracks_again (has_marks r.version) (length bytes) r.formats r.start r.end (length r.cpus) after_formats rest r.cpus v.formats cpus)
 
 valid_read : (r : Recording) (bytes : List ℕ) → IsValidRecording r → bytes ≡ recording_bytes r → read_whole bytes ≡ Ok r
 valid_read r bytes v spelled = whole_again r bytes [] v (spelled ∙ sym (append-nil (recording_bytes r)))
@@ -289,8 +296,8 @@ fault_read bytes e fits (inr (inr (inl c))) =
     let header_fits = suffix_fits (header_bytes c.header) c.after_header bytes c.has_header.spelled fits in
     ap (λ x. then_read x (with_header (length bytes))) (header_again bytes c.header c.after_header c.has_header)
     ∙ ap (λ x. then_read x (with_formats (length bytes) c.header)) (formats_again (length bytes) c.header.formats c.after_header c.rest c.formats c.has_formats)
-    ∙ ap (λ x. then_read x (λ cs. finish (length bytes) (record { start = c.header.start; end = c.header.end; formats = c.formats; cpus = cs.0 }) cs.1))
-    (tracks_fail (length bytes) c.formats c.header.start c.header.end c.header.cpus c.rest e (suffix_fits (formats_bytes c.formats) c.rest c.after_header c.has_formats.spelled header_fits) c.has_formats.pass c.fails)
+    ∙ ap (λ x. then_read x (λ cs. finish (length bytes) (record { version = version_of c.header.magic; start = c.header.start; end = c.header.end; formats = c.formats; cpus = cs.0 }) cs.1))
+    (tracks_fail (has_marks (version_of c.header.magic)) (length bytes) c.formats c.header.start c.header.end c.header.cpus c.rest e (suffix_fits (formats_bytes c.formats) c.rest c.after_header c.has_formats.spelled header_fits) c.has_formats.pass c.fails)
 fault_read bytes e fits (inr (inr (inr l))) =
     let offset : length bytes - length l.rest ≡ length (recording_bytes l.recording) = omega (arith, ap length l.spelled, length-append (recording_bytes l.recording) l.rest) in
     whole_again l.recording bytes l.rest l.valid l.spelled ∙ left_over (length bytes) l.recording l.rest l.left ∙ ap (λ (n : ℕ). Err (fault.TrailingBytes n)) offset ∙ ap (λ (x : RecordingError). Err x) (sym l.told)
@@ -325,6 +332,8 @@ is_memory (fault.UnknownId cpu event) = inr (λ h. cc)
 is_memory (fault.ShortPayload cpu event) = inr (λ h. cc)
 is_memory (fault.TrailingBytes n) = inr (λ h. cc)
 is_memory (fault.BadSystem place) = inr (λ h. cc)
+is_memory (fault.BadEntry cpu event) = inr (λ h. cc)
+is_memory (fault.EmptyMark cpu event) = inr (λ h. cc)
 is_memory fault.Memory = inl refl
 
 abbrev Answer : Type 0

@@ -3,7 +3,6 @@ use Rattle.std.proofs.Common.{◌≡◌, ℕ, ◌≤◌, Bool, true, false, cond
 use Rattle.std.specs.Prelude.{nat_lt, codes, ◌==◌}
 use Rattle.std.specs.Str.{bytes_eq}
 use Rattle.std.proofs.lemmas.Bool.{ltb-false, eqb-false, eqb-true, or_parts}
-use Rattle.std.proofs.lemmas.Slice.Eq.{bytes_eq-Decides}
 use Rattle.bt_core.specs.declared.limits.TheConstants.{CPUS, FORMATS}
 use Rattle.tracefs_format.specs.declared.format.Format.{Format}
 use Rattle.rec_format.specs.declared.error.RecordingError.{RecordingError}
@@ -12,28 +11,23 @@ use Rattle.rec_format.specs.declared.error.CountOf.TheVariants as count
 use Rattle.rec_format.specs.declared.recording.Recording.{Recording}
 use Rattle.rec_format.specs.declared.recording.CpuTrack.{CpuTrack}
 use Rattle.rec_format.specs.Parts.{HeaderPart, header_bytes}
-use Rattle.rec_format.specs.Checks.{header_fault}
+use Rattle.rec_format.specs.Checks.{magic_of, version_of, has_marks, header_fault}
 use Rattle.rec_format.specs.Recordings.{header_of, formats_bytes, tracks_bytes, recording_bytes, IsValidRecording}
 use Rattle.rec_format.specs.Faults.{HasHeader, HasFormats, HasTracks}
+use Rattle.rec_format.proofs.Versions.{IsVersion, known_magic}
 
 record Bounds (h : HeaderPart) : Type 0 where
-  magic : h.magic ≡ codes "BTRACE01"
+  magic : h.magic ≡ magic_of (version_of h.magic)
+  version : IsVersion (version_of h.magic)
   some_cpus : (h.cpus == 0) ≡ false
   few_cpus : h.cpus ≤ CPUS
   few_formats : h.formats ≤ FORMATS
   span : h.start ≤ h.end
 
-not_false : (b : Bool) → not b ≡ false → b ≡ true
-not_false true h = refl
-not_false false h = absurd cc
-
-same_magic : (m : List ℕ) → not (bytes_eq m (codes "BTRACE01")) ≡ false → m ≡ codes "BTRACE01"
-same_magic m h = (bytes_eq-Decides m (codes "BTRACE01")).0 (not_false (bytes_eq m (codes "BTRACE01")) h)
-
 -- a header without a fault is within its bounds
 header_bounds : (h : HeaderPart) → header_fault h ≡ None → Bounds h
 header_bounds h none =
-    let m : Bool = not (bytes_eq h.magic (codes "BTRACE01")) in
+    let m : Bool = not (bytes_eq h.magic (codes "BTRACE01") || bytes_eq h.magic (codes "BTRACE02")) in
     let c : Bool = h.cpus == 0 || nat_lt CPUS h.cpus in
     let f : Bool = nat_lt FORMATS h.formats in
     let s : Bool = nat_lt h.end h.start in
@@ -51,37 +45,40 @@ header_bounds h none =
             | true ↦ λ e g. absurd cc
             | false ↦ λ e4 g4.
                 let cpus = or_parts (h.cpus == 0) (nat_lt CPUS h.cpus) e2 in
-                record { magic = same_magic h.magic e1; some_cpus = cpus.0; few_cpus = ltb-false CPUS h.cpus cpus.1; few_formats = ltb-false FORMATS h.formats e3; span = ltb-false h.end h.start e4 }
+                let known = known_magic h.magic e1 in
+                record { magic = known.0; version = known.1; some_cpus = cpus.0; few_cpus = ltb-false CPUS h.cpus cpus.1; few_formats = ltb-false FORMATS h.formats e3; span = ltb-false h.end h.start e4 }
           ]) refl g3
         ]) refl g2
       ]) refl g1
     ]) refl none
 
 abbrev made_of : HeaderPart → List Format → List CpuTrack → Recording
-made_of h formats cpus = record { start = h.start; end = h.end; formats = formats; cpus = cpus }
+made_of h formats cpus = record { version = version_of h.magic; start = h.start; end = h.end; formats = formats; cpus = cpus }
 
 -- a header, its formats and its CPUs are a valid recording, and its spelling stands before the rest
 pub record Whole (bytes : List ℕ) (r : Recording) (rest : List ℕ) : Type 0 where
   pub valid : IsValidRecording r
   pub spelled : bytes ≡ recording_bytes r ++ rest
 
-same_header : (h : HeaderPart) (formats : List Format) (cpus : List CpuTrack) → h.magic ≡ codes "BTRACE01" → length formats ≡ h.formats → length cpus ≡ h.cpus → h ≡ header_of (made_of h formats cpus)
+same_header : (h : HeaderPart) (formats : List Format) (cpus : List CpuTrack) → h.magic ≡ magic_of (version_of h.magic) → length formats ≡ h.formats → length cpus ≡ h.cpus → h ≡ header_of (made_of h formats cpus)
 same_header h formats cpus m f c =
     ap (λ (x : List ℕ). record h { magic = x }) m
-    ∙ ap (λ (x : ℕ). record h { magic = codes "BTRACE01"; formats = x }) (sym f)
-    ∙ ap (λ (x : ℕ). record h { magic = codes "BTRACE01"; formats = length formats; cpus = x }) (sym c)
+    ∙ ap (λ (x : ℕ). record h { magic = magic_of (version_of h.magic); formats = x }) (sym f)
+    ∙ ap (λ (x : ℕ). record h { magic = magic_of (version_of h.magic); formats = length formats; cpus = x }) (sym c)
 
 regroup : (a b c d : List ℕ) → a ++ (b ++ (c ++ d)) ≡ (a ++ (b ++ c)) ++ d
 regroup a b c d = simp append_assoc
 
 pub whole_recording : (bytes after_header after_formats rest : List ℕ) (h : HeaderPart) (formats : List Format) (cpus : List CpuTrack) → HasHeader bytes h after_header → HasFormats h.formats after_header formats after_formats
-    → HasTracks formats h.start h.end h.cpus after_formats cpus rest → Whole bytes (record { start = h.start; end = h.end; formats = formats; cpus = cpus }) rest
+    → HasTracks (has_marks (version_of h.magic)) formats h.start h.end h.cpus after_formats cpus rest → Whole bytes (record { version = version_of h.magic; start = h.start; end = h.end; formats = formats; cpus = cpus }) rest
 whole_recording bytes after_header after_formats rest h formats cpus header fs cs =
     let b = header_bounds h header.passes in
     let r : Recording = made_of h formats cpus in
+    let marks : Bool = has_marks (version_of h.magic) in
     let some : 1 ≤ length cpus = let e = eqb-false h.cpus 0 b.some_cpus in omega (arith, cs.counted, e) in
     record {
       valid = record {
+        version = b.version;
         start = header.is_whole.start;
         end = header.is_whole.end;
         span = b.span;
@@ -93,8 +90,8 @@ whole_recording bytes after_header after_formats rest h formats cpus header fs c
       };
       spelled = header.spelled
           ∙ ap (λ (l : List ℕ). header_bytes h ++ l) (fs.spelled ∙ ap (λ (l : List ℕ). formats_bytes formats ++ l) cs.spelled)
-          ∙ ap (λ (g : HeaderPart). header_bytes g ++ (formats_bytes formats ++ (tracks_bytes cpus ++ rest))) (same_header h formats cpus b.magic fs.counted cs.counted)
-          ∙ regroup (header_bytes (header_of r)) (formats_bytes formats) (tracks_bytes cpus) rest;
+          ∙ ap (λ (g : HeaderPart). header_bytes g ++ (formats_bytes formats ++ (tracks_bytes marks cpus ++ rest))) (same_header h formats cpus b.magic fs.counted cs.counted)
+          ∙ regroup (header_bytes (header_of r)) (formats_bytes formats) (tracks_bytes marks cpus) rest;
     }
 
 -- ---- what is left

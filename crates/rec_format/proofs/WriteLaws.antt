@@ -1,16 +1,16 @@
 -- What was written so far, and a part more.
-use Rattle.std.proofs.Common.{◌≡◌, ℕ, ◌+◌, ◌<◌, ◌≤◌, Result, Ok, Err, List, [], ◌∷◌, ◌++◌, length, take, get_or, ap, sym, ◌∙◌, append_assoc, arith}
+use Rattle.std.proofs.Common.{◌≡◌, ℕ, ◌+◌, ◌<◌, ◌≤◌, Bool, Result, Ok, Err, List, [], ◌∷◌, ◌++◌, length, take, get_or, ap, sym, ◌∙◌, append_assoc, arith}
 use Rattle.std.specs.Prelude.{OnOk}
 use Rattle.std.specs.List.{flat_map, AllByRecursion}
 use Rattle.std.proofs.lemmas.List.{take_more, flat_map_more}
 use Rattle.bt_core.specs.declared.limits.TheConstants.{EVENTS}
 use Rattle.tracefs_format.specs.declared.format.Format.{Format}
 use Rattle.rec_format.specs.declared.recording.CpuTrack.{CpuTrack}
-use Rattle.rec_format.specs.declared.recording.Event.{Event}
-use Rattle.rec_format.specs.Parts.{IsEventPart}
-use Rattle.rec_format.specs.Events.{part_of_event, IsEvent}
+use Rattle.rec_format.specs.declared.recording.Entry.{Entry}
+use Rattle.rec_format.specs.EntryParts.{part_of_entry, IsEntryPart, IsEntry}
 use Rattle.rec_format.specs.Recordings.{total_entries, IsTrack}
 use Rattle.rec_format.specs.Answers.{CanWriteTrack}
+use Rattle.rec_format.proofs.KindLaws.{entry_whole}
 use Rattle.rec_format.proofs.LoopLaws.{total_first}
 
 on_ok : {T E : Type 0} (P Q : Type 0) (r : Result T E) → (P → Q) → OnOk r P → OnOk r Q
@@ -49,12 +49,12 @@ each_other : {X : Type 0} (P Q : X → Type 0) → ((x : X) → P x → Q x) →
 each_other P Q f [] all = tt
 each_other P Q f (x ∷ xs) all = (f x all.0, each_other P Q f xs all.1)
 
-pub tracks_writable : (formats : List Format) (start end : ℕ) (cs : List CpuTrack) → AllByRecursion (IsTrack formats start end) cs → total_entries cs ≤ EVENTS → AllByRecursion CanWriteTrack cs
-tracks_writable formats start end [] all few = tt
-tracks_writable formats start end (c ∷ cs) all few = (
+pub tracks_writable : (marks : Bool) (formats : List Format) (start end : ℕ) (cs : List CpuTrack) → AllByRecursion (IsTrack marks formats start end) cs → total_entries cs ≤ EVENTS → AllByRecursion (CanWriteTrack marks) cs
+tracks_writable marks formats start end [] all few = tt
+tracks_writable marks formats start end (c ∷ cs) all few = (
   record {
     counted = omega (arith, total_first c cs, few);
-    events = each_other (IsEvent formats) (λ (e : Event). IsEventPart (part_of_event e)) (λ e is. is.whole) c.events all.0.events.each;
+    entries = each_other (IsEntry marks formats) (λ (e : Entry). IsEntryPart marks (part_of_entry e)) (entry_whole marks formats) c.entries all.0.entries.each;
   },
-  tracks_writable formats start end cs all.1 (omega (arith, total_first c cs, few)),
+  tracks_writable marks formats start end cs all.1 (omega (arith, total_first c cs, few)),
 )

@@ -1,5 +1,5 @@
 -- What the functions inside the reader answer, and what the writer needs. No public contract cites these definitions.
-use Rattle.std.specs.Prelude.{◌≡◌, ◌≢◌, ◌<◌, ◌^◌, ◌++◌, ◌∷◌, ℕ, List, [], Some, Result, Ok, Err, IsTrue, true, false, length}
+use Rattle.std.specs.Prelude.{◌≡◌, ◌≢◌, ◌<◌, ◌^◌, ◌++◌, ◌∷◌, ℕ, Bool, List, [], Some, Result, Ok, Err, IsTrue, true, false, length}
 use Rattle.std.specs.List.{list_any, AllByRecursion}
 use Rattle.std.specs.Ordering.{nat_cmp}
 use Rattle.std.specs.Option.{option_map}
@@ -16,12 +16,12 @@ use Rattle.tracefs_format.specs.Names.{has_no_colon}
 use Rattle.rec_format.specs.declared.error.RecordingError.{RecordingError}
 use Rattle.rec_format.specs.declared.error.RecordingError.TheVariants as fault
 use Rattle.rec_format.specs.declared.recording.CpuTrack.{CpuTrack}
-use Rattle.rec_format.specs.declared.recording.Event.{Event}
 use Rattle.rec_format.specs.declared.recording.Recording.{Recording}
 use Rattle.rec_format.specs.Recordings.{recording_bytes, IsValidRecording}
-use Rattle.rec_format.specs.Parts.{FormatPart, EventPart, IsEventPart}
+use Rattle.rec_format.specs.EntryParts.{EntryPart, Occurs, part_of_entry, IsEntryPart}
+use Rattle.rec_format.specs.Parts.{FormatPart}
 use Rattle.rec_format.specs.Checks.{is_system, is_same_event, format_of}
-use Rattle.rec_format.specs.Events.{part_of_event, format_with}
+use Rattle.rec_format.specs.Events.{format_with}
 
 -- a value of which the one holds, or a fault of which the other holds; and at any time want of memory
 abbrev pub Answers : {T : Type 0} → Result T RecordingError → (T → Type 0) → (RecordingError → Type 0) → Type 0
@@ -42,13 +42,14 @@ pub record AddsFormat (earlier : List Format) (part : FormatPart) (later : List 
   pub read : IsLayoutOf part.text layout
   pub apart : list_any (is_same_event (format_of part layout)) earlier ≡ false
 
--- an event of this part, whose format has this place
-abbrev pub event_of : EventPart → ℕ → Event
-event_of e format = record { time = e.time; pid = e.pid; tid = e.tid; uid = e.uid; gid = e.gid; comm = e.comm; format = format; payload = e.payload }
-
 -- the format whose ID the payload begins with has this place
 abbrev pub IsPlaced : List Format → List ℕ → ℕ → Type 0
 IsPlaced formats payload place = option_map (λ found. found.0) (format_with (from_le_bytes w16 payload) formats) ≡ Some place
+
+-- where a part is an event, its format has this place
+abbrev pub IsPartPlaced : List Format → EntryPart → ℕ → Type 0
+IsPartPlaced formats (Occurs e) place = IsPlaced formats e.payload place
+IsPartPlaced formats part place = Unit {0}
 
 -- the recording is valid, and the bytes are its spelling
 pub record IsSpelled (bytes : List ℕ) (r : Recording) : Type 0 where
@@ -60,6 +61,6 @@ pub record CanWriteFormat (f : Format) : Type 0 where
   pub system : length f.system < 2 ^ 16
   pub text : length f.text < 2 ^ 32
 
-pub record CanWriteTrack (c : CpuTrack) : Type 0 where
-  pub counted : length c.events < 2 ^ 32
-  pub events : AllByRecursion (λ e. IsEventPart (part_of_event e)) c.events
+pub record CanWriteTrack (marks : Bool) (c : CpuTrack) : Type 0 where
+  pub counted : length c.entries < 2 ^ 32
+  pub entries : AllByRecursion (λ e. IsEntryPart marks (part_of_entry e)) c.entries

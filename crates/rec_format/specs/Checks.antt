@@ -23,9 +23,21 @@ first_fault (check ∷ checks) = if check.0 then Some check.1 else first_fault c
 
 -- ---- the header
 
+-- the magic of a version
+abbrev pub magic_of : ℕ → List ℕ
+magic_of version = if version == 1 then codes "BTRACE01" else codes "BTRACE02"
+
+-- the version that a magic tells
+abbrev pub version_of : List ℕ → ℕ
+version_of magic = if bytes_eq magic (codes "BTRACE01") then 1 else 2
+
+-- whether CPUs of this version may have marks of lost events
+abbrev pub has_marks : ℕ → Bool
+has_marks version = not (version == 1)
+
 abbrev pub header_fault : HeaderPart → Option RecordingError
 header_fault h = first_fault (
-    (not (bytes_eq h.magic (codes "BTRACE01")), fault.BadMagic)
+    (not (bytes_eq h.magic (codes "BTRACE01") || bytes_eq h.magic (codes "BTRACE02")), fault.BadMagic)
     ∷ (h.cpus == 0 || nat_lt CPUS h.cpus, fault.Count count.Cpus)
     ∷ (nat_lt FORMATS h.formats, fault.Count count.Formats)
     ∷ (nat_lt h.end h.start, fault.Count count.Span)

@@ -1,4 +1,4 @@
--- Events as entries of a CPU.
+-- Events of a CPU: their parts, which are valid, and what is wrong with a payload.
 use Rattle.std.specs.Prelude.{◌≡◌, ◌≤◌, ℕ, suc, ◌==◌, nat_lt, List, []}
 use Rattle.std.specs.Prelude.{◌∷◌, length, take, slice_get, Option, Some, None, if◌then◌else◌}
 use Rattle.std.specs.Int.{w16, to_le_bytes, from_le_bytes}
@@ -7,11 +7,14 @@ use Rattle.tracefs_format.specs.declared.format.Format.{Format}
 use Rattle.rec_format.specs.declared.error.RecordingError.{RecordingError}
 use Rattle.rec_format.specs.declared.error.RecordingError.TheVariants as fault
 use Rattle.rec_format.specs.declared.recording.Event.{Event}
-use Rattle.rec_format.specs.Parts.{EventPart, IsEventPart, event_bytes}
-use Rattle.rec_format.specs.Entries.{EntryKind}
+use Rattle.rec_format.specs.Parts.{EventPart, IsEventPart}
 
 abbrev pub part_of_event : Event → EventPart
 part_of_event e = record { time = e.time; pid = e.pid; tid = e.tid; uid = e.uid; gid = e.gid; comm = e.comm; payload = e.payload }
+
+-- an event of this part, whose format has this place
+abbrev pub event_of : EventPart → ℕ → Event
+event_of e format = record { time = e.time; pid = e.pid; tid = e.tid; uid = e.uid; gid = e.gid; comm = e.comm; format = format; payload = e.payload }
 
 -- its numbers fit, and the payload begins with the ID of the event's format and has the bytes of its layout
 pub record IsEvent (formats : List Format) (e : Event) : Type 0 where
@@ -36,13 +39,3 @@ abbrev pub payload_fault : List Format → ℕ → ℕ → EventPart → Option 
 payload_fault formats cpu place e =
     if nat_lt (length e.payload) 2 then Some (fault.ShortPayload cpu place)
     else length_fault cpu place (length e.payload) (format_with (from_le_bytes w16 e.payload) formats)
-
-abbrev pub events : EntryKind Event EventPart
-events = record {
-  part_of = part_of_event;
-  IsWhole = IsEventPart;
-  spelling = event_bytes;
-  time = λ e. e.time;
-  own_fault = payload_fault;
-  IsFine = IsEvent;
-}

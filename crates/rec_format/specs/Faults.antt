@@ -1,5 +1,5 @@
 -- The first fault of bytes that are no recording: the parts before it stand there and pass their checks.
-use Rattle.std.specs.Prelude.{◌≡◌, ◌≢◌, ◌⊎◌, ◌+◌, ◌<◌, ℕ, List, [], ◌∷◌, ◌++◌, length, Some, None}
+use Rattle.std.specs.Prelude.{◌≡◌, ◌≢◌, ◌⊎◌, ◌+◌, ◌<◌, ℕ, Bool, List, [], ◌∷◌, ◌++◌, length, Some, None}
 use Rattle.tracefs_format.specs.declared.format.Format.{Format}
 use Rattle.rec_format.specs.declared.error.RecordingError.{RecordingError}
 use Rattle.rec_format.specs.declared.error.RecordingError.TheVariants as fault
@@ -7,9 +7,9 @@ use Rattle.rec_format.specs.declared.recording.Recording.{Recording}
 use Rattle.rec_format.specs.declared.recording.CpuTrack.{CpuTrack}
 use Rattle.rec_format.specs.Parts.{HeaderPart, IsHeaderPart, header_bytes, IsFormatPart, format_bytes, CpuPart, IsCpuPart, cpu_bytes}
 use Rattle.rec_format.specs.Stops.{IsCutShort, IsRefused}
-use Rattle.rec_format.specs.Checks.{header_fault, IsFormatFault, cpu_fault}
+use Rattle.rec_format.specs.Checks.{version_of, has_marks, header_fault, IsFormatFault, cpu_fault}
 use Rattle.rec_format.specs.Entries.{EntryFails}
-use Rattle.rec_format.specs.Events.{events}
+use Rattle.rec_format.specs.EntryParts.{entries}
 use Rattle.rec_format.specs.Recordings.{formats_bytes, tracks_bytes, recording_bytes, total_entries, AreFormats, AreTracks, IsValidRecording}
 
 -- ---- the header
@@ -54,28 +54,28 @@ abbrev pub HeadHasFault : List CpuTrack → CpuPart → RecordingError → Type 
 HeadHasFault cpus head e = cpu_fault (length cpus) (least_after 0 cpus) (total_entries cpus) head ≡ Some e
 
 -- the head of a CPU passes, behind so many others, and one of its entries fails
-pub record TrackFails (whole : ℕ) (formats : List Format) (start end : ℕ) (cpus : List CpuTrack)
+pub record TrackFails (marks : Bool) (whole : ℕ) (formats : List Format) (start end : ℕ) (cpus : List CpuTrack)
     (bytes : List ℕ) (e : RecordingError) : Type 0 where
   pub head : CpuPart
   pub rest : List ℕ
   pub spelled : bytes ≡ cpu_bytes head ++ rest
   pub is_whole : IsCpuPart head
   pub passes : cpu_fault (length cpus) (least_after 0 cpus) (total_entries cpus) head ≡ None
-  pub fails : EntryFails events whole formats start end (length cpus) head.entries rest e
+  pub fails : EntryFails (entries marks) whole formats start end (length cpus) head.entries rest e
 
 -- fewer CPUs than there should be stand there and pass, and the next one fails, at its head or at an entry
-pub record CpuFails (whole : ℕ) (formats : List Format) (start end count : ℕ) (bytes : List ℕ) (e : RecordingError) : Type 0 where
+pub record CpuFails (marks : Bool) (whole : ℕ) (formats : List Format) (start end count : ℕ) (bytes : List ℕ) (e : RecordingError) : Type 0 where
   pub cpus : List CpuTrack
   pub rest : List ℕ
-  pub spelled : bytes ≡ tracks_bytes cpus ++ rest
-  pub pass : AreTracks formats start end cpus
+  pub spelled : bytes ≡ tracks_bytes marks cpus ++ rest
+  pub pass : AreTracks marks formats start end cpus
   pub due : length cpus < count
   pub fails : IsCutShort IsCpuPart cpu_bytes whole rest e
-      ⊎ (IsRefused IsCpuPart cpu_bytes (HeadHasFault cpus) rest e ⊎ TrackFails whole formats start end cpus rest e)
+      ⊎ (IsRefused IsCpuPart cpu_bytes (HeadHasFault cpus) rest e ⊎ TrackFails marks whole formats start end cpus rest e)
 
-pub record HasTracks (formats : List Format) (start end count : ℕ) (bytes : List ℕ) (cpus : List CpuTrack) (rest : List ℕ) : Type 0 where
-  pub spelled : bytes ≡ tracks_bytes cpus ++ rest
-  pub pass : AreTracks formats start end cpus
+pub record HasTracks (marks : Bool) (formats : List Format) (start end count : ℕ) (bytes : List ℕ) (cpus : List CpuTrack) (rest : List ℕ) : Type 0 where
+  pub spelled : bytes ≡ tracks_bytes marks cpus ++ rest
+  pub pass : AreTracks marks formats start end cpus
   pub counted : length cpus ≡ count
 
 -- ---- the whole
@@ -95,7 +95,7 @@ pub record FailsInCpus (bytes : List ℕ) (e : RecordingError) : Type 0 where
   pub rest : List ℕ
   pub has_header : HasHeader bytes header after_header
   pub has_formats : HasFormats header.formats after_header formats rest
-  pub fails : CpuFails (length bytes) formats header.start header.end header.cpus rest e
+  pub fails : CpuFails (has_marks (version_of header.magic)) (length bytes) formats header.start header.end header.cpus rest e
 
 -- a whole recording stands there, and bytes are left over
 pub record HasBytesLeft (bytes : List ℕ) (e : RecordingError) : Type 0 where

@@ -1,11 +1,15 @@
 -- How the reader takes parts from the front of bytes: each is a value and the bytes after it, or nothing. These definitions
 -- mirror the code for its proofs, and no public contract cites them.
-use Rattle.std.specs.Prelude.{ℕ, Bool, nat_le, List, length, take, drop, Option, Some, None, if◌then◌else◌}
+use Rattle.std.specs.Prelude.{ℕ, Bool, true, false, nat_le, nat_eq, List, [], ◌∷◌, length, take, drop, Option, Some, None, if◌then◌else◌}
 use Rattle.std.specs.Int.{Width, w16, w32, w64, byte_len, from_le_bytes}
+use Rattle.std.specs.Option.{option_map}
 use Rattle.rec_format.specs.declared.part.Header.{Header}
 use Rattle.rec_format.specs.declared.part.FormatText.{FormatText}
 use Rattle.rec_format.specs.declared.part.CpuHead.{CpuHead}
+use Rattle.rec_format.specs.declared.part.EntryBytes.{EntryBytes}
+use Rattle.rec_format.specs.declared.part.EntryBytes.TheVariants as held
 use Rattle.rec_format.specs.declared.part.EventBytes.{EventBytes}
+use Rattle.rec_format.specs.EntryParts.{EntryPart, Occurs, Misses, Unknown}
 use Rattle.rec_format.specs.Parts.{HeaderPart, FormatPart, CpuPart, EventPart}
 
 infixl 10 ◌>>=◌
@@ -61,6 +65,23 @@ event_at bytes =
     >>= λ comm. sized_at w32 comm.1
     >>= λ payload. Some (record { time = time.0; pid = pid.0; tid = tid.0; uid = uid.0; gid = gid.0; comm = comm.0; payload = payload.0 }, payload.1)
 
+unfoldable pub mark_at : List ℕ → Option (EntryPart × List ℕ)
+mark_at bytes = number_at w64 bytes >>= λ time. number_at w64 time.1 >>= λ count. Some (Misses time.0 count.0, count.1)
+
+-- an event
+abbrev pub plain_at : List ℕ → Option (EntryPart × List ℕ)
+plain_at bytes = option_map {U = EntryPart × List ℕ} (λ (p : EventPart × List ℕ). (Occurs p.0, p.1)) (event_at bytes)
+
+-- an entry behind its first byte
+abbrev pub tagged_at : ℕ → List ℕ → Option (EntryPart × List ℕ)
+tagged_at tag bytes = if nat_eq tag 0 then plain_at bytes else (if nat_eq tag 1 then mark_at bytes else Some (Unknown tag, bytes))
+
+-- an entry, where there may be marks and where there may not
+abbrev pub entry_at : Bool → List ℕ → Option (EntryPart × List ℕ)
+entry_at false bytes = plain_at bytes
+entry_at true [] = None
+entry_at true (tag ∷ bytes) = tagged_at tag bytes
+
 -- ---- the parts that borrowed bytes hold
 
 abbrev pub header_part : Header → HeaderPart
@@ -74,3 +95,8 @@ cpu_part c = record { number = c.number; entries = c.entries }
 
 abbrev pub event_part : EventBytes → EventPart
 event_part e = record { time = e.time; pid = e.pid; tid = e.tid; uid = e.uid; gid = e.gid; comm = e.comm; payload = e.payload.now }
+
+abbrev pub entry_part : EntryBytes → EntryPart
+entry_part (held.Event e) = Occurs (event_part e)
+entry_part (held.Lost time count) = Misses time count
+entry_part (held.Unknown tag) = Unknown tag

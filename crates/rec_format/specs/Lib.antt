@@ -8,3 +8,5 @@ pub mod Parts
 pub mod Stops
 pub mod Places
 pub mod Recordings
+pub mod EntryParts
+pub mod InFile

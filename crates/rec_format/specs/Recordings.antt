@@ -1,5 +1,5 @@
 -- Recordings: the one spelling of each, and which are valid.
-use Rattle.std.specs.Prelude.{◌≡◌, ◌+◌, ◌≤◌, ◌<◌, ◌^◌, ℕ, ⊤, true, false, codes, sum_by, List, [], ◌∷◌, ◌++◌, length}
+use Rattle.std.specs.Prelude.{◌≡◌, ◌⊎◌, ◌+◌, ◌≤◌, ◌<◌, ◌^◌, ℕ, ⊤, Bool, true, false, sum_by, List, [], ◌∷◌, ◌++◌, length}
 use Rattle.std.specs.List.{flat_map, AllByRecursion}
 use Rattle.bt_core.specs.declared.limits.TheConstants.{CPUS, FORMATS, EVENTS}
 use Rattle.tracefs_format.specs.declared.format.Format.{Format}
@@ -7,35 +7,35 @@ use Rattle.tracefs_format.specs.Layouts.{IsLayoutOf}
 use Rattle.rec_format.specs.declared.recording.Recording.{Recording}
 use Rattle.rec_format.specs.declared.recording.CpuTrack.{CpuTrack}
 use Rattle.rec_format.specs.Parts.{HeaderPart, header_bytes, FormatPart, format_bytes, CpuPart, cpu_bytes}
-use Rattle.rec_format.specs.Checks.{is_system, is_same_event}
+use Rattle.rec_format.specs.Checks.{magic_of, has_marks, is_system, is_same_event}
 use Rattle.rec_format.specs.Entries.{entries_bytes, AreEntries}
-use Rattle.rec_format.specs.Events.{events}
+use Rattle.rec_format.specs.EntryParts.{entries}
 pub use Rattle.rec_format.specs.Events.{IsEvent}
 
 -- ---- the parts that a recording is spelled with
 
 abbrev pub header_of : Recording → HeaderPart
-header_of r = record { magic = codes "BTRACE01"; cpus = length r.cpus; formats = length r.formats; start = r.start; end = r.end }
+header_of r = record { magic = magic_of r.version; cpus = length r.cpus; formats = length r.formats; start = r.start; end = r.end }
 
 abbrev pub part_of_format : Format → FormatPart
 part_of_format f = record { system = f.system; text = f.text }
 
 abbrev pub head_of_track : CpuTrack → CpuPart
-head_of_track c = record { number = c.number; entries = length c.events }
+head_of_track c = record { number = c.number; entries = length c.entries }
 
--- ---- the spelling: the header, each format, and each CPU with its entries
+-- ---- the spelling: the header, each format, and each CPU with its entries, which are spelled by whether there may be marks
 
 abbrev pub formats_bytes : List Format → List ℕ
 formats_bytes formats = flat_map (λ f. format_bytes (part_of_format f)) formats
 
-abbrev pub track_bytes : CpuTrack → List ℕ
-track_bytes c = cpu_bytes (head_of_track c) ++ entries_bytes events c.events
+abbrev pub track_bytes : Bool → CpuTrack → List ℕ
+track_bytes marks c = cpu_bytes (head_of_track c) ++ entries_bytes (entries marks) c.entries
 
-abbrev pub tracks_bytes : List CpuTrack → List ℕ
-tracks_bytes cpus = flat_map track_bytes cpus
+abbrev pub tracks_bytes : Bool → List CpuTrack → List ℕ
+tracks_bytes marks cpus = flat_map (track_bytes marks) cpus
 
 abbrev pub recording_bytes : Recording → List ℕ
-recording_bytes r = header_bytes (header_of r) ++ (formats_bytes r.formats ++ tracks_bytes r.cpus)
+recording_bytes r = header_bytes (header_of r) ++ (formats_bytes r.formats ++ tracks_bytes (has_marks r.version) r.cpus)
 
 -- ---- which recordings are valid
 
@@ -54,9 +54,9 @@ pub record AreFormats (formats : List Format) : Type 0 where
   pub each : AllByRecursion IsFormat formats
   pub apart : AreApart formats
 
-pub record IsTrack (formats : List Format) (start end : ℕ) (c : CpuTrack) : Type 0 where
+pub record IsTrack (marks : Bool) (formats : List Format) (start end : ℕ) (c : CpuTrack) : Type 0 where
   pub number : c.number < 2 ^ 32
-  pub events : AreEntries events formats start end c.events
+  pub entries : AreEntries (entries marks) formats start end c.entries
 
 -- each CPU has a greater number than the one before it, and the first has at least this one
 abbrev pub AreNumbered : ℕ → List CpuTrack → Type 0
@@ -65,14 +65,15 @@ AreNumbered least (c ∷ cs) = (least ≤ c.number) × AreNumbered (c.number + 1
 
 -- the entries of these CPUs
 abbrev pub total_entries : List CpuTrack → ℕ
-total_entries cpus = sum_by (λ c. length c.events) cpus
+total_entries cpus = sum_by (λ c. length c.entries) cpus
 
-pub record AreTracks (formats : List Format) (start end : ℕ) (cpus : List CpuTrack) : Type 0 where
-  pub each : AllByRecursion (IsTrack formats start end) cpus
+pub record AreTracks (marks : Bool) (formats : List Format) (start end : ℕ) (cpus : List CpuTrack) : Type 0 where
+  pub each : AllByRecursion (IsTrack marks formats start end) cpus
   pub numbered : AreNumbered 0 cpus
   pub few : total_entries cpus ≤ EVENTS
 
 pub record IsValidRecording (r : Recording) : Type 0 where
+  pub version : (r.version ≡ 1) ⊎ (r.version ≡ 2)
   pub start : r.start < 2 ^ 64
   pub end : r.end < 2 ^ 64
   pub span : r.start ≤ r.end
@@ -80,4 +81,4 @@ pub record IsValidRecording (r : Recording) : Type 0 where
   pub few_cpus : length r.cpus ≤ CPUS
   pub few_formats : length r.formats ≤ FORMATS
   pub formats : AreFormats r.formats
-  pub cpus : AreTracks r.formats r.start r.end r.cpus
+  pub cpus : AreTracks (has_marks r.version) r.formats r.start r.end r.cpus

@@ -2,15 +2,18 @@
 ghost use Rattle.std.specs.Prelude.{◌≡◌};
 ghost use Rattle.std.specs.List.{list_all};
 ghost use Rattle.rec_format.specs.Fronts.{header_part, cpu_part};
-ghost use Rattle.rec_format.specs.Checks.{header_fault, is_system_byte, is_system, cpu_fault};
+ghost use Rattle.rec_format.specs.Checks.{version_of, has_marks, header_fault, is_system_byte, is_system, cpu_fault};
 
 use crate::error::{CountOf, RecordingError};
 use crate::part::{CpuHead, Header};
 use bt_core::bytes::is_word_byte;
 use bt_core::limits::{CPUS, EVENTS, FORMATS};
 
-/// What every recording begins with.
+/// What a recording of version 1 begins with.
 pub(crate) const MAGIC: &[u8; 8] = b"BTRACE01";
+
+/// What a recording of version 2 begins with.
+pub(crate) const MAGIC_OF_MARKED: &[u8; 8] = b"BTRACE02";
 
 /// The most bytes that the name of a system may have.
 pub(crate) const SYSTEM_BYTES: usize = 64;
@@ -19,7 +22,7 @@ pub(crate) const SYSTEM_BYTES: usize = 64;
 pub(crate) fn header_fault(header: &Header<'_>) -> Option<RecordingError>
     ensures { result ≡ header_fault (header_part header.now) }
 {
-    if header.magic != MAGIC.as_slice() {
+    if header.magic != MAGIC.as_slice() && header.magic != MAGIC_OF_MARKED.as_slice() {
         return Some(RecordingError::BadMagic);
     }
     if header.cpus == 0 || header.cpus > CPUS {
@@ -32,6 +35,20 @@ pub(crate) fn header_fault(header: &Header<'_>) -> Option<RecordingError>
         return Some(RecordingError::Count(CountOf::Span));
     }
     None
+}
+
+/// The version that a magic tells.
+pub(crate) fn version_of(magic: &[u8]) -> u32
+    ensures { result ≡ version_of magic.now }
+{
+    if magic == MAGIC.as_slice() { 1 } else { 2 }
+}
+
+/// Whether CPUs of this version may have marks of lost events.
+pub(crate) fn has_marks(version: u32) -> bool
+    ensures { result ≡ has_marks version }
+{
+    version != 1
 }
 
 fn is_system_byte(byte: u8) -> bool

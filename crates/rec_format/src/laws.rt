@@ -4,11 +4,13 @@ ghost use Rattle.tracefs_format.specs.declared.format.Format.{Format};
 ghost use Rattle.tracefs_format.specs.ByName.{IsNamed};
 ghost use Rattle.rec_format.specs.declared.error.RecordingError.{RecordingError};
 ghost use Rattle.rec_format.specs.declared.recording.CpuTrack.{CpuTrack};
+ghost use Rattle.rec_format.specs.declared.recording.Entry.{Entry};
+ghost use Rattle.rec_format.specs.declared.recording.Entry.TheVariants as Entry;
 ghost use Rattle.rec_format.specs.declared.recording.Event.{Event};
 ghost use Rattle.rec_format.specs.declared.recording.Recording.{Recording};
 ghost use Rattle.rec_format.specs.Recordings.{recording_bytes, IsValidRecording};
 ghost use Rattle.rec_format.specs.Faults.{IsRecordingFault};
-ghost use Rattle.rec_format.specs.Places.{AreBytes, event_at_place, HasFormat};
+ghost use Rattle.rec_format.specs.Places.{AreBytes, entry_at_place, entry_time, HasFormat};
 
 /// Two valid recordings have two spellings, so a spelling that is read gives its recording again.
 pub fn one_recording()
@@ -37,15 +39,23 @@ pub fn formats_are_apart()
 /// and has the bytes of its layout.
 pub fn events_have_formats()
     ensures { (r : Recording) (cpu place : ℕ) (event : Event) → IsValidRecording r
-        → event_at_place r cpu place ≡ Some event → HasFormat r.formats event }
+        → entry_at_place r cpu place ≡ Some (Entry.Event event) → HasFormat r.formats event }
 {}
 
-/// The events of a CPU stand in the order of their times, from the recording's start to its end.
-pub fn events_are_in_time()
-    ensures within { (r : Recording) (cpu place : ℕ) (event : Event) → IsValidRecording r
-        → event_at_place r cpu place ≡ Some event → (r.start ≤ event.time) × (event.time ≤ r.end) }
-    ensures in_order { (r : Recording) (cpu i j : ℕ) (first second : Event) → IsValidRecording r
-        → event_at_place r cpu i ≡ Some first → event_at_place r cpu j ≡ Some second → i ≤ j → first.time ≤ second.time }
+/// Each mark of a valid recording tells of some lost events, and where the version is 1 there is none.
+pub fn marks_tell_losses()
+    ensures some { (r : Recording) (cpu place time count : ℕ) → IsValidRecording r
+        → entry_at_place r cpu place ≡ Some (Entry.Lost time count) → 1 ≤ count }
+    ensures version { (r : Recording) (cpu place time count : ℕ) → IsValidRecording r
+        → entry_at_place r cpu place ≡ Some (Entry.Lost time count) → r.version ≡ 2 }
+{}
+
+/// The entries of a CPU stand in the order of their times, from the recording's start to its end.
+pub fn entries_are_in_time()
+    ensures within { (r : Recording) (cpu place : ℕ) (entry : Entry) → IsValidRecording r
+        → entry_at_place r cpu place ≡ Some entry → (r.start ≤ entry_time entry) × (entry_time entry ≤ r.end) }
+    ensures in_order { (r : Recording) (cpu i j : ℕ) (first second : Entry) → IsValidRecording r
+        → entry_at_place r cpu i ≡ Some first → entry_at_place r cpu j ≡ Some second → i ≤ j → entry_time first ≤ entry_time second }
 {}
 
 /// The numbers of the CPUs rise.

@@ -2,9 +2,11 @@
 #![tactic(auto)]
 
 mod check;
+pub mod entries;
 pub mod error;
 mod formats;
 pub mod laws;
+pub mod made;
 mod number;
 mod part;
 pub mod reading;

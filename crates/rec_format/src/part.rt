@@ -2,6 +2,7 @@
 ghost use Rattle.std.specs.Prelude.{◌≡◌};
 ghost use Rattle.std.specs.Option.{option_map};
 ghost use Rattle.rec_format.specs.Fronts.{bytes_at, header_part, header_at, format_part, format_at, cpu_part, cpu_at, event_part, event_at};
+ghost use Rattle.rec_format.specs.Fronts.{entry_part, mark_at, plain_at, tagged_at, entry_at};
 
 use crate::number::{bytes_at, sized16_at, sized32_at, u32_at, u64_at};
 
@@ -39,6 +40,14 @@ pub(crate) struct EventBytes<'b> {
     pub gid: u32,
     pub comm: [u8; 16],
     pub payload: &'b [u8],
+}
+
+/// An entry: an event, the mark of lost ones, or a byte with which no entry begins.
+#[derive(Clone, Copy)]
+pub(crate) enum EntryBytes<'b> {
+    Event(EventBytes<'b>),
+    Lost { time: u64, count: u64 },
+    Unknown(u8),
 }
 
 /// A header, and what follows it.
@@ -115,4 +124,46 @@ pub(crate) fn event_at(bytes: &[u8]) -> Option<(EventBytes<'_>, &[u8])>
         payload,
     };
     Some((event, rest))
+}
+
+/// A mark, and what follows it.
+#[tactic(auto, unfolding(crate::specs::Fronts::mark_at))]
+pub(crate) fn mark_at(bytes: &[u8]) -> Option<(EntryBytes<'_>, &[u8])>
+    ensures { option_map (λ part. (entry_part part.0, part.1.now)) result ≡ mark_at bytes.now }
+{
+    let (time, bytes) = u64_at(bytes)?;
+    let (count, rest) = u64_at(bytes)?;
+    Some((EntryBytes::Lost { time, count }, rest))
+}
+
+/// An event as an entry, and what follows it.
+fn plain_at(bytes: &[u8]) -> Option<(EntryBytes<'_>, &[u8])>
+    ensures { option_map (λ part. (entry_part part.0, part.1.now)) result ≡ plain_at bytes.now }
+{
+    let (event, rest) = event_at(bytes)?;
+    Some((EntryBytes::Event(event), rest))
+}
+
+/// The entry behind its first byte, and what follows it.
+fn tagged_at(tag: u8, bytes: &[u8]) -> Option<(EntryBytes<'_>, &[u8])>
+    ensures { option_map (λ part. (entry_part part.0, part.1.now)) result ≡ tagged_at tag bytes.now }
+{
+    match tag {
+        0 => plain_at(bytes),
+        1 => mark_at(bytes),
+        _ => Some((EntryBytes::Unknown(tag), bytes)),
+    }
+}
+
+/// An entry, where there may be marks of lost events or where there may not, and what follows it.
+pub(crate) fn entry_at(marks: bool, bytes: &[u8]) -> Option<(EntryBytes<'_>, &[u8])>
+    ensures { option_map (λ part. (entry_part part.0, part.1.now)) result ≡ entry_at marks bytes.now }
+{
+    if !marks {
+        return plain_at(bytes);
+    }
+    if bytes.is_empty() {
+        return None;
+    }
+    tagged_at(bytes[0], &bytes[1..])
 }

@@ -1,60 +1,74 @@
 // Reading a recording.
 ghost use Rattle.std.specs.Prelude.{◌≡◌, ◌≢◌, ◌⊎◌, IfOk, IfErr, Ok, Err};
+ghost use Rattle.std.specs.Arc.{arc_value};
 ghost use Rattle.rec_format.specs.declared.recording.Recording.{Recording};
 ghost use Rattle.rec_format.specs.declared.error.RecordingError.{RecordingError};
 ghost use Rattle.rec_format.specs.Recordings.{recording_bytes, IsValidRecording};
 ghost use Rattle.rec_format.specs.Faults.{IsRecordingFault};
 ghost use Rattle.rec_format.specs.Answers.{Answers, IsSpelled};
+ghost use Rattle.rec_format.specs.Places.{AreBytes};
 
+use crate::check::{has_marks, version_of};
 use crate::error::RecordingError;
 use crate::formats::{read_formats, read_header};
 use crate::recording::Recording;
 use crate::tracks::{Setting, read_tracks};
 use std::alloc::Global;
+use std::sync::Arc;
 
 /// The recording that the bytes spell.
 ///
-/// The bytes are read once from the front, apart from looking up names and IDs in ordered tables. Memory
-/// is taken for what the bytes hold, never for what they announce.
+/// The bytes are read once from the front, apart from looking up names and IDs in ordered tables. The recording keeps them: its
+/// entries are read where they lie. Memory is taken for what the bytes hold, never for what they announce.
 ///
 /// # Errors
 ///
 /// The first check that fails, in the order of the bytes, with its offset or places
 /// ([`RecordingError`]). [`RecordingError::Memory`] may come at any bytes.
-pub fn read_recording(alloc: Global, bytes: &[u8]) -> Result<Recording, RecordingError>
+pub fn read_recording(alloc: Global, bytes: Vec<u8>) -> Result<Recording, RecordingError>
     // What is read is valid, and the bytes are its spelling.
     ensures valid { IfOk result IsValidRecording }
-    ensures spelled { IfOk result (λ recording. bytes.now ≡ recording_bytes recording) }
+    ensures spelled { IfOk result (λ recording. bytes.items ≡ recording_bytes recording) }
     // A valid recording that the bytes spell is read, unless memory runs out.
-    ensures only { (recording : Recording) → IsValidRecording recording → bytes.now ≡ recording_bytes recording
+    ensures only { (recording : Recording) → IsValidRecording recording → bytes.items ≡ recording_bytes recording
         → (result ≡ Ok recording) ⊎ (result ≡ Err RecordingError.Memory) }
     // Any other error is the first fault of the bytes.
-    ensures fault { IfErr result (λ e. e ≢ RecordingError.Memory → IsRecordingFault bytes.now e) }
+    ensures fault { IfErr result (λ e. e ≢ RecordingError.Memory → IsRecordingFault bytes.items e) }
     // The first fault of the bytes is answered, unless memory runs out.
-    ensures refused { (e : RecordingError) → IsRecordingFault bytes.now e → (result ≡ Err e) ⊎ (result ≡ Err RecordingError.Memory) }
+    ensures refused { (e : RecordingError) → IsRecordingFault bytes.items e → (result ≡ Err e) ⊎ (result ≡ Err RecordingError.Memory) }
 {
-    read(alloc, bytes)
+    let file = Arc::new(alloc, bytes)?;
+    read(alloc, &file, (*file).as_slice())
 }
 
-/// The recording that the bytes spell, or their first fault.
-fn read(alloc: Global, bytes: &[u8]) -> Result<Recording, RecordingError>
-    ensures { Answers result (IsSpelled bytes.now) (IsRecordingFault bytes.now) }
+/// The recording that the bytes of a file spell, or their first fault.
+fn read(
+    alloc: Global,
+    file: &Arc<Vec<u8>, Global>,
+    bytes: &[u8],
+) -> Result<Recording, RecordingError>
+    requires { bytes.now ≡ (arc_value file.now).items }
+    ensures answer { Answers result (IsSpelled bytes.now) (IsRecordingFault bytes.now) }
+    ensures held { AreBytes bytes.now }
 {
     let (header, rest) = read_header(bytes)?;
     let whole = bytes.len() as u64;
     let (table, rest) = read_formats(alloc, whole, header.formats, rest)?;
+    let version = version_of(header.magic);
     let setting = Setting {
-        whole,
+        file: bytes,
+        marks: has_marks(version),
         start: header.start,
         end: header.end,
         formats: &table,
     };
-    let (cpus, rest) = read_tracks(alloc, &setting, header.cpus, rest)?;
+    let (cpus, rest) = read_tracks(alloc, file, &setting, header.cpus, rest)?;
     if !rest.is_empty() {
         let offset = bytes.len() - rest.len();
         return Err(RecordingError::TrailingBytes(offset as u64));
     }
     Ok(Recording {
+        version,
         start: header.start,
         end: header.end,
         formats: table.into_formats(),

@@ -1,13 +1,16 @@
 // Recordings of tracepoint events.
+use crate::entries::Entries;
 use bt_core::items::Items;
 use tracefs_format::format::Format;
 
-/// A recording: when it starts and ends, its event formats, and the events of each CPU.
+/// A recording: when it starts and ends, its event formats, and the entries of each CPU.
 ///
 /// Times are in nanoseconds, on one clock of the recording's own. `IsValidRecording` says which
 /// recordings are valid; the others have no file.
-#[derive(PartialEq, Eq, Debug, Drop)]
+#[derive(Drop)]
 pub struct Recording {
+    /// 1, whose CPUs have events alone, or 2, whose CPUs may have marks of lost events as well.
+    pub version: u32,
     /// No event is before it.
     pub start: u64,
     /// No event is after it.
@@ -18,13 +21,27 @@ pub struct Recording {
     pub cpus: Items<CpuTrack>,
 }
 
-/// The events of a CPU, in the order of their times.
-#[derive(PartialEq, Eq, Debug, Drop)]
+/// The entries of a CPU, in the order of their times.
+#[derive(Drop)]
 pub struct CpuTrack {
     /// The number that the recorded machine gives the CPU.
     pub number: u32,
     /// Over all CPUs at most 1,048,576.
-    pub events: Items<Event>,
+    pub entries: Entries,
+}
+
+/// What a CPU's track holds: an event, or the mark that the kernel lost some.
+#[derive(PartialEq, Eq, Debug, Drop)]
+pub enum Entry {
+    /// An event.
+    Event(Event),
+    /// So many events were lost, as was told at a time in nanoseconds.
+    Lost {
+        /// In nanoseconds.
+        time: u64,
+        /// 1 or more.
+        count: u64,
+    },
 }
 
 /// An event: what the kernel knew of its moment, and the bytes that the tracepoint wrote.

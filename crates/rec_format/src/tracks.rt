@@ -1,47 +1,48 @@
-// The CPUs of a recording and their events.
-ghost use Rattle.std.specs.Prelude.{◌≡◌, IfOk};
+// The CPUs of a recording and their entries.
+ghost use Rattle.std.specs.Prelude.{◌≡◌, ◌-◌, drop, length, IfOk};
+ghost use Rattle.std.specs.Arc.{arc_value};
 ghost use Rattle.std.specs.Result.{result_err};
-ghost use Rattle.rec_format.specs.Fronts.{event_part};
+ghost use Rattle.rec_format.specs.Fronts.{event_part, entry_part};
 ghost use Rattle.rec_format.specs.Entries.{entry_fault, EntryFails, HasEntries};
-ghost use Rattle.rec_format.specs.Events.{events};
+ghost use Rattle.rec_format.specs.EntryParts.{entries, part_time};
+ghost use Rattle.rec_format.specs.Events.{payload_fault};
 ghost use Rattle.rec_format.specs.Faults.{CpuFails, HasTracks};
-ghost use Rattle.rec_format.specs.Answers.{Answers, event_of, IsPlaced};
+ghost use Rattle.rec_format.specs.InFile.{entries_in};
+ghost use Rattle.rec_format.specs.Answers.{Answers, IsPlaced, IsPartPlaced};
 
 use crate::check::cpu_fault;
+use crate::entries::{Entries, EntryPlace, place_of};
 use crate::error::RecordingError;
 use crate::number::u16_at;
-use crate::part::{EventBytes, cpu_at, event_at};
-use crate::recording::{CpuTrack, Event};
+use crate::part::{EntryBytes, EventBytes, cpu_at, entry_at};
+use crate::recording::CpuTrack;
 use crate::table::FormatTable;
 use bt_core::items::Items;
 use bt_core::memory::Memory;
 use std::alloc::Global;
+use std::sync::Arc;
 
-/// What the events of a recording are checked against: its number of bytes, its start and end, and its
-/// formats.
+/// What the entries of a recording are checked against: all bytes of the file, whether there may be marks of lost events, the
+/// recording's start and end, and its formats.
 #[derive(Clone, Copy)]
 pub(crate) struct Setting<'t> {
-    pub whole: u64,
+    pub file: &'t [u8],
+    pub marks: bool,
     pub start: u64,
     pub end: u64,
     pub formats: &'t FormatTable,
 }
 
-/// The place of an event's format, or the first check that the event fails. It may not be before the given
-/// time.
+/// The place of an event's format, or the first check that its payload fails.
 fn format_of_event(
     setting: &Setting<'_>,
-    earliest: u64,
     cpu: u32,
     place: u32,
     event: &EventBytes<'_>,
 ) -> Result<u32, RecordingError>
     ensures accepted { IfOk result (λ format. IsPlaced setting.now.formats.now event.now.payload.now format) }
-    ensures checked { result_err result ≡ entry_fault events setting.now.formats.now earliest setting.now.end cpu place (event_part event.now) }
+    ensures checked { result_err result ≡ payload_fault setting.now.formats.now cpu place (event_part event.now) }
 {
-    if event.time < earliest || event.time > setting.end {
-        return Err(RecordingError::TimeOrder(cpu, place));
-    }
     let Some((id, _)) = u16_at(event.payload) else {
         return Err(RecordingError::ShortPayload(cpu, place));
     };
@@ -54,59 +55,86 @@ fn format_of_event(
     Ok(format)
 }
 
-/// The event of these bytes, whose format has this place.
-fn kept(alloc: Global, event: EventBytes<'_>, format: u32) -> Result<Event, Memory>
-    ensures { IfOk result (λ kept. kept ≡ event_of (event_part event.entry) format) }
+/// The time of an entry.
+fn time_of(entry: &EntryBytes<'_>) -> u64
+    ensures { result ≡ part_time (entry_part entry.now) }
 {
-    Ok(Event {
-        time: event.time,
-        pid: event.pid,
-        tid: event.tid,
-        uid: event.uid,
-        gid: event.gid,
-        comm: event.comm,
-        format,
-        payload: Items::from_slice(alloc, event.payload)?,
-    })
+    match entry {
+        EntryBytes::Event(event) => event.time,
+        EntryBytes::Lost { time, .. } => *time,
+        EntryBytes::Unknown(_) => 0,
+    }
 }
 
-/// So many events of the CPU at a place, and what follows them.
-fn read_events<'b>(
+/// The place of an event's format, or 0 of a mark; or the first check that an entry fails. It may not be before the given time.
+fn check_entry(
+    setting: &Setting<'_>,
+    earliest: u64,
+    cpu: u32,
+    place: u32,
+    entry: &EntryBytes<'_>,
+) -> Result<u32, RecordingError>
+    ensures accepted { IfOk result (λ format. IsPartPlaced setting.now.formats.now (entry_part entry.now) format) }
+    ensures checked { result_err result ≡ entry_fault (entries setting.now.marks) setting.now.formats.now earliest setting.now.end cpu place (entry_part entry.now) }
+{
+    if let EntryBytes::Unknown(_) = entry {
+        return Err(RecordingError::BadEntry(cpu, place));
+    }
+    let time = time_of(entry);
+    if time < earliest || time > setting.end {
+        return Err(RecordingError::TimeOrder(cpu, place));
+    }
+    match entry {
+        EntryBytes::Event(event) => format_of_event(setting, cpu, place, event),
+        EntryBytes::Lost { count: 0, .. } => Err(RecordingError::EmptyMark(cpu, place)),
+        _ => Ok(0),
+    }
+}
+
+/// So many entries of the CPU at a place, and what follows them.
+fn read_entries<'b>(
     alloc: Global,
     setting: &Setting<'_>,
     cpu: u32,
     count: u32,
     bytes: &'b [u8],
-) -> Result<(Items<Event>, &'b [u8]), RecordingError>
+) -> Result<(Vec<EntryPlace>, &'b [u8]), RecordingError>
+    requires { bytes.now ≡ drop (length setting.now.file.now - length bytes.now) setting.now.file.now }
     ensures { Answers result
-        (λ read. HasEntries events setting.now.formats.now setting.now.start setting.now.end count bytes.now read.0 read.1.now)
-        (EntryFails events setting.now.whole setting.now.formats.now setting.now.start setting.now.end cpu count bytes.now) }
+        (λ read. HasEntries (entries setting.now.marks) setting.now.formats.now setting.now.start setting.now.end count bytes.now
+            (entries_in setting.now.file.now read.0.items) read.1.now)
+        (EntryFails (entries setting.now.marks) (length setting.now.file.now) setting.now.formats.now setting.now.start setting.now.end cpu count bytes.now) }
 {
-    let mut events = Items::new(alloc);
+    let mut places = Vec::new(alloc);
     let mut rest = bytes;
     let mut earliest = setting.start;
     for place in 0..count {
-        let Some((event, after)) = event_at(rest) else {
-            return Err(RecordingError::Truncated(setting.whole));
+        let Some((entry, after)) = entry_at(setting.marks, rest) else {
+            return Err(RecordingError::Truncated(setting.file.len() as u64));
         };
-        let format = format_of_event(setting, earliest, cpu, place, &event)?;
-        earliest = event.time;
-        events.push(kept(alloc, event, format)?)?;
+        let format = check_entry(setting, earliest, cpu, place, &entry)?;
+        let start = setting.file.len() - rest.len();
+        let lies = place_of(setting.marks, start, &entry, format)?;
+        places.push(lies)?;
+        earliest = time_of(&entry);
         rest = after;
     }
-    Ok((events, rest))
+    Ok((places, rest))
 }
 
-/// So many CPUs with their events, and what follows them.
+/// So many CPUs with their entries, and what follows them. The file has all bytes.
 pub(crate) fn read_tracks<'b>(
     alloc: Global,
+    file: &Arc<Vec<u8>, Global>,
     setting: &Setting<'_>,
     count: u32,
     bytes: &'b [u8],
 ) -> Result<(Items<CpuTrack>, &'b [u8]), RecordingError>
+    requires whole { setting.now.file.now ≡ (arc_value file.now).items }
+    requires suffix { bytes.now ≡ drop (length setting.now.file.now - length bytes.now) setting.now.file.now }
     ensures { Answers result
-        (λ read. HasTracks setting.now.formats.now setting.now.start setting.now.end count bytes.now read.0 read.1.now)
-        (CpuFails setting.now.whole setting.now.formats.now setting.now.start setting.now.end count bytes.now) }
+        (λ read. HasTracks setting.now.marks setting.now.formats.now setting.now.start setting.now.end count bytes.now read.0 read.1.now)
+        (CpuFails setting.now.marks (length setting.now.file.now) setting.now.formats.now setting.now.start setting.now.end count bytes.now) }
 {
     let mut cpus = Items::new(alloc);
     let mut rest = bytes;
@@ -114,15 +142,16 @@ pub(crate) fn read_tracks<'b>(
     let mut announced = 0u32;
     for place in 0..count {
         let Some((head, after)) = cpu_at(rest) else {
-            return Err(RecordingError::Truncated(setting.whole));
+            return Err(RecordingError::Truncated(setting.file.len() as u64));
         };
         if let Some(fault) = cpu_fault(place, least, announced, head) {
             return Err(fault);
         }
-        let (events, after) = read_events(alloc, setting, place, head.entries, after)?;
+        let (places, after) = read_entries(alloc, setting, place, head.entries, after)?;
+        let entries = Entries::of(file, places)?;
         cpus.push(CpuTrack {
             number: head.number,
-            events,
+            entries,
         })?;
         least = u64::from(head.number) + 1;
         announced += head.entries;

@@ -1,10 +1,10 @@
 -- A made recording is valid, and the only one of its seed and count.
-use Rattle.std.proofs.Common.{◌≡◌, ℕ, zero, suc, ◌+◌, ◌*◌, ◌<◌, ◌≤◌, ◌^◌, ◌%◌, Bool, true, false, List, [], ◌∷◌, ◌++◌, length, refl, ap, sym, subst, ◌∙◌, arith, Some}
+use Rattle.std.proofs.Common.{◌≡◌, ℕ, zero, suc, ◌+◌, ◌*◌, ◌<◌, ◌≤◌, ◌^◌, ◌%◌, Bool, true, false, List, [], ◌∷◌, ◌++◌, length, map, refl, ap, sym, subst, ◌∙◌, arith, Some, inl}
 use Rattle.std.specs.Prelude.{◌==◌, cond, codes}
 use Rattle.std.specs.Int.{w16, to_le_bytes}
 use Rattle.rec_format.specs.Checks.{is_system}
 use Rattle.std.specs.List.{AllByRecursion}
-use Rattle.std.proofs.lemmas.List.{length-append}
+use Rattle.std.proofs.lemmas.List.{length-append, length-map}
 use Rattle.std.proofs.lemmas.Nat.{mod_below}
 use Rattle.bt_core.specs.declared.limits.TheConstants.{EVENTS}
 use Rattle.tracefs_format.specs.declared.format.Format.{Format}
@@ -12,9 +12,12 @@ use Rattle.tracefs_format.specs.Layouts.{IsLayoutOf}
 use Rattle.tracefs_format.proofs.ForOthers.{text_one_layout}
 use Rattle.rec_format.specs.declared.recording.Recording.{Recording}
 use Rattle.rec_format.specs.declared.recording.CpuTrack.{CpuTrack}
+use Rattle.rec_format.specs.declared.recording.Entry.{Entry}
+use Rattle.rec_format.specs.declared.recording.Entry.TheVariants as entry
 use Rattle.rec_format.specs.declared.recording.Event.{Event}
-use Rattle.rec_format.specs.Entries.{AreInTime, time_after}
-use Rattle.rec_format.specs.Events.{events, IsEvent, part_of_event}
+use Rattle.rec_format.specs.Entries.{AreInTime}
+use Rattle.rec_format.specs.EntryParts.{entries, IsEntry}
+use Rattle.rec_format.specs.Events.{IsEvent, part_of_event}
 use Rattle.rec_format.specs.Parts.{IsEventPart}
 use Rattle.rec_format.specs.Recordings.{IsValidRecording, IsFormat, AreFormats, IsTrack, AreTracks, total_entries}
 use Rattle.rec_gen.specs.declared.format.TheConstants.{TEXT}
@@ -59,33 +62,57 @@ each_end P true [] x all here = (here, tt)
 each_end P false [] x all here = tt
 each_end P b (y ∷ ys) x all here = (all.0, each_end P b ys x all.1 here)
 
-time_end : (b : Bool) (time : ℕ) (es : List Event) (e : Event) → time_after events time (es ++ cond b (e ∷ []) []) ≡ cond b e.time (time_after events time es)
+-- from the one time on, the times of events never fall, up to the other; and the last of them
+abbrev InTime : ℕ → ℕ → List Event → Type 0
+InTime low high [] = Unit {0}
+InTime low high (e ∷ es) = (low ≤ e.time) × (e.time ≤ high) × InTime e.time high es
+
+abbrev last_of : ℕ → List Event → ℕ
+last_of time [] = time
+last_of time (e ∷ es) = last_of e.time es
+
+entries_in_time : (low high : ℕ) (es : List Event) → InTime low high es → AreInTime (entries false) low high (map (λ (e : Event). entry.Event e) es)
+entries_in_time low high [] all = tt
+entries_in_time low high (e ∷ es) all = (all.0, all.1, entries_in_time e.time high es all.2)
+
+entries_each : (formats : List Format) (es : List Event) → AllByRecursion (IsEvent formats) es → AllByRecursion (IsEntry false formats) (map (λ (e : Event). entry.Event e) es)
+entries_each formats [] all = tt
+entries_each formats (e ∷ es) all = (all.0, entries_each formats es all.1)
+
+time_end : (b : Bool) (time : ℕ) (es : List Event) (e : Event) → last_of time (es ++ cond b (e ∷ []) []) ≡ cond b e.time (last_of time es)
 time_end true time [] e = refl
 time_end false time [] e = refl
 time_end b time (f ∷ fs) e = time_end b f.time fs e
 
-in_time_end : (b : Bool) (low high : ℕ) (es : List Event) (e : Event) → AreInTime events low high es → time_after events low es ≤ e.time → e.time ≤ high
-    → AreInTime events low high (es ++ cond b (e ∷ []) [])
+in_time_end : (b : Bool) (low high : ℕ) (es : List Event) (e : Event) → InTime low high es → last_of low es ≤ e.time → e.time ≤ high
+    → InTime low high (es ++ cond b (e ∷ []) [])
 in_time_end true low high [] e so_far after below = (after, below, tt)
 in_time_end false low high [] e so_far after below = tt
 in_time_end b low high (f ∷ fs) e so_far after below = (so_far.0, so_far.1, in_time_end b f.time high fs e so_far.2 after below)
+
+short : (seed place : ℕ) → length (made_event seed place).payload < 2 ^ 32
+short seed place = omega arith
+
+pub short_events : (seed cpu n : ℕ) → AllByRecursion (λ (e : Event). length e.payload < 2 ^ 32) (events_on seed cpu n)
+short_events seed cpu zero = tt
+short_events seed cpu (suc n) = each_end (λ (e : Event). length e.payload < 2 ^ 32) (n % 4 == cpu) (events_on seed cpu n) (made_event seed n) (short_events seed cpu n) (short seed n)
 
 each_event : (seed cpu n : ℕ) (format : Format) → IsLayoutOf TEXT format.layout → n ≤ EVENTS → AllByRecursion (IsEvent (format ∷ [])) (events_on seed cpu n)
 each_event seed cpu zero format h few = tt
 each_event seed cpu (suc n) format h few =
     each_end (IsEvent (format ∷ [])) (n % 4 == cpu) (events_on seed cpu n) (made_event seed n) (each_event seed cpu n format h (omega (arith, few))) (is_event seed n format h (omega (arith, few)))
 
-last_time : (seed cpu n : ℕ) → time_after events 0 (events_on seed cpu n) ≤ 1000 * n
+last_time : (seed cpu n : ℕ) → last_of 0 (events_on seed cpu n) ≤ 1000 * n
 last_time seed cpu zero = omega arith
 last_time seed cpu (suc n) =
     let before = last_time seed cpu n in
     let now = time_end (n % 4 == cpu) 0 (events_on seed cpu n) (made_event seed n) in
-    (elim (n % 4 == cpu) as (λ b. time_after events 0 (events_on seed cpu (suc n)) ≡ cond b (1000 * (n + 1)) (time_after events 0 (events_on seed cpu n)) → time_after events 0 (events_on seed cpu (suc n)) ≤ 1000 * suc n) [
+    (elim (n % 4 == cpu) as (λ b. last_of 0 (events_on seed cpu (suc n)) ≡ cond b (1000 * (n + 1)) (last_of 0 (events_on seed cpu n)) → last_of 0 (events_on seed cpu (suc n)) ≤ 1000 * suc n) [
       | true ↦ λ e. omega (arith, e)
       | false ↦ λ e. omega (arith, e, before)
     ]) now
 
-in_time : (seed cpu n : ℕ) → n ≤ EVENTS → AreInTime events 0 2000000000 (events_on seed cpu n)
+in_time : (seed cpu n : ℕ) → n ≤ EVENTS → InTime 0 2000000000 (events_on seed cpu n)
 in_time seed cpu zero few = tt
 in_time seed cpu (suc n) few =
     let before = last_time seed cpu n in
@@ -112,16 +139,23 @@ all_counted seed (suc n) =
     let d = length-append (events_on seed 3 n) (cond (n % 4 == 3) (made_event seed n ∷ []) []) in
     omega (arith, before, one, a, b, c, d)
 
+counted : (seed n cpu : ℕ) → length (map (λ (e : Event). entry.Event e) (events_on seed cpu n)) ≡ length (events_on seed cpu n)
+counted seed n cpu = length-map (events_on seed cpu n) (λ (e : Event). entry.Event e)
+
 -- ---- the recording
 
-track : (seed count cpu : ℕ) (format : Format) → IsLayoutOf TEXT format.layout → cpu < 2 ^ 32 → count ≤ EVENTS → IsTrack (format ∷ []) 0 2000000000 (made_track seed count cpu)
+track : (seed count cpu : ℕ) (format : Format) → IsLayoutOf TEXT format.layout → cpu < 2 ^ 32 → count ≤ EVENTS → IsTrack false (format ∷ []) 0 2000000000 (made_track seed count cpu)
 track seed count cpu format h low few = record {
   number = low;
-  events = record { each = each_event seed cpu count format h few; in_time = in_time seed cpu count few };
+  entries = record {
+    each = entries_each (format ∷ []) (events_on seed cpu count) (each_event seed cpu count format h few);
+    in_time = entries_in_time 0 2000000000 (events_on seed cpu count) (in_time seed cpu count few);
+  };
 }
 
 abbrev written : (seed count : ℕ) (format : Format) → Recording
 written seed count format = record {
+  version = 1;
   start = 0;
   end = 2000000000;
   formats = format ∷ [];
@@ -129,10 +163,11 @@ written seed count format = record {
 }
 
 same : (seed count : ℕ) (r : Recording) (m : IsMade seed count r) → r ≡ written seed count m.format
-same seed count r m = λ i. record { start = m.start i; end = m.end i; formats = m.formats i; cpus = m.cpus i }
+same seed count r m = λ i. record { version = m.version i; start = m.start i; end = m.end i; formats = m.formats i; cpus = m.cpus i }
 
 is_valid : (seed count : ℕ) (format : Format) → IsFormat format → IsLayoutOf TEXT format.layout → count ≤ EVENTS → IsValidRecording (written seed count format)
 is_valid seed count format is h few = record {
+  version = inl refl;
   start = omega arith;
   end = omega arith;
   span = omega arith;
@@ -149,7 +184,9 @@ is_valid seed count format is h few = record {
       ),
     );
     numbered = (omega arith, (omega arith, (omega arith, (omega arith, tt))));
-    few = let all = all_counted seed count in omega (arith, all, few);
+    few =
+        let all = all_counted seed count in
+        omega (arith, all, few, counted seed count 0, counted seed count 1, counted seed count 2, counted seed count 3);
   };
 }
 

@@ -1,10 +1,11 @@
 -- The recording that a seed and a count of events make.
-use Rattle.std.specs.Prelude.{◌≡◌, ℕ, zero, suc, ◌+◌, ◌*◌, ◌%◌, ◌==◌, List, [], ◌∷◌, ◌++◌, codes, replicate, if◌then◌else◌}
+use Rattle.std.specs.Prelude.{◌≡◌, ℕ, zero, suc, ◌+◌, ◌*◌, ◌%◌, ◌==◌, List, [], ◌∷◌, ◌++◌, map, codes, replicate, if◌then◌else◌}
 use Rattle.std.specs.Int.{w16, w32, w64, to_le_bytes}
 use Rattle.tracefs_format.specs.declared.format.Format.{Format}
 use Rattle.tracefs_format.specs.Layouts.{IsLayoutOf}
 use Rattle.rec_format.specs.declared.recording.Recording.{Recording}
 use Rattle.rec_format.specs.declared.recording.CpuTrack.{CpuTrack}
+use Rattle.rec_format.specs.declared.recording.Entry.TheVariants as entry
 use Rattle.rec_format.specs.declared.recording.Event.{Event}
 use Rattle.rec_gen.specs.declared.format.TheConstants.{TEXT}
 use Rattle.rec_gen.specs.Draws.{number_at}
@@ -43,7 +44,7 @@ events_on seed cpu zero = []
 events_on seed cpu (suc n) = events_on seed cpu n ++ (if n % 4 == cpu then made_event seed n ∷ [] else [])
 
 abbrev pub made_track : ℕ → ℕ → ℕ → CpuTrack
-made_track seed count cpu = record { number = cpu; events = events_on seed cpu count }
+made_track seed count cpu = record { number = cpu; entries = map (λ e. entry.Event e) (events_on seed cpu count) }
 
 -- the tracks of the CPUs below a number
 abbrev pub made_tracks : ℕ → ℕ → ℕ → List CpuTrack
@@ -57,6 +58,7 @@ pub record IsMade (seed count : ℕ) (r : Recording) : Type 0 where
   pub system : format.system ≡ codes "raw_syscalls"
   pub text : format.text ≡ TEXT
   pub layout : IsLayoutOf TEXT format.layout
+  pub version : r.version ≡ 1
   pub start : r.start ≡ 0
   pub end : r.end ≡ 2000000000
   pub cpus : r.cpus ≡ made_tracks seed count 4

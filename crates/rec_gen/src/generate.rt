@@ -9,6 +9,7 @@ use crate::event::event_of;
 use crate::format::made_format;
 use bt_core::items::Items;
 use bt_core::memory::Memory;
+use rec_format::made::entries_of;
 use rec_format::recording::{CpuTrack, Recording};
 use std::alloc::Global;
 
@@ -31,7 +32,8 @@ fn made_track(alloc: Global, seed: u32, count: u32, number: u32) -> Result<CpuTr
             events.push(event_of(alloc, place, &drawn)?)?;
         }
     }
-    Ok(CpuTrack { number, events })
+    let entries = entries_of(alloc, events.as_slice())?;
+    Ok(CpuTrack { number, entries })
 }
 
 /// The recording of a seed, at most 2,147,483,647, and a count of events, at most 1,048,576: starts of system calls by eight threads of
@@ -52,6 +54,7 @@ pub fn generate(alloc: Global, seed: u32, count: u32) -> Result<Recording, Memor
         cpus.push(made_track(alloc, seed, count, number)?)?;
     }
     Ok(Recording {
+        version: 1,
         start: 0,
         end: END,
         formats,

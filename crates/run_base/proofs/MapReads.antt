@@ -17,10 +17,10 @@ use Rattle.bt_core.specs.declared.step.Step.{Step}
 use Rattle.bt_core.specs.Kinds.{IsFineDecl, IsShared, IsAggregation}
 use Rattle.bt_core.specs.Ports.{IsSharedOp}
 use Rattle.agg_core.specs.Answers.{kind_of_decl, shared_answer}
-use Rattle.map_printer.specs.Ends.{AllRowsFit}
-use Rattle.map_printer.specs.Fits.{IsReadReply}
-use Rattle.map_printer.specs.Merged.{HasRowsOf}
-use Rattle.map_printer.proofs.MergedFitting.{merged_fit, reply_has_rows}
+use Rattle.map_rows.specs.Fits.{AllRowsFit}
+use Rattle.map_rows.specs.Fits.{IsReadReply}
+use Rattle.map_rows.specs.Merged.{HasRowsOf}
+use Rattle.map_rows.proofs.MergedFitting.{merged_fit, reply_has_rows}
 use Rattle.step_objects.specs.CpuTables.{map_at}
 use Rattle.turn_lock.specs.History.{Each}
 use Rattle.bt_meaning.specs.Prints.{operations_at, read_of, lost_by, lost_after, holders_of, rows_after, of_maps}

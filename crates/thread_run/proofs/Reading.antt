@@ -23,7 +23,7 @@ use Rattle.step_objects.specs.CpuTables.{map_at}
 use Rattle.step_objects.specs.Objects.{shared_kind, SharedStands, cpu_kind, CpuStands, IsAggMap}
 use Rattle.shared_maps.specs.Parts.{part_at, parts_in, parts_from}
 use Rattle.run_ends.specs.Closed.{StandsAt, AllStand}
-use Rattle.map_printer.specs.Merged.{HasRowsOf}
+use Rattle.map_rows.specs.Merged.{HasRowsOf}
 use Rattle.bt_meaning.specs.Prints.{read_of, lost_after}
 use Rattle.run_base.specs.Moments.{Moment, table_reply, table_lost, part_reply, part_lost, of_first}
 use Rattle.run_base.proofs.MapReads.{some_and, table_reads, table_losses, part_reads, part_losses, reads_have_rows}

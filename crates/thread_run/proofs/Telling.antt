@@ -2,8 +2,8 @@
 use Rattle.std.proofs.Common.{◌≡◌, ℕ, ◌+◌, List}
 use Rattle.std.specs.List.{AllByRecursion}
 use Rattle.bt_core.specs.declared.step.Step.{Step}
-use Rattle.map_printer.specs.ItemTexts.{IsItemOf}
-use Rattle.map_printer.proofs.MergedFitting.{merged_fit}
+use Rattle.map_rows.specs.Items.{IsItemOf}
+use Rattle.map_rows.proofs.MergedFitting.{merged_fit}
 use Rattle.walk_meaning.specs.Admits.{EmitsOnly}
 use Rattle.bt_meaning.specs.Jobs.{IsJob}
 use Rattle.bt_meaning.specs.OwnSteps.{IsOwnStep}

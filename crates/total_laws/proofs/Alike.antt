@@ -14,7 +14,7 @@ use Rattle.bt_core.specs.declared.value.Value.{Value}
 use Rattle.agg_core.specs.Aggregates.{aggregate, merged, signed, either, bucket, bounds, counts, buckets_of, upto}
 use Rattle.agg_core.proofs.MergeLaws.{merged-both}
 use Rattle.agg_core.proofs.SortedRows.{row_at}
-use Rattle.map_printer.proofs.KeySets.{same_keys}
+use Rattle.map_rows.proofs.KeySets.{same_keys}
 use Rattle.bt_meaning.specs.Totals.{Entry, entry_keys, numbers_at, total_rows}
 use Rattle.total_laws.proofs.Given.{named, ascends-entry_keys, has-entry_keys, named-append, numbers_at-append, map_same}
 

@@ -7,7 +7,7 @@ use Rattle.std.proofs.lemmas.List.Folds.{list_any-append}
 use Rattle.bt_core.specs.declared.value.Value.{Value}
 use Rattle.agg_core.specs.Changes.{is_key}
 use Rattle.agg_core.proofs.SortedRows.{Ascends, ascends-with_key}
-use Rattle.map_printer.proofs.KeySets.{has, has-with_key}
+use Rattle.map_rows.proofs.KeySets.{has, has-with_key}
 use Rattle.bt_meaning.specs.Totals.{Entry, entry_keys, numbers_at}
 
 -- an entry names the key

@@ -29,7 +29,7 @@ use Rattle.map_ops.specs.declared.sweep.Sweep.TheVariants as sweeps
 use Rattle.map_ops.specs.Holders.{holder, sweep_op}
 use Rattle.map_printer.specs.Ends.{map_texts, warnings}
 use Rattle.map_printer.specs.ItemTexts.{item_text}
-use Rattle.map_printer.specs.Merged.{agg_row, merged, merged_rows, rows_in}
+use Rattle.map_rows.specs.Merged.{agg_row, merged, merged_rows, rows_in}
 use Rattle.bt_meaning.specs.Prints.{emitted, of_maps, operations_at, lost_by, holders_of, read_of, rows_after, lost_after, printed_text}
 use Rattle.bt_meaning.specs.Replays.{Replay}
 use Rattle.bt_meaning.specs.Totals.{Entry, entry_keys, numbers_at, total_rows, all_adds, totals, who}

@@ -5,7 +5,7 @@ use Rattle.bt_core.specs.declared.value.Value.{Value}
 use Rattle.agg_core.specs.Changes.{is_key}
 use Rattle.agg_core.proofs.KeyLaws.{Before, Same, After, side}
 use Rattle.agg_core.proofs.SortedRows.{Below, Ascends, below-trans}
-use Rattle.map_printer.proofs.KeySets.{has, has_first, above, below_none}
+use Rattle.map_rows.proofs.KeySets.{has, has_first, above, below_none}
 
 -- fewer members, fewer keys
 pub fewer_keys : (xs ys : List (List Value)) → Ascends xs → Ascends ys → ((k : List Value) → has k xs ≡ true → has k ys ≡ true) → length xs ≤ length ys

@@ -12,9 +12,9 @@ use Rattle.agg_core.specs.Changes.{is_key}
 use Rattle.agg_core.proofs.KeyLaws.{is_key-true}
 use Rattle.agg_core.proofs.MergeLaws.{merged-both}
 use Rattle.agg_core.proofs.SortedRows.{Ascends, row_at}
-use Rattle.map_printer.specs.Merged.{ordered_keys, cells_at, joined, both_cells, merged_rows}
-use Rattle.map_printer.proofs.Entries.{names, ascends-ordered_keys, has-ordered_keys, names-append, cells_at-append, cells_at-cons, cells_at-none, holds}
-use Rattle.map_printer.proofs.KeySets.{has, same_keys, has_first, below_none}
+use Rattle.map_rows.specs.Merged.{ordered_keys, cells_at, joined, both_cells, merged_rows}
+use Rattle.map_rows.proofs.Entries.{names, ascends-ordered_keys, has-ordered_keys, names-append, cells_at-append, cells_at-cons, cells_at-none, holds}
+use Rattle.map_rows.proofs.KeySets.{has, same_keys, has_first, below_none}
 use Rattle.bt_meaning.specs.Totals.{Entry, entry_keys, numbers_at, total_rows}
 use Rattle.total_laws.proofs.Given.{named, ascends-entry_keys, has-entry_keys, named-append, numbers_at-append, numbers_at-none}
 

@@ -13,7 +13,7 @@ use Rattle.agg_core.specs.Changes.{is_key, Change, Puts, Removes, Clears, Zeroes
 use Rattle.agg_core.proofs.KeyLaws.{is_key-true}
 use Rattle.agg_core.proofs.Running.{ascends-put_keys}
 use Rattle.agg_core.proofs.SortedRows.{row_at}
-use Rattle.map_printer.proofs.KeySets.{has, has-with_key, key_flip, same_keys}
+use Rattle.map_rows.proofs.KeySets.{has, has-with_key, key_flip, same_keys}
 use Rattle.bt_meaning.specs.Totals.{Entry, entry_keys, numbers_at}
 use Rattle.total_laws.specs.Ends.{aggregate_rows}
 use Rattle.total_laws.proofs.Given.{named, ascends-entry_keys, has-entry_keys, named-append, numbers_at-append, numbers_at-cons, map_same}

@@ -34,7 +34,7 @@ use Rattle.typed_tree.specs.Parts.{Part, made_of, num_parts, parts_in, key_shape
 use Rattle.typed_tree.specs.declared.body.TypedBody.{TypedBody}
 use Rattle.typed_tree.specs.Bodies.{predicate_parts}
 use Rattle.typed_tree.specs.Scope.{fits, all_fit, is_there, decl_of, format_of, takes, may_print}
-use Rattle.map_printer.specs.Merged.{merged}
+use Rattle.map_rows.specs.Merged.{merged}
 use Rattle.walk_meaning.specs.declared.flow.Flow.{Flow}
 use Rattle.walk_meaning.specs.declared.flow.Flow.TheVariants.{Next, Break, Continue, Stop}
 use Rattle.walk_meaning.specs.declared.flow.Frame.{Frame}

@@ -17,9 +17,9 @@ use Rattle.bt_core.specs.Kinds.{HasShape}
 use Rattle.bt_core.specs.Ports.{Setting}
 use Rattle.fmt_text.specs.declared.piece.Piece.{Piece}
 use Rattle.fmt_text.specs.Arguments.{argument_shapes, AreArgumentsOf}
-use Rattle.map_printer.specs.Fits.{IsReadReply, IsRowOf}
-use Rattle.map_printer.specs.ItemTexts.{IsItemOf, CanPrint}
-use Rattle.map_printer.specs.Merged.{merged}
+use Rattle.map_rows.specs.Fits.{IsReadReply, IsRowOf}
+use Rattle.map_rows.specs.Items.{IsItemOf, CanPrint}
+use Rattle.map_rows.specs.Merged.{merged}
 use Rattle.typed_tree.specs.declared.body.TypedBody.{TypedBody}
 use Rattle.typed_tree.specs.Scope.{decl_of, format_of, is_there, takes}
 use Rattle.map_ops.specs.declared.sweep.Sweep.TheVariants.{Read}

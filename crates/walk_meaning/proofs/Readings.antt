@@ -15,7 +15,7 @@ use Rattle.bt_core.specs.declared.value.Value.{Value}
 use Rattle.bt_core.specs.declared.value.Value.TheVariants.{Int, Str}
 use Rattle.bt_core.specs.Kinds.{IsOfKind}
 use Rattle.bt_core.specs.Ports.{Setting, IsReplyOf, IsSharedReply, IsTableReply}
-use Rattle.map_printer.specs.Merged.{rows_in}
+use Rattle.map_rows.specs.Merged.{rows_in}
 use Rattle.typed_tree.specs.declared.body.TypedBody.{TypedBody}
 use Rattle.map_ops.specs.declared.sweep.Sweep.TheVariants.{Read}
 use Rattle.walk_meaning.specs.declared.view.View.{View}

@@ -20,7 +20,7 @@ use Rattle.bt_core.specs.declared.value.Value.TheVariants.{Int, Str}
 use Rattle.bt_core.specs.Arithmetic.{binary_value}
 use Rattle.bt_core.specs.Interaction.{Interaction, Ended, and_then}
 use Rattle.bt_core.specs.Kinds.{IsShared}
-use Rattle.map_printer.specs.Merged.{rows_in, value_row, agg_row, merged_rows}
+use Rattle.map_rows.specs.Merged.{rows_in, value_row, agg_row, merged_rows}
 use Rattle.typed_tree.specs.declared.body.TypedBody.{TypedBody}
 use Rattle.typed_tree.specs.declared.body.TypedTree.{TypedTree}
 use Rattle.typed_tree.specs.declared.expr.AnyExpr.{AnyExpr, fold-AnyExpr}

@@ -7,7 +7,7 @@ ghost use Rattle.typed_tree.specs.declared.body.TypedBody.{TypedBody};
 ghost use Rattle.bt_core.specs.declared.ending.Ending.{Ending};
 ghost use Rattle.bt_core.specs.Ports.{Setting};
 ghost use Rattle.fmt_text.specs.declared.piece.Piece.{Piece};
-ghost use Rattle.map_printer.specs.ItemTexts.{IsItemOf};
+ghost use Rattle.map_rows.specs.Items.{IsItemOf};
 ghost use Rattle.walk_meaning.specs.Admits.{Admits, AdmitsOf, EmitsOnly};
 ghost use Rattle.walk_meaning.specs.Reading.{Reader, TakesWhatIsThere, own_reader, walk_by};
 ghost use Rattle.walk_meaning.specs.SameUnder.{SameUnder, SameAlways, AreRepliesTo};
@@ -43,7 +43,7 @@ pub fn only_own_items_are_emitted()
         CanWalk setting body context payload actor actors → All (λ (f : ℕ × List Piece). slice_get formats f.0 ≡ Some f.1) body.formats →
         AdmitsOf (λ object op. EmitsOnly (IsItemOf formats setting.maps) op) setting.maps (λ ending. Unit {0}) (walk body context payload actor actors) }
 {
-    map_printer::laws::merged_rows_fit();
+    map_rows::laws::merged_rows_fit();
 }
 /// Under replies of the kinds that its operations have, a walk reads no reply as another kind than it is. So nothing depends on what
 /// it would read of such a reply: by any reader that takes what is there where it is there, and anything at all where it

@@ -11,8 +11,7 @@ returns c =
     let r = c.args.recording.now in
     let cpu = c.args.cpu in
     let track = c.index-as_slice-cpu.result in
-    let events : c.as_slice-events.result.now ≡ (get_or r.cpus cpu track).events =
-    c.as_slice-events.ensures ∙ ap (λ (cs : List CpuTrack). (get_or cs cpu track).events) c.as_slice.ensures in
-    let same : taken 0 c.as_slice-events.result.now 0 c.as_slice-2.result.now ≡ agenda_of r c.args.attached.now cpu =
-    (λ i. taken 0 (events i) 0 (c.as_slice-2.ensures i)) ∙ agenda_is r c.args.attached.now cpu track c.requires.valid c.requires.in_turn c.requires.known in
+    let same : taken 0 track.entries 0 c.as_slice-2.result.now ≡ agenda_of r c.args.attached.now cpu =
+    ap (λ (cs : List CpuTrack). taken 0 (get_or cs cpu track).entries 0 c.as_slice-2.result.now) c.as_slice.ensures
+    ∙ (λ i. taken 0 (get_or r.cpus cpu track).entries 0 (c.as_slice-2.ensures i)) ∙ agenda_is r c.args.attached.now cpu track c.requires.valid c.requires.in_turn c.requires.known in
     subst (λ (l : List AgendaItem). IfOk c.items_of.result (λ items. items ≡ l)) same c.items_of.ensures

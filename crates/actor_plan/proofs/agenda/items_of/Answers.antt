@@ -7,11 +7,11 @@ pub loop-place-preserved : goal.loop-place-preserved
 loop-place-preserved c =
     let i = c.loop-place.invariant in
     let d : Tick = record { time = 0; body = 0 } in
-    let events = c.args.events.now in
+    let entries = c.args.entries.now in
     let ticks = c.args.ticks.now in
     let place = c.loop-place.place in
     let first = c.loop-place.next in record {
-      items = one_tick events ticks first place d c.loop-place.items c.push_earlier.new.items c.push.new.self c.in_ok-next.next c.loop-place-test.true c.in_ok-next.ensures c.in_ok-push.ensures.ok
+      items = one_tick entries ticks first place d c.loop-place.items c.push_earlier.new.items c.push.new.self c.in_ok-next.next c.loop-place-test.true c.in_ok-next.ensures c.in_ok-push.ensures.ok
           ∙ i.items;
-      within = next_within events first (get_or ticks place d).time c.in_ok-next.next i.within c.in_ok-next.ensures.next;
+      within = next_within entries first (get_or ticks place d).time c.in_ok-next.next i.within c.in_ok-next.ensures.next;
     }

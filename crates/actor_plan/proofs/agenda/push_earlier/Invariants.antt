@@ -5,10 +5,10 @@ use Rattle.actor_plan.proofs.agenda.push_earlier.Given as goal
 -- what there is, with what is to come, is the whole
 abbrev pub invariant-loop-place : goal.invariant-loop-place
 invariant-loop-place l = record {
-  items : l.items ++ earlier l.time l.place (drop l.place l.events) ≡ l.fn.items ++ earlier l.time l.from (drop l.from l.events);
-  count : l.place + earlier_count l.time (drop l.place l.events) ≡ l.from + earlier_count l.time (drop l.from l.events);
-  within : l.place ≤ length l.events;
+  items : l.items ++ earlier l.time l.place (drop l.place l.entries) ≡ l.fn.items ++ earlier l.time l.from (drop l.from l.entries);
+  count : l.place + earlier_count l.time (drop l.place l.entries) ≡ l.from + earlier_count l.time (drop l.from l.entries);
+  within : l.place ≤ length l.entries;
 }
 
 abbrev pub decreases-loop-place : goal.decreases-loop-place
-decreases-loop-place l = length l.events - l.place
+decreases-loop-place l = length l.entries - l.place

@@ -1,6 +1,7 @@
 use Rattle.std.proofs.Common.{map, ap, ◌∙◌}
 use Rattle.std.specs.List.{flat_map}
-use Rattle.map_printer.specs.ItemTexts.{item_text, IsItemOf}
+use Rattle.map_printer.specs.ItemTexts.{item_text}
+use Rattle.map_rows.specs.Items.{IsItemOf}
 use Rattle.step_list.specs.Emits.{told}
 use Rattle.bt_meaning.proofs.TextLaws.{items_are, items_are_own}
 use Rattle.bt_meaning.proofs.text.emitted_text.Goals as goal

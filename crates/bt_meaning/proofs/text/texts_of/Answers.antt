@@ -1,4 +1,5 @@
-use Rattle.map_printer.specs.ItemTexts.{item_text, IsItemOf}
+use Rattle.map_printer.specs.ItemTexts.{item_text}
+use Rattle.map_rows.specs.Items.{IsItemOf}
 use Rattle.bt_meaning.proofs.TextLaws.{all_texts, at_place, next_text}
 use Rattle.bt_meaning.proofs.text.texts_of.Goals as goal
 

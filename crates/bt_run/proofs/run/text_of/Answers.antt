@@ -1,6 +1,6 @@
 use Rattle.std.proofs.Common.{List, length, sym, ap, ◌∙◌, subst}
 use Rattle.bt_core.specs.declared.step.Step.{Step}
-use Rattle.map_printer.specs.Ends.{AllRowsFit}
+use Rattle.map_rows.specs.Fits.{AllRowsFit}
 use Rattle.bt_meaning.specs.Prints.{rows_after, lost_after, of_maps, operations_at}
 use Rattle.run_base.specs.Jobs.{cpus_in}
 use Rattle.run_base.specs.Worlds.{World}

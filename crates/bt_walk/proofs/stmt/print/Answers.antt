@@ -2,7 +2,7 @@ use Rattle.std.proofs.Common.{◌≡◌, refl, sym, ap, ◌∙◌, SFits, w64, r
 use Rattle.std.proofs.lemmas.Int.{to_z-of_z}
 use Rattle.std.proofs.lemmas.Result.{err_from_is_err_and}
 use Rattle.bt_core.proofs.InteractionLaws.{Performed-none}
-use Rattle.map_printer.specs.Merged.{merged}
+use Rattle.map_rows.specs.Merged.{merged}
 use Rattle.walk_meaning.specs.Maps.{kind_of}
 use Rattle.bt_walk.proofs.Binds.{Part-first, Part-next, Whole-next, Given-done, Seen-done}
 use Rattle.walk_meaning.proofs.Declared.{sweep_can}

@@ -2,7 +2,7 @@ use Rattle.std.proofs.Common.{SFits, w64, ap, ◌∙◌, refl, rules}
 use Rattle.std.proofs.lemmas.Int.{to_z-of_z}
 use Rattle.std.proofs.lemmas.Result.{err_from_is_err_and}
 use Rattle.bt_core.proofs.InteractionLaws.{Part-and_then, Part-after, Performed-and_then, Performed-none}
-use Rattle.map_printer.specs.Merged.{merged}
+use Rattle.map_rows.specs.Merged.{merged}
 use Rattle.map_ops.proofs.printing.print_map.Goals as goal
 
 pub returns-in_err-replies-clause-performed : goal.returns-in_err-replies-clause-performed

@@ -1,7 +1,7 @@
 use Rattle.std.proofs.Common.{◌<◌, ◌≤◌, ◌∙◌, refl, arith}
 use Rattle.std.proofs.lemmas.List.Elements.{All-nil}
 use Rattle.std.proofs.lemmas.Result.{err_from_is_err_and}
-use Rattle.map_printer.specs.Merged.{HasRowsOf}
+use Rattle.map_rows.specs.Merged.{HasRowsOf}
 use Rattle.map_ops.specs.Holders.{holders}
 use Rattle.map_ops.proofs.Sweeping.{sweep-start, sweep-stop, sweep-next, sweep-drop, sweep-end, rows-next}
 use Rattle.map_ops.proofs.sweep.ask_each.Goals as goal

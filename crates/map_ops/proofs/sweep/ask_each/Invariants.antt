@@ -1,7 +1,7 @@
 use Rattle.std.proofs.Common.{◌≡◌, ◌-◌, []}
 use Rattle.std.specs.Prelude.{All}
 use Rattle.bt_core.specs.Interaction.{Left}
-use Rattle.map_printer.specs.Merged.{HasRowsOf}
+use Rattle.map_rows.specs.Merged.{HasRowsOf}
 use Rattle.map_ops.specs.declared.sweep.Sweep.TheVariants.{Read}
 use Rattle.map_ops.specs.Holders.{holder, holders, sweep_op}
 use Rattle.map_ops.specs.Asking.{asked_from}

@@ -1,5 +1,6 @@
 use Rattle.std.proofs.Common.{◌≡◌, ◌++◌, drop}
-use Rattle.map_printer.specs.Ends.{map_texts, AllRowsFit}
+use Rattle.map_printer.specs.Ends.{map_texts}
+use Rattle.map_rows.specs.Fits.{AllRowsFit}
 use Rattle.map_printer.proofs.printing.write_maps.Given as goal
 
 -- what is written, with what is left to write, is the whole

@@ -1,7 +1,7 @@
 use Rattle.std.proofs.Common.{refl, [], ◌∷◌, ◌∙◌}
 use Rattle.std.specs.Fmt.{digits}
 use Rattle.std.specs.Int.{int_wrap}
-use Rattle.map_printer.specs.Merged.{merged}
+use Rattle.map_rows.specs.Merged.{merged}
 use Rattle.meaning_tests.specs.Intervals.{three_and_one, two_and_two}
 use Rattle.meaning_tests.specs.Written.{counts_decl}
 use Rattle.meaning_tests.proofs.IntervalLists.{clears_three_and_one, clears_two_and_two, clears_two_and_two_serial}

@@ -1,7 +1,7 @@
 use Rattle.std.proofs.Common.{refl, [], ◌∷◌, ◌∙◌}
 use Rattle.std.specs.Fmt.{digits}
 use Rattle.std.specs.Int.{int_wrap}
-use Rattle.map_printer.specs.Merged.{merged}
+use Rattle.map_rows.specs.Merged.{merged}
 use Rattle.meaning_tests.specs.Intervals.{first_two}
 use Rattle.meaning_tests.specs.Written.{counts_decl}
 use Rattle.meaning_tests.proofs.IntervalLists.{prints_two, prints_two_serial}

@@ -9,7 +9,7 @@ use Rattle.bt_core.specs.declared.step.Reply.{Reply}
 use Rattle.bt_core.specs.declared.step.Reply.TheVariants.{Aggs, Done}
 use Rattle.bt_core.specs.Interaction.{Call}
 use Rattle.actor_plan.specs.Agendas.{agenda_of}
-use Rattle.map_printer.specs.Merged.{merged}
+use Rattle.map_rows.specs.Merged.{merged}
 use Rattle.meaning_tests.specs.Intervals.{printing, prints_of}
 use Rattle.meaning_tests.specs.Refused.{cut_short, early_end, one_left_out, too_early}
 use Rattle.meaning_tests.specs.Serial.{checks, get, set, stopped_by_count}

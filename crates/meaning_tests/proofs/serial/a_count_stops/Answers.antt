@@ -3,7 +3,7 @@ use Rattle.std.specs.Int.{int_wrap}
 use Rattle.std.specs.Fmt.{digits}
 use Rattle.std.specs.Prelude.{codes}
 use Rattle.fmt_text.specs.declared.piece.Piece.TheVariants.{Literal}
-use Rattle.map_printer.specs.Merged.{merged}
+use Rattle.map_rows.specs.Merged.{merged}
 use Rattle.bt_meaning.specs.Schedules.{serial_order}
 use Rattle.bt_meaning.specs.Serial.{serial_steps}
 use Rattle.meaning_tests.specs.Serial.{n_and_i, until_count}

@@ -1,7 +1,7 @@
 use Rattle.std.proofs.Common.{refl, [], ◌∷◌, ◌∙◌}
 use Rattle.std.specs.Int.{int_wrap}
 use Rattle.std.specs.Fmt.{digits}
-use Rattle.map_printer.specs.Merged.{merged}
+use Rattle.map_rows.specs.Merged.{merged}
 use Rattle.bt_meaning.specs.Schedules.{serial_order}
 use Rattle.bt_meaning.specs.Serial.{serial_steps}
 use Rattle.meaning_tests.specs.Serial.{by_cpu_decl, by_second}

@@ -1,6 +1,6 @@
 use Rattle.std.proofs.Common.{refl}
 use Rattle.std.specs.Int.{int_wrap}
-use Rattle.map_printer.specs.Merged.{merged}
+use Rattle.map_rows.specs.Merged.{merged}
 use Rattle.bt_meaning.specs.Totals.{totals}
 use Rattle.meaning_tests.proofs.totals.ticks_count_for_who_runs_them.Goals as goal
 

@@ -1,7 +1,7 @@
 use Rattle.std.proofs.Common.{List}
 use Rattle.bt_core.specs.declared.value.Value.{Value}
 use Rattle.bt_core.specs.declared.item.Cell.{Cell}
-use Rattle.map_printer.specs.Fits.{IsRowOf}
+use Rattle.map_rows.specs.Fits.{IsRowOf}
 use Rattle.printer_tests.proofs.Passing.{one_more, all_passed}
 use Rattle.printer_tests.proofs.checks.are_rows_of.Goals as goal
 

@@ -1,6 +1,6 @@
 use Rattle.std.proofs.Common.{take}
 use Rattle.std.specs.List.{All}
-use Rattle.map_printer.specs.Fits.{IsRowOf}
+use Rattle.map_rows.specs.Fits.{IsRowOf}
 use Rattle.printer_tests.proofs.checks.are_rows_of.Given as goal
 
 -- the rows so far pass

@@ -1,5 +1,5 @@
 use Rattle.bt_core.specs.declared.step.Reply.{Reply}
-use Rattle.map_printer.specs.Merged.{HasRowsOf}
+use Rattle.map_rows.specs.Merged.{HasRowsOf}
 use Rattle.printer_tests.proofs.Passing.{one_more, all_passed}
 use Rattle.printer_tests.proofs.checks.have_rows_of.Goals as goal
 

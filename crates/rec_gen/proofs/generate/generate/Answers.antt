@@ -12,6 +12,7 @@ returns-clause-made c =
       system = c.in_ok-format.ensures.system;
       text = c.in_ok-format.ensures.text;
       layout = c.in_ok-format.ensures.layout;
+      version = refl;
       start = refl;
       end = refl;
       cpus = c.loop-number.invariant ∙ ap (made_tracks c.args.seed c.args.count) last;

@@ -1,8 +1,15 @@
-use Rattle.std.proofs.Common.{ap, sym, ◌∙◌, ◌++◌, ◌∷◌, []}
+use Rattle.std.proofs.Common.{List, ◌<◌, ◌^◌, length, ap, sym, subst, ◌∙◌, ◌++◌, ◌∷◌, []}
+use Rattle.std.specs.List.{AllByRecursion}
+use Rattle.rec_format.specs.declared.recording.Event.{Event}
 use Rattle.rec_gen.specs.Draws.{next_state}
+use Rattle.rec_gen.proofs.Valid.{short_events}
 use Rattle.rec_gen.proofs.Loop.{more, no_more, three_on, drawn_event}
 use Rattle.rec_gen.proofs.generate.made_track.Goals.{then-place-number+in_ok-event_of+in_ok-push, else-place-number}
 use Rattle.rec_gen.proofs.generate.made_track.Goals as goal
+
+pub entries_of-requires : goal.entries_of-requires
+entries_of-requires c =
+    subst (λ (es : List Event). AllByRecursion (λ (e : Event). length e.payload < 2 ^ 32) es) (sym (c.as_slice.ensures ∙ c.loop-place.invariant.0)) (short_events c.args.seed c.args.number c.loop-place.place)
 
 pub loop-place-preserved : goal.loop-place-preserved
 loop-place-preserved c =

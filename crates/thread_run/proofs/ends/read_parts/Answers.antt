@@ -1,5 +1,5 @@
 use Rattle.std.proofs.Common.{◌∙◌, length, ap}
-use Rattle.map_printer.specs.Merged.{merged}
+use Rattle.map_rows.specs.Merged.{merged}
 use Rattle.thread_run.proofs.Reading.{parts_of_map, replies_parts, losses_parts, read_rows}
 use Rattle.thread_run.proofs.ends.read_parts.Goals as goal
 

@@ -1,5 +1,5 @@
 use Rattle.std.proofs.Common.{◌∙◌, length, ap}
-use Rattle.map_printer.specs.Merged.{merged}
+use Rattle.map_rows.specs.Merged.{merged}
 use Rattle.thread_run.proofs.Reading.{tables_agg, replies_tables, losses_tables, read_rows}
 use Rattle.thread_run.proofs.ends.read_tables.Goals as goal
 

@@ -1,5 +1,5 @@
 use Rattle.std.proofs.Common.{length, sym, ap, ◌∙◌, subst}
-use Rattle.map_printer.specs.Ends.{AllRowsFit}
+use Rattle.map_rows.specs.Fits.{AllRowsFit}
 use Rattle.bt_meaning.specs.Prints.{rows_after, lost_after, of_maps}
 use Rattle.run_base.proofs.MapReads.{maps_long, rows_fit}
 use Rattle.run_base.specs.Worlds.{World}

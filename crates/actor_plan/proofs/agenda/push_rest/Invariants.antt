@@ -1,0 +1,13 @@
+use Rattle.std.proofs.Common.{◌≡◌, ◌-◌, ◌≤◌, ◌++◌, drop, length}
+use Rattle.actor_plan.specs.Steps.{entries_on}
+use Rattle.actor_plan.proofs.agenda.push_rest.Given as goal
+
+-- what there is, with what is to come, is the whole
+abbrev pub invariant-loop-place : goal.invariant-loop-place
+invariant-loop-place l = record {
+  items : l.items ++ entries_on l.place (drop l.place l.entries) ≡ l.fn.items ++ entries_on l.from (drop l.from l.entries);
+  within : l.place ≤ length l.entries;
+}
+
+abbrev pub decreases-loop-place : goal.decreases-loop-place
+decreases-loop-place l = length l.entries - l.place

@@ -1,0 +1,5 @@
+pub mod Fits
+pub mod Merged
+pub mod Merging
+pub mod MergedRows
+pub mod Items

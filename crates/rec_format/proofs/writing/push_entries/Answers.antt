@@ -1,0 +1,27 @@
+use Rattle.std.proofs.Common.{◌≡◌, ℕ, List, ◌<◌, ◌++◌, length, get_or, None, Some, Option, ap, sym, ◌∙◌, arith}
+use Rattle.std.specs.List.{slice_get}
+use Rattle.std.proofs.lemmas.Option.{get_or_from_slice_get, slice_get-get_or}
+use Rattle.rec_format.specs.declared.recording.Entry.{Entry}
+use Rattle.rec_format.specs.declared.recording.Entry.TheVariants as entry
+use Rattle.rec_format.specs.EntryParts.{part_of_entry, entry_bytes}
+use Rattle.rec_format.specs.InFile.{entry_seen}
+use Rattle.rec_format.proofs.WriteLaws.{written_more}
+use Rattle.rec_format.proofs.writing.push_entries.Goals as goal
+use Rattle.rec_format.proofs.writing.push_entries.Goals.{in-Some+in_ok-push_entry, in_default}
+
+pub loop-place-preserved : goal.loop-place-preserved
+loop-place-preserved c =
+    let es : List Entry = c.args.entries.now in
+    let place : ℕ = c.loop-place.place in
+    let lt : place < length es = omega (arith, c.loop-place-test.true, c.len-place-end.ensures) in
+    elim c.match-get.branch [
+      | in-Some+in_ok-push_entry w ↦
+          let e : Entry = entry_seen w.in-Some.entry in
+          let is : e ≡ get_or es place e = sym (get_or_from_slice_get es place e e (sym w.in-Some.ensures)) in
+          written_more (λ (e : Entry). entry_bytes c.args.marks (part_of_entry e)) es place e c.args.bytes.now.items c.loop-place.bytes.items c.match-get.bytes.items lt is c.loop-place.invariant
+          (ap (λ v. v.items) w.bytes-is ∙ w.in_ok-push_entry.ensures)
+      | in_default w ↦
+          let there : slice_get es place ≡ Some _ = slice_get-get_or es place (entry.Lost 0 0) lt in
+          let clash : ◌≡◌ {A = Option Entry} None (Some _) = w.in_default.ensures ∙ there in
+          absurd cc
+    ]

@@ -1,0 +1,185 @@
+// The entries of a CPU, where they lie in the file.
+ghost use Rattle.std.specs.Prelude.{◌≡◌, ◌+◌, length, slice_get, drop, IfOk};
+ghost use Rattle.std.specs.Arc.{arc_value};
+ghost use Rattle.std.specs.Option.{option_map};
+ghost use Rattle.rec_format.specs.Events.{event_of};
+ghost use Rattle.rec_format.specs.Fronts.{event_at, event_part, entry_part, mark_at};
+ghost use Rattle.rec_format.specs.InFile.{first_bytes, entry_place, entry_in, entries_in, entry_seen, event_seen, event_taken, mark_taken};
+
+use crate::part::{EntryBytes, EventBytes, event_at, mark_at};
+use bt_core::memory::Memory;
+use std::alloc::Global;
+use std::marker::Model;
+use std::sync::Arc;
+
+/// An entry of a CPU, whose payload lies in the file.
+#[derive(Clone, Copy, Debug)]
+pub enum EntryRef<'f> {
+    /// An event.
+    Event(EventRef<'f>),
+    /// So many events were lost, as was told at a time in nanoseconds.
+    Lost {
+        /// In nanoseconds.
+        time: u64,
+        /// How many were lost.
+        count: u64,
+    },
+}
+
+/// An event, whose payload lies in the file.
+#[derive(Clone, Copy, Debug)]
+pub struct EventRef<'f> {
+    /// In nanoseconds.
+    pub time: u64,
+    /// The process of the thread that ran.
+    pub pid: u32,
+    /// The thread that ran.
+    pub tid: u32,
+    /// The user of the process.
+    pub uid: u32,
+    /// The group of the process.
+    pub gid: u32,
+    /// The name of the thread, which ends before the first zero byte.
+    pub comm: [u8; 16],
+    /// The place of its format in the recording, counted from 0.
+    pub format: u32,
+    /// Its first two bytes are the ID of its format, the lower first.
+    pub payload: &'f [u8],
+}
+
+/// Where an entry lies: an event from the byte on, with the place of its format, or a mark.
+#[derive(Clone, Copy, Drop)]
+pub(crate) enum EntryPlace {
+    Event { at: u32, format: u32 },
+    Lost { at: u32 },
+}
+
+/// The entries of a CPU, in the order of the file. They lie in the file's bytes, which all CPUs share, so
+/// that an entry takes no memory but that of its place.
+///
+/// Contracts see the list of the entries.
+#[derive(Drop)]
+pub struct Entries {
+    file: Arc<Vec<u8>, Global>,
+    places: Vec<EntryPlace>,
+}
+
+impl Model for Entries {
+    ghost use Rattle.std.specs.Prelude.{List};
+    ghost use Rattle.std.specs.Arc.{arc_value};
+    ghost use Rattle.rec_format.specs.declared.recording.Entry.{Entry};
+    ghost use Rattle.rec_format.specs.InFile.{entries_in};
+
+    ghost Value = { List Entry };
+
+    ghost view = { λ s. entries_in (arc_value s.file).items s.places.items };
+}
+
+impl Entries {
+    /// The entries at places of a file.
+    pub(crate) fn of(file: &Arc<Vec<u8>, Global>, places: Vec<EntryPlace>) -> Result<Entries, Memory>
+        ensures { IfOk result (λ all. all ≡ entries_in (arc_value file.now).items places.items) }
+    {
+        let file = Arc::try_clone(file)?;
+        Ok(Entries { file, places })
+    }
+
+    /// The entries at places of bytes.
+    pub(crate) fn in_bytes(alloc: Global, bytes: Vec<u8>, places: Vec<EntryPlace>) -> Result<Entries, Memory>
+        ensures { IfOk result (λ all. all ≡ entries_in bytes.items places.items) }
+    {
+        let file = Arc::new(alloc, bytes)?;
+        Ok(Entries { file, places })
+    }
+
+    /// How many entries it has.
+    pub fn len(&self) -> usize
+        ensures { result ≡ length self.now }
+    {
+        self.places.len()
+    }
+
+    /// The entry at a place, counted from 0, or `None` past the last. It takes no memory.
+    pub fn get(&self, place: usize) -> Option<EntryRef<'_>>
+        ensures { option_map entry_seen result ≡ slice_get self.now place }
+    {
+        let found = self.places.get(place)?;
+        Some(entry_in((*self.file).as_slice(), *found))
+    }
+}
+
+/// Where an entry lies that begins at a byte, of a format at this place if it is an event. A byte before it tells its kind, where
+/// there may be marks. [`Memory`] where the byte's number does not fit.
+pub(crate) fn place_of(
+    marks: bool,
+    start: usize,
+    entry: &EntryBytes<'_>,
+    format: u32,
+) -> Result<EntryPlace, Memory>
+    ensures { IfOk result (λ place. place ≡ entry_place (start + first_bytes marks) (entry_part entry.now) format) }
+{
+    let Some(from) = start.checked_add(usize::from(marks)) else {
+        return Err(Memory);
+    };
+    let Ok(at) = u32::try_from(from) else {
+        return Err(Memory);
+    };
+    match entry {
+        EntryBytes::Event(_) => Ok(EntryPlace::Event { at, format }),
+        _ => Ok(EntryPlace::Lost { at }),
+    }
+}
+
+/// The entry at a place of a file's bytes, or a mark of nothing where none lies there.
+fn entry_in(file: &[u8], place: EntryPlace) -> EntryRef<'_>
+    ensures { entry_seen result ≡ entry_in file.now place }
+{
+    match place {
+        EntryPlace::Event { at, format } => event_in(file, at, format),
+        EntryPlace::Lost { at } => mark_in(file, at),
+    }
+}
+
+/// What lies from a byte of the file on.
+fn from_byte(file: &[u8], at: u32) -> &[u8]
+    ensures { result.now ≡ drop at file.now }
+{
+    let start = file.len().min(at as usize);
+    &file[start..]
+}
+
+/// The event from a byte of the file on.
+fn event_in(file: &[u8], at: u32, format: u32) -> EntryRef<'_>
+    ensures { entry_seen result ≡ event_taken format (event_at (drop at file.now)) }
+{
+    match event_at(from_byte(file, at)) {
+        None => EntryRef::Lost { time: 0, count: 0 },
+        Some((event, _)) => EntryRef::Event(with_format(event, format)),
+    }
+}
+
+/// An event, with the place of its format.
+fn with_format(event: EventBytes<'_>, format: u32) -> EventRef<'_>
+    ensures { event_seen result ≡ event_of (event_part event.entry) format }
+{
+    EventRef {
+        time: event.time,
+        pid: event.pid,
+        tid: event.tid,
+        uid: event.uid,
+        gid: event.gid,
+        comm: event.comm,
+        format,
+        payload: event.payload,
+    }
+}
+
+/// The mark from a byte of the file on.
+fn mark_in(file: &[u8], at: u32) -> EntryRef<'_>
+    ensures { entry_seen result ≡ mark_taken (mark_at (drop at file.now)) }
+{
+    match mark_at(from_byte(file, at)) {
+        Some((EntryBytes::Lost { time, count }, _)) => EntryRef::Lost { time, count },
+        _ => EntryRef::Lost { time: 0, count: 0 },
+    }
+}
