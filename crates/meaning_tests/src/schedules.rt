@@ -79,25 +79,8 @@ type Row = (
     &'static [(u64, Due)],
 );
 
-/// The item of an event, and that of a mark.
-const fn event(cpu: u32, entry: u32) -> Due {
-    Due::Entry {
-        cpu,
-        entry,
-        lost: false,
-    }
-}
-
-const fn mark(cpu: u32, entry: u32) -> Due {
-    Due::Entry {
-        cpu,
-        entry,
-        lost: true,
-    }
-}
-
+/// At one time the ticks come before the events, each for all CPUs; and marks go by their times.
 const ROWS: [Row; 2] = [
-    // At one time the ticks come before the events, each for all CPUs.
     (
         b"BTRACE01",
         [
@@ -119,24 +102,68 @@ const ROWS: [Row; 2] = [
             },
         ],
         &[
-            (500_000_000, event(0, 0)),
-            (500_000_000, event(1, 0)),
+            (
+                500_000_000,
+                Due::Entry {
+                    cpu: 0,
+                    entry: 0,
+                    lost: false,
+                },
+            ),
+            (
+                500_000_000,
+                Due::Entry {
+                    cpu: 1,
+                    entry: 0,
+                    lost: false,
+                },
+            ),
             (1_000_000_000, Due::Tick { tick: 0, cpu: 0 }),
             (1_000_000_000, Due::Tick { tick: 0, cpu: 1 }),
             (1_000_000_000, Due::Tick { tick: 1, cpu: 0 }),
             (1_000_000_000, Due::Tick { tick: 1, cpu: 1 }),
-            (1_000_000_000, event(1, 1)),
-            (1_500_000_000, event(0, 1)),
+            (
+                1_000_000_000,
+                Due::Entry {
+                    cpu: 1,
+                    entry: 1,
+                    lost: false,
+                },
+            ),
+            (
+                1_500_000_000,
+                Due::Entry {
+                    cpu: 0,
+                    entry: 1,
+                    lost: false,
+                },
+            ),
             (2_000_000_000, Due::Tick { tick: 2, cpu: 0 }),
             (2_000_000_000, Due::Tick { tick: 2, cpu: 1 }),
         ],
     ),
-    // Marks go by their times.
     (
         b"BTRACE02",
         [Track::Marks(&[(9, 1)]), Track::Marks(&[(4, 2)])],
         &[],
-        &[(4, mark(1, 0)), (9, mark(0, 0))],
+        &[
+            (
+                4,
+                Due::Entry {
+                    cpu: 1,
+                    entry: 0,
+                    lost: true,
+                },
+            ),
+            (
+                9,
+                Due::Entry {
+                    cpu: 0,
+                    entry: 0,
+                    lost: true,
+                },
+            ),
+        ],
     ),
 ];
 
@@ -156,7 +183,10 @@ fn items_of_two_cpus(rt: HostRuntime) -> Result<(), Fail> {
                 time: *time,
                 due: *due,
             };
-            assert!(rt; schedule.get(place) == Some(&want), "row {row}, item {place}");
+            assert!(rt;
+                schedule.get(place) == Some(&want),
+                "row {row}, item {place}"
+            );
         }
     }
     Ok(())
