@@ -1,4 +1,4 @@
-use Rattle.std.proofs.Common.{◌≡◌, ◌+◌, ◌<◌, None, Some, ap, append-nil, arith, drop, slice_get, sym, ◌++◌, ◌∙◌}
+use Rattle.std.proofs.Common.{◌≡◌, ◌+◌, None, Some, ap, append-nil, arith, drop, slice_get, sym, ◌++◌, ◌∙◌}
 use Rattle.std.specs.Option.{option_map}
 use Rattle.std.proofs.lemmas.Option.{slice_get_within}
 use Rattle.rec_format.specs.InFile.{entry_seen}
