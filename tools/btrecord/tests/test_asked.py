@@ -189,7 +189,7 @@ class Latest(Tree):
         spools = self.spools({0: [ticks(k, payload()) for k in range(1, 40)], 1: [ticks(20, payload(), payload()), ticks(38, payload())]})
         # By time there are 1, 2, .., 19, twice 20, twice 21, 22, .., 37, twice 38, and 39: 42 events.
         for most, begin in [(42, 0), (41, 2), (24, 19), (23, 20), (22, 21), (21, 21), (20, 22), (4, 37), (3, 38), (2, 39), (1, 39)]:
-            with unittest.mock.patch("container.MOST_EVENTS", most):
+            with unittest.mock.patch("container.MOST_ENTRIES", most):
                 self.assertEqual(fits_from(spools, 1 << 20), begin, most)
             self.assertEqual(fits_from(spools, most * EVENT_BYTES + 7), begin, most)
         self.assertEqual(fits_from(spools, EVENT_BYTES - 1), 40)
@@ -208,7 +208,7 @@ class Latest(Tree):
 
     def test_of_many_those_that_fit(self):
         kernel = Kernel(self.top, {0: [ticks(k, payload()) for k in range(10, 60)]})
-        with unittest.mock.patch("container.MOST_EVENTS", 20):
+        with unittest.mock.patch("container.MOST_ENTRIES", 20):
             made, events = self.record(0.1, kernel=kernel, keeps_latest=True)
         self.assertEqual((events, made.assembly.left_out), ([(0, k) for k in range(40, 60)], {}))
         self.assertTrue(made.notes[2].startswith("30 more were left out"), made.notes)

@@ -23,7 +23,8 @@ TEXTS = {"NoName": "F1 no name", "BadId": "F2 bad id", "BadField": "F3 bad line 
          "Truncated": "C1 truncated at byte {}", "BadMagic": "C2 bad magic", "Count": "C3 bad count: {}", "Format": "C4 format {}: {}",
          "SameEvent": "C5 same event in format {}", "CpuNumber": "C6 bad cpu number at cpu {}", "TimeOrder": "C7 time order in event {1} of cpu {0}",
          "UnknownId": "C8 unknown id in event {1} of cpu {0}", "ShortPayload": "C9 short payload in event {1} of cpu {0}",
-         "TrailingBytes": "C10 trailing bytes at byte {}", "BadSystem": "C11 bad system in format {}"}
+         "TrailingBytes": "C10 trailing bytes at byte {}", "BadSystem": "C11 bad system in format {}",
+         "BadEntry": "C12 bad entry in event {1} of cpu {0}", "EmptyMark": "C13 empty mark in event {1} of cpu {0}"}
 KINDS = {"Number": NUMBER, "Chars": CHARS, "DataLoc": DATA_LOC, "Other": OTHER}
 
 
@@ -63,7 +64,7 @@ class Faults(unittest.TestCase):
             self.assertEqual(fault_of(read_recording, bytes.fromhex(recording), BadRecording), fault)
             codes.add(fault.split()[0] if fault else None)
             accepted += fault is None
-        self.assertEqual(codes, {None} | {f"C{k}" for k in range(1, 12)})
+        self.assertEqual(codes, {None} | {f"C{k}" for k in range(1, 14)})
         self.assertGreater(accepted, 100)
 
     def test_the_rows_of_recordings(self):

@@ -83,7 +83,7 @@ class Recording(unittest.TestCase):
 
     def test_the_earliest_events_are_kept_and_the_rest_is_counted(self):
         pages = {0: [ticks(10, *[payload()] * 4)] * 2, 1: [ticks(5, payload()), ticks(12, payload())]}
-        with unittest.mock.patch("container.MOST_EVENTS", 3), contextlib.redirect_stderr(io.StringIO()) as told:
+        with unittest.mock.patch("container.MOST_ENTRIES", 3), contextlib.redirect_stderr(io.StringIO()) as told:
             made, events = self.record(Kernel(self.top, pages, "entries: 7\noverrun: 1\nread events: 5\n"), seconds=0.2)
         self.assertEqual([event[:2] for event in events], [(0, 10), (0, 11), (1, 5)])
         # Both CPUs tell of 5 events that were read and of 7 that still were there, and 3 are kept.

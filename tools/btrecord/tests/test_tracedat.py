@@ -162,7 +162,7 @@ class Files(unittest.TestCase):
         told, events = self.events(version_6({0: [ticks(5, payload(number=9), payload())]}))
         self.assertEqual(events, [(0, 6, 1235, b"clock", 300)])
         self.assertIn("1 event left out: 1 of no format that is there", told)
-        with unittest.mock.patch("container.MOST_EVENTS", 2):
+        with unittest.mock.patch("container.MOST_ENTRIES", 2):
             told, events = self.events(version_6())
         self.assertEqual(events, [EVENTS[0], EVENTS[1]])
         self.assertIn("3 events left out: 3 past the container's limits", told)
