@@ -310,7 +310,7 @@ class Joining:
         self.own = 0
         self.handled = Counter()
         self.begin = 0
-        self.before = 0
+        self.before = Counter()
 
     def keep_latest(self):
         """Leaves out what is before the time from which on all events of all CPUs are there, and fit."""
@@ -327,7 +327,7 @@ class Joining:
         found = []
         for cpu, of in window:
             first = bisect_left(of.times, self.begin)
-            self.before += first
+            self.before[cpu] += first
             found.append((cpu, Records(of.times[first:], of.threads[first:], of.payloads[first:])))
         return [(cpu, of) for cpu, of in found if of.times]
 
@@ -360,7 +360,7 @@ class Joining:
                 self.assembly.lose(cpu, max(end, self.assembly.last or 0), losses.at_end)
         if done.full_at or self.assembly.is_full:
             for cpu, read in done.read.items():
-                self.assembly.miss(cpu, max(read - self.handled[cpu], 0) + done.uncounted.get(cpu, 0), end)
+                self.assembly.miss(cpu, max(read - self.handled[cpu] - self.before[cpu], 0) + done.uncounted.get(cpu, 0), end)
         handled = sum(self.handled.values())
         share = f"{self.own:,} of the {handled:,} ({100 * self.own / max(handled, 1):.1f} %) are btrecord's own"
         notes = [share] if self.own else []
@@ -451,7 +451,8 @@ def written(done, joining, steps, output, asked, notes):
 def told_before(done, joining):
     """What came before a recording that keeps the latest events."""
     told = [f"{done.overwritten:,} earlier events were overwritten"]
-    return told + ([f"{joining.before:,} more were left out, so that it has all events of all CPUs from its start on"] if joining.before else [])
+    before = sum(joining.before.values())
+    return told + ([f"{before:,} more were left out, so that it has all events of all CPUs from its start on"] if before else [])
 
 
 def told_left_out(left_out):

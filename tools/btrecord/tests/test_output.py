@@ -8,16 +8,14 @@ import tty
 import unittest
 import unittest.mock
 
-from made import CLOCK, DEMO, OTHER_TEXT, TEXT, TOP, payload
+from made import CLOCK, DEMO, OTHER_TEXT, TEXT, TOP, entries, lost, payload
 
 import container
 from assembly import PIECES_AT_ONCE, Assembly
 from container import Lost, format_of, test_formats as refuse_formats
 from faults import WRITE, Refused
 from output import Output
-from reading import Mark, entries_of, read_recording
-
-lost = Lost
+from reading import read_recording
 
 
 def put(path, contents):
@@ -117,8 +115,8 @@ class Assemblies(unittest.TestCase):
         """An assembly of DEMO with these events: pairs of CPU and time, or of CPU and mark; in a window each CPU has a list."""
         made = Assembly([DEMO], cpus, self.folder, with_marks)
         if window:
-            made.take_window([(cpu, [getattr(entry, "time", entry) for entry in entries], [CLOCK] * len(entries),
-                               [entry if isinstance(entry, Lost) else payload() for entry in entries]) for cpu, entries in events])
+            made.take_window([(cpu, [getattr(entry, "time", entry) for entry in of], [CLOCK] * len(of),
+                               [entry if isinstance(entry, Lost) else payload() for entry in of]) for cpu, of in events])
             return made
         for cpu, entry in events:
             if isinstance(entry, Lost):
@@ -130,9 +128,7 @@ class Assemblies(unittest.TestCase):
     def entries(self, contents):
         """The entries of each CPU, an event as its time, and the span."""
         found = read_recording(contents)
-        entries = {number: [lost(entry.time, entry.count) if isinstance(entry, Mark) else entry.time for entry in entries_of(contents, found, place)]
-                   for place, (number, _) in enumerate(found.cpus)}
-        return entries, (found.start, found.end)
+        return entries(contents), (found.start, found.end)
 
     def written(self, made, start, end):
         """The bytes of an assembly's recording."""
@@ -280,9 +276,9 @@ class Assemblies(unittest.TestCase):
 
     def test_many_marks_and_events(self):
         count = 3 * PIECES_AT_ONCE
-        for entries in ([lost(k, k + 1) for k in range(count)], [k if k % 3 else lost(k, 2) for k in range(count)], [*range(count), lost(count, 1)]):
-            made = self.assembly([(0, entries)], [0], True)
-            self.assertEqual(self.entries(self.written(made, 0, count)), ({0: entries}, (0, count)))
+        for wanted in ([lost(k, k + 1) for k in range(count)], [k if k % 3 else lost(k, 2) for k in range(count)], [*range(count), lost(count, 1)]):
+            made = self.assembly([(0, wanted)], [0], True)
+            self.assertEqual(self.entries(self.written(made, 0, count)), ({0: wanted}, (0, count)))
 
     def test_counts_without_end(self):
         made = self.assembly([(0, lost(1, 1 << 64)), (0, lost(2, (1 << 64) - 1))])

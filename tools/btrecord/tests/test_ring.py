@@ -4,13 +4,14 @@ import struct
 import tempfile
 import time
 import unittest
+import unittest.mock
 
-from made import DEMO, HEADER_PAGE, NEWTASK, RENAME, page, payload, ticks, word
+from made import DEMO, HEADER_PAGE, NEWTASK, RENAME, lost, missed, page, payload, ticks, word
 
 from container import format_of
 from faults import Refused
 from instance import Ring
-from ring import Records, page_shape, take_records
+from ring import UNKNOWN, Losses, Records, page_shape, take_records
 from spool import Spool, windows
 from tasks import Change, Looks, Task, Tasks, task_changes
 
@@ -53,6 +54,29 @@ class Pages(unittest.TestCase):
     def test_flags_of_lost_records_are_no_length(self):
         contents = page(0, word(1, 1), b"kept")
         self.assertEqual(records(contents[:8] + struct.pack("<Q", 8 | 1 << 31 | 1 << 30) + contents[16:]), [(1, b"kept")])
+
+    def test_what_was_lost_before_a_page(self):
+        contents = ticks(5, payload())
+        full = page(5, *[word(3, 0) + payload()] * 255)
+        for found, count in [(contents, None), (missed(contents), UNKNOWN), (missed(contents, 7), 7), (missed(contents, (1 << 64) - 1), (1 << 64) - 1),
+                             (full, None), (missed(full), UNKNOWN), (missed(full, 0), UNKNOWN), (missed(full, 9)[:-8], UNKNOWN)]:
+            self.assertEqual(SHAPE.lost_before(found), count)
+            self.assertEqual(records(found), records(contents if SHAPE.end(found) == SHAPE.end(contents) else full))
+        # A number that would run out of its page is none.
+        wrong = full[:8] + struct.pack("<Q", 4080 | 1 << 31 | 1 << 30) + full[16:]
+        self.assertEqual((SHAPE.lost_before(wrong), SHAPE.whole(wrong)), (UNKNOWN, wrong))
+        self.assertEqual(SHAPE.whole(missed(contents, 7))[-8:], struct.pack("<Q", 7))
+        self.assertEqual(len(SHAPE.whole(contents)), 32)
+
+    def test_a_number_that_no_page_tells(self):
+        losses = Losses(counted=10)
+        for told in (None, 3, UNKNOWN, UNKNOWN, 1, None, UNKNOWN):
+            losses.see(told)
+        self.assertEqual((losses.told, losses.gaps, losses.rest, losses.total, losses.at_end), (4, 3, 6, 10, 0))
+        self.assertEqual([losses.share(gap) for gap in range(3)], [1, 1, 4])
+        self.assertEqual((Losses(told=4, counted=9).at_end, Losses(told=9, counted=4).at_end, Losses(told=9, counted=4).total), (5, 0, 9))
+        few = Losses(told=9, gaps=2, counted=10)
+        self.assertEqual(([few.share(gap) for gap in range(2)], few.total), ([1, 1], 11))
 
     def test_a_record_that_runs_out_of_its_page(self):
         for contents in [page(0, word(3, 1), b"12345678"), page(0, word(0, 1)), page(0, word(0, 1), struct.pack("<I", 2))]:
@@ -106,6 +130,27 @@ class Rings(unittest.TestCase):
         found = [(when, cpu, thread) for _, window in windows(spools) for cpu, of in window for when, thread in zip(of.times, of.threads)]
         self.assertEqual(sorted(found), [(10, 0, 1), (11, 0, 2), (20, 1, 4), (30, 0, 3)])
         self.assertEqual(next(windows(spools, lambda time: min(time, 10)))[1], [(0, Records([10], [1], [payload(1)]))])
+
+
+    def test_marks_stand_among_the_records(self):
+        """At the times of their pages, which do not fall, and not before they are wanted."""
+        spool = Spool(self.folder.name, SHAPE)
+        pages = [missed(ticks(10, payload(1)), 5), ticks(20, payload(2)), missed(ticks(15, payload(3)), 6), missed(ticks(30), 8), missed(ticks(30, payload(4)))]
+        for contents in pages:
+            spool.add(contents)
+        plain = [(10, payload(1)), (20, payload(2)), (20, payload(3)), (30, payload(4))]
+
+        def found():
+            return [pair for of in spool.chunks() for pair in zip(of.times, of.payloads)]
+        self.assertEqual(found(), plain)
+        spool.has_marks, spool.losses.counted = True, 20
+        # A page without records is not kept, so that its number is among the rest.
+        marks = [(10, lost(10, 5)), *plain[:2], (20, lost(20, 6)), plain[2], (30, lost(30, 9)), plain[3]]
+        for _ in range(2):
+            self.assertEqual(found(), marks)
+        self.assertEqual([of.threads for _, [(_, of)] in windows({0: spool})], [[0, 1, 2, 0, 3, 0, 4]])
+        with unittest.mock.patch("spool.PAGES_AT_ONCE", 1):
+            self.assertEqual(found(), marks)
 
 
 class Threads(unittest.TestCase):
