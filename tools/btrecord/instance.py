@@ -91,7 +91,7 @@ class Ring:
                 break
             if not page:
                 break
-            self.spool.add(page)
+            self.spool.add(page, lambda: self.counts()[2])
             pages += 1
             if is_tracing and (pages > 1 and 2 * shape.end(page) < len(page) or time.monotonic() >= due):
                 break

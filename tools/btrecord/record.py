@@ -188,8 +188,8 @@ class Recorder:
         """What each CPU lost; from now on its records have marks of it."""
         found = {}
         for cpu, spool in self.main.spools().items():
-            spool.has_marks, spool.losses.counted = True, self.done.lost[cpu]
-            found[cpu] = spool.losses
+            spool.has_marks, found[cpu] = True, spool.losses
+            spool.losses.settle(self.done.lost[cpu])
         return found
 
 
@@ -445,7 +445,7 @@ def written(done, joining, steps, output, asked, notes):
         joining.assembly.write(file, start, end)
     if asked.keeps_latest:
         notes = told_before(done, joining) + notes
-    return Made(joining.assembly, sum(losses.total for losses in joining.losses.values()), [told_span(done, asked, end - start)] + notes, signal=done.signal)
+    return Made(joining.assembly, sum(losses.total + losses.at_end for losses in joining.losses.values()), [told_span(done, asked, end - start)] + notes, signal=done.signal)
 
 
 def told_before(done, joining):

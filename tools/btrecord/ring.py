@@ -3,9 +3,10 @@
 `events/header_page` and `events/header_event` of tracefs describe them.
 """
 import re
-from dataclasses import dataclass
+from array import array
+from dataclasses import dataclass, field
 
-from container import Lost
+from container import MOST_COUNT, Lost
 from faults import Refused
 
 PADDING = 29
@@ -60,38 +61,45 @@ def page_shape(header_page):
 
 @dataclass
 class Losses:
-    """What the ring of a CPU lost: so many events that pages tell, so many pages that tell a loss without its number, and how many events
-    the kernel counted in all."""
+    """What the ring of a CPU lost: how many events its pages tell, how many those are taken to have lost that tell no number, in their order
+    and together, and how many the kernel counted in all."""
 
     told: int = 0
-    gaps: int = 0
+    shares: array = field(default_factory=lambda: array("Q"))
+    shared: int = 0
     counted: int = 0
 
-    def see(self, lost):
-        """Notes what a page tells."""
+    def see(self, lost, so_far=lambda: 0):
+        """Notes what a page tells. Where it tells no number, that is what the kernel had counted so far beyond what is known, and one at least."""
         if lost:
             self.told += lost
         elif lost == UNKNOWN:
-            self.gaps += 1
+            self.shares.append(min(max(so_far() - self.total, 1), MOST_COUNT))
+            self.shared += self.shares[-1]
 
-    @property
-    def rest(self):
-        """How many events were lost of which no page tells the number: at least one for each page that tells a loss without it."""
-        return max(self.counted - self.told, self.gaps)
+    def settle(self, counted):
+        """Has the shares make up what the kernel counted in all: what is left over is the last one's, and what is too much the last ones'."""
+        self.counted = counted
+        beyond = self.total - counted
+        if self.shares and beyond < 0:
+            self.shares[-1] = min(self.shares[-1] - beyond, MOST_COUNT)
+        for place in reversed(range(len(self.shares))):
+            if beyond <= 0:
+                break
+            less = min(self.shares[place] - 1, beyond)
+            self.shares[place] -= less
+            beyond -= less
+        self.shared = sum(self.shares)
 
     @property
     def total(self):
-        """How many events were lost."""
-        return self.told + self.rest
+        """How many events the pages tell of."""
+        return self.told + self.shared
 
     @property
     def at_end(self):
-        """How many were lost of which no page tells anything."""
-        return 0 if self.gaps else self.rest
-
-    def share(self, gap):
-        """How many events the mark of such a page tells: one, which is the least, and at the last of them what is left of the rest."""
-        return self.rest - (self.gaps - 1) if gap == self.gaps - 1 else 1
+        """How many were lost of which no page tells."""
+        return max(self.counted - self.total, 0)
 
 
 @dataclass

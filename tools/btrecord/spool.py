@@ -20,14 +20,14 @@ class Spool:
         self.losses = Losses()
         self.has_marks = False
 
-    def add(self, page):
-        """Keeps a page up to where its records end."""
+    def add(self, page, so_far=lambda: 0):
+        """Keeps a page up to where its records end. `so_far` answers how many events the kernel counted as lost so far."""
         end = self.shape.end(page)
         if end > self.shape.data:
             whole = self.shape.whole(page)
             self.file.write(LENGTH.pack(len(whole)) + whole)
             self.bytes += end - self.shape.data
-            self.losses.see(self.shape.lost_before(page))
+            self.losses.see(self.shape.lost_before(page), so_far)
 
     def pages(self):
         """The pages that were kept, in their order."""
@@ -48,7 +48,7 @@ def chunks_of(pages, shape, losses=None):
         for page in itertools.islice(pages, PAGES_AT_ONCE):
             lost = shape.lost_before(page) if losses else None
             if lost is not None:
-                take_mark(found, page, lost or losses.share(gaps))
+                take_mark(found, page, lost or losses.shares[gaps])
                 gaps += not lost
             take_records(found, page, shape)
             count += 1

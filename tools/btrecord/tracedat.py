@@ -52,9 +52,10 @@ class Pages:
 
     def find_losses(self, counted):
         """Finds what the pages tell of losses, of which the kernel counted so many events. From now on marks stand among the records."""
-        self.losses = Losses(counted=counted)
+        self.losses = Losses()
         for page in self.pages():
             self.losses.see(self.shape.lost_before(page))
+        self.losses.settle(counted)
 
     def chunks(self):
         """All records, those of some pages at a time."""
@@ -288,4 +289,4 @@ def convert_trace(data, path, open_output, with_marks=True):
     if found.others:
         notes.append(f"{found.others} other instances of the file are left out")
     without_pages = sum(lost for name, lost in found.lost.items() if name not in {f"CPU: {cpu}" for cpu in found.cpus})
-    return Made(assembly, sum(pages.losses.total for pages in found.cpus.values()) + without_pages, notes)
+    return Made(assembly, sum(pages.losses.total + pages.losses.at_end for pages in found.cpus.values()) + without_pages, notes)

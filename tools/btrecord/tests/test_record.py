@@ -105,7 +105,7 @@ class Recording(unittest.TestCase):
         made, events = self.record(Kernel(self.top, pages, stats))
         end = self.contents.end
         wanted = {0: [10, lost(20, 7), 20, 21, lost(30, 3), 30, lost(30, 2), 30],
-                  1: [lost(15, 1), 15, lost(25, 1 << 40), 25, lost(26, 8), 26], 2: [5, lost(end, 3)], 3: [6],
+                  1: [lost(15, 8), 15, lost(25, 1 << 40), 25, lost(26, 1), 26], 2: [5, lost(end, 3)], 3: [6],
                   # The kernel's count is too small: each page that tells a loss tells of one event at least.
                   4: [lost(7, 1), 7, lost(8, 1), 8, lost(9, 5), 9]}
         self.assertEqual(entries(pathlib.Path(self.path).read_bytes()), wanted)

@@ -69,14 +69,21 @@ class Pages(unittest.TestCase):
         self.assertEqual(len(SHAPE.whole(contents)), 32)
 
     def test_a_number_that_no_page_tells(self):
-        losses = Losses(counted=10)
-        for told in (None, 3, UNKNOWN, UNKNOWN, 1, None, UNKNOWN):
-            losses.see(told)
-        self.assertEqual((losses.told, losses.gaps, losses.rest, losses.total, losses.at_end), (4, 3, 6, 10, 0))
-        self.assertEqual([losses.share(gap) for gap in range(3)], [1, 1, 4])
-        self.assertEqual((Losses(told=4, counted=9).at_end, Losses(told=9, counted=4).at_end, Losses(told=9, counted=4).total), (5, 0, 9))
-        few = Losses(told=9, gaps=2, counted=10)
-        self.assertEqual(([few.share(gap) for gap in range(2)], few.total), ([1, 1], 11))
+        """It is what the kernel counted so far, and what it counted in all has the last word; each such page lost one event at least."""
+        told = (None, 3, UNKNOWN, UNKNOWN, 1, None, UNKNOWN)
+        for so_far, counted, shares in [((0, 0, 0), 10, [1, 1, 4]), ((5, 9, 20), 20, [2, 4, 10]), ((5, 9, 20), 17, [2, 4, 7]), ((5, 9, 20), 9, [2, 2, 1]),
+                                        ((5, 9, 20), 0, [1, 1, 1]), ((9, 9, 9), 30, [6, 1, 19]), ((3, 4, 4), 1 << 70, [1, 1, (1 << 64) - 1]),
+                                        ((1 << 70, 0, 0), 12, [6, 1, 1])]:
+            losses, counts = Losses(), iter(so_far)
+            for lost_before in told:
+                losses.see(lost_before, lambda: next(counts))
+            losses.settle(counted)
+            self.assertEqual((list(losses.shares), losses.told, losses.at_end), (shares, 4, max(counted - 4 - sum(shares), 0)))
+        for told_number, counted, at_end in [(4, 9, 5), (9, 4, 0), (0, 7, 7), (0, 0, 0)]:
+            losses = Losses()
+            losses.see(told_number or None)
+            losses.settle(counted)
+            self.assertEqual((losses.total, losses.at_end), (told_number, at_end))
 
     def test_a_record_that_runs_out_of_its_page(self):
         for contents in [page(0, word(3, 1), b"12345678"), page(0, word(0, 1)), page(0, word(0, 1), struct.pack("<I", 2))]:
@@ -115,6 +122,12 @@ class Rings(unittest.TestCase):
         self.assertEqual(ring.read(SHAPE, True, 10), 10)
         self.assertEqual(ring.read(SHAPE, True, 10, time.monotonic() - 1), 1)
 
+    def test_what_was_lost_is_asked_where_a_page_does_not_tell_it(self):
+        ring, counts = self.ring(FULL, missed(SMALL, 3), missed(SMALL), SMALL, missed(SMALL)), iter([(0, 0, 10), (0, 0, 14)])
+        with unittest.mock.patch.object(Ring, "counts", lambda self: next(counts)):
+            ring.read(SHAPE)
+        self.assertEqual((ring.spool.losses.told, list(ring.spool.losses.shares), list(counts)), (3, [7, 4], []))
+
     def test_what_the_kernel_counted(self):
         ring = self.ring()
         with open(f"{self.folder.name}/stats", "w") as file:
@@ -143,7 +156,8 @@ class Rings(unittest.TestCase):
         def found():
             return [pair for of in spool.chunks() for pair in zip(of.times, of.payloads)]
         self.assertEqual(found(), plain)
-        spool.has_marks, spool.losses.counted = True, 20
+        spool.has_marks = True
+        spool.losses.settle(20)
         # A page without records is not kept, so that its number is among the rest.
         marks = [(10, lost(10, 5)), *plain[:2], (20, lost(20, 6)), plain[2], (30, lost(30, 9)), plain[3]]
         for _ in range(2):
