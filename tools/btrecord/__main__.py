@@ -7,6 +7,8 @@
   python3 tools/btrecord info RECORDING
   python3 tools/btrecord list [-v] RECORDING [PATTERN]
 
+record, convert and cut also take --v1, for a recording without marks of lost events.
+
 This program is not proved. btreplay checks each recording that it is given.
 """
 import contextlib

@@ -14,6 +14,7 @@ import unittest.mock
 
 from made import HEADER_PAGE, HERE, OTHER_TEXT, TOP, Kernel, entries, lost, missed, payload, program, ticks
 
+from container import Lost
 from faults import READ, WORDS, Refused
 from instance import own_name, write
 from latest import RollingLooks, fits_from
@@ -409,6 +410,19 @@ class Real(unittest.TestCase):
         status, told, _ = self.told("raw_syscalls:sys_enter", "--filter", "raw_syscalls:sys_enter", "none == 35", "-o", self.path)
         self.assertEqual(status, WORDS)
         self.assertIn("btrecord: parse_error: Field not found\n", told)
+
+    def test_more_than_the_rings_hold(self):
+        """What the kernel counted as lost is what the marks tell, and they are there where something was lost."""
+        copies = "for k in 1 2 3 4; do dd if=/dev/zero of=/dev/null bs=1 count=200000 2>/dev/null & done; wait"
+        status, told, events = self.told("raw_syscalls:*", "--buffer-kb", "64", "-a", "-o", self.path, "--", "sh", "-c", copies)
+        self.assertEqual(status, 0, told)
+        lost = int(re.search(r"([\d,]+) events? lost while recording", told)[1].replace(",", ""))
+        self.assertGreater(lost, 0, told)
+        contents = pathlib.Path(self.path).read_bytes()
+        marks = [entry for of in entries(contents).values() for entry in of if isinstance(entry, Lost)]
+        self.assertEqual((sum(mark.count for mark in marks), contents[:8]), (lost, b"BTRACE02"))
+        self.assertIn(f"the recording has {len(marks):,} mark", told)
+        self.assertGreater(len(events), 100)
 
     def test_a_process_and_the_latest_of_it(self):
         process = subprocess.Popen(["sh", "-c", "while :; do sleep 0.01; done"])
