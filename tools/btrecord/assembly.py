@@ -159,7 +159,7 @@ class Assembly:
             return
         self.is_full, self.full_at = True, max(time, self.last or 0)
         if self.border and self.with_marks:
-            self.full_at, self.last = self.border.next, self.border.last
+            self.full_at, self.last = max(self.border.next, self.border.last or 0), self.border.last
             for cpu, part in self.parts.items():
                 dropped = part.cut_back(*self.border.parts[cpu])
                 self.events -= dropped
