@@ -1,6 +1,7 @@
 """Tests of where a recording goes, and of its bytes."""
 import os
 import pathlib
+import random
 import stat
 import struct
 import tempfile
@@ -279,6 +280,43 @@ class Assemblies(unittest.TestCase):
         for wanted in ([lost(k, k + 1) for k in range(count)], [k if k % 3 else lost(k, 2) for k in range(count)], [*range(count), lost(count, 1)]):
             made = self.assembly([(0, wanted)], [0], True)
             self.assertEqual(self.entries(self.written(made, 0, count)), ({0: wanted}, (0, count)))
+
+    def drawn_window(self, draw, cpus, now):
+        """The entries of some CPUs in a span of 20 nanoseconds, and how many events they are or tell of."""
+        window, events = [], 0
+        for cpu in range(cpus):
+            times = sorted(draw.randint(now, now + 20) for _ in range(draw.randint(0, 8)))
+            entries_of_cpu = [draw.choice([payload(), payload() + b"more", payload(number=301), lost(time, draw.randint(1, 9))]) for time in times]
+            events += sum(entry.count if isinstance(entry, Lost) else 1 for entry in entries_of_cpu)
+            window += [(cpu, times, [CLOCK] * len(times), entries_of_cpu)] if times else []
+        return window, events
+
+    def test_each_event_is_there_or_marked(self):
+        """Of drawn windows, at drawn limits: the recording is a valid one within them, and its events and what its marks tell are all there were."""
+        draw, full = random.Random(7), 0
+        for _ in range(400):
+            cpus = draw.randint(1, 3)
+            entries_most, room = draw.choice([1 << 20, draw.randint(cpus, 40)]), draw.choice([1 << 20, draw.randint(17 * cpus, 2500)])
+            most = container.head_bytes([DEMO], cpus) + room
+            with unittest.mock.patch("container.MOST_ENTRIES", entries_most), unittest.mock.patch("container.MOST_BYTES", most):
+                made, all_events = Assembly([DEMO], range(cpus), self.folder), 0
+                for now in range(0, 21 * draw.randint(1, 6), 21):
+                    window, events = self.drawn_window(draw, cpus, now)
+                    all_events += events
+                    made.take_window(window)
+                later = draw.choice([0, 6])
+                made.lose(0, 1000, 4)
+                made.miss(draw.randrange(cpus), later, 1000)
+                all_events += 4 + later
+                contents = self.written(made, 0, 9)
+            found = read_recording(contents)
+            count = sum(of for _, of in found.cpus)
+            self.assertLessEqual(count, entries_most)
+            self.assertLessEqual(len(contents), most)
+            self.assertEqual((count - len(found.marks), len(found.marks)), (made.events, made.marks))
+            self.assertEqual(made.events + sum(found.marks.counts), all_events)
+            full += made.is_full
+        self.assertTrue(100 < full < 300, full)
 
     def test_counts_without_end(self):
         made = self.assembly([(0, lost(1, 1 << 64)), (0, lost(2, (1 << 64) - 1))])
