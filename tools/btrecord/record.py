@@ -445,7 +445,8 @@ def written(done, joining, steps, output, asked, notes):
         joining.assembly.write(file, start, end)
     if asked.keeps_latest:
         notes = told_before(done, joining) + notes
-    return Made(joining.assembly, sum(losses.total + losses.at_end for losses in joining.losses.values()), [told_span(done, asked, end - start)] + notes, signal=done.signal)
+    lost = sum(losses.total + losses.at_end for losses in joining.losses.values())
+    return Made(joining.assembly, lost, [told_span(done, asked, end - start)] + notes, signal=done.signal)
 
 
 def told_before(done, joining):
