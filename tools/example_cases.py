@@ -1,7 +1,7 @@
 #!/usr/bin/env python3
 """Makes the cases of examples/ that the program bt_cases runs: one for each script, with its output.
 
-  python3 tools/example_cases.py           writes crates/bt_cases/data/examples.jsonl, the recording beside it, and how many cases agree
+  python3 tools/example_cases.py           writes crates/bt_cases/data/examples.jsonl, the recordings beside it, and how many cases agree
   python3 tools/example_cases.py --check   changes nothing, and ends with status 1 where they are not those of examples/
 
 The first comment of a script has, behind "// Run: ", the command whose output stands beside the script.
@@ -13,23 +13,24 @@ import sys
 TOP = pathlib.Path(__file__).resolve().parent.parent
 EXAMPLES = TOP / "examples"
 DATA = TOP / "crates" / "bt_cases" / "data"
-RECORDING = "small.btr"
+RECORDINGS = ["small.btr", "lossy.btr"]
 
 
-def words_of(name, script):
-    """The words of the command in a script's first comment, with the names that files have in a case."""
+def command_of(name, script):
+    """The words of the command in a script's first comment, with the names that files have in a case, and the name of the recording."""
     mark = "// Run: ./btreplay "
     commands = [line[len(mark):].split() for line in script.split("\n\n")[0].splitlines() if line.startswith(mark)]
-    names = {f"examples/{name}.bt": "s.bt", f"examples/{RECORDING}": "r.bin"}
-    if len(commands) != 1 or commands[0][-2:] != list(names):
+    files = [[f"examples/{name}.bt", f"examples/{recording}"] for recording in RECORDINGS]
+    if len(commands) != 1 or commands[0][-2:] not in files:
         sys.exit(f"example_cases: examples/{name}.bt does not begin with a comment that has its command")
-    return [names.get(word, word) for word in commands[0]]
+    return commands[0][:-2] + ["s.bt", "r.bin"], commands[0][-1].rpartition("/")[2]
 
 
 def case_of(path):
     """The line of a script."""
     script = path.read_text()
-    case = {"words": words_of(path.stem, script), "script": script, "recording_file": RECORDING,
+    words, recording = command_of(path.stem, script)
+    case = {"words": words, "script": script, "recording_file": recording,
             "status": 0, "out": path.with_suffix(".out").read_text(), "err": ""}
     return json.dumps(case) + "\n"
 
@@ -41,12 +42,12 @@ def agreeing(examples):
 
 
 def main(arguments):
-    """Writes the three files, or compares them."""
+    """Writes all files, or compares them."""
     if arguments not in ([], ["--check"]):
         sys.exit(__doc__)
     examples = "".join(map(case_of, sorted(EXAMPLES.glob("*.bt"))))
-    made = {DATA / "examples.jsonl": examples.encode(), DATA / RECORDING: (EXAMPLES / RECORDING).read_bytes(),
-            DATA.parent / "stdout": agreeing(examples).encode()}
+    made = {DATA / "examples.jsonl": examples.encode(), DATA.parent / "stdout": agreeing(examples).encode()}
+    made.update({DATA / name: (EXAMPLES / name).read_bytes() for name in RECORDINGS})
     for path, wanted in made.items():
         if not arguments:
             path.write_bytes(wanted)

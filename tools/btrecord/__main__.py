@@ -7,6 +7,8 @@
   python3 tools/btrecord info RECORDING
   python3 tools/btrecord list [-v] RECORDING [PATTERN]
 
+record, convert and cut also take --v1, for a recording without marks of lost events.
+
 This program is not proved. btreplay checks each recording that it is given.
 """
 import contextlib
@@ -52,6 +54,10 @@ def report(output, made):
              f"{plural(made.lost, 'event')} lost while recording"]
     causes = "; ".join(f"{count:,} {cause}" for cause, count in assembly.left_out.items())
     lines.append(f"{plural(sum(assembly.left_out.values()), 'event')} left out" + (f": {causes}" if causes else ""))
+    if assembly.marks:
+        lines.append(f"the recording has {plural(assembly.marks, 'mark')} of lost events, and is of version 2")
+    elif assembly.unmarked:
+        lines.append(f"{plural(assembly.unmarked, 'mark')} of lost events left out, since --v1 asks for version 1")
     return lines + made.notes
 
 
@@ -66,7 +72,7 @@ def run(asked):
     if asked.command in ("record", "convert"):
         return run_making(asked)
     if asked.command == "cut":
-        tell(cut(asked.recording, which(asked), lambda: Output(asked.output)))
+        tell(cut(asked.recording, which(asked), lambda: Output(asked.output), not asked.v1))
     else:
         with ended_by_pipe():
             run_telling(asked)
@@ -104,13 +110,13 @@ def run_making(asked):
     if asked.command == "record":
         patterns = asked.events + [point for path in asked.scripts for point in points_in(path)]
         made = record(Asked(patterns, asked.seconds, asked.buffer_kb, processes=asked.pid, command=asked.program, is_all=asked.is_all,
-                            filters=asked.filters, keeps_latest=asked.keep == "latest", tell=tell), lambda: Output(asked.output))
+                            filters=asked.filters, keeps_latest=asked.keep == "latest", with_marks=not asked.v1, tell=tell), lambda: Output(asked.output))
     else:
         data = mapped(asked.data)
         if data[:len(tracedat.MAGIC)] == tracedat.MAGIC:
-            made = tracedat.convert_trace(data, asked.data, lambda: Output(asked.output))
+            made = tracedat.convert_trace(data, asked.data, lambda: Output(asked.output), not asked.v1)
         else:
-            made = convert(asked.data, asked.formats, lambda: Output(asked.output), data)
+            made = convert(asked.data, asked.formats, lambda: Output(asked.output), data, not asked.v1)
     tell(report("standard output" if asked.output == "-" else asked.output, made))
     return made.status
 

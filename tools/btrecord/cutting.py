@@ -1,9 +1,9 @@
-"""Parts of recordings: the events that are asked for, byte for byte as they are."""
+"""Parts of recordings: the events that are asked for, byte for byte as they are, and the marks of the time that is asked for."""
 import shutil
 
-from container import CPU, HEADER, MAGIC, spelled_format
+from container import CPU, EVENT_BYTE, HEADER, MAGIC, MARKED_MAGIC, spelled_format
 from faults import Ended
-from reading import events_of, opened
+from reading import Mark, entries_of, opened
 from selection import Selection, told_time
 from signals import Signals, name_of
 
@@ -32,48 +32,68 @@ class Run:
         self.begin = self.end
 
 
-def copy_events(data, events, selection, file, signals):
-    """Copies the events that are asked for, and answers how many there are."""
-    count, run = 0, Run(data, file)
-    for seen, event in enumerate(events):
-        if seen % EVENTS_BETWEEN_SIGNALS == 0:
-            came = signals.wait(0)
-            if came:
-                raise Ended(came, name_of(came))
-        if selection.takes(data, event):
-            count += 1
-            run.take(event.at, event.end)
-    run.flush()
-    return count
+class Copy:
+    """A part of a recording that is being written, and how many events of it there are. `is_marked` tells whether it has marks."""
+
+    def __init__(self, data, contents, selection, file, is_marked):
+        self.data, self.contents, self.selection = data, contents, selection
+        self.file = file
+        self.is_marked = is_marked
+        # In version 2 a byte stands before each event. It is copied with the event where both recordings have it.
+        self.before = len(EVENT_BYTE) if is_marked and contents.version == 2 else 0
+        self.events = 0
+
+    def entries(self, place, signals):
+        """Copies the entries of a CPU that are asked for, and answers how many there are."""
+        count, run = 0, Run(self.data, self.file)
+        for seen, entry in enumerate(entries_of(self.data, self.contents, place)):
+            if seen % EVENTS_BETWEEN_SIGNALS == 0:
+                came = signals.wait(0)
+                if came:
+                    raise Ended(came, name_of(came))
+            if isinstance(entry, Mark):
+                if self.is_marked and self.selection.takes_mark(entry):
+                    count += 1
+                    run.take(entry.at, entry.end)
+            elif self.selection.takes(self.data, entry):
+                count += 1
+                self.events += 1
+                run.take(entry.at - self.before, entry.end)
+        run.flush()
+        return count
+
+    def cpus(self, signals):
+        """Copies the CPUs with the entries that are asked for."""
+        for place, (number, _) in enumerate(self.contents.cpus):
+            head = self.file.tell()
+            self.file.write(CPU.pack(number, 0))
+            count = self.entries(place, signals)
+            end = self.file.tell()
+            self.file.seek(head)
+            self.file.write(CPU.pack(number, count))
+            self.file.seek(end)
 
 
-def copy_cpus(data, contents, selection, file, signals):
-    """Copies the CPUs with the events that are asked for, and answers how many these are."""
-    kept = 0
-    for place, (number, _) in enumerate(contents.cpus):
-        head = file.tell()
-        file.write(CPU.pack(number, 0))
-        count = copy_events(data, events_of(data, contents, place), selection, file, signals)
-        end = file.tell()
-        file.seek(head)
-        file.write(CPU.pack(number, count))
-        file.seek(end)
-        kept += count
-    return kept
-
-
-def cut(path, asked, open_output):
-    """Writes the events that are asked for to what `open_output` answers, with their formats and all CPUs. Answers what is to be told."""
+def cut(path, asked, open_output, with_marks=True):
+    """Writes the events that are asked for to what `open_output` answers, with their formats, all CPUs, and the marks of the time that is
+    asked for. Answers what is to be told."""
     data, contents = opened(path)
     selection = Selection(asked, path, contents)
+    marks = contents.marks.between(selection.start, selection.end)
     with open_output() as output, Signals() as signals, output.scratch() as scratch:
-        kept = copy_cpus(data, contents, selection, scratch, signals)
+        copy = Copy(data, contents, selection, scratch, with_marks and marks > 0)
+        copy.cpus(signals)
         scratch.seek(0)
         with output.writing() as file:
-            file.write(HEADER.pack(MAGIC, len(contents.cpus), len(selection.formats), selection.start, selection.end))
+            magic = MARKED_MAGIC if copy.is_marked else MAGIC
+            file.write(HEADER.pack(magic, len(contents.cpus), len(selection.formats), selection.start, selection.end))
             for format in selection.formats:
                 file.write(spelled_format(format))
             shutil.copyfileobj(scratch, file, COPIED)
-    events = sum(count for _, count in contents.cpus)
-    return [f"{kept:,} of the {events:,} events are in {output.name}, from {told_time(selection.start)} to {told_time(selection.end)} s",
+    events = sum(count for _, count in contents.cpus) - len(contents.marks)
+    told = [f"{copy.events:,} of the {events:,} events are in {output.name}, from {told_time(selection.start)} to {told_time(selection.end)} s",
             f"{len(selection.formats):,} of the {len(contents.formats):,} formats and all CPUs are kept"]
+    if marks:
+        how = "are kept" if copy.is_marked else "would be in it, and are left out, since --v1 asks for version 1"
+        told.append(f"{marks:,} of the {len(contents.marks):,} marks of lost events {how}")
+    return told

@@ -1,7 +1,7 @@
-"""The events of a recording as text, a line for each, as `perf script` shows them."""
+"""The events of a recording as text, a line for each, as `perf script` shows them, and a line for each mark of lost events."""
 import sys
 
-from reading import by_time, opened
+from reading import Mark, by_time, opened
 from selection import Selection, told_time
 from values import shown, values_of
 
@@ -22,11 +22,19 @@ class Line:
                 f"{self.name}:{fields}\n")
 
 
+def line_of_mark(mark):
+    """The line of a mark: where the lines of events have a thread, it has nothing."""
+    return f"{'':>32} [{mark.cpu:03}] {told_time(mark.time):>16}: LOST {mark.count} EVENT{'' if mark.count == 1 else 'S'}\n"
+
+
 def lines(data, contents, selection):
-    """The lines of all events that are asked for, by time."""
+    """The lines of all events that are asked for, and of the marks of the same time, by time."""
     kinds = {format.layout.number: Line(format) for format in contents.formats}
     for event in by_time(data, contents):
-        if selection.takes(data, event):
+        if isinstance(event, Mark):
+            if selection.takes_mark(event):
+                yield line_of_mark(event)
+        elif selection.takes(data, event):
             payload = data[event.payload:event.end]
             yield kinds[payload[0] | payload[1] << 8].of(event, payload)
 

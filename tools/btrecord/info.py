@@ -68,8 +68,10 @@ def info(path):
         lines.append(f"events: {len(seen.times):,}, from {seconds(min(seen.times) - start)} to {seconds(max(seen.times) - start)}")
     else:
         lines.append("events: 0")
+    lines += lines_of_marks(contents)
     lines.append(f"CPUs: {len(contents.cpus)}")
-    lines += [f"  {count:>12,}  cpu {number}" for number, count in contents.cpus]
+    of_cpus = contents.marks.of_cpus()
+    lines += [line_of_cpu(number, count, *of_cpus.get(number, (0, 0))) for number, count in contents.cpus]
     lines.append(f"tracepoints: {len(names):,}, of which {len(seen.kinds):,} have events")
     lines += most(seen.kinds, MOST_NAMES, lambda number: names[number])
     lines.append(f"processes: {len(seen.processes):,}")
@@ -77,6 +79,20 @@ def info(path):
     lines.append("greatest gaps, without an event of any CPU:")
     lines += [f"  {seconds(length)} from {seconds(began - start)}" for length, began in gaps(seen.times, start, end)]
     return lines
+
+
+def lines_of_marks(contents):
+    """A line for the lost events that a recording tells of, or none where it tells of none."""
+    marks = contents.marks
+    if not marks:
+        return []
+    first, last = min(marks.times) - contents.start, max(marks.times) - contents.start
+    return [f"lost events: {sum(marks.counts):,} in {len(marks):,} mark{'' if len(marks) == 1 else 's'}, from {seconds(first)} to {seconds(last)}"]
+
+
+def line_of_cpu(number, entries, marks, lost):
+    """How many events a CPU has, and how many it lost."""
+    return f"  {entries - marks:>12,}  cpu {number}" + (f", and {lost:,} lost" if lost else "")
 
 
 def told_names(names):

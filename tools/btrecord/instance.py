@@ -91,7 +91,7 @@ class Ring:
                 break
             if not page:
                 break
-            self.spool.add(page)
+            self.spool.add(page, lambda: self.counts()[2])
             pages += 1
             if is_tracing and (pages > 1 and 2 * shape.end(page) < len(page) or time.monotonic() >= due):
                 break
@@ -193,11 +193,19 @@ class Instance:
 
     def counts(self):
         """How many events of all CPUs were read, are still there, and were lost."""
-        return [sum(counts) for counts in zip(*(ring.counts() for ring in self.rings.values()))] or [0, 0, 0]
+        return [sum(counts) for counts in zip(*self.counts_of_cpus().values())] or [0, 0, 0]
+
+    def counts_of_cpus(self):
+        """The same of each CPU."""
+        return {cpu: ring.counts() for cpu, ring in self.rings.items()}
 
     def overwritten(self):
         """How many events of all CPUs the kernel wrote others over."""
-        return sum(ring.overwritten() for ring in self.rings.values())
+        return sum(self.overwritten_of_cpus().values())
+
+    def overwritten_of_cpus(self):
+        """The same of each CPU."""
+        return {cpu: ring.overwritten() for cpu, ring in self.rings.items()}
 
     def spools(self):
         """What was kept of each CPU."""

@@ -4,7 +4,7 @@ from array import array
 from collections import deque
 
 import container
-from container import EVENT
+from container import EVENT, EVENT_BYTE, MARK
 from output import nameless
 from spool import windows
 from tasks import Looks, changes_in
@@ -55,24 +55,26 @@ def whole_from(main):
     return latest
 
 
-def fits_from(spools, room, go_on=lambda: None):
-    """From when on all events fit into a recording that has room for so many bytes of them. Asks now and then whether to go on."""
+def fits_from(spools, room, go_on=lambda: None, marks=0):
+    """From when on all events fit into a recording that has room for so many bytes of them and of so many marks. Asks now and then whether to
+    go on."""
     events = size = 0
+    most, room, each = container.MOST_ENTRIES - marks, room - MARK.size * marks, EVENT.size + (len(EVENT_BYTE) if marks else 0)
     held = deque()
     for until, found in windows(spools):
         go_on()
         times = array("Q", (time for _, of in found for time in of.times))
-        sizes = array("I", (EVENT.size + len(payload) for _, of in found for payload in of.payloads))
+        sizes = array("I", (each + len(payload) for _, of in found for payload in of.payloads))
         held.append((until, times, sizes, sum(sizes)))
         events, size = events + len(times), size + held[-1][3]
-        while len(held) > 1 and (events - len(held[0][1]) > container.MOST_EVENTS or size - held[0][3] > room):
+        while len(held) > 1 and (events - len(held[0][1]) > most or size - held[0][3] > room):
             _, times, _, bytes_of_first = held.popleft()
             events, size = events - len(times), size - bytes_of_first
-    if not held or events <= container.MOST_EVENTS and size <= room:
+    if not held or events <= most and size <= room:
         return 0
     # The first that is held is where the limit lies: what is behind it fits, and of it the latest.
     until, times, sizes, bytes_of_first = held[0]
-    return border(until, zip(times, sizes), container.MOST_EVENTS - events + len(times), room - size + bytes_of_first)
+    return border(until, zip(times, sizes), most - events + len(times), room - size + bytes_of_first)
 
 
 def border(until, pairs, events, room):

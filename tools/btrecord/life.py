@@ -69,7 +69,7 @@ class Silence:
 
 def told_growing(events, size, lost):
     """How far a recording is that keeps the earliest events: how many there are, which share of the limits, and how many were lost."""
-    share = max(events / container.MOST_EVENTS, size / container.MOST_BYTES)
+    share = max(events / container.MOST_ENTRIES, size / container.MOST_BYTES)
     return f"{events:,} events, {min(100 * share, 100):.0f} % of what a recording holds, {lost:,} lost"
 
 

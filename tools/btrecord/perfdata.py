@@ -9,7 +9,7 @@ import struct
 from array import array
 from dataclasses import dataclass, field
 
-from assembly import PAST_LIMITS, Assembly
+from assembly import Assembly
 from container import format_of, test_formats
 from faults import READ, Ended, Refused, of_file
 from record import Made
@@ -26,6 +26,8 @@ RECORD_SAMPLE = 9
 RECORD_LOST_SAMPLES = 13
 RECORD_AUXTRACE = 71
 RECORD_COMPRESSED = [81, 83]
+# How many bytes such records have before what tells their CPU and time; the last 8 of them are how many were lost.
+LOSS_BYTES = {RECORD_LOST: 16, RECORD_LOST_SAMPLES: 8}
 # Such a record counts samples that a filter of the user dropped.
 LOST_BY_FILTER = 1 << 15
 
@@ -224,8 +226,10 @@ class Layouts:
         self.number_at = self.first.places[told]
         if not self.only and not all(a.samples & told and a.places[told] == self.number_at for a in attributes):
             raise Refused(f"the samples have several forms and don't tell which; {again(events)}")
-        behind = [part for part in PARTS_BEHIND if self.first.samples & part]
-        self.time_behind = 8 * (len(behind) - behind.index(TIME)) if self.first.all_records and TIME in behind else None
+        behind = [part for part in PARTS_BEHIND if self.first.samples & part] if self.first.all_records else []
+        self.all_behind = 8 * len(behind)
+        self.time_behind = 8 * (len(behind) - behind.index(TIME)) if TIME in behind else None
+        self.cpu_behind = 8 * (len(behind) - behind.index(CPU)) if CPU in behind else None
 
     def of_sample(self, data, at, end):
         """The attributes of a sample's event, or none where it is of no event."""
@@ -240,6 +244,16 @@ class Layouts:
         if self.time_behind is None or at + self.time_behind > end:
             return 0
         return WORD.unpack_from(data, end - self.time_behind)[0]
+
+    def cpu_and_time(self, data, at, end):
+        """Of which CPU a record that is no sample is and when it came, where both are told behind its first part, which ends at a place.
+
+        What perf itself makes has neither, and zeros in their places.
+        """
+        if self.time_behind is None or self.cpu_behind is None or at + self.all_behind > end:
+            return None
+        time = WORD.unpack_from(data, end - self.time_behind)[0]
+        return (TWO.unpack_from(data, end - self.cpu_behind)[0], time) if time else None
 
 
 def raw_record(data, at, end, a):
@@ -271,10 +285,10 @@ def pass_counts(r, form):
 
 @dataclass
 class Found:
-    """The records of a file that a recording is made of: when each sample came and where it stands, and what is told of threads.
+    """The records of a file that a recording is made of: when each sample and each loss came and where it stands, and what is told of threads.
 
-    The kernel tells a loss in a record of lost events. perf asks the kernel at the end for each event's lost samples and tells them
-    again, and those that no record could tell any more.
+    The kernel tells a loss in a record of lost events, and what a processor lost in one of lost samples, with the CPU and the time. perf asks
+    the kernel at the end for each event's lost samples and tells them again, without either, and those that no record could tell any more.
     """
 
     times: array = field(default_factory=lambda: array("Q"))
@@ -284,11 +298,18 @@ class Found:
     others: int = 0
     lost_events: int = 0
     lost_samples: int = 0
+    told_again: int = 0
+    placed: int = 0
 
     @property
     def lost(self):
         """How many events were lost."""
-        return max(self.lost_events, self.lost_samples)
+        return max(self.lost_events, self.told_again) + self.lost_samples
+
+    @property
+    def without_place(self):
+        """How many of them have no CPU or no time."""
+        return self.lost - self.placed
 
 
 def read_records(data, parts, layouts):
@@ -333,16 +354,36 @@ def take_other(found, data, where, what, layouts):
     elif kind == RECORD_FORK:
         process, _, thread, parent = (r.number(4) for _ in range(4))
         found.changes.append(Change(layouts.time_of(data, *where), thread, process, parent=parent))
-    elif kind == RECORD_LOST:
-        r.take(8)
-        found.lost_events += r.number(8)
-    elif kind == RECORD_LOST_SAMPLES and not misc & LOST_BY_FILTER:
-        found.lost_samples += r.number(8)
+    elif kind == RECORD_LOST or kind == RECORD_LOST_SAMPLES and not misc & LOST_BY_FILTER:
+        take_loss(found, data, where, kind, layouts)
     elif kind == RECORD_AUXTRACE:
         return r.number(8)
     elif kind in RECORD_COMPRESSED:
         raise Refused(f"the records are compressed (perf record -z); {again(layouts.events)}")
     return 0
+
+
+def take_loss(found, data, where, kind, layouts):
+    """Notes a record of lost events or samples."""
+    count = lost_in(data, *where, kind)
+    told = layouts.cpu_and_time(data, where[0] + LOSS_BYTES[kind], where[1])
+    if kind == RECORD_LOST:
+        found.lost_events += count
+    elif told:
+        found.lost_samples += count
+    else:
+        found.told_again += count
+    if told and count:
+        cpu, time = told
+        found.placed += count
+        found.cpus.add(cpu)
+        found.times.append(time)
+        found.places.append(where[0])
+
+
+def lost_in(data, at, end, kind):
+    """How many events a record tells that were lost. In one of lost events the number of their kind stands before that."""
+    return Reader(data[at:end], LOSS_BYTES[kind] - WORD.size, "a record").number(WORD.size)
 
 
 def mapped(path):
@@ -357,7 +398,7 @@ def mapped(path):
         raise of_file(path, error, READ) from error
 
 
-def convert(path, folder, open_output, data=None):
+def convert(path, folder, open_output, data=None, with_marks=True):
     """Makes a recording of a file of perf, and writes it to what `open_output` answers. The formats stand in the file, or in a folder."""
     data = mapped(path) if data is None else data
     parts = parts_of(data)
@@ -369,31 +410,38 @@ def convert(path, folder, open_output, data=None):
         raise Refused(f"{folder or path} has no format of the file's tracepoints" + "".join(f"; {note}" for note in notes))
     with open_output() as output, Signals() as signals:
         found = read_records(data, parts, layouts)
-        assembly = Assembly(formats, found.cpus, output.folder)
+        assembly = Assembly(formats, found.cpus, output.folder, with_marks)
         assemble(data, found, layouts, assembly, signals)
         start, end = assembly.span(min(found.times, default=0), max(found.times, default=0))
         with output.writing() as file:
             assembly.write(file, start, end)
     others = [f"{found.others:,} samples of other events than tracepoints"] if found.others else []
+    if found.without_place and found.placed:
+        others.append(f"of {found.without_place:,} lost events the file does not tell the CPU and the time, and the recording has no mark of them")
     return Made(assembly, found.lost, others + notes)
 
 
 def assemble(data, found, layouts, assembly, signals):
-    """Puts the samples into the assembly by their times, those of one time as they stood."""
+    """Puts the samples and the losses into the assembly by their times, those of one time as they stood."""
     tasks = Tasks(sorted(found.changes, key=lambda change: change.time))
     for handled, k in enumerate(sorted(range(len(found.times)), key=found.times.__getitem__)):
         if handled % EVENTS_BETWEEN_SIGNALS == 0:
             came = signals.wait(0)
             if came:
                 raise Ended(came, name_of(came))
-        if assembly.is_full:
-            assembly.leave_out(PAST_LIMITS, len(found.times) - handled)
-            return
         at = found.places[k]
-        end = at - HEAD.size + HEAD.unpack_from(data, at - HEAD.size)[2]
+        kind, _, size = HEAD.unpack_from(data, at - HEAD.size)
+        end = at - HEAD.size + size
+        if kind != RECORD_SAMPLE:
+            cpu, time = layouts.cpu_and_time(data, at + LOSS_BYTES[kind], end)
+            assembly.lose(cpu, time, lost_in(data, at, end, kind))
+            continue
         a = layouts.of_sample(data, at, end)
         process, thread = TWO.unpack_from(data, at + a.places[TID])
         cpu = TWO.unpack_from(data, at + a.places[CPU])[0]
+        if assembly.is_full:
+            assembly.miss(cpu, 1, found.times[k])
+            continue
         tasks.go_to(found.times[k])
         head = tasks.at(thread, cpu)._replace(process=process).head(thread)
         assembly.take(cpu, found.times[k], head, raw_record(data, at, end, a))

@@ -1,16 +1,18 @@
 """Reads recordings, and refuses what `btreplay check` refuses, with its words.
 
-docs/RECORDINGS.md has the checks C1 to C11 and their order.
+docs/RECORDINGS.md has the checks C1 to C13 and their order.
 """
 import heapq
 import mmap
 import os
 import stat
+from array import array
+from collections import Counter
 from dataclasses import dataclass, field
 from typing import NamedTuple
 
 import container
-from container import CPU, EVENT, HEADER, MAGIC, SYSTEM, Format
+from container import CPU, EVENT, EVENT_KIND, HEADER, MARK, MARK_KIND, SYSTEM, VERSIONS, Format
 from faults import READ, RECORDING, Refused, of_file
 from format_text import BadFormat, layout_of
 
@@ -19,19 +21,60 @@ class BadRecording(Exception):
     """The first check that fails."""
 
 
+class Marks:
+    """The marks of a recording, in the order of the file."""
+
+    def __init__(self):
+        self.cpus, self.times, self.counts = array("I"), array("Q"), array("Q")
+
+    def add(self, cpu, time, count):
+        """Adds a mark."""
+        self.cpus.append(cpu)
+        self.times.append(time)
+        self.counts.append(count)
+
+    def __len__(self):
+        return len(self.times)
+
+    def between(self, start, end):
+        """How many of them are from one time to another."""
+        return sum(start <= time <= end for time in self.times)
+
+    def of_cpus(self):
+        """How many marks each CPU has that has some, and how many events they tell of."""
+        marks, lost = Counter(self.cpus), Counter()
+        for cpu, count in zip(self.cpus, self.counts):
+            lost[cpu] += count
+        return {cpu: (marks[cpu], lost[cpu]) for cpu in marks}
+
+
 @dataclass(frozen=True)
 class Contents:
-    """A recording beside its events: its span, its formats in their order, each CPU's number and how many events it has, and where these begin."""
+    """A recording beside its entries, which are events and marks of lost events: its version, its span, its formats in their order, each
+    CPU's number and how many entries it has, where these begin, and each mark, as its CPU, time and count."""
 
     start: int
     end: int
     formats: list
     cpus: list
     begins: list = field(default_factory=list)
+    version: int = 1
+    marks: Marks = field(default_factory=Marks)
+
+
+class Mark(NamedTuple):
+    """That so many events of a CPU were lost, as is known at a time. The mark stands in the recording's bytes from `at` to `end`."""
+
+    time: int
+    cpu: int
+    count: int
+    at: int
+    end: int
 
 
 class Event(NamedTuple):
-    """An event of a recording. It stands in the recording's bytes from `at` to `end`, and its payload from `payload` on."""
+    """An event of a recording. It stands in the recording's bytes from `at` to `end`, without the byte before it that version 2 has, and its
+    payload from `payload` on."""
 
     time: int
     cpu: int
@@ -53,14 +96,14 @@ def whole(data, at, size):
 
 
 def read_header(data):
-    """How many CPUs and formats there are, and the span."""
+    """The version, how many CPUs and formats there are, and the span."""
     whole(data, 0, HEADER.size)
     magic, cpus, formats, start, end = HEADER.unpack_from(data)
-    for failed, fault in [(magic != MAGIC, "C2 bad magic"), (not 1 <= cpus <= container.MOST_CPUS, "C3 bad count: cpus"),
+    for failed, fault in [(magic not in VERSIONS, "C2 bad magic"), (not 1 <= cpus <= container.MOST_CPUS, "C3 bad count: cpus"),
                           (formats > container.MOST_FORMATS, "C3 bad count: formats"), (start > end, "C3 bad count: span")]:
         if failed:
             raise BadRecording(fault)
-    return cpus, formats, start, end
+    return VERSIONS[magic], cpus, formats, start, end
 
 
 def read_formats(data, at, count):
@@ -87,13 +130,22 @@ def read_formats(data, at, count):
     return found, at
 
 
-def read_events(data, at, cpu, count, contents, take):
-    """Hands so many events of a CPU on, each with its time, process, thread's name and ID, and tells where they end."""
+def read_entries(data, at, cpu, count, contents, take):
+    """Hands the events of so many entries of a CPU on, each with its time, process, thread's name and ID, and notes the marks. Tells where the
+    entries end."""
     number, place = cpu
     sizes = {format.layout.number: format.layout.size for format in contents.formats}
-    least, latest = contents.start, contents.end
+    least, latest, is_marked = contents.start, contents.end, contents.version == 2
     unpack, head, length = EVENT.unpack_from, EVENT.size, len(data)
-    for event in range(count):
+    for entry in range(count):
+        if is_marked:
+            kind = data[whole(data, at, 1) - 1]
+            if kind == MARK_KIND:
+                at, least = read_mark(data, at, (number, place, entry), least, contents)
+                continue
+            if kind != EVENT_KIND:
+                raise BadRecording(f"C12 bad entry in event {entry} of cpu {place}")
+            at += 1
         if at + head > length:
             raise BadRecording(f"C1 truncated at byte {length}")
         time, process, _, _, _, name, size = unpack(data, at)
@@ -102,24 +154,37 @@ def read_events(data, at, cpu, count, contents, take):
         if at > length:
             raise BadRecording(f"C1 truncated at byte {length}")
         if not least <= time <= latest:
-            raise BadRecording(f"C7 time order in event {event} of cpu {place}")
+            raise BadRecording(f"C7 time order in event {entry} of cpu {place}")
         if size < 2:
-            raise BadRecording(f"C9 short payload in event {event} of cpu {place}")
+            raise BadRecording(f"C9 short payload in event {entry} of cpu {place}")
         which = data[payload] | data[payload + 1] << 8
         if which not in sizes:
-            raise BadRecording(f"C8 unknown id in event {event} of cpu {place}")
+            raise BadRecording(f"C8 unknown id in event {entry} of cpu {place}")
         if size < sizes[which]:
-            raise BadRecording(f"C9 short payload in event {event} of cpu {place}")
+            raise BadRecording(f"C9 short payload in event {entry} of cpu {place}")
         least = time
         take(number, time, process, name, which)
     return at
 
 
+def read_mark(data, at, where, least, contents):
+    """Notes a mark: `where` has the number and the place of its CPU, and its own place. Tells where it ends, and its time."""
+    number, place, entry = where
+    end = whole(data, at, MARK.size)
+    _, time, count = MARK.unpack_from(data, at)
+    if not least <= time <= contents.end:
+        raise BadRecording(f"C7 time order in event {entry} of cpu {place}")
+    if not count:
+        raise BadRecording(f"C13 empty mark in event {entry} of cpu {place}")
+    contents.marks.add(number, time, count)
+    return end, time
+
+
 def read_recording(data, take=lambda *event: None):
     """What a recording's bytes hold. Each event is handed to `take` with its CPU, time, process, thread's name and ID."""
-    cpus, formats, start, end = read_header(data)
+    version, cpus, formats, start, end = read_header(data)
     found, at = read_formats(data, HEADER.size, formats)
-    contents = Contents(start, end, found, [])
+    contents = Contents(start, end, found, [], version=version)
     before, announced = -1, 0
     for place in range(cpus):
         behind = whole(data, at, CPU.size)
@@ -127,10 +192,10 @@ def read_recording(data, take=lambda *event: None):
         if number <= before:
             raise BadRecording(f"C6 bad cpu number at cpu {place}")
         announced += count
-        if announced > container.MOST_EVENTS:
+        if announced > container.MOST_ENTRIES:
             raise BadRecording("C3 bad count: events")
         contents.begins.append(behind)
-        at = read_events(data, behind, (number, place), count, contents, take)
+        at = read_entries(data, behind, (number, place), count, contents, take)
         contents.cpus.append((number, count))
         before = number
     if at < len(data):
@@ -170,16 +235,23 @@ def opened(path, take=lambda *event: None):
         raise Refused(f"{path}: {fault}", RECORDING) from fault
 
 
-def events_of(data, contents, place):
-    """The events of the CPU at this place of a recording that was checked, in their order."""
+def entries_of(data, contents, place):
+    """The events and marks of the CPU at this place of a recording that was checked, in their order."""
     number, count = contents.cpus[place]
-    at, unpack, head = contents.begins[place], EVENT.unpack_from, EVENT.size
+    at, unpack, head, is_marked = contents.begins[place], EVENT.unpack_from, EVENT.size, contents.version == 2
     for _ in range(count):
+        if is_marked:
+            if data[at] == MARK_KIND:
+                _, time, lost = MARK.unpack_from(data, at)
+                yield Mark(time, number, lost, at, at + MARK.size)
+                at += MARK.size
+                continue
+            at += 1
         time, process, thread, user, group, name, size = unpack(data, at)
         yield Event(time, number, process, thread, user, group, name, at, at + head, at + head + size)
         at += head + size
 
 
 def by_time(data, contents):
-    """The events of all CPUs by their times, and those of one time in the order of the CPUs."""
-    return heapq.merge(*(events_of(data, contents, place) for place in range(len(contents.cpus))), key=lambda event: event.time)
+    """The events and marks of all CPUs by their times, and those of one time in the order of the CPUs."""
+    return heapq.merge(*(entries_of(data, contents, place) for place in range(len(contents.cpus))), key=lambda entry: entry.time)

@@ -7,17 +7,18 @@ import sys
 import tempfile
 import time
 from bisect import bisect_left
+from collections import Counter
 from dataclasses import dataclass, field
 
 import container
-from assembly import PAST_LIMITS, Assembly
+from assembly import Assembly
 from command import Command
-from container import format_of, test_formats
+from container import Lost, format_of, test_formats
 from faults import WORDS, WRITE, Ended, Refused, of_file
 from instance import Instance, contents, own_name, remove_left, started
 from latest import RollingLooks, fits_from, whole_from
 from life import Silence, Signs, told_growing, told_rolling, told_start
-from ring import Records, page_shape
+from ring import Losses, Records, page_shape
 from signals import Signals, name_of
 from spool import windows
 from tasks import Looks, Tasks, task_changes
@@ -71,14 +72,17 @@ def test_kilobytes(kilobytes):
 
 @dataclass
 class Recorded:
-    """What is known of a recording when its time is over. Times are in nanoseconds; `full_at` is when nothing more was kept."""
+    """What is known of a recording when its time is over. Times are in nanoseconds; `full_at` is when nothing more was kept.
+
+    Of each CPU it is known how many events were read, were lost, and came when nothing more was kept.
+    """
 
     start: int = 0
     end: int = 0
     full_at: int = None
-    read: int = 0
-    lost: int = 0
-    uncounted: int = 0
+    read: dict = field(default_factory=dict)
+    lost: dict = field(default_factory=dict)
+    uncounted: dict = field(default_factory=dict)
     overwritten: int = 0
     signal: int = None
     cause: str = None
@@ -145,7 +149,7 @@ class Recorder:
         if self.is_enough:
             self.signs.close()
             self.done.full_at = now
-            self.done.lost = self.main.counts()[2]
+            self.done.lost = {cpu: lost for cpu, (_, _, lost) in self.main.counts_of_cpus().items()}
             self.tasks.switch(False)
             print(f"btrecord: the recording is full after {(now - self.done.start) / 1e9:.3f} s; what comes now is only counted", file=sys.stderr)
         self.is_enough = self.holds_enough()
@@ -166,19 +170,27 @@ class Recorder:
     def holds_enough(self):
         """Whether what is kept so far is all that a recording holds."""
         kept = sum(ring.spool.bytes for ring in self.main.rings.values())
-        if kept < min(LEAST_RING_BYTES * container.MOST_EVENTS, container.MOST_BYTES // 4):
+        if kept < min(LEAST_RING_BYTES * container.MOST_ENTRIES, container.MOST_BYTES // 4):
             return False
         events = self.main.counts()[0]
-        return events >= container.MOST_EVENTS or kept + MORE_BYTES * events >= container.MOST_BYTES
+        return events >= container.MOST_ENTRIES or kept + MORE_BYTES * events >= container.MOST_BYTES
 
     def count(self):
         """What the kernel counted; behind the time at which the recording was full nothing is lost, but not kept."""
-        read, entries, lost = self.main.counts()
-        self.done.read = read
+        counts = self.main.counts_of_cpus()
+        self.done.read = {cpu: read for cpu, (read, _, _) in counts.items()}
         if self.done.full_at:
-            self.done.uncounted = entries + lost - self.done.lost
+            self.done.uncounted = {cpu: entries + lost - self.done.lost[cpu] for cpu, (_, entries, lost) in counts.items()}
         else:
-            self.done.lost = lost
+            self.done.lost = {cpu: lost for cpu, (_, _, lost) in counts.items()}
+
+    def losses(self):
+        """What each CPU lost; from now on its records have marks of it."""
+        found = {}
+        for cpu, spool in self.main.spools().items():
+            spool.has_marks, found[cpu] = True, spool.losses
+            spool.losses.settle(self.done.lost[cpu])
+        return found
 
 
 class LatestRecorder(Recorder):
@@ -198,9 +210,14 @@ class LatestRecorder(Recorder):
 
     def count(self):
         """What the kernel counted. What was overwritten is not lost, since later events were wanted."""
-        self.done.read, _, lost = self.main.counts()
-        self.done.overwritten = self.main.overwritten()
-        self.done.lost = lost - self.done.overwritten
+        counts, overwritten = self.main.counts_of_cpus(), self.main.overwritten_of_cpus()
+        self.done.read = {cpu: read for cpu, (read, _, _) in counts.items()}
+        self.done.overwritten = sum(overwritten.values())
+        self.done.lost = {cpu: lost - overwritten[cpu] for cpu, (_, _, lost) in counts.items()}
+
+    def losses(self):
+        """What each CPU lost. Its pages tell of events that later ones overwrote, which is no loss."""
+        return {cpu: Losses(counted=lost) for cpu, lost in self.done.lost.items()}
 
 
 class Target:
@@ -248,6 +265,7 @@ class Asked:
 
     Patterns of tracepoints, for how many seconds (none: until a signal comes), with rings of so many kilobytes; only what some processes
     or a command do, but for a command with `is_all`; only events for which the expression of a pattern holds; and of all events the latest.
+    Marks of lost events are made unless `with_marks` is not set.
     """
 
     patterns: list
@@ -259,6 +277,7 @@ class Asked:
     is_all: bool = False
     filters: list = ()
     keeps_latest: bool = False
+    with_marks: bool = True
     tell: object = None
 
     @property
@@ -281,22 +300,25 @@ class Made:
 class Joining:
     """Puts the events into an assembly, with what is known of their threads when they came."""
 
-    def __init__(self, recorder, texts, formats, folder):
+    def __init__(self, recorder, texts, formats, folder, with_marks=True):
         self.recorder = recorder
         self.texts = texts
         self.formats = formats
         self.folder = folder
+        self.with_marks = with_marks
         self.assembly = None
         self.own = 0
-        self.handled = 0
+        self.handled = Counter()
         self.begin = 0
-        self.before = 0
+        self.before = Counter()
 
     def keep_latest(self):
         """Leaves out what is before the time from which on all events of all CPUs are there, and fit."""
         main = self.recorder.main
-        room = container.MOST_BYTES - container.head_bytes(self.formats, len(cpus_of(main)))
-        self.begin = max(whole_from(main), fits_from(main.spools(), room, self.recorder.go_on))
+        cpus = len(cpus_of(main))
+        room = container.MOST_BYTES - container.head_bytes(self.formats, cpus)
+        marks = cpus if self.with_marks and any(self.recorder.done.lost.values()) else 0
+        self.begin = max(whole_from(main), fits_from(main.spools(), room, self.recorder.go_on, marks))
 
     def later(self, window):
         """Of the events of some CPUs those that are not left out."""
@@ -305,21 +327,23 @@ class Joining:
         found = []
         for cpu, of in window:
             first = bisect_left(of.times, self.begin)
-            self.before += first
+            self.before[cpu] += first
             found.append((cpu, Records(of.times[first:], of.threads[first:], of.payloads[first:])))
         return [(cpu, of) for cpu, of in found if of.times]
 
     def steps(self):
         """Puts the events of a short span of time into it, and answers that there may be more, until all are in it that fit."""
         done, main = self.recorder.done, self.recorder.main
-        self.assembly = Assembly(self.formats, cpus_of(main), self.folder)
+        self.assembly = Assembly(self.formats, cpus_of(main), self.folder, self.with_marks)
+        self.losses = self.recorder.losses()
         of_kernel = task_changes(self.texts, windows(self.recorder.tasks.spools()))
         self.tasks = Tasks(heapq.merge(self.recorder.looks.changes(), of_kernel, key=lambda change: change.time))
         latest = done.full_at or float("inf")
         for until, found in windows(main.spools(), lambda time: self.tasks.until(min(time, latest))):
             found = self.later(found)
             self.assembly.take_window([(cpu, of.times, [self.tasks.head(thread, cpu) for thread in of.threads], of.payloads) for cpu, of in found])
-            self.handled += sum(len(of.times) for _, of in found)
+            for cpu, of in found:
+                self.handled[cpu] += len(of.times) - sum(isinstance(payload, Lost) for payload in of.payloads)
             self.own += sum(of.threads.count(os.getpid()) for _, of in found)
             if until == latest or self.assembly.is_full:
                 return
@@ -330,10 +354,15 @@ class Joining:
         """Does what is left of the steps. Answers what is to be told."""
         for _ in steps:
             self.recorder.go_on()
-        done = self.recorder.done
+        done, end = self.recorder.done, self.recorder.done.full_at or self.recorder.done.end
+        for cpu, losses in self.losses.items():
+            if losses.at_end:
+                self.assembly.lose(cpu, max(end, self.assembly.last or 0), losses.at_end)
         if done.full_at or self.assembly.is_full:
-            self.assembly.leave_out(PAST_LIMITS, max(done.read - self.handled, 0) + done.uncounted)
-        share = f"{self.own:,} of the {self.handled:,} ({100 * self.own / max(self.handled, 1):.1f} %) are btrecord's own"
+            for cpu, read in done.read.items():
+                self.assembly.miss(cpu, max(read - self.handled[cpu] - self.before[cpu], 0) + done.uncounted.get(cpu, 0), end)
+        handled = sum(self.handled.values())
+        share = f"{self.own:,} of the {handled:,} ({100 * self.own / max(handled, 1):.1f} %) are btrecord's own"
         notes = [share] if self.own else []
         return notes + ([f"nothing is known of {len(self.tasks.unknown):,} threads"] if self.tasks.unknown else [])
 
@@ -388,7 +417,7 @@ def recorded(top, asked, wanted, filters, output, signals, target, notes):
         formats = [format for pair, format in zip(wanted.pairs, wanted.formats) if pair in enabled]
         if not formats:
             raise Refused(told_left_out({**wanted.left_out, **main.left_out}))
-        joining = Joining(recorder, texts, formats, output.folder)
+        joining = Joining(recorder, texts, formats, output.folder, asked.with_marks)
         steps = joining.steps()
         if asked.tell:
             asked.tell([told_start(asked, len(formats), len(online() & set(main.rings)), output.name)])
@@ -416,13 +445,15 @@ def written(done, joining, steps, output, asked, notes):
         joining.assembly.write(file, start, end)
     if asked.keeps_latest:
         notes = told_before(done, joining) + notes
-    return Made(joining.assembly, done.lost, [told_span(done, asked, end - start)] + notes, signal=done.signal)
+    lost = sum(losses.total + losses.at_end for losses in joining.losses.values())
+    return Made(joining.assembly, lost, [told_span(done, asked, end - start)] + notes, signal=done.signal)
 
 
 def told_before(done, joining):
     """What came before a recording that keeps the latest events."""
     told = [f"{done.overwritten:,} earlier events were overwritten"]
-    return told + ([f"{joining.before:,} more were left out, so that it has all events of all CPUs from its start on"] if joining.before else [])
+    before = sum(joining.before.values())
+    return told + ([f"{before:,} more were left out, so that it has all events of all CPUs from its start on"] if before else [])
 
 
 def told_left_out(left_out):

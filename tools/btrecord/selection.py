@@ -89,6 +89,10 @@ class Selection:
             return False
         return not self.names or self.takes_name(event.name)
 
+    def takes_mark(self, mark):
+        """Whether a mark is asked for: by its time alone, since nobody knows what the lost events were."""
+        return self.start <= mark.time <= self.end
+
     def takes_name(self, name):
         """Whether a thread's name is asked for. Each name is looked at once."""
         found = self.is_name.get(name)

@@ -4,26 +4,30 @@ import struct
 from bisect import bisect_right
 
 from output import nameless
-from ring import Records, take_records
+from ring import Losses, Records, take_mark, take_records
 
 LENGTH = struct.Struct("<I")
 PAGES_AT_ONCE = 16
 
 
 class Spool:
-    """The pages of one CPU's ring, in the order in which they were read."""
+    """The pages of one CPU's ring, in the order in which they were read. Marks stand among its records where `has_marks` holds."""
 
     def __init__(self, folder, shape):
         self.file = nameless(folder)
         self.shape = shape
         self.bytes = 0
+        self.losses = Losses()
+        self.has_marks = False
 
-    def add(self, page):
-        """Keeps a page up to where its records end."""
+    def add(self, page, so_far=lambda: 0):
+        """Keeps a page up to where its records end. `so_far` answers how many events the kernel counted as lost so far."""
         end = self.shape.end(page)
         if end > self.shape.data:
-            self.file.write(LENGTH.pack(end) + page[:end])
+            whole = self.shape.whole(page)
+            self.file.write(LENGTH.pack(len(whole)) + whole)
             self.bytes += end - self.shape.data
+            self.losses.see(self.shape.lost_before(page), so_far)
 
     def pages(self):
         """The pages that were kept, in their order."""
@@ -33,15 +37,19 @@ class Spool:
 
     def chunks(self):
         """All records, those of some pages at a time."""
-        return chunks_of(self.pages(), self.shape)
+        return chunks_of(self.pages(), self.shape, self.losses if self.has_marks else None)
 
 
-def chunks_of(pages, shape):
-    """The records of a CPU's pages, those of some pages at a time."""
-    latest = 0
+def chunks_of(pages, shape, losses=None):
+    """The records of a CPU's pages, those of some pages at a time, with marks of what it lost where that is given."""
+    latest = gaps = 0
     while True:
         found, count = Records([latest], [0], [b""]), 0
         for page in itertools.islice(pages, PAGES_AT_ONCE):
+            lost = shape.lost_before(page) if losses else None
+            if lost is not None:
+                take_mark(found, page, lost or losses.shares[gaps])
+                gaps += not lost
             take_records(found, page, shape)
             count += 1
         if not count:

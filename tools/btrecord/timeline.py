@@ -6,7 +6,7 @@ stand apart. What neither begins nor ends is a mark. Times are in microseconds f
 import json
 import re
 
-from reading import by_time
+from reading import Mark, by_time
 from values import shown, values_of
 
 # Numbers of processes that Linux does not give (they are below 2^22), for what belongs to no process.
@@ -110,6 +110,13 @@ class Timeline:
         else:
             yield self.spelled("i", self.track_of(kind, event), event.time, kind.name, kind.system, fields, ',"s":"t"')
 
+    def lost(self, mark):
+        """What tells of lost events, at the CPU that lost them."""
+        track = CPUS, 2 * mark.cpu + 1
+        self.tracks[track] = f"cpu {mark.cpu}"
+        count = mark.count if mark.count < MOST_EXACT else str(mark.count)
+        return self.spelled("i", track, mark.time, "lost events", "btrecord", {"count": count}, ',"s":"t"')
+
     def key(self, kind, fields):
         """What both ends of a span have in common."""
         return kind.system, kind.what, next((fields[key] for key in KEYS if key in fields), None)
@@ -196,7 +203,11 @@ def timeline(data, contents, selection):
     yield f'{{"displayTimeUnit":"ns","otherData":{{"start_ns":"{selection.start}","end_ns":"{selection.end}"}},"traceEvents":[\n'
     between = ""
     for event in by_time(data, contents):
-        if selection.takes(data, event):
+        if isinstance(event, Mark):
+            if selection.takes_mark(event):
+                yield between + made.lost(event)
+                between = ",\n"
+        elif selection.takes(data, event):
             for spelled in made.take(event, data[event.payload:event.end]):
                 yield between + spelled
                 between = ",\n"

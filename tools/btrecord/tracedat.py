@@ -5,12 +5,12 @@ The pages trace-cmd.dat.v6(5) and trace-cmd.dat.v7(5) describe them.
 import re
 from dataclasses import dataclass, field
 
-from assembly import PAST_LIMITS, Assembly
-from container import format_of, test_formats
+from assembly import Assembly
+from container import Lost, format_of, test_formats
 from faults import Ended, Refused
 from perfdata import Reader
 from record import TASK_EVENTS, Made
-from ring import page_shape
+from ring import Losses, page_shape
 from signals import Signals, name_of
 from spool import chunks_of, windows
 from tasks import Change, Tasks, task_changes
@@ -25,7 +25,7 @@ MOST_PAGE = 1 << 20
 MOST_TIME = (1 << 64) - 1
 # The clocks whose times are in nanoseconds.
 CLOCKS = {"local", "global", "mono", "mono_raw", "boot", "tai", "perf"}
-LOST = re.compile(r"^(?:overrun|commit overrun|dropped events): (\d+)$", re.MULTILINE)
+LOST = re.compile(r"^(?:overrun|commit overrun|dropped events): (\d{1,20})$", re.MULTILINE)
 NO_PROCESSES = "the file does not tell processes: each thread counts as one, but for threads whose task:task_newtask is among the events"
 
 
@@ -34,7 +34,7 @@ class Pages:
 
     def __init__(self, data, at, size, page_bytes, packing=None):
         self.data, self.at, self.size, self.page_bytes = data, at, size, page_bytes
-        self.shape, self.packing, self.blocks = None, packing, ()
+        self.shape, self.packing, self.blocks, self.losses = None, packing, (), None
         if at + size > len(data):
             raise Refused(f"the data of a CPU ends too soon, at byte {len(data)}")
         if packing and size:
@@ -46,10 +46,20 @@ class Pages:
             self.data, self.packing = self.packing.plain_file(self.data, self.blocks, folder), None
             self.at, self.size = 0, len(self.data)
 
+    def pages(self):
+        """The pages, in their order."""
+        return (self.data[at:at + self.page_bytes] for at in range(self.at, self.at + self.size, self.page_bytes))
+
+    def find_losses(self, counted):
+        """Finds what the pages tell of losses, of which the kernel counted so many events. From now on marks stand among the records."""
+        self.losses = Losses()
+        for page in self.pages():
+            self.losses.see(self.shape.lost_before(page))
+        self.losses.settle(counted)
+
     def chunks(self):
         """All records, those of some pages at a time."""
-        pages = (self.data[at:at + self.page_bytes] for at in range(self.at, self.at + self.size, self.page_bytes))
-        for found in chunks_of(pages, self.shape):
+        for found in chunks_of(self.pages(), self.shape, self.losses):
             if found.times and found.times[-1] > MOST_TIME:
                 raise Refused("a page of the kernel's ring buffer has a time that no clock has")
             yield found
@@ -233,19 +243,34 @@ def assemble(found, formats, assembly, signals):
     """Puts the events into the assembly, and answers for how many threads nothing is known."""
     texts = [format for format in formats if format.name in [f"task:{event}" for event in TASK_EVENTS]]
     tasks = Tasks([*names_in(found.names), *(task_changes(texts, windows(found.cpus)) if texts else ())])
+    # What tells of tasks was read before there are marks among the records.
+    for cpu, pages in found.cpus.items():
+        pages.find_losses(found.lost.get(f"CPU: {cpu}", 0))
     for until, window in windows(found.cpus, tasks.until):
         came = signals.wait(0)
         if came:
             raise Ended(came, name_of(came))
         if assembly.is_full:
-            assembly.leave_out(PAST_LIMITS, sum(len(of.times) for _, of in window))
+            pass_over(window, assembly)
         else:
             assembly.take_window([(cpu, of.times, [tasks.head(thread, cpu) for thread in of.threads], of.payloads) for cpu, of in window])
         tasks.go_to(until + 1)
+    for cpu, pages in found.cpus.items():
+        if pages.losses.at_end:
+            assembly.lose(cpu, assembly.last or 0, pages.losses.at_end)
     return len(tasks.unknown)
 
 
-def convert_trace(data, path, open_output):
+def pass_over(window, assembly):
+    """Counts what comes once the assembly is full."""
+    for cpu, of in window:
+        marks = [payload for payload in of.payloads if isinstance(payload, Lost)]
+        assembly.miss(cpu, len(of.times) - len(marks), of.times[0])
+        for lost in marks:
+            assembly.lose(cpu, lost.time, lost.count)
+
+
+def convert_trace(data, path, open_output, with_marks=True):
     """Makes a recording of a file of trace-cmd, and writes it to what `open_output` answers."""
     found = read(data, path)
     formats, notes = formats_of(found)
@@ -253,7 +278,7 @@ def convert_trace(data, path, open_output):
         for pages in found.cpus.values():
             pages.unpack(output.folder)
         with Signals() as signals:
-            assembly = Assembly(formats, found.cpus, output.folder)
+            assembly = Assembly(formats, found.cpus, output.folder, with_marks)
             unknown = assemble(found, formats, assembly, signals)
             start, end = assembly.span(assembly.first or 0, assembly.last or 0)
             with output.writing() as file:
@@ -263,4 +288,5 @@ def convert_trace(data, path, open_output):
         notes.append("its clock is local: times of different CPUs may differ a little (trace-cmd record -C mono has one for all)")
     if found.others:
         notes.append(f"{found.others} other instances of the file are left out")
-    return Made(assembly, sum(found.lost.values()), notes)
+    without_pages = sum(lost for name, lost in found.lost.items() if name not in {f"CPU: {cpu}" for cpu in found.cpus})
+    return Made(assembly, sum(pages.losses.total + pages.losses.at_end for pages in found.cpus.values()) + without_pages, notes)

@@ -87,6 +87,7 @@ def words():
     to_cut = commands.add_parser("cut", help="write a part of a recording, as a recording")
     for command in (to_record, to_convert, to_cut):
         command.add_argument("-o", dest="output", metavar="FILE", required=True, help="the recording; - is standard output")
+        command.add_argument("--v1", action="store_true", help="as BTRACE01, without the marks that tell of lost events")
     to_dump = commands.add_parser("dump", help="print a recording's events, as perf script does")
     to_dump.add_argument("--chrome", action="store_true", help="as a timeline for a trace viewer (JSON)")
     to_dump.add_argument("-o", dest="output", metavar="FILE", help="where to; without it standard output")

@@ -41,16 +41,18 @@ SCRIPT = {
 }
 RECORDING = {
     "C1": "The file ends inside a part: it was cut, or is no recording.",
-    "C2": "The file does not begin with BTRACE01, so it is no recording.",
-    "C3": "There are no CPUs or more than 64, more than 4,096 formats or 1,048,576 events, or the recording starts after it ends.",
+    "C2": "The file begins with neither BTRACE01 nor BTRACE02, so it is no recording.",
+    "C3": "There are no CPUs or more than 64, more than 4,096 formats or 1,048,576 events and marks, or the recording starts after it ends.",
     "C4": "The text of a format, counted from 0, is no format text of tracefs.",
     "C5": "An earlier format has the same ID, or the same system and name.",
     "C6": "The CPUs' numbers do not rise.",
-    "C7": "An event is before the recording's start, before the event in front of it on its CPU, or after the end.",
+    "C7": "An event or a mark is before the recording's start, before the one in front of it on its CPU, or after the end.",
     "C8": "No format has the ID in the first two bytes of an event.",
     "C9": "An event has fewer bytes than its format needs.",
-    "C10": "Something follows the last event.",
+    "C10": "Something follows the last event or mark.",
     "C11": "A system's name is not 1 to 64 letters, digits, _ or -.",
+    "C12": "In a recording of version 2 something stands where an event or a mark begins that is neither.",
+    "C13": "A mark tells that no event was lost.",
 }
 MENDED_RECORDING = "Recordings that btrecord writes have no such fault, so this file was damaged or made by another program: record or convert it again."
 LONG = {

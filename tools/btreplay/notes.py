@@ -15,6 +15,8 @@ UNITS = {"s": 1_000_000_000, "ms": 1_000_000, "us": 1_000}
 def about_order(probes, head):
     """One line where what the script prints depends on the order of CPUs: none for a recording of one CPU."""
     reasons = reasons_of(probes) if head is None or head.cpus > 1 else []
+    if head and head.cpus > 1 and head.version == 2:
+        reasons = reasons + ["lost events are told as each CPU comes to them"]
     if not reasons:
         return []
     return [f"{', and '.join(reasons)}, so the answer depends on the order of CPUs; run --serial takes all events by their times"]

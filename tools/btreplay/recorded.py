@@ -19,20 +19,23 @@ if str(TOOLS / "btrecord") not in sys.path:
     sys.path.append(str(TOOLS / "btrecord"))
 
 import reading  # noqa: E402  (the line above finds it)
-from container import CPU, EVENT, HEADER, MAGIC, MOST_BYTES  # noqa: E402
+from container import CPU, EVENT, EVENT_KIND, HEADER, MARK, MARK_KIND, MOST_BYTES, VERSIONS  # noqa: E402
 
 LENGTH = struct.Struct("<I")
+MAGIC_BYTES = 8
 SOME_EVENTS = 65_536
 
 
 @dataclass(frozen=True)
 class Head:
-    """What stands before a recording's events: its formats, its span in nanoseconds, how many CPUs it has, and where the events begin."""
+    """What stands before a recording's entries: its formats, its span in nanoseconds, how many CPUs it has, where the entries begin, and the
+    version."""
 
     formats: list
     span: int
     cpus: int
     behind: int
+    version: int
 
 
 @contextlib.contextmanager
@@ -55,18 +58,18 @@ def begins_a_recording(path):
     with contextlib.suppress(OSError):
         if stat.S_ISREG(os.stat(path).st_mode):
             with open(path, "rb") as file:
-                return file.read(len(MAGIC)) == MAGIC
+                return file.read(MAGIC_BYTES) in VERSIONS
     return False
 
 
 def head_of(data):
     """What stands before the events in a recording's bytes, or none where that is damaged."""
     try:
-        cpus, formats, start, end = reading.read_header(data)
+        version, cpus, formats, start, end = reading.read_header(data)
         found, behind = reading.read_formats(data, HEADER.size, formats)
     except reading.BadRecording:
         return None
-    return Head(found, end - start, cpus, behind)
+    return Head(found, end - start, cpus, behind, version)
 
 
 def head_of_file(path):
@@ -83,13 +86,20 @@ def without_events(data, head, groups, until):
         for _ in range(head.cpus):
             _, count = CPU.unpack_from(data, at)
             at += CPU.size
-            for event in range(count):
+            for entry in range(count):
+                if head.version == 2:
+                    if data[at] != EVENT_KIND:
+                        if data[at] != MARK_KIND:
+                            return set()
+                        at += MARK.size
+                        continue
+                    at += 1
                 payload = at + EVENT.size
                 which = data[payload] | data[payload + 1] << 8
                 if which in wanted:
                     left = {key: group for key, group in left.items() if which not in group}
                     wanted = set().union(*left.values())
-                if not left or event % SOME_EVENTS == 0 and time.monotonic() > until:
+                if not left or entry % SOME_EVENTS == 0 and time.monotonic() > until:
                     return set()
                 at = payload + LENGTH.unpack_from(data, payload - LENGTH.size)[0]
         return set(left) if at == size else set()

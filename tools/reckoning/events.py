@@ -1,10 +1,13 @@
-"""The events of a recording in the order of their times, with their fields, as docs/RECORDINGS.md describes them."""
+"""The events and marks of a recording in the order of their times, with their fields, as docs/RECORDINGS.md describes them."""
 import re
 import struct
 from dataclasses import dataclass
 
 HEADER = struct.Struct("<8sIIQQ")
 EVENT = struct.Struct("<QIIII16sI")
+MARK = struct.Struct("<QQ")
+# The name of a mark of lost events, which no tracepoint has. Its one field is `count`.
+LOST = "lost"
 FIELD = re.compile(r"field:(.*?)(\w*)(\[\w*\])?;\s*offset:(\d+);\s*size:(\d+);\s*signed:([01]);")
 
 
@@ -63,9 +66,9 @@ def read_formats(data, place, count):
 
 
 def read_recording(data):
-    """The start of a recording and its events by time; those of one time by CPU, and those of one CPU as they stand in the file."""
+    """The start of a recording and its events and marks by time; those of one time by CPU, and those of one CPU as they stand in the file."""
     magic, cpus, formats, start, _ = HEADER.unpack_from(data)
-    if magic != b"BTRACE01":
+    if magic not in (b"BTRACE01", b"BTRACE02"):
         raise ValueError("no recording")
     formats, place = read_formats(data, HEADER.size, formats)
     events = []
@@ -73,6 +76,13 @@ def read_recording(data):
         cpu, count = struct.unpack_from("<II", data, place)
         place += 8
         for _ in range(count):
+            if magic == b"BTRACE02":
+                place += 1
+                if data[place - 1] == 1:
+                    time, lost = MARK.unpack_from(data, place)
+                    place += MARK.size
+                    events.append(Event(LOST, cpu, time, 0, 0, "", {"count": lost}))
+                    continue
             time, pid, tid, _, _, comm, length = EVENT.unpack_from(data, place)
             payload = data[place + EVENT.size:place + EVENT.size + length]
             place += EVENT.size + length

@@ -1,6 +1,7 @@
 """The questions of examples/ that are worked out here. Each takes the recording's start and its events by time, and answers the text."""
 from collections import defaultdict
 
+from reckoning.events import LOST
 from reckoning.layout import histograms_text, map_text
 
 SWITCH = "sched:sched_switch"
@@ -117,5 +118,20 @@ def block_pattern(start, events):
             + map_text("@kibibytes", {key: sum(number // 1024 for number in numbers) for key, numbers in sizes.items()}))
 
 
+def lost_events(start, events):
+    """The calls up to each tick, which stands before what has its time, and each mark where it comes."""
+    text, calls, ticks = "", 0, 1
+    for event in events:
+        while event.time >= start + 50_000 * ticks:
+            text, calls, ticks = text + f"{50 * ticks:3} us: {calls:3} calls\n", 0, ticks + 1
+        if event.name == LOST:
+            text += f"WARNING: {event.fields['count']} events lost on cpu {event.cpu}\n"
+        elif event.name == "raw_syscalls:sys_enter":
+            calls += 1
+    return text + f"the rest: {calls} calls\n"
+
+
+# The recordings of those questions whose recording is not small.btr.
+RECORDINGS = {"lost_events": "lossy.btr"}
 QUESTIONS = {question.__name__: question for question in (
-    time_off_cpu, run_lengths, block_requests, open_calls, call_time, long_waits, write_back, block_pattern)}
+    time_off_cpu, run_lengths, block_requests, open_calls, call_time, long_waits, write_back, block_pattern, lost_events)}

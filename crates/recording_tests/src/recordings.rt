@@ -118,7 +118,7 @@ format:\n\
     ),
     // A header that lacks a byte, which comes before its magic.
     (
-        b"BTRACE02\x01\0\0\0\0\0\0\0\0\0\0\0\0\0\0\0\0\0\0\0\0\0\0",
+        b"BTRACE03\x01\0\0\0\0\0\0\0\0\0\0\0\0\0\0\0\0\0\0\0\0\0\0",
         Some(RecordingError::Truncated(31)),
     ),
     // A part that is not there.
@@ -140,7 +140,7 @@ format:\n\
     ),
     // Another magic.
     (
-        b"BTRACE02\x01\0\0\0\0\0\0\0\0\0\0\0\0\0\0\0\0\0\0\0\0\0\0\0",
+        b"BTRACE03\x01\0\0\0\0\0\0\0\0\0\0\0\0\0\0\0\0\0\0\0\0\0\0\0",
         Some(RecordingError::BadMagic),
     ),
     // No CPU; 65 of them; then too many formats; then the span.

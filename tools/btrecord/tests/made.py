@@ -11,7 +11,8 @@ HERE = os.path.dirname(os.path.abspath(__file__))
 TOP = os.path.dirname(os.path.dirname(os.path.dirname(HERE)))
 sys.path.insert(0, os.path.dirname(HERE))
 
-from container import format_of  # noqa: E402
+from container import Lost, format_of  # noqa: E402
+from reading import Mark, entries_of, read_recording  # noqa: E402
 from tasks import Task  # noqa: E402
 
 TEXT = b"name: tick\nID: 300\nformat:\n\tfield:int n;\toffset:8;\tsize:4;\tsigned:1;\n"
@@ -52,6 +53,26 @@ def page(time, *parts):
     """A page of these parts, in a buffer of 4,096 bytes."""
     data = b"".join(parts)
     return (struct.pack("<QQ", time, len(data)) + data).ljust(4096, b"\xee")
+
+
+def missed(contents, count=None):
+    """A page before which events were lost: so many, which stands behind its records, or nobody knows how many."""
+    commit = struct.unpack_from("<Q", contents, 8)[0]
+    number = b"" if count is None else struct.pack("<Q", count)
+    whole = contents[:8] + struct.pack("<Q", commit | 1 << 31 | (0 if count is None else 1 << 30)) + contents[16:16 + commit] + number
+    return whole + contents[len(whole):]
+
+
+def lost(time, count):
+    """A mark."""
+    return Lost(time, count)
+
+
+def entries(contents):
+    """The entries of each CPU of a recording: an event as its time, and a mark."""
+    found = read_recording(contents)
+    return {number: [lost(entry.time, entry.count) if isinstance(entry, Mark) else entry.time for entry in entries_of(contents, found, place)]
+            for place, (number, _) in enumerate(found.cpus)}
 
 
 def ticks(time, *payloads):

@@ -12,8 +12,9 @@ import time
 import unittest
 import unittest.mock
 
-from made import HEADER_PAGE, HERE, OTHER_TEXT, TOP, Kernel, payload, program, ticks
+from made import HEADER_PAGE, HERE, OTHER_TEXT, TOP, Kernel, entries, lost, missed, payload, program, ticks
 
+from container import Lost
 from faults import READ, WORDS, Refused
 from instance import own_name, write
 from latest import RollingLooks, fits_from
@@ -35,6 +36,11 @@ def dead():
     process = subprocess.Popen(["true"])
     process.wait()
     return process.pid
+
+
+def sorted_rings(instance):
+    """All CPUs of an instance, which may be more than are on."""
+    return sorted(instance.rings)
 
 
 class Tree(unittest.TestCase):
@@ -189,9 +195,14 @@ class Latest(Tree):
         spools = self.spools({0: [ticks(k, payload()) for k in range(1, 40)], 1: [ticks(20, payload(), payload()), ticks(38, payload())]})
         # By time there are 1, 2, .., 19, twice 20, twice 21, 22, .., 37, twice 38, and 39: 42 events.
         for most, begin in [(42, 0), (41, 2), (24, 19), (23, 20), (22, 21), (21, 21), (20, 22), (4, 37), (3, 38), (2, 39), (1, 39)]:
-            with unittest.mock.patch("container.MOST_EVENTS", most):
+            with unittest.mock.patch("container.MOST_ENTRIES", most):
                 self.assertEqual(fits_from(spools, 1 << 20), begin, most)
             self.assertEqual(fits_from(spools, most * EVENT_BYTES + 7), begin, most)
+            # Three marks take 17 bytes each, and a byte stands before each event.
+            with unittest.mock.patch("container.MOST_ENTRIES", most + 3):
+                self.assertEqual(fits_from(spools, 1 << 20, marks=3), begin, most)
+            self.assertEqual(fits_from(spools, most * (EVENT_BYTES + 1) + 3 * 17, marks=3), begin, most)
+            self.assertNotEqual(fits_from(spools, most * (EVENT_BYTES + 1) + 3 * 17 - 1, marks=3), begin if most in (42, 24, 4) else None, most)
         self.assertEqual(fits_from(spools, EVENT_BYTES - 1), 40)
         self.assertEqual(fits_from(self.spools({0: []}), 0), 0)
 
@@ -206,9 +217,25 @@ class Latest(Tree):
                                            "1 more were left out, so that it has all events of all CPUs from its start on"])
         self.assertRegex(made.notes[0], r"it covers the last \d+\.\d{3} s of \d\.\d{3} s$")
 
+    def test_what_was_lost_beside_that_is_marked(self):
+        """What later events overwrote is no loss, though pages tell of it; what the kernel had no room for is, and then less fits."""
+        pages = {0: [missed(ticks(k, payload()), 7) if k == 10 else ticks(k, payload()) for k in range(10, 40)], 1: []}
+        for dropped, kept in [("", 20), ("dropped events: 2\n", 18)]:
+            kernel = Kernel(self.top, pages, {0: f"overrun: 7\n{dropped}read events: 30\n", 1: ""})
+            with unittest.mock.patch("container.MOST_ENTRIES", 20), unittest.mock.patch("record.cpus_of", sorted_rings):
+                made, events = self.record(0.1, kernel=kernel, keeps_latest=True)
+            found = entries(pathlib.Path(self.path).read_bytes())
+            marks = [lost(self.contents.end, 2)] if dropped else []
+            self.assertEqual(found, {0: [*range(40 - kept, 40), *marks], 1: []})
+            self.assertEqual((made.lost, made.assembly.left_out), (2 if dropped else 0, {}))
+            if dropped:
+                with unittest.mock.patch("container.MOST_ENTRIES", 20), unittest.mock.patch("record.cpus_of", sorted_rings):
+                    made, events = self.record(0.1, kernel=kernel, keeps_latest=True, with_marks=False)
+                self.assertEqual(entries(pathlib.Path(self.path).read_bytes()), {0: list(range(20, 40)), 1: []})
+
     def test_of_many_those_that_fit(self):
         kernel = Kernel(self.top, {0: [ticks(k, payload()) for k in range(10, 60)]})
-        with unittest.mock.patch("container.MOST_EVENTS", 20):
+        with unittest.mock.patch("container.MOST_ENTRIES", 20):
             made, events = self.record(0.1, kernel=kernel, keeps_latest=True)
         self.assertEqual((events, made.assembly.left_out), ([(0, k) for k in range(40, 60)], {}))
         self.assertTrue(made.notes[2].startswith("30 more were left out"), made.notes)
@@ -280,6 +307,9 @@ class Words(unittest.TestCase):
     def test_what_they_ask(self):
         asked = parsed(["record", "a:b", "--pid", "5,6", "--pid", "7", "--filter", "a:b", "x > 1", "--keep", "latest", "-o", "f"])
         self.assertEqual((asked.events, asked.pid, asked.filters, asked.keep, asked.program), (["a:b"], [5, 6, 7], [["a:b", "x > 1"]], "latest", []))
+        self.assertFalse(asked.v1)
+        for words in (["record", "a:b"], ["convert", "x"], ["cut", "x"]):
+            self.assertTrue(parsed([*words, "--v1", "-o", "f"]).v1)
         asked = parsed(["record", "-a", "-o", "f", "--for", "s.bt", "--", "dd", "-o", "--", "x"])
         self.assertEqual((asked.events, asked.scripts, asked.is_all, asked.program), ([], ["s.bt"], True, ["dd", "-o", "--", "x"]))
 
@@ -380,6 +410,19 @@ class Real(unittest.TestCase):
         status, told, _ = self.told("raw_syscalls:sys_enter", "--filter", "raw_syscalls:sys_enter", "none == 35", "-o", self.path)
         self.assertEqual(status, WORDS)
         self.assertIn("btrecord: parse_error: Field not found\n", told)
+
+    def test_more_than_the_rings_hold(self):
+        """What the kernel counted as lost is what the marks tell, and they are there where something was lost."""
+        copies = "for k in 1 2 3 4; do dd if=/dev/zero of=/dev/null bs=1 count=200000 2>/dev/null & done; wait"
+        status, told, events = self.told("raw_syscalls:*", "--buffer-kb", "64", "-a", "-o", self.path, "--", "sh", "-c", copies)
+        self.assertEqual(status, 0, told)
+        lost = int(re.search(r"([\d,]+) events? lost while recording", told)[1].replace(",", ""))
+        self.assertGreater(lost, 0, told)
+        contents = pathlib.Path(self.path).read_bytes()
+        marks = [entry for of in entries(contents).values() for entry in of if isinstance(entry, Lost)]
+        self.assertEqual((sum(mark.count for mark in marks), contents[:8]), (lost, b"BTRACE02"))
+        self.assertIn(f"the recording has {len(marks):,} mark", told)
+        self.assertGreater(len(events), 100)
 
     def test_a_process_and_the_latest_of_it(self):
         process = subprocess.Popen(["sh", "-c", "while :; do sleep 0.01; done"])

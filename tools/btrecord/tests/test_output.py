@@ -1,6 +1,7 @@
 """Tests of where a recording goes, and of its bytes."""
 import os
 import pathlib
+import random
 import stat
 import struct
 import tempfile
@@ -8,11 +9,11 @@ import tty
 import unittest
 import unittest.mock
 
-from made import CLOCK, DEMO, OTHER_TEXT, TEXT, TOP, payload
+from made import CLOCK, DEMO, OTHER_TEXT, TEXT, TOP, entries, lost, payload
 
 import container
-from assembly import Assembly
-from container import format_of, test_formats as refuse_formats
+from assembly import PIECES_AT_ONCE, Assembly
+from container import Lost, format_of, test_formats as refuse_formats
 from faults import WRITE, Refused
 from output import Output
 from reading import read_recording
@@ -111,15 +112,24 @@ class Assemblies(unittest.TestCase):
         self.addCleanup(folder.cleanup)
         self.folder = folder.name
 
-    def assembly(self, events, cpus=(0, 1), window=False):
-        """An assembly of DEMO with these events: pairs of CPU and time."""
-        made = Assembly([DEMO], cpus, self.folder)
+    def assembly(self, events, cpus=(0, 1), window=False, with_marks=True):
+        """An assembly of DEMO with these events: pairs of CPU and time, or of CPU and mark; in a window each CPU has a list."""
+        made = Assembly([DEMO], cpus, self.folder, with_marks)
         if window:
-            made.take_window([(cpu, times, [CLOCK] * len(times), [payload()] * len(times)) for cpu, times in events])
-        else:
-            for cpu, time in events:
-                made.take(cpu, time, CLOCK, payload())
+            made.take_window([(cpu, [getattr(entry, "time", entry) for entry in of], [CLOCK] * len(of),
+                               [entry if isinstance(entry, Lost) else payload() for entry in of]) for cpu, of in events])
+            return made
+        for cpu, entry in events:
+            if isinstance(entry, Lost):
+                made.lose(cpu, *entry)
+            else:
+                made.take(cpu, entry, CLOCK, payload())
         return made
+
+    def entries(self, contents):
+        """The entries of each CPU, an event as its time, and the span."""
+        found = read_recording(contents)
+        return entries(contents), (found.start, found.end)
 
     def written(self, made, start, end):
         """The bytes of an assembly's recording."""
@@ -158,25 +168,163 @@ class Assemblies(unittest.TestCase):
             made.take(0, 2, CLOCK, record)
         made.take_window([(0, [3] * 6, [CLOCK] * 6, bad + [payload()])])
         self.assertEqual(made.left_out, {"of no format that is there": 8, "shorter than their format": 2})
-        self.assertEqual(self.times(self.written(made, 0, 9)), ({0: [1, 3]}, (0, 9)))
+        # What was left out between two events is one mark, at the time of the last that was.
+        self.assertEqual(self.entries(self.written(made, 0, 9)), ({0: [1, lost(3, 10), 3], 1: []}, (0, 9)))
+        made = self.assembly([(0, 1)])
+        for time in (2, 4):
+            made.take(1, time, CLOCK, bad[0])
+        made.take(0, 5, CLOCK, bad[0])
+        made.lose(0, 6, 3)
+        made.take(0, 7, CLOCK, bad[0])
+        self.assertEqual(self.entries(self.written(made, 0, 9)), ({0: [1, lost(5, 1), lost(6, 3), lost(7, 1)], 1: [lost(4, 2)]}, (0, 9)))
 
     def test_cpus_past_the_64th_are_left_out(self):
         made = self.assembly([(cpu, 1) for cpu in range(66)], range(66))
         made.take_window([(cpu, [2], [CLOCK], [payload()]) for cpu in (63, 64)])
+        made.lose(64, 3, 9)
         self.assertEqual((len(made.parts), made.left_out), (64, {"of CPUs past the 64th": 3}))
+        self.assertEqual(self.written(made, 0, 9)[:8], b"BTRACE01")
 
     def test_the_earliest_events_are_kept_at_the_limits(self):
-        with unittest.mock.patch("container.MOST_EVENTS", 3):
-            for made in [self.assembly([(0, 1), (1, 2), (1, 3), (0, 4), (1, 9)]), self.assembly([(0, [1, 4]), (1, [2, 3, 9])], window=True)]:
-                self.assertEqual(made.left_out, {"past the container's limits": 2})
-                self.assertEqual(self.times(self.written(made, 0, 99)), ({0: [1], 1: [2, 3]}, (0, 3)))
+        events, window = [(0, 1), (1, 2), (1, 3), (0, 4), (1, 9)], [(0, [1, 4]), (1, [2, 3, 9])]
+        # Five events fit where nothing is lost; else each CPU may need a mark, and what is kept ends where the first event is left out.
+        for most, kept, left, end in [(5, {0: [1, 4], 1: [2, 3, 9]}, 0, 99), (4, {0: [1, lost(3, 1)], 1: [2, lost(3, 2)]}, 3, 3),
+                                      (3, {0: [1, lost(2, 1)], 1: [lost(2, 3)]}, 4, 2), (2, {0: [lost(1, 2)], 1: [lost(1, 3)]}, 5, 1)]:
+            with unittest.mock.patch("container.MOST_ENTRIES", most):
+                for made in [self.assembly(events), self.assembly(window, window=True)]:
+                    contents = self.written(made, 0, 99)
+                    self.assertEqual((self.entries(contents), made.left_out), ((kept, (0, end)), {"past the container's limits": left} if left else {}))
+                    self.assertEqual(contents[:8], b"BTRACE02" if left else b"BTRACE01")
         whole = len(self.written(self.assembly([(0, 1), (0, 2)], [0]), 0, 99))
-        for size, kept in [(whole, [1, 2]), (whole - 1, [1])]:
+        for size, kept in [(whole, [1, 2]), (whole - 1, [1, lost(2, 1)])]:
             with unittest.mock.patch("container.MOST_BYTES", size):
                 for made in [self.assembly([(0, 1), (0, 2)], [0]), self.assembly([(0, [1, 2])], [0], True)]:
                     contents = self.written(made, 0, 99)
-                    self.assertEqual(self.times(contents)[0], {0: kept})
+                    self.assertEqual(self.entries(contents)[0], {0: kept})
                     self.assertLessEqual(len(contents), size)
+
+    def test_at_the_limits_without_marks(self):
+        with unittest.mock.patch("container.MOST_ENTRIES", 3):
+            for made in [self.assembly([(0, 1), (1, 2), (1, 3), (0, 4), (1, 9)], with_marks=False),
+                         self.assembly([(0, [1, 4]), (1, [2, 3, 9])], window=True, with_marks=False)]:
+                made.lose(0, 9, 5)
+                self.assertEqual((made.left_out, made.unmarked), ({"past the container's limits": 2}, 1))
+                contents = self.written(made, 0, 99)
+                self.assertEqual((contents[:8], self.entries(contents)), (b"BTRACE01", ({0: [1], 1: [2, 3]}, (0, 3))))
+
+    def test_the_documented_marks(self):
+        """The bytes of docs/RECORDINGS.md: a mark of 5 behind the event, in version 2."""
+        code = pathlib.Path(TOP, "docs", "RECORDINGS.md").read_text().split("```python\n")[1].split("```")[0]
+        there = {}
+        exec(code, there)
+        self.assertEqual(len(there["marked"]), 175 + 1 + 17)
+        for window in (False, True):
+            made = self.assembly([(2, [1000, lost(1500, 5)])] if window else [(2, 1000), (2, lost(1500, 5))], [2], window)
+            self.assertEqual(self.written(made, 500, 2000), there["marked"])
+
+    def test_marks_where_they_come(self):
+        window = [(0, [1, lost(1, 7), 4, lost(6, 1)]), (1, [lost(0, 2), 2, lost(3, 1), lost(3, 4)])]
+        one_by_one = [(1, lost(0, 2)), (0, 1), (0, lost(1, 7)), (1, 2), (1, lost(3, 1)), (1, lost(3, 4)), (0, 4), (0, lost(6, 1))]
+        for made in (self.assembly(window, window=True), self.assembly(one_by_one)):
+            self.assertEqual((made.events, made.marks, made.left_out), (3, 5, {}))
+            contents = self.written(made, 2, 3)
+            self.assertEqual((contents[:8], self.entries(contents)), (b"BTRACE02", (dict(window), (0, 6))))
+        only = self.assembly([(0, lost(5, (1 << 64) - 1))])
+        self.assertEqual(self.entries(self.written(only, 9, 9)), ({0: [lost(5, (1 << 64) - 1)], 1: []}, (5, 9)))
+
+    def test_a_mark_that_comes_late_takes_the_place_of_events(self):
+        """Up to the limit a recording without marks has the more events; with the first mark it has to have room for those at the end."""
+        events = [(0, time) for time in range(1, 10)]
+        for most in range(2, 13):
+            with unittest.mock.patch("container.MOST_ENTRIES", most):
+                made = self.assembly(events, [0])
+                kept = min(most, 9)
+                self.assertEqual((made.events, made.is_full), (kept if most >= 9 else most - 1, most < 9), most)
+                made.lose(0, 9, 4)
+                contents = self.written(made, 0, 9)
+                times = self.entries(contents)[0][0]
+                count = min(most - 1, 9)
+                self.assertEqual(times[:-1], list(range(1, count + 1)), most)
+                # Where the mark itself finds room it stands at its time, and else what is left out comes with it.
+                self.assertEqual(times[-1], lost(9, 4) if count == 9 else lost(count + 1, 9 - count + 4), most)
+        first = len(self.written(self.assembly(events[:1], [0]), 0, 9))
+        size = len(payload()) + 44
+        for room in range(first + 17 + 1, first + 9 * size):
+            with unittest.mock.patch("container.MOST_BYTES", room):
+                for window in (False, True):
+                    made = self.assembly([(0, [time for _, time in events])] if window else events, [0], window)
+                    made.lose(0, 9, 4)
+                    contents = self.written(made, 0, 9)
+                    self.assertLessEqual(len(contents), room)
+                    times = self.entries(contents)[0][0]
+                    # One event more, and the mark, would not fit.
+                    self.assertTrue(len(times) == 10 or len(contents) + size + 1 > room, room)
+                    self.assertEqual(sum(entry.count for entry in times if isinstance(entry, Lost)) + made.events, 13)
+
+    def test_what_comes_when_it_is_full(self):
+        with unittest.mock.patch("container.MOST_ENTRIES", 4):
+            made = self.assembly([(0, 1), (1, 2), (1, 3), (0, 4), (1, 5)])
+            self.assertTrue(made.is_full)
+            made.lose(0, 6, 10)
+            made.take(1, 7, CLOCK, payload(number=301))
+            made.miss(1, 100, 8)
+            made.miss(9, 1000, 8)
+            self.assertEqual(made.left_out, {"past the container's limits": 3 + 1100, "of no format that is there": 1})
+            self.assertEqual(self.entries(self.written(made, 0, 99)), ({0: [1, lost(3, 11)], 1: [2, lost(3, 103)]}, (0, 3)))
+        made = self.assembly([(0, 1)])
+        made.miss(1, 3, 8)
+        self.assertEqual((made.take(0, 9, CLOCK, payload()), self.entries(self.written(made, 0, 5))), (False, ({0: [1, lost(8, 1)], 1: [lost(8, 3)]}, (0, 8))))
+
+    def test_many_marks_and_events(self):
+        count = 3 * PIECES_AT_ONCE
+        for wanted in ([lost(k, k + 1) for k in range(count)], [k if k % 3 else lost(k, 2) for k in range(count)], [*range(count), lost(count, 1)]):
+            made = self.assembly([(0, wanted)], [0], True)
+            self.assertEqual(self.entries(self.written(made, 0, count)), ({0: wanted}, (0, count)))
+
+    def drawn_window(self, draw, cpus, now):
+        """The entries of some CPUs in a span of 20 nanoseconds, and how many events they are or tell of."""
+        window, events = [], 0
+        for cpu in range(cpus):
+            times = sorted(draw.randint(now, now + 20) for _ in range(draw.randint(0, 8)))
+            entries_of_cpu = [draw.choice([payload(), payload() + b"more", payload(number=301), lost(time, draw.randint(1, 9))]) for time in times]
+            events += sum(entry.count if isinstance(entry, Lost) else 1 for entry in entries_of_cpu)
+            window += [(cpu, times, [CLOCK] * len(times), entries_of_cpu)] if times else []
+        return window, events
+
+    def test_each_event_is_there_or_marked(self):
+        """Of drawn windows, at drawn limits: the recording is a valid one within them, and its events and what its marks tell are all there were."""
+        draw, full = random.Random(7), 0
+        for _ in range(400):
+            cpus = draw.randint(1, 3)
+            entries_most, room = draw.choice([1 << 20, draw.randint(cpus, 40)]), draw.choice([1 << 20, draw.randint(17 * cpus, 2500)])
+            most = container.head_bytes([DEMO], cpus) + room
+            with unittest.mock.patch("container.MOST_ENTRIES", entries_most), unittest.mock.patch("container.MOST_BYTES", most):
+                made, all_events = Assembly([DEMO], range(cpus), self.folder), 0
+                for now in range(0, 21 * draw.randint(1, 6), 21):
+                    window, events = self.drawn_window(draw, cpus, now)
+                    all_events += events
+                    made.take_window(window)
+                later = draw.choice([0, 6])
+                made.lose(0, 1000, 4)
+                made.miss(draw.randrange(cpus), later, 1000)
+                all_events += 4 + later
+                contents = self.written(made, 0, 9)
+            found = read_recording(contents)
+            count = sum(of for _, of in found.cpus)
+            self.assertLessEqual(count, entries_most)
+            self.assertLessEqual(len(contents), most)
+            self.assertEqual((count - len(found.marks), len(found.marks)), (made.events, made.marks))
+            self.assertEqual(made.events + sum(found.marks.counts), all_events)
+            full += made.is_full
+        self.assertTrue(100 < full < 300, full)
+
+    def test_counts_without_end(self):
+        made = self.assembly([(0, lost(1, 1 << 64)), (0, lost(2, (1 << 64) - 1))])
+        made.take(0, 3, CLOCK, b"")
+        made.parts[0].counts[-1] = (1 << 64) - 1
+        made.take(0, 4, CLOCK, b"")
+        most = (1 << 64) - 1
+        self.assertEqual(self.entries(self.written(made, 0, 9))[0][0], [lost(1, most), lost(2, most), lost(4, most)])
 
     def test_formats_that_cannot_stand_in_a_recording(self):
         for system, text in [(b"a b", TEXT), (b"", TEXT), (b"d", b"nam: x\n"), (b"d", b"name: x\nID: 1\nformat:\nfield:int n;\n")]:
@@ -184,6 +332,12 @@ class Assemblies(unittest.TestCase):
                 format_of(system, text)
         with self.assertRaises(Refused):
             refuse_formats([DEMO, format_of(b"other", TEXT)])
+        # 64 CPUs have room for a mark each.
+        least = container.head_bytes([DEMO], 64) + 64 * 17
+        with unittest.mock.patch("container.MOST_BYTES", least):
+            refuse_formats([DEMO])
+        with unittest.mock.patch("container.MOST_BYTES", least - 1), self.assertRaisesRegex(Refused, "leave no room for events"):
+            refuse_formats([DEMO])
         with unittest.mock.patch("container.MOST_FORMATS", 1), self.assertRaises(Refused):
             refuse_formats([DEMO, format_of(b"demo", OTHER_TEXT)])
         refuse_formats([DEMO, format_of(b"demo", OTHER_TEXT)])

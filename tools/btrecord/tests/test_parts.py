@@ -42,15 +42,34 @@ FIRST = [event(5 * SECOND + 10, 20, 21, b"sh", tick()), event(6 * SECOND, 20, 20
 SECOND_CPU = [event(5 * SECOND + 10, 40, 40, b"dd", TOCKED), event(7 * SECOND + 1, 20, 21, b"sh", tick(2, (60, 9)))]
 
 
-def recording(cpus, texts=(TICK, TOCK), start=5 * SECOND, end=8 * SECOND):
-    """A recording of these CPUs, whose events are spelled."""
-    out = b"BTRACE01" + struct.pack("<IIQQ", len(cpus), len(texts), start, end)
+def mark(time, count):
+    """A mark as it stands in a recording."""
+    return struct.pack("<BQQ", 1, time, count)
+
+
+def marked(events):
+    """Events as they stand in a recording with marks; marks stay."""
+    return [entry if len(entry) == 17 else b"\0" + entry for entry in events]
+
+
+def recording(cpus, texts=(TICK, TOCK), start=5 * SECOND, end=8 * SECOND, magic=b"BTRACE01"):
+    """A recording of these CPUs, whose entries are spelled."""
+    out = magic + struct.pack("<IIQQ", len(cpus), len(texts), start, end)
     for text in texts:
         out += struct.pack("<H", 4) + b"demo" + struct.pack("<I", len(text)) + text
     return out + b"".join(struct.pack("<II", number, len(events)) + b"".join(events) for number, events in cpus)
 
 
 WHOLE = recording([(0, FIRST), (2, []), (5, SECOND_CPU)])
+# The same with marks: one before all events of a CPU without any, and others at the times of events and between.
+MARKS = [mark(5 * SECOND, 1), mark(6 * SECOND, 20), mark(6 * SECOND, 300), mark(8 * SECOND, 4000)]
+
+
+def lossy(first=3, cpu_2=True, second=2, last=True, texts=(TICK, TOCK), start=5 * SECOND, end=8 * SECOND):
+    """The recording with marks: so many events of CPUs 0 and 5, and the marks among them."""
+    cpus = [(0, [FIRST[0], MARKS[1], MARKS[2], *FIRST[1:]][:first + 2] if first else []), (2, MARKS[:1] if cpu_2 else []),
+            (5, SECOND_CPU[:second] + ([MARKS[3]] if last else []))]
+    return recording([(number, marked(of)) for number, of in cpus], texts, start, end, b"BTRACE02")
 
 
 class Parts(unittest.TestCase):
@@ -101,6 +120,40 @@ class Cut(Parts):
         for word in ("demo:tick", "tick", "t:demo:ti*", "tracepoint:*:tick", "*:tick"):
             self.assertEqual(self.cut("--event", word), ticks, word)
         self.assertEqual(self.cut("--event", "tick,tock", "--pid", "40"), recording([(0, []), (2, []), (5, SECOND_CPU[:1])]))
+
+    def test_marks_stay_in_their_time(self):
+        pathlib.Path(self.path).write_bytes(lossy())
+        self.assertEqual(self.cut(), lossy())
+        self.assertEqual(self.cut("--from", "5.000000001"), lossy(cpu_2=False, start=5 * SECOND + 1))
+        middle = [(0, marked([MARKS[1], MARKS[2], FIRST[1]])), (2, []), (5, [])]
+        self.assertEqual(self.cut("--from", "6", "--to", "6"), recording(middle, start=6 * SECOND, end=6 * SECOND, magic=b"BTRACE02"))
+        # Nobody knows whose the lost events were.
+        for words, texts in ((["--pid", "9"], (TICK, TOCK)), (["--comm", "no"], (TICK, TOCK)), (["--event", "tock", "--pid", "9"], (TOCK,))):
+            none = [(0, MARKS[1:3]), (2, MARKS[:1]), (5, MARKS[3:])]
+            self.assertEqual(self.cut(*words), recording(none, texts, magic=b"BTRACE02"))
+        # Where there is none the rest is of version 1.
+        self.assertEqual(self.cut("--from", "5.000000001", "--to", "5.9"), recording([(0, FIRST[:1]), (2, []), (5, SECOND_CPU[:1])],
+                                                                                   start=5 * SECOND + 1, end=59 * SECOND // 10))
+        self.assertEqual(self.cut("--v1"), WHOLE)
+        self.assertEqual(self.cut("--v1", "--pid", "40"), recording([(0, []), (2, []), (5, SECOND_CPU[:1])]))
+
+    def test_what_is_told_of_marks(self):
+        pathlib.Path(self.path).write_bytes(lossy())
+        first = f"btrecord: {{}} of the 5 events are in {self.out}, from {{}} to 8.000000000 s\nbtrecord: 2 of the 2 formats and all CPUs are kept\n"
+        for words, told in [([], first.format(5, "5.000000000") + "btrecord: 4 of the 4 marks of lost events are kept\n"),
+                            (["--from", "+1"], first.format(3, "6.000000000") + "btrecord: 3 of the 4 marks of lost events are kept\n"),
+                            (["--from", "7.5"], first.format(0, "7.500000000") + "btrecord: 1 of the 4 marks of lost events are kept\n"),
+                            (["--v1"], first.format(5, "5.000000000") + "btrecord: 4 of the 4 marks of lost events would be in it, and are left out, "
+                                                                        "since --v1 asks for version 1\n")]:
+            self.assertEqual(self.told("cut", self.path, *words, "-o", str(self.out)), (0, "", told))
+
+    def test_many_marks_and_events(self):
+        of = [event(6 * SECOND + k, 1, 1, b"x", TOCKED) if k % 3 else mark(6 * SECOND + k, k + 1) for k in range(30_000)]
+        pathlib.Path(self.path).write_bytes(recording([(0, marked(of))], magic=b"BTRACE02"))
+        half = ["--from", f"{6 * SECOND + 10_001}ns", "--to", f"{6 * SECOND + 20_000}ns"]
+        span = {"start": 6 * SECOND + 10_001, "end": 6 * SECOND + 20_000}
+        self.assertEqual(self.cut(*half), recording([(0, marked(of[10_001:20_001]))], magic=b"BTRACE02", **span))
+        self.assertEqual(self.cut(*half, "--v1"), recording([(0, [entry for entry in of[10_001:20_001] if len(entry) != 17])], **span))
 
     def test_what_is_told(self):
         self.assertEqual(self.told("cut", self.path, "--event", "tick", "--from", "+0", "--to", "7", "-o", str(self.out)), (0, "", (
@@ -153,6 +206,16 @@ class Dump(Parts):
         self.assertEqual(self.told("dump", self.path), (0, "".join(f"{line}\n" for line in LINES), ""))
         self.assertEqual(self.told("dump", self.path, "--event", "tock", "--from", "6"), (0, f"{LINES[2]}\n{LINES[3]}\n", ""))
         self.assertEqual(self.told("dump", self.path, "--comm", "none"), (0, "", ""))
+
+    def test_marks_have_lines(self):
+        pathlib.Path(self.path).write_bytes(lossy())
+        blank = " " * 33
+        lost = [f"{blank}[002]      5.000000000: LOST 1 EVENT", f"{blank}[000]      6.000000000: LOST 20 EVENTS",
+                f"{blank}[000]      6.000000000: LOST 300 EVENTS", f"{blank}[005]      8.000000000: LOST 4000 EVENTS"]
+        wanted = [lost[0], *LINES[:2], *lost[1:3], *LINES[2:], lost[3]]
+        self.assertEqual(self.told("dump", self.path), (0, "".join(f"{line}\n" for line in wanted), ""))
+        self.assertEqual(self.told("dump", self.path, "--to", "6", "--pid", "40"), (0, f"{lost[0]}\n{LINES[1]}\n{lost[1]}\n{lost[2]}\n", ""))
+        self.assertEqual([line.index("[") for line in LINES[:3] + lost], [33] * 7)
 
     def test_into_a_file(self):
         self.assertEqual(self.told("dump", self.path, "-o", str(self.out)), (0, "", ""))
@@ -288,6 +351,20 @@ class Chrome(Parts):
         found = self.events((1001, 7, 8, device, 64, text(b"WS", 4)), (1002, 0, 9, device, 65), (1003, 0, 9, device, 64), (1004, 0, 9, device, 64))
         fields = {"dev": device, "sector": 64}
         self.assertEqual(found, [("b", "block device 254:16", 0.001, None, "WS", {**fields, "rwbs": "WS"}), ("e", "block device 254:16", 0.003, None, "WS", fields)])
+
+    def test_lost_events_of_a_cpu(self):
+        whole = viewed([(1001, 7, 10, 1), (1003, 7, 10, 2)])
+        head, size = whole[:-2 * (44 + 8) - 8], 44 + 8
+        entries = [b"\0" + whole[-2 * size:-size], mark(1002, 5), mark(1002, 1 << 60), b"\0" + whole[-size:]]
+        pathlib.Path(self.path).write_bytes(b"BTRACE02" + head[8:] + struct.pack("<II", 3, 4) + b"".join(entries))
+        status, out, err = self.told("dump", "--chrome", self.path)
+        self.assertEqual((status, err, list(viewer_faults(out))), (0, "", []))
+        found = [e for e in json.loads(out)["traceEvents"] if e["ph"] != "M"]
+        self.assertEqual([(e["ts"], e["name"], e["args"]) for e in found], [(0.001, "mark", {"n": 1}), (0.002, "lost events", {"count": 5}),
+                         (0.002, "lost events", {"count": str(1 << 60)}), (0.003, "mark", {"n": 2})])
+        self.assertEqual([(e["ph"], e["pid"], e["tid"], e["s"]) for e in found[1:3]], [("i", 1 << 23, 7, "t")] * 2)
+        _, out, _ = self.told("dump", "--chrome", self.path, "--from", "1003ns", "--pid", "1")
+        self.assertEqual([e for e in json.loads(out)["traceEvents"] if e["ph"] != "M"], [])
 
     def test_a_part_and_nothing(self):
         pathlib.Path(self.path).write_bytes(viewed([(1001, 7, 10, 1), (1003, 7, 10, 2)]))

@@ -6,8 +6,9 @@ import struct
 import subprocess
 import tempfile
 import unittest
+import unittest.mock
 
-from made import TEXT, payload
+from made import TEXT, entries, lost, payload
 
 from faults import READ as STATUS_READ
 from faults import REFUSED, Refused
@@ -91,6 +92,57 @@ class PerfFiles(unittest.TestCase):
         filtered = struct.pack("<IHHQ", 13, 1 << 15, 16, 100)
         for records, told in [(lost + again, 9), (lost, 9), (again, 9), (lost + again + again, 18), (again + filtered, 9)]:
             self.assertEqual(self.converted(perf_file(records=sample(5, 0, payload()) + records))[0].lost, told)
+
+    def test_a_loss_is_marked_where_its_cpu_and_time_are_told(self):
+        def behind(time, cpu):
+            return struct.pack("<IIQII", 1234, 1235, time, cpu, 0)
+        lost_events, lost_samples = part(2, struct.pack("<QQ", 60, 4) + behind(15, 1)), part(13, struct.pack("<Q", 2) + behind(25, 0))
+        # perf tells them again at the end, with neither a CPU nor a time.
+        again = part(13, struct.pack("<Q", 9) + behind(0, 0))
+        samples = sample(10, 0, payload()) + sample(20, 1, payload()) + sample(30, 0, payload())
+        made, events = self.converted(perf_file(records=samples + lost_samples + again + lost_events))
+        self.assertEqual(self.entries(), {0: [10, lost(25, 2), 30], 1: [lost(15, 4), 20]})
+        self.assertEqual((made.lost, self.contents.version, made.notes), (11, 2,
+                         ["of 5 lost events the file does not tell the CPU and the time, and the recording has no mark of them"]))
+        self.assertEqual(len(events), 3)
+        made, _ = self.converted(perf_file(records=samples + lost_events * 3))
+        self.assertEqual((made.lost, made.notes, self.entries()), (12, [], {0: [10, 30], 1: [lost(15, 4)] * 3 + [20]}))
+        # A CPU that only lost events is one of the recording's, and its mark may be the first or the last.
+        only = part(2, struct.pack("<QQ", 60, 1) + behind(5, 7)) + part(2, struct.pack("<QQ", 60, 3) + behind(99, 7))
+        self.converted(perf_file(records=samples + only))
+        self.assertEqual(self.entries(), {0: [10, 30], 1: [20], 7: [lost(5, 1), lost(99, 3)]})
+        self.assertEqual((self.contents.start, self.contents.end), (5, 99))
+        # Nothing is marked that is no loss, or that does not tell enough.
+        filtered = struct.pack("<IHHQ", 13, 1 << 15, 16 + 24, 100) + behind(15, 1)
+        for records, told in [(filtered, 0), (part(2, struct.pack("<QQ", 60, 0) + behind(15, 1)), 0), (part(2, struct.pack("<QQ", 60, 4)), 4),
+                              (part(2, struct.pack("<QQ", 60, 4) + behind(15, 1)[:-8]), 4), (again, 9)]:
+            made, _ = self.converted(perf_file(records=samples + records))
+            self.assertEqual((made.lost, made.notes, self.entries(), self.contents.version), (told, [], {0: [10, 30], 1: [20]}, 1))
+        made, _ = self.converted(perf_file(TID | TIME | CPU | RAW, samples + lost_events).replace(struct.pack("<Q", 1 << 18), bytes(8), 1))
+        self.assertEqual((made.lost, self.contents.version), (4, 1))
+        for records in (part(2, bytes(15)), part(13, bytes(7))):
+            with self.assertRaisesRegex(Refused, "too soon"):
+                self.converted(perf_file(records=records))
+
+    def test_losses_at_the_limits_and_without_marks(self):
+        record = part(2, struct.pack("<QQ", 60, 4) + struct.pack("<IIQII", 1, 1, 15, 0, 0))
+        records = b"".join(sample(time, time % 2, payload()) for time in range(10, 20)) + record
+        with unittest.mock.patch("container.MOST_ENTRIES", 6):
+            made, _ = self.converted(perf_file(records=records))
+            self.assertEqual(self.entries(), {0: [10, 12, lost(14, 3 + 4)], 1: [11, 13, lost(14, 3)]})
+            self.assertEqual((made.lost, made.assembly.left_out), (4, {"past the container's limits": 6}))
+            made = convert(str(self.folder / "perf.data"), None, lambda: Output(str(self.folder / "r.btr")), with_marks=False)
+        self.assertEqual(self.entries(), {0: [10, 12, 14], 1: [11, 13, 15]})
+        self.assertEqual((made.lost, made.assembly.unmarked, made.assembly.left_out), (4, 1, {"past the container's limits": 4}))
+        many = b"".join(part(2, struct.pack("<QQ", 60, (1 << 64) - 1) + struct.pack("<IIQII", 1, 1, time, 0, 0)) for time in range(1, 30))
+        with unittest.mock.patch("container.MOST_ENTRIES", 6):
+            self.converted(perf_file(records=many))
+        most = (1 << 64) - 1
+        self.assertEqual(self.entries(), {0: [*(lost(time, most) for time in range(1, 6)), lost(6, most)]})
+
+    def entries(self):
+        """The entries of each CPU of the recording that was made."""
+        return entries((self.folder / "r.btr").read_bytes())
 
     def test_samples_with_call_chains_and_counts(self):
         """The parts of `perf record -g`, and of counts with a time, an ID and lost samples, alone and in a group of two."""

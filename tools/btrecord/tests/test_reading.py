@@ -23,7 +23,8 @@ TEXTS = {"NoName": "F1 no name", "BadId": "F2 bad id", "BadField": "F3 bad line 
          "Truncated": "C1 truncated at byte {}", "BadMagic": "C2 bad magic", "Count": "C3 bad count: {}", "Format": "C4 format {}: {}",
          "SameEvent": "C5 same event in format {}", "CpuNumber": "C6 bad cpu number at cpu {}", "TimeOrder": "C7 time order in event {1} of cpu {0}",
          "UnknownId": "C8 unknown id in event {1} of cpu {0}", "ShortPayload": "C9 short payload in event {1} of cpu {0}",
-         "TrailingBytes": "C10 trailing bytes at byte {}", "BadSystem": "C11 bad system in format {}"}
+         "TrailingBytes": "C10 trailing bytes at byte {}", "BadSystem": "C11 bad system in format {}",
+         "BadEntry": "C12 bad entry in event {1} of cpu {0}", "EmptyMark": "C13 empty mark in event {1} of cpu {0}"}
 KINDS = {"Number": NUMBER, "Chars": CHARS, "DataLoc": DATA_LOC, "Other": OTHER}
 
 
@@ -63,12 +64,14 @@ class Faults(unittest.TestCase):
             self.assertEqual(fault_of(read_recording, bytes.fromhex(recording), BadRecording), fault)
             codes.add(fault.split()[0] if fault else None)
             accepted += fault is None
-        self.assertEqual(codes, {None} | {f"C{k}" for k in range(1, 12)})
+        self.assertEqual(codes, {None} | {f"C{k}" for k in range(1, 14)})
         self.assertGreater(accepted, 100)
 
     def test_the_rows_of_recordings(self):
-        found = re.findall(rf"{LITERAL},\s*(None|Some\((RecordingError::.*)\)),\s*\)", rust_table("crates/recording_tests/src/recordings.rt", "CHECKED"))
-        self.assertEqual(len(found), 32)
+        table = rust_table("crates/recording_tests/src/recordings.rt", "CHECKED")
+        found = re.findall(rf"{LITERAL},\s*(None|Some\((RecordingError::.*)\)),\s*\)", table)
+        self.assertEqual(len(found), len(re.findall(r"^    \($", table, re.MULTILINE)))
+        self.assertGreaterEqual(len(found), 32)
         for literal, _, fault in found:
             self.assertEqual(fault_of(read_recording, rust_bytes(literal), BadRecording), fault_text(fault) if fault else None, literal)
 
@@ -96,6 +99,20 @@ class Faults(unittest.TestCase):
         for size in range(175):
             self.assertEqual(fault_of(read_recording, there["example"][:size], BadRecording), f"C1 truncated at byte {size}")
         self.assertIsNone(fault_of(read_recording, there["example"], BadRecording))
+
+    def test_one_with_a_mark_that_ends_anywhere(self):
+        code = pathlib.Path(TOP, "docs", "RECORDINGS.md").read_text().split("```python\n")[1].split("```")[0]
+        there = {}
+        exec(code, there)
+        marked = there["marked"]
+        for size in range(193):
+            self.assertEqual(fault_of(read_recording, marked[:size], BadRecording), f"C1 truncated at byte {size}")
+        found = read_recording(marked)
+        self.assertEqual((found.version, found.cpus, list(found.marks.times), list(found.marks.counts)), (2, [(2, 2)], [1_500], [5]))
+        for kind in range(2, 256):
+            for size in (120, 150, 193):
+                wrong = marked[:119] + bytes([kind]) + marked[120:size]
+                self.assertEqual(fault_of(read_recording, wrong, BadRecording), "C12 bad entry in event 0 of cpu 0")
 
     def test_digits_without_end(self):
         text = b"name: x\nID: " + b"0" * 9000 + b"7\nformat:\nfield:int a;offset:" + b"9" * 9000 + b";size:4;signed:1;\n"
@@ -152,6 +169,23 @@ greatest gaps, without an event of any CPU:
   0.000500 s from 0.000500 s
   0.000500 s from 0.001000 s
 """, ""))
+
+    def test_what_it_lost(self):
+        contents = made()
+        at = contents.index(struct.pack("<II", 0, 3))
+        one = 44 + 24
+        cpus = [contents[at + 8 + k * one:at + 8 + (k + 1) * one] for k in range(3)]
+        mark = struct.pack("<BQQ", 1, 2_000_000, 5) + struct.pack("<BQQ", 1, 3_000_000, 1_000)
+        body = struct.pack("<II", 0, 5) + b"".join(b"\0" + entry for entry in cpus[:2]) + mark + b"\0" + cpus[2]
+        body += struct.pack("<II", 3, 2) + b"\0" + contents[-one:] + struct.pack("<BQQ", 1, 9_000_000, (1 << 64) - 1)
+        marked = b"BTRACE02" + contents[8:at] + body
+        plain = self.told("info", self.path)[1]
+        pathlib.Path(self.path).write_bytes(marked)
+        lost = 1_005 + (1 << 64) - 1
+        wanted = plain.replace("CPUs: 2\n", f"lost events: {lost:,} in 3 marks, from 0.001000 s to 0.008000 s\nCPUs: 2\n")
+        wanted = wanted.replace("3  cpu 0\n", "3  cpu 0, and 1,005 lost\n").replace("1  cpu 3\n", f"1  cpu 3, and {(1 << 64) - 1:,} lost\n")
+        self.assertEqual(self.told("info", self.path), (0, wanted, ""))
+        self.assertEqual(self.told("list", self.path), (0, "tracepoint:demo:tick\ntracepoint:demo:tock\n", ""))
 
     def test_its_tracepoints(self):
         self.assertEqual(self.told("list", self.path), (0, "tracepoint:demo:tick\ntracepoint:demo:tock\n", ""))

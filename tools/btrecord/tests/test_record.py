@@ -12,7 +12,7 @@ import time
 import unittest
 import unittest.mock
 
-from made import HERE, OTHER_TEXT, TEXT, Kernel, payload, program, ticks
+from made import HERE, OTHER_TEXT, TEXT, Kernel, entries, lost, missed, payload, program, ticks
 
 from faults import WORDS, WRITE, Ended, Refused
 from instance import is_left, own_name, remove_left, started
@@ -83,14 +83,50 @@ class Recording(unittest.TestCase):
 
     def test_the_earliest_events_are_kept_and_the_rest_is_counted(self):
         pages = {0: [ticks(10, *[payload()] * 4)] * 2, 1: [ticks(5, payload()), ticks(12, payload())]}
-        with unittest.mock.patch("container.MOST_EVENTS", 3), contextlib.redirect_stderr(io.StringIO()) as told:
-            made, events = self.record(Kernel(self.top, pages, "entries: 7\noverrun: 1\nread events: 5\n"), seconds=0.2)
+        stats = {0: "entries: 7\noverrun: 1\nread events: 8\n", 1: "entries: 7\noverrun: 1\nread events: 2\n"}
+        with unittest.mock.patch("container.MOST_ENTRIES", 5), contextlib.redirect_stderr(io.StringIO()) as told:
+            made, events = self.record(Kernel(self.top, pages, stats), seconds=0.2)
         self.assertEqual([event[:2] for event in events], [(0, 10), (0, 11), (1, 5)])
-        # Both CPUs tell of 5 events that were read and of 7 that still were there, and 3 are kept.
-        self.assertEqual(made.assembly.left_out, {"past the container's limits": 2 * 5 + 2 * 7 - 3})
-        self.assertEqual((made.lost, self.contents.end), (2, 11))
+        # Both CPUs tell of events that were read and of 7 that still were there, and 3 are kept.
+        self.assertEqual(made.assembly.left_out, {"past the container's limits": 8 + 2 + 2 * 7 - 3})
+        self.assertEqual((made.lost, self.contents.end), (2, 12))
+        # The marks tell of those and of what was lost, from when on nothing more is kept.
+        self.assertEqual(entries(pathlib.Path(self.path).read_bytes()), {0: [10, 11, lost(12, 8 + 7 - 2 + 1)], 1: [5, lost(12, 2 + 7 - 1 + 1)]})
         self.assertIn("the recording is full", told.getvalue())
         self.assertRegex(made.notes[0], r"it covers the first \d+\.\d{3} s of the 0.2 s asked; the recording is full")
+
+    def test_what_the_kernel_lost_is_marked(self):
+        """Pages tell what was lost before them, with its number or without; what no page tells of is marked at the end."""
+        pages = {0: [ticks(10, payload()), missed(ticks(20, payload(), payload()), 7), missed(ticks(30, payload())), missed(ticks(30, payload()), 2)],
+                 1: [missed(ticks(15, payload())), missed(ticks(25, payload()), 1 << 40), missed(ticks(26, payload()))], 2: [ticks(5, payload())],
+                 3: [ticks(6, payload())], 4: [missed(ticks(7, payload())), missed(ticks(8, payload())), missed(ticks(9, payload()), 5)]}
+        stats = {0: "overrun: 12\nread events: 5\n", 1: f"overrun: {(1 << 40) + 6}\ndropped events: 3\nread events: 3\n",
+                 2: "overrun: 3\nread events: 1\n", 3: "read events: 1\n", 4: "overrun: 1\nread events: 3\n"}
+        made, events = self.record(Kernel(self.top, pages, stats))
+        end = self.contents.end
+        wanted = {0: [10, lost(20, 7), 20, 21, lost(30, 3), 30, lost(30, 2), 30],
+                  1: [lost(15, 8), 15, lost(25, 1 << 40), 25, lost(26, 1), 26], 2: [5, lost(end, 3)], 3: [6],
+                  # The kernel's count is too small: each page that tells a loss tells of one event at least.
+                  4: [lost(7, 1), 7, lost(8, 1), 8, lost(9, 5), 9]}
+        self.assertEqual(entries(pathlib.Path(self.path).read_bytes()), wanted)
+        self.assertEqual((len(events), made.lost), (13, 12 + (1 << 40) + 9 + 3 + 7))
+        self.assertEqual((self.contents.version, made.assembly.marks), (2, 10))
+        self.assertGreater(end, 30)
+
+    def test_without_marks(self):
+        pages = {0: [ticks(10, payload()), missed(ticks(20, payload()), 7)]}
+        kernel = Kernel(self.top, pages, "overrun: 9\nread events: 2\n")
+        with kernel.running(), unittest.mock.patch("record.tracefs", lambda: self.top):
+            status, told = main("record", "demo:tick", "--seconds", "0.1", "--v1", "-o", self.path)
+        self.assertEqual(status, 0, told)
+        self.assertEqual(pathlib.Path(self.path).read_bytes()[:8], b"BTRACE01")
+        self.assertEqual(entries(pathlib.Path(self.path).read_bytes()), {0: [10, 20]})
+        self.assertIn("btrecord: 9 events lost while recording\nbtrecord: 0 events left out\n"
+                      "btrecord: 2 marks of lost events left out, since --v1 asks for version 1\n", told)
+        with kernel.running(), unittest.mock.patch("record.tracefs", lambda: self.top):
+            status, told = main("record", "demo:tick", "--seconds", "0.1", "-o", self.path)
+        self.assertIn("btrecord: the recording has 2 marks of lost events, and is of version 2\n", told)
+        self.assertEqual(entries(pathlib.Path(self.path).read_bytes())[0][:3], [10, lost(20, 7), 20])
 
     def test_events_that_may_not_be_enabled_are_named(self):
         kernel = Kernel(self.top, {0: [ticks(1, payload())]})

@@ -4,13 +4,14 @@ import struct
 import tempfile
 import time
 import unittest
+import unittest.mock
 
-from made import DEMO, HEADER_PAGE, NEWTASK, RENAME, page, payload, ticks, word
+from made import DEMO, HEADER_PAGE, NEWTASK, RENAME, lost, missed, page, payload, ticks, word
 
 from container import format_of
 from faults import Refused
 from instance import Ring
-from ring import Records, page_shape, take_records
+from ring import UNKNOWN, Losses, Records, page_shape, take_records
 from spool import Spool, windows
 from tasks import Change, Looks, Task, Tasks, task_changes
 
@@ -54,6 +55,36 @@ class Pages(unittest.TestCase):
         contents = page(0, word(1, 1), b"kept")
         self.assertEqual(records(contents[:8] + struct.pack("<Q", 8 | 1 << 31 | 1 << 30) + contents[16:]), [(1, b"kept")])
 
+    def test_what_was_lost_before_a_page(self):
+        contents = ticks(5, payload())
+        full = page(5, *[word(3, 0) + payload()] * 255)
+        for found, count in [(contents, None), (missed(contents), UNKNOWN), (missed(contents, 7), 7), (missed(contents, (1 << 64) - 1), (1 << 64) - 1),
+                             (full, None), (missed(full), UNKNOWN), (missed(full, 0), UNKNOWN), (missed(full, 9)[:-8], UNKNOWN)]:
+            self.assertEqual(SHAPE.lost_before(found), count)
+            self.assertEqual(records(found), records(contents if SHAPE.end(found) == SHAPE.end(contents) else full))
+        # A number that would run out of its page is none.
+        wrong = full[:8] + struct.pack("<Q", 4080 | 1 << 31 | 1 << 30) + full[16:]
+        self.assertEqual((SHAPE.lost_before(wrong), SHAPE.whole(wrong)), (UNKNOWN, wrong))
+        self.assertEqual(SHAPE.whole(missed(contents, 7))[-8:], struct.pack("<Q", 7))
+        self.assertEqual(len(SHAPE.whole(contents)), 32)
+
+    def test_a_number_that_no_page_tells(self):
+        """It is what the kernel counted so far, and what it counted in all has the last word; each such page lost one event at least."""
+        told = (None, 3, UNKNOWN, UNKNOWN, 1, None, UNKNOWN)
+        for so_far, counted, shares in [((0, 0, 0), 10, [1, 1, 4]), ((5, 9, 20), 20, [2, 4, 10]), ((5, 9, 20), 17, [2, 4, 7]), ((5, 9, 20), 9, [2, 2, 1]),
+                                        ((5, 9, 20), 0, [1, 1, 1]), ((9, 9, 9), 30, [6, 1, 19]), ((3, 4, 4), 1 << 70, [1, 1, (1 << 64) - 1]),
+                                        ((1 << 70, 0, 0), 12, [6, 1, 1])]:
+            losses, counts = Losses(), iter(so_far)
+            for lost_before in told:
+                losses.see(lost_before, lambda: next(counts))
+            losses.settle(counted)
+            self.assertEqual((list(losses.shares), losses.told, losses.at_end), (shares, 4, max(counted - 4 - sum(shares), 0)))
+        for told_number, counted, at_end in [(4, 9, 5), (9, 4, 0), (0, 7, 7), (0, 0, 0)]:
+            losses = Losses()
+            losses.see(told_number or None)
+            losses.settle(counted)
+            self.assertEqual((losses.total, losses.at_end), (told_number, at_end))
+
     def test_a_record_that_runs_out_of_its_page(self):
         for contents in [page(0, word(3, 1), b"12345678"), page(0, word(0, 1)), page(0, word(0, 1), struct.pack("<I", 2))]:
             with self.assertRaises(Refused):
@@ -91,6 +122,12 @@ class Rings(unittest.TestCase):
         self.assertEqual(ring.read(SHAPE, True, 10), 10)
         self.assertEqual(ring.read(SHAPE, True, 10, time.monotonic() - 1), 1)
 
+    def test_what_was_lost_is_asked_where_a_page_does_not_tell_it(self):
+        ring, counts = self.ring(FULL, missed(SMALL, 3), missed(SMALL), SMALL, missed(SMALL)), iter([(0, 0, 10), (0, 0, 14)])
+        with unittest.mock.patch.object(Ring, "counts", lambda self: next(counts)):
+            ring.read(SHAPE)
+        self.assertEqual((ring.spool.losses.told, list(ring.spool.losses.shares), list(counts)), (3, [7, 4], []))
+
     def test_what_the_kernel_counted(self):
         ring = self.ring()
         with open(f"{self.folder.name}/stats", "w") as file:
@@ -106,6 +143,28 @@ class Rings(unittest.TestCase):
         found = [(when, cpu, thread) for _, window in windows(spools) for cpu, of in window for when, thread in zip(of.times, of.threads)]
         self.assertEqual(sorted(found), [(10, 0, 1), (11, 0, 2), (20, 1, 4), (30, 0, 3)])
         self.assertEqual(next(windows(spools, lambda time: min(time, 10)))[1], [(0, Records([10], [1], [payload(1)]))])
+
+
+    def test_marks_stand_among_the_records(self):
+        """At the times of their pages, which do not fall, and not before they are wanted."""
+        spool = Spool(self.folder.name, SHAPE)
+        pages = [missed(ticks(10, payload(1)), 5), ticks(20, payload(2)), missed(ticks(15, payload(3)), 6), missed(ticks(30), 8), missed(ticks(30, payload(4)))]
+        for contents in pages:
+            spool.add(contents)
+        plain = [(10, payload(1)), (20, payload(2)), (20, payload(3)), (30, payload(4))]
+
+        def found():
+            return [pair for of in spool.chunks() for pair in zip(of.times, of.payloads)]
+        self.assertEqual(found(), plain)
+        spool.has_marks = True
+        spool.losses.settle(20)
+        # A page without records is not kept, so that its number is among the rest.
+        marks = [(10, lost(10, 5)), *plain[:2], (20, lost(20, 6)), plain[2], (30, lost(30, 9)), plain[3]]
+        for _ in range(2):
+            self.assertEqual(found(), marks)
+        self.assertEqual([of.threads for _, [(_, of)] in windows({0: spool})], [[0, 1, 2, 0, 3, 0, 4]])
+        with unittest.mock.patch("spool.PAGES_AT_ONCE", 1):
+            self.assertEqual(found(), marks)
 
 
 class Threads(unittest.TestCase):

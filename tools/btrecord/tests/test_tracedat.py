@@ -11,7 +11,7 @@ import unittest
 import unittest.mock
 import zlib
 
-from made import HEADER_PAGE, NEWTASK, OTHER_TEXT, RENAME, TEXT, page, payload, program, ticks, word
+from made import HEADER_PAGE, NEWTASK, OTHER_TEXT, RENAME, TEXT, entries, lost, missed, page, payload, program, ticks, word
 
 import unpacking
 from faults import REFUSED, Refused
@@ -162,10 +162,43 @@ class Files(unittest.TestCase):
         told, events = self.events(version_6({0: [ticks(5, payload(number=9), payload())]}))
         self.assertEqual(events, [(0, 6, 1235, b"clock", 300)])
         self.assertIn("1 event left out: 1 of no format that is there", told)
-        with unittest.mock.patch("container.MOST_EVENTS", 2):
+        with unittest.mock.patch("container.MOST_ENTRIES", 5):
             told, events = self.events(version_6())
         self.assertEqual(events, [EVENTS[0], EVENTS[1]])
         self.assertIn("3 events left out: 3 past the container's limits", told)
+        self.assertEqual(entries(self.out.read_bytes()), {0: [100, 101, lost(150, 1 + 6)], 1: [], 2: [lost(150, 2)]})
+        pages = {cpu: [ticks(100 * k + cpu, payload()) for k in range(1, 60)] for cpu in (0, 1)}
+        with unittest.mock.patch("container.MOST_ENTRIES", 20):
+            told, events = self.events(version_6({0: pages[0], 1: [*pages[1][:30], missed(pages[1][30], 4), *pages[1][31:]]}, options=()))
+        self.assertEqual(entries(self.out.read_bytes()), {0: [*range(100, 1000, 100), lost(1000, 50)], 1: [*range(101, 1001, 100), lost(1000, 50 + 4)]})
+        self.assertIn("100 events left out: 100 past the container's limits", told)
+
+    def test_what_the_kernel_lost_is_marked(self):
+        pages = {0: [ticks(100, payload(77)), missed(ticks(200, payload()), 4), missed(ticks(300, payload())), ticks(400, payload())],
+                 1: [ticks(250, payload())], 2: [missed(ticks(150, payload()))]}
+        packed = zlib.compress
+        # The kernel counted 6 for CPU 0, and nothing is told of CPU 2.
+        wanted = {0: [100, lost(200, 4), 200, lost(300, 2), 300, 400], 1: [250], 2: [lost(150, 1), 150]}
+        for contents in (version_6(pages), version_7(pages), version_7(pages, packing=b"zlib", pack=packed)):
+            told, events = self.events(contents)
+            self.assertEqual((len(events), entries(self.out.read_bytes())), (6, wanted))
+            self.assertIn("btrecord: 7 events lost while recording\nbtrecord: 0 events left out\n"
+                          "btrecord: the recording has 3 marks of lost events, and is of version 2\n", told)
+        _, events = self.events(version_6(pages, [TEXT, NEWTASK]))
+        self.assertEqual(entries(self.out.read_bytes()), wanted)
+        # What no page tells of is marked at the end.
+        self.events(version_6())
+        self.assertEqual(entries(self.out.read_bytes()), {0: [100, 101, 200, lost(200, 6)], 1: [], 2: [150, 151]})
+        _, events = self.events(version_6(PAGES, options=()))
+        self.assertEqual((self.out.read_bytes()[:8], len(events)), (b"BTRACE01", 5))
+        with contextlib.redirect_stderr(io.StringIO()) as err:
+            program.main(["convert", "--v1", str(self.path), "-o", str(self.out)])
+        self.assertNotIn("mark", err.getvalue())
+        self.path.write_bytes(version_6(pages))
+        with contextlib.redirect_stderr(io.StringIO()) as err:
+            program.main(["convert", "--v1", str(self.path), "-o", str(self.out)])
+        self.assertIn("btrecord: 3 marks of lost events left out, since --v1 asks for version 1\n", err.getvalue())
+        self.assertEqual(entries(self.out.read_bytes()), {0: [100, 200, 300, 400], 1: [250], 2: [150]})
 
     def test_clocks(self):
         told, _ = self.events(version_6(options=()))

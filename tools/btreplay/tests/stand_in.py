@@ -68,14 +68,19 @@ def format_text(name, number, fields=""):
     return f"name: {name}\nID: {number}\nformat:\n{fields}".encode()
 
 
-def recording(formats, cpus, start=0, end=1_000_000_000):
-    """The bytes of a recording: its formats as pairs of system and text, and for each CPU the pairs of time and ID of its events."""
-    out = b"BTRACE01" + struct.pack("<IIQQ", len(cpus), len(formats), start, end)
+def recording(formats, cpus, start=0, end=1_000_000_000, is_marked=False):
+    """The bytes of a recording: its formats as pairs of system and text, and for each CPU the pairs of time and ID of its events. One that may
+    have marks has each as its time and 0."""
+    out = (b"BTRACE02" if is_marked else b"BTRACE01") + struct.pack("<IIQQ", len(cpus), len(formats), start, end)
     for system, text in formats:
         out += struct.pack("<H", len(system)) + system.encode() + struct.pack("<I", len(text)) + text
     for number, events in enumerate(cpus):
         out += struct.pack("<II", number, len(events))
         for time, which in events:
+            if is_marked and not which:
+                out += struct.pack("<BQQ", 1, time, 9)
+                continue
+            out += b"\0" if is_marked else b""
             out += struct.pack("<QIIII16sI", time, 1, 1, 0, 0, b"one", 2) + struct.pack("<H", which)
     return out
 

@@ -106,7 +106,7 @@ class Meanings(unittest.TestCase):
         codes = set(re.findall(r"^\*\*([XPAYKC]\d+) ", page, re.M))
         self.assertEqual(codes, set(SCRIPT) | set(RECORDING))
         self.assertEqual(len(SCRIPT), 6 + 3 + 5 + 12 + 2)
-        self.assertEqual(len(RECORDING), 11)
+        self.assertEqual(len(RECORDING), 13)
         self.assertTrue(all(len(meaning_of(code, "")) == 2 and all(meaning_of(code, "")) for code in codes))
 
 

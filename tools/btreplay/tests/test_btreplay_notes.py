@@ -43,6 +43,23 @@ class Notes(unittest.TestCase):
         formats = [("a", format_text("seen", 7)), ("a", format_text("idle", 8))]
         self.assertEqual(self.notes("t:a:idle { }", recording(formats, [[(n, 7) for n in range(100)], [], [(5, 7), (6, 8)]])), [])
 
+    def test_recordings_with_marks(self):
+        formats = [("a", format_text("seen", 7)), ("a", format_text("idle", 8))]
+        for cpus, told in [([[(1, 7), (2, 0)], [(3, 0), (5, 7)]], True), ([[(2, 0)], [(5, 7), (6, 0), (6, 8)]], False), ([[(2, 0)], []], True)]:
+            content = recording(formats, cpus, is_marked=True)
+            self.assertEqual(self.notes("t:a:idle { }", content), ["s.bt:1:1: the recording has no event of t:a:idle"] if told else [])
+            self.assertTrue(begins_a_recording(self.path))
+        for damaged in (content[:-1], content + b"x", content.replace(b"\x01\x02\0\0\0", b"\x02\x02\0\0\0")):
+            self.assertEqual(self.notes("t:a:idle { }", damaged), [])
+
+    def test_losses_are_told_in_the_order_of_cpus(self):
+        formats = [("a", format_text("seen", 7))]
+        for cpus, is_marked, told in [(2, True, True), (1, True, False), (2, False, False)]:
+            content = recording(formats, [[(5, 7)]] * cpus, is_marked=is_marked)
+            note = "lost events are told as each CPU comes to them, so the answer depends on the order of CPUs; run --serial takes all events by their times"
+            self.assertEqual(self.notes("t:a:seen { @ = count(); }", content, is_ordered=False), [note] if told else [])
+            self.assertEqual(self.notes("t:a:seen { @ = count(); }", content), [])
+
     def test_damaged_recordings_tell_nothing(self):
         whole = two_kinds()
         for content in (whole[:-1], whole + b"x", b"", b"BTRACE01", whole[:100]):

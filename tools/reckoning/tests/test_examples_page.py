@@ -72,7 +72,7 @@ class Page(unittest.TestCase):
     def test_every_script_has_a_row(self):
         rows = rows_of("Script")
         self.assertEqual(sorted(row[0].strip("`") for row in rows), sorted(self.scripts))
-        self.assertEqual(len(rows), 35)
+        self.assertEqual(len(rows), 36)
 
     def test_marks(self):
         """By the rule, by the page, and by the script's own command."""

@@ -38,7 +38,10 @@ class Outputs(unittest.TestCase):
         self.assertEqual((start, len(events)), (895065171000, 2000))
         for name, question in questions.QUESTIONS.items():
             with self.subTest(name):
-                self.assertEqual(question(start, events), (EXAMPLES / f"{name}.out").read_text())
+                recording = questions.RECORDINGS.get(name, "small.btr")
+                self.assertIn(f"examples/{recording}\n", (EXAMPLES / f"{name}.bt").read_text())
+                found = (start, events) if recording == "small.btr" else read_recording((EXAMPLES / recording).read_bytes())
+                self.assertEqual(question(*found), (EXAMPLES / f"{name}.out").read_text())
 
     def test_in_another_order(self):
         """What is run without --serial comes out the same where the last CPU goes first."""
@@ -54,6 +57,16 @@ class Recording(unittest.TestCase):
     def test_the_example_of_the_page(self):
         self.assertEqual(read_recording(writer()[1]), (500, [Event("demo:tick", 2, 1000, 1234, 1235, "clock", {"n": -2})]))
         self.assertRaises(ValueError, read_recording, b"no recording, but more than thirty bytes")
+
+    def test_a_recording_with_marks(self):
+        """The mark of the page, and one at the time of events of its CPU and of another."""
+        names = {}
+        exec(re.search(r"```python\n(.*?)```", (TOP / "docs" / "RECORDINGS.md").read_text(), re.S).group(1), names)
+        tick = Event("demo:tick", 2, 1000, 1234, 1235, "clock", {"n": -2})
+        self.assertEqual(read_recording(names["marked"]), (500, [tick, Event("lost", 2, 1500, 0, 0, "", {"count": 5})]))
+        text, e = b"name: e\nID: 7\nformat:\n", (4, 1, 1, 0, 0, b"x", b"\7\0")
+        _, events = read_recording(writer()[0](0, 10, [(b"s", text)], [(0, [(4, 1), e, (4, 2)]), (3, [(3, 7), e])]))
+        self.assertEqual([(one.cpu, one.time, one.fields.get("count")) for one in events], [(3, 3, 7), (0, 4, 1), (0, 4, None), (0, 4, 2), (3, 4, None)])
 
     def test_fields(self):
         """A string behind the fixed fields, one in an array, a number without sign and an array of numbers; the events stand by time."""
@@ -129,6 +142,13 @@ class Questions(unittest.TestCase):
         opens = [event("syscalls:sys_exit_openat", 1, {"ret": 3}), event("syscalls:sys_enter_openat", 1000, {"flags": 0x80000}),
                  event("syscalls:sys_exit_openat", 2000, {"ret": -2}, cpu=2, pid=40, comm="cat")]
         self.assertEqual(questions.open_calls(0, opens).splitlines()[1:], ["        2      40 cat                80000     -2"])
+
+    def test_lost_events(self):
+        """A call, and a mark at the time of a tick, which stands behind it; a tick without calls, and what comes after the last one."""
+        events = [event("raw_syscalls:sys_enter", 1_049_999, {}), event("lost", 1_050_000, {"count": 7}, cpu=3), event("raw_syscalls:sys_enter", 1_050_000, {}),
+                  event("raw_syscalls:sys_exit", 1_060_000, {}), event("lost", 1_151_000, {"count": 1})]
+        self.assertEqual(questions.lost_events(1_000_000, events), " 50 us:   1 calls\nWARNING: 7 events lost on cpu 3\n100 us:   1 calls\n"
+                         "150 us:   0 calls\nWARNING: 1 events lost on cpu 0\nthe rest: 0 calls\n")
 
     def test_write_back(self):
         """Two beginnings of one device and reason, of 3 and of 9 pages."""
