@@ -102,7 +102,7 @@ fn read_entries<'b>(
     requires { bytes.now ≡ drop (length setting.now.file.now - length bytes.now) setting.now.file.now }
     ensures { Answers result
         (λ read. HasEntries (entries setting.now.marks) setting.now.formats.now setting.now.start setting.now.end count bytes.now
-            (entries_in setting.now.file.now read.0.items) read.1.now)
+        (entries_in setting.now.file.now read.0.items) read.1.now)
         (EntryFails (entries setting.now.marks) (length setting.now.file.now) setting.now.formats.now setting.now.start setting.now.end cpu count bytes.now) }
 {
     let mut places = Vec::new(alloc);
