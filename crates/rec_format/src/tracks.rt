@@ -75,7 +75,8 @@ fn check_entry(
     entry: &EntryBytes<'_>,
 ) -> Result<u32, RecordingError>
     ensures accepted { IfOk result (λ format. IsPartPlaced setting.now.formats.now (entry_part entry.now) format) }
-    ensures checked { result_err result ≡ entry_fault (entries setting.now.marks) setting.now.formats.now earliest setting.now.end cpu place (entry_part entry.now) }
+    ensures checked { result_err result
+        ≡ entry_fault (entries setting.now.marks) setting.now.formats.now earliest setting.now.end cpu place (entry_part entry.now) }
 {
     if let EntryBytes::Unknown(_) = entry {
         return Err(RecordingError::BadEntry(cpu, place));
