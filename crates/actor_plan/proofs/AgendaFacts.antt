@@ -1,7 +1,7 @@
 -- What the agenda of a CPU has.
 use Rattle.std.proofs.Common.{◌≡◌, ℕ, zero, suc, ◌+◌, ◌<◌, ◌≤◌, Bool, true, false, List, [], ◌∷◌, ◌++◌, drop, length, refl, sym, ap, ◌∙◌, subst, arith}
 use Rattle.std.specs.Prelude.{nat_lt, nat_le, slice_get, Option, Some, None, ⊤, if◌then◌else◌}
-use Rattle.std.specs.List.{AllByRecursion, filter_map, range_with_len}
+use Rattle.std.specs.List.{AllByRecursion, cons_option, filter_map, range_with_len}
 use Rattle.std.proofs.lemmas.Bool.Decides.{nat_tests}
 use Rattle.std.proofs.lemmas.List.Elements.{filter_map-append}
 use Rattle.std.proofs.lemmas.List.{append-nil, length-drop}
@@ -66,10 +66,10 @@ of_item P p (entry.Event e) h g = h
 of_item P p (entry.Lost time count) h g = g
 
 skip_one : {X : Type 0} (f : AgendaItem → Option X) (i : AgendaItem) (is : List AgendaItem) → f i ≡ None → filter_map f (i ∷ is) ≡ filter_map f is
-skip_one f i is none = ap (λ o. kept o (filter_map f is)) none
+skip_one f i is none = ap (λ o. cons_option o (filter_map f is)) none
 
 take_one : {X : Type 0} (f : AgendaItem → Option X) (i : AgendaItem) (is : List AgendaItem) (x : X) → f i ≡ Some x → filter_map f (i ∷ is) ≡ x ∷ filter_map f is
-take_one f i is x some = ap (λ o. kept o (filter_map f is)) some
+take_one f i is x some = ap (λ o. cons_option o (filter_map f is)) some
 
 -- ---- places
 

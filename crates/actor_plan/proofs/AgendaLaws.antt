@@ -17,7 +17,7 @@ use Rattle.rec_format.specs.EntryParts.{entries}
 use Rattle.rec_format.specs.Places.{entry_time}
 use Rattle.rec_format.specs.Recordings.{IsValidRecording}
 use Rattle.rec_format.specs.Checks.{has_marks}
-use Rattle.rec_format.proofs.PlaceLaws.{track_at, time_is}
+use Rattle.rec_format.proofs.PlaceLaws.{track_at}
 use Rattle.actor_plan.specs.declared.agenda.AgendaItem.TheVariants as item
 use Rattle.actor_plan.specs.Agendas.{AreInTurn, entries_of, entries_on_track, item_at, entries_where, is_between, items_from, agenda_of}
 use Rattle.actor_plan.specs.Steps.{entries_on, earlier, earlier_count, taken}

@@ -1,5 +1,5 @@
 -- Programs ask only what ports can do.
-use Rattle.std.proofs.Common.{◌≡◌, ℕ, ◌+◌, ◌<◌, ◌≤◌, Bool, true, false, List, [], ◌∷◌, length, refl, sym, ap, ◌∙◌, subst, arith, if◌then◌else◌}
+use Rattle.std.proofs.Common.{◌≡◌, ℕ, ◌+◌, ◌<◌, ◌≤◌, Bool, true, false, List, [], ◌∷◌, length, refl, ap, ◌∙◌, arith, if◌then◌else◌}
 use Rattle.std.specs.Prelude.{nat_lt, slice_get, slice_index_or, Option, Some, None, option_and_then}
 use Rattle.std.specs.List.{AllByRecursion}
 use Rattle.std.proofs.lemmas.Option.{slice_get_within}
@@ -26,7 +26,7 @@ use Rattle.actor_plan.specs.declared.agenda.AgendaItem.{AgendaItem}
 use Rattle.actor_plan.specs.declared.agenda.AgendaItem.TheVariants as item
 use Rattle.actor_plan.specs.Agendas.{agenda_of}
 use Rattle.actor_plan.specs.Contexts.{event_context, tick_context, begin_context, end_context}
-use Rattle.actor_plan.specs.Plans.{Plan, CanRun, IsBodyFor, HasBodies, AsksOf, BodiesAsk}
+use Rattle.actor_plan.specs.Plans.{Plan, IsBodyFor, HasBodies, AsksOf, BodiesAsk}
 use Rattle.actor_plan.specs.declared.outcome.Outcome.{Outcome}
 use Rattle.actor_plan.specs.Programs.{after_count, in_turn, goes_on, crosses_last, entry_work, tick_work, item_work, where_some, items_program, track_program, begin_program, end_program, cpu_program, main_program, actor_program}
 

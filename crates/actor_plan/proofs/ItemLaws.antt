@@ -1,6 +1,6 @@
 -- The items of an agenda: which bodies are run at them.
 use Rattle.std.proofs.Common.{◌≡◌, ℕ, ◌*◌, ◌≤◌, List, [], length, refl, sym, ap, ◌∙◌, arith, subst, lit≤, Ok, Err, IfOk, Result}
-use Rattle.std.specs.Prelude.{All, Some, None, slice_get, slice_index_or, unwrap_or}
+use Rattle.std.specs.Prelude.{All, Some, None, option_and_then, slice_get, slice_index_or, unwrap_or}
 use Rattle.std.proofs.lemmas.Option.{slice_get_within, get_or_from_slice_get, unwrap_or-slice_get}
 use Rattle.bt_ast.specs.declared.attached.Attached.{Attached}
 use Rattle.bt_ast.specs.declared.attached.Tick.{Tick}
@@ -11,13 +11,18 @@ use Rattle.bt_core.specs.declared.step.Step.{Step}
 use Rattle.bt_core.specs.Interaction.{Performed}
 use Rattle.bt_core.specs.Ports.{Setting}
 use Rattle.rec_format.specs.declared.recording.CpuTrack.{CpuTrack}
+use Rattle.rec_format.specs.declared.recording.Entry.{Entry}
+use Rattle.rec_format.specs.declared.recording.Entry.TheVariants as entry
 use Rattle.rec_format.specs.declared.recording.Event.{Event}
 use Rattle.rec_format.specs.declared.recording.Recording.{Recording}
 use Rattle.rec_format.specs.Places.{HasFormat}
+use Rattle.rec_format.specs.Recordings.{IsValidRecording}
+use Rattle.rec_format.proofs.ForOthers.{recorded_format}
 use Rattle.actor_plan.specs.declared.limits.TheConstants.{RUN_INSTRUCTIONS}
 use Rattle.actor_plan.specs.Contexts.{tick_context}
 use Rattle.actor_plan.specs.Plans.{Plan, CanRun, IsBodyFor}
 use Rattle.actor_plan.specs.Ready.{IsReady}
+use Rattle.actor_plan.specs.Steps.{IsRecorded}
 use Rattle.actor_plan.proofs.InTurnLaws.{takes_few}
 
 pub listed : (lists : List (List ℕ)) (i : ℕ) (which : List ℕ) → Some which ≡ slice_get lists i → slice_index_or lists i [] ≡ which
@@ -25,6 +30,12 @@ listed lists i which at = get_or_from_slice_get lists i which [] (sym at)
 
 pub unlisted : (lists : List (List ℕ)) (i : ℕ) → None ≡ slice_get lists i → slice_index_or lists i [] ≡ []
 unlisted lists i at = let none : List ℕ = [] in sym (unwrap_or-slice_get lists i none) ∙ ap (λ o. unwrap_or o none) (sym at)
+
+-- an entry that stands in a track of a valid recording
+pub recorded_here : (r : Recording) (cpu place : ℕ) (track : CpuTrack) (e : Entry) → IsValidRecording r → slice_get r.cpus cpu ≡ Some track → slice_get track.entries place ≡ Some e → IsRecorded r.formats e
+recorded_here r cpu place track (entry.Lost time count) valid on at = tt
+recorded_here r cpu place track (entry.Event e) valid on at =
+    recorded_format r cpu place e valid (ap (λ o. option_and_then (λ (c : CpuTrack). slice_get c.entries place) o) on ∙ at)
 
 module _ (plan : Plan) (r : Recording) (attached : Attached) (setting : Setting) (ready : IsReady plan r attached setting) where
   pub known_at : (e : Event) (which payload : List ℕ) → HasFormat r.formats e → Some which ≡ slice_get attached.by_format e.format → payload ≡ e.payload → All (IsBodyFor plan (length payload)) which

@@ -1,6 +1,7 @@
 -- One step of the loops over entries and ticks.
-use Rattle.std.proofs.Common.{◌≡◌, ℕ, suc, ◌+◌, ◌-◌, ◌<◌, ◌≤◌, true, false, List, [], ◌∷◌, ◌++◌, drop, length, get_or, sym, ap, ◌∙◌, arith, append_assoc}
-use Rattle.std.specs.Prelude.{nat_lt, slice_get, Some, if◌then◌else◌}
+use Rattle.std.proofs.Common.{◌≡◌, ℕ, zero, suc, ◌+◌, ◌-◌, ◌<◌, ◌≤◌, Bool, true, false, List, [], ◌∷◌, ◌++◌, drop, length, get_or, refl, sym, ap, ◌∙◌, arith, append_assoc, append-nil}
+use Rattle.std.specs.Prelude.{nat_lt, slice_get, None, Some, if◌then◌else◌}
+use Rattle.std.proofs.lemmas.Bool.Decides.{nat_tests}
 use Rattle.std.proofs.lemmas.Option.{slice_get_within, get_or_from_slice_get}
 use Rattle.std.proofs.lemmas.List.{at_drop_more, drop-drop, length-drop}
 use Rattle.bt_ast.specs.declared.attached.Tick.{Tick}
@@ -15,6 +16,47 @@ pub one_entry : (entries : List Entry) (place : ℕ) (e : Entry) → slice_get e
 one_entry entries place e at =
     let lt : place < length entries = slice_get_within entries place e at in
     at_drop_more (entries_on place) entries place e lt ∙ ap (λ (x : Entry). item_at place x ∷ entries_on (place + 1) (drop (place + 1) entries)) (get_or_from_slice_get entries place e e at)
+
+-- past the last entry nothing is left
+pub none_left : (entries : List Entry) (place : ℕ) → slice_get entries place ≡ None → drop place entries ≡ []
+none_left [] zero none = refl
+none_left [] (suc place) none = refl
+none_left (e ∷ es) zero none = absurd cc
+none_left (e ∷ es) (suc place) none = none_left es place none
+
+-- what was added with one item more, and what is to come behind it
+pub pushed : (old new : List AgendaItem) (i j : AgendaItem) (rest whole : List AgendaItem) → new ≡ old ++ i ∷ [] → i ≡ j → whole ≡ j ∷ rest → new ++ rest ≡ old ++ whole
+pushed old new i j rest whole grew is cut =
+    ap (λ l. l ++ rest) grew ∙ append_assoc old (i ∷ []) rest ∙ ap (λ k. old ++ (k ∷ rest)) is ∙ ap (λ l. old ++ l) (sym cut)
+
+module _ (entries : List Entry) (time place : ℕ) (e : Entry) (at : slice_get entries place ≡ Some e) where
+  here : {A : Type 0} (f : List Entry → A) → f (drop place entries) ≡ f (e ∷ drop (place + 1) entries)
+  here f = at_drop_more f entries place e (slice_get_within entries place e at) ∙ ap (λ (x : Entry). f (x ∷ drop (place + 1) entries)) (get_or_from_slice_get entries place e e at)
+
+  pub one_earlier : entry_time e < time → earlier time place (drop place entries) ≡ item_at place e ∷ earlier time (place + 1) (drop (place + 1) entries)
+  one_earlier lt = let less : nat_lt (entry_time e) time ≡ true = grind (arith, nat_tests) in
+      here (earlier time place) ∙ ap (λ (b : Bool). if b then item_at place e ∷ earlier time (place + 1) (drop (place + 1) entries) else []) less
+
+  pub one_counted : entry_time e < time → earlier_count time (drop place entries) ≡ suc (earlier_count time (drop (place + 1) entries))
+  one_counted lt = let less : nat_lt (entry_time e) time ≡ true = grind (arith, nat_tests) in
+      here (earlier_count time) ∙ ap (λ (b : Bool). if b then suc (earlier_count time (drop (place + 1) entries)) else 0) less
+
+  pub none_earlier : time ≤ entry_time e → earlier time place (drop place entries) ≡ []
+  none_earlier le = let not_less : nat_lt (entry_time e) time ≡ false = grind (arith, nat_tests) in
+      here (earlier time place) ∙ ap (λ (b : Bool). if b then item_at place e ∷ earlier time (place + 1) (drop (place + 1) entries) else []) not_less
+
+  pub none_counted : time ≤ entry_time e → earlier_count time (drop place entries) ≡ 0
+  none_counted le = let not_less : nat_lt (entry_time e) time ≡ false = grind (arith, nat_tests) in
+      here (earlier_count time) ∙ ap (λ (b : Bool). if b then suc (earlier_count time (drop (place + 1) entries)) else 0) not_less
+
+-- where no earlier one is left, all were added
+pub all_pushed : (entries : List Entry) (time from place : ℕ) (old items : List AgendaItem) → earlier time place (drop place entries) ≡ [] → earlier_count time (drop place entries) ≡ 0
+    → items ++ earlier time place (drop place entries) ≡ old ++ earlier time from (drop from entries)
+    → place + earlier_count time (drop place entries) ≡ from + earlier_count time (drop from entries) → PushesEarlier time from (drop from entries) old items place
+all_pushed entries time from place old items none no_more whole counted = record {
+  items = sym (ap (λ l. items ++ l) none ∙ append-nil items) ∙ whole;
+  next = omega (arith, no_more, counted);
+}
 
 pub few_earlier : (time : ℕ) (es : List Entry) → earlier_count time es ≤ length es
 few_earlier time [] = omega arith

@@ -8,19 +8,21 @@ use Rattle.bt_ast.specs.declared.attached.Tick.{Tick}
 use Rattle.bt_core.specs.declared.step.ObjectId.{ObjectId}
 use Rattle.bt_core.specs.declared.step.ObjectId.TheVariants.{Shared, Cpu, Clock, Out}
 use Rattle.bt_core.specs.declared.step.Op.{Op}
-use Rattle.bt_core.specs.declared.step.Op.TheVariants.{Cross, Check, Stop}
+use Rattle.bt_core.specs.declared.item.Item.TheVariants.{Lost}
+use Rattle.bt_core.specs.declared.step.Op.TheVariants.{Cross, Check, Emit, Stop}
 use Rattle.bt_core.specs.declared.step.Step.{Step}
 use Rattle.bt_core.specs.Interaction.{Call, call_of, Interaction, Ended, Asks, and_then, ask, Runs}
 use Rattle.bt_core.specs.Steps.{is_same_object}
 use Rattle.rec_format.specs.declared.recording.CpuTrack.{CpuTrack}
-use Rattle.rec_format.specs.declared.recording.Event.{Event}
+use Rattle.rec_format.specs.declared.recording.Entry.{Entry}
+use Rattle.rec_format.specs.declared.recording.Entry.TheVariants as entry
 use Rattle.agg_core.specs.Answers.{is_cross}
 use Rattle.actor_plan.specs.declared.agenda.AgendaItem.{AgendaItem}
 use Rattle.actor_plan.specs.declared.agenda.AgendaItem.TheVariants as item
 use Rattle.actor_plan.specs.declared.outcome.Outcome.{Outcome}
 use Rattle.actor_plan.specs.Agendas.{tick_place}
 use Rattle.actor_plan.specs.Contexts.{event_context, tick_context}
-use Rattle.actor_plan.specs.Programs.{in_turn, tells_stop, tells_last, goes_on, crosses_last, where_some, event_work, tick_work, item_work, after_count, items_program, begin_program, end_program, bodies_at}
+use Rattle.actor_plan.specs.Programs.{in_turn, tells_stop, tells_last, goes_on, crosses_last, where_some, entry_work, mark_work, tick_work, item_work, after_count, items_program, begin_program, end_program, bodies_at}
 use Rattle.bt_meaning.specs.Replays.{Replay}
 use Rattle.bt_meaning.specs.Ticks.{BodiesOnlyStop, OnlyStops, is_crossing}
 use Rattle.bt_meaning.proofs.Crossings.{mark, marks, marks_append}
@@ -72,6 +74,7 @@ pub times_append : (k : ℕ) (xs ys : List AgendaItem) → times k (xs ++ ys) �
 times_append k [] ys = omega arith
 times_append k (item.Tick j ∷ xs) ys = let r = times_append k xs ys in omega arith
 times_append k (item.Event j ∷ xs) ys = times_append k xs ys
+times_append k (item.Lost j ∷ xs) ys = times_append k xs ys
 
 -- items that have a tick are cut at it
 pub record TickCut (k : ℕ) (items : List AgendaItem) : Type 0 where
@@ -87,6 +90,8 @@ tick_cut k (item.Tick j ∷ is) some = dite (ℕ_discrete j k)
     let r = tick_cut k is (omega arith) in record { front = item.Tick j ∷ r.front; back = r.back; whole = ap (λ l. item.Tick j ∷ l) r.whole })
 tick_cut k (item.Event j ∷ is) some =
     let r = tick_cut k is some in record { front = item.Event j ∷ r.front; back = r.back; whole = ap (λ l. item.Event j ∷ l) r.whole }
+tick_cut k (item.Lost j ∷ is) some =
+    let r = tick_cut k is some in record { front = item.Lost j ∷ r.front; back = r.back; whole = ap (λ l. item.Lost j ∷ l) r.whole }
 
 -- each run crosses tick k at most n times
 abbrev pub AtMost : {A : Type 0} → ℕ → ℕ → Interaction A → Type 0
@@ -140,6 +145,10 @@ module _ (k : ℕ) where
   last_most tick = weaker (cond (tick == k) 1 0 + 0) (cond (tick == k) 1 0) (crosses_last tick) (omega arith)
       (most_both (cond (tick == k) 1 0) 0 (ask Clock (Cross tick)) (λ reply. Ended (tells_last reply)) (ask_most (cond (tick == k) 1 0) (Cross tick) (omega arith)) (λ reply. most_end (tells_last reply)))
 
+  -- a mark is told of, and crosses nothing
+  mark_most : (number count : ℕ) → AtMost k 0 (mark_work number count)
+  mark_most number count = stops_most (mark_work number count) ((λ e. absurd (let r : ⊥ = cc in r)), λ reply. tt)
+
   module _ (p : Replay) (stops : BodiesOnlyStop p) (cpu : ℕ) where
     body_most : (body : ℕ) (context : _) (payload : List ℕ) → AtMost k 0 ((p.plan cpu).run body context payload)
     body_most body context payload = stops_most ((p.plan cpu).run body context payload) (stops cpu body context payload)
@@ -157,9 +166,10 @@ module _ (k : ℕ) where
       abbrev pub program : List AgendaItem → Interaction Outcome
       program = items_program p.exits work
 
-      event_most : (o : Option Event) → AtMost k 0 (where_some (event_work (p.plan cpu) p.recording p.attached track) o)
-      event_most None = most_end 0
-      event_most (Some e) = turn_most (λ body. (p.plan cpu).run body (event_context p.recording track e) e.payload)
+      entry_most : (o : Option Entry) → AtMost k 0 (where_some (entry_work (p.plan cpu) p.recording p.attached track) o)
+      entry_most None = most_end 0
+      entry_most (Some (entry.Lost time count)) = mark_most track.number count
+      entry_most (Some (entry.Event e)) = turn_most (λ body. (p.plan cpu).run body (event_context p.recording track e) e.payload)
           (λ body. body_most body (event_context p.recording track e) e.payload) (bodies_at (p.plan cpu) p.recording p.attached e)
 
       if_most : (body : Interaction ℕ) → AtMost k 0 body → (last : Bool) → AtMost k 0 (if last then body else Ended 0)
@@ -174,7 +184,8 @@ module _ (k : ℕ) where
 
       item_most : (i : AgendaItem) → AtMost k (times k (i ∷ [])) (work i)
       item_most (item.Tick place) = weaker (cond (place == k) 1 0) (cond (place == k) 1 0 + 0) (work (item.Tick place)) (omega arith) (tick_most place (slice_get p.attached.ticks place))
-      item_most (item.Event place) = event_most (slice_get track.events place)
+      item_most (item.Event place) = entry_most (slice_get track.entries place)
+      item_most (item.Lost place) = entry_most (slice_get track.entries place)
 
       by_on : (n : ℕ) (t : Interaction Outcome) → AtMost k n t → (on : Bool) → AtMost k n (if on then t else Ended (record { to_end = false; instructions = 0 }))
       by_on n t m true = m
@@ -183,6 +194,7 @@ module _ (k : ℕ) where
       times_cons : (i : AgendaItem) (is : List AgendaItem) → times k (i ∷ is) ≡ times k (i ∷ []) + times k is
       times_cons (item.Tick place) is = omega arith
       times_cons (item.Event place) is = omega arith
+      times_cons (item.Lost place) is = omega arith
 
       -- a program crosses a tick no more often than its items have it
       pub program_most : (items : List AgendaItem) → AtMost k (times k items) (program items)

@@ -1,18 +1,18 @@
 -- The order of items is a total one, and so there is one list in this order with given items.
-use Rattle.std.proofs.Common.{◌≡◌, ℕ, true, false, not, ◌&&◌, List, [], ◌∷◌, length, refl, sym, ap, ◌∙◌, arith, inl, inr}
+use Rattle.std.proofs.Common.{◌≡◌, ℕ, Bool, true, false, not, ◌&&◌, List, [], ◌∷◌, length, refl, sym, ap, ◌∙◌, arith, inl, inr}
 use Rattle.std.specs.List.{filter}
 use Rattle.std.specs.List.Sorted.{ties, IsPermutation, IsSortedBy, IsStableBy}
-use Rattle.std.specs.Cmp.{IsTotalOrder, IsStrictWeakOrder, nat_cmp_total, on_total, then_total, unsigned_Decides, unsigned_tied}
+use Rattle.std.specs.Cmp.{IsTotalOrder, IsStrictWeakOrder, bool_cmp_total, nat_cmp_total, on_total, then_total, unsigned_Decides, unsigned_tied}
 use Rattle.std.specs.declared.cmp.Ordering.{Ordering}
 use Rattle.std.specs.declared.cmp.Ordering.TheVariants.{Less, Equal, Greater}
-use Rattle.std.specs.Ordering.{is_lt, is_eq, nat_cmp, ordering_then, ordering_reverse, on, then_cmp}
+use Rattle.std.specs.Ordering.{is_lt, is_eq, bool_cmp, nat_cmp, ordering_then, ordering_reverse, on, then_cmp}
 use Rattle.std.proofs.lemmas.List.MinMax.{ranks_by}
 use Rattle.bt_core.specs.Sorted.{ordered}
 use Rattle.bt_core.proofs.StableOrder.{stable_order}
 use Rattle.weave.proofs.Among.{Has, filter_has}
 use Rattle.weave.proofs.Rising.{same_length}
 use Rattle.bt_meaning.specs.declared.schedule.Due.{Due}
-use Rattle.bt_meaning.specs.declared.schedule.Due.TheVariants.{Tick, Event}
+use Rattle.bt_meaning.specs.declared.schedule.Due.TheVariants.{Tick, Entry}
 use Rattle.bt_meaning.specs.declared.schedule.Scheduled.{Scheduled}
 use Rattle.bt_meaning.specs.contracts.schedule.DueOrd.TheImpl as derived_due
 use Rattle.bt_meaning.specs.contracts.schedule.ScheduledOrd.TheImpl as derived
@@ -22,9 +22,9 @@ use Rattle.bt_meaning.specs.Schedules.{due_order, schedule_order, is_sooner}
 
 derived_due_is : (d e : Due) → derived_due.ghosts.cmp d e ≡ due_order d e
 derived_due_is (Tick t c) (Tick u b) = refl
-derived_due_is (Tick t c) (Event b e) = refl
-derived_due_is (Event c e) (Tick u b) = refl
-derived_due_is (Event c e) (Event b f) = refl
+derived_due_is (Tick t c) (Entry b e l) = refl
+derived_due_is (Entry c e k) (Tick u b) = refl
+derived_due_is (Entry c e k) (Entry b f l) = refl
 
 pub derived_is : (s t : Scheduled) → derived.ghosts.cmp s t ≡ schedule_order s t
 derived_is s t = ap (ordering_then (nat_cmp s.time t.time)) (derived_due_is s.due t.due)
@@ -33,43 +33,57 @@ derived_is s t = ap (ordering_then (nat_cmp s.time t.time)) (derived_due_is s.du
 
 first_of_tick : Due → ℕ
 first_of_tick (Tick t c) = t
-first_of_tick (Event c e) = c
+first_of_tick (Entry c e k) = c
 
 second_of : Due → ℕ
 second_of (Tick t c) = c
-second_of (Event c e) = e
+second_of (Entry c e k) = e
+
+is_marked : Due → Bool
+is_marked (Tick t c) = false
+is_marked (Entry c e k) = k
 
 by_numbers : Due → Due → Ordering
-by_numbers = then_cmp (on first_of_tick nat_cmp) (on second_of nat_cmp)
+by_numbers = then_cmp (on first_of_tick nat_cmp) (then_cmp (on second_of nat_cmp) (on is_marked bool_cmp))
 
 numbers_total : IsTotalOrder by_numbers
 unfolding by_numbers
-numbers_total = then_total (on_total first_of_tick nat_cmp_total) (on_total second_of nat_cmp_total)
+numbers_total = then_total (on_total first_of_tick nat_cmp_total) (then_total (on_total second_of nat_cmp_total) (on_total is_marked bool_cmp_total))
+
+-- two numbers alone, where the third is the same
+tick_order : (t c u b : ℕ) → by_numbers (Tick t c) (Tick u b) ≡ due_order (Tick t c) (Tick u b)
+unfolding by_numbers first_of_tick second_of is_marked
+tick_order t c u b = ap (ordering_then (nat_cmp t u)) (then_equal (nat_cmp c b))
+  where
+    then_equal : (o : Ordering) → ordering_then o Equal ≡ o
+    then_equal Less = refl
+    then_equal Equal = refl
+    then_equal Greater = refl
 
 flip : (d e : Due) → due_order d e ≡ ordering_reverse (due_order e d)
-unfolding by_numbers first_of_tick second_of
-flip (Tick t c) (Tick u b) = numbers_total.antisymm (Tick t c) (Tick u b)
-flip (Tick t c) (Event b e) = refl
-flip (Event c e) (Tick u b) = refl
-flip (Event c e) (Event b f) = numbers_total.antisymm (Event c e) (Event b f)
+unfolding by_numbers first_of_tick second_of is_marked
+flip (Tick t c) (Tick u b) = sym (tick_order t c u b) ∙ numbers_total.antisymm (Tick t c) (Tick u b) ∙ ap ordering_reverse (tick_order u b t c)
+flip (Tick t c) (Entry b e l) = refl
+flip (Entry c e k) (Tick u b) = refl
+flip (Entry c e k) (Entry b f l) = numbers_total.antisymm (Entry c e k) (Entry b f l)
 
 chain : (d e f : Due) → due_order d e ≡ Less → due_order e f ≡ Less → due_order d f ≡ Less
-unfolding by_numbers first_of_tick second_of
-chain (Tick t c) (Tick u b) (Tick v a) p q = numbers_total.trans (Tick t c) (Tick u b) (Tick v a) p q
-chain (Tick t c) e (Event a f) p q = refl
-chain (Tick t c) (Event b e) (Tick v a) p q = cc
-chain (Event c e) (Tick u b) f p q = cc
-chain (Event c e) (Event b f) (Tick v a) p q = cc
-chain (Event c e) (Event b f) (Event a g) p q = numbers_total.trans (Event c e) (Event b f) (Event a g) p q
+unfolding by_numbers first_of_tick second_of is_marked
+chain (Tick t c) (Tick u b) (Tick v a) p q = sym (tick_order t c v a) ∙ numbers_total.trans (Tick t c) (Tick u b) (Tick v a) (tick_order t c u b ∙ p) (tick_order u b v a ∙ q)
+chain (Tick t c) e (Entry a f m) p q = refl
+chain (Tick t c) (Entry b e l) (Tick v a) p q = cc
+chain (Entry c e k) (Tick u b) f p q = cc
+chain (Entry c e k) (Entry b f l) (Tick v a) p q = cc
+chain (Entry c e k) (Entry b f l) (Entry a g m) p q = numbers_total.trans (Entry c e k) (Entry b f l) (Entry a g m) p q
 
 tie : (d e f : Due) → due_order d e ≡ Equal → due_order d f ≡ due_order e f
-unfolding by_numbers first_of_tick second_of
-tie (Tick t c) (Tick u b) (Tick v a) p = numbers_total.congr (Tick t c) (Tick u b) (Tick v a) p
-tie (Tick t c) (Tick u b) (Event a f) p = refl
-tie (Tick t c) (Event b e) f p = cc
-tie (Event c e) (Tick u b) f p = cc
-tie (Event c e) (Event b f) (Tick v a) p = refl
-tie (Event c e) (Event b f) (Event a g) p = numbers_total.congr (Event c e) (Event b f) (Event a g) p
+unfolding by_numbers first_of_tick second_of is_marked
+tie (Tick t c) (Tick u b) (Tick v a) p = sym (tick_order t c v a) ∙ numbers_total.congr (Tick t c) (Tick u b) (Tick v a) (tick_order t c u b ∙ p) ∙ tick_order u b v a
+tie (Tick t c) (Tick u b) (Entry a f m) p = refl
+tie (Tick t c) (Entry b e l) f p = cc
+tie (Entry c e k) (Tick u b) f p = cc
+tie (Entry c e k) (Entry b f l) (Tick v a) p = refl
+tie (Entry c e k) (Entry b f l) (Entry a g m) p = numbers_total.congr (Entry c e k) (Entry b f l) (Entry a g m) p
 
 due_total : IsTotalOrder due_order
 due_total = record { antisymm = flip; trans = chain; congr = tie }
@@ -97,13 +111,21 @@ then_tied Less p e = let q : Less ≡ Equal = e in absurd (let r : ⊥ = cc in r
 then_tied Equal p e = (refl, e)
 then_tied Greater p e = let q : Greater ≡ Equal = e in absurd (let r : ⊥ = cc in r)
 
+same_flag : (a b : Bool) → bool_cmp a b ≡ Equal → a ≡ b
+same_flag true true e = refl
+same_flag true false e = cc
+same_flag false true e = cc
+same_flag false false e = refl
+
 same_due : (d e : Due) → due_order d e ≡ Equal → d ≡ e
 same_due (Tick t c) (Tick u b) h = let r = then_tied (nat_cmp t u) (nat_cmp c b) h in
     let first = same_number t u r.0 in let second = same_number c b r.1 in (λ i. Tick (first i) (second i))
-same_due (Tick t c) (Event b e) h = cc
-same_due (Event c e) (Tick u b) h = cc
-same_due (Event c e) (Event b f) h = let r = then_tied (nat_cmp c b) (nat_cmp e f) h in
-    let first = same_number c b r.0 in let second = same_number e f r.1 in (λ i. Event (first i) (second i))
+same_due (Tick t c) (Entry b e l) h = cc
+same_due (Entry c e k) (Tick u b) h = cc
+same_due (Entry c e k) (Entry b f l) h =
+    let r = then_tied (nat_cmp c b) (ordering_then (nat_cmp e f) (bool_cmp k l)) h in
+    let q = then_tied (nat_cmp e f) (bool_cmp k l) r.1 in
+    let first = same_number c b r.0 in let second = same_number e f q.0 in let third = same_flag k l q.1 in (λ i. Entry (first i) (second i) (third i))
 
 same_item : (s t : Scheduled) → schedule_order s t ≡ Equal → s ≡ t
 same_item s t h = let r = then_tied (nat_cmp s.time t.time) (due_order s.due t.due) h in

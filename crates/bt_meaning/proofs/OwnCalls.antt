@@ -194,7 +194,7 @@ module _ (script : Typed) (attached : Attached) (r : Recording) (job : IsJob scr
       → AllByRecursion (IsOwnStep script attached r) steps
   script_steps steps i =
       steps_are_fine (replay_of script attached r) (IsOwnCall script attached r) kinds_are
-      (begin_asks (IsOwnCall script attached r) script.maps (own_plan (length r.cpus)) r attached job.valid (job.bodies (length r.cpus)) (tt, tt) (λ tick low. (low, tt)) (runs_ask (length r.cpus) (omega arith)))
-      (λ a low. cpu_asks (IsOwnCall script attached r) script.maps (own_plan a) r attached job.valid (job.bodies a) (tt, tt) (λ tick low. (low, tt)) (runs_ask a (omega (arith, low))) script.uses_exit)
-      (end_asks (IsOwnCall script attached r) script.maps (own_plan (length r.cpus)) r attached job.valid (job.bodies (length r.cpus)) (tt, tt) (λ tick low. (low, tt)) (runs_ask (length r.cpus) (omega arith)))
+      (begin_asks (IsOwnCall script attached r) script.maps (own_plan (length r.cpus)) r attached job.valid (job.bodies (length r.cpus)) (tt, tt) (λ tick low. (low, tt)) (λ number count. (tt, tt)) (runs_ask (length r.cpus) (omega arith)))
+      (λ a low. cpu_asks (IsOwnCall script attached r) script.maps (own_plan a) r attached job.valid (job.bodies a) (tt, tt) (λ tick low. (low, tt)) (λ number count. (tt, tt)) (runs_ask a (omega (arith, low))) script.uses_exit)
+      (end_asks (IsOwnCall script attached r) script.maps (own_plan (length r.cpus)) r attached job.valid (job.bodies (length r.cpus)) (tt, tt) (λ tick low. (low, tt)) (λ number count. (tt, tt)) (runs_ask (length r.cpus) (omega arith)))
       steps i

@@ -44,7 +44,7 @@ module _ (p : Replay) (valid : IsValidRecording p.recording) (turn : AreInTurn p
 
   each_whole : (cpu : ℕ) → cpu < cpus → IsWhole (cpu_of p cpu) (of_actor cpu (takes_all p (serial_order p.recording p.attached) going (begun_steps p)).made)
   each_whole cpu lt =
-      let d : CpuTrack = record { number = 0; events = [] } in
+      let d : CpuTrack = record { number = 0; entries = [] } in
       let track = get_or p.recording.cpus cpu d in
       let there = slice_get-get_or p.recording.cpus cpu d lt in
       let order = serial_order p.recording p.attached in

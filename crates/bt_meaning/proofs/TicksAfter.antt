@@ -1,7 +1,7 @@
 -- Where a CPU is the last to cross a tick, every CPU has done what stands before that tick.
 use Rattle.std.proofs.Common.{◌≡◌, ◌≢◌, ◌⊎◌, ℕ, zero, suc, ◌+◌, ◌<◌, ◌≤◌, ◌==◌, ◌&&◌, if◌then◌else◌, Bool, true, false, cond, List, [], ◌∷◌, ◌++◌, length, get_or, sym, refl, ap, ◌∙◌, subst, inl, inr, arith, eq-eqb, eqb-true}
 use Rattle.std.specs.Prelude.{slice_get, Some, All}
-use Rattle.std.specs.List.{Contains, count_by, filter_map, range_with_len}
+use Rattle.std.specs.List.{AllByRecursion, Contains, count_by, filter_map, range_with_len}
 use Rattle.std.proofs.lemmas.List.{append-nil, append_assoc, append_cancel_left}
 use Rattle.std.proofs.lemmas.List.Elements.{filter-append, recursion_from_All}
 use Rattle.std.proofs.lemmas.Option.{slice_get-get_or}
@@ -16,7 +16,9 @@ use Rattle.bt_core.specs.declared.step.Step.{Step}
 use Rattle.bt_core.specs.Interaction.{Interaction, Ended, and_then, Runs}
 use Rattle.bt_core.specs.Steps.{is_of, of_actor, is_on, on_object, operations}
 use Rattle.rec_format.specs.declared.recording.CpuTrack.{CpuTrack}
-use Rattle.rec_format.specs.declared.recording.Event.{Event}
+use Rattle.rec_format.specs.declared.recording.Entry.{Entry}
+use Rattle.rec_format.specs.declared.recording.Entry.TheVariants as entry
+use Rattle.rec_format.specs.Places.{entry_time}
 use Rattle.rec_format.specs.Recordings.{IsValidRecording}
 use Rattle.agg_core.specs.Answers.{is_cross}
 use Rattle.weave.proofs.Less.{less_or_not}
@@ -24,7 +26,7 @@ use Rattle.weave.proofs.Among.{Has, contains_from, has_either, has_filter, has_f
 use Rattle.actor_plan.specs.declared.agenda.AgendaItem.{AgendaItem}
 use Rattle.actor_plan.specs.declared.agenda.AgendaItem.TheVariants as item
 use Rattle.actor_plan.specs.declared.outcome.Outcome.{Outcome}
-use Rattle.actor_plan.specs.Agendas.{AreInTurn, IsNotBefore, agenda_of, event_place, events_of}
+use Rattle.actor_plan.specs.Agendas.{AreInTurn, IsNotBefore, IsOfEntry, agenda_of, entry_place, entries_of, item_at}
 use Rattle.actor_plan.specs.Contexts.{tick_context}
 use Rattle.actor_plan.specs.Programs.{after_count, item_work, items_program, tells_last, then_program}
 use Rattle.actor_plan.proofs.AgendaFacts.{agenda_holds}
@@ -71,12 +73,23 @@ rest_runs o v rest steps on r =
           (sym (c.whole ∙ ap (λ l. c.front ++ l) (ended_none (after_count o.instructions c.value) v c.back c.second) ∙ append-nil c.front)) c.first,
     )
 
--- an item whose place is among those of the list
-event_cut : (items : List AgendaItem) (place : ℕ) → Has (filter_map event_place items) place → Has items (item.Event place)
-event_cut [] place h = absurd h
-event_cut (item.Tick q ∷ is) place h = inr (event_cut is place h)
-event_cut (item.Event q ∷ is) place (inl e) = inl (ap (λ (n : ℕ). item.Event n) e)
-event_cut (item.Event q ∷ is) place (inr h) = inr (event_cut is place h)
+-- where an entry's place is among those of the list, its item is
+entry_cut : (entries : List Entry) (x : Entry) (items : List AgendaItem) (place : ℕ) → slice_get entries place ≡ Some x → AllByRecursion (IsOfEntry entries) items
+    → Has (filter_map entry_place items) place → Has items (item_at place x)
+entry_cut entries x [] place at kinds h = absurd h
+entry_cut entries x (item.Tick q ∷ is) place at kinds h = inr (entry_cut entries x is place at kinds.1 h)
+entry_cut entries x (item.Event q ∷ is) place at kinds (inl e) = inl (sym (kinds.0 x (ap (slice_get entries) e ∙ at)) ∙ ap (λ (n : ℕ). item_at n x) e)
+entry_cut entries x (item.Event q ∷ is) place at kinds (inr h) = inr (entry_cut entries x is place at kinds.1 h)
+entry_cut entries x (item.Lost q ∷ is) place at kinds (inl e) = inl (sym (kinds.0 x (ap (slice_get entries) e ∙ at)) ∙ ap (λ (n : ℕ). item_at n x) e)
+entry_cut entries x (item.Lost q ∷ is) place at kinds (inr h) = inr (entry_cut entries x is place at kinds.1 h)
+
+not_tick : (k place : ℕ) (x : Entry) → item.Tick k ≡ item_at place x → ⊥
+not_tick k place (entry.Event e) q = cc
+not_tick k place (entry.Lost time count) q = cc
+
+late_at : (entries : List Entry) (time place : ℕ) (x : Entry) → slice_get entries place ≡ Some x → IsNotBefore entries time (item_at place x) → time ≤ entry_time x
+late_at entries time place (entry.Event e) at late = late (entry.Event e) at
+late_at entries time place (entry.Lost moment count) at late = late (entry.Lost moment count) at
 
 in_range : (p n k : ℕ) → p ≤ k → k < p + n → Has (range_with_len p n) k
 in_range p zero k le lt = absurd (omega arith)
@@ -93,7 +106,7 @@ module _ (p : Replay) (valid : IsValidRecording p.recording) (turn : AreInTurn p
   n = cpus_of p
 
   abbrev no_track : CpuTrack
-  no_track = record { number = 0; events = [] }
+  no_track = record { number = 0; entries = [] }
 
   abbrev track_of : ℕ → CpuTrack
   track_of a = get_or p.recording.cpus a no_track
@@ -256,20 +269,21 @@ module _ (p : Replay) (valid : IsValidRecording p.recording) (turn : AreInTurn p
           second = left.1;
         }
 
-    -- events with a smaller time stand before the tick
-    earlier_events : (a : ℕ) → a < n → (front back : List AgendaItem) → agenda a ≡ front ++ item.Tick k ∷ back → (place : ℕ) (x : Event) (t : Tick)
-        → slice_get (events_of p.recording a) place ≡ Some x → slice_get p.attached.ticks k ≡ Some t → x.time < t.time → Contains front (item.Event place)
-    earlier_events a lt front back items place x t there at low =
+    -- entries with a smaller time stand before the tick
+    earlier_entries : (a : ℕ) → a < n → (front back : List AgendaItem) → agenda a ≡ front ++ item.Tick k ∷ back → (place : ℕ) (x : Entry) (t : Tick)
+        → slice_get (entries_of p.recording a) place ≡ Some x → slice_get p.attached.ticks k ≡ Some t → entry_time x < t.time → Contains front (item_at place x)
+    earlier_entries a lt front back items place x t there at low =
+        let es = entries_of p.recording a in
         let holds = agenda_holds p.recording p.attached a valid turn lt in
-        let few = below_length (events_of p.recording a) place x there in
-        let among : Has (agenda a) (item.Event place) = event_cut (agenda a) place (subst (λ (l : List ℕ). Has l place) (sym holds.events_are)
-        (in_range 0 (length (events_of p.recording a)) place (omega arith) (omega arith))) in
+        let few = below_length es place x there in
+        let among : Has (agenda a) (item_at place x) = entry_cut es x (agenda a) place there holds.kinds_are
+        (subst (λ (l : List ℕ). Has l place) (sym holds.entries_are) (in_range 0 (length es) place (omega arith) (omega arith))) in
         let later = (holds.stands front back k t items at).later in
-        elim (has_either front (item.Tick k ∷ back) (item.Event place) (subst (λ (l : List AgendaItem). Has l (item.Event place)) items among)) [
-          | inl h ↦ contains_from front (item.Event place) h
+        elim (has_either front (item.Tick k ∷ back) (item_at place x) (subst (λ (l : List AgendaItem). Has l (item_at place x)) items among)) [
+          | inl h ↦ contains_from front (item_at place x) h
           | inr h ↦ elim h [
-            | inl q ↦ absurd cc
-            | inr m ↦ absurd (let late = each_has (IsNotBefore (events_of p.recording a) t.time) back (item.Event place) later m x there in omega arith)
+            | inl q ↦ absurd (not_tick k place x q)
+            | inr m ↦ absurd (let late = late_at es t.time place x there (each_has (IsNotBefore es t.time) back (item_at place x) later m) in omega arith)
           ]
         ]
 
@@ -285,7 +299,7 @@ module _ (p : Replay) (valid : IsValidRecording p.recording) (turn : AreInTurn p
       later = c.back;
       stands = c.items;
       done = done_by a lt c;
-      events = λ place x t there at low. earlier_events a lt c.front c.back c.items place x t there at low;
+      entries = λ place x t there at low. earlier_entries a lt c.front c.back c.items place x t there at low;
     }
 
     -- ---- what comes next

@@ -12,11 +12,12 @@ use Rattle.bt_core.specs.Interaction.{Interaction, Ended, Asks, Runs}
 use Rattle.bt_core.specs.Steps.{is_on, of_actor}
 use Rattle.agg_core.specs.Answers.{is_cross}
 use Rattle.rec_format.specs.declared.recording.CpuTrack.{CpuTrack}
-use Rattle.rec_format.specs.declared.recording.Event.{Event}
+use Rattle.rec_format.specs.declared.recording.Entry.{Entry}
+use Rattle.rec_format.specs.Places.{entry_time}
 use Rattle.actor_plan.specs.declared.agenda.AgendaItem.{AgendaItem}
 use Rattle.actor_plan.specs.declared.agenda.AgendaItem.TheVariants as item
 use Rattle.actor_plan.specs.declared.outcome.Outcome.{Outcome}
-use Rattle.actor_plan.specs.Agendas.{agenda_of, events_of}
+use Rattle.actor_plan.specs.Agendas.{agenda_of, entries_of, item_at}
 use Rattle.actor_plan.specs.Contexts.{tick_context}
 use Rattle.actor_plan.specs.Programs.{item_work, items_program}
 use Rattle.bt_meaning.specs.Replays.{Replay, cpus_of}
@@ -51,14 +52,14 @@ pub record HaveDone (p : Replay) (cpu : ℕ) (items : List AgendaItem) (steps : 
   pub goes_on : outcome.to_end ≡ true
   pub whole : Runs (items_program p.exits (item_work (p.plan cpu) p.recording p.attached track) items) made outcome
 
--- among these steps a CPU has done all items that stand before a tick in its agenda, and so all its events with a smaller time
+-- among these steps a CPU has done all items that stand before a tick in its agenda, and so all its entries with a smaller time
 pub record HasDoneBefore (p : Replay) (tick cpu : ℕ) (steps : List Step) : Type 0 where
   pub earlier : List AgendaItem
   pub later : List AgendaItem
   pub stands : agenda_of p.recording p.attached cpu ≡ earlier ++ item.Tick tick ∷ later
   pub done : HaveDone p cpu earlier (of_actor cpu steps)
-  pub events : (place : ℕ) (e : Event) (t : Tick) → slice_get (events_of p.recording cpu) place ≡ Some e → slice_get p.attached.ticks tick ≡ Some t
-      → e.time < t.time → Contains earlier (item.Event place)
+  pub entries : (place : ℕ) (e : Entry) (t : Tick) → slice_get (entries_of p.recording cpu) place ≡ Some e → slice_get p.attached.ticks tick ≡ Some t
+      → entry_time e < t.time → Contains earlier (item_at place e)
 
 -- these steps begin with the whole run of a tick's body on a CPU
 pub record RunsTick (p : Replay) (tick cpu : ℕ) (steps : List Step) : Type 0 where

@@ -25,7 +25,7 @@ use Rattle.agg_core.specs.Aggregates.{aggregate}
 use Rattle.agg_core.specs.Answers.{agg_kind_in}
 use Rattle.agg_core.specs.Changes.{is_key, with_key}
 use Rattle.actor_plan.specs.Contexts.{tick_context}
-use Rattle.actor_plan.specs.Programs.{event_work, tells_last}
+use Rattle.actor_plan.specs.Programs.{entry_work, tells_last}
 use Rattle.bt_meaning.specs.Replays.{Replay, begin_of, end_of}
 use Rattle.bt_meaning.specs.Ticks.{is_crossing}
 
@@ -86,11 +86,11 @@ who [] tick = 0
 who (s ∷ ss) tick = if is_crossing tick s && tells_last s.reply then s.actor else who ss tick
 
 module _ (p : Replay) (m : MapId) where
-  -- what the events of each CPU add, from this CPU on
+  -- what the events of each CPU add, from this CPU on; a mark of lost ones adds nothing
   abbrev pub events_add : ℕ → List CpuTrack → List Entry
   events_add cpu [] = []
   events_add cpu (track ∷ tracks) =
-      flat_map (λ e. adds_of m (event_work (p.plan cpu) p.recording p.attached track e)) track.events ++ events_add (cpu + 1) tracks
+      flat_map (λ e. adds_of m (entry_work (p.plan cpu) p.recording p.attached track e)) track.entries ++ events_add (cpu + 1) tracks
 
   -- what a tick adds where a CPU runs its body
   abbrev pub tick_adds : Tick → ℕ → Option CpuTrack → List Entry

@@ -32,7 +32,7 @@ pub fn walks_only_stop()
 {}
 
 /// In an interleaving, where a CPU is the last to cross a tick, every CPU has done before all items that stand before the tick in
-/// its agenda, and so all its events with a smaller time; and next that CPU runs the tick's body. It holds of all bodies that
+/// its agenda, and so all its entries with a smaller time; and next that CPU runs the tick's body. It holds of all bodies that
 /// make no operation at the clock but a stop; so of a script over a recording.
 pub fn ticks_come_after()
     ensures any { (p : Replay) (steps : List Step) → IsValidRecording p.recording → AreInTurn p.attached.ticks → PlansAreOwn p → BodiesOnlyStop p →

@@ -2,21 +2,24 @@
 ghost use Rattle.std.specs.Prelude.{◌≡◌, ◌++◌, ◌<◌, ◌≤◌, ◌^◌, IfOk, OnOk, length};
 ghost use Rattle.std.specs.List.{All};
 ghost use Rattle.rec_format.specs.declared.recording.CpuTrack.{CpuTrack};
+ghost use Rattle.rec_format.specs.InFile.{entry_seen};
 ghost use Rattle.rec_format.specs.Recordings.{IsValidRecording};
-ghost use Rattle.bt_meaning.specs.Schedules.{all_due, events_due, serial_order, ticks_due};
+ghost use Rattle.bt_meaning.specs.Schedules.{all_due, entries_due, entry_due, serial_order, ticks_due};
 
+use actor_plan::agenda::time_of;
 use bt_ast::attached::{Attached, Tick};
 use bt_core::items::Items;
 use bt_core::memory::Memory;
-use rec_format::recording::{CpuTrack, Event, Recording};
+use rec_format::entries::{Entries, EntryRef};
+use rec_format::recording::{CpuTrack, Recording};
 use std::alloc::Global;
 
-/// An item of a CPU's agenda. Of items with one time ticks come before events; ticks go by their order and then by CPU, and
-/// events by CPU and then by their place on it.
+/// An item of a CPU's agenda. Of items with one time ticks come before entries; ticks go by their order and then by CPU, and
+/// entries by CPU and then by their place on it. An entry is an event, or a mark of lost ones.
 #[derive(Clone, Copy, PartialEq, Eq, PartialOrd, Ord, Debug)]
 pub enum Due {
     Tick { tick: u32, cpu: u32 },
-    Event { cpu: u32, event: u32 },
+    Entry { cpu: u32, entry: u32, lost: bool },
 }
 
 /// An item with its time in nanoseconds, by which it is taken.
@@ -44,20 +47,30 @@ fn push_ticks(items: &mut Vec<Scheduled>, cpu: u32, ticks: &[Tick]) -> Result<()
     Ok(())
 }
 
-/// Adds the events of a CPU.
-fn push_events(items: &mut Vec<Scheduled>, cpu: u32, events: &[Event]) -> Result<(), Memory>
-    requires few { length events.now ≤ 2 ^ 32 }
-    ensures { OnOk result (items.new.items ≡ items.old.items ++ events_due cpu 0 events.now) }
+/// The entry of a CPU that has a place.
+fn entry_due(cpu: u32, place: u32, entry: &EntryRef<'_>) -> Scheduled
+    ensures { result ≡ entry_due cpu place (entry_seen entry.now) }
 {
-    for (place, event) in events.iter().enumerate() {
-        let due = Due::Event {
-            cpu,
-            event: place as u32,
-        };
-        items.push(Scheduled {
-            time: event.time,
-            due,
-        })?;
+    let due = Due::Entry {
+        cpu,
+        entry: place,
+        lost: matches!(entry, EntryRef::Lost { .. }),
+    };
+    Scheduled {
+        time: time_of(entry),
+        due,
+    }
+}
+
+/// Adds the entries of a CPU.
+fn push_entries(items: &mut Vec<Scheduled>, cpu: u32, entries: &Entries) -> Result<(), Memory>
+    requires few { length entries.now ≤ 2 ^ 32 }
+    ensures { OnOk result (items.new.items ≡ items.old.items ++ entries_due cpu 0 entries.now) }
+{
+    let mut place = 0;
+    while let Some(entry) = entries.get(place) {
+        items.push(entry_due(cpu, place as u32, &entry))?;
+        place += 1;
     }
     Ok(())
 }
@@ -70,22 +83,22 @@ fn items_of_all(
 ) -> Result<Vec<Scheduled>, Memory>
     requires few_ticks { length ticks.now < 2 ^ 32 }
     requires few_cpus { length tracks.now < 2 ^ 32 }
-    requires few_events { All (λ (track : CpuTrack). length track.events ≤ 2 ^ 32) tracks.now }
+    requires few_entries { All (λ (track : CpuTrack). length track.entries ≤ 2 ^ 32) tracks.now }
     ensures { IfOk result (λ items. items.items ≡ all_due ticks.now 0 tracks.now) }
 {
     let mut items = Vec::new(alloc);
     for (cpu, track) in tracks.iter().enumerate() {
         push_ticks(&mut items, cpu as u32, ticks)?;
-        push_events(&mut items, cpu as u32, track.events.as_slice())?;
+        push_entries(&mut items, cpu as u32, &track.entries)?;
     }
     Ok(items)
 }
 
-/// The items of all agendas in the order in which a run on one thread takes them: by time, at one time ticks before events,
-/// ticks by their order and then by CPU, and events by CPU and then by their place in the file.
+/// The items of all agendas in the order in which a run on one thread takes them: by time, at one time ticks before entries,
+/// ticks by their order and then by CPU, and entries by CPU and then by their place in the file.
 ///
-/// It takes n log n time in the number of items, and less the fewer runs in order they stand in already, as the events of each CPU
-/// do. [`Memory`] is its one error.
+/// It takes n log n time in the number of items, and less the fewer runs in order they stand in already, as the entries of each
+/// CPU do. [`Memory`] is its one error.
 pub fn schedule(
     alloc: Global,
     recording: &Recording,

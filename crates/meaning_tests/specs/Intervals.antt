@@ -7,15 +7,10 @@ use Rattle.bt_core.specs.declared.step.Step.{Step}
 use Rattle.bt_core.specs.Interaction.{Interaction, Ended}
 use Rattle.rec_format.specs.declared.recording.Recording.{Recording}
 use Rattle.bt_meaning.specs.Replays.{Replay}
-use Rattle.meaning_tests.specs.Written.{attached_with, tick_at, cpu_with, counts_decl, counts_one, prints, clears, adds, crosses, reads, clears_of, emits}
+use Rattle.meaning_tests.specs.Written.{attached_with, tick_at, cpu_with, recording_of, counts_decl, counts_one, prints, clears, adds, crosses, reads, clears_of, emits}
 
 abbrev pub two_cpus : Recording
-two_cpus = record {
-  start = 0;
-  end = 2000000000;
-  formats = [];
-  cpus = cpu_with 0 (500000000 ∷ 1500000000 ∷ []) ∷ cpu_with 1 (500000000 ∷ 1500000000 ∷ []) ∷ [];
-}
+two_cpus = recording_of 2000000000 (cpu_with 0 (500000000 ∷ 1500000000 ∷ []) ∷ cpu_with 1 (500000000 ∷ 1500000000 ∷ []) ∷ [])
 
 -- at each event and each tick
 abbrev pub two_ticks : Attached

@@ -14,7 +14,7 @@ use Rattle.bt_core.specs.declared.step.Step.{Step}
 use Rattle.bt_core.specs.declared.value.Value.TheVariants.{Int}
 use Rattle.bt_core.specs.Interaction.{Interaction, Ended, Asks}
 use Rattle.bt_meaning.specs.Replays.{Replay}
-use Rattle.meaning_tests.specs.Written.{attached_with, tick_at, cpu_with, counts, counts_decl, counts_one, step, adds, crosses, stops}
+use Rattle.meaning_tests.specs.Written.{attached_with, tick_at, cpu_with, recording_of, counts, counts_decl, counts_one, step, adds, crosses, stops}
 
 abbrev pub checks : ℕ → Bool → Step
 checks actor stopped = step actor Clock Check (Stopped stopped)
@@ -24,7 +24,7 @@ checks actor stopped = step actor Clock Check (Stopped stopped)
 
 abbrev pub stopped_by_tick : Replay
 stopped_by_tick = record {
-  recording = record { start = 0; end = 5000000000; formats = []; cpus = cpu_with 0 (500000000 ∷ 1500000000 ∷ []) ∷ [] };
+  recording = recording_of 5000000000 (cpu_with 0 (500000000 ∷ 1500000000 ∷ []) ∷ []);
   attached = attached_with (tick_at 1 1000000000 ∷ tick_at 1 2000000000 ∷ tick_at 1 3000000000 ∷ tick_at 1 4000000000 ∷ tick_at 1 5000000000 ∷ []);
   exits = true;
   maps = counts_decl ∷ [];
@@ -67,7 +67,7 @@ says_bye = Asks (record { object = Out; op = Emit (Printf 0 []) }) (λ reply. En
 
 abbrev pub stopped_by_count : Replay
 stopped_by_count = record {
-  recording = record { start = 0; end = 2000000000; formats = []; cpus = cpu_with 0 (1 ∷ 2 ∷ 3 ∷ 4 ∷ 5 ∷ []) ∷ [] };
+  recording = recording_of 2000000000 (cpu_with 0 (1 ∷ 2 ∷ 3 ∷ 4 ∷ 5 ∷ []) ∷ []);
   attached = record { bodies = []; by_format = (0 ∷ []) ∷ []; ticks = []; begin = []; end = 1 ∷ [] };
   exits = true;
   maps = n_and_i;
@@ -100,7 +100,7 @@ by_cpu_decl = record { name = codes "@"; kind = Aggs Count; key_shape = shapes.I
 
 abbrev pub counted_by_cpu : Replay
 counted_by_cpu = record {
-  recording = record { start = 0; end = 2000000000; formats = []; cpus = cpu_with 4 [] ∷ cpu_with 9 [] ∷ [] };
+  recording = recording_of 2000000000 (cpu_with 4 [] ∷ cpu_with 9 [] ∷ []);
   attached = attached_with (tick_at 0 1000000000 ∷ tick_at 0 2000000000 ∷ []);
   exits = false;
   maps = by_cpu_decl ∷ [];

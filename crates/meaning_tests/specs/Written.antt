@@ -22,17 +22,27 @@ use Rattle.bt_core.specs.declared.step.Step.{Step}
 use Rattle.bt_core.specs.declared.value.Value.{Value}
 use Rattle.bt_core.specs.Interaction.{Interaction, Ended, Asks}
 use Rattle.rec_format.specs.declared.recording.CpuTrack.{CpuTrack}
-use Rattle.rec_format.specs.declared.recording.Event.{Event}
+use Rattle.rec_format.specs.declared.recording.Entry.{Entry}
+use Rattle.rec_format.specs.declared.recording.Entry.TheVariants as entries
+use Rattle.rec_format.specs.declared.recording.Recording.{Recording}
 use Rattle.map_rows.specs.Merged.{merged}
 
 -- ---- recordings
 
 -- an event of the first format
-abbrev pub event_at : ℕ → Event
-event_at time = record { time = time; pid = 1; tid = 1; uid = 0; gid = 0; comm = codes "p"; format = 0; payload = [] }
+abbrev pub event_at : ℕ → Entry
+event_at time = entries.Event (record { time = time; pid = 1; tid = 1; uid = 0; gid = 0; comm = codes "p"; format = 0; payload = [] })
+
+-- a mark of so many lost events
+abbrev pub lost_at : ℕ → ℕ → Entry
+lost_at time count = entries.Lost time count
 
 abbrev pub cpu_with : ℕ → List ℕ → CpuTrack
-cpu_with number times = record { number = number; events = map event_at times }
+cpu_with number times = record { number = number; entries = map event_at times }
+
+-- a recording of these CPUs with events alone
+abbrev pub recording_of : ℕ → List CpuTrack → Recording
+recording_of end cpus = record { version = 1; start = 0; end = end; formats = []; cpus = cpus }
 
 -- a tick at a time, which runs this body
 abbrev pub tick_at : ℕ → ℕ → Tick

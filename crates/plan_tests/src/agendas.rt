@@ -1,4 +1,4 @@
-// Agendas: where ticks stand between the events of recordings, and what the bodies there see.
+// Agendas: where ticks stand between the events of recordings and the marks of lost ones, and what the bodies there see.
 ghost use Rattle.std.specs.Prelude.{IsTrue};
 ghost use Rattle.rec_format.specs.Recordings.{IsValidRecording};
 ghost use Rattle.actor_plan.specs.Agendas.{AreInTurn};
@@ -12,8 +12,9 @@ use rec_format::recording::Recording;
 use std::alloc::Global;
 use std::test::Fail;
 
-/// A recording of one CPU with the number 3, from time 0 to 5 seconds, with one format, and no entries yet.
-const HEAD: &[u8] = b"BTRACE01\x01\0\0\0\x01\0\0\0\0\0\0\0\0\0\0\0\0\xf2\x05*\x01\0\0\0\
+/// What stands behind the magic of a recording of one CPU with the number 3, from time 0 to 5 seconds, with one format, up to
+/// the number of its entries.
+const HEAD: &[u8] = b"\x01\0\0\0\x01\0\0\0\0\0\0\0\0\0\0\0\0\xf2\x05*\x01\0\0\0\
 \x01\0t\x16\0\0\0name: e\n\
 ID: 7\n\
 format:\n\
@@ -23,13 +24,32 @@ format:\n\
 const REST: &[u8] =
     b"\x01\0\0\0\x02\0\0\0\x03\0\0\0\x04\0\0\0p\0\0\0\0\0\0\0\0\0\0\0\0\0\0\0\x02\0\0\0\x07\0";
 
-/// The bytes of a recording with events at these times.
-pub(crate) fn bytes_with(alloc: Global, times: &[u64]) -> Result<Vec<u8>, Memory> {
-    let mut bytes = Vec::from_slice(alloc, HEAD)?;
-    bytes.extend_from_slice(&(times.len().min(99) as u32).to_le_bytes())?;
-    for time in times {
-        bytes.extend_from_slice(&time.to_le_bytes())?;
-        bytes.extend_from_slice(REST)?;
+/// An event at a time, or a mark of 6 lost ones.
+#[derive(Clone, Copy)]
+pub(crate) enum At {
+    Event(u64),
+    Lost(u64),
+}
+
+/// The bytes of a recording with these entries, which is of version 2 where it has marks.
+pub(crate) fn bytes_with(alloc: Global, entries: &[At]) -> Result<Vec<u8>, Memory> {
+    let marks = entries.iter().any(|entry| matches!(entry, At::Lost(_)));
+    let mut bytes = Vec::from_slice(alloc, if marks { b"BTRACE02" } else { b"BTRACE01" })?;
+    bytes.extend_from_slice(HEAD)?;
+    bytes.extend_from_slice(&(entries.len().min(99) as u32).to_le_bytes())?;
+    for entry in entries {
+        match entry {
+            At::Event(time) => {
+                bytes.extend_from_slice(&[0][..usize::from(marks)])?;
+                bytes.extend_from_slice(&time.to_le_bytes())?;
+                bytes.extend_from_slice(REST)?;
+            }
+            At::Lost(time) => {
+                bytes.push(1)?;
+                bytes.extend_from_slice(&time.to_le_bytes())?;
+                bytes.extend_from_slice(&6_u64.to_le_bytes())?;
+            }
+        }
     }
     Ok(bytes)
 }
@@ -48,7 +68,7 @@ fn stand_in_turn(ticks: &[Tick]) -> bool
     true
 }
 
-/// The agenda of the one CPU of a recording with events at these times.
+/// The agenda of the one CPU of a recording.
 fn agenda_with(
     alloc: Global,
     recording: &Recording,
@@ -69,11 +89,11 @@ fn agenda_with(
     Ok(agenda(alloc, recording, &attached, 0)?)
 }
 
-/// Times of events, ticks, and the items in which they stand.
-const AGENDAS: [(&[u64], &[Tick], &[AgendaItem]); 6] = [
+/// Entries, ticks, and the items in which they stand.
+const AGENDAS: [(&[At], &[Tick], &[AgendaItem]); 9] = [
     // Two events, and ticks at one and at two seconds.
     (
-        &[500_000_000, 1_500_000_000],
+        &[At::Event(500_000_000), At::Event(1_500_000_000)],
         &[
             Tick {
                 time: 1_000_000_000,
@@ -93,7 +113,13 @@ const AGENDAS: [(&[u64], &[Tick], &[AgendaItem]); 6] = [
     ),
     // Five events and no ticks.
     (
-        &[1, 2, 3, 4, 5],
+        &[
+            At::Event(1),
+            At::Event(2),
+            At::Event(3),
+            At::Event(4),
+            At::Event(5),
+        ],
         &[],
         &[
             AgendaItem::Event(0),
@@ -105,7 +131,7 @@ const AGENDAS: [(&[u64], &[Tick], &[AgendaItem]); 6] = [
     ),
     // Ticks up to the end, behind the last event.
     (
-        &[500_000_000, 1_500_000_000],
+        &[At::Event(500_000_000), At::Event(1_500_000_000)],
         &[
             Tick {
                 time: 1_000_000_000,
@@ -140,7 +166,12 @@ const AGENDAS: [(&[u64], &[Tick], &[AgendaItem]); 6] = [
     ),
     // Ticks and events at one time.
     (
-        &[999_999_999, 1_000_000_000, 1_000_000_000, 1_000_000_001],
+        &[
+            At::Event(999_999_999),
+            At::Event(1_000_000_000),
+            At::Event(1_000_000_000),
+            At::Event(1_000_000_001),
+        ],
         &[
             Tick {
                 time: 1_000_000_000,
@@ -163,14 +194,45 @@ const AGENDAS: [(&[u64], &[Tick], &[AgendaItem]); 6] = [
     // Ticks alone, and nothing.
     (&[], &[Tick { time: 7, body: 0 }], &[AgendaItem::Tick(0)]),
     (&[], &[], &[]),
+    // A mark at a tick's time, between two events.
+    (
+        &[At::Event(1), At::Lost(5), At::Event(9)],
+        &[Tick { time: 5, body: 0 }],
+        &[
+            AgendaItem::Event(0),
+            AgendaItem::Tick(0),
+            AgendaItem::Lost(1),
+            AgendaItem::Event(2),
+        ],
+    ),
+    // A mark before a tick, and an event at the tick's time.
+    (
+        &[At::Lost(4), At::Event(5)],
+        &[Tick { time: 5, body: 0 }],
+        &[
+            AgendaItem::Lost(0),
+            AgendaItem::Tick(0),
+            AgendaItem::Event(1),
+        ],
+    ),
+    // Marks and an event at one time.
+    (
+        &[At::Lost(3), At::Event(3), At::Lost(3)],
+        &[],
+        &[
+            AgendaItem::Lost(0),
+            AgendaItem::Event(1),
+            AgendaItem::Lost(2),
+        ],
+    ),
 ];
 
 #[test]
-fn ticks_stand_between_the_events(rt: HostRuntime) -> Result<(), Fail> {
+fn ticks_stand_between_the_entries(rt: HostRuntime) -> Result<(), Fail> {
     let alloc = rt.alloc();
-    for (place, (times, ticks, want)) in AGENDAS.iter().enumerate() {
-        let bytes = bytes_with(alloc, times)?;
-        let recording = read_recording(alloc, bytes.as_slice())?;
+    for (place, (entries, ticks, want)) in AGENDAS.iter().enumerate() {
+        let bytes = bytes_with(alloc, entries)?;
+        let recording = read_recording(alloc, bytes)?;
         let items = agenda_with(alloc, &recording, ticks)?;
         assert!(rt; items.as_slice() == *want, "row {place}");
     }

@@ -1,7 +1,5 @@
-use Rattle.std.proofs.Common.{ap, ◌∙◌, sym}
-use Rattle.std.specs.Prelude.{option_and_then, slice_get}
-use Rattle.rec_format.specs.declared.recording.CpuTrack.{CpuTrack}
-use Rattle.rec_format.proofs.ForOthers.{recorded_format}
+use Rattle.std.proofs.Common.{sym}
+use Rattle.actor_plan.proofs.ItemLaws.{recorded_here}
 use Rattle.actor_plan.proofs.item.run_item.Goals as goal
 
 pub run_entry-requires-clause-recorded : goal.run_entry-requires-clause-recorded
