@@ -12,42 +12,45 @@ use Rattle.actor_plan.specs.declared.agenda.AgendaItem.TheVariants as item
 use Rattle.actor_plan.specs.Agendas.{item_at}
 use Rattle.actor_plan.specs.Steps.{entries_on, earlier, earlier_count, taken, PushesEarlier}
 
-pub one_entry : (entries : List Entry) (place : ℕ) (e : Entry) → slice_get entries place ≡ Some e → entries_on place (drop place entries) ≡ item_at place e ∷ entries_on (place + 1) (drop (place + 1) entries)
-one_entry entries place e at =
-    let lt : place < length entries = slice_get_within entries place e at in
-    at_drop_more (entries_on place) entries place e lt ∙ ap (λ (x : Entry). item_at place x ∷ entries_on (place + 1) (drop (place + 1) entries)) (get_or_from_slice_get entries place e e at)
+-- ---- lists by places
 
--- past the last entry nothing is left
-pub none_left : (entries : List Entry) (place : ℕ) → slice_get entries place ≡ None → drop place entries ≡ []
+-- from the place of an element on the list begins with it
+pub from_place : {X A : Type 0} (f : List X → A) (xs : List X) (i : ℕ) (x : X) → slice_get xs i ≡ Some x → f (drop i xs) ≡ f (x ∷ drop (i + 1) xs)
+from_place {X} f xs i x at = at_drop_more f xs i x (slice_get_within xs i x at) ∙ ap (λ (y : X). f (y ∷ drop (i + 1) xs)) (get_or_from_slice_get xs i x x at)
+
+-- past the last element nothing is left
+pub none_left : {X : Type 0} (xs : List X) (i : ℕ) → slice_get xs i ≡ None → drop i xs ≡ []
 none_left [] zero none = refl
-none_left [] (suc place) none = refl
-none_left (e ∷ es) zero none = absurd cc
-none_left (e ∷ es) (suc place) none = none_left es place none
+none_left [] (suc i) none = refl
+none_left (x ∷ xs) zero none = absurd cc
+none_left (x ∷ xs) (suc i) none = none_left xs i none
 
 -- what was added with one item more, and what is to come behind it
-pub pushed : (old new : List AgendaItem) (i j : AgendaItem) (rest whole : List AgendaItem) → new ≡ old ++ i ∷ [] → i ≡ j → whole ≡ j ∷ rest → new ++ rest ≡ old ++ whole
+pub pushed : {X : Type 0} (old new : List X) (i j : X) (rest whole : List X) → new ≡ old ++ i ∷ [] → i ≡ j → whole ≡ j ∷ rest → new ++ rest ≡ old ++ whole
 pushed old new i j rest whole grew is cut =
     ap (λ l. l ++ rest) grew ∙ append_assoc old (i ∷ []) rest ∙ ap (λ k. old ++ (k ∷ rest)) is ∙ ap (λ l. old ++ l) (sym cut)
 
-module _ (entries : List Entry) (time place : ℕ) (e : Entry) (at : slice_get entries place ≡ Some e) where
-  here : {A : Type 0} (f : List Entry → A) → f (drop place entries) ≡ f (e ∷ drop (place + 1) entries)
-  here f = at_drop_more f entries place e (slice_get_within entries place e at) ∙ ap (λ (x : Entry). f (x ∷ drop (place + 1) entries)) (get_or_from_slice_get entries place e e at)
+-- ---- entries
 
+pub one_entry : (entries : List Entry) (place : ℕ) (e : Entry) → slice_get entries place ≡ Some e → entries_on place (drop place entries) ≡ item_at place e ∷ entries_on (place + 1) (drop (place + 1) entries)
+one_entry entries place e at = from_place (entries_on place) entries place e at
+
+module _ (entries : List Entry) (time place : ℕ) (e : Entry) (at : slice_get entries place ≡ Some e) where
   pub one_earlier : entry_time e < time → earlier time place (drop place entries) ≡ item_at place e ∷ earlier time (place + 1) (drop (place + 1) entries)
   one_earlier lt = let less : nat_lt (entry_time e) time ≡ true = grind (arith, nat_tests) in
-      here (earlier time place) ∙ ap (λ (b : Bool). if b then item_at place e ∷ earlier time (place + 1) (drop (place + 1) entries) else []) less
+      from_place (earlier time place) entries place e at ∙ ap (λ (b : Bool). if b then item_at place e ∷ earlier time (place + 1) (drop (place + 1) entries) else []) less
 
   pub one_counted : entry_time e < time → earlier_count time (drop place entries) ≡ suc (earlier_count time (drop (place + 1) entries))
   one_counted lt = let less : nat_lt (entry_time e) time ≡ true = grind (arith, nat_tests) in
-      here (earlier_count time) ∙ ap (λ (b : Bool). if b then suc (earlier_count time (drop (place + 1) entries)) else 0) less
+      from_place (earlier_count time) entries place e at ∙ ap (λ (b : Bool). if b then suc (earlier_count time (drop (place + 1) entries)) else 0) less
 
   pub none_earlier : time ≤ entry_time e → earlier time place (drop place entries) ≡ []
   none_earlier le = let not_less : nat_lt (entry_time e) time ≡ false = grind (arith, nat_tests) in
-      here (earlier time place) ∙ ap (λ (b : Bool). if b then item_at place e ∷ earlier time (place + 1) (drop (place + 1) entries) else []) not_less
+      from_place (earlier time place) entries place e at ∙ ap (λ (b : Bool). if b then item_at place e ∷ earlier time (place + 1) (drop (place + 1) entries) else []) not_less
 
   pub none_counted : time ≤ entry_time e → earlier_count time (drop place entries) ≡ 0
   none_counted le = let not_less : nat_lt (entry_time e) time ≡ false = grind (arith, nat_tests) in
-      here (earlier_count time) ∙ ap (λ (b : Bool). if b then suc (earlier_count time (drop (place + 1) entries)) else 0) not_less
+      from_place (earlier_count time) entries place e at ∙ ap (λ (b : Bool). if b then suc (earlier_count time (drop (place + 1) entries)) else 0) not_less
 
 -- where no earlier one is left, all were added
 pub all_pushed : (entries : List Entry) (time from place : ℕ) (old items : List AgendaItem) → earlier time place (drop place entries) ≡ [] → earlier_count time (drop place entries) ≡ 0
@@ -57,6 +60,8 @@ all_pushed entries time from place old items none no_more whole counted = record
   items = sym (ap (λ l. items ++ l) none ∙ append-nil items) ∙ whole;
   next = omega (arith, no_more, counted);
 }
+
+-- ---- ticks
 
 pub few_earlier : (time : ℕ) (es : List Entry) → earlier_count time es ≤ length es
 few_earlier time [] = omega arith

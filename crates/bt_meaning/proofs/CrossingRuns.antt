@@ -8,8 +8,7 @@ use Rattle.bt_ast.specs.declared.attached.Tick.{Tick}
 use Rattle.bt_core.specs.declared.step.ObjectId.{ObjectId}
 use Rattle.bt_core.specs.declared.step.ObjectId.TheVariants.{Shared, Cpu, Clock, Out}
 use Rattle.bt_core.specs.declared.step.Op.{Op}
-use Rattle.bt_core.specs.declared.item.Item.TheVariants.{Lost}
-use Rattle.bt_core.specs.declared.step.Op.TheVariants.{Cross, Check, Emit, Stop}
+use Rattle.bt_core.specs.declared.step.Op.TheVariants.{Cross, Check, Stop}
 use Rattle.bt_core.specs.declared.step.Step.{Step}
 use Rattle.bt_core.specs.Interaction.{Call, call_of, Interaction, Ended, Asks, and_then, ask, Runs}
 use Rattle.bt_core.specs.Steps.{is_same_object}

@@ -1,14 +1,12 @@
 -- Each step of an interleaving is one that can be made, emits an item of the script, and has a reply of its operation's kind.
-use Rattle.std.proofs.Common.{◌≡◌, ◌≢◌, ℕ, zero, suc, cond, eq-eqb, ◌+◌, ◌<◌, ◌≤◌, Bool, true, false, List, [], ◌∷◌, ◌++◌, map, length, All, Option, Some, None, slice_get, slice_index, get_or, refl, sym, ap, ◌∙◌, subst, arith, append_assoc, append-nil}
+use Rattle.std.proofs.Common.{◌≡◌, ℕ, zero, suc, cond, eq-eqb, ◌+◌, ◌<◌, ◌≤◌, Bool, true, false, List, [], ◌∷◌, ◌++◌, map, length, All, Option, Some, None, slice_get, slice_index, refl, sym, ap, ◌∙◌, subst, arith, append_assoc, append-nil}
 use Rattle.std.proofs.lemmas.Bool.{and_parts}
-use Rattle.std.specs.List.{AllByRecursion, filter, list_all}
+use Rattle.std.specs.List.{AllByRecursion, list_all}
 use Rattle.std.proofs.lemmas.List.{length-map}
 use Rattle.std.proofs.lemmas.List.Elements.{All-from_recursion, recursion_from_All, filter-append}
-use Rattle.std.proofs.lemmas.Option.{slice_get_within, get_or_from_slice_get}
+use Rattle.std.proofs.lemmas.Option.{get_or_from_slice_get}
 use Rattle.bt_ast.specs.declared.attached.Attached.{Attached}
-use Rattle.bt_core.specs.declared.context.Context.{Context}
 use Rattle.bt_core.specs.declared.ending.Ending.{Ending}
-use Rattle.bt_core.specs.declared.item.Item.{Item}
 use Rattle.bt_core.specs.declared.map.MapDecl.{MapDecl}
 use Rattle.bt_core.specs.declared.map.MapId.{MapId}
 use Rattle.fmt_text.specs.declared.piece.Piece.{Piece}
@@ -17,10 +15,10 @@ use Rattle.bt_core.specs.declared.step.ObjectId.TheVariants.{Shared, Cpu, Clock,
 use Rattle.bt_core.specs.declared.step.Op.{Op}
 use Rattle.bt_core.specs.declared.step.Reply.{Reply}
 use Rattle.bt_core.specs.declared.step.Step.{Step}
-use Rattle.bt_core.specs.Interaction.{Call, Interaction, Ended, Asks, Runs, and_then, call_of}
+use Rattle.bt_core.specs.Interaction.{Call, Interaction, Ended, Asks, Runs, and_then}
 use Rattle.bt_core.specs.Kinds.{IsFineDecl}
-use Rattle.bt_core.specs.Ports.{Setting, CanStep, IsReplyOf}
-use Rattle.bt_core.specs.Steps.{is_of, of_actor, is_on, on_object, operation, operations, RepliesFollow}
+use Rattle.bt_core.specs.Ports.{CanStep, IsReplyOf}
+use Rattle.bt_core.specs.Steps.{is_of, of_actor, is_on, on_object, operations, RepliesFollow}
 use Rattle.bt_core.proofs.StepLists.{is_same_object-true}
 use Rattle.rec_format.specs.declared.recording.Recording.{Recording}
 use Rattle.typed_tree.specs.declared.body.TypedBody.{TypedBody}
@@ -32,21 +30,20 @@ use Rattle.agg_core.proofs.KindLaws.{answer-kind}
 use Rattle.map_rows.specs.Fits.{IsReadReply, IsRowOf}
 use Rattle.map_rows.specs.Items.{IsItemOf}
 use Rattle.map_rows.specs.Merged.{merged}
-use Rattle.actor_plan.specs.Plans.{Plan, CanRun, AsksOf, BodiesAsk}
+use Rattle.actor_plan.specs.Plans.{Plan, AsksOf, BodiesAsk}
 use Rattle.actor_plan.proofs.AskLaws.{begin_asks, end_asks, cpu_asks}
-use Rattle.walk_meaning.specs.Admits.{AdmitsOf, EmitsOnly}
+use Rattle.walk_meaning.specs.Admits.{AdmitsOf}
 use Rattle.walk_meaning.specs.Walk.{walk}
-use Rattle.walk_meaning.specs.Served.{CanWalk, least_length}
+use Rattle.walk_meaning.specs.Served.{least_length}
 use Rattle.walk_meaning.proofs.Asking.{IsFineCall}
 use Rattle.walk_meaning.proofs.OwnItems.{own-calls}
-use Rattle.bt_meaning.specs.Interleavings.{IsWhole, IsInterleaving}
+use Rattle.bt_meaning.specs.Interleavings.{IsInterleaving}
 use Rattle.bt_meaning.specs.Jobs.{IsJob}
 use Rattle.bt_meaning.specs.OwnSteps.{setting_of, IsOwnCall, IsOwnStep}
 use Rattle.bt_meaning.specs.Replays.{Replay, cpus_of, begin_of, cpu_of, end_of, answers_of}
 use Rattle.bt_meaning.specs.Walks.{walked, walking, replay_of}
-use Rattle.bt_meaning.proofs.Eachs.{each_so, each_both, each_front, each_back, each_kept}
+use Rattle.bt_meaning.proofs.Eachs.{each_so, each_both, each_back, each_kept}
 use Rattle.bt_meaning.proofs.Placed.{maps_placed, formats_placed}
-use Rattle.bt_meaning.proofs.Stepping.{own_part}
 
 -- a step that can be made, and what it emits is fine
 abbrev IsFine : (ObjectId → Op → Type 0) → List MapDecl → Step → Type 0
