@@ -1,6 +1,6 @@
 -- The totals of the script over a made recording have few keys.
 use Rattle.std.proofs.Common.{◌≡◌, ℕ, zero, suc, ◌+◌, ◌≤◌, ◌++◌, Bool, true, false, List, [], ◌∷◌, length, refl, ap, sym, subst, ◌∙◌, arith}
-use Rattle.std.specs.Prelude.{ℤ, cond, ◌==◌, ◌%◌, pos, not, ◌&&◌, ◌-◌, ◌*◌, slice_get, slice_index_or}
+use Rattle.std.specs.Prelude.{ℤ, map, cond, ◌==◌, ◌%◌, pos, not, ◌&&◌, ◌-◌, ◌*◌, slice_get, slice_index_or}
 use Rattle.std.specs.List.{AllByRecursion, flat_map, filter}
 use Rattle.std.specs.List.Sorted.{ties}
 use Rattle.std.specs.Ordering.{nat_cmp, is_lt}
@@ -23,6 +23,8 @@ use Rattle.bt_attach.specs.Attaching.{IsAttachedTo, bodies_from, bodies_at, at_e
 use Rattle.bt_attach.specs.Ticks.{AreInOrder}
 use Rattle.tracefs_format.specs.declared.format.Format.{Format}
 use Rattle.rec_format.specs.declared.recording.CpuTrack.{CpuTrack}
+use Rattle.rec_format.specs.declared.recording.Entry.{Entry as RecordedEntry}
+use Rattle.rec_format.specs.declared.recording.Entry.TheVariants as entry
 use Rattle.rec_format.specs.declared.recording.Event.{Event}
 use Rattle.rec_format.specs.declared.recording.Recording.{Recording}
 use Rattle.rec_gen.specs.Draws.{number_at}
@@ -32,7 +34,7 @@ use Rattle.typed_tree.specs.declared.body.TypedBody.{TypedBody}
 use Rattle.typed_tree.specs.declared.script.Typed.{Typed}
 use Rattle.agg_core.specs.Answers.{agg_kind_in}
 use Rattle.actor_plan.specs.Contexts.{begin_context, end_context, event_context}
-use Rattle.actor_plan.specs.Programs.{event_work, in_turn}
+use Rattle.actor_plan.specs.Programs.{entry_work, event_work, in_turn}
 use Rattle.bt_meaning.specs.Replays.{begin_of, end_of}
 use Rattle.bt_meaning.specs.Totals.{Entry, entry_keys, adds_of, events_add, ticks_add, all_adds, total_rows, totals}
 use Rattle.bt_meaning.specs.Walks.{replay_of, walking, walked}
@@ -68,6 +70,11 @@ pub record IsOurs (e : Event) : Type 0 where
   pub format : e.format ≡ 0
   pub key : IsKey (Str (short_text e.comm) ∷ [])
 
+-- an entry that is such an event
+abbrev IsOurEntry : RecordedEntry → Type 0
+IsOurEntry (entry.Event e) = IsOurs e
+IsOurEntry (entry.Lost time count) = ⊥
+
 module _ (r : Recording) (attached : Attached) (typed : Typed) (body : TypedBody) (one : typed.bodies ≡ body ∷ []) (is : IsBody body.tree) (by_format : attached.by_format ≡ (0 ∷ []) ∷ []) where
   abbrev around : Interaction Ending → Interaction ℕ
   around w = and_then (and_then w (λ ending. Ended 0)) (λ count. and_then (Ended 0) (λ rest. Ended (count + rest)))
@@ -86,17 +93,21 @@ module _ (r : Recording) (attached : Attached) (typed : Typed) (body : TypedBody
       subst (λ (w : Interaction ℕ). HaveKeys (adds_of m w)) (sym (event_is actors cpu track e ours.format))
       (both _ _ one_key (both _ _ two_key (both _ _ three_key tt)))
 
-  track_keys : (actors cpu : ℕ) (m : MapId) (track : CpuTrack) (es : List Event) → AllByRecursion IsOurs es
-      → HaveKeys (flat_map (λ (e : Event). adds_of m (event_work (walking typed actors cpu) r attached track e)) es)
-  track_keys actors cpu m track [] all = tt
-  track_keys actors cpu m track (e ∷ es) all = both _ _ (event_keys actors cpu m track e all.0) (track_keys actors cpu m track es all.1)
+  added_keys : (actors cpu : ℕ) (m : MapId) (track : CpuTrack) (e : RecordedEntry) → IsOurEntry e → HaveKeys (adds_of m (entry_work (walking typed actors cpu) r attached track e))
+  added_keys actors cpu m track (entry.Event e) ours = event_keys actors cpu m track e ours
+  added_keys actors cpu m track (entry.Lost time count) ours = absurd ours
 
-  events_keys : (m : MapId) (cpu : ℕ) (tracks : List CpuTrack) → AllByRecursion (λ (t : CpuTrack). AllByRecursion IsOurs t.events) tracks
+  track_keys : (actors cpu : ℕ) (m : MapId) (track : CpuTrack) (es : List RecordedEntry) → AllByRecursion IsOurEntry es
+      → HaveKeys (flat_map (λ (e : RecordedEntry). adds_of m (entry_work (walking typed actors cpu) r attached track e)) es)
+  track_keys actors cpu m track [] all = tt
+  track_keys actors cpu m track (e ∷ es) all = both _ _ (added_keys actors cpu m track e all.0) (track_keys actors cpu m track es all.1)
+
+  events_keys : (m : MapId) (cpu : ℕ) (tracks : List CpuTrack) → AllByRecursion (λ (t : CpuTrack). AllByRecursion IsOurEntry t.entries) tracks
       → HaveKeys (events_add (replay_of typed attached r) m cpu tracks)
   events_keys m cpu [] all = tt
-  events_keys m cpu (t ∷ tracks) all = both _ _ (track_keys (length r.cpus + 1) cpu m t t.events all.0) (events_keys m (cpu + 1) tracks all.1)
+  events_keys m cpu (t ∷ tracks) all = both _ _ (track_keys (length r.cpus + 1) cpu m t t.entries all.0) (events_keys m (cpu + 1) tracks all.1)
 
-  all_keys : (m : MapId) (named : ℕ → ℕ) → attached.begin ≡ [] → attached.end ≡ [] → attached.ticks ≡ [] → AllByRecursion (λ (t : CpuTrack). AllByRecursion IsOurs t.events) r.cpus
+  all_keys : (m : MapId) (named : ℕ → ℕ) → attached.begin ≡ [] → attached.end ≡ [] → attached.ticks ≡ [] → AllByRecursion (λ (t : CpuTrack). AllByRecursion IsOurEntry t.entries) r.cpus
       → HaveKeys (all_adds (replay_of typed attached r) m named)
   all_keys m named begin finish ticks all =
       let p = replay_of typed attached r in
@@ -119,8 +130,15 @@ ours_on : (seed cpu n : ℕ) → AllByRecursion IsOurs (events_on seed cpu n)
 ours_on seed cpu zero = tt
 ours_on seed cpu (suc n) = ours_end (n % 4 == cpu) (events_on seed cpu n) (made_event seed n) (ours_on seed cpu n) (record { format = refl; key = name_is (number_at seed (3 * n) % 4) })
 
-ours : (seed count : ℕ) → AllByRecursion (λ (t : CpuTrack). AllByRecursion IsOurs t.events) (made_tracks seed count 4)
-ours seed count = (ours_on seed 0 count, (ours_on seed 1 count, (ours_on seed 2 count, (ours_on seed 3 count, tt))))
+entries_ours : (es : List Event) → AllByRecursion IsOurs es → AllByRecursion IsOurEntry (map (λ e. entry.Event e) es)
+entries_ours [] all = tt
+entries_ours (e ∷ es) all = (all.0, entries_ours es all.1)
+
+ours_of : (seed cpu count : ℕ) → AllByRecursion IsOurEntry (map (λ e. entry.Event e) (events_on seed cpu count))
+ours_of seed cpu count = entries_ours (events_on seed cpu count) (ours_on seed cpu count)
+
+ours : (seed count : ℕ) → AllByRecursion (λ (t : CpuTrack). AllByRecursion IsOurEntry t.entries) (made_tracks seed count 4)
+ours seed count = (ours_of seed 0 count, (ours_of seed 1 count, (ours_of seed 2 count, (ours_of seed 3 count, tt))))
 
 -- ---- what is attached
 
@@ -146,7 +164,7 @@ few seed count r made typed body one is attached to m named =
     let finish : attached.end ≡ [] = to.finish ∙ ap (λ (l : List BodyId). bodies_at l points.End) bodies in
     let in_order : AreInOrder [] attached.ticks = subst (λ (l : List Format). AreInOrder (ticks_from r.start (r.end - r.start) l 0 the_tree.probes) attached.ticks) formats to.ticks in
     let ticks : attached.ticks ≡ [] = no_ticks attached.ticks in_order in
-    let all = subst (λ (l : List CpuTrack). AllByRecursion (λ (t : CpuTrack). AllByRecursion IsOurs t.events) l) (sym made.cpus) (ours seed count) in
+    let all = subst (λ (l : List CpuTrack). AllByRecursion (λ (t : CpuTrack). AllByRecursion IsOurEntry t.entries) l) (sym made.cpus) (ours seed count) in
     let keys = all_keys r attached typed body one is by_format m named begin finish ticks all in
     rows (all_adds (replay_of typed attached r) m named) keys
   where

@@ -15,9 +15,10 @@ use Rattle.event_record.specs.Contexts.{context_bytes}
 use Rattle.helper_abi.specs.Running.{script_run}
 use Rattle.helper_abi.specs.Served.{desk_of}
 use Rattle.rec_format.specs.declared.recording.CpuTrack.{CpuTrack}
+use Rattle.rec_format.specs.declared.recording.Entry.TheVariants as entry
 use Rattle.rec_format.specs.declared.recording.Event.{Event}
 use Rattle.rec_format.specs.declared.recording.Recording.{Recording}
-use Rattle.rec_format.specs.Places.{event_at_place}
+use Rattle.rec_format.specs.Places.{entry_at_place}
 use Rattle.rec_format.proofs.ForOthers.{recorded_format}
 use Rattle.tracefs_format.proofs.ForOthers.{all_at}
 use Rattle.typed_tree.specs.declared.body.TypedBody.{TypedBody}
@@ -79,10 +80,10 @@ module _ (script : Typed) (codes : List (List Insn)) (attached : Attached) (r : 
     low : cpu < actors
     low = let within = slice_get_within r.cpus cpu track at in omega (arith, within)
 
-    events_same : (place : ℕ) (e : Event) → slice_get track.events place ≡ Some e
+    events_same : (place : ℕ) (e : Event) → slice_get track.entries place ≡ Some (entry.Event e)
         → BodiesAskSame IsHeldReply script.maps (walking script actors cpu) (coding script codes actors cpu) (slice_index_or attached.by_format e.format []) (event_context r track e) e.payload
     events_same place e on =
-        let placed : event_at_place r cpu place ≡ Some e = ap (λ o. option_and_then (λ (c : CpuTrack). slice_get c.events place) o) at ∙ on in
+        let placed : entry_at_place r cpu place ≡ Some (entry.Event e) = ap (λ o. option_and_then (λ (c : CpuTrack). slice_get c.entries place) o) at ∙ on in
         let has = recorded_format r cpu place e job.valid placed in
         let size = has.format.layout.size in
         let enough = has.long in

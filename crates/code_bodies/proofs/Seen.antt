@@ -8,9 +8,12 @@ use Rattle.bt_core.specs.Text.{IsShortText, is_text_byte, short_text}
 use Rattle.bt_core.proofs.TextLemmas.{kept_front, kept_IsShortText}
 use Rattle.tracefs_format.proofs.ForOthers.{all_at}
 use Rattle.rec_format.specs.declared.recording.CpuTrack.{CpuTrack}
+use Rattle.rec_format.specs.declared.recording.Entry.TheVariants as entry
 use Rattle.rec_format.specs.declared.recording.Event.{Event}
 use Rattle.rec_format.specs.declared.recording.Recording.{Recording}
-use Rattle.rec_format.specs.Events.{IsEvent}
+use Rattle.rec_format.specs.Checks.{has_marks}
+use Rattle.rec_format.specs.EntryParts.{IsEntry}
+use Rattle.rec_format.specs.Places.{IsHeldEntry}
 use Rattle.rec_format.specs.Recordings.{IsTrack, IsValidRecording}
 use Rattle.typed_tree.specs.declared.body.TypedBody.{TypedBody}
 use Rattle.actor_plan.specs.Contexts.{event_context, moment_context}
@@ -36,12 +39,11 @@ take_bytes (suc n) (x ∷ xs) h = (h.0, take_bytes n xs h.1)
 
 module _ (r : Recording) (valid : IsValidRecording r) where
   pub event_seen : (attached : Attached) (cpu place : ℕ) (track : CpuTrack) (e : Event) (body : TypedBody) → AreHeld attached r
-      → slice_get r.cpus cpu ≡ Some track → slice_get track.events place ≡ Some e → least_length body.layout ≤ length e.payload → IsSeen body (event_context r track e) e.payload
+      → slice_get r.cpus cpu ≡ Some track → slice_get track.entries place ≡ Some (entry.Event e) → least_length body.layout ≤ length e.payload → IsSeen body (event_context r track e) e.payload
   event_seen attached cpu place track e body held at there long =
-      let on_track = all_at (IsTrack r.formats r.start r.end) r.cpus cpu track valid.cpus.each at in
-      let fine = all_at (IsEvent r.formats) track.events place e on_track.events.each there in
-      let bytes = all_at (λ (x : Event). AreBytes x.comm × AreBytes x.payload) track.events place e
-      (all_at (λ (t : CpuTrack). AllByRecursion (λ (x : Event). AreBytes x.comm × AreBytes x.payload) t.events) r.cpus cpu track held.events at) there in
+      let on_track = all_at (IsTrack (has_marks r.version) r.formats r.start r.end) r.cpus cpu track valid.cpus.each at in
+      let fine = all_at (IsEntry (has_marks r.version) r.formats) track.entries place (entry.Event e) on_track.entries.each there in
+      let bytes = all_at IsHeldEntry track.entries place (entry.Event e) (all_at (λ (t : CpuTrack). AllByRecursion IsHeldEntry t.entries) r.cpus cpu track held.entries at) there in
       record {
         long = long;
         short = fine.whole.payload;
@@ -80,4 +82,4 @@ module _ (r : Recording) (valid : IsValidRecording r) where
   }
 
   pub number_small : (cpu : ℕ) (track : CpuTrack) → slice_get r.cpus cpu ≡ Some track → track.number < 2 ^ 32
-  number_small cpu track at = (all_at (IsTrack r.formats r.start r.end) r.cpus cpu track valid.cpus.each at).number
+  number_small cpu track at = (all_at (IsTrack (has_marks r.version) r.formats r.start r.end) r.cpus cpu track valid.cpus.each at).number

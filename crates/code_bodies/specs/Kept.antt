@@ -13,8 +13,8 @@ use Rattle.event_record.specs.Contexts.{context_bytes, AreBytes, IsContext}
 use Rattle.helper_abi.specs.Running.{script_run}
 use Rattle.helper_abi.specs.Served.{desk_of}
 use Rattle.rec_format.specs.declared.recording.CpuTrack.{CpuTrack}
-use Rattle.rec_format.specs.declared.recording.Event.{Event}
 use Rattle.rec_format.specs.declared.recording.Recording.{Recording}
+use Rattle.rec_format.specs.Places.{IsHeldEntry}
 use Rattle.typed_tree.specs.declared.body.TypedBody.{TypedBody}
 use Rattle.typed_tree.specs.declared.script.Typed.{Typed}
 use Rattle.bt_core.specs.Same.{SameTo}
@@ -55,5 +55,5 @@ pub record KeepBodies (script : Typed) (codes : List (List Insn)) : Type 0 where
 
 -- the bytes of a recording's events are bytes, and the times of ticks have 64 bits, as a program holds them
 pub record AreHeld (attached : Attached) (r : Recording) : Type 0 where
-  pub events : AllByRecursion (λ (track : CpuTrack). AllByRecursion (λ (e : Event). AreBytes e.comm × AreBytes e.payload) track.events) r.cpus
+  pub entries : AllByRecursion (λ (track : CpuTrack). AllByRecursion IsHeldEntry track.entries) r.cpus
   pub ticks : AllByRecursion (λ (t : Tick). t.time < 2 ^ 64) attached.ticks

@@ -1,4 +1,5 @@
 // Made recordings: the first events of a seed, and how many bytes there are.
+use rec_format::entries::EntryRef;
 use rec_format::reading::read_recording;
 use rec_format::writing::write_recording;
 use rec_gen::generate::generate;
@@ -17,12 +18,14 @@ const ROWS: [Row; 3] = [
 #[test]
 fn the_first_events_of_a_seed(rt: HostRuntime) -> Result<(), Fail> {
     let made = generate(rt.alloc(), 1, 3)?;
-    assert_eq!(rt; (made.start, made.end), (0, 2_000_000_000));
+    assert_eq!(rt; (made.version, made.start, made.end), (1, 0, 2_000_000_000));
     assert_eq!(rt; (made.formats.len(), made.cpus.len()), (1, 4));
     for (place, name, thread, call) in ROWS {
         let track = made.cpus.get(place as usize).ok_or("no CPU")?;
-        assert_eq!(rt; (track.number as u64, track.events.len()), (place, 1));
-        let event = track.events.get(0).ok_or("no event")?;
+        assert_eq!(rt; (track.number as u64, track.entries.len()), (place, 1));
+        let Some(EntryRef::Event(event)) = track.entries.get(0) else {
+            return Err("no event".into());
+        };
         assert_eq!(rt;
             (event.time, event.pid, event.tid),
             (1_000 * (place + 1), thread, thread)
@@ -33,14 +36,14 @@ fn the_first_events_of_a_seed(rt: HostRuntime) -> Result<(), Fail> {
         );
         assert!(rt; &event.comm[..4] == name);
         assert!(rt; &event.comm[4..] == [0; 12].as_slice());
-        let payload = event.payload.as_slice();
+        let payload = event.payload;
         assert!(rt; &payload[..4] == [21, 0, 0, 0].as_slice());
         assert!(rt; &payload[4..8] == thread.to_le_bytes().as_slice());
         assert!(rt; &payload[8..16] == [call, 0, 0, 0, 0, 0, 0, 0].as_slice());
         assert!(rt; &payload[16..] == [0; 48].as_slice());
     }
     let last = made.cpus.get(3).ok_or("no CPU")?;
-    assert_eq!(rt; (last.number, last.events.len()), (3, 0));
+    assert_eq!(rt; (last.number, last.entries.len()), (3, 0));
     Ok(())
 }
 
@@ -51,10 +54,13 @@ fn what_is_made_is_written_and_read_again(rt: HostRuntime) -> Result<(), Fail> {
     let made = generate(rt.alloc(), 2_147_483_647, 10)?;
     let bytes = write_recording(rt.alloc(), &made)?;
     assert_eq!(rt; bytes.len(), 496 + 10 * 108);
-    assert!(rt; read_recording(rt.alloc(), bytes.as_slice())? == made);
+    let read = read_recording(rt.alloc(), Vec::from_slice(rt.alloc(), bytes.as_slice())?)?;
+    assert_eq!(rt; (read.version, read.start, read.end), (1, 0, 2_000_000_000));
+    assert!(rt; read.formats == made.formats);
+    assert!(rt; write_recording(rt.alloc(), &read)? == bytes);
     let counts = [3, 3, 2, 2];
     for (track, count) in made.cpus.as_slice().iter().zip(counts) {
-        assert_eq!(rt; track.events.len(), count);
+        assert_eq!(rt; track.entries.len(), count);
     }
     Ok(())
 }

@@ -1,6 +1,6 @@
 -- Entries, where there may be marks of lost events and where there may not: how they are read, and that they make a kind.
-use Rattle.std.proofs.Common.{◌≡◌, ℕ, ◌<◌, ◌^◌, Bool, true, false, cond, Option, Some, None, List, [], ◌∷◌, ◌++◌, refl, ap, sym, subst, ◌∙◌, append_assoc, arith, suc}
-use Rattle.std.specs.Prelude.{nat_eq, get_or}
+use Rattle.std.proofs.Common.{◌≡◌, ℕ, ◌<◌, ◌^◌, Bool, true, false, cond, Option, Some, None, List, [], ◌∷◌, ◌++◌, refl, ap, sym, subst, ◌∙◌, append_assoc}
+use Rattle.std.specs.Prelude.{nat_eq}
 use Rattle.std.specs.Int.{w64, to_le_bytes}
 use Rattle.std.specs.Option.{option_map}
 use Rattle.std.proofs.lemmas.Option.{same_Some}
@@ -10,8 +10,8 @@ use Rattle.rec_format.specs.declared.error.RecordingError.{RecordingError}
 use Rattle.rec_format.specs.declared.error.RecordingError.TheVariants as fault
 use Rattle.rec_format.specs.declared.recording.Entry.{Entry}
 use Rattle.rec_format.specs.declared.recording.Entry.TheVariants as entry
-use Rattle.rec_format.specs.Parts.{EventPart, IsEventPart, event_bytes}
-use Rattle.rec_format.specs.Fronts.{◌>>=◌, number_at, event_at, mark_at, plain_at, tagged_at, entry_at}
+use Rattle.rec_format.specs.Parts.{EventPart, event_bytes}
+use Rattle.rec_format.specs.Fronts.{number_at, event_at, mark_at, plain_at, tagged_at, entry_at}
 use Rattle.rec_format.specs.Recordings.{AreFormats}
 use Rattle.rec_format.specs.EntryParts.{EntryPart, Occurs, Misses, Unknown, part_of_entry, IsEntryPart, entry_bytes, tag_fault, part_fault, IsEntry, entries}
 use Rattle.rec_format.proofs.Fields.{IsBytes, bind_some, Takes, Takes-then, wide64, number_takes, number_again}
@@ -50,7 +50,7 @@ tail_fits tag bytes fits = suffix_fits (tag ∷ []) bytes (tag ∷ bytes) refl f
 tagged_takes : (tag : ℕ) (bytes : List ℕ) (part : EntryPart) (rest : List ℕ) → IsBytes bytes → tagged_at tag bytes ≡ Some (part, rest) → Takes (tag ∷ bytes) (entry_bytes true part) rest × IsEntryPart true part
 tagged_takes tag bytes part rest fits =
     (elim (nat_eq tag 0) as (λ b. nat_eq tag 0 ≡ b → cond b (option_map {U = EntryPart × List ℕ} (λ (p : EventPart × List ℕ). (Occurs p.0, p.1)) (event_at bytes)) (cond (nat_eq tag 1) (mark_at bytes) (Some (Unknown tag, bytes))) ≡ Some (part, rest)
-        → Takes (tag ∷ bytes) (entry_bytes true part) rest × IsEntryPart true part) [
+    → Takes (tag ∷ bytes) (entry_bytes true part) rest × IsEntryPart true part) [
       | true ↦ λ zero h.
           let m = mapped_some (event_at bytes) part rest h in
           let t = event_reads.takes bytes m.0 rest fits m.1 in

@@ -77,7 +77,10 @@ impl Model for Entries {
 
 impl Entries {
     /// The entries at places of a file.
-    pub(crate) fn of(file: &Arc<Vec<u8>, Global>, places: Vec<EntryPlace>) -> Result<Entries, Memory>
+    pub(crate) fn of(
+        file: &Arc<Vec<u8>, Global>,
+        places: Vec<EntryPlace>,
+    ) -> Result<Entries, Memory>
         ensures { IfOk result (λ all. all ≡ entries_in (arc_value file.now).items places.items) }
     {
         let file = Arc::try_clone(file)?;
@@ -85,7 +88,11 @@ impl Entries {
     }
 
     /// The entries at places of bytes.
-    pub(crate) fn in_bytes(alloc: Global, bytes: Vec<u8>, places: Vec<EntryPlace>) -> Result<Entries, Memory>
+    pub(crate) fn in_bytes(
+        alloc: Global,
+        bytes: Vec<u8>,
+        places: Vec<EntryPlace>,
+    ) -> Result<Entries, Memory>
         ensures { IfOk result (λ all. all ≡ entries_in bytes.items places.items) }
     {
         let file = Arc::new(alloc, bytes)?;

@@ -1,4 +1,4 @@
-//! The container of recordings: a header, event formats, and the events of each CPU.
+//! The container of recordings: a header, event formats, and the entries of each CPU.
 #![tactic(auto)]
 
 mod check;

@@ -11,9 +11,9 @@ use tracefs_format::format::Format;
 pub struct Recording {
     /// 1, whose CPUs have events alone, or 2, whose CPUs may have marks of lost events as well.
     pub version: u32,
-    /// No event is before it.
+    /// No entry is before it.
     pub start: u64,
-    /// No event is after it.
+    /// No entry is after it.
     pub end: u64,
     /// At most 4,096, no two with one ID, or with one system and name.
     pub formats: Items<Format>,

@@ -75,7 +75,8 @@ fn check_entry(
     entry: &EntryBytes<'_>,
 ) -> Result<u32, RecordingError>
     ensures accepted { IfOk result (λ format. IsPartPlaced setting.now.formats.now (entry_part entry.now) format) }
-    ensures checked { result_err result ≡ entry_fault (entries setting.now.marks) setting.now.formats.now earliest setting.now.end cpu place (entry_part entry.now) }
+    ensures checked { result_err result
+        ≡ entry_fault (entries setting.now.marks) setting.now.formats.now earliest setting.now.end cpu place (entry_part entry.now) }
 {
     if let EntryBytes::Unknown(_) = entry {
         return Err(RecordingError::BadEntry(cpu, place));
@@ -102,7 +103,7 @@ fn read_entries<'b>(
     requires { bytes.now ≡ drop (length setting.now.file.now - length bytes.now) setting.now.file.now }
     ensures { Answers result
         (λ read. HasEntries (entries setting.now.marks) setting.now.formats.now setting.now.start setting.now.end count bytes.now
-            (entries_in setting.now.file.now read.0.items) read.1.now)
+        (entries_in setting.now.file.now read.0.items) read.1.now)
         (EntryFails (entries setting.now.marks) (length setting.now.file.now) setting.now.formats.now setting.now.start setting.now.end cpu count bytes.now) }
 {
     let mut places = Vec::new(alloc);

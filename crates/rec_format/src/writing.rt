@@ -80,11 +80,7 @@ fn push_sized32(bytes: &mut Vec<u8>, piece: &[u8]) -> Result<(), AllocError>
 fn magic_of(version: u32) -> &'static [u8]
     ensures { result.now ≡ magic_of version }
 {
-    if version == 1 {
-        MAGIC
-    } else {
-        MAGIC_OF_MARKED
-    }
+    if version == 1 { MAGIC } else { MAGIC_OF_MARKED }
 }
 
 fn push_header(bytes: &mut Vec<u8>, recording: &Recording) -> Result<(), AllocError>

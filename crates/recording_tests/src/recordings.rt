@@ -1,5 +1,6 @@
 // Recordings byte by byte: what is read and written, and each check with its exact value.
 use crate::texts::SYS_ENTER;
+use rec_format::entries::EntryRef;
 use rec_format::error::{CountOf, RecordingError};
 use rec_format::reading::read_recording;
 use rec_format::writing::write_recording;
@@ -22,30 +23,6 @@ const AFTER_TEXT: &[u8] = b"\0\0\0\0\x03\0\0\0\
 \x01\0\0\0\0\0\0\0\x01\0\0\0\x01\0\0\0\0\0\0\0\0\0\0\0bash\0\0\0\0\0\0\0\0\0\0\0\0@\0\0\0\x15\0\0\0\0\0\0\0\0\0\
 \0\0\0\0\0\0\0\0\0\0\0\0\0\0\0\0\0\0\0\0\0\0\0\0\0\0\0\0\0\0\0\0\0\0\0\0\0\0\0\0\0\0\0\0\0\0\0\0\0\0\0\0\0\0";
 
-#[test]
-fn the_worked_recording_is_read_and_written(rt: HostRuntime) -> Result<(), Fail> {
-    let alloc = rt.alloc();
-    let mut bytes = Vec::from_slice(alloc, BEFORE_TEXT)?;
-    bytes.extend_from_slice(SYS_ENTER)?;
-    bytes.extend_from_slice(AFTER_TEXT)?;
-    assert_eq!(rt; bytes.len(), 912);
-    let recording = read_recording(alloc, bytes.as_slice())?;
-    assert_eq!(rt; (recording.start, recording.end), (0, 2_000_000_000));
-    assert_eq!(rt; (recording.formats.len(), recording.cpus.len()), (1, 2));
-    let track = recording.cpus.get(0).ok_or("no CPU")?;
-    assert_eq!(rt; (track.number, track.events.len()), (0, 3));
-    let event = track.events.get(2).ok_or("no event")?;
-    assert_eq!(rt; (event.time, event.format, event.payload.len()), (3, 0, 64));
-    assert!(rt; event.comm.as_slice() == b"sshd\0\0\0\0\0\0\0\0\0\0\0\0".as_slice());
-    let written = write_recording(alloc, &recording)?;
-    assert!(rt; written.as_slice() == bytes.as_slice());
-    for len in 0..bytes.len() {
-        let error = read_recording(alloc, &bytes.as_slice()[..len]).err();
-        assert_eq!(rt; error, Some(RecordingError::Truncated(len as u64)));
-    }
-    Ok(())
-}
-
 /// The example of docs/RECORDINGS.md.
 const EXAMPLE: &[u8] = b"BTRACE01\x01\0\0\0\x01\0\0\0\xf4\x01\0\0\0\0\0\0\xd0\x07\0\0\0\0\0\0\
 \x04\0demoE\0\0\0name: tick\n\
@@ -56,30 +33,160 @@ format:\n\
 \xe8\x03\0\0\0\0\0\0\xd2\x04\0\0\xd3\x04\0\0\xe8\x03\0\0d\0\0\0clock\0\0\0\0\0\0\0\0\0\0\0\x0c\0\0\0,\x01\0\0\xd3\
 \x04\0\0\xfe\xff\xff\xff";
 
+/// One of version 2: on the one CPU a mark, an event at the same time and a mark at the end; on the other a mark alone.
+const MARKED: &[u8] = b"BTRACE02\x02\0\0\0\x01\0\0\0\x05\0\0\0\0\0\0\0\t\0\0\0\0\0\0\0\
+\x01\0t\x16\0\0\0name: f\n\
+ID: 8\n\
+format:\n\
+\x03\0\0\0\x03\0\0\0\
+\x01\x06\0\0\0\0\0\0\0\x02\x01\0\0\0\0\0\0\
+\0\x06\0\0\0\0\0\0\0\x01\0\0\0\x02\0\0\0\x03\0\0\0\x04\0\0\0p\0\0\0\0\0\0\0\0\0\0\0\0\0\0\0\x02\0\0\0\x08\0\
+\x01\t\0\0\0\0\0\0\0\xff\xff\xff\xff\xff\xff\xff\xff\
+\x04\0\0\0\x01\0\0\0\
+\x01\t\0\0\0\0\0\0\0\x01\0\0\0\0\0\0\0";
+
+/// An entry: an event's time, its process, thread, user and group, its name, the place of its format and its payload; or a mark's time
+/// and count.
+enum Seen {
+    Event(u64, [u32; 4], &'static [u8], u32, &'static [u8]),
+    Lost(u64, u64),
+}
+
+/// A file in three pieces, how many bytes it has, and what it spells: the version, when the recording starts and ends, how many formats
+/// there are, and each CPU's number and entries.
+struct Spelled {
+    pieces: [&'static [u8]; 3],
+    size: usize,
+    version: u32,
+    span: (u64, u64),
+    formats: usize,
+    cpus: &'static [(u32, &'static [Seen])],
+}
+
+/// The payload of each event of the worked recording.
+const CALL: &[u8] = b"\x15\0\0\0\0\0\0\0\0\0\0\0\0\0\0\0\0\0\0\0\0\0\0\0\0\0\0\0\0\0\0\0\
+\0\0\0\0\0\0\0\0\0\0\0\0\0\0\0\0\0\0\0\0\0\0\0\0\0\0\0\0\0\0\0\0";
+
+const SPELLED: [Spelled; 3] = [
+    Spelled {
+        pieces: [BEFORE_TEXT, SYS_ENTER, AFTER_TEXT],
+        size: 912,
+        version: 1,
+        span: (0, 2_000_000_000),
+        formats: 1,
+        cpus: &[
+            (
+                0,
+                &[
+                    Seen::Event(1, [1, 1, 0, 0], b"bash\0\0\0\0\0\0\0\0\0\0\0\0", 0, CALL),
+                    Seen::Event(2, [1, 1, 0, 0], b"bash\0\0\0\0\0\0\0\0\0\0\0\0", 0, CALL),
+                    Seen::Event(3, [1, 1, 0, 0], b"sshd\0\0\0\0\0\0\0\0\0\0\0\0", 0, CALL),
+                ],
+            ),
+            (
+                1,
+                &[Seen::Event(1, [1, 1, 0, 0], b"bash\0\0\0\0\0\0\0\0\0\0\0\0", 0, CALL)],
+            ),
+        ],
+    },
+    Spelled {
+        pieces: [EXAMPLE, b"", b""],
+        size: 175,
+        version: 1,
+        span: (500, 2_000),
+        formats: 1,
+        cpus: &[(
+            2,
+            &[Seen::Event(
+                1_000,
+                [1234, 1235, 1000, 100],
+                b"clock\0\0\0\0\0\0\0\0\0\0\0",
+                0,
+                b"\x2c\x01\0\0\xd3\x04\0\0\xfe\xff\xff\xff",
+            )],
+        )],
+    },
+    Spelled {
+        pieces: [MARKED, b"", b""],
+        size: 175,
+        version: 2,
+        span: (5, 9),
+        formats: 1,
+        cpus: &[
+            (
+                3,
+                &[
+                    Seen::Lost(6, 258),
+                    Seen::Event(
+                        6,
+                        [1, 2, 3, 4],
+                        b"p\0\0\0\0\0\0\0\0\0\0\0\0\0\0\0",
+                        0,
+                        b"\x08\0",
+                    ),
+                    Seen::Lost(9, 18_446_744_073_709_551_615),
+                ],
+            ),
+            (4, &[Seen::Lost(9, 1)]),
+        ],
+    },
+];
+
+/// Whether this is the entry.
+fn is_seen(entry: &EntryRef<'_>, wanted: &Seen) -> bool {
+    match (entry, wanted) {
+        (EntryRef::Event(event), Seen::Event(time, numbers, comm, format, payload)) => {
+            (event.time, event.format) == (*time, *format)
+                && [event.pid, event.tid, event.uid, event.gid] == *numbers
+                && event.comm.as_slice() == *comm
+                && event.payload == *payload
+        }
+        (EntryRef::Lost { time, count }, Seen::Lost(told, lost)) => (time, count) == (told, lost),
+        _ => false,
+    }
+}
+
 #[test]
-fn the_documented_example_is_read_and_written(rt: HostRuntime) -> Result<(), Fail> {
+fn what_a_file_spells_is_read_and_written(rt: HostRuntime) -> Result<(), Fail> {
     let alloc = rt.alloc();
-    let recording = read_recording(alloc, EXAMPLE)?;
-    assert_eq!(rt; (recording.start, recording.end), (500, 2_000));
-    let track = recording.cpus.get(0).ok_or("no CPU")?;
-    assert_eq!(rt; track.number, 2);
-    let event = track.events.get(0).ok_or("no event")?;
-    assert_eq!(rt; (event.time, event.pid, event.tid), (1_000, 1234, 1235));
-    assert_eq!(rt; (event.uid, event.gid, event.format), (1000, 100, 0));
-    assert!(rt; event.comm.as_slice() == b"clock\0\0\0\0\0\0\0\0\0\0\0".as_slice());
-    assert!(rt; event.payload.as_slice() == b"\x2c\x01\0\0\xd3\x04\0\0\xfe\xff\xff\xff".as_slice());
-    let written = write_recording(alloc, &recording)?;
-    assert!(rt; written.as_slice() == EXAMPLE);
-    for len in 0..EXAMPLE.len() {
-        let error = read_recording(alloc, &EXAMPLE[..len]).err();
-        assert_eq!(rt; error, Some(RecordingError::Truncated(len as u64)));
+    for row in &SPELLED {
+        let mut file = Vec::from_slice(alloc, row.pieces[0])?;
+        file.extend_from_slice(row.pieces[1])?;
+        file.extend_from_slice(row.pieces[2])?;
+        let bytes = file.as_slice();
+        assert_eq!(rt; bytes.len(), row.size);
+        let recording = read_recording(alloc, Vec::from_slice(alloc, bytes)?)?;
+        assert_eq!(rt;
+            (recording.version, recording.start, recording.end),
+            (row.version, row.span.0, row.span.1)
+        );
+        assert_eq!(rt;
+            (recording.formats.len(), recording.cpus.len()),
+            (row.formats, row.cpus.len())
+        );
+        for (track, (number, entries)) in recording.cpus.as_slice().iter().zip(row.cpus) {
+            assert_eq!(rt;
+                (track.number, track.entries.len()),
+                (*number, entries.len())
+            );
+            for (place, wanted) in entries.iter().enumerate() {
+                let entry = track.entries.get(place).ok_or("no entry")?;
+                assert!(rt; is_seen(&entry, wanted));
+            }
+        }
+        let written = write_recording(alloc, &recording)?;
+        assert!(rt; written.as_slice() == bytes);
+        for len in 0..bytes.len() {
+            let error = read_recording(alloc, Vec::from_slice(alloc, &bytes[..len])?).err();
+            assert_eq!(rt; error, Some(RecordingError::Truncated(len as u64)));
+        }
     }
     Ok(())
 }
 
 /// Bytes, each with the first check that they fail, if they fail one. The formats of most are `e`, whose ID is 7 and
 /// whose payloads have 4 bytes, and `f`, whose ID is 8 and whose payloads have 2; the recordings go from 5 to 9.
-const CHECKED: [(&[u8], Option<RecordingError>); 32] = [
+const CHECKED: [(&[u8], Option<RecordingError>); 49] = [
     // Three formats, two of one name in two systems; events at the start, at one time, and at the end.
     (
         b"BTRACE01\x01\0\0\0\x03\0\0\0\x05\0\0\0\0\0\0\0\t\0\0\0\0\0\0\0\
@@ -118,7 +225,7 @@ format:\n\
     ),
     // A header that lacks a byte, which comes before its magic.
     (
-        b"BTRACE02\x01\0\0\0\0\0\0\0\0\0\0\0\0\0\0\0\0\0\0\0\0\0\0",
+        b"BTRACE03\x01\0\0\0\0\0\0\0\0\0\0\0\0\0\0\0\0\0\0\0\0\0\0",
         Some(RecordingError::Truncated(31)),
     ),
     // A part that is not there.
@@ -140,7 +247,7 @@ format:\n\
     ),
     // Another magic.
     (
-        b"BTRACE02\x01\0\0\0\0\0\0\0\0\0\0\0\0\0\0\0\0\0\0\0\0\0\0\0",
+        b"BTRACE03\x01\0\0\0\0\0\0\0\0\0\0\0\0\0\0\0\0\0\0\0\0\0\0\0",
         Some(RecordingError::BadMagic),
     ),
     // No CPU; 65 of them; then too many formats; then the span.
@@ -407,18 +514,163 @@ format:\n\
 \x04\0\0\xfe\xff\xff\xff",
         Some(RecordingError::TimeOrder(0, 0)),
     ),
+    // Version 2: marks at the start and at the end, of which a file of version 1 has none.
+    (
+        b"BTRACE02\x01\0\0\0\0\0\0\0\x01\0\0\0\0\0\0\0\t\0\0\0\0\0\0\0\
+\x03\0\0\0\x02\0\0\0\
+\x01\x01\0\0\0\0\0\0\0\x01\0\0\0\0\0\0\0\
+\x01\t\0\0\0\0\0\0\0\x01\0\0\0\0\0\0\0",
+        None,
+    ),
+    (
+        b"BTRACE01\x01\0\0\0\0\0\0\0\x01\0\0\0\0\0\0\0\t\0\0\0\0\0\0\0\
+\x03\0\0\0\x02\0\0\0\
+\x01\x01\0\0\0\0\0\0\0\x01\0\0\0\0\0\0\0\
+\x01\t\0\0\0\0\0\0\0\x01\0\0\0\0\0\0\0",
+        Some(RecordingError::Truncated(74)),
+    ),
+    // It announces 1,048,577 entries.
+    (
+        b"BTRACE02\x01\0\0\0\0\0\0\0\x01\0\0\0\0\0\0\0\t\0\0\0\0\0\0\0\
+\x03\0\0\0\x01\0\x10\0\
+",
+        Some(RecordingError::Count(CountOf::Events)),
+    ),
+    // An entry without its first byte; a mark that lacks a byte, whose time would be wrong.
+    (
+        b"BTRACE02\x01\0\0\0\0\0\0\0\x01\0\0\0\0\0\0\0\t\0\0\0\0\0\0\0\
+\x03\0\0\0\x01\0\0\0",
+        Some(RecordingError::Truncated(40)),
+    ),
+    (
+        b"BTRACE02\x01\0\0\0\0\0\0\0\x01\0\0\0\0\0\0\0\t\0\0\0\0\0\0\0\
+\x03\0\0\0\x01\0\0\0\
+\x01\0\0\0\0\0\0\0\0\0\0\0\0\0\0\0",
+        Some(RecordingError::Truncated(56)),
+    ),
+    // Entries with another first byte, with nothing behind it, and with what would be a mark of a wrong time.
+    (
+        b"BTRACE02\x01\0\0\0\0\0\0\0\x01\0\0\0\0\0\0\0\t\0\0\0\0\0\0\0\
+\x03\0\0\0\x02\0\0\0\
+\x01\x02\0\0\0\0\0\0\0\x01\0\0\0\0\0\0\0\
+\x02",
+        Some(RecordingError::BadEntry(0, 1)),
+    ),
+    (
+        b"BTRACE02\x01\0\0\0\0\0\0\0\x01\0\0\0\0\0\0\0\t\0\0\0\0\0\0\0\
+\x03\0\0\0\x01\0\0\0\
+\x02\0\0\0\0\0\0\0\0\x01\0\0\0\0\0\0\0",
+        Some(RecordingError::BadEntry(0, 0)),
+    ),
+    // A mark before the start; one after the end, which comes before its count; one before the event in front; an event before the mark
+    // in front.
+    (
+        b"BTRACE02\x01\0\0\0\0\0\0\0\x01\0\0\0\0\0\0\0\t\0\0\0\0\0\0\0\
+\x03\0\0\0\x01\0\0\0\
+\x01\0\0\0\0\0\0\0\0\x01\0\0\0\0\0\0\0",
+        Some(RecordingError::TimeOrder(0, 0)),
+    ),
+    (
+        b"BTRACE02\x01\0\0\0\0\0\0\0\x01\0\0\0\0\0\0\0\t\0\0\0\0\0\0\0\
+\x03\0\0\0\x01\0\0\0\
+\x01\n\0\0\0\0\0\0\0\0\0\0\0\0\0\0\0",
+        Some(RecordingError::TimeOrder(0, 0)),
+    ),
+    (
+        b"BTRACE02\x01\0\0\0\x01\0\0\0\x01\0\0\0\0\0\0\0\t\0\0\0\0\0\0\0\
+\x01\0tB\0\0\0name: e\n\
+ID: 7\n\
+format:\n\
+\tfield:short v;\toffset:2;\tsize:2;\tsigned:1;\n\
+\x03\0\0\0\x02\0\0\0\
+\0\x03\0\0\0\0\0\0\0\x01\0\0\0\x01\0\0\0\0\0\0\0\0\0\0\0p\0\0\0\0\0\0\0\0\0\0\0\0\0\0\0\x04\0\0\0\x07\0\x05\0\
+\x01\x02\0\0\0\0\0\0\0\x01\0\0\0\0\0\0\0",
+        Some(RecordingError::TimeOrder(0, 1)),
+    ),
+    (
+        b"BTRACE02\x01\0\0\0\x01\0\0\0\x01\0\0\0\0\0\0\0\t\0\0\0\0\0\0\0\
+\x01\0tB\0\0\0name: e\n\
+ID: 7\n\
+format:\n\
+\tfield:short v;\toffset:2;\tsize:2;\tsigned:1;\n\
+\x03\0\0\0\x02\0\0\0\
+\x01\x03\0\0\0\0\0\0\0\x01\0\0\0\0\0\0\0\
+\0\x02\0\0\0\0\0\0\0\x01\0\0\0\x01\0\0\0\0\0\0\0\0\0\0\0p\0\0\0\0\0\0\0\0\0\0\0\0\0\0\0\x04\0\0\0\x07\0\x05\0",
+        Some(RecordingError::TimeOrder(0, 1)),
+    ),
+    // A mark of no event.
+    (
+        b"BTRACE02\x02\0\0\0\0\0\0\0\x01\0\0\0\0\0\0\0\t\0\0\0\0\0\0\0\
+\x03\0\0\0\x01\0\0\0\
+\x01\x03\0\0\0\0\0\0\0\x01\0\0\0\0\0\0\0\
+\x04\0\0\0\x02\0\0\0\
+\x01\x02\0\0\0\0\0\0\0\x01\0\0\0\0\0\0\0\
+\x01\x02\0\0\0\0\0\0\0\0\0\0\0\0\0\0\0",
+        Some(RecordingError::EmptyMark(1, 1)),
+    ),
+    // An event after the end, which comes before its payload; payloads of one byte, of no format's ID, and with a byte too few.
+    (
+        b"BTRACE02\x01\0\0\0\x01\0\0\0\x01\0\0\0\0\0\0\0\t\0\0\0\0\0\0\0\
+\x01\0tB\0\0\0name: e\n\
+ID: 7\n\
+format:\n\
+\tfield:short v;\toffset:2;\tsize:2;\tsigned:1;\n\
+\x03\0\0\0\x01\0\0\0\
+\0\n\0\0\0\0\0\0\0\x01\0\0\0\x01\0\0\0\0\0\0\0\0\0\0\0p\0\0\0\0\0\0\0\0\0\0\0\0\0\0\0\0\0\0\0",
+        Some(RecordingError::TimeOrder(0, 0)),
+    ),
+    (
+        b"BTRACE02\x01\0\0\0\x01\0\0\0\x01\0\0\0\0\0\0\0\t\0\0\0\0\0\0\0\
+\x01\0tB\0\0\0name: e\n\
+ID: 7\n\
+format:\n\
+\tfield:short v;\toffset:2;\tsize:2;\tsigned:1;\n\
+\x03\0\0\0\x01\0\0\0\
+\0\x03\0\0\0\0\0\0\0\x01\0\0\0\x01\0\0\0\0\0\0\0\0\0\0\0p\0\0\0\0\0\0\0\0\0\0\0\0\0\0\0\x01\0\0\0\x07",
+        Some(RecordingError::ShortPayload(0, 0)),
+    ),
+    (
+        b"BTRACE02\x01\0\0\0\x01\0\0\0\x01\0\0\0\0\0\0\0\t\0\0\0\0\0\0\0\
+\x01\0tB\0\0\0name: e\n\
+ID: 7\n\
+format:\n\
+\tfield:short v;\toffset:2;\tsize:2;\tsigned:1;\n\
+\x03\0\0\0\x02\0\0\0\
+\x01\x03\0\0\0\0\0\0\0\x01\0\0\0\0\0\0\0\
+\0\x03\0\0\0\0\0\0\0\x01\0\0\0\x01\0\0\0\0\0\0\0\0\0\0\0p\0\0\0\0\0\0\0\0\0\0\0\0\0\0\0\x02\0\0\0\x06\0",
+        Some(RecordingError::UnknownId(0, 1)),
+    ),
+    (
+        b"BTRACE02\x01\0\0\0\x01\0\0\0\x01\0\0\0\0\0\0\0\t\0\0\0\0\0\0\0\
+\x01\0tB\0\0\0name: e\n\
+ID: 7\n\
+format:\n\
+\tfield:short v;\toffset:2;\tsize:2;\tsigned:1;\n\
+\x03\0\0\0\x01\0\0\0\
+\0\x03\0\0\0\0\0\0\0\x01\0\0\0\x01\0\0\0\0\0\0\0\0\0\0\0p\0\0\0\0\0\0\0\0\0\0\0\0\0\0\0\x03\0\0\0\x07\0\0",
+        Some(RecordingError::ShortPayload(0, 0)),
+    ),
+    // A byte behind the last mark.
+    (
+        b"BTRACE02\x01\0\0\0\0\0\0\0\x01\0\0\0\0\0\0\0\t\0\0\0\0\0\0\0\
+\x03\0\0\0\x01\0\0\0\
+\x01\t\0\0\0\0\0\0\0\x01\0\0\0\0\0\0\0\0",
+        Some(RecordingError::TrailingBytes(57)),
+    ),
 ];
 
 #[test]
-fn each_check_tells_its_place(rt: HostRuntime) {
+fn each_check_tells_its_place(rt: HostRuntime) -> Result<(), Fail> {
+    let alloc = rt.alloc();
     for (place, (bytes, error)) in CHECKED.iter().enumerate() {
-        let found = read_recording(rt.alloc(), bytes).err();
+        let found = read_recording(alloc, Vec::from_slice(alloc, bytes)?).err();
         assert_eq!(rt; found, *error, "at {place}");
     }
+    Ok(())
 }
 
 /// Errors, each with the text by which it is told.
-const TOLD: [(RecordingError, &[u8]); 19] = [
+const TOLD: [(RecordingError, &[u8]); 21] = [
     (RecordingError::Truncated(911), b"C1 truncated at byte 911"),
     (RecordingError::BadMagic, b"C2 bad magic"),
     (RecordingError::Count(CountOf::Cpus), b"C3 bad count: cpus"),
@@ -470,6 +722,14 @@ const TOLD: [(RecordingError, &[u8]); 19] = [
         b"C10 trailing bytes at byte 912",
     ),
     (RecordingError::BadSystem(3), b"C11 bad system in format 3"),
+    (
+        RecordingError::BadEntry(1, 7),
+        b"C12 bad entry in event 7 of cpu 1",
+    ),
+    (
+        RecordingError::EmptyMark(1, 7),
+        b"C13 empty mark in event 7 of cpu 1",
+    ),
     (RecordingError::Memory, b"out of memory"),
 ];
 

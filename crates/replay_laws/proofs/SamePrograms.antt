@@ -8,6 +8,8 @@ use Rattle.bt_core.specs.declared.map.MapDecl.{MapDecl}
 use Rattle.bt_core.specs.declared.step.Reply.{Reply}
 use Rattle.bt_core.specs.Interaction.{Interaction, Ended, and_then}
 use Rattle.rec_format.specs.declared.recording.CpuTrack.{CpuTrack}
+use Rattle.rec_format.specs.declared.recording.Entry.{Entry}
+use Rattle.rec_format.specs.declared.recording.Entry.TheVariants as entry
 use Rattle.rec_format.specs.declared.recording.Event.{Event}
 use Rattle.rec_format.specs.declared.recording.Recording.{Recording}
 use Rattle.actor_plan.specs.declared.agenda.AgendaItem.{AgendaItem}
@@ -15,7 +17,7 @@ use Rattle.actor_plan.specs.declared.agenda.AgendaItem.TheVariants as item
 use Rattle.actor_plan.specs.declared.outcome.Outcome.{Outcome}
 use Rattle.actor_plan.specs.Contexts.{event_context, tick_context}
 use Rattle.actor_plan.specs.Plans.{Plan}
-use Rattle.actor_plan.specs.Programs.{after_count, bodies_at, crosses_last, event_work, goes_on, in_turn, item_work, items_program, tick_work, where_some}
+use Rattle.actor_plan.specs.Programs.{after_count, bodies_at, crosses_last, entry_work, event_work, goes_on, in_turn, item_work, items_program, mark_work, tick_work, where_some}
 use Rattle.bt_core.specs.Same.{SameTo}
 use Rattle.bt_core.proofs.SameLaws.{SameTo-self, SameTo-and_then}
 use Rattle.replay_laws.specs.Agree.{Comes, AskSame, AskSameOn}
@@ -72,9 +74,14 @@ module _ (holds : Reply → Type 0) (maps : List MapDecl) where
   -- ---- a CPU
 
   module _ (one other : Plan) (r : Recording) (attached : Attached) (track : CpuTrack) (agree : AskSameOn holds maps one other r attached track) where
-    event_same : (place : ℕ) (e : Event) → slice_get track.events place ≡ Some e → AskSame holds maps (event_work one r attached track e) (event_work other r attached track e)
+    event_same : (place : ℕ) (e : Event) → slice_get track.entries place ≡ Some (entry.Event e) → AskSame holds maps (event_work one r attached track e) (event_work other r attached track e)
     event_same place e there =
         turn_same (λ body. one.run body (event_context r track e) e.payload) (λ body. other.run body (event_context r track e) e.payload) (bodies_at one r attached e) (agree.events place e there)
+
+    -- what is asked at a mark is the same, whoever runs bodies
+    entry_same : (place : ℕ) (e : Entry) → slice_get track.entries place ≡ Some e → AskSame holds maps (entry_work one r attached track e) (entry_work other r attached track e)
+    entry_same place (entry.Event e) there = event_same place e there
+    entry_same place (entry.Lost time count) there = SameTo-self (Comes holds maps) (λ m n. Unit {0}) (λ m. tt) (mark_work track.number count)
 
     abbrev at_last : Tick → Plan → Bool → Interaction ℕ
     at_last t plan last = if last then plan.run t.body (tick_context r track t) [] else Ended 0
@@ -88,4 +95,5 @@ module _ (holds : Reply → Type 0) (maps : List MapDecl) where
 
     pub item_same : (i : AgendaItem) → AskSame holds maps (item_work one r attached track i) (item_work other r attached track i)
     item_same (item.Tick place) = where_same (tick_work one r attached track place) (tick_work other r attached track place) (slice_get attached.ticks place) (tick_same place)
-    item_same (item.Event place) = where_same (event_work one r attached track) (event_work other r attached track) (slice_get track.events place) (event_same place)
+    item_same (item.Event place) = where_same (entry_work one r attached track) (entry_work other r attached track) (slice_get track.entries place) (entry_same place)
+    item_same (item.Lost place) = where_same (entry_work one r attached track) (entry_work other r attached track) (slice_get track.entries place) (entry_same place)

@@ -71,7 +71,7 @@ module _ (script : Typed) (attached : Attached) (r : Recording) where
   pub script_asks : IsJob script attached r → AsksObjects (replay_of script attached r)
   script_asks job = record {
     fine = All-from_recursion IsFineDecl script.maps (all_fine script.maps script.fine);
-    begin = begin_asks at_objects script.maps (walking script actors (length r.cpus)) r attached job.valid (job.bodies (length r.cpus)) tt (λ tick low. low) (runs_ask (length r.cpus) (omega arith));
-    cpus = λ cpu low. cpu_asks at_objects script.maps (walking script actors cpu) r attached job.valid (job.bodies cpu) tt (λ tick less. less) (runs_ask cpu (omega (arith, low))) script.uses_exit;
-    end = end_asks at_objects script.maps (walking script actors (length r.cpus)) r attached job.valid (job.bodies (length r.cpus)) tt (λ tick low. low) (runs_ask (length r.cpus) (omega arith));
+    begin = begin_asks at_objects script.maps (walking script actors (length r.cpus)) r attached job.valid (job.bodies (length r.cpus)) tt (λ tick low. low) (λ number count. tt) (runs_ask (length r.cpus) (omega arith));
+    cpus = λ cpu low. cpu_asks at_objects script.maps (walking script actors cpu) r attached job.valid (job.bodies cpu) tt (λ tick less. less) (λ number count. tt) (runs_ask cpu (omega (arith, low))) script.uses_exit;
+    end = end_asks at_objects script.maps (walking script actors (length r.cpus)) r attached job.valid (job.bodies (length r.cpus)) tt (λ tick low. low) (λ number count. tt) (runs_ask (length r.cpus) (omega arith));
   }

@@ -9,6 +9,7 @@ use Rattle.bt_core.specs.declared.step.Reply.{Reply}
 use Rattle.bt_core.specs.declared.step.Step.{Step}
 use Rattle.bt_core.specs.Interaction.{Call, Interaction}
 use Rattle.rec_format.specs.declared.recording.CpuTrack.{CpuTrack}
+use Rattle.rec_format.specs.declared.recording.Entry.TheVariants as entry
 use Rattle.rec_format.specs.declared.recording.Event.{Event}
 use Rattle.rec_format.specs.declared.recording.Recording.{Recording}
 use Rattle.actor_plan.specs.Contexts.{event_context, tick_context, begin_context, end_context}
@@ -40,7 +41,7 @@ module _ (holds : Reply → Type 0) (maps : List MapDecl) (one other : Plan) whe
 
   -- so do the runs that a CPU's agenda can come to: of what is attached to its events, and of the ticks' bodies
   pub record AskSameOn (r : Recording) (attached : Attached) (track : CpuTrack) : Type 0 where
-    pub events : (place : ℕ) (e : Event) → slice_get track.events place ≡ Some e
+    pub events : (place : ℕ) (e : Event) → slice_get track.entries place ≡ Some (entry.Event e)
         → BodiesAskSame (bodies_at one r attached e) (event_context r track e) e.payload
     pub ticks : (place : ℕ) (t : Tick) → slice_get attached.ticks place ≡ Some t
         → AskSame holds maps (one.run t.body (tick_context r track t) []) (other.run t.body (tick_context r track t) [])

@@ -25,7 +25,7 @@ use Rattle.agg_core.specs.Aggregates.{aggregate}
 use Rattle.agg_core.specs.Answers.{back, is_cross, table_change}
 use Rattle.agg_core.specs.Changes.{Change, rows_of, lost_updates}
 use Rattle.weave.proofs.Less.{less_or_not}
-use Rattle.actor_plan.specs.Programs.{event_work, tells_last}
+use Rattle.actor_plan.specs.Programs.{entry_work, tells_last}
 use Rattle.bt_meaning.specs.Interleavings.{IsInterleaving}
 use Rattle.bt_meaning.specs.Jobs.{IsJob}
 use Rattle.bt_meaning.specs.Replays.{Replay, answers_of, begin_of, end_of}
@@ -215,7 +215,7 @@ module _ (script : Typed) (attached : Attached) (r : Recording) (job : IsJob scr
   zero_plus i = omega arith
 
   all_events : flat_map event_part (range_with_len 0 n) ≡ events_add p m 0 r.cpus
-  all_events = places (λ a track. flat_map (λ e. adds_of m (event_work (p.plan a) r attached track e)) track.events) (events_add p m)
+  all_events = places (λ a track. flat_map (λ e. adds_of m (entry_work (p.plan a) r attached track e)) track.entries) (events_add p m)
       (λ q. refl) (λ q track more. refl) event_part r.cpus 0
       (λ i track at. ap (events_at script attached r job only m (0 + i)) (ap (slice_get r.cpus) (zero_plus i) ∙ at))
 

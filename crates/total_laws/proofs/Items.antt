@@ -11,7 +11,7 @@ use Rattle.agg_core.specs.Answers.{is_cross}
 use Rattle.actor_plan.specs.declared.agenda.AgendaItem.{AgendaItem}
 use Rattle.actor_plan.specs.declared.agenda.AgendaItem.TheVariants as item
 use Rattle.actor_plan.specs.declared.outcome.Outcome.{Outcome}
-use Rattle.actor_plan.specs.Agendas.{tick_place, event_place}
+use Rattle.actor_plan.specs.Agendas.{tick_place, entry_place}
 use Rattle.actor_plan.specs.Programs.{after_count, items_program, tells_last}
 use Rattle.bt_meaning.specs.Ticks.{is_crossing}
 use Rattle.bt_meaning.specs.Totals.{Entry, added}
@@ -49,12 +49,14 @@ module _ (a : ℕ) where
 abbrev pub IsTickBelow : ℕ → AgendaItem → Type 0
 IsTickBelow n (item.Tick place) = place < n
 IsTickBelow n (item.Event place) = Unit {0}
+IsTickBelow n (item.Lost place) = Unit {0}
 
 -- What a CPU does for its items: for a tick it crosses, and where it is told that it is the last it does more.
-module _ (m : MapId) (a ticks : ℕ) (work : AgendaItem → Interaction ℕ) (body : ℕ → Interaction ℕ) (by_event by_tick : ℕ → List Entry)
+module _ (m : MapId) (a ticks : ℕ) (work : AgendaItem → Interaction ℕ) (body : ℕ → Interaction ℕ) (by_entry by_tick : ℕ → List Entry)
     (crosses : (place : ℕ) → place < ticks
     → work (item.Tick place) ≡ Asks (record { object = Clock; op = Cross place }) (λ reply. if tells_last reply then body place else Ended 0))
-    (event : (place : ℕ) → Gives m a (by_event place) (λ count. Unit {0}) (work (item.Event place)))
+    (event : (place : ℕ) → Gives m a (by_entry place) (λ count. Unit {0}) (work (item.Event place)))
+    (lost : (place : ℕ) → Gives m a (by_entry place) (λ count. Unit {0}) (work (item.Lost place)))
     (tick : (place : ℕ) → place < ticks → Gives m a (by_tick place) (λ count. Unit {0}) (body place)) where
   abbrev program : List AgendaItem → Interaction Outcome
   program items = items_program false work items
@@ -104,18 +106,25 @@ module _ (m : MapId) (a ticks : ℕ) (work : AgendaItem → Interaction ℕ) (bo
     pub own : AllByRecursion (IsOwn a) steps
     pub crossed : (k : ℕ) → marks k steps ≡ times k items
 
+  -- an item that crosses nothing, before others
+  entry_own : (i : AgendaItem) (is : List AgendaItem) (es : List Entry) → Gives m a es (λ count. Unit {0}) (work i) → ((k : ℕ) → times k (i ∷ is) ≡ times k is)
+      → ((others : List Step) (v : Outcome) → Runs (program is) others v → AreOwn is others) → (steps : List Step) (v : Outcome) → Runs (program (i ∷ is)) steps v → AreOwn (i ∷ is) steps
+  entry_own i is es gives none later steps v r =
+      let c = cut i is steps v r in
+      let rest = later c.others c.outcome c.second in
+      let plain = (gives_runs m a es (λ count. Unit {0}) (work i) c.here c.count gives c.first).1 in
+      record {
+        own = subst (AllByRecursion (IsOwn a)) (sym c.whole) (each_both (IsOwn a) c.here c.others (plain_own a c.here plain) rest.own);
+        crossed = λ k. (let w = ap (marks k) c.whole ∙ marks_append k c.here c.others in let z = plain_marks a k c.here plain in let x = rest.crossed k in
+            let n = none k in omega arith);
+      }
+
   pub program_own : (items : List AgendaItem) → AllByRecursion (IsTickBelow ticks) items → (steps : List Step) (v : Outcome) → Runs (program items) steps v
       → AreOwn items steps
   program_own [] below [] v r = record { own = tt; crossed = λ k. refl }
   program_own [] below (s ∷ ss) v r = absurd r
-  program_own (item.Event place ∷ is) below steps v r =
-      let c = cut (item.Event place) is steps v r in
-      let rest = program_own is below.1 c.others c.outcome c.second in
-      let plain = (gives_runs m a (by_event place) (λ count. Unit {0}) (work (item.Event place)) c.here c.count (event place) c.first).1 in
-      record {
-        own = subst (AllByRecursion (IsOwn a)) (sym c.whole) (each_both (IsOwn a) c.here c.others (plain_own a c.here plain) rest.own);
-        crossed = λ k. (let w = ap (marks k) c.whole ∙ marks_append k c.here c.others in let z = plain_marks a k c.here plain in let x = rest.crossed k in omega arith);
-      }
+  program_own (item.Event place ∷ is) below steps v r = entry_own (item.Event place) is (by_entry place) (event place) (λ k. refl) (program_own is below.1) steps v r
+  program_own (item.Lost place ∷ is) below steps v r = entry_own (item.Lost place) is (by_entry place) (lost place) (λ k. refl) (program_own is below.1) steps v r
   program_own (item.Tick place ∷ is) below steps v r =
       let c = cut (item.Tick place) is steps v r in
       let rest = program_own is below.1 c.others c.outcome c.second in
@@ -128,25 +137,33 @@ module _ (m : MapId) (a ticks : ℕ) (work : AgendaItem → Interaction ℕ) (bo
             let one : cond {A = ℕ} (is_crossing k t.cross) 1 0 ≡ cond (place == k) 1 0 = ap (λ (b : Bool). cond b 1 0) (crossing place t.cross t.call k) in omega arith);
       }
 
-  -- what a CPU adds: by its events, and by the ticks that it is named for
+  -- what a CPU adds: by its entries, and by the ticks that it is named for
   abbrev pub share : (ℕ → ℕ) → List AgendaItem → List Entry
   share named [] = []
-  share named (item.Event place ∷ is) = by_event place ++ share named is
+  share named (item.Event place ∷ is) = by_entry place ++ share named is
+  share named (item.Lost place ∷ is) = by_entry place ++ share named is
   share named (item.Tick place ∷ is) = cond (named place == a) (by_tick place) [] ++ share named is
 
   -- each crossing is told by who is named
   abbrev pub IsTold : (ℕ → ℕ) → Step → Type 0
   IsTold named s = (k : ℕ) → is_crossing k s ≡ true → tells_last s.reply ≡ (named k == a)
 
+  -- an item that adds these, before others
+  entry_adds : (named : ℕ → ℕ) (i : AgendaItem) (is : List AgendaItem) (es : List Entry) → Gives m a es (λ count. Unit {0}) (work i)
+      → ((others : List Step) (v : Outcome) → Runs (program is) others v → AllByRecursion (IsTold named) others → entries_in m others ≡ share named is)
+      → (steps : List Step) (v : Outcome) → Runs (program (i ∷ is)) steps v → AllByRecursion (IsTold named) steps → entries_in m steps ≡ es ++ share named is
+  entry_adds named i is es gives later steps v r told =
+      let c = cut i is steps v r in
+      let rest = later c.others c.outcome c.second (each_back (IsTold named) c.here c.others (subst (AllByRecursion (IsTold named)) c.whole told)) in
+      let first = (gives_runs m a es (λ count. Unit {0}) (work i) c.here c.count gives c.first).0 in
+      ap (entries_in m) c.whole ∙ entries_append m c.here c.others ∙ (λ i. first i ++ rest i)
+
   pub program_adds : (named : ℕ → ℕ) (items : List AgendaItem) → AllByRecursion (IsTickBelow ticks) items → (steps : List Step) (v : Outcome)
       → Runs (program items) steps v → AllByRecursion (IsTold named) steps → entries_in m steps ≡ share named items
   program_adds named [] below [] v r told = refl
   program_adds named [] below (s ∷ ss) v r told = absurd r
-  program_adds named (item.Event place ∷ is) below steps v r told =
-      let c = cut (item.Event place) is steps v r in
-      let rest = program_adds named is below.1 c.others c.outcome c.second (each_back (IsTold named) c.here c.others (subst (AllByRecursion (IsTold named)) c.whole told)) in
-      let first = (gives_runs m a (by_event place) (λ count. Unit {0}) (work (item.Event place)) c.here c.count (event place) c.first).0 in
-      ap (entries_in m) c.whole ∙ entries_append m c.here c.others ∙ (λ i. first i ++ rest i)
+  program_adds named (item.Event place ∷ is) below steps v r told = entry_adds named (item.Event place) is (by_entry place) (event place) (program_adds named is below.1) steps v r told
+  program_adds named (item.Lost place ∷ is) below steps v r told = entry_adds named (item.Lost place) is (by_entry place) (lost place) (program_adds named is below.1) steps v r told
   program_adds named (item.Tick place ∷ is) below steps v r told =
       let c = cut (item.Tick place) is steps v r in
       let t = tick_run place below.0 c.here c.count c.first in
@@ -159,18 +176,22 @@ module _ (m : MapId) (a ticks : ℕ) (work : AgendaItem → Interaction ℕ) (bo
       ap (λ (l : List Entry). l ++ entries_in m t.made) nothing ∙ t.adds ∙ ap (λ (b : Bool). cond b (by_tick place) []) here in
       ap (entries_in m) whole ∙ entries_append m (t.cross ∷ t.made) c.others ∙ (λ i. first i ++ rest i)
 
-  -- the share is that of the events and that of the ticks
-  pub share_alike : (named : ℕ → ℕ) (items : List AgendaItem)
-      → Alike (share named items) (flat_map by_event (filter_map event_place items) ++ flat_map (λ k. cond (named k == a) (by_tick k) []) (filter_map tick_place items))
-  share_alike named [] = alike_same [] [] refl
-  share_alike named (item.Event place ∷ is) =
-      let x = by_event place in let s = share named is in let e = flat_map by_event (filter_map event_place is) in
-      let t = flat_map (λ k. cond (named k == a) (by_tick k) []) (filter_map tick_place is) in
-      alike_trans (x ++ s) (x ++ (e ++ t)) ((x ++ e) ++ t)
-      (alike_append x s x (e ++ t) (alike_same x x refl) (share_alike named is))
+  -- more before the first of two
+  before_both : (x s e t : List Entry) → Alike s (e ++ t) → Alike (x ++ s) ((x ++ e) ++ t)
+  before_both x s e t h = alike_trans (x ++ s) (x ++ (e ++ t)) ((x ++ e) ++ t)
+      (alike_append x s x (e ++ t) (alike_same x x refl) h)
       (alike_same (x ++ (e ++ t)) ((x ++ e) ++ t) (sym (append_assoc x e t)))
+
+  -- the share is that of the entries and that of the ticks
+  pub share_alike : (named : ℕ → ℕ) (items : List AgendaItem)
+      → Alike (share named items) (flat_map by_entry (filter_map entry_place items) ++ flat_map (λ k. cond (named k == a) (by_tick k) []) (filter_map tick_place items))
+  share_alike named [] = alike_same [] [] refl
+  share_alike named (item.Event place ∷ is) = before_both (by_entry place) (share named is) (flat_map by_entry (filter_map entry_place is))
+      (flat_map (λ k. cond (named k == a) (by_tick k) []) (filter_map tick_place is)) (share_alike named is)
+  share_alike named (item.Lost place ∷ is) = before_both (by_entry place) (share named is) (flat_map by_entry (filter_map entry_place is))
+      (flat_map (λ k. cond (named k == a) (by_tick k) []) (filter_map tick_place is)) (share_alike named is)
   share_alike named (item.Tick place ∷ is) =
-      let x : List Entry = cond (named place == a) (by_tick place) [] in let s = share named is in let e = flat_map by_event (filter_map event_place is) in
+      let x : List Entry = cond (named place == a) (by_tick place) [] in let s = share named is in let e = flat_map by_entry (filter_map entry_place is) in
       let t = flat_map (λ k. cond (named k == a) (by_tick k) []) (filter_map tick_place is) in
       alike_trans (x ++ s) (x ++ (e ++ t)) (e ++ (x ++ t))
       (alike_append x s x (e ++ t) (alike_same x x refl) (share_alike named is))

@@ -14,15 +14,16 @@ use Rattle.bt_core.specs.declared.step.Op.TheVariants.{Cross}
 use Rattle.bt_core.specs.declared.step.Step.{Step}
 use Rattle.bt_core.specs.Interaction.{Interaction, Ended, Asks, Runs, and_then}
 use Rattle.rec_format.specs.declared.recording.CpuTrack.{CpuTrack}
-use Rattle.rec_format.specs.declared.recording.Event.{Event}
+use Rattle.rec_format.specs.declared.recording.Entry.{Entry as RecordedEntry}
+use Rattle.rec_format.specs.declared.recording.Entry.TheVariants as entry
 use Rattle.rec_format.specs.declared.recording.Recording.{Recording}
 use Rattle.typed_tree.specs.declared.script.Typed.{Typed}
 use Rattle.actor_plan.specs.declared.agenda.AgendaItem.{AgendaItem}
 use Rattle.actor_plan.specs.declared.agenda.AgendaItem.TheVariants as item
 use Rattle.actor_plan.specs.declared.outcome.Outcome.{Outcome}
-use Rattle.actor_plan.specs.Agendas.{agenda_of, events_on_track, tick_place, event_place}
+use Rattle.actor_plan.specs.Agendas.{agenda_of, entries_on_track, tick_place, entry_place}
 use Rattle.actor_plan.specs.Contexts.{begin_context, end_context, event_context, tick_context}
-use Rattle.actor_plan.specs.Programs.{in_turn, where_some, event_work, tick_work, item_work, items_program, tells_last, bodies_at}
+use Rattle.actor_plan.specs.Programs.{in_turn, where_some, entry_work, tick_work, item_work, items_program, tells_last, bodies_at}
 use Rattle.actor_plan.proofs.AgendaFacts.{agenda_holds}
 use Rattle.bt_meaning.specs.Interleavings.{IsWhole}
 use Rattle.bt_meaning.specs.Jobs.{IsJob}
@@ -50,6 +51,7 @@ ticks_below : (n : ℕ) (items : List AgendaItem) → AllByRecursion (λ k. k < 
 ticks_below n [] h = tt
 ticks_below n (item.Tick place ∷ is) h = (h.0, ticks_below n is h.1)
 ticks_below n (item.Event place ∷ is) h = (tt, ticks_below n is h)
+ticks_below n (item.Lost place ∷ is) h = (tt, ticks_below n is h)
 
 range_below : (bound first n : ℕ) → first + n ≤ bound → AllByRecursion (λ k. k < bound) (range_with_len first n)
 range_below bound first zero le = tt
@@ -114,7 +116,7 @@ module _ (script : Typed) (attached : Attached) (r : Recording) (job : IsJob scr
   -- what the events of a CPU add, if it is there, and what a tick adds on it
   abbrev pub events_at : ℕ → Option CpuTrack → List Entry
   events_at a None = []
-  events_at a (Some track) = flat_map (λ e. adds_of m (event_work (p.plan a) r attached track e)) track.events
+  events_at a (Some track) = flat_map (λ e. adds_of m (entry_work (p.plan a) r attached track e)) track.entries
 
   abbrev pub tick_at : Option Tick → ℕ → List Entry
   tick_at None a = []
@@ -128,13 +130,14 @@ module _ (script : Typed) (attached : Attached) (r : Recording) (job : IsJob scr
     abbrev work : AgendaItem → Interaction ℕ
     work = item_work (p.plan a) r attached track
 
-    event_surely : (o : Option Event) → Surely a (where_some (event_work (p.plan a) r attached track) o)
-    event_surely None = (refl, tt)
-    event_surely (Some e) = turn_surely a (λ body. run a body (event_context r track e) e.payload)
+    entry_surely : (o : Option RecordedEntry) → Surely a (where_some (entry_work (p.plan a) r attached track) o)
+    entry_surely None = (refl, tt)
+    entry_surely (Some (entry.Lost time count)) = (tt, [], refl, λ reply. (refl, tt))
+    entry_surely (Some (entry.Event e)) = turn_surely a (λ body. run a body (event_context r track e) e.payload)
         (λ body. run_surely a body (event_context r track e) e.payload) (bodies_at (p.plan a) r attached e)
 
-    abbrev by_event : ℕ → List Entry
-    by_event place = adds_of m (work (item.Event place))
+    abbrev by_entry : ℕ → List Entry
+    by_entry place = adds_of m (work (item.Event place))
 
     abbrev body_at : Option Tick → Interaction ℕ
     body_at None = Ended 0
@@ -163,8 +166,8 @@ module _ (script : Typed) (attached : Attached) (r : Recording) (job : IsJob scr
     ticks_are : filter_map tick_place items ≡ range_with_len 0 tick_count
     ticks_are = (agenda_holds r attached a job.valid job.in_turn lt).ticks_are
 
-    events_are : filter_map event_place items ≡ range_with_len 0 (length track.events)
-    events_are = (agenda_holds r attached a job.valid job.in_turn lt).events_are ∙ ap (λ (o : Option CpuTrack). range_with_len 0 (length (events_on_track o))) there
+    entries_are : filter_map entry_place items ≡ range_with_len 0 (length track.entries)
+    entries_are = (agenda_holds r attached a job.valid job.in_turn lt).entries_are ∙ ap (λ (o : Option CpuTrack). range_with_len 0 (length (entries_on_track o))) there
 
     below : AllByRecursion (IsTickBelow tick_count) items
     below = ticks_below tick_count items (subst (AllByRecursion (λ k. k < tick_count)) (sym ticks_are) (range_below tick_count 0 tick_count (omega arith)))
@@ -176,8 +179,8 @@ module _ (script : Typed) (attached : Attached) (r : Recording) (job : IsJob scr
       runs : Runs (items_program false work items) steps whole.value
       runs = subst (λ (t : Interaction Outcome). Runs t steps whole.value) program_is whole.runs
 
-      own_all : AreOwn m a tick_count work body by_event by_tick crosses (λ place. event_surely (slice_get track.events place)) (λ place low. tick_gives (slice_get attached.ticks place)) items steps
-      own_all = program_own m a tick_count work body by_event by_tick crosses (λ place. event_surely (slice_get track.events place))
+      own_all : AreOwn m a tick_count work body by_entry by_tick crosses (λ place. entry_surely (slice_get track.entries place)) (λ place. entry_surely (slice_get track.entries place)) (λ place low. tick_gives (slice_get attached.ticks place)) items steps
+      own_all = program_own m a tick_count work body by_entry by_tick crosses (λ place. entry_surely (slice_get track.entries place)) (λ place. entry_surely (slice_get track.entries place))
           (λ place low. tick_gives (slice_get attached.ticks place)) items below steps whole.value runs
 
       pub cpu_own : AllByRecursion (IsOwn a) steps
@@ -196,21 +199,21 @@ module _ (script : Typed) (attached : Attached) (r : Recording) (job : IsJob scr
       pub cpu_adds : (named : ℕ → ℕ) → AllByRecursion (λ s. (k : ℕ) → is_crossing k s ≡ true → tells_last s.reply ≡ (named k == a)) steps
           → Alike (entries_in m steps) (events_at a (slice_get r.cpus a) ++ flat_map (λ k. cond (named k == a) (tick_at (slice_get attached.ticks k) a) []) (range_with_len 0 tick_count))
       cpu_adds named told =
-          let events = flat_map by_event (filter_map event_place items) in
+          let entries = flat_map by_entry (filter_map entry_place items) in
           let ticks = flat_map (λ k. cond (named k == a) (by_tick k) []) (filter_map tick_place items) in
-          let shares : List Entry = share m a tick_count work body by_event by_tick crosses (λ place. event_surely (slice_get track.events place)) (λ place low. tick_gives (slice_get attached.ticks place)) named items in
+          let shares : List Entry = share m a tick_count work body by_entry by_tick crosses (λ place. entry_surely (slice_get track.entries place)) (λ place. entry_surely (slice_get track.entries place)) (λ place low. tick_gives (slice_get attached.ticks place)) named items in
           let adds : entries_in m steps ≡ shares =
-          program_adds m a tick_count work body by_event by_tick crosses (λ place. event_surely (slice_get track.events place))
+          program_adds m a tick_count work body by_entry by_tick crosses (λ place. entry_surely (slice_get track.entries place)) (λ place. entry_surely (slice_get track.entries place))
           (λ place low. tick_gives (slice_get attached.ticks place)) named items below steps whole.value runs told in
-          let each : flat_map by_event (range_with_len 0 (length track.events)) ≡ flat_map (λ e. adds_of m (event_work (p.plan a) r attached track e)) track.events =
-          places (λ q e. adds_of m (event_work (p.plan a) r attached track e)) (λ q es. flat_map (λ e. adds_of m (event_work (p.plan a) r attached track e)) es)
-          (λ q. refl) (λ q e es. refl) by_event track.events 0
+          let each : flat_map by_entry (range_with_len 0 (length track.entries)) ≡ flat_map (λ e. adds_of m (entry_work (p.plan a) r attached track e)) track.entries =
+          places (λ q e. adds_of m (entry_work (p.plan a) r attached track e)) (λ q es. flat_map (λ e. adds_of m (entry_work (p.plan a) r attached track e)) es)
+          (λ q. refl) (λ q e es. refl) by_entry track.entries 0
           (λ i e at. let zero_i : 0 + i ≡ i = omega arith in
-          ap (λ (o : Option Event). adds_of m (where_some (event_work (p.plan a) r attached track) o)) (ap (slice_get track.events) zero_i ∙ at)) in
-          let first : events ≡ events_at a (slice_get r.cpus a) = ap (flat_map by_event) events_are ∙ each ∙ ap (events_at a) (sym there) in
+          ap (λ (o : Option RecordedEntry). adds_of m (where_some (entry_work (p.plan a) r attached track) o)) (ap (slice_get track.entries) zero_i ∙ at)) in
+          let first : entries ≡ events_at a (slice_get r.cpus a) = ap (flat_map by_entry) entries_are ∙ each ∙ ap (events_at a) (sym there) in
           let second : ticks ≡ flat_map (λ k. cond (named k == a) (by_tick k) []) (range_with_len 0 tick_count) = ap (flat_map (λ k. cond (named k == a) (by_tick k) [])) ticks_are in
           alike_trans (entries_in m steps) shares (events_at a (slice_get r.cpus a) ++ flat_map (λ k. cond (named k == a) (by_tick k) []) (range_with_len 0 tick_count))
           (alike_same (entries_in m steps) shares adds)
-          (alike_trans shares (events ++ ticks) (events_at a (slice_get r.cpus a) ++ flat_map (λ k. cond (named k == a) (by_tick k) []) (range_with_len 0 tick_count))
-          (share_alike m a tick_count work body by_event by_tick crosses (λ place. event_surely (slice_get track.events place)) (λ place low. tick_gives (slice_get attached.ticks place)) named items)
-          (alike_same (events ++ ticks) (events_at a (slice_get r.cpus a) ++ flat_map (λ k. cond (named k == a) (by_tick k) []) (range_with_len 0 tick_count)) (λ i. first i ++ second i)))
+          (alike_trans shares (entries ++ ticks) (events_at a (slice_get r.cpus a) ++ flat_map (λ k. cond (named k == a) (by_tick k) []) (range_with_len 0 tick_count))
+          (share_alike m a tick_count work body by_entry by_tick crosses (λ place. entry_surely (slice_get track.entries place)) (λ place. entry_surely (slice_get track.entries place)) (λ place low. tick_gives (slice_get attached.ticks place)) named items)
+          (alike_same (entries ++ ticks) (events_at a (slice_get r.cpus a) ++ flat_map (λ k. cond (named k == a) (by_tick k) []) (range_with_len 0 tick_count)) (λ i. first i ++ second i)))

@@ -151,7 +151,7 @@ module _ (script : Typed) (attached : Attached) (r : Recording) (steps : List St
       goes_on = has.done.goes_on;
       whole = has.done.whole;
     };
-    events = has.events;
+    entries = has.entries;
   }
 
   held : (tick cpu : ℕ) (before : List Step) (has : HasDoneBefore p tick cpu before) → BeginsWith (adds_of cpu before) (adds_of cpu has.done.made)

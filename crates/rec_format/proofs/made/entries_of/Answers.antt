@@ -1,4 +1,4 @@
-use Rattle.std.proofs.Common.{◌≡◌, ℕ, ◌+◌, List, [], ◌∷◌, ◌++◌, Some, length, map, take, drop, get_or, refl, sym, ap, subst, ◌∙◌, append_assoc, arith}
+use Rattle.std.proofs.Common.{◌≡◌, ℕ, ◌+◌, List, [], ◌∷◌, ◌++◌, length, map, take, sym, ap, subst, ◌∙◌, append_assoc, arith}
 use Rattle.std.specs.Prelude.{IfOk}
 use Rattle.std.proofs.lemmas.List.{drop_at, take_more, take_all, append-nil}
 use Rattle.rec_format.specs.declared.entries.EntryPlace.TheVariants as place
@@ -7,7 +7,7 @@ use Rattle.rec_format.specs.declared.recording.Entry.TheVariants as entry
 use Rattle.rec_format.specs.declared.recording.Event.{Event}
 use Rattle.rec_format.specs.Events.{part_of_event}
 use Rattle.rec_format.specs.InFile.{entry_in, entries_in, event_taken}
-use Rattle.rec_format.specs.Parts.{EventPart, IsEventPart, event_bytes}
+use Rattle.rec_format.specs.Parts.{IsEventPart, event_bytes}
 use Rattle.rec_format.specs.Fronts.{event_at}
 use Rattle.rec_format.proofs.InFileLaws.{entries_more, map_more}
 use Rattle.rec_format.proofs.PartLaws.{event_reads}

@@ -1,6 +1,5 @@
-use Rattle.std.proofs.Common.{◌≡◌, ℕ, List, length, ◌-◌, sym, ap, ◌∙◌, arith}
+use Rattle.std.proofs.Common.{List, length, ◌-◌, sym, ap, ◌∙◌, arith}
 use Rattle.std.proofs.lemmas.Result.{err_from_is_err_and}
-use Rattle.tracefs_format.specs.declared.format.Format.{Format}
 use Rattle.rec_format.specs.declared.recording.Entry.{Entry}
 use Rattle.rec_format.specs.Entries.{entries_bytes}
 use Rattle.rec_format.specs.EntryParts.{EntryPart, entries}
