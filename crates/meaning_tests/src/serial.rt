@@ -1,9 +1,12 @@
 // The list of the serial run and its text, of three scripts, and over recordings with marks of lost events.
-ghost use Rattle.std.specs.Prelude.{◌≡◌, [], ◌∷◌, codes};
+ghost use Rattle.std.specs.Prelude.{◌≡◌, List, [], ◌∷◌, codes, map};
+ghost use Rattle.bt_core.specs.declared.step.Step.{Step};
 ghost use Rattle.typed_tree.specs.declared.script.Typed.{Typed};
 ghost use Rattle.fmt_text.specs.declared.piece.Piece.TheVariants.{Literal};
 ghost use Rattle.bt_meaning.specs.Prints.{printed_text};
-ghost use Rattle.bt_meaning.specs.Serial.{serial_steps};
+ghost use Rattle.bt_meaning.specs.Serial.{serial_steps, unstamped};
+ghost use Rattle.weave.specs.Lists.{stamp_of};
+ghost use Rattle.weave.specs.Woven.{IsWoven};
 ghost use Rattle.meaning_tests.specs.Marks.{marked_between, marked_twice, stopped_before, told_between, told_by_time, untold};
 ghost use Rattle.meaning_tests.specs.Serial.{by_cpu_decl, by_second, counted_by_cpu, n_and_i, stopped_by_count, stopped_by_tick, until_count, until_tick};
 ghost use Rattle.meaning_tests.specs.Written.{counts_decl};
@@ -27,11 +30,13 @@ fn the_last_cpu_runs_ticks()
     ensures text { (script : Typed) → script.maps ≡ by_cpu_decl ∷ [] → printed_text script 2 by_second ≡ codes "@[9]: 2\n\n" }
 {}
 
-// A mark is told of where it stands, and not behind an exit; over two CPUs the earlier one is told of first.
+// A mark is told of where it stands, and the three steps of the one CPU have the stamps 1, 2 and 3; behind an exit none is
+// told of; and over two CPUs the earlier one is told of first.
 fn marks_are_told()
     ensures between { serial_steps marked_between ≡ told_between }
     ensures between_text { (script : Typed) → script.maps ≡ counts_decl ∷ [] →
         printed_text script 1 told_between ≡ codes "WARNING: 5 events lost on cpu 0\n@: 2\n\n" }
+    ensures stamps { (steps : List Step) → IsWoven 1 0 steps → map unstamped steps ≡ told_between → map stamp_of steps ≡ 1 ∷ 2 ∷ 3 ∷ [] }
     ensures exit { serial_steps stopped_before ≡ untold }
     ensures exit_text { (script : Typed) → script.maps ≡ [] → printed_text script 1 untold ≡ [] }
     ensures two { serial_steps marked_twice ≡ told_by_time }

@@ -6,12 +6,16 @@ use Rattle.bt_meaning.specs.Schedules.{serial_order}
 use Rattle.bt_meaning.specs.Serial.{serial_steps}
 use Rattle.meaning_tests.specs.Marks.{told_between, told_by_time, untold}
 use Rattle.meaning_tests.specs.Written.{counts_decl}
+use Rattle.meaning_tests.proofs.Stamped.{stamps_rise}
 use Rattle.meaning_tests.proofs.Texts.{with_maps}
 use Rattle.meaning_tests.proofs.serial.marks_are_told.Goals as goal
 
 pub returns-clause-between : goal.returns-clause-between
 unfolding serial_steps serial_order int_wrap
 returns-clause-between c = refl
+
+pub returns-clause-stamps : goal.returns-clause-stamps
+returns-clause-stamps c = λ steps woven e. stamps_rise steps e woven.stamps
 
 pub returns-clause-exit : goal.returns-clause-exit
 unfolding serial_steps serial_order int_wrap
