@@ -284,7 +284,7 @@ module _ (p : Replay) (valid : IsValidRecording p.recording) (turn : AreInTurn p
   -- a CPU's
   cpu_counts : (a : ℕ) → a < many → actor_instructions p (serial_steps p) a ≡ (comes.ends a).instructions
   cpu_counts a lt =
-      let d : CpuTrack = record { number = 0; events = [] } in
+      let d : CpuTrack = record { number = 0; entries = [] } in
       let track = get_or p.recording.cpus a d in
       let there = slice_get-get_or p.recording.cpus a d lt in
       let items = own_agenda p.recording p.attached a track valid turn lt there in

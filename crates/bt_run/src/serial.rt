@@ -31,8 +31,8 @@ fn cpu_of_due(due: &Due) -> u32
     ensures { result ≡ due_cpu due.now }
 {
     match due {
-        Due::Tick { tick: _, cpu } => *cpu,
-        Due::Event { cpu, event: _ } => *cpu,
+        Due::Tick { cpu, .. } => *cpu,
+        Due::Entry { cpu, .. } => *cpu,
     }
 }
 
@@ -41,8 +41,9 @@ fn item_of_due(due: &Due) -> AgendaItem
     ensures { result ≡ due_item due.now }
 {
     match due {
-        Due::Tick { tick, cpu: _ } => AgendaItem::Tick(*tick),
-        Due::Event { cpu: _, event } => AgendaItem::Event(*event),
+        Due::Tick { tick, .. } => AgendaItem::Tick(*tick),
+        Due::Entry { entry, lost, .. } if *lost => AgendaItem::Lost(*entry),
+        Due::Entry { entry, .. } => AgendaItem::Event(*entry),
     }
 }
 

@@ -71,7 +71,7 @@ rule_pieces rule.Memory = Text (codes "out of memory") ∷ []
 abbrev pub broken_format_pieces : ℕ → List Piece → List Piece
 broken_format_pieces place rule = Text (codes "C4 format ") ∷ Number place ∷ Text (codes ": ") ∷ rule
 
--- what is wrong with an event
+-- what is wrong with an entry, which is called an event
 abbrev pub event_pieces : List ℕ → ℕ → ℕ → List Piece
 event_pieces what cpu event = Text what ∷ Text (codes " in event ") ∷ Number event ∷ Text (codes " of cpu ") ∷ Number cpu ∷ []
 
@@ -88,6 +88,8 @@ fault_pieces (fault.UnknownId cpu event) = event_pieces (codes "C8 unknown id") 
 fault_pieces (fault.ShortPayload cpu event) = event_pieces (codes "C9 short payload") cpu event
 fault_pieces (fault.TrailingBytes offset) = Text (codes "C10 trailing bytes at byte ") ∷ Number offset ∷ []
 fault_pieces (fault.BadSystem place) = Text (codes "C11 bad system in format ") ∷ Number place ∷ []
+fault_pieces (fault.BadEntry cpu event) = event_pieces (codes "C12 bad entry") cpu event
+fault_pieces (fault.EmptyMark cpu event) = event_pieces (codes "C13 empty mark") cpu event
 fault_pieces fault.Memory = Text (codes "out of memory") ∷ []
 
 -- the rule of types that a script breaks

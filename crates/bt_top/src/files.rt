@@ -32,5 +32,5 @@ pub(crate) fn read_job<S: Shelf>(
         Ok(bytes) => bytes,
         Err(error) => return Err(read_refusal(Operand::Recording, error)),
     };
-    judge(alloc, text.as_slice(), bytes.as_slice())
+    judge(alloc, text.as_slice(), bytes)
 }

@@ -51,10 +51,10 @@ pub(crate) fn script_job(alloc: Global, script: &[u8], recording: Recording) -> 
 }
 
 /// What a script and a recording ask for, of which nothing is refused. The recording is refused before the script is.
-fn accept(alloc: Global, script: &[u8], recording: &[u8]) -> Result<Job, Refusal>
+fn accept(alloc: Global, script: &[u8], recording: Vec<u8>) -> Result<Job, Refusal>
     requires { length script.now ≤ SCRIPT_BYTES }
-    ensures job { IfOk result (IsJobOf script.now recording.now) }
-    ensures refused { IfErr result (IsFaultRefusal script.now recording.now) }
+    ensures job { IfOk result (IsJobOf script.now recording.items) }
+    ensures refused { IfErr result (IsFaultRefusal script.now recording.items) }
 {
     match read_recording(alloc, recording) {
         Ok(recording) => script_job(alloc, script, recording),
@@ -63,12 +63,12 @@ fn accept(alloc: Global, script: &[u8], recording: &[u8]) -> Result<Job, Refusal
 }
 
 /// The same. Of what is due to them there is only one thing, so that comes unless memory runs out; and what they ask for can be run.
-pub(crate) fn judge(alloc: Global, script: &[u8], recording: &[u8]) -> Result<Job, Refusal>
+pub(crate) fn judge(alloc: Global, script: &[u8], recording: Vec<u8>) -> Result<Job, Refusal>
     requires { length script.now ≤ SCRIPT_BYTES }
-    ensures job { IfOk result (IsJobOf script.now recording.now) }
+    ensures job { IfOk result (IsJobOf script.now recording.items) }
     ensures can_run { IfOk result (λ job. IsJob job.typed job.attached job.recording) }
-    ensures refused { IfErr result (IsFaultRefusal script.now recording.now) }
-    ensures exact { IsExact script.now recording.now (refusal_in result) }
+    ensures refused { IfErr result (IsFaultRefusal script.now recording.items) }
+    ensures exact { IsExact script.now recording.items (refusal_in result) }
 {
     rec_format::laws::one_recording();
     rec_format::laws::one_fault();

@@ -162,7 +162,7 @@ fn tell_format<E: Sink>(err: &mut E, name: &str, place: u32, rule: FormatError)
     }
 }
 
-/// Tells what is wrong with an event, by its place and its CPU.
+/// Tells what is wrong with an entry, which the text calls an event, by its place and its CPU.
 fn tell_event<E: Sink>(err: &mut E, name: &str, what: &'static str, cpu: u32, event: u32)
     ensures { Writes (sink_use E.taken E.faults err.old err.new) (Text name.now ∷ Text (codes ": ") ∷ event_pieces what.now cpu event) }
 {
@@ -230,6 +230,10 @@ fn tell_fault<E: Sink>(err: &mut E, name: &str, error: RecordingError)
         }
         RecordingError::BadSystem(place) => {
             tell_numbered(err, name, "C11 bad system in format ", u64::from(place))
+        }
+        RecordingError::BadEntry(cpu, event) => tell_event(err, name, "C12 bad entry", cpu, event),
+        RecordingError::EmptyMark(cpu, event) => {
+            tell_event(err, name, "C13 empty mark", cpu, event)
         }
         RecordingError::Memory => tell_text(err, name, "out of memory"),
     }

@@ -1,4 +1,6 @@
+pub mod ArcKnown
 pub mod CodeLemmas
+pub mod EntriesKnown
 pub mod ItemsKnown
 pub mod KindLemmas
 pub mod MapReads

@@ -1,16 +1,12 @@
--- Events, tracks and ticks as a program holds them. No public contract speaks of it.
+-- Tracks and ticks as a program holds them. No public contract speaks of it.
 use Rattle.std.specs.Prelude.{◌<◌, ◌^◌}
 use Rattle.std.specs.List.{AllByRecursion}
 use Rattle.bt_ast.specs.declared.attached.Tick.{Tick}
 use Rattle.rec_format.specs.declared.recording.CpuTrack.{CpuTrack}
-use Rattle.rec_format.specs.declared.recording.Event.{Event}
-use Rattle.event_record.specs.Contexts.{AreBytes}
-
-abbrev pub IsHeldEvent : Event → Type 0
-IsHeldEvent e = AreBytes e.comm × AreBytes e.payload
+use Rattle.rec_format.specs.Places.{IsHeldEntry}
 
 abbrev pub IsHeldTrack : CpuTrack → Type 0
-IsHeldTrack track = AllByRecursion IsHeldEvent track.events
+IsHeldTrack track = AllByRecursion IsHeldEntry track.entries
 
 abbrev pub IsHeldTick : Tick → Type 0
 IsHeldTick t = t.time < 2 ^ 64

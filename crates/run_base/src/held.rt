@@ -8,7 +8,7 @@ use bt_ast::attached::Tick;
 use bt_core::items::Items;
 use rec_format::recording::CpuTrack;
 
-/// What all events have of bytes are bytes, as their types say. Nothing is read.
+/// What all entries have of bytes are bytes, as their types say. Nothing is read.
 fn tracks_are_held(tracks: &Items<CpuTrack>)
     ensures { AllByRecursion IsHeldTrack tracks.now }
 {}

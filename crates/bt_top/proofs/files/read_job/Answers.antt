@@ -17,9 +17,9 @@ returns-in-Err-read-clause-performs g c =
 
 pub returns-clause-performs : goal.returns-clause-performs
 returns-clause-performs g c =
-    both_read c.args.script.now c.args.recording.now _ c.as_slice.result.now c.as_slice-2.result.now
-    (rw c.as_slice.ensures.value c.in-Ok.ensures.fits) (rw c.as_slice-2.ensures.value c.in-Ok-read.ensures.fits)
+    both_read c.args.script.now c.args.recording.now _ c.as_slice.result.now c.in-Ok-read.bytes.items
+    (rw c.as_slice.ensures.value c.in-Ok.ensures.fits) c.in-Ok-read.ensures.fits
     (rw c.as_slice.ensures.value c.in-Ok.ensures.bytes)
-    (rw (c.as_slice-2.ensures.value, ← c.read.ensures.kept c.args.recording.now) c.in-Ok-read.ensures.bytes)
+    (rw (← c.read.ensures.kept c.args.recording.now) c.in-Ok-read.ensures.bytes)
     c.judge.result _ c.judge.ensures.job c.judge.ensures.refused c.judge.ensures.exact
     (noted_ok c.in-Ok.text c.in-Ok.ensures.named) (noted_ok c.in-Ok-read.bytes c.in-Ok-read.ensures.named)

@@ -3,10 +3,10 @@ use Rattle.bt_top.proofs.judge.judge.Goals as goal
 
 pub returns-clause-exact : goal.returns-clause-exact
 returns-clause-exact c =
-    let laws : AreLaws c.args.script.now c.args.recording.now = record {
+    let laws : AreLaws c.args.script.now c.args.recording.items = record {
       recording = c.one_recording.ensures;
-      fault = λ one other. c.one_fault.ensures.one c.args.recording.now one other (λ i. (c.type_inv.recording i).fits);
-      no_fault = λ says error. c.one_fault.ensures.none_beside c.args.recording.now says error (λ i. (c.type_inv.recording i).fits);
+      fault = λ one other. c.one_fault.ensures.one c.args.recording.items one other (λ i. (c.type_inv.recording i).fits);
+      no_fault = λ says error. c.one_fault.ensures.none_beside c.args.recording.items says error (λ i. (c.type_inv.recording i).fits);
       script = record {
         tokens = c.one_answer.ensures.tokens c.args.script.now;
         lexical = c.one_answer.ensures.fault c.args.script.now;
@@ -17,8 +17,8 @@ returns-clause-exact c =
         sizes = c.scripts_have_one_size.ensures;
       };
     } in
-    is_exact c.args.script.now c.args.recording.now c.accept.result laws c.accept.ensures.job c.accept.ensures.refused
+    is_exact c.args.script.now c.args.recording.items c.accept.result laws c.accept.ensures.job c.accept.ensures.refused
 
 pub returns-clause-can_run : goal.returns-clause-can_run
 returns-clause-can_run c =
-    jobs_can_run c.args.script.now c.args.recording.now c.accept.result c.accepted_scripts_are_jobs.ensures c.accept.ensures.job
+    jobs_can_run c.args.script.now c.args.recording.items c.accept.result c.accepted_scripts_are_jobs.ensures c.accept.ensures.job

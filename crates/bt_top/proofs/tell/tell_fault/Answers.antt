@@ -33,5 +33,11 @@ returns-in-TrailingBytes g c = rw c.in-TrailingBytes.is c.tell_numbered-in-Trail
 pub returns-in-BadSystem : goal.returns-in-BadSystem
 returns-in-BadSystem g c = rw (c.in-BadSystem.is, ← c.from-in-BadSystem.ensures) c.tell_numbered-in-BadSystem.ensures
 
+pub returns-in-BadEntry : goal.returns-in-BadEntry
+returns-in-BadEntry g c = rw c.in-BadEntry.is c.tell_event-in-BadEntry.ensures
+
+pub returns-in-EmptyMark : goal.returns-in-EmptyMark
+returns-in-EmptyMark g c = rw c.in-EmptyMark.is c.tell_event-in-EmptyMark.ensures
+
 pub returns-in-Memory : goal.returns-in-Memory
 returns-in-Memory g c = rw c.in-Memory.is c.tell_text-in-Memory.ensures
