@@ -1,5 +1,5 @@
 -- What words and expressions add, in two scenes that are alike.
-use Rattle.std.proofs.Common.{◌≡◌, ◌++◌, ◌+◌, ◌-◌, ◌%◌, ◌^◌, ℕ, ℤ, w64, List, [], ◌∷◌, Bool, true, false, map, refl, sym, ap, subst}
+use Rattle.std.proofs.Common.{◌≡◌, ◌++◌, ℕ, ℤ, w64, List, [], ◌∷◌, Bool, true, false, map, refl, sym, ap, subst}
 use Rattle.std.specs.Int.{cast_signed}
 use Rattle.bt_core.specs.declared.map.MapId.{MapId}
 use Rattle.bt_core.specs.declared.step.ObjectId.{ObjectId}
