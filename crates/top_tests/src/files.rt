@@ -38,9 +38,9 @@ fn write_cpu(bytes: &mut Vec<u8>, number: u32, events: u32) -> Result<(), Memory
     Ok(())
 }
 
-/// A recording of so many CPUs, up to the first of them.
-fn begun(alloc: Global, cpus: u32) -> Result<Vec<u8>, Memory> {
-    let mut bytes = Vec::from_slice(alloc, b"BTRACE01")?;
+/// A recording of so many CPUs that begins with these bytes, up to the first CPU.
+fn begun(alloc: Global, magic: &[u8], cpus: u32) -> Result<Vec<u8>, Memory> {
+    let mut bytes = Vec::from_slice(alloc, magic)?;
     bytes.extend_from_slice(&cpus.to_le_bytes())?;
     bytes.extend_from_slice(b"\x01\0\0\0")?;
     bytes.extend_from_slice(&0u64.to_le_bytes())?;
@@ -52,7 +52,7 @@ fn begun(alloc: Global, cpus: u32) -> Result<Vec<u8>, Memory> {
 
 /// A recording of so many CPUs, each with so many events `e`.
 pub fn recording(alloc: Global, cpus: u32, events: u32) -> Result<Vec<u8>, Memory> {
-    let mut bytes = begun(alloc, cpus)?;
+    let mut bytes = begun(alloc, b"BTRACE01", cpus)?;
     for number in 0..cpus {
         write_cpu(&mut bytes, number, events)?;
     }
@@ -61,7 +61,7 @@ pub fn recording(alloc: Global, cpus: u32, events: u32) -> Result<Vec<u8>, Memor
 
 /// A recording of one CPU, whose events `e` have these values, of fewer than 1,000.
 pub fn recording_of(alloc: Global, values: &[i64]) -> Result<Vec<u8>, Memory> {
-    let mut bytes = begun(alloc, 1)?;
+    let mut bytes = begun(alloc, b"BTRACE01", 1)?;
     let values = &values[..values.len().min(999)];
     write_head(&mut bytes, 0, values.len() as u32)?;
     let mut time = 0u64;
@@ -69,6 +69,51 @@ pub fn recording_of(alloc: Global, values: &[i64]) -> Result<Vec<u8>, Memory> {
         write_event(&mut bytes, time, *value)?;
         time = time.saturating_add(1);
     }
+    Ok(bytes)
+}
+
+/// What a CPU of a recording with marks has: an event `e` at a time, or a mark at a time of so many lost ones.
+#[derive(Clone, Copy)]
+pub enum Recorded {
+    Event(u64),
+    Lost { time: u64, count: u64 },
+}
+
+/// What the CPU with this number has, of fewer than 1,000.
+fn write_recorded(bytes: &mut Vec<u8>, number: u32, entries: &[Recorded]) -> Result<(), Memory> {
+    let entries = &entries[..entries.len().min(999)];
+    write_head(bytes, number, entries.len() as u32)?;
+    for entry in entries {
+        match *entry {
+            Recorded::Event(time) => {
+                bytes.push(0)?;
+                write_event(bytes, time, 42)?;
+            }
+            Recorded::Lost { time, count } => {
+                bytes.push(1)?;
+                bytes.extend_from_slice(&time.to_le_bytes())?;
+                bytes.extend_from_slice(&count.to_le_bytes())?;
+            }
+        }
+    }
+    Ok(())
+}
+
+/// A recording with marks, of at most 64 CPUs that have these.
+pub fn recording_with_marks(alloc: Global, cpus: &[&[Recorded]]) -> Result<Vec<u8>, Memory> {
+    let cpus = &cpus[..cpus.len().min(64)];
+    let mut bytes = begun(alloc, b"BTRACE02", cpus.len() as u32)?;
+    for (number, entries) in cpus.iter().enumerate() {
+        write_recorded(&mut bytes, number as u32, entries)?;
+    }
+    Ok(bytes)
+}
+
+/// A recording with marks of one CPU, whose one entry is what these bytes tell.
+pub fn recording_of_entry(alloc: Global, entry: &[u8]) -> Result<Vec<u8>, Memory> {
+    let mut bytes = begun(alloc, b"BTRACE02", 1)?;
+    write_head(&mut bytes, 0, 1)?;
+    bytes.extend_from_slice(entry)?;
     Ok(bytes)
 }
 
@@ -107,6 +152,7 @@ pub fn report_on<S: Shelf, G: Gate + Sync, R: Threads + Wait + Sync>(
 pub struct Answer {
     pub report: Report,
     pub out: MemSink,
+    pub err: MemSink,
 }
 
 /// The answer to words over a script and the bytes of a recording, on a shelf and sinks that do not fail.
@@ -123,5 +169,5 @@ pub fn answer_to<G: Gate + Sync, R: Threads + Wait + Sync>(
     let mut out = MemSink::new(alloc, 1 << 20, 4096, Vec::new(alloc))?;
     let mut err = MemSink::new(alloc, 4096, 4096, Vec::new(alloc))?;
     let report = report_on(rt, alloc, asked, &mut shelf, &mut out, &mut err, gate)?;
-    Ok(Answer { report, out })
+    Ok(Answer { report, out, err })
 }

@@ -22,7 +22,7 @@ fn a_listing_has_a_line_for_each_slot(rt: HostRuntime) -> Result<(), Fail> {
     for (script, bodies) in rows {
         let words = ["code", "s.bt", "r.bin"];
         let recording = recording_of(alloc, &[])?;
-        let Answer { report, out } = answer_to(&rt, alloc, &words, script, recording, &Open)?;
+        let Answer { report, out, .. } = answer_to(&rt, alloc, &words, script, recording, &Open)?;
         assert!(rt; report.status == 0 && report.work.is_none());
         assert_eq!(rt; report.programs.len(), bodies);
         let mut lines = bodies;
@@ -55,7 +55,7 @@ fn the_instructions_are_those_of_the_programs(rt: HostRuntime) -> Result<(), Fai
         ["run", "--stats", "s.bt", "r.bin"].as_slice(),
     ] {
         let recording = recording_of(alloc, &values)?;
-        let Answer { report, out } = answer_to(&rt, alloc, words, script, recording, &Open)?;
+        let Answer { report, out, .. } = answer_to(&rt, alloc, words, script, recording, &Open)?;
         assert!(rt; report.status == 0);
         assert_eq!(rt; report.programs.len(), 1);
         let program = &report.programs.as_slice()[0];

@@ -94,7 +94,7 @@ fn cpus_run_side_by_side(rt: HostRuntime) -> Result<(), Fail> {
         };
         let alloc = rt.alloc();
         let recording = recording(alloc, 2, 1)?;
-        let Answer { report, out } = answer_to(&rt, alloc, &RUN, script, recording, &gate)?;
+        let Answer { report, out, .. } = answer_to(&rt, alloc, &RUN, script, recording, &gate)?;
         assert!(rt; report.status == 0);
         assert!(rt; out.taken() == wanted);
         assert!(rt; *gate.first.object.lock(&rt) == Some(first));

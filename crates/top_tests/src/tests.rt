@@ -3,9 +3,10 @@ ghost use Rattle.std.specs.Prelude.{◌-◌, ◌<◌, ◌^◌, None};
 
 use crate::files::{Answer, answer_to, files, recording, report_on};
 use crate::machine::instructions_of;
+use crate::steps::name_of;
 use bt_core::items::Items;
 use bt_core::memory::Memory;
-use bt_core::step::{Op, Step};
+use bt_core::step::Step;
 use bt_io::mem_shelf::MemShelf;
 use bt_io::mem_sink::MemSink;
 use bt_io::shelf::{Shelf, ShelfError};
@@ -41,22 +42,10 @@ fn a_million_events_are_counted(rt: HostRuntime) -> Result<(), Fail> {
     let alloc = rt.alloc();
     let words = ["run", "s.bt", "r.bin"];
     let recording = recording(alloc, 1, 1_048_576)?;
-    let Answer { report, out } = answer_to(&rt, alloc, &words, COUNT, recording, &Open)?;
+    let Answer { report, out, .. } = answer_to(&rt, alloc, &words, COUNT, recording, &Open)?;
     assert!(rt; report.status == 0);
     assert!(rt; out.taken() == b"@: 1048576\n\n".as_slice());
     Ok(())
-}
-
-/// What an operation on a map is called.
-fn name_of(op: &Op) -> &str {
-    match op {
-        Op::Get(_) => "get",
-        Op::Set(_, _) => "set",
-        Op::ReadAll => "read",
-        Op::Clear => "clear",
-        Op::Emit(_) => "emit",
-        _ => "another",
-    }
 }
 
 #[test]
