@@ -1,5 +1,5 @@
 -- A made recording is valid, and the only one of its seed and count.
-use Rattle.std.proofs.Common.{◌≡◌, ℕ, zero, suc, ◌+◌, ◌*◌, ◌<◌, ◌≤◌, ◌^◌, ◌%◌, Bool, true, false, List, [], ◌∷◌, ◌++◌, length, map, refl, ap, sym, subst, ◌∙◌, arith, Some, inl}
+use Rattle.std.proofs.Common.{◌≡◌, ℕ, zero, suc, ◌+◌, ◌*◌, ◌<◌, ◌≤◌, ◌^◌, ◌%◌, Bool, true, false, List, [], ◌∷◌, ◌++◌, length, map, refl, ap, sym, subst, ◌∙◌, arith, inl}
 use Rattle.std.specs.Prelude.{◌==◌, cond, codes}
 use Rattle.std.specs.Int.{w16, to_le_bytes}
 use Rattle.rec_format.specs.Checks.{is_system}
@@ -11,18 +11,16 @@ use Rattle.tracefs_format.specs.declared.format.Format.{Format}
 use Rattle.tracefs_format.specs.Layouts.{IsLayoutOf}
 use Rattle.tracefs_format.proofs.ForOthers.{text_one_layout}
 use Rattle.rec_format.specs.declared.recording.Recording.{Recording}
-use Rattle.rec_format.specs.declared.recording.CpuTrack.{CpuTrack}
-use Rattle.rec_format.specs.declared.recording.Entry.{Entry}
 use Rattle.rec_format.specs.declared.recording.Entry.TheVariants as entry
 use Rattle.rec_format.specs.declared.recording.Event.{Event}
 use Rattle.rec_format.specs.Entries.{AreInTime}
 use Rattle.rec_format.specs.EntryParts.{entries, IsEntry}
 use Rattle.rec_format.specs.Events.{IsEvent, part_of_event}
 use Rattle.rec_format.specs.Parts.{IsEventPart}
-use Rattle.rec_format.specs.Recordings.{IsValidRecording, IsFormat, AreFormats, IsTrack, AreTracks, total_entries}
+use Rattle.rec_format.specs.Recordings.{IsValidRecording, IsFormat, IsTrack}
 use Rattle.rec_gen.specs.declared.format.TheConstants.{TEXT}
 use Rattle.rec_gen.specs.Draws.{number_at}
-use Rattle.rec_gen.specs.Made.{name_of, payload_of, thread_at, made_event, events_on, made_track, made_tracks, IsMade}
+use Rattle.rec_gen.specs.Made.{name_of, made_event, events_on, made_track, made_tracks, IsMade}
 use Rattle.rec_gen.proofs.Formats.{size_is, id_is}
 
 -- ---- one event
