@@ -2,6 +2,7 @@
 ghost use Rattle.std.specs.Prelude.{◌≡◌, ◌≤◌, length, IfOk, IfErr};
 ghost use Rattle.bt_core.specs.declared.limits.TheConstants.{SCRIPT_BYTES};
 ghost use Rattle.bt_meaning.specs.Jobs.{IsJob};
+ghost use Rattle.rec_format.specs.Places.{AreBytes};
 ghost use Rattle.rec_format.specs.Recordings.{IsValidRecording};
 ghost use Rattle.bt_top.specs.Doing.{IsExact, IsFaultRefusal, IsScriptRefusal, refusal_in};
 ghost use Rattle.bt_top.specs.Jobs.{AsksFor, IsJobOf};
@@ -62,6 +63,11 @@ fn accept(alloc: Global, script: &[u8], recording: Vec<u8>) -> Result<Job, Refus
     }
 }
 
+/// Bytes are below 256, as their type says. Nothing is read.
+fn are_bytes(bytes: &[u8])
+    ensures { AreBytes bytes.now }
+{}
+
 /// The same. Of what is due to them there is only one thing, so that comes unless memory runs out; and what they ask for can be run.
 pub(crate) fn judge(alloc: Global, script: &[u8], recording: Vec<u8>) -> Result<Job, Refusal>
     requires { length script.now ≤ SCRIPT_BYTES }
@@ -70,6 +76,7 @@ pub(crate) fn judge(alloc: Global, script: &[u8], recording: Vec<u8>) -> Result<
     ensures refused { IfErr result (IsFaultRefusal script.now recording.items) }
     ensures exact { IsExact script.now recording.items (refusal_in result) }
 {
+    are_bytes(recording.as_slice());
     rec_format::laws::one_recording();
     rec_format::laws::one_fault();
     bt_lexer::laws::one_answer();

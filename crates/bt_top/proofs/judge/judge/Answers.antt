@@ -1,12 +1,15 @@
+use Rattle.std.proofs.Common.{subst}
+use Rattle.rec_format.specs.Places.{AreBytes}
 use Rattle.bt_top.proofs.Due.{AreLaws, is_exact, jobs_can_run}
 use Rattle.bt_top.proofs.judge.judge.Goals as goal
 
 pub returns-clause-exact : goal.returns-clause-exact
 returns-clause-exact c =
+    let held : AreBytes c.args.recording.items = subst AreBytes c.as_slice.ensures.value c.are_bytes.ensures in
     let laws : AreLaws c.args.script.now c.args.recording.items = record {
       recording = c.one_recording.ensures;
-      fault = λ one other. c.one_fault.ensures.one c.args.recording.items one other (λ i. (c.type_inv.recording i).fits);
-      no_fault = λ says error. c.one_fault.ensures.none_beside c.args.recording.items says error (λ i. (c.type_inv.recording i).fits);
+      fault = λ one other. c.one_fault.ensures.one c.args.recording.items one other held;
+      no_fault = λ says error. c.one_fault.ensures.none_beside c.args.recording.items says error held;
       script = record {
         tokens = c.one_answer.ensures.tokens c.args.script.now;
         lexical = c.one_answer.ensures.fault c.args.script.now;
