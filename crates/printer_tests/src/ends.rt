@@ -117,10 +117,10 @@ fn item_text(alloc: Global, item: &Item) -> Result<Vec<u8>, Fail> {
 }
 
 #[test]
-fn calls_and_cuts_are_items(rt: HostRuntime) -> Result<(), Fail> {
+fn calls_and_warnings_are_items(rt: HostRuntime) -> Result<(), Fail> {
     let alloc = rt.alloc();
     let values = Items::of(values_of(alloc, &[Part::S(b"n"), Part::N(-7)])?);
-    let cases: [(Item, &[u8]); 4] = [
+    let cases: [(Item, &[u8]); 6] = [
         (Item::Printf { format: 1, values }, b"n=-07\n"),
         (
             Item::Printf {
@@ -136,6 +136,17 @@ fn calls_and_cuts_are_items(rt: HostRuntime) -> Result<(), Fail> {
         (
             Item::Cut { line: 65536 },
             b"WARNING: loop limit reached at line 65536\n",
+        ),
+        (
+            Item::Lost { cpu: 0, count: 5 },
+            b"WARNING: 5 events lost on cpu 0\n",
+        ),
+        (
+            Item::Lost {
+                cpu: u32::MAX,
+                count: u64::MAX,
+            },
+            b"WARNING: 18446744073709551615 events lost on cpu 4294967295\n",
         ),
     ];
     for (item, want) in &cases {
