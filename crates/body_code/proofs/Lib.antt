@@ -18,6 +18,7 @@ pub mod Waits
 pub mod Numbers
 pub mod StepRows
 pub mod Updates
+pub mod BareSteps
 pub mod Texts
 pub mod Comparing
 pub mod Doing

@@ -93,7 +93,7 @@ const FEW: [(&[u8], usize); 7] = [
 @sum = sum(args.id); }",
         41,
     ),
-    (b"tracepoint:raw_syscalls:sys_enter { @i++; }", 19),
+    (b"tracepoint:raw_syscalls:sys_enter { @i++; }", 16),
 ];
 
 #[test]
