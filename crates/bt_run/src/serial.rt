@@ -42,8 +42,13 @@ fn item_of_due(due: &Due) -> AgendaItem
 {
     match due {
         Due::Tick { tick, .. } => AgendaItem::Tick(*tick),
-        Due::Entry { entry, lost, .. } if *lost => AgendaItem::Lost(*entry),
-        Due::Entry { entry, .. } => AgendaItem::Event(*entry),
+        Due::Entry { entry, lost, .. } => {
+            if *lost {
+                AgendaItem::Lost(*entry)
+            } else {
+                AgendaItem::Event(*entry)
+            }
+        }
     }
 }
 
