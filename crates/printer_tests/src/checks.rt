@@ -234,6 +234,6 @@ pub fn is_item_of(
     match item {
         Item::Printf { format, values } => is_call_of(alloc, formats, *format, values.as_slice()),
         Item::Map { map, rows, div, .. } => Ok(can_print(maps, *map, rows.as_slice(), *div)),
-        Item::Cut { .. } => Ok(true),
+        Item::Cut { .. } | Item::Lost { .. } => Ok(true),
     }
 }
