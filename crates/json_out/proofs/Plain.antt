@@ -1,6 +1,7 @@
 -- No value that is printed has a float.
-use Rattle.std.proofs.Common.{◌≡◌, ℕ, ℤ, pos, negsuc, Bool, true, false, ◌||◌, cond, List, [], ◌∷◌, ◌++◌, map, refl, ap, ◌∙◌}
-use Rattle.std.specs.List.{flat_map}
+use Rattle.std.proofs.Common.{◌≡◌, ℕ, ℤ, pos, negsuc, Bool, true, false, ◌||◌, cond, List, [], ◌∷◌, ◌++◌, ◌-◌, map, length, slice_index, refl, ◌∙◌}
+use Rattle.std.specs.Int.RustNames.{unsigned_abs}
+use Rattle.std.specs.List.{flat_map, range_with_len}
 use Rattle.bt_core.specs.declared.agg.Agg.{Agg}
 use Rattle.bt_core.specs.declared.agg.Buckets.{Buckets}
 use Rattle.bt_core.specs.declared.agg.Buckets.TheVariants as held
@@ -8,13 +9,17 @@ use Rattle.bt_core.specs.declared.item.Cell.{Cell}
 use Rattle.bt_core.specs.declared.item.Cell.TheVariants as cells
 use Rattle.bt_core.specs.declared.value.Value.{Value}
 use Rattle.bt_core.specs.declared.value.Value.TheVariants.{Int, Str}
-use Rattle.map_printer.specs.Buckets.{is_shown}
+use Rattle.bt_core.specs.declared.map.AggKind.{AggKind}
+use Rattle.map_printer.specs.Buckets.{is_shown, label_of}
+use Rattle.map_printer.specs.Rows.{divided}
+use Rattle.map_printer.specs.Values.{number_of, quotient}
 use Rattle.serde_json.specs.Data.{Data, number}
 use Rattle.serde_json.specs.Find.{of_integer}
 use Rattle.serde_json.specs.View.{items_of}
 use Rattle.serde_json.specs.Written.{has_float, items_have_float}
 use Rattle.json_out.specs.Rows.{value_data, bucket_data, shown_bucket, buckets, divided_value, agg_data, cell_data, row_data}
 use Rattle.json_out.specs.Lines.{map_data}
+use Rattle.json_out.specs.Texts.{list_data}
 
 -- of two values neither of which has one, none has
 both : (a b : Bool) → a ≡ false → b ≡ false → (a || b) ≡ false
@@ -39,15 +44,18 @@ plain_after false label count rest h = h
 
 plain_buckets : (label : ℕ → List ℕ) (counts places : List ℕ) → items_have_float (items_of (flat_map (shown_bucket label counts) places)) ≡ false
 plain_buckets label counts [] = refl
-plain_buckets label counts (b ∷ bs) = plain_after (is_shown counts b) (label b) _ (flat_map (shown_bucket label counts) bs) (plain_buckets label counts bs)
+plain_buckets label counts (b ∷ bs) = plain_after (is_shown counts b) (label b) (slice_index counts b) (flat_map (shown_bucket label counts) bs) (plain_buckets label counts bs)
+
+plain_histogram : (kind : AggKind) (counts : List ℕ) → has_float (list_data (buckets kind counts)) ≡ false
+plain_histogram kind counts = plain_buckets (label_of kind (length counts - 1)) counts (range_with_len 0 (length counts))
 
 plain_agg : (div : ℤ) (a : Agg) (bs : Buckets) → has_float (agg_data div a bs) ≡ false
-plain_agg div a held.Plain = plain_integer _
-plain_agg div a (held.Hist counts) = plain_buckets _ _ _
-plain_agg div a (held.Lhist counts) = plain_buckets _ _ _
+plain_agg div a held.Plain = plain_integer (quotient (number_of a) div)
+plain_agg div a (held.Hist counts) = plain_histogram a.kind (divided (unsigned_abs div) counts)
+plain_agg div a (held.Lhist counts) = plain_histogram a.kind (divided (unsigned_abs div) counts)
 
 plain_cell : (div : ℤ) (cell : Cell) → has_float (cell_data div cell) ≡ false
-plain_cell div (cells.Value (Int n)) = plain_integer _
+plain_cell div (cells.Value (Int n)) = plain_integer (quotient n div)
 plain_cell div (cells.Value (Str s)) = refl
 plain_cell div (cells.Agg a) = plain_agg div a a.buckets
 

@@ -20,6 +20,7 @@ pub fn text_of(alloc: Global, bytes: &[u8]) -> Result<String, Memory>
 }
 
 /// Writes the line of a value.
+#[tactic(auto, unfolding(crate::specs::Texts::json_line))]
 pub fn write_line(out: &mut Vec<u8>, alloc: Global, value: &Json) -> Result<(), Memory>
     requires { has_float (view value.now) ≡ false }
     ensures { OnOk result (out.new.items ≡ out.old.items ++ json_line (view value.now)) }
