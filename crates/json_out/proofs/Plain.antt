@@ -1,5 +1,5 @@
 -- No value that is printed has a float.
-use Rattle.std.proofs.Common.{◌≡◌, ℕ, ℤ, pos, negsuc, Bool, true, false, ◌||◌, cond, List, [], ◌∷◌, ◌++◌, ◌-◌, map, length, slice_index, refl, ◌∙◌}
+use Rattle.std.proofs.Common.{◌≡◌, ℕ, ℤ, pos, negsuc, Bool, true, false, ◌||◌, cond, List, [], ◌∷◌, ◌++◌, ◌-◌, map, length, slice_index, refl, ap, ◌∙◌}
 use Rattle.std.specs.Int.RustNames.{unsigned_abs}
 use Rattle.std.specs.List.{flat_map, range_with_len}
 use Rattle.bt_core.specs.declared.agg.Agg.{Agg}
@@ -64,5 +64,9 @@ plain_row div row =
     both (items_have_float (items_of (map value_data row.0))) (has_float (cell_data div row.1) || false) (plain_all value_data plain_value row.0)
     (both (has_float (cell_data div row.1)) false (plain_cell div row.1) refl)
 
-pub plain_map : (name : List ℕ) (div : ℤ) (rows : List (List Value × Cell)) → has_float (map_data name (map (row_data div) rows)) ≡ false
+plain_map : (name : List ℕ) (div : ℤ) (rows : List (List Value × Cell)) → has_float (map_data name (map (row_data div) rows)) ≡ false
 plain_map name div rows = both (items_have_float (items_of (map (row_data div) rows))) false (plain_all (row_data div) (plain_row div) rows) refl
+
+-- the line of a map has none
+pub plain_line : (d : Data) (name : List ℕ) (div : ℤ) (rows : List (List Value × Cell)) → d ≡ map_data name (map (row_data div) rows) → has_float d ≡ false
+plain_line d name div rows is = ap has_float is ∙ plain_map name div rows
