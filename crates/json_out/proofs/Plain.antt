@@ -29,9 +29,11 @@ plain_integer : (n : ℤ) → has_float (number (of_integer n)) ≡ false
 plain_integer (pos n) = refl
 plain_integer (negsuc n) = refl
 
-plain_all : {X : Type 0} (f : X → Data) → ((x : X) → has_float (f x) ≡ false) → (xs : List X) → items_have_float (items_of (map f xs)) ≡ false
+plain_all : {X : Type 0} (f : X → Data) → ((x : X) → has_float (f x) ≡ false) → (xs : List X)
+    → items_have_float (items_of (map f xs)) ≡ false
 plain_all f h [] = refl
-plain_all f h (x ∷ xs) = both (has_float (f x)) (items_have_float (items_of (map f xs))) (h x) (plain_all f h xs)
+plain_all f h (x ∷ xs) =
+    both (has_float (f x)) (items_have_float (items_of (map f xs))) (h x) (plain_all f h xs)
 
 plain_value : (v : Value) → has_float (value_data v) ≡ false
 plain_value (Int n) = plain_integer n
@@ -42,9 +44,11 @@ plain_after : (shown : Bool) (label : List ℕ) (count : ℕ) (rest : List Data)
 plain_after true label count rest h = h
 plain_after false label count rest h = h
 
-plain_buckets : (label : ℕ → List ℕ) (counts places : List ℕ) → items_have_float (items_of (flat_map (shown_bucket label counts) places)) ≡ false
+plain_buckets : (label : ℕ → List ℕ) (counts places : List ℕ)
+    → items_have_float (items_of (flat_map (shown_bucket label counts) places)) ≡ false
 plain_buckets label counts [] = refl
-plain_buckets label counts (b ∷ bs) = plain_after (is_shown counts b) (label b) (slice_index counts b) (flat_map (shown_bucket label counts) bs) (plain_buckets label counts bs)
+plain_buckets label counts (b ∷ bs) =
+    plain_after (is_shown counts b) (label b) (slice_index counts b) (flat_map (shown_bucket label counts) bs) (plain_buckets label counts bs)
 
 plain_histogram : (kind : AggKind) (counts : List ℕ) → has_float (list_data (buckets kind counts)) ≡ false
 plain_histogram kind counts = plain_buckets (label_of kind (length counts - 1)) counts (range_with_len 0 (length counts))
@@ -61,12 +65,15 @@ plain_cell div (cells.Agg a) = plain_agg div a a.buckets
 
 plain_row : (div : ℤ) (row : List Value × Cell) → has_float (row_data div row) ≡ false
 plain_row div row =
-    both (items_have_float (items_of (map value_data row.0))) (has_float (cell_data div row.1) || false) (plain_all value_data plain_value row.0)
+    both (items_have_float (items_of (map value_data row.0))) (has_float (cell_data div row.1) || false)
+    (plain_all value_data plain_value row.0)
     (both (has_float (cell_data div row.1)) false (plain_cell div row.1) refl)
 
 plain_map : (name : List ℕ) (div : ℤ) (rows : List (List Value × Cell)) → has_float (map_data name (map (row_data div) rows)) ≡ false
-plain_map name div rows = both (items_have_float (items_of (map (row_data div) rows))) false (plain_all (row_data div) (plain_row div) rows) refl
+plain_map name div rows =
+    both (items_have_float (items_of (map (row_data div) rows))) false (plain_all (row_data div) (plain_row div) rows) refl
 
 -- the line of a map has none
-pub plain_line : (d : Data) (name : List ℕ) (div : ℤ) (rows : List (List Value × Cell)) → d ≡ map_data name (map (row_data div) rows) → has_float d ≡ false
+pub plain_line : (d : Data) (name : List ℕ) (div : ℤ) (rows : List (List Value × Cell))
+    → d ≡ map_data name (map (row_data div) rows) → has_float d ≡ false
 plain_line d name div rows is = ap has_float is ∙ plain_map name div rows
