@@ -30,9 +30,13 @@ fn maps_of_each_kind(alloc: Global) -> Result<Vec<MapDecl>, Memory> {
 }
 
 const COUNTS: u32 = 0;
+
 const POWERS: u32 = 1;
+
 const STEPS: u32 = 2;
+
 const NUMBERS: u32 = 3;
+
 const WORDS: u32 = 4;
 
 fn lines_of(alloc: Global, formats: &[Items<Piece>], item: &Item) -> Result<Vec<u8>, Fail> {
@@ -114,7 +118,10 @@ fn aggregates_are_lines(rt: HostRuntime) -> Result<(), Fail> {
         max: 10,
         step: 4,
     };
-    let words: &[(&[Part], &[i64])] = &[(&[Part::S(b"bash")], &[1, 1, 1]), (&[Part::S(b"sshd")], &[1])];
+    let words: &[(&[Part], &[i64])] = &[
+        (&[Part::S(b"bash")], &[1, 1, 1]),
+        (&[Part::S(b"sshd")], &[1]),
+    ];
     let most: &[(&[Part], &[i64])] = &[(&[], &[i64::MAX])];
     let linear: &[(&[Part], &[i64])] = &[(&[], &[-1, 9, 10])];
     let twice: &[(&[Part], &[i64])] = &[(&[], &[0, 2, 2, 3, 3, 8, 9])];
@@ -185,7 +192,10 @@ fn values_are_lines(rt: HostRuntime) -> Result<(), Fail> {
         (&[Part::S(b""), Part::N(i64::MAX)], Part::N(-7)),
         (&[Part::S(b"z"), Part::N(0)], Part::N(9)),
     ];
-    let words: &[(&[Part], Part)] = &[(&[Part::N(2)], Part::S(b"b\t\x80")), (&[Part::N(1)], Part::S(b"b"))];
+    let words: &[(&[Part], Part)] = &[
+        (&[Part::N(2)], Part::S(b"b\t\x80")),
+        (&[Part::N(1)], Part::S(b"b")),
+    ];
     let cases: [(u32, &[(&[Part], Part)], u64, i64, &[u8]); 3] = [
         (
             NUMBERS,
@@ -252,6 +262,9 @@ fn the_end_is_lines(rt: HostRuntime) -> Result<(), Fail> {
         assert!(rt; lines.as_slice() == want, "{lines:?}");
     }
     let last = stats_line(alloc, 20_483)?;
-    assert!(rt; last.as_slice() == b"{\"instructions\":20483,\"type\":\"stats\"}\n".as_slice(), "{last:?}");
+    assert!(rt;
+        last.as_slice() == b"{\"instructions\":20483,\"type\":\"stats\"}\n".as_slice(),
+        "{last:?}"
+    );
     Ok(())
 }
