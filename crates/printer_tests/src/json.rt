@@ -244,8 +244,9 @@ fn the_end_is_lines(rt: HostRuntime) -> Result<(), Fail> {
     let mut maps = Vec::new(alloc);
     maps.push(decl_of(alloc, b"@", MapKind::Aggs(AggKind::Count), &[])?)?;
     maps.push(decl_of(alloc, b"@none", MapKind::Ints, &[])?)?;
+    let twice: &[(&[Part], &[i64])] = &[(&[], &[1, 1])];
     let mut rows = Vec::new(alloc);
-    rows.push(Items::of(agg_rows(alloc, AggKind::Count, &[(&[], &[1, 1])])?))?;
+    rows.push(Items::of(agg_rows(alloc, AggKind::Count, twice)?))?;
     rows.push(Items::new(alloc))?;
     let cases: [([u64; 2], &[u8]); 2] = [
         (
