@@ -76,12 +76,7 @@ fn lost_value(alloc: Global, name: &[u8], lost: u64) -> Result<Json, Memory>
 }
 
 /// Writes the line of so many lost updates of the map of this name; nothing where none was lost.
-pub fn write_lost(
-    out: &mut Vec<u8>,
-    alloc: Global,
-    name: &[u8],
-    lost: u64,
-) -> Result<(), Memory>
+pub fn write_lost(out: &mut Vec<u8>, alloc: Global, name: &[u8], lost: u64) -> Result<(), Memory>
     ensures { OnOk result (out.new.items ≡ out.old.items ++ lost_lines lost name.now) }
 {
     if 0 < lost {
