@@ -1,0 +1,4 @@
+//! What a run prints, as JSON lines.
+#![tactic(auto)]
+
+pub mod run_lines;
