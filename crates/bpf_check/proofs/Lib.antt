@@ -1,0 +1,6 @@
+pub mod Registers
+pub mod Mono
+pub mod Weights
+pub mod Tables
+pub mod Going
+pub mod Inside
