@@ -4,3 +4,4 @@ pub mod Weights
 pub mod Tables
 pub mod Going
 pub mod Inside
+pub mod Answering

@@ -18,7 +18,7 @@ use Rattle.bpf_check.proofs.Registers.{covers_refl, covers_trans, joins_left, jo
 use Rattle.bpf_check.proofs.Mono.{has_trans, closed_meets}
 use Rattle.bpf_check.proofs.Weights.{join_falls, join_credit, new_reached, old_reached, new_falls, old_falls, work_on, work_skip}
 
-some_seen : (a b : Seen) → Some a ≡ Some b → a ≡ b
+pub some_seen : (a b : Seen) → Some a ≡ Some b → a ≡ b
 some_seen a b e = cc
 
 -- what one place of a table becomes

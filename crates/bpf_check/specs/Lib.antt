@@ -7,3 +7,4 @@ pub mod Ways
 pub mod Closed
 pub mod Tables
 pub mod Settling
+pub mod Answers

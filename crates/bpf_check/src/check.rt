@@ -1,77 +1,88 @@
-// Whether code is closed.
-ghost use Rattle.std.specs.Prelude.{◌≡◌, ◌≤◌, ◌<◌, length, true, false, slice_set, replicate, None, Some, IfOk};
-ghost use Rattle.bpf_check.specs.States.{entry_seen};
+// The check of the bytes of code.
+ghost use Rattle.std.specs.Prelude.{◌≡◌, ◌≢◌, ◌⊎◌, ◌≤◌, ◌*◌, Result, Err, length};
+ghost use Rattle.std.specs.Prelude.{ℕ};
+ghost use Rattle.bt_core.specs.declared.limits.TheConstants.{CODE_SLOTS};
+ghost use Rattle.bpf_check.specs.declared.check.CodeFault.{CodeFault as FaultValue};
 ghost use Rattle.bpf_check.specs.Sheet.{sheet_of};
-ghost use Rattle.bpf_check.specs.Closed.{IsClosedCode};
-ghost use Rattle.bpf_check.specs.Tables.{IsSettled, work};
-ghost use Rattle.bpf_check.specs.Settling.{Settles};
+ghost use Rattle.bpf_check.specs.Answers.{IsAnswer, Judges, refused};
 
-use crate::known::{Known, Seen};
-use crate::table::advance;
-use crate::ways::leads;
-use bpf_insn::address::{CONTEXT, PAYLOAD};
+use crate::settle::{entry_table, is_closed};
+use bpf_encode::decode::{DecodeError, decode};
 use bpf_insn::insn::Insn;
-use bt_core::memory::Memory;
 use std::alloc::Global;
+use thiserror::Error;
 use typed_tree::script::Typed;
 
-// At entry R1 holds the address of the context and R2 that of the payload.
-fn entry_seen() -> Seen
-    ensures { result ≡ entry_seen }
-{
-    let mut regs = [Known::Unset; 10];
-    regs[1] = Known::Const(CONTEXT);
-    regs[2] = Known::Const(PAYLOAD);
-    Seen { regs, credit: 0 }
+/// Why code is refused.
+#[derive(Clone, Copy, PartialEq, Eq, Debug, Error)]
+pub enum CodeFault {
+    /// The bytes are no code; their first fault.
+    #[error("S1: {0}")]
+    S1(DecodeError),
+    /// The code is not closed: nothing shows that it neither traps nor runs on.
+    #[error("S2: code that is not closed")]
+    S2,
+    /// Memory ran out.
+    #[error("out of memory")]
+    Memory,
 }
 
-// The table in which the entry alone is reached.
-fn entry_table(alloc: Global, slots: usize) -> Result<Vec<Option<Seen>>, Memory>
-    requires { 0 < slots }
-    ensures { IfOk result (λ table. table.items ≡ slice_set (replicate slots None) 0 (Some entry_seen)) }
+// What a fault of decoding is for the check.
+fn refused(fault: DecodeError) -> CodeFault
+    ensures { result ≡ refused fault }
 {
-    let mut table = vec![in alloc; None; slots]?;
-    table[0] = Some(entry_seen());
-    Ok(table)
+    match fault {
+        DecodeError::Memory => CodeFault::Memory,
+        _ => CodeFault::S1(fault),
+    }
 }
 
-// Adds what comes of the state of a place, and answers where to go on; `None` where the state misses
-// its condition, so that no assignment is closed.
-fn step_at(
+// The judgement of code.
+#[tactic(auto, using(crate::proofs::Answering::starts, crate::proofs::Answering::empty_open))]
+fn judge(alloc: Global, typed: &Typed, payload: u32, code: &[Insn]) -> Result<u64, CodeFault>
+    requires { length code.now ≤ 4096 }
+    ensures { Judges (sheet_of typed.now payload) code.now result }
+{
+    if code.is_empty() {
+        return Err(CodeFault::S2);
+    }
+    let mut table = match entry_table(alloc, code.len()) {
+        Ok(table) => table,
+        Err(_) => return Err(CodeFault::Memory),
+    };
+    if is_closed(typed, payload, code, table.as_mut_slice()) {
+        Ok(4097 * code.len() as u64)
+    } else {
+        Err(CodeFault::S2)
+    }
+}
+
+/// Whether the bytes are those of closed code: an assignment of what is known at its slots shows that it
+/// neither traps nor goes on, over a typed script's maps and formats, and over each payload of at least
+/// so many bytes. The bytes are at most 8 times [`bt_core::limits::CODE_SLOTS`].
+///
+/// Answers 4,097 times the number of slots, which no run of the code exceeds.
+///
+/// # Errors
+///
+/// [`CodeFault::S1`] with the first fault of bytes that are no code, [`CodeFault::S2`] where they are
+/// code that is not closed, and [`CodeFault::Memory`] where memory runs out.
+#[tactic(auto, using(crate::proofs::Answering::judged, crate::proofs::Answering::faulted, crate::proofs::Answering::only_answer))]
+pub fn check_code(
+    alloc: Global,
+    code: &[u8],
     typed: &Typed,
     payload: u32,
-    code: &[Insn],
-    table: &mut [Option<Seen>],
-    at: usize,
-) -> Option<usize>
-    requires few { length code.now ≤ 4096 }
-    requires settled { IsSettled (sheet_of typed.now payload) code.now table.old at }
-    requires inside { at < length code.now }
-    ensures { Settles (sheet_of typed.now payload) code.now (work table.old at) table.new result }
+) -> Result<u64, CodeFault>
+    requires { length code.now ≤ 8 * CODE_SLOTS }
+    // What is answered holds of the bytes.
+    ensures answer { result ≢ Err CodeFault.Memory → IsAnswer (sheet_of typed.now payload) code.now result }
+    // The answer that holds of the bytes is given, unless memory runs out.
+    ensures only { (answer : Result ℕ FaultValue) → IsAnswer (sheet_of typed.now payload) code.now answer →
+        (result ≡ answer) ⊎ (result ≡ Err CodeFault.Memory) }
 {
-    match table[at] {
-        None => Some(at + 1),
-        Some(seen) => {
-            let ways = leads(typed, payload, code, at, seen)?;
-            Some(advance(table, at + 1, ways))
-        }
+    match decode(alloc, code) {
+        Ok(insns) => judge(alloc, typed, payload, insns.as_slice()),
+        Err(fault) => Err(refused(fault)),
     }
-}
-
-// Whether code is closed, by a table in which the entry alone is reached. The cursor goes back to what
-// has changed; what lies before it is settled.
-fn is_closed(typed: &Typed, payload: u32, code: &[Insn], table: &mut [Option<Seen>]) -> bool
-    requires few { length code.now ≤ 4096 }
-    requires start { IsSettled (sheet_of typed.now payload) code.now table.old 0 }
-    ensures closed { result ≡ true → IsClosedCode (sheet_of typed.now payload) code.now }
-    ensures open { result ≡ false → IsClosedCode (sheet_of typed.now payload) code.now → ⊥ }
-{
-    let mut at = 0;
-    while at < code.len() {
-        match step_at(typed, payload, code, table, at) {
-            None => return false,
-            Some(next) => at = next,
-        }
-    }
-    true
 }

@@ -1,4 +1,5 @@
-//! An independent check of BPF code: what it accepts neither traps nor runs on.
+//! An independent check of BPF code, which knows nothing of how the code was made: code is accepted
+//! where an assignment of what is known at its slots shows that it neither traps nor runs on.
 #![tactic(auto)]
 
 pub mod calls;
@@ -7,5 +8,6 @@ pub mod effect;
 pub mod gate;
 pub mod known;
 pub mod laws;
+pub mod settle;
 pub mod table;
 pub mod ways;

@@ -36,11 +36,12 @@ use Rattle.bpf_check.specs.declared.ways.Ways.{Ways}
 use Rattle.bpf_check.specs.declared.ways.Ways.TheVariants.{Finish, To, Either}
 use Rattle.bpf_check.specs.States.{known_in, written}
 use Rattle.bpf_check.specs.Ways.{goes, two_ways, taken, through_gate, from_gate, leads, gate_at, is_turns_load, turns_jump, is_turns_add, is_turns_store}
-use Rattle.bpf_check.specs.Safe.{HoldsKnown, Holds, Counts}
+use Rattle.check_laws.specs.Safe.{HoldsKnown, Holds, Counts}
 use Rattle.bpf_check.proofs.Registers.{get-set-same, get-set-other}
-use Rattle.bpf_check.proofs.Sound.{Gates, GateWays, Passes, Leaves}
-use Rattle.bpf_check.proofs.Rows.{put, bind_some, some_is, set_holds, arrives, Arrives, two_is}
-use Rattle.bpf_check.proofs.Insns.{store_keeps, written_long, wrote}
+use Rattle.check_laws.proofs.Sound.{Gates, GateWays, Passes, Leaves}
+use Rattle.bpf_check.proofs.Going.{bind_some, some_is, arrives, Arrives, two_is}
+use Rattle.check_laws.proofs.Rows.{put, set_holds}
+use Rattle.check_laws.proofs.Insns.{store_keeps, written_long, wrote}
 
 abbrev pub first_of : Insn
 first_of = Load Dw false 1 10 (negsuc 7)

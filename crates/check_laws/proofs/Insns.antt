@@ -36,9 +36,10 @@ use Rattle.bpf_check.specs.Reading.{set_known, number_in, lies_in, may_load, may
 use Rattle.bpf_check.specs.Calls.{call_fits}
 use Rattle.bpf_check.specs.Effects.{source_known, first_known, alu_known, loaded, stored, after_call, called, effect}
 use Rattle.bpf_check.specs.Ways.{may_go, goes, jumped, one_way, two_ways, onward, gate_at, from_gate, from_insn, leads}
-use Rattle.bpf_check.specs.Safe.{Yields, HoldsKnown, Holds, Counts, GivesWell, HelpersServe}
-use Rattle.bpf_check.proofs.Sound.{Yields-then, Pays, GoesAs, LeadsAs, Steps}
-use Rattle.bpf_check.proofs.Rows.{put, bind_some, some_is, set_holds, Means, means_holds, Read, read_set, read_number, alu_means, Arrives, arrives, one_is, two_is, comes, pays_on, one_on, Jumps, jump_goes}
+use Rattle.check_laws.specs.Safe.{Yields, HoldsKnown, Holds, Counts, GivesWell, HelpersServe}
+use Rattle.check_laws.proofs.Sound.{Yields-then, Pays, GoesAs, LeadsAs, Steps}
+use Rattle.bpf_check.proofs.Going.{bind_some, some_is, Arrives, arrives, one_is, two_is}
+use Rattle.check_laws.proofs.Rows.{put, set_holds, Means, means_holds, Read, read_set, read_number, alu_means, comes, pays_on, one_on, Jumps, jump_goes}
 
 -- ---- regions
 
@@ -53,25 +54,25 @@ place_some base size size' a n le e =
     ∙ ap (λ (b : Bool). cond b (cond (nat_le (a - base) (size' - n)) (Some (a - base)) None) None) (le-leb n size' (omega (arith, l2, le)))
     ∙ ap (λ (b : Bool). cond b (Some (a - base)) None) (le-leb (a - base) (size' - n) (omega (arith, l2, l3, le)))
 
-unfoldable IsThere : Option (List ℕ) → Type 0
+unfoldable pub IsThere : Option (List ℕ) → Type 0
 IsThere o = (bs : List ℕ) × (o ≡ Some bs)
 
-or_first : (o p : Option (List ℕ)) → IsThere o → IsThere (option_or o p)
+pub or_first : (o p : Option (List ℕ)) → IsThere o → IsThere (option_or o p)
 unfolding IsThere
 or_first None p h = absurd (cc (h.1))
 or_first (Some x) p h = (x, refl)
 
-or_second : (o p : Option (List ℕ)) → IsThere p → IsThere (option_or o p)
+pub or_second : (o p : Option (List ℕ)) → IsThere p → IsThere (option_or o p)
 unfolding IsThere
 or_second None p h = h
 or_second (Some x) p h = (x, refl)
 
-part_there : (bs : List ℕ) (n at : ℕ) (o : Option ℕ) → o ≡ Some at → IsThere (part_of bs n o)
+pub part_there : (bs : List ℕ) (n at : ℕ) (o : Option ℕ) → o ≡ Some at → IsThere (part_of bs n o)
 unfolding IsThere
 part_there bs n at None e = absurd (cc)
 part_there bs n at (Some x) e = (_, refl)
 
-load_there : (s : Spaces) (payload a n : ℕ) → payload ≤ length s.payload → may_load payload a n ≡ true → IsThere (bytes_in s a n)
+pub load_there : (s : Spaces) (payload a n : ℕ) → payload ≤ length s.payload → may_load payload a n ≡ true → IsThere (bytes_in s a n)
 load_there s payload a n le e = by (or_cases (lies_in CONTEXT CONTEXT_BYTES a n) _ e)
   where
     rest : (lies_in PAYLOAD payload a n ≡ true) ⊎ (lies_in FRAME FRAME_BYTES a n ≡ true) → IsThere (bytes_in s a n)
@@ -243,9 +244,9 @@ module _ (K : Asked → Reply → Type 0) (t : Sheet) (helper : Helpers) (code :
         let j = jump_goes t code st a turns offset o.0 o.1 h c in
         subst (λ (ws : Ways). LeadsAs t st.place a turns (jump_by code st offset) ws) o.2 (j.goes_as, j.pays)
 
-    call_row : (n : ℕ) (after : Seen) (ways : Ways) → called t a n ≡ Some after → one_way (goes code st.place (st.place + 1) after) ≡ Some ways
+    call_row : (n : ℕ) (after : Seen) (ways : Ways) → called t.maps t.formats a n ≡ Some after → one_way (goes code st.place (st.place + 1) after) ≡ Some ways
         → Yields K (λ next. LeadsAs t st.place a turns next ways) (call_step helper code n st)
-    call_row n after ways e go = by (call_fits t n a) refl e
+    call_row n after ways e go = by (call_fits t.maps t.formats n a) refl e
       where
         given : a ≡ a → after_call a ≡ after → (x : Answer) → GivesWell t turns st.spaces x → LeadsAs t st.place a turns (answered code st x) ways
         given s same (Gave m frame) g =
@@ -260,7 +261,7 @@ module _ (K : Asked → Reply → Type 0) (t : Sheet) (helper : Helpers) (code :
         given s same BadBytes g = absurd g
         given s same BadArgument g = absurd g
 
-        by : (b : Bool) → call_fits t n a ≡ b → cond b (Some (after_call a)) None ≡ Some after → Yields K (λ next. LeadsAs t st.place a turns next ways) (call_step helper code n st)
+        by : (b : Bool) → call_fits t.maps t.formats n a ≡ b → cond b (Some (after_call a)) None ≡ Some after → Yields K (λ next. LeadsAs t st.place a turns next ways) (call_step helper code n st)
         by true f g = Yields-then K (GivesWell t turns st.spaces) (λ next. LeadsAs t st.place a turns next ways) (helper n (args_of st.regs) st.spaces) _ (serve n turns st.regs st.spaces a f h c) (given refl (some_is (after_call a) after g))
         by false f g = absurd (cc)
 

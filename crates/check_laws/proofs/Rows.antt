@@ -31,21 +31,13 @@ use Rattle.bpf_check.specs.Reading.{set_known, number_in}
 use Rattle.bpf_check.specs.Calls.{call_fits}
 use Rattle.bpf_check.specs.Effects.{source_known, first_known, sum_known, difference_known, wide_known, alu_known, after_call, called, effect}
 use Rattle.bpf_check.specs.Ways.{may_go, goes, is_back, jumped, one_way, two_ways, onward}
-use Rattle.bpf_check.specs.Safe.{Yields, HoldsKnown, Holds, Counts, GivesWell, HelpersServe}
+use Rattle.check_laws.specs.Safe.{Yields, HoldsKnown, Holds, Counts, GivesWell, HelpersServe}
 use Rattle.bpf_check.proofs.Registers.{get-set-same, get-set-other, known_other, covers_written}
-use Rattle.bpf_check.proofs.Sound.{known_less, Yields-then, Pays, GoesAs, LeadsAs}
+use Rattle.bpf_check.proofs.Going.{bind_some, some_is, Arrives, arrives, one_is, two_is}
+use Rattle.check_laws.proofs.Sound.{known_less, Yields-then, Pays, GoesAs, LeadsAs}
 
 abbrev pub put : Seen → ℕ → Known → Seen
 put s r k = record s { regs = slice_set s.regs r k }
-
--- ---- what was answered
-
-pub bind_some : {A B : Type 0} (o : Option A) (f : A → Option B) (b : B) → option_and_then f o ≡ Some b → (a : A) × (o ≡ Some a) × (f a ≡ Some b)
-bind_some None f b e = absurd (cc)
-bind_some (Some a) f b e = (a, refl, e)
-
-pub some_is : {A : Type 0} (a b : A) → Some a ≡ Some b → a ≡ b
-some_is a b e = cc
 
 -- ---- registers
 
@@ -130,27 +122,6 @@ alu_means false op offset x y vx vy hx hy = (alu_value false op offset vx vy, re
 alu_means true op offset x y vx vy hx hy = wide_means op offset x y vx vy hx hy
 
 -- ---- ways
-
--- where a way may be gone
-pub record Arrives (code : List Insn) (q : ℕ) (s : Seen) (w : Way) : Type 0 where
-  pub is : record { place = q; seen = s } ≡ w
-  pub entry : is_entry (slice_get code q) ≡ true
-
-pub arrives : (code : List Insn) (p q : ℕ) (s : Seen) (w : Way) → goes code p q s ≡ Some w → Arrives code q s w
-arrives code p q s w e = by (may_go code p q) refl e
-  where
-    by : (b : Bool) → may_go code p q ≡ b → cond b (Some (record { place = q; seen = s })) None ≡ Some w → Arrives code q s w
-    by true m f = record { is = some_is _ _ f; entry = (and_parts _ _ m).0 }
-    by false m f = absurd (cc)
-
-pub one_is : (o : Option Way) (ways : Ways) → one_way o ≡ Some ways → (w : Way) × (o ≡ Some w) × (To w ≡ ways)
-one_is None ways e = absurd (cc)
-one_is (Some w) ways e = (w, refl, some_is _ _ e)
-
-pub two_is : (o p : Option Way) (ways : Ways) → two_ways o p ≡ Some ways → (v : Way) × (w : Way) × (o ≡ Some v) × (p ≡ Some w) × (Either v w ≡ ways)
-two_is None p ways e = absurd (cc)
-two_is (Some v) None ways e = absurd (cc)
-two_is (Some v) (Some w) ways e = (v, w, refl, refl, some_is _ _ e)
 
 module _ (t : Sheet) (code : List Insn) where
   -- the machine goes to a place with a state that holds

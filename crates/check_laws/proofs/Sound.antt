@@ -26,7 +26,7 @@ use Rattle.bpf_check.specs.States.{known_in, CoversKnown, Covers, paid}
 use Rattle.bpf_check.specs.Effects.{effect}
 use Rattle.bpf_check.specs.Ways.{may_go, goes, is_back, jumped, one_way, two_ways, onward, gate_at, leads}
 use Rattle.bpf_check.specs.Closed.{HasCover, IsCovered, AreCovered, Meets, IsClosed}
-use Rattle.bpf_check.specs.Safe.{Yields, EndsWell, HoldsKnown, Holds, Counts, GivesWell, HelpersServe}
+use Rattle.check_laws.specs.Safe.{Yields, EndsWell, HoldsKnown, Holds, Counts, GivesWell, HelpersServe}
 
 -- ---- what is covered holds less
 

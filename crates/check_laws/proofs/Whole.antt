@@ -14,11 +14,11 @@ use Rattle.bpf_check.specs.declared.ways.Ways.{Ways}
 use Rattle.bpf_check.specs.States.{known_in, entry_seen}
 use Rattle.bpf_check.specs.Ways.{gate_at, from_insn, from_gate, leads}
 use Rattle.bpf_check.specs.Closed.{HasCover, Meets, IsClosed}
-use Rattle.bpf_check.specs.Safe.{Yields, EndsWell, HoldsKnown, Holds, Counts, HelpersServe}
+use Rattle.check_laws.specs.Safe.{Yields, EndsWell, HoldsKnown, Holds, Counts, HelpersServe}
 use Rattle.bpf_check.proofs.Registers.{known_high}
-use Rattle.bpf_check.proofs.Sound.{safe, arrive, rank, rank_entry, Safe}
-use Rattle.bpf_check.proofs.Insns.{steps_sound}
-use Rattle.bpf_check.proofs.Gates.{gates_sound, gate_is, first_of}
+use Rattle.check_laws.proofs.Sound.{safe, arrive, rank, rank_entry, Safe}
+use Rattle.check_laws.proofs.Insns.{steps_sound}
+use Rattle.check_laws.proofs.Gates.{gates_sound, gate_is, first_of}
 
 -- a state that meets its condition is at a slot
 at_slot : (t : Sheet) (code : List Insn) (states : ℕ → Option Seen) (p : ℕ) (a : Seen) → Meets states (leads t code p a) → p < length code

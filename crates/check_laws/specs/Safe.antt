@@ -1,8 +1,11 @@
 -- What closed code is safe of.
 use Rattle.std.specs.Prelude.{◌≡◌, ℕ, true, ◌≤◌, ◌<◌, ◌^◌, List, ◌++◌, length, Option, Some, None, Result, Ok, Err}
 use Rattle.std.specs.Int.{w64, to_le_bytes}
+use Rattle.bt_core.specs.declared.map.MapDecl.{MapDecl}
 use Rattle.bt_core.specs.declared.step.Reply.{Reply}
 use Rattle.bt_core.specs.Interaction.{Call, Interaction, Ended, Asks}
+use Rattle.bt_core.specs.Ports.{IsReplyOf}
+use Rattle.step_list.specs.HeldReplies.{IsHeldReply}
 use Rattle.bpf_insn.specs.declared.trap.Trap.{Trap}
 use Rattle.bpf_insn.specs.Regions.{Spaces}
 use Rattle.bpf_insn.specs.Machine.{Answer, Gave, BadBytes, BadArgument, Helpers, args_of, reg_of}
@@ -20,6 +23,10 @@ use Rattle.bpf_check.specs.Calls.{call_fits}
 abbrev pub Yields : {A : Type 0} → (Call → Reply → Type 0) → (A → Type 0) → Interaction A → Type 0
 Yields K P (Ended a) = P a
 Yields K P (Asks c f) = (r : Reply) → K c r → Yields K P (f r)
+
+-- a reply of the kind that its call has, where these maps are declared, as a program holds it
+abbrev pub CanReply : List MapDecl → Call → Reply → Type 0
+CanReply maps call reply = IsReplyOf maps call.object call.op reply × IsHeldReply reply
 
 -- a run that ends by its exit: it neither traps nor uses up its fuel
 abbrev pub EndsWell : Result EndedRun Trap → Type 0
@@ -53,5 +60,5 @@ GivesWell t turns s BadArgument = ⊥
 
 -- what is asked of the helpers: a call that finds what it wants does well under replies that fit
 abbrev pub HelpersServe : (Call → Reply → Type 0) → Sheet → Helpers → Type 0
-HelpersServe K t helper = (n turns : ℕ) (regs : List (Option ℕ)) (s : Spaces) (a : Seen) → call_fits t n a ≡ true → Holds regs a → Counts t s turns
+HelpersServe K t helper = (n turns : ℕ) (regs : List (Option ℕ)) (s : Spaces) (a : Seen) → call_fits t.maps t.formats n a ≡ true → Holds regs a → Counts t s turns
     → Yields K (GivesWell t turns s) (helper n (args_of regs) s)

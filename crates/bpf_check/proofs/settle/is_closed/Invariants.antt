@@ -1,6 +1,6 @@
 use Rattle.bpf_check.specs.Sheet.{sheet_of}
 use Rattle.bpf_check.specs.Tables.{IsSettled, work}
-use Rattle.bpf_check.proofs.check.is_closed.Given as goal
+use Rattle.bpf_check.proofs.settle.is_closed.Given as goal
 
 abbrev pub invariant-loop-at : goal.invariant-loop-at
 invariant-loop-at l = IsSettled (sheet_of l.typed l.payload) l.code l.table l.at
