@@ -1,4 +1,7 @@
 // Calls of helpers that are accepted or refused.
+ghost use Rattle.std.specs.Prelude.{IsTrue, IfOk};
+ghost use Rattle.typed_tree.specs.Scope.{is_fine_decl, is_fine_kind};
+
 use bpf_check::check::{CodeFault, check_code};
 use bt_core::items::Items;
 use bt_core::map::{AggKind, MapDecl, MapKind, Shape};
@@ -10,19 +13,29 @@ use typed_tree::script::Typed;
 
 const S2: Result<u64, CodeFault> = Err(CodeFault::S2);
 
+fn decl(alloc: Global, kind: MapKind) -> Result<MapDecl, Memory>
+    requires { IsTrue (is_fine_kind kind) }
+    ensures { IfOk result (λ decl. IsTrue (is_fine_decl decl)) }
+{
+    let mut key_shape = Items::new(alloc);
+    key_shape.push(Shape::Int)?;
+    Ok(MapDecl {
+        name: Items::new(alloc),
+        kind,
+        key_shape,
+    })
+}
+
 // A script with a map of numbers, one of strings and one of counts, each with one number as its key, and
 // the format `%d`.
 fn script(alloc: Global) -> Result<Typed, Memory> {
+    let numbers = decl(alloc, MapKind::Ints)?;
+    let strings = decl(alloc, MapKind::Strs)?;
+    let counts = decl(alloc, MapKind::Aggs(AggKind::Count))?;
     let mut maps = Items::new(alloc);
-    for kind in [MapKind::Ints, MapKind::Strs, MapKind::Aggs(AggKind::Count)] {
-        let mut key_shape = Items::new(alloc);
-        key_shape.push(Shape::Int)?;
-        maps.push(MapDecl {
-            name: Items::new(alloc),
-            kind,
-            key_shape,
-        })?;
-    }
+    maps.push(numbers)?;
+    maps.push(strings)?;
+    maps.push(counts)?;
     let mut pieces = Items::new(alloc);
     pieces.push(Piece::Conversion {
         left: false,
