@@ -20,7 +20,6 @@ use Rattle.bpf_check.specs.declared.known.Known.{Known}
 use Rattle.bpf_check.specs.declared.known.Known.TheVariants.{Unset, Num, Const}
 use Rattle.bpf_check.specs.declared.known.Seen.{Seen}
 use Rattle.bpf_check.specs.Sheet.{Sheet}
-use Rattle.bpf_check.specs.declared.effect.TheConstants.{STORE_BYTES}
 use Rattle.bpf_check.specs.States.{known_of, written}
 use Rattle.bpf_check.specs.Reading.{set_known, number_in, may_load, may_store}
 use Rattle.bpf_check.specs.Calls.{call_fits}

@@ -2,6 +2,7 @@
 ghost use Rattle.std.specs.Prelude.{◌≡◌, ◌≤◌, length, option_copied};
 ghost use Rattle.fmt_text.specs.Arguments.{argument_shapes, piece_shapes};
 ghost use Rattle.helper_abi.specs.Reading.{shape_bytes, bytes_of_shapes};
+ghost use Rattle.bpf_check.specs.Reading.{number_in};
 ghost use Rattle.bpf_check.specs.Calls.{at_frame, at_results, known_at, known_value_map, known_table_map, held_bytes, in_bounds, at_some_frame};
 ghost use Rattle.bpf_check.specs.Calls.{is_key, get_fits, set_fits, delete_fits, add_fits, print_fits, printf_fits, is_line, read_fits, helper_fits, call_fits};
 
@@ -159,7 +160,7 @@ fn known_table_map(maps: &[MapDecl], known: Known) -> Option<&MapDecl>
 // ---- each helper's arguments
 
 fn get_fits(map: Option<&MapDecl>, key: Known, to: Known) -> bool
-    ensures { result ≡ get_fits (option_copied map) key to }
+    ensures { result ≡ get_fits (option_copied map.entry) key to }
 {
     match map {
         None => false,
@@ -168,7 +169,7 @@ fn get_fits(map: Option<&MapDecl>, key: Known, to: Known) -> bool
 }
 
 fn set_fits(map: Option<&MapDecl>, key: Known, value: Known) -> bool
-    ensures { result ≡ set_fits (option_copied map) key value }
+    ensures { result ≡ set_fits (option_copied map.entry) key value }
 {
     match map {
         None => false,
@@ -177,7 +178,7 @@ fn set_fits(map: Option<&MapDecl>, key: Known, value: Known) -> bool
 }
 
 fn delete_fits(map: Option<&MapDecl>, key: Known) -> bool
-    ensures { result ≡ delete_fits (option_copied map) key }
+    ensures { result ≡ delete_fits (option_copied map.entry) key }
 {
     match map {
         None => false,
@@ -186,7 +187,7 @@ fn delete_fits(map: Option<&MapDecl>, key: Known) -> bool
 }
 
 fn add_fits(map: Option<&MapDecl>, key: Known, number: Known) -> bool
-    ensures { result ≡ add_fits (option_copied map) key number }
+    ensures { result ≡ add_fits (option_copied map.entry) key number }
 {
     match map {
         None => false,
@@ -196,7 +197,7 @@ fn add_fits(map: Option<&MapDecl>, key: Known, number: Known) -> bool
 
 // At least 0 rows are kept, and the values divided by at least 1.
 fn print_fits(map: Option<&MapDecl>, top: Known, div: Known) -> bool
-    ensures { result ≡ print_fits (option_copied map) top div }
+    ensures { result ≡ print_fits (option_copied map.entry) top div }
 {
     match (map, number_in(top), number_in(div)) {
         (Some(_), Some(top), Some(div)) => 0 <= top.cast_signed() && 1 <= div.cast_signed(),
@@ -205,7 +206,7 @@ fn print_fits(map: Option<&MapDecl>, top: Known, div: Known) -> bool
 }
 
 fn printf_fits(format: Option<&Items<Piece>>, values: Known) -> bool
-    ensures { result ≡ printf_fits (option_copied format) values }
+    ensures { result ≡ printf_fits (option_copied format.entry) values }
 {
     match format {
         None => false,

@@ -30,7 +30,6 @@ use Rattle.bpf_check.specs.Sheet.{Sheet}
 use Rattle.bpf_check.specs.declared.ways.Way.{Way}
 use Rattle.bpf_check.specs.declared.ways.Ways.{Ways}
 use Rattle.bpf_check.specs.declared.ways.Ways.TheVariants.{Finish, To, Either}
-use Rattle.bpf_check.specs.declared.effect.TheConstants.{STORE_BYTES}
 use Rattle.bpf_check.specs.States.{known_in, known_of, paid, written}
 use Rattle.bpf_check.specs.Reading.{set_known, number_in, lies_in, may_load, may_store}
 use Rattle.bpf_check.specs.Calls.{call_fits}
@@ -192,17 +191,17 @@ module _ (K : Asked → Reply → Type 0) (t : Sheet) (helper : Helpers) (code :
             let address = address_of base offset in
             let bytes = to_le_bytes (size_width size) (low (size_width size) v) in
             let long : length bytes ≡ byte_len (size_width size) = le_long (size_width size) (low (size_width size) v) size refl in
-            let inside : lies_in FRAME STORE_BYTES address (length bytes) ≡ true = subst (λ (n : ℕ). lies_in FRAME STORE_BYTES address n ≡ true) (sym long) m in
+            let inside : lies_in FRAME 504 address (length bytes) ≡ true = subst (λ (n : ℕ). lies_in FRAME 504 address n ≡ true) (sym long) m in
             let to : State = record st { spaces = stored_in st.spaces address bytes } in
             let bounds = and_parts (nat_le FRAME address) _ inside in
-            let more = and_parts (nat_le (length bytes) STORE_BYTES) _ bounds.1 in
-            let l2 = leb-true (length bytes) STORE_BYTES more.0 in
-            let l3 = leb-true (address - FRAME) (STORE_BYTES - length bytes) more.1 in
+            let more = and_parts (nat_le (length bytes) 504) _ bounds.1 in
+            let l2 = leb-true (length bytes) 504 more.0 in
+            let l3 = leb-true (address - FRAME) (504 - length bytes) more.1 in
             let room : address - FRAME + length bytes ≤ length c.front = omega (arith, l2, l3, c.long) in
             one_on t code st to (st.place + 1) turns a after ways _ go
             (ap (λ (o : Option ℕ). with_value st.place o (λ n. with_value st.place value (λ u. stores code st (address_of n offset) (to_le_bytes (size_width size) (low (size_width size) u))))) x
             ∙ ap (λ (o : Option ℕ). with_value st.place o (λ u. stores code st address (to_le_bytes (size_width size) (low (size_width size) u)))) ev
-            ∙ ap (λ (o : Option ℕ). cond (is_some o) (enters code to (st.place + 1)) (Traps (BadAddress st.place))) (place_some FRAME STORE_BYTES FRAME_BYTES address (length bytes) (omega arith) inside))
+            ∙ ap (λ (o : Option ℕ). cond (is_some o) (enters code to (st.place + 1)) (Traps (BadAddress st.place))) (place_some FRAME 504 FRAME_BYTES address (length bytes) (omega arith) inside))
             (subst (λ (s : Seen). Holds st.regs s) (some_is a after f) h)
             (record {
               payload = c.payload;

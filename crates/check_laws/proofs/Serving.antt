@@ -45,7 +45,6 @@ use Rattle.helper_abi.specs.Served.{desk_of}
 use Rattle.bpf_check.specs.declared.known.Known.{Known}
 use Rattle.bpf_check.specs.declared.known.Known.TheVariants.{Unset, Num, Const}
 use Rattle.bpf_check.specs.declared.known.Seen.{Seen}
-use Rattle.bpf_check.specs.declared.effect.TheConstants.{STORE_BYTES}
 use Rattle.bpf_check.specs.Sheet.{Sheet, sheet_of}
 use Rattle.bpf_check.specs.States.{known_of}
 use Rattle.bpf_check.specs.Reading.{set_known, number_in, lies_in, may_store}
@@ -143,7 +142,7 @@ unfolding IsThere
 value_there s sh a e = let there = bytes_there s a (shape_bytes sh) e in (value_in sh there.0, ap (option_map (value_in sh)) there.1)
 
 room_there : (a n : ℕ) → may_store a n ≡ true → is_in_frame a n ≡ true
-room_there a n e = ap is_some (place_some FRAME STORE_BYTES FRAME_BYTES a n (omega arith) e)
+room_there a n e = ap is_some (place_some FRAME 504 FRAME_BYTES a n (omega arith) e)
 
 -- what computes nothing else answers under all replies
 any_yields : {A : Type 0} (K : Asked → Reply → Type 0) (t : Interaction A) → Yields K (λ a. Unit {0}) t
@@ -167,9 +166,9 @@ module _ (typed : Typed) (least actor actors : ℕ) (s : Spaces) (turns : ℕ) (
   writes_count : (to : ℕ) (bytes : List ℕ) → may_store to (length bytes) ≡ true → Counts sheet (record s { frame = written s.frame (to - FRAME) bytes }) turns
   writes_count to bytes e =
       let bounds = and_parts (nat_le FRAME to) _ e in
-      let more = and_parts (nat_le (length bytes) STORE_BYTES) _ bounds.1 in
-      let l2 = leb-true (length bytes) STORE_BYTES more.0 in
-      let l3 = leb-true (to - FRAME) (STORE_BYTES - length bytes) more.1 in
+      let more = and_parts (nat_le (length bytes) 504) _ bounds.1 in
+      let l2 = leb-true (length bytes) 504 more.0 in
+      let l3 = leb-true (to - FRAME) (504 - length bytes) more.1 in
       let room : to - FRAME + length bytes ≤ length c.front = omega (arith, l2, l3, c.long) in
       record {
         payload = c.payload;
