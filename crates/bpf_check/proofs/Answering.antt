@@ -69,10 +69,7 @@ empty_open t (i ∷ is) e k = omega (arith, e)
 -- ---- one answer
 
 same_code : (a b : List Insn) (bytes : List ℕ) → IsCodeOf a bytes → IsCodeOf b bytes → a ≡ b
-same_code a b bytes h k = let e : Ok a ≡ Ok b = sym (complete_at a bytes h) ∙ complete_at b bytes k in ok_is e
-  where
-    ok_is : {A B : Type 0} {x y : A} → Ok {A} {B} x ≡ Ok y → x ≡ y
-    ok_is e = cc
+same_code a b bytes h k = let e = sym (complete_at a bytes h) ∙ complete_at b bytes k in cc
 
 pub one_answer : (t : Sheet) (bytes : List ℕ) (r s : Result ℕ CodeFault) → AreBytes bytes → IsAnswer t bytes r → IsAnswer t bytes s → r ≡ s
 one_answer t bytes (Ok m) (Ok n) b h k = ap (λ (x : ℕ). Ok x) (h.is_most ∙ ap (λ (c : List Insn). 4097 * length c) (same_code h.code k.code bytes h.is_code_of k.is_code_of) ∙ sym k.is_most)
@@ -103,8 +100,8 @@ judged t code bytes (Err S2) is j ne = record { code = code; is_code_of = is; no
 judged t code bytes (Err Memory) is j ne = absurd (ne refl)
 
 -- what does not decode has its first fault
-pub faulted : (t : Sheet) (bytes : List ℕ) (e : DecodeError) (f : CodeFault) → f ≡ refused e → (e ≢ decoding.Memory → IsFirstFault bytes e) → Err {ℕ} f ≢ Err Memory → IsAnswer t bytes (Err f)
-faulted t bytes e f is h ne = subst (λ (x : CodeFault). IsAnswer t bytes (Err x)) (sym is) (by e h (λ same. ne (ap (λ (x : CodeFault). Err x) (is ∙ same))))
+pub faulted : (t : Sheet) (bytes : List ℕ) (e : DecodeError) (f : CodeFault) → f ≡ refused e → (e ≢ decoding.Memory → IsFirstFault bytes e) → f ≢ Memory → IsAnswer t bytes (Err f)
+faulted t bytes e f is h ne = subst (λ (x : CodeFault). IsAnswer t bytes (Err x)) (sym is) (by e h (λ same. ne (is ∙ same)))
   where
     by : (e : DecodeError) → (e ≢ decoding.Memory → IsFirstFault bytes e) → refused e ≢ Memory → IsAnswer t bytes (Err (refused e))
     by decoding.BadLength h ne = h (λ x. cc)

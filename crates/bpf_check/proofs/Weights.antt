@@ -17,9 +17,13 @@ known_light Unset = omega arith
 known_light Num = omega arith
 known_light (Const n) = omega arith
 
+-- one register more
+regs_more : (n : ℕ) (regs : List Known) → regs_weight (suc n) regs ≡ known_weight (known_in regs n) + regs_weight n regs
+regs_more n regs = refl
+
 pub regs_light : (n : ℕ) (regs : List Known) → regs_weight n regs ≤ 2 * n
 regs_light zero regs = omega arith
-regs_light (suc n) regs = let a = known_light (known_in regs n) in let b = regs_light n regs in omega (arith, a, b)
+regs_light (suc n) regs = let a = known_light (known_in regs n) in let b = regs_light n regs in omega (arith, a, b, regs_more n regs)
 
 -- what both say weighs no more, and it weighs less where it says less
 record Joins (x y z : Known) : Type 0 where
@@ -49,13 +53,13 @@ joins_all (suc n) xs ys zs h = by (subst (λ (k : Known). Joins (known_in xs n) 
     (joins_all n xs ys zs (λ r lt. h r (omega (arith, lt))))
   where
     by : Joins (known_in xs n) (known_in ys n) (known_in zs n) → JoinsAll n xs ys zs → JoinsAll (suc n) xs ys zs
-    by j k = record { lighter = omega (arith, j.lighter, k.lighter); settles = one j.settles k.settles }
+    by j k = record { lighter = omega (arith, j.lighter, k.lighter, regs_more n zs, regs_more n xs); settles = one j.settles k.settles }
       where
         one : CoversKnown (known_in xs n) (known_in ys n) ⊎ (known_weight (known_in zs n) < known_weight (known_in xs n))
             → ((r : ℕ) → r < n → CoversKnown (known_in xs r) (known_in ys r)) ⊎ (regs_weight n zs < regs_weight n xs)
             → ((r : ℕ) → r < suc n → CoversKnown (known_in xs r) (known_in ys r)) ⊎ (regs_weight (suc n) zs < regs_weight (suc n) xs)
-        one (inr lt) q = inr (omega (arith, lt, k.lighter))
-        one (inl c) (inr lt) = inr (omega (arith, lt, j.lighter))
+        one (inr lt) q = inr (omega (arith, lt, k.lighter, regs_more n zs, regs_more n xs))
+        one (inl c) (inr lt) = inr (omega (arith, lt, j.lighter, regs_more n zs, regs_more n xs))
         one (inl c) (inl cs) = inl each
           where
             each : (r : ℕ) → r < suc n → CoversKnown (known_in xs r) (known_in ys r)
@@ -103,23 +107,24 @@ module _ (table : List (Option Seen)) (p : ℕ) (b : Seen) (inside : p < length 
 
   -- a place that was not reached
   pub new_reached : at table p ≡ None → reached after ≡ reached table + 1
-  new_reached e = let s = reached_set in let z = ap reached_at e in omega (arith, s, z)
+  new_reached e = let s = reached_set in let z : reached_at (at table p) ≡ 0 = ap reached_at e in omega (arith, s, z)
 
   pub old_reached : (a : Seen) → at table p ≡ Some a → reached after ≡ reached table
-  old_reached a e = let s = reached_set in let z = ap reached_at e in omega (arith, s, z)
+  old_reached a e = let s = reached_set in let z : reached_at (at table p) ≡ 1 = ap reached_at e in omega (arith, s, z)
 
   pub new_falls : at table p ≡ None → b.credit ≤ reached table + 1 → length table ≤ 4096 → weight after < weight table
   new_falls e few short =
       let s = weight_set in
-      let z = ap weight_at e in
+      let z : weight_at (at table p) ≡ 4117 = ap weight_at e in
+      let w : seen_weight b ≡ regs_weight 10 b.regs + b.credit = refl in
       let r = new_reached e in
       let l = reached_few after in
       let n = length-set table p (Some b) in
       let g = regs_light 10 b.regs in
-      omega (arith, s, z, r, l, n, g, few, short)
+      omega (arith, s, z, w, r, l, n, g, few, short)
 
   pub old_falls : (a : Seen) → at table p ≡ Some a → seen_weight b < seen_weight a → weight after < weight table
-  old_falls a e lt = let s = weight_set in let z = ap weight_at e in omega (arith, s, z, lt)
+  old_falls a e lt = let s = weight_set in let z : weight_at (at table p) ≡ seen_weight a = ap weight_at e in omega (arith, s, z, lt)
 
 -- no state has more credit than there are places
 pub few_credit : (table : List (Option Seen)) (s : Seen) (n : ℕ) → s.credit ≤ reached table → length table ≤ n → s.credit ≤ n

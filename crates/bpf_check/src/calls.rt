@@ -39,6 +39,7 @@ fn held_bytes(decl: &MapDecl) -> u64
 }
 
 // The bytes of values, where the frame may have them.
+#[tactic(auto, using(crate::proofs::Counting::shapes_more, crate::proofs::Counting::in_bounds_small, crate::proofs::Counting::in_bounds_large))]
 fn bytes_of_shapes(shapes: &[Shape]) -> Option<u64>
     ensures { result ≡ in_bounds (bytes_of_shapes shapes.now) }
 {
@@ -70,6 +71,7 @@ fn piece_bytes(piece: &Piece) -> u64
 }
 
 // The bytes of the arguments that a format wants, where the frame may have them.
+#[tactic(auto, using(crate::proofs::Counting::pieces_more, crate::proofs::Counting::in_bounds_small, crate::proofs::Counting::in_bounds_large))]
 fn argument_bytes(pieces: &[Piece]) -> Option<u64>
     ensures { result ≡ in_bounds (bytes_of_shapes (argument_shapes pieces.now)) }
 {

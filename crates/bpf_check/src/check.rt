@@ -67,7 +67,7 @@ fn judge(alloc: Global, typed: &Typed, payload: u32, code: &[Insn]) -> Result<u6
 ///
 /// [`CodeFault::S1`] with the first fault of bytes that are no code, [`CodeFault::S2`] where they are
 /// code that is not closed, and [`CodeFault::Memory`] where memory runs out.
-#[tactic(auto, using(crate::proofs::Answering::judged, crate::proofs::Answering::faulted, crate::proofs::Answering::only_answer))]
+#[tactic(auto, using(crate::proofs::Counting::slots_few))]
 pub fn check_code(
     alloc: Global,
     code: &[u8],

@@ -11,6 +11,8 @@ use Rattle.bt_core.specs.declared.map.MapDecl.{MapDecl}
 use Rattle.bt_core.specs.declared.map.MapKind.{MapKind}
 use Rattle.bt_core.specs.declared.map.MapKind.TheVariants.{Ints, Strs, Aggs}
 use Rattle.bt_core.specs.declared.map.Shape.{Shape}
+use Rattle.bt_core.specs.declared.step.ObjectId.{ObjectId}
+use Rattle.bt_core.specs.declared.step.Op.{Op}
 use Rattle.bt_core.specs.declared.step.Op.TheVariants as ops
 use Rattle.bt_core.specs.declared.step.ObjectId.TheVariants.{Cpu, Clock, Out}
 use Rattle.bt_core.specs.declared.item.Item.TheVariants as items
@@ -40,7 +42,8 @@ use Rattle.helper_abi.specs.Numbers.{helper_at}
 use Rattle.helper_abi.specs.Reading.{shape_bytes, bytes_of_shapes, value_in, values_in, bytes_at, values_at, value_at, shape_of, payload_text}
 use Rattle.helper_abi.specs.Steps.{wrote, answered, told, got, swept_all, printed}
 use Rattle.helper_abi.specs.Helpers.{Desk, numbered, map_id, of_sort, table_map, value_map, are_shown, in_range, if_range, with_read, with_room, helper_steps, helpers}
-use Rattle.helper_abi.specs.Helpers as h
+use Rattle.helper_abi.specs.Helpers as does
+use Rattle.map_ops.specs.Asking as asking
 use Rattle.helper_abi.specs.Served.{desk_of}
 use Rattle.bpf_check.specs.declared.known.Known.{Known}
 use Rattle.bpf_check.specs.declared.known.Known.TheVariants.{Unset, Num, Const}
@@ -103,13 +106,17 @@ declared_at maps n decl e =
     let p = bind_some (numbered maps n) (λ (d : MapDecl). of_sort (not (is_agg d.kind)) d) decl e in
     cond_some (nat_lt n (2 ^ 32)) (slice_get maps n) p.0 p.1 ∙ cond_some (not (is_agg p.0.kind)) (Some p.0) decl p.2
 
+padded_long : (s : List ℕ) → length s ≤ 63 → length (s ++ replicate (64 - length s) 0) ≡ 64
+padded_long s short = omega (arith, short, length-append s (replicate (64 - length s) 0), length-replicate {A = ℕ} (64 - length s) 0)
+
 -- a value that a map holds has the bytes of its kind
 value_long : (kind : MapKind) (v : Value) → IsOfKind kind v → IsHeldValue v → length (value_bytes v) ≡ shape_bytes (shape_of kind)
 value_long Ints (Int n) k held = refl
 value_long Ints (Str s) k held = absurd k
 value_long Strs (Int n) k held = absurd k
-value_long Strs (Str s) k held = let short = held.0.short in omega (arith, short, length-append s (replicate (64 - length s) 0), length-replicate {A = ℕ} (64 - length s) 0)
-value_long (Aggs kind) v k held = absurd k
+value_long Strs (Str s) k held = padded_long s held.0.short
+value_long (Aggs kind) (Int n) k held = absurd k
+value_long (Aggs kind) (Str s) k held = absurd k
 
 while_length : (p : ℕ → Bool) (xs : List ℕ) → length (take_while p xs) ≤ length xs
 while_length p [] = omega arith
@@ -121,8 +128,10 @@ while_length p (x ∷ xs) = subst (λ (l : List ℕ). length l ≤ suc (length x
 
 text_long : (bytes : List ℕ) → length (value_bytes (Str (short_text bytes))) ≡ 64
 text_long bytes =
-    let s = short_text bytes in
-    omega (arith, while_length is_text_byte (take 63 bytes), length-take 63 bytes, length-append s (replicate (64 - length s) 0), length-replicate {A = ℕ} (64 - length s) 0)
+    let a = while_length is_text_byte (take 63 bytes) in
+    let b = length-take 63 bytes in
+    let short : length (short_text bytes) ≤ 63 = omega (arith, a, b) in
+    padded_long (short_text bytes) short
 
 -- ---- what is read
 
@@ -182,6 +191,9 @@ module _ (typed : Typed) (least actor actors : ℕ) (s : Spaces) (turns : ℕ) (
   answered_well : {A : Type 0} (t : Interaction A) → Well (answered s t)
   answered_well t = Yields-then K (λ a. Unit {0}) (GivesWell sheet turns s) t _ (any_yields K t) (λ a h. (refl, same_counts))
 
+  told_well : (object : ObjectId) (op : Op) → Well (told s object op)
+  told_well object op = answered_well (asking.told object op)
+
   wrote_well : (to n : ℕ) (v : Value) → length (value_bytes v) ≡ n → may_store to n ≡ true → GivesWell sheet turns s (wrote s to v)
   wrote_well to n v long e = (refl, writes_count to (value_bytes v) (subst (λ (m : ℕ). may_store to m ≡ true) (sym long) e))
 
@@ -195,62 +207,62 @@ module _ (typed : Typed) (least actor actors : ℕ) (s : Spaces) (turns : ℕ) (
   -- ---- each helper
 
   get_well : (m key to : ℕ) (decl : MapDecl) → value_map typed.maps m ≡ Some decl → lies_in FRAME FRAME_BYTES key (bytes_of_shapes decl.key_shape) ≡ true → may_store to (held_bytes decl) ≡ true
-      → Well (h.get typed.maps m key to s)
+      → Well (does.get typed.maps m key to s)
   get_well m key to decl found at e =
       let vs = values_there s decl.key_shape key at in
       let n = shape_bytes (shape_of decl.kind) in
-      subst Well (sym (ap (λ (o : Option MapDecl). in_range o (λ d. with_read (values_at s d.key_shape key) (λ k. with_room to (shape_bytes (shape_of d.kind)) (got s (map_id m) k to)))) found
+      subst (λ (x : Interaction Answer). Well x) (sym (ap (λ (o : Option MapDecl). in_range o (λ d. with_read (values_at s d.key_shape key) (λ k. with_room to (shape_bytes (shape_of d.kind)) (got s (map_id m) k to)))) found
       ∙ ap (λ (o : Option (List Value)). with_read o (λ k. with_room to n (got s (map_id m) k to))) vs.1
       ∙ ap (λ (b : Bool). cond b (got s (map_id m) vs.0 to) (Ended BadBytes)) (room_there to n e)))
       (got_well m decl vs.0 to (declared_at typed.maps m decl found) e)
 
   set_well : (m key value : ℕ) (decl : MapDecl) → value_map typed.maps m ≡ Some decl → lies_in FRAME FRAME_BYTES key (bytes_of_shapes decl.key_shape) ≡ true
-      → lies_in FRAME FRAME_BYTES value (held_bytes decl) ≡ true → Well (h.set typed.maps m key value s)
+      → lies_in FRAME FRAME_BYTES value (held_bytes decl) ≡ true → Well (does.set typed.maps m key value s)
   set_well m key value decl found at e =
       let vs = values_there s decl.key_shape key at in
       let v = value_there s (shape_of decl.kind) value e in
-      subst Well (sym (ap (λ (o : Option MapDecl). in_range o (λ d. with_read (values_at s d.key_shape key) (λ k. with_read (value_at s (shape_of d.kind) value) (λ x. told s (part (map_id m) k) (ops.Set k x))))) found
+      subst (λ (x : Interaction Answer). Well x) (sym (ap (λ (o : Option MapDecl). in_range o (λ d. with_read (values_at s d.key_shape key) (λ k. with_read (value_at s (shape_of d.kind) value) (λ x. told s (part (map_id m) k) (ops.Set k x))))) found
       ∙ ap (λ (o : Option (List Value)). with_read o (λ k. with_read (value_at s (shape_of decl.kind) value) (λ x. told s (part (map_id m) k) (ops.Set k x)))) vs.1
       ∙ ap (λ (o : Option Value). with_read o (λ x. told s (part (map_id m) vs.0) (ops.Set vs.0 x))) v.1))
-      (answered_well _)
+      (told_well (part (map_id m) vs.0) (ops.Set vs.0 v.0))
 
-  delete_well : (m key : ℕ) (decl : MapDecl) → value_map typed.maps m ≡ Some decl → lies_in FRAME FRAME_BYTES key (bytes_of_shapes decl.key_shape) ≡ true → Well (h.delete typed.maps m key s)
+  delete_well : (m key : ℕ) (decl : MapDecl) → value_map typed.maps m ≡ Some decl → lies_in FRAME FRAME_BYTES key (bytes_of_shapes decl.key_shape) ≡ true → Well (does.delete typed.maps m key s)
   delete_well m key decl found at =
       let vs = values_there s decl.key_shape key at in
-      subst Well (sym (ap (λ (o : Option MapDecl). in_range o (λ d. with_read (values_at s d.key_shape key) (λ k. told s (part (map_id m) k) (ops.Delete k)))) found
+      subst (λ (x : Interaction Answer). Well x) (sym (ap (λ (o : Option MapDecl). in_range o (λ d. with_read (values_at s d.key_shape key) (λ k. told s (part (map_id m) k) (ops.Delete k)))) found
       ∙ ap (λ (o : Option (List Value)). with_read o (λ k. told s (part (map_id m) k) (ops.Delete k))) vs.1))
-      (answered_well _)
+      (told_well (part (map_id m) vs.0) (ops.Delete vs.0))
 
   aggregate_well : (m key number : ℕ) (decl : MapDecl) → table_map typed.maps m ≡ Some decl → lies_in FRAME FRAME_BYTES key (bytes_of_shapes decl.key_shape) ≡ true
-      → Well (h.aggregate typed.maps actor m key number s)
+      → Well (does.aggregate typed.maps actor m key number s)
   aggregate_well m key number decl found at =
       let vs = values_there s decl.key_shape key at in
-      subst Well (sym (ap (λ (o : Option MapDecl). in_range o (λ d. with_read (values_at s d.key_shape key) (λ k. told s (Cpu actor) (ops.Add (map_id m) k (cast_signed w64 number))))) found
+      subst (λ (x : Interaction Answer). Well x) (sym (ap (λ (o : Option MapDecl). in_range o (λ d. with_read (values_at s d.key_shape key) (λ k. told s (Cpu actor) (ops.Add (map_id m) k (cast_signed w64 number))))) found
       ∙ ap (λ (o : Option (List Value)). with_read o (λ k. told s (Cpu actor) (ops.Add (map_id m) k (cast_signed w64 number)))) vs.1))
-      (answered_well _)
+      (told_well (Cpu actor) (ops.Add (map_id m) vs.0 (cast_signed w64 number)))
 
-  print_well : (m top div : ℕ) (decl : MapDecl) → numbered typed.maps m ≡ Some decl → are_shown top div ≡ true → Well (h.print typed.maps actors m top div s)
+  print_well : (m top div : ℕ) (decl : MapDecl) → numbered typed.maps m ≡ Some decl → are_shown top div ≡ true → Well (does.print typed.maps actors m top div s)
   print_well m top div decl found e =
-      subst Well (sym (ap (λ (o : Option MapDecl). in_range o (λ d. if_range (are_shown top div) (printed s d.kind (map_id m) top (cast_signed w64 div) actors))) found
+      subst (λ (x : Interaction Answer). Well x) (sym (ap (λ (o : Option MapDecl). in_range o (λ d. if_range (are_shown top div) (printed s d.kind (map_id m) top (cast_signed w64 div) actors))) found
       ∙ ap (λ (b : Bool). cond b (printed s decl.kind (map_id m) top (cast_signed w64 div) actors) (Ended BadArgument)) e))
-      (answered_well _)
+      (answered_well (asking.printed decl.kind (map_id m) top (cast_signed w64 div) actors))
 
-  sweep_well : (sweep : Sweep) (m : ℕ) (decl : MapDecl) → numbered typed.maps m ≡ Some decl → Well (h.sweep_map typed.maps actors sweep m s)
-  sweep_well sweep m decl found = subst Well (sym (ap (λ (o : Option MapDecl). in_range o (λ d. swept_all s sweep d.kind (map_id m) actors)) found)) (answered_well _)
+  sweep_well : (sweep : Sweep) (m : ℕ) (decl : MapDecl) → numbered typed.maps m ≡ Some decl → Well (does.sweep_map typed.maps actors sweep m s)
+  sweep_well sweep m decl found = subst (λ (x : Interaction Answer). Well x) (sym (ap (λ (o : Option MapDecl). in_range o (λ d. swept_all s sweep d.kind (map_id m) actors)) found)) (answered_well (asking.swept sweep decl.kind (map_id m) actors))
 
   printf_well : (format address : ℕ) (pieces : List Piece) → numbered typed.formats format ≡ Some pieces → lies_in FRAME FRAME_BYTES address (bytes_of_shapes (argument_shapes pieces)) ≡ true
-      → Well (h.printf typed.formats format address s)
+      → Well (does.printf typed.formats format address s)
   printf_well format address pieces found at =
       let vs = values_there s (argument_shapes pieces) address at in
-      subst Well (sym (ap (λ (o : Option (List Piece)). in_range o (λ p. with_read (values_at s (argument_shapes p) address) (λ values. told s Out (ops.Emit (items.Printf format values))))) found
+      subst (λ (x : Interaction Answer). Well x) (sym (ap (λ (o : Option (List Piece)). in_range o (λ p. with_read (values_at s (argument_shapes p) address) (λ values. told s Out (ops.Emit (items.Printf format values))))) found
       ∙ ap (λ (o : Option (List Value)). with_read o (λ values. told s Out (ops.Emit (items.Printf format values)))) vs.1))
-      (answered_well _)
+      (told_well Out (ops.Emit (items.Printf format vs.0)))
 
-  cut_well : (line : ℕ) → nat_lt line (2 ^ 32) ≡ true → Well (h.cut line s)
-  cut_well line e = subst Well (sym (ap (λ (b : Bool). cond b (told s Out (ops.Emit (items.Cut line))) (Ended BadArgument)) e)) (answered_well _)
+  cut_well : (line : ℕ) → nat_lt line (2 ^ 32) ≡ true → Well (does.cut line s)
+  cut_well line e = subst (λ (x : Interaction Answer). Well x) (sym (ap (λ (b : Bool). cond b (told s Out (ops.Emit (items.Cut line))) (Ended BadArgument)) e)) (told_well Out (ops.Emit (items.Cut line)))
 
-  read_well : (to place count : ℕ) → may_store to 64 ≡ true → Well (h.read_str to place count s)
-  read_well to place count e = subst Well (sym (ap (λ (b : Bool). cond b (Ended (wrote s to (Str (payload_text place count s.payload)))) (Ended BadBytes)) (room_there to 64 e)))
+  read_well : (to place count : ℕ) → may_store to 64 ≡ true → Well (does.read_str to place count s)
+  read_well to place count e = subst (λ (x : Interaction Answer). Well x) (sym (ap (λ (b : Bool). cond b (Ended (wrote s to (Str (payload_text place count s.payload)))) (Ended BadBytes)) (room_there to 64 e)))
       (wrote_well to 64 (Str (payload_text place count s.payload)) (text_long _) e)
 
   -- ---- all of them
@@ -259,38 +271,38 @@ module _ (typed : Typed) (least actor actors : ℕ) (s : Spaces) (turns : ℕ) (
     abbrev arg : ℕ → ℕ
     arg r = passed (reg_of regs r)
 
-    gets : (o : Option MapDecl) → known_value_map typed.maps (known_of a 1) ≡ o → get_fits o (known_of a 2) (known_of a 3) ≡ true → Well (h.get typed.maps (arg 1) (arg 2) (arg 3) s)
+    gets : (o : Option MapDecl) → known_value_map typed.maps (known_of a 1) ≡ o → get_fits o (known_of a 2) (known_of a 3) ≡ true → Well (does.get typed.maps (arg 1) (arg 2) (arg 3) s)
     gets None e f = absurd (cc)
     gets (Some decl) e f =
         let p = and_parts (is_key decl (known_of a 2)) _ f in
         get_well (arg 1) (arg 2) (arg 3) decl (finds (value_map typed.maps) (known_of a 1) decl (reg_of regs 1) e (holds.each 1)) (frame_is _ (known_of a 2) _ p.0 (holds.each 2))
         (results_is _ (known_of a 3) _ p.1 (holds.each 3))
 
-    sets : (o : Option MapDecl) → known_value_map typed.maps (known_of a 1) ≡ o → set_fits o (known_of a 2) (known_of a 3) ≡ true → Well (h.set typed.maps (arg 1) (arg 2) (arg 3) s)
+    sets : (o : Option MapDecl) → known_value_map typed.maps (known_of a 1) ≡ o → set_fits o (known_of a 2) (known_of a 3) ≡ true → Well (does.set typed.maps (arg 1) (arg 2) (arg 3) s)
     sets None e f = absurd (cc)
     sets (Some decl) e f =
         let p = and_parts (is_key decl (known_of a 2)) _ f in
         set_well (arg 1) (arg 2) (arg 3) decl (finds (value_map typed.maps) (known_of a 1) decl (reg_of regs 1) e (holds.each 1)) (frame_is _ (known_of a 2) _ p.0 (holds.each 2))
         (frame_is _ (known_of a 3) _ p.1 (holds.each 3))
 
-    deletes : (o : Option MapDecl) → known_value_map typed.maps (known_of a 1) ≡ o → delete_fits o (known_of a 2) ≡ true → Well (h.delete typed.maps (arg 1) (arg 2) s)
+    deletes : (o : Option MapDecl) → known_value_map typed.maps (known_of a 1) ≡ o → delete_fits o (known_of a 2) ≡ true → Well (does.delete typed.maps (arg 1) (arg 2) s)
     deletes None e f = absurd (cc)
     deletes (Some decl) e f = delete_well (arg 1) (arg 2) decl (finds (value_map typed.maps) (known_of a 1) decl (reg_of regs 1) e (holds.each 1)) (frame_is _ (known_of a 2) _ f (holds.each 2))
 
-    adds : (o : Option MapDecl) → known_table_map typed.maps (known_of a 1) ≡ o → add_fits o (known_of a 2) (known_of a 3) ≡ true → Well (h.aggregate typed.maps actor (arg 1) (arg 2) (arg 3) s)
+    adds : (o : Option MapDecl) → known_table_map typed.maps (known_of a 1) ≡ o → add_fits o (known_of a 2) (known_of a 3) ≡ true → Well (does.aggregate typed.maps actor (arg 1) (arg 2) (arg 3) s)
     adds None e f = absurd (cc)
     adds (Some decl) e f =
         let p = and_parts (is_key decl (known_of a 2)) _ f in
         aggregate_well (arg 1) (arg 2) (arg 3) decl (finds (table_map typed.maps) (known_of a 1) decl (reg_of regs 1) e (holds.each 1)) (frame_is _ (known_of a 2) _ p.0 (holds.each 2))
 
-    printfs : (o : Option (List Piece)) → known_at typed.formats (known_of a 1) ≡ o → printf_fits o (known_of a 2) ≡ true → Well (h.printf typed.formats (arg 1) (arg 2) s)
+    printfs : (o : Option (List Piece)) → known_at typed.formats (known_of a 1) ≡ o → printf_fits o (known_of a 2) ≡ true → Well (does.printf typed.formats (arg 1) (arg 2) s)
     printfs None e f = absurd (cc)
     printfs (Some pieces) e f = printf_well (arg 1) (arg 2) pieces (finds (numbered typed.formats) (known_of a 1) pieces (reg_of regs 1) e (holds.each 1)) (frame_is _ (known_of a 2) _ f (holds.each 2))
 
-    sweeps : (sweep : Sweep) → is_some (known_at typed.maps (known_of a 1)) ≡ true → Well (h.sweep_map typed.maps actors sweep (arg 1) s)
+    sweeps : (sweep : Sweep) → is_some (known_at typed.maps (known_of a 1)) ≡ true → Well (does.sweep_map typed.maps actors sweep (arg 1) s)
     sweeps sweep f = let d = there_is _ f in sweep_well sweep (arg 1) d.0 (finds (numbered typed.maps) (known_of a 1) d.0 (reg_of regs 1) d.1 (holds.each 1))
 
-    prints : (is_some (known_at typed.maps (known_of a 1)) && limits_fit (number_in (known_of a 2)) (number_in (known_of a 3))) ≡ true → Well (h.print typed.maps actors (arg 1) (arg 2) (arg 3) s)
+    prints : (is_some (known_at typed.maps (known_of a 1)) && limits_fit (number_in (known_of a 2)) (number_in (known_of a 3))) ≡ true → Well (does.print typed.maps actors (arg 1) (arg 2) (arg 3) s)
     prints f =
         let p = and_parts (is_some (known_at typed.maps (known_of a 1))) _ f in
         let d = there_is _ p.0 in
@@ -307,7 +319,7 @@ module _ (typed : Typed) (least actor actors : ℕ) (s : Spaces) (turns : ℕ) (
     steps_well Clear f = sweeps _ f
     steps_well Zero f = sweeps _ f
     steps_well Printf f = printfs _ refl f
-    steps_well Exit f = answered_well _
+    steps_well Exit f = told_well Clock ops.Stop
     steps_well Cut f = cut_well (arg 1) (line_is (known_of a 1) _ f (holds.each 1))
     steps_well ReadStr f = read_well (arg 1) (arg 2) (arg 3) (results_is 64 (known_of a 1) _ (and_parts _ _ f).0 (holds.each 1))
 
