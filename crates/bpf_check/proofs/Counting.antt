@@ -1,7 +1,7 @@
 -- Bytes of values, one behind the other.
 use Rattle.std.proofs.Common.{◌≡◌, ℕ, ◌+◌, ◌<◌, ◌≤◌, List, [], ◌∷◌, ◌++◌, length, drop, refl, sym, ap, ◌∙◌, arith, Option, Some, None, Bool, get_or}
 use Rattle.std.specs.Prelude.{cond, nat_le}
-use Rattle.std.proofs.lemmas.Bool.{le-leb, lt-nleb}
+use Rattle.std.proofs.lemmas.Bool.{le-leb, lt-leb}
 use Rattle.std.proofs.lemmas.List.{at_drop_more}
 use Rattle.bt_core.specs.declared.limits.TheConstants.{FRAME_BYTES}
 use Rattle.bt_core.specs.declared.map.Shape.{Shape}
@@ -31,7 +31,7 @@ pub in_bounds_small : (n : ℕ) → n ≤ 512 → in_bounds n ≡ Some n
 in_bounds_small n le = ap (λ (b : Bool). cond b (Some n) None) (le-leb n FRAME_BYTES le)
 
 pub in_bounds_large : (n : ℕ) → 512 < n → in_bounds n ≡ None
-in_bounds_large n lt = ap (λ (b : Bool). cond b (Some n) None) (lt-nleb FRAME_BYTES n lt)
+in_bounds_large n lt = ap (λ (b : Bool). cond b (Some n) None) (lt-leb n FRAME_BYTES lt)
 
 -- code has an instruction for each eight bytes
 pub slots_few : (code : List Insn) (bytes : List ℕ) → IsCodeOf code bytes → length bytes ≤ 32768 → length code ≤ 4096
