@@ -1,6 +1,5 @@
 // The check of the bytes of code.
-ghost use Rattle.std.specs.Prelude.{◌≡◌, ◌≢◌, ◌⊎◌, ◌≤◌, ◌*◌, Result, Err, length};
-ghost use Rattle.std.specs.Prelude.{ℕ};
+ghost use Rattle.std.specs.Prelude.{◌≡◌, ◌≢◌, ◌⊎◌, ◌≤◌, ◌*◌, ℕ, Result, Err, length};
 ghost use Rattle.bt_core.specs.declared.limits.TheConstants.{CODE_SLOTS};
 ghost use Rattle.bpf_check.specs.declared.check.CodeFault.{CodeFault as FaultValue};
 ghost use Rattle.bpf_check.specs.Sheet.{sheet_of};
