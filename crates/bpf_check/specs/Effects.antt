@@ -56,7 +56,8 @@ alu_known true op offset x y = wide_known op offset x y
 -- a load is of bytes that lie in a region, and a store of bytes of the frame before the count of turns
 abbrev pub loaded : ℕ → Seen → Size → ℕ → ℕ → ℤ → Option Seen
 loaded payload s size dst src offset =
-    option_and_then (λ base. cond (may_load payload (address_of base offset) (byte_len (size_width size))) (written s dst Num) None) (number_in (known_of s src))
+    option_and_then (λ base. cond (may_load payload (address_of base offset) (byte_len (size_width size))) (written s dst Num) None)
+    (number_in (known_of s src))
 
 abbrev pub stored : Seen → Size → ℕ → ℤ → Option Seen
 stored s size dst offset =
@@ -64,7 +65,9 @@ stored s size dst offset =
 
 -- a call sets R0 to 0, and unsets R1 to R5
 abbrev pub after_call : Seen → Seen
-after_call s = record s { regs = slice_set (slice_set (slice_set (slice_set (slice_set (slice_set s.regs 0 (Const 0)) 1 Unset) 2 Unset) 3 Unset) 4 Unset) 5 Unset }
+after_call s = record s {
+  regs = slice_set (slice_set (slice_set (slice_set (slice_set (slice_set s.regs 0 (Const 0)) 1 Unset) 2 Unset) 3 Unset) 4 Unset) 5 Unset;
+}
 
 abbrev pub called : List MapDecl → List (List Piece) → Seen → ℕ → Option Seen
 called maps formats s n = cond (call_fits maps formats n s) (Some (after_call s)) None

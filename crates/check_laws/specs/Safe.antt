@@ -60,5 +60,5 @@ GivesWell t turns s BadArgument = ⊥
 
 -- what is asked of the helpers: a call that finds what it wants does well under replies that fit
 abbrev pub HelpersServe : (Call → Reply → Type 0) → Sheet → Helpers → Type 0
-HelpersServe K t helper = (n turns : ℕ) (regs : List (Option ℕ)) (s : Spaces) (a : Seen) → call_fits t.maps t.formats n a ≡ true → Holds regs a → Counts t s turns
-    → Yields K (GivesWell t turns s) (helper n (args_of regs) s)
+HelpersServe K t helper = (n turns : ℕ) (regs : List (Option ℕ)) (s : Spaces) (a : Seen) → call_fits t.maps t.formats n a ≡ true
+    → Holds regs a → Counts t s turns → Yields K (GivesWell t turns s) (helper n (args_of regs) s)
