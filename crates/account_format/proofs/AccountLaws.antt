@@ -13,7 +13,7 @@ use Rattle.rec_format.proofs.Fields.{IsBytes, bind_some, where_true_some, bytes_
 use Rattle.rec_format.proofs.PartLaws.{bind_to}
 use Rattle.account_format.specs.Entries.{entry_bytes, IsEntry}
 use Rattle.account_format.specs.Accounts.{entries_bytes, account_bytes, IsAccount}
-use Rattle.account_format.specs.Forms.{Form, AreDue, state_after, spelled, IsOfForm, IsWrongAt}
+use Rattle.account_format.specs.Forms.{AreDue, state_after, spelled, IsOfForm, IsWrongAt}
 use Rattle.account_format.specs.Wrong.{Part, Magic, Count, Entry, Size, Text, Due, AtMagic, AtCount, AtEntries, AtText, AtEnd, IsDuePart, due_after, part_bytes, IsEndOf, account_form, IsWrongAccount}
 use Rattle.account_format.specs.Reading.{magic_at, entry_at, steps_at, behind}
 use Rattle.account_format.proofs.FormLaws.{AreApart, wrong_here, wrong_later, one_offset, one_form, not_both}
@@ -42,11 +42,26 @@ numbers_alike n m xs ys ln lm e = same_Some (n, xs) (m, ys) (sym (number_again w
 texts_alike : (t u xs ys : List ℕ) → length t ≡ length u → t ++ xs ≡ u ++ ys → (t, xs) ≡ (u, ys)
 texts_alike t u xs ys same e = same_Some (t, xs) (u, ys) (sym (bytes_again (length u) t xs same) ∙ ap (bytes_at (length u)) e ∙ bytes_again (length u) u ys refl)
 
-module _ (setting : Setting) where
-  form : Form Due Part
-  unfolding form
-  form = account_form setting
+-- ---- an account as its parts, and what they tell
 
+abbrev entries_then : List Step → List Part → List Part
+entries_then [] more = more
+entries_then (s ∷ ss) more = Entry s ∷ entries_then ss more
+
+abbrev parts_of : List Step → List ℕ → List Part
+parts_of steps text = Magic ∷ Count (length steps) ∷ entries_then steps (Size (length text) ∷ Text text ∷ [])
+
+abbrev steps_told : List Part → List Step
+steps_told [] = []
+steps_told (Entry s ∷ parts) = s ∷ steps_told parts
+steps_told (part ∷ parts) = steps_told parts
+
+abbrev text_told : List Part → List ℕ
+text_told [] = []
+text_told (Text text ∷ parts) = text
+text_told (part ∷ parts) = text_told parts
+
+module _ (setting : Setting) where
   -- ---- parts are told apart
 
   apart : AreApart (account_form setting)
@@ -78,32 +93,19 @@ module _ (setting : Setting) where
 
   -- ---- an account as its parts
 
-  entries_then : List Step → List Part → List Part
-  unfolding entries_then
-  entries_then [] more = more
-  entries_then (s ∷ ss) more = Entry s ∷ entries_then ss more
-
   due_entries : (steps : List Step) (more : List Part) → AllByRecursion (IsEntry setting) steps → AreDue (account_form setting) (AtEntries 0) more → AreDue (account_form setting) (AtEntries (length steps)) (entries_then steps more)
-  unfolding entries_then
   due_entries [] more each due = due
   due_entries (s ∷ ss) more each due = (each.0, due_entries ss more each.1 due)
 
   spelled_entries : (steps : List Step) (more : List Part) → spelled (account_form setting) (entries_then steps more) ≡ entries_bytes steps ++ spelled (account_form setting) more
-  unfolding entries_then
   spelled_entries [] more = refl
   spelled_entries (s ∷ ss) more = ap (λ (l : List ℕ). entry_bytes s ++ l) (spelled_entries ss more) ∙ sym (append_assoc (entry_bytes s) (entries_bytes ss) (spelled (account_form setting) more))
 
   after_entries : (steps : List Step) (more : List Part) → state_after (account_form setting) (AtEntries (length steps)) (entries_then steps more) ≡ state_after (account_form setting) (AtEntries 0) more
-  unfolding entries_then
   after_entries [] more = refl
   after_entries (s ∷ ss) more = after_entries ss more
 
-  parts_of : List Step → List ℕ → List Part
-  unfolding parts_of
-  parts_of steps text = Magic ∷ Count (length steps) ∷ entries_then steps (Size (length text) ∷ Text text ∷ [])
-
   of_form : (bytes : List ℕ) (steps : List Step) (text : List ℕ) → IsAccount setting bytes steps text → IsOfForm (account_form setting) AtMagic bytes (parts_of steps text)
-  unfolding parts_of
   of_form bytes steps text h =
       let last : List Part = Size (length text) ∷ Text text ∷ [] in
       let ending : spelled (account_form setting) last ≡ to_le_bytes w64 (length text) ++ text = ap (λ (l : List ℕ). to_le_bytes w64 (length text) ++ l) (append-nil text) in
@@ -113,32 +115,17 @@ module _ (setting : Setting) where
         end = subst (λ (d : Due). IsEndOf d) (sym (after_entries steps last)) tt;
       }
 
-  steps_told : List Part → List Step
-  unfolding steps_told
-  steps_told [] = []
-  steps_told (Entry s ∷ parts) = s ∷ steps_told parts
-  steps_told (part ∷ parts) = steps_told parts
-
-  text_told : List Part → List ℕ
-  unfolding text_told
-  text_told [] = []
-  text_told (Text text ∷ parts) = text
-  text_told (part ∷ parts) = text_told parts
-
   told_steps : (steps : List Step) (more : List Part) → steps_told more ≡ [] → steps_told (entries_then steps more) ≡ steps
-  unfolding entries_then steps_told
   told_steps [] more none = none
   told_steps (s ∷ ss) more none = ap (λ (l : List Step). s ∷ l) (told_steps ss more none)
 
   told_text : (steps : List Step) (more : List Part) → text_told (entries_then steps more) ≡ text_told more
-  unfolding entries_then text_told
   told_text [] more = refl
   told_text (s ∷ ss) more = told_text ss more
 
   -- ---- what the contracts say
 
   pub one_account : (bytes : List ℕ) (steps others : List Step) (text other : List ℕ) → IsAccount setting bytes steps text → IsAccount setting bytes others other → (steps ≡ others) × (text ≡ other)
-  unfolding parts_of steps_told text_told
   one_account bytes steps others text other h g =
       let same : parts_of steps text ≡ parts_of others other = one_form (account_form setting) apart ends AtMagic bytes (parts_of steps text) (parts_of others other) (of_form bytes steps text h) (of_form bytes others other g) in
       let last : List Part = Size (length text) ∷ Text text ∷ [] in
@@ -174,7 +161,9 @@ module _ (setting : Setting) where
       }
 
   pub later_entries : (steps : List Step) (left : ℕ) (bytes rest after : List ℕ) → AllByRecursion (IsEntry setting) steps → rest ≡ entries_bytes steps ++ after → IsLater (AtEntries (length steps + left)) bytes rest → IsLater (AtEntries left) bytes after
-  later_entries [] left bytes rest after each e h = subst (λ (l : List ℕ). IsLater (AtEntries left) bytes l) e (subst (λ (n : ℕ). IsLater (AtEntries n) bytes rest) (omega arith) h)
+  later_entries [] left bytes rest after each e h =
+      let none : 0 + left ≡ left = omega arith in
+      subst (λ (l : List ℕ). IsLater (AtEntries left) bytes l) e (subst (λ (n : ℕ). IsLater (AtEntries n) bytes rest) none h)
   later_entries (s ∷ ss) left bytes rest after each e h =
       let more : suc (length ss) + left ≡ suc (length ss + left) = omega arith in
       let here : IsLater (AtEntries (suc (length ss + left))) bytes rest = subst (λ (n : ℕ). IsLater (AtEntries n) bytes rest) more h in

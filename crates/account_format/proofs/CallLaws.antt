@@ -2,7 +2,6 @@
 use Rattle.std.proofs.Common.{◌≡◌, ℕ, ◌+◌, ◌%◌, ◌<◌, ◌≤◌, ◌^◌, Bool, true, List, [], ◌∷◌, ◌++◌, w64, w32, ℤ, FitsSigned, Option, Some, None, refl, sym, ap, subst, ◌∙◌, append_assoc, arith}
 use Rattle.std.specs.Prelude.{nat_lt, slice_get, sum}
 use Rattle.std.specs.Int.{to_le_bytes, cast_signed, cast_unsigned}
-use Rattle.std.proofs.Math.Facts.{sfits_to_z}
 use Rattle.std.proofs.lemmas.Bool.{ltb-true, lt-ltb}
 use Rattle.std.proofs.lemmas.Int.{to_z-of_z, of_z-to_z}
 use Rattle.std.proofs.lemmas.Option.{same_Some}
@@ -27,7 +26,7 @@ use Rattle.account_format.specs.Entries.{of_map, call_bytes, IsAtHome, FitsKey, 
 use Rattle.account_format.specs.Reading.{table_map_at, keyed_at, key_at, value_at, part_at, table_at, get_at, set_at, delete_at, sweep_at, add_at, read_at, clear_of_at, zero_of_at, cross_at, kind_at, call_of_kind}
 use Rattle.account_format.specs.declared.kind.Kind.{Kind}
 use Rattle.account_format.specs.declared.kind.Kind.TheVariants as kinds
-use Rattle.account_format.proofs.ValueLaws.{bits-small, value_takes, value_again, key_takes, key_again}
+use Rattle.account_format.proofs.ValueLaws.{bits-small, signed_fits, value_takes, value_again, key_takes, key_again}
 use Rattle.account_format.proofs.KindLaws.{kind_byte}
 use Rattle.account_format.proofs.SpotLaws.{some_and, and_some, held_shared, shared_held, shaped_kind, kind_shaped, Named, KeyedTook, PartTook, TablesTook, keyed_takes, keyed_again, part_takes, part_again, table_takes, table_again, table_map_takes, table_map_again}
 
@@ -149,21 +148,21 @@ module _ (setting : Setting) (actor : ℕ) where
         own = (below, serves setting.maps m decl (λ decl. IsAggregation decl.kind × HasShape decl.key_shape key) t.map.named (t.gathers, k.1));
         home = refl;
         object_fits = few;
-        op_fits = (t.map.named.few, k.2, sfits_to_z n.1);
+        op_fits = (t.map.named.few, k.2, signed_fits d.0.0 n.1);
         is_blank = refl;
       })
 
   -- an operation on the tables of an actor
-  table_op_takes : (kind : Kind) (of : MapId → Op) (bytes : List ℕ) (object : ObjectId) (op : Op) (rest : List ℕ)
-      → ((m : MapId) (table : ℕ) → call_bytes (Cpu table) (of m) ≡ of_map (kind_byte kind) m ++ to_le_bytes w32 table)
-      → ((m : MapId) → Serves setting.maps m (λ decl. IsAggregation decl.kind) → IsTableOp setting.maps (of m)) → ((m : MapId) (table : ℕ) → IsAtHome actor (Cpu table) (of m))
-      → ((m : MapId) → m.0 < 2 ^ 32 → FitsOp (of m)) → ((m : MapId) → blank_op (of m) ≡ of m)
-      → IsBytes bytes → (table_at setting.maps setting.actors bytes >>= λ found. Some ((Cpu found.0.1, of found.0.0), found.1)) ≡ Some ((object, op), rest) → CallTook kind bytes object op rest
-  table_op_takes kind of bytes object op rest spelled own home op_fits is_blank fits e =
+  table_op_takes : (kind : Kind) (make : MapId → Op) (bytes : List ℕ) (object : ObjectId) (op : Op) (rest : List ℕ)
+      → ((m : MapId) (table : ℕ) → call_bytes (Cpu table) (make m) ≡ of_map (kind_byte kind) m ++ to_le_bytes w32 table)
+      → ((m : MapId) → Serves setting.maps m (λ decl. IsAggregation decl.kind) → IsTableOp setting.maps (make m)) → ((m : MapId) (table : ℕ) → IsAtHome actor (Cpu table) (make m))
+      → ((m : MapId) → m.0 < 2 ^ 32 → FitsOp (make m)) → ((m : MapId) → blank_op (make m) ≡ make m)
+      → IsBytes bytes → (table_at setting.maps setting.actors bytes >>= λ found. Some ((Cpu found.0.1, make found.0.0), found.1)) ≡ Some ((object, op), rest) → CallTook kind bytes object op rest
+  table_op_takes kind make bytes object op rest spelled own home op_fits is_blank fits e =
       let a = bind_some (table_at setting.maps setting.actors bytes) _ ((object, op), rest) e in
       let m : MapId = a.0.0.0 in let table : ℕ = a.0.0.1 in
       let k = table_takes setting.maps setting.actors bytes m table a.0.1 fits a.1 in
-      moved kind bytes (Cpu table) object (of m) op a.0.1 rest a.2 (record {
+      moved kind bytes (Cpu table) object (make m) op a.0.1 rest a.2 (record {
         parts = behind_map (kind_byte kind) m bytes (to_le_bytes w32 table) a.0.1 k.took.parts ∙ ap (λ (l : List ℕ). l ++ a.0.1) (sym (spelled m table));
         rest_fits = k.took.rest_fits;
         own = (k.below, own m (serves setting.maps m k.decl (λ decl. IsAggregation decl.kind) k.named k.gathers));
@@ -284,9 +283,9 @@ module _ (setting : Setting) (actor : ℕ) where
       (bind_to (number_at w64 (to_le_bytes w64 bits ++ rest)) _ (bits, rest) _ (number_again w64 wide64 bits rest (bits-small number fits.2))
       (ap (λ (z : ℤ). Some ((Cpu actor, ops.Add m key z), rest)) (to_z-of_z w64 number fits.2) ∙ ap (λ (t : ℕ). Some ((Cpu t, ops.Add m key number), rest)) (sym home))))
 
-  tables_again : (m : MapId) (table : ℕ) (of : MapId → Op) (rest : List ℕ) → m.0 < 2 ^ 32 → table < 2 ^ 32 → table < setting.actors → Serves setting.maps m (λ decl. IsAggregation decl.kind)
-      → (table_at setting.maps setting.actors ((to_le_bytes w32 m.0 ++ to_le_bytes w32 table) ++ rest) >>= λ found. Some ((Cpu found.0.1, of found.0.0), found.1)) ≡ Some ((Cpu table, of m), rest)
-  tables_again m table of rest few small below own =
+  tables_again : (m : MapId) (table : ℕ) (make : MapId → Op) (rest : List ℕ) → m.0 < 2 ^ 32 → table < 2 ^ 32 → table < setting.actors → Serves setting.maps m (λ decl. IsAggregation decl.kind)
+      → (table_at setting.maps setting.actors ((to_le_bytes w32 m.0 ++ to_le_bytes w32 table) ++ rest) >>= λ found. Some ((Cpu found.0.1, make found.0.0), found.1)) ≡ Some ((Cpu table, make m), rest)
+  tables_again m table make rest few small below own =
       let s = some_and (slice_get setting.maps m.0) (λ decl. IsAggregation decl.kind) own in
       let named : Named setting.maps m s.0 = record { few = few; there = s.1 } in
       let read = ap (table_at setting.maps setting.actors) (apart (to_le_bytes w32 m.0) (to_le_bytes w32 table) rest) ∙ table_again setting.maps setting.actors m s.0 table rest named s.2 below small in
@@ -300,21 +299,21 @@ module _ (setting : Setting) (actor : ℕ) where
 
   pub call_again : (object : ObjectId) (op : Op) (rest : List ℕ) → CanStep setting object op → IsAtHome actor object op → FitsObject object → FitsOp op → blank_op op ≡ op → ReadAgain object op rest
   unfolding read_at clear_of_at zero_of_at
-  call_again (Shared m part) (ops.Get key) rest own home small fits is_blank = record { kind = kinds.Get; bytes = _; kind_is = refl; call_is = get_again m part key rest small.0 fits home own.1 }
-  call_again (Shared m part) (ops.Set key value) rest own home small fits is_blank = record { kind = kinds.Set; bytes = _; kind_is = refl; call_is = set_again m part key value rest small.0 fits home own.1 }
-  call_again (Shared m part) (ops.Delete key) rest own home small fits is_blank = record { kind = kinds.Delete; bytes = _; kind_is = refl; call_is = delete_again m part key rest small.0 fits home own.1 }
-  call_again (Shared m part) ops.ReadAll rest own home small fits is_blank = record { kind = kinds.ReadAll; bytes = _; kind_is = refl; call_is = sweep_again m part ops.ReadAll rest small.0 own.0 own.1 }
-  call_again (Shared m part) ops.Clear rest own home small fits is_blank = record { kind = kinds.Clear; bytes = _; kind_is = refl; call_is = sweep_again m part ops.Clear rest small.0 own.0 own.1 }
-  call_again (Shared m part) ops.Zero rest own home small fits is_blank = record { kind = kinds.Zero; bytes = _; kind_is = refl; call_is = sweep_again m part ops.Zero rest small.0 own.0 own.1 }
+  call_again (Shared m part) (ops.Get key) rest own home small fits is_blank = record { kind = kinds.Get; bytes = (to_le_bytes w32 m.0 ++ key_bytes key) ++ rest; kind_is = refl; call_is = get_again m part key rest small.0 fits home own.1 }
+  call_again (Shared m part) (ops.Set key value) rest own home small fits is_blank = record { kind = kinds.Set; bytes = (to_le_bytes w32 m.0 ++ (key_bytes key ++ value_bytes value)) ++ rest; kind_is = refl; call_is = set_again m part key value rest small.0 fits home own.1 }
+  call_again (Shared m part) (ops.Delete key) rest own home small fits is_blank = record { kind = kinds.Delete; bytes = (to_le_bytes w32 m.0 ++ key_bytes key) ++ rest; kind_is = refl; call_is = delete_again m part key rest small.0 fits home own.1 }
+  call_again (Shared m part) ops.ReadAll rest own home small fits is_blank = record { kind = kinds.ReadAll; bytes = (to_le_bytes w32 m.0 ++ to_le_bytes w32 part) ++ rest; kind_is = refl; call_is = sweep_again m part ops.ReadAll rest small.0 own.0 own.1 }
+  call_again (Shared m part) ops.Clear rest own home small fits is_blank = record { kind = kinds.Clear; bytes = (to_le_bytes w32 m.0 ++ to_le_bytes w32 part) ++ rest; kind_is = refl; call_is = sweep_again m part ops.Clear rest small.0 own.0 own.1 }
+  call_again (Shared m part) ops.Zero rest own home small fits is_blank = record { kind = kinds.Zero; bytes = (to_le_bytes w32 m.0 ++ to_le_bytes w32 part) ++ rest; kind_is = refl; call_is = sweep_again m part ops.Zero rest small.0 own.0 own.1 }
   call_again (Shared m part) op rest own home small fits is_blank = absurd (shared_of m op own.1).2.1
-  call_again (Cpu table) (ops.Add m key number) rest own home small fits is_blank = record { kind = kinds.Add; bytes = _; kind_is = refl; call_is = add_again m table key number rest fits home own.1 }
-  call_again (Cpu table) (ops.Read m) rest own home small fits is_blank = record { kind = kinds.Read; bytes = _; kind_is = refl; call_is = tables_again m table (λ n. ops.Read n) rest fits small own.0 own.1 }
-  call_again (Cpu table) (ops.ClearOf m) rest own home small fits is_blank = record { kind = kinds.ClearOf; bytes = _; kind_is = refl; call_is = tables_again m table (λ n. ops.ClearOf n) rest fits small own.0 own.1 }
-  call_again (Cpu table) (ops.ZeroOf m) rest own home small fits is_blank = record { kind = kinds.ZeroOf; bytes = _; kind_is = refl; call_is = tables_again m table (λ n. ops.ZeroOf n) rest fits small own.0 own.1 }
+  call_again (Cpu table) (ops.Add m key number) rest own home small fits is_blank = record { kind = kinds.Add; bytes = (to_le_bytes w32 m.0 ++ (key_bytes key ++ to_le_bytes w64 (cast_unsigned w64 number))) ++ rest; kind_is = refl; call_is = add_again m table key number rest fits home own.1 }
+  call_again (Cpu table) (ops.Read m) rest own home small fits is_blank = record { kind = kinds.Read; bytes = (to_le_bytes w32 m.0 ++ to_le_bytes w32 table) ++ rest; kind_is = refl; call_is = tables_again m table (λ n. ops.Read n) rest fits small own.0 own.1 }
+  call_again (Cpu table) (ops.ClearOf m) rest own home small fits is_blank = record { kind = kinds.ClearOf; bytes = (to_le_bytes w32 m.0 ++ to_le_bytes w32 table) ++ rest; kind_is = refl; call_is = tables_again m table (λ n. ops.ClearOf n) rest fits small own.0 own.1 }
+  call_again (Cpu table) (ops.ZeroOf m) rest own home small fits is_blank = record { kind = kinds.ZeroOf; bytes = (to_le_bytes w32 m.0 ++ to_le_bytes w32 table) ++ rest; kind_is = refl; call_is = tables_again m table (λ n. ops.ZeroOf n) rest fits small own.0 own.1 }
   call_again (Cpu table) op rest own home small fits is_blank = absurd own.1
-  call_again Clock (ops.Cross tick) rest own home small fits is_blank = record { kind = kinds.Cross; bytes = _; kind_is = refl; call_is = cross_again tick rest fits own }
-  call_again Clock ops.Check rest own home small fits is_blank = record { kind = kinds.Check; bytes = _; kind_is = refl; call_is = refl }
-  call_again Clock ops.Stop rest own home small fits is_blank = record { kind = kinds.Stop; bytes = _; kind_is = refl; call_is = refl }
+  call_again Clock (ops.Cross tick) rest own home small fits is_blank = record { kind = kinds.Cross; bytes = to_le_bytes w32 tick ++ rest; kind_is = refl; call_is = cross_again tick rest fits own }
+  call_again Clock ops.Check rest own home small fits is_blank = record { kind = kinds.Check; bytes = rest; kind_is = refl; call_is = refl }
+  call_again Clock ops.Stop rest own home small fits is_blank = record { kind = kinds.Stop; bytes = rest; kind_is = refl; call_is = refl }
   call_again Clock op rest own home small fits is_blank = absurd own
-  call_again Out (ops.Emit item) rest own home small fits is_blank = record { kind = kinds.Emit; bytes = _; kind_is = refl; call_is = ap (λ (o : Op). Some ((Out, o), rest)) is_blank }
+  call_again Out (ops.Emit item) rest own home small fits is_blank = record { kind = kinds.Emit; bytes = rest; kind_is = refl; call_is = ap (λ (o : Op). Some ((Out, o), rest)) is_blank }
   call_again Out op rest own home small fits is_blank = absurd own

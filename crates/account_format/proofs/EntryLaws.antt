@@ -22,6 +22,9 @@ use Rattle.account_format.specs.Reading.{kind_at, head_at, call_of_kind, unanswe
 use Rattle.account_format.proofs.KindLaws.{kind_byte, kind_takes}
 use Rattle.account_format.proofs.CallLaws.{CallTook, call_takes, ReadAgain, call_again}
 
+regroup : (a b c d : List ℕ) → (a ++ (b ++ c)) ++ d ≡ a ++ (b ++ (c ++ d))
+regroup a b c d = simp append_assoc
+
 -- ---- heads
 
 record HeadTook (actors : ℕ) (bytes : List ℕ) (actor stamp : ℕ) (kind : Kind) (rest : List ℕ) : Type 0 where
@@ -72,9 +75,9 @@ module _ (setting : Setting) where
       let h = head_takes setting.actors bytes actor stamp kind a.0.1 fits a.1 in
       let c = call_takes setting actor kind a.0.1 object op b.0.1 h.below h.few h.rest_fits b.1 in
       let made : Step = unanswered actor stamp object op in
-      let laid : to_le_bytes w32 actor ++ (to_le_bytes w64 stamp ++ (call_bytes object op ++ b.0.1)) ≡ (to_le_bytes w32 actor ++ (to_le_bytes w64 stamp ++ call_bytes object op)) ++ b.0.1 = sym (simp append_assoc) in
+      let laid = regroup (to_le_bytes w32 actor) (to_le_bytes w64 stamp) (call_bytes object op) b.0.1 in
       let took : Takes bytes (entry_bytes made) b.0.1 = record {
-        parts = h.parts ∙ ap (λ (l : List ℕ). to_le_bytes w32 actor ++ (to_le_bytes w64 stamp ++ l)) c.parts ∙ laid;
+        parts = h.parts ∙ ap (λ (l : List ℕ). to_le_bytes w32 actor ++ (to_le_bytes w64 stamp ++ l)) c.parts ∙ sym laid;
         rest_fits = c.rest_fits;
       } in
       let fits_step : FitsStep made = record { actor = h.few; stamp = h.stamped; object = c.object_fits; op = c.op_fits } in
@@ -88,7 +91,7 @@ module _ (setting : Setting) where
       let t = is.told in
       let c = call_again setting s.actor s.object s.op rest t.own t.home t.fits.object t.fits.op (ap (λ (x : Step). x.op) is.is_blank) in
       let tail : List ℕ = call_bytes s.object s.op ++ rest in
-      let laid : entry_bytes s ++ rest ≡ to_le_bytes w32 s.actor ++ (to_le_bytes w64 s.stamp ++ tail) = simp append_assoc in
+      let laid = regroup (to_le_bytes w32 s.actor) (to_le_bytes w64 s.stamp) (call_bytes s.object s.op) rest in
       let done : Done ≡ s.reply = ap (λ (x : Step). x.reply) is.is_blank in
       let made : (unanswered s.actor s.stamp s.object s.op) ≡ s = ap (λ (r : Reply). record { actor = s.actor; object = s.object; stamp = s.stamp; op = s.op; reply = r }) done in
       ap (entry_at setting) laid

@@ -7,3 +7,4 @@ pub mod EntryLaws
 pub mod AccountLaws
 pub mod BlankLaws
 pub mod KeyLoop
+pub mod Answered

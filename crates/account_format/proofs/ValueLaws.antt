@@ -31,6 +31,9 @@ pub bits-small : (a : ℤ) → FitsSigned w64 a → cast_unsigned w64 a < 2 ^ 64
 bits-small (pos n) f = omega (arith, ints, f)
 bits-small (negsuc n) f = omega (arith, ints, f)
 
+pub signed_fits : (n : ℕ) → n < 2 ^ 64 → FitsSigned w64 (cast_signed w64 n)
+signed_fits n lt = sfits_to_z {w = w64} (record { fits = lt })
+
 -- ---- strings
 
 short_is : (bytes : List ℕ) → IsShortText (short_text bytes)
@@ -87,7 +90,7 @@ value_takes shapes.Int bytes v rest fits e =
     let a = bind_some (number_at w64 bytes) _ (v, rest) e in
     let took = number_takes w64 wide64 bytes a.0.0 a.0.1 fits a.1 in
     let whole : Takes bytes (to_le_bytes w64 (cast_unsigned w64 (cast_signed w64 a.0.0))) a.0.1 = subst (λ (n : ℕ). Takes bytes (to_le_bytes w64 n) a.0.1) (sym (of_z-to_z w64 a.0.0 took.1)) took.0 in
-    let number : FitsSigned w64 (cast_signed w64 a.0.0) = sfits_to_z took.1 in
+    let number : FitsSigned w64 (cast_signed w64 a.0.0) = signed_fits a.0.0 took.1 in
     subst (λ (p : Value × List ℕ). Takes bytes (value_bytes p.0) p.1 × IsOfShape shapes.Int p.0 × FitsValue p.0) (same_Some (Int (cast_signed w64 a.0.0), a.0.1) (v, rest) a.2) (whole, tt, number)
 value_takes shapes.Str bytes v rest fits e =
     let a = bind_some (text_at bytes) _ (v, rest) e in

@@ -1,5 +1,5 @@
 // Writing numbers, values and keys behind bytes.
-ghost use Rattle.std.specs.Prelude.{◌≡◌, ◌++◌, OnOk};
+ghost use Rattle.std.specs.Prelude.{◌≡◌, ◌++◌, ◌∷◌, [], OnOk};
 ghost use Rattle.std.specs.Int.{w32, w64, to_le_bytes};
 ghost use Rattle.bt_core.specs.KeyBytes.{value_bytes, key_bytes};
 ghost use Rattle.account_format.specs.Entries.{of_map};
@@ -10,6 +10,13 @@ use bt_core::map::MapId;
 use bt_core::value::Value;
 use byteorder::{ByteOrder, LittleEndian};
 use std::alloc::AllocError;
+
+pub(crate) fn push_byte(bytes: &mut Vec<u8>, byte: u8) -> Result<(), AllocError>
+    ensures { OnOk result (bytes.new.items ≡ bytes.old.items ++ byte ∷ []) }
+{
+    bytes.push(byte)?;
+    Ok(())
+}
 
 pub(crate) fn push_u32(bytes: &mut Vec<u8>, number: u32) -> Result<(), AllocError>
     ensures { OnOk result (bytes.new.items ≡ bytes.old.items ++ to_le_bytes w32 number) }

@@ -4,7 +4,7 @@ ghost use Rattle.bt_core.specs.declared.step.ObjectId.TheVariants as objects;
 ghost use Rattle.account_format.specs.Entries.{call_bytes, entry_bytes};
 ghost use Rattle.account_format.specs.Accounts.{entries_bytes, account_bytes};
 
-use crate::pushing::{push_keyed, push_numbered, push_u32, push_u64, push_value};
+use crate::pushing::{push_byte, push_keyed, push_numbered, push_u32, push_u64, push_value};
 use crate::reading::MAGIC;
 use bt_core::map::MapId;
 use bt_core::memory::Memory;
@@ -122,8 +122,8 @@ fn push_clock(bytes: &mut Vec<u8>, op: &Op) -> Result<(), AllocError>
             bytes.push(11)?;
             push_u32(bytes, *tick)
         }
-        Op::Check => bytes.push(12),
-        Op::Stop => bytes.push(13),
+        Op::Check => push_byte(bytes, 12),
+        Op::Stop => push_byte(bytes, 13),
         Op::Get(_)
         | Op::Set(_, _)
         | Op::Delete(_)
@@ -143,7 +143,7 @@ fn push_out(bytes: &mut Vec<u8>, op: &Op) -> Result<(), AllocError>
     ensures { OnOk result (bytes.new.items ≡ bytes.old.items ++ call_bytes objects.Out op.now) }
 {
     match op {
-        Op::Emit(_) => bytes.push(14),
+        Op::Emit(_) => push_byte(bytes, 14),
         Op::Get(_)
         | Op::Set(_, _)
         | Op::Delete(_)
