@@ -8,3 +8,5 @@ pub mod AccountLaws
 pub mod BlankLaws
 pub mod KeyLoop
 pub mod Answered
+pub mod PushLaws
+pub mod ReadLaws
