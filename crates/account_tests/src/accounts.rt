@@ -270,9 +270,9 @@ fn wrong_bytes_are_told_where_they_begin(rt: HostRuntime) -> Result<(), Fail> {
         ticks: 3,
         maps: maps.as_slice(),
     };
-    for (bytes, offset) in &WRONG {
-        let fault = read_account(alloc, scope, *bytes).err();
-        assert_eq!(rt; fault, Some(AccountFault::BadAccount(*offset)));
+    for (place, (bytes, offset)) in WRONG.iter().enumerate() {
+        let fault = read_account(alloc, scope, bytes).err();
+        assert_eq!(rt; fault, Some(AccountFault::BadAccount(*offset)), "at {place}");
     }
     Ok(())
 }
