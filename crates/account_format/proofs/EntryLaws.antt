@@ -148,6 +148,12 @@ module _ (setting : Setting) where
     pub behind_is : behind setting count bytes ≡ behind setting (count - place) rest
     pub passed : length (steps_at setting count bytes) ≡ place + length (steps_at setting (count - place) rest)
 
+  pub passed_first : (count : ℕ) (bytes : List ℕ) → Passed count 0 bytes bytes
+  passed_first count bytes =
+      let all : count ≡ count - 0 = omega arith in
+      let steps : length (steps_at setting count bytes) ≡ length (steps_at setting (count - 0) bytes) = ap (λ (n : ℕ). length (steps_at setting n bytes)) all in
+      record { behind_is = ap (λ (n : ℕ). behind setting n bytes) all; passed = omega (arith, steps) }
+
   pub passed_more : (count place : ℕ) (bytes rest after : List ℕ) (s : Step) → place < count → Passed count place bytes rest → entry_at setting rest ≡ Some (s, after) → Passed count (place + 1) bytes after
   passed_more count place bytes rest after s lt h e =
       let m : ℕ = count - (place + 1) in
