@@ -36,18 +36,18 @@ pub struct Account<'a> {
 /// any bytes.
 pub fn read_account<'a>(
     alloc: Global,
-    scope: Scope<'a>,
+    scope: &Scope<'a>,
     bytes: &'a [u8],
 ) -> Result<Account<'a>, AccountFault>
     // What is read are steps as entries tell them, and the bytes are the account of these and the text.
-    ensures read { IfOk result (λ account. IsAccount (setting_in scope) bytes.now account.entries account.text.now) }
+    ensures read { IfOk result (λ account. IsAccount (setting_in scope.now) bytes.now account.entries account.text.now) }
     // Where the bytes are the account of steps and a text, these are read, unless memory runs out.
-    ensures only { (steps : List Step) (text : List ℕ) → IsAccount (setting_in scope) bytes.now steps text
+    ensures only { (steps : List Step) (text : List ℕ) → IsAccount (setting_in scope.now) bytes.now steps text
         → IsOkAnd result (λ account. (account.entries ≡ steps) × (account.text.now ≡ text)) ⊎ (result ≡ Err fault.Memory) }
     // Where bytes are told to be wrong, they are wrong there.
-    ensures wrong { (offset : ℕ) → result ≡ Err (fault.BadAccount offset) → IsWrongAccount (setting_in scope) bytes.now offset }
+    ensures wrong { (offset : ℕ) → result ≡ Err (fault.BadAccount offset) → IsWrongAccount (setting_in scope.now) bytes.now offset }
     // Where bytes are wrong, they are told to be wrong there, unless memory runs out.
-    ensures refused { (offset : ℕ) → IsWrongAccount (setting_in scope) bytes.now offset
+    ensures refused { (offset : ℕ) → IsWrongAccount (setting_in scope.now) bytes.now offset
         → (result ≡ Err (fault.BadAccount offset)) ⊎ (result ≡ Err fault.Memory) }
 {
     read(alloc, scope, bytes)
@@ -56,11 +56,11 @@ pub fn read_account<'a>(
 /// The account that the bytes spell, or where they are wrong.
 fn read<'a>(
     alloc: Global,
-    scope: Scope<'a>,
+    scope: &Scope<'a>,
     bytes: &'a [u8],
 ) -> Result<Account<'a>, AccountFault>
-    ensures read { IfOk result (λ account. IsAccount (setting_in scope) bytes.now account.entries account.text.now) }
-    ensures fault { IfErr result (IsFault (setting_in scope) bytes.now) }
+    ensures read { IfOk result (λ account. IsAccount (setting_in scope.now) bytes.now account.entries account.text.now) }
+    ensures fault { IfErr result (IsFault (setting_in scope.now) bytes.now) }
 {
     let Some(counted) = magic_at(bytes) else {
         return Err(AccountFault::BadAccount(0));
@@ -68,7 +68,7 @@ fn read<'a>(
     let Some((count, listed)) = u64_at(counted) else {
         return Err(bad_from(bytes, counted));
     };
-    let (sized, whole) = skip_entries(alloc, &scope, count, listed)?;
+    let (sized, whole) = skip_entries(alloc, scope, count, listed)?;
     if !whole {
         return Err(bad_from(bytes, sized));
     }
@@ -83,7 +83,7 @@ fn read<'a>(
         return Err(bad_from(bytes, rest));
     }
     let entries = Entries {
-        scope,
+        scope: *scope,
         bytes: listed,
         left: count,
     };

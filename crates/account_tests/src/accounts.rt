@@ -151,7 +151,7 @@ fn each_kind_of_entry_is_written_and_read(rt: HostRuntime) -> Result<(), Fail> {
         let bytes = write_account(alloc, &woven, text)?;
         let expected = spelled(alloc, row, text)?;
         assert!(rt; bytes.as_slice() == expected.as_slice());
-        let mut account = read_account(alloc, scope, bytes.as_slice())?;
+        let mut account = read_account(alloc, &scope, bytes.as_slice())?;
         let step = Step {
             actor,
             object,
@@ -271,7 +271,7 @@ fn wrong_bytes_are_told_where_they_begin(rt: HostRuntime) -> Result<(), Fail> {
         maps: maps.as_slice(),
     };
     for (place, (bytes, offset)) in WRONG.iter().enumerate() {
-        let fault = read_account(alloc, scope, bytes).err();
+        let fault = read_account(alloc, &scope, bytes).err();
         assert_eq!(rt; fault, Some(AccountFault::BadAccount(*offset)), "at {place}");
     }
     Ok(())

@@ -7,4 +7,4 @@ use Rattle.account_format.proofs.ReadLaws.{is_counted, stops_at_count, is_listed
 use Rattle.account_format.proofs.reading.read.Goals as goal
 
 pub returns-in_default : goal.returns-in_default
-returns-in_default c = record { read = tt; fault = bad_magic (setting_in c.args.scope) c.args.bytes.now (sym c.in_default.ensures) }
+returns-in_default c = record { read = tt; fault = bad_magic (setting_in c.args.scope.now) c.args.bytes.now (sym c.in_default.ensures) }
