@@ -13,7 +13,7 @@ pub const CPUS: u32 = 64;
 /// Event formats of a recording.
 pub const FORMATS: u32 = 4_096;
 
-/// Events of a recording over all its CPUs.
+/// Entries, which are events and marks of lost ones, of a recording over all its CPUs.
 pub const EVENTS: u32 = 1_048_576;
 
 /// The end, offset plus size, of a field in an event's layout.
