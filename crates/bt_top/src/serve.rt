@@ -70,7 +70,8 @@ fn perform<S: Shelf, K: Sink, G: Gate + Sync, R: Threads + Wait + Sync>(
 
 /// Does what the words ask for. `run SCRIPT RECORDING` runs the script over the recording, with each recorded CPU on a thread of its
 /// own, and writes what it prints to `out`; `run --serial SCRIPT RECORDING` takes the items of all CPUs one after the other, on one
-/// thread; with `--stats` the line `instructions: N` stands behind the text, with the number of instructions that were executed.
+/// thread; with `--stats` the line `instructions: N` stands behind the text, with the number of instructions that were executed. With
+/// `--json` it writes JSON lines in place of the text, and of that line.
 /// `check SCRIPT RECORDING` does all of a run up to the code, and writes `ok` and a newline. `code SCRIPT RECORDING` writes the listing
 /// of the programs: for each body the line `probe P K`, P the number of its probe from 0, K one of `BEGIN`, `END`, `interval` and
 /// `tracepoint:S:E`, and then a line for each slot. `gen X N` writes the bytes of the recording of the seed X and of N events. `big X N`
@@ -125,8 +126,8 @@ pub fn serve<S: Shelf, K: Sink, E: Sink, G: Gate + Sync, R: Threads + Wait + Syn
     ensures worked { IsSome result.work ↔ HasWork result.refusal (order_of words.now) }
 
     // The headline: where `run` or `big` ends with status 0, the bytes written are exactly those that the script's own meaning prints under
-    // the interleaving handed back with them, and the line of instructions where it is asked for. Behind the text of `big`, which ends with
-    // exactly the totals of its maps, stands the line that tells its events and steps.
+    // the interleaving handed back with them, as text or, with `--json`, as JSON lines, and the line of instructions where it is asked for.
+    // Behind the text of `big`, which ends with exactly the totals of its maps, stands the line that tells its events and steps.
     ensures headline { Headline (order_of words.now) (shelf_use S.held S.faults S.asked shelf.old shelf.new)
         (sink_use K.taken K.faults out.old out.new) result }
 
