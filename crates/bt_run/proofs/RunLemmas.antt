@@ -123,7 +123,8 @@ module _ (script : Typed) (cpus : ℕ) (xs ys : List Step) (same : (object : Obj
   -- what is told of the maps after the one list is told after the other
   pub output_then : (told : ℕ → List ℕ) (rows : List (List (List Value × Cell))) (lost : List ℕ) (output : List ℕ)
       → rows ≡ of_maps (rows_after script.maps cpus xs) 0 script.maps → lost ≡ of_maps (lost_after script.maps cpus xs) 0 script.maps
-      → ((cpus : ℕ) → rows ≡ of_maps (rows_after script.maps cpus ys) 0 script.maps → lost ≡ of_maps (lost_after script.maps cpus ys) 0 script.maps → output ≡ told cpus)
+      → ((cpus : ℕ) → rows ≡ of_maps (rows_after script.maps cpus ys) 0 script.maps → lost ≡ of_maps (lost_after script.maps cpus ys) 0 script.maps
+      → output ≡ told cpus)
       → output ≡ told cpus
   output_then told rows lost output are were is = is cpus (are ∙ rows_same 0 script.maps) (were ∙ losses_same 0 script.maps)
 

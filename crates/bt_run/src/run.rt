@@ -34,8 +34,8 @@ use std::snapshot::Snapshot;
 use step_list::list::StepList;
 use weave::woven::Woven;
 
-/// A run that has ended: its objects, its steps in the order in which they were made, the same steps in the order of their stamps,
-/// and how many instructions were executed.
+/// A run that has ended: its objects, its steps in the order in which they were made, the same steps in the order of
+/// their stamps, and how many instructions were executed.
 #[derive(Drop)]
 struct Ran {
     objects: Objects,
@@ -98,13 +98,14 @@ fn output_of(alloc: Global, form: Form, job: &Job, ran: &Ran) -> Result<Items<u8
     Ok(output)
 }
 
-/// Runs a job on one thread, each body by the code that its program is: `BEGIN`, the items of all agendas in the serial order, each by
-/// its CPU where the CPU still goes on, and `END`. Each program is decoded once.
+/// Runs a job on one thread, each body by the code that its program is: `BEGIN`, the items of all agendas in the serial
+/// order, each by its CPU where the CPU still goes on, and `END`. Each program is decoded once.
 ///
-/// The steps are an interleaving of the script over the recording, in the order of their stamps (`replayed`); at each object they are
-/// those of the serial list (`serial`); the text is what they print in the form (`printed`), and what the serial list prints in it
-/// (`printed_serial`). The instructions are those that the codes of the programs take under the replies in the steps (`instructions`). Beside what the
-/// bodies take it takes time linear in the steps and the recording, and the sort of the items and that of what is emitted.
+/// The steps are an interleaving of the script over the recording, in the order of their stamps (`replayed`); at each
+/// object they are those of the serial list (`serial`); the text is what they print in the form (`printed`), and what
+/// the serial list prints in it (`printed_serial`). The instructions are those that the codes of the programs take
+/// under the replies in the steps (`instructions`). Beside what the bodies take it takes time linear in the steps and
+/// the recording, and the sort of the items and that of what is emitted.
 ///
 /// # Errors
 ///

@@ -119,7 +119,8 @@ module _ (laws : AreRunLaws) (seen : ShelfUse) (out : SinkUse) (outcome : Outcom
       subst (λ (o : Outcome). IsSomeAnd o.work (PrintsItsTotals x n out)) (sym comes.2.is) (record {
         job = comes.0;
         of = comes.1;
-        prints = prints Text false comes.0 (λ work. summary_line n (length work.steps)) (can_run comes.0 laws.jobs (of_numbers x n comes.0 comes.1)) comes.2 zero;
+        prints = prints Text false comes.0 (λ work. summary_line n (length work.steps))
+            (can_run comes.0 laws.jobs (of_numbers x n comes.0 comes.1)) comes.2 zero;
         totals = laws.totals comes.0.typed comes.0.attached comes.0.recording comes.2.work.steps
             (adds x n comes.0 comes.1 (λ work. summary_line n (length work.steps)) comes.2);
       })

@@ -15,17 +15,18 @@ use std::alloc::Global;
 use typed_tree::script::Typed;
 use weave::woven::Woven;
 
-/// In which form a run writes what it prints: as text, as bpftrace does, or as JSON lines.
+/// In which form a run writes what it prints: as text, or as JSON lines.
 #[derive(Clone, Copy, PartialEq, Eq, Debug)]
 pub enum Form {
     Text,
     Json,
 }
 
-/// What a run that made these steps, with so many CPUs, writes in a form: what the items print that were emitted, then what is in the
-/// maps, and then what they lost.
+/// What a run that made these steps, with so many CPUs, writes in a form: what the items print that were emitted, then
+/// what is in the maps, and then what they lost.
 ///
-/// It takes the rows and the lost updates that each map has after the steps, as who holds the objects of the run can tell them.
+/// It takes the rows and the lost updates that each map has after the steps, as who holds the objects of the run can
+/// tell them.
 ///
 /// # Errors
 ///
@@ -42,8 +43,10 @@ pub fn output_of_run(
     requires rows { length rows.now ≡ length script.now.maps }
     requires lost { length lost.now ≡ length script.now.maps }
     requires fit { AllRowsFit script.now.maps rows.now }
-    ensures { IfOk result (λ output. (cpus : ℕ) → rows.now ≡ of_maps (rows_after script.now.maps cpus steps.now) 0 script.now.maps →
-        lost.now ≡ of_maps (lost_after script.now.maps cpus steps.now) 0 script.now.maps → output ≡ output_of form script.now cpus steps.now) }
+    ensures { IfOk result (λ output. (cpus : ℕ) →
+        rows.now ≡ of_maps (rows_after script.now.maps cpus steps.now) 0 script.now.maps →
+        lost.now ≡ of_maps (lost_after script.now.maps cpus steps.now) 0 script.now.maps →
+        output ≡ output_of form script.now cpus steps.now) }
 {
     match form {
         Form::Text => text_of_run(alloc, script, steps, rows, lost),

@@ -37,7 +37,8 @@ fn write_item(out: &mut Vec<u8>, alloc: Global, script: &Typed, item: &Item) -> 
 /// The lines of items, one behind the other.
 fn lines_of(alloc: Global, script: &Typed, emits: &[Emitted]) -> Result<Vec<u8>, Memory>
     requires { AllByRecursion (IsItemOf script.now.formats script.now.maps) (map item_of emits.now) }
-    ensures { IfOk result (λ lines. lines.items ≡ flat_map (item_lines script.now.formats script.now.maps) (map item_of emits.now)) }
+    ensures { IfOk result (λ lines. lines.items ≡
+        flat_map (item_lines script.now.formats script.now.maps) (map item_of emits.now)) }
 {
     let mut lines = Vec::new(alloc);
     for emit in emits {
@@ -49,17 +50,19 @@ fn lines_of(alloc: Global, script: &Typed, emits: &[Emitted]) -> Result<Vec<u8>,
 /// The lines of the items that steps emitted, in the order of the steps.
 fn emitted_lines(alloc: Global, script: &Typed, steps: &Woven) -> Result<Vec<u8>, Memory>
     requires { EmitOwn script.now steps.now }
-    ensures { IfOk result (λ lines. lines.items ≡ flat_map (item_lines script.now.formats script.now.maps) (emitted steps.now)) }
+    ensures { IfOk result (λ lines. lines.items ≡
+        flat_map (item_lines script.now.formats script.now.maps) (emitted steps.now)) }
 {
     let emits = steps.emitted(alloc)?;
     let lines = lines_of(alloc, script, emits.as_slice())?;
     Ok(lines)
 }
 
-/// The JSON lines of a run that made these steps, with so many CPUs: those of the items that were emitted, then one of each map that
-/// has rows, and then one of each map that lost updates.
+/// The JSON lines of a run that made these steps, with so many CPUs: those of the items that were emitted, then one of
+/// each map that has rows, and then one of each map that lost updates.
 ///
-/// It takes the rows and the lost updates that each map has after the steps, as who holds the objects of the run can tell them.
+/// It takes the rows and the lost updates that each map has after the steps, as who holds the objects of the run can
+/// tell them.
 ///
 /// # Errors
 ///
@@ -75,8 +78,10 @@ pub fn json_text(
     requires rows { length rows.now ≡ length script.now.maps }
     requires lost { length lost.now ≡ length script.now.maps }
     requires fit { AllRowsFit script.now.maps rows.now }
-    ensures { IfOk result (λ lines. (cpus : ℕ) → rows.now ≡ of_maps (rows_after script.now.maps cpus steps.now) 0 script.now.maps →
-        lost.now ≡ of_maps (lost_after script.now.maps cpus steps.now) 0 script.now.maps → lines ≡ json_text_of script.now cpus steps.now) }
+    ensures { IfOk result (λ lines. (cpus : ℕ) →
+        rows.now ≡ of_maps (rows_after script.now.maps cpus steps.now) 0 script.now.maps →
+        lost.now ≡ of_maps (lost_after script.now.maps cpus steps.now) 0 script.now.maps →
+        lines ≡ json_text_of script.now cpus steps.now) }
 {
     let mut lines = emitted_lines(alloc, script, steps)?;
     let end = end_lines(alloc, script.maps.as_slice(), rows, lost)?;

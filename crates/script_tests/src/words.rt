@@ -12,8 +12,8 @@ fn words_of(alloc: Global, texts: &[&str]) -> Result<Vec<String>, AllocError> {
     Ok(words)
 }
 
-/// Each arrangement of `--serial`, `--stats` and two operands behind `run`, and some with `--json`, with whether each of the three stands
-/// in it.
+/// Each arrangement of `--serial`, `--stats` and two operands behind `run`, and some with `--json`, with whether each
+/// of the three stands in it.
 const RUNS: [(&[&str], bool, bool, bool); 27] = [
     (&["run", "a", "b"], false, false, false),
     (&["run", "--serial", "a", "b"], true, false, false),

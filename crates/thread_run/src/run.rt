@@ -50,13 +50,14 @@ fn output_of(
     output_of_run(alloc, form, script, steps, rows.as_slice(), lost.as_slice())
 }
 
-/// Runs a job with each CPU on a thread of its own, each body by the code that its program is: `BEGIN`, then all CPUs side by side, each
-/// with its agenda, and then `END`. Each program is decoded once.
+/// Runs a job with each CPU on a thread of its own, each body by the code that its program is: `BEGIN`, then all CPUs
+/// side by side, each with its agenda, and then `END`. Each program is decoded once.
 ///
-/// The steps are an interleaving of the script over the recording, in the order of their stamps (`replayed`): any one that the threads
-/// took. The text is what they print in the form (`printed`), read of the objects once all locks are closed. The instructions are those
-/// that the codes of the programs take under the replies in the steps (`instructions`). The gate is told of each turn while it is held.
-/// Where no thread can be started, the caller runs a CPU itself.
+/// The steps are an interleaving of the script over the recording, in the order of their stamps (`replayed`): any one
+/// that the threads took. The text is what they print in the form (`printed`), read of the objects once all locks are
+/// closed. The instructions are those that the codes of the programs take under the replies in the steps
+/// (`instructions`). The gate is told of each turn while it is held. Where no thread can be started, the caller runs a
+/// CPU itself.
 ///
 /// # Errors
 ///

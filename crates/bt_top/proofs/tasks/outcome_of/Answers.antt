@@ -11,7 +11,8 @@ use Rattle.bt_top.proofs.tasks.outcome_of.Goals as goal
 pub returns-in_ok-run_outcome-in-Run : goal.returns-in_ok-run_outcome-in-Run
 returns-in_ok-run_outcome-in-Run g c =
     rw c.in-Run.is
-    (goes_on _ (IsJobFor (on_script c.in-Run.script c.in-Run.recording)) (ComesTo (Run c.in-Run.serial c.in-Run.stats c.in-Run.json c.in-Run.script c.in-Run.recording)) _
+    (goes_on _ (IsJobFor (on_script c.in-Run.script c.in-Run.recording))
+    (ComesTo (Run c.in-Run.serial c.in-Run.stats c.in-Run.json c.in-Run.script c.in-Run.recording)) _
     c.in_ok-job-in-Run.job c.in_ok-run_outcome-in-Run.field-0
     (rw (c.as_str.ensures, c.as_str-in-Run.ensures) at c.in_ok-job-in-Run.ensures.performs)
     (λ contents is. (

@@ -8,8 +8,10 @@ use Rattle.run_output.proofs.json_lines.emitted_lines.Goals as goal
 
 pub lines_of-requires : goal.lines_of-requires
 lines_of-requires c =
-    items_are_own (IsItemOf c.args.script.now.formats c.args.script.now.maps) c.as_slice.result.now c.args.steps.now (ap (map told) c.as_slice.ensures.value ∙ c.in_ok-emits.ensures) c.requires
+    items_are_own (IsItemOf c.args.script.now.formats c.args.script.now.maps) c.as_slice.result.now c.args.steps.now
+    (ap (map told) c.as_slice.ensures.value ∙ c.in_ok-emits.ensures) c.requires
 
 pub returns : goal.returns
 returns c = c.in_ok-lines.ensures
-    ∙ ap (flat_map (item_lines c.args.script.now.formats c.args.script.now.maps)) (items_are c.as_slice.result.now c.args.steps.now (ap (map told) c.as_slice.ensures.value ∙ c.in_ok-emits.ensures))
+    ∙ ap (flat_map (item_lines c.args.script.now.formats c.args.script.now.maps))
+    (items_are c.as_slice.result.now c.args.steps.now (ap (map told) c.as_slice.ensures.value ∙ c.in_ok-emits.ensures))
