@@ -11,16 +11,18 @@ from btreplay.compiled import NotBuilt
 from btreplay.places import is_checkout
 from btreplay.running import Ended, end_as, end_in_order, hold_streams, is_read_no_more, pass_on, run_program, tell
 
-HELP = """usage: btreplay run [--serial] [--stats] SCRIPT RECORDING    runs the script over the recording, and writes what it prints
-       btreplay check SCRIPT RECORDING                      looks both over for all that refuses them
-       btreplay explain SCRIPT RECORDING                    the same, and what a fault means and how it is mended
-       btreplay code SCRIPT RECORDING                       lists the BPF code of each body
-       btreplay gen X N                                     writes a made recording of N events
-       btreplay big X N                                     runs a built-in script over it
+HELP = """usage: btreplay run [--serial] [--stats] [--json] SCRIPT RECORDING
+                                               runs the script over the recording, and writes what it prints
+       btreplay check SCRIPT RECORDING         looks both over for all that refuses them
+       btreplay explain SCRIPT RECORDING       the same, and what a fault means and how it is mended
+       btreplay code SCRIPT RECORDING          lists the BPF code of each body
+       btreplay gen X N                        writes a made recording of N events
+       btreplay big X N                        runs a built-in script over it
        btreplay --help | --version
 
 SCRIPT may be - for standard input, or -e 'PROGRAM' for a script as it stands.
---serial takes the events of all CPUs in one order, by their times; --stats tells how many instructions were run.
+--serial takes the events of all CPUs in one order, by their times; --stats tells how many instructions were run;
+--json writes JSON lines in place of text.
 """
 UNPROVED_HELP = """btreplay --unproved and the words of a command do it by a build that is not proved, which is there within some two minutes.
 """

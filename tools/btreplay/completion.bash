@@ -29,7 +29,7 @@ _btreplay() {
     ((skip)) && return
     if [[ $word == -* ]]; then
         local options="-e"
-        [[ ${COMP_WORDS[first]} == run ]] && options="-e --serial --stats"
+        [[ ${COMP_WORDS[first]} == run ]] && options="-e --serial --stats --json"
         mapfile -t COMPREPLY < <(compgen -W "$options" -- "$word")
     elif ((given == 0)); then
         _btreplay_files "$word" "*.bt"

@@ -10,7 +10,7 @@ from btreplay.tokens import offset_of
 SCRIPT, RECORDING, READ, WRITE = 2, 3, 4, 5
 # The commands, each with its options and what it takes.
 FILES, NUMBERS = "a script and a recording", "two numbers, as in 7 1000"
-COMMANDS = {"run": ("--serial --stats", FILES), "check": ("", FILES), "explain": ("", FILES), "code": ("", FILES), "gen": ("", NUMBERS), "big": ("", NUMBERS)}
+COMMANDS = {"run": ("--serial --stats --json", FILES), "check": ("", FILES), "explain": ("", FILES), "code": ("", FILES), "gen": ("", NUMBERS), "big": ("", NUMBERS)}
 MOST_SCRIPT = 65_536
 # How files of other programs begin.
 CONVERTED = {b"\x17\x08\x44tracing": "trace-cmd", b"PERFILE2": "perf"}
@@ -97,6 +97,12 @@ def about_recording(status, recording):
     return lines + [f"{recording} is compressed by {name}: unpack it first" for magic, name in PACKED.items() if begin.startswith(magic)]
 
 
+def listed(words):
+    """Words as a sentence lists them."""
+    *before, last = words
+    return f"{', '.join(before)} and {last}" if before else last
+
+
 def about_words(words):
     """Lines for words that are no command: a word that none has, an option that the command does not have, or more or fewer words than it takes."""
     if not words:
@@ -108,7 +114,7 @@ def about_words(words):
     if other[:1] == ["-e"] and takes == FILES:
         return ["a script stands behind -e, and a recording"]
     if other:
-        return [f"{words[0]} has no option {other[0]}" + (f"; it has {options.replace(' ', ' and ')}" if options else "")]
+        return [f"{words[0]} has no option {other[0]}" + (f"; it has {listed(options.split())}" if options else "")]
     count = sum(word == "-" or not word.startswith("-") for word in words[1:])
     return [f"{words[0]} takes {takes}" + (f", and {count} {'word stands' if count == 1 else 'words stand'} there" if count != 2 else "")]
 

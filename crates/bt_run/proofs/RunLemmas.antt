@@ -1,4 +1,4 @@
--- What a run prints depends on the operations at each object alone.
+-- What a run writes depends on the operations at each object alone.
 use Rattle.std.proofs.Common.{◌≡◌, ℕ, ◌+◌, cond, List, [], ◌∷◌, ◌++◌, map, sum, sym, refl, ap, ◌∙◌, subst, append-nil}
 use Rattle.std.specs.Prelude.{All, Option, Some, None, IsSomeAnd, slice_get}
 use Rattle.std.specs.List.{AllByRecursion, filter_map, flat_map, cons_option}
@@ -18,6 +18,7 @@ use Rattle.bt_core.specs.Kinds.{IsFineDecl, IsShared}
 use Rattle.bt_core.specs.Ports.{IsSharedOp, IsTableOp, IsClockOp}
 use Rattle.bt_core.specs.Steps.{is_on, is_same_object, on_object, operations}
 use Rattle.agg_core.specs.Answers.{answer}
+use Rattle.json_out.specs.Lines.{end_lines, item_lines}
 use Rattle.map_printer.specs.Ends.{end_text}
 use Rattle.map_printer.specs.ItemTexts.{item_text}
 use Rattle.map_rows.specs.Items.{IsItemOf}
@@ -55,6 +56,10 @@ use Rattle.weave.specs.Listed.{listed}
 use Rattle.run_base.specs.declared.job.Job.{Job}
 use Rattle.bt_run.specs.declared.objects.Objects.{Objects}
 use Rattle.run_base.specs.Jobs.{cpus_in, world_for}
+use Rattle.run_output.specs.declared.form.Form.{Form}
+use Rattle.run_output.specs.declared.form.Form.TheVariants.{Text, Json}
+use Rattle.run_output.specs.JsonLines.{json_text_of}
+use Rattle.run_output.specs.Outputs.{output_of}
 use Rattle.bt_run.specs.Made.{IsMade}
 use Rattle.bt_run.specs.Moments.{IsMoment}
 use Rattle.bt_run.specs.Ran.{HasRun}
@@ -95,7 +100,7 @@ own_unstamped : (w : World) (steps : List Step) → Each (λ (s : Step). IsOwn w
 own_unstamped w [] h = tt
 own_unstamped w (s ∷ ss) h = (h.0, own_unstamped w ss h.1)
 
--- ---- the same text
+-- ---- the same output
 
 module _ (script : Typed) (cpus : ℕ) (xs ys : List Step) (same : (object : ObjectId) → operations_at object xs ≡ operations_at object ys) where
   pub rows_same : (n : ℕ) (decls : List MapDecl) → of_maps (rows_after script.maps cpus xs) n decls ≡ of_maps (rows_after script.maps cpus ys) n decls
@@ -104,16 +109,24 @@ module _ (script : Typed) (cpus : ℕ) (xs ys : List Step) (same : (object : Obj
   pub losses_same : (n : ℕ) (decls : List MapDecl) → of_maps (lost_after script.maps cpus xs) n decls ≡ of_maps (lost_after script.maps cpus ys) n decls
   losses_same n decls = λ i. of_maps (λ m decl. sum (map (λ object. lost_by decl.kind m (same object i)) (holders_of script.maps cpus decl.kind m))) n decls
 
-  pub text_same : emitted xs ≡ emitted ys → printed_text script cpus xs ≡ printed_text script cpus ys
-  unfolding printed_text
-  text_same e = λ i. flat_map (item_text script.formats script.maps) (e i) ++ end_text script.maps (rows_same 0 script.maps i) (losses_same 0 script.maps i)
+  -- whatever is made of what is emitted, of the rows and of the lost updates
+  told_same : (told : List Item → List (List (List Value × Cell)) → List ℕ → List ℕ) → emitted xs ≡ emitted ys
+      → told (emitted xs) (of_maps (rows_after script.maps cpus xs) 0 script.maps) (of_maps (lost_after script.maps cpus xs) 0 script.maps)
+      ≡ told (emitted ys) (of_maps (rows_after script.maps cpus ys) 0 script.maps) (of_maps (lost_after script.maps cpus ys) 0 script.maps)
+  told_same told e = λ i. told (e i) (rows_same 0 script.maps i) (losses_same 0 script.maps i)
+
+  pub output_same : (form : Form) → emitted xs ≡ emitted ys → output_of form script cpus xs ≡ output_of form script cpus ys
+  unfolding printed_text json_text_of
+  output_same Text e = told_same (λ items rows lost. flat_map (item_text script.formats script.maps) items ++ end_text script.maps rows lost) e
+  output_same Json e = told_same (λ items rows lost. flat_map (item_lines script.formats script.maps) items ++ end_lines script.maps rows lost) e
 
   -- what is told of the maps after the one list is told after the other
-  pub text_then : (rows : List (List (List Value × Cell))) (lost : List ℕ) (text : List ℕ)
+  pub output_then : (told : ℕ → List ℕ) (rows : List (List (List Value × Cell))) (lost : List ℕ) (output : List ℕ)
       → rows ≡ of_maps (rows_after script.maps cpus xs) 0 script.maps → lost ≡ of_maps (lost_after script.maps cpus xs) 0 script.maps
-      → ((cpus : ℕ) → rows ≡ of_maps (rows_after script.maps cpus ys) 0 script.maps → lost ≡ of_maps (lost_after script.maps cpus ys) 0 script.maps → text ≡ printed_text script cpus ys)
-      → text ≡ printed_text script cpus ys
-  text_then rows lost text are were is = is cpus (are ∙ rows_same 0 script.maps) (were ∙ losses_same 0 script.maps)
+      → ((cpus : ℕ) → rows ≡ of_maps (rows_after script.maps cpus ys) 0 script.maps → lost ≡ of_maps (lost_after script.maps cpus ys) 0 script.maps
+      → output ≡ told cpus)
+      → output ≡ told cpus
+  output_then told rows lost output are were is = is cpus (are ∙ rows_same 0 script.maps) (were ∙ losses_same 0 script.maps)
 
 -- ---- one list alone
 
@@ -173,14 +186,15 @@ module _ (job : Job) (is_job : IsJob job.typed job.attached job.recording) (code
   possible = each_of (λ (s : Step). IsOwn (world_for job) s.object s.op) steps
       (λ s h. each_member (λ (s : Step). IsOwn (world_for job) s.object s.op) made s is.possible (has_moved steps made s (IsPermutation-sym made steps moved) h))
 
-  run_prints_serial : printed_text job.typed (cpus_in job) steps ≡ printed_text job.typed (cpus_in job) (serial_steps (replay_of job.typed job.attached job.recording))
-  run_prints_serial =
+  run_prints_serial : (form : Form) → output_of form job.typed (cpus_in job) steps
+      ≡ output_of form job.typed (cpus_in job) (serial_steps (replay_of job.typed job.attached job.recording))
+  run_prints_serial form =
       let serial = serial_steps (code_replay job.typed codes job.attached job.recording) in
       let same = λ (object : ObjectId). operations_serial job plans objects made steps n is moved order object in
       let own : Each (λ (s : Step). IsOwn (world_for job) s.object s.op) serial = subst (Each (λ (s : Step). IsOwn (world_for job) s.object s.op)) (sym is.is_serial) (own_unstamped (world_for job) made is.possible) in
-      text_same job.typed (cpus_in job) steps serial same
+      output_same job.typed (cpus_in job) steps serial same form
       (emitted_out (world_for job) steps possible ∙ ap (filter_map item_in) (same Out) ∙ sym (emitted_out (world_for job) serial own))
-      ∙ ap (printed_text job.typed (cpus_in job)) same_serial
+      ∙ ap (output_of form job.typed (cpus_in job)) same_serial
 
   run_counts : n ≡ instructions_of (code_replay job.typed codes job.attached job.recording) steps
   run_counts = is.counted ∙ serial_counts coded is_job.valid is_job.in_turn (λ actor. refl)
@@ -192,7 +206,7 @@ module _ (job : Job) (is_job : IsJob job.typed job.attached job.recording) (code
   has_run ran o m s c only = record {
     replayed = subst (IsReplayed (replay_of job.typed job.attached job.recording)) (sym s) run_replayed;
     serial = λ object. ap (λ l. map unstamped (on_object object l)) s ∙ run_serial_steps object;
-    printed_serial = ap (printed_text job.typed (cpus_in job)) s ∙ run_prints_serial;
+    printed_serial = λ form. ap (output_of form job.typed (cpus_in job)) s ∙ run_prints_serial form;
     counted = λ others are. c ∙ run_counts ∙ (λ i. instructions_of (code_replay job.typed (only others are i) job.attached job.recording) (sym s i));
     own = subst (EmitOwn job.typed) (sym s) emit_own;
     moment = subst (λ (z : List Step × Objects). IsMoment (record { world = world_for job; steps = z.0 }) z.1) (λ i. (sym m i, sym o i)) run_moment;

@@ -6,7 +6,7 @@ use Rattle.bpf_insn.specs.declared.insn.Insn.{Insn}
 use Rattle.step_list.specs.Lists.{steps_in}
 use Rattle.bt_meaning.specs.Instructions.{instructions_of}
 use Rattle.bt_meaning.specs.Interleavings.{IsReplayed}
-use Rattle.bt_meaning.specs.Prints.{operations_at, printed_text}
+use Rattle.bt_meaning.specs.Prints.{operations_at}
 use Rattle.bt_meaning.specs.Serial.{serial_steps, unstamped}
 use Rattle.bt_meaning.specs.Texts.{EmitOwn}
 use Rattle.bt_meaning.specs.Walks.{replay_of}
@@ -14,6 +14,8 @@ use Rattle.code_bodies.specs.Coding.{code_replay}
 use Rattle.script_programs.specs.Programs.{AreCodesOf}
 use Rattle.run_base.specs.declared.job.Job.{Job}
 use Rattle.run_base.specs.Jobs.{cpus_in, world_for}
+use Rattle.run_output.specs.declared.form.Form.{Form}
+use Rattle.run_output.specs.Outputs.{output_of}
 use Rattle.bt_run.specs.declared.run.Ran.{Ran}
 use Rattle.bt_run.specs.Moments.{IsMoment}
 
@@ -21,7 +23,8 @@ use Rattle.bt_run.specs.Moments.{IsMoment}
 pub record HasRun (job : Job) (ran : Ran) : Type 0 where
   pub replayed : IsReplayed (replay_of job.typed job.attached job.recording) ran.steps
   pub serial : (object : ObjectId) → map unstamped (on_object object ran.steps) ≡ on_object object (serial_steps (replay_of job.typed job.attached job.recording))
-  pub printed_serial : printed_text job.typed (cpus_in job) ran.steps ≡ printed_text job.typed (cpus_in job) (serial_steps (replay_of job.typed job.attached job.recording))
+  pub printed_serial : (form : Form) → output_of form job.typed (cpus_in job) ran.steps
+      ≡ output_of form job.typed (cpus_in job) (serial_steps (replay_of job.typed job.attached job.recording))
   pub counted : (codes : List (List Insn)) → AreCodesOf job.programs codes → ran.instructions ≡ instructions_of (code_replay job.typed codes job.attached job.recording) ran.steps
   pub own : EmitOwn job.typed ran.steps
   -- as they were made, which at each object is the order of the steps

@@ -6,7 +6,6 @@ ghost use Rattle.bpf_insn.specs.declared.insn.Insn.{Insn};
 ghost use Rattle.bt_meaning.specs.Instructions.{instructions_of};
 ghost use Rattle.bt_meaning.specs.Interleavings.{IsReplayed};
 ghost use Rattle.bt_meaning.specs.Jobs.{IsJob};
-ghost use Rattle.bt_meaning.specs.Prints.{printed_text};
 ghost use Rattle.bt_meaning.specs.Replays.{cpus_of};
 ghost use Rattle.bt_meaning.specs.Serial.{serial_steps, unstamped};
 ghost use Rattle.bt_meaning.specs.Walks.{replay_of};
@@ -15,6 +14,7 @@ ghost use Rattle.script_programs.specs.Programs.{AreCodesOf, KeepScript};
 ghost use Rattle.step_list.specs.Lists.{steps_in};
 ghost use Rattle.run_base.specs.Jobs.{world_for};
 ghost use Rattle.run_base.specs.Moments.{Moment};
+ghost use Rattle.run_output.specs.Outputs.{output_of};
 ghost use Rattle.bt_run.specs.Ran.{HasRun};
 
 use crate::ends::read_maps;
@@ -24,18 +24,18 @@ use crate::serial::make_steps;
 use bt_core::items::Items;
 use bt_core::memory::Memory;
 use bt_meaning::schedule::schedule;
-use bt_meaning::text::text_of_run;
 use code_bodies::laws::{code_means_walks, codes_take_few};
 use run_base::held::job_is_held;
 use run_base::job::{Job, Work};
+use run_output::form::{Form, output_of_run};
 use script_programs::codes::codes_of;
 use std::alloc::Global;
 use std::snapshot::Snapshot;
 use step_list::list::StepList;
 use weave::woven::Woven;
 
-/// A run that has ended: its objects, its steps in the order in which they were made, the same steps in the order of their stamps,
-/// and how many instructions were executed.
+/// A run that has ended: its objects, its steps in the order in which they were made, the same steps in the order of
+/// their stamps, and how many instructions were executed.
 #[derive(Drop)]
 struct Ran {
     objects: Objects,
@@ -76,47 +76,55 @@ fn make_run(alloc: Global, job: &Job) -> Result<Ran, Memory>
     })
 }
 
-/// The text of a run that has ended.
-fn text_of(alloc: Global, job: &Job, ran: &Ran) -> Result<Items<u8>, Memory>
+/// What a run that has ended writes in a form.
+fn output_of(alloc: Global, form: Form, job: &Job, ran: &Ran) -> Result<Items<u8>, Memory>
     ghost at: { Moment }
     requires run { HasRun job.now ran.now }
     requires world { at.world ≡ world_for job.now }
     requires made { at.steps ≡ steps_in ran.now.made.value }
     ensures { let p = replay_of job.now.typed job.now.attached job.now.recording in
-        IfOk result (λ text. text ≡ printed_text job.now.typed (cpus_of p) ran.now.steps) }
+        IfOk result (λ output. output ≡ output_of form job.now.typed (cpus_of p) ran.now.steps) }
 {
     let script = &job.typed;
     let (rows, lost) = read_maps(alloc, script.maps.as_slice(), &ran.objects)?;
-    let text = text_of_run(alloc, script, &ran.steps, rows.as_slice(), lost.as_slice())?;
-    Ok(text)
+    let output = output_of_run(
+        alloc,
+        form,
+        script,
+        &ran.steps,
+        rows.as_slice(),
+        lost.as_slice(),
+    )?;
+    Ok(output)
 }
 
-/// Runs a job on one thread, each body by the code that its program is: `BEGIN`, the items of all agendas in the serial order, each by
-/// its CPU where the CPU still goes on, and `END`. Each program is decoded once.
+/// Runs a job on one thread, each body by the code that its program is: `BEGIN`, the items of all agendas in the serial
+/// order, each by its CPU where the CPU still goes on, and `END`. Each program is decoded once.
 ///
-/// The steps are an interleaving of the script over the recording, in the order of their stamps (`replayed`); at each object they are
-/// those of the serial list (`serial`); the text is what they print (`printed`), and what the serial list prints (`printed_serial`).
-/// The instructions are those that the codes of the programs take under the replies in the steps (`instructions`). Beside what the
-/// bodies take it takes time linear in the steps and the recording, and the sort of the items and that of what is emitted.
+/// The steps are an interleaving of the script over the recording, in the order of their stamps (`replayed`); at each
+/// object they are those of the serial list (`serial`); the text is what they print in the form (`printed`), and what
+/// the serial list prints in it (`printed_serial`). The instructions are those that the codes of the programs take
+/// under the replies in the steps (`instructions`). Beside what the bodies take it takes time linear in the steps and
+/// the recording, and the sort of the items and that of what is emitted.
 ///
 /// # Errors
 ///
 /// [`Memory`] is the one error, also where a stamp or a count would not fit.
-pub fn run_serial(alloc: Global, job: &Job) -> Result<Work, Memory>
+pub fn run_serial(alloc: Global, form: Form, job: &Job) -> Result<Work, Memory>
     requires job { IsJob job.now.typed job.now.attached job.now.recording }
     requires programs { KeepScript job.now.typed job.now.programs }
     ensures replayed { let p = replay_of job.now.typed job.now.attached job.now.recording in IfOk result (λ work. IsReplayed p work.steps) }
     ensures serial { let p = replay_of job.now.typed job.now.attached job.now.recording in IfOk result (λ work. (object : ObjectId) →
         map unstamped (on_object object work.steps) ≡ on_object object (serial_steps p)) }
     ensures printed { let p = replay_of job.now.typed job.now.attached job.now.recording in IfOk result (λ work.
-        work.text ≡ printed_text job.now.typed (cpus_of p) work.steps) }
+        work.text ≡ output_of form job.now.typed (cpus_of p) work.steps) }
     ensures printed_serial { let p = replay_of job.now.typed job.now.attached job.now.recording in IfOk result (λ work.
-        printed_text job.now.typed (cpus_of p) work.steps ≡ printed_text job.now.typed (cpus_of p) (serial_steps p)) }
+        output_of form job.now.typed (cpus_of p) work.steps ≡ output_of form job.now.typed (cpus_of p) (serial_steps p)) }
     ensures instructions { IfOk result (λ work. (codes : List (List Insn)) → AreCodesOf job.now.programs codes →
         work.instructions ≡ instructions_of (code_replay job.now.typed codes job.now.attached job.now.recording) work.steps) }
 {
     let ran = make_run(alloc, job)?;
-    let text = text_of(alloc, job, &ran)?;
+    let text = output_of(alloc, form, job, &ran)?;
     let Ran {
         objects: _,
         made: _,

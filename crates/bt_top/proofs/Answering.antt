@@ -7,6 +7,8 @@ use Rattle.bt_words.specs.declared.order.Order.{Order}
 use Rattle.bt_words.specs.declared.order.Order.TheVariants.{Run, Check, Code, Gen, Big}
 use Rattle.run_base.specs.declared.job.Job.{Job}
 use Rattle.run_base.specs.declared.job.Work.{Work}
+use Rattle.run_output.specs.declared.form.Form.{Form}
+use Rattle.run_output.specs.declared.form.Form.TheVariants.{Text}
 use Rattle.bt_top.specs.declared.outcome.Outcome.{Outcome}
 use Rattle.bt_top.specs.declared.report.Report.{Report}
 use Rattle.bt_top.specs.declared.refusal.Operand.{Operand}
@@ -16,7 +18,7 @@ use Rattle.bt_top.specs.Doing.{ComesOfFiles, Wrote}
 use Rattle.bt_top.specs.Due.{IsDue}
 use Rattle.bt_top.specs.Jobs.{IsJobFor}
 use Rattle.bt_top.specs.Lines.{SinkUse, SinkFailed}
-use Rattle.bt_top.specs.Orders.{OperandFile, files_of}
+use Rattle.bt_top.specs.Orders.{OperandFile, files_of, form_of}
 use Rattle.bt_top.specs.Outcomes.{ComesTo, IsOutcomeOfRun, bytes_written, check_outcome, code_outcome, gen_outcome}
 use Rattle.bt_top.specs.Refusals.{status_of}
 use Rattle.bt_top.specs.Serve.{ShelfUse, ShelfFailed, AreContentsOf, MayCome, MayStandFor, ComesIfDue, OnTold, IsReached, ReadFailed, IsComplete}
@@ -42,7 +44,7 @@ nothing_is_due held (bytes ∷ contents) are = absurd are
 
 due : (held : List ℕ → Option (List ℕ)) (order : Order) (contents : List (List ℕ)) (outcome : Outcome) → AreContentsOf held (files_of order) contents
     → ComesTo order contents outcome → IsDue (files_of order) contents None
-due held (Run serial stats script recording) contents outcome are comes = job_is_due _ contents comes.0 comes.1
+due held (Run serial stats json script recording) contents outcome are comes = job_is_due _ contents comes.0 comes.1
 due held (Check script recording) contents outcome are comes = job_is_due _ contents comes.0 comes.1
 due held (Code script recording) contents outcome are comes = job_is_due _ contents comes.0 comes.1
 due held (Gen x n) contents outcome are comes = nothing_is_due held contents are
@@ -52,15 +54,16 @@ due held (Big x n) contents outcome are comes = nothing_is_due held contents are
 same_work : (outcome other : Outcome) → outcome ≡ other → IsSome outcome.work → IsSome other.work
 same_work outcome other is some = subst (λ (o : Outcome). IsSome o.work) is some
 
-ran : (serial : Bool) (job : Job) (rest : Work → List ℕ) (outcome : Outcome) → IsOutcomeOfRun serial job rest outcome → IsSome outcome.work
-ran serial job rest outcome run = subst (λ (o : Outcome). IsSome o.work) (sym run.is) refl
+ran : (form : Form) (serial : Bool) (job : Job) (rest : Work → List ℕ) (outcome : Outcome) → IsOutcomeOfRun form serial job rest outcome
+    → IsSome outcome.work
+ran form serial job rest outcome run = subst (λ (o : Outcome). IsSome o.work) (sym run.is) refl
 
 runs : (order : Order) (contents : List (List ℕ)) (outcome : Outcome) → ComesTo order contents outcome → IsSome outcome.work ↔ IsRunOrder order
-runs (Run serial stats script recording) contents outcome comes = (λ some. tt, λ is. ran serial comes.0 _ outcome comes.2)
+runs (Run serial stats json script recording) contents outcome comes = (λ some. tt, λ is. ran (form_of json) serial comes.0 _ outcome comes.2)
 runs (Check script recording) contents outcome comes = (λ some. absurd (false≢true (same_work outcome check_outcome comes.2 some)), λ is. absurd is)
 runs (Code script recording) contents outcome comes = (λ some. absurd (false≢true (same_work outcome (code_outcome comes.0) comes.2 some)), λ is. absurd is)
 runs (Gen x n) contents outcome comes = (λ some. absurd (false≢true (same_work outcome (gen_outcome comes.0) comes.2 some)), λ is. absurd is)
-runs (Big x n) contents outcome comes = (λ some. tt, λ is. ran false comes.0 _ outcome comes.2)
+runs (Big x n) contents outcome comes = (λ some. tt, λ is. ran Text false comes.0 _ outcome comes.2)
 
 module _ (order : Order) (seen : ShelfUse) (out : SinkUse) (outcome : Outcome) (performs : ComesOfFiles (files_of order) (ComesTo order) seen (Ok outcome)) where
   is_done : (refusal : Option Refusal) → IsWritten out refusal (bytes_written outcome) → IsDone order performs.reads.contents out (report_of refusal outcome)

@@ -19,6 +19,8 @@ use Rattle.bt_words.specs.declared.order.Order.TheVariants.{Run, Check, Code, Ge
 use Rattle.run_base.specs.declared.job.Job.{Job}
 use Rattle.run_base.specs.declared.job.Work.{Work}
 use Rattle.run_laws.specs.Reads.{ReadsSeeBeginnings}
+use Rattle.run_output.specs.declared.form.Form.{Form}
+use Rattle.run_output.specs.declared.form.Form.TheVariants.{Text}
 use Rattle.rec_format.specs.declared.recording.Recording.{Recording as Recorded}
 use Rattle.rec_format.specs.Recordings.{IsValidRecording}
 use Rattle.rec_gen.specs.Made.{IsMade}
@@ -31,7 +33,7 @@ use Rattle.bt_top.specs.Doing.{Wrote}
 use Rattle.bt_top.specs.Headline.{Headline, PrintsItsSteps, PrintsItsTotals, PrintsOfFiles}
 use Rattle.bt_top.specs.Jobs.{IsBigJob, meaning_of}
 use Rattle.bt_top.specs.Lines.{SinkUse}
-use Rattle.bt_top.specs.Orders.{files_of}
+use Rattle.bt_top.specs.Orders.{files_of, form_of}
 use Rattle.bt_top.specs.Outcomes.{ComesTo, IsOutcomeOfRun, bytes_written, stats_line, summary_line}
 use Rattle.bt_top.specs.Refusals.{status_of}
 use Rattle.bt_top.specs.Serve.{ShelfUse, AreContentsOf}
@@ -51,7 +53,7 @@ no_success Memory zero = omega (arith, zero)
 -- so nothing is promised of a call that is refused
 pub refused_headline : (order : Option Order) (seen : ShelfUse) (out : SinkUse) (refusal : Refusal) → Headline order seen out (refused_report refusal)
 refused_headline None seen out refusal = tt
-refused_headline (Some (Run serial stats script recording)) seen out refusal = λ zero. absurd (no_success refusal zero)
+refused_headline (Some (Run serial stats json script recording)) seen out refusal = λ zero. absurd (no_success refusal zero)
 refused_headline (Some (Check script recording)) seen out refusal = tt
 refused_headline (Some (Code script recording)) seen out refusal = tt
 refused_headline (Some (Gen x n)) seen out refusal = tt
@@ -76,9 +78,9 @@ pub record AreRunLaws : Type 0 where
       → EndsWithTotals script attached r steps
 
 module _ (laws : AreRunLaws) (seen : ShelfUse) (out : SinkUse) (outcome : Outcome) (refusal : Option Refusal) (wrote : Wrote out refusal (bytes_written outcome)) where
-  prints : (serial : Bool) (job : Job) (rest : Work → List ℕ) → IsJob job.typed job.attached job.recording → (run : IsOutcomeOfRun serial job rest outcome)
-      → status_of refusal ≡ 0 → PrintsItsSteps job (rest run.work) out run.work
-  prints serial job rest can run zero = record {
+  prints : (form : Form) (serial : Bool) (job : Job) (rest : Work → List ℕ) → IsJob job.typed job.attached job.recording
+      → (run : IsOutcomeOfRun form serial job rest outcome) → status_of refusal ≡ 0 → PrintsItsSteps form job (rest run.work) out run.work
+  prints form serial job rest can run zero = record {
     interleaving = run.done.replayed.interleaving;
     ticks = laws.ticks job.typed job.attached job.recording run.work.steps can run.done.replayed.interleaving;
     reads = laws.reads (meaning_of job) run.work.steps run.done.replayed.interleaving;
@@ -86,7 +88,7 @@ module _ (laws : AreRunLaws) (seen : ShelfUse) (out : SinkUse) (outcome : Outcom
         (subst (λ (o : Outcome). Appends out.taken out.taken_after (bytes_written o)) run.is (written_whole out refusal (bytes_written outcome) wrote zero));
   }
 
-  adds : (x n : ℕ) (job : Job) (of : IsBigJob x n job) (rest : Work → List ℕ) (run : IsOutcomeOfRun false job rest outcome)
+  adds : (x n : ℕ) (job : Job) (of : IsBigJob x n job) (rest : Work → List ℕ) (run : IsOutcomeOfRun Text false job rest outcome)
       → IsAddingRun job.typed job.attached job.recording run.work.steps
   adds x n job of rest run =
       let over = typed_over of.asks.tree job.recording job.attached job.typed of.asks.script.has of.asks.attached of.asks.typed in
@@ -100,13 +102,15 @@ module _ (laws : AreRunLaws) (seen : ShelfUse) (out : SinkUse) (outcome : Outcom
 
   pub done_headline : (order : Order) (contents : List (List ℕ)) → AreContentsOf seen.held (files_of order) contents → ComesTo order contents outcome
       → Headline (Some order) seen out (report_of refusal outcome)
-  done_headline (Run serial stats script recording) contents held comes = λ zero.
-      subst (λ (o : Outcome). IsSomeAnd o.work (PrintsOfFiles seen.held (files_of (Run serial stats script recording)) stats out)) (sym comes.2.is) (record {
+  done_headline (Run serial stats json script recording) contents held comes = λ zero.
+      subst (λ (o : Outcome). IsSomeAnd o.work (PrintsOfFiles (form_of json) seen.held (files_of (Run serial stats json script recording)) stats out))
+      (sym comes.2.is) (record {
         contents = contents;
         read = held;
         job = comes.0;
         accepted = comes.1;
-        prints = prints serial comes.0 (λ work. stats_line stats work.instructions) (can_run comes.0 laws.jobs (of_files _ contents comes.0 comes.1)) comes.2 zero;
+        prints = prints (form_of json) serial comes.0 (λ work. stats_line (form_of json) stats work.instructions)
+            (can_run comes.0 laws.jobs (of_files _ contents comes.0 comes.1)) comes.2 zero;
       })
   done_headline (Check script recording) contents held comes = tt
   done_headline (Code script recording) contents held comes = tt
@@ -115,7 +119,8 @@ module _ (laws : AreRunLaws) (seen : ShelfUse) (out : SinkUse) (outcome : Outcom
       subst (λ (o : Outcome). IsSomeAnd o.work (PrintsItsTotals x n out)) (sym comes.2.is) (record {
         job = comes.0;
         of = comes.1;
-        prints = prints false comes.0 (λ work. summary_line n (length work.steps)) (can_run comes.0 laws.jobs (of_numbers x n comes.0 comes.1)) comes.2 zero;
+        prints = prints Text false comes.0 (λ work. summary_line n (length work.steps))
+            (can_run comes.0 laws.jobs (of_numbers x n comes.0 comes.1)) comes.2 zero;
         totals = laws.totals comes.0.typed comes.0.attached comes.0.recording comes.2.work.steps
             (adds x n comes.0 comes.1 (λ work. summary_line n (length work.steps)) comes.2);
       })

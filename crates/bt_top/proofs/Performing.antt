@@ -6,6 +6,7 @@ use Rattle.rec_format.specs.declared.recording.Recording.{Recording as Recorded}
 use Rattle.rec_format.specs.Recordings.{recording_bytes}
 use Rattle.run_base.specs.declared.job.Job.{Job}
 use Rattle.run_base.specs.declared.job.Work.{Work}
+use Rattle.run_output.specs.declared.form.Form.{Form}
 use Rattle.bt_top.specs.declared.outcome.Outcome.{Outcome}
 use Rattle.bt_top.specs.declared.refusal.Refusal.TheVariants.{Memory}
 use Rattle.bt_top.specs.Doing.{ComesOfFiles}
@@ -17,9 +18,9 @@ use Rattle.bt_top.specs.Serve.{ShelfUse, AsksExactly, AsksFirst, ComesIfDue, IsC
 -- ---- outcomes
 
 -- the work of a job with what stands behind its text
-pub ran_with : (serial : Bool) (job : Job) (work : Work) (rest : Work → List ℕ) (line : List ℕ) → IsWorkOf serial job work → line ≡ rest work
-    → IsOutcomeOfRun serial job rest (run_outcome job work line)
-ran_with serial job work rest line done is = record { work = work; done = done; is = ap (λ (l : List ℕ). run_outcome job work l) is }
+pub ran_with : (form : Form) (serial : Bool) (job : Job) (work : Work) (rest : Work → List ℕ) (line : List ℕ) → IsWorkOf form serial job work
+    → line ≡ rest work → IsOutcomeOfRun form serial job rest (run_outcome job work line)
+ran_with form serial job work rest line done is = record { work = work; done = done; is = ap (λ (l : List ℕ). run_outcome job work l) is }
 
 -- the bytes of a recording, with no programs
 pub made_with : (says : Recorded) (programs : List Program) (rest : List ℕ) → programs ≡ [] → rest ≡ recording_bytes says

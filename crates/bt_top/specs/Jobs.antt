@@ -8,7 +8,6 @@ use Rattle.bt_core.specs.declared.step.ObjectId.{ObjectId}
 use Rattle.bt_core.specs.Steps.{on_object}
 use Rattle.bt_meaning.specs.Instructions.{instructions_of}
 use Rattle.bt_meaning.specs.Interleavings.{IsReplayed}
-use Rattle.bt_meaning.specs.Prints.{printed_text}
 use Rattle.bt_meaning.specs.Replays.{Replay, cpus_of}
 use Rattle.bt_meaning.specs.Serial.{serial_steps, unstamped}
 use Rattle.bt_meaning.specs.Walks.{replay_of}
@@ -18,6 +17,8 @@ use Rattle.rec_format.specs.Recordings.{IsValidRecording}
 use Rattle.rec_gen.specs.Made.{IsMade}
 use Rattle.run_base.specs.declared.job.Job.{Job}
 use Rattle.run_base.specs.declared.job.Work.{Work}
+use Rattle.run_output.specs.declared.form.Form.{Form}
+use Rattle.run_output.specs.Outputs.{output_of}
 use Rattle.script_programs.specs.Programs.{AreCodesOf, KeepScript}
 use Rattle.script_programs.specs.Sizes.{first_size_fault}
 use Rattle.bt_top.specs.Due.{AreShort, IsRecording, IsAcceptedScript}
@@ -63,16 +64,17 @@ abbrev pub meaning_of : Job → Replay
 meaning_of job = replay_of job.typed job.attached job.recording
 
 -- The work of a run on one thread: at each object its steps are those of the serial list, in its order, and its text is what the script
--- prints under the serial list.
-pub record IsSerialWork (job : Job) (work : Work) : Type 0 where
+-- prints under the serial list, in the form.
+pub record IsSerialWork (form : Form) (job : Job) (work : Work) : Type 0 where
   pub serial : (object : ObjectId) → map unstamped (on_object object work.steps) ≡ on_object object (serial_steps (meaning_of job))
-  pub printed : work.text ≡ printed_text job.typed (cpus_of (meaning_of job)) (serial_steps (meaning_of job))
+  pub printed : work.text ≡ output_of form job.typed (cpus_of (meaning_of job)) (serial_steps (meaning_of job))
 
--- The work of a job. Its steps are an interleaving in the order of their stamps; its text is what the script prints under them; its
--- instructions are those that the code of the job's programs takes under them; and it is that of a run on one thread where it was one.
-pub record IsWorkOf (serial : Bool) (job : Job) (work : Work) : Type 0 where
+-- The work of a job. Its steps are an interleaving in the order of their stamps; its text is what the script prints under them, in the
+-- form; its instructions are those that the code of the job's programs takes under them; and it is that of a run on one thread where it
+-- was one.
+pub record IsWorkOf (form : Form) (serial : Bool) (job : Job) (work : Work) : Type 0 where
   pub replayed : IsReplayed (meaning_of job) work.steps
-  pub printed : work.text ≡ printed_text job.typed (cpus_of (meaning_of job)) work.steps
+  pub printed : work.text ≡ output_of form job.typed (cpus_of (meaning_of job)) work.steps
   pub instructions : (codes : List (List Insn)) → AreCodesOf job.programs codes
       → work.instructions ≡ instructions_of (code_replay job.typed codes job.attached job.recording) work.steps
-  pub on_one_thread : serial ≡ true → IsSerialWork job work
+  pub on_one_thread : serial ≡ true → IsSerialWork form job work

@@ -7,12 +7,15 @@ use Rattle.bt_words.specs.declared.order.Order.TheVariants.{Run, Check, Code, Ge
 use Rattle.rec_format.specs.declared.recording.Recording.{Recording as Recorded}
 use Rattle.rec_format.specs.Recordings.{recording_bytes}
 use Rattle.rec_gen.specs.Made.{IsMade}
+use Rattle.json_out.specs.Lines.{stats_line as json_stats_line}
 use Rattle.run_base.specs.declared.job.Job.{Job}
 use Rattle.run_base.specs.declared.job.Work.{Work}
+use Rattle.run_output.specs.declared.form.Form.{Form}
+use Rattle.run_output.specs.declared.form.Form.TheVariants.{Text, Json}
 use Rattle.bt_top.specs.declared.outcome.Outcome.{Outcome}
 use Rattle.bt_top.specs.Jobs.{IsBigJob, IsJobFor, IsWorkOf}
 use Rattle.bt_top.specs.Listings.{script_listing}
-use Rattle.bt_top.specs.Orders.{on_script}
+use Rattle.bt_top.specs.Orders.{form_of, on_script}
 
 -- ---- outcomes
 
@@ -40,10 +43,15 @@ code_outcome job = record { work = None; programs = job.programs; rest = script_
 abbrev pub gen_outcome : Recorded → Outcome
 gen_outcome made = record { work = None; programs = []; rest = recording_bytes made }
 
--- the line of instructions behind the text of a run, where it is asked for
-abbrev pub stats_line : Bool → ℕ → List ℕ
-stats_line false instructions = []
-stats_line true instructions = codes "instructions: " ++ decimal instructions ++ codes "\n"
+-- the line of instructions: of a text, or a JSON line
+abbrev pub instructions_line : Form → ℕ → List ℕ
+instructions_line Text instructions = codes "instructions: " ++ decimal instructions ++ codes "\n"
+instructions_line Json instructions = json_stats_line instructions
+
+-- it stands behind what a run prints, where it is asked for
+abbrev pub stats_line : Form → Bool → ℕ → List ℕ
+stats_line form false instructions = []
+stats_line form true instructions = instructions_line form instructions
 
 -- the line behind the text of a large run: how many events were asked for, and how many steps were made
 abbrev pub summary_line : ℕ → ℕ → List ℕ
@@ -51,19 +59,20 @@ summary_line events steps = codes "summary: " ++ decimal events ++ codes " event
 
 -- ---- what each order comes to
 
--- a run of a job, behind whose text this stands
-pub record IsOutcomeOfRun (serial : Bool) (job : Job) (rest : Work → List ℕ) (outcome : Outcome) : Type 0 where
+-- a run of a job in a form, behind whose text this stands
+pub record IsOutcomeOfRun (form : Form) (serial : Bool) (job : Job) (rest : Work → List ℕ) (outcome : Outcome) : Type 0 where
   pub work : Work
-  pub done : IsWorkOf serial job work
+  pub done : IsWorkOf form serial job work
   pub is : outcome ≡ run_outcome job work (rest work)
 
--- what an order comes to, over files with these contents: `run` to a run of their job, with the line of instructions behind its text where
--- it is asked for; `check` to `ok`; `code` to the listing of their job; `gen` to the recording of its two numbers; and `big` to a run on
--- threads of the built-in script over that recording, with the line of its events and steps behind its text
+-- what an order comes to, over files with these contents: `run` to a run of their job in the form that is asked for, with the line of
+-- instructions behind its text where it is asked for; `check` to `ok`; `code` to the listing of their job; `gen` to the recording of its two
+-- numbers; and `big` to a run on threads of the built-in script over that recording, as text, with the line of its events and steps behind it
 abbrev pub ComesTo : Order → List (List ℕ) → Outcome → Type 0
-ComesTo (Run serial stats script recording) contents outcome =
-    (job : Job) × IsJobFor (on_script script recording) contents job × IsOutcomeOfRun serial job (λ work. stats_line stats work.instructions) outcome
+ComesTo (Run serial stats json script recording) contents outcome =
+    (job : Job) × IsJobFor (on_script script recording) contents job
+    × IsOutcomeOfRun (form_of json) serial job (λ work. stats_line (form_of json) stats work.instructions) outcome
 ComesTo (Check script recording) contents outcome = (job : Job) × IsJobFor (on_script script recording) contents job × (outcome ≡ check_outcome)
 ComesTo (Code script recording) contents outcome = (job : Job) × IsJobFor (on_script script recording) contents job × (outcome ≡ code_outcome job)
 ComesTo (Gen x n) contents outcome = (made : Recorded) × IsMade x n made × (outcome ≡ gen_outcome made)
-ComesTo (Big x n) contents outcome = (job : Job) × IsBigJob x n job × IsOutcomeOfRun false job (λ work. summary_line n (length work.steps)) outcome
+ComesTo (Big x n) contents outcome = (job : Job) × IsBigJob x n job × IsOutcomeOfRun Text false job (λ work. summary_line n (length work.steps)) outcome

@@ -157,7 +157,7 @@ recording_pieces (recording.Fault error) = Text (codes ": ") ∷ fault_pieces er
 -- what is told of words that break the rule: how the program is used
 abbrev pub usage_pieces : List Piece
 usage_pieces =
-    Text (codes "usage: btreplay run [--serial] [--stats] SCRIPT RECORDING\n")
+    Text (codes "usage: btreplay run [--serial] [--stats] [--json] SCRIPT RECORDING\n")
     ∷ Text (codes "       btreplay check SCRIPT RECORDING\n")
     ∷ Text (codes "       btreplay code SCRIPT RECORDING\n")
     ∷ Text (codes "       btreplay gen X N\n")

@@ -154,7 +154,7 @@ AnswersWords (Some order) shelf out report = AnswersOrder order shelf out report
 
 -- work is there after a whole run, and after one whose text was not wholly written
 abbrev pub IsRunOrder : Order → Type 0
-IsRunOrder (Run serial stats script recording) = Unit {0}
+IsRunOrder (Run serial stats json script recording) = Unit {0}
 IsRunOrder (Check script recording) = ⊥
 IsRunOrder (Code script recording) = ⊥
 IsRunOrder (Gen x n) = ⊥

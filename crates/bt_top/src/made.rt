@@ -20,6 +20,7 @@ use rec_format::recording::Recording;
 use rec_format::writing::write_recording;
 use rec_gen::generate::generate;
 use run_base::job::Job;
+use run_output::form::Form;
 use std::alloc::Global;
 use std::sync::Wait;
 use std::thread::Threads;
@@ -93,7 +94,7 @@ pub(crate) fn big_outcome<G: Gate + Sync, R: Threads + Wait + Sync>(
     ensures memory { IfErr result (λ refusal. refusal ≡ Refusal.Memory) }
 {
     let job = big_job(alloc, x, n)?;
-    let work = run(rt, alloc, false, &job, gate)?;
+    let work = run(rt, alloc, Form::Text, false, &job, gate)?;
     let rest = summary_line(alloc, n, work.steps.len())?;
     Ok(Outcome {
         work: Some(work),

@@ -14,7 +14,7 @@ use bt_io::sink::{Sink, SinkFailed, write_all};
 use run_base::job::Work;
 
 /// What an order comes to where nothing is refused: the work of a run, the programs that were run or listed, and the bytes that are written
-/// behind the text of the work.
+/// behind the text of the work, which are JSON lines where these are asked for.
 #[derive(Drop)]
 pub(crate) struct Outcome {
     pub work: Option<Work>,

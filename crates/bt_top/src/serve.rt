@@ -68,24 +68,26 @@ fn perform<S: Shelf, K: Sink, G: Gate + Sync, R: Threads + Wait + Sync>(
     reported(outcome, refusal)
 }
 
-/// Does what the words ask for. `run SCRIPT RECORDING` runs the script over the recording, with each recorded CPU on a thread of its
-/// own, and writes what it prints to `out`; `run --serial SCRIPT RECORDING` takes the items of all CPUs one after the other, on one
-/// thread; with `--stats` the line `instructions: N` stands behind the text, with the number of instructions that were executed.
-/// `check SCRIPT RECORDING` does all of a run up to the code, and writes `ok` and a newline. `code SCRIPT RECORDING` writes the listing
-/// of the programs: for each body the line `probe P K`, P the number of its probe from 0, K one of `BEGIN`, `END`, `interval` and
-/// `tracepoint:S:E`, and then a line for each slot. `gen X N` writes the bytes of the recording of the seed X and of N events. `big X N`
-/// runs the built-in script over this recording, with each CPU on a thread of its own, and writes its text and behind it the line
-/// `summary: N events, M steps`, M the length of the list of steps.
+/// Does what the words ask for. `run SCRIPT RECORDING` runs the script over the recording, with each recorded CPU on a
+/// thread of its own, and writes what it prints to `out`; `run --serial SCRIPT RECORDING` takes the items of all CPUs
+/// one after the other, on one thread; with `--stats` the line `instructions: N` stands behind the text, with the
+/// number of instructions that were executed. With `--json` it writes JSON lines in place of the text, and of that
+/// line. `check SCRIPT RECORDING` does all of a run up to the code, and writes `ok` and a newline. `code SCRIPT
+/// RECORDING` writes the listing of the programs: for each body the line `probe P K`, P the number of its probe from 0,
+/// K one of `BEGIN`, `END`, `interval` and `tracepoint:S:E`, and then a line for each slot. `gen X N` writes the bytes
+/// of the recording of the seed X and of N events. `big X N` runs the built-in script over this recording, with each
+/// CPU on a thread of its own, and writes its text and behind it the line `summary: N events, M steps`, M the length of
+/// the list of steps.
 ///
-/// The programs of the script, one for each body in the order of the bodies, are handed back by `run`, `code` and `big`. Each keeps its body:
-/// its code makes the calls of the body's walk, and ends where the walk ends.
+/// The programs of the script, one for each body in the order of the bodies, are handed back by `run`, `code` and
+/// `big`. Each keeps its body: its code makes the calls of the body's walk, and ends where the walk ends.
 ///
-/// The work that is handed back has all steps of the run in one list. It is an interleaving: `BEGIN` makes its steps first and
-/// `END` last, in between each CPU makes its whole program in its order, and each reply follows from the steps before it. The
-/// bytes written are what the script's own meaning prints under this list.
+/// The work that is handed back has all steps of the run in one list. It is an interleaving: `BEGIN` makes its steps
+/// first and `END` last, in between each CPU makes its whole program in its order, and each reply follows from the
+/// steps before it. The bytes written are what the script's own meaning prints under this list.
 ///
-/// The gate is told of each step while it is made, and may hold it up; a run on threads takes it, and nothing else does. A run on
-/// threads may wait for others at the locks of its objects.
+/// The gate is told of each step while it is made, and may hold it up; a run on threads takes it, and nothing else
+/// does. A run on threads may wait for others at the locks of its objects.
 ///
 /// Refusals come in the order words, script read, recording read, recording, lexing, parsing, attaching,
 /// typing, frame and code, run, write. A file that is too long is refused at its read. A recording is refused with
@@ -125,8 +127,8 @@ pub fn serve<S: Shelf, K: Sink, E: Sink, G: Gate + Sync, R: Threads + Wait + Syn
     ensures worked { IsSome result.work ↔ HasWork result.refusal (order_of words.now) }
 
     // The headline: where `run` or `big` ends with status 0, the bytes written are exactly those that the script's own meaning prints under
-    // the interleaving handed back with them, and the line of instructions where it is asked for. Behind the text of `big`, which ends with
-    // exactly the totals of its maps, stands the line that tells its events and steps.
+    // the interleaving handed back with them, as text or, with `--json`, as JSON lines, and the line of instructions where it is asked for.
+    // Behind the text of `big`, which ends with exactly the totals of its maps, stands the line that tells its events and steps.
     ensures headline { Headline (order_of words.now) (shelf_use S.held S.faults S.asked shelf.old shelf.new)
         (sink_use K.taken K.faults out.old out.new) result }
 

@@ -4,8 +4,8 @@ ghost use Rattle.bt_meaning.specs.Jobs.{IsJob};
 ghost use Rattle.bt_words.specs.Words.{HasBounds};
 ghost use Rattle.script_programs.specs.Programs.{KeepScript};
 ghost use Rattle.bt_top.specs.Doing.{ComesOfFiles};
-ghost use Rattle.bt_top.specs.Orders.{files_of};
-ghost use Rattle.bt_top.specs.Outcomes.{ComesTo, IsOutcomeOfRun, check_outcome, code_outcome, stats_line};
+ghost use Rattle.bt_top.specs.Orders.{files_of, form_of};
+ghost use Rattle.bt_top.specs.Outcomes.{ComesTo, IsOutcomeOfRun, check_outcome, code_outcome, instructions_line, stats_line};
 ghost use Rattle.bt_top.specs.Serve.{shelf_use};
 
 use crate::files::read_job;
@@ -20,30 +20,62 @@ use bt_io::shelf::Shelf;
 use bt_words::order::Order;
 use itoa::Buffer;
 use run_base::job::Job;
+use run_output::form::Form;
 use std::alloc::Global;
 use std::sync::Wait;
 use std::thread::Threads;
 use turn_lock::gate::Gate;
 
-/// The line of instructions, where it is asked for.
-fn stats_line(alloc: Global, stats: bool, instructions: u64) -> Result<Items<u8>, Memory>
-    ensures { IfOk result (λ line. line ≡ stats_line stats instructions) }
+/// The form that is asked for: JSON lines, or text.
+fn form_of(json: bool) -> Form
+    ensures { result ≡ form_of json }
+{
+    if json { Form::Json } else { Form::Text }
+}
+
+/// The line of instructions behind a text.
+fn text_line(alloc: Global, instructions: u64) -> Result<Vec<u8>, Memory>
+    ensures { IfOk result (λ line. line.items ≡ instructions_line Form.Text instructions) }
 {
     let mut line = Vec::new(alloc);
-    if !stats {
-        return Ok(Items::of(line));
-    }
     let mut buffer = Buffer::new();
     line.extend_from_slice(b"instructions: ")?;
     line.extend_from_slice(buffer.format(instructions).as_bytes())?;
     line.extend_from_slice(b"\n")?;
+    Ok(line)
+}
+
+/// The line of instructions in a form.
+fn instructions_line(alloc: Global, form: Form, instructions: u64) -> Result<Vec<u8>, Memory>
+    ensures { IfOk result (λ line. line.items ≡ instructions_line form instructions) }
+{
+    match form {
+        Form::Text => text_line(alloc, instructions),
+        Form::Json => json_out::ends::stats_line(alloc, instructions),
+    }
+}
+
+/// The line of instructions in a form, where it is asked for.
+fn stats_line(
+    alloc: Global,
+    form: Form,
+    stats: bool,
+    instructions: u64,
+) -> Result<Items<u8>, Memory>
+    ensures { IfOk result (λ line. line ≡ stats_line form stats instructions) }
+{
+    if !stats {
+        return Ok(Items::new(alloc));
+    }
+    let line = instructions_line(alloc, form, instructions)?;
     Ok(Items::of(line))
 }
 
-/// Runs a job. The line of instructions stands behind its text, where it is asked for.
+/// Runs a job. What it prints comes in the form, and so does the line of instructions behind it, where it is asked for.
 fn run_outcome<G: Gate + Sync, R: Threads + Wait + Sync>(
     rt: &R,
     alloc: Global,
+    form: Form,
     serial: bool,
     stats: bool,
     job: Job,
@@ -51,10 +83,10 @@ fn run_outcome<G: Gate + Sync, R: Threads + Wait + Sync>(
 ) -> Result<Outcome, Memory>
     requires job { IsJob job.typed job.attached job.recording }
     requires programs { KeepScript job.typed job.programs }
-    ensures { IfOk result (IsOutcomeOfRun serial job (λ work. stats_line stats work.instructions)) }
+    ensures { IfOk result (IsOutcomeOfRun form serial job (λ work. stats_line form stats work.instructions)) }
 {
-    let work = run(rt, alloc, serial, &job, gate)?;
-    let rest = stats_line(alloc, stats, work.instructions)?;
+    let work = run(rt, alloc, form, serial, &job, gate)?;
+    let rest = stats_line(alloc, form, stats, work.instructions)?;
     Ok(Outcome {
         work: Some(work),
         programs: job.programs,
@@ -103,11 +135,13 @@ pub(crate) fn outcome_of<S: Shelf, G: Gate + Sync, R: Threads + Wait + Sync>(
         Order::Run {
             serial,
             stats,
+            json,
             script,
             recording,
         } => {
             let job = read_job(alloc, script.as_str(), recording.as_str(), shelf)?;
-            Ok(run_outcome(rt, alloc, *serial, *stats, job, gate)?)
+            let form = form_of(*json);
+            Ok(run_outcome(rt, alloc, form, *serial, *stats, job, gate)?)
         }
         Order::Check { script, recording } => {
             read_job(alloc, script.as_str(), recording.as_str(), shelf)?;

@@ -115,6 +115,7 @@ fn operand_name(order: &Order, operand: Operand) -> &str
         Order::Run {
             serial: _,
             stats: _,
+            json: _,
             script,
             recording,
         } => one_of(script, recording, operand),
@@ -293,7 +294,7 @@ fn tell_script<E: Sink>(err: &mut E, name: &str, why: ScriptRefusal)
 pub(crate) fn tell_usage<E: Sink>(err: &mut E)
     ensures { Writes (sink_use E.taken E.faults err.old err.new) usage_pieces }
 {
-    let run = Piece::Text("usage: btreplay run [--serial] [--stats] SCRIPT RECORDING\n");
+    let run = Piece::Text("usage: btreplay run [--serial] [--stats] [--json] SCRIPT RECORDING\n");
     let check = Piece::Text("       btreplay check SCRIPT RECORDING\n");
     let code = Piece::Text("       btreplay code SCRIPT RECORDING\n");
     let made = Piece::Text("       btreplay gen X N\n");

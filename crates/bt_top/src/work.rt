@@ -7,27 +7,29 @@ ghost use Rattle.bt_top.specs.Jobs.{IsWorkOf};
 use bt_core::memory::Memory;
 use bt_run::run::run_serial;
 use run_base::job::{Job, Work};
+use run_output::form::Form;
 use std::alloc::Global;
 use std::sync::Wait;
 use std::thread::Threads;
 use thread_run::run::run_threads;
 use turn_lock::gate::Gate;
 
-/// Runs a job: on one thread, or with each CPU on a thread of its own.
+/// Runs a job: on one thread, or with each CPU on a thread of its own. What it prints comes in the form.
 pub(crate) fn run<G: Gate + Sync, R: Threads + Wait + Sync>(
     rt: &R,
     alloc: Global,
+    form: Form,
     serial: bool,
     job: &Job,
     gate: &G,
 ) -> Result<Work, Memory>
     requires job { IsJob job.now.typed job.now.attached job.now.recording }
     requires programs { KeepScript job.now.typed job.now.programs }
-    ensures { IfOk result (IsWorkOf serial job.now) }
+    ensures { IfOk result (IsWorkOf form serial job.now) }
 {
     if serial {
-        run_serial(alloc, job)
+        run_serial(alloc, form, job)
     } else {
-        run_threads(rt, alloc, job, gate)
+        run_threads(rt, alloc, form, job, gate)
     }
 }

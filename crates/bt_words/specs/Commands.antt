@@ -25,8 +25,9 @@ abbrev pub two_app : Text → App
 two_app name = with_operands (plain_app name) (codes "first") (codes "second")
 
 abbrev pub run_app : App
-run_app = with_operands (with_rule (with_rule (plain_app (codes "run")) (flag_rule (codes "serial"))) (flag_rule (codes "stats")))
-    (codes "script") (codes "recording")
+run_app =
+    with_operands (with_rule (with_rule (with_rule (plain_app (codes "run")) (flag_rule (codes "serial"))) (flag_rule (codes "stats")))
+    (flag_rule (codes "json"))) (codes "script") (codes "recording")
 
 -- what a command of two operands takes
 abbrev pub AreTwoOperands : List Text → Type 0

@@ -28,10 +28,18 @@ is_serial word = bytes_eq word (codes "--serial")
 abbrev pub is_stats : List ℕ → Bool
 is_stats word = bytes_eq word (codes "--stats")
 
--- behind `run`: operands, and both options, each at most once
+abbrev pub is_json : List ℕ → Bool
+is_json word = bytes_eq word (codes "--json")
+
+-- behind `run`: operands, and its options
+abbrev pub has_place_in_run : List ℕ → Bool
+has_place_in_run word = is_operand word || (is_serial word || (is_stats word || is_json word))
+
+-- each option at most once
 abbrev pub are_run_words : List (List ℕ) → Bool
 are_run_words words =
-    list_all (λ w. is_operand w || (is_serial w || is_stats w)) words && (nat_le (count_by is_serial words) 1 && nat_le (count_by is_stats words) 1)
+    list_all has_place_in_run words
+    && (nat_le (count_by is_serial words) 1 && (nat_le (count_by is_stats words) 1 && nat_le (count_by is_json words) 1))
 
 -- the number that 1 to 10 decimal digits spell, if it is at most so great
 abbrev pub number_in : ℕ → List ℕ → Option ℕ
@@ -57,7 +65,8 @@ two_numbers made x n = numbers made (number_in 2147483647 x) (number_in EVENTS n
 abbrev pub run_order : List (List ℕ) → Option Order
 run_order words =
     if are_run_words words
-    then of_two (λ script recording. Some (Run (nat_le 1 (count_by is_serial words)) (nat_le 1 (count_by is_stats words)) script recording)) (filter is_operand words)
+    then of_two (λ script recording. Some (Run (nat_le 1 (count_by is_serial words)) (nat_le 1 (count_by is_stats words))
+    (nat_le 1 (count_by is_json words)) script recording)) (filter is_operand words)
     else None
 
 -- the order of a command that takes no options

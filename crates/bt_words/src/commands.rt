@@ -6,13 +6,14 @@ ghost use Rattle.bt_words.specs.Commands.{flag_rule, operand_rule, plain_app, ru
 use clap::{Arg, ArgAction, Command};
 use std::alloc::{AllocError, Global};
 
-/// `run`, with both options.
+/// `run`, with its three options.
 pub(crate) fn run_command<'a>(alloc: Global) -> Result<Command<'a>, AllocError>
     ensures { IfOk result (λ command. app_of command ≡ run_app) }
 {
     let serial = flag(alloc, "serial");
     let stats = flag(alloc, "stats");
-    let command = plain_command(alloc, "run").arg(serial)?.arg(stats)?;
+    let json = flag(alloc, "json");
+    let command = plain_command(alloc, "run").arg(serial)?.arg(stats)?.arg(json)?;
     with_operands(alloc, command, "script", "recording")
 }
 

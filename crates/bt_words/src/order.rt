@@ -44,10 +44,11 @@ impl FileName {
 #[derive(Debug, Drop)]
 pub enum Order {
     /// To run a script over a recording: on one thread, or on threads; with or without the number of
-    /// instructions.
+    /// instructions; and to write what it prints as JSON lines, or as text.
     Run {
         serial: bool,
         stats: bool,
+        json: bool,
         script: FileName,
         recording: FileName,
     },

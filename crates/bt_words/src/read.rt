@@ -12,8 +12,8 @@ use clap::{ArgMatches, Command};
 use std::alloc::Global;
 
 /// What words ask for. The first is the command; behind it stand options and operands in any order,
-/// none of them empty. Options begin with `-`: `run` takes `--serial` and `--stats`, each once. The numbers of
-/// `gen` and `big` are at most 2,147,483,647 and the limit of events.
+/// none of them empty. Options begin with `-`: `run` takes `--serial`, `--stats` and `--json`, each once. The
+/// numbers of `gen` and `big` are at most 2,147,483,647 and the limit of events.
 ///
 /// # Errors
 ///
@@ -53,6 +53,7 @@ fn run_order(alloc: Global, words: &[String]) -> Result<Order, WordsError>
     Ok(Order::Run {
         serial: matches.get_flag("serial"),
         stats: matches.get_flag("stats"),
+        json: matches.get_flag("json"),
         script: FileName::of(alloc, script)?,
         recording: FileName::of(alloc, recording)?,
     })

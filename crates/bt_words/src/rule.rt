@@ -3,7 +3,7 @@ ghost use Rattle.std.specs.Prelude.{◌≡◌, ◌||◌, ℕ, codes, count_by, f
 ghost use Rattle.std.specs.List.{list_all, list_any};
 ghost use Rattle.std.specs.Str.{bytes_eq};
 ghost use Rattle.bt_words.specs.declared.order.Order.{Order};
-ghost use Rattle.bt_words.specs.Words.{is_empty, is_operand, is_serial, is_stats, of_two, order_by, order_of, two_numbers};
+ghost use Rattle.bt_words.specs.Words.{has_place_in_run, is_empty, is_operand, of_two, order_by, order_of, two_numbers};
 
 use crate::number::two_numbers;
 
@@ -39,6 +39,7 @@ fn are_run_words(words: &[String]) -> bool
     have_place_in_run(words)
         && count(words, "--serial") <= 1
         && count(words, "--stats") <= 1
+        && count(words, "--json") <= 1
         && count_operands(words) == 2
 }
 
@@ -96,14 +97,14 @@ fn are_operands(words: &[String]) -> bool
 
 /// Whether a word may stand behind `run`.
 fn has_place_in_run(word: &str) -> bool
-    ensures { result ≡ (is_operand word.now || (is_serial word.now || is_stats word.now)) }
+    ensures { result ≡ has_place_in_run word.now }
 {
-    is_operand(word) || word == "--serial" || word == "--stats"
+    is_operand(word) || word == "--serial" || word == "--stats" || word == "--json"
 }
 
 /// Whether all words may stand behind `run`, however often.
 fn have_place_in_run(words: &[String]) -> bool
-    ensures { result ≡ list_all (λ w. is_operand w || (is_serial w || is_stats w)) (map string_bytes words.now) }
+    ensures { result ≡ list_all has_place_in_run (map string_bytes words.now) }
 {
     for word in words {
         if !has_place_in_run(word.as_str()) {

@@ -15,7 +15,8 @@ pub struct Job {
     pub programs: Items<Program>,
 }
 
-/// What a run makes: its steps as one woven list, the text that they print, and how many instructions were executed.
+/// What a run makes: its steps as one woven list, the text that they print, or their JSON lines where these were asked
+/// for, and how many instructions were executed.
 #[derive(Debug, Drop)]
 pub struct Work {
     pub steps: Woven,

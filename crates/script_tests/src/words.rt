@@ -12,39 +12,48 @@ fn words_of(alloc: Global, texts: &[&str]) -> Result<Vec<String>, AllocError> {
     Ok(words)
 }
 
-/// Each arrangement of the options and of two operands behind `run`, with whether `--serial` and
-/// `--stats` stand in it.
-const RUNS: [(&[&str], bool, bool); 19] = [
-    (&["run", "a", "b"], false, false),
-    (&["run", "--serial", "a", "b"], true, false),
-    (&["run", "a", "--serial", "b"], true, false),
-    (&["run", "a", "b", "--serial"], true, false),
-    (&["run", "--stats", "a", "b"], false, true),
-    (&["run", "a", "--stats", "b"], false, true),
-    (&["run", "a", "b", "--stats"], false, true),
-    (&["run", "--serial", "--stats", "a", "b"], true, true),
-    (&["run", "--serial", "a", "--stats", "b"], true, true),
-    (&["run", "--serial", "a", "b", "--stats"], true, true),
-    (&["run", "a", "--serial", "--stats", "b"], true, true),
-    (&["run", "a", "--serial", "b", "--stats"], true, true),
-    (&["run", "a", "b", "--serial", "--stats"], true, true),
-    (&["run", "--stats", "--serial", "a", "b"], true, true),
-    (&["run", "--stats", "a", "--serial", "b"], true, true),
-    (&["run", "--stats", "a", "b", "--serial"], true, true),
-    (&["run", "a", "--stats", "--serial", "b"], true, true),
-    (&["run", "a", "--stats", "b", "--serial"], true, true),
-    (&["run", "a", "b", "--stats", "--serial"], true, true),
+/// Each arrangement of `--serial`, `--stats` and two operands behind `run`, and some with `--json`, with whether each
+/// of the three stands in it.
+const RUNS: [(&[&str], bool, bool, bool); 27] = [
+    (&["run", "a", "b"], false, false, false),
+    (&["run", "--serial", "a", "b"], true, false, false),
+    (&["run", "a", "--serial", "b"], true, false, false),
+    (&["run", "a", "b", "--serial"], true, false, false),
+    (&["run", "--stats", "a", "b"], false, true, false),
+    (&["run", "a", "--stats", "b"], false, true, false),
+    (&["run", "a", "b", "--stats"], false, true, false),
+    (&["run", "--serial", "--stats", "a", "b"], true, true, false),
+    (&["run", "--serial", "a", "--stats", "b"], true, true, false),
+    (&["run", "--serial", "a", "b", "--stats"], true, true, false),
+    (&["run", "a", "--serial", "--stats", "b"], true, true, false),
+    (&["run", "a", "--serial", "b", "--stats"], true, true, false),
+    (&["run", "a", "b", "--serial", "--stats"], true, true, false),
+    (&["run", "--stats", "--serial", "a", "b"], true, true, false),
+    (&["run", "--stats", "a", "--serial", "b"], true, true, false),
+    (&["run", "--stats", "a", "b", "--serial"], true, true, false),
+    (&["run", "a", "--stats", "--serial", "b"], true, true, false),
+    (&["run", "a", "--stats", "b", "--serial"], true, true, false),
+    (&["run", "a", "b", "--stats", "--serial"], true, true, false),
+    (&["run", "--json", "a", "b"], false, false, true),
+    (&["run", "a", "--json", "b"], false, false, true),
+    (&["run", "a", "b", "--json"], false, false, true),
+    (&["run", "--json", "--serial", "a", "b"], true, false, true),
+    (&["run", "a", "--stats", "--json", "b"], false, true, true),
+    (&["run", "--serial", "a", "--json", "b", "--stats"], true, true, true),
+    (&["run", "a", "b", "--json", "--stats", "--serial"], true, true, true),
+    (&["run", "--stats", "--serial", "--json", "a", "b"], true, true, true),
 ];
 
 #[test]
 fn options_stand_anywhere(rt: HostRuntime) -> Result<(), Fail> {
     let alloc = rt.alloc();
-    for (texts, has_serial, has_stats) in RUNS {
+    for (texts, has_serial, has_stats, has_json) in RUNS {
         let words = words_of(alloc, texts)?;
         let Ok(
             Order::Run {
                 serial,
                 stats,
+                json,
                 script,
                 recording,
             },
@@ -52,7 +61,7 @@ fn options_stand_anywhere(rt: HostRuntime) -> Result<(), Fail> {
         else {
             return Err(Fail::from("no run"));
         };
-        assert_eq!(rt; (serial, stats), (has_serial, has_stats), "{texts:?}");
+        assert_eq!(rt; (serial, stats, json), (has_serial, has_stats, has_json), "{texts:?}");
         assert!(rt;
             script.as_str() == "a" && recording.as_str() == "b",
             "{texts:?}"
@@ -112,7 +121,7 @@ fn numbers_reach_their_limits(rt: HostRuntime) -> Result<(), Fail> {
 }
 
 /// Words that break the rule.
-const REFUSED: [&[&str]; 42] = [
+const REFUSED: [&[&str]; 49] = [
     &[],
     &[""],
     &["help"],
@@ -139,6 +148,9 @@ const REFUSED: [&[&str]; 42] = [
     &["run", "--serial=1", "a", "b"],
     &["run", "--serial=", "a", "b"],
     &["run", "--seri", "a", "b"],
+    &["run", "--json=1", "a", "b"],
+    &["run", "--JSON", "a", "b"],
+    &["run", "--json", "a"],
     &["run", "-", "a"],
     &["run", "-", "a", "b"],
     &["run", "a", "-b"],
@@ -146,9 +158,13 @@ const REFUSED: [&[&str]; 42] = [
     &["run", "--serial", "--serial", "a", "b"],
     &["run", "--stats", "a", "b", "--stats"],
     &["run", "--serial", "a", "--stats", "b", "--serial"],
+    &["run", "--json", "--json", "a", "b"],
+    &["run", "--json", "a", "--serial", "b", "--json"],
     &["check", "--serial", "a", "b"],
     &["code", "a", "b", "--stats"],
     &["gen", "--stats", "1", "2"],
+    &["check", "--json", "a", "b"],
+    &["big", "1", "2", "--json"],
     // empty words
     &["run", "", "a", "b"],
     &["run", "a", ""],

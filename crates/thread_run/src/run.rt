@@ -4,7 +4,6 @@ ghost use Rattle.bpf_insn.specs.declared.insn.Insn.{Insn};
 ghost use Rattle.bt_meaning.specs.Instructions.{instructions_of};
 ghost use Rattle.bt_meaning.specs.Interleavings.{IsReplayed};
 ghost use Rattle.bt_meaning.specs.Jobs.{IsJob};
-ghost use Rattle.bt_meaning.specs.Prints.{printed_text};
 ghost use Rattle.bt_meaning.specs.Replays.{cpus_of};
 ghost use Rattle.bt_meaning.specs.Texts.{EmitOwn};
 ghost use Rattle.bt_meaning.specs.Walks.{replay_of};
@@ -12,6 +11,7 @@ ghost use Rattle.code_bodies.specs.Coding.{code_replay};
 ghost use Rattle.script_programs.specs.Programs.{AreCodesOf, KeepScript};
 ghost use Rattle.run_base.specs.Jobs.{cpus_in, world_for};
 ghost use Rattle.run_base.specs.Moments.{Moment};
+ghost use Rattle.run_output.specs.Outputs.{output_of};
 ghost use Rattle.thread_run.specs.Closed.{AreClosedAt};
 
 use crate::closed::Closed;
@@ -19,10 +19,10 @@ use crate::ends::read_maps;
 use crate::made::make_steps;
 use bt_core::items::Items;
 use bt_core::memory::Memory;
-use bt_meaning::text::text_of_run;
 use code_bodies::laws::{code_means_walks, codes_take_few};
 use run_base::held::job_is_held;
 use run_base::job::{Job, Work};
+use run_output::form::{Form, output_of_run};
 use script_programs::codes::codes_of;
 use std::alloc::Global;
 use std::sync::Wait;
@@ -30,27 +30,34 @@ use std::thread::Threads;
 use turn_lock::gate::Gate;
 use weave::woven::Woven;
 
-/// The text of a run of a job that made these steps and left these objects.
-fn text_of(alloc: Global, job: &Job, closed: &Closed, steps: &Woven) -> Result<Items<u8>, Memory>
+/// What a run of a job that made these steps and left these objects writes in a form.
+fn output_of(
+    alloc: Global,
+    form: Form,
+    job: &Job,
+    closed: &Closed,
+    steps: &Woven,
+) -> Result<Items<u8>, Memory>
     ghost at: { Moment }
     requires closed { AreClosedAt at closed.now }
     requires world { at.world ≡ world_for job.now }
     requires steps { at.steps ≡ steps.now }
     requires own { EmitOwn job.now.typed steps.now }
-    ensures { IfOk result (λ text. text ≡ printed_text job.now.typed (cpus_in job.now) steps.now) }
+    ensures { IfOk result (λ output. output ≡ output_of form job.now.typed (cpus_in job.now) steps.now) }
 {
     let script = &job.typed;
     let (rows, lost) = read_maps(alloc, script.maps.as_slice(), closed)?;
-    text_of_run(alloc, script, steps, rows.as_slice(), lost.as_slice())
+    output_of_run(alloc, form, script, steps, rows.as_slice(), lost.as_slice())
 }
 
-/// Runs a job with each CPU on a thread of its own, each body by the code that its program is: `BEGIN`, then all CPUs side by side, each
-/// with its agenda, and then `END`. Each program is decoded once.
+/// Runs a job with each CPU on a thread of its own, each body by the code that its program is: `BEGIN`, then all CPUs
+/// side by side, each with its agenda, and then `END`. Each program is decoded once.
 ///
-/// The steps are an interleaving of the script over the recording, in the order of their stamps (`replayed`): any one that the threads
-/// took. The text is what they print (`printed`), read of the objects once all locks are closed. The instructions are those that the
-/// codes of the programs take under the replies in the steps (`instructions`). The gate is told of each turn while it is held. Where no
-/// thread can be started, the caller runs a CPU itself.
+/// The steps are an interleaving of the script over the recording, in the order of their stamps (`replayed`): any one
+/// that the threads took. The text is what they print in the form (`printed`), read of the objects once all locks are
+/// closed. The instructions are those that the codes of the programs take under the replies in the steps
+/// (`instructions`). The gate is told of each turn while it is held. Where no thread can be started, the caller runs a
+/// CPU itself.
 ///
 /// # Errors
 ///
@@ -58,6 +65,7 @@ fn text_of(alloc: Global, job: &Job, closed: &Closed, steps: &Woven) -> Result<I
 pub fn run_threads<G: Gate + Sync, R: Threads + Wait + Sync>(
     rt: &R,
     alloc: Global,
+    form: Form,
     job: &Job,
     gate: &G,
 ) -> Result<Work, Memory>
@@ -65,7 +73,7 @@ pub fn run_threads<G: Gate + Sync, R: Threads + Wait + Sync>(
     requires programs { KeepScript job.now.typed job.now.programs }
     ensures replayed { let p = replay_of job.now.typed job.now.attached job.now.recording in IfOk result (λ work. IsReplayed p work.steps) }
     ensures printed { let p = replay_of job.now.typed job.now.attached job.now.recording in IfOk result (λ work.
-        work.text ≡ printed_text job.now.typed (cpus_of p) work.steps) }
+        work.text ≡ output_of form job.now.typed (cpus_of p) work.steps) }
     ensures instructions { IfOk result (λ work. (codes : List (List Insn)) → AreCodesOf job.now.programs codes →
         work.instructions ≡ instructions_of (code_replay job.now.typed codes job.now.attached job.now.recording) work.steps) }
 {
@@ -75,7 +83,7 @@ pub fn run_threads<G: Gate + Sync, R: Threads + Wait + Sync>(
     let codes = codes_of(alloc, job.programs.as_slice())?;
     let (closed, steps, instructions) = make_steps(rt, alloc, job, codes.as_slice(), gate)?;
     steps.replies_are_held();
-    let text = text_of(alloc, job, &closed, &steps)?;
+    let text = output_of(alloc, form, job, &closed, &steps)?;
     Ok(Work {
         steps,
         text,

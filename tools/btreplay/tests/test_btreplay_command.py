@@ -26,6 +26,8 @@ class Command(unittest.TestCase):
     def test_words_text_and_status_are_the_programs_own(self):
         self.assertEqual(self.at.run("run", "--serial", "s.bt", "r.btr", "--stats", out="a\n\nb"), (0, "a\n\nb", ""))
         self.assertEqual(self.at.words(), ["run", "--serial", "s.bt", "r.btr", "--stats"])
+        self.assertEqual(self.at.run("run", "--json", "s.bt", "r.btr", out="{}\n"), (0, "{}\n", ""))
+        self.assertEqual(self.at.words(), ["run", "--json", "s.bt", "r.btr"])
         for status in (1, 2, 3, 5, 6, 77):
             self.assertEqual(self.at.run("gen", "1", "2", status=status, err="some fault"), (status, "", "some fault\n"))
         self.assertEqual(self.at.run("any", "", "words -e", status=1), (1, "", ""))
@@ -51,7 +53,7 @@ class Command(unittest.TestCase):
                            (["check"], f"check {files} 0 words stand there"),
                            (["gen", "1", "2", "3"], "gen takes two numbers, as in 7 1000, and 3 words stand there"),
                            (["big", "1", "x"], "big takes two numbers, as in 7 1000"),
-                           (["run", "--seriall", "s.bt", "r.btr"], "run has no option --seriall; it has --serial and --stats"),
+                           (["run", "--seriall", "s.bt", "r.btr"], "run has no option --seriall; it has --serial, --stats and --json"),
                            (["check", "--serial", "s.bt", "r.btr"], "check has no option --serial"),
                            (["run", "-e"], "a script stands behind -e, and a recording"),
                            (["run", "-e", "BEGIN { }"], f"run {files} 1 word stands there"),
@@ -191,7 +193,7 @@ class Command(unittest.TestCase):
         status, out, err = self.at.run("--help")
         self.assertEqual((status, err), (0, ""))
         self.assertEqual(self.at.run("run", "--help"), (0, out, ""))
-        for word in ("run [--serial] [--stats] SCRIPT RECORDING", "explain", "-e 'PROGRAM'", "--version"):
+        for word in ("run [--serial] [--stats] [--json] SCRIPT RECORDING", "explain", "-e 'PROGRAM'", "--version"):
             self.assertIn(word, out)
         self.assertNotIn("--unproved", out)
         (self.at.top / "version").write_text("btreplay, proved with a kit at a commit\n")

@@ -109,7 +109,7 @@ class Completion(unittest.TestCase):
         self.assertEqual(self.completed("ru"), ["run"])
         self.assertEqual(self.completed("--unproved", "c"), ["check", "code"])
         self.assertEqual(self.completed("--unproved", "-"), ["--help", "--version"])
-        self.assertEqual(self.completed("run", "-"), ["--serial", "--stats", "-e"])
+        self.assertEqual(self.completed("run", "-"), ["--json", "--serial", "--stats", "-e"])
         self.assertEqual(self.completed("check", "-"), ["-e"])
         self.assertEqual(self.completed("gen", ""), [])
 

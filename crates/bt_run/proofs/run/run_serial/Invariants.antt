@@ -2,5 +2,5 @@ use Rattle.step_list.specs.Lists.{steps_in}
 use Rattle.run_base.specs.Jobs.{world_for}
 use Rattle.bt_run.proofs.run.run_serial.Given as goal
 
-abbrev pub ghost-text_of : goal.ghost-text_of
-ghost-text_of a = record { world = world_for a.job.now; steps = steps_in a.ran.now.made.value }
+abbrev pub ghost-output_of : goal.ghost-output_of
+ghost-output_of a = record { world = world_for a.job.now; steps = steps_in a.ran.now.made.value }

@@ -1,18 +1,26 @@
-use Rattle.std.proofs.Common.{refl}
+use Rattle.std.proofs.Common.{refl, subst}
 use Rattle.bt_words.specs.declared.order.Order.TheVariants.{Run, Check, Code, Gen}
+use Rattle.run_base.specs.declared.job.Work.{Work}
+use Rattle.run_output.specs.declared.form.Form.{Form}
 use Rattle.bt_top.specs.Jobs.{IsJobFor}
 use Rattle.bt_top.specs.Orders.{on_script}
-use Rattle.bt_top.specs.Outcomes.{ComesTo}
+use Rattle.bt_top.specs.Outcomes.{ComesTo, IsOutcomeOfRun, stats_line}
 use Rattle.bt_top.proofs.Performing.{goes_on, made}
 use Rattle.bt_top.proofs.tasks.outcome_of.Goals as goal
 
 pub returns-in_ok-run_outcome-in-Run : goal.returns-in_ok-run_outcome-in-Run
 returns-in_ok-run_outcome-in-Run g c =
     rw c.in-Run.is
-    (goes_on _ (IsJobFor (on_script c.in-Run.script c.in-Run.recording)) (ComesTo (Run c.in-Run.serial c.in-Run.stats c.in-Run.script c.in-Run.recording)) _
+    (goes_on _ (IsJobFor (on_script c.in-Run.script c.in-Run.recording))
+    (ComesTo (Run c.in-Run.serial c.in-Run.stats c.in-Run.json c.in-Run.script c.in-Run.recording)) _
     c.in_ok-job-in-Run.job c.in_ok-run_outcome-in-Run.field-0
     (rw (c.as_str.ensures, c.as_str-in-Run.ensures) at c.in_ok-job-in-Run.ensures.performs)
-    (λ contents is. (c.in_ok-job-in-Run.job, is, c.in_ok-run_outcome-in-Run.ensures)))
+    (λ contents is. (
+      c.in_ok-job-in-Run.job,
+      is,
+      subst (λ (form : Form). IsOutcomeOfRun form c.in-Run.serial c.in_ok-job-in-Run.job (λ (work : Work). stats_line form c.in-Run.stats work.instructions)
+      c.in_ok-run_outcome-in-Run.field-0) c.form_of-form-in-Run.ensures c.in_ok-run_outcome-in-Run.ensures,
+    )))
 
 pub returns-in_ok-check_outcome-in-Check : goal.returns-in_ok-check_outcome-in-Check
 returns-in_ok-check_outcome-in-Check g c =

@@ -5,5 +5,5 @@ use Rattle.bt_top.proofs.tasks.run_outcome.Goals as goal
 
 pub returns : goal.returns
 returns g c =
-    ran_with c.args.serial c.args.job c.in_ok-work.work (λ (work : Work). stats_line c.args.stats work.instructions) c.in_ok-rest.rest
+    ran_with c.args.form c.args.serial c.args.job c.in_ok-work.work (λ (work : Work). stats_line c.args.form c.args.stats work.instructions) c.in_ok-rest.rest
     c.in_ok-work.ensures c.in_ok-rest.ensures

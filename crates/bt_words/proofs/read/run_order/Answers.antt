@@ -37,4 +37,5 @@ returns c =
     (given found (codes "recording") _ _ c.get_str-2.result c.get_str-2.ensures rows read.recording_text).1 in
     let serial = flag_is found (codes "serial") _ _ c.get_flag.result rows read.serial_text c.get_flag.ensures.value c.get_flag.ensures.other in
     let stats = flag_is found (codes "stats") _ _ c.get_flag-2.result rows read.stats_text c.get_flag-2.ensures.value c.get_flag-2.ensures.other in
-    run_is (drop 1 words) is _ _ _ _ serial stats (c.in_ok-of.ensures ∙ script) (c.in_ok-of-2.ensures ∙ recording)
+    let json = flag_is found (codes "json") _ _ c.get_flag-3.result rows read.json_text c.get_flag-3.ensures.value c.get_flag-3.ensures.other in
+    run_is (drop 1 words) is _ _ _ _ _ serial stats json (c.in_ok-of.ensures ∙ script) (c.in_ok-of-2.ensures ∙ recording)

@@ -1,10 +1,9 @@
-use Rattle.std.proofs.Common.{◌≡◌, ◌||◌, map, drop, string_bytes}
+use Rattle.std.proofs.Common.{◌≡◌, map, drop, string_bytes}
 use Rattle.std.specs.List.{list_all}
-use Rattle.bt_words.specs.Words.{is_operand, is_serial, is_stats}
+use Rattle.bt_words.specs.Words.{has_place_in_run}
 use Rattle.bt_words.proofs.rule.have_place_in_run.Given as goal
 
 -- what is left decides
 abbrev pub invariant-loop-word : goal.invariant-loop-word
 invariant-loop-word l =
-    list_all (λ w. is_operand w || (is_serial w || is_stats w)) (map string_bytes (drop l.word-index l.words))
-    ≡ list_all (λ w. is_operand w || (is_serial w || is_stats w)) (map string_bytes l.words)
+    list_all has_place_in_run (map string_bytes (drop l.word-index l.words)) ≡ list_all has_place_in_run (map string_bytes l.words)

@@ -20,8 +20,8 @@ make_steps-requires-clause-can g c lifetimes bounds = jobs_run c.args.job.now c.
 pub make_steps-requires-clause-can_run : goal.make_steps-requires-clause-can_run
 make_steps-requires-clause-can_run g c lifetimes bounds = subst (AllByRecursion CanRunCode) (sym c.as_slice-2.ensures) c.in_ok-codes.ensures.can_run
 
-pub text_of-requires : goal.text_of-requires
-text_of-requires g c = (
+pub output_of-requires : goal.output_of-requires
+output_of-requires g c = (
   (subst (λ (l : List (List Insn)). IsMade c.args.job.now (coding c.args.job.now.typed l (cpus_in c.args.job.now + 1)) c.in_ok-closed.closed c.in_ok-closed.steps c.in_ok-closed.instructions) c.as_slice-2.ensures c.in_ok-closed.ensures).closed_at,
   (
     refl,

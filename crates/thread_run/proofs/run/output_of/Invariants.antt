@@ -1,4 +1,4 @@
-use Rattle.thread_run.proofs.run.text_of.Given as goal
+use Rattle.thread_run.proofs.run.output_of.Given as goal
 
 abbrev pub ghost-read_maps : goal.ghost-read_maps
 ghost-read_maps g a = g.at
