@@ -17,9 +17,6 @@ ghost use Rattle.run_base.specs.Jobs.{world_for};
 ghost use Rattle.run_base.specs.Moments.{Moment};
 ghost use Rattle.bt_run.specs.Ran.{HasRun};
 
-use crate::ends::read_maps;
-use crate::new_objects::new_objects;
-use crate::objects::Objects;
 use crate::serial::make_steps;
 use bt_core::items::Items;
 use bt_core::memory::Memory;
@@ -28,6 +25,9 @@ use bt_meaning::text::text_of_run;
 use code_bodies::laws::{code_means_walks, codes_take_few};
 use run_base::held::job_is_held;
 use run_base::job::{Job, Work};
+use run_objects::closed::Closed;
+use run_objects::ends::read_maps;
+use run_objects::new_objects::new_objects;
 use script_programs::codes::codes_of;
 use std::alloc::Global;
 use std::snapshot::Snapshot;
@@ -38,7 +38,7 @@ use weave::woven::Woven;
 /// and how many instructions were executed.
 #[derive(Drop)]
 struct Ran {
-    objects: Objects,
+    objects: Closed,
     made: Snapshot<StepList>,
     steps: Woven,
     instructions: u64,
