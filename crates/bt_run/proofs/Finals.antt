@@ -27,7 +27,7 @@ use Rattle.bt_meaning.proofs.Eachs.{each_so, each_back, filter_none}
 use Rattle.bt_meaning.proofs.ItemByItem.{takes_all}
 use Rattle.bt_meaning.proofs.Stepping.{own_part, other_part, takes_whole, unstamped_append, unstamped_length, unstamped_of_actor, unstamped_on_object, unstamped_operations}
 use Rattle.run_base.specs.declared.job.Job.{Job}
-use Rattle.bt_run.specs.declared.objects.Objects.{Objects}
+use Rattle.run_objects.specs.declared.closed.Closed.{Closed}
 use Rattle.run_base.specs.Jobs.{cpus_in, replay_with, world_for}
 use Rattle.bt_run.specs.Made.{IsMade}
 use Rattle.run_base.specs.Worlds.{answers}
@@ -42,7 +42,7 @@ begins_so p =
     let last = takes_whole p (cpus_of p) (end_of p) (taken_steps p) in
     (middle.made ++ last.made, last.grew ∙ ap (λ l. l ++ last.made) middle.grew ∙ append_assoc (begun_steps p) middle.made last.made)
 
-module _ (job : Job) (plans : ℕ → Plan) (objects : Objects) (made steps : List Step) (n : ℕ) (is : IsMade job plans objects made n) (moved : IsPermutation made steps) (order : InOrder steps) where
+module _ (job : Job) (plans : ℕ → Plan) (closed : Closed) (made steps : List Step) (n : ℕ) (is : IsMade job plans closed made n) (moved : IsPermutation made steps) (order : InOrder steps) where
   abbrev P : Replay
   P = replay_with job plans
 

@@ -1,7 +1,4 @@
-pub mod EndLemmas
 pub mod Finals
-pub mod NewLemmas
-pub mod ObjectLemmas
 pub mod RunLemmas
 pub mod SerialCount
 pub mod Splitting

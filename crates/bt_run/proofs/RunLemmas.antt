@@ -54,14 +54,14 @@ use Rattle.step_list.specs.declared.list.StepList.{StepList}
 use Rattle.step_list.specs.Lists.{steps_in}
 use Rattle.weave.specs.Listed.{listed}
 use Rattle.run_base.specs.declared.job.Job.{Job}
-use Rattle.bt_run.specs.declared.objects.Objects.{Objects}
+use Rattle.run_objects.specs.declared.closed.Closed.{Closed}
 use Rattle.run_base.specs.Jobs.{cpus_in, world_for}
 use Rattle.run_output.specs.declared.form.Form.{Form}
 use Rattle.run_output.specs.declared.form.Form.TheVariants.{Text, Json}
 use Rattle.run_output.specs.JsonLines.{json_text_of}
 use Rattle.run_output.specs.Outputs.{output_of}
 use Rattle.bt_run.specs.Made.{IsMade}
-use Rattle.bt_run.specs.Moments.{IsMoment}
+use Rattle.run_objects.specs.Closed.{AreClosedAt}
 use Rattle.bt_run.specs.Ran.{HasRun}
 use Rattle.bt_run.specs.declared.run.Ran.{Ran}
 use Rattle.run_base.specs.Worlds.{World, IsOwn}
@@ -140,7 +140,7 @@ held_unstamped [] h = tt
 held_unstamped (s ∷ ss) h = (h.0, held_unstamped ss h.1)
 
 module _ (job : Job) (is_job : IsJob job.typed job.attached job.recording) (codes : List (List Insn))
-    (objects : Objects) (made steps : List Step) (n : ℕ) (is : IsMade job (coding job.typed codes (cpus_in job + 1)) objects made n) (moved : IsPermutation made steps) (order : InOrder steps)
+    (closed : Closed) (made steps : List Step) (n : ℕ) (is : IsMade job (coding job.typed codes (cpus_in job + 1)) closed made n) (moved : IsPermutation made steps) (order : InOrder steps)
     (held : AllReplies IsHeldReply steps) (means : IsReplayed (code_replay job.typed codes job.attached job.recording) steps → IsReplayed (replay_of job.typed job.attached job.recording) steps)
     (same_list : AllReplies IsHeldReply (serial_steps (code_replay job.typed codes job.attached job.recording))
     → serial_steps (code_replay job.typed codes job.attached job.recording) ≡ serial_steps (replay_of job.typed job.attached job.recording)) where
@@ -151,7 +151,7 @@ module _ (job : Job) (is_job : IsJob job.typed job.attached job.recording) (code
   plans = coding job.typed codes (cpus_in job + 1)
 
   coded_replayed : IsReplayed (code_replay job.typed codes job.attached job.recording) steps
-  coded_replayed = replayed job plans objects made steps n is moved order (serial_interleaves coded is_job.valid is_job.in_turn (λ actor. refl))
+  coded_replayed = replayed job plans closed made steps n is moved order (serial_interleaves coded is_job.valid is_job.in_turn (λ actor. refl))
 
   run_replayed : IsReplayed (replay_of job.typed job.attached job.recording) steps
   run_replayed = means coded_replayed
@@ -164,7 +164,7 @@ module _ (job : Job) (is_job : IsJob job.typed job.attached job.recording) (code
   same_serial = same_list (subst (AllReplies IsHeldReply) (sym is.is_serial) (held_unstamped made made_held))
 
   run_serial_steps : (object : ObjectId) → map unstamped (on_object object steps) ≡ on_object object (serial_steps (replay_of job.typed job.attached job.recording))
-  run_serial_steps object = at_objects job plans objects made steps n is moved order object ∙ ap (on_object object) same_serial
+  run_serial_steps object = at_objects job plans closed made steps n is moved order object ∙ ap (on_object object) same_serial
 
   own_steps : AllByRecursion (IsOwnStep job.typed job.attached job.recording) steps
   own_steps = script_steps job.typed job.attached job.recording is_job merged_fit steps run_replayed.interleaving
@@ -172,7 +172,7 @@ module _ (job : Job) (is_job : IsJob job.typed job.attached job.recording) (code
   emit_own : EmitOwn job.typed steps
   emit_own = each_so (IsOwnStep job.typed job.attached job.recording) (λ (s : Step). EmitsOnly (IsItemOf job.typed.formats job.typed.maps) s.op) (λ s own. own.0.1) steps own_steps
 
-  run_moment : IsMoment (record { world = world_for job; steps = made }) objects
+  run_moment : AreClosedAt (record { world = world_for job; steps = made }) closed
   run_moment = record {
     fine = All-from_recursion IsFineDecl job.typed.maps (all_fine job.typed.maps job.typed.fine);
     possible = is.possible;
@@ -180,7 +180,7 @@ module _ (job : Job) (is_job : IsJob job.typed job.attached job.recording) (code
   }
 
   run_same : (object : ObjectId) → operations_at object made ≡ operations_at object steps
-  run_same object = operations_same job plans objects made steps n is moved order object
+  run_same object = operations_same job plans closed made steps n is moved order object
 
   possible : Each (λ (s : Step). IsOwn (world_for job) s.object s.op) steps
   possible = each_of (λ (s : Step). IsOwn (world_for job) s.object s.op) steps
@@ -190,7 +190,7 @@ module _ (job : Job) (is_job : IsJob job.typed job.attached job.recording) (code
       ≡ output_of form job.typed (cpus_in job) (serial_steps (replay_of job.typed job.attached job.recording))
   run_prints_serial form =
       let serial = serial_steps (code_replay job.typed codes job.attached job.recording) in
-      let same = λ (object : ObjectId). operations_serial job plans objects made steps n is moved order object in
+      let same = λ (object : ObjectId). operations_serial job plans closed made steps n is moved order object in
       let own : Each (λ (s : Step). IsOwn (world_for job) s.object s.op) serial = subst (Each (λ (s : Step). IsOwn (world_for job) s.object s.op)) (sym is.is_serial) (own_unstamped (world_for job) made is.possible) in
       output_same job.typed (cpus_in job) steps serial same form
       (emitted_out (world_for job) steps possible ∙ ap (filter_map item_in) (same Out) ∙ sym (emitted_out (world_for job) serial own))
@@ -198,10 +198,10 @@ module _ (job : Job) (is_job : IsJob job.typed job.attached job.recording) (code
 
   run_counts : n ≡ instructions_of (code_replay job.typed codes job.attached job.recording) steps
   run_counts = is.counted ∙ serial_counts coded is_job.valid is_job.in_turn (λ actor. refl)
-      ∙ sym (instructions_same coded steps (serial_steps coded) (λ a. by_actor job plans objects made steps n is moved order a))
+      ∙ sym (instructions_same coded steps (serial_steps coded) (λ a. by_actor job plans closed made steps n is moved order a))
 
   -- with these steps seen before they were put in order
-  pub has_run : (ran : Ran) → ran.objects ≡ objects → steps_in ran.made.value ≡ made → ran.steps ≡ steps → ran.instructions ≡ n
+  pub has_run : (ran : Ran) → ran.objects ≡ closed → steps_in ran.made.value ≡ made → ran.steps ≡ steps → ran.instructions ≡ n
       → ((others : List (List Insn)) → AreCodesOf job.programs others → codes ≡ others) → HasRun job ran
   has_run ran o m s c only = record {
     replayed = subst (IsReplayed (replay_of job.typed job.attached job.recording)) (sym s) run_replayed;
@@ -209,6 +209,6 @@ module _ (job : Job) (is_job : IsJob job.typed job.attached job.recording) (code
     printed_serial = λ form. ap (output_of form job.typed (cpus_in job)) s ∙ run_prints_serial form;
     counted = λ others are. c ∙ run_counts ∙ (λ i. instructions_of (code_replay job.typed (only others are i) job.attached job.recording) (sym s i));
     own = subst (EmitOwn job.typed) (sym s) emit_own;
-    moment = subst (λ (z : List Step × Objects). IsMoment (record { world = world_for job; steps = z.0 }) z.1) (λ i. (sym m i, sym o i)) run_moment;
+    moment = subst (λ (z : List Step × Closed). AreClosedAt (record { world = world_for job; steps = z.0 }) z.1) (λ i. (sym m i, sym o i)) run_moment;
     same = λ object. ap (operations_at object) m ∙ run_same object ∙ ap (operations_at object) (sym s);
   }

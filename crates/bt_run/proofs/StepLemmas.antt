@@ -16,10 +16,10 @@ use Rattle.bt_core.proofs.StepLists.{AtEach-snoc}
 use Rattle.weave.proofs.Growth.{stamps_snoc}
 use Rattle.weave.proofs.Less.{not_less}
 use Rattle.bt_core.specs.Interaction.{last_reply}
-use Rattle.bt_run.specs.declared.objects.Objects.{Objects}
+use Rattle.run_objects.specs.declared.objects.Objects.{Objects}
 use Rattle.bt_run.specs.declared.port.Turn.{Turn}
 use Rattle.run_base.specs.Worlds.{World, answers, IsOwn}
-use Rattle.bt_run.specs.Objects.{Stand, IsAnswer}
+use Rattle.run_objects.specs.Objects.{Stand, IsAnswer}
 use Rattle.bt_run.specs.Runs.{IsTurnBy, IsTurn, IsRunOf}
 
 pub each_snoc : {A : Type 0} (P : A → Type 0) (xs : List A) (x : A) → Each P xs → P x → Each P (xs ++ x ∷ [])

@@ -19,7 +19,10 @@ use Rattle.bt_meaning.specs.Replays.{Replay, answers_of, begin_of, end_of}
 use Rattle.bt_meaning.specs.Schedules.{serial_order, cpu_of_due, item_of_due}
 use Rattle.bt_meaning.specs.Serial.{unstamped, then_steps, then_value, alone, alone_on, taken, begun_steps, taken_steps, serial_steps}
 use Rattle.run_base.specs.declared.job.Job.{Job}
-use Rattle.bt_run.specs.declared.objects.Objects.{Objects}
+use Rattle.run_objects.specs.declared.closed.Closed.{Closed}
+use Rattle.run_objects.specs.declared.objects.Objects.{Objects}
+use Rattle.run_objects.specs.Closed.{MapsStand}
+use Rattle.run_objects.specs.Objects.{Stand}
 use Rattle.bt_run.specs.Counts.{taken_count, TakesNext}
 use Rattle.run_base.specs.Jobs.{cpus_in, replay_with, world_for, CanRunAll}
 use Rattle.bt_run.specs.Made.{IsMade}
@@ -119,19 +122,20 @@ module _ (job : Job) (plans : ℕ → Plan) where
       let was = taken_count P (drop k order) going before in omega arith
 
   -- BEGIN, the items and END together
-  pub all_made : (order : List Scheduled) (objects : Objects) (seen : Seen) (s1 s2 steps : List Step) (b c e n : ℕ) → order ≡ serial_order job.recording job.attached
+  pub all_made : (order : List Scheduled) (objects : Objects) (closed : Closed) (seen : Seen) (s1 s2 steps : List Step) (b c e n : ℕ) → order ≡ serial_order job.recording job.attached
       → then_steps P (cpus_in job) (begin_of P) [] ≡ map unstamped s1 → b ≡ then_value P (cpus_in job) (begin_of P) []
       → taken P order (replicate (cpus_in job) true) (map unstamped s1) ≡ map unstamped s2 → c ≡ taken_count P order (replicate (cpus_in job) true) (map unstamped s1)
       → then_steps P (cpus_in job) (end_of P) (map unstamped s2) ≡ map unstamped seen.steps → e ≡ then_value P (cpus_in job) (end_of P) (map unstamped s2)
-      → n ≡ b + c + e → seen.turn.begun ≡ length s1 → seen.world ≡ world_for job → IsLeft seen objects steps → IsMade job plans objects steps n
+      → n ≡ b + c + e → seen.turn.begun ≡ length s1 → seen.world ≡ world_for job → IsLeft seen objects steps
+      → ((w : World) (made : List Step) → Stand w made objects → MapsStand w made closed) → IsMade job plans closed steps n
   unfolding serial_steps
-  all_made order objects seen s1 s2 steps b c e n o begins b_is middle c_is ends e_is sum begun world left =
+  all_made order objects closed seen s1 s2 steps b c e n o begins b_is middle c_is ends e_is sum begun world left closes =
       let taken_is : taken_steps P ≡ map unstamped s2 = (λ k. taken P (sym o k) (replicate (cpus_in job) true) (begins k)) ∙ middle in
       let run = subst (λ (z : World × List Step). IsRunOf z.0 objects left.lasts left.top z.1 seen.turn) (λ k. (world k, sym left.same k)) left.run in
       let count : seen.turn.begun ≡ length (begun_steps P) = begun ∙ sym (ap length begins ∙ unstamped_length s1) in record {
         is_serial = ap (then_steps P (cpus_in job) (end_of P)) taken_is ∙ ends ∙ ap (map unstamped) (sym left.same);
         counted = sum ∙ (λ k. b_is k + (c_is ∙ (λ i. taken_count P (o i) (replicate (cpus_in job) true) (sym begins i))) k + (e_is ∙ ap (then_value P (cpus_in job) (end_of P)) (sym taken_is)) k);
-        stand = run.stand;
+        stand = closes (world_for job) steps run.stand;
         possible = run.possible;
         actors = run.actors;
         replies = run.replies;

@@ -1,15 +1,18 @@
 -- From one turn to the next.
-use Rattle.std.proofs.Common.{◌≡◌, ℕ, suc, max, ◌<◌, ◌≤◌, nat_lt, Bool, true, false, cond, List, [], ◌∷◌, ◌++◌, length, take, sym, refl, ap, ◌∙◌, subst, arith, eq-eqb}
-use Rattle.std.proofs.lemmas.List.{take_all, drop_all}
+use Rattle.std.proofs.Common.{◌≡◌, ℕ, suc, max, ◌+◌, ◌<◌, ◌≤◌, nat_lt, Bool, true, false, cond, List, [], ◌∷◌, ◌++◌, length, replicate, get_or, take, sym, refl, ap, ◌∙◌, subst, arith, eq-eqb}
+use Rattle.std.specs.Prelude.{All}
+use Rattle.std.proofs.lemmas.List.{take_all, drop_all, get_or-replicate, length-replicate}
 use Rattle.bt_core.specs.declared.step.Step.{Step}
+use Rattle.bt_core.specs.Kinds.{IsFineDecl}
 use Rattle.turn_lock.specs.History.{Each}
 use Rattle.bt_core.specs.Steps.{is_of, of_actor, on_object}
 use Rattle.weave.specs.Lists.{greatest}
 use Rattle.weave.specs.Woven.{begin_steps, main_clock, actor_clock}
 use Rattle.weave.proofs.Among.{Has, each_has, each_from, has_middle, has_front, filter_all}
-use Rattle.bt_run.specs.declared.objects.Objects.{Objects}
+use Rattle.run_objects.specs.declared.objects.Objects.{Objects}
 use Rattle.bt_run.specs.declared.port.Turn.{Turn}
 use Rattle.run_base.specs.Worlds.{World}
+use Rattle.run_objects.specs.Objects.{Stand}
 use Rattle.bt_run.specs.Runs.{IsCpuTurn, IsTurnBy, IsRunOf, first_turn}
 
 all_own : (a : ℕ) (ss : List Step) → Each (λ s. s.actor ≡ a) ss → of_actor a ss ≡ ss
@@ -94,3 +97,27 @@ module _ (world : World) (objects : Objects) where
             by = record { actor = refl; floor = omega arith; begun = omega arith };
           };
         }
+
+-- ---- a run that begins
+
+none : (before : List Step) (s : Step) (after : List Step) → [] ≡ before ++ s ∷ after → ⊥
+none [] s after e = let n : 0 ≡ suc (length after) = ap length e in absurd (omega arith)
+none (b ∷ before) s after e = let n : 0 ≡ suc (length (before ++ s ∷ after)) = ap length e in absurd (omega arith)
+
+pub new_run : (w : World) (objects : Objects) (lasts : List ℕ) → All IsFineDecl w.maps → Stand w [] objects → lasts ≡ replicate (w.cpus + 1) 0
+    → IsRunOf w objects lasts 0 [] (first_turn w.cpus)
+new_run w objects lasts fine stand zeros = record {
+  fine = fine;
+  stand = stand;
+  possible = tt;
+  count = ap length zeros ∙ length-replicate (w.cpus + 1) 0;
+  lasts_are = λ a d lt.
+      let long : length lasts ≡ w.cpus + 1 = ap length zeros ∙ length-replicate (w.cpus + 1) 0 in
+      ap (λ (l : List ℕ). get_or l a d) zeros ∙ get_or-replicate (w.cpus + 1) a 0 d (omega arith);
+  top_is = refl;
+  actors = tt;
+  replies = λ before s after e. absurd (none before s after e);
+  stamps = λ before s after e. absurd (none before s after e);
+  between = λ before s after e. absurd (none before s after e);
+  turn_is = record { start = omega arith; own = tt; by = record { actor = refl; floor = refl; begun = omega arith } };
+}

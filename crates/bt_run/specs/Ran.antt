@@ -17,7 +17,7 @@ use Rattle.run_base.specs.Jobs.{cpus_in, world_for}
 use Rattle.run_output.specs.declared.form.Form.{Form}
 use Rattle.run_output.specs.Outputs.{output_of}
 use Rattle.bt_run.specs.declared.run.Ran.{Ran}
-use Rattle.bt_run.specs.Moments.{IsMoment}
+use Rattle.run_objects.specs.Closed.{AreClosedAt}
 
 -- its steps are those of the serial list, each emits what has a text, and its objects stand for them
 pub record HasRun (job : Job) (ran : Ran) : Type 0 where
@@ -28,5 +28,5 @@ pub record HasRun (job : Job) (ran : Ran) : Type 0 where
   pub counted : (codes : List (List Insn)) → AreCodesOf job.programs codes → ran.instructions ≡ instructions_of (code_replay job.typed codes job.attached job.recording) ran.steps
   pub own : EmitOwn job.typed ran.steps
   -- as they were made, which at each object is the order of the steps
-  pub moment : IsMoment (record { world = world_for job; steps = steps_in ran.made.value }) ran.objects
+  pub moment : AreClosedAt (record { world = world_for job; steps = steps_in ran.made.value }) ran.objects
   pub same : (object : ObjectId) → operations_at object (steps_in ran.made.value) ≡ operations_at object ran.steps

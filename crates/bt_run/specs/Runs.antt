@@ -8,10 +8,10 @@ use Rattle.turn_lock.specs.History.{Each}
 use Rattle.step_list.specs.Lists.{steps_in}
 use Rattle.weave.specs.Lists.{greatest}
 use Rattle.weave.specs.Woven.{begin_steps, StampsFollow, StandsBetween}
-use Rattle.bt_run.specs.declared.objects.Objects.{Objects}
+use Rattle.run_objects.specs.declared.objects.Objects.{Objects}
 use Rattle.bt_run.specs.declared.port.Running.{Running}
 use Rattle.bt_run.specs.declared.port.Turn.{Turn}
-use Rattle.bt_run.specs.Objects.{Stand}
+use Rattle.run_objects.specs.Objects.{Stand}
 use Rattle.run_base.specs.Worlds.{World, setting_in, answers, IsOwn}
 
 abbrev pub world_of : Running → World

@@ -4,15 +4,15 @@ ghost use Rattle.bt_core.specs.Interaction.{MakesStep, last_reply};
 ghost use Rattle.bt_core.specs.Kinds.{IsFineDecl};
 ghost use Rattle.bt_core.specs.Ports.{CanStep, IsReplyOf};
 ghost use Rattle.step_list.specs.Lists.{steps_in};
-ghost use Rattle.bt_run.specs.Objects.{Stand};
+ghost use Rattle.run_objects.specs.Objects.{Stand};
 ghost use Rattle.bt_run.specs.Runs.{world_of, seen_of, setting_of, IsRunning, IsSeen, IsLeft, first_turn};
 
-use crate::objects::{Objects, take_at};
 use bt_core::items::Items;
 use bt_core::map::MapDecl;
 use bt_core::memory::Memory;
 use bt_core::port::Port;
 use bt_core::step::{ObjectId, Op, Reply};
+use run_objects::objects::{Objects, take_at};
 use std::alloc::Global;
 use std::marker::Model;
 use std::snapshot::Snapshot;

@@ -17,9 +17,6 @@ ghost use Rattle.run_base.specs.Moments.{Moment};
 ghost use Rattle.run_output.specs.Outputs.{output_of};
 ghost use Rattle.bt_run.specs.Ran.{HasRun};
 
-use crate::ends::read_maps;
-use crate::new_objects::new_objects;
-use crate::objects::Objects;
 use crate::serial::make_steps;
 use bt_core::items::Items;
 use bt_core::memory::Memory;
@@ -27,6 +24,9 @@ use bt_meaning::schedule::schedule;
 use code_bodies::laws::{code_means_walks, codes_take_few};
 use run_base::held::job_is_held;
 use run_base::job::{Job, Work};
+use run_objects::closed::Closed;
+use run_objects::ends::read_maps;
+use run_objects::new_objects::new_objects;
 use run_output::form::{Form, output_of_run};
 use script_programs::codes::codes_of;
 use std::alloc::Global;
@@ -38,7 +38,7 @@ use weave::woven::Woven;
 /// their stamps, and how many instructions were executed.
 #[derive(Drop)]
 struct Ran {
-    objects: Objects,
+    objects: Closed,
     made: Snapshot<StepList>,
     steps: Woven,
     instructions: u64,

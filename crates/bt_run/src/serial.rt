@@ -9,10 +9,9 @@ ghost use Rattle.step_list.specs.Lists.{steps_in};
 ghost use Rattle.bt_run.specs.Counts.{taken_count, TakesNext};
 ghost use Rattle.run_base.specs.Jobs.{coded_by, cpus_in, plans_by, world_for, CanRunAll};
 ghost use Rattle.bt_run.specs.Made.{IsMade};
-ghost use Rattle.bt_run.specs.Objects.{Stand};
+ghost use Rattle.run_objects.specs.Objects.{Stand};
 ghost use Rattle.bt_run.specs.Runs.{first_turn};
 
-use crate::objects::Objects;
 use crate::port::SerialPort;
 use actor_plan::agenda::AgendaItem;
 use actor_plan::program::{run_begin, run_end, take_item};
@@ -23,6 +22,8 @@ use bt_meaning::schedule::{Due, Scheduled};
 use run_base::bodies::bodies_at;
 use run_base::job::Job;
 use run_base::numbers::sum;
+use run_objects::closed::Closed;
+use run_objects::objects::Objects;
 use std::alloc::Global;
 use step_list::list::StepList;
 
@@ -188,15 +189,15 @@ fn end(
     Ok(count)
 }
 
-/// Runs a job on one thread: `BEGIN`, the items in the serial order, and `END`. Gives the objects as they then are, the steps in
-/// the order in which they were made, and how many instructions were executed.
+/// Runs a job on one thread: `BEGIN`, the items in the serial order, and `END`. Gives the objects that hold maps as they
+/// then are, the steps in the order in which they were made, and how many instructions were executed.
 pub(crate) fn make_steps(
     alloc: Global,
     job: &Job,
     codes: &[Items<Insn>],
     order: &[Scheduled],
     objects: Objects,
-) -> Result<(Objects, StepList, u64), Memory>
+) -> Result<(Closed, StepList, u64), Memory>
     requires can { CanRunAll job.now (plans_by job.now codes.now) }
     requires can_run { AllByRecursion CanRunCode codes.now }
     requires order { order.now ≡ serial_order job.now.recording job.now.attached }
@@ -210,5 +211,6 @@ pub(crate) fn make_steps(
     let taken = take_all(alloc, job, codes, order, &mut port)?;
     let ended = end(alloc, job, codes, &mut port)?;
     let (objects, steps) = port.into_parts();
-    Ok((objects, steps, sum(sum(begun, taken)?, ended)?))
+    let closed = objects.close(alloc)?;
+    Ok((closed, steps, sum(sum(begun, taken)?, ended)?))
 }

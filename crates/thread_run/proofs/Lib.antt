@@ -4,7 +4,6 @@ pub mod Ending
 pub mod Counting
 pub mod Making
 pub mod Objects
-pub mod Reading
-pub mod EachMap
+pub mod Closing
 pub mod Telling
 pub mod Rowing

@@ -17,7 +17,7 @@ use Rattle.bt_meaning.specs.Interleavings.{IsReplayed}
 use Rattle.code_bodies.specs.Coding.{code_replay, coding}
 use Rattle.run_base.specs.declared.job.Job.{Job}
 use Rattle.run_base.specs.Jobs.{cpus_in}
-use Rattle.thread_run.specs.declared.closed.Closed.{Closed}
+use Rattle.run_objects.specs.declared.closed.Closed.{Closed}
 use Rattle.thread_run.specs.Made.{IsMade}
 
 module _ (job : Job) (is_job : IsJob job.typed job.attached job.recording) (codes : List (List Insn))

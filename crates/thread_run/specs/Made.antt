@@ -6,8 +6,8 @@ use Rattle.bt_meaning.specs.Instructions.{instructions_of}
 use Rattle.bt_meaning.specs.Interleavings.{IsReplayed}
 use Rattle.run_base.specs.declared.job.Job.{Job}
 use Rattle.run_base.specs.Jobs.{replay_with, world_for}
-use Rattle.thread_run.specs.declared.closed.Closed.{Closed}
-use Rattle.thread_run.specs.Closed.{AreClosedAt}
+use Rattle.run_objects.specs.declared.closed.Closed.{Closed}
+use Rattle.run_objects.specs.Closed.{AreClosedAt}
 
 -- the steps are a woven interleaving, the objects stand for them, and they took so many instructions
 pub record IsMade (job : Job) (plans : ℕ → Plan) (closed : Closed) (steps : List Step) (instructions : ℕ) : Type 0 where

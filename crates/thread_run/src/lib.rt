@@ -4,10 +4,8 @@
 mod actors;
 mod bodies;
 mod closed;
-mod ends;
 mod made;
 mod main_actor;
-mod reads;
 pub mod run;
 mod sets;
 mod side_by_side;

@@ -7,7 +7,7 @@ ghost use Rattle.thread_run.specs.Made.{IsMade};
 
 use crate::actors::run_actors;
 use crate::bodies::all_bodies;
-use crate::closed::Closed;
+use crate::closed::closed_of;
 use crate::sets::{Sets, new_sets};
 use crate::tasks::Gathered;
 use crate::turns::parted;
@@ -16,6 +16,7 @@ use bt_core::items::Items;
 use bt_core::memory::Memory;
 use cpu_worker::world::World;
 use run_base::job::Job;
+use run_objects::closed::Closed;
 use std::alloc::Global;
 use std::sync::Wait;
 use std::thread::Threads;
@@ -61,6 +62,7 @@ pub(crate) fn make_steps<G: Gate + Sync, R: Threads + Wait + Sync>(
     let maps = maps.close(alloc, map_turns)?;
     let tables = tables.close(alloc, table_turns)?;
     let _sides = sides.close(alloc, side_turns)?;
+    let closed = closed_of(alloc, job.typed.maps.as_slice(), maps, tables)?;
     let steps = weave(alloc, traces)?;
-    Ok((Closed { maps, tables }, steps, instructions))
+    Ok((closed, steps, instructions))
 }

@@ -5,14 +5,14 @@ use Rattle.bt_meaning.specs.Prints.{rows_after, lost_after, of_maps, operations_
 use Rattle.run_base.specs.Jobs.{cpus_in}
 use Rattle.run_base.specs.Worlds.{World}
 use Rattle.run_base.proofs.MapReads.{maps_long, rows_fit}
-use Rattle.bt_run.specs.Moments.{IsMoment}
+use Rattle.run_objects.specs.Closed.{AreClosedAt}
 use Rattle.run_output.specs.Outputs.{output_of}
 use Rattle.bt_run.proofs.RunLemmas.{output_then}
 use Rattle.bt_run.proofs.run.output_of.Goals as goal
 
 pub read_maps-requires : goal.read_maps-requires
 read_maps-requires g c = (
-  subst (λ (z : World × List Step). IsMoment (record { world = z.0; steps = z.1 }) c.args.ran.now.objects) (λ i. (sym c.requires.1.0 i, sym c.requires.1.1 i)) c.requires.0.moment,
+  subst (λ (z : World × List Step). AreClosedAt (record { world = z.0; steps = z.1 }) c.args.ran.now.objects) (λ i. (sym c.requires.1.0 i, sym c.requires.1.1 i)) c.requires.0.moment,
   ap (λ (w : World). w.maps) c.requires.1.0 ∙ sym c.as_slice.ensures,
 )
 
@@ -28,7 +28,7 @@ pub output_of_run-requires-clause-fit : goal.output_of_run-requires-clause-fit
 output_of_run-requires-clause-fit g c =
     let maps = c.args.job.now.typed.maps in
     let rows = c.as_slice-2.ensures.value ∙ c.in_ok-rows.ensures.rows ∙ ap (of_maps (rows_after g.at.world.maps g.at.world.cpus g.at.steps) 0) c.as_slice.ensures in
-    let moment = subst (λ (z : World × List Step). IsMoment (record { world = z.0; steps = z.1 }) c.args.ran.now.objects) (λ i. (sym c.requires.1.0 i, sym c.requires.1.1 i)) c.requires.0.moment in
+    let moment = subst (λ (z : World × List Step). AreClosedAt (record { world = z.0; steps = z.1 }) c.args.ran.now.objects) (λ i. (sym c.requires.1.0 i, sym c.requires.1.1 i)) c.requires.0.moment in
     subst (AllRowsFit maps) (sym rows) (rows_fit g.at moment.fine moment.possible maps (ap (λ (w : World). w.maps) c.requires.1.0))
 
 pub returns : goal.returns

@@ -17,7 +17,7 @@ use denote.Param.Send.{sendable}
 use Rattle.std.proofs.Crossing.{crosses}
 use Rattle.actor_plan.specs.Ready.{IsPlanFor}
 use Rattle.cpu_worker.proofs.ScriptShared.{sync_typed}
-use Rattle.run_base.specs.Jobs.{plans_by}
+use Rattle.run_base.specs.Jobs.{plans_by, world_for}
 use Rattle.thread_run.proofs.Making.{AreAllShut, all_maps, all_tables, all_sides, is_replayed, is_counted, is_possible, maps_are_stood, tables_are_stood}
 use Rattle.thread_run.proofs.Objects.{own_of_part, reply_of_part, out_kind, out_stands}
 use Rattle.thread_run.proofs.Turning.{from_rows}
@@ -73,8 +73,8 @@ returns g c =
       closed_at = record {
         fine = All-from_recursion IsFineDecl c.args.job.now.typed.maps (all_fine c.args.job.now.typed.maps c.args.job.now.typed.fine);
         possible = is_possible _ plans own all done maps tables clock out shut steps moved order;
-        maps = maps_are_stood _ plans own all done maps tables clock out shut steps moved order;
-        tables = tables_are_stood _ plans own all done maps tables clock out shut steps moved order;
+        stand = c.in_ok-closed.ensures (world_for c.args.job.now) steps (sym c.as_slice.ensures)
+            (maps_are_stood _ plans own all done maps tables clock out shut steps moved order) (tables_are_stood _ plans own all done maps tables clock out shut steps moved order);
       };
       counted = is_counted _ plans own all done maps tables clock out shut steps moved order;
     }

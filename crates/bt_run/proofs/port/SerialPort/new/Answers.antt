@@ -3,9 +3,9 @@ use Rattle.std.proofs.Common.{List, [], sym, subst, false}
 use Rattle.bt_core.specs.declared.map.MapDecl.{MapDecl}
 use Rattle.bt_core.specs.declared.step.Step.{Step}
 use Rattle.bt_core.specs.Kinds.{IsFineDecl}
-use Rattle.bt_run.specs.Objects.{Stand}
+use Rattle.run_objects.specs.Objects.{Stand}
 use Rattle.bt_run.specs.Runs.{IsRunOf}
-use Rattle.bt_run.proofs.NewLemmas.{new_run}
+use Rattle.bt_run.proofs.TurnLemmas.{new_run}
 use Rattle.bt_run.proofs.port.SerialPort.new.Goals as goal
 
 pub invariant_of-result : goal.invariant_of-result

@@ -1,0 +1,4 @@
+pub mod ClosedLemmas
+pub mod EndLemmas
+pub mod NewLemmas
+pub mod ObjectLemmas

@@ -1,0 +1,12 @@
+use Rattle.std.proofs.Common.{◌≡◌, List}
+use Rattle.std.specs.Prelude.{Some, slice_get}
+use Rattle.bt_core.specs.declared.map.MapDecl.{MapDecl}
+use Rattle.bt_core.specs.declared.step.ObjectId.TheVariants.{Shared}
+use Rattle.bt_core.specs.declared.step.Step.{Step}
+use Rattle.step_objects.specs.Objects.{shared_kind, SharedStands}
+use Rattle.run_base.specs.Moments.{part_reply, of_first}
+use Rattle.run_objects.specs.Objects.{AllStandAt, IsPartOf}
+use Rattle.run_objects.proofs.reads.part_replies.Given as goal
+
+abbrev pub invariant-loop-part : goal.invariant-loop-part
+invariant-loop-part l = (maps : List MapDecl) (steps : List Step) (decl : MapDecl) → slice_get maps l.map.0 ≡ Some decl → AllStandAt shared_kind SharedStands (IsPartOf maps l.map.0) steps (Shared l.map) l.parts → l.replies.items ≡ of_first (part_reply maps steps l.map decl) l.part-index

@@ -1,0 +1,4 @@
+pub mod Closed
+pub mod News
+pub mod Objects
+pub mod Took
