@@ -1,21 +1,12 @@
 -- What was done of one thing after another.
 use Rattle.std.proofs.Common.{◌≡◌, ℤ, List, refl, sym, ap, ◌∙◌, subst, Bool, true, false, Ok, Err, Result, SFits, to_z, of_z, w64}
 use Rattle.std.proofs.lemmas.Int.{to_z-of_z}
-use Rattle.bt_core.specs.declared.map.MapId.{MapId}
-use Rattle.bt_core.specs.declared.map.MapKind.{MapKind}
 use Rattle.bt_core.specs.declared.memory.Memory.{Memory}
-use Rattle.bt_core.specs.declared.step.ObjectId.{ObjectId}
-use Rattle.bt_core.specs.declared.step.Op.{Op}
-use Rattle.bt_core.specs.declared.step.Reply.{Reply}
 use Rattle.bt_core.specs.declared.step.Step.{Step}
-use Rattle.bt_core.specs.declared.value.Value.{Value}
 use Rattle.bt_core.specs.Interaction.{Interaction, Ended, Whole, Part, Performed, Left}
 use Rattle.bt_core.proofs.InteractionLaws.{Whole-and_then, Part-after, Part-and_then, Performed-none, Whole-Ended, Left-and_then}
-use Rattle.map_ops.specs.declared.sweep.Sweep.{Sweep}
-use Rattle.map_ops.specs.Asking as map
 use Rattle.walk_meaning.specs.declared.flow.Frame.{Frame}
-use Rattle.walk_meaning.specs.Does.{Scene, Does, given, seen, changed, lifted, bind, choose, told}
-use Rattle.walk_meaning.specs.Maps.{get, swept}
+use Rattle.walk_meaning.specs.Does.{Scene, Does, given, seen, changed, lifted, bind, choose}
 use Rattle.bt_walk.specs.Walked.{Walked}
 
 pub Given-done : {A : Type 0} (a b : A) (scene : Scene) (frame after : Frame) (s : List Step) → a ≡ b → frame ≡ after → Whole (given a scene frame) s s (b, after)
@@ -51,25 +42,26 @@ module _ {A B : Type 0} (d : Does A) (k : A → Does B) (scene : Scene) (frame :
     Walked-next new (Ok b) after q = Whole-next new (b, after) q
     Walked-next new (Err x) after q = Part-next new q
 
--- what objects were asked
-pub Lifted-walked : {A : Type 0} (t : Interaction A) (scene : Scene) (frame : Frame) (old new : List Step) (r : Result A Memory) → Performed t old new r → Walked (lifted t) scene frame old new r frame
-unfolding lifted
-Lifted-walked t scene frame old new (Ok a) p = Whole-and_then t (λ value. Ended (value, frame)) old new new a (a, frame) p (Whole-Ended _ _ _ refl)
-Lifted-walked t scene frame old new (Err x) p = Part-and_then t (λ value. Ended (value, frame)) old new p
+-- what objects were asked, by what is seen
+module _ {A : Type 0} (ask : Scene → Interaction A) (scene : Scene) (frame : Frame) (old new : List Step) where
+  pub Lifted-done : (a : A) → Whole (ask scene) old new a → Whole (lifted ask scene frame) old new (a, frame)
+  unfolding lifted
+  Lifted-done a p = Whole-and_then (ask scene) (λ value. Ended (value, frame)) old new new a (a, frame) p (Whole-Ended _ _ _ refl)
 
-pub Told-made : (object : ObjectId) (op : Op) (old new : List Step) (r : Result (Unit {0}) Memory) → Performed (map.told object op) old new r → (scene : Scene) (frame : Frame) → Walked (told object op) scene frame old new r frame
-unfolding lifted bind given
-Told-made object op old new r p scene frame = Lifted-walked (map.told object op) scene frame old new r p
+  pub Lifted-begun : Part (ask scene) old new → Part (lifted ask scene frame) old new
+  unfolding lifted
+  Lifted-begun p = Part-and_then (ask scene) (λ value. Ended (value, frame)) old new p
 
-pub Got-made : (m : MapId) (key : List Value) (old new : List Step) (r : Result Value Memory) → Performed (map.got m key) old new r → (scene : Scene) (frame : Frame) → Walked (get m key) scene frame old new r frame
-unfolding lifted bind given
-Got-made m key old new r p scene frame = Lifted-walked (map.got m key) scene frame old new r p
+  pub Lifted-walked : (r : Result A Memory) → Performed (ask scene) old new r → Walked (lifted ask) scene frame old new r frame
+  Lifted-walked (Ok a) p = Lifted-done a p
+  Lifted-walked (Err x) p = Lifted-begun p
 
-pub Swept-walked : (sweep : Sweep) (kind : MapKind) (m : MapId) (scene : Scene) (frame : Frame) (old new : List Step) (r : Result (List Reply) Memory) →
-    Performed (map.swept sweep kind m scene.actors) old new r → Walked (swept sweep kind m) scene frame old new r frame
-Swept-walked sweep kind m scene frame old new r p =
-    Walked-next (seen (λ scene frame. scene.actors)) (λ actors. lifted (map.swept sweep kind m actors)) scene frame old frame old scene.actors (Seen-done _ _ _ _ _ refl) new r frame
-    (Lifted-walked (map.swept sweep kind m scene.actors) scene frame old new r p)
+  -- by another name of what is asked
+  pub Asked-done : (t : Interaction A) (a : A) → t ≡ ask scene → Whole t old new a → Whole (lifted ask scene frame) old new (a, frame)
+  Asked-done t a e p = Lifted-done a (subst (λ (x : Interaction A). Whole x old new a) e p)
+
+  pub Asked-begun : (t : Interaction A) → t ≡ ask scene → Part t old new → Part (lifted ask scene frame) old new
+  Asked-begun t e p = Lifted-begun (subst (λ (x : Interaction A). Part x old new) e p)
 
 pub Number-done : (a x : ℤ) (scene : Scene) (frame : Frame) (s : List Step) → SFits w64 x → a ≡ x → Whole (given a scene frame) s s (to_z w64 (of_z w64 x), frame)
 Number-done a x scene frame s f e = Given-done _ _ _ _ _ _ (e ∙ sym (to_z-of_z w64 x f)) refl

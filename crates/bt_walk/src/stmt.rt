@@ -12,10 +12,9 @@ ghost use Rattle.bt_walk.specs.Walked.{Walked, Made};
 ghost use Rattle.walk_meaning.specs.Served.{IsServed, Fits, HoldsUnder, all_made, scene_in};
 ghost use Rattle.walk_meaning.specs.declared.flow.Frame.{Frame as Kept};
 
-use crate::access::{assign, delete, get, set, tell, variable};
-use crate::sweep::ask_each;
+use crate::access::{assign, delete, set, variable};
 use crate::value::{number, value, values};
-use crate::view::kind_of;
+use crate::view::kind_in_body;
 use bt_core::arithmetic::binary;
 use bt_core::ending::Ending;
 use bt_core::item::Item;
@@ -26,9 +25,10 @@ use bt_core::operator::BinOp;
 use bt_core::port::Port;
 use bt_core::step::{ObjectId, Op};
 use bt_core::value::Value;
-use map_ops::sweep::Sweep;
+use map_ops::access::{get, tell};
+use map_ops::printing::print_map;
+use map_ops::sweep::{Sweep, ask_each};
 use map_ops::values::number_of;
-use map_rows::merging::merged;
 use std::alloc::Global;
 use typed_tree::expr::{AnyExpr, NumExpr};
 use typed_tree::stmt::Jump;
@@ -267,16 +267,8 @@ pub fn print<P: Port>(
     ensures walked { (frame : Kept) → Walked (print map top div) (scene_in view.now) frame (P.steps port.old) (P.steps port.new) result frame }
     ensures kept { P.fixed port.new ≡ P.fixed port.old }
 {
-    let kind = kind_of(map, view.body.maps.as_slice());
-    let replies = ask_each(alloc, view, Sweep::Read, kind, map, port)?;
-    let rows = merged(alloc, kind, replies.as_slice())?;
-    let item = Item::Map {
-        map,
-        rows,
-        top,
-        div,
-    };
-    tell(alloc, ObjectId::Out, Op::Emit(item), port)?;
+    let kind = kind_in_body(map, view.body.maps.as_slice());
+    print_map(alloc, kind, map, top, div, view.actors, port)?;
     Ok(Flow::Next)
 }
 
@@ -292,8 +284,8 @@ pub fn clear<P: Port>(
     ensures walked { (frame : Kept) → Walked (clear map) (scene_in view.now) frame (P.steps port.old) (P.steps port.new) result frame }
     ensures kept { P.fixed port.new ≡ P.fixed port.old }
 {
-    let kind = kind_of(map, view.body.maps.as_slice());
-    ask_each(alloc, view, Sweep::Clear, kind, map, port)?;
+    let kind = kind_in_body(map, view.body.maps.as_slice());
+    ask_each(alloc, Sweep::Clear, kind, map, view.actors, port)?;
     Ok(Flow::Next)
 }
 
@@ -309,8 +301,8 @@ pub fn zero<P: Port>(
     ensures walked { (frame : Kept) → Walked (zero_all map) (scene_in view.now) frame (P.steps port.old) (P.steps port.new) result frame }
     ensures kept { P.fixed port.new ≡ P.fixed port.old }
 {
-    let kind = kind_of(map, view.body.maps.as_slice());
-    ask_each(alloc, view, Sweep::Zero, kind, map, port)?;
+    let kind = kind_in_body(map, view.body.maps.as_slice());
+    ask_each(alloc, Sweep::Zero, kind, map, view.actors, port)?;
     Ok(Flow::Next)
 }
 

@@ -12,7 +12,7 @@ ghost use Rattle.walk_meaning.specs.Does.{in_order};
 ghost use Rattle.bt_walk.specs.Walked.{Walked, Made};
 ghost use Rattle.walk_meaning.specs.Served.{all_made, IsServed, Fits, NamesShared, HoldsUnder, scene_in};
 
-use crate::access::{assign, get, set, truth, variable};
+use crate::access::{assign, set, truth, variable};
 use bt_core::arithmetic::{binary, unary};
 use bt_core::items::Items;
 use bt_core::key::Key;
@@ -22,6 +22,7 @@ use bt_core::port::Port;
 use bt_core::text::Str64;
 use bt_core::value::Value;
 use event_record::reading::{int_field, str_field};
+use map_ops::access::get;
 use map_ops::builtin::builtin_value;
 use map_ops::values::{holds, next, number_of, text_of};
 use std::alloc::Global;

@@ -10,7 +10,7 @@ use Rattle.bt_core.specs.declared.map.Shape.{Shape}
 use Rattle.bt_core.specs.declared.map.Shape.TheVariants as shapes
 use Rattle.bt_core.specs.declared.step.ObjectId.{ObjectId}
 use Rattle.bt_core.specs.declared.step.Op.{Op}
-use Rattle.bt_core.specs.declared.step.Op.TheVariants.{Get}
+use Rattle.bt_core.specs.declared.step.Op.TheVariants.{Get, Set}
 use Rattle.bt_core.specs.declared.value.Value.{Value}
 use Rattle.bt_core.specs.declared.value.Value.TheVariants.{Int, Str}
 use Rattle.bt_core.specs.Interaction.{Interaction, Ended, Asks, and_then}
@@ -27,8 +27,9 @@ use Rattle.typed_tree.specs.Scope.{fits, all_fit, is_declared, decl_of, kind_of_
 use Rattle.walk_meaning.specs.declared.flow.Frame.{Frame}
 use Rattle.walk_meaning.specs.declared.view.View.{View}
 use Rattle.walk_meaning.specs.Admits.{AdmitsOf, EmitsOnly}
-use Rattle.walk_meaning.specs.Does.{Scene, Does, given, seen, changed, lifted, asked, bind, choose, told, gathered, in_order, either}
+use Rattle.walk_meaning.specs.Does.{Scene, Does, given, seen, changed, lifted, bind, choose, gathered, in_order, either}
 use Rattle.walk_meaning.specs.Exprs.{read, any_layer, num_layer, str_layer, value_does, number_does, text_does, step_at}
+use Rattle.map_ops.specs.Asking.{told, got}
 use Rattle.map_ops.specs.Holders.{part}
 use Rattle.walk_meaning.specs.Maps.{get, set}
 use Rattle.walk_meaning.specs.Served.{IsServed, Fits, scene_in, scope_in}
@@ -66,12 +67,14 @@ module _ (setting : Setting) (fine : Item → Type 0) (scene : Scene) where
   unfolding bind
   bind-good holds after d k p q frame = Admits-bind (IsFineCall setting fine) setting.maps (λ w. holds w.0) (λ w. after w.0) (d scene frame) (λ w. k w.0 scene w.1) (p frame) (λ w h. q w.0 h w.1)
 
-  pub asked-good : (object : ObjectId) (op : Op) → CanStep setting object op → EmitsOnly fine op → Good (λ reply. IsReplyOf setting.maps object op reply) (asked object op)
+  -- what objects are asked, where each call is fine
+  pub lifted-good : {A : Type 0} (holds : A → Type 0) (ask : Scene → Interaction A) → AdmitsOf (IsFineCall setting fine) setting.maps holds (ask scene) → Good holds (lifted ask)
   unfolding lifted
-  asked-good object op p f frame = ((p, f), λ reply kind. kind)
+  lifted-good {A} holds ask p frame =
+      Admits-bind (IsFineCall setting fine) setting.maps holds (λ (w : A × Frame). holds w.0) (ask scene) (λ value. Ended (value, frame)) p (λ value h. h)
 
-  pub told-good : (object : ObjectId) (op : Op) → CanStep setting object op → EmitsOnly fine op → Good Any (told object op)
-  told-good object op p f = bind-good (λ reply. IsReplyOf setting.maps object op reply) Any (asked object op) (λ reply. given tt) (asked-good object op p f) (λ reply kind. given-good Any tt tt)
+  pub told-good : (object : ObjectId) (op : Op) → CanStep setting object op → EmitsOnly fine op → Good Any (lifted (λ s. told object op))
+  told-good object op p f = lifted-good Any (λ s. told object op) ((p, f), λ reply kind. tt)
 
   pub choose-good : {A : Type 0} (holds : A → Type 0) (b : Bool) (one other : Does A) → Good holds one → Good holds other → Good holds (choose b one other)
   unfolding choose
@@ -82,7 +85,7 @@ module _ (setting : Setting) (fine : Item → Type 0) (scene : Scene) where
   either-good holds test one other t p q = bind-good Any holds test (λ n. choose _ one other) t (λ n h. choose-good holds _ one other p q)
 
   pub get-good : (m : MapId) (key : List Value) → CanStep setting (part m key) (Get key) → Good Any (get m key)
-  get-good m key p = bind-good (λ reply. IsReplyOf setting.maps (part m key) (Get key) reply) Any (asked (part m key) (Get key)) _ (asked-good (part m key) (Get key) p tt) (λ reply kind. given-good Any _ tt)
+  get-good m key p = lifted-good Any (λ s. got m key) ((p, tt), λ reply kind. tt)
 
 module _ (v : View) (setting : Setting) (served : IsServed v setting) (fine : Item → Type 0) where
   abbrev Does_good : {A : Type 0} → (A → Type 0) → Does A → Type 0
@@ -148,7 +151,7 @@ module _ (v : View) (setting : Setting) (served : IsServed v setting) (fine : It
   step-good m ks plus prefix d key shaped =
       let found = valued v setting m _ shapes.Int served d in
       bind-good setting fine (scene_in v) Free Free (get m key) _ (get-good setting fine (scene_in v) m key (get_can setting m _ shapes.Int key found shaped))
-      (λ old h. then-given (set m key _) (λ u. _) (told-good setting fine (scene_in v) _ _ (set_can setting m _ shapes.Int key (Int _) found shaped tt) tt))
+      (λ old h. then-given (set m key _) (λ u. _) (told-good setting fine (scene_in v) (part m key) (Set key (Int _)) (set_can setting m _ shapes.Int key (Int _) found shaped tt) tt))
 
   abbrev num_of : NumExpr-F ManyAny ManyNum ManyStr → NumExpr-F AnyExpr NumExpr StrExpr
   num_of h = map-NumExpr ManyAny ManyNum ManyStr AnyExpr NumExpr StrExpr (λ k. k.0) (λ k. k.0) (λ k. k.0) h

@@ -24,10 +24,10 @@ use Rattle.typed_tree.specs.Scope.{fits, all_fit, is_declared, is_there, decl_of
 use Rattle.walk_meaning.specs.declared.flow.Frame.{Frame}
 use Rattle.map_ops.specs.declared.sweep.Sweep.TheVariants.{Read}
 use Rattle.walk_meaning.specs.declared.view.View.{View}
-use Rattle.walk_meaning.specs.Does.{Scene, Does, given, lifted, asked, bind, then, choose, gathered, in_order, either}
+use Rattle.walk_meaning.specs.Does.{Scene, Does, given, lifted, bind, then, choose, gathered, in_order, either}
 use Rattle.walk_meaning.specs.Exprs.{read, builtin, command, number_field, text_field, step_variable, any_layer, num_layer, str_layer, value_does, number_does, text_does, step_at}
 use Rattle.map_ops.specs.Values.{number_of, text_of, value_of, next}
-use Rattle.walk_meaning.specs.Maps.{number_variable, text_variable, get, set, kind_of}
+use Rattle.walk_meaning.specs.Maps.{number_variable, text_variable, get, set, kind_in_body}
 use Rattle.map_ops.specs.Holders.{part, holder, sweep_op}
 use Rattle.walk_meaning.specs.Reading.{Reader, number_under, text_under, stepped_under, num_by, str_by, value_by, number_by, text_by}
 use Rattle.bt_core.specs.Same.{SameTo}
@@ -44,7 +44,7 @@ pub record ReadsAlike (comes : Call → Reply → Type 0) (reader : Reader) (v :
   pub texts : (m : MapId) (keys : List Shape) (key : List Value) (reply : Reply) → IsTrue (is_declared (decl_of m.0 v.body.now.maps) (kind_of_shape shapes.Str) keys) →
       comes (call_at (part m key) (Get key)) reply → reader.text reply ≡ text_of (value_of reply)
   pub rows : (m : MapId) (n : ℕ) (reply : Reply) → IsTrue (is_there (decl_of m.0 v.body.now.maps)) →
-      comes (call_at (holder (kind_of m v.body.now.maps) m n) (sweep_op Read (kind_of m v.body.now.maps) m)) reply → reader.rows (kind_of m v.body.now.maps) reply ≡ rows_in (kind_of m v.body.now.maps) reply
+      comes (call_at (holder (kind_in_body m v.body.now.maps) m n) (sweep_op Read (kind_in_body m v.body.now.maps) m)) reply → reader.rows (kind_in_body m v.body.now.maps) reply ≡ rows_in (kind_in_body m v.body.now.maps) reply
 
 module _ (comes : Call → Reply → Type 0) (scene : Scene) where
   -- values that are so related, and one frame
@@ -81,10 +81,6 @@ module _ (comes : Call → Reply → Type 0) (scene : Scene) where
   pub mapped-tied : {A B : Type 0} (R : A → B → Type 0) (d : Does A) (e : Does B) (f : B → A) → Tied R d e → ((a : A) (b : B) → R a b → a ≡ f b) → Tied Equal d (bind e (λ b. given (f b)))
   unfolding bind given
   mapped-tied {A} R d e f p q frame = SameTo-mapped comes (Ends R) (Ends (λ (a b : A). a ≡ b)) (d scene frame) (e scene frame) (λ z. (f z.0, z.1)) (p frame) (λ w z h. (q w.0 z.0 h.0, h.1))
-
-  pub asked-tied : (object : ObjectId) (op : Op) → Tied (λ (r s : Reply). (r ≡ s) × comes (call_at object op) r) (asked object op) (asked object op)
-  unfolding lifted
-  asked-tied object op frame = (refl, λ reply h. ((refl, h), refl))
 
   pub choose-tied : {A : Type 0} (b : Bool) (one other first second : Does A) → Tied Equal one first → Tied Equal other second → Tied Equal (choose b one other) (choose b first second)
   unfolding choose
@@ -136,16 +132,12 @@ module _ (comes : Call → Reply → Type 0) (reader : Reader) (v : View) (reads
   Declares m keys h = IsTrue (is_declared (decl_of m.0 v.body.now.maps) (kind_of_shape h) keys)
 
   pub number-tied : (m : MapId) (keys : List Shape) (key : List Value) → Declares m keys shapes.Int → Tied comes (scene_in v) (λ (n : ℤ) (value : Value). n ≡ number_of value) (number_under reader m key) (get m key)
-  number-tied m keys key d =
-      bind-tied comes (scene_in v) (λ (r s : Reply). (r ≡ s) × comes (call_at (part m key) (Get key)) r) (λ (n : ℤ) (value : Value). n ≡ number_of value) (asked (part m key) (Get key)) (asked (part m key) (Get key)) _ _
-      (asked-tied comes (scene_in v) (part m key) (Get key))
-      (λ r s h. given-tied comes (scene_in v) (λ (n : ℤ) (value : Value). n ≡ number_of value) (reader.number r) (value_of s) (reads.numbers m keys key r d h.1 ∙ ap (λ (x : Reply). number_of (value_of x)) h.0))
+  unfolding lifted
+  number-tied m keys key d frame = (refl, λ reply h. (reads.numbers m keys key reply d h, refl))
 
   text-tied : (m : MapId) (keys : List Shape) (key : List Value) → Declares m keys shapes.Str → Tied comes (scene_in v) (λ (t : List ℕ) (value : Value). t ≡ text_of value) (text_under reader m key) (get m key)
-  text-tied m keys key d =
-      bind-tied comes (scene_in v) (λ (r s : Reply). (r ≡ s) × comes (call_at (part m key) (Get key)) r) (λ (t : List ℕ) (value : Value). t ≡ text_of value) (asked (part m key) (Get key)) (asked (part m key) (Get key)) _ _
-      (asked-tied comes (scene_in v) (part m key) (Get key))
-      (λ r s h. given-tied comes (scene_in v) (λ (t : List ℕ) (value : Value). t ≡ text_of value) (reader.text r) (value_of s) (reads.texts m keys key r d h.1 ∙ ap (λ (x : Reply). text_of (value_of x)) h.0))
+  unfolding lifted
+  text-tied m keys key d frame = (refl, λ reply h. (reads.texts m keys key reply d h, refl))
 
   -- where the map is, and the parts of its key
   map_fits : (m : MapId) (ks : List ManyAny) (h : Shape) → Fits v (keyed_parts m.0 (map made_of (firsts ks)) h) → Declares m (key_shapes (map made_of (firsts ks))) h × Fits v (parts_in (map made_of (firsts ks)))

@@ -21,7 +21,7 @@ use Rattle.bt_core.specs.declared.step.Reply.{Reply}
 use Rattle.bt_core.specs.declared.value.Value.{Value}
 use Rattle.bt_core.specs.declared.value.Value.TheVariants.{Int}
 use Rattle.bt_core.specs.Arithmetic.{binary_value}
-use Rattle.bt_core.specs.Interaction.{Ended, Call}
+use Rattle.bt_core.specs.Interaction.{Interaction, Ended, Call}
 use Rattle.map_rows.specs.Merged.{rows_in, merged, merged_rows}
 use Rattle.typed_tree.specs.declared.expr.AnyExpr.{AnyExpr}
 use Rattle.typed_tree.specs.declared.expr.NumExpr.{NumExpr}
@@ -38,18 +38,18 @@ use Rattle.walk_meaning.specs.declared.flow.Flow.TheVariants.{Next, Break, Conti
 use Rattle.walk_meaning.specs.declared.flow.Frame.{Frame}
 use Rattle.map_ops.specs.declared.sweep.Sweep.TheVariants.{Read}
 use Rattle.walk_meaning.specs.declared.view.View.{View}
-use Rattle.walk_meaning.specs.Does.{Scene, Does, given, seen, changed, lifted, bind, told, in_order}
+use Rattle.walk_meaning.specs.Does.{Scene, Does, given, seen, changed, lifted, bind, in_order}
 use Rattle.walk_meaning.specs.Exprs.{value_does, values_do, number_does}
 use Rattle.map_ops.specs.Values.{number_of}
-use Rattle.walk_meaning.specs.Maps.{get, set, kind_of, swept}
+use Rattle.walk_meaning.specs.Maps.{get, set, kind_in_body}
 use Rattle.map_ops.specs.Holders.{holder, holders, sweep_op}
-use Rattle.map_ops.specs.Asking.{asked_from, swept as all_swept}
-use Rattle.walk_meaning.specs.Reading.{Reader, number_under, updated_under, value_by, values_by, number_by, number_or_one_by, printed, arm_by, stmt_by, block_by, guarded_by, tree_by, walk_by}
+use Rattle.map_ops.specs.Asking.{asked_from, told, swept, printed}
+use Rattle.walk_meaning.specs.Reading.{Reader, number_under, updated_under, value_by, values_by, number_by, number_or_one_by, printed_by, print_by, arm_by, stmt_by, block_by, guarded_by, tree_by, walk_by}
 use Rattle.bt_core.specs.Same.{SameTo}
-use Rattle.walk_meaning.specs.Stmts.{plain, stmt_layer, block_layer, stmt_does, block_does, number_or_one, kind_seen, print, clear, zero_all, jump_to, cut, update_at, if_next, in_turn, first_arm, arm_does, entered, turn, turns, tests, while_true, again}
+use Rattle.walk_meaning.specs.Stmts.{plain, stmt_layer, block_layer, stmt_does, block_does, number_or_one, print, clear, zero_all, jump_to, cut, update_at, if_next, in_turn, first_arm, arm_does, entered, turn, turns, tests, while_true, again}
 use Rattle.walk_meaning.specs.Walk.{walk, fresh, guarded, tree_does}
 use Rattle.walk_meaning.specs.Served.{Fits, scene_in, scope_in}
-use Rattle.bt_core.proofs.SameLaws.{SameTo-and_then}
+use Rattle.bt_core.proofs.SameLaws.{SameTo-self, SameTo-and_then}
 use Rattle.walk_meaning.proofs.ReadExprs.{ReadsAlike, call_at, Ends, Tied, self-tied, bind-tied, bind-same, first-same, either-tied, AnyRead, any_read, num_read, halves, values-same, number-tied}
 use Rattle.walk_meaning.proofs.TreeParts.{update_head}
 
@@ -94,43 +94,43 @@ module _ (comes : Call → Reply → Type 0) (reader : Reader) (v : View) (reads
       flat_map-append (reader.rows kind) rs (r ∷ []) ∙ ap (λ (l : List (List Value × Cell)). l ++ (reader.rows kind r ++ [])) h ∙ ap (λ (l : List (List Value × Cell)). flat_map (rows_in kind) rs ++ (l ++ [])) e ∙
       sym (flat_map-append (rows_in kind) rs (r ∷ []))
 
-  asked_from-tied : (kind : MapKind) (object : ℕ → ObjectId) (op : Op) (n start : ℕ) (replies : List Reply) → ((i : ℕ) (reply : Reply) → comes (call_at (object i) op) reply → reader.rows kind reply ≡ rows_in kind reply) →
-      flat_map (reader.rows kind) replies ≡ flat_map (rows_in kind) replies → Tied comes (scene_in v) (Rows kind) (lifted (asked_from object op replies start n)) (lifted (asked_from object op replies start n))
-  unfolding lifted
-  asked_from-tied kind object op zero start replies alike h frame = ((refl, h), refl)
-  asked_from-tied kind object op (suc n) start replies alike h frame =
-      (refl, λ r i. asked_from-tied kind object op n (start + 1) (replies ++ r ∷ []) alike (rows-more kind replies r h (alike start r i)) frame)
+  asked_from-same : (kind : MapKind) (object : ℕ → ObjectId) (op : Op) (n start : ℕ) (replies : List Reply) → ((i : ℕ) (reply : Reply) → comes (call_at (object i) op) reply → reader.rows kind reply ≡ rows_in kind reply) →
+      flat_map (reader.rows kind) replies ≡ flat_map (rows_in kind) replies → SameTo comes (Rows kind) (asked_from object op replies start n) (asked_from object op replies start n)
+  asked_from-same kind object op zero start replies alike h = (refl, h)
+  asked_from-same kind object op (suc n) start replies alike h =
+      (refl, λ r i. asked_from-same kind object op n (start + 1) (replies ++ r ∷ []) alike (rows-more kind replies r h (alike start r i)))
 
   abbrev kind_here : MapId → MapKind
-  kind_here m = kind_of m v.body.now.maps
+  kind_here m = kind_in_body m v.body.now.maps
 
-  abbrev actors : Does ℕ
-  actors = seen (λ (scene : Scene) (frame : Frame). scene.actors)
+  swept-same : (m : MapId) → IsTrue (is_there (decl_of m.0 v.body.now.maps)) → SameTo comes (Rows (kind_here m)) (swept Read (kind_here m) m v.actors) (swept Read (kind_here m) m v.actors)
+  swept-same m named =
+      asked_from-same (kind_here m) (holder (kind_here m) m) (sweep_op Read (kind_here m) m) (holders (kind_here m) v.actors) 0 [] (λ i reply h. reads.rows m i reply named h) refl
 
-  swept-tied : (m : MapId) → IsTrue (is_there (decl_of m.0 v.body.now.maps)) → Tied comes (scene_in v) (Rows (kind_here m)) (swept Read (kind_here m) m) (swept Read (kind_here m) m)
-  swept-tied m named =
-      bind-same comes (scene_in v) (Rows (kind_here m)) actors actors (λ n. lifted (all_swept Read (kind_here m) m n)) (λ n. lifted (all_swept Read (kind_here m) m n)) (self actors)
-      (λ n. asked_from-tied (kind_here m) (holder (kind_here m) m) (sweep_op Read (kind_here m) m) (holders (kind_here m) n) 0 [] (λ i reply h. reads.rows m i reply named h) refl)
+  abbrev shown : MapId → ℕ → ℤ → List (List Value × Cell) → Interaction (Unit {0})
+  shown m top div rows = told Out (ops.Emit (items.Map m rows top div))
 
-  shown-same : (m : MapId) (top : ℕ) (div : ℤ) (kind : MapKind) (rs qs : List Reply) → Rows kind rs qs → Same (plain (told Out (ops.Emit (items.Map m (merged_rows (flat_map (reader.rows kind) rs)) top div)))) (plain (told Out (ops.Emit (items.Map m (merged kind qs) top div))))
+  shown-same : (m : MapId) (top : ℕ) (div : ℤ) (kind : MapKind) (rs qs : List Reply) → Rows kind rs qs → SameTo comes (λ (a b : Unit {0}). a ≡ b) (shown m top div (merged_rows (flat_map (reader.rows kind) rs))) (shown m top div (merged kind qs))
   unfolding merged
   shown-same m top div kind rs qs h =
-      subst (λ (rows : List (List Value × Cell)). Same (plain (told Out (ops.Emit (items.Map m (merged_rows (flat_map (reader.rows kind) rs)) top div)))) (plain (told Out (ops.Emit (items.Map m (merged_rows rows) top div)))))
-      (h.1 ∙ ap (λ (l : List Reply). flat_map (rows_in kind) l) h.0) (self (plain (told Out (ops.Emit (items.Map m (merged_rows (flat_map (reader.rows kind) rs)) top div)))))
+      subst (λ (rows : List (List Value × Cell)). SameTo comes (λ (a b : Unit {0}). a ≡ b) (shown m top div (merged_rows (flat_map (reader.rows kind) rs))) (shown m top div (merged_rows rows)))
+      (h.1 ∙ ap (λ (l : List Reply). flat_map (rows_in kind) l) h.0)
+      (SameTo-self comes (λ (a b : Unit {0}). a ≡ b) (λ u. refl) (shown m top div (merged_rows (flat_map (reader.rows kind) rs))))
 
-  kind-tied : (m : MapId) → Tied comes (scene_in v) (λ (k j : MapKind). (k ≡ j) × (kind_here m ≡ k)) (kind_seen m) (kind_seen m)
-  unfolding seen
-  kind-tied m frame = ((refl, refl), refl)
+  printed-same : (m : MapId) (top : ℕ) (div : ℤ) → IsTrue (is_there (decl_of m.0 v.body.now.maps)) → SameTo comes (λ (a b : Unit {0}). a ≡ b) (printed_by reader (kind_here m) m top div v.actors) (printed (kind_here m) m top div v.actors)
+  printed-same m top div named =
+      SameTo-and_then comes (Rows (kind_here m)) (λ (a b : Unit {0}). a ≡ b) (swept Read (kind_here m) m v.actors) (swept Read (kind_here m) m v.actors)
+      (λ rs. shown m top div (merged_rows (flat_map (reader.rows (kind_here m)) rs))) (λ qs. shown m top div (merged (kind_here m) qs)) (swept-same m named) (shown-same m top div (kind_here m))
 
-  print-same : (m : MapId) (top : ℕ) (div : ℤ) → IsTrue (is_there (decl_of m.0 v.body.now.maps)) → Same (printed reader m top div) (print m top div)
+  lifted-same : {A : Type 0} (t u : Scene → Interaction A) → SameTo comes (λ (a b : A). a ≡ b) (t (scene_in v)) (u (scene_in v)) → Same (lifted t) (lifted u)
+  unfolding lifted
+  lifted-same {A} t u p frame =
+      SameTo-and_then comes (λ (a b : A). a ≡ b) (Ends comes (scene_in v) (λ (a b : A). a ≡ b)) (t (scene_in v)) (u (scene_in v)) (λ value. Ended (value, frame)) (λ value. Ended (value, frame)) p (λ a b h. (h, refl))
+
+  print-same : (m : MapId) (top : ℕ) (div : ℤ) → IsTrue (is_there (decl_of m.0 v.body.now.maps)) → Same (print_by reader m top div) (print m top div)
   print-same m top div named =
-      bind-tied comes (scene_in v) (λ (k j : MapKind). (k ≡ j) × (kind_here m ≡ k)) (λ (a b : Flow). a ≡ b) (kind_seen m) (kind_seen m)
-      (λ kind. bind (swept Read kind m) (λ replies. plain (told Out (ops.Emit (items.Map m (merged_rows (flat_map (reader.rows kind) replies)) top div)))))
-      (λ kind. bind (swept Read kind m) (λ replies. plain (told Out (ops.Emit (items.Map m (merged kind replies) top div)))))
-      (kind-tied m)
-      (λ k j h. subst (λ (x : MapKind). Same (bind (swept Read k m) (λ replies. plain (told Out (ops.Emit (items.Map m (merged_rows (flat_map (reader.rows k) replies)) top div))))) (bind (swept Read x m) (λ replies. plain (told Out (ops.Emit (items.Map m (merged x replies) top div)))))) h.0
-      (subst (λ (x : MapKind). Same (bind (swept Read x m) (λ replies. plain (told Out (ops.Emit (items.Map m (merged_rows (flat_map (reader.rows x) replies)) top div))))) (bind (swept Read x m) (λ replies. plain (told Out (ops.Emit (items.Map m (merged x replies) top div)))))) h.1
-      (bind-tied comes (scene_in v) (Rows (kind_here m)) (λ (a b : Flow). a ≡ b) (swept Read (kind_here m) m) (swept Read (kind_here m) m) _ _ (swept-tied m named) (shown-same m top div (kind_here m)))))
+      first (lifted (λ scene. printed_by reader (kind_in_body m scene.maps) m top div scene.actors)) (lifted (λ scene. printed (kind_in_body m scene.maps) m top div scene.actors)) (λ u. given Next)
+      (lifted-same (λ scene. printed_by reader (kind_in_body m scene.maps) m top div scene.actors) (λ scene. printed (kind_in_body m scene.maps) m top div scene.actors) (printed-same m top div named))
 
   update-same : (m : MapId) (keys : List Shape) (op : BinOp) (b : ℤ) (key : List Value) → IsTrue (is_declared (decl_of m.0 v.body.now.maps) Ints keys) → Same (updated_under reader m op b key) (update_at m key op b)
   update-same m keys op b key d =

@@ -3,10 +3,7 @@ use Rattle.std.specs.Prelude.{ℕ, ℤ, Bool, true, false, List, [], ◌∷◌, 
 use Rattle.bt_core.specs.declared.context.Context.{Context}
 use Rattle.bt_core.specs.declared.map.MapDecl.{MapDecl}
 use Rattle.bt_core.specs.declared.map.MapId.{MapId}
-use Rattle.bt_core.specs.declared.step.ObjectId.{ObjectId}
-use Rattle.bt_core.specs.declared.step.Op.{Op}
-use Rattle.bt_core.specs.declared.step.Reply.{Reply}
-use Rattle.bt_core.specs.Interaction.{Interaction, Ended, ask, and_then}
+use Rattle.bt_core.specs.Interaction.{Interaction, Ended, and_then}
 use Rattle.map_ops.specs.Values.{holds}
 use Rattle.walk_meaning.specs.declared.flow.Frame.{Frame}
 
@@ -34,13 +31,9 @@ seen look scene frame = Ended (look scene frame, frame)
 unfoldable pub changed : (Frame → Frame) → Does (Unit {0})
 changed change scene frame = Ended (tt, change frame)
 
--- what objects are asked, whatever is seen; the frame stays as it is
-unfoldable pub lifted : {A : Type 0} → Interaction A → Does A
-lifted t scene frame = and_then t (λ value. Ended (value, frame))
-
--- one call, and its reply
-abbrev pub asked : ObjectId → Op → Does Reply
-asked object op = lifted (ask object op)
+-- what objects are asked, which may depend on what is seen; the frame stays as it is
+unfoldable pub lifted : {A : Type 0} → (Scene → Interaction A) → Does A
+lifted ask scene frame = and_then (ask scene) (λ value. Ended (value, frame))
 
 -- the one, and then the next, which may depend on the value of the one
 unfoldable pub bind : {A B : Type 0} → Does A → (A → Does B) → Does B
@@ -54,10 +47,6 @@ choose false one other = other
 -- the one, and nothing of its value
 abbrev pub then : {A B : Type 0} → Does A → Does B → Does B
 then one next = bind one (λ value. next)
-
--- one call, whose reply says nothing
-abbrev pub told : ObjectId → Op → Does (Unit {0})
-told object op = then (asked object op) (given tt)
 
 -- a test, and then only what it asks for
 abbrev pub either : {A : Type 0} → Does ℤ → Does A → Does A → Does A

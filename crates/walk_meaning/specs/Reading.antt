@@ -18,7 +18,7 @@ use Rattle.bt_core.specs.declared.step.Reply.TheVariants as replies
 use Rattle.bt_core.specs.declared.value.Value.{Value}
 use Rattle.bt_core.specs.declared.value.Value.TheVariants.{Int, Str}
 use Rattle.bt_core.specs.Arithmetic.{binary_value}
-use Rattle.bt_core.specs.Interaction.{Interaction, Ended, and_then}
+use Rattle.bt_core.specs.Interaction.{Interaction, Ended, ask, and_then}
 use Rattle.bt_core.specs.Kinds.{IsShared}
 use Rattle.map_rows.specs.Merged.{rows_in, value_row, agg_row, merged_rows}
 use Rattle.typed_tree.specs.declared.body.TypedBody.{TypedBody}
@@ -32,12 +32,13 @@ use Rattle.typed_tree.specs.declared.stmt.TypedStmt.TheOpen.{TypedStmt-F}
 use Rattle.walk_meaning.specs.declared.flow.Flow.{Flow}
 use Rattle.walk_meaning.specs.declared.flow.Flow.TheVariants.{Next}
 use Rattle.map_ops.specs.declared.sweep.Sweep.TheVariants.{Read}
-use Rattle.walk_meaning.specs.Does.{Does, given, asked, bind, then, told, either, in_order}
-use Rattle.map_ops.specs.Values.{number_of, text_of, value_of, next}
+use Rattle.map_ops.specs.Asking.{told, swept}
 use Rattle.map_ops.specs.Holders.{part}
-use Rattle.walk_meaning.specs.Maps.{set, swept}
+use Rattle.map_ops.specs.Values.{number_of, text_of, value_of, next}
+use Rattle.walk_meaning.specs.Does.{Does, given, lifted, bind, then, either, in_order}
+use Rattle.walk_meaning.specs.Maps.{set, kind_in_body}
 use Rattle.walk_meaning.specs.Exprs.{any_layer, num_layer, str_layer}
-use Rattle.walk_meaning.specs.Stmts.{plain, set_variable, set_map, update_variable, gather, printf, kind_seen, delete_at, first_arm, block_or_next, while_true, stmt_layer, block_layer}
+use Rattle.walk_meaning.specs.Stmts.{plain, set_variable, set_map, update_variable, gather, printf, delete_at, first_arm, block_or_next, while_true, stmt_layer, block_layer}
 use Rattle.walk_meaning.specs.Walk.{fresh, ending_of}
 
 -- a way of reading replies: of one to a `Get` a number or a string, and of one to who reads a map of this kind its rows
@@ -60,10 +61,10 @@ pub record TakesWhatIsThere (reader : Reader) : Type 0 where
 module _ (reader : Reader) where
   -- the number under a key, and the string
   abbrev pub number_under : MapId → List Value → Does ℤ
-  number_under m key = bind (asked (part m key) (ops.Get key)) (λ reply. given (reader.number reply))
+  number_under m key = lifted (λ scene. and_then (ask (part m key) (ops.Get key)) (λ reply. Ended (reader.number reply)))
 
   abbrev pub text_under : MapId → List Value → Does (List ℕ)
-  text_under m key = bind (asked (part m key) (ops.Get key)) (λ reply. given (reader.text reply))
+  text_under m key = lifted (λ scene. and_then (ask (part m key) (ops.Get key)) (λ reply. Ended (reader.text reply)))
 
   abbrev pub stepped_under : MapId → Bool → Bool → List Value → Does ℤ
   stepped_under m plus prefix key = bind (number_under m key) (λ old. then (set m key (Int (next plus old))) (given (cond prefix (next plus old) old)))
@@ -98,10 +99,13 @@ module _ (reader : Reader) where
   updated_under m op b key = bind (number_under m key) (λ a. plain (set m key (Int (binary_value op a b))))
 
   -- the rows of all replies are merged and emitted
-  abbrev pub printed : MapId → ℕ → ℤ → Does Flow
-  printed m top div =
-      bind (kind_seen m) (λ kind. bind (swept Read kind m)
-      (λ replies. plain (told Out (ops.Emit (items.Map m (merged_rows (flat_map (reader.rows kind) replies)) top div)))))
+  abbrev pub printed_by : MapKind → MapId → ℕ → ℤ → ℕ → Interaction (Unit {0})
+  printed_by kind m top div actors =
+      and_then (swept Read kind m actors)
+      (λ replies. told Out (ops.Emit (items.Map m (merged_rows (flat_map (reader.rows kind) replies)) top div)))
+
+  abbrev pub print_by : MapId → ℕ → ℤ → Does Flow
+  print_by m top div = plain (lifted (λ scene. printed_by (kind_in_body m scene.maps) m top div scene.actors))
 
   abbrev pub arm_by : NumExpr × Does Flow → Does ℤ × Does Flow
   arm_by arm = (number_by arm.0, arm.1)
@@ -115,7 +119,7 @@ module _ (reader : Reader) where
   stmt_by (TypedStmt-F.Gather m keys kind number) = gather m (values_by keys) (number_or_one_by number)
   stmt_by (TypedStmt-F.Step value) = plain (number_by value)
   stmt_by (TypedStmt-F.Printf format values) = printf format (values_by values)
-  stmt_by (TypedStmt-F.Print m top div) = printed m top div
+  stmt_by (TypedStmt-F.Print m top div) = print_by m top div
   stmt_by (TypedStmt-F.Delete m keys) = delete_at m (values_by keys)
   stmt_by (TypedStmt-F.If arms otherwise) = first_arm (map arm_by arms) (block_or_next otherwise)
   stmt_by (TypedStmt-F.While test block line) = while_true line (number_by test) block

@@ -2,14 +2,12 @@
 use Rattle.std.specs.Prelude.{ℕ, zero, suc, ℤ, pos, List, [], ◌∷◌, Option, Some, None, map}
 use Rattle.bt_core.specs.declared.item.Item.TheVariants as items
 use Rattle.bt_core.specs.declared.map.MapId.{MapId}
-use Rattle.bt_core.specs.declared.map.MapKind.{MapKind}
 use Rattle.bt_core.specs.declared.operator.BinOp.{BinOp}
 use Rattle.bt_core.specs.declared.step.ObjectId.TheVariants.{Clock, Out}
 use Rattle.bt_core.specs.declared.step.Op.TheVariants as ops
 use Rattle.bt_core.specs.declared.value.Value.{Value}
 use Rattle.bt_core.specs.declared.value.Value.TheVariants.{Int}
 use Rattle.bt_core.specs.Arithmetic.{binary_value}
-use Rattle.map_rows.specs.Merged.{merged}
 use Rattle.typed_tree.specs.declared.expr.NumExpr.{NumExpr}
 use Rattle.typed_tree.specs.declared.stmt.Jump.{Jump}
 use Rattle.typed_tree.specs.declared.stmt.Jump.TheVariants as jumps
@@ -19,10 +17,11 @@ use Rattle.typed_tree.specs.declared.stmt.TypedStmt.TheOpen.{TypedStmt-F, TypedB
 use Rattle.bt_core.specs.declared.ending.Ending.TheVariants as endings
 use Rattle.walk_meaning.specs.declared.flow.Flow.{Flow}
 use Rattle.walk_meaning.specs.declared.flow.Flow.TheVariants.{Next, Break, Continue, Stop}
-use Rattle.map_ops.specs.declared.sweep.Sweep.TheVariants.{Read, Clear, Zero}
-use Rattle.walk_meaning.specs.Does.{Does, given, seen, changed, bind, then, told, either, in_order}
+use Rattle.map_ops.specs.declared.sweep.Sweep.TheVariants.{Clear, Zero}
+use Rattle.map_ops.specs.Asking.{told, swept, printed}
 use Rattle.map_ops.specs.Values.{number_of}
-use Rattle.walk_meaning.specs.Maps.{number_variable, assigned, get, set, delete, add, kind_of, swept}
+use Rattle.walk_meaning.specs.Does.{Does, given, seen, changed, lifted, bind, then, either, in_order}
+use Rattle.walk_meaning.specs.Maps.{number_variable, assigned, get, set, delete, add, kind_in_body}
 use Rattle.walk_meaning.specs.Exprs.{value_does, values_do, number_does}
 
 -- a statement after which the next one follows
@@ -55,22 +54,17 @@ abbrev pub gather : MapId → List (Does Value) → Does ℤ → Does Flow
 gather m keys number = bind (in_order keys) (λ key. bind number (λ n. plain (add m key n)))
 
 abbrev pub printf : ℕ → List (Does Value) → Does Flow
-printf format ds = bind (in_order ds) (λ values. plain (told Out (ops.Emit (items.Printf format values))))
+printf format ds = bind (in_order ds) (λ values. plain (lifted (λ scene. told Out (ops.Emit (items.Printf format values)))))
 
--- what the map holds, by the body's list
-abbrev pub kind_seen : MapId → Does MapKind
-kind_seen m = seen (λ scene frame. kind_of m scene.maps)
-
--- all objects that hold the map are read, and then its merged rows are emitted, also where there are none
+-- a map is printed, or all objects that hold it are swept, by what it holds
 abbrev pub print : MapId → ℕ → ℤ → Does Flow
-print m top div =
-    bind (kind_seen m) (λ kind. bind (swept Read kind m) (λ replies. plain (told Out (ops.Emit (items.Map m (merged kind replies) top div)))))
+print m top div = plain (lifted (λ scene. printed (kind_in_body m scene.maps) m top div scene.actors))
 
 abbrev pub clear : MapId → Does Flow
-clear m = bind (kind_seen m) (λ kind. plain (swept Clear kind m))
+clear m = plain (lifted (λ scene. swept Clear (kind_in_body m scene.maps) m scene.actors))
 
 abbrev pub zero_all : MapId → Does Flow
-zero_all m = bind (kind_seen m) (λ kind. plain (swept Zero kind m))
+zero_all m = plain (lifted (λ scene. swept Zero (kind_in_body m scene.maps) m scene.actors))
 
 abbrev pub delete_at : MapId → List (Does Value) → Does Flow
 delete_at m keys = bind (in_order keys) (λ key. plain (delete m key))
@@ -78,7 +72,7 @@ delete_at m keys = bind (in_order keys) (λ key. plain (delete m key))
 abbrev pub jump_to : Jump → Does Flow
 jump_to jumps.Break = given Break
 jump_to jumps.Continue = given Continue
-jump_to jumps.Exit = then (told Clock ops.Stop) (given (Stop endings.Exit))
+jump_to jumps.Exit = then (lifted (λ scene. told Clock ops.Stop)) (given (Stop endings.Exit))
 jump_to jumps.Return = given (Stop endings.Return)
 
 -- what follows a statement, where it leads there
@@ -104,7 +98,7 @@ block_or_next (Some block) = block
 
 -- no turn is made any more: the line of the loop is emitted, and the run ends
 abbrev pub cut : ℕ → Does Flow
-cut line = then (told Out (ops.Emit (items.Cut line))) (given (Stop endings.Cut))
+cut line = then (lifted (λ scene. told Out (ops.Emit (items.Cut line)))) (given (Stop endings.Cut))
 
 -- the block is entered where a turn is left
 abbrev pub entered : ℕ → Does Flow → ℕ → Does Flow

@@ -7,7 +7,7 @@ use Rattle.bt_core.specs.Arithmetic.{truth}
 use Rattle.typed_tree.specs.Parts.{made_of, key_shapes}
 use Rattle.map_ops.specs.Values.{number_of, text_of}
 use Rattle.walk_meaning.specs.Served.{Fits, IsServed, all_made}
-use Rattle.bt_walk.proofs.Binds.{Part-first, Part-next, Whole-next, Walked-next, Given-done, Seen-done, Changed-done, Number-done, Number-seen, Whole-yes, Whole-no, Part-yes, Part-no, Walked-yes, Walked-no}
+use Rattle.bt_walk.proofs.Binds.{Part-first, Part-next, Whole-next, Walked-next, Given-done, Seen-done, Changed-done, Number-done, Number-seen, Whole-yes, Whole-no, Part-yes, Part-no, Walked-yes, Walked-no, Lifted-walked}
 use Rattle.walk_meaning.proofs.Declared.{shared, valued, few_values, keyed, held, field_inside, part_below}
 use Rattle.walk_meaning.proofs.TreeParts.{num_field_parts, str_field_parts, step_map_parts, one_fits, one_size}
 use Rattle.typed_tree.proofs.expr.AnyExpr.TheLaws.{the_size}
@@ -220,8 +220,8 @@ read-get-requires g t c =
 
 pub read-returns-clause-walked : goal.read-returns-clause-walked
 read-returns-clause-walked g t c =
-    let made = rw (c.of-key.ensures, c.into_vec.ensures) at c.get.ensures.made in
-    (Walked-next _ _ _ _ _ _ _ _ c.in_ok-parts.ensures.walked _ _ _ (made _ _))
+    let got = rw (c.of-key.ensures, c.into_vec.ensures) at c.get.ensures.performed in
+    (Walked-next _ _ _ _ _ _ _ _ c.in_ok-parts.ensures.walked _ _ _ (Lifted-walked _ _ _ _ _ _ got))
 
 pub text-str_field-requires-clause-inside : goal.text-str_field-requires-clause-inside
 text-str_field-requires-clause-inside g t c =
