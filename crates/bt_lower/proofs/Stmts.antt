@@ -24,7 +24,7 @@ use Rattle.ir_code.specs.declared.instr.Instr.{Instr}
 use Rattle.ir_code.specs.declared.instr.Instr.TheVariants as i
 use Rattle.bt_core.specs.declared.step.ObjectId.TheVariants.{Clock}
 use Rattle.bt_core.specs.declared.step.Op.TheVariants as ops
-use Rattle.map_ops.specs.Asking.{told as stop_asked}
+use Rattle.map_ops.specs.Asking.{told}
 use Rattle.ir_code.specs.Figures.{sizes_of, instr_slots, instr_bytes}
 use Rattle.ir_code.specs.Meaning.{Scene, instr_run}
 use Rattle.ir_code.specs.Serving.{end_read}
@@ -178,7 +178,7 @@ Lowers-exit qs way c c1 new e1 e =
       slots = omega (arith, slots-pushed i.Stop (begun (End Exited) [] c), slots-begun (End Exited) [] c);
       stack = pushed-stack (begun (End Exited) [] c) i.Stop c.stack refl ∙ append-nil c.stack;
       does = λ bs stand most le t inside fits w same frame values k f.
-          Runs-push bs (begun (End Exited) [] c) i.Stop _ (seen_by t.ground.maps w) (state frame values) (stop_asked Clock ops.Stop) (λ u. state frame values) (λ u. k (Stop Exited, frame)) refl
+          Runs-push bs (begun (End Exited) [] c) i.Stop _ (seen_by t.ground.maps w) (state frame values) (told Clock ops.Stop) (λ u. state frame values) (λ u. k (Stop Exited, frame)) refl
           (λ u. record { by = λ m h. sym (f.stop Exited frame) });
       sound = λ bs stand t inside fits room ways o.
           (Opens-push t.ground bs (begun (End Exited) [] c) i.Stop c.stack refl refl (none-read t.ground.payload) (Room-less t.ground _ _ (omega (arith, ap sizes_of (append-nil c.stack))) room) (Opens-end bs t c Exited (Room-less t.ground _ _ (omega arith) room)), Sound-none t.ground bs (length c.blocks));

@@ -2,6 +2,7 @@
 use Rattle.std.proofs.Common.{◌≡◌, ◌++◌, ◌+◌, ℕ, zero, suc, ℤ, List, [], ◌∷◌, Bool, true, false, map, refl, sym, subst}
 use Rattle.std.specs.Prelude.{Option, Some, None}
 use Rattle.bt_core.specs.declared.context.Context.{Context}
+use Rattle.bt_core.specs.declared.item.Item.TheVariants as items
 use Rattle.bt_core.specs.declared.map.MapId.{MapId}
 use Rattle.bt_core.specs.declared.map.MapKind.{MapKind}
 use Rattle.bt_core.specs.declared.map.MapKind.TheVariants.{Ints, Strs, Aggs}
@@ -27,12 +28,12 @@ use Rattle.walk_meaning.specs.declared.flow.Flow.TheVariants.{Next, Break, Conti
 use Rattle.walk_meaning.specs.declared.flow.Frame.{Frame}
 use Rattle.map_ops.specs.declared.sweep.Sweep.{Sweep}
 use Rattle.map_ops.specs.declared.sweep.Sweep.TheVariants.{Read, Clear, Zero}
-use Rattle.walk_meaning.specs.Does.{Scene, Does, given, seen, changed, lifted, asked, bind, choose, told, gathered, in_order, either}
+use Rattle.walk_meaning.specs.Does.{Scene, Does, given, seen, changed, lifted, bind, choose, gathered, in_order, either}
 use Rattle.walk_meaning.specs.Exprs.{read, any_layer, num_layer, str_layer, value_does, values_do, number_does, text_does, step_at}
 use Rattle.map_ops.specs.Holders.{part, holder, holders, sweep_op}
-use Rattle.walk_meaning.specs.Maps.{get, set, swept}
-use Rattle.map_ops.specs.Asking.{asked_from, swept as all_swept}
-use Rattle.walk_meaning.specs.Stmts.{plain, stmt_layer, block_layer, stmt_does, block_does, number_or_one, kind_seen, print, clear, zero_all, if_next, in_turn, first_arm, arm_does, cut, entered, turn, turns, tests, while_true, again}
+use Rattle.walk_meaning.specs.Maps.{get, set, delete, add, kind_in_body}
+use Rattle.map_ops.specs.Asking.{told, got, asked_from, swept, printed}
+use Rattle.walk_meaning.specs.Stmts.{plain, stmt_layer, block_layer, stmt_does, block_does, number_or_one, print, clear, zero_all, if_next, in_turn, first_arm, arm_does, cut, entered, turn, turns, tests, while_true, again}
 use Rattle.walk_meaning.specs.Walk.{walk, fresh, guarded, ending_of, tree_does}
 use Rattle.bt_meaning.specs.Ticks.{OnlyStops}
 
@@ -62,12 +63,16 @@ bind-stops : {A B : Type 0} (d : Does A) (k : A → Does B) → Stops d → ((a 
 unfolding bind
 bind-stops d k p q scene frame = stops-then (d scene frame) (λ w. k w.0 scene w.1) (p scene frame) (λ w. q w.0 scene w.1)
 
-asked-stops : (object : ObjectId) (op : Op) → (object ≡ Clock → op ≡ ops.Stop) → Stops (asked object op)
+-- what objects are asked, where it makes no other call
+lifted-stops : {A : Type 0} (ask : Scene → Interaction A) → ((scene : Scene) → OnlyStops (ask scene)) → Stops (lifted ask)
 unfolding lifted
-asked-stops object op h scene frame = (h, λ reply. tt)
+lifted-stops ask p scene frame = stops-then (ask scene) (λ value. Ended (value, frame)) (p scene) (λ value. tt)
 
-told-stops : (object : ObjectId) (op : Op) → (object ≡ Clock → op ≡ ops.Stop) → Stops (told object op)
-told-stops object op h = bind-stops (asked object op) (λ reply. given tt) (asked-stops object op h) (λ reply. given-stops tt)
+told-only : (object : ObjectId) (op : Op) → (object ≡ Clock → op ≡ ops.Stop) → OnlyStops (told object op)
+told-only object op h = (h, λ reply. tt)
+
+told-stops : (object : ObjectId) (op : Op) → (object ≡ Clock → op ≡ ops.Stop) → Stops (lifted (λ scene. told object op))
+told-stops object op h = lifted-stops (λ scene. told object op) (λ scene. told-only object op h)
 
 choose-stops : {A : Type 0} (b : Bool) (one other : Does A) → Stops one → Stops other → Stops (choose b one other)
 unfolding choose
@@ -99,21 +104,26 @@ not_holder Ints m n op e = absurd cc
 not_holder Strs m n op e = absurd cc
 not_holder (Aggs kind) m n op e = absurd cc
 
-at_part : (m : MapId) (key : List Value) (op : Op) → Stops (told (part m key) op)
+at_part : (m : MapId) (key : List Value) (op : Op) → Stops (lifted (λ scene. told (part m key) op))
 at_part m key op = told-stops (part m key) op (not_part m key op)
 
 get-stops : (m : MapId) (key : List Value) → Stops (get m key)
-get-stops m key = then-given (asked (part m key) (ops.Get key)) _ (asked-stops (part m key) (ops.Get key) (not_part m key (ops.Get key)))
+get-stops m key = lifted-stops (λ scene. got m key) (λ scene. (not_part m key (ops.Get key), λ reply. tt))
 
-asked_from-stops : (sweep : Sweep) (kind : MapKind) (m : MapId) (replies : List Reply) (first n : ℕ) → Stops (lifted (asked_from (holder kind m) (sweep_op sweep kind m) replies first n))
-unfolding lifted
-asked_from-stops sweep kind m replies first zero scene frame = tt
-asked_from-stops sweep kind m replies first (suc n) scene frame =
-    (not_holder kind m first (sweep_op sweep kind m), λ reply. asked_from-stops sweep kind m (replies ++ reply ∷ []) (first + 1) n scene frame)
+asked_from-only : (sweep : Sweep) (kind : MapKind) (m : MapId) (replies : List Reply) (first n : ℕ) → OnlyStops (asked_from (holder kind m) (sweep_op sweep kind m) replies first n)
+asked_from-only sweep kind m replies first zero = tt
+asked_from-only sweep kind m replies first (suc n) =
+    (not_holder kind m first (sweep_op sweep kind m), λ reply. asked_from-only sweep kind m (replies ++ reply ∷ []) (first + 1) n)
 
-swept-stops : (sweep : Sweep) (kind : MapKind) (m : MapId) → Stops (swept sweep kind m)
-swept-stops sweep kind m = bind-stops (seen (λ scene frame. scene.actors)) (λ n. lifted (all_swept sweep kind m n))
-    (seen-stops (λ scene frame. scene.actors)) (λ n. asked_from-stops sweep kind m [] 0 (holders kind n))
+swept-only : (sweep : Sweep) (kind : MapKind) (m : MapId) (actors : ℕ) → OnlyStops (swept sweep kind m actors)
+swept-only sweep kind m actors = asked_from-only sweep kind m [] 0 (holders kind actors)
+
+printed-only : (kind : MapKind) (m : MapId) (top : ℕ) (div : ℤ) (actors : ℕ) → OnlyStops (printed kind m top div actors)
+printed-only kind m top div actors = stops-then (swept Read kind m actors) _ (swept-only Read kind m actors) (λ replies. told-only Out _ (not_out _))
+
+sweep-stops : (sweep : Sweep) (m : MapId) → Stops (lifted (λ scene. swept sweep (kind_in_body m scene.maps) m scene.actors))
+sweep-stops sweep m =
+    lifted-stops (λ scene. swept sweep (kind_in_body m scene.maps) m scene.actors) (λ scene. swept-only sweep (kind_in_body m scene.maps) m scene.actors)
 
 -- ---- expressions
 
@@ -220,23 +230,22 @@ flow-stops flow = given-stops flow
 plain-stops : {A : Type 0} (d : Does A) → Stops d → Stops (plain d)
 plain-stops d p = then-given d (λ u. Next) p
 
-emit-stops : (op : Op) → Stops (plain (told Out op))
-emit-stops op = plain-stops (told Out op) (told-stops Out op (not_out op))
-
-kind-stops : (m : MapId) → Stops (kind_seen m)
-kind-stops m = seen-stops _
+emit-stops : (op : Op) → Stops (plain (lifted (λ scene. told Out op)))
+emit-stops op = plain-stops (lifted (λ scene. told Out op)) (told-stops Out op (not_out op))
 
 print-stops : (m : MapId) (top : ℕ) (div : ℤ) → Stops (print m top div)
-print-stops m top div = bind-stops (kind_seen m) _ (kind-stops m) (λ kind. bind-stops (swept Read kind m) _ (swept-stops Read kind m) (λ replies. emit-stops _))
+print-stops m top div =
+    plain-stops (lifted (λ scene. printed (kind_in_body m scene.maps) m top div scene.actors))
+    (lifted-stops (λ scene. printed (kind_in_body m scene.maps) m top div scene.actors) (λ scene. printed-only (kind_in_body m scene.maps) m top div scene.actors))
 
 clear-stops : (m : MapId) → Stops (clear m)
-clear-stops m = bind-stops (kind_seen m) _ (kind-stops m) (λ kind. plain-stops (swept Clear kind m) (swept-stops Clear kind m))
+clear-stops m = plain-stops (lifted (λ scene. swept Clear (kind_in_body m scene.maps) m scene.actors)) (sweep-stops Clear m)
 
 zero-stops : (m : MapId) → Stops (zero_all m)
-zero-stops m = bind-stops (kind_seen m) _ (kind-stops m) (λ kind. plain-stops (swept Zero kind m) (swept-stops Zero kind m))
+zero-stops m = plain-stops (lifted (λ scene. swept Zero (kind_in_body m scene.maps) m scene.actors)) (sweep-stops Zero m)
 
 cut-stops : (line : ℕ) → Stops (cut line)
-cut-stops line = then-given (told Out _) (λ u. _) (told-stops Out _ (not_out _))
+cut-stops line = then-given (lifted (λ scene. told Out (ops.Emit (items.Cut line)))) (λ u. _) (told-stops Out (ops.Emit (items.Cut line)) (not_out (ops.Emit (items.Cut line))))
 
 entered-stops : (line : ℕ) (block : Does Flow) (n : ℕ) → Stops block → Stops (entered line block n)
 entered-stops line block zero p = cut-stops line
@@ -311,25 +320,25 @@ stmt_case : (h : TypedStmt-F ManyStmt ManyBlock)
 stmt_case (TypedStmt-F.SetVar var value) = bind-stops (value_does value) _ (any_stops value) (λ x. plain-stops (changed _) (changed-stops _))
 stmt_case (TypedStmt-F.SetMap m keys value) =
     bind-stops (in_order (values_do keys)) _ (values-stops keys []) (λ key. bind-stops (value_does value) _ (any_stops value)
-    (λ x. plain-stops (told (part m key) (ops.Set key x)) (at_part m key (ops.Set key x))))
+    (λ x. plain-stops (set m key x) (at_part m key (ops.Set key x))))
 stmt_case (TypedStmt-F.UpdateVar var op e) =
     bind-stops (number_does e) _ (num_stops e) (λ b. bind-stops _ _ (seen-stops _) (λ a. plain-stops (changed _) (changed-stops _)))
 stmt_case (TypedStmt-F.UpdateMap m keys op e) =
     bind-stops (in_order (values_do keys)) _ (values-stops keys []) (λ key. bind-stops (number_does e) _ (num_stops e)
-    (λ b. bind-stops (get m key) _ (get-stops m key) (λ old. plain-stops (told (part m key) (ops.Set key _)) (at_part m key (ops.Set key _)))))
+    (λ b. bind-stops (get m key) _ (get-stops m key) (λ old. plain-stops (set m key _) (at_part m key (ops.Set key _)))))
 stmt_case (TypedStmt-F.Gather m keys kind number) =
     bind-stops (in_order (values_do keys)) _ (values-stops keys []) (λ key. bind-stops (number_or_one number) _ (number-stops number)
-    (λ n. plain-stops (bind _ _) (bind-stops _ (λ a. told (Cpu a) (ops.Add m key n)) (seen-stops _) (λ a. told-stops (Cpu a) (ops.Add m key n) (not_cpu a (ops.Add m key n))))))
+    (λ n. plain-stops (add m key n) (lifted-stops (λ scene. told (Cpu scene.actor) (ops.Add m key n)) (λ scene. told-only (Cpu scene.actor) (ops.Add m key n) (not_cpu scene.actor (ops.Add m key n))))))
 stmt_case (TypedStmt-F.Step e) = plain-stops (number_does e) (num_stops e)
 stmt_case (TypedStmt-F.Printf format es) = bind-stops (in_order (values_do es)) _ (values-stops es []) (λ values. emit-stops _)
 stmt_case (TypedStmt-F.Print m top div) = print-stops m top div
 stmt_case (TypedStmt-F.Clear m) = clear-stops m
 stmt_case (TypedStmt-F.Zero m) = zero-stops m
 stmt_case (TypedStmt-F.Delete m keys) =
-    bind-stops (in_order (values_do keys)) _ (values-stops keys []) (λ key. plain-stops (told (part m key) (ops.Delete key)) (at_part m key (ops.Delete key)))
+    bind-stops (in_order (values_do keys)) _ (values-stops keys []) (λ key. plain-stops (delete m key) (at_part m key (ops.Delete key)))
 stmt_case (TypedStmt-F.Jump jumps.Break) = flow-stops Break
 stmt_case (TypedStmt-F.Jump jumps.Continue) = flow-stops Continue
-stmt_case (TypedStmt-F.Jump jumps.Exit) = then-given (told Clock ops.Stop) (λ u. _) (told-stops Clock ops.Stop (λ e. refl))
+stmt_case (TypedStmt-F.Jump jumps.Exit) = then-given (lifted (λ scene. told Clock ops.Stop)) (λ u. _) (told-stops Clock ops.Stop (λ e. refl))
 stmt_case (TypedStmt-F.Jump jumps.Return) = flow-stops (Stop _)
 stmt_case (TypedStmt-F.If arms None) = arms-stops arms (given Next) (flow-stops Next)
 stmt_case (TypedStmt-F.If arms (Some b)) = arms-stops arms (block_does b.0) b.1

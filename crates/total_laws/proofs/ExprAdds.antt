@@ -18,7 +18,8 @@ use Rattle.typed_tree.specs.Parts.{Part, Made, made_of, num_parts, str_parts, pa
 use Rattle.bt_meaning.specs.Totals.{Entry, added}
 use Rattle.bt_meaning.proofs.Eachs.{each_front, each_back}
 use Rattle.walk_meaning.specs.declared.flow.Frame.{Frame}
-use Rattle.walk_meaning.specs.Does.{Scene, Does, given, seen, changed, lifted, bind, choose, told, gathered, either}
+use Rattle.walk_meaning.specs.Does.{Scene, Does, given, seen, changed, lifted, bind, choose, gathered, either}
+use Rattle.map_ops.specs.Asking.{told}
 use Rattle.map_ops.specs.Builtins.{builtin_value}
 use Rattle.walk_meaning.specs.Exprs.{any_layer, num_layer, str_layer, value_does, values_do, number_does, text_does}
 use Rattle.walk_meaning.specs.Maps.{add}
@@ -54,13 +55,13 @@ module _ (m : MapId) (one two : Scene) (like : AreLike one two) where
             (λ a e. subst (λ (z : A × Frame). Gives m two.actor y.0 (λ v. v ≡ y.1) (k z.0 two z.1)) (sym e) y.3),
       )
 
-  pub told-sure : (object : ObjectId) (op : Op) → is_plain one.actor object op → is_plain two.actor object op → Sure (told object op)
-  unfolding bind lifted given
+  pub told-sure : (object : ObjectId) (op : Op) → is_plain one.actor object op → is_plain two.actor object op → Sure (lifted (λ scene. told object op))
+  unfolding lifted
   told-sure object op p q frame = (added m op ++ [], (tt, frame), (p, [], refl, λ r. (refl, refl)), (q, [], refl, λ r. (refl, refl)))
 
   -- a number goes to the table of the scene's actor
   pub add-sure : (n : MapId) (key : List Value) (number : ℤ) → Sure (add n key number)
-  unfolding bind lifted given seen
+  unfolding lifted
   add-sure n key number frame =
       (added m (ops.Add n key number) ++ [], (tt, frame), (refl, [], refl, λ r. (refl, refl)), (refl, [], refl, λ r. (refl, refl)))
 

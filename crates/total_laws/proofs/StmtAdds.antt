@@ -28,12 +28,12 @@ use Rattle.walk_meaning.specs.declared.flow.Flow.{Flow}
 use Rattle.walk_meaning.specs.declared.flow.Flow.TheVariants.{Next, Break, Continue, Stop}
 use Rattle.walk_meaning.specs.declared.flow.Frame.{Frame}
 use Rattle.map_ops.specs.declared.sweep.Sweep.TheVariants.{Read}
-use Rattle.walk_meaning.specs.Does.{Scene, Does, given, seen, changed, lifted, bind, told, in_order}
+use Rattle.walk_meaning.specs.Does.{Scene, Does, given, changed, lifted, bind, in_order}
 use Rattle.walk_meaning.specs.Exprs.{value_does, values_do, number_does}
-use Rattle.walk_meaning.specs.Maps.{kind_of, swept, add}
+use Rattle.walk_meaning.specs.Maps.{kind_in_body, add}
 use Rattle.map_ops.specs.Holders.{holder, holders, sweep_op}
-use Rattle.map_ops.specs.Asking.{asked_from}
-use Rattle.walk_meaning.specs.Stmts.{plain, stmt_layer, block_layer, stmt_does, block_does, number_or_one, kind_seen, print, if_next, in_turn, first_arm, arm_does, cut, entered, turn, turns, tests, while_true, again}
+use Rattle.map_ops.specs.Asking.{told, asked_from, swept, printed}
+use Rattle.walk_meaning.specs.Stmts.{plain, stmt_layer, block_layer, stmt_does, block_does, number_or_one, print, if_next, in_turn, first_arm, arm_does, cut, entered, turn, turns, tests, while_true, again}
 use Rattle.walk_meaning.specs.Walk.{walk, fresh, guarded, ending_of, tree_does}
 use Rattle.total_laws.proofs.Adding.{is_plain, Gives, gives-then}
 use Rattle.total_laws.proofs.ExprAdds.{Sure, given-sure, seen-sure, changed-sure, bind-sure, told-sure, add-sure, either-sure, then-given, front, back, num_sure, any_sure, values-sure}
@@ -54,16 +54,15 @@ module _ (m : MapId) (one two : Scene) (like : AreLike one two) where
 
   -- ---- `print`: the replies reach only what is emitted
 
-  -- the steps of a scene's actor add nothing, and the frame stays
-  abbrev JustReads : ℕ → {A : Type 0} → Frame → Interaction (A × Frame) → Type 0
-  JustReads actor frame t = Gives m actor [] (λ p. p.1 ≡ frame) t
+  -- the steps of an actor add nothing
+  abbrev JustReads : ℕ → {A : Type 0} → Interaction A → Type 0
+  JustReads actor t = Gives m actor [] (λ a. Unit {0}) t
 
-  asked_from-reads : (scene : Scene) (frame : Frame) (object : ℕ → ObjectId) (op : Op) (replies : List Reply) (first n : ℕ)
-      → ((i : ℕ) → is_plain scene.actor (object i) op) → added m op ≡ [] → JustReads scene.actor frame (lifted (asked_from object op replies first n) scene frame)
-  unfolding lifted
-  asked_from-reads scene frame object op replies first zero fine none = (refl, refl)
-  asked_from-reads scene frame object op replies first (suc n) fine none =
-      (fine first, [], sym (ap (λ (l : List Entry). l ++ []) none), λ r. asked_from-reads scene frame object op (replies ++ r ∷ []) (first + 1) n fine none)
+  asked_from-reads : (actor : ℕ) (object : ℕ → ObjectId) (op : Op) (replies : List Reply) (first n : ℕ)
+      → ((i : ℕ) → is_plain actor (object i) op) → added m op ≡ [] → JustReads actor (asked_from object op replies first n)
+  asked_from-reads actor object op replies first zero fine none = (refl, tt)
+  asked_from-reads actor object op replies first (suc n) fine none =
+      (fine first, [], sym (ap (λ (l : List Entry). l ++ []) none), λ r. asked_from-reads actor object op (replies ++ r ∷ []) (first + 1) n fine none)
 
   read_plain : (actor : ℕ) (kind : MapKind) (number : MapId) (i : ℕ) → is_plain actor (holder kind number i) (sweep_op Read kind number)
   read_plain actor Ints number i = tt
@@ -75,39 +74,34 @@ module _ (m : MapId) (one two : Scene) (like : AreLike one two) where
   read_none Strs number = refl
   read_none (Aggs kind) number = refl
 
-  swept-reads : (scene : Scene) (frame : Frame) (kind : MapKind) (number : MapId) → JustReads scene.actor frame (swept Read kind number scene frame)
-  unfolding bind seen
-  swept-reads scene frame kind number =
-      asked_from-reads scene frame (holder kind number) (sweep_op Read kind number) [] 0 (holders kind scene.actors) (read_plain scene.actor kind number) (read_none kind number)
+  swept-reads : (actor : ℕ) (kind : MapKind) (number : MapId) (actors : ℕ) → JustReads actor (swept Read kind number actors)
+  swept-reads actor kind number actors =
+      asked_from-reads actor (holder kind number) (sweep_op Read kind number) [] 0 (holders kind actors) (read_plain actor kind number) (read_none kind number)
 
-  -- what is done with the rows
-  abbrev shows : MapKind → MapId → ℕ → ℤ → List Reply → Does Flow
-  shows kind number top div replies = plain (told Out (ops.Emit (items.Map number (merged kind replies) top div)))
+  printed-reads : (actor : ℕ) (kind : MapKind) (number : MapId) (top : ℕ) (div : ℤ) (actors : ℕ) → JustReads actor (printed kind number top div actors)
+  printed-reads actor kind number top div actors =
+      gives-then m actor [] [] (λ (rs : List Reply). Unit {0}) (λ (u : Unit {0}). Unit {0}) (swept Read kind number actors)
+      (λ replies. told Out (ops.Emit (items.Map number (merged kind replies) top div))) (swept-reads actor kind number actors) (λ replies h. (tt, [], refl, λ r. (refl, tt)))
 
-  shows-gives : (scene : Scene) (start : Frame) (kind : MapKind) (number : MapId) (top : ℕ) (div : ℤ) (w : List Reply × Frame) → w.1 ≡ start
-      → Gives m scene.actor [] (λ p. p ≡ (Next, start)) (shows kind number top div w.0 scene w.1)
-  unfolding bind lifted given
-  shows-gives scene start kind number top div w e = (tt, [], refl, λ r. (refl, ap (λ (f : Frame). (Next, f)) e))
-
-  swept-sure : (kind : MapKind) (number : MapId) (top : ℕ) (div : ℤ) → Gets (bind (swept Read kind number) (λ replies. shows kind number top div replies))
-  unfolding bind
-  swept-sure kind number top div frame = (
+  reads-sure : (ask : Scene → Interaction (Unit {0})) → JustReads one.actor (ask one) → JustReads two.actor (ask two) → Gets (lifted ask)
+  unfolding lifted
+  reads-sure ask p q frame = (
     [],
-    (Next, frame),
-    gives-then m one.actor [] [] (λ p. p.1 ≡ frame) (λ p. p ≡ (Next, frame)) (swept Read kind number one frame) (λ w. shows kind number top div w.0 one w.1)
-        (swept-reads one frame kind number) (λ w e. shows-gives one frame kind number top div w e),
-    gives-then m two.actor [] [] (λ p. p.1 ≡ frame) (λ p. p ≡ (Next, frame)) (swept Read kind number two frame) (λ w. shows kind number top div w.0 two w.1)
-        (swept-reads two frame kind number) (λ w e. shows-gives two frame kind number top div w e),
+    (tt, frame),
+    gives-then m one.actor [] [] (λ (u : Unit {0}). Unit {0}) (λ (z : Unit {0} × Frame). z ≡ (tt, frame)) (ask one) (λ u. Ended (u, frame)) p (λ u h. (refl, refl)),
+    gives-then m two.actor [] [] (λ (u : Unit {0}). Unit {0}) (λ (z : Unit {0} × Frame). z ≡ (tt, frame)) (ask two) (λ u. Ended (u, frame)) q (λ u h. (refl, refl)),
   )
 
   print-sure : (number : MapId) (top : ℕ) (div : ℤ) → Gets (print number top div)
   print-sure number top div =
-      bind-sure m one two like (kind_seen number) _ (seen-sure m one two like _ (λ frame. ap (kind_of number) like.maps)) (λ kind. swept-sure kind number top div)
+      plain-sure (lifted (λ scene. printed (kind_in_body number scene.maps) number top div scene.actors))
+      (reads-sure (λ scene. printed (kind_in_body number scene.maps) number top div scene.actors)
+      (printed-reads one.actor (kind_in_body number one.maps) number top div one.actors) (printed-reads two.actor (kind_in_body number two.maps) number top div two.actors))
 
   -- ---- loops
 
   cut-sure : (line : ℕ) → Gets (cut line)
-  cut-sure line = then-given m one two like (told Out _) (λ u. _) (told-sure m one two like Out (ops.Emit (items.Cut line)) tt tt)
+  cut-sure line = then-given m one two like (lifted (λ scene. told Out (ops.Emit (items.Cut line)))) (λ u. _) (told-sure m one two like Out (ops.Emit (items.Cut line)) tt tt)
 
   entered-sure : (line : ℕ) (block : Does Flow) (n : ℕ) → Gets block → Gets (entered line block n)
   entered-sure line block zero p = cut-sure line
@@ -195,8 +189,8 @@ module _ (m : MapId) (one two : Scene) (like : AreLike one two) where
   number-sure None q = given-sure m one two like _
   number-sure (Some e) q = num_sure m one two like e q
 
-  emit-sure : (op : Op) → is_plain one.actor Out op → is_plain two.actor Out op → Gets (plain (told Out op))
-  emit-sure op p q = plain-sure (told Out op) (told-sure m one two like Out op p q)
+  emit-sure : (op : Op) → is_plain one.actor Out op → is_plain two.actor Out op → Gets (plain (lifted (λ scene. told Out op)))
+  emit-sure op p q = plain-sure (lifted (λ scene. told Out op)) (told-sure m one two like Out op p q)
 
   stmt_case : (h : TypedStmt-F ManyStmt ManyBlock) (inside : Bool)
       → Calm (tree.stmt_layer (map-TypedStmt TypedStmt TypedBlock (Bool → List Part) (Bool → List Part) stmt_parts block_parts (stmt_of h)) inside)
