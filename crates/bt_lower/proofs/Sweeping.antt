@@ -17,7 +17,7 @@ use Rattle.map_ops.specs.Holders.{kind_in, kind_of}
 use Rattle.walk_meaning.specs.declared.flow.Frame.{Frame}
 use Rattle.walk_meaning.specs.declared.flow.Flow.TheVariants.{Next}
 use Rattle.walk_meaning.specs.Does.{given, lifted, bind}
-use Rattle.walk_meaning.specs.Does.{Scene as Walked}
+use Rattle.walk_meaning.specs.Does.{BodyScene}
 use Rattle.walk_meaning.specs.Maps.{kind_in_body}
 use Rattle.walk_meaning.specs.Stmts.{print, clear, zero_all}
 use Rattle.ir_code.specs.declared.instr.Instr.TheVariants as i
@@ -32,7 +32,7 @@ kind-case : (s : Site) (m : MapId) (o : Option MapDecl) → decl_of m.0 s.scope.
 kind-case s m None e h = cc
 kind-case s m (Some decl) e h = ap kind_in (s.agrees.maps m.0 decl e)
 
-kind-same : (s : Site) (m : MapId) (w : Walked) → w.maps ≡ s.scope.maps → is_there (decl_of m.0 s.scope.maps) ≡ true → kind_of s.ground.maps m ≡ kind_in_body m w.maps
+kind-same : (s : Site) (m : MapId) (w : BodyScene) → w.maps ≡ s.scope.maps → is_there (decl_of m.0 s.scope.maps) ≡ true → kind_of s.ground.maps m ≡ kind_in_body m w.maps
 kind-same s m w e h = kind-case s m (decl_of m.0 s.scope.maps) refl h ∙ sym (ap (kind_in_body m) e)
 
 there-case : (s : Site) (m : MapId) (o : Option MapDecl) → decl_of m.0 s.scope.maps ≡ o → is_there o ≡ true → is_there (slice_get s.ground.maps m.0) ≡ true

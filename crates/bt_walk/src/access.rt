@@ -5,7 +5,7 @@ ghost use Rattle.bt_core.specs.declared.step.Op.TheVariants as ops;
 ghost use Rattle.bt_core.specs.Ports.{CanStep};
 ghost use Rattle.map_ops.specs.Holders.{part};
 ghost use Rattle.walk_meaning.specs.Maps.{variable, with_variable, set, delete};
-ghost use Rattle.bt_walk.specs.Walked.{Made};
+ghost use Rattle.bt_walk.specs.Walked.{WalkedAnywhere};
 
 use bt_core::key::Key;
 use bt_core::map::MapId;
@@ -53,7 +53,7 @@ pub fn set<P: Port>(
     port: &mut P,
 ) -> Result<(), Memory>
     requires { CanStep (P.fixed port.old).setting (part map key) (ops.Set key value) }
-    ensures made { Made (set map key value) (P.steps port.old) (P.steps port.new) result }
+    ensures made { WalkedAnywhere (set map key value) (P.steps port.old) (P.steps port.new) result }
     ensures kept { P.fixed port.new ≡ P.fixed port.old }
 {
     let object = part(map, &key);
@@ -63,7 +63,7 @@ pub fn set<P: Port>(
 /// Takes a key of a map away.
 pub fn delete<P: Port>(alloc: Global, map: MapId, key: Key, port: &mut P) -> Result<(), Memory>
     requires { CanStep (P.fixed port.old).setting (part map key) (ops.Delete key) }
-    ensures made { Made (delete map key) (P.steps port.old) (P.steps port.new) result }
+    ensures made { WalkedAnywhere (delete map key) (P.steps port.old) (P.steps port.new) result }
     ensures kept { P.fixed port.new ≡ P.fixed port.old }
 {
     let object = part(map, &key);

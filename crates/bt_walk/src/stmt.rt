@@ -8,7 +8,7 @@ ghost use Rattle.typed_tree.specs.Scope.{decl_of, is_there};
 ghost use Rattle.walk_meaning.specs.Does.{in_order};
 ghost use Rattle.walk_meaning.specs.Exprs.{value_does, values_do, number_does};
 ghost use Rattle.walk_meaning.specs.Stmts.{set_variable, set_map, update_variable, update_map, update_at, gather, number_or_one, printf, print, clear, zero_all, delete_at, jump_to, cut, plain};
-ghost use Rattle.bt_walk.specs.Walked.{Walked, Made};
+ghost use Rattle.bt_walk.specs.Walked.{Walked, WalkedAnywhere};
 ghost use Rattle.walk_meaning.specs.Served.{IsServed, Fits, HoldsUnder, all_made, scene_in};
 ghost use Rattle.walk_meaning.specs.declared.flow.Frame.{Frame as Kept};
 
@@ -155,7 +155,7 @@ fn update_at<P: Port>(
     port: &mut P,
 ) -> Result<Flow, Memory>
     requires { HoldsUnder (P.fixed port.old).setting map kinds.Ints key }
-    ensures made { Made (update_at map key op b) (P.steps port.old) (P.steps port.new) result }
+    ensures made { WalkedAnywhere (update_at map key op b) (P.steps port.old) (P.steps port.new) result }
     ensures kept { P.fixed port.new ≡ P.fixed port.old }
 {
     let again = key.try_copy(alloc)?;
@@ -328,7 +328,7 @@ pub fn delete_at<P: Port>(
 
 /// `break`, `continue`, `exit()` and `return`.
 pub fn jump<P: Port>(alloc: Global, jump: Jump, port: &mut P) -> Result<Flow, Memory>
-    ensures made { Made (jump_to jump) (P.steps port.old) (P.steps port.new) result }
+    ensures made { WalkedAnywhere (jump_to jump) (P.steps port.old) (P.steps port.new) result }
     ensures kept { P.fixed port.new ≡ P.fixed port.old }
 {
     match jump {
@@ -344,7 +344,7 @@ pub fn jump<P: Port>(alloc: Global, jump: Jump, port: &mut P) -> Result<Flow, Me
 
 /// Emits the line of a loop whose next turn is not made.
 pub fn cut<P: Port>(alloc: Global, line: u32, port: &mut P) -> Result<Flow, Memory>
-    ensures made { Made (cut line) (P.steps port.old) (P.steps port.new) result }
+    ensures made { WalkedAnywhere (cut line) (P.steps port.old) (P.steps port.new) result }
     ensures stops { IfOk result (λ flow. flow ≡ Flow.Stop Ending.Cut) }
     ensures kept { P.fixed port.new ≡ P.fixed port.old }
 {

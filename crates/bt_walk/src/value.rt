@@ -9,7 +9,7 @@ ghost use Rattle.walk_meaning.specs.Exprs.{value_does, values_do, number_does, t
 ghost use Rattle.map_ops.specs.Values.{next, number_of};
 ghost use Rattle.walk_meaning.specs.Maps.{variable, with_variable};
 ghost use Rattle.walk_meaning.specs.Does.{in_order};
-ghost use Rattle.bt_walk.specs.Walked.{Walked, Made};
+ghost use Rattle.bt_walk.specs.Walked.{Walked, WalkedAnywhere};
 ghost use Rattle.walk_meaning.specs.Served.{all_made, IsServed, Fits, NamesShared, HoldsUnder, scene_in};
 
 use crate::access::{assign, set, truth, variable};
@@ -246,7 +246,7 @@ fn step_map<P: Port>(
     port: &mut P,
 ) -> Result<i64, Memory>
     requires { HoldsUnder (P.fixed port.old).setting map kinds.Ints key }
-    ensures made { Made (step_at map key plus prefix) (P.steps port.old) (P.steps port.new) result }
+    ensures made { WalkedAnywhere (step_at map key plus prefix) (P.steps port.old) (P.steps port.new) result }
     ensures kept { P.fixed port.new ≡ P.fixed port.old }
 {
     let again = key.try_copy(alloc)?;

@@ -42,16 +42,16 @@ use Rattle.map_ops.specs.declared.sweep.Sweep.{Sweep}
 use Rattle.map_ops.specs.declared.sweep.Sweep.TheVariants.{Read, Clear, Zero}
 use Rattle.walk_meaning.specs.declared.view.View.{View}
 use Rattle.walk_meaning.specs.Admits.{Admits, AdmitsOf, EmitsOnly}
-use Rattle.walk_meaning.specs.Does.{Scene, Does, given, changed, lifted, bind, in_order}
+use Rattle.walk_meaning.specs.Does.{BodyScene, Does, given, changed, lifted, bind, in_order}
 use Rattle.walk_meaning.specs.Exprs.{value_does, values_do, number_does}
 use Rattle.map_ops.specs.Holders.{part, holder, holders, sweep_op, CanSweep}
 use Rattle.walk_meaning.specs.Maps.{get, set, delete, add, kind_in_body}
 use Rattle.map_ops.specs.Asking.{asked_from, told, swept, printed}
 use Rattle.map_ops.proofs.Sweeping.{sweep_step}
-use Rattle.walk_meaning.specs.Stmts.{stmt_layer, block_layer, stmt_does, block_does, number_or_one, print, clear, zero_all, if_next, in_turn, first_arm, arm_does, cut, entered, turn, turns, tests, while_true, again}
-use Rattle.walk_meaning.specs.Walk.{walk, fresh, guarded, ending_of, tree_does}
+use Rattle.walk_meaning.specs.Stmts.{stmt_by_parts, block_by_parts, stmt_does, block_does, number_or_one, print, clear, zero_all, if_next, in_sequence, first_arm, arm_does, cut, entered, turn, turns, tests, while_true, again}
+use Rattle.walk_meaning.specs.Walk.{walk, first_frame, guarded, ending_of, tree_does}
 use Rattle.walk_meaning.specs.Served.{CanWalk, IsServed, Fits, scene_in, scope_in}
-use Rattle.walk_meaning.proofs.Asking.{IsFineCall, Admits-bind, Good, given-good, seen-good, changed-good, bind-good, lifted-good, told-good, either-good, get-good, values-good, AnyGood, any_good, num_good, split, then-given}
+use Rattle.walk_meaning.proofs.Asking.{IsFineCall, Admits-bind, Good, given-good, looked_at-good, changed-good, bind-good, lifted-good, told-good, if_holds-good, get-good, values-good, AnyGood, any_good, num_good, split, then-given}
 use Rattle.walk_meaning.proofs.Declared.{shared, valued, gathering, get_can, set_can, delete_can, add_can, sweep_can}
 use Rattle.walk_meaning.proofs.TreeParts.{set_head, update_head, gather_head, delete_head}
 
@@ -169,7 +169,7 @@ module _ (v : View) (setting : Setting) (served : IsServed v setting) (fine : It
   entered-good line block (suc left) p = bind-good setting fine (scene_in v) Free Free (changed _) (λ u. block) (changed-good setting fine (scene_in v) _) (λ u h. p)
 
   turn-good : (line : ℕ) (block : Does Flow) → Does_good Free block → Does_good Free (turn line block)
-  turn-good line block p = bind-good setting fine (scene_in v) Free Free _ (entered line block) (seen-good setting fine (scene_in v) _) (λ n h. entered-good line block n p)
+  turn-good line block p = bind-good setting fine (scene_in v) Free Free _ (entered line block) (looked_at-good setting fine (scene_in v) _) (λ n h. entered-good line block n p)
 
   again-good : (flow : Flow) (rest : Does Flow) → Does_good Free rest → Does_good Free (again flow rest)
   again-good Next rest p = p
@@ -184,12 +184,12 @@ module _ (v : View) (setting : Setting) (served : IsServed v setting) (fine : It
   tests-good : (n line : ℕ) (test : Does ℤ) (block : Does Flow) → Does_good Free test → Does_good Free block → Does_good Free (tests n line test block)
   tests-good zero line test block t p = flow-good Next
   tests-good (suc n) line test block t p =
-      either-good setting fine (scene_in v) Free test (bind (turn line block) (λ flow. again flow (tests n line test block))) (given Next) t
+      if_holds-good setting fine (scene_in v) Free test (bind (turn line block) (λ flow. again flow (tests n line test block))) (given Next) t
       (bind-good setting fine (scene_in v) Free Free (turn line block) (λ flow. again flow (tests n line test block)) (turn-good line block p) (λ flow h. again-good flow (tests n line test block) (tests-good n line test block t p)))
       (flow-good Next)
 
   while-good : (line : ℕ) (test : Does ℤ) (block : Does Flow) → Does_good Free test → Does_good Free block → Does_good Free (while_true line test block)
-  while-good line test block t p = bind-good setting fine (scene_in v) Free Free _ (λ left. tests (suc left) line test block) (seen-good setting fine (scene_in v) _) (λ left h. tests-good (suc left) line test block t p)
+  while-good line test block t p = bind-good setting fine (scene_in v) Free Free _ (λ left. tests (suc left) line test block) (looked_at-good setting fine (scene_in v) _) (λ left h. tests-good (suc left) line test block t p)
 
   if_next-good : (flow : Flow) (rest : Does Flow) → Does_good Free rest → Does_good Free (if_next flow rest)
   if_next-good Next rest p = p
@@ -211,12 +211,12 @@ module _ (v : View) (setting : Setting) (served : IsServed v setting) (fine : It
   abbrev ManyBlock : Type 0
   ManyBlock = (b : TypedBlock) × BlockGood b
 
-  stmts-good : (ss : List ManyStmt) (inside : Bool) → Fits v (joined (map (λ (k : Bool → List Part). k inside) (map stmt_parts (map (λ (k : ManyStmt). k.0) ss)))) → Does_good Free (in_turn (map stmt_does (map (λ (k : ManyStmt). k.0) ss)))
+  stmts-good : (ss : List ManyStmt) (inside : Bool) → Fits v (joined (map (λ (k : Bool → List Part). k inside) (map stmt_parts (map (λ (k : ManyStmt). k.0) ss)))) → Does_good Free (in_sequence (map stmt_does (map (λ (k : ManyStmt). k.0) ss)))
   stmts-good [] inside fit = flow-good Next
   stmts-good (s ∷ ss) inside fit =
       let p = halves (stmt_parts s.0 inside) (joined (map (λ (k : Bool → List Part). k inside) (map stmt_parts (map (λ (k : ManyStmt). k.0) ss)))) fit in
-      bind-good setting fine (scene_in v) Free Free (stmt_does s.0) (λ flow. if_next flow (in_turn (map stmt_does (map (λ (k : ManyStmt). k.0) ss)))) (s.1 inside p.0)
-      (λ flow h. if_next-good flow (in_turn (map stmt_does (map (λ (k : ManyStmt). k.0) ss))) (stmts-good ss inside p.1))
+      bind-good setting fine (scene_in v) Free Free (stmt_does s.0) (λ flow. if_next flow (in_sequence (map stmt_does (map (λ (k : ManyStmt). k.0) ss)))) (s.1 inside p.0)
+      (λ flow h. if_next-good flow (in_sequence (map stmt_does (map (λ (k : ManyStmt). k.0) ss))) (stmts-good ss inside p.1))
 
   abbrev blocks_of : List (NumExpr × ManyBlock) → List (NumExpr × TypedBlock)
   blocks_of arms = map (former-TypedStmt-If-0-at-2.map ManyBlock TypedBlock (λ k. k.0)) arms
@@ -230,7 +230,7 @@ module _ (v : View) (setting : Setting) (served : IsServed v setting) (fine : It
   arms-good (arm ∷ arms) inside otherwise fit p =
       let one = halves (arm_parts (arm.0, block_parts arm.1.0 inside)) (arms_made inside arms) fit in
       let two = halves (num_parts arm.0) (block_parts arm.1.0 inside) one.0 in
-      either-good setting fine (scene_in v) Free (number_does arm.0) (block_does arm.1.0) _ (num_good v setting served fine arm.0 two.0) (arm.1.1 inside two.1) (arms-good arms inside otherwise one.1 p)
+      if_holds-good setting fine (scene_in v) Free (number_does arm.0) (block_does arm.1.0) _ (num_good v setting served fine arm.0 two.0) (arm.1.1 inside two.1) (arms-good arms inside otherwise one.1 p)
 
   abbrev stmt_of : TypedStmt-F ManyStmt ManyBlock → TypedStmt-F TypedStmt TypedBlock
   stmt_of h = map-TypedStmt ManyStmt ManyBlock TypedStmt TypedBlock (λ k. k.0) (λ k. k.0) h
@@ -243,7 +243,7 @@ module _ (v : View) (setting : Setting) (served : IsServed v setting) (fine : It
   Keyed keys = HasShape (key_shapes (map made_of keys))
 
   stmt_case : (h : TypedStmt-F ManyStmt ManyBlock) (inside : Bool) → Fits v (tree.stmt_layer (map-TypedStmt TypedStmt TypedBlock (Bool → List Part) (Bool → List Part) stmt_parts block_parts (stmt_of h)) inside) →
-      Does_good Free (stmt_layer (map-TypedStmt TypedStmt TypedBlock (Does Flow) (Does Flow) stmt_does block_does (stmt_of h)))
+      Does_good Free (stmt_by_parts (map-TypedStmt TypedStmt TypedBlock (Does Flow) (Does Flow) stmt_does block_does (stmt_of h)))
   stmt_case (TypedStmt-F.SetVar var value) inside fit =
       bind-good setting fine (scene_in v) (IsOfShape (made_of value).shape) Free (value_does value) _ (any_good v setting served fine value (tail (tree.VarOf var (made_of value).shape) (made_of value).parts fit)) (λ x h. plain-good (changed _) (changed-good setting fine (scene_in v) _))
   stmt_case (TypedStmt-F.SetMap m keys value) inside fit =
@@ -254,7 +254,7 @@ module _ (v : View) (setting : Setting) (served : IsServed v setting) (fine : It
       (λ x h. plain-good (set m key x) (told-good setting fine (scene_in v) (part m key) (ops.Set key x) (set_can setting m _ (made_of value).shape key x found shaped h) tt)))
   stmt_case (TypedStmt-F.UpdateVar var op e) inside fit =
       bind-good setting fine (scene_in v) Free Free (number_does e) _ (num_good v setting served fine e (tail (tree.VarOf var shapes.Int) (num_parts e) fit))
-      (λ b h. bind-good setting fine (scene_in v) Free Free _ _ (seen-good setting fine (scene_in v) _) (λ a i. plain-good (changed _) (changed-good setting fine (scene_in v) _)))
+      (λ b h. bind-good setting fine (scene_in v) Free Free _ _ (looked_at-good setting fine (scene_in v) _) (λ a i. plain-good (changed _) (changed-good setting fine (scene_in v) _)))
   stmt_case (TypedStmt-F.UpdateMap m keys op e) inside fit =
       let p = halves (parts_in (map made_of keys)) (num_parts e) (tail (tree.MapOf m.0 (key_shapes (map made_of keys)) shapes.Int) (parts_in (map made_of keys) ++ num_parts e) fit) in
       let found = valued v setting m _ shapes.Int served (update_head v m (map made_of keys) op (num_parts e) fit) in
@@ -299,7 +299,7 @@ module _ (v : View) (setting : Setting) (served : IsServed v setting) (fine : It
 
   stmt_step : (x : TypedStmt-F TypedStmt TypedBlock) (h : TypedStmt-F ManyStmt ManyBlock) → stmt_of h ≡ x → StmtGood (roll-TypedStmt x)
   stmt_step x h e = subst (λ (y : TypedStmt-F TypedStmt TypedBlock). StmtGood (roll-TypedStmt y)) e (λ inside fit.
-      subst (λ (d : Does Flow). Does_good Free d) (sym (fold-roll-TypedStmt (Does Flow) (Does Flow) stmt_layer block_layer (stmt_of h)))
+      subst (λ (d : Does Flow). Does_good Free d) (sym (fold-roll-TypedStmt (Does Flow) (Does Flow) stmt_by_parts block_by_parts (stmt_of h)))
       (stmt_case h inside (subst (λ (k : Bool → List Part). Fits v (k inside)) (fold-roll-TypedStmt (Bool → List Part) (Bool → List Part) tree.stmt_layer tree.block_layer (stmt_of h)) fit)))
 
   abbrev block_of : TypedBlock-F ManyStmt ManyBlock → TypedBlock-F TypedStmt TypedBlock
@@ -307,7 +307,7 @@ module _ (v : View) (setting : Setting) (served : IsServed v setting) (fine : It
 
   block_step : (x : TypedBlock-F TypedStmt TypedBlock) (h : TypedBlock-F ManyStmt ManyBlock) → block_of h ≡ x → BlockGood (roll-TypedBlock x)
   block_step x h e = subst (λ (y : TypedBlock-F TypedStmt TypedBlock). BlockGood (roll-TypedBlock y)) e (λ inside fit.
-      subst (λ (d : Does Flow). Does_good Free d) (sym (fold-roll-TypedBlock (Does Flow) (Does Flow) stmt_layer block_layer (block_of h)))
+      subst (λ (d : Does Flow). Does_good Free d) (sym (fold-roll-TypedBlock (Does Flow) (Does Flow) stmt_by_parts block_by_parts (block_of h)))
       (stmts-good h.stmts inside (halves (joined (map (λ (k : Bool → List Part). k inside) (map stmt_parts (map (λ (k : ManyStmt). k.0) h.stmts)))) (Ending ∷ []) (subst (λ (k : Bool → List Part). Fits v (k inside)) (fold-roll-TypedBlock (Bool → List Part) (Bool → List Part) tree.stmt_layer tree.block_layer (block_of h)) fit)).0))
 
   pub block_good : (b : TypedBlock) → BlockGood b
@@ -316,7 +316,7 @@ module _ (v : View) (setting : Setting) (served : IsServed v setting) (fine : It
   guarded-good : (predicate : Option NumExpr) (block : TypedBlock) → Fits v (predicate_parts predicate) → Fits v (block_parts block false) → Does_good Free (guarded predicate (block_does block))
   guarded-good None block fit own = block_good block false own
   guarded-good (Some e) block fit own =
-      either-good setting fine (scene_in v) Free (number_does e) (block_does block) (given Next) (num_good v setting served fine e (tail Otherwise (num_parts e) fit)) (block_good block false own) (flow-good Next)
+      if_holds-good setting fine (scene_in v) Free (number_does e) (block_does block) (given Next) (num_good v setting served fine e (tail Otherwise (num_parts e) fit)) (block_good block false own) (flow-good Next)
 
   pub tree-good : Does_good Free (tree_does v.body.now.tree)
   tree-good =
@@ -330,8 +330,8 @@ pub walk-fine : (setting : Setting) (body : TypedBody) (context : Context) (payl
 unfolding walk
 walk-fine setting body context payload actor actors fine can emits =
     let v : View = view_of body context payload actor actors in
-    Admits-bind (IsFineCall setting fine) setting.maps (λ p. Unit {0}) (λ ending. Unit {0}) (tree_does body.tree (scene_in v) (fresh body.tree.variables)) (λ p. Ended p.0)
-    (tree-good v setting (record { can = can; fine = body.fine }) fine emits (fresh body.tree.variables)) (λ p h. tt)
+    Admits-bind (IsFineCall setting fine) setting.maps (λ p. Unit {0}) (λ ending. Unit {0}) (tree_does body.tree (scene_in v) (first_frame body.tree.variables)) (λ p. Ended p.0)
+    (tree-good v setting (record { can = can; fine = body.fine }) fine emits (first_frame body.tree.variables)) (λ p h. tt)
 
 -- of calls that pass two tests, each passes the other one
 pub weaker-calls : {A : Type 0} (calls others : ObjectId → Op → Type 0) (maps : List MapDecl) (holds : A → Type 0) → ((object : ObjectId) (op : Op) → calls object op → others object op)

@@ -8,7 +8,7 @@ use Rattle.map_ops.specs.Values.{holds}
 use Rattle.walk_meaning.specs.declared.flow.Frame.{Frame}
 
 -- what the run of a body sees: the context, the payload, its actor, how many actors there are, and the maps that the body names
-pub record Scene : Type 0 where
+pub record BodyScene : Type 0 where
   pub context : Context
   pub payload : List ℕ
   pub actor : ℕ
@@ -17,22 +17,22 @@ pub record Scene : Type 0 where
 
 -- from what is seen and the frame to a value and the frame after it, by calls
 abbrev pub Does : Type 0 → Type 0
-Does A = Scene → Frame → Interaction (A × Frame)
+Does A = BodyScene → Frame → Interaction (A × Frame)
 
 -- a value, and nothing else
 unfoldable pub given : {A : Type 0} → A → Does A
 given a scene frame = Ended (a, frame)
 
 -- a value that is read from what is seen and from the frame
-unfoldable pub seen : {A : Type 0} → (Scene → Frame → A) → Does A
-seen look scene frame = Ended (look scene frame, frame)
+unfoldable pub looked_at : {A : Type 0} → (BodyScene → Frame → A) → Does A
+looked_at look scene frame = Ended (look scene frame, frame)
 
 -- the frame is changed
 unfoldable pub changed : (Frame → Frame) → Does (Unit {0})
 changed change scene frame = Ended (tt, change frame)
 
 -- what objects are asked, which may depend on what is seen; the frame stays as it is
-unfoldable pub lifted : {A : Type 0} → (Scene → Interaction A) → Does A
+unfoldable pub lifted : {A : Type 0} → (BodyScene → Interaction A) → Does A
 lifted ask scene frame = and_then (ask scene) (λ value. Ended (value, frame))
 
 -- the one, and then the next, which may depend on the value of the one
@@ -49,8 +49,8 @@ abbrev pub then : {A B : Type 0} → Does A → Does B → Does B
 then one next = bind one (λ value. next)
 
 -- a test, and then only what it asks for
-abbrev pub either : {A : Type 0} → Does ℤ → Does A → Does A → Does A
-either test one other = bind test (λ n. choose (holds n) one other)
+abbrev pub if_holds : {A : Type 0} → Does ℤ → Does A → Does A → Does A
+if_holds test one other = bind test (λ n. choose (holds n) one other)
 
 -- behind the values that there are, those of all others from left to right
 abbrev pub gathered : {A : Type 0} → List A → List (Does A) → Does (List A)

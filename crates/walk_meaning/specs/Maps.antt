@@ -11,7 +11,7 @@ use Rattle.map_ops.specs.Asking.{told, got}
 use Rattle.map_ops.specs.Holders.{part, kind_in}
 use Rattle.map_ops.specs.Values.{number_of, text_of, or_zero}
 use Rattle.walk_meaning.specs.declared.flow.Frame.{Frame}
-use Rattle.walk_meaning.specs.Does.{Does, seen, changed, lifted}
+use Rattle.walk_meaning.specs.Does.{Does, looked_at, changed, lifted}
 
 -- a variable by its number
 abbrev pub variable : ℕ → Frame → Value
@@ -21,10 +21,10 @@ abbrev pub with_variable : ℕ → Value → Frame → Frame
 with_variable number value frame = record frame { variables = slice_set frame.variables number value }
 
 abbrev pub number_variable : ℕ → Does ℤ
-number_variable number = seen (λ scene frame. number_of (variable number frame))
+number_variable number = looked_at (λ scene frame. number_of (variable number frame))
 
 abbrev pub text_variable : ℕ → Does (List ℕ)
-text_variable number = seen (λ scene frame. text_of (variable number frame))
+text_variable number = looked_at (λ scene frame. text_of (variable number frame))
 
 abbrev pub assigned : ℕ → Value → Does (Unit {0})
 assigned number value = changed (with_variable number value)
