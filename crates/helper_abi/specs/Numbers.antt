@@ -4,19 +4,19 @@ use Rattle.helper_abi.specs.declared.helper.Helper.{Helper}
 use Rattle.helper_abi.specs.declared.helper.Helper.TheVariants.{Get, Set, Delete, Aggregate, Print, Clear, Zero, Printf, Exit, Cut, ReadStr}
 use Rattle.helper_abi.specs.declared.helper.TheConstants.{HELPERS}
 
-abbrev pub number_of : Helper → ℕ
-number_of Get = 1
-number_of Set = 2
-number_of Delete = 3
-number_of Aggregate = 4
-number_of Print = 5
-number_of Clear = 6
-number_of Zero = 7
-number_of Printf = 8
-number_of Exit = 9
-number_of Cut = 10
-number_of ReadStr = 11
+abbrev pub helper_number : Helper → ℕ
+helper_number Get = 1
+helper_number Set = 2
+helper_number Delete = 3
+helper_number Aggregate = 4
+helper_number Print = 5
+helper_number Clear = 6
+helper_number Zero = 7
+helper_number Printf = 8
+helper_number Exit = 9
+helper_number Cut = 10
+helper_number ReadStr = 11
 
 -- the helper of a number
 abbrev pub helper_at : ℕ → Option Helper
-helper_at n = find (λ helper. number_of helper == n) HELPERS
+helper_at n = find (λ helper. helper_number helper == n) HELPERS

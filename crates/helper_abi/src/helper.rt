@@ -1,6 +1,6 @@
 // The helpers by their numbers.
 ghost use Rattle.std.specs.Prelude.{◌≡◌, ◌==◌, find};
-ghost use Rattle.helper_abi.specs.Numbers.{number_of, helper_at};
+ghost use Rattle.helper_abi.specs.Numbers.{helper_number, helper_at};
 
 /// A helper. The numbers are those by which code calls it.
 #[derive(Clone, Copy, PartialEq, Eq, Debug)]
@@ -36,7 +36,7 @@ pub const HELPERS: [Helper; 11] = [
 impl Helper {
     /// Its number.
     pub fn number(self) -> u32
-        ensures { result ≡ number_of self }
+        ensures { result ≡ helper_number self }
     {
         self as u32
     }
@@ -51,7 +51,7 @@ impl Helper {
 
 // The helper among these that has a number.
 fn helper_in(helpers: &[Helper], number: u32) -> Option<Helper>
-    ensures { result ≡ find (λ helper. number_of helper == number) helpers.now }
+    ensures { result ≡ find (λ helper. helper_number helper == number) helpers.now }
 {
     helpers
         .iter()

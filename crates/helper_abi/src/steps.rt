@@ -5,7 +5,8 @@ ghost use Rattle.bt_core.specs.Ports.{CanStep};
 ghost use Rattle.bpf_interp.specs.Running.{Called};
 ghost use Rattle.map_ops.specs.Holders.{part};
 ghost use Rattle.helper_abi.specs.Served.{HasRoom};
-ghost use Rattle.helper_abi.specs.Steps.{told, got};
+ghost use Rattle.helper_abi.specs.Steps.{frame_kept, got_into};
+ghost use Rattle.map_ops.specs.Asking.{told};
 
 use crate::reading::put;
 use bpf_interp::ports::PortFault;
@@ -26,7 +27,7 @@ pub fn tell<P: Port>(
     memory: &Regions,
 ) -> Result<u64, PortFault>
     requires { CanStep (P.fixed port.old).setting object op }
-    ensures called { Called (told memory.now object op) (P.steps port.old) (P.steps port.new) result memory.now.frame }
+    ensures called { Called (frame_kept memory.now (told object op)) (P.steps port.old) (P.steps port.new) result memory.now.frame }
     ensures kept { P.fixed port.new ≡ P.fixed port.old }
 {
     match access::tell(alloc, object, op, port) {
@@ -46,7 +47,7 @@ pub fn get_into<P: Port>(
 ) -> Result<u64, PortFault>
     requires can { CanStep (P.fixed port.old).setting (part map key) (ops.Get key) }
     requires room { HasRoom (P.fixed port.old).setting map to }
-    ensures called { Called (got memory.old map key to) (P.steps port.old) (P.steps port.new) result memory.new.frame }
+    ensures called { Called (got_into memory.old map key to) (P.steps port.old) (P.steps port.new) result memory.new.frame }
     ensures kept { P.fixed port.new ≡ P.fixed port.old }
     ensures context { memory.new.context ≡ memory.old.context }
     ensures payload { memory.new.payload ≡ memory.old.payload }
