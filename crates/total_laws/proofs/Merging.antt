@@ -15,7 +15,7 @@ use Rattle.agg_core.proofs.SortedRows.{Ascends, row_at}
 use Rattle.map_rows.specs.Merged.{ordered_keys, cells_at, joined, both_cells, merged_rows}
 use Rattle.map_rows.proofs.Entries.{names, ascends-ordered_keys, has-ordered_keys, names-append, cells_at-append, cells_at-cons, cells_at-none, holds}
 use Rattle.map_rows.proofs.KeySets.{has, same_keys, has_first, below_none}
-use Rattle.bt_meaning.specs.Totals.{Entry, entry_keys, numbers_at, total_rows}
+use Rattle.bt_meaning.specs.Totals.{Addition, entry_keys, numbers_at, total_rows}
 use Rattle.total_laws.proofs.Given.{named, ascends-entry_keys, has-entry_keys, named-append, numbers_at-append, numbers_at-none}
 
 -- ---- rows of keys in order
@@ -72,25 +72,25 @@ module _ (kind : AggKind) where
 
   module _ (k : List Value) where
     -- the numbers of the key, where it is named
-    abbrev part : List Entry → List (List ℤ)
+    abbrev part : List Addition → List (List ℤ)
     part given = cond (named k given) (numbers_at k given ∷ []) []
 
     part_cells : (t : Bool) (ns : List ℤ) → cond t (agg_cell ns ∷ []) [] ≡ map agg_cell (cond t (ns ∷ []) [])
     part_cells true ns = refl
     part_cells false ns = refl
 
-    one : (given : List Entry) → cells_at k (total_rows kind given) ≡ map agg_cell (part given)
+    one : (given : List Addition) → cells_at k (total_rows kind given) ≡ map agg_cell (part given)
     one given = at_rows k (λ j. agg_cell (numbers_at j given)) (entry_keys given) (ascends-entry_keys given)
         ∙ (λ i. cond (has-entry_keys k given i) (agg_cell (numbers_at k given) ∷ []) []) ∙ part_cells (named k given) (numbers_at k given)
 
-    all_part : (given : List Entry) → all_of (part given) ≡ numbers_at k given
+    all_part : (given : List Addition) → all_of (part given) ≡ numbers_at k given
     all_part given = by_test (named k given) refl
       where
         by_test : (t : Bool) → named k given ≡ t → all_of (cond t (numbers_at k given ∷ []) []) ≡ numbers_at k given
         by_test true e = append-nil (numbers_at k given)
         by_test false e = sym (numbers_at-none k given e)
 
-    module _ (given : ℕ → List Entry) where
+    module _ (given : ℕ → List Addition) where
       abbrev rows : List ℕ → List (List Value × Cell)
       rows actors = flat_map (λ a. total_rows kind (given a)) actors
 
@@ -118,7 +118,7 @@ module _ (kind : AggKind) where
           let h = holds k (rows actors) named_there in
           ap joined (at_each actors) ∙ joined_lists (parts actors) h.first h.later (sym (at_each actors) ∙ h.is) ∙ ap agg_cell (all_each actors)
 
-pub merged_each : (kind : AggKind) (given : ℕ → List Entry) (actors : List ℕ)
+pub merged_each : (kind : AggKind) (given : ℕ → List Addition) (actors : List ℕ)
     → merged_rows (flat_map (λ a. total_rows kind (given a)) actors) ≡ total_rows kind (flat_map given actors)
 merged_each kind given actors =
     let rows = flat_map (λ a. total_rows kind (given a)) actors in let all = flat_map given actors in

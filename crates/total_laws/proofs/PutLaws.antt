@@ -14,7 +14,7 @@ use Rattle.agg_core.proofs.KeyLaws.{is_key-true}
 use Rattle.agg_core.proofs.Running.{ascends-put_keys}
 use Rattle.agg_core.proofs.SortedRows.{row_at}
 use Rattle.map_rows.proofs.KeySets.{has, has-with_key, key_flip, same_keys}
-use Rattle.bt_meaning.specs.Totals.{Entry, entry_keys, numbers_at}
+use Rattle.bt_meaning.specs.Totals.{Addition, entry_keys, numbers_at}
 use Rattle.total_laws.specs.Ends.{aggregate_rows}
 use Rattle.total_laws.proofs.Given.{named, ascends-entry_keys, has-entry_keys, named-append, numbers_at-append, numbers_at-cons, map_same}
 use Rattle.total_laws.proofs.Members.{filter_members}
@@ -28,12 +28,12 @@ OnlyPuts (Clears ∷ before) = ⊥
 OnlyPuts (Zeroes ∷ before) = ⊥
 
 -- what a change puts: the key and its number
-abbrev pub put_by : Change ℤ → List Entry
+abbrev pub put_by : Change ℤ → List Addition
 put_by (Puts k v) = (k, v) ∷ []
 put_by c = []
 
 -- what the changes put, the first one first
-abbrev pub all_put : List (Change ℤ) → List Entry
+abbrev pub all_put : List (Change ℤ) → List Addition
 all_put [] = []
 all_put (c ∷ before) = all_put before ++ put_by c
 
