@@ -36,7 +36,7 @@ use Rattle.agg_core.specs.Answers.{agg_kind_in}
 use Rattle.actor_plan.specs.Contexts.{begin_context, end_context, event_context}
 use Rattle.actor_plan.specs.Programs.{entry_work, event_work, in_turn}
 use Rattle.bt_meaning.specs.Replays.{begin_of, end_of}
-use Rattle.bt_meaning.specs.Totals.{Addition, entry_keys, adds_of, events_add, ticks_add, all_adds, total_rows, totals}
+use Rattle.bt_meaning.specs.Totals.{Addition, addition_keys, adds_of, events_add, ticks_add, all_adds, total_rows, totals}
 use Rattle.bt_meaning.specs.Walks.{replay_of, walking, walked}
 use Rattle.big_script.proofs.Attach.{the_bodies}
 use Rattle.big_script.proofs.Body.{IsBody}
@@ -171,5 +171,5 @@ few seed count r made typed body one is attached to m named =
     rows : (es : List Addition) → HaveKeys es → length (total_rows (agg_kind_in typed.maps m) es) ≤ KEYS
     rows es keys =
         let most = few_keys es keys in
-        let same : length (total_rows (agg_kind_in typed.maps m) es) ≡ length (entry_keys es) = length-map (entry_keys es) _ in
+        let same : length (total_rows (agg_kind_in typed.maps m) es) ≡ length (addition_keys es) = length-map (addition_keys es) _ in
         omega (arith, most, same)

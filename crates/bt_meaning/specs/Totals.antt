@@ -54,18 +54,19 @@ pub record IsAggregationOnly (script : Typed) : Type 0 where
 abbrev pub Addition : Type 0
 Addition = List Value × ℤ
 
--- the keys of these entries, in key order, each once
-abbrev pub entry_keys : List Addition → List (List Value)
-entry_keys [] = []
-entry_keys (e ∷ es) = with_key e.0 (entry_keys es)
+-- the keys of these additions, in key order, each once
+abbrev pub addition_keys : List Addition → List (List Value)
+addition_keys [] = []
+addition_keys (a ∷ as) = with_key a.0 (addition_keys as)
 
 -- the numbers that are added to a key, in their order
 abbrev pub numbers_at : List Value → List Addition → List ℤ
-numbers_at key entries = map (λ e. e.1) (filter (λ e. is_key key e.0) entries)
+numbers_at key additions = map (λ a. a.1) (filter (λ a. is_key key a.0) additions)
 
 -- each key with the aggregate of the numbers that are added to it
 abbrev pub total_rows : AggKind → List Addition → List (List Value × Cell)
-total_rows kind entries = map (λ key. (key, cells.Agg (aggregate kind (numbers_at key entries)))) (entry_keys entries)
+total_rows kind additions =
+    map (λ key. (key, cells.Agg (aggregate kind (numbers_at key additions)))) (addition_keys additions)
 
 module _ (m : MapId) where
   -- what an operation adds to the map

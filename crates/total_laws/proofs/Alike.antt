@@ -15,7 +15,7 @@ use Rattle.agg_core.specs.Aggregates.{aggregate, merged, signed, either, bucket,
 use Rattle.agg_core.proofs.MergeLaws.{merged-both}
 use Rattle.agg_core.proofs.SortedRows.{row_at}
 use Rattle.map_rows.proofs.KeySets.{same_keys}
-use Rattle.bt_meaning.specs.Totals.{Addition, entry_keys, numbers_at, total_rows}
+use Rattle.bt_meaning.specs.Totals.{Addition, addition_keys, numbers_at, total_rows}
 use Rattle.total_laws.proofs.Given.{named, ascends-entry_keys, has-entry_keys, named-append, numbers_at-append, map_same}
 
 or_flip : (a b : Bool) → (a || b) ≡ (b || a)
@@ -101,12 +101,12 @@ alike_flip xs ys = record {
   cells = λ kind k. ap (aggregate kind) (numbers_at-append k xs ys) ∙ aggregate_flip kind (numbers_at k xs) (numbers_at k ys) ∙ ap (aggregate kind) (sym (numbers_at-append k ys xs));
 }
 
-pub alike_keys : (xs ys : List Addition) → Alike xs ys → entry_keys xs ≡ entry_keys ys
-alike_keys xs ys p = same_keys (entry_keys xs) (entry_keys ys) (ascends-entry_keys xs) (ascends-entry_keys ys) (λ k. has-entry_keys k xs ∙ p.keys k ∙ sym (has-entry_keys k ys))
+pub alike_keys : (xs ys : List Addition) → Alike xs ys → addition_keys xs ≡ addition_keys ys
+alike_keys xs ys p = same_keys (addition_keys xs) (addition_keys ys) (ascends-entry_keys xs) (ascends-entry_keys ys) (λ k. has-entry_keys k xs ∙ p.keys k ∙ sym (has-entry_keys k ys))
 
 pub alike_rows : (kind : AggKind) (xs ys : List Addition) → Alike xs ys → total_rows kind xs ≡ total_rows kind ys
 alike_rows kind xs ys p =
-    map_same (row_at (λ k. cells.Agg (aggregate kind (numbers_at k xs)))) (row_at (λ k. cells.Agg (aggregate kind (numbers_at k ys)))) (entry_keys xs)
+    map_same (row_at (λ k. cells.Agg (aggregate kind (numbers_at k xs)))) (row_at (λ k. cells.Agg (aggregate kind (numbers_at k ys)))) (addition_keys xs)
     (λ k i. (k, cells.Agg (p.cells kind k i)))
     ∙ ap (map (row_at (λ k. cells.Agg (aggregate kind (numbers_at k ys))))) (alike_keys xs ys p)
 

@@ -30,7 +30,7 @@ use Rattle.bt_meaning.specs.Interleavings.{IsInterleaving}
 use Rattle.bt_meaning.specs.Jobs.{IsJob}
 use Rattle.bt_meaning.specs.Replays.{Replay, answers_of, begin_of, end_of}
 use Rattle.bt_meaning.specs.Ticks.{is_crossing}
-use Rattle.bt_meaning.specs.Totals.{Addition, IsAggregationOnly, entry_keys, adds_of, tick_adds, events_add, ticks_add, all_adds, who}
+use Rattle.bt_meaning.specs.Totals.{Addition, IsAggregationOnly, addition_keys, adds_of, tick_adds, events_add, ticks_add, all_adds, who}
 use Rattle.bt_meaning.specs.Walks.{replay_of}
 use Rattle.bt_meaning.proofs.Crossings.{mark, marks, marks_append, marks_at, total, total_all}
 use Rattle.bt_meaning.proofs.Eachs.{each_so, each_both, filter_none}
@@ -272,13 +272,13 @@ module _ (script : Typed) (attached : Attached) (r : Recording) (job : IsJob scr
   abbrev pub changes : ℕ → List (Change ℤ)
   changes a = back (table_change m) (operations (on_object (Cpu a) steps))
 
-  module _ (kind : AggKind) (few : length (entry_keys all) ≤ KEYS) where
-    pub given_few : (a : ℕ) → a < n + 1 → length (entry_keys (given a)) ≤ KEYS
+  module _ (kind : AggKind) (few : length (addition_keys all) ≤ KEYS) where
+    pub given_few : (a : ℕ) → a < n + 1 → length (addition_keys (given a)) ≤ KEYS
     given_few a lt =
         let l = few_in given (n + 1) a lt in let k = ap (λ (ks : List (List Value)). length ks) (alike_keys (flat_map given actors) all all_given) in omega arith
 
     pub table : (a : ℕ) → a < n + 1 → (rows_of (aggregate kind) (changes a) ≡ aggregate_rows kind (given a)) × (lost_updates (changes a) ≡ 0)
     table a lt =
         let puts = table_puts m a steps fits in
-        let t = few_keys kind (changes a) puts.0 (subst (λ (g : List Addition). length (entry_keys g) ≤ KEYS) (sym puts.1) (given_few a lt)) in
+        let t = few_keys kind (changes a) puts.0 (subst (λ (g : List Addition). length (addition_keys g) ≤ KEYS) (sym puts.1) (given_few a lt)) in
         (t.0 ∙ ap (aggregate_rows kind) puts.1, t.1)

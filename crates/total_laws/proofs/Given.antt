@@ -8,19 +8,19 @@ use Rattle.bt_core.specs.declared.value.Value.{Value}
 use Rattle.agg_core.specs.Changes.{is_key}
 use Rattle.agg_core.proofs.SortedRows.{Ascends, ascends-with_key}
 use Rattle.map_rows.proofs.KeySets.{has, has-with_key}
-use Rattle.bt_meaning.specs.Totals.{Addition, entry_keys, numbers_at}
+use Rattle.bt_meaning.specs.Totals.{Addition, addition_keys, numbers_at}
 
 -- an entry names the key
 abbrev pub named : List Value → List Addition → Bool
 named k es = list_any (λ e. is_key k e.0) es
 
-pub ascends-entry_keys : (es : List Addition) → Ascends (entry_keys es)
+pub ascends-entry_keys : (es : List Addition) → Ascends (addition_keys es)
 ascends-entry_keys [] = tt
-ascends-entry_keys (e ∷ es) = ascends-with_key e.0 (entry_keys es) (ascends-entry_keys es)
+ascends-entry_keys (e ∷ es) = ascends-with_key e.0 (addition_keys es) (ascends-entry_keys es)
 
-pub has-entry_keys : (k : List Value) (es : List Addition) → has k (entry_keys es) ≡ named k es
+pub has-entry_keys : (k : List Value) (es : List Addition) → has k (addition_keys es) ≡ named k es
 has-entry_keys k [] = refl
-has-entry_keys k (e ∷ es) = has-with_key k e.0 (entry_keys es) ∙ ap (λ (t : Bool). is_key k e.0 || t) (has-entry_keys k es)
+has-entry_keys k (e ∷ es) = has-with_key k e.0 (addition_keys es) ∙ ap (λ (t : Bool). is_key k e.0 || t) (has-entry_keys k es)
 
 pub named-append : (k : List Value) (xs ys : List Addition) → named k (xs ++ ys) ≡ (named k xs || named k ys)
 named-append k xs ys = list_any-append (λ e. is_key k e.0) xs ys

@@ -6,7 +6,7 @@ use mathlib.Core.Logic.{dite}
 use native.Mathlib.Decide.{ℕ_discrete}
 use Rattle.bt_core.specs.declared.value.Value.{Value}
 use Rattle.weave.proofs.Less.{less_or_not}
-use Rattle.bt_meaning.specs.Totals.{Addition, entry_keys}
+use Rattle.bt_meaning.specs.Totals.{Addition, addition_keys}
 use Rattle.total_laws.proofs.Alike.{Alike, alike_same, alike_trans, alike_append, alike_middle, alike_sym}
 use Rattle.total_laws.proofs.Given.{named, ascends-entry_keys, has-entry_keys, named-append}
 use Rattle.total_laws.proofs.Members.{fewer_keys}
@@ -117,11 +117,11 @@ named_in k f first (suc n) a le lt e = named-append k (f first) (flat_map f (ran
     (λ same. or_front (named k (f first)) (named k (flat_map f (range_with_len (first + 1) n))) (ap (λ (b : ℕ). named k (f b)) (sym same) ∙ e))
     (λ ne. or_back (named k (f first)) (named k (flat_map f (range_with_len (first + 1) n))) (named_in k f (first + 1) n a (omega arith) (omega arith) e))
 
-pub few_in : (f : ℕ → List Addition) (n a : ℕ) → a < n → length (entry_keys (f a)) ≤ length (entry_keys (flat_map f (range_with_len 0 n)))
-few_in f n a lt = fewer_keys (entry_keys (f a)) (entry_keys (flat_map f (range_with_len 0 n))) (ascends-entry_keys (f a)) (ascends-entry_keys (flat_map f (range_with_len 0 n)))
+pub few_in : (f : ℕ → List Addition) (n a : ℕ) → a < n → length (addition_keys (f a)) ≤ length (addition_keys (flat_map f (range_with_len 0 n)))
+few_in f n a lt = fewer_keys (addition_keys (f a)) (addition_keys (flat_map f (range_with_len 0 n))) (ascends-entry_keys (f a)) (ascends-entry_keys (flat_map f (range_with_len 0 n)))
     (λ k e. has-entry_keys k (flat_map f (range_with_len 0 n)) ∙ named_in k f 0 n a (omega arith) (omega (arith, lt)) (sym (has-entry_keys k (f a)) ∙ e))
 
 -- a beginning has no more keys
-pub few_front : (xs ys : List Addition) → length (entry_keys xs) ≤ length (entry_keys (xs ++ ys))
-few_front xs ys = fewer_keys (entry_keys xs) (entry_keys (xs ++ ys)) (ascends-entry_keys xs) (ascends-entry_keys (xs ++ ys))
+pub few_front : (xs ys : List Addition) → length (addition_keys xs) ≤ length (addition_keys (xs ++ ys))
+few_front xs ys = fewer_keys (addition_keys xs) (addition_keys (xs ++ ys)) (ascends-entry_keys xs) (ascends-entry_keys (xs ++ ys))
     (λ k e. has-entry_keys k (xs ++ ys) ∙ named-append k xs ys ∙ or_front (named k xs) (named k ys) (sym (has-entry_keys k xs) ∙ e))

@@ -23,7 +23,7 @@ use Rattle.agg_core.specs.Answers.{agg_kind_in, back, table_change}
 use Rattle.bt_meaning.specs.OwnSteps.{setting_of, IsOwnStep}
 use Rattle.bt_meaning.specs.Replays.{Replay, answers_of}
 use Rattle.bt_meaning.specs.Ticks.{HasDoneBefore}
-use Rattle.bt_meaning.specs.Totals.{Addition, added, entry_keys}
+use Rattle.bt_meaning.specs.Totals.{Addition, added, addition_keys}
 use Rattle.bt_meaning.specs.Walks.{replay_of}
 use Rattle.bt_meaning.proofs.Eachs.{each_front, each_back}
 use Rattle.bt_meaning.proofs.Stepping.{own_part}
@@ -114,19 +114,19 @@ module _ (script : Typed) (attached : Attached) (r : Recording) (steps : List St
     parted : of_actor cpu steps ≡ of_actor cpu before ++ of_actor cpu (s ∷ after)
     parted = ap (of_actor cpu) e ∙ filter-append (is_of cpu) before (s ∷ after)
 
-    before_few : length (entry_keys (entries_in m (of_actor cpu before))) ≤ KEYS
+    before_few : length (addition_keys (entries_in m (of_actor cpu before))) ≤ KEYS
     before_few =
         let all = given_few script attached r run.job run.only_adds m steps run.interleaving kind (few script attached r steps run m low) cpu (omega arith) in
         let cut : given script attached r run.job run.only_adds m steps run.interleaving cpu ≡ entries_in m (of_actor cpu before) ++ entries_in m (of_actor cpu (s ∷ after)) =
         ap (entries_in m) parted ∙ entries_append m (of_actor cpu before) (of_actor cpu (s ∷ after)) in
         let fewer = few_front (entries_in m (of_actor cpu before)) (entries_in m (of_actor cpu (s ∷ after))) in
-        let whole = subst (λ (l : List Addition). length (entry_keys l) ≤ KEYS) cut all in omega arith
+        let whole = subst (λ (l : List Addition). length (addition_keys l) ≤ KEYS) cut all in omega arith
 
     reply_is : s.reply ≡ Aggs (aggregate_rows kind (entries_in m (add_steps_of cpu before)))
     reply_is =
         let puts = table_puts m cpu before before_fits in
         let rows = few_keys kind (back (table_change m) (operations (on_object (Cpu cpu) before))) puts.0
-        (subst (λ (g : List Addition). length (entry_keys g) ≤ KEYS) (sym puts.1) before_few) in
+        (subst (λ (g : List Addition). length (addition_keys g) ≤ KEYS) (sym puts.1) before_few) in
         let kept = kept_adds m cpu (of_actor cpu before) (of_fits m cpu before before_fits) in
         run.interleaving.replies before s after e ∙ (λ i. answers_of p (object i) (operations (on_object (object i) before)) (op i))
         ∙ ap Aggs (rows.0 ∙ ap (aggregate_rows kind) (puts.1 ∙ sym kept))

@@ -29,7 +29,7 @@ use Rattle.bt_meaning.specs.Jobs.{IsJob}
 use Rattle.bt_meaning.specs.Prints.{emitted, of_maps, rows_after, lost_after, printed_text}
 use Rattle.bt_meaning.specs.Replays.{Replay, cpus_of}
 use Rattle.bt_meaning.specs.Ticks.{IsLastCrossing, HasDoneBefore}
-use Rattle.bt_meaning.specs.Totals.{IsAggregationOnly, Addition, entry_keys, numbers_at, added, totals, who}
+use Rattle.bt_meaning.specs.Totals.{IsAggregationOnly, Addition, addition_keys, numbers_at, added, totals, who}
 use Rattle.bt_meaning.specs.Walks.{replay_of}
 use Rattle.run_laws.specs.Reads.{BeginsWith, add_steps_of}
 
@@ -96,7 +96,7 @@ entries_in m steps = flat_map (λ s. added m s.op) steps
 
 -- each key with the aggregate of the numbers that are added to it
 abbrev pub aggregate_rows : AggKind → List Addition → List (List Value × Agg)
-aggregate_rows kind entries = map (λ key. (key, aggregate kind (numbers_at key entries))) (entry_keys entries)
+aggregate_rows kind entries = map (λ key. (key, aggregate kind (numbers_at key entries))) (addition_keys entries)
 
 -- A read of a map at a CPU's tables, after the last crossing of a tick. The steps by which the CPU added there before are a beginning
 -- of those by which it adds there in all. The CPU has done before all its events with a time below the tick's, and the steps by which
