@@ -12,6 +12,8 @@ mod formats;
 #[cfg(test)]
 mod histograms;
 #[cfg(test)]
+mod json;
+#[cfg(test)]
 mod merging;
 #[cfg(test)]
 mod values;
