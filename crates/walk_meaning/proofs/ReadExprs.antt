@@ -1,5 +1,5 @@
 -- Expressions do the same by another way of reading that reads alike what can come.
-use Rattle.std.proofs.Common.{◌≡◌, ◌++◌, ℕ, ℤ, pos, List, [], ◌∷◌, Bool, true, false, map, refl, sym, ap, ◌∙◌, subst}
+use Rattle.std.proofs.Common.{◌≡◌, ◌++◌, ℕ, ℤ, pos, List, [], ◌∷◌, Bool, true, false, map, refl, sym, ◌∙◌, subst}
 use Rattle.std.specs.Prelude.{IsTrue, cond}
 use Rattle.std.proofs.lemmas.Bool.{and_parts}
 use Rattle.std.proofs.lemmas.List.Folds.{list_all-append}
