@@ -1,8 +1,8 @@
 -- Objects that no step was made at.
-use Rattle.std.proofs.Common.{◌≡◌, ℕ, zero, suc, max, ◌+◌, ◌<◌, ◌≤◌, List, [], ◌∷◌, ◌++◌, length, replicate, get_or, sym, refl, ap, ◌∙◌, subst, arith}
-use Rattle.std.specs.Prelude.{All, Some, slice_get, slice_index_or}
+use Rattle.std.proofs.Common.{◌≡◌, ℕ, ◌+◌, ◌<◌, List, [], ◌∷◌, ◌++◌, length, get_or, sym, refl, ap, ◌∙◌, subst, arith}
+use Rattle.std.specs.Prelude.{Some, slice_get, slice_index_or}
 use Rattle.std.proofs.Common.{◌-◌, Option}
-use Rattle.std.proofs.lemmas.List.{get_or-append_right, get_or-replicate, length-replicate}
+use Rattle.std.proofs.lemmas.List.{get_or-append_right}
 use Rattle.std.proofs.Math.ListN.{get_or-append}
 use Rattle.std.proofs.lemmas.Option.{slice_get-get_or}
 use mathlib.Core.Logic.{dite}
@@ -12,7 +12,6 @@ use Rattle.bt_core.specs.declared.map.MapKind.TheVariants.{Ints}
 use Rattle.bt_core.specs.declared.step.ObjectId.{ObjectId}
 use Rattle.bt_core.specs.declared.step.ObjectId.TheVariants.{Shared, Cpu, Clock}
 use Rattle.bt_core.specs.declared.step.Op.{Op}
-use Rattle.bt_core.specs.declared.step.Step.{Step}
 use Rattle.step_objects.specs.Clocks.{clock_kind, ClockStands}
 use Rattle.step_objects.specs.CpuTables.{map_at}
 use Rattle.step_objects.specs.Objects.{shared_kind, SharedStands, cpu_kind, CpuStands}
@@ -21,7 +20,6 @@ use Rattle.run_objects.specs.declared.objects.MapParts.{MapParts}
 use Rattle.run_objects.specs.declared.objects.Objects.{Objects}
 use Rattle.run_objects.specs.declared.own.OwnObject.{OwnObject}
 use Rattle.run_base.specs.Jobs.{cpus_in, world_for}
-use Rattle.run_base.specs.Worlds.{World}
 use Rattle.run_base.proofs.MoreLemmas.{count_more}
 use Rattle.run_objects.specs.News.{IsNew, AreNew, AreNewParts, NewMaps}
 use Rattle.run_objects.specs.Objects.{OwnStands, IsPartOf, Stand}

@@ -16,13 +16,12 @@ use Rattle.bt_core.specs.declared.step.Reply.{Reply}
 use Rattle.bt_core.specs.declared.step.Reply.TheVariants.{Done}
 use Rattle.bt_core.specs.declared.step.Step.{Step}
 use Rattle.bt_core.specs.Kinds.{IsShared}
-use Rattle.bt_core.specs.Ports.{IsSharedOp, IsTableOp, IsClockOp, IsOutOp}
+use Rattle.bt_core.specs.Ports.{IsSharedOp}
 use Rattle.bt_core.specs.Steps.{is_same_object, on_object, operations}
 use Rattle.bt_core.proofs.StepLists.{is_same_object-refl, on_object-append, operations-append}
 use Rattle.agg_core.specs.Answers.{shared_answer, table_answer, clock_answer, kind_of_decl}
 use Rattle.step_objects.specs.declared.clock.ClockKind.{ClockKind}
 use Rattle.step_objects.specs.declared.clock.TickClock.{TickClock}
-use Rattle.step_objects.specs.declared.cpu.CpuTable.{CpuTable}
 use Rattle.step_objects.specs.declared.out.OutLog.{OutLog}
 use Rattle.step_objects.specs.declared.shared.PartKind.{PartKind}
 use Rattle.step_objects.specs.declared.shared.SharedPart.{SharedPart}
@@ -274,13 +273,6 @@ module _ (objects : Objects) (op : Op) (floor : ℕ) where
       out = ap (λ o. o.clock) ot ∙ st.out;
     })
 
-    -- the operation is the table's own
-    pub table_there : (w : World) × (steps : List Step) × Stand w steps objects × IsOwn w object op → actor < length objects.tables.items
-    table_there h = table_within h.0 h.1 h.2 (subst (λ o. IsOwn h.0 o op) is h.3).0
-
-    pub table_own : (w : World) × (steps : List Step) × Stand w steps objects × IsOwn w object op → (d : OwnObject CpuTable) → IsTableOp (cpu_kind (slice_index_or objects.tables.items actor d).object) op
-    table_own h d = let own = subst (λ o. IsOwn h.0 o op) is h.3 in subst (λ maps. IsTableOp maps op) (sym (h.2.tables actor d (table_within h.0 h.1 h.2 own.0)).stands.fit) own.1
-
   -- ---- a part of a shared map
   abbrev pub part_answer : PartKind → List Op → Op → Reply
   part_answer of = shared_answer of.decl.kind
@@ -374,17 +366,3 @@ module _ (objects : Objects) (op : Op) (floor : ℕ) where
     part_own h d = let own = subst (λ o. IsOwn h.0 o op) is h.3 in let decl = decl_there h.0 h.1 h.2 own in
         let part = (parts_of h.0 h.1 h.2 own).each p d (part_within h.0 h.1 h.2 own) in
         subst (λ x. IsSharedOp x op) (same_decl decl.0 (shared_kind (slice_index_or one.parts.items p d).object).decl (slice_get h.0.maps m.0) decl.1 part.stands.fit.declared) decl.3
-
--- the map of an operation is there
-pub map_there : (objects : Objects) (object : ObjectId) (op : Op) (m : MapId) (p : ℕ) → object ≡ Shared m p → (w : World) × (steps : List Step) × Stand w steps objects × IsOwn w object op → m.0 < length objects.shared.items
-map_there objects object op m p is h = within h.0 h.2.map_count (slice_get h.0.maps m.0) refl (subst (λ o. IsOwn h.0 o op) is h.3).1
-  where
-    within : (w : World) → length objects.shared.items ≡ length w.maps → (o : Option MapDecl) → slice_get w.maps m.0 ≡ o → IsSomeAnd o (λ decl. IsShared decl.kind × IsSharedOp decl op) → m.0 < length objects.shared.items
-    within w c None e h = absurd h
-    within w c (Some decl) e h = let lt = slice_get_within w.maps m.0 decl e in omega arith
-
-pub clock_own : (objects : Objects) (object : ObjectId) (op : Op) → object ≡ Clock → (w : World) × (steps : List Step) × Stand w steps objects × IsOwn w object op → IsClockOp (clock_kind objects.ticks.object).ticks op
-clock_own objects object op is h = subst (λ (of : ClockKind). IsClockOp of.ticks op) (sym h.2.ticks.stands.fit) (subst (λ o. IsOwn h.0 o op) is h.3)
-
-pub out_own : (objects : Objects) (object : ObjectId) (op : Op) → object ≡ Out → (w : World) × (steps : List Step) × Stand w steps objects × IsOwn w object op → IsOutOp op
-out_own objects object op is h = subst (λ o. IsOwn h.0 o op) is h.3

@@ -2,7 +2,7 @@
 use Rattle.std.proofs.Common.{◌≡◌, ℕ, zero, suc, ◌+◌, ◌<◌, List, [], ◌∷◌, ◌++◌, length, map, get_or, take, drop, refl, sym, ap, ◌∙◌, subst, arith, ◌≤◌, length-drop}
 use Rattle.std.specs.Prelude.{Some, slice_get}
 use Rattle.std.specs.List.{drop-map}
-use Rattle.std.proofs.lemmas.List.{get_or-map, length-map, take-map, drop_all, take_all}
+use Rattle.std.proofs.lemmas.List.{get_or-map, length-map, take-map, drop_more, take_more, drop_all, take_all}
 use Rattle.bt_core.specs.declared.limits.TheConstants.{PARTS}
 use Rattle.bt_core.specs.declared.map.MapDecl.{MapDecl}
 use Rattle.bt_core.specs.declared.step.ObjectId.{ObjectId}
@@ -160,24 +160,25 @@ module _ (w : World) (steps : List Step) (parts : List (SharedPart × List Entry
 
 module _ (all : List SharedPart) (n : ℕ) where
   -- one part more of those that are left
-  pub taken_more : (parts new : List SharedPart) (left rest : List SharedPart) (part : SharedPart) → parts ≡ take n all → left ≡ drop n all → left ≡ part ∷ rest → new ≡ parts ++ part ∷ []
+  pub taken_more : (parts new left rest : List SharedPart) (part : SharedPart) → parts ≡ take n all → left ≡ drop n all → left ≡ part ∷ rest → new ≡ parts ++ part ∷ []
       → (new ≡ take (n + 1) all) × (rest ≡ drop (n + 1) all)
-  taken_more parts new left rest part is there next pushed = let e : drop n all ≡ part ∷ rest = sym there ∙ next in
-      (pushed ∙ (λ i. is i ++ part ∷ []) ∙ sym (take_one n all part rest e), sym (drop_one n all part rest e))
-    where
-      take_one : (k : ℕ) (xs : List SharedPart) (x : SharedPart) (ys : List SharedPart) → drop k xs ≡ x ∷ ys → take (k + 1) xs ≡ take k xs ++ x ∷ []
-      take_one zero [] x ys e = absurd (let q : ⊥ = cc in q)
-      take_one zero (z ∷ zs) x ys e = let q : z ≡ x = cc in ap (λ w. w ∷ []) q
-      take_one (suc k) [] x ys e = absurd (let q : ⊥ = cc in q)
-      take_one (suc k) (z ∷ zs) x ys e = ap (λ l. z ∷ l) (take_one k zs x ys e)
-
-      drop_one : (k : ℕ) (xs : List SharedPart) (x : SharedPart) (ys : List SharedPart) → drop k xs ≡ x ∷ ys → drop (k + 1) xs ≡ ys
-      drop_one zero [] x ys e = absurd (let q : ⊥ = cc in q)
-      drop_one zero (z ∷ zs) x ys e = let q : zs ≡ ys = cc in q
-      drop_one (suc k) [] x ys e = absurd (let q : ⊥ = cc in q)
-      drop_one (suc k) (z ∷ zs) x ys e = drop_one k zs x ys e
+  taken_more parts new left rest part is there next pushed =
+      let long = ap length (sym next ∙ there) in let d = length-drop n all in let within : n < length all = omega (arith, long, d) in
+      let both : part ∷ rest ≡ get_or all n part ∷ drop (n + 1) all = sym next ∙ there ∙ drop_more all n part within in
+      let first : part ≡ get_or all n part = ap (λ l. get_or l 0 part) both in
+      (pushed ∙ (λ i. is i ++ first i ∷ []) ∙ sym (take_more all n part within), ap (drop 1) both)
 
   -- none is left
   pub taken_all : (parts left : List SharedPart) → parts ≡ take n all → left ≡ drop n all → length left ≡ 0 → (parts ≡ take (n + 1) all) × (left ≡ drop (n + 1) all)
   taken_all parts left is there none = let d = length-drop n all in let e = ap length there in let le : length all ≤ n = omega (arith, d, e, none) in
       (is ∙ take_all n all le ∙ sym (take_all (n + 1) all (omega (arith, le))), there ∙ drop_all n all le ∙ sym (drop_all (n + 1) all (omega (arith, le))))
+
+-- the parts of one map more
+pub map_more : (maps : List MapDecl) (n : ℕ) (decl : MapDecl) (left rest : List SharedPart) → n < length maps → decl ≡ get_or maps n decl → rest ≡ drop (parts_in decl.kind) left
+    → parts_by (drop n maps) left ≡ take (parts_in decl.kind) left ∷ parts_by (drop (n + 1) maps) rest
+map_more maps n decl left rest lt is there =
+    ap (λ ds. parts_by ds left) (drop_more maps n decl lt ∙ ap (λ d. d ∷ drop (n + 1) maps) (sym is)) ∙ ap (λ l. take (parts_in decl.kind) left ∷ parts_by (drop (n + 1) maps) l) (sym there)
+
+-- no map is left
+pub none_left : (maps : List MapDecl) (n : ℕ) (left : List SharedPart) → length maps ≤ n → 0 ≡ length (parts_by (drop n maps) left)
+none_left maps n left le = sym (ap (λ ds. length (parts_by ds left)) (drop_all n maps le))
