@@ -13,7 +13,10 @@ pub(crate) fn run_command<'a>(alloc: Global) -> Result<Command<'a>, AllocError>
     let serial = flag(alloc, "serial");
     let stats = flag(alloc, "stats");
     let json = flag(alloc, "json");
-    let command = plain_command(alloc, "run").arg(serial)?.arg(stats)?.arg(json)?;
+    let command = plain_command(alloc, "run")
+        .arg(serial)?
+        .arg(stats)?
+        .arg(json)?;
     with_operands(alloc, command, "script", "recording")
 }
 

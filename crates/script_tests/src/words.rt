@@ -39,9 +39,24 @@ const RUNS: [(&[&str], bool, bool, bool); 27] = [
     (&["run", "a", "b", "--json"], false, false, true),
     (&["run", "--json", "--serial", "a", "b"], true, false, true),
     (&["run", "a", "--stats", "--json", "b"], false, true, true),
-    (&["run", "--serial", "a", "--json", "b", "--stats"], true, true, true),
-    (&["run", "a", "b", "--json", "--stats", "--serial"], true, true, true),
-    (&["run", "--stats", "--serial", "--json", "a", "b"], true, true, true),
+    (
+        &["run", "--serial", "a", "--json", "b", "--stats"],
+        true,
+        true,
+        true,
+    ),
+    (
+        &["run", "a", "b", "--json", "--stats", "--serial"],
+        true,
+        true,
+        true,
+    ),
+    (
+        &["run", "--stats", "--serial", "--json", "a", "b"],
+        true,
+        true,
+        true,
+    ),
 ];
 
 #[test]
@@ -61,7 +76,11 @@ fn options_stand_anywhere(rt: HostRuntime) -> Result<(), Fail> {
         else {
             return Err(Fail::from("no run"));
         };
-        assert_eq!(rt; (serial, stats, json), (has_serial, has_stats, has_json), "{texts:?}");
+        assert_eq!(rt;
+            (serial, stats, json),
+            (has_serial, has_stats, has_json),
+            "{texts:?}"
+        );
         assert!(rt;
             script.as_str() == "a" && recording.as_str() == "b",
             "{texts:?}"

@@ -19,7 +19,7 @@ returns-in_ok-run_outcome-in-Run g c =
       c.in_ok-job-in-Run.job,
       is,
       subst (λ (form : Form). IsOutcomeOfRun form c.in-Run.serial c.in_ok-job-in-Run.job (λ (work : Work). stats_line form c.in-Run.stats work.instructions)
-      c.in_ok-run_outcome-in-Run.field-0) c.form_of-form.ensures c.in_ok-run_outcome-in-Run.ensures,
+          c.in_ok-run_outcome-in-Run.field-0) c.form_of-form.ensures c.in_ok-run_outcome-in-Run.ensures,
     )))
 
 pub returns-in_ok-check_outcome-in-Check : goal.returns-in_ok-check_outcome-in-Check
