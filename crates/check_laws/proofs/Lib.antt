@@ -4,3 +4,4 @@ pub mod Insns
 pub mod Gates
 pub mod Serving
 pub mod Whole
+pub mod Accepted

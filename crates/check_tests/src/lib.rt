@@ -5,3 +5,5 @@
 mod calls;
 #[cfg(test)]
 mod codes;
+#[cfg(test)]
+mod runs;
