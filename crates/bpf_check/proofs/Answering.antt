@@ -1,5 +1,5 @@
 -- The answers of the check.
-use Rattle.std.proofs.Common.{◌≡◌, ◌≢◌, ℕ, zero, suc, ◌*◌, ◌/◌, ◌<◌, ◌≤◌, List, [], ◌∷◌, length, refl, sym, ap, ◌∙◌, subst, arith, Option, Some, None, inl, inr, length-set, Result, Ok, Err}
+use Rattle.std.proofs.Common.{◌≡◌, ◌≢◌, ℕ, zero, suc, ◌*◌, ◌<◌, List, [], ◌∷◌, length, refl, sym, ap, ◌∙◌, subst, arith, Option, Some, None, inl, inr, length-set, Result, Ok, Err}
 use Rattle.std.specs.Prelude.{◌⊎◌, slice_set, replicate}
 use Rattle.std.proofs.lemmas.Bool.{cases_eq}
 use Rattle.std.proofs.lemmas.List.{get_or-set_same, get_or-set_other, length-replicate}
@@ -8,7 +8,6 @@ use Rattle.bpf_encode.specs.declared.decode.DecodeError.{DecodeError}
 use Rattle.bpf_encode.specs.declared.decode.DecodeError.TheVariants as decoding
 use Rattle.bpf_encode.specs.Decoding.{IsCodeOf}
 use Rattle.bpf_encode.specs.Faults.{AreBytes, IsFirstFault}
-use Rattle.bpf_encode.specs.Slots.{decoded}
 use Rattle.bpf_encode.proofs.Decoding.{complete_at}
 use Rattle.bpf_encode.proofs.Reaching.{one_fault_lem, none_beside_lem}
 use Rattle.bpf_check.specs.declared.check.CodeFault.{CodeFault}
@@ -16,10 +15,9 @@ use Rattle.bpf_check.specs.declared.check.CodeFault.TheVariants.{S1, S2, Memory}
 use Rattle.bpf_check.specs.declared.known.Seen.{Seen}
 use Rattle.bpf_check.specs.Sheet.{Sheet}
 use Rattle.bpf_check.specs.States.{entry_seen}
-use Rattle.bpf_check.specs.Ways.{leads}
-use Rattle.bpf_check.specs.Closed.{HasCover, Meets, IsClosed, IsClosedCode}
-use Rattle.bpf_check.specs.Tables.{at, AllStates, reached, IsSettled}
-use Rattle.bpf_check.specs.Answers.{AreClosed, AreOpen, IsAnswer, Judges, refused}
+use Rattle.bpf_check.specs.Closed.{HasCover, IsClosedCode}
+use Rattle.bpf_check.specs.Tables.{at, IsSettled}
+use Rattle.bpf_check.specs.Answers.{IsAnswer, Judges, refused}
 use Rattle.bpf_check.proofs.Registers.{covers_refl}
 use Rattle.bpf_check.proofs.Tables.{some_seen}
 
@@ -68,7 +66,7 @@ empty_open t (i ∷ is) e k = omega (arith, e)
 
 -- ---- one answer
 
-same_code : (a b : List Insn) (bytes : List ℕ) → IsCodeOf a bytes → IsCodeOf b bytes → a ≡ b
+pub same_code : (a b : List Insn) (bytes : List ℕ) → IsCodeOf a bytes → IsCodeOf b bytes → a ≡ b
 same_code a b bytes h k = let e = sym (complete_at a bytes h) ∙ complete_at b bytes k in cc
 
 pub one_answer : (t : Sheet) (bytes : List ℕ) (r s : Result ℕ CodeFault) → AreBytes bytes → IsAnswer t bytes r → IsAnswer t bytes s → r ≡ s
@@ -93,11 +91,14 @@ only_answer t bytes (Err S2) s b h k = inl (one_answer t bytes (Err S2) s b (h (
 only_answer t bytes (Err Memory) s b h k = inr refl
 
 -- what is judged of code holds of its bytes
-pub judged : (t : Sheet) (code : List Insn) (bytes : List ℕ) (r : Result ℕ CodeFault) → IsCodeOf code bytes → Judges t code r → r ≢ Err Memory → IsAnswer t bytes r
-judged t code bytes (Ok m) is j ne = record { code = code; is_code_of = is; closed = j.0; is_most = j.1 }
-judged t code bytes (Err (S1 e)) is j ne = absurd j
-judged t code bytes (Err S2) is j ne = record { code = code; is_code_of = is; not_closed = j }
-judged t code bytes (Err Memory) is j ne = absurd (ne refl)
+judged_of : (t : Sheet) (code : List Insn) (bytes : List ℕ) (r : Result ℕ CodeFault) → IsCodeOf code bytes → Judges t code r → r ≢ Err Memory → IsAnswer t bytes r
+judged_of t code bytes (Ok m) is j ne = record { code = code; is_code_of = is; closed = j.0; is_most = j.1 }
+judged_of t code bytes (Err (S1 e)) is j ne = absurd j
+judged_of t code bytes (Err S2) is j ne = record { code = code; is_code_of = is; not_closed = j }
+judged_of t code bytes (Err Memory) is j ne = absurd (ne refl)
+
+pub judged : (t : Sheet) (code insns : List Insn) (bytes : List ℕ) (r : Result ℕ CodeFault) → insns ≡ code → IsCodeOf code bytes → Judges t insns r → r ≢ Err Memory → IsAnswer t bytes r
+judged t code insns bytes r same is j = judged_of t code bytes r is (subst (λ (l : List Insn). Judges t l r) same j)
 
 -- what does not decode has its first fault
 pub faulted : (t : Sheet) (bytes : List ℕ) (e : DecodeError) (f : CodeFault) → f ≡ refused e → (e ≢ decoding.Memory → IsFirstFault bytes e) → f ≢ Memory → IsAnswer t bytes (Err f)

@@ -1,6 +1,6 @@
 -- What was answered where instructions lead.
 use Rattle.std.proofs.Common.{◌≡◌, ℕ, List, refl, Option, Some, None, Bool, true, false}
-use Rattle.std.specs.Prelude.{◌&&◌, slice_get, cond}
+use Rattle.std.specs.Prelude.{slice_get, cond}
 use Rattle.std.specs.Option.{option_and_then}
 use Rattle.std.proofs.lemmas.Bool.{and_parts}
 use Rattle.bpf_insn.specs.declared.insn.Insn.{Insn}

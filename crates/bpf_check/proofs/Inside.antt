@@ -15,14 +15,14 @@ use Rattle.bpf_check.specs.declared.known.Seen.{Seen}
 use Rattle.bpf_check.specs.Sheet.{Sheet}
 use Rattle.bpf_check.specs.declared.ways.Way.{Way}
 use Rattle.bpf_check.specs.declared.ways.Ways.{Ways}
-use Rattle.bpf_check.specs.declared.ways.Ways.TheVariants.{Finish, To, Either}
+use Rattle.bpf_check.specs.declared.ways.Ways.TheVariants.{Finish}
 use Rattle.bpf_check.specs.States.{known_of, paid, written}
 use Rattle.bpf_check.specs.Reading.{set_known, number_in, may_load, may_store}
 use Rattle.bpf_check.specs.Calls.{call_fits}
 use Rattle.bpf_check.specs.Effects.{source_known, first_known, alu_known, loaded, stored, after_call, effect}
 use Rattle.bpf_check.specs.Ways.{goes, is_back, jumped, one_way, two_ways, onward, taken, through_gate, from_insn, from_gate, gate_at, leads}
 use Rattle.bpf_check.specs.Tables.{AreInside, IsFew, AreFew}
-use Rattle.bpf_check.proofs.Going.{bind_some, some_is, arrives, Arrives, one_is, two_is}
+use Rattle.bpf_check.proofs.Going.{bind_some, some_is, arrives, one_is, two_is}
 
 entry_inside : (code : List Insn) (q : ℕ) → is_entry (slice_get code q) ≡ true → q < length code
 entry_inside code q e = by (slice_get code q) refl e

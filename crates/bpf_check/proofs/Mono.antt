@@ -1,7 +1,7 @@
 -- A state that is covered meets the conditions that its cover meets, and what comes of it is covered by what comes of its cover.
-use Rattle.std.proofs.Common.{◌≡◌, ◌≢◌, ℕ, ℤ, pos, negsuc, zero, suc, ◌+◌, ◌-◌, ◌<◌, ◌≤◌, List, [], ◌∷◌, length, refl, sym, ap, ◌∙◌, subst, arith, Option, Some, None, Bool, true, false, inl, inr, length-set}
-use Rattle.std.specs.Prelude.{◌⊎◌, ◌&&◌, ◌%◌, ◌^◌, slice_get, slice_set, cond, nat_eq, nat_lt, nat_le, is_some}
-use Rattle.std.specs.Option.{option_and_then, option_map}
+use Rattle.std.proofs.Common.{◌≡◌, ℕ, ℤ, pos, negsuc, ◌+◌, ◌-◌, ◌<◌, List, length, refl, sym, ap, ◌∙◌, subst, arith, Option, Some, None, Bool, true, false, length-set}
+use Rattle.std.specs.Prelude.{◌&&◌, slice_get, slice_set, cond, nat_lt, nat_le, is_some}
+use Rattle.std.specs.Option.{option_and_then}
 use Rattle.std.specs.Ordering.{int_eq}
 use Rattle.std.specs.Int.{byte_len}
 use Rattle.std.proofs.lemmas.Bool.{ltb-true, leb-true, le-leb, and_parts, and_from}
@@ -27,9 +27,9 @@ use Rattle.bpf_check.specs.Sheet.{Sheet}
 use Rattle.bpf_check.specs.declared.ways.Way.{Way}
 use Rattle.bpf_check.specs.declared.ways.Ways.{Ways}
 use Rattle.bpf_check.specs.declared.ways.Ways.TheVariants.{Finish, To, Either}
-use Rattle.bpf_check.specs.States.{known_in, known_of, written, paid, CoversKnown, Covers}
+use Rattle.bpf_check.specs.States.{known_of, written, paid, CoversKnown, Covers}
 use Rattle.bpf_check.specs.Reading.{set_known, number_in, may_load, may_store}
-use Rattle.bpf_check.specs.Calls.{in_frame, in_results, get_fits, set_fits, delete_fits, add_fits, limits_fit, print_fits, printf_fits, is_line, read_fits, helper_fits, known_helper_fits, call_fits}
+use Rattle.bpf_check.specs.Calls.{in_frame, in_results, get_fits, set_fits, delete_fits, add_fits, limits_fit, printf_fits, is_line, helper_fits, known_helper_fits, call_fits}
 use Rattle.bpf_check.specs.Effects.{source_known, first_known, sum_known, difference_known, wide_known, alu_known, loaded, stored, after_call, called, effect}
 use Rattle.bpf_check.specs.Ways.{may_go, goes, is_back, jumped, one_way, two_ways, onward, taken, through_gate, from_insn, from_gate, gate_at, leads}
 use Rattle.bpf_check.specs.Closed.{HasCover, IsCovered, AreCovered, Meets, IsClosed}
@@ -185,7 +185,7 @@ module _ (t : Sheet) (a s : Seen) (full : length s.regs ≡ 10) (c : Covers a s)
   -- what has a number in a list is there also where more is known
   the_also : {A : Type 0} (f : ℕ → Option A) (o o' : Option ℕ) → AlsoNumber o o' → AlsoThe (option_and_then f o) (option_and_then f o')
   the_also f None o' h = tt
-  the_also f (Some n) o' h = by (f n) refl
+  the_also {A = A} f (Some n) o' h = by (f n) refl
     where
       by : (x : Option A) → f n ≡ x → AlsoThe x (option_and_then f o')
       by None e = tt

@@ -1,6 +1,6 @@
 -- Tables to which ways are added.
 use Rattle.std.proofs.Common.{◌≡◌, ◌≢◌, ℕ, zero, suc, ◌+◌, ◌<◌, ◌≤◌, List, [], ◌∷◌, length, refl, sym, ap, ◌∙◌, subst, arith, Option, Some, None, Bool, true, false, inl, inr, length-set}
-use Rattle.std.specs.Prelude.{◌⊎◌, slice_index_or, slice_set}
+use Rattle.std.specs.Prelude.{◌⊎◌, slice_set}
 use Rattle.std.proofs.lemmas.Bool.{cases_eq}
 use Rattle.std.proofs.lemmas.List.{get_or-set_same, get_or-set_other}
 use Rattle.bpf_insn.specs.declared.insn.Insn.{Insn}
@@ -12,9 +12,9 @@ use Rattle.bpf_check.specs.declared.ways.Ways.TheVariants.{Finish, To, Either}
 use Rattle.bpf_check.specs.States.{Covers, IsJoin, entry_seen}
 use Rattle.bpf_check.specs.Ways.{leads}
 use Rattle.bpf_check.specs.Closed.{HasCover, IsCovered, AreCovered, Meets, IsClosed, IsClosedCode}
-use Rattle.bpf_check.specs.Tables.{at, Spreads, IsInside, AreInside, AllStates, seen_weight, weight, reached, work, IsFew, AreFew, HasFew, Advances, IsSettled}
+use Rattle.bpf_check.specs.Tables.{at, Spreads, AllStates, weight, reached, work, IsFew, AreFew, HasFew, Advances, IsSettled}
 use Rattle.bpf_check.specs.Settling.{Settles}
-use Rattle.bpf_check.proofs.Registers.{covers_refl, covers_trans, joins_left, joins_right, joins_least}
+use Rattle.bpf_check.proofs.Registers.{covers_refl, joins_left, joins_right, joins_least}
 use Rattle.bpf_check.proofs.Mono.{has_trans, closed_meets}
 use Rattle.bpf_check.proofs.Weights.{join_falls, join_credit, new_reached, old_reached, new_falls, old_falls, work_on, work_skip}
 
@@ -285,9 +285,10 @@ refuses_all t code table p a o s e led none k = refuses t code table p p a s e (
 
 pub settles_at : (t : Sheet) (code : List Insn) (old new : List (Option Seen)) (p answer : ℕ) (a : Seen) (o : Option Ways) (ways : Ways) → IsSettled t code old p → length code ≤ 4096 → p < length code
     → at old p ≡ Some a → o ≡ leads t code p a → o ≡ Some ways → AreFew (a.credit + 1) ways → Advances old new ways (p + 1) answer → Settles t code (work old p) new (Some answer)
-settles_at t code old new p answer a o ways s short inside e led some small v =
-    (settles_on t code old new p answer a ways s e (sym led ∙ some) small v,
-    work_on old new p answer v.long (omega (arith, inside, s.long)) (v.falls (fewer _ _ ways (let h = s.few p a e in omega (arith, h)) small) (omega (arith, short, s.long))))
+settles_at t code old new p answer a o ways s short inside e led some small v = (
+  settles_on t code old new p answer a ways s e (sym led ∙ some) small v,
+  work_on old new p answer v.long (omega (arith, inside, s.long)) (v.falls (fewer _ _ ways (let h = s.few p a e in omega (arith, h)) small) (omega (arith, short, s.long))),
+)
 
 pub skips_at : (t : Sheet) (code : List Insn) (table : List (Option Seen)) (p : ℕ) → IsSettled t code table p → p < length code → at table p ≡ None → Settles t code (work table p) table (Some (p + 1))
 skips_at t code table p s inside none = (none_settles t code table p s none, work_skip table p (omega (arith, inside, s.long)))

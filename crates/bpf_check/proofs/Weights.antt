@@ -1,9 +1,9 @@
 -- Each change of a table makes it lighter.
-use Rattle.std.proofs.Common.{◌≡◌, ◌≢◌, ℕ, zero, suc, ◌+◌, ◌-◌, ◌*◌, ◌<◌, ◌≤◌, List, [], ◌∷◌, length, refl, sym, ap, ◌∙◌, subst, arith, Option, Some, None, Bool, true, false, inl, inr, length-set}
-use Rattle.std.specs.Prelude.{◌⊎◌, slice_index_or, slice_set, sum_by, cond, nat_eq, min}
+use Rattle.std.proofs.Common.{◌≡◌, ℕ, zero, suc, ◌+◌, ◌*◌, ◌<◌, ◌≤◌, List, [], ◌∷◌, length, refl, sym, ap, subst, arith, Option, Some, None, Bool, true, false, inl, inr, length-set}
+use Rattle.std.specs.Prelude.{◌⊎◌, slice_set, cond, nat_eq}
 use Rattle.std.proofs.Math.Nat.{mul-le-mul_right, suc-mul}
 use Rattle.std.proofs.lemmas.Bool.{cases_eq, cases_lt, eqb-true}
-use Rattle.std.proofs.lemmas.List.Sums.{sum_by-set, sum_by-cons, get_or-le-sum_by}
+use Rattle.std.proofs.lemmas.List.Sums.{sum_by-set, sum_by-cons}
 use Rattle.bpf_check.specs.declared.known.Known.{Known}
 use Rattle.bpf_check.specs.declared.known.Known.TheVariants.{Unset, Num, Const}
 use Rattle.bpf_check.specs.declared.known.Seen.{Seen}

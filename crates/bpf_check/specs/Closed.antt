@@ -1,5 +1,5 @@
 -- Code that an assignment of states shows safe.
-use Rattle.std.specs.Prelude.{◌≡◌, ℕ, ◌<◌, List, length, Option, Some, None}
+use Rattle.std.specs.Prelude.{◌≡◌, ℕ, List, Option, Some, None}
 use Rattle.bpf_insn.specs.declared.insn.Insn.{Insn}
 use Rattle.bpf_check.specs.declared.known.Seen.{Seen}
 use Rattle.bpf_check.specs.Sheet.{Sheet}

@@ -1,5 +1,5 @@
 -- Where instructions lead, and what is known there. A gate, which counts a turn, is taken as one instruction.
-use Rattle.std.specs.Prelude.{◌≡◌, ℕ, ℤ, pos, negsuc, ◌+◌, ◌-◌, Bool, true, false, cond, not, ◌&&◌, ◌||◌, nat_eq, nat_le, is_some, List, Option, Some, None, slice_get}
+use Rattle.std.specs.Prelude.{ℕ, ℤ, pos, negsuc, ◌+◌, ◌-◌, Bool, true, false, cond, not, ◌&&◌, ◌||◌, nat_eq, nat_le, is_some, List, Option, Some, None, slice_get}
 use Rattle.std.specs.Option.{option_and_then, option_map}
 use Rattle.std.specs.Ordering.{int_eq}
 use Rattle.bt_core.specs.declared.limits.TheConstants.{LOOP_TURNS}
@@ -8,7 +8,7 @@ use Rattle.bpf_insn.specs.declared.insn.Insn.{Insn}
 use Rattle.bpf_insn.specs.declared.insn.Insn.TheVariants.{Alu, Jump, Ja, JaLong, Exit, Load, Store, Wide}
 use Rattle.bpf_insn.specs.declared.insn.JumpOp.TheVariants.{Ge}
 use Rattle.bpf_insn.specs.declared.insn.Size.TheVariants.{Dw}
-use Rattle.bpf_insn.specs.declared.insn.Source.TheVariants.{Imm, Reg}
+use Rattle.bpf_insn.specs.declared.insn.Source.TheVariants.{Imm}
 use Rattle.bpf_insn.specs.Machine.{is_entry, target_of}
 use Rattle.bpf_check.specs.declared.known.Known.TheVariants.{Num}
 use Rattle.bpf_check.specs.declared.known.Seen.{Seen}

@@ -3,8 +3,9 @@ ghost use Rattle.std.specs.Prelude.{◌≡◌, ◌≤◌, length, option_copied}
 ghost use Rattle.fmt_text.specs.Arguments.{argument_shapes, piece_shapes};
 ghost use Rattle.helper_abi.specs.Reading.{shape_bytes, bytes_of_shapes};
 ghost use Rattle.bpf_check.specs.Reading.{number_in};
-ghost use Rattle.bpf_check.specs.Calls.{at_frame, at_results, known_at, known_value_map, known_table_map, held_bytes, in_bounds, at_some_frame};
-ghost use Rattle.bpf_check.specs.Calls.{is_key, get_fits, set_fits, delete_fits, add_fits, print_fits, printf_fits, is_line, read_fits, helper_fits, call_fits};
+ghost use Rattle.bpf_check.specs.Calls.{at_frame, at_results, known_at, known_value_map, known_table_map};
+ghost use Rattle.bpf_check.specs.Calls.{held_bytes, in_bounds, at_some_frame, is_key, get_fits, set_fits, delete_fits};
+ghost use Rattle.bpf_check.specs.Calls.{add_fits, print_fits, printf_fits, is_line, read_fits, helper_fits, call_fits};
 
 use crate::effect::{lies_in, may_store, number_in, set_known};
 use crate::known::{Known, Seen, known_of};
@@ -60,13 +61,7 @@ fn piece_bytes(piece: &Piece) -> u64
 {
     match piece {
         Piece::Literal(_) => 0,
-        Piece::Conversion { letter, .. } => {
-            if *letter == b's' {
-                64
-            } else {
-                8
-            }
-        }
+        Piece::Conversion { letter, .. } => { if *letter == b's' { 64 } else { 8 } }
     }
 }
 

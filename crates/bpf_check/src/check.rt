@@ -37,7 +37,7 @@ fn refused(fault: DecodeError) -> CodeFault
 }
 
 // The judgement of code.
-#[tactic(auto, using(crate::proofs::Answering::starts, crate::proofs::Answering::empty_open))]
+#[tactic(auto, using(crate::proofs::Answering::starts))]
 fn judge(alloc: Global, typed: &Typed, payload: u32, code: &[Insn]) -> Result<u64, CodeFault>
     requires { length code.now ≤ 4096 }
     ensures { Judges (sheet_of typed.now payload) code.now result }
@@ -67,12 +67,7 @@ fn judge(alloc: Global, typed: &Typed, payload: u32, code: &[Insn]) -> Result<u6
 /// [`CodeFault::S1`] with the first fault of bytes that are no code, [`CodeFault::S2`] where they are
 /// code that is not closed, and [`CodeFault::Memory`] where memory runs out.
 #[tactic(auto, using(crate::proofs::Counting::slots_few))]
-pub fn check_code(
-    alloc: Global,
-    code: &[u8],
-    typed: &Typed,
-    payload: u32,
-) -> Result<u64, CodeFault>
+pub fn check_code(alloc: Global, code: &[u8], typed: &Typed, payload: u32) -> Result<u64, CodeFault>
     requires { length code.now ≤ 8 * CODE_SLOTS }
     // What is answered holds of the bytes.
     ensures answer { result ≢ Err CodeFault.Memory → IsAnswer (sheet_of typed.now payload) code.now result }

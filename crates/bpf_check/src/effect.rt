@@ -4,7 +4,8 @@ ghost use Rattle.std.specs.Int.{byte_len};
 ghost use Rattle.bpf_insn.specs.Words.{size_width};
 ghost use Rattle.bpf_insn.specs.Machine.{address_of};
 ghost use Rattle.bpf_check.specs.Reading.{set_known, number_in, lies_in, may_load, may_store};
-ghost use Rattle.bpf_check.specs.Effects.{source_known, first_known, sum_known, difference_known, alu_known, loaded, stored, after_call, called, calculated, changed, compared, stored_from, effect};
+ghost use Rattle.bpf_check.specs.Effects.{source_known, first_known, sum_known, difference_known, alu_known, loaded, stored};
+ghost use Rattle.bpf_check.specs.Effects.{after_call, called, calculated, changed, compared, stored_from, effect};
 ghost use Rattle.bpf_check.specs.Calls.{call_fits};
 ghost use Rattle.bpf_check.specs.Sheet.{sheet_of};
 
@@ -83,13 +84,7 @@ fn alu_known(wide: bool, op: AluOp, offset: i16, x: Known, y: Known) -> Known
         return Known::Num;
     }
     match op {
-        AluOp::Mov => {
-            if offset == 0 {
-                y
-            } else {
-                Known::Num
-            }
-        }
+        AluOp::Mov => { if offset == 0 { y } else { Known::Num } }
         AluOp::Add => sum_known(x, y),
         AluOp::Sub => difference_known(x, y),
         _ => Known::Num,

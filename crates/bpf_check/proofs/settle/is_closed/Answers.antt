@@ -1,4 +1,3 @@
-use Rattle.std.proofs.Common.{arith}
 use Rattle.bpf_check.proofs.Tables.{settled_closed}
 use Rattle.bpf_check.proofs.settle.is_closed.Goals as goal
 
