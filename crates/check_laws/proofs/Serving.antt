@@ -36,6 +36,7 @@ use Rattle.typed_tree.specs.Scope.{is_agg}
 use Rattle.map_ops.specs.Values.{value_of}
 use Rattle.map_ops.specs.Holders.{part}
 use Rattle.map_ops.specs.declared.sweep.Sweep.{Sweep}
+use Rattle.map_ops.specs.declared.sweep.Sweep.TheVariants as sweeping
 use Rattle.helper_abi.specs.declared.helper.Helper.{Helper}
 use Rattle.helper_abi.specs.declared.helper.Helper.TheVariants.{Get, Set, Delete, Aggregate, Print, Clear, Zero, Printf, Exit, Cut, ReadStr}
 use Rattle.helper_abi.specs.Numbers.{helper_at}
@@ -316,8 +317,8 @@ module _ (typed : Typed) (least actor actors : ℕ) (s : Spaces) (turns : ℕ) (
     steps_well Delete f = deletes _ refl f
     steps_well Aggregate f = adds _ refl f
     steps_well Print f = prints f
-    steps_well Clear f = sweeps _ f
-    steps_well Zero f = sweeps _ f
+    steps_well Clear f = sweeps sweeping.Clear f
+    steps_well Zero f = sweeps sweeping.Zero f
     steps_well Printf f = printfs _ refl f
     steps_well Exit f = told_well Clock ops.Stop
     steps_well Cut f = cut_well (arg 1) (line_is (known_of a 1) _ f (holds.each 1))
