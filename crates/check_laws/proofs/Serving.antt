@@ -1,6 +1,6 @@
 -- The helpers serve what is checked: a call that finds what it wants is answered, and keeps the count of turns.
 use Rattle.std.proofs.Common.{◌≡◌, ℕ, ℤ, zero, suc, ◌+◌, ◌-◌, ◌<◌, ◌≤◌, List, [], ◌∷◌, ◌++◌, length, take, drop, refl, sym, ap, ◌∙◌, subst, arith, Option, Some, None, Bool, true, false}
-use Rattle.std.specs.Prelude.{◌&&◌, ◌^◌, not, slice_get, cond, nat_eq, nat_lt, nat_le, is_some, IsSomeAnd, unwrap_or, replicate, option_and_then, option_map}
+use Rattle.std.specs.Prelude.{◌&&◌, ◌^◌, not, slice_get, cond, nat_eq, nat_lt, nat_le, is_some, if◌then◌else◌, IsSomeAnd, unwrap_or, replicate, option_and_then, option_map}
 use Rattle.std.specs.Int.{w64, cast_signed, cast_unsigned, to_le_bytes}
 use Rattle.std.specs.List.{take_while}
 use Rattle.std.proofs.lemmas.Bool.{leb-true, le-leb, and_parts}
@@ -121,11 +121,11 @@ value_long (Aggs kind) (Str s) k held = absurd k
 
 while_length : (p : ℕ → Bool) (xs : List ℕ) → length (take_while p xs) ≤ length xs
 while_length p [] = omega arith
-while_length p (x ∷ xs) = subst (λ (l : List ℕ). length l ≤ suc (length xs)) (sym (take_while-cons p x xs)) (by (p x))
+while_length p (x ∷ xs) = subst (λ (l : List ℕ). length l ≤ suc (length xs)) (sym (take_while-cons p x xs)) (by (p x) (while_length p xs))
   where
-    by : (b : Bool) → length (cond b (x ∷ take_while p xs) []) ≤ suc (length xs)
-    by true = let h = while_length p xs in omega (arith, h)
-    by false = omega arith
+    by : (b : Bool) → length (take_while p xs) ≤ length xs → length (cond b (x ∷ take_while p xs) []) ≤ suc (length xs)
+    by true h = omega (arith, h)
+    by false h = omega arith
 
 text_long : (bytes : List ℕ) → length (value_bytes (Str (short_text bytes))) ≡ 64
 text_long bytes =
@@ -264,7 +264,7 @@ module _ (typed : Typed) (least actor actors : ℕ) (s : Spaces) (turns : ℕ) (
 
   read_well : (to place count : ℕ) → may_store to 64 ≡ true → Well (does.read_str to place count s)
   read_well to place count e = subst (λ (x : Interaction Answer). Well x) (sym (ap (λ (b : Bool). cond b (Ended (wrote s to (Str (payload_text place count s.payload)))) (Ended BadBytes)) (room_there to 64 e)))
-      (wrote_well to 64 (Str (payload_text place count s.payload)) (text_long _) e)
+      (wrote_well to 64 (Str (payload_text place count s.payload)) (text_long (if nat_le (place + count) (length s.payload) then take count (drop place s.payload) else [])) e)
 
   -- ---- all of them
 
