@@ -1,10 +1,10 @@
 -- A gate is passed in four instructions, or left in two.
-use Rattle.std.proofs.Common.{◌≡◌, ◌≢◌, ℕ, ℤ, pos, negsuc, zero, suc, ◌+◌, ◌-◌, ◌*◌, ◌<◌, ◌≤◌, List, [], ◌∷◌, ◌++◌, length, take, drop, refl, sym, ap, ◌∙◌, subst, arith, Option, Some, None, Bool, true, false, inl, inr, length-set, append_assoc}
-use Rattle.std.specs.Prelude.{◌⊎◌, ◌&&◌, ◌||◌, ◌%◌, ◌^◌, not, slice_get, slice_set, cond, nat_eq, nat_lt, nat_le, is_some, Ok, Err, Result}
-use Rattle.std.specs.Option.{option_and_then, option_map, option_flatten, option_or}
+use Rattle.std.proofs.Common.{◌≡◌, ℕ, ℤ, pos, negsuc, zero, suc, ◌+◌, ◌-◌, ◌<◌, ◌≤◌, List, [], ◌∷◌, ◌++◌, length, take, drop, refl, sym, ap, ◌∙◌, subst, arith, Option, Some, None, Bool, true, false, inl, inr, length-set}
+use Rattle.std.specs.Prelude.{◌⊎◌, ◌&&◌, ◌%◌, ◌^◌, slice_get, slice_set, cond, nat_eq, nat_le}
+use Rattle.std.specs.Option.{option_map, option_flatten, option_or}
 use Rattle.std.specs.Ordering.{int_eq}
 use Rattle.std.specs.List.{between}
-use Rattle.std.specs.Int.{w64, cast_unsigned, byte_len, to_le_bytes, from_le_bytes}
+use Rattle.std.specs.Int.{w64, cast_unsigned, to_le_bytes}
 use Rattle.std.proofs.Math.Seq.{drop-append_seam, take-append_seam}
 use Rattle.std.proofs.Math.ListN.{drop_of_length-le}
 use Rattle.std.proofs.lemmas.List.{append-nil, length-append}
@@ -12,36 +12,34 @@ use Rattle.std.proofs.lemmas.Nat.{from_le_bytes-to_le_bytes_8}
 use Rattle.std.proofs.lemmas.Option.{slice_get_within}
 use Rattle.std.proofs.lemmas.Bool.{lt-leb, le-leb, and_parts, eqb-true, cases_lt}
 use Rattle.std.proofs.lemmas.Bool.Decides.{Decides-int_eq}
-use Rattle.bt_core.specs.declared.limits.TheConstants.{FRAME_BYTES, LOOP_TURNS}
+use Rattle.bt_core.specs.declared.limits.TheConstants.{LOOP_TURNS}
 use Rattle.bt_core.specs.declared.step.Reply.{Reply}
-use Rattle.bt_core.specs.Interaction.{Call as Asked, Interaction, Ended, Asks, and_then}
-use Rattle.bpf_insn.specs.declared.address.TheConstants.{CONTEXT, PAYLOAD, FRAME, CONTEXT_BYTES}
+use Rattle.bt_core.specs.Interaction.{Call as Asked, and_then}
+use Rattle.bpf_insn.specs.declared.address.TheConstants.{PAYLOAD}
 use Rattle.bpf_insn.specs.declared.insn.AluOp.TheVariants.{Add}
 use Rattle.bpf_insn.specs.declared.insn.JumpOp.TheVariants.{Ge}
 use Rattle.bpf_insn.specs.declared.insn.Insn.{Insn}
 use Rattle.bpf_insn.specs.declared.insn.Insn.TheVariants.{Alu, Jump, Load, Store}
 use Rattle.bpf_insn.specs.declared.insn.Size.TheVariants.{Dw}
-use Rattle.bpf_insn.specs.declared.insn.Source.TheVariants.{Imm, Reg}
-use Rattle.bpf_insn.specs.declared.trap.Trap.TheVariants.{BadJump, BadAddress}
-use Rattle.bpf_insn.specs.Regions.{Spaces, place_in, part_of, bytes_in, stored as stored_in, written as written_in}
+use Rattle.bpf_insn.specs.declared.insn.Source.TheVariants.{Imm}
+use Rattle.bpf_insn.specs.declared.trap.Trap.TheVariants.{BadJump}
+use Rattle.bpf_insn.specs.Regions.{Spaces, place_in, part_of, bytes_in, stored as stored_in}
 use Rattle.bpf_insn.specs.Words.{holds as test_holds}
-use Rattle.bpf_insn.specs.Machine.{Helpers, State, Next, GoesOn, Traps, is_entry, enters, with_value, set_reg, plain_step, machine_step, call_or, call_number, reg_of, loads, stores, number_of_bytes, jump_by, jumps_to, target_of}
+use Rattle.bpf_insn.specs.Machine.{Helpers, State, GoesOn, Traps, is_entry, enters, with_value, set_reg, plain_step, machine_step, call_or, call_number, reg_of, loads, stores, number_of_bytes, jump_by}
 use Rattle.bpf_interp.specs.Running.{after_step, machine_run}
-use Rattle.bpf_check.specs.declared.known.Known.{Known}
-use Rattle.bpf_check.specs.declared.known.Known.TheVariants.{Unset, Num, Const}
+use Rattle.bpf_check.specs.declared.known.Known.TheVariants.{Num}
 use Rattle.bpf_check.specs.declared.known.Seen.{Seen}
 use Rattle.bpf_check.specs.Sheet.{Sheet}
 use Rattle.bpf_check.specs.declared.ways.Way.{Way}
 use Rattle.bpf_check.specs.declared.ways.Ways.{Ways}
-use Rattle.bpf_check.specs.declared.ways.Ways.TheVariants.{Finish, To, Either}
-use Rattle.bpf_check.specs.States.{known_in, written}
-use Rattle.bpf_check.specs.Ways.{goes, two_ways, taken, through_gate, from_gate, leads, gate_at, is_turns_load, turns_jump, is_turns_add, is_turns_store}
-use Rattle.check_laws.specs.Safe.{HoldsKnown, Holds, Counts}
+use Rattle.bpf_check.specs.States.{written}
+use Rattle.bpf_check.specs.Ways.{goes, two_ways, taken, through_gate, from_gate, gate_at, is_turns_load, turns_jump, is_turns_add, is_turns_store}
+use Rattle.check_laws.specs.Safe.{Holds, Counts}
 use Rattle.bpf_check.proofs.Registers.{get-set-same, get-set-other}
 use Rattle.check_laws.proofs.Sound.{Gates, GateWays, Passes, Leaves}
 use Rattle.bpf_check.proofs.Going.{bind_some, some_is, arrives, Arrives, two_is}
-use Rattle.check_laws.proofs.Rows.{put, set_holds}
-use Rattle.check_laws.proofs.Insns.{store_keeps, written_long, wrote}
+use Rattle.check_laws.proofs.Rows.{set_holds}
+use Rattle.check_laws.proofs.Insns.{wrote}
 
 abbrev pub first_of : Insn
 first_of = Load Dw false 1 10 (negsuc 7)
@@ -125,7 +123,7 @@ counted : (t : Sheet) (s : Spaces) (turns : ℕ) → Counts t s turns → bytes_
 counted t s turns c =
     let far : nat_le (12884902392 - PAYLOAD) (length s.payload - 8) ≡ false = lt-leb (12884902392 - PAYLOAD) (length s.payload - 8) (omega (arith, c.short)) in
     let none : place_in PAYLOAD (length s.payload) 12884902392 8 ≡ None =
-        ap (λ (b : Bool). cond (nat_le 8 (length s.payload)) (cond b (Some (12884902392 - PAYLOAD)) None) None) far ∙ ahead (12884902392 - PAYLOAD) (nat_le 8 (length s.payload)) in
+    ap (λ (b : Bool). cond (nat_le 8 (length s.payload)) (cond b (Some (12884902392 - PAYLOAD)) None) None) far ∙ ahead (12884902392 - PAYLOAD) (nat_le 8 (length s.payload)) in
     let long : length c.front ≡ 504 = c.long in
     ap (λ (o : Option ℕ). option_or (part_of s.payload 8 o) (part_of s.frame 8 (Some 504))) none
     ∙ ap (λ (l : List ℕ). Some (between 504 512 l)) c.frame
@@ -287,9 +285,11 @@ module _ (K : Asked → Reply → Type 0) (t : Sheet) (helper : Helpers) (code :
           let in' : st.place + 3 < length code = slice_get_within code (st.place + 3) fourth_of g.fourth in
           let same : p.0.credit ≡ a.credit = ap (λ (s : Seen). s.credit) (sym w.is) in
           let hs : (o : ℕ) → Holds (slice_set st.regs 1 (Some o)) p.0 = λ o. subst (λ (s : Seen). Holds (slice_set st.regs 1 (Some o)) s) w.is (set_holds st.regs a 1 Num (Some o) (omega arith) (o, refl) h) in
-          subst (λ (ws : Ways). GateWays K t helper code st a turns ws) o.4
-          (omega (arith, in'), cases (cases_lt turns 4096) (λ few. passes st a turns (pos n) g h c (taken p.0) o.0 v (λ o. record { each = (hs o).each; long = (hs o).long }) (omega (arith, same)) few)
-          (λ most. leaves st a turns (pos n) g h c n p.0 o.1 refl u (hs turns) same most))
+          subst (λ (ws : Ways). GateWays K t helper code st a turns ws) o.4 (
+            omega (arith, in'),
+            cases (cases_lt turns 4096) (λ few. passes st a turns (pos n) g h c (taken p.0) o.0 v (λ o. record { each = (hs o).each; long = (hs o).long }) (omega (arith, same)) few)
+                (λ most. leaves st a turns (pos n) g h c n p.0 o.1 refl u (hs turns) same most),
+          )
         where
           cases : {A B C D : Type 0} → A ⊎ B → (A → C) → (B → D) → C ⊎ D
           cases (inl x) k l = inl (k x)

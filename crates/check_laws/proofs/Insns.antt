@@ -1,14 +1,13 @@
 -- Each instruction goes as its ways say.
-use Rattle.std.proofs.Common.{◌≡◌, ◌≢◌, ℕ, ℤ, pos, negsuc, zero, suc, ◌+◌, ◌-◌, ◌*◌, ◌<◌, ◌≤◌, List, [], ◌∷◌, ◌++◌, length, take, drop, refl, sym, ap, ◌∙◌, subst, arith, Option, Some, None, Bool, true, false, inl, inr, length-set, append_assoc, length-append}
-use Rattle.std.specs.Prelude.{◌⊎◌, ◌&&◌, ◌||◌, ◌%◌, ◌^◌, not, slice_get, slice_set, cond, nat_eq, nat_lt, nat_le, is_some, Ok, Err, Result}
-use Rattle.std.specs.Option.{option_and_then, option_map, option_flatten, option_or}
-use Rattle.std.specs.Int.{w64, w32, w16, w8, Width, cast_unsigned, byte_len, to_le_bytes, from_le_bytes}
-use Rattle.std.proofs.Math.Seq.{drop-append_seam, take-append_seam}
+use Rattle.std.proofs.Common.{◌≡◌, ℕ, ℤ, ◌+◌, ◌-◌, ◌<◌, ◌≤◌, List, ◌++◌, length, take, drop, refl, sym, ap, ◌∙◌, subst, arith, Option, Some, None, Bool, true, false, inl, inr, append_assoc, length-append}
+use Rattle.std.specs.Prelude.{◌⊎◌, ◌||◌, slice_set, cond, nat_lt, nat_le, is_some}
+use Rattle.std.specs.Option.{option_and_then, option_map, option_or}
+use Rattle.std.specs.Int.{w64, Width, cast_unsigned, byte_len, to_le_bytes}
 use Rattle.std.proofs.lemmas.List.{take-append-le, drop-append-le, length-take, length-drop}
-use Rattle.std.proofs.lemmas.Bool.{ltb-true, leb-true, le-leb, and_parts, or_cases, ne_eqb, cases_Bool}
+use Rattle.std.proofs.lemmas.Bool.{ltb-true, leb-true, le-leb, and_parts, or_cases, ne_eqb}
 use Rattle.bt_core.specs.declared.step.Reply.{Reply}
 use Rattle.bt_core.specs.declared.limits.TheConstants.{FRAME_BYTES}
-use Rattle.bt_core.specs.Interaction.{Call as Asked, Interaction, Ended, Asks, and_then}
+use Rattle.bt_core.specs.Interaction.{Call as Asked}
 use Rattle.bpf_insn.specs.declared.address.TheConstants.{CONTEXT, PAYLOAD, FRAME, CONTEXT_BYTES}
 use Rattle.bpf_insn.specs.declared.insn.AluOp.{AluOp}
 use Rattle.bpf_insn.specs.declared.insn.AluOp.TheVariants.{Mov}
@@ -19,26 +18,26 @@ use Rattle.bpf_insn.specs.declared.insn.Size.{Size}
 use Rattle.bpf_insn.specs.declared.insn.Size.TheVariants.{W, H, B, Dw}
 use Rattle.bpf_insn.specs.declared.insn.Source.{Source}
 use Rattle.bpf_insn.specs.declared.insn.Source.TheVariants.{Imm, Reg}
-use Rattle.bpf_insn.specs.declared.trap.Trap.TheVariants.{BadJump, BadAddress, UnsetRegister}
-use Rattle.bpf_insn.specs.Regions.{Spaces, place_in, part_of, bytes_in, is_in_frame, stored as stored_in, written as written_in}
+use Rattle.bpf_insn.specs.declared.trap.Trap.TheVariants.{BadAddress}
+use Rattle.bpf_insn.specs.Regions.{Spaces, place_in, part_of, bytes_in, stored as stored_in, written as written_in}
 use Rattle.bpf_insn.specs.Words.{alu_value, neg_value, end_value, size_width, low, holds as test_holds}
-use Rattle.bpf_insn.specs.Machine.{Helpers, Answer, Gave, BadBytes, BadArgument, State, Next, GoesOn, Ends, Traps, is_entry, enters, with_value, set_reg, change, first_operand, source_of, plain_step, machine_step, call_or, call_number, call_step, answered, args_of, after_call as after_machine_call, target_of, jump_by, jump_if, reg_of, arithmetic, address_of, loads, load, stores, store, number_of_bytes}
+use Rattle.bpf_insn.specs.Machine.{Helpers, Answer, Gave, BadBytes, BadArgument, State, Next, Ends, Traps, enters, with_value, set_reg, change, first_operand, source_of, plain_step, machine_step, call_step, answered, args_of, after_call as after_machine_call, jump_by, reg_of, address_of, loads, load, stores, store, number_of_bytes}
 use Rattle.bpf_check.specs.declared.known.Known.{Known}
 use Rattle.bpf_check.specs.declared.known.Known.TheVariants.{Unset, Num, Const}
 use Rattle.bpf_check.specs.declared.known.Seen.{Seen}
 use Rattle.bpf_check.specs.Sheet.{Sheet}
 use Rattle.bpf_check.specs.declared.ways.Way.{Way}
 use Rattle.bpf_check.specs.declared.ways.Ways.{Ways}
-use Rattle.bpf_check.specs.declared.ways.Ways.TheVariants.{Finish, To, Either}
-use Rattle.bpf_check.specs.States.{known_in, known_of, paid, written}
+use Rattle.bpf_check.specs.declared.ways.Ways.TheVariants.{Finish, Either}
+use Rattle.bpf_check.specs.States.{known_of, written}
 use Rattle.bpf_check.specs.Reading.{set_known, number_in, lies_in, may_load, may_store}
 use Rattle.bpf_check.specs.Calls.{call_fits}
 use Rattle.bpf_check.specs.Effects.{source_known, first_known, alu_known, loaded, stored, after_call, called, effect}
-use Rattle.bpf_check.specs.Ways.{may_go, goes, jumped, one_way, two_ways, onward, gate_at, from_gate, from_insn, leads}
+use Rattle.bpf_check.specs.Ways.{goes, jumped, one_way, two_ways, onward, from_gate, from_insn}
 use Rattle.check_laws.specs.Safe.{Yields, HoldsKnown, Holds, Counts, GivesWell, HelpersServe}
 use Rattle.check_laws.proofs.Sound.{Yields-then, Pays, GoesAs, LeadsAs, Steps}
-use Rattle.bpf_check.proofs.Going.{bind_some, some_is, Arrives, arrives, one_is, two_is}
-use Rattle.check_laws.proofs.Rows.{put, set_holds, Means, means_holds, Read, read_set, read_number, alu_means, comes, pays_on, one_on, Jumps, jump_goes}
+use Rattle.bpf_check.proofs.Going.{bind_some, some_is, arrives, one_is, two_is}
+use Rattle.check_laws.proofs.Rows.{put, set_holds, Means, Read, read_set, read_number, alu_means, comes, pays_on, one_on, jump_goes}
 
 -- ---- regions
 
@@ -226,8 +225,8 @@ module _ (K : Asked → Reply → Type 0) (t : Sheet) (helper : Helpers) (code :
         let r = arrives code st.place (st.place + 1) a o.1 o.3 in
         let j = jump_goes t code st a turns offset o.0 o.2 h c in
         let is : plain_step code (Jump wide op dst src offset) st ≡ cond (test_holds wide op x.value y.value) (jump_by code st offset) (enters code st (st.place + 1)) =
-            ap (λ (z : Option ℕ). with_value st.place z (λ m. with_value st.place (source_of st.regs src) (λ n. cond (test_holds wide op m n) (jump_by code st offset) (enters code st (st.place + 1))))) x.is
-            ∙ ap (λ (z : Option ℕ). with_value st.place z (λ n. cond (test_holds wide op x.value n) (jump_by code st offset) (enters code st (st.place + 1)))) y.is in
+        ap (λ (z : Option ℕ). with_value st.place z (λ m. with_value st.place (source_of st.regs src) (λ n. cond (test_holds wide op m n) (jump_by code st offset) (enters code st (st.place + 1))))) x.is
+        ∙ ap (λ (z : Option ℕ). with_value st.place z (λ n. cond (test_holds wide op x.value n) (jump_by code st offset) (enters code st (st.place + 1)))) y.is in
         subst (λ (n : Next). LeadsAs t st.place a turns n ways) (sym is)
         (subst (λ (ws : Ways). LeadsAs t st.place a turns (cond (test_holds wide op x.value y.value) (jump_by code st offset) (enters code st (st.place + 1))) ws) o.4
         (by (test_holds wide op x.value y.value) o.0 o.1 (j.goes_as, j.pays) (comes t code st (st.place + 1) turns a o.1 r h c, pays_on t code st.place (st.place + 1) a a o.1 r refl (omega arith))))

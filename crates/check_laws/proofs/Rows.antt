@@ -1,40 +1,31 @@
 -- Each instruction goes as its ways say, where the state before it holds.
-use Rattle.std.proofs.Common.{◌≡◌, ◌≢◌, ℕ, ℤ, pos, negsuc, zero, suc, ◌+◌, ◌-◌, ◌*◌, ◌<◌, ◌≤◌, List, [], ◌∷◌, ◌++◌, length, take, drop, refl, sym, ap, ◌∙◌, subst, arith, Option, Some, None, Bool, true, false, inl, inr, length-set}
-use Rattle.std.specs.Prelude.{◌⊎◌, ◌&&◌, ◌||◌, ◌%◌, ◌^◌, not, slice_get, slice_set, cond, nat_eq, nat_lt, nat_le, is_some, Ok, Err, Result}
-use Rattle.std.specs.Option.{option_and_then, option_map, option_flatten, option_or}
+use Rattle.std.proofs.Common.{◌≡◌, ℕ, ℤ, pos, negsuc, ◌+◌, ◌-◌, ◌<◌, ◌≤◌, List, refl, sym, ap, ◌∙◌, subst, arith, Option, Some, None, Bool, true, false, inl, inr, length-set}
+use Rattle.std.specs.Prelude.{◌⊎◌, slice_set, cond, nat_le}
+use Rattle.std.specs.Option.{option_flatten}
 use Rattle.std.specs.Ordering.{int_eq}
-use Rattle.std.specs.Int.{w64, Width, cast_unsigned, byte_len, to_le_bytes}
-use Rattle.std.proofs.lemmas.Bool.{ltb-true, leb-true, leb-false, le-leb, and_parts, or_cases, ne_eqb, cases_eq}
+use Rattle.std.specs.Int.{w64}
+use Rattle.std.proofs.lemmas.Bool.{leb-true, cases_eq}
 use Rattle.std.proofs.lemmas.Bool.Decides.{Decides-int_eq}
-use Rattle.bt_core.specs.declared.step.Reply.{Reply}
-use Rattle.bt_core.specs.Interaction.{Call as Asked, Interaction, Ended, Asks, and_then}
 use Rattle.bpf_insn.specs.declared.insn.AluOp.{AluOp}
 use Rattle.bpf_insn.specs.declared.insn.AluOp.TheVariants.{Add, Sub, Mov}
-use Rattle.bpf_insn.specs.declared.insn.JumpOp.{JumpOp}
 use Rattle.bpf_insn.specs.declared.insn.Insn.{Insn}
-use Rattle.bpf_insn.specs.declared.insn.Insn.TheVariants.{Alu, Neg, End, Jump, Ja, JaLong, Call, Exit, Load, StoreImm, Store, Wide, Half}
-use Rattle.bpf_insn.specs.declared.insn.Source.{Source}
-use Rattle.bpf_insn.specs.declared.insn.Source.TheVariants.{Imm, Reg}
-use Rattle.bpf_insn.specs.declared.trap.Trap.TheVariants.{BadJump, BadAddress, UnsetRegister}
-use Rattle.bpf_insn.specs.Regions.{Spaces}
-use Rattle.bpf_insn.specs.Words.{alu_value, neg_value, end_value, moved, holds as test_holds}
-use Rattle.bpf_insn.specs.Machine.{Helpers, Answer, Gave, BadBytes, BadArgument, State, Next, GoesOn, Ends, Traps, is_entry, enters, with_value, set_reg, change, first_operand, source_of, plain_step, machine_step, call_or, call_number, answered, args_of, after_call as after_machine_call, target_of, jump_by, jumps_to, jump_if, reg_of}
+use Rattle.bpf_insn.specs.declared.trap.Trap.TheVariants.{BadJump}
+use Rattle.bpf_insn.specs.Words.{alu_value, moved}
+use Rattle.bpf_insn.specs.Machine.{State, Next, GoesOn, Traps, enters, target_of, jump_by, jumps_to, reg_of}
 use Rattle.bpf_check.specs.declared.known.Known.{Known}
 use Rattle.bpf_check.specs.declared.known.Known.TheVariants.{Unset, Num, Const}
 use Rattle.bpf_check.specs.declared.known.Seen.{Seen}
 use Rattle.bpf_check.specs.Sheet.{Sheet}
 use Rattle.bpf_check.specs.declared.ways.Way.{Way}
 use Rattle.bpf_check.specs.declared.ways.Ways.{Ways}
-use Rattle.bpf_check.specs.declared.ways.Ways.TheVariants.{Finish, To, Either}
-use Rattle.bpf_check.specs.States.{known_in, known_of, CoversKnown, Covers, paid, written}
+use Rattle.bpf_check.specs.States.{known_in, CoversKnown, paid}
 use Rattle.bpf_check.specs.Reading.{set_known, number_in}
-use Rattle.bpf_check.specs.Calls.{call_fits}
-use Rattle.bpf_check.specs.Effects.{source_known, first_known, sum_known, difference_known, wide_known, alu_known, after_call, called, effect}
-use Rattle.bpf_check.specs.Ways.{may_go, goes, is_back, jumped, one_way, two_ways, onward}
-use Rattle.check_laws.specs.Safe.{Yields, HoldsKnown, Holds, Counts, GivesWell, HelpersServe}
+use Rattle.bpf_check.specs.Effects.{sum_known, difference_known, wide_known, alu_known}
+use Rattle.bpf_check.specs.Ways.{goes, is_back, jumped, one_way}
+use Rattle.check_laws.specs.Safe.{HoldsKnown, Holds, Counts}
 use Rattle.bpf_check.proofs.Registers.{get-set-same, get-set-other, known_other, covers_written}
-use Rattle.bpf_check.proofs.Going.{bind_some, some_is, Arrives, arrives, one_is, two_is}
-use Rattle.check_laws.proofs.Sound.{known_less, Yields-then, Pays, GoesAs, LeadsAs}
+use Rattle.bpf_check.proofs.Going.{bind_some, some_is, Arrives, arrives, one_is}
+use Rattle.check_laws.proofs.Sound.{known_less, Pays, GoesAs, LeadsAs}
 
 abbrev pub put : Seen → ℕ → Known → Seen
 put s r k = record s { regs = slice_set s.regs r k }

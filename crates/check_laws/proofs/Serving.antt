@@ -1,9 +1,9 @@
 -- The helpers serve what is checked: a call that finds what it wants is answered, and keeps the count of turns.
-use Rattle.std.proofs.Common.{◌≡◌, ℕ, ℤ, zero, suc, ◌+◌, ◌-◌, ◌<◌, ◌≤◌, List, [], ◌∷◌, ◌++◌, length, take, drop, refl, sym, ap, ◌∙◌, subst, arith, Option, Some, None, Bool, true, false}
+use Rattle.std.proofs.Common.{◌≡◌, ℕ, suc, ◌+◌, ◌-◌, ◌≤◌, List, [], ◌∷◌, ◌++◌, length, take, drop, refl, sym, ap, ◌∙◌, subst, arith, Option, Some, None, Bool, true, false}
 use Rattle.std.specs.Prelude.{◌&&◌, ◌^◌, not, slice_get, cond, nat_eq, nat_lt, nat_le, is_some, if◌then◌else◌, IsSomeAnd, unwrap_or, replicate, option_and_then, option_map}
-use Rattle.std.specs.Int.{w64, cast_signed, cast_unsigned, to_le_bytes}
+use Rattle.std.specs.Int.{w64, cast_signed, to_le_bytes}
 use Rattle.std.specs.List.{take_while}
-use Rattle.std.proofs.lemmas.Bool.{leb-true, le-leb, and_parts}
+use Rattle.std.proofs.lemmas.Bool.{leb-true, and_parts}
 use Rattle.std.proofs.lemmas.List.{length-append, length-replicate, length-take}
 use Rattle.std.proofs.lemmas.List.Sums.{take_while-cons}
 use Rattle.bt_core.specs.declared.limits.TheConstants.{FRAME_BYTES}
@@ -20,15 +20,15 @@ use Rattle.bt_core.specs.declared.step.Reply.{Reply}
 use Rattle.bt_core.specs.declared.step.Reply.TheVariants as replies
 use Rattle.bt_core.specs.declared.value.Value.{Value}
 use Rattle.bt_core.specs.declared.value.Value.TheVariants.{Int, Str}
-use Rattle.bt_core.specs.Interaction.{Call as Asked, Interaction, Ended, Asks, and_then}
-use Rattle.bt_core.specs.KeyBytes.{value_bytes, part_of}
+use Rattle.bt_core.specs.Interaction.{Call as Asked, Interaction, Ended, Asks}
+use Rattle.bt_core.specs.KeyBytes.{value_bytes}
 use Rattle.bt_core.specs.Kinds.{IsOfKind}
-use Rattle.bt_core.specs.Ports.{IsSharedReply, IsReplyOf}
+use Rattle.bt_core.specs.Ports.{IsSharedReply}
 use Rattle.bt_core.specs.Text.{short_text, is_text_byte}
 use Rattle.step_list.specs.HeldReplies.{IsHeldValue, IsHeldReply}
 use Rattle.bpf_insn.specs.declared.address.TheConstants.{FRAME}
-use Rattle.bpf_insn.specs.Regions.{Spaces, place_in, bytes_in, is_in_frame, written}
-use Rattle.bpf_insn.specs.Machine.{Answer, Gave, BadBytes, BadArgument, Helpers, args_of, reg_of}
+use Rattle.bpf_insn.specs.Regions.{Spaces, bytes_in, is_in_frame, written}
+use Rattle.bpf_insn.specs.Machine.{Answer, BadBytes, BadArgument, reg_of}
 use Rattle.fmt_text.specs.Arguments.{argument_shapes}
 use Rattle.fmt_text.specs.declared.piece.Piece.{Piece}
 use Rattle.typed_tree.specs.declared.script.Typed.{Typed}
@@ -40,7 +40,7 @@ use Rattle.map_ops.specs.declared.sweep.Sweep.TheVariants as sweeping
 use Rattle.helper_abi.specs.declared.helper.Helper.{Helper}
 use Rattle.helper_abi.specs.declared.helper.Helper.TheVariants.{Get, Set, Delete, Aggregate, Print, Clear, Zero, Printf, Exit, Cut, ReadStr}
 use Rattle.helper_abi.specs.Numbers.{helper_at}
-use Rattle.helper_abi.specs.Reading.{shape_bytes, bytes_of_shapes, value_in, values_in, bytes_at, values_at, value_at, shape_of, payload_text}
+use Rattle.helper_abi.specs.Reading.{shape_bytes, bytes_of_shapes, value_in, values_in, values_at, value_at, shape_of, payload_text}
 use Rattle.helper_abi.specs.Steps.{wrote, answered, told, got, swept_all, printed}
 use Rattle.helper_abi.specs.Helpers.{Desk, numbered, map_id, of_sort, table_map, value_map, are_shown, in_range, if_range, with_read, with_room, helper_steps, helpers}
 use Rattle.helper_abi.specs.Helpers as does
@@ -51,9 +51,9 @@ use Rattle.bpf_check.specs.declared.known.Known.TheVariants.{Unset, Num, Const}
 use Rattle.bpf_check.specs.declared.known.Seen.{Seen}
 use Rattle.bpf_check.specs.Sheet.{Sheet, sheet_of}
 use Rattle.bpf_check.specs.States.{known_of}
-use Rattle.bpf_check.specs.Reading.{set_known, number_in, lies_in, may_store}
-use Rattle.bpf_check.specs.Calls.{in_frame, in_results, known_at, known_value_map, known_table_map, is_key, held_bytes, get_fits, set_fits, delete_fits, add_fits, limits_fit, printf_fits, is_line, read_fits, helper_fits, known_helper_fits, call_fits}
-use Rattle.bpf_check.proofs.Going.{bind_some, some_is}
+use Rattle.bpf_check.specs.Reading.{number_in, lies_in, may_store}
+use Rattle.bpf_check.specs.Calls.{in_frame, in_results, known_at, known_value_map, known_table_map, is_key, held_bytes, get_fits, set_fits, delete_fits, add_fits, limits_fit, printf_fits, is_line, helper_fits, known_helper_fits}
+use Rattle.bpf_check.proofs.Going.{bind_some}
 use Rattle.check_laws.specs.Safe.{CanReply, Yields, HoldsKnown, Holds, Counts, GivesWell, HelpersServe}
 use Rattle.check_laws.proofs.Sound.{Yields-then}
 use Rattle.check_laws.proofs.Insns.{place_some, IsThere, or_second, part_there, written_long, store_keeps}

@@ -1,18 +1,13 @@
 -- Closed code is safe: one step leads from a state that holds to one that holds, and a number falls at each.
-use Rattle.std.proofs.Common.{◌≡◌, ◌≢◌, ℕ, ℤ, pos, negsuc, zero, suc, ◌+◌, ◌-◌, ◌*◌, ◌<◌, ◌≤◌, List, [], ◌∷◌, ◌++◌, length, refl, sym, ap, ◌∙◌, subst, arith, Option, Some, None, Bool, true, false, inl, inr, length-set}
-use Rattle.std.specs.Prelude.{◌⊎◌, ◌&&◌, ◌||◌, ◌%◌, ◌^◌, not, slice_get, slice_set, cond, nat_eq, nat_lt, nat_le, is_some, Ok, Err, Result}
-use Rattle.std.specs.Option.{option_and_then, option_map, option_flatten}
+use Rattle.std.proofs.Common.{◌≡◌, ℕ, ℤ, zero, suc, ◌+◌, ◌-◌, ◌*◌, ◌<◌, ◌≤◌, List, [], ◌∷◌, length, refl, sym, ap, ◌∙◌, subst, arith, Option, Some, None, inl, inr}
+use Rattle.std.specs.Prelude.{◌⊎◌, slice_get, Result}
 use Rattle.std.proofs.Math.Nat.{mul-le-mul_right, suc-mul}
 use Rattle.bpf_check.proofs.Registers.{covers_at}
-use Rattle.std.proofs.lemmas.Bool.{ltb-true, leb-true, and_parts, or_cases, not-true}
 use Rattle.bt_core.specs.declared.step.Reply.{Reply}
 use Rattle.bt_core.specs.Interaction.{Call as Asked, Interaction, Ended, Asks, and_then}
 use Rattle.bpf_insn.specs.declared.insn.Insn.{Insn}
-use Rattle.bpf_insn.specs.declared.insn.Insn.TheVariants.{Alu, Neg, End, Jump, Ja, JaLong, Call, Exit, Load, StoreImm, Store, Wide, Half}
 use Rattle.bpf_insn.specs.declared.trap.Trap.{Trap}
-use Rattle.bpf_insn.specs.declared.trap.Trap.TheVariants.{BadJump}
-use Rattle.bpf_insn.specs.Regions.{Spaces}
-use Rattle.bpf_insn.specs.Machine.{Helpers, Answer, Gave, BadBytes, BadArgument, State, Next, GoesOn, Ends, Traps, is_entry, enters, plain_step, machine_step, call_or, call_number, call_step, answered, args_of, after_call as after_machine_call, target_of, jump_by, jumps_to, reg_of}
+use Rattle.bpf_insn.specs.Machine.{Helpers, State, Next, GoesOn, Ends, machine_step}
 use Rattle.bpf_interp.specs.declared.machine.Ended.{Ended as EndedRun}
 use Rattle.bpf_interp.specs.Running.{after_step, machine_run}
 use Rattle.bpf_check.specs.declared.known.Known.{Known}
@@ -22,11 +17,10 @@ use Rattle.bpf_check.specs.Sheet.{Sheet}
 use Rattle.bpf_check.specs.declared.ways.Way.{Way}
 use Rattle.bpf_check.specs.declared.ways.Ways.{Ways}
 use Rattle.bpf_check.specs.declared.ways.Ways.TheVariants.{Finish, To, Either}
-use Rattle.bpf_check.specs.States.{known_in, CoversKnown, Covers, paid}
-use Rattle.bpf_check.specs.Effects.{effect}
-use Rattle.bpf_check.specs.Ways.{may_go, goes, is_back, jumped, one_way, two_ways, onward, gate_at, leads}
+use Rattle.bpf_check.specs.States.{known_in, CoversKnown, Covers}
+use Rattle.bpf_check.specs.Ways.{gate_at, leads}
 use Rattle.bpf_check.specs.Closed.{HasCover, IsCovered, AreCovered, Meets, IsClosed}
-use Rattle.check_laws.specs.Safe.{Yields, EndsWell, HoldsKnown, Holds, Counts, GivesWell, HelpersServe}
+use Rattle.check_laws.specs.Safe.{Yields, EndsWell, HoldsKnown, Holds, Counts}
 
 -- ---- what is covered holds less
 

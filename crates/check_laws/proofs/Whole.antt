@@ -1,22 +1,20 @@
 -- Closed code never traps, and never goes on after 4,097 times its slots.
-use Rattle.std.proofs.Common.{◌≡◌, ℕ, ℤ, zero, suc, ◌+◌, ◌-◌, ◌*◌, ◌<◌, ◌≤◌, List, [], ◌∷◌, ◌++◌, length, refl, sym, ap, ◌∙◌, subst, arith, Option, Some, None}
+use Rattle.std.proofs.Common.{◌≡◌, ℕ, ℤ, zero, suc, ◌*◌, ◌<◌, ◌≤◌, List, length, refl, sym, subst, arith, Option, Some, None}
 use Rattle.std.specs.Prelude.{◌^◌, slice_get, replicate}
 use Rattle.std.proofs.lemmas.Option.{slice_get_within}
 use Rattle.bt_core.specs.declared.step.Reply.{Reply}
-use Rattle.bt_core.specs.declared.limits.TheConstants.{FRAME_BYTES}
 use Rattle.bt_core.specs.Interaction.{Call as Asked}
 use Rattle.bpf_insn.specs.declared.insn.Insn.{Insn}
 use Rattle.bpf_insn.specs.Machine.{Helpers, entry_regs, entry_state, reg_of}
 use Rattle.bpf_interp.specs.Running.{machine_run}
 use Rattle.bpf_check.specs.declared.known.Seen.{Seen}
 use Rattle.bpf_check.specs.Sheet.{Sheet}
-use Rattle.bpf_check.specs.declared.ways.Ways.{Ways}
 use Rattle.bpf_check.specs.States.{known_in, entry_seen}
 use Rattle.bpf_check.specs.Ways.{gate_at, from_insn, from_gate, leads}
-use Rattle.bpf_check.specs.Closed.{HasCover, Meets, IsClosed}
-use Rattle.check_laws.specs.Safe.{Yields, EndsWell, HoldsKnown, Holds, Counts, HelpersServe}
+use Rattle.bpf_check.specs.Closed.{Meets, IsClosed}
+use Rattle.check_laws.specs.Safe.{Yields, EndsWell, HoldsKnown, HelpersServe}
 use Rattle.bpf_check.proofs.Registers.{known_high}
-use Rattle.check_laws.proofs.Sound.{safe, arrive, rank, rank_entry, Safe}
+use Rattle.check_laws.proofs.Sound.{safe, arrive, rank_entry}
 use Rattle.check_laws.proofs.Insns.{steps_sound}
 use Rattle.check_laws.proofs.Gates.{gates_sound, gate_is, first_of}
 

@@ -1,5 +1,5 @@
 -- What closed code is safe of.
-use Rattle.std.specs.Prelude.{◌≡◌, ℕ, true, ◌≤◌, ◌<◌, ◌^◌, List, ◌++◌, length, Option, Some, None, Result, Ok, Err}
+use Rattle.std.specs.Prelude.{◌≡◌, ℕ, true, ◌≤◌, ◌<◌, ◌^◌, List, ◌++◌, length, Option, Some, Result, Ok, Err}
 use Rattle.std.specs.Int.{w64, to_le_bytes}
 use Rattle.bt_core.specs.declared.map.MapDecl.{MapDecl}
 use Rattle.bt_core.specs.declared.step.Reply.{Reply}
@@ -10,8 +10,6 @@ use Rattle.bpf_insn.specs.declared.trap.Trap.{Trap}
 use Rattle.bpf_insn.specs.Regions.{Spaces}
 use Rattle.bpf_insn.specs.Machine.{Answer, Gave, BadBytes, BadArgument, Helpers, args_of, reg_of}
 use Rattle.bpf_interp.specs.declared.machine.Ended.{Ended as EndedRun}
-use Rattle.bpf_insn.specs.declared.address.TheConstants.{FRAME}
-use Rattle.bt_core.specs.declared.limits.TheConstants.{FRAME_BYTES}
 use Rattle.bpf_check.specs.declared.known.Known.{Known}
 use Rattle.bpf_check.specs.declared.known.Known.TheVariants.{Unset, Num, Const}
 use Rattle.bpf_check.specs.declared.known.Seen.{Seen}

@@ -94,7 +94,12 @@ fn codes_are_accepted_or_refused(rt: HostRuntime) -> Result<(), Fail> {
             Ok(8194),
             "a store before the count of turns",
         ),
-        (b"\xb7\0\0\0\0\0\0\0", 0, S2, "code that ends without an exit"),
+        (
+            b"\xb7\0\0\0\0\0\0\0",
+            0,
+            S2,
+            "code that ends without an exit",
+        ),
         (
             b"\x95\0\0\0\0\0\0",
             0,
@@ -105,7 +110,11 @@ fn codes_are_accepted_or_refused(rt: HostRuntime) -> Result<(), Fail> {
     ];
     for (bytes, payload, answer, name) in rows {
         assert!(rt; bytes.len() <= 80);
-        assert_eq!(rt; check_code(rt.alloc(), bytes, &typed, payload), answer, "{name}");
+        assert_eq!(rt;
+            check_code(rt.alloc(), bytes, &typed, payload),
+            answer,
+            "{name}"
+        );
     }
     Ok(())
 }

@@ -58,7 +58,19 @@ fn a_loop_ends_within_what_was_answered(rt: HostRuntime) -> Result<(), Fail> {
     assert_eq!(rt; most, 24582);
     let code = decode(rt.alloc(), LOOP)?;
     assert_eq!(rt; code.len(), 6);
-    let ended = Machine::run(rt.alloc(), code.as_slice(), &[0; 128], &[], &mut NoCalls, most);
-    assert_eq!(rt; ended, Ok(Ended { instructions: 20483 }));
+    let ended = Machine::run(
+        rt.alloc(),
+        code.as_slice(),
+        &[0; 128],
+        &[],
+        &mut NoCalls,
+        most,
+    );
+    assert_eq!(rt;
+        ended,
+        Ok(Ended {
+            instructions: 20483
+        })
+    );
     Ok(())
 }
