@@ -1,0 +1,10 @@
+pub mod Sheet
+pub mod States
+pub mod Reading
+pub mod Calls
+pub mod Effects
+pub mod Ways
+pub mod Closed
+pub mod Tables
+pub mod Settling
+pub mod Answers
