@@ -34,7 +34,7 @@ use Rattle.bpf_check.specs.declared.ways.Way.{Way}
 use Rattle.bpf_check.specs.declared.ways.Ways.{Ways}
 use Rattle.bpf_check.specs.States.{written}
 use Rattle.bpf_check.specs.Ways.{goes, two_ways, taken, through_gate, from_gate, gate_at, is_turns_load, turns_jump, is_turns_add, is_turns_store}
-use Rattle.check_laws.specs.Safe.{Holds, Counts}
+use Rattle.check_laws.proofs.Holding.{Holds, Counts}
 use Rattle.bpf_check.proofs.Registers.{get-set-same, get-set-other}
 use Rattle.check_laws.proofs.Sound.{Gates, GateWays, Passes, Leaves}
 use Rattle.bpf_check.proofs.Going.{bind_some, some_is, arrives, Arrives, two_is}

@@ -1,3 +1,4 @@
+pub mod Holding
 pub mod Sound
 pub mod Rows
 pub mod Insns

@@ -22,7 +22,7 @@ use Rattle.bpf_check.specs.States.{known_in, CoversKnown, paid}
 use Rattle.bpf_check.specs.Reading.{set_known, number_in}
 use Rattle.bpf_check.specs.Effects.{sum_known, difference_known, wide_known, alu_known}
 use Rattle.bpf_check.specs.Ways.{goes, is_back, jumped, one_way}
-use Rattle.check_laws.specs.Safe.{HoldsKnown, Holds, Counts}
+use Rattle.check_laws.proofs.Holding.{HoldsKnown, Holds, Counts}
 use Rattle.bpf_check.proofs.Registers.{get-set-same, get-set-other, known_other, covers_written}
 use Rattle.bpf_check.proofs.Going.{bind_some, some_is, Arrives, arrives, one_is}
 use Rattle.check_laws.proofs.Sound.{known_less, Pays, GoesAs, LeadsAs}
