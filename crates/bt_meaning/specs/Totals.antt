@@ -57,7 +57,7 @@ Addition = List Value × ℤ
 -- the keys of these additions, in key order, each once
 abbrev pub addition_keys : List Addition → List (List Value)
 addition_keys [] = []
-addition_keys (a ∷ as) = with_key a.0 (addition_keys as)
+addition_keys (a ∷ rest) = with_key a.0 (addition_keys rest)
 
 -- the numbers that are added to a key, in their order
 abbrev pub numbers_at : List Value → List Addition → List ℤ
