@@ -24,7 +24,7 @@ use Rattle.bpf_insn.specs.declared.insn.Size.TheVariants.{Dw}
 use Rattle.bpf_insn.specs.declared.insn.Source.TheVariants.{Imm}
 use Rattle.bpf_insn.specs.declared.trap.Trap.TheVariants.{BadJump}
 use Rattle.bpf_insn.specs.Regions.{Spaces, place_in, part_of, bytes_in, stored as stored_in}
-use Rattle.bpf_insn.specs.Words.{holds as test_holds}
+use Rattle.bpf_insn.specs.Words.{test_holds}
 use Rattle.bpf_insn.specs.Machine.{Helpers, MachineState, GoesOn, Traps, is_entry, enters, with_value, set_reg, plain_step, machine_step, call_or, call_number, reg_of, loads, stores, number_of_bytes, jump_by}
 use Rattle.bpf_interp.specs.Running.{after_step, machine_run}
 use Rattle.bpf_check.specs.declared.known.Known.TheVariants.{Num}

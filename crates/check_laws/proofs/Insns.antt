@@ -20,7 +20,7 @@ use Rattle.bpf_insn.specs.declared.insn.Source.{Source}
 use Rattle.bpf_insn.specs.declared.insn.Source.TheVariants.{Imm, Reg}
 use Rattle.bpf_insn.specs.declared.trap.Trap.TheVariants.{BadAddress}
 use Rattle.bpf_insn.specs.Regions.{Spaces, place_in, part_of, bytes_in, stored as stored_in, written as written_in}
-use Rattle.bpf_insn.specs.Words.{alu_value, neg_value, end_value, size_width, low, holds as test_holds}
+use Rattle.bpf_insn.specs.Words.{alu_value, neg_value, end_value, size_width, low, test_holds}
 use Rattle.bpf_insn.specs.Machine.{Helpers, Answer, Gave, BadBytes, BadArgument, MachineState, Next, Ends, Traps, enters, with_value, set_reg, change, first_operand, source_of, plain_step, machine_step, call_step, answered, args_of, after_call as after_machine_call, jump_by, reg_of, address_of, loads, load, stores, store, number_of_bytes}
 use Rattle.bpf_check.specs.declared.known.Known.{Known}
 use Rattle.bpf_check.specs.declared.known.Known.TheVariants.{Unset, Num, Const}
