@@ -28,6 +28,16 @@ fn objects_of<O: Drop>(alloc: Global, closed: Vec<(O, Joined)>) -> Result<Vec<O>
     Ok(list)
 }
 
+/// How many parts a map of this kind has.
+fn count_of(kind: MapKind) -> u32
+    ensures { result ≡ parts_in kind }
+{
+    match kind {
+        MapKind::Ints | MapKind::Strs => PARTS,
+        MapKind::Aggs(_) => 0,
+    }
+}
+
 /// The next of these parts, as many as a map of this kind has, or all that are left.
 fn next_parts(
     alloc: Global,
@@ -37,14 +47,11 @@ fn next_parts(
     ensures parts { IfOk result (λ parts. parts.items ≡ take (parts_in kind) (into_iter_items left.old)) }
     ensures left { OnOk result (into_iter_items left.new ≡ drop (parts_in kind) (into_iter_items left.old)) }
 {
-    let count = match kind {
-        MapKind::Ints | MapKind::Strs => PARTS,
-        MapKind::Aggs(_) => 0,
-    };
     let mut parts = Vec::new(alloc);
-    for _ in 0..count {
-        if let Some(part) = left.next() {
-            parts.push(part)?;
+    for _ in 0..count_of(kind) {
+        match left.next() {
+            Some(part) => parts.push(part)?,
+            None => {}
         }
     }
     Ok(parts)

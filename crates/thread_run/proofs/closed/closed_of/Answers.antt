@@ -1,6 +1,5 @@
-use Rattle.std.proofs.Common.{◌∙◌, sym, ap, subst, List, map}
-use Rattle.bt_core.specs.declared.map.MapDecl.{MapDecl}
-use Rattle.thread_run.specs.Closed.{object_of, parts_by}
+use Rattle.std.proofs.Common.{◌∙◌, sym}
+use Rattle.thread_run.specs.Closed.{parts_by}
 use Rattle.thread_run.proofs.Closing.{closed_stands}
 use Rattle.thread_run.proofs.closed.closed_of.Goals as goal
 

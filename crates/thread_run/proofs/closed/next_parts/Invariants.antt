@@ -4,6 +4,6 @@ use Rattle.thread_run.proofs.closed.next_parts.Given as goal
 
 abbrev pub invariant-loop : goal.invariant-loop
 invariant-loop l = record {
-  parts : l.parts.items ≡ take l.counter (into_iter_items l.fn.left.now);
-  left : into_iter_items l.left.now ≡ drop l.counter (into_iter_items l.fn.left.now);
+  parts : l.parts.items ≡ take l.counter (into_iter_items l.fn.left);
+  left : into_iter_items l.left ≡ drop l.counter (into_iter_items l.fn.left);
 }
