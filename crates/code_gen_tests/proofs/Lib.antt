@@ -1,0 +1,2 @@
+pub mod OwnMaps
+pub mod Passing
