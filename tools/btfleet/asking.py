@@ -1,5 +1,6 @@
 """What is done where a recording is: which recordings are there, and what one answers. A worker finds these functions in its own copy of btfleet, so
-what is sent to it are the script, names and paths.
+what is sent to it are the script, names and paths. A worker finds this module with the folder of btfleet on its path, so nothing of btrecord's is
+imported here, some of whose modules have the same names.
 """
 import os
 import socket
@@ -9,9 +10,7 @@ import threading
 from btreplay import proved, unproved
 from btreplay.compiled import NotBuilt
 from btreplay.places import is_checkout
-from btreplay.refusal import why_unread
 
-USAGE = b"usage: "
 # The runs of this process that have not ended.
 running = set()
 lock = threading.Lock()
@@ -32,11 +31,6 @@ def held(paths):
         except (OSError, ValueError):
             continue
     return socket.gethostname(), found
-
-
-def why_not_held(path):
-    """Why a path cannot be read here."""
-    return why_unread(path)
 
 
 def program_here():

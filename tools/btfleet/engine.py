@@ -30,8 +30,7 @@ def imported():
     except ImportError as fault:
         by = f": run {DEBIAN} tools/btfleet .., which has it" if os.path.isdir(DEBIAN_FOLDER) else ""
         raise Refused(f"{sys.executable} has no Dask: Debian's package python3-distributed brings it for {DEBIAN}{by} ({fault})", ENGINE) from fault
-    for name in ("distributed", "tornado", "asyncio"):
-        logging.getLogger(name).setLevel(logging.CRITICAL + 1)
+    logging.disable(logging.CRITICAL)
     warnings.simplefilter("ignore")
     return distributed
 
@@ -42,7 +41,7 @@ def on_this_machine():
     distributed = imported()
     with tempfile.TemporaryDirectory(prefix="btfleet-") as folder:
         cluster = distributed.LocalCluster(processes=False, n_workers=1, threads_per_worker=jobs(), local_directory=folder, memory_limit=0,
-                                           dashboard_address=LOOPBACK, worker_dashboard_address=LOOPBACK, silence_logs=logging.CRITICAL + 1)
+                                           dashboard_address=LOOPBACK, worker_dashboard_address=LOOPBACK)
         try:
             with distributed.Client(cluster, set_as_default=False) as client:
                 try:

@@ -3,6 +3,7 @@
 The engine takes what a dead worker was asked to another that holds the recording. Where none is left that does, as one that is started anew has
 another address, this looks whether a worker holds it now, and gives up after some seconds.
 """
+import contextlib
 import queue
 import time
 from concurrent.futures import CancelledError
@@ -108,7 +109,9 @@ class Fleet:
         return bool(holders)
 
     def give_up(self):
-        """Gives up what has not answered."""
-        for future, _ in self.open.values():
-            future.cancel(force=True)
+        """Gives up what has not answered. Where the scheduler is gone there is nothing to give up."""
+        left = [future for future, _ in self.open.values()]
         self.open.clear()
+        if left and self.client.status == "running":
+            with contextlib.suppress(Exception):
+                self.client.cancel(left, force=True)

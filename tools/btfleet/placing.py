@@ -5,6 +5,7 @@ from btfleet import asking
 from btfleet.faults import ENGINE, WORDS, Refused
 from btfleet.operands import EACH
 
+UNKNOWN = "No module named 'btfleet"
 NOT_THERE = "there is no such file there that can be read"
 
 
@@ -47,7 +48,7 @@ def survey(client, paths):
         raise Refused("the scheduler has no workers: dask-worker ADDRESS --preload tools/btfleet/preload.py starts one", ENGINE)
     workers, faults = [], []
     for address, answer in client.run(asking.held, sorted(set(paths)), on_error="return").items():
-        if isinstance(answer, ModuleNotFoundError):
+        if isinstance(answer, BaseException) and UNKNOWN in str(answer):
             faults.append(f"the worker {address} does not know btfleet: start it with --preload tools/btfleet/preload.py")
         elif isinstance(answer, BaseException):
             faults.append(f"the worker {address} does not answer: {answer}")
