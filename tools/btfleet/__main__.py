@@ -1,6 +1,7 @@
 """Runs the command: python3 tools/btfleet run SCRIPT RECORDING .. [--scheduler ADDRESS] [--json] [--by-host]
 
-It needs Debian's package python3-distributed, for the Python that it is run by. It is not proved; what each recording answers is.
+It needs Debian's package python3-distributed, for the Python that it is run by. It is not proved; what each recording
+answers is.
 """
 import pathlib
 import sys

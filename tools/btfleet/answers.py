@@ -1,8 +1,8 @@
 """What one recording answers: the JSON lines that `btreplay run --json` prints, read by the plan of the script.
 
-First come the items as the script prints them, the maps that END prints among them, then each map that has rows, and then the lost updates. A map
-without rows has no line, so which print of END a line is follows from how many lines there are of its map: none, one for each print, or one
-more, that of the end.
+First come the items as the script prints them, the maps that END prints among them, then each map that has rows, and
+then the lost updates. A map without rows has no line, so which print of END a line is follows from how many lines there
+are of its map: none, one for each print, or one more, that of the end.
 """
 import json
 from dataclasses import dataclass, field
@@ -14,8 +14,9 @@ ITEMS = ("printf", "cut", "lost_events")
 
 @dataclass
 class Answer:
-    """What a recording answers. `items` has for each print of END what stands before it, and last what stands behind all, as lists of lines that
-    are read; `printed` has the rows of the prints by their places, `ends` those of the end by the maps' names. Rows are by their keys."""
+    """What a recording answers. `items` has for each print of END what stands before it, and last what stands behind
+    all, as lists of lines that are read; `printed` has the rows of the prints by their places, `ends` those of the
+    end by the maps' names. Rows are by their keys."""
 
     items: list
     printed: dict = field(default_factory=dict)
@@ -51,7 +52,8 @@ def rows_of(line, plan):
 
 
 def places_of(names, plan):
-    """For the lines of maps by their names, in their order, the places of END's prints that they are, and none for those of the end."""
+    """For the lines of maps by their names, in their order, the places of END's prints that they are, and none for
+    those of the end."""
     printed = [one.name for one in plan.prints]
     count = {name: names.count(name) for name in plan.laws}
     if any(of_map not in (0, printed.count(name), printed.count(name) + 1) for name, of_map in count.items()):

@@ -1,6 +1,6 @@
-"""What is done where a recording is: which recordings are there, and what one answers. A worker finds these functions in its own copy of btfleet, so
-what is sent to it are the script, names and paths. A worker finds this module with the folder of btfleet on its path, so nothing of btrecord's is
-imported here, some of whose modules have the same names.
+"""What is done where a recording is: which recordings are there, and what one answers. A worker finds these functions
+in its own copy of btfleet, so what is sent to it are the script, names and paths. A worker finds this module with the
+folder of btfleet on its path, so nothing of btrecord's is imported here, some of whose modules have the same names.
 """
 import os
 import socket
@@ -21,7 +21,8 @@ class NoProgram(Exception):
 
 
 def held(paths):
-    """The name of this machine, and for each path that can be read what tells files apart: the size, when it was written, and its number."""
+    """The name of this machine, and for each path that can be read what tells files apart: the size, when it was
+    written, and its number."""
     found = {}
     for path in paths:
         try:
@@ -36,18 +37,21 @@ def held(paths):
 def program_here():
     """The path of the proved program of this machine, which a worker does not build."""
     if is_checkout() and not proved.is_current():
-        raise NoProgram("the program is not proved and built there: ./btreplay big 1 1 does that, and btfleet --unproved does without")
+        raise NoProgram("the program is not proved and built there: ./btreplay big 1 1 does that, and btfleet --unproved "
+                        "does without")
     return proved.program()
 
 
 def answer_by(program, script, path):
-    """Runs a program over a recording, and gives its status, what it printed, and what it told, with `-` as the script's name."""
+    """Runs a program over a recording, and gives its status, what it printed, and what it told, with `-` as the
+    script's name."""
     handle = os.memfd_create("script", 0)
     with os.fdopen(handle, "wb", buffering=0) as file:
         file.write(script)
         name = f"/dev/fd/{handle}"
-        child = subprocess.Popen([str(program), "run", "--serial", "--json", name, path], stdin=subprocess.DEVNULL, stdout=subprocess.PIPE,
-                                 stderr=subprocess.PIPE, pass_fds=(handle,))
+        words = [str(program), "run", "--serial", "--json", name, path]
+        child = subprocess.Popen(words, stdin=subprocess.DEVNULL, stdout=subprocess.PIPE, stderr=subprocess.PIPE,
+                                 pass_fds=(handle,))
         with lock:
             running.add(child)
         try:
@@ -66,7 +70,8 @@ def end_all():
 
 
 def answer(script, path, is_unproved, program=None):
-    """What a recording answers to a script: the status, what was printed and what was told. The status is none where nothing could be run."""
+    """What a recording answers to a script: the status, what was printed and what was told. The status is none where
+    nothing could be run."""
     try:
         if program:
             return answer_by(program, script, path)

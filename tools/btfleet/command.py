@@ -4,17 +4,15 @@ import os
 import signal
 import sys
 
-from btfleet.answers import answer_of
-from btfleet.causes import cause_of, is_refused_script
 from btfleet.engine import connected, imported
-from btfleet.faults import ENGINE, MEMORY, NONE_IN, READ, SCRIPT, SOME_OUT, WORDS, WRITE, NotMerged, Refused
-from btfleet.fleet import Fleet, Unasked
-from btfleet.merged import Merged
+from btfleet.faults import ENGINE, MEMORY, READ, SCRIPT, WORDS, WRITE, Refused
+from btfleet.fleet import Fleet
 from btfleet.operands import operands
 from btfleet.placing import placed, placed_here, survey
 from btfleet.plan import Fault, plan_of, told_fault
 from btfleet.printing import printed
 from btfleet.progress import Progress
+from btfleet.result import Result
 from btfleet.words import parsed
 from btreplay import proved, unproved
 from btreplay.compiled import NotBuilt
@@ -23,65 +21,6 @@ from btreplay.running import end_in_order, hold_streams
 from btreplay.tokens import place_of, text_of
 
 MOST_SCRIPT = 65_536
-
-
-class Result:
-    """What came of the recordings: the merged answers, and why others are not among them, by their places."""
-
-    def __init__(self, plan, by_host, shown):
-        self.merged, self.shown = Merged(plan, by_host), shown
-        self.asked, self.causes, self.losses = [], {}, {}
-        self.refusals = set()
-
-    def take(self, asked, found):
-        """Takes what a recording answers, or why it does not."""
-        if isinstance(found, Unasked):
-            self.causes[asked.place] = str(found)
-            return
-        status, text, told = found
-        if status != 0:
-            self.causes[asked.place] = cause_of(status, told, asked.path, self.shown)
-            self.refusals.add(asked.place if is_refused_script(status, told) else None)
-            return
-        try:
-            answer = answer_of(text, self.merged.plan)
-            self.merged.take(asked.place, bytes_as_letters(asked.host), answer)
-            self.losses[asked.place] = answer.lost_events(), sum(answer.lost.values())
-        except NotMerged as fault:
-            self.causes[asked.place] = str(fault)
-
-    def status(self):
-        """The status of the whole."""
-        if not self.causes:
-            return 0
-        if len(self.causes) < len(self.asked):
-            return SOME_OUT
-        return SCRIPT if self.is_refused() else NONE_IN
-
-    def is_refused(self):
-        """Whether the script is refused, for one fault, over each recording."""
-        return len(self.refusals - {None}) == len(self.asked) and len(set(self.causes.values())) == 1
-
-    def told(self):
-        """What is told of the recordings: why some are not in the result, what some lost, and how many are in it."""
-        if self.asked and self.is_refused():
-            return []
-        lines = [f"{asked.word}: {self.causes[asked.place]}" for asked in self.asked if asked.place in self.causes]
-        for asked in self.asked:
-            events, updates = self.losses.get(asked.place, (0, 0))
-            lines += [f"{asked.word}: {counted(events, 'event')} lost while it was recorded"] if events else []
-            lines += [f"{asked.word}: {counted(updates, 'update')} of maps lost"] if updates else []
-        return lines + [f"the result has {len(self.asked) - len(self.causes):,} of {counted(len(self.asked), 'recording')}"]
-
-
-def counted(count, word):
-    """So many of something."""
-    return f"{count:,} {word}" + ("" if count == 1 else "s")
-
-
-def bytes_as_letters(text):
-    """A text with a letter for each of its bytes, as strings of scripts have them."""
-    return os.fsencode(text).decode("latin-1")
 
 
 def tell(lines):
@@ -104,14 +43,16 @@ def script_of(word):
         with open(0 if word == "-" else word, "rb", closefd=word != "-") as file:
             script = file.read(MOST_SCRIPT + 1)
     except OSError as error:
-        raise Refused(f"{word}: {'standard input could not be read' if word == '-' else why_unread(word)}", READ) from error
+        why = "standard input could not be read" if word == "-" else why_unread(word)
+        raise Refused(f"{word}: {why}", READ) from error
     if len(script) > MOST_SCRIPT:
         raise Refused(f"{word}: script too long", SCRIPT)
     return script, "standard input" if word == "-" else word
 
 
 def plan_or_refused(script, shown):
-    """How answers to a script are merged. A script whose answers cannot be is refused, with the place and the remedy."""
+    """How answers to a script are merged. A script whose answers cannot be is refused, with the place and the
+    remedy."""
     text = text_of(script)
     plan = plan_of(text)
     if not isinstance(plan, Fault):
@@ -123,7 +64,8 @@ def plan_or_refused(script, shown):
 
 @contextlib.contextmanager
 def how_to_ask(asked):
-    """What is told to those who ask recordings: whether to take the build that is not proved, and on this machine the program, which is built first."""
+    """What is told to those who ask recordings: whether to take the build that is not proved, and on this machine
+    the program, which is built first."""
     if asked.scheduler:
         yield asked.unproved, None
     elif asked.unproved:

@@ -1,7 +1,7 @@
 """What the bodies of `END` do with maps, and what of it they do for sure.
 
-A call is made for sure where its body has no predicate, where it stands in no block inside that body, and behind no loop, which may come to
-its limit, and no `exit` and `return`.
+A call is made for sure where its body has no predicate, where it stands in no block inside that body, and behind no
+loop, which may come to its limit, and no `exit` and `return`.
 """
 from dataclasses import dataclass
 
@@ -15,8 +15,9 @@ ADDING = {SET, CHANGE, ADD}
 
 @dataclass(frozen=True)
 class Use:
-    """A mention of a map: the probe, the mention, the word of the call whose first argument it is, the texts of the other arguments, from where to
-    where these stand in the script with the commas before them, and whether it is done for sure."""
+    """A mention of a map: the probe, the mention, the word of the call whose first argument it is, the texts of the
+    other arguments, from where to where these stand in the script with the commas before them, and whether it is
+    done for sure."""
 
     probe: object
     mention: object
@@ -39,7 +40,8 @@ def sure_tokens(tokens):
 
 
 def call_around(tokens, place):
-    """The word of the call whose first argument is the map at a place, its other arguments, and where these stand; else nothing."""
+    """The word of the call whose first argument is the map at a place, its other arguments, and where these stand;
+    else nothing."""
     if place < 2 or tokens[place - 1].text != "(" or tokens[place - 2].kind != WORD:
         return "", (), ()
     arguments, depth = [], 1
@@ -76,16 +78,18 @@ def runs_at_end_alone(use):
 
 
 def is_emptied(uses):
-    """Whether a map has no rows at the end of every run, by its uses in the order of the script: none puts a row into it, or END clears it for
-    sure, and nothing behind that puts one."""
+    """Whether a map has no rows at the end of every run, by its uses in the order of the script: none puts a row
+    into it, or END clears it for sure, and nothing behind that puts one."""
     if not any(use.mention.does in ADDING for use in uses):
         return True
-    last = max((at for at, use in enumerate(uses) if runs_at_end(use) and use.call == "clear" and use.is_sure), default=None)
-    return last is not None and not any(runs_at_end(use) and use.mention.does in ADDING for use in uses[last:])
+    at_end = [use for use in uses if runs_at_end(use)]
+    clears = [at for at, use in enumerate(at_end) if use.call == "clear" and use.is_sure]
+    return bool(clears) and not any(use.mention.does in ADDING for use in at_end[clears[-1]:])
 
 
 def changed_printed(uses):
-    """The first use in END that changes a map between its prints there, or behind them by more than `clear` or `zero`; or none."""
+    """The first use in END that changes a map between its prints there, or behind them by more than `clear` or
+    `zero`; or none."""
     at_end = [use for use in uses if runs_at_end(use)]
     prints = [at for at, use in enumerate(at_end) if use.call == "print"]
     for at, use in enumerate(at_end):

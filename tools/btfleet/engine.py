@@ -1,7 +1,7 @@
 """The engine: Dask's distributed scheduler, which takes what is asked to the workers that hold the recordings.
 
-It is imported only where something is asked. Without a scheduler's address there is one in this process, with one worker, and nobody else
-reaches it but by its pages of figures, which listen on the loopback alone.
+It is imported only where something is asked. Without a scheduler's address there is one in this process, with one
+worker, and nobody else reaches it but by its pages of figures, which listen on the loopback alone.
 """
 import contextlib
 import logging
@@ -28,8 +28,9 @@ def imported():
     try:
         import distributed
     except ImportError as fault:
-        by = f": run {DEBIAN} tools/btfleet .., which has it" if os.path.isdir(DEBIAN_FOLDER) else ""
-        raise Refused(f"{sys.executable} has no Dask: Debian's package python3-distributed brings it for {DEBIAN}{by} ({fault})", ENGINE) from fault
+        why = f"{sys.executable} has no Dask ({fault}): Debian's package python3-distributed brings it for {DEBIAN}"
+        there = ", where it is installed: take that Python" if os.path.isdir(DEBIAN_FOLDER) else ""
+        raise Refused(why + there, ENGINE) from fault
     logging.disable(logging.CRITICAL)
     warnings.simplefilter("ignore")
     return distributed
@@ -40,8 +41,9 @@ def on_this_machine():
     """A client of a scheduler and a worker in this process, as many runs at a time as processors and memory hold."""
     distributed = imported()
     with tempfile.TemporaryDirectory(prefix="btfleet-") as folder:
-        cluster = distributed.LocalCluster(processes=False, n_workers=1, threads_per_worker=jobs(), local_directory=folder, memory_limit=0,
-                                           dashboard_address=LOOPBACK, worker_dashboard_address=LOOPBACK)
+        cluster = distributed.LocalCluster(
+            processes=False, n_workers=1, threads_per_worker=jobs(), local_directory=folder, memory_limit=0,
+            dashboard_address=LOOPBACK, worker_dashboard_address=LOOPBACK)
         try:
             with distributed.Client(cluster, set_as_default=False) as client:
                 try:

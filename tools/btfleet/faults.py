@@ -14,8 +14,8 @@ ENGINE = 8
 
 
 class Refused(Exception):
-    """What is told where nothing could be asked, and the status of the program. A text of several lines is told line by line; one that begins
-    with a file's place stands without the command's name."""
+    """What is told where nothing could be asked, and the status of the program. A text of several lines is told line
+    by line; one that begins with a file's place stands without the command's name."""
 
     def __init__(self, text, status, more=()):
         super().__init__(text)

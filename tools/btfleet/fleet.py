@@ -1,7 +1,7 @@
 """Asks all recordings, and hands on what each answers as it comes.
 
-The engine takes what a dead worker was asked to another that holds the recording. Where none is left that does, as one that is started anew has
-another address, this looks whether a worker holds it now, and gives up after some seconds.
+The engine takes what a dead worker was asked to another that holds the recording. Where none is left that does, as one
+that is started anew has another address, this looks whether a worker holds it now, and gives up after some seconds.
 """
 import contextlib
 import queue
@@ -10,13 +10,12 @@ from concurrent.futures import CancelledError
 
 from btfleet import asking
 from btfleet.faults import ENGINE, Refused
-from btfleet.placing import NOT_THERE, survey
+from btfleet.placing import NOT_THERE, PRELOAD, survey
 
 TURN_SECONDS = 0.2
 LOOK_SECONDS = 1
 GRACE_SECONDS = 20
 RESULT_SECONDS = 10
-PRELOAD = "its worker does not know btfleet: start it with --preload tools/btfleet/preload.py"
 
 
 class Unasked(Exception):
@@ -24,8 +23,8 @@ class Unasked(Exception):
 
 
 class Fleet:
-    """The recordings that are asked and have not answered. `how` is what a worker is told beside the script and the path: whether it takes the build
-    that is not proved, and the program, where that is known."""
+    """The recordings that are asked and have not answered. `how` is what a worker is told beside the script and the
+    path: whether it takes the build that is not proved, and the program, where that is known."""
 
     def __init__(self, client, script, how):
         self.client, self.script, self.how = client, script, how
@@ -34,12 +33,14 @@ class Fleet:
 
     def submit(self, asked):
         """Asks a recording of one of its holders."""
-        future = self.client.submit(asking.answer, self.script, asked.path, *self.how, workers=asked.holders, allow_other_workers=False, pure=False)
+        future = self.client.submit(asking.answer, self.script, asked.path, *self.how, workers=asked.holders,
+                                    allow_other_workers=False, pure=False)
         self.open[future.key] = future, asked
         future.add_done_callback(self.ended.put)
 
     def answers(self, all_asked):
-        """Asks all, and yields each recording with what it answers, or why it does not, as these come; and nothing where a while went by."""
+        """Asks all, and yields each recording with what it answers, or why it does not, as these come; and nothing
+        where a while went by."""
         for asked in all_asked:
             if asked.holders:
                 self.submit(asked)
@@ -61,7 +62,7 @@ class Fleet:
         try:
             found = future.result(timeout=RESULT_SECONDS)
         except ModuleNotFoundError:
-            found = Unasked(PRELOAD)
+            found = Unasked(f"its worker does not know btfleet: start it with {PRELOAD}")
         except CancelledError:
             self.live()
             found = Unasked("the engine gave it up")
@@ -70,7 +71,8 @@ class Fleet:
                 # The worker that had the answer is gone: it is asked again.
                 future.add_done_callback(self.ended.put)
                 return
-            found = Unasked("each worker that was asked died of it" if type(fault).__name__ == "KilledWorker" else f"{type(fault).__name__}: {fault}")
+            is_deadly = type(fault).__name__ == "KilledWorker"
+            found = Unasked("each worker that was asked died of it" if is_deadly else f"{type(fault).__name__}: {fault}")
         _, asked = self.open.pop(future.key)
         yield asked, found
 
@@ -99,8 +101,8 @@ class Fleet:
                 yield asked, Unasked("no worker that holds it is there any more")
 
     def ask_anew(self, future, asked, workers):
-        """Asks a recording of the workers of its host that hold it now; says whether there are some."""
-        holders = [worker.address for worker in workers if worker.host == asked.host and asked.path in worker.held]
+        """Asks a recording of the workers of its hosts that hold it now; says whether there are some."""
+        holders = [worker.address for worker in workers if worker.host in asked.hosts and asked.path in worker.held]
         if holders:
             del self.open[future.key]
             future.cancel()

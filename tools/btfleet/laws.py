@@ -69,7 +69,8 @@ class Buckets:
     def rows(self, counts):
         """The ranges from the first to the last whose count is not 0, each as its label and count."""
         shown = [place for place, count in counts.items() if count]
-        return [(self.labels[place], counts.get(place, 0)) for place in range(min(shown), max(shown) + 1)] if shown else []
+        places = range(min(shown), max(shown) + 1) if shown else ()
+        return [(self.labels[place], counts.get(place, 0)) for place in places]
 
 
 def added(one, other):

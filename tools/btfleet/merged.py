@@ -6,7 +6,8 @@ from btfleet.laws import MOST_COUNT
 
 @dataclass
 class Part:
-    """What a recording printed beside rows: its host, its items as its answer has them, and its lost updates by maps."""
+    """What a recording printed beside rows: its host, its items as its answer has them, and its lost updates by
+    maps."""
 
     host: str
     items: list
@@ -22,8 +23,8 @@ def put_together(rows, more, law, host):
 
 @dataclass
 class Merged:
-    """The answers so far. Rows are put together as they come, since their laws know no order; what is printed by recordings stands in the order in
-    which the words name them. With `by_host` the rows of each host stay apart."""
+    """The answers so far. Rows are put together as they come, since their laws know no order; what is printed by
+    recordings stands in the order in which the words name them. With `by_host` the rows of each host stay apart."""
 
     plan: object
     by_host: bool = False
@@ -45,8 +46,8 @@ class Merged:
         return [self.parts[place] for place in sorted(self.parts)]
 
     def lost_updates(self):
-        """The lost updates of each map in the order of the maps, as triples of the host, the map's name and how many; where hosts do not stay apart
-        there is one sum for a map, without a host."""
+        """The lost updates of each map in the order of the maps, as triples of the host, the map's name and how
+        many; where hosts do not stay apart there is one sum for a map, without a host."""
         sums = {}
         for name in self.plan.laws:
             for part in self.parts_in_order():

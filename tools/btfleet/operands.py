@@ -1,6 +1,7 @@
 """The recordings that words name: PATH, HOST:PATH and *:PATH.
 
-A colon before any slash ends the name of a host, as it does for `scp`; a path that has one is written with `./` in front.
+A colon before any slash ends the name of a host, as it does for `scp`; a path that has one is written with `./` in
+front.
 """
 import os
 from dataclasses import dataclass
@@ -20,7 +21,8 @@ class Operand:
 
 
 def operand(word, has_scheduler):
-    """What a word names. Without a scheduler all is on this machine, and a host is a name for what the recording answers."""
+    """What a word names. Without a scheduler all is on this machine, and a host is a name for what the recording
+    answers."""
     head, colon, rest = word.partition(":")
     host, path = (head, rest) if colon and head and "/" not in head else ("", word)
     if not path:

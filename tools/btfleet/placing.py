@@ -1,18 +1,19 @@
 """Where recordings are: the workers, what each holds, and which of them may be asked for which recording."""
-from dataclasses import dataclass, field
+from dataclasses import dataclass
 
 from btfleet import asking
 from btfleet.faults import ENGINE, WORDS, Refused
 from btfleet.operands import EACH
 
+PRELOAD = "--preload tools/btfleet/preload.py"
 UNKNOWN = "No module named 'btfleet"
 NOT_THERE = "there is no such file there that can be read"
 
 
 @dataclass(frozen=True)
 class Worker:
-    """A worker: its address, its host's name as the result has it, all names that words may have for it, and for each path that it holds what tells
-    files apart."""
+    """A worker: its address, its host's name as the result has it, all names that words may have for it, and for
+    each path that it holds what tells files apart."""
 
     address: str
     host: str
@@ -22,19 +23,21 @@ class Worker:
 
 @dataclass
 class Asked:
-    """A recording that is asked: its place in the result, the word for it, its host, its path, and the addresses of the workers that hold it. `since`
-    is when none of these was there any more."""
+    """A recording that is asked: its place in the result, the word for it, its host, its path, and the workers that
+    hold it, as their addresses and hosts. `since` is when none of these was there any more."""
 
     place: int
     word: str
     host: str
     path: str
-    holders: list = field(default_factory=list)
+    holders: list
+    hosts: set
     since: float = None
 
 
 def worker_of(address, info, answer):
-    """A worker, by what the scheduler knows of it and what it answers itself. A name that is no address was given to it; else its host has one."""
+    """A worker, by what the scheduler knows of it and what it answers itself. A name that is no address was given to
+    it; else its host has one."""
     machine, held = answer
     given = str(info.get("name", ""))
     host = given if given and "://" not in given and not given.isdigit() else machine
@@ -45,11 +48,11 @@ def survey(client, paths):
     """All workers that answer, with what they hold of these paths, and for each other one why it does not."""
     known = client.scheduler_info()["workers"]
     if not known:
-        raise Refused("the scheduler has no workers: dask-worker ADDRESS --preload tools/btfleet/preload.py starts one", ENGINE)
+        raise Refused(f"the scheduler has no workers: dask-worker ADDRESS {PRELOAD} starts one", ENGINE)
     workers, faults = [], []
     for address, answer in client.run(asking.held, sorted(set(paths)), on_error="return").items():
         if isinstance(answer, BaseException) and UNKNOWN in str(answer):
-            faults.append(f"the worker {address} does not know btfleet: start it with --preload tools/btfleet/preload.py")
+            faults.append(f"the worker {address} does not know btfleet: start it with {PRELOAD}")
         elif isinstance(answer, BaseException):
             faults.append(f"the worker {address} does not answer: {answer}")
         elif address in known:
@@ -64,12 +67,12 @@ def same_file(operand, holders):
         files.setdefault(worker.held[operand.path], worker.host)
     if len(files) > 1:
         hosts = sorted(files.values())
-        raise Refused(f"{operand.word} is another file on {hosts[0]} than on {hosts[1]}: name one by {hosts[0]}:{operand.path}, "
-                      f"or that of each host by '{EACH}:{operand.path}'", WORDS)
+        raise Refused(f"{operand.word} is another file on {hosts[0]} than on {hosts[1]}: "
+                      f"name one by {hosts[0]}:{operand.path}, or that of each host by '{EACH}:{operand.path}'", WORDS)
 
 
 def of_one(operand, workers):
-    """The host and the holders of a recording that is named with a host or without one."""
+    """The host of a recording that is named with a host or without one, and the workers that hold it."""
     if operand.host:
         workers = [worker for worker in workers if operand.host in worker.names]
         if not workers:
@@ -77,14 +80,14 @@ def of_one(operand, workers):
     holders = [worker for worker in workers if operand.path in worker.held]
     if not operand.host:
         same_file(operand, holders)
-    return (holders or workers)[0].host, [worker.address for worker in holders]
+    return (holders or workers)[0].host, holders
 
 
 def of_each(operand, workers):
-    """The recordings of this path, one for each host: the host and the holders."""
+    """The recordings of this path, one for each host: the host, and the workers that hold it."""
     hosts = {}
     for worker in workers:
-        hosts.setdefault(worker.host, []).extend([worker.address] if operand.path in worker.held else [])
+        hosts.setdefault(worker.host, []).extend([worker] if operand.path in worker.held else [])
     return list(hosts.items())
 
 
@@ -97,12 +100,14 @@ def placed(operands, workers):
             if (host, operand.path) in seen:
                 raise Refused(f"{word} is named twice", WORDS)
             seen.add((host, operand.path))
-            found.append(Asked(len(found), word, host, operand.path, holders))
+            found.append(Asked(len(found), word, host, operand.path, [worker.address for worker in holders],
+                               {worker.host for worker in holders}))
     return found
 
 
 def placed_here(operands, workers):
     """All recordings on this machine. A host is a name for what the recording answers."""
     worker, = workers
-    return [Asked(place, operand.word, operand.host or worker.host, operand.path, [worker.address] if operand.path in worker.held else [])
-            for place, operand in enumerate(operands)]
+    holders = {path: [worker.address] for path in worker.held}
+    return [Asked(place, one.word, one.host or worker.host, one.path, holders.get(one.path, []), {worker.host})
+            for place, one in enumerate(operands)]

@@ -1,7 +1,8 @@
-"""How what a script prints is merged over recordings: the law of each map, and the maps that END prints. Or why it cannot be merged exactly.
+"""How what a script prints is merged over recordings: the law of each map, and the maps that END prints. Or why it
+cannot be merged exactly.
 
-What is asked of each recording is the script itself, but for the numbers of `print` in END: there all rows are wanted, and nothing divided, since
-the greatest rows of all recordings together need not be among the greatest of each.
+What is asked of each recording is the script itself, but for the numbers of `print` in END: there all rows are wanted,
+and nothing divided, since the greatest rows of all recordings together need not be among the greatest of each.
 """
 import re
 from dataclasses import dataclass
@@ -17,15 +18,21 @@ LEAST_OR_MOST = {"min", "max"}
 # Each fault, with its text and how it is mended.
 FAULTS = {
     "M1": ("average cannot be merged",
-           "take two maps in place of avg(..), one with sum(..) and one with count(): both add up, and the first divided by the second is the average"),
+           "take two maps in place of avg(..), one with sum(..) and one with count(): both add up, and the first divided "
+           "by the second is the average"),
     "M2": ("numbers and strings cannot be merged",
-           "count and add by count() and sum(), which add up over recordings; where {map} only keeps something for later, write END {{ clear({map}); }}"),
+           "count and add by count() and sum(), which add up over recordings; where {map} only keeps something for "
+           "later, write END {{ clear({map}); }}"),
     "M3": ("print before the end",
-           "a moment of one recording has no counterpart in another: print {map} in END, or leave the print out, since each map is printed at the end"),
+           "a moment of one recording has no counterpart in another: print {map} in END, or leave the print out, since "
+           "each map is printed at the end"),
     "M4": ("print under a condition",
-           "all recordings have to print alike: write print({map}) in END in no block of its own, without a predicate, and before loops, return and exit"),
-    "M5": ("map changed behind its print", "let END do no more with {map} behind print({map}) than print, clear and zero it"),
-    "M6": ("zero of a least or greatest number", "it would stand as the number 0 beside those of other recordings: write clear({map})"),
+           "all recordings have to print alike: write print({map}) in END in no block of its own, without a predicate, "
+           "and before loops, return and exit"),
+    "M5": ("map changed behind its print",
+           "let END do no more with {map} behind print({map}) than print, clear and zero it"),
+    "M6": ("zero of a least or greatest number",
+           "it would stand as the number 0 beside those of other recordings: write clear({map})"),
 }
 
 
@@ -50,8 +57,9 @@ class Printed:
 
 @dataclass(frozen=True)
 class Plan:
-    """How a script is asked and its answers are merged: the bytes that are asked, the law of each map by its name, none for those that have no rows
-    at the end, in the order in which the script names them first, and the prints of END in their order."""
+    """How a script is asked and its answers are merged: the bytes that are asked, the law of each map by its name,
+    none for those that have no rows at the end, in the order in which the script names them first, and the prints of
+    END in their order."""
 
     script: bytes
     laws: dict
@@ -79,7 +87,8 @@ def assigned(use):
 
 
 def bounds_of(call):
-    """The least, the greatest and the step of a call of `lhist`, by its tokens; none where they make no histogram, so that the program refuses it."""
+    """The least, the greatest and the step of a call of `lhist`, by its tokens; none where they make no histogram,
+    so that the program refuses it."""
     found = [number_of(part.replace(" ", "")) for part in parts_of(call[2:-1])[1:]]
     if len(found) != 3 or None in found:
         return None
@@ -88,7 +97,8 @@ def bounds_of(call):
 
 
 def law_in(uses):
-    """The word of the aggregation that a map holds, which is empty for numbers and strings, and its law, if it has one."""
+    """The word of the aggregation that a map holds, which is empty for numbers and strings, and its law, if it has
+    one."""
     call = next((assigned(use) for use in uses if use.mention.does == ADD), None)
     if not call:
         return "", None
@@ -97,12 +107,16 @@ def law_in(uses):
 
 
 def fault_in(uses, word, law):
-    """The code of the first fault of a map, by its uses, its aggregation's word and law, and the use where it is; or none."""
+    """The code of the first fault of a map, by its uses, its aggregation's word and law, and the use where it is; or
+    none."""
     prints = [use for use in uses if use.call == "print"]
     if law is None and (prints or not ends.is_emptied(uses)):
-        return "M1" if word else "M2", next(use for use in uses if use.mention.does in ends.ADDING or use.call == "print")
-    faults = [("M3", use) for use in prints if not ends.runs_at_end_alone(use)] + [("M4", use) for use in prints if not use.is_sure]
-    faults += [("M5", use) for use in [ends.changed_printed(uses)] if use] + [("M6", use) for use in uses if use.call == "zero" and word in LEAST_OR_MOST]
+        is_held = next(use for use in uses if use.mention.does in ends.ADDING or use.call == "print")
+        return "M1" if word else "M2", is_held
+    faults = [("M3", use) for use in prints if not ends.runs_at_end_alone(use)]
+    faults += [("M4", use) for use in prints if not use.is_sure]
+    faults += [("M5", use) for use in [ends.changed_printed(uses)] if use]
+    faults += [("M6", use) for use in uses if use.call == "zero" and word in LEAST_OR_MOST]
     return min(faults, key=lambda fault: fault[1].mention.at, default=None)
 
 

@@ -22,11 +22,13 @@ def divided(number, div):
 
 
 def shown_rows(rows, printed, law):
-    """The rows that a print shows, with their values as they are shown: numbers, or lists of ranges with their counts."""
+    """The rows that a print shows, with their values as they are shown: numbers, or lists of ranges with their
+    counts."""
     found = ordered(rows, printed.top, law)
-    if isinstance(law, Buckets):
-        return [(key, law.rows({place: count // printed.div for place, count in value.items()})) for key, value in found]
-    return [(key, divided(value, printed.div)) for key, value in found]
+    if not isinstance(law, Buckets):
+        return [(key, divided(value, printed.div)) for key, value in found]
+    counts = [(key, {place: count // printed.div for place, count in value.items()}) for key, value in found]
+    return [(key, law.rows(value)) for key, value in counts]
 
 
 class Lines:
@@ -43,8 +45,9 @@ class Lines:
 
     def rows(self, name, law, rows):
         """The rows of a map; nothing where there are none."""
-        is_ranges = isinstance(law, Buckets)
-        data = [{"key": key, "value": [{"count": count, "label": label} for label, count in value] if is_ranges else value} for key, value in rows]
+        if isinstance(law, Buckets):
+            rows = [(key, [{"count": count, "label": label} for label, count in ranges]) for key, ranges in rows]
+        data = [{"key": key, "value": value} for key, value in rows]
         return self.line({"data": data, "map": name, "type": "map"}, None) if data else ""
 
     def lost_updates(self, name, count, host):
@@ -90,8 +93,8 @@ class Text:
 
 
 def pieces(merged, form):
-    """What is printed of merged answers, piece by piece: for each print of END what the recordings print before it, one behind the other, and its
-    rows; what they print behind all, the maps of the end, and the lost updates."""
+    """What is printed of merged answers, piece by piece: for each print of END what the recordings print before it,
+    one behind the other, and its rows; what they print behind all, the maps of the end, and the lost updates."""
     laws, parts = merged.plan.laws, merged.parts_in_order()
 
     def items(place):
@@ -99,7 +102,8 @@ def pieces(merged, form):
 
     for place, printed in enumerate(merged.plan.prints):
         yield items(place)
-        yield form.rows(printed.name, laws[printed.name], shown_rows(merged.printed.get(place, {}), printed, laws[printed.name]))
+        law = laws[printed.name]
+        yield form.rows(printed.name, law, shown_rows(merged.printed.get(place, {}), printed, law))
     yield items(-1)
     for name, law in laws.items():
         if name in merged.ends:

@@ -21,7 +21,8 @@ class Progress:
         if self.next is not None and now >= self.next:
             self.next = now + SECONDS
             failed = f", {self.failed:,} failed" if self.failed else ""
-            self.stream.write(f"{CLEAR}btfleet: {now - self.began:.0f} s: {self.answered:,} of {self.count:,} recordings answered{failed}")
+            text = f"{now - self.began:.0f} s: {self.answered:,} of {self.count:,} recordings answered{failed}"
+            self.stream.write(f"{CLEAR}btfleet: {text}")
             self.stream.flush()
 
     def close(self):

@@ -11,7 +11,8 @@ def label(number):
 
 
 def range_of(number):
-    """The place of a number that is not below 0 among the ranges of a histogram: 0 for 0, and k + 1 for those from 2^k on."""
+    """The place of a number that is not below 0 among the ranges of a histogram: 0 for 0, and k + 1 for those from
+    2^k on."""
     return number.bit_length()
 
 
@@ -46,12 +47,14 @@ def by_value(rows):
 
 
 def number_rows(name, rows):
-    """The text of a map of numbers by its rows, pairs of a key and a number, as they stand; nothing where there are none."""
+    """The text of a map of numbers by its rows, pairs of a key and a number, as they stand; nothing where there are
+    none."""
     return "".join(f"{name}{key_text(key)}: {number}\n" for key, number in rows) + "\n" if rows else ""
 
 
 def range_rows(name, rows):
-    """The text of a map of histograms by its rows, pairs of a key and the ranges with their counts, as they stand; nothing where there are none."""
+    """The text of a map of histograms by its rows, pairs of a key and the ranges with their counts, as they stand;
+    nothing where there are none."""
     return "".join(f"{name}{key_text(key)}:\n" + "".join(bars(ranges)) for key, ranges in rows) + "\n" if rows else ""
 
 

@@ -1,5 +1,5 @@
-"""What the tests of btfleet stand on: the tools as `make install` puts them, with a stand-in for the program, recordings that say what it answers,
-and a scheduler with workers on the loopback.
+"""What the tests of btfleet stand on: the tools as `make install` puts them, with a stand-in for the program,
+recordings that say what it answers, and a scheduler with workers on the loopback.
 
 Each process that is begun here ends with the test, and by itself after some time, should the test be killed.
 """
@@ -29,7 +29,8 @@ WORKERS = ("web1", "web2", "web3")
 WITHOUT_DASK = f"{sys.executable} has no Dask (Debian's package python3-distributed brings it for /usr/bin/python3)"
 NO_PROGRAM = "there is no built program that knows run --json"
 
-# The stand-in notes each run. A recording of the tests is a file of lines that it prints, after a first line of shell that it runs.
+# The stand-in notes each run. A recording of the tests is a file of lines that it prints, after a first line of shell
+# that it runs.
 PROGRAM = """#!/bin/sh
 [ "$1 $2 $3" = "run --serial --json" ] || { echo "usage: btreplay run [--serial] SCRIPT RECORDING" >&2; exit 1; }
 script=$4 recording=$5

@@ -49,7 +49,8 @@ class OnThisMachine(WithFolder):
         self.assertEqual(self.installed.run("run", self.script, "nothere.btr")[:2], (3, b""))
 
     def test_a_script_that_the_program_refuses(self):
-        """Over all recordings alike it is one refusal, as the program tells it; over one alone it is the cause of that one."""
+        """Over all recordings alike it is one refusal, as the program tells it; over one alone it is the cause of
+        that one."""
         does = 'echo "$script:1:1: A1 unknown tracepoint" >&2; exit 2'
         one, two = (self.installed.recording(f"{n}.btr", [], does) for n in (1, 2))
         self.assertEqual(self.installed.run("run", "s.bt", one, two), (2, b"", "s.bt:1:1: A1 unknown tracepoint\n"))
@@ -64,7 +65,8 @@ class OnThisMachine(WithFolder):
                           f"btfleet: {lossy}: 11 events lost while it was recorded\nbtfleet: {lossy}: 1 update of maps lost\nbtfleet: the result has 1 of 1 recording\n"))
 
     def test_what_is_asked(self):
-        """The program gets the script without the numbers of its prints, and nothing is asked where the script cannot be merged."""
+        """The program gets the script without the numbers of its prints, and nothing is asked where the script
+        cannot be merged."""
         script = self.installed.write("top.bt", "t:a:b { @calls[comm] = count(); } END { print(@calls, 1); clear(@calls); }")
         one = self.installed.recording("1.btr", [calls(3)], 'cat "$script" >"$recording.script"')
         self.assertEqual(self.installed.run("run", script, one)[1], b"@calls[a]: 3\n\n")

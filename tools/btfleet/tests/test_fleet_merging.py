@@ -1,4 +1,5 @@
-"""Tests of the laws of maps, of how answers are read, and of what is printed of them, byte by byte. All numbers and texts are worked out by hand."""
+"""Tests of the laws of maps, of how answers are read, and of what is printed of them, byte by byte. All numbers and
+texts are worked out by hand."""
 import json
 import unittest
 
@@ -85,7 +86,8 @@ class Printed(unittest.TestCase):
                          b'{"data":[{"key":["b",9],"value":2},{"key":["z",0],"value":2},{"key":["a",9],"value":3},{"key":["a",10],"value":3}],"map":"@c","type":"map"}\n')
 
     def test_histograms(self):
-        """Of two recordings the ranges between are there with 0; rows stand by the sums of their counts, and bars by the merged counts."""
+        """Of two recordings the ranges between are there with 0; rows stand by the sums of their counts, and bars by
+        the merged counts."""
         script = "t:a:b { @h[comm] = hist(1); }"
         answers = [[ranges("@h", [(("x",), [("[1]", 1)]), (("y",), [("[0]", 1), ("[1]", 3)])])], [ranges("@h", [(("x",), [("[4, 8)", 2), ("[8, 16)", 4)])])]]
         half, quarter, none = "|" + "@" * 26 + " " * 26 + "|\n", "|" + "@" * 13 + " " * 39 + "|\n", "|" + " " * 52 + "|\n"
@@ -98,7 +100,8 @@ class Printed(unittest.TestCase):
                                  '{"count":0,"label":"[2, 4)"},{"count":2,"label":"[4, 8)"},{"count":4,"label":"[8, 16)"}]}],"map":"@h","type":"map"}'])
 
     def test_steps(self):
-        """A count below the least in one recording and one from the greatest on in the other: all steps stand between."""
+        """A count below the least in one recording and one from the greatest on in the other: all steps stand
+        between."""
         script = "t:a:b { @l = lhist(args.n, 0, 25, 10); }"
         answers = [[ranges("@l", [((), [("(..., 0)", 1)])])], [ranges("@l", [((), [("[25, ...)", 1)])])]]
         none = "|" + " " * 52 + "|\n"

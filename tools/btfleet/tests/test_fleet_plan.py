@@ -1,4 +1,5 @@
-"""Tests of which scripts can be merged: each refusal with its place, scripts next to it that are none, and all examples."""
+"""Tests of which scripts can be merged: each refusal with its place, scripts next to it that are none, and all
+examples."""
 import subprocess
 import sys
 import unittest

@@ -1,6 +1,7 @@
 """Tests of the command with the built program: parts of a recording give together what the whole gives, to the byte.
 
-What the whole gives is what the program prints of it, and for the examples the outputs that are kept, which are worked out apart from the program.
+What the whole gives is what the program prints of it, and for the examples the outputs that are kept, which are worked
+out apart from the program.
 """
 import subprocess
 import sys
@@ -11,7 +12,8 @@ from fleet_hosts import NO_PROGRAM, TOOLS, TOP, WithFolder, real_program
 PROGRAM = real_program()
 SMALL, LOSSY = str(TOP / "examples" / "small.btr"), str(TOP / "examples" / "lossy.btr")
 CPUS = 4
-# Examples that only add and print at the end, or keep the CPU in the keys of what else they use: a cut by CPUs changes nothing of them.
+# Examples that only add and print at the end, or keep the CPU in the keys of what else they use: a cut by CPUs changes
+# nothing of them.
 ADDING = ["block_bytes", "block_sizes", "bytes_by_process", "dirty_buffers", "error_returns", "events_by_cpu", "interrupts", "migrations", "opens", "read_sizes",
           "signals", "softirq_time", "timer_lateness", "which_calls", "who_calls", "who_wakes_whom", "why_off_cpu", "time_on_cpu", "write_back", "run_lengths"]
 # All aggregations but avg, over fields with numbers of both signs, with keys of all kinds, printed in part and divided.
