@@ -166,8 +166,8 @@ def real_program():
             with tempfile.NamedTemporaryFile(suffix=".bt") as script:
                 script.write(b"BEGIN { @ = count(); }")
                 script.flush()
-                done = subprocess.run([str(path), "run", "--serial", "--json", script.name, str(TOP / "examples" / "small.btr")], stdin=subprocess.DEVNULL,
-                                      stdout=subprocess.PIPE, stderr=subprocess.DEVNULL, timeout=60)
+                words = [str(path), "run", "--serial", "--json", script.name, str(TOP / "examples" / "small.btr")]
+                done = subprocess.run(words, stdin=subprocess.DEVNULL, stdout=subprocess.PIPE, stderr=subprocess.DEVNULL, timeout=60)
             if done.returncode == 0 and json.loads(done.stdout) == {"data": [{"key": [], "value": 1}], "map": "@", "type": "map"}:
                 return str(path)
     return None

@@ -1,4 +1,5 @@
 """Tests of the command over a scheduler and three workers on the loopback, with a stand-in for the program."""
+import json
 import os
 import pathlib
 import signal
@@ -16,6 +17,11 @@ MANY = 1000
 MOST_RATIO = 2
 
 
+def result(count, of):
+    """The line that tells how many recordings are in the result."""
+    return f"btfleet: the result has {count:,} of {of:,} recording{'' if of == 1 else 's'}\n"
+
+
 def calls(number):
     """The line of a recording in which one thread made so many calls, and another one."""
     return count_line("@calls", [(("b",), 1), (("a",), number)])
@@ -24,10 +30,10 @@ def calls(number):
 class OnThisMachine(WithFolder):
     def test_without_a_scheduler(self):
         one, two = (self.installed.recording(f"{n}.btr", [calls(n)]) for n in (3, 4))
-        self.assertEqual(self.installed.run("run", self.script, one, two), (0, b"@calls[b]: 2\n@calls[a]: 7\n\n", "btfleet: the result has 2 of 2 recordings\n"))
+        self.assertEqual(self.installed.run("run", self.script, one, two), (0, b"@calls[b]: 2\n@calls[a]: 7\n\n", result(2, 2)))
         status, printed, _ = self.installed.run("run", self.script, f"web1:{one}", "web2:4.btr", "--by-host", "--json")
-        self.assertEqual((status, printed), (0, b'{"data":[{"key":["web1","b"],"value":1},{"key":["web2","b"],"value":1},{"key":["web1","a"],"value":3},'
-                                                b'{"key":["web2","a"],"value":4}],"map":"@calls","type":"map"}\n'))
+        rows = [(("web1", "b"), 1), (("web2", "b"), 1), (("web1", "a"), 3), (("web2", "a"), 4)]
+        self.assertEqual((status, json.loads(printed)), (0, json.loads(count_line("@calls", rows))))
 
     def test_nothing_is_left_behind(self):
         one, folder = self.installed.recording("1.btr", [calls(1)]), self.installed.folder / "scratch"
@@ -38,14 +44,15 @@ class OnThisMachine(WithFolder):
     def test_failures(self):
         """Each with its cause: no file, a damaged one, a program that is killed, an answer that is none."""
         good = self.installed.recording("good.btr", [calls(3)])
-        bad = [self.installed.recording("cut.btr", [], 'echo "$recording: C1 truncated at byte 9" >&2; exit 3'), self.installed.recording("dead.btr", [], "kill -9 $$"),
-               self.installed.recording("odd.btr", ["no JSON"])]
+        bad = [self.installed.recording("cut.btr", [], 'echo "$recording: C1 truncated at byte 9" >&2; exit 3'),
+               self.installed.recording("dead.btr", [], "kill -9 $$"), self.installed.recording("odd.btr", ["no JSON"])]
         status, printed, told = self.installed.run("run", self.script, *bad, good, "nothere.btr")
         self.assertEqual((status, printed), (7, b"@calls[b]: 1\n@calls[a]: 3\n\n"))
         lines = told.splitlines()
         self.assertEqual(lines[:2], [f"btfleet: {bad[0]}: C1 truncated at byte 9", f"btfleet: {bad[1]}: its run was ended by SIGKILL"])
         self.assertRegex(lines[2], f"^btfleet: {bad[2]}: a line of its answer is no JSON")
-        self.assertEqual(lines[3:], ["btfleet: nothere.btr: there is no such file there that can be read", "btfleet: the result has 1 of 5 recordings"])
+        self.assertEqual(lines[3:], ["btfleet: nothere.btr: there is no such file there that can be read",
+                                     "btfleet: the result has 1 of 5 recordings"])
         self.assertEqual(self.installed.run("run", self.script, "nothere.btr")[:2], (3, b""))
 
     def test_a_script_that_the_program_refuses(self):
@@ -55,14 +62,18 @@ class OnThisMachine(WithFolder):
         one, two = (self.installed.recording(f"{n}.btr", [], does) for n in (1, 2))
         self.assertEqual(self.installed.run("run", "s.bt", one, two), (2, b"", "s.bt:1:1: A1 unknown tracepoint\n"))
         good = self.installed.recording("good.btr", [calls(3)])
-        self.assertEqual(self.installed.run("run", "s.bt", good, two)[::2], (7, f"btfleet: {two}: s.bt:1:1: A1 unknown tracepoint\nbtfleet: the result has 1 of 2 recordings\n"))
+        self.assertEqual(self.installed.run("run", "s.bt", good, two)[::2],
+                         (7, f"btfleet: {two}: s.bt:1:1: A1 unknown tracepoint\n{result(1, 2)}"))
 
     def test_losses(self):
-        lossy = self.installed.recording("lossy.btr", ['{"count":5,"cpu":0,"type":"lost_events"}', '{"count":6,"cpu":1,"type":"lost_events"}', calls(1),
-                                                       '{"count":1,"map":"@calls","type":"lost_updates"}'])
-        self.assertEqual(self.installed.run("run", self.script, lossy)[1:],
-                         (b"WARNING: 5 events lost on cpu 0\nWARNING: 6 events lost on cpu 1\n@calls[a]: 1\n@calls[b]: 1\n\nWARNING: 1 updates lost in @calls\n",
-                          f"btfleet: {lossy}: 11 events lost while it was recorded\nbtfleet: {lossy}: 1 update of maps lost\nbtfleet: the result has 1 of 1 recording\n"))
+        lines = ['{"count":5,"cpu":0,"type":"lost_events"}', '{"count":6,"cpu":1,"type":"lost_events"}', calls(1),
+                 '{"count":1,"map":"@calls","type":"lost_updates"}']
+        lossy = self.installed.recording("lossy.btr", lines)
+        status, printed, told = self.installed.run("run", self.script, lossy)
+        self.assertEqual((status, printed.decode()), (0, "WARNING: 5 events lost on cpu 0\nWARNING: 6 events lost on cpu 1\n"
+                                                         "@calls[a]: 1\n@calls[b]: 1\n\nWARNING: 1 updates lost in @calls\n"))
+        self.assertEqual(told, f"btfleet: {lossy}: 11 events lost while it was recorded\n"
+                               f"btfleet: {lossy}: 1 update of maps lost\n{result(1, 1)}")
 
     def test_what_is_asked(self):
         """The program gets the script without the numbers of its prints, and nothing is asked where the script
@@ -84,8 +95,9 @@ class OnThisMachine(WithFolder):
     def test_signals(self):
         """An interrupt ends the command and the runs that it began."""
         slow = self.installed.recording("slow.btr", [], 'echo $$ >"$recording.pid"; exec sleep 300')
+        words = self.installed.words(["run", self.script, slow])
         for number, status in ((signal.SIGINT, 130), (signal.SIGTERM, 143)):
-            with self.subTest(number), subprocess.Popen(self.installed.words(["run", self.script, slow]), stdout=subprocess.PIPE, stderr=subprocess.PIPE) as process:
+            with self.subTest(number), subprocess.Popen(words, stdout=subprocess.PIPE, stderr=subprocess.PIPE) as process:
                 pid = pathlib.Path(f"{slow}.pid")
                 until = time.monotonic() + COMMAND_SECONDS
                 while not (pid.is_file() and pid.read_text().endswith("\n")) and time.monotonic() < until:
@@ -105,7 +117,8 @@ class OnThisMachine(WithFolder):
         with subprocess.Popen(self.installed.words(["run", self.script, *recordings]), stdout=subprocess.PIPE, stderr=terminal) as process:
             os.close(terminal)
             self.assertEqual(process.communicate(timeout=COMMAND_SECONDS)[0], b"@calls[a]: 3\n@calls[b]: 3\n\n")
-        self.assertRegex(os.read(master, 65536).decode(), r"\x1b\[Kbtfleet: \d+ s: [0-3] of 3 recordings answered[^\x1b]*\r\x1b\[Kbtfleet: the result has 3 of 3")
+        self.assertRegex(os.read(master, 65536).decode(), r"\x1b\[Kbtfleet: \d+ s: [0-3] of 3 recordings answered[^\x1b]*\r\x1b\[K"
+                                                          r"btfleet: the result has 3 of 3")
 
 
 class OnAScheduler(WithFolder):
@@ -114,16 +127,18 @@ class OnAScheduler(WithFolder):
         cluster = self.cluster()
         one = self.installed.recording("one.btr", [printf_line("hello\n"), calls(3)])
         at = ["--scheduler", cluster.address]
-        self.assertEqual(self.installed.run("run", self.script, one, *at), (0, b"hello\n@calls[b]: 1\n@calls[a]: 3\n\n", "btfleet: the result has 1 of 1 recording\n"))
-        self.assertEqual(self.installed.run("run", self.script, f"web2:{one}", "--by-host", *at)[1], b"web2: hello\n@calls[web2, b]: 1\n@calls[web2, a]: 3\n\n")
+        self.assertEqual(self.installed.run("run", self.script, one, *at), (0, b"hello\n@calls[b]: 1\n@calls[a]: 3\n\n", result(1, 1)))
+        self.assertEqual(self.installed.run("run", self.script, f"web2:{one}", "--by-host", *at)[1],
+                         b"web2: hello\n@calls[web2, b]: 1\n@calls[web2, a]: 3\n\n")
+        wanted = ["{}: hello\n", "@calls[{}, b]: 1\n", "@calls[{}, a]: 3\n"]
         self.assertEqual(self.installed.run("run", self.script, f"*:{one}", "--by-host", *at)[1].decode(),
-                         "web1: hello\nweb2: hello\nweb3: hello\n" + "".join(f"@calls[{name}, b]: 1\n" for name in WORKERS) + "".join(f"@calls[{name}, a]: 3\n" for name in WORKERS) + "\n")
+                         "".join(line.format(name) for line in wanted for name in WORKERS) + "\n")
         self.assertEqual(self.installed.runs(), [one] * 5)
-        for word, why in ((f"web9:{one}", f"web9:{one}: no worker is on a host of this name"),):
-            self.assertEqual(self.installed.run("run", self.script, word, *at), (1, b"", f"btfleet: {why}\n"))
+        self.assertEqual(self.installed.run("run", self.script, f"web9:{one}", *at),
+                         (1, b"", f"btfleet: web9:{one}: no worker is on a host of this name\n"))
         self.assertEqual(self.installed.run("run", self.script, one, f"*:{one}", *at)[2], f"btfleet: web1:{one} is named twice\n")
         self.assertEqual(self.installed.run("run", self.script, one, f"web3:{one}x", *at)[::2],
-                         (7, f"btfleet: web3:{one}x: there is no such file there that can be read\nbtfleet: the result has 1 of 2 recordings\n"))
+                         (7, f"btfleet: web3:{one}x: there is no such file there that can be read\n{result(1, 2)}"))
 
     def test_one_damaged_among_fifty(self):
         cluster = self.cluster()
@@ -131,7 +146,7 @@ class OnAScheduler(WithFolder):
         self.installed.recording("17.btr", [], 'echo "$recording: C8 unknown id in event 0 of cpu 0" >&2; exit 3')
         status, printed, told = self.installed.run("run", self.script, *recordings, "--scheduler", cluster.address)
         self.assertEqual((status, printed.decode()), (7, f"@calls[b]: {SMALL - 1}\n@calls[a]: {sum(range(SMALL)) - 17}\n\n"))
-        self.assertEqual(told, f"btfleet: {recordings[17]}: C8 unknown id in event 0 of cpu 0\nbtfleet: the result has 49 of 50 recordings\n")
+        self.assertEqual(told, f"btfleet: {recordings[17]}: C8 unknown id in event 0 of cpu 0\n{result(49, 50)}")
 
     def test_a_worker_that_dies_half_way(self):
         """What it was asked is asked of the others, and each recording is in the result once."""
@@ -147,23 +162,25 @@ class OnAScheduler(WithFolder):
             printed, told = process.communicate(timeout=COMMAND_SECONDS)
         self.assertLess(begun, SMALL)
         self.assertEqual((process.returncode, printed.decode(), told.decode()),
-                         (0, f"@calls[b]: {SMALL}\n@calls[a]: {sum(range(SMALL))}\n\n", "btfleet: the result has 50 of 50 recordings\n"))
+                         (0, f"@calls[b]: {SMALL}\n@calls[a]: {sum(range(SMALL))}\n\n", result(50, 50)))
 
     def test_the_only_holder_dies(self):
         """It is told, and what others hold is in the result. The wait for it is cut short here."""
         cluster = self.cluster("web1", "web2")
         one = self.installed.recording("1.btr", [calls(1)])
         slow = self.installed.recording("2.btr", [calls(2)], "sleep 30")
-        shorter = "import sys; sys.path.insert(0, sys.argv.pop(1)); from btfleet import command, fleet; fleet.GRACE_SECONDS = 1; sys.exit(command.main(sys.argv[1:]))"
-        words = [sys.executable, "-B", "-c", shorter, str(self.installed.lib / "tools"), "run", self.script, f"web1:{one}", f"web2:{slow}", "--scheduler", cluster.address]
+        shorter = ("import sys; sys.path.insert(0, sys.argv.pop(1)); from btfleet import command, fleet; fleet.GRACE_SECONDS = 1; "
+                   "sys.exit(command.main(sys.argv[1:]))")
+        words = [sys.executable, "-B", "-c", shorter, str(self.installed.lib / "tools"), "run", self.script, f"web1:{one}", f"web2:{slow}",
+                 "--scheduler", cluster.address]
         with subprocess.Popen(words, stdout=subprocess.PIPE, stderr=subprocess.PIPE) as process:
             until = time.monotonic() + COMMAND_SECONDS
             while slow not in self.installed.runs() and time.monotonic() < until:
                 time.sleep(0.05)
             cluster.kill("web2")
             printed, told = process.communicate(timeout=COMMAND_SECONDS)
-        self.assertEqual((process.returncode, printed, told.decode().splitlines()),
-                         (7, b"@calls[a]: 1\n@calls[b]: 1\n\n", [f"btfleet: web2:{slow}: no worker that holds it is there any more", "btfleet: the result has 1 of 2 recordings"]))
+        self.assertEqual((process.returncode, printed), (7, b"@calls[a]: 1\n@calls[b]: 1\n\n"))
+        self.assertEqual(told.decode(), f"btfleet: web2:{slow}: no worker that holds it is there any more\n{result(1, 2)}")
 
     def test_a_worker_that_is_started_anew(self):
         """As its nanny does: it has another address then, and is asked again."""
@@ -181,7 +198,7 @@ class OnAScheduler(WithFolder):
         starter.start()
         came = self.installed.run("run", self.script, f"web1:{slow}", "--scheduler", cluster.address)
         starter.join()
-        self.assertEqual(came, (0, b"@calls[b]: 1\n@calls[a]: 2\n\n", "btfleet: the result has 1 of 1 recording\n"))
+        self.assertEqual(came, (0, b"@calls[b]: 1\n@calls[a]: 2\n\n", result(1, 1)))
 
     def test_no_code_is_sent(self):
         """A worker that was not told where btfleet is cannot be asked, so what runs there is its own."""
@@ -189,7 +206,8 @@ class OnAScheduler(WithFolder):
         one = self.installed.recording("1.btr", [calls(1)])
         status, printed, told = self.installed.run("run", self.script, one, "--scheduler", cluster.address)
         self.assertEqual((status, printed), (8, b""))
-        self.assertRegex(told, r"^btfleet: the worker tcp://\S+ does not know btfleet: start it with --preload tools/btfleet/preload.py\nbtfleet: no worker can be asked\n$")
+        self.assertRegex(told, r"^btfleet: the worker tcp://\S+ does not know btfleet: start it with --preload tools/btfleet/preload.py\n"
+                               r"btfleet: no worker can be asked\n$")
         self.assertEqual(self.installed.runs(), [])
 
     def test_schedulers(self):
@@ -225,7 +243,7 @@ class OnAScheduler(WithFolder):
             began = time.monotonic()
             status, printed, told = self.installed.run("run", self.script, *recordings[:count], "--scheduler", cluster.address)
             took[count] = time.monotonic() - began
-            self.assertEqual((status, told), (0, f"btfleet: the result has {count:,} of {count:,} recording{'s' if count > 1 else ''}\n"))
+            self.assertEqual((status, told), (0, result(count, count)))
             self.assertEqual(sorted(printed.decode().splitlines()), sorted(["", f"@calls[a]: {sum(range(count))}", f"@calls[b]: {count}"]))
         for_each = [(took[count] - took[1]) / count for count in (MANY // 5, MANY)]
         self.assertLess(for_each[1], MOST_RATIO * for_each[0], f"seconds: {took}")

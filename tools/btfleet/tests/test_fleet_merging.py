@@ -53,7 +53,8 @@ class Laws(unittest.TestCase):
         self.assertEqual(len(POWERS), 65)
         self.assertEqual(steps(0, 25, 10), ["(..., 0)", "[0, 10)", "[10, 20)", "[20, 25)", "[25, ...)"])
         self.assertEqual(steps(-3, 3, 3), ["(..., -3)", "[-3, 0)", "[0, 3)", "[3, ...)"])
-        self.assertEqual(steps(LEAST, MOST, MOST), [f"(..., {LEAST})", f"[{LEAST}, -1)", f"[-1, {MOST - 1})", f"[{MOST - 1}, {MOST})", f"[{MOST}, ...)"])
+        self.assertEqual(steps(LEAST, MOST, MOST), [f"(..., {LEAST})", f"[{LEAST}, -1)", f"[-1, {MOST - 1})",
+                                                    f"[{MOST - 1}, {MOST})", f"[{MOST}, ...)"])
 
     def test_buckets(self):
         law = law_of("lhist", (0, 30, 10))
@@ -79,25 +80,31 @@ class Laws(unittest.TestCase):
 class Printed(unittest.TestCase):
     def test_by_value_and_then_key(self):
         script = "t:a:b { @c[comm, pid] = count(); }"
-        answers = [[count_line("@c", [(("b", 9), 1), (("a", 10), 2)])], [count_line("@c", [(("a", 10), 1), (("a", 9), 3), (("z", 0), 2), (("b", 9), 1)])]]
+        answers = [[count_line("@c", [(("b", 9), 1), (("a", 10), 2)])],
+                   [count_line("@c", [(("a", 10), 1), (("a", 9), 3), (("z", 0), 2), (("b", 9), 1)])]]
         self.assertEqual(text(script, answers), b"@c[b, 9]: 2\n@c[z, 0]: 2\n@c[a, 9]: 3\n@c[a, 10]: 3\n\n")
-        self.assertEqual(text(script, answers, by_host=True), b"@c[h0, b, 9]: 1\n@c[h1, a, 10]: 1\n@c[h1, b, 9]: 1\n@c[h0, a, 10]: 2\n@c[h1, z, 0]: 2\n@c[h1, a, 9]: 3\n\n")
+        self.assertEqual(text(script, answers, by_host=True), b"@c[h0, b, 9]: 1\n@c[h1, a, 10]: 1\n@c[h1, b, 9]: 1\n"
+                                                              b"@c[h0, a, 10]: 2\n@c[h1, z, 0]: 2\n@c[h1, a, 9]: 3\n\n")
         self.assertEqual(text(script, answers, as_json=True),
-                         b'{"data":[{"key":["b",9],"value":2},{"key":["z",0],"value":2},{"key":["a",9],"value":3},{"key":["a",10],"value":3}],"map":"@c","type":"map"}\n')
+                         b'{"data":[{"key":["b",9],"value":2},{"key":["z",0],"value":2},{"key":["a",9],"value":3},'
+                         b'{"key":["a",10],"value":3}],"map":"@c","type":"map"}\n')
 
     def test_histograms(self):
         """Of two recordings the ranges between are there with 0; rows stand by the sums of their counts, and bars by
         the merged counts."""
         script = "t:a:b { @h[comm] = hist(1); }"
-        answers = [[ranges("@h", [(("x",), [("[1]", 1)]), (("y",), [("[0]", 1), ("[1]", 3)])])], [ranges("@h", [(("x",), [("[4, 8)", 2), ("[8, 16)", 4)])])]]
+        answers = [[ranges("@h", [(("x",), [("[1]", 1)]), (("y",), [("[0]", 1), ("[1]", 3)])])],
+                   [ranges("@h", [(("x",), [("[4, 8)", 2), ("[8, 16)", 4)])])]]
         half, quarter, none = "|" + "@" * 26 + " " * 26 + "|\n", "|" + "@" * 13 + " " * 39 + "|\n", "|" + " " * 52 + "|\n"
         third = "|" + "@" * 17 + " " * 35 + "|\n"
         self.assertEqual(text(script, answers).decode(),
                          f"@h[y]:\n[0]                    1 {third}[1]                    3 {FULL}"
-                         f"@h[x]:\n[1]                    1 {quarter}[2, 4)                 0 {none}[4, 8)                 2 {half}[8, 16)                4 {FULL}\n")
-        lines = text(script, answers, as_json=True).decode().splitlines()
-        self.assertEqual(lines, ['{"data":[{"key":["y"],"value":[{"count":1,"label":"[0]"},{"count":3,"label":"[1]"}]},{"key":["x"],"value":[{"count":1,"label":"[1]"},'
-                                 '{"count":0,"label":"[2, 4)"},{"count":2,"label":"[4, 8)"},{"count":4,"label":"[8, 16)"}]}],"map":"@h","type":"map"}'])
+                         f"@h[x]:\n[1]                    1 {quarter}[2, 4)                 0 {none}"
+                         f"[4, 8)                 2 {half}[8, 16)                4 {FULL}\n")
+        self.assertEqual(text(script, answers, as_json=True).decode().splitlines(),
+                         ['{"data":[{"key":["y"],"value":[{"count":1,"label":"[0]"},{"count":3,"label":"[1]"}]},'
+                          '{"key":["x"],"value":[{"count":1,"label":"[1]"},{"count":0,"label":"[2, 4)"},{"count":2,"label":"[4, 8)"},'
+                          '{"count":4,"label":"[8, 16)"}]}],"map":"@h","type":"map"}'])
 
     def test_steps(self):
         """A count below the least in one recording and one from the greatest on in the other: all steps stand
@@ -105,8 +112,9 @@ class Printed(unittest.TestCase):
         script = "t:a:b { @l = lhist(args.n, 0, 25, 10); }"
         answers = [[ranges("@l", [((), [("(..., 0)", 1)])])], [ranges("@l", [((), [("[25, ...)", 1)])])]]
         none = "|" + " " * 52 + "|\n"
-        self.assertEqual(text(script, answers).decode(), f"@l:\n(..., 0)               1 {FULL}[0, 10)                0 {none}[10, 20)               0 {none}"
-                                                         f"[20, 25)               0 {none}[25, ...)              1 {FULL}\n")
+        self.assertEqual(text(script, answers).decode(), f"@l:\n(..., 0)               1 {FULL}[0, 10)                0 {none}"
+                                                         f"[10, 20)               0 {none}[20, 25)               0 {none}"
+                                                         f"[25, ...)              1 {FULL}\n")
 
     def test_greatest_rows_of_all(self):
         """In each recording alone another key is the greatest; values are divided behind the choice, towards 0."""
@@ -120,8 +128,9 @@ class Printed(unittest.TestCase):
     def test_lines_and_maps_stand_as_one_run_prints_them(self):
         script = ('BEGIN { printf("x"); } t:a:b { @a = count(); @b[pid] = sum(1); @c = max(1); } END { printf("A\\n"); print(@a); clear(@a); '
                   'printf("B\\n"); print(@b, 1); printf("C\\n"); }')
-        one = [printf_line("x"), printf_line("A\n"), count_line("@a", [((), 1)]), printf_line("B\n"), count_line("@b", [((1,), 1), ((2,), 5)]), printf_line("C\n"),
-               count_line("@b", [((1,), 1), ((2,), 5)]), count_line("@c", [((), 7)])]
+        sums = count_line("@b", [((1,), 1), ((2,), 5)])
+        one = [printf_line("x"), printf_line("A\n"), count_line("@a", [((), 1)]), printf_line("B\n"), sums, printf_line("C\n"), sums,
+               count_line("@c", [((), 7)])]
         self.assertEqual(text(script, [one]), b"xA\n@a: 1\n\nB\n@b[2]: 5\n\nC\n@b[1]: 1\n@b[2]: 5\n\n@c: 7\n\n")
         other = [printf_line("x"), printf_line("A\n"), printf_line("B\n"), printf_line("C\n"), count_line("@c", [((), 9)])]
         self.assertEqual(text(script, [one, other]), b"xA\nxA\nB\nC\n@a: 1\n\nB\n@b[2]: 5\n\nC\n@b[1]: 1\n@b[2]: 5\n\n@c: 9\n\n")
@@ -135,7 +144,8 @@ class Printed(unittest.TestCase):
         head = "WARNING: 5 events lost on cpu 1\nWARNING: loop limit reached at line 4\n"
         self.assertEqual(text(script, answers).decode(), head + "WARNING: 1 updates lost in @b\nWARNING: 3 updates lost in @a\n")
         self.assertEqual(text(script, answers, by_host=True).decode(),
-                         "h0: WARNING: 5 events lost on cpu 1\nh0: WARNING: loop limit reached at line 4\nh0: WARNING: 18446744073709551615 updates lost in @b\n"
+                         "h0: WARNING: 5 events lost on cpu 1\nh0: WARNING: loop limit reached at line 4\n"
+                         "h0: WARNING: 18446744073709551615 updates lost in @b\n"
                          "h1: WARNING: 2 updates lost in @b\nh1: WARNING: 3 updates lost in @a\n")
         self.assertEqual(text(script, answers, as_json=True).decode().splitlines(),
                          ['{"count":5,"cpu":1,"type":"lost_events"}', '{"line":4,"type":"cut"}', '{"count":1,"map":"@b","type":"lost_updates"}',
@@ -157,27 +167,30 @@ class Printed(unittest.TestCase):
 class Answers(unittest.TestCase):
     def test_prints_by_the_number_of_lines(self):
         line = count_line("@a", [((), 1)])
-        for script, lines, places in (("t:a:b { @a = count(); } END { print(@a); }", 2, ([0], True)), ("t:a:b { @a = count(); } END { print(@a); }", 0, ([], False)),
-                                      ("t:a:b { @a = count(); } END { print(@a); clear(@a); }", 1, ([0], False)), ("t:a:b { @a = count(); }", 1, ([], True)),
-                                      ("t:a:b { @a = count(); } END { print(@a); print(@a, 1); if (1) { clear(@a); } }", 2, ([0, 1], False))):
-            with self.subTest(script):
-                answer = answer_of(f"{line}\n".encode() * lines, plan_of(script))
+        for end, lines, places in (("print(@a);", 2, ([0], True)), ("print(@a);", 0, ([], False)), ("print(@a); clear(@a);", 1, ([0], False)),
+                                   ("", 1, ([], True)), ("print(@a); print(@a, 1); if (1) { clear(@a); }", 2, ([0, 1], False))):
+            with self.subTest(end):
+                answer = answer_of(f"{line}\n".encode() * lines, plan_of("t:a:b { @a = count(); } END { %s }" % end))
                 self.assertEqual((sorted(answer.printed), "@a" in answer.ends), places)
 
     def test_what_is_no_answer(self):
         line = count_line("@a", [((), 1)])
         plan = plan_of("t:a:b { @a = count(); @b = count(); @s = 1; } END { print(@b); clear(@s); }")
-        for came in ("no JSON", "[]", '{"type":"news"}', '{"map":"@a","type":"map"}', '{"data":[{"key":[]}],"map":"@a","type":"map"}', '{"data":5,"map":"@a","type":"map"}',
-                     f"{line}\n{line}", count_line("@s", [((), 1)]), count_line("@x", [((), 1)]), count_line("@a", [((), 1), ((), 2)]), "{}", "\xff",
+        for came in ("no JSON", "[]", '{"type":"news"}', '{"map":"@a","type":"map"}', '{"data":[{"key":[]}],"map":"@a","type":"map"}',
+                     '{"data":5,"map":"@a","type":"map"}', f"{line}\n{line}", count_line("@s", [((), 1)]), count_line("@x", [((), 1)]),
+                     count_line("@a", [((), 1), ((), 2)]), "{}", "\xff",
                      f"{line}\n" + "\n".join([count_line("@b", [((), 1)])] * 2), '{"type":"lost_updates"}'):
             with self.subTest(came):
                 self.assertRaises(NotMerged, answer_of, came.encode("latin-1"), plan)
 
     def test_causes(self):
-        for status, told, wanted in ((3, b"/r.btr: C1 truncated at byte 9\n", "C1 truncated at byte 9"), (2, b"-:1:7: A1 unknown tracepoint\n", "s.bt:1:7: A1 unknown tracepoint"),
-                                     (2, b"-: script too long\n", "s.bt: script too long"), (4, b"/r.btr: read fault\n", "read fault"), (6, b"out of memory\n", "out of memory"),
-                                     (1, b"usage: btreplay run ..\n", "the program there does not know run --json: it is an older one"), (-9, b"", "its run was ended by SIGKILL"),
-                                     (77, b"", "its run ended with status 77"), (None, b"no program", "no program")):
+        older = "the program there does not know run --json: it is an older one"
+        for status, told, wanted in ((3, b"/r.btr: C1 truncated at byte 9\n", "C1 truncated at byte 9"),
+                                     (2, b"-:1:7: A1 unknown tracepoint\n", "s.bt:1:7: A1 unknown tracepoint"),
+                                     (2, b"-: script too long\n", "s.bt: script too long"), (4, b"/r.btr: read fault\n", "read fault"),
+                                     (6, b"out of memory\n", "out of memory"), (1, b"usage: btreplay run ..\n", older),
+                                     (-9, b"", "its run was ended by SIGKILL"), (77, b"", "its run ended with status 77"),
+                                     (None, b"no program", "no program")):
             with self.subTest(told):
                 self.assertEqual(cause_of(status, told, "/r.btr", "s.bt"), wanted)
 

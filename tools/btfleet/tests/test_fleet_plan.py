@@ -38,7 +38,8 @@ class Refused(unittest.TestCase):
                    "t:x:a { @a = avg(1); } END { clear(@a); }")
 
     def test_numbers_and_strings(self):
-        self.check(SCRATCH, "t:x:a { ^@a = 1; }", "t:x:a { ^@a[pid] = comm; }", "t:x:a { ^@a++; }", "t:x:a { ^@a += 5; }", "t:x:a { @c = count();\n  ^@a = 1; }",
+        self.check(SCRATCH, "t:x:a { ^@a = 1; }", "t:x:a { ^@a[pid] = comm; }", "t:x:a { ^@a++; }", "t:x:a { ^@a += 5; }",
+                   "t:x:a { @c = count();\n  ^@a = 1; }",
                    "t:x:a { ^@a[pid] = 1; delete(@a[pid]); }", "t:x:a { ^@a = 1; } END { if (1) { clear(@a); } }",
                    "t:x:a { ^@a = 1; } END /1/ { clear(@a); }", "t:x:a { ^@a = 1; } END { while (0) { } clear(@a); }",
                    "t:x:a { ^@a = 1; } END { exit(); clear(@a); }", "t:x:a { ^@a = 1; } END { if (1) { return; } clear(@a); }",
@@ -59,7 +60,8 @@ class Refused(unittest.TestCase):
         self.check("", 't:x:a { @a = count(); } END { if (1) { printf("x"); } print(@a); }', "t:x:a { @a = count(); } END { print(@a, 5, 1000); }")
 
     def test_changed(self):
-        self.check(CHANGED, "t:x:a { @a = count(); } END { print(@a); ^@a = count(); }", "t:x:a { @a = count(); } END { print(@a); clear(^@a); print(@a); }",
+        self.check(CHANGED, "t:x:a { @a = count(); } END { print(@a); ^@a = count(); }",
+                   "t:x:a { @a = count(); } END { print(@a); clear(^@a); print(@a); }",
                    "t:x:a { @a = count(); } END { print(@a); clear(^@a); } END { print(@a); }")
         self.check("", "t:x:a { @a = count(); } END { @a = count(); print(@a); print(@a, 5); zero(@a); clear(@a); }")
 
@@ -78,8 +80,9 @@ class Refused(unittest.TestCase):
             self.assertIn(part, plan_of(script).remedy)
 
     def test_what_is_no_script(self):
-        for script in ["", "@", "{", "}", "END { print(@a", "END { print(@a, ); }", "END { clear(@", "t:x:a { @a = lhist(1, 2, 3", "t:x:a { @a = lhist(", "t:x:a { @x[ = count",
-                       "END { print(@a, 1, 2, 3); } t:x:a { @a = count(", "t:x:a { @a = hist }", "@a = count()", "t:x:a { @a[1 = count(); }", 'END { "', "/*"]:
+        for script in ["", "@", "{", "}", "END { print(@a", "END { print(@a, ); }", "END { clear(@", "t:x:a { @a = lhist(1, 2, 3",
+                       "t:x:a { @a = lhist(", "t:x:a { @x[ = count", "END { print(@a, 1, 2, 3); } t:x:a { @a = count(",
+                       "t:x:a { @a = hist }", "@a = count()", "t:x:a { @a[1 = count(); }", 'END { "', "/*"]:
             with self.subTest(script):
                 plan_of(script)
 
@@ -102,7 +105,8 @@ class Plans(unittest.TestCase):
         script = "t:x:a { @a = count(); @b[1] = hist(1); }\nEND { print(@a , 0x10 /* ten */\n, 1_000); print(@b,5); clear(@b); print(@a); }"
         plan = plan_of(script)
         self.assertEqual(plan.prints, [Printed("@a", 16, 1000), Printed("@b", 5, 1), Printed("@a", 0, 1)])
-        self.assertEqual(plan.script, "t:x:a { @a = count(); @b[1] = hist(1); }\nEND { print(@a                 \n       ); print(@b  ); clear(@b); print(@a); }")
+        self.assertEqual(plan.script, "t:x:a { @a = count(); @b[1] = hist(1); }\n"
+                                      "END { print(@a                 \n       ); print(@b  ); clear(@b); print(@a); }")
 
     def test_numbers_that_the_program_refuses_stay(self):
         for numbers in (", -1", ", 5, 0", ", 5, -2", ", 1, 2, 3", ", @x", ", comm", ", 99999999999999999999"):
@@ -118,7 +122,8 @@ class Command(unittest.TestCase):
     """What is told before the engine is even looked for."""
 
     def run_command(self, *words, given=b""):
-        done = subprocess.run([sys.executable, "-B", str(TOOLS / "btfleet"), *words], input=given, stdout=subprocess.PIPE, stderr=subprocess.PIPE, timeout=100)
+        done = subprocess.run([sys.executable, "-B", str(TOOLS / "btfleet"), *words], input=given, stdout=subprocess.PIPE,
+                              stderr=subprocess.PIPE, timeout=100)
         return done.returncode, done.stdout, done.stderr.decode()
 
     def test_a_refused_script(self):
@@ -134,8 +139,9 @@ class Command(unittest.TestCase):
                 self.assertEqual((status, printed, came.split(":")[0]), (1, b"", "btfleet"))
         self.assertEqual(self.run_command("run", "/no/s.bt", "r.btr"), (4, b"", "btfleet: /no/s.bt: there is no folder /no\n"))
         self.assertEqual(self.run_command("run", "-", "r.btr", given=b" " * 65_537), (2, b"", "btfleet: -: script too long\n"))
-        for words, why in ((["r.btr", "./r.btr"], "./r.btr is named twice"), (["*:r.btr"], "*:r.btr: * stands for the hosts of a scheduler, and there is no --scheduler"),
-                           (["web1:r.btr", "--scheduler", "127.0.0.1:1"], "web1:r.btr: the path on another host is a whole one, from / on"), (["web1:"], "web1:: names no recording")):
+        for words, why in ((["r.btr", "./r.btr"], "./r.btr is named twice"), (["web1:"], "web1:: names no recording"),
+                           (["*:r.btr"], "*:r.btr: * stands for the hosts of a scheduler, and there is no --scheduler"),
+                           (["web1:r.btr", "--scheduler", "127.0.0.1:1"], "web1:r.btr: the path on another host is a whole one, from / on")):
             with self.subTest(words):
                 self.assertEqual(self.run_command("run", "-", *words, given=b"BEGIN { }"), (1, b"", f"btfleet: {why}\n"))
 

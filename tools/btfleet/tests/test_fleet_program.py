@@ -14,8 +14,9 @@ SMALL, LOSSY = str(TOP / "examples" / "small.btr"), str(TOP / "examples" / "loss
 CPUS = 4
 # Examples that only add and print at the end, or keep the CPU in the keys of what else they use: a cut by CPUs changes
 # nothing of them.
-ADDING = ["block_bytes", "block_sizes", "bytes_by_process", "dirty_buffers", "error_returns", "events_by_cpu", "interrupts", "migrations", "opens", "read_sizes",
-          "signals", "softirq_time", "timer_lateness", "which_calls", "who_calls", "who_wakes_whom", "why_off_cpu", "time_on_cpu", "write_back", "run_lengths"]
+ADDING = ["block_bytes", "block_sizes", "bytes_by_process", "dirty_buffers", "error_returns", "events_by_cpu", "interrupts", "migrations", "opens",
+          "read_sizes", "signals", "softirq_time", "timer_lateness", "which_calls", "who_calls", "who_wakes_whom", "why_off_cpu", "time_on_cpu",
+          "write_back", "run_lengths"]
 # All aggregations but avg, over fields with numbers of both signs, with keys of all kinds, printed in part and divided.
 EACH = """BEGIN { @zero = count(); clear(@zero); }
 tracepoint:raw_syscalls:sys_exit {
@@ -35,12 +36,14 @@ class WithProgram(WithFolder):
         """The parts of a recording by its CPUs."""
         paths = [str(self.installed.folder / f"{cpu}.btr") for cpu in range(CPUS)]
         for cpu, path in enumerate(paths):
-            subprocess.run([sys.executable, "-B", str(TOOLS / "btrecord"), "cut", recording, "--cpu", str(cpu), "-o", path], check=True, stderr=subprocess.DEVNULL, timeout=100)
+            subprocess.run([sys.executable, "-B", str(TOOLS / "btrecord"), "cut", recording, "--cpu", str(cpu), "-o", path], check=True,
+                           stderr=subprocess.DEVNULL, timeout=100)
         return paths
 
     def whole(self, script, recording, *words):
         """What the program prints of a whole recording."""
-        done = subprocess.run([PROGRAM, "run", "--serial", *words, script, recording], stdin=subprocess.DEVNULL, stdout=subprocess.PIPE, check=True, timeout=100)
+        done = subprocess.run([PROGRAM, "run", "--serial", *words, script, recording], stdin=subprocess.DEVNULL, stdout=subprocess.PIPE, check=True,
+                              timeout=100)
         return done.stdout
 
     def example(self, name):
@@ -85,17 +88,21 @@ class Cut(WithProgram):
     def test_hosts_apart(self):
         """Two hosts, one with another recording: the rows of each are its own, with its name in front."""
         script, output = self.example("who_calls")
-        status, printed, _ = self.installed.run("run", script, f"web1:{SMALL}", f"web2:{self.parts(SMALL)[2]}", f"web2:{self.parts(SMALL)[0]}", "--by-host")
+        parts = self.parts(SMALL)
+        status, printed, _ = self.installed.run("run", script, f"web1:{SMALL}", f"web2:{parts[2]}", f"web2:{parts[0]}", "--by-host")
         self.assertEqual(status, 0)
-        of = {name: [line.replace(f"[{name}, ", "[") for line in printed.decode().splitlines() if f"[{name}, " in line] for name in ("web1", "web2")}
-        self.assertEqual(of["web1"], output.decode().splitlines()[:-1])
-        self.assertEqual(len(of["web1"]) + len(of["web2"]) + 1, len(printed.decode().splitlines()))
+        lines = printed.decode().splitlines()
+        first, second = ([line.replace(f"[{name}, ", "[") for line in lines if f"[{name}, " in line] for name in ("web1", "web2"))
+        self.assertEqual(first, output.decode().splitlines()[:-1])
+        self.assertEqual(second, self.installed.run("run", script, parts[2], parts[0])[1].decode().splitlines()[:-1])
+        self.assertEqual(len(first) + len(second) + 1, len(lines))
 
     def test_a_damaged_recording_and_a_refused_script(self):
         script, output = self.example("who_calls")
         with open(SMALL, "rb") as file:
             cut = self.installed.write("cut.btr", file.read()[:5000])
-        self.assertEqual(self.installed.run("run", script, SMALL, cut), (7, output, f"btfleet: {cut}: C1 truncated at byte 5000\nbtfleet: the result has 1 of 2 recordings\n"))
+        self.assertEqual(self.installed.run("run", script, SMALL, cut),
+                         (7, output, f"btfleet: {cut}: C1 truncated at byte 5000\nbtfleet: the result has 1 of 2 recordings\n"))
         self.installed.write("s.bt", "BEGIN { }\n t:raw_syscalls:sys_enter { @ = sum(args.nope); }")
         self.assertEqual(self.installed.run("run", "s.bt", SMALL, LOSSY), (2, b"", "s.bt:2:43: Y1 unknown field\n"))
         self.installed.write("s.bt", "t:raw_syscalls:sys_enter { @ = count(); } END { print(@, -1); }")
