@@ -14,9 +14,8 @@ SMALL, LOSSY = str(TOP / "examples" / "small.btr"), str(TOP / "examples" / "loss
 CPUS = 4
 # Examples that only add and print at the end, or keep the CPU in the keys of what else they use: a cut by CPUs changes
 # nothing of them.
-ADDING = ["block_bytes", "block_sizes", "bytes_by_process", "dirty_buffers", "error_returns", "events_by_cpu", "interrupts", "migrations", "opens",
-          "read_sizes", "signals", "softirq_time", "timer_lateness", "which_calls", "who_calls", "who_wakes_whom", "why_off_cpu", "time_on_cpu",
-          "write_back", "run_lengths"]
+ADDING = ["block_bytes", "block_sizes", "error_returns", "events_by_cpu", "migrations", "read_sizes", "softirq_time", "time_on_cpu",
+          "timer_lateness", "which_calls", "write_back", "run_lengths"]
 # All aggregations but avg, over fields with numbers of both signs, with keys of all kinds, printed in part and divided.
 EACH = """BEGIN { @zero = count(); clear(@zero); }
 tracepoint:raw_syscalls:sys_exit {
@@ -103,8 +102,9 @@ class Cut(WithProgram):
             cut = self.installed.write("cut.btr", file.read()[:5000])
         self.assertEqual(self.installed.run("run", script, SMALL, cut),
                          (7, output, f"btfleet: {cut}: C1 truncated at byte 5000\nbtfleet: the result has 1 of 2 recordings\n"))
-        self.installed.write("s.bt", "BEGIN { }\n t:raw_syscalls:sys_enter { @ = sum(args.nope); }")
-        self.assertEqual(self.installed.run("run", "s.bt", SMALL, LOSSY), (2, b"", "s.bt:2:43: Y1 unknown field\n"))
+        line = " t:raw_syscalls:sys_enter { @ = sum(args.nope); }"
+        self.installed.write("s.bt", f"BEGIN {{ }}\n{line}")
+        self.assertEqual(self.installed.run("run", "s.bt", SMALL, LOSSY), (2, b"", f"s.bt:2:{line.index('nope') + 1}: Y1 unknown field\n"))
         self.installed.write("s.bt", "t:raw_syscalls:sys_enter { @ = count(); } END { print(@, -1); }")
         self.assertEqual(self.installed.run("run", "s.bt", SMALL)[0], 2)
 
