@@ -3,6 +3,7 @@
 The engine takes what a dead worker was asked to another that holds the recording. Where none is left that does, as one
 that is started anew has another address, this looks whether a worker holds it now, and gives up after some seconds.
 """
+import asyncio
 import contextlib
 import queue
 import time
@@ -15,11 +16,22 @@ from btfleet.placing import NOT_THERE, PRELOAD, survey
 TURN_SECONDS = 0.2
 LOOK_SECONDS = 1
 GRACE_SECONDS = 20
-RESULT_SECONDS = 10
+RESULT_SECONDS = 120
 
 
 class Unasked(Exception):
     """Why a recording could not be asked."""
+
+
+def why(fault):
+    """Why a recording could not be asked, by what the engine raises."""
+    if isinstance(fault, ModuleNotFoundError):
+        return f"its worker does not know btfleet: start it with {PRELOAD}"
+    if type(fault).__name__ == "KilledWorker":
+        return "each worker that was asked died of it"
+    if isinstance(fault, asyncio.TimeoutError):
+        return f"its answer did not come within {RESULT_SECONDS} seconds"
+    return f"{type(fault).__name__}: {fault}"
 
 
 class Fleet:
@@ -61,18 +73,15 @@ class Fleet:
         """What a recording answers whose run has ended."""
         try:
             found = future.result(timeout=RESULT_SECONDS)
-        except ModuleNotFoundError:
-            found = Unasked(f"its worker does not know btfleet: start it with {PRELOAD}")
         except CancelledError:
             self.live()
             found = Unasked("the engine gave it up")
         except Exception as fault:
             if not future.done():
-                # The worker that had the answer is gone: it is asked again.
+                # The worker that had the answer is gone: the engine asks another one.
                 future.add_done_callback(self.ended.put)
                 return
-            is_deadly = type(fault).__name__ == "KilledWorker"
-            found = Unasked("each worker that was asked died of it" if is_deadly else f"{type(fault).__name__}: {fault}")
+            found = Unasked(why(fault))
         _, asked = self.open.pop(future.key)
         yield asked, found
 
