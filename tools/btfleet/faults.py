@@ -14,13 +14,11 @@ ENGINE = 8
 
 
 class Refused(Exception):
-    """What is told where nothing could be asked, and the status of the program. A text of several lines is told line
-    by line; one that begins with a file's place stands without the command's name."""
+    """What is told where nothing could be asked, line by line, and the status of the program."""
 
-    def __init__(self, text, status, more=()):
+    def __init__(self, text, status):
         super().__init__(text)
         self.status = status
-        self.more = list(more)
 
 
 class NotMerged(Exception):

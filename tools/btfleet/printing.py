@@ -98,6 +98,7 @@ def pieces(merged, form):
     laws, parts = merged.plan.laws, merged.parts_in_order()
 
     def items(place):
+        """What the recordings print by themselves before a print of END, or behind all."""
         return "".join(form.items(part.items[place], part.host if merged.by_host else None) for part in parts)
 
     for place, printed in enumerate(merged.plan.prints):

@@ -13,6 +13,7 @@ class Words(argparse.ArgumentParser):
     """The words of the program, whose faults are told as all others."""
 
     def error(self, message):
+        """Ends the program, with what is wrong."""
         self.exit(WORDS, f"btfleet: {message}\n{self.format_usage()}")
 
 
