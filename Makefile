@@ -11,7 +11,9 @@ BIN = $(DESTDIR)$(PREFIX)/bin
 LIB = $(DESTDIR)$(PREFIX)/lib/btreplay
 MAN = $(DESTDIR)$(PREFIX)/share/man/man1
 COMPLETION = $(DESTDIR)$(PREFIX)/share/bash-completion/completions
-TOOLS = $(notdir $(wildcard tools/btreplay tools/btrecord tools/btreport))
+TOOLS = $(notdir $(wildcard tools/btreplay tools/btrecord tools/btreport tools/btfleet))
+# What btfleet prints rows by.
+LAYOUT = reckoning/__init__.py reckoning/layout.py
 PAGES = $(wildcard $(TOOLS:%=docs/%.1))
 
 all:
@@ -27,7 +29,7 @@ install:
 	./btreplay --version >'$(LIB)/version'
 	install -m 755 '$(PROGRAM)' '$(LIB)/bt_program'
 	install -m 755 btreplay '$(LIB)/btreplay'
-	set -e; lib=$$(cd '$(LIB)' && pwd); cd tools; for file in $$(find $(TOOLS) -name '*.py' ! -path '*/tests/*'); do \
+	set -e; lib=$$(cd '$(LIB)' && pwd); cd tools; for file in $(LAYOUT) $$(find $(TOOLS) -name '*.py' ! -path '*/tests/*'); do \
 	    install -D -m 644 "$$file" "$$lib/tools/$$file"; done
 	set -e; for tool in $(TOOLS); do ln -sfn ../lib/btreplay/btreplay '$(BIN)/'"$$tool"; done
 	install -m 644 $(PAGES) '$(MAN)'
@@ -35,7 +37,7 @@ install:
 
 # What is removed is what was put there: links that lead to the folder of btreplay, and that folder where it has the word of its version.
 uninstall:
-	set -e; for tool in btreplay btrecord btreport; do \
+	set -e; for tool in btreplay btrecord btreport btfleet; do \
 	    if test "$$(readlink '$(BIN)/'"$$tool")" = ../lib/btreplay/btreplay; then \
 	        rm -f '$(BIN)/'"$$tool" '$(MAN)/'"$$tool.1" '$(COMPLETION)/'"$$tool"; \
 	    fi; \

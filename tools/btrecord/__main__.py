@@ -91,7 +91,7 @@ def ended_by_pipe():
 
 def which(asked):
     """The events that the words ask for."""
-    return selection.Asked(asked.begin, asked.end, asked.comm, asked.pid, asked.event)
+    return selection.Asked(asked.begin, asked.end, asked.comm, asked.pid, asked.event, asked.cpu)
 
 
 def run_telling(asked):

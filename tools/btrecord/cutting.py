@@ -1,4 +1,4 @@
-"""Parts of recordings: the events that are asked for, byte for byte as they are, and the marks of the time that is asked for."""
+"""Parts of recordings: the events that are asked for, byte for byte as they are, and the marks of the time and the CPUs that are asked for."""
 import shutil
 
 from container import CPU, EVENT_BYTE, HEADER, MAGIC, MARKED_MAGIC, spelled_format
@@ -75,11 +75,11 @@ class Copy:
 
 
 def cut(path, asked, open_output, with_marks=True):
-    """Writes the events that are asked for to what `open_output` answers, with their formats, all CPUs, and the marks of the time that is
-    asked for. Answers what is to be told."""
+    """Writes the events that are asked for to what `open_output` answers, with their formats, all CPUs, and the marks of the time and the CPUs
+    that are asked for. Answers what is to be told."""
     data, contents = opened(path)
     selection = Selection(asked, path, contents)
-    marks = contents.marks.between(selection.start, selection.end)
+    marks = selection.marks(contents.marks)
     with open_output() as output, Signals() as signals, output.scratch() as scratch:
         copy = Copy(data, contents, selection, scratch, with_marks and marks > 0)
         copy.cpus(signals)

@@ -36,10 +36,6 @@ class Marks:
     def __len__(self):
         return len(self.times)
 
-    def between(self, start, end):
-        """How many of them are from one time to another."""
-        return sum(start <= time <= end for time in self.times)
-
     def of_cpus(self):
         """How many marks each CPU has that has some, and how many events they tell of."""
         marks, lost = Counter(self.cpus), Counter()

@@ -1,4 +1,4 @@
-"""Which events of a recording are meant: by time, thread's name, process and tracepoint."""
+"""Which events of a recording are meant: by time, thread's name, process, tracepoint and CPU."""
 import os
 import re
 from dataclasses import dataclass, field
@@ -68,6 +68,7 @@ class Asked:
     names: list = field(default_factory=list)
     processes: list = field(default_factory=list)
     events: list = field(default_factory=list)
+    cpus: list = field(default_factory=list)
 
 
 class Selection:
@@ -78,20 +79,25 @@ class Selection:
         self.formats = chosen(asked.events, path, contents.formats)
         self.numbers = {format.layout.number for format in self.formats} if asked.events else None
         self.processes = set(asked.processes)
+        self.cpus = chosen_cpus(asked.cpus, path, contents)
         self.names = [pattern(word, os.fsencode) for word in asked.names]
         self.is_name = {}
 
     def takes(self, data, event):
         """Whether an event is asked for."""
-        if not self.start <= event.time <= self.end or self.processes and event.process not in self.processes:
+        if not self.start <= event.time <= self.end or self.processes and event.process not in self.processes or event.cpu not in self.cpus:
             return False
         if self.numbers is not None and data[event.payload] | data[event.payload + 1] << 8 not in self.numbers:
             return False
         return not self.names or self.takes_name(event.name)
 
     def takes_mark(self, mark):
-        """Whether a mark is asked for: by its time alone, since nobody knows what the lost events were."""
-        return self.start <= mark.time <= self.end
+        """Whether a mark is asked for: by its time and CPU alone, since nobody knows what the lost events were."""
+        return self.start <= mark.time <= self.end and mark.cpu in self.cpus
+
+    def marks(self, marks):
+        """How many of a recording's marks are asked for."""
+        return sum(self.start <= time <= self.end and cpu in self.cpus for time, cpu in zip(marks.times, marks.cpus))
 
     def takes_name(self, name):
         """Whether a thread's name is asked for. Each name is looked at once."""
@@ -122,3 +128,12 @@ def chosen(words, path, formats):
         if not any(map(test, formats)):
             raise Refused(f"{path}: no tracepoint of the recording fits {word}")
     return [format for format in formats if not tests or any(test(format) for test in tests.values())]
+
+
+def chosen_cpus(asked, path, contents):
+    """The numbers of the CPUs that are asked for, which the recording has, or of all where none is asked for."""
+    known = [number for number, _ in contents.cpus]
+    for number in asked:
+        if number not in known:
+            raise Refused(f"{path}: the recording has no CPU {number}; it has {', '.join(map(str, known))}")
+    return set(asked or known)

@@ -72,6 +72,7 @@ def add_selection(command):
     command.add_argument("--to", dest="end", type=told_moment, metavar="TIME", help="events up to this time")
     for word, kind, metavar, meant in [("--comm", str, "NAME", "events of threads of this name; * stands for any letters"),
                                        ("--pid", number(0, MOST_NUMBER, int), "N", "events of this process"),
+                                       ("--cpu", number(0, MOST_NUMBER, int), "N", "events of this CPU"),
                                        ("--event", str, "SYSTEM:EVENT", "events of this tracepoint; * stands for any letters")]:
         command.add_argument(word, type=parts(kind), action="extend", default=[], metavar=metavar, help=meant + "; several with commas between")
 

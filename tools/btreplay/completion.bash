@@ -1,4 +1,4 @@
-# Completion of btreplay, btrecord and btreport for bash.
+# Completion of btreplay, btrecord, btreport and btfleet for bash.
 
 # Files that end in one of the patterns, and folders.
 _btreplay_files() {
@@ -51,4 +51,4 @@ _btreplay_tool() {
 }
 
 complete -F _btreplay btreplay
-complete -F _btreplay_tool btrecord btreport
+complete -F _btreplay_tool btrecord btreport btfleet

@@ -11,7 +11,8 @@ def label(number):
 
 
 def range_of(number):
-    """The place of a number that is not below 0 among the ranges of a histogram: 0 for 0, and k + 1 for those from 2^k on."""
+    """The place of a number that is not below 0 among the ranges of a histogram: 0 for 0, and k + 1 for those from
+    2^k on."""
     return number.bit_length()
 
 
@@ -20,15 +21,19 @@ def range_text(place):
     return f"[{place}]" if place < 2 else f"[{label(1 << (place - 1))}, {label(1 << place)})"
 
 
-def histogram_rows(numbers):
-    """The rows of a histogram of numbers."""
+def ranges_of(numbers):
+    """The ranges of a histogram of numbers, from the first to the last that has some, each as its text and count."""
     counts = {}
     for number in numbers:
         counts[range_of(number)] = counts.get(range_of(number), 0) + 1
-    most = max(counts.values())
-    for place in range(min(counts), max(counts) + 1):
-        count = counts.get(place, 0)
-        yield f"{range_text(place):16}{count:8} |{'@' * (52 * count // most):52}|\n"
+    return [(range_text(place), counts.get(place, 0)) for place in range(min(counts), max(counts) + 1)]
+
+
+def bars(ranges):
+    """The rows of ranges with their counts, each with a bar beside the greatest; none where there are no ranges."""
+    most = max((count for _, count in ranges), default=0)
+    for text, count in ranges:
+        yield f"{text:16}{count:8} |{'@' * (52 * count // most):52}|\n"
 
 
 def key_text(key):
@@ -41,14 +46,25 @@ def by_value(rows):
     return sorted(rows, key=lambda row: (row[1], [part.encode() if isinstance(part, str) else part for part in row[0]]))
 
 
+def number_rows(name, rows):
+    """The text of a map of numbers by its rows, pairs of a key and a number, as they stand; nothing where there are
+    none."""
+    return "".join(f"{name}{key_text(key)}: {number}\n" for key, number in rows) + "\n" if rows else ""
+
+
+def range_rows(name, rows):
+    """The text of a map of histograms by its rows, pairs of a key and the ranges with their counts, as they stand;
+    nothing where there are none."""
+    return "".join(f"{name}{key_text(key)}:\n" + "".join(bars(ranges)) for key, ranges in rows) + "\n" if rows else ""
+
+
 def map_text(name, rows, most=None):
     """The text of a map of numbers: all rows, or the greatest; nothing where there are none."""
     shown = by_value(rows.items())
-    shown = shown if most is None else shown[-most:]
-    return "".join(f"{name}{key_text(key)}: {number}\n" for key, number in shown) + "\n" if shown else ""
+    return number_rows(name, shown if most is None else shown[-most:])
 
 
 def histograms_text(name, rows):
     """The text of a map of histograms, from the numbers under each key; nothing where there are none."""
     shown = by_value((key, len(numbers)) for key, numbers in rows.items())
-    return "".join(f"{name}{key_text(key)}:\n" + "".join(histogram_rows(rows[key])) for key, _ in shown) + "\n" if shown else ""
+    return range_rows(name, [(key, ranges_of(rows[key])) for key, _ in shown])

@@ -121,6 +121,18 @@ class Cut(Parts):
             self.assertEqual(self.cut("--event", word), ticks, word)
         self.assertEqual(self.cut("--event", "tick,tock", "--pid", "40"), recording([(0, []), (2, []), (5, SECOND_CPU[:1])]))
 
+    def test_by_cpu(self):
+        """Events and marks alike; the other CPUs stay, without any. A CPU that the recording does not have is refused."""
+        self.assertEqual(self.cut("--cpu", "5"), recording([(0, []), (2, []), (5, SECOND_CPU)]))
+        self.assertEqual(self.cut("--cpu", "0,2", "--pid", "20"), recording([(0, FIRST[:2]), (2, []), (5, [])]))
+        self.assertEqual(self.cut("--cpu", "0", "--cpu", "5", "--cpu", "2"), WHOLE)
+        pathlib.Path(self.path).write_bytes(lossy())
+        self.assertEqual(self.cut("--cpu", "0"), recording([(0, marked([FIRST[0], *MARKS[1:3], *FIRST[1:]])), (2, []), (5, [])], magic=b"BTRACE02"))
+        self.assertEqual(self.cut("--cpu", "0", "--from", "8"), recording([(0, []), (2, []), (5, [])], start=8 * SECOND))
+        self.assertIn("btrecord: 2 of the 4 marks of lost events are kept\n", self.told("cut", self.path, "--cpu", "0", "-o", str(self.out))[2])
+        self.assertEqual(self.told("cut", self.path, "--cpu", "1", "-o", str(self.out)), (2, "", f"btrecord: {self.path}: the recording has no CPU 1; it has 0, 2, 5\n"))
+        self.assertEqual(self.told("dump", self.path, "--cpu", "2")[1], f"{'':>32} [002]      5.000000000: LOST 1 EVENT\n")
+
     def test_marks_stay_in_their_time(self):
         pathlib.Path(self.path).write_bytes(lossy())
         self.assertEqual(self.cut(), lossy())

@@ -37,7 +37,8 @@ class Install(unittest.TestCase):
         self.assertEqual(self.make("install"), (0, ""))
         self.assertEqual(self.make("install"), (0, ""))
         there = {str(path.relative_to(self.prefix)) for path in self.prefix.rglob("*")}
-        for wanted in ("bin/btreplay", "bin/btrecord", "share/man/man1/btreplay.1", "share/man/man1/btrecord.1", "lib/btreplay/bt_program",
+        for wanted in ("bin/btreplay", "bin/btrecord", "bin/btfleet", "share/man/man1/btfleet.1", "lib/btreplay/tools/btfleet/preload.py",
+                       "lib/btreplay/tools/reckoning/layout.py", "share/man/man1/btreplay.1", "share/man/man1/btrecord.1", "lib/btreplay/bt_program",
                        "lib/btreplay/tools/btrecord/__main__.py", "share/bash-completion/completions/btreplay", "lib/btreplay/version"):
             self.assertIn(wanted, there)
         self.assertFalse([name for name in there if "tests" in name or "__pycache__" in name])
@@ -69,6 +70,8 @@ class Install(unittest.TestCase):
         self.assertEqual((done.returncode, done.stdout, done.stderr), (0, b"text", b"btreplay: s.bt:1:1: the recording has no event of t:a:idle\n"))
         done = subprocess.run([str(self.prefix / "bin" / "btrecord"), "list", "r.btr"], cwd=self.folder, env=environment, stdout=subprocess.PIPE)
         self.assertEqual(done.stdout, b"tracepoint:a:idle\ntracepoint:a:seen\n")
+        done = subprocess.run([str(self.prefix / "bin" / "btfleet"), "run", "s.bt", "r.btr", "./r.btr"], cwd=self.folder, env=environment, stderr=subprocess.PIPE)
+        self.assertEqual((done.returncode, done.stderr), (1, b"btfleet: ./r.btr is named twice\n"))
         version = subprocess.run([str(self.prefix / "bin" / "btreplay"), "--version"], env=environment, stdout=subprocess.PIPE).stdout
         self.assertRegex(version.decode(), r"^btreplay[ ,].*\n$")
 

@@ -1,0 +1,119 @@
+"""The merged answers as the program prints them: as text, or as its JSON lines.
+
+Strings of scripts are bytes, and a letter stands here for each, as in the program's JSON lines.
+"""
+import json
+
+from btfleet.laws import Buckets
+from btfleet.plan import Printed
+from reckoning.layout import by_value, number_rows, range_rows
+
+
+def ordered(rows, top, law):
+    """The rows of a map as pairs of key and value, the greatest last: so many of them, or all for 0."""
+    sums = isinstance(law, Buckets)
+    order = by_value((key, sum(value.values()) if sums else value) for key, value in rows.items())
+    return [(key, rows[key]) for key, _ in order[-top if top else 0:]]
+
+
+def divided(number, div):
+    """A number divided towards 0."""
+    return number // div if number >= 0 else -(-number // div)
+
+
+def shown_rows(rows, printed, law):
+    """The rows that a print shows, with their values as they are shown: numbers, or lists of ranges with their
+    counts."""
+    found = ordered(rows, printed.top, law)
+    if not isinstance(law, Buckets):
+        return [(key, divided(value, printed.div)) for key, value in found]
+    counts = [(key, {place: count // printed.div for place, count in value.items()}) for key, value in found]
+    return [(key, law.rows(value)) for key, value in counts]
+
+
+class Lines:
+    """JSON lines, as the program writes them. Where hosts stay apart, a line that is no map's names its host."""
+
+    def line(self, found, host):
+        """The line of an object."""
+        found = found if host is None else {**found, "host": host}
+        return json.dumps(found, ensure_ascii=False, separators=(",", ":"), sort_keys=True) + "\n"
+
+    def items(self, items, host):
+        """What a recording printed by itself."""
+        return "".join(self.line(item, host) for item in items)
+
+    def rows(self, name, law, rows):
+        """The rows of a map; nothing where there are none."""
+        if isinstance(law, Buckets):
+            rows = [(key, [{"count": count, "label": label} for label, count in ranges]) for key, ranges in rows]
+        data = [{"key": key, "value": value} for key, value in rows]
+        return self.line({"data": data, "map": name, "type": "map"}, None) if data else ""
+
+    def lost_updates(self, name, count, host):
+        """How many updates of a map were lost."""
+        return self.line({"count": count, "map": name, "type": "lost_updates"}, host)
+
+    def coded(self, text):
+        """The bytes of what was printed."""
+        return text.encode()
+
+
+class Text:
+    """The text that the program prints. Where hosts stay apart, a line that is no map's begins with its host."""
+
+    def line(self, text, host):
+        """A text that may have several lines, or a part of one."""
+        if host is None or not text:
+            return text
+        return "".join(f"{host}: {line}\n" for line in text[:-1 if text.endswith("\n") else None].split("\n"))
+
+    def item(self, item):
+        """An item of what is printed."""
+        if item["type"] == "printf":
+            return item["data"]
+        return f"WARNING: loop limit reached at line {item['line']}\n" if item["type"] == "cut" else (
+            f"WARNING: {item['count']} events lost on cpu {item['cpu']}\n")
+
+    def items(self, items, host):
+        """What a recording printed by itself."""
+        return self.line("".join(map(self.item, items)), host)
+
+    def rows(self, name, law, rows):
+        """The rows of a map; nothing where there are none."""
+        return range_rows(name, rows) if isinstance(law, Buckets) else number_rows(name, rows)
+
+    def lost_updates(self, name, count, host):
+        """How many updates of a map were lost."""
+        return self.line(f"WARNING: {count} updates lost in {name}\n", host)
+
+    def coded(self, text):
+        """The bytes of what was printed."""
+        return text.encode("latin-1")
+
+
+def pieces(merged, form):
+    """What is printed of merged answers, piece by piece: for each print of END what the recordings print before it,
+    one behind the other, and its rows; what they print behind all, the maps of the end, and the lost updates."""
+    laws, parts = merged.plan.laws, merged.parts_in_order()
+
+    def items(place):
+        """What the recordings print by themselves before a print of END, or behind all."""
+        return "".join(form.items(part.items[place], part.host if merged.by_host else None) for part in parts)
+
+    for place, printed in enumerate(merged.plan.prints):
+        yield items(place)
+        law = laws[printed.name]
+        yield form.rows(printed.name, law, shown_rows(merged.printed.get(place, {}), printed, law))
+    yield items(-1)
+    for name, law in laws.items():
+        if name in merged.ends:
+            yield form.rows(name, law, shown_rows(merged.ends[name], Printed(name), law))
+    for host, name, count in merged.lost_updates():
+        yield form.lost_updates(name, count, host)
+
+
+def printed(merged, as_json):
+    """All that is printed of merged answers, in bytes, piece by piece."""
+    form = Lines() if as_json else Text()
+    return (form.coded(piece) for piece in pieces(merged, form))

@@ -1,0 +1,192 @@
+"""What the tests of btfleet stand on: the tools as `make install` puts them, with a stand-in for the program,
+recordings that say what it answers, and a scheduler with workers on the loopback.
+
+Each process that is begun here ends with the test, and by itself after some time, should the test be killed.
+"""
+import contextlib
+import json
+import os
+import pathlib
+import re
+import shutil
+import signal
+import subprocess
+import sys
+import tempfile
+import time
+import unittest
+
+TOOLS = pathlib.Path(__file__).resolve().parent.parent.parent
+TOP = TOOLS.parent
+if str(TOOLS) not in sys.path:
+    sys.path.insert(0, str(TOOLS))
+
+# A machine that does much else starts the engine in tens of seconds.
+MOST_SECONDS = 400
+COMMAND_SECONDS = 200
+START_SECONDS = 120
+WORKERS = ("web1", "web2", "web3")
+WITHOUT_DASK = f"{sys.executable} has no Dask (Debian's package python3-distributed brings it for /usr/bin/python3)"
+NO_PROGRAM = "there is no built program that knows run --json"
+
+# The stand-in notes each run. A recording of the tests is a file of lines that it prints, after a first line of shell
+# that it runs.
+PROGRAM = """#!/bin/sh
+[ "$1 $2 $3" = "run --serial --json" ] || { echo "usage: btreplay run [--serial] SCRIPT RECORDING" >&2; exit 1; }
+script=$4 recording=$5
+echo "$recording" >>"$(dirname "$0")/runs"
+eval "$(head -n 1 "$recording")"
+tail -n +2 "$recording"
+"""
+
+
+def has_dask():
+    """Whether this Python has the engine."""
+    with contextlib.suppress(ImportError):
+        import distributed  # noqa: F401
+        return True
+    return False
+
+
+def count_line(name, rows):
+    """A line of a map of numbers, by its rows as pairs of key and value."""
+    return json.dumps({"data": [{"key": list(key), "value": value} for key, value in rows], "map": name, "type": "map"})
+
+
+def printf_line(text):
+    """A line of printf."""
+    return json.dumps({"data": text, "type": "printf"})
+
+
+class Installed:
+    """A folder with the tools as they are installed, and a program: the stand-in, or another."""
+
+    def __init__(self, folder, program=None):
+        self.folder = pathlib.Path(folder)
+        self.lib = self.folder / "lib"
+        ignored = shutil.ignore_patterns("tests", "__pycache__")
+        for tool in ("btreplay", "btrecord", "btfleet", "reckoning"):
+            shutil.copytree(TOOLS / tool, self.lib / "tools" / tool, ignore=ignored)
+        if program:
+            (self.lib / "bt_program").symlink_to(program)
+        else:
+            (self.lib / "bt_program").write_text(PROGRAM)
+            (self.lib / "bt_program").chmod(0o755)
+
+    def write(self, name, content):
+        """Writes a file, and gives its path."""
+        path = self.folder / name
+        path.write_bytes(content if isinstance(content, bytes) else content.encode())
+        return str(path)
+
+    def recording(self, name, lines, does=":"):
+        """A recording that answers these lines, after the stand-in has done something."""
+        return self.write(name, "".join(f"{line}\n" for line in [does, *lines]))
+
+    def runs(self):
+        """The recordings that the stand-in was run over."""
+        path = self.lib / "runs"
+        return path.read_text().splitlines() if path.is_file() else []
+
+    def words(self, words):
+        """The words of a process that runs the command."""
+        return [sys.executable, "-B", str(self.lib / "tools" / "btfleet"), *words]
+
+    def run(self, *words, **how):
+        """Runs the command, and gives its status, what it printed, in bytes, and what it told."""
+        done = subprocess.run(self.words(words), stdin=subprocess.DEVNULL, stdout=subprocess.PIPE, stderr=subprocess.PIPE, cwd=self.folder,
+                              timeout=COMMAND_SECONDS, **how)
+        return done.returncode, done.stdout, done.stderr.decode()
+
+
+class Process:
+    """A process in a session of its own, with all that it begins. It ends by itself after some time."""
+
+    def __init__(self, words, log, folder):
+        with open(log, "wb") as file:
+            self.process = subprocess.Popen(["timeout", "-k", "1", str(MOST_SECONDS), *words], stdin=subprocess.DEVNULL, stdout=file, stderr=file,
+                                            cwd=folder, start_new_session=True)
+
+    def kill(self):
+        """Kills it with all that it began."""
+        with contextlib.suppress(ProcessLookupError):
+            os.killpg(self.process.pid, signal.SIGKILL)
+        self.process.wait()
+
+
+class Cluster:
+    """A scheduler and workers on the loopback, each with a name as if it were a host."""
+
+    def __init__(self, installed, names=WORKERS, with_btfleet=True):
+        self.installed, self.processes = installed, {}
+        self.folder = installed.folder
+        self.start("scheduler", "dask_scheduler", "--host", "127.0.0.1", "--port", "0", "--no-dashboard", "--dashboard-address", "127.0.0.1:0")
+        self.address = self.wait_for("scheduler", r"Scheduler at:\s+(tcp://\S+)")
+        for name in names:
+            self.start_worker(name, with_btfleet)
+        for name in names:
+            self.wait_for(name, r"(Registered to)")
+
+    def start(self, name, module, *words):
+        """Starts a part of the engine."""
+        self.processes[name] = Process([sys.executable, "-B", "-m", f"distributed.cli.{module}", *words], self.folder / f"{name}.log", self.folder)
+
+    def start_worker(self, name, with_btfleet=True, *words):
+        """Starts a worker with two runs at a time."""
+        known = ["--preload", str(self.installed.lib / "tools" / "btfleet" / "preload.py")] if with_btfleet else []
+        self.start(name, "dask_worker", self.address, *known, "--name", name, "--nthreads", "2", "--no-dashboard", "--host", "127.0.0.1",
+                   "--local-directory", str(self.folder), "--death-timeout", "60", *(words or ("--no-nanny",)))
+
+    def wait_for(self, name, pattern):
+        """Waits until a process has written what a pattern fits, and gives its group."""
+        until = time.monotonic() + START_SECONDS
+        while time.monotonic() < until:
+            text = (self.folder / f"{name}.log").read_text(errors="replace")
+            found = re.search(pattern, text)
+            if found:
+                return found[1]
+            if self.processes[name].process.poll() is not None:
+                break
+            time.sleep(0.05)
+        raise AssertionError(f"{name} did not come up:\n{text}")
+
+    def kill(self, *names):
+        """Kills processes by their names, or all."""
+        for name in names or list(self.processes):
+            self.processes.pop(name).kill()
+
+
+def real_program():
+    """The built program, or none where it does not know run --json."""
+    from btreplay import proved, unproved
+    named = os.environ.get("BTREPLAY_PROGRAM")
+    kept = unproved.cache() / f"unproved-{unproved.checksum()}"
+    for path in [named] if named else [proved.PROGRAM, kept]:
+        if os.access(path, os.X_OK):
+            with tempfile.NamedTemporaryFile(suffix=".bt") as script:
+                script.write(b"BEGIN { @ = count(); }")
+                script.flush()
+                words = [str(path), "run", "--serial", "--json", script.name, str(TOP / "examples" / "small.btr")]
+                done = subprocess.run(words, stdin=subprocess.DEVNULL, stdout=subprocess.PIPE, stderr=subprocess.DEVNULL, timeout=60)
+            if done.returncode == 0 and json.loads(done.stdout) == {"data": [{"key": [], "value": 1}], "map": "@", "type": "map"}:
+                return str(path)
+    return None
+
+
+@unittest.skipUnless(has_dask(), WITHOUT_DASK)
+class WithFolder(unittest.TestCase):
+    """A test with the tools in a folder of its own."""
+
+    program = None
+
+    def setUp(self):
+        folder = tempfile.TemporaryDirectory()
+        self.addCleanup(folder.cleanup)
+        self.installed = Installed(folder.name, self.program)
+        self.script = self.installed.write("s.bt", "t:a:b { @calls[comm] = count(); }")
+
+    def cluster(self, *names, **how):
+        """A scheduler and workers, which end with the test."""
+        cluster = Cluster(self.installed, names or WORKERS, **how)
+        self.addCleanup(cluster.kill)
+        return cluster
