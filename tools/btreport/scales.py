@@ -1,0 +1,63 @@
+"""Where things stand: the geometry of a page, and nothing that the program did not print."""
+import math
+import re
+
+LEVELS = 8
+UNITS = [(1_000_000_000, "s"), (1_000_000, "ms"), (1_000, "µs"), (1, "ns")]
+LETTERS = {"": 0, "K": 1, "M": 2, "G": 3, "T": 4, "P": 5, "E": 6}
+BOUND = re.compile(r"(-?\d+)([KMGTPE]?)")
+RANGE = re.compile(r"[\[(]([^,\])]+)(?:, ([^\])]+))?[\])]")
+
+
+def level(value, most):
+    """How strong the colour of a value is, from 1 to LEVELS, by its logarithm; 0 for what is not above 0."""
+    if value <= 0:
+        return 0
+    if most <= 1:
+        return LEVELS
+    return min(LEVELS, 1 + math.floor((LEVELS - 1) * math.log(value) / math.log(most) + 1e-9))
+
+
+def share(value, most):
+    """Which part of the greatest value a value is, from 0 to 1."""
+    return min(1.0, max(0.0, value / most)) if most > 0 else 0.0
+
+
+def bound(word):
+    """The number that a bound of a histogram's label is, or none for dots."""
+    found = BOUND.fullmatch(word)
+    return int(found[1]) * 1_024 ** LETTERS[found[2]] if found else None
+
+
+def bounds(label):
+    """The first number of a label's range and the one behind it; none where the range has no such end."""
+    found = RANGE.fullmatch(label)
+    if not found:
+        return None, None
+    low = bound(found[1])
+    return low, bound(found[2]) if found[2] else (None if low is None else low + 1)
+
+
+def following(labels):
+    """The labels of a histogram by their ranges, the lowest first, with none in the places of ranges that have no label here."""
+    ordered = sorted(labels, key=lambda label: (bounds(label)[0] is not None, bounds(label)[0] or 0))
+    ends = [bounds(label) for label in ordered]
+    steps = {high - low for low, high in ends if low is not None and high is not None}
+    is_by_steps = len(steps) == 1 and not any(low is not None and low >= 2 and high == 2 * low for low, high in ends)
+    found = []
+    for label, (low, _) in zip(ordered, ends):
+        before = bounds(found[-1])[1] if found else None
+        while before is not None and low is not None and before < low:
+            found.append(None)
+            before = before + min(steps) if is_by_steps else max(2 * before, 1)
+        found.append(label)
+    return found
+
+
+def ticks(span, most=5):
+    """The times to be marked on a time line, at most so many beside 0: each as its nanoseconds and a text."""
+    if span <= 0:
+        return [(0, "0")]
+    step = next(factor * 10 ** power for power in range(20) for factor in (1, 2, 5) if span <= most * factor * 10 ** power)
+    size, unit = next((size, unit) for size, unit in UNITS if step >= size)
+    return [(time, f"{time // size} {unit}" if time else "0") for time in range(0, span + 1, step)]
