@@ -4,6 +4,8 @@ import html
 from btreport.scales import ticks
 
 SEPARATED = 3
+# A time behind so many hundredths of the span stands left of its place.
+NEAR_THE_END = 94
 
 
 def escaped(text):
@@ -50,7 +52,8 @@ def rectangle(x, y, width, height, kind, title=None):
 
 def axis(span):
     """The times below a drawing of the whole span."""
-    marks = [f'<span style="left:{100 * time / max(span, 1):.3f}%">{escaped(word)}</span>' for time, word in ticks(span)]
+    places = [(100 * time / max(span, 1), word) for time, word in ticks(span)]
+    marks = [text("span", word, style=f"left:{place:.3f}%", class_="end" if place > NEAR_THE_END else None) for place, word in places]
     return element("div", *marks, class_="axis")
 
 

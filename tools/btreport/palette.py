@@ -36,9 +36,9 @@ svg{display:block;width:100%}rect{shape-rendering:crispEdges}
 .drawn{position:relative;min-width:0}.lane>.drawn>svg{background:var(--gap)}
 .axis{position:relative;height:20px;font-size:12px;color:var(--quiet)}
 .axis span{position:absolute;top:1px;transform:translateX(-50%);white-space:nowrap}
-.axis span:first-child{transform:none}.axis span.last{right:0;transform:none}
-.axis span:not(:first-child)::before{content:"";position:absolute;left:50%;top:-3px;height:4px;border-left:1px solid var(--quiet)}
-.axis span.last::before{display:none}
+.axis span:first-child{transform:none}.axis .end{transform:translateX(-100%)}.axis .last{right:0;transform:none}
+.axis span::before{content:"";position:absolute;left:50%;top:-3px;height:4px;border-left:1px solid var(--quiet)}
+.axis span:first-child::before{left:0}.axis .end::before{left:100%}.axis .last::before{display:none}
 .grid{grid-template-columns:7em minmax(0,1fr)}.grid>.label{padding:0;text-align:right}
 .grid>.label span{display:block;height:15px;line-height:15px;font-size:12px;white-space:nowrap;overflow:hidden;text-overflow:ellipsis}
 .legend{display:flex;align-items:center;gap:8px;font-size:12px;color:var(--quiet);margin:0 0 6px}.swatches{display:inline-block;width:120px}
