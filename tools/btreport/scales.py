@@ -54,10 +54,10 @@ def following(labels):
     return found
 
 
-def ticks(span, most=5):
+def ticks(span, most=4):
     """The times to be marked on a time line, at most so many beside 0: each as its nanoseconds and a text."""
     if span <= 0:
         return [(0, "0")]
     step = next(factor * 10 ** power for power in range(20) for factor in (1, 2, 5) if span <= most * factor * 10 ** power)
-    size, unit = next((size, unit) for size, unit in UNITS if step >= size)
-    return [(time, f"{time // size} {unit}" if time else "0") for time in range(0, span + 1, step)]
+    size, unit = next((size, unit) for size, unit in UNITS if span >= size)
+    return [(time, f"{time / size:g} {unit}" if time else "0") for time in range(0, span + 1, step)]

@@ -28,7 +28,17 @@ SECONDS = 300
 LEAST_FONT = 12
 LEAST_CONTRAST = 4.5
 
-# It looks at the page as it is laid out, drags over a window of the time line, and writes what it found into the page.
+# The page is opened in a frame, since a window of the browser cannot be narrow. The frame's page writes down what it is told.
+FRAME = """<!DOCTYPE html><body style="margin:0"><script>
+addEventListener("message", function (event) {
+  const told = document.createElement("pre");
+  told.id = "probe";
+  told.textContent = event.data;
+  document.body.append(told);
+});
+</script><iframe src="page.html" style="width:%dpx;height:900px;border:0"></iframe>"""
+
+# It looks at the page as it is laid out, drags over a window of the time line, and tells what it found.
 PROBE = r"""
 (function () {
   "use strict";
@@ -71,12 +81,9 @@ PROBE = r"""
   }
   const before = document.getElementById("cut").textContent;
   point("pointerdown", 0.5); point("pointermove", 0.3); point("pointerup", 0.25);
-  const told = document.createElement("pre");
-  told.id = "probe";
-  told.textContent = JSON.stringify({least: Math.min(...fonts), faint: faint, overlaps: overlaps, panels: panels, before: before,
+  window.parent.postMessage(JSON.stringify({least: Math.min(...fonts), faint: faint, overlaps: overlaps, panels: panels, before: before,
     cut: document.getElementById("cut").textContent, selected: document.querySelector(".selected").getBoundingClientRect().width / box.width,
-    width: window.innerWidth, wide: document.documentElement.scrollWidth, dark: matchMedia("(prefers-color-scheme: dark)").matches});
-  document.body.append(told);
+    width: window.innerWidth, wide: document.documentElement.scrollWidth, dark: matchMedia("(prefers-color-scheme: dark)").matches}), "*");
 })();
 """
 
@@ -132,10 +139,12 @@ class Browser(unittest.TestCase):
     def opened(self, markup, width, is_dark):
         """What the probe found in a page that is opened at a width, and what the browser's console had."""
         with tempfile.TemporaryDirectory() as folder:
-            path = pathlib.Path(folder, "page.html")
-            path.write_text(markup)
-            words = [BROWSER, "--headless=new", "--no-sandbox", "--disable-gpu", "--hide-scrollbars", f"--user-data-dir={folder}/user", f"--window-size={width},900",
-                     f"--blink-settings=preferredColorScheme={0 if is_dark else 1}", "--enable-logging=stderr", "--v=0", "--dump-dom", path.as_uri()]
+            pathlib.Path(folder, "page.html").write_text(markup)
+            frame = pathlib.Path(folder, "frame.html")
+            frame.write_text(FRAME % width)
+            words = [BROWSER, "--headless=new", "--no-sandbox", "--disable-gpu", "--hide-scrollbars", f"--user-data-dir={folder}/user", f"--window-size={max(width, 600)},900",
+                     f"--blink-settings=preferredColorScheme={0 if is_dark else 1}", "--enable-logging=stderr", "--v=0", "--virtual-time-budget=5000",
+                     "--dump-dom", frame.as_uri()]
             done = subprocess.run(words, stdin=subprocess.DEVNULL, stdout=subprocess.PIPE, stderr=subprocess.PIPE, timeout=SECONDS, env={**os.environ, "HOME": folder})
         console = [line for line in done.stderr.decode(errors="replace").splitlines() if re.search(r"CONSOLE|Uncaught|Refused to", line)]
         probe = re.search(r'<pre id="probe">(.*?)</pre>', done.stdout.decode(errors="replace"), re.DOTALL)

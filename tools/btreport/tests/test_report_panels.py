@@ -180,8 +180,9 @@ class Scales(unittest.TestCase):
     def test_ticks(self):
         self.assertEqual(ticks(0), [(0, "0")])
         self.assertEqual(ticks(51_927_737), [(0, "0"), (20_000_000, "20 ms"), (40_000_000, "40 ms")])
-        self.assertEqual(ticks(240_000)[1], (50_000, "50 µs"))
-        self.assertEqual([word for _, word in ticks(5_000_000_000)], ["0", "1 s", "2 s", "3 s", "4 s", "5 s"])
+        self.assertEqual(ticks(240_000)[1], (100_000, "100 µs"))
+        self.assertEqual([word for _, word in ticks(2_000_000)], ["0", "0.5 ms", "1 ms", "1.5 ms", "2 ms"])
+        self.assertEqual([word for _, word in ticks(7_009_825_187)], ["0", "2 s", "4 s", "6 s"])
 
 
 if __name__ == "__main__":
