@@ -38,7 +38,7 @@ def heat_maps(totals, details, span):
                      heat_map(found[which], CELLS, axis(span), "calls"), class_="map") for which in greatest(times, MOST_CALLS) if which in found]
     rest = len(times) - len(drawn)
     told = f" {rest} more calls took less time, and are in the numbers." if rest else ""
-    rows = [[escaped(call(which)), number(which), number(times[which]), number(counts.get(which, 0))] for which in greatest(times, len(times))]
+    rows = [[escaped(call(which)), str(which), number(times[which]), number(counts.get(which, 0))] for which in greatest(times, len(times))]
     body = element("div", *drawn, class_="maps") + folded(f"the numbers, {len(rows)} calls", table(["call", "number", "ns in all", "calls"], rows))
     return Panel("calls", "System calls, by their length", body, [totals, details],
                  "The calls that took most time in all. Names are those of x86-64. Ranges are nanoseconds." + told)
@@ -126,7 +126,7 @@ def slow_lines(answer, parts):
 
 def slowest(asked):
     """A table of the slowest calls."""
-    rows = [[number(int(begin)), number(int(took)), escaped(call(int(which))), result_of(int(result)), escaped(comm), number(int(thread)), number(int(process))]
+    rows = [[number(int(begin)), number(int(took)), escaped(call(int(which))), result_of(int(result)), escaped(comm), thread, process]
             for begin, took, process, thread, which, result, comm in slow_lines(asked.answer, 7)]
     return Panel("slow_calls", "The slowest system calls", table(["began, ns", "took, ns", "call", "result", "thread", "number", "process"], rows), [asked],
                  "When each began is counted from the start of the recording.")
@@ -141,7 +141,7 @@ def errors(asked):
     """A table of the calls that fail, by error."""
     failed = asked.answer.values("@failed")
     keys = greatest(failed, MOST_ERRORS)
-    rows = [[escaped(error(which)), number(which), escaped(call(name)), number(name), number(failed[name, which])] for name, which in keys]
+    rows = [[escaped(error(which)), str(which), escaped(call(name)), str(name), number(failed[name, which])] for name, which in keys]
     rest = len(failed) - len(rows)
     body = table(["error", "number", "call", "number", "times"], rows) if rows else text("p", "no call failed", class_="quiet")
     return Panel("errors", "System calls that fail", body + (text("p", f"{rest} rarer ones left out", class_="red") if rest else ""), [asked])

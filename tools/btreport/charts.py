@@ -46,6 +46,8 @@ def histogram(buckets):
 
 def legend(least, most, what):
     """What the colours of a heat map mean: its least and its greatest number."""
+    if least == most:
+        return element("div", element("b", class_=f"dot h{LEVELS}"), number(most), " " + escaped(what), class_="legend")
     swatches = drawing(LEVELS, 1, 12, "".join(rectangle(place, 0, 1, 1, f"h{place + 1}") for place in range(LEVELS)), "the colours")
     return element("div", number(least), element("span", swatches, class_="swatches"), number(most), " " + escaped(what), class_="legend")
 

@@ -4,6 +4,7 @@ import html
 from btreport.scales import ticks
 
 SEPARATED = 3
+NUMBER = '<span class="n">'
 # A time behind so many hundredths of the span stands left of its place.
 NEAR_THE_END = 94
 
@@ -30,7 +31,7 @@ def number(value):
     sign, digits = (digits[:1], digits[1:]) if digits[:1] == "-" else ("", digits)
     first = len(digits) % SEPARATED or SEPARATED
     groups = [digits[at:at + SEPARATED] for at in range(first, len(digits), SEPARATED)]
-    return f'<span class="n">{sign}{digits[:first]}' + "".join(f"<i>{group}</i>" for group in groups) + "</span>"
+    return f"{NUMBER}{sign}{digits[:first]}" + "".join(f"<i>{group}</i>" for group in groups) + "</span>"
 
 
 def value(found):
@@ -69,6 +70,8 @@ def folded(title, content, **attributes):
 
 def table(heads, rows, kind=""):
     """A table of markup, wider than the page where it has to be."""
-    head = element("tr", *(text("th", title) for title in heads)) if heads else ""
+    first = rows[0] if rows else []
+    is_number = [cell.startswith(NUMBER) for cell in first] + [False] * (len(heads) - len(first))
+    head = element("tr", *(text("th", title, class_="right" if right else None) for title, right in zip(heads, is_number))) if heads else ""
     body = "".join(element("tr", *(element("td", cell) for cell in row)) for row in rows)
     return element("div", element("table", head, body), class_=f"wide {kind}".strip())

@@ -3,10 +3,10 @@
 # For light and dark: the ground, boxes, lines, texts, quiet texts and red.
 GROUNDS = {"ground": ("#f7f7f5", "#16181c"), "box": ("#ffffff", "#1f2228"), "line": ("#d9d9d4", "#3a3f48"), "text": ("#1c1e21", "#e6e7ea"),
            "quiet": ("#5c6069", "#a3a9b5"), "red": ("#b3151c", "#ff8278"), "redground": ("#fdeceb", "#43201f"), "link": ("#1f5fae", "#8ab8f5"),
-           "busy": ("#b9cfe8", "#36506f"), "gap": ("#eeeeea", "#262a31"), "loss": ("#d3222a", "#ff6a5e")}
+           "busy": ("#b9cfe8", "#36506f"), "gap": ("#f1f1ee", "#262a31"), "loss": ("#d3222a", "#ff6a5e")}
 # From the least to the greatest.
-HEAT = [("#e4eefb", "#1e2f4a"), ("#c5dcf5", "#24446e"), ("#9cc3ec", "#2b5c93"), ("#6ea5de", "#3478b5"), ("#4485c8", "#4596cf"),
-        ("#2a66ab", "#6ab4df"), ("#1b4a86", "#9fd3ea"), ("#102f5c", "#dbf2f7")]
+HEAT = [("#bcd6f2", "#27496f"), ("#9cc3ec", "#2b5c8e"), ("#7db0e4", "#2f70aa"), ("#5c98d6", "#3a86c4"), ("#3f7fc2", "#559fd4"),
+        ("#2a66ab", "#7abce2"), ("#1b4a86", "#a9d8ec"), ("#0f2c57", "#e2f5f9")]
 # What a thread does.
 STATES = {"run": ("#2f7d4f", "#58b37c"), "wait": ("#d98a1f", "#eba94a"), "io": ("#b0413e", "#e07a76"), "sleep": ("#a9b4c4", "#5d6878"),
           "idle": ("#d2d7de", "#444c58"), "else": ("#8d6bb0", "#b596d6"), "request": ("#3573b9", "#6da6e4"), "error": ("#b3151c", "#ff8278"),
@@ -55,7 +55,7 @@ svg{display:block;width:100%}rect{shape-rendering:crispEdges}
 .paler{opacity:.72}.switch input{margin:0 4px 0 0}.switch label{margin-right:14px}.shown{display:none;margin-top:6px}
 #by_time:checked~.by_time,#by_count:checked~.by_count{display:block}
 .wide{overflow-x:auto;max-width:100%}table{border-collapse:collapse;font-size:13px}
-th{text-align:left;font-weight:600;color:var(--quiet)}th,td{padding:2px 14px 2px 0;border-bottom:1px solid var(--line);vertical-align:top}
+th{text-align:left;font-weight:600;color:var(--quiet)}th.right{text-align:right}th,td{padding:2px 14px 2px 0;border-bottom:1px solid var(--line);vertical-align:top}
 td:has(>.n:only-child){text-align:right}.lines td{white-space:nowrap}
 .mono{font-family:ui-monospace,"DejaVu Sans Mono",Consolas,monospace;font-size:12px;white-space:pre}
 details{margin:8px 0 0}summary{cursor:pointer;color:var(--link)}

@@ -47,14 +47,6 @@ interval:us:TICK {
 THREADS = """\
 // For how many nanoseconds is each thread on a CPU, waits for one, and is blocked, and how do waits for a CPU go over
 // time? A span counts where both its ends are in the recording.
-WAKEUPS {
-    if (@left[args.pid] != 0) {
-        @blocked[args.comm, args.pid, @why[args.pid]] = sum(nsecs - @left[args.pid]);
-        delete(@left[args.pid]);
-    }
-    @ready[args.pid] = nsecs;
-}
-
 tracepoint:sched:sched_switch {
     if (args.prev_pid != 0) {
         if (@runs[cpu] == args.prev_pid) {
@@ -83,6 +75,14 @@ tracepoint:sched:sched_switch {
     }
     @since[cpu] = nsecs;
     @runs[cpu] = args.next_pid;
+}
+
+WAKEUPS {
+    if (@left[args.pid] != 0) {
+        @blocked[args.comm, args.pid, @why[args.pid]] = sum(nsecs - @left[args.pid]);
+        delete(@left[args.pid]);
+    }
+    @ready[args.pid] = nsecs;
 }
 
 END {
@@ -227,8 +227,9 @@ tracepoint:sched:sched_process_exit {
 
 RUNS_OF_THREADS = """\
 // Which thread runs when on which CPU? Runs shorter than RUN nanoseconds are counted. What runs last stands in the maps.
+// Before the first switch of a CPU the thread runs that leaves it there.
 tracepoint:sched:sched_switch {
-    if (args.prev_pid != 0) {
+    if (args.prev_pid != 0 && (@runs[cpu] == args.prev_pid || @since[cpu] == 0)) {
         if (elapsed - @since[cpu] >= RUN) {
             printf("ran %d %d %d %d %s\\n", cpu, @since[cpu], elapsed - @since[cpu], args.prev_pid, args.prev_comm);
         } else {

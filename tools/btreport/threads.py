@@ -40,7 +40,7 @@ def who(asked):
     most = max((sum(parts.values()) for _, parts in shown), default=0)
     drawn = [stacked(f"{comm} {thread}", [(kind, name, parts[kind]) for kind, name in KINDS if kind in parts], most)
              for (comm, thread), parts in shown]
-    rows = [[escaped(comm), number(thread)] + [number(parts[kind]) if kind in parts else "" for kind, _ in KINDS] for (comm, thread), parts in threads]
+    rows = [[escaped(comm), str(thread)] + [number(parts[kind]) if kind in parts else "" for kind, _ in KINDS] for (comm, thread), parts in threads]
     all_of = folded(f"the numbers, {len(threads)} threads", table(["thread", "number"] + [name for _, name in KINDS], rows[:MOST_ROWS])
                     + left_out(len(rows) - MOST_ROWS, "threads"))
     rest = len(threads) - len(shown)
@@ -97,4 +97,5 @@ def gantt(asked, span):
     key += [element("span", element("b", class_="dot t0"), "other threads", class_="part")]
     body = element("div", *lanes, lane("", axis(span)), class_="lanes") + element("div", *key, class_="parts")
     return Panel("runs", "Which thread runs when", body, [asked],
-                 "Runs shorter than a thousandth of the span are counted in the strip below each CPU. Where nothing is drawn the CPU is idle.")
+                 "Runs shorter than a thousandth of the span are counted in the strip below each CPU. Nothing is drawn where a CPU is idle, or where "
+                 "the recording lacks the switch at which a run began.")
