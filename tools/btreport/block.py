@@ -30,7 +30,7 @@ def heat_maps(asked, span):
 
 def slowest(asked):
     """A table of the slowest requests."""
-    rows = [[number(int(begin)), number(int(took)), escaped(kind), number(int(size)), escaped(device(int(dev))), sector, escaped(comm)]
+    rows = [[number(int(begin)), number(int(took)), escaped(kind), number(int(size)), escaped(device(int(dev))), escaped(sector), escaped(comm)]
             for begin, took, dev, sector, size, kind, comm in slow_lines(asked.answer, 7)]
     return Panel("slow_requests", "The slowest block requests",
                  table(["issued, ns", "took, ns", "kind", "bytes", "device", "sector", "thread"], rows), [asked])

@@ -126,7 +126,7 @@ def slow_lines(answer, parts):
 
 def slowest(asked):
     """A table of the slowest calls."""
-    rows = [[number(int(begin)), number(int(took)), escaped(call(int(which))), result_of(int(result)), escaped(comm), thread, process]
+    rows = [[number(int(begin)), number(int(took)), escaped(call(int(which))), result_of(int(result)), escaped(comm), escaped(thread), escaped(process)]
             for begin, took, process, thread, which, result, comm in slow_lines(asked.answer, 7)]
     return Panel("slow_calls", "The slowest system calls", table(["began, ns", "took, ns", "call", "result", "thread", "number", "process"], rows), [asked],
                  "When each began is counted from the start of the recording.")

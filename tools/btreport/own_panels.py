@@ -15,12 +15,12 @@ def key_text(key):
 
 def cells_of(row):
     """The cells of a map's row."""
-    return [value(part) for part in row.key] + [value(row.value)]
+    return [escaped(part) for part in row.key] + [value(row.value)]
 
 
 def cells_of_histograms(rows):
     """The cells of the rows of histograms."""
-    return [[value(part) for part in row.key] + [escaped(label), number(count)] for row in rows for label, count in row.value]
+    return [[escaped(part) for part in row.key] + [escaped(label), number(count)] for row in rows for label, count in row.value]
 
 
 def numbers_of_histograms(rows):
