@@ -10,18 +10,23 @@ class NotOfTheProgram(Exception):
 
 
 def text_of(characters):
-    """A text as people read it. Each character of the program's lines is a byte; what cannot be seen is spelled by its number."""
+    """A text as people read it. Each character of the program's lines is a byte; what cannot be seen is spelled by its
+    number."""
     try:
         text = characters.encode("latin-1").decode("utf-8", "backslashreplace")
     except UnicodeEncodeError as fault:
         raise NotOfTheProgram(f"a text with the character {fault.object[fault.start]!r}, which is no byte") from fault
-    return text if text.isprintable() else "".join(letter if letter.isprintable() else f"\\x{ord(letter):02x}" for letter in text)
+    return (
+        text
+        if text.isprintable()
+        else "".join(letter if letter.isprintable() else f"\\x{ord(letter):02x}" for letter in text)
+    )
 
 
 @dataclass(frozen=True)
 class Row:
-    """A row of a map: the parts of its key, numbers and texts, and its value, a number, a text, or the pairs of label and count of a
-    histogram."""
+    """A row of a map: the parts of its key, numbers and texts, and its value, a number, a text, or the pairs of label
+    and count of a histogram."""
 
     key: tuple
     value: object

@@ -20,17 +20,47 @@ def heat_maps(asked, span):
     for (kind, cell), buckets in asked.answer.values("@took").items():
         found.setdefault(kind, []).append((cell, buckets))
     kinds = sorted(found, key=lambda kind: (-counts.get(kind, 0), kind))
-    drawn = [element("div", element("h3", escaped(kind), element("small", number(counts.get(kind, 0)), " issued")),
-                     heat_map(found[kind], CELLS, axis(span), "requests"), class_="map") for kind in kinds[:MOST_KINDS]]
+    drawn = [
+        element(
+            "div",
+            element("h3", escaped(kind), element("small", number(counts.get(kind, 0)), " issued")),
+            heat_map(found[kind], CELLS, axis(span), "requests"),
+            class_="map",
+        )
+        for kind in kinds[:MOST_KINDS]
+    ]
     rest = len(kinds) - len(drawn)
-    body = element("div", *drawn, class_="maps") if drawn else text("p", "no request was seen from its issue to its completion", class_="quiet")
-    return Panel("block", "Block requests, by their length", body + (text("p", f"{rest} rarer kinds left out", class_="red") if rest else ""), [asked],
-                 "By kind: R is a read, W a write, D a discard, F a flush, S synchronous. Ranges are nanoseconds.")
+    body = (
+        element("div", *drawn, class_="maps")
+        if drawn
+        else text("p", "no request was seen from its issue to its completion", class_="quiet")
+    )
+    return Panel(
+        "block",
+        "Block requests, by their length",
+        body + (text("p", f"{rest} rarer kinds left out", class_="red") if rest else ""),
+        [asked],
+        "By kind: R is a read, W a write, D a discard, F a flush, S synchronous. Ranges are nanoseconds.",
+    )
 
 
 def slowest(asked):
     """A table of the slowest requests."""
-    rows = [[number(int(begin)), number(int(took)), escaped(kind), number(int(size)), escaped(device(int(dev))), escaped(sector), escaped(comm)]
-            for begin, took, dev, sector, size, kind, comm in slow_lines(asked.answer, 7)]
-    return Panel("slow_requests", "The slowest block requests",
-                 table(["issued, ns", "took, ns", "kind", "bytes", "device", "sector", "thread"], rows), [asked])
+    rows = [
+        [
+            number(int(begin)),
+            number(int(took)),
+            escaped(kind),
+            number(int(size)),
+            escaped(device(int(dev))),
+            escaped(sector),
+            escaped(comm),
+        ]
+        for begin, took, dev, sector, size, kind, comm in slow_lines(asked.answer, 7)
+    ]
+    return Panel(
+        "slow_requests",
+        "The slowest block requests",
+        table(["issued, ns", "took, ns", "kind", "bytes", "device", "sector", "thread"], rows),
+        [asked],
+    )

@@ -21,10 +21,12 @@ from btreport.running import Program
 from btreport.words import parsed
 
 # What is not asked where a recording lacks tracepoints, and those that it takes.
-LACKING = {"threads": "waits for a CPU and times of threads (sched:sched_switch, sched:sched_wakeup)",
-           "calls": "system calls (raw_syscalls:sys_enter, raw_syscalls:sys_exit)",
-           "block": "block requests (block:block_rq_issue, block:block_rq_complete)",
-           "processes": "processes (sched:sched_process_fork, sched:sched_process_exec, sched:sched_process_exit)"}
+LACKING = {
+    "threads": "waits for a CPU and times of threads (sched:sched_switch, sched:sched_wakeup)",
+    "calls": "system calls (raw_syscalls:sys_enter, raw_syscalls:sys_exit)",
+    "block": "block requests (block:block_rq_issue, block:block_rq_complete)",
+    "processes": "processes (sched:sched_process_fork, sched:sched_process_exec, sched:sched_process_exit)",
+}
 
 
 def tell(line):
@@ -65,16 +67,17 @@ def ask(program, recorded, own):
     """The answers by the names of the questions, and those of the user's own scripts in their order."""
     first = first_questions(recorded)
     found = program.ask_all(first + own)
-    asked = {answered.name: answered for answered in found[:len(first)]}
+    asked = {answered.name: answered for answered in found[: len(first)]}
     if "calls" in asked and asked["calls"].answer:
         which, processes_chosen = calls.chosen(asked["calls"].answer)
         if which:
             asked["details"] = program.ask(details(recorded, which, processes_chosen))
-    return asked, found[len(first):]
+    return asked, found[len(first) :]
 
 
 def panels_of(line, asked):
     """The panels that follow the time line, of those questions that have answers."""
+
     def answered(*names):
         return all(name in asked and asked[name].answer for name in names)
 
@@ -97,12 +100,17 @@ def panels_of(line, asked):
         found.append(block.slowest(asked["block"]))
     if answered("processes"):
         found.append(processes.tree(asked["processes"]))
-    return found + [Panel(f"refused_{name}", f"Not drawn: {name}", "", [one]) for name, one in asked.items() if one.answer is None]
+    return found + [
+        Panel(f"refused_{name}", f"Not drawn: {name}", "", [one]) for name, one in asked.items() if one.answer is None
+    ]
 
 
 def own_panels(own):
     """The panels of the user's own scripts."""
-    return [Panel(f"own_{place}", os.path.basename(one.name), body_of(one.answer) if one.answer else "", [one]) for place, one in enumerate(own, 1)]
+    return [
+        Panel(f"own_{place}", os.path.basename(one.name), body_of(one.answer) if one.answer else "", [one])
+        for place, one in enumerate(own, 1)
+    ]
 
 
 def report(program, path, scripts, version, is_proved):
@@ -114,7 +122,11 @@ def report(program, path, scripts, version, is_proved):
     line = time_line.time_line_of(asked["time_line"].answer)
     name = os.path.basename(path)
     cut = f"{'python3 tools/btrecord' if is_checkout() else 'btrecord'} cut {shlex.quote(path)}"
-    not_asked = [f"Not asked, as the recording has no tracepoints for it: {told}" for which, told in LACKING.items() if which not in asked]
+    not_asked = [
+        f"Not asked, as the recording has no tracepoints for it: {told}"
+        for which, told in LACKING.items()
+        if which not in asked
+    ]
     panels = [time_line.head(name, line, asked["time_line"], not_asked), time_line.time_line(line, asked, cut)]
     panels += panels_of(line, asked) + own_panels(own)
     panels.append(foot(path, [*asked.values(), *own], version, is_proved))
@@ -128,7 +140,9 @@ def program_of(is_unproved):
         yield proved.program(), proved.version()
         return
     if not is_checkout():
-        raise Refused("--unproved is for a checkout of the repository; the program that is installed here is proved", WORDS)
+        raise Refused(
+            "--unproved is for a checkout of the repository; the program that is installed here is proved", WORDS
+        )
     tell("this build is not proved")
     with unproved.build() as path:
         yield path, f"btreplay at {proved.commit()}, by a build that is not proved"
@@ -165,7 +179,11 @@ def main(words):
         return WRITE
     except OSError as error:
         is_lacking = error.filename == "rt" and isinstance(error, FileNotFoundError)
-        tell("the toolchain is not there: rt is not on the path" if is_lacking else f"{error.filename or 'the program'}: {error.strerror}")
+        tell(
+            "the toolchain is not there: rt is not on the path"
+            if is_lacking
+            else f"{error.filename or 'the program'}: {error.strerror}"
+        )
         return PROGRAM
     except MemoryError:
         tell("out of memory")

@@ -11,9 +11,10 @@ ENDINGS = (".btr",)
 
 
 def at_default(recording):
-    """The name of the page where none is given: the recording's, in the caller's folder. What is there already stays."""
+    """The name of the page where none is given: the recording's, in the caller's folder. What is there already
+    stays."""
     name = os.path.basename(recording)
-    stem = next((name[:-len(ending)] for ending in ENDINGS if name.endswith(ending) and name != ending), name)
+    stem = next((name[: -len(ending)] for ending in ENDINGS if name.endswith(ending) and name != ending), name)
     path = f"{stem or 'report'}.html"
     if os.path.lexists(path):
         raise Refused(f"{path} is there already; name it by -o to put the report in its place", WORDS)
@@ -27,9 +28,11 @@ def written(path):
         yield write_to_standard
         return
     with Output(path) as output:
+
         def write(contents):
             with output.writing() as file:
                 file.write(contents)
+
         yield write
 
 

@@ -20,7 +20,11 @@ def cells_of(row):
 
 def cells_of_histograms(rows):
     """The cells of the rows of histograms."""
-    return [[escaped(part) for part in row.key] + [escaped(label), number(count)] for row in rows for label, count in row.value]
+    return [
+        [escaped(part) for part in row.key] + [escaped(label), number(count)]
+        for row in rows
+        for label, count in row.value
+    ]
 
 
 def numbers_of_histograms(rows):
@@ -33,7 +37,9 @@ def numbers_of_histograms(rows):
 def printed_map(rows):
     """A map that was printed once."""
     if any(isinstance(row.value, list) for row in rows):
-        drawn = [element("div", text("h4", key_text(row.key)), histogram(row.value)) for row in rows[::-1][:MOST_HISTOGRAMS]]
+        drawn = [
+            element("div", text("h4", key_text(row.key)), histogram(row.value)) for row in rows[::-1][:MOST_HISTOGRAMS]
+        ]
         return element("div", *drawn, class_="histograms") + numbers_of_histograms(rows)
     if all(isinstance(row.value, int) for row in rows):
         return bars(rows, key_text) + numbers(rows, [], cells_of)
@@ -42,7 +48,9 @@ def printed_map(rows):
 
 def under_prints(count):
     """What stands under a drawing of several prints of a map, the first at the left."""
-    return element("div", text("span", "first print", style="left:0"), text("span", f"print {count}", class_="last"), class_="axis")
+    return element(
+        "div", text("span", "first print", style="left:0"), text("span", f"print {count}", class_="last"), class_="axis"
+    )
 
 
 def histograms_over_prints(prints):
@@ -62,20 +70,30 @@ def numbers_over_prints(prints):
         totals[row.key] = totals.get(row.key, 0) + row.value
     keys = sorted(totals, key=totals.get, reverse=True)[:MOST_BARS]
     names = {key: key_text(key) for key in keys}
-    columns = [(place, [(names[row.key], row.value) for row in rows if row.key in names]) for place, rows in enumerate(prints)]
+    columns = [
+        (place, [(names[row.key], row.value) for row in rows if row.key in names]) for place, rows in enumerate(prints)
+    ]
     counts = [count for _, found in columns for _, count in found if count > 0]
-    under = legend(min(counts), max(counts), "in a cell") if counts else text("p", "nothing was counted", class_="quiet")
-    return grid(columns, [names[key] for key in reversed(keys)], len(prints), under_prints(len(prints)), under) \
-        + left_out(len(totals) - len(keys), "keys")
+    under = (
+        legend(min(counts), max(counts), "in a cell") if counts else text("p", "nothing was counted", class_="quiet")
+    )
+    return grid(
+        columns, [names[key] for key in reversed(keys)], len(prints), under_prints(len(prints)), under
+    ) + left_out(len(totals) - len(keys), "keys")
 
 
 def several_prints(prints):
     """A map that was printed several times."""
     is_histogram = any(isinstance(row.value, list) for rows in prints for row in rows)
     drawn = histograms_over_prints(prints) if is_histogram else numbers_over_prints(prints)
-    cells = [[str(place)] + cells for place, rows in enumerate(prints, 1)
-             for cells in (cells_of_histograms(rows) if is_histogram else map(cells_of, rows))]
-    return drawn + folded(f"the numbers, {len(prints)} prints", table([], cells[:MOST_ROWS]) + left_out(len(cells) - MOST_ROWS, "rows"))
+    cells = [
+        [str(place)] + cells
+        for place, rows in enumerate(prints, 1)
+        for cells in (cells_of_histograms(rows) if is_histogram else map(cells_of, rows))
+    ]
+    return drawn + folded(
+        f"the numbers, {len(prints)} prints", table([], cells[:MOST_ROWS]) + left_out(len(cells) - MOST_ROWS, "rows")
+    )
 
 
 def lines_of(answer):
@@ -93,15 +111,22 @@ def lines_of(answer):
 def has_heads(lines):
     """Whether the first line has the heads of a table: words without a digit, as many as each other line has."""
     words = [line.split() for line, is_loss in lines if not is_loss]
-    return len(words) > 1 and not any(letter.isdigit() for letter in lines[0][0]) and len(words[0]) > 1 \
+    return (
+        len(words) > 1
+        and not any(letter.isdigit() for letter in lines[0][0])
+        and len(words[0]) > 1
         and all(len(found) == len(words[0]) for found in words)
+    )
 
 
 def printed_lines(lines):
     """The lines of text that a script printed, as a table."""
     shown = lines[:MOST_LINES]
     if has_heads(lines):
-        rows = [[escaped(word) for word in line.split()] if not is_loss else [text("span", line, class_="red")] for line, is_loss in shown[1:]]
+        rows = [
+            [escaped(word) for word in line.split()] if not is_loss else [text("span", line, class_="red")]
+            for line, is_loss in shown[1:]
+        ]
         return table(lines[0][0].split(), rows, "lines") + left_out(len(lines) - len(shown), "lines")
     rows = [[text("span", line, class_="red" if is_loss else "mono")] for line, is_loss in shown]
     return table([], rows, "lines") + left_out(len(lines) - len(shown), "lines")
@@ -114,5 +139,12 @@ def body_of(answer):
         drawn.append(printed_lines(lines))
     for name in dict.fromkeys(found[0] for kind, found in answer.lines if kind == MAP):
         prints = answer.maps(name)
-        drawn.append(element("div", text("h3", name), printed_map(prints[0]) if len(prints) == 1 else several_prints(prints), class_="map"))
+        drawn.append(
+            element(
+                "div",
+                text("h3", name),
+                printed_map(prints[0]) if len(prints) == 1 else several_prints(prints),
+                class_="map",
+            )
+        )
     return "".join(drawn) or text("p", "It printed nothing.", class_="quiet")

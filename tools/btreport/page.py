@@ -47,7 +47,8 @@ SCRIPT = """
 def policy():
     """What the page may do: its own style and this script, and nothing from elsewhere."""
     checksum = base64.b64encode(hashlib.sha256(SCRIPT.encode()).digest()).decode()
-    return f"default-src 'none'; style-src 'unsafe-inline'; script-src 'sha256-{checksum}'; base-uri 'none'; form-action 'none'"
+    allowed = f"default-src 'none'; style-src 'unsafe-inline'; script-src 'sha256-{checksum}'"
+    return f"{allowed}; base-uri 'none'; form-action 'none'"
 
 
 def links(panels):
@@ -57,8 +58,13 @@ def links(panels):
 
 def page(title, panels):
     """The whole page, as bytes."""
-    head = (f'<meta charset="utf-8"><meta http-equiv="Content-Security-Policy" content="{escaped(policy())}">'
-            '<meta name="viewport" content="width=device-width, initial-scale=1"><meta name="color-scheme" content="light dark">'
-            f"<title>{escaped(title)}</title><style>{style()}</style>")
+    head = (
+        f'<meta charset="utf-8"><meta http-equiv="Content-Security-Policy" content="{escaped(policy())}">'
+        '<meta name="viewport" content="width=device-width, initial-scale=1">'
+        '<meta name="color-scheme" content="light dark">'
+        f"<title>{escaped(title)}</title><style>{style()}</style>"
+    )
     body = text("h1", title) + links(panels) + "\n".join(map(markup_of, panels)) + f"<script>{SCRIPT}</script>"
-    return f'<!DOCTYPE html>\n<html lang="en"><head>{head}</head>\n<body>{body}</body></html>\n'.encode("utf-8", "backslashreplace")
+    return f'<!DOCTYPE html>\n<html lang="en"><head>{head}</head>\n<body>{body}</body></html>\n'.encode(
+        "utf-8", "backslashreplace"
+    )

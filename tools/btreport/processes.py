@@ -22,7 +22,8 @@ class Node:
 
 
 def nodes_of(answer):
-    """The processes that have no parent here, with all others under them. A number that comes again is another process."""
+    """The processes that have no parent here, with all others under them. A number that comes again is another
+    process."""
     known, roots = {}, []
 
     def node(which):
@@ -69,8 +70,20 @@ def items(roots):
 def tree(asked):
     """The tree as lines, each moved in by its depth."""
     found = list(items(nodes_of(asked.answer)))
-    shown = [element("li", told(node), style=f"margin-left:{1.2 * min(depth, MOST_DEEP):.1f}em") for node, depth in found[:MOST_NODES]]
+    shown = [
+        element("li", told(node), style=f"margin-left:{1.2 * min(depth, MOST_DEEP):.1f}em")
+        for node, depth in found[:MOST_NODES]
+    ]
     rest = len(found) - len(shown)
-    body = element("ul", *shown, class_="tree") if shown else text("p", "no process began, executed a file or ended", class_="quiet")
-    return Panel("processes", "Processes that begin and end", body + (text("p", f"{rest} more processes left out", class_="red") if rest else ""), [asked],
-                 "Threads are among them. Times are nanoseconds from the start of the recording.")
+    body = (
+        element("ul", *shown, class_="tree")
+        if shown
+        else text("p", "no process began, executed a file or ended", class_="quiet")
+    )
+    return Panel(
+        "processes",
+        "Processes that begin and end",
+        body + (text("p", f"{rest} more processes left out", class_="red") if rest else ""),
+        [asked],
+        "Threads are among them. Times are nanoseconds from the start of the recording.",
+    )

@@ -1,7 +1,8 @@
-"""The questions that a report asks: scripts, with the numbers of the recording in the places of their words in capitals.
+"""The questions that a report asks: scripts, with the numbers of the recording in the places of their words in
+capitals.
 
-Each is asked where the recording has the tracepoints that it names. All times are nanoseconds; those from the start of the recording are
-`elapsed`.
+Each is asked where the recording has the tracepoints that it names. All times are nanoseconds; those from the start of
+the recording are `elapsed`.
 """
 import re
 from dataclasses import dataclass
@@ -11,7 +12,8 @@ COLUMNS = 200
 CELLS = 100
 # So many of the slowest calls and requests are printed, in any case.
 SLOWEST = 20
-# A recording that is shorter than this has the threads of each CPU drawn one by one, but for runs shorter than a part of so many.
+# A recording that is shorter than this has the threads of each CPU drawn one by one, but for runs shorter than a part
+# of so many.
 SHORT_SPAN = 1_000_000_000
 RUNS = 1_000
 
@@ -94,7 +96,8 @@ END {
 }
 """
 
-# What stands where a call or a request has taken $took, and is one of the slowest so far: it takes the place of the least of them.
+# What stands where a call or a request has taken $took, and is one of the slowest so far: it takes the place of the
+# least of them.
 KEEP_SLOWEST = """\
         $k = 0;
         @slow[@place] = $took;
@@ -226,8 +229,8 @@ tracepoint:sched:sched_process_exit {
 """
 
 RUNS_OF_THREADS = """\
-// Which thread runs when on which CPU? Runs shorter than RUN nanoseconds are counted. What runs last stands in the maps.
-// Before the first switch of a CPU the thread runs that leaves it there.
+// Which thread runs when on which CPU? Runs shorter than RUN nanoseconds are counted. What runs last stands in the
+// maps. Before the first switch of a CPU the thread runs that leaves it there.
 tracepoint:sched:sched_switch {
     if (args.prev_pid != 0 && (@runs[cpu] == args.prev_pid || @since[cpu] == 0)) {
         if (elapsed - @since[cpu] >= RUN) {
@@ -257,7 +260,8 @@ class Question:
 
 @dataclass(frozen=True)
 class Recorded:
-    """What the questions are chosen by: the names of a recording's tracepoints, its span, and whether it may have marks of lost events."""
+    """What the questions are chosen by: the names of a recording's tracepoints, its span, and whether it may have marks
+    of lost events."""
 
     points: frozenset
     span: int
@@ -282,16 +286,23 @@ class Recorded:
         """The system of tracepoints that tells of system calls, or none."""
         if self.has("raw_syscalls:sys_enter", "raw_syscalls:sys_exit"):
             return "raw_syscalls"
-        begins = {name[len("syscalls:sys_enter_"):] for name in self.points if name.startswith("syscalls:sys_enter_")}
-        ends = {name[len("syscalls:sys_exit_"):] for name in self.points if name.startswith("syscalls:sys_exit_")}
+        begins = {name[len("syscalls:sys_enter_") :] for name in self.points if name.startswith("syscalls:sys_enter_")}
+        ends = {name[len("syscalls:sys_exit_") :] for name in self.points if name.startswith("syscalls:sys_exit_")}
         return "syscalls" if begins & ends else None
 
 
 def written(text, recorded, **more):
     """A script with the numbers in their places."""
-    numbers = {"COLUMN": recorded.column, "CELL": recorded.cell, "SLOWEST": SLOWEST, "RUN": recorded.span // RUNS + 1,
-               "TICK": max(recorded.column // 1_000, 1), "KEEP_SLOWEST": KEEP_SLOWEST.replace("SLOWEST", str(SLOWEST)),
-               "CLEAR_SLOWEST": CLEAR_SLOWEST, **more}
+    numbers = {
+        "COLUMN": recorded.column,
+        "CELL": recorded.cell,
+        "SLOWEST": SLOWEST,
+        "RUN": recorded.span // RUNS + 1,
+        "TICK": max(recorded.column // 1_000, 1),
+        "KEEP_SLOWEST": KEEP_SLOWEST.replace("SLOWEST", str(SLOWEST)),
+        "CLEAR_SLOWEST": CLEAR_SLOWEST,
+        **more,
+    }
     system = recorded.calls
     if system:
         numbers.update(ENTER=ENTER[system], EXIT=EXIT[system], NUMBER=NUMBER[system])
@@ -300,7 +311,11 @@ def written(text, recorded, **more):
 
 def processes(recorded):
     """The script about processes, of the tracepoints that there are; empty where there is none."""
-    parts = [text for name, text in (("fork", FORK), ("exec", EXEC), ("exit", EXITS)) if recorded.has(f"sched:sched_process_{name}")]
+    parts = [
+        text
+        for name, text in (("fork", FORK), ("exec", EXEC), ("exit", EXITS))
+        if recorded.has(f"sched:sched_process_{name}")
+    ]
     return (PROCESSES + "".join(parts).lstrip("\n")) if parts else ""
 
 
@@ -322,5 +337,7 @@ def first_questions(recorded):
 
 def details(recorded, calls, processes_chosen):
     """The question about some calls and processes, by their numbers."""
-    chosen = [f"    @is_call[{number}] = 1;\n" for number in calls] + [f"    @is_process[{number}] = 1;\n" for number in processes_chosen]
+    chosen = [f"    @is_call[{number}] = 1;\n" for number in calls] + [
+        f"    @is_process[{number}] = 1;\n" for number in processes_chosen
+    ]
     return Question("details", written(DETAILS, recorded, CHOSEN="".join(chosen)))

@@ -45,13 +45,19 @@ class Program:
         self.path, self.recording = str(path), recording
 
     def words(self, *words, script):
-        """Does a command for a script and the recording: its status, what it printed, and what it told, with the script's own name."""
+        """Does a command for a script and the recording: its status, what it printed, and what it told, with the
+        script's own name."""
         name, text = script
         handle = handle_of(os.fsencode(text))
         file = f"/dev/fd/{handle}"
         try:
-            done = subprocess.run([self.path, *words, file, path_of(self.recording)], stdin=subprocess.DEVNULL, stdout=subprocess.PIPE,
-                                  stderr=subprocess.PIPE, pass_fds=[handle])
+            done = subprocess.run(
+                [self.path, *words, file, path_of(self.recording)],
+                stdin=subprocess.DEVNULL,
+                stdout=subprocess.PIPE,
+                stderr=subprocess.PIPE,
+                pass_fds=[handle],
+            )
         finally:
             os.close(handle)
         told = done.stderr.decode("utf-8", "backslashreplace").strip()
@@ -87,7 +93,8 @@ class Program:
             raise Refused(f"the program printed what is none of its lines: {fault}", PROGRAM) from fault
 
     def ask_all(self, questions):
-        """Runs scripts side by side, and gives what came of them in their order. The first fault ends all that has not begun."""
+        """Runs scripts side by side, and gives what came of them in their order. The first fault ends all that has not
+        begun."""
         with concurrent.futures.ThreadPoolExecutor(side_by_side()) as pool:
             runs = [pool.submit(self.ask, question) for question in questions]
             try:

@@ -39,7 +39,8 @@ def bounds(label):
 
 
 def following(labels):
-    """The labels of a histogram by their ranges, the lowest first, with none in the places of ranges that have no label here."""
+    """The labels of a histogram by their ranges, the lowest first, with none in the places of ranges that have no label
+    here."""
     ordered = sorted(labels, key=lambda label: (bounds(label)[0] is not None, bounds(label)[0] or 0))
     ends = [bounds(label) for label in ordered]
     steps = {high - low for low, high in ends if low is not None and high is not None}
@@ -58,6 +59,8 @@ def ticks(span, most=4):
     """The times to be marked on a time line, at most so many beside 0: each as its nanoseconds and a text."""
     if span <= 0:
         return [(0, "0")]
-    step = next(factor * 10 ** power for power in range(20) for factor in (1, 2, 5) if span <= most * factor * 10 ** power)
+    step = next(
+        factor * 10**power for power in range(20) for factor in (1, 2, 5) if span <= most * factor * 10**power
+    )
     size, unit = next((size, unit) for size, unit in UNITS if span >= size)
     return [(time, f"{time / size:g} {unit}" if time else "0") for time in range(0, span + 1, step)]

@@ -12,8 +12,9 @@ MOST_LOSSES = 12
 
 @dataclass
 class TimeLine:
-    """What the question about the time line printed: when the recording starts and ends and the time between, how many events each CPU has, in
-    all and by part of the time, its gaps as pairs of when each began and how long it is, and the losses."""
+    """What the question about the time line printed: when the recording starts and ends and the time between, how many
+    events each CPU has, in all and by part of the time, its gaps as pairs of when each began and how long it is, and
+    the losses."""
 
     start: int = 0
     end: int = 0
@@ -95,12 +96,29 @@ def gap_lane(line, cpu):
     span = max(line.span, 1)
     parts = [rectangle(0, 0, BAR_UNITS, 1, "busy")]
     for begin, length in line.gaps.get(cpu, []):
-        parts.append(rectangle(BAR_UNITS * begin / span, 0, BAR_UNITS * length / span, 1, "gap", f"no event for {length} ns from {begin} ns"))
+        parts.append(
+            rectangle(
+                BAR_UNITS * begin / span,
+                0,
+                BAR_UNITS * length / span,
+                1,
+                "gap",
+                f"no event for {length} ns from {begin} ns",
+            )
+        )
     for loss in line.losses:
         if loss.cpu == cpu:
             width = max(BAR_UNITS * (loss.end - loss.begin) / span, 3)
-            parts.append(rectangle(BAR_UNITS * loss.begin / span, 0, width, 1, "loss",
-                                   f"{loss.count} events lost, told between {loss.begin} ns and {loss.end} ns"))
+            parts.append(
+                rectangle(
+                    BAR_UNITS * loss.begin / span,
+                    0,
+                    width,
+                    1,
+                    "loss",
+                    f"{loss.count} events lost, told between {loss.begin} ns and {loss.end} ns",
+                )
+            )
     return lane(f"cpu {cpu}", drawing(BAR_UNITS, 1, 14, "".join(parts), f"the gaps of cpu {cpu}"))
 
 
@@ -108,24 +126,41 @@ def gaps_key(line):
     """What the colours of the gaps mean."""
     kinds = [("busy", "events"), ("gap", "none for longer than a two-hundredth of the span")]
     kinds += [("loss", "events were lost")] if line.losses else []
-    return element("p", *(element("span", element("b", class_=f"dot {kind}"), escaped(name), class_="part") for kind, name in kinds), class_="parts")
+    return element(
+        "p",
+        *(element("span", element("b", class_=f"dot {kind}"), escaped(name), class_="part") for kind, name in kinds),
+        class_="parts",
+    )
 
 
 def greatest_gaps(line):
     """A table of the longest gaps."""
     found = sorted(((length, begin, cpu) for cpu, gaps in line.gaps.items() for begin, length in gaps), reverse=True)
     rows = [[escaped(f"cpu {cpu}"), number(begin), number(length)] for length, begin, cpu in found[:MOST_ROWS]]
-    return element("details", text("summary", f"the gaps, {len(found)}"), table(["CPU", "from, ns", "for, ns"], rows), left_out(len(found) - len(rows), "gaps"))
+    return element(
+        "details",
+        text("summary", f"the gaps, {len(found)}"),
+        table(["CPU", "from, ns", "for, ns"], rows),
+        left_out(len(found) - len(rows), "gaps"),
+    )
 
 
 def head(name, line, asked, not_asked):
     """The head: what was recorded, and what is lacking."""
-    facts = element("dl", fact("recording", escaped(name)), fact("span", number(line.span) + " ns"),
-                    fact("from", number(line.start) + " ns"), fact("to", number(line.end) + " ns"),
-                    fact("CPUs with events", number(len(line.of_cpu))), fact("events", counted(line)))
+    facts = element(
+        "dl",
+        fact("recording", escaped(name)),
+        fact("span", number(line.span) + " ns"),
+        fact("from", number(line.start) + " ns"),
+        fact("to", number(line.end) + " ns"),
+        fact("CPUs with events", number(len(line.of_cpu))),
+        fact("events", counted(line)),
+    )
     lanes = element("div", *(gap_lane(line, cpu) for cpu in line.cpus), lane("", axis(line.span)), class_="lanes")
     told = "".join(text("p", why, class_="quiet") for why in not_asked)
-    return Panel("head", "What was recorded", facts + lost(line) + told + lanes + gaps_key(line) + greatest_gaps(line), [asked])
+    return Panel(
+        "head", "What was recorded", facts + lost(line) + told + lanes + gaps_key(line) + greatest_gaps(line), [asked]
+    )
 
 
 def part_title(line, what):
@@ -140,8 +175,15 @@ def measured(line, asked, name, of_map, label, what, kind):
         return ""
     counts = asked[name].answer.values(of_map)
     most = number(max(counts.values())) if counts else "none"
-    return columns(f"{escaped(label)}<small>at most {most} {escaped(what)}</small>" if counts else f"{escaped(label)}<small>none</small>",
-                   counts, COLUMNS, part_title(line, what), kind)
+    return columns(
+        f"{escaped(label)}<small>at most {most} {escaped(what)}</small>"
+        if counts
+        else f"{escaped(label)}<small>none</small>",
+        counts,
+        COLUMNS,
+        part_title(line, what),
+        kind,
+    )
 
 
 def time_line(line, asked, cut):
@@ -151,9 +193,24 @@ def time_line(line, asked, cut):
     strips.append(measured(line, asked, "block", "@issued_in", "block requests issued", "issued", "request"))
     strips.append(measured(line, asked, "calls", "@failed_in", "system calls that fail", "failed", "error"))
     whole = f"{cut} --from +0ns --to +{line.span}ns -o part.btr"
-    body = element("div", *strips, element("div", class_="selected"), lane("", axis(line.span)), class_="lanes", id="lanes",
-                   data_span=line.span, data_cut=cut)
-    told = text("p", "Drag over a window for the command that cuts it out; as it stands it takes all:", class_="note drag")
+    body = element(
+        "div",
+        *strips,
+        element("div", class_="selected"),
+        lane("", axis(line.span)),
+        class_="lanes",
+        id="lanes",
+        data_span=line.span,
+        data_cut=cut,
+    )
+    told = text(
+        "p", "Drag over a window for the command that cuts it out; as it stands it takes all:", class_="note drag"
+    )
     names = ["time_line"] + [name for name in ("threads", "block", "calls") if name in asked]
-    return Panel("time_line", "Time line", body + told + text("pre", whole, id="cut"), [asked[name] for name in names],
-                 "Events by CPU, and below them what each two-hundredth of the span had.")
+    return Panel(
+        "time_line",
+        "Time line",
+        body + told + text("pre", whole, id="cut"),
+        [asked[name] for name in names],
+        "Events by CPU, and below them what each two-hundredth of the span had.",
+    )

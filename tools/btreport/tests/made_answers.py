@@ -1,4 +1,5 @@
-"""What the tests stand on: the outputs of the examples as lines of JSON, answers made by hand, and what a page holds, read again."""
+"""What the tests stand on: the outputs of the examples as lines of JSON, answers made by hand, and what a page holds,
+read again."""
 import html.parser
 import json
 import pathlib
@@ -87,8 +88,11 @@ class Node:
         for part in self.inside:
             if isinstance(part, str):
                 continue
-            if (name in (None, part.name) and (kind is None or kind in part.attributes.get("class", "").split())
-                    and all(part.attributes.get(key) == wanted for key, wanted in attributes.items())):
+            if (
+                name in (None, part.name)
+                and (kind is None or kind in part.attributes.get("class", "").split())
+                and all(part.attributes.get(key) == wanted for key, wanted in attributes.items())
+            ):
                 yield part
             yield from part.all(name, kind, **attributes)
 

@@ -1,5 +1,5 @@
-"""Opens a report in a real browser, Debian's chromium: no error in its console, each panel drawn, texts that can be read, in both themes and at two
-widths. Left out, with a word, where there is no browser."""
+"""Opens a report in a real browser, Debian's chromium: no error in its console, each panel drawn, texts that can be
+read, in both themes and at two widths. Left out, with a word, where there is no browser."""
 import base64
 import hashlib
 import html
@@ -28,7 +28,8 @@ SECONDS = 300
 LEAST_FONT = 12
 LEAST_CONTRAST = 4.5
 
-# The page is opened in a frame, since a window of the browser cannot be narrow. The frame's page writes down what it is told.
+# The page is opened in a frame, since a window of the browser cannot be narrow. The frame's page writes down what it is
+# told.
 FRAME = """<!DOCTYPE html><body style="margin:0"><script>
 addEventListener("message", function (event) {
   const told = document.createElement("pre");
@@ -44,7 +45,10 @@ PROBE = r"""
   "use strict";
   function numbers(colour) { return colour.match(/[\d.]+/g).map(Number); }
   function light(colour) {
-    const parts = numbers(colour).slice(0, 3).map(function (part) { part /= 255; return part <= 0.03928 ? part / 12.92 : Math.pow((part + 0.055) / 1.055, 2.4); });
+    const parts = numbers(colour).slice(0, 3).map(function (part) {
+      part /= 255;
+      return part <= 0.03928 ? part / 12.92 : Math.pow((part + 0.055) / 1.055, 2.4);
+    });
     return 0.2126 * parts[0] + 0.7152 * parts[1] + 0.0722 * parts[2];
   }
   function ground(node) {
@@ -56,20 +60,21 @@ PROBE = r"""
   }
   document.querySelectorAll("details").forEach(function (node) { node.open = true; });
   const texts = [...document.querySelectorAll("body *")].filter(function (node) {
-    return !node.closest("svg, script, .over") && [...node.childNodes].some(function (child) { return child.nodeType === 3 && child.data.trim(); })
-      && node.getClientRects().length;
+    const has_text = [...node.childNodes].some(function (child) { return child.nodeType === 3 && child.data.trim(); });
+    return has_text && !node.closest("svg, script, .over") && node.getClientRects().length;
   });
   const fonts = texts.map(function (node) { return parseFloat(getComputedStyle(node).fontSize); });
   const faint = texts.map(function (node) {
     const one = light(getComputedStyle(node).color), other = light(ground(node));
-    return [(Math.max(one, other) + 0.05) / (Math.min(one, other) + 0.05), node.className, node.textContent.slice(0, 40)];
+    const contrast = (Math.max(one, other) + 0.05) / (Math.min(one, other) + 0.05);
+    return [contrast, node.className, node.textContent.slice(0, 40)];
   }).filter(function (found) { return found[0] < 4.5; });
   const overlaps = [...document.querySelectorAll(".axis")].filter(function (axis) {
     const boxes = [...axis.children].map(function (child) { return child.getBoundingClientRect(); });
     return boxes.some(function (box, place) { return place && box.width && boxes[place - 1].right > box.left; });
   }).length;
   const panels = [...document.querySelectorAll("section.panel")].map(function (panel) {
-    const drawings = [...panel.querySelectorAll("svg")].filter(function (drawing) { return drawing.getClientRects().length; });
+    const drawings = [...panel.querySelectorAll("svg")].filter(function (one) { return one.getClientRects().length; });
     return [panel.id, drawings.length, drawings.filter(function (drawing) {
       const box = drawing.getBoundingClientRect();
       return box.width < 60 || box.height < 8;
@@ -77,13 +82,17 @@ PROBE = r"""
   });
   const area = document.querySelector("#lanes .drawn"), box = area.getBoundingClientRect();
   function point(kind, part) {
-    area.dispatchEvent(new PointerEvent(kind, {bubbles: true, button: 0, clientX: box.left + part * box.width, clientY: box.top + 3}));
+    const place = {clientX: box.left + part * box.width, clientY: box.top + 3};
+    area.dispatchEvent(new PointerEvent(kind, {bubbles: true, button: 0, ...place}));
   }
   const before = document.getElementById("cut").textContent;
   point("pointerdown", 0.5); point("pointermove", 0.3); point("pointerup", 0.25);
-  window.parent.postMessage(JSON.stringify({least: Math.min(...fonts), faint: faint, overlaps: overlaps, panels: panels, before: before,
-    cut: document.getElementById("cut").textContent, selected: document.querySelector(".selected").getBoundingClientRect().width / box.width,
-    width: window.innerWidth, wide: document.documentElement.scrollWidth, dark: matchMedia("(prefers-color-scheme: dark)").matches}), "*");
+  const selected = document.querySelector(".selected").getBoundingClientRect().width / box.width;
+  window.parent.postMessage(JSON.stringify({
+    least: Math.min(...fonts), faint: faint, overlaps: overlaps, panels: panels, before: before, selected: selected,
+    cut: document.getElementById("cut").textContent, width: window.innerWidth,
+    wide: document.documentElement.scrollWidth, dark: matchMedia("(prefers-color-scheme: dark)").matches
+  }), "*");
 })();
 """
 
@@ -92,9 +101,17 @@ def whole_page():
     """A report with all panels, those of all examples among them."""
     asked = asked_of("<script>alert(1)</script>")
     line = time_line_of(asked["time_line"].answer)
-    own = [Asked(path.name, path.read_text(), answer_of(json_of(path.with_suffix(".out").read_text()).encode())) for path in sorted(EXAMPLES.glob("*.bt"))]
+    own = [
+        Asked(path.name, path.read_text(), answer_of(json_of(path.with_suffix(".out").read_text()).encode()))
+        for path in sorted(EXAMPLES.glob("*.bt"))
+    ]
     recording = str(EXAMPLES / "small.btr")
-    panels = [head("small.btr", line, asked["time_line"], []), time_line(line, asked, "btrecord cut small.btr"), *panels_of(line, asked), *own_panels(own)]
+    panels = [
+        head("small.btr", line, asked["time_line"], []),
+        time_line(line, asked, "btrecord cut small.btr"),
+        *panels_of(line, asked),
+        *own_panels(own),
+    ]
     return page("Recording small.btr", panels + [foot(recording, [*asked.values(), *own], "btreplay", True)]).decode()
 
 
@@ -107,10 +124,12 @@ def probed(markup):
 
 def contrast(one, other):
     """How well two colours are told apart, as WCAG has it."""
+
     def light(colour):
-        parts = [int(colour[at:at + 2], 16) / 255 for at in (1, 3, 5)]
+        parts = [int(colour[at : at + 2], 16) / 255 for at in (1, 3, 5)]
         parts = [part / 12.92 if part <= 0.03928 else ((part + 0.055) / 1.055) ** 2.4 for part in parts]
         return 0.2126 * parts[0] + 0.7152 * parts[1] + 0.0722 * parts[2]
+
     lights = sorted((light(one), light(other)))
     return (lights[1] + 0.05) / (lights[0] + 0.05)
 
@@ -120,7 +139,9 @@ class Colours(unittest.TestCase):
         for place in (0, 1):
             for name in ("text", "quiet", "red", "link"):
                 for ground in ("ground", "box"):
-                    self.assertGreaterEqual(contrast(GROUNDS[name][place], GROUNDS[ground][place]), LEAST_CONTRAST, (name, ground))
+                    self.assertGreaterEqual(
+                        contrast(GROUNDS[name][place], GROUNDS[ground][place]), LEAST_CONTRAST, (name, ground)
+                    )
             for shades in ICICLE + [all_colours()["failed"]]:
                 self.assertGreaterEqual(contrast(GROUNDS["text"][place], shades[place]), LEAST_CONTRAST, shades)
 
@@ -142,11 +163,34 @@ class Browser(unittest.TestCase):
             pathlib.Path(folder, "page.html").write_text(markup)
             frame = pathlib.Path(folder, "frame.html")
             frame.write_text(FRAME % width)
-            words = [BROWSER, "--headless=new", "--no-sandbox", "--disable-gpu", "--hide-scrollbars", f"--user-data-dir={folder}/user", f"--window-size={max(width, 600)},900",
-                     f"--blink-settings=preferredColorScheme={0 if is_dark else 1}", "--enable-logging=stderr", "--v=0", "--virtual-time-budget=5000",
-                     "--dump-dom", frame.as_uri()]
-            done = subprocess.run(words, stdin=subprocess.DEVNULL, stdout=subprocess.PIPE, stderr=subprocess.PIPE, timeout=SECONDS, env={**os.environ, "HOME": folder})
-        console = [line for line in done.stderr.decode(errors="replace").splitlines() if re.search(r"CONSOLE|Uncaught|Refused to", line)]
+            words = [
+                BROWSER,
+                "--headless=new",
+                "--no-sandbox",
+                "--disable-gpu",
+                "--hide-scrollbars",
+                f"--user-data-dir={folder}/user",
+                f"--window-size={max(width, 600)},900",
+                f"--blink-settings=preferredColorScheme={0 if is_dark else 1}",
+                "--enable-logging=stderr",
+                "--v=0",
+                "--virtual-time-budget=5000",
+                "--dump-dom",
+                frame.as_uri(),
+            ]
+            done = subprocess.run(
+                words,
+                stdin=subprocess.DEVNULL,
+                stdout=subprocess.PIPE,
+                stderr=subprocess.PIPE,
+                timeout=SECONDS,
+                env={**os.environ, "HOME": folder},
+            )
+        console = [
+            line
+            for line in done.stderr.decode(errors="replace").splitlines()
+            if re.search(r"CONSOLE|Uncaught|Refused to", line)
+        ]
         probe = re.search(r'<pre id="probe">(.*?)</pre>', done.stdout.decode(errors="replace"), re.DOTALL)
         self.assertTrue(probe, done.stderr.decode(errors="replace")[-2_000:])
         return json.loads(html.unescape(probe[1])), console

@@ -1,4 +1,5 @@
-"""Tests of the command, by a stand-in for the program in a folder as `make install` makes it: what is asked, where the page goes, and each fault."""
+"""Tests of the command, by a stand-in for the program in a folder as `make install` makes it: what is asked, where the
+page goes, and each fault."""
 import json
 import os
 import pathlib
@@ -60,8 +61,15 @@ class Command(unittest.TestCase):
         known = {**self.answers, **answers.pop("known", {}), **answers}
         (self.top / "answers").write_text(json.dumps(known))
         (self.top / "asked").write_text("")
-        done = subprocess.run([str(self.top / "btreport"), *words], cwd=self.home, env={**os.environ, "STAND_IN": str(self.top)},
-                              stdin=subprocess.DEVNULL, stdout=subprocess.PIPE, stderr=subprocess.PIPE, timeout=120)
+        done = subprocess.run(
+            [str(self.top / "btreport"), *words],
+            cwd=self.home,
+            env={**os.environ, "STAND_IN": str(self.top)},
+            stdin=subprocess.DEVNULL,
+            stdout=subprocess.PIPE,
+            stderr=subprocess.PIPE,
+            timeout=120,
+        )
         return done.returncode, done.stdout, done.stderr.decode()
 
     def asked(self):
@@ -85,14 +93,20 @@ class Command(unittest.TestCase):
         page = self.page()
         self.assertIn("btreplay, proved with a kit", page.one("section", id="foot").text())
         self.assertIn("btrecord cut small.btr --from +0ns", page.one("pre", id="cut").text())
-        self.assertIn(subprocess.run(["sha256sum", "small.btr"], cwd=self.home, stdout=subprocess.PIPE).stdout.decode().split()[0],
-                      page.one("section", id="foot").text())
+        self.assertIn(
+            subprocess.run(["sha256sum", "small.btr"], cwd=self.home, stdout=subprocess.PIPE)
+            .stdout.decode()
+            .split()[0],
+            page.one("section", id="foot").text(),
+        )
 
     def test_where_the_page_goes(self):
         """What is there already stays, unless it is named."""
         (self.home / "small.html").write_text("of the user")
         status, _, told = self.run_report("small.btr")
-        self.assertEqual((status, told), (1, "btreport: small.html is there already; name it by -o to put the report in its place\n"))
+        self.assertEqual(
+            (status, told), (1, "btreport: small.html is there already; name it by -o to put the report in its place\n")
+        )
         self.assertEqual((self.home / "small.html").read_text(), "of the user")
         self.assertEqual(self.asked(), [])
         self.assertEqual(self.run_report("small.btr", "-o", "small.html")[0], 0)
@@ -105,13 +119,22 @@ class Command(unittest.TestCase):
 
     def test_a_fault_leaves_no_page(self):
         text = self.questions[0].text
-        for answers, wanted, told in (({"check": {"status": 3, "err": "small.btr: C2 bad magic\n"}}, 3, "btreport: small.btr: C2 bad magic\n"),
-                                      ({"check": {"status": 4, "err": "small.btr: read fault\n"}}, 4, "btreport: small.btr: read fault\n"),
-                                      ({text: {"status": 6, "err": "out of memory\n"}}, 6, "btreport: out of memory\n"),
-                                      ({text: {"signal": int(signal.SIGKILL)}}, 1, "btreport: the program was ended by signal 9\n"),
-                                      ({text: {"status": 1, "err": "usage: btreplay run ..\n"}}, 1,
-                                       "btreport: the program that is here has no option --json: it is older than this command\n"),
-                                      ({text: {"out": "@: 3\n"}}, 1, "btreport: the program printed what is none of its lines: the line b'@: 3'\n")):
+        for answers, wanted, told in (
+            ({"check": {"status": 3, "err": "small.btr: C2 bad magic\n"}}, 3, "btreport: small.btr: C2 bad magic\n"),
+            ({"check": {"status": 4, "err": "small.btr: read fault\n"}}, 4, "btreport: small.btr: read fault\n"),
+            ({text: {"status": 6, "err": "out of memory\n"}}, 6, "btreport: out of memory\n"),
+            ({text: {"signal": int(signal.SIGKILL)}}, 1, "btreport: the program was ended by signal 9\n"),
+            (
+                {text: {"status": 1, "err": "usage: btreplay run ..\n"}},
+                1,
+                "btreport: the program that is here has no option --json: it is older than this command\n",
+            ),
+            (
+                {text: {"out": "@: 3\n"}},
+                1,
+                "btreport: the program printed what is none of its lines: the line b'@: 3'\n",
+            ),
+        ):
             with self.subTest(told):
                 self.assertEqual(self.run_report("small.btr", known=answers), (wanted, b"", told))
                 self.assertEqual(self.files(), ["small.btr"])
@@ -123,7 +146,10 @@ class Command(unittest.TestCase):
         status, _, told = self.run_report("small.btr", "--scripts", "none")
         self.assertEqual((status, told), (4, "btreport: none: No such file or directory\n"))
         (self.home / "empty").mkdir()
-        self.assertEqual(self.run_report("small.btr", "--scripts", "empty")[2], "btreport: empty: there is no script *.bt in this folder\n")
+        self.assertEqual(
+            self.run_report("small.btr", "--scripts", "empty")[2],
+            "btreport: empty: there is no script *.bt in this folder\n",
+        )
         self.assertEqual(self.run_report("small.btr", "--unproved")[0], 1)
         self.assertEqual(self.run_report("--help")[0], 0)
 
@@ -135,16 +161,26 @@ class Command(unittest.TestCase):
         for path in sorted(EXAMPLES.glob("*.bt")):
             (folder / path.name).write_bytes(path.read_bytes())
             known[path.read_text()] = {"out": json_of(path.with_suffix(".out").read_text())}
-        (folder / "<b>&\".bt").write_text("BEGIN { # }")
+        (folder / '<b>&".bt').write_text("BEGIN { # }")
         known["BEGIN { # }"] = {"status": 2, "err": "@SCRIPT@:1:9: X1 bad character\n"}
         (folder / "notes.txt").write_text("no script")
         self.assertEqual(self.run_report("small.btr", "--scripts", "own scripts", "-o", "out.html", known=known)[0], 0)
         page = self.page("out.html")
-        titles = [section.one("h2").text() for section in page.all("section") if section.attributes["id"].startswith("own_")]
-        self.assertEqual(titles, sorted([path.name for path in EXAMPLES.glob("*.bt")] + ["<b>&\".bt"]))
-        self.assertIn("own scripts/<b>&\".bt was refused: own scripts/<b>&\".bt:1:9: X1 bad character", [told.text() for told in page.all("p", "red")])
-        self.assertIn("./btreplay"[2:] + " run --serial --json 'own scripts/block_bytes.bt' small.btr", page.one("section", id="foot").text())
-        self.assertEqual(len([found for found in self.asked() if found[0][0] == "run"]), len(self.questions) + len(titles))
+        titles = [
+            section.one("h2").text() for section in page.all("section") if section.attributes["id"].startswith("own_")
+        ]
+        self.assertEqual(titles, sorted([path.name for path in EXAMPLES.glob("*.bt")] + ['<b>&".bt']))
+        self.assertIn(
+            'own scripts/<b>&".bt was refused: own scripts/<b>&".bt:1:9: X1 bad character',
+            [told.text() for told in page.all("p", "red")],
+        )
+        self.assertIn(
+            "./btreplay"[2:] + " run --serial --json 'own scripts/block_bytes.bt' small.btr",
+            page.one("section", id="foot").text(),
+        )
+        self.assertEqual(
+            len([found for found in self.asked() if found[0][0] == "run"]), len(self.questions) + len(titles)
+        )
 
     def test_names_of_recordings(self):
         """A name that begins as an option does, and one that is markup."""
@@ -154,12 +190,16 @@ class Command(unittest.TestCase):
                 words = ["--", name] if name.startswith("-") else [name]
                 self.assertEqual(self.run_report("-o", "out.html", *words)[0], 0)
                 self.assertEqual(self.page("out.html").one("h1").text(), f"Recording {name}")
-                self.assertEqual({recording for _, recording, _ in self.asked()}, {f"./{name}" if name.startswith("-") else name})
+                self.assertEqual(
+                    {recording for _, recording, _ in self.asked()}, {f"./{name}" if name.startswith("-") else name}
+                )
 
     def test_a_pipe_is_no_recording(self):
         os.mkfifo(self.home / "pipe")
         status, _, told = self.run_report("pipe", check={"out": "ok\n"})
-        self.assertEqual((status, told), (4, "btreport: pipe: this is no regular file, and each question reads it once\n"))
+        self.assertEqual(
+            (status, told), (4, "btreport: pipe: this is no regular file, and each question reads it once\n")
+        )
 
     def test_nothing_is_written_beside_the_tool(self):
         self.assertEqual(self.run_report("small.btr")[0], 0)

@@ -1,4 +1,5 @@
-"""Tests that the numbers of a page are those that the program printed, to the digit: for all examples, and for what they do not print."""
+"""Tests that the numbers of a page are those that the program printed, to the digit: for all examples, and for what
+they do not print."""
 import re
 import unittest
 
@@ -21,7 +22,8 @@ def cells(table):
 
 
 def wanted_of(text):
-    """What an example printed: its lines, and for each map its rows; of a histogram a row for each bucket. The key's parts stand before the value."""
+    """What an example printed: its lines, and for each map its rows; of a histogram a row for each bucket. The key's
+    parts stand before the value."""
     lines, maps, name, key = [], {}, None, []
     for part in text.splitlines():
         row, bucket = ROW.fullmatch(part), BUCKET.fullmatch(part)
@@ -57,7 +59,9 @@ class Examples(unittest.TestCase):
         is_histogram = bool(list(block.all("div", "histograms")))
         if not is_histogram:
             self.assertEqual(told, rows[::-1])
-            bars = [(bar.one("div", "label").text(), bar.one("div", "number").text()) for bar in block.all("div", "bar")]
+            bars = [
+                (bar.one("div", "label").text(), bar.one("div", "number").text()) for bar in block.all("div", "bar")
+            ]
             self.assertEqual(bars, [(", ".join(row[:-1]) or "all", row[-1]) for row in rows[::-1][:24]])
             self.check_widths(list(block.all("div", "bar")))
             return
@@ -65,7 +69,7 @@ class Examples(unittest.TestCase):
         for key in block.one("div", "histograms").inside:
             bars = [(bar.one("div", "label").text(), bar.one("div", "number").text()) for bar in key.all("div", "bar")]
             name = [] if key.one("h4").text() == "all" else key.one("h4").text().split(", ")
-            self.assertEqual(bars, [tuple(row[len(name):]) for row in rows if row[:len(name)] == name])
+            self.assertEqual(bars, [tuple(row[len(name) :]) for row in rows if row[: len(name)] == name])
             self.check_widths(list(key.all("div", "bar")))
 
     def check_widths(self, bars):
@@ -92,26 +96,64 @@ class Examples(unittest.TestCase):
 
 class Numbers(unittest.TestCase):
     def test_digits_stay_as_they_are(self):
-        for found in (0, 7, 12, 123, 1_234, -5, -123, -1_234, 123_456, 18_446_744_073_709_551_615, -9_223_372_036_854_775_808):
+        for found in (
+            0,
+            7,
+            12,
+            123,
+            1_234,
+            -5,
+            -123,
+            -1_234,
+            123_456,
+            18_446_744_073_709_551_615,
+            -9_223_372_036_854_775_808,
+        ):
             self.assertEqual(read_page(number(found)).text(), str(found))
 
     def test_histograms_of_several_prints_are_a_heat_map(self):
-        first = line(type="map", map="@h", data=[{"key": ["a"], "value": [{"count": 3, "label": "[2, 4)"}, {"count": 0, "label": "[4, 8)"},
-                                                                          {"count": 1, "label": "[8, 16)"}]}])
-        second = line(type="map", map="@h", data=[{"key": ["a"], "value": [{"count": 9, "label": "[1K, 2K)"}]}, {"key": ["b"], "value": []}])
+        first = line(
+            type="map",
+            map="@h",
+            data=[
+                {
+                    "key": ["a"],
+                    "value": [
+                        {"count": 3, "label": "[2, 4)"},
+                        {"count": 0, "label": "[4, 8)"},
+                        {"count": 1, "label": "[8, 16)"},
+                    ],
+                }
+            ],
+        )
+        second = line(
+            type="map",
+            map="@h",
+            data=[{"key": ["a"], "value": [{"count": 9, "label": "[1K, 2K)"}]}, {"key": ["b"], "value": []}],
+        )
         page = read_page(body_of(answer_of((first + second).encode())))
         grid = page.one("div", "heat")
-        self.assertEqual([label.text() for label in grid.one("div", "label").inside], ["[1K, 2K)"] + [""] * 6 + ["[8, 16)", "[4, 8)", "[2, 4)"])
-        shapes = [(rect.attributes["x"], rect.attributes["y"], rect.one("title").text()) for rect in grid.one("div", "drawn").all("rect")]
+        self.assertEqual(
+            [label.text() for label in grid.one("div", "label").inside],
+            ["[1K, 2K)"] + [""] * 6 + ["[8, 16)", "[4, 8)", "[2, 4)"],
+        )
+        shapes = [
+            (rect.attributes["x"], rect.attributes["y"], rect.one("title").text())
+            for rect in grid.one("div", "drawn").all("rect")
+        ]
         self.assertEqual(shapes, [("0", "9", "[2, 4): 3"), ("0", "7", "[8, 16): 1"), ("1", "0", "[1K, 2K): 9")])
         self.assertIn(["2", "a", "[1K, 2K)", "9"], cells(page.one("details")))
 
     def test_numbers_of_several_prints_are_a_grid(self):
-        prints = "".join(line(type="map", map="@n", data=[{"key": [cpu], "value": 10 * cpu + k} for cpu in (1, 2)]) for k in range(3))
+        prints = "".join(
+            line(type="map", map="@n", data=[{"key": [cpu], "value": 10 * cpu + k} for cpu in (1, 2)]) for k in range(3)
+        )
         page = read_page(body_of(answer_of(prints.encode())))
         self.assertEqual([label.text() for label in page.one("div", "label").inside], ["2", "1"])
         self.assertEqual(len(list(page.one("div", "drawn").all("rect"))), 6)
-        self.assertEqual(cells(page.one("details")), [[str(k + 1), str(cpu), str(10 * cpu + k)] for k in range(3) for cpu in (1, 2)])
+        self.assertEqual(
+            cells(page.one("details")), [[str(k + 1), str(cpu), str(10 * cpu + k)] for k in range(3) for cpu in (1, 2)]
+        )
 
     def test_maps_of_texts_and_what_is_below_0(self):
         page = drawn("@t[5]: some text\n\n@n[x]: -3\n@n[y]: 4\n\n")
@@ -127,13 +169,23 @@ class Numbers(unittest.TestCase):
         self.assertEqual(page.one("summary").text(), "the numbers, 1200 rows")
 
     def test_lines_that_the_program_does_not_print(self):
-        for made in ("{", "[]", '{"type":"other"}', '{"type":"map","map":"@"}', '{"type":"map","map":"@","data":[{"key":["\u0161"],"value":1}]}'):
+        for made in (
+            "{",
+            "[]",
+            '{"type":"other"}',
+            '{"type":"map","map":"@"}',
+            '{"type":"map","map":"@","data":[{"key":["\u0161"],"value":1}]}',
+        ):
             with self.subTest(made), self.assertRaises(NotOfTheProgram):
                 answer_of(made.encode())
 
     def test_bytes_of_names(self):
         """A byte is a character of the line: UTF-8 is read as it, and what cannot be seen is spelled."""
-        made = line(type="map", map="@", data=[{"key": ["caf\u00c3\u00a9", "\u00ff", "a\x1bb", "\u00e2\u0080\u00ae"], "value": 1}])
+        made = line(
+            type="map",
+            map="@",
+            data=[{"key": ["caf\u00c3\u00a9", "\u00ff", "a\x1bb", "\u00e2\u0080\u00ae"], "value": 1}],
+        )
         self.assertEqual(answer_of(made.encode()).rows("@")[0].key, ("café", "\\xff", "a\\x1bb", "\\x202e"))
         self.assertEqual(value_of("5"), 5)
 
