@@ -9,6 +9,7 @@ from btreplay import proved, unproved
 from btreplay.compiled import NotBuilt
 from btreplay.places import is_checkout
 from btreplay.recorded import head_of_file
+from btreplay.running import end_in_order
 from btreport import block, calls, processes, threads, time_line
 from btreport.faults import MEMORY, PROGRAM, READ, WORDS, WRITE, Refused, of_file
 from btreport.foot import foot
@@ -122,11 +123,7 @@ def report(program, path, scripts, version, is_proved):
     line = time_line.time_line_of(asked["time_line"].answer)
     name = os.path.basename(path)
     cut = f"{'python3 tools/btrecord' if is_checkout() else 'btrecord'} cut {shlex.quote(path)}"
-    not_asked = [
-        f"Not asked, as the recording has no tracepoints for it: {told}"
-        for which, told in LACKING.items()
-        if which not in asked
-    ]
+    not_asked = [told for which, told in LACKING.items() if which not in asked]
     panels = [time_line.head(name, line, asked["time_line"], not_asked), time_line.time_line(line, asked, cut)]
     panels += panels_of(line, asked) + own_panels(own)
     panels.append(foot(path, [*asked.values(), *own], version, is_proved))
@@ -164,6 +161,7 @@ def main(words):
     for stream in (sys.stdout, sys.stderr):
         if stream:
             stream.reconfigure(errors="backslashreplace")
+    end_in_order()
     try:
         return run(words)
     except Refused as fault:

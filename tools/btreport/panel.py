@@ -19,7 +19,7 @@ class Panel:
 def losses(asked):
     """What is told in red of a script that was refused, or that lost updates or was cut."""
     if asked.answer is None:
-        return [f"{asked.name} was refused: {asked.refusal}"]
+        return [f"refused: {asked.refusal}"]
     lost = [
         f"{asked.name}: {count} updates lost in {name}, for there was no room for their keys"
         for name, count in asked.answer.lost_updates()

@@ -43,6 +43,7 @@ class Program:
 
     def __init__(self, path, recording):
         self.path, self.recording = str(path), recording
+        self.runs, self.is_ended = set(), False
 
     def words(self, *words, script):
         """Does a command for a script and the recording: its status, what it printed, and what it told, with the
@@ -50,18 +51,25 @@ class Program:
         name, text = script
         handle = handle_of(os.fsencode(text))
         file = f"/dev/fd/{handle}"
+        given = [self.path, *words, file, path_of(self.recording)]
+        pipe = subprocess.PIPE
         try:
-            done = subprocess.run(
-                [self.path, *words, file, path_of(self.recording)],
-                stdin=subprocess.DEVNULL,
-                stdout=subprocess.PIPE,
-                stderr=subprocess.PIPE,
-                pass_fds=[handle],
-            )
+            run = subprocess.Popen(given, stdin=subprocess.DEVNULL, stdout=pipe, stderr=pipe, pass_fds=[handle])
         finally:
             os.close(handle)
-        told = done.stderr.decode("utf-8", "backslashreplace").strip()
-        return done.returncode, done.stdout, told.replace(f"{file}:", f"{name}:")
+        self.runs.add(run)
+        if self.is_ended:
+            run.kill()
+        with run:
+            output, told = run.communicate()
+        self.runs.discard(run)
+        return run.returncode, output, told.decode("utf-8", "backslashreplace").strip().replace(f"{file}:", f"{name}:")
+
+    def end(self):
+        """Ends the runs that have not ended, and those that begin just now."""
+        self.is_ended = True
+        for run in list(self.runs):
+            run.kill()
 
     def test(self):
         """Refuses the recording where the program does."""
@@ -93,8 +101,8 @@ class Program:
             raise Refused(f"the program printed what is none of its lines: {fault}", PROGRAM) from fault
 
     def ask_all(self, questions):
-        """Runs scripts side by side, and gives what came of them in their order. The first fault ends all that has not
-        begun."""
+        """Runs scripts side by side, and gives what came of them in their order. The first fault ends all
+        others."""
         with concurrent.futures.ThreadPoolExecutor(side_by_side()) as pool:
             runs = [pool.submit(self.ask, question) for question in questions]
             try:
@@ -102,4 +110,5 @@ class Program:
             except BaseException:
                 for run in runs:
                     run.cancel()
+                self.end()
                 raise

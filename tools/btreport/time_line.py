@@ -157,7 +157,8 @@ def head(name, line, asked, not_asked):
         fact("events", counted(line)),
     )
     lanes = element("div", *(gap_lane(line, cpu) for cpu in line.cpus), lane("", axis(line.span)), class_="lanes")
-    told = "".join(text("p", why, class_="quiet") for why in not_asked)
+    why = "Not asked, as the recording has no tracepoints for it: " + "; ".join(not_asked)
+    told = text("p", why, class_="quiet") if not_asked else ""
     return Panel(
         "head", "What was recorded", facts + lost(line) + told + lanes + gaps_key(line) + greatest_gaps(line), [asked]
     )

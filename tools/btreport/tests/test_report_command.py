@@ -7,6 +7,7 @@ import shutil
 import signal
 import subprocess
 import tempfile
+import time
 import unittest
 
 from made_answers import EXAMPLES, TOOLS, TOP, json_of, read_page
@@ -17,12 +18,14 @@ from btreport.questions import Recorded, details, first_questions
 
 # It answers by the text of the script, and notes its words and the script's first line.
 PROGRAM = """#!/usr/bin/env python3
-import json, os, signal, sys
+import json, os, signal, sys, time
 script = open(sys.argv[-2], encoding="utf-8", errors="surrogateescape").read()
 with open(os.environ["STAND_IN"] + "/asked", "a") as file:
     file.write(json.dumps([sys.argv[1:-2], sys.argv[-1], script]) + "\\n")
 known = json.load(open(os.environ["STAND_IN"] + "/answers"))
 found = known.get("check" if sys.argv[1] == "check" else script, {})
+if found.get("slow"):
+    time.sleep(60)
 if found.get("signal"):
     os.kill(os.getpid(), found["signal"])
 sys.stdout.write(found.get("out", ""))
@@ -171,7 +174,7 @@ class Command(unittest.TestCase):
         ]
         self.assertEqual(titles, sorted([path.name for path in EXAMPLES.glob("*.bt")] + ['<b>&".bt']))
         self.assertIn(
-            'own scripts/<b>&".bt was refused: own scripts/<b>&".bt:1:9: X1 bad character',
+            'refused: own scripts/<b>&".bt:1:9: X1 bad character',
             [told.text() for told in page.all("p", "red")],
         )
         self.assertIn(
@@ -193,6 +196,23 @@ class Command(unittest.TestCase):
                 self.assertEqual(
                     {recording for _, recording, _ in self.asked()}, {f"./{name}" if name.startswith("-") else name}
                 )
+
+    def test_a_fault_and_a_signal_end_the_other_runs(self):
+        slow = {question.text: {"slow": True} for question in self.questions[1:]}
+        began = time.monotonic()
+        fault = {self.questions[0].text: {"status": 6}}
+        self.assertEqual(self.run_report("small.btr", known={**slow, **fault})[0], 6)
+        (self.top / "answers").write_text(json.dumps({**self.answers, **slow}))
+        (self.top / "asked").write_text("")
+        environment = {**os.environ, "STAND_IN": str(self.top)}
+        words = [str(self.top / "btreport"), "small.btr"]
+        run = subprocess.Popen(words, cwd=self.home, env=environment, stderr=subprocess.DEVNULL)
+        while len(self.asked()) < 3:
+            time.sleep(0.05)
+        run.terminate()
+        self.assertEqual(run.wait(), 128 + signal.SIGTERM)
+        self.assertLess(time.monotonic() - began, 50)
+        self.assertEqual(self.files(), ["small.btr"])
 
     def test_a_pipe_is_no_recording(self):
         os.mkfifo(self.home / "pipe")

@@ -30,7 +30,7 @@ def whole(asked, scripts=(), name="r.btr"):
     """A whole page of answers."""
     found = time_line_of(asked["time_line"].answer)
     panels = [
-        head(name, found, asked["time_line"], ["Not asked: this"]),
+        head(name, found, asked["time_line"], ["this"]),
         time_line(found, asked, f"btrecord cut {name}"),
         *panels_of(found, asked),
     ]
@@ -71,7 +71,7 @@ class Names(unittest.TestCase):
                 ):
                     self.assertIn(wanted, titles(found.one("section", id=panel)))
                 self.assertIn(name, [cell.text() for cell in found.one("section", id="slow_calls").all("td")])
-                self.assertEqual(found.one("section", id="own_2").one("p", "red").text(), f"x was refused: {name}")
+                self.assertEqual(found.one("section", id="own_2").one("p", "red").text(), f"refused: {name}")
                 self.assertEqual(found.one("div", id="lanes").attributes["data-cut"], f"btrecord cut {name}")
 
     def test_a_script_may_have_any_text(self):
@@ -215,7 +215,7 @@ class Panels(unittest.TestCase):
         found = read_page(whole(asked, [losing]))
         self.assertEqual(
             found.one("section", id="refused_block").one("p", "red").text(),
-            "block was refused: block:1:1: A1 unknown tracepoint",
+            "refused: block:1:1: A1 unknown tracepoint",
         )
         self.assertEqual(
             [told.text() for told in found.one("section", id="own_1").all("p", "red")],
