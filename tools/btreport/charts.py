@@ -5,7 +5,9 @@ from btreport.scales import LEVELS, following, level, share
 # So many rows are drawn as bars or are lanes, and so many are in a table of numbers; what more there are is told.
 MOST_BARS = 24
 MOST_ROWS = 1_000
-ROW_PIXELS = 15
+ROW_PIXELS, LEAST_ROW_PIXELS = 15, 2
+# A grid is not higher, unless its rows are as low as they may be.
+GRID_PIXELS = 900
 LANE_PIXELS = 26
 BAR_UNITS = 1_000
 
@@ -89,13 +91,20 @@ def heat_map(columns, width, below, what="in a cell"):
     return grid(columns, labels, width, below, legend(min(counts), max(counts), what))
 
 
+def names_of(labels, pixels):
+    """The labels of a grid's rows, the last at the top. Where rows are lower than a text, some have none."""
+    each = -(-ROW_PIXELS // pixels)
+    shown = list(reversed(labels))[::each]
+    return "".join(text("span", label or "", style=f"height:{each * pixels}px") for label in shown)
+
+
 def grid(columns, labels, width, below, under):
     """A grid of cells with the labels of its rows, the last label at the top."""
     most = max((count for _, buckets in columns for _, count in buckets), default=0)
+    pixels = max(LEAST_ROW_PIXELS, min(ROW_PIXELS, GRID_PIXELS // max(len(labels), 1)))
     shapes = cells(columns, labels, lambda count: f"h{level(count, most)}")
-    names = "".join(text("span", label or "") for label in reversed(labels))
-    shape = drawing(width, len(labels), ROW_PIXELS * len(labels), shapes, f"{len(labels)} rows by {width} columns")
-    return element("div", lane(names, shape + below, "grid"), under, class_="heat")
+    shape = drawing(width, len(labels), pixels * len(labels), shapes, f"{len(labels)} rows by {width} columns")
+    return element("div", lane(names_of(labels, pixels), shape + below, "grid"), under, class_="heat")
 
 
 def strip(label, counts, width, title_of, pixels=LANE_PIXELS, kind="h"):

@@ -14,7 +14,7 @@ from btreport import block, calls, processes, threads, time_line
 from btreport.faults import MEMORY, PROGRAM, READ, WORDS, WRITE, Refused, of_file
 from btreport.foot import foot
 from btreport.output import at_default, written
-from btreport.own_panels import body_of
+from btreport.own_panels import body_of, first_comment
 from btreport.page import page
 from btreport.panel import Panel
 from btreport.questions import Question, Recorded, details, first_questions
@@ -108,10 +108,11 @@ def panels_of(line, asked):
 
 def own_panels(own):
     """The panels of the user's own scripts."""
-    return [
-        Panel(f"own_{place}", os.path.basename(one.name), body_of(one.answer) if one.answer else "", [one])
-        for place, one in enumerate(own, 1)
-    ]
+    found = []
+    for place, one in enumerate(own, 1):
+        body = body_of(one.answer) if one.answer else ""
+        found.append(Panel(f"own_{place}", os.path.basename(one.name), body, [one], first_comment(one.text)))
+    return found
 
 
 def report(program, path, scripts, version, is_proved):

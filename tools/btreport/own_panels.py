@@ -1,4 +1,6 @@
 """Panels of the user's own scripts: what each map and each line is drawn as follows from what it holds."""
+import itertools
+
 from btreport.answers import LOST_EVENTS, MAP, PRINTF, text_of
 from btreport.charts import MOST_BARS, MOST_ROWS, bars, grid, heat_map, histogram, left_out, legend, numbers
 from btreport.markup import element, escaped, folded, number, table, text, value
@@ -6,6 +8,13 @@ from btreport.markup import element, escaped, folded, number, table, text, value
 # So many keys of histograms are drawn; all are in the numbers.
 MOST_HISTOGRAMS = 12
 MOST_LINES = 500
+
+
+def first_comment(script):
+    """What the comment says that a script begins with, but for how it is run."""
+    lines = itertools.takewhile(lambda line: line.startswith("//"), script.splitlines())
+    words = [line[2:].strip() for line in lines]
+    return " ".join(line for line in words if not line.startswith("Run:"))
 
 
 def key_text(key):

@@ -83,7 +83,7 @@ dd{margin:0;overflow-wrap:anywhere}svg{display:block;width:100%}rect{shape-rende
 .axis span::before{content:"";position:absolute;left:50%;top:-3px;height:4px;border-left:1px solid var(--quiet)}
 .axis span:first-child::before{left:0}.axis .end::before{left:100%}.axis .last::before{display:none}
 .grid{grid-template-columns:7em minmax(0,1fr)}.grid>.label{padding:0;text-align:right}
-.grid>.label span{display:block;height:15px;line-height:15px;font-size:12px;white-space:nowrap;overflow:hidden;
+.grid>.label span{display:block;line-height:15px;font-size:12px;white-space:nowrap;overflow:hidden;
 text-overflow:ellipsis}
 .legend{display:flex;align-items:center;gap:8px;font-size:12px;color:var(--quiet);margin:0 0 6px}
 .swatches{display:inline-block;width:120px}

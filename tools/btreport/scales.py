@@ -38,20 +38,26 @@ def bounds(label):
     return low, bound(found[2]) if found[2] else (None if low is None else low + 1)
 
 
+def is_doubled(low, high):
+    """Whether a range is one of a histogram by powers of two: below 0, 0, 1, or a power of two up to the next."""
+    if low is None or high is None:
+        return high == 0
+    return low in (0, 1) and high == low + 1 or high == 2 * low and low & low - 1 == 0
+
+
 def following(labels):
     """The labels of a histogram by their ranges, the lowest first, with none in the places of ranges that have no label
     here."""
-    ordered = sorted(labels, key=lambda label: (bounds(label)[0] is not None, bounds(label)[0] or 0))
-    ends = [bounds(label) for label in ordered]
-    steps = {high - low for low, high in ends if low is not None and high is not None}
-    is_by_steps = len(steps) == 1 and not any(low is not None and low >= 2 and high == 2 * low for low, high in ends)
-    found = []
-    for label, (low, _) in zip(ordered, ends):
-        before = bounds(found[-1])[1] if found else None
-        while before is not None and low is not None and before < low:
+    ends = sorted((bounds(label) + (label,) for label in labels), key=lambda end: (end[0] is not None, end[0] or 0))
+    steps = {high - low for low, high, _ in ends if low is not None and high is not None}
+    by_powers = all(is_doubled(low, high) for low, high, _ in ends)
+    found, before = [], None
+    for low, high, label in ends:
+        while before is not None and low is not None and before < low and steps:
             found.append(None)
-            before = before + min(steps) if is_by_steps else max(2 * before, 1)
+            before = max(2 * before, 1) if by_powers else before + min(steps)
         found.append(label)
+        before = high
     return found
 
 

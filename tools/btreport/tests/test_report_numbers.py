@@ -7,7 +7,7 @@ from made_answers import BUCKET, EXAMPLES, ROW, json_of, key_of, line, read_page
 
 from btreport.answers import NotOfTheProgram, answer_of
 from btreport.markup import number
-from btreport.own_panels import body_of, has_heads, lines_of
+from btreport.own_panels import body_of, first_comment, has_heads, lines_of
 
 
 def drawn(text):
@@ -178,6 +178,12 @@ class Numbers(unittest.TestCase):
         ):
             with self.subTest(made), self.assertRaises(NotOfTheProgram):
                 answer_of(made.encode())
+
+    def test_the_question_of_a_script(self):
+        script = (EXAMPLES / "write_back.bt").read_text()
+        self.assertTrue(first_comment(script).startswith("Why is write-back begun, by device, and for how many pages at"))
+        self.assertNotIn("Run:", first_comment(script))
+        self.assertEqual(first_comment("BEGIN { } // later"), "")
 
     def test_bytes_of_names(self):
         """A byte is a character of the line: UTF-8 is read as it, and what cannot be seen is spelled."""

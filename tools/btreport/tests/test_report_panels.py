@@ -6,6 +6,7 @@ from made_answers import line, read_page
 from made_report import RECORDED, SPAN, asked_of, own
 
 from btreport.block import device
+from btreport.charts import grid
 from btreport.command import own_panels, panels_of
 from btreport.foot import commands
 from btreport.page import SCRIPT, page
@@ -278,6 +279,17 @@ class Scales(unittest.TestCase):
             following({"[0, 10)", "[30, 40)", "[40, ...)"}), ["[0, 10)", None, None, "[30, 40)", "[40, ...)"]
         )
         self.assertEqual(following({"[512, 1K)", "[2K, 4K)"}), ["[512, 1K)", None, "[2K, 4K)"])
+
+        self.assertEqual(following({"[-10, -5)", "[5, 10)"}), ["[-10, -5)", None, None, "[5, 10)"])
+        self.assertEqual(following({"(..., 0)", "[10, ...)"}), ["(..., 0)", "[10, ...)"])
+        self.assertEqual(len(following({"[0, 1)", "[1000, ...)"})), 1_001)
+
+    def test_a_grid_of_many_rows_is_not_too_high(self):
+        for count, rows in ((3, 3), (60, 60), (1_000, 125)):
+            labels = [f"[{k}, {k + 1})" for k in range(count)]
+            found = read_page(grid([(0, [(labels[0], 1)])], labels, 1, "", ""))
+            self.assertEqual(len(found.one("div", "label").inside), rows)
+            self.assertLessEqual(int(found.one("svg").attributes["style"][len("height:"):-2]), 2_000)
 
     def test_ticks(self):
         self.assertEqual(ticks(0), [(0, "0")])
