@@ -14,6 +14,7 @@ SCRIPT = """
   if (!lanes || !told) { return; }
   const selected = lanes.querySelector(".selected"), span = BigInt(lanes.dataset.span), parts = 1000000;
   let first = null;
+  document.getElementById("drag").hidden = false;
   function area() { return lanes.querySelector(".drawn").getBoundingClientRect(); }
   function share(event) {
     const box = area();

@@ -204,9 +204,8 @@ def time_line(line, asked, cut):
         data_span=line.span,
         data_cut=cut,
     )
-    told = text(
-        "p", "Drag over a window for the command that cuts it out; as it stands it takes all:", class_="note drag"
-    )
+    told = text("p", "This command cuts out a part; as it stands it takes all.", class_="note")
+    told += text("p", "Drag over a window above, and it takes that.", class_="note", id="drag", hidden="")
     names = ["time_line"] + [name for name in ("threads", "block", "calls") if name in asked]
     return Panel(
         "time_line",
