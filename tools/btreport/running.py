@@ -10,8 +10,8 @@ from btreport.answers import NotOfTheProgram, answer_of
 from btreport.faults import MEMORY, PROGRAM, Refused
 
 SCRIPT_REFUSED = 2
-# A run takes some hundred megabytes for the largest recording.
-BYTES_OF_RUN = 1_500_000_000
+# A run takes some hundred megabytes for the largest recordings.
+BYTES_OF_RUN = 1_000_000_000
 
 
 @dataclass(frozen=True)
