@@ -9,7 +9,7 @@ from btreport.questions import CELLS, SLOWEST
 
 # So many calls have a heat map, and so many processes are in the icicle by their time, and by how many calls they make.
 MOST_CALLS = 12
-MOST_PROCESSES = 8
+MOST_PROCESSES = 20
 # A box of an icicle that is narrower is not seen, and not drawn.
 LEAST_BOX = 0.0005
 HUES = 6

@@ -8,6 +8,8 @@ from btreport.panel import Panel
 from btreport.questions import COLUMNS
 
 MOST_LOSSES = 12
+# A loss is drawn so wide that it is seen, of the thousand parts of the span.
+LEAST_LOSS = 5
 
 
 @dataclass
@@ -108,10 +110,10 @@ def gap_lane(line, cpu):
         )
     for loss in line.losses:
         if loss.cpu == cpu:
-            width = max(BAR_UNITS * (loss.end - loss.begin) / span, 3)
+            width = max(BAR_UNITS * (loss.end - loss.begin) / span, LEAST_LOSS)
             parts.append(
                 rectangle(
-                    BAR_UNITS * loss.begin / span,
+                    min(BAR_UNITS * loss.begin / span, BAR_UNITS - width),
                     0,
                     width,
                     1,
