@@ -13,12 +13,12 @@ from btreplay.running import end_in_order
 from btreport import block, calls, processes, threads, time_line
 from btreport.faults import MEMORY, PROGRAM, READ, WORDS, WRITE, Refused, of_file
 from btreport.foot import foot
-from btreport.output import at_default, written
+from btreport.output import at_default, stem, written
 from btreport.own_panels import body_of, first_comment
 from btreport.page import page
 from btreport.panel import Panel
 from btreport.questions import Question, Recorded, details, first_questions
-from btreport.running import Program
+from btreport.running import Program, path_of
 from btreport.words import parsed
 
 # What is not asked where a recording lacks tracepoints, and those that it takes.
@@ -115,6 +115,13 @@ def own_panels(own):
     return found
 
 
+def command_to_cut(recording):
+    """The command that cuts a part out of a recording, into a file of another name."""
+    tool = "python3 tools/btrecord" if is_checkout() else "btrecord"
+    part = path_of(f"{stem(recording)}-part.btr")
+    return f"{tool} cut {shlex.quote(path_of(recording))} -o {shlex.quote(part)}"
+
+
 def report(program, path, scripts, version, is_proved):
     """The page, as bytes."""
     recorded = recorded_of(program, path)
@@ -123,9 +130,11 @@ def report(program, path, scripts, version, is_proved):
         raise Refused(asked["time_line"].refusal, PROGRAM)
     line = time_line.time_line_of(asked["time_line"].answer)
     name = os.path.basename(path)
-    cut = f"{'python3 tools/btrecord' if is_checkout() else 'btrecord'} cut {shlex.quote(path)}"
     not_asked = [told for which, told in LACKING.items() if which not in asked]
-    panels = [time_line.head(name, line, asked["time_line"], not_asked), time_line.time_line(line, asked, cut)]
+    panels = [
+        time_line.head(name, line, asked["time_line"], not_asked),
+        time_line.time_line(line, asked, command_to_cut(path)),
+    ]
     panels += panels_of(line, asked) + own_panels(own)
     panels.append(foot(path, [*asked.values(), *own], version, is_proved))
     return page(f"Recording {name}", panels)

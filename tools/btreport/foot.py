@@ -6,6 +6,7 @@ from btreplay.places import is_checkout
 from btreport.faults import READ, of_file
 from btreport.markup import element, escaped, text
 from btreport.panel import Panel
+from btreport.running import path_of
 
 CHUNK = 1 << 20
 
@@ -27,7 +28,9 @@ def commands(path, asked):
     name."""
     program = "./btreplay" if is_checkout() else "btreplay"
     names = [one.name if "." in one.name else f"{one.name}.bt" for one in asked]
-    return "\n".join(f"{program} run --serial --json {shlex.quote(name)} {shlex.quote(path)}" for name in names)
+    return "\n".join(
+        f"{program} run --serial --json {shlex.quote(name)} {shlex.quote(path_of(path))}" for name in names
+    )
 
 
 def foot(path, asked, version, is_proved):

@@ -7,15 +7,19 @@ import btreport.faults  # noqa: F401  (it has the modules of the recorder found)
 from btreport.faults import WORDS, WRITE, Refused, of_file
 from output import Output
 
-ENDINGS = (".btr",)
+ENDING = ".btr"
+
+
+def stem(recording):
+    """The name of a recording without its folder and ending."""
+    name = os.path.basename(recording)
+    return name[: -len(ENDING)] if name.endswith(ENDING) and name != ENDING else name
 
 
 def at_default(recording):
     """The name of the page where none is given: the recording's, in the caller's folder. What is there already
     stays."""
-    name = os.path.basename(recording)
-    stem = next((name[: -len(ending)] for ending in ENDINGS if name.endswith(ending) and name != ending), name)
-    path = f"{stem or 'report'}.html"
+    path = f"{stem(recording) or 'report'}.html"
     if os.path.lexists(path):
         raise Refused(f"{path} is there already; name it by -o to put the report in its place", WORDS)
     return path

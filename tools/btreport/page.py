@@ -26,7 +26,7 @@ SCRIPT = """
     selected.style.display = "block";
     selected.style.left = (box.left - lanes.getBoundingClientRect().left + begin * box.width) + "px";
     selected.style.width = ((end - begin) * box.width) + "px";
-    told.textContent = lanes.dataset.cut + " --from +" + time(begin) + "ns --to +" + time(end) + "ns -o part.btr";
+    told.textContent = lanes.dataset.cut + " --from +" + time(begin) + "ns --to +" + time(end) + "ns";
   }
   lanes.addEventListener("pointerdown", function (event) {
     if (event.button !== 0 || !event.target.closest(".drawn")) { return; }

@@ -195,7 +195,7 @@ def time_line(line, asked, cut):
     strips.append(measured(line, asked, "threads", "@longest_wait", "longest wait for a CPU", "ns", "wait"))
     strips.append(measured(line, asked, "block", "@issued_in", "block requests issued", "issued", "request"))
     strips.append(measured(line, asked, "calls", "@failed_in", "system calls that fail", "failed", "error"))
-    whole = f"{cut} --from +0ns --to +{line.span}ns -o part.btr"
+    whole = f"{cut} --from +0ns --to +{line.span}ns"
     body = element(
         "div",
         *strips,

@@ -216,8 +216,8 @@ class Browser(unittest.TestCase):
         self.assertEqual(console, [])
         self.assertFalse(found["dark"])
         self.check(found, 1_400)
-        self.assertEqual(found["before"], f"btrecord cut small.btr --from +0ns --to +{SPAN}ns -o part.btr")
-        self.assertEqual(found["cut"], f"btrecord cut small.btr --from +{SPAN // 4}ns --to +{SPAN // 2}ns -o part.btr")
+        self.assertEqual(found["before"], f"btrecord cut small.btr --from +0ns --to +{SPAN}ns")
+        self.assertEqual(found["cut"], f"btrecord cut small.btr --from +{SPAN // 4}ns --to +{SPAN // 2}ns")
         self.assertAlmostEqual(found["selected"], 0.25, delta=0.01)
 
     def test_a_narrow_window_and_dark(self):

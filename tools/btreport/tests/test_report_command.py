@@ -3,6 +3,7 @@ page goes, and each fault."""
 import json
 import os
 import pathlib
+import shlex
 import shutil
 import signal
 import subprocess
@@ -174,8 +175,7 @@ class Command(unittest.TestCase):
         ]
         self.assertEqual(titles, sorted([path.name for path in EXAMPLES.glob("*.bt")] + ['<b>&".bt']))
         self.assertIn(
-            'refused: own scripts/<b>&".bt:1:9: X1 bad character',
-            [told.text() for told in page.all("p", "red")],
+            'refused: own scripts/<b>&".bt:1:9: X1 bad character', [told.text() for told in page.all("p", "red")]
         )
         self.assertIn(
             "./btreplay"[2:] + " run --serial --json 'own scripts/block_bytes.bt' small.btr",
@@ -193,6 +193,9 @@ class Command(unittest.TestCase):
                 words = ["--", name] if name.startswith("-") else [name]
                 self.assertEqual(self.run_report("-o", "out.html", *words)[0], 0)
                 self.assertEqual(self.page("out.html").one("h1").text(), f"Recording {name}")
+                cut = shlex.split(self.page("out.html").one("pre", id="cut").text())
+                path, part = (f"./{one}" if one.startswith("-") else one for one in (name, f"{name[:-4]}-part.btr"))
+                self.assertEqual(cut[:5], ["btrecord", "cut", path, "-o", part])
                 self.assertEqual(
                     {recording for _, recording, _ in self.asked()}, {f"./{name}" if name.startswith("-") else name}
                 )

@@ -181,7 +181,9 @@ class Numbers(unittest.TestCase):
 
     def test_the_question_of_a_script(self):
         script = (EXAMPLES / "write_back.bt").read_text()
-        self.assertTrue(first_comment(script).startswith("Why is write-back begun, by device, and for how many pages at"))
+        self.assertTrue(
+            first_comment(script).startswith("Why is write-back begun, by device, and for how many pages at")
+        )
         self.assertNotIn("Run:", first_comment(script))
         self.assertEqual(first_comment("BEGIN { } // later"), "")
 

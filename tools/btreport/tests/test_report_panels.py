@@ -149,9 +149,7 @@ class Panels(unittest.TestCase):
             f"5 failed from {6 * column} ns on",
         ):
             self.assertIn(wanted, found)
-        self.assertEqual(
-            self.page.one("pre", id="cut").text(), f"btrecord cut r.btr --from +0ns --to +{SPAN}ns -o part.btr"
-        )
+        self.assertEqual(self.page.one("pre", id="cut").text(), f"btrecord cut r.btr --from +0ns --to +{SPAN}ns")
 
     def test_who_ran_waited_and_was_blocked(self):
         lanes = list(self.panel("who").all("div", "stacked"))
@@ -215,8 +213,7 @@ class Panels(unittest.TestCase):
         )
         found = read_page(whole(asked, [losing]))
         self.assertEqual(
-            found.one("section", id="refused_block").one("p", "red").text(),
-            "refused: block:1:1: A1 unknown tracepoint",
+            found.one("section", id="refused_block").one("p", "red").text(), "refused: block:1:1: A1 unknown tracepoint"
         )
         self.assertEqual(
             [told.text() for told in found.one("section", id="own_1").all("p", "red")],
@@ -289,7 +286,7 @@ class Scales(unittest.TestCase):
             labels = [f"[{k}, {k + 1})" for k in range(count)]
             found = read_page(grid([(0, [(labels[0], 1)])], labels, 1, "", ""))
             self.assertEqual(len(found.one("div", "label").inside), rows)
-            self.assertLessEqual(int(found.one("svg").attributes["style"][len("height:"):-2]), 2_000)
+            self.assertLessEqual(int(found.one("svg").attributes["style"][len("height:") : -2]), 2_000)
 
     def test_ticks(self):
         self.assertEqual(ticks(0), [(0, "0")])
