@@ -96,7 +96,7 @@ class Command(unittest.TestCase):
         self.assertLess(len(runs), 10)
         page = self.page()
         self.assertIn("btreplay, proved with a kit", page.one("section", id="foot").text())
-        self.assertIn("btrecord cut small.btr --from +0ns", page.one("pre", id="cut").text())
+        self.assertIn("btrecord cut small.btr -o small-part.btr --from +0ns", page.one("pre", id="cut").text())
         self.assertIn(
             subprocess.run(["sha256sum", "small.btr"], cwd=self.home, stdout=subprocess.PIPE)
             .stdout.decode()
