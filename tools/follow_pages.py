@@ -19,11 +19,12 @@ import subprocess
 import tempfile
 
 TOP = pathlib.Path(__file__).resolve().parent.parent
-PAGES = ["README.md", "examples/README.md", "docs/LANGUAGE.md", "docs/DIFFERENCES.md"]
+PAGES = ["README.md", "examples/README.md", "docs/LANGUAGE.md", "docs/DIFFERENCES.md", "docs/REPORT.md"]
+REPORT = "python3 tools/btreport "
 FAULT = re.compile(r"(s\.bt:\d+:\d+|r\.btr): [A-Z]\d+ ")
 SCRIPT = re.compile(r"`((?:BEGIN|END|tracepoint:|t:|interval:|i:)[^`]*\{[^`]*\})`")
 RECORDING = "examples/small.btr"
-NOT_PROVED = "btreplay: this build is not proved\n"
+NOT_PROVED = re.compile(r"^btre(?:play|port): this build is not proved\n", re.M)
 UNPROVED = """#!/bin/sh
 [ "$1" = --unproved ] || set -- --unproved "$@"
 exec '{program}' "$@"
@@ -65,10 +66,14 @@ class Follower:
 
     def output_of(self, command):
         """What a command writes, to both streams."""
+        if self.is_unproved and "--unproved" not in command:
+            command, is_added = command.replace(REPORT, f"{REPORT}--unproved "), True
+        else:
+            is_added = False
         done = subprocess.run(["bash", "-c", command], cwd=self.folder, stdin=subprocess.DEVNULL, stdout=subprocess.PIPE,
                               stderr=subprocess.STDOUT)
         came = done.stdout.decode(errors="replace")
-        return came.replace(NOT_PROVED, "") if self.is_unproved and "--unproved" not in command else came
+        return NOT_PROVED.sub("", came) if is_added else came
 
     def compare(self, what, wanted, came):
         """Counts a try, and tells where it differs."""
