@@ -11,6 +11,7 @@ use Rattle.bt_core.specs.declared.step.Reply.{Reply}
 use Rattle.bt_core.specs.declared.value.Value.{Value}
 use Rattle.bt_core.specs.Interaction.{Interaction, Ended, ask, and_then}
 use Rattle.map_rows.specs.Merged.{merged}
+use Rattle.map_rows.specs.UnderKey.{number_under}
 use Rattle.map_ops.specs.declared.sweep.Sweep.{Sweep}
 use Rattle.map_ops.specs.declared.sweep.Sweep.TheVariants.{Read}
 use Rattle.map_ops.specs.Holders.{part, holder, holders, sweep_op}
@@ -36,3 +37,7 @@ swept sweep kind m actors = asked_from (holder kind m) (sweep_op sweep kind m) [
 -- all objects that hold the map are read, and then its merged rows are emitted, also where there are none
 abbrev pub printed : MapKind → MapId → ℕ → ℤ → ℕ → Interaction (Unit {0})
 printed kind m top div actors = and_then (swept Read kind m actors) (λ replies. told Out (ops.Emit (items.Map m (merged kind replies) top div)))
+
+-- all objects that hold the map are read, and the value is the number under the key of its merged rows
+abbrev pub summed : MapKind → MapId → List Value → ℕ → Interaction ℤ
+summed kind m key actors = and_then (swept Read kind m actors) (λ replies. Ended (number_under key (merged kind replies)))

@@ -6,3 +6,4 @@ pub mod Entries
 pub mod MergedLaws
 pub mod MergingSteps
 pub mod KeyOrder
+pub mod HeldNumbers

@@ -3,3 +3,6 @@ pub mod Merged
 pub mod Merging
 pub mod MergedRows
 pub mod Items
+pub mod Numbers
+pub mod UnderKey
+pub mod HeldAggs
