@@ -1,5 +1,5 @@
 -- What a typed tree may name, and which parts fit it.
-use Rattle.std.specs.Prelude.{ℕ, ℤ, pos, Bool, true, false, ◌&&◌, ◌||◌, ◌==◌, ◌^◌, nat_le, int_le, int_lt, nat_lt, List, [], ◌∷◌, length, Option, Some, None, slice_get, if◌then◌else◌}
+use Rattle.std.specs.Prelude.{ℕ, ℤ, pos, Bool, true, false, not, ◌&&◌, ◌||◌, ◌==◌, ◌^◌, nat_le, int_le, int_lt, nat_lt, List, [], ◌∷◌, length, Option, Some, None, slice_get, if◌then◌else◌}
 use Rattle.std.specs.List.{list_all, list_any}
 use Rattle.std.specs.Str.{bytes_eq}
 use Rattle.bt_core.specs.declared.limits.TheConstants.{KEY_PARTS, LHIST_BUCKETS}
@@ -86,6 +86,12 @@ abbrev pub is_summed_kind : MapKind → Bool
 is_summed_kind (Aggs kind) = is_number kind
 is_summed_kind Ints = false
 is_summed_kind Strs = false
+
+-- an aggregation that is a histogram
+abbrev pub is_hist : MapKind → Bool
+is_hist (Aggs kind) = not (is_number kind)
+is_hist Ints = false
+is_hist Strs = false
 
 -- the bounds of a linear histogram: the greatest is above the least, and there are at most 1,000 steps of at least 1
 abbrev pub is_fine_agg : AggKind → Bool
