@@ -13,7 +13,7 @@ use Rattle.bt_core.specs.Kinds.{HasShape}
 use Rattle.bt_core.specs.Ports.{Setting}
 use Rattle.tracefs_format.specs.declared.field.FieldKind.{FieldKind}
 use Rattle.tracefs_format.specs.declared.field.FieldKind.TheVariants.{Number, Chars, DataLoc, Other}
-use Rattle.typed_tree.specs.Scope.{same_shapes, is_shape, shape_of_field, is_declared, is_shared, is_there, kind_of_shape, may_print}
+use Rattle.typed_tree.specs.Scope.{same_shapes, is_shape, shape_of_field, is_declared, is_shared, is_summed, is_there, kind_of_shape, may_print}
 use Rattle.ir_code.specs.declared.blocks.Block.{Block}
 use Rattle.ir_code.specs.declared.blocks.Exit.{Exit}
 use Rattle.ir_code.specs.declared.blocks.Exit.TheVariants.{Goto, Branch, Count, Gate, Again, End}
@@ -33,6 +33,7 @@ use Rattle.map_ops.specs.Values.{number_of, holds}
 use Rattle.ir_code.specs.Stacks.{top, below}
 use Rattle.bt_ir.proofs.Asks.{Can-and_then}
 use Rattle.ir_code.proofs.Shaped.{same_shapes-is, ends_is, shaped-pop, shaped-put}
+use Rattle.typed_tree.proofs.Summed.{summed_there}
 use Rattle.bt_ir.proofs.Typed.{sweep_case, Footing, HasStack, all}
 
 pub here_of : (bs : List Block) (k : ℕ) (b : Block) → k < length bs → b ≡ get_or bs k b → slice_get bs k ≡ Some b
@@ -76,6 +77,9 @@ module _ (g : Ground) (setting : Setting) (v : View) (maps : v.maps.now ≡ g.ma
   ready (i.Compare equal) n e s = tt
   ready i.Truth n e s = tt
   ready (i.Get m key shape) n e s = few key (is_declared (slice_get g.maps m.0) (kind_of_shape shape) key) n
+  ready (i.ReadAgg m key) n e s =
+      let summed = is_summed (slice_get g.maps m.0) key in
+      (few key summed n, swept m s (summed_there (slice_get g.maps m.0) key (and_parts (is_key key) summed n).1))
   ready (i.Set m key shape) n e s = few key (is_declared (slice_get g.maps m.0) (kind_of_shape shape) key) n
   ready (i.Delete m key) n e s = few key (is_shared (slice_get g.maps m.0) key) n
   ready (i.Update m key op) n e s = few key (is_declared (slice_get g.maps m.0) (kind_of_shape shapes.Int) key) n

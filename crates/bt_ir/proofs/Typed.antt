@@ -19,7 +19,8 @@ use Rattle.bt_core.specs.declared.value.Value.TheVariants.{Int, Str}
 use Rattle.bt_core.specs.KeyBytes.{part_of}
 use Rattle.bt_core.specs.Kinds.{HasShape, IsOfShape, IsOfKind, IsShared, IsAggregation}
 use Rattle.bt_core.specs.Ports.{Setting, CanStep}
-use Rattle.typed_tree.specs.Scope.{same_shapes, same_kind, is_declared, is_shared, is_there, is_agg, kind_of_shape}
+use Rattle.typed_tree.specs.Scope.{same_shapes, same_kind, is_declared, is_shared, is_summed, is_there, is_agg, kind_of_shape}
+use Rattle.typed_tree.proofs.Summed.{summed_there}
 use Rattle.ir_code.specs.declared.instr.Instr.{Instr}
 use Rattle.ir_code.specs.declared.instr.Instr.TheVariants as i
 use Rattle.ir_code.specs.declared.state.State.{State}
@@ -183,6 +184,12 @@ module _ (g : Ground) (setting : Setting) (scene : Scene) (f : Footing g setting
       let p = shaped-split rest key s.stack h in
       let d = held g setting m key shape w n in
       (get_can setting m key shape (last_of (length key) s.stack) d p.1, λ r. shaped-put rest shape (front_of (length key) s.stack) _ p.0 (as_shape-shaped shape _))
+  local (i.ReadAgg m key) rest s n w h =
+      let p = shaped-split rest key s.stack h in
+      let named = there m (summed_there (slice_get g.maps m.0) key (and_parts (is_key key) (is_summed (slice_get g.maps m.0) key) n).1) in
+      Can-and_then setting (λ a. Unit {0}) _ _ _
+      (Can-and_then setting (λ rs. Unit {0}) _ _ _ (swept_can setting scene.maps m Read scene.actors (served m w) named f.actors) (λ rs u. tt))
+      (λ a u. shaped-put rest shapes.Int (front_of (length key) s.stack) (Int a) p.0 tt)
   local (i.Set m key shape) rest s n w h =
       let q = shaped-pop (rest ++ key) shape s.stack (subst (λ (l : List Shape). HasShape l s.stack) (sym (append_assoc rest key (shape ∷ []))) h) in
       let p = shaped-split rest key (below s.stack) q.0 in

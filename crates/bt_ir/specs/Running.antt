@@ -47,6 +47,7 @@ abbrev pub IsReady : Setting → View → Instr → Type 0
 IsReady setting v (i.NumberField f) = (f.kind ≡ Number) × (end_of f ≤ length v.payload.now)
 IsReady setting v (i.TextField f) = (f.kind ≡ Chars ⊎ f.kind ≡ DataLoc) × (end_of f ≤ length v.payload.now)
 IsReady setting v (i.Get m key shape) = length key ≤ KEY_PARTS
+IsReady setting v (i.ReadAgg m key) = (length key ≤ KEY_PARTS) × CanSweep setting m (kind_of v.maps.now m) v.actors
 IsReady setting v (i.Set m key shape) = length key ≤ KEY_PARTS
 IsReady setting v (i.Delete m key) = length key ≤ KEY_PARTS
 IsReady setting v (i.Update m key op) = length key ≤ KEY_PARTS
