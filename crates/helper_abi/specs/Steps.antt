@@ -5,6 +5,7 @@ use Rattle.bt_core.specs.declared.map.MapKind.{MapKind}
 use Rattle.bt_core.specs.declared.step.ObjectId.{ObjectId}
 use Rattle.bt_core.specs.declared.step.Op.{Op}
 use Rattle.bt_core.specs.declared.value.Value.{Value}
+use Rattle.bt_core.specs.declared.value.Value.TheVariants.{Int}
 use Rattle.bt_core.specs.Interaction.{Interaction, Ended, and_then}
 use Rattle.bt_core.specs.KeyBytes.{value_bytes}
 use Rattle.bpf_insn.specs.declared.address.TheConstants.{FRAME}
@@ -31,6 +32,10 @@ told s object op = answered s (map.told object op)
 -- the value under a key is read and written at an address
 abbrev pub got : Spaces → MapId → List Value → ℕ → Interaction Answer
 got s m key to = and_then (map.got m key) (λ value. Ended (wrote s to value))
+
+-- the number of an aggregation under a key is read and written at an address
+abbrev pub summed : Spaces → MapKind → MapId → List Value → ℕ → ℕ → Interaction Answer
+summed s kind m key to actors = and_then (map.summed kind m key actors) (λ n. Ended (wrote s to (Int n)))
 
 -- each object that holds the map is cleared, or its values are made 0 or empty
 abbrev pub swept_all : Spaces → Sweep → MapKind → MapId → ℕ → Interaction Answer
