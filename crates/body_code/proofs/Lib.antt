@@ -45,3 +45,4 @@ pub mod LoopForm
 pub mod Under
 pub mod Landings
 pub mod Asked
+pub mod Summed
