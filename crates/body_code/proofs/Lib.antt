@@ -46,3 +46,4 @@ pub mod Under
 pub mod Landings
 pub mod Asked
 pub mod Summed
+pub mod HeldNumbers

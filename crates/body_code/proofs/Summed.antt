@@ -13,10 +13,10 @@ use Rattle.bt_core.specs.declared.step.Reply.TheVariants as replies
 use Rattle.bt_core.specs.declared.value.Value.{Value}
 use Rattle.bt_core.specs.Interaction.{Interaction, Ended, Asks, Call, and_then}
 use Rattle.bt_core.specs.Same.{Yields}
-use Rattle.map_rows.specs.HeldAggs.{AreHeldAggs, HasHeldAggs}
+use Rattle.step_list.specs.HeldReplies.{AreHeldAggs, IsHeldReply}
 use Rattle.map_rows.specs.Merged.{agg_row, rows_in, all_rows, merged}
 use Rattle.map_rows.specs.UnderKey.{number_under}
-use Rattle.map_rows.proofs.HeldNumbers.{RowsHeld, IsHeldCell, merged_number_fits}
+use Rattle.body_code.proofs.HeldNumbers.{RowsHeld, IsHeldCell, merged_number_fits}
 use Rattle.map_ops.specs.declared.sweep.Sweep.TheVariants.{Read}
 use Rattle.map_ops.specs.Asking.{asked_from, swept, summed}
 use Rattle.map_ops.specs.Holders.{holder, holders, sweep_op}
@@ -28,9 +28,9 @@ Yields-then comes P Q (Ended a) k y f = f a y
 Yields-then comes P Q (Asks c g) k y f = λ reply h. Yields-then comes P Q (g reply) k (y reply h) f
 
 abbrev AllHeld : List Reply → Type 0
-AllHeld rs = AllByRecursion HasHeldAggs rs
+AllHeld rs = AllByRecursion IsHeldReply rs
 
-one_more : (rs : List Reply) (r : Reply) → AllHeld rs → HasHeldAggs r → AllHeld (rs ++ r ∷ [])
+one_more : (rs : List Reply) (r : Reply) → AllHeld rs → IsHeldReply r → AllHeld (rs ++ r ∷ [])
 one_more [] r h p = (p, tt)
 one_more (q ∷ rs) r h p = (h.0, one_more rs r h.1 p)
 
@@ -44,7 +44,7 @@ aggs_held : (rows : List (List Value × Agg)) → AreHeldAggs rows → RowsHeld 
 aggs_held [] h = tt
 aggs_held (row ∷ rows) h = (h.0, aggs_held rows h.1)
 
-reply_held : (kind : AggKind) (r : Reply) → HasHeldAggs r → RowsHeld (rows_in (Aggs kind) r)
+reply_held : (kind : AggKind) (r : Reply) → IsHeldReply r → RowsHeld (rows_in (Aggs kind) r)
 reply_held kind (replies.Aggs rows) h = aggs_held rows h
 reply_held kind (replies.Pairs rows) h = tt
 reply_held kind (replies.Value v) h = tt

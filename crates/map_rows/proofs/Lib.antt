@@ -6,4 +6,3 @@ pub mod Entries
 pub mod MergedLaws
 pub mod MergingSteps
 pub mod KeyOrder
-pub mod HeldNumbers

@@ -5,4 +5,3 @@ pub mod MergedRows
 pub mod Items
 pub mod Numbers
 pub mod UnderKey
-pub mod HeldAggs

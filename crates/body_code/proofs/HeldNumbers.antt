@@ -17,7 +17,7 @@ use Rattle.bt_core.specs.Arithmetic.{binary_value, wrapped, is_zero}
 use Rattle.agg_core.specs.Aggregates.{signed, either, merged as merged_agg}
 use Rattle.agg_core.specs.Changes.{is_key}
 use Rattle.map_rows.specs.Merged.{both_cells, joined, cells_at, merged_rows, ordered_keys}
-use Rattle.map_rows.specs.HeldAggs.{OptionFits, IsHeldAgg}
+use Rattle.step_list.specs.HeldReplies.{OptionFits, IsHeldAgg}
 use Rattle.map_rows.specs.UnderKey.{cell_number, number_under}
 use Rattle.map_rows.specs.Numbers.{number_of, number_by, or_zero, quotient}
 
