@@ -17,18 +17,18 @@ use Rattle.typed_tree.specs.declared.stmt.TypedStmt.{TypedStmt}
 use Rattle.ir_code.specs.Figures.{sizes_of}
 use Rattle.bt_lower.specs.declared.need.Need.{Need}
 use Rattle.bt_lower.specs.declared.need.Valued.{Valued}
-use Rattle.bt_lower.specs.Needs.{need, valued, greater, all_need, gather_need, predicate_need, value_need, text_need, number_need, stmt_need, block_need, tree_need, any_layer, num_layer, str_layer, stmt_layer, block_layer}
+use Rattle.bt_lower.specs.Needs.{need, valued, greater, all_need, gather_need, predicate_need, value_need, text_need, number_need, stmt_need, block_need, tree_need, value_need_by_parts, number_need_by_parts, text_need_by_parts, stmt_need_by_parts, block_need_by_parts}
 use Rattle.bt_lower.proofs.Forms.{Gather-need}
 use Rattle.big_script.proofs.Body.{IsBody, counted, gathered}
 
 field_need : (f : Field) → number_need (nums.Field f) ≡ need 8 8
-field_need f = ap number_need (sym (nums.rolls-Field f)) ∙ fold-roll-NumExpr Valued Need Need any_layer num_layer str_layer (NumExpr-F.NumExpr::Field f)
+field_need f = ap number_need (sym (nums.rolls-Field f)) ∙ fold-roll-NumExpr Valued Need Need value_need_by_parts number_need_by_parts text_need_by_parts (NumExpr-F.NumExpr::Field f)
 
 comm_need : value_need (anys.Str strs.Comm) ≡ valued 64 (need 64 24)
 comm_need =
     ap value_need (sym (anys.rolls-Str strs.Comm))
-    ∙ (fold-roll-AnyExpr Valued Need Need any_layer num_layer str_layer (AnyExpr-F.Str strs.Comm)
-    ∙ ap (valued 64) (ap text_need (sym strs.rolls-Comm) ∙ fold-roll-StrExpr Valued Need Need any_layer num_layer str_layer StrExpr-F.Comm))
+    ∙ (fold-roll-AnyExpr Valued Need Need value_need_by_parts number_need_by_parts text_need_by_parts (AnyExpr-F.Str strs.Comm)
+    ∙ ap (valued 64) (ap text_need (sym strs.rolls-Comm) ∙ fold-roll-StrExpr Valued Need Need value_need_by_parts number_need_by_parts text_need_by_parts StrExpr-F.Comm))
 
 counted_need : (m : MapId) → stmt_need (counted m) ≡ need 64 48
 counted_need m = Gather-need m (anys.Str strs.Comm ∷ []) agg.Count None ∙ ap (λ (v : Valued). gather_need (v ∷ []) None) comm_need
@@ -39,7 +39,7 @@ gathered_need m kind f =
     ∙ ap (λ (n : Need). need (max 0 (0 + n.frame)) (24 + 0 + n.code)) (field_need f)
 
 block_needs : (b : TypedBlock) → block_need b ≡ all_need (map stmt_need (out-TypedBlock b).stmts)
-block_needs b = ap block_need (sym (roll-out-TypedBlock b)) ∙ fold-roll-TypedBlock Need Need stmt_layer block_layer (out-TypedBlock b)
+block_needs b = ap block_need (sym (roll-out-TypedBlock b)) ∙ fold-roll-TypedBlock Need Need stmt_need_by_parts block_need_by_parts (out-TypedBlock b)
 
 pub body_need : (tree : TypedTree) → IsBody tree → tree_need tree ≡ need 88 144
 body_need tree is =

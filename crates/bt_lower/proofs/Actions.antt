@@ -17,14 +17,14 @@ use Rattle.typed_tree.specs.Parts.{Part}
 use Rattle.walk_meaning.specs.declared.flow.Flow.{Flow}
 use Rattle.walk_meaning.specs.declared.flow.Flow.TheVariants.{Next}
 use Rattle.walk_meaning.specs.declared.flow.Frame.{Frame}
-use Rattle.walk_meaning.specs.Does.{Does, given, seen, changed, lifted, bind, in_order}
-use Rattle.walk_meaning.specs.Does.{Scene as Walked}
+use Rattle.walk_meaning.specs.Does.{Does, given, looked_at, changed, lifted, bind, in_order}
+use Rattle.walk_meaning.specs.Does.{BodyScene}
 use Rattle.walk_meaning.specs.Exprs.{number_value}
 use Rattle.walk_meaning.specs.Maps.{with_variable, variable}
 use Rattle.walk_meaning.specs.Stmts.{set_variable, set_map, update_variable, update_map, gather, printf, delete_at, plain}
 use Rattle.ir_code.specs.declared.instr.Instr.TheVariants as i
 use Rattle.map_ops.specs.Holders.{part}
-use Rattle.map_ops.specs.Asking.{told as asks_for}
+use Rattle.map_ops.specs.Asking.{told}
 use Rattle.ir_code.specs.Meaning.{instr_run, updated}
 use Rattle.ir_code.specs.Typing.{last_of, front_of}
 use Rattle.ir_code.specs.Stacks.{top, below}
@@ -60,7 +60,7 @@ value_over_key F values vs n h =
     long = omega (arith, ap length (last_apart vs n h), length-append (below vs) (top vs ∷ []))
 
 -- a key, and then a value
-pub keyed-is : (ds : List (Does Value)) (d : Does Value) (w : Walked) (frame : Frame) (F : List Value → Value → Frame → Interaction (Flow × Frame)) →
+pub keyed-is : (ds : List (Does Value)) (d : Does Value) (w : BodyScene) (frame : Frame) (F : List Value → Value → Frame → Interaction (Flow × Frame)) →
     and_then (in_order ds w frame) (λ p. and_then (d w p.1) (λ q. F p.0 q.0 q.1)) ≡ and_then (in_order (ds ++ d ∷ []) w frame) (λ p. F (below p.0) (top p.0) p.1)
 keyed-is ds d w frame F =
     and_then-same (in_order ds w frame) _ _ (λ p.
@@ -81,7 +81,7 @@ set_var-acts qs x shape d = record {
   turns = λ vs frame a. refl;
 }
   where
-    stored : (s : Site) (w : Walked) (frame : Frame) (values vs : List Value) → length vs ≡ 1 → instr_run (i.Store x shape) (seen_by s.ground.maps w) (state frame (values ++ vs)) ≡ Ended (state (with_variable x (top vs) frame) values)
+    stored : (s : Site) (w : BodyScene) (frame : Frame) (values vs : List Value) → length vs ≡ 1 → instr_run (i.Store x shape) (seen_by s.ground.maps w) (state frame (values ++ vs)) ≡ Ended (state (with_variable x (top vs) frame) values)
     stored s w frame values [] h = absurd (omega arith)
     stored s w frame values (v ∷ []) h =
         ap (λ (u : Value). Ended (state (with_variable x u frame) (below (values ++ v ∷ [])))) (top-append values v)
@@ -90,7 +90,7 @@ set_var-acts qs x shape d = record {
 
 pub update_var-acts : (qs : Bool → List Part) (x : ℕ) (op : BinOp) (d : Does ℤ) → Acts qs (i.UpdateVar x op) (number_value d ∷ []) (shapes.Int ∷ []) (update_variable x op d) {A = Unit {0}} (λ w vs frame. Ended tt)
     (λ vs frame a. with_variable x (Int (binary_value op (number_of (variable x frame)) (number_of (top vs)))) frame)
-unfolding given bind changed seen
+unfolding given bind changed looked_at
 update_var-acts qs x op d = record {
   takes_them = refl;
   reads_none = refl;
@@ -100,7 +100,7 @@ update_var-acts qs x op d = record {
   turns = λ vs frame a. refl;
 }
   where
-    stored : (s : Site) (w : Walked) (frame : Frame) (values vs : List Value) → length vs ≡ 1 → instr_run (i.UpdateVar x op) (seen_by s.ground.maps w) (state frame (values ++ vs)) ≡ Ended (state (with_variable x (Int (binary_value op (number_of (variable x frame)) (number_of (top vs)))) frame) values)
+    stored : (s : Site) (w : BodyScene) (frame : Frame) (values vs : List Value) → length vs ≡ 1 → instr_run (i.UpdateVar x op) (seen_by s.ground.maps w) (state frame (values ++ vs)) ≡ Ended (state (with_variable x (Int (binary_value op (number_of (variable x frame)) (number_of (top vs)))) frame) values)
     stored s w frame values [] h = absurd (omega arith)
     stored s w frame values (v ∷ []) h =
         ap (λ (u : Value). Ended (state (with_variable x (Int (binary_value op (number_of (variable x frame)) (number_of u))) frame) (below (values ++ v ∷ [])))) (top-append values v)
@@ -118,12 +118,12 @@ step-acts qs d = record {
   turns = λ vs frame a. refl;
 }
   where
-    popped : (s : Site) (w : Walked) (frame : Frame) (values vs : List Value) → length vs ≡ 1 → instr_run i.Pop (seen_by s.ground.maps w) (state frame (values ++ vs)) ≡ Ended (state frame values)
+    popped : (s : Site) (w : BodyScene) (frame : Frame) (values vs : List Value) → length vs ≡ 1 → instr_run i.Pop (seen_by s.ground.maps w) (state frame (values ++ vs)) ≡ Ended (state frame values)
     popped s w frame values [] h = absurd (omega arith)
     popped s w frame values (v ∷ []) h = ap (λ (l : List Value). Ended (state frame l)) (below-append values v)
     popped s w frame values (v ∷ u ∷ vs) h = absurd (omega arith)
 
-pub delete-acts : (qs : Bool → List Part) (m : MapId) (key : List Shape) (ds : List (Does Value)) → Acts qs (i.Delete m key) ds key (delete_at m ds) (λ w vs frame. asks_for (part m vs) (ops.Delete vs)) (λ vs frame a. frame)
+pub delete-acts : (qs : Bool → List Part) (m : MapId) (key : List Shape) (ds : List (Does Value)) → Acts qs (i.Delete m key) ds key (delete_at m ds) (λ w vs frame. told (part m vs) (ops.Delete vs)) (λ vs frame a. frame)
 unfolding given bind lifted
 delete-acts qs m key ds = record {
   takes_them = refl;
@@ -131,25 +131,25 @@ delete-acts qs m key ds = record {
   gives_none = refl;
   is = λ w frame. simp and_then_assoc;
   runs = λ s inside fits w same frame values vs long.
-      ap (λ (l : List Value). and_then (asks_for (part m l) (ops.Delete l)) (λ u. Ended (state frame (front_of (length key) (values ++ vs))))) (last-append (length key) values vs long)
-      ∙ ap (λ (l : List Value). and_then (asks_for (part m vs) (ops.Delete vs)) (λ u. Ended (state frame l))) (front-append (length key) values vs long);
+      ap (λ (l : List Value). and_then (told (part m l) (ops.Delete l)) (λ u. Ended (state frame (front_of (length key) (values ++ vs))))) (last-append (length key) values vs long)
+      ∙ ap (λ (l : List Value). and_then (told (part m vs) (ops.Delete vs)) (λ u. Ended (state frame l))) (front-append (length key) values vs long);
   turns = λ vs frame a. refl;
 }
 
-pub count-acts : (qs : Bool → List Part) (m : MapId) (key : List Shape) (ds : List (Does Value)) → Acts qs (i.Count m key) ds key (gather m ds (given (pos 1))) (λ w vs frame. asks_for (Cpu w.actor) (ops.Add m vs (pos 1))) (λ vs frame a. frame)
-unfolding given bind lifted seen
+pub count-acts : (qs : Bool → List Part) (m : MapId) (key : List Shape) (ds : List (Does Value)) → Acts qs (i.Count m key) ds key (gather m ds (given (pos 1))) (λ w vs frame. told (Cpu w.actor) (ops.Add m vs (pos 1))) (λ vs frame a. frame)
+unfolding given bind lifted looked_at
 count-acts qs m key ds = record {
   takes_them = refl;
   reads_none = refl;
   gives_none = refl;
   is = λ w frame. simp and_then_assoc;
   runs = λ s inside fits w same frame values vs long.
-      ap (λ (l : List Value). and_then (asks_for (Cpu w.actor) (ops.Add m l (pos 1))) (λ u. Ended (state frame (front_of (length key) (values ++ vs))))) (last-append (length key) values vs long)
-      ∙ ap (λ (l : List Value). and_then (asks_for (Cpu w.actor) (ops.Add m vs (pos 1))) (λ u. Ended (state frame l))) (front-append (length key) values vs long);
+      ap (λ (l : List Value). and_then (told (Cpu w.actor) (ops.Add m l (pos 1))) (λ u. Ended (state frame (front_of (length key) (values ++ vs))))) (last-append (length key) values vs long)
+      ∙ ap (λ (l : List Value). and_then (told (Cpu w.actor) (ops.Add m vs (pos 1))) (λ u. Ended (state frame l))) (front-append (length key) values vs long);
   turns = λ vs frame a. refl;
 }
 
-pub printf-acts : (qs : Bool → List Part) (format : ℕ) (key : List Shape) (ds : List (Does Value)) → Acts qs (i.Printf format key) ds key (printf format ds) (λ w vs frame. asks_for Out (ops.Emit (items.Printf format vs))) (λ vs frame a. frame)
+pub printf-acts : (qs : Bool → List Part) (format : ℕ) (key : List Shape) (ds : List (Does Value)) → Acts qs (i.Printf format key) ds key (printf format ds) (λ w vs frame. told Out (ops.Emit (items.Printf format vs))) (λ vs frame a. frame)
 unfolding given bind lifted
 printf-acts qs format key ds = record {
   takes_them = refl;
@@ -157,20 +157,20 @@ printf-acts qs format key ds = record {
   gives_none = refl;
   is = λ w frame. simp and_then_assoc;
   runs = λ s inside fits w same frame values vs long.
-      ap (λ (l : List Value). and_then (asks_for Out (ops.Emit (items.Printf format l))) (λ u. Ended (state frame (front_of (length key) (values ++ vs))))) (last-append (length key) values vs long)
-      ∙ ap (λ (l : List Value). and_then (asks_for Out (ops.Emit (items.Printf format vs))) (λ u. Ended (state frame l))) (front-append (length key) values vs long);
+      ap (λ (l : List Value). and_then (told Out (ops.Emit (items.Printf format l))) (λ u. Ended (state frame (front_of (length key) (values ++ vs))))) (last-append (length key) values vs long)
+      ∙ ap (λ (l : List Value). and_then (told Out (ops.Emit (items.Printf format vs))) (λ u. Ended (state frame l))) (front-append (length key) values vs long);
   turns = λ vs frame a. refl;
 }
 
-pub set-acts : (qs : Bool → List Part) (m : MapId) (key : List Shape) (shape : Shape) (ds : List (Does Value)) (d : Does Value) → Acts qs (i.Set m key shape) (ds ++ d ∷ []) (key ++ shape ∷ []) (set_map m ds d) (λ w vs frame. asks_for (part m (below vs)) (ops.Set (below vs) (top vs))) (λ vs frame a. frame)
+pub set-acts : (qs : Bool → List Part) (m : MapId) (key : List Shape) (shape : Shape) (ds : List (Does Value)) (d : Does Value) → Acts qs (i.Set m key shape) (ds ++ d ∷ []) (key ++ shape ∷ []) (set_map m ds d) (λ w vs frame. told (part m (below vs)) (ops.Set (below vs) (top vs))) (λ vs frame a. frame)
 unfolding given bind lifted
 set-acts qs m key shape ds d = record {
   takes_them = refl;
   reads_none = refl;
   gives_none = refl;
-  is = λ w frame. keyed-is ds d w frame (λ ks v f. and_then (asks_for (part m ks) (ops.Set ks v)) (λ u. Ended (Next, f)));
+  is = λ w frame. keyed-is ds d w frame (λ ks v f. and_then (told (part m ks) (ops.Set ks v)) (λ u. Ended (Next, f)));
   runs = λ s inside fits w same frame values vs long.
-      value_over_key (λ ks v rest. and_then (asks_for (part m ks) (ops.Set ks v)) (λ u. Ended (state frame rest))) values vs (length key) (long ∙ length-append key (shape ∷ []));
+      value_over_key (λ ks v rest. and_then (told (part m ks) (ops.Set ks v)) (λ u. Ended (state frame rest))) values vs (length key) (long ∙ length-append key (shape ∷ []));
   turns = λ vs frame a. refl;
 }
 
@@ -187,15 +187,15 @@ update-acts qs m key op ds d = record {
   turns = λ vs frame a. refl;
 }
 
-pub add-acts : (qs : Bool → List Part) (m : MapId) (key : List Shape) (ds : List (Does Value)) (d : Does ℤ) → Acts qs (i.Add m key) (ds ++ number_value d ∷ []) (key ++ shapes.Int ∷ []) (gather m ds d) (λ w vs frame. asks_for (Cpu w.actor) (ops.Add m (below vs) (number_of (top vs)))) (λ vs frame a. frame)
-unfolding given bind lifted seen
+pub add-acts : (qs : Bool → List Part) (m : MapId) (key : List Shape) (ds : List (Does Value)) (d : Does ℤ) → Acts qs (i.Add m key) (ds ++ number_value d ∷ []) (key ++ shapes.Int ∷ []) (gather m ds d) (λ w vs frame. told (Cpu w.actor) (ops.Add m (below vs) (number_of (top vs)))) (λ vs frame a. frame)
+unfolding given bind lifted looked_at
 add-acts qs m key ds d = record {
   takes_them = refl;
   reads_none = refl;
   gives_none = refl;
-  is = λ w frame. and_then-same (in_order ds w frame) _ _ (λ p. sym (and_then_assoc (d w p.1) (λ q. Ended (Int q.0, q.1)) (λ q. and_then (asks_for (Cpu w.actor) (ops.Add m p.0 (number_of q.0))) (λ u. Ended (Next, q.1)))))
-      ∙ keyed-is ds (number_value d) w frame (λ ks v f. and_then (asks_for (Cpu w.actor) (ops.Add m ks (number_of v))) (λ u. Ended (Next, f)));
+  is = λ w frame. and_then-same (in_order ds w frame) _ _ (λ p. sym (and_then_assoc (d w p.1) (λ q. Ended (Int q.0, q.1)) (λ q. and_then (told (Cpu w.actor) (ops.Add m p.0 (number_of q.0))) (λ u. Ended (Next, q.1)))))
+      ∙ keyed-is ds (number_value d) w frame (λ ks v f. and_then (told (Cpu w.actor) (ops.Add m ks (number_of v))) (λ u. Ended (Next, f)));
   runs = λ s inside fits w same frame values vs long.
-      value_over_key (λ ks v rest. and_then (asks_for (Cpu w.actor) (ops.Add m ks (number_of v))) (λ u. Ended (state frame rest))) values vs (length key) (long ∙ length-append key (shapes.Int ∷ []));
+      value_over_key (λ ks v rest. and_then (told (Cpu w.actor) (ops.Add m ks (number_of v))) (λ u. Ended (state frame rest))) values vs (length key) (long ∙ length-append key (shapes.Int ∷ []));
   turns = λ vs frame a. refl;
 }

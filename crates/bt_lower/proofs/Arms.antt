@@ -27,9 +27,9 @@ use Rattle.typed_tree.specs.Parts.{Constant, Literal, Numeric, Command, FieldOf,
 use Rattle.typed_tree.specs.Scope.{Scope, all_fit, fits, is_shape, shape_of_field, has_field}
 use Rattle.event_record.specs.Fields.{field_number, field_text}
 use Rattle.walk_meaning.specs.declared.flow.Frame.{Frame}
-use Rattle.walk_meaning.specs.Does.{Does, given, seen, changed, bind, choose, either}
+use Rattle.walk_meaning.specs.Does.{Does, given, looked_at, changed, bind, choose, if_holds}
 use Rattle.map_ops.specs.Values.{holds, next, number_of, text_of, shape_of}
-use Rattle.walk_meaning.specs.Does.{Scene as Walked}
+use Rattle.walk_meaning.specs.Does.{BodyScene}
 use Rattle.walk_meaning.specs.Exprs.{value_does, values_do, number_does, text_does, number_value, text_value, tested, number_field, text_field, step_variable, step_map}
 use Rattle.walk_meaning.specs.Maps.{number_variable, text_variable, with_variable, variable}
 use Rattle.walk_meaning.proofs.ExprDoes.{number_num, builtin_num, field_num, var_num, map_num, stepvar_num, stepmap_num, unary_num, binary_num, compare_num, andthen_num, orelse_num, choose_num, text_str, comm_str, field_str, var_str, map_str, choose_str, num_any, str_any}
@@ -80,7 +80,7 @@ field-reads : (s : Site) (f : Field) (shape : Shape) → fits s.scope (FieldOf f
 field-reads s f shape h = s.agrees.fields f (and_parts (has_field s.scope.layout f) (is_shape (shape_of_field f.kind) shape) h).0
 
 number-field : (f : Field) (c new : Code) → new ≡ pushed (i.NumberField f) c → LowersValue (FieldOf f shapes.Int ∷ []) (number_value (number_field f)) shapes.Int (need 8 8) c new
-unfolding given bind seen
+unfolding given bind looked_at
 number-field f c new en = Lowers-leaf (i.NumberField f) (FieldOf f shapes.Int) shapes.Int (number_value (number_field f)) (λ w frame. Int (field_number f w.payload)) (λ frame. frame) (need 8 8) c new refl refl (omega arith) (λ w frame. refl) (λ maps w frame values. refl) (λ frame. refl) (λ s h. field-names s f shapes.Int h) (λ s h. field-reads s f shapes.Int h) (omega arith) (omega arith) en
 
 pub N-Field : (e : NumExpr) (f : Field) (c new : Code) → e ≡ nums.Field f → new ≡ pushed (i.NumberField f) c → LowersNumber e c new
@@ -90,14 +90,14 @@ pub var-names : (s : Site) (x : ℕ) (shape : Shape) → fits s.scope (VarOf x s
 var-names s x shape h = ap (λ (l : List Shape). is_shape (slice_get l x) shape) s.agrees.variables ∙ h
 
 number-var : (x : ℕ) (c new : Code) → new ≡ pushed (i.Load x shapes.Int) c → LowersValue (VarOf x shapes.Int ∷ []) (number_value (number_variable x)) shapes.Int (need 8 4) c new
-unfolding given bind seen
+unfolding given bind looked_at
 number-var x c new en = Lowers-leaf (i.Load x shapes.Int) (VarOf x shapes.Int) shapes.Int (number_value (number_variable x)) (λ w frame. Int (number_of (variable x frame))) (λ frame. frame) (need 8 4) c new refl refl (omega arith) (λ w frame. refl) (λ maps w frame values. refl) (λ frame. refl) (λ s h. var-names s x shapes.Int h) (λ s f. none-read s.ground.payload) (omega arith) (omega arith) en
 
 pub N-Var : (e : NumExpr) (x : ℕ) (c new : Code) → e ≡ nums.Var x → new ≡ pushed (i.Load x shapes.Int) c → LowersNumber e c new
 N-Var e x c new he en = num-is e (nums.Var x) _ _ _ c new he (tree.num-Var-parts x) (var_num (nums.Var x) x refl) (tree.num-Var-need x) (number-var x c new en)
 
 step-var : (x : ℕ) (plus prefix : Bool) (c new : Code) → new ≡ pushed (i.StepVar x plus prefix) c → LowersValue (VarOf x shapes.Int ∷ []) (number_value (step_variable x plus prefix)) shapes.Int (need 8 12) c new
-unfolding given bind seen changed
+unfolding given bind looked_at changed
 step-var x plus prefix c new en =
     Lowers-leaf (i.StepVar x plus prefix) (VarOf x shapes.Int) shapes.Int (number_value (step_variable x plus prefix)) (λ w frame. Int (cond prefix (next plus (number_of (variable x frame))) (number_of (variable x frame)))) (λ frame. with_variable x (Int (next plus (number_of (variable x frame)))) frame) (need 8 12) c new
     refl refl (omega arith) (λ w frame. refl) (λ maps w frame values. refl) (λ frame. refl) (λ s h. var-names s x shapes.Int h) (λ s f. none-read s.ground.payload) (omega arith) (omega arith) en
@@ -114,14 +114,14 @@ pub S-Comm : (e : StrExpr) (c new : Code) → e ≡ strs.Comm → new ≡ pushed
 S-Comm e c new he en = str-is e strs.Comm _ _ _ c new he tree.str-Comm-parts (comm_str strs.Comm refl) tree.str-Comm-need (Lowers-command Command c new en)
 
 text-field : (f : Field) (c new : Code) → new ≡ pushed (i.TextField f) c → LowersValue (FieldOf f shapes.Str ∷ []) (text_value (text_field f)) shapes.Str (need 64 24) c new
-unfolding given bind seen
+unfolding given bind looked_at
 text-field f c new en = Lowers-leaf (i.TextField f) (FieldOf f shapes.Str) shapes.Str (text_value (text_field f)) (λ w frame. Str (field_text f w.payload)) (λ frame. frame) (need 64 24) c new refl refl (omega arith) (λ w frame. refl) (λ maps w frame values. refl) (λ frame. refl) (λ s h. field-names s f shapes.Str h) (λ s h. field-reads s f shapes.Str h) (omega arith) (omega arith) en
 
 pub S-Field : (e : StrExpr) (f : Field) (c new : Code) → e ≡ strs.Field f → new ≡ pushed (i.TextField f) c → LowersText e c new
 S-Field e f c new he en = str-is e (strs.Field f) _ _ _ c new he (tree.str-Field-parts f) (field_str (strs.Field f) f refl) (tree.str-Field-need f) (text-field f c new en)
 
 text-var : (x : ℕ) (c new : Code) → new ≡ pushed (i.Load x shapes.Str) c → LowersValue (VarOf x shapes.Str ∷ []) (text_value (text_variable x)) shapes.Str (need 64 24) c new
-unfolding given bind seen
+unfolding given bind looked_at
 text-var x c new en = Lowers-leaf (i.Load x shapes.Str) (VarOf x shapes.Str) shapes.Str (text_value (text_variable x)) (λ w frame. Str (text_of (variable x frame))) (λ frame. frame) (need 64 24) c new refl refl (omega arith) (λ w frame. refl) (λ maps w frame values. refl) (λ frame. refl) (λ s h. var-names s x shapes.Str h) (λ s f. none-read s.ground.payload) (omega arith) (omega arith) en
 
 pub S-Var : (e : StrExpr) (x : ℕ) (c new : Code) → e ≡ strs.Var x → new ≡ pushed (i.Load x shapes.Str) c → LowersText e c new
@@ -235,23 +235,23 @@ Lowers-known v c new en =
     Parts-fit (Both ∷ []) [] _ _ _ c new (λ s h. h)
     (Lowers-leaf (i.Put v) Both (shape_of v) (given v) (λ w frame. v) (λ frame. frame) (known_need v) c new refl refl (omega arith) (λ w frame. refl) (λ maps w frame values. refl) (λ frame. refl) (λ s f. refl) (λ s f. none-read s.ground.payload) (known-size v) (omega arith) en)
 
-choose-number : (b : Bool) (x y : Does ℤ) (w : Walked) (frame : Frame) → and_then (choose b x y w frame) (λ p. Ended (Int p.0, p.1)) ≡ choose b (number_value x) (number_value y) w frame
+choose-number : (b : Bool) (x y : Does ℤ) (w : BodyScene) (frame : Frame) → and_then (choose b x y w frame) (λ p. Ended (Int p.0, p.1)) ≡ choose b (number_value x) (number_value y) w frame
 unfolding choose bind given
 choose-number true x y w frame = refl
 choose-number false x y w frame = refl
 
-choose-text : (b : Bool) (x y : Does (List ℕ)) (w : Walked) (frame : Frame) → and_then (choose b x y w frame) (λ p. Ended (Str p.0, p.1)) ≡ choose b (text_value x) (text_value y) w frame
+choose-text : (b : Bool) (x y : Does (List ℕ)) (w : BodyScene) (frame : Frame) → and_then (choose b x y w frame) (λ p. Ended (Str p.0, p.1)) ≡ choose b (text_value x) (text_value y) w frame
 unfolding choose bind given
 choose-text true x y w frame = refl
 choose-text false x y w frame = refl
 
-number-either : (t x y : Does ℤ) → either t (number_value x) (number_value y) ≡ number_value (either t x y)
+number-if_holds : (t x y : Does ℤ) → if_holds t (number_value x) (number_value y) ≡ number_value (if_holds t x y)
 unfolding bind given
-number-either t x y = λ j w frame. (sym (and_then_assoc (t w frame) (λ p. choose (holds p.0) x y w p.1) (λ p. Ended (Int p.0, p.1)) ∙ and_then-same (t w frame) _ _ (λ p. choose-number (holds p.0) x y w p.1))) j
+number-if_holds t x y = λ j w frame. (sym (and_then_assoc (t w frame) (λ p. choose (holds p.0) x y w p.1) (λ p. Ended (Int p.0, p.1)) ∙ and_then-same (t w frame) _ _ (λ p. choose-number (holds p.0) x y w p.1))) j
 
-text-either : (t : Does ℤ) (x y : Does (List ℕ)) → either t (text_value x) (text_value y) ≡ text_value (either t x y)
+text-if_holds : (t : Does ℤ) (x y : Does (List ℕ)) → if_holds t (text_value x) (text_value y) ≡ text_value (if_holds t x y)
 unfolding bind given
-text-either t x y = λ j w frame. (sym (and_then_assoc (t w frame) (λ p. choose (holds p.0) x y w p.1) (λ p. Ended (Str p.0, p.1)) ∙ and_then-same (t w frame) _ _ (λ p. choose-text (holds p.0) x y w p.1))) j
+text-if_holds t x y = λ j w frame. (sym (and_then_assoc (t w frame) (λ p. choose (holds p.0) x y w p.1) (λ p. Ended (Str p.0, p.1)) ∙ and_then-same (t w frame) _ _ (λ p. choose-text (holds p.0) x y w p.1))) j
 
 number-given : (z : ℤ) → given (Int z) ≡ number_value (given z)
 unfolding bind given
@@ -272,7 +272,7 @@ N-Choose e t y o t1 y1 o1 c c0 c1 c2 c3 c4 new after first second he ht hy ho e0
     let ly' = subst (λ (z : NumExpr). LowersArm (num_parts z) (number_value (number_does z)) shapes.Int (more 1 (number_need z)) after c2 c3 first) hy ly in
     let lt' = subst (λ (z : NumExpr). LowersNumber z c4 new) ht lt in
     num-is e (nums.Choose t y o) _ _ _ c new he (tree.num-Choose-parts t y o) (choose_num (nums.Choose t y o) t y o t y o refl refl refl refl) (tree.num-Choose-need t y o)
-    (subst (λ (d : Does Value). LowersValue (Chosen ∷ (num_parts t ++ (num_parts y ++ num_parts o))) d shapes.Int (more 8 (greater (number_need t) (greater (number_need y) (number_need o)))) c new) (number-either (number_does t) (number_does y) (number_does o))
+    (subst (λ (d : Does Value). LowersValue (Chosen ∷ (num_parts t ++ (num_parts y ++ num_parts o))) d shapes.Int (more 8 (greater (number_need t) (greater (number_need y) (number_need o)))) c new) (number-if_holds (number_does t) (number_does y) (number_does o))
     (Parts-less _ _ _ _ _ c new (omega arith) (omega arith)
     (Lowers-either (Chosen ∷ (num_parts t ++ (num_parts y ++ num_parts o))) (num_parts t) (num_parts y) (num_parts o) (number_does t) (number_value (number_does y)) (number_value (number_does o)) shapes.Int (number_need t) (more 1 (number_need y)) (more 1 (number_need o))
     c c0 c1 c2 c3 c4 new after first second (choice-fit Chosen (num_parts t) (num_parts y) (num_parts o)) e0 ea e1 lo' ly' e4 lt')))
@@ -285,7 +285,7 @@ S-Choose e t t1 y o y1 o1 c c0 c1 c2 c3 c4 new after first second he ht hy ho e0
     let ly' = subst (λ (z : StrExpr). LowersArm (str_parts z) (text_value (text_does z)) shapes.Str (more 1 (text_need z)) after c2 c3 first) hy ly in
     let lt' = subst (λ (z : NumExpr). LowersNumber z c4 new) ht lt in
     str-is e (strs.Choose t y o) _ _ _ c new he (tree.str-Choose-parts t y o) (choose_str (strs.Choose t y o) t y o t y o refl refl refl refl) (tree.str-Choose-need t y o)
-    (subst (λ (d : Does Value). LowersValue (Chosen ∷ (num_parts t ++ (str_parts y ++ str_parts o))) d shapes.Str (more 8 (greater (number_need t) (greater (text_need y) (text_need o)))) c new) (text-either (number_does t) (text_does y) (text_does o))
+    (subst (λ (d : Does Value). LowersValue (Chosen ∷ (num_parts t ++ (str_parts y ++ str_parts o))) d shapes.Str (more 8 (greater (number_need t) (greater (text_need y) (text_need o)))) c new) (text-if_holds (number_does t) (text_does y) (text_does o))
     (Parts-less _ _ _ _ _ c new (omega arith) (omega arith)
     (Lowers-either (Chosen ∷ (num_parts t ++ (str_parts y ++ str_parts o))) (num_parts t) (str_parts y) (str_parts o) (number_does t) (text_value (text_does y)) (text_value (text_does o)) shapes.Str (number_need t) (more 1 (text_need y)) (more 1 (text_need o))
     c c0 c1 c2 c3 c4 new after first second (choice-fit Chosen (num_parts t) (str_parts y) (str_parts o)) e0 ea e1 lo' ly' e4 lt')))
@@ -303,7 +303,7 @@ N-AndThen e l r l1 r1 v c c0 c1 c2 c3 c4 new after first second he hl hr hv e0 e
     let ps = Both ∷ (num_parts l ++ num_parts r) in
     num-is e (nums.AndThen l r) _ _ _ c new he (tree.num-AndThen-parts l r) (andthen_num (nums.AndThen l r) l r l r refl refl refl) (tree.num-AndThen-need l r)
     (subst (λ (d : Does Value). LowersValue ps d shapes.Int (more 16 (greater (number_need l) (number_need r))) c new)
-    (ap (λ (d : Does Value). either (number_does l) (number_value (tested (number_does r))) d) (number-given (pos 0)) ∙ number-either (number_does l) (tested (number_does r)) (given (pos 0)))
+    (ap (λ (d : Does Value). if_holds (number_does l) (number_value (tested (number_does r))) d) (number-given (pos 0)) ∙ number-if_holds (number_does l) (tested (number_does r)) (given (pos 0)))
     (Parts-less _ _ _ (need (max (number_need l).frame (max (number_need r).frame 8)) (3 + (number_need l).code + (5 + (number_need r).code) + 5)) _ c new
     (max-le (le-max_left (number_need l).frame (number_need r).frame) (max-le (le-max_right (number_need l).frame (number_need r).frame) (omega (arith, lx'.sizes, le-max_right (number_need l).frame (number_need r).frame)))) (omega arith)
     (Lowers-either ps (num_parts l) (num_parts r) [] (number_does l) (number_value (tested (number_does r))) (given (Int (pos 0))) shapes.Int (number_need l) (more 5 (number_need r)) (more 1 (known_need (Int (pos 0))))
@@ -319,7 +319,7 @@ N-OrElse e l r l1 r1 v c c0 c1 c2 c3 c4 new after first second he hl hr hv e0 ea
     let ps = Either ∷ (num_parts l ++ num_parts r) in
     num-is e (nums.OrElse l r) _ _ _ c new he (tree.num-OrElse-parts l r) (orelse_num (nums.OrElse l r) l r l r refl refl refl) (tree.num-OrElse-need l r)
     (subst (λ (d : Does Value). LowersValue ps d shapes.Int (more 16 (greater (number_need l) (number_need r))) c new)
-    (ap (λ (d : Does Value). either (number_does l) d (number_value (tested (number_does r)))) (number-given (pos 1)) ∙ number-either (number_does l) (given (pos 1)) (tested (number_does r)))
+    (ap (λ (d : Does Value). if_holds (number_does l) d (number_value (tested (number_does r)))) (number-given (pos 1)) ∙ number-if_holds (number_does l) (given (pos 1)) (tested (number_does r)))
     (Parts-less _ _ _ (need (max (number_need l).frame (max 8 (number_need r).frame)) (3 + (number_need l).code + 5 + (5 + (number_need r).code))) _ c new
     (max-le (le-max_left (number_need l).frame (number_need r).frame) (max-le (omega (arith, ly'.sizes, le-max_right (number_need l).frame (number_need r).frame)) (le-max_right (number_need l).frame (number_need r).frame))) (omega arith)
     (Lowers-either ps (num_parts l) [] (num_parts r) (number_does l) (given (Int (pos 1))) (number_value (tested (number_does r))) shapes.Int (number_need l) (more 1 (known_need (Int (pos 1)))) (more 5 (number_need r))

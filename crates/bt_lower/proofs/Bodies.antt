@@ -15,7 +15,7 @@ use Rattle.walk_meaning.specs.declared.flow.Flow.{Flow}
 use Rattle.walk_meaning.specs.declared.flow.Flow.TheVariants.{Next}
 use Rattle.walk_meaning.specs.declared.flow.Frame.{Frame}
 use Rattle.walk_meaning.specs.Does.{Does, given, bind}
-use Rattle.walk_meaning.specs.Does.{Scene as Walked}
+use Rattle.walk_meaning.specs.Does.{BodyScene}
 use Rattle.walk_meaning.specs.Exprs.{number_does}
 use Rattle.walk_meaning.specs.Stmts.{block_does}
 use Rattle.walk_meaning.specs.Walk.{guarded, ending_of}
@@ -104,7 +104,7 @@ module _ (parts : Bool → List Part) (d : Does Flow) (n : Need) (c : Code) (l :
   body-slots = omega (arith, slots-closed c, slots-closed nothing, l.slots)
 
   module _ (t : Site) (fits : all_fit t.scope (parts false) ≡ true) where
-    module _ (w : Walked) (same : w.maps ≡ t.scope.maps) (frame : Frame) where
+    module _ (w : BodyScene) (same : w.maps ≡ t.scope.maps) (frame : Frame) where
       ends : (x : Frame) → Reaches (closed c).blocks 0 1 (seen_by t.ground.maps w) (state x []) (Ended AtEnd)
       ends x = Reaches-close (closed c).blocks nothing 0 (seen_by t.ground.maps w) (state x []) (Ended AtEnd) end-stands (record { by = λ m h. refl })
 

@@ -11,7 +11,7 @@ use Rattle.typed_tree.specs.declared.stmt.TypedStmt.TheVariants as stmts
 use Rattle.typed_tree.specs.declared.stmt.TypedStmt.TheOpen.{TypedStmt-F}
 use Rattle.typed_tree.specs.declared.stmt.TypedStmt.TheShapes.{former-TypedStmt-If-0-at-2}
 use Rattle.typed_tree.specs.Parts.{Part, num_parts, stmt_parts, block_parts, arm_parts, otherwise_parts, joined, Arm, Otherwise}
-use Rattle.typed_tree.specs.Parts.{stmt_layer as stmt_is, block_layer as block_is}
+use Rattle.typed_tree.specs.Parts.{stmt_layer, block_layer}
 use Rattle.typed_tree.specs.Scope.{Scope, all_fit}
 use Rattle.walk_meaning.specs.declared.flow.Flow.{Flow}
 use Rattle.walk_meaning.specs.Does.{Does}
@@ -24,7 +24,7 @@ use Rattle.bt_lower.specs.declared.code.Ways.{Ways}
 use Rattle.bt_lower.specs.Code.{begun, closed}
 use Rattle.bt_lower.specs.Lowers.{LowersNumber, LowersStmt, LowersBlock, LowersStatement, LowersStatements, LowersInto, LowersElse, LowersArms, LowersOneArm, else_parts, else_does, else_need, arms_parts, arms_do, arms_need}
 use Rattle.bt_lower.specs.Needs.{Need, need, more, greater, all_need, arm_need, number_need, stmt_need, block_need}
-use Rattle.bt_lower.specs.Needs.{stmt_layer as stmt_needs, block_layer as block_needs}
+use Rattle.bt_lower.specs.Needs.{stmt_need_by_parts, block_need_by_parts}
 use Rattle.bt_lower.proofs.Ifs.{Block-none, Block-arm, If-open}
 use Rattle.bt_lower.proofs.Lists.{fit-parts, fit-head}
 use Rattle.bt_lower.proofs.Single.{stmt-is as tree-is}
@@ -47,14 +47,14 @@ needs-mapped [] = refl
 needs-mapped (arm ∷ arms) = ap (λ (l : List Need). arm_needs arm ∷ l) (needs-mapped arms)
 
 pub If-parts : (arms : List (NumExpr × TypedBlock)) (o : Option TypedBlock) → stmt_parts (stmts.If arms o) ≡ arms_parts arms o
-If-parts arms None = ap stmt_parts (sym (stmts.rolls-If arms None)) ∙ fold-roll-TypedStmt (Bool → List Part) (Bool → List Part) stmt_is block_is (TypedStmt-F.If arms None)
+If-parts arms None = ap stmt_parts (sym (stmts.rolls-If arms None)) ∙ fold-roll-TypedStmt (Bool → List Part) (Bool → List Part) stmt_layer block_layer (TypedStmt-F.If arms None)
     ∙ (λ j inside. ap (λ (l : List (List Part)). joined l ++ otherwise_parts None) (parts-mapped inside arms) j)
-If-parts arms (Some block) = ap stmt_parts (sym (stmts.rolls-If arms (Some block))) ∙ fold-roll-TypedStmt (Bool → List Part) (Bool → List Part) stmt_is block_is (TypedStmt-F.If arms (Some block))
+If-parts arms (Some block) = ap stmt_parts (sym (stmts.rolls-If arms (Some block))) ∙ fold-roll-TypedStmt (Bool → List Part) (Bool → List Part) stmt_layer block_layer (TypedStmt-F.If arms (Some block))
     ∙ (λ j inside. ap (λ (l : List (List Part)). joined l ++ otherwise_parts (Some (block_parts block inside))) (parts-mapped inside arms) j)
 
 pub If-need : (arms : List (NumExpr × TypedBlock)) (o : Option TypedBlock) → stmt_need (stmts.If arms o) ≡ greater (all_need (map arm_needs arms)) (else_need o)
-If-need arms None = ap stmt_need (sym (stmts.rolls-If arms None)) ∙ fold-roll-TypedStmt Need Need stmt_needs block_needs (TypedStmt-F.If arms None) ∙ ap (λ (l : List Need). greater (all_need l) (need 0 0)) (needs-mapped arms)
-If-need arms (Some block) = ap stmt_need (sym (stmts.rolls-If arms (Some block))) ∙ fold-roll-TypedStmt Need Need stmt_needs block_needs (TypedStmt-F.If arms (Some block)) ∙ ap (λ (l : List Need). greater (all_need l) (block_need block)) (needs-mapped arms)
+If-need arms None = ap stmt_need (sym (stmts.rolls-If arms None)) ∙ fold-roll-TypedStmt Need Need stmt_need_by_parts block_need_by_parts (TypedStmt-F.If arms None) ∙ ap (λ (l : List Need). greater (all_need l) (need 0 0)) (needs-mapped arms)
+If-need arms (Some block) = ap stmt_need (sym (stmts.rolls-If arms (Some block))) ∙ fold-roll-TypedStmt Need Need stmt_need_by_parts block_need_by_parts (TypedStmt-F.If arms (Some block)) ∙ ap (λ (l : List Need). greater (all_need l) (block_need block)) (needs-mapped arms)
 
 If-is : (arms : List (NumExpr × TypedBlock)) (o : Option TypedBlock) (way : Ways) (c new : Code) → LowersStmt (arms_parts arms o) (arms_do arms o) (greater (all_need (map arm_needs arms)) (else_need o)) way c new → LowersStatement (stmts.If arms o) way c new
 If-is arms o way c new l = tree-is (stmts.If arms o) (stmts.If arms o) (arms_parts arms o) (arms_do arms o) (greater (all_need (map arm_needs arms)) (else_need o)) way c new refl (If-parts arms o) (if_stmt (stmts.If arms o) arms o arms refl refl) (If-need arms o) l

@@ -13,9 +13,9 @@ use Rattle.bt_core.proofs.InteractionLaws.{and_then_assoc}
 use Rattle.typed_tree.specs.Parts.{Part}
 use Rattle.typed_tree.specs.Scope.{Scope, all_fit}
 use Rattle.walk_meaning.specs.declared.flow.Frame.{Frame}
-use Rattle.walk_meaning.specs.Does.{Does, given, bind, choose, either, in_order}
+use Rattle.walk_meaning.specs.Does.{Does, given, bind, choose, if_holds, in_order}
 use Rattle.map_ops.specs.Values.{holds, number_of}
-use Rattle.walk_meaning.specs.Does.{Scene as Walked}
+use Rattle.walk_meaning.specs.Does.{BodyScene}
 use Rattle.walk_meaning.specs.Exprs.{number_value}
 use Rattle.ir_code.specs.declared.blocks.Block.{Block}
 use Rattle.ir_code.specs.declared.blocks.Exit.TheVariants.{Goto, Branch}
@@ -41,7 +41,7 @@ one_value [] h = absurd (omega arith)
 one_value (v ∷ []) h = (v, refl)
 one_value (v ∷ u ∷ vs) h = absurd (omega arith)
 
-one_goes : (bs : List Block) (c : Code) (after base : ℕ) (maps : List MapDecl) (w : Walked) (values : List Value) (on : List Shape) (k : (List Value × Frame) → Interaction Ending) (p : List Value × Frame) → length p.0 ≡ 1 →
+one_goes : (bs : List Block) (c : Code) (after base : ℕ) (maps : List MapDecl) (w : BodyScene) (values : List Value) (on : List Shape) (k : (List Value × Frame) → Interaction Ending) (p : List Value × Frame) → length p.0 ≡ 1 →
     ((v : Value) → p.0 ≡ v ∷ [] → Reaches bs after (base + length c.blocks) (seen_by maps w) (state p.1 (values ++ v ∷ [])) (k (v ∷ [], p.1))) → Runs bs (begun (Goto after) on c) (base + length c.blocks) (seen_by maps w) (state p.1 (values ++ p.0)) (k p)
 one_goes bs c after base maps w values on k p long h =
     let (v, e) = one_value p.0 long in
@@ -98,16 +98,16 @@ Runs-branch bs c first second n on scene frame values v t u p q = record {
       ∙ cond-same (holds (number_of v)) _ _ _ _ (p.by m h) (q.by m h);
 }
 
-choose-then : {A : Type 0} (b : Bool) (x y : Does A) (w : Walked) (frame : Frame) (k : (A × Frame) → Interaction Ending) → and_then (choose b x y w frame) k ≡ cond b (and_then (x w frame) k) (and_then (y w frame) k)
+choose-then : {A : Type 0} (b : Bool) (x y : Does A) (w : BodyScene) (frame : Frame) (k : (A × Frame) → Interaction Ending) → and_then (choose b x y w frame) k ≡ cond b (and_then (x w frame) k) (and_then (y w frame) k)
 unfolding choose
 choose-then true x y w frame k = refl
 choose-then false x y w frame k = refl
 
 -- a test, and what follows it
-pub either-is : (tst : Does ℤ) (x y : Does Value) (w : Walked) (frame : Frame) (k : (Value × Frame) → Interaction Ending) →
-    and_then (either tst x y w frame) k ≡ and_then (in_order (number_value tst ∷ []) w frame) (λ q. cond (holds (number_of (top q.0))) (and_then (x w q.1) k) (and_then (y w q.1) k))
+pub if_holds-is : (tst : Does ℤ) (x y : Does Value) (w : BodyScene) (frame : Frame) (k : (Value × Frame) → Interaction Ending) →
+    and_then (if_holds tst x y w frame) k ≡ and_then (in_order (number_value tst ∷ []) w frame) (λ q. cond (holds (number_of (top q.0))) (and_then (x w q.1) k) (and_then (y w q.1) k))
 unfolding bind given
-either-is tst x y w frame k =
+if_holds-is tst x y w frame k =
     and_then_assoc (tst w frame) (λ p. choose (holds p.0) x y w p.1) k
     ∙ and_then-same (tst w frame) _ _ (λ p. choose-then (holds p.0) x y w p.1 k)
     ∙ sym (and_then_assoc (tst w frame) (λ p. Ended (Int p.0, p.1)) (λ p. cond (holds (number_of p.0)) (and_then (x w p.1) k) (and_then (y w p.1) k)))
@@ -116,7 +116,7 @@ either-is tst x y w frame k =
 pub Lowers-either : (ps pt px py : List Part) (tst : Does ℤ) (x y : Does Value) (shape : Shape) (nt nx ny : Need) (c c0 c1 c2 c3 c4 new : Code) (after first second : ℕ) →
     ((s : Scope) → all_fit s ps ≡ true → (all_fit s pt ≡ true) × ((all_fit s px ≡ true) × (all_fit s py ≡ true))) →
     c0 ≡ closed c → after ≡ length c.blocks → c1 ≡ untyped c0 → LowersArm py y shape ny after c1 c2 second → LowersArm px x shape nx after c2 c3 first → c4 ≡ begun (Branch first second) (shapes.Int ∷ []) c3 → LowersValue pt (number_value tst) shapes.Int nt c4 new →
-    LowersValue ps (either tst x y) shape (need (max nt.frame (max nx.frame ny.frame)) (3 + nt.code + nx.code + ny.code)) c new
+    LowersValue ps (if_holds tst x y) shape (need (max nt.frame (max nx.frame ny.frame)) (3 + nt.code + nx.code + ny.code)) c new
 Lowers-either ps pt px py tst x y shape nt nx ny c c0 c1 c2 c3 c4 new after first second fit e0 ea e1 ly0 lx0 e4 lt0 = record {
   grew = Grew-trans _ _ _ one (Grew-trans _ _ _ ly.grew (Grew-trans _ _ _ lx.grew lt.grew));
   depth = lt.depth ∙ lx.depth ∙ ly.depth;
@@ -128,7 +128,7 @@ Lowers-either ps pt px py tst x y shape nt nx ny c c0 c1 c2 c3 c4 new after firs
       let after_does : (q : Value × Frame) → q.1.turns ≡ frame.turns → Reaches bs (length c.blocks) (base + length (closed c).blocks) (seen_by maps w) (state q.1 (values ++ q.0 ∷ [])) (k1 q) =
       λ q turns. Reaches-more bs _ _ _ (seen_by maps w) _ _ (omega (arith, closed-length c))
       (Reaches-close bs c (base + length c.blocks) (seen_by maps w) (state q.1 (values ++ q.0 ∷ [])) (k1 q) (Stand-before _ _ _ _ tail stand) (h (q.0 ∷ [], q.1) refl turns)) in
-      Runs-is bs new _ (seen_by maps w) _ _ _ (sym (in_order-one (either tst x y) w frame k ∙ either-is tst x y w frame k1))
+      Runs-is bs new _ (seen_by maps w) _ _ _ (sym (in_order-one (if_holds tst x y) w frame k ∙ if_holds-is tst x y w frame k1))
       (lt.does bs (Stand-later _ _ _ _ (omega (arith, Grew-length _ _ one, Grew-length _ _ ly.grew, Grew-length _ _ lx.grew)) stand) base maps w frame values (λ q. cond (holds (number_of (top q.0))) (and_then (x w q.1) k1) (and_then (y w q.1) k1))
       (λ q long turns. branches bs (base + length c3.blocks) maps w values q long (λ q1. and_then (x w q1) k1) (λ q1. and_then (y w q1) k1)
       (lx.does bs (Stand-later _ _ _ _ (omega (arith, Grew-length _ _ one, Grew-length _ _ ly.grew)) (Stand-before _ _ _ _ lt.grew stand)) base maps w q.1 values k1
@@ -188,7 +188,7 @@ Lowers-either ps pt px py tst x y shape nt nx ny c c0 c1 c2 c3 c4 new after firs
     front : (rest : List Shape) → c.stack ≡ rest ++ shape ∷ [] → (untyped (closed c)).stack ≡ rest
     front rest e = ap (λ l. front_of 1 l) e ∙ front-append 1 rest (shape ∷ []) refl
 
-    branches : (bs : List Block) (n : ℕ) (maps : List MapDecl) (w : Walked) (values : List Value) (q : List Value × Frame) → length q.0 ≡ 1 → (t u : Frame → Interaction Ending) → Reaches bs first n (seen_by maps w) (state q.1 values) (t q.1) → Reaches bs second n (seen_by maps w) (state q.1 values) (u q.1) →
+    branches : (bs : List Block) (n : ℕ) (maps : List MapDecl) (w : BodyScene) (values : List Value) (q : List Value × Frame) → length q.0 ≡ 1 → (t u : Frame → Interaction Ending) → Reaches bs first n (seen_by maps w) (state q.1 values) (t q.1) → Reaches bs second n (seen_by maps w) (state q.1 values) (u q.1) →
         Runs bs (begun (Branch first second) (shapes.Int ∷ []) c3) n (seen_by maps w) (state q.1 (values ++ q.0)) (cond (holds (number_of (top q.0))) (t q.1) (u q.1))
     branches bs n maps w values q long t u p r =
         let (v, e) = one_value q.0 long in

@@ -11,7 +11,7 @@ use Rattle.typed_tree.specs.Parts.{Part}
 use Rattle.typed_tree.specs.Scope.{Scope, all_fit}
 use Rattle.walk_meaning.specs.declared.flow.Frame.{Frame}
 use Rattle.walk_meaning.specs.Does.{Does, given, bind, gathered, in_order}
-use Rattle.walk_meaning.specs.Does.{Scene as Walked}
+use Rattle.walk_meaning.specs.Does.{BodyScene}
 use Rattle.ir_code.specs.declared.instr.Instr.{Instr}
 use Rattle.ir_code.specs.Figures.{sizes_of, instr_slots, instr_bytes}
 use Rattle.ir_code.specs.Meaning.{instr_run}
@@ -29,21 +29,21 @@ use Rattle.bt_lower.proofs.Slots.{slots-pushed}
 
 -- ---- one after another
 
-gathered-append : (vs : List Value) (ds es : List (Does Value)) (w : Walked) (frame : Frame) → gathered vs (ds ++ es) w frame ≡ and_then (gathered vs ds w frame) (λ p. gathered p.0 es w p.1)
+gathered-append : (vs : List Value) (ds es : List (Does Value)) (w : BodyScene) (frame : Frame) → gathered vs (ds ++ es) w frame ≡ and_then (gathered vs ds w frame) (λ p. gathered p.0 es w p.1)
 unfolding given bind
 gathered-append vs [] es w frame = refl
 gathered-append vs (d ∷ ds) es w frame =
     and_then-same (d w frame) _ _ (λ p. gathered-append (vs ++ p.0 ∷ []) ds es w p.1)
     ∙ sym (and_then_assoc (d w frame) (λ p. gathered (vs ++ p.0 ∷ []) ds w p.1) (λ p. gathered p.0 es w p.1))
 
-gathered-behind : (vs us : List Value) (es : List (Does Value)) (w : Walked) (frame : Frame) → gathered (vs ++ us) es w frame ≡ and_then (gathered us es w frame) (λ q. Ended (vs ++ q.0, q.1))
+gathered-behind : (vs us : List Value) (es : List (Does Value)) (w : BodyScene) (frame : Frame) → gathered (vs ++ us) es w frame ≡ and_then (gathered us es w frame) (λ q. Ended (vs ++ q.0, q.1))
 unfolding given bind
 gathered-behind vs us [] w frame = refl
 gathered-behind vs us (e ∷ es) w frame =
     and_then-same (e w frame) _ _ (λ p. ap (λ l. gathered l es w p.1) (append_assoc vs us (p.0 ∷ [])) ∙ gathered-behind vs (us ++ p.0 ∷ []) es w p.1)
     ∙ sym (and_then_assoc (e w frame) (λ p. gathered (us ++ p.0 ∷ []) es w p.1) (λ q. Ended (vs ++ q.0, q.1)))
 
-pub in_order-append : {B : Type 0} (ds es : List (Does Value)) (w : Walked) (frame : Frame) (k : (List Value × Frame) → Interaction B) → and_then (in_order (ds ++ es) w frame) k ≡ and_then (in_order ds w frame) (λ p. and_then (in_order es w p.1) (λ q. k (p.0 ++ q.0, q.1)))
+pub in_order-append : {B : Type 0} (ds es : List (Does Value)) (w : BodyScene) (frame : Frame) (k : (List Value × Frame) → Interaction B) → and_then (in_order (ds ++ es) w frame) k ≡ and_then (in_order ds w frame) (λ p. and_then (in_order es w p.1) (λ q. k (p.0 ++ q.0, q.1)))
 in_order-append ds es w frame k =
     ap (λ t. and_then t k) (gathered-append [] ds es w frame)
     ∙ and_then_assoc (in_order ds w frame) (λ p. gathered p.0 es w p.1) k
@@ -51,7 +51,7 @@ in_order-append ds es w frame k =
     ap (λ t. and_then t k) (ap (λ l. gathered l es w p.1) (sym (append-nil p.0)) ∙ gathered-behind p.0 [] es w p.1)
     ∙ and_then_assoc (in_order es w p.1) (λ q. Ended (p.0 ++ q.0, q.1)) k)
 
-pub in_order-one : {B : Type 0} (d : Does Value) (w : Walked) (frame : Frame) (k : (List Value × Frame) → Interaction B) → and_then (in_order (d ∷ []) w frame) k ≡ and_then (d w frame) (λ p. k (p.0 ∷ [], p.1))
+pub in_order-one : {B : Type 0} (d : Does Value) (w : BodyScene) (frame : Frame) (k : (List Value × Frame) → Interaction B) → and_then (in_order (d ∷ []) w frame) k ≡ and_then (d w frame) (λ p. k (p.0 ∷ [], p.1))
 unfolding given bind
 in_order-one d w frame k = and_then_assoc (d w frame) (λ p. Ended (p.0 ∷ [], p.1)) k
 
@@ -119,16 +119,16 @@ Parts-append ps qs ds es ss ts n m c c1 new le ld = record {
 -- ---- an instruction behind its operands
 
 -- what an instruction does with values that are there: it asks, and puts a value, and the frame is another
-pub record Puts (i : Instr) (ds : List (Does Value)) (ss : List Shape) (shape : Shape) (d : Does Value) {A : Type 0} (t : Walked → List Value → Frame → Interaction A) (v : Walked → List Value → Frame → A → Value) (fr : List Value → Frame → A → Frame) : Type 0 where
+pub record Puts (i : Instr) (ds : List (Does Value)) (ss : List Shape) (shape : Shape) (d : Does Value) {A : Type 0} (t : BodyScene → List Value → Frame → Interaction A) (v : BodyScene → List Value → Frame → A → Value) (fr : List Value → Frame → A → Frame) : Type 0 where
   pub takes_them : takes i ≡ ss
   pub gives_one : gives i ≡ shape ∷ []
   pub fits : sizes_of (shape ∷ []) ≤ sizes_of ss + instr_bytes i
-  pub is : (w : Walked) (frame : Frame) → d w frame ≡ and_then (in_order ds w frame) (λ p. and_then (t w p.0 p.1) (λ a. Ended (v w p.0 p.1 a, fr p.0 p.1 a)))
-  pub runs : (maps : List MapDecl) (w : Walked) (frame : Frame) (values vs : List Value) → length vs ≡ length ss →
+  pub is : (w : BodyScene) (frame : Frame) → d w frame ≡ and_then (in_order ds w frame) (λ p. and_then (t w p.0 p.1) (λ a. Ended (v w p.0 p.1 a, fr p.0 p.1 a)))
+  pub runs : (maps : List MapDecl) (w : BodyScene) (frame : Frame) (values vs : List Value) → length vs ≡ length ss →
       instr_run i (seen_by maps w) (state frame (values ++ vs)) ≡ and_then (t w vs frame) (λ a. Ended (state (fr vs frame a) (values ++ v w vs frame a ∷ [])))
   pub turns : (vs : List Value) (frame : Frame) (a : A) → (fr vs frame a).turns ≡ frame.turns
 
-pub Parts-put : {A : Type 0} (i : Instr) (ps : List Part) (head : Part) (ds : List (Does Value)) (ss : List Shape) (shape : Shape) (d : Does Value) (t : Walked → List Value → Frame → Interaction A) (v : Walked → List Value → Frame → A → Value) (fr : List Value → Frame → A → Frame) (n : Need) (c c1 new : Code) →
+pub Parts-put : {A : Type 0} (i : Instr) (ps : List Part) (head : Part) (ds : List (Does Value)) (ss : List Shape) (shape : Shape) (d : Does Value) (t : BodyScene → List Value → Frame → Interaction A) (v : BodyScene → List Value → Frame → A → Value) (fr : List Value → Frame → A → Frame) (n : Need) (c c1 new : Code) →
     Puts i ds ss shape d t v fr → ((s : Site) → all_fit s.scope (head ∷ ps) ≡ true → (names (ground_in s.ground) i ≡ true) × (all_fit s.scope ps ≡ true)) → ((s : Site) → all_fit s.scope (head ∷ ps) ≡ true → end_read i ≤ s.ground.payload) → c1 ≡ pushed i c → LowersParts ps ds ss n c1 new →
     LowersValue (head ∷ ps) d shape (need (max n.frame (sizes_of ss + instr_bytes i)) (instr_slots i + n.code)) c new
 Parts-put i ps head ds ss shape d t v fr n c c1 new pu named reads e1 l1 =

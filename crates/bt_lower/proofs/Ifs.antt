@@ -14,9 +14,9 @@ use Rattle.typed_tree.specs.Scope.{Scope, all_fit}
 use Rattle.walk_meaning.specs.declared.flow.Flow.{Flow}
 use Rattle.walk_meaning.specs.declared.flow.Flow.TheVariants.{Next}
 use Rattle.walk_meaning.specs.declared.flow.Frame.{Frame}
-use Rattle.walk_meaning.specs.Does.{Does, given, bind, choose, either, in_order}
+use Rattle.walk_meaning.specs.Does.{Does, given, bind, choose, if_holds, in_order}
 use Rattle.map_ops.specs.Values.{holds, number_of}
-use Rattle.walk_meaning.specs.Does.{Scene as Walked}
+use Rattle.walk_meaning.specs.Does.{BodyScene}
 use Rattle.walk_meaning.specs.Exprs.{number_value}
 use Rattle.ir_code.specs.declared.blocks.Block.{Block}
 use Rattle.ir_code.specs.declared.blocks.Exit.TheVariants.{Goto, Branch}
@@ -54,13 +54,13 @@ one_value [] h = absurd (omega arith)
 one_value (v ∷ []) h = (v, refl)
 one_value (v ∷ u ∷ vs) h = absurd (omega arith)
 
-choose-flow : (b : Bool) (x y : Does Flow) (w : Walked) (frame : Frame) (k : (Flow × Frame) → Interaction Ending) → and_then (choose b x y w frame) k ≡ cond b (and_then (x w frame) k) (and_then (y w frame) k)
+choose-flow : (b : Bool) (x y : Does Flow) (w : BodyScene) (frame : Frame) (k : (Flow × Frame) → Interaction Ending) → and_then (choose b x y w frame) k ≡ cond b (and_then (x w frame) k) (and_then (y w frame) k)
 unfolding choose
 choose-flow true x y w frame k = refl
 choose-flow false x y w frame k = refl
 
-pub test-is : (tst : Does ℤ) (x y : Does Flow) (w : Walked) (frame : Frame) (k : (Flow × Frame) → Interaction Ending) →
-    and_then (either tst x y w frame) k ≡ and_then (in_order (number_value tst ∷ []) w frame) (λ q. cond (holds (number_of (top q.0))) (and_then (x w q.1) k) (and_then (y w q.1) k))
+pub test-is : (tst : Does ℤ) (x y : Does Flow) (w : BodyScene) (frame : Frame) (k : (Flow × Frame) → Interaction Ending) →
+    and_then (if_holds tst x y w frame) k ≡ and_then (in_order (number_value tst ∷ []) w frame) (λ q. cond (holds (number_of (top q.0))) (and_then (x w q.1) k) (and_then (y w q.1) k))
 unfolding bind given
 test-is tst x y w frame k =
     and_then_assoc (tst w frame) (λ p. choose (holds p.0) x y w p.1) k
@@ -79,10 +79,10 @@ branches bs c first second n scene values q long t u p r =
 pub Block-arm : (qs px py : Bool → List Part) (pt : List Part) (tst : Does ℤ) (x y : Does Flow) (nt nx ny : Need) (after second first b : ℕ) (way : Ways) (c c1 c2 c3 c4 new : Code) →
     ((s : Scope) (inside : Bool) → all_fit s (qs inside) ≡ true → (all_fit s pt ≡ true) × ((all_fit s (px inside) ≡ true) × (all_fit s (py inside) ≡ true))) →
     LowersBlock py y ny after way c c1 second → LowersBlock px x nx after way c1 c2 first → c3 ≡ begun (Branch first second) (shapes.Int ∷ []) c2 → LowersValue pt (number_value tst) shapes.Int nt c3 c4 → new ≡ closed c4 → b ≡ length c4.blocks →
-    LowersBlock qs (either tst x y) (need (max (max nt.frame nx.frame) ny.frame) (4 + (nt.code + nx.code) + ny.code)) after way c new b
+    LowersBlock qs (if_holds tst x y) (need (max (max nt.frame nx.frame) ny.frame) (4 + (nt.code + nx.code) + ny.code)) after way c new b
 Block-arm qs px py pt tst x y nt nx ny after second first b way c c1 c2 c3 c4 new fit ly lx e3 lt0 en eb =
-    subst (λ z. LowersBlock qs (either tst x y) (need (max (max nt.frame nx.frame) ny.frame) (4 + (nt.code + nx.code) + ny.code)) after way c new z) (sym eb)
-    (subst (λ z. LowersBlock qs (either tst x y) (need (max (max nt.frame nx.frame) ny.frame) (4 + (nt.code + nx.code) + ny.code)) after way c z (length c4.blocks)) (sym en) (record {
+    subst (λ z. LowersBlock qs (if_holds tst x y) (need (max (max nt.frame nx.frame) ny.frame) (4 + (nt.code + nx.code) + ny.code)) after way c new z) (sym eb)
+    (subst (λ z. LowersBlock qs (if_holds tst x y) (need (max (max nt.frame nx.frame) ny.frame) (4 + (nt.code + nx.code) + ny.code)) after way c z (length c4.blocks)) (sym en) (record {
       grew = Grew-trans _ _ _ ly.grew (Grew-trans _ _ _ lx.grew (Grew-trans _ _ _ lt.grew one));
       depth = deep;
       slots = omega (arith, ly.slots, lx.slots, slots-begun (Branch first second) (shapes.Int ∷ []) c2, lt.slots, slots-closed c4);
@@ -92,7 +92,7 @@ Block-arm qs px py pt tst x y nt nx ny after second first b way c c1 c2 c3 c4 ne
           let scene = seen_by t.ground.maps w in
           let wide1 : (turns : ℕ) → fuel most c turns ≤ fuel most c1 turns = λ turns. omega (arith, fuel-depth most turns c c1 ly.depth, Grew-length _ _ ly.grew) in
           Reaches-more bs _ _ _ scene _ _ (omega (arith, closed-length c4, fuel-depth most frame.turns c2 c4 lt.depth, fuel-depth most frame.turns c2 (closed c4) lt.depth))
-          (Reaches-close bs c4 ((frame.turns + c2.depth) * most + length c4.blocks) scene (state frame values) (and_then (either tst x y w frame) k) (Stand-later _ _ _ _ (omega (arith, Grew-length _ _ ly.grew, Grew-length _ _ lx.grew, Grew-length _ _ lt.grew)) stand)
+          (Reaches-close bs c4 ((frame.turns + c2.depth) * most + length c4.blocks) scene (state frame values) (and_then (if_holds tst x y w frame) k) (Stand-later _ _ _ _ (omega (arith, Grew-length _ _ ly.grew, Grew-length _ _ lx.grew, Grew-length _ _ lt.grew)) stand)
           (Runs-is bs c4 _ scene _ _ _ (sym (test-is tst x y w frame k))
           (lt.does bs (Stand-later _ _ _ _ (omega (arith, Grew-length _ _ ly.grew, Grew-length _ _ lx.grew)) (Stand-before _ _ _ _ one stand)) ((frame.turns + c2.depth) * most) t.ground.maps w frame values (λ q. cond (holds (number_of (top q.0))) (and_then (x w q.1) k) (and_then (y w q.1) k))
           (λ q long turns. branches bs c2 first second _ scene values q long (λ q1. and_then (x w q1) k) (λ q1. and_then (y w q1) k)

@@ -13,7 +13,7 @@ use Rattle.walk_meaning.specs.declared.flow.Flow.TheVariants.{Next, Stop}
 use Rattle.walk_meaning.specs.declared.flow.Frame.{Frame}
 use Rattle.walk_meaning.specs.Does.{Does, given, bind}
 use Rattle.map_ops.specs.Values.{holds, number_of}
-use Rattle.walk_meaning.specs.Does.{Scene as Walked}
+use Rattle.walk_meaning.specs.Does.{BodyScene}
 use Rattle.walk_meaning.specs.Exprs.{number_value}
 use Rattle.walk_meaning.specs.Stmts.{turn, again, tests}
 use Rattle.ir_code.specs.declared.blocks.Block.{Block}
@@ -94,7 +94,7 @@ module _ (ps : Bool → List Part) (body : Does Flow) (n : Need) (line block hea
     pub here : slice_get bs loop_end ≡ Some (turn_end head d)
     here = here-set (length c.blocks) loop_end d.blocks bs (turn_end head d) (omega (arith, len2)) (omega (arith, len2, len3, len4, len6, len9)) stand
 
-    module _ (most : ℕ) (wide : length d.blocks ≤ most) (t : Site) (inside : Bool) (fit : all_fit t.scope (ps inside) ≡ true) (w : Walked) (same : w.maps ≡ t.scope.maps) (values : List Value) (k : (Flow × Frame) → Interaction Ending) (stops : (e : Ending) (st : Frame) → k (Stop e, st) ≡ Ended e) where
+    module _ (most : ℕ) (wide : length d.blocks ≤ most) (t : Site) (inside : Bool) (fit : all_fit t.scope (ps inside) ≡ true) (w : BodyScene) (same : w.maps ≡ t.scope.maps) (values : List Value) (k : (Flow × Frame) → Interaction Ending) (stops : (e : Ending) (st : Frame) → k (Stop e, st) ≡ Ended e) where
       -- a turn, and what follows it
       pub loop_turn : (rest : Does Flow) (st : Frame) →
           ((x : Frame) → x.turns < st.turns → Reaches bs head ((x.turns + c.depth) * most + length d.blocks) (seen_by t.ground.maps w) (state x values) (and_then (rest w x) k)) →
@@ -147,7 +147,7 @@ module _ (ps : Bool → List Part) (body : Does Flow) (n : Need) (line block : �
     st9 : Stand (length c8.blocks) (closed c8).blocks bs
     st9 = Stand-later _ _ _ _ (omega (arith, len36, Grew-length _ _ lt.grew)) st_over
 
-    module _ (most : ℕ) (wide : length (closed c8).blocks ≤ most) (t : Site) (inside : Bool) (fit : all_fit t.scope (ps inside) ≡ true) (w : Walked) (same : w.maps ≡ t.scope.maps) (values : List Value) (k : (Flow × Frame) → Interaction Ending) (stops : (e : Ending) (st : Frame) → k (Stop e, st) ≡ Ended e)
+    module _ (most : ℕ) (wide : length (closed c8).blocks ≤ most) (t : Site) (inside : Bool) (fit : all_fit t.scope (ps inside) ≡ true) (w : BodyScene) (same : w.maps ≡ t.scope.maps) (values : List Value) (k : (Flow × Frame) → Interaction Ending) (stops : (e : Ending) (st : Frame) → k (Stop e, st) ≡ Ended e)
         (turns_at : ℕ) (left_does : (st : Frame) → st.turns ≤ turns_at → Reaches bs (length c.blocks) ((st.turns + c.depth) * most + length c.blocks + 1) (seen_by t.ground.maps w) (state st values) (k (Next, st))) where
       next-is : (st : Frame) → k (Next, st) ≡ and_then (given Next w st) k
       unfolding given

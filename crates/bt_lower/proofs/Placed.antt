@@ -19,9 +19,9 @@ use Rattle.typed_tree.specs.declared.body.TypedBody.{TypedBody}
 use Rattle.typed_tree.specs.Bodies.{scope_of}
 use Rattle.typed_tree.specs.Scope.{format_of, is_fine_kind, has_field, same_field}
 use Rattle.typed_tree.specs.Script.{IsIn, AreIn}
-use Rattle.walk_meaning.specs.Does.{Scene as Walked}
+use Rattle.walk_meaning.specs.Does.{BodyScene}
 use Rattle.walk_meaning.specs.Walk.{walk}
-use Rattle.walk_meaning.specs.Walk.{fresh as fresh_in_walk}
+use Rattle.walk_meaning.specs.Walk.{first_frame}
 use Rattle.walk_meaning.specs.Served.{least_length}
 use Rattle.walk_meaning.proofs.Declared.{served, served_pick, fine, same_field-end}
 use Rattle.ir_code.specs.declared.blocks.Block.{Block}
@@ -79,7 +79,7 @@ body-in maps formats bodies number body placed here = record {
     one : AreIn maps formats bodies → IsIn maps formats body
     one are = subst (λ (b : TypedBody). IsIn maps formats b) (get_or_from_slice_get bodies number body body here) (are number body (slice_get_within bodies number body here))
 
-fresh-same : (ss : List Shape) → fresh ss ≡ state (fresh_in_walk ss) []
+fresh-same : (ss : List Shape) → fresh ss ≡ state (first_frame ss) []
 fresh-same ss = refl
 
 -- ---- a body of a script, and blocks that do its tree
@@ -95,7 +95,7 @@ module _ (maps : List MapDecl) (formats : List (List Piece)) (body : TypedBody) 
   place : HasPlace body.tree site
   place = record { named = body.typed; room = record { within = omega arith } }
 
-  abbrev seen : Context → List ℕ → ℕ → ℕ → Walked
+  abbrev seen : Context → List ℕ → ℕ → ℕ → BodyScene
   seen context payload actor actors = record { context = context; payload = payload; actor = actor; actors = actors; maps = body.maps }
 
   pub placed-runs : (context : Context) (payload : List ℕ) (actor actors : ℕ) →
@@ -103,7 +103,7 @@ module _ (maps : List MapDecl) (formats : List (List Piece)) (body : TypedBody) 
   unfolding walk
   placed-runs context payload actor actors =
       ap (λ (s : State). blocks_run list (record { context = context; payload = payload; actor = actor; actors = actors; maps = maps }) s) (fresh-same body.tree.variables)
-      ∙ l.runs site body.typed (seen context payload actor actors) refl (fresh_in_walk body.tree.variables)
+      ∙ l.runs site body.typed (seen context payload actor actors) refl (first_frame body.tree.variables)
 
   pub placed-leads : lead_forward list ≡ true
   placed-leads = l.leads site place

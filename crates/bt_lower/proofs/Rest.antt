@@ -4,16 +4,16 @@ use Rattle.std.proofs.lemmas.List.{drop_all}
 use Rattle.typed_tree.specs.declared.stmt.TypedBlock.{TypedBlock, fold_out-TypedBlock, out-TypedBlock}
 use Rattle.typed_tree.specs.declared.stmt.TypedStmt.{TypedStmt}
 use Rattle.typed_tree.specs.Parts.{Part, stmt_parts, block_parts, joined, Ending}
-use Rattle.typed_tree.specs.Parts.{stmt_layer as stmt_is, block_layer as block_is}
+use Rattle.typed_tree.specs.Parts.{stmt_layer, block_layer}
 use Rattle.walk_meaning.specs.declared.flow.Flow.{Flow}
 use Rattle.walk_meaning.specs.Does.{Does}
-use Rattle.walk_meaning.specs.Stmts.{stmt_does, block_does, in_turn}
+use Rattle.walk_meaning.specs.Stmts.{stmt_does, block_does, in_sequence}
 use Rattle.walk_meaning.proofs.StmtDoes.{block_is as block-does}
 use Rattle.bt_lower.specs.declared.code.Code.{Code}
 use Rattle.bt_lower.specs.declared.code.Ways.{Ways}
 use Rattle.bt_lower.specs.Lowers.{LowersStmt, LowersStatement, LowersStatements}
 use Rattle.bt_lower.specs.Needs.{Need, all_need, stmt_need, block_need}
-use Rattle.bt_lower.specs.Needs.{stmt_layer as stmt_needs, block_layer as block_needs}
+use Rattle.bt_lower.specs.Needs.{stmt_need_by_parts, block_need_by_parts}
 use Rattle.bt_lower.proofs.Lists.{fit-parts}
 use Rattle.bt_lower.proofs.Stmts.{Stmt-fit, Lowers-none, Lowers-then}
 
@@ -22,7 +22,7 @@ rest_parts ss inside = joined (map (λ (s : TypedStmt). stmt_parts s inside) ss)
 
 -- the new code does these statements of the tree
 abbrev pub LowersRest : List TypedStmt → Ways → Code → Code → Type 0
-LowersRest ss way old new = LowersStmt (rest_parts ss) (in_turn (map stmt_does ss)) (all_need (map stmt_need ss)) way old new
+LowersRest ss way old new = LowersStmt (rest_parts ss) (in_sequence (map stmt_does ss)) (all_need (map stmt_need ss)) way old new
 
 Rest-more : (s : TypedStmt) (ss : List TypedStmt) (way : Ways) (c c1 new : Code) → LowersRest ss way c c1 → LowersStatement s way c1 new → LowersRest (s ∷ ss) way c new
 Rest-more s ss way c c1 new ls l = Lowers-then (stmt_parts s) (rest_parts ss) (rest_parts (s ∷ ss)) (stmt_does s) (map stmt_does ss) (stmt_need s) (all_need (map stmt_need ss)) way c c1 new (λ scope inside f. fit-parts scope (stmt_parts s inside) (rest_parts ss inside) f) ls l
@@ -44,10 +44,10 @@ insides inside [] = refl
 insides inside (s ∷ ss) = ap (λ (l : List (List Part)). stmt_parts s inside ∷ l) (insides inside ss)
 
 pub Block-parts : (b : TypedBlock) → block_parts b ≡ (λ (inside : Bool). rest_parts (out-TypedBlock b).stmts inside ++ Ending ∷ [])
-Block-parts b = fold_out-TypedBlock (Bool → List Part) (Bool → List Part) stmt_is block_is b ∙ (λ j inside. ap (λ (l : List (List Part)). joined l ++ Ending ∷ []) (insides inside (out-TypedBlock b).stmts) j)
+Block-parts b = fold_out-TypedBlock (Bool → List Part) (Bool → List Part) stmt_layer block_layer b ∙ (λ j inside. ap (λ (l : List (List Part)). joined l ++ Ending ∷ []) (insides inside (out-TypedBlock b).stmts) j)
 
 pub Block-need : (b : TypedBlock) → block_need b ≡ all_need (map stmt_need (out-TypedBlock b).stmts)
-Block-need b = fold_out-TypedBlock Need Need stmt_needs block_needs b
+Block-need b = fold_out-TypedBlock Need Need stmt_need_by_parts block_need_by_parts b
 
 -- all statements of a block
 pub Rest-end : (b : TypedBlock) (ss : List TypedStmt) (left : ℕ) (way : Ways) (c new : Code) → left ≡ 0 → ss ≡ (out-TypedBlock b).stmts → LowersRest (drop left ss) way c new → LowersStatements b way c new
@@ -55,7 +55,7 @@ Rest-end b ss left way c new e es l0 =
     let l = subst (λ (x : List TypedStmt). LowersRest x way c new) es (subst (λ (n : ℕ). LowersRest (drop n ss) way c new) e l0) in
     let ps = rest_parts (out-TypedBlock b).stmts in
     let qs : Bool → List Part = λ inside. ps inside ++ Ending ∷ [] in
-    let d = in_turn (map stmt_does (out-TypedBlock b).stmts) in
+    let d = in_sequence (map stmt_does (out-TypedBlock b).stmts) in
     let n = all_need (map stmt_need (out-TypedBlock b).stmts) in
     subst (λ (q : Bool → List Part). LowersStmt q (block_does b) (block_need b) way c new) (sym (Block-parts b))
     (subst (λ (q : Does Flow). LowersStmt qs q (block_need b) way c new) (sym (block-does b))

@@ -14,8 +14,8 @@ use Rattle.walk_meaning.specs.declared.flow.Flow.{Flow}
 use Rattle.walk_meaning.specs.declared.flow.Flow.TheVariants.{Next, Break, Continue, Stop}
 use Rattle.walk_meaning.specs.declared.flow.Frame.{Frame}
 use Rattle.walk_meaning.specs.Does.{Does, given, bind, lifted, in_order}
-use Rattle.walk_meaning.specs.Does.{Scene as Walked}
-use Rattle.walk_meaning.specs.Stmts.{in_turn, if_next, jump_to}
+use Rattle.walk_meaning.specs.Does.{BodyScene}
+use Rattle.walk_meaning.specs.Stmts.{in_sequence, if_next, jump_to}
 use Rattle.typed_tree.specs.declared.stmt.Jump.TheVariants as jumps
 use Rattle.ir_code.specs.declared.blocks.Block.{Block}
 use Rattle.ir_code.specs.declared.blocks.Exit.{Exit}
@@ -24,7 +24,7 @@ use Rattle.ir_code.specs.declared.instr.Instr.{Instr}
 use Rattle.ir_code.specs.declared.instr.Instr.TheVariants as i
 use Rattle.bt_core.specs.declared.step.ObjectId.TheVariants.{Clock}
 use Rattle.bt_core.specs.declared.step.Op.TheVariants as ops
-use Rattle.map_ops.specs.Asking.{told as stop_asked}
+use Rattle.map_ops.specs.Asking.{told}
 use Rattle.ir_code.specs.Figures.{sizes_of, instr_slots, instr_bytes}
 use Rattle.ir_code.specs.Meaning.{Scene, instr_run}
 use Rattle.ir_code.specs.Serving.{end_read}
@@ -78,16 +78,16 @@ Stmt-fit ps qs d n way old new f l = record {
 -- ---- an instruction behind its operands
 
 -- what an instruction does with values that are there: it asks, and the frame is another
-pub record Acts (qs : Bool → List Part) (i : Instr) (ds : List (Does Value)) (ss : List Shape) (d : Does Flow) {A : Type 0} (t : Walked → List Value → Frame → Interaction A) (fr : List Value → Frame → A → Frame) : Type 0 where
+pub record Acts (qs : Bool → List Part) (i : Instr) (ds : List (Does Value)) (ss : List Shape) (d : Does Flow) {A : Type 0} (t : BodyScene → List Value → Frame → Interaction A) (fr : List Value → Frame → A → Frame) : Type 0 where
   pub takes_them : takes i ≡ ss
   pub reads_none : end_read i ≡ 0
   pub gives_none : gives i ≡ []
-  pub is : (w : Walked) (frame : Frame) → d w frame ≡ and_then (in_order ds w frame) (λ p. and_then (t w p.0 p.1) (λ a. Ended (Next, fr p.0 p.1 a)))
-  pub runs : (s : Site) (inside : Bool) → all_fit s.scope (qs inside) ≡ true → (w : Walked) → w.maps ≡ s.scope.maps → (frame : Frame) (values vs : List Value) → length vs ≡ length ss →
+  pub is : (w : BodyScene) (frame : Frame) → d w frame ≡ and_then (in_order ds w frame) (λ p. and_then (t w p.0 p.1) (λ a. Ended (Next, fr p.0 p.1 a)))
+  pub runs : (s : Site) (inside : Bool) → all_fit s.scope (qs inside) ≡ true → (w : BodyScene) → w.maps ≡ s.scope.maps → (frame : Frame) (values vs : List Value) → length vs ≡ length ss →
       instr_run i (seen_by s.ground.maps w) (state frame (values ++ vs)) ≡ and_then (t w vs frame) (λ a. Ended (state (fr vs frame a) values))
   pub turns : (vs : List Value) (frame : Frame) (a : A) → (fr vs frame a).turns ≡ frame.turns
 
-pub Lowers-act : {A : Type 0} (qs : Bool → List Part) (i : Instr) (ps : List Part) (ds : List (Does Value)) (ss : List Shape) (d : Does Flow) (t : Walked → List Value → Frame → Interaction A) (fr : List Value → Frame → A → Frame) (n : Need) (way : Ways) (c c1 new : Code) →
+pub Lowers-act : {A : Type 0} (qs : Bool → List Part) (i : Instr) (ps : List Part) (ds : List (Does Value)) (ss : List Shape) (d : Does Flow) (t : BodyScene → List Value → Frame → Interaction A) (fr : List Value → Frame → A → Frame) (n : Need) (way : Ways) (c c1 new : Code) →
     Acts qs i ds ss d t fr → ((s : Site) (inside : Bool) → all_fit s.scope (qs inside) ≡ true → (names (ground_in s.ground) i ≡ true) × (all_fit s.scope ps ≡ true)) → c1 ≡ pushed i c → LowersParts ps ds ss n c1 new →
     LowersStmt qs d (need (max n.frame (sizes_of ss + instr_bytes i)) (instr_slots i + n.code)) way c new
 Lowers-act qs i ps ds ss d t fr n way c c1 new ac named e1 l1 = record {
@@ -178,7 +178,7 @@ Lowers-exit qs way c c1 new e1 e =
       slots = omega (arith, slots-pushed i.Stop (begun (End Exited) [] c), slots-begun (End Exited) [] c);
       stack = pushed-stack (begun (End Exited) [] c) i.Stop c.stack refl ∙ append-nil c.stack;
       does = λ bs stand most le t inside fits w same frame values k f.
-          Runs-push bs (begun (End Exited) [] c) i.Stop _ (seen_by t.ground.maps w) (state frame values) (stop_asked Clock ops.Stop) (λ u. state frame values) (λ u. k (Stop Exited, frame)) refl
+          Runs-push bs (begun (End Exited) [] c) i.Stop _ (seen_by t.ground.maps w) (state frame values) (told Clock ops.Stop) (λ u. state frame values) (λ u. k (Stop Exited, frame)) refl
           (λ u. record { by = λ m h. sym (f.stop Exited frame) });
       sound = λ bs stand t inside fits room ways o.
           (Opens-push t.ground bs (begun (End Exited) [] c) i.Stop c.stack refl refl (none-read t.ground.payload) (Room-less t.ground _ _ (omega (arith, ap sizes_of (append-nil c.stack))) room) (Opens-end bs t c Exited (Room-less t.ground _ _ (omega arith) room)), Sound-none t.ground bs (length c.blocks));
@@ -186,7 +186,7 @@ Lowers-exit qs way c c1 new e1 e =
 
 -- ---- statements one after another
 
-pub Lowers-none : (qs : Bool → List Part) (way : Ways) (c : Code) → LowersStmt qs (in_turn []) (need 0 0) way c c
+pub Lowers-none : (qs : Bool → List Part) (way : Ways) (c : Code) → LowersStmt qs (in_sequence []) (need 0 0) way c c
 unfolding given
 Lowers-none qs way c = record {
   grew = Grew-refl c.blocks;
@@ -205,7 +205,7 @@ WaysStand-on bs leave again c d ed es le w = record { leaves = move leave w.leav
 
 pub Lowers-then : (ps qs rs : Bool → List Part) (d : Does Flow) (ds : List (Does Flow)) (n m : Need) (way : Ways) (c c1 new : Code) →
     ((s : Scope) (inside : Bool) → all_fit s (rs inside) ≡ true → (all_fit s (ps inside) ≡ true) × (all_fit s (qs inside) ≡ true)) →
-    LowersStmt qs (in_turn ds) m way c c1 → LowersStmt ps d n way c1 new → LowersStmt rs (in_turn (d ∷ ds)) (greater n m) way c new
+    LowersStmt qs (in_sequence ds) m way c c1 → LowersStmt ps d n way c1 new → LowersStmt rs (in_sequence (d ∷ ds)) (greater n m) way c new
 unfolding bind given
 Lowers-then ps qs rs d ds n m way c c1 new fit lg lf = record {
   grew = Grew-trans _ _ _ lg.grew lf.grew;
@@ -215,8 +215,8 @@ Lowers-then ps qs rs d ds n m way c c1 new fit lg lf = record {
   does = λ bs stand most le t inside fits w same frame values k fo.
       let f = fit t.scope inside fits in
       let wider : (turns : ℕ) → fuel most c turns ≤ fuel most c1 turns = λ turns. omega (arith, fuel-depth most turns c c1 lg.depth, Grew-length _ _ lg.grew) in
-      Runs-is bs new _ (seen_by t.ground.maps w) _ _ _ (sym (and_then_assoc (d w frame) (λ x. if_next x.0 (in_turn ds) w x.1) k))
-      (lf.does bs (Stand-later _ _ _ _ (Grew-length _ _ lg.grew) stand) most le t inside f.0 w same frame values (λ x. and_then (if_next x.0 (in_turn ds) w x.1) k) (record {
+      Runs-is bs new _ (seen_by t.ground.maps w) _ _ _ (sym (and_then_assoc (d w frame) (λ x. if_next x.0 (in_sequence ds) w x.1) k))
+      (lf.does bs (Stand-later _ _ _ _ (Grew-length _ _ lg.grew) stand) most le t inside f.0 w same frame values (λ x. and_then (if_next x.0 (in_sequence ds) w x.1) k) (record {
         next = λ st h. lg.does bs (Stand-before _ _ _ _ lf.grew stand) most (omega (arith, Grew-length _ _ lf.grew)) t inside f.1 w same st values k (Follows-less bs way c most (seen_by t.ground.maps w) frame.turns st.turns values k h fo);
         leave = λ st h. Reaches-more bs _ _ _ (seen_by t.ground.maps w) _ _ (wider st.turns) (fo.leave st h);
         again = λ st h. Reaches-more bs _ _ _ (seen_by t.ground.maps w) _ _ (wider st.turns) (fo.again st h);

@@ -13,14 +13,14 @@ use Rattle.bt_core.proofs.InteractionLaws.{and_then_assoc}
 use Rattle.walk_meaning.specs.declared.flow.Flow.{Flow}
 use Rattle.walk_meaning.specs.declared.flow.Flow.TheVariants.{Next, Break, Continue, Stop}
 use Rattle.walk_meaning.specs.declared.flow.Frame.{Frame}
-use Rattle.walk_meaning.specs.Does.{Does, given, seen, changed, lifted, bind}
-use Rattle.walk_meaning.specs.Does.{Scene as Walked}
+use Rattle.walk_meaning.specs.Does.{Does, given, looked_at, changed, lifted, bind}
+use Rattle.walk_meaning.specs.Does.{BodyScene}
 use Rattle.walk_meaning.specs.Stmts.{cut, turn, again}
 use Rattle.ir_code.specs.declared.blocks.Block.{Block}
 use Rattle.ir_code.specs.declared.blocks.Exit.TheVariants.{Again, End}
 use Rattle.ir_code.specs.declared.instr.Instr.TheVariants as i
 use Rattle.ir_code.specs.declared.state.State.{State}
-use Rattle.map_ops.specs.Asking.{told as asks_for}
+use Rattle.map_ops.specs.Asking.{told}
 use Rattle.ir_code.specs.Meaning.{Scene, block_run, run_from}
 use Rattle.bt_lower.specs.declared.code.Code.{Code}
 use Rattle.bt_lower.specs.Code.{pushed, begun, gated, with_cut}
@@ -31,12 +31,12 @@ abbrev pub with_turns : ℕ → Frame → Frame
 with_turns left frame = record { variables = frame.variables; turns = left }
 
 -- the block of the cut
-pub Reaches-cut : (bs : List Block) (line : ℕ) (c : Code) (n : ℕ) (scene : Scene) (w : Walked) (frame : Frame) (values : List Value) (k : (Flow × Frame) → Interaction Ending) → Stand (length c.blocks) (with_cut line c).blocks bs → k (Stop AtCut, frame) ≡ Ended AtCut →
+pub Reaches-cut : (bs : List Block) (line : ℕ) (c : Code) (n : ℕ) (scene : Scene) (w : BodyScene) (frame : Frame) (values : List Value) (k : (Flow × Frame) → Interaction Ending) → Stand (length c.blocks) (with_cut line c).blocks bs → k (Stop AtCut, frame) ≡ Ended AtCut →
     Reaches bs (length c.blocks) (n + 1) scene (state frame values) (and_then (cut line w frame) k)
 unfolding given bind lifted
 Reaches-cut bs line c n scene w frame values k stand e =
     Reaches-close bs (pushed (i.Cut line) (begun (End AtCut) [] c)) n scene (state frame values) (and_then (cut line w frame) k) stand
-    (Runs-push bs (begun (End AtCut) [] c) (i.Cut line) n scene (state frame values) (asks_for Out (ops.Emit (items.Cut line))) (λ u. state frame values) (λ u. k (Stop AtCut, frame)) refl
+    (Runs-push bs (begun (End AtCut) [] c) (i.Cut line) n scene (state frame values) (told Out (ops.Emit (items.Cut line))) (λ u. state frame values) (λ u. k (Stop AtCut, frame)) refl
     (λ u. record { by = λ m h. sym e }))
 
 -- the block that ends a turn
@@ -48,11 +48,11 @@ Reaches-again bs a head depth n stack scene s u e r = record { by = run }
     run (suc m) h = ap (λ (o : Option Block). block_run (run_from bs m scene) o scene s) e ∙ r.by m (omega arith)
 
 -- nothing but a gate is open
-pub Runs-gate : (bs : List Block) (c : Code) (line block at_cut n turns : ℕ) (body : Does Flow) (scene : Scene) (w : Walked) (frame : Frame) (values : List Value) (k : (Flow × Frame) → Interaction Ending) → frame.turns ≡ turns →
+pub Runs-gate : (bs : List Block) (c : Code) (line block at_cut n turns : ℕ) (body : Does Flow) (scene : Scene) (w : BodyScene) (frame : Frame) (values : List Value) (k : (Flow × Frame) → Interaction Ending) → frame.turns ≡ turns →
     (turns ≡ 0 → Reaches bs at_cut n scene (state frame values) (and_then (cut line w frame) k)) →
     ((left : ℕ) → turns ≡ suc left → Reaches bs block n scene (state (with_turns left frame) values) (and_then (body w (with_turns left frame)) k)) →
     Runs bs (gated block at_cut c) n scene (state frame values) (and_then (turn line body w frame) k)
-unfolding bind seen changed
+unfolding bind looked_at changed
 Runs-gate bs c line block at_cut n zero body scene w frame values k e p q =
     subst (λ (f : Frame). Runs bs (gated block at_cut c) n scene (state f values) (and_then (turn line body w f) k)) same
     (record { by = λ m h. (subst (λ (f : Frame). Reaches bs at_cut n scene (state f values) (and_then (cut line w f) k)) (sym same) (p refl)).by m h })
@@ -73,7 +73,7 @@ deeper : (t d most : ℕ) → (t + (d + 1)) * most ≡ (t + d) * most + most
 deeper t d most = let e : t + (d + 1) ≡ suc (t + d) = omega arith in ap (λ (n : ℕ). n * most) e ∙ omega arith
 
 -- a turn and what follows it, from what a loop's blocks do; the values on the stack are those at the loop's block
-module _ (bs : List Block) (most line d L leave at_cut a head block gate n3 n4 n6 n9 : ℕ) (body : Does Flow) (scene : Scene) (w : Walked) (values : List Value) (k : (Flow × Frame) → Interaction Ending)
+module _ (bs : List Block) (most line d L leave at_cut a head block gate n3 n4 n6 n9 : ℕ) (body : Does Flow) (scene : Scene) (w : BodyScene) (values : List Value) (k : (Flow × Frame) → Interaction Ending)
     (small : n9 ≤ most) (some : 1 ≤ n3) (next6 : n6 ≡ n4 + 1) (any : 1 ≤ n4) (least : L + 1 ≤ n9)
     (stops : (e : Ending) (st : Frame) → k (Stop e, st) ≡ Ended e)
     (cut_does : (st : Frame) → Reaches bs at_cut 1 scene (state st values) (and_then (cut line w st) k))

@@ -14,7 +14,7 @@ use Rattle.walk_meaning.specs.declared.flow.Flow.{Flow}
 use Rattle.walk_meaning.specs.declared.flow.Flow.TheVariants.{Next, Stop}
 use Rattle.walk_meaning.specs.declared.flow.Frame.{Frame}
 use Rattle.walk_meaning.specs.Does.{Does, given}
-use Rattle.walk_meaning.specs.Does.{Scene as Walked}
+use Rattle.walk_meaning.specs.Does.{BodyScene}
 use Rattle.walk_meaning.specs.Stmts.{turns}
 use Rattle.ir_code.specs.declared.blocks.Block.{Block}
 use Rattle.ir_code.specs.declared.blocks.Exit.TheVariants.{Count, End}
@@ -69,7 +69,7 @@ module _ (ps : Bool → List Part) (body : Does Flow) (n : Need) (line block : �
     pub st9 : Stand (length (counting line block c c4).blocks) (closed (counting line block c c4)).blocks bs
     st9 = Stand-later _ _ _ _ len36 (over ps body n line block (length (counting line block c c4).blocks) c c4 (closed (counting line block c c4)) lb grown9 bs stand)
 
-    module _ (most : ℕ) (wide : length (closed (counting line block c c4)).blocks ≤ most) (t : Site) (inside : Bool) (fit : all_fit t.scope (ps inside) ≡ true) (w : Walked) (same : w.maps ≡ t.scope.maps) (values : List Value) (k : (Flow × Frame) → Interaction Ending) (stops : (e : Ending) (st : Frame) → k (Stop e, st) ≡ Ended e)
+    module _ (most : ℕ) (wide : length (closed (counting line block c c4)).blocks ≤ most) (t : Site) (inside : Bool) (fit : all_fit t.scope (ps inside) ≡ true) (w : BodyScene) (same : w.maps ≡ t.scope.maps) (values : List Value) (k : (Flow × Frame) → Interaction Ending) (stops : (e : Ending) (st : Frame) → k (Stop e, st) ≡ Ended e)
         (turns_at : ℕ) (left_does : (v : Value) (st : Frame) → st.turns ≤ turns_at → Reaches bs (length c.blocks) ((st.turns + c.depth) * most + length c.blocks + 1) (seen_by t.ground.maps w) (state st (values ++ v ∷ [])) (k (Next, st))) where
       -- by induction on the turns that are left
       pub turns_reach : (m : ℕ) (st : Frame) → st.turns ≤ turns_at → Reaches bs (length (counting line block c c4).blocks) ((st.turns + c.depth) * most + length (closed (counting line block c c4)).blocks) (seen_by t.ground.maps w) (state st (values ++ Int (pos m) ∷ [])) (and_then (turns m line body w st) k)
@@ -255,7 +255,7 @@ module _ (qs ps : Bool → List Part) (body : Does Flow) (n : Need) (count line 
           (Sound-join t.ground bs _ (length c4.blocks) _ inner.1
           (Sound-join t.ground bs _ (length h.blocks) _ (Sound-close t.ground bs gate s6 gate_opens) (Sound-close t.ground bs h s9 head_opens)))))))
 
-    module _ (most : ℕ) (le : length new.blocks ≤ most) (t : Site) (f : all_fit t.scope (ps true) ≡ true) (w : Walked) (same : w.maps ≡ t.scope.maps) (frame : Frame) (values : List Value) (k : (Flow × Frame) → Interaction Ending) (fo : Follows bs way c0 most (seen_by t.ground.maps w) frame.turns values k) where
+    module _ (most : ℕ) (le : length new.blocks ≤ most) (t : Site) (f : all_fit t.scope (ps true) ≡ true) (w : BodyScene) (same : w.maps ≡ t.scope.maps) (frame : Frame) (values : List Value) (k : (Flow × Frame) → Interaction Ending) (fo : Follows bs way c0 most (seen_by t.ground.maps w) frame.turns values k) where
       left_does : (v : Value) (st : Frame) → st.turns ≤ frame.turns → Reaches bs (length c0.blocks) ((st.turns + c0.depth) * most + length c0.blocks + 1) (seen_by t.ground.maps w) (state st (values ++ v ∷ [])) (k (Next, st))
       left_does v st le' = Reaches-close bs c (fuel most c0 st.turns) (seen_by t.ground.maps w) (state st (values ++ v ∷ [])) (k (Next, st)) s1 (Runs-pop bs c0 _ (seen_by t.ground.maps w) st values v (k (Next, st)) (fo.next st le'))
 

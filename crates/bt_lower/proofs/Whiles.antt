@@ -9,7 +9,7 @@ use Rattle.typed_tree.specs.Parts.{Part}
 use Rattle.typed_tree.specs.Scope.{Scope, all_fit}
 use Rattle.walk_meaning.specs.declared.flow.Flow.{Flow}
 use Rattle.walk_meaning.specs.declared.flow.Flow.TheVariants.{Next}
-use Rattle.walk_meaning.specs.Does.{Does, seen, bind}
+use Rattle.walk_meaning.specs.Does.{Does, looked_at, bind}
 use Rattle.walk_meaning.specs.Exprs.{number_value}
 use Rattle.walk_meaning.specs.Stmts.{while_true}
 use Rattle.ir_code.specs.declared.blocks.Block.{Block}
@@ -60,7 +60,7 @@ pub Lowers-loop : (qs ps : Bool → List Part) (pt : List Part) (body : Does Flo
     LowersBlock ps body n (length (with_cut line (closed c)).blocks) (record { leave = length c.blocks; again = length (with_cut line (closed c)).blocks }) (reserved (with_cut line (closed c))) c4 block →
     LowersValue pt (number_value tst) shapes.Int nt (begun (Branch (length c4.blocks) (length c.blocks)) (shapes.Int ∷ []) (closed (gated block (length (closed c).blocks) c4))) c8 →
     LowersStmt qs (while_true line tst body) (more 24 (greater nt n)) way c (patched (length (with_cut line (closed c)).blocks) (length c8.blocks) (closed c8))
-unfolding bind seen code_slots
+unfolding bind looked_at code_slots
 Lowers-loop qs ps pt body tst n nt line block way c c4 c8 fit lb lt = record {
   grew = Grew-set c.blocks (closed c8).blocks (length (with_cut line (closed c)).blocks) (turn_end (length c8.blocks) (closed c8)) (omega (arith, len2)) grown;
   depth = deep8;

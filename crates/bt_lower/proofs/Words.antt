@@ -16,10 +16,10 @@ use Rattle.typed_tree.specs.declared.expr.NumBuiltin.{NumBuiltin}
 use Rattle.typed_tree.specs.Parts.{Part, Joined, Prefixed, Both}
 use Rattle.typed_tree.specs.Scope.{fits}
 use Rattle.walk_meaning.specs.declared.flow.Frame.{Frame}
-use Rattle.walk_meaning.specs.Does.{Does, given, seen, bind}
+use Rattle.walk_meaning.specs.Does.{Does, given, looked_at, bind}
 use Rattle.map_ops.specs.Values.{holds, number_of, text_of}
-use Rattle.walk_meaning.specs.Does.{Scene as Walked}
-use Rattle.walk_meaning.specs.Exprs.{number_value, text_value, before, both, compared, tested, builtin, command}
+use Rattle.walk_meaning.specs.Does.{BodyScene}
+use Rattle.walk_meaning.specs.Exprs.{number_value, text_value, before, both, texts_compared, tested, builtin, command}
 use Rattle.map_ops.specs.Builtins.{builtin_value}
 use Rattle.ir_code.specs.declared.instr.Instr.{Instr}
 use Rattle.ir_code.specs.declared.instr.Instr.TheVariants as i
@@ -44,9 +44,9 @@ no_values : (vs : List Value) → length vs ≡ 0 → vs ≡ []
 no_values [] h = refl
 no_values (v ∷ vs) h = absurd (omega arith)
 
-Leaf : (x : Instr) (shape : Shape) (d : Does Value) (val : Walked → Frame → Value) (fr : Frame → Frame) → takes x ≡ [] → gives x ≡ shape ∷ [] → sizes_of (shape ∷ []) ≤ instr_bytes x →
-    ((w : Walked) (frame : Frame) → d w frame ≡ Ended (val w frame, fr frame)) →
-    ((maps : List MapDecl) (w : Walked) (frame : Frame) (values : List Value) → instr_run x (seen_by maps w) (state frame values) ≡ Ended (state (fr frame) (values ++ val w frame ∷ []))) →
+Leaf : (x : Instr) (shape : Shape) (d : Does Value) (val : BodyScene → Frame → Value) (fr : Frame → Frame) → takes x ≡ [] → gives x ≡ shape ∷ [] → sizes_of (shape ∷ []) ≤ instr_bytes x →
+    ((w : BodyScene) (frame : Frame) → d w frame ≡ Ended (val w frame, fr frame)) →
+    ((maps : List MapDecl) (w : BodyScene) (frame : Frame) (values : List Value) → instr_run x (seen_by maps w) (state frame values) ≡ Ended (state (fr frame) (values ++ val w frame ∷ []))) →
     ((frame : Frame) → (fr frame).turns ≡ frame.turns) →
     Puts x [] [] shape d {A = Unit {0}} (λ w vs frame. Ended tt) (λ w vs frame a. val w frame) (λ vs frame a. fr frame)
 unfolding given
@@ -59,9 +59,9 @@ Leaf x shape d val fr tk gv ft is runs turns = record {
   turns = λ vs frame a. turns frame;
 }
 
-pub Lowers-leaf : (x : Instr) (head : Part) (shape : Shape) (d : Does Value) (val : Walked → Frame → Value) (fr : Frame → Frame) (n : Need) (c new : Code) → takes x ≡ [] → gives x ≡ shape ∷ [] → sizes_of (shape ∷ []) ≤ instr_bytes x →
-    ((w : Walked) (frame : Frame) → d w frame ≡ Ended (val w frame, fr frame)) →
-    ((maps : List MapDecl) (w : Walked) (frame : Frame) (values : List Value) → instr_run x (seen_by maps w) (state frame values) ≡ Ended (state (fr frame) (values ++ val w frame ∷ []))) →
+pub Lowers-leaf : (x : Instr) (head : Part) (shape : Shape) (d : Does Value) (val : BodyScene → Frame → Value) (fr : Frame → Frame) (n : Need) (c new : Code) → takes x ≡ [] → gives x ≡ shape ∷ [] → sizes_of (shape ∷ []) ≤ instr_bytes x →
+    ((w : BodyScene) (frame : Frame) → d w frame ≡ Ended (val w frame, fr frame)) →
+    ((maps : List MapDecl) (w : BodyScene) (frame : Frame) (values : List Value) → instr_run x (seen_by maps w) (state frame values) ≡ Ended (state (fr frame) (values ++ val w frame ∷ []))) →
     ((frame : Frame) → (fr frame).turns ≡ frame.turns) → ((s : Site) → fits s.scope head ≡ true → names (ground_in s.ground) x ≡ true) → ((s : Site) → fits s.scope head ≡ true → end_read x ≤ s.ground.payload) → instr_bytes x ≤ n.frame → instr_slots x ≤ n.code → new ≡ pushed x c → LowersValue (head ∷ []) d shape n c new
 Lowers-leaf x head shape d val fr n c new tk gv ft is runs turns named reads hf hc e =
     Parts-less (head ∷ []) (d ∷ []) (shape ∷ []) (need (max 0 (0 + instr_bytes x)) (instr_slots x + 0)) n c new (max-le (omega arith) (omega arith)) (omega arith)
@@ -77,11 +77,11 @@ unfolding given bind
 Lowers-literal s head c new e = Lowers-leaf (i.Put (Str s)) head shapes.Str (text_value (given s)) (λ w frame. Str s) (λ frame. frame) (need 64 32) c new refl refl (omega arith) (λ w frame. refl) (λ maps w frame values. refl) (λ frame. refl) (λ s f. refl) (λ s f. none-read s.ground.payload) (omega arith) (omega arith) e
 
 pub Lowers-builtin : (b : NumBuiltin) (head : Part) (c new : Code) → new ≡ pushed (i.Builtin b) c → LowersValue (head ∷ []) (number_value (builtin b)) shapes.Int (need 8 4) c new
-unfolding given bind seen
+unfolding given bind looked_at
 Lowers-builtin b head c new e = Lowers-leaf (i.Builtin b) head shapes.Int (number_value (builtin b)) (λ w frame. Int (builtin_value b w.context)) (λ frame. frame) (need 8 4) c new refl refl (omega arith) (λ w frame. refl) (λ maps w frame values. refl) (λ frame. refl) (λ s f. refl) (λ s f. none-read s.ground.payload) (omega arith) (omega arith) e
 
 pub Lowers-command : (head : Part) (c new : Code) → new ≡ pushed i.Comm c → LowersValue (head ∷ []) (text_value command) shapes.Str (need 64 24) c new
-unfolding given bind seen
+unfolding given bind looked_at
 Lowers-command head c new e = Lowers-leaf i.Comm head shapes.Str (text_value command) (λ w frame. Str w.context.comm) (λ frame. frame) (need 64 24) c new refl refl (omega arith) (λ w frame. refl) (λ maps w frame values. refl) (λ frame. refl) (λ s f. refl) (λ s f. none-read s.ground.payload) (omega arith) (omega arith) e
 
 -- ---- operators
@@ -118,7 +118,7 @@ both-puts op l r = record {
   turns = λ vs frame a. refl;
 }
   where
-    binary : (maps : List MapDecl) (w : Walked) (frame : Frame) (values vs : List Value) → length vs ≡ 2 → instr_run (i.Binary op) (seen_by maps w) (state frame (values ++ vs)) ≡ Ended (state frame (values ++ Int (binary_value op (number_of (first vs)) (number_of (top vs))) ∷ []))
+    binary : (maps : List MapDecl) (w : BodyScene) (frame : Frame) (values vs : List Value) → length vs ≡ 2 → instr_run (i.Binary op) (seen_by maps w) (state frame (values ++ vs)) ≡ Ended (state frame (values ++ Int (binary_value op (number_of (first vs)) (number_of (top vs))) ∷ []))
     binary maps w frame values [] h = absurd (omega arith)
     binary maps w frame values (a ∷ []) h = absurd (omega arith)
     binary maps w frame values (a ∷ b ∷ []) h =
@@ -148,7 +148,7 @@ unary-puts op d = record {
   turns = λ vs frame a. refl;
 }
   where
-    unary : (maps : List MapDecl) (w : Walked) (frame : Frame) (values vs : List Value) → length vs ≡ 1 → instr_run (i.Unary op) (seen_by maps w) (state frame (values ++ vs)) ≡ Ended (state frame (values ++ Int (unary_value op (number_of (top vs))) ∷ []))
+    unary : (maps : List MapDecl) (w : BodyScene) (frame : Frame) (values vs : List Value) → length vs ≡ 1 → instr_run (i.Unary op) (seen_by maps w) (state frame (values ++ vs)) ≡ Ended (state frame (values ++ Int (unary_value op (number_of (top vs))) ∷ []))
     unary maps w frame values [] h = absurd (omega arith)
     unary maps w frame values (a ∷ []) h =
         ap (λ (l : List Value). Ended (state frame (l ++ Int (unary_value op (number_of (top (values ++ a ∷ [])))) ∷ []))) (below-append values a)
@@ -172,7 +172,7 @@ tested-puts d = record {
   turns = λ vs frame a. refl;
 }
   where
-    flagged : (maps : List MapDecl) (w : Walked) (frame : Frame) (values vs : List Value) → length vs ≡ 1 → instr_run i.Truth (seen_by maps w) (state frame (values ++ vs)) ≡ Ended (state frame (values ++ Int (truth (holds (number_of (top vs)))) ∷ []))
+    flagged : (maps : List MapDecl) (w : BodyScene) (frame : Frame) (values vs : List Value) → length vs ≡ 1 → instr_run i.Truth (seen_by maps w) (state frame (values ++ vs)) ≡ Ended (state frame (values ++ Int (truth (holds (number_of (top vs)))) ∷ []))
     flagged maps w frame values [] h = absurd (omega arith)
     flagged maps w frame values (a ∷ []) h =
         ap (λ (l : List Value). Ended (state frame (l ++ Int (truth (holds (number_of (top (values ++ a ∷ []))))) ∷ []))) (below-append values a)
@@ -187,7 +187,7 @@ Lowers-tested pd d n c c1 new e1 ld =
     (Parts-put i.Truth pd Both (number_value d ∷ []) (shapes.Int ∷ []) shapes.Int (number_value (tested d)) (λ w vs frame. Ended tt) (λ w vs frame a. Int (truth (holds (number_of (top vs))))) (λ vs frame a. frame) n c c1 new
     (tested-puts d) (λ s f. let p = fit-head s.scope Both pd f in (refl, p.1)) (λ s f. none-read s.ground.payload) e1 ld))
 
-compared-puts : (equal : Bool) (l r : Does (List ℕ)) → Puts (i.Compare equal) (text_value l ∷ text_value r ∷ []) (shapes.Str ∷ shapes.Str ∷ []) shapes.Int (number_value (compared equal l r)) {A = Unit {0}} (λ w vs frame. Ended tt)
+compared-puts : (equal : Bool) (l r : Does (List ℕ)) → Puts (i.Compare equal) (text_value l ∷ text_value r ∷ []) (shapes.Str ∷ shapes.Str ∷ []) shapes.Int (number_value (texts_compared equal l r)) {A = Unit {0}} (λ w vs frame. Ended tt)
     (λ w vs frame a. Int (truth (cond equal (bytes_eq (text_of (first vs)) (text_of (top vs))) (not (bytes_eq (text_of (first vs)) (text_of (top vs))))))) (λ vs frame a. frame)
 unfolding given bind first
 compared-puts equal l r = record {
@@ -202,7 +202,7 @@ compared-puts equal l r = record {
     answer : Value → Value → Value
     answer a b = Int (truth (cond equal (bytes_eq (text_of a) (text_of b)) (not (bytes_eq (text_of a) (text_of b)))))
 
-    comparing : (maps : List MapDecl) (w : Walked) (frame : Frame) (values vs : List Value) → length vs ≡ 2 → instr_run (i.Compare equal) (seen_by maps w) (state frame (values ++ vs)) ≡ Ended (state frame (values ++ Int (truth (cond equal (bytes_eq (text_of (first vs)) (text_of (top vs))) (not (bytes_eq (text_of (first vs)) (text_of (top vs)))))) ∷ []))
+    comparing : (maps : List MapDecl) (w : BodyScene) (frame : Frame) (values vs : List Value) → length vs ≡ 2 → instr_run (i.Compare equal) (seen_by maps w) (state frame (values ++ vs)) ≡ Ended (state frame (values ++ Int (truth (cond equal (bytes_eq (text_of (first vs)) (text_of (top vs))) (not (bytes_eq (text_of (first vs)) (text_of (top vs)))))) ∷ []))
     comparing maps w frame values [] h = absurd (omega arith)
     comparing maps w frame values (a ∷ []) h = absurd (omega arith)
     comparing maps w frame values (a ∷ b ∷ []) h =
@@ -213,11 +213,11 @@ compared-puts equal l r = record {
     comparing maps w frame values (a ∷ b ∷ v ∷ vs) h = absurd (omega arith)
 
 pub Lowers-compared : (equal : Bool) (head : Part) (pl pr : List Part) (l r : Does (List ℕ)) (nl nr : Need) (c c1 c2 new : Code) → c1 ≡ pushed (i.Compare equal) c → LowersValue pr (text_value r) shapes.Str nr c1 c2 → LowersValue pl (text_value l) shapes.Str nl c2 new →
-    LowersValue (head ∷ (pl ++ pr)) (number_value (compared equal l r)) shapes.Int (need (max nl.frame (64 + nr.frame)) (48 + nl.code + nr.code)) c new
+    LowersValue (head ∷ (pl ++ pr)) (number_value (texts_compared equal l r)) shapes.Int (need (max nl.frame (64 + nr.frame)) (48 + nl.code + nr.code)) c new
 Lowers-compared equal head pl pr l r nl nr c c1 c2 new e1 lr ll =
     Parts-less _ _ _ (need (max (max nl.frame (64 + nr.frame)) 128) (48 + (nl.code + nr.code))) _ c new
     (max-le (omega arith) (omega (arith, lr.sizes, le-max_right nl.frame (64 + nr.frame)))) (omega arith)
-    (Parts-put (i.Compare equal) (pl ++ pr) head (text_value l ∷ text_value r ∷ []) (shapes.Str ∷ shapes.Str ∷ []) shapes.Int (number_value (compared equal l r)) (λ w vs frame. Ended tt)
+    (Parts-put (i.Compare equal) (pl ++ pr) head (text_value l ∷ text_value r ∷ []) (shapes.Str ∷ shapes.Str ∷ []) shapes.Int (number_value (texts_compared equal l r)) (λ w vs frame. Ended tt)
     (λ w vs frame a. Int (truth (cond equal (bytes_eq (text_of (first vs)) (text_of (top vs))) (not (bytes_eq (text_of (first vs)) (text_of (top vs))))))) (λ vs frame a. frame) (need (max nl.frame (64 + nr.frame)) (nl.code + nr.code)) c c1 new
     (compared-puts equal l r) (λ s f. let p = fit-head s.scope head (pl ++ pr) f in (refl, p.1)) (λ s f. none-read s.ground.payload) e1
     (Parts-append pl pr (text_value l ∷ []) (text_value r ∷ []) (shapes.Str ∷ []) (shapes.Str ∷ []) nl nr c1 c2 new lr ll))

@@ -14,7 +14,7 @@ use Rattle.typed_tree.specs.Bodies.{predicate_parts, tree_parts}
 use Rattle.typed_tree.specs.Parts.{Part, block_parts}
 use Rattle.typed_tree.specs.Scope.{all_fit}
 use Rattle.walk_meaning.specs.declared.flow.Frame.{Frame}
-use Rattle.walk_meaning.specs.Does.{Scene as Walked}
+use Rattle.walk_meaning.specs.Does.{BodyScene}
 use Rattle.walk_meaning.specs.Stmts.{block_does}
 use Rattle.walk_meaning.specs.Walk.{guarded, tree_does, walk}
 use Rattle.walk_meaning.specs.Served.{least_length}
@@ -50,7 +50,7 @@ pub record HasPlace (tree : TypedTree) (t : Site) : Type 0 where
 -- blocks that do a whole tree: where what it names is there, their run is its walk, and they pass the tests of bodies in typed
 -- instructions
 pub record LowersTree (tree : TypedTree) (bs : List Block) : Type 0 where
-  pub runs : (t : Site) → all_fit t.scope (tree_parts tree) ≡ true → (w : Walked) → w.maps ≡ t.scope.maps → (frame : Frame)
+  pub runs : (t : Site) → all_fit t.scope (tree_parts tree) ≡ true → (w : BodyScene) → w.maps ≡ t.scope.maps → (frame : Frame)
       → blocks_run bs (seen_by t.ground.maps w) (state frame []) ≡ and_then (tree_does tree w frame) (λ p. Ended p.0)
   pub leads : (t : Site) → HasPlace tree t → lead_forward bs ≡ true
   pub typed : (t : Site) → HasPlace tree t → are_typed (ground_in t.ground) bs ≡ true

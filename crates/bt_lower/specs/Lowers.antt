@@ -18,7 +18,7 @@ use Rattle.walk_meaning.specs.declared.flow.Flow.{Flow}
 use Rattle.walk_meaning.specs.declared.flow.Flow.TheVariants.{Next, Break, Continue, Stop}
 use Rattle.walk_meaning.specs.declared.flow.Frame.{Frame}
 use Rattle.walk_meaning.specs.Does.{Does, in_order}
-use Rattle.walk_meaning.specs.Does.{Scene as Walked}
+use Rattle.walk_meaning.specs.Does.{BodyScene}
 use Rattle.walk_meaning.specs.Exprs.{value_does, values_do, number_does, text_does, number_value, text_value}
 use Rattle.walk_meaning.specs.Stmts.{stmt_does, block_does, first_arm, block_or_next}
 use Rattle.ir_code.specs.declared.blocks.Block.{Block}
@@ -53,7 +53,7 @@ abbrev pub state : Frame → List Value → State
 state frame stack = record { variables = frame.variables; turns = frame.turns; stack = stack }
 
 -- what a run of the blocks sees, from what a walk sees
-abbrev pub seen_by : List MapDecl → Walked → Scene
+abbrev pub seen_by : List MapDecl → BodyScene → Scene
 seen_by maps w = record { context = w.context; payload = w.payload; actor = w.actor; actors = w.actors; maps = maps }
 
 abbrev pub all_made : List AnyExpr → List Made
@@ -70,7 +70,7 @@ pub record LowersParts (parts : List Part) (ds : List (Does Value)) (shapes : Li
   pub slots : code_slots new ≤ code_slots old + n.code
   pub sizes : sizes_of shapes ≤ n.frame
   pub stack : (rest : List Shape) → old.stack ≡ rest ++ shapes → new.stack ≡ rest
-  pub does : (bs : List Block) → Stand (length old.blocks) new.blocks bs → (base : ℕ) (maps : List MapDecl) (w : Walked) (frame : Frame) (values : List Value) (k : (List Value × Frame) → Interaction Ending)
+  pub does : (bs : List Block) → Stand (length old.blocks) new.blocks bs → (base : ℕ) (maps : List MapDecl) (w : BodyScene) (frame : Frame) (values : List Value) (k : (List Value × Frame) → Interaction Ending)
       → ((p : List Value × Frame) → length p.0 ≡ length shapes → p.1.turns ≡ frame.turns → Runs bs old (base + length old.blocks) (seen_by maps w) (state p.1 (values ++ p.0)) (k p))
       → Runs bs new (base + length new.blocks) (seen_by maps w) (state frame values) (and_then (in_order ds w frame) k)
   pub sound : (bs : List Block) → Stand (length old.blocks) new.blocks bs → (t : Site) → all_fit t.scope parts ≡ true → (rest : List Shape) → old.stack ≡ rest ++ shapes
@@ -102,7 +102,7 @@ pub record LowersArm (parts : List Part) (d : Does Value) (shape : Shape) (n : N
   pub slots : code_slots new ≤ code_slots old + n.code
   pub sizes : sizes_of (shape ∷ []) ≤ n.frame
   pub stack : new.stack ≡ old.stack
-  pub does : (bs : List Block) → Stand (length old.blocks) new.blocks bs → (base : ℕ) (maps : List MapDecl) (w : Walked) (frame : Frame) (values : List Value) (k : (Value × Frame) → Interaction Ending)
+  pub does : (bs : List Block) → Stand (length old.blocks) new.blocks bs → (base : ℕ) (maps : List MapDecl) (w : BodyScene) (frame : Frame) (values : List Value) (k : (Value × Frame) → Interaction Ending)
       → ((p : Value × Frame) → p.1.turns ≡ frame.turns → Reaches bs after (base + length old.blocks) (seen_by maps w) (state p.1 (values ++ p.0 ∷ [])) (k p))
       → Reaches bs b (base + length new.blocks) (seen_by maps w) (state frame values) (and_then (d w frame) k)
   pub sound : (bs : List Block) → Stand (length old.blocks) new.blocks bs → (t : Site) → all_fit t.scope parts ≡ true
@@ -127,7 +127,7 @@ pub record LowersStmt (parts : Bool → List Part) (d : Does Flow) (n : Need) (w
   pub slots : code_slots new ≤ code_slots old + n.code
   pub stack : new.stack ≡ old.stack
   pub does : (bs : List Block) → Stand (length old.blocks) new.blocks bs → (most : ℕ) → length new.blocks ≤ most → (t : Site) (inside : Bool) → all_fit t.scope (parts inside) ≡ true
-      → (w : Walked) → w.maps ≡ t.scope.maps → (frame : Frame) (values : List Value) (k : (Flow × Frame) → Interaction Ending)
+      → (w : BodyScene) → w.maps ≡ t.scope.maps → (frame : Frame) (values : List Value) (k : (Flow × Frame) → Interaction Ending)
       → Follows bs way old most (seen_by t.ground.maps w) frame.turns values k
       → Runs bs new (fuel most new frame.turns) (seen_by t.ground.maps w) (state frame values) (and_then (d w frame) k)
   pub sound : (bs : List Block) → Stand (length old.blocks) new.blocks bs → (t : Site) (inside : Bool) → all_fit t.scope (parts inside) ≡ true
@@ -141,7 +141,7 @@ pub record LowersBlock (parts : Bool → List Part) (d : Does Flow) (n : Need) (
   pub slots : code_slots new ≤ code_slots old + n.code + 1
   pub stack : new.stack ≡ old.stack
   pub does : (bs : List Block) → Stand (length old.blocks) new.blocks bs → (most : ℕ) → length new.blocks ≤ most → (t : Site) (inside : Bool) → all_fit t.scope (parts inside) ≡ true
-      → (w : Walked) → w.maps ≡ t.scope.maps → (frame : Frame) (values : List Value) (k : (Flow × Frame) → Interaction Ending)
+      → (w : BodyScene) → w.maps ≡ t.scope.maps → (frame : Frame) (values : List Value) (k : (Flow × Frame) → Interaction Ending)
       → ((st : Frame) → st.turns ≤ frame.turns → Reaches bs after (fuel most old st.turns) (seen_by t.ground.maps w) (state st values) (k (Next, st)))
       → ((st : Frame) → st.turns ≤ frame.turns → Reaches bs way.leave (fuel most old st.turns) (seen_by t.ground.maps w) (state st values) (k (Break, st)))
       → ((st : Frame) → st.turns ≤ frame.turns → Reaches bs way.again (fuel most old st.turns) (seen_by t.ground.maps w) (state st values) (k (Continue, st)))

@@ -43,8 +43,8 @@ abbrev pub listed : List Valued → Listed
 listed vs = record { sizes = sizes_in vs; need = need (list_frame vs) (codes_in vs) }
 
 -- one before others
-abbrev pub before : Valued → Listed → Listed
-before v vs = record { sizes = v.size + vs.sizes; need = need (max v.need.frame (v.size + vs.need.frame)) (v.need.code + vs.need.code) }
+abbrev pub before_others : Valued → Listed → Listed
+before_others v vs = record { sizes = v.size + vs.sizes; need = need (max v.need.frame (v.size + vs.need.frame)) (v.need.code + vs.need.code) }
 
 -- the one, and then the other beside so many bytes
 abbrev pub then_beside : ℕ → Need → Need → Need
@@ -65,42 +65,42 @@ greater a b = need (max a.frame b.frame) (a.code + b.code)
 abbrev pub more : ℕ → Need → Need
 more slots n = need n.frame (slots + n.code)
 
-abbrev pub num_layer : NumExpr-F Valued Need Need → Need
-num_layer (NumExpr-F.Number n) = need 8 4
-num_layer (NumExpr-F.Builtin b) = need 8 4
-num_layer (NumExpr-F.NumExpr::Field f) = need 8 8
-num_layer (NumExpr-F.NumExpr::Var n) = need 8 4
-num_layer (NumExpr-F.NumExpr::Map m keys) = need (beside keys 8) (16 + codes_in keys)
-num_layer (NumExpr-F.StepVar n plus prefix) = need 8 12
-num_layer (NumExpr-F.StepMap m keys plus prefix) = need (beside keys 16) (32 + codes_in keys)
-num_layer (NumExpr-F.Unary op value) = more 8 value
-num_layer (NumExpr-F.Binary op left right) = need (max left.frame (8 + right.frame)) (12 + left.code + right.code)
-num_layer (NumExpr-F.Compare equal left right) = need (max left.frame (64 + right.frame)) (48 + left.code + right.code)
-num_layer (NumExpr-F.AndThen left right) = more 16 (greater left right)
-num_layer (NumExpr-F.OrElse left right) = more 16 (greater left right)
-num_layer (NumExpr-F.NumExpr::Choose test one other) = more 8 (greater test (greater one other))
+abbrev pub number_need_by_parts : NumExpr-F Valued Need Need → Need
+number_need_by_parts (NumExpr-F.Number n) = need 8 4
+number_need_by_parts (NumExpr-F.Builtin b) = need 8 4
+number_need_by_parts (NumExpr-F.NumExpr::Field f) = need 8 8
+number_need_by_parts (NumExpr-F.NumExpr::Var n) = need 8 4
+number_need_by_parts (NumExpr-F.NumExpr::Map m keys) = need (beside keys 8) (16 + codes_in keys)
+number_need_by_parts (NumExpr-F.StepVar n plus prefix) = need 8 12
+number_need_by_parts (NumExpr-F.StepMap m keys plus prefix) = need (beside keys 16) (32 + codes_in keys)
+number_need_by_parts (NumExpr-F.Unary op value) = more 8 value
+number_need_by_parts (NumExpr-F.Binary op left right) = need (max left.frame (8 + right.frame)) (12 + left.code + right.code)
+number_need_by_parts (NumExpr-F.Compare equal left right) = need (max left.frame (64 + right.frame)) (48 + left.code + right.code)
+number_need_by_parts (NumExpr-F.AndThen left right) = more 16 (greater left right)
+number_need_by_parts (NumExpr-F.OrElse left right) = more 16 (greater left right)
+number_need_by_parts (NumExpr-F.NumExpr::Choose test one other) = more 8 (greater test (greater one other))
 
-abbrev pub str_layer : StrExpr-F Valued Need Need → Need
-str_layer (StrExpr-F.Text text) = need 64 32
-str_layer StrExpr-F.Comm = need 64 24
-str_layer (StrExpr-F.StrExpr::Field f) = need 64 24
-str_layer (StrExpr-F.StrExpr::Var n) = need 64 24
-str_layer (StrExpr-F.StrExpr::Map m keys) = need (beside keys 64) (40 + codes_in keys)
-str_layer (StrExpr-F.StrExpr::Choose test one other) = more 8 (greater test (greater one other))
+abbrev pub text_need_by_parts : StrExpr-F Valued Need Need → Need
+text_need_by_parts (StrExpr-F.Text text) = need 64 32
+text_need_by_parts StrExpr-F.Comm = need 64 24
+text_need_by_parts (StrExpr-F.StrExpr::Field f) = need 64 24
+text_need_by_parts (StrExpr-F.StrExpr::Var n) = need 64 24
+text_need_by_parts (StrExpr-F.StrExpr::Map m keys) = need (beside keys 64) (40 + codes_in keys)
+text_need_by_parts (StrExpr-F.StrExpr::Choose test one other) = more 8 (greater test (greater one other))
 
-abbrev pub any_layer : AnyExpr-F Valued Need Need → Valued
-any_layer (AnyExpr-F.Num n) = valued 8 n
-any_layer (AnyExpr-F.Str n) = valued 64 n
+abbrev pub value_need_by_parts : AnyExpr-F Valued Need Need → Valued
+value_need_by_parts (AnyExpr-F.Num n) = valued 8 n
+value_need_by_parts (AnyExpr-F.Str n) = valued 64 n
 
 -- what an expression needs, one that is a whole number, and one that is a string
 abbrev pub value_need : AnyExpr → Valued
-value_need = fold-AnyExpr Valued Need Need any_layer num_layer str_layer
+value_need = fold-AnyExpr Valued Need Need value_need_by_parts number_need_by_parts text_need_by_parts
 
 abbrev pub number_need : NumExpr → Need
-number_need = fold-NumExpr Valued Need Need any_layer num_layer str_layer
+number_need = fold-NumExpr Valued Need Need value_need_by_parts number_need_by_parts text_need_by_parts
 
 abbrev pub text_need : StrExpr → Need
-text_need = fold-StrExpr Valued Need Need any_layer num_layer str_layer
+text_need = fold-StrExpr Valued Need Need value_need_by_parts number_need_by_parts text_need_by_parts
 
 abbrev pub values_need : List AnyExpr → List Valued
 values_need es = map value_need es
@@ -137,32 +137,32 @@ update_map_need keys value = need (beside keys (max value.frame 16)) (40 + codes
 abbrev pub taking_need : List Valued → Need
 taking_need values = need (list_frame values) (16 + codes_in values)
 
-abbrev pub stmt_layer : TypedStmt-F Need Need → Need
-stmt_layer (TypedStmt-F.SetVar var value) = more (by_shape (made_of value).shape 8 24) (value_need value).need
-stmt_layer (TypedStmt-F.SetMap m keys value) = set_map_need (values_need keys) (value_need value).need
-stmt_layer (TypedStmt-F.UpdateVar var op value) = more 16 (number_need value)
-stmt_layer (TypedStmt-F.UpdateMap m keys op value) = update_map_need (values_need keys) (number_need value)
-stmt_layer (TypedStmt-F.Gather m keys kind number) = gather_need (values_need keys) number
-stmt_layer (TypedStmt-F.Step value) = number_need value
-stmt_layer (TypedStmt-F.Printf format values) = taking_need (values_need values)
-stmt_layer (TypedStmt-F.Print m top div) = need 0 16
-stmt_layer (TypedStmt-F.Clear m) = need 0 12
-stmt_layer (TypedStmt-F.Zero m) = need 0 12
-stmt_layer (TypedStmt-F.Delete m keys) = taking_need (values_need keys)
-stmt_layer (TypedStmt-F.Jump jump) = jump_need jump
-stmt_layer (TypedStmt-F.If arms otherwise) = greater (all_need (map arm_need arms)) (otherwise_need otherwise)
-stmt_layer (TypedStmt-F.While test block line) = more 24 (greater (number_need test) block)
-stmt_layer (TypedStmt-F.Unroll turns block line) = need (8 + block.frame) (32 + block.code)
+abbrev pub stmt_need_by_parts : TypedStmt-F Need Need → Need
+stmt_need_by_parts (TypedStmt-F.SetVar var value) = more (by_shape (made_of value).shape 8 24) (value_need value).need
+stmt_need_by_parts (TypedStmt-F.SetMap m keys value) = set_map_need (values_need keys) (value_need value).need
+stmt_need_by_parts (TypedStmt-F.UpdateVar var op value) = more 16 (number_need value)
+stmt_need_by_parts (TypedStmt-F.UpdateMap m keys op value) = update_map_need (values_need keys) (number_need value)
+stmt_need_by_parts (TypedStmt-F.Gather m keys kind number) = gather_need (values_need keys) number
+stmt_need_by_parts (TypedStmt-F.Step value) = number_need value
+stmt_need_by_parts (TypedStmt-F.Printf format values) = taking_need (values_need values)
+stmt_need_by_parts (TypedStmt-F.Print m top div) = need 0 16
+stmt_need_by_parts (TypedStmt-F.Clear m) = need 0 12
+stmt_need_by_parts (TypedStmt-F.Zero m) = need 0 12
+stmt_need_by_parts (TypedStmt-F.Delete m keys) = taking_need (values_need keys)
+stmt_need_by_parts (TypedStmt-F.Jump jump) = jump_need jump
+stmt_need_by_parts (TypedStmt-F.If arms otherwise) = greater (all_need (map arm_need arms)) (otherwise_need otherwise)
+stmt_need_by_parts (TypedStmt-F.While test block line) = more 24 (greater (number_need test) block)
+stmt_need_by_parts (TypedStmt-F.Unroll turns block line) = need (8 + block.frame) (32 + block.code)
 
-abbrev pub block_layer : TypedBlock-F Need Need → Need
-block_layer b = all_need b.stmts
+abbrev pub block_need_by_parts : TypedBlock-F Need Need → Need
+block_need_by_parts b = all_need b.stmts
 
 -- what a statement needs, and a block
 abbrev pub stmt_need : TypedStmt → Need
-stmt_need = fold-TypedStmt Need Need stmt_layer block_layer
+stmt_need = fold-TypedStmt Need Need stmt_need_by_parts block_need_by_parts
 
 abbrev pub block_need : TypedBlock → Need
-block_need = fold-TypedBlock Need Need stmt_layer block_layer
+block_need = fold-TypedBlock Need Need stmt_need_by_parts block_need_by_parts
 
 -- the arms of an `if`, and the block of an `else`
 abbrev pub tree_arms_need : List (NumExpr × TypedBlock) → Need

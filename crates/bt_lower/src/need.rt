@@ -3,7 +3,7 @@
 ghost use Rattle.std.specs.Prelude.{◌≡◌, ◌+◌, IfOk, []};
 ghost use Rattle.bt_core.specs.declared.map.Shape.{Shape};
 ghost use Rattle.ir_code.specs.Figures.{by_shape, sizes_of};
-ghost use Rattle.bt_lower.specs.Needs.{need, more, greater, listed, before, then_beside, under, value_need, values_need, number_need, text_need, jump_need, predicate_need};
+ghost use Rattle.bt_lower.specs.Needs.{need, more, greater, listed, before_others, then_beside, under, value_need, values_need, number_need, text_need, jump_need, predicate_need};
 
 use bt_core::map::Shape;
 use bt_core::memory::Memory;
@@ -85,7 +85,7 @@ pub fn under(keys: Listed, frame: u64, slots: u64) -> Result<Need, Memory>
 
 /// An expression before others.
 fn before(v: Valued, rest: Listed) -> Result<Listed, Memory>
-    ensures { IfOk result (λ all. all ≡ before v rest) }
+    ensures { IfOk result (λ all. all ≡ before_others v rest) }
 {
     let sizes = sum(v.size, rest.sizes)?;
     let need = then_beside(v.size, v.need, rest.need)?;

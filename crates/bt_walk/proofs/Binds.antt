@@ -1,39 +1,30 @@
 -- What was done of one thing after another.
 use Rattle.std.proofs.Common.{◌≡◌, ℤ, List, refl, sym, ap, ◌∙◌, subst, Bool, true, false, Ok, Err, Result, SFits, to_z, of_z, w64}
 use Rattle.std.proofs.lemmas.Int.{to_z-of_z}
-use Rattle.bt_core.specs.declared.map.MapId.{MapId}
-use Rattle.bt_core.specs.declared.map.MapKind.{MapKind}
 use Rattle.bt_core.specs.declared.memory.Memory.{Memory}
-use Rattle.bt_core.specs.declared.step.ObjectId.{ObjectId}
-use Rattle.bt_core.specs.declared.step.Op.{Op}
-use Rattle.bt_core.specs.declared.step.Reply.{Reply}
 use Rattle.bt_core.specs.declared.step.Step.{Step}
-use Rattle.bt_core.specs.declared.value.Value.{Value}
 use Rattle.bt_core.specs.Interaction.{Interaction, Ended, Whole, Part, Performed, Left}
 use Rattle.bt_core.proofs.InteractionLaws.{Whole-and_then, Part-after, Part-and_then, Performed-none, Whole-Ended, Left-and_then}
-use Rattle.map_ops.specs.declared.sweep.Sweep.{Sweep}
-use Rattle.map_ops.specs.Asking as map
 use Rattle.walk_meaning.specs.declared.flow.Frame.{Frame}
-use Rattle.walk_meaning.specs.Does.{Scene, Does, given, seen, changed, lifted, bind, choose, told}
-use Rattle.walk_meaning.specs.Maps.{get, swept}
+use Rattle.walk_meaning.specs.Does.{BodyScene, Does, given, looked_at, changed, lifted, bind, choose}
 use Rattle.bt_walk.specs.Walked.{Walked}
 
-pub Given-done : {A : Type 0} (a b : A) (scene : Scene) (frame after : Frame) (s : List Step) → a ≡ b → frame ≡ after → Whole (given a scene frame) s s (b, after)
+pub Given-done : {A : Type 0} (a b : A) (scene : BodyScene) (frame after : Frame) (s : List Step) → a ≡ b → frame ≡ after → Whole (given a scene frame) s s (b, after)
 unfolding given
 Given-done {A} a b scene frame after s e h = Whole-Ended _ _ _ (ap (λ (x : A). (x, frame)) e ∙ ap (λ (x : Frame). (b, x)) h)
 
-pub Seen-done : {A : Type 0} (look : Scene → Frame → A) (a : A) (scene : Scene) (frame : Frame) (s : List Step) → look scene frame ≡ a → Whole (seen look scene frame) s s (a, frame)
-unfolding seen
-Seen-done {A} look a scene frame s e = Whole-Ended _ _ _ (ap (λ (x : A). (x, frame)) e)
+pub Looked-done : {A : Type 0} (look : BodyScene → Frame → A) (a : A) (scene : BodyScene) (frame : Frame) (s : List Step) → look scene frame ≡ a → Whole (looked_at look scene frame) s s (a, frame)
+unfolding looked_at
+Looked-done {A} look a scene frame s e = Whole-Ended _ _ _ (ap (λ (x : A). (x, frame)) e)
 
-pub Changed-done : (change : Frame → Frame) (scene : Scene) (frame after : Frame) (s : List Step) (u : Unit {0}) → change frame ≡ after → Whole (changed change scene frame) s s (u, after)
+pub Changed-done : (change : Frame → Frame) (scene : BodyScene) (frame after : Frame) (s : List Step) (u : Unit {0}) → change frame ≡ after → Whole (changed change scene frame) s s (u, after)
 unfolding changed
 Changed-done change scene frame after s u e = Whole-Ended _ _ _ (ap (λ (x : Frame). (tt, x)) e)
 
-pub Part-none : {A : Type 0} (d : Does A) (scene : Scene) (frame : Frame) (old new : List Step) → new ≡ old → Part (d scene frame) old new
+pub Part-none : {A : Type 0} (d : Does A) (scene : BodyScene) (frame : Frame) (old new : List Step) → new ≡ old → Part (d scene frame) old new
 Part-none d scene frame old new e = Performed-none _ _ _ e
 
-module _ {A B : Type 0} (d : Does A) (k : A → Does B) (scene : Scene) (frame : Frame) (old : List Step) where
+module _ {A B : Type 0} (d : Does A) (k : A → Does B) (scene : BodyScene) (frame : Frame) (old : List Step) where
   pub Part-first : (new : List Step) → Part (d scene frame) old new → Part (bind d k scene frame) old new
   unfolding bind
   Part-first new p = Part-and_then _ _ _ _ p
@@ -51,33 +42,34 @@ module _ {A B : Type 0} (d : Does A) (k : A → Does B) (scene : Scene) (frame :
     Walked-next new (Ok b) after q = Whole-next new (b, after) q
     Walked-next new (Err x) after q = Part-next new q
 
--- what objects were asked
-pub Lifted-walked : {A : Type 0} (t : Interaction A) (scene : Scene) (frame : Frame) (old new : List Step) (r : Result A Memory) → Performed t old new r → Walked (lifted t) scene frame old new r frame
-unfolding lifted
-Lifted-walked t scene frame old new (Ok a) p = Whole-and_then t (λ value. Ended (value, frame)) old new new a (a, frame) p (Whole-Ended _ _ _ refl)
-Lifted-walked t scene frame old new (Err x) p = Part-and_then t (λ value. Ended (value, frame)) old new p
+-- what objects were asked, by what is seen
+module _ {A : Type 0} (ask : BodyScene → Interaction A) (scene : BodyScene) (frame : Frame) (old new : List Step) where
+  pub Lifted-done : (a : A) → Whole (ask scene) old new a → Whole (lifted ask scene frame) old new (a, frame)
+  unfolding lifted
+  Lifted-done a p = Whole-and_then (ask scene) (λ value. Ended (value, frame)) old new new a (a, frame) p (Whole-Ended _ _ _ refl)
 
-pub Told-made : (object : ObjectId) (op : Op) (old new : List Step) (r : Result (Unit {0}) Memory) → Performed (map.told object op) old new r → (scene : Scene) (frame : Frame) → Walked (told object op) scene frame old new r frame
-unfolding lifted bind given
-Told-made object op old new r p scene frame = Lifted-walked (map.told object op) scene frame old new r p
+  pub Lifted-begun : Part (ask scene) old new → Part (lifted ask scene frame) old new
+  unfolding lifted
+  Lifted-begun p = Part-and_then (ask scene) (λ value. Ended (value, frame)) old new p
 
-pub Got-made : (m : MapId) (key : List Value) (old new : List Step) (r : Result Value Memory) → Performed (map.got m key) old new r → (scene : Scene) (frame : Frame) → Walked (get m key) scene frame old new r frame
-unfolding lifted bind given
-Got-made m key old new r p scene frame = Lifted-walked (map.got m key) scene frame old new r p
+  pub Lifted-walked : (r : Result A Memory) → Performed (ask scene) old new r → Walked (lifted ask) scene frame old new r frame
+  Lifted-walked (Ok a) p = Lifted-done a p
+  Lifted-walked (Err x) p = Lifted-begun p
 
-pub Swept-walked : (sweep : Sweep) (kind : MapKind) (m : MapId) (scene : Scene) (frame : Frame) (old new : List Step) (r : Result (List Reply) Memory) →
-    Performed (map.swept sweep kind m scene.actors) old new r → Walked (swept sweep kind m) scene frame old new r frame
-Swept-walked sweep kind m scene frame old new r p =
-    Walked-next (seen (λ scene frame. scene.actors)) (λ actors. lifted (map.swept sweep kind m actors)) scene frame old frame old scene.actors (Seen-done _ _ _ _ _ refl) new r frame
-    (Lifted-walked (map.swept sweep kind m scene.actors) scene frame old new r p)
+  -- by another name of what is asked
+  pub Asked-done : (t : Interaction A) (a : A) → t ≡ ask scene → Whole t old new a → Whole (lifted ask scene frame) old new (a, frame)
+  Asked-done t a e p = Lifted-done a (subst (λ (x : Interaction A). Whole x old new a) e p)
 
-pub Number-done : (a x : ℤ) (scene : Scene) (frame : Frame) (s : List Step) → SFits w64 x → a ≡ x → Whole (given a scene frame) s s (to_z w64 (of_z w64 x), frame)
+  pub Asked-begun : (t : Interaction A) → t ≡ ask scene → Part t old new → Part (lifted ask scene frame) old new
+  Asked-begun t e p = Lifted-begun (subst (λ (x : Interaction A). Part x old new) e p)
+
+pub Number-done : (a x : ℤ) (scene : BodyScene) (frame : Frame) (s : List Step) → SFits w64 x → a ≡ x → Whole (given a scene frame) s s (to_z w64 (of_z w64 x), frame)
 Number-done a x scene frame s f e = Given-done _ _ _ _ _ _ (e ∙ sym (to_z-of_z w64 x f)) refl
 
-pub Number-seen : (look : Scene → Frame → ℤ) (x : ℤ) (scene : Scene) (frame : Frame) (s : List Step) → SFits w64 x → look scene frame ≡ x → Whole (seen look scene frame) s s (to_z w64 (of_z w64 x), frame)
-Number-seen look x scene frame s f e = Seen-done _ _ _ _ _ (e ∙ sym (to_z-of_z w64 x f))
+pub Number-seen : (look : BodyScene → Frame → ℤ) (x : ℤ) (scene : BodyScene) (frame : Frame) (s : List Step) → SFits w64 x → look scene frame ≡ x → Whole (looked_at look scene frame) s s (to_z w64 (of_z w64 x), frame)
+Number-seen look x scene frame s f e = Looked-done _ _ _ _ _ (e ∙ sym (to_z-of_z w64 x f))
 
-module _ {A : Type 0} (b : Bool) (one other : Does A) (scene : Scene) (frame : Frame) (s t : List Step) where
+module _ {A : Type 0} (b : Bool) (one other : Does A) (scene : BodyScene) (frame : Frame) (s t : List Step) where
   pub Whole-yes : (w : A × Frame) → b ≡ true → Whole (one scene frame) s t w → Whole (choose b one other scene frame) s t w
   unfolding choose
   Whole-yes w e p = subst (λ x. Whole (choose x one other scene frame) s t w) (sym e) p
@@ -103,7 +95,7 @@ module _ {A : Type 0} (b : Bool) (one other : Does A) (scene : Scene) (frame : F
   Walked-no r after e p = subst (λ x. Walked (choose x one other) scene frame s t r after) (sym e) p
 
 -- one thing more was done of what is left
-pub Left-next : {A B : Type 0} (whole : Interaction (B × Frame)) (d : Does A) (k : A → Does B) (scene : Scene) (frame after : Frame) (old mid new : List Step) (a : A) →
+pub Left-next : {A B : Type 0} (whole : Interaction (B × Frame)) (d : Does A) (k : A → Does B) (scene : BodyScene) (frame after : Frame) (old mid new : List Step) (a : A) →
     Left whole old mid (bind d k scene frame) → Whole (d scene frame) mid new (a, after) → Left whole old new (k a scene after)
 unfolding bind
 Left-next whole d k scene frame after old mid new a p q = Left-and_then whole (d scene frame) (λ p. k p.0 scene p.1) old mid new (a, after) p q

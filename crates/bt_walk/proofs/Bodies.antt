@@ -13,13 +13,13 @@ use Rattle.typed_tree.specs.Scope.{Scope, fits, all_fit}
 use Rattle.bt_core.specs.declared.ending.Ending.{Ending}
 use Rattle.walk_meaning.specs.declared.flow.Flow.{Flow}
 use Rattle.walk_meaning.specs.declared.flow.Frame.{Frame}
-use Rattle.walk_meaning.specs.Does.{Scene}
+use Rattle.walk_meaning.specs.Does.{BodyScene}
 use Rattle.walk_meaning.specs.Stmts.{block_does}
-use Rattle.walk_meaning.specs.Walk.{walk, fresh, guarded, ending_of}
+use Rattle.walk_meaning.specs.Walk.{walk, first_frame, guarded, ending_of}
 use Rattle.bt_walk.proofs.Binds.{Part-first, Whole-next, Given-done}
 
-module _ (body : TypedBody) (context : Context) (payload : List ℕ) (actor actors : ℕ) (frame : Frame) (old new : List Step) (start : frame ≡ fresh body.tree.variables) where
-  abbrev pub scene : Scene
+module _ (body : TypedBody) (context : Context) (payload : List ℕ) (actor actors : ℕ) (frame : Frame) (old new : List Step) (start : frame ≡ first_frame body.tree.variables) where
+  abbrev pub scene : BodyScene
   scene = record { context = context; payload = payload; actor = actor; actors = actors; maps = body.maps }
 
   pub body_begun : Begun (guarded body.tree.predicate (block_does body.tree.block) scene frame) old new → Begun (walk body context payload actor actors) old new

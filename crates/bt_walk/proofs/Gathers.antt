@@ -11,16 +11,16 @@ use Rattle.bt_core.proofs.InteractionLaws.{Left-here, Left-Whole, Left-Part, Lef
 use Rattle.typed_tree.specs.declared.expr.AnyExpr.{AnyExpr}
 use Rattle.typed_tree.specs.Parts.{Made, made_of, key_shapes}
 use Rattle.walk_meaning.specs.declared.flow.Frame.{Frame}
-use Rattle.walk_meaning.specs.Does.{Scene, bind, gathered, in_order}
+use Rattle.walk_meaning.specs.Does.{BodyScene, bind, gathered, in_order}
 use Rattle.walk_meaning.specs.Exprs.{value_does, values_do}
 use Rattle.walk_meaning.specs.Served.{all_made}
 use Rattle.walk_meaning.proofs.Declared.{HasShape-more}
 use Rattle.bt_walk.proofs.Binds.{Part-first, Given-done, Left-next}
 
-pub gathers-start : (es : List AnyExpr) (scene : Scene) (frame : Frame) (old : List Step) → Left (in_order (values_do es) scene frame) old old (gathered [] (values_do es) scene frame)
+pub gathers-start : (es : List AnyExpr) (scene : BodyScene) (frame : Frame) (old : List Step) → Left (in_order (values_do es) scene frame) old old (gathered [] (values_do es) scene frame)
 gathers-start es scene frame old = Left-here _ _
 
-module _ (whole : Interaction (List Value × Frame)) (es : List AnyExpr) (n : ℕ) (e : AnyExpr) (scene : Scene) (frame : Frame) (parts : List Value) (old mid new : List Step) where
+module _ (whole : Interaction (List Value × Frame)) (es : List AnyExpr) (n : ℕ) (e : AnyExpr) (scene : BodyScene) (frame : Frame) (parts : List Value) (old mid new : List Step) where
   now_is : n < length es → e ≡ get_or es n e → gathered parts (values_do (drop n es)) scene frame ≡ bind (value_does e) (λ value. gathered (parts ++ value ∷ []) (values_do (drop (n + 1) es))) scene frame
   now_is h i = let d : drop n es ≡ e ∷ drop (n + 1) es = drop_more es n e h ∙ ap (λ y. y ∷ drop (n + 1) es) (sym i) in
       ap (λ (l : List AnyExpr). gathered parts (values_do l) scene frame) d
@@ -36,7 +36,7 @@ module _ (whole : Interaction (List Value × Frame)) (es : List AnyExpr) (n : �
     pub gathers-drop : n < length es → e ≡ get_or es n e → Left whole old mid (gathered parts (values_do (drop n es)) scene frame) → Whole (value_does e scene frame) mid new (value, after) → Part whole old new
     gathers-drop h i p q = Left-Part _ _ _ _ _ (gathers-next h i p q) (Performed-none _ _ _ refl)
 
-pub gathers-end : (whole : Interaction (List Value × Frame)) (es : List AnyExpr) (n : ℕ) (scene : Scene) (frame : Frame) (parts : List Value) (old now : List Step) →
+pub gathers-end : (whole : Interaction (List Value × Frame)) (es : List AnyExpr) (n : ℕ) (scene : BodyScene) (frame : Frame) (parts : List Value) (old now : List Step) →
     length es ≤ n → Left whole old now (gathered parts (values_do (drop n es)) scene frame) → Whole whole old now (parts, frame)
 gathers-end whole es n scene frame parts old now h p =
     Left-Whole _ _ _ _ _ _ (Left-is _ _ _ _ _ p (ap (λ (l : List AnyExpr). gathered parts (values_do l) scene frame) (drop_all n es h))) (Given-done _ _ _ _ _ _ refl refl)

@@ -12,17 +12,17 @@ use Rattle.typed_tree.specs.declared.stmt.TypedStmt.{TypedStmt}
 use Rattle.walk_meaning.specs.declared.flow.Flow.{Flow}
 use Rattle.walk_meaning.specs.declared.flow.Flow.TheVariants.{Next, Break, Continue, Stop}
 use Rattle.walk_meaning.specs.declared.flow.Frame.{Frame}
-use Rattle.walk_meaning.specs.Does.{Scene, Does, given, bind, choose, either}
+use Rattle.walk_meaning.specs.Does.{BodyScene, Does, given, bind, choose, if_holds}
 use Rattle.map_ops.specs.Values.{holds}
 use Rattle.walk_meaning.specs.Exprs.{number_does}
 use Rattle.bt_walk.specs.Flows.{is_next, leaves}
-use Rattle.walk_meaning.specs.Stmts.{stmt_does, block_does, if_next, in_turn, first_arm, again, turn, turns, tests, while_true}
+use Rattle.walk_meaning.specs.Stmts.{stmt_does, block_does, if_next, in_sequence, first_arm, again, turn, turns, tests, while_true}
 use Rattle.bt_walk.specs.Walked.{Walked}
-use Rattle.bt_walk.proofs.Binds.{Part-first, Given-done, Seen-done, Left-next}
+use Rattle.bt_walk.proofs.Binds.{Part-first, Given-done, Looked-done, Left-next}
 use Rattle.walk_meaning.proofs.StmtDoes.{arm_of}
 
 -- the rest of what is left was performed as far as it went
-pub Left-Walked : {A : Type 0} (whole : Does A) (scene : Scene) (start : Frame) (d : Does A) (frame after : Frame) (old mid new : List Step) (r : Result A Memory) → Left (whole scene start) old mid (d scene frame) →
+pub Left-Walked : {A : Type 0} (whole : Does A) (scene : BodyScene) (start : Frame) (d : Does A) (frame after : Frame) (old mid new : List Step) (r : Result A Memory) → Left (whole scene start) old mid (d scene frame) →
     Walked d scene frame mid new r after → Walked whole scene start old new r after
 Left-Walked whole scene start d frame after old mid new (Ok a) p q = Left-Whole _ _ _ _ _ _ p q
 Left-Walked whole scene start d frame after old mid new (Err x) p q = Left-Part _ _ _ _ _ p q
@@ -57,38 +57,38 @@ turns_no (Stop x) left rest e = ap given (Some_is (Stop x) left e)
     Some_is : (a b : Flow) → Some a ≡ Some b → a ≡ b
     Some_is a b e = cc
 
-pub done_with : (whole : Interaction (Flow × Frame)) (d : Does Flow) (flow : Flow) (scene : Scene) (frame : Frame) (old now : List Step) → d ≡ given flow → Left whole old now (d scene frame) → Whole whole old now (flow, frame)
+pub done_with : (whole : Interaction (Flow × Frame)) (d : Does Flow) (flow : Flow) (scene : BodyScene) (frame : Frame) (old now : List Step) → d ≡ given flow → Left whole old now (d scene frame) → Whole whole old now (flow, frame)
 done_with whole d flow scene frame old now e p = Left-Whole _ _ _ _ _ _ (Left-is _ _ _ _ _ p (ap (λ (x : Does Flow). x scene frame) e)) (Given-done _ _ _ _ _ _ refl refl)
 
 -- ---- blocks
 
-module _ (whole : Interaction (Flow × Frame)) (ss : List TypedStmt) (n : ℕ) (s : TypedStmt) (scene : Scene) (frame : Frame) (old mid new : List Step) (h : n < length ss) (i : s ≡ get_or ss n s)
-    (p : Left whole old mid (in_turn (map stmt_does (drop n ss)) scene frame)) where
-  block_now : Left whole old mid (bind (stmt_does s) (λ flow. if_next flow (in_turn (map stmt_does (drop (n + 1) ss)))) scene frame)
+module _ (whole : Interaction (Flow × Frame)) (ss : List TypedStmt) (n : ℕ) (s : TypedStmt) (scene : BodyScene) (frame : Frame) (old mid new : List Step) (h : n < length ss) (i : s ≡ get_or ss n s)
+    (p : Left whole old mid (in_sequence (map stmt_does (drop n ss)) scene frame)) where
+  block_now : Left whole old mid (bind (stmt_does s) (λ flow. if_next flow (in_sequence (map stmt_does (drop (n + 1) ss)))) scene frame)
   block_now = let d : drop n ss ≡ s ∷ drop (n + 1) ss = drop_more ss n s h ∙ ap (λ y. y ∷ drop (n + 1) ss) (sym i) in
-      Left-is _ _ _ _ _ p (ap (λ (l : List TypedStmt). in_turn (map stmt_does l) scene frame) d)
+      Left-is _ _ _ _ _ p (ap (λ (l : List TypedStmt). in_sequence (map stmt_does l) scene frame) d)
 
   pub block-stop : Part (stmt_does s scene frame) mid new → Part whole old new
   block-stop q = Left-Part _ _ _ _ _ block_now (Part-first _ _ _ _ _ _ q)
 
   module _ (flow : Flow) (after : Frame) (q : Whole (stmt_does s scene frame) mid new (flow, after)) where
-    block_then : Left whole old new (if_next flow (in_turn (map stmt_does (drop (n + 1) ss))) scene after)
+    block_then : Left whole old new (if_next flow (in_sequence (map stmt_does (drop (n + 1) ss))) scene after)
     block_then = Left-next _ _ _ _ _ _ _ _ _ _ block_now q
 
-    pub block-next : is_next flow ≡ true → Left whole old new (in_turn (map stmt_does (drop (n + 1) ss)) scene after)
-    block-next e = Left-is _ _ _ _ _ block_then (ap (λ (d : Does Flow). d scene after) (goes_on flow (in_turn (map stmt_does (drop (n + 1) ss))) e))
+    pub block-next : is_next flow ≡ true → Left whole old new (in_sequence (map stmt_does (drop (n + 1) ss)) scene after)
+    block-next e = Left-is _ _ _ _ _ block_then (ap (λ (d : Does Flow). d scene after) (goes_on flow (in_sequence (map stmt_does (drop (n + 1) ss))) e))
 
     pub block-leaves : is_next flow ≡ false → Whole whole old new (flow, after)
-    block-leaves e = done_with _ _ _ _ _ _ _ (goes_no flow (in_turn (map stmt_does (drop (n + 1) ss))) e) block_then
+    block-leaves e = done_with _ _ _ _ _ _ _ (goes_no flow (in_sequence (map stmt_does (drop (n + 1) ss))) e) block_then
 
-pub block-end : (whole : Interaction (Flow × Frame)) (ss : List TypedStmt) (n : ℕ) (scene : Scene) (frame : Frame) (old now : List Step) → length ss ≤ n → Left whole old now (in_turn (map stmt_does (drop n ss)) scene frame) → Whole whole old now (Next, frame)
-block-end whole ss n scene frame old now h p = done_with _ _ _ _ _ _ _ (ap (λ (l : List TypedStmt). in_turn (map stmt_does l)) (drop_all n ss h)) p
+pub block-end : (whole : Interaction (Flow × Frame)) (ss : List TypedStmt) (n : ℕ) (scene : BodyScene) (frame : Frame) (old now : List Step) → length ss ≤ n → Left whole old now (in_sequence (map stmt_does (drop n ss)) scene frame) → Whole whole old now (Next, frame)
+block-end whole ss n scene frame old now h p = done_with _ _ _ _ _ _ _ (ap (λ (l : List TypedStmt). in_sequence (map stmt_does l)) (drop_all n ss h)) p
 
 -- ---- arms
 
-module _ (whole : Interaction (Flow × Frame)) (arms : List (NumExpr × TypedBlock)) (n : ℕ) (arm : NumExpr × TypedBlock) (otherwise : Does Flow) (scene : Scene) (frame : Frame) (old mid new : List Step)
+module _ (whole : Interaction (Flow × Frame)) (arms : List (NumExpr × TypedBlock)) (n : ℕ) (arm : NumExpr × TypedBlock) (otherwise : Does Flow) (scene : BodyScene) (frame : Frame) (old mid new : List Step)
     (h : n < length arms) (i : arm ≡ get_or arms n arm) (p : Left whole old mid (first_arm (map arm_of (drop n arms)) otherwise scene frame)) where
-  arm_now : Left whole old mid (either (number_does arm.0) (block_does arm.1) (first_arm (map arm_of (drop (n + 1) arms)) otherwise) scene frame)
+  arm_now : Left whole old mid (if_holds (number_does arm.0) (block_does arm.1) (first_arm (map arm_of (drop (n + 1) arms)) otherwise) scene frame)
   arm_now = let d : drop n arms ≡ arm ∷ drop (n + 1) arms = drop_more arms n arm h ∙ ap (λ y. y ∷ drop (n + 1) arms) (sym i) in
       Left-is _ _ _ _ _ p (ap (λ (l : List (NumExpr × TypedBlock)). first_arm (map arm_of l) otherwise scene frame) d)
 
@@ -107,13 +107,13 @@ module _ (whole : Interaction (Flow × Frame)) (arms : List (NumExpr × TypedBlo
     unfolding choose
     arm-no e = Left-is _ _ _ _ _ arm_then (ap (λ (b : Bool). choose b (block_does arm.1) (first_arm (map arm_of (drop (n + 1) arms)) otherwise) scene after) e)
 
-pub arms-end : (whole : Interaction (Flow × Frame)) (arms : List (NumExpr × TypedBlock)) (n : ℕ) (otherwise : Does Flow) (scene : Scene) (frame : Frame) (old now : List Step) → length arms ≤ n →
+pub arms-end : (whole : Interaction (Flow × Frame)) (arms : List (NumExpr × TypedBlock)) (n : ℕ) (otherwise : Does Flow) (scene : BodyScene) (frame : Frame) (old now : List Step) → length arms ≤ n →
     Left whole old now (first_arm (map arm_of (drop n arms)) otherwise scene frame) → Left whole old now (otherwise scene frame)
 arms-end whole arms n otherwise scene frame old now h p = Left-is _ _ _ _ _ p (ap (λ (l : List (NumExpr × TypedBlock)). first_arm (map arm_of l) otherwise scene frame) (drop_all n arms h))
 
 -- ---- loops of so many turns
 
-module _ (whole : Interaction (Flow × Frame)) (line count made : ℕ) (block : Does Flow) (scene : Scene) (frame : Frame) (old mid new : List Step) (h : made < count)
+module _ (whole : Interaction (Flow × Frame)) (line count made : ℕ) (block : Does Flow) (scene : BodyScene) (frame : Frame) (old mid new : List Step) (h : made < count)
     (p : Left whole old mid (turns (count - made) line block scene frame)) where
   turns_now : Left whole old mid (bind (turn line block) (λ flow. again flow (turns (count - (made + 1)) line block)) scene frame)
   turns_now = let e : count - made ≡ suc (count - (made + 1)) = omega (arith, h) in Left-is _ _ _ _ _ p (ap (λ (k : ℕ). turns k line block scene frame) e)
@@ -131,23 +131,23 @@ module _ (whole : Interaction (Flow × Frame)) (line count made : ℕ) (block : 
     pub turns-leaves : (left : Flow) → leaves flow ≡ Some left → Whole whole old new (left, after)
     turns-leaves left e = done_with _ _ _ _ _ _ _ (turns_no flow left (turns (count - (made + 1)) line block) e) turns_then
 
-pub turns-start : (line count : ℕ) (block : Does Flow) (scene : Scene) (frame : Frame) (old : List Step) → Left (turns count line block scene frame) old old (turns (count - 0) line block scene frame)
+pub turns-start : (line count : ℕ) (block : Does Flow) (scene : BodyScene) (frame : Frame) (old : List Step) → Left (turns count line block scene frame) old old (turns (count - 0) line block scene frame)
 turns-start line count block scene frame old = Left-is _ _ _ _ _ (Left-here _ _) (let e : count ≡ count - 0 = omega arith in ap (λ (k : ℕ). turns k line block scene frame) e)
 
-pub turns-end : (whole : Interaction (Flow × Frame)) (line count made : ℕ) (block : Does Flow) (scene : Scene) (frame : Frame) (old now : List Step) → count ≤ made → Left whole old now (turns (count - made) line block scene frame) → Whole whole old now (Next, frame)
+pub turns-end : (whole : Interaction (Flow × Frame)) (line count made : ℕ) (block : Does Flow) (scene : BodyScene) (frame : Frame) (old now : List Step) → count ≤ made → Left whole old now (turns (count - made) line block scene frame) → Whole whole old now (Next, frame)
 turns-end whole line count made block scene frame old now h p = done_with _ _ _ _ _ _ _ (let e : count - made ≡ 0 = omega (arith, h) in ap (λ (k : ℕ). turns k line block) e) p
 
 -- ---- loops with a test: as many tests as there are turns left, and one more
 
-pub record Looping (whole : Interaction (Flow × Frame)) (old now : List Step) (line : ℕ) (test : Does ℤ) (block : Does Flow) (scene : Scene) (frame : Frame) : Type 0 where
+pub record Looping (whole : Interaction (Flow × Frame)) (old now : List Step) (line : ℕ) (test : Does ℤ) (block : Does Flow) (scene : BodyScene) (frame : Frame) : Type 0 where
   pub fuel : ℕ
   pub enough : frame.turns ≤ fuel
   pub left : Left whole old now (tests (suc fuel) line test block scene frame)
 
-pub while-starts : (line : ℕ) (test : Does ℤ) (block : Does Flow) (scene : Scene) (frame : Frame) (old : List Step) → Looping (while_true line test block scene frame) old old line test block scene frame
-while-starts line test block scene frame old = record { fuel = frame.turns; enough = omega arith; left = Left-next _ _ _ _ _ _ _ _ _ _ (Left-here _ _) (Seen-done _ _ _ _ _ refl) }
+pub while-starts : (line : ℕ) (test : Does ℤ) (block : Does Flow) (scene : BodyScene) (frame : Frame) (old : List Step) → Looping (while_true line test block scene frame) old old line test block scene frame
+while-starts line test block scene frame old = record { fuel = frame.turns; enough = omega arith; left = Left-next _ _ _ _ _ _ _ _ _ _ (Left-here _ _) (Looked-done _ _ _ _ _ refl) }
 
-module _ (whole : Interaction (Flow × Frame)) (line : ℕ) (test : Does ℤ) (block : Does Flow) (scene : Scene) (frame : Frame) (old mid : List Step) (l : Looping whole old mid line test block scene frame) where
+module _ (whole : Interaction (Flow × Frame)) (line : ℕ) (test : Does ℤ) (block : Does Flow) (scene : BodyScene) (frame : Frame) (old mid : List Step) (l : Looping whole old mid line test block scene frame) where
   pub while-stop : (new : List Step) → Part (test scene frame) mid new → Part whole old new
   while-stop new q = Left-Part _ _ _ _ _ l.left (Part-first _ _ _ _ _ _ q)
 

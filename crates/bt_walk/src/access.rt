@@ -1,21 +1,19 @@
-// Variables, and single operations on maps.
+// Variables, and changes of maps under a key.
 ghost use Rattle.std.specs.Prelude.{◌≡◌};
 ghost use Rattle.bt_core.specs.Arithmetic.{truth};
 ghost use Rattle.bt_core.specs.declared.step.Op.TheVariants as ops;
 ghost use Rattle.bt_core.specs.Ports.{CanStep};
 ghost use Rattle.map_ops.specs.Holders.{part};
-ghost use Rattle.walk_meaning.specs.Does.{told};
-ghost use Rattle.walk_meaning.specs.Maps.{variable, with_variable, get, set, delete};
-ghost use Rattle.bt_walk.specs.Walked.{Made};
+ghost use Rattle.walk_meaning.specs.Maps.{variable, with_variable, set, delete};
+ghost use Rattle.bt_walk.specs.Walked.{WalkedAnywhere};
 
 use bt_core::key::Key;
 use bt_core::map::MapId;
 use bt_core::memory::Memory;
 use bt_core::port::Port;
-use bt_core::step::{ObjectId, Op};
+use bt_core::step::Op;
 use bt_core::value::Value;
-use map_ops::access;
-use map_ops::access::part;
+use map_ops::access::{part, tell};
 use std::alloc::Global;
 use walk_meaning::flow::Frame;
 
@@ -46,24 +44,6 @@ pub fn assign(number: u32, value: Value, frame: &mut Frame)
     }
 }
 
-/// Makes a step whose reply says nothing.
-pub fn tell<P: Port>(alloc: Global, object: ObjectId, op: Op, port: &mut P) -> Result<(), Memory>
-    requires { CanStep (P.fixed port.old).setting object op }
-    ensures made { Made (told object op) (P.steps port.old) (P.steps port.new) result }
-    ensures kept { P.fixed port.new ≡ P.fixed port.old }
-{
-    access::tell(alloc, object, op, port)
-}
-
-/// The value of a map under a key.
-pub fn get<P: Port>(alloc: Global, map: MapId, key: Key, port: &mut P) -> Result<Value, Memory>
-    requires { CanStep (P.fixed port.old).setting (part map key) (ops.Get key) }
-    ensures made { Made (get map key) (P.steps port.old) (P.steps port.new) result }
-    ensures kept { P.fixed port.new ≡ P.fixed port.old }
-{
-    access::get(alloc, map, key, port)
-}
-
 /// Sets the value of a map under a key.
 pub fn set<P: Port>(
     alloc: Global,
@@ -73,7 +53,7 @@ pub fn set<P: Port>(
     port: &mut P,
 ) -> Result<(), Memory>
     requires { CanStep (P.fixed port.old).setting (part map key) (ops.Set key value) }
-    ensures made { Made (set map key value) (P.steps port.old) (P.steps port.new) result }
+    ensures made { WalkedAnywhere (set map key value) (P.steps port.old) (P.steps port.new) result }
     ensures kept { P.fixed port.new ≡ P.fixed port.old }
 {
     let object = part(map, &key);
@@ -83,7 +63,7 @@ pub fn set<P: Port>(
 /// Takes a key of a map away.
 pub fn delete<P: Port>(alloc: Global, map: MapId, key: Key, port: &mut P) -> Result<(), Memory>
     requires { CanStep (P.fixed port.old).setting (part map key) (ops.Delete key) }
-    ensures made { Made (delete map key) (P.steps port.old) (P.steps port.new) result }
+    ensures made { WalkedAnywhere (delete map key) (P.steps port.old) (P.steps port.new) result }
     ensures kept { P.fixed port.new ≡ P.fixed port.old }
 {
     let object = part(map, &key);

@@ -3,7 +3,7 @@ ghost use Rattle.std.specs.Prelude.{◌≡◌, ◌++◌, IfOk, map};
 ghost use Rattle.bt_core.specs.Interaction.{Performed};
 ghost use Rattle.typed_tree.specs.Bodies.{predicate_parts};
 ghost use Rattle.walk_meaning.specs.Stmts.{block_does};
-ghost use Rattle.walk_meaning.specs.Walk.{walk, fresh, guarded};
+ghost use Rattle.walk_meaning.specs.Walk.{walk, first_frame, guarded};
 ghost use Rattle.bt_walk.specs.Walked.{Walked};
 ghost use Rattle.walk_meaning.specs.Served.{CanWalk, IsServed, Fits, BlockFits, scene_in};
 
@@ -26,8 +26,8 @@ use walk_meaning::flow::{Flow, Frame};
 use walk_meaning::view::View;
 
 /// The frame at the start of a run.
-fn fresh(alloc: Global, shapes: &[Shape]) -> Result<Frame, Memory>
-    ensures { IfOk result (λ frame. frame ≡ fresh shapes.now) }
+fn first_frame(alloc: Global, shapes: &[Shape]) -> Result<Frame, Memory>
+    ensures { IfOk result (λ frame. frame ≡ first_frame shapes.now) }
 {
     let mut variables = Items::new(alloc);
     for shape in shapes {
@@ -93,7 +93,7 @@ pub fn walk_body<P: Port>(
         actor,
         actors,
     };
-    let mut frame = fresh(alloc, body.tree.variables.as_slice())?;
+    let mut frame = first_frame(alloc, body.tree.variables.as_slice())?;
     let tree = &body.tree;
     let flow = walk_guarded(alloc, &view, &tree.predicate, &tree.block, &mut frame, port)?;
     Ok(ending_of(flow))

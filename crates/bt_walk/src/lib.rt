@@ -5,7 +5,6 @@ pub mod access;
 pub mod body;
 pub mod flow;
 pub mod stmt;
-pub mod sweep;
 pub mod value;
 pub mod view;
 pub mod walk;

@@ -8,14 +8,13 @@ ghost use Rattle.typed_tree.specs.Scope.{decl_of, is_there};
 ghost use Rattle.walk_meaning.specs.Does.{in_order};
 ghost use Rattle.walk_meaning.specs.Exprs.{value_does, values_do, number_does};
 ghost use Rattle.walk_meaning.specs.Stmts.{set_variable, set_map, update_variable, update_map, update_at, gather, number_or_one, printf, print, clear, zero_all, delete_at, jump_to, cut, plain};
-ghost use Rattle.bt_walk.specs.Walked.{Walked, Made};
+ghost use Rattle.bt_walk.specs.Walked.{Walked, WalkedAnywhere};
 ghost use Rattle.walk_meaning.specs.Served.{IsServed, Fits, HoldsUnder, all_made, scene_in};
 ghost use Rattle.walk_meaning.specs.declared.flow.Frame.{Frame as Kept};
 
-use crate::access::{assign, delete, get, set, tell, variable};
-use crate::sweep::ask_each;
+use crate::access::{assign, delete, set, variable};
 use crate::value::{number, value, values};
-use crate::view::kind_of;
+use crate::view::kind_in_body;
 use bt_core::arithmetic::binary;
 use bt_core::ending::Ending;
 use bt_core::item::Item;
@@ -26,9 +25,10 @@ use bt_core::operator::BinOp;
 use bt_core::port::Port;
 use bt_core::step::{ObjectId, Op};
 use bt_core::value::Value;
-use map_ops::sweep::Sweep;
+use map_ops::access::{get, tell};
+use map_ops::printing::print_map;
+use map_ops::sweep::{Sweep, ask_each};
 use map_ops::values::number_of;
-use map_rows::merging::merged;
 use std::alloc::Global;
 use typed_tree::expr::{AnyExpr, NumExpr};
 use typed_tree::stmt::Jump;
@@ -155,7 +155,7 @@ fn update_at<P: Port>(
     port: &mut P,
 ) -> Result<Flow, Memory>
     requires { HoldsUnder (P.fixed port.old).setting map kinds.Ints key }
-    ensures made { Made (update_at map key op b) (P.steps port.old) (P.steps port.new) result }
+    ensures made { WalkedAnywhere (update_at map key op b) (P.steps port.old) (P.steps port.new) result }
     ensures kept { P.fixed port.new ≡ P.fixed port.old }
 {
     let again = key.try_copy(alloc)?;
@@ -267,16 +267,8 @@ pub fn print<P: Port>(
     ensures walked { (frame : Kept) → Walked (print map top div) (scene_in view.now) frame (P.steps port.old) (P.steps port.new) result frame }
     ensures kept { P.fixed port.new ≡ P.fixed port.old }
 {
-    let kind = kind_of(map, view.body.maps.as_slice());
-    let replies = ask_each(alloc, view, Sweep::Read, kind, map, port)?;
-    let rows = merged(alloc, kind, replies.as_slice())?;
-    let item = Item::Map {
-        map,
-        rows,
-        top,
-        div,
-    };
-    tell(alloc, ObjectId::Out, Op::Emit(item), port)?;
+    let kind = kind_in_body(map, view.body.maps.as_slice());
+    print_map(alloc, kind, map, top, div, view.actors, port)?;
     Ok(Flow::Next)
 }
 
@@ -292,8 +284,8 @@ pub fn clear<P: Port>(
     ensures walked { (frame : Kept) → Walked (clear map) (scene_in view.now) frame (P.steps port.old) (P.steps port.new) result frame }
     ensures kept { P.fixed port.new ≡ P.fixed port.old }
 {
-    let kind = kind_of(map, view.body.maps.as_slice());
-    ask_each(alloc, view, Sweep::Clear, kind, map, port)?;
+    let kind = kind_in_body(map, view.body.maps.as_slice());
+    ask_each(alloc, Sweep::Clear, kind, map, view.actors, port)?;
     Ok(Flow::Next)
 }
 
@@ -309,8 +301,8 @@ pub fn zero<P: Port>(
     ensures walked { (frame : Kept) → Walked (zero_all map) (scene_in view.now) frame (P.steps port.old) (P.steps port.new) result frame }
     ensures kept { P.fixed port.new ≡ P.fixed port.old }
 {
-    let kind = kind_of(map, view.body.maps.as_slice());
-    ask_each(alloc, view, Sweep::Zero, kind, map, port)?;
+    let kind = kind_in_body(map, view.body.maps.as_slice());
+    ask_each(alloc, Sweep::Zero, kind, map, view.actors, port)?;
     Ok(Flow::Next)
 }
 
@@ -336,7 +328,7 @@ pub fn delete_at<P: Port>(
 
 /// `break`, `continue`, `exit()` and `return`.
 pub fn jump<P: Port>(alloc: Global, jump: Jump, port: &mut P) -> Result<Flow, Memory>
-    ensures made { Made (jump_to jump) (P.steps port.old) (P.steps port.new) result }
+    ensures made { WalkedAnywhere (jump_to jump) (P.steps port.old) (P.steps port.new) result }
     ensures kept { P.fixed port.new ≡ P.fixed port.old }
 {
     match jump {
@@ -352,7 +344,7 @@ pub fn jump<P: Port>(alloc: Global, jump: Jump, port: &mut P) -> Result<Flow, Me
 
 /// Emits the line of a loop whose next turn is not made.
 pub fn cut<P: Port>(alloc: Global, line: u32, port: &mut P) -> Result<Flow, Memory>
-    ensures made { Made (cut line) (P.steps port.old) (P.steps port.new) result }
+    ensures made { WalkedAnywhere (cut line) (P.steps port.old) (P.steps port.new) result }
     ensures stops { IfOk result (λ flow. flow ≡ Flow.Stop Ending.Cut) }
     ensures kept { P.fixed port.new ≡ P.fixed port.old }
 {

@@ -9,10 +9,10 @@ ghost use Rattle.walk_meaning.specs.Exprs.{value_does, values_do, number_does, t
 ghost use Rattle.map_ops.specs.Values.{next, number_of};
 ghost use Rattle.walk_meaning.specs.Maps.{variable, with_variable};
 ghost use Rattle.walk_meaning.specs.Does.{in_order};
-ghost use Rattle.bt_walk.specs.Walked.{Walked, Made};
+ghost use Rattle.bt_walk.specs.Walked.{Walked, WalkedAnywhere};
 ghost use Rattle.walk_meaning.specs.Served.{all_made, IsServed, Fits, NamesShared, HoldsUnder, scene_in};
 
-use crate::access::{assign, get, set, truth, variable};
+use crate::access::{assign, set, truth, variable};
 use bt_core::arithmetic::{binary, unary};
 use bt_core::items::Items;
 use bt_core::key::Key;
@@ -22,6 +22,7 @@ use bt_core::port::Port;
 use bt_core::text::Str64;
 use bt_core::value::Value;
 use event_record::reading::{int_field, str_field};
+use map_ops::access::get;
 use map_ops::builtin::builtin_value;
 use map_ops::values::{holds, next, number_of, text_of};
 use std::alloc::Global;
@@ -245,7 +246,7 @@ fn step_map<P: Port>(
     port: &mut P,
 ) -> Result<i64, Memory>
     requires { HoldsUnder (P.fixed port.old).setting map kinds.Ints key }
-    ensures made { Made (step_at map key plus prefix) (P.steps port.old) (P.steps port.new) result }
+    ensures made { WalkedAnywhere (step_at map key plus prefix) (P.steps port.old) (P.steps port.new) result }
     ensures kept { P.fixed port.new ≡ P.fixed port.old }
 {
     let again = key.try_copy(alloc)?;

@@ -16,7 +16,7 @@ use Rattle.expr_types.specs.Mentions.{Word}
 use Rattle.expr_types.specs.Typing.{Titles, word_of}
 use Rattle.bt_lower.specs.declared.need.Need.{Need}
 use Rattle.bt_lower.specs.declared.need.Valued.{Valued}
-use Rattle.bt_lower.specs.Needs.{need, valued, more, greater, beside, codes_in, any_layer, num_layer, str_layer, value_need, number_need, text_need, values_need}
+use Rattle.bt_lower.specs.Needs.{need, valued, more, greater, beside, codes_in, value_need_by_parts, number_need_by_parts, text_need_by_parts, value_need, number_need, text_need, values_need}
 use Rattle.size_laws.proofs.Reader.{Item, Held, Slot, Cell, Stack, push, value, need_of, field_need, chosen, keys_in, past_keys, joined_need, step, AllAgree, halves, run, run-append, run_two, Pushes, PushesAll, all_pushed, keys_found, behind_keys}
 
 module _ (sh : Word → Shape) (t : Titles) where
@@ -79,7 +79,7 @@ module _ (sh : Word → Shape) (t : Titles) where
   num_made h = tree.num_layer (map-NumExpr AnyExpr NumExpr StrExpr Made (List Part) (List Part) made_of num_parts str_parts (num_of h))
 
   abbrev num_needs : NumExpr-F ManyAny ManyNum ManyStr → Need
-  num_needs h = num_layer (map-NumExpr AnyExpr NumExpr StrExpr Valued Need Need value_need number_need text_need (num_of h))
+  num_needs h = number_need_by_parts (map-NumExpr AnyExpr NumExpr StrExpr Valued Need Need value_need number_need text_need (num_of h))
 
   -- two operands
   record Two (ps qs : List Part) (st : Stack) (v w : Valued) : Type 0 where
@@ -200,7 +200,7 @@ module _ (sh : Word → Shape) (t : Titles) where
   str_made h = tree.str_layer (map-StrExpr AnyExpr NumExpr StrExpr Made (List Part) (List Part) made_of num_parts str_parts (str_of h))
 
   abbrev str_needs : StrExpr-F ManyAny ManyNum ManyStr → Need
-  str_needs h = str_layer (map-StrExpr AnyExpr NumExpr StrExpr Valued Need Need value_need number_need text_need (str_of h))
+  str_needs h = text_need_by_parts (map-StrExpr AnyExpr NumExpr StrExpr Valued Need Need value_need number_need text_need (str_of h))
 
   str_case : (h : StrExpr-F ManyAny ManyNum ManyStr) → AllAgree sh t (str_made h) → (st : Stack) → Pushes sh t (str_made h) st (valued 64 (str_needs h))
   str_case (StrExpr-F.Text s) agree st = record { item = Held (valued 64 (need 64 32)); reads = refl; worth = refl }
@@ -220,7 +220,7 @@ module _ (sh : Word → Shape) (t : Titles) where
   any_made h = tree.any_layer (map-AnyExpr AnyExpr NumExpr StrExpr Made (List Part) (List Part) made_of num_parts str_parts (any_of h))
 
   abbrev any_needs : AnyExpr-F ManyAny ManyNum ManyStr → Valued
-  any_needs h = any_layer (map-AnyExpr AnyExpr NumExpr StrExpr Valued Need Need value_need number_need text_need (any_of h))
+  any_needs h = value_need_by_parts (map-AnyExpr AnyExpr NumExpr StrExpr Valued Need Need value_need number_need text_need (any_of h))
 
   any_case : (h : AnyExpr-F ManyAny ManyNum ManyStr) → AllAgree sh t (any_made h).parts → (st : Stack) → Pushes sh t (any_made h).parts st (any_needs h)
   any_case (AnyExpr-F.Num d) agree st = d.1 agree st
@@ -230,21 +230,21 @@ module _ (sh : Word → Shape) (t : Titles) where
   num_step x h e = subst (λ (y : NumExpr-F AnyExpr NumExpr StrExpr). NumReads (roll-NumExpr y)) e
       (subst (λ (ps : List Part). AllAgree sh t ps → (st : Stack) → Pushes sh t ps st (valued 8 (number_need (roll-NumExpr (num_of h)))))
       (sym (fold-roll-NumExpr Made (List Part) (List Part) tree.any_layer tree.num_layer tree.str_layer (num_of h)))
-      (subst (λ (n : Need). AllAgree sh t (num_made h) → (st : Stack) → Pushes sh t (num_made h) st (valued 8 n)) (sym (fold-roll-NumExpr Valued Need Need any_layer num_layer str_layer (num_of h)))
+      (subst (λ (n : Need). AllAgree sh t (num_made h) → (st : Stack) → Pushes sh t (num_made h) st (valued 8 n)) (sym (fold-roll-NumExpr Valued Need Need value_need_by_parts number_need_by_parts text_need_by_parts (num_of h)))
       (num_case h)))
 
   str_step : (x : StrExpr-F AnyExpr NumExpr StrExpr) (h : StrExpr-F ManyAny ManyNum ManyStr) → str_of h ≡ x → StrReads (roll-StrExpr x)
   str_step x h e = subst (λ (y : StrExpr-F AnyExpr NumExpr StrExpr). StrReads (roll-StrExpr y)) e
       (subst (λ (ps : List Part). AllAgree sh t ps → (st : Stack) → Pushes sh t ps st (valued 64 (text_need (roll-StrExpr (str_of h)))))
       (sym (fold-roll-StrExpr Made (List Part) (List Part) tree.any_layer tree.num_layer tree.str_layer (str_of h)))
-      (subst (λ (n : Need). AllAgree sh t (str_made h) → (st : Stack) → Pushes sh t (str_made h) st (valued 64 n)) (sym (fold-roll-StrExpr Valued Need Need any_layer num_layer str_layer (str_of h)))
+      (subst (λ (n : Need). AllAgree sh t (str_made h) → (st : Stack) → Pushes sh t (str_made h) st (valued 64 n)) (sym (fold-roll-StrExpr Valued Need Need value_need_by_parts number_need_by_parts text_need_by_parts (str_of h)))
       (str_case h)))
 
   any_step : (x : AnyExpr-F AnyExpr NumExpr StrExpr) (h : AnyExpr-F ManyAny ManyNum ManyStr) → any_of h ≡ x → AnyReads (roll-AnyExpr x)
   any_step x h e = subst (λ (y : AnyExpr-F AnyExpr NumExpr StrExpr). AnyReads (roll-AnyExpr y)) e
       (subst (λ (m : Made). AllAgree sh t m.parts → (st : Stack) → Pushes sh t m.parts st (value_need (roll-AnyExpr (any_of h))))
       (sym (fold-roll-AnyExpr Made (List Part) (List Part) tree.any_layer tree.num_layer tree.str_layer (any_of h)))
-      (subst (λ (v : Valued). AllAgree sh t (any_made h).parts → (st : Stack) → Pushes sh t (any_made h).parts st v) (sym (fold-roll-AnyExpr Valued Need Need any_layer num_layer str_layer (any_of h)))
+      (subst (λ (v : Valued). AllAgree sh t (any_made h).parts → (st : Stack) → Pushes sh t (any_made h).parts st v) (sym (fold-roll-AnyExpr Valued Need Need value_need_by_parts number_need_by_parts text_need_by_parts (any_of h)))
       (any_case h)))
 
   pub num_reads : (e : NumExpr) → NumReads e

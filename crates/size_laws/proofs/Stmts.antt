@@ -20,7 +20,7 @@ use Rattle.expr_types.specs.Mentions.{Word}
 use Rattle.expr_types.specs.Typing.{Titles, word_of, words_by}
 use Rattle.bt_lower.specs.declared.need.Need.{Need}
 use Rattle.bt_lower.specs.declared.need.Valued.{Valued}
-use Rattle.bt_lower.specs.Needs.{need, valued, more, greater, beside, codes_in, all_need, arm_need, taking_need, gather_need, jump_need, predicate_need, stmt_layer, block_layer, value_need, values_need, number_need, stmt_need, block_need}
+use Rattle.bt_lower.specs.Needs.{need, valued, more, greater, beside, codes_in, all_need, arm_need, taking_need, gather_need, jump_need, predicate_need, stmt_need_by_parts, block_need_by_parts, value_need, values_need, number_need, stmt_need, block_need}
 use Rattle.size_laws.proofs.Reader.{Item, Held, Slot, Cell, Choice, Stack, push, value, need_of, several, done, enter, assigned, gathered, keys_in, past_keys, step, fresh, guarded_need, body_need, AllAgree, halves, run, run-append, run_two, Pushes, PushesAll, all_pushed, keys_found, behind_keys}
 use Rattle.size_laws.proofs.Exprs.{AnyReads, any_reads, num_reads, values_pushed, cell_pushed}
 
@@ -259,7 +259,7 @@ module _ (sh : Word → Shape) (t : Titles) where
   stmt_made h = tree.stmt_layer (map-TypedStmt TypedStmt TypedBlock (Bool → List Part) (Bool → List Part) stmt_parts block_parts (stmt_of h))
 
   abbrev stmt_needs : TypedStmt-F ManyStmt ManyBlock → Need
-  stmt_needs h = stmt_layer (map-TypedStmt TypedStmt TypedBlock Need Need stmt_need block_need (stmt_of h))
+  stmt_needs h = stmt_need_by_parts (map-TypedStmt TypedStmt TypedBlock Need Need stmt_need block_need (stmt_of h))
 
   stmt_case : (h : TypedStmt-F ManyStmt ManyBlock) (inside : Bool) → AllAgree sh t (stmt_made h inside) → (st : Stack) → Counts (stmt_made h inside) st (stmt_needs h)
   stmt_case (TypedStmt-F.SetVar var value) inside agree st =
@@ -291,7 +291,7 @@ module _ (sh : Word → Shape) (t : Titles) where
   stmt_step x h e = subst (λ (y : TypedStmt-F TypedStmt TypedBlock). StmtReads (roll-TypedStmt y)) e
       (subst (λ (k : Bool → List Part). (inside : Bool) → AllAgree sh t (k inside) → (st : Stack) → Counts (k inside) st (stmt_need (roll-TypedStmt (stmt_of h))))
       (sym (fold-roll-TypedStmt (Bool → List Part) (Bool → List Part) tree.stmt_layer tree.block_layer (stmt_of h)))
-      (subst (λ (n : Need). (inside : Bool) → AllAgree sh t (stmt_made h inside) → (st : Stack) → Counts (stmt_made h inside) st n) (sym (fold-roll-TypedStmt Need Need stmt_layer block_layer (stmt_of h)))
+      (subst (λ (n : Need). (inside : Bool) → AllAgree sh t (stmt_made h inside) → (st : Stack) → Counts (stmt_made h inside) st n) (sym (fold-roll-TypedStmt Need Need stmt_need_by_parts block_need_by_parts (stmt_of h)))
       (stmt_case h)))
 
   abbrev block_of : TypedBlock-F ManyStmt ManyBlock → TypedBlock-F TypedStmt TypedBlock
@@ -301,7 +301,7 @@ module _ (sh : Word → Shape) (t : Titles) where
   block_made h = tree.block_layer (map-TypedBlock TypedStmt TypedBlock (Bool → List Part) (Bool → List Part) stmt_parts block_parts (block_of h))
 
   block_case : (h : TypedBlock-F ManyStmt ManyBlock) (inside : Bool) → AllAgree sh t (block_made h inside) → (st : Stack)
-      → Fills (block_made h inside) st (block_layer (map-TypedBlock TypedStmt TypedBlock Need Need stmt_need block_need (block_of h)))
+      → Fills (block_made h inside) st (block_need_by_parts (map-TypedBlock TypedStmt TypedBlock Need Need stmt_need block_need (block_of h)))
   block_case h inside agree st =
       let both = halves sh t (stmts_made inside h.stmts) (Ending ∷ []) agree in
       let row = stmts_read h.stmts inside (enter st) both.0 in
@@ -315,7 +315,7 @@ module _ (sh : Word → Shape) (t : Titles) where
   block_step x h e = subst (λ (y : TypedBlock-F TypedStmt TypedBlock). BlockReads (roll-TypedBlock y)) e
       (subst (λ (k : Bool → List Part). (inside : Bool) → AllAgree sh t (k inside) → (st : Stack) → Fills (k inside) st (block_need (roll-TypedBlock (block_of h))))
       (sym (fold-roll-TypedBlock (Bool → List Part) (Bool → List Part) tree.stmt_layer tree.block_layer (block_of h)))
-      (subst (λ (n : Need). (inside : Bool) → AllAgree sh t (block_made h inside) → (st : Stack) → Fills (block_made h inside) st n) (sym (fold-roll-TypedBlock Need Need stmt_layer block_layer (block_of h)))
+      (subst (λ (n : Need). (inside : Bool) → AllAgree sh t (block_made h inside) → (st : Stack) → Fills (block_made h inside) st n) (sym (fold-roll-TypedBlock Need Need stmt_need_by_parts block_need_by_parts (block_of h)))
       (block_case h)))
 
   block_reads : (b : TypedBlock) → BlockReads b

@@ -5,10 +5,10 @@ use Rattle.typed_tree.specs.declared.expr.NumBuiltin.{NumBuiltin}
 use Rattle.typed_tree.specs.declared.expr.NumBuiltin.TheVariants as builtins
 use Rattle.typed_tree.specs.Parts.{Part, Numeric, MapOf, Deleted, Cleared, Zeroed, Jumped}
 use Rattle.bt_meaning.specs.Totals.{StaysInBody}
-use Rattle.walk_meaning.specs.Does.{Scene}
+use Rattle.walk_meaning.specs.Does.{BodyScene}
 
 -- what is seen of two scenes is alike, but for the actor and the context's `cpu`
-pub record AreLike (one two : Scene) : Type 0 where
+pub record AreLike (one two : BodyScene) : Type 0 where
   pub time : one.context.time ≡ two.context.time
   pub start : one.context.start ≡ two.context.start
   pub pid : one.context.pid ≡ two.context.pid
@@ -20,12 +20,12 @@ pub record AreLike (one two : Scene) : Type 0 where
   pub actors : one.actors ≡ two.actors
   pub maps : one.maps ≡ two.maps
 
-abbrev pub IsQuietBuiltin : Scene → Scene → NumBuiltin → Type 0
+abbrev pub IsQuietBuiltin : BodyScene → BodyScene → NumBuiltin → Type 0
 IsQuietBuiltin one two builtins.Cpu = one.context.cpu ≡ two.context.cpu
 IsQuietBuiltin one two builtin = Unit {0}
 
 -- the part reads and changes no map but by an aggregation or `print`, stays in the body, and reads the same in both scenes
-abbrev pub IsQuiet : Scene → Scene → Part → Type 0
+abbrev pub IsQuiet : BodyScene → BodyScene → Part → Type 0
 IsQuiet one two (Numeric builtin) = IsQuietBuiltin one two builtin
 IsQuiet one two (MapOf number keys shape) = ⊥
 IsQuiet one two (Deleted number keys) = ⊥
@@ -34,5 +34,5 @@ IsQuiet one two (Zeroed number) = ⊥
 IsQuiet one two (Jumped jump inside) = StaysInBody jump
 IsQuiet one two part = Unit {0}
 
-abbrev pub AreQuiet : Scene → Scene → List Part → Type 0
+abbrev pub AreQuiet : BodyScene → BodyScene → List Part → Type 0
 AreQuiet one two parts = AllByRecursion (IsQuiet one two) parts

@@ -30,7 +30,7 @@ use Rattle.total_laws.specs.Ends.{UsesNoCpu}
 use Rattle.total_laws.proofs.Adding.{Gives, gives-then}
 use Rattle.total_laws.proofs.Quiet.{AreLike, IsQuiet, IsQuietBuiltin, AreQuiet}
 use Rattle.total_laws.proofs.StmtAdds.{scene_of, walks_add}
-use Rattle.walk_meaning.specs.Does.{Scene}
+use Rattle.walk_meaning.specs.Does.{BodyScene}
 
 -- ---- no map of the script holds values
 
@@ -60,7 +60,7 @@ none_shared (Some decl) g keys e =
 
 -- ---- parts
 
-module _ (one two : Scene) (scope : Scope) (gathers : (number : ℕ) → Gathers (decl_of number scope.maps)) where
+module _ (one two : BodyScene) (scope : Scope) (gathers : (number : ℕ) → Gathers (decl_of number scope.maps)) where
   -- both see one `cpu`, or the part is not `cpu`
   abbrev pub SeesCpu : Part → Type 0
   SeesCpu p = (one.context.cpu ≡ two.context.cpu) ⊎ UsesNoCpu p

@@ -28,18 +28,18 @@ use Rattle.walk_meaning.specs.declared.flow.Flow.{Flow}
 use Rattle.walk_meaning.specs.declared.flow.Flow.TheVariants.{Next, Break, Continue, Stop}
 use Rattle.walk_meaning.specs.declared.flow.Frame.{Frame}
 use Rattle.map_ops.specs.declared.sweep.Sweep.TheVariants.{Read}
-use Rattle.walk_meaning.specs.Does.{Scene, Does, given, seen, changed, lifted, bind, told, in_order}
+use Rattle.walk_meaning.specs.Does.{BodyScene, Does, given, changed, lifted, bind, in_order}
 use Rattle.walk_meaning.specs.Exprs.{value_does, values_do, number_does}
-use Rattle.walk_meaning.specs.Maps.{kind_of, swept, add}
+use Rattle.walk_meaning.specs.Maps.{kind_in_body, add}
 use Rattle.map_ops.specs.Holders.{holder, holders, sweep_op}
-use Rattle.map_ops.specs.Asking.{asked_from}
-use Rattle.walk_meaning.specs.Stmts.{plain, stmt_layer, block_layer, stmt_does, block_does, number_or_one, kind_seen, print, if_next, in_turn, first_arm, arm_does, cut, entered, turn, turns, tests, while_true, again}
-use Rattle.walk_meaning.specs.Walk.{walk, fresh, guarded, ending_of, tree_does}
+use Rattle.map_ops.specs.Asking.{told, asked_from, swept, printed}
+use Rattle.walk_meaning.specs.Stmts.{plain, stmt_by_parts, block_by_parts, stmt_does, block_does, number_or_one, print, if_next, in_sequence, first_arm, arm_does, cut, entered, turn, turns, tests, while_true, again}
+use Rattle.walk_meaning.specs.Walk.{walk, first_frame, guarded, ending_of, tree_does}
 use Rattle.total_laws.proofs.Adding.{is_plain, Gives, gives-then}
-use Rattle.total_laws.proofs.ExprAdds.{Sure, given-sure, seen-sure, changed-sure, bind-sure, told-sure, add-sure, either-sure, then-given, front, back, num_sure, any_sure, values-sure}
+use Rattle.total_laws.proofs.ExprAdds.{Sure, given-sure, looked_at-sure, changed-sure, bind-sure, told-sure, add-sure, if_holds-sure, then-given, front, back, num_sure, any_sure, values-sure}
 use Rattle.total_laws.proofs.Quiet.{AreLike, AreQuiet}
 
-module _ (m : MapId) (one two : Scene) (like : AreLike one two) where
+module _ (m : MapId) (one two : BodyScene) (like : AreLike one two) where
   abbrev Gets : {A : Type 0} → Does A → Type 0
   Gets d = Sure m one two like d
 
@@ -54,16 +54,15 @@ module _ (m : MapId) (one two : Scene) (like : AreLike one two) where
 
   -- ---- `print`: the replies reach only what is emitted
 
-  -- the steps of a scene's actor add nothing, and the frame stays
-  abbrev JustReads : ℕ → {A : Type 0} → Frame → Interaction (A × Frame) → Type 0
-  JustReads actor frame t = Gives m actor [] (λ p. p.1 ≡ frame) t
+  -- the steps of an actor add nothing
+  abbrev JustReads : ℕ → {A : Type 0} → Interaction A → Type 0
+  JustReads actor t = Gives m actor [] (λ a. Unit {0}) t
 
-  asked_from-reads : (scene : Scene) (frame : Frame) (object : ℕ → ObjectId) (op : Op) (replies : List Reply) (first n : ℕ)
-      → ((i : ℕ) → is_plain scene.actor (object i) op) → added m op ≡ [] → JustReads scene.actor frame (lifted (asked_from object op replies first n) scene frame)
-  unfolding lifted
-  asked_from-reads scene frame object op replies first zero fine none = (refl, refl)
-  asked_from-reads scene frame object op replies first (suc n) fine none =
-      (fine first, [], sym (ap (λ (l : List Entry). l ++ []) none), λ r. asked_from-reads scene frame object op (replies ++ r ∷ []) (first + 1) n fine none)
+  asked_from-reads : (actor : ℕ) (object : ℕ → ObjectId) (op : Op) (replies : List Reply) (first n : ℕ)
+      → ((i : ℕ) → is_plain actor (object i) op) → added m op ≡ [] → JustReads actor (asked_from object op replies first n)
+  asked_from-reads actor object op replies first zero fine none = (refl, tt)
+  asked_from-reads actor object op replies first (suc n) fine none =
+      (fine first, [], sym (ap (λ (l : List Entry). l ++ []) none), λ r. asked_from-reads actor object op (replies ++ r ∷ []) (first + 1) n fine none)
 
   read_plain : (actor : ℕ) (kind : MapKind) (number : MapId) (i : ℕ) → is_plain actor (holder kind number i) (sweep_op Read kind number)
   read_plain actor Ints number i = tt
@@ -75,46 +74,41 @@ module _ (m : MapId) (one two : Scene) (like : AreLike one two) where
   read_none Strs number = refl
   read_none (Aggs kind) number = refl
 
-  swept-reads : (scene : Scene) (frame : Frame) (kind : MapKind) (number : MapId) → JustReads scene.actor frame (swept Read kind number scene frame)
-  unfolding bind seen
-  swept-reads scene frame kind number =
-      asked_from-reads scene frame (holder kind number) (sweep_op Read kind number) [] 0 (holders kind scene.actors) (read_plain scene.actor kind number) (read_none kind number)
+  swept-reads : (actor : ℕ) (kind : MapKind) (number : MapId) (actors : ℕ) → JustReads actor (swept Read kind number actors)
+  swept-reads actor kind number actors =
+      asked_from-reads actor (holder kind number) (sweep_op Read kind number) [] 0 (holders kind actors) (read_plain actor kind number) (read_none kind number)
 
-  -- what is done with the rows
-  abbrev shows : MapKind → MapId → ℕ → ℤ → List Reply → Does Flow
-  shows kind number top div replies = plain (told Out (ops.Emit (items.Map number (merged kind replies) top div)))
+  printed-reads : (actor : ℕ) (kind : MapKind) (number : MapId) (top : ℕ) (div : ℤ) (actors : ℕ) → JustReads actor (printed kind number top div actors)
+  printed-reads actor kind number top div actors =
+      gives-then m actor [] [] (λ (rs : List Reply). Unit {0}) (λ (u : Unit {0}). Unit {0}) (swept Read kind number actors)
+      (λ replies. told Out (ops.Emit (items.Map number (merged kind replies) top div))) (swept-reads actor kind number actors) (λ replies h. (tt, [], refl, λ r. (refl, tt)))
 
-  shows-gives : (scene : Scene) (start : Frame) (kind : MapKind) (number : MapId) (top : ℕ) (div : ℤ) (w : List Reply × Frame) → w.1 ≡ start
-      → Gives m scene.actor [] (λ p. p ≡ (Next, start)) (shows kind number top div w.0 scene w.1)
-  unfolding bind lifted given
-  shows-gives scene start kind number top div w e = (tt, [], refl, λ r. (refl, ap (λ (f : Frame). (Next, f)) e))
-
-  swept-sure : (kind : MapKind) (number : MapId) (top : ℕ) (div : ℤ) → Gets (bind (swept Read kind number) (λ replies. shows kind number top div replies))
-  unfolding bind
-  swept-sure kind number top div frame = (
+  reads-sure : (ask : BodyScene → Interaction (Unit {0})) → JustReads one.actor (ask one) → JustReads two.actor (ask two) → Gets (lifted ask)
+  unfolding lifted
+  reads-sure ask p q frame = (
     [],
-    (Next, frame),
-    gives-then m one.actor [] [] (λ p. p.1 ≡ frame) (λ p. p ≡ (Next, frame)) (swept Read kind number one frame) (λ w. shows kind number top div w.0 one w.1)
-        (swept-reads one frame kind number) (λ w e. shows-gives one frame kind number top div w e),
-    gives-then m two.actor [] [] (λ p. p.1 ≡ frame) (λ p. p ≡ (Next, frame)) (swept Read kind number two frame) (λ w. shows kind number top div w.0 two w.1)
-        (swept-reads two frame kind number) (λ w e. shows-gives two frame kind number top div w e),
+    (tt, frame),
+    gives-then m one.actor [] [] (λ (u : Unit {0}). Unit {0}) (λ (z : Unit {0} × Frame). z ≡ (tt, frame)) (ask one) (λ u. Ended (u, frame)) p (λ u h. (refl, refl)),
+    gives-then m two.actor [] [] (λ (u : Unit {0}). Unit {0}) (λ (z : Unit {0} × Frame). z ≡ (tt, frame)) (ask two) (λ u. Ended (u, frame)) q (λ u h. (refl, refl)),
   )
 
   print-sure : (number : MapId) (top : ℕ) (div : ℤ) → Gets (print number top div)
   print-sure number top div =
-      bind-sure m one two like (kind_seen number) _ (seen-sure m one two like _ (λ frame. ap (kind_of number) like.maps)) (λ kind. swept-sure kind number top div)
+      plain-sure (lifted (λ scene. printed (kind_in_body number scene.maps) number top div scene.actors))
+      (reads-sure (λ scene. printed (kind_in_body number scene.maps) number top div scene.actors)
+      (printed-reads one.actor (kind_in_body number one.maps) number top div one.actors) (printed-reads two.actor (kind_in_body number two.maps) number top div two.actors))
 
   -- ---- loops
 
   cut-sure : (line : ℕ) → Gets (cut line)
-  cut-sure line = then-given m one two like (told Out _) (λ u. _) (told-sure m one two like Out (ops.Emit (items.Cut line)) tt tt)
+  cut-sure line = then-given m one two like (lifted (λ scene. told Out (ops.Emit (items.Cut line)))) (λ u. _) (told-sure m one two like Out (ops.Emit (items.Cut line)) tt tt)
 
   entered-sure : (line : ℕ) (block : Does Flow) (n : ℕ) → Gets block → Gets (entered line block n)
   entered-sure line block zero p = cut-sure line
   entered-sure line block (suc left) p = bind-sure m one two like (changed _) (λ u. block) (changed-sure m one two like _) (λ u. p)
 
   turn-sure : (line : ℕ) (block : Does Flow) → Gets block → Gets (turn line block)
-  turn-sure line block p = bind-sure m one two like _ (entered line block) (seen-sure m one two like _ (λ frame. refl)) (λ n. entered-sure line block n p)
+  turn-sure line block p = bind-sure m one two like _ (entered line block) (looked_at-sure m one two like _ (λ frame. refl)) (λ n. entered-sure line block n p)
 
   again-sure : (flow : Flow) (rest : Does Flow) → Gets rest → Gets (again flow rest)
   again-sure Next rest p = p
@@ -130,14 +124,14 @@ module _ (m : MapId) (one two : Scene) (like : AreLike one two) where
   tests-sure : (n line : ℕ) (test : Does ℤ) (block : Does Flow) → Gets test → Gets block → Gets (tests n line test block)
   tests-sure zero line test block t p = flow-sure Next
   tests-sure (suc n) line test block t p =
-      either-sure m one two like test (bind (turn line block) (λ flow. again flow (tests n line test block))) (given Next) t
+      if_holds-sure m one two like test (bind (turn line block) (λ flow. again flow (tests n line test block))) (given Next) t
       (bind-sure m one two like (turn line block) (λ flow. again flow (tests n line test block)) (turn-sure line block p)
       (λ flow. again-sure flow (tests n line test block) (tests-sure n line test block t p)))
       (flow-sure Next)
 
   while-sure : (line : ℕ) (test : Does ℤ) (block : Does Flow) → Gets test → Gets block → Gets (while_true line test block)
   while-sure line test block t p =
-      bind-sure m one two like _ (λ left. tests (suc left) line test block) (seen-sure m one two like _ (λ frame. refl)) (λ left. tests-sure (suc left) line test block t p)
+      bind-sure m one two like _ (λ left. tests (suc left) line test block) (looked_at-sure m one two like _ (λ frame. refl)) (λ left. tests-sure (suc left) line test block t p)
 
   if_next-sure : (flow : Flow) (rest : Does Flow) → Gets rest → Gets (if_next flow rest)
   if_next-sure Next rest p = p
@@ -162,10 +156,10 @@ module _ (m : MapId) (one two : Scene) (like : AreLike one two) where
   abbrev parts_of_all : Bool → List ManyStmt → List Part
   parts_of_all inside ss = joined (map (λ (k : Bool → List Part). k inside) (map stmt_parts (map (λ (k : ManyStmt). k.0) ss)))
 
-  stmts-sure : (ss : List ManyStmt) (inside : Bool) → Calm (parts_of_all inside ss) → Gets (in_turn (map stmt_does (map (λ (k : ManyStmt). k.0) ss)))
+  stmts-sure : (ss : List ManyStmt) (inside : Bool) → Calm (parts_of_all inside ss) → Gets (in_sequence (map stmt_does (map (λ (k : ManyStmt). k.0) ss)))
   stmts-sure [] inside q = flow-sure Next
   stmts-sure (s ∷ ss) inside q =
-      let rest = in_turn (map stmt_does (map (λ (k : ManyStmt). k.0) ss)) in
+      let rest = in_sequence (map stmt_does (map (λ (k : ManyStmt). k.0) ss)) in
       let first = front m one two like (stmt_parts s.0 inside) (parts_of_all inside ss) q in
       let others = back m one two like (stmt_parts s.0 inside) (parts_of_all inside ss) q in
       bind-sure m one two like (stmt_does s.0) (λ flow. if_next flow rest) (s.1 inside first) (λ flow. if_next-sure flow rest (stmts-sure ss inside others))
@@ -183,7 +177,7 @@ module _ (m : MapId) (one two : Scene) (like : AreLike one two) where
   arms-sure (arm ∷ arms) inside otherwise q p =
       let here = front m one two like (arm_parts (arm.0, block_parts arm.1.0 inside)) (arms_made inside arms) q in
       let others = back m one two like (arm_parts (arm.0, block_parts arm.1.0 inside)) (arms_made inside arms) q in
-      either-sure m one two like (number_does arm.0) (block_does arm.1.0) _
+      if_holds-sure m one two like (number_does arm.0) (block_does arm.1.0) _
       (num_sure m one two like arm.0 (front m one two like (num_parts arm.0) (block_parts arm.1.0 inside) here.1))
       (arm.1.1 inside (back m one two like (num_parts arm.0) (block_parts arm.1.0 inside) here.1))
       (arms-sure arms inside otherwise others p)
@@ -195,18 +189,18 @@ module _ (m : MapId) (one two : Scene) (like : AreLike one two) where
   number-sure None q = given-sure m one two like _
   number-sure (Some e) q = num_sure m one two like e q
 
-  emit-sure : (op : Op) → is_plain one.actor Out op → is_plain two.actor Out op → Gets (plain (told Out op))
-  emit-sure op p q = plain-sure (told Out op) (told-sure m one two like Out op p q)
+  emit-sure : (op : Op) → is_plain one.actor Out op → is_plain two.actor Out op → Gets (plain (lifted (λ scene. told Out op)))
+  emit-sure op p q = plain-sure (lifted (λ scene. told Out op)) (told-sure m one two like Out op p q)
 
   stmt_case : (h : TypedStmt-F ManyStmt ManyBlock) (inside : Bool)
       → Calm (tree.stmt_layer (map-TypedStmt TypedStmt TypedBlock (Bool → List Part) (Bool → List Part) stmt_parts block_parts (stmt_of h)) inside)
-      → Gets (stmt_layer (map-TypedStmt TypedStmt TypedBlock (Does Flow) (Does Flow) stmt_does block_does (stmt_of h)))
+      → Gets (stmt_by_parts (map-TypedStmt TypedStmt TypedBlock (Does Flow) (Does Flow) stmt_does block_does (stmt_of h)))
   stmt_case (TypedStmt-F.SetVar var value) inside q =
       bind-sure m one two like (value_does value) _ (any_sure m one two like value q.1.1) (λ x. plain-sure (changed _) (changed-sure m one two like _))
   stmt_case (TypedStmt-F.SetMap n keys value) inside q = absurd q.1.0
   stmt_case (TypedStmt-F.UpdateVar var op e) inside q =
       bind-sure m one two like (number_does e) _ (num_sure m one two like e q.1.1)
-      (λ b. bind-sure m one two like _ _ (seen-sure m one two like _ (λ frame. refl)) (λ a. plain-sure (changed _) (changed-sure m one two like _)))
+      (λ b. bind-sure m one two like _ _ (looked_at-sure m one two like _ (λ frame. refl)) (λ a. plain-sure (changed _) (changed-sure m one two like _)))
   stmt_case (TypedStmt-F.UpdateMap n keys op e) inside q = absurd q.1.0
   stmt_case (TypedStmt-F.Gather n keys kind number) inside q =
       bind-sure m one two like (in_order (values_do keys)) _ (values-sure m one two like keys [] (front m one two like (parts_in (map made_of keys)) (number_parts number) q.1))
@@ -235,7 +229,7 @@ module _ (m : MapId) (one two : Scene) (like : AreLike one two) where
 
   stmt_step : (x : TypedStmt-F TypedStmt TypedBlock) (h : TypedStmt-F ManyStmt ManyBlock) → stmt_of h ≡ x → StmtSure (roll-TypedStmt x)
   stmt_step x h e = subst (λ (y : TypedStmt-F TypedStmt TypedBlock). StmtSure (roll-TypedStmt y)) e (λ inside q.
-      subst (λ (d : Does Flow). Gets d) (sym (fold-roll-TypedStmt (Does Flow) (Does Flow) stmt_layer block_layer (stmt_of h)))
+      subst (λ (d : Does Flow). Gets d) (sym (fold-roll-TypedStmt (Does Flow) (Does Flow) stmt_by_parts block_by_parts (stmt_of h)))
       (stmt_case h inside (subst (λ (k : Bool → List Part). Calm (k inside)) (fold-roll-TypedStmt (Bool → List Part) (Bool → List Part) tree.stmt_layer tree.block_layer (stmt_of h)) q)))
 
   abbrev block_of : TypedBlock-F ManyStmt ManyBlock → TypedBlock-F TypedStmt TypedBlock
@@ -243,7 +237,7 @@ module _ (m : MapId) (one two : Scene) (like : AreLike one two) where
 
   block_step : (x : TypedBlock-F TypedStmt TypedBlock) (h : TypedBlock-F ManyStmt ManyBlock) → block_of h ≡ x → BlockSure (roll-TypedBlock x)
   block_step x h e = subst (λ (y : TypedBlock-F TypedStmt TypedBlock). BlockSure (roll-TypedBlock y)) e (λ inside q.
-      subst (λ (d : Does Flow). Gets d) (sym (fold-roll-TypedBlock (Does Flow) (Does Flow) stmt_layer block_layer (block_of h)))
+      subst (λ (d : Does Flow). Gets d) (sym (fold-roll-TypedBlock (Does Flow) (Does Flow) stmt_by_parts block_by_parts (block_of h)))
       (stmts-sure h.stmts inside (front m one two like (parts_of_all inside h.stmts) (Ending ∷ [])
       (subst (λ (k : Bool → List Part). Calm (k inside)) (fold-roll-TypedBlock (Bool → List Part) (Bool → List Part) tree.stmt_layer tree.block_layer (block_of h)) q))))
 
@@ -253,7 +247,7 @@ module _ (m : MapId) (one two : Scene) (like : AreLike one two) where
   guarded-sure : (predicate : Option NumExpr) (block : TypedBlock) → Calm (predicate_parts predicate) → Calm (block_parts block false) → Gets (guarded predicate (block_does block))
   guarded-sure None block q own = block_sure block false own
   guarded-sure (Some e) block q own =
-      either-sure m one two like (number_does e) (block_does block) (given Next) (num_sure m one two like e q.1) (block_sure block false own) (flow-sure Next)
+      if_holds-sure m one two like (number_does e) (block_does block) (given Next) (num_sure m one two like e q.1) (block_sure block false own) (flow-sure Next)
 
 -- what a walk adds, in two contexts that are alike but for `cpu`, and by two actors
 pub record Walks (m : MapId) (body : TypedBody) (one two : Context) (payload : List ℕ) (a b actors : ℕ) : Type 0 where
@@ -261,7 +255,7 @@ pub record Walks (m : MapId) (body : TypedBody) (one two : Context) (payload : L
   pub first : Gives m a entries (λ ending. Unit {0}) (walk body one payload a actors)
   pub second : Gives m b entries (λ ending. Unit {0}) (walk body two payload b actors)
 
-abbrev pub scene_of : TypedBody → Context → List ℕ → ℕ → ℕ → Scene
+abbrev pub scene_of : TypedBody → Context → List ℕ → ℕ → ℕ → BodyScene
 scene_of body context payload actor actors = record { context = context; payload = payload; actor = actor; actors = actors; maps = body.maps }
 
 pub walks_add : (m : MapId) (body : TypedBody) (one two : Context) (payload : List ℕ) (a b actors : ℕ)
@@ -276,8 +270,8 @@ walks_add m body one two payload a b actors like quiet =
     (guarded-sure m first second like body.tree.predicate body.tree.block
     (front m first second like (predicate_parts body.tree.predicate) (block_parts body.tree.block false) quiet)
     (back m first second like (predicate_parts body.tree.predicate) (block_parts body.tree.block false) quiet)) in
-    let x = sure (fresh body.tree.variables) in record {
+    let x = sure (first_frame body.tree.variables) in record {
       entries = x.0 ++ [];
-      first = gives-then m a x.0 [] (λ p. p ≡ x.1) (λ ending. Unit {0}) (tree_does body.tree first (fresh body.tree.variables)) (λ p. Ended p.0) x.2 (λ p e. (refl, tt));
-      second = gives-then m b x.0 [] (λ p. p ≡ x.1) (λ ending. Unit {0}) (tree_does body.tree second (fresh body.tree.variables)) (λ p. Ended p.0) x.3 (λ p e. (refl, tt));
+      first = gives-then m a x.0 [] (λ p. p ≡ x.1) (λ ending. Unit {0}) (tree_does body.tree first (first_frame body.tree.variables)) (λ p. Ended p.0) x.2 (λ p e. (refl, tt));
+      second = gives-then m b x.0 [] (λ p. p ≡ x.1) (λ ending. Unit {0}) (tree_does body.tree second (first_frame body.tree.variables)) (λ p. Ended p.0) x.3 (λ p e. (refl, tt));
     }

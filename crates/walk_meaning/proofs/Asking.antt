@@ -10,7 +10,7 @@ use Rattle.bt_core.specs.declared.map.Shape.{Shape}
 use Rattle.bt_core.specs.declared.map.Shape.TheVariants as shapes
 use Rattle.bt_core.specs.declared.step.ObjectId.{ObjectId}
 use Rattle.bt_core.specs.declared.step.Op.{Op}
-use Rattle.bt_core.specs.declared.step.Op.TheVariants.{Get}
+use Rattle.bt_core.specs.declared.step.Op.TheVariants.{Get, Set}
 use Rattle.bt_core.specs.declared.value.Value.{Value}
 use Rattle.bt_core.specs.declared.value.Value.TheVariants.{Int, Str}
 use Rattle.bt_core.specs.Interaction.{Interaction, Ended, Asks, and_then}
@@ -27,8 +27,9 @@ use Rattle.typed_tree.specs.Scope.{fits, all_fit, is_declared, decl_of, kind_of_
 use Rattle.walk_meaning.specs.declared.flow.Frame.{Frame}
 use Rattle.walk_meaning.specs.declared.view.View.{View}
 use Rattle.walk_meaning.specs.Admits.{AdmitsOf, EmitsOnly}
-use Rattle.walk_meaning.specs.Does.{Scene, Does, given, seen, changed, lifted, asked, bind, choose, told, gathered, in_order, either}
-use Rattle.walk_meaning.specs.Exprs.{read, any_layer, num_layer, str_layer, value_does, number_does, text_does, step_at}
+use Rattle.walk_meaning.specs.Does.{BodyScene, Does, given, looked_at, changed, lifted, bind, choose, gathered, in_order, if_holds}
+use Rattle.walk_meaning.specs.Exprs.{read, value_by_parts, number_by_parts, text_by_parts, value_does, number_does, text_does, step_at}
+use Rattle.map_ops.specs.Asking.{told, got}
 use Rattle.map_ops.specs.Holders.{part}
 use Rattle.walk_meaning.specs.Maps.{get, set}
 use Rattle.walk_meaning.specs.Served.{IsServed, Fits, scene_in, scope_in}
@@ -43,7 +44,7 @@ pub Admits-bind : {A B : Type 0} (calls : ObjectId → Op → Type 0) (maps : Li
 Admits-bind calls maps holds after (Ended a) k p q = q a p
 Admits-bind calls maps holds after (Asks call next) k p q = (p.0, λ reply kind. Admits-bind calls maps holds after (next reply) k (p.1 reply kind) q)
 
-module _ (setting : Setting) (fine : Item → Type 0) (scene : Scene) where
+module _ (setting : Setting) (fine : Item → Type 0) (scene : BodyScene) where
   abbrev pub Good : {A : Type 0} → (A → Type 0) → Does A → Type 0
   Good {A} holds d = (frame : Frame) → AdmitsOf {A = A × Frame} (IsFineCall setting fine) setting.maps (λ p. holds p.0) (d scene frame)
 
@@ -54,9 +55,9 @@ module _ (setting : Setting) (fine : Item → Type 0) (scene : Scene) where
   unfolding given
   given-good holds a p frame = p
 
-  pub seen-good : {A : Type 0} (look : Scene → Frame → A) → Good Any (seen look)
-  unfolding seen
-  seen-good look frame = tt
+  pub looked_at-good : {A : Type 0} (look : BodyScene → Frame → A) → Good Any (looked_at look)
+  unfolding looked_at
+  looked_at-good look frame = tt
 
   pub changed-good : (change : Frame → Frame) → Good Any (changed change)
   unfolding changed
@@ -66,23 +67,25 @@ module _ (setting : Setting) (fine : Item → Type 0) (scene : Scene) where
   unfolding bind
   bind-good holds after d k p q frame = Admits-bind (IsFineCall setting fine) setting.maps (λ w. holds w.0) (λ w. after w.0) (d scene frame) (λ w. k w.0 scene w.1) (p frame) (λ w h. q w.0 h w.1)
 
-  pub asked-good : (object : ObjectId) (op : Op) → CanStep setting object op → EmitsOnly fine op → Good (λ reply. IsReplyOf setting.maps object op reply) (asked object op)
+  -- what objects are asked, where each call is fine
+  pub lifted-good : {A : Type 0} (holds : A → Type 0) (ask : BodyScene → Interaction A) → AdmitsOf (IsFineCall setting fine) setting.maps holds (ask scene) → Good holds (lifted ask)
   unfolding lifted
-  asked-good object op p f frame = ((p, f), λ reply kind. kind)
+  lifted-good {A} holds ask p frame =
+      Admits-bind (IsFineCall setting fine) setting.maps holds (λ (w : A × Frame). holds w.0) (ask scene) (λ value. Ended (value, frame)) p (λ value h. h)
 
-  pub told-good : (object : ObjectId) (op : Op) → CanStep setting object op → EmitsOnly fine op → Good Any (told object op)
-  told-good object op p f = bind-good (λ reply. IsReplyOf setting.maps object op reply) Any (asked object op) (λ reply. given tt) (asked-good object op p f) (λ reply kind. given-good Any tt tt)
+  pub told-good : (object : ObjectId) (op : Op) → CanStep setting object op → EmitsOnly fine op → Good Any (lifted (λ s. told object op))
+  told-good object op p f = lifted-good Any (λ s. told object op) ((p, f), λ reply kind. tt)
 
   pub choose-good : {A : Type 0} (holds : A → Type 0) (b : Bool) (one other : Does A) → Good holds one → Good holds other → Good holds (choose b one other)
   unfolding choose
   choose-good holds true one other p q = p
   choose-good holds false one other p q = q
 
-  pub either-good : {A : Type 0} (holds : A → Type 0) (test : Does ℤ) (one other : Does A) → Good Any test → Good holds one → Good holds other → Good holds (either test one other)
-  either-good holds test one other t p q = bind-good Any holds test (λ n. choose _ one other) t (λ n h. choose-good holds _ one other p q)
+  pub if_holds-good : {A : Type 0} (holds : A → Type 0) (test : Does ℤ) (one other : Does A) → Good Any test → Good holds one → Good holds other → Good holds (if_holds test one other)
+  if_holds-good holds test one other t p q = bind-good Any holds test (λ n. choose _ one other) t (λ n h. choose-good holds _ one other p q)
 
   pub get-good : (m : MapId) (key : List Value) → CanStep setting (part m key) (Get key) → Good Any (get m key)
-  get-good m key p = bind-good (λ reply. IsReplyOf setting.maps (part m key) (Get key) reply) Any (asked (part m key) (Get key)) _ (asked-good (part m key) (Get key) p tt) (λ reply kind. given-good Any _ tt)
+  get-good m key p = lifted-good Any (λ s. got m key) ((p, tt), λ reply kind. tt)
 
 module _ (v : View) (setting : Setting) (served : IsServed v setting) (fine : Item → Type 0) where
   abbrev Does_good : {A : Type 0} → (A → Type 0) → Does A → Type 0
@@ -148,20 +151,20 @@ module _ (v : View) (setting : Setting) (served : IsServed v setting) (fine : It
   step-good m ks plus prefix d key shaped =
       let found = valued v setting m _ shapes.Int served d in
       bind-good setting fine (scene_in v) Free Free (get m key) _ (get-good setting fine (scene_in v) m key (get_can setting m _ shapes.Int key found shaped))
-      (λ old h. then-given (set m key _) (λ u. _) (told-good setting fine (scene_in v) _ _ (set_can setting m _ shapes.Int key (Int _) found shaped tt) tt))
+      (λ old h. then-given (set m key _) (λ u. _) (told-good setting fine (scene_in v) (part m key) (Set key (Int _)) (set_can setting m _ shapes.Int key (Int _) found shaped tt) tt))
 
   abbrev num_of : NumExpr-F ManyAny ManyNum ManyStr → NumExpr-F AnyExpr NumExpr StrExpr
   num_of h = map-NumExpr ManyAny ManyNum ManyStr AnyExpr NumExpr StrExpr (λ k. k.0) (λ k. k.0) (λ k. k.0) h
 
   num_case : (h : NumExpr-F ManyAny ManyNum ManyStr) → Fits v (tree.num_layer (map-NumExpr AnyExpr NumExpr StrExpr Made (List Part) (List Part) made_of num_parts str_parts (num_of h))) →
-      Does_good Free (num_layer (map-NumExpr AnyExpr NumExpr StrExpr (Does Value) (Does ℤ) (Does (List ℕ)) value_does number_does text_does (num_of h)))
+      Does_good Free (number_by_parts (map-NumExpr AnyExpr NumExpr StrExpr (Does Value) (Does ℤ) (Does (List ℕ)) value_does number_does text_does (num_of h)))
   num_case (NumExpr-F.Number n) fit = given-good setting fine (scene_in v) Free n tt
-  num_case (NumExpr-F.Builtin b) fit = seen-good setting fine (scene_in v) _
-  num_case (NumExpr-F.NumExpr::Field f) fit = seen-good setting fine (scene_in v) _
-  num_case (NumExpr-F.NumExpr::Var n) fit = seen-good setting fine (scene_in v) _
+  num_case (NumExpr-F.Builtin b) fit = looked_at-good setting fine (scene_in v) _
+  num_case (NumExpr-F.NumExpr::Field f) fit = looked_at-good setting fine (scene_in v) _
+  num_case (NumExpr-F.NumExpr::Var n) fit = looked_at-good setting fine (scene_in v) _
   num_case (NumExpr-F.NumExpr::Map m ks) fit = let p = map_fits m ks shapes.Int fit in then-given (read m (map value_does (firsts ks))) _ (read-good m ks shapes.Int p.0 p.1)
   num_case (NumExpr-F.StepVar n plus prefix) fit =
-      bind-good setting fine (scene_in v) Free Free _ _ (seen-good setting fine (scene_in v) _) (λ old h. then-given (changed _) _ (changed-good setting fine (scene_in v) _))
+      bind-good setting fine (scene_in v) Free Free _ _ (looked_at-good setting fine (scene_in v) _) (λ old h. then-given (changed _) _ (changed-good setting fine (scene_in v) _))
   num_case (NumExpr-F.StepMap m ks plus prefix) fit =
       let p = map_fits m ks shapes.Int fit in
       bind-good setting fine (scene_in v) (HasShape (key_shapes (map made_of (firsts ks)))) Free (in_order (map value_does (firsts ks))) (λ key. step_at m key plus prefix) (values-good ks p.1) (λ key shaped. step-good m ks plus prefix p.0 key shaped)
@@ -169,46 +172,46 @@ module _ (v : View) (setting : Setting) (served : IsServed v setting) (fine : It
   num_case (NumExpr-F.Binary op l r) fit = let p = split (num_parts l.0) (num_parts r.0) fit in two-given (number_does l.0) (number_does r.0) _ (l.1 p.0) (r.1 p.1)
   num_case (NumExpr-F.Compare equal l r) fit = let p = split (str_parts l.0) (str_parts r.0) fit in two-given (text_does l.0) (text_does r.0) _ (l.1 p.0) (r.1 p.1)
   num_case (NumExpr-F.AndThen l r) fit = let p = split (num_parts l.0) (num_parts r.0) fit in
-      either-good setting fine (scene_in v) Free (number_does l.0) _ _ (l.1 p.0) (then-given (number_does r.0) _ (r.1 p.1)) (given-good setting fine (scene_in v) Free _ tt)
+      if_holds-good setting fine (scene_in v) Free (number_does l.0) _ _ (l.1 p.0) (then-given (number_does r.0) _ (r.1 p.1)) (given-good setting fine (scene_in v) Free _ tt)
   num_case (NumExpr-F.OrElse l r) fit = let p = split (num_parts l.0) (num_parts r.0) fit in
-      either-good setting fine (scene_in v) Free (number_does l.0) _ _ (l.1 p.0) (given-good setting fine (scene_in v) Free _ tt) (then-given (number_does r.0) _ (r.1 p.1))
+      if_holds-good setting fine (scene_in v) Free (number_does l.0) _ _ (l.1 p.0) (given-good setting fine (scene_in v) Free _ tt) (then-given (number_does r.0) _ (r.1 p.1))
   num_case (NumExpr-F.NumExpr::Choose t y o) fit =
       let p = split (num_parts t.0) (num_parts y.0 ++ num_parts o.0) fit in
       let q = split (num_parts y.0) (num_parts o.0) p.1 in
-      either-good setting fine (scene_in v) Free (number_does t.0) (number_does y.0) (number_does o.0) (t.1 p.0) (y.1 q.0) (o.1 q.1)
+      if_holds-good setting fine (scene_in v) Free (number_does t.0) (number_does y.0) (number_does o.0) (t.1 p.0) (y.1 q.0) (o.1 q.1)
 
   abbrev str_of : StrExpr-F ManyAny ManyNum ManyStr → StrExpr-F AnyExpr NumExpr StrExpr
   str_of h = map-StrExpr ManyAny ManyNum ManyStr AnyExpr NumExpr StrExpr (λ k. k.0) (λ k. k.0) (λ k. k.0) h
 
   str_case : (h : StrExpr-F ManyAny ManyNum ManyStr) → Fits v (tree.str_layer (map-StrExpr AnyExpr NumExpr StrExpr Made (List Part) (List Part) made_of num_parts str_parts (str_of h))) →
-      Does_good Free (str_layer (map-StrExpr AnyExpr NumExpr StrExpr (Does Value) (Does ℤ) (Does (List ℕ)) value_does number_does text_does (str_of h)))
+      Does_good Free (text_by_parts (map-StrExpr AnyExpr NumExpr StrExpr (Does Value) (Does ℤ) (Does (List ℕ)) value_does number_does text_does (str_of h)))
   str_case (StrExpr-F.Text s) fit = given-good setting fine (scene_in v) Free s tt
-  str_case StrExpr-F.Comm fit = seen-good setting fine (scene_in v) _
-  str_case (StrExpr-F.StrExpr::Field f) fit = seen-good setting fine (scene_in v) _
-  str_case (StrExpr-F.StrExpr::Var n) fit = seen-good setting fine (scene_in v) _
+  str_case StrExpr-F.Comm fit = looked_at-good setting fine (scene_in v) _
+  str_case (StrExpr-F.StrExpr::Field f) fit = looked_at-good setting fine (scene_in v) _
+  str_case (StrExpr-F.StrExpr::Var n) fit = looked_at-good setting fine (scene_in v) _
   str_case (StrExpr-F.StrExpr::Map m ks) fit = let p = map_fits m ks shapes.Str fit in then-given (read m (map value_does (firsts ks))) _ (read-good m ks shapes.Str p.0 p.1)
   str_case (StrExpr-F.StrExpr::Choose t y o) fit =
       let p = split (num_parts t.0) (str_parts y.0 ++ str_parts o.0) fit in
       let q = split (str_parts y.0) (str_parts o.0) p.1 in
-      either-good setting fine (scene_in v) Free (number_does t.0) (text_does y.0) (text_does o.0) (t.1 p.0) (y.1 q.0) (o.1 q.1)
+      if_holds-good setting fine (scene_in v) Free (number_does t.0) (text_does y.0) (text_does o.0) (t.1 p.0) (y.1 q.0) (o.1 q.1)
 
   abbrev any_of : AnyExpr-F ManyAny ManyNum ManyStr → AnyExpr-F AnyExpr NumExpr StrExpr
   any_of h = map-AnyExpr ManyAny ManyNum ManyStr AnyExpr NumExpr StrExpr (λ k. k.0) (λ k. k.0) (λ k. k.0) h
 
   any_case : (h : AnyExpr-F ManyAny ManyNum ManyStr) → Fits v (tree.any_layer (map-AnyExpr AnyExpr NumExpr StrExpr Made (List Part) (List Part) made_of num_parts str_parts (any_of h))).parts →
       Does_good (IsOfShape (tree.any_layer (map-AnyExpr AnyExpr NumExpr StrExpr Made (List Part) (List Part) made_of num_parts str_parts (any_of h))).shape)
-      (any_layer (map-AnyExpr AnyExpr NumExpr StrExpr (Does Value) (Does ℤ) (Does (List ℕ)) value_does number_does text_does (any_of h)))
+      (value_by_parts (map-AnyExpr AnyExpr NumExpr StrExpr (Does Value) (Does ℤ) (Does (List ℕ)) value_does number_does text_does (any_of h)))
   any_case (AnyExpr-F.Num d) fit = bind-good setting fine (scene_in v) Free (IsOfShape shapes.Int) (number_does d.0) (λ n. given (Int n)) (d.1 fit) (λ n h. given-good setting fine (scene_in v) (IsOfShape shapes.Int) (Int n) tt)
   any_case (AnyExpr-F.Str d) fit = bind-good setting fine (scene_in v) Free (IsOfShape shapes.Str) (text_does d.0) (λ s. given (Str s)) (d.1 fit) (λ s h. given-good setting fine (scene_in v) (IsOfShape shapes.Str) (Str s) tt)
 
   num_step : (x : NumExpr-F AnyExpr NumExpr StrExpr) (h : NumExpr-F ManyAny ManyNum ManyStr) → num_of h ≡ x → NumGood (roll-NumExpr x)
   num_step x h e = subst (λ (y : NumExpr-F AnyExpr NumExpr StrExpr). NumGood (roll-NumExpr y)) e (λ fit.
-      subst (λ (d : Does ℤ). Does_good Free d) (sym (fold-roll-NumExpr (Does Value) (Does ℤ) (Does (List ℕ)) any_layer num_layer str_layer (num_of h)))
+      subst (λ (d : Does ℤ). Does_good Free d) (sym (fold-roll-NumExpr (Does Value) (Does ℤ) (Does (List ℕ)) value_by_parts number_by_parts text_by_parts (num_of h)))
       (num_case h (subst (λ (l : List Part). Fits v l) (fold-roll-NumExpr Made (List Part) (List Part) tree.any_layer tree.num_layer tree.str_layer (num_of h)) fit)))
 
   str_step : (x : StrExpr-F AnyExpr NumExpr StrExpr) (h : StrExpr-F ManyAny ManyNum ManyStr) → str_of h ≡ x → StrGood (roll-StrExpr x)
   str_step x h e = subst (λ (y : StrExpr-F AnyExpr NumExpr StrExpr). StrGood (roll-StrExpr y)) e (λ fit.
-      subst (λ (d : Does (List ℕ)). Does_good Free d) (sym (fold-roll-StrExpr (Does Value) (Does ℤ) (Does (List ℕ)) any_layer num_layer str_layer (str_of h)))
+      subst (λ (d : Does (List ℕ)). Does_good Free d) (sym (fold-roll-StrExpr (Does Value) (Does ℤ) (Does (List ℕ)) value_by_parts number_by_parts text_by_parts (str_of h)))
       (str_case h (subst (λ (l : List Part). Fits v l) (fold-roll-StrExpr Made (List Part) (List Part) tree.any_layer tree.num_layer tree.str_layer (str_of h)) fit)))
 
   abbrev AnyWith : Made → Does Value → Type 0
@@ -216,8 +219,8 @@ module _ (v : View) (setting : Setting) (served : IsServed v setting) (fine : It
 
   any_step : (x : AnyExpr-F AnyExpr NumExpr StrExpr) (h : AnyExpr-F ManyAny ManyNum ManyStr) → any_of h ≡ x → AnyGood (roll-AnyExpr x)
   any_step x h e = subst (λ (y : AnyExpr-F AnyExpr NumExpr StrExpr). AnyGood (roll-AnyExpr y)) e
-      (subst (λ (d : Does Value). AnyWith (made_of (roll-AnyExpr (any_of h))) d) (sym (fold-roll-AnyExpr (Does Value) (Does ℤ) (Does (List ℕ)) any_layer num_layer str_layer (any_of h)))
-      (subst (λ (m : Made). AnyWith m (any_layer (map-AnyExpr AnyExpr NumExpr StrExpr (Does Value) (Does ℤ) (Does (List ℕ)) value_does number_does text_does (any_of h)))) (sym (fold-roll-AnyExpr Made (List Part) (List Part) tree.any_layer tree.num_layer tree.str_layer (any_of h))) (any_case h)))
+      (subst (λ (d : Does Value). AnyWith (made_of (roll-AnyExpr (any_of h))) d) (sym (fold-roll-AnyExpr (Does Value) (Does ℤ) (Does (List ℕ)) value_by_parts number_by_parts text_by_parts (any_of h)))
+      (subst (λ (m : Made). AnyWith m (value_by_parts (map-AnyExpr AnyExpr NumExpr StrExpr (Does Value) (Does ℤ) (Does (List ℕ)) value_does number_does text_does (any_of h)))) (sym (fold-roll-AnyExpr Made (List Part) (List Part) tree.any_layer tree.num_layer tree.str_layer (any_of h))) (any_case h)))
 
   pub num_good : (e : NumExpr) → NumGood e
   num_good e = ind-NumExpr AnyGood NumGood StrGood any_step num_step str_step e

@@ -42,16 +42,16 @@ use Rattle.map_ops.specs.declared.sweep.Sweep.{Sweep}
 use Rattle.map_ops.specs.declared.sweep.Sweep.TheVariants.{Read, Clear, Zero}
 use Rattle.walk_meaning.specs.declared.view.View.{View}
 use Rattle.walk_meaning.specs.Admits.{Admits, AdmitsOf, EmitsOnly}
-use Rattle.walk_meaning.specs.Does.{Scene, Does, given, seen, changed, lifted, asked, bind, told, in_order}
+use Rattle.walk_meaning.specs.Does.{BodyScene, Does, given, changed, lifted, bind, in_order}
 use Rattle.walk_meaning.specs.Exprs.{value_does, values_do, number_does}
 use Rattle.map_ops.specs.Holders.{part, holder, holders, sweep_op, CanSweep}
-use Rattle.walk_meaning.specs.Maps.{get, kind_of, swept}
-use Rattle.map_ops.specs.Asking.{asked_from, swept as all_swept}
+use Rattle.walk_meaning.specs.Maps.{get, set, delete, add, kind_in_body}
+use Rattle.map_ops.specs.Asking.{asked_from, told, swept, printed}
 use Rattle.map_ops.proofs.Sweeping.{sweep_step}
-use Rattle.walk_meaning.specs.Stmts.{stmt_layer, block_layer, stmt_does, block_does, number_or_one, kind_seen, print, clear, zero_all, if_next, in_turn, first_arm, arm_does, cut, entered, turn, turns, tests, while_true, again}
-use Rattle.walk_meaning.specs.Walk.{walk, fresh, guarded, ending_of, tree_does}
+use Rattle.walk_meaning.specs.Stmts.{stmt_by_parts, block_by_parts, stmt_does, block_does, number_or_one, print, clear, zero_all, if_next, in_sequence, first_arm, arm_does, cut, entered, turn, turns, tests, while_true, again}
+use Rattle.walk_meaning.specs.Walk.{walk, first_frame, guarded, ending_of, tree_does}
 use Rattle.walk_meaning.specs.Served.{CanWalk, IsServed, Fits, scene_in, scope_in}
-use Rattle.walk_meaning.proofs.Asking.{IsFineCall, Admits-bind, Good, given-good, seen-good, changed-good, bind-good, told-good, either-good, get-good, values-good, AnyGood, any_good, num_good, split, then-given}
+use Rattle.walk_meaning.proofs.Asking.{IsFineCall, Admits-bind, Good, given-good, looked_at-good, changed-good, bind-good, lifted-good, told-good, if_holds-good, get-good, values-good, AnyGood, any_good, num_good, split, then-given}
 use Rattle.walk_meaning.proofs.Declared.{shared, valued, gathering, get_can, set_can, delete_can, add_can, sweep_can}
 use Rattle.walk_meaning.proofs.TreeParts.{set_head, update_head, gather_head, delete_head}
 
@@ -67,8 +67,8 @@ view_of body context payload actor actors =
 pub record EmitsFine (v : View) (setting : Setting) (fine : Item → Type 0) : Type 0 where
   pub printf : (format : ℕ) (hs : List Shape) (values : List Value) → IsTrue (takes (format_of format v.body.now.formats) hs) → HasShape hs values → fine (items.Printf format values)
   pub rows : (m : MapId) (top : ℕ) (div : ℤ) (replies : List Reply) → IsTrue (is_there (decl_of m.0 v.body.now.maps)) → IsTrue (int_le (pos 1) div)
-      → AllByRecursion (IsReplyIn setting (holder (kind_of m v.body.now.maps) m) (sweep_op Read (kind_of m v.body.now.maps) m)) replies
-      → fine (items.Map m (merged (kind_of m v.body.now.maps) replies) top div)
+      → AllByRecursion (IsReplyIn setting (holder (kind_in_body m v.body.now.maps) m) (sweep_op Read (kind_in_body m v.body.now.maps) m)) replies
+      → fine (items.Map m (merged (kind_in_body m v.body.now.maps) replies) top div)
   pub cut : (line : ℕ) → fine (items.Cut line)
 
 module _ (v : View) (setting : Setting) (served : IsServed v setting) (fine : Item → Type 0) (emits : EmitsFine v setting fine) where
@@ -78,9 +78,8 @@ module _ (v : View) (setting : Setting) (served : IsServed v setting) (fine : It
   abbrev Free : {A : Type 0} → A → Type 0
   Free a = Unit {0}
 
-  seen-is : {A : Type 0} (holds : A → Type 0) (look : Scene → Frame → A) → ((frame : Frame) → holds (look (scene_in v) frame)) → Does_good holds (seen look)
-  unfolding seen
-  seen-is holds look p frame = p frame
+  abbrev Fine : {A : Type 0} → (A → Type 0) → Interaction A → Type 0
+  Fine holds t = AdmitsOf (IsFineCall setting fine) setting.maps holds t
 
   tail : (p : Part) (ps : List Part) → Fits v (p ∷ ps) → Fits v ps
   tail p ps h = (and_parts (fits (scope_in v) p) (all_fit (scope_in v) ps) h).1
@@ -109,12 +108,11 @@ module _ (v : View) (setting : Setting) (served : IsServed v setting) (fine : It
   one_more P [] reply h p = (p, tt)
   one_more P (r ∷ rs) reply h p = (h.0, one_more P rs reply h.1 p)
 
-  asked_from-good : (object : ℕ → ObjectId) (op : Op) (n first : ℕ) (replies : List Reply) → EmitsOnly fine op → ((i : ℕ) → i < first + n → CanStep setting (object i) op)
-      → AllByRecursion (IsReplyIn setting object op) replies → Does_good (AllByRecursion (IsReplyIn setting object op)) (lifted (asked_from object op replies first n))
-  unfolding lifted
-  asked_from-good object op zero first replies f can are frame = are
-  asked_from-good object op (suc n) first replies f can are frame =
-      ((can first (omega arith), f), λ reply kind. asked_from-good object op n (first + 1) (replies ++ reply ∷ []) f (λ i l. can i (omega (arith, l))) (one_more (IsReplyIn setting object op) replies reply are (first, kind)) frame)
+  asked_from-fine : (object : ℕ → ObjectId) (op : Op) (n first : ℕ) (replies : List Reply) → EmitsOnly fine op → ((i : ℕ) → i < first + n → CanStep setting (object i) op)
+      → AllByRecursion (IsReplyIn setting object op) replies → Fine (AllByRecursion (IsReplyIn setting object op)) (asked_from object op replies first n)
+  asked_from-fine object op zero first replies f can are = are
+  asked_from-fine object op (suc n) first replies f can are =
+      ((can first (omega arith), f), λ reply kind. asked_from-fine object op n (first + 1) (replies ++ reply ∷ []) f (λ i l. can i (omega (arith, l))) (one_more (IsReplyIn setting object op) replies reply are (first, kind)))
 
   sweep_fine : (sweep : Sweep) (kind : MapKind) (m : MapId) → EmitsOnly fine (sweep_op sweep kind m)
   sweep_fine Read Ints m = tt
@@ -130,45 +128,48 @@ module _ (v : View) (setting : Setting) (served : IsServed v setting) (fine : It
   abbrev Swept : Sweep → MapKind → MapId → List Reply → Type 0
   Swept sweep kind m = AllByRecursion (IsReplyIn setting (holder kind m) (sweep_op sweep kind m))
 
-  swept-good : (sweep : Sweep) (kind : MapKind) (m : MapId) → CanSweep setting m kind v.actors → Does_good (Swept sweep kind m) (swept sweep kind m)
-  swept-good sweep kind m can =
-      bind-good setting fine (scene_in v) (λ n. n ≡ v.actors) (Swept sweep kind m) _ (λ n. lifted (all_swept sweep kind m n)) (seen-is (λ n. n ≡ v.actors) _ (λ frame. refl))
-      (λ n e. asked_from-good (holder kind m) (sweep_op sweep kind m) (holders kind n) 0 [] (sweep_fine sweep kind m)
-      (λ i l. let below : i < holders kind n = omega (arith, l) in sweep_step setting m sweep kind v.actors i can (subst (λ (a : ℕ). i < holders kind a) e below)) tt)
+  swept-fine : (sweep : Sweep) (kind : MapKind) (m : MapId) → CanSweep setting m kind v.actors → Fine (Swept sweep kind m) (swept sweep kind m v.actors)
+  swept-fine sweep kind m can =
+      asked_from-fine (holder kind m) (sweep_op sweep kind m) (holders kind v.actors) 0 [] (sweep_fine sweep kind m)
+      (λ i l. let below : i < holders kind v.actors = omega (arith, l) in sweep_step setting m sweep kind v.actors i can below) tt
 
-  kind-good : (m : MapId) → Does_good (λ k. k ≡ kind_of m v.body.now.maps) (kind_seen m)
-  kind-good m = seen-is (λ k. k ≡ kind_of m v.body.now.maps) _ (λ frame. refl)
+  abbrev kind_here : MapId → MapKind
+  kind_here m = kind_in_body m v.body.now.maps
 
-  can_sweep : (m : MapId) (kind : MapKind) → IsTrue (is_there (decl_of m.0 v.body.now.maps)) → kind ≡ kind_of m v.body.now.maps → CanSweep setting m kind v.actors
-  can_sweep m kind named e = subst (λ (k : MapKind). CanSweep setting m k v.actors) (sym e) (sweep_can v setting m served named)
+  sweep-good : (sweep : Sweep) (m : MapId) → IsTrue (is_there (decl_of m.0 v.body.now.maps))
+      → Does_good (Swept sweep (kind_here m) m) (lifted (λ scene. swept sweep (kind_in_body m scene.maps) m scene.actors))
+  sweep-good sweep m named =
+      lifted-good setting fine (scene_in v) (Swept sweep (kind_here m) m) (λ scene. swept sweep (kind_in_body m scene.maps) m scene.actors)
+      (swept-fine sweep (kind_here m) m (sweep_can v setting m served named))
 
   forget : {A B : Type 0} (holds : A → Type 0) (d : Does A) (b : B) → Does_good holds d → Does_good {A = B} Free (bind d (λ value. given b))
   forget holds d b p = bind-good setting fine (scene_in v) holds Free d (λ value. given b) p (λ value h. given-good setting fine (scene_in v) Free b tt)
 
   print-good : (m : MapId) (top : ℕ) (div : ℤ) → IsTrue (is_there (decl_of m.0 v.body.now.maps)) → IsTrue (int_le (pos 1) div) → Does_good Free (print m top div)
   print-good m top div named divides =
-      bind-good setting fine (scene_in v) (λ k. k ≡ kind_of m v.body.now.maps) Free (kind_seen m) _ (kind-good m)
-      (λ kind e. bind-good setting fine (scene_in v) (Swept Read kind m) Free (swept Read kind m) _ (swept-good Read kind m (can_sweep m kind named e))
-      (λ replies h. plain-good (told Out _) (told-good setting fine (scene_in v) Out _ tt
-      (subst (λ (k : MapKind). Swept Read k m replies → fine (items.Map m (merged k replies) top div)) (sym e) (emits.rows m top div replies named divides) h))))
+      plain-good (lifted (λ scene. printed (kind_in_body m scene.maps) m top div scene.actors))
+      (lifted-good setting fine (scene_in v) Free (λ scene. printed (kind_in_body m scene.maps) m top div scene.actors)
+      (Admits-bind (IsFineCall setting fine) setting.maps (Swept Read (kind_here m) m) Free (swept Read (kind_here m) m v.actors)
+      (λ replies. told Out (ops.Emit (items.Map m (merged (kind_here m) replies) top div)))
+      (swept-fine Read (kind_here m) m (sweep_can v setting m served named)) (λ replies h. ((tt, emits.rows m top div replies named divides h), λ reply kind. tt))))
 
   clear-good : (m : MapId) → IsTrue (is_there (decl_of m.0 v.body.now.maps)) → Does_good Free (clear m)
-  clear-good m named = bind-good setting fine (scene_in v) (λ k. k ≡ kind_of m v.body.now.maps) Free (kind_seen m) _ (kind-good m) (λ kind e. forget (Swept Clear kind m) (swept Clear kind m) Next (swept-good Clear kind m (can_sweep m kind named e)))
+  clear-good m named = forget (Swept Clear (kind_here m) m) (lifted (λ scene. swept Clear (kind_in_body m scene.maps) m scene.actors)) Next (sweep-good Clear m named)
 
   zero-good : (m : MapId) → IsTrue (is_there (decl_of m.0 v.body.now.maps)) → Does_good Free (zero_all m)
-  zero-good m named = bind-good setting fine (scene_in v) (λ k. k ≡ kind_of m v.body.now.maps) Free (kind_seen m) _ (kind-good m) (λ kind e. forget (Swept Zero kind m) (swept Zero kind m) Next (swept-good Zero kind m (can_sweep m kind named e)))
+  zero-good m named = forget (Swept Zero (kind_here m) m) (lifted (λ scene. swept Zero (kind_in_body m scene.maps) m scene.actors)) Next (sweep-good Zero m named)
 
   -- ---- loops
 
   cut-good : (line : ℕ) → Does_good Free (cut line)
-  cut-good line = then-given v setting served fine (told Out _) (λ u. _) (told-good setting fine (scene_in v) Out _ tt (emits.cut line))
+  cut-good line = then-given v setting served fine (lifted (λ scene. told Out (ops.Emit (items.Cut line)))) (λ u. _) (told-good setting fine (scene_in v) Out (ops.Emit (items.Cut line)) tt (emits.cut line))
 
   entered-good : (line : ℕ) (block : Does Flow) (n : ℕ) → Does_good Free block → Does_good Free (entered line block n)
   entered-good line block zero p = cut-good line
   entered-good line block (suc left) p = bind-good setting fine (scene_in v) Free Free (changed _) (λ u. block) (changed-good setting fine (scene_in v) _) (λ u h. p)
 
   turn-good : (line : ℕ) (block : Does Flow) → Does_good Free block → Does_good Free (turn line block)
-  turn-good line block p = bind-good setting fine (scene_in v) Free Free _ (entered line block) (seen-good setting fine (scene_in v) _) (λ n h. entered-good line block n p)
+  turn-good line block p = bind-good setting fine (scene_in v) Free Free _ (entered line block) (looked_at-good setting fine (scene_in v) _) (λ n h. entered-good line block n p)
 
   again-good : (flow : Flow) (rest : Does Flow) → Does_good Free rest → Does_good Free (again flow rest)
   again-good Next rest p = p
@@ -183,12 +184,12 @@ module _ (v : View) (setting : Setting) (served : IsServed v setting) (fine : It
   tests-good : (n line : ℕ) (test : Does ℤ) (block : Does Flow) → Does_good Free test → Does_good Free block → Does_good Free (tests n line test block)
   tests-good zero line test block t p = flow-good Next
   tests-good (suc n) line test block t p =
-      either-good setting fine (scene_in v) Free test (bind (turn line block) (λ flow. again flow (tests n line test block))) (given Next) t
+      if_holds-good setting fine (scene_in v) Free test (bind (turn line block) (λ flow. again flow (tests n line test block))) (given Next) t
       (bind-good setting fine (scene_in v) Free Free (turn line block) (λ flow. again flow (tests n line test block)) (turn-good line block p) (λ flow h. again-good flow (tests n line test block) (tests-good n line test block t p)))
       (flow-good Next)
 
   while-good : (line : ℕ) (test : Does ℤ) (block : Does Flow) → Does_good Free test → Does_good Free block → Does_good Free (while_true line test block)
-  while-good line test block t p = bind-good setting fine (scene_in v) Free Free _ (λ left. tests (suc left) line test block) (seen-good setting fine (scene_in v) _) (λ left h. tests-good (suc left) line test block t p)
+  while-good line test block t p = bind-good setting fine (scene_in v) Free Free _ (λ left. tests (suc left) line test block) (looked_at-good setting fine (scene_in v) _) (λ left h. tests-good (suc left) line test block t p)
 
   if_next-good : (flow : Flow) (rest : Does Flow) → Does_good Free rest → Does_good Free (if_next flow rest)
   if_next-good Next rest p = p
@@ -210,12 +211,12 @@ module _ (v : View) (setting : Setting) (served : IsServed v setting) (fine : It
   abbrev ManyBlock : Type 0
   ManyBlock = (b : TypedBlock) × BlockGood b
 
-  stmts-good : (ss : List ManyStmt) (inside : Bool) → Fits v (joined (map (λ (k : Bool → List Part). k inside) (map stmt_parts (map (λ (k : ManyStmt). k.0) ss)))) → Does_good Free (in_turn (map stmt_does (map (λ (k : ManyStmt). k.0) ss)))
+  stmts-good : (ss : List ManyStmt) (inside : Bool) → Fits v (joined (map (λ (k : Bool → List Part). k inside) (map stmt_parts (map (λ (k : ManyStmt). k.0) ss)))) → Does_good Free (in_sequence (map stmt_does (map (λ (k : ManyStmt). k.0) ss)))
   stmts-good [] inside fit = flow-good Next
   stmts-good (s ∷ ss) inside fit =
       let p = halves (stmt_parts s.0 inside) (joined (map (λ (k : Bool → List Part). k inside) (map stmt_parts (map (λ (k : ManyStmt). k.0) ss)))) fit in
-      bind-good setting fine (scene_in v) Free Free (stmt_does s.0) (λ flow. if_next flow (in_turn (map stmt_does (map (λ (k : ManyStmt). k.0) ss)))) (s.1 inside p.0)
-      (λ flow h. if_next-good flow (in_turn (map stmt_does (map (λ (k : ManyStmt). k.0) ss))) (stmts-good ss inside p.1))
+      bind-good setting fine (scene_in v) Free Free (stmt_does s.0) (λ flow. if_next flow (in_sequence (map stmt_does (map (λ (k : ManyStmt). k.0) ss)))) (s.1 inside p.0)
+      (λ flow h. if_next-good flow (in_sequence (map stmt_does (map (λ (k : ManyStmt). k.0) ss))) (stmts-good ss inside p.1))
 
   abbrev blocks_of : List (NumExpr × ManyBlock) → List (NumExpr × TypedBlock)
   blocks_of arms = map (former-TypedStmt-If-0-at-2.map ManyBlock TypedBlock (λ k. k.0)) arms
@@ -229,7 +230,7 @@ module _ (v : View) (setting : Setting) (served : IsServed v setting) (fine : It
   arms-good (arm ∷ arms) inside otherwise fit p =
       let one = halves (arm_parts (arm.0, block_parts arm.1.0 inside)) (arms_made inside arms) fit in
       let two = halves (num_parts arm.0) (block_parts arm.1.0 inside) one.0 in
-      either-good setting fine (scene_in v) Free (number_does arm.0) (block_does arm.1.0) _ (num_good v setting served fine arm.0 two.0) (arm.1.1 inside two.1) (arms-good arms inside otherwise one.1 p)
+      if_holds-good setting fine (scene_in v) Free (number_does arm.0) (block_does arm.1.0) _ (num_good v setting served fine arm.0 two.0) (arm.1.1 inside two.1) (arms-good arms inside otherwise one.1 p)
 
   abbrev stmt_of : TypedStmt-F ManyStmt ManyBlock → TypedStmt-F TypedStmt TypedBlock
   stmt_of h = map-TypedStmt ManyStmt ManyBlock TypedStmt TypedBlock (λ k. k.0) (λ k. k.0) h
@@ -242,7 +243,7 @@ module _ (v : View) (setting : Setting) (served : IsServed v setting) (fine : It
   Keyed keys = HasShape (key_shapes (map made_of keys))
 
   stmt_case : (h : TypedStmt-F ManyStmt ManyBlock) (inside : Bool) → Fits v (tree.stmt_layer (map-TypedStmt TypedStmt TypedBlock (Bool → List Part) (Bool → List Part) stmt_parts block_parts (stmt_of h)) inside) →
-      Does_good Free (stmt_layer (map-TypedStmt TypedStmt TypedBlock (Does Flow) (Does Flow) stmt_does block_does (stmt_of h)))
+      Does_good Free (stmt_by_parts (map-TypedStmt TypedStmt TypedBlock (Does Flow) (Does Flow) stmt_does block_does (stmt_of h)))
   stmt_case (TypedStmt-F.SetVar var value) inside fit =
       bind-good setting fine (scene_in v) (IsOfShape (made_of value).shape) Free (value_does value) _ (any_good v setting served fine value (tail (tree.VarOf var (made_of value).shape) (made_of value).parts fit)) (λ x h. plain-good (changed _) (changed-good setting fine (scene_in v) _))
   stmt_case (TypedStmt-F.SetMap m keys value) inside fit =
@@ -250,29 +251,29 @@ module _ (v : View) (setting : Setting) (served : IsServed v setting) (fine : It
       let found = valued v setting m _ (made_of value).shape served (set_head v m (map made_of keys) (made_of value) fit) in
       bind-good setting fine (scene_in v) (Keyed keys) Free (in_order (values_do keys)) _ (keys-good keys p.0)
       (λ key shaped. bind-good setting fine (scene_in v) (IsOfShape (made_of value).shape) Free (value_does value) _ (any_good v setting served fine value p.1)
-      (λ x h. plain-good (told (part m key) (ops.Set key x)) (told-good setting fine (scene_in v) (part m key) (ops.Set key x) (set_can setting m _ (made_of value).shape key x found shaped h) tt)))
+      (λ x h. plain-good (set m key x) (told-good setting fine (scene_in v) (part m key) (ops.Set key x) (set_can setting m _ (made_of value).shape key x found shaped h) tt)))
   stmt_case (TypedStmt-F.UpdateVar var op e) inside fit =
       bind-good setting fine (scene_in v) Free Free (number_does e) _ (num_good v setting served fine e (tail (tree.VarOf var shapes.Int) (num_parts e) fit))
-      (λ b h. bind-good setting fine (scene_in v) Free Free _ _ (seen-good setting fine (scene_in v) _) (λ a i. plain-good (changed _) (changed-good setting fine (scene_in v) _)))
+      (λ b h. bind-good setting fine (scene_in v) Free Free _ _ (looked_at-good setting fine (scene_in v) _) (λ a i. plain-good (changed _) (changed-good setting fine (scene_in v) _)))
   stmt_case (TypedStmt-F.UpdateMap m keys op e) inside fit =
       let p = halves (parts_in (map made_of keys)) (num_parts e) (tail (tree.MapOf m.0 (key_shapes (map made_of keys)) shapes.Int) (parts_in (map made_of keys) ++ num_parts e) fit) in
       let found = valued v setting m _ shapes.Int served (update_head v m (map made_of keys) op (num_parts e) fit) in
       bind-good setting fine (scene_in v) (Keyed keys) Free (in_order (values_do keys)) _ (keys-good keys p.0)
       (λ key shaped. bind-good setting fine (scene_in v) Free Free (number_does e) _ (num_good v setting served fine e p.1)
       (λ b h. bind-good setting fine (scene_in v) Free Free (get m key) _ (get-good setting fine (scene_in v) m key (get_can setting m _ shapes.Int key found shaped))
-      (λ old i. plain-good (told (part m key) (ops.Set key _)) (told-good setting fine (scene_in v) (part m key) (ops.Set key (Int _)) (set_can setting m _ shapes.Int key (Int _) found shaped tt) tt))))
+      (λ old i. plain-good (set m key (Int _)) (told-good setting fine (scene_in v) (part m key) (ops.Set key (Int _)) (set_can setting m _ shapes.Int key (Int _) found shaped tt) tt))))
   stmt_case (TypedStmt-F.Gather m keys kind number) inside fit =
       let p = halves (parts_in (map made_of keys)) (number_parts number) (tail (tree.Gathered m.0 (key_shapes (map made_of keys)) kind (is_none number)) (parts_in (map made_of keys) ++ number_parts number) fit) in
       let found = gathering v setting m _ kind served (gather_head v m (map made_of keys) kind number fit) in
       bind-good setting fine (scene_in v) (Keyed keys) Free (in_order (values_do keys)) _ (keys-good keys p.0)
       (λ key shaped. bind-good setting fine (scene_in v) Free Free (number_or_one number) _ (number-good number p.1)
-      (λ n h. plain-good (bind _ _) (bind-good setting fine (scene_in v) (λ a. a ≡ v.actor) Free _ (λ a. told (Cpu a) (ops.Add m key n)) (seen-is (λ a. a ≡ v.actor) _ (λ frame. refl))
-      (λ a e. told-good setting fine (scene_in v) (Cpu a) (ops.Add m key n) (subst (λ (x : ℕ). CanStep setting (Cpu x) (ops.Add m key n)) (sym e) (add_can v setting m _ key n served found shaped)) tt))))
+      (λ n h. plain-good (add m key n) (lifted-good setting fine (scene_in v) Free (λ scene. told (Cpu scene.actor) (ops.Add m key n))
+      ((add_can v setting m _ key n served found shaped, tt), λ reply kind. tt))))
   stmt_case (TypedStmt-F.Step e) inside fit = plain-good (number_does e) (num_good v setting served fine e fit)
   stmt_case (TypedStmt-F.Printf format es) inside fit =
       let p = halves (parts_in (map made_of es)) (Ending ∷ []) (tail (tree.Printed format (key_shapes (map made_of es))) (parts_in (map made_of es) ++ Ending ∷ []) fit) in
       bind-good setting fine (scene_in v) (Keyed es) Free (in_order (values_do es)) _ (keys-good es p.0)
-      (λ values h. plain-good (told Out _) (told-good setting fine (scene_in v) Out _ tt
+      (λ values h. plain-good (lifted (λ scene. told Out (ops.Emit (items.Printf format values)))) (told-good setting fine (scene_in v) Out (ops.Emit (items.Printf format values)) tt
       (emits.printf format (key_shapes (map made_of es)) values (and_parts (fits (scope_in v) (tree.Printed format (key_shapes (map made_of es)))) _ fit).0 h)))
   stmt_case (TypedStmt-F.Print m top div) inside fit =
       let p = and_parts (fits (scope_in v) (tree.Shown m.0 top div)) true fit in
@@ -282,10 +283,10 @@ module _ (v : View) (setting : Setting) (served : IsServed v setting) (fine : It
   stmt_case (TypedStmt-F.Delete m keys) inside fit =
       let found = shared v setting m _ served (delete_head v m (map made_of keys) fit) in
       bind-good setting fine (scene_in v) (Keyed keys) Free (in_order (values_do keys)) _ (keys-good keys (tail (tree.Deleted m.0 (key_shapes (map made_of keys))) (parts_in (map made_of keys)) fit))
-      (λ key shaped. plain-good (told (part m key) (ops.Delete key)) (told-good setting fine (scene_in v) (part m key) (ops.Delete key) (delete_can setting m _ key found shaped) tt))
+      (λ key shaped. plain-good (delete m key) (told-good setting fine (scene_in v) (part m key) (ops.Delete key) (delete_can setting m _ key found shaped) tt))
   stmt_case (TypedStmt-F.Jump jumps.Break) inside fit = flow-good Break
   stmt_case (TypedStmt-F.Jump jumps.Continue) inside fit = flow-good Continue
-  stmt_case (TypedStmt-F.Jump jumps.Exit) inside fit = then-given v setting served fine (told Clock ops.Stop) (λ u. _) (told-good setting fine (scene_in v) Clock ops.Stop tt tt)
+  stmt_case (TypedStmt-F.Jump jumps.Exit) inside fit = then-given v setting served fine (lifted (λ scene. told Clock ops.Stop)) (λ u. _) (told-good setting fine (scene_in v) Clock ops.Stop tt tt)
   stmt_case (TypedStmt-F.Jump jumps.Return) inside fit = flow-good (Stop _)
   stmt_case (TypedStmt-F.If arms None) inside fit = arms-good arms inside (given Next) (halves (arms_made inside arms) (otherwise_parts None) fit).0 (flow-good Next)
   stmt_case (TypedStmt-F.If arms (Some b)) inside fit =
@@ -298,7 +299,7 @@ module _ (v : View) (setting : Setting) (served : IsServed v setting) (fine : It
 
   stmt_step : (x : TypedStmt-F TypedStmt TypedBlock) (h : TypedStmt-F ManyStmt ManyBlock) → stmt_of h ≡ x → StmtGood (roll-TypedStmt x)
   stmt_step x h e = subst (λ (y : TypedStmt-F TypedStmt TypedBlock). StmtGood (roll-TypedStmt y)) e (λ inside fit.
-      subst (λ (d : Does Flow). Does_good Free d) (sym (fold-roll-TypedStmt (Does Flow) (Does Flow) stmt_layer block_layer (stmt_of h)))
+      subst (λ (d : Does Flow). Does_good Free d) (sym (fold-roll-TypedStmt (Does Flow) (Does Flow) stmt_by_parts block_by_parts (stmt_of h)))
       (stmt_case h inside (subst (λ (k : Bool → List Part). Fits v (k inside)) (fold-roll-TypedStmt (Bool → List Part) (Bool → List Part) tree.stmt_layer tree.block_layer (stmt_of h)) fit)))
 
   abbrev block_of : TypedBlock-F ManyStmt ManyBlock → TypedBlock-F TypedStmt TypedBlock
@@ -306,7 +307,7 @@ module _ (v : View) (setting : Setting) (served : IsServed v setting) (fine : It
 
   block_step : (x : TypedBlock-F TypedStmt TypedBlock) (h : TypedBlock-F ManyStmt ManyBlock) → block_of h ≡ x → BlockGood (roll-TypedBlock x)
   block_step x h e = subst (λ (y : TypedBlock-F TypedStmt TypedBlock). BlockGood (roll-TypedBlock y)) e (λ inside fit.
-      subst (λ (d : Does Flow). Does_good Free d) (sym (fold-roll-TypedBlock (Does Flow) (Does Flow) stmt_layer block_layer (block_of h)))
+      subst (λ (d : Does Flow). Does_good Free d) (sym (fold-roll-TypedBlock (Does Flow) (Does Flow) stmt_by_parts block_by_parts (block_of h)))
       (stmts-good h.stmts inside (halves (joined (map (λ (k : Bool → List Part). k inside) (map stmt_parts (map (λ (k : ManyStmt). k.0) h.stmts)))) (Ending ∷ []) (subst (λ (k : Bool → List Part). Fits v (k inside)) (fold-roll-TypedBlock (Bool → List Part) (Bool → List Part) tree.stmt_layer tree.block_layer (block_of h)) fit)).0))
 
   pub block_good : (b : TypedBlock) → BlockGood b
@@ -315,7 +316,7 @@ module _ (v : View) (setting : Setting) (served : IsServed v setting) (fine : It
   guarded-good : (predicate : Option NumExpr) (block : TypedBlock) → Fits v (predicate_parts predicate) → Fits v (block_parts block false) → Does_good Free (guarded predicate (block_does block))
   guarded-good None block fit own = block_good block false own
   guarded-good (Some e) block fit own =
-      either-good setting fine (scene_in v) Free (number_does e) (block_does block) (given Next) (num_good v setting served fine e (tail Otherwise (num_parts e) fit)) (block_good block false own) (flow-good Next)
+      if_holds-good setting fine (scene_in v) Free (number_does e) (block_does block) (given Next) (num_good v setting served fine e (tail Otherwise (num_parts e) fit)) (block_good block false own) (flow-good Next)
 
   pub tree-good : Does_good Free (tree_does v.body.now.tree)
   tree-good =
@@ -329,8 +330,8 @@ pub walk-fine : (setting : Setting) (body : TypedBody) (context : Context) (payl
 unfolding walk
 walk-fine setting body context payload actor actors fine can emits =
     let v : View = view_of body context payload actor actors in
-    Admits-bind (IsFineCall setting fine) setting.maps (λ p. Unit {0}) (λ ending. Unit {0}) (tree_does body.tree (scene_in v) (fresh body.tree.variables)) (λ p. Ended p.0)
-    (tree-good v setting (record { can = can; fine = body.fine }) fine emits (fresh body.tree.variables)) (λ p h. tt)
+    Admits-bind (IsFineCall setting fine) setting.maps (λ p. Unit {0}) (λ ending. Unit {0}) (tree_does body.tree (scene_in v) (first_frame body.tree.variables)) (λ p. Ended p.0)
+    (tree-good v setting (record { can = can; fine = body.fine }) fine emits (first_frame body.tree.variables)) (λ p h. tt)
 
 -- of calls that pass two tests, each passes the other one
 pub weaker-calls : {A : Type 0} (calls others : ObjectId → Op → Type 0) (maps : List MapDecl) (holds : A → Type 0) → ((object : ObjectId) (op : Op) → calls object op → others object op)

@@ -26,7 +26,7 @@ use Rattle.typed_tree.specs.Scope.{decl_of, same_shape, same_shapes, same_kind, 
 use Rattle.std.specs.Str.{bytes_eq}
 use Rattle.walk_meaning.specs.declared.view.View.{View}
 use Rattle.map_ops.specs.Holders.{part, kind_in, CanSweep}
-use Rattle.walk_meaning.specs.Maps.{kind_of}
+use Rattle.walk_meaning.specs.Maps.{kind_in_body}
 use Rattle.walk_meaning.specs.Served.{IsServed, NamesShared, HoldsUnder, scope_in, least_length}
 
 -- ---- equal shapes
@@ -221,7 +221,7 @@ sweep_case v setting m None s e h = cc
 sweep_case v setting m (Some decl) s e h =
     record { declared = rw (served setting.maps m.0 v.body.now.maps decl s.can.maps_are_served e) refl; tables = s.can.actors_are_the_ports }
 
-pub sweep_can : (v : View) (setting : Setting) (m : MapId) → IsServed v setting → IsTrue (is_there (decl_of m.0 v.body.now.maps)) → CanSweep setting m (kind_of m v.body.now.maps) v.actors
+pub sweep_can : (v : View) (setting : Setting) (m : MapId) → IsServed v setting → IsTrue (is_there (decl_of m.0 v.body.now.maps)) → CanSweep setting m (kind_in_body m v.body.now.maps) v.actors
 sweep_can v setting m s h = sweep_case v setting m (decl_of m.0 v.body.now.maps) s refl h
 
 pub get_can : (setting : Setting) (m : MapId) (keys : List Shape) (h : Shape) (key : List Value) → Found setting m keys (λ k. k ≡ kind_of_shape h) → HasShape keys key → CanStep setting (part m key) (Get key)

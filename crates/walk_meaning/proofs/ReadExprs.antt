@@ -24,10 +24,10 @@ use Rattle.typed_tree.specs.Scope.{fits, all_fit, is_declared, is_there, decl_of
 use Rattle.walk_meaning.specs.declared.flow.Frame.{Frame}
 use Rattle.map_ops.specs.declared.sweep.Sweep.TheVariants.{Read}
 use Rattle.walk_meaning.specs.declared.view.View.{View}
-use Rattle.walk_meaning.specs.Does.{Scene, Does, given, lifted, asked, bind, then, choose, gathered, in_order, either}
-use Rattle.walk_meaning.specs.Exprs.{read, builtin, command, number_field, text_field, step_variable, any_layer, num_layer, str_layer, value_does, number_does, text_does, step_at}
+use Rattle.walk_meaning.specs.Does.{BodyScene, Does, given, lifted, bind, then, choose, gathered, in_order, if_holds}
+use Rattle.walk_meaning.specs.Exprs.{read, builtin, command, number_field, text_field, step_variable, value_by_parts, number_by_parts, text_by_parts, value_does, number_does, text_does, step_at}
 use Rattle.map_ops.specs.Values.{number_of, text_of, value_of, next}
-use Rattle.walk_meaning.specs.Maps.{number_variable, text_variable, get, set, kind_of}
+use Rattle.walk_meaning.specs.Maps.{number_variable, text_variable, get, set, kind_in_body}
 use Rattle.map_ops.specs.Holders.{part, holder, sweep_op}
 use Rattle.walk_meaning.specs.Reading.{Reader, number_under, text_under, stepped_under, num_by, str_by, value_by, number_by, text_by}
 use Rattle.bt_core.specs.Same.{SameTo}
@@ -44,9 +44,9 @@ pub record ReadsAlike (comes : Call → Reply → Type 0) (reader : Reader) (v :
   pub texts : (m : MapId) (keys : List Shape) (key : List Value) (reply : Reply) → IsTrue (is_declared (decl_of m.0 v.body.now.maps) (kind_of_shape shapes.Str) keys) →
       comes (call_at (part m key) (Get key)) reply → reader.text reply ≡ text_of (value_of reply)
   pub rows : (m : MapId) (n : ℕ) (reply : Reply) → IsTrue (is_there (decl_of m.0 v.body.now.maps)) →
-      comes (call_at (holder (kind_of m v.body.now.maps) m n) (sweep_op Read (kind_of m v.body.now.maps) m)) reply → reader.rows (kind_of m v.body.now.maps) reply ≡ rows_in (kind_of m v.body.now.maps) reply
+      comes (call_at (holder (kind_in_body m v.body.now.maps) m n) (sweep_op Read (kind_in_body m v.body.now.maps) m)) reply → reader.rows (kind_in_body m v.body.now.maps) reply ≡ rows_in (kind_in_body m v.body.now.maps) reply
 
-module _ (comes : Call → Reply → Type 0) (scene : Scene) where
+module _ (comes : Call → Reply → Type 0) (scene : BodyScene) where
   -- values that are so related, and one frame
   abbrev pub Ends : {A B : Type 0} → (A → B → Type 0) → A × Frame → B × Frame → Type 0
   Ends R p q = R p.0 q.0 × (p.1 ≡ q.1)
@@ -82,17 +82,13 @@ module _ (comes : Call → Reply → Type 0) (scene : Scene) where
   unfolding bind given
   mapped-tied {A} R d e f p q frame = SameTo-mapped comes (Ends R) (Ends (λ (a b : A). a ≡ b)) (d scene frame) (e scene frame) (λ z. (f z.0, z.1)) (p frame) (λ w z h. (q w.0 z.0 h.0, h.1))
 
-  pub asked-tied : (object : ObjectId) (op : Op) → Tied (λ (r s : Reply). (r ≡ s) × comes (call_at object op) r) (asked object op) (asked object op)
-  unfolding lifted
-  asked-tied object op frame = (refl, λ reply h. ((refl, h), refl))
-
   pub choose-tied : {A : Type 0} (b : Bool) (one other first second : Does A) → Tied Equal one first → Tied Equal other second → Tied Equal (choose b one other) (choose b first second)
   unfolding choose
   choose-tied true one other first second p q = p
   choose-tied false one other first second p q = q
 
-  pub either-tied : {A : Type 0} (test by : Does ℤ) (one other first second : Does A) → Tied Equal test by → Tied Equal one first → Tied Equal other second → Tied Equal (either test one other) (either by first second)
-  either-tied {A} test by one other first second t p q = bind-same (λ (a b : A). a ≡ b) test by _ _ t (λ n. choose-tied _ one other first second p q)
+  pub if_holds-tied : {A : Type 0} (test by : Does ℤ) (one other first second : Does A) → Tied Equal test by → Tied Equal one first → Tied Equal other second → Tied Equal (if_holds test one other) (if_holds by first second)
+  if_holds-tied {A} test by one other first second t p q = bind-same (λ (a b : A). a ≡ b) test by _ _ t (λ n. choose-tied _ one other first second p q)
 
 module _ (comes : Call → Reply → Type 0) (reader : Reader) (v : View) (reads : ReadsAlike comes reader v) where
   abbrev Same : {A : Type 0} → Does A → Does A → Type 0
@@ -136,16 +132,12 @@ module _ (comes : Call → Reply → Type 0) (reader : Reader) (v : View) (reads
   Declares m keys h = IsTrue (is_declared (decl_of m.0 v.body.now.maps) (kind_of_shape h) keys)
 
   pub number-tied : (m : MapId) (keys : List Shape) (key : List Value) → Declares m keys shapes.Int → Tied comes (scene_in v) (λ (n : ℤ) (value : Value). n ≡ number_of value) (number_under reader m key) (get m key)
-  number-tied m keys key d =
-      bind-tied comes (scene_in v) (λ (r s : Reply). (r ≡ s) × comes (call_at (part m key) (Get key)) r) (λ (n : ℤ) (value : Value). n ≡ number_of value) (asked (part m key) (Get key)) (asked (part m key) (Get key)) _ _
-      (asked-tied comes (scene_in v) (part m key) (Get key))
-      (λ r s h. given-tied comes (scene_in v) (λ (n : ℤ) (value : Value). n ≡ number_of value) (reader.number r) (value_of s) (reads.numbers m keys key r d h.1 ∙ ap (λ (x : Reply). number_of (value_of x)) h.0))
+  unfolding lifted
+  number-tied m keys key d frame = (refl, λ reply h. (reads.numbers m keys key reply d h, refl))
 
   text-tied : (m : MapId) (keys : List Shape) (key : List Value) → Declares m keys shapes.Str → Tied comes (scene_in v) (λ (t : List ℕ) (value : Value). t ≡ text_of value) (text_under reader m key) (get m key)
-  text-tied m keys key d =
-      bind-tied comes (scene_in v) (λ (r s : Reply). (r ≡ s) × comes (call_at (part m key) (Get key)) r) (λ (t : List ℕ) (value : Value). t ≡ text_of value) (asked (part m key) (Get key)) (asked (part m key) (Get key)) _ _
-      (asked-tied comes (scene_in v) (part m key) (Get key))
-      (λ r s h. given-tied comes (scene_in v) (λ (t : List ℕ) (value : Value). t ≡ text_of value) (reader.text r) (value_of s) (reads.texts m keys key r d h.1 ∙ ap (λ (x : Reply). text_of (value_of x)) h.0))
+  unfolding lifted
+  text-tied m keys key d frame = (refl, λ reply h. (reads.texts m keys key reply d h, refl))
 
   -- where the map is, and the parts of its key
   map_fits : (m : MapId) (ks : List ManyAny) (h : Shape) → Fits v (keyed_parts m.0 (map made_of (firsts ks)) h) → Declares m (key_shapes (map made_of (firsts ks))) h × Fits v (parts_in (map made_of (firsts ks)))
@@ -169,7 +161,7 @@ module _ (comes : Call → Reply → Type 0) (reader : Reader) (v : View) (reads
 
   num_case : (h : NumExpr-F ManyAny ManyNum ManyStr) → Fits v (tree.num_layer (map-NumExpr AnyExpr NumExpr StrExpr Made (List Part) (List Part) made_of num_parts str_parts (num_of h))) →
       Same (num_by reader (map-NumExpr AnyExpr NumExpr StrExpr (Does Value) (Does ℤ) (Does (List ℕ)) (value_by reader) (number_by reader) (text_by reader) (num_of h)))
-      (num_layer (map-NumExpr AnyExpr NumExpr StrExpr (Does Value) (Does ℤ) (Does (List ℕ)) value_does number_does text_does (num_of h)))
+      (number_by_parts (map-NumExpr AnyExpr NumExpr StrExpr (Does Value) (Does ℤ) (Does (List ℕ)) value_does number_does text_does (num_of h)))
   num_case (NumExpr-F.Number n) fit = self-tied comes (scene_in v) (given n)
   num_case (NumExpr-F.Builtin b) fit = self-tied comes (scene_in v) (builtin b)
   num_case (NumExpr-F.NumExpr::Field f) fit = self-tied comes (scene_in v) (number_field f)
@@ -189,20 +181,20 @@ module _ (comes : Call → Reply → Type 0) (reader : Reader) (v : View) (reads
   num_case (NumExpr-F.Compare equal l r) fit =
       let p = halves (str_parts l.0) (str_parts r.0) fit in two-same (text_by reader l.0) (text_does l.0) (text_by reader r.0) (text_does r.0) _ (l.1 p.0) (r.1 p.1)
   num_case (NumExpr-F.AndThen l r) fit = let p = halves (num_parts l.0) (num_parts r.0) fit in
-      either-tied comes (scene_in v) (number_by reader l.0) (number_does l.0) _ _ _ _ (l.1 p.0) (first-same comes (scene_in v) (number_by reader r.0) (number_does r.0) _ (r.1 p.1)) (self-tied comes (scene_in v) (given (pos 0)))
+      if_holds-tied comes (scene_in v) (number_by reader l.0) (number_does l.0) _ _ _ _ (l.1 p.0) (first-same comes (scene_in v) (number_by reader r.0) (number_does r.0) _ (r.1 p.1)) (self-tied comes (scene_in v) (given (pos 0)))
   num_case (NumExpr-F.OrElse l r) fit = let p = halves (num_parts l.0) (num_parts r.0) fit in
-      either-tied comes (scene_in v) (number_by reader l.0) (number_does l.0) _ _ _ _ (l.1 p.0) (self-tied comes (scene_in v) (given (pos 1))) (first-same comes (scene_in v) (number_by reader r.0) (number_does r.0) _ (r.1 p.1))
+      if_holds-tied comes (scene_in v) (number_by reader l.0) (number_does l.0) _ _ _ _ (l.1 p.0) (self-tied comes (scene_in v) (given (pos 1))) (first-same comes (scene_in v) (number_by reader r.0) (number_does r.0) _ (r.1 p.1))
   num_case (NumExpr-F.NumExpr::Choose t y o) fit =
       let p = halves (num_parts t.0) (num_parts y.0 ++ num_parts o.0) fit in
       let q = halves (num_parts y.0) (num_parts o.0) p.1 in
-      either-tied comes (scene_in v) (number_by reader t.0) (number_does t.0) _ _ _ _ (t.1 p.0) (y.1 q.0) (o.1 q.1)
+      if_holds-tied comes (scene_in v) (number_by reader t.0) (number_does t.0) _ _ _ _ (t.1 p.0) (y.1 q.0) (o.1 q.1)
 
   abbrev str_of : StrExpr-F ManyAny ManyNum ManyStr → StrExpr-F AnyExpr NumExpr StrExpr
   str_of h = map-StrExpr ManyAny ManyNum ManyStr AnyExpr NumExpr StrExpr (λ k. k.0) (λ k. k.0) (λ k. k.0) h
 
   str_case : (h : StrExpr-F ManyAny ManyNum ManyStr) → Fits v (tree.str_layer (map-StrExpr AnyExpr NumExpr StrExpr Made (List Part) (List Part) made_of num_parts str_parts (str_of h))) →
       Same (str_by reader (map-StrExpr AnyExpr NumExpr StrExpr (Does Value) (Does ℤ) (Does (List ℕ)) (value_by reader) (number_by reader) (text_by reader) (str_of h)))
-      (str_layer (map-StrExpr AnyExpr NumExpr StrExpr (Does Value) (Does ℤ) (Does (List ℕ)) value_does number_does text_does (str_of h)))
+      (text_by_parts (map-StrExpr AnyExpr NumExpr StrExpr (Does Value) (Does ℤ) (Does (List ℕ)) value_does number_does text_does (str_of h)))
   str_case (StrExpr-F.Text s) fit = self-tied comes (scene_in v) (given s)
   str_case StrExpr-F.Comm fit = self-tied comes (scene_in v) command
   str_case (StrExpr-F.StrExpr::Field f) fit = self-tied comes (scene_in v) (text_field f)
@@ -214,36 +206,36 @@ module _ (comes : Call → Reply → Type 0) (reader : Reader) (v : View) (reads
   str_case (StrExpr-F.StrExpr::Choose t y o) fit =
       let p = halves (num_parts t.0) (str_parts y.0 ++ str_parts o.0) fit in
       let q = halves (str_parts y.0) (str_parts o.0) p.1 in
-      either-tied comes (scene_in v) (number_by reader t.0) (number_does t.0) _ _ _ _ (t.1 p.0) (y.1 q.0) (o.1 q.1)
+      if_holds-tied comes (scene_in v) (number_by reader t.0) (number_does t.0) _ _ _ _ (t.1 p.0) (y.1 q.0) (o.1 q.1)
 
   abbrev any_of : AnyExpr-F ManyAny ManyNum ManyStr → AnyExpr-F AnyExpr NumExpr StrExpr
   any_of h = map-AnyExpr ManyAny ManyNum ManyStr AnyExpr NumExpr StrExpr (λ k. k.0) (λ k. k.0) (λ k. k.0) h
 
   any_case : (h : AnyExpr-F ManyAny ManyNum ManyStr) → Fits v (tree.any_layer (map-AnyExpr AnyExpr NumExpr StrExpr Made (List Part) (List Part) made_of num_parts str_parts (any_of h))).parts →
-      Same (any_layer (map-AnyExpr AnyExpr NumExpr StrExpr (Does Value) (Does ℤ) (Does (List ℕ)) (value_by reader) (number_by reader) (text_by reader) (any_of h)))
-      (any_layer (map-AnyExpr AnyExpr NumExpr StrExpr (Does Value) (Does ℤ) (Does (List ℕ)) value_does number_does text_does (any_of h)))
+      Same (value_by_parts (map-AnyExpr AnyExpr NumExpr StrExpr (Does Value) (Does ℤ) (Does (List ℕ)) (value_by reader) (number_by reader) (text_by reader) (any_of h)))
+      (value_by_parts (map-AnyExpr AnyExpr NumExpr StrExpr (Does Value) (Does ℤ) (Does (List ℕ)) value_does number_does text_does (any_of h)))
   any_case (AnyExpr-F.Num d) fit = first-same comes (scene_in v) (number_by reader d.0) (number_does d.0) (λ n. given (Int n)) (d.1 fit)
   any_case (AnyExpr-F.Str d) fit = first-same comes (scene_in v) (text_by reader d.0) (text_does d.0) (λ s. given (Str s)) (d.1 fit)
 
   num_step : (x : NumExpr-F AnyExpr NumExpr StrExpr) (h : NumExpr-F ManyAny ManyNum ManyStr) → num_of h ≡ x → NumRead (roll-NumExpr x)
   num_step x h e = subst (λ (y : NumExpr-F AnyExpr NumExpr StrExpr). NumRead (roll-NumExpr y)) e (λ fit.
-      subst (λ (d : Does ℤ). Same d (number_does (roll-NumExpr (num_of h)))) (sym (fold-roll-NumExpr (Does Value) (Does ℤ) (Does (List ℕ)) any_layer (num_by reader) (str_by reader) (num_of h)))
+      subst (λ (d : Does ℤ). Same d (number_does (roll-NumExpr (num_of h)))) (sym (fold-roll-NumExpr (Does Value) (Does ℤ) (Does (List ℕ)) value_by_parts (num_by reader) (str_by reader) (num_of h)))
       (subst (λ (d : Does ℤ). Same (num_by reader (map-NumExpr AnyExpr NumExpr StrExpr (Does Value) (Does ℤ) (Does (List ℕ)) (value_by reader) (number_by reader) (text_by reader) (num_of h))) d)
-      (sym (fold-roll-NumExpr (Does Value) (Does ℤ) (Does (List ℕ)) any_layer num_layer str_layer (num_of h)))
+      (sym (fold-roll-NumExpr (Does Value) (Does ℤ) (Does (List ℕ)) value_by_parts number_by_parts text_by_parts (num_of h)))
       (num_case h (subst (λ (l : List Part). Fits v l) (fold-roll-NumExpr Made (List Part) (List Part) tree.any_layer tree.num_layer tree.str_layer (num_of h)) fit))))
 
   str_step : (x : StrExpr-F AnyExpr NumExpr StrExpr) (h : StrExpr-F ManyAny ManyNum ManyStr) → str_of h ≡ x → StrRead (roll-StrExpr x)
   str_step x h e = subst (λ (y : StrExpr-F AnyExpr NumExpr StrExpr). StrRead (roll-StrExpr y)) e (λ fit.
-      subst (λ (d : Does (List ℕ)). Same d (text_does (roll-StrExpr (str_of h)))) (sym (fold-roll-StrExpr (Does Value) (Does ℤ) (Does (List ℕ)) any_layer (num_by reader) (str_by reader) (str_of h)))
+      subst (λ (d : Does (List ℕ)). Same d (text_does (roll-StrExpr (str_of h)))) (sym (fold-roll-StrExpr (Does Value) (Does ℤ) (Does (List ℕ)) value_by_parts (num_by reader) (str_by reader) (str_of h)))
       (subst (λ (d : Does (List ℕ)). Same (str_by reader (map-StrExpr AnyExpr NumExpr StrExpr (Does Value) (Does ℤ) (Does (List ℕ)) (value_by reader) (number_by reader) (text_by reader) (str_of h))) d)
-      (sym (fold-roll-StrExpr (Does Value) (Does ℤ) (Does (List ℕ)) any_layer num_layer str_layer (str_of h)))
+      (sym (fold-roll-StrExpr (Does Value) (Does ℤ) (Does (List ℕ)) value_by_parts number_by_parts text_by_parts (str_of h)))
       (str_case h (subst (λ (l : List Part). Fits v l) (fold-roll-StrExpr Made (List Part) (List Part) tree.any_layer tree.num_layer tree.str_layer (str_of h)) fit))))
 
   any_step : (x : AnyExpr-F AnyExpr NumExpr StrExpr) (h : AnyExpr-F ManyAny ManyNum ManyStr) → any_of h ≡ x → AnyRead (roll-AnyExpr x)
   any_step x h e = subst (λ (y : AnyExpr-F AnyExpr NumExpr StrExpr). AnyRead (roll-AnyExpr y)) e (λ fit.
-      subst (λ (d : Does Value). Same d (value_does (roll-AnyExpr (any_of h)))) (sym (fold-roll-AnyExpr (Does Value) (Does ℤ) (Does (List ℕ)) any_layer (num_by reader) (str_by reader) (any_of h)))
-      (subst (λ (d : Does Value). Same (any_layer (map-AnyExpr AnyExpr NumExpr StrExpr (Does Value) (Does ℤ) (Does (List ℕ)) (value_by reader) (number_by reader) (text_by reader) (any_of h))) d)
-      (sym (fold-roll-AnyExpr (Does Value) (Does ℤ) (Does (List ℕ)) any_layer num_layer str_layer (any_of h)))
+      subst (λ (d : Does Value). Same d (value_does (roll-AnyExpr (any_of h)))) (sym (fold-roll-AnyExpr (Does Value) (Does ℤ) (Does (List ℕ)) value_by_parts (num_by reader) (str_by reader) (any_of h)))
+      (subst (λ (d : Does Value). Same (value_by_parts (map-AnyExpr AnyExpr NumExpr StrExpr (Does Value) (Does ℤ) (Does (List ℕ)) (value_by reader) (number_by reader) (text_by reader) (any_of h))) d)
+      (sym (fold-roll-AnyExpr (Does Value) (Does ℤ) (Does (List ℕ)) value_by_parts number_by_parts text_by_parts (any_of h)))
       (any_case h (subst (λ (m : Made). Fits v m.parts) (fold-roll-AnyExpr Made (List Part) (List Part) tree.any_layer tree.num_layer tree.str_layer (any_of h)) fit))))
 
   pub num_read : (e : NumExpr) → NumRead e

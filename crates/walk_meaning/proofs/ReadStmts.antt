@@ -21,7 +21,7 @@ use Rattle.bt_core.specs.declared.step.Reply.{Reply}
 use Rattle.bt_core.specs.declared.value.Value.{Value}
 use Rattle.bt_core.specs.declared.value.Value.TheVariants.{Int}
 use Rattle.bt_core.specs.Arithmetic.{binary_value}
-use Rattle.bt_core.specs.Interaction.{Ended, Call}
+use Rattle.bt_core.specs.Interaction.{Interaction, Ended, Call}
 use Rattle.map_rows.specs.Merged.{rows_in, merged, merged_rows}
 use Rattle.typed_tree.specs.declared.expr.AnyExpr.{AnyExpr}
 use Rattle.typed_tree.specs.declared.expr.NumExpr.{NumExpr}
@@ -38,19 +38,19 @@ use Rattle.walk_meaning.specs.declared.flow.Flow.TheVariants.{Next, Break, Conti
 use Rattle.walk_meaning.specs.declared.flow.Frame.{Frame}
 use Rattle.map_ops.specs.declared.sweep.Sweep.TheVariants.{Read}
 use Rattle.walk_meaning.specs.declared.view.View.{View}
-use Rattle.walk_meaning.specs.Does.{Scene, Does, given, seen, changed, lifted, bind, told, in_order}
+use Rattle.walk_meaning.specs.Does.{BodyScene, Does, given, looked_at, changed, lifted, bind, in_order}
 use Rattle.walk_meaning.specs.Exprs.{value_does, values_do, number_does}
 use Rattle.map_ops.specs.Values.{number_of}
-use Rattle.walk_meaning.specs.Maps.{get, set, kind_of, swept}
+use Rattle.walk_meaning.specs.Maps.{get, set, kind_in_body}
 use Rattle.map_ops.specs.Holders.{holder, holders, sweep_op}
-use Rattle.map_ops.specs.Asking.{asked_from, swept as all_swept}
-use Rattle.walk_meaning.specs.Reading.{Reader, number_under, updated_under, value_by, values_by, number_by, number_or_one_by, printed, arm_by, stmt_by, block_by, guarded_by, tree_by, walk_by}
+use Rattle.map_ops.specs.Asking.{asked_from, told, swept, printed}
+use Rattle.walk_meaning.specs.Reading.{Reader, number_under, updated_under, value_by, values_by, number_by, number_or_one_by, printed_by, print_by, arm_by, stmt_by, block_by, guarded_by, tree_by, walk_by}
 use Rattle.bt_core.specs.Same.{SameTo}
-use Rattle.walk_meaning.specs.Stmts.{plain, stmt_layer, block_layer, stmt_does, block_does, number_or_one, kind_seen, print, clear, zero_all, jump_to, cut, update_at, if_next, in_turn, first_arm, arm_does, entered, turn, turns, tests, while_true, again}
-use Rattle.walk_meaning.specs.Walk.{walk, fresh, guarded, tree_does}
+use Rattle.walk_meaning.specs.Stmts.{plain, stmt_by_parts, block_by_parts, stmt_does, block_does, number_or_one, print, clear, zero_all, jump_to, cut, update_at, if_next, in_sequence, first_arm, arm_does, entered, turn, turns, tests, while_true, again}
+use Rattle.walk_meaning.specs.Walk.{walk, first_frame, guarded, tree_does}
 use Rattle.walk_meaning.specs.Served.{Fits, scene_in, scope_in}
-use Rattle.bt_core.proofs.SameLaws.{SameTo-and_then}
-use Rattle.walk_meaning.proofs.ReadExprs.{ReadsAlike, call_at, Ends, Tied, self-tied, bind-tied, bind-same, first-same, either-tied, AnyRead, any_read, num_read, halves, values-same, number-tied}
+use Rattle.bt_core.proofs.SameLaws.{SameTo-self, SameTo-and_then}
+use Rattle.walk_meaning.proofs.ReadExprs.{ReadsAlike, call_at, Ends, Tied, self-tied, bind-tied, bind-same, first-same, if_holds-tied, AnyRead, any_read, num_read, halves, values-same, number-tied}
 use Rattle.walk_meaning.proofs.TreeParts.{update_head}
 
 module _ (comes : Call → Reply → Type 0) (reader : Reader) (v : View) (reads : ReadsAlike comes reader v) where
@@ -94,43 +94,43 @@ module _ (comes : Call → Reply → Type 0) (reader : Reader) (v : View) (reads
       flat_map-append (reader.rows kind) rs (r ∷ []) ∙ ap (λ (l : List (List Value × Cell)). l ++ (reader.rows kind r ++ [])) h ∙ ap (λ (l : List (List Value × Cell)). flat_map (rows_in kind) rs ++ (l ++ [])) e ∙
       sym (flat_map-append (rows_in kind) rs (r ∷ []))
 
-  asked_from-tied : (kind : MapKind) (object : ℕ → ObjectId) (op : Op) (n start : ℕ) (replies : List Reply) → ((i : ℕ) (reply : Reply) → comes (call_at (object i) op) reply → reader.rows kind reply ≡ rows_in kind reply) →
-      flat_map (reader.rows kind) replies ≡ flat_map (rows_in kind) replies → Tied comes (scene_in v) (Rows kind) (lifted (asked_from object op replies start n)) (lifted (asked_from object op replies start n))
-  unfolding lifted
-  asked_from-tied kind object op zero start replies alike h frame = ((refl, h), refl)
-  asked_from-tied kind object op (suc n) start replies alike h frame =
-      (refl, λ r i. asked_from-tied kind object op n (start + 1) (replies ++ r ∷ []) alike (rows-more kind replies r h (alike start r i)) frame)
+  asked_from-same : (kind : MapKind) (object : ℕ → ObjectId) (op : Op) (n start : ℕ) (replies : List Reply) → ((i : ℕ) (reply : Reply) → comes (call_at (object i) op) reply → reader.rows kind reply ≡ rows_in kind reply) →
+      flat_map (reader.rows kind) replies ≡ flat_map (rows_in kind) replies → SameTo comes (Rows kind) (asked_from object op replies start n) (asked_from object op replies start n)
+  asked_from-same kind object op zero start replies alike h = (refl, h)
+  asked_from-same kind object op (suc n) start replies alike h =
+      (refl, λ r i. asked_from-same kind object op n (start + 1) (replies ++ r ∷ []) alike (rows-more kind replies r h (alike start r i)))
 
   abbrev kind_here : MapId → MapKind
-  kind_here m = kind_of m v.body.now.maps
+  kind_here m = kind_in_body m v.body.now.maps
 
-  abbrev actors : Does ℕ
-  actors = seen (λ (scene : Scene) (frame : Frame). scene.actors)
+  swept-same : (m : MapId) → IsTrue (is_there (decl_of m.0 v.body.now.maps)) → SameTo comes (Rows (kind_here m)) (swept Read (kind_here m) m v.actors) (swept Read (kind_here m) m v.actors)
+  swept-same m named =
+      asked_from-same (kind_here m) (holder (kind_here m) m) (sweep_op Read (kind_here m) m) (holders (kind_here m) v.actors) 0 [] (λ i reply h. reads.rows m i reply named h) refl
 
-  swept-tied : (m : MapId) → IsTrue (is_there (decl_of m.0 v.body.now.maps)) → Tied comes (scene_in v) (Rows (kind_here m)) (swept Read (kind_here m) m) (swept Read (kind_here m) m)
-  swept-tied m named =
-      bind-same comes (scene_in v) (Rows (kind_here m)) actors actors (λ n. lifted (all_swept Read (kind_here m) m n)) (λ n. lifted (all_swept Read (kind_here m) m n)) (self actors)
-      (λ n. asked_from-tied (kind_here m) (holder (kind_here m) m) (sweep_op Read (kind_here m) m) (holders (kind_here m) n) 0 [] (λ i reply h. reads.rows m i reply named h) refl)
+  abbrev shown : MapId → ℕ → ℤ → List (List Value × Cell) → Interaction (Unit {0})
+  shown m top div rows = told Out (ops.Emit (items.Map m rows top div))
 
-  shown-same : (m : MapId) (top : ℕ) (div : ℤ) (kind : MapKind) (rs qs : List Reply) → Rows kind rs qs → Same (plain (told Out (ops.Emit (items.Map m (merged_rows (flat_map (reader.rows kind) rs)) top div)))) (plain (told Out (ops.Emit (items.Map m (merged kind qs) top div))))
+  shown-same : (m : MapId) (top : ℕ) (div : ℤ) (kind : MapKind) (rs qs : List Reply) → Rows kind rs qs → SameTo comes (λ (a b : Unit {0}). a ≡ b) (shown m top div (merged_rows (flat_map (reader.rows kind) rs))) (shown m top div (merged kind qs))
   unfolding merged
   shown-same m top div kind rs qs h =
-      subst (λ (rows : List (List Value × Cell)). Same (plain (told Out (ops.Emit (items.Map m (merged_rows (flat_map (reader.rows kind) rs)) top div)))) (plain (told Out (ops.Emit (items.Map m (merged_rows rows) top div)))))
-      (h.1 ∙ ap (λ (l : List Reply). flat_map (rows_in kind) l) h.0) (self (plain (told Out (ops.Emit (items.Map m (merged_rows (flat_map (reader.rows kind) rs)) top div)))))
+      subst (λ (rows : List (List Value × Cell)). SameTo comes (λ (a b : Unit {0}). a ≡ b) (shown m top div (merged_rows (flat_map (reader.rows kind) rs))) (shown m top div (merged_rows rows)))
+      (h.1 ∙ ap (λ (l : List Reply). flat_map (rows_in kind) l) h.0)
+      (SameTo-self comes (λ (a b : Unit {0}). a ≡ b) (λ u. refl) (shown m top div (merged_rows (flat_map (reader.rows kind) rs))))
 
-  kind-tied : (m : MapId) → Tied comes (scene_in v) (λ (k j : MapKind). (k ≡ j) × (kind_here m ≡ k)) (kind_seen m) (kind_seen m)
-  unfolding seen
-  kind-tied m frame = ((refl, refl), refl)
+  printed-same : (m : MapId) (top : ℕ) (div : ℤ) → IsTrue (is_there (decl_of m.0 v.body.now.maps)) → SameTo comes (λ (a b : Unit {0}). a ≡ b) (printed_by reader (kind_here m) m top div v.actors) (printed (kind_here m) m top div v.actors)
+  printed-same m top div named =
+      SameTo-and_then comes (Rows (kind_here m)) (λ (a b : Unit {0}). a ≡ b) (swept Read (kind_here m) m v.actors) (swept Read (kind_here m) m v.actors)
+      (λ rs. shown m top div (merged_rows (flat_map (reader.rows (kind_here m)) rs))) (λ qs. shown m top div (merged (kind_here m) qs)) (swept-same m named) (shown-same m top div (kind_here m))
 
-  print-same : (m : MapId) (top : ℕ) (div : ℤ) → IsTrue (is_there (decl_of m.0 v.body.now.maps)) → Same (printed reader m top div) (print m top div)
+  lifted-same : {A : Type 0} (t u : BodyScene → Interaction A) → SameTo comes (λ (a b : A). a ≡ b) (t (scene_in v)) (u (scene_in v)) → Same (lifted t) (lifted u)
+  unfolding lifted
+  lifted-same {A} t u p frame =
+      SameTo-and_then comes (λ (a b : A). a ≡ b) (Ends comes (scene_in v) (λ (a b : A). a ≡ b)) (t (scene_in v)) (u (scene_in v)) (λ value. Ended (value, frame)) (λ value. Ended (value, frame)) p (λ a b h. (h, refl))
+
+  print-same : (m : MapId) (top : ℕ) (div : ℤ) → IsTrue (is_there (decl_of m.0 v.body.now.maps)) → Same (print_by reader m top div) (print m top div)
   print-same m top div named =
-      bind-tied comes (scene_in v) (λ (k j : MapKind). (k ≡ j) × (kind_here m ≡ k)) (λ (a b : Flow). a ≡ b) (kind_seen m) (kind_seen m)
-      (λ kind. bind (swept Read kind m) (λ replies. plain (told Out (ops.Emit (items.Map m (merged_rows (flat_map (reader.rows kind) replies)) top div)))))
-      (λ kind. bind (swept Read kind m) (λ replies. plain (told Out (ops.Emit (items.Map m (merged kind replies) top div)))))
-      (kind-tied m)
-      (λ k j h. subst (λ (x : MapKind). Same (bind (swept Read k m) (λ replies. plain (told Out (ops.Emit (items.Map m (merged_rows (flat_map (reader.rows k) replies)) top div))))) (bind (swept Read x m) (λ replies. plain (told Out (ops.Emit (items.Map m (merged x replies) top div)))))) h.0
-      (subst (λ (x : MapKind). Same (bind (swept Read x m) (λ replies. plain (told Out (ops.Emit (items.Map m (merged_rows (flat_map (reader.rows x) replies)) top div))))) (bind (swept Read x m) (λ replies. plain (told Out (ops.Emit (items.Map m (merged x replies) top div)))))) h.1
-      (bind-tied comes (scene_in v) (Rows (kind_here m)) (λ (a b : Flow). a ≡ b) (swept Read (kind_here m) m) (swept Read (kind_here m) m) _ _ (swept-tied m named) (shown-same m top div (kind_here m)))))
+      first (lifted (λ scene. printed_by reader (kind_in_body m scene.maps) m top div scene.actors)) (lifted (λ scene. printed (kind_in_body m scene.maps) m top div scene.actors)) (λ u. given Next)
+      (lifted-same (λ scene. printed_by reader (kind_in_body m scene.maps) m top div scene.actors) (λ scene. printed (kind_in_body m scene.maps) m top div scene.actors) (printed-same m top div named))
 
   update-same : (m : MapId) (keys : List Shape) (op : BinOp) (b : ℤ) (key : List Value) → IsTrue (is_declared (decl_of m.0 v.body.now.maps) Ints keys) → Same (updated_under reader m op b key) (update_at m key op b)
   update-same m keys op b key d =
@@ -155,7 +155,7 @@ module _ (comes : Call → Reply → Type 0) (reader : Reader) (v : View) (reads
   entering left = changed (λ (frame : Frame). record frame { turns = left })
 
   abbrev left_over : Does ℕ
-  left_over = seen (λ (scene : Scene) (frame : Frame). frame.turns)
+  left_over = looked_at (λ (scene : BodyScene) (frame : Frame). frame.turns)
 
   entered-same : (line : ℕ) (one other : Does Flow) (n : ℕ) → Same one other → Same (entered line one n) (entered line other n)
   entered-same line one other zero p = self (cut line)
@@ -172,7 +172,7 @@ module _ (comes : Call → Reply → Type 0) (reader : Reader) (v : View) (reads
   tests-same : (n line : ℕ) (test by : Does ℤ) (one other : Does Flow) → Same test by → Same one other → Same (tests n line test one) (tests n line by other)
   tests-same zero line test by one other t p = self (given Next)
   tests-same (suc n) line test by one other t p =
-      either-tied comes (scene_in v) test by (bind (turn line one) (λ flow. again flow (tests n line test one))) (given Next) (bind (turn line other) (λ flow. again flow (tests n line by other))) (given Next) t
+      if_holds-tied comes (scene_in v) test by (bind (turn line one) (λ flow. again flow (tests n line test one))) (given Next) (bind (turn line other) (λ flow. again flow (tests n line by other))) (given Next) t
       (next-same (turn line one) (turn line other) (λ flow. again flow (tests n line test one)) (λ flow. again flow (tests n line by other)) (turn-same line one other p)
       (λ flow. again-same flow (tests n line test one) (tests n line by other) (tests-same n line test by one other t p)))
       (self (given Next))
@@ -183,7 +183,7 @@ module _ (comes : Call → Reply → Type 0) (reader : Reader) (v : View) (reads
   -- ---- trees
 
   abbrev stmt_does_by : TypedStmt → Does Flow
-  stmt_does_by = fold-TypedStmt (Does Flow) (Does Flow) (stmt_by reader) block_layer
+  stmt_does_by = fold-TypedStmt (Does Flow) (Does Flow) (stmt_by reader) block_by_parts
 
   abbrev StmtRead : TypedStmt → Type 0
   StmtRead s = (inside : Bool) → Fits v (stmt_parts s inside) → Same (stmt_does_by s) (stmt_does s)
@@ -200,12 +200,12 @@ module _ (comes : Call → Reply → Type 0) (reader : Reader) (v : View) (reads
   abbrev firsts : List ManyStmt → List TypedStmt
   firsts ss = map (λ (k : ManyStmt). k.0) ss
 
-  stmts-same : (ss : List ManyStmt) (inside : Bool) → Fits v (joined (map (λ (k : Bool → List Part). k inside) (map stmt_parts (firsts ss)))) → Same (in_turn (map stmt_does_by (firsts ss))) (in_turn (map stmt_does (firsts ss)))
+  stmts-same : (ss : List ManyStmt) (inside : Bool) → Fits v (joined (map (λ (k : Bool → List Part). k inside) (map stmt_parts (firsts ss)))) → Same (in_sequence (map stmt_does_by (firsts ss))) (in_sequence (map stmt_does (firsts ss)))
   stmts-same [] inside fit = self (given Next)
   stmts-same (s ∷ ss) inside fit =
       let p = parts (stmt_parts s.0 inside) (joined (map (λ (k : Bool → List Part). k inside) (map stmt_parts (firsts ss)))) fit in
-      next-same (stmt_does_by s.0) (stmt_does s.0) (λ flow. if_next flow (in_turn (map stmt_does_by (firsts ss)))) (λ flow. if_next flow (in_turn (map stmt_does (firsts ss)))) (s.1 inside p.0)
-      (λ flow. if_next-same flow (in_turn (map stmt_does_by (firsts ss))) (in_turn (map stmt_does (firsts ss))) (stmts-same ss inside p.1))
+      next-same (stmt_does_by s.0) (stmt_does s.0) (λ flow. if_next flow (in_sequence (map stmt_does_by (firsts ss)))) (λ flow. if_next flow (in_sequence (map stmt_does (firsts ss)))) (s.1 inside p.0)
+      (λ flow. if_next-same flow (in_sequence (map stmt_does_by (firsts ss))) (in_sequence (map stmt_does (firsts ss))) (stmts-same ss inside p.1))
 
   abbrev blocks_of : List (NumExpr × ManyBlock) → List (NumExpr × TypedBlock)
   blocks_of arms = map (former-TypedStmt-If-0-at-2.map ManyBlock TypedBlock (λ k. k.0)) arms
@@ -219,7 +219,7 @@ module _ (comes : Call → Reply → Type 0) (reader : Reader) (v : View) (reads
   arms-same (arm ∷ arms) inside one other fit p =
       let front = parts (arm_parts (arm.0, block_parts arm.1.0 inside)) (arms_made inside arms) fit in
       let own = parts (num_parts arm.0) (block_parts arm.1.0 inside) front.0 in
-      either-tied comes (scene_in v) (number_by reader arm.0) (number_does arm.0) (block_by reader arm.1.0) _ (block_does arm.1.0) _ (num_read comes reader v reads arm.0 own.0) (arm.1.1 inside own.1) (arms-same arms inside one other front.1 p)
+      if_holds-tied comes (scene_in v) (number_by reader arm.0) (number_does arm.0) (block_by reader arm.1.0) _ (block_does arm.1.0) _ (num_read comes reader v reads arm.0 own.0) (arm.1.1 inside own.1) (arms-same arms inside one other front.1 p)
 
   abbrev stmt_of : TypedStmt-F ManyStmt ManyBlock → TypedStmt-F TypedStmt TypedBlock
   stmt_of h = map-TypedStmt ManyStmt ManyBlock TypedStmt TypedBlock (λ k. k.0) (λ k. k.0) h
@@ -229,7 +229,7 @@ module _ (comes : Call → Reply → Type 0) (reader : Reader) (v : View) (reads
   number-same (Some e) fit = num_read comes reader v reads e fit
 
   stmt_case : (h : TypedStmt-F ManyStmt ManyBlock) (inside : Bool) → Fits v (tree.stmt_layer (map-TypedStmt TypedStmt TypedBlock (Bool → List Part) (Bool → List Part) stmt_parts block_parts (stmt_of h)) inside) →
-      Same (stmt_by reader (map-TypedStmt TypedStmt TypedBlock (Does Flow) (Does Flow) stmt_does_by (block_by reader) (stmt_of h))) (stmt_layer (map-TypedStmt TypedStmt TypedBlock (Does Flow) (Does Flow) stmt_does block_does (stmt_of h)))
+      Same (stmt_by reader (map-TypedStmt TypedStmt TypedBlock (Does Flow) (Does Flow) stmt_does_by (block_by reader) (stmt_of h))) (stmt_by_parts (map-TypedStmt TypedStmt TypedBlock (Does Flow) (Does Flow) stmt_does block_does (stmt_of h)))
   stmt_case (TypedStmt-F.SetVar var value) inside fit =
       first (value_by reader value) (value_does value) _ (any_read comes reader v reads value (tail (tree.VarOf var (made_of value).shape) (made_of value).parts fit))
   stmt_case (TypedStmt-F.SetMap m keys value) inside fit =
@@ -265,8 +265,8 @@ module _ (comes : Call → Reply → Type 0) (reader : Reader) (v : View) (reads
 
   stmt_step : (x : TypedStmt-F TypedStmt TypedBlock) (h : TypedStmt-F ManyStmt ManyBlock) → stmt_of h ≡ x → StmtRead (roll-TypedStmt x)
   stmt_step x h e = subst (λ (y : TypedStmt-F TypedStmt TypedBlock). StmtRead (roll-TypedStmt y)) e (λ inside fit.
-      subst (λ (d : Does Flow). Same d (stmt_does (roll-TypedStmt (stmt_of h)))) (sym (fold-roll-TypedStmt (Does Flow) (Does Flow) (stmt_by reader) block_layer (stmt_of h)))
-      (subst (λ (d : Does Flow). Same (stmt_by reader (map-TypedStmt TypedStmt TypedBlock (Does Flow) (Does Flow) stmt_does_by (block_by reader) (stmt_of h))) d) (sym (fold-roll-TypedStmt (Does Flow) (Does Flow) stmt_layer block_layer (stmt_of h)))
+      subst (λ (d : Does Flow). Same d (stmt_does (roll-TypedStmt (stmt_of h)))) (sym (fold-roll-TypedStmt (Does Flow) (Does Flow) (stmt_by reader) block_by_parts (stmt_of h)))
+      (subst (λ (d : Does Flow). Same (stmt_by reader (map-TypedStmt TypedStmt TypedBlock (Does Flow) (Does Flow) stmt_does_by (block_by reader) (stmt_of h))) d) (sym (fold-roll-TypedStmt (Does Flow) (Does Flow) stmt_by_parts block_by_parts (stmt_of h)))
       (stmt_case h inside (subst (λ (k : Bool → List Part). Fits v (k inside)) (fold-roll-TypedStmt (Bool → List Part) (Bool → List Part) tree.stmt_layer tree.block_layer (stmt_of h)) fit))))
 
   abbrev block_of : TypedBlock-F ManyStmt ManyBlock → TypedBlock-F TypedStmt TypedBlock
@@ -274,8 +274,8 @@ module _ (comes : Call → Reply → Type 0) (reader : Reader) (v : View) (reads
 
   block_step : (x : TypedBlock-F TypedStmt TypedBlock) (h : TypedBlock-F ManyStmt ManyBlock) → block_of h ≡ x → BlockRead (roll-TypedBlock x)
   block_step x h e = subst (λ (y : TypedBlock-F TypedStmt TypedBlock). BlockRead (roll-TypedBlock y)) e (λ inside fit.
-      subst (λ (d : Does Flow). Same d (block_does (roll-TypedBlock (block_of h)))) (sym (fold-roll-TypedBlock (Does Flow) (Does Flow) (stmt_by reader) block_layer (block_of h)))
-      (subst (λ (d : Does Flow). Same (block_layer (map-TypedBlock TypedStmt TypedBlock (Does Flow) (Does Flow) stmt_does_by (block_by reader) (block_of h))) d) (sym (fold-roll-TypedBlock (Does Flow) (Does Flow) stmt_layer block_layer (block_of h)))
+      subst (λ (d : Does Flow). Same d (block_does (roll-TypedBlock (block_of h)))) (sym (fold-roll-TypedBlock (Does Flow) (Does Flow) (stmt_by reader) block_by_parts (block_of h)))
+      (subst (λ (d : Does Flow). Same (block_by_parts (map-TypedBlock TypedStmt TypedBlock (Does Flow) (Does Flow) stmt_does_by (block_by reader) (block_of h))) d) (sym (fold-roll-TypedBlock (Does Flow) (Does Flow) stmt_by_parts block_by_parts (block_of h)))
       (stmts-same h.stmts inside (parts (joined (map (λ (k : Bool → List Part). k inside) (map stmt_parts (firsts h.stmts)))) (Ends_block ∷ []) (subst (λ (k : Bool → List Part). Fits v (k inside)) (fold-roll-TypedBlock (Bool → List Part) (Bool → List Part) tree.stmt_layer tree.block_layer (block_of h)) fit)).0)))
 
   block_read : (b : TypedBlock) → BlockRead b
@@ -284,7 +284,7 @@ module _ (comes : Call → Reply → Type 0) (reader : Reader) (v : View) (reads
   guarded-same : (predicate : Option NumExpr) (block : TypedBlock) → Fits v (predicate_parts predicate) → Fits v (block_parts block false) → Same (guarded_by reader predicate (block_by reader block)) (guarded predicate (block_does block))
   guarded-same None block fit own = block_read block false own
   guarded-same (Some e) block fit own =
-      either-tied comes (scene_in v) (number_by reader e) (number_does e) (block_by reader block) (given Next) (block_does block) (given Next) (num_read comes reader v reads e (tail Otherwise (num_parts e) fit)) (block_read block false own) (self (given Next))
+      if_holds-tied comes (scene_in v) (number_by reader e) (number_does e) (block_by reader block) (given Next) (block_does block) (given Next) (num_read comes reader v reads e (tail Otherwise (num_parts e) fit)) (block_read block false own) (self (given Next))
 
   tree-same : Same (tree_by reader v.body.now.tree) (tree_does v.body.now.tree)
   tree-same =
@@ -295,5 +295,5 @@ module _ (comes : Call → Reply → Type 0) (reader : Reader) (v : View) (reads
   pub walks-same : SameTo comes (λ (a b : Ending). a ≡ b) (walk_by reader v.body.now v.context.now v.payload.now v.actor v.actors) (walk v.body.now v.context.now v.payload.now v.actor v.actors)
   unfolding walk walk_by
   walks-same =
-      SameTo-and_then comes (Ends comes (scene_in v) (λ (a b : Ending). a ≡ b)) (λ (a b : Ending). a ≡ b) (tree_by reader v.body.now.tree (scene_in v) (fresh v.body.now.tree.variables)) (tree_does v.body.now.tree (scene_in v) (fresh v.body.now.tree.variables))
-      (λ w. Ended w.0) (λ w. Ended w.0) (tree-same (fresh v.body.now.tree.variables)) (λ w z h. h.0)
+      SameTo-and_then comes (Ends comes (scene_in v) (λ (a b : Ending). a ≡ b)) (λ (a b : Ending). a ≡ b) (tree_by reader v.body.now.tree (scene_in v) (first_frame v.body.now.tree.variables)) (tree_does v.body.now.tree (scene_in v) (first_frame v.body.now.tree.variables))
+      (λ w. Ended w.0) (λ w. Ended w.0) (tree-same (first_frame v.body.now.tree.variables)) (λ w z h. h.0)

@@ -20,7 +20,7 @@ use Rattle.typed_tree.specs.declared.body.TypedBody.{TypedBody}
 use Rattle.map_ops.specs.declared.sweep.Sweep.TheVariants.{Read}
 use Rattle.walk_meaning.specs.declared.view.View.{View}
 use Rattle.map_ops.specs.Values.{number_of, text_of, value_of}
-use Rattle.walk_meaning.specs.Maps.{kind_of}
+use Rattle.walk_meaning.specs.Maps.{kind_in_body}
 use Rattle.map_ops.specs.Holders.{holder, sweep_op}
 use Rattle.walk_meaning.specs.Reading.{Reader, TakesWhatIsThere, own_reader, walk_by}
 use Rattle.walk_meaning.specs.SameUnder.{SameUnder, SameAlways, IsReplyTo}
@@ -98,7 +98,7 @@ alike v setting reader served takes =
       texts = λ m keys key reply d h.
           let f = valued v setting m keys shapes.Str served d in
           got_text reader takes f.decl key reply f.kind (found_holds (slice_get setting.maps m.0) f.decl (λ decl. IsSharedReply decl (ops.Get key) reply) f.here h);
-      rows = λ m n reply named h. rows_are reader takes setting.maps m n (kind_of m v.body.now.maps) reply h;
+      rows = λ m n reply named h. rows_are reader takes setting.maps m n (kind_in_body m v.body.now.maps) reply h;
     }
 
 abbrev view_of : TypedBody → Context → List ℕ → ℕ → ℕ → View

@@ -18,11 +18,11 @@ use Rattle.walk_meaning.specs.declared.flow.Flow.TheVariants.{Next}
 use Rattle.walk_meaning.specs.declared.view.View.{View}
 use Rattle.walk_meaning.specs.Does.{Does, given}
 use Rattle.walk_meaning.specs.Exprs.{number_does}
-use Rattle.walk_meaning.specs.Stmts.{stmt_layer, block_layer, stmt_does, block_does, print, first_arm, block_or_next, in_turn, arm_does}
+use Rattle.walk_meaning.specs.Stmts.{stmt_by_parts, block_by_parts, stmt_does, block_does, print, first_arm, block_or_next, in_sequence, arm_does}
 use Rattle.walk_meaning.specs.Served.{Fits, StmtFits, BlockFits, scope_in}
 
 pub print_stmt : (s : TypedStmt) (m : MapId) (top : ℕ) (div : ℤ) → s ≡ stmts.Print m top div → stmt_does s ≡ print m top div
-print_stmt s m top div h = ap stmt_does h ∙ (ap stmt_does (sym (stmts.rolls-Print m top div)) ∙ fold-roll-TypedStmt (Does Flow) (Does Flow) stmt_layer block_layer (TypedStmt-F.Print m top div))
+print_stmt s m top div h = ap stmt_does h ∙ (ap stmt_does (sym (stmts.rolls-Print m top div)) ∙ fold-roll-TypedStmt (Does Flow) (Does Flow) stmt_by_parts block_by_parts (TypedStmt-F.Print m top div))
 
 -- ---- arms
 
@@ -34,9 +34,9 @@ arms_mapped [] = refl
 arms_mapped (arm ∷ arms) = ap (λ (l : List (Does ℤ × Does Flow)). arm_of arm ∷ l) (arms_mapped arms)
 
 if_is : (arms : List (NumExpr × TypedBlock)) (otherwise : Option TypedBlock) → stmt_does (stmts.If arms otherwise) ≡ first_arm (map arm_of arms) (block_or_next (option_map block_does otherwise))
-if_is arms None = ap stmt_does (sym (stmts.rolls-If arms None)) ∙ (fold-roll-TypedStmt (Does Flow) (Does Flow) stmt_layer block_layer (TypedStmt-F.If arms None)
+if_is arms None = ap stmt_does (sym (stmts.rolls-If arms None)) ∙ (fold-roll-TypedStmt (Does Flow) (Does Flow) stmt_by_parts block_by_parts (TypedStmt-F.If arms None)
     ∙ ap (λ (l : List (Does ℤ × Does Flow)). first_arm l (given Next)) (arms_mapped arms))
-if_is arms (Some block) = ap stmt_does (sym (stmts.rolls-If arms (Some block))) ∙ (fold-roll-TypedStmt (Does Flow) (Does Flow) stmt_layer block_layer (TypedStmt-F.If arms (Some block))
+if_is arms (Some block) = ap stmt_does (sym (stmts.rolls-If arms (Some block))) ∙ (fold-roll-TypedStmt (Does Flow) (Does Flow) stmt_by_parts block_by_parts (TypedStmt-F.If arms (Some block))
     ∙ ap (λ (l : List (Does ℤ × Does Flow)). first_arm l (block_does block)) (arms_mapped arms))
 
 pub if_stmt : (s : TypedStmt) (arms : List (NumExpr × TypedBlock)) (otherwise : Option TypedBlock) (arms1 : List (NumExpr × TypedBlock)) → s ≡ stmts.If arms otherwise → arms1 ≡ arms →
@@ -82,8 +82,8 @@ otherwise_fits v s arms otherwise block h e fit =
 
 -- ---- blocks
 
-pub block_is : (b : TypedBlock) → block_does b ≡ in_turn (map stmt_does (out-TypedBlock b).stmts)
-block_is b = fold_out-TypedBlock (Does Flow) (Does Flow) stmt_layer block_layer b
+pub block_is : (b : TypedBlock) → block_does b ≡ in_sequence (map stmt_does (out-TypedBlock b).stmts)
+block_is b = fold_out-TypedBlock (Does Flow) (Does Flow) stmt_by_parts block_by_parts b
 
 block_made : (b : TypedBlock) → block_parts b ≡ (λ inside. joined (map (λ (k : Bool → List Part). k inside) (map stmt_parts (out-TypedBlock b).stmts)) ++ Ending ∷ [])
 block_made b = fold_out-TypedBlock (Bool → List Part) (Bool → List Part) tree.stmt_layer tree.block_layer b

@@ -3,15 +3,12 @@ use Rattle.std.specs.Prelude.{ℕ, ℤ, Bool, true, false, List, [], ◌∷◌, 
 use Rattle.bt_core.specs.declared.context.Context.{Context}
 use Rattle.bt_core.specs.declared.map.MapDecl.{MapDecl}
 use Rattle.bt_core.specs.declared.map.MapId.{MapId}
-use Rattle.bt_core.specs.declared.step.ObjectId.{ObjectId}
-use Rattle.bt_core.specs.declared.step.Op.{Op}
-use Rattle.bt_core.specs.declared.step.Reply.{Reply}
-use Rattle.bt_core.specs.Interaction.{Interaction, Ended, ask, and_then}
+use Rattle.bt_core.specs.Interaction.{Interaction, Ended, and_then}
 use Rattle.map_ops.specs.Values.{holds}
 use Rattle.walk_meaning.specs.declared.flow.Frame.{Frame}
 
 -- what the run of a body sees: the context, the payload, its actor, how many actors there are, and the maps that the body names
-pub record Scene : Type 0 where
+pub record BodyScene : Type 0 where
   pub context : Context
   pub payload : List ℕ
   pub actor : ℕ
@@ -20,27 +17,23 @@ pub record Scene : Type 0 where
 
 -- from what is seen and the frame to a value and the frame after it, by calls
 abbrev pub Does : Type 0 → Type 0
-Does A = Scene → Frame → Interaction (A × Frame)
+Does A = BodyScene → Frame → Interaction (A × Frame)
 
 -- a value, and nothing else
 unfoldable pub given : {A : Type 0} → A → Does A
 given a scene frame = Ended (a, frame)
 
 -- a value that is read from what is seen and from the frame
-unfoldable pub seen : {A : Type 0} → (Scene → Frame → A) → Does A
-seen look scene frame = Ended (look scene frame, frame)
+unfoldable pub looked_at : {A : Type 0} → (BodyScene → Frame → A) → Does A
+looked_at look scene frame = Ended (look scene frame, frame)
 
 -- the frame is changed
 unfoldable pub changed : (Frame → Frame) → Does (Unit {0})
 changed change scene frame = Ended (tt, change frame)
 
--- what objects are asked, whatever is seen; the frame stays as it is
-unfoldable pub lifted : {A : Type 0} → Interaction A → Does A
-lifted t scene frame = and_then t (λ value. Ended (value, frame))
-
--- one call, and its reply
-abbrev pub asked : ObjectId → Op → Does Reply
-asked object op = lifted (ask object op)
+-- what objects are asked, which may depend on what is seen; the frame stays as it is
+unfoldable pub lifted : {A : Type 0} → (BodyScene → Interaction A) → Does A
+lifted ask scene frame = and_then (ask scene) (λ value. Ended (value, frame))
 
 -- the one, and then the next, which may depend on the value of the one
 unfoldable pub bind : {A B : Type 0} → Does A → (A → Does B) → Does B
@@ -55,13 +48,9 @@ choose false one other = other
 abbrev pub then : {A B : Type 0} → Does A → Does B → Does B
 then one next = bind one (λ value. next)
 
--- one call, whose reply says nothing
-abbrev pub told : ObjectId → Op → Does (Unit {0})
-told object op = then (asked object op) (given tt)
-
 -- a test, and then only what it asks for
-abbrev pub either : {A : Type 0} → Does ℤ → Does A → Does A → Does A
-either test one other = bind test (λ n. choose (holds n) one other)
+abbrev pub if_holds : {A : Type 0} → Does ℤ → Does A → Does A → Does A
+if_holds test one other = bind test (λ n. choose (holds n) one other)
 
 -- behind the values that there are, those of all others from left to right
 abbrev pub gathered : {A : Type 0} → List A → List (Does A) → Does (List A)

@@ -15,21 +15,21 @@ use Rattle.typed_tree.specs.declared.expr.NumBuiltin.{NumBuiltin}
 use Rattle.typed_tree.specs.declared.expr.NumExpr.{NumExpr, fold-NumExpr}
 use Rattle.typed_tree.specs.declared.expr.StrExpr.{StrExpr, fold-StrExpr}
 use Rattle.map_ops.specs.Builtins.{builtin_value}
-use Rattle.walk_meaning.specs.Does.{Does, given, seen, bind, then, either, in_order}
+use Rattle.walk_meaning.specs.Does.{Does, given, looked_at, bind, then, if_holds, in_order}
 use Rattle.map_ops.specs.Values.{holds, number_of, text_of, next}
 use Rattle.walk_meaning.specs.Maps.{number_variable, text_variable, assigned, get, set}
 
 abbrev pub builtin : NumBuiltin → Does ℤ
-builtin b = seen (λ scene frame. builtin_value b scene.context)
+builtin b = looked_at (λ scene frame. builtin_value b scene.context)
 
 abbrev pub command : Does (List ℕ)
-command = seen (λ scene frame. scene.context.comm)
+command = looked_at (λ scene frame. scene.context.comm)
 
 abbrev pub number_field : Field → Does ℤ
-number_field field = seen (λ scene frame. field_number field scene.payload)
+number_field field = looked_at (λ scene frame. field_number field scene.payload)
 
 abbrev pub text_field : Field → Does (List ℕ)
-text_field field = seen (λ scene frame. field_text field scene.payload)
+text_field field = looked_at (λ scene frame. field_text field scene.payload)
 
 -- an operator before its operand, and between its operands
 abbrev pub before : UnOp → Does ℤ → Does ℤ
@@ -39,8 +39,8 @@ abbrev pub both : BinOp → Does ℤ → Does ℤ → Does ℤ
 both op left right = bind left (λ a. bind right (λ b. given (binary_value op a b)))
 
 -- 1 where two strings are equal, or where they differ, and otherwise 0
-abbrev pub compared : Bool → Does (List ℕ) → Does (List ℕ) → Does ℤ
-compared equal left right = bind left (λ a. bind right (λ b. given (truth (cond equal (bytes_eq a b) (not (bytes_eq a b))))))
+abbrev pub texts_compared : Bool → Does (List ℕ) → Does (List ℕ) → Does ℤ
+texts_compared equal left right = bind left (λ a. bind right (λ b. given (truth (cond equal (bytes_eq a b) (not (bytes_eq a b))))))
 
 -- 1 or 0, by whether the number counts as true
 abbrev pub tested : Does ℤ → Does ℤ
@@ -48,10 +48,10 @@ tested d = bind d (λ n. given (truth (holds n)))
 
 -- `&&` and `||`: the right side is done only where the left one does not decide
 abbrev pub and_also : Does ℤ → Does ℤ → Does ℤ
-and_also left right = either left (tested right) (given (pos 0))
+and_also left right = if_holds left (tested right) (given (pos 0))
 
 abbrev pub or_else : Does ℤ → Does ℤ → Does ℤ
-or_else left right = either left (given (pos 1)) (tested right)
+or_else left right = if_holds left (given (pos 1)) (tested right)
 
 -- a key, and then the value under it
 abbrev pub read : MapId → List (Does Value) → Does Value
@@ -84,42 +84,42 @@ abbrev pub text_value : Does (List ℕ) → Does Value
 text_value d = bind d (λ s. given (Str s))
 
 -- each kind of expression, by what its parts do
-abbrev pub num_layer : NumExpr-F (Does Value) (Does ℤ) (Does (List ℕ)) → Does ℤ
-num_layer (NumExpr-F.Number n) = given n
-num_layer (NumExpr-F.Builtin b) = builtin b
-num_layer (NumExpr-F.NumExpr::Field f) = number_field f
-num_layer (NumExpr-F.NumExpr::Var n) = number_variable n
-num_layer (NumExpr-F.NumExpr::Map m keys) = read_number m keys
-num_layer (NumExpr-F.StepVar n plus prefix) = step_variable n plus prefix
-num_layer (NumExpr-F.StepMap m keys plus prefix) = step_map m keys plus prefix
-num_layer (NumExpr-F.Unary op value) = before op value
-num_layer (NumExpr-F.Binary op left right) = both op left right
-num_layer (NumExpr-F.Compare equal left right) = compared equal left right
-num_layer (NumExpr-F.AndThen left right) = and_also left right
-num_layer (NumExpr-F.OrElse left right) = or_else left right
-num_layer (NumExpr-F.NumExpr::Choose test one other) = either test one other
+abbrev pub number_by_parts : NumExpr-F (Does Value) (Does ℤ) (Does (List ℕ)) → Does ℤ
+number_by_parts (NumExpr-F.Number n) = given n
+number_by_parts (NumExpr-F.Builtin b) = builtin b
+number_by_parts (NumExpr-F.NumExpr::Field f) = number_field f
+number_by_parts (NumExpr-F.NumExpr::Var n) = number_variable n
+number_by_parts (NumExpr-F.NumExpr::Map m keys) = read_number m keys
+number_by_parts (NumExpr-F.StepVar n plus prefix) = step_variable n plus prefix
+number_by_parts (NumExpr-F.StepMap m keys plus prefix) = step_map m keys plus prefix
+number_by_parts (NumExpr-F.Unary op value) = before op value
+number_by_parts (NumExpr-F.Binary op left right) = both op left right
+number_by_parts (NumExpr-F.Compare equal left right) = texts_compared equal left right
+number_by_parts (NumExpr-F.AndThen left right) = and_also left right
+number_by_parts (NumExpr-F.OrElse left right) = or_else left right
+number_by_parts (NumExpr-F.NumExpr::Choose test one other) = if_holds test one other
 
-abbrev pub str_layer : StrExpr-F (Does Value) (Does ℤ) (Does (List ℕ)) → Does (List ℕ)
-str_layer (StrExpr-F.Text text) = given text
-str_layer StrExpr-F.Comm = command
-str_layer (StrExpr-F.StrExpr::Field f) = text_field f
-str_layer (StrExpr-F.StrExpr::Var n) = text_variable n
-str_layer (StrExpr-F.StrExpr::Map m keys) = read_text m keys
-str_layer (StrExpr-F.StrExpr::Choose test one other) = either test one other
+abbrev pub text_by_parts : StrExpr-F (Does Value) (Does ℤ) (Does (List ℕ)) → Does (List ℕ)
+text_by_parts (StrExpr-F.Text text) = given text
+text_by_parts StrExpr-F.Comm = command
+text_by_parts (StrExpr-F.StrExpr::Field f) = text_field f
+text_by_parts (StrExpr-F.StrExpr::Var n) = text_variable n
+text_by_parts (StrExpr-F.StrExpr::Map m keys) = read_text m keys
+text_by_parts (StrExpr-F.StrExpr::Choose test one other) = if_holds test one other
 
-abbrev pub any_layer : AnyExpr-F (Does Value) (Does ℤ) (Does (List ℕ)) → Does Value
-any_layer (AnyExpr-F.Num number) = number_value number
-any_layer (AnyExpr-F.Str text) = text_value text
+abbrev pub value_by_parts : AnyExpr-F (Does Value) (Does ℤ) (Does (List ℕ)) → Does Value
+value_by_parts (AnyExpr-F.Num number) = number_value number
+value_by_parts (AnyExpr-F.Str text) = text_value text
 
 -- what an expression does, one that is a whole number, and one that is a string
 abbrev pub value_does : AnyExpr → Does Value
-value_does = fold-AnyExpr (Does Value) (Does ℤ) (Does (List ℕ)) any_layer num_layer str_layer
+value_does = fold-AnyExpr (Does Value) (Does ℤ) (Does (List ℕ)) value_by_parts number_by_parts text_by_parts
 
 abbrev pub number_does : NumExpr → Does ℤ
-number_does = fold-NumExpr (Does Value) (Does ℤ) (Does (List ℕ)) any_layer num_layer str_layer
+number_does = fold-NumExpr (Does Value) (Does ℤ) (Does (List ℕ)) value_by_parts number_by_parts text_by_parts
 
 abbrev pub text_does : StrExpr → Does (List ℕ)
-text_does = fold-StrExpr (Does Value) (Does ℤ) (Does (List ℕ)) any_layer num_layer str_layer
+text_does = fold-StrExpr (Does Value) (Does ℤ) (Does (List ℕ)) value_by_parts number_by_parts text_by_parts
 
 abbrev pub values_do : List AnyExpr → List (Does Value)
 values_do es = map value_does es

@@ -18,7 +18,7 @@ use Rattle.bt_core.specs.declared.step.Reply.TheVariants as replies
 use Rattle.bt_core.specs.declared.value.Value.{Value}
 use Rattle.bt_core.specs.declared.value.Value.TheVariants.{Int, Str}
 use Rattle.bt_core.specs.Arithmetic.{binary_value}
-use Rattle.bt_core.specs.Interaction.{Interaction, Ended, and_then}
+use Rattle.bt_core.specs.Interaction.{Interaction, Ended, ask, and_then}
 use Rattle.bt_core.specs.Kinds.{IsShared}
 use Rattle.map_rows.specs.Merged.{rows_in, value_row, agg_row, merged_rows}
 use Rattle.typed_tree.specs.declared.body.TypedBody.{TypedBody}
@@ -32,13 +32,14 @@ use Rattle.typed_tree.specs.declared.stmt.TypedStmt.TheOpen.{TypedStmt-F}
 use Rattle.walk_meaning.specs.declared.flow.Flow.{Flow}
 use Rattle.walk_meaning.specs.declared.flow.Flow.TheVariants.{Next}
 use Rattle.map_ops.specs.declared.sweep.Sweep.TheVariants.{Read}
-use Rattle.walk_meaning.specs.Does.{Does, given, asked, bind, then, told, either, in_order}
-use Rattle.map_ops.specs.Values.{number_of, text_of, value_of, next}
+use Rattle.map_ops.specs.Asking.{told, swept}
 use Rattle.map_ops.specs.Holders.{part}
-use Rattle.walk_meaning.specs.Maps.{set, swept}
-use Rattle.walk_meaning.specs.Exprs.{any_layer, num_layer, str_layer}
-use Rattle.walk_meaning.specs.Stmts.{plain, set_variable, set_map, update_variable, gather, printf, kind_seen, delete_at, first_arm, block_or_next, while_true, stmt_layer, block_layer}
-use Rattle.walk_meaning.specs.Walk.{fresh, ending_of}
+use Rattle.map_ops.specs.Values.{number_of, text_of, value_of, next}
+use Rattle.walk_meaning.specs.Does.{Does, given, lifted, bind, then, if_holds, in_order}
+use Rattle.walk_meaning.specs.Maps.{set, kind_in_body}
+use Rattle.walk_meaning.specs.Exprs.{value_by_parts, number_by_parts, text_by_parts}
+use Rattle.walk_meaning.specs.Stmts.{plain, set_variable, set_map, update_variable, gather, printf, delete_at, first_arm, block_or_next, while_true, stmt_by_parts, block_by_parts}
+use Rattle.walk_meaning.specs.Walk.{first_frame, ending_of}
 
 -- a way of reading replies: of one to a `Get` a number or a string, and of one to who reads a map of this kind its rows
 pub record Reader : Type 0 where
@@ -60,10 +61,10 @@ pub record TakesWhatIsThere (reader : Reader) : Type 0 where
 module _ (reader : Reader) where
   -- the number under a key, and the string
   abbrev pub number_under : MapId → List Value → Does ℤ
-  number_under m key = bind (asked (part m key) (ops.Get key)) (λ reply. given (reader.number reply))
+  number_under m key = lifted (λ scene. and_then (ask (part m key) (ops.Get key)) (λ reply. Ended (reader.number reply)))
 
   abbrev pub text_under : MapId → List Value → Does (List ℕ)
-  text_under m key = bind (asked (part m key) (ops.Get key)) (λ reply. given (reader.text reply))
+  text_under m key = lifted (λ scene. and_then (ask (part m key) (ops.Get key)) (λ reply. Ended (reader.text reply)))
 
   abbrev pub stepped_under : MapId → Bool → Bool → List Value → Does ℤ
   stepped_under m plus prefix key = bind (number_under m key) (λ old. then (set m key (Int (next plus old))) (given (cond prefix (next plus old) old)))
@@ -72,20 +73,20 @@ module _ (reader : Reader) where
   abbrev pub num_by : NumExpr-F (Does Value) (Does ℤ) (Does (List ℕ)) → Does ℤ
   num_by (NumExpr-F.NumExpr::Map m keys) = bind (in_order keys) (number_under m)
   num_by (NumExpr-F.StepMap m keys plus prefix) = bind (in_order keys) (stepped_under m plus prefix)
-  num_by e = num_layer e
+  num_by e = number_by_parts e
 
   abbrev pub str_by : StrExpr-F (Does Value) (Does ℤ) (Does (List ℕ)) → Does (List ℕ)
   str_by (StrExpr-F.StrExpr::Map m keys) = bind (in_order keys) (text_under m)
-  str_by e = str_layer e
+  str_by e = text_by_parts e
 
   abbrev pub value_by : AnyExpr → Does Value
-  value_by = fold-AnyExpr (Does Value) (Does ℤ) (Does (List ℕ)) any_layer num_by str_by
+  value_by = fold-AnyExpr (Does Value) (Does ℤ) (Does (List ℕ)) value_by_parts num_by str_by
 
   abbrev pub number_by : NumExpr → Does ℤ
-  number_by = fold-NumExpr (Does Value) (Does ℤ) (Does (List ℕ)) any_layer num_by str_by
+  number_by = fold-NumExpr (Does Value) (Does ℤ) (Does (List ℕ)) value_by_parts num_by str_by
 
   abbrev pub text_by : StrExpr → Does (List ℕ)
-  text_by = fold-StrExpr (Does Value) (Does ℤ) (Does (List ℕ)) any_layer num_by str_by
+  text_by = fold-StrExpr (Does Value) (Does ℤ) (Does (List ℕ)) value_by_parts num_by str_by
 
   abbrev pub values_by : List AnyExpr → List (Does Value)
   values_by es = map value_by es
@@ -98,10 +99,13 @@ module _ (reader : Reader) where
   updated_under m op b key = bind (number_under m key) (λ a. plain (set m key (Int (binary_value op a b))))
 
   -- the rows of all replies are merged and emitted
-  abbrev pub printed : MapId → ℕ → ℤ → Does Flow
-  printed m top div =
-      bind (kind_seen m) (λ kind. bind (swept Read kind m)
-      (λ replies. plain (told Out (ops.Emit (items.Map m (merged_rows (flat_map (reader.rows kind) replies)) top div)))))
+  abbrev pub printed_by : MapKind → MapId → ℕ → ℤ → ℕ → Interaction (Unit {0})
+  printed_by kind m top div actors =
+      and_then (swept Read kind m actors)
+      (λ replies. told Out (ops.Emit (items.Map m (merged_rows (flat_map (reader.rows kind) replies)) top div)))
+
+  abbrev pub print_by : MapId → ℕ → ℤ → Does Flow
+  print_by m top div = plain (lifted (λ scene. printed_by (kind_in_body m scene.maps) m top div scene.actors))
 
   abbrev pub arm_by : NumExpr × Does Flow → Does ℤ × Does Flow
   arm_by arm = (number_by arm.0, arm.1)
@@ -115,18 +119,18 @@ module _ (reader : Reader) where
   stmt_by (TypedStmt-F.Gather m keys kind number) = gather m (values_by keys) (number_or_one_by number)
   stmt_by (TypedStmt-F.Step value) = plain (number_by value)
   stmt_by (TypedStmt-F.Printf format values) = printf format (values_by values)
-  stmt_by (TypedStmt-F.Print m top div) = printed m top div
+  stmt_by (TypedStmt-F.Print m top div) = print_by m top div
   stmt_by (TypedStmt-F.Delete m keys) = delete_at m (values_by keys)
   stmt_by (TypedStmt-F.If arms otherwise) = first_arm (map arm_by arms) (block_or_next otherwise)
   stmt_by (TypedStmt-F.While test block line) = while_true line (number_by test) block
-  stmt_by s = stmt_layer s
+  stmt_by s = stmt_by_parts s
 
   abbrev pub block_by : TypedBlock → Does Flow
-  block_by = fold-TypedBlock (Does Flow) (Does Flow) stmt_by block_layer
+  block_by = fold-TypedBlock (Does Flow) (Does Flow) stmt_by block_by_parts
 
   abbrev pub guarded_by : Option NumExpr → Does Flow → Does Flow
   guarded_by None block = block
-  guarded_by (Some e) block = either (number_by e) block (given Next)
+  guarded_by (Some e) block = if_holds (number_by e) block (given Next)
 
   abbrev pub tree_by : TypedTree → Does Ending
   tree_by tree = bind (guarded_by tree.predicate (block_by tree.block)) (λ flow. given (ending_of flow))
@@ -135,5 +139,5 @@ module _ (reader : Reader) where
   unfoldable pub walk_by : TypedBody → Context → List ℕ → ℕ → ℕ → Interaction Ending
   walk_by body context payload actor actors =
       and_then
-      (tree_by body.tree (record { context = context; payload = payload; actor = actor; actors = actors; maps = body.maps }) (fresh body.tree.variables))
+      (tree_by body.tree (record { context = context; payload = payload; actor = actor; actors = actors; maps = body.maps }) (first_frame body.tree.variables))
       (λ p. Ended p.0)

@@ -15,10 +15,10 @@ use Rattle.typed_tree.specs.declared.expr.AnyExpr.{AnyExpr}
 use Rattle.typed_tree.specs.declared.stmt.TypedBlock.{TypedBlock}
 use Rattle.typed_tree.specs.declared.stmt.TypedStmt.{TypedStmt}
 use Rattle.typed_tree.specs.Bodies.{scope_of}
-use Rattle.typed_tree.specs.Parts.{Part as TreePart, Made as Made_parts, made_of, stmt_parts, block_parts}
+use Rattle.typed_tree.specs.Parts.{Part as TreePart, Made, made_of, stmt_parts, block_parts}
 use Rattle.typed_tree.specs.Scope.{Scope, all_fit, is_fine_decl, is_shared, decl_of}
 use Rattle.walk_meaning.specs.declared.view.View.{View}
-use Rattle.walk_meaning.specs.Does.{Scene}
+use Rattle.walk_meaning.specs.Does.{BodyScene}
 
 -- how long a payload is at least
 abbrev pub least_length : Option Layout → ℕ
@@ -35,7 +35,7 @@ pub record CanWalk (setting : Setting) (body : TypedBody) (context : Context) (p
   pub actor_is_below : actor < actors
   pub actors_are_the_ports : setting.actors ≡ actors
 
-abbrev pub scene_in : View → Scene
+abbrev pub scene_in : View → BodyScene
 scene_in v = record { context = v.context.now; payload = v.payload.now; actor = v.actor; actors = v.actors; maps = v.body.now.maps }
 
 -- the conditions, and declarations that are well formed
@@ -66,5 +66,5 @@ abbrev pub HoldsUnder : Setting → MapId → MapKind → List Value → Type 0
 HoldsUnder setting m kind key = IsSomeAnd (slice_get setting.maps m.0) (λ decl. (decl.kind ≡ kind) × IsShared kind × HasShape decl.key_shape key)
 
 -- the types and parts of expressions
-abbrev pub all_made : List AnyExpr → List Made_parts
+abbrev pub all_made : List AnyExpr → List Made
 all_made es = map made_of es

@@ -13,18 +13,18 @@ use Rattle.map_ops.specs.Values.{unassigned}
 use Rattle.walk_meaning.specs.declared.flow.Flow.{Flow}
 use Rattle.walk_meaning.specs.declared.flow.Flow.TheVariants.{Next, Break, Continue, Stop}
 use Rattle.walk_meaning.specs.declared.flow.Frame.{Frame}
-use Rattle.walk_meaning.specs.Does.{Does, given, bind, either}
+use Rattle.walk_meaning.specs.Does.{Does, given, bind, if_holds}
 use Rattle.walk_meaning.specs.Exprs.{number_does}
 use Rattle.walk_meaning.specs.Stmts.{block_does}
 
 -- the frame at the start of a run
-abbrev pub fresh : List Shape → Frame
-fresh variables = record { variables = map unassigned variables; turns = LOOP_TURNS }
+abbrev pub first_frame : List Shape → Frame
+first_frame variables = record { variables = map unassigned variables; turns = LOOP_TURNS }
 
 -- a predicate comes first, and where it is 0 nothing follows
 abbrev pub guarded : Option NumExpr → Does Flow → Does Flow
 guarded None block = block
-guarded (Some e) block = either (number_does e) block (given Next)
+guarded (Some e) block = if_holds (number_does e) block (given Next)
 
 -- how the run ends that its statements led to
 abbrev pub ending_of : Flow → Ending
@@ -40,5 +40,5 @@ tree_does tree = bind (guarded tree.predicate (block_does tree.block)) (λ flow.
 unfoldable pub walk : TypedBody → Context → List ℕ → ℕ → ℕ → Interaction Ending
 walk body context payload actor actors =
     and_then
-    (tree_does body.tree (record { context = context; payload = payload; actor = actor; actors = actors; maps = body.maps }) (fresh body.tree.variables))
+    (tree_does body.tree (record { context = context; payload = payload; actor = actor; actors = actors; maps = body.maps }) (first_frame body.tree.variables))
     (λ p. Ended p.0)

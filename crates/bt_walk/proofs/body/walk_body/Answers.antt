@@ -1,7 +1,7 @@
 use Rattle.std.proofs.Common.{◌∙◌, ap, refl, false}
 use Rattle.std.proofs.lemmas.Result.{err_from_is_err_and}
 use Rattle.bt_core.proofs.InteractionLaws.{Performed-none}
-use Rattle.walk_meaning.specs.Walk.{fresh}
+use Rattle.walk_meaning.specs.Walk.{first_frame}
 use Rattle.bt_walk.proofs.Bodies.{body_begun, body_done, tree_fits}
 use Rattle.bt_walk.proofs.body.walk_body.Goals as goal
 
@@ -22,8 +22,8 @@ walk_guarded-requires-clause-fits g c = (false, (tree_fits c.args.body.now).1)
 pub returns-in_err-flow-clause-performed : goal.returns-in_err-flow-clause-performed
 returns-in_err-flow-clause-performed g c =
     let p = err_from_is_err_and c.from_residual-in_err-flow.result c.from_residual-in_err-flow.ensures.1 in
-    rw p.1 (body_begun c.args.body.now c.args.context.now c.args.payload.now c.args.actor c.args.actors _ _ _ (c.in_ok-frame.ensures ∙ ap fresh c.as_slice.ensures) c.in_err-flow.ensures.walked)
+    rw p.1 (body_begun c.args.body.now c.args.context.now c.args.payload.now c.args.actor c.args.actors _ _ _ (c.in_ok-frame.ensures ∙ ap first_frame c.as_slice.ensures) c.in_err-flow.ensures.walked)
 
 pub returns-clause-performed : goal.returns-clause-performed
 returns-clause-performed g c =
-    body_done c.args.body.now c.args.context.now c.args.payload.now c.args.actor c.args.actors _ _ _ (c.in_ok-frame.ensures ∙ ap fresh c.as_slice.ensures) _ _ _ c.in_ok-flow.ensures.walked c.ending_of.ensures
+    body_done c.args.body.now c.args.context.now c.args.payload.now c.args.actor c.args.actors _ _ _ (c.in_ok-frame.ensures ∙ ap first_frame c.as_slice.ensures) _ _ _ c.in_ok-flow.ensures.walked c.ending_of.ensures

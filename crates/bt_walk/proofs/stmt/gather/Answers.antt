@@ -3,7 +3,7 @@ use Rattle.std.proofs.lemmas.Int.{to_z-of_z}
 use Rattle.std.proofs.lemmas.Result.{err_from_is_err_and}
 use Rattle.typed_tree.specs.Parts.{key_shapes}
 use Rattle.walk_meaning.specs.Served.{all_made}
-use Rattle.bt_walk.proofs.Binds.{Part-first, Part-next, Whole-next, Given-done, Seen-done}
+use Rattle.bt_walk.proofs.Binds.{Part-first, Part-next, Whole-next, Given-done, Lifted-done, Lifted-begun}
 use Rattle.walk_meaning.proofs.Declared.{gathering, add_can}
 use Rattle.walk_meaning.proofs.TreeParts.{gather_head}
 use Rattle.bt_walk.proofs.stmt.gather.Goals as goal
@@ -31,11 +31,11 @@ pub returns-in_err-tell-clause-walked : goal.returns-in_err-tell-clause-walked
 returns-in_err-tell-clause-walked g c =
     let p = err_from_is_err_and c.from_residual-in_err-tell.result c.from_residual-in_err-tell.ensures.1 in
     let fn : SFits w64 c.in_ok-n.n = search rules in
-    let made = simp to_z-of_z at c.in_err-tell.ensures.made in
-    rw p.1 (Part-next _ _ _ _ _ _ _ _ c.in_ok-key.ensures.walked _ (Part-next _ _ _ _ _ _ _ _ c.in_ok-n.ensures.walked _ (Part-first _ _ _ _ _ _ (Part-next _ _ _ _ _ _ _ _ (Seen-done _ _ _ _ _ refl) _ (made _ _)))))
+    let told = simp to_z-of_z at c.in_err-tell.ensures.performed in
+    rw p.1 (Part-next _ _ _ _ _ _ _ _ c.in_ok-key.ensures.walked _ (Part-next _ _ _ _ _ _ _ _ c.in_ok-n.ensures.walked _ (Part-first _ _ _ _ _ _ (Lifted-begun _ _ _ _ _ told))))
 
 pub returns-clause-walked : goal.returns-clause-walked
 returns-clause-walked g c =
     let fn : SFits w64 c.in_ok-n.n = search rules in
-    let made = simp to_z-of_z at c.in_ok-tell.ensures.made in
-    (Whole-next _ _ _ _ _ _ _ _ c.in_ok-key.ensures.walked _ _ (Whole-next _ _ _ _ _ _ _ _ c.in_ok-n.ensures.walked _ _ (Whole-next _ _ _ _ _ _ _ _ (Whole-next _ _ _ _ _ _ _ _ (Seen-done _ _ _ _ _ refl) _ _ (made _ _)) _ _ (Given-done _ _ _ _ _ _ refl refl))))
+    let told = simp to_z-of_z at c.in_ok-tell.ensures.performed in
+    (Whole-next _ _ _ _ _ _ _ _ c.in_ok-key.ensures.walked _ _ (Whole-next _ _ _ _ _ _ _ _ c.in_ok-n.ensures.walked _ _ (Whole-next _ _ _ _ _ _ _ _ (Lifted-done _ _ _ _ _ _ told) _ _ (Given-done _ _ _ _ _ _ refl refl))))

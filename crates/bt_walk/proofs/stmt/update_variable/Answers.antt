@@ -2,7 +2,7 @@ use Rattle.std.proofs.Common.{refl, sym, ap, ◌∙◌, SFits, w64, rules}
 use Rattle.std.proofs.lemmas.Int.{to_z-of_z}
 use Rattle.std.proofs.lemmas.Result.{err_from_is_err_and}
 use Rattle.map_ops.specs.Values.{number_of}
-use Rattle.bt_walk.proofs.Binds.{Part-first, Whole-next, Given-done, Seen-done, Changed-done}
+use Rattle.bt_walk.proofs.Binds.{Part-first, Whole-next, Given-done, Looked-done, Changed-done}
 use Rattle.bt_walk.proofs.stmt.update_variable.Goals as goal
 
 pub returns-in_err-right-clause-walked : goal.returns-in_err-right-clause-walked
@@ -20,4 +20,4 @@ returns-clause-walked g c =
     let new = rw old at e in
     let put = simp to_z-of_z at c.assign.ensures in
     let done = rw new at put in
-    (Whole-next _ _ _ _ _ _ _ _ c.in_ok-right.ensures.walked _ _ (Whole-next _ _ _ _ _ _ _ _ (Seen-done _ _ _ _ _ refl) _ _ (Whole-next _ _ _ _ _ _ _ _ (Changed-done _ _ _ _ _ tt (sym done)) _ _ (Given-done _ _ _ _ _ _ refl refl))))
+    (Whole-next _ _ _ _ _ _ _ _ c.in_ok-right.ensures.walked _ _ (Whole-next _ _ _ _ _ _ _ _ (Looked-done _ _ _ _ _ refl) _ _ (Whole-next _ _ _ _ _ _ _ _ (Changed-done _ _ _ _ _ tt (sym done)) _ _ (Given-done _ _ _ _ _ _ refl refl))))

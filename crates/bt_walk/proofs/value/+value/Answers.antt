@@ -7,7 +7,7 @@ use Rattle.bt_core.specs.Arithmetic.{truth}
 use Rattle.typed_tree.specs.Parts.{made_of, key_shapes}
 use Rattle.map_ops.specs.Values.{number_of, text_of}
 use Rattle.walk_meaning.specs.Served.{Fits, IsServed, all_made}
-use Rattle.bt_walk.proofs.Binds.{Part-first, Part-next, Whole-next, Walked-next, Given-done, Seen-done, Changed-done, Number-done, Number-seen, Whole-yes, Whole-no, Part-yes, Part-no, Walked-yes, Walked-no}
+use Rattle.bt_walk.proofs.Binds.{Part-first, Part-next, Whole-next, Walked-next, Given-done, Looked-done, Changed-done, Number-done, Number-seen, Whole-yes, Whole-no, Part-yes, Part-no, Walked-yes, Walked-no, Lifted-walked}
 use Rattle.walk_meaning.proofs.Declared.{shared, valued, few_values, keyed, held, field_inside, part_below}
 use Rattle.walk_meaning.proofs.TreeParts.{num_field_parts, str_field_parts, step_map_parts, one_fits, one_size}
 use Rattle.typed_tree.proofs.expr.AnyExpr.TheLaws.{the_size}
@@ -128,7 +128,7 @@ number-returns-in_ok-read-in-Map-clause-walked g t c =
 pub number-returns-in-StepVar-clause-walked : goal.number-returns-in-StepVar-clause-walked
 number-returns-in-StepVar-clause-walked g t c =
     let f : SFits w64 c.step_variable.result = search rules in
-    (told.Whole-num _ _ _ _ _ _ _ (does.stepvar_num _ _ _ _ c.in-StepVar.is) (Whole-next _ _ _ _ _ _ _ _ (Seen-done _ _ _ _ _ refl) _ _ (Whole-next _ _ _ _ _ _ _ _ (Changed-done _ _ _ _ _ tt (sym c.step_variable.ensures.frame)) _ _ (Number-done _ _ _ _ _ f (sym c.step_variable.ensures.value)))))
+    (told.Whole-num _ _ _ _ _ _ _ (does.stepvar_num _ _ _ _ c.in-StepVar.is) (Whole-next _ _ _ _ _ _ _ _ (Looked-done _ _ _ _ _ refl) _ _ (Whole-next _ _ _ _ _ _ _ _ (Changed-done _ _ _ _ _ tt (sym c.step_variable.ensures.frame)) _ _ (Number-done _ _ _ _ _ f (sym c.step_variable.ensures.value)))))
 
 pub number-returns-in_ok-parts-in-StepMap-clause-walked : goal.number-returns-in_ok-parts-in-StepMap-clause-walked
 number-returns-in_ok-parts-in-StepMap-clause-walked g t c =
@@ -220,8 +220,8 @@ read-get-requires g t c =
 
 pub read-returns-clause-walked : goal.read-returns-clause-walked
 read-returns-clause-walked g t c =
-    let made = rw (c.of-key.ensures, c.into_vec.ensures) at c.get.ensures.made in
-    (Walked-next _ _ _ _ _ _ _ _ c.in_ok-parts.ensures.walked _ _ _ (made _ _))
+    let got = rw (c.of-key.ensures, c.into_vec.ensures) at c.get.ensures.performed in
+    (Walked-next _ _ _ _ _ _ _ _ c.in_ok-parts.ensures.walked _ _ _ (Lifted-walked _ _ _ _ _ _ got))
 
 pub text-str_field-requires-clause-inside : goal.text-str_field-requires-clause-inside
 text-str_field-requires-clause-inside g t c =
@@ -241,13 +241,13 @@ pub text-returns-in-Text-clause-walked : goal.text-returns-in-Text-clause-walked
 text-returns-in-Text-clause-walked g t c = (told.Whole-str _ _ _ _ _ _ _ (does.text_str _ _ c.in-Text.is) (Given-done _ _ _ _ _ _ (sym c.copy.ensures) refl))
 
 pub text-returns-in-Comm-clause-walked : goal.text-returns-in-Comm-clause-walked
-text-returns-in-Comm-clause-walked g t c = (told.Whole-str _ _ _ _ _ _ _ (does.comm_str _ c.in-Comm.is) (Seen-done _ _ _ _ _ (sym c.copy-in-Comm.ensures)))
+text-returns-in-Comm-clause-walked g t c = (told.Whole-str _ _ _ _ _ _ _ (does.comm_str _ c.in-Comm.is) (Looked-done _ _ _ _ _ (sym c.copy-in-Comm.ensures)))
 
 pub text-returns-in-Field-clause-walked : goal.text-returns-in-Field-clause-walked
-text-returns-in-Field-clause-walked g t c = (told.Whole-str _ _ _ _ _ _ _ (does.field_str _ _ c.in-Field.is) (Seen-done _ _ _ _ _ (sym c.str_field.ensures)))
+text-returns-in-Field-clause-walked g t c = (told.Whole-str _ _ _ _ _ _ _ (does.field_str _ _ c.in-Field.is) (Looked-done _ _ _ _ _ (sym c.str_field.ensures)))
 
 pub text-returns-in-Var-clause-walked : goal.text-returns-in-Var-clause-walked
-text-returns-in-Var-clause-walked g t c = (told.Whole-str _ _ _ _ _ _ _ (does.var_str _ _ c.in-Var.is) (Seen-done _ _ _ _ _ (sym (c.text_of.ensures ∙ ap text_of c.variable.ensures))))
+text-returns-in-Var-clause-walked g t c = (told.Whole-str _ _ _ _ _ _ _ (does.var_str _ _ c.in-Var.is) (Looked-done _ _ _ _ _ (sym (c.text_of.ensures ∙ ap text_of c.variable.ensures))))
 
 pub text-returns-in_ok-read-in-Map-clause-walked : goal.text-returns-in_ok-read-in-Map-clause-walked
 text-returns-in_ok-read-in-Map-clause-walked g t c = (told.Whole-str _ _ _ _ _ _ _ (does.map_str _ _ _ _ c.in-Map.is c.as_slice.ensures) (Whole-next _ _ _ _ _ _ _ _ c.in_ok-read-in-Map.ensures.walked _ _ (Given-done _ _ _ _ _ _ (sym c.text_of-in-Map.ensures) refl)))

@@ -11,9 +11,9 @@ use Rattle.walk_meaning.specs.declared.flow.Flow.TheVariants.{Stop}
 use Rattle.bt_core.specs.declared.ending.Ending.TheVariants.{Cut}
 use Rattle.walk_meaning.specs.Does.{Does}
 use Rattle.bt_walk.specs.Flows.{leaves}
-use Rattle.walk_meaning.specs.Stmts.{stmt_does, block_does, in_turn, block_or_next}
+use Rattle.walk_meaning.specs.Stmts.{stmt_does, block_does, in_sequence, block_or_next}
 use Rattle.walk_meaning.specs.Served.{IsServed, StmtFits, scene_in}
-use Rattle.bt_walk.proofs.Binds.{Walked-next, Seen-done, Changed-done}
+use Rattle.bt_walk.proofs.Binds.{Walked-next, Looked-done, Changed-done}
 use Rattle.bt_walk.proofs.Loops.{Left-Walked, done_with, block-stop, block-next, block-leaves, block-end, arm-stop, arm-yes, arm-no, arms-end, turns-start, turns-stop, turns-next, turns-leaves, turns-end, while-starts, while-stop, while-ends, while-breaks, while-leaves, while-again}
 use Rattle.bt_walk.proofs.WalkedAs.{Walked-stmt}
 use Rattle.walk_meaning.proofs.StmtDoes.{print_stmt, if_stmt, arms_fit, otherwise_fits, block_is, stmts_fit}
@@ -24,7 +24,7 @@ stopped flow e none = let some : leaves flow ≡ Some (Stop Cut) = ap leaves e i
 
 pub walk_block-loop-stmt-init : goal.walk_block-loop-stmt-init
 walk_block-loop-stmt-init g t c =
-    let is = block_is c.args.block.now ∙ ap (λ (l : List TypedStmt). in_turn (map stmt_does l)) (sym c.as_slice-stmt-items.ensures) in
+    let is = block_is c.args.block.now ∙ ap (λ (l : List TypedStmt). in_sequence (map stmt_does l)) (sym c.as_slice-stmt-items.ensures) in
     record { left = Left-is _ _ _ _ _ (Left-here _ _) (ap (λ (d : Does Flow). d (scene_in c.args.view.now) c.args.frame.now) is); kept = refl; turns = omega arith }
 
 pub walk_block-walk_stmt-requires : goal.walk_block-walk_stmt-requires
@@ -140,13 +140,13 @@ pub walk_stmt-returns-in-None-clause-turns : goal.walk_stmt-returns-in-None-clau
 walk_stmt-returns-in-None-clause-turns g t c = c.loop-arm.invariant.turns
 
 pub walk_turn-returns-then-frame-eq0-clause-walked : goal.walk_turn-returns-then-frame-eq0-clause-walked
-walk_turn-returns-then-frame-eq0-clause-walked g t c = (Walked-next _ _ _ _ _ _ _ _ (Seen-done _ 0 _ _ _ c.if-frame-eq0.true) _ _ _ (c.cut.ensures.made _ _))
+walk_turn-returns-then-frame-eq0-clause-walked g t c = (Walked-next _ _ _ _ _ _ _ _ (Looked-done _ 0 _ _ _ c.if-frame-eq0.true) _ _ _ (c.cut.ensures.made _ _))
 
 pub walk_turn-returns-then-frame-eq0-clause-fewer : goal.walk_turn-returns-then-frame-eq0-clause-fewer
 walk_turn-returns-then-frame-eq0-clause-fewer g t c = IfOk-weaker c.cut.result (λ flow. flow ≡ Stop Cut) (λ flow. leaves flow ≡ None → c.args.frame.now.turns < c.args.frame.now.turns) (λ flow e none. absurd (stopped flow e none)) c.cut.ensures.stops
 
 pub walk_turn-returns-else-frame-eq0-clause-walked : goal.walk_turn-returns-else-frame-eq0-clause-walked
-walk_turn-returns-else-frame-eq0-clause-walked g t c = (Walked-next _ _ _ _ _ _ _ _ (Seen-done _ (suc (c.args.frame.now.turns - 1)) _ _ _ (omega (arith, c.if-frame-eq0.false))) _ _ _ (Walked-next _ _ _ _ _ _ _ _ (Changed-done _ _ _ _ _ tt refl) _ _ _ c.walk_block.ensures.walked))
+walk_turn-returns-else-frame-eq0-clause-walked g t c = (Walked-next _ _ _ _ _ _ _ _ (Looked-done _ (suc (c.args.frame.now.turns - 1)) _ _ _ (omega (arith, c.if-frame-eq0.false))) _ _ _ (Walked-next _ _ _ _ _ _ _ _ (Changed-done _ _ _ _ _ tt refl) _ _ _ c.walk_block.ensures.walked))
 
 pub walk_turns-loop-made-init : goal.walk_turns-loop-made-init
 walk_turns-loop-made-init g t c = record { left = turns-start _ _ _ _ _ _; kept = refl; turns = omega arith }

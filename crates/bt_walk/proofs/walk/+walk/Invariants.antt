@@ -1,7 +1,7 @@
 use Rattle.std.proofs.Common.{◌≡◌, ◌≤◌, ◌+◌, ◌-◌, ◌*◌, map, drop, option_map}
 use Rattle.bt_core.specs.Interaction.{Left}
 use Rattle.walk_meaning.specs.Exprs.{number_does}
-use Rattle.walk_meaning.specs.Stmts.{stmt_does, block_does, in_turn, first_arm, block_or_next, turns, while_true}
+use Rattle.walk_meaning.specs.Stmts.{stmt_does, block_does, in_sequence, first_arm, block_or_next, turns, while_true}
 use Rattle.walk_meaning.specs.Served.{scene_in}
 use Rattle.bt_walk.proofs.Loops.{Looping}
 use Rattle.walk_meaning.proofs.StmtDoes.{arm_of}
@@ -36,7 +36,7 @@ invariant-walk_stmt-loop-arm g l = record {
 abbrev pub invariant-walk_block-loop-stmt : goal.invariant-walk_block-loop-stmt
 invariant-walk_block-loop-stmt g l = record {
   left : Left (block_does l.block (scene_in l.view) l.fn.frame) (g.P.Port.steps l.fn.port) (g.P.Port.steps l.port)
-      (in_turn (map stmt_does (drop l.stmt-index l.stmt-items)) (scene_in l.view) l.frame);
+      (in_sequence (map stmt_does (drop l.stmt-index l.stmt-items)) (scene_in l.view) l.frame);
   kept : g.P.Port.fixed l.port ≡ g.P.Port.fixed l.fn.port;
   turns : l.frame.turns ≤ l.fn.frame.turns;
 }
