@@ -21,6 +21,7 @@ use Rattle.bt_core.specs.Arithmetic.{binary_value}
 use Rattle.bt_core.specs.Interaction.{Interaction, Ended, ask, and_then}
 use Rattle.bt_core.specs.Kinds.{IsShared}
 use Rattle.map_rows.specs.Merged.{rows_in, value_row, agg_row, merged_rows}
+use Rattle.map_rows.specs.UnderKey.{number_under as number_in}
 use Rattle.typed_tree.specs.declared.body.TypedBody.{TypedBody}
 use Rattle.typed_tree.specs.declared.body.TypedTree.{TypedTree}
 use Rattle.typed_tree.specs.declared.expr.AnyExpr.{AnyExpr, fold-AnyExpr}
@@ -69,9 +70,18 @@ module _ (reader : Reader) where
   abbrev pub stepped_under : MapId → Bool → Bool → List Value → Does ℤ
   stepped_under m plus prefix key = bind (number_under m key) (λ old. then (set m key (Int (next plus old))) (given (cond prefix (next plus old) old)))
 
+  -- the number of an aggregation under a key of the merged rows of all replies
+  abbrev pub summed_by : MapKind → MapId → List Value → ℕ → Interaction ℤ
+  summed_by kind m key actors =
+      and_then (swept Read kind m actors) (λ replies. Ended (number_in key (merged_rows (flat_map (reader.rows kind) replies))))
+
+  abbrev pub summed_under : MapId → List Value → Does ℤ
+  summed_under m key = lifted (λ scene. summed_by (kind_in_body m scene.maps) m key scene.actors)
+
   -- the expressions that read a reply; each other one does what it does in the walk
   abbrev pub num_by : NumExpr-F (Does Value) (Does ℤ) (Does (List ℕ)) → Does ℤ
   num_by (NumExpr-F.NumExpr::Map m keys) = bind (in_order keys) (number_under m)
+  num_by (NumExpr-F.Agg m keys) = bind (in_order keys) (summed_under m)
   num_by (NumExpr-F.StepMap m keys plus prefix) = bind (in_order keys) (stepped_under m plus prefix)
   num_by e = number_by_parts e
 
