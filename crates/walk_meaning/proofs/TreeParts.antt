@@ -43,13 +43,6 @@ step_map_parts v e m keys plus prefix h fit =
 pub agg_head : (v : View) (m : MapId) (keys : List Made) → Fits v (AggOf m.0 (key_shapes keys) ∷ parts_in keys) → IsTrue (is_summed (decl_of m.0 v.body.now.maps) (key_shapes keys)) × Fits v (parts_in keys)
 agg_head v m keys fit = let p = and_parts (fits (scope_in v) (AggOf m.0 (key_shapes keys))) (all_fit (scope_in v) (parts_in keys)) fit in (p.0, p.1)
 
-pub agg_parts : (v : View) (e : NumExpr) (m : MapId) (keys : List AnyExpr) → e ≡ nums.Agg m keys → Fits v (num_parts e) →
-    IsTrue (is_summed (decl_of m.0 v.body.now.maps) (key_shapes (all_made keys))) × Fits v (parts_in (all_made keys))
-agg_parts v e m keys h fit =
-    let is : num_parts e ≡ AggOf m.0 (key_shapes (all_made keys)) ∷ parts_in (all_made keys) =
-    ap num_parts h ∙ (ap num_parts (sym (nums.rolls-Agg m keys)) ∙ fold-roll-NumExpr Made (List Part) (List Part) any_layer num_layer str_layer (NumExpr-F.Agg m keys)) in
-    agg_head v m (all_made keys) (subst (λ (l : List Part). all_fit (scope_in v) l ≡ true) is fit)
-
 -- an expression of several
 pub one_fits : (v : View) (es : List AnyExpr) (n : ℕ) (e : AnyExpr) → n < length es → e ≡ get_or es n e → Fits v (parts_in (all_made es)) → Fits v (made_of e).parts
 one_fits v [] n e h i fit = absurd (omega (arith, h))
