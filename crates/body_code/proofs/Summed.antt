@@ -1,27 +1,22 @@
 -- The number of an aggregation that is read out of tables has 64 bits, as a program holds it.
-use Rattle.std.proofs.Common.{◌≡◌, ℕ, zero, suc, ◌+◌, List, [], ◌∷◌, ◌++◌, true, ℤ, FitsSigned, w64, map}
-use Rattle.std.specs.List.{AllByRecursion}
+use Rattle.std.proofs.Common.{ℕ, zero, suc, ◌+◌, List, [], ◌∷◌, ◌++◌, ℤ, FitsSigned, w64, map}
+use Rattle.std.specs.List.{AllByRecursion, flat_map}
 use Rattle.bt_core.specs.declared.agg.Agg.{Agg}
 use Rattle.bt_core.specs.declared.item.Cell.{Cell}
-use Rattle.bt_core.specs.declared.map.AggKind.{AggKind}
 use Rattle.bt_core.specs.declared.map.MapDecl.{MapDecl}
 use Rattle.bt_core.specs.declared.map.MapId.{MapId}
-use Rattle.bt_core.specs.declared.map.MapKind.{MapKind}
-use Rattle.bt_core.specs.declared.map.MapKind.TheVariants.{Ints, Strs, Aggs}
+use Rattle.bt_core.specs.declared.step.ObjectId.TheVariants.{Cpu}
+use Rattle.bt_core.specs.declared.step.Op.TheVariants as ops
 use Rattle.bt_core.specs.declared.step.Reply.{Reply}
 use Rattle.bt_core.specs.declared.step.Reply.TheVariants as replies
 use Rattle.bt_core.specs.declared.value.Value.{Value}
 use Rattle.bt_core.specs.Interaction.{Interaction, Ended, Asks, Call, and_then}
 use Rattle.bt_core.specs.Same.{Yields}
 use Rattle.step_list.specs.HeldReplies.{AreHeldAggs, IsHeldReply}
-use Rattle.map_rows.specs.Merged.{agg_row, rows_in, all_rows, merged}
-use Rattle.map_rows.specs.UnderKey.{number_under}
-use Rattle.body_code.proofs.HeldNumbers.{RowsHeld, IsHeldCell, merged_number_fits}
-use Rattle.map_ops.specs.declared.sweep.Sweep.TheVariants.{Read}
-use Rattle.map_ops.specs.Asking.{asked_from, swept, summed}
-use Rattle.map_ops.specs.Holders.{holder, holders, sweep_op}
-use Rattle.typed_tree.specs.Scope.{is_summed_kind}
+use Rattle.map_rows.specs.Merged.{agg_row, agg_rows}
+use Rattle.map_ops.specs.Asking.{asked_from, summed}
 use Rattle.body_code.specs.Replies.{IsOwnReply}
+use Rattle.body_code.proofs.HeldNumbers.{RowsHeld, merged_number_fits}
 
 Yields-then : {A B : Type 0} (comes : Call → Reply → Type 0) (P : A → Type 0) (Q : B → Type 0) (t : Interaction A) (k : A → Interaction B) → Yields comes P t → ((a : A) → P a → Yields comes Q (k a)) → Yields comes Q (and_then t k)
 Yields-then comes P Q (Ended a) k y f = f a y
@@ -44,31 +39,25 @@ aggs_held : (rows : List (List Value × Agg)) → AreHeldAggs rows → RowsHeld 
 aggs_held [] h = tt
 aggs_held (row ∷ rows) h = (h.0, aggs_held rows h.1)
 
-reply_held : (kind : AggKind) (r : Reply) → IsHeldReply r → RowsHeld (rows_in (Aggs kind) r)
-reply_held kind (replies.Aggs rows) h = aggs_held rows h
-reply_held kind (replies.Pairs rows) h = tt
-reply_held kind (replies.Value v) h = tt
-reply_held kind replies.Done h = tt
-reply_held kind (replies.Last b) h = tt
-reply_held kind (replies.Stopped b) h = tt
+reply_held : (r : Reply) → IsHeldReply r → RowsHeld (agg_rows r)
+reply_held (replies.Aggs rows) h = aggs_held rows h
+reply_held (replies.Pairs rows) h = tt
+reply_held (replies.Value v) h = tt
+reply_held replies.Done h = tt
+reply_held (replies.Last b) h = tt
+reply_held (replies.Stopped b) h = tt
 
-all_held : (kind : AggKind) (rs : List Reply) → AllHeld rs → RowsHeld (all_rows (Aggs kind) rs)
-all_held kind [] h = tt
-all_held kind (r ∷ rs) h = append_held (rows_in (Aggs kind) r) (all_rows (Aggs kind) rs) (reply_held kind r h.0) (all_held kind rs h.1)
-
-number_fits : (kind : AggKind) (key : List Value) (rs : List Reply) → AllHeld rs → FitsSigned w64 (number_under key (merged (Aggs kind) rs))
-unfolding merged
-number_fits kind key rs h = merged_number_fits key (all_rows (Aggs kind) rs) (all_held kind rs h)
+all_held : (rs : List Reply) → AllHeld rs → RowsHeld (flat_map agg_rows rs)
+all_held [] h = tt
+all_held (r ∷ rs) h = append_held (agg_rows r) (flat_map agg_rows rs) (reply_held r h.0) (all_held rs h.1)
 
 -- ---- what is asked
 
-module _ (maps : List MapDecl) (kind : AggKind) (m : MapId) where
-  asked_held : (n first : ℕ) (rs : List Reply) → AllHeld rs → Yields (IsOwnReply maps) AllHeld (asked_from (holder (Aggs kind) m) (sweep_op Read (Aggs kind) m) rs first n)
-  asked_held zero first rs h = h
-  asked_held (suc n) first rs h = λ r own. asked_held n (first + 1) (rs ++ r ∷ []) (one_more rs r h own)
+tables_held : (maps : List MapDecl) (m : MapId) (n first : ℕ) (rs : List Reply) → AllHeld rs → Yields (IsOwnReply maps) AllHeld (asked_from Cpu (ops.Read m) rs first n)
+tables_held maps m zero first rs h = h
+tables_held maps m (suc n) first rs h = λ r own. tables_held maps m n (first + 1) (rs ++ r ∷ []) (one_more rs r h own)
 
-pub summed_yields : (maps : List MapDecl) (kind : MapKind) (m : MapId) (key : List Value) (actors : ℕ) → is_summed_kind kind ≡ true → Yields (IsOwnReply maps) (λ (n : ℤ). FitsSigned w64 n) (summed kind m key actors)
-summed_yields maps Ints m key actors h = absurd (cc)
-summed_yields maps Strs m key actors h = absurd (cc)
-summed_yields maps (Aggs kind) m key actors h =
-    Yields-then (IsOwnReply maps) AllHeld (λ (n : ℤ). FitsSigned w64 n) (swept Read (Aggs kind) m actors) _ (asked_held maps kind m (holders (Aggs kind) actors) 0 [] tt) (λ rs held. number_fits kind key rs held)
+pub summed_yields : (maps : List MapDecl) (m : MapId) (key : List Value) (actors : ℕ) → Yields (IsOwnReply maps) (λ (n : ℤ). FitsSigned w64 n) (summed m key actors)
+summed_yields maps m key actors =
+    Yields-then (IsOwnReply maps) AllHeld (λ (n : ℤ). FitsSigned w64 n) (asked_from Cpu (ops.Read m) [] 0 actors) _ (tables_held maps m actors 0 [] tt)
+    (λ rs held. merged_number_fits key (flat_map agg_rows rs) (all_held rs held))

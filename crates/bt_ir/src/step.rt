@@ -6,6 +6,7 @@ ghost use Rattle.bt_core.specs.declared.limits.TheConstants.{KEY_PARTS as MOST_P
 ghost use Rattle.bt_core.specs.declared.value.Value.TheVariants as values;
 ghost use Rattle.bt_core.specs.Arithmetic.{binary_value, unary_value, truth};
 ghost use Rattle.bt_core.specs.Interaction.{Performed};
+ghost use Rattle.bt_core.specs.Kinds.{IsAggregation};
 ghost use Rattle.map_ops.specs.Holders.{kind_of, CanSweep};
 ghost use Rattle.ir_code.specs.Meaning.{instr_run, instrs_run, store_on, step_variable_on, update_variable_on, unary_on, binary_on, compared_on, truth_on};
 ghost use Rattle.ir_code.specs.Meaning.{get_on, set_on, delete_on, updated, update_on, stepped, step_on, sum_on, add_on, count_on, printf_on, sweep_on};
@@ -188,8 +189,9 @@ fn sum<P: Port>(
     key: &Key,
     port: &mut P,
 ) -> Result<i64, Memory>
-    requires { CanSweep (P.fixed port.old).setting map (kind_of view.now.maps.now map) view.now.actors }
-    ensures performed { Performed (summed (kind_of view.now.maps.now map) map key.now view.now.actors) (P.steps port.old) (P.steps port.new) result }
+    requires can { CanSweep (P.fixed port.old).setting map (kind_of view.now.maps.now map) view.now.actors }
+    requires gathers { IsAggregation (kind_of view.now.maps.now map) }
+    ensures performed { Performed (summed map key.now view.now.actors) (P.steps port.old) (P.steps port.new) result }
     ensures kept { P.fixed port.new ≡ P.fixed port.old }
 {
     let kind = kind_of(view.maps, map);
@@ -206,8 +208,9 @@ fn sum_on<P: Port>(
     port: &mut P,
 ) -> Result<(), Memory>
     requires few { length key.now ≤ MOST_PARTS }
-    requires swept { CanSweep (P.fixed port.old).setting map (kind_of view.now.maps.now map) view.now.actors }
-    ensures performed { Did (sum_on (kind_of view.now.maps.now map) map key.now view.now.actors state.old) (P.steps port.old) (P.steps port.new) result state.new }
+    requires can { CanSweep (P.fixed port.old).setting map (kind_of view.now.maps.now map) view.now.actors }
+    requires gathers { IsAggregation (kind_of view.now.maps.now map) }
+    ensures performed { Did (sum_on map key.now view.now.actors state.old) (P.steps port.old) (P.steps port.new) result state.new }
     ensures kept { P.fixed port.new ≡ P.fixed port.old }
 {
     let parts = pop_key(alloc, key.len(), &mut state.stack)?;

@@ -3,13 +3,13 @@ ghost use Rattle.std.specs.Prelude.{◌≡◌, ◌≤◌, length, cond, not, IfO
 ghost use Rattle.std.specs.Str.{bytes_eq};
 ghost use Rattle.bt_core.specs.declared.map.MapKind.TheVariants as kinds;
 ghost use Rattle.bt_core.specs.declared.value.Value.TheVariants as values;
-ghost use Rattle.bt_core.specs.Kinds.{HasShape, IsOfShape};
+ghost use Rattle.bt_core.specs.Kinds.{HasShape, IsOfShape, IsAggregation};
 ghost use Rattle.typed_tree.specs.Parts.{made_of, num_parts, str_parts, parts_in, key_shapes};
 ghost use Rattle.walk_meaning.specs.Exprs.{value_does, values_do, number_does, text_does, step_at, read, read_agg};
 ghost use Rattle.typed_tree.specs.Scope.{decl_of, is_summed, is_there};
 ghost use Rattle.map_ops.specs.Values.{next, number_of};
 ghost use Rattle.walk_meaning.specs.declared.flow.Frame.{Frame as Kept};
-ghost use Rattle.walk_meaning.specs.Maps.{sum_at, variable, with_variable};
+ghost use Rattle.walk_meaning.specs.Maps.{kind_in_body, sum_at, variable, with_variable};
 ghost use Rattle.walk_meaning.specs.Does.{in_order};
 ghost use Rattle.bt_walk.specs.Walked.{Walked, WalkedAnywhere};
 ghost use Rattle.walk_meaning.specs.Served.{all_made, IsServed, Fits, NamesShared, HoldsUnder, scene_in};
@@ -275,6 +275,7 @@ fn sum_at<P: Port>(
 ) -> Result<i64, Memory>
     requires served { IsServed view.now (P.fixed port.old).setting }
     requires named { IsTrue (is_there (decl_of map.0 view.now.body.now.maps)) }
+    requires gathers { IsAggregation (kind_in_body map view.now.body.now.maps) }
     ensures walked { (frame : Kept) → Walked (sum_at map key.now) (scene_in view.now) frame (P.steps port.old) (P.steps port.new) result frame }
     ensures kept { P.fixed port.new ≡ P.fixed port.old }
 {

@@ -96,7 +96,7 @@ aggregate maps actor m key number s =
 -- the number of an aggregation under a key is written at an address
 abbrev pub read_agg : List MapDecl → ℕ → ℕ → ℕ → ℕ → Spaces → Interaction Answer
 read_agg maps actors m key to s =
-    in_range (summed_map maps m) (λ decl. with_read (values_at s decl.key_shape key) (λ key. with_room to 8 (summed s decl.kind (map_id m) key to actors)))
+    in_range (summed_map maps m) (λ decl. with_read (values_at s decl.key_shape key) (λ key. with_room to 8 (summed s (map_id m) key to actors)))
 
 abbrev pub print : List MapDecl → ℕ → ℕ → ℕ → ℕ → Spaces → Interaction Answer
 print maps actors m top div s =

@@ -34,8 +34,8 @@ abbrev pub got : Spaces → MapId → List Value → ℕ → Interaction Answer
 got s m key to = and_then (map.got m key) (λ value. Ended (wrote s to value))
 
 -- the number of an aggregation under a key is read and written at an address
-abbrev pub summed : Spaces → MapKind → MapId → List Value → ℕ → ℕ → Interaction Answer
-summed s kind m key to actors = and_then (map.summed kind m key actors) (λ n. Ended (wrote s to (Int n)))
+abbrev pub summed : Spaces → MapId → List Value → ℕ → ℕ → Interaction Answer
+summed s m key to actors = and_then (map.summed m key actors) (λ n. Ended (wrote s to (Int n)))
 
 -- each object that holds the map is cleared, or its values are made 0 or empty
 abbrev pub swept_all : Spaces → Sweep → MapKind → MapId → ℕ → Interaction Answer

@@ -1,6 +1,7 @@
 // What helpers ask of maps.
 ghost use Rattle.std.specs.Prelude.{◌≡◌, IsTrue};
 ghost use Rattle.bt_core.specs.declared.step.Op.TheVariants as ops;
+ghost use Rattle.bt_core.specs.Kinds.{IsAggregation};
 ghost use Rattle.bt_core.specs.Ports.{CanStep};
 ghost use Rattle.bpf_insn.specs.Regions.{is_in_frame};
 ghost use Rattle.bpf_interp.specs.Running.{Called};
@@ -75,8 +76,9 @@ pub fn sum_into<P: Port>(
     memory: &mut Regions,
 ) -> Result<u64, PortFault>
     requires can { CanSweep (P.fixed port.old).setting map kind actors }
+    requires gathers { IsAggregation kind }
     requires room { IsTrue (is_in_frame to 8) }
-    ensures called { Called (summed memory.old kind map key.now to actors) (P.steps port.old) (P.steps port.new) result memory.new.frame }
+    ensures called { Called (summed memory.old map key.now to actors) (P.steps port.old) (P.steps port.new) result memory.new.frame }
     ensures kept { P.fixed port.new ≡ P.fixed port.old }
     ensures context { memory.new.context ≡ memory.old.context }
     ensures payload { memory.new.payload ≡ memory.old.payload }

@@ -14,6 +14,8 @@ use Rattle.bt_core.specs.declared.map.Shape.TheVariants as shapes
 use Rattle.bt_core.specs.declared.step.ObjectId.{ObjectId}
 use Rattle.bt_core.specs.declared.step.Op.{Op}
 use Rattle.bt_core.specs.declared.step.Reply.{Reply}
+use Rattle.bt_core.specs.declared.step.ObjectId.TheVariants.{Cpu}
+use Rattle.bt_core.specs.declared.step.Op.TheVariants as ops
 use Rattle.bt_core.specs.declared.step.Op.TheVariants.{Get, Set}
 use Rattle.bt_core.specs.declared.value.Value.{Value}
 use Rattle.bt_core.specs.declared.value.Value.TheVariants.{Int, Str}
@@ -27,8 +29,7 @@ use Rattle.typed_tree.specs.declared.expr.StrExpr.{StrExpr, roll-StrExpr, map-St
 use Rattle.typed_tree.specs.declared.expr.AnyExpr.{ind-AnyExpr}
 use Rattle.typed_tree.specs.Parts as tree
 use Rattle.typed_tree.specs.Parts.{Made, Part, made_of, num_parts, str_parts, parts_in, key_shapes, keyed_parts}
-use Rattle.typed_tree.specs.Scope.{fits, all_fit, is_declared, is_there, decl_of, kind_of_shape}
-use Rattle.typed_tree.proofs.Summed.{summed_there}
+use Rattle.typed_tree.specs.Scope.{fits, all_fit, is_declared, is_summed, decl_of, kind_of_shape}
 use Rattle.walk_meaning.specs.declared.flow.Frame.{Frame}
 use Rattle.walk_meaning.specs.declared.view.View.{View}
 use Rattle.walk_meaning.specs.Admits.{AdmitsOf, EmitsOnly}
@@ -39,9 +40,9 @@ use Rattle.map_ops.specs.declared.sweep.Sweep.TheVariants.{Read, Clear, Zero}
 use Rattle.map_ops.specs.Asking.{told, got, asked_from, swept, summed}
 use Rattle.map_ops.specs.Holders.{part, holder, holders, sweep_op, CanSweep}
 use Rattle.map_ops.proofs.Sweeping.{sweep_step}
-use Rattle.walk_meaning.specs.Maps.{get, set, sum_at, kind_in_body}
+use Rattle.walk_meaning.specs.Maps.{get, set, sum_at}
 use Rattle.walk_meaning.specs.Served.{IsServed, Fits, scene_in, scope_in}
-use Rattle.walk_meaning.proofs.Declared.{HasShape-more, valued, get_can, set_can, sweep_can}
+use Rattle.walk_meaning.proofs.Declared.{HasShape-more, valued, summing, get_can, set_can, table_can}
 use Rattle.walk_meaning.proofs.TreeParts.{agg_head}
 
 -- a call that can be made, and what it emits is fine
@@ -65,7 +66,7 @@ module _ (setting : Setting) (fine : Item → Type 0) where
   one_more P [] reply h p = (p, tt)
   one_more P (r ∷ rs) reply h p = (h.0, one_more P rs reply h.1 p)
 
-  asked_from-fine : (object : ℕ → ObjectId) (op : Op) (n first : ℕ) (replies : List Reply) → EmitsOnly fine op → ((i : ℕ) → i < first + n → CanStep setting (object i) op)
+  pub asked_from-fine : (object : ℕ → ObjectId) (op : Op) (n first : ℕ) (replies : List Reply) → EmitsOnly fine op → ((i : ℕ) → i < first + n → CanStep setting (object i) op)
       → AllByRecursion (IsReplyIn setting object op) replies → Fine (AllByRecursion (IsReplyIn setting object op)) (asked_from object op replies first n)
   asked_from-fine object op zero first replies f can are = are
   asked_from-fine object op (suc n) first replies f can are =
@@ -192,12 +193,12 @@ module _ (v : View) (setting : Setting) (served : IsServed v setting) (fine : It
   two-given : {A B C : Type 0} (d : Does A) (e : Does B) (f : A → B → C) → Does_good Free d → Does_good Free e → Does_good {A = C} Free (bind d (λ a. bind e (λ b. given (f a b))))
   two-given d e f p q = bind-good setting fine (scene_in v) Free Free d (λ a. bind e (λ b. given (f a b))) p (λ a h. then-given e (f a) q)
 
-  sum-good : (m : MapId) (key : List Value) → IsTrue (is_there (decl_of m.0 v.body.now.maps)) → Does_good Free (sum_at m key)
-  sum-good m key named =
-      let kind = kind_in_body m v.body.now.maps in
-      lifted-good setting fine (scene_in v) Free (λ scene. summed (kind_in_body m scene.maps) m key scene.actors)
-      (Admits-bind (IsFineCall setting fine) setting.maps (AllByRecursion (IsReplyIn setting (holder kind m) (sweep_op Read kind m))) (λ (n : ℤ). Unit {0}) (swept Read kind m v.actors) _
-      (swept-fine setting fine Read kind m v.actors (sweep_can v setting m served named)) (λ replies h. tt))
+  sum-good : (m : MapId) (ks : List ManyAny) (key : List Value) → IsTrue (is_summed (decl_of m.0 v.body.now.maps) (key_shapes (map made_of (firsts ks)))) → Does_good Free (sum_at m key)
+  sum-good m ks key d =
+      let found = summing v setting m (key_shapes (map made_of (firsts ks))) served d in
+      lifted-good setting fine (scene_in v) Free (λ scene. summed m key scene.actors)
+      (Admits-bind (IsFineCall setting fine) setting.maps (AllByRecursion (IsReplyIn setting Cpu (ops.Read m))) (λ (n : ℤ). Unit {0}) (asked_from Cpu (ops.Read m) [] 0 v.actors) _
+      (asked_from-fine setting fine Cpu (ops.Read m) v.actors 0 [] tt (λ i l. let below : i < v.actors = omega (arith, l) in table_can v setting m (key_shapes (map made_of (firsts ks))) i served found below) tt) (λ replies h. tt))
 
   step-good : (m : MapId) (ks : List ManyAny) (plus prefix : Bool) → Declares m ks shapes.Int → (key : List Value) → HasShape (key_shapes (map made_of (firsts ks))) key → Does_good Free (step_at m key plus prefix)
   step-good m ks plus prefix d key shaped =
@@ -218,7 +219,7 @@ module _ (v : View) (setting : Setting) (served : IsServed v setting) (fine : It
   num_case (NumExpr-F.Agg m ks) fit =
       let p = agg_head v m (map made_of (firsts ks)) fit in
       bind-good setting fine (scene_in v) (HasShape (key_shapes (map made_of (firsts ks)))) Free (in_order (map value_does (firsts ks))) (λ key. sum_at m key) (values-good ks p.1)
-      (λ key shaped. sum-good m key (summed_there (decl_of m.0 v.body.now.maps) (key_shapes (map made_of (firsts ks))) p.0))
+      (λ key shaped. sum-good m ks key p.0)
   num_case (NumExpr-F.StepVar n plus prefix) fit =
       bind-good setting fine (scene_in v) Free Free _ _ (looked_at-good setting fine (scene_in v) _) (λ old h. then-given (changed _) _ (changed-good setting fine (scene_in v) _))
   num_case (NumExpr-F.StepMap m ks plus prefix) fit =

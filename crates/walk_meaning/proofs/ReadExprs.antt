@@ -8,16 +8,20 @@ use Rattle.std.proofs.lemmas.List.Folds.{list_all-append}
 use Rattle.bt_core.specs.declared.item.Cell.{Cell}
 use Rattle.bt_core.specs.declared.map.MapId.{MapId}
 use Rattle.bt_core.specs.declared.map.MapKind.{MapKind}
+use Rattle.bt_core.specs.declared.map.MapKind.TheVariants.{Ints, Strs, Aggs}
+use Rattle.bt_core.specs.Kinds.{IsAggregation}
 use Rattle.bt_core.specs.declared.map.Shape.{Shape}
 use Rattle.bt_core.specs.declared.map.Shape.TheVariants as shapes
 use Rattle.bt_core.specs.declared.step.ObjectId.{ObjectId}
 use Rattle.bt_core.specs.declared.step.Op.{Op}
+use Rattle.bt_core.specs.declared.step.ObjectId.TheVariants.{Cpu}
 use Rattle.bt_core.specs.declared.step.Op.TheVariants.{Get}
+use Rattle.bt_core.specs.declared.step.Op.TheVariants as ops
 use Rattle.bt_core.specs.declared.step.Reply.{Reply}
 use Rattle.bt_core.specs.declared.value.Value.{Value}
 use Rattle.bt_core.specs.declared.value.Value.TheVariants.{Int, Str}
 use Rattle.bt_core.specs.Interaction.{Interaction, Ended, Call}
-use Rattle.map_rows.specs.Merged.{rows_in, merged, merged_rows}
+use Rattle.map_rows.specs.Merged.{agg_rows, rows_in, merged_rows}
 use Rattle.map_rows.specs.UnderKey.{number_under as number_in}
 use Rattle.typed_tree.specs.declared.expr.AnyExpr.{AnyExpr, roll-AnyExpr, map-AnyExpr, fold-roll-AnyExpr, ind-AnyExpr}
 use Rattle.typed_tree.specs.declared.expr.AnyExpr.TheOpen.{NumExpr-F, StrExpr-F, AnyExpr-F}
@@ -25,7 +29,7 @@ use Rattle.typed_tree.specs.declared.expr.NumExpr.{NumExpr, roll-NumExpr, map-Nu
 use Rattle.typed_tree.specs.declared.expr.StrExpr.{StrExpr, roll-StrExpr, map-StrExpr, fold-roll-StrExpr}
 use Rattle.typed_tree.specs.Parts as tree
 use Rattle.typed_tree.specs.Parts.{Made, Part, made_of, num_parts, str_parts, parts_in, key_shapes, keyed_parts}
-use Rattle.typed_tree.specs.Scope.{fits, all_fit, is_declared, is_there, decl_of, kind_of_shape}
+use Rattle.typed_tree.specs.Scope.{fits, all_fit, is_declared, is_summed, is_there, decl_of, kind_of_shape}
 use Rattle.walk_meaning.specs.declared.flow.Frame.{Frame}
 use Rattle.map_ops.specs.declared.sweep.Sweep.TheVariants.{Read}
 use Rattle.walk_meaning.specs.declared.view.View.{View}
@@ -40,6 +44,8 @@ use Rattle.bt_core.specs.Same.{SameTo}
 use Rattle.walk_meaning.specs.Served.{Fits, scene_in, scope_in}
 use Rattle.typed_tree.proofs.Summed.{summed_there}
 use Rattle.bt_core.proofs.SameLaws.{SameTo-self, SameTo-and_then, SameTo-mapped}
+use Rattle.map_ops.proofs.Summing.{rows_same}
+use Rattle.walk_meaning.proofs.Declared.{summed_here}
 use Rattle.walk_meaning.proofs.TreeParts.{agg_head}
 
 abbrev pub call_at : ObjectId → Op → Call
@@ -190,18 +196,31 @@ module _ (comes : Call → Reply → Type 0) (reader : Reader) (v : View) (reads
   lifted-same {A} t u p frame =
       SameTo-and_then comes (λ (a b : A). a ≡ b) (Ends comes (scene_in v) (λ (a b : A). a ≡ b)) (t (scene_in v)) (u (scene_in v)) (λ value. Ended (value, frame)) (λ value. Ended (value, frame)) p (λ a b h. (h, refl))
 
-  number-same : (key : List Value) (kind : MapKind) (rs qs : List Reply) → Rows kind rs qs → number_in key (merged_rows (flat_map (reader.rows kind) rs)) ≡ number_in key (merged kind qs)
-  unfolding merged
-  number-same key kind rs qs h = ap (λ (rows : List (List Value × Cell)). number_in key (merged_rows rows)) (h.1 ∙ ap (λ (l : List Reply). flat_map (rows_in kind) l) h.0)
+  -- ---- aggregations that are read
 
-  summed-same : (m : MapId) (key : List Value) → IsTrue (is_there (decl_of m.0 v.body.now.maps)) → SameTo comes (λ (a b : ℤ). a ≡ b) (summed_by reader (kind_here m) m key v.actors) (summed (kind_here m) m key v.actors)
-  summed-same m key named =
-      SameTo-and_then comes (Rows (kind_here m)) (λ (a b : ℤ). a ≡ b) (swept Read (kind_here m) m v.actors) (swept Read (kind_here m) m v.actors)
-      (λ rs. Ended (number_in key (merged_rows (flat_map (reader.rows (kind_here m)) rs)))) (λ qs. Ended (number_in key (merged (kind_here m) qs))) (swept-same m named) (number-same key (kind_here m))
+  number-same : (key : List Value) (kind : MapKind) → IsAggregation kind → (rs qs : List Reply) → Rows kind rs qs → number_in key (merged_rows (flat_map (reader.rows kind) rs)) ≡ number_in key (merged_rows (flat_map agg_rows qs))
+  number-same key Ints g rs qs h = absurd g
+  number-same key Strs g rs qs h = absurd g
+  number-same key (Aggs a) g rs qs h =
+      ap (λ (rows : List (List Value × Cell)). number_in key (merged_rows rows))
+      (h.1 ∙ ap (λ (l : List Reply). flat_map (rows_in (Aggs a)) l) h.0 ∙ ap (λ (f : Reply → List (List Value × Cell)). flat_map f qs) (λ i r. rows_same a r i))
 
-  sum-same : (m : MapId) (key : List Value) → IsTrue (is_there (decl_of m.0 v.body.now.maps)) → Same (summed_under reader m key) (sum_at m key)
-  sum-same m key named =
-      lifted-same (λ scene. summed_by reader (kind_in_body m scene.maps) m key scene.actors) (λ scene. summed (kind_in_body m scene.maps) m key scene.actors) (summed-same m key named)
+  tables-alike : (m : MapId) (kind : MapKind) → IsAggregation kind → ((n : ℕ) (reply : Reply) → comes (call_at (holder kind m n) (sweep_op Read kind m)) reply → reader.rows kind reply ≡ rows_in kind reply) →
+      (n : ℕ) (reply : Reply) → comes (call_at (Cpu n) (ops.Read m)) reply → reader.rows kind reply ≡ rows_in kind reply
+  tables-alike m Ints g p n reply h = absurd g
+  tables-alike m Strs g p n reply h = absurd g
+  tables-alike m (Aggs a) g p n reply h = p n reply h
+
+  summed-same : (m : MapId) (key : List Value) → IsTrue (is_there (decl_of m.0 v.body.now.maps)) → IsAggregation (kind_here m) → SameTo comes (λ (a b : ℤ). a ≡ b) (summed_by reader (kind_here m) m key v.actors) (summed m key v.actors)
+  summed-same m key named gathers =
+      SameTo-and_then comes (Rows (kind_here m)) (λ (a b : ℤ). a ≡ b) (asked_from Cpu (ops.Read m) [] 0 v.actors) (asked_from Cpu (ops.Read m) [] 0 v.actors)
+      (λ rs. Ended (number_in key (merged_rows (flat_map (reader.rows (kind_here m)) rs)))) (λ qs. Ended (number_in key (merged_rows (flat_map agg_rows qs))))
+      (asked_from-same (kind_here m) Cpu (ops.Read m) v.actors 0 [] (tables-alike m (kind_here m) gathers (λ n reply h. reads.rows m n reply named h)) refl) (number-same key (kind_here m) gathers)
+
+  sum-same : (m : MapId) (keys : List Shape) (key : List Value) → IsTrue (is_summed (decl_of m.0 v.body.now.maps) keys) → Same (summed_under reader m key) (sum_at m key)
+  sum-same m keys key d =
+      lifted-same (λ scene. summed_by reader (kind_in_body m scene.maps) m key scene.actors) (λ scene. summed m key scene.actors)
+      (summed-same m key (summed_there (decl_of m.0 v.body.now.maps) keys d) (summed_here (decl_of m.0 v.body.now.maps) keys d))
 
   two-same : {A B C : Type 0} (d d' : Does A) (e e' : Does B) (f : A → B → C) → Same d d' → Same e e' → Same (bind d (λ a. bind e (λ b. given (f a b)))) (bind d' (λ a. bind e' (λ b. given (f a b))))
   two-same {A} {B} {C} d d' e e' f p q = bind-same comes (scene_in v) (λ (a b : C). a ≡ b) d d' _ _ p (λ a. first-same comes (scene_in v) e e' (λ b. given (f a b)) q)
@@ -223,7 +242,7 @@ module _ (comes : Call → Reply → Type 0) (reader : Reader) (v : View) (reads
   num_case (NumExpr-F.Agg m ks) fit =
       let p = agg_head v m (map made_of (firsts ks)) fit in
       bind-same comes (scene_in v) (λ (a b : ℤ). a ≡ b) (in_order (map (value_by reader) (firsts ks))) (in_order (map value_does (firsts ks))) (summed_under reader m) (λ key. sum_at m key) (values-same ks p.1)
-      (λ key. sum-same m key (summed_there (decl_of m.0 v.body.now.maps) (key_shapes (map made_of (firsts ks))) p.0))
+      (λ key. sum-same m (key_shapes (map made_of (firsts ks))) key p.0)
   num_case (NumExpr-F.StepVar n plus prefix) fit = self-tied comes (scene_in v) (step_variable n plus prefix)
   num_case (NumExpr-F.StepMap m ks plus prefix) fit =
       let p = map_fits m ks shapes.Int fit in

@@ -49,4 +49,4 @@ kind_in_body m maps = kind_in (decl_of m.0 maps)
 
 -- the number of an aggregation under a key, over the tables of all actors
 abbrev pub sum_at : MapId → List Value → Does ℤ
-sum_at m key = lifted (λ scene. summed (kind_in_body m scene.maps) m key scene.actors)
+sum_at m key = lifted (λ scene. summed m key scene.actors)

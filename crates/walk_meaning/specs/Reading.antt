@@ -1,5 +1,5 @@
 -- The walk by any way of reading replies.
-use Rattle.std.specs.Prelude.{◌≡◌, ℕ, ℤ, pos, Bool, cond, List, Option, Some, None, map}
+use Rattle.std.specs.Prelude.{◌≡◌, ℕ, ℤ, pos, Bool, cond, List, [], Option, Some, None, map}
 use Rattle.std.specs.List.{flat_map}
 use Rattle.bt_core.specs.declared.agg.Agg.{Agg}
 use Rattle.bt_core.specs.declared.context.Context.{Context}
@@ -11,7 +11,7 @@ use Rattle.bt_core.specs.declared.map.MapId.{MapId}
 use Rattle.bt_core.specs.declared.map.MapKind.{MapKind}
 use Rattle.bt_core.specs.declared.map.MapKind.TheVariants.{Aggs}
 use Rattle.bt_core.specs.declared.operator.BinOp.{BinOp}
-use Rattle.bt_core.specs.declared.step.ObjectId.TheVariants.{Out}
+use Rattle.bt_core.specs.declared.step.ObjectId.TheVariants.{Cpu, Out}
 use Rattle.bt_core.specs.declared.step.Op.TheVariants as ops
 use Rattle.bt_core.specs.declared.step.Reply.{Reply}
 use Rattle.bt_core.specs.declared.step.Reply.TheVariants as replies
@@ -33,7 +33,7 @@ use Rattle.typed_tree.specs.declared.stmt.TypedStmt.TheOpen.{TypedStmt-F}
 use Rattle.walk_meaning.specs.declared.flow.Flow.{Flow}
 use Rattle.walk_meaning.specs.declared.flow.Flow.TheVariants.{Next}
 use Rattle.map_ops.specs.declared.sweep.Sweep.TheVariants.{Read}
-use Rattle.map_ops.specs.Asking.{told, swept}
+use Rattle.map_ops.specs.Asking.{told, asked_from, swept}
 use Rattle.map_ops.specs.Holders.{part}
 use Rattle.map_ops.specs.Values.{number_of, text_of, value_of, next}
 use Rattle.walk_meaning.specs.Does.{Does, given, lifted, bind, then, if_holds, in_order}
@@ -70,10 +70,11 @@ module _ (reader : Reader) where
   abbrev pub stepped_under : MapId → Bool → Bool → List Value → Does ℤ
   stepped_under m plus prefix key = bind (number_under m key) (λ old. then (set m key (Int (next plus old))) (given (cond prefix (next plus old) old)))
 
-  -- the number of an aggregation under a key of the merged rows of all replies
+  -- the number of an aggregation under a key of the merged rows of all tables
   abbrev pub summed_by : MapKind → MapId → List Value → ℕ → Interaction ℤ
   summed_by kind m key actors =
-      and_then (swept Read kind m actors) (λ replies. Ended (number_in key (merged_rows (flat_map (reader.rows kind) replies))))
+      and_then (asked_from Cpu (ops.Read m) [] 0 actors)
+      (λ replies. Ended (number_in key (merged_rows (flat_map (reader.rows kind) replies))))
 
   abbrev pub summed_under : MapId → List Value → Does ℤ
   summed_under m key = lifted (λ scene. summed_by (kind_in_body m scene.maps) m key scene.actors)

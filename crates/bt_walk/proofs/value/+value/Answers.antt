@@ -8,7 +8,7 @@ use Rattle.typed_tree.specs.Parts.{made_of, key_shapes}
 use Rattle.map_ops.specs.Values.{number_of, text_of}
 use Rattle.walk_meaning.specs.Served.{Fits, IsServed, all_made}
 use Rattle.bt_walk.proofs.Binds.{Part-first, Part-next, Whole-next, Walked-next, Given-done, Looked-done, Changed-done, Number-done, Number-seen, Whole-yes, Whole-no, Part-yes, Part-no, Walked-yes, Walked-no, Lifted-walked}
-use Rattle.walk_meaning.proofs.Declared.{shared, summing, valued, few_values, keyed, held, field_inside, part_below}
+use Rattle.walk_meaning.proofs.Declared.{shared, summing, summed_here, valued, few_values, keyed, held, field_inside, part_below}
 use Rattle.typed_tree.proofs.Summed.{summed_there}
 use Rattle.walk_meaning.proofs.TreeParts.{num_field_parts, str_field_parts, step_map_parts, one_fits, one_size}
 use Rattle.typed_tree.proofs.expr.AnyExpr.TheLaws.{the_size}
@@ -335,6 +335,9 @@ read_agg-of-key-requires g t c =
 
 pub read_agg-sum_at-requires-clause-named : goal.read_agg-sum_at-requires-clause-named
 read_agg-sum_at-requires-clause-named g t c = summed_there _ _ c.requires.declared
+
+pub read_agg-sum_at-requires-clause-gathers : goal.read_agg-sum_at-requires-clause-gathers
+read_agg-sum_at-requires-clause-gathers g t c = summed_here _ _ c.requires.declared
 
 pub read_agg-returns-clause-walked : goal.read_agg-returns-clause-walked
 read_agg-returns-clause-walked g t c =

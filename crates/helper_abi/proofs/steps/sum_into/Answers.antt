@@ -14,4 +14,4 @@ returns-in-Ok-clause-called g c =
     let fits : SFits w64 c.in-Ok.number = search rules in
     let put = simp to_z-of_z at c.put.ensures in
     let frame = ap (λ (s : Spaces). Gave 0 s.frame) put in
-    Whole-and_then (map.summed c.args.kind c.args.map c.args.key.now c.args.actors) (λ n. Ended (wrote c.args.memory.now c.args.to (Int n))) _ _ _ c.in-Ok.number _ c.in-Ok.ensures.performed (Whole-Ended _ _ _ (sym frame))
+    Whole-and_then (map.summed c.args.map c.args.key.now c.args.actors) (λ n. Ended (wrote c.args.memory.now c.args.to (Int n))) _ _ _ c.in-Ok.number _ c.in-Ok.ensures.performed (Whole-Ended _ _ _ (sym frame))
