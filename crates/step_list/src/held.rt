@@ -23,7 +23,7 @@ fn number_is_held(number: i64)
 
 /// A number that is there has 64 bits.
 fn option_is_held(number: Option<i64>)
-    ensures held { OptionFits number }
+    ensures { OptionFits number }
 {
     if let Some(number) = number {
         number_is_held(number);
@@ -32,7 +32,7 @@ fn option_is_held(number: Option<i64>)
 
 /// The numbers of an aggregate have 64 bits.
 fn agg_is_held(agg: &Agg)
-    ensures held { IsHeldAgg agg.now }
+    ensures { IsHeldAgg agg.now }
 {
     number_is_held(agg.count);
     number_is_held(agg.sum);
@@ -42,7 +42,7 @@ fn agg_is_held(agg: &Agg)
 
 /// Each of these aggregates is such.
 fn aggs_are_held(rows: &[(Key, Agg)])
-    ensures held { AreHeldAggs rows.now }
+    ensures { AreHeldAggs rows.now }
 {
     for row in rows {
         agg_is_held(&row.1);
