@@ -23,11 +23,11 @@ use Rattle.bt_attach.specs.Attaching.{IsAttachedTo, bodies_from, bodies_at, at_e
 use Rattle.bt_attach.specs.Ticks.{AreInOrder}
 use Rattle.tracefs_format.specs.declared.format.Format.{Format}
 use Rattle.rec_format.specs.declared.recording.CpuTrack.{CpuTrack}
-use Rattle.rec_format.specs.declared.recording.Entry.{Entry as RecordedEntry}
+use Rattle.rec_format.specs.declared.recording.Entry.{Entry}
 use Rattle.rec_format.specs.declared.recording.Entry.TheVariants as entry
 use Rattle.rec_format.specs.declared.recording.Event.{Event}
 use Rattle.rec_format.specs.declared.recording.Recording.{Recording}
-use Rattle.rec_gen.specs.Draws.{number_at}
+use Rattle.rec_gen.specs.Draws.{drawn_at}
 use Rattle.rec_gen.specs.Made.{IsMade, name_of, made_event, events_on, made_tracks}
 use Rattle.event_record.specs.Fields.{field_number}
 use Rattle.typed_tree.specs.declared.body.TypedBody.{TypedBody}
@@ -36,7 +36,7 @@ use Rattle.agg_core.specs.Answers.{agg_kind_in}
 use Rattle.actor_plan.specs.Contexts.{begin_context, end_context, event_context}
 use Rattle.actor_plan.specs.Programs.{entry_work, event_work, in_turn}
 use Rattle.bt_meaning.specs.Replays.{begin_of, end_of}
-use Rattle.bt_meaning.specs.Totals.{Entry, entry_keys, adds_of, events_add, ticks_add, all_adds, total_rows, totals}
+use Rattle.bt_meaning.specs.Totals.{Addition, addition_keys, adds_of, events_add, ticks_add, all_adds, total_rows, totals}
 use Rattle.bt_meaning.specs.Walks.{replay_of, walking, walked}
 use Rattle.big_script.proofs.Attach.{the_bodies}
 use Rattle.big_script.proofs.Body.{IsBody}
@@ -47,7 +47,7 @@ use Rattle.big_script.proofs.Walked.{three_adds, walk_is}
 
 -- ---- lists
 
-both : (xs ys : List Entry) → HaveKeys xs → HaveKeys ys → HaveKeys (xs ++ ys)
+both : (xs ys : List Addition) → HaveKeys xs → HaveKeys ys → HaveKeys (xs ++ ys)
 both [] ys h g = g
 both (x ∷ xs) ys h g = (h.0, both xs ys h.1 g)
 
@@ -71,7 +71,7 @@ pub record IsOurs (e : Event) : Type 0 where
   pub key : IsKey (Str (short_text e.comm) ∷ [])
 
 -- an entry that is such an event
-abbrev IsOurEntry : RecordedEntry → Type 0
+abbrev IsOurEntry : Entry → Type 0
 IsOurEntry (entry.Event e) = IsOurs e
 IsOurEntry (entry.Lost time count) = ⊥
 
@@ -93,12 +93,12 @@ module _ (r : Recording) (attached : Attached) (typed : Typed) (body : TypedBody
       subst (λ (w : Interaction ℕ). HaveKeys (adds_of m w)) (sym (event_is actors cpu track e ours.format))
       (both _ _ one_key (both _ _ two_key (both _ _ three_key tt)))
 
-  added_keys : (actors cpu : ℕ) (m : MapId) (track : CpuTrack) (e : RecordedEntry) → IsOurEntry e → HaveKeys (adds_of m (entry_work (walking typed actors cpu) r attached track e))
+  added_keys : (actors cpu : ℕ) (m : MapId) (track : CpuTrack) (e : Entry) → IsOurEntry e → HaveKeys (adds_of m (entry_work (walking typed actors cpu) r attached track e))
   added_keys actors cpu m track (entry.Event e) ours = event_keys actors cpu m track e ours
   added_keys actors cpu m track (entry.Lost time count) ours = absurd ours
 
-  track_keys : (actors cpu : ℕ) (m : MapId) (track : CpuTrack) (es : List RecordedEntry) → AllByRecursion IsOurEntry es
-      → HaveKeys (flat_map (λ (e : RecordedEntry). adds_of m (entry_work (walking typed actors cpu) r attached track e)) es)
+  track_keys : (actors cpu : ℕ) (m : MapId) (track : CpuTrack) (es : List Entry) → AllByRecursion IsOurEntry es
+      → HaveKeys (flat_map (λ (e : Entry). adds_of m (entry_work (walking typed actors cpu) r attached track e)) es)
   track_keys actors cpu m track [] all = tt
   track_keys actors cpu m track (e ∷ es) all = both _ _ (added_keys actors cpu m track e all.0) (track_keys actors cpu m track es all.1)
 
@@ -128,7 +128,7 @@ ours_end b (f ∷ es) e all here = (all.0, ours_end b es e all.1 here)
 
 ours_on : (seed cpu n : ℕ) → AllByRecursion IsOurs (events_on seed cpu n)
 ours_on seed cpu zero = tt
-ours_on seed cpu (suc n) = ours_end (n % 4 == cpu) (events_on seed cpu n) (made_event seed n) (ours_on seed cpu n) (record { format = refl; key = name_is (number_at seed (3 * n) % 4) })
+ours_on seed cpu (suc n) = ours_end (n % 4 == cpu) (events_on seed cpu n) (made_event seed n) (ours_on seed cpu n) (record { format = refl; key = name_is (drawn_at seed (3 * n) % 4) })
 
 entries_ours : (es : List Event) → AllByRecursion IsOurs es → AllByRecursion IsOurEntry (map (λ e. entry.Event e) es)
 entries_ours [] all = tt
@@ -168,8 +168,8 @@ few seed count r made typed body one is attached to m named =
     let keys = all_keys r attached typed body one is by_format m named begin finish ticks all in
     rows (all_adds (replay_of typed attached r) m named) keys
   where
-    rows : (es : List Entry) → HaveKeys es → length (total_rows (agg_kind_in typed.maps m) es) ≤ KEYS
+    rows : (es : List Addition) → HaveKeys es → length (total_rows (agg_kind_in typed.maps m) es) ≤ KEYS
     rows es keys =
         let most = few_keys es keys in
-        let same : length (total_rows (agg_kind_in typed.maps m) es) ≡ length (entry_keys es) = length-map (entry_keys es) _ in
+        let same : length (total_rows (agg_kind_in typed.maps m) es) ≡ length (addition_keys es) = length-map (addition_keys es) _ in
         omega (arith, most, same)

@@ -9,7 +9,7 @@ use Rattle.bt_core.specs.declared.value.Value.{Value}
 use Rattle.bt_core.specs.declared.value.Value.TheVariants.{Str}
 use Rattle.bt_core.specs.Order.{key_order}
 use Rattle.agg_core.specs.Changes.{with_key}
-use Rattle.bt_meaning.specs.Totals.{Entry, entry_keys}
+use Rattle.bt_meaning.specs.Totals.{Addition, addition_keys}
 
 abbrev name_key : List ℕ → List Value
 name_key name = Str name ∷ []
@@ -119,17 +119,17 @@ at_most low [] few h = omega (arith, few)
 at_most low (k ∷ ks) few h = let rest = at_most (h.0 + 1) ks (omega (arith, h.2)) h.4 in omega (arith, rest, h.1)
 
 -- entries under such keys
-abbrev pub HasKey : Entry → Type 0
+abbrev pub HasKey : Addition → Type 0
 HasKey e = IsKey e.0
 
-abbrev pub HaveKeys : List Entry → Type 0
+abbrev pub HaveKeys : List Addition → Type 0
 HaveKeys es = AllByRecursion HasKey es
 
-rising : (es : List Entry) → HaveKeys es → Rising 0 (entry_keys es)
+rising : (es : List Addition) → HaveKeys es → Rising 0 (addition_keys es)
 unfolding Rising
 rising [] h = tt
 rising (e ∷ es) h =
-    subst (λ (k : List Value). Rising 0 (with_key k (entry_keys es))) (sym h.0.2) (with_one 0 h.0.0 (entry_keys es) (omega arith) h.0.1 (rising es h.1))
+    subst (λ (k : List Value). Rising 0 (with_key k (addition_keys es))) (sym h.0.2) (with_one 0 h.0.0 (addition_keys es) (omega arith) h.0.1 (rising es h.1))
 
-pub few_keys : (es : List Entry) → HaveKeys es → length (entry_keys es) ≤ 5
-few_keys es h = let most = at_most 0 (entry_keys es) (omega arith) (rising es h) in omega (arith, most)
+pub few_keys : (es : List Addition) → HaveKeys es → length (addition_keys es) ≤ 5
+few_keys es h = let most = at_most 0 (addition_keys es) (omega arith) (rising es h) in omega (arith, most)

@@ -31,7 +31,7 @@ use Rattle.expr_types.specs.Judge.{judged}
 use Rattle.expr_types.specs.Mentions.{Text, OfField, Begins, Args, ReadsField, NeedsWhole, BuiltinWord, FieldWord, NoElseWord}
 use Rattle.expr_types.specs.Walk.{Seen, MapSeen, TargetSeen, seen, at, key_seen, kind_layer, target_layer, expr_layer, step_layer, map_layer, of_expr, of_kind, of_map}
 use Rattle.bt_types.specs.Bodies.{told_at, nothing, fault_of, type_fault}
-use Rattle.bt_types.specs.Told.{Told, told, next, in_turn, says, asks, value_told, gather_told, gathered_told, kind_of_call, number_of_call, block_told, stmt_kind_layer, stmt_layer, block_layer, of_stmt_kind, of_block, of_stmt}
+use Rattle.bt_types.specs.Told.{Told, told, next, told_in_turn, says, asks, value_told, gather_told, gathered_told, kind_of_call, number_of_call, block_told, stmt_kind_layer, told_stmt_layer, told_block_layer, of_stmt_kind, of_block, of_stmt}
 use Rattle.rec_format.specs.declared.recording.Recording.{Recording}
 use Rattle.rec_gen.specs.Made.{IsMade}
 use Rattle.big_script.proofs.Attach.{the_bodies}
@@ -68,13 +68,13 @@ map_is column name keys =
 -- ---- statements
 
 stmt_is : (p : Place) (kind : StmtKind) → of_stmt (stmt p kind) ≡ (λ inside. of_stmt_kind kind inside p)
-stmt_is p kind = fold-roll-Stmt (Bool → Place → Told) (Bool → Told) (Bool → Told) stmt_kind_layer block_layer stmt_layer (record { kind = kind; place = p })
+stmt_is p kind = fold-roll-Stmt (Bool → Place → Told) (Bool → Told) (Bool → Told) stmt_kind_layer told_block_layer told_stmt_layer (record { kind = kind; place = p })
 
 kind_is : (m : MapRef) (call : AggCall) (word : Place)
     → of_stmt_kind (stmts.SetAgg m call word) ≡ (λ inside p. gather_told (of_map m) (kind_of_call call) (gathered_told (number_of_call call) word) word)
 kind_is m call word =
     ap of_stmt_kind (sym (stmts.rolls-SetAgg m call word))
-    ∙ fold-roll-StmtKind (Bool → Place → Told) (Bool → Told) (Bool → Told) stmt_kind_layer block_layer stmt_layer (StmtKind-F.SetAgg m call word)
+    ∙ fold-roll-StmtKind (Bool → Place → Told) (Bool → Told) (Bool → Told) stmt_kind_layer told_block_layer told_stmt_layer (StmtKind-F.SetAgg m call word)
 
 gather_is : (column : ℕ) (name : List ℕ) (keys : List Expr) (word : ℕ) (call : AggCall) (ks : List Seen) (number : Told) → map of_expr keys ≡ ks
     → gathered_told (number_of_call call) (place word) ≡ number
@@ -105,7 +105,7 @@ block_is =
     let one = gather_is 37 (codes "@calls") (comm_at 44 ∷ []) 52 aggs.Count (comm_seen ∷ []) (told [] []) (ap (λ (s : Seen). s ∷ []) (comm_is 44)) refl in
     let two = gather_is 61 (codes "@ids") [] 68 (aggs.Gather Hist (id_at 73 78)) [] (number_seen 73 78 68) refl (number_is 73 78 68) in
     let three = gather_is 83 (codes "@sum") [] 90 (aggs.Gather Sum (id_at 94 99)) [] (number_seen 94 99 90) refl (number_is 94 99 90) in
-    ap (λ (f : Bool → Told). f false) (fold-roll-Block (Bool → Place → Told) (Bool → Told) (Bool → Told) stmt_kind_layer block_layer stmt_layer (record { stmts = the_statements; place = place 35 }))
+    ap (λ (f : Bool → Told). f false) (fold-roll-Block (Bool → Place → Told) (Bool → Told) (Bool → Told) stmt_kind_layer told_block_layer told_stmt_layer (record { stmts = the_statements; place = place 35 }))
     ∙ (λ i. block_told (one i ∷ two i ∷ three i ∷ []))
 
 -- ---- the body
@@ -140,8 +140,8 @@ the_known = record {
   printed = [];
 }
 
-pub whole : judged (in_turn (told_at the_tree (the_format ∷ []) the_id ∷ [])).points nothing ≡ Ok the_known
-whole = ap (λ (t : Told). judged (in_turn (t ∷ [])).points nothing) told_is
+pub whole : judged (told_in_turn (told_at the_tree (the_format ∷ []) the_id ∷ [])).points nothing ≡ Ok the_known
+whole = ap (λ (t : Told). judged (told_in_turn (t ∷ [])).points nothing) told_is
 
 none_broken : type_fault the_tree (the_format ∷ []) the_bodies ≡ None
 unfolding type_fault

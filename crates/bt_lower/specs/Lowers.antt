@@ -12,7 +12,8 @@ use Rattle.typed_tree.specs.declared.expr.StrExpr.{StrExpr}
 use Rattle.typed_tree.specs.declared.stmt.TypedBlock.{TypedBlock}
 use Rattle.typed_tree.specs.declared.stmt.TypedStmt.{TypedStmt}
 use Rattle.typed_tree.specs.declared.stmt.TypedStmt.TheVariants as stmts
-use Rattle.typed_tree.specs.Parts.{Part, Made, made_of, parts_in, key_shapes, stmt_parts, block_parts, joined, arm_parts, otherwise_parts, option_inside, num_parts, str_parts}
+use Rattle.typed_tree.specs.Parts.{Part, Made, made_of, parts_in, key_shapes, stmt_parts}
+use Rattle.typed_tree.specs.Parts.{block_parts, joined, arm_parts, otherwise_parts, option_inside, num_parts, str_parts}
 use Rattle.typed_tree.specs.Scope.{all_fit}
 use Rattle.walk_meaning.specs.declared.flow.Flow.{Flow}
 use Rattle.walk_meaning.specs.declared.flow.Flow.TheVariants.{Next, Break, Continue, Stop}
@@ -29,7 +30,8 @@ use Rattle.map_ops.specs.Values.{shape_of}
 use Rattle.bt_lower.specs.declared.code.Code.{Code}
 use Rattle.bt_lower.specs.declared.code.Ways.{Ways}
 use Rattle.bt_lower.specs.Code.{code_slots}
-use Rattle.bt_lower.specs.Needs.{Need, need, value_need, values_need, number_need, text_need, stmt_need, block_need, otherwise_need, list_frame, sizes_in, codes_in}
+use Rattle.bt_lower.specs.Needs.{Need, need, value_need, values_need, number_need, text_need}
+use Rattle.bt_lower.specs.Needs.{stmt_need, block_need, otherwise_need, list_frame, sizes_in, codes_in}
 use Rattle.bt_lower.specs.Sound.{Site, HasRoom, Opens, Sound, Target, WaysStand}
 
 -- the blocks of a list from this number on stand in the final one
@@ -70,10 +72,13 @@ pub record LowersParts (parts : List Part) (ds : List (Does Value)) (shapes : Li
   pub slots : code_slots new ≤ code_slots old + n.code
   pub sizes : sizes_of shapes ≤ n.frame
   pub stack : (rest : List Shape) → old.stack ≡ rest ++ shapes → new.stack ≡ rest
-  pub does : (bs : List Block) → Stand (length old.blocks) new.blocks bs → (base : ℕ) (maps : List MapDecl) (w : BodyScene) (frame : Frame) (values : List Value) (k : (List Value × Frame) → Interaction Ending)
-      → ((p : List Value × Frame) → length p.0 ≡ length shapes → p.1.turns ≡ frame.turns → Runs bs old (base + length old.blocks) (seen_by maps w) (state p.1 (values ++ p.0)) (k p))
+  pub does : (bs : List Block) → Stand (length old.blocks) new.blocks bs
+      → (base : ℕ) (maps : List MapDecl) (w : BodyScene) (frame : Frame) (values : List Value) (k : (List Value × Frame) → Interaction Ending)
+      → ((p : List Value × Frame) → length p.0 ≡ length shapes → p.1.turns ≡ frame.turns
+      → Runs bs old (base + length old.blocks) (seen_by maps w) (state p.1 (values ++ p.0)) (k p))
       → Runs bs new (base + length new.blocks) (seen_by maps w) (state frame values) (and_then (in_order ds w frame) k)
-  pub sound : (bs : List Block) → Stand (length old.blocks) new.blocks bs → (t : Site) → all_fit t.scope parts ≡ true → (rest : List Shape) → old.stack ≡ rest ++ shapes
+  pub sound : (bs : List Block) → Stand (length old.blocks) new.blocks bs → (t : Site) → all_fit t.scope parts ≡ true
+      → (rest : List Shape) → old.stack ≡ rest ++ shapes
       → HasRoom t.ground (sizes_of rest + n.frame) → Opens t.ground bs old → Opens t.ground bs new × Sound t.ground bs (length old.blocks) (length new.blocks)
 
 abbrev pub LowersValue : List Part → Does Value → Shape → Need → Code → Code → Type 0
@@ -92,7 +97,8 @@ pub record LowersAny (e : AnyExpr) (old new : Code) : Type 0 where
 
 -- expressions from left to right
 pub record LowersList (es : List AnyExpr) (old new : Code) : Type 0 where
-  pub lowered : LowersParts (parts_in (all_made es)) (values_do es) (key_shapes (all_made es)) (need (list_frame (values_need es)) (codes_in (values_need es))) old new
+  pub lowered : LowersParts (parts_in (all_made es)) (values_do es) (key_shapes (all_made es))
+      (need (list_frame (values_need es)) (codes_in (values_need es))) old new
   pub sized : sizes_in (values_need es) ≡ sizes_of (key_shapes (all_made es))
 
 -- the new block evaluates, puts the value on the stack, and goes on to a block
@@ -102,7 +108,8 @@ pub record LowersArm (parts : List Part) (d : Does Value) (shape : Shape) (n : N
   pub slots : code_slots new ≤ code_slots old + n.code
   pub sizes : sizes_of (shape ∷ []) ≤ n.frame
   pub stack : new.stack ≡ old.stack
-  pub does : (bs : List Block) → Stand (length old.blocks) new.blocks bs → (base : ℕ) (maps : List MapDecl) (w : BodyScene) (frame : Frame) (values : List Value) (k : (Value × Frame) → Interaction Ending)
+  pub does : (bs : List Block) → Stand (length old.blocks) new.blocks bs
+      → (base : ℕ) (maps : List MapDecl) (w : BodyScene) (frame : Frame) (values : List Value) (k : (Value × Frame) → Interaction Ending)
       → ((p : Value × Frame) → p.1.turns ≡ frame.turns → Reaches bs after (base + length old.blocks) (seen_by maps w) (state p.1 (values ++ p.0 ∷ [])) (k p))
       → Reaches bs b (base + length new.blocks) (seen_by maps w) (state frame values) (and_then (d w frame) k)
   pub sound : (bs : List Block) → Stand (length old.blocks) new.blocks bs → (t : Site) → all_fit t.scope parts ≡ true
@@ -114,7 +121,8 @@ abbrev pub fuel : ℕ → Code → ℕ → ℕ
 fuel most c turns = (turns + c.depth) * most + length c.blocks
 
 -- what may follow a statement, with as many turns or fewer: what is open, and the two ways out of a loop's block
-pub record Follows (bs : List Block) (way : Ways) (c : Code) (most : ℕ) (scene : Scene) (turns : ℕ) (values : List Value) (k : (Flow × Frame) → Interaction Ending) : Type 0 where
+pub record Follows (bs : List Block) (way : Ways) (c : Code) (most : ℕ) (scene : Scene) (turns : ℕ) (values : List Value)
+    (k : (Flow × Frame) → Interaction Ending) : Type 0 where
   pub next : (st : Frame) → st.turns ≤ turns → Runs bs c (fuel most c st.turns) scene (state st values) (k (Next, st))
   pub leave : (st : Frame) → st.turns ≤ turns → Reaches bs way.leave (fuel most c st.turns) scene (state st values) (k (Break, st))
   pub again : (st : Frame) → st.turns ≤ turns → Reaches bs way.again (fuel most c st.turns) scene (state st values) (k (Continue, st))
@@ -126,7 +134,8 @@ pub record LowersStmt (parts : Bool → List Part) (d : Does Flow) (n : Need) (w
   pub depth : new.depth ≡ old.depth
   pub slots : code_slots new ≤ code_slots old + n.code
   pub stack : new.stack ≡ old.stack
-  pub does : (bs : List Block) → Stand (length old.blocks) new.blocks bs → (most : ℕ) → length new.blocks ≤ most → (t : Site) (inside : Bool) → all_fit t.scope (parts inside) ≡ true
+  pub does : (bs : List Block) → Stand (length old.blocks) new.blocks bs → (most : ℕ) → length new.blocks ≤ most
+      → (t : Site) (inside : Bool) → all_fit t.scope (parts inside) ≡ true
       → (w : BodyScene) → w.maps ≡ t.scope.maps → (frame : Frame) (values : List Value) (k : (Flow × Frame) → Interaction Ending)
       → Follows bs way old most (seen_by t.ground.maps w) frame.turns values k
       → Runs bs new (fuel most new frame.turns) (seen_by t.ground.maps w) (state frame values) (and_then (d w frame) k)
@@ -140,7 +149,8 @@ pub record LowersBlock (parts : Bool → List Part) (d : Does Flow) (n : Need) (
   pub depth : new.depth ≡ old.depth
   pub slots : code_slots new ≤ code_slots old + n.code + 1
   pub stack : new.stack ≡ old.stack
-  pub does : (bs : List Block) → Stand (length old.blocks) new.blocks bs → (most : ℕ) → length new.blocks ≤ most → (t : Site) (inside : Bool) → all_fit t.scope (parts inside) ≡ true
+  pub does : (bs : List Block) → Stand (length old.blocks) new.blocks bs → (most : ℕ) → length new.blocks ≤ most
+      → (t : Site) (inside : Bool) → all_fit t.scope (parts inside) ≡ true
       → (w : BodyScene) → w.maps ≡ t.scope.maps → (frame : Frame) (values : List Value) (k : (Flow × Frame) → Interaction Ending)
       → ((st : Frame) → st.turns ≤ frame.turns → Reaches bs after (fuel most old st.turns) (seen_by t.ground.maps w) (state st values) (k (Next, st)))
       → ((st : Frame) → st.turns ≤ frame.turns → Reaches bs way.leave (fuel most old st.turns) (seen_by t.ground.maps w) (state st values) (k (Break, st)))
@@ -199,7 +209,8 @@ LowersArms arms o after way old new b = LowersBlock (arms_parts arms o) (arms_do
 -- where the later arms and what comes behind them are there, there is one arm more
 abbrev pub LowersOneArm : NumExpr × TypedBlock → ℕ → ℕ → Ways → Code → Code → ℕ → Type 0
 LowersOneArm arm next after way old new b =
-    (arms : List (NumExpr × TypedBlock)) (o : Option TypedBlock) (first : Code) → LowersArms arms o after way first old next → LowersArms (arm ∷ arms) o after way first new b
+    (arms : List (NumExpr × TypedBlock)) (o : Option TypedBlock) (first : Code) → LowersArms arms o after way first old next
+    → LowersArms (arm ∷ arms) o after way first new b
 
 -- where the statement is an `if`, the new code does it
 abbrev pub LowersIf : TypedStmt → Ways → Code → Code → Type 0

@@ -52,30 +52,31 @@ pub record IsAggregationOnly (script : Typed) : Type 0 where
 -- ---- numbers that are added
 
 -- a number with the key that it is added to
-abbrev pub Entry : Type 0
-Entry = List Value × ℤ
+abbrev pub Addition : Type 0
+Addition = List Value × ℤ
 
--- the keys of these entries, in key order, each once
-abbrev pub entry_keys : List Entry → List (List Value)
-entry_keys [] = []
-entry_keys (e ∷ es) = with_key e.0 (entry_keys es)
+-- the keys of these additions, in key order, each once
+abbrev pub addition_keys : List Addition → List (List Value)
+addition_keys [] = []
+addition_keys (a ∷ rest) = with_key a.0 (addition_keys rest)
 
 -- the numbers that are added to a key, in their order
-abbrev pub numbers_at : List Value → List Entry → List ℤ
-numbers_at key entries = map (λ e. e.1) (filter (λ e. is_key key e.0) entries)
+abbrev pub numbers_at : List Value → List Addition → List ℤ
+numbers_at key additions = map (λ a. a.1) (filter (λ a. is_key key a.0) additions)
 
 -- each key with the aggregate of the numbers that are added to it
-abbrev pub total_rows : AggKind → List Entry → List (List Value × Cell)
-total_rows kind entries = map (λ key. (key, cells.Agg (aggregate kind (numbers_at key entries)))) (entry_keys entries)
+abbrev pub total_rows : AggKind → List Addition → List (List Value × Cell)
+total_rows kind additions =
+    map (λ key. (key, cells.Agg (aggregate kind (numbers_at key additions)))) (addition_keys additions)
 
 module _ (m : MapId) where
   -- what an operation adds to the map
-  abbrev pub added : Op → List Entry
+  abbrev pub added : Op → List Addition
   added (Add n key number) = cond (m.0 == n.0) ((key, number) ∷ []) []
   added op = []
 
   -- what a computation adds to it, where every answer is that it is done
-  abbrev pub adds_of : {A : Type 0} → Interaction A → List Entry
+  abbrev pub adds_of : {A : Type 0} → Interaction A → List Addition
   adds_of (Ended a) = []
   adds_of (Asks c f) = added c.op ++ adds_of (f Done)
 
@@ -88,23 +89,23 @@ who (s ∷ ss) tick = if is_crossing tick s && tells_last s.reply then s.actor e
 
 module _ (p : Replay) (m : MapId) where
   -- what the events of each CPU add, from this CPU on; a mark of lost ones adds nothing
-  abbrev pub events_add : ℕ → List CpuTrack → List Entry
+  abbrev pub events_add : ℕ → List CpuTrack → List Addition
   events_add cpu [] = []
   events_add cpu (track ∷ tracks) =
       flat_map (λ e. adds_of m (entry_work (p.plan cpu) p.recording p.attached track e)) track.entries ++ events_add (cpu + 1) tracks
 
   -- what a tick adds where a CPU runs its body
-  abbrev pub tick_adds : Tick → ℕ → Option CpuTrack → List Entry
+  abbrev pub tick_adds : Tick → ℕ → Option CpuTrack → List Addition
   tick_adds t cpu None = []
   tick_adds t cpu (Some track) = adds_of m ((p.plan cpu).run t.body (tick_context p.recording track t) [])
 
   -- what the ticks add from this one on, each run by the CPU that is named for it
-  abbrev pub ticks_add : (ℕ → ℕ) → ℕ → List Tick → List Entry
+  abbrev pub ticks_add : (ℕ → ℕ) → ℕ → List Tick → List Addition
   ticks_add named place [] = []
   ticks_add named place (t ∷ ts) = tick_adds t (named place) (slice_get p.recording.cpus (named place)) ++ ticks_add named (place + 1) ts
 
   -- all numbers that BEGIN, the events of each CPU, the ticks and END add
-  abbrev pub all_adds : (ℕ → ℕ) → List Entry
+  abbrev pub all_adds : (ℕ → ℕ) → List Addition
   all_adds named =
       adds_of m (begin_of p) ++ (events_add 0 p.recording.cpus ++ (ticks_add named 0 p.attached.ticks ++ adds_of m (end_of p)))
 

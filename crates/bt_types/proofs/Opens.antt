@@ -20,7 +20,7 @@ use Rattle.expr_types.specs.Judge.{judged, SaysFault}
 use Rattle.expr_types.specs.Known.{begun}
 use Rattle.expr_types.specs.Mentions.{Point, Word}
 use Rattle.bt_types.specs.Open.{BodyDone, OneDone, IsOpen, BodiesDone, again}
-use Rattle.bt_types.specs.Told.{Told, in_turn}
+use Rattle.bt_types.specs.Told.{Told, told_in_turn}
 use Rattle.bt_types.specs.Under.{IsUnder, AreUnder, known_or, known_behind}
 use Rattle.expr_types.proofs.Growing.{grows_none, grows_on}
 use Rattle.expr_types.proofs.Judging.{judged_ok, judged_err}
@@ -31,22 +31,22 @@ one_more : (i : ℕ) → suc i ≡ i + 1
 one_more i = omega arith
 
 -- one more is judged, and a fault of one more
-whole_more : {A : Type 0} (f : A → Told) (xs : List A) (i : ℕ) (x : A) (k0 k1 k2 : Known) → i < length xs → x ≡ get_or xs i x → judged (in_turn (map f (take i xs))).points k0 ≡ Ok k1 → judged (f x).points k1 ≡ Ok k2
-    → judged (in_turn (map f (take (i + 1) xs))).points k0 ≡ Ok k2
+whole_more : {A : Type 0} (f : A → Told) (xs : List A) (i : ℕ) (x : A) (k0 k1 k2 : Known) → i < length xs → x ≡ get_or xs i x → judged (told_in_turn (map f (take i xs))).points k0 ≡ Ok k1 → judged (f x).points k1 ≡ Ok k2
+    → judged (told_in_turn (map f (take (i + 1) xs))).points k0 ≡ Ok k2
 whole_more f xs i x k0 k1 k2 within is c d =
     let longer : take (i + 1) xs ≡ take i xs ++ x ∷ [] = ap (λ (n : ℕ). take n xs) (sym (one_more i)) ∙ (take-suc xs i x within ∙ ap (λ z. take i xs ++ z ∷ []) (sym is)) in
     rw (longer, map_more f (take i xs) x, points_both (map f (take i xs)) (f x ∷ []), append-nil (f x).points)
-    (judged_ok (in_turn (map f (take i xs))).points (f x).points k0 k1 c ∙ d)
+    (judged_ok (told_in_turn (map f (take i xs))).points (f x).points k0 k1 c ∙ d)
 
-whole_refused : {A : Type 0} (f : A → Told) (xs : List A) (i : ℕ) (x : A) (k0 k1 : Known) (e : TypeError) → i < length xs → x ≡ get_or xs i x → judged (in_turn (map f (take i xs))).points k0 ≡ Ok k1
-    → SaysFault (judged (f x).points k1) e → SaysFault (judged (in_turn (map f xs)).points k0) e
+whole_refused : {A : Type 0} (f : A → Told) (xs : List A) (i : ℕ) (x : A) (k0 k1 : Known) (e : TypeError) → i < length xs → x ≡ get_or xs i x → judged (told_in_turn (map f (take i xs))).points k0 ≡ Ok k1
+    → SaysFault (judged (f x).points k1) e → SaysFault (judged (told_in_turn (map f xs)).points k0) e
 whole_refused {A} f xs i x k0 k1 e within is c h =
     let rest : drop i xs ≡ x ∷ drop (suc i) xs = drop-cons xs i x within ∙ ap (λ z. z ∷ drop (suc i) xs) (sym is) in
     let parted : map f xs ≡ map f (take i xs) ++ f x ∷ map f (drop (suc i) xs) =
     ap (λ (l : List A). map f l) (sym (take-append-drop i xs)) ∙ (map_both f (take i xs) (drop i xs) ∙ ap (λ (l : List A). map f (take i xs) ++ map f l) rest) in
     rw (parted, points_both (map f (take i xs)) (f x ∷ map f (drop (suc i) xs)))
-    (subst (λ (v : Result Known Fault). SaysFault v e) (sym (judged_ok (in_turn (map f (take i xs))).points (in_turn (f x ∷ map f (drop (suc i) xs))).points k0 k1 c))
-    (fault_first (f x).points (in_turn (map f (drop (suc i) xs))).points k1 e h))
+    (subst (λ (v : Result Known Fault). SaysFault v e) (sym (judged_ok (told_in_turn (map f (take i xs))).points (told_in_turn (f x ∷ map f (drop (suc i) xs))).points k0 k1 c))
+    (fault_first (f x).points (told_in_turn (map f (drop (suc i) xs))).points k1 e h))
 
 -- a body that is open stays so while others are checked
 again_later : (past k0 k1 : Known) (event : Option Layout) → Grows past (again past k0) → Grows (begun k0 event) k1 → Grows past (again past k1)
@@ -113,14 +113,14 @@ ok_same a b e = cc
 
 -- one more tree
 under_more : (script : Script) (formats : List Format) (ids : List BodyId) (trees : List TypedTree) (before now : Known) (id : BodyId) (tree : TypedTree)
-    → AreUnder script formats before ids trees → judged (in_turn (map (told_at script formats) ids)).points before ≡ Ok now
+    → AreUnder script formats before ids trees → judged (told_in_turn (map (told_at script formats) ids)).points before ≡ Ok now
     → IsUnder (known_behind script formats now id) (told_at script formats id).words tree → AreUnder script formats before (ids ++ id ∷ []) (trees ++ tree ∷ [])
 under_more script formats [] [] before now id tree h j u =
     (subst (λ (k : Known). IsUnder (known_behind script formats k id) (told_at script formats id).words tree) (sym (ok_same before now j)) u, tt)
 under_more script formats [] (t ∷ ts) before now id tree h j u = absurd h
 under_more script formats (i ∷ is) [] before now id tree h j u = absurd h
 under_more script formats (i ∷ is) (t ∷ ts) before now id tree h j u =
-    let rest = rest_judged (told_at script formats i).points (in_turn (map (told_at script formats) is)).points before now j in
+    let rest = rest_judged (told_at script formats i).points (told_in_turn (map (told_at script formats) is)).points before now j in
     (h.0, under_more script formats is ts (known_behind script formats before i) now id tree h.1 rest u)
 
 -- a body that was just checked is typed under what is known now

@@ -13,7 +13,7 @@ use Rattle.expr_types.specs.declared.fault.Fault.{Fault}
 use Rattle.expr_types.specs.declared.known.Known.{Known}
 use Rattle.expr_types.specs.Judge.{judged}
 use Rattle.expr_types.specs.Mentions.{Begins, ElseWord, NoElseWord}
-use Rattle.bt_types.specs.Told.{Told, told, next, in_turn, says, asks, condition_told, of_block}
+use Rattle.bt_types.specs.Told.{Told, told, next, told_in_turn, says, asks, condition_told, of_block}
 
 abbrev pub predicate_told : Option Expr → Told
 predicate_told None = says NoElseWord
@@ -51,7 +51,7 @@ told_at script formats id = begun_told formats id.point (slice_get script.probes
 
 -- all bodies in their order
 abbrev pub script_told : Script → List Format → List BodyId → Told
-script_told script formats bodies = in_turn (map (told_at script formats) bodies)
+script_told script formats bodies = told_in_turn (map (told_at script formats) bodies)
 
 -- nothing is known before a script
 abbrev pub nothing : Known

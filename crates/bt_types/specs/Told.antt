@@ -31,9 +31,9 @@ told points words = record { points = points; words = words }
 abbrev pub next : Told → Told → Told
 next s t = told (s.points ++ t.points) (s.words ++ t.words)
 
-abbrev pub in_turn : List Told → Told
-in_turn [] = told [] []
-in_turn (t ∷ ts) = next t (in_turn ts)
+abbrev pub told_in_turn : List Told → Told
+told_in_turn [] = told [] []
+told_in_turn (t ∷ ts) = next t (told_in_turn ts)
 
 -- a word alone; a mention alone
 abbrev pub says : Word → Told
@@ -128,7 +128,7 @@ delete_told m apart place =
 
 -- several statements, and their end
 abbrev pub block_told : List Told → Told
-block_told stmts = next (in_turn stmts) (says EndWord)
+block_told stmts = next (told_in_turn stmts) (says EndWord)
 
 -- an arm; the block of `else`
 abbrev pub arm_told : Expr × Told → Told
@@ -144,7 +144,7 @@ option_told inside None = None
 option_told inside (Some block) = Some (block inside)
 
 abbrev pub if_told : List Told → Option Told → Told
-if_told arms otherwise = next (in_turn arms) (otherwise_told otherwise)
+if_told arms otherwise = next (told_in_turn arms) (otherwise_told otherwise)
 
 -- loops whose word stands here
 abbrev pub while_told : Place → Expr → Told → Told
@@ -172,17 +172,17 @@ stmt_kind_layer (StmtKind-F.If arms otherwise) inside place = if_told (map (λ a
 stmt_kind_layer (StmtKind-F.While test block) inside place = while_told place test (block true)
 stmt_kind_layer (StmtKind-F.Unroll turns block) inside place = unroll_told place turns (block true)
 
-abbrev pub stmt_layer : Stmt-F (Bool → Place → Told) (Bool → Told) (Bool → Told) → Bool → Told
-stmt_layer s inside = s.kind inside s.place
+abbrev pub told_stmt_layer : Stmt-F (Bool → Place → Told) (Bool → Told) (Bool → Told) → Bool → Told
+told_stmt_layer s inside = s.kind inside s.place
 
-abbrev pub block_layer : Block-F (Bool → Place → Told) (Bool → Told) (Bool → Told) → Bool → Told
-block_layer b inside = block_told (map (λ s. s inside) b.stmts)
+abbrev pub told_block_layer : Block-F (Bool → Place → Told) (Bool → Told) (Bool → Told) → Bool → Told
+told_block_layer b inside = block_told (map (λ s. s inside) b.stmts)
 
 abbrev pub of_stmt_kind : StmtKind → Bool → Place → Told
-of_stmt_kind = fold-StmtKind (Bool → Place → Told) (Bool → Told) (Bool → Told) stmt_kind_layer block_layer stmt_layer
+of_stmt_kind = fold-StmtKind (Bool → Place → Told) (Bool → Told) (Bool → Told) stmt_kind_layer told_block_layer told_stmt_layer
 
 abbrev pub of_block : Block → Bool → Told
-of_block = fold-Block (Bool → Place → Told) (Bool → Told) (Bool → Told) stmt_kind_layer block_layer stmt_layer
+of_block = fold-Block (Bool → Place → Told) (Bool → Told) (Bool → Told) stmt_kind_layer told_block_layer told_stmt_layer
 
 abbrev pub of_stmt : Stmt → Bool → Told
-of_stmt = fold-Stmt (Bool → Place → Told) (Bool → Told) (Bool → Told) stmt_kind_layer block_layer stmt_layer
+of_stmt = fold-Stmt (Bool → Place → Told) (Bool → Told) (Bool → Told) stmt_kind_layer told_block_layer told_stmt_layer

@@ -6,7 +6,7 @@ ghost use Rattle.expr_types.specs.Rules.{are_turns, breaks};
 ghost use Rattle.expr_types.specs.Walk.{of_expr, of_step, of_target};
 ghost use Rattle.typed_tree.specs.declared.stmt.TypedStmt.TheVariants.{Jump as JumpStmt};
 ghost use Rattle.typed_tree.specs.Parts.{joined, arm_parts, otherwise_parts, stmt_parts, block_parts};
-ghost use Rattle.bt_types.specs.Told.{in_turn, assign_told, arm_told, otherwise_told, value_told, while_told, unroll_told, of_block, of_stmt, of_stmt_kind};
+ghost use Rattle.bt_types.specs.Told.{told_in_turn, assign_told, arm_told, otherwise_told, value_told, while_told, unroll_told, of_block, of_stmt, of_stmt_kind};
 ghost use Rattle.bt_types.specs.Done.{Does, DoesIn};
 
 use crate::assign::{
@@ -94,7 +94,7 @@ fn check_stmts(
     inside: bool,
     stmts: &[Stmt],
 ) -> Result<Items<TypedStmt>, TypeError>
-    ensures { Does (in_turn (map (λ s. of_stmt s inside) stmts.now)) (λ all. joined (map (λ s. stmt_parts s inside) all)) known.old known.new result }
+    ensures { Does (told_in_turn (map (λ s. of_stmt s inside) stmts.now)) (λ all. joined (map (λ s. stmt_parts s inside) all)) known.old known.new result }
 {
     let mut all = Items::new(alloc);
     for stmt in stmts {

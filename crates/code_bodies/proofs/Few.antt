@@ -7,7 +7,7 @@ use Rattle.bt_core.specs.declared.step.Reply.{Reply}
 use Rattle.bt_core.specs.Interaction.{Interaction, Ended, Asks, and_then, value_under}
 use Rattle.bpf_insn.specs.declared.insn.Insn.{Insn}
 use Rattle.bpf_insn.specs.declared.trap.Trap.{Trap}
-use Rattle.bpf_insn.specs.Machine.{Helpers, State, Next, GoesOn, Ends, Traps, machine_step, entry_state}
+use Rattle.bpf_insn.specs.Machine.{Helpers, MachineState, Next, GoesOn, Ends, Traps, machine_step, entry_state}
 use Rattle.bpf_interp.specs.declared.machine.Ended.{Ended as EndedRun}
 use Rattle.bpf_interp.specs.Running.{after_step, machine_run}
 use Rattle.event_record.specs.Contexts.{context_bytes}
@@ -32,14 +32,14 @@ same a b e = cc
 
 module _ (helper : Helpers) (code : List Insn) where
   -- after an instruction, where the rest takes no more than what is left
-  after_few : (go : State → Interaction (Result EndedRun Trap)) (count most : ℕ) → count + 1 ≤ most
-      → ((st : State) (replies : List Reply) (end : Result EndedRun Trap) → value_under (go st) replies ≡ Some end → count_of end ≤ most)
+  after_few : (go : MachineState → Interaction (Result EndedRun Trap)) (count most : ℕ) → count + 1 ≤ most
+      → ((st : MachineState) (replies : List Reply) (end : Result EndedRun Trap) → value_under (go st) replies ≡ Some end → count_of end ≤ most)
       → (next : Next) (replies : List Reply) (end : Result EndedRun Trap) → value_under (after_step go count next) replies ≡ Some end → count_of end ≤ most
   after_few go count most room so (GoesOn st) replies end e = so st replies end e
   after_few go count most room so Ends replies end e = subst (λ (x : Result EndedRun Trap). count_of x ≤ most) (same _ end e) room
   after_few go count most room so (Traps t) replies end e = subst (λ (x : Result EndedRun Trap). count_of x ≤ most) (same _ end e) (omega arith)
 
-  run_few : (fuel count most : ℕ) (st : State) → count + fuel ≤ most → (replies : List Reply) (end : Result EndedRun Trap)
+  run_few : (fuel count most : ℕ) (st : MachineState) → count + fuel ≤ most → (replies : List Reply) (end : Result EndedRun Trap)
       → value_under (machine_run helper code fuel count st) replies ≡ Some end → count_of end ≤ most
   run_few zero count most st room replies end e = subst (λ (x : Result EndedRun Trap). count_of x ≤ most) (same _ end e) (omega arith)
   run_few (suc fuel) count most st room replies end e =

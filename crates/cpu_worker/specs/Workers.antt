@@ -7,7 +7,7 @@ use Rattle.actor_plan.specs.Plans.{Plan}
 use Rattle.actor_plan.specs.Programs.{cpu_program}
 use Rattle.cpu_worker.specs.declared.worker.CpuWorker.{CpuWorker}
 use Rattle.cpu_worker.specs.declared.world.World.{World}
-use Rattle.cpu_worker.specs.Worlds.{cpus_in, sets_in, AreTurnsOf, CanReplay, IsPlanIn}
+use Rattle.cpu_worker.specs.Worlds.{world_cpus, sets_in, AreTurnsOf, CanReplay, IsPlanIn}
 
 module _ {B G : Type 0} (plan : B → Plan) (world : World) where
   -- the whole program of the worker's CPU, over what its bodies tell
@@ -18,7 +18,7 @@ module _ {B G : Type 0} (plan : B → Plan) (world : World) where
   -- bodies are made for it
   pub record IsReady (w : CpuWorker B G) : Type 0 where
     pub replay : CanReplay world
-    pub known : w.cpu < cpus_in world
+    pub known : w.cpu < world_cpus world
     pub turns_are : AreTurnsOf (sets_in world) w.cpu w.turns
     pub actor : actor_of w.trace ≡ w.cpu
     pub empty : steps_of w.trace ≡ []

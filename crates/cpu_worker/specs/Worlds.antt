@@ -18,8 +18,8 @@ use Rattle.cpu_worker.specs.declared.world.World.{World}
 use Rattle.cpu_worker.specs.declared.world.WorkerTurns.{WorkerTurns}
 
 -- how many CPUs there are, which is also the main actor's number
-abbrev pub cpus_in : World → ℕ
-cpus_in world = length world.recording.now.cpus
+abbrev pub world_cpus : World → ℕ
+world_cpus world = length world.recording.now.cpus
 
 -- the maps of the script
 abbrev pub maps_in : World → List MapDecl
@@ -27,7 +27,7 @@ maps_in world = world.typed.now.maps
 
 -- for an actor: there are the CPUs and the main actor, the attached ticks, and the script's maps
 abbrev pub setting_in : World → ℕ → Setting
-setting_in world actor = record { actor = actor; actors = cpus_in world + 1; ticks = length world.attached.now.ticks; maps = maps_in world }
+setting_in world actor = record { actor = actor; actors = world_cpus world + 1; ticks = length world.attached.now.ticks; maps = maps_in world }
 
 -- the three sets of locks
 pub record Sets : Type 0 where

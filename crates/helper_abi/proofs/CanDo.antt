@@ -20,7 +20,7 @@ use Rattle.bpf_insn.specs.Regions.{is_in_frame}
 use Rattle.typed_tree.specs.Scope.{is_agg, is_summed_kind, is_fine_decl, is_fine_kind}
 use Rattle.typed_tree.proofs.Summed.{summed_kind}
 use Rattle.helper_abi.specs.Helpers.{numbered, map_id, of_sort, table_map, value_map, summed_map}
-use Rattle.helper_abi.specs.Reading.{shape_bytes, shape_of}
+use Rattle.helper_abi.specs.Reading.{shape_bytes, shape_of_kind}
 use Rattle.helper_abi.specs.Served.{ServesMaps, HasRoom}
 use Rattle.map_ops.specs.Holders.{part, CanSweep}
 
@@ -121,17 +121,17 @@ module _ (maps : List MapDecl) (setting : Setting) (n : ℕ) (decl : MapDecl) (s
       (below, served_at maps setting n decl (λ d. IsAggregation d.kind × HasShape d.key_shape key) serves (there maps n decl p.0) (p.1, shaped))
 
 -- a value of a shared map's shape is of its kind
-pub of_kind : (kind : MapKind) (value : Value) → IsShared kind → IsOfShape (shape_of kind) value → IsOfKind kind value
+pub of_kind : (kind : MapKind) (value : Value) → IsShared kind → IsOfShape (shape_of_kind kind) value → IsOfKind kind value
 of_kind Ints (Int n) shared h = tt
 of_kind Ints (Str s) shared h = absurd h
 of_kind Strs (Int n) shared h = absurd h
 of_kind Strs (Str s) shared h = tt
 of_kind (Aggs kind) value shared h = absurd shared
 
-pub room_at : (maps : List MapDecl) (setting : Setting) (n to : ℕ) (decl : MapDecl) → ServesMaps maps setting → value_map maps n ≡ Some decl → is_in_frame to (shape_bytes (shape_of decl.kind)) ≡ true → HasRoom setting (map_id n) to
+pub room_at : (maps : List MapDecl) (setting : Setting) (n to : ℕ) (decl : MapDecl) → ServesMaps maps setting → value_map maps n ≡ Some decl → is_in_frame to (shape_bytes (shape_of_kind decl.kind)) ≡ true → HasRoom setting (map_id n) to
 room_at maps setting n to decl serves e room =
     let p = value_map-is maps n decl e in
-    served_at maps setting n decl (λ d. IsTrue (is_in_frame to (shape_bytes (shape_of d.kind)))) serves (there maps n decl p.0) room
+    served_at maps setting n decl (λ d. IsTrue (is_in_frame to (shape_bytes (shape_of_kind d.kind)))) serves (there maps n decl p.0) room
 
 pub can_sweep : (maps : List MapDecl) (setting : Setting) (n : ℕ) (decl : MapDecl) (actors : ℕ) → ServesMaps maps setting → numbered maps n ≡ Some decl → setting.actors ≡ actors → CanSweep setting (map_id n) decl.kind actors
 can_sweep maps setting n decl actors serves e tables = record {

@@ -13,7 +13,7 @@ use Rattle.bt_core.specs.Kinds.{HasShape, IsOfShape, IsOfKind}
 use Rattle.bt_core.specs.declared.limits.TheConstants.{FRAME_BYTES}
 use Rattle.bpf_insn.specs.declared.address.TheConstants.{CONTEXT, PAYLOAD, FRAME, CONTEXT_BYTES}
 use Rattle.bpf_insn.specs.Regions.{Spaces, place_in, bytes_in, is_in_frame}
-use Rattle.helper_abi.specs.Reading.{shape_bytes, bytes_of_shapes, value_in, values_in, bytes_at, shape_of}
+use Rattle.helper_abi.specs.Reading.{shape_bytes, bytes_of_shapes, value_in, values_in, bytes_at, shape_of_kind}
 use Rattle.helper_abi.specs.Writing.{room_of}
 
 value_in-shaped : (h : Shape) (bytes : List ℕ) → IsOfShape h (value_in h bytes)
@@ -63,7 +63,7 @@ HasShape-length (s ∷ hs) [] h = absurd h
 HasShape-length (s ∷ hs) (v ∷ vs) h = ap suc (HasShape-length hs vs h.1)
 
 -- a value that a part of a map gives has the bytes that the map's values have
-kind_room : (kind : MapKind) (value : Value) (to : ℕ) → IsOfKind kind value → IsTrue (is_in_frame to (shape_bytes (shape_of kind))) → IsTrue (is_in_frame to (room_of value))
+kind_room : (kind : MapKind) (value : Value) (to : ℕ) → IsOfKind kind value → IsTrue (is_in_frame to (shape_bytes (shape_of_kind kind))) → IsTrue (is_in_frame to (room_of value))
 kind_room Ints (Int n) to h room = room
 kind_room Ints (Str s) to h room = absurd h
 kind_room Strs (Int n) to h room = absurd h
@@ -71,6 +71,6 @@ kind_room Strs (Str s) to h room = room
 kind_room (Aggs kind) (Int n) to h room = absurd h
 kind_room (Aggs kind) (Str s) to h room = absurd h
 
-pub served_room : (o : Option MapDecl) (value : Value) (to : ℕ) → IsSomeAnd o (λ decl. IsOfKind decl.kind value) → IsSomeAnd o (λ decl. IsTrue (is_in_frame to (shape_bytes (shape_of decl.kind)))) → IsTrue (is_in_frame to (room_of value))
+pub served_room : (o : Option MapDecl) (value : Value) (to : ℕ) → IsSomeAnd o (λ decl. IsOfKind decl.kind value) → IsSomeAnd o (λ decl. IsTrue (is_in_frame to (shape_bytes (shape_of_kind decl.kind)))) → IsTrue (is_in_frame to (room_of value))
 served_room None value to h room = absurd h
 served_room (Some decl) value to h room = kind_room decl.kind value to h room

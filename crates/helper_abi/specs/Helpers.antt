@@ -19,8 +19,9 @@ use Rattle.helper_abi.specs.declared.helper.Helper.TheVariants.{Get, Set, Delete
 use Rattle.map_ops.specs.declared.sweep.Sweep.{Sweep}
 use Rattle.map_ops.specs.declared.sweep.Sweep.TheVariants as sweeps
 use Rattle.helper_abi.specs.Numbers.{helper_at}
-use Rattle.helper_abi.specs.Reading.{shape_bytes, shape_of, value_at, values_at, payload_text}
-use Rattle.helper_abi.specs.Steps.{wrote, told, got, swept_all, printed, summed}
+use Rattle.helper_abi.specs.Reading.{shape_bytes, shape_of_kind, value_at, values_at, payload_text}
+use Rattle.helper_abi.specs.Steps.{wrote, frame_kept, got_into, summed_into}
+use Rattle.map_ops.specs.Asking.{told, swept, printed}
 use Rattle.map_ops.specs.Holders.{part}
 
 -- what the helpers of an actor work on: the script's maps and formats by their numbers, the actor, and how many actors there are
@@ -77,44 +78,57 @@ with_room address n go = cond (is_in_frame address n) go (Ended BadBytes)
 
 abbrev pub get : List MapDecl → ℕ → ℕ → ℕ → Spaces → Interaction Answer
 get maps m key to s =
-    in_range (value_map maps m) (λ decl. with_read (values_at s decl.key_shape key) (λ key. with_room to (shape_bytes (shape_of decl.kind)) (got s (map_id m) key to)))
+    in_range (value_map maps m) (λ decl.
+    with_read (values_at s decl.key_shape key) (λ key.
+    with_room to (shape_bytes (shape_of_kind decl.kind)) (got_into s (map_id m) key to)))
 
 abbrev pub set : List MapDecl → ℕ → ℕ → ℕ → Spaces → Interaction Answer
 set maps m key value s =
-    in_range (value_map maps m) (λ decl. with_read (values_at s decl.key_shape key) (λ key. with_read (value_at s (shape_of decl.kind) value)
-    (λ value. told s (part (map_id m) key) (ops.Set key value))))
+    in_range (value_map maps m) (λ decl.
+    with_read (values_at s decl.key_shape key) (λ key.
+    with_read (value_at s (shape_of_kind decl.kind) value) (λ value.
+    frame_kept s (told (part (map_id m) key) (ops.Set key value)))))
 
 abbrev pub delete : List MapDecl → ℕ → ℕ → Spaces → Interaction Answer
 delete maps m key s =
-    in_range (value_map maps m) (λ decl. with_read (values_at s decl.key_shape key) (λ key. told s (part (map_id m) key) (ops.Delete key)))
+    in_range (value_map maps m) (λ decl.
+    with_read (values_at s decl.key_shape key) (λ key. frame_kept s (told (part (map_id m) key) (ops.Delete key))))
 
 -- a number goes to the actor's own table
 abbrev pub aggregate : List MapDecl → ℕ → ℕ → ℕ → ℕ → Spaces → Interaction Answer
 aggregate maps actor m key number s =
-    in_range (table_map maps m) (λ decl. with_read (values_at s decl.key_shape key) (λ key. told s (Cpu actor) (ops.Add (map_id m) key (cast_signed w64 number))))
+    in_range (table_map maps m) (λ decl.
+    with_read (values_at s decl.key_shape key) (λ key.
+    frame_kept s (told (Cpu actor) (ops.Add (map_id m) key (cast_signed w64 number)))))
 
 -- the number of an aggregation under a key is written at an address
 abbrev pub read_agg : List MapDecl → ℕ → ℕ → ℕ → ℕ → Spaces → Interaction Answer
 read_agg maps actors m key to s =
-    in_range (summed_map maps m) (λ decl. with_read (values_at s decl.key_shape key) (λ key. with_room to 8 (summed s (map_id m) key to actors)))
+    in_range (summed_map maps m) (λ decl.
+    with_read (values_at s decl.key_shape key) (λ key.
+    with_room to 8 (summed_into s (map_id m) key to actors)))
 
 abbrev pub print : List MapDecl → ℕ → ℕ → ℕ → ℕ → Spaces → Interaction Answer
 print maps actors m top div s =
-    in_range (numbered maps m) (λ decl. if_range (are_shown top div) (printed s decl.kind (map_id m) top (cast_signed w64 div) actors))
+    in_range (numbered maps m) (λ decl.
+    if_range (are_shown top div) (frame_kept s (printed decl.kind (map_id m) top (cast_signed w64 div) actors)))
 
 -- every object that holds the map is cleared, or its values are made 0 or empty
 abbrev pub sweep_map : List MapDecl → ℕ → Sweep → ℕ → Spaces → Interaction Answer
-sweep_map maps actors sweep m s = in_range (numbered maps m) (λ decl. swept_all s sweep decl.kind (map_id m) actors)
+sweep_map maps actors sweep m s =
+    in_range (numbered maps m) (λ decl. frame_kept s (swept sweep decl.kind (map_id m) actors))
 
 abbrev pub printf : List (List Piece) → ℕ → ℕ → Spaces → Interaction Answer
 printf formats format address s =
-    in_range (numbered formats format) (λ pieces. with_read (values_at s (argument_shapes pieces) address) (λ values. told s Out (ops.Emit (items.Printf format values))))
+    in_range (numbered formats format) (λ pieces.
+    with_read (values_at s (argument_shapes pieces) address) (λ values.
+    frame_kept s (told Out (ops.Emit (items.Printf format values)))))
 
 abbrev pub exit : Spaces → Interaction Answer
-exit s = told s Clock ops.Stop
+exit s = frame_kept s (told Clock ops.Stop)
 
 abbrev pub cut : ℕ → Spaces → Interaction Answer
-cut line s = if_range (nat_lt line (2 ^ 32)) (told s Out (ops.Emit (items.Cut line)))
+cut line s = if_range (nat_lt line (2 ^ 32)) (frame_kept s (told Out (ops.Emit (items.Cut line))))
 
 -- a string of the payload is written at an address, with no step
 abbrev pub read_str : ℕ → ℕ → ℕ → Spaces → Interaction Answer
@@ -137,4 +151,6 @@ helper_steps d ReadAgg a b c s = read_agg d.maps d.actors a b c s
 
 -- the helper of a number; no other number is in range
 abbrev pub helpers : Desk → Helpers
-helpers d number args s = in_range (helper_at number) (λ helper. helper_steps d helper (slice_index args 0) (slice_index args 1) (slice_index args 2) s)
+helpers d number args s =
+    in_range (helper_at number) (λ helper.
+    helper_steps d helper (slice_index args 0) (slice_index args 1) (slice_index args 2) s)

@@ -42,10 +42,10 @@ abbrev pub value_at : Spaces → Shape → ℕ → Option Value
 value_at s h address = option_map (value_in h) (bytes_in s address (shape_bytes h))
 
 -- what a map holds under a key that is no aggregation
-abbrev pub shape_of : MapKind → Shape
-shape_of Strs = shapes.Str
-shape_of Ints = shapes.Int
-shape_of (Aggs kind) = shapes.Int
+abbrev pub shape_of_kind : MapKind → Shape
+shape_of_kind Strs = shapes.Str
+shape_of_kind Ints = shapes.Int
+shape_of_kind (Aggs kind) = shapes.Int
 
 -- the string in so many bytes of a payload; the empty one where they do not all lie in it
 abbrev pub payload_text : ℕ → ℕ → List ℕ → List ℕ

@@ -10,7 +10,7 @@ use Rattle.bpf_interp.specs.declared.ports.PortFault.TheVariants.{Address, Helpe
 use Rattle.typed_tree.specs.declared.script.Typed.{Typed}
 use Rattle.typed_tree.specs.Scope.{is_fine_decl}
 use Rattle.helper_abi.specs.Helpers.{Desk}
-use Rattle.helper_abi.specs.Reading.{shape_bytes, shape_of}
+use Rattle.helper_abi.specs.Reading.{shape_bytes, shape_of_kind}
 
 -- the port serves these maps under their numbers, for this actor and so many actors
 pub record IsFor (maps : List MapDecl) (actor actors : ℕ) (setting : Setting) : Type 0 where
@@ -30,7 +30,7 @@ pub record ServesMaps (maps : List MapDecl) (setting : Setting) : Type 0 where
 
 -- a served map holds what the frame has room for at an address
 abbrev pub HasRoom : Setting → MapId → ℕ → Type 0
-HasRoom setting m to = IsSomeAnd (slice_get setting.maps m.0) (λ decl. IsTrue (is_in_frame to (shape_bytes (shape_of decl.kind))))
+HasRoom setting m to = IsSomeAnd (slice_get setting.maps m.0) (λ decl. IsTrue (is_in_frame to (shape_bytes (shape_of_kind decl.kind))))
 
 -- a bad address comes exactly where there is nothing to read, and want of memory may come anywhere
 abbrev pub IsReadFault : {A : Type 0} → Option A → PortFault → Type 0

@@ -9,7 +9,7 @@ ghost use Rattle.helper_abi.specs.Served.{ServesMaps};
 
 use crate::printing::{print_map, sweep_all};
 use crate::reading::{
-    TEXT_BYTES, key_at, payload_text, put, shape_bytes, shape_of, value_at, values_at,
+    TEXT_BYTES, key_at, payload_text, put, shape_bytes, shape_of_kind, value_at, values_at,
 };
 use crate::steps::{get_into, sum_into, tell};
 use bpf_interp::ports::PortFault;
@@ -106,7 +106,7 @@ pub fn get<P: Port>(
         Ok(key) => key,
         Err(fault) => return Err(fault),
     };
-    if !memory.in_frame(to, shape_bytes(shape_of(decl.kind))) {
+    if !memory.in_frame(to, shape_bytes(shape_of_kind(decl.kind))) {
         return Err(PortFault::Address);
     }
     get_into(alloc, port, MapId(map as u32), key, to, memory)
@@ -133,7 +133,7 @@ pub fn set<P: Port>(
         Ok(key) => key,
         Err(fault) => return Err(fault),
     };
-    let Some(value) = value_at(memory, shape_of(decl.kind), value) else {
+    let Some(value) = value_at(memory, shape_of_kind(decl.kind), value) else {
         return Err(PortFault::Address);
     };
     let object = part(MapId(map as u32), &key);

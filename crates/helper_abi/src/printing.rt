@@ -2,7 +2,8 @@
 ghost use Rattle.std.specs.Prelude.{◌≡◌};
 ghost use Rattle.bpf_interp.specs.Running.{Called};
 ghost use Rattle.map_ops.specs.Holders.{CanSweep};
-ghost use Rattle.helper_abi.specs.Steps.{printed, swept_all};
+ghost use Rattle.helper_abi.specs.Steps.{frame_kept};
+ghost use Rattle.map_ops.specs.Asking.{printed, swept};
 
 use bpf_interp::ports::PortFault;
 use bpf_interp::regions::Regions;
@@ -24,7 +25,8 @@ pub fn print_map<P: Port>(
     memory: &Regions,
 ) -> Result<u64, PortFault>
     requires { CanSweep (P.fixed port.old).setting map kind actors }
-    ensures called { Called (printed memory.now kind map top div actors) (P.steps port.old) (P.steps port.new) result memory.now.frame }
+    ensures called { Called (frame_kept memory.now (printed kind map top div actors))
+        (P.steps port.old) (P.steps port.new) result memory.now.frame }
     ensures kept { P.fixed port.new ≡ P.fixed port.old }
 {
     match printing::print_map(alloc, kind, map, top, div, actors, port) {
@@ -44,7 +46,8 @@ pub fn sweep_all<P: Port>(
     memory: &Regions,
 ) -> Result<u64, PortFault>
     requires { CanSweep (P.fixed port.old).setting map kind actors }
-    ensures called { Called (swept_all memory.now sweep kind map actors) (P.steps port.old) (P.steps port.new) result memory.now.frame }
+    ensures called { Called (frame_kept memory.now (swept sweep kind map actors))
+        (P.steps port.old) (P.steps port.new) result memory.now.frame }
     ensures kept { P.fixed port.new ≡ P.fixed port.old }
 {
     match ask_each(alloc, sweep, kind, map, actors, port) {

@@ -5,7 +5,7 @@ ghost use Rattle.bt_core.specs.declared.value.Value.TheVariants as variants;
 ghost use Rattle.bt_core.specs.Kinds.{HasShape, IsOfShape};
 ghost use Rattle.bt_core.specs.KeyBytes.{value_bytes};
 ghost use Rattle.bpf_insn.specs.Regions.{bytes_in, is_in_frame, stored};
-ghost use Rattle.helper_abi.specs.Reading.{shape_bytes, bytes_of_shapes, value_in, values_in, bytes_at, values_at, value_at, shape_of, payload_text};
+ghost use Rattle.helper_abi.specs.Reading.{shape_bytes, bytes_of_shapes, value_in, values_in, bytes_at, values_at, value_at, shape_of_kind, payload_text};
 ghost use Rattle.helper_abi.specs.Served.{Reads};
 ghost use Rattle.helper_abi.specs.Writing.{room_of};
 
@@ -48,8 +48,8 @@ fn bytes_of_shapes(shapes: &[Shape]) -> u64
 }
 
 /// What a map holds under a key that is no aggregation.
-pub fn shape_of(kind: MapKind) -> Shape
-    ensures { result ≡ shape_of kind }
+pub fn shape_of_kind(kind: MapKind) -> Shape
+    ensures { result ≡ shape_of_kind kind }
 {
     match kind {
         MapKind::Strs => Shape::Str,

@@ -7,7 +7,8 @@ ghost use Rattle.bpf_insn.specs.Regions.{is_in_frame};
 ghost use Rattle.bpf_interp.specs.Running.{Called};
 ghost use Rattle.map_ops.specs.Holders.{part, CanSweep};
 ghost use Rattle.helper_abi.specs.Served.{HasRoom};
-ghost use Rattle.helper_abi.specs.Steps.{told, got, summed};
+ghost use Rattle.helper_abi.specs.Steps.{frame_kept, got_into, summed_into};
+ghost use Rattle.map_ops.specs.Asking.{told};
 
 use crate::reading::put;
 use bpf_interp::ports::PortFault;
@@ -30,7 +31,7 @@ pub fn tell<P: Port>(
     memory: &Regions,
 ) -> Result<u64, PortFault>
     requires { CanStep (P.fixed port.old).setting object op }
-    ensures called { Called (told memory.now object op) (P.steps port.old) (P.steps port.new) result memory.now.frame }
+    ensures called { Called (frame_kept memory.now (told object op)) (P.steps port.old) (P.steps port.new) result memory.now.frame }
     ensures kept { P.fixed port.new ≡ P.fixed port.old }
 {
     match access::tell(alloc, object, op, port) {
@@ -50,7 +51,7 @@ pub fn get_into<P: Port>(
 ) -> Result<u64, PortFault>
     requires can { CanStep (P.fixed port.old).setting (part map key) (ops.Get key) }
     requires room { HasRoom (P.fixed port.old).setting map to }
-    ensures called { Called (got memory.old map key to) (P.steps port.old) (P.steps port.new) result memory.new.frame }
+    ensures called { Called (got_into memory.old map key to) (P.steps port.old) (P.steps port.new) result memory.new.frame }
     ensures kept { P.fixed port.new ≡ P.fixed port.old }
     ensures context { memory.new.context ≡ memory.old.context }
     ensures payload { memory.new.payload ≡ memory.old.payload }
@@ -78,7 +79,7 @@ pub fn sum_into<P: Port>(
     requires can { CanSweep (P.fixed port.old).setting map kind actors }
     requires gathers { IsAggregation kind }
     requires room { IsTrue (is_in_frame to 8) }
-    ensures called { Called (summed memory.old map key.now to actors) (P.steps port.old) (P.steps port.new) result memory.new.frame }
+    ensures called { Called (summed_into memory.old map key.now to actors) (P.steps port.old) (P.steps port.new) result memory.new.frame }
     ensures kept { P.fixed port.new ≡ P.fixed port.old }
     ensures context { memory.new.context ≡ memory.old.context }
     ensures payload { memory.new.payload ≡ memory.old.payload }

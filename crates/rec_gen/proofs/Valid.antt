@@ -19,7 +19,7 @@ use Rattle.rec_format.specs.Events.{IsEvent, part_of_event}
 use Rattle.rec_format.specs.Parts.{IsEventPart}
 use Rattle.rec_format.specs.Recordings.{IsValidRecording, IsFormat, IsTrack}
 use Rattle.rec_gen.specs.declared.format.TheConstants.{TEXT}
-use Rattle.rec_gen.specs.Draws.{number_at}
+use Rattle.rec_gen.specs.Draws.{drawn_at}
 use Rattle.rec_gen.specs.Made.{name_of, made_event, events_on, made_track, made_tracks, IsMade}
 use Rattle.rec_gen.proofs.Formats.{size_is, id_is}
 
@@ -33,14 +33,14 @@ name_length (suc (suc (suc n))) = refl
 
 whole : (seed place : ℕ) → place < EVENTS → IsEventPart (part_of_event (made_event seed place))
 whole seed place low =
-    let small : number_at seed (3 * place + 1) % 8 < 8 = mod_below (number_at seed (3 * place + 1)) 8 (omega arith) in
+    let small : drawn_at seed (3 * place + 1) % 8 < 8 = mod_below (drawn_at seed (3 * place + 1)) 8 (omega arith) in
     record {
       time = omega (arith, low);
       pid = omega (arith, small);
       tid = omega (arith, small);
       uid = omega arith;
       gid = omega arith;
-      comm = name_length (number_at seed (3 * place) % 4);
+      comm = name_length (drawn_at seed (3 * place) % 4);
       payload = omega arith;
     }
 

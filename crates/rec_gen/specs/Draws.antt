@@ -11,5 +11,5 @@ state_after seed zero = seed
 state_after seed (suc n) = next_state (state_after seed n)
 
 -- the number that the draw at a place gives, the first one at 0
-abbrev pub number_at : ℕ → ℕ → ℕ
-number_at seed place = state_after seed (suc place) / 65536
+abbrev pub drawn_at : ℕ → ℕ → ℕ
+drawn_at seed place = state_after seed (suc place) / 65536

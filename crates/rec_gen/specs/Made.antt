@@ -8,7 +8,7 @@ use Rattle.rec_format.specs.declared.recording.CpuTrack.{CpuTrack}
 use Rattle.rec_format.specs.declared.recording.Entry.TheVariants as entry
 use Rattle.rec_format.specs.declared.recording.Event.{Event}
 use Rattle.rec_gen.specs.declared.format.TheConstants.{TEXT}
-use Rattle.rec_gen.specs.Draws.{number_at}
+use Rattle.rec_gen.specs.Draws.{drawn_at}
 
 -- the thread's name, of 16 bytes, for a number below 4
 abbrev pub name_of : ℕ → List ℕ
@@ -23,7 +23,7 @@ payload_of thread id = to_le_bytes w16 21 ++ (0 ∷ (0 ∷ (to_le_bytes w32 thre
 
 -- what is drawn for the event at a place: its name, its thread, and the number of its call
 abbrev pub thread_at : ℕ → ℕ → ℕ
-thread_at seed place = 1000 + number_at seed (3 * place + 1) % 8
+thread_at seed place = 1000 + drawn_at seed (3 * place + 1) % 8
 
 -- the event at a place, of one every microsecond
 abbrev pub made_event : ℕ → ℕ → Event
@@ -33,9 +33,9 @@ made_event seed place = record {
   tid = thread_at seed place;
   uid = 0;
   gid = 0;
-  comm = name_of (number_at seed (3 * place) % 4);
+  comm = name_of (drawn_at seed (3 * place) % 4);
   format = 0;
-  payload = payload_of (thread_at seed place) (number_at seed (3 * place + 2) % 400);
+  payload = payload_of (thread_at seed place) (drawn_at seed (3 * place + 2) % 400);
 }
 
 -- of the events below a count those on a CPU, where the four CPUs take them in turn

@@ -1,6 +1,6 @@
 // Numbers drawn from a seed.
 ghost use Rattle.std.specs.Prelude.{◌≡◌, ◌<◌, ◌^◌};
-ghost use Rattle.rec_gen.specs.Draws.{next_state, number_at, state_after};
+ghost use Rattle.rec_gen.specs.Draws.{next_state, drawn_at, state_after};
 
 /// A linear congruential generator, the one that the C standard shows for `rand`, with its whole upper part as the number.
 #[derive(Drop)]

@@ -17,7 +17,7 @@ use Rattle.agg_core.specs.Answers.{table_change, table_answer, back, agg_kind_in
 use Rattle.agg_core.specs.Changes.{Leaves, rows_of}
 use Rattle.bt_meaning.specs.Interleavings.{IsInterleaving}
 use Rattle.bt_meaning.specs.Replays.{Replay, answers_of}
-use Rattle.run_laws.specs.Reads.{is_add, is_read, adds_of, BeginsWith, SeesBeginning}
+use Rattle.run_laws.specs.Reads.{is_add, is_read, add_steps_of, BeginsWith, SeesBeginning}
 use Rattle.run_laws.proofs.Leaving.{counts, rows_are}
 
 -- ---- reads change no answer at tables
@@ -48,10 +48,10 @@ pass_over_reads maps ops op = refl
 -- ---- beginnings
 
 begins : (actor : ℕ) (before : List Step) (s : Step) (after : List Step) (steps : List Step) → steps ≡ before ++ s ∷ after
-    → BeginsWith (adds_of actor steps) (adds_of actor before)
+    → BeginsWith (add_steps_of actor steps) (add_steps_of actor before)
 begins actor before s after steps e = let test : Step → Bool = λ x. is_on (Cpu actor) x && is_add x.op in (
   filter test (of_actor actor (s ∷ after)),
-  ap (adds_of actor) e ∙ ap (filter test) (filter-append (is_of actor) before (s ∷ after)) ∙ filter-append test (of_actor actor before) (of_actor actor (s ∷ after)),
+  ap (add_steps_of actor) e ∙ ap (filter test) (filter-append (is_of actor) before (s ∷ after)) ∙ filter-append test (of_actor actor before) (of_actor actor (s ∷ after)),
 )
 
 pub sees_beginning : (p : Replay) (actor : ℕ) (steps : List Step) → IsInterleaving p steps

@@ -17,8 +17,8 @@ is_read (Read map) = true
 is_read op = false
 
 -- the steps by which an actor adds at its own tables
-abbrev pub adds_of : ℕ → List Step → List Step
-adds_of actor steps = filter (λ s. is_on (Cpu actor) s && is_add s.op) (of_actor actor steps)
+abbrev pub add_steps_of : ℕ → List Step → List Step
+add_steps_of actor steps = filter (λ s. is_on (Cpu actor) s && is_add s.op) (of_actor actor steps)
 
 -- the list begins with the other
 abbrev pub BeginsWith : List Step → List Step → Type 0
@@ -31,8 +31,8 @@ changes_at actor steps = filter (λ op. not (is_read op)) (operations (on_object
 -- A step reads at an actor's tables: of what the actor adds there in all, a beginning stands before it; a beginning of that stands before
 -- each earlier step; and the reply is the answer after what changed the tables before it.
 pub record SeesBeginning (p : Replay) (actor : ℕ) (steps before : List Step) (s : Step) : Type 0 where
-  pub sees : BeginsWith (adds_of actor steps) (adds_of actor before)
-  pub grows : AtEach (λ earlier r. BeginsWith (adds_of actor before) (adds_of actor earlier)) before
+  pub sees : BeginsWith (add_steps_of actor steps) (add_steps_of actor before)
+  pub grows : AtEach (λ earlier r. BeginsWith (add_steps_of actor before) (add_steps_of actor earlier)) before
   pub reply : s.reply ≡ answers_of p (Cpu actor) (changes_at actor before) s.op
 
 -- so it is of each read at an actor's tables

@@ -34,7 +34,8 @@ use Rattle.ir_code.specs.declared.probe.IrProbe.{IrProbe}
 use Rattle.bt_lower.specs.Bodies.{IsLowered, LowersScript}
 use Rattle.body_code.specs.Bodies.{IsDeskFor, IsEventFor, KeepsBody}
 use Rattle.body_code.specs.Holding.{SameEnd}
-use Rattle.body_code.specs.Replies.{AnswersAt, AnswersOp, AnswersTable, GivesValue, IsOwnReply, shape_held, shape_of_kind}
+use Rattle.body_code.specs.Replies.{AnswersAt, AnswersOp, AnswersTable, GivesValue, IsOwnReply, shape_held}
+use Rattle.helper_abi.specs.Reading.{shape_of_kind}
 use Rattle.body_code.specs.Words.{HasShape}
 use Rattle.replay_laws.specs.Agree.{Comes}
 use Rattle.replay_laws.specs.HeldReplies.{IsHeldReply, IsHeldValue}

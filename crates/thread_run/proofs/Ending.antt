@@ -17,7 +17,7 @@ use Rattle.run_ends.proofs.Ending.{each_both}
 use Rattle.cpu_worker.specs.declared.world.World.{World}
 use Rattle.cpu_worker.specs.declared.world.WorkerTurns.{WorkerTurns}
 use Rattle.cpu_worker.specs.Chains.{IsBy}
-use Rattle.cpu_worker.specs.Worlds.{cpus_in, sets_in, setting_in, AreTurnsOf, AreOwnIn, IsPlanIn}
+use Rattle.cpu_worker.specs.Worlds.{world_cpus, sets_in, setting_in, AreTurnsOf, AreOwnIn, IsPlanIn}
 use Rattle.thread_run.specs.declared.main_actor.MainActor.{MainActor}
 use Rattle.thread_run.specs.declared.tasks.Gathered.{Gathered}
 use Rattle.run_base.specs.Jobs.{HavePlans}
@@ -31,11 +31,11 @@ same_made xs ys zs e = sym (drop_at xs ys (length xs) refl) ∙ ap (drop (length
 
 -- the main actor's turns and its trace at four moments: empty, after BEGIN, raised, and after END
 pub record Moments {B : Type 0} (plan : B → Plan) (world : World) (plans : ℕ → Plan) (empty begun raised finished : MainActor B) (all : Gathered) (begin_count end_count : ℕ) : Type 0 where
-  pub actor : actor_of empty.trace ≡ cpus_in world
+  pub actor : actor_of empty.trace ≡ world_cpus world
   pub none : (steps_of empty.trace ≡ []) × (floors_of empty.trace ≡ [])
   pub clock : clock_of empty.trace ≡ 0
   pub unused : AreUnused empty.turns
-  pub begin_plan : plan empty.bodies ≡ plans (cpus_in world)
+  pub begin_plan : plan empty.bodies ≡ plans (world_cpus world)
   pub began : HasDone plan world (begin_program (plan empty.bodies) world.recording.now world.attached.now) empty begun begin_count
   pub gone : HaveGone (replay_in world plans) world (clock_of begun.trace) all
   pub raised_actor : actor_of raised.trace ≡ actor_of begun.trace
@@ -48,7 +48,7 @@ pub record Moments {B : Type 0} (plan : B → Plan) (world : World) (plans : ℕ
 module _ {B : Type 0} (plan : B → Plan) (world : World) (plans : ℕ → Plan) (empty begun raised finished : MainActor B) (all : Gathered) (begin_count end_count : ℕ)
     (h : Moments plan world plans empty begun raised finished all begin_count end_count) where
   abbrev n : ℕ
-  n = cpus_in world
+  n = world_cpus world
 
   abbrev first : List Step
   first = h.began.whole.made
@@ -150,19 +150,19 @@ module _ {B : Type 0} (plan : B → Plan) (world : World) (plans : ℕ → Plan)
 
 -- ---- the last bodies are the main actor's
 
-module _ {B : Type 0} (plan : B → Plan) (world : World) (bodies : List B) (b : B) (long : length bodies ≡ cpus_in world + 1) (at : b ≡ get_or bodies (cpus_in world) b) where
-  pub main_plan : ArePlansIn plan world bodies → IsPlanIn world (cpus_in world) (plan b)
-  main_plan h = subst (λ z. IsPlanIn world (cpus_in world) (plan z)) (sym at) (h (cpus_in world) b (omega (arith, long)))
+module _ {B : Type 0} (plan : B → Plan) (world : World) (bodies : List B) (b : B) (long : length bodies ≡ world_cpus world + 1) (at : b ≡ get_or bodies (world_cpus world) b) where
+  pub main_plan : ArePlansIn plan world bodies → IsPlanIn world (world_cpus world) (plan b)
+  main_plan h = subst (λ z. IsPlanIn world (world_cpus world) (plan z)) (sym at) (h (world_cpus world) b (omega (arith, long)))
 
-  pub main_told : (plans : ℕ → Plan) → HavePlans plan (cpus_in world + 1) plans bodies → plan b ≡ plans (cpus_in world)
-  main_told plans h = ap plan at ∙ h.each (cpus_in world) b (omega (arith, long))
+  pub main_told : (plans : ℕ → Plan) → HavePlans plan (world_cpus world + 1) plans bodies → plan b ≡ plans (world_cpus world)
+  main_told plans h = ap plan at ∙ h.each (world_cpus world) b (omega (arith, long))
 
-  pub cpu_plans : ArePlansIn plan world bodies → ArePlansIn plan world (remove bodies (cpus_in world))
-  cpu_plans h i d lt = let e = less_long (cpus_in world) bodies long in
-      subst (λ z. IsPlanIn world i (plan z)) (sym (get_front (cpus_in world) bodies i d long (omega (arith, e, lt)))) (h i d (omega (arith, e, lt, long)))
+  pub cpu_plans : ArePlansIn plan world bodies → ArePlansIn plan world (remove bodies (world_cpus world))
+  cpu_plans h i d lt = let e = less_long (world_cpus world) bodies long in
+      subst (λ z. IsPlanIn world i (plan z)) (sym (get_front (world_cpus world) bodies i d long (omega (arith, e, lt)))) (h i d (omega (arith, e, lt, long)))
 
-  pub cpu_told : (plans : ℕ → Plan) → HavePlans plan (cpus_in world + 1) plans bodies → HavePlans plan (cpus_in world) plans (remove bodies (cpus_in world))
-  cpu_told plans h = let e = less_long (cpus_in world) bodies long in record {
+  pub cpu_told : (plans : ℕ → Plan) → HavePlans plan (world_cpus world + 1) plans bodies → HavePlans plan (world_cpus world) plans (remove bodies (world_cpus world))
+  cpu_told plans h = let e = less_long (world_cpus world) bodies long in record {
     count = e;
-    each = λ i d lt. ap plan (get_front (cpus_in world) bodies i d long (omega (arith, e, lt))) ∙ h.each i d (omega (arith, e, lt, long));
+    each = λ i d lt. ap plan (get_front (world_cpus world) bodies i d long (omega (arith, e, lt))) ∙ h.each i d (omega (arith, e, lt, long));
   }

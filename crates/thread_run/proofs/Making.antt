@@ -45,7 +45,7 @@ use Rattle.run_ends.proofs.Closing.{full_rows}
 use Rattle.run_ends.proofs.Ending.{each_both, are_traces, parts, cpu_traces}
 use Rattle.cpu_worker.specs.declared.world.World.{World}
 use Rattle.cpu_worker.specs.declared.world.WorkerTurns.{WorkerTurns}
-use Rattle.cpu_worker.specs.Worlds.{cpus_in, maps_in, sets_in, setting_in}
+use Rattle.cpu_worker.specs.Worlds.{world_cpus, maps_in, sets_in, setting_in}
 use Rattle.thread_run.specs.declared.tasks.Gathered.{Gathered}
 use Rattle.thread_run.specs.Acts.{replay_in, CanMake, AreDone}
 use Rattle.thread_run.specs.Closed.{part_id, part_kind, PartsStand, TablesStand}
@@ -61,7 +61,7 @@ all_can world (t ∷ ts) h = each_both (λ (s : Step). CanStep (setting_in world
 -- ---- all turns are given back
 
 module _ (world : World) (plans : ℕ → Plan) (all : Gathered) (done : AreDone (replay_in world plans) world all) where
-  all_long : length all.turns.items ≡ cpus_in world + 1
+  all_long : length all.turns.items ≡ world_cpus world + 1
   all_long = own_long (sets_in world) all.turns.items all.traces.items done.own
       ∙ ap length done.traces ∙ length-append done.cpus (done.main ∷ []) ∙ ap (λ n. n + 1) done.many
 
@@ -71,7 +71,7 @@ module _ (world : World) (plans : ℕ → Plan) (all : Gathered) (done : AreDone
   pub all_tables : tables_in.AreAll world.tables.now (map at_tables all.turns.items)
   all_tables = (length-map all.turns.items at_tables ∙ all_long ∙ sym world.tables_actors, tables_rows (sets_in world) 0 all.turns.items done.turns)
 
-  sides_actors : cpus_in world + 1 ≡ sides_in.actors_of world.sides.now
+  sides_actors : world_cpus world + 1 ≡ sides_in.actors_of world.sides.now
   sides_actors = ap (λ (k : ClockKind). k.cpus + 1) (sym world.sides_are)
 
   long_clocks : length (clocks (map at_sides all.turns.items)) ≡ length all.turns.items
@@ -107,7 +107,7 @@ module _ (world : World) (plans : ℕ → Plan) (own : (actor : ℕ) → (plans 
   traces_are : AreTraces 0 ts
   traces_are = subst (AreTraces 0) (sym done.traces) (are_traces done.begun done.finished done.cpus done.main done.ended)
 
-  long : cpus_in world + 1 ≡ length ts
+  long : world_cpus world + 1 ≡ length ts
   long = sym (ap length done.traces ∙ length-append done.cpus (done.main ∷ []) ∙ ap (λ n. n + 1) done.many)
 
   ids_long : map part_id (parts_from 0 (maps_in world)) ≡ map id_of (locks_of world.maps.now.set)
@@ -120,7 +120,7 @@ module _ (world : World) (plans : ℕ → Plan) (own : (actor : ℕ) → (plans 
           (ap length ids_long ∙ length-map (locks_of world.maps.now.set) id_of) (maps_rows (sets_in world) 0 ws done.turns);
       maps_own = subst (λ ms. OwnRows (map part_id (parts_from 0 ms)) (map at_maps ws) ts) world.maps_are (maps_own (sets_in world) ws ts done.own);
       maps_shut = subst (λ (z : ℕ × List MapDecl). AreClosed shared_kind own_of_part reply_of_part SharedStands z.0 (map part_kind (parts_from 0 z.1)) (map at_maps ws) maps) (λ i. (world.maps_actors i, world.maps_are i)) shut.maps_shut;
-      tables_full = full_rows (locks_of world.tables.now.set) (numbered Cpu 0 (cpus_in world + 1)) 0 (map at_tables ws)
+      tables_full = full_rows (locks_of world.tables.now.set) (numbered Cpu 0 (world_cpus world + 1)) 0 (map at_tables ws)
           (ap length (sym (world.tables.now.ids ∙ ap (numbered Cpu 0) world.tables_actors)) ∙ length-map (locks_of world.tables.now.set) id_of) (tables_rows (sets_in world) 0 ws done.turns);
       tables_own = subst (λ n. OwnRows (numbered Cpu 0 n) (map at_tables ws) ts) world.tables_actors (tables_own (sets_in world) ws ts done.own);
       tables_shut = subst (λ (z : ℕ × List MapDecl). AreClosed cpu_kind IsTableOp table_answer CpuStands z.0 (numbered (λ _. z.1) 0 z.0) (map at_tables ws) tables) (λ i. (world.tables_actors i, world.tables_are i)) shut.tables_shut;
@@ -160,5 +160,5 @@ module _ (world : World) (plans : ℕ → Plan) (own : (actor : ℕ) → (plans 
       pub maps_are_stood : PartsStand steps (parts_from 0 (maps_in world)) maps
       maps_are_stood = maps_stand world ts traces_are long done.can (map at_maps ws) (map at_tables ws) (clocks (map at_sides ws)) (outs (map at_sides ws)) maps tables clock out is_shut steps moved order
 
-      pub tables_are_stood : TablesStand (maps_in world) steps (cpus_in world + 1) tables
+      pub tables_are_stood : TablesStand (maps_in world) steps (world_cpus world + 1) tables
       tables_are_stood = tables_stand world ts traces_are long done.can (map at_maps ws) (map at_tables ws) (clocks (map at_sides ws)) (outs (map at_sides ws)) maps tables clock out is_shut steps moved order

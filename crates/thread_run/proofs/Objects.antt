@@ -42,7 +42,7 @@ use Rattle.run_ends.specs.Closed.{OwnRows, AreFull, Answer, paired, id_in, histo
 use Rattle.run_ends.proofs.Closing.{one_history, histories, have_histories, all_stand}
 use Rattle.run_ends.proofs.Ending.{each_both}
 use Rattle.cpu_worker.specs.declared.world.World.{World}
-use Rattle.cpu_worker.specs.Worlds.{cpus_in, maps_in, setting_in}
+use Rattle.cpu_worker.specs.Worlds.{world_cpus, maps_in, setting_in}
 use Rattle.thread_run.specs.Acts.{CanMake}
 use Rattle.thread_run.specs.Closed.{part_id, part_kind, PartsStand, TablesStand}
 
@@ -108,26 +108,26 @@ among_parts m (c ∷ ds) (suc j) p d e lt =
 abbrev pub all_ids : List MapDecl → ℕ → List ObjectId
 all_ids maps actors = map part_id (parts_from 0 maps) ++ (numbered Cpu 0 actors ++ Clock ∷ Out ∷ [])
 
-known : (world : World) (o : ObjectId) (op : Op) → CanStep (setting_in world 0) o op → is_among (all_ids (maps_in world) (cpus_in world + 1)) o ≡ true
+known : (world : World) (o : ObjectId) (op : Op) → CanStep (setting_in world 0) o op → is_among (all_ids (maps_in world) (world_cpus world + 1)) o ≡ true
 known world (Shared m p) op h =
     let d = some_is _ (slice_get (maps_in world) m.0) h.1 in
-    among_left (map part_id (parts_from 0 (maps_in world))) (numbered Cpu 0 (cpus_in world + 1) ++ Clock ∷ Out ∷ []) (Shared m p)
+    among_left (map part_id (parts_from 0 (maps_in world))) (numbered Cpu 0 (world_cpus world + 1) ++ Clock ∷ Out ∷ []) (Shared m p)
     (ap (λ k. is_among (map part_id (parts_from 0 (maps_in world))) (Shared (map_at k) p)) (let q : m.0 ≡ 0 + m.0 = omega arith in q)
     ∙ among_parts 0 (maps_in world) m.0 p d.0 d.1 (let e = all_parts d.0.kind d.2.0 in let lt = h.0 in omega (arith, e, lt)))
 known world (Cpu a) op h =
-    among_right (map part_id (parts_from 0 (maps_in world))) (numbered Cpu 0 (cpus_in world + 1) ++ Clock ∷ Out ∷ []) (Cpu a)
-    (among_left (numbered Cpu 0 (cpus_in world + 1)) (Clock ∷ Out ∷ []) (Cpu a)
-    (among_get (numbered Cpu 0 (cpus_in world + 1)) a (Cpu a) (numbered_get Cpu 0 (cpus_in world + 1) a h.0 ∙ ap (λ k. Some (Cpu k)) (let q : 0 + a ≡ a = omega arith in q))))
-known world Clock op h = among_right (map part_id (parts_from 0 (maps_in world))) (numbered Cpu 0 (cpus_in world + 1) ++ Clock ∷ Out ∷ []) Clock
-    (among_right (numbered Cpu 0 (cpus_in world + 1)) (Clock ∷ Out ∷ []) Clock refl)
-known world Out op h = among_right (map part_id (parts_from 0 (maps_in world))) (numbered Cpu 0 (cpus_in world + 1) ++ Clock ∷ Out ∷ []) Out
-    (among_right (numbered Cpu 0 (cpus_in world + 1)) (Clock ∷ Out ∷ []) Out refl)
+    among_right (map part_id (parts_from 0 (maps_in world))) (numbered Cpu 0 (world_cpus world + 1) ++ Clock ∷ Out ∷ []) (Cpu a)
+    (among_left (numbered Cpu 0 (world_cpus world + 1)) (Clock ∷ Out ∷ []) (Cpu a)
+    (among_get (numbered Cpu 0 (world_cpus world + 1)) a (Cpu a) (numbered_get Cpu 0 (world_cpus world + 1) a h.0 ∙ ap (λ k. Some (Cpu k)) (let q : 0 + a ≡ a = omega arith in q))))
+known world Clock op h = among_right (map part_id (parts_from 0 (maps_in world))) (numbered Cpu 0 (world_cpus world + 1) ++ Clock ∷ Out ∷ []) Clock
+    (among_right (numbered Cpu 0 (world_cpus world + 1)) (Clock ∷ Out ∷ []) Clock refl)
+known world Out op h = among_right (map part_id (parts_from 0 (maps_in world))) (numbered Cpu 0 (world_cpus world + 1) ++ Clock ∷ Out ∷ []) Out
+    (among_right (numbered Cpu 0 (world_cpus world + 1)) (Clock ∷ Out ∷ []) Out refl)
 
-known_steps : (world : World) (ss : List Step) → Each (λ (s : Step). CanStep (setting_in world 0) s.object s.op) ss → Each (λ (s : Step). is_among (all_ids (maps_in world) (cpus_in world + 1)) s.object ≡ true) ss
+known_steps : (world : World) (ss : List Step) → Each (λ (s : Step). CanStep (setting_in world 0) s.object s.op) ss → Each (λ (s : Step). is_among (all_ids (maps_in world) (world_cpus world + 1)) s.object ≡ true) ss
 known_steps world [] h = tt
 known_steps world (s ∷ ss) h = (known world s.object s.op h.0, known_steps world ss h.1)
 
-all_known : (world : World) (ts : List Trace) → Each (CanMake world) ts → AreAmong (all_ids (maps_in world) (cpus_in world + 1)) ts
+all_known : (world : World) (ts : List Trace) → Each (CanMake world) ts → AreAmong (all_ids (maps_in world) (world_cpus world + 1)) ts
 all_known world [] h = tt
 all_known world (t ∷ ts) h = (known_steps world (steps_of t) h.0, all_known world ts h.1)
 
@@ -184,13 +184,13 @@ out_stands out ops = Unit {0}
 abbrev pub own_of_part : PartKind → Op → Type 0
 own_of_part of = IsSharedOp of.decl
 
-module _ (world : World) (ts : List Trace) (actors : AreTraces 0 ts) (many : cpus_in world + 1 ≡ length ts) (can : Each (CanMake world) ts)
+module _ (world : World) (ts : List Trace) (actors : AreTraces 0 ts) (many : world_cpus world + 1 ≡ length ts) (can : Each (CanMake world) ts)
     (map_rows table_rows clock_rows out_rows : List Row) (maps : List (SharedPart × List Entry)) (tables : List (CpuTable × List Entry)) (clock : TickClock × List Entry) (out : OutLog × List Entry) where
   abbrev ms : List MapDecl
   ms = maps_in world
 
   abbrev n : ℕ
-  n = cpus_in world + 1
+  n = world_cpus world + 1
 
   abbrev part_ids : List ObjectId
   part_ids = map part_id (parts_from 0 ms)
@@ -199,7 +199,7 @@ module _ (world : World) (ts : List Trace) (actors : AreTraces 0 ts) (many : cpu
   part_kinds = map part_kind (parts_from 0 ms)
 
   abbrev clock_of_world : ClockKind
-  clock_of_world = record { cpus = cpus_in world; ticks = length world.attached.now.ticks }
+  clock_of_world = record { cpus = world_cpus world; ticks = length world.attached.now.ticks }
 
   -- what the rows, the traces and the closed objects of the sets are
   pub record AreShut : Type 0 where
@@ -218,17 +218,17 @@ module _ (world : World) (ts : List Trace) (actors : AreTraces 0 ts) (many : cpu
 
   module _ (shut : AreShut) where
     abbrev ans : ObjectId → List Op → Op → Reply
-    ans = answer ms (cpus_in world)
+    ans = answer ms (world_cpus world)
 
     abbrev same_parts : Answer reply_of_part ans part_ids part_kinds
-    same_parts = part_answers ms (cpus_in world) 0 ms (λ k d e. ap (slice_get ms) (let q : 0 + k ≡ k = omega arith in q) ∙ e)
+    same_parts = part_answers ms (world_cpus world) 0 ms (λ k d e. ap (slice_get ms) (let q : 0 + k ≡ k = omega arith in q) ∙ e)
 
     map_histories : Each (λ p. IsHistory ans ts p.0 p.1) (paired part_ids maps)
     map_histories = histories shared_kind own_of_part reply_of_part SharedStands ans ts actors part_ids part_kinds map_rows maps n many shut.maps_full shut.maps_own same_parts shut.maps_shut
 
     table_histories : Each (λ p. IsHistory ans ts p.0 p.1) (paired (numbered Cpu 0 n) tables)
     table_histories = histories cpu_kind IsTableOp table_answer CpuStands ans ts actors (numbered Cpu 0 n) (numbered (λ _. ms) 0 n) table_rows tables n many shut.tables_full shut.tables_own
-        (table_answers ms (cpus_in world) 0 n) shut.tables_shut
+        (table_answers ms (world_cpus world) 0 n) shut.tables_shut
 
     clock_history : IsHistory ans ts Clock clock.1
     clock_history = one_history clock_kind own_of_clock reply_of_clock ClockStands ans ts actors Clock [] clock_of_world clock_rows clock.0 clock.1 n many shut.clock_full shut.clock_own (λ before op. refl) shut.clock_shut
@@ -263,4 +263,4 @@ module _ (world : World) (ts : List Trace) (actors : AreTraces 0 ts) (many : cpu
 
       pub tables_stand : TablesStand ms steps n tables
       tables_stand = all_stand ans ts (history_in pairs) given steps moved order cpu_kind IsTableOp table_answer CpuStands (numbered Cpu 0 n) (numbered (λ _. ms) 0 n) table_rows tables n
-          (table_answers ms (cpus_in world) 0 n) shut.tables_shut table_histories
+          (table_answers ms (world_cpus world) 0 n) shut.tables_shut table_histories

@@ -24,7 +24,7 @@ use Rattle.cpu_worker.specs.declared.world.WorkerTurns.{WorkerTurns}
 use Rattle.cpu_worker.specs.Chains.{clock_after, Climbs, IsBy, HasWalked}
 use Rattle.thread_run.specs.Ran.{HasRun}
 use Rattle.cpu_worker.specs.Workers.{program_in, IsReady}
-use Rattle.cpu_worker.specs.Worlds.{cpus_in, sets_in, setting_in, AreTurnsOf, CanReplay, IsPlanIn}
+use Rattle.cpu_worker.specs.Worlds.{world_cpus, sets_in, setting_in, AreTurnsOf, CanReplay, IsPlanIn}
 use Rattle.run_base.specs.Jobs.{HavePlans}
 use Rattle.thread_run.specs.declared.tasks.Gathered.{Gathered}
 use Rattle.thread_run.specs.Acts.{replay_in, ArePlansIn, CanMake, HaveRun, HaveGone}
@@ -71,7 +71,7 @@ module _ (world : World) (clock : ℕ) (plans : ℕ → Plan) where
 
 module _ {B G : Type 0} (plan : B → Plan) (world : World) (clock : ℕ) where
   -- each worker can run
-  pub all_ready : (k : ℕ) (tasks : List (Task B G)) → CanReplay world → Each (IsFresh clock) tasks → AreTurnsFrom (sets_in world) k (map turns_in tasks) → k + length tasks ≡ cpus_in world
+  pub all_ready : (k : ℕ) (tasks : List (Task B G)) → CanReplay world → Each (IsFresh clock) tasks → AreTurnsFrom (sets_in world) k (map turns_in tasks) → k + length tasks ≡ world_cpus world
       → ((i : ℕ) (d : Task B G) → i < length tasks → IsPlanIn world (k + i) (plan (get_or tasks i d).worker.bodies))
       → (i : ℕ) (d : Task B G) → i < length tasks → IsReady plan world (get_or tasks i d).worker
   all_ready k [] replay fresh turns many plans i d lt = absurd (omega (arith, lt))
@@ -137,14 +137,14 @@ module _ {B G : Type 0} (plan : B → Plan) (world : World) (clock : ℕ) (bodie
   body_at : (i : ℕ) (d : Task B G) → i < length olds → get_or bodies i d.worker.bodies ≡ (get_or olds i d).worker.bodies
   body_at i d lt = ap (λ l. get_or l i d.worker.bodies) (sym bodies_are) ∙ get_mapped bodies_in olds i d d.worker.bodies lt
 
-  pub tasks_ready : CanReplay world → ArePlansIn plan world bodies → length bodies ≡ cpus_in world → (i : ℕ) (d : Task B G) → i < length olds → IsReady plan world (get_or olds i d).worker
+  pub tasks_ready : CanReplay world → ArePlansIn plan world bodies → length bodies ≡ world_cpus world → (i : ℕ) (d : Task B G) → i < length olds → IsReady plan world (get_or olds i d).worker
   tasks_ready replay plans many i d lt = all_ready plan world clock 0 olds replay fresh turns_from (let e = tasks_long in omega (arith, e, many))
       (λ j e q. subst (λ a. IsPlanIn world a (plan (get_or olds j e).worker.bodies)) (let z : j ≡ 0 + j = omega arith in z)
       (subst (λ b. IsPlanIn world j (plan b)) (body_at j e q) (plans j e.worker.bodies (let l = tasks_long in omega (arith, l, q))))) i d lt
 
-  pub tasks_gone : Each AreUnused turns → length bodies ≡ cpus_in world → (news : List (Task B G)) → length news ≡ length olds
+  pub tasks_gone : Each AreUnused turns → length bodies ≡ world_cpus world → (news : List (Task B G)) → length news ≡ length olds
       → ((i : ℕ) (d : Task B G) → i < length olds → HasRun plan world (get_or olds i d) (get_or news i d)) → (all : Gathered) → all.turns.items ≡ map turns_in news → all.traces.items ≡ map trace_in news
-      → all.instructions ≡ sum (map count_in news) → Each HasEndedWell news → (plans : ℕ → Plan) → HavePlans plan (cpus_in world) plans bodies → HaveGone (replay_in world plans) world clock all
+      → all.instructions ≡ sum (map count_in news) → Each HasEndedWell news → (plans : ℕ → Plan) → HavePlans plan (world_cpus world) plans bodies → HaveGone (replay_in world plans) world clock all
   tasks_gone unused many news long ran all ts trs is well plans have =
       let g = all_gone plan world clock plans 0 olds news long fresh turns_from (subst (Each AreUnused) (sym turns_are) unused) ran
       (λ i d lt. ap plan (sym (body_at i d lt)) ∙ have.each i d.worker.bodies (let l = tasks_long in omega (arith, l, lt)) ∙ ap plans (let z : i ≡ 0 + i = omega arith in z)) well in record {

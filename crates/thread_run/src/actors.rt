@@ -3,7 +3,7 @@ ghost use Rattle.std.specs.Prelude.{◌≡◌, ℕ, ◌+◌, ◌<◌, length, If
 ghost use Rattle.turn_lock.specs.History.{Each};
 ghost use Rattle.actor_plan.specs.Plans.{Plan};
 ghost use Rattle.run_base.specs.Jobs.{HavePlans};
-ghost use Rattle.cpu_worker.specs.Worlds.{cpus_in, sets_in, CanReplay};
+ghost use Rattle.cpu_worker.specs.Worlds.{world_cpus, sets_in, CanReplay};
 ghost use Rattle.thread_run.specs.Acts.{ArePlansIn, replay_in, HaveGone, AreDone};
 ghost use Rattle.thread_run.specs.Turns.{AreTurnsFrom, AreUnused};
 
@@ -31,13 +31,13 @@ fn run_cpus<B: Bodies + Drop + Send, G: Gate + Sync, R: Threads + Wait + Sync>(
     clock: u64,
 ) -> Result<Gathered, Memory>
     requires replay { CanReplay world.now }
-    requires some { 0 < cpus_in world.now }
-    requires cpus { length bodies.items ≡ cpus_in world.now }
+    requires some { 0 < world_cpus world.now }
+    requires cpus { length bodies.items ≡ world_cpus world.now }
     requires plans { ArePlansIn B.plan world.now bodies.items }
-    requires many { length turns.items ≡ cpus_in world.now }
+    requires many { length turns.items ≡ world_cpus world.now }
     requires turns { AreTurnsFrom (sets_in world.now) 0 turns.items }
     requires unused { Each AreUnused turns.items }
-    ensures { IfOk result (λ all. (plans : ℕ → Plan) → HavePlans B.plan (cpus_in world.now) plans bodies.items →
+    ensures { IfOk result (λ all. (plans : ℕ → Plan) → HavePlans B.plan (world_cpus world.now) plans bodies.items →
         HaveGone (replay_in world.now plans) world.now clock all) }
 {
     let mut tasks = new_tasks(alloc, bodies, turns, clock, gate)?;
@@ -55,13 +55,13 @@ pub(crate) fn run_actors<B: Bodies + Drop + Send, G: Gate + Sync, R: Threads + W
     mut turns: Vec<WorkerTurns>,
 ) -> Result<Gathered, Memory>
     requires replay { CanReplay world.now }
-    requires some { 0 < cpus_in world.now }
-    requires actors { length bodies.items ≡ cpus_in world.now + 1 }
+    requires some { 0 < world_cpus world.now }
+    requires actors { length bodies.items ≡ world_cpus world.now + 1 }
     requires plans { ArePlansIn B.plan world.now bodies.items }
-    requires many { length turns.items ≡ cpus_in world.now + 1 }
+    requires many { length turns.items ≡ world_cpus world.now + 1 }
     requires turns { AreTurnsFrom (sets_in world.now) 0 turns.items }
     requires unused { Each AreUnused turns.items }
-    ensures { IfOk result (λ all. (plans : ℕ → Plan) → HavePlans B.plan (cpus_in world.now + 1) plans bodies.items →
+    ensures { IfOk result (λ all. (plans : ℕ → Plan) → HavePlans B.plan (world_cpus world.now + 1) plans bodies.items →
         AreDone (replay_in world.now plans) world.now all) }
 {
     let cpus = world.recording.cpus.len();

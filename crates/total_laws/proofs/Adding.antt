@@ -13,7 +13,7 @@ use Rattle.bt_core.specs.Interaction.{Call, call_of, Interaction, Ended, Asks, R
 use Rattle.bt_core.specs.Steps.{is_same_object}
 use Rattle.agg_core.specs.Answers.{is_cross}
 use Rattle.bt_meaning.specs.Ticks.{is_crossing}
-use Rattle.bt_meaning.specs.Totals.{Entry, added, adds_of}
+use Rattle.bt_meaning.specs.Totals.{Addition, added, adds_of}
 use Rattle.total_laws.specs.Ends.{entries_in}
 
 -- the actor adds at its own tables, reads maps and emits, and does nothing else
@@ -41,32 +41,32 @@ plain_quiet a s p k = ap (λ (b : Bool). is_same_object s.object Clock && b) (no
 
 module _ (m : MapId) (actor : ℕ) where
   -- whatever is replied, these entries are added to the map in all, each call is plain, and this holds of the value
-  abbrev pub Gives : {A : Type 0} → List Entry → (A → Type 0) → Interaction A → Type 0
+  abbrev pub Gives : {A : Type 0} → List Addition → (A → Type 0) → Interaction A → Type 0
   Gives es holds (Ended a) = (es ≡ []) × holds a
   Gives es holds (Asks c f) =
-      IsPlain actor c × (rest : List Entry) × (es ≡ added m c.op ++ rest) × ((r : Reply) → Gives rest holds (f r))
+      IsPlain actor c × (rest : List Addition) × (es ≡ added m c.op ++ rest) × ((r : Reply) → Gives rest holds (f r))
 
-  pub gives-then : {A B : Type 0} (es fs : List Entry) (holds : A → Type 0) (after : B → Type 0) (t : Interaction A) (k : A → Interaction B)
+  pub gives-then : {A B : Type 0} (es fs : List Addition) (holds : A → Type 0) (after : B → Type 0) (t : Interaction A) (k : A → Interaction B)
       → Gives es holds t → ((a : A) → holds a → Gives fs after (k a)) → Gives (es ++ fs) after (and_then t k)
-  gives-then es fs holds after (Ended a) k g next = subst (λ (l : List Entry). Gives (l ++ fs) after (k a)) (sym g.0) (next a g.1)
+  gives-then es fs holds after (Ended a) k g next = subst (λ (l : List Addition). Gives (l ++ fs) after (k a)) (sym g.0) (next a g.1)
   gives-then es fs holds after (Asks c f) k g next = (
     g.0,
     g.1 ++ fs,
-    ap (λ (l : List Entry). l ++ fs) g.2 ∙ append_assoc (added m c.op) g.1 fs,
+    ap (λ (l : List Addition). l ++ fs) g.2 ∙ append_assoc (added m c.op) g.1 fs,
     λ r. gives-then g.1 fs holds after (f r) k (g.3 r) next,
   )
 
-  pub gives-so : {A : Type 0} (es : List Entry) (holds after : A → Type 0) (t : Interaction A) → ((a : A) → holds a → after a) → Gives es holds t → Gives es after t
+  pub gives-so : {A : Type 0} (es : List Addition) (holds after : A → Type 0) (t : Interaction A) → ((a : A) → holds a → after a) → Gives es holds t → Gives es after t
   gives-so es holds after (Ended a) so g = (g.0, so a g.1)
   gives-so es holds after (Asks c f) so g = (g.0, g.1, g.2, λ r. gives-so g.1 holds after (f r) so (g.3 r))
 
   -- these are what it adds where every answer is that it is done
-  pub gives_adds : {A : Type 0} (es : List Entry) (holds : A → Type 0) (t : Interaction A) → Gives es holds t → adds_of m t ≡ es
+  pub gives_adds : {A : Type 0} (es : List Addition) (holds : A → Type 0) (t : Interaction A) → Gives es holds t → adds_of m t ≡ es
   gives_adds es holds (Ended a) g = sym g.0
-  gives_adds es holds (Asks c f) g = ap (λ (l : List Entry). added m c.op ++ l) (gives_adds g.1 holds (f Done) (g.3 Done)) ∙ sym g.2
+  gives_adds es holds (Asks c f) g = ap (λ (l : List Addition). added m c.op ++ l) (gives_adds g.1 holds (f Done) (g.3 Done)) ∙ sym g.2
 
   -- so it is of its steps, each of which is plain
-  pub gives_runs : {A : Type 0} (es : List Entry) (holds : A → Type 0) (t : Interaction A) (steps : List Step) (v : A) → Gives es holds t → Runs t steps v
+  pub gives_runs : {A : Type 0} (es : List Addition) (holds : A → Type 0) (t : Interaction A) (steps : List Step) (v : A) → Gives es holds t → Runs t steps v
       → (entries_in m steps ≡ es) × AllByRecursion (λ s. IsPlain actor (call_of s)) steps
   gives_runs es holds (Ended a) [] v g r = (sym g.0, tt)
   gives_runs es holds (Ended a) (s ∷ ss) v g r = absurd r
@@ -80,4 +80,4 @@ module _ (m : MapId) (actor : ℕ) where
 -- entries of lists
 pub entries_append : (m : MapId) (xs ys : List Step) → entries_in m (xs ++ ys) ≡ entries_in m xs ++ entries_in m ys
 entries_append m [] ys = refl
-entries_append m (s ∷ ss) ys = ap (λ (l : List Entry). added m s.op ++ l) (entries_append m ss ys) ∙ sym (append_assoc (added m s.op) (entries_in m ss) (entries_in m ys))
+entries_append m (s ∷ ss) ys = ap (λ (l : List Addition). added m s.op ++ l) (entries_append m ss ys) ∙ sym (append_assoc (added m s.op) (entries_in m ss) (entries_in m ys))

@@ -15,7 +15,7 @@ use Rattle.agg_core.specs.Aggregates.{aggregate, merged, signed, either, bucket,
 use Rattle.agg_core.proofs.MergeLaws.{merged-both}
 use Rattle.agg_core.proofs.SortedRows.{row_at}
 use Rattle.map_rows.proofs.KeySets.{same_keys}
-use Rattle.bt_meaning.specs.Totals.{Entry, entry_keys, numbers_at, total_rows}
+use Rattle.bt_meaning.specs.Totals.{Addition, addition_keys, numbers_at, total_rows}
 use Rattle.total_laws.proofs.Given.{named, ascends-entry_keys, has-entry_keys, named-append, numbers_at-append, map_same}
 
 or_flip : (a b : Bool) → (a || b) ≡ (b || a)
@@ -74,20 +74,20 @@ aggregate_flip kind ms ns =
     }
 
 -- the same keys, and at each key the same aggregate
-pub record Alike (xs ys : List Entry) : Type 0 where
+pub record Alike (xs ys : List Addition) : Type 0 where
   pub keys : (k : List Value) → named k xs ≡ named k ys
   pub cells : (kind : AggKind) (k : List Value) → aggregate kind (numbers_at k xs) ≡ aggregate kind (numbers_at k ys)
 
-pub alike_same : (xs ys : List Entry) → xs ≡ ys → Alike xs ys
-alike_same xs ys e = record { keys = λ k. ap (named k) e; cells = λ kind k. ap (λ (l : List Entry). aggregate kind (numbers_at k l)) e }
+pub alike_same : (xs ys : List Addition) → xs ≡ ys → Alike xs ys
+alike_same xs ys e = record { keys = λ k. ap (named k) e; cells = λ kind k. ap (λ (l : List Addition). aggregate kind (numbers_at k l)) e }
 
-pub alike_trans : (xs ys zs : List Entry) → Alike xs ys → Alike ys zs → Alike xs zs
+pub alike_trans : (xs ys zs : List Addition) → Alike xs ys → Alike ys zs → Alike xs zs
 alike_trans xs ys zs p q = record { keys = λ k. p.keys k ∙ q.keys k; cells = λ kind k. p.cells kind k ∙ q.cells kind k }
 
-pub alike_sym : (xs ys : List Entry) → Alike xs ys → Alike ys xs
+pub alike_sym : (xs ys : List Addition) → Alike xs ys → Alike ys xs
 alike_sym xs ys p = record { keys = λ k. sym (p.keys k); cells = λ kind k. sym (p.cells kind k) }
 
-pub alike_append : (xs ys us vs : List Entry) → Alike xs us → Alike ys vs → Alike (xs ++ ys) (us ++ vs)
+pub alike_append : (xs ys us vs : List Addition) → Alike xs us → Alike ys vs → Alike (xs ++ ys) (us ++ vs)
 alike_append xs ys us vs p q = record {
   keys = λ k. named-append k xs ys ∙ (λ i. p.keys k i || q.keys k i) ∙ sym (named-append k us vs);
   cells = λ kind k. ap (aggregate kind) (numbers_at-append k xs ys) ∙ sym (merged-both kind (numbers_at k xs) (numbers_at k ys))
@@ -95,26 +95,26 @@ alike_append xs ys us vs p q = record {
       ∙ merged-both kind (numbers_at k us) (numbers_at k vs) ∙ ap (aggregate kind) (sym (numbers_at-append k us vs));
 }
 
-pub alike_flip : (xs ys : List Entry) → Alike (xs ++ ys) (ys ++ xs)
+pub alike_flip : (xs ys : List Addition) → Alike (xs ++ ys) (ys ++ xs)
 alike_flip xs ys = record {
   keys = λ k. named-append k xs ys ∙ or_flip (named k xs) (named k ys) ∙ sym (named-append k ys xs);
   cells = λ kind k. ap (aggregate kind) (numbers_at-append k xs ys) ∙ aggregate_flip kind (numbers_at k xs) (numbers_at k ys) ∙ ap (aggregate kind) (sym (numbers_at-append k ys xs));
 }
 
-pub alike_keys : (xs ys : List Entry) → Alike xs ys → entry_keys xs ≡ entry_keys ys
-alike_keys xs ys p = same_keys (entry_keys xs) (entry_keys ys) (ascends-entry_keys xs) (ascends-entry_keys ys) (λ k. has-entry_keys k xs ∙ p.keys k ∙ sym (has-entry_keys k ys))
+pub alike_keys : (xs ys : List Addition) → Alike xs ys → addition_keys xs ≡ addition_keys ys
+alike_keys xs ys p = same_keys (addition_keys xs) (addition_keys ys) (ascends-entry_keys xs) (ascends-entry_keys ys) (λ k. has-entry_keys k xs ∙ p.keys k ∙ sym (has-entry_keys k ys))
 
-pub alike_rows : (kind : AggKind) (xs ys : List Entry) → Alike xs ys → total_rows kind xs ≡ total_rows kind ys
+pub alike_rows : (kind : AggKind) (xs ys : List Addition) → Alike xs ys → total_rows kind xs ≡ total_rows kind ys
 alike_rows kind xs ys p =
-    map_same (row_at (λ k. cells.Agg (aggregate kind (numbers_at k xs)))) (row_at (λ k. cells.Agg (aggregate kind (numbers_at k ys)))) (entry_keys xs)
+    map_same (row_at (λ k. cells.Agg (aggregate kind (numbers_at k xs)))) (row_at (λ k. cells.Agg (aggregate kind (numbers_at k ys)))) (addition_keys xs)
     (λ k i. (k, cells.Agg (p.cells kind k i)))
     ∙ ap (map (row_at (λ k. cells.Agg (aggregate kind (numbers_at k ys))))) (alike_keys xs ys p)
 
 -- the middle two of four change places
-pub alike_middle : (xs ys us vs : List Entry) → Alike ((xs ++ ys) ++ (us ++ vs)) ((xs ++ us) ++ (ys ++ vs))
+pub alike_middle : (xs ys us vs : List Addition) → Alike ((xs ++ ys) ++ (us ++ vs)) ((xs ++ us) ++ (ys ++ vs))
 alike_middle xs ys us vs =
     alike_trans ((xs ++ ys) ++ (us ++ vs)) (xs ++ ((ys ++ us) ++ vs)) ((xs ++ us) ++ (ys ++ vs))
-    (alike_same ((xs ++ ys) ++ (us ++ vs)) (xs ++ ((ys ++ us) ++ vs)) (append_assoc xs ys (us ++ vs) ∙ ap (λ (l : List Entry). xs ++ l) (sym (append_assoc ys us vs))))
+    (alike_same ((xs ++ ys) ++ (us ++ vs)) (xs ++ ((ys ++ us) ++ vs)) (append_assoc xs ys (us ++ vs) ∙ ap (λ (l : List Addition). xs ++ l) (sym (append_assoc ys us vs))))
     (alike_trans (xs ++ ((ys ++ us) ++ vs)) (xs ++ ((us ++ ys) ++ vs)) ((xs ++ us) ++ (ys ++ vs))
     (alike_append xs ((ys ++ us) ++ vs) xs ((us ++ ys) ++ vs) (alike_same xs xs refl) (alike_append (ys ++ us) vs (us ++ ys) vs (alike_flip ys us) (alike_same vs vs refl)))
-    (alike_same (xs ++ ((us ++ ys) ++ vs)) ((xs ++ us) ++ (ys ++ vs)) (ap (λ (l : List Entry). xs ++ l) (append_assoc us ys vs) ∙ sym (append_assoc xs us (ys ++ vs)))))
+    (alike_same (xs ++ ((us ++ ys) ++ vs)) ((xs ++ us) ++ (ys ++ vs)) (ap (λ (l : List Addition). xs ++ l) (append_assoc us ys vs) ∙ sym (append_assoc xs us (ys ++ vs)))))

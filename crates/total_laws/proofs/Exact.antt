@@ -30,7 +30,7 @@ use Rattle.bt_meaning.specs.Interleavings.{IsInterleaving}
 use Rattle.bt_meaning.specs.Jobs.{IsJob}
 use Rattle.bt_meaning.specs.Replays.{Replay, answers_of, begin_of, end_of}
 use Rattle.bt_meaning.specs.Ticks.{is_crossing}
-use Rattle.bt_meaning.specs.Totals.{Entry, IsAggregationOnly, entry_keys, adds_of, tick_adds, events_add, ticks_add, all_adds, who}
+use Rattle.bt_meaning.specs.Totals.{Addition, IsAggregationOnly, addition_keys, adds_of, tick_adds, events_add, ticks_add, all_adds, who}
 use Rattle.bt_meaning.specs.Walks.{replay_of}
 use Rattle.bt_meaning.proofs.Crossings.{mark, marks, marks_append, marks_at, total, total_all}
 use Rattle.bt_meaning.proofs.Eachs.{each_so, each_both, filter_none}
@@ -191,16 +191,16 @@ module _ (script : Typed) (attached : Attached) (r : Recording) (job : IsJob scr
 
   -- ---- all that is added
 
-  abbrev pub given : ℕ → List Entry
+  abbrev pub given : ℕ → List Addition
   given a = entries_in m (of_actor a steps)
 
-  abbrev event_part : ℕ → List Entry
+  abbrev event_part : ℕ → List Addition
   event_part a = events_at script attached r job only m a (slice_get r.cpus a)
 
-  abbrev tick_of : ℕ → ℕ → List Entry
+  abbrev tick_of : ℕ → ℕ → List Addition
   tick_of k a = tick_at script attached r job only m (slice_get attached.ticks k) a
 
-  abbrev tick_part : ℕ → List Entry
+  abbrev tick_part : ℕ → List Addition
   tick_part a = flat_map (λ k. cond (who steps k == a) (tick_of k a) []) (range_with_len 0 ticks)
 
   cpu_given : (a : ℕ) → a < n → Alike (given a) (event_part a ++ tick_part a)
@@ -237,7 +237,7 @@ module _ (script : Typed) (attached : Attached) (r : Recording) (job : IsJob scr
   abbrev actors : List ℕ
   actors = range_with_len 0 (n + 1)
 
-  abbrev all : List Entry
+  abbrev all : List Addition
   all = all_adds p m (who steps)
 
   actors_are : actors ≡ range_with_len 0 n ++ n ∷ []
@@ -253,7 +253,7 @@ module _ (script : Typed) (attached : Attached) (r : Recording) (job : IsJob scr
       let parts = flat_map (λ a. event_part a ++ tick_part a) (range_with_len 0 n) in
       let es = flat_map event_part (range_with_len 0 n) in let ts = flat_map tick_part (range_with_len 0 n) in
       let split : flat_map given actors ≡ cpus ++ (b ++ f) =
-      ap (flat_map given) actors_are ∙ flat_map_both given (range_with_len 0 n) (n ∷ []) ∙ ap (λ (l : List Entry). cpus ++ l) (append-nil (given n) ∙ main_adds) in
+      ap (flat_map given) actors_are ∙ flat_map_both given (range_with_len 0 n) (n ∷ []) ∙ ap (λ (l : List Addition). cpus ++ l) (append-nil (given n) ∙ main_adds) in
       let by_cpus : Alike cpus (e ++ t) =
       alike_trans cpus parts (e ++ t) (alike_range given (λ a. event_part a ++ tick_part a) 0 n (λ a le lt. cpu_given a (omega (arith, lt))))
       (alike_trans parts (es ++ ts) (e ++ t) (alike_both event_part tick_part (range_with_len 0 n))
@@ -265,20 +265,20 @@ module _ (script : Typed) (attached : Attached) (r : Recording) (job : IsJob scr
       (alike_same ((e ++ t) ++ (b ++ f)) (((e ++ t) ++ b) ++ f) (sym (append_assoc (e ++ t) b f)))
       (alike_trans (((e ++ t) ++ b) ++ f) ((b ++ (e ++ t)) ++ f) (b ++ (e ++ (t ++ f)))
       (alike_append ((e ++ t) ++ b) f (b ++ (e ++ t)) f (alike_flip (e ++ t) b) (alike_same f f refl))
-      (alike_same ((b ++ (e ++ t)) ++ f) (b ++ (e ++ (t ++ f))) (append_assoc b (e ++ t) f ∙ ap (λ (l : List Entry). b ++ l) (append_assoc e t f))))))
+      (alike_same ((b ++ (e ++ t)) ++ f) (b ++ (e ++ (t ++ f))) (append_assoc b (e ++ t) f ∙ ap (λ (l : List Addition). b ++ l) (append_assoc e t f))))))
 
   -- ---- the tables
 
   abbrev pub changes : ℕ → List (Change ℤ)
   changes a = back (table_change m) (operations (on_object (Cpu a) steps))
 
-  module _ (kind : AggKind) (few : length (entry_keys all) ≤ KEYS) where
-    pub given_few : (a : ℕ) → a < n + 1 → length (entry_keys (given a)) ≤ KEYS
+  module _ (kind : AggKind) (few : length (addition_keys all) ≤ KEYS) where
+    pub given_few : (a : ℕ) → a < n + 1 → length (addition_keys (given a)) ≤ KEYS
     given_few a lt =
         let l = few_in given (n + 1) a lt in let k = ap (λ (ks : List (List Value)). length ks) (alike_keys (flat_map given actors) all all_given) in omega arith
 
     pub table : (a : ℕ) → a < n + 1 → (rows_of (aggregate kind) (changes a) ≡ aggregate_rows kind (given a)) × (lost_updates (changes a) ≡ 0)
     table a lt =
         let puts = table_puts m a steps fits in
-        let t = few_keys kind (changes a) puts.0 (subst (λ (g : List Entry). length (entry_keys g) ≤ KEYS) (sym puts.1) (given_few a lt)) in
+        let t = few_keys kind (changes a) puts.0 (subst (λ (g : List Addition). length (addition_keys g) ≤ KEYS) (sym puts.1) (given_few a lt)) in
         (t.0 ∙ ap (aggregate_rows kind) puts.1, t.1)

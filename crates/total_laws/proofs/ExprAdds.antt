@@ -15,7 +15,7 @@ use Rattle.typed_tree.specs.declared.expr.NumExpr.{NumExpr, roll-NumExpr, map-Nu
 use Rattle.typed_tree.specs.declared.expr.StrExpr.{StrExpr, roll-StrExpr, map-StrExpr, fold-roll-StrExpr}
 use Rattle.typed_tree.specs.Parts as tree
 use Rattle.typed_tree.specs.Parts.{Part, Made, made_of, num_parts, str_parts, parts_in}
-use Rattle.bt_meaning.specs.Totals.{Entry, added}
+use Rattle.bt_meaning.specs.Totals.{Addition, added}
 use Rattle.bt_meaning.proofs.Eachs.{each_front, each_back}
 use Rattle.walk_meaning.specs.declared.flow.Frame.{Frame}
 use Rattle.walk_meaning.specs.Does.{BodyScene, Does, given, looked_at, changed, lifted, bind, choose, gathered, if_holds}
@@ -29,7 +29,7 @@ use Rattle.total_laws.proofs.Quiet.{AreLike, IsQuietBuiltin, IsQuiet, AreQuiet}
 module _ (m : MapId) (one two : BodyScene) (like : AreLike one two) where
   -- from any frame: what is added, the value and the frame after it, which are the same in both scenes and whatever is replied
   abbrev pub Sure : {A : Type 0} → Does A → Type 0
-  Sure {A} d = (frame : Frame) → (es : List Entry) × (w : A × Frame) × Gives m one.actor es (λ p. p ≡ w) (d one frame) × Gives m two.actor es (λ p. p ≡ w) (d two frame)
+  Sure {A} d = (frame : Frame) → (es : List Addition) × (w : A × Frame) × Gives m one.actor es (λ p. p ≡ w) (d one frame) × Gives m two.actor es (λ p. p ≡ w) (d two frame)
 
   pub given-sure : {A : Type 0} (a : A) → Sure (given a)
   unfolding given

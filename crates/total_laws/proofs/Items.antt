@@ -14,7 +14,7 @@ use Rattle.actor_plan.specs.declared.outcome.Outcome.{Outcome}
 use Rattle.actor_plan.specs.Agendas.{tick_place, entry_place}
 use Rattle.actor_plan.specs.Programs.{after_count, items_program, tells_last}
 use Rattle.bt_meaning.specs.Ticks.{is_crossing}
-use Rattle.bt_meaning.specs.Totals.{Entry, added}
+use Rattle.bt_meaning.specs.Totals.{Addition, added}
 use Rattle.bt_meaning.proofs.CrossingRuns.{runs_split, times}
 use Rattle.bt_meaning.proofs.Crossings.{marks, marks_append}
 use Rattle.bt_meaning.proofs.Eachs.{each_back, each_both, each_so}
@@ -52,7 +52,7 @@ IsTickBelow n (item.Event place) = Unit {0}
 IsTickBelow n (item.Lost place) = Unit {0}
 
 -- What a CPU does for its items: for a tick it crosses, and where it is told that it is the last it does more.
-module _ (m : MapId) (a ticks : ℕ) (work : AgendaItem → Interaction ℕ) (body : ℕ → Interaction ℕ) (by_entry by_tick : ℕ → List Entry)
+module _ (m : MapId) (a ticks : ℕ) (work : AgendaItem → Interaction ℕ) (body : ℕ → Interaction ℕ) (by_entry by_tick : ℕ → List Addition)
     (crosses : (place : ℕ) → place < ticks
     → work (item.Tick place) ≡ Asks (record { object = Clock; op = Cross place }) (λ reply. if tells_last reply then body place else Ended 0))
     (event : (place : ℕ) → Gives m a (by_entry place) (λ count. Unit {0}) (work (item.Event place)))
@@ -107,7 +107,7 @@ module _ (m : MapId) (a ticks : ℕ) (work : AgendaItem → Interaction ℕ) (bo
     pub crossed : (k : ℕ) → marks k steps ≡ times k items
 
   -- an item that crosses nothing, before others
-  entry_own : (i : AgendaItem) (is : List AgendaItem) (es : List Entry) → Gives m a es (λ count. Unit {0}) (work i) → ((k : ℕ) → times k (i ∷ is) ≡ times k is)
+  entry_own : (i : AgendaItem) (is : List AgendaItem) (es : List Addition) → Gives m a es (λ count. Unit {0}) (work i) → ((k : ℕ) → times k (i ∷ is) ≡ times k is)
       → ((others : List Step) (v : Outcome) → Runs (program is) others v → AreOwn is others) → (steps : List Step) (v : Outcome) → Runs (program (i ∷ is)) steps v → AreOwn (i ∷ is) steps
   entry_own i is es gives none later steps v r =
       let c = cut i is steps v r in
@@ -138,7 +138,7 @@ module _ (m : MapId) (a ticks : ℕ) (work : AgendaItem → Interaction ℕ) (bo
       }
 
   -- what a CPU adds: by its entries, and by the ticks that it is named for
-  abbrev pub share : (ℕ → ℕ) → List AgendaItem → List Entry
+  abbrev pub share : (ℕ → ℕ) → List AgendaItem → List Addition
   share named [] = []
   share named (item.Event place ∷ is) = by_entry place ++ share named is
   share named (item.Lost place ∷ is) = by_entry place ++ share named is
@@ -149,7 +149,7 @@ module _ (m : MapId) (a ticks : ℕ) (work : AgendaItem → Interaction ℕ) (bo
   IsTold named s = (k : ℕ) → is_crossing k s ≡ true → tells_last s.reply ≡ (named k == a)
 
   -- an item that adds these, before others
-  entry_adds : (named : ℕ → ℕ) (i : AgendaItem) (is : List AgendaItem) (es : List Entry) → Gives m a es (λ count. Unit {0}) (work i)
+  entry_adds : (named : ℕ → ℕ) (i : AgendaItem) (is : List AgendaItem) (es : List Addition) → Gives m a es (λ count. Unit {0}) (work i)
       → ((others : List Step) (v : Outcome) → Runs (program is) others v → AllByRecursion (IsTold named) others → entries_in m others ≡ share named is)
       → (steps : List Step) (v : Outcome) → Runs (program (i ∷ is)) steps v → AllByRecursion (IsTold named) steps → entries_in m steps ≡ es ++ share named is
   entry_adds named i is es gives later steps v r told =
@@ -173,11 +173,11 @@ module _ (m : MapId) (a ticks : ℕ) (work : AgendaItem → Interaction ℕ) (bo
       let here : tells_last t.cross.reply ≡ (named place == a) = all.0 place (crossing place t.cross t.call place ∙ eq-eqb place place refl) in
       let nothing : added m t.cross.op ≡ [] = ap (λ (d : Call). added m d.op) t.call in
       let first : entries_in m (t.cross ∷ t.made) ≡ cond (named place == a) (by_tick place) [] =
-      ap (λ (l : List Entry). l ++ entries_in m t.made) nothing ∙ t.adds ∙ ap (λ (b : Bool). cond b (by_tick place) []) here in
+      ap (λ (l : List Addition). l ++ entries_in m t.made) nothing ∙ t.adds ∙ ap (λ (b : Bool). cond b (by_tick place) []) here in
       ap (entries_in m) whole ∙ entries_append m (t.cross ∷ t.made) c.others ∙ (λ i. first i ++ rest i)
 
   -- more before the first of two
-  before_both : (x s e t : List Entry) → Alike s (e ++ t) → Alike (x ++ s) ((x ++ e) ++ t)
+  before_both : (x s e t : List Addition) → Alike s (e ++ t) → Alike (x ++ s) ((x ++ e) ++ t)
   before_both x s e t h = alike_trans (x ++ s) (x ++ (e ++ t)) ((x ++ e) ++ t)
       (alike_append x s x (e ++ t) (alike_same x x refl) h)
       (alike_same (x ++ (e ++ t)) ((x ++ e) ++ t) (sym (append_assoc x e t)))
@@ -191,7 +191,7 @@ module _ (m : MapId) (a ticks : ℕ) (work : AgendaItem → Interaction ℕ) (bo
   share_alike named (item.Lost place ∷ is) = before_both (by_entry place) (share named is) (flat_map by_entry (filter_map entry_place is))
       (flat_map (λ k. cond (named k == a) (by_tick k) []) (filter_map tick_place is)) (share_alike named is)
   share_alike named (item.Tick place ∷ is) =
-      let x : List Entry = cond (named place == a) (by_tick place) [] in let s = share named is in let e = flat_map by_entry (filter_map entry_place is) in
+      let x : List Addition = cond (named place == a) (by_tick place) [] in let s = share named is in let e = flat_map by_entry (filter_map entry_place is) in
       let t = flat_map (λ k. cond (named k == a) (by_tick k) []) (filter_map tick_place is) in
       alike_trans (x ++ s) (x ++ (e ++ t)) (e ++ (x ++ t))
       (alike_append x s x (e ++ t) (alike_same x x refl) (share_alike named is))

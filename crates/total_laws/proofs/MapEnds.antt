@@ -32,7 +32,7 @@ use Rattle.map_printer.specs.ItemTexts.{item_text}
 use Rattle.map_rows.specs.Merged.{agg_row, merged, merged_rows, rows_in}
 use Rattle.bt_meaning.specs.Prints.{emitted, of_maps, operations_at, lost_by, holders_of, read_of, rows_after, lost_after, printed_text}
 use Rattle.bt_meaning.specs.Replays.{Replay}
-use Rattle.bt_meaning.specs.Totals.{Entry, entry_keys, numbers_at, total_rows, all_adds, totals, who}
+use Rattle.bt_meaning.specs.Totals.{Addition, addition_keys, numbers_at, total_rows, all_adds, totals, who}
 use Rattle.bt_meaning.specs.Walks.{replay_of}
 use Rattle.total_laws.specs.Ends.{aggregate_rows, all_totals, all_rows, EndsWithTotals, IsAddingRun}
 use Rattle.total_laws.proofs.Alike.{alike_rows}
@@ -61,7 +61,7 @@ no_warnings number (decl ∷ decls) = no_warnings (number + 1) decls
 
 -- ---- lists of rows and of lost updates
 
-agg_rows_are : (kind : AggKind) (entries : List Entry) (keys : List (List Value))
+agg_rows_are : (kind : AggKind) (entries : List Addition) (keys : List (List Value))
     → map agg_row (map (λ key. (key, aggregate kind (numbers_at key entries))) keys) ≡ map (λ key. (key, cells.Agg (aggregate kind (numbers_at key entries)))) keys
 agg_rows_are kind entries [] = refl
 agg_rows_are kind entries (k ∷ ks) = ap (λ (l : List (List Value × Cell)). (k, cells.Agg (aggregate kind (numbers_at k entries))) ∷ l) (agg_rows_are kind entries ks)
@@ -87,12 +87,12 @@ module _ (script : Typed) (attached : Attached) (r : Recording) (steps : List St
     abbrev kind : AggKind
     kind = agg_kind_in script.maps m
 
-    abbrev adds : ℕ → List Entry
+    abbrev adds : ℕ → List Addition
     adds a = given script attached r run.job run.only_adds m steps run.interleaving a
 
-    pub few : length (entry_keys (all_adds p m (who steps))) ≤ KEYS
+    pub few : length (addition_keys (all_adds p m (who steps))) ≤ KEYS
     unfolding totals
-    few = subst (λ (k : ℕ). k ≤ KEYS) (length-map (entry_keys (all_adds p m (who steps))) _) (run.few_keys m low)
+    few = subst (λ (k : ℕ). k ≤ KEYS) (length-map (addition_keys (all_adds p m (who steps))) _) (run.few_keys m low)
 
     table_at : (a : ℕ) → a < n + 1
         → (rows_of (aggregate kind) (changes script attached r run.job run.only_adds m steps run.interleaving a) ≡ aggregate_rows kind (adds a))
@@ -111,7 +111,7 @@ module _ (script : Typed) (attached : Attached) (r : Recording) (steps : List St
         flat_map-map (rows_in (Aggs a)) reads (map (holder (Aggs a) m) actors) ∙ flat_map-map (λ object. rows_in (Aggs a) (reads object)) (holder (Aggs a) m) actors in
         let same : flat_map (λ i. rows_in (Aggs a) (reads (Cpu i))) actors ≡ flat_map (λ i. total_rows kind (adds i)) actors =
         range_same (λ i. rows_in (Aggs a) (reads (Cpu i))) (λ i. total_rows kind (adds i)) 0 (n + 1)
-        (λ i le lt. ap (map agg_row) (table_at i (omega (arith, lt))).0 ∙ agg_rows_are kind (adds i) (entry_keys (adds i))) in
+        (λ i le lt. ap (map agg_row) (table_at i (omega (arith, lt))).0 ∙ agg_rows_are kind (adds i) (addition_keys (adds i))) in
         ap merged_rows (each ∙ same) ∙ merged_each kind adds actors
         ∙ alike_rows kind (flat_map adds actors) (all_adds p m (who steps)) (all_given script attached r run.job run.only_adds m steps run.interleaving)
 

@@ -15,7 +15,7 @@ use Rattle.agg_core.proofs.SortedRows.{Ascends, row_at}
 use Rattle.map_rows.specs.Merged.{ordered_keys, cells_at, joined, both_cells, merged_rows}
 use Rattle.map_rows.proofs.Entries.{names, ascends-ordered_keys, has-ordered_keys, names-append, cells_at-append, cells_at-cons, cells_at-none, holds}
 use Rattle.map_rows.proofs.KeySets.{has, same_keys, has_first, below_none}
-use Rattle.bt_meaning.specs.Totals.{Entry, entry_keys, numbers_at, total_rows}
+use Rattle.bt_meaning.specs.Totals.{Addition, addition_keys, numbers_at, total_rows}
 use Rattle.total_laws.proofs.Given.{named, ascends-entry_keys, has-entry_keys, named-append, numbers_at-append, numbers_at-none}
 
 -- ---- rows of keys in order
@@ -72,25 +72,25 @@ module _ (kind : AggKind) where
 
   module _ (k : List Value) where
     -- the numbers of the key, where it is named
-    abbrev part : List Entry → List (List ℤ)
+    abbrev part : List Addition → List (List ℤ)
     part given = cond (named k given) (numbers_at k given ∷ []) []
 
     part_cells : (t : Bool) (ns : List ℤ) → cond t (agg_cell ns ∷ []) [] ≡ map agg_cell (cond t (ns ∷ []) [])
     part_cells true ns = refl
     part_cells false ns = refl
 
-    one : (given : List Entry) → cells_at k (total_rows kind given) ≡ map agg_cell (part given)
-    one given = at_rows k (λ j. agg_cell (numbers_at j given)) (entry_keys given) (ascends-entry_keys given)
+    one : (given : List Addition) → cells_at k (total_rows kind given) ≡ map agg_cell (part given)
+    one given = at_rows k (λ j. agg_cell (numbers_at j given)) (addition_keys given) (ascends-entry_keys given)
         ∙ (λ i. cond (has-entry_keys k given i) (agg_cell (numbers_at k given) ∷ []) []) ∙ part_cells (named k given) (numbers_at k given)
 
-    all_part : (given : List Entry) → all_of (part given) ≡ numbers_at k given
+    all_part : (given : List Addition) → all_of (part given) ≡ numbers_at k given
     all_part given = by_test (named k given) refl
       where
         by_test : (t : Bool) → named k given ≡ t → all_of (cond t (numbers_at k given ∷ []) []) ≡ numbers_at k given
         by_test true e = append-nil (numbers_at k given)
         by_test false e = sym (numbers_at-none k given e)
 
-    module _ (given : ℕ → List Entry) where
+    module _ (given : ℕ → List Addition) where
       abbrev rows : List ℕ → List (List Value × Cell)
       rows actors = flat_map (λ a. total_rows kind (given a)) actors
 
@@ -110,7 +110,7 @@ module _ (kind : AggKind) where
       names_each : (actors : List ℕ) → names k (rows actors) ≡ named k (flat_map given actors)
       names_each [] = refl
       names_each (a ∷ more) = names-append k (total_rows kind (given a)) (rows more)
-          ∙ (λ i. (names_rows k (λ j. agg_cell (numbers_at j (given a))) (entry_keys (given a)) ∙ has-entry_keys k (given a)) i || names_each more i)
+          ∙ (λ i. (names_rows k (λ j. agg_cell (numbers_at j (given a))) (addition_keys (given a)) ∙ has-entry_keys k (given a)) i || names_each more i)
           ∙ sym (named-append k (given a) (flat_map given more))
 
       cell_each : (actors : List ℕ) → names k (rows actors) ≡ true → joined (cells_at k (rows actors)) ≡ agg_cell (numbers_at k (flat_map given actors))
@@ -118,12 +118,12 @@ module _ (kind : AggKind) where
           let h = holds k (rows actors) named_there in
           ap joined (at_each actors) ∙ joined_lists (parts actors) h.first h.later (sym (at_each actors) ∙ h.is) ∙ ap agg_cell (all_each actors)
 
-pub merged_each : (kind : AggKind) (given : ℕ → List Entry) (actors : List ℕ)
+pub merged_each : (kind : AggKind) (given : ℕ → List Addition) (actors : List ℕ)
     → merged_rows (flat_map (λ a. total_rows kind (given a)) actors) ≡ total_rows kind (flat_map given actors)
 merged_each kind given actors =
     let rows = flat_map (λ a. total_rows kind (given a)) actors in let all = flat_map given actors in
-    let keys : ordered_keys rows ≡ entry_keys all =
-    same_keys (ordered_keys rows) (entry_keys all) (ascends-ordered_keys rows) (ascends-entry_keys all)
+    let keys : ordered_keys rows ≡ addition_keys all =
+    same_keys (ordered_keys rows) (addition_keys all) (ascends-ordered_keys rows) (ascends-entry_keys all)
     (λ k. has-ordered_keys k rows ∙ names_each kind k given actors ∙ sym (has-entry_keys k all)) in
     map_members (row_at (λ k. joined (cells_at k rows))) (row_at (λ k. cells.Agg (aggregate kind (numbers_at k all)))) (ordered_keys rows)
     (λ k h i. (k, cell_each kind k given actors (sym (has-ordered_keys k rows) ∙ h) i))

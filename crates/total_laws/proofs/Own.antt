@@ -14,7 +14,7 @@ use Rattle.bt_core.specs.declared.step.Op.TheVariants.{Cross}
 use Rattle.bt_core.specs.declared.step.Step.{Step}
 use Rattle.bt_core.specs.Interaction.{Interaction, Ended, Asks, Runs, and_then}
 use Rattle.rec_format.specs.declared.recording.CpuTrack.{CpuTrack}
-use Rattle.rec_format.specs.declared.recording.Entry.{Entry as RecordedEntry}
+use Rattle.rec_format.specs.declared.recording.Entry.{Entry}
 use Rattle.rec_format.specs.declared.recording.Entry.TheVariants as entry
 use Rattle.rec_format.specs.declared.recording.Recording.{Recording}
 use Rattle.typed_tree.specs.declared.script.Typed.{Typed}
@@ -29,7 +29,7 @@ use Rattle.bt_meaning.specs.Interleavings.{IsWhole}
 use Rattle.bt_meaning.specs.Jobs.{IsJob}
 use Rattle.bt_meaning.specs.Replays.{Replay, begin_of, cpu_of, end_of}
 use Rattle.bt_meaning.specs.Ticks.{is_crossing}
-use Rattle.bt_meaning.specs.Totals.{Entry, IsAggregationOnly, adds_of, tick_adds}
+use Rattle.bt_meaning.specs.Totals.{Addition, IsAggregationOnly, adds_of, tick_adds}
 use Rattle.bt_meaning.specs.Walks.{replay_of}
 use Rattle.bt_meaning.proofs.CrossingRuns.{occurs, occurs_beyond}
 use Rattle.bt_meaning.proofs.Crossings.{marks}
@@ -85,8 +85,8 @@ module _ (script : Typed) (attached : Attached) (r : Recording) (job : IsJob scr
   abbrev pub Surely : ℕ → Interaction ℕ → Type 0
   Surely a t = Gives m a (adds_of m t) (λ count. Unit {0}) t
 
-  surely : (a : ℕ) (es : List Entry) (t : Interaction ℕ) → Gives m a es (λ count. Unit {0}) t → Surely a t
-  surely a es t g = subst (λ (l : List Entry). Gives m a l (λ count. Unit {0}) t) (sym (gives_adds m a es (λ count. Unit {0}) t g)) g
+  surely : (a : ℕ) (es : List Addition) (t : Interaction ℕ) → Gives m a es (λ count. Unit {0}) t → Surely a t
+  surely a es t g = subst (λ (l : List Addition). Gives m a l (λ count. Unit {0}) t) (sym (gives_adds m a es (λ count. Unit {0}) t g)) g
 
   abbrev run : ℕ → ℕ → Context → List ℕ → Interaction ℕ
   run a body context payload = (p.plan a).run body context payload
@@ -96,7 +96,7 @@ module _ (script : Typed) (attached : Attached) (r : Recording) (job : IsJob scr
       let x = runs_add script only m context context (near_itself context) payload a a (n + 1) body (slice_get script.bodies body) refl (λ b e. inl refl) in
       surely a x.entries (run a body context payload) x.first
 
-  turn_some : (a : ℕ) (f : ℕ → Interaction ℕ) → ((b : ℕ) → Surely a (f b)) → (bodies : List ℕ) → (es : List Entry) × Gives m a es (λ count. Unit {0}) (in_turn f bodies)
+  turn_some : (a : ℕ) (f : ℕ → Interaction ℕ) → ((b : ℕ) → Surely a (f b)) → (bodies : List ℕ) → (es : List Addition) × Gives m a es (λ count. Unit {0}) (in_turn f bodies)
   turn_some a f each [] = ([], (refl, tt))
   turn_some a f each (b ∷ bs) = let x = turn_some a f each bs in (
     adds_of m (f b) ++ (x.0 ++ []),
@@ -114,11 +114,11 @@ module _ (script : Typed) (attached : Attached) (r : Recording) (job : IsJob scr
   end_surely = turn_surely n (λ body. run n body (end_context r) []) (λ body. run_surely n body (end_context r) []) attached.end
 
   -- what the events of a CPU add, if it is there, and what a tick adds on it
-  abbrev pub events_at : ℕ → Option CpuTrack → List Entry
+  abbrev pub events_at : ℕ → Option CpuTrack → List Addition
   events_at a None = []
   events_at a (Some track) = flat_map (λ e. adds_of m (entry_work (p.plan a) r attached track e)) track.entries
 
-  abbrev pub tick_at : Option Tick → ℕ → List Entry
+  abbrev pub tick_at : Option Tick → ℕ → List Addition
   tick_at None a = []
   tick_at (Some t) a = tick_adds p m t a (slice_get r.cpus a)
 
@@ -130,13 +130,13 @@ module _ (script : Typed) (attached : Attached) (r : Recording) (job : IsJob scr
     abbrev work : AgendaItem → Interaction ℕ
     work = item_work (p.plan a) r attached track
 
-    entry_surely : (o : Option RecordedEntry) → Surely a (where_some (entry_work (p.plan a) r attached track) o)
+    entry_surely : (o : Option Entry) → Surely a (where_some (entry_work (p.plan a) r attached track) o)
     entry_surely None = (refl, tt)
     entry_surely (Some (entry.Lost time count)) = (tt, [], refl, λ reply. (refl, tt))
     entry_surely (Some (entry.Event e)) = turn_surely a (λ body. run a body (event_context r track e) e.payload)
         (λ body. run_surely a body (event_context r track e) e.payload) (bodies_at (p.plan a) r attached e)
 
-    abbrev by_entry : ℕ → List Entry
+    abbrev by_entry : ℕ → List Addition
     by_entry place = adds_of m (work (item.Event place))
 
     abbrev body_at : Option Tick → Interaction ℕ
@@ -146,7 +146,7 @@ module _ (script : Typed) (attached : Attached) (r : Recording) (job : IsJob scr
     abbrev body : ℕ → Interaction ℕ
     body place = body_at (slice_get attached.ticks place)
 
-    abbrev by_tick : ℕ → List Entry
+    abbrev by_tick : ℕ → List Addition
     by_tick place = tick_at (slice_get attached.ticks place) a
 
     tick_gives : (o : Option Tick) → Gives m a (tick_at o a) (λ count. Unit {0}) (body_at o)
@@ -201,7 +201,7 @@ module _ (script : Typed) (attached : Attached) (r : Recording) (job : IsJob scr
       cpu_adds named told =
           let entries = flat_map by_entry (filter_map entry_place items) in
           let ticks = flat_map (λ k. cond (named k == a) (by_tick k) []) (filter_map tick_place items) in
-          let shares : List Entry = share m a tick_count work body by_entry by_tick crosses (λ place. entry_surely (slice_get track.entries place)) (λ place. entry_surely (slice_get track.entries place)) (λ place low. tick_gives (slice_get attached.ticks place)) named items in
+          let shares : List Addition = share m a tick_count work body by_entry by_tick crosses (λ place. entry_surely (slice_get track.entries place)) (λ place. entry_surely (slice_get track.entries place)) (λ place low. tick_gives (slice_get attached.ticks place)) named items in
           let adds : entries_in m steps ≡ shares =
           program_adds m a tick_count work body by_entry by_tick crosses (λ place. entry_surely (slice_get track.entries place)) (λ place. entry_surely (slice_get track.entries place))
           (λ place low. tick_gives (slice_get attached.ticks place)) named items below steps whole.value runs told in
@@ -209,7 +209,7 @@ module _ (script : Typed) (attached : Attached) (r : Recording) (job : IsJob scr
           places (λ q e. adds_of m (entry_work (p.plan a) r attached track e)) (λ q es. flat_map (λ e. adds_of m (entry_work (p.plan a) r attached track e)) es)
           (λ q. refl) (λ q e es. refl) by_entry track.entries 0
           (λ i e at. let zero_i : 0 + i ≡ i = omega arith in
-          ap (λ (o : Option RecordedEntry). adds_of m (where_some (entry_work (p.plan a) r attached track) o)) (ap (slice_get track.entries) zero_i ∙ at)) in
+          ap (λ (o : Option Entry). adds_of m (where_some (entry_work (p.plan a) r attached track) o)) (ap (slice_get track.entries) zero_i ∙ at)) in
           let first : entries ≡ events_at a (slice_get r.cpus a) = ap (flat_map by_entry) entries_are ∙ each ∙ ap (events_at a) (sym there) in
           let second : ticks ≡ flat_map (λ k. cond (named k == a) (by_tick k) []) (range_with_len 0 tick_count) = ap (flat_map (λ k. cond (named k == a) (by_tick k) [])) ticks_are in
           alike_trans (entries_in m steps) shares (events_at a (slice_get r.cpus a) ++ flat_map (λ k. cond (named k == a) (by_tick k) []) (range_with_len 0 tick_count))

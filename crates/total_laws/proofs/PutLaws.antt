@@ -14,7 +14,7 @@ use Rattle.agg_core.proofs.KeyLaws.{is_key-true}
 use Rattle.agg_core.proofs.Running.{ascends-put_keys}
 use Rattle.agg_core.proofs.SortedRows.{row_at}
 use Rattle.map_rows.proofs.KeySets.{has, has-with_key, key_flip, same_keys}
-use Rattle.bt_meaning.specs.Totals.{Entry, entry_keys, numbers_at}
+use Rattle.bt_meaning.specs.Totals.{Addition, addition_keys, numbers_at}
 use Rattle.total_laws.specs.Ends.{aggregate_rows}
 use Rattle.total_laws.proofs.Given.{named, ascends-entry_keys, has-entry_keys, named-append, numbers_at-append, numbers_at-cons, map_same}
 use Rattle.total_laws.proofs.Members.{filter_members}
@@ -28,12 +28,12 @@ OnlyPuts (Clears ∷ before) = ⊥
 OnlyPuts (Zeroes ∷ before) = ⊥
 
 -- what a change puts: the key and its number
-abbrev pub put_by : Change ℤ → List Entry
+abbrev pub put_by : Change ℤ → List Addition
 put_by (Puts k v) = (k, v) ∷ []
 put_by c = []
 
 -- what the changes put, the first one first
-abbrev pub all_put : List (Change ℤ) → List Entry
+abbrev pub all_put : List (Change ℤ) → List Addition
 all_put [] = []
 all_put (c ∷ before) = all_put before ++ put_by c
 
@@ -83,9 +83,9 @@ names_put k (Removes j ∷ cs) o = absurd o
 names_put k (Clears ∷ cs) o = absurd o
 names_put k (Zeroes ∷ cs) o = absurd o
 
-pub put_keys_of : (cs : List (Change ℤ)) → OnlyPuts cs → put_keys cs ≡ entry_keys (all_put cs)
+pub put_keys_of : (cs : List (Change ℤ)) → OnlyPuts cs → put_keys cs ≡ addition_keys (all_put cs)
 put_keys_of cs o =
-    same_keys (put_keys cs) (entry_keys (all_put cs)) (ascends-put_keys cs) (ascends-entry_keys (all_put cs)) (λ k. names_put k cs o ∙ sym (has-entry_keys k (all_put cs)))
+    same_keys (put_keys cs) (addition_keys (all_put cs)) (ascends-put_keys cs) (ascends-entry_keys (all_put cs)) (λ k. names_put k cs o ∙ sym (has-entry_keys k (all_put cs)))
 
 -- with fewer than 4,096 keys, or for one of the keys, a put is taken
 taken : (before : List (Change ℤ)) (k : List Value) → ((j : List Value) → lives before j ≡ has j (put_keys before)) → length (with_key k (put_keys before)) ≤ KEYS → is_taken before k ≡ true
@@ -140,11 +140,11 @@ none_lost (Clears ∷ cs) o le = absurd o
 none_lost (Zeroes ∷ cs) o le = absurd o
 
 -- few keys lose none
-pub few_keys : (kind : AggKind) (cs : List (Change ℤ)) → OnlyPuts cs → length (entry_keys (all_put cs)) ≤ KEYS
+pub few_keys : (kind : AggKind) (cs : List (Change ℤ)) → OnlyPuts cs → length (addition_keys (all_put cs)) ≤ KEYS
     → (rows_of (aggregate kind) cs ≡ aggregate_rows kind (all_put cs)) × (lost_updates cs ≡ 0)
 few_keys kind cs o le =
     let keys = put_keys_of cs o in let few : length (put_keys cs) ≤ KEYS = subst (λ (l : List (List Value)). length l ≤ KEYS) (sym keys) le in (
       ap (map (row_at (λ k. aggregate kind (given_to cs k)))) (filter_members (lives cs) (put_keys cs) (ascends-put_keys cs) (λ k h. live_all cs o few k ∙ h) ∙ keys)
-          ∙ map_same (row_at (λ k. aggregate kind (given_to cs k))) (row_at (λ k. aggregate kind (numbers_at k (all_put cs)))) (entry_keys (all_put cs)) (λ k i. (k, aggregate kind (given_all cs o few k i))),
+          ∙ map_same (row_at (λ k. aggregate kind (given_to cs k))) (row_at (λ k. aggregate kind (numbers_at k (all_put cs)))) (addition_keys (all_put cs)) (λ k i. (k, aggregate kind (given_all cs o few k i))),
       none_lost cs o few,
     )

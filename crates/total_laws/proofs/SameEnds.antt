@@ -16,7 +16,7 @@ use Rattle.actor_plan.specs.Contexts.{tick_context}
 use Rattle.bt_meaning.specs.Interleavings.{IsInterleaving}
 use Rattle.bt_meaning.specs.Jobs.{IsJob}
 use Rattle.bt_meaning.specs.Replays.{Replay, begin_of, end_of}
-use Rattle.bt_meaning.specs.Totals.{Entry, IsAggregationOnly, adds_of, tick_adds, events_add, ticks_add, all_adds, total_rows, totals, who}
+use Rattle.bt_meaning.specs.Totals.{Addition, IsAggregationOnly, adds_of, tick_adds, events_add, ticks_add, all_adds, total_rows, totals, who}
 use Rattle.bt_meaning.specs.Walks.{replay_of, walked}
 use Rattle.total_laws.specs.Ends.{UsesNoCpu, TicksUseNoCpu, IsAddingRun, EndsWithSameMaps, HaveFewKeys, all_totals}
 use Rattle.total_laws.proofs.Adding.{gives_adds}
@@ -63,7 +63,7 @@ module _ (script : Typed) (attached : Attached) (r : Recording) (job : IsJob scr
 
     module _ (steps others : List Step) (it : IsInterleaving p steps) (that : IsInterleaving p others) where
       adds_same : all_adds p m (who steps) ≡ all_adds p m (who others)
-      adds_same = ap (λ (l : List Entry). adds_of m (begin_of p) ++ (events_add p m 0 r.cpus ++ (l ++ adds_of m (end_of p))))
+      adds_same = ap (λ (l : List Addition). adds_of m (begin_of p) ++ (events_add p m 0 r.cpus ++ (l ++ adds_of m (end_of p))))
           (ticks_same (who steps) (who others) 0 attached.ticks (λ i t there.
           let low = slice_get_within attached.ticks i t there in
           let below : 0 + i < length attached.ticks = omega arith in

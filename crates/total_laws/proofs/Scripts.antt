@@ -23,7 +23,7 @@ use Rattle.typed_tree.specs.Parts.{Part, Numeric, MapOf, AggOf, Deleted, Cleared
 use Rattle.typed_tree.specs.Scope.{Scope, all_fit, fits, decl_of, is_agg, is_declared, is_shared, kind_of_shape, same_kind, same_shapes}
 use Rattle.walk_meaning.proofs.Declared.{served}
 use Rattle.walk_meaning.specs.Walk.{walk}
-use Rattle.bt_meaning.specs.Totals.{Entry, IsAggregationOnly, Keeps}
+use Rattle.bt_meaning.specs.Totals.{Addition, IsAggregationOnly, Keeps}
 use Rattle.bt_meaning.specs.Walks.{walked}
 use Rattle.bt_meaning.proofs.Placed.{maps_placed}
 use Rattle.total_laws.specs.Ends.{UsesNoCpu}
@@ -106,7 +106,7 @@ all_there P xs all i x e = let low = slice_get_within xs i x e in subst P (get_o
 module _ (script : Typed) (only : IsAggregationOnly script) (m : MapId) (one two : Context) (near : AreNear one two) (payload : List ℕ) (a b actors : ℕ) where
   -- what a run of a body adds: the same in both contexts and by both actors
   pub record RunsAdd (body : Option TypedBody) : Type 0 where
-    pub entries : List Entry
+    pub entries : List Addition
     pub first : Gives m a entries (λ count. Unit {0}) (walked body one payload a actors)
     pub second : Gives m b entries (λ count. Unit {0}) (walked body two payload b actors)
 

@@ -6,12 +6,12 @@ use mathlib.Core.Logic.{dite}
 use native.Mathlib.Decide.{ℕ_discrete}
 use Rattle.bt_core.specs.declared.value.Value.{Value}
 use Rattle.weave.proofs.Less.{less_or_not}
-use Rattle.bt_meaning.specs.Totals.{Entry, entry_keys}
+use Rattle.bt_meaning.specs.Totals.{Addition, addition_keys}
 use Rattle.total_laws.proofs.Alike.{Alike, alike_same, alike_trans, alike_append, alike_middle, alike_sym}
 use Rattle.total_laws.proofs.Given.{named, ascends-entry_keys, has-entry_keys, named-append}
 use Rattle.total_laws.proofs.Members.{fewer_keys}
 
-pub flat_map-none : (xs : List ℕ) → flat_map {A = Entry} (λ x. []) xs ≡ []
+pub flat_map-none : (xs : List ℕ) → flat_map {A = Addition} (λ x. []) xs ≡ []
 flat_map-none [] = refl
 flat_map-none (x ∷ xs) = flat_map-none xs
 
@@ -27,7 +27,7 @@ range_more first (suc n) =
     ap (λ (l : List ℕ). first ∷ l) (range_more (first + 1) n ∙ ap (λ (x : ℕ). range_with_len (first + 1) n ++ x ∷ []) e)
 
 -- of the one and the other of each
-pub alike_both : (f g : ℕ → List Entry) (xs : List ℕ) → Alike (flat_map (λ x. f x ++ g x) xs) (flat_map f xs ++ flat_map g xs)
+pub alike_both : (f g : ℕ → List Addition) (xs : List ℕ) → Alike (flat_map (λ x. f x ++ g x) xs) (flat_map f xs ++ flat_map g xs)
 alike_both f g [] = alike_same [] [] refl
 alike_both f g (x ∷ xs) =
     let fs = flat_map f xs in let gs = flat_map g xs in let both = flat_map (λ x. f x ++ g x) xs in
@@ -36,7 +36,7 @@ alike_both f g (x ∷ xs) =
     (alike_middle (f x) (g x) fs gs)
 
 -- two lists change places
-pub alike_swap : (g : ℕ → ℕ → List Entry) (xs ys : List ℕ)
+pub alike_swap : (g : ℕ → ℕ → List Addition) (xs ys : List ℕ)
     → Alike (flat_map (λ x. flat_map (λ y. g x y) ys) xs) (flat_map (λ y. flat_map (λ x. g x y) xs) ys)
 alike_swap g [] ys = alike_same [] (flat_map (λ y. []) ys) (sym (flat_map-none ys))
 alike_swap g (x ∷ xs) ys =
@@ -48,7 +48,7 @@ alike_swap g (x ∷ xs) ys =
     (alike_append first rest first swapped (alike_same first first refl) (alike_swap g xs ys))
     (alike_sym both (first ++ swapped) (alike_both (λ y. g x y) (λ y. flat_map (λ x. g x y) xs) ys))
 
-pub alike_range : (f g : ℕ → List Entry) (first n : ℕ) → ((a : ℕ) → first ≤ a → a < first + n → Alike (f a) (g a))
+pub alike_range : (f g : ℕ → List Addition) (first n : ℕ) → ((a : ℕ) → first ≤ a → a < first + n → Alike (f a) (g a))
     → Alike (flat_map f (range_with_len first n)) (flat_map g (range_with_len first n))
 alike_range f g first zero same = alike_same [] [] refl
 alike_range f g first (suc n) same =
@@ -62,13 +62,13 @@ range_same f g first (suc n) same =
     λ i. same first (omega arith) (omega arith) i ++ range_same f g (first + 1) n (λ a le lt. same a (omega arith) (omega arith)) i
 
 -- the one that is picked
-pub pick_none : (w : ℕ) (f : ℕ → List Entry) (first n : ℕ) → w < first → flat_map (λ a. cond (w == a) (f a) []) (range_with_len first n) ≡ []
+pub pick_none : (w : ℕ) (f : ℕ → List Addition) (first n : ℕ) → w < first → flat_map (λ a. cond (w == a) (f a) []) (range_with_len first n) ≡ []
 pick_none w f first zero lt = refl
 pick_none w f first (suc n) lt =
     let here : cond (w == first) (f first) [] ≡ [] = ap (λ (b : Bool). cond b (f first) []) (ne_eqb w first (λ q. omega arith)) in
     λ i. here i ++ pick_none w f (first + 1) n (omega arith) i
 
-pub pick_one : (w : ℕ) (f : ℕ → List Entry) (first n : ℕ) → first ≤ w → w < first + n → flat_map (λ a. cond (w == a) (f a) []) (range_with_len first n) ≡ f w
+pub pick_one : (w : ℕ) (f : ℕ → List Addition) (first n : ℕ) → first ≤ w → w < first + n → flat_map (λ a. cond (w == a) (f a) []) (range_with_len first n) ≡ f w
 pick_one w f first zero le lt = absurd (omega arith)
 pick_one w f first (suc n) le lt = dite (ℕ_discrete w first)
     (λ e. let here : cond (w == first) (f first) [] ≡ f first = ap (λ (b : Bool). cond b (f first) []) (eq-eqb w first e) in
@@ -76,14 +76,14 @@ pick_one w f first (suc n) le lt = dite (ℕ_discrete w first)
     (λ ne. let here : cond (w == first) (f first) [] ≡ [] = ap (λ (b : Bool). cond b (f first) []) (ne_eqb w first ne) in
     λ i. here i ++ pick_one w f (first + 1) n (omega arith) (omega arith) i)
 
-pick_past : (w : ℕ) (f : ℕ → List Entry) (first n : ℕ) → first + n ≤ w → flat_map (λ a. cond (w == a) (f a) []) (range_with_len first n) ≡ []
+pick_past : (w : ℕ) (f : ℕ → List Addition) (first n : ℕ) → first + n ≤ w → flat_map (λ a. cond (w == a) (f a) []) (range_with_len first n) ≡ []
 pick_past w f first zero le = refl
 pick_past w f first (suc n) le =
     let here : cond (w == first) (f first) [] ≡ [] = ap (λ (b : Bool). cond b (f first) []) (ne_eqb w first (λ q. omega arith)) in
     λ i. here i ++ pick_past w f (first + 1) n (omega arith) i
 
 -- of those below n, where the others have nothing
-pub pick : (w : ℕ) (f : ℕ → List Entry) (n : ℕ) → ((a : ℕ) → n ≤ a → f a ≡ []) → flat_map (λ a. cond (w == a) (f a) []) (range_with_len 0 n) ≡ f w
+pub pick : (w : ℕ) (f : ℕ → List Addition) (n : ℕ) → ((a : ℕ) → n ≤ a → f a ≡ []) → flat_map (λ a. cond (w == a) (f a) []) (range_with_len 0 n) ≡ f w
 pick w f n none = elim (less_or_not w n) [
   | inl lt ↦ pick_one w f 0 n (omega arith) (omega (arith, lt))
   | inr ge ↦ pick_past w f 0 n (omega (arith, ge)) ∙ sym (none w ge)
@@ -110,18 +110,18 @@ or_back : (a b : Bool) → b ≡ true → (a || b) ≡ true
 or_back true b e = refl
 or_back false b e = e
 
-named_in : (k : List Value) (f : ℕ → List Entry) (first n a : ℕ) → first ≤ a → a < first + n → named k (f a) ≡ true
+named_in : (k : List Value) (f : ℕ → List Addition) (first n a : ℕ) → first ≤ a → a < first + n → named k (f a) ≡ true
     → named k (flat_map f (range_with_len first n)) ≡ true
 named_in k f first zero a le lt e = absurd (omega arith)
 named_in k f first (suc n) a le lt e = named-append k (f first) (flat_map f (range_with_len (first + 1) n)) ∙ dite (ℕ_discrete a first)
     (λ same. or_front (named k (f first)) (named k (flat_map f (range_with_len (first + 1) n))) (ap (λ (b : ℕ). named k (f b)) (sym same) ∙ e))
     (λ ne. or_back (named k (f first)) (named k (flat_map f (range_with_len (first + 1) n))) (named_in k f (first + 1) n a (omega arith) (omega arith) e))
 
-pub few_in : (f : ℕ → List Entry) (n a : ℕ) → a < n → length (entry_keys (f a)) ≤ length (entry_keys (flat_map f (range_with_len 0 n)))
-few_in f n a lt = fewer_keys (entry_keys (f a)) (entry_keys (flat_map f (range_with_len 0 n))) (ascends-entry_keys (f a)) (ascends-entry_keys (flat_map f (range_with_len 0 n)))
+pub few_in : (f : ℕ → List Addition) (n a : ℕ) → a < n → length (addition_keys (f a)) ≤ length (addition_keys (flat_map f (range_with_len 0 n)))
+few_in f n a lt = fewer_keys (addition_keys (f a)) (addition_keys (flat_map f (range_with_len 0 n))) (ascends-entry_keys (f a)) (ascends-entry_keys (flat_map f (range_with_len 0 n)))
     (λ k e. has-entry_keys k (flat_map f (range_with_len 0 n)) ∙ named_in k f 0 n a (omega arith) (omega (arith, lt)) (sym (has-entry_keys k (f a)) ∙ e))
 
 -- a beginning has no more keys
-pub few_front : (xs ys : List Entry) → length (entry_keys xs) ≤ length (entry_keys (xs ++ ys))
-few_front xs ys = fewer_keys (entry_keys xs) (entry_keys (xs ++ ys)) (ascends-entry_keys xs) (ascends-entry_keys (xs ++ ys))
+pub few_front : (xs ys : List Addition) → length (addition_keys xs) ≤ length (addition_keys (xs ++ ys))
+few_front xs ys = fewer_keys (addition_keys xs) (addition_keys (xs ++ ys)) (ascends-entry_keys xs) (ascends-entry_keys (xs ++ ys))
     (λ k e. has-entry_keys k (xs ++ ys) ∙ named-append k xs ys ∙ or_front (named k xs) (named k ys) (sym (has-entry_keys k xs) ∙ e))

@@ -23,7 +23,7 @@ use Rattle.typed_tree.specs.declared.stmt.TypedStmt.TheShapes.{former-TypedStmt-
 use Rattle.typed_tree.specs.Bodies.{predicate_parts, tree_parts}
 use Rattle.typed_tree.specs.Parts as tree
 use Rattle.typed_tree.specs.Parts.{Part, made_of, num_parts, parts_in, stmt_parts, block_parts, arm_parts, otherwise_parts, joined, number_parts, Ending, Otherwise}
-use Rattle.bt_meaning.specs.Totals.{Entry, added}
+use Rattle.bt_meaning.specs.Totals.{Addition, added}
 use Rattle.walk_meaning.specs.declared.flow.Flow.{Flow}
 use Rattle.walk_meaning.specs.declared.flow.Flow.TheVariants.{Next, Break, Continue, Stop}
 use Rattle.walk_meaning.specs.declared.flow.Frame.{Frame}
@@ -62,7 +62,7 @@ module _ (m : MapId) (one two : BodyScene) (like : AreLike one two) where
       → ((i : ℕ) → is_plain actor (object i) op) → added m op ≡ [] → JustReads actor (asked_from object op replies first n)
   asked_from-reads actor object op replies first zero fine none = (refl, tt)
   asked_from-reads actor object op replies first (suc n) fine none =
-      (fine first, [], sym (ap (λ (l : List Entry). l ++ []) none), λ r. asked_from-reads actor object op (replies ++ r ∷ []) (first + 1) n fine none)
+      (fine first, [], sym (ap (λ (l : List Addition). l ++ []) none), λ r. asked_from-reads actor object op (replies ++ r ∷ []) (first + 1) n fine none)
 
   read_plain : (actor : ℕ) (kind : MapKind) (number : MapId) (i : ℕ) → is_plain actor (holder kind number i) (sweep_op Read kind number)
   read_plain actor Ints number i = tt
@@ -251,7 +251,7 @@ module _ (m : MapId) (one two : BodyScene) (like : AreLike one two) where
 
 -- what a walk adds, in two contexts that are alike but for `cpu`, and by two actors
 pub record Walks (m : MapId) (body : TypedBody) (one two : Context) (payload : List ℕ) (a b actors : ℕ) : Type 0 where
-  pub entries : List Entry
+  pub entries : List Addition
   pub first : Gives m a entries (λ ending. Unit {0}) (walk body one payload a actors)
   pub second : Gives m b entries (λ ending. Unit {0}) (walk body two payload b actors)
 

@@ -12,7 +12,7 @@ use Rattle.bt_core.specs.Interaction.{Call, call_of}
 use Rattle.bt_core.specs.Steps.{is_of, of_actor, is_on, is_same_object, on_object, operations}
 use Rattle.agg_core.specs.Answers.{back, table_change}
 use Rattle.agg_core.specs.Changes.{Change, Puts, Removes, Clears, Zeroes, Leaves}
-use Rattle.bt_meaning.specs.Totals.{Entry, added}
+use Rattle.bt_meaning.specs.Totals.{Addition, added}
 use Rattle.bt_meaning.proofs.Eachs.{each_so, each_kept}
 use Rattle.total_laws.specs.Ends.{entries_in}
 use Rattle.total_laws.proofs.Adding.{is_plain, IsPlain}
@@ -44,7 +44,7 @@ append_puts (Zeroes ∷ xs) ys p q = absurd p
 
 all_put-append : (xs ys : List (Change ℤ)) → all_put (xs ++ ys) ≡ all_put ys ++ all_put xs
 all_put-append [] ys = sym (append-nil (all_put ys))
-all_put-append (x ∷ xs) ys = ap (λ (l : List Entry). l ++ put_by x) (all_put-append xs ys) ∙ append_assoc (all_put ys) (all_put xs) (put_by x)
+all_put-append (x ∷ xs) ys = ap (λ (l : List Addition). l ++ put_by x) (all_put-append xs ys) ∙ append_assoc (all_put ys) (all_put xs) (put_by x)
 
 module _ (m : MapId) where
   -- the operation puts into the table of the map or leaves it
@@ -115,11 +115,11 @@ module _ (m : MapId) where
   at_home a s b c xs ys e rest = ap (λ (t : Bool). entries_in m (cond t (s ∷ xs) xs)) e ∙ by_test c
     where
       by_test : (t : Bool) → entries_in m (cond t (s ∷ xs) xs) ≡ entries_in m (cond t (s ∷ ys) ys)
-      by_test true = ap (λ (l : List Entry). added m s.op ++ l) rest
+      by_test true = ap (λ (l : List Addition). added m s.op ++ l) rest
       by_test false = rest
 
   adds_none : (s : Step) (b : Bool) (xs : List Step) → added m s.op ≡ [] → entries_in m (cond b (s ∷ xs) xs) ≡ entries_in m xs
-  adds_none s true xs e = ap (λ (l : List Entry). l ++ entries_in m xs) e
+  adds_none s true xs e = ap (λ (l : List Addition). l ++ entries_in m xs) e
   adds_none s false xs e = refl
 
   -- what is added at an actor's tables is what the actor adds

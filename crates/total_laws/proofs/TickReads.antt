@@ -23,13 +23,13 @@ use Rattle.agg_core.specs.Answers.{agg_kind_in, back, table_change}
 use Rattle.bt_meaning.specs.OwnSteps.{setting_of, IsOwnStep}
 use Rattle.bt_meaning.specs.Replays.{Replay, answers_of}
 use Rattle.bt_meaning.specs.Ticks.{HasDoneBefore}
-use Rattle.bt_meaning.specs.Totals.{Entry, added, entry_keys}
+use Rattle.bt_meaning.specs.Totals.{Addition, added, addition_keys}
 use Rattle.bt_meaning.specs.Walks.{replay_of}
 use Rattle.bt_meaning.proofs.Eachs.{each_front, each_back}
 use Rattle.bt_meaning.proofs.Stepping.{own_part}
 use Rattle.bt_meaning.proofs.TicksAfter.{ticks_after}
 use Rattle.bt_meaning.proofs.Walked.{walks_stop}
-use Rattle.run_laws.specs.Reads.{BeginsWith, adds_of, is_add}
+use Rattle.run_laws.specs.Reads.{BeginsWith, add_steps_of, is_add}
 use Rattle.total_laws.specs.Ends.{IsAddingRun, aggregate_rows, entries_in, ReadsSeeAllBefore}
 use Rattle.total_laws.proofs.Adding.{entries_append}
 use Rattle.total_laws.proofs.Exact.{fits, given, given_few}
@@ -83,8 +83,8 @@ module _ (m : MapId) where
 
       by : entries_in m kept ≡ entries_in m ss → (b : Bool) → (is_on (Cpu a) s && is_add s.op) ≡ b
           → entries_in m (cond b (s ∷ kept) kept) ≡ added m s.op ++ entries_in m ss
-      by rest true e = ap (λ (l : List Entry). added m s.op ++ l) rest
-      by rest false e = rest ∙ ap (λ (l : List Entry). l ++ entries_in m ss) (sym (not_kept a s h.0 e))
+      by rest true e = ap (λ (l : List Addition). added m s.op ++ l) rest
+      by rest false e = rest ∙ ap (λ (l : List Addition). l ++ entries_in m ss) (sym (not_kept a s h.0 e))
 
 module _ (script : Typed) (attached : Attached) (r : Recording) (steps : List Step) (run : IsAddingRun script attached r steps)
     (own : AllByRecursion (IsOwnStep script attached r) steps) where
@@ -114,24 +114,24 @@ module _ (script : Typed) (attached : Attached) (r : Recording) (steps : List St
     parted : of_actor cpu steps ≡ of_actor cpu before ++ of_actor cpu (s ∷ after)
     parted = ap (of_actor cpu) e ∙ filter-append (is_of cpu) before (s ∷ after)
 
-    before_few : length (entry_keys (entries_in m (of_actor cpu before))) ≤ KEYS
+    before_few : length (addition_keys (entries_in m (of_actor cpu before))) ≤ KEYS
     before_few =
         let all = given_few script attached r run.job run.only_adds m steps run.interleaving kind (few script attached r steps run m low) cpu (omega arith) in
         let cut : given script attached r run.job run.only_adds m steps run.interleaving cpu ≡ entries_in m (of_actor cpu before) ++ entries_in m (of_actor cpu (s ∷ after)) =
         ap (entries_in m) parted ∙ entries_append m (of_actor cpu before) (of_actor cpu (s ∷ after)) in
         let fewer = few_front (entries_in m (of_actor cpu before)) (entries_in m (of_actor cpu (s ∷ after))) in
-        let whole = subst (λ (l : List Entry). length (entry_keys l) ≤ KEYS) cut all in omega arith
+        let whole = subst (λ (l : List Addition). length (addition_keys l) ≤ KEYS) cut all in omega arith
 
-    reply_is : s.reply ≡ Aggs (aggregate_rows kind (entries_in m (adds_of cpu before)))
+    reply_is : s.reply ≡ Aggs (aggregate_rows kind (entries_in m (add_steps_of cpu before)))
     reply_is =
         let puts = table_puts m cpu before before_fits in
         let rows = few_keys kind (back (table_change m) (operations (on_object (Cpu cpu) before))) puts.0
-        (subst (λ (g : List Entry). length (entry_keys g) ≤ KEYS) (sym puts.1) before_few) in
+        (subst (λ (g : List Addition). length (addition_keys g) ≤ KEYS) (sym puts.1) before_few) in
         let kept = kept_adds m cpu (of_actor cpu before) (of_fits m cpu before before_fits) in
         run.interleaving.replies before s after e ∙ (λ i. answers_of p (object i) (operations (on_object (object i) before)) (op i))
         ∙ ap Aggs (rows.0 ∙ ap (aggregate_rows kind) (puts.1 ∙ sym kept))
 
-    begins : BeginsWith (adds_of cpu steps) (adds_of cpu before)
+    begins : BeginsWith (add_steps_of cpu steps) (add_steps_of cpu before)
     begins = let test : Step → Bool = λ x. is_on (Cpu cpu) x && is_add x.op in
         (filter test (of_actor cpu (s ∷ after)), ap (filter test) parted ∙ filter-append test (of_actor cpu before) (of_actor cpu (s ∷ after)))
 
@@ -154,7 +154,7 @@ module _ (script : Typed) (attached : Attached) (r : Recording) (steps : List St
     entries = has.entries;
   }
 
-  held : (tick cpu : ℕ) (before : List Step) (has : HasDoneBefore p tick cpu before) → BeginsWith (adds_of cpu before) (adds_of cpu has.done.made)
+  held : (tick cpu : ℕ) (before : List Step) (has : HasDoneBefore p tick cpu before) → BeginsWith (add_steps_of cpu before) (add_steps_of cpu has.done.made)
   held tick cpu before has =
       let test : Step → Bool = λ x. is_on (Cpu cpu) x && is_add x.op in
       let own_made : of_actor cpu has.done.made ≡ has.done.made =

@@ -29,9 +29,9 @@ use Rattle.bt_meaning.specs.Jobs.{IsJob}
 use Rattle.bt_meaning.specs.Prints.{emitted, of_maps, rows_after, lost_after, printed_text}
 use Rattle.bt_meaning.specs.Replays.{Replay, cpus_of}
 use Rattle.bt_meaning.specs.Ticks.{IsLastCrossing, HasDoneBefore}
-use Rattle.bt_meaning.specs.Totals.{IsAggregationOnly, Entry, entry_keys, numbers_at, added, totals, who}
+use Rattle.bt_meaning.specs.Totals.{IsAggregationOnly, Addition, addition_keys, numbers_at, added, totals, who}
 use Rattle.bt_meaning.specs.Walks.{replay_of}
-use Rattle.run_laws.specs.Reads.{BeginsWith, adds_of}
+use Rattle.run_laws.specs.Reads.{BeginsWith, add_steps_of}
 
 -- ---- runs that only add
 
@@ -91,21 +91,21 @@ pub record EndsWithSameMaps (script : Typed) (attached : Attached) (r : Recordin
 -- ---- reads on the way
 
 -- the numbers that steps add to a map, with their keys
-abbrev pub entries_in : MapId → List Step → List Entry
+abbrev pub entries_in : MapId → List Step → List Addition
 entries_in m steps = flat_map (λ s. added m s.op) steps
 
 -- each key with the aggregate of the numbers that are added to it
-abbrev pub aggregate_rows : AggKind → List Entry → List (List Value × Agg)
-aggregate_rows kind entries = map (λ key. (key, aggregate kind (numbers_at key entries))) (entry_keys entries)
+abbrev pub aggregate_rows : AggKind → List Addition → List (List Value × Agg)
+aggregate_rows kind entries = map (λ key. (key, aggregate kind (numbers_at key entries))) (addition_keys entries)
 
 -- A read of a map at a CPU's tables, after the last crossing of a tick. The steps by which the CPU added there before are a beginning
 -- of those by which it adds there in all. The CPU has done before all its events with a time below the tick's, and the steps by which
 -- it added for these come first. The reply has each key with the aggregate of the numbers that this beginning adds to it.
 pub record SeesAllBefore (p : Replay) (tick cpu : ℕ) (m : MapId) (steps before : List Step) (s : Step) : Type 0 where
-  pub beginning : BeginsWith (adds_of cpu steps) (adds_of cpu before)
+  pub beginning : BeginsWith (add_steps_of cpu steps) (add_steps_of cpu before)
   pub events : HasDoneBefore p tick cpu before
-  pub holds : BeginsWith (adds_of cpu before) (adds_of cpu events.done.made)
-  pub reply : s.reply ≡ Aggs (aggregate_rows (agg_kind_in p.maps m) (entries_in m (adds_of cpu before)))
+  pub holds : BeginsWith (add_steps_of cpu before) (add_steps_of cpu events.done.made)
+  pub reply : s.reply ≡ Aggs (aggregate_rows (agg_kind_in p.maps m) (entries_in m (add_steps_of cpu before)))
 
 -- so it is of each read at a CPU's tables after the last crossing of a tick, and so of those in the tick's body, which is run next by
 -- the actor that crossed last

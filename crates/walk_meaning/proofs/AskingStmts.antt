@@ -37,12 +37,11 @@ use Rattle.typed_tree.specs.Scope.{fits, all_fit, is_there, decl_of, format_of, 
 use Rattle.map_rows.specs.Merged.{merged}
 use Rattle.walk_meaning.specs.declared.flow.Flow.{Flow}
 use Rattle.walk_meaning.specs.declared.flow.Flow.TheVariants.{Next, Break, Continue, Stop}
-use Rattle.walk_meaning.specs.declared.flow.Frame.{Frame}
 use Rattle.map_ops.specs.declared.sweep.Sweep.{Sweep}
 use Rattle.map_ops.specs.declared.sweep.Sweep.TheVariants.{Read, Clear, Zero}
 use Rattle.walk_meaning.specs.declared.view.View.{View}
 use Rattle.walk_meaning.specs.Admits.{Admits, AdmitsOf, EmitsOnly}
-use Rattle.walk_meaning.specs.Does.{BodyScene, Does, given, changed, lifted, bind, in_order}
+use Rattle.walk_meaning.specs.Does.{Does, given, changed, lifted, bind, in_order}
 use Rattle.walk_meaning.specs.Exprs.{value_does, values_do, number_does}
 use Rattle.map_ops.specs.Holders.{part, holder, holders, sweep_op, CanSweep}
 use Rattle.walk_meaning.specs.Maps.{get, set, delete, add, kind_in_body}

@@ -39,7 +39,8 @@ use Rattle.map_ops.specs.Values.{number_of, text_of, value_of, next}
 use Rattle.walk_meaning.specs.Does.{Does, given, lifted, bind, then, if_holds, in_order}
 use Rattle.walk_meaning.specs.Maps.{set, kind_in_body}
 use Rattle.walk_meaning.specs.Exprs.{value_by_parts, number_by_parts, text_by_parts}
-use Rattle.walk_meaning.specs.Stmts.{plain, set_variable, set_map, update_variable, gather, printf, delete_at, first_arm, block_or_next, while_true, stmt_by_parts, block_by_parts}
+use Rattle.walk_meaning.specs.Stmts.{plain, set_variable, set_map, update_variable, gather, printf}
+use Rattle.walk_meaning.specs.Stmts.{delete_at, first_arm, block_or_next, while_true, stmt_by_parts, block_by_parts}
 use Rattle.walk_meaning.specs.Walk.{first_frame, ending_of}
 
 -- a way of reading replies: of one to a `Get` a number or a string, and of one to who reads a map of this kind its rows

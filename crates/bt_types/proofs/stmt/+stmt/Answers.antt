@@ -12,7 +12,7 @@ use Rattle.expr_types.specs.Mentions.{ArmWord, WhileWord, UnrollWord, EndWord}
 use Rattle.expr_types.specs.Judge.{judged, SaysFault}
 use Rattle.expr_types.specs.Walk.{of_expr, of_map}
 use Rattle.typed_tree.specs.Parts.{Part, Arm, Looped, Ending, num_parts, joined, arm_parts, otherwise_parts, stmt_parts, block_parts}
-use Rattle.bt_types.specs.Told.{Told, next, says, in_turn, condition_told, arm_told, otherwise_told, if_told, while_told, unroll_told, block_told, of_block, of_stmt}
+use Rattle.bt_types.specs.Told.{Told, next, says, told_in_turn, condition_told, arm_told, otherwise_told, if_told, while_told, unroll_told, block_told, of_block, of_stmt}
 use Rattle.bt_types.specs.Done.{Done, Does}
 use Rattle.bt_types.proofs.Turns.{done_next, done_says, refused_front, refused_next, does_err, does_in_err, does_at}
 use Rattle.bt_types.proofs.Runs.{run_begins, run_more, run_refused, run_ends}
@@ -22,30 +22,30 @@ use Rattle.bt_types.proofs.stmt.+stmt.Goals as goal
 
 pub check_stmts-returns-in_err-typed : goal.check_stmts-returns-in_err-typed
 check_stmts-returns-in_err-typed t c =
-    does_err (in_turn (map (λ s. of_stmt s c.args.inside) c.args.stmts.now)) (λ all. joined (map (λ s. stmt_parts s c.args.inside) all)) c.args.known.now _ _ c.in_err-typed.field-0.0 c.from_residual.ensures.1
+    does_err (told_in_turn (map (λ s. of_stmt s c.args.inside) c.args.stmts.now)) (λ all. joined (map (λ s. stmt_parts s c.args.inside) all)) c.args.known.now _ _ c.in_err-typed.field-0.0 c.from_residual.ensures.1
     (run_refused (λ s. of_stmt s c.args.inside) c.args.stmts.now c.loop-stmt.stmt-index c.stmt-item.result c.args.known.now c.loop-stmt.known (joined (map (λ s. stmt_parts s c.args.inside) c.loop-stmt.all)) c.in_err-typed.field-0.0
     c.loop-stmt-test.true c.stmt-item.is c.loop-stmt.invariant c.in_err-typed.ensures)
 
 pub check_stmts-loop-stmt-preserved : goal.check_stmts-loop-stmt-preserved
 check_stmts-loop-stmt-preserved t c =
-    subst (λ (all : List TypedStmt). Done (in_turn (map (λ s. of_stmt s c.args.inside) (take (c.loop-stmt.stmt-index + 1) c.args.stmts.now))) c.args.known.now c.check_stmt.new.known (joined (map (λ s. stmt_parts s c.args.inside) all))) (sym c.in_ok-push.ensures.ok)
+    subst (λ (all : List TypedStmt). Done (told_in_turn (map (λ s. of_stmt s c.args.inside) (take (c.loop-stmt.stmt-index + 1) c.args.stmts.now))) c.args.known.now c.check_stmt.new.known (joined (map (λ s. stmt_parts s c.args.inside) all))) (sym c.in_ok-push.ensures.ok)
     (run_more (λ s. of_stmt s c.args.inside) (λ s. stmt_parts s c.args.inside) c.args.stmts.now c.loop-stmt.stmt-index c.stmt-item.result c.args.known.now c.loop-stmt.known c.check_stmt.new.known c.loop-stmt.all c.in_ok-typed.typed
     c.loop-stmt-test.true c.stmt-item.is c.loop-stmt.invariant c.in_ok-typed.ensures)
 
 pub check_block-returns-in_err-stmts : goal.check_block-returns-in_err-stmts
 check_block-returns-in_err-stmts t c =
     let b = c.args.block.now in
-    let stmts = subst (λ (ss : List Stmt). SaysFault (judged (in_turn (map (λ s. of_stmt s c.args.inside) ss)).points c.args.known.now) c.in_err-stmts.field-0.0) c.as_slice.ensures c.in_err-stmts.ensures in
+    let stmts = subst (λ (ss : List Stmt). SaysFault (judged (told_in_turn (map (λ s. of_stmt s c.args.inside) ss)).points c.args.known.now) c.in_err-stmts.field-0.0) c.as_slice.ensures c.in_err-stmts.ensures in
     rw (block_is b c.args.inside) (does_err (block_told (map (λ s. of_stmt s c.args.inside) (out-Block b).stmts)) (λ b. block_parts b c.args.inside) c.args.known.now _ _ c.in_err-stmts.field-0.0 c.from_residual.ensures.1
-    (refused_front (in_turn (map (λ s. of_stmt s c.args.inside) (out-Block b).stmts)) (says EndWord) c.args.known.now c.in_err-stmts.field-0.0 stmts))
+    (refused_front (told_in_turn (map (λ s. of_stmt s c.args.inside) (out-Block b).stmts)) (says EndWord) c.args.known.now c.in_err-stmts.field-0.0 stmts))
 
 pub check_block-returns : goal.check_block-returns
 check_block-returns t c =
     let b = c.args.block.now in
     let parts = joined (map (λ s. stmt_parts s c.args.inside) c.in_ok-stmts.stmts) in
-    let stmts = subst (λ (ss : List Stmt). Done (in_turn (map (λ s. of_stmt s c.args.inside) ss)) c.args.known.now c.check_stmts.new.known parts) c.as_slice.ensures c.in_ok-stmts.ensures in
+    let stmts = subst (λ (ss : List Stmt). Done (told_in_turn (map (λ s. of_stmt s c.args.inside) ss)) c.args.known.now c.check_stmts.new.known parts) c.as_slice.ensures c.in_ok-stmts.ensures in
     rw (block_is b c.args.inside, block_of c.in_ok-stmts.stmts c.args.inside)
-    (done_next (in_turn (map (λ s. of_stmt s c.args.inside) (out-Block b).stmts)) (says EndWord) c.args.known.now c.check_stmts.new.known c.check_stmts.new.known parts (Ending ∷ []) stmts (done_says EndWord Ending c.check_stmts.new.known tt refl))
+    (done_next (told_in_turn (map (λ s. of_stmt s c.args.inside) (out-Block b).stmts)) (says EndWord) c.args.known.now c.check_stmts.new.known c.check_stmts.new.known parts (Ending ∷ []) stmts (done_says EndWord Ending c.check_stmts.new.known tt refl))
 
 pub check_arm-returns-in_err-condition : goal.check_arm-returns-in_err-condition
 check_arm-returns-in_err-condition t c =
@@ -109,15 +109,15 @@ check_kind-returns-in_err-typed-in-If t c =
     let other = option_map (λ b. of_block b c.args.inside) c.in-If.otherwise in
     let fault = run_refused (arm_at c.args.inside) arms c.loop-arm.arm-index c.arm-item.result c.args.known.now c.loop-arm.known (joined (map (parts_at c.args.inside) c.loop-arm.all)) c.in_err-typed-in-If.field-0.0
     c.loop-arm-test.true c.arm-item.is c.loop-arm.invariant c.in_err-typed-in-If.ensures in
-    let here = subst (λ (l : List (Expr × Block)). SaysFault (judged (in_turn (map (arm_at c.args.inside) l)).points c.args.known.now) c.in_err-typed-in-If.field-0.0) c.as_slice-arm-items.ensures fault in
+    let here = subst (λ (l : List (Expr × Block)). SaysFault (judged (told_in_turn (map (arm_at c.args.inside) l)).points c.args.known.now) c.in_err-typed-in-If.field-0.0) c.as_slice-arm-items.ensures fault in
     rw c.in-If.is (rw (if_is c.in-If.arms c.in-If.otherwise c.args.inside c.args.place)
     (does_err (if_told (map (arm_at c.args.inside) c.in-If.arms) other) (λ s. stmt_parts s c.args.inside) c.args.known.now _ _ c.in_err-typed-in-If.field-0.0 c.from_residual.ensures.1
-    (refused_front (in_turn (map (arm_at c.args.inside) c.in-If.arms)) (otherwise_told other) c.args.known.now c.in_err-typed-in-If.field-0.0 here)))
+    (refused_front (told_in_turn (map (arm_at c.args.inside) c.in-If.arms)) (otherwise_told other) c.args.known.now c.in_err-typed-in-If.field-0.0 here)))
 
 pub check_kind-loop-arm-preserved : goal.check_kind-loop-arm-preserved
 check_kind-loop-arm-preserved t c =
     let arms = c.as_slice-arm-items.result.now in
-    subst (λ (all : List (NumExpr × TypedBlock)). Done (in_turn (map (arm_at c.args.inside) (take (c.loop-arm.arm-index + 1) arms))) c.args.known.now c.check_arm.new.known (joined (map (parts_at c.args.inside) all))) (sym c.in_ok-push-in-If.ensures.ok)
+    subst (λ (all : List (NumExpr × TypedBlock)). Done (told_in_turn (map (arm_at c.args.inside) (take (c.loop-arm.arm-index + 1) arms))) c.args.known.now c.check_arm.new.known (joined (map (parts_at c.args.inside) all))) (sym c.in_ok-push-in-If.ensures.ok)
     (run_more (arm_at c.args.inside) (parts_at c.args.inside) arms c.loop-arm.arm-index c.arm-item.result c.args.known.now c.loop-arm.known c.check_arm.new.known c.loop-arm.all c.in_ok-typed-in-If.typed
     c.loop-arm-test.true c.arm-item.is c.loop-arm.invariant c.in_ok-typed-in-If.ensures)
 
@@ -125,17 +125,17 @@ pub check_kind-returns-in_err-otherwise-in-If : goal.check_kind-returns-in_err-o
 check_kind-returns-in_err-otherwise-in-If t c =
     let parts = joined (map (parts_at c.args.inside) c.loop-arm.all) in
     let other = option_map (λ b. of_block b c.args.inside) c.in-If.otherwise in
-    let arms = subst (λ (l : List (Expr × Block)). Done (in_turn (map (arm_at c.args.inside) l)) c.args.known.now c.loop-arm.known parts) c.as_slice-arm-items.ensures
+    let arms = subst (λ (l : List (Expr × Block)). Done (told_in_turn (map (arm_at c.args.inside) l)) c.args.known.now c.loop-arm.known parts) c.as_slice-arm-items.ensures
     (run_ends (arm_at c.args.inside) c.as_slice-arm-items.result.now c.loop-arm.arm-index c.args.known.now c.loop-arm.known parts (omega arith) c.loop-arm.invariant) in
     rw c.in-If.is (rw (if_is c.in-If.arms c.in-If.otherwise c.args.inside c.args.place)
     (does_err (if_told (map (arm_at c.args.inside) c.in-If.arms) other) (λ s. stmt_parts s c.args.inside) c.args.known.now _ _ c.in_err-otherwise-in-If.field-0.0 c.from_residual-in_err-otherwise-in-If.ensures.1
-    (refused_next (in_turn (map (arm_at c.args.inside) c.in-If.arms)) (otherwise_told other) c.args.known.now c.loop-arm.known parts c.in_err-otherwise-in-If.field-0.0 arms c.in_err-otherwise-in-If.ensures)))
+    (refused_next (told_in_turn (map (arm_at c.args.inside) c.in-If.arms)) (otherwise_told other) c.args.known.now c.loop-arm.known parts c.in_err-otherwise-in-If.field-0.0 arms c.in_err-otherwise-in-If.ensures)))
 
 pub check_kind-returns-in_ok-otherwise-in-If : goal.check_kind-returns-in_ok-otherwise-in-If
 check_kind-returns-in_ok-otherwise-in-If t c =
     let parts = joined (map (parts_at c.args.inside) c.loop-arm.all) in
     let other = option_map (λ b. of_block b c.args.inside) c.in-If.otherwise in
-    let arms = subst (λ (l : List (Expr × Block)). Done (in_turn (map (arm_at c.args.inside) l)) c.args.known.now c.loop-arm.known parts) c.as_slice-arm-items.ensures
+    let arms = subst (λ (l : List (Expr × Block)). Done (told_in_turn (map (arm_at c.args.inside) l)) c.args.known.now c.loop-arm.known parts) c.as_slice-arm-items.ensures
     (run_ends (arm_at c.args.inside) c.as_slice-arm-items.result.now c.loop-arm.arm-index c.args.known.now c.loop-arm.known parts (omega arith) c.loop-arm.invariant) in
     rw c.in-If.is (rw (if_is c.in-If.arms c.in-If.otherwise c.args.inside c.args.place, if_stmt c.loop-arm.all c.in_ok-otherwise-in-If.otherwise c.args.inside)
-    (done_next (in_turn (map (arm_at c.args.inside) c.in-If.arms)) (otherwise_told other) c.args.known.now c.loop-arm.known c.check_otherwise.new.known parts (otherwise_parts (option_map (λ b. block_parts b c.args.inside) c.in_ok-otherwise-in-If.otherwise)) arms c.in_ok-otherwise-in-If.ensures))
+    (done_next (told_in_turn (map (arm_at c.args.inside) c.in-If.arms)) (otherwise_told other) c.args.known.now c.loop-arm.known c.check_otherwise.new.known parts (otherwise_parts (option_map (λ b. block_parts b c.args.inside) c.in_ok-otherwise-in-If.otherwise)) arms c.in_ok-otherwise-in-If.ensures))

@@ -17,6 +17,6 @@ returns-in-Err-clause-called g c =
 pub returns-clause-called : goal.returns-clause-called
 returns-clause-called g c =
     let key = rw c.as_slice.ensures at c.in-Ok.ensures.read in
-    let value = ap (λ h. value_at c.args.memory.now h c.args.value) (sym c.shape_of.ensures) ∙ sym c.in-Some-value_at.ensures.value in
+    let value = ap (λ h. value_at c.args.memory.now h c.args.value) (sym c.shape_of_kind.ensures) ∙ sym c.in-Some-value_at.ensures.value in
     let told = rw c.part-object.ensures at c.tell.ensures.called in
     range-some _ _ c.in-Some.decl.now _ _ _ _ (sym c.in-Some.ensures) (read-some _ _ c.in-Ok.key _ _ _ _ key (read-some _ _ c.in-Some-value_at.value _ _ _ _ value told))

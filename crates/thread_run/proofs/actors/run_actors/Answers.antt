@@ -3,7 +3,7 @@ use Rattle.std.specs.List.{remove}
 use Rattle.stamped.specs.Traces.{clock_of}
 use Rattle.actor_plan.specs.Plans.{Plan}
 use Rattle.run_ends.specs.Ends.{latest}
-use Rattle.cpu_worker.specs.Worlds.{cpus_in, sets_in, AreTurnsOf, IsPlanIn}
+use Rattle.cpu_worker.specs.Worlds.{world_cpus, sets_in, AreTurnsOf, IsPlanIn}
 use Rattle.turn_lock.specs.History.{Each}
 use Rattle.run_base.specs.Jobs.{HavePlans}
 use Rattle.thread_run.specs.Acts.{ArePlansIn, HaveGone, replay_in}
@@ -20,17 +20,17 @@ remove-own_turns-requires g c = let e = c.requires.many in let l = c.len-cpus.en
 
 pub begin-requires-clause-turns : goal.begin-requires-clause-turns
 begin-requires-clause-turns g c = subst (λ a. AreTurnsOf (sets_in c.args.world.now) a c.remove-own_turns.result) (sym (c.new-trace.ensures.actor ∙ c.len-cpus.ensures))
-    (main_turns (sets_in c.args.world.now) (cpus_in c.args.world.now) c.args.turns.items c.remove-own_turns.result c.requires.many (c.remove-own_turns.ensures.value ∙ ap (λ n. get_or c.args.turns.items n c.remove-own_turns.result) c.len-cpus.ensures) c.requires.turns)
+    (main_turns (sets_in c.args.world.now) (world_cpus c.args.world.now) c.args.turns.items c.remove-own_turns.result c.requires.many (c.remove-own_turns.ensures.value ∙ ap (λ n. get_or c.args.turns.items n c.remove-own_turns.result) c.len-cpus.ensures) c.requires.turns)
 
 pub begin-requires-clause-plan : goal.begin-requires-clause-plan
 begin-requires-clause-plan g c = subst (λ a. IsPlanIn c.args.world.now a (g.B.Bodies.plan c.remove-own.result)) (sym (c.new-trace.ensures.actor ∙ c.len-cpus.ensures))
     (main_plan g.B.Bodies.plan c.args.world.now c.args.bodies.items c.remove-own.result c.requires.actors (c.remove-own.ensures.value ∙ ap (λ n. get_or c.args.bodies.items n c.remove-own.result) c.len-cpus.ensures) c.requires.plans)
 
 pub run_cpus-requires-clause-cpus : goal.run_cpus-requires-clause-cpus
-run_cpus-requires-clause-cpus g c lifetimes bounds = ap length c.remove-own.ensures.items ∙ ap (λ n. length (remove c.args.bodies.items n)) c.len-cpus.ensures ∙ less_long (cpus_in c.args.world.now) c.args.bodies.items c.requires.actors
+run_cpus-requires-clause-cpus g c lifetimes bounds = ap length c.remove-own.ensures.items ∙ ap (λ n. length (remove c.args.bodies.items n)) c.len-cpus.ensures ∙ less_long (world_cpus c.args.world.now) c.args.bodies.items c.requires.actors
 
 pub run_cpus-requires-clause-many : goal.run_cpus-requires-clause-many
-run_cpus-requires-clause-many g c lifetimes bounds = ap length c.remove-own_turns.ensures.items ∙ ap (λ n. length (remove c.args.turns.items n)) c.len-cpus.ensures ∙ less_long (cpus_in c.args.world.now) c.args.turns.items c.requires.many
+run_cpus-requires-clause-many g c lifetimes bounds = ap length c.remove-own_turns.ensures.items ∙ ap (λ n. length (remove c.args.turns.items n)) c.len-cpus.ensures ∙ less_long (world_cpus c.args.world.now) c.args.turns.items c.requires.many
 
 pub run_cpus-requires-clause-plans : goal.run_cpus-requires-clause-plans
 run_cpus-requires-clause-plans g c lifetimes bounds = subst (ArePlansIn g.B.Bodies.plan c.args.world.now) (sym (c.remove-own.ensures.items ∙ ap (remove c.args.bodies.items) c.len-cpus.ensures))
@@ -38,11 +38,11 @@ run_cpus-requires-clause-plans g c lifetimes bounds = subst (ArePlansIn g.B.Bodi
 
 pub run_cpus-requires-clause-turns : goal.run_cpus-requires-clause-turns
 run_cpus-requires-clause-turns g c lifetimes bounds = subst (AreTurnsFrom (sets_in c.args.world.now) 0) (sym (c.remove-own_turns.ensures.items ∙ ap (remove c.args.turns.items) c.len-cpus.ensures))
-    (cpu_turns (sets_in c.args.world.now) (cpus_in c.args.world.now) c.args.turns.items c.remove-own_turns.result c.requires.many (c.remove-own_turns.ensures.value ∙ ap (λ n. get_or c.args.turns.items n c.remove-own_turns.result) c.len-cpus.ensures) c.requires.turns)
+    (cpu_turns (sets_in c.args.world.now) (world_cpus c.args.world.now) c.args.turns.items c.remove-own_turns.result c.requires.many (c.remove-own_turns.ensures.value ∙ ap (λ n. get_or c.args.turns.items n c.remove-own_turns.result) c.len-cpus.ensures) c.requires.turns)
 
 pub run_cpus-requires-clause-unused : goal.run_cpus-requires-clause-unused
 run_cpus-requires-clause-unused g c lifetimes bounds = subst (Each AreUnused) (sym (c.remove-own_turns.ensures.items ∙ ap (remove c.args.turns.items) c.len-cpus.ensures))
-    (cpu_unused (sets_in c.args.world.now) (cpus_in c.args.world.now) c.args.turns.items c.remove-own_turns.result c.requires.many (c.remove-own_turns.ensures.value ∙ ap (λ n. get_or c.args.turns.items n c.remove-own_turns.result) c.len-cpus.ensures) c.requires.unused)
+    (cpu_unused (sets_in c.args.world.now) (world_cpus c.args.world.now) c.args.turns.items c.remove-own_turns.result c.requires.many (c.remove-own_turns.ensures.value ∙ ap (λ n. get_or c.args.turns.items n c.remove-own_turns.result) c.len-cpus.ensures) c.requires.unused)
 
 -- the second walk's turns and plan are the first's
 pub end-requires-clause-turns : goal.end-requires-clause-turns
@@ -57,7 +57,7 @@ end-requires-clause-plan g c =
 
 pub returns : goal.returns
 returns g c = λ plans have.
-    let P = g.B.Bodies.plan in let w = c.args.world.now in let n = cpus_in c.args.world.now in
+    let P = g.B.Bodies.plan in let w = c.args.world.now in let n = world_cpus c.args.world.now in
     let own_at = c.remove-own.ensures.value ∙ ap (λ k. get_or c.args.bodies.items k c.remove-own.result) c.len-cpus.ensures in
     let turns_at = c.remove-own_turns.ensures.value ∙ ap (λ k. get_or c.args.turns.items k c.remove-own_turns.result) c.len-cpus.ensures in
     let told = cpu_told P w c.args.bodies.items c.remove-own.result c.requires.actors own_at plans have in
