@@ -18,4 +18,4 @@ pub aggs_more : (rows : List (List Value × Agg)) (n : ℕ) (row : List Value ×
 aggs_more rows n row below item held h = subst AreHeldAggs (sym (drop_more rows n row below ∙ ap (λ (y : List Value × Agg). y ∷ drop (n + 1) rows) (sym item))) (held, h)
 
 pub aggs_none : (rows : List (List Value × Agg)) (n : ℕ) → length rows ≤ n → AreHeldAggs (drop n rows)
-aggs_none rows n h = subst AreHeldAggs (sym (drop_all rows n h)) tt
+aggs_none rows n h = subst AreHeldAggs (sym (drop_all n rows h)) tt

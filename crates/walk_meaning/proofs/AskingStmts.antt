@@ -21,7 +21,7 @@ use Rattle.bt_core.specs.declared.value.Value.{Value}
 use Rattle.bt_core.specs.declared.value.Value.TheVariants.{Int}
 use Rattle.bt_core.specs.Kinds.{HasShape, IsOfShape}
 use Rattle.bt_core.specs.Interaction.{Interaction, Ended, Asks}
-use Rattle.bt_core.specs.Ports.{Setting, CanStep, IsReplyOf}
+use Rattle.bt_core.specs.Ports.{Setting, CanStep}
 use Rattle.typed_tree.specs.declared.expr.AnyExpr.{AnyExpr}
 use Rattle.typed_tree.specs.declared.expr.NumExpr.{NumExpr}
 use Rattle.typed_tree.specs.declared.stmt.Jump.TheVariants as jumps
