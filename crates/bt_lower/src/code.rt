@@ -59,8 +59,12 @@ fn take_back(alloc: Global, instr: &Instr, stack: &mut Items<Shape>) -> Result<(
         Instr::Unary(_) | Instr::Truth => retype(alloc, stack, 1, &[Shape::Int]),
         Instr::Binary(_) => retype(alloc, stack, 1, &[Shape::Int, Shape::Int]),
         Instr::Compare { .. } => retype(alloc, stack, 1, &[Shape::Str, Shape::Str]),
-        Instr::Get { key, .. } | Instr::ReadAgg { key, .. } | Instr::StepMap { key, .. } =>
-            retype(alloc, stack, 1, key.as_slice()),
+        Instr::Get { key, .. } | Instr::ReadAgg { key, .. } | Instr::StepMap { key, .. } => retype(
+            alloc,
+            stack,
+            1,
+            key.as_slice(),
+        ),
         Instr::Delete { key, .. } | Instr::Count { key, .. } => retype(
             alloc,
             stack,

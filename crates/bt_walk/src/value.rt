@@ -86,9 +86,7 @@ pub fn number<P: Port>(
             let read = read(alloc, view, *map, keys.as_slice(), frame, port)?;
             Ok(number_of(&read))
         }
-        NumExpr::Agg { map, keys } => {
-            read_agg(alloc, view, *map, keys.as_slice(), frame, port)
-        }
+        NumExpr::Agg { map, keys } => read_agg(alloc, view, *map, keys.as_slice(), frame, port),
         NumExpr::StepVar { var, plus, prefix } => Ok(step_variable(*var, *plus, *prefix, frame)),
         NumExpr::StepMap {
             map,
