@@ -21,6 +21,7 @@ instr_served maps (i.Binary op) = tt
 instr_served maps (i.Compare equal) = tt
 instr_served maps i.Truth = tt
 instr_served maps (i.Get m key shape) = refl
+instr_served maps (i.ReadAgg m key) = refl
 instr_served maps (i.Set m key shape) = refl
 instr_served maps (i.Delete m key) = refl
 instr_served maps (i.Update m key op) = refl

@@ -70,7 +70,7 @@ fn a_body_that_stops_calls_the_helper_and_ends(rt: HostRuntime) -> Result<(), Fa
 }
 
 /// Worked bodies, and how many slots their programs have at most.
-const FEW: [(&[u8], usize); 7] = [
+const FEW: [(&[u8], usize); 8] = [
     (
         b"tracepoint:raw_syscalls:sys_enter { @[comm] = count(); }",
         25,
@@ -94,6 +94,10 @@ const FEW: [(&[u8], usize); 7] = [
         41,
     ),
     (b"tracepoint:raw_syscalls:sys_enter { @i++; }", 16),
+    (
+        b"tracepoint:raw_syscalls:sys_enter { @c = count(); @x = @c; }",
+        20,
+    ),
 ];
 
 #[test]

@@ -120,15 +120,17 @@ fn decl(alloc: Global, kind: MapKind, shape: Shape) -> Result<MapDecl, Memory>
     })
 }
 
-// A script with a map of numbers, one of strings and one of counts, and the format `%d`.
+// A script with a map of numbers, one of strings, one of counts and one of histograms, and the format `%d`.
 fn script(alloc: Global) -> Result<Typed, Memory> {
     let numbers = decl(alloc, MapKind::Ints, Shape::Int)?;
     let strings = decl(alloc, MapKind::Strs, Shape::Str)?;
     let counts = decl(alloc, MapKind::Aggs(AggKind::Count), Shape::Int)?;
+    let histograms = decl(alloc, MapKind::Aggs(AggKind::Hist), Shape::Int)?;
     let mut maps = Items::new(alloc);
     maps.push(numbers)?;
     maps.push(strings)?;
     maps.push(counts)?;
+    maps.push(histograms)?;
     let mut pieces = Items::new(alloc);
     pieces.push(Piece::Conversion {
         left: false,
@@ -162,7 +164,7 @@ const TO: u64 = 0x3_0000_0010;
 
 const TEXT: u64 = 0x3_0000_0040;
 
-// Calls a helper over a frame with the key 5, the value 9 and the string `cd`, for actor 1 of 2.
+// Calls a helper over a frame with the key 5, the value 9, the number 6 and the string `cd`, for actor 1 of 2.
 fn called(alloc: Global, number: u32, a: u64, b: u64, c: u64) -> Result<Asked, Fail> {
     let typed = script(alloc)?;
     let mut port = Quiet {
@@ -173,6 +175,7 @@ fn called(alloc: Global, number: u32, a: u64, b: u64, c: u64) -> Result<Asked, F
     let mut memory = Regions::new(&context, &[7, 97, 98, 0, 99]);
     memory.store(KEY, &5u64.to_le_bytes());
     memory.store(VALUE, &9u64.to_le_bytes());
+    memory.store(TO, &6u64.to_le_bytes());
     memory.store(TEXT, &[99, 100]);
     let mut helpers = HelperPort::new(&mut port, &typed, 1, 2);
     let answer = helpers.call(alloc, number, [a, b, c, 0, 0], &mut memory);
@@ -259,6 +262,10 @@ fn helpers_of_maps_make_their_steps(rt: HostRuntime) -> Result<(), Fail> {
         (ObjectId::Out, Op::Emit(item)),
     ];
     assert!(rt; are(&print, &wanted));
+    let read = called(alloc, Helper::ReadAgg.number(), 2, KEY, TO)?;
+    let wanted = [(first, Op::Read(map)), (second, Op::Read(map))];
+    assert!(rt; are(&read, &wanted));
+    assert_eq!(rt; read.word, 0);
     let clear = called(alloc, Helper::Clear.number(), 0, 0, 0)?;
     let wanted = [
         (numbers(0), Op::Clear),
@@ -299,7 +306,7 @@ fn the_other_helpers_make_their_steps(rt: HostRuntime) -> Result<(), Fail> {
 fn helpers_refuse_what_is_out_of_range(rt: HostRuntime) -> Result<(), Fail> {
     for (number, a, b, c, fault) in [
         (0, 0, 0, 0, PortFault::Helper),
-        (12, 0, 0, 0, PortFault::Helper),
+        (13, 0, 0, 0, PortFault::Helper),
         (1, 2, KEY, TO, PortFault::Helper),
         (1, 0x1_0000_0000, KEY, TO, PortFault::Helper),
         (4, 0, KEY, 1, PortFault::Helper),
@@ -311,6 +318,11 @@ fn helpers_refuse_what_is_out_of_range(rt: HostRuntime) -> Result<(), Fail> {
         (2, 1, TEXT, 0x2_0000_0000, PortFault::Address),
         (3, 0, 0x3_0000_01f9, 0, PortFault::Address),
         (11, 0x3_0000_01c1, 0, 0, PortFault::Address),
+        (12, 0, KEY, TO, PortFault::Helper),
+        (12, 3, KEY, TO, PortFault::Helper),
+        (12, 0x1_0000_0002, KEY, TO, PortFault::Helper),
+        (12, 2, 0x3_0000_01f9, TO, PortFault::Address),
+        (12, 2, KEY, 0x3_0000_01f9, PortFault::Address),
     ] {
         let refused = called(rt.alloc(), number, a, b, c)?;
         assert_eq!(rt; refused.answer, Err(fault), "{number} {a:x} {b:x} {c:x}");

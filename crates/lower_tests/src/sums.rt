@@ -4,7 +4,7 @@ use bt_lower::lower::lower;
 use std::test::Fail;
 
 /// The text of a script with one body, and the bytes of frame and the slots of code that the body needs.
-const NEEDS: [(&[u8], u64, u64); 4] = [
+const NEEDS: [(&[u8], u64, u64); 5] = [
     // 24 of the body, and the command's name in the key: 64. 32 of the body, 24 of the aggregation, 24 of the name.
     (
         b"tracepoint:raw_syscalls:sys_enter { @[comm] = count(); }",
@@ -13,6 +13,8 @@ const NEEDS: [(&[u8], u64, u64); 4] = [
     ),
     // The step of a map needs 16 bytes and 32 slots.
     (b"tracepoint:t:e { @x++; }", 40, 64),
+    // 32 of the body, 24 of the aggregation, 24 of the assignment and 16 of the read; the number that is read: 8 bytes.
+    (b"tracepoint:t:e { @c = count(); @x = @c; }", 32, 96),
     // `args.v / 2 > 0`: 8 bytes on the left, and 8 more on the right; 8 + 12 + 4 + 12 + 4 slots and 8 of the predicate; the
     // sum adds 24 and 8.
     (

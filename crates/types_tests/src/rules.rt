@@ -5,7 +5,7 @@ use expr_types::fault::{Fault, Rule, TypeError};
 use std::test::Fail;
 
 /// Scripts over the formats `t:e` and `u:f`, with the rule that each breaks first, and the line and column of its place.
-const REFUSED: [(&[u8], Rule, u32, u32); 46] = [
+const REFUSED: [(&[u8], Rule, u32, u32); 49] = [
     (b"t:t:e { @x = args.nope; }", Rule::UnknownField, 1, 19),
     (b"t:t:e, t:u:f { @x = args.c; }", Rule::UnknownField, 1, 26),
     (b"t:t:e { @x = args.o; }", Rule::FieldNotReadable, 1, 19),
@@ -97,16 +97,34 @@ const REFUSED: [(&[u8], Rule, u32, u32); 46] = [
         14,
     ),
     (
-        b"BEGIN { @x = count(); @y = @x; }",
+        b"BEGIN { @x = hist(1); @y = @x; }",
         Rule::AggregationRead,
         1,
         28,
     ),
     (
-        b"BEGIN { @x[1] = count(); @y[@x[1]] = 1; }",
+        b"BEGIN { @x[1] = lhist(1, 0, 9, 1); @y[@x[1]] = 1; }",
         Rule::AggregationRead,
         1,
-        29,
+        39,
+    ),
+    (
+        b"BEGIN { @x[1] = hist(1); @y = @x; }",
+        Rule::AggregationRead,
+        1,
+        31,
+    ),
+    (
+        b"BEGIN { @x[1] = count(); @y = @x; }",
+        Rule::OtherKeys,
+        1,
+        31,
+    ),
+    (
+        b"BEGIN { @x = count(); @y = @x == \"a\"; }",
+        Rule::WrongType,
+        1,
+        28,
     ),
     (b"BEGIN { @x = args.v; }", Rule::NoEvent, 1, 14),
     (b"t:t:e, END { @x = args.v; }", Rule::NoEvent, 1, 19),
@@ -136,7 +154,7 @@ fn the_first_rule_that_is_broken_is_told(rt: HostRuntime) -> Result<(), Fail> {
 }
 
 /// Scripts over the same that break none: the nearest to those above.
-const ACCEPTED: [&[u8]; 22] = [
+const ACCEPTED: [&[u8]; 25] = [
     b"t:t:e { @x = args.v; }",
     b"t:t:e { @x = args.p; @y = args.c; @z = args.d; }",
     b"BEGIN { @x = 1; @x = 2; }",
@@ -155,6 +173,9 @@ const ACCEPTED: [&[u8]; 22] = [
     b"BEGIN { printf(\"%d %s\\n\", 1, \"a\"); printf(\"%%\"); }",
     b"BEGIN { @x = lhist(1, 0, 1000, 1); }",
     b"BEGIN { @x = count(); print(@x); }",
+    b"BEGIN { @x = count(); @y = @x; if (@x > 1) { @y = 2; } }",
+    b"BEGIN { @x[1, \"a\"] = sum(2); @y = avg(2); @z[@x[1, \"a\"]] = min(@y); $v = @z[3]; }",
+    b"BEGIN { @x = max(1); printf(\"%d\", @x); @x = max(@x + 1); }",
     b"t:t:e, t:t:e { @x = args.v; }",
     b"BEGIN { while (1) { break; continue; } exit(); return; }",
     b"tracepoint:t:* { @ = sum(args.v); }",

@@ -28,7 +28,8 @@ use Rattle.map_ops.specs.Holders.{holder, kind_in, sweep_op}
 use Rattle.walk_meaning.specs.Walk.{walk}
 use Rattle.walk_meaning.specs.Served.{CanWalk}
 use Rattle.walk_meaning.proofs.Asking.{IsFineCall}
-use Rattle.walk_meaning.proofs.AskingStmts.{IsReplyIn, walk-fine, weaker-calls}
+use Rattle.walk_meaning.proofs.Asking.{IsReplyIn}
+use Rattle.walk_meaning.proofs.AskingStmts.{walk-fine, weaker-calls}
 use Rattle.walk_meaning.proofs.Declared.{same_shapes-equal, served, served_pick}
 
 -- what is found of a list by its number stands in the script's list there

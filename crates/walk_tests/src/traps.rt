@@ -22,7 +22,7 @@ const LATE: Moment = Moment {
     actors: 3,
 };
 
-const RULES: [Row; 27] = [
+const RULES: [Row; 28] = [
     // A key's parts from left to right, then the right side, then the set.
     (
         b"BEGIN { @m[@a, @b] = @c; @a = 0; @b = 0; @c = 0; }",
@@ -374,6 +374,29 @@ const RULES: [Row; 27] = [
                 5,
                 1,
             ),
+        ],
+        Ending::End,
+    ),
+    // An aggregation is read after its key, from the tables of all actors; where none has the key it is 0.
+    (
+        b"BEGIN { @c[1] = count(); @x = @c[@a] + @c[2]; }",
+        0,
+        MAIN,
+        &[
+            Says::Value(Part::N(1)),
+            Says::Counts(&[(&[Part::N(1)], 2), (&[Part::N(3)], 9)]),
+            Says::Counts(&[(&[Part::N(1)], 5)]),
+            Says::Counts(&[]),
+            Says::Counts(&[(&[Part::N(1)], 8)]),
+            Says::Counts(&[]),
+            Says::Counts(&[(&[Part::N(3)], 4)]),
+        ],
+        &[
+            Does::Add(0, &[Part::N(1)], 1),
+            Does::Get(2, &[]),
+            Does::ReadTables(0),
+            Does::ReadTables(0),
+            Does::Set(1, &[], Part::N(7)),
         ],
         Ending::End,
     ),

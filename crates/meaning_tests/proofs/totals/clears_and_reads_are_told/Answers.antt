@@ -7,10 +7,10 @@ use Rattle.typed_tree.specs.declared.body.TypedBody.{TypedBody}
 use Rattle.typed_tree.specs.Bodies.{tree_parts}
 use Rattle.typed_tree.specs.Parts.{Part}
 use Rattle.bt_meaning.specs.Totals.{Keeps}
-use Rattle.meaning_tests.specs.Bodies.{clear_statement, count_statement, print_statement}
+use Rattle.meaning_tests.specs.Bodies.{clear_statement, count_statement, print_statement, read_statement}
 use Rattle.meaning_tests.specs.Written.{counts_decl}
-use Rattle.meaning_tests.proofs.BodyParts.{clear_made, clear_parts, count_made, count_parts, parts_are, parts_with, print_made, print_parts}
-use Rattle.meaning_tests.proofs.totals.clears_are_told.Goals as goal
+use Rattle.meaning_tests.proofs.BodyParts.{clear_made, clear_parts, count_made, count_parts, parts_are, parts_with, print_made, print_parts, read_made, read_parts}
+use Rattle.meaning_tests.proofs.totals.clears_and_reads_are_told.Goals as goal
 
 pub returns-clause-prints : goal.returns-clause-prints
 returns-clause-prints c = λ script has. (
@@ -33,3 +33,11 @@ returns-clause-clears c = λ script has only.
     let parts = recursion_from_All Keeps (parts_with (print_parts ∷ clear_parts ∷ [])) (subst (λ (l : List Part). All Keeps l)
     (parts_are (print_statement ∷ clear_statement ∷ []) (print_parts ∷ clear_parts ∷ []) has.tick_body has.at_ticks (λ i. print_made i ∷ clear_made i ∷ [])) all.1.0) in
     parts.1.1.0)
+
+pub returns-clause-reads : goal.returns-clause-reads
+returns-clause-reads c = λ script has only.
+    (let all = recursion_from_All (λ (body : TypedBody). All Keeps (tree_parts body.tree)) (has.event_body ∷ has.tick_body ∷ [])
+    (subst (λ (l : List TypedBody). All (λ (body : TypedBody). All Keeps (tree_parts body.tree)) l) has.bodies only.bodies) in
+    let parts = recursion_from_All Keeps (parts_with (print_parts ∷ read_parts ∷ [])) (subst (λ (l : List Part). All Keeps l)
+    (parts_are (print_statement ∷ read_statement ∷ []) (print_parts ∷ read_parts ∷ []) has.tick_body has.at_ticks (λ i. print_made i ∷ read_made i ∷ [])) all.1.0) in
+    parts.1.1.1.1.0)
