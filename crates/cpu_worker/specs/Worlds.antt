@@ -7,11 +7,11 @@ use Rattle.actor_plan.specs.Ready as ready
 use Rattle.stamped.specs.declared.trace.Trace.{Trace}
 use Rattle.stamped.specs.SetSteps.{AreOwn}
 use Rattle.percpu_tables.specs.declared.tables.Tables.{Tables}
-use Rattle.percpu_tables.specs.Tables as tables
+use Rattle.percpu_tables.specs.Tables.{AreTableTurns, table_ids}
 use Rattle.shared_maps.specs.declared.maps.SharedMaps.{SharedMaps}
-use Rattle.shared_maps.specs.Maps as parts
+use Rattle.shared_maps.specs.Maps.{ArePartTurns, part_ids}
 use Rattle.side_locks.specs.declared.sides.SideLocks.{SideLocks}
-use Rattle.side_locks.specs.Sides as sides
+use Rattle.side_locks.specs.Sides.{AreSideTurns}
 use Rattle.side_locks.specs.Steps as side_steps
 use Rattle.side_locks.specs.Steps.{OwnBoth}
 use Rattle.cpu_worker.specs.declared.world.World.{World}
@@ -46,21 +46,21 @@ pub record AreBy (actor : ℕ) (turns : WorkerTurns) : Type 0 where
 
 -- the turns are this actor's, at these sets
 pub record AreTurnsOf (sets : Sets) (actor : ℕ) (turns : WorkerTurns) : Type 0 where
-  pub maps : parts.IsOf sets.maps turns.maps
-  pub tables : tables.IsOf sets.tables turns.tables
-  pub sides : sides.IsOf sets.sides turns.sides
+  pub maps : ArePartTurns sets.maps turns.maps
+  pub tables : AreTableTurns sets.tables turns.tables
+  pub sides : AreSideTurns sets.sides turns.sides
   pub by : AreBy actor turns
 
 -- what of the trace is at each object of the sets is the turn's own list there
 pub record AreOwnIn (sets : Sets) (turns : WorkerTurns) (trace : Trace) : Type 0 where
-  pub maps : AreOwn (parts.ids_of sets.maps) turns.maps.1 trace
-  pub tables : AreOwn (tables.ids_of sets.tables) turns.tables.1 trace
+  pub maps : AreOwn (part_ids sets.maps) turns.maps.1 trace
+  pub tables : AreOwn (table_ids sets.tables) turns.tables.1 trace
   pub sides : OwnBoth turns.sides trace
 
 -- at each set, what of the trace is at its objects is the turns' own lists there, if it was so before
 pub record KeepsOwn (sets : Sets) (old_turns : WorkerTurns) (old : Trace) (new_turns : WorkerTurns) (new : Trace) : Type 0 where
-  pub maps : AreOwn (parts.ids_of sets.maps) old_turns.maps.1 old → AreOwn (parts.ids_of sets.maps) new_turns.maps.1 new
-  pub tables : AreOwn (tables.ids_of sets.tables) old_turns.tables.1 old → AreOwn (tables.ids_of sets.tables) new_turns.tables.1 new
+  pub maps : AreOwn (part_ids sets.maps) old_turns.maps.1 old → AreOwn (part_ids sets.maps) new_turns.maps.1 new
+  pub tables : AreOwn (table_ids sets.tables) old_turns.tables.1 old → AreOwn (table_ids sets.tables) new_turns.tables.1 new
   pub sides : OwnBoth old_turns.sides old → OwnBoth new_turns.sides new
 
 -- the world's recording can be replayed with what is attached
