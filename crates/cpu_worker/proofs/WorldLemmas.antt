@@ -20,7 +20,7 @@ use Rattle.shared_maps.specs.Maps.{part_maps, part_ids}
 use Rattle.shared_maps.specs.Parts.{Part, part_at, parts_in, parts_from}
 use Rattle.side_locks.specs.Steps.{OwnBoth}
 use Rattle.side_locks.specs.Turns.{Both}
-use Rattle.cpu_worker.specs.declared.world.World.{World}
+use Rattle.cpu_worker.specs.declared.world.SharedWorld.{SharedWorld}
 use Rattle.cpu_worker.specs.declared.world.WorkerTurns.{WorkerTurns}
 use Rattle.cpu_worker.specs.Worlds.{Sets, setting_in, KeepsOwn, CanReplay, IsPlanIn}
 
@@ -93,7 +93,7 @@ keeps_more sets t a u b v c h k = record { maps = λ own. k.maps (h.maps own); t
 
 -- ---- bodies that are made for an actor of a world can be run over it
 
-pub ready : (world : World) (actor : ℕ) (plan : Plan) → CanReplay world → IsPlanIn world actor plan
+pub ready : (world : SharedWorld) (actor : ℕ) (plan : Plan) → CanReplay world → IsPlanIn world actor plan
     → actors.IsReady plan world.recording.now world.attached.now (setting_in world actor)
 ready world actor plan can is = record {
   valid = can.valid;

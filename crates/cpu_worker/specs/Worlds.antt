@@ -14,19 +14,19 @@ use Rattle.side_locks.specs.declared.sides.SideLocks.{SideLocks}
 use Rattle.side_locks.specs.Sides.{AreSideTurns}
 use Rattle.side_locks.specs.Steps as side_steps
 use Rattle.side_locks.specs.Steps.{OwnBoth}
-use Rattle.cpu_worker.specs.declared.world.World.{World}
+use Rattle.cpu_worker.specs.declared.world.SharedWorld.{SharedWorld}
 use Rattle.cpu_worker.specs.declared.world.WorkerTurns.{WorkerTurns}
 
 -- how many CPUs there are, which is also the main actor's number
-abbrev pub world_cpus : World → ℕ
+abbrev pub world_cpus : SharedWorld → ℕ
 world_cpus world = length world.recording.now.cpus
 
 -- the maps of the script
-abbrev pub maps_in : World → List MapDecl
+abbrev pub maps_in : SharedWorld → List MapDecl
 maps_in world = world.typed.now.maps
 
 -- for an actor: there are the CPUs and the main actor, the attached ticks, and the script's maps
-abbrev pub setting_in : World → ℕ → Setting
+abbrev pub setting_in : SharedWorld → ℕ → Setting
 setting_in world actor = record { actor = actor; actors = world_cpus world + 1; ticks = length world.attached.now.ticks; maps = maps_in world }
 
 -- the three sets of locks
@@ -35,7 +35,7 @@ pub record Sets : Type 0 where
   pub tables : Tables
   pub sides : SideLocks
 
-abbrev pub sets_in : World → Sets
+abbrev pub sets_in : SharedWorld → Sets
 sets_in world = record { maps = world.maps.now; tables = world.tables.now; sides = world.sides.now }
 
 -- the turns are this actor's
@@ -64,9 +64,9 @@ pub record KeepsOwn (sets : Sets) (old_turns : WorkerTurns) (old : Trace) (new_t
   pub sides : OwnBoth old_turns.sides old → OwnBoth new_turns.sides new
 
 -- the world's recording can be replayed with what is attached
-abbrev pub CanReplay : World → Type 0
+abbrev pub CanReplay : SharedWorld → Type 0
 CanReplay world = ready.CanReplay world.recording.now world.attached.now
 
 -- bodies with this plan are made for this actor of the world
-abbrev pub IsPlanIn : World → ℕ → Plan → Type 0
+abbrev pub IsPlanIn : SharedWorld → ℕ → Plan → Type 0
 IsPlanIn world = ready.IsPlanFor world.recording.now world.attached.now (maps_in world)

@@ -19,7 +19,7 @@ use typed_tree::script::Typed;
 ///
 /// The sets are those of the script's maps and of the attached ticks, for as many CPUs as were recorded and the main actor.
 #[derive(Drop)]
-pub struct World<'w> {
+pub struct SharedWorld<'w> {
     pub recording: &'w Recording,
     pub attached: &'w Attached,
     pub typed: &'w Typed,

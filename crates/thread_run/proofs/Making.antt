@@ -43,7 +43,7 @@ use Rattle.run_ends.specs.Closed.{OwnRows, history_in}
 use Rattle.run_ends.specs.Ends.{HasParts}
 use Rattle.run_ends.proofs.Closing.{full_rows}
 use Rattle.run_ends.proofs.Ending.{each_both, are_traces, parts, cpu_traces}
-use Rattle.cpu_worker.specs.declared.world.World.{World}
+use Rattle.cpu_worker.specs.declared.world.SharedWorld.{SharedWorld}
 use Rattle.cpu_worker.specs.declared.world.WorkerTurns.{WorkerTurns}
 use Rattle.cpu_worker.specs.Worlds.{world_cpus, maps_in, sets_in, setting_in}
 use Rattle.thread_run.specs.declared.tasks.Gathered.{Gathered}
@@ -54,13 +54,13 @@ use Rattle.thread_run.proofs.Counting.{replayed, counted}
 use Rattle.thread_run.proofs.Objects.{AreShut, given, pairs, maps_stand, tables_stand, own_of_part, reply_of_part, out_kind, out_stands}
 use Rattle.thread_run.proofs.Turning.{maps_rows, tables_rows, clock_rows, out_rows, maps_own, tables_own, clock_own, out_own, own_long}
 
-all_can : (world : World) (ts : List Trace) → Each (CanMake world) ts → Each (λ (s : Step). CanStep (setting_in world 0) s.object s.op) (all_steps ts)
+all_can : (world : SharedWorld) (ts : List Trace) → Each (CanMake world) ts → Each (λ (s : Step). CanStep (setting_in world 0) s.object s.op) (all_steps ts)
 all_can world [] h = tt
 all_can world (t ∷ ts) h = each_both (λ (s : Step). CanStep (setting_in world 0) s.object s.op) (steps_of t) (all_steps ts) h.0 (all_can world ts h.1)
 
 -- ---- all turns are given back
 
-module _ (world : World) (plans : ℕ → Plan) (all : Gathered) (done : AreDone (replay_in world plans) world all) where
+module _ (world : SharedWorld) (plans : ℕ → Plan) (all : Gathered) (done : AreDone (replay_in world plans) world all) where
   all_long : length all.turns.items ≡ world_cpus world + 1
   all_long = own_long (sets_in world) all.turns.items all.traces.items done.own
       ∙ ap length done.traces ∙ length-append done.cpus (done.main ∷ []) ∙ ap (λ n. n + 1) done.many
@@ -86,7 +86,7 @@ module _ (world : World) (plans : ℕ → Plan) (all : Gathered) (done : AreDone
     out = (long_outs ∙ all_long ∙ sides_actors ∙ sym world.sides.now.out_actors, out_rows (sets_in world) 0 all.turns.items done.turns);
   }
 
-module _ (world : World) (plans : ℕ → Plan) (own : (actor : ℕ) → (plans actor).actor ≡ actor) (all : Gathered) (done : AreDone (replay_in world plans) world all)
+module _ (world : SharedWorld) (plans : ℕ → Plan) (own : (actor : ℕ) → (plans actor).actor ≡ actor) (all : Gathered) (done : AreDone (replay_in world plans) world all)
     (maps : List (SharedPart × List Entry)) (tables : List (CpuTable × List Entry)) (clock : TickClock × List Entry) (out : OutLog × List Entry) where
   abbrev ws : List WorkerTurns
   ws = all.turns.items
