@@ -5,7 +5,7 @@ ghost use Rattle.bt_core.specs.declared.step.ObjectId.TheVariants.{Shared};
 ghost use Rattle.stamped.specs.Rows.{Row};
 ghost use Rattle.stamped.specs.Traces.{actor_of};
 ghost use Rattle.shared_maps.specs.Parts.{IsPartStep};
-ghost use Rattle.shared_maps.specs.Maps.{maps_of as maps_in, actors_of, IsOf, AreAll};
+ghost use Rattle.shared_maps.specs.Maps.{part_maps, part_actors, ArePartTurns, AreAllPartTurns};
 ghost use Rattle.set_tests.specs.Declared.{one_map, tested};
 
 use crate::fixtures::{greatest, key_of, maps_of};
@@ -41,10 +41,10 @@ fn ask<R: Wait>(
     trace: &mut Trace,
     op: Op,
 ) -> Result<u64, Memory>
-    requires own { IsPartStep (maps_in maps.now) (Shared tested 0) op }
-    requires turns { IsOf maps.now turns.old }
+    requires own { IsPartStep (part_maps maps.now) (Shared tested 0) op }
+    requires turns { ArePartTurns maps.now turns.old }
     requires actor { turns.old.0 ≡ actor_of trace.old }
-    ensures turns { IsOf maps.now turns.new × (turns.new.0 ≡ turns.old.0) }
+    ensures turns { ArePartTurns maps.now turns.new × (turns.new.0 ≡ turns.old.0) }
     ensures actor { actor_of trace.new ≡ actor_of trace.old }
 {
     maps.step(
@@ -70,9 +70,9 @@ fn set_own<R: Wait>(
     turns: &mut Turns,
     times: u32,
 ) -> Result<u64, Memory>
-    requires maps { maps_in maps.now ≡ one_map Ints }
-    requires turns { IsOf maps.now turns.old }
-    ensures { IsOf maps.now turns.new × (turns.new.0 ≡ turns.old.0) }
+    requires maps { part_maps maps.now ≡ one_map Ints }
+    requires turns { ArePartTurns maps.now turns.old }
+    ensures { ArePartTurns maps.now turns.new × (turns.new.0 ≡ turns.old.0) }
 {
     let mut trace = Trace::new(alloc, turns.actor());
     for _ in 0..times {
@@ -91,9 +91,9 @@ fn set_and_note<R: Wait>(
     times: u32,
     notes: &Mutex<Vec<u64>>,
 )
-    requires maps { maps_in maps.now ≡ one_map Ints }
-    requires turns { IsOf maps.now turns.old }
-    ensures { IsOf maps.now turns.new × (turns.new.0 ≡ turns.old.0) }
+    requires maps { part_maps maps.now ≡ one_map Ints }
+    requires turns { ArePartTurns maps.now turns.old }
+    ensures { ArePartTurns maps.now turns.new × (turns.new.0 ≡ turns.old.0) }
 {
     if let Ok(count) = set_own(rt, alloc, maps, turns, times) {
         drop(notes.lock(rt).push(count));
@@ -109,13 +109,13 @@ fn all_set<R: Threads + Wait + Sync>(
     times: u32,
     notes: &Mutex<Vec<u64>>,
 )
-    requires maps { maps_in maps.now ≡ one_map Ints }
+    requires maps { part_maps maps.now ≡ one_map Ints }
     requires any { 0 < length all.old }
-    requires of { (i : ℕ) (d : Row) → i < length all.old → IsOf maps.now (slice_index_or all.old i d) }
+    requires of { (i : ℕ) (d : Row) → i < length all.old → ArePartTurns maps.now (slice_index_or all.old i d) }
     ensures { (i : ℕ) (d : Row) → i < length all.old →
         let before = slice_index_or all.old i d in
         let after = slice_index_or all.new i d in
-        IsOf maps.now after × (after.0 ≡ before.0) }
+        ArePartTurns maps.now after × (after.0 ≡ before.0) }
 {
     let threads = all.len();
     thread::for_each_mut(
@@ -135,10 +135,10 @@ fn everyone_sets<R: Threads + Wait + Sync>(
     times: u32,
     notes: &Mutex<Vec<u64>>,
 )
-    requires maps { maps_in maps.now ≡ one_map Ints }
-    requires some { 0 < actors_of maps.now }
-    requires turns { AreAll maps.now all.old }
-    ensures { AreAll maps.now all.new }
+    requires maps { part_maps maps.now ≡ one_map Ints }
+    requires some { 0 < part_actors maps.now }
+    requires turns { AreAllPartTurns maps.now all.old }
+    ensures { AreAllPartTurns maps.now all.new }
 {
     all_set(rt, alloc, maps, all, times, notes);
 }

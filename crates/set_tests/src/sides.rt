@@ -3,7 +3,7 @@ ghost use Rattle.std.specs.Prelude.{◌≡◌, ℕ, ◌+◌, ◌<◌, ◌^◌, �
 ghost use Rattle.stamped.specs.Traces.{actor_of};
 ghost use Rattle.side_locks.specs.Turns.{Both};
 ghost use Rattle.side_locks.specs.Steps.{IsSideStep, AreBy};
-ghost use Rattle.side_locks.specs.Sides.{kind_of, IsOf, AreAll};
+ghost use Rattle.side_locks.specs.Sides.{side_kind, AreSideTurns, AreAllSideTurns};
 ghost use Rattle.set_tests.specs.Sides.{IsOfOne, SameActor};
 
 use bt_core::item::Item;
@@ -32,10 +32,10 @@ fn ask<R: Wait>(
     object: ObjectId,
     op: Op,
 ) -> Result<bool, Memory>
-    requires own { IsSideStep (kind_of sides.now).ticks object op }
-    requires turns { IsOf sides.now turns.old }
+    requires own { IsSideStep (side_kind sides.now).ticks object op }
+    requires turns { AreSideTurns sides.now turns.old }
     requires actor { AreBy (actor_of trace.old) turns.old }
-    ensures turns { IsOf sides.now turns.new × AreBy (actor_of trace.old) turns.new }
+    ensures turns { AreSideTurns sides.now turns.new × AreBy (actor_of trace.old) turns.new }
     ensures actor { actor_of trace.new ≡ actor_of trace.old }
 {
     sides.step(rt, alloc, turns, trace, object, op, &Open)?;
@@ -52,7 +52,7 @@ fn cross_all<R: Wait>(
     ticks: u32,
     notes: &Mutex<Vec<Crossing>>,
 ) -> Result<(), Memory>
-    requires ticks { (kind_of sides.now).ticks ≡ ticks }
+    requires ticks { (side_kind sides.now).ticks ≡ ticks }
     requires turns { IsOfOne sides.now turns.old }
     ensures { IsOfOne sides.now turns.new × SameActor turns.old turns.new }
 {
@@ -76,7 +76,7 @@ fn all_cross<R: Threads + Wait + Sync>(
     ticks: u32,
     notes: &Mutex<Vec<Crossing>>,
 )
-    requires ticks { (kind_of sides.now).ticks ≡ ticks }
+    requires ticks { (side_kind sides.now).ticks ≡ ticks }
     requires any { 0 < length all.old }
     requires of { (i : ℕ) (d : Both) → i < length all.old → IsOfOne sides.now (slice_index_or all.old i d) }
     ensures { (i : ℕ) (d : Both) → i < length all.old →
@@ -102,9 +102,9 @@ fn everyone_crosses<R: Threads + Wait + Sync>(
     ticks: u32,
     notes: &Mutex<Vec<Crossing>>,
 )
-    requires ticks { (kind_of sides.now).ticks ≡ ticks }
-    requires turns { AreAll sides.now all.old }
-    ensures { AreAll sides.now all.new }
+    requires ticks { (side_kind sides.now).ticks ≡ ticks }
+    requires turns { AreAllSideTurns sides.now all.old }
+    ensures { AreAllSideTurns sides.now all.new }
 {
     all_cross(rt, alloc, sides, all, ticks, notes);
 }

@@ -6,7 +6,7 @@ ghost use Rattle.bt_core.specs.declared.step.ObjectId.TheVariants.{Cpu};
 ghost use Rattle.stamped.specs.Rows.{Row};
 ghost use Rattle.stamped.specs.Traces.{actor_of};
 ghost use Rattle.percpu_tables.specs.Objects.{IsTableStep};
-ghost use Rattle.percpu_tables.specs.Tables.{maps_of as maps_in, actors_of, IsOf, AreAll};
+ghost use Rattle.percpu_tables.specs.Tables.{table_maps, table_actors, AreTableTurns, AreAllTableTurns};
 ghost use Rattle.set_tests.specs.Declared.{one_map};
 
 use crate::fixtures::{greatest, key_of, maps_of};
@@ -43,10 +43,10 @@ fn ask<R: Wait>(
     trace: &mut Trace,
     op: Op,
 ) -> Result<u64, Memory>
-    requires own { IsTableStep (maps_in tables.now) (actors_of tables.now) (Cpu 0) op }
-    requires turns { IsOf tables.now turns.old }
+    requires own { IsTableStep (table_maps tables.now) (table_actors tables.now) (Cpu 0) op }
+    requires turns { AreTableTurns tables.now turns.old }
     requires actor { turns.old.0 ≡ actor_of trace.old }
-    ensures turns { IsOf tables.now turns.new × (turns.new.0 ≡ turns.old.0) }
+    ensures turns { AreTableTurns tables.now turns.new × (turns.new.0 ≡ turns.old.0) }
     ensures actor { actor_of trace.new ≡ actor_of trace.old }
 {
     tables.step(rt, alloc, turns, trace, ObjectId::Cpu(0), op, &Open)?;
@@ -61,10 +61,10 @@ fn add_ones<R: Wait>(
     turns: &mut Turns,
     times: u32,
 ) -> Result<u64, Memory>
-    requires maps { maps_in tables.now ≡ one_map (Aggs Count) }
-    requires some { 0 < actors_of tables.now }
-    requires turns { IsOf tables.now turns.old }
-    ensures { IsOf tables.now turns.new × (turns.new.0 ≡ turns.old.0) }
+    requires maps { table_maps tables.now ≡ one_map (Aggs Count) }
+    requires some { 0 < table_actors tables.now }
+    requires turns { AreTableTurns tables.now turns.old }
+    ensures { AreTableTurns tables.now turns.new × (turns.new.0 ≡ turns.old.0) }
 {
     let mut trace = Trace::new(alloc, turns.actor());
     for _ in 0..times {
@@ -83,10 +83,10 @@ fn add_and_note<R: Wait>(
     times: u32,
     notes: &Mutex<Vec<u64>>,
 )
-    requires maps { maps_in tables.now ≡ one_map (Aggs Count) }
-    requires some { 0 < actors_of tables.now }
-    requires turns { IsOf tables.now turns.old }
-    ensures { IsOf tables.now turns.new × (turns.new.0 ≡ turns.old.0) }
+    requires maps { table_maps tables.now ≡ one_map (Aggs Count) }
+    requires some { 0 < table_actors tables.now }
+    requires turns { AreTableTurns tables.now turns.old }
+    ensures { AreTableTurns tables.now turns.new × (turns.new.0 ≡ turns.old.0) }
 {
     if let Ok(count) = add_ones(rt, alloc, tables, turns, times) {
         drop(notes.lock(rt).push(count));
@@ -102,14 +102,14 @@ fn all_add<R: Threads + Wait + Sync>(
     times: u32,
     notes: &Mutex<Vec<u64>>,
 )
-    requires maps { maps_in tables.now ≡ one_map (Aggs Count) }
-    requires some { 0 < actors_of tables.now }
+    requires maps { table_maps tables.now ≡ one_map (Aggs Count) }
+    requires some { 0 < table_actors tables.now }
     requires any { 0 < length all.old }
-    requires of { (i : ℕ) (d : Row) → i < length all.old → IsOf tables.now (slice_index_or all.old i d) }
+    requires of { (i : ℕ) (d : Row) → i < length all.old → AreTableTurns tables.now (slice_index_or all.old i d) }
     ensures { (i : ℕ) (d : Row) → i < length all.old →
         let before = slice_index_or all.old i d in
         let after = slice_index_or all.new i d in
-        IsOf tables.now after × (after.0 ≡ before.0) }
+        AreTableTurns tables.now after × (after.0 ≡ before.0) }
 {
     let threads = all.len();
     thread::for_each_mut(
@@ -129,10 +129,10 @@ fn everyone_adds<R: Threads + Wait + Sync>(
     times: u32,
     notes: &Mutex<Vec<u64>>,
 )
-    requires maps { maps_in tables.now ≡ one_map (Aggs Count) }
-    requires some { 0 < actors_of tables.now }
-    requires turns { AreAll tables.now all.old }
-    ensures { AreAll tables.now all.new }
+    requires maps { table_maps tables.now ≡ one_map (Aggs Count) }
+    requires some { 0 < table_actors tables.now }
+    requires turns { AreAllTableTurns tables.now all.old }
+    ensures { AreAllTableTurns tables.now all.new }
 {
     all_add(rt, alloc, tables, all, times, notes);
 }
