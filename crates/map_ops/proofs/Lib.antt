@@ -1,3 +1,3 @@
 pub mod Replied
 pub mod Sweeping
-pub mod Summing
+pub mod AggSums

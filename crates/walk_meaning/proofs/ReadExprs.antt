@@ -44,7 +44,7 @@ use Rattle.bt_core.specs.Same.{SameTo}
 use Rattle.walk_meaning.specs.Served.{Fits, scene_in, scope_in}
 use Rattle.typed_tree.proofs.Summed.{summed_there}
 use Rattle.bt_core.proofs.SameLaws.{SameTo-self, SameTo-and_then, SameTo-mapped}
-use Rattle.map_ops.proofs.Summing.{rows_same}
+use Rattle.map_ops.proofs.AggSums.{rows_same}
 use Rattle.walk_meaning.proofs.Declared.{summed_here}
 use Rattle.walk_meaning.proofs.TreeParts.{agg_head}
 

@@ -5,7 +5,7 @@ use Rattle.bt_core.specs.Interaction.{Interaction, Part, Whole}
 use Rattle.bt_core.proofs.InteractionLaws.{Part-and_then, Part-after, Performed-none, Whole-and_then, Whole-Ended}
 use Rattle.map_rows.specs.Merged.{merged}
 use Rattle.map_rows.specs.UnderKey.{number_under}
-use Rattle.map_ops.proofs.Summing.{summed_is}
+use Rattle.map_ops.proofs.AggSums.{summed_is}
 use Rattle.map_ops.proofs.summing.sum_under.Goals as goal
 
 pub returns-in_err-replies-clause-performed : goal.returns-in_err-replies-clause-performed
