@@ -1,4 +1,4 @@
-use Rattle.std.proofs.Common.{ℤ, SFits, w64, ap, sym, subst, ◌∙◌, refl, rules}
+use Rattle.std.proofs.Common.{ℤ, SFits, to_z, of_z, w64, ap, sym, subst, ◌∙◌, refl, rules}
 use Rattle.std.proofs.lemmas.Int.{to_z-of_z}
 use Rattle.std.proofs.lemmas.Result.{err_from_is_err_and}
 use Rattle.bt_core.specs.Interaction.{Interaction, Part, Whole}
@@ -25,5 +25,5 @@ returns-clause-performed g c =
     let rows = c.in_ok-rows.ensures ∙ ap (merged c.args.kind) c.as_slice.ensures in
     let number = c.number_under.ensures ∙ ap (number_under c.args.key.now) ((c.as_slice-2).ensures ∙ rows) in
     let fits : SFits w64 c.number_under.result = search rules in
-    subst (λ (t : Interaction ℤ). Whole t (g.P.Port.steps c.args.port.now) (g.P.Port.steps c.ask_each.new.port) _) (summed_is c.args.kind c.args.map c.args.key.now c.args.actors c.requires.gathers)
+    subst (λ (t : Interaction ℤ). Whole t (g.P.Port.steps c.args.port.now) (g.P.Port.steps c.ask_each.new.port) (to_z w64 (of_z w64 c.number_under.result))) (summed_is c.args.kind c.args.map c.args.key.now c.args.actors c.requires.gathers)
     (Whole-and_then _ _ _ _ _ _ _ c.in_ok-replies.ensures.performed (Whole-Ended _ _ _ (sym number ∙ sym (to_z-of_z w64 c.number_under.result fits))))
