@@ -1,8 +1,8 @@
 use Rattle.std.proofs.Common.{◌≡◌, ◌-◌, suc, sym, ap, length, ◌∙◌, arith}
 use Rattle.bt_core.specs.declared.step.Step.{Step}
 use Rattle.bt_core.specs.Interaction.{last_reply}
-use Rattle.code_tests.proofs.Quiet.{last_at}
-use Rattle.code_tests.proofs.helpers.QuietPort.last.Goals as goal
+use Rattle.code_cases.proofs.Quiet.{last_at}
+use Rattle.code_cases.proofs.helpers.QuietPort.last.Goals as goal
 
 pub returns : goal.returns
 returns c =

@@ -1,9 +1,10 @@
-// Each helper once, over a port that keeps what it is asked.
+// What helpers answer and which steps they make, over a port that keeps what it is asked.
 ghost use Rattle.std.specs.Prelude.{◌≡◌, ◌<◌, ◌++◌, ◌∷◌, [], IfOk, IsTrue, OnOk, length};
 ghost use Rattle.typed_tree.specs.Scope.{is_fine_decl, is_fine_kind};
-ghost use Rattle.code_tests.specs.Quiet.{reply_of, shared_reply, table_reply, clock_reply, value_of_map};
+ghost use Rattle.code_cases.specs.Quiet.{reply_of, shared_reply, table_reply, clock_reply, value_of_map};
 ghost use Rattle.std.specs.Option.{option_copied};
 
+use anyhow::{Context, Result};
 use bpf_interp::ports::{PortFault, Ports};
 use bpf_interp::regions::Regions;
 use bt_core::item::Item;
@@ -16,10 +17,8 @@ use bt_core::step::{ObjectId, Op, Reply, Step};
 use bt_core::text::Str64;
 use bt_core::value::Value;
 use fmt_text::piece::Piece;
-use helper_abi::helper::Helper;
 use helper_abi::helper_port::HelperPort;
 use std::alloc::Global;
-use std::test::Fail;
 use typed_tree::script::Typed;
 
 fn value_of_map(decl: Option<&MapDecl>) -> Value
@@ -158,12 +157,13 @@ const KEY: u64 = 0x3_0000_0000;
 
 const VALUE: u64 = 0x3_0000_0008;
 
+/// Where a call of the lines writes, if anywhere.
 const TO: u64 = 0x3_0000_0010;
 
 const TEXT: u64 = 0x3_0000_0040;
 
 // Calls a helper over a frame with the key 5, the value 9 and the string `cd`, for actor 1 of 2.
-fn called(alloc: Global, number: u32, a: u64, b: u64, c: u64) -> Result<Asked, Fail> {
+fn called(alloc: Global, number: u32, args: [u64; 3]) -> Result<Asked, Memory> {
     let typed = script(alloc)?;
     let mut port = Quiet {
         maps: typed.maps.try_copy(alloc)?,
@@ -175,7 +175,8 @@ fn called(alloc: Global, number: u32, a: u64, b: u64, c: u64) -> Result<Asked, F
     memory.store(VALUE, &9u64.to_le_bytes());
     memory.store(TEXT, &[99, 100]);
     let mut helpers = HelperPort::new(&mut port, &typed, 1, 2);
-    let answer = helpers.call(alloc, number, [a, b, c, 0, 0], &mut memory);
+    let args = [args[0], args[1], args[2], 0, 0];
+    let answer = helpers.call(alloc, number, args, &mut memory);
     let mut word = [0; 8];
     if let Some(bytes) = memory.bytes(TO, 8) {
         word.copy_from_slice(bytes);
@@ -188,133 +189,25 @@ fn called(alloc: Global, number: u32, a: u64, b: u64, c: u64) -> Result<Asked, F
     })
 }
 
-// Whether the answer is 0 and the calls are these, in their order.
-fn are(asked: &Asked, wanted: &[(ObjectId, Op)]) -> bool {
-    let steps = asked.steps.as_slice();
-    asked.answer == Ok(0)
-        && steps.len() == wanted.len()
-        && steps
-            .iter()
-            .zip(wanted)
-            .all(|(step, call)| step.object == call.0 && step.op == call.1)
-}
-
-fn five(alloc: Global) -> Result<Key, Memory> {
-    let mut parts = Vec::new(alloc);
-    parts.push(Value::Int(5))?;
-    Ok(Key::of(parts))
-}
-
-// A part of the map of numbers.
-fn numbers(part: u32) -> ObjectId {
-    ObjectId::Shared {
-        map: MapId(0),
-        part,
+/// Tells what comes of a line `NAME = NUMBER A B C`, the number and the arguments of a call in decimals: its answer, the
+/// eight bytes that it may have written, and its steps.
+pub(crate) fn tell_helper<R: Print + AllocGlobal>(rt: &R, line: &str) -> Result<()> {
+    let (name, words) = line.split_once(" = ").context("no call")?;
+    let mut numbers = [0; 4];
+    for (number, word) in numbers.iter_mut().zip(words.split(' ')) {
+        *number = word.parse::<u64>()?;
     }
-}
-
-// The part that the key 5 is in.
-const FIVES: u32 = 5;
-
-#[test]
-fn helpers_of_keys_make_their_steps(rt: HostRuntime) -> Result<(), Fail> {
-    let alloc = rt.alloc();
-    let get = called(alloc, Helper::Get.number(), 0, KEY, TO)?;
-    assert!(rt; are(&get, &[(numbers(FIVES), Op::Get(five(alloc)?))]));
-    assert_eq!(rt; get.word, 7);
-    let set = called(alloc, Helper::Set.number(), 0, KEY, VALUE)?;
-    assert!(rt;
-        are(
-            &set,
-            &[(numbers(FIVES), Op::Set(five(alloc)?, Value::Int(9)))]
-        )
-    );
-    let delete = called(alloc, Helper::Delete.number(), 0, KEY, 0)?;
-    assert!(rt; are(&delete, &[(numbers(FIVES), Op::Delete(five(alloc)?))]));
-    let add = called(alloc, Helper::Aggregate.number(), 2, KEY, 3)?;
-    let op = Op::Add(MapId(2), five(alloc)?, 3);
-    assert!(rt; are(&add, &[(ObjectId::Cpu(1), op)]));
-    let text = called(alloc, Helper::Get.number(), 1, TEXT, TO)?;
-    assert_eq!(rt; text.answer, Ok(0));
-    assert_eq!(rt; text.word, 0x6261);
-    Ok(())
-}
-
-#[test]
-fn helpers_of_maps_make_their_steps(rt: HostRuntime) -> Result<(), Fail> {
-    let alloc = rt.alloc();
-    let first = ObjectId::Cpu(0);
-    let second = ObjectId::Cpu(1);
-    let map = MapId(2);
-    let print = called(alloc, Helper::Print.number(), 2, 2, 1)?;
-    let item = Item::Map {
-        map,
-        rows: Items::new(alloc),
-        top: 2,
-        div: 1,
-    };
-    let wanted = [
-        (first, Op::Read(map)),
-        (second, Op::Read(map)),
-        (ObjectId::Out, Op::Emit(item)),
-    ];
-    assert!(rt; are(&print, &wanted));
-    let clear = called(alloc, Helper::Clear.number(), 0, 0, 0)?;
-    let wanted = [
-        (numbers(0), Op::Clear),
-        (numbers(1), Op::Clear),
-        (numbers(2), Op::Clear),
-        (numbers(3), Op::Clear),
-        (numbers(4), Op::Clear),
-        (numbers(5), Op::Clear),
-        (numbers(6), Op::Clear),
-        (numbers(7), Op::Clear),
-    ];
-    assert!(rt; are(&clear, &wanted));
-    let zero = called(alloc, Helper::Zero.number(), 2, 0, 0)?;
-    let wanted = [(first, Op::ZeroOf(map)), (second, Op::ZeroOf(map))];
-    assert!(rt; are(&zero, &wanted));
-    Ok(())
-}
-
-#[test]
-fn the_other_helpers_make_their_steps(rt: HostRuntime) -> Result<(), Fail> {
-    let alloc = rt.alloc();
-    let printf = called(alloc, Helper::Printf.number(), 0, KEY, 0)?;
-    let mut values = Items::new(alloc);
-    values.push(Value::Int(5))?;
-    let item = Item::Printf { format: 0, values };
-    assert!(rt; are(&printf, &[(ObjectId::Out, Op::Emit(item))]));
-    let exit = called(alloc, Helper::Exit.number(), 0, 0, 0)?;
-    assert!(rt; are(&exit, &[(ObjectId::Clock, Op::Stop)]));
-    let cut = called(alloc, Helper::Cut.number(), 4, 0, 0)?;
-    assert!(rt; are(&cut, &[(ObjectId::Out, Op::Emit(Item::Cut { line: 4 }))]));
-    let text = called(alloc, Helper::ReadStr.number(), TO, 1, 4)?;
-    assert!(rt; are(&text, &[]));
-    assert_eq!(rt; text.word, 0x6261);
-    Ok(())
-}
-
-#[test]
-fn helpers_refuse_what_is_out_of_range(rt: HostRuntime) -> Result<(), Fail> {
-    for (number, a, b, c, fault) in [
-        (0, 0, 0, 0, PortFault::Helper),
-        (12, 0, 0, 0, PortFault::Helper),
-        (1, 2, KEY, TO, PortFault::Helper),
-        (1, 0x1_0000_0000, KEY, TO, PortFault::Helper),
-        (4, 0, KEY, 1, PortFault::Helper),
-        (5, 0, 0, 0, PortFault::Helper),
-        (8, 1, KEY, 0, PortFault::Helper),
-        (10, 0x1_0000_0000, 0, 0, PortFault::Helper),
-        (1, 0, KEY, 0x1_0000_0000, PortFault::Address),
-        (1, 0, KEY, 0x3_0000_01f9, PortFault::Address),
-        (2, 1, TEXT, 0x2_0000_0000, PortFault::Address),
-        (3, 0, 0x3_0000_01f9, 0, PortFault::Address),
-        (11, 0x3_0000_01c1, 0, 0, PortFault::Address),
-    ] {
-        let refused = called(rt.alloc(), number, a, b, c)?;
-        assert_eq!(rt; refused.answer, Err(fault), "{number} {a:x} {b:x} {c:x}");
-        assert_eq!(rt; refused.steps.len(), 0);
+    let [number, a, b, c] = numbers;
+    let asked = called(rt.alloc(), u32::try_from(number)?, [a, b, c])?;
+    let Asked {
+        answer,
+        steps,
+        word,
+    } = asked;
+    println!(rt; "{name}: {answer:?}, {word:x}")?;
+    for step in steps.as_slice() {
+        let Step { object, op, .. } = step;
+        println!(rt; "    {object:?} {op:?}")?;
     }
     Ok(())
 }

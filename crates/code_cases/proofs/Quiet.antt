@@ -18,7 +18,7 @@ use Rattle.bt_core.specs.Interaction.{last_reply}
 use Rattle.bt_core.proofs.InteractionLaws.{last_reply-append}
 use Rattle.bt_core.specs.Kinds.{HasShape, IsOfKind, IsAggOf, IsShared, IsAggregation}
 use Rattle.bt_core.specs.Ports.{Setting, CanStep, IsSharedOp, IsTableOp, IsReplyOf, IsSharedReply, IsTableReply, IsClockReply}
-use Rattle.code_tests.specs.Quiet.{value_of_kind, shared_reply, table_reply, clock_reply, reply_of}
+use Rattle.code_cases.specs.Quiet.{value_of_kind, shared_reply, table_reply, clock_reply, reply_of}
 
 kind_fits : (kind : MapKind) → IsShared kind → IsOfKind kind (value_of_kind kind)
 kind_fits Ints h = tt

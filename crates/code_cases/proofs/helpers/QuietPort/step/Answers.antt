@@ -1,8 +1,8 @@
 use Rattle.std.proofs.Common.{ap, ◌∙◌}
 use Rattle.bt_core.specs.Ports.{Setting}
-use Rattle.code_tests.specs.Quiet.{reply_of}
-use Rattle.code_tests.proofs.Quiet.{replied}
-use Rattle.code_tests.proofs.helpers.QuietPort.step.Goals as goal
+use Rattle.code_cases.specs.Quiet.{reply_of}
+use Rattle.code_cases.proofs.Quiet.{replied}
+use Rattle.code_cases.proofs.helpers.QuietPort.step.Goals as goal
 
 pub returns-clause-replied : goal.returns-clause-replied
 returns-clause-replied c =
