@@ -23,7 +23,7 @@ fn number(line: &Value, name: &str) -> u64 {
 
 impl Asked {
     /// What a line asks for: an object with `ask` and a `text`, which may go on with `times` copies of `again` and then with `end`. A text
-    /// that is no UTF-8 stands in `hex`, in hexadecimal.
+    /// that is no UTF-8 stands in `hex`, in hexadecimal. A `note` is for who reads the data.
     pub fn of(alloc: Global, line: &str) -> Result<Asked> {
         let line = Value::from_str(alloc, line)?;
         let mut text = hex::decode(alloc, part(&line, "hex"))?;
