@@ -13,7 +13,7 @@ use crate::tasks::{Gathered, gather, latest_clock, new_tasks};
 use actor_plan::bodies::Bodies;
 use bt_core::memory::Memory;
 use cpu_worker::world::{SharedWorld, WorkerTurns};
-use run_base::numbers::sum;
+use run_objects::numbers::sum;
 use stamped::trace::Trace;
 use std::alloc::Global;
 use std::sync::Wait;

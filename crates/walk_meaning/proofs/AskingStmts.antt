@@ -1,5 +1,5 @@
 -- What is asked by statements, and by whole bodies.
-use Rattle.std.proofs.Common.{◌≡◌, ◌++◌, ◌+◌, ◌<◌, ℕ, zero, suc, ℤ, pos, List, [], ◌∷◌, Option, Some, None, Bool, true, false, map, refl, sym, ap, subst, arith}
+use Rattle.std.proofs.Common.{◌≡◌, ◌++◌, ℕ, zero, suc, ℤ, pos, List, [], ◌∷◌, Option, Some, None, Bool, true, false, map, refl, sym, ap, subst}
 use Rattle.std.specs.Prelude.{IsTrue, is_none, int_le, nat_lt, ◌^◌}
 use Rattle.std.proofs.lemmas.Bool.{and_parts}
 use Rattle.std.specs.List.{AllByRecursion}
@@ -10,7 +10,6 @@ use Rattle.bt_core.specs.declared.map.Shape.{Shape}
 use Rattle.bt_core.specs.declared.map.MapDecl.{MapDecl}
 use Rattle.bt_core.specs.declared.map.MapId.{MapId}
 use Rattle.bt_core.specs.declared.map.MapKind.{MapKind}
-use Rattle.bt_core.specs.declared.map.MapKind.TheVariants.{Ints, Strs, Aggs}
 use Rattle.bt_core.specs.declared.map.Shape.TheVariants as shapes
 use Rattle.bt_core.specs.declared.step.ObjectId.{ObjectId}
 use Rattle.bt_core.specs.declared.step.ObjectId.TheVariants.{Clock, Out, Cpu}
@@ -40,10 +39,10 @@ use Rattle.walk_meaning.specs.declared.flow.Flow.TheVariants.{Next, Break, Conti
 use Rattle.map_ops.specs.declared.sweep.Sweep.{Sweep}
 use Rattle.map_ops.specs.declared.sweep.Sweep.TheVariants.{Read, Clear, Zero}
 use Rattle.walk_meaning.specs.declared.view.View.{View}
-use Rattle.walk_meaning.specs.Admits.{Admits, AdmitsOf, EmitsOnly}
+use Rattle.walk_meaning.specs.Admits.{Admits, AdmitsOf}
 use Rattle.walk_meaning.specs.Does.{Does, given, changed, lifted, bind, in_order}
 use Rattle.walk_meaning.specs.Exprs.{value_does, values_do, number_does}
-use Rattle.map_ops.specs.Holders.{part, holder, holders, sweep_op, CanSweep}
+use Rattle.map_ops.specs.Holders.{part, holder, sweep_op, CanSweep}
 use Rattle.walk_meaning.specs.Maps.{get, set, delete, add, kind_in_body}
 use Rattle.map_ops.specs.Asking.{tells, swept, printed}
 use Rattle.walk_meaning.specs.Stmts.{stmt_by_parts, block_by_parts, stmt_does, block_does, number_or_one, print, clear, zero_all, if_next, in_sequence, first_arm, arm_does, cut, entered, turn, turns, tests, while_true, again}

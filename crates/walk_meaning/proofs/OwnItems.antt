@@ -1,6 +1,6 @@
 -- Items that a walk emits are of the script's formats and maps.
-use Rattle.std.proofs.Common.{◌≡◌, ◌++◌, ℕ, suc, ℤ, pos, List, [], ◌∷◌, Option, Some, None, All, refl, sym, ◌∙◌, subst, arith, rules}
-use Rattle.std.specs.Prelude.{IsTrue, IsSomeAnd, slice_get, int_le, ◌≤ℤ◌, ◌==◌, if◌then◌else◌}
+use Rattle.std.proofs.Common.{◌≡◌, ℕ, suc, ℤ, pos, List, [], ◌∷◌, Option, Some, None, All, refl, sym, subst, arith, rules}
+use Rattle.std.specs.Prelude.{IsTrue, IsSomeAnd, slice_get, int_le, ◌≤ℤ◌, ◌==◌}
 use Rattle.std.specs.List.{AllByRecursion}
 use Rattle.std.proofs.lemmas.List.Elements.{All-from_recursion}
 use Rattle.bt_core.specs.declared.context.Context.{Context}

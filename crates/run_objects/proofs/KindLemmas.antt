@@ -15,7 +15,7 @@ use Rattle.bt_core.proofs.InteractionLaws.{last_reply-append}
 use Rattle.bt_core.proofs.StepLists.{is_same_object-true}
 use Rattle.agg_core.proofs.KindLaws.{answer-kind}
 use Rattle.turn_lock.specs.History.{Each}
-use Rattle.run_base.specs.Worlds.{World, setting_in, answers, IsOwn}
+use Rattle.run_objects.specs.Worlds.{World, setting_in, answers, IsOwn}
 
 -- who makes an operation does not matter
 pub can_any : (w : World) (a b : ℕ) (object : ObjectId) (op : Op) → CanStep (setting_in w a) object op → CanStep (setting_in w b) object op

@@ -25,11 +25,11 @@ use Rattle.step_objects.specs.CpuTables.{map_at}
 use Rattle.turn_lock.specs.History.{Each}
 use Rattle.bt_meaning.specs.Prints.{operations_at, read_of, lost_by, lost_after, holders_of, rows_after, of_maps}
 use Rattle.map_ops.specs.Holders.{holder}
-use Rattle.run_base.specs.Moments.{Moment, table_reply, table_lost, part_reply, part_lost, of_first}
-use Rattle.run_base.specs.Worlds.{answers, IsOwn}
-use Rattle.run_base.proofs.KindLemmas.{answer_is_of_its_kind}
-use Rattle.run_base.proofs.MoreLemmas.{all_more}
-use Rattle.run_base.proofs.ReadLemmas.{first_more}
+use Rattle.run_objects.specs.Moments.{Moment, table_reply, table_lost, part_reply, part_lost, of_first}
+use Rattle.run_objects.specs.Worlds.{answers, IsOwn}
+use Rattle.run_objects.proofs.KindLemmas.{answer_is_of_its_kind}
+use Rattle.run_objects.proofs.MoreLemmas.{all_more}
+use Rattle.run_objects.proofs.ReadLemmas.{first_more}
 
 map_twice : {A B C : Type 0} (f : B → C) (g : A → B) (xs : List A) → map f (map g xs) ≡ map (λ x. f (g x)) xs
 map_twice f g [] = refl

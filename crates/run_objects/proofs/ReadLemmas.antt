@@ -5,7 +5,7 @@ use Rattle.std.specs.List.{range_with_len}
 use Rattle.bt_core.specs.declared.map.MapDecl.{MapDecl}
 use Rattle.std.proofs.lemmas.List.{map-append}
 use Rattle.std.proofs.lemmas.List.Sums.{sum_by-append}
-use Rattle.run_base.specs.Moments.{of_first}
+use Rattle.run_objects.specs.Moments.{of_first}
 
 range_more : (from n : ℕ) → range_with_len from (n + 1) ≡ range_with_len from n ++ (from + n) ∷ []
 range_more from zero = ap (λ k. k ∷ []) (let e : from ≡ from + 0 = omega arith in e)

@@ -10,7 +10,7 @@ use Rattle.bt_core.specs.declared.step.Step.{Step}
 use Rattle.agg_core.specs.Answers.{back, shared_answer, shared_change, table_answer, table_change}
 use Rattle.agg_core.specs.Changes.{lost_updates}
 use Rattle.bt_meaning.specs.Prints.{operations_at}
-use Rattle.run_base.specs.Worlds.{World}
+use Rattle.run_objects.specs.Worlds.{World}
 
 -- a world, and the steps that were made in it
 pub record Moment : Type 0 where
