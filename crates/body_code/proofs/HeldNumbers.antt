@@ -14,9 +14,9 @@ use Rattle.bt_core.specs.declared.map.AggKind.{AggKind}
 use Rattle.bt_core.specs.declared.map.AggKind.TheVariants.{Count, Sum, Min, Max, Avg, Hist, Lhist}
 use Rattle.bt_core.specs.declared.value.Value.{Value}
 use Rattle.bt_core.specs.Arithmetic.{binary_value, wrapped, is_zero}
-use Rattle.agg_core.specs.Aggregates.{signed, either, merged as merged_agg}
+use Rattle.agg_core.specs.Aggregates.{signed, either, agg_merged}
 use Rattle.agg_core.specs.Changes.{is_key}
-use Rattle.map_rows.specs.Merged.{both_cells, joined, cells_at, merged_rows, ordered_keys}
+use Rattle.map_rows.specs.Merged.{both_cells, joined_cells, cells_at, merged_rows, ordered_keys}
 use Rattle.step_list.specs.HeldReplies.{OptionFits, IsHeldAgg}
 use Rattle.map_rows.specs.UnderKey.{cell_number, number_under}
 use Rattle.map_rows.specs.Numbers.{number_of, number_by, or_zero, quotient}
@@ -42,7 +42,7 @@ either_fits f p None b x y = y
 either_fits f p (Some a) None x y = x
 either_fits f p (Some a) (Some b) x y = p a b x y
 
-merged_held : (a b : Agg) → IsHeldAgg a → IsHeldAgg b → IsHeldAgg (merged_agg a b)
+merged_held : (a b : Agg) → IsHeldAgg a → IsHeldAgg b → IsHeldAgg (agg_merged a b)
 merged_held a b p q = record {
   count = signed_fits _;
   sum = signed_fits _;
@@ -59,7 +59,7 @@ fold_held : (c : Cell) (cs : List Cell) → IsHeldCell c → AllByRecursion IsHe
 fold_held c [] p q = p
 fold_held c (d ∷ ds) p q = fold_held (both_cells c d) ds (both_held c d p q.0) q.1
 
-joined_held : (cs : List Cell) → AllByRecursion IsHeldCell cs → IsHeldCell (joined cs)
+joined_held : (cs : List Cell) → AllByRecursion IsHeldCell cs → IsHeldCell (joined_cells cs)
 joined_held [] h = tt
 joined_held (c ∷ cs) h = fold_held c cs h.0 h.1
 
@@ -83,7 +83,7 @@ cells_held key [] h = tt
 cells_held key (row ∷ rows) h =
     subst (AllByRecursion IsHeldCell) (sym (cells_more (is_key key row.0) row (filter (λ (r : List Value × Cell). is_key key r.0) rows))) (if_held (is_key key row.0) row.1 (cells_at key rows) h.0 (cells_held key rows h.1))
 
-keyed_held : (rows : List (List Value × Cell)) (keys : List (List Value)) → RowsHeld rows → RowsHeld (map (λ key. (key, joined (cells_at key rows))) keys)
+keyed_held : (rows : List (List Value × Cell)) (keys : List (List Value)) → RowsHeld rows → RowsHeld (map (λ key. (key, joined_cells (cells_at key rows))) keys)
 keyed_held rows [] h = tt
 keyed_held rows (k ∷ ks) h = (joined_held (cells_at k rows) (cells_held k rows h), keyed_held rows ks h)
 
