@@ -1,14 +1,10 @@
 // Scripts and formats.
-ghost use Rattle.std.specs.Prelude.{◌<◌, ◌^◌, length, IfOk};
-
+use body_fixtures::scripts::script_of;
 use bt_ast::attached::Attached;
-use bt_ast::probe::Script;
 use bt_attach::attach::attach;
 use bt_attach::error::AttachError;
 use bt_core::items::Items;
 use bt_core::memory::Memory;
-use bt_lexer::lexer::lex;
-use bt_parser::parse::parse;
 use std::alloc::Global;
 use std::test::Fail;
 use tracefs_format::format::Format;
@@ -16,18 +12,6 @@ use tracefs_format::layout::Layout;
 
 /// A second in nanoseconds.
 pub(crate) const SECOND: u64 = 1_000_000_000;
-
-/// The script of a text.
-fn script_of(alloc: Global, text: &[u8]) -> Result<Script, Fail>
-    ensures { IfOk result (λ script. length script.probes < 2 ^ 32) }
-{
-    let tokens = lex(alloc, &text[..text.len().min(4096)])?;
-    let script = parse(alloc, &tokens.as_slice()[..tokens.len().min(4096)])?;
-    if script.probes.len() > 64 {
-        return Err(Fail::from("more than 64 probes"));
-    }
-    Ok(script)
-}
 
 /// What the script of a text is attached to, or its first fault.
 pub(crate) fn attached_to(

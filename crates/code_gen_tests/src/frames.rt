@@ -1,5 +1,5 @@
 // The frames of worked bodies.
-use crate::scripts::{formats, typed_of};
+use body_fixtures::scripts::{formats, typed_of};
 use bpf_frame::error::CodeError;
 use bpf_frame::frame::{Frame, Place};
 use bpf_frame::placing::place_frame;

@@ -1,5 +1,5 @@
 // Bodies with their literals folded.
-use crate::scripts::{formats, typed_of};
+use body_fixtures::scripts::{formats, typed_of};
 use bt_lower::lower::lower;
 use ir_code::blocks::{Block, Exit};
 use ir_code::instr::Instr;

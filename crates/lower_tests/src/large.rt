@@ -1,5 +1,5 @@
 // A script of as many bytes as may be.
-use crate::scripts::{formats, typed_of};
+use body_fixtures::scripts::{formats, typed_of};
 use bt_core::memory::Memory;
 use bt_lower::lower::lower;
 use std::alloc::Global;

@@ -1,5 +1,5 @@
 // What bodies need of frame and code, by the sums over their trees.
-use crate::scripts::{formats, typed_of};
+use body_fixtures::scripts::{formats, typed_of};
 use bt_lower::lower::lower;
 use std::test::Fail;
 

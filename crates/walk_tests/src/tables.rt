@@ -1,6 +1,7 @@
 // How tables write replies and operations, and walks of their rows.
-use crate::scripts::typed_of;
-use crate::walks::walk_typed;
+use body_fixtures::moments::Moment;
+use body_fixtures::scripts::typed_of;
+use body_fixtures::walks::walk_typed;
 use bt_core::agg::{Agg, Buckets};
 use bt_core::encoding::part_of;
 use bt_core::ending::Ending;
@@ -57,16 +58,6 @@ pub(crate) enum Does {
     Printf(u32, &'static [Part]),
     Print(u32, &'static [(&'static [Part], Under)], u64, i64),
     Cut(u32),
-}
-
-/// The run of a body: the time and thread that it sees, its payload, and the actor that walks, of so many.
-#[derive(Clone, Copy, Debug)]
-pub(crate) struct Moment {
-    pub time: u64,
-    pub tid: u32,
-    pub payload: &'static [u8],
-    pub actor: u32,
-    pub actors: u32,
 }
 
 /// A body of a script by its number, the moment and the replies, and what the walk does and how it ends.

@@ -1,6 +1,7 @@
 // What a walk can get wrong, each by a script that tells.
-use crate::scripts::formats;
-use crate::tables::{Does, Moment, Part, Row, Says, Under, holds};
+use crate::tables::{Does, Part, Row, Says, Under, holds};
+use body_fixtures::moments::Moment;
+use body_fixtures::scripts::formats;
 use bt_core::ending::Ending;
 use std::test::Fail;
 
