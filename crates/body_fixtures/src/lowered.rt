@@ -7,6 +7,7 @@ ghost use Rattle.walk_meaning.specs.Served.{least_length};
 
 use crate::moments::{Moment, context_of, is_long};
 use crate::port::port_of;
+use crate::scripts::typed_of;
 use crate::walks::Made;
 use bt_core::items::Items;
 use bt_core::step::Reply;
@@ -69,5 +70,22 @@ pub fn run_typed(
     match typed.bodies.get(number) {
         Some(body) => run_lowered(alloc, body, probes.get(number), moment, replies),
         None => Err(Fail::from("no such body")),
+    }
+}
+
+/// The one body of a script, as it is lowered.
+///
+/// # Errors
+///
+/// Those of [`typed_of`], or that the script has another number of bodies.
+pub fn probe_of(alloc: Global, text: &[u8]) -> Result<IrProbe, Fail> {
+    let typed = typed_of(alloc, text)?;
+    let mut probes = lower(alloc, &typed)?.into_vec();
+    if probes.len() > 1 {
+        return Err(Fail::from("more than one body"));
+    }
+    match probes.pop() {
+        Some(probe) => Ok(probe),
+        None => Err(Fail::from("no body")),
     }
 }

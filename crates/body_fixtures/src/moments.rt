@@ -7,7 +7,7 @@ use bt_core::text::Str64;
 use tracefs_format::layout::Layout;
 
 /// The run of a body: the time and thread that it sees, its payload, and the actor that runs it, of so many.
-#[derive(Clone, Copy, Debug)]
+#[derive(Clone, Copy)]
 pub struct Moment {
     pub time: u64,
     pub tid: u32,

@@ -14,7 +14,7 @@ use tracefs_format::format::Format;
 use tracefs_format::reading::read_layout;
 use typed_tree::script::Typed;
 
-/// The formats of the tests, by their systems.
+/// The formats of the recording, by their systems.
 const FORMATS: [(&[u8], &[u8]); 6] = [
     (
         b"t",
@@ -56,13 +56,7 @@ pub fn format_of(alloc: Global, system: &[u8], text: &[u8]) -> Result<Format, Fa
     })
 }
 
-/// The formats that scripts are attached to: `t:e` with the number `v`, `t:enter` and `t:exit` without fields, `block_rq_issue` and
-/// `block_rq_complete` of `block`, and `raw_syscalls:sys_enter`.
-///
-/// # Errors
-///
-/// Want of memory.
-pub fn formats(alloc: Global) -> Result<Vec<Format>, Fail> {
+fn formats(alloc: Global) -> Result<Vec<Format>, Fail> {
     let mut formats = Vec::new(alloc);
     for (system, text) in FORMATS {
         formats.push(format_of(alloc, system, text)?)?;
@@ -103,11 +97,13 @@ pub fn checked(
     Ok(check(alloc, &script, &attached, formats))
 }
 
-/// The script of a text with its types, in a recording of two seconds.
+/// The script of a text with its types, in a recording of two seconds with the formats `t:e`, which has the number `v`, `t:enter` and
+/// `t:exit`, `block_rq_issue` and `block_rq_complete` of `block`, and `raw_syscalls:sys_enter`.
 ///
 /// # Errors
 ///
 /// The first fault of the text, of what it is attached to, or of its types, or want of memory.
-pub fn typed_of(alloc: Global, text: &[u8], formats: &[Format]) -> Result<Typed, Fail> {
-    Ok(checked(alloc, text, formats, 2_000_000_000)??)
+pub fn typed_of(alloc: Global, text: &[u8]) -> Result<Typed, Fail> {
+    let formats = formats(alloc)?;
+    Ok(checked(alloc, text, formats.as_slice(), 2_000_000_000)??)
 }

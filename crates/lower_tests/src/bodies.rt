@@ -1,16 +1,15 @@
 // Worked bodies, run as they are lowered and walked.
 use body_fixtures::lowered::run_typed;
-use body_fixtures::scripts::{formats, typed_of};
+use body_fixtures::scripts::typed_of;
 use body_fixtures::walks::walk_typed;
 use body_fixtures::worked::{Row, WORKED, replies_of};
 use std::alloc::Global;
 use std::test::Fail;
-use tracefs_format::format::Format;
 
 /// Whether the run of a lowered body and the walk make the same steps, so many, and end so.
-fn agree(alloc: Global, row: &Row, formats: &[Format]) -> Result<bool, Fail> {
+fn agree(alloc: Global, row: &Row) -> Result<bool, Fail> {
     let (text, number, moment, numbers, count, ending) = *row;
-    let typed = typed_of(alloc, text, formats)?;
+    let typed = typed_of(alloc, text)?;
     let walked = walk_typed(alloc, &typed, number, moment, replies_of(alloc, numbers)?)?;
     let ran = run_typed(alloc, &typed, number, moment, replies_of(alloc, numbers)?)?;
     let same = walked.0 == ran.0 && walked.1.as_slice() == ran.1.as_slice();
@@ -20,9 +19,8 @@ fn agree(alloc: Global, row: &Row, formats: &[Format]) -> Result<bool, Fail> {
 #[test]
 fn lowered_bodies_run_as_they_are_walked(rt: HostRuntime) -> Result<(), Fail> {
     let alloc = rt.alloc();
-    let formats = formats(alloc)?;
-    for row in WORKED {
-        assert!(rt; agree(alloc, &row, formats.as_slice())?, "{row:?}");
+    for (number, row) in WORKED.iter().enumerate() {
+        assert!(rt; agree(alloc, row)?, "row {number}");
     }
     Ok(())
 }
