@@ -1,14 +1,10 @@
 // Scripts and formats.
-ghost use Rattle.std.specs.Prelude.{◌<◌, ◌^◌, length, IfOk};
-
+use body_fixtures::scripts::script_of;
 use bt_ast::attached::Attached;
-use bt_ast::probe::Script;
 use bt_attach::attach::attach;
 use bt_attach::error::AttachError;
 use bt_core::items::Items;
 use bt_core::memory::Memory;
-use bt_lexer::lexer::lex;
-use bt_parser::parse::parse;
 use std::alloc::Global;
 use std::test::Fail;
 use tracefs_format::format::Format;
@@ -16,31 +12,6 @@ use tracefs_format::layout::Layout;
 
 /// A second in nanoseconds.
 pub(crate) const SECOND: u64 = 1_000_000_000;
-
-/// The script of a text.
-fn script_of(alloc: Global, text: &[u8]) -> Result<Script, Fail>
-    ensures { IfOk result (λ script. length script.probes < 2 ^ 32) }
-{
-    let tokens = lex(alloc, &text[..text.len().min(4096)])?;
-    let script = parse(alloc, &tokens.as_slice()[..tokens.len().min(4096)])?;
-    if script.probes.len() > 64 {
-        return Err(Fail::from("more than 64 probes"));
-    }
-    Ok(script)
-}
-
-/// What the script of a text is attached to, or its first fault.
-pub(crate) fn attached_to(
-    alloc: Global,
-    text: &[u8],
-    formats: &[Format],
-    start: u64,
-    end: u64,
-) -> Result<Result<Attached, AttachError>, Fail> {
-    let script = script_of(alloc, text)?;
-    let formats = &formats[..formats.len().min(4096)];
-    Ok(attach(alloc, &script, formats, start, end))
-}
 
 /// A format without fields.
 pub(crate) fn format_of(alloc: Global, system: &[u8], name: &[u8]) -> Result<Format, Memory> {
@@ -58,11 +29,29 @@ pub(crate) fn format_of(alloc: Global, system: &[u8], name: &[u8]) -> Result<For
     })
 }
 
-/// The formats of `t:e`, `t:f` and `u:f`.
-pub(crate) fn three_formats(alloc: Global) -> Result<Vec<Format>, Memory> {
+/// What the script of a text is attached to over these formats, or its first fault.
+pub(crate) fn attached_to(
+    alloc: Global,
+    text: &[u8],
+    formats: &[Format],
+    start: u64,
+    end: u64,
+) -> Result<Result<Attached, AttachError>, Fail> {
+    let script = script_of(alloc, text)?;
+    let formats = &formats[..formats.len().min(4096)];
+    Ok(attach(alloc, &script, formats, start, end))
+}
+
+/// The same over the formats `t:e`, `t:f` and `u:f`.
+pub(crate) fn attached_to_three(
+    alloc: Global,
+    text: &[u8],
+    start: u64,
+    end: u64,
+) -> Result<Result<Attached, AttachError>, Fail> {
     let mut formats = Vec::new(alloc);
-    for (system, name) in [(b"t", b"e"), (b"t", b"f"), (b"u", b"f")] {
-        formats.push(format_of(alloc, system, name)?)?;
-    }
-    Ok(formats)
+    formats.push(format_of(alloc, b"t", b"e")?)?;
+    formats.push(format_of(alloc, b"t", b"f")?)?;
+    formats.push(format_of(alloc, b"u", b"f")?)?;
+    attached_to(alloc, text, formats.as_slice(), start, end)
 }

@@ -1,140 +1,15 @@
 // Worked bodies, run as they are lowered and walked.
-use crate::runs::{Moment, run_typed, walk_typed};
-use crate::scripts::{formats, typed_of};
-use bt_core::ending::Ending;
-use bt_core::items::Items;
-use bt_core::key::Key;
-use bt_core::limits::PARTS;
-use bt_core::memory::Memory;
-use bt_core::step::Reply;
-use bt_core::value::Value;
+use body_fixtures::lowered::run_typed;
+use body_fixtures::scripts::typed_of;
+use body_fixtures::walks::walk_typed;
+use body_fixtures::worked::{Row, WORKED, replies_of};
 use std::alloc::Global;
 use std::test::Fail;
-use tracefs_format::format::Format;
-
-/// The main actor, beside one CPU.
-const MAIN: Moment = Moment {
-    time: 0,
-    tid: 0,
-    payload: b"",
-    actor: 1,
-    actors: 2,
-};
-
-/// A CPU beside another one and the main actor, at an event with the number 1.
-const AT_ONE: Moment = Moment {
-    time: 1,
-    tid: 1,
-    payload: b"\0\0\0\0\0\0\0\0\x01\0\0\0\0\0\0\0",
-    actor: 0,
-    actors: 3,
-};
-
-/// The same at an event with the number 2.
-const AT_TWO: Moment = Moment {
-    time: 2,
-    tid: 1,
-    payload: b"\0\0\0\0\0\0\0\0\x02\0\0\0\0\0\0\0",
-    actor: 0,
-    actors: 3,
-};
-
-/// The same at an event with the number -4.
-const AT_MINUS_FOUR: Moment = Moment {
-    time: 3,
-    tid: 1,
-    payload: b"\0\0\0\0\0\0\0\0\xfc\xff\xff\xff\xff\xff\xff\xff",
-    actor: 0,
-    actors: 3,
-};
-
-/// The only CPU at events without fields of their own, of thread 5 at 103.
-const LEFT: Moment = Moment {
-    time: 103,
-    tid: 5,
-    payload: b"\0\0\0\0\0\0\0\0",
-    actor: 0,
-    actors: 2,
-};
-
-const TIMES: &[u8] = b"tracepoint:t:enter { @start[tid] = nsecs; } \
-tracepoint:t:exit /@start[tid]/ { @ns = hist(nsecs - @start[tid]); delete(@start[tid]); }";
-
-const HALVES: &[u8] = b"tracepoint:t:e /args.v / 2 > 0/ { @ = sum(args.v); }";
-
-const STOPS: &[u8] =
-    b"tracepoint:t:e { @n = count(); @i++; if (@i == 2) { exit(); } } END { printf(\"bye\\n\"); }";
-
-const TOP: &[u8] =
-    b"BEGIN { @m[1] = 1000; @m[2] = 5000; @m[3] = 2999; print(@m, 2, 1000); clear(@m); }";
-
-const LOOPS: &[u8] = b"BEGIN { $i = 0; while ($i < 3) { $i++; if ($i == 2) { continue; } \
-unroll (2) { if ($i == 3) { break; } @x = $i; } } }";
-
-/// The number of parts of a map, each of which is read, and cleared.
-const EACH_PART: usize = PARTS as usize;
-
-/// A body of a script by its number, the moment, what is read from maps, how many steps its walk makes, and how it ends.
-type Row = (&'static [u8], usize, Moment, &'static [i64], usize, Ending);
-
-const ROWS: [Row; 12] = [
-    // A start is set; it is read twice, added and deleted; a thread without one only reads.
-    (TIMES, 0, LEFT, &[], 1, Ending::End),
-    (TIMES, 1, LEFT, &[100, 100], 4, Ending::End),
-    (TIMES, 1, LEFT, &[0], 1, Ending::End),
-    // A loop without an end is cut.
-    (
-        b"BEGIN { $i = 0; while (1) { $i++; } }",
-        0,
-        MAIN,
-        &[],
-        1,
-        Ending::Cut,
-    ),
-    // A predicate that is 0 ends the run.
-    (HALVES, 0, AT_ONE, &[], 0, Ending::End),
-    (HALVES, 0, AT_TWO, &[], 1, Ending::End),
-    (HALVES, 0, AT_MINUS_FOUR, &[], 0, Ending::End),
-    // The second event stops.
-    (STOPS, 0, AT_ONE, &[0, 1], 4, Ending::End),
-    (STOPS, 0, AT_ONE, &[1, 2], 5, Ending::Exit),
-    (STOPS, 1, MAIN, &[], 1, Ending::End),
-    // Three sets, a read of each part, one item, and each part is cleared.
-    (TOP, 0, MAIN, &[], 4 + 2 * EACH_PART, Ending::End),
-    // Two turns at 1, none at 2, and at 3 the inner loop is left before its first step.
-    (LOOPS, 0, MAIN, &[], 2, Ending::End),
-];
-
-/// The rows of the map that is read as a whole.
-const PAIRS: [(i64, i64); 3] = [(1, 1000), (2, 5000), (3, 2999)];
-
-fn pairs(alloc: Global) -> Result<Reply, Memory> {
-    let mut pairs = Items::new(alloc);
-    for (key, value) in PAIRS {
-        let mut parts = Vec::new(alloc);
-        parts.push(Value::Int(key))?;
-        pairs.push((Key::of(parts), Value::Int(value)))?;
-    }
-    Ok(Reply::Pairs(pairs))
-}
-
-/// The numbers that are read, and then the rows of a map, which its first part tells; the others have none.
-fn replies_of(alloc: Global, numbers: &[i64]) -> Result<Items<Reply>, Memory> {
-    let mut replies = Items::new(alloc);
-    for number in numbers {
-        replies.push(Reply::Value(Value::Int(*number)))?;
-    }
-    replies.push(pairs(alloc)?)?;
-    for _part in 1..PARTS {
-        replies.push(Reply::Pairs(Items::new(alloc)))?;
-    }
-    Ok(replies)
-}
 
 /// Whether the run of a lowered body and the walk make the same steps, so many, and end so.
-fn agree(alloc: Global, row: &Row, formats: &[Format]) -> Result<bool, Fail> {
+fn agree(alloc: Global, row: &Row) -> Result<bool, Fail> {
     let (text, number, moment, numbers, count, ending) = *row;
-    let typed = typed_of(alloc, text, formats)?;
+    let typed = typed_of(alloc, text)?;
     let walked = walk_typed(alloc, &typed, number, moment, replies_of(alloc, numbers)?)?;
     let ran = run_typed(alloc, &typed, number, moment, replies_of(alloc, numbers)?)?;
     let same = walked.0 == ran.0 && walked.1.as_slice() == ran.1.as_slice();
@@ -144,9 +19,8 @@ fn agree(alloc: Global, row: &Row, formats: &[Format]) -> Result<bool, Fail> {
 #[test]
 fn lowered_bodies_run_as_they_are_walked(rt: HostRuntime) -> Result<(), Fail> {
     let alloc = rt.alloc();
-    let formats = formats(alloc)?;
-    for row in ROWS {
-        assert!(rt; agree(alloc, &row, formats.as_slice())?, "{row:?}");
+    for (number, row) in WORKED.iter().enumerate() {
+        assert!(rt; agree(alloc, row)?, "row {number}");
     }
     Ok(())
 }

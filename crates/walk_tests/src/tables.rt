@@ -1,6 +1,8 @@
 // How tables write replies and operations, and walks of their rows.
-use crate::scripts::typed_of;
-use crate::walks::walk_typed;
+use body_fixtures::moments::Moment;
+use body_fixtures::scripts::typed_of;
+use body_fixtures::walks::walk_typed;
+use body_fixtures::worked::push_rows;
 use bt_core::agg::{Agg, Buckets};
 use bt_core::encoding::part_of;
 use bt_core::ending::Ending;
@@ -9,30 +11,28 @@ use bt_core::items::Items;
 use bt_core::key::Key;
 use bt_core::limits::PARTS;
 use bt_core::map::{AggKind, MapId};
-use bt_core::memory::Memory;
 use bt_core::step::{ObjectId, Op, Reply, Step};
 use bt_core::text::Str64;
 use bt_core::value::Value;
 use std::alloc::Global;
 use std::test::Fail;
-use tracefs_format::format::Format;
 
 /// A number or a string.
-#[derive(Clone, Copy, Debug)]
+#[derive(Clone, Copy)]
 pub(crate) enum Part {
     N(i64),
     S(&'static [u8]),
 }
 
 /// What is under a key: a value, or the aggregate of so many numbers 1.
-#[derive(Clone, Copy, Debug)]
+#[derive(Clone, Copy)]
 pub(crate) enum Under {
     Value(Part),
     Count(i64),
 }
 
 /// What is replied: the value of a key, the rows of a map over all its parts, or the aggregates of a table.
-#[derive(Clone, Copy, Debug)]
+#[derive(Clone, Copy)]
 pub(crate) enum Says {
     Value(Part),
     Rows(&'static [(&'static [Part], Part)]),
@@ -41,7 +41,7 @@ pub(crate) enum Says {
 
 /// What a walk does: single operations, and those on all parts of a map or on the tables of all actors. Maps and formats
 /// have their numbers.
-#[derive(Clone, Copy, Debug)]
+#[derive(Clone, Copy)]
 pub(crate) enum Does {
     Get(u32, &'static [Part]),
     Set(u32, &'static [Part], Part),
@@ -57,16 +57,6 @@ pub(crate) enum Does {
     Printf(u32, &'static [Part]),
     Print(u32, &'static [(&'static [Part], Under)], u64, i64),
     Cut(u32),
-}
-
-/// The run of a body: the time and thread that it sees, its payload, and the actor that walks, of so many.
-#[derive(Clone, Copy, Debug)]
-pub(crate) struct Moment {
-    pub time: u64,
-    pub tid: u32,
-    pub payload: &'static [u8],
-    pub actor: u32,
-    pub actors: u32,
 }
 
 /// A body of a script by its number, the moment and the replies, and what the walk does and how it ends.
@@ -86,20 +76,15 @@ fn value_of(part: Part) -> Value {
     }
 }
 
-fn values_of(alloc: Global, parts: &[Part]) -> Result<Items<Value>, Memory> {
-    let mut values = Items::new(alloc);
+fn key_of(alloc: Global, parts: &[Part]) -> Result<Key, Fail> {
+    let mut values = Vec::new(alloc);
     for part in parts {
         values.push(value_of(*part))?;
     }
-    Ok(values)
-}
-
-fn key_of(alloc: Global, parts: &[Part]) -> Result<Key, Fail> {
-    let values = values_of(alloc, parts)?;
     if values.len() > 4 {
         return Err(Fail::from("more parts than a key has"));
     }
-    Ok(Key::of(values.into_vec()))
+    Ok(Key::of(values))
 }
 
 /// The aggregate of so many numbers 1.
@@ -114,179 +99,172 @@ fn count_of(count: i64) -> Agg {
     }
 }
 
-fn pairs_of(alloc: Global, rows: &[(&[Part], Part)]) -> Result<Reply, Fail> {
+fn pairs_of(alloc: Global, rows: &[(&[Part], Part)]) -> Result<Items<(Key, Value)>, Fail> {
     let mut pairs = Items::new(alloc);
     for (parts, value) in rows {
-        let key = key_of(alloc, *parts)?;
-        pairs.push((key, value_of(*value)))?;
+        pairs.push((key_of(alloc, *parts)?, value_of(*value)))?;
     }
-    Ok(Reply::Pairs(pairs))
+    Ok(pairs)
 }
 
-fn aggs_of(alloc: Global, rows: &[(&[Part], i64)]) -> Result<Reply, Fail> {
+fn aggs_of(alloc: Global, rows: &[(&[Part], i64)]) -> Result<Items<(Key, Agg)>, Fail> {
     let mut aggs = Items::new(alloc);
     for (parts, count) in rows {
-        let key = key_of(alloc, *parts)?;
-        aggs.push((key, count_of(*count)))?;
+        aggs.push((key_of(alloc, *parts)?, count_of(*count)))?;
     }
-    Ok(Reply::Aggs(aggs))
-}
-
-fn reply_of(alloc: Global, says: Says) -> Result<Reply, Fail> {
-    match says {
-        Says::Value(part) => Ok(Reply::Value(value_of(part))),
-        Says::Rows(rows) => pairs_of(alloc, rows),
-        Says::Counts(rows) => aggs_of(alloc, rows),
-    }
-}
-
-/// Adds a reply. The rows of a map are told by its first part, and the other parts have none.
-fn push_reply(alloc: Global, replies: &mut Items<Reply>, says: Says) -> Result<(), Fail> {
-    let others = match says {
-        Says::Rows(_) => PARTS - 1,
-        Says::Value(_) | Says::Counts(_) => 0,
-    };
-    replies.push(reply_of(alloc, says)?)?;
-    for _part in 0..others {
-        replies.push(Reply::Pairs(Items::new(alloc)))?;
-    }
-    Ok(())
+    Ok(aggs)
 }
 
 fn replies_of(alloc: Global, said: &[Says]) -> Result<Items<Reply>, Fail> {
     let mut replies = Items::new(alloc);
     for says in said {
-        push_reply(alloc, &mut replies, *says)?;
+        match *says {
+            Says::Value(part) => replies.push(Reply::Value(value_of(part)))?,
+            Says::Rows(rows) => push_rows(alloc, &mut replies, pairs_of(alloc, rows)?)?,
+            Says::Counts(rows) => replies.push(Reply::Aggs(aggs_of(alloc, rows)?))?,
+        }
     }
     Ok(replies)
 }
 
-fn op_of(alloc: Global, does: Does) -> Result<Op, Fail> {
-    match does {
-        Does::Get(_, parts) => Ok(Op::Get(key_of(alloc, parts)?)),
-        Does::Set(_, parts, value) => Ok(Op::Set(key_of(alloc, parts)?, value_of(value))),
-        Does::Delete(_, parts) => Ok(Op::Delete(key_of(alloc, parts)?)),
-        Does::Add(map, parts, n) => Ok(Op::Add(MapId(map), key_of(alloc, parts)?, n)),
-        Does::ReadParts(_) => Ok(Op::ReadAll),
-        Does::ClearParts(_) => Ok(Op::Clear),
-        Does::ZeroParts(_) => Ok(Op::Zero),
-        Does::ReadTables(map) => Ok(Op::Read(MapId(map))),
-        Does::ClearTables(map) => Ok(Op::ClearOf(MapId(map))),
-        Does::ZeroTables(map) => Ok(Op::ZeroOf(MapId(map))),
-        Does::Stop => Ok(Op::Stop),
-        Does::Printf(format, parts) => {
-            let values = values_of(alloc, parts)?;
-            Ok(Op::Emit(Item::Printf { format, values }))
+fn are_parts(parts: &[Part], values: &[Value]) -> bool {
+    for (part, value) in parts.iter().zip(values) {
+        if value_of(*part) != *value {
+            return false;
         }
-        Does::Print(map, rows, top, div) => {
-            let map = MapId(map);
-            let rows = cells_of(alloc, rows)?;
-            Ok(Op::Emit(Item::Map {
+    }
+    parts.len() == values.len()
+}
+
+fn is_under(under: Under, cell: &Cell) -> bool {
+    match (under, cell) {
+        (Under::Value(part), Cell::Value(value)) => value_of(part) == *value,
+        (Under::Count(count), Cell::Agg(agg)) => count_of(count) == *agg,
+        _ => false,
+    }
+}
+
+fn are_cells(rows: &[(&[Part], Under)], cells: &[(Key, Cell)]) -> bool {
+    for ((parts, under), (key, cell)) in rows.iter().zip(cells) {
+        if !are_parts(*parts, key.parts()) || !is_under(*under, cell) {
+            return false;
+        }
+    }
+    rows.len() == cells.len()
+}
+
+fn is_item(does: Does, item: &Item) -> bool {
+    match (does, item) {
+        (Does::Printf(number, parts), Item::Printf { format, values }) => {
+            number == *format && are_parts(parts, values.as_slice())
+        }
+        (
+            Does::Print(number, wanted, most, by),
+            Item::Map {
                 map,
                 rows,
                 top,
                 div,
-            }))
+            },
+        ) => number == map.0 && most == *top && by == *div && are_cells(wanted, rows.as_slice()),
+        (Does::Cut(number), Item::Cut { line }) => number == *line,
+        _ => false,
+    }
+}
+
+/// Whether an operation is that of a table, whatever its object.
+fn is_op(does: Does, op: &Op) -> bool {
+    match (does, op) {
+        (Does::Get(_, parts), Op::Get(key)) => are_parts(parts, key.parts()),
+        (Does::Set(_, parts, part), Op::Set(key, value)) => {
+            are_parts(parts, key.parts()) && value_of(part) == *value
         }
-        Does::Cut(line) => Ok(Op::Emit(Item::Cut { line })),
+        (Does::Delete(_, parts), Op::Delete(key)) => are_parts(parts, key.parts()),
+        (Does::Add(number, parts, n), Op::Add(map, key, added)) => {
+            number == map.0 && n == *added && are_parts(parts, key.parts())
+        }
+        (Does::ReadParts(_), Op::ReadAll) => true,
+        (Does::ClearParts(_), Op::Clear) => true,
+        (Does::ZeroParts(_), Op::Zero) => true,
+        (Does::ReadTables(number), Op::Read(map)) => number == map.0,
+        (Does::ClearTables(number), Op::ClearOf(map)) => number == map.0,
+        (Does::ZeroTables(number), Op::ZeroOf(map)) => number == map.0,
+        (Does::Stop, Op::Stop) => true,
+        (_, Op::Emit(item)) => is_item(does, item),
+        _ => false,
     }
 }
 
-fn cells_of(alloc: Global, rows: &[(&[Part], Under)]) -> Result<Items<(Key, Cell)>, Fail> {
-    let mut cells = Items::new(alloc);
-    for (parts, under) in rows {
-        let key = key_of(alloc, *parts)?;
-        let cell = match *under {
-            Under::Value(part) => Cell::Value(value_of(part)),
-            Under::Count(count) => Cell::Agg(count_of(count)),
-        };
-        cells.push((key, cell))?;
+/// On how many objects an operation is made, beside so many actors.
+fn objects_of(does: Does, actors: u32) -> u32 {
+    match does {
+        Does::ReadParts(_) | Does::ClearParts(_) | Does::ZeroParts(_) => PARTS,
+        Does::ReadTables(_) | Does::ClearTables(_) | Does::ZeroTables(_) => actors,
+        _ => 1,
     }
-    Ok(cells)
 }
 
-fn parts_of(alloc: Global, map: u32) -> Result<Items<ObjectId>, Memory> {
-    let mut objects = Items::new(alloc);
-    for part in 0..PARTS {
-        let map = MapId(map);
-        objects.push(ObjectId::Shared { map, part })?;
+/// The part of a map for an operation on a key, or else the one with this number.
+fn part_at(op: &Op, number: u32) -> u32 {
+    match op {
+        Op::Get(key) | Op::Set(key, _) | Op::Delete(key) => part_of(key),
+        _ => number,
     }
-    Ok(objects)
 }
 
-fn tables_of(alloc: Global, actors: u32) -> Result<Items<ObjectId>, Memory> {
-    let mut objects = Items::new(alloc);
-    for actor in 0..actors {
-        objects.push(ObjectId::Cpu(actor))?;
-    }
-    Ok(objects)
-}
-
-fn one(alloc: Global, object: ObjectId) -> Result<Items<ObjectId>, Memory> {
-    let mut objects = Items::new(alloc);
-    objects.push(object)?;
-    Ok(objects)
-}
-
-/// The objects on which an operation is made.
-fn objects_of(alloc: Global, does: Does, moment: Moment) -> Result<Items<ObjectId>, Fail> {
-    let objects = match does {
-        Does::Get(map, parts) | Does::Set(map, parts, _) | Does::Delete(map, parts) => {
-            let key = key_of(alloc, parts)?;
-            let part = part_of(&key);
+/// The object with this number of those on which an actor makes an operation.
+fn object_at(does: Does, op: &Op, number: u32, actor: u32) -> ObjectId {
+    match does {
+        Does::Get(map, _)
+        | Does::Set(map, _, _)
+        | Does::Delete(map, _)
+        | Does::ReadParts(map)
+        | Does::ClearParts(map)
+        | Does::ZeroParts(map) => {
+            let part = part_at(op, number);
             let map = MapId(map);
-            one(alloc, ObjectId::Shared { map, part })?
+            ObjectId::Shared { map, part }
         }
-        Does::Add(_, _, _) => one(alloc, ObjectId::Cpu(moment.actor))?,
-        Does::ReadParts(map) | Does::ClearParts(map) | Does::ZeroParts(map) => {
-            parts_of(alloc, map)?
-        }
-        Does::ReadTables(_) | Does::ClearTables(_) | Does::ZeroTables(_) => {
-            tables_of(alloc, moment.actors)?
-        }
-        Does::Stop => one(alloc, ObjectId::Clock)?,
-        Does::Printf(_, _) | Does::Print(_, _, _, _) | Does::Cut(_) => one(alloc, ObjectId::Out)?,
-    };
-    Ok(objects)
+        Does::Add(_, _, _) => ObjectId::Cpu(actor),
+        Does::ReadTables(_) | Does::ClearTables(_) | Does::ZeroTables(_) => ObjectId::Cpu(number),
+        Does::Stop => ObjectId::Clock,
+        Does::Printf(_, _) | Does::Print(_, _, _, _) | Does::Cut(_) => ObjectId::Out,
+    }
 }
 
-/// Whether the steps at this place and after it begin with this operation on all of its objects; answers the place behind them.
-fn passed(
-    alloc: Global,
-    steps: &[Step],
-    place: usize,
-    does: Does,
-    moment: Moment,
-) -> Result<Option<usize>, Fail> {
-    let op = op_of(alloc, does)?;
-    let objects = objects_of(alloc, does, moment)?;
-    let mut next = place;
-    for object in objects.as_slice() {
-        match steps.get(next) {
-            Some(step) if step.object == *object && step.op == op => {}
-            _ => return Ok(None),
+/// Whether a step is this operation on the object with this number.
+fn is_step(does: Does, step: &Step, number: u32, actor: u32) -> bool {
+    is_op(does, &step.op) && step.object == object_at(does, &step.op, number, actor)
+}
+
+/// The steps behind those of this operation on all of its objects, where the steps begin with these.
+fn passed(steps: &[Step], does: Does, moment: Moment) -> Option<&[Step]> {
+    let mut rest = steps;
+    for number in 0..objects_of(does, moment.actors) {
+        match rest {
+            [step, others @ ..] if is_step(does, step, number, moment.actor) => rest = others,
+            _ => return None,
         }
-        next = next.saturating_add(1);
     }
-    Ok(Some(next))
+    Some(rest)
 }
 
 /// Whether the steps are just these operations.
-fn are_steps(alloc: Global, steps: &[Step], does: &[Does], moment: Moment) -> Result<bool, Fail> {
-    let mut place = 0;
-    for does in does {
-        match passed(alloc, steps, place, *does, moment)? {
-            Some(next) => place = next,
-            None => return Ok(false),
+fn are_steps(steps: &[Step], wanted: &[Does], moment: Moment) -> bool {
+    let mut rest = steps;
+    for does in wanted {
+        match passed(rest, *does, moment) {
+            Some(others) => rest = others,
+            None => return false,
         }
     }
-    Ok(place == steps.len())
+    rest.is_empty()
 }
 
 /// Whether the walk of a row does what it says, and ends so.
-pub(crate) fn holds(alloc: Global, row: &Row, formats: &[Format]) -> Result<bool, Fail> {
-    let typed = typed_of(alloc, row.0, formats)?;
-    let replies = replies_of(alloc, row.3)?;
-    let (ending, steps) = walk_typed(alloc, &typed, row.1, row.2, replies)?;
-    Ok(ending == row.5 && are_steps(alloc, steps.as_slice(), row.4, row.2)?)
+pub(crate) fn holds(alloc: Global, row: &Row) -> Result<bool, Fail> {
+    let (text, number, moment, said, wanted, end) = *row;
+    let typed = typed_of(alloc, text)?;
+    let (ending, steps) = walk_typed(alloc, &typed, number, moment, replies_of(alloc, said)?)?;
+    Ok(ending == end && are_steps(steps.as_slice(), wanted, moment))
 }
