@@ -62,7 +62,7 @@ pub const LEFT: Moment = Moment {
 };
 
 /// Whether a payload is as long as its event's layout says, or longer.
-pub fn is_long(layout: &Option<Layout>, payload: &[u8]) -> bool
+pub(crate) fn is_long(layout: &Option<Layout>, payload: &[u8]) -> bool
     ensures { IsTrue result → least_length layout.now ≤ length payload.now }
 {
     match layout {

@@ -25,18 +25,18 @@ pub const TOP: &[u8] =
     b"BEGIN { @m[1] = 1000; @m[2] = 5000; @m[3] = 2999; print(@m, 2, 1000); clear(@m); }";
 
 /// A loop in a loop, each with a way out.
-pub const LOOPS: &[u8] = b"BEGIN { $i = 0; while ($i < 3) { $i++; if ($i == 2) { continue; } \
+const LOOPS: &[u8] = b"BEGIN { $i = 0; while ($i < 3) { $i++; if ($i == 2) { continue; } \
 unroll (2) { if ($i == 3) { break; } @x = $i; } } }";
 
 /// Numbers that wait in a register, as a test's outcome, as a truth and as literals, one over another and at the ends of blocks.
-pub const WAITS: &[u8] =
+const WAITS: &[u8] =
     b"BEGIN { $a = 7; $b = -3; $c = $a * 2 - $b % 2; $d = !($a == 7) + ($b < 0) * 4; \
 @x[1, $a > 2, $b] = $c; $a += 5000000000; @y[$a++, --$b] = $d | ($c && $d) | (!$a || $b != 3); \
 printf(\"%d %d %d %d\\n\", 1, $a == 5, ~$b, 2 - $c); if ($a >> 1 >= 2) { @z = -5; } \
 @x[0, 2 > $b ? $a : 3, comm == \"p\"] = ($a << 1) / 3; }";
 
-/// The same as [`WAITS`] of an event's number and a builtin.
-pub const SEEN: &[u8] = b"tracepoint:t:e { @s = sum(args.v); @h[tid, args.v] = hist(args.v - tid); \
+/// The same of an event's number and a builtin.
+const SEEN: &[u8] = b"tracepoint:t:e { @s = sum(args.v); @h[tid, args.v] = hist(args.v - tid); \
 @a[args.v == 2] = avg(3); @m = max(args.v * args.v); @n[tid] = min(!args.v); }";
 
 /// Five numbers and their sum.
@@ -47,7 +47,7 @@ pub const FIVE: &[u8] =
 pub const COUNTS: &[u8] = b"BEGIN { $i = 0; while ($i < 1000) { $i = $i + 1; } @x = $i; }";
 
 /// The number of parts of a map, each of which is read, and cleared.
-pub const EACH_PART: usize = PARTS as usize;
+const EACH_PART: usize = PARTS as usize;
 
 /// A body of a script by its number, the moment, what is read from maps, how many steps its walk makes, and how it ends.
 pub type Row = (&'static [u8], usize, Moment, &'static [i64], usize, Ending);
