@@ -84,7 +84,7 @@ module _ (g : Ground) (setting : Setting) (v : View) (maps : v.maps.now ≡ g.ma
   ready (i.ReadAgg m key) n e s =
       let summed = is_summed (slice_get g.maps m.0) key in
       let named = (and_parts (is_key key) summed n).1 in
-      (few key summed n, (swept m s (summed_there (slice_get g.maps m.0) key named), subst (λ (ms : List MapDecl). IsAggregation (kind_of ms m)) (sym maps) (summed_kind_in (slice_get g.maps m.0) key named)))
+      (few key summed n, swept m s (summed_there (slice_get g.maps m.0) key named), subst (λ (ms : List MapDecl). IsAggregation (kind_of ms m)) (sym maps) (summed_kind_in (slice_get g.maps m.0) key named))
   ready (i.Set m key shape) n e s = few key (is_declared (slice_get g.maps m.0) (kind_of_shape shape) key) n
   ready (i.Delete m key) n e s = few key (is_shared (slice_get g.maps m.0) key) n
   ready (i.Update m key op) n e s = few key (is_declared (slice_get g.maps m.0) (kind_of_shape shapes.Int) key) n
