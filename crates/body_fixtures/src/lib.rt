@@ -6,5 +6,6 @@ pub mod moments;
 pub mod port;
 mod replies;
 pub mod scripts;
+pub mod tables;
 pub mod walks;
 pub mod worked;

@@ -8,7 +8,8 @@ ghost use Rattle.walk_meaning.specs.Served.{least_length};
 use crate::moments::{Moment, context_of, is_long};
 use crate::port::port_of;
 use crate::scripts::typed_of;
-use crate::walks::Made;
+use crate::walks::{Made, walk_text};
+use crate::worked::{Row, replies_of};
 use bt_core::items::Items;
 use bt_core::step::Reply;
 use bt_ir::run::run_ir;
@@ -16,6 +17,7 @@ use bt_lower::lower::lower;
 use ir_code::probe::IrProbe;
 use std::alloc::Global;
 use std::test::Fail;
+use std::time::{Clock, Duration, Instant};
 use typed_tree::body::TypedBody;
 use typed_tree::script::Typed;
 
@@ -54,12 +56,7 @@ fn run_lowered(
     }
 }
 
-/// The run of a script's body as it is lowered, under these replies.
-///
-/// # Errors
-///
-/// There is no such body, the moment is none of it, or want of memory, also where a reply is of another kind.
-pub fn run_typed(
+fn run_typed(
     alloc: Global,
     typed: &Typed,
     number: usize,
@@ -71,6 +68,36 @@ pub fn run_typed(
         Some(body) => run_lowered(alloc, body, probes.get(number), moment, replies),
         None => Err(Fail::from("no such body")),
     }
+}
+
+/// The run of a body of a script's text, by its number, as it is lowered, under these replies.
+///
+/// # Errors
+///
+/// Those of [`typed_of`], that there is no such body or the moment is none of it, or want of memory, also where a reply is of
+/// another kind.
+pub fn run_text(
+    alloc: Global,
+    text: &[u8],
+    number: usize,
+    moment: Moment,
+    replies: Items<Reply>,
+) -> Result<Made, Fail> {
+    let typed = typed_of(alloc, text)?;
+    run_typed(alloc, &typed, number, moment, replies)
+}
+
+/// Whether the run of a worked body as it is lowered and its walk make the same steps, so many, and end so.
+///
+/// # Errors
+///
+/// Those of [`run_text`].
+pub fn runs_as_walked(alloc: Global, row: &Row) -> Result<bool, Fail> {
+    let (text, number, moment, numbers, count, ending) = *row;
+    let walked = walk_text(alloc, text, number, moment, replies_of(alloc, numbers)?)?;
+    let ran = run_text(alloc, text, number, moment, replies_of(alloc, numbers)?)?;
+    let same = walked.0 == ran.0 && walked.1.as_slice() == ran.1.as_slice();
+    Ok(same && ran.0 == ending && ran.1.len() == count)
 }
 
 /// The one body of a script, as it is lowered.
@@ -88,4 +115,21 @@ pub fn probe_of(alloc: Global, text: &[u8]) -> Result<IrProbe, Fail> {
         Some(probe) => Ok(probe),
         None => Err(Fail::from("no body")),
     }
+}
+
+/// How many bodies a script has, and how long their lowering takes.
+///
+/// # Errors
+///
+/// Those of [`typed_of`], or that the clock cannot be read.
+pub fn lowering_time(
+    clock: &impl Clock,
+    alloc: Global,
+    text: &[u8],
+) -> Result<(usize, Duration), Fail> {
+    let typed = typed_of(alloc, text)?;
+    let begun = Instant::now(clock)?;
+    let probes = lower(alloc, &typed)?;
+    let taken = begun.elapsed(clock)?;
+    Ok((probes.len(), taken))
 }

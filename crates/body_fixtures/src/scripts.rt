@@ -1,8 +1,10 @@
 // Scripts and formats, and scripts with their types.
 ghost use Rattle.std.specs.Prelude.{◌<◌, ◌^◌, length, IfOk};
 
+use bt_ast::attached::Attached;
 use bt_ast::probe::Script;
 use bt_attach::attach::attach;
+use bt_attach::error::AttachError;
 use bt_core::items::Items;
 use bt_lexer::lexer::lex;
 use bt_parser::parse::parse;
@@ -40,12 +42,7 @@ field:sector_t sector;offset:16;size:8;signed:0;\n",
     ),
 ];
 
-/// The format of a system's event with this text.
-///
-/// # Errors
-///
-/// That of the text, or want of memory.
-pub fn format_of(alloc: Global, system: &[u8], text: &[u8]) -> Result<Format, Fail> {
+fn format_of(alloc: Global, system: &[u8], text: &[u8]) -> Result<Format, Fail> {
     let layout = read_layout(alloc, &text[..text.len().min(4096)])?;
     let system = Items::from_slice(alloc, system)?;
     let text = Items::from_slice(alloc, text)?;
@@ -56,20 +53,15 @@ pub fn format_of(alloc: Global, system: &[u8], text: &[u8]) -> Result<Format, Fa
     })
 }
 
-fn formats(alloc: Global) -> Result<Vec<Format>, Fail> {
+fn formats_of(alloc: Global, texts: &[(&[u8], &[u8])]) -> Result<Vec<Format>, Fail> {
     let mut formats = Vec::new(alloc);
-    for (system, text) in FORMATS {
-        formats.push(format_of(alloc, system, text)?)?;
+    for (system, text) in texts {
+        formats.push(format_of(alloc, *system, *text)?)?;
     }
     Ok(formats)
 }
 
-/// The script of a text of 65,536 bytes at most.
-///
-/// # Errors
-///
-/// The first fault of the text, or more than 64 probes, or want of memory.
-pub fn script_of(alloc: Global, text: &[u8]) -> Result<Script, Fail>
+fn script_of(alloc: Global, text: &[u8]) -> Result<Script, Fail>
     ensures { IfOk result (λ script. length script.probes < 2 ^ 32) }
 {
     let tokens = lex(alloc, &text[..text.len().min(65_536)])?;
@@ -80,12 +72,40 @@ pub fn script_of(alloc: Global, text: &[u8]) -> Result<Script, Fail>
     Ok(script)
 }
 
-/// The script of a text with its types, or the first fault of these, in a recording that ends at a time in nanoseconds.
+/// What the script of a text is attached to over formats and the time from a start to an end, or its first fault.
 ///
 /// # Errors
 ///
-/// The first fault of the text or of what it is attached to, or want of memory.
-pub fn checked(
+/// The first fault of the text, or more than 64 probes, or want of memory.
+pub fn attached_to(
+    alloc: Global,
+    text: &[u8],
+    formats: &[Format],
+    start: u64,
+    end: u64,
+) -> Result<Result<Attached, AttachError>, Fail> {
+    let script = script_of(alloc, text)?;
+    let formats = &formats[..formats.len().min(4096)];
+    Ok(attach(alloc, &script, formats, start, end))
+}
+
+/// The same over the formats of these texts, each with its system.
+///
+/// # Errors
+///
+/// Those of [`attached_to`], and of the formats' texts.
+pub fn attached_over(
+    alloc: Global,
+    text: &[u8],
+    formats: &[(&[u8], &[u8])],
+    start: u64,
+    end: u64,
+) -> Result<Result<Attached, AttachError>, Fail> {
+    let formats = formats_of(alloc, formats)?;
+    attached_to(alloc, text, formats.as_slice(), start, end)
+}
+
+fn checked(
     alloc: Global,
     text: &[u8],
     formats: &[Format],
@@ -97,6 +117,20 @@ pub fn checked(
     Ok(check(alloc, &script, &attached, formats))
 }
 
+/// The first fault of the types of a script, if it has one, over the formats of these texts, each with its system.
+///
+/// # Errors
+///
+/// The first fault of the text, of the formats' texts or of what it is attached to, or want of memory.
+pub fn type_fault(
+    alloc: Global,
+    text: &[u8],
+    formats: &[(&[u8], &[u8])],
+) -> Result<Option<TypeError>, Fail> {
+    let formats = formats_of(alloc, formats)?;
+    Ok(checked(alloc, text, formats.as_slice(), 0)?.err())
+}
+
 /// The script of a text with its types, in a recording of two seconds with the formats `t:e`, which has the number `v`, `t:enter` and
 /// `t:exit`, `block_rq_issue` and `block_rq_complete` of `block`, and `raw_syscalls:sys_enter`.
 ///
@@ -104,6 +138,6 @@ pub fn checked(
 ///
 /// The first fault of the text, of what it is attached to, or of its types, or want of memory.
 pub fn typed_of(alloc: Global, text: &[u8]) -> Result<Typed, Fail> {
-    let formats = formats(alloc)?;
+    let formats = formats_of(alloc, &FORMATS[..])?;
     Ok(checked(alloc, text, formats.as_slice(), 2_000_000_000)??)
 }

@@ -3,6 +3,7 @@ ghost use Rattle.std.specs.Prelude.{◌≡◌, ◌≤◌, All, Some, slice_get};
 
 use crate::moments::{Moment, context_of, is_long};
 use crate::port::port_of;
+use crate::scripts::typed_of;
 use bt_core::ending::Ending;
 use bt_core::items::Items;
 use bt_core::map::MapDecl;
@@ -36,12 +37,7 @@ fn walk(
     Ok((ending, port.steps))
 }
 
-/// The walk of a script's body under these replies.
-///
-/// # Errors
-///
-/// There is no such body, the moment is none of it, or want of memory, also where a reply is of another kind.
-pub fn walk_typed(
+fn walk_typed(
     alloc: Global,
     typed: &Typed,
     number: usize,
@@ -52,4 +48,21 @@ pub fn walk_typed(
         Some(body) => walk(alloc, &typed.maps, body, moment, replies),
         None => Err(Fail::from("no such body")),
     }
+}
+
+/// The walk of a body of a script's text, by its number, under these replies.
+///
+/// # Errors
+///
+/// Those of [`typed_of`], that there is no such body or the moment is none of it, or want of memory, also where a reply is of
+/// another kind.
+pub(crate) fn walk_text(
+    alloc: Global,
+    text: &[u8],
+    number: usize,
+    moment: Moment,
+    replies: Items<Reply>,
+) -> Result<Made, Fail> {
+    let typed = typed_of(alloc, text)?;
+    walk_typed(alloc, &typed, number, moment, replies)
 }

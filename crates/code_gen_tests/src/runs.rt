@@ -1,6 +1,7 @@
 // Runs of bodies by their programs.
 use body_fixtures::moments::{Moment, context_of};
 use body_fixtures::port::port_of;
+use body_fixtures::scripts::typed_of;
 use bpf_codegen::generate::generate_program;
 use bpf_encode::decode::decode;
 use bt_core::items::Items;
@@ -38,17 +39,18 @@ fn run_code_of(
     Ok((port.steps, ended.instructions))
 }
 
-/// The steps of a script's body as its program makes them, and how many instructions it takes.
+/// The steps of a body of a script's text, by its number, as its program makes them, and how many instructions it takes.
 pub(crate) fn run_program(
     alloc: Global,
-    typed: &Typed,
+    text: &[u8],
     number: usize,
     moment: Moment,
     replies: Items<Reply>,
 ) -> Result<(Items<Step>, u64), Fail> {
-    let probes = lower(alloc, typed)?;
+    let typed = typed_of(alloc, text)?;
+    let probes = lower(alloc, &typed)?;
     match probes.get(number) {
-        Some(probe) => run_code_of(alloc, typed, probe, moment, replies),
+        Some(probe) => run_code_of(alloc, &typed, probe, moment, replies),
         None => Err(Fail::from("no such body")),
     }
 }

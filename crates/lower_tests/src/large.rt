@@ -1,10 +1,8 @@
 // A script of as many bytes as may be.
-use body_fixtures::scripts::typed_of;
+use body_fixtures::lowered::lowering_time;
 use bt_core::memory::Memory;
-use bt_lower::lower::lower;
 use std::alloc::Global;
 use std::test::Fail;
-use std::time::Instant;
 
 /// Statements of 8 bytes, 256 bytes with an `if` and a loop.
 const STATEMENTS: &[u8] = b"if (@a == 1) { @b = 2; } else { @c++; } unroll (2) { @d++; }    \
@@ -27,11 +25,8 @@ fn a_script_of_65536_bytes_is_lowered_in_a_second(rt: HostRuntime) -> Result<(),
     let alloc = rt.alloc();
     let text = large_text(alloc)?;
     assert_eq!(rt; text.len(), 65_536);
-    let typed = typed_of(alloc, text.as_slice())?;
-    let begun = Instant::now(&rt)?;
-    let probes = lower(alloc, &typed)?;
-    let taken = begun.elapsed(&rt)?;
-    assert_eq!(rt; probes.len(), 1);
+    let (bodies, taken) = lowering_time(&rt, alloc, text.as_slice())?;
+    assert_eq!(rt; bodies, 1);
     assert!(rt; taken.as_millis() < 1000);
     Ok(())
 }

@@ -3,5 +3,3 @@
 
 #[cfg(test)]
 mod rules;
-#[cfg(test)]
-mod scripts;

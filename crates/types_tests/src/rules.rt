@@ -1,8 +1,22 @@
 // Scripts that break a rule of types, each with its place, and scripts that break none.
-use crate::scripts::fault_of;
+use body_fixtures::scripts::type_fault;
 use bt_core::place::Place;
 use expr_types::fault::{Fault, Rule, TypeError};
 use std::test::Fail;
+
+/// The format of an event with a field of each kind: two whole numbers, two strings, and one that no script reads.
+const EVENT: &[u8] = b"name: e\nID: 7\nformat:\n\
+field:u64 v;offset:8;size:8;signed:0;\n\
+field:const void * p;offset:16;size:8;signed:0;\n\
+field:char c[8];offset:24;size:8;signed:0;\n\
+field:__data_loc char[] d;offset:32;size:4;signed:0;\n\
+field:int o[3];offset:36;size:12;signed:1;\n";
+
+/// The format of an event with one field.
+const OTHER: &[u8] = b"name: f\nID: 8\nformat:\nfield:u64 v;offset:8;size:8;signed:0;\n";
+
+/// The formats of `t:e` and `u:f`.
+const FORMATS: [(&[u8], &[u8]); 2] = [(b"t", EVENT), (b"u", OTHER)];
 
 /// Scripts over the formats `t:e` and `u:f`, with the rule that each breaks first, and the line and column of its place.
 const REFUSED: [(&[u8], Rule, u32, u32); 50] = [
@@ -155,7 +169,10 @@ fn the_first_rule_that_is_broken_is_told(rt: HostRuntime) -> Result<(), Fail> {
         let (text, rule, line, column) = *row;
         let place = Place { line, column };
         let fault = TypeError::Broken(Fault { rule, place });
-        assert!(rt; fault_of(alloc, text)? == Some(fault), "row {number}");
+        assert!(rt;
+            type_fault(alloc, text, &FORMATS[..])? == Some(fault),
+            "row {number}"
+        );
     }
     Ok(())
 }
@@ -198,7 +215,10 @@ const ACCEPTED: [&[u8]; 26] = [
 fn the_nearest_scripts_have_types(rt: HostRuntime) -> Result<(), Fail> {
     let alloc = rt.alloc();
     for (number, text) in ACCEPTED.iter().enumerate() {
-        assert!(rt; fault_of(alloc, *text)?.is_none(), "row {number}");
+        assert!(rt;
+            type_fault(alloc, *text, &FORMATS[..])?.is_none(),
+            "row {number}"
+        );
     }
     Ok(())
 }

@@ -4,6 +4,4 @@
 #[cfg(test)]
 mod rows;
 #[cfg(test)]
-mod tables;
-#[cfg(test)]
 mod traps;

@@ -1,6 +1,6 @@
 // Worked scripts.
-use crate::tables::{Does, Part, Row, Says, Under, holds};
 use body_fixtures::moments::{AT_MINUS_FOUR, AT_ONE, AT_TWO, LEFT, MAIN, Moment};
+use body_fixtures::tables::{Does, Part, Row, Says, Under, holds};
 use body_fixtures::worked::{HALVES, STOPS, TIMES, TOP};
 use bt_core::ending::Ending;
 use std::test::Fail;

@@ -1,6 +1,6 @@
 // What a walk can get wrong, each by a script that tells.
-use crate::tables::{Does, Part, Row, Says, Under, holds};
 use body_fixtures::moments::Moment;
+use body_fixtures::tables::{Does, Part, Row, Says, Under, holds};
 use bt_core::ending::Ending;
 use std::test::Fail;
 

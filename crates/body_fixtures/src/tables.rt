@@ -1,8 +1,7 @@
 // How tables write replies and operations, and walks of their rows.
-use body_fixtures::moments::Moment;
-use body_fixtures::scripts::typed_of;
-use body_fixtures::walks::walk_typed;
-use body_fixtures::worked::push_rows;
+use crate::moments::Moment;
+use crate::walks::walk_text;
+use crate::worked::push_rows;
 use bt_core::agg::{Agg, Buckets};
 use bt_core::encoding::part_of;
 use bt_core::ending::Ending;
@@ -19,21 +18,21 @@ use std::test::Fail;
 
 /// A number or a string.
 #[derive(Clone, Copy)]
-pub(crate) enum Part {
+pub enum Part {
     N(i64),
     S(&'static [u8]),
 }
 
 /// What is under a key: a value, or the aggregate of so many numbers 1.
 #[derive(Clone, Copy)]
-pub(crate) enum Under {
+pub enum Under {
     Value(Part),
     Count(i64),
 }
 
 /// What is replied: the value of a key, the rows of a map over all its parts, or the aggregates of a table.
 #[derive(Clone, Copy)]
-pub(crate) enum Says {
+pub enum Says {
     Value(Part),
     Rows(&'static [(&'static [Part], Part)]),
     Counts(&'static [(&'static [Part], i64)]),
@@ -42,7 +41,7 @@ pub(crate) enum Says {
 /// What a walk does: single operations, and those on all parts of a map or on the tables of all actors. Maps and formats
 /// have their numbers.
 #[derive(Clone, Copy)]
-pub(crate) enum Does {
+pub enum Does {
     Get(u32, &'static [Part]),
     Set(u32, &'static [Part], Part),
     Delete(u32, &'static [Part]),
@@ -60,7 +59,7 @@ pub(crate) enum Does {
 }
 
 /// A body of a script by its number, the moment and the replies, and what the walk does and how it ends.
-pub(crate) type Row = (
+pub type Row = (
     &'static [u8],
     usize,
     Moment,
@@ -262,9 +261,12 @@ fn are_steps(steps: &[Step], wanted: &[Does], moment: Moment) -> bool {
 }
 
 /// Whether the walk of a row does what it says, and ends so.
-pub(crate) fn holds(alloc: Global, row: &Row) -> Result<bool, Fail> {
+///
+/// # Errors
+///
+/// Those of [`walk_text`].
+pub fn holds(alloc: Global, row: &Row) -> Result<bool, Fail> {
     let (text, number, moment, said, wanted, end) = *row;
-    let typed = typed_of(alloc, text)?;
-    let (ending, steps) = walk_typed(alloc, &typed, number, moment, replies_of(alloc, said)?)?;
+    let (ending, steps) = walk_text(alloc, text, number, moment, replies_of(alloc, said)?)?;
     Ok(ending == end && are_steps(steps.as_slice(), wanted, moment))
 }
