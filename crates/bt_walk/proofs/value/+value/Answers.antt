@@ -5,6 +5,7 @@ use Rattle.bt_core.specs.declared.map.Shape.TheVariants as shapes
 use Rattle.bt_core.specs.declared.value.Value.TheVariants.{Int}
 use Rattle.bt_core.specs.Arithmetic.{truth}
 use Rattle.typed_tree.specs.Parts.{made_of, key_shapes}
+use Rattle.typed_tree.specs.Scope.{decl_of}
 use Rattle.map_ops.specs.Values.{number_of, text_of}
 use Rattle.walk_meaning.specs.Served.{Fits, IsServed, all_made}
 use Rattle.bt_walk.proofs.Binds.{Part-first, Part-next, Whole-next, Walked-next, Given-done, Looked-done, Changed-done, Number-done, Number-seen, Whole-yes, Whole-no, Part-yes, Part-no, Walked-yes, Walked-no, Lifted-walked}
@@ -337,7 +338,8 @@ pub read_agg-sum_at-requires-clause-named : goal.read_agg-sum_at-requires-clause
 read_agg-sum_at-requires-clause-named g t c = summed_there _ _ c.requires.declared
 
 pub read_agg-sum_at-requires-clause-gathers : goal.read_agg-sum_at-requires-clause-gathers
-read_agg-sum_at-requires-clause-gathers g t c = summed_here _ _ c.requires.declared
+read_agg-sum_at-requires-clause-gathers g t c =
+    summed_here (decl_of c.args.map.0 c.args.view.now.body.now.maps) (key_shapes (all_made c.args.keys.now)) c.requires.declared
 
 pub read_agg-returns-clause-walked : goal.read_agg-returns-clause-walked
 read_agg-returns-clause-walked g t c =
