@@ -1,7 +1,7 @@
 -- The number under a key has 64 bits where those of all aggregates have.
-use Rattle.std.proofs.Common.{◌≡◌, ℕ, ℤ, pos, List, [], ◌∷◌, ◌++◌, Option, Some, None, Bool, true, false, cond, map, refl, sym, ap, ◌∙◌, subst, FitsSigned, w64, arith, rules}
+use Rattle.std.proofs.Common.{◌≡◌, ℤ, pos, List, [], ◌∷◌, ◌++◌, Option, Some, None, Bool, true, false, cond, map, refl, sym, ◌∙◌, subst, FitsSigned, w64, arith}
 use Rattle.std.specs.Prelude.{fold}
-use Rattle.std.specs.List.{AllByRecursion, filter, flat_map}
+use Rattle.std.specs.List.{AllByRecursion, filter}
 use Rattle.std.specs.Map.{lookup}
 use Rattle.std.specs.Int.{int_min, int_max}
 use Rattle.std.specs.Int.RustNames.{int_div}
@@ -13,13 +13,13 @@ use Rattle.bt_core.specs.declared.item.Cell.TheVariants as cells
 use Rattle.bt_core.specs.declared.map.AggKind.{AggKind}
 use Rattle.bt_core.specs.declared.map.AggKind.TheVariants.{Count, Sum, Min, Max, Avg, Hist, Lhist}
 use Rattle.bt_core.specs.declared.value.Value.{Value}
-use Rattle.bt_core.specs.Arithmetic.{binary_value, wrapped, is_zero}
+use Rattle.bt_core.specs.Arithmetic.{wrapped, is_zero}
 use Rattle.agg_core.specs.Aggregates.{signed, either, agg_merged}
 use Rattle.agg_core.specs.Changes.{is_key}
 use Rattle.map_rows.specs.Merged.{both_cells, joined_cells, cells_at, merged_rows, ordered_keys}
 use Rattle.step_list.specs.HeldReplies.{OptionFits, IsHeldAgg}
 use Rattle.map_rows.specs.UnderKey.{cell_number, number_under}
-use Rattle.map_rows.specs.Numbers.{number_of, number_by, or_zero, quotient}
+use Rattle.map_rows.specs.Numbers.{number_by, or_zero, quotient}
 
 abbrev pub IsHeldCell : Cell → Type 0
 IsHeldCell (cells.Value v) = Unit {0}

@@ -238,7 +238,7 @@ module _ (t : Sheet) (a s : Seen) (full : length s.regs ≡ 10) (c : Covers a s)
 
   sum_fits_also : (m m' : Option MapDecl) → AlsoThe m m' → sum_fits m (known_of a 2) (known_of a 3) ≡ true → sum_fits m' (known_of s 2) (known_of s 3) ≡ true
   sum_fits_also None m' h e = absurd (cc)
-  sum_fits_also (Some d) m' h e = ap (λ (x : Option MapDecl). sum_fits x (known_of s 2) (known_of s 3)) h ∙ and_also _ _ _ _ (frame_also _ _ _ (base_also 2)) (results_also _ _ _ (base_also 3)) e
+  sum_fits_also (Some d) m' h e = ap (λ (x : Option MapDecl). sum_fits x (known_of s 2) (known_of s 3)) h ∙ and_also _ _ _ _ (frame_also _ _ _ (base_also 2)) (results_also 8 _ _ (base_also 3)) e
 
   printf_also : (m m' : Option (List Piece)) → AlsoThe m m' → printf_fits m (known_of a 2) ≡ true → printf_fits m' (known_of s 2) ≡ true
   printf_also None m' h e = absurd (cc)

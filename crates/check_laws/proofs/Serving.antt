@@ -314,9 +314,9 @@ module _ (typed : Typed) (least actor actors : ℕ) (s : Spaces) (turns : ℕ) (
     sums : (o : Option MapDecl) → known_summed_map typed.maps (known_of a 1) ≡ o → sum_fits o (known_of a 2) (known_of a 3) ≡ true → Well (does.read_agg typed.maps actors (arg 1) (arg 2) (arg 3) s)
     sums None e f = absurd (cc)
     sums (Some decl) e f =
-        let p = and_parts (is_key decl (known_of a 2)) _ f in
+        let p = and_parts (is_key decl (known_of a 2)) (in_results 8 (number_in (known_of a 3))) f in
         read_agg_well (arg 1) (arg 2) (arg 3) decl (finds (summed_map typed.maps) (known_of a 1) decl (reg_of regs 1) e (holds.each 1)) (frame_is _ (known_of a 2) _ p.0 (holds.each 2))
-        (results_is _ (known_of a 3) _ p.1 (holds.each 3))
+        (results_is 8 (known_of a 3) _ p.1 (holds.each 3))
 
     printfs : (o : Option (List Piece)) → known_at typed.formats (known_of a 1) ≡ o → printf_fits o (known_of a 2) ≡ true → Well (does.printf typed.formats (arg 1) (arg 2) s)
     printfs None e f = absurd (cc)
