@@ -4,15 +4,16 @@ use Rattle.std.specs.Io.KnownBytes.{Appends, Keeps}
 use Rattle.bt_io.specs.Faults.{Rose}
 use Rattle.bt_io.specs.Taken.{AppendsPart}
 use Rattle.bt_words.specs.declared.order.Order.{Order}
-use Rattle.bt_words.specs.declared.order.Order.TheVariants.{Run, Check, Code, Gen, Big}
+use Rattle.bt_words.specs.declared.order.Order.TheVariants.{Run, Check, Code, Vet, Gen, Big}
 use Rattle.bt_top.specs.declared.outcome.Outcome.{Outcome}
 use Rattle.bt_top.specs.declared.report.Report.{Report}
+use Rattle.bt_top.specs.declared.refusal.CodeRefusal.{CodeRefusal}
 use Rattle.bt_top.specs.declared.refusal.Operand.{Operand}
 use Rattle.bt_top.specs.declared.refusal.Operand.TheVariants as operand
 use Rattle.bt_top.specs.declared.refusal.RecordingRefusal.TheVariants as recording
 use Rattle.bt_top.specs.declared.refusal.ScriptRefusal.TheVariants as script
 use Rattle.bt_top.specs.declared.refusal.Refusal.{Refusal}
-use Rattle.bt_top.specs.declared.refusal.Refusal.TheVariants.{Script, Recording, ReadFault, WriteFault, Memory}
+use Rattle.bt_top.specs.declared.refusal.Refusal.TheVariants.{Script, Recording, ReadFault, WriteFault, Memory, RefusedCode}
 use Rattle.bt_top.specs.Due.{IsDue}
 use Rattle.bt_top.specs.Lines.{SinkUse, SinkFailed, Writes}
 use Rattle.bt_top.specs.Orders.{OperandFile, files_of, limit_of}
@@ -79,12 +80,13 @@ abbrev pub IsReached : List OperandFile → List (List ℕ) → Operand → Type
 IsReached (file ∷ files) (bytes ∷ contents) operand = (operand ≡ file.operand) ⊎ ((length bytes ≤ limit_of file.operand) × IsReached files contents operand)
 IsReached files contents operand = ⊥
 
--- what may come of files with these contents: what is due to them; want of memory; a fault of a read that is reached; or a fault of the write
--- where nothing is due; faults only where their counts rose
+-- what may come of files with these contents: what is due to them; want of memory; a fault of a read that is reached; or, where nothing is due,
+-- a fault of the write or programs that are refused; faults only where their counts rose
 abbrev pub MayCome : List OperandFile → List (List ℕ) → (read_failed write_failed : Type 0) → Option Refusal → Type 0
 MayCome files contents read_failed write_failed (Some Memory) = Unit {0}
 MayCome files contents read_failed write_failed (Some (ReadFault operand)) = read_failed × IsReached files contents operand
 MayCome files contents read_failed write_failed (Some WriteFault) = write_failed × IsDue files contents None
+MayCome files contents read_failed write_failed (Some (RefusedCode why)) = IsDue files contents None
 MayCome files contents read_failed write_failed due = IsDue files contents due
 
 -- a fault of the read of a file stands for what is due, unless that is that a file before it is too long
@@ -92,11 +94,12 @@ abbrev pub ReadStandsFor : List OperandFile → Operand → Option Refusal → T
 ReadStandsFor [] operand due = ⊥
 ReadStandsFor (file ∷ files) operand due = (operand ≡ file.operand) ⊎ ((due ≢ Some (too_long file.operand)) × ReadStandsFor files operand due)
 
--- want of memory, or a fault of a step before which nothing is due: of a read, and of the write where nothing is refused
+-- want of memory, or a fault of a step before which nothing is due: of a read, and where nothing is refused of the write or of programs
 abbrev pub MayStandFor : List OperandFile → Option Refusal → Option Refusal → Type 0
 MayStandFor files (Some Memory) due = Unit {0}
 MayStandFor files (Some (ReadFault operand)) due = ReadStandsFor files operand due
 MayStandFor files (Some WriteFault) due = due ≡ None
+MayStandFor files (Some (RefusedCode why)) due = due ≡ None
 MayStandFor files refusal due = ⊥
 
 -- what is due to the files comes, unless a fault or want of memory stands for it
@@ -108,11 +111,22 @@ abbrev pub ReadFailed : List OperandFile → ShelfUse → Type 0
 ReadFailed [] shelf = ⊥
 ReadFailed (file ∷ files) shelf = ShelfFailed shelf
 
--- where nothing is due to the files and nothing failed, the status is that of success or of want of memory
-abbrev pub IsComplete : List OperandFile → (read_failed write_failed : Type 0) → ℕ → List (List ℕ) → Type 0
-IsComplete files read_failed write_failed status contents = IsDue files contents None → ¬ read_failed → ¬ write_failed → (status ≡ 0) ⊎ (status ≡ 6)
+-- the status of success or of want of memory, and of `vet` also that of programs that are refused
+abbrev pub IsEndStatus : Order → ℕ → Type 0
+IsEndStatus (Vet script recording) status = (status ≡ 0) ⊎ ((status ≡ 6) ⊎ (status ≡ 8))
+IsEndStatus order status = (status ≡ 0) ⊎ (status ≡ 6)
+
+-- so it ends where nothing is due to the files and nothing failed
+abbrev pub IsComplete : Order → (read_failed write_failed : Type 0) → ℕ → List (List ℕ) → Type 0
+IsComplete order read_failed write_failed status contents =
+    IsDue (files_of order) contents None → ¬ read_failed → ¬ write_failed → IsEndStatus order status
 
 -- ---- what is done
+
+-- programs that are refused are told; else nothing is, or a fault of the write
+abbrev pub IsTold : Option CodeRefusal → Option Refusal → Type 0
+IsTold (Some why) refusal = refusal ≡ Some (RefusedCode why)
+IsTold None refusal = (refusal ≡ None) ⊎ (refusal ≡ Some WriteFault)
 
 -- the output took the bytes at status 0, a prefix of them after a fault of the write, and else nothing
 abbrev pub IsWritten : SinkUse → Option Refusal → List ℕ → Type 0
@@ -120,12 +134,14 @@ IsWritten out None bytes = Appends out.taken out.taken_after bytes
 IsWritten out (Some WriteFault) bytes = AppendsPart out.taken out.taken_after bytes
 IsWritten out (Some refusal) bytes = Keeps out.taken out.taken_after
 
--- what the order comes to was done: its work and its programs are handed back, and its bytes were written
+-- what the order comes to was done: its work and its programs are handed back, and its bytes were written; or its programs are refused, and
+-- that is told
 pub record IsDone (order : Order) (contents : List (List ℕ)) (out : SinkUse) (report : Report) : Type 0 where
   pub outcome : Outcome
   pub comes : ComesTo order contents outcome
   pub work : report.work ≡ outcome.work
   pub programs : report.programs ≡ outcome.programs
+  pub told : IsTold outcome.refused report.refusal
   pub written : IsWritten out report.refusal (bytes_written outcome)
 
 -- nothing was done, and nothing written
@@ -134,10 +150,12 @@ pub record IsNothing (out : SinkUse) (report : Report) : Type 0 where
   pub programs : report.programs ≡ []
   pub written : Keeps out.taken out.taken_after
 
--- all was done at status 0, all but a part of the writing after a fault of the write, and else nothing
+-- all was done at status 0, all but a part of the writing after a fault of the write, all but the writing where programs are refused, and else
+-- nothing
 abbrev pub IsDoneUnlessRefused : Option Refusal → Order → List (List ℕ) → SinkUse → Report → Type 0
 IsDoneUnlessRefused None order contents out report = IsDone order contents out report
 IsDoneUnlessRefused (Some WriteFault) order contents out report = IsDone order contents out report
+IsDoneUnlessRefused (Some (RefusedCode why)) order contents out report = IsDone order contents out report
 IsDoneUnlessRefused (Some refusal) order contents out report = IsNothing out report
 
 -- the answer to an order, over files whose contents are what the shelf tells of them
@@ -157,6 +175,7 @@ abbrev pub IsRunOrder : Order → Type 0
 IsRunOrder (Run serial stats json script recording) = Unit {0}
 IsRunOrder (Check script recording) = ⊥
 IsRunOrder (Code script recording) = ⊥
+IsRunOrder (Vet script recording) = ⊥
 IsRunOrder (Gen x n) = ⊥
 IsRunOrder (Big x n) = Unit {0}
 
