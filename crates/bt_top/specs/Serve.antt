@@ -80,13 +80,12 @@ abbrev pub IsReached : List OperandFile → List (List ℕ) → Operand → Type
 IsReached (file ∷ files) (bytes ∷ contents) operand = (operand ≡ file.operand) ⊎ ((length bytes ≤ limit_of file.operand) × IsReached files contents operand)
 IsReached files contents operand = ⊥
 
--- what may come of files with these contents: what is due to them; want of memory; a fault of a read that is reached; or, where nothing is due,
--- a fault of the write or programs that are refused; faults only where their counts rose
+-- what may come of files with these contents: what is due to them; want of memory; a fault of a read that is reached; or a fault of the write
+-- where nothing is due; faults only where their counts rose
 abbrev pub MayCome : List OperandFile → List (List ℕ) → (read_failed write_failed : Type 0) → Option Refusal → Type 0
 MayCome files contents read_failed write_failed (Some Memory) = Unit {0}
 MayCome files contents read_failed write_failed (Some (ReadFault operand)) = read_failed × IsReached files contents operand
 MayCome files contents read_failed write_failed (Some WriteFault) = write_failed × IsDue files contents None
-MayCome files contents read_failed write_failed (Some (RefusedCode why)) = IsDue files contents None
 MayCome files contents read_failed write_failed due = IsDue files contents due
 
 -- a fault of the read of a file stands for what is due, unless that is that a file before it is too long
@@ -94,17 +93,39 @@ abbrev pub ReadStandsFor : List OperandFile → Operand → Option Refusal → T
 ReadStandsFor [] operand due = ⊥
 ReadStandsFor (file ∷ files) operand due = (operand ≡ file.operand) ⊎ ((due ≢ Some (too_long file.operand)) × ReadStandsFor files operand due)
 
--- want of memory, or a fault of a step before which nothing is due: of a read, and where nothing is refused of the write or of programs
+-- want of memory, or a fault of a step before which nothing is due: of a read, and of the write where nothing is refused
 abbrev pub MayStandFor : List OperandFile → Option Refusal → Option Refusal → Type 0
 MayStandFor files (Some Memory) due = Unit {0}
 MayStandFor files (Some (ReadFault operand)) due = ReadStandsFor files operand due
 MayStandFor files (Some WriteFault) due = due ≡ None
-MayStandFor files (Some (RefusedCode why)) due = due ≡ None
 MayStandFor files refusal due = ⊥
 
 -- what is due to the files comes, unless a fault or want of memory stands for it
 abbrev pub ComesIfDue : List OperandFile → Option Refusal → List (List ℕ) → Type 0
 ComesIfDue files refusal contents = (due : Option Refusal) → IsDue files contents due → (refusal ≡ due) ⊎ MayStandFor files refusal due
+
+-- `vet` alone ends with programs that are refused
+abbrev pub IsVetOrder : Order → Type 0
+IsVetOrder (Run serial stats json script recording) = ⊥
+IsVetOrder (Check script recording) = ⊥
+IsVetOrder (Code script recording) = ⊥
+IsVetOrder (Vet script recording) = Unit {0}
+IsVetOrder (Gen x n) = ⊥
+IsVetOrder (Big x n) = ⊥
+
+-- what may come of an order over files with these contents: the same as of its files, and programs that are refused where nothing is due
+abbrev pub MayEnd : Order → List (List ℕ) → (read_failed write_failed : Type 0) → Option Refusal → Type 0
+MayEnd order contents read_failed write_failed (Some (RefusedCode why)) = IsVetOrder order × IsDue (files_of order) contents None
+MayEnd order contents read_failed write_failed refusal = MayCome (files_of order) contents read_failed write_failed refusal
+
+-- what stands for what is due to the files of an order: the same, and programs that are refused where nothing is due
+abbrev pub MayEndFor : Order → Option Refusal → Option Refusal → Type 0
+MayEndFor order (Some (RefusedCode why)) due = IsVetOrder order × (due ≡ None)
+MayEndFor order refusal due = MayStandFor (files_of order) refusal due
+
+-- what is due to the files of an order comes, unless something stands for it
+abbrev pub EndsAsDue : Order → Option Refusal → List (List ℕ) → Type 0
+EndsAsDue order refusal contents = (due : Option Refusal) → IsDue (files_of order) contents due → (refusal ≡ due) ⊎ MayEndFor order refusal due
 
 -- a read failed: there are files, and the shelf's count of faults rose
 abbrev pub ReadFailed : List OperandFile → ShelfUse → Type 0
@@ -162,7 +183,7 @@ IsDoneUnlessRefused (Some refusal) order contents out report = IsNothing out rep
 pub record AnswersOrder (order : Order) (shelf : ShelfUse) (out : SinkUse) (report : Report) : Type 0 where
   pub contents : List (List ℕ)
   pub held : AreContentsOf shelf.held (files_of order) contents
-  pub came : MayCome (files_of order) contents (ShelfFailed shelf) (SinkFailed out) report.refusal
+  pub came : MayEnd order contents (ShelfFailed shelf) (SinkFailed out) report.refusal
   pub done : IsDoneUnlessRefused report.refusal order contents out report
 
 -- where words give no order, nothing is done

@@ -3,7 +3,7 @@ ghost use Rattle.std.specs.Prelude.{◌≡◌, OnOk, OnErr};
 ghost use Rattle.std.specs.Io.KnownBytes.{Appends};
 ghost use Rattle.bt_io.specs.Faults.{Rose};
 ghost use Rattle.bt_io.specs.Taken.{AppendsPart};
-ghost use Rattle.bt_top.specs.Doing.{Wrote};
+ghost use Rattle.bt_top.specs.Doing.{Wrote, WroteBytes};
 ghost use Rattle.bt_top.specs.Lines.{sink_use};
 ghost use Rattle.bt_top.specs.Outcomes.{bytes_written, work_text};
 
@@ -43,15 +43,22 @@ fn write_outcome<K: Sink>(out: &mut K, outcome: &Outcome) -> Result<(), SinkFail
     write_all(out, outcome.rest.as_slice())
 }
 
-/// Writes an outcome, and answers why its write did not end, where it did not. Nothing is written where programs are refused.
-pub(crate) fn write_refusal<K: Sink>(out: &mut K, outcome: &Outcome) -> Option<Refusal>
-    ensures { Wrote (sink_use K.taken K.faults out.old out.new) outcome.now.refused result (bytes_written outcome.now) }
+/// Writes the bytes of an outcome, and answers why that did not end, where it did not.
+fn write_fault<K: Sink>(out: &mut K, outcome: &Outcome) -> Option<Refusal>
+    ensures { WroteBytes (sink_use K.taken K.faults out.old out.new) result (bytes_written outcome.now) }
 {
-    if let Some(why) = outcome.refused {
-        return Some(Refusal::RefusedCode(why));
-    }
     match write_outcome(out, outcome) {
         Ok(()) => None,
         Err(_) => Some(Refusal::WriteFault),
+    }
+}
+
+/// Writes an outcome, and answers why that did not end, where it did not. Of programs that are refused nothing is written.
+pub(crate) fn write_refusal<K: Sink>(out: &mut K, outcome: &Outcome) -> Option<Refusal>
+    ensures { Wrote (sink_use K.taken K.faults out.old out.new) outcome.now.refused result (bytes_written outcome.now) }
+{
+    match outcome.refused {
+        None => write_fault(out, outcome),
+        Some(why) => Some(Refusal::RefusedCode(why)),
     }
 }
