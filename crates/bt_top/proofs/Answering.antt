@@ -1,6 +1,6 @@
 -- What a call answers, from what its order comes to and from how that is written.
 use Rattle.std.proofs.Common.{◌≡◌, ℕ, ◌⊎◌, List, [], ◌∷◌, refl, sym, ap, subst, ◌∙◌, inl, inr}
-use Rattle.std.specs.Prelude.{◌↔◌, Bool, false, Option, Some, None, Ok, Err, IfSome, IsSome, unwrap_or}
+use Rattle.std.specs.Prelude.{◌↔◌, ◌≢◌, Bool, false, Option, Some, None, Ok, Err, IfSome, IsSome, unwrap_or}
 use Rattle.std.specs.Io.KnownBytes.{Keeps}
 use Rattle.std.proofs.lemmas.Bool.{false≢true}
 use Rattle.bt_words.specs.declared.order.Order.{Order}
@@ -24,7 +24,7 @@ use Rattle.bt_top.specs.Orders.{OperandFile, files_of, form_of}
 use Rattle.bt_top.specs.Outcomes.{ComesTo, IsOutcomeOfRun, IsOutcomeOfVet, accepted_outcome, bytes_written, check_outcome, code_outcome, gen_outcome, refused_outcome}
 use Rattle.bt_top.specs.Refusals.{status_of, too_long}
 use Rattle.bt_top.specs.Serve.{ShelfUse, ShelfFailed, AreContentsOf, MayCome, MayStandFor, ComesIfDue, OnTold, IsReached, ReadFailed, IsComplete}
-use Rattle.bt_top.specs.Serve.{EndsAsDue, IsEndStatus, IsVetOrder, MayEnd, MayEndFor}
+use Rattle.bt_top.specs.Serve.{AsksExactly, EndsAsDue, HasWork, IsEndStatus, IsVetOrder, MayEnd, MayEndFor}
 use Rattle.bt_top.specs.Serve.{IsTold, IsWritten, IsDone, IsDoneUnlessRefused, IsNothing, AnswersOrder, AnswersWords, IsRunOrder}
 use Rattle.bt_top.proofs.Due.{job_accepted}
 use Rattle.bt_top.proofs.Performing.{on_told-map, plain_end}
@@ -298,3 +298,74 @@ words_answer (Some order) seen out keeps = record {
 pub on_order : (order : Option Order) (P : Order → Type 0) → ((one : Order) → P one) → IfSome order P
 on_order None P p = tt
 on_order (Some order) P p = p order
+
+-- ---- of an outcome, however it was written
+
+module _ (order : Order) (seen : ShelfUse) (out : SinkUse) (bytes : List ℕ) where
+  -- no refusal of the write tells more of the reads
+  asked_as : (refusal : Refusal) → (refusal ≡ WriteFault) ⊎ ((why : CodeRefusal) × (refusal ≡ RefusedCode why)) → AsksExactly (files_of order) None seen
+      → AsksExactly (files_of order) (Some refusal) seen
+  asked_as refusal (inl e) asked = subst (λ (r : Refusal). AsksExactly (files_of order) (Some r) seen) (sym e) (by order refl asked)
+    where
+      by : (one : Order) → one ≡ order → AsksExactly (files_of one) None seen → AsksExactly (files_of one) (Some WriteFault) seen
+      by (Run serial stats json script recording) e asked = asked
+      by (Check script recording) e asked = asked
+      by (Code script recording) e asked = asked
+      by (Vet script recording) e asked = asked
+      by (Gen x n) e asked = asked
+      by (Big x n) e asked = asked
+  asked_as refusal (inr e) asked = subst (λ (r : Refusal). AsksExactly (files_of order) (Some r) seen) (sym e.1) (by order refl asked)
+    where
+      by : (one : Order) → one ≡ order → AsksExactly (files_of one) None seen → AsksExactly (files_of one) (Some (RefusedCode e.0)) seen
+      by (Run serial stats json script recording) e asked = asked
+      by (Check script recording) e asked = asked
+      by (Code script recording) e asked = asked
+      by (Vet script recording) e asked = asked
+      by (Gen x n) e asked = asked
+      by (Big x n) e asked = asked
+
+  pub done_asked : (found : Option CodeRefusal) (refusal : Option Refusal) → Wrote out found refusal bytes → AsksExactly (files_of order) None seen
+      → AsksExactly (files_of order) refusal seen
+  done_asked None refusal (inl e) asked = subst (λ (r : Option Refusal). AsksExactly (files_of order) r seen) (sym e.0) asked
+  done_asked None refusal (inr e) asked =
+      subst (λ (r : Option Refusal). AsksExactly (files_of order) r seen) (sym e.0) (asked_as WriteFault (inl refl) asked)
+  done_asked (Some why) refusal e asked =
+      subst (λ (r : Option Refusal). AsksExactly (files_of order) r seen) (sym e.0) (asked_as (RefusedCode why) (inr (why, refl)) asked)
+
+  -- words are refused before
+  none_usage : ◌≡◌ {A = Option Refusal} None (Some Usage) → ⊥
+  none_usage e = cc
+
+  write_usage : ◌≡◌ {A = Option Refusal} (Some WriteFault) (Some Usage) → ⊥
+  write_usage e = cc
+
+  code_usage : (why : CodeRefusal) → ◌≡◌ {A = Option Refusal} (Some (RefusedCode why)) (Some Usage) → ⊥
+  code_usage why e = cc
+
+  pub done_known : (found : Option CodeRefusal) (refusal : Option Refusal) → Wrote out found refusal bytes → refusal ≢ Some Usage
+  done_known None refusal (inl e) = λ usage. none_usage (sym e.0 ∙ usage)
+  done_known None refusal (inr e) = λ usage. write_usage (sym e.0 ∙ usage)
+  done_known (Some why) refusal e = λ usage. code_usage why (sym e.0 ∙ usage)
+
+  -- work is there of a run, whether all of it was written or not
+  pub done_worked : (contents : List (List ℕ)) (outcome : Outcome) → ComesTo order contents outcome → (refusal : Option Refusal)
+      → Wrote out outcome.refused refusal bytes → IsSome outcome.work ↔ HasWork refusal (Some order)
+  done_worked contents outcome comes refusal wrote = by outcome.refused refl refusal wrote
+    where
+      by : (found : Option CodeRefusal) → outcome.refused ≡ found → (refusal : Option Refusal) → Wrote out found refusal bytes
+          → IsSome outcome.work ↔ HasWork refusal (Some order)
+      by None none refusal (inl e) =
+          subst (λ (r : Option Refusal). IsSome outcome.work ↔ HasWork r (Some order)) (sym e.0) (runs order contents outcome comes)
+      by None none refusal (inr e) =
+          subst (λ (r : Option Refusal). IsSome outcome.work ↔ HasWork r (Some order)) (sym e.0) (runs order contents outcome comes)
+      by (Some why) found refusal e =
+          subst (λ (r : Option Refusal). IsSome outcome.work ↔ HasWork r (Some order)) (sym e.0)
+          ((λ some. vet_runs order (of_vet order contents outcome why comes found) ((runs order contents outcome comes).0 some)), λ none. absurd none)
+
+      vet_runs : (one : Order) → IsVetOrder one → IsRunOrder one → ⊥
+      vet_runs (Run serial stats json script recording) vet run = vet
+      vet_runs (Check script recording) vet run = run
+      vet_runs (Code script recording) vet run = run
+      vet_runs (Vet script recording) vet run = run
+      vet_runs (Gen x n) vet run = run
+      vet_runs (Big x n) vet run = vet

@@ -174,4 +174,5 @@ refusal_pieces files (Recording why) = Text (operand_name files operand.Recordin
 refusal_pieces files (ReadFault file) = Text (operand_name files file) ∷ Text (codes ": read fault") ∷ []
 refusal_pieces files WriteFault = Text (codes "write fault") ∷ []
 refusal_pieces files Memory = Text (codes "out of memory") ∷ []
-refusal_pieces files (RefusedCode why) = Text (operand_name files operand.Script) ∷ Text (codes ": ") ∷ Text (codes "code refused in probe ") ∷ Number why.probe ∷ []
+refusal_pieces files (RefusedCode why) =
+    Text (operand_name files operand.Script) ∷ Text (codes ": ") ∷ Text (codes "code refused in probe ") ∷ Number why.probe ∷ []
