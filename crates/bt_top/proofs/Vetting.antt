@@ -1,6 +1,6 @@
 -- The check of programs, body by body.
 use Rattle.std.proofs.Common.{◌≡◌, ◌≢◌, ℕ, zero, suc, ◌+◌, ◌*◌, ◌<◌, ◌≤◌, List, [], ◌∷◌, length, get_or, refl, sym, ap, subst, ◌∙◌, arith, inl, inr}
-use Rattle.std.specs.Prelude.{◌⊎◌, ◌/◌, Some, Result, Ok, Err, IfOk, IfErr, slice_get}
+use Rattle.std.specs.Prelude.{◌⊎◌, ◌/◌, Option, Some, None, Result, Ok, Err, IfOk, IfErr, slice_get}
 use Rattle.std.proofs.lemmas.Bool.{cases_eq}
 use Rattle.std.proofs.lemmas.Option.{slice_get-get_or}
 use Rattle.bpf_check.specs.declared.check.CodeFault.{CodeFault}
@@ -19,9 +19,13 @@ use Rattle.typed_tree.specs.declared.body.TypedBody.{TypedBody}
 use Rattle.typed_tree.specs.declared.script.Typed.{Typed}
 use Rattle.walk_meaning.specs.Served.{least_length}
 use Rattle.bt_top.specs.declared.refusal.CodeRefusal.{CodeRefusal}
+use Rattle.bt_top.specs.declared.outcome.Outcome.{Outcome}
+use Rattle.bt_top.specs.declared.vetting.Verdict.{Verdict}
+use Rattle.bt_top.specs.declared.vetting.Verdict.TheVariants.{Accepted, Refused}
 use Rattle.bt_top.specs.Jobs.{IsJobFor}
 use Rattle.bt_top.specs.Orders.{OperandFile}
-use Rattle.bt_top.specs.Vetting.{IsAnswerOf, IsFirstRefused, PassBefore, Passes, most_of}
+use Rattle.bt_top.specs.Outcomes.{IsOutcomeOfVet}
+use Rattle.bt_top.specs.Vetting.{IsAnswerOf, IsVerdict, PassBefore, Passes, most_of}
 use Rattle.bt_top.proofs.Asked.{IsAskedFor, of_files}
 
 -- ---- the program of a body
@@ -109,3 +113,28 @@ named job is = as_many is.asks.tree job.recording.formats is.asks.typed.known jo
 pub names_bodies : (files : List OperandFile) (contents : List (List ℕ)) (job : Job) → IsJobFor files contents job
     → length job.typed.bodies ≤ length job.attached.bodies
 names_bodies files contents job is = named job (of_files files contents job is)
+
+-- what is said of a job's programs is what it comes to
+abbrev pub said_of : Job → Option CodeRefusal → List ℕ → Outcome
+said_of job refused rest = record { work = None; programs = job.programs; refused = refused; rest = rest }
+
+said_again : (job : Job) (formats : List Format) (ids : List BodyId) (programs : List Program) (verdict : Verdict) → formats ≡ job.recording.formats
+    → ids ≡ job.attached.bodies → programs ≡ job.programs → IsVerdict formats ids job.typed programs verdict
+    → IsVerdict job.recording.formats job.attached.bodies job.typed job.programs verdict
+said_again job formats ids programs verdict a b c is =
+    subst (λ (l : List Program). IsVerdict job.recording.formats job.attached.bodies job.typed l verdict) c
+    (subst (λ (l : List BodyId). IsVerdict job.recording.formats l job.typed programs verdict) b
+    (subst (λ (l : List Format). IsVerdict l ids job.typed programs verdict) a is))
+
+pub accepted_all : (job : Job) (formats : List Format) (ids : List BodyId) (programs : List Program) (lines : List ℕ) → formats ≡ job.recording.formats
+    → ids ≡ job.attached.bodies → programs ≡ job.programs → IsVerdict formats ids job.typed programs (Accepted lines)
+    → IsOutcomeOfVet job (said_of job None lines)
+accepted_all job formats ids programs lines a b c is =
+    let said = said_again job formats ids programs (Accepted lines) a b c is in
+    inl (said.0, ap (λ (l : List ℕ). said_of job None l) said.1)
+
+pub refused_one : (job : Job) (formats : List Format) (ids : List BodyId) (programs : List Program) (why : CodeRefusal) (rest : List ℕ)
+    → formats ≡ job.recording.formats → ids ≡ job.attached.bodies → programs ≡ job.programs → IsVerdict formats ids job.typed programs (Refused why)
+    → rest ≡ [] → IsOutcomeOfVet job (said_of job (Some why) rest)
+refused_one job formats ids programs why rest a b c is none =
+    inr (why, said_again job formats ids programs (Refused why) a b c is, ap (λ (l : List ℕ). said_of job (Some why) l) none)

@@ -55,7 +55,8 @@ pub(crate) fn push_name(text: &mut Vec<u8>, formats: &[Format], id: BodyId) -> R
     text.extend_from_slice(b"probe ")?;
     text.extend_from_slice(buffer.format(id.probe).as_bytes())?;
     text.extend_from_slice(b" ")?;
-    push_point(text, formats, id.point)
+    push_point(text, formats, id.point)?;
+    Ok(())
 }
 
 /// Adds the line of a body.

@@ -132,22 +132,21 @@ fn vet_outcome(alloc: Global, job: Job) -> Result<Outcome, Memory>
 {
     let formats = job.recording.formats.as_slice();
     let ids = job.attached.bodies.as_slice();
-    let (refused, rest) = match vet_programs(
-        alloc,
-        formats,
-        ids,
-        &job.typed,
-        job.programs.as_slice(),
-    )? {
-        Verdict::Accepted(lines) => (None, lines),
-        Verdict::Refused(why) => (Some(why), Items::new(alloc)),
-    };
-    Ok(Outcome {
-        work: None,
-        programs: job.programs,
-        refused,
-        rest,
-    })
+    let programs = job.programs.as_slice();
+    match vet_programs(alloc, formats, ids, &job.typed, programs)? {
+        Verdict::Accepted(lines) => Ok(Outcome {
+            work: None,
+            programs: job.programs,
+            refused: None,
+            rest: lines,
+        }),
+        Verdict::Refused(why) => Ok(Outcome {
+            work: None,
+            programs: job.programs,
+            refused: Some(why),
+            rest: Items::new(alloc),
+        }),
+    }
 }
 
 /// What an order comes to: reads its files, and does all but its writing.

@@ -1,5 +1,5 @@
 // The check of a script's programs.
-ghost use Rattle.std.specs.Prelude.{◌≡◌, ◌≢◌, ◌++◌, ◌≤◌, length, IfOk, IfErr, OnOk};
+ghost use Rattle.std.specs.Prelude.{◌≡◌, ◌≢◌, ◌++◌, ◌≤◌, length, Err, IfOk, IfErr, OnOk};
 ghost use Rattle.std.specs.List.{AllByRecursion};
 ghost use Rattle.walk_meaning.specs.Served.{least_length};
 ghost use Rattle.bt_top.specs.Doing.{CanBeListed};
@@ -47,7 +47,7 @@ fn vet_program(
     requires { CanBeListed program.now }
     ensures most { IfOk result (λ most. most ≡ most_of program.now) }
     ensures passes { IfOk result (λ most. Passes typed.now body.now program.now) }
-    ensures refused { IfErr result (λ fault. fault ≢ CodeFault.Memory → IsAnswerOf typed.now body.now program.now (Result.Err fault)) }
+    ensures refused { IfErr result (λ fault. fault ≢ CodeFault.Memory → IsAnswerOf typed.now body.now program.now (Err fault)) }
 {
     check_code(alloc, program.bytes.as_slice(), typed, least_length(body))
 }
