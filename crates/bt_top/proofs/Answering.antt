@@ -14,6 +14,8 @@ use Rattle.bt_top.specs.declared.report.Report.{Report}
 use Rattle.bt_top.specs.declared.refusal.CodeRefusal.{CodeRefusal}
 use Rattle.bt_top.specs.declared.refusal.Operand.{Operand}
 use Rattle.bt_top.specs.declared.refusal.Operand.TheVariants as operand
+use Rattle.bt_top.specs.declared.refusal.RecordingRefusal.TheVariants as recording
+use Rattle.bt_top.specs.declared.refusal.ScriptRefusal.TheVariants as script
 use Rattle.bt_top.specs.declared.refusal.Refusal.{Refusal}
 use Rattle.bt_top.specs.declared.refusal.Refusal.TheVariants.{Usage, Script, Recording, ReadFault, WriteFault, Memory, RefusedCode}
 use Rattle.bt_top.specs.Doing.{ComesOfFiles, Wrote}
@@ -83,7 +85,7 @@ not_refused (Vet script recording) contents outcome comes = inl tt
 not_refused (Gen x n) contents outcome comes = inr (ap (λ (o : Outcome). o.refused) comes.2)
 not_refused (Big x n) contents outcome comes = inr (ap (λ (o : Outcome). o.refused) comes.2.is)
 
-some_why : (why : CodeRefusal) → ◌≡◌ {A = Option CodeRefusal} (Some why) None → ⊥
+pub some_why : (why : CodeRefusal) → ◌≡◌ {A = Option CodeRefusal} (Some why) None → ⊥
 some_why why e = cc
 
 of_vet : (order : Order) (contents : List (List ℕ)) (outcome : Outcome) (why : CodeRefusal) → ComesTo order contents outcome → outcome.refused ≡ Some why
@@ -95,9 +97,18 @@ of_vet order contents outcome why comes found = by (not_refused order contents o
     by (inr none) = absurd (some_why why (sym found ∙ none))
 
 -- programs that are refused are not due to files
+no_script : (why : CodeRefusal) → ◌≡◌ {A = Option Refusal} (Some (RefusedCode why)) (Some (Script script.TooLong)) → ⊥
+no_script why e = cc
+
+no_recording : (why : CodeRefusal) → ◌≡◌ {A = Option Refusal} (Some (RefusedCode why)) (Some (Recording recording.TooLong)) → ⊥
+no_recording why e = cc
+
+some_none : (why : CodeRefusal) → ◌≡◌ {A = Option Refusal} (Some (RefusedCode why)) None → ⊥
+some_none why e = cc
+
 too_long_of : (file : Operand) (why : CodeRefusal) → Some (RefusedCode why) ≡ Some (too_long file) → ⊥
-too_long_of operand.Script why e = cc
-too_long_of operand.Recording why e = cc
+too_long_of operand.Script why e = no_script why e
+too_long_of operand.Recording why e = no_recording why e
 
 not_too_long : (files : List OperandFile) (contents : List (List ℕ)) (why : CodeRefusal) → IsTooLong files contents (Some (RefusedCode why)) → ⊥
 not_too_long [] contents why is = is
@@ -106,8 +117,8 @@ not_too_long (file ∷ files) (bytes ∷ contents) why (inl e) = too_long_of fil
 not_too_long (file ∷ files) (bytes ∷ contents) why (inr e) = not_too_long files contents why e.1
 
 not_found : (contents : List (List ℕ)) (why : CodeRefusal) → IsFinding contents (Some (RefusedCode why)) → ⊥
-not_found [] why e = cc
-not_found (text ∷ []) why e = cc
+not_found [] why e = some_none why e
+not_found (text ∷ []) why e = some_none why e
 not_found (text ∷ bytes ∷ more) why e = e
 
 pub code_not_due : (files : List OperandFile) (contents : List (List ℕ)) (why : CodeRefusal) → IsDue files contents (Some (RefusedCode why)) → ⊥

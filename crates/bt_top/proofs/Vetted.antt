@@ -20,7 +20,7 @@ use Rattle.bt_top.specs.Refusals.{status_of}
 use Rattle.bt_top.specs.Serve.{ShelfUse, ShelfFailed, AreContentsOf, IsVetOrder, MayCome}
 use Rattle.bt_top.specs.Vetted.{HasRefused, IsVetted, IsVettedUnlessRefused, Vetted}
 use Rattle.bt_top.specs.Vetting.{AllPass, IsFirstRefused}
-use Rattle.bt_top.proofs.Answering.{code_not_due, not_refused, refused_report, report_of}
+use Rattle.bt_top.proofs.Answering.{code_not_due, not_refused, refused_report, report_of, some_why}
 
 -- where all programs are accepted none is refused
 none_refused : (typed : Typed) (programs : List Program) → AllPass typed programs → HasRefused typed programs → ⊥
@@ -98,7 +98,7 @@ other_status : (out : SinkUse) (found : Option CodeRefusal) (refusal : Option Re
     → status_of refusal ≢ 8
 other_status out None refusal bytes none (inl e) = subst (λ (r : Option Refusal). status_of r ≢ 8) (sym e.0) (λ eight. omega (arith, eight))
 other_status out None refusal bytes none (inr e) = subst (λ (r : Option Refusal). status_of r ≢ 8) (sym e.0) (λ eight. omega (arith, eight))
-other_status out (Some why) refusal bytes none wrote = absurd (let some : Some why ≡ None = none in cc)
+other_status out (Some why) refusal bytes none wrote = absurd (some_why why none)
 
 pub done_vetted : (seen : ShelfUse) (out : SinkUse) (outcome : Outcome) (refusal : Option Refusal) → Wrote out outcome.refused refusal (bytes_written outcome)
     → (order : Order) (contents : List (List ℕ)) → AreContentsOf seen.held (files_of order) contents → ComesTo order contents outcome
