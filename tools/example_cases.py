@@ -36,9 +36,11 @@ def case_of(path):
 
 
 def agreeing(examples):
-    """What bt_cases prints where all cases agree: those of examples/, and those of the other files, one a line."""
-    others = [path for path in DATA.glob("*.jsonl") if path.name != "examples.jsonl"]
-    return f"{examples.count(chr(10)) + sum(path.read_text().count(chr(10)) for path in others)} cases agree, 0 differ\n"
+    """What bt_cases prints where all cases agree: those of examples/, and those of the other files, one a line; then those whose script is compiled."""
+    others = [path.read_text() for path in DATA.glob("*.jsonl") if path.name != "examples.jsonl"]
+    cases = [json.loads(line) for text in (examples, *others) for line in text.split("\n") if line]
+    compiled = [case for case in cases if case["status"] == 0 and case["words"][0] in ("run", "check", "code")]
+    return f"{len(cases)} cases agree, 0 differ\nvet: {len(compiled)} cases agree, 0 differ\n"
 
 
 def main(arguments):

@@ -18,6 +18,7 @@ HELP = """usage: btreplay run [--serial] [--stats] [--json] SCRIPT RECORDING
        btreplay code SCRIPT RECORDING          lists the BPF code of each body
        btreplay gen X N                        writes a made recording of N events
        btreplay big X N                        runs a built-in script over it
+       btreplay vet SCRIPT RECORDING           checks the BPF code of each body
        btreplay --help | --version
 
 SCRIPT may be - for standard input, or -e 'PROGRAM' for a script as it stands.
@@ -26,7 +27,7 @@ SCRIPT may be - for standard input, or -e 'PROGRAM' for a script as it stands.
 """
 UNPROVED_HELP = """btreplay --unproved and the words of a command do it by a build that is not proved, which is there within some two minutes.
 """
-TAKES_SCRIPT = ("run", "check", "code", "explain")
+TAKES_SCRIPT = ("run", "check", "code", "vet", "explain")
 FAILED = 1
 MOST_SCRIPT = 65_536
 

@@ -13,10 +13,10 @@ _btreplay() {
     if ((COMP_CWORD <= first)); then
         local own="--help --version"
         ((first == 1)) && own="$own --unproved"
-        mapfile -t COMPREPLY < <(compgen -W "run check explain code gen big $own" -- "$word")
+        mapfile -t COMPREPLY < <(compgen -W "run check explain code gen big vet $own" -- "$word")
         return
     fi
-    case ${COMP_WORDS[first]} in run | check | explain | code) ;; *) return ;; esac
+    case ${COMP_WORDS[first]} in run | check | explain | code | vet) ;; *) return ;; esac
     for ((at = first + 1; at < COMP_CWORD; at++)); do
         if ((skip)); then
             skip=0

@@ -10,7 +10,7 @@ from btreplay.tokens import offset_of
 SCRIPT, RECORDING, READ, WRITE = 2, 3, 4, 5
 # The commands, each with its options and what it takes.
 FILES, NUMBERS = "a script and a recording", "two numbers, as in 7 1000"
-COMMANDS = {"run": ("--serial --stats --json", FILES), "check": ("", FILES), "explain": ("", FILES), "code": ("", FILES), "gen": ("", NUMBERS), "big": ("", NUMBERS)}
+COMMANDS = {"run": ("--serial --stats --json", FILES), "check": ("", FILES), "explain": ("", FILES), "code": ("", FILES), "vet": ("", FILES), "gen": ("", NUMBERS), "big": ("", NUMBERS)}
 MOST_SCRIPT = 65_536
 # How files of other programs begin.
 CONVERTED = {b"\x17\x08\x44tracing": "trace-cmd", b"PERFILE2": "perf"}

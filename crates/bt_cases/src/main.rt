@@ -4,6 +4,7 @@
 mod case;
 mod outcome;
 mod tally;
+mod vet;
 
 use anyhow::{Context, Result};
 use case::Case;
@@ -13,6 +14,7 @@ use std::rt::Files;
 use std::sync::Wait;
 use std::thread::Threads;
 use tally::Tally;
+use vet::{is_compiled, vetted};
 
 /// Tells what came of a case that differs, and what may come.
 fn tell<R: Print>(rt: &R, case: &Case, differs: &Option<Outcome>) -> Result<()> {
@@ -25,11 +27,30 @@ fn tell<R: Print>(rt: &R, case: &Case, differs: &Option<Outcome>) -> Result<()> 
     Ok(())
 }
 
-/// Runs the cases of a file, one a line, and counts how they end.
+/// Checks the code of a case's script, where it is compiled, and counts how that ends.
+fn run_vet<R: Print + AllocGlobal + Threads + Wait + Sync>(
+    rt: &R,
+    case: &Case,
+    tally: &mut Tally,
+) -> Result<()> {
+    if !is_compiled(case) {
+        return Ok(());
+    }
+    let (came, owed) = vetted(rt, rt.alloc(), case)?;
+    tally.count(came == owed);
+    if came != owed {
+        println!(rt; "came {came}")?;
+        println!(rt; "owed {owed}")?;
+    }
+    Ok(())
+}
+
+/// Runs the cases of a file, one a line, and counts how they end, and how the check of their code does.
 fn run_file<R: Files + Print + AllocGlobal + Threads + Wait + Sync>(
     rt: &R,
     name: &str,
     tally: &mut Tally,
+    vets: &mut Tally,
 ) -> Result<()> {
     let alloc = rt.alloc();
     let text = fs::read_to_string(rt, name).context(format_args!("reading {name}"))?;
@@ -43,6 +64,7 @@ fn run_file<R: Files + Print + AllocGlobal + Threads + Wait + Sync>(
             println!(rt; "case {number} of {name} differs")?;
             tell(rt, &case, &differs)?;
         }
+        run_vet(rt, &case, vets)?;
     }
     Ok(())
 }
@@ -50,13 +72,15 @@ fn run_file<R: Files + Print + AllocGlobal + Threads + Wait + Sync>(
 /// Runs the cases of the seven files. Those of the last file run on threads many times.
 fn main(rt: HostRuntime) -> Result<()> {
     let mut tally = Tally::default();
-    run_file(&rt, "cases.jsonl", &mut tally)?;
-    run_file(&rt, "refused.jsonl", &mut tally)?;
-    run_file(&rt, "rows.jsonl", &mut tally)?;
-    run_file(&rt, "printed.jsonl", &mut tally)?;
-    run_file(&rt, "recorded.jsonl", &mut tally)?;
-    run_file(&rt, "examples.jsonl", &mut tally)?;
-    run_file(&rt, "schedules.jsonl", &mut tally)?;
+    let mut vets = Tally::default();
+    run_file(&rt, "cases.jsonl", &mut tally, &mut vets)?;
+    run_file(&rt, "refused.jsonl", &mut tally, &mut vets)?;
+    run_file(&rt, "rows.jsonl", &mut tally, &mut vets)?;
+    run_file(&rt, "printed.jsonl", &mut tally, &mut vets)?;
+    run_file(&rt, "recorded.jsonl", &mut tally, &mut vets)?;
+    run_file(&rt, "examples.jsonl", &mut tally, &mut vets)?;
+    run_file(&rt, "schedules.jsonl", &mut tally, &mut vets)?;
     println!(rt; "{tally}")?;
+    println!(rt; "vet: {vets}")?;
     Ok(())
 }

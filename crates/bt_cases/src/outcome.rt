@@ -46,7 +46,7 @@ fn files_of(alloc: Global, case: &Case) -> Result<Vec<(String, Vec<u8>)>, Memory
 }
 
 /// What the top call answers and writes to words over the files of a case, on a shelf and sinks that never fail.
-fn outcome_of<R: Threads + Wait + Sync>(
+pub(crate) fn outcome_of<R: Threads + Wait + Sync>(
     rt: &R,
     alloc: Global,
     case: &Case,

@@ -1,30 +1,35 @@
 -- What a call answers, from what its order comes to and from how that is written.
-use Rattle.std.proofs.Common.{◌≡◌, ℕ, ◌⊎◌, List, [], ◌∷◌, refl, sym, subst, inl, inr}
-use Rattle.std.specs.Prelude.{◌↔◌, Bool, false, Option, Some, None, Ok, IfSome, IsSome, unwrap_or}
+use Rattle.std.proofs.Common.{◌≡◌, ℕ, ◌⊎◌, List, [], ◌∷◌, refl, sym, ap, subst, ◌∙◌, inl, inr}
+use Rattle.std.specs.Prelude.{◌↔◌, ◌≢◌, Bool, false, Option, Some, None, Ok, Err, IfSome, IsSome, unwrap_or}
 use Rattle.std.specs.Io.KnownBytes.{Keeps}
 use Rattle.std.proofs.lemmas.Bool.{false≢true}
 use Rattle.bt_words.specs.declared.order.Order.{Order}
-use Rattle.bt_words.specs.declared.order.Order.TheVariants.{Run, Check, Code, Gen, Big}
+use Rattle.bt_words.specs.declared.order.Order.TheVariants.{Run, Check, Code, Vet, Gen, Big}
 use Rattle.run_base.specs.declared.job.Job.{Job}
 use Rattle.run_base.specs.declared.job.Work.{Work}
 use Rattle.run_output.specs.declared.form.Form.{Form}
 use Rattle.run_output.specs.declared.form.Form.TheVariants.{Text}
 use Rattle.bt_top.specs.declared.outcome.Outcome.{Outcome}
 use Rattle.bt_top.specs.declared.report.Report.{Report}
+use Rattle.bt_top.specs.declared.refusal.CodeRefusal.{CodeRefusal}
 use Rattle.bt_top.specs.declared.refusal.Operand.{Operand}
+use Rattle.bt_top.specs.declared.refusal.Operand.TheVariants as operand
+use Rattle.bt_top.specs.declared.refusal.RecordingRefusal.TheVariants as recording
+use Rattle.bt_top.specs.declared.refusal.ScriptRefusal.TheVariants as script
 use Rattle.bt_top.specs.declared.refusal.Refusal.{Refusal}
-use Rattle.bt_top.specs.declared.refusal.Refusal.TheVariants.{ReadFault, WriteFault, Memory}
+use Rattle.bt_top.specs.declared.refusal.Refusal.TheVariants.{Usage, Script, Recording, ReadFault, WriteFault, Memory, RefusedCode}
 use Rattle.bt_top.specs.Doing.{ComesOfFiles, Wrote}
-use Rattle.bt_top.specs.Due.{IsDue}
+use Rattle.bt_top.specs.Due.{IsDue, IsFinding, IsTooLong}
 use Rattle.bt_top.specs.Jobs.{IsJobFor}
 use Rattle.bt_top.specs.Lines.{SinkUse, SinkFailed}
 use Rattle.bt_top.specs.Orders.{OperandFile, files_of, form_of}
-use Rattle.bt_top.specs.Outcomes.{ComesTo, IsOutcomeOfRun, bytes_written, check_outcome, code_outcome, gen_outcome}
-use Rattle.bt_top.specs.Refusals.{status_of}
+use Rattle.bt_top.specs.Outcomes.{ComesTo, IsOutcomeOfRun, IsOutcomeOfVet, accepted_outcome, bytes_written, check_outcome, code_outcome, gen_outcome, refused_outcome}
+use Rattle.bt_top.specs.Refusals.{status_of, too_long}
 use Rattle.bt_top.specs.Serve.{ShelfUse, ShelfFailed, AreContentsOf, MayCome, MayStandFor, ComesIfDue, OnTold, IsReached, ReadFailed, IsComplete}
-use Rattle.bt_top.specs.Serve.{IsWritten, IsDone, AnswersOrder, AnswersWords, IsRunOrder}
+use Rattle.bt_top.specs.Serve.{AsksExactly, EndsAsDue, HasWork, IsEndStatus, IsVetOrder, MayEnd, MayEndFor}
+use Rattle.bt_top.specs.Serve.{IsTold, IsWritten, IsDone, IsDoneUnlessRefused, IsNothing, AnswersOrder, AnswersWords, IsRunOrder}
 use Rattle.bt_top.proofs.Due.{job_accepted}
-use Rattle.bt_top.proofs.Performing.{on_told-map}
+use Rattle.bt_top.proofs.Performing.{on_told-map, plain_end}
 use Rattle.bt_top.proofs.Reading.{held_or}
 
 -- ---- what was done
@@ -47,6 +52,7 @@ due : (held : List ℕ → Option (List ℕ)) (order : Order) (contents : List (
 due held (Run serial stats json script recording) contents outcome are comes = job_is_due _ contents comes.0 comes.1
 due held (Check script recording) contents outcome are comes = job_is_due _ contents comes.0 comes.1
 due held (Code script recording) contents outcome are comes = job_is_due _ contents comes.0 comes.1
+due held (Vet script recording) contents outcome are comes = job_is_due _ contents comes.0 comes.1
 due held (Gen x n) contents outcome are comes = nothing_is_due held contents are
 due held (Big x n) contents outcome are comes = nothing_is_due held contents are
 
@@ -58,44 +64,160 @@ ran : (form : Form) (serial : Bool) (job : Job) (rest : Work → List ℕ) (outc
     → IsSome outcome.work
 ran form serial job rest outcome run = subst (λ (o : Outcome). IsSome o.work) (sym run.is) refl
 
+no_work : (job : Job) (outcome : Outcome) → IsOutcomeOfVet job outcome → IsSome outcome.work → ⊥
+no_work job outcome (inl e) some = false≢true (same_work outcome (accepted_outcome job) e.1 some)
+no_work job outcome (inr e) some = false≢true (same_work outcome (refused_outcome job e.0) e.2 some)
+
 runs : (order : Order) (contents : List (List ℕ)) (outcome : Outcome) → ComesTo order contents outcome → IsSome outcome.work ↔ IsRunOrder order
 runs (Run serial stats json script recording) contents outcome comes = (λ some. tt, λ is. ran (form_of json) serial comes.0 _ outcome comes.2)
 runs (Check script recording) contents outcome comes = (λ some. absurd (false≢true (same_work outcome check_outcome comes.2 some)), λ is. absurd is)
 runs (Code script recording) contents outcome comes = (λ some. absurd (false≢true (same_work outcome (code_outcome comes.0) comes.2 some)), λ is. absurd is)
+runs (Vet script recording) contents outcome comes = (λ some. absurd (no_work comes.0 outcome comes.2 some), λ is. absurd is)
 runs (Gen x n) contents outcome comes = (λ some. absurd (false≢true (same_work outcome (gen_outcome comes.0) comes.2 some)), λ is. absurd is)
 runs (Big x n) contents outcome comes = (λ some. tt, λ is. ran Text false comes.0 _ outcome comes.2)
 
+-- the programs of `vet` alone are refused
+pub not_refused : (order : Order) (contents : List (List ℕ)) (outcome : Outcome) → ComesTo order contents outcome → IsVetOrder order ⊎ (outcome.refused ≡ None)
+not_refused (Run serial stats json script recording) contents outcome comes = inr (ap (λ (o : Outcome). o.refused) comes.2.is)
+not_refused (Check script recording) contents outcome comes = inr (ap (λ (o : Outcome). o.refused) comes.2)
+not_refused (Code script recording) contents outcome comes = inr (ap (λ (o : Outcome). o.refused) comes.2)
+not_refused (Vet script recording) contents outcome comes = inl tt
+not_refused (Gen x n) contents outcome comes = inr (ap (λ (o : Outcome). o.refused) comes.2)
+not_refused (Big x n) contents outcome comes = inr (ap (λ (o : Outcome). o.refused) comes.2.is)
+
+pub some_why : (why : CodeRefusal) → ◌≡◌ {A = Option CodeRefusal} (Some why) None → ⊥
+some_why why e = cc
+
+of_vet : (order : Order) (contents : List (List ℕ)) (outcome : Outcome) (why : CodeRefusal) → ComesTo order contents outcome → outcome.refused ≡ Some why
+    → IsVetOrder order
+of_vet order contents outcome why comes found = by (not_refused order contents outcome comes)
+  where
+    by : IsVetOrder order ⊎ (outcome.refused ≡ None) → IsVetOrder order
+    by (inl vet) = vet
+    by (inr none) = absurd (some_why why (sym found ∙ none))
+
+-- programs that are refused are not due to files
+no_script : (why : CodeRefusal) → ◌≡◌ {A = Option Refusal} (Some (RefusedCode why)) (Some (Script script.TooLong)) → ⊥
+no_script why e = cc
+
+no_recording : (why : CodeRefusal) → ◌≡◌ {A = Option Refusal} (Some (RefusedCode why)) (Some (Recording recording.TooLong)) → ⊥
+no_recording why e = cc
+
+some_none : (why : CodeRefusal) → ◌≡◌ {A = Option Refusal} (Some (RefusedCode why)) None → ⊥
+some_none why e = cc
+
+too_long_of : (file : Operand) (why : CodeRefusal) → Some (RefusedCode why) ≡ Some (too_long file) → ⊥
+too_long_of operand.Script why e = no_script why e
+too_long_of operand.Recording why e = no_recording why e
+
+not_too_long : (files : List OperandFile) (contents : List (List ℕ)) (why : CodeRefusal) → IsTooLong files contents (Some (RefusedCode why)) → ⊥
+not_too_long [] contents why is = is
+not_too_long (file ∷ files) [] why is = is
+not_too_long (file ∷ files) (bytes ∷ contents) why (inl e) = too_long_of file.operand why e.1
+not_too_long (file ∷ files) (bytes ∷ contents) why (inr e) = not_too_long files contents why e.1
+
+not_found : (contents : List (List ℕ)) (why : CodeRefusal) → IsFinding contents (Some (RefusedCode why)) → ⊥
+not_found [] why e = some_none why e
+not_found (text ∷ []) why e = some_none why e
+not_found (text ∷ bytes ∷ more) why e = e
+
+pub code_not_due : (files : List OperandFile) (contents : List (List ℕ)) (why : CodeRefusal) → IsDue files contents (Some (RefusedCode why)) → ⊥
+code_not_due files contents why (inl is) = not_too_long files contents why is
+code_not_due files contents why (inr is) = not_found contents why is.1
+
+-- what comes of files is an end of their order
+came_end : (order : Order) (contents : List (List ℕ)) (read_failed write_failed : Type 0) (refusal : Refusal)
+    → MayCome (files_of order) contents read_failed ⊥ (Some refusal) → MayEnd order contents read_failed write_failed (Some refusal)
+came_end order contents read_failed write_failed Usage came = came
+came_end order contents read_failed write_failed (Script why) came = came
+came_end order contents read_failed write_failed (Recording why) came = came
+came_end order contents read_failed write_failed (ReadFault file) came = came
+came_end order contents read_failed write_failed WriteFault came = absurd came.0
+came_end order contents read_failed write_failed Memory came = came
+came_end order contents read_failed write_failed (RefusedCode why) came = absurd (code_not_due (files_of order) contents why came)
+
+stands_end : (order : Order) (refusal due : Option Refusal) → MayStandFor (files_of order) refusal due → MayEndFor order refusal due
+stands_end order None due stands = stands
+stands_end order (Some Usage) due stands = stands
+stands_end order (Some (Script why)) due stands = stands
+stands_end order (Some (Recording why)) due stands = stands
+stands_end order (Some (ReadFault file)) due stands = stands
+stands_end order (Some WriteFault) due stands = stands
+stands_end order (Some Memory) due stands = stands
+stands_end order (Some (RefusedCode why)) due stands = absurd stands
+
+ends_due : (order : Order) (refusal : Option Refusal) (contents : List (List ℕ)) → ComesIfDue (files_of order) refusal contents → EndsAsDue order refusal contents
+ends_due order refusal contents comes = λ due is. by due (comes due is)
+  where
+    by : (due : Option Refusal) → (refusal ≡ due) ⊎ MayStandFor (files_of order) refusal due → (refusal ≡ due) ⊎ MayEndFor order refusal due
+    by due (inl e) = inl e
+    by due (inr stands) = inr (stands_end order refusal due stands)
+
+pub files_exact : (held : List ℕ → Option (List ℕ)) (order : Order) (refusal : Option Refusal) → OnTold held (files_of order) (ComesIfDue (files_of order) refusal)
+    → OnTold held (files_of order) (EndsAsDue order refusal)
+files_exact held order refusal told =
+    on_told-map held (files_of order) (ComesIfDue (files_of order) refusal) (EndsAsDue order refusal) (ends_due order refusal) told
+
 module _ (order : Order) (seen : ShelfUse) (out : SinkUse) (outcome : Outcome) (performs : ComesOfFiles (files_of order) (ComesTo order) seen (Ok outcome)) where
-  is_done : (refusal : Option Refusal) → IsWritten out refusal (bytes_written outcome) → IsDone order performs.reads.contents out (report_of refusal outcome)
-  is_done refusal written = record { outcome = outcome; comes = performs.reads.value; work = refl; programs = refl; written = written }
+  is_done : (refusal : Option Refusal) → IsTold outcome.refused refusal → IsWritten out refusal (bytes_written outcome)
+      → IsDone order performs.reads.contents out (report_of refusal outcome)
+  is_done refusal told written =
+      record { outcome = outcome; comes = performs.reads.value; work = refl; programs = refl; told = told; written = written }
 
   nothing_due : IsDue (files_of order) performs.reads.contents None
   nothing_due = due seen.held order performs.reads.contents outcome performs.reads.held performs.reads.value
 
-  pub done_answer : (refusal : Option Refusal) → Wrote out refusal (bytes_written outcome) → AnswersOrder order seen out (report_of refusal outcome)
-  done_answer refusal (inl e) = subst (λ (r : Option Refusal). AnswersOrder order seen out (report_of r outcome)) (sym e.0) (record {
+  told_as : (found : Option CodeRefusal) (refusal : Option Refusal) → outcome.refused ≡ found → IsTold found refusal → IsTold outcome.refused refusal
+  told_as found refusal is told = subst (λ (f : Option CodeRefusal). IsTold f refusal) (sym is) told
+
+  vet_alone : (why : CodeRefusal) → outcome.refused ≡ Some why → IsVetOrder order
+  vet_alone why found = of_vet order performs.reads.contents outcome why performs.reads.value found
+
+  answer : (found : Option CodeRefusal) (refusal : Option Refusal) → outcome.refused ≡ found → Wrote out found refusal (bytes_written outcome)
+      → AnswersOrder order seen out (report_of refusal outcome)
+  answer None refusal none (inl e) = subst (λ (r : Option Refusal). AnswersOrder order seen out (report_of r outcome)) (sym e.0) (record {
     contents = performs.reads.contents;
     held = performs.reads.held;
     came = nothing_due;
-    done = is_done None e.1;
+    done = is_done None (told_as None None none (inl refl)) e.1;
   })
-  done_answer refusal (inr e) = subst (λ (r : Option Refusal). AnswersOrder order seen out (report_of r outcome)) (sym e.0) (record {
+  answer None refusal none (inr e) = subst (λ (r : Option Refusal). AnswersOrder order seen out (report_of r outcome)) (sym e.0) (record {
     contents = performs.reads.contents;
     held = performs.reads.held;
     came = (e.1, nothing_due);
-    done = is_done (Some WriteFault) e.2;
+    done = is_done (Some WriteFault) (told_as None (Some WriteFault) none (inr refl)) e.2;
+  })
+  answer (Some why) refusal found e = subst (λ (r : Option Refusal). AnswersOrder order seen out (report_of r outcome)) (sym e.0) (record {
+    contents = performs.reads.contents;
+    held = performs.reads.held;
+    came = (vet_alone why found, nothing_due);
+    done = is_done (Some (RefusedCode why)) (told_as (Some why) (Some (RefusedCode why)) found refl) e.1;
   })
 
-  -- what came of the reads stands, also where the write fails
-  pub done_exact : (refusal : Option Refusal) → Wrote out refusal (bytes_written outcome) → OnTold seen.held (files_of order) (ComesIfDue (files_of order) refusal)
-  done_exact refusal (inl e) = subst (λ (r : Option Refusal). OnTold seen.held (files_of order) (ComesIfDue (files_of order) r)) (sym e.0) performs.exact
-  done_exact refusal (inr e) = subst (λ (r : Option Refusal). OnTold seen.held (files_of order) (ComesIfDue (files_of order) r)) (sym e.0)
-      (on_told-map seen.held (files_of order) (ComesIfDue (files_of order) None) (ComesIfDue (files_of order) (Some WriteFault))
-      (λ contents comes due is. inr (none_due due (comes due is))) performs.exact)
-    where
-      none_due : (due : Option Refusal) → (None ≡ due) ⊎ MayStandFor (files_of order) None due → due ≡ None
-      none_due due (inl e) = sym e
-      none_due due (inr stands) = absurd stands
+  pub done_answer : (refusal : Option Refusal) → Wrote out outcome.refused refusal (bytes_written outcome) → AnswersOrder order seen out (report_of refusal outcome)
+  done_answer refusal wrote = answer outcome.refused refusal refl wrote
+
+  -- what came of the reads stands, also where the write fails, and where programs are refused
+  none_due : (due : Option Refusal) → (None ≡ due) ⊎ MayStandFor (files_of order) None due → due ≡ None
+  none_due due (inl e) = sym e
+  none_due due (inr stands) = absurd stands
+
+  exact_by : (refusal : Option Refusal) → ((due : Option Refusal) → due ≡ None → (refusal ≡ due) ⊎ MayEndFor order refusal due)
+      → OnTold seen.held (files_of order) (EndsAsDue order refusal)
+  exact_by refusal stands = on_told-map seen.held (files_of order) (ComesIfDue (files_of order) None) (EndsAsDue order refusal)
+      (λ contents comes due is. stands due (none_due due (comes due is))) performs.exact
+
+  exact : (found : Option CodeRefusal) (refusal : Option Refusal) → outcome.refused ≡ found → Wrote out found refusal (bytes_written outcome)
+      → OnTold seen.held (files_of order) (EndsAsDue order refusal)
+  exact None refusal none (inl e) = subst (λ (r : Option Refusal). OnTold seen.held (files_of order) (EndsAsDue order r)) (sym e.0)
+      (exact_by None (λ due is. inl (sym is)))
+  exact None refusal none (inr e) = subst (λ (r : Option Refusal). OnTold seen.held (files_of order) (EndsAsDue order r)) (sym e.0)
+      (exact_by (Some WriteFault) (λ due is. inr is))
+  exact (Some why) refusal found e = subst (λ (r : Option Refusal). OnTold seen.held (files_of order) (EndsAsDue order r)) (sym e.0)
+      (exact_by (Some (RefusedCode why)) (λ due is. inr (vet_alone why found, is)))
+
+  pub done_exact : (refusal : Option Refusal) → Wrote out outcome.refused refusal (bytes_written outcome) → OnTold seen.held (files_of order) (EndsAsDue order refusal)
+  done_exact refusal wrote = exact outcome.refused refusal refl wrote
 
 -- ---- what was refused
 
@@ -106,28 +228,61 @@ pub kept : (told : Option (List ℕ)) → Keeps told told
 kept None = tt
 kept (Some bytes) = refl
 
+-- the answer to an order whose files are refused, or not read
+module _ (order : Order) (seen : ShelfUse) (out : SinkUse) (keeps : Keeps out.taken out.taken_after) where
+  is_nothing : (refusal : Refusal) → IsNothing out (refused_report refusal)
+  is_nothing refusal = record { work = refl; programs = refl; written = keeps }
+
+  nothing_done : (contents : List (List ℕ)) (refusal : Refusal) → MayCome (files_of order) contents (ShelfFailed seen) ⊥ (Some refusal)
+      → IsDoneUnlessRefused (Some refusal) order contents out (refused_report refusal)
+  nothing_done contents Usage came = is_nothing Usage
+  nothing_done contents (Script why) came = is_nothing (Script why)
+  nothing_done contents (Recording why) came = is_nothing (Recording why)
+  nothing_done contents (ReadFault file) came = is_nothing (ReadFault file)
+  nothing_done contents WriteFault came = absurd came.0
+  nothing_done contents Memory came = is_nothing Memory
+  nothing_done contents (RefusedCode why) came = absurd (code_not_due (files_of order) contents why came)
+
+  pub refused_answer : (refusal : Refusal) → ComesOfFiles (files_of order) (ComesTo order) seen (Err refusal) → AnswersOrder order seen out (refused_report refusal)
+  refused_answer refusal comes = record {
+    contents = comes.reads.contents;
+    held = comes.reads.held;
+    came = came_end order comes.reads.contents (ShelfFailed seen) (SinkFailed out) refusal comes.reads.came;
+    done = nothing_done comes.reads.contents refusal comes.reads.came;
+  }
+
 -- ---- the whole call
 
--- accepted files are answered with success where nothing failed, or memory ran out
+-- programs that are refused end an order with status 8, and only `vet`
+refused_end : (order : Order) (status : ℕ) → IsVetOrder order → status ≡ 8 → IsEndStatus order status
+refused_end (Run serial stats json script recording) status vet is = absurd vet
+refused_end (Check script recording) status vet is = absurd vet
+refused_end (Code script recording) status vet is = absurd vet
+refused_end (Vet script recording) status vet is = inr (inr is)
+refused_end (Gen x n) status vet is = absurd vet
+refused_end (Big x n) status vet is = absurd vet
+
+-- accepted files are answered with success where nothing failed, or memory ran out, or programs are refused
 pub is_complete : (order : Order) (seen : ShelfUse) (out : SinkUse) (report : Report)
-    → report.status ≡ status_of report.refusal → AnswersOrder order seen out report → OnTold seen.held (files_of order) (ComesIfDue (files_of order) report.refusal)
-    → OnTold seen.held (files_of order) (IsComplete (files_of order) (ReadFailed (files_of order) seen) (SinkFailed out) report.status)
+    → report.status ≡ status_of report.refusal → AnswersOrder order seen out report → OnTold seen.held (files_of order) (EndsAsDue order report.refusal)
+    → OnTold seen.held (files_of order) (IsComplete order (ReadFailed (files_of order) seen) (SinkFailed out) report.status)
 is_complete order seen out report status answers exact =
-    on_told-map seen.held (files_of order) (ComesIfDue (files_of order) report.refusal)
-    (IsComplete (files_of order) (ReadFailed (files_of order) seen) (SinkFailed out) report.status)
+    on_told-map seen.held (files_of order) (EndsAsDue order report.refusal)
+    (IsComplete order (ReadFailed (files_of order) seen) (SinkFailed out) report.status)
     (λ contents comes due no_read no_write. ends report.refusal status answers.came no_read no_write (comes None due)) exact
   where
     reached : (files : List OperandFile) (contents : List (List ℕ)) (file : Operand) → ShelfFailed seen → IsReached files contents file → ReadFailed files seen
     reached [] contents file failed is = is
     reached (first ∷ files) contents file failed is = failed
 
-    ends : (refusal : Option Refusal) → report.status ≡ status_of refusal → MayCome (files_of order) answers.contents (ShelfFailed seen) (SinkFailed out) refusal
+    ends : (refusal : Option Refusal) → report.status ≡ status_of refusal → MayEnd order answers.contents (ShelfFailed seen) (SinkFailed out) refusal
         → ¬ ReadFailed (files_of order) seen → ¬ SinkFailed out
-        → (refusal ≡ None) ⊎ MayStandFor (files_of order) refusal None → (report.status ≡ 0) ⊎ (report.status ≡ 6)
-    ends None is may no_read no_write due = inl is
-    ends (Some Memory) is may no_read no_write due = inr is
+        → (refusal ≡ None) ⊎ MayEndFor order refusal None → IsEndStatus order report.status
+    ends None is may no_read no_write due = plain_end order report.status (inl is)
+    ends (Some Memory) is may no_read no_write due = plain_end order report.status (inr is)
     ends (Some (ReadFault file)) is may no_read no_write due = absurd (no_read (reached (files_of order) answers.contents file may.0 may.1))
     ends (Some WriteFault) is may no_read no_write due = absurd (no_write may.0)
+    ends (Some (RefusedCode why)) is may no_read no_write due = refused_end order report.status may.0 is
     ends (Some refusal) is may no_read no_write (inl e) = absurd (cc)
     ends (Some refusal) is may no_read no_write (inr stands) = absurd stands
 
@@ -154,3 +309,74 @@ words_answer (Some order) seen out keeps = record {
 pub on_order : (order : Option Order) (P : Order → Type 0) → ((one : Order) → P one) → IfSome order P
 on_order None P p = tt
 on_order (Some order) P p = p order
+
+-- ---- of an outcome, however it was written
+
+module _ (order : Order) (seen : ShelfUse) (out : SinkUse) (bytes : List ℕ) where
+  -- no refusal of the write tells more of the reads
+  asked_as : (refusal : Refusal) → (refusal ≡ WriteFault) ⊎ ((why : CodeRefusal) × (refusal ≡ RefusedCode why)) → AsksExactly (files_of order) None seen
+      → AsksExactly (files_of order) (Some refusal) seen
+  asked_as refusal (inl e) asked = subst (λ (r : Refusal). AsksExactly (files_of order) (Some r) seen) (sym e) (by order refl asked)
+    where
+      by : (one : Order) → one ≡ order → AsksExactly (files_of one) None seen → AsksExactly (files_of one) (Some WriteFault) seen
+      by (Run serial stats json script recording) e asked = asked
+      by (Check script recording) e asked = asked
+      by (Code script recording) e asked = asked
+      by (Vet script recording) e asked = asked
+      by (Gen x n) e asked = asked
+      by (Big x n) e asked = asked
+  asked_as refusal (inr e) asked = subst (λ (r : Refusal). AsksExactly (files_of order) (Some r) seen) (sym e.1) (by order refl asked)
+    where
+      by : (one : Order) → one ≡ order → AsksExactly (files_of one) None seen → AsksExactly (files_of one) (Some (RefusedCode e.0)) seen
+      by (Run serial stats json script recording) e asked = asked
+      by (Check script recording) e asked = asked
+      by (Code script recording) e asked = asked
+      by (Vet script recording) e asked = asked
+      by (Gen x n) e asked = asked
+      by (Big x n) e asked = asked
+
+  pub done_asked : (found : Option CodeRefusal) (refusal : Option Refusal) → Wrote out found refusal bytes → AsksExactly (files_of order) None seen
+      → AsksExactly (files_of order) refusal seen
+  done_asked None refusal (inl e) asked = subst (λ (r : Option Refusal). AsksExactly (files_of order) r seen) (sym e.0) asked
+  done_asked None refusal (inr e) asked =
+      subst (λ (r : Option Refusal). AsksExactly (files_of order) r seen) (sym e.0) (asked_as WriteFault (inl refl) asked)
+  done_asked (Some why) refusal e asked =
+      subst (λ (r : Option Refusal). AsksExactly (files_of order) r seen) (sym e.0) (asked_as (RefusedCode why) (inr (why, refl)) asked)
+
+  -- words are refused before
+  none_usage : ◌≡◌ {A = Option Refusal} None (Some Usage) → ⊥
+  none_usage e = cc
+
+  write_usage : ◌≡◌ {A = Option Refusal} (Some WriteFault) (Some Usage) → ⊥
+  write_usage e = cc
+
+  code_usage : (why : CodeRefusal) → ◌≡◌ {A = Option Refusal} (Some (RefusedCode why)) (Some Usage) → ⊥
+  code_usage why e = cc
+
+  pub done_known : (found : Option CodeRefusal) (refusal : Option Refusal) → Wrote out found refusal bytes → refusal ≢ Some Usage
+  done_known None refusal (inl e) = λ usage. none_usage (sym e.0 ∙ usage)
+  done_known None refusal (inr e) = λ usage. write_usage (sym e.0 ∙ usage)
+  done_known (Some why) refusal e = λ usage. code_usage why (sym e.0 ∙ usage)
+
+  -- work is there of a run, whether all of it was written or not
+  pub done_worked : (contents : List (List ℕ)) (outcome : Outcome) → ComesTo order contents outcome → (refusal : Option Refusal)
+      → Wrote out outcome.refused refusal bytes → IsSome outcome.work ↔ HasWork refusal (Some order)
+  done_worked contents outcome comes refusal wrote = by outcome.refused refl refusal wrote
+    where
+      by : (found : Option CodeRefusal) → outcome.refused ≡ found → (refusal : Option Refusal) → Wrote out found refusal bytes
+          → IsSome outcome.work ↔ HasWork refusal (Some order)
+      by None none refusal (inl e) =
+          subst (λ (r : Option Refusal). IsSome outcome.work ↔ HasWork r (Some order)) (sym e.0) (runs order contents outcome comes)
+      by None none refusal (inr e) =
+          subst (λ (r : Option Refusal). IsSome outcome.work ↔ HasWork r (Some order)) (sym e.0) (runs order contents outcome comes)
+      by (Some why) found refusal e =
+          subst (λ (r : Option Refusal). IsSome outcome.work ↔ HasWork r (Some order)) (sym e.0)
+          ((λ some. vet_runs order (of_vet order contents outcome why comes found) ((runs order contents outcome comes).0 some)), λ none. absurd none)
+
+      vet_runs : (one : Order) → IsVetOrder one → IsRunOrder one → ⊥
+      vet_runs (Run serial stats json script recording) vet run = vet
+      vet_runs (Check script recording) vet run = run
+      vet_runs (Code script recording) vet run = run
+      vet_runs (Vet script recording) vet run = run
+      vet_runs (Gen x n) vet run = run
+      vet_runs (Big x n) vet run = vet

@@ -15,7 +15,7 @@ use Rattle.bt_meaning.specs.Totals.{IsAggregationOnly, who}
 use Rattle.bt_meaning.specs.Walks.{replay_of}
 use Rattle.bt_types.specs.Script.{IsTypedScript}
 use Rattle.bt_words.specs.declared.order.Order.{Order}
-use Rattle.bt_words.specs.declared.order.Order.TheVariants.{Run, Check, Code, Gen, Big}
+use Rattle.bt_words.specs.declared.order.Order.TheVariants.{Run, Check, Code, Vet, Gen, Big}
 use Rattle.run_base.specs.declared.job.Job.{Job}
 use Rattle.run_base.specs.declared.job.Work.{Work}
 use Rattle.run_laws.specs.Reads.{ReadsSeeBeginnings}
@@ -27,8 +27,9 @@ use Rattle.rec_gen.specs.Made.{IsMade}
 use Rattle.total_laws.specs.Ends.{EndsWithTotals, IsAddingRun}
 use Rattle.typed_tree.specs.declared.script.Typed.{Typed}
 use Rattle.bt_top.specs.declared.outcome.Outcome.{Outcome}
+use Rattle.bt_top.specs.declared.refusal.CodeRefusal.{CodeRefusal}
 use Rattle.bt_top.specs.declared.refusal.Refusal.{Refusal}
-use Rattle.bt_top.specs.declared.refusal.Refusal.TheVariants.{Usage, Script, Recording, ReadFault, WriteFault, Memory}
+use Rattle.bt_top.specs.declared.refusal.Refusal.TheVariants.{Usage, Script, Recording, ReadFault, WriteFault, Memory, RefusedCode}
 use Rattle.bt_top.specs.Doing.{Wrote}
 use Rattle.bt_top.specs.Headline.{Headline, PrintsItsSteps, PrintsItsTotals, PrintsOfFiles}
 use Rattle.bt_top.specs.Jobs.{IsBigJob, meaning_of}
@@ -49,6 +50,7 @@ no_success (Recording why) zero = omega (arith, zero)
 no_success (ReadFault file) zero = omega (arith, zero)
 no_success WriteFault zero = omega (arith, zero)
 no_success Memory zero = omega (arith, zero)
+no_success (RefusedCode why) zero = omega (arith, zero)
 
 -- so nothing is promised of a call that is refused
 pub refused_headline : (order : Option Order) (seen : ShelfUse) (out : SinkUse) (refusal : Refusal) → Headline order seen out (refused_report refusal)
@@ -56,13 +58,16 @@ refused_headline None seen out refusal = tt
 refused_headline (Some (Run serial stats json script recording)) seen out refusal = λ zero. absurd (no_success refusal zero)
 refused_headline (Some (Check script recording)) seen out refusal = tt
 refused_headline (Some (Code script recording)) seen out refusal = tt
+refused_headline (Some (Vet script recording)) seen out refusal = tt
 refused_headline (Some (Gen x n)) seen out refusal = tt
 refused_headline (Some (Big x n)) seen out refusal = λ zero. absurd (no_success refusal zero)
 
 -- the whole was written, or the status is not 0
-written_whole : (out : SinkUse) (refusal : Option Refusal) (bytes : List ℕ) → Wrote out refusal bytes → status_of refusal ≡ 0 → Appends out.taken out.taken_after bytes
-written_whole out refusal bytes (inl e) zero = e.1
-written_whole out refusal bytes (inr e) zero = absurd (no_success WriteFault (subst (λ (r : Option Refusal). status_of r ≡ 0) e.0 zero))
+written_whole : (out : SinkUse) (found : Option CodeRefusal) (refusal : Option Refusal) (bytes : List ℕ) → Wrote out found refusal bytes → status_of refusal ≡ 0
+    → Appends out.taken out.taken_after bytes
+written_whole out None refusal bytes (inl e) zero = e.1
+written_whole out None refusal bytes (inr e) zero = absurd (no_success WriteFault (subst (λ (r : Option Refusal). status_of r ≡ 0) e.0 zero))
+written_whole out (Some why) refusal bytes e zero = absurd (no_success (RefusedCode why) (subst (λ (r : Option Refusal). status_of r ≡ 0) e.0 zero))
 
 -- what the laws say of jobs, of interleavings, and of scripts that only add
 pub record AreRunLaws : Type 0 where
@@ -77,7 +82,8 @@ pub record AreRunLaws : Type 0 where
   pub totals : (script : Typed) (attached : Attached) (r : Recorded) (steps : List Step) → IsAddingRun script attached r steps
       → EndsWithTotals script attached r steps
 
-module _ (laws : AreRunLaws) (seen : ShelfUse) (out : SinkUse) (outcome : Outcome) (refusal : Option Refusal) (wrote : Wrote out refusal (bytes_written outcome)) where
+module _ (laws : AreRunLaws) (seen : ShelfUse) (out : SinkUse) (outcome : Outcome) (refusal : Option Refusal)
+    (wrote : Wrote out outcome.refused refusal (bytes_written outcome)) where
   prints : (form : Form) (serial : Bool) (job : Job) (rest : Work → List ℕ) → IsJob job.typed job.attached job.recording
       → (run : IsOutcomeOfRun form serial job rest outcome) → status_of refusal ≡ 0 → PrintsItsSteps form job (rest run.work) out run.work
   prints form serial job rest can run zero = record {
@@ -85,7 +91,7 @@ module _ (laws : AreRunLaws) (seen : ShelfUse) (out : SinkUse) (outcome : Outcom
     ticks = laws.ticks job.typed job.attached job.recording run.work.steps can run.done.replayed.interleaving;
     reads = laws.reads (meaning_of job) run.work.steps run.done.replayed.interleaving;
     written = subst (λ (text : List ℕ). Appends out.taken out.taken_after (text ++ rest run.work)) run.done.printed
-        (subst (λ (o : Outcome). Appends out.taken out.taken_after (bytes_written o)) run.is (written_whole out refusal (bytes_written outcome) wrote zero));
+        (subst (λ (o : Outcome). Appends out.taken out.taken_after (bytes_written o)) run.is (written_whole out outcome.refused refusal (bytes_written outcome) wrote zero));
   }
 
   adds : (x n : ℕ) (job : Job) (of : IsBigJob x n job) (rest : Work → List ℕ) (run : IsOutcomeOfRun Text false job rest outcome)
@@ -114,6 +120,7 @@ module _ (laws : AreRunLaws) (seen : ShelfUse) (out : SinkUse) (outcome : Outcom
       })
   done_headline (Check script recording) contents held comes = tt
   done_headline (Code script recording) contents held comes = tt
+  done_headline (Vet script recording) contents held comes = tt
   done_headline (Gen x n) contents held comes = tt
   done_headline (Big x n) contents held comes = λ zero.
       subst (λ (o : Outcome). IsSomeAnd o.work (PrintsItsTotals x n out)) (sym comes.2.is) (record {

@@ -9,3 +9,5 @@ mod Performing
 mod Reading
 mod Scripts
 mod TooLarge
+mod Vetted
+mod Vetting

@@ -6,41 +6,39 @@ use Rattle.bpf_codegen.specs.declared.generate.Program.{Program}
 use Rattle.bpf_encode.proofs.CodeLemmas.{length-code_bytes}
 use Rattle.bt_ast.specs.declared.attached.BodyId.{BodyId}
 use Rattle.script_programs.specs.Programs.{KeepScript, KeepsItsBody}
-use Rattle.tracefs_format.specs.declared.format.Format.{Format}
 use Rattle.typed_tree.specs.declared.body.TypedBody.{TypedBody}
 use Rattle.typed_tree.specs.declared.script.Typed.{Typed}
 use Rattle.bt_top.specs.Doing.{CanBeListed}
-use Rattle.bt_top.specs.Listings.{body_listing, script_listing}
+use Rattle.bt_top.specs.Listings.{of_bodies}
 
 pub on_ok-map : {T E : Type 0} (r : Result T E) (P Q : Type 0) → (P → Q) → OnOk r P → OnOk r Q
 on_ok-map (Ok x) P Q f p = f p
 on_ok-map (Err e) P Q f p = tt
 
 -- one body more
-pub listing_more : (formats : List Format) (ids : List BodyId) (programs : List Program) (n : ℕ) (id d : BodyId) (program : Program)
+listing_more : (said : BodyId → Program → List ℕ) (ids : List BodyId) (programs : List Program) (n : ℕ) (id d : BodyId) (program : Program)
     → n < length ids → n < length programs → id ≡ get_or ids n d → program ≡ get_or programs n program
-    → script_listing formats (take (suc n) ids) (take (suc n) programs)
-    ≡ script_listing formats (take n ids) (take n programs) ++ body_listing formats id program
-listing_more formats [] programs n id d program low few at on = absurd (omega (arith, low))
-listing_more formats (i ∷ is) [] n id d program low few at on = absurd (omega (arith, few))
-listing_more formats (i ∷ is) (p ∷ ps) zero id d program low few at on =
+    → of_bodies said (take (suc n) ids) (take (suc n) programs) ≡ of_bodies said (take n ids) (take n programs) ++ said id program
+listing_more said [] programs n id d program low few at on = absurd (omega (arith, low))
+listing_more said (i ∷ is) [] n id d program low few at on = absurd (omega (arith, few))
+listing_more said (i ∷ is) (p ∷ ps) zero id d program low few at on =
     let first = sym at in
     let second = sym on in
-    append-nil (body_listing formats i p) ∙ λ k. body_listing formats (first k) (second k)
-listing_more formats (i ∷ is) (p ∷ ps) (suc n) id d program low few at on =
-    ap (λ (l : List ℕ). body_listing formats i p ++ l) (listing_more formats is ps n id d program (omega (arith, low)) (omega (arith, few)) at on)
-    ∙ sym (append_assoc (body_listing formats i p) (script_listing formats (take n is) (take n ps)) (body_listing formats id program))
+    append-nil (said i p) ∙ λ k. said (first k) (second k)
+listing_more said (i ∷ is) (p ∷ ps) (suc n) id d program low few at on =
+    ap (λ (l : List ℕ). said i p ++ l) (listing_more said is ps n id d program (omega (arith, low)) (omega (arith, few)) at on)
+    ∙ sym (append_assoc (said i p) (of_bodies said (take n is) (take n ps)) (said id program))
 
 -- all of them
-pub listing_all : (formats : List Format) (ids : List BodyId) (programs : List Program) (n : ℕ) → min (length ids) (length programs) ≤ n
-    → script_listing formats (take n ids) (take n programs) ≡ script_listing formats ids programs
-listing_all formats [] programs zero past = refl
-listing_all formats [] programs (suc n) past = refl
-listing_all formats (i ∷ is) [] zero past = refl
-listing_all formats (i ∷ is) [] (suc n) past = refl
-listing_all formats (i ∷ is) (p ∷ ps) zero past = absurd (omega (arith, past))
-listing_all formats (i ∷ is) (p ∷ ps) (suc n) past =
-    ap (λ (l : List ℕ). body_listing formats i p ++ l) (listing_all formats is ps n (omega (arith, past)))
+pub listing_all : (said : BodyId → Program → List ℕ) (ids : List BodyId) (programs : List Program) (n : ℕ) → min (length ids) (length programs) ≤ n
+    → of_bodies said (take n ids) (take n programs) ≡ of_bodies said ids programs
+listing_all said [] programs zero past = refl
+listing_all said [] programs (suc n) past = refl
+listing_all said (i ∷ is) [] zero past = refl
+listing_all said (i ∷ is) [] (suc n) past = refl
+listing_all said (i ∷ is) (p ∷ ps) zero past = absurd (omega (arith, past))
+listing_all said (i ∷ is) (p ∷ ps) (suc n) past =
+    ap (λ (l : List ℕ). said i p ++ l) (listing_all said is ps n (omega (arith, past)))
 
 -- programs that keep a script's bodies can be listed
 kept_listed : (script : Typed) (body : TypedBody) (program : Program) → KeepsItsBody script body program → CanBeListed program
@@ -60,15 +58,15 @@ pub can_be_listed : (script : Typed) (programs : List Program) → KeepScript sc
 can_be_listed script programs keep = all_listed script script.bodies programs keep.as_many keep.each
 
 -- the next of the bodies in a loop
-pub next_listed : (formats : List Format) (ids : List BodyId) (programs : List Program) (n : ℕ) (id d : BodyId) (program : Program) (old new : List ℕ)
+pub next_listed : (said : BodyId → Program → List ℕ) (ids : List BodyId) (programs : List Program) (n : ℕ) (id d : BodyId) (program : Program) (old new : List ℕ)
     → n < length ids → n < length programs → id ≡ get_or ids n d → program ≡ get_or programs n program
-    → old ≡ script_listing formats (take n ids) (take n programs) → new ≡ old ++ body_listing formats id program
-    → new ≡ script_listing formats (take (n + 1) ids) (take (n + 1) programs)
-next_listed formats ids programs n id d program old new low few at on before grown =
+    → old ≡ of_bodies said (take n ids) (take n programs) → new ≡ old ++ said id program
+    → new ≡ of_bodies said (take (n + 1) ids) (take (n + 1) programs)
+next_listed said ids programs n id d program old new low few at on before grown =
     let more : suc n ≡ n + 1 = omega arith in
-    grown ∙ ap (λ (l : List ℕ). l ++ body_listing formats id program) before
-    ∙ sym (listing_more formats ids programs n id d program low few at on)
-    ∙ ap (λ (m : ℕ). script_listing formats (take m ids) (take m programs)) more
+    grown ∙ ap (λ (l : List ℕ). l ++ said id program) before
+    ∙ sym (listing_more said ids programs n id d program low few at on)
+    ∙ ap (λ (m : ℕ). of_bodies said (take m ids) (take m programs)) more
 
 pub listed_at : (programs : List Program) (n : ℕ) (program : Program) → n < length programs → program ≡ get_or programs n program
     → AllByRecursion CanBeListed programs → CanBeListed program

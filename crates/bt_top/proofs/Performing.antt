@@ -1,7 +1,9 @@
 -- What an order comes to, from what comes of its files.
 use Rattle.std.proofs.Common.{◌≡◌, ℕ, List, [], ◌∷◌, refl, sym, ap, inl, inr}
-use Rattle.std.specs.Prelude.{Bool, Option, Some, None, Ok, IfSome}
+use Rattle.std.specs.Prelude.{◌⊎◌, Bool, Option, Some, None, Ok, IfSome}
 use Rattle.bpf_codegen.specs.declared.generate.Program.{Program}
+use Rattle.bt_words.specs.declared.order.Order.{Order}
+use Rattle.bt_words.specs.declared.order.Order.TheVariants.{Run, Check, Code, Vet, Gen, Big}
 use Rattle.rec_format.specs.declared.recording.Recording.{Recording as Recorded}
 use Rattle.rec_format.specs.Recordings.{recording_bytes}
 use Rattle.run_base.specs.declared.job.Job.{Job}
@@ -11,9 +13,9 @@ use Rattle.bt_top.specs.declared.outcome.Outcome.{Outcome}
 use Rattle.bt_top.specs.declared.refusal.Refusal.TheVariants.{Memory}
 use Rattle.bt_top.specs.Doing.{ComesOfFiles}
 use Rattle.bt_top.specs.Jobs.{IsWorkOf}
-use Rattle.bt_top.specs.Orders.{OperandFile, names_of}
+use Rattle.bt_top.specs.Orders.{OperandFile, files_of, names_of}
 use Rattle.bt_top.specs.Outcomes.{IsOutcomeOfRun, gen_outcome, run_outcome}
-use Rattle.bt_top.specs.Serve.{ShelfUse, AsksExactly, AsksFirst, ComesIfDue, IsComplete, OnTold}
+use Rattle.bt_top.specs.Serve.{ShelfUse, AsksExactly, AsksFirst, EndsAsDue, IsComplete, IsEndStatus, OnTold}
 
 -- ---- outcomes
 
@@ -24,8 +26,8 @@ ran_with form serial job work rest line done is = record { work = work; done = d
 
 -- the bytes of a recording, with no programs
 pub made_with : (says : Recorded) (programs : List Program) (rest : List ℕ) → programs ≡ [] → rest ≡ recording_bytes says
-    → ◌≡◌ {A = Outcome} (record { work = None; programs = programs; rest = rest }) (gen_outcome says)
-made_with says programs rest none spelled = λ i. record { work = None; programs = none i; rest = spelled i }
+    → ◌≡◌ {A = Outcome} (record { work = None; programs = programs; refused = None; rest = rest }) (gen_outcome says)
+made_with says programs rest none spelled = λ i. record { work = None; programs = none i; refused = None; rest = spelled i }
 
 -- ---- of all files alike
 
@@ -59,13 +61,23 @@ on_told-map held (file ∷ files) P Q f p =
     if_told-map (held file.name) (λ bytes. OnTold held files (λ contents. P (bytes ∷ contents))) (λ bytes. OnTold held files (λ contents. Q (bytes ∷ contents)))
     (λ bytes. on_told-map held files (λ contents. P (bytes ∷ contents)) (λ contents. Q (bytes ∷ contents)) (λ contents. f (bytes ∷ contents))) p
 
-pub memory_exact : (held : List ℕ → Option (List ℕ)) (files : List OperandFile) → OnTold held files (ComesIfDue files (Some Memory))
-memory_exact held files = on_told held files (ComesIfDue files (Some Memory)) (λ contents due is. inr tt)
+pub memory_exact : (held : List ℕ → Option (List ℕ)) (order : Order) → OnTold held (files_of order) (EndsAsDue order (Some Memory))
+memory_exact held order = on_told held (files_of order) (EndsAsDue order (Some Memory)) (λ contents due is. inr tt)
 
-pub memory_complete : (held : List ℕ → Option (List ℕ)) (files : List OperandFile) (read_failed write_failed : Type 0)
-    → OnTold held files (IsComplete files read_failed write_failed 6)
-memory_complete held files read_failed write_failed =
-    on_told held files (IsComplete files read_failed write_failed 6) (λ contents due no_read no_write. inr refl)
+-- success, and want of memory, are ends of every order
+pub plain_end : (order : Order) (status : ℕ) → (status ≡ 0) ⊎ (status ≡ 6) → IsEndStatus order status
+plain_end (Run serial stats json script recording) status is = is
+plain_end (Check script recording) status is = is
+plain_end (Code script recording) status is = is
+plain_end (Vet script recording) status (inl zero) = inl zero
+plain_end (Vet script recording) status (inr six) = inr (inl six)
+plain_end (Gen x n) status is = is
+plain_end (Big x n) status is = is
+
+pub memory_complete : (held : List ℕ → Option (List ℕ)) (order : Order) (read_failed write_failed : Type 0)
+    → OnTold held (files_of order) (IsComplete order read_failed write_failed 6)
+memory_complete held order read_failed write_failed =
+    on_told held (files_of order) (IsComplete order read_failed write_failed 6) (λ contents due no_read no_write. plain_end order 6 (inr refl))
 
 -- ---- of an order on files
 

@@ -11,7 +11,7 @@ use Rattle.bt_top.specs.declared.refusal.Operand.TheVariants as operand
 use Rattle.bt_top.specs.declared.refusal.RecordingRefusal.TheVariants as recording
 use Rattle.bt_top.specs.declared.refusal.ScriptRefusal.TheVariants as script
 use Rattle.bt_top.specs.declared.refusal.Refusal.{Refusal}
-use Rattle.bt_top.specs.declared.refusal.Refusal.TheVariants.{Usage, Script, Recording, ReadFault, WriteFault, Memory}
+use Rattle.bt_top.specs.declared.refusal.Refusal.TheVariants.{Usage, Script, Recording, ReadFault, WriteFault, Memory, RefusedCode}
 use Rattle.bt_top.specs.Doing.{IsExact, IsFaultRefusal, ComesOfFiles, refusal_in}
 use Rattle.bt_top.specs.Due.{IsDue, IsFirstRefusal}
 use Rattle.bt_top.specs.Jobs.{IsJobFor, IsJobOf}
@@ -196,6 +196,7 @@ module _ (s r : List ℕ) (seen : ShelfUse) (text bytes : List ℕ) (short : len
   fault_comes (ReadFault file) due = absurd due
   fault_comes WriteFault due = absurd due
   fault_comes Memory due = tt
+  fault_comes (RefusedCode why) due = absurd due
 
   came : (answer : Result Job Refusal) → IfErr answer (IsFaultRefusal text bytes)
       → IfErr answer (λ refusal. MayCome (on_script s r) (text ∷ bytes ∷ []) (ShelfFailed seen) ⊥ (Some refusal))
@@ -212,6 +213,7 @@ module _ (s r : List ℕ) (seen : ShelfUse) (text bytes : List ℕ) (short : len
   fault_asked (ReadFault file) due all = absurd due
   fault_asked WriteFault due all = absurd due
   fault_asked Memory due all = tt
+  fault_asked (RefusedCode why) due all = absurd due
 
   both_asked : (answer : Result Job Refusal) → IfErr answer (IsFaultRefusal text bytes) → seen.asked_after ≡ seen.asked ++ s ∷ r ∷ []
       → AsksExactly (on_script s r) (refusal_in answer) seen

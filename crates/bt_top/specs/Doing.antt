@@ -1,6 +1,6 @@
 -- What the steps of a call answer, between the words and the write. No public contract speaks of it.
 use Rattle.std.specs.Prelude.{◌≡◌, ℕ, ◌⊎◌, ◌≤◌, ◌<◌, ◌*◌, ◌%◌, List, length, Option, Some, None, Result, Ok, Err, IfOk, IfErr, slice_get}
-use Rattle.std.specs.Io.KnownBytes.{Appends}
+use Rattle.std.specs.Io.KnownBytes.{Appends, Keeps}
 use Rattle.bt_io.specs.Taken.{AppendsPart}
 use Rattle.bpf_codegen.specs.declared.generate.Program.{Program}
 use Rattle.bt_core.specs.declared.limits.TheConstants.{CODE_SLOTS}
@@ -13,8 +13,9 @@ use Rattle.script_programs.specs.declared.error.SizeFault.{SizeFault}
 use Rattle.script_programs.specs.Programs.{KeepScript}
 use Rattle.script_programs.specs.Sizes.{first_size_fault}
 use Rattle.typed_tree.specs.declared.script.Typed.{Typed}
+use Rattle.bt_top.specs.declared.refusal.CodeRefusal.{CodeRefusal}
 use Rattle.bt_top.specs.declared.refusal.Refusal.{Refusal}
-use Rattle.bt_top.specs.declared.refusal.Refusal.TheVariants.{Script, WriteFault, Memory}
+use Rattle.bt_top.specs.declared.refusal.Refusal.TheVariants.{Script, WriteFault, Memory, RefusedCode}
 use Rattle.bt_top.specs.declared.refusal.ScriptFault.{ScriptFault}
 use Rattle.bt_top.specs.declared.refusal.ScriptRefusal.TheVariants as script
 use Rattle.bt_top.specs.Due.{IsFirstRefusal, IsJudged}
@@ -95,10 +96,15 @@ pub record ComesOfFiles {A : Type 0} (files : List OperandFile) (Comes : List (L
 -- ---- the write
 
 -- the bytes were written, or a part of them where the count of faults rose
-abbrev pub Wrote : SinkUse → Option Refusal → List ℕ → Type 0
-Wrote out refusal bytes =
+abbrev pub WroteBytes : SinkUse → Option Refusal → List ℕ → Type 0
+WroteBytes out refusal bytes =
     ((refusal ≡ None) × Appends out.taken out.taken_after bytes)
     ⊎ ((refusal ≡ Some WriteFault) × SinkFailed out × AppendsPart out.taken out.taken_after bytes)
+
+-- so it is where no program is refused; else that is told, and nothing was written
+abbrev pub Wrote : SinkUse → Option CodeRefusal → Option Refusal → List ℕ → Type 0
+Wrote out None refusal bytes = WroteBytes out refusal bytes
+Wrote out (Some why) refusal bytes = (refusal ≡ Some (RefusedCode why)) × Keeps out.taken out.taken_after
 
 -- ---- listings
 

@@ -1,6 +1,7 @@
 pub mod Orders
 pub mod Lines
 pub mod Listings
+pub mod Vetting
 pub mod Sizes
 pub mod Script
 pub mod Refusals
@@ -10,3 +11,4 @@ pub mod Outcomes
 pub mod Serve
 pub mod Doing
 pub mod Headline
+pub mod Vetted

@@ -20,16 +20,24 @@ point_name formats End = codes "END"
 point_name formats Interval = codes "interval"
 point_name formats (Event place) = codes "tracepoint:" ++ event_name (slice_get formats place)
 
--- the line of a body: the number of its probe, from 0 in the order of the script, and what it is run at
+-- which body it is: the number of its probe, from 0 in the order of the script, and what it is run at
+abbrev pub body_name : List Format → BodyId → List ℕ
+body_name formats id = codes "probe " ++ decimal id.probe ++ codes " " ++ point_name formats id.point
+
+-- the line of a body
 abbrev pub head_line : List Format → BodyId → List ℕ
-head_line formats id = codes "probe " ++ decimal id.probe ++ codes " " ++ point_name formats id.point ++ codes "\n"
+head_line formats id = body_name formats id ++ codes "\n"
 
 -- that line, and a line for each slot of its program
 abbrev pub body_listing : List Format → BodyId → Program → List ℕ
 body_listing formats id program = head_line formats id ++ listing_of program.bytes
 
+-- what is said of each body with its program, one after another
+abbrev pub of_bodies : (BodyId → Program → List ℕ) → List BodyId → List Program → List ℕ
+of_bodies said [] programs = []
+of_bodies said (id ∷ ids) [] = []
+of_bodies said (id ∷ ids) (program ∷ programs) = said id program ++ of_bodies said ids programs
+
 -- all bodies, each with its program
 abbrev pub script_listing : List Format → List BodyId → List Program → List ℕ
-script_listing formats [] programs = []
-script_listing formats (id ∷ ids) [] = []
-script_listing formats (id ∷ ids) (program ∷ programs) = body_listing formats id program ++ script_listing formats ids programs
+script_listing formats ids programs = of_bodies (body_listing formats) ids programs

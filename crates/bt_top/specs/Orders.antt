@@ -2,7 +2,7 @@
 use Rattle.std.specs.Prelude.{ℕ, Bool, true, false, List, [], ◌∷◌, map, Option, Some, None, if◌then◌else◌}
 use Rattle.bt_core.specs.declared.limits.TheConstants.{SCRIPT_BYTES, RECORDING_BYTES}
 use Rattle.bt_words.specs.declared.order.Order.{Order}
-use Rattle.bt_words.specs.declared.order.Order.TheVariants.{Run, Check, Code, Gen, Big}
+use Rattle.bt_words.specs.declared.order.Order.TheVariants.{Run, Check, Code, Vet, Gen, Big}
 use Rattle.run_output.specs.declared.form.Form.{Form}
 use Rattle.run_output.specs.declared.form.Form.TheVariants.{Text, Json}
 use Rattle.bt_top.specs.declared.refusal.Operand.{Operand}
@@ -20,6 +20,7 @@ abbrev pub files_of : Order → List OperandFile
 files_of (Run serial stats json script recording) = on_script script recording
 files_of (Check script recording) = on_script script recording
 files_of (Code script recording) = on_script script recording
+files_of (Vet script recording) = on_script script recording
 files_of (Gen x n) = []
 files_of (Big x n) = []
 

@@ -21,7 +21,7 @@ use Rattle.bt_top.specs.declared.refusal.ScriptRefusal.TheVariants as script
 use Rattle.bt_top.specs.declared.refusal.RecordingRefusal.{RecordingRefusal}
 use Rattle.bt_top.specs.declared.refusal.RecordingRefusal.TheVariants as recording
 use Rattle.bt_top.specs.declared.refusal.Refusal.{Refusal}
-use Rattle.bt_top.specs.declared.refusal.Refusal.TheVariants.{Usage, Script, Recording, ReadFault, WriteFault, Memory}
+use Rattle.bt_top.specs.declared.refusal.Refusal.TheVariants.{Usage, Script, Recording, ReadFault, WriteFault, Memory, RefusedCode}
 use Rattle.bt_top.specs.Lines.{Piece, Text, Number}
 use Rattle.bt_top.specs.Orders.{OperandFile, operand_name}
 
@@ -33,6 +33,7 @@ status_of (Some (Recording why)) = 3
 status_of (Some (ReadFault operand)) = 4
 status_of (Some WriteFault) = 5
 status_of (Some Memory) = 6
+status_of (Some (RefusedCode why)) = 8
 
 -- what tells that a file is longer than it may be
 abbrev pub too_long : Operand → Refusal
@@ -161,7 +162,8 @@ usage_pieces =
     ∷ Text (codes "       btreplay check SCRIPT RECORDING\n")
     ∷ Text (codes "       btreplay code SCRIPT RECORDING\n")
     ∷ Text (codes "       btreplay gen X N\n")
-    ∷ Text (codes "       btreplay big X N")
+    ∷ Text (codes "       btreplay big X N\n")
+    ∷ Text (codes "       btreplay vet SCRIPT RECORDING")
     ∷ []
 
 -- what is told of a refusal, where the words name these files
@@ -172,3 +174,5 @@ refusal_pieces files (Recording why) = Text (operand_name files operand.Recordin
 refusal_pieces files (ReadFault file) = Text (operand_name files file) ∷ Text (codes ": read fault") ∷ []
 refusal_pieces files WriteFault = Text (codes "write fault") ∷ []
 refusal_pieces files Memory = Text (codes "out of memory") ∷ []
+refusal_pieces files (RefusedCode why) =
+    Text (operand_name files operand.Script) ∷ Text (codes ": ") ∷ Text (codes "code refused in probe ") ∷ Number why.probe ∷ []

@@ -4,15 +4,16 @@ use Rattle.std.specs.Io.KnownBytes.{Appends, Keeps}
 use Rattle.bt_io.specs.Faults.{Rose}
 use Rattle.bt_io.specs.Taken.{AppendsPart}
 use Rattle.bt_words.specs.declared.order.Order.{Order}
-use Rattle.bt_words.specs.declared.order.Order.TheVariants.{Run, Check, Code, Gen, Big}
+use Rattle.bt_words.specs.declared.order.Order.TheVariants.{Run, Check, Code, Vet, Gen, Big}
 use Rattle.bt_top.specs.declared.outcome.Outcome.{Outcome}
 use Rattle.bt_top.specs.declared.report.Report.{Report}
+use Rattle.bt_top.specs.declared.refusal.CodeRefusal.{CodeRefusal}
 use Rattle.bt_top.specs.declared.refusal.Operand.{Operand}
 use Rattle.bt_top.specs.declared.refusal.Operand.TheVariants as operand
 use Rattle.bt_top.specs.declared.refusal.RecordingRefusal.TheVariants as recording
 use Rattle.bt_top.specs.declared.refusal.ScriptRefusal.TheVariants as script
 use Rattle.bt_top.specs.declared.refusal.Refusal.{Refusal}
-use Rattle.bt_top.specs.declared.refusal.Refusal.TheVariants.{Script, Recording, ReadFault, WriteFault, Memory}
+use Rattle.bt_top.specs.declared.refusal.Refusal.TheVariants.{Script, Recording, ReadFault, WriteFault, Memory, RefusedCode}
 use Rattle.bt_top.specs.Due.{IsDue}
 use Rattle.bt_top.specs.Lines.{SinkUse, SinkFailed, Writes}
 use Rattle.bt_top.specs.Orders.{OperandFile, files_of, limit_of}
@@ -103,16 +104,50 @@ MayStandFor files refusal due = ⊥
 abbrev pub ComesIfDue : List OperandFile → Option Refusal → List (List ℕ) → Type 0
 ComesIfDue files refusal contents = (due : Option Refusal) → IsDue files contents due → (refusal ≡ due) ⊎ MayStandFor files refusal due
 
+-- `vet` alone ends with programs that are refused
+abbrev pub IsVetOrder : Order → Type 0
+IsVetOrder (Run serial stats json script recording) = ⊥
+IsVetOrder (Check script recording) = ⊥
+IsVetOrder (Code script recording) = ⊥
+IsVetOrder (Vet script recording) = Unit {0}
+IsVetOrder (Gen x n) = ⊥
+IsVetOrder (Big x n) = ⊥
+
+-- what may come of an order over files with these contents: the same as of its files, and programs that are refused where nothing is due
+abbrev pub MayEnd : Order → List (List ℕ) → (read_failed write_failed : Type 0) → Option Refusal → Type 0
+MayEnd order contents read_failed write_failed (Some (RefusedCode why)) = IsVetOrder order × IsDue (files_of order) contents None
+MayEnd order contents read_failed write_failed refusal = MayCome (files_of order) contents read_failed write_failed refusal
+
+-- what stands for what is due to the files of an order: the same, and programs that are refused where nothing is due
+abbrev pub MayEndFor : Order → Option Refusal → Option Refusal → Type 0
+MayEndFor order (Some (RefusedCode why)) due = IsVetOrder order × (due ≡ None)
+MayEndFor order refusal due = MayStandFor (files_of order) refusal due
+
+-- what is due to the files of an order comes, unless something stands for it
+abbrev pub EndsAsDue : Order → Option Refusal → List (List ℕ) → Type 0
+EndsAsDue order refusal contents = (due : Option Refusal) → IsDue (files_of order) contents due → (refusal ≡ due) ⊎ MayEndFor order refusal due
+
 -- a read failed: there are files, and the shelf's count of faults rose
 abbrev pub ReadFailed : List OperandFile → ShelfUse → Type 0
 ReadFailed [] shelf = ⊥
 ReadFailed (file ∷ files) shelf = ShelfFailed shelf
 
--- where nothing is due to the files and nothing failed, the status is that of success or of want of memory
-abbrev pub IsComplete : List OperandFile → (read_failed write_failed : Type 0) → ℕ → List (List ℕ) → Type 0
-IsComplete files read_failed write_failed status contents = IsDue files contents None → ¬ read_failed → ¬ write_failed → (status ≡ 0) ⊎ (status ≡ 6)
+-- the status of success or of want of memory, and of `vet` also that of programs that are refused
+abbrev pub IsEndStatus : Order → ℕ → Type 0
+IsEndStatus (Vet script recording) status = (status ≡ 0) ⊎ ((status ≡ 6) ⊎ (status ≡ 8))
+IsEndStatus order status = (status ≡ 0) ⊎ (status ≡ 6)
+
+-- so it ends where nothing is due to the files and nothing failed
+abbrev pub IsComplete : Order → (read_failed write_failed : Type 0) → ℕ → List (List ℕ) → Type 0
+IsComplete order read_failed write_failed status contents =
+    IsDue (files_of order) contents None → ¬ read_failed → ¬ write_failed → IsEndStatus order status
 
 -- ---- what is done
+
+-- programs that are refused are told; else nothing is, or a fault of the write
+abbrev pub IsTold : Option CodeRefusal → Option Refusal → Type 0
+IsTold (Some why) refusal = refusal ≡ Some (RefusedCode why)
+IsTold None refusal = (refusal ≡ None) ⊎ (refusal ≡ Some WriteFault)
 
 -- the output took the bytes at status 0, a prefix of them after a fault of the write, and else nothing
 abbrev pub IsWritten : SinkUse → Option Refusal → List ℕ → Type 0
@@ -120,12 +155,14 @@ IsWritten out None bytes = Appends out.taken out.taken_after bytes
 IsWritten out (Some WriteFault) bytes = AppendsPart out.taken out.taken_after bytes
 IsWritten out (Some refusal) bytes = Keeps out.taken out.taken_after
 
--- what the order comes to was done: its work and its programs are handed back, and its bytes were written
+-- what the order comes to was done: its work and its programs are handed back, and its bytes were written; or its programs are refused, and
+-- that is told
 pub record IsDone (order : Order) (contents : List (List ℕ)) (out : SinkUse) (report : Report) : Type 0 where
   pub outcome : Outcome
   pub comes : ComesTo order contents outcome
   pub work : report.work ≡ outcome.work
   pub programs : report.programs ≡ outcome.programs
+  pub told : IsTold outcome.refused report.refusal
   pub written : IsWritten out report.refusal (bytes_written outcome)
 
 -- nothing was done, and nothing written
@@ -134,17 +171,19 @@ pub record IsNothing (out : SinkUse) (report : Report) : Type 0 where
   pub programs : report.programs ≡ []
   pub written : Keeps out.taken out.taken_after
 
--- all was done at status 0, all but a part of the writing after a fault of the write, and else nothing
+-- all was done at status 0, all but a part of the writing after a fault of the write, all but the writing where programs are refused, and else
+-- nothing
 abbrev pub IsDoneUnlessRefused : Option Refusal → Order → List (List ℕ) → SinkUse → Report → Type 0
 IsDoneUnlessRefused None order contents out report = IsDone order contents out report
 IsDoneUnlessRefused (Some WriteFault) order contents out report = IsDone order contents out report
+IsDoneUnlessRefused (Some (RefusedCode why)) order contents out report = IsDone order contents out report
 IsDoneUnlessRefused (Some refusal) order contents out report = IsNothing out report
 
 -- the answer to an order, over files whose contents are what the shelf tells of them
 pub record AnswersOrder (order : Order) (shelf : ShelfUse) (out : SinkUse) (report : Report) : Type 0 where
   pub contents : List (List ℕ)
   pub held : AreContentsOf shelf.held (files_of order) contents
-  pub came : MayCome (files_of order) contents (ShelfFailed shelf) (SinkFailed out) report.refusal
+  pub came : MayEnd order contents (ShelfFailed shelf) (SinkFailed out) report.refusal
   pub done : IsDoneUnlessRefused report.refusal order contents out report
 
 -- where words give no order, nothing is done
@@ -157,6 +196,7 @@ abbrev pub IsRunOrder : Order → Type 0
 IsRunOrder (Run serial stats json script recording) = Unit {0}
 IsRunOrder (Check script recording) = ⊥
 IsRunOrder (Code script recording) = ⊥
+IsRunOrder (Vet script recording) = ⊥
 IsRunOrder (Gen x n) = ⊥
 IsRunOrder (Big x n) = Unit {0}
 

@@ -14,4 +14,5 @@ pub mod serve;
 mod sizes;
 mod tasks;
 mod tell;
+mod vetting;
 mod work;

@@ -2,7 +2,7 @@
 ghost use Rattle.std.specs.Prelude.{◌≡◌, ◌++◌, IfOk, OnOk, Some, codes, slice_get};
 ghost use Rattle.std.specs.List.{AllByRecursion};
 ghost use Rattle.bt_top.specs.Doing.{CanBeListed};
-ghost use Rattle.bt_top.specs.Listings.{body_listing, event_name, head_line, point_name, script_listing};
+ghost use Rattle.bt_top.specs.Listings.{body_listing, body_name, event_name, head_line, point_name, script_listing};
 
 use bpf_codegen::generate::Program;
 use bpf_encode::listing::listing;
@@ -47,15 +47,23 @@ fn push_point(text: &mut Vec<u8>, formats: &[Format], point: BodyPoint) -> Resul
     Ok(())
 }
 
-/// Adds the line of a body.
-fn push_head(text: &mut Vec<u8>, formats: &[Format], id: BodyId) -> Result<(), Memory>
-    ensures { OnOk result (text.new.items ≡ text.old.items ++ head_line formats.now id) }
+/// Adds which body it is: `probe P K`, with the number P of its probe, and K what it is run at.
+pub(crate) fn push_name(text: &mut Vec<u8>, formats: &[Format], id: BodyId) -> Result<(), Memory>
+    ensures { OnOk result (text.new.items ≡ text.old.items ++ body_name formats.now id) }
 {
     let mut buffer = Buffer::new();
     text.extend_from_slice(b"probe ")?;
     text.extend_from_slice(buffer.format(id.probe).as_bytes())?;
     text.extend_from_slice(b" ")?;
     push_point(text, formats, id.point)?;
+    Ok(())
+}
+
+/// Adds the line of a body.
+fn push_head(text: &mut Vec<u8>, formats: &[Format], id: BodyId) -> Result<(), Memory>
+    ensures { OnOk result (text.new.items ≡ text.old.items ++ head_line formats.now id) }
+{
+    push_name(text, formats, id)?;
     text.extend_from_slice(b"\n")?;
     Ok(())
 }

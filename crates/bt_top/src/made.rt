@@ -36,6 +36,7 @@ pub(crate) fn gen_outcome(alloc: Global, x: u32, n: u32) -> Result<Outcome, Memo
     Ok(Outcome {
         work: None,
         programs: Items::new(alloc),
+        refused: None,
         rest: Items::of(bytes),
     })
 }
@@ -99,6 +100,7 @@ pub(crate) fn big_outcome<G: Gate + Sync, R: Threads + Wait + Sync>(
     Ok(Outcome {
         work: Some(work),
         programs: job.programs,
+        refused: None,
         rest,
     })
 }

@@ -3,22 +3,23 @@ ghost use Rattle.std.specs.Prelude.{◌≡◌, OnOk, OnErr};
 ghost use Rattle.std.specs.Io.KnownBytes.{Appends};
 ghost use Rattle.bt_io.specs.Faults.{Rose};
 ghost use Rattle.bt_io.specs.Taken.{AppendsPart};
-ghost use Rattle.bt_top.specs.Doing.{Wrote};
+ghost use Rattle.bt_top.specs.Doing.{Wrote, WroteBytes};
 ghost use Rattle.bt_top.specs.Lines.{sink_use};
 ghost use Rattle.bt_top.specs.Outcomes.{bytes_written, work_text};
 
-use crate::refusal::Refusal;
+use crate::refusal::{CodeRefusal, Refusal};
 use bpf_codegen::generate::Program;
 use bt_core::items::Items;
 use bt_io::sink::{Sink, SinkFailed, write_all};
 use run_base::job::Work;
 
-/// What an order comes to where nothing is refused: the work of a run, the programs that were run or listed, and the bytes that are written
-/// behind the text of the work, which are JSON lines where these are asked for.
+/// What an order comes to where its files are not refused: the work of a run; the programs that were run, listed or checked; why the check
+/// refuses them, where it does; and the bytes that are written behind the text of the work, which are JSON lines where these are asked for.
 #[derive(Drop)]
 pub(crate) struct Outcome {
     pub work: Option<Work>,
     pub programs: Items<Program>,
+    pub refused: Option<CodeRefusal>,
     pub rest: Items<u8>,
 }
 
@@ -42,12 +43,22 @@ fn write_outcome<K: Sink>(out: &mut K, outcome: &Outcome) -> Result<(), SinkFail
     write_all(out, outcome.rest.as_slice())
 }
 
-/// Writes an outcome, and answers why its write did not end, where it did not.
-pub(crate) fn write_refusal<K: Sink>(out: &mut K, outcome: &Outcome) -> Option<Refusal>
-    ensures { Wrote (sink_use K.taken K.faults out.old out.new) result (bytes_written outcome.now) }
+/// Writes the bytes of an outcome, and answers why that did not end, where it did not.
+fn write_fault<K: Sink>(out: &mut K, outcome: &Outcome) -> Option<Refusal>
+    ensures { WroteBytes (sink_use K.taken K.faults out.old out.new) result (bytes_written outcome.now) }
 {
     match write_outcome(out, outcome) {
         Ok(()) => None,
         Err(_) => Some(Refusal::WriteFault),
+    }
+}
+
+/// Writes an outcome, and answers why that did not end, where it did not. Of programs that are refused nothing is written.
+pub(crate) fn write_refusal<K: Sink>(out: &mut K, outcome: &Outcome) -> Option<Refusal>
+    ensures { Wrote (sink_use K.taken K.faults out.old out.new) outcome.now.refused result (bytes_written outcome.now) }
+{
+    match outcome.refused {
+        None => write_fault(out, outcome),
+        Some(why) => Some(Refusal::RefusedCode(why)),
     }
 }

@@ -2,6 +2,7 @@
 ghost use Rattle.std.specs.Prelude.{◌≡◌};
 ghost use Rattle.bt_top.specs.Refusals.{status_of, recording_refusal, read_refusal};
 
+use bpf_check::check::CodeFault;
 use bt_core::memory::Memory;
 use bt_core::place::Place;
 use bt_io::shelf::ShelfError;
@@ -75,6 +76,14 @@ pub enum RecordingRefusal {
     Fault(RecordingError),
 }
 
+/// Why code is refused: the number of the probe, from 0 in the order of the script, of the first body whose program the
+/// check refuses, and the fault of that program.
+#[derive(Clone, Copy, PartialEq, Eq, Debug)]
+pub struct CodeRefusal {
+    pub probe: u32,
+    pub fault: CodeFault,
+}
+
 /// Why a call is refused. Each has its exit status.
 #[derive(Clone, Copy, PartialEq, Eq, Debug)]
 pub enum Refusal {
@@ -90,6 +99,8 @@ pub enum Refusal {
     WriteFault,
     /// Memory ran out: status 6.
     Memory,
+    /// The check refuses a program that was made: status 8.
+    RefusedCode(CodeRefusal),
 }
 
 impl From<Memory> for Refusal {
@@ -115,6 +126,7 @@ pub(crate) fn status_of(refusal: Option<Refusal>) -> u8
         Some(Refusal::ReadFault(_)) => 4,
         Some(Refusal::WriteFault) => 5,
         Some(Refusal::Memory) => 6,
+        Some(Refusal::RefusedCode(_)) => 8,
     }
 }
 

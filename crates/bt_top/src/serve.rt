@@ -5,8 +5,9 @@ ghost use Rattle.bt_top.specs.Headline.{Headline};
 ghost use Rattle.bt_top.specs.Lines.{SinkFailed, sink_use};
 ghost use Rattle.bt_top.specs.Orders.{files_in, files_of, names_of};
 ghost use Rattle.bt_top.specs.Refusals.{status_of};
-ghost use Rattle.bt_top.specs.Serve.{AnswersOrder, AsksExactly, AsksFirst, ComesIfDue, HasWork, AnswersWords, IsComplete};
+ghost use Rattle.bt_top.specs.Serve.{AnswersOrder, AsksExactly, AsksFirst, EndsAsDue, HasWork, AnswersWords, IsComplete};
 ghost use Rattle.bt_top.specs.Serve.{OnTold, ReadFailed, TellsRefusal, shelf_use};
+ghost use Rattle.bt_top.specs.Vetted.{Vetted};
 
 use crate::outcome::{Outcome, write_refusal};
 use crate::refusal::{Refusal, status_of};
@@ -50,9 +51,11 @@ fn perform<S: Shelf, K: Sink, G: Gate + Sync, R: Threads + Wait + Sync>(
     ensures asked_exactly { AsksExactly (files_of order.now) result.refusal (shelf_use S.held S.faults S.asked shelf.old shelf.new) }
     ensures answered { AnswersOrder order.now (shelf_use S.held S.faults S.asked shelf.old shelf.new)
         (sink_use K.taken K.faults out.old out.new) result }
-    ensures exact { OnTold (S.held shelf.old) (files_of order.now) (ComesIfDue (files_of order.now) result.refusal) }
+    ensures exact { OnTold (S.held shelf.old) (files_of order.now) (EndsAsDue order.now result.refusal) }
     ensures worked { IsSome result.work ↔ HasWork result.refusal (Some order.now) }
     ensures headline { Headline (Some order.now) (shelf_use S.held S.faults S.asked shelf.old shelf.new)
+        (sink_use K.taken K.faults out.old out.new) result }
+    ensures vetted { Vetted (Some order.now) (shelf_use S.held S.faults S.asked shelf.old shelf.new)
         (sink_use K.taken K.faults out.old out.new) result }
 {
     bt_job::laws::accepted_scripts_are_jobs();
@@ -77,10 +80,12 @@ fn perform<S: Shelf, K: Sink, G: Gate + Sync, R: Threads + Wait + Sync>(
 /// K one of `BEGIN`, `END`, `interval` and `tracepoint:S:E`, and then a line for each slot. `gen X N` writes the bytes
 /// of the recording of the seed X and of N events. `big X N` runs the built-in script over this recording, with each
 /// CPU on a thread of its own, and writes its text and behind it the line `summary: N events, M steps`, M the length of
-/// the list of steps.
+/// the list of steps. `vet SCRIPT RECORDING` checks the bytes of the programs, by rules that know nothing of how they
+/// were made, and writes for each body the line `probe P K: at most N instructions`, N being 4,097 times the slots of
+/// its program; the first program that is refused is told in place of that.
 ///
-/// The programs of the script, one for each body in the order of the bodies, are handed back by `run`, `code` and
-/// `big`. Each keeps its body: its code makes the calls of the body's walk, and ends where the walk ends.
+/// The programs of the script, one for each body in the order of the bodies, are handed back by `run`, `code`, `vet`
+/// and `big`. Each keeps its body: its code makes the calls of the body's walk, and ends where the walk ends.
 ///
 /// The work that is handed back has all steps of the run in one list. It is an interleaving: `BEGIN` makes its steps
 /// first and `END` last, in between each CPU makes its whole program in its order, and each reply follows from the
@@ -90,7 +95,7 @@ fn perform<S: Shelf, K: Sink, G: Gate + Sync, R: Threads + Wait + Sync>(
 /// does. A run on threads may wait for others at the locks of its objects.
 ///
 /// Refusals come in the order words, script read, recording read, recording, lexing, parsing, attaching,
-/// typing, frame and code, run, write. A file that is too long is refused at its read. A recording is refused with
+/// typing, frame and code, check of the code, run, write. A file that is too long is refused at its read. A recording is refused with
 /// the first check that its bytes fail. A script is refused with the first lexical fault of its text, the
 /// first fault of its tokens by the grammar of the bpftrace language, the first of its points that may not
 /// be attached over this recording, the first rule of types that is broken in its bodies, in walk order, or
@@ -114,13 +119,14 @@ pub fn serve<S: Shelf, K: Sink, E: Sink, G: Gate + Sync, R: Threads + Wait + Syn
     ensures asked_exactly { AsksExactly (files_in (order_of words.now)) result.refusal (shelf_use S.held S.faults S.asked shelf.old shelf.new) }
 
     // What comes of an order is due to its files, or is a fault before which nothing was due; nothing is due to `gen` and `big`. At status 0 and
-    // 5 there is what the order comes to: the work of a run, the programs of a run or a listing, one for each body, which keeps it, and the
-    // bytes, which are appended to the output: whole at status 0, and a prefix of them after a fault of the write. Else nothing is.
+    // 5 there is what the order comes to: the work of a run, the programs of a run, a listing or a check, one for each body, which keeps it, and
+    // the bytes, which are appended to the output: whole at status 0, and a prefix of them after a fault of the write. At status 8 there are the
+    // programs. Else nothing is.
     ensures answered { AnswersWords (order_of words.now) (shelf_use S.held S.faults S.asked shelf.old shelf.new)
         (sink_use K.taken K.faults out.old out.new) result }
-    ensures exact { IfSome (order_of words.now) (λ order. OnTold (S.held shelf.old) (files_of order) (ComesIfDue (files_of order) result.refusal)) }
+    ensures exact { IfSome (order_of words.now) (λ order. OnTold (S.held shelf.old) (files_of order) (EndsAsDue order result.refusal)) }
     ensures complete { IfSome (order_of words.now) (λ order. OnTold (S.held shelf.old) (files_of order)
-        (IsComplete (files_of order) (ReadFailed (files_of order) (shelf_use S.held S.faults S.asked shelf.old shelf.new))
+        (IsComplete order (ReadFailed (files_of order) (shelf_use S.held S.faults S.asked shelf.old shelf.new))
         (SinkFailed (sink_use K.taken K.faults out.old out.new)) result.status)) }
 
     // Work is there at status 0 and 5 of `run` and `big`.
@@ -130,6 +136,11 @@ pub fn serve<S: Shelf, K: Sink, E: Sink, G: Gate + Sync, R: Threads + Wait + Syn
     // the interleaving handed back with them, as text or, with `--json`, as JSON lines, and the line of instructions where it is asked for.
     // Behind the text of `big`, which ends with exactly the totals of its maps, stands the line that tells its events and steps.
     ensures headline { Headline (order_of words.now) (shelf_use S.held S.faults S.asked shelf.old shelf.new)
+        (sink_use K.taken K.faults out.old out.new) result }
+
+    // What `vet` says of the programs that it hands back: status 8 comes exactly where the check refuses one of them, and the first such is
+    // told, by its probe; else all are accepted, and the lines that tell so were written at status 0. No other order ends with status 8.
+    ensures vetted { Vetted (order_of words.now) (shelf_use S.held S.faults S.asked shelf.old shelf.new)
         (sink_use K.taken K.faults out.old out.new) result }
 
     // The line of the refusal is appended to `err`, or a prefix of it where the count of its faults rose.

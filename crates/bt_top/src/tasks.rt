@@ -1,11 +1,11 @@
 // What each order comes to.
-ghost use Rattle.std.specs.Prelude.{◌≡◌, IfOk};
+ghost use Rattle.std.specs.Prelude.{◌≡◌, ◌≤◌, length, IfOk};
 ghost use Rattle.bt_meaning.specs.Jobs.{IsJob};
 ghost use Rattle.bt_words.specs.Words.{HasBounds};
 ghost use Rattle.script_programs.specs.Programs.{KeepScript};
 ghost use Rattle.bt_top.specs.Doing.{ComesOfFiles};
 ghost use Rattle.bt_top.specs.Orders.{files_of, form_of};
-ghost use Rattle.bt_top.specs.Outcomes.{ComesTo, IsOutcomeOfRun, check_outcome, code_outcome, instructions_line, stats_line};
+ghost use Rattle.bt_top.specs.Outcomes.{ComesTo, IsOutcomeOfRun, IsOutcomeOfVet, check_outcome, code_outcome, instructions_line, stats_line};
 ghost use Rattle.bt_top.specs.Serve.{shelf_use};
 
 use crate::files::read_job;
@@ -13,6 +13,7 @@ use crate::listing::script_listing;
 use crate::made::{big_outcome, gen_outcome};
 use crate::outcome::Outcome;
 use crate::refusal::Refusal;
+use crate::vetting::{Verdict, vet_programs};
 use crate::work::run;
 use bt_core::items::Items;
 use bt_core::memory::Memory;
@@ -90,6 +91,7 @@ fn run_outcome<G: Gate + Sync, R: Threads + Wait + Sync>(
     Ok(Outcome {
         work: Some(work),
         programs: job.programs,
+        refused: None,
         rest,
     })
 }
@@ -101,6 +103,7 @@ fn check_outcome(alloc: Global) -> Result<Outcome, Memory>
     Ok(Outcome {
         work: None,
         programs: Items::new(alloc),
+        refused: None,
         rest: Items::from_slice(alloc, b"ok\n")?,
     })
 }
@@ -116,8 +119,34 @@ fn code_outcome(alloc: Global, job: Job) -> Result<Outcome, Memory>
     Ok(Outcome {
         work: None,
         programs: job.programs,
+        refused: None,
         rest,
     })
+}
+
+/// Checks the programs of a job.
+fn vet_outcome(alloc: Global, job: Job) -> Result<Outcome, Memory>
+    requires programs { KeepScript job.typed job.programs }
+    requires named { length job.typed.bodies ≤ length job.attached.bodies }
+    ensures { IfOk result (IsOutcomeOfVet job) }
+{
+    let formats = job.recording.formats.as_slice();
+    let ids = job.attached.bodies.as_slice();
+    let programs = job.programs.as_slice();
+    match vet_programs(alloc, formats, ids, &job.typed, programs)? {
+        Verdict::Accepted(lines) => Ok(Outcome {
+            work: None,
+            programs: job.programs,
+            refused: None,
+            rest: lines,
+        }),
+        Verdict::Refused(why) => Ok(Outcome {
+            work: None,
+            programs: job.programs,
+            refused: Some(why),
+            rest: Items::new(alloc),
+        }),
+    }
 }
 
 /// What an order comes to: reads its files, and does all but its writing.
@@ -150,6 +179,10 @@ pub(crate) fn outcome_of<S: Shelf, G: Gate + Sync, R: Threads + Wait + Sync>(
         Order::Code { script, recording } => {
             let job = read_job(alloc, script.as_str(), recording.as_str(), shelf)?;
             Ok(code_outcome(alloc, job)?)
+        }
+        Order::Vet { script, recording } => {
+            let job = read_job(alloc, script.as_str(), recording.as_str(), shelf)?;
+            Ok(vet_outcome(alloc, job)?)
         }
         Order::Gen { x, n } => Ok(gen_outcome(alloc, *x, *n)?),
         Order::Big { x, n } => big_outcome(rt, alloc, *x, *n, gate),

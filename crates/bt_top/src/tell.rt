@@ -121,6 +121,7 @@ fn operand_name(order: &Order, operand: Operand) -> &str
         } => one_of(script, recording, operand),
         Order::Check { script, recording } => one_of(script, recording, operand),
         Order::Code { script, recording } => one_of(script, recording, operand),
+        Order::Vet { script, recording } => one_of(script, recording, operand),
         Order::Gen { .. } | Order::Big { .. } => "",
     }
 }
@@ -298,8 +299,9 @@ pub(crate) fn tell_usage<E: Sink>(err: &mut E)
     let check = Piece::Text("       btreplay check SCRIPT RECORDING\n");
     let code = Piece::Text("       btreplay code SCRIPT RECORDING\n");
     let made = Piece::Text("       btreplay gen X N\n");
-    let big = Piece::Text("       btreplay big X N");
-    write_line(err, &[run, check, code, made, big]);
+    let big = Piece::Text("       btreplay big X N\n");
+    let vet = Piece::Text("       btreplay vet SCRIPT RECORDING");
+    write_line(err, &[run, check, code, made, big, vet]);
 }
 
 /// Tells that memory ran out.
@@ -327,6 +329,10 @@ fn tell<E: Sink>(err: &mut E, order: &Order, refusal: Refusal)
         }
         Refusal::WriteFault => write_line(err, &[Piece::Text("write fault")]),
         Refusal::Memory => tell_memory(err),
+        Refusal::RefusedCode(why) => {
+            let name = operand_name(order, Operand::Script);
+            tell_numbered(err, name, "code refused in probe ", u64::from(why.probe))
+        }
     }
 }
 

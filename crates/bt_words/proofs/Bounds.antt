@@ -9,7 +9,7 @@ use Rattle.std.proofs.lemmas.Bool.{leb-true}
 use Rattle.bt_core.specs.Bytes.{is_digit}
 use Rattle.bt_core.specs.declared.limits.TheConstants.{EVENTS}
 use Rattle.bt_words.specs.declared.order.Order.{Order}
-use Rattle.bt_words.specs.declared.order.Order.TheVariants.{Check, Code, Gen, Big}
+use Rattle.bt_words.specs.declared.order.Order.TheVariants.{Check, Code, Vet, Gen, Big}
 use Rattle.bt_words.specs.Words.{are_run_words, is_empty, is_operand, number_in, numbers, of_two, order_by, order_of, order_of_words, plain_order}
 use Rattle.bt_words.specs.Words.{AreBounded, HasBounds, run_order, two_numbers}
 
@@ -57,11 +57,12 @@ plain_small : (command : List ℕ) (operands : List (List ℕ)) → AreSmall (pl
 plain_small command operands =
     either_small (bytes_eq command (codes "check")) (of_two (λ script recording. Some (Check script recording)) operands) _ (two_small _ operands (λ a b. tt))
     (either_small (bytes_eq command (codes "code")) (of_two (λ script recording. Some (Code script recording)) operands) _ (two_small _ operands (λ a b. tt))
+    (either_small (bytes_eq command (codes "vet")) (of_two (λ script recording. Some (Vet script recording)) operands) _ (two_small _ operands (λ a b. tt))
     (either_small (bytes_eq command (codes "gen")) (of_two (two_numbers Gen) operands) _
     (two_small (two_numbers Gen) operands (λ a b. gen_numbers (number_in 2147483647 a) (number_in EVENTS b) (number_small 2147483647 a) (number_small EVENTS b)))
     (either_small (bytes_eq command (codes "big")) (of_two (two_numbers Big) operands) None
     (two_small (two_numbers Big) operands (λ a b. big_numbers (number_in 2147483647 a) (number_in EVENTS b) (number_small 2147483647 a) (number_small EVENTS b)))
-    tt)))
+    tt))))
 
 words_small : (words : List (List ℕ)) → AreSmall (order_of_words words)
 words_small [] = tt

@@ -90,12 +90,14 @@ abbrev no_one : Option Order
 no_one = None
 
 no_order : (command : List ℕ)
-    → cond (bytes_eq command (codes "check")) no_one (cond (bytes_eq command (codes "code")) no_one
-    (cond (bytes_eq command (codes "gen")) no_one (cond (bytes_eq command (codes "big")) no_one no_one))) ≡ no_one
+    → cond (bytes_eq command (codes "check")) no_one (cond (bytes_eq command (codes "code")) no_one (cond (bytes_eq command (codes "vet")) no_one
+    (cond (bytes_eq command (codes "gen")) no_one (cond (bytes_eq command (codes "big")) no_one no_one)))) ≡ no_one
 no_order command =
-    ap (λ o. cond (bytes_eq command (codes "check")) no_one (cond (bytes_eq command (codes "code")) no_one (cond (bytes_eq command (codes "gen")) no_one o)))
-    (same (bytes_eq command (codes "big")) no_one)
-    ∙ ap (λ o. cond (bytes_eq command (codes "check")) no_one (cond (bytes_eq command (codes "code")) no_one o)) (same (bytes_eq command (codes "gen")) no_one)
+    ap (λ o. cond (bytes_eq command (codes "check")) no_one (cond (bytes_eq command (codes "code")) no_one (cond (bytes_eq command (codes "vet")) no_one
+    (cond (bytes_eq command (codes "gen")) no_one o)))) (same (bytes_eq command (codes "big")) no_one)
+    ∙ ap (λ o. cond (bytes_eq command (codes "check")) no_one (cond (bytes_eq command (codes "code")) no_one (cond (bytes_eq command (codes "vet")) no_one o)))
+    (same (bytes_eq command (codes "gen")) no_one)
+    ∙ ap (λ o. cond (bytes_eq command (codes "check")) no_one (cond (bytes_eq command (codes "code")) no_one o)) (same (bytes_eq command (codes "vet")) no_one)
     ∙ ap (λ o. cond (bytes_eq command (codes "check")) no_one o) (same (bytes_eq command (codes "code")) no_one)
     ∙ same (bytes_eq command (codes "check")) no_one
 

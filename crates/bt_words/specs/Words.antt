@@ -9,7 +9,7 @@ use Rattle.bt_core.specs.declared.limits.TheConstants.{EVENTS}
 use Rattle.bt_words.specs.declared.order.WordsError.{WordsError}
 use Rattle.bt_words.specs.declared.order.WordsError.TheVariants.{Usage, Memory}
 use Rattle.bt_words.specs.declared.order.Order.{Order}
-use Rattle.bt_words.specs.declared.order.Order.TheVariants.{Run, Check, Code, Gen, Big}
+use Rattle.bt_words.specs.declared.order.Order.TheVariants.{Run, Check, Code, Vet, Gen, Big}
 
 abbrev pub is_empty : List ℕ → Bool
 is_empty word = length word == 0
@@ -74,6 +74,7 @@ abbrev pub plain_order : List ℕ → List (List ℕ) → Option Order
 plain_order command operands =
     if bytes_eq command (codes "check") then of_two (λ script recording. Some (Check script recording)) operands
     else if bytes_eq command (codes "code") then of_two (λ script recording. Some (Code script recording)) operands
+    else if bytes_eq command (codes "vet") then of_two (λ script recording. Some (Vet script recording)) operands
     else if bytes_eq command (codes "gen") then of_two (two_numbers Gen) operands
     else if bytes_eq command (codes "big") then of_two (two_numbers Big) operands
     else None

@@ -40,7 +40,7 @@ impl FileName {
     }
 }
 
-/// What words ask for: one of the five commands, with what it takes.
+/// What words ask for: one of the six commands, with what it takes.
 #[derive(Debug, Drop)]
 pub enum Order {
     /// To run a script over a recording: on one thread, or on threads; with or without the number of
@@ -59,6 +59,11 @@ pub enum Order {
     },
     /// To list the code.
     Code {
+        script: FileName,
+        recording: FileName,
+    },
+    /// To check the code.
+    Vet {
         script: FileName,
         recording: FileName,
     },

@@ -72,6 +72,10 @@ fn plain_order(alloc: Global, command: &str, operands: Operands<'_>) -> Result<O
         let script = FileName::of(alloc, first)?;
         let recording = FileName::of(alloc, second)?;
         Ok(Order::Code { script, recording })
+    } else if command == "vet" {
+        let script = FileName::of(alloc, first)?;
+        let recording = FileName::of(alloc, second)?;
+        Ok(Order::Vet { script, recording })
     } else if command == "gen" {
         let Numbers { x, n } = two_numbers(first, second).ok_or(WordsError::Usage)?;
         Ok(Order::Gen { x, n })

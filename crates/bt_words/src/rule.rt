@@ -23,7 +23,7 @@ fn suits(command: &str, words: &[String]) -> bool
 {
     if command == "run" {
         are_run_words(words)
-    } else if command == "check" || command == "code" {
+    } else if command == "check" || command == "code" || command == "vet" {
         are_two_operands(words)
     } else if command == "gen" || command == "big" {
         are_two_numbers(words)
@@ -47,6 +47,7 @@ fn are_run_words(words: &[String]) -> bool
 fn are_two_operands(words: &[String]) -> bool
     ensures for_check { result ≡ is_some (order_by (codes "check") (map string_bytes words.now)) }
     ensures for_code { result ≡ is_some (order_by (codes "code") (map string_bytes words.now)) }
+    ensures for_vet { result ≡ is_some (order_by (codes "vet") (map string_bytes words.now)) }
 {
     are_operands(words) && words.len() == 2
 }

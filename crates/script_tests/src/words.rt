@@ -99,12 +99,15 @@ fn files_are_any_words(rt: HostRuntime) -> Result<(), Fail> {
         ["code", "same", "same"],
         ["check", "help", "check"],
         ["code", "\u{2212}-serial", "=\n x"],
+        ["vet", "s.bt", "r.bin"],
+        ["vet", "vet", "a-b"],
     ];
     for texts in cases {
         let words = words_of(alloc, &texts)?;
         let (command, script, recording) = match read_words(alloc, &words)? {
             Order::Check { script, recording } => ("check", script, recording),
             Order::Code { script, recording } => ("code", script, recording),
+            Order::Vet { script, recording } => ("vet", script, recording),
             _ => return Err(Fail::from("no files")),
         };
         assert_eq!(rt; command, texts[0]);
@@ -140,7 +143,7 @@ fn numbers_reach_their_limits(rt: HostRuntime) -> Result<(), Fail> {
 }
 
 /// Words that break the rule.
-const REFUSED: [&[&str]; 49] = [
+const REFUSED: [&[&str]; 54] = [
     &[],
     &[""],
     &["help"],
@@ -156,6 +159,8 @@ const REFUSED: [&[&str]; 49] = [
     &["run", "a", "b", "c"],
     &["check", "a"],
     &["code", "a", "b", "c"],
+    &["vet", "a"],
+    &["vet", "a", "b", "c"],
     &["gen", "1"],
     &["big", "1", "2", "3"],
     // options that are none
@@ -182,12 +187,15 @@ const REFUSED: [&[&str]; 49] = [
     &["check", "--serial", "a", "b"],
     &["code", "a", "b", "--stats"],
     &["gen", "--stats", "1", "2"],
+    &["vet", "--serial", "a", "b"],
+    &["vet", "a", "b", "--json"],
     &["check", "--json", "a", "b"],
     &["big", "1", "2", "--json"],
     // empty words
     &["run", "", "a", "b"],
     &["run", "a", ""],
     &["check", "a", "b", ""],
+    &["vet", "", "b"],
     // numbers
     &["gen", "2147483648", "1"],
     &["gen", "1", "1048577"],

@@ -28,7 +28,7 @@ class Command(unittest.TestCase):
         self.assertEqual(self.at.words(), ["run", "--serial", "s.bt", "r.btr", "--stats"])
         self.assertEqual(self.at.run("run", "--json", "s.bt", "r.btr", out="{}\n"), (0, "{}\n", ""))
         self.assertEqual(self.at.words(), ["run", "--json", "s.bt", "r.btr"])
-        for status in (1, 2, 3, 5, 6, 77):
+        for status in (1, 2, 3, 5, 6, 8, 77):
             self.assertEqual(self.at.run("gen", "1", "2", status=status, err="some fault"), (status, "", "some fault\n"))
         self.assertEqual(self.at.run("any", "", "words -e", status=1), (1, "", ""))
         self.assertEqual(self.at.words(), ["any", "", "words -e"])
@@ -37,7 +37,7 @@ class Command(unittest.TestCase):
         self.at.write("pair.bt", PAIR)
         self.assertEqual(self.at.run("run", "pair.bt", "r.btr", out="text"), (0, "text", ORDER))
         for words in (["run", "--serial", "pair.bt", "r.btr"], ["run", "pair.bt", "r.btr", "--serial"], ["check", "pair.bt", "r.btr"],
-                      ["code", "pair.bt", "r.btr"]):
+                      ["code", "pair.bt", "r.btr"], ["vet", "pair.bt", "r.btr"]):
             self.assertEqual(self.at.run(*words, out="text"), (0, "text", ""))
         self.at.write("one.btr", two_kinds(cpus=1))
         self.assertEqual(self.at.run("run", "pair.bt", "one.btr"), (0, "", ""))
@@ -55,6 +55,7 @@ class Command(unittest.TestCase):
                            (["big", "1", "x"], "big takes two numbers, as in 7 1000"),
                            (["run", "--seriall", "s.bt", "r.btr"], "run has no option --seriall; it has --serial, --stats and --json"),
                            (["check", "--serial", "s.bt", "r.btr"], "check has no option --serial"),
+                           (["vet", "s.bt"], f"vet {files} 1 word stands there"),
                            (["run", "-e"], "a script stands behind -e, and a recording"),
                            (["run", "-e", "BEGIN { }"], f"run {files} 1 word stands there"),
                            (["run", "-"], f"run {files} 1 word stands there")):

@@ -108,13 +108,14 @@ class Completion(unittest.TestCase):
         return sorted(done.stdout.decode().split())
 
     def test_words(self):
-        self.assertEqual(self.completed(""), sorted("run check explain code gen big --help --version --unproved".split()))
+        self.assertEqual(self.completed(""), sorted("run check explain code gen big vet --help --version --unproved".split()))
         self.assertEqual(self.completed("ru"), ["run"])
         self.assertEqual(self.completed("--unproved", "c"), ["check", "code"])
         self.assertEqual(self.completed("--unproved", "-"), ["--help", "--version"])
         self.assertEqual(self.completed("run", "-"), ["--json", "--serial", "--stats", "-e"])
         self.assertEqual(self.completed("check", "-"), ["-e"])
         self.assertEqual(self.completed("gen", ""), [])
+        self.assertEqual(self.completed("vet", "-"), ["-e"])
 
     def test_files(self):
         self.assertEqual(self.completed("run", ""), ["s.bt", "sub"])
@@ -123,6 +124,7 @@ class Completion(unittest.TestCase):
         self.assertEqual(self.completed("run", "-e", ""), [])
         self.assertEqual(self.completed("run", "-e", "BEGIN { }", ""), ["r.btr", "sub"])
         self.assertEqual(self.completed("explain", "-", "r"), ["r.btr"])
+        self.assertEqual(self.completed("vet", "s.bt", ""), ["r.btr", "sub"])
         self.assertEqual(self.completed("run", "s.bt", "r.btr", ""), [])
 
 

@@ -1,8 +1,9 @@
-use Rattle.std.proofs.Common.{refl, inl, inr}
+use Rattle.std.proofs.Common.{refl}
+use Rattle.bt_top.proofs.Answering.{kept}
 use Rattle.bt_top.proofs.outcome.write_refusal.Goals as goal
 
-pub returns-in-Ok : goal.returns-in-Ok
-returns-in-Ok g c = inl (refl, c.in-Ok.ensures.whole)
+pub returns-in-None : goal.returns-in-None
+returns-in-None g c = rw c.in-None.is c.write_fault.ensures
 
-pub returns-in-Err : goal.returns-in-Err
-returns-in-Err g c = inr (refl, c.in-Err.ensures.failed, c.in-Err.ensures.part)
+pub returns-in-Some : goal.returns-in-Some
+returns-in-Some g c = rw c.in-Some.is (refl, kept (g.K.Sink.taken c.args.out.now))

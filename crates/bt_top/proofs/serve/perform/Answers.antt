@@ -1,10 +1,24 @@
 use Rattle.std.specs.Prelude.{Some}
-use Rattle.bt_top.proofs.Answering.{done_answer, done_exact}
+use Rattle.bt_top.proofs.Answering.{done_answer, done_exact, files_exact, kept, refused_answer}
 use Rattle.bt_top.proofs.Headlines.{AreRunLaws, done_headline, refused_headline}
+use Rattle.bt_top.proofs.Vetted.{done_vetted, refused_vetted}
 use Rattle.bt_top.proofs.serve.perform.Goals as goal
 
 pub returns-in-Err-clause-headline : goal.returns-in-Err-clause-headline
 returns-in-Err-clause-headline g c = rw c.refused.ensures (refused_headline (Some c.args.order.now) _ _ c.in-Err.refusal)
+
+pub returns-in-Err-clause-answered : goal.returns-in-Err-clause-answered
+returns-in-Err-clause-answered g c =
+    rw c.refused.ensures (refused_answer c.args.order.now _ _ (kept (g.K.Sink.taken c.args.out.now)) c.in-Err.refusal c.in-Err.ensures)
+
+pub returns-in-Err-clause-exact : goal.returns-in-Err-clause-exact
+returns-in-Err-clause-exact g c =
+    rw c.refused.ensures (files_exact (g.S.Shelf.held c.args.shelf.now) c.args.order.now (Some c.in-Err.refusal) c.in-Err.ensures.exact)
+
+pub returns-in-Err-clause-vetted : goal.returns-in-Err-clause-vetted
+returns-in-Err-clause-vetted g c =
+    let reads = c.in-Err.ensures.reads in
+    rw c.refused.ensures (refused_vetted c.args.order.now _ _ reads.contents c.in-Err.refusal reads.came)
 
 pub returns-clause-answered : goal.returns-clause-answered
 returns-clause-answered g c =
@@ -30,3 +44,9 @@ returns-clause-headline g c =
     rw c.reported.ensures
     (done_headline laws _ _ c.in-Ok.outcome c.write_refusal-refusal.result c.write_refusal-refusal.ensures c.args.order.now reads.contents
     reads.held reads.value)
+
+pub returns-clause-vetted : goal.returns-clause-vetted
+returns-clause-vetted g c =
+    let reads = c.in-Ok.ensures.reads in
+    rw c.reported.ensures
+    (done_vetted _ _ c.in-Ok.outcome c.write_refusal-refusal.result c.write_refusal-refusal.ensures c.args.order.now reads.contents reads.held reads.value)

@@ -3,11 +3,12 @@ use Rattle.bt_words.specs.declared.order.Order.{Order}
 use Rattle.bt_words.specs.Words.{order_of}
 use Rattle.bt_top.specs.declared.refusal.Refusal.TheVariants.{Memory}
 use Rattle.bt_top.specs.Orders.{files_in, files_of}
-use Rattle.bt_top.specs.Serve.{ComesIfDue, OnTold}
+use Rattle.bt_top.specs.Serve.{EndsAsDue, OnTold}
 use Rattle.std.specs.Prelude.{Some}
 use Rattle.bt_top.proofs.Answering.{is_complete, kept, on_order, words_answer}
 use Rattle.bt_top.proofs.Headlines.{refused_headline}
 use Rattle.bt_top.proofs.Performing.{memory_complete, memory_exact, nothing_asked, nothing_asked_exactly}
+use Rattle.bt_top.proofs.Vetted.{memory_vetted}
 use Rattle.bt_top.proofs.serve.serve.Goals as goal
 
 pub returns-in-Err-Memory-clause-asked : goal.returns-in-Err-Memory-clause-asked
@@ -20,13 +21,13 @@ returns-in-Err-Memory-clause-answered g c =
 pub returns-in-Err-Memory-clause-exact : goal.returns-in-Err-Memory-clause-exact
 returns-in-Err-Memory-clause-exact g c =
     rw c.refused-in-Err-Memory.ensures
-    (on_order (order_of c.args.words.now) (λ (order : Order). OnTold (g.S.Shelf.held c.args.shelf.now) (files_of order) (ComesIfDue (files_of order) (Some Memory)))
-    (λ order. memory_exact (g.S.Shelf.held c.args.shelf.now) (files_of order)))
+    (on_order (order_of c.args.words.now) (λ (order : Order). OnTold (g.S.Shelf.held c.args.shelf.now) (files_of order) (EndsAsDue order (Some Memory)))
+    (λ order. memory_exact (g.S.Shelf.held c.args.shelf.now) order))
 
 pub returns-in-Err-Memory-clause-complete : goal.returns-in-Err-Memory-clause-complete
 returns-in-Err-Memory-clause-complete g c =
     rw c.refused-in-Err-Memory.ensures
-    (on_order (order_of c.args.words.now) _ (λ order. memory_complete (g.S.Shelf.held c.args.shelf.now) (files_of order) _ _))
+    (on_order (order_of c.args.words.now) _ (λ order. memory_complete (g.S.Shelf.held c.args.shelf.now) order _ _))
 
 pub returns-clause-complete : goal.returns-clause-complete
 returns-clause-complete g c =
@@ -36,6 +37,10 @@ returns-clause-complete g c =
 pub returns-in-Err-Memory-clause-headline : goal.returns-in-Err-Memory-clause-headline
 returns-in-Err-Memory-clause-headline g c =
     rw c.refused-in-Err-Memory.ensures (refused_headline (order_of c.args.words.now) _ _ Memory)
+
+pub returns-in-Err-Memory-clause-vetted : goal.returns-in-Err-Memory-clause-vetted
+returns-in-Err-Memory-clause-vetted g c =
+    rw c.refused-in-Err-Memory.ensures (memory_vetted (order_of c.args.words.now) _ _)
 
 pub returns-in-Err-Memory-clause-asked_exactly : goal.returns-in-Err-Memory-clause-asked_exactly
 returns-in-Err-Memory-clause-asked_exactly g c =

@@ -1,5 +1,5 @@
 use Rattle.std.proofs.Common.{refl, subst}
-use Rattle.bt_words.specs.declared.order.Order.TheVariants.{Run, Check, Code, Gen}
+use Rattle.bt_words.specs.declared.order.Order.TheVariants.{Run, Check, Code, Vet, Gen}
 use Rattle.run_base.specs.declared.job.Work.{Work}
 use Rattle.run_output.specs.declared.form.Form.{Form}
 use Rattle.bt_top.specs.Jobs.{IsJobFor}
@@ -37,6 +37,14 @@ returns-in_ok-code_outcome-in-Code g c =
     c.in_ok-job-in-Code.job c.in_ok-code_outcome-in-Code.field-0
     (rw (c.as_str-in-Code.ensures, c.as_str-in-Code-2.ensures) at c.in_ok-job-in-Code.ensures.performs)
     (λ contents is. (c.in_ok-job-in-Code.job, is, c.in_ok-code_outcome-in-Code.ensures)))
+
+pub returns-in_ok-vet_outcome-in-Vet : goal.returns-in_ok-vet_outcome-in-Vet
+returns-in_ok-vet_outcome-in-Vet g c =
+    rw c.in-Vet.is
+    (goes_on _ (IsJobFor (on_script c.in-Vet.script c.in-Vet.recording)) (ComesTo (Vet c.in-Vet.script c.in-Vet.recording)) _
+    c.in_ok-job-in-Vet.job c.in_ok-vet_outcome-in-Vet.field-0
+    (rw (c.as_str-in-Vet.ensures, c.as_str-in-Vet-2.ensures) at c.in_ok-job-in-Vet.ensures.performs)
+    (λ contents is. (c.in_ok-job-in-Vet.job, is, c.in_ok-vet_outcome-in-Vet.ensures)))
 
 pub returns-in_ok-gen_outcome-in-Gen : goal.returns-in_ok-gen_outcome-in-Gen
 returns-in_ok-gen_outcome-in-Gen g c =

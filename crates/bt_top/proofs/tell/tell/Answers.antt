@@ -17,3 +17,7 @@ returns-in-Script g c = rw (c.in-Script.is, ← c.operand_name.ensures) c.tell_s
 
 pub returns-in-Recording : goal.returns-in-Recording
 returns-in-Recording g c = rw (c.in-Recording.is, ← c.operand_name-in-Recording.ensures) c.tell_recording.ensures
+
+pub returns-in-RefusedCode : goal.returns-in-RefusedCode
+returns-in-RefusedCode g c =
+    rw (c.in-RefusedCode.is, ← c.operand_name-in-RefusedCode.ensures, ← c.from.ensures) c.tell_numbered.ensures

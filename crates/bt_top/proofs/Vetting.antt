@@ -1,0 +1,140 @@
+-- The check of programs, body by body.
+use Rattle.std.proofs.Common.{◌≡◌, ◌≢◌, ℕ, zero, suc, ◌+◌, ◌*◌, ◌<◌, ◌≤◌, List, [], ◌∷◌, length, get_or, refl, sym, ap, subst, ◌∙◌, arith, inl, inr}
+use Rattle.std.specs.Prelude.{◌⊎◌, ◌/◌, Option, Some, None, Result, Ok, Err, IfOk, IfErr, slice_get}
+use Rattle.std.proofs.lemmas.Bool.{cases_eq}
+use Rattle.std.proofs.lemmas.Option.{slice_get-get_or}
+use Rattle.bpf_check.specs.declared.check.CodeFault.{CodeFault}
+use Rattle.bpf_check.specs.declared.check.CodeFault.TheVariants.{Memory}
+use Rattle.bpf_check.specs.Answers.{IsAnswer}
+use Rattle.bpf_check.specs.Sheet.{sheet_of}
+use Rattle.bpf_codegen.specs.declared.generate.Program.{Program}
+use Rattle.bpf_encode.proofs.CodeLemmas.{length-code_bytes}
+use Rattle.bt_ast.specs.declared.attached.BodyId.{BodyId}
+use Rattle.bt_types.specs.Script.{AreTypedBodies}
+use Rattle.bt_ast.specs.declared.probe.Script.{Script as Tree}
+use Rattle.expr_types.specs.declared.known.Known.{Known}
+use Rattle.run_base.specs.declared.job.Job.{Job}
+use Rattle.tracefs_format.specs.declared.format.Format.{Format}
+use Rattle.typed_tree.specs.declared.body.TypedBody.{TypedBody}
+use Rattle.typed_tree.specs.declared.script.Typed.{Typed}
+use Rattle.walk_meaning.specs.Served.{least_length}
+use Rattle.bt_top.specs.declared.refusal.CodeRefusal.{CodeRefusal}
+use Rattle.bt_top.specs.declared.outcome.Outcome.{Outcome}
+use Rattle.bt_top.specs.declared.vetting.Verdict.{Verdict}
+use Rattle.bt_top.specs.declared.vetting.Verdict.TheVariants.{Accepted, Refused}
+use Rattle.bt_top.specs.Jobs.{IsJobFor}
+use Rattle.bt_top.specs.Orders.{OperandFile}
+use Rattle.bt_top.specs.Outcomes.{IsOutcomeOfVet}
+use Rattle.bt_top.specs.Vetting.{IsAnswerOf, IsVerdict, PassBefore, Passes, most_of}
+use Rattle.bt_top.proofs.Asked.{IsAskedFor, of_files}
+
+-- ---- the program of a body
+
+-- what the check says of bytes: its answer holds of them, and no other but for want of memory
+pub record Says (typed : Typed) (least : ℕ) (bytes : List ℕ) (answer : Result ℕ CodeFault) : Type 0 where
+  pub holds : answer ≢ Err Memory → IsAnswer (sheet_of typed least) bytes answer
+  pub only : (other : Result ℕ CodeFault) → IsAnswer (sheet_of typed least) bytes other → (answer ≡ other) ⊎ (answer ≡ Err Memory)
+
+module _ (typed : Typed) (body : TypedBody) (program : Program) where
+  pub of_program : (least : ℕ) (bytes : List ℕ) (answer : Result ℕ CodeFault) → least ≡ least_length body.layout → bytes ≡ program.bytes
+      → Says typed least bytes answer → Says typed (least_length body.layout) program.bytes answer
+  of_program least bytes answer long same says =
+      subst (λ (b : List ℕ). Says typed (least_length body.layout) b answer) same (subst (λ (n : ℕ). Says typed n bytes answer) long says)
+
+  is_most : (most : ℕ) → IsAnswerOf typed body program (Ok most) → most ≡ most_of program
+  is_most most is =
+      let many = length-code_bytes is.code in let spelt = ap length is.is_code_of.spelt in
+      let slots : length is.code ≡ length program.bytes / 8 = omega (arith, many, spelt) in
+      is.is_most ∙ ap (λ (n : ℕ). 4097 * n) slots
+
+  ok_err : (most : ℕ) (fault : CodeFault) → ◌≡◌ {A = Result ℕ CodeFault} (Ok most) (Err fault) → ⊥
+  ok_err most fault e = cc
+
+  accepts : (most : ℕ) → Says typed (least_length body.layout) program.bytes (Ok most) → IsAnswerOf typed body program (Ok most)
+  accepts most says = says.holds (ok_err most Memory)
+
+  pub answer_most : (answer : Result ℕ CodeFault) → Says typed (least_length body.layout) program.bytes answer → IfOk answer (λ most. most ≡ most_of program)
+  answer_most (Ok most) says = is_most most (accepts most says)
+  answer_most (Err fault) says = tt
+
+  pub answer_passes : (answer : Result ℕ CodeFault) → Says typed (least_length body.layout) program.bytes answer → IfOk answer (λ most. Passes typed body program)
+  answer_passes (Ok most) says = record {
+    accepted = subst (λ (n : ℕ). IsAnswerOf typed body program (Ok n)) (is_most most (accepts most says)) (accepts most says);
+    not_refused = λ fault is. by fault (says.only (Err fault) is);
+  }
+    where
+      by : (fault : CodeFault) → (◌≡◌ {A = Result ℕ CodeFault} (Ok most) (Err fault)) ⊎ (◌≡◌ {A = Result ℕ CodeFault} (Ok most) (Err Memory)) → ⊥
+      by fault (inl e) = ok_err most fault e
+      by fault (inr e) = ok_err most Memory e
+  answer_passes (Err fault) says = tt
+
+  err_is : (one other : CodeFault) → ◌≡◌ {A = Result ℕ CodeFault} (Err one) (Err other) → one ≡ other
+  err_is one other e = cc
+
+  pub answer_refused : (answer : Result ℕ CodeFault) → Says typed (least_length body.layout) program.bytes answer
+      → IfErr answer (λ fault. fault ≢ Memory → IsAnswerOf typed body program (Err fault))
+  answer_refused (Ok most) says = tt
+  answer_refused (Err fault) says = λ other. says.holds (λ e. other (err_is fault Memory e))
+
+-- ---- the programs of all bodies
+
+pub none_before : (typed : Typed) (programs : List Program) → PassBefore typed programs 0
+none_before typed programs = λ n body program low. absurd (omega (arith, low))
+
+same_some : {A : Type 0} (a b : A) → Some a ≡ Some b → a ≡ b
+same_some a b e = cc
+
+-- one program more is accepted
+pub pass_more : (typed : Typed) (programs : List Program) (many : ℕ) (body : TypedBody) (program : Program) → slice_get typed.bodies many ≡ Some body
+    → slice_get programs many ≡ Some program → PassBefore typed programs many → Passes typed body program → PassBefore typed programs (many + 1)
+pass_more typed programs many body program of_body of_program before passes = λ n other made low on at. by n other made low on at (cases_eq n many)
+  where
+    by : (n : ℕ) (other : TypedBody) (made : Program) → n < many + 1 → slice_get typed.bodies n ≡ Some other → slice_get programs n ≡ Some made
+        → (n ≡ many) ⊎ (n ≡ many → ⊥) → Passes typed other made
+    by n other made low on at (inr ne) = before n other made (omega (arith, low, ne)) on at
+    by n other made low on at (inl last) =
+        let same_body : body ≡ other = same_some body other (sym of_body ∙ sym (ap (slice_get typed.bodies) last) ∙ on) in
+        let same_program : program ≡ made = same_some program made (sym of_program ∙ sym (ap (slice_get programs) last) ∙ at) in
+        subst (λ (p : Program). Passes typed other p) same_program (subst (λ (b : TypedBody). Passes typed b program) same_body passes)
+
+-- ---- of a job
+
+-- a body is named by the id at its place
+as_many : (tree : Tree) (formats : List Format) (k : Known) (ids : List BodyId) (bodies : List TypedBody) → AreTypedBodies tree formats k ids bodies
+    → length bodies ≤ length ids
+as_many tree formats k [] [] are = omega arith
+as_many tree formats k [] (b ∷ bs) are = absurd are
+as_many tree formats k (id ∷ ids) [] are = omega arith
+as_many tree formats k (id ∷ ids) (b ∷ bs) are = let later = as_many tree formats k ids bs are.1 in omega (arith, later)
+
+named : (job : Job) → IsAskedFor job → length job.typed.bodies ≤ length job.attached.bodies
+named job is = as_many is.asks.tree job.recording.formats is.asks.typed.known job.attached.bodies job.typed.bodies is.asks.typed.each
+
+pub names_bodies : (files : List OperandFile) (contents : List (List ℕ)) (job : Job) → IsJobFor files contents job
+    → length job.typed.bodies ≤ length job.attached.bodies
+names_bodies files contents job is = named job (of_files files contents job is)
+
+-- what is said of a job's programs is what it comes to
+abbrev pub said_of : Job → Option CodeRefusal → List ℕ → Outcome
+said_of job refused rest = record { work = None; programs = job.programs; refused = refused; rest = rest }
+
+said_again : (job : Job) (formats : List Format) (ids : List BodyId) (programs : List Program) (verdict : Verdict) → formats ≡ job.recording.formats
+    → ids ≡ job.attached.bodies → programs ≡ job.programs → IsVerdict formats ids job.typed programs verdict
+    → IsVerdict job.recording.formats job.attached.bodies job.typed job.programs verdict
+said_again job formats ids programs verdict a b c is =
+    subst (λ (l : List Program). IsVerdict job.recording.formats job.attached.bodies job.typed l verdict) c
+    (subst (λ (l : List BodyId). IsVerdict job.recording.formats l job.typed programs verdict) b
+    (subst (λ (l : List Format). IsVerdict l ids job.typed programs verdict) a is))
+
+pub accepted_all : (job : Job) (formats : List Format) (ids : List BodyId) (programs : List Program) (lines : List ℕ) → formats ≡ job.recording.formats
+    → ids ≡ job.attached.bodies → programs ≡ job.programs → IsVerdict formats ids job.typed programs (Accepted lines)
+    → IsOutcomeOfVet job (said_of job None lines)
+accepted_all job formats ids programs lines a b c is =
+    let said = said_again job formats ids programs (Accepted lines) a b c is in
+    inl (said.0, ap (λ (l : List ℕ). said_of job None l) said.1)
+
+pub refused_one : (job : Job) (formats : List Format) (ids : List BodyId) (programs : List Program) (why : CodeRefusal) (rest : List ℕ)
+    → formats ≡ job.recording.formats → ids ≡ job.attached.bodies → programs ≡ job.programs → IsVerdict formats ids job.typed programs (Refused why)
+    → rest ≡ [] → IsOutcomeOfVet job (said_of job (Some why) rest)
+refused_one job formats ids programs why rest a b c is none =
+    inr (why, said_again job formats ids programs (Refused why) a b c is, ap (λ (l : List ℕ). said_of job (Some why) l) none)
