@@ -56,7 +56,13 @@ fn as_many_bodies_as_may_be_are_attached(rt: HostRuntime) -> Result<(), Fail> {
     let text = many_probes(alloc, b"")?;
     let attached = attached_to(alloc, text.as_slice(), formats.as_slice(), 0, 0)??;
     assert_eq!(rt; attached.bodies.len(), 4096);
-    // One body more is refused.
+    Ok(())
+}
+
+#[test]
+fn one_body_more_is_refused(rt: HostRuntime) -> Result<(), Fail> {
+    let alloc = rt.alloc();
+    let formats = many_formats(alloc)?;
     let text = many_probes(alloc, b"END, ")?;
     let answer = attached_to(alloc, text.as_slice(), formats.as_slice(), 0, 0)?;
     let last = Place {
