@@ -1,6 +1,7 @@
 // Whole runs.
-ghost use Rattle.std.specs.Prelude.{◌≡◌, List, [], map, IfOk};
+ghost use Rattle.std.specs.Prelude.{◌≡◌, ◌+◌, ◌<◌, ◌^◌, List, [], length, map, All, IfOk};
 ghost use Rattle.bt_core.specs.declared.step.ObjectId.{ObjectId};
+ghost use Rattle.bt_core.specs.Kinds.{IsFineDecl};
 ghost use Rattle.bt_core.specs.Steps.{on_object};
 ghost use Rattle.bpf_insn.specs.declared.insn.Insn.{Insn};
 ghost use Rattle.bt_meaning.specs.Instructions.{instructions_of};
@@ -12,7 +13,7 @@ ghost use Rattle.bt_meaning.specs.Walks.{replay_of};
 ghost use Rattle.code_bodies.specs.Coding.{code_replay};
 ghost use Rattle.script_programs.specs.Programs.{AreCodesOf, KeepScript};
 ghost use Rattle.step_list.specs.Lists.{steps_in};
-ghost use Rattle.run_base.specs.Jobs.{world_for};
+ghost use Rattle.run_base.specs.Jobs.{cpus_in, world_for};
 ghost use Rattle.run_objects.specs.Moments.{Moment};
 ghost use Rattle.run_objects.specs.Objects.{Stand};
 ghost use Rattle.run_output.specs.Outputs.{output_of};
@@ -48,7 +49,10 @@ struct Ran {
 
 /// The objects of a job, which no step was made at.
 fn job_objects(alloc: Global, job: &Job) -> Result<Objects, Memory>
-    requires { IsJob job.now.typed job.now.attached job.now.recording }
+    requires fine { All IsFineDecl job.now.typed.maps }
+    requires some_cpus { 0 < cpus_in job.now }
+    requires few_cpus { cpus_in job.now + 1 < 2 ^ 32 }
+    requires few_ticks { length job.now.attached.ticks < 2 ^ 32 }
     ensures { IfOk result (λ objects. Stand (world_for job.now) [] objects) }
 {
     let cpus = job.recording.cpus.len() as u32;

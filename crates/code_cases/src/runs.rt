@@ -58,11 +58,11 @@ pub(crate) fn tell_run<R: Print + AllocGlobal>(rt: &R, line: &str) -> Result<()>
     let fuel = fuel.parse::<u64>()?;
     let bytes = hex::decode(alloc, digits)?;
     if bytes.len() > 10_000 {
-        bail!(alloc; "too long");
+        bail!("too long");
     }
     let code = decode(alloc, bytes.as_slice())?;
     if code.is_empty() || code.len() > 10_000 {
-        bail!(alloc; "no code");
+        bail!("no code");
     }
     let mut watcher = Watcher {
         earlier: [0; 5],

@@ -9,7 +9,7 @@ use Rattle.bt_core.specs.declared.map.MapDecl.{MapDecl}
 use Rattle.bt_core.specs.declared.map.MapKind.{MapKind}
 use Rattle.bt_core.specs.declared.map.MapKind.TheVariants.{Ints, Strs, Aggs}
 use Rattle.bt_core.specs.declared.map.Shape.{Shape}
-use Rattle.bt_core.specs.declared.map.Shape.TheVariants.{Int, Str}
+use Rattle.bt_core.specs.declared.map.Shape.TheVariants.{Int}
 use Rattle.typed_tree.specs.declared.expr.AnyExpr.{AnyExpr}
 use Rattle.typed_tree.specs.declared.expr.NumExpr.{NumExpr}
 use Rattle.typed_tree.specs.Parts.{Made, made, made_of, num_parts, parts_in, key_shapes, keyed_parts, Stepped}

@@ -1,6 +1,6 @@
 // What bodies need of frame and code, by the sums over their trees.
-use crate::scripts::{formats, typed_of};
-use bt_lower::lower::lower;
+use body_fixtures::lowered::probe_of;
+use std::alloc::Global;
 use std::test::Fail;
 
 /// The text of a script with one body, and the bytes of frame and the slots of code that the body needs.
@@ -30,17 +30,16 @@ const NEEDS: [(&[u8], u64, u64); 5] = [
     ),
 ];
 
+fn needs_of(alloc: Global, text: &[u8]) -> Result<(u64, u64), Fail> {
+    let probe = probe_of(alloc, text)?;
+    Ok((probe.frame_need, probe.code_need))
+}
+
 #[test]
 fn bodies_need_the_sums_over_their_trees(rt: HostRuntime) -> Result<(), Fail> {
     let alloc = rt.alloc();
-    let formats = formats(alloc)?;
-    for (text, frame, code) in NEEDS {
-        let typed = typed_of(alloc, text, formats.as_slice())?;
-        let probes = lower(alloc, &typed)?;
-        assert_eq!(rt; probes.len(), 1);
-        for probe in probes.as_slice() {
-            assert_eq!(rt; (probe.frame_need, probe.code_need), (frame, code));
-        }
+    for (number, row) in NEEDS.iter().enumerate() {
+        assert!(rt; needs_of(alloc, row.0)? == (row.1, row.2), "row {number}");
     }
     Ok(())
 }
