@@ -8,7 +8,7 @@ use Rattle.std.proofs.lemmas.List.Sums.{fold-append, sum_by-append}
 use Rattle.bt_core.specs.declared.map.AggKind.{AggKind}
 use Rattle.bt_core.specs.declared.map.AggKind.TheVariants.{Hist, Lhist}
 use Rattle.bt_core.specs.declared.agg.Buckets.TheVariants as held
-use Rattle.agg_core.specs.Aggregates.{aggregate, merged, signed, either, bucket, bounds, counts, both_counts, both_buckets, buckets_of}
+use Rattle.agg_core.specs.Aggregates.{aggregate, agg_merged, signed, either, bucket, bounds, counts, both_counts, both_buckets, buckets_of}
 
 wrapped-both : (a b : ℤ) → signed (signed a +ℤ signed b) ≡ signed (a +ℤ b)
 wrapped-both a b = int_wrap-add_left w64 a (signed b) ∙ int_wrap-add_right w64 a b
@@ -53,7 +53,7 @@ buckets-both (Lhist low max step) ms ns = ap (λ (c : List ℕ). held.Lhist c) (
 buckets-both kind ms ns = refl
 
 -- the merge of the aggregates of two lists is the aggregate of both lists, one after the other
-pub merged-both : (kind : AggKind) (ms ns : List ℤ) → merged (aggregate kind ms) (aggregate kind ns) ≡ aggregate kind (ms ++ ns)
+pub merged-both : (kind : AggKind) (ms ns : List ℤ) → agg_merged (aggregate kind ms) (aggregate kind ns) ≡ aggregate kind (ms ++ ns)
 merged-both kind ms ns =
     let count = wrapped-both (pos (length ms)) (pos (length ns)) ∙ ap (λ n. signed (pos n)) (sym (length-append ms ns)) in
     let sum = wrapped-both (fold ◌+ℤ◌ (pos 0) ms) (fold ◌+ℤ◌ (pos 0) ns) ∙ ap signed (sym (fold-append ◌+ℤ◌ (pos 0) ms ns ∙ sum-from (fold ◌+ℤ◌ (pos 0) ms) ns)) in

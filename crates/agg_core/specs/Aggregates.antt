@@ -79,8 +79,8 @@ both_buckets (held.Lhist cs) (held.Lhist ds) = held.Lhist (both_counts cs ds)
 both_buckets bs other = bs
 
 -- two aggregates of one kind, merged
-abbrev pub merged : Agg → Agg → Agg
-merged a b = record {
+abbrev pub agg_merged : Agg → Agg → Agg
+agg_merged a b = record {
   kind = a.kind;
   count = signed (a.count +ℤ b.count);
   sum = signed (a.sum +ℤ b.sum);

@@ -2,7 +2,7 @@
 ghost use Rattle.std.specs.Prelude.{◌≡◌, ◌++◌, ◌∷◌, [], IfOk, List, ℤ};
 ghost use Rattle.bt_core.specs.declared.map.AggKind.{AggKind};
 ghost use Rattle.bt_core.specs.Kinds.{IsFineKind};
-ghost use Rattle.agg_core.specs.Aggregates.{aggregate, merged};
+ghost use Rattle.agg_core.specs.Aggregates.{aggregate, agg_merged};
 
 use crate::gather::{empty_buckets, reset_buckets, take_number};
 use crate::merge::take_in;
@@ -20,7 +20,7 @@ pub trait Aggregation: Drop {
     ghost aggregate: { AggKind → List ℤ → Self };
 
     /// What is gathered in two of one kind.
-    ghost merged: { Self → Self → Self };
+    ghost agg_merged: { Self → Self → Self };
 
     /// The aggregate of no numbers.
     fn empty(alloc: Global, kind: AggKind) -> Result<Self, Memory>
@@ -35,7 +35,7 @@ pub trait Aggregation: Drop {
     /// Takes in what another of the same kind has gathered, which takes no memory.
     fn merge(&mut self, other: &Self)
         requires { kind_of self.old ≡ kind_of other.now }
-        ensures { self.new ≡ merged self.old other.now };
+        ensures { self.new ≡ agg_merged self.old other.now };
 
     /// Forgets the numbers, which takes no memory.
     fn reset(&mut self)
@@ -47,7 +47,7 @@ impl Aggregation for Agg {
 
     ghost aggregate = { aggregate };
 
-    ghost merged = { merged };
+    ghost agg_merged = { agg_merged };
 
     fn empty(alloc: Global, kind: AggKind) -> Result<Agg, Memory> {
         let buckets = empty_buckets(alloc, kind)?;

@@ -9,14 +9,14 @@ ghost use Rattle.bt_core.specs.declared.value.Value.{Value as Part};
 ghost use Rattle.bt_core.specs.Kinds.{IsFineKind, IsFineAgg, IsFineDecl};
 ghost use Rattle.bt_core.specs.Order.{key_order};
 ghost use Rattle.bt_core.specs.Ports.{Setting, CanStep, IsReplyOf};
-ghost use Rattle.agg_core.specs.Aggregates.{aggregate, merged};
+ghost use Rattle.agg_core.specs.Aggregates.{aggregate, agg_merged};
 ghost use Rattle.agg_core.specs.Answers.{answer};
 ghost use Rattle.agg_core.specs.Changes.{Change, lives, live_keys};
 ghost use Rattle.agg_core.specs.Lives.{IsPutForGood};
 
 /// The aggregates of two lists, merged, are the aggregate of both lists, one after the other.
 pub fn merged_is_of_both_lists()
-    ensures { (kind : AggKind) (ms ns : List ℤ) → merged (aggregate kind ms) (aggregate kind ns) ≡ aggregate kind (ms ++ ns) }
+    ensures { (kind : AggKind) (ms ns : List ℤ) → agg_merged (aggregate kind ms) (aggregate kind ns) ≡ aggregate kind (ms ++ ns) }
 {}
 
 /// The aggregate of a list of numbers is well formed where its kind is.

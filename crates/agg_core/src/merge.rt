@@ -1,13 +1,13 @@
 // Two aggregates into one.
 ghost use Rattle.std.specs.Prelude.{◌≡◌};
 ghost use Rattle.std.specs.Int.{int_min, int_max};
-ghost use Rattle.agg_core.specs.Aggregates.{merged, either, both_buckets, both_counts};
+ghost use Rattle.agg_core.specs.Aggregates.{agg_merged, either, both_buckets, both_counts};
 
 use bt_core::agg::{Agg, Buckets};
 
 // Takes in what another aggregate of the same kind has gathered.
 pub fn take_in(agg: &mut Agg, other: &Agg)
-    ensures { agg.new ≡ merged agg.old other.now }
+    ensures { agg.new ≡ agg_merged agg.old other.now }
 {
     agg.count = agg.count.wrapping_add(other.count);
     agg.sum = agg.sum.wrapping_add(other.sum);

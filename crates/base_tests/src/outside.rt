@@ -8,13 +8,6 @@ use std::io::{ErrorKind, Print};
 use std::test::Fail;
 use std::{fs, io, process};
 
-fn told(read: &Result<Vec<u8>, ShelfError>) -> Result<&[u8], ShelfError> {
-    match read {
-        Ok(bytes) => Ok(bytes.as_slice()),
-        Err(error) => Err(*error),
-    }
-}
-
 #[test]
 fn real_files_are_read_and_real_streams_are_written(rt: HostRuntime) -> Result<(), Fail> {
     let alloc = rt.alloc();
@@ -24,16 +17,22 @@ fn real_files_are_read_and_real_streams_are_written(rt: HostRuntime) -> Result<(
     fs::write(&rt, path.as_str(), b"five\n".as_slice())?;
     let mut shelf = FileShelf::new(rt, alloc);
     for (name, limit, want) in [
-        (path.as_str(), 5, Ok(b"five\n".as_slice())),
-        (path.as_str(), u64::MAX, Ok(b"five\n")),
-        (path.as_str(), 4, Err(ShelfError::TooLong)),
-        ("/dev/zero", 4, Err(ShelfError::TooLong)),
-        ("/dev/null", 0, Ok(b"")),
-        (missing.as_str(), 5, Err(ShelfError::Failed)),
-        ("/tmp", 5, Err(ShelfError::Failed)),
+        (path.as_str(), 5, "five\n"),
+        (path.as_str(), u64::MAX, "five\n"),
+        (path.as_str(), 4, "too long"),
+        ("/dev/zero", 4, "too long"),
+        ("/dev/null", 0, ""),
+        (missing.as_str(), 5, "failed"),
+        ("/tmp", 5, "failed"),
     ] {
         let read = shelf.read(alloc, name, limit);
-        assert_eq!(rt; told(&read), want, "at {name}");
+        let told = match &read {
+            Ok(bytes) => bytes.as_slice(),
+            Err(ShelfError::TooLong) => b"too long",
+            Err(ShelfError::Failed) => b"failed",
+            Err(ShelfError::Memory) => b"no room",
+        };
+        assert_eq!(rt; told, want.as_bytes(), "at {name}");
     }
     fs::remove_file(&rt, path.as_str())?;
     assert_eq!(rt; StdSink::out(rt).write(b"out\n"), Ok(4));

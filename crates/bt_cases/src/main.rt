@@ -69,13 +69,15 @@ fn run_file<R: Files + Print + AllocGlobal + Threads + Wait + Sync>(
     Ok(())
 }
 
-/// Runs the cases of the five files. Those of the last file run on threads many times.
+/// Runs the cases of the seven files. Those of the last file run on threads many times.
 fn main(rt: HostRuntime) -> Result<()> {
     let mut tally = Tally::default();
     let mut vets = Tally::default();
     run_file(&rt, "cases.jsonl", &mut tally, &mut vets)?;
     run_file(&rt, "refused.jsonl", &mut tally, &mut vets)?;
     run_file(&rt, "rows.jsonl", &mut tally, &mut vets)?;
+    run_file(&rt, "printed.jsonl", &mut tally, &mut vets)?;
+    run_file(&rt, "recorded.jsonl", &mut tally, &mut vets)?;
     run_file(&rt, "examples.jsonl", &mut tally, &mut vets)?;
     run_file(&rt, "schedules.jsonl", &mut tally, &mut vets)?;
     println!(rt; "{tally}")?;

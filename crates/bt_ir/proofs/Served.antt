@@ -28,7 +28,7 @@ use Rattle.ir_code.specs.Figures.{sizes_of, instr_bytes}
 use Rattle.ir_code.specs.Meaning.{Scene, instrs_run, after_exit, goes_on, exit_run, block_run, run_from, blocks_run, count_way, turn_way}
 use Rattle.bt_ir.specs.Running.{MayAsk, CanRun, IsReady, AreReady, AllReady}
 use Rattle.ir_code.specs.Serving.{IsServedAs, ServesInstr, ServesInstrs, ServesBlocks, end_read, ends_read, payload_need}
-use Rattle.ir_code.specs.Typing.{Ground, takes, names, end_with, turned, front_of, may_stand, all_stand, all_turned, stack_in, goes_with, exit_stands, block_stands, each_stands, has_room, is_key, is_gathering}
+use Rattle.ir_code.specs.Typing.{Ground, operand_shapes, names, end_with, turned, front_of, may_stand, all_stand, all_turned, stack_in, goes_with, exit_stands, block_stands, each_stands, has_room, is_key, is_gathering}
 use Rattle.map_ops.specs.Values.{number_of, holds}
 use Rattle.ir_code.specs.Stacks.{top, below}
 use Rattle.bt_ir.proofs.Asks.{Can-and_then}
@@ -94,8 +94,8 @@ module _ (g : Ground) (setting : Setting) (v : View) (maps : v.maps.now ≡ g.ma
   are_ready [] stack n e s = tt
   are_ready (x ∷ xs) stack n e s =
       let p = and_parts (may_stand g x stack) (all_stand g xs (turned x stack)) n in
-      let q = and_parts (names g x && end_with (takes x) stack) (has_room g (sizes_of stack + instr_bytes x)) p.0 in
-      let r = and_parts (names g x) (end_with (takes x) stack) q.0 in
+      let q = and_parts (names g x && end_with (operand_shapes x) stack) (has_room g (sizes_of stack + instr_bytes x)) p.0 in
+      let r = and_parts (names g x) (end_with (operand_shapes x) stack) q.0 in
       let a : end_read x ≤ max (end_read x) (ends_read xs) = le-max_left (end_read x) (ends_read xs) in
       let b : ends_read xs ≤ max (end_read x) (ends_read xs) = le-max_right (end_read x) (ends_read xs) in
       (ready x r.0 (omega arith) s.0, are_ready xs (turned x stack) p.1 (omega arith) s.1)

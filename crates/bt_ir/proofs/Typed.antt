@@ -32,7 +32,7 @@ use Rattle.ir_code.specs.Figures.{sizes_of, instr_bytes}
 use Rattle.ir_code.specs.Meaning.{Scene, instr_run, instrs_run}
 use Rattle.bt_ir.specs.Running.{CanAsk}
 use Rattle.ir_code.specs.Serving.{IsServedAs, ServesInstr, ServesInstrs}
-use Rattle.ir_code.specs.Typing.{Ground, front_of, last_of, takes, gives, names, end_with, turned, may_stand, all_stand, all_turned, has_room, holds_shape, gathers, is_key, is_gathering}
+use Rattle.ir_code.specs.Typing.{Ground, front_of, last_of, operand_shapes, gives, names, end_with, turned, may_stand, all_stand, all_turned, has_room, holds_shape, gathers, is_key, is_gathering}
 use Rattle.map_ops.specs.Values.{number_of}
 use Rattle.ir_code.specs.Stacks.{top, below}
 use Rattle.bt_ir.proofs.Asks.{Can-and_then}
@@ -148,8 +148,8 @@ pub record Footing (g : Ground) (setting : Setting) (scene : Scene) : Type 0 whe
 abbrev pub HasStack : List Shape → State → Type 0
 HasStack stack s = HasShape stack s.stack
 
-over : (i : Instr) (stack : List Shape) → end_with (takes i) stack ≡ true → stack ≡ front_of (length (takes i)) stack ++ takes i
-over i stack h = ends_is (takes i) stack h
+over : (i : Instr) (stack : List Shape) → end_with (operand_shapes i) stack ≡ true → stack ≡ front_of (length (operand_shapes i)) stack ++ operand_shapes i
+over i stack h = ends_is (operand_shapes i) stack h
 
 append-none : (xs : List Shape) → xs ++ [] ≡ xs
 append-none xs = append-nil xs
@@ -165,7 +165,7 @@ module _ (g : Ground) (setting : Setting) (scene : Scene) (f : Footing g setting
   there m e = ap (λ (ms : List MapDecl). is_there (slice_get ms m.0)) f.maps ∙ e
 
   -- from the parts of the stack
-  local : (x : Instr) (rest : List Shape) (s : State) → names g x ≡ true → ServesInstr setting.maps g.maps x → HasStack (rest ++ takes x) s → CanAsk setting (HasStack (rest ++ gives x)) (instr_run x scene s)
+  local : (x : Instr) (rest : List Shape) (s : State) → names g x ≡ true → ServesInstr setting.maps g.maps x → HasStack (rest ++ operand_shapes x) s → CanAsk setting (HasStack (rest ++ gives x)) (instr_run x scene s)
   local (i.Put v) rest s n w h = shaped-put rest _ s.stack v (subst (λ (l : List Shape). HasShape l s.stack) (append-none rest) h) (shape_of-shaped v)
   local (i.Builtin b) rest s n w h = shaped-put rest shapes.Int s.stack _ (subst (λ (l : List Shape). HasShape l s.stack) (append-none rest) h) tt
   local i.Comm rest s n w h = shaped-put rest shapes.Str s.stack _ (subst (λ (l : List Shape). HasShape l s.stack) (append-none rest) h) tt
@@ -231,9 +231,9 @@ module _ (g : Ground) (setting : Setting) (scene : Scene) (f : Footing g setting
 
   one : (x : Instr) (stack : List Shape) (s : State) → may_stand g x stack ≡ true → ServesInstr setting.maps g.maps x → HasStack stack s → CanAsk setting (HasStack (turned x stack)) (instr_run x scene s)
   one x stack s n w h =
-      let p = and_parts (names g x && end_with (takes x) stack) (has_room g (sizes_of stack + instr_bytes x)) n in
-      let q = and_parts (names g x) (end_with (takes x) stack) p.0 in
-      local x (front_of (length (takes x)) stack) s q.0 w (subst (λ (l : List Shape). HasStack l s) (over x stack q.1) h)
+      let p = and_parts (names g x && end_with (operand_shapes x) stack) (has_room g (sizes_of stack + instr_bytes x)) n in
+      let q = and_parts (names g x) (end_with (operand_shapes x) stack) p.0 in
+      local x (front_of (length (operand_shapes x)) stack) s q.0 w (subst (λ (l : List Shape). HasStack l s) (over x stack q.1) h)
 
   -- instructions one after another
   pub all : (xs : List Instr) (stack : List Shape) (s : State) → all_stand g xs stack ≡ true → ServesInstrs setting.maps g.maps xs → HasStack stack s → CanAsk setting (HasStack (all_turned xs stack)) (instrs_run xs scene s)

@@ -12,7 +12,7 @@ use Rattle.ir_code.specs.declared.blocks.Exit.TheVariants.{Goto, Branch, Count, 
 use Rattle.ir_code.specs.declared.instr.Instr.{Instr}
 use Rattle.ir_code.specs.Figures.{sizes_of, instr_bytes}
 use Rattle.ir_code.specs.Serving.{ends_read, payload_need}
-use Rattle.ir_code.specs.Typing.{takes, gives, names, last_of, front_of, has_room, end_with, turned, may_stand, all_stand, all_turned, stack_in, goes_with, exit_stands, block_stands, each_stands, are_typed}
+use Rattle.ir_code.specs.Typing.{operand_shapes, gives, names, last_of, front_of, has_room, end_with, turned, may_stand, all_stand, all_turned, stack_in, goes_with, exit_stands, block_stands, each_stands, are_typed}
 use Rattle.ir_code.specs.Ways.{depth_at, lies_below, leads, lead_from, lead_forward}
 use Rattle.bt_lower.specs.Sound.{Footing, ground_in, HasRoom, MayStand, Turns, Target, LeadsTo, SoundBlock, Sound}
 use Rattle.bt_lower.proofs.Lists.{last-append, front-append}
@@ -46,12 +46,12 @@ front-is stack rest ts e = ap (λ (l : List Shape). front_of (length ts) l) e �
 
 stand-passes : (g : Footing) (i : Instr) (stack rest : List Shape) → MayStand g i stack rest → may_stand (ground_in g) i stack ≡ true
 stand-passes g i stack rest m =
-    both (names (ground_in g) i && end_with (takes i) stack) (has_room (ground_in g) (sizes_of stack + instr_bytes i))
-    (both (names (ground_in g) i) (end_with (takes i) stack) m.named (ends-pass stack rest (takes i) m.found))
+    both (names (ground_in g) i && end_with (operand_shapes i) stack) (has_room (ground_in g) (sizes_of stack + instr_bytes i))
+    (both (names (ground_in g) i) (end_with (operand_shapes i) stack) m.named (ends-pass stack rest (operand_shapes i) m.found))
     (room-passes g (sizes_of stack + instr_bytes i) m.room)
 
-turns-to : (i : Instr) (stack rest : List Shape) → stack ≡ rest ++ takes i → turned i stack ≡ rest ++ gives i
-turns-to i stack rest e = ap (λ (l : List Shape). l ++ gives i) (front-is stack rest (takes i) e)
+turns-to : (i : Instr) (stack rest : List Shape) → stack ≡ rest ++ operand_shapes i → turned i stack ≡ rest ++ gives i
+turns-to i stack rest e = ap (λ (l : List Shape). l ++ gives i) (front-is stack rest (operand_shapes i) e)
 
 all-turn : (g : Footing) (is : List Instr) (stack after : List Shape) → Turns g is stack after → all_turned is stack ≡ after
 all-turn g [] stack after t = t.0

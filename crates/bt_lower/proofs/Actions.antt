@@ -24,7 +24,7 @@ use Rattle.walk_meaning.specs.Maps.{with_variable, variable}
 use Rattle.walk_meaning.specs.Stmts.{set_variable, set_map, update_variable, update_map, gather, printf, delete_at, plain}
 use Rattle.ir_code.specs.declared.instr.Instr.TheVariants as i
 use Rattle.map_ops.specs.Holders.{part}
-use Rattle.map_ops.specs.Asking.{told}
+use Rattle.map_ops.specs.Asking.{tells}
 use Rattle.ir_code.specs.Meaning.{instr_run, updated}
 use Rattle.ir_code.specs.Typing.{last_of, front_of}
 use Rattle.ir_code.specs.Stacks.{top, below}
@@ -123,7 +123,7 @@ step-acts qs d = record {
     popped s w frame values (v ∷ []) h = ap (λ (l : List Value). Ended (state frame l)) (below-append values v)
     popped s w frame values (v ∷ u ∷ vs) h = absurd (omega arith)
 
-pub delete-acts : (qs : Bool → List Part) (m : MapId) (key : List Shape) (ds : List (Does Value)) → Acts qs (i.Delete m key) ds key (delete_at m ds) (λ w vs frame. told (part m vs) (ops.Delete vs)) (λ vs frame a. frame)
+pub delete-acts : (qs : Bool → List Part) (m : MapId) (key : List Shape) (ds : List (Does Value)) → Acts qs (i.Delete m key) ds key (delete_at m ds) (λ w vs frame. tells (part m vs) (ops.Delete vs)) (λ vs frame a. frame)
 unfolding given bind lifted
 delete-acts qs m key ds = record {
   takes_them = refl;
@@ -131,12 +131,12 @@ delete-acts qs m key ds = record {
   gives_none = refl;
   is = λ w frame. simp and_then_assoc;
   runs = λ s inside fits w same frame values vs long.
-      ap (λ (l : List Value). and_then (told (part m l) (ops.Delete l)) (λ u. Ended (state frame (front_of (length key) (values ++ vs))))) (last-append (length key) values vs long)
-      ∙ ap (λ (l : List Value). and_then (told (part m vs) (ops.Delete vs)) (λ u. Ended (state frame l))) (front-append (length key) values vs long);
+      ap (λ (l : List Value). and_then (tells (part m l) (ops.Delete l)) (λ u. Ended (state frame (front_of (length key) (values ++ vs))))) (last-append (length key) values vs long)
+      ∙ ap (λ (l : List Value). and_then (tells (part m vs) (ops.Delete vs)) (λ u. Ended (state frame l))) (front-append (length key) values vs long);
   turns = λ vs frame a. refl;
 }
 
-pub count-acts : (qs : Bool → List Part) (m : MapId) (key : List Shape) (ds : List (Does Value)) → Acts qs (i.Count m key) ds key (gather m ds (given (pos 1))) (λ w vs frame. told (Cpu w.actor) (ops.Add m vs (pos 1))) (λ vs frame a. frame)
+pub count-acts : (qs : Bool → List Part) (m : MapId) (key : List Shape) (ds : List (Does Value)) → Acts qs (i.Count m key) ds key (gather m ds (given (pos 1))) (λ w vs frame. tells (Cpu w.actor) (ops.Add m vs (pos 1))) (λ vs frame a. frame)
 unfolding given bind lifted looked_at
 count-acts qs m key ds = record {
   takes_them = refl;
@@ -144,12 +144,12 @@ count-acts qs m key ds = record {
   gives_none = refl;
   is = λ w frame. simp and_then_assoc;
   runs = λ s inside fits w same frame values vs long.
-      ap (λ (l : List Value). and_then (told (Cpu w.actor) (ops.Add m l (pos 1))) (λ u. Ended (state frame (front_of (length key) (values ++ vs))))) (last-append (length key) values vs long)
-      ∙ ap (λ (l : List Value). and_then (told (Cpu w.actor) (ops.Add m vs (pos 1))) (λ u. Ended (state frame l))) (front-append (length key) values vs long);
+      ap (λ (l : List Value). and_then (tells (Cpu w.actor) (ops.Add m l (pos 1))) (λ u. Ended (state frame (front_of (length key) (values ++ vs))))) (last-append (length key) values vs long)
+      ∙ ap (λ (l : List Value). and_then (tells (Cpu w.actor) (ops.Add m vs (pos 1))) (λ u. Ended (state frame l))) (front-append (length key) values vs long);
   turns = λ vs frame a. refl;
 }
 
-pub printf-acts : (qs : Bool → List Part) (format : ℕ) (key : List Shape) (ds : List (Does Value)) → Acts qs (i.Printf format key) ds key (printf format ds) (λ w vs frame. told Out (ops.Emit (items.Printf format vs))) (λ vs frame a. frame)
+pub printf-acts : (qs : Bool → List Part) (format : ℕ) (key : List Shape) (ds : List (Does Value)) → Acts qs (i.Printf format key) ds key (printf format ds) (λ w vs frame. tells Out (ops.Emit (items.Printf format vs))) (λ vs frame a. frame)
 unfolding given bind lifted
 printf-acts qs format key ds = record {
   takes_them = refl;
@@ -157,20 +157,20 @@ printf-acts qs format key ds = record {
   gives_none = refl;
   is = λ w frame. simp and_then_assoc;
   runs = λ s inside fits w same frame values vs long.
-      ap (λ (l : List Value). and_then (told Out (ops.Emit (items.Printf format l))) (λ u. Ended (state frame (front_of (length key) (values ++ vs))))) (last-append (length key) values vs long)
-      ∙ ap (λ (l : List Value). and_then (told Out (ops.Emit (items.Printf format vs))) (λ u. Ended (state frame l))) (front-append (length key) values vs long);
+      ap (λ (l : List Value). and_then (tells Out (ops.Emit (items.Printf format l))) (λ u. Ended (state frame (front_of (length key) (values ++ vs))))) (last-append (length key) values vs long)
+      ∙ ap (λ (l : List Value). and_then (tells Out (ops.Emit (items.Printf format vs))) (λ u. Ended (state frame l))) (front-append (length key) values vs long);
   turns = λ vs frame a. refl;
 }
 
-pub set-acts : (qs : Bool → List Part) (m : MapId) (key : List Shape) (shape : Shape) (ds : List (Does Value)) (d : Does Value) → Acts qs (i.Set m key shape) (ds ++ d ∷ []) (key ++ shape ∷ []) (set_map m ds d) (λ w vs frame. told (part m (below vs)) (ops.Set (below vs) (top vs))) (λ vs frame a. frame)
+pub set-acts : (qs : Bool → List Part) (m : MapId) (key : List Shape) (shape : Shape) (ds : List (Does Value)) (d : Does Value) → Acts qs (i.Set m key shape) (ds ++ d ∷ []) (key ++ shape ∷ []) (set_map m ds d) (λ w vs frame. tells (part m (below vs)) (ops.Set (below vs) (top vs))) (λ vs frame a. frame)
 unfolding given bind lifted
 set-acts qs m key shape ds d = record {
   takes_them = refl;
   reads_none = refl;
   gives_none = refl;
-  is = λ w frame. keyed-is ds d w frame (λ ks v f. and_then (told (part m ks) (ops.Set ks v)) (λ u. Ended (Next, f)));
+  is = λ w frame. keyed-is ds d w frame (λ ks v f. and_then (tells (part m ks) (ops.Set ks v)) (λ u. Ended (Next, f)));
   runs = λ s inside fits w same frame values vs long.
-      value_over_key (λ ks v rest. and_then (told (part m ks) (ops.Set ks v)) (λ u. Ended (state frame rest))) values vs (length key) (long ∙ length-append key (shape ∷ []));
+      value_over_key (λ ks v rest. and_then (tells (part m ks) (ops.Set ks v)) (λ u. Ended (state frame rest))) values vs (length key) (long ∙ length-append key (shape ∷ []));
   turns = λ vs frame a. refl;
 }
 
@@ -187,15 +187,15 @@ update-acts qs m key op ds d = record {
   turns = λ vs frame a. refl;
 }
 
-pub add-acts : (qs : Bool → List Part) (m : MapId) (key : List Shape) (ds : List (Does Value)) (d : Does ℤ) → Acts qs (i.Add m key) (ds ++ number_value d ∷ []) (key ++ shapes.Int ∷ []) (gather m ds d) (λ w vs frame. told (Cpu w.actor) (ops.Add m (below vs) (number_of (top vs)))) (λ vs frame a. frame)
+pub add-acts : (qs : Bool → List Part) (m : MapId) (key : List Shape) (ds : List (Does Value)) (d : Does ℤ) → Acts qs (i.Add m key) (ds ++ number_value d ∷ []) (key ++ shapes.Int ∷ []) (gather m ds d) (λ w vs frame. tells (Cpu w.actor) (ops.Add m (below vs) (number_of (top vs)))) (λ vs frame a. frame)
 unfolding given bind lifted looked_at
 add-acts qs m key ds d = record {
   takes_them = refl;
   reads_none = refl;
   gives_none = refl;
-  is = λ w frame. and_then-same (in_order ds w frame) _ _ (λ p. sym (and_then_assoc (d w p.1) (λ q. Ended (Int q.0, q.1)) (λ q. and_then (told (Cpu w.actor) (ops.Add m p.0 (number_of q.0))) (λ u. Ended (Next, q.1)))))
-      ∙ keyed-is ds (number_value d) w frame (λ ks v f. and_then (told (Cpu w.actor) (ops.Add m ks (number_of v))) (λ u. Ended (Next, f)));
+  is = λ w frame. and_then-same (in_order ds w frame) _ _ (λ p. sym (and_then_assoc (d w p.1) (λ q. Ended (Int q.0, q.1)) (λ q. and_then (tells (Cpu w.actor) (ops.Add m p.0 (number_of q.0))) (λ u. Ended (Next, q.1)))))
+      ∙ keyed-is ds (number_value d) w frame (λ ks v f. and_then (tells (Cpu w.actor) (ops.Add m ks (number_of v))) (λ u. Ended (Next, f)));
   runs = λ s inside fits w same frame values vs long.
-      value_over_key (λ ks v rest. and_then (told (Cpu w.actor) (ops.Add m ks (number_of v))) (λ u. Ended (state frame rest))) values vs (length key) (long ∙ length-append key (shapes.Int ∷ []));
+      value_over_key (λ ks v rest. and_then (tells (Cpu w.actor) (ops.Add m ks (number_of v))) (λ u. Ended (state frame rest))) values vs (length key) (long ∙ length-append key (shapes.Int ∷ []));
   turns = λ vs frame a. refl;
 }

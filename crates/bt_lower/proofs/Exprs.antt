@@ -16,7 +16,7 @@ use Rattle.ir_code.specs.declared.instr.Instr.{Instr}
 use Rattle.ir_code.specs.Figures.{sizes_of, instr_slots, instr_bytes}
 use Rattle.ir_code.specs.Meaning.{instr_run}
 use Rattle.ir_code.specs.Serving.{end_read}
-use Rattle.ir_code.specs.Typing.{takes, gives, names}
+use Rattle.ir_code.specs.Typing.{operand_shapes, gives, names}
 use Rattle.bt_lower.specs.declared.code.Code.{Code}
 use Rattle.bt_lower.specs.Code.{pushed}
 use Rattle.bt_lower.specs.Lowers.{Runs, state, seen_by, LowersParts, LowersValue}
@@ -120,7 +120,7 @@ Parts-append ps qs ds es ss ts n m c c1 new le ld = record {
 
 -- what an instruction does with values that are there: it asks, and puts a value, and the frame is another
 pub record Puts (i : Instr) (ds : List (Does Value)) (ss : List Shape) (shape : Shape) (d : Does Value) {A : Type 0} (t : BodyScene → List Value → Frame → Interaction A) (v : BodyScene → List Value → Frame → A → Value) (fr : List Value → Frame → A → Frame) : Type 0 where
-  pub takes_them : takes i ≡ ss
+  pub takes_them : operand_shapes i ≡ ss
   pub gives_one : gives i ≡ shape ∷ []
   pub fits : sizes_of (shape ∷ []) ≤ sizes_of ss + instr_bytes i
   pub is : (w : BodyScene) (frame : Frame) → d w frame ≡ and_then (in_order ds w frame) (λ p. and_then (t w p.0 p.1) (λ a. Ended (v w p.0 p.1 a, fr p.0 p.1 a)))
@@ -155,7 +155,7 @@ Parts-put i ps head ds ss shape d t v fr n c c1 new pu named reads e1 l1 =
           let a : n.frame ≤ max n.frame (sizes_of ss + instr_bytes i) = le-max_left n.frame (sizes_of ss + instr_bytes i) in
           let b : sizes_of ss + instr_bytes i ≤ max n.frame (sizes_of ss + instr_bytes i) = le-max_right n.frame (sizes_of ss + instr_bytes i) in
           let z : sizes_of (rest ++ ss) ≡ sizes_of rest + sizes_of ss = sizes-append rest ss in
-          let y : sizes_of (rest ++ takes i) ≡ sizes_of (rest ++ ss) = ap (λ x. sizes_of (rest ++ x)) pu.takes_them in
+          let y : sizes_of (rest ++ operand_shapes i) ≡ sizes_of (rest ++ ss) = ap (λ x. sizes_of (rest ++ x)) pu.takes_them in
           l.sound bs stand s f.1 rest (stacked rest e) (Room-less s.ground _ _ (omega arith) room)
           (Opens-push s.ground bs c i rest (e ∙ ap (λ x. rest ++ x) (sym pu.gives_one)) f.0 (reads s fits) (Room-less s.ground _ _ (omega arith) room) o);
     }

@@ -9,7 +9,7 @@ use Rattle.ir_code.specs.declared.instr.Instr.{Instr}
 use Rattle.ir_code.specs.declared.blocks.Exit.TheVariants.{Goto, Branch}
 use Rattle.ir_code.specs.declared.blocks.Block.{Block}
 use Rattle.ir_code.specs.Figures.{sizes_of, instr_bytes}
-use Rattle.ir_code.specs.Typing.{takes, gives, names, stack_in, front_of}
+use Rattle.ir_code.specs.Typing.{operand_shapes, gives, names, stack_in, front_of}
 use Rattle.ir_code.specs.Serving.{end_read}
 use Rattle.ir_code.specs.Ways.{depth_in}
 use Rattle.bt_lower.specs.declared.code.Code.{Code}
@@ -39,9 +39,9 @@ pub Target-later : (bs : List Block) (n n' depth to : ℕ) (stack : List Shape) 
 Target-later bs n n' depth to stack le t = record { later = omega (arith, t.later); loops = t.loops; finds = t.finds }
 
 -- an instruction before what is open
-pub Opens-push : (g : Footing) (bs : List Block) (c : Code) (i : Instr) (rest : List Shape) → c.stack ≡ rest ++ gives i → names (ground_in g) i ≡ true → end_read i ≤ g.payload → HasRoom g (sizes_of (rest ++ takes i) + instr_bytes i) → Opens g bs c → Opens g bs (pushed i c)
+pub Opens-push : (g : Footing) (bs : List Block) (c : Code) (i : Instr) (rest : List Shape) → c.stack ≡ rest ++ gives i → names (ground_in g) i ≡ true → end_read i ≤ g.payload → HasRoom g (sizes_of (rest ++ operand_shapes i) + instr_bytes i) → Opens g bs c → Opens g bs (pushed i c)
 Opens-push g bs c i rest e named reads room o =
-    let before : taken_back i c.stack ≡ rest ++ takes i = ap (λ l. l ++ takes i) (ap (λ l. front_of (length (gives i)) l) e ∙ front-append (length (gives i)) rest (gives i) refl) in
+    let before : taken_back i c.stack ≡ rest ++ operand_shapes i = ap (λ l. l ++ operand_shapes i) (ap (λ l. front_of (length (gives i)) l) e ∙ front-append (length (gives i)) rest (gives i) refl) in
     record {
       after = o.after;
       turns = subst (λ (l : List Instr). Turns g l (taken_back i c.stack) o.after) (sym (reverse-append c.instrs (i ∷ [])))
@@ -49,8 +49,8 @@ Opens-push g bs c i rest e named reads room o =
       leads = o.leads;
     }
 
-pub pushed-stack : (c : Code) (i : Instr) (rest : List Shape) → c.stack ≡ rest ++ gives i → (pushed i c).stack ≡ rest ++ takes i
-pushed-stack c i rest e = ap (λ l. l ++ takes i) (ap (λ l. front_of (length (gives i)) l) e ∙ front-append (length (gives i)) rest (gives i) refl)
+pub pushed-stack : (c : Code) (i : Instr) (rest : List Shape) → c.stack ≡ rest ++ gives i → (pushed i c).stack ≡ rest ++ operand_shapes i
+pushed-stack c i rest e = ap (λ l. l ++ operand_shapes i) (ap (λ l. front_of (length (gives i)) l) e ∙ front-append (length (gives i)) rest (gives i) refl)
 
 -- an instruction that reads no field
 pub none-read : (n : ℕ) → 0 ≤ n

@@ -33,7 +33,7 @@ use Rattle.walk_meaning.specs.Maps.{with_variable, variable}
 use Rattle.walk_meaning.specs.Stmts.{stmt_does, set_variable, set_map, update_variable, update_map, gather, plain, printf, print, clear, zero_all, delete_at}
 use Rattle.ir_code.specs.declared.instr.Instr.TheVariants as i
 use Rattle.map_ops.specs.Holders.{part}
-use Rattle.map_ops.specs.Asking.{told}
+use Rattle.map_ops.specs.Asking.{tells}
 use Rattle.ir_code.specs.Figures.{sizes_of, by_shape}
 use Rattle.ir_code.specs.Meaning.{updated}
 use Rattle.ir_code.specs.Typing.{is_key, gathers, is_format}
@@ -141,7 +141,7 @@ T-SetMap s m keys es v key shape way c c1 c2 new hs he hk hx e1 lv lk0 =
     stmt-is s (stmts.SetMap m keys v) qs (set_map m (values_do keys) (value_does v)) (need (beside (values_need keys) vn.frame) (24 + codes_in (values_need keys) + vn.code)) way c new hs (form.SetMap-parts m keys v) (form.SetMap-does m keys v) (form.SetMap-need m keys v)
     (Stmt-less qs (set_map m (values_do keys) (value_does v)) (need (max (beside (values_need keys) vn.frame) (sizes_of (ks ++ sh ∷ []) + 0)) (24 + (codes_in (values_need keys) + vn.code))) _ way c new
     (max-le (omega arith) (omega (arith, sizes-append ks (sh ∷ []), lk.sized, lv.lowered.sizes, le-max_right (list_frame (values_need keys)) (sizes_in (values_need keys) + vn.frame)))) (omega arith)
-    (Lowers-act qs (i.Set m ks sh) (ps ++ vs) (values_do keys ++ value_does v ∷ []) (ks ++ sh ∷ []) (set_map m (values_do keys) (value_does v)) (λ w us frame. told (part m (below us)) (ops.Set (below us) (top us))) (λ us frame a. frame)
+    (Lowers-act qs (i.Set m ks sh) (ps ++ vs) (values_do keys ++ value_does v ∷ []) (ks ++ sh ∷ []) (set_map m (values_do keys) (value_does v)) (λ w us frame. tells (part m (below us)) (ops.Set (below us) (top us))) (λ us frame a. frame)
     (need (beside (values_need keys) vn.frame) (codes_in (values_need keys) + vn.code)) way c c1 new (set-acts qs m ks sh (values_do keys) (value_does v))
     (λ t inside f. let p = fit-head t.scope (Assigned None) (keyed_parts m.0 (all_made keys) sh ++ vs) f in let q = fit-head t.scope (MapOf m.0 ks sh) (ps ++ vs) p.1 in (map_names t m ks sh q.0, q.1))
     (e1 ∙ ap (λ x. pushed (i.Set m x shape) c) hk ∙ ap (λ x. pushed (i.Set m ks x) c) hx) (keyed m keys (value_does v) vs sh vn c1 c2 new lv.lowered lk)))
@@ -192,7 +192,7 @@ T-Count s m keys es kind key way c c1 new hs he hk e1 lk0 =
     let qs : Bool → List Part = λ inside. gather_parts m.0 (all_made keys) kind None in
     stmt-is s (stmts.Gather m keys kind None) qs (gather m (values_do keys) (given (pos 1))) (need (list_frame (values_need keys)) (24 + codes_in (values_need keys))) way c new hs (form.Gather-parts m keys kind None) (form.Gather-does m keys kind None) (form.Gather-need m keys kind None)
     (Stmt-less qs (gather m (values_do keys) (given (pos 1))) (need (max (list_frame (values_need keys)) (sizes_of ks + 0)) (24 + codes_in (values_need keys))) _ way c new (max-le (omega arith) (omega (arith, lk.lowered.sizes))) (omega arith)
-    (Lowers-act qs (i.Count m ks) ps (values_do keys) ks (gather m (values_do keys) (given (pos 1))) (λ w us frame. told (Cpu w.actor) (ops.Add m us (pos 1))) (λ us frame a. frame)
+    (Lowers-act qs (i.Count m ks) ps (values_do keys) ks (gather m (values_do keys) (given (pos 1))) (λ w us frame. tells (Cpu w.actor) (ops.Add m us (pos 1))) (λ us frame a. frame)
     (need (list_frame (values_need keys)) (codes_in (values_need keys))) way c c1 new (count-acts qs m ks (values_do keys))
     (λ t inside f. let p = fit-head t.scope (Gathered m.0 ks kind true) (ps ++ []) f in let g = and_parts (is_declared (decl_of m.0 t.scope.maps) (Aggs kind) ks) (same_bool true (is_count kind)) p.0 in (gathers-case t m.0 kind ks (decl_of m.0 t.scope.maps) refl g.0, (fit-parts t.scope ps [] p.1).0))
     (e1 ∙ ap (λ x. pushed (i.Count m x) c) hk) lk.lowered))
@@ -209,7 +209,7 @@ T-Add s m keys es kind v key way c c1 c2 new hs he hk e1 lv lk0 =
     stmt-is s (stmts.Gather m keys kind (Some v)) qs (gather m (values_do keys) (number_does v)) (need (beside (values_need keys) vn.frame) (24 + codes_in (values_need keys) + vn.code)) way c new hs (form.Gather-parts m keys kind (Some v)) (form.Gather-does m keys kind (Some v)) (form.Gather-need m keys kind (Some v))
     (Stmt-less qs (gather m (values_do keys) (number_does v)) (need (max (beside (values_need keys) vn.frame) (sizes_of (ks ++ shapes.Int ∷ []) + 0)) (24 + (codes_in (values_need keys) + vn.code))) _ way c new
     (max-le (omega arith) (omega (arith, sizes-append ks (shapes.Int ∷ []), lk.sized, lv.sizes, le-max_right (list_frame (values_need keys)) (sizes_in (values_need keys) + vn.frame)))) (omega arith)
-    (Lowers-act qs (i.Add m ks) (ps ++ vs) (values_do keys ++ number_value (number_does v) ∷ []) (ks ++ shapes.Int ∷ []) (gather m (values_do keys) (number_does v)) (λ w us frame. told (Cpu w.actor) (ops.Add m (below us) (number_of (top us)))) (λ us frame a. frame)
+    (Lowers-act qs (i.Add m ks) (ps ++ vs) (values_do keys ++ number_value (number_does v) ∷ []) (ks ++ shapes.Int ∷ []) (gather m (values_do keys) (number_does v)) (λ w us frame. tells (Cpu w.actor) (ops.Add m (below us) (number_of (top us)))) (λ us frame a. frame)
     (need (beside (values_need keys) vn.frame) (codes_in (values_need keys) + vn.code)) way c c1 new (add-acts qs m ks (values_do keys) (number_does v))
     (λ t inside f. let p = fit-head t.scope (Gathered m.0 ks kind false) (ps ++ vs) f in let g = and_parts (is_declared (decl_of m.0 t.scope.maps) (Aggs kind) ks) (same_bool false (is_count kind)) p.0 in (gathers-case t m.0 kind ks (decl_of m.0 t.scope.maps) refl g.0, p.1))
     (e1 ∙ ap (λ x. pushed (i.Add m x) c) hk) (keyed m keys (number_value (number_does v)) vs shapes.Int vn c1 c2 new lv lk)))
@@ -233,7 +233,7 @@ T-Delete s m keys es key way c c1 new hs he hk e1 lk0 =
     let qs : Bool → List Part = λ inside. delete_parts m.0 (all_made keys) in
     stmt-is s (stmts.Delete m keys) qs (delete_at m (values_do keys)) (need (list_frame (values_need keys)) (16 + codes_in (values_need keys))) way c new hs (form.Delete-parts m keys) (form.Delete-does m keys) (form.Delete-need m keys)
     (Stmt-less qs (delete_at m (values_do keys)) (need (max (list_frame (values_need keys)) (sizes_of ks + 0)) (16 + codes_in (values_need keys))) _ way c new (max-le (omega arith) (omega (arith, lk.lowered.sizes))) (omega arith)
-    (Lowers-act qs (i.Delete m ks) ps (values_do keys) ks (delete_at m (values_do keys)) (λ w us frame. told (part m us) (ops.Delete us)) (λ us frame a. frame)
+    (Lowers-act qs (i.Delete m ks) ps (values_do keys) ks (delete_at m (values_do keys)) (λ w us frame. tells (part m us) (ops.Delete us)) (λ us frame a. frame)
     (need (list_frame (values_need keys)) (codes_in (values_need keys))) way c c1 new (delete-acts qs m ks (values_do keys))
     (λ t inside f. let p = fit-head t.scope (Deleted m.0 ks) ps f in (shared-case t m.0 ks (decl_of m.0 t.scope.maps) refl p.0, p.1))
     (e1 ∙ ap (λ x. pushed (i.Delete m x) c) hk) lk.lowered))
@@ -251,7 +251,7 @@ T-Printf s format values es key way c c1 new hs he hk e1 lk0 =
     let qs : Bool → List Part = λ inside. printf_parts format (all_made values) in
     stmt-is s (stmts.Printf format values) qs (printf format (values_do values)) (need (list_frame (values_need values)) (16 + codes_in (values_need values))) way c new hs (form.Printf-parts format values) (form.Printf-does format values) (form.Printf-need format values)
     (Stmt-less qs (printf format (values_do values)) (need (max (list_frame (values_need values)) (sizes_of ks + 0)) (16 + codes_in (values_need values))) _ way c new (max-le (omega arith) (omega (arith, lk.lowered.sizes))) (omega arith)
-    (Lowers-act qs (i.Printf format ks) ps (values_do values) ks (printf format (values_do values)) (λ w us frame. told Out (ops.Emit (items.Printf format us))) (λ us frame a. frame)
+    (Lowers-act qs (i.Printf format ks) ps (values_do values) ks (printf format (values_do values)) (λ w us frame. tells Out (ops.Emit (items.Printf format us))) (λ us frame a. frame)
     (need (list_frame (values_need values)) (codes_in (values_need values))) way c c1 new (printf-acts qs format ks (values_do values))
     (λ t inside f. let p = fit-head t.scope (Printed format ks) (ps ++ Ending ∷ []) f in (format-case t format ks (format_of format t.scope.formats) refl p.0, (fit-parts t.scope ps (Ending ∷ []) p.1).0))
     (e1 ∙ ap (λ x. pushed (i.Printf format x) c) hk) lk.lowered))

@@ -24,11 +24,11 @@ use Rattle.ir_code.specs.declared.instr.Instr.{Instr}
 use Rattle.ir_code.specs.declared.instr.Instr.TheVariants as i
 use Rattle.bt_core.specs.declared.step.ObjectId.TheVariants.{Clock}
 use Rattle.bt_core.specs.declared.step.Op.TheVariants as ops
-use Rattle.map_ops.specs.Asking.{told}
+use Rattle.map_ops.specs.Asking.{tells}
 use Rattle.ir_code.specs.Figures.{sizes_of, instr_slots, instr_bytes}
 use Rattle.ir_code.specs.Meaning.{Scene, instr_run}
 use Rattle.ir_code.specs.Serving.{end_read}
-use Rattle.ir_code.specs.Typing.{takes, gives, names}
+use Rattle.ir_code.specs.Typing.{operand_shapes, gives, names}
 use Rattle.bt_lower.specs.declared.code.Code.{Code}
 use Rattle.bt_lower.specs.declared.code.Ways.{Ways}
 use Rattle.bt_lower.specs.Code.{pushed, begun, closed, open_block, code_slots}
@@ -79,7 +79,7 @@ Stmt-fit ps qs d n way old new f l = record {
 
 -- what an instruction does with values that are there: it asks, and the frame is another
 pub record Acts (qs : Bool → List Part) (i : Instr) (ds : List (Does Value)) (ss : List Shape) (d : Does Flow) {A : Type 0} (t : BodyScene → List Value → Frame → Interaction A) (fr : List Value → Frame → A → Frame) : Type 0 where
-  pub takes_them : takes i ≡ ss
+  pub takes_them : operand_shapes i ≡ ss
   pub reads_none : end_read i ≡ 0
   pub gives_none : gives i ≡ []
   pub is : (w : BodyScene) (frame : Frame) → d w frame ≡ and_then (in_order ds w frame) (λ p. and_then (t w p.0 p.1) (λ a. Ended (Next, fr p.0 p.1 a)))
@@ -111,7 +111,7 @@ Lowers-act qs i ps ds ss d t fr n way c c1 new ac named e1 l1 = record {
       let a : n.frame ≤ max n.frame (sizes_of ss + instr_bytes i) = le-max_left n.frame (sizes_of ss + instr_bytes i) in
       let b : sizes_of ss + instr_bytes i ≤ max n.frame (sizes_of ss + instr_bytes i) = le-max_right n.frame (sizes_of ss + instr_bytes i) in
       let z : sizes_of (c.stack ++ ss) ≡ sizes_of c.stack + sizes_of ss = sizes-append c.stack ss in
-      let y : sizes_of (c.stack ++ takes i) ≡ sizes_of (c.stack ++ ss) = ap (λ x. sizes_of (c.stack ++ x)) ac.takes_them in
+      let y : sizes_of (c.stack ++ operand_shapes i) ≡ sizes_of (c.stack ++ ss) = ap (λ x. sizes_of (c.stack ++ x)) ac.takes_them in
       l.sound bs stand s f.1 c.stack stacked (Room-less s.ground _ _ (omega arith) room) (Opens-push s.ground bs c i c.stack ends f.0 (omega (arith, ac.reads_none)) (Room-less s.ground _ _ (omega arith) room) o);
 }
   where
@@ -178,7 +178,7 @@ Lowers-exit qs way c c1 new e1 e =
       slots = omega (arith, slots-pushed i.Stop (begun (End Exited) [] c), slots-begun (End Exited) [] c);
       stack = pushed-stack (begun (End Exited) [] c) i.Stop c.stack refl ∙ append-nil c.stack;
       does = λ bs stand most le t inside fits w same frame values k f.
-          Runs-push bs (begun (End Exited) [] c) i.Stop _ (seen_by t.ground.maps w) (state frame values) (told Clock ops.Stop) (λ u. state frame values) (λ u. k (Stop Exited, frame)) refl
+          Runs-push bs (begun (End Exited) [] c) i.Stop _ (seen_by t.ground.maps w) (state frame values) (tells Clock ops.Stop) (λ u. state frame values) (λ u. k (Stop Exited, frame)) refl
           (λ u. record { by = λ m h. sym (f.stop Exited frame) });
       sound = λ bs stand t inside fits room ways o.
           (Opens-push t.ground bs (begun (End Exited) [] c) i.Stop c.stack refl refl (none-read t.ground.payload) (Room-less t.ground _ _ (omega (arith, ap sizes_of (append-nil c.stack))) room) (Opens-end bs t c Exited (Room-less t.ground _ _ (omega arith) room)), Sound-none t.ground bs (length c.blocks));

@@ -20,7 +20,7 @@ use Rattle.ir_code.specs.declared.blocks.Block.{Block}
 use Rattle.ir_code.specs.declared.blocks.Exit.TheVariants.{Again, End}
 use Rattle.ir_code.specs.declared.instr.Instr.TheVariants as i
 use Rattle.ir_code.specs.declared.state.State.{State}
-use Rattle.map_ops.specs.Asking.{told}
+use Rattle.map_ops.specs.Asking.{tells}
 use Rattle.ir_code.specs.Meaning.{Scene, block_run, run_from}
 use Rattle.bt_lower.specs.declared.code.Code.{Code}
 use Rattle.bt_lower.specs.Code.{pushed, begun, gated, with_cut}
@@ -36,7 +36,7 @@ pub Reaches-cut : (bs : List Block) (line : ℕ) (c : Code) (n : ℕ) (scene : S
 unfolding given bind lifted
 Reaches-cut bs line c n scene w frame values k stand e =
     Reaches-close bs (pushed (i.Cut line) (begun (End AtCut) [] c)) n scene (state frame values) (and_then (cut line w frame) k) stand
-    (Runs-push bs (begun (End AtCut) [] c) (i.Cut line) n scene (state frame values) (told Out (ops.Emit (items.Cut line))) (λ u. state frame values) (λ u. k (Stop AtCut, frame)) refl
+    (Runs-push bs (begun (End AtCut) [] c) (i.Cut line) n scene (state frame values) (tells Out (ops.Emit (items.Cut line))) (λ u. state frame values) (λ u. k (Stop AtCut, frame)) refl
     (λ u. record { by = λ m h. sym e }))
 
 -- the block that ends a turn

@@ -27,7 +27,7 @@ use Rattle.bt_core.specs.declared.map.MapDecl.{MapDecl}
 use Rattle.ir_code.specs.Figures.{sizes_of, instr_slots, instr_bytes}
 use Rattle.ir_code.specs.Meaning.{instr_run}
 use Rattle.ir_code.specs.Serving.{end_read}
-use Rattle.ir_code.specs.Typing.{takes, gives, names}
+use Rattle.ir_code.specs.Typing.{operand_shapes, gives, names}
 use Rattle.ir_code.specs.Stacks.{top, below}
 use Rattle.bt_lower.specs.declared.code.Code.{Code}
 use Rattle.bt_lower.specs.Code.{pushed}
@@ -44,7 +44,7 @@ no_values : (vs : List Value) → length vs ≡ 0 → vs ≡ []
 no_values [] h = refl
 no_values (v ∷ vs) h = absurd (omega arith)
 
-Leaf : (x : Instr) (shape : Shape) (d : Does Value) (val : BodyScene → Frame → Value) (fr : Frame → Frame) → takes x ≡ [] → gives x ≡ shape ∷ [] → sizes_of (shape ∷ []) ≤ instr_bytes x →
+Leaf : (x : Instr) (shape : Shape) (d : Does Value) (val : BodyScene → Frame → Value) (fr : Frame → Frame) → operand_shapes x ≡ [] → gives x ≡ shape ∷ [] → sizes_of (shape ∷ []) ≤ instr_bytes x →
     ((w : BodyScene) (frame : Frame) → d w frame ≡ Ended (val w frame, fr frame)) →
     ((maps : List MapDecl) (w : BodyScene) (frame : Frame) (values : List Value) → instr_run x (seen_by maps w) (state frame values) ≡ Ended (state (fr frame) (values ++ val w frame ∷ []))) →
     ((frame : Frame) → (fr frame).turns ≡ frame.turns) →
@@ -59,7 +59,7 @@ Leaf x shape d val fr tk gv ft is runs turns = record {
   turns = λ vs frame a. turns frame;
 }
 
-pub Lowers-leaf : (x : Instr) (head : Part) (shape : Shape) (d : Does Value) (val : BodyScene → Frame → Value) (fr : Frame → Frame) (n : Need) (c new : Code) → takes x ≡ [] → gives x ≡ shape ∷ [] → sizes_of (shape ∷ []) ≤ instr_bytes x →
+pub Lowers-leaf : (x : Instr) (head : Part) (shape : Shape) (d : Does Value) (val : BodyScene → Frame → Value) (fr : Frame → Frame) (n : Need) (c new : Code) → operand_shapes x ≡ [] → gives x ≡ shape ∷ [] → sizes_of (shape ∷ []) ≤ instr_bytes x →
     ((w : BodyScene) (frame : Frame) → d w frame ≡ Ended (val w frame, fr frame)) →
     ((maps : List MapDecl) (w : BodyScene) (frame : Frame) (values : List Value) → instr_run x (seen_by maps w) (state frame values) ≡ Ended (state (fr frame) (values ++ val w frame ∷ []))) →
     ((frame : Frame) → (fr frame).turns ≡ frame.turns) → ((s : Site) → fits s.scope head ≡ true → names (ground_in s.ground) x ≡ true) → ((s : Site) → fits s.scope head ≡ true → end_read x ≤ s.ground.payload) → instr_bytes x ≤ n.frame → instr_slots x ≤ n.code → new ≡ pushed x c → LowersValue (head ∷ []) d shape n c new

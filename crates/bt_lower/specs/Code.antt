@@ -8,7 +8,7 @@ use Rattle.ir_code.specs.declared.blocks.Exit.TheVariants.{Goto, Gate, Again, En
 use Rattle.ir_code.specs.declared.instr.Instr.{Instr}
 use Rattle.ir_code.specs.declared.instr.Instr.TheVariants.{Cut}
 use Rattle.ir_code.specs.Figures.{instrs_slots, exit_slots, blocks_slots}
-use Rattle.ir_code.specs.Typing.{takes, gives, front_of}
+use Rattle.ir_code.specs.Typing.{operand_shapes, gives, front_of}
 use Rattle.bt_lower.specs.declared.code.Code.{Code}
 
 -- the code that ends a run
@@ -17,7 +17,7 @@ nothing = record { blocks = []; stack = []; instrs = []; exit = End AtEnd; depth
 
 -- the types on the stack before an instruction, from those after it
 abbrev pub taken_back : Instr → List Shape → List Shape
-taken_back i stack = front_of (length (gives i)) stack ++ takes i
+taken_back i stack = front_of (length (gives i)) stack ++ operand_shapes i
 
 -- one more instruction before what is open
 abbrev pub pushed : Instr → Code → Code

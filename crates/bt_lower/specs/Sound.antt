@@ -15,7 +15,7 @@ use Rattle.ir_code.specs.declared.blocks.Exit.TheVariants.{Goto, Branch, Count, 
 use Rattle.ir_code.specs.declared.instr.Instr.{Instr}
 use Rattle.ir_code.specs.Figures.{sizes_of, instr_bytes}
 use Rattle.ir_code.specs.Serving.{end_read}
-use Rattle.ir_code.specs.Typing.{Ground, takes, gives, names, stack_in}
+use Rattle.ir_code.specs.Typing.{Ground, operand_shapes, gives, names, stack_in}
 use Rattle.ir_code.specs.Ways.{depth_at}
 use Rattle.bt_lower.specs.declared.code.Code.{Code}
 
@@ -51,7 +51,7 @@ pub record HasRoom (g : Footing) (bytes : ℕ) : Type 0 where
 pub record MayStand (g : Footing) (i : Instr) (stack rest : List Shape) : Type 0 where
   pub named : names (ground_in g) i ≡ true
   pub reads : end_read i ≤ g.payload
-  pub found : stack ≡ rest ++ takes i
+  pub found : stack ≡ rest ++ operand_shapes i
   pub room : HasRoom g (sizes_of stack + instr_bytes i)
 
 -- from the types before them on the stack instructions lead to those after them

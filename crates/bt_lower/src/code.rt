@@ -1,6 +1,6 @@
 // The code of a body as it is made: from its end to its start.
 ghost use Rattle.std.specs.Prelude.{◌≡◌, ◌+◌, ◌++◌, OnOk, IfOk, length, reverse};
-ghost use Rattle.ir_code.specs.Typing.{takes, gives, front_of};
+ghost use Rattle.ir_code.specs.Typing.{operand_shapes, gives, front_of};
 ghost use Rattle.bt_lower.specs.Code.{pushed, closed, begun, untyped, reserved, gated, patched, taken_back};
 
 use bt_core::ending::Ending;

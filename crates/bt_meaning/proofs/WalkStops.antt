@@ -32,7 +32,7 @@ use Rattle.walk_meaning.specs.Does.{BodyScene, Does, given, looked_at, changed, 
 use Rattle.walk_meaning.specs.Exprs.{read, value_by_parts, number_by_parts, text_by_parts, value_does, values_do, number_does, text_does, step_at}
 use Rattle.map_ops.specs.Holders.{part, holder, holders, sweep_op}
 use Rattle.walk_meaning.specs.Maps.{get, set, delete, add, kind_in_body}
-use Rattle.map_ops.specs.Asking.{told, got, asked_from, swept, printed}
+use Rattle.map_ops.specs.Asking.{tells, got, asked_from, swept, printed}
 use Rattle.walk_meaning.specs.Stmts.{plain, stmt_by_parts, block_by_parts, stmt_does, block_does, number_or_one, print, clear, zero_all, if_next, in_sequence, first_arm, arm_does, cut, entered, turn, turns, tests, while_true, again}
 use Rattle.walk_meaning.specs.Walk.{walk, first_frame, guarded, ending_of, tree_does}
 use Rattle.bt_meaning.specs.Ticks.{OnlyStops}
@@ -68,11 +68,11 @@ lifted-stops : {A : Type 0} (ask : BodyScene → Interaction A) → ((scene : Bo
 unfolding lifted
 lifted-stops ask p scene frame = stops-then (ask scene) (λ value. Ended (value, frame)) (p scene) (λ value. tt)
 
-told-only : (object : ObjectId) (op : Op) → (object ≡ Clock → op ≡ ops.Stop) → OnlyStops (told object op)
+told-only : (object : ObjectId) (op : Op) → (object ≡ Clock → op ≡ ops.Stop) → OnlyStops (tells object op)
 told-only object op h = (h, λ reply. tt)
 
-told-stops : (object : ObjectId) (op : Op) → (object ≡ Clock → op ≡ ops.Stop) → Stops (lifted (λ scene. told object op))
-told-stops object op h = lifted-stops (λ scene. told object op) (λ scene. told-only object op h)
+told-stops : (object : ObjectId) (op : Op) → (object ≡ Clock → op ≡ ops.Stop) → Stops (lifted (λ scene. tells object op))
+told-stops object op h = lifted-stops (λ scene. tells object op) (λ scene. told-only object op h)
 
 choose-stops : {A : Type 0} (b : Bool) (one other : Does A) → Stops one → Stops other → Stops (choose b one other)
 unfolding choose
@@ -104,7 +104,7 @@ not_holder Ints m n op e = absurd cc
 not_holder Strs m n op e = absurd cc
 not_holder (Aggs kind) m n op e = absurd cc
 
-at_part : (m : MapId) (key : List Value) (op : Op) → Stops (lifted (λ scene. told (part m key) op))
+at_part : (m : MapId) (key : List Value) (op : Op) → Stops (lifted (λ scene. tells (part m key) op))
 at_part m key op = told-stops (part m key) op (not_part m key op)
 
 get-stops : (m : MapId) (key : List Value) → Stops (get m key)
@@ -230,8 +230,8 @@ flow-stops flow = given-stops flow
 plain-stops : {A : Type 0} (d : Does A) → Stops d → Stops (plain d)
 plain-stops d p = then-given d (λ u. Next) p
 
-emit-stops : (op : Op) → Stops (plain (lifted (λ scene. told Out op)))
-emit-stops op = plain-stops (lifted (λ scene. told Out op)) (told-stops Out op (not_out op))
+emit-stops : (op : Op) → Stops (plain (lifted (λ scene. tells Out op)))
+emit-stops op = plain-stops (lifted (λ scene. tells Out op)) (told-stops Out op (not_out op))
 
 print-stops : (m : MapId) (top : ℕ) (div : ℤ) → Stops (print m top div)
 print-stops m top div =
@@ -245,7 +245,7 @@ zero-stops : (m : MapId) → Stops (zero_all m)
 zero-stops m = plain-stops (lifted (λ scene. swept Zero (kind_in_body m scene.maps) m scene.actors)) (sweep-stops Zero m)
 
 cut-stops : (line : ℕ) → Stops (cut line)
-cut-stops line = then-given (lifted (λ scene. told Out (ops.Emit (items.Cut line)))) (λ u. _) (told-stops Out (ops.Emit (items.Cut line)) (not_out (ops.Emit (items.Cut line))))
+cut-stops line = then-given (lifted (λ scene. tells Out (ops.Emit (items.Cut line)))) (λ u. _) (told-stops Out (ops.Emit (items.Cut line)) (not_out (ops.Emit (items.Cut line))))
 
 entered-stops : (line : ℕ) (block : Does Flow) (n : ℕ) → Stops block → Stops (entered line block n)
 entered-stops line block zero p = cut-stops line
@@ -328,7 +328,7 @@ stmt_case (TypedStmt-F.UpdateMap m keys op e) =
     (λ b. bind-stops (get m key) _ (get-stops m key) (λ old. plain-stops (set m key _) (at_part m key (ops.Set key _)))))
 stmt_case (TypedStmt-F.Gather m keys kind number) =
     bind-stops (in_order (values_do keys)) _ (values-stops keys []) (λ key. bind-stops (number_or_one number) _ (number-stops number)
-    (λ n. plain-stops (add m key n) (lifted-stops (λ scene. told (Cpu scene.actor) (ops.Add m key n)) (λ scene. told-only (Cpu scene.actor) (ops.Add m key n) (not_cpu scene.actor (ops.Add m key n))))))
+    (λ n. plain-stops (add m key n) (lifted-stops (λ scene. tells (Cpu scene.actor) (ops.Add m key n)) (λ scene. told-only (Cpu scene.actor) (ops.Add m key n) (not_cpu scene.actor (ops.Add m key n))))))
 stmt_case (TypedStmt-F.Step e) = plain-stops (number_does e) (num_stops e)
 stmt_case (TypedStmt-F.Printf format es) = bind-stops (in_order (values_do es)) _ (values-stops es []) (λ values. emit-stops _)
 stmt_case (TypedStmt-F.Print m top div) = print-stops m top div
@@ -338,7 +338,7 @@ stmt_case (TypedStmt-F.Delete m keys) =
     bind-stops (in_order (values_do keys)) _ (values-stops keys []) (λ key. plain-stops (delete m key) (at_part m key (ops.Delete key)))
 stmt_case (TypedStmt-F.Jump jumps.Break) = flow-stops Break
 stmt_case (TypedStmt-F.Jump jumps.Continue) = flow-stops Continue
-stmt_case (TypedStmt-F.Jump jumps.Exit) = then-given (lifted (λ scene. told Clock ops.Stop)) (λ u. _) (told-stops Clock ops.Stop (λ e. refl))
+stmt_case (TypedStmt-F.Jump jumps.Exit) = then-given (lifted (λ scene. tells Clock ops.Stop)) (λ u. _) (told-stops Clock ops.Stop (λ e. refl))
 stmt_case (TypedStmt-F.Jump jumps.Return) = flow-stops (Stop _)
 stmt_case (TypedStmt-F.If arms None) = arms-stops arms (given Next) (flow-stops Next)
 stmt_case (TypedStmt-F.If arms (Some b)) = arms-stops arms (block_does b.0) b.1

@@ -30,7 +30,7 @@ use Rattle.run_base.specs.declared.job.Job.{Job}
 use Rattle.run_objects.specs.declared.closed.Closed.{Closed}
 use Rattle.run_base.specs.Jobs.{cpus_in, replay_with, world_for}
 use Rattle.bt_run.specs.Made.{IsMade}
-use Rattle.run_base.specs.Worlds.{answers}
+use Rattle.run_objects.specs.Worlds.{answers}
 use Rattle.bt_run.proofs.TakeLemmas.{each_recursion}
 use Rattle.bt_run.proofs.Splitting.{begin_own, two_parts, own_are, cpus_are, plain_runs, same_runs, same_parts}
 

@@ -64,9 +64,9 @@ use Rattle.bt_run.specs.Made.{IsMade}
 use Rattle.run_objects.specs.Closed.{AreClosedAt}
 use Rattle.bt_run.specs.Ran.{HasRun}
 use Rattle.bt_run.specs.declared.run.Ran.{Ran}
-use Rattle.run_base.specs.Worlds.{World, IsOwn}
+use Rattle.run_objects.specs.Worlds.{World, IsOwn}
 use Rattle.bt_run.proofs.Finals.{at_objects, by_actor, replayed, operations_same, operations_serial}
-use Rattle.run_base.proofs.KindLemmas.{operations_by}
+use Rattle.run_objects.proofs.KindLemmas.{operations_by}
 use Rattle.bt_run.proofs.SerialCount.{instructions_same, serial_counts}
 
 -- ---- what is emitted stands at the output

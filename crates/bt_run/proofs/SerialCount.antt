@@ -30,7 +30,7 @@ use Rattle.bt_meaning.proofs.OwnAgenda.{own_agenda}
 use Rattle.bt_meaning.proofs.SerialLaws.{cpu_is}
 use Rattle.bt_meaning.proofs.Stepping.{other_part, own_part, takes_whole, taken_other, taken_own}
 use Rattle.bt_run.specs.Counts.{serial_count, taken_count}
-use Rattle.run_base.proofs.ReadLemmas.{sum_more}
+use Rattle.run_objects.proofs.ReadLemmas.{sum_more}
 use Rattle.bt_run.proofs.TakeLemmas.{goes_within}
 
 -- ---- sums over actors

@@ -18,7 +18,7 @@ use Rattle.weave.proofs.Less.{not_less}
 use Rattle.bt_core.specs.Interaction.{last_reply}
 use Rattle.run_objects.specs.declared.objects.Objects.{Objects}
 use Rattle.bt_run.specs.declared.port.Turn.{Turn}
-use Rattle.run_base.specs.Worlds.{World, answers, IsOwn}
+use Rattle.run_objects.specs.Worlds.{World, answers, IsOwn}
 use Rattle.run_objects.specs.Objects.{Stand, IsAnswer}
 use Rattle.bt_run.specs.Runs.{IsTurnBy, IsTurn, IsRunOf}
 

@@ -27,7 +27,7 @@ use Rattle.bt_run.specs.Counts.{taken_count, TakesNext}
 use Rattle.run_base.specs.Jobs.{cpus_in, replay_with, world_for, CanRunAll}
 use Rattle.bt_run.specs.Made.{IsMade}
 use Rattle.bt_run.specs.Runs.{Seen, IsSeen, IsRunOf, IsLeft}
-use Rattle.run_base.specs.Worlds.{World, setting_in, answers}
+use Rattle.run_objects.specs.Worlds.{World, setting_in, answers}
 use Rattle.bt_meaning.proofs.Stepping.{takes_made, unstamped_length}
 
 drop_own : (a b : List Step) → drop (length a) (a ++ b) ≡ b

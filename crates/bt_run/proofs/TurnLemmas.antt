@@ -11,7 +11,7 @@ use Rattle.weave.specs.Woven.{begin_steps, main_clock, actor_clock}
 use Rattle.weave.proofs.Among.{Has, each_has, each_from, has_middle, has_front, filter_all}
 use Rattle.run_objects.specs.declared.objects.Objects.{Objects}
 use Rattle.bt_run.specs.declared.port.Turn.{Turn}
-use Rattle.run_base.specs.Worlds.{World}
+use Rattle.run_objects.specs.Worlds.{World}
 use Rattle.run_objects.specs.Objects.{Stand}
 use Rattle.bt_run.specs.Runs.{IsCpuTurn, IsTurnBy, IsRunOf, first_turn}
 

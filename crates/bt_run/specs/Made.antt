@@ -11,7 +11,7 @@ use Rattle.run_objects.specs.declared.closed.Closed.{Closed}
 use Rattle.bt_run.specs.Counts.{serial_count}
 use Rattle.run_base.specs.Jobs.{cpus_in, replay_with, world_for}
 use Rattle.run_objects.specs.Closed.{MapsStand}
-use Rattle.run_base.specs.Worlds.{answers, IsOwn}
+use Rattle.run_objects.specs.Worlds.{answers, IsOwn}
 
 -- these steps are the serial list, stamped by both clocks, and the objects stand for them
 pub record IsMade (job : Job) (plans : ℕ → Plan) (closed : Closed) (steps : List Step) (instructions : ℕ) : Type 0 where

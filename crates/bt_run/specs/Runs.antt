@@ -12,7 +12,7 @@ use Rattle.run_objects.specs.declared.objects.Objects.{Objects}
 use Rattle.bt_run.specs.declared.port.Running.{Running}
 use Rattle.bt_run.specs.declared.port.Turn.{Turn}
 use Rattle.run_objects.specs.Objects.{Stand}
-use Rattle.run_base.specs.Worlds.{World, setting_in, answers, IsOwn}
+use Rattle.run_objects.specs.Worlds.{World, setting_in, answers, IsOwn}
 
 abbrev pub world_of : Running → World
 world_of r = record { cpus = r.cpus; ticks = r.ticks; maps = r.maps.value }

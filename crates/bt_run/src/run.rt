@@ -1,6 +1,7 @@
 // Whole runs.
-ghost use Rattle.std.specs.Prelude.{◌≡◌, List, map, IfOk};
+ghost use Rattle.std.specs.Prelude.{◌≡◌, ◌+◌, ◌<◌, ◌^◌, List, [], length, map, All, IfOk};
 ghost use Rattle.bt_core.specs.declared.step.ObjectId.{ObjectId};
+ghost use Rattle.bt_core.specs.Kinds.{IsFineDecl};
 ghost use Rattle.bt_core.specs.Steps.{on_object};
 ghost use Rattle.bpf_insn.specs.declared.insn.Insn.{Insn};
 ghost use Rattle.bt_meaning.specs.Instructions.{instructions_of};
@@ -12,8 +13,9 @@ ghost use Rattle.bt_meaning.specs.Walks.{replay_of};
 ghost use Rattle.code_bodies.specs.Coding.{code_replay};
 ghost use Rattle.script_programs.specs.Programs.{AreCodesOf, KeepScript};
 ghost use Rattle.step_list.specs.Lists.{steps_in};
-ghost use Rattle.run_base.specs.Jobs.{world_for};
-ghost use Rattle.run_base.specs.Moments.{Moment};
+ghost use Rattle.run_base.specs.Jobs.{cpus_in, world_for};
+ghost use Rattle.run_objects.specs.Moments.{Moment};
+ghost use Rattle.run_objects.specs.Objects.{Stand};
 ghost use Rattle.run_output.specs.Outputs.{output_of};
 ghost use Rattle.bt_run.specs.Ran.{HasRun};
 
@@ -27,6 +29,7 @@ use run_base::job::{Job, Work};
 use run_objects::closed::Closed;
 use run_objects::ends::read_maps;
 use run_objects::new_objects::new_objects;
+use run_objects::objects::Objects;
 use run_output::form::{Form, output_of_run};
 use script_programs::codes::codes_of;
 use std::alloc::Global;
@@ -44,6 +47,19 @@ struct Ran {
     instructions: u64,
 }
 
+/// The objects of a job, which no step was made at.
+fn job_objects(alloc: Global, job: &Job) -> Result<Objects, Memory>
+    requires fine { All IsFineDecl job.now.typed.maps }
+    requires some_cpus { 0 < cpus_in job.now }
+    requires few_cpus { cpus_in job.now + 1 < 2 ^ 32 }
+    requires few_ticks { length job.now.attached.ticks < 2 ^ 32 }
+    ensures { IfOk result (λ objects. Stand (world_for job.now) [] objects) }
+{
+    let cpus = job.recording.cpus.len() as u32;
+    let ticks = job.attached.ticks.len() as u32;
+    new_objects(alloc, &job.typed.maps, cpus, ticks)
+}
+
 /// Runs a job on one thread, each body by its code, up to its list of steps.
 fn make_run(alloc: Global, job: &Job) -> Result<Ran, Memory>
     requires job { IsJob job.now.typed job.now.attached job.now.recording }
@@ -55,7 +71,7 @@ fn make_run(alloc: Global, job: &Job) -> Result<Ran, Memory>
     job_is_held(job);
     let codes = codes_of(alloc, job.programs.as_slice())?;
     let order = schedule(alloc, &job.recording, &job.attached)?;
-    let objects = new_objects(alloc, job)?;
+    let objects = job_objects(alloc, job)?;
     let (objects, steps, instructions) = make_steps(
         alloc,
         job,

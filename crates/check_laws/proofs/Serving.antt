@@ -193,8 +193,8 @@ module _ (typed : Typed) (least actor actors : ℕ) (s : Spaces) (turns : ℕ) (
   answered_well : {A : Type 0} (t : Interaction A) → Well (frame_kept s t)
   answered_well t = Yields-then K (λ a. Unit {0}) (GivesWell sheet turns s) t _ (any_yields K t) (λ a h. (refl, same_counts))
 
-  told_well : (object : ObjectId) (op : Op) → Well (frame_kept s (asking.told object op))
-  told_well object op = answered_well (asking.told object op)
+  told_well : (object : ObjectId) (op : Op) → Well (frame_kept s (asking.tells object op))
+  told_well object op = answered_well (asking.tells object op)
 
   wrote_well : (to n : ℕ) (v : Value) → length (value_bytes v) ≡ n → may_store to n ≡ true → GivesWell sheet turns s (wrote s to v)
   wrote_well to n v long e = (refl, writes_count to (value_bytes v) (subst (λ (m : ℕ). may_store to m ≡ true) (sym long) e))
@@ -223,24 +223,24 @@ module _ (typed : Typed) (least actor actors : ℕ) (s : Spaces) (turns : ℕ) (
   set_well m key value decl found at e =
       let vs = values_there s decl.key_shape key at in
       let v = value_there s (shape_of_kind decl.kind) value e in
-      subst (λ (x : Interaction Answer). Well x) (sym (ap (λ (o : Option MapDecl). in_range o (λ d. with_read (values_at s d.key_shape key) (λ k. with_read (value_at s (shape_of_kind d.kind) value) (λ x. frame_kept s (asking.told (part (map_id m) k) (ops.Set k x)))))) found
-      ∙ ap (λ (o : Option (List Value)). with_read o (λ k. with_read (value_at s (shape_of_kind decl.kind) value) (λ x. frame_kept s (asking.told (part (map_id m) k) (ops.Set k x))))) vs.1
-      ∙ ap (λ (o : Option Value). with_read o (λ x. frame_kept s (asking.told (part (map_id m) vs.0) (ops.Set vs.0 x)))) v.1))
+      subst (λ (x : Interaction Answer). Well x) (sym (ap (λ (o : Option MapDecl). in_range o (λ d. with_read (values_at s d.key_shape key) (λ k. with_read (value_at s (shape_of_kind d.kind) value) (λ x. frame_kept s (asking.tells (part (map_id m) k) (ops.Set k x)))))) found
+      ∙ ap (λ (o : Option (List Value)). with_read o (λ k. with_read (value_at s (shape_of_kind decl.kind) value) (λ x. frame_kept s (asking.tells (part (map_id m) k) (ops.Set k x))))) vs.1
+      ∙ ap (λ (o : Option Value). with_read o (λ x. frame_kept s (asking.tells (part (map_id m) vs.0) (ops.Set vs.0 x)))) v.1))
       (told_well (part (map_id m) vs.0) (ops.Set vs.0 v.0))
 
   delete_well : (m key : ℕ) (decl : MapDecl) → value_map typed.maps m ≡ Some decl → lies_in FRAME FRAME_BYTES key (bytes_of_shapes decl.key_shape) ≡ true → Well (does.delete typed.maps m key s)
   delete_well m key decl found at =
       let vs = values_there s decl.key_shape key at in
-      subst (λ (x : Interaction Answer). Well x) (sym (ap (λ (o : Option MapDecl). in_range o (λ d. with_read (values_at s d.key_shape key) (λ k. frame_kept s (asking.told (part (map_id m) k) (ops.Delete k))))) found
-      ∙ ap (λ (o : Option (List Value)). with_read o (λ k. frame_kept s (asking.told (part (map_id m) k) (ops.Delete k)))) vs.1))
+      subst (λ (x : Interaction Answer). Well x) (sym (ap (λ (o : Option MapDecl). in_range o (λ d. with_read (values_at s d.key_shape key) (λ k. frame_kept s (asking.tells (part (map_id m) k) (ops.Delete k))))) found
+      ∙ ap (λ (o : Option (List Value)). with_read o (λ k. frame_kept s (asking.tells (part (map_id m) k) (ops.Delete k)))) vs.1))
       (told_well (part (map_id m) vs.0) (ops.Delete vs.0))
 
   aggregate_well : (m key number : ℕ) (decl : MapDecl) → table_map typed.maps m ≡ Some decl → lies_in FRAME FRAME_BYTES key (bytes_of_shapes decl.key_shape) ≡ true
       → Well (does.aggregate typed.maps actor m key number s)
   aggregate_well m key number decl found at =
       let vs = values_there s decl.key_shape key at in
-      subst (λ (x : Interaction Answer). Well x) (sym (ap (λ (o : Option MapDecl). in_range o (λ d. with_read (values_at s d.key_shape key) (λ k. frame_kept s (asking.told (Cpu actor) (ops.Add (map_id m) k (cast_signed w64 number)))))) found
-      ∙ ap (λ (o : Option (List Value)). with_read o (λ k. frame_kept s (asking.told (Cpu actor) (ops.Add (map_id m) k (cast_signed w64 number))))) vs.1))
+      subst (λ (x : Interaction Answer). Well x) (sym (ap (λ (o : Option MapDecl). in_range o (λ d. with_read (values_at s d.key_shape key) (λ k. frame_kept s (asking.tells (Cpu actor) (ops.Add (map_id m) k (cast_signed w64 number)))))) found
+      ∙ ap (λ (o : Option (List Value)). with_read o (λ k. frame_kept s (asking.tells (Cpu actor) (ops.Add (map_id m) k (cast_signed w64 number))))) vs.1))
       (told_well (Cpu actor) (ops.Add (map_id m) vs.0 (cast_signed w64 number)))
 
   print_well : (m top div : ℕ) (decl : MapDecl) → numbered typed.maps m ≡ Some decl → are_shown top div ≡ true → Well (does.print typed.maps actors m top div s)
@@ -256,12 +256,12 @@ module _ (typed : Typed) (least actor actors : ℕ) (s : Spaces) (turns : ℕ) (
       → Well (does.printf typed.formats format address s)
   printf_well format address pieces found at =
       let vs = values_there s (argument_shapes pieces) address at in
-      subst (λ (x : Interaction Answer). Well x) (sym (ap (λ (o : Option (List Piece)). in_range o (λ p. with_read (values_at s (argument_shapes p) address) (λ values. frame_kept s (asking.told Out (ops.Emit (items.Printf format values)))))) found
-      ∙ ap (λ (o : Option (List Value)). with_read o (λ values. frame_kept s (asking.told Out (ops.Emit (items.Printf format values))))) vs.1))
+      subst (λ (x : Interaction Answer). Well x) (sym (ap (λ (o : Option (List Piece)). in_range o (λ p. with_read (values_at s (argument_shapes p) address) (λ values. frame_kept s (asking.tells Out (ops.Emit (items.Printf format values)))))) found
+      ∙ ap (λ (o : Option (List Value)). with_read o (λ values. frame_kept s (asking.tells Out (ops.Emit (items.Printf format values))))) vs.1))
       (told_well Out (ops.Emit (items.Printf format vs.0)))
 
   cut_well : (line : ℕ) → nat_lt line (2 ^ 32) ≡ true → Well (does.cut line s)
-  cut_well line e = subst (λ (x : Interaction Answer). Well x) (sym (ap (λ (b : Bool). cond b (frame_kept s (asking.told Out (ops.Emit (items.Cut line)))) (Ended BadArgument)) e)) (told_well Out (ops.Emit (items.Cut line)))
+  cut_well line e = subst (λ (x : Interaction Answer). Well x) (sym (ap (λ (b : Bool). cond b (frame_kept s (asking.tells Out (ops.Emit (items.Cut line)))) (Ended BadArgument)) e)) (told_well Out (ops.Emit (items.Cut line)))
 
   read_well : (to place count : ℕ) → may_store to 64 ≡ true → Well (does.read_str to place count s)
   read_well to place count e = subst (λ (x : Interaction Answer). Well x) (sym (ap (λ (b : Bool). cond b (Ended (wrote s to (Str (payload_text place count s.payload)))) (Ended BadBytes)) (room_there to 64 e)))

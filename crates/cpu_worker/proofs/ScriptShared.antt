@@ -41,7 +41,7 @@ use Rattle.percpu_tables.proofs.tables.Tables.TheSendSync as tables
 use Rattle.rec_format.proofs.recording.Recording.TheSendSync as recording
 use Rattle.shared_maps.proofs.maps.SharedMaps.TheSendSync as maps
 use Rattle.side_locks.proofs.sides.SideLocks.TheSendSync as sides
-use Rattle.cpu_worker.specs.contracts.world.World as world
+use Rattle.cpu_worker.specs.contracts.world.SharedWorld as world
 
 ruleset leaves = (
   builtin.the_field_sync,

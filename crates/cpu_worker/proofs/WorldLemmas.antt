@@ -15,12 +15,12 @@ use Rattle.stamped.specs.Traces.{at_object}
 use Rattle.stamped.proofs.OwnLemmas.{own_elsewhere}
 use Rattle.actor_plan.specs.Plans.{Plan}
 use Rattle.actor_plan.specs.Ready as actors
-use Rattle.percpu_tables.specs.Tables as tables
-use Rattle.shared_maps.specs.Maps as parts
+use Rattle.percpu_tables.specs.Tables.{table_actors, table_ids}
+use Rattle.shared_maps.specs.Maps.{part_maps, part_ids}
 use Rattle.shared_maps.specs.Parts.{Part, part_at, parts_in, parts_from}
 use Rattle.side_locks.specs.Steps.{OwnBoth}
 use Rattle.side_locks.specs.Turns.{Both}
-use Rattle.cpu_worker.specs.declared.world.World.{World}
+use Rattle.cpu_worker.specs.declared.world.SharedWorld.{SharedWorld}
 use Rattle.cpu_worker.specs.declared.world.WorkerTurns.{WorkerTurns}
 use Rattle.cpu_worker.specs.Worlds.{Sets, setting_in, KeepsOwn, CanReplay, IsPlanIn}
 
@@ -40,11 +40,11 @@ tables_apart o ne k zero = tt
 tables_apart o ne k (suc n) = (ne k, tables_apart o ne (k + 1) n)
 
 module _ (sets : Sets) (old new : Trace) (object : ObjectId) (elsewhere : (o : ObjectId) → o ≢ object → at_object o new ≡ at_object o old) where
-  pub parts_stay : ((m : MapId) (p : ℕ) → object ≢ Shared m p) → (ts : List Turn) → AreOwn (parts.ids_of sets.maps) ts old → AreOwn (parts.ids_of sets.maps) ts new
-  parts_stay ne ts h = own_elsewhere (parts.ids_of sets.maps) ts object old new (parts_apart object ne 0 (parts.maps_of sets.maps)) elsewhere h
+  pub parts_stay : ((m : MapId) (p : ℕ) → object ≢ Shared m p) → (ts : List Turn) → AreOwn (part_ids sets.maps) ts old → AreOwn (part_ids sets.maps) ts new
+  parts_stay ne ts h = own_elsewhere (part_ids sets.maps) ts object old new (parts_apart object ne 0 (part_maps sets.maps)) elsewhere h
 
-  pub tables_stay : ((a : ℕ) → object ≢ Cpu a) → (ts : List Turn) → AreOwn (tables.ids_of sets.tables) ts old → AreOwn (tables.ids_of sets.tables) ts new
-  tables_stay ne ts h = own_elsewhere (tables.ids_of sets.tables) ts object old new (tables_apart object ne 0 (tables.actors_of sets.tables)) elsewhere h
+  pub tables_stay : ((a : ℕ) → object ≢ Cpu a) → (ts : List Turn) → AreOwn (table_ids sets.tables) ts old → AreOwn (table_ids sets.tables) ts new
+  tables_stay ne ts h = own_elsewhere (table_ids sets.tables) ts object old new (tables_apart object ne 0 (table_actors sets.tables)) elsewhere h
 
   pub sides_stay : object ≢ Clock → object ≢ Out → (both : Both) → OwnBoth both old → OwnBoth both new
   sides_stay no_clock no_out both h = record {
@@ -54,33 +54,33 @@ module _ (sets : Sets) (old new : Trace) (object : ObjectId) (elsewhere : (o : O
 
   -- a step at one set, which keeps its own: the other two keep theirs
   module _ (t u : WorkerTurns) where
-    pub keeps_at_part : (m : MapId) (p : ℕ) → object ≡ Shared m p → (AreOwn (parts.ids_of sets.maps) t.maps.1 old → AreOwn (parts.ids_of sets.maps) u.maps.1 new)
+    pub keeps_at_part : (m : MapId) (p : ℕ) → object ≡ Shared m p → (AreOwn (part_ids sets.maps) t.maps.1 old → AreOwn (part_ids sets.maps) u.maps.1 new)
         → u.tables ≡ t.tables → u.sides ≡ t.sides → KeepsOwn sets t old u new
     keeps_at_part m p is own tables_same sides_same = record {
       maps = own;
-      tables = λ h. subst (λ (row : Row). AreOwn (tables.ids_of sets.tables) row.1 new) (sym tables_same) (tables_stay (λ a e. let no : ⊥ = cc in no) t.tables.1 h);
+      tables = λ h. subst (λ (row : Row). AreOwn (table_ids sets.tables) row.1 new) (sym tables_same) (tables_stay (λ a e. let no : ⊥ = cc in no) t.tables.1 h);
       sides = λ h. subst (λ (both : Both). OwnBoth both new) (sym sides_same) (sides_stay (λ e. let no : ⊥ = cc in no) (λ e. let no : ⊥ = cc in no) t.sides h);
     }
 
-    pub keeps_at_tables : (a : ℕ) → object ≡ Cpu a → (AreOwn (tables.ids_of sets.tables) t.tables.1 old → AreOwn (tables.ids_of sets.tables) u.tables.1 new)
+    pub keeps_at_tables : (a : ℕ) → object ≡ Cpu a → (AreOwn (table_ids sets.tables) t.tables.1 old → AreOwn (table_ids sets.tables) u.tables.1 new)
         → u.maps ≡ t.maps → u.sides ≡ t.sides → KeepsOwn sets t old u new
     keeps_at_tables a is own maps_same sides_same = record {
-      maps = λ h. subst (λ (row : Row). AreOwn (parts.ids_of sets.maps) row.1 new) (sym maps_same) (parts_stay (λ m p e. let no : ⊥ = cc in no) t.maps.1 h);
+      maps = λ h. subst (λ (row : Row). AreOwn (part_ids sets.maps) row.1 new) (sym maps_same) (parts_stay (λ m p e. let no : ⊥ = cc in no) t.maps.1 h);
       tables = own;
       sides = λ h. subst (λ (both : Both). OwnBoth both new) (sym sides_same) (sides_stay (λ e. let no : ⊥ = cc in no) (λ e. let no : ⊥ = cc in no) t.sides h);
     }
 
     pub keeps_at_clock : object ≡ Clock → (OwnBoth t.sides old → OwnBoth u.sides new) → u.maps ≡ t.maps → u.tables ≡ t.tables → KeepsOwn sets t old u new
     keeps_at_clock is own maps_same tables_same = record {
-      maps = λ h. subst (λ (row : Row). AreOwn (parts.ids_of sets.maps) row.1 new) (sym maps_same) (parts_stay (λ m p e. let no : ⊥ = cc in no) t.maps.1 h);
-      tables = λ h. subst (λ (row : Row). AreOwn (tables.ids_of sets.tables) row.1 new) (sym tables_same) (tables_stay (λ a e. let no : ⊥ = cc in no) t.tables.1 h);
+      maps = λ h. subst (λ (row : Row). AreOwn (part_ids sets.maps) row.1 new) (sym maps_same) (parts_stay (λ m p e. let no : ⊥ = cc in no) t.maps.1 h);
+      tables = λ h. subst (λ (row : Row). AreOwn (table_ids sets.tables) row.1 new) (sym tables_same) (tables_stay (λ a e. let no : ⊥ = cc in no) t.tables.1 h);
       sides = own;
     }
 
     pub keeps_at_out : object ≡ Out → (OwnBoth t.sides old → OwnBoth u.sides new) → u.maps ≡ t.maps → u.tables ≡ t.tables → KeepsOwn sets t old u new
     keeps_at_out is own maps_same tables_same = record {
-      maps = λ h. subst (λ (row : Row). AreOwn (parts.ids_of sets.maps) row.1 new) (sym maps_same) (parts_stay (λ m p e. let no : ⊥ = cc in no) t.maps.1 h);
-      tables = λ h. subst (λ (row : Row). AreOwn (tables.ids_of sets.tables) row.1 new) (sym tables_same) (tables_stay (λ a e. let no : ⊥ = cc in no) t.tables.1 h);
+      maps = λ h. subst (λ (row : Row). AreOwn (part_ids sets.maps) row.1 new) (sym maps_same) (parts_stay (λ m p e. let no : ⊥ = cc in no) t.maps.1 h);
+      tables = λ h. subst (λ (row : Row). AreOwn (table_ids sets.tables) row.1 new) (sym tables_same) (tables_stay (λ a e. let no : ⊥ = cc in no) t.tables.1 h);
       sides = own;
     }
 
@@ -93,7 +93,7 @@ keeps_more sets t a u b v c h k = record { maps = λ own. k.maps (h.maps own); t
 
 -- ---- bodies that are made for an actor of a world can be run over it
 
-pub ready : (world : World) (actor : ℕ) (plan : Plan) → CanReplay world → IsPlanIn world actor plan
+pub ready : (world : SharedWorld) (actor : ℕ) (plan : Plan) → CanReplay world → IsPlanIn world actor plan
     → actors.IsReady plan world.recording.now world.attached.now (setting_in world actor)
 ready world actor plan can is = record {
   valid = can.valid;

@@ -6,10 +6,10 @@ use Rattle.actor_plan.specs.declared.outcome.Outcome.{Outcome}
 use Rattle.actor_plan.specs.Plans.{Plan}
 use Rattle.actor_plan.specs.Programs.{cpu_program}
 use Rattle.cpu_worker.specs.declared.worker.CpuWorker.{CpuWorker}
-use Rattle.cpu_worker.specs.declared.world.World.{World}
+use Rattle.cpu_worker.specs.declared.world.SharedWorld.{SharedWorld}
 use Rattle.cpu_worker.specs.Worlds.{world_cpus, sets_in, AreTurnsOf, CanReplay, IsPlanIn}
 
-module _ {B G : Type 0} (plan : B → Plan) (world : World) where
+module _ {B G : Type 0} (plan : B → Plan) (world : SharedWorld) where
   -- the whole program of the worker's CPU, over what its bodies tell
   abbrev pub program_in : CpuWorker B G → Interaction Outcome
   program_in w = cpu_program (plan w.bodies) world.typed.now.uses_exit world.recording.now world.attached.now

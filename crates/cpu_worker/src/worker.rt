@@ -6,7 +6,7 @@ ghost use Rattle.cpu_worker.specs.Chains.{HasWalked};
 ghost use Rattle.cpu_worker.specs.Worlds.{sets_in, setting_in, AreBy, AreTurnsOf, KeepsOwn};
 ghost use Rattle.cpu_worker.specs.Workers.{IsReady, program_in};
 
-use crate::world::{WorkerTurns, World};
+use crate::world::{SharedWorld, WorkerTurns};
 use crate::world_port::WorldPort;
 use actor_plan::bodies::Bodies;
 use actor_plan::outcome::Outcome;
@@ -62,7 +62,12 @@ impl<'g, B: Bodies, G: Gate> CpuWorker<'g, B, G> {
     /// turn's own list there, if it was so before.
     ///
     /// [`Memory`] is the one error. The trace then holds the steps that were made, the first of the program's.
-    pub fn run<R: Wait>(&mut self, rt: &R, alloc: Global, world: &World) -> Result<Outcome, Memory>
+    pub fn run<R: Wait>(
+        &mut self,
+        rt: &R,
+        alloc: Global,
+        world: &SharedWorld,
+    ) -> Result<Outcome, Memory>
         requires { IsReady B.plan world.now self.old }
         ensures whole { IfOk result (λ outcome. Runs (program_in B.plan world.now self.old) (steps_of self.new.trace) outcome) }
         ensures part { OnErr result (Begins (program_in B.plan world.now self.old) (steps_of self.new.trace)) }

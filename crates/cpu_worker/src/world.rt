@@ -1,8 +1,8 @@
 // What all actors of a run share, and the turns of one of them.
 ghost use Rattle.std.specs.Prelude.{◌≡◌, ◌+◌, length};
-ghost use Rattle.percpu_tables.specs.Tables as tables_in;
-ghost use Rattle.shared_maps.specs.Maps as parts_in;
-ghost use Rattle.side_locks.specs.Sides.{kind_of};
+ghost use Rattle.percpu_tables.specs.Tables.{table_actors, table_maps};
+ghost use Rattle.shared_maps.specs.Maps.{part_actors, part_maps};
+ghost use Rattle.side_locks.specs.Sides.{side_kind};
 
 use bt_ast::attached::Attached;
 use percpu_tables::tables::Tables;
@@ -19,18 +19,18 @@ use typed_tree::script::Typed;
 ///
 /// The sets are those of the script's maps and of the attached ticks, for as many CPUs as were recorded and the main actor.
 #[derive(Drop)]
-pub struct World<'w> {
+pub struct SharedWorld<'w> {
     pub recording: &'w Recording,
     pub attached: &'w Attached,
     pub typed: &'w Typed,
     pub maps: &'w SharedMaps,
     pub tables: &'w Tables,
     pub sides: &'w SideLocks,
-    pub ghost maps_are: { parts_in.maps_of maps.now ≡ typed.now.maps },
-    pub ghost maps_actors: { parts_in.actors_of maps.now ≡ length recording.now.cpus + 1 },
-    pub ghost tables_are: { tables_in.maps_of tables.now ≡ typed.now.maps },
-    pub ghost tables_actors: { tables_in.actors_of tables.now ≡ length recording.now.cpus + 1 },
-    pub ghost sides_are: { kind_of sides.now ≡ record { cpus = length recording.now.cpus; ticks = length attached.now.ticks } },
+    pub ghost maps_are: { part_maps maps.now ≡ typed.now.maps },
+    pub ghost maps_actors: { part_actors maps.now ≡ length recording.now.cpus + 1 },
+    pub ghost tables_are: { table_maps tables.now ≡ typed.now.maps },
+    pub ghost tables_actors: { table_actors tables.now ≡ length recording.now.cpus + 1 },
+    pub ghost sides_are: { side_kind sides.now ≡ record { cpus = length recording.now.cpus; ticks = length attached.now.ticks } },
 }
 
 /// The turns of one actor at the three sets of locks.

@@ -7,7 +7,7 @@ ghost use Rattle.stamped.specs.Traces.{actor_of, steps_of, IsSame};
 ghost use Rattle.cpu_worker.specs.Worlds.{maps_in, sets_in, setting_in, AreTurnsOf, KeepsOwn};
 ghost use Rattle.cpu_worker.specs.AtWork.{IsAtWork};
 
-use crate::world::{WorkerTurns, World};
+use crate::world::{SharedWorld, WorkerTurns};
 use bt_core::memory::Memory;
 use bt_core::port::Port;
 use bt_core::step::{ObjectId, Op, Reply};
@@ -27,7 +27,7 @@ use turn_lock::gate::Gate;
 /// Contracts see the world, the turns and the trace as they were when it was made, and both as they are now.
 pub struct WorldPort<'w, R: Wait, G: Gate> {
     rt: &'w R,
-    world: &'w World<'w>,
+    world: &'w SharedWorld<'w>,
     gate: &'w G,
     first_turns: Snapshot<WorkerTurns>,
     first_trace: Snapshot<Trace>,
@@ -90,7 +90,7 @@ pub struct Start {
 fn make_step<R: Wait, G: Gate>(
     rt: &R,
     alloc: Global,
-    world: &World,
+    world: &SharedWorld,
     gate: &G,
     turns: &mut WorkerTurns,
     trace: &mut Trace,
@@ -148,7 +148,7 @@ impl<'w, R: Wait, G: Gate> WorldPort<'w, R, G> {
     /// A port for the actor of the trace, whose turns at the world's sets these are. It takes no memory.
     pub fn new(
         rt: &'w R,
-        world: &'w World<'w>,
+        world: &'w SharedWorld<'w>,
         turns: WorkerTurns,
         trace: Trace,
         gate: &'w G,

@@ -21,7 +21,7 @@ use Rattle.map_ops.specs.declared.sweep.Sweep.TheVariants as sweeps
 use Rattle.helper_abi.specs.Numbers.{helper_at}
 use Rattle.helper_abi.specs.Reading.{shape_bytes, shape_of_kind, value_at, values_at, payload_text}
 use Rattle.helper_abi.specs.Steps.{wrote, frame_kept, got_into}
-use Rattle.map_ops.specs.Asking.{told, swept, printed}
+use Rattle.map_ops.specs.Asking.{tells, swept, printed}
 use Rattle.map_ops.specs.Holders.{part}
 
 -- what the helpers of an actor work on: the script's maps and formats by their numbers, the actor, and how many actors there are
@@ -84,19 +84,19 @@ set maps m key value s =
     in_range (value_map maps m) (λ decl.
     with_read (values_at s decl.key_shape key) (λ key.
     with_read (value_at s (shape_of_kind decl.kind) value) (λ value.
-    frame_kept s (told (part (map_id m) key) (ops.Set key value)))))
+    frame_kept s (tells (part (map_id m) key) (ops.Set key value)))))
 
 abbrev pub delete : List MapDecl → ℕ → ℕ → Spaces → Interaction Answer
 delete maps m key s =
     in_range (value_map maps m) (λ decl.
-    with_read (values_at s decl.key_shape key) (λ key. frame_kept s (told (part (map_id m) key) (ops.Delete key))))
+    with_read (values_at s decl.key_shape key) (λ key. frame_kept s (tells (part (map_id m) key) (ops.Delete key))))
 
 -- a number goes to the actor's own table
 abbrev pub aggregate : List MapDecl → ℕ → ℕ → ℕ → ℕ → Spaces → Interaction Answer
 aggregate maps actor m key number s =
     in_range (table_map maps m) (λ decl.
     with_read (values_at s decl.key_shape key) (λ key.
-    frame_kept s (told (Cpu actor) (ops.Add (map_id m) key (cast_signed w64 number)))))
+    frame_kept s (tells (Cpu actor) (ops.Add (map_id m) key (cast_signed w64 number)))))
 
 abbrev pub print : List MapDecl → ℕ → ℕ → ℕ → ℕ → Spaces → Interaction Answer
 print maps actors m top div s =
@@ -112,13 +112,13 @@ abbrev pub printf : List (List Piece) → ℕ → ℕ → Spaces → Interaction
 printf formats format address s =
     in_range (numbered formats format) (λ pieces.
     with_read (values_at s (argument_shapes pieces) address) (λ values.
-    frame_kept s (told Out (ops.Emit (items.Printf format values)))))
+    frame_kept s (tells Out (ops.Emit (items.Printf format values)))))
 
 abbrev pub exit : Spaces → Interaction Answer
-exit s = frame_kept s (told Clock ops.Stop)
+exit s = frame_kept s (tells Clock ops.Stop)
 
 abbrev pub cut : ℕ → Spaces → Interaction Answer
-cut line s = if_range (nat_lt line (2 ^ 32)) (frame_kept s (told Out (ops.Emit (items.Cut line))))
+cut line s = if_range (nat_lt line (2 ^ 32)) (frame_kept s (tells Out (ops.Emit (items.Cut line))))
 
 -- a string of the payload is written at an address, with no step
 abbrev pub read_str : ℕ → ℕ → ℕ → Spaces → Interaction Answer

@@ -1,4 +1,4 @@
--- What helpers ask of maps, and what is frame_kept after it.
+-- What helpers ask of maps, and what is answered after it.
 use Rattle.std.specs.Prelude.{ℕ, ◌-◌, List}
 use Rattle.bt_core.specs.declared.map.MapId.{MapId}
 use Rattle.bt_core.specs.declared.value.Value.{Value}

@@ -6,7 +6,7 @@ ghost use Rattle.bpf_interp.specs.Running.{Called};
 ghost use Rattle.map_ops.specs.Holders.{part};
 ghost use Rattle.helper_abi.specs.Served.{HasRoom};
 ghost use Rattle.helper_abi.specs.Steps.{frame_kept, got_into};
-ghost use Rattle.map_ops.specs.Asking.{told};
+ghost use Rattle.map_ops.specs.Asking.{tells};
 
 use crate::reading::put;
 use bpf_interp::ports::PortFault;
@@ -27,7 +27,7 @@ pub fn tell<P: Port>(
     memory: &Regions,
 ) -> Result<u64, PortFault>
     requires { CanStep (P.fixed port.old).setting object op }
-    ensures called { Called (frame_kept memory.now (told object op)) (P.steps port.old) (P.steps port.new) result memory.now.frame }
+    ensures called { Called (frame_kept memory.now (tells object op)) (P.steps port.old) (P.steps port.new) result memory.now.frame }
     ensures kept { P.fixed port.new ≡ P.fixed port.old }
 {
     match access::tell(alloc, object, op, port) {

@@ -19,7 +19,7 @@ use Rattle.ir_code.specs.declared.state.State.{State}
 use Rattle.ir_code.specs.Figures.{size_of, sizes_of, instr_slots, instrs_slots}
 use Rattle.ir_code.specs.Meaning.{Scene, instr_run, instrs_run, put, with_stack, popped, binary_on, unary_on, truth_on}
 use Rattle.ir_code.specs.Serving.{ends_read}
-use Rattle.ir_code.specs.Typing.{Ground, takes, gives, last_of, front_of, end_with, has_room, turned, may_stand, all_stand, all_turned}
+use Rattle.ir_code.specs.Typing.{Ground, operand_shapes, gives, last_of, front_of, end_with, has_room, turned, may_stand, all_stand, all_turned}
 use Rattle.ir_code.specs.Stacks.{top, below}
 use Rattle.map_ops.specs.Values.{number_of, holds, shape_of}
 use Rattle.ir_fold.specs.Folded.{Betters}
@@ -176,18 +176,18 @@ popped-is a s = ap (λ (l : List Value). with_stack s l) (below-append s.stack a
 after-put : (v : Value) (stack : List Shape) → turned (i.Put v) stack ≡ stack ++ shape_of v ∷ []
 after-put v stack = ap (λ (l : List Shape). l ++ shape_of v ∷ []) (front-none stack)
 
-over-one : (x : Instr) (h : Shape) (stack : List Shape) → length (takes x) ≡ 1 → turned x (stack ++ h ∷ []) ≡ stack ++ gives x
-over-one x h stack e = ap (λ (l : List Shape). l ++ gives x) (front-append (length (takes x)) stack (h ∷ []) (sym e))
+over-one : (x : Instr) (h : Shape) (stack : List Shape) → length (operand_shapes x) ≡ 1 → turned x (stack ++ h ∷ []) ≡ stack ++ gives x
+over-one x h stack e = ap (λ (l : List Shape). l ++ gives x) (front-append (length (operand_shapes x)) stack (h ∷ []) (sym e))
 
-over-two : (x : Instr) (h k : Shape) (stack : List Shape) → length (takes x) ≡ 2 → turned x ((stack ++ h ∷ []) ++ k ∷ []) ≡ stack ++ gives x
+over-two : (x : Instr) (h k : Shape) (stack : List Shape) → length (operand_shapes x) ≡ 2 → turned x ((stack ++ h ∷ []) ++ k ∷ []) ≡ stack ++ gives x
 over-two x h k stack e =
     ap (λ (l : List Shape). turned x l) (append_assoc stack (h ∷ []) (k ∷ []))
-    ∙ ap (λ (l : List Shape). l ++ gives x) (front-append (length (takes x)) stack (h ∷ k ∷ []) (sym e))
+    ∙ ap (λ (l : List Shape). l ++ gives x) (front-append (length (operand_shapes x)) stack (h ∷ k ∷ []) (sym e))
 
-one-turns : (a : Value) (x : Instr) (stack : List Shape) → length (takes x) ≡ 1 → turned x (turned (i.Put a) stack) ≡ stack ++ gives x
+one-turns : (a : Value) (x : Instr) (stack : List Shape) → length (operand_shapes x) ≡ 1 → turned x (turned (i.Put a) stack) ≡ stack ++ gives x
 one-turns a x stack e = ap (λ (l : List Shape). turned x l) (after-put a stack) ∙ over-one x (shape_of a) stack e
 
-two-turn : (a b : Value) (x : Instr) (stack : List Shape) → length (takes x) ≡ 2 → turned x (turned (i.Put b) (turned (i.Put a) stack)) ≡ stack ++ gives x
+two-turn : (a b : Value) (x : Instr) (stack : List Shape) → length (operand_shapes x) ≡ 2 → turned x (turned (i.Put b) (turned (i.Put a) stack)) ≡ stack ++ gives x
 two-turn a b x stack e =
     ap (λ (l : List Shape). turned x (turned (i.Put b) l)) (after-put a stack) ∙ ap (λ (l : List Shape). turned x l) (after-put b (stack ++ shape_of a ∷ []))
     ∙ over-two x (shape_of a) (shape_of b) stack e

@@ -20,7 +20,7 @@ use Rattle.ir_code.specs.declared.state.Way.TheVariants.{To}
 use Rattle.ir_code.specs.Meaning.{Scene, instr_run, instrs_run, exit_run, goes_on, block_run, run_from, popped, put, key_on, unkeyed, updated, stepped, count_way, counted, turn_way}
 use Rattle.map_ops.specs.declared.sweep.Sweep.TheVariants.{Clear, Zero}
 use Rattle.map_ops.specs.Holders.{part, kind_of}
-use Rattle.map_ops.specs.Asking.{told, got, swept, printed}
+use Rattle.map_ops.specs.Asking.{tells, got, swept, printed}
 use Rattle.ir_code.specs.Stacks.{top}
 use Rattle.ir_code.specs.Ways.{depth_in, depth_at, lies_below, leads}
 use Rattle.map_ops.specs.Values.{number_of, as_shape, holds}
@@ -67,18 +67,18 @@ one-keeps (i.Binary op) scene s = refl
 one-keeps (i.Compare equal) scene s = refl
 one-keeps i.Truth scene s = refl
 one-keeps (i.Get m key shape) scene s = asked s (got m (key_on key s)) (λ v. put (as_shape shape v) (unkeyed key s)) (λ a. refl)
-one-keeps (i.Set m key shape) scene s = asked s (told (part m (key_on key (popped s))) (ops.Set (key_on key (popped s)) (top s.stack))) (λ u. unkeyed key (popped s)) (λ a. refl)
-one-keeps (i.Delete m key) scene s = asked s (told (part m (key_on key s)) (ops.Delete (key_on key s))) (λ u. unkeyed key s) (λ a. refl)
+one-keeps (i.Set m key shape) scene s = asked s (tells (part m (key_on key (popped s))) (ops.Set (key_on key (popped s)) (top s.stack))) (λ u. unkeyed key (popped s)) (λ a. refl)
+one-keeps (i.Delete m key) scene s = asked s (tells (part m (key_on key s)) (ops.Delete (key_on key s))) (λ u. unkeyed key s) (λ a. refl)
 one-keeps (i.Update m key op) scene s = asked s (updated m (key_on key (popped s)) op (number_of (top s.stack))) (λ u. unkeyed key (popped s)) (λ a. refl)
 one-keeps (i.StepMap m key plus prefix) scene s = asked s (stepped m (key_on key s) plus prefix) (λ v. put v (unkeyed key s)) (λ a. refl)
-one-keeps (i.Add m key) scene s = asked s (told (Cpu scene.actor) (ops.Add m (key_on key (popped s)) (number_of (top s.stack)))) (λ u. unkeyed key (popped s)) (λ a. refl)
-one-keeps (i.Count m key) scene s = asked s (told (Cpu scene.actor) (ops.Add m (key_on key s) (pos 1))) (λ u. unkeyed key s) (λ a. refl)
-one-keeps (i.Printf format shapes) scene s = asked s (told Out (ops.Emit (items.Printf format (key_on shapes s)))) (λ u. unkeyed shapes s) (λ a. refl)
+one-keeps (i.Add m key) scene s = asked s (tells (Cpu scene.actor) (ops.Add m (key_on key (popped s)) (number_of (top s.stack)))) (λ u. unkeyed key (popped s)) (λ a. refl)
+one-keeps (i.Count m key) scene s = asked s (tells (Cpu scene.actor) (ops.Add m (key_on key s) (pos 1))) (λ u. unkeyed key s) (λ a. refl)
+one-keeps (i.Printf format shapes) scene s = asked s (tells Out (ops.Emit (items.Printf format (key_on shapes s)))) (λ u. unkeyed shapes s) (λ a. refl)
 one-keeps (i.Print m most div) scene s = asked s (printed (kind_of scene.maps m) m most div scene.actors) (λ u. s) (λ a. refl)
 one-keeps (i.Clear m) scene s = asked s (swept Clear (kind_of scene.maps m) m scene.actors) (λ u. s) (λ a. refl)
 one-keeps (i.Zero m) scene s = asked s (swept Zero (kind_of scene.maps m) m scene.actors) (λ u. s) (λ a. refl)
-one-keeps (i.Cut line) scene s = asked s (told Out (ops.Emit (items.Cut line))) (λ u. s) (λ a. refl)
-one-keeps i.Stop scene s = asked s (told Clock ops.Stop) (λ u. s) (λ a. refl)
+one-keeps (i.Cut line) scene s = asked s (tells Out (ops.Emit (items.Cut line))) (λ u. s) (λ a. refl)
+one-keeps i.Stop scene s = asked s (tells Clock ops.Stop) (λ u. s) (λ a. refl)
 one-keeps i.Pop scene s = refl
 
 all-keep : (xs : List Instr) (scene : Scene) (s : State) → Ends (Kept s) (instrs_run xs scene s)

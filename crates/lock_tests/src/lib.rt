@@ -1,7 +1,5 @@
-//! Tests of locks and of traces of stamped steps: what no clause of theirs says.
+//! Tests of locks: what no clause of theirs says.
 #![tactic(auto)]
 
 #[cfg(test)]
 mod locks;
-#[cfg(test)]
-mod traces;

@@ -17,8 +17,8 @@ use Rattle.map_ops.specs.Holders.{part, holder, holders, sweep_op}
 use Rattle.map_ops.specs.Values.{value_of}
 
 -- one call, whose reply says nothing
-abbrev pub told : ObjectId → Op → Interaction (Unit {0})
-told object op = and_then (ask object op) (λ reply. Ended tt)
+abbrev pub tells : ObjectId → Op → Interaction (Unit {0})
+tells object op = and_then (ask object op) (λ reply. Ended tt)
 
 -- the value under a key
 abbrev pub got : MapId → List Value → Interaction Value
@@ -35,4 +35,4 @@ swept sweep kind m actors = asked_from (holder kind m) (sweep_op sweep kind m) [
 
 -- all objects that hold the map are read, and then its merged rows are emitted, also where there are none
 abbrev pub printed : MapKind → MapId → ℕ → ℤ → ℕ → Interaction (Unit {0})
-printed kind m top div actors = and_then (swept Read kind m actors) (λ replies. told Out (ops.Emit (items.Map m (merged kind replies) top div)))
+printed kind m top div actors = and_then (swept Read kind m actors) (λ replies. tells Out (ops.Emit (items.Map m (merged kind replies) top div)))

@@ -4,7 +4,7 @@ ghost use Rattle.bt_core.specs.declared.step.Op.TheVariants as ops;
 ghost use Rattle.bt_core.specs.Interaction.{Performed};
 ghost use Rattle.bt_core.specs.Kinds.{IsOfKind};
 ghost use Rattle.bt_core.specs.Ports.{CanStep, Serves};
-ghost use Rattle.map_ops.specs.Asking.{told, got};
+ghost use Rattle.map_ops.specs.Asking.{tells, got};
 ghost use Rattle.map_ops.specs.Holders.{part};
 
 use crate::values::value_of;
@@ -31,7 +31,7 @@ pub fn part(map: MapId, key: &Key) -> ObjectId
 #[tactic(auto, using(bt_core::proofs::InteractionLaws::composing))]
 pub fn tell<P: Port>(alloc: Global, object: ObjectId, op: Op, port: &mut P) -> Result<(), Memory>
     requires { CanStep (P.fixed port.old).setting object op }
-    ensures performed { Performed (told object op) (P.steps port.old) (P.steps port.new) result }
+    ensures performed { Performed (tells object op) (P.steps port.old) (P.steps port.new) result }
     ensures kept { P.fixed port.new ≡ P.fixed port.old }
 {
     port.step(alloc, object, op)?;

@@ -17,12 +17,12 @@ use Rattle.bt_core.specs.declared.step.Reply.{Reply}
 use Rattle.bt_core.specs.declared.step.Reply.TheVariants as replies
 use Rattle.bt_core.specs.declared.value.Value.{Value}
 use Rattle.bt_core.specs.Kinds.{HasShape, IsAggOf, AreBucketsOf}
-use Rattle.agg_core.specs.Aggregates.{merged as merged_agg, both_counts, both_buckets}
+use Rattle.agg_core.specs.Aggregates.{agg_merged, both_counts, both_buckets}
 use Rattle.agg_core.specs.Changes.{is_key}
 use Rattle.agg_core.proofs.KeyLaws.{is_key-true}
 use Rattle.agg_core.proofs.SortedRows.{row_at}
 use Rattle.map_rows.specs.Fits.{IsCellOf, IsRowOf, IsReadReply}
-use Rattle.map_rows.specs.Merged.{all_rows, rows_in, agg_row, value_row, ordered_keys, cells_at, joined, both_cells, merged, HasRowsOf}
+use Rattle.map_rows.specs.Merged.{all_rows, rows_in, agg_row, value_row, ordered_keys, cells_at, joined_cells, both_cells, merged, HasRowsOf}
 use Rattle.map_rows.proofs.Entries.{names, has-ordered_keys, cells_at-cons}
 use Rattle.map_rows.proofs.KeyLists.{has_from_contains}
 
@@ -42,7 +42,7 @@ both_fit kind (held.Lhist cs) held.Plain e = e
 both_fit kind (held.Lhist cs) (held.Hist ds) e = e
 both_fit kind bs others e = absurd e
 
-merged_fits : (kind : MapKind) (a b : Agg) → IsAggOf kind a → IsAggOf kind (merged_agg a b)
+merged_fits : (kind : MapKind) (a b : Agg) → IsAggOf kind a → IsAggOf kind (agg_merged a b)
 merged_fits Ints a b e = absurd e
 merged_fits Strs a b e = absurd e
 merged_fits (Aggs kind) a b e = (e.0, record { kind = e.1.kind; counts = both_fit a.kind a.buckets b.buckets e.1.counts })
@@ -75,16 +75,16 @@ module _ (decl : MapDecl) where
       (all_fit rs (All-tail (IsReadReply decl) r rs all))
 
   -- a key of some row has the shape, and its first cell is of the kind
-  key_fits : (k : List Value) (rows : List (List Value × Cell)) → AllByRecursion (IsRowOf decl) rows → names k rows ≡ true → HasShape decl.key_shape k × IsCellOf decl.kind (joined (cells_at k rows))
+  key_fits : (k : List Value) (rows : List (List Value × Cell)) → AllByRecursion (IsRowOf decl) rows → names k rows ≡ true → HasShape decl.key_shape k × IsCellOf decl.kind (joined_cells (cells_at k rows))
   key_fits k [] all named = cc
-  key_fits k (r ∷ rs) all named = elim (is_key k r.0) as (λ t. is_key k r.0 ≡ t → (t || names k rs) ≡ true → HasShape decl.key_shape k × IsCellOf decl.kind (joined (cells_at k (r ∷ rs)))) [
+  key_fits k (r ∷ rs) all named = elim (is_key k r.0) as (λ t. is_key k r.0 ≡ t → (t || names k rs) ≡ true → HasShape decl.key_shape k × IsCellOf decl.kind (joined_cells (cells_at k (r ∷ rs)))) [
     | true ↦ (λ e q. (
       subst (HasShape decl.key_shape) (sym (is_key-true k r.0 e)) all.0.0,
-      subst (λ (held : List Cell). IsCellOf decl.kind (joined held)) (sym (cells_at-cons k r rs ∙ ap (λ (t : Bool). cond t (r.1 ∷ cells_at k rs) (cells_at k rs)) e)) (joined_fits decl.kind r.1 (cells_at k rs) all.0.1),
+      subst (λ (held : List Cell). IsCellOf decl.kind (joined_cells held)) (sym (cells_at-cons k r rs ∙ ap (λ (t : Bool). cond t (r.1 ∷ cells_at k rs) (cells_at k rs)) e)) (joined_fits decl.kind r.1 (cells_at k rs) all.0.1),
     ))
     | false ↦ (λ e q. (let rest = key_fits k rs all.1 q in (
       rest.0,
-      subst (λ (held : List Cell). IsCellOf decl.kind (joined held)) (sym (cells_at-cons k r rs ∙ ap (λ (t : Bool). cond t (r.1 ∷ cells_at k rs) (cells_at k rs)) e)) rest.1,
+      subst (λ (held : List Cell). IsCellOf decl.kind (joined_cells held)) (sym (cells_at-cons k r rs ∙ ap (λ (t : Bool). cond t (r.1 ∷ cells_at k rs) (cells_at k rs)) e)) rest.1,
     )))
   ] refl named
 
@@ -93,7 +93,7 @@ module _ (decl : MapDecl) where
   merged_fit rs all =
       let rows = all_rows decl.kind rs in let keys = ordered_keys rows in
       let fit = recursion_from_All (IsRowOf decl) rows (all_fit rs all) in
-      let cell : List Value → Cell = λ k. joined (cells_at k rows) in
+      let cell : List Value → Cell = λ k. joined_cells (cells_at k rows) in
       All-map (IsRowOf decl) (row_at cell) keys
       (All-weaker (Contains keys) (λ (k : List Value). IsRowOf decl (row_at cell k))
       (λ k c. key_fits k rows fit (sym (has-ordered_keys k rows) ∙ has_from_contains k keys c)) keys (All-contains_itself keys))

@@ -12,14 +12,14 @@ use Rattle.bt_core.specs.Order.{key_order}
 use Rattle.agg_core.specs.Changes.{is_key, with_key}
 use Rattle.agg_core.proofs.KeyLaws.{key_itself, Before, Same, After, side, is_key-same, is_key-before, is_key-after}
 use Rattle.agg_core.proofs.SortedRows.{Ascends, ascends-with_key, below-trans, row_at, rows_at, rows-insert}
-use Rattle.map_rows.specs.Merged.{ordered_keys, cells_at, joined, both_cells, merged_rows}
+use Rattle.map_rows.specs.Merged.{ordered_keys, cells_at, joined_cells, both_cells, merged_rows}
 use Rattle.map_rows.specs.Merging.{row_beside, with_row}
 use Rattle.map_rows.proofs.KeySets.{has, has-with_key, key_flip, below_none, same_keys}
 use Rattle.map_rows.proofs.Entries.{names, ascends-ordered_keys, has-ordered_keys, names-append, cells_at-append, cells_at-cons, cells_at-none, holds}
 
 -- what the rows hold at a key, joined
 abbrev cell_of : List (List Value × Cell) → List Value → Cell
-cell_of rows k = joined (cells_at k rows)
+cell_of rows k = joined_cells (cells_at k rows)
 
 all_pass : (ks : List (List Value)) → filter (λ _. true) ks ≡ ks
 all_pass [] = refl
@@ -69,19 +69,19 @@ module _ (rows : List (List Value × Cell)) (row : List Value × Cell) where
   cells_more k t e = cells_at-append k rows (row ∷ []) ∙ ap (λ (l : List Cell). cells_at k rows ++ l) (cells_at-cons k row [] ∙ ap (λ (b : Bool). cond b (row.1 ∷ []) []) e)
 
   others : (k : List Value) → is_key row.0 k ≡ false → cell_of rows k ≡ cell_of (rows ++ row ∷ []) k
-  others k e = ap joined (sym (cells_more k false (key_flip k row.0 ∙ e) ∙ append-nil (cells_at k rows)))
+  others k e = ap joined_cells (sym (cells_more k false (key_flip k row.0 ∙ e) ∙ append-nil (cells_at k rows)))
 
   here : cells_at row.0 (rows ++ row ∷ []) ≡ cells_at row.0 rows ++ row.1 ∷ []
   here = cells_more row.0 true (is_key-same row.0 row.0 refl)
 
   new_cell : names row.0 rows ≡ false → row.1 ≡ cell_of (rows ++ row ∷ []) row.0
-  new_cell e = ap joined (sym (here ∙ ap (λ (l : List Cell). l ++ row.1 ∷ []) (cells_at-none row.0 rows e)))
+  new_cell e = ap joined_cells (sym (here ∙ ap (λ (l : List Cell). l ++ row.1 ∷ []) (cells_at-none row.0 rows e)))
 
   more_cells : names row.0 rows ≡ true → both_cells (cell_of rows row.0) row.1 ≡ cell_of (rows ++ row ∷ []) row.0
   more_cells e = let h = holds row.0 rows e in
-      ap (λ (l : List Cell). both_cells (joined l) row.1) h.is
+      ap (λ (l : List Cell). both_cells (joined_cells l) row.1) h.is
       ∙ sym (fold-append both_cells h.first h.later (row.1 ∷ []))
-      ∙ ap joined (sym (here ∙ ap (λ (l : List Cell). l ++ row.1 ∷ []) h.is))
+      ∙ ap joined_cells (sym (here ∙ ap (λ (l : List Cell). l ++ row.1 ∷ []) h.is))
 
   inserted : insert_entry key_order (map (row_at (cell_of rows)) (ordered_keys rows)) row.0 (cell_of (rows ++ row ∷ []) row.0) ≡ merged_rows (rows ++ row ∷ [])
   inserted =

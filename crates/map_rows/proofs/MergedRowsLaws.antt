@@ -15,10 +15,10 @@ use Rattle.bt_core.specs.declared.step.Reply.{Reply}
 use Rattle.bt_core.specs.declared.step.Reply.TheVariants as replies
 use Rattle.bt_core.specs.declared.value.Value.{Value}
 use Rattle.bt_core.specs.Order.{key_order}
-use Rattle.agg_core.specs.Aggregates.{merged as merged_agg}
+use Rattle.agg_core.specs.Aggregates.{agg_merged}
 use Rattle.agg_core.specs.Changes.{is_key}
 use Rattle.agg_core.proofs.SortedRows.{row_at}
-use Rattle.map_rows.specs.Merged.{all_rows, rows_in, agg_row, value_row, ordered_keys, cells_at, joined, both_cells, merged}
+use Rattle.map_rows.specs.Merged.{all_rows, rows_in, agg_row, value_row, ordered_keys, cells_at, joined_cells, both_cells, merged}
 use Rattle.map_rows.specs.MergedRows.{IsFirst, IsMergedOf, StandsFor, AreMergedRows}
 use Rattle.map_rows.proofs.KeySets.{has, same_keys}
 use Rattle.map_rows.proofs.Entries.{names, ascends-ordered_keys, has-ordered_keys, cells_at-cons, holds}
@@ -83,9 +83,9 @@ cells_sort kind k (r ∷ rs) a = subst (OfSort kind) (sym (cells_at-cons k r rs)
     (elim (is_key k r.0) as (λ t. OfSort kind (cond t (r.1 ∷ cells_at k rs) (cells_at k rs))) [ true ↦ (a.0, cells_sort kind k rs a.1) | false ↦ cells_sort kind k rs a.1 ])
 
 -- aggregates are merged one after the other
-merged_in : (a : Agg) (later : List Agg) → fold both_cells (cells.Agg a) (map cells.Agg later) ≡ cells.Agg (fold merged_agg a later)
+merged_in : (a : Agg) (later : List Agg) → fold both_cells (cells.Agg a) (map cells.Agg later) ≡ cells.Agg (fold agg_merged a later)
 merged_in a [] = refl
-merged_in a (b ∷ bs) = merged_in (merged_agg a b) bs
+merged_in a (b ∷ bs) = merged_in (agg_merged a b) bs
 
 -- the first value stays
 first_stays : (v : Value) (later : List Cell) → fold both_cells (cells.Value v) later ≡ cells.Value v
@@ -105,15 +105,15 @@ aggregates_of kind (cells.Agg a ∷ cs) s = let rest = aggregates_of kind cs s.1
 
 -- what is joined stands under the key, where some cell is held
 module _ (kind : AggKind) where
-  joined_aggs : (first : Cell) (later : List Cell) → OfSort (Aggs kind) (first ∷ later) → IsMergedOf (first ∷ later) (joined (first ∷ later))
+  joined_aggs : (first : Cell) (later : List Cell) → OfSort (Aggs kind) (first ∷ later) → IsMergedOf (first ∷ later) (joined_cells (first ∷ later))
   joined_aggs (cells.Value v) later s = absurd s.0
   joined_aggs (cells.Agg a) later s = let rest = aggregates_of kind later s.1 in
       record { first = a; later = rest.aggs; aggregates = ap (λ (l : List Cell). cells.Agg a ∷ l) rest.is; is = ap (fold both_cells (cells.Agg a)) rest.is ∙ merged_in a rest.aggs }
 
-joined_values : (first : Cell) (later : List Cell) → (v : Value) → first ≡ cells.Value v → IsFirst (first ∷ later) (joined (first ∷ later))
+joined_values : (first : Cell) (later : List Cell) → (v : Value) → first ≡ cells.Value v → IsFirst (first ∷ later) (joined_cells (first ∷ later))
 joined_values first later v e = record { later = later; is = ap (λ (c : Cell). c ∷ later) (e ∙ sym (ap (λ (c : Cell). fold both_cells c later) e ∙ first_stays v later)) }
 
-joined_stands : (kind : MapKind) (first : Cell) (later : List Cell) → OfSort kind (first ∷ later) → StandsFor kind (first ∷ later) (joined (first ∷ later))
+joined_stands : (kind : MapKind) (first : Cell) (later : List Cell) → OfSort kind (first ∷ later) → StandsFor kind (first ∷ later) (joined_cells (first ∷ later))
 joined_stands (Aggs kind) first later s = joined_aggs kind first later s
 joined_stands Ints (cells.Value v) later s = joined_values (cells.Value v) later v refl
 joined_stands Ints (cells.Agg a) later s = absurd s.0
@@ -121,11 +121,11 @@ joined_stands Strs (cells.Value v) later s = joined_values (cells.Value v) later
 joined_stands Strs (cells.Agg a) later s = absurd s.0
 
 -- nothing else does
-first_is : (held : List Cell) (cell : Cell) (v : Value) → cell ≡ cells.Value v → IsFirst held cell → cell ≡ joined held
-first_is held cell v e f = e ∙ sym (first_stays v f.later) ∙ ap (λ (c : Cell). fold both_cells c f.later) (sym e) ∙ ap joined (sym f.is)
+first_is : (held : List Cell) (cell : Cell) (v : Value) → cell ≡ cells.Value v → IsFirst held cell → cell ≡ joined_cells held
+first_is held cell v e f = e ∙ sym (first_stays v f.later) ∙ ap (λ (c : Cell). fold both_cells c f.later) (sym e) ∙ ap joined_cells (sym f.is)
 
-stands_is : (kind : MapKind) (held : List Cell) (cell : Cell) → OfSort kind held → StandsFor kind held cell → cell ≡ joined held
-stands_is (Aggs kind) held cell s f = f.is ∙ sym (merged_in f.first f.later) ∙ ap joined (sym f.aggregates)
+stands_is : (kind : MapKind) (held : List Cell) (cell : Cell) → OfSort kind held → StandsFor kind held cell → cell ≡ joined_cells held
+stands_is (Aggs kind) held cell s f = f.is ∙ sym (merged_in f.first f.later) ∙ ap joined_cells (sym f.aggregates)
 stands_is Ints held (cells.Value v) s f = first_is held (cells.Value v) v refl f
 stands_is Ints held (cells.Agg a) s f = absurd (subst (OfSort Ints) f.is s).0
 stands_is Strs held (cells.Value v) s f = first_is held (cells.Value v) v refl f
@@ -151,7 +151,7 @@ module _ (kind : MapKind) (rs : List Reply) where
   rows = all_rows kind rs
 
   abbrev cell_at : List Value → Cell
-  cell_at k = joined (cells_at k rows)
+  cell_at k = joined_cells (cells_at k rows)
 
   has_in_order : (k : List Value) → has k (ordered_keys rows) ≡ has k (keys_of rows)
   has_in_order k = has-ordered_keys k rows ∙ sym (has_key k rows)
@@ -160,7 +160,7 @@ module _ (kind : MapKind) (rs : List Reply) where
   stands_at k c =
       let h = holds k rows (sym (has-ordered_keys k rows) ∙ has_from_contains k (ordered_keys rows) c) in
       let s = subst (OfSort kind) h.is (cells_sort kind k rows (all_sorts kind rs)) in
-      subst (λ (held : List Cell). StandsFor kind held (joined held)) (sym h.is) (joined_stands kind h.first h.later s)
+      subst (λ (held : List Cell). StandsFor kind held (joined_cells held)) (sym h.is) (joined_stands kind h.first h.later s)
 
   to_order : (k : List Value) → Contains (keys_of rows) k → Contains (ordered_keys rows) k
   to_order k c = contains_from_has k (ordered_keys rows) (has_in_order k ∙ has_from_contains k (keys_of rows) c)

@@ -11,7 +11,7 @@ use Rattle.bt_core.specs.declared.step.Reply.TheVariants as replies
 use Rattle.bt_core.specs.declared.value.Value.{Value}
 use Rattle.bt_core.specs.declared.value.Value.TheVariants.{Int}
 use Rattle.bt_core.specs.Kinds.{IsOfKind, IsAggOf}
-use Rattle.agg_core.specs.Aggregates.{merged as merged_agg}
+use Rattle.agg_core.specs.Aggregates.{agg_merged}
 use Rattle.agg_core.specs.Changes.{is_key, with_key}
 
 abbrev pub value_row : (List Value × Value) → (List Value × Cell)
@@ -42,17 +42,17 @@ cells_at key rows = map (λ row. row.1) (filter (λ row. is_key key row.0) rows)
 
 -- aggregates are merged, and of values the first stays
 abbrev pub both_cells : Cell → Cell → Cell
-both_cells (cells.Agg a) (cells.Agg b) = cells.Agg (merged_agg a b)
+both_cells (cells.Agg a) (cells.Agg b) = cells.Agg (agg_merged a b)
 both_cells cell later = cell
 
 -- all of them, one after the other; a key of some row has at least one
-abbrev pub joined : List Cell → Cell
-joined [] = cells.Value (Int (pos 0))
-joined (cell ∷ later) = fold both_cells cell later
+abbrev pub joined_cells : List Cell → Cell
+joined_cells [] = cells.Value (Int (pos 0))
+joined_cells (cell ∷ later) = fold both_cells cell later
 
 -- each key of the rows with what they hold under it
 abbrev pub merged_rows : List (List Value × Cell) → List (List Value × Cell)
-merged_rows rows = map (λ key. (key, joined (cells_at key rows))) (ordered_keys rows)
+merged_rows rows = map (λ key. (key, joined_cells (cells_at key rows))) (ordered_keys rows)
 
 -- the rows of a map of this kind: all keys of the replies in key order, each once, under each the merged aggregate of its
 -- aggregates, or the value of the first reply that holds it

@@ -11,7 +11,7 @@ use Rattle.bt_core.specs.declared.map.MapKind.TheVariants.{Aggs}
 use Rattle.bt_core.specs.declared.step.Reply.{Reply}
 use Rattle.bt_core.specs.declared.value.Value.{Value}
 use Rattle.bt_core.specs.Order.{key_order}
-use Rattle.agg_core.specs.Aggregates.{merged as merged_agg}
+use Rattle.agg_core.specs.Aggregates.{agg_merged}
 use Rattle.map_rows.specs.Merged.{all_rows, cells_at}
 
 -- the cell is the first of these
@@ -24,7 +24,7 @@ pub record IsMergedOf (held : List Cell) (cell : Cell) : Type 0 where
   pub first : Agg
   pub later : List Agg
   pub aggregates : held ≡ map cells.Agg (first ∷ later)
-  pub is : cell ≡ cells.Agg (fold merged_agg first later)
+  pub is : cell ≡ cells.Agg (fold agg_merged first later)
 
 -- what stands under a key whose rows hold these
 abbrev pub StandsFor : MapKind → List Cell → Cell → Type 0

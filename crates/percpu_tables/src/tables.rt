@@ -8,7 +8,7 @@ ghost use Rattle.bt_core.specs.Ports.{IsTableOp, IsReplyOf};
 ghost use Rattle.agg_core.specs.Answers.{table_answer};
 ghost use Rattle.turn_lock.specs.Calls.{mine};
 ghost use Rattle.stamped.specs.Numbered.{numbered};
-ghost use Rattle.stamped.specs.Sets as sets;
+ghost use Rattle.stamped.specs.Sets.{actors_of, ids_of, kinds_of};
 ghost use Rattle.stamped.specs.SetTurns.{AreNew};
 ghost use Rattle.stamped.specs.SetSteps.{AreOwn, Grows, IsRefused, AtObject};
 ghost use Rattle.stamped.specs.SetEnds.{law_for, AreClosed};
@@ -41,8 +41,8 @@ pub struct Tables {
     set: LockSet<CpuTable>,
     maps: Items<MapDecl>,
     ghost fine: { All IsFineDecl maps } by { fine_decls_prop maps },
-    ghost ids: { sets.ids_of set ≡ numbered Cpu 0 (sets.actors_of set) },
-    ghost kinds: { sets.kinds_of cpu_kind set ≡ numbered (λ _. maps) 0 (sets.actors_of set) },
+    ghost ids: { ids_of set ≡ numbered Cpu 0 (actors_of set) },
+    ghost kinds: { kinds_of cpu_kind set ≡ numbered (λ _. maps) 0 (actors_of set) },
 }
 
 // The place of the tables of an actor, and 0 for any other object.
@@ -56,7 +56,7 @@ fn place_of(object: ObjectId) -> usize
 }
 
 impl Tables {
-    ghost use Rattle.percpu_tables.specs.Tables.{maps_of, actors_of, ids_of, kinds_of, IsOf, AreAll};
+    ghost use Rattle.percpu_tables.specs.Tables.{table_maps, table_actors, table_ids, table_kinds, AreTableTurns, AreAllTableTurns};
 
     /// Tables for these maps that took no operation yet, for so many actors, and the turns of each actor at
     /// them, in the order of the actors whose tables they are. There is at least one actor, and the
@@ -70,9 +70,9 @@ impl Tables {
     ) -> Result<(Tables, Vec<Turns>), Memory>
         requires some { 0 < actors }
         requires fine { All IsFineDecl maps.now }
-        ensures maps { IfOk result (λ r. maps_of r.0 ≡ maps.now) }
-        ensures actors { IfOk result (λ r. actors_of r.0 ≡ actors) }
-        ensures turns { IfOk result (λ r. AreAll r.0 r.1.items) }
+        ensures maps { IfOk result (λ r. table_maps r.0 ≡ maps.now) }
+        ensures actors { IfOk result (λ r. table_actors r.0 ≡ actors) }
+        ensures turns { IfOk result (λ r. AreAllTableTurns r.0 r.1.items) }
         ensures fresh { IfOk result (λ r. AreNew r.1.items) }
     {
         let objects = new_tables(alloc, maps, actors)?;
@@ -104,23 +104,23 @@ impl Tables {
         op: Op,
         gate: &G,
     ) -> Result<(), Memory>
-        requires own { IsTableStep (maps_of self.now) (actors_of self.now) object op }
-        requires turns { IsOf self.now turns.old }
+        requires own { IsTableStep (table_maps self.now) (table_actors self.now) object op }
+        requires turns { AreTableTurns self.now turns.old }
         requires actor { turns.old.0 ≡ actor_of trace.old }
-        ensures turns { IsOf self.now turns.new × (turns.new.0 ≡ turns.old.0) }
+        ensures turns { AreTableTurns self.now turns.new × (turns.new.0 ≡ turns.old.0) }
         ensures actor { actor_of trace.new ≡ actor_of trace.old }
         ensures done { OnOk result (Grows object op trace.old trace.new) }
-        ensures replied { OnOk result (IsReplyOf (maps_of self.now) object op (last_reply (steps_of trace.new))) }
+        ensures replied { OnOk result (IsReplyOf (table_maps self.now) object op (last_reply (steps_of trace.new))) }
         ensures memory { OnErr result (IsSame trace.old trace.new × (map mine turns.new.1 ≡ map mine turns.old.1)) }
 
         // what of the trace is at each object
-        ensures own { AreOwn (ids_of self.now) turns.old.1 trace.old → AreOwn (ids_of self.now) turns.new.1 trace.new }
+        ensures own { AreOwn (table_ids self.now) turns.old.1 trace.old → AreOwn (table_ids self.now) turns.new.1 trace.new }
         ensures elsewhere { (o : ObjectId) → o ≢ object → at_object o trace.new ≡ at_object o trace.old }
 
         // with room that was reserved
-        ensures cause { let law = law_for (λ maps. IsTableOp maps) table_answer (actors_of self.now) (maps_of self.now) in
+        ensures cause { let law = law_for (λ maps. IsTableOp maps) table_answer (table_actors self.now) (table_maps self.now) in
             HasRoom trace.old → OnErr result
-            (AtObject (IsRefused law IsTableFree (clock_of trace.old) op) (ids_of self.now) object turns.old.1 turns.new.1) }
+            (AtObject (IsRefused law IsTableFree (clock_of trace.old) op) (table_ids self.now) object turns.old.1 turns.new.1) }
         ensures room { HasRoom trace.old → OnErr result (HasRoom trace.new) }
     {
         let place = place_of(object);
@@ -133,9 +133,9 @@ impl Tables {
     /// The tables stand for this history, which is legal and rises, and which has of each actor just its own
     /// list. After [`Memory`] all of them are dropped.
     pub fn close(self, alloc: Global, turns: Vec<Turns>) -> Result<Vec<(CpuTable, Joined)>, Memory>
-        requires { AreAll self turns.items }
+        requires { AreAllTableTurns self turns.items }
         ensures { IfOk result (λ closed.
-            AreClosed cpu_kind (λ maps. IsTableOp maps) table_answer CpuStands (actors_of self) (kinds_of self) turns.items closed.items) }
+            AreClosed cpu_kind (λ maps. IsTableOp maps) table_answer CpuStands (table_actors self) (table_kinds self) turns.items closed.items) }
     {
         let Tables { set, maps: _ } = self;
         set.close(alloc, turns)

@@ -26,13 +26,13 @@ const REST: &[u8] =
 
 /// An event at a time, or a mark of 6 lost ones.
 #[derive(Clone, Copy)]
-pub(crate) enum At {
+enum At {
     Event(u64),
     Lost(u64),
 }
 
 /// The bytes of a recording with these entries, which is of version 2 where it has marks.
-pub(crate) fn bytes_with(alloc: Global, entries: &[At]) -> Result<Vec<u8>, Memory> {
+fn bytes_with(alloc: Global, entries: &[At]) -> Result<Vec<u8>, Memory> {
     let marks = entries.iter().any(|entry| matches!(entry, At::Lost(_)));
     let mut bytes = Vec::from_slice(alloc, if marks { b"BTRACE02" } else { b"BTRACE01" })?;
     bytes.extend_from_slice(HEAD)?;

@@ -1,8 +1,7 @@
-//! Tests of format texts, of the fields of payloads, and of recordings, through the public calls of their crates.
+//! Tests of format texts and of recordings, through the public calls of their crates. Which bytes and texts are refused, and what
+//! fields of payloads are, worked cases of `bt_cases` show.
 #![tactic(auto)]
 
-#[cfg(test)]
-mod fields;
 #[cfg(test)]
 mod formats;
 #[cfg(test)]

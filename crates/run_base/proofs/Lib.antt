@@ -2,8 +2,4 @@ pub mod ArcKnown
 pub mod CodeLemmas
 pub mod EntriesKnown
 pub mod ItemsKnown
-pub mod KindLemmas
-pub mod MapReads
-pub mod MoreLemmas
-pub mod ReadLemmas
 pub mod TypesSay

@@ -6,7 +6,7 @@ use Rattle.bt_meaning.specs.Replays.{Replay}
 use Rattle.bpf_insn.specs.declared.insn.Insn.{Insn}
 use Rattle.code_bodies.specs.Coding.{coding}
 use Rattle.run_base.specs.declared.job.Job.{Job}
-use Rattle.run_base.specs.Worlds.{World}
+use Rattle.run_objects.specs.Worlds.{World}
 
 abbrev pub cpus_in : Job → ℕ
 cpus_in job = length job.recording.cpus

@@ -1,4 +1,2 @@
 pub mod Held
 pub mod Jobs
-pub mod Moments
-pub mod Worlds

@@ -7,7 +7,7 @@ use Rattle.bt_core.specs.declared.step.Op.{Op}
 use Rattle.bt_core.specs.declared.step.Step.{Step}
 use Rattle.step_objects.specs.CpuTables.{map_at}
 use Rattle.step_objects.specs.Objects.{shared_kind, SharedStands, cpu_kind, CpuStands}
-use Rattle.run_base.specs.Worlds.{World}
+use Rattle.run_objects.specs.Worlds.{World}
 use Rattle.run_objects.specs.declared.closed.Closed.{Closed}
 use Rattle.run_objects.specs.declared.objects.MapParts.{MapParts}
 use Rattle.run_objects.specs.declared.objects.Objects.{Objects}

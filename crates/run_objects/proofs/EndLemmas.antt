@@ -17,9 +17,9 @@ use Rattle.step_objects.specs.Objects.{shared_kind, SharedStands, cpu_kind, CpuS
 use Rattle.bt_meaning.specs.Prints.{read_of, lost_after}
 use Rattle.run_objects.specs.declared.closed.Closed.{Closed}
 use Rattle.run_objects.specs.Closed.{AreParts, AreClosedAt}
-use Rattle.run_base.specs.Moments.{Moment, table_reply, table_lost, part_reply, part_lost, of_first}
+use Rattle.run_objects.specs.Moments.{Moment, table_reply, table_lost, part_reply, part_lost, of_first}
 use Rattle.run_objects.specs.Objects.{AllStandAt, IsPartOf}
-use Rattle.run_base.proofs.MapReads.{table_reads, table_losses, part_reads, part_losses}
+use Rattle.run_objects.proofs.MapReads.{table_reads, table_losses, part_reads, part_losses}
 
 module _ (at : Moment) (closed : Closed) (m : MapId) (decl : MapDecl) (is : AreClosedAt at closed) (there : slice_get at.world.maps m.0 ≡ Some decl) where
   -- ---- an aggregation

@@ -15,14 +15,13 @@ use Rattle.bt_core.specs.declared.step.Op.{Op}
 use Rattle.step_objects.specs.Clocks.{clock_kind, ClockStands}
 use Rattle.step_objects.specs.CpuTables.{map_at}
 use Rattle.step_objects.specs.Objects.{shared_kind, SharedStands, cpu_kind, CpuStands}
-use Rattle.run_base.specs.declared.job.Job.{Job}
 use Rattle.run_objects.specs.declared.objects.MapParts.{MapParts}
 use Rattle.run_objects.specs.declared.objects.Objects.{Objects}
 use Rattle.run_objects.specs.declared.own.OwnObject.{OwnObject}
-use Rattle.run_base.specs.Jobs.{cpus_in, world_for}
-use Rattle.run_base.proofs.MoreLemmas.{count_more}
 use Rattle.run_objects.specs.News.{IsNew, AreNew, AreNewParts, NewMaps}
 use Rattle.run_objects.specs.Objects.{OwnStands, IsPartOf, Stand}
+use Rattle.run_objects.specs.Worlds.{World}
+use Rattle.run_objects.proofs.MoreLemmas.{count_more}
 
 last_at : {A : Type 0} (xs : List A) (x d : A) (k : ℕ) → length xs ≡ k → get_or (xs ++ x ∷ []) k d ≡ x
 last_at xs x d k e = get_or-append_right xs (x ∷ []) k k d e (omega arith) ∙ ap (λ n. get_or (x ∷ []) n d) (let z : k - k ≡ 0 = omega arith in z)
@@ -44,21 +43,21 @@ maps_more maps all new x decl k long there one is each m e d lt found =
 new_stands : {O K : Type 0} (kind_of : O → K) (holds : O → List Op → Type 0) (fits : K → Type 0) (kind : K) (object : ObjectId) (own : OwnObject O) → fits kind → IsNew kind_of holds kind own → OwnStands kind_of holds fits [] object own
 new_stands kind_of holds fits kind object own fit new = record { stands = record { fit = subst fits (sym new.same) fit; stood = new.stood }; clock = new.unstamped }
 
-pub new_stand : (job : Job) (objects : Objects) → NewMaps job.typed.maps objects.shared.items → AreNew cpu_kind CpuStands job.typed.maps objects.tables.items → length objects.tables.items ≡ cpus_in job + 1
-    → IsNew clock_kind ClockStands (record { cpus = cpus_in job; ticks = length job.attached.ticks }) objects.ticks → objects.out.clock ≡ 0 → Stand (world_for job) [] objects
-new_stand job objects maps tables count ticks out =
+pub new_stand : (w : World) (objects : Objects) → NewMaps w.maps objects.shared.items → AreNew cpu_kind CpuStands w.maps objects.tables.items → length objects.tables.items ≡ w.cpus + 1
+    → IsNew clock_kind ClockStands (record { cpus = w.cpus; ticks = w.ticks }) objects.ticks → objects.out.clock ≡ 0 → Stand w [] objects
+new_stand w objects maps tables count ticks out =
     let none : MapDecl = record { name = []; kind = Ints; key_shape = [] } in record {
       map_count = maps.count;
       shared = λ m d lt.
-          let decl = get_or job.typed.maps m none in
-          let there = slice_get-get_or job.typed.maps m none (let c = maps.count in omega arith) in
+          let decl = get_or w.maps m none in
+          let there = slice_get-get_or w.maps m none (let c = maps.count in omega arith) in
           let new = maps.each m decl d there in record {
             count = λ e found shared. (maps.each m e d found).count shared;
-            each = λ k x below. new_stands shared_kind SharedStands (IsPartOf job.typed.maps m) (record { map = map_at m; decl = decl }) (Shared (map_at m) k) (get_or (slice_index_or objects.shared.items m d).parts.items k x)
+            each = λ k x below. new_stands shared_kind SharedStands (IsPartOf w.maps m) (record { map = map_at m; decl = decl }) (Shared (map_at m) k) (get_or (slice_index_or objects.shared.items m d).parts.items k x)
                 (record { number = refl; declared = there }) (new.new k x below);
           };
       table_count = count;
-      tables = λ a x below. new_stands cpu_kind CpuStands (λ ms. ms ≡ job.typed.maps) job.typed.maps (Cpu a) (get_or objects.tables.items a x) refl (tables a x below);
-      ticks = new_stands clock_kind ClockStands (λ of. of ≡ record { cpus = cpus_in job; ticks = length job.attached.ticks }) (record { cpus = cpus_in job; ticks = length job.attached.ticks }) Clock objects.ticks refl ticks;
+      tables = λ a x below. new_stands cpu_kind CpuStands (λ ms. ms ≡ w.maps) w.maps (Cpu a) (get_or objects.tables.items a x) refl (tables a x below);
+      ticks = new_stands clock_kind ClockStands (λ of. of ≡ record { cpus = w.cpus; ticks = w.ticks }) (record { cpus = w.cpus; ticks = w.ticks }) Clock objects.ticks refl ticks;
       out = out;
     }

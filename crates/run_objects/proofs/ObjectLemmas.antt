@@ -33,8 +33,8 @@ use Rattle.run_objects.specs.declared.own.OwnObject.{OwnObject}
 use Rattle.run_objects.specs.declared.objects.MapParts.{MapParts}
 use Rattle.run_objects.specs.declared.objects.Objects.{Objects}
 use Rattle.run_objects.specs.Took.{Took, TookAt}
-use Rattle.run_base.proofs.ReadLemmas.{same_decl}
-use Rattle.run_base.specs.Worlds.{World, IsOwn}
+use Rattle.run_objects.proofs.ReadLemmas.{same_decl}
+use Rattle.run_objects.specs.Worlds.{World, IsOwn}
 use Rattle.run_objects.specs.Objects.{OwnStands, AllStand, IsPartOf, PartsStand, Stand, IsAnswer}
 
 greatest_snoc : (ss : List Step) (s : Step) → greatest ss ≤ s.stamp → greatest (ss ++ s ∷ []) ≡ s.stamp

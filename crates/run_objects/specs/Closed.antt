@@ -10,8 +10,8 @@ use Rattle.turn_lock.specs.History.{Each}
 use Rattle.step_objects.specs.declared.shared.SharedPart.{SharedPart}
 use Rattle.step_objects.specs.CpuTables.{map_at}
 use Rattle.step_objects.specs.Objects.{shared_kind, SharedStands, cpu_kind, CpuStands}
-use Rattle.run_base.specs.Moments.{Moment}
-use Rattle.run_base.specs.Worlds.{World, IsOwn}
+use Rattle.run_objects.specs.Moments.{Moment}
+use Rattle.run_objects.specs.Worlds.{World, IsOwn}
 use Rattle.run_objects.specs.declared.closed.Closed.{Closed}
 use Rattle.run_objects.specs.declared.objects.MapParts.{MapParts}
 use Rattle.run_objects.specs.declared.own.OwnObject.{OwnObject}

@@ -17,7 +17,7 @@ use Rattle.weave.specs.Lists.{greatest}
 use Rattle.run_objects.specs.declared.own.OwnObject.{OwnObject}
 use Rattle.run_objects.specs.declared.objects.MapParts.{MapParts}
 use Rattle.run_objects.specs.declared.objects.Objects.{Objects}
-use Rattle.run_base.specs.Worlds.{World, answers}
+use Rattle.run_objects.specs.Worlds.{World, answers}
 
 -- objects of a type, by their kinds and the operations that they stand for
 module _ {O K : Type 0} (kind_of : O → K) (holds : O → List Op → Type 0) (fits : K → Type 0) (steps : List Step) where

@@ -1,7 +1,7 @@
 // The objects of a run that has ended.
 ghost use Rattle.std.specs.Prelude.{◌≡◌, List, map, IfOk};
 ghost use Rattle.bt_core.specs.declared.step.Step.{Step};
-ghost use Rattle.run_base.specs.Worlds.{World};
+ghost use Rattle.run_objects.specs.Worlds.{World};
 ghost use Rattle.run_objects.specs.Closed.{object_of, objects_in, part_list, MapsStand};
 ghost use Rattle.run_objects.specs.Objects.{Stand};
 

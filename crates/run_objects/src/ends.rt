@@ -2,9 +2,10 @@
 ghost use Rattle.std.specs.Prelude.{◌≡◌, ◌<◌, ◌^◌, Some, slice_get, length, All, IfOk};
 ghost use Rattle.bt_meaning.specs.Prints.{read_of, rows_after, lost_after, of_maps};
 ghost use Rattle.run_objects.specs.Closed.{AreClosedAt};
-ghost use Rattle.run_base.specs.Moments.{Moment};
+ghost use Rattle.run_objects.specs.Moments.{Moment};
 
 use crate::closed::Closed;
+use crate::numbers::number;
 use crate::reads::{part_losses, part_replies, table_losses, table_replies};
 use bt_core::item::Cell;
 use bt_core::items::Items;
@@ -13,7 +14,6 @@ use bt_core::map::{MapDecl, MapId, MapKind};
 use bt_core::memory::Memory;
 use bt_core::step::Reply;
 use map_rows::merging::merged;
-use run_base::numbers::number;
 use std::alloc::Global;
 
 /// What the objects that hold a map reply to who reads it.

@@ -3,18 +3,16 @@ ghost use Rattle.std.specs.Prelude.{◌≡◌, ◌+◌, ◌<◌, ◌^◌, [], le
 ghost use Rattle.bt_core.specs.Kinds.{IsFineDecl, IsShared};
 ghost use Rattle.bt_core.specs.declared.limits.TheConstants.{PARTS as ALL_PARTS};
 ghost use Rattle.step_objects.specs.Objects.{shared_kind, SharedStands, cpu_kind, CpuStands};
-ghost use Rattle.run_base.specs.Jobs.{cpus_in, world_for};
 ghost use Rattle.run_objects.specs.News.{AreNew, AreNewParts, NewMaps};
 ghost use Rattle.run_objects.specs.Objects.{Stand};
 
+use crate::numbers::number;
 use crate::objects::{MapParts, Objects};
 use crate::own::OwnObject;
 use bt_core::items::Items;
 use bt_core::limits::PARTS;
 use bt_core::map::{MapDecl, MapId, MapKind};
 use bt_core::memory::{Memory, TryCopy};
-use run_base::job::Job;
-use run_base::numbers::number;
 use std::alloc::Global;
 use step_objects::clock::TickClock;
 use step_objects::cpu::CpuTable;
@@ -77,21 +75,22 @@ fn tables_of(
     Ok(tables)
 }
 
-/// The objects of a job, which no step was made at.
+/// The objects of a world with these maps, so many CPUs and so many ticks, which no step was made at.
 ///
 /// # Errors
 ///
 /// [`Memory`] is the one error.
-pub fn new_objects(alloc: Global, job: &Job) -> Result<Objects, Memory>
-    requires fine { All IsFineDecl job.now.typed.maps }
-    requires some_cpus { 0 < cpus_in job.now }
-    requires few_cpus { cpus_in job.now + 1 < 2 ^ 32 }
-    requires few_ticks { length job.now.attached.ticks < 2 ^ 32 }
-    ensures { IfOk result (λ objects. Stand (world_for job.now) [] objects) }
+pub fn new_objects(
+    alloc: Global,
+    maps: &Items<MapDecl>,
+    cpus: u32,
+    ticks: u32,
+) -> Result<Objects, Memory>
+    requires fine { All IsFineDecl maps.now }
+    requires some_cpus { 0 < cpus }
+    requires few_cpus { cpus + 1 < 2 ^ 32 }
+    ensures { IfOk result (λ objects. Stand (record { cpus = cpus; ticks = ticks; maps = maps.now }) [] objects) }
 {
-    let cpus = job.recording.cpus.len() as u32;
-    let ticks = job.attached.ticks.len() as u32;
-    let maps = &job.typed.maps;
     let shared = parts_of_all(alloc, maps.as_slice())?;
     let tables = tables_of(alloc, maps, cpus + 1)?;
     let clock = TickClock::new(alloc, cpus, ticks)?;

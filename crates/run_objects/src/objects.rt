@@ -1,7 +1,7 @@
 // The objects of a run on one thread.
 ghost use Rattle.std.specs.Prelude.{List, IfOk, OnErr};
 ghost use Rattle.bt_core.specs.declared.step.Step.{Step};
-ghost use Rattle.run_base.specs.Worlds.{World, IsOwn};
+ghost use Rattle.run_objects.specs.Worlds.{World, IsOwn};
 ghost use Rattle.run_objects.specs.Objects.{Stand, IsAnswer};
 
 use crate::own::{OwnObject, take_in};

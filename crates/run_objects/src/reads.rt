@@ -4,13 +4,13 @@ ghost use Rattle.bt_core.specs.declared.map.MapDecl.{MapDecl};
 ghost use Rattle.bt_core.specs.declared.step.ObjectId.TheVariants.{Shared as PartOf, Cpu as TablesOf};
 ghost use Rattle.bt_core.specs.declared.step.Step.{Step};
 ghost use Rattle.step_objects.specs.Objects.{cpu_kind, CpuStands, shared_kind, SharedStands, IsAggMap};
-ghost use Rattle.run_base.specs.Moments.{table_reply, table_lost, part_reply, part_lost, of_first};
+ghost use Rattle.run_objects.specs.Moments.{table_reply, table_lost, part_reply, part_lost, of_first};
 ghost use Rattle.run_objects.specs.Objects.{AllStandAt, IsPartOf};
 
+use crate::numbers::sum;
 use bt_core::map::MapId;
 use bt_core::memory::Memory;
 use bt_core::step::Reply;
-use run_base::numbers::sum;
 use std::alloc::Global;
 use step_objects::cpu::CpuTable;
 use step_objects::shared::SharedPart;

@@ -1,39 +1,51 @@
 // Formats whose pieces, or whose bad place, were worked out by hand.
 use bt_core::items::Items;
-use bt_core::memory::Memory;
 use fmt_text::laws::one_answer;
 use fmt_text::piece::{FormatFault, Piece};
 use fmt_text::read::read_format;
-use std::alloc::Global;
 use std::test::Fail;
-
-fn literal(alloc: Global, bytes: &[u8]) -> Result<Piece, Memory> {
-    Ok(Piece::Literal(Items::from_slice(alloc, bytes)?))
-}
-
-fn conversion(left: bool, zero: bool, width: u32, letter: u8) -> Piece {
-    Piece::Conversion {
-        left,
-        zero,
-        width,
-        letter,
-    }
-}
 
 #[test]
 fn formats_have_pieces(rt: HostRuntime) -> Result<(), Fail> {
     let alloc = rt.alloc();
-    let mut pieces = Items::new(alloc);
-    pieces.push(conversion(true, false, 6, b's'))?;
-    pieces.push(literal(alloc, b"|")?)?;
-    pieces.push(conversion(false, false, 5, b'd'))?;
-    pieces.push(literal(alloc, b"|%")?)?;
-    pieces.push(conversion(false, true, 8, b'x'))?;
-    pieces.push(conversion(true, true, 255, b'X'))?;
-    pieces.push(conversion(false, false, 0, b'c'))?;
-    pieces.push(literal(alloc, b"%\n")?)?;
-    assert!(rt; read_format(alloc, b"%-6s|%5d|%%%08llx%0-255hhX%c%%\n") == Ok(pieces));
-    assert!(rt; read_format(alloc, b"") == Ok(Items::new(alloc)));
+    let wanted = [
+        Piece::Conversion {
+            left: true,
+            zero: false,
+            width: 6,
+            letter: b's',
+        },
+        Piece::Literal(Items::from_slice(alloc, b"|")?),
+        Piece::Conversion {
+            left: false,
+            zero: false,
+            width: 5,
+            letter: b'd',
+        },
+        Piece::Literal(Items::from_slice(alloc, b"|%")?),
+        Piece::Conversion {
+            left: false,
+            zero: true,
+            width: 8,
+            letter: b'x',
+        },
+        Piece::Conversion {
+            left: true,
+            zero: true,
+            width: 255,
+            letter: b'X',
+        },
+        Piece::Conversion {
+            left: false,
+            zero: false,
+            width: 0,
+            letter: b'c',
+        },
+        Piece::Literal(Items::from_slice(alloc, b"%\n")?),
+    ];
+    let pieces = read_format(alloc, b"%-6s|%5d|%%%08llx%0-255hhX%c%%\n")?;
+    assert!(rt; pieces.as_slice() == wanted.as_slice());
+    assert!(rt; read_format(alloc, b"")?.as_slice().is_empty());
     one_answer();
     Ok(())
 }

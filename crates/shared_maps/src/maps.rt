@@ -5,7 +5,7 @@ ghost use Rattle.bt_core.specs.Interaction.{last_reply};
 ghost use Rattle.bt_core.specs.Ports.{IsSharedOp, IsReplyOf};
 ghost use Rattle.agg_core.specs.Answers.{shared_answer};
 ghost use Rattle.turn_lock.specs.Calls.{mine};
-ghost use Rattle.stamped.specs.Sets as sets;
+ghost use Rattle.stamped.specs.Sets.{ids_of, kinds_of};
 ghost use Rattle.stamped.specs.SetTurns.{AreNew};
 ghost use Rattle.stamped.specs.SetSteps.{AreOwn, Grows};
 ghost use Rattle.stamped.specs.SetEnds.{AreClosed};
@@ -38,13 +38,13 @@ pub struct SharedMaps {
     set: LockSet<SharedPart>,
     maps: Items<MapDecl>,
     firsts: Vec<u32>,
-    ghost ids: { sets.ids_of set ≡ map (λ (part : Part). part.0) (parts_from 0 maps) },
-    ghost kinds: { sets.kinds_of shared_kind set ≡ map (λ (part : Part). part.1) (parts_from 0 maps) },
+    ghost ids: { ids_of set ≡ map (λ (part : Part). part.0) (parts_from 0 maps) },
+    ghost kinds: { kinds_of shared_kind set ≡ map (λ (part : Part). part.1) (parts_from 0 maps) },
     ghost places: { firsts.items ≡ firsts_from 0 maps },
 }
 
 impl SharedMaps {
-    ghost use Rattle.shared_maps.specs.Maps.{maps_of, actors_of, ids_of, kinds_of, IsOf, AreAll};
+    ghost use Rattle.shared_maps.specs.Maps.{part_maps, part_actors, part_ids, part_kinds, ArePartTurns, AreAllPartTurns};
 
     /// Parts of these maps that took no operation yet, and the turns of so many actors at them, one at each
     /// part, in the order of the maps and their parts. There is at least one actor. No turn has an entry.
@@ -56,9 +56,9 @@ impl SharedMaps {
         actors: u32,
     ) -> Result<(SharedMaps, Vec<Turns>), Memory>
         requires some { 0 < actors }
-        ensures maps { IfOk result (λ r. maps_of r.0 ≡ maps.now) }
-        ensures actors { IfOk result (λ r. actors_of r.0 ≡ actors) }
-        ensures turns { IfOk result (λ r. AreAll r.0 r.1.items) }
+        ensures maps { IfOk result (λ r. part_maps r.0 ≡ maps.now) }
+        ensures actors { IfOk result (λ r. part_actors r.0 ≡ actors) }
+        ensures turns { IfOk result (λ r. AreAllPartTurns r.0 r.1.items) }
         ensures fresh { IfOk result (λ r. AreNew r.1.items) }
     {
         let (objects, firsts) = new_parts(alloc, maps.as_slice())?;
@@ -73,8 +73,8 @@ impl SharedMaps {
 
     // The place of a part.
     fn place_of(&self, object: ObjectId) -> usize
-        requires { IsPart (maps_of self.now) object }
-        ensures { IsSomeAnd (slice_get (parts_from 0 (maps_of self.now)) result) (IsPartFor (maps_of self.now) object) }
+        requires { IsPart (part_maps self.now) object }
+        ensures { IsSomeAnd (slice_get (parts_from 0 (part_maps self.now)) result) (IsPartFor (part_maps self.now) object) }
     {
         match object {
             ObjectId::Shared { map, part } => self.firsts[map.0 as usize] as usize + part as usize,
@@ -102,22 +102,22 @@ impl SharedMaps {
         op: Op,
         gate: &G,
     ) -> Result<(), Memory>
-        requires own { IsPartStep (maps_of self.now) object op }
-        requires turns { IsOf self.now turns.old }
+        requires own { IsPartStep (part_maps self.now) object op }
+        requires turns { ArePartTurns self.now turns.old }
         requires actor { turns.old.0 ≡ actor_of trace.old }
-        ensures turns { IsOf self.now turns.new × (turns.new.0 ≡ turns.old.0) }
+        ensures turns { ArePartTurns self.now turns.new × (turns.new.0 ≡ turns.old.0) }
         ensures actor { actor_of trace.new ≡ actor_of trace.old }
         ensures done { OnOk result (Grows object op trace.old trace.new) }
-        ensures replied { OnOk result (IsReplyOf (maps_of self.now) object op (last_reply (steps_of trace.new))) }
+        ensures replied { OnOk result (IsReplyOf (part_maps self.now) object op (last_reply (steps_of trace.new))) }
         ensures memory { OnErr result (IsSame trace.old trace.new × (map mine turns.new.1 ≡ map mine turns.old.1)) }
 
         // what of the trace is at each object
-        ensures own { AreOwn (ids_of self.now) turns.old.1 trace.old → AreOwn (ids_of self.now) turns.new.1 trace.new }
+        ensures own { AreOwn (part_ids self.now) turns.old.1 trace.old → AreOwn (part_ids self.now) turns.new.1 trace.new }
         ensures elsewhere { (o : ObjectId) → o ≢ object → at_object o trace.new ≡ at_object o trace.old }
 
         // with room that was reserved
         ensures cause { HasRoom trace.old → OnErr result
-            (RefusesAt (actors_of self.now) (parts_from 0 (maps_of self.now)) object (clock_of trace.old) op turns.old.1 turns.new.1) }
+            (RefusesAt (part_actors self.now) (parts_from 0 (part_maps self.now)) object (clock_of trace.old) op turns.old.1 turns.new.1) }
         ensures room { HasRoom trace.old → OnErr result (HasRoom trace.new) }
     {
         let place = self.place_of(object);
@@ -133,9 +133,9 @@ impl SharedMaps {
         alloc: Global,
         turns: Vec<Turns>,
     ) -> Result<Vec<(SharedPart, Joined)>, Memory>
-        requires { AreAll self turns.items }
+        requires { AreAllPartTurns self turns.items }
         ensures { IfOk result (λ closed. AreClosed shared_kind (λ of. IsSharedOp of.decl) (λ of. shared_answer of.decl.kind)
-            SharedStands (actors_of self) (kinds_of self) turns.items closed.items) }
+            SharedStands (part_actors self) (part_kinds self) turns.items closed.items) }
     {
         let SharedMaps {
             set,

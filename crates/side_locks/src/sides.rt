@@ -5,7 +5,7 @@ ghost use Rattle.bt_core.specs.declared.step.ObjectId.TheVariants.{Clock as TheC
 ghost use Rattle.bt_core.specs.Interaction.{last_reply};
 ghost use Rattle.bt_core.specs.Ports.{IsReplyOf};
 ghost use Rattle.stamped.specs.Rows.{firsts};
-ghost use Rattle.stamped.specs.Sets as sets;
+ghost use Rattle.stamped.specs.Sets.{actors_of, ids_of, kinds_of, AreAllSetTurns};
 ghost use Rattle.stamped.specs.SetTurns.{AreNew};
 ghost use Rattle.stamped.specs.SetSteps.{Grows};
 ghost use Rattle.stamped.specs.SetEnds.{IsClosed};
@@ -38,12 +38,12 @@ pub struct SideLocks {
     out: LockSet<OutLog>,
     cpus: u32,
     ticks: u32,
-    ghost clock_id: { sets.ids_of clock ≡ TheClock ∷ [] },
-    ghost clock_is: { sets.kinds_of clock_kind clock ≡ record { cpus = cpus; ticks = ticks } ∷ [] },
-    ghost clock_actors: { sets.actors_of clock ≡ cpus + 1 },
-    ghost out_id: { sets.ids_of out ≡ TheOut ∷ [] },
-    ghost out_is: { sets.kinds_of (λ _. tt) out ≡ tt ∷ [] },
-    ghost out_actors: { sets.actors_of out ≡ cpus + 1 },
+    ghost clock_id: { ids_of clock ≡ TheClock ∷ [] },
+    ghost clock_is: { kinds_of clock_kind clock ≡ record { cpus = cpus; ticks = ticks } ∷ [] },
+    ghost clock_actors: { actors_of clock ≡ cpus + 1 },
+    ghost out_id: { ids_of out ≡ TheOut ∷ [] },
+    ghost out_is: { kinds_of (λ _. tt) out ≡ tt ∷ [] },
+    ghost out_actors: { actors_of out ≡ cpus + 1 },
 }
 
 // A lock round one object that has taken no operation yet, and the turns of each actor at it.
@@ -55,10 +55,10 @@ fn one_lock<O: SeqObject>(
 ) -> Result<(LockSet<O>, Vec<Turns>), Memory>
     requires actors { 0 < actors }
     requires object { O.stands_for object [] }
-    ensures id { IfOk result (λ r. sets.ids_of r.0 ≡ id ∷ []) }
-    ensures kind { IfOk result (λ r. sets.kinds_of O.kind r.0 ≡ O.kind object ∷ []) }
-    ensures actors { IfOk result (λ r. sets.actors_of r.0 ≡ actors) }
-    ensures turns { IfOk result (λ r. sets.AreAll r.0 r.1.items) }
+    ensures id { IfOk result (λ r. ids_of r.0 ≡ id ∷ []) }
+    ensures kind { IfOk result (λ r. kinds_of O.kind r.0 ≡ O.kind object ∷ []) }
+    ensures actors { IfOk result (λ r. actors_of r.0 ≡ actors) }
+    ensures turns { IfOk result (λ r. AreAllSetTurns r.0 r.1.items) }
     ensures fresh { IfOk result (λ r. AreNew r.1.items) }
 {
     let mut objects = Vec::with_capacity(alloc, 1)?;
@@ -67,7 +67,7 @@ fn one_lock<O: SeqObject>(
 }
 
 impl SideLocks {
-    ghost use Rattle.side_locks.specs.Sides.{kind_of, actors_of, IsOf, AreAll};
+    ghost use Rattle.side_locks.specs.Sides.{side_kind, side_actors, AreSideTurns, AreAllSideTurns};
 
     /// A clock for so many CPUs and ticks and an output, which took no operation yet, and the turns of each
     /// CPU and of the main actor at both. There is at least one CPU. No turn has an entry.
@@ -76,8 +76,8 @@ impl SideLocks {
     pub fn new(alloc: Global, cpus: u32, ticks: u32) -> Result<(SideLocks, Vec<SideTurns>), Memory>
         requires some { 0 < cpus }
         requires few { cpus < 2 ^ 32 - 1 }
-        ensures kind { IfOk result (λ r. kind_of r.0 ≡ record { cpus = cpus; ticks = ticks }) }
-        ensures turns { IfOk result (λ r. AreAll r.0 r.1.items) }
+        ensures kind { IfOk result (λ r. side_kind r.0 ≡ record { cpus = cpus; ticks = ticks }) }
+        ensures turns { IfOk result (λ r. AreAllSideTurns r.0 r.1.items) }
         ensures fresh { IfOk result (λ r. AreNew (clocks r.1.items) × AreNew (outs r.1.items)) }
     {
         let actors = cpus + 1;
@@ -113,10 +113,10 @@ impl SideLocks {
         op: Op,
         gate: &G,
     ) -> Result<(), Memory>
-        requires own { IsSideStep (kind_of self.now).ticks object op }
-        requires turns { IsOf self.now turns.old }
+        requires own { IsSideStep (side_kind self.now).ticks object op }
+        requires turns { AreSideTurns self.now turns.old }
         requires actor { AreBy (actor_of trace.old) turns.old }
-        ensures turns { IsOf self.now turns.new × AreBy (actor_of trace.old) turns.new }
+        ensures turns { AreSideTurns self.now turns.new × AreBy (actor_of trace.old) turns.new }
         ensures actor { actor_of trace.new ≡ actor_of trace.old }
         ensures done { OnOk result (Grows object op trace.old trace.new) }
         ensures replied { OnOk result (IsReplyOf [] object op (last_reply (steps_of trace.new))) }
@@ -127,7 +127,7 @@ impl SideLocks {
         ensures elsewhere { (o : ObjectId) → o ≢ object → at_object o trace.new ≡ at_object o trace.old }
 
         // with room that was reserved
-        ensures cause { HasRoom trace.old → OnErr result (RefusesAt (kind_of self.now) object (clock_of trace.old) op turns.old turns.new) }
+        ensures cause { HasRoom trace.old → OnErr result (RefusesAt (side_kind self.now) object (clock_of trace.old) op turns.old turns.new) }
         ensures room { HasRoom trace.old → OnErr result (HasRoom trace.new) }
     {
         match object {
@@ -150,10 +150,10 @@ impl SideLocks {
         alloc: Global,
         turns: Vec<SideTurns>,
     ) -> Result<((TickClock, Joined), (OutLog, Joined)), Memory>
-        requires { AreAll self turns.items }
-        ensures clock { IfOk result (λ r. IsClosed clock_kind own_of_clock reply_of_clock ClockStands (actors_of self) (kind_of self)
+        requires { AreAllSideTurns self turns.items }
+        ensures clock { IfOk result (λ r. IsClosed clock_kind own_of_clock reply_of_clock ClockStands (side_actors self) (side_kind self)
             (firsts (clocks turns.items)) r.0.0 r.0.1) }
-        ensures out { IfOk result (λ r. IsClosed (λ _. tt) own_of_out reply_of_out (λ _ _. Unit {0}) (actors_of self) tt
+        ensures out { IfOk result (λ r. IsClosed (λ _. tt) own_of_out reply_of_out (λ _ _. Unit {0}) (side_actors self) tt
             (firsts (outs turns.items)) r.1.0 r.1.1) }
     {
         let SideLocks {

@@ -19,8 +19,8 @@ use Rattle.step_objects.specs.CpuTables.{map_at}
 use Rattle.step_objects.specs.Objects.{shared_kind, SharedStands, cpu_kind, CpuStands}
 use Rattle.shared_maps.specs.Parts.{part_at, parts_in, parts_from}
 use Rattle.run_ends.specs.Closed.{AllStand}
-use Rattle.run_base.specs.Worlds.{World}
-use Rattle.run_base.proofs.ReadLemmas.{same_decl}
+use Rattle.run_objects.specs.Worlds.{World}
+use Rattle.run_objects.proofs.ReadLemmas.{same_decl}
 use Rattle.run_objects.specs.declared.closed.Closed.{Closed}
 use Rattle.run_objects.specs.Closed.{part_list, AreParts, MapsStand}
 use Rattle.run_objects.specs.Objects.{StandsAt, AllStandAt, IsPartOf}

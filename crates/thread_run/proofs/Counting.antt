@@ -21,7 +21,7 @@ use Rattle.bt_meaning.specs.Interleavings.{IsInterleaving, IsReplayed, IsWhole}
 use Rattle.bt_meaning.specs.Replays.{PlansAreOwn, Replay, answers_of, begin_of, cpu_of, cpus_of, end_of}
 use Rattle.bt_meaning.proofs.Counts.{cpu_count, main_count}
 use Rattle.bt_meaning.proofs.ThreeParts.{HasLimits, interleaves, limits_of}
-use Rattle.run_base.proofs.ReadLemmas.{sum_more}
+use Rattle.run_objects.proofs.ReadLemmas.{sum_more}
 use Rattle.run_ends.specs.Ends.{HasParts}
 use Rattle.thread_run.specs.Acts.{HaveRun}
 

@@ -14,7 +14,7 @@ use Rattle.actor_plan.specs.Plans.{Plan}
 use Rattle.actor_plan.specs.Programs.{begin_program, end_program}
 use Rattle.run_ends.specs.Ends.{AreCpuTraces, HaveEnded, latest}
 use Rattle.run_ends.proofs.Ending.{each_both}
-use Rattle.cpu_worker.specs.declared.world.World.{World}
+use Rattle.cpu_worker.specs.declared.world.SharedWorld.{SharedWorld}
 use Rattle.cpu_worker.specs.declared.world.WorkerTurns.{WorkerTurns}
 use Rattle.cpu_worker.specs.Chains.{IsBy}
 use Rattle.cpu_worker.specs.Worlds.{world_cpus, sets_in, setting_in, AreTurnsOf, AreOwnIn, IsPlanIn}
@@ -30,7 +30,7 @@ same_made : (xs ys zs : List Step) → xs ++ ys ≡ xs ++ zs → ys ≡ zs
 same_made xs ys zs e = sym (drop_at xs ys (length xs) refl) ∙ ap (drop (length xs)) e ∙ drop_at xs zs (length xs) refl
 
 -- the main actor's turns and its trace at four moments: empty, after BEGIN, raised, and after END
-pub record Moments {B : Type 0} (plan : B → Plan) (world : World) (plans : ℕ → Plan) (empty begun raised finished : MainActor B) (all : Gathered) (begin_count end_count : ℕ) : Type 0 where
+pub record Moments {B : Type 0} (plan : B → Plan) (world : SharedWorld) (plans : ℕ → Plan) (empty begun raised finished : MainActor B) (all : Gathered) (begin_count end_count : ℕ) : Type 0 where
   pub actor : actor_of empty.trace ≡ world_cpus world
   pub none : (steps_of empty.trace ≡ []) × (floors_of empty.trace ≡ [])
   pub clock : clock_of empty.trace ≡ 0
@@ -45,7 +45,7 @@ pub record Moments {B : Type 0} (plan : B → Plan) (world : World) (plans : ℕ
   pub raised_plan : plan raised.bodies ≡ plan begun.bodies
   pub ended : HasDone plan world (end_program (plan raised.bodies) world.recording.now world.attached.now) raised finished end_count
 
-module _ {B : Type 0} (plan : B → Plan) (world : World) (plans : ℕ → Plan) (empty begun raised finished : MainActor B) (all : Gathered) (begin_count end_count : ℕ)
+module _ {B : Type 0} (plan : B → Plan) (world : SharedWorld) (plans : ℕ → Plan) (empty begun raised finished : MainActor B) (all : Gathered) (begin_count end_count : ℕ)
     (h : Moments plan world plans empty begun raised finished all begin_count end_count) where
   abbrev n : ℕ
   n = world_cpus world
@@ -150,7 +150,7 @@ module _ {B : Type 0} (plan : B → Plan) (world : World) (plans : ℕ → Plan)
 
 -- ---- the last bodies are the main actor's
 
-module _ {B : Type 0} (plan : B → Plan) (world : World) (bodies : List B) (b : B) (long : length bodies ≡ world_cpus world + 1) (at : b ≡ get_or bodies (world_cpus world) b) where
+module _ {B : Type 0} (plan : B → Plan) (world : SharedWorld) (bodies : List B) (b : B) (long : length bodies ≡ world_cpus world + 1) (at : b ≡ get_or bodies (world_cpus world) b) where
   pub main_plan : ArePlansIn plan world bodies → IsPlanIn world (world_cpus world) (plan b)
   main_plan h = subst (λ z. IsPlanIn world (world_cpus world) (plan z)) (sym at) (h (world_cpus world) b (omega (arith, long)))
 

@@ -25,10 +25,10 @@ use Rattle.step_objects.specs.declared.out.OutLog.{OutLog}
 use Rattle.step_objects.specs.declared.shared.SharedPart.{SharedPart}
 use Rattle.step_objects.specs.Clocks.{clock_kind, ClockStands}
 use Rattle.step_objects.specs.Objects.{shared_kind, SharedStands, cpu_kind, CpuStands}
-use Rattle.percpu_tables.specs.Tables as tables_in
-use Rattle.shared_maps.specs.Maps as parts_in
+use Rattle.percpu_tables.specs.Tables.{AreAllTableTurns, table_actors, table_kinds}
+use Rattle.shared_maps.specs.Maps.{AreAllPartTurns, part_actors, part_kinds}
 use Rattle.shared_maps.specs.Parts.{parts_from}
-use Rattle.side_locks.specs.Sides as sides_in
+use Rattle.side_locks.specs.Sides.{AreAllSideTurns, side_actors, side_kind}
 use Rattle.side_locks.specs.Steps.{own_of_clock, reply_of_clock, own_of_out, reply_of_out}
 use Rattle.side_locks.specs.Turns.{Both, clocks, outs}
 use Rattle.weave.specs.Order.{InOrder}
@@ -43,7 +43,7 @@ use Rattle.run_ends.specs.Closed.{OwnRows, history_in}
 use Rattle.run_ends.specs.Ends.{HasParts}
 use Rattle.run_ends.proofs.Closing.{full_rows}
 use Rattle.run_ends.proofs.Ending.{each_both, are_traces, parts, cpu_traces}
-use Rattle.cpu_worker.specs.declared.world.World.{World}
+use Rattle.cpu_worker.specs.declared.world.SharedWorld.{SharedWorld}
 use Rattle.cpu_worker.specs.declared.world.WorkerTurns.{WorkerTurns}
 use Rattle.cpu_worker.specs.Worlds.{world_cpus, maps_in, sets_in, setting_in}
 use Rattle.thread_run.specs.declared.tasks.Gathered.{Gathered}
@@ -54,24 +54,24 @@ use Rattle.thread_run.proofs.Counting.{replayed, counted}
 use Rattle.thread_run.proofs.Objects.{AreShut, given, pairs, maps_stand, tables_stand, own_of_part, reply_of_part, out_kind, out_stands}
 use Rattle.thread_run.proofs.Turning.{maps_rows, tables_rows, clock_rows, out_rows, maps_own, tables_own, clock_own, out_own, own_long}
 
-all_can : (world : World) (ts : List Trace) → Each (CanMake world) ts → Each (λ (s : Step). CanStep (setting_in world 0) s.object s.op) (all_steps ts)
+all_can : (world : SharedWorld) (ts : List Trace) → Each (CanMake world) ts → Each (λ (s : Step). CanStep (setting_in world 0) s.object s.op) (all_steps ts)
 all_can world [] h = tt
 all_can world (t ∷ ts) h = each_both (λ (s : Step). CanStep (setting_in world 0) s.object s.op) (steps_of t) (all_steps ts) h.0 (all_can world ts h.1)
 
 -- ---- all turns are given back
 
-module _ (world : World) (plans : ℕ → Plan) (all : Gathered) (done : AreDone (replay_in world plans) world all) where
+module _ (world : SharedWorld) (plans : ℕ → Plan) (all : Gathered) (done : AreDone (replay_in world plans) world all) where
   all_long : length all.turns.items ≡ world_cpus world + 1
   all_long = own_long (sets_in world) all.turns.items all.traces.items done.own
       ∙ ap length done.traces ∙ length-append done.cpus (done.main ∷ []) ∙ ap (λ n. n + 1) done.many
 
-  pub all_maps : parts_in.AreAll world.maps.now (map at_maps all.turns.items)
+  pub all_maps : AreAllPartTurns world.maps.now (map at_maps all.turns.items)
   all_maps = (length-map all.turns.items at_maps ∙ all_long ∙ sym world.maps_actors, maps_rows (sets_in world) 0 all.turns.items done.turns)
 
-  pub all_tables : tables_in.AreAll world.tables.now (map at_tables all.turns.items)
+  pub all_tables : AreAllTableTurns world.tables.now (map at_tables all.turns.items)
   all_tables = (length-map all.turns.items at_tables ∙ all_long ∙ sym world.tables_actors, tables_rows (sets_in world) 0 all.turns.items done.turns)
 
-  sides_actors : world_cpus world + 1 ≡ sides_in.actors_of world.sides.now
+  sides_actors : world_cpus world + 1 ≡ side_actors world.sides.now
   sides_actors = ap (λ (k : ClockKind). k.cpus + 1) (sym world.sides_are)
 
   long_clocks : length (clocks (map at_sides all.turns.items)) ≡ length all.turns.items
@@ -80,13 +80,13 @@ module _ (world : World) (plans : ℕ → Plan) (all : Gathered) (done : AreDone
   long_outs : length (outs (map at_sides all.turns.items)) ≡ length all.turns.items
   long_outs = length-map (map at_sides all.turns.items) (λ (both : Both). both.out) ∙ length-map all.turns.items at_sides
 
-  pub all_sides : sides_in.AreAll world.sides.now (map at_sides all.turns.items)
+  pub all_sides : AreAllSideTurns world.sides.now (map at_sides all.turns.items)
   all_sides = record {
     clock = (long_clocks ∙ all_long ∙ sides_actors ∙ sym world.sides.now.clock_actors, clock_rows (sets_in world) 0 all.turns.items done.turns);
     out = (long_outs ∙ all_long ∙ sides_actors ∙ sym world.sides.now.out_actors, out_rows (sets_in world) 0 all.turns.items done.turns);
   }
 
-module _ (world : World) (plans : ℕ → Plan) (own : (actor : ℕ) → (plans actor).actor ≡ actor) (all : Gathered) (done : AreDone (replay_in world plans) world all)
+module _ (world : SharedWorld) (plans : ℕ → Plan) (own : (actor : ℕ) → (plans actor).actor ≡ actor) (all : Gathered) (done : AreDone (replay_in world plans) world all)
     (maps : List (SharedPart × List Entry)) (tables : List (CpuTable × List Entry)) (clock : TickClock × List Entry) (out : OutLog × List Entry) where
   abbrev ws : List WorkerTurns
   ws = all.turns.items
@@ -99,10 +99,10 @@ module _ (world : World) (plans : ℕ → Plan) (own : (actor : ℕ) → (plans 
 
   -- what closing the sets gave
   pub record AreAllShut : Type 0 where
-    pub maps_shut : AreClosed shared_kind own_of_part reply_of_part SharedStands (parts_in.actors_of world.maps.now) (parts_in.kinds_of world.maps.now) (map at_maps ws) maps
-    pub tables_shut : AreClosed cpu_kind IsTableOp table_answer CpuStands (tables_in.actors_of world.tables.now) (tables_in.kinds_of world.tables.now) (map at_tables ws) tables
-    pub clock_shut : IsClosed clock_kind own_of_clock reply_of_clock ClockStands (sides_in.actors_of world.sides.now) (sides_in.kind_of world.sides.now) (firsts (clocks (map at_sides ws))) clock.0 clock.1
-    pub out_shut : IsClosed out_kind own_of_out reply_of_out out_stands (sides_in.actors_of world.sides.now) tt (firsts (outs (map at_sides ws))) out.0 out.1
+    pub maps_shut : AreClosed shared_kind own_of_part reply_of_part SharedStands (part_actors world.maps.now) (part_kinds world.maps.now) (map at_maps ws) maps
+    pub tables_shut : AreClosed cpu_kind IsTableOp table_answer CpuStands (table_actors world.tables.now) (table_kinds world.tables.now) (map at_tables ws) tables
+    pub clock_shut : IsClosed clock_kind own_of_clock reply_of_clock ClockStands (side_actors world.sides.now) (side_kind world.sides.now) (firsts (clocks (map at_sides ws))) clock.0 clock.1
+    pub out_shut : IsClosed out_kind own_of_out reply_of_out out_stands (side_actors world.sides.now) tt (firsts (outs (map at_sides ws))) out.0 out.1
 
   traces_are : AreTraces 0 ts
   traces_are = subst (AreTraces 0) (sym done.traces) (are_traces done.begun done.finished done.cpus done.main done.ended)

@@ -41,7 +41,7 @@ use Rattle.weave.specs.Traces.{all_steps, AreTraces, IsHistory, HaveHistories}
 use Rattle.run_ends.specs.Closed.{OwnRows, AreFull, Answer, paired, id_in, history_in, is_among, AreAmong}
 use Rattle.run_ends.proofs.Closing.{one_history, histories, have_histories, all_stand}
 use Rattle.run_ends.proofs.Ending.{each_both}
-use Rattle.cpu_worker.specs.declared.world.World.{World}
+use Rattle.cpu_worker.specs.declared.world.SharedWorld.{SharedWorld}
 use Rattle.cpu_worker.specs.Worlds.{world_cpus, maps_in, setting_in}
 use Rattle.thread_run.specs.Acts.{CanMake}
 use Rattle.thread_run.specs.Closed.{part_id, part_kind, PartsStand, TablesStand}
@@ -108,7 +108,7 @@ among_parts m (c ∷ ds) (suc j) p d e lt =
 abbrev pub all_ids : List MapDecl → ℕ → List ObjectId
 all_ids maps actors = map part_id (parts_from 0 maps) ++ (numbered Cpu 0 actors ++ Clock ∷ Out ∷ [])
 
-known : (world : World) (o : ObjectId) (op : Op) → CanStep (setting_in world 0) o op → is_among (all_ids (maps_in world) (world_cpus world + 1)) o ≡ true
+known : (world : SharedWorld) (o : ObjectId) (op : Op) → CanStep (setting_in world 0) o op → is_among (all_ids (maps_in world) (world_cpus world + 1)) o ≡ true
 known world (Shared m p) op h =
     let d = some_is _ (slice_get (maps_in world) m.0) h.1 in
     among_left (map part_id (parts_from 0 (maps_in world))) (numbered Cpu 0 (world_cpus world + 1) ++ Clock ∷ Out ∷ []) (Shared m p)
@@ -123,11 +123,11 @@ known world Clock op h = among_right (map part_id (parts_from 0 (maps_in world))
 known world Out op h = among_right (map part_id (parts_from 0 (maps_in world))) (numbered Cpu 0 (world_cpus world + 1) ++ Clock ∷ Out ∷ []) Out
     (among_right (numbered Cpu 0 (world_cpus world + 1)) (Clock ∷ Out ∷ []) Out refl)
 
-known_steps : (world : World) (ss : List Step) → Each (λ (s : Step). CanStep (setting_in world 0) s.object s.op) ss → Each (λ (s : Step). is_among (all_ids (maps_in world) (world_cpus world + 1)) s.object ≡ true) ss
+known_steps : (world : SharedWorld) (ss : List Step) → Each (λ (s : Step). CanStep (setting_in world 0) s.object s.op) ss → Each (λ (s : Step). is_among (all_ids (maps_in world) (world_cpus world + 1)) s.object ≡ true) ss
 known_steps world [] h = tt
 known_steps world (s ∷ ss) h = (known world s.object s.op h.0, known_steps world ss h.1)
 
-all_known : (world : World) (ts : List Trace) → Each (CanMake world) ts → AreAmong (all_ids (maps_in world) (world_cpus world + 1)) ts
+all_known : (world : SharedWorld) (ts : List Trace) → Each (CanMake world) ts → AreAmong (all_ids (maps_in world) (world_cpus world + 1)) ts
 all_known world [] h = tt
 all_known world (t ∷ ts) h = (known_steps world (steps_of t) h.0, all_known world ts h.1)
 
@@ -184,7 +184,7 @@ out_stands out ops = Unit {0}
 abbrev pub own_of_part : PartKind → Op → Type 0
 own_of_part of = IsSharedOp of.decl
 
-module _ (world : World) (ts : List Trace) (actors : AreTraces 0 ts) (many : world_cpus world + 1 ≡ length ts) (can : Each (CanMake world) ts)
+module _ (world : SharedWorld) (ts : List Trace) (actors : AreTraces 0 ts) (many : world_cpus world + 1 ≡ length ts) (can : Each (CanMake world) ts)
     (map_rows table_rows clock_rows out_rows : List Row) (maps : List (SharedPart × List Entry)) (tables : List (CpuTable × List Entry)) (clock : TickClock × List Entry) (out : OutLog × List Entry) where
   abbrev ms : List MapDecl
   ms = maps_in world

@@ -19,7 +19,7 @@ use Rattle.actor_plan.specs.Plans.{Plan}
 use Rattle.actor_plan.specs.Programs.{cpu_program}
 use Rattle.run_ends.specs.Ends.{IsCpuTrace, AreCpuTraces}
 use Rattle.thread_run.specs.declared.side_by_side.Task.{Task}
-use Rattle.cpu_worker.specs.declared.world.World.{World}
+use Rattle.cpu_worker.specs.declared.world.SharedWorld.{SharedWorld}
 use Rattle.cpu_worker.specs.declared.world.WorkerTurns.{WorkerTurns}
 use Rattle.cpu_worker.specs.Chains.{clock_after, Climbs, IsBy, HasWalked}
 use Rattle.thread_run.specs.Ran.{HasRun}
@@ -37,13 +37,13 @@ climbs_greatest clock [] h = omega arith
 climbs_greatest clock (s ∷ ss) h = let r = climbs_greatest s.stamp ss h.1 in let lt : clock < s.stamp = h.0 in omega arith
 
 -- whoever makes a step, it can be made
-pub can_any : (world : World) (a b : ℕ) (o : ObjectId) (op : Op) → CanStep (setting_in world a) o op → CanStep (setting_in world b) o op
+pub can_any : (world : SharedWorld) (a b : ℕ) (o : ObjectId) (op : Op) → CanStep (setting_in world a) o op → CanStep (setting_in world b) o op
 can_any world a b (Shared m p) op h = h
 can_any world a b (Cpu c) op h = h
 can_any world a b Clock op h = h
 can_any world a b Out op h = h
 
-pub can_make : (world : World) (a : ℕ) (ss : List Step) → Each (IsBy (setting_in world a)) ss → Each (λ (s : Step). CanStep (setting_in world 0) s.object s.op) ss
+pub can_make : (world : SharedWorld) (a : ℕ) (ss : List Step) → Each (IsBy (setting_in world a)) ss → Each (λ (s : Step). CanStep (setting_in world 0) s.object s.op) ss
 can_make world a ss h = each_so (IsBy (setting_in world a)) (λ (s : Step). CanStep (setting_in world 0) s.object s.op) (λ s b. can_any world a 0 s.object s.op b.can) ss h
 
 -- how a run ended that ended well
@@ -52,7 +52,7 @@ ended_well P Q None well h = absurd well
 ended_well P Q (Some (Ok o)) well h = (o, h, refl)
 ended_well P Q (Some (Err e)) well h = absurd well
 
-module _ (world : World) (clock : ℕ) (plans : ℕ → Plan) where
+module _ (world : SharedWorld) (clock : ℕ) (plans : ℕ → Plan) where
   -- what the CPUs from this one on leave
   pub record Gone (k : ℕ) (ws : List WorkerTurns) (ts : List Trace) (count : ℕ) : Type 0 where
     pub turns : AreTurnsFrom (sets_in world) k ws
@@ -69,7 +69,7 @@ module _ (world : World) (clock : ℕ) (plans : ℕ → Plan) where
     ends = w.ends ∙ ap (λ c. clock_after c (steps_of t)) at ∙ climbs_greatest clock (steps_of t) (subst (λ c. Climbs c (steps_of t)) at w.climbs);
   }
 
-module _ {B G : Type 0} (plan : B → Plan) (world : World) (clock : ℕ) where
+module _ {B G : Type 0} (plan : B → Plan) (world : SharedWorld) (clock : ℕ) where
   -- each worker can run
   pub all_ready : (k : ℕ) (tasks : List (Task B G)) → CanReplay world → Each (IsFresh clock) tasks → AreTurnsFrom (sets_in world) k (map turns_in tasks) → k + length tasks ≡ world_cpus world
       → ((i : ℕ) (d : Task B G) → i < length tasks → IsPlanIn world (k + i) (plan (get_or tasks i d).worker.bodies))
@@ -126,7 +126,7 @@ pub by_result : {A : Type 0} (r : Result A Memory) (P Q R S T : A → Type 0) �
 by_result (Ok x) P Q R S T p q r s f = f x p q r s
 by_result (Err e) P Q R S T p q r s f = tt
 
-module _ {B G : Type 0} (plan : B → Plan) (world : World) (clock : ℕ) (bodies : List B) (turns : List WorkerTurns) (olds : List (Task B G))
+module _ {B G : Type 0} (plan : B → Plan) (world : SharedWorld) (clock : ℕ) (bodies : List B) (turns : List WorkerTurns) (olds : List (Task B G))
     (bodies_are : map bodies_in olds ≡ bodies) (turns_are : map turns_in olds ≡ turns) (fresh : Each (IsFresh clock) olds) (from : AreTurnsFrom (sets_in world) 0 turns) where
   pub tasks_long : length olds ≡ length bodies
   tasks_long = sym (length-map olds bodies_in) ∙ ap length bodies_are

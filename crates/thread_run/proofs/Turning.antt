@@ -13,8 +13,8 @@ use Rattle.stamped.specs.SetSteps.{AreOwn}
 use Rattle.stamped.specs.SetTurns.{AreAt, AreNew, AreRows}
 use Rattle.stamped.specs.Sets.{locks_of}
 use Rattle.stamped.specs.Traces.{steps_of, floors_of, entries_at}
-use Rattle.percpu_tables.specs.Tables as tables
-use Rattle.shared_maps.specs.Maps as parts
+use Rattle.percpu_tables.specs.Tables.{table_ids}
+use Rattle.shared_maps.specs.Maps.{part_ids}
 use Rattle.side_locks.specs.Turns.{clocks, outs}
 use Rattle.run_ends.specs.Closed.{OwnRows}
 use Rattle.cpu_worker.specs.declared.world.WorkerTurns.{WorkerTurns}
@@ -125,13 +125,13 @@ module _ (sets : Sets) where
   own_long (w ∷ ws) [] h = absurd h
   own_long (w ∷ ws) (t ∷ ts) h = ap suc (own_long ws ts h.1)
 
-  pub maps_own : (ws : List WorkerTurns) (ts : List Trace) → AllOwn sets ws ts → OwnRows (parts.ids_of sets.maps) (map at_maps ws) ts
+  pub maps_own : (ws : List WorkerTurns) (ts : List Trace) → AllOwn sets ws ts → OwnRows (part_ids sets.maps) (map at_maps ws) ts
   maps_own [] [] h = tt
   maps_own [] (t ∷ ts) h = absurd h
   maps_own (w ∷ ws) [] h = absurd h
   maps_own (w ∷ ws) (t ∷ ts) h = (h.0.maps, maps_own ws ts h.1)
 
-  pub tables_own : (ws : List WorkerTurns) (ts : List Trace) → AllOwn sets ws ts → OwnRows (tables.ids_of sets.tables) (map at_tables ws) ts
+  pub tables_own : (ws : List WorkerTurns) (ts : List Trace) → AllOwn sets ws ts → OwnRows (table_ids sets.tables) (map at_tables ws) ts
   tables_own [] [] h = tt
   tables_own [] (t ∷ ts) h = absurd h
   tables_own (w ∷ ws) [] h = absurd h
@@ -152,8 +152,8 @@ module _ (sets : Sets) where
   -- of an empty trace nothing is anywhere, and unused turns have no entries
   pub own_new : (w : WorkerTurns) (t : Trace) → AreUnused w → steps_of t ≡ [] → AreOwnIn sets w t
   own_new w t unused none = record {
-    maps = nothing (parts.ids_of sets.maps) w.maps.1 unused.maps;
-    tables = nothing (tables.ids_of sets.tables) w.tables.1 unused.tables;
+    maps = nothing (part_ids sets.maps) w.maps.1 unused.maps;
+    tables = nothing (table_ids sets.tables) w.tables.1 unused.tables;
     sides = record { clock = nothing (Clock ∷ []) w.sides.clock.1 unused.clock; out = nothing (Out ∷ []) w.sides.out.1 unused.out };
   }
     where
@@ -168,8 +168,8 @@ module _ (sets : Sets) where
   -- a trace with other clocks
   pub own_same : (w : WorkerTurns) (s t : Trace) → steps_of t ≡ steps_of s → floors_of t ≡ floors_of s → AreOwnIn sets w s → AreOwnIn sets w t
   own_same w s t steps floors own = record {
-    maps = moved (parts.ids_of sets.maps) w.maps.1 own.maps;
-    tables = moved (tables.ids_of sets.tables) w.tables.1 own.tables;
+    maps = moved (part_ids sets.maps) w.maps.1 own.maps;
+    tables = moved (table_ids sets.tables) w.tables.1 own.tables;
     sides = record { clock = moved (Clock ∷ []) w.sides.clock.1 own.sides.clock; out = moved (Out ∷ []) w.sides.out.1 own.sides.out };
   }
     where

@@ -10,7 +10,7 @@ use Rattle.actor_plan.specs.declared.outcome.Outcome.{Outcome}
 use Rattle.actor_plan.specs.Plans.{Plan}
 use Rattle.bt_meaning.specs.Replays.{Replay, cpus_of, begin_of, cpu_of, end_of}
 use Rattle.run_ends.specs.Ends.{AreCpuTraces, HaveEnded}
-use Rattle.cpu_worker.specs.declared.world.World.{World}
+use Rattle.cpu_worker.specs.declared.world.SharedWorld.{SharedWorld}
 use Rattle.cpu_worker.specs.Chains.{Since}
 use Rattle.cpu_worker.specs.Worlds.{sets_in, setting_in, AreTurnsOf, IsPlanIn, KeepsOwn}
 use Rattle.thread_run.specs.declared.main_actor.MainActor.{MainActor}
@@ -18,7 +18,7 @@ use Rattle.thread_run.specs.declared.tasks.Gathered.{Gathered}
 use Rattle.thread_run.specs.Turns.{AreTurnsFrom, AllOwn}
 
 -- the main actor did the whole of this, which took so many instructions
-pub record HasDone {B : Type 0} (plan : B → Plan) (world : World) (program : Interaction ℕ) (old new : MainActor B) (count : ℕ) : Type 0 where
+pub record HasDone {B : Type 0} (plan : B → Plan) (world : SharedWorld) (program : Interaction ℕ) (old new : MainActor B) (count : ℕ) : Type 0 where
   pub actor : actor_of new.trace ≡ actor_of old.trace
   pub turns_are : AreTurnsOf (sets_in world) (actor_of old.trace) new.turns
   pub own : KeepsOwn (sets_in world) old.turns old.trace new.turns new.trace
@@ -27,11 +27,11 @@ pub record HasDone {B : Type 0} (plan : B → Plan) (world : World) (program : I
   pub plan_kept : plan new.bodies ≡ plan old.bodies
 
 -- bodies are made for each actor of the world, by their places
-abbrev pub ArePlansIn : {B : Type 0} → (B → Plan) → World → List B → Type 0
+abbrev pub ArePlansIn : {B : Type 0} → (B → Plan) → SharedWorld → List B → Type 0
 ArePlansIn plan world bodies = (actor : ℕ) (d : _) → actor < length bodies → IsPlanIn world actor (plan (slice_index_or bodies actor d))
 
 -- what is run in a world, by bodies of these plans
-abbrev pub replay_in : World → (ℕ → Plan) → Replay
+abbrev pub replay_in : SharedWorld → (ℕ → Plan) → Replay
 replay_in world plans = record {
   recording = world.recording.now;
   attached = world.attached.now;
@@ -41,7 +41,7 @@ replay_in world plans = record {
 }
 
 -- each step of the trace is one that can be made in the world
-abbrev pub CanMake : World → Trace → Type 0
+abbrev pub CanMake : SharedWorld → Trace → Type 0
 CanMake world t = Each (λ (s : Step). CanStep (setting_in world 0) s.object s.op) (steps_of t)
 
 -- each trace is its CPU's whole program, and together the programs took so many instructions
@@ -50,7 +50,7 @@ HaveRun p cpu [] count = count ≡ 0
 HaveRun p cpu (t ∷ ts) count = (outcome : Outcome) × (rest : ℕ) × Runs (cpu_of p cpu) (steps_of t) outcome × HaveRun p (cpu + 1) ts rest × (count ≡ outcome.instructions + rest)
 
 -- what the CPUs leave, which began at this clock
-pub record HaveGone (p : Replay) (world : World) (clock : ℕ) (all : Gathered) : Type 0 where
+pub record HaveGone (p : Replay) (world : SharedWorld) (clock : ℕ) (all : Gathered) : Type 0 where
   pub many : length all.traces.items ≡ cpus_of p
   pub turns : AreTurnsFrom (sets_in world) 0 all.turns.items
   pub own : AllOwn (sets_in world) all.turns.items all.traces.items
@@ -59,7 +59,7 @@ pub record HaveGone (p : Replay) (world : World) (clock : ℕ) (all : Gathered) 
   pub ran : HaveRun p 0 all.traces.items all.instructions
 
 -- what all actors leave
-pub record AreDone (p : Replay) (world : World) (all : Gathered) : Type 0 where
+pub record AreDone (p : Replay) (world : SharedWorld) (all : Gathered) : Type 0 where
   pub cpus : List Trace
   pub main : Trace
   pub traces : all.traces.items ≡ cpus ++ main ∷ []

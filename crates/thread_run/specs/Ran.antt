@@ -4,12 +4,12 @@ use Rattle.bt_core.specs.Interaction.{Begins, Runs}
 use Rattle.stamped.specs.Traces.{clock_of, steps_of}
 use Rattle.actor_plan.specs.Plans.{Plan}
 use Rattle.thread_run.specs.declared.side_by_side.Task.{Task}
-use Rattle.cpu_worker.specs.declared.world.World.{World}
+use Rattle.cpu_worker.specs.declared.world.SharedWorld.{SharedWorld}
 use Rattle.cpu_worker.specs.Chains.{HasWalked}
 use Rattle.cpu_worker.specs.Worlds.{sets_in, setting_in, AreTurnsOf, KeepsOwn}
 use Rattle.cpu_worker.specs.Workers.{program_in}
 
-module _ {B G : Type 0} (plan : B → Plan) (world : World) where
+module _ {B G : Type 0} (plan : B → Plan) (world : SharedWorld) where
   -- as a worker leaves it: at Ok its trace is its whole program, with the outcome, and else the first steps of it
   pub record HasRun (old new : Task B G) : Type 0 where
     pub ended : IsSomeAnd new.ended (λ r. MatchResult r (λ outcome. Runs (program_in plan world old.worker) (steps_of new.worker.trace) outcome)

@@ -1,8 +1,8 @@
 -- The sets of locks of a run. No public contract speaks of it.
 use Rattle.std.specs.Prelude.{◌≡◌, ◌+◌, List, length, map}
-use Rattle.percpu_tables.specs.Tables as tables_in
-use Rattle.shared_maps.specs.Maps as parts_in
-use Rattle.side_locks.specs.Sides as sides_in
+use Rattle.percpu_tables.specs.Tables.{AreAllTableTurns, table_actors, table_maps}
+use Rattle.shared_maps.specs.Maps.{AreAllPartTurns, part_actors, part_maps}
+use Rattle.side_locks.specs.Sides.{AreAllSideTurns, side_kind}
 use Rattle.run_base.specs.declared.job.Job.{Job}
 use Rattle.run_base.specs.Jobs.{cpus_in}
 use Rattle.cpu_worker.specs.declared.world.WorkerTurns.{WorkerTurns}
@@ -11,14 +11,14 @@ use Rattle.thread_run.specs.Turns.{at_maps, at_tables, at_sides}
 
 -- the sets are those of the job's maps and ticks, for its CPUs and the main actor
 pub record AreFor (job : Job) (sets : Sets) : Type 0 where
-  pub maps : parts_in.maps_of sets.maps ≡ job.typed.maps
-  pub maps_actors : parts_in.actors_of sets.maps ≡ cpus_in job + 1
-  pub tables : tables_in.maps_of sets.tables ≡ job.typed.maps
-  pub tables_actors : tables_in.actors_of sets.tables ≡ cpus_in job + 1
-  pub sides : sides_in.kind_of sets.sides ≡ record { cpus = cpus_in job; ticks = length job.attached.ticks }
+  pub maps : part_maps sets.maps ≡ job.typed.maps
+  pub maps_actors : part_actors sets.maps ≡ cpus_in job + 1
+  pub tables : table_maps sets.tables ≡ job.typed.maps
+  pub tables_actors : table_actors sets.tables ≡ cpus_in job + 1
+  pub sides : side_kind sets.sides ≡ record { cpus = cpus_in job; ticks = length job.attached.ticks }
 
 -- these are the turns of all actors at all sets
 pub record AreAllTurns (sets : Sets) (turns : List WorkerTurns) : Type 0 where
-  pub maps : parts_in.AreAll sets.maps (map at_maps turns)
-  pub tables : tables_in.AreAll sets.tables (map at_tables turns)
-  pub sides : sides_in.AreAll sets.sides (map at_sides turns)
+  pub maps : AreAllPartTurns sets.maps (map at_maps turns)
+  pub tables : AreAllTableTurns sets.tables (map at_tables turns)
+  pub sides : AreAllSideTurns sets.sides (map at_sides turns)

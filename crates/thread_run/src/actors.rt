@@ -12,8 +12,8 @@ use crate::side_by_side::run_all;
 use crate::tasks::{Gathered, gather, latest_clock, new_tasks};
 use actor_plan::bodies::Bodies;
 use bt_core::memory::Memory;
-use cpu_worker::world::{WorkerTurns, World};
-use run_base::numbers::sum;
+use cpu_worker::world::{SharedWorld, WorkerTurns};
+use run_objects::numbers::sum;
 use stamped::trace::Trace;
 use std::alloc::Global;
 use std::sync::Wait;
@@ -24,7 +24,7 @@ use turn_lock::gate::Gate;
 fn run_cpus<B: Bodies + Drop + Send, G: Gate + Sync, R: Threads + Wait + Sync>(
     rt: &R,
     alloc: Global,
-    world: &World,
+    world: &SharedWorld,
     gate: &G,
     bodies: Vec<B>,
     turns: Vec<WorkerTurns>,
@@ -49,7 +49,7 @@ fn run_cpus<B: Bodies + Drop + Send, G: Gate + Sync, R: Threads + Wait + Sync>(
 pub(crate) fn run_actors<B: Bodies + Drop + Send, G: Gate + Sync, R: Threads + Wait + Sync>(
     rt: &R,
     alloc: Global,
-    world: &World,
+    world: &SharedWorld,
     gate: &G,
     mut bodies: Vec<B>,
     mut turns: Vec<WorkerTurns>,

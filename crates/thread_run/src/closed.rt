@@ -3,7 +3,7 @@ ghost use Rattle.std.specs.Prelude.{◌≡◌, ◌+◌, List, map, take, drop, I
 ghost use Rattle.std.specs.Vec.Iter.{into_iter_items};
 ghost use Rattle.bt_core.specs.declared.step.Step.{Step};
 ghost use Rattle.shared_maps.specs.Parts.{parts_in, parts_from};
-ghost use Rattle.run_base.specs.Worlds.{World};
+ghost use Rattle.run_objects.specs.Worlds.{World};
 ghost use Rattle.run_objects.specs.Closed.{part_list, MapsStand};
 ghost use Rattle.thread_run.specs.Closed.{object_of, parts_by, PartsStand, TablesStand};
 

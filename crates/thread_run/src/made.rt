@@ -14,7 +14,7 @@ use crate::turns::parted;
 use bpf_insn::insn::Insn;
 use bt_core::items::Items;
 use bt_core::memory::Memory;
-use cpu_worker::world::World;
+use cpu_worker::world::SharedWorld;
 use run_base::job::Job;
 use run_objects::closed::Closed;
 use std::alloc::Global;
@@ -39,7 +39,7 @@ pub(crate) fn make_steps<G: Gate + Sync, R: Threads + Wait + Sync>(
 {
     let bodies = all_bodies(alloc, job, codes)?;
     let (sets, turns) = new_sets(alloc, job)?;
-    let world = World {
+    let world = SharedWorld {
         recording: &job.recording,
         attached: &job.attached,
         typed: &job.typed,

@@ -8,7 +8,7 @@ ghost use Rattle.thread_run.specs.Acts.{HasDone};
 use actor_plan::bodies::Bodies;
 use actor_plan::program::{run_begin, run_end};
 use bt_core::memory::Memory;
-use cpu_worker::world::{WorkerTurns, World};
+use cpu_worker::world::{SharedWorld, WorkerTurns};
 use cpu_worker::world_port::WorldPort;
 use stamped::trace::Trace;
 use std::alloc::Global;
@@ -27,7 +27,7 @@ pub(crate) struct MainActor<B> {
 pub(crate) fn begin<B: Bodies + Drop, G: Gate, R: Wait>(
     rt: &R,
     alloc: Global,
-    world: &World,
+    world: &SharedWorld,
     gate: &G,
     main: MainActor<B>,
 ) -> Result<(MainActor<B>, u64), Memory>
@@ -63,7 +63,7 @@ pub(crate) fn begin<B: Bodies + Drop, G: Gate, R: Wait>(
 pub(crate) fn end<B: Bodies + Drop, G: Gate, R: Wait>(
     rt: &R,
     alloc: Global,
-    world: &World,
+    world: &SharedWorld,
     gate: &G,
     main: MainActor<B>,
 ) -> Result<(MainActor<B>, u64), Memory>

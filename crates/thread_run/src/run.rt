@@ -10,7 +10,7 @@ ghost use Rattle.bt_meaning.specs.Walks.{replay_of};
 ghost use Rattle.code_bodies.specs.Coding.{code_replay};
 ghost use Rattle.script_programs.specs.Programs.{AreCodesOf, KeepScript};
 ghost use Rattle.run_base.specs.Jobs.{cpus_in, world_for};
-ghost use Rattle.run_base.specs.Moments.{Moment};
+ghost use Rattle.run_objects.specs.Moments.{Moment};
 ghost use Rattle.run_objects.specs.Closed.{AreClosedAt};
 ghost use Rattle.run_output.specs.Outputs.{output_of};
 

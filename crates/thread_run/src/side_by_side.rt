@@ -8,7 +8,7 @@ use actor_plan::bodies::Bodies;
 use actor_plan::outcome::Outcome;
 use bt_core::memory::Memory;
 use cpu_worker::worker::CpuWorker;
-use cpu_worker::world::World;
+use cpu_worker::world::SharedWorld;
 use std::alloc::Global;
 use std::sync::Wait;
 use std::thread;
@@ -27,7 +27,7 @@ pub(crate) struct Task<'g, B, G: Gate> {
 struct Common<'a, R> {
     rt: &'a R,
     alloc: Global,
-    world: &'a World<'a>,
+    world: &'a SharedWorld<'a>,
 }
 
 /// Runs a worker, and keeps how that ended.
@@ -42,7 +42,7 @@ fn run_one<B: Bodies, G: Gate, R: Wait>(common: &Common<R>, task: &mut Task<B, G
 fn run_each<B: Bodies + Send, G: Gate + Sync, R: Threads + Wait + Sync>(
     rt: &R,
     alloc: Global,
-    world: &World,
+    world: &SharedWorld,
     tasks: &mut [Task<B, G>],
 )
     requires some { 0 < length tasks.old }
@@ -60,7 +60,7 @@ fn run_each<B: Bodies + Send, G: Gate + Sync, R: Threads + Wait + Sync>(
 pub(crate) fn run_all<B: Bodies + Send, G: Gate + Sync, R: Threads + Wait + Sync>(
     rt: &R,
     alloc: Global,
-    world: &World,
+    world: &SharedWorld,
     tasks: &mut Vec<Task<B, G>>,
 )
     requires some { 0 < length tasks.old.items }

@@ -11,7 +11,7 @@ use actor_plan::outcome::Outcome;
 use bt_core::memory::Memory;
 use cpu_worker::worker::CpuWorker;
 use cpu_worker::world::WorkerTurns;
-use run_base::numbers::sum;
+use run_objects::numbers::sum;
 use stamped::trace::Trace;
 use std::alloc::Global;
 use turn_lock::gate::Gate;

@@ -1,4 +1,4 @@
-// Recordings, files under their names, and calls over them.
+// Recordings by their parts, files under their names, and calls over them.
 use bt_core::memory::Memory;
 use bt_io::mem_shelf::MemShelf;
 use bt_io::mem_sink::MemSink;
@@ -10,110 +10,62 @@ use std::sync::Wait;
 use std::thread::Threads;
 use turn_lock::gate::Gate;
 
-/// The format text of an event `e` with one field.
-const FORMAT: &[u8] = b"name: e\nID: 7\nformat:\n\tfield:long v;\toffset:8;\tsize:8;\tsigned:1;\n";
+/// What stands in a recording behind the magic and the number of its CPUs: one format, of an event `e` with one field, and the time from 0
+/// to two seconds.
+pub const HEAD: &[u8] = b"\x01\0\0\0\0\0\0\0\0\0\0\0\0\x94\x35\x77\0\0\0\0\
+\x01\0t\x41\0\0\0name: e\n\
+ID: 7\n\
+format:\n\
+\tfield:long v;\toffset:8;\tsize:8;\tsigned:1;\n";
 
-/// An event `e` with this value.
-fn write_event(bytes: &mut Vec<u8>, time: u64, value: i64) -> Result<(), Memory> {
-    bytes.extend_from_slice(&time.to_le_bytes())?;
-    bytes.extend_from_slice(b"\x01\0\0\0\x01\0\0\0\0\0\0\0\0\0\0\0bash\0\0\0\0\0\0\0\0\0\0\0\0")?;
-    bytes.extend_from_slice(b"\x10\0\0\0\x07\0\0\0\0\0\0\0")?;
-    bytes.extend_from_slice(&value.to_le_bytes())?;
-    Ok(())
-}
+/// What stands behind the time of an event `e`, up to the value of its field.
+pub const REST: &[u8] = b"\x01\0\0\0\x01\0\0\0\0\0\0\0\0\0\0\0bash\0\0\0\0\0\0\0\0\0\0\0\0\
+\x10\0\0\0\x07\0\0\0\0\0\0\0";
 
-/// The CPU with this number, with so many events.
-fn write_head(bytes: &mut Vec<u8>, number: u32, events: u32) -> Result<(), Memory> {
-    bytes.extend_from_slice(&number.to_le_bytes())?;
-    bytes.extend_from_slice(&events.to_le_bytes())?;
-    Ok(())
-}
+/// The value 42.
+pub const VALUE: &[u8] = b"\x2a\0\0\0\0\0\0\0";
 
-/// So many events `e` of the CPU with this number, at the times 0, 1, 2 and so on.
-fn write_cpu(bytes: &mut Vec<u8>, number: u32, events: u32) -> Result<(), Memory> {
-    write_head(bytes, number, events)?;
-    for time in 0..events {
-        write_event(bytes, u64::from(time), 42)?;
+/// The times 0, 1, 2 and 3.
+pub const TIMES: [&[u8]; 4] = [
+    b"\0\0\0\0\0\0\0\0",
+    b"\x01\0\0\0\0\0\0\0",
+    b"\x02\0\0\0\0\0\0\0",
+    b"\x03\0\0\0\0\0\0\0",
+];
+
+/// What stands before the entries of the CPU 0 that has one.
+pub const FIRST_WITH_ONE: &[u8] = b"\0\0\0\0\x01\0\0\0";
+
+/// A recording of one CPU with one event `e`.
+pub const ONE: [&[u8]; 6] = [
+    b"BTRACE01\x01\0\0\0",
+    HEAD,
+    FIRST_WITH_ONE,
+    TIMES[0],
+    REST,
+    VALUE,
+];
+
+/// A recording of two CPUs with one event `e` each.
+pub const ONE_EACH: [&[u8]; 10] = [
+    b"BTRACE01\x02\0\0\0",
+    HEAD,
+    FIRST_WITH_ONE,
+    TIMES[0],
+    REST,
+    VALUE,
+    b"\x01\0\0\0\x01\0\0\0",
+    TIMES[0],
+    REST,
+    VALUE,
+];
+
+/// Parts as one.
+pub fn joined(alloc: Global, parts: &[&[u8]]) -> Result<Vec<u8>, Memory> {
+    let mut bytes = Vec::new(alloc);
+    for part in parts {
+        bytes.extend_from_slice(part)?;
     }
-    Ok(())
-}
-
-/// A recording of so many CPUs that begins with these bytes, up to the first CPU.
-fn begun(alloc: Global, magic: &[u8], cpus: u32) -> Result<Vec<u8>, Memory> {
-    let mut bytes = Vec::from_slice(alloc, magic)?;
-    bytes.extend_from_slice(&cpus.to_le_bytes())?;
-    bytes.extend_from_slice(b"\x01\0\0\0")?;
-    bytes.extend_from_slice(&0u64.to_le_bytes())?;
-    bytes.extend_from_slice(&2_000_000_000u64.to_le_bytes())?;
-    bytes.extend_from_slice(b"\x01\0t\x41\0\0\0")?;
-    bytes.extend_from_slice(FORMAT)?;
-    Ok(bytes)
-}
-
-/// A recording of so many CPUs, each with so many events `e`.
-pub fn recording(alloc: Global, cpus: u32, events: u32) -> Result<Vec<u8>, Memory> {
-    let mut bytes = begun(alloc, b"BTRACE01", cpus)?;
-    for number in 0..cpus {
-        write_cpu(&mut bytes, number, events)?;
-    }
-    Ok(bytes)
-}
-
-/// A recording of one CPU, whose events `e` have these values, of fewer than 1,000.
-pub fn recording_of(alloc: Global, values: &[i64]) -> Result<Vec<u8>, Memory> {
-    let mut bytes = begun(alloc, b"BTRACE01", 1)?;
-    let values = &values[..values.len().min(999)];
-    write_head(&mut bytes, 0, values.len() as u32)?;
-    let mut time = 0u64;
-    for value in values {
-        write_event(&mut bytes, time, *value)?;
-        time = time.saturating_add(1);
-    }
-    Ok(bytes)
-}
-
-/// What a CPU of a recording with marks has: an event `e` at a time, or a mark at a time of so many lost ones.
-#[derive(Clone, Copy)]
-pub enum Recorded {
-    Event(u64),
-    Lost { time: u64, count: u64 },
-}
-
-/// What the CPU with this number has, of fewer than 1,000.
-fn write_recorded(bytes: &mut Vec<u8>, number: u32, entries: &[Recorded]) -> Result<(), Memory> {
-    let entries = &entries[..entries.len().min(999)];
-    write_head(bytes, number, entries.len() as u32)?;
-    for entry in entries {
-        match *entry {
-            Recorded::Event(time) => {
-                bytes.push(0)?;
-                write_event(bytes, time, 42)?;
-            }
-            Recorded::Lost { time, count } => {
-                bytes.push(1)?;
-                bytes.extend_from_slice(&time.to_le_bytes())?;
-                bytes.extend_from_slice(&count.to_le_bytes())?;
-            }
-        }
-    }
-    Ok(())
-}
-
-/// A recording with marks, of at most 64 CPUs that have these.
-pub fn recording_with_marks(alloc: Global, cpus: &[&[Recorded]]) -> Result<Vec<u8>, Memory> {
-    let cpus = &cpus[..cpus.len().min(64)];
-    let mut bytes = begun(alloc, b"BTRACE02", cpus.len() as u32)?;
-    for (number, entries) in cpus.iter().enumerate() {
-        write_recorded(&mut bytes, number as u32, entries)?;
-    }
-    Ok(bytes)
-}
-
-/// A recording with marks of one CPU, whose one entry is what these bytes tell.
-pub fn recording_of_entry(alloc: Global, entry: &[u8]) -> Result<Vec<u8>, Memory> {
-    let mut bytes = begun(alloc, b"BTRACE02", 1)?;
-    write_head(&mut bytes, 0, 1)?;
-    bytes.extend_from_slice(entry)?;
     Ok(bytes)
 }
 
@@ -147,12 +99,11 @@ pub fn report_on<S: Shelf, G: Gate + Sync, R: Threads + Wait + Sync>(
     Ok(serve(rt, alloc, words.as_slice(), shelf, out, err, gate))
 }
 
-/// What a call answered, and what it wrote.
+/// What a call answered, and what it wrote to its output.
 #[derive(Drop)]
 pub struct Answer {
     pub report: Report,
     pub out: MemSink,
-    pub err: MemSink,
 }
 
 /// The answer to words over a script and the bytes of a recording, on a shelf and sinks that do not fail.
@@ -169,5 +120,5 @@ pub fn answer_to<G: Gate + Sync, R: Threads + Wait + Sync>(
     let mut out = MemSink::new(alloc, 1 << 20, 4096, Vec::new(alloc))?;
     let mut err = MemSink::new(alloc, 4096, 4096, Vec::new(alloc))?;
     let report = report_on(rt, alloc, asked, &mut shelf, &mut out, &mut err, gate)?;
-    Ok(Answer { report, out, err })
+    Ok(Answer { report, out })
 }

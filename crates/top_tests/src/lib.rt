@@ -7,8 +7,6 @@ mod files;
 #[cfg(test)]
 mod machine;
 #[cfg(test)]
-mod marks;
-#[cfg(test)]
 mod programs;
 #[cfg(test)]
 mod side_by_side;

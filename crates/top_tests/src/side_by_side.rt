@@ -1,5 +1,5 @@
 // That CPUs run side by side, each at an object of its own.
-use crate::files::{Answer, answer_to, recording};
+use crate::files::{Answer, HEAD, ONE_EACH, REST, TIMES, VALUE, answer_to, joined};
 use bt_core::map::MapId;
 use bt_core::step::ObjectId;
 use std::sync::atomic::AtomicU64;
@@ -17,15 +17,6 @@ const LOOKS: u64 = 100_000_000;
 struct Noted {
     turns: AtomicU64,
     object: Mutex<Option<ObjectId>>,
-}
-
-impl Noted {
-    fn none() -> Noted {
-        Noted {
-            turns: AtomicU64::new(0),
-            object: Mutex::new(None),
-        }
-    }
 }
 
 /// Holds the first turn of each of the first two actors until the other one holds its first turn too, for so many looks at most.
@@ -61,13 +52,17 @@ impl Gate for UntilBoth {
     }
 }
 
-/// The first part of a map.
-fn first_part(map: u32) -> ObjectId {
+/// The first part of the first map, and that of the second.
+const FIRST_PARTS: [ObjectId; 2] = [
     ObjectId::Shared {
-        map: MapId(map),
+        map: MapId(0),
         part: 0,
-    }
-}
+    },
+    ObjectId::Shared {
+        map: MapId(1),
+        part: 0,
+    },
+];
 
 /// The words of a run on threads.
 const RUN: [&str; 3] = ["run", "s.bt", "r.bin"];
@@ -83,18 +78,24 @@ fn cpus_run_side_by_side(rt: HostRuntime) -> Result<(), Fail> {
         (
             b"tracepoint:t:e { if (cpu == 0) { @x = 1; } else { @y = 1; } }".as_slice(),
             b"@x: 1\n\n@y: 1\n\n".as_slice(),
-            (first_part(0), first_part(1)),
+            (FIRST_PARTS[0], FIRST_PARTS[1]),
         ),
     ];
     for (script, wanted, (first, second)) in rows {
         let gate = UntilBoth {
-            first: Noted::none(),
-            second: Noted::none(),
+            first: Noted {
+                turns: AtomicU64::new(0),
+                object: Mutex::new(None),
+            },
+            second: Noted {
+                turns: AtomicU64::new(0),
+                object: Mutex::new(None),
+            },
             missed: AtomicU64::new(0),
         };
         let alloc = rt.alloc();
-        let recording = recording(alloc, 2, 1)?;
-        let Answer { report, out, .. } = answer_to(&rt, alloc, &RUN, script, recording, &gate)?;
+        let recording = joined(alloc, &ONE_EACH)?;
+        let Answer { report, out } = answer_to(&rt, alloc, &RUN, script, recording, &gate)?;
         assert!(rt; report.status == 0);
         assert!(rt; out.taken() == wanted);
         assert!(rt; *gate.first.object.lock(&rt) == Some(first));
@@ -104,26 +105,46 @@ fn cpus_run_side_by_side(rt: HostRuntime) -> Result<(), Fail> {
     Ok(())
 }
 
+/// A recording of two CPUs with two events `e` each.
+const TWO_EACH: [&[u8]; 16] = [
+    b"BTRACE01\x02\0\0\0",
+    HEAD,
+    b"\0\0\0\0\x02\0\0\0",
+    TIMES[0],
+    REST,
+    VALUE,
+    TIMES[1],
+    REST,
+    VALUE,
+    b"\x01\0\0\0\x02\0\0\0",
+    TIMES[0],
+    REST,
+    VALUE,
+    TIMES[1],
+    REST,
+    VALUE,
+];
+
 #[test]
 fn every_schedule_has_as_many_steps(rt: HostRuntime) -> Result<(), Fail> {
     let rows = [
         // For each event an add, three reads and what is emitted.
         (
             b"tracepoint:t:e { @ = count(); print(@); }".as_slice(),
-            1,
+            ONE_EACH.as_slice(),
             10,
         ),
         // Four adds, and for each of two ticks two crossings, three reads and what is emitted.
         (
             b"tracepoint:t:e { @ = count(); } interval:s:1 { print(@); }".as_slice(),
-            2,
+            TWO_EACH.as_slice(),
             16,
         ),
     ];
-    for (script, events, wanted) in rows {
+    for (script, parts, wanted) in rows {
         for _ in 0..50 {
             let alloc = rt.alloc();
-            let recording = recording(alloc, 2, events)?;
+            let recording = joined(alloc, parts)?;
             let Answer { report, .. } = answer_to(&rt, alloc, &RUN, script, recording, &Open)?;
             let work = report.work.ok_or("no work")?;
             assert_eq!(rt; work.steps.len(), wanted);

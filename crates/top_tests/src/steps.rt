@@ -1,8 +1,13 @@
-// Steps by their names.
+// The steps that are handed back.
+use crate::files::{
+    Answer, FIRST_WITH_ONE, HEAD, ONE, ONE_EACH, REST, TIMES, VALUE, answer_to, joined,
+};
 use bt_core::step::Op;
+use std::test::Fail;
+use turn_lock::gate::Open;
 
 /// What an operation is called.
-pub fn name_of(op: &Op) -> &str {
+fn name_of(op: &Op) -> &str {
     match op {
         Op::Get(_) => "get",
         Op::Set(_, _) => "set",
@@ -14,4 +19,126 @@ pub fn name_of(op: &Op) -> &str {
         Op::Emit(_) => "emit",
         _ => "another",
     }
+}
+
+/// A mark of five lost events, behind its first byte and its time.
+const FIVE_LOST: &[u8] = b"\x05\0\0\0\0\0\0\0";
+
+/// A recording whose one CPU has an event, a mark and an event.
+const MARKED_BETWEEN: [&[u8]; 14] = [
+    b"BTRACE02\x01\0\0\0",
+    HEAD,
+    b"\0\0\0\0\x03\0\0\0",
+    b"\0",
+    TIMES[1],
+    REST,
+    VALUE,
+    b"\x01",
+    TIMES[2],
+    FIVE_LOST,
+    b"\0",
+    TIMES[3],
+    REST,
+    VALUE,
+];
+
+/// A recording whose one CPU has an event and a mark.
+const MARKED_BEHIND: [&[u8]; 10] = [
+    b"BTRACE02\x01\0\0\0",
+    HEAD,
+    b"\0\0\0\0\x02\0\0\0",
+    b"\0",
+    TIMES[1],
+    REST,
+    VALUE,
+    b"\x01",
+    TIMES[2],
+    FIVE_LOST,
+];
+
+/// Words, a script, the parts of a recording, the output, and by whom each step is made and what it does.
+type Row = (
+    &'static [&'static str],
+    &'static [u8],
+    &'static [&'static [u8]],
+    &'static [u8],
+    &'static [(u32, &'static str)],
+);
+
+const ROWS: [Row; 4] = [
+    // A mark is told between the events that it stands between.
+    (
+        &["run", "s.bt", "r.bin"],
+        b"tracepoint:t:e { @ = count(); }",
+        &MARKED_BETWEEN,
+        b"WARNING: 5 events lost on cpu 0\n@: 2\n\n",
+        &[(0, "add"), (0, "emit"), (0, "add")],
+    ),
+    // Nothing is told of a mark behind a stop.
+    (
+        &["run", "s.bt", "r.bin"],
+        b"tracepoint:t:e { exit(); }",
+        &MARKED_BEHIND,
+        b"",
+        &[(0, "check"), (0, "stop"), (0, "check")],
+    ),
+    // An increment is a get and a set.
+    (
+        &["run", "--serial", "s.bt", "r.bin"],
+        b"tracepoint:t:e { @x++; }",
+        &ONE_EACH,
+        b"@x: 2\n\n",
+        &[(0, "get"), (0, "set"), (1, "get"), (1, "set")],
+    ),
+    // A map is read and cleared in each of its eight parts.
+    (
+        &["run", "s.bt", "r.bin"],
+        b"BEGIN { @m[1] = 1; @m[9] = 2; @m[2] = 3; print(@m); clear(@m); }",
+        &ONE,
+        b"@m[1]: 1\n@m[9]: 2\n@m[2]: 3\n\n",
+        &[
+            (1, "set"),
+            (1, "set"),
+            (1, "set"),
+            (1, "read"),
+            (1, "read"),
+            (1, "read"),
+            (1, "read"),
+            (1, "read"),
+            (1, "read"),
+            (1, "read"),
+            (1, "read"),
+            (1, "emit"),
+            (1, "clear"),
+            (1, "clear"),
+            (1, "clear"),
+            (1, "clear"),
+            (1, "clear"),
+            (1, "clear"),
+            (1, "clear"),
+            (1, "clear"),
+        ],
+    ),
+];
+
+#[test]
+fn steps_are_handed_back_in_their_order(rt: HostRuntime) -> Result<(), Fail> {
+    let alloc = rt.alloc();
+    for (place, (words, script, parts, wanted, steps)) in ROWS.iter().enumerate() {
+        let recording = joined(alloc, parts)?;
+        let Answer { report, out } = answer_to(&rt, alloc, words, script, recording, &Open)?;
+        assert!(rt; report.status == 0 && out.taken() == *wanted, "row {place}");
+        let made = report.work.ok_or("no work")?.steps.to_vec(alloc)?;
+        assert!(rt; made.len() == steps.len(), "row {place}");
+        let mut stamp = 1u64;
+        for (step, (actor, name)) in made.iter().zip(steps.iter()) {
+            assert!(rt;
+                step.actor == *actor && step.stamp == stamp,
+                "row {place}, step {stamp}"
+            );
+            assert!(rt; name_of(&step.op) == *name, "row {place}, step {stamp}");
+            stamp = stamp.saturating_add(1);
+        }
+    }
+    Ok(())
 }

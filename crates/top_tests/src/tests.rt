@@ -1,12 +1,9 @@
-// Faults of files and sinks, want of memory, a long recording, and the steps that are handed back.
-ghost use Rattle.std.specs.Prelude.{◌-◌, ◌<◌, ◌^◌, None};
+// Faults of files and sinks, want of memory, and a long recording.
+ghost use Rattle.std.specs.Prelude.{◌-◌, ◌^◌, None};
 
-use crate::files::{Answer, answer_to, files, recording, report_on};
+use crate::files::{Answer, HEAD, REST, TIMES, VALUE, answer_to, files, joined, report_on};
 use crate::machine::instructions_of;
-use crate::steps::name_of;
 use bt_core::items::Items;
-use bt_core::memory::Memory;
-use bt_core::step::Step;
 use bt_io::mem_shelf::MemShelf;
 use bt_io::mem_sink::MemSink;
 use bt_io::shelf::{Shelf, ShelfError};
@@ -20,131 +17,105 @@ const COUNT: &[u8] = b"tracepoint:t:e { @ = count(); }";
 /// The words that run it.
 const RUN: [&str; 3] = ["run", "s.bt", "r.bin"];
 
-/// A shelf of the counting script and of a recording, of which the calls of these numbers fail.
-fn shelf(alloc: Global, events: u32, failing: &[u32]) -> Result<MemShelf, Memory> {
-    let recording = recording(alloc, 1, events)?;
-    Ok(MemShelf::new(
-        alloc,
-        files(alloc, COUNT, recording)?,
-        Vec::from_slice(alloc, failing)?,
-    ))
-}
-
-/// A sink that takes `most` bytes a call, of which the calls of these numbers fail.
-fn sink(alloc: Global, most: usize, failing: &[u32]) -> Result<MemSink, Memory>
-    requires { 0 < most }
-{
-    MemSink::new(alloc, 4096, most, Vec::from_slice(alloc, failing)?)
-}
-
 #[test]
 fn a_million_events_are_counted(rt: HostRuntime) -> Result<(), Fail> {
     let alloc = rt.alloc();
-    let words = ["run", "s.bt", "r.bin"];
-    let recording = recording(alloc, 1, 1_048_576)?;
-    let Answer { report, out, .. } = answer_to(&rt, alloc, &words, COUNT, recording, &Open)?;
+    let parts = [b"BTRACE01\x01\0\0\0", HEAD, b"\0\0\0\0\0\0\x10\0"];
+    let mut recording = joined(alloc, &parts)?;
+    for time in 0..1_048_576u64 {
+        recording.extend_from_slice(&time.to_le_bytes())?;
+        recording.extend_from_slice(REST)?;
+        recording.extend_from_slice(VALUE)?;
+    }
+    let Answer { report, out } = answer_to(&rt, alloc, &RUN, COUNT, recording, &Open)?;
     assert!(rt; report.status == 0);
     assert!(rt; out.taken() == b"@: 1048576\n\n".as_slice());
     Ok(())
 }
 
-#[test]
-fn an_increment_is_a_get_and_a_set(rt: HostRuntime) -> Result<(), Fail> {
-    let alloc = rt.alloc();
-    let words = ["run", "--serial", "s.bt", "r.bin"];
-    let script = b"tracepoint:t:e { @x++; }".as_slice();
-    let recording = recording(alloc, 2, 1)?;
-    let Answer { report, .. } = answer_to(&rt, alloc, &words, script, recording, &Open)?;
-    let work = report.work.ok_or("no work")?;
-    assert!(rt; work.steps.len() == 4);
-    let wanted = [(0, 1, "get"), (0, 2, "set"), (1, 3, "get"), (1, 4, "set")];
-    let steps = work.steps.to_vec(alloc)?;
-    for (step, (actor, stamp, name)) in steps.iter().zip(wanted) {
-        assert!(rt; step.actor == actor && step.stamp == stamp);
-        assert!(rt; name_of(&step.op) == name);
-    }
-    Ok(())
-}
+/// A recording of one CPU with three events `e`.
+const THREE: [&[u8]; 12] = [
+    b"BTRACE01\x01\0\0\0",
+    HEAD,
+    b"\0\0\0\0\x03\0\0\0",
+    TIMES[0],
+    REST,
+    VALUE,
+    TIMES[1],
+    REST,
+    VALUE,
+    TIMES[2],
+    REST,
+    VALUE,
+];
 
-/// How many of the steps make this operation.
-fn count_of(steps: &[Step], name: &str) -> usize {
-    steps
-        .iter()
-        .filter(|step| name_of(&step.op) == name)
-        .count()
-}
+/// How many bytes a sink takes a call, of which the calls of these numbers fail.
+type Taking = (usize, &'static [u32]);
 
-#[test]
-fn a_map_is_read_and_cleared_in_each_of_its_eight_parts(rt: HostRuntime) -> Result<(), Fail> {
-    let alloc = rt.alloc();
-    let words = ["run", "s.bt", "r.bin"];
-    let script = b"BEGIN { @m[1] = 1; @m[9] = 2; @m[2] = 3; print(@m); clear(@m); }".as_slice();
-    let recording = recording(alloc, 1, 1)?;
-    let Answer { report, .. } = answer_to(&rt, alloc, &words, script, recording, &Open)?;
-    let work = report.work.ok_or("no work")?;
-    let steps = work.steps.to_vec(alloc)?;
-    assert_eq!(rt; steps.len(), 20);
-    for (name, count) in [("set", 3usize), ("read", 8), ("emit", 1), ("clear", 8)] {
-        assert_eq!(rt; count_of(steps.as_slice(), name), count);
-    }
-    Ok(())
-}
+/// Words, which reads fail, what the output and `err` take, the status, what both have then, and whether there is work.
+type Row = (
+    [&'static str; 3],
+    &'static [u32],
+    [Taking; 2],
+    u8,
+    &'static [u8],
+    &'static [u8],
+    bool,
+);
 
-#[test]
-fn a_write_fault_leaves_a_prefix_and_the_work(rt: HostRuntime) -> Result<(), Fail> {
-    let alloc = rt.alloc();
-    let mut shelf = shelf(alloc, 3, &[])?;
-    let mut out = sink(alloc, 2, &[2])?;
-    let mut err = sink(alloc, 3, &[3])?;
-    let report = report_on(&rt, alloc, &RUN, &mut shelf, &mut out, &mut err, &Open)?;
-    assert!(rt; report.status == 5);
-    assert!(rt; out.taken() == b"@:".as_slice());
-    // The fault of `err` leaves a prefix of its line, and changes nothing else.
-    assert!(rt; err.taken() == b"write ".as_slice());
-    let work = report.work.ok_or("no work")?;
-    assert!(rt; work.text.as_slice() == b"@: 3\n\n".as_slice());
-    assert!(rt; work.steps.len() == 3);
-    assert_eq!(rt; report.programs.len(), 1);
-    let one = instructions_of(alloc, &report.programs.as_slice()[0], 42)?;
-    assert_eq!(rt; work.instructions, one.saturating_mul(3));
-    Ok(())
-}
-
-#[test]
-fn a_write_fault_of_a_check_leaves_a_prefix(rt: HostRuntime) -> Result<(), Fail> {
-    let alloc = rt.alloc();
-    let mut shelf = shelf(alloc, 3, &[])?;
-    let mut out = sink(alloc, 1, &[3])?;
-    let mut err = sink(alloc, 64, &[])?;
-    let report = report_on(
-        &rt,
-        alloc,
-        &["check", "s.bt", "r.bin"],
-        &mut shelf,
-        &mut out,
-        &mut err,
-        &Open,
-    )?;
-    assert!(rt; report.status == 5 && report.work.is_none());
-    assert!(rt; out.taken() == b"ok".as_slice());
-    assert!(rt; err.taken() == b"write fault\n".as_slice());
-    Ok(())
-}
+const FAULTS: [Row; 4] = [
+    // A fault of `err` too leaves a prefix of its line, and changes nothing else.
+    (RUN, &[], [(2, &[2]), (3, &[3])], 5, b"@:", b"write ", true),
+    (
+        ["check", "s.bt", "r.bin"],
+        &[],
+        [(1, &[3]), (64, &[])],
+        5,
+        b"ok",
+        b"write fault\n",
+        false,
+    ),
+    (
+        RUN,
+        &[1],
+        [(4096, &[]), (4096, &[])],
+        4,
+        b"",
+        b"s.bt: read fault\n",
+        false,
+    ),
+    (
+        RUN,
+        &[2],
+        [(4096, &[]), (4096, &[])],
+        4,
+        b"",
+        b"r.bin: read fault\n",
+        false,
+    ),
+];
 
 #[test]
-fn a_failing_read_is_told_of_its_file(rt: HostRuntime) -> Result<(), Fail> {
+fn a_fault_leaves_a_prefix_and_the_work(rt: HostRuntime) -> Result<(), Fail> {
     let alloc = rt.alloc();
-    for (call, line) in [
-        (1, b"s.bt: read fault\n".as_slice()),
-        (2, b"r.bin: read fault\n".as_slice()),
-    ] {
-        let mut shelf = shelf(alloc, 3, &[call])?;
-        let mut out = sink(alloc, 4096, &[])?;
-        let mut err = sink(alloc, 4096, &[])?;
-        let report = report_on(&rt, alloc, &RUN, &mut shelf, &mut out, &mut err, &Open)?;
-        assert!(rt; report.status == 4);
-        assert!(rt; out.taken().is_empty());
-        assert!(rt; err.taken() == line);
+    for (words, failing, [out, err], status, told, line, works) in FAULTS {
+        let failing = Vec::from_slice(alloc, failing)?;
+        let files = files(alloc, COUNT, joined(alloc, &THREE)?)?;
+        let mut shelf = MemShelf::new(alloc, files, failing);
+        assert!(rt; 0 < out.0 && 0 < err.0);
+        let mut out = MemSink::new(alloc, 4096, out.0, Vec::from_slice(alloc, out.1)?)?;
+        let mut err = MemSink::new(alloc, 4096, err.0, Vec::from_slice(alloc, err.1)?)?;
+        let report = report_on(&rt, alloc, &words, &mut shelf, &mut out, &mut err, &Open)?;
+        assert!(rt; report.status == status, "{line:?}");
+        assert!(rt; out.taken() == told && err.taken() == line, "{line:?}");
+        assert!(rt; report.work.is_some() == works, "{line:?}");
+        if let Some(work) = report.work {
+            assert!(rt; work.text.as_slice() == b"@: 3\n\n".as_slice());
+            assert!(rt; work.steps.len() == 3);
+            assert_eq!(rt; report.programs.len(), 1);
+            let one = instructions_of(alloc, &report.programs.as_slice()[0], 42)?;
+            assert_eq!(rt; work.instructions, one.saturating_mul(3));
+        }
     }
     Ok(())
 }
@@ -193,8 +164,8 @@ fn a_long_recording_and_want_of_memory_are_told(rt: HostRuntime) -> Result<(), F
             answer: answer_of_recording,
             asked: Items::new(alloc),
         };
-        let mut out = sink(alloc, 4096, &[])?;
-        let mut err = sink(alloc, 4096, &[])?;
+        let mut out = MemSink::new(alloc, 4096, 4096, Vec::new(alloc))?;
+        let mut err = MemSink::new(alloc, 4096, 4096, Vec::new(alloc))?;
         let report = report_on(&rt, alloc, &RUN, &mut shelf, &mut out, &mut err, &Open)?;
         assert!(rt; report.status == status);
         assert!(rt; out.taken().is_empty());

@@ -11,7 +11,7 @@ use Rattle.bt_core.specs.declared.item.Cell.TheVariants as cells
 use Rattle.bt_core.specs.declared.map.AggKind.{AggKind}
 use Rattle.bt_core.specs.declared.map.AggKind.TheVariants.{Hist, Lhist}
 use Rattle.bt_core.specs.declared.value.Value.{Value}
-use Rattle.agg_core.specs.Aggregates.{aggregate, merged, signed, either, bucket, bounds, counts, buckets_of, upto}
+use Rattle.agg_core.specs.Aggregates.{aggregate, agg_merged, signed, either, bucket, bounds, counts, buckets_of, upto}
 use Rattle.agg_core.proofs.MergeLaws.{merged-both}
 use Rattle.agg_core.proofs.SortedRows.{row_at}
 use Rattle.map_rows.proofs.KeySets.{same_keys}
@@ -91,7 +91,7 @@ pub alike_append : (xs ys us vs : List Addition) → Alike xs us → Alike ys vs
 alike_append xs ys us vs p q = record {
   keys = λ k. named-append k xs ys ∙ (λ i. p.keys k i || q.keys k i) ∙ sym (named-append k us vs);
   cells = λ kind k. ap (aggregate kind) (numbers_at-append k xs ys) ∙ sym (merged-both kind (numbers_at k xs) (numbers_at k ys))
-      ∙ (λ i. merged (p.cells kind k i) (q.cells kind k i))
+      ∙ (λ i. agg_merged (p.cells kind k i) (q.cells kind k i))
       ∙ merged-both kind (numbers_at k us) (numbers_at k vs) ∙ ap (aggregate kind) (sym (numbers_at-append k us vs));
 }
 

@@ -19,7 +19,7 @@ use Rattle.bt_meaning.specs.Totals.{Addition, added}
 use Rattle.bt_meaning.proofs.Eachs.{each_front, each_back}
 use Rattle.walk_meaning.specs.declared.flow.Frame.{Frame}
 use Rattle.walk_meaning.specs.Does.{BodyScene, Does, given, looked_at, changed, lifted, bind, choose, gathered, if_holds}
-use Rattle.map_ops.specs.Asking.{told}
+use Rattle.map_ops.specs.Asking.{tells}
 use Rattle.map_ops.specs.Builtins.{builtin_value}
 use Rattle.walk_meaning.specs.Exprs.{value_by_parts, number_by_parts, text_by_parts, value_does, values_do, number_does, text_does}
 use Rattle.walk_meaning.specs.Maps.{add}
@@ -55,7 +55,7 @@ module _ (m : MapId) (one two : BodyScene) (like : AreLike one two) where
             (λ a e. subst (λ (z : A × Frame). Gives m two.actor y.0 (λ v. v ≡ y.1) (k z.0 two z.1)) (sym e) y.3),
       )
 
-  pub told-sure : (object : ObjectId) (op : Op) → is_plain one.actor object op → is_plain two.actor object op → Sure (lifted (λ scene. told object op))
+  pub told-sure : (object : ObjectId) (op : Op) → is_plain one.actor object op → is_plain two.actor object op → Sure (lifted (λ scene. tells object op))
   unfolding lifted
   told-sure object op p q frame = (added m op ++ [], (tt, frame), (p, [], refl, λ r. (refl, refl)), (q, [], refl, λ r. (refl, refl)))
 

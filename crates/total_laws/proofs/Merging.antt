@@ -12,7 +12,7 @@ use Rattle.agg_core.specs.Changes.{is_key}
 use Rattle.agg_core.proofs.KeyLaws.{is_key-true}
 use Rattle.agg_core.proofs.MergeLaws.{merged-both}
 use Rattle.agg_core.proofs.SortedRows.{Ascends, row_at}
-use Rattle.map_rows.specs.Merged.{ordered_keys, cells_at, joined, both_cells, merged_rows}
+use Rattle.map_rows.specs.Merged.{ordered_keys, cells_at, joined_cells, both_cells, merged_rows}
 use Rattle.map_rows.proofs.Entries.{names, ascends-ordered_keys, has-ordered_keys, names-append, cells_at-append, cells_at-cons, cells_at-none, holds}
 use Rattle.map_rows.proofs.KeySets.{has, same_keys, has_first, below_none}
 use Rattle.bt_meaning.specs.Totals.{Addition, addition_keys, numbers_at, total_rows}
@@ -66,7 +66,7 @@ module _ (kind : AggKind) where
   fold_cells ns (l ∷ ls) =
       ap (λ (a : Agg). fold both_cells (cells.Agg a) (map agg_cell ls)) (merged-both kind ns l) ∙ fold_cells (ns ++ l) ls ∙ ap agg_cell (append_assoc ns l (all_of ls))
 
-  joined_lists : (ls : List (List ℤ)) (c : Cell) (cs : List Cell) → map agg_cell ls ≡ c ∷ cs → joined (map agg_cell ls) ≡ agg_cell (all_of ls)
+  joined_lists : (ls : List (List ℤ)) (c : Cell) (cs : List Cell) → map agg_cell ls ≡ c ∷ cs → joined_cells (map agg_cell ls) ≡ agg_cell (all_of ls)
   joined_lists [] c cs e = cc
   joined_lists (l ∷ ls) c cs e = fold_cells l ls
 
@@ -113,10 +113,10 @@ module _ (kind : AggKind) where
           ∙ (λ i. (names_rows k (λ j. agg_cell (numbers_at j (given a))) (addition_keys (given a)) ∙ has-entry_keys k (given a)) i || names_each more i)
           ∙ sym (named-append k (given a) (flat_map given more))
 
-      cell_each : (actors : List ℕ) → names k (rows actors) ≡ true → joined (cells_at k (rows actors)) ≡ agg_cell (numbers_at k (flat_map given actors))
+      cell_each : (actors : List ℕ) → names k (rows actors) ≡ true → joined_cells (cells_at k (rows actors)) ≡ agg_cell (numbers_at k (flat_map given actors))
       cell_each actors named_there =
           let h = holds k (rows actors) named_there in
-          ap joined (at_each actors) ∙ joined_lists (parts actors) h.first h.later (sym (at_each actors) ∙ h.is) ∙ ap agg_cell (all_each actors)
+          ap joined_cells (at_each actors) ∙ joined_lists (parts actors) h.first h.later (sym (at_each actors) ∙ h.is) ∙ ap agg_cell (all_each actors)
 
 pub merged_each : (kind : AggKind) (given : ℕ → List Addition) (actors : List ℕ)
     → merged_rows (flat_map (λ a. total_rows kind (given a)) actors) ≡ total_rows kind (flat_map given actors)
@@ -125,6 +125,6 @@ merged_each kind given actors =
     let keys : ordered_keys rows ≡ addition_keys all =
     same_keys (ordered_keys rows) (addition_keys all) (ascends-ordered_keys rows) (ascends-entry_keys all)
     (λ k. has-ordered_keys k rows ∙ names_each kind k given actors ∙ sym (has-entry_keys k all)) in
-    map_members (row_at (λ k. joined (cells_at k rows))) (row_at (λ k. cells.Agg (aggregate kind (numbers_at k all)))) (ordered_keys rows)
+    map_members (row_at (λ k. joined_cells (cells_at k rows))) (row_at (λ k. cells.Agg (aggregate kind (numbers_at k all)))) (ordered_keys rows)
     (λ k h i. (k, cell_each kind k given actors (sym (has-ordered_keys k rows) ∙ h) i))
     ∙ ap (map (row_at (λ k. cells.Agg (aggregate kind (numbers_at k all))))) keys

@@ -32,7 +32,7 @@ use Rattle.walk_meaning.specs.Does.{BodyScene, Does, given, changed, lifted, bin
 use Rattle.walk_meaning.specs.Exprs.{value_does, values_do, number_does}
 use Rattle.walk_meaning.specs.Maps.{kind_in_body, add}
 use Rattle.map_ops.specs.Holders.{holder, holders, sweep_op}
-use Rattle.map_ops.specs.Asking.{told, asked_from, swept, printed}
+use Rattle.map_ops.specs.Asking.{tells, asked_from, swept, printed}
 use Rattle.walk_meaning.specs.Stmts.{plain, stmt_by_parts, block_by_parts, stmt_does, block_does, number_or_one, print, if_next, in_sequence, first_arm, arm_does, cut, entered, turn, turns, tests, while_true, again}
 use Rattle.walk_meaning.specs.Walk.{walk, first_frame, guarded, ending_of, tree_does}
 use Rattle.total_laws.proofs.Adding.{is_plain, Gives, gives-then}
@@ -81,7 +81,7 @@ module _ (m : MapId) (one two : BodyScene) (like : AreLike one two) where
   printed-reads : (actor : ℕ) (kind : MapKind) (number : MapId) (top : ℕ) (div : ℤ) (actors : ℕ) → JustReads actor (printed kind number top div actors)
   printed-reads actor kind number top div actors =
       gives-then m actor [] [] (λ (rs : List Reply). Unit {0}) (λ (u : Unit {0}). Unit {0}) (swept Read kind number actors)
-      (λ replies. told Out (ops.Emit (items.Map number (merged kind replies) top div))) (swept-reads actor kind number actors) (λ replies h. (tt, [], refl, λ r. (refl, tt)))
+      (λ replies. tells Out (ops.Emit (items.Map number (merged kind replies) top div))) (swept-reads actor kind number actors) (λ replies h. (tt, [], refl, λ r. (refl, tt)))
 
   reads-sure : (ask : BodyScene → Interaction (Unit {0})) → JustReads one.actor (ask one) → JustReads two.actor (ask two) → Gets (lifted ask)
   unfolding lifted
@@ -101,7 +101,7 @@ module _ (m : MapId) (one two : BodyScene) (like : AreLike one two) where
   -- ---- loops
 
   cut-sure : (line : ℕ) → Gets (cut line)
-  cut-sure line = then-given m one two like (lifted (λ scene. told Out (ops.Emit (items.Cut line)))) (λ u. _) (told-sure m one two like Out (ops.Emit (items.Cut line)) tt tt)
+  cut-sure line = then-given m one two like (lifted (λ scene. tells Out (ops.Emit (items.Cut line)))) (λ u. _) (told-sure m one two like Out (ops.Emit (items.Cut line)) tt tt)
 
   entered-sure : (line : ℕ) (block : Does Flow) (n : ℕ) → Gets block → Gets (entered line block n)
   entered-sure line block zero p = cut-sure line
@@ -189,8 +189,8 @@ module _ (m : MapId) (one two : BodyScene) (like : AreLike one two) where
   number-sure None q = given-sure m one two like _
   number-sure (Some e) q = num_sure m one two like e q
 
-  emit-sure : (op : Op) → is_plain one.actor Out op → is_plain two.actor Out op → Gets (plain (lifted (λ scene. told Out op)))
-  emit-sure op p q = plain-sure (lifted (λ scene. told Out op)) (told-sure m one two like Out op p q)
+  emit-sure : (op : Op) → is_plain one.actor Out op → is_plain two.actor Out op → Gets (plain (lifted (λ scene. tells Out op)))
+  emit-sure op p q = plain-sure (lifted (λ scene. tells Out op)) (told-sure m one two like Out op p q)
 
   stmt_case : (h : TypedStmt-F ManyStmt ManyBlock) (inside : Bool)
       → Calm (tree.stmt_layer (map-TypedStmt TypedStmt TypedBlock (Bool → List Part) (Bool → List Part) stmt_parts block_parts (stmt_of h)) inside)

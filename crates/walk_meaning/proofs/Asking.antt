@@ -29,7 +29,7 @@ use Rattle.walk_meaning.specs.declared.view.View.{View}
 use Rattle.walk_meaning.specs.Admits.{AdmitsOf, EmitsOnly}
 use Rattle.walk_meaning.specs.Does.{BodyScene, Does, given, looked_at, changed, lifted, bind, choose, gathered, in_order, if_holds}
 use Rattle.walk_meaning.specs.Exprs.{read, value_by_parts, number_by_parts, text_by_parts, value_does, number_does, text_does, step_at}
-use Rattle.map_ops.specs.Asking.{told, got}
+use Rattle.map_ops.specs.Asking.{tells, got}
 use Rattle.map_ops.specs.Holders.{part}
 use Rattle.walk_meaning.specs.Maps.{get, set}
 use Rattle.walk_meaning.specs.Served.{IsServed, Fits, scene_in, scope_in}
@@ -73,8 +73,8 @@ module _ (setting : Setting) (fine : Item → Type 0) (scene : BodyScene) where
   lifted-good {A} holds ask p frame =
       Admits-bind (IsFineCall setting fine) setting.maps holds (λ (w : A × Frame). holds w.0) (ask scene) (λ value. Ended (value, frame)) p (λ value h. h)
 
-  pub told-good : (object : ObjectId) (op : Op) → CanStep setting object op → EmitsOnly fine op → Good Any (lifted (λ s. told object op))
-  told-good object op p f = lifted-good Any (λ s. told object op) ((p, f), λ reply kind. tt)
+  pub told-good : (object : ObjectId) (op : Op) → CanStep setting object op → EmitsOnly fine op → Good Any (lifted (λ s. tells object op))
+  told-good object op p f = lifted-good Any (λ s. tells object op) ((p, f), λ reply kind. tt)
 
   pub choose-good : {A : Type 0} (holds : A → Type 0) (b : Bool) (one other : Does A) → Good holds one → Good holds other → Good holds (choose b one other)
   unfolding choose

@@ -45,7 +45,7 @@ use Rattle.walk_meaning.specs.Does.{Does, given, changed, lifted, bind, in_order
 use Rattle.walk_meaning.specs.Exprs.{value_does, values_do, number_does}
 use Rattle.map_ops.specs.Holders.{part, holder, holders, sweep_op, CanSweep}
 use Rattle.walk_meaning.specs.Maps.{get, set, delete, add, kind_in_body}
-use Rattle.map_ops.specs.Asking.{asked_from, told, swept, printed}
+use Rattle.map_ops.specs.Asking.{asked_from, tells, swept, printed}
 use Rattle.map_ops.proofs.Sweeping.{sweep_step}
 use Rattle.walk_meaning.specs.Stmts.{stmt_by_parts, block_by_parts, stmt_does, block_does, number_or_one, print, clear, zero_all, if_next, in_sequence, first_arm, arm_does, cut, entered, turn, turns, tests, while_true, again}
 use Rattle.walk_meaning.specs.Walk.{walk, first_frame, guarded, ending_of, tree_does}
@@ -149,7 +149,7 @@ module _ (v : View) (setting : Setting) (served : IsServed v setting) (fine : It
       plain-good (lifted (λ scene. printed (kind_in_body m scene.maps) m top div scene.actors))
       (lifted-good setting fine (scene_in v) Free (λ scene. printed (kind_in_body m scene.maps) m top div scene.actors)
       (Admits-bind (IsFineCall setting fine) setting.maps (Swept Read (kind_here m) m) Free (swept Read (kind_here m) m v.actors)
-      (λ replies. told Out (ops.Emit (items.Map m (merged (kind_here m) replies) top div)))
+      (λ replies. tells Out (ops.Emit (items.Map m (merged (kind_here m) replies) top div)))
       (swept-fine Read (kind_here m) m (sweep_can v setting m served named)) (λ replies h. ((tt, emits.rows m top div replies named divides h), λ reply kind. tt))))
 
   clear-good : (m : MapId) → IsTrue (is_there (decl_of m.0 v.body.now.maps)) → Does_good Free (clear m)
@@ -161,7 +161,7 @@ module _ (v : View) (setting : Setting) (served : IsServed v setting) (fine : It
   -- ---- loops
 
   cut-good : (line : ℕ) → Does_good Free (cut line)
-  cut-good line = then-given v setting served fine (lifted (λ scene. told Out (ops.Emit (items.Cut line)))) (λ u. _) (told-good setting fine (scene_in v) Out (ops.Emit (items.Cut line)) tt (emits.cut line))
+  cut-good line = then-given v setting served fine (lifted (λ scene. tells Out (ops.Emit (items.Cut line)))) (λ u. _) (told-good setting fine (scene_in v) Out (ops.Emit (items.Cut line)) tt (emits.cut line))
 
   entered-good : (line : ℕ) (block : Does Flow) (n : ℕ) → Does_good Free block → Does_good Free (entered line block n)
   entered-good line block zero p = cut-good line
@@ -266,13 +266,13 @@ module _ (v : View) (setting : Setting) (served : IsServed v setting) (fine : It
       let found = gathering v setting m _ kind served (gather_head v m (map made_of keys) kind number fit) in
       bind-good setting fine (scene_in v) (Keyed keys) Free (in_order (values_do keys)) _ (keys-good keys p.0)
       (λ key shaped. bind-good setting fine (scene_in v) Free Free (number_or_one number) _ (number-good number p.1)
-      (λ n h. plain-good (add m key n) (lifted-good setting fine (scene_in v) Free (λ scene. told (Cpu scene.actor) (ops.Add m key n))
+      (λ n h. plain-good (add m key n) (lifted-good setting fine (scene_in v) Free (λ scene. tells (Cpu scene.actor) (ops.Add m key n))
       ((add_can v setting m _ key n served found shaped, tt), λ reply kind. tt))))
   stmt_case (TypedStmt-F.Step e) inside fit = plain-good (number_does e) (num_good v setting served fine e fit)
   stmt_case (TypedStmt-F.Printf format es) inside fit =
       let p = halves (parts_in (map made_of es)) (Ending ∷ []) (tail (tree.Printed format (key_shapes (map made_of es))) (parts_in (map made_of es) ++ Ending ∷ []) fit) in
       bind-good setting fine (scene_in v) (Keyed es) Free (in_order (values_do es)) _ (keys-good es p.0)
-      (λ values h. plain-good (lifted (λ scene. told Out (ops.Emit (items.Printf format values)))) (told-good setting fine (scene_in v) Out (ops.Emit (items.Printf format values)) tt
+      (λ values h. plain-good (lifted (λ scene. tells Out (ops.Emit (items.Printf format values)))) (told-good setting fine (scene_in v) Out (ops.Emit (items.Printf format values)) tt
       (emits.printf format (key_shapes (map made_of es)) values (and_parts (fits (scope_in v) (tree.Printed format (key_shapes (map made_of es)))) _ fit).0 h)))
   stmt_case (TypedStmt-F.Print m top div) inside fit =
       let p = and_parts (fits (scope_in v) (tree.Shown m.0 top div)) true fit in
@@ -285,7 +285,7 @@ module _ (v : View) (setting : Setting) (served : IsServed v setting) (fine : It
       (λ key shaped. plain-good (delete m key) (told-good setting fine (scene_in v) (part m key) (ops.Delete key) (delete_can setting m _ key found shaped) tt))
   stmt_case (TypedStmt-F.Jump jumps.Break) inside fit = flow-good Break
   stmt_case (TypedStmt-F.Jump jumps.Continue) inside fit = flow-good Continue
-  stmt_case (TypedStmt-F.Jump jumps.Exit) inside fit = then-given v setting served fine (lifted (λ scene. told Clock ops.Stop)) (λ u. _) (told-good setting fine (scene_in v) Clock ops.Stop tt tt)
+  stmt_case (TypedStmt-F.Jump jumps.Exit) inside fit = then-given v setting served fine (lifted (λ scene. tells Clock ops.Stop)) (λ u. _) (told-good setting fine (scene_in v) Clock ops.Stop tt tt)
   stmt_case (TypedStmt-F.Jump jumps.Return) inside fit = flow-good (Stop _)
   stmt_case (TypedStmt-F.If arms None) inside fit = arms-good arms inside (given Next) (halves (arms_made inside arms) (otherwise_parts None) fit).0 (flow-good Next)
   stmt_case (TypedStmt-F.If arms (Some b)) inside fit =

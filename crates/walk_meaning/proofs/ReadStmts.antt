@@ -43,7 +43,7 @@ use Rattle.walk_meaning.specs.Exprs.{value_does, values_do, number_does}
 use Rattle.map_ops.specs.Values.{number_of}
 use Rattle.walk_meaning.specs.Maps.{get, set, kind_in_body}
 use Rattle.map_ops.specs.Holders.{holder, holders, sweep_op}
-use Rattle.map_ops.specs.Asking.{asked_from, told, swept, printed}
+use Rattle.map_ops.specs.Asking.{asked_from, tells, swept, printed}
 use Rattle.walk_meaning.specs.Reading.{Reader, number_under, updated_under, value_by, values_by, number_by, number_or_one_by, printed_by, print_by, arm_by, stmt_by, block_by, guarded_by, tree_by, walk_by}
 use Rattle.bt_core.specs.Same.{SameTo}
 use Rattle.walk_meaning.specs.Stmts.{plain, stmt_by_parts, block_by_parts, stmt_does, block_does, number_or_one, print, clear, zero_all, jump_to, cut, update_at, if_next, in_sequence, first_arm, arm_does, entered, turn, turns, tests, while_true, again}
@@ -108,7 +108,7 @@ module _ (comes : Call → Reply → Type 0) (reader : Reader) (v : View) (reads
       asked_from-same (kind_here m) (holder (kind_here m) m) (sweep_op Read (kind_here m) m) (holders (kind_here m) v.actors) 0 [] (λ i reply h. reads.rows m i reply named h) refl
 
   abbrev shown : MapId → ℕ → ℤ → List (List Value × Cell) → Interaction (Unit {0})
-  shown m top div rows = told Out (ops.Emit (items.Map m rows top div))
+  shown m top div rows = tells Out (ops.Emit (items.Map m rows top div))
 
   shown-same : (m : MapId) (top : ℕ) (div : ℤ) (kind : MapKind) (rs qs : List Reply) → Rows kind rs qs → SameTo comes (λ (a b : Unit {0}). a ≡ b) (shown m top div (merged_rows (flat_map (reader.rows kind) rs))) (shown m top div (merged kind qs))
   unfolding merged

@@ -7,7 +7,7 @@ use Rattle.bt_core.specs.declared.step.ObjectId.TheVariants.{Cpu}
 use Rattle.bt_core.specs.declared.step.Op.TheVariants as ops
 use Rattle.bt_core.specs.declared.value.Value.{Value}
 use Rattle.typed_tree.specs.Scope.{decl_of}
-use Rattle.map_ops.specs.Asking.{told, got}
+use Rattle.map_ops.specs.Asking.{tells, got}
 use Rattle.map_ops.specs.Holders.{part, kind_in}
 use Rattle.map_ops.specs.Values.{number_of, text_of, or_zero}
 use Rattle.walk_meaning.specs.declared.flow.Frame.{Frame}
@@ -34,14 +34,14 @@ abbrev pub get : MapId → List Value → Does Value
 get m key = lifted (λ scene. got m key)
 
 abbrev pub set : MapId → List Value → Value → Does (Unit {0})
-set m key value = lifted (λ scene. told (part m key) (ops.Set key value))
+set m key value = lifted (λ scene. tells (part m key) (ops.Set key value))
 
 abbrev pub delete : MapId → List Value → Does (Unit {0})
-delete m key = lifted (λ scene. told (part m key) (ops.Delete key))
+delete m key = lifted (λ scene. tells (part m key) (ops.Delete key))
 
 -- a number goes to the table of the run's actor
 abbrev pub add : MapId → List Value → ℤ → Does (Unit {0})
-add m key n = lifted (λ scene. told (Cpu scene.actor) (ops.Add m key n))
+add m key n = lifted (λ scene. tells (Cpu scene.actor) (ops.Add m key n))
 
 -- what a map holds, by the body's list
 abbrev pub kind_in_body : MapId → List (MapId × MapDecl) → MapKind

@@ -32,7 +32,7 @@ use Rattle.typed_tree.specs.declared.stmt.TypedStmt.TheOpen.{TypedStmt-F}
 use Rattle.walk_meaning.specs.declared.flow.Flow.{Flow}
 use Rattle.walk_meaning.specs.declared.flow.Flow.TheVariants.{Next}
 use Rattle.map_ops.specs.declared.sweep.Sweep.TheVariants.{Read}
-use Rattle.map_ops.specs.Asking.{told, swept}
+use Rattle.map_ops.specs.Asking.{tells, swept}
 use Rattle.map_ops.specs.Holders.{part}
 use Rattle.map_ops.specs.Values.{number_of, text_of, value_of, next}
 use Rattle.walk_meaning.specs.Does.{Does, given, lifted, bind, then, if_holds, in_order}
@@ -103,7 +103,7 @@ module _ (reader : Reader) where
   abbrev pub printed_by : MapKind → MapId → ℕ → ℤ → ℕ → Interaction (Unit {0})
   printed_by kind m top div actors =
       and_then (swept Read kind m actors)
-      (λ replies. told Out (ops.Emit (items.Map m (merged_rows (flat_map (reader.rows kind) replies)) top div)))
+      (λ replies. tells Out (ops.Emit (items.Map m (merged_rows (flat_map (reader.rows kind) replies)) top div)))
 
   abbrev pub print_by : MapId → ℕ → ℤ → Does Flow
   print_by m top div = plain (lifted (λ scene. printed_by (kind_in_body m scene.maps) m top div scene.actors))

@@ -18,7 +18,7 @@ use Rattle.bt_core.specs.declared.ending.Ending.TheVariants as endings
 use Rattle.walk_meaning.specs.declared.flow.Flow.{Flow}
 use Rattle.walk_meaning.specs.declared.flow.Flow.TheVariants.{Next, Break, Continue, Stop}
 use Rattle.map_ops.specs.declared.sweep.Sweep.TheVariants.{Clear, Zero}
-use Rattle.map_ops.specs.Asking.{told, swept, printed}
+use Rattle.map_ops.specs.Asking.{tells, swept, printed}
 use Rattle.map_ops.specs.Values.{number_of}
 use Rattle.walk_meaning.specs.Does.{Does, given, looked_at, changed, lifted, bind, then, if_holds, in_order}
 use Rattle.walk_meaning.specs.Maps.{number_variable, assigned, get, set, delete, add, kind_in_body}
@@ -54,7 +54,7 @@ abbrev pub gather : MapId → List (Does Value) → Does ℤ → Does Flow
 gather m keys number = bind (in_order keys) (λ key. bind number (λ n. plain (add m key n)))
 
 abbrev pub printf : ℕ → List (Does Value) → Does Flow
-printf format ds = bind (in_order ds) (λ values. plain (lifted (λ scene. told Out (ops.Emit (items.Printf format values)))))
+printf format ds = bind (in_order ds) (λ values. plain (lifted (λ scene. tells Out (ops.Emit (items.Printf format values)))))
 
 -- a map is printed, or all objects that hold it are swept, by what it holds
 abbrev pub print : MapId → ℕ → ℤ → Does Flow
@@ -72,7 +72,7 @@ delete_at m keys = bind (in_order keys) (λ key. plain (delete m key))
 abbrev pub jump_to : Jump → Does Flow
 jump_to jumps.Break = given Break
 jump_to jumps.Continue = given Continue
-jump_to jumps.Exit = then (lifted (λ scene. told Clock ops.Stop)) (given (Stop endings.Exit))
+jump_to jumps.Exit = then (lifted (λ scene. tells Clock ops.Stop)) (given (Stop endings.Exit))
 jump_to jumps.Return = given (Stop endings.Return)
 
 -- what follows a statement, where it leads there
@@ -98,7 +98,7 @@ block_or_next (Some block) = block
 
 -- no turn is made any more: the line of the loop is emitted, and the run ends
 abbrev pub cut : ℕ → Does Flow
-cut line = then (lifted (λ scene. told Out (ops.Emit (items.Cut line)))) (given (Stop endings.Cut))
+cut line = then (lifted (λ scene. tells Out (ops.Emit (items.Cut line)))) (given (Stop endings.Cut))
 
 -- the block is entered where a turn is left
 abbrev pub entered : ℕ → Does Flow → ℕ → Does Flow

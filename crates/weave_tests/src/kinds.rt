@@ -14,7 +14,7 @@ use step_list::list::StepList;
 use weave::woven::Woven;
 
 /// How many rows there are.
-const ROWS: u32 = 15;
+const ROWS: usize = 15;
 
 fn number_key(alloc: Global, number: i64) -> Result<Key, Memory> {
     Ok(Key::of(vec![in alloc; Value::Int(number)]?))
@@ -22,13 +22,6 @@ fn number_key(alloc: Global, number: i64) -> Result<Key, Memory> {
 
 fn text_key(alloc: Global, text: &[u8]) -> Result<Key, Memory> {
     Ok(Key::of(vec![in alloc; Value::Str(Str64::of(text))]?))
-}
-
-fn part(map: u32, part: u32) -> ObjectId {
-    ObjectId::Shared {
-        map: MapId(map),
-        part,
-    }
 }
 
 fn count(count: i64) -> Agg {
@@ -42,29 +35,50 @@ fn count(count: i64) -> Agg {
     }
 }
 
+const PART_0_OF_0: ObjectId = ObjectId::Shared {
+    map: MapId(0),
+    part: 0,
+};
+
+const PART_1_OF_0: ObjectId = ObjectId::Shared {
+    map: MapId(0),
+    part: 1,
+};
+
+const PART_0_OF_1: ObjectId = ObjectId::Shared {
+    map: MapId(1),
+    part: 0,
+};
+
+const PART_300_OF_2: ObjectId = ObjectId::Shared {
+    map: MapId(2),
+    part: 300,
+};
+
 /// The actor, the object and the stamp of each row, in the order of the list: equal stamps stand at several objects.
-fn place(row: u32) -> (u32, ObjectId, u64) {
-    match row {
-        0 => (300, part(0, 0), 1),
-        1 => (0, part(0, 1), 1),
-        2 => (1, ObjectId::Cpu(1), 1),
-        3 => (1, part(1, 0), 2),
-        4 => (0, ObjectId::Clock, 2),
-        5 => (300, ObjectId::Out, 2),
-        6 => (0, part(1, 0), 3),
-        7 => (1, part(2, 300), 3),
-        8 => (300, ObjectId::Cpu(0), 3),
-        9 => (1, part(0, 0), 4),
-        10 => (300, ObjectId::Cpu(0), 4),
-        11 => (0, ObjectId::Clock, 4),
-        12 => (300, ObjectId::Cpu(1), 5),
-        13 => (0, ObjectId::Clock, 5),
-        _ => (1, part(0, 1), 6),
-    }
-}
+const PLACES: [(u32, ObjectId, u64); ROWS] = [
+    (300, PART_0_OF_0, 1),
+    (0, PART_1_OF_0, 1),
+    (1, ObjectId::Cpu(1), 1),
+    (1, PART_0_OF_1, 2),
+    (0, ObjectId::Clock, 2),
+    (300, ObjectId::Out, 2),
+    (0, PART_0_OF_1, 3),
+    (1, PART_300_OF_2, 3),
+    (300, ObjectId::Cpu(0), 3),
+    (1, PART_0_OF_0, 4),
+    (300, ObjectId::Cpu(0), 4),
+    (0, ObjectId::Clock, 4),
+    (300, ObjectId::Cpu(1), 5),
+    (0, ObjectId::Clock, 5),
+    (1, PART_1_OF_0, 6),
+];
+
+/// The rows of the actors 1, 300 and 0.
+const LISTS: [&[usize]; 3] = [&[2, 3, 7, 9, 14], &[0, 5, 8, 10, 12], &[1, 4, 6, 11, 13]];
 
 /// What was done in each row.
-fn op(alloc: Global, row: u32) -> Result<Op, Memory> {
+fn op(alloc: Global, row: usize) -> Result<Op, Memory> {
     match row {
         0 => Ok(Op::Set(number_key(alloc, 7)?, Value::Int(1))),
         1 => Ok(Op::Get(number_key(alloc, 8)?)),
@@ -85,7 +99,7 @@ fn op(alloc: Global, row: u32) -> Result<Op, Memory> {
 }
 
 /// What was replied in each row.
-fn reply(alloc: Global, row: u32) -> Result<Reply, Memory> {
+fn reply(alloc: Global, row: usize) -> Result<Reply, Memory> {
     match row {
         1 => Ok(Reply::Value(Value::Int(-5))),
         4 => Ok(Reply::Stopped(false)),
@@ -103,8 +117,8 @@ fn reply(alloc: Global, row: u32) -> Result<Reply, Memory> {
     }
 }
 
-fn step(alloc: Global, row: u32) -> Result<Step, Memory> {
-    let (actor, object, stamp) = place(row);
+fn step(alloc: Global, row: usize) -> Result<Step, Memory> {
+    let (actor, object, stamp) = PLACES[row % ROWS];
     Ok(Step {
         actor,
         object,
@@ -114,69 +128,42 @@ fn step(alloc: Global, row: u32) -> Result<Step, Memory> {
     })
 }
 
-/// A list of these rows.
-fn list_of(alloc: Global, rows: &[u32]) -> Result<StepList, Memory> {
-    let mut list = StepList::new(alloc);
-    for row in rows {
-        let Step {
-            actor,
-            object,
-            stamp,
-            op,
-            reply,
-        } = step(alloc, *row)?;
-        list.reserve(alloc)?;
-        list.push_reserved(actor, object, stamp, op, reply);
-    }
-    Ok(list)
-}
-
-/// The lists of the actors 1, 300 and 0.
+/// The lists of the actors.
 fn woven(alloc: Global) -> Result<Woven, Memory> {
     let mut lists = Vec::new(alloc);
-    lists.push(list_of(alloc, &[2, 3, 7, 9, 14])?)?;
-    lists.push(list_of(alloc, &[0, 5, 8, 10, 12])?)?;
-    lists.push(list_of(alloc, &[1, 4, 6, 11, 13])?)?;
+    for rows in LISTS {
+        let mut list = StepList::new(alloc);
+        for row in rows {
+            let (actor, object, stamp) = PLACES[*row % ROWS];
+            let op = op(alloc, *row)?;
+            let reply = reply(alloc, *row)?;
+            list.reserve(alloc)?;
+            list.push_reserved(actor, object, stamp, op, reply);
+        }
+        lists.push(list)?;
+    }
     Woven::of(lists)
 }
 
 #[test]
-fn a_woven_list_is_told_as_a_vector(rt: HostRuntime) -> Result<(), Fail> {
+fn a_woven_list_is_told_as_a_vector_by_its_places_and_step_by_step(
+    rt: HostRuntime,
+) -> Result<(), Fail> {
     let alloc = rt.alloc();
     let woven = woven(alloc)?;
-    assert_eq!(rt; woven.len(), ROWS as usize);
     let steps = woven.to_vec(alloc)?;
-    assert!(rt; steps.len() == ROWS as usize);
-    for row in 0..ROWS {
-        assert_eq!(rt; steps[row as usize], step(alloc, row)?);
-    }
-    Ok(())
-}
-
-#[test]
-fn a_woven_list_is_told_by_its_places(rt: HostRuntime) -> Result<(), Fail> {
-    let alloc = rt.alloc();
-    let woven = woven(alloc)?;
     let ordered = woven.in_order(alloc)?;
-    assert_eq!(rt; ordered.len(), ROWS as usize);
+    let mut left = ordered.steps();
+    assert!(rt; woven.len() == ROWS && ordered.len() == ROWS && steps.len() == ROWS);
     for row in 0..ROWS {
-        assert_eq!(rt; ordered.get(alloc, row as usize)?, Some(step(alloc, row)?));
+        let want = step(alloc, row)?;
+        assert_eq!(rt; steps[row], want);
+        let want = Some(want);
+        assert_eq!(rt; ordered.get(alloc, row)?, want);
+        assert_eq!(rt; left.next(alloc)?, want);
     }
-    assert_eq!(rt; ordered.get(alloc, ROWS as usize)?, None);
-    assert_eq!(rt; ordered.get(alloc, usize::MAX)?, None);
-    Ok(())
-}
-
-#[test]
-fn a_woven_list_is_told_step_by_step(rt: HostRuntime) -> Result<(), Fail> {
-    let alloc = rt.alloc();
-    let woven = woven(alloc)?;
-    let ordered = woven.in_order(alloc)?;
-    let mut steps = ordered.steps();
-    for row in 0..ROWS {
-        assert_eq!(rt; steps.next(alloc)?, Some(step(alloc, row)?));
+    for place in [ROWS, usize::MAX] {
+        assert!(rt; ordered.get(alloc, place)?.is_none() && left.next(alloc)?.is_none());
     }
-    assert_eq!(rt; steps.next(alloc)?, None);
-    assert_eq!(rt; steps.next(alloc)?, None);
     Ok(())
 }

@@ -1,5 +1,6 @@
-// The woven list: that the steps of real traces are woven, and that many steps are put in order in time.
-ghost use Rattle.std.specs.Prelude.{◌≡◌, ◌<◌};
+// The woven list: that the steps of real traces have the stamps of a worked example and are woven, and that many steps are put in order in
+// time.
+ghost use Rattle.std.specs.Prelude.{◌≡◌};
 ghost use Rattle.turn_lock.specs.Calls.{caller_of};
 ghost use Rattle.turn_lock.specs.Locks.{IsOf};
 ghost use Rattle.turn_lock.specs.Sums.{IsAdd};
@@ -8,7 +9,8 @@ ghost use Rattle.stamped.specs.Traces.{actor_of};
 use bt_core::key::Key;
 use bt_core::map::MapId;
 use bt_core::memory::Memory;
-use bt_core::step::{ObjectId, Op, Reply};
+use bt_core::step::{ObjectId, Op, Reply, Step};
+use bt_core::value::Value;
 use stamped::perform::perform;
 use stamped::trace::Trace;
 use std::alloc::Global;
@@ -45,47 +47,56 @@ fn add_at<R: Wait>(
     perform(rt, alloc, lock, turn, trace, add(alloc, number), &Open)
 }
 
-// Both actors come first at an object of theirs, and then the first one comes to the second's.
-#[test]
-fn steps_come_by_stamp_and_then_by_object(rt: HostRuntime) -> Result<(), Fail> {
-    let alloc = rt.alloc();
+// Both actors come first at an object of theirs, and then the first one comes to the second's and back to its own.
+fn traces<R: Wait>(rt: &R, alloc: Global) -> Result<Vec<Trace>, Memory> {
     let (table, mut table_turns) = TurnLock::new(alloc, Tally::new(), ObjectId::Cpu(0), 2)?;
     let (out, mut out_turns) = TurnLock::new(alloc, Tally::new(), ObjectId::Out, 2)?;
     let mut first = Trace::new(alloc, 0);
     let mut second = Trace::new(alloc, 1);
-    add_at(&rt, alloc, &out, &mut out_turns[1], &mut second, 7)?;
-    add_at(&rt, alloc, &table, &mut table_turns[0], &mut first, 5)?;
-    add_at(&rt, alloc, &out, &mut out_turns[0], &mut first, 3)?;
-    let woven = weave(alloc, vec![in alloc; second, first]?)?;
-    assert_eq!(rt; woven.len(), 3);
+    add_at(rt, alloc, &out, &mut out_turns[1], &mut second, 7)?;
+    add_at(rt, alloc, &table, &mut table_turns[0], &mut first, 5)?;
+    add_at(rt, alloc, &out, &mut out_turns[0], &mut first, 3)?;
+    add_at(rt, alloc, &table, &mut table_turns[0], &mut first, -2)?;
+    Ok(vec![in alloc; second, first]?)
+}
+
+/// The actor, the object, the stamp, the number and the sum of each of their steps, in order.
+const STEPS: [(u32, ObjectId, u64, i64, i64); 4] = [
+    (0, ObjectId::Cpu(0), 1, 5, 5),
+    (1, ObjectId::Out, 1, 7, 7),
+    (0, ObjectId::Out, 2, 3, 10),
+    (0, ObjectId::Cpu(0), 3, -2, 3),
+];
+
+#[test]
+fn stamps_count_up_and_steps_come_by_stamp_and_then_by_object(rt: HostRuntime) -> Result<(), Fail> {
+    let alloc = rt.alloc();
+    let woven = weave(alloc, traces(&rt, alloc)?)?;
     let steps = woven.to_vec(alloc)?;
-    assert!(rt; steps.len() == 3);
-    assert_eq!(rt;
-        (steps[0].actor, steps[0].object, steps[0].stamp),
-        (0, ObjectId::Cpu(0), 1)
-    );
-    assert_eq!(rt;
-        (steps[1].actor, steps[1].object, steps[1].stamp),
-        (1, ObjectId::Out, 1)
-    );
-    assert_eq!(rt;
-        (steps[2].actor, steps[2].object, steps[2].stamp),
-        (0, ObjectId::Out, 2)
-    );
+    assert!(rt; woven.len() == 4 && steps.len() == 4);
+    for at in 0..4 {
+        let (actor, object, stamp, number, sum) = STEPS[at];
+        let want = Step {
+            actor,
+            object,
+            stamp,
+            op: add(alloc, number),
+            reply: Reply::Value(Value::Int(sum)),
+        };
+        assert_eq!(rt; steps[at], want);
+    }
     Ok(())
 }
 
 // A quarter of a million steps of one actor, with each fourth stamp from this one on.
-fn fourth(alloc: Global, actor: u32, first: u64) -> Result<StepList, Memory>
-    requires { first < 4 }
-{
+fn fourth(alloc: Global, actor: u32, first: u64) -> Result<StepList, Memory> {
     let mut list = StepList::new(alloc);
     for i in 0..250000u64 {
         list.reserve(alloc)?;
         list.push_reserved(
             actor,
             ObjectId::Clock,
-            4 * i + first,
+            (4 * i).saturating_add(first),
             Op::Check,
             Reply::Stopped(false),
         );
@@ -98,10 +109,9 @@ fn fourth(alloc: Global, actor: u32, first: u64) -> Result<StepList, Memory>
 fn a_million_steps_are_put_in_order(rt: HostRuntime) -> Result<(), Fail> {
     let alloc = rt.alloc();
     let mut lists = Vec::new(alloc);
-    lists.push(fourth(alloc, 0, 2)?)?;
-    lists.push(fourth(alloc, 1, 0)?)?;
-    lists.push(fourth(alloc, 2, 3)?)?;
-    lists.push(fourth(alloc, 3, 1)?)?;
+    for (actor, first) in [(0, 2), (1, 0), (2, 3), (3, 1)] {
+        lists.push(fourth(alloc, actor, first)?)?;
+    }
     let woven = Woven::of(lists)?;
     assert_eq!(rt; woven.len(), 1000000);
     assert!(rt; woven.emitted(alloc)?.is_empty());

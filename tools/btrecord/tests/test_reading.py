@@ -18,22 +18,7 @@ from reading import BadRecording, read_recording
 
 DATA = pathlib.Path(TOP, "crates", "bt_cases", "data")
 FORMATS = "crates/recording_tests/src/formats.rt"
-# The faults of the crates' tables, as they are told.
-TEXTS = {"NoName": "F1 no name", "BadId": "F2 bad id", "BadField": "F3 bad line {}", "Overlong": "F4 overlong line {}", "SameName": "F5 same name line {}",
-         "Truncated": "C1 truncated at byte {}", "BadMagic": "C2 bad magic", "Count": "C3 bad count: {}", "Format": "C4 format {}: {}",
-         "SameEvent": "C5 same event in format {}", "CpuNumber": "C6 bad cpu number at cpu {}", "TimeOrder": "C7 time order in event {1} of cpu {0}",
-         "UnknownId": "C8 unknown id in event {1} of cpu {0}", "ShortPayload": "C9 short payload in event {1} of cpu {0}",
-         "TrailingBytes": "C10 trailing bytes at byte {}", "BadSystem": "C11 bad system in format {}",
-         "BadEntry": "C12 bad entry in event {1} of cpu {0}", "EmptyMark": "C13 empty mark in event {1} of cpu {0}"}
 KINDS = {"Number": NUMBER, "Chars": CHARS, "DataLoc": DATA_LOC, "Other": OTHER}
-
-
-def fault_text(name):
-    """How a fault is told that a crate's source names, as `Format(1, FormatError::Overlong(4))`."""
-    inner = re.fullmatch(r"(?:RecordingError|FormatError)::(\w+)(?:\((.*)\))?", name.strip())
-    parts = [part.strip() for part in (inner[2] or "").split(",") if part.strip()]
-    told = [fault_text(part) if "FormatError" in part else part.rpartition("::")[2].lower() for part in parts]
-    return TEXTS[inner[1]].format(*told)
 
 
 def fault_of(read, contents, kind):
@@ -67,26 +52,12 @@ class Faults(unittest.TestCase):
         self.assertEqual(codes, {None} | {f"C{k}" for k in range(1, 14)})
         self.assertGreater(accepted, 100)
 
-    def test_the_rows_of_recordings(self):
-        table = rust_table("crates/recording_tests/src/recordings.rt", "CHECKED")
-        found = re.findall(rf"{LITERAL},\s*(None|Some\((RecordingError::.*)\)),\s*\)", table)
-        self.assertEqual(len(found), len(re.findall(r"^    \($", table, re.MULTILINE)))
-        self.assertGreaterEqual(len(found), 32)
-        for literal, _, fault in found:
-            self.assertEqual(fault_of(read_recording, rust_bytes(literal), BadRecording), fault_text(fault) if fault else None, literal)
-
-    def test_the_rows_of_format_texts(self):
-        found = re.findall(rf"\(\s*{LITERAL},\s*(FormatError::\w+(?:\(\d+\))?),?\s*\)", rust_table(FORMATS, "REFUSED"))
-        self.assertEqual(len(found), 27)
-        for literal, fault in found:
-            self.assertEqual(fault_of(layout_of, rust_bytes(literal), BadFormat), fault_text(fault), literal)
-
     def test_the_rows_of_layouts(self):
-        found = re.findall(rf"\(\s*{LITERAL},\s*([\d_]+),\s*&\[(.*?)\],\s*\)", rust_table(FORMATS, "ACCEPTED").replace("(b\"name:x", "(\n b\"name:x")
-                           .replace("&[])", "&[],)"), re.DOTALL)
+        found = re.findall(rf'\(\s*{LITERAL},\s*b"x",\s*([\d_]+),\s*([\d_]+),\s*&\[\],\s*&\[(.*?)\],?\s*\),', rust_table(FORMATS, "TEXTS"), re.DOTALL)
         self.assertEqual(len(found), 4)
-        for literal, size, rows in found:
+        for literal, number, size, rows in found:
             layout = layout_of(rust_bytes(literal))
+            self.assertEqual(layout.number, int(number))
             wanted = re.findall(rf"\({LITERAL}, ([\d_]+), (\d+), \w+, FieldKind::(\w+)\)", rows)
             self.assertEqual(layout.size, int(size))
             self.assertEqual([(field.name, field.offset, field.size, field.kind) for field in layout.fields],

@@ -2,7 +2,7 @@ use Rattle.std.proofs.Common.{◌≡◌, max, [], ◌∷◌, ◌++◌, sym, ap, 
 use Rattle.bt_core.specs.declared.step.Step.{Step}
 use Rattle.step_list.specs.Lists.{steps_in}
 use Rattle.bt_run.specs.Runs.{IsRunOf, world_of}
-use Rattle.run_base.proofs.KindLemmas.{can_any, last_is_of_its_kind}
+use Rattle.run_objects.proofs.KindLemmas.{can_any, last_is_of_its_kind}
 use Rattle.bt_run.proofs.StepLemmas.{run_more, run_kept}
 use Rattle.bt_run.proofs.port.make_step.Goals as goal
 

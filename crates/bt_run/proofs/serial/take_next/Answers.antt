@@ -3,7 +3,7 @@ use Rattle.std.specs.Prelude.{slice_get, Some}
 use Rattle.std.proofs.lemmas.Option.{slice_get-get_or}
 use Rattle.actor_plan.specs.Plans.{Plan}
 use Rattle.actor_plan.specs.Ready.{IsReady}
-use Rattle.run_base.specs.Worlds.{setting_in}
+use Rattle.run_objects.specs.Worlds.{setting_in}
 use Rattle.code_bodies.specs.Running.{plan_of}
 use Rattle.run_base.specs.Jobs.{cpus_in, plans_by}
 use Rattle.bt_run.proofs.TakeLemmas.{ready, next_by, goes_within}

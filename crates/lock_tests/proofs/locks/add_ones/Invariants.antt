@@ -1,7 +1,5 @@
-use Rattle.std.proofs.Common.{◌≡◌}
 use Rattle.turn_lock.specs.Locks.{IsOf}
-use Rattle.turn_lock.specs.Calls.{caller_of}
 use Rattle.lock_tests.proofs.locks.add_ones.Given as goal
 
 abbrev pub invariant-loop : goal.invariant-loop
-invariant-loop g l = IsOf l.lock l.turn × (caller_of l.turn ≡ caller_of l.initial.turn)
+invariant-loop g l = IsOf l.lock l.turn

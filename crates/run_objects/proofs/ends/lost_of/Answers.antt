@@ -1,5 +1,5 @@
 use Rattle.run_objects.proofs.EndLemmas.{tables_lost, parts_lost, parts_are}
-use Rattle.run_base.proofs.MapReads.{is_shared}
+use Rattle.run_objects.proofs.MapReads.{is_shared}
 use Rattle.run_objects.proofs.ends.lost_of.Goals as goal
 
 pub part_losses-requires : goal.part_losses-requires

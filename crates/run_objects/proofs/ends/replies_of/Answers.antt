@@ -1,5 +1,5 @@
 use Rattle.run_objects.proofs.EndLemmas.{tables_reply, parts_reply, parts_are}
-use Rattle.run_base.proofs.MapReads.{is_shared}
+use Rattle.run_objects.proofs.MapReads.{is_shared}
 use Rattle.run_objects.proofs.ends.replies_of.Goals as goal
 
 pub part_replies-requires : goal.part_replies-requires

@@ -1,5 +1,5 @@
 use Rattle.std.proofs.Common.{◌∙◌}
-use Rattle.run_base.proofs.MapReads.{reads_have_rows}
+use Rattle.run_objects.proofs.MapReads.{reads_have_rows}
 use Rattle.run_objects.proofs.ends.rows_of.Goals as goal
 
 pub merged-requires : goal.merged-requires

@@ -3,7 +3,7 @@ use Rattle.std.specs.Prelude.{slice_get, Some}
 use Rattle.std.proofs.lemmas.Option.{slice_get-get_or, slice_get_within}
 use Rattle.run_objects.specs.News.{AreNewParts}
 use Rattle.run_objects.proofs.NewLemmas.{maps_more}
-use Rattle.run_base.proofs.MoreLemmas.{count_more}
+use Rattle.run_objects.proofs.MoreLemmas.{count_more}
 use Rattle.run_objects.proofs.new_objects.parts_of_all.Goals as goal
 
 pub loop-map-preserved : goal.loop-map-preserved

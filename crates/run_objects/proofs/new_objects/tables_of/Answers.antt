@@ -3,7 +3,7 @@ use Rattle.step_objects.specs.declared.cpu.CpuTable.{CpuTable}
 use Rattle.step_objects.specs.Objects.{cpu_kind, CpuStands}
 use Rattle.run_objects.specs.declared.own.OwnObject.{OwnObject}
 use Rattle.run_objects.specs.News.{IsNew}
-use Rattle.run_base.proofs.MoreLemmas.{all_more, count_more}
+use Rattle.run_objects.proofs.MoreLemmas.{all_more, count_more}
 use Rattle.run_objects.proofs.new_objects.tables_of.Goals as goal
 
 pub loop-preserved : goal.loop-preserved

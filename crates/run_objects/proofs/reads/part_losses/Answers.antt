@@ -2,9 +2,9 @@ use Rattle.std.proofs.Common.{◌≡◌, ◌<◌, length, sym, ap, ◌∙◌, su
 use Rattle.bt_core.specs.declared.step.ObjectId.TheVariants.{Shared}
 use Rattle.bt_core.specs.Steps.{on_object, operations}
 use Rattle.step_objects.specs.Objects.{shared_kind, SharedStands}
-use Rattle.run_base.specs.Moments.{part_lost, of_first}
+use Rattle.run_objects.specs.Moments.{part_lost, of_first}
 use Rattle.run_objects.specs.Objects.{StandsAt, IsPartOf}
-use Rattle.run_base.proofs.ReadLemmas.{sum_more}
+use Rattle.run_objects.proofs.ReadLemmas.{sum_more}
 use Rattle.run_objects.proofs.reads.part_losses.Goals as goal
 
 pub loop-part-preserved : goal.loop-part-preserved

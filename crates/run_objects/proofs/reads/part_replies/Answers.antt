@@ -5,9 +5,9 @@ use Rattle.bt_core.specs.declared.step.Op.TheVariants.{ReadAll}
 use Rattle.bt_core.specs.Steps.{on_object, operations}
 use Rattle.agg_core.specs.Answers.{shared_answer}
 use Rattle.step_objects.specs.Objects.{shared_kind, SharedStands}
-use Rattle.run_base.specs.Moments.{part_reply}
+use Rattle.run_objects.specs.Moments.{part_reply}
 use Rattle.run_objects.specs.Objects.{StandsAt, IsPartOf}
-use Rattle.run_base.proofs.ReadLemmas.{read_more, same_decl}
+use Rattle.run_objects.proofs.ReadLemmas.{read_more, same_decl}
 use Rattle.run_objects.proofs.reads.part_replies.Goals as goal
 
 pub loop-part-preserved : goal.loop-part-preserved

@@ -4,7 +4,7 @@ use Rattle.bt_core.specs.declared.map.MapDecl.{MapDecl}
 use Rattle.bt_core.specs.declared.step.ObjectId.TheVariants.{Shared}
 use Rattle.bt_core.specs.declared.step.Step.{Step}
 use Rattle.step_objects.specs.Objects.{shared_kind, SharedStands}
-use Rattle.run_base.specs.Moments.{part_reply, of_first}
+use Rattle.run_objects.specs.Moments.{part_reply, of_first}
 use Rattle.run_objects.specs.Objects.{AllStandAt, IsPartOf}
 use Rattle.run_objects.proofs.reads.part_replies.Given as goal
 

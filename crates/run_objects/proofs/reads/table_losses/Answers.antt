@@ -3,9 +3,9 @@ use Rattle.bt_core.specs.declared.map.MapDecl.{MapDecl}
 use Rattle.bt_core.specs.declared.step.ObjectId.TheVariants.{Cpu}
 use Rattle.bt_core.specs.Steps.{on_object, operations}
 use Rattle.step_objects.specs.Objects.{cpu_kind, CpuStands}
-use Rattle.run_base.specs.Moments.{table_lost, of_first}
+use Rattle.run_objects.specs.Moments.{table_lost, of_first}
 use Rattle.run_objects.specs.Objects.{StandsAt}
-use Rattle.run_base.proofs.ReadLemmas.{sum_more}
+use Rattle.run_objects.proofs.ReadLemmas.{sum_more}
 use Rattle.run_objects.proofs.reads.table_losses.Goals as goal
 
 pub loop-table-preserved : goal.loop-table-preserved

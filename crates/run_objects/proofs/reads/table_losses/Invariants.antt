@@ -3,7 +3,7 @@ use Rattle.bt_core.specs.declared.map.MapDecl.{MapDecl}
 use Rattle.bt_core.specs.declared.step.ObjectId.TheVariants.{Cpu}
 use Rattle.bt_core.specs.declared.step.Step.{Step}
 use Rattle.step_objects.specs.Objects.{cpu_kind, CpuStands}
-use Rattle.run_base.specs.Moments.{table_lost, of_first}
+use Rattle.run_objects.specs.Moments.{table_lost, of_first}
 use Rattle.run_objects.specs.Objects.{AllStandAt}
 use Rattle.run_objects.proofs.reads.table_losses.Given as goal
 

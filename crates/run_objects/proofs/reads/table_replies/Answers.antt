@@ -5,9 +5,9 @@ use Rattle.bt_core.specs.declared.step.Op.TheVariants.{Read}
 use Rattle.bt_core.specs.Steps.{on_object, operations}
 use Rattle.agg_core.specs.Answers.{table_answer}
 use Rattle.step_objects.specs.Objects.{cpu_kind, CpuStands}
-use Rattle.run_base.specs.Moments.{table_reply}
+use Rattle.run_objects.specs.Moments.{table_reply}
 use Rattle.run_objects.specs.Objects.{StandsAt}
-use Rattle.run_base.proofs.ReadLemmas.{read_more}
+use Rattle.run_objects.proofs.ReadLemmas.{read_more}
 use Rattle.run_objects.proofs.reads.table_replies.Goals as goal
 
 pub loop-table-preserved : goal.loop-table-preserved

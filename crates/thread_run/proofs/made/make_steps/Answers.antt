@@ -6,9 +6,9 @@ use Rattle.stamped.specs.Rows.{firsts}
 use Rattle.stamped.specs.SetEnds.{IsClosed, AreClosed}
 use Rattle.step_objects.specs.Clocks.{clock_kind, ClockStands}
 use Rattle.step_objects.specs.Objects.{shared_kind, SharedStands, cpu_kind, CpuStands}
-use Rattle.shared_maps.specs.Maps as parts_in
-use Rattle.percpu_tables.specs.Tables as tables_in
-use Rattle.side_locks.specs.Sides as sides_in
+use Rattle.shared_maps.specs.Maps.{AreAllPartTurns, part_actors, part_kinds}
+use Rattle.percpu_tables.specs.Tables.{AreAllTableTurns, table_actors, table_kinds}
+use Rattle.side_locks.specs.Sides.{AreAllSideTurns, side_actors, side_kind}
 use Rattle.side_locks.specs.Steps.{own_of_clock, reply_of_clock, own_of_out, reply_of_out}
 use Rattle.side_locks.specs.Turns.{Both, clocks, outs}
 use Rattle.bt_meaning.proofs.OwnCalls.{all_fine}
@@ -35,15 +35,15 @@ run_actors-requires-clause-plans g c κs within = λ actor d lt. let job = c.arg
     subst (IsPlanFor job.recording job.attached job.typed.maps actor) (sym (c.in_ok-bodies.ensures.each actor d lt)) (c.requires.can.plans_are actor)
 
 pub close-requires : goal.close-requires
-close-requires g c = subst (parts_in.AreAll c.in_ok-sets.sets.maps) (sym c.in_ok-map_turns.ensures.maps)
+close-requires g c = subst (AreAllPartTurns c.in_ok-sets.sets.maps) (sym c.in_ok-map_turns.ensures.maps)
     (all_maps _ (plans_by c.args.job.now c.args.codes.now) c.in_ok-all.all (c.in_ok-all.ensures (plans_by c.args.job.now c.args.codes.now) c.in_ok-bodies.ensures))
 
 pub close-requires-2 : goal.close-requires-2
-close-requires-2 g c = subst (tables_in.AreAll c.in_ok-sets.sets.tables) (sym c.in_ok-map_turns.ensures.tables)
+close-requires-2 g c = subst (AreAllTableTurns c.in_ok-sets.sets.tables) (sym c.in_ok-map_turns.ensures.tables)
     (all_tables _ (plans_by c.args.job.now c.args.codes.now) c.in_ok-all.all (c.in_ok-all.ensures (plans_by c.args.job.now c.args.codes.now) c.in_ok-bodies.ensures))
 
 pub close-requires-3 : goal.close-requires-3
-close-requires-3 g c = subst (sides_in.AreAll c.in_ok-sets.sets.sides) (sym c.in_ok-map_turns.ensures.sides)
+close-requires-3 g c = subst (AreAllSideTurns c.in_ok-sets.sets.sides) (sym c.in_ok-map_turns.ensures.sides)
     (all_sides _ (plans_by c.args.job.now c.args.codes.now) c.in_ok-all.all (c.in_ok-all.ensures (plans_by c.args.job.now c.args.codes.now) c.in_ok-bodies.ensures))
 
 pub returns : goal.returns
@@ -61,11 +61,11 @@ returns g c =
     let moved = c.in_ok-steps.ensures.steps in
     let order = c.in_ok-steps.ensures.order in
     let shut : AreAllShut _ plans own all done maps tables clock out = record {
-      maps_shut = subst (λ rows. AreClosed shared_kind own_of_part reply_of_part SharedStands (parts_in.actors_of s.maps) (parts_in.kinds_of s.maps) rows maps) c.in_ok-map_turns.ensures.maps c.in_ok-maps.ensures;
-      tables_shut = subst (λ rows. AreClosed cpu_kind IsTableOp table_answer CpuStands (tables_in.actors_of s.tables) (tables_in.kinds_of s.tables) rows tables) c.in_ok-map_turns.ensures.tables c.in_ok-tables.ensures;
-      clock_shut = subst (λ (both : List Both). IsClosed clock_kind own_of_clock reply_of_clock ClockStands (sides_in.actors_of s.sides) (sides_in.kind_of s.sides) (firsts (clocks both)) clock.0 clock.1)
+      maps_shut = subst (λ rows. AreClosed shared_kind own_of_part reply_of_part SharedStands (part_actors s.maps) (part_kinds s.maps) rows maps) c.in_ok-map_turns.ensures.maps c.in_ok-maps.ensures;
+      tables_shut = subst (λ rows. AreClosed cpu_kind IsTableOp table_answer CpuStands (table_actors s.tables) (table_kinds s.tables) rows tables) c.in_ok-map_turns.ensures.tables c.in_ok-tables.ensures;
+      clock_shut = subst (λ (both : List Both). IsClosed clock_kind own_of_clock reply_of_clock ClockStands (side_actors s.sides) (side_kind s.sides) (firsts (clocks both)) clock.0 clock.1)
           c.in_ok-map_turns.ensures.sides c.in_ok-_sides.ensures.clock;
-      out_shut = subst (λ (both : List Both). IsClosed out_kind own_of_out reply_of_out out_stands (sides_in.actors_of s.sides) tt (firsts (outs both)) out.0 out.1)
+      out_shut = subst (λ (both : List Both). IsClosed out_kind own_of_out reply_of_out out_stands (side_actors s.sides) tt (firsts (outs both)) out.0 out.1)
           c.in_ok-map_turns.ensures.sides c.in_ok-_sides.ensures.out;
     } in
     record {

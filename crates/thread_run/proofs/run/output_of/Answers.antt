@@ -1,8 +1,8 @@
 use Rattle.std.proofs.Common.{length, sym, ap, ◌∙◌, subst}
 use Rattle.map_rows.specs.Fits.{AllRowsFit}
 use Rattle.bt_meaning.specs.Prints.{rows_after, lost_after, of_maps}
-use Rattle.run_base.proofs.MapReads.{maps_long, rows_fit}
-use Rattle.run_base.specs.Worlds.{World}
+use Rattle.run_objects.proofs.MapReads.{maps_long, rows_fit}
+use Rattle.run_objects.specs.Worlds.{World}
 use Rattle.thread_run.proofs.run.output_of.Goals as goal
 
 pub output_of_run-requires-clause-rows : goal.output_of_run-requires-clause-rows

@@ -3,7 +3,7 @@ use Rattle.std.specs.Prelude.{slice_get, IsSomeAnd}
 use Rattle.bt_core.specs.declared.step.ObjectId.{ObjectId}
 use Rattle.bt_core.specs.Ports.{IsSharedOp}
 use Rattle.agg_core.specs.Answers.{shared_answer}
-use Rattle.stamped.specs.Sets as sets
+use Rattle.stamped.specs.Sets.{actors_of}
 use Rattle.stamped.specs.SetSteps.{AreDistinct, Grows, IsReplied, IsRefused, AtPlace}
 use Rattle.stamped.specs.Traces.{clock_of}
 use Rattle.stamped.proofs.OutcomeLemmas.{on_ok, on_err}
@@ -60,7 +60,7 @@ returns-clause-cause g c room =
     let found = there_is (IsPartFor maps object) (slice_get (parts_from 0 maps) place) c.place_of-place.ensures in let part = found.0 in
     let there = ap (λ ids. slice_get ids place) c.args.self.now.ids ∙ of_part (λ (part : Part). part.0) (parts_from 0 maps) place part found.1 ∙ ap Some (the_object maps object part found.2) in
     let kind = ap (λ kinds. slice_get kinds place) c.args.self.now.kinds ∙ of_part (λ (part : Part). part.1) (parts_from 0 maps) place part found.1 in
-    let refused = λ (of : PartKind). IsRefused (part_law (sets.actors_of set) of) IsSharedFree (clock_of c.args.trace.now) op in
+    let refused = λ (of : PartKind). IsRefused (part_law (actors_of set) of) IsSharedFree (clock_of c.args.trace.now) op in
     on_err c.step.result _ _ (λ r. record {
       place = place;
       kind = part.1;

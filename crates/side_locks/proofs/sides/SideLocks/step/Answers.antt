@@ -1,6 +1,6 @@
 use Rattle.std.proofs.Common.{ℕ, sym, subst, IfSome}
 use Rattle.std.specs.Prelude.{slice_get}
-use Rattle.stamped.specs.Sets as sets
+use Rattle.stamped.specs.Sets.{actors_of}
 use Rattle.stamped.specs.SetSteps.{IsRefused, AtPlace}
 use Rattle.stamped.specs.SetEnds.{law_for}
 use Rattle.stamped.specs.Traces.{clock_of}
@@ -16,7 +16,7 @@ returns-in-Clock-clause-cause g c room = let self = c.args.self.now in let kind 
     on_err c.step.result _ _ (λ r. subst (λ o. RefusesAt kind o floor op c.args.turns.now both) (sym c.in-Clock.is)
     (subst (λ (b : Both). AtPlace (IsRefused (clock_law kind) always floor op) 0 b.clock.1 new.1) c.turns.view_is
     (subst (λ (n : ℕ). AtPlace (IsRefused (law_for own_of_clock reply_of_clock n kind) always floor op) 0 at.1 new.1) self.clock_actors
-    (subst (λ ks. IfSome (slice_get ks 0) (λ (k : ClockKind). AtPlace (IsRefused (law_for own_of_clock reply_of_clock (sets.actors_of self.clock) k) always floor op) 0 at.1 new.1)) self.clock_is r))))
+    (subst (λ ks. IfSome (slice_get ks 0) (λ (k : ClockKind). AtPlace (IsRefused (law_for own_of_clock reply_of_clock (actors_of self.clock) k) always floor op) 0 at.1 new.1)) self.clock_is r))))
     (c.step.ensures.cause room)
 
 pub returns-in-Out-clause-cause : goal.returns-in-Out-clause-cause
@@ -25,5 +25,5 @@ returns-in-Out-clause-cause g c room = let self = c.args.self.now in let kind : 
     on_err c.step-in-Out.result _ _ (λ r. subst (λ o. RefusesAt kind o floor op c.args.turns.now both) (sym c.in-Out.is)
     (subst (λ (b : Both). AtPlace (IsRefused (out_law self.cpus) always floor op) 0 b.out.1 new.1) c.turns.view_is
     (subst (λ (n : ℕ). AtPlace (IsRefused (law_for own_of_out reply_of_out n tt) always floor op) 0 at.1 new.1) self.out_actors
-    (subst (λ ks. IfSome (slice_get ks 0) (λ k. AtPlace (IsRefused (law_for own_of_out reply_of_out (sets.actors_of self.out) k) always floor op) 0 at.1 new.1)) self.out_is r))))
+    (subst (λ ks. IfSome (slice_get ks 0) (λ k. AtPlace (IsRefused (law_for own_of_out reply_of_out (actors_of self.out) k) always floor op) 0 at.1 new.1)) self.out_is r))))
     (c.step-in-Out.ensures.cause room)

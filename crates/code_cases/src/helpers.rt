@@ -1,0 +1,213 @@
+// What helpers answer and which steps they make, over a port that keeps what it is asked.
+ghost use Rattle.std.specs.Prelude.{◌≡◌, ◌<◌, ◌++◌, ◌∷◌, [], IfOk, IsTrue, OnOk, length};
+ghost use Rattle.typed_tree.specs.Scope.{is_fine_decl, is_fine_kind};
+ghost use Rattle.code_cases.specs.Quiet.{reply_of, shared_reply, table_reply, clock_reply, value_of_map};
+ghost use Rattle.std.specs.Option.{option_copied};
+
+use anyhow::{Context, Result};
+use bpf_interp::ports::{PortFault, Ports};
+use bpf_interp::regions::Regions;
+use bt_core::item::Item;
+use bt_core::items::Items;
+use bt_core::key::Key;
+use bt_core::map::{AggKind, MapDecl, MapId, MapKind, Shape};
+use bt_core::memory::{Memory, TryCopy};
+use bt_core::port::Port;
+use bt_core::step::{ObjectId, Op, Reply, Step};
+use bt_core::text::Str64;
+use bt_core::value::Value;
+use fmt_text::piece::Piece;
+use helper_abi::helper_port::HelperPort;
+use std::alloc::Global;
+use typed_tree::script::Typed;
+
+fn value_of_map(decl: Option<&MapDecl>) -> Value
+    ensures { result ≡ value_of_map (option_copied decl.entry) }
+{
+    match decl {
+        None => Value::Int(7),
+        Some(decl) => match decl.kind {
+            MapKind::Strs => Value::Str(Str64::of(b"ab")),
+            MapKind::Ints => Value::Int(7),
+            MapKind::Aggs(_) => Value::Int(7),
+        },
+    }
+}
+
+fn shared_reply(alloc: Global, decl: Option<&MapDecl>, op: &Op) -> Reply
+    ensures { result ≡ shared_reply (option_copied decl.entry) op.now }
+{
+    match op {
+        Op::Get(_) => Reply::Value(value_of_map(decl)),
+        Op::ReadAll => Reply::Pairs(Items::new(alloc)),
+        _ => Reply::Done,
+    }
+}
+
+fn table_reply(alloc: Global, op: &Op) -> Reply
+    ensures { result ≡ table_reply op.now }
+{
+    match op {
+        Op::Read(_) => Reply::Aggs(Items::new(alloc)),
+        _ => Reply::Done,
+    }
+}
+
+fn clock_reply(op: &Op) -> Reply
+    ensures { result ≡ clock_reply op.now }
+{
+    match op {
+        Op::Cross(_) => Reply::Last(false),
+        Op::Check => Reply::Stopped(false),
+        _ => Reply::Done,
+    }
+}
+
+fn reply_of(alloc: Global, maps: &[MapDecl], object: ObjectId, op: &Op) -> Reply
+    ensures { result ≡ reply_of maps.now object op.now }
+{
+    match object {
+        ObjectId::Shared { map, .. } => shared_reply(alloc, maps.get(map.0 as usize), op),
+        ObjectId::Cpu(_) => table_reply(alloc, op),
+        ObjectId::Clock => clock_reply(op),
+        ObjectId::Out => Reply::Done,
+    }
+}
+
+/// A port that keeps its steps, and whose objects hold nothing but what they answer to a `Get`.
+#[derive(Drop)]
+struct Quiet {
+    maps: Items<MapDecl>,
+    steps: Items<Step>,
+}
+
+impl Port for Quiet {
+    type Home = ();
+
+    ghost steps = { λ s. s.steps };
+
+    ghost fixed = { λ s. record { setting = record { actor = 1; actors = 2; ticks = 0; maps = s.maps }; home = tt } };
+
+    fn step(&mut self, alloc: Global, object: ObjectId, op: Op) -> Result<(), Memory> {
+        let reply = reply_of(alloc, self.maps.as_slice(), object, &op);
+        self.steps.push(Step {
+            actor: 1,
+            object,
+            stamp: 0,
+            op,
+            reply,
+        })
+    }
+
+    fn last(&self) -> &Reply {
+        let steps = self.steps.as_slice();
+        let place = steps.len() - 1;
+        &steps[place].reply
+    }
+}
+
+fn decl(alloc: Global, kind: MapKind, shape: Shape) -> Result<MapDecl, Memory>
+    requires { IsTrue (is_fine_kind kind) }
+    ensures { IfOk result (λ decl. IsTrue (is_fine_decl decl)) }
+{
+    let mut key_shape = Items::new(alloc);
+    key_shape.push(shape)?;
+    Ok(MapDecl {
+        name: Items::new(alloc),
+        kind,
+        key_shape,
+    })
+}
+
+// A script with a map of numbers, one of strings and one of counts, and the format `%d`.
+fn script(alloc: Global) -> Result<Typed, Memory> {
+    let numbers = decl(alloc, MapKind::Ints, Shape::Int)?;
+    let strings = decl(alloc, MapKind::Strs, Shape::Str)?;
+    let counts = decl(alloc, MapKind::Aggs(AggKind::Count), Shape::Int)?;
+    let mut maps = Items::new(alloc);
+    maps.push(numbers)?;
+    maps.push(strings)?;
+    maps.push(counts)?;
+    let mut pieces = Items::new(alloc);
+    pieces.push(Piece::Conversion {
+        left: false,
+        zero: false,
+        width: 0,
+        letter: b'd',
+    })?;
+    let mut formats = Items::new(alloc);
+    formats.push(pieces)?;
+    Ok(Typed {
+        maps,
+        formats,
+        bodies: Items::new(alloc),
+        uses_exit: true,
+    })
+}
+
+/// What a call gave: its answer, its steps, and the eight bytes of the frame from byte 16 on.
+#[derive(Drop)]
+struct Asked {
+    answer: Result<u64, PortFault>,
+    steps: Items<Step>,
+    word: u64,
+}
+
+const KEY: u64 = 0x3_0000_0000;
+
+const VALUE: u64 = 0x3_0000_0008;
+
+/// Where a call of the lines writes, if anywhere.
+const TO: u64 = 0x3_0000_0010;
+
+const TEXT: u64 = 0x3_0000_0040;
+
+// Calls a helper over a frame with the key 5, the value 9 and the string `cd`, for actor 1 of 2.
+fn called(alloc: Global, number: u32, args: [u64; 3]) -> Result<Asked, Memory> {
+    let typed = script(alloc)?;
+    let mut port = Quiet {
+        maps: typed.maps.try_copy(alloc)?,
+        steps: Items::new(alloc),
+    };
+    let context = [0; 128];
+    let mut memory = Regions::new(&context, &[7, 97, 98, 0, 99]);
+    memory.store(KEY, &5u64.to_le_bytes());
+    memory.store(VALUE, &9u64.to_le_bytes());
+    memory.store(TEXT, &[99, 100]);
+    let mut helpers = HelperPort::new(&mut port, &typed, 1, 2);
+    let args = [args[0], args[1], args[2], 0, 0];
+    let answer = helpers.call(alloc, number, args, &mut memory);
+    let mut word = [0; 8];
+    if let Some(bytes) = memory.bytes(TO, 8) {
+        word.copy_from_slice(bytes);
+    }
+    let Quiet { maps: _, steps } = port;
+    Ok(Asked {
+        answer,
+        steps,
+        word: u64::from_le_bytes(word),
+    })
+}
+
+/// Tells what comes of a line `NAME = NUMBER A B C`, the number and the arguments of a call in decimals: its answer, the
+/// eight bytes that it may have written, and its steps.
+pub(crate) fn tell_helper<R: Print + AllocGlobal>(rt: &R, line: &str) -> Result<()> {
+    let (name, words) = line.split_once(" = ").context("no call")?;
+    let mut numbers = [0; 4];
+    for (number, word) in numbers.iter_mut().zip(words.split(' ')) {
+        *number = word.parse::<u64>()?;
+    }
+    let [number, a, b, c] = numbers;
+    let asked = called(rt.alloc(), u32::try_from(number)?, [a, b, c])?;
+    let Asked {
+        answer,
+        steps,
+        word,
+    } = asked;
+    println!(rt; "{name}: {answer:?}, {word:x}")?;
+    for step in steps.as_slice() {
+        let Step { object, op, .. } = step;
+        println!(rt; "    {object:?} {op:?}")?;
+    }
+    Ok(())
+}

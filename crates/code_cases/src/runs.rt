@@ -1,0 +1,95 @@
+// Runs of code, over a port that shows registers and the frame.
+ghost use Rattle.std.specs.Prelude.{◌≡◌};
+
+use anyhow::{Context, Result, bail};
+use bpf_encode::decode::decode;
+use bpf_interp::machine::Machine;
+use bpf_interp::ports::{PortFault, Ports};
+use bpf_interp::regions::Regions;
+use std::alloc::Global;
+
+/// A port that answers 0 to every call, and keeps R1 to R5 of the last two calls, the number of the last one and the last
+/// 32 bytes of the frame.
+#[derive(Drop)]
+struct Watcher {
+    earlier: [u64; 5],
+    last: [u64; 5],
+    number: u32,
+    stack: [u8; 32],
+}
+
+impl Ports for Watcher {
+    ghost use Rattle.std.specs.Prelude.{[]};
+    ghost use Rattle.bt_core.specs.Interaction.{Ended};
+    ghost use Rattle.bpf_insn.specs.Machine.{Gave};
+
+    type Home = ();
+
+    ghost steps = { λ _. [] };
+
+    ghost helper = { λ _ number _ spaces. Ended (Gave 0 spaces.frame) };
+
+    ghost fixed = { λ _. record { setting = record { actor = 0; actors = 1; ticks = 0; maps = [] }; home = tt } };
+
+    #[tactic(auto, using(bt_core::proofs::InteractionLaws::composing))]
+    fn call(
+        &mut self,
+        _alloc: Global,
+        number: u32,
+        args: [u64; 5],
+        memory: &mut Regions,
+    ) -> Result<u64, PortFault> {
+        self.earlier = self.last;
+        self.last = args;
+        self.number = number;
+        if let Some(bytes) = memory.bytes(0x3_0000_01e0, 32) {
+            self.stack.copy_from_slice(bytes);
+        }
+        Ok(0)
+    }
+}
+
+/// Tells how the code of a line `NAME = FUEL CODE` runs, the fuel in decimals and the code in hexadecimal digits: whether it
+/// takes all its fuel, and what its last two calls showed.
+pub(crate) fn tell_run<R: Print + AllocGlobal>(rt: &R, line: &str) -> Result<()> {
+    let alloc = rt.alloc();
+    let (name, words) = line.split_once(" = ").context("no run")?;
+    let (fuel, digits) = words.split_once(" ").context("no code")?;
+    let fuel = fuel.parse::<u64>()?;
+    let bytes = hex::decode(alloc, digits)?;
+    if bytes.len() > 10_000 {
+        bail!("too long");
+    }
+    let code = decode(alloc, bytes.as_slice())?;
+    if code.is_empty() || code.len() > 10_000 {
+        bail!("no code");
+    }
+    let mut watcher = Watcher {
+        earlier: [0; 5],
+        last: [0; 5],
+        number: 0,
+        stack: [0; 32],
+    };
+    let ended = Machine::run(
+        alloc,
+        code.as_slice(),
+        &[0; 128],
+        &[7, 0],
+        &mut watcher,
+        fuel,
+    )?;
+    let all = ended.instructions == fuel;
+    println!(rt; "{name}: all fuel {all}")?;
+    let Watcher {
+        earlier,
+        last,
+        number,
+        stack,
+    } = watcher;
+    let [a, b, c, d, e] = earlier;
+    println!(rt; "    {a:x} {b:x} {c:x} {d:x} {e:x}")?;
+    let [a, b, c, d, e] = last;
+    let stack = hex::encode(alloc, stack)?;
+    println!(rt; "    {number}: {a:x} {b:x} {c:x} {d:x} {e:x} {stack}")?;
+    Ok(())
+}
