@@ -6,6 +6,7 @@ it only adds to aggregations, or keeps the CPU in the keys of its other maps, an
 - A map of numbers or strings that the bodies of events or ticks both write and read, `delete`, `clear`, `++` and `+=` among the writes, and
   that not all of them keep by `cpu`. Where all do, each CPU sees its own alone. A predicate reads as well.
 - One that they write, and that no such body reads: what was written last stays, unless all of them write one constant and nothing else.
+- An aggregation that they both change and read, unless all of them keep it by `cpu`: a read adds up what all CPUs have gathered by then.
 - `print` of a map, `printf`, `exit`, and `clear` or `zero` of an aggregation in the body of an event, and all but `printf` in that of a tick.
 
 Ticks come one behind another, so a map that no event's body mentions does not count. `BEGIN` and `END` run before and behind all events, so
@@ -66,11 +67,20 @@ def fault_of(uses):
     return "set by all CPUs, and keeps what was set last"
 
 
+def fault_of_reads(uses):
+    """Why what is read of an aggregation depends on the order, or nothing where it does not."""
+    reads = [use for use in uses if use.mention.does == READ]
+    changes = [use for use in uses if use.mention.does in (ADD, CLEAR)]
+    if not reads or not changes or all(use.keeps_to_its_cpu() for use in reads + changes):
+        return ""
+    return "read before all CPUs have added"
+
+
 def faults_of_maps(probes):
     """The maps whose numbers or strings depend on the order, by why they do."""
     found = {}
     for name, uses in uses_of(probes).items():
-        why = "" if is_aggregation(name, probes) else fault_of(uses)
+        why = fault_of_reads(uses) if is_aggregation(name, probes) else fault_of(uses)
         if why:
             found.setdefault(why, []).append(name)
     return found

@@ -1,6 +1,7 @@
 // The bodies of probes and of formats.
-use crate::scripts::{attached_to, three_formats};
-use bt_ast::attached::BodyPoint;
+use crate::scripts::attached_to_three;
+use bt_ast::attached::{BodyId, BodyPoint};
+use bt_core::items::Items;
 use std::test::Fail;
 
 /// A script with points of each kind, two of which match one format.
@@ -21,28 +22,31 @@ const BODIES: [(u32, BodyPoint); 8] = [
 /// The bodies of each format.
 const BY_FORMAT: [&[u32]; 3] = [&[3], &[4, 5], &[6]];
 
-#[test]
-fn bodies_stand_in_their_order(rt: HostRuntime) -> Result<(), Fail> {
-    let alloc = rt.alloc();
-    let formats = three_formats(alloc)?;
-    let attached = attached_to(alloc, TEXT, formats.as_slice(), 0, 0)??;
-    assert_eq!(rt; attached.bodies.len(), BODIES.len());
-    for (body, (probe, point)) in attached.bodies.as_slice().iter().zip(BODIES) {
-        assert_eq!(rt; (body.probe, body.point), (probe, point));
+fn are_bodies(bodies: &[BodyId], wanted: &[(u32, BodyPoint)]) -> bool {
+    for (body, (probe, point)) in bodies.iter().zip(wanted) {
+        if body.probe != *probe || body.point != *point {
+            return false;
+        }
     }
-    assert!(rt; attached.begin.as_slice() == [0].as_slice());
-    assert!(rt; attached.end.as_slice() == [1, 7].as_slice());
-    Ok(())
+    bodies.len() == wanted.len()
+}
+
+fn are_numbers(lists: &[Items<u32>], wanted: &[&[u32]]) -> bool {
+    for (list, numbers) in lists.iter().zip(wanted) {
+        if list.as_slice() != *numbers {
+            return false;
+        }
+    }
+    lists.len() == wanted.len()
 }
 
 #[test]
-fn each_format_has_its_bodies(rt: HostRuntime) -> Result<(), Fail> {
+fn bodies_stand_in_their_order(rt: HostRuntime) -> Result<(), Fail> {
     let alloc = rt.alloc();
-    let formats = three_formats(alloc)?;
-    let attached = attached_to(alloc, TEXT, formats.as_slice(), 0, 0)??;
-    assert_eq!(rt; attached.by_format.len(), BY_FORMAT.len());
-    for (bodies, wanted) in attached.by_format.as_slice().iter().zip(BY_FORMAT) {
-        assert_eq!(rt; bodies.as_slice(), wanted);
-    }
+    let attached = attached_to_three(alloc, TEXT, 0, 0)??;
+    assert!(rt; are_bodies(attached.bodies.as_slice(), &BODIES[..]));
+    assert!(rt; are_numbers(attached.by_format.as_slice(), &BY_FORMAT[..]));
+    assert!(rt; attached.begin.as_slice() == [0].as_slice());
+    assert!(rt; attached.end.as_slice() == [1, 7].as_slice());
     Ok(())
 }

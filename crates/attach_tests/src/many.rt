@@ -1,14 +1,32 @@
 // As many formats, probes and bodies as may be.
-use crate::scripts::{attached_to, format_of};
+use body_fixtures::scripts::attached_to;
 use bt_attach::error::AttachError;
+use bt_core::items::Items;
 use bt_core::memory::Memory;
 use bt_core::place::Place;
 use std::alloc::Global;
 use std::test::Fail;
 use tracefs_format::format::Format;
+use tracefs_format::layout::Layout;
 
 /// What names end in.
 const ENDS: &[u8; 64] = b"0123456789ABCDEFGHIJKLMNOPQRSTUVWXYZabcdefghijklmnopqrstuvwxyz_-";
+
+/// A format without fields.
+fn format_of(alloc: Global, system: &[u8], name: &[u8]) -> Result<Format, Memory> {
+    let system = Items::from_slice(alloc, system)?;
+    let name = Items::from_slice(alloc, name)?;
+    Ok(Format {
+        system,
+        text: Items::new(alloc),
+        layout: Layout {
+            name,
+            id: 1,
+            fields: Items::new(alloc),
+            size: 0,
+        },
+    })
+}
 
 /// 4,096 formats: 64 of each of 64 systems.
 fn many_formats(alloc: Global) -> Result<Vec<Format>, Memory> {

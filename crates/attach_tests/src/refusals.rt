@@ -1,7 +1,8 @@
 // Points that break a rule, and the nearest ones that do not.
-use crate::scripts::{SECOND, attached_to, three_formats};
+use crate::scripts::{SECOND, attached_to_three};
 use bt_attach::error::AttachError;
 use bt_core::place::Place;
+use std::alloc::Global;
 use std::test::Fail;
 
 /// Scripts over the formats `t:e`, `t:f` and `u:f` and a recording from 0 to an end, with their first fault.
@@ -119,13 +120,16 @@ const REFUSED: [(&[u8], u64, AttachError); 21] = [
     ),
 ];
 
+fn fault_of(alloc: Global, text: &[u8], end: u64) -> Result<Option<AttachError>, Fail> {
+    Ok(attached_to_three(alloc, text, 0, end)?.err())
+}
+
 #[test]
 fn the_first_point_that_breaks_a_rule_is_refused(rt: HostRuntime) -> Result<(), Fail> {
     let alloc = rt.alloc();
-    let formats = three_formats(alloc)?;
-    for (text, end, fault) in REFUSED {
-        let answer = attached_to(alloc, text, formats.as_slice(), 0, end)?;
-        assert_eq!(rt; answer.err(), Some(fault), "{text:?}");
+    for (number, row) in REFUSED.iter().enumerate() {
+        let (text, end, fault) = *row;
+        assert!(rt; fault_of(alloc, text, end)? == Some(fault), "row {number}");
     }
     Ok(())
 }
@@ -155,14 +159,20 @@ const ACCEPTED: [(&[u8], u64, usize, usize); 21] = [
     (b"i:us:20 { } i:s:3 { }", 2 * SECOND, 2, 100_000),
 ];
 
+fn counts_of(alloc: Global, text: &[u8], end: u64) -> Result<(usize, usize), Fail> {
+    let attached = attached_to_three(alloc, text, 0, end)??;
+    Ok((attached.bodies.len(), attached.ticks.len()))
+}
+
 #[test]
 fn the_nearest_points_are_attached(rt: HostRuntime) -> Result<(), Fail> {
     let alloc = rt.alloc();
-    let formats = three_formats(alloc)?;
-    for (text, end, bodies, ticks) in ACCEPTED {
-        let attached = attached_to(alloc, text, formats.as_slice(), 0, end)??;
-        assert_eq!(rt; attached.bodies.len(), bodies, "{text:?}");
-        assert_eq!(rt; attached.ticks.len(), ticks, "{text:?}");
+    for (number, row) in ACCEPTED.iter().enumerate() {
+        let (text, end, bodies, ticks) = *row;
+        assert!(rt;
+            counts_of(alloc, text, end)? == (bodies, ticks),
+            "row {number}"
+        );
     }
     Ok(())
 }

@@ -21,10 +21,10 @@ use Rattle.bt_types.specs.Exits.{kind_exits_layer, block_exits_layer, stmt_exits
 use Rattle.bt_types.specs.Script.{maps_of}
 use Rattle.bt_meaning.specs.Totals.{IsAggregationOnly, Keeps}
 use Rattle.typed_tree.specs.Bodies.{tree_parts}
-use Rattle.typed_tree.specs.Parts.{Part, Cleared, Zeroed, Jumped}
+use Rattle.typed_tree.specs.Parts.{Part, AggOf, Cleared, Zeroed, Jumped}
 use Rattle.typed_tree.specs.declared.body.TypedBody.{TypedBody}
 use Rattle.typed_tree.specs.declared.script.Typed.{Typed}
-use Rattle.expr_types.specs.Mentions.{Word, ClearWord, ZeroWord, JumpWord}
+use Rattle.expr_types.specs.Mentions.{Word, MapWord, ClearWord, ZeroWord, JumpWord}
 use Rattle.expr_types.specs.Typing.{Titles, titles_of, word_of, words_by}
 use Rattle.big_script.proofs.Grammar.{place, map_at, id_at, comm_at, gather_at, the_statements, the_tree}
 use Rattle.big_script.proofs.Types.{the_known, the_told}
@@ -50,15 +50,17 @@ no_exit =
     ∙ (λ i. list_any (λ (exits : Bool). exits) (one i ∷ two i ∷ three i ∷ [])) in
     ap (λ (b : Bool). list_any (λ (exits : Bool). exits) (b ∷ [])) block
 
--- ---- no clear, zero or jump
+-- ---- no map that is read, and no clear, zero or jump
 
 abbrev is_kept : Word → Bool
+is_kept (MapWord name count) = false
 is_kept (ClearWord name) = false
 is_kept (ZeroWord name) = false
 is_kept (JumpWord jump) = false
 is_kept w = true
 
 keeps : (t : Titles) (p : Part) → is_kept (word_of t p) ≡ true → Keeps p
+keeps t (AggOf number keys) h = absurd cc
 keeps t (Cleared number) h = absurd cc
 keeps t (Zeroed number) h = absurd cc
 keeps t (Jumped jump inside) h = absurd cc

@@ -75,6 +75,7 @@ num_first_at t (NumExpr-F.Builtin b) rest w ws h = first_of is_value _ w _ ws h 
 num_first_at t (NumExpr-F.NumExpr::Field f) rest w ws h = first_of is_value _ w _ ws h refl
 num_first_at t (NumExpr-F.NumExpr::Var n) rest w ws h = first_of is_value _ w _ ws h refl
 num_first_at t (NumExpr-F.NumExpr::Map m keys) rest w ws h = first_of is_value _ w _ ws h refl
+num_first_at t (NumExpr-F.Agg m keys) rest w ws h = first_of is_value _ w _ ws h refl
 num_first_at t (NumExpr-F.StepVar n plus prefix) rest w ws h = first_of is_value _ w _ ws h refl
 num_first_at t (NumExpr-F.StepMap m keys plus prefix) rest w ws h = first_of is_value _ w _ ws h refl
 num_first_at t (NumExpr-F.Unary op value) rest w ws h = first_of is_value _ w _ ws h refl
@@ -101,6 +102,7 @@ field_at t (NumExpr-F.Builtin b) rest name ws h = absurd cc
 field_at t (NumExpr-F.NumExpr::Field f) rest name ws h = record { field = f; is = nums.rolls-Field f; behind = cc }
 field_at t (NumExpr-F.NumExpr::Var n) rest name ws h = absurd cc
 field_at t (NumExpr-F.NumExpr::Map m keys) rest name ws h = absurd cc
+field_at t (NumExpr-F.Agg m keys) rest name ws h = absurd cc
 field_at t (NumExpr-F.StepVar n plus prefix) rest name ws h = absurd cc
 field_at t (NumExpr-F.StepMap m keys plus prefix) rest name ws h = absurd cc
 field_at t (NumExpr-F.Unary op value) rest name ws h = absurd cc
@@ -126,6 +128,7 @@ num_no_comm t (NumExpr-F.Builtin b) rest ws h = let e : builtin_of b ≡ Comm = 
 num_no_comm t (NumExpr-F.NumExpr::Field f) rest ws h = cc
 num_no_comm t (NumExpr-F.NumExpr::Var n) rest ws h = cc
 num_no_comm t (NumExpr-F.NumExpr::Map m keys) rest ws h = cc
+num_no_comm t (NumExpr-F.Agg m keys) rest ws h = cc
 num_no_comm t (NumExpr-F.StepVar n plus prefix) rest ws h = cc
 num_no_comm t (NumExpr-F.StepMap m keys plus prefix) rest ws h = cc
 num_no_comm t (NumExpr-F.Unary op value) rest ws h = cc

@@ -45,3 +45,5 @@ pub mod LoopForm
 pub mod Under
 pub mod Landings
 pub mod Asked
+pub mod Summed
+pub mod HeldNumbers

@@ -8,9 +8,9 @@ use Rattle.std.proofs.lemmas.Bool.{ltb-true, leb-true, le-leb, and_parts, and_fr
 use Rattle.bt_core.specs.declared.map.MapDecl.{MapDecl}
 use Rattle.fmt_text.specs.declared.piece.Piece.{Piece}
 use Rattle.helper_abi.specs.declared.helper.Helper.{Helper}
-use Rattle.helper_abi.specs.declared.helper.Helper.TheVariants.{Get, Set, Delete, Aggregate, Print, Clear, Zero, Printf, Exit, Cut, ReadStr}
+use Rattle.helper_abi.specs.declared.helper.Helper.TheVariants.{Get, Set, Delete, Aggregate, Print, Clear, Zero, Printf, Exit, Cut, ReadStr, ReadAgg}
 use Rattle.helper_abi.specs.Numbers.{helper_at}
-use Rattle.helper_abi.specs.Helpers.{numbered, table_map, value_map}
+use Rattle.helper_abi.specs.Helpers.{numbered, table_map, value_map, summed_map}
 use Rattle.bpf_insn.specs.declared.insn.AluOp.{AluOp}
 use Rattle.bpf_insn.specs.declared.insn.AluOp.TheVariants.{Add, Sub, Mov}
 use Rattle.bpf_insn.specs.declared.insn.Insn.{Insn}
@@ -29,7 +29,7 @@ use Rattle.bpf_check.specs.declared.ways.Ways.{Ways}
 use Rattle.bpf_check.specs.declared.ways.Ways.TheVariants.{Finish, To, Either}
 use Rattle.bpf_check.specs.States.{known_of, written, paid, CoversKnown, Covers}
 use Rattle.bpf_check.specs.Reading.{set_known, number_in, may_load, may_store}
-use Rattle.bpf_check.specs.Calls.{in_frame, in_results, get_fits, set_fits, delete_fits, add_fits, limits_fit, printf_fits, is_line, helper_fits, known_helper_fits, call_fits}
+use Rattle.bpf_check.specs.Calls.{in_frame, in_results, get_fits, set_fits, delete_fits, add_fits, sum_fits, limits_fit, printf_fits, is_line, helper_fits, known_helper_fits, call_fits}
 use Rattle.bpf_check.specs.Effects.{source_known, first_known, sum_known, difference_known, wide_known, alu_known, loaded, stored, after_call, called, effect}
 use Rattle.bpf_check.specs.Ways.{may_go, goes, is_back, jumped, one_way, two_ways, onward, taken, through_gate, from_insn, from_gate, gate_at, leads}
 use Rattle.bpf_check.specs.Closed.{HasCover, IsCovered, AreCovered, Meets, IsClosed}
@@ -236,6 +236,10 @@ module _ (t : Sheet) (a s : Seen) (full : length s.regs ≡ 10) (c : Covers a s)
   add_also None m' h e = absurd (cc)
   add_also (Some d) m' h e = ap (λ (x : Option MapDecl). add_fits x (known_of s 2) (known_of s 3)) h ∙ and_also _ _ _ _ (frame_also _ _ _ (base_also 2)) (some_also _ _ (reg_also 3)) e
 
+  sum_fits_also : (m m' : Option MapDecl) → AlsoThe m m' → sum_fits m (known_of a 2) (known_of a 3) ≡ true → sum_fits m' (known_of s 2) (known_of s 3) ≡ true
+  sum_fits_also None m' h e = absurd (cc)
+  sum_fits_also (Some d) m' h e = ap (λ (x : Option MapDecl). sum_fits x (known_of s 2) (known_of s 3)) h ∙ and_also _ _ _ _ (frame_also _ _ _ (base_also 2)) (results_also 8 _ _ (base_also 3)) e
+
   printf_also : (m m' : Option (List Piece)) → AlsoThe m m' → printf_fits m (known_of a 2) ≡ true → printf_fits m' (known_of s 2) ≡ true
   printf_also None m' h e = absurd (cc)
   printf_also (Some d) m' h e = ap (λ (x : Option (List Piece)). printf_fits x (known_of s 2)) h ∙ frame_also _ _ _ (base_also 2) e
@@ -252,6 +256,7 @@ module _ (t : Sheet) (a s : Seen) (full : length s.regs ≡ 10) (c : Covers a s)
   helper_also Exit = λ e. e
   helper_also Cut = line_also _ _ (base_also 1)
   helper_also ReadStr = and_also _ _ _ _ (results_also 64 _ _ (base_also 1)) (and_also _ _ _ _ (some_also _ _ (reg_also 2)) (some_also _ _ (reg_also 3)))
+  helper_also ReadAgg = sum_fits_also _ _ (the_also (summed_map t.maps) _ _ (base_also 1))
 
   fits_also : (n : ℕ) → call_fits t.maps t.formats n a ≡ true → call_fits t.maps t.formats n s ≡ true
   fits_also n = by (helper_at n)

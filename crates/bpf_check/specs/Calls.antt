@@ -6,10 +6,10 @@ use Rattle.bpf_insn.specs.declared.address.TheConstants.{FRAME}
 use Rattle.fmt_text.specs.Arguments.{argument_shapes}
 use Rattle.fmt_text.specs.declared.piece.Piece.{Piece}
 use Rattle.helper_abi.specs.declared.helper.Helper.{Helper}
-use Rattle.helper_abi.specs.declared.helper.Helper.TheVariants.{Get, Set, Delete, Aggregate, Print, Clear, Zero, Printf, Exit, Cut, ReadStr}
+use Rattle.helper_abi.specs.declared.helper.Helper.TheVariants.{Get, Set, Delete, Aggregate, Print, Clear, Zero, Printf, Exit, Cut, ReadStr, ReadAgg}
 use Rattle.helper_abi.specs.Numbers.{helper_at}
 use Rattle.helper_abi.specs.Reading.{shape_bytes, shape_of_kind, bytes_of_shapes}
-use Rattle.helper_abi.specs.Helpers.{numbered, table_map, value_map, are_shown}
+use Rattle.helper_abi.specs.Helpers.{numbered, table_map, value_map, summed_map, are_shown}
 use Rattle.bpf_check.specs.declared.known.Known.{Known}
 use Rattle.bpf_check.specs.declared.known.Seen.{Seen}
 use Rattle.bpf_check.specs.States.{known_of}
@@ -39,12 +39,15 @@ at_results k n = in_results n (number_in k)
 abbrev pub known_at : {A : Type 0} → List A → Known → Option A
 known_at xs k = option_and_then (numbered xs) (number_in k)
 
--- the map of a known number where it holds whole numbers or strings, or where it gathers numbers
+-- the map of a known number where it holds whole numbers or strings, where it gathers numbers, or where it gathers them into one
 abbrev pub known_value_map : List MapDecl → Known → Option MapDecl
 known_value_map maps k = option_and_then (value_map maps) (number_in k)
 
 abbrev pub known_table_map : List MapDecl → Known → Option MapDecl
 known_table_map maps k = option_and_then (table_map maps) (number_in k)
+
+abbrev pub known_summed_map : List MapDecl → Known → Option MapDecl
+known_summed_map maps k = option_and_then (summed_map maps) (number_in k)
 
 -- ---- each helper's arguments
 
@@ -70,6 +73,10 @@ delete_fits (Some decl) key = is_key decl key
 abbrev pub add_fits : Option MapDecl → Known → Known → Bool
 add_fits None key number = false
 add_fits (Some decl) key number = is_key decl key && is_some (set_known number)
+
+abbrev pub sum_fits : Option MapDecl → Known → Known → Bool
+sum_fits None key to = false
+sum_fits (Some decl) key to = is_key decl key && at_results to 8
 
 -- at least 0 rows are kept, and the values divided by at least 1
 abbrev pub limits_fit : Option ℕ → Option ℕ → Bool
@@ -102,6 +109,7 @@ helper_fits maps formats a b c Printf = printf_fits (known_at formats a) b
 helper_fits maps formats a b c Exit = true
 helper_fits maps formats a b c Cut = is_line (number_in a)
 helper_fits maps formats a b c ReadStr = read_fits a b c
+helper_fits maps formats a b c ReadAgg = sum_fits (known_summed_map maps a) b c
 
 -- no other number is that of a helper
 abbrev pub known_helper_fits : List MapDecl → List (List Piece) → Known → Known → Known → Option Helper → Bool

@@ -3,9 +3,9 @@ ghost use Rattle.std.specs.Prelude.{◌≡◌, ◌≤◌, length, option_copied}
 ghost use Rattle.fmt_text.specs.Arguments.{argument_shapes, piece_shapes};
 ghost use Rattle.helper_abi.specs.Reading.{shape_bytes, bytes_of_shapes};
 ghost use Rattle.bpf_check.specs.Reading.{number_in};
-ghost use Rattle.bpf_check.specs.Calls.{at_frame, at_results, known_at, known_value_map, known_table_map};
+ghost use Rattle.bpf_check.specs.Calls.{at_frame, at_results, known_at, known_value_map, known_table_map, known_summed_map};
 ghost use Rattle.bpf_check.specs.Calls.{held_bytes, in_bounds, at_some_frame, is_key, get_fits, set_fits, delete_fits};
-ghost use Rattle.bpf_check.specs.Calls.{add_fits, print_fits, printf_fits, is_line, read_fits, helper_fits, call_fits};
+ghost use Rattle.bpf_check.specs.Calls.{add_fits, sum_fits, print_fits, printf_fits, is_line, read_fits, helper_fits, call_fits};
 
 use crate::effect::{lies_in, may_store, number_in, set_known};
 use crate::known::{Known, Seen, known_of};
@@ -15,6 +15,7 @@ use bt_core::limits::FRAME_BYTES;
 use bt_core::map::{MapDecl, MapKind, Shape};
 use fmt_text::piece::Piece;
 use helper_abi::helper::Helper;
+use typed_tree::kind::is_summed_kind;
 use typed_tree::script::Typed;
 
 // ---- bytes
@@ -154,6 +155,18 @@ fn known_table_map(maps: &[MapDecl], known: Known) -> Option<&MapDecl>
     }
 }
 
+// The map of that number where it gathers numbers into one.
+fn known_summed_map(maps: &[MapDecl], known: Known) -> Option<&MapDecl>
+    ensures { option_copied result ≡ known_summed_map maps.now known }
+{
+    let decl = known_at(maps, known)?;
+    if is_summed_kind(decl.kind) {
+        Some(decl)
+    } else {
+        None
+    }
+}
+
 // ---- each helper's arguments
 
 fn get_fits(map: Option<&MapDecl>, key: Known, to: Known) -> bool
@@ -189,6 +202,15 @@ fn add_fits(map: Option<&MapDecl>, key: Known, number: Known) -> bool
     match map {
         None => false,
         Some(decl) => is_key(decl, key) && set_known(number).is_some(),
+    }
+}
+
+fn sum_fits(map: Option<&MapDecl>, key: Known, to: Known) -> bool
+    ensures { result ≡ sum_fits (option_copied map.entry) key to }
+{
+    match map {
+        None => false,
+        Some(decl) => is_key(decl, key) && at_results(to, 8),
     }
 }
 
@@ -241,6 +263,7 @@ fn helper_fits(typed: &Typed, a: Known, b: Known, c: Known, helper: Helper) -> b
         Helper::Exit => true,
         Helper::Cut => is_line(a),
         Helper::ReadStr => read_fits(a, b, c),
+        Helper::ReadAgg => sum_fits(known_summed_map(maps, a), b, c),
     }
 }
 

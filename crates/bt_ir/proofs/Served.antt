@@ -9,11 +9,11 @@ use Rattle.bt_core.specs.declared.map.MapId.{MapId}
 use Rattle.bt_core.specs.declared.map.Shape.{Shape}
 use Rattle.bt_core.specs.declared.map.Shape.TheVariants as shapes
 use Rattle.bt_core.specs.declared.limits.TheConstants.{KEY_PARTS}
-use Rattle.bt_core.specs.Kinds.{HasShape}
+use Rattle.bt_core.specs.Kinds.{HasShape, IsAggregation}
 use Rattle.bt_core.specs.Ports.{Setting}
 use Rattle.tracefs_format.specs.declared.field.FieldKind.{FieldKind}
 use Rattle.tracefs_format.specs.declared.field.FieldKind.TheVariants.{Number, Chars, DataLoc, Other}
-use Rattle.typed_tree.specs.Scope.{same_shapes, is_shape, shape_of_field, is_declared, is_shared, is_there, kind_of_shape, may_print}
+use Rattle.typed_tree.specs.Scope.{same_shapes, is_shape, shape_of_field, is_declared, is_shared, is_summed, is_summed_kind, is_there, kind_of_shape, may_print}
 use Rattle.ir_code.specs.declared.blocks.Block.{Block}
 use Rattle.ir_code.specs.declared.blocks.Exit.{Exit}
 use Rattle.ir_code.specs.declared.blocks.Exit.TheVariants.{Goto, Branch, Count, Gate, Again, End}
@@ -23,7 +23,7 @@ use Rattle.ir_code.specs.declared.probe.IrProbe.{IrProbe}
 use Rattle.ir_code.specs.declared.state.State.{State}
 use Rattle.ir_code.specs.declared.state.Way.TheVariants.{To}
 use Rattle.bt_ir.specs.declared.step.View.{View}
-use Rattle.map_ops.specs.Holders.{kind_of, CanSweep}
+use Rattle.map_ops.specs.Holders.{kind_of, kind_in, CanSweep}
 use Rattle.ir_code.specs.Figures.{sizes_of, instr_bytes}
 use Rattle.ir_code.specs.Meaning.{Scene, instrs_run, after_exit, goes_on, exit_run, block_run, run_from, blocks_run, count_way, turn_way}
 use Rattle.bt_ir.specs.Running.{MayAsk, CanRun, IsReady, AreReady, AllReady}
@@ -33,6 +33,7 @@ use Rattle.map_ops.specs.Values.{number_of, holds}
 use Rattle.ir_code.specs.Stacks.{top, below}
 use Rattle.bt_ir.proofs.Asks.{Can-and_then}
 use Rattle.ir_code.proofs.Shaped.{same_shapes-is, ends_is, shaped-pop, shaped-put}
+use Rattle.typed_tree.proofs.Summed.{summed_there, summed_kind}
 use Rattle.bt_ir.proofs.Typed.{sweep_case, Footing, HasStack, all}
 
 pub here_of : (bs : List Block) (k : ℕ) (b : Block) → k < length bs → b ≡ get_or bs k b → slice_get bs k ≡ Some b
@@ -61,6 +62,10 @@ module _ (g : Ground) (setting : Setting) (v : View) (maps : v.maps.now ≡ g.ma
   swept : (m : MapId) → IsServedAs setting.maps g.maps m → is_there (slice_get g.maps m.0) ≡ true → CanSweep setting m (kind_of v.maps.now m) v.actors
   swept m s h = subst (λ (ms : List MapDecl). CanSweep setting m (kind_of ms m) v.actors) (sym maps) (sweep_case setting m (slice_get g.maps m.0) v.actors s h actors)
 
+  summed_kind_in : (o : Option MapDecl) (key : List Shape) → is_summed o key ≡ true → IsAggregation (kind_in o)
+  summed_kind_in None key h = cc
+  summed_kind_in (Some decl) key h = summed_kind decl.kind (and_parts (is_summed_kind decl.kind) (same_shapes decl.key_shape key) h).0
+
   ready : (x : Instr) → names g x ≡ true → end_read x ≤ length v.payload.now → ServesInstr setting.maps g.maps x → IsReady setting v x
   ready (i.Put w) n e s = tt
   ready (i.Builtin b) n e s = tt
@@ -76,6 +81,10 @@ module _ (g : Ground) (setting : Setting) (v : View) (maps : v.maps.now ≡ g.ma
   ready (i.Compare equal) n e s = tt
   ready i.Truth n e s = tt
   ready (i.Get m key shape) n e s = few key (is_declared (slice_get g.maps m.0) (kind_of_shape shape) key) n
+  ready (i.ReadAgg m key) n e s =
+      let summed = is_summed (slice_get g.maps m.0) key in
+      let named = (and_parts (is_key key) summed n).1 in
+      (few key summed n, swept m s (summed_there (slice_get g.maps m.0) key named), subst (λ (ms : List MapDecl). IsAggregation (kind_of ms m)) (sym maps) (summed_kind_in (slice_get g.maps m.0) key named))
   ready (i.Set m key shape) n e s = few key (is_declared (slice_get g.maps m.0) (kind_of_shape shape) key) n
   ready (i.Delete m key) n e s = few key (is_shared (slice_get g.maps m.0) key) n
   ready (i.Update m key op) n e s = few key (is_declared (slice_get g.maps m.0) (kind_of_shape shapes.Int) key) n

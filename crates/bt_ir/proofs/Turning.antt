@@ -2,14 +2,15 @@
 use Rattle.std.proofs.Common.{◌≡◌, ℕ, List, [], ◌∷◌, refl, ◌∙◌, subst}
 use Rattle.bt_core.specs.declared.step.Step.{Step}
 use Rattle.bt_core.specs.declared.step.Reply.{Reply}
+use Rattle.bt_core.specs.declared.value.Value.TheVariants.{Int}
 use Rattle.bt_core.specs.Interaction.{Interaction, Ended, Asks, and_then, Runs, Whole}
 use Rattle.ir_code.specs.declared.instr.Instr.{Instr}
 use Rattle.ir_code.specs.declared.instr.Instr.TheVariants as i
 use Rattle.ir_code.specs.declared.state.State.{State}
 use Rattle.map_ops.specs.declared.sweep.Sweep.TheVariants.{Clear, Zero}
 use Rattle.map_ops.specs.Holders.{kind_of}
-use Rattle.map_ops.specs.Asking.{swept, printed}
-use Rattle.ir_code.specs.Meaning.{Scene, instr_run, instrs_run}
+use Rattle.map_ops.specs.Asking.{swept, printed, summed}
+use Rattle.ir_code.specs.Meaning.{Scene, put, key_on, unkeyed, instr_run, instrs_run}
 
 -- whatever the replies are, this holds of the value
 Gives : {A : Type 0} → (A → Type 0) → Interaction A → Type 0
@@ -56,6 +57,7 @@ instr_turns (i.Binary op) scene s = refl
 instr_turns (i.Compare equal) scene s = refl
 instr_turns i.Truth scene s = refl
 instr_turns (i.Get m key shape) scene s = λ r. refl
+instr_turns (i.ReadAgg m key) scene s = Gives-last (Same s.turns) (summed m (key_on key s) scene.actors) (λ n. put (Int n) (unkeyed key s)) (λ a. refl)
 instr_turns (i.Set m key shape) scene s = λ r. refl
 instr_turns (i.Delete m key) scene s = λ r. refl
 instr_turns (i.Update m key op) scene s = λ r q. refl

@@ -1,6 +1,6 @@
 -- Typed blocks ask only for what a port takes that serves the maps that they name.
 use Rattle.std.proofs.Common.{◌≡◌, ℕ, zero, suc, ◌+◌, ◌<◌, ◌≤◌, List, [], ◌∷◌, ◌++◌, length, true, false, Option, Some, None, refl, sym, ap, ◌∙◌, subst, arith, append_assoc, append-nil}
-use Rattle.std.specs.Prelude.{ℤ, pos, ◌&&◌, slice_get, cond}
+use Rattle.std.specs.Prelude.{ℤ, pos, ◌&&◌, slice_get, cond, IsSomeAnd}
 use Rattle.std.proofs.lemmas.Bool.{and_parts}
 use Rattle.bt_core.specs.declared.limits.TheConstants.{PARTS}
 use Rattle.bt_core.specs.declared.map.MapDecl.{MapDecl}
@@ -19,7 +19,8 @@ use Rattle.bt_core.specs.declared.value.Value.TheVariants.{Int, Str}
 use Rattle.bt_core.specs.KeyBytes.{part_of}
 use Rattle.bt_core.specs.Kinds.{HasShape, IsOfShape, IsOfKind, IsShared, IsAggregation}
 use Rattle.bt_core.specs.Ports.{Setting, CanStep}
-use Rattle.typed_tree.specs.Scope.{same_shapes, same_kind, is_declared, is_shared, is_there, is_agg, kind_of_shape}
+use Rattle.typed_tree.specs.Scope.{same_shapes, same_kind, is_declared, is_shared, is_summed, is_summed_kind, is_there, is_agg, kind_of_shape}
+use Rattle.typed_tree.proofs.Summed.{summed_kind}
 use Rattle.ir_code.specs.declared.instr.Instr.{Instr}
 use Rattle.ir_code.specs.declared.instr.Instr.TheVariants as i
 use Rattle.ir_code.specs.declared.state.State.{State}
@@ -127,6 +128,10 @@ pub sweep_case : (setting : Setting) (m : MapId) (o : Option MapDecl) (actors : 
 sweep_case setting m None actors s h e = cc
 sweep_case setting m (Some decl) actors s h e = record { declared = rw s refl; tables = e }
 
+summed_case : (setting : Setting) (m : MapId) (key : List Shape) (o : Option MapDecl) → slice_get setting.maps m.0 ≡ o → is_summed o key ≡ true → IsSomeAnd (slice_get setting.maps m.0) (λ decl. IsAggregation decl.kind)
+summed_case setting m key None e h = cc
+summed_case setting m key (Some decl) e h = rw e (summed_kind decl.kind (and_parts (is_summed_kind decl.kind) (same_shapes decl.key_shape key) h).0)
+
 asked_can : (setting : Setting) (object : ℕ → ObjectId) (op : Op) (replies : List Reply) (first n limit : ℕ) → first + n ≤ limit → ((place : ℕ) → place < limit → CanStep setting (object place) op) → CanAsk setting (λ rs. Unit {0}) (asked_from object op replies first n)
 asked_can setting object op replies first zero limit l h = tt
 asked_can setting object op replies first (suc n) limit l h = (h first (omega arith), λ r. asked_can setting object op (replies ++ r ∷ []) (first + 1) n limit (omega arith) h)
@@ -183,6 +188,13 @@ module _ (g : Ground) (setting : Setting) (scene : Scene) (f : Footing g setting
       let p = shaped-split rest key s.stack h in
       let d = held g setting m key shape w n in
       (get_can setting m key shape (last_of (length key) s.stack) d p.1, λ r. shaped-put rest shape (front_of (length key) s.stack) _ p.0 (as_shape-shaped shape _))
+  local (i.ReadAgg m key) rest s n w h =
+      let p = shaped-split rest key s.stack h in
+      let gathers = summed_case setting m key (slice_get g.maps m.0) w (and_parts (is_key key) (is_summed (slice_get g.maps m.0) key) n).1 in
+      Can-and_then setting (λ a. Unit {0}) _ _ _
+      (Can-and_then setting (λ rs. Unit {0}) _ _ _
+      (asked_can setting Cpu (ops.Read m) [] 0 scene.actors scene.actors (omega arith) (λ place l. (omega (arith, l, f.actors), gathers))) (λ rs u. tt))
+      (λ a u. shaped-put rest shapes.Int (front_of (length key) s.stack) (Int a) p.0 tt)
   local (i.Set m key shape) rest s n w h =
       let q = shaped-pop (rest ++ key) shape s.stack (subst (λ (l : List Shape). HasShape l s.stack) (sym (append_assoc rest key (shape ∷ []))) h) in
       let p = shaped-split rest key (below s.stack) q.0 in

@@ -6,6 +6,7 @@ use Rattle.bt_core.specs.declared.memory.Memory.{Memory}
 use Rattle.bt_core.specs.declared.step.Reply.{Reply}
 use Rattle.bt_core.specs.declared.step.Step.{Step}
 use Rattle.bt_core.specs.Interaction.{Interaction, Ended, Asks, Whole, Part}
+use Rattle.bt_core.specs.Kinds.{IsAggregation}
 use Rattle.bt_core.specs.Ports.{Setting, CanStep}
 use Rattle.tracefs_format.specs.declared.field.FieldKind.TheVariants.{Number, Chars, DataLoc}
 use Rattle.tracefs_format.specs.Sizes.{end_of}
@@ -41,12 +42,14 @@ Did t old new r after = MatchResult r (λ u. Whole t old new after) (λ _. Part 
 abbrev pub scene_in : View → Scene
 scene_in v = record { context = v.context.now; payload = v.payload.now; actor = v.actor; actors = v.actors; maps = v.maps.now }
 
--- what an instruction needs beside its calls: a field has its kind and ends inside the payload, a key has few parts, and a map that
--- is swept is declared and has its tables
+-- what an instruction needs beside its calls: a field has its kind and ends inside the payload, a key has few parts, a map that
+-- is swept is declared and has its tables, and one that is read as an aggregation is one
 abbrev pub IsReady : Setting → View → Instr → Type 0
 IsReady setting v (i.NumberField f) = (f.kind ≡ Number) × (end_of f ≤ length v.payload.now)
 IsReady setting v (i.TextField f) = (f.kind ≡ Chars ⊎ f.kind ≡ DataLoc) × (end_of f ≤ length v.payload.now)
 IsReady setting v (i.Get m key shape) = length key ≤ KEY_PARTS
+IsReady setting v (i.ReadAgg m key) =
+    (length key ≤ KEY_PARTS) × CanSweep setting m (kind_of v.maps.now m) v.actors × IsAggregation (kind_of v.maps.now m)
 IsReady setting v (i.Set m key shape) = length key ≤ KEY_PARTS
 IsReady setting v (i.Delete m key) = length key ≤ KEY_PARTS
 IsReady setting v (i.Update m key op) = length key ≤ KEY_PARTS

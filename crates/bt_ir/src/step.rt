@@ -6,10 +6,11 @@ ghost use Rattle.bt_core.specs.declared.limits.TheConstants.{KEY_PARTS as MOST_P
 ghost use Rattle.bt_core.specs.declared.value.Value.TheVariants as values;
 ghost use Rattle.bt_core.specs.Arithmetic.{binary_value, unary_value, truth};
 ghost use Rattle.bt_core.specs.Interaction.{Performed};
+ghost use Rattle.bt_core.specs.Kinds.{IsAggregation};
 ghost use Rattle.map_ops.specs.Holders.{kind_of, CanSweep};
 ghost use Rattle.ir_code.specs.Meaning.{instr_run, instrs_run, store_on, step_variable_on, update_variable_on, unary_on, binary_on, compared_on, truth_on};
-ghost use Rattle.ir_code.specs.Meaning.{get_on, set_on, delete_on, updated, update_on, stepped, step_on, add_on, count_on, printf_on, sweep_on};
-ghost use Rattle.map_ops.specs.Asking.{printed};
+ghost use Rattle.ir_code.specs.Meaning.{get_on, set_on, delete_on, updated, update_on, stepped, step_on, sum_on, add_on, count_on, printf_on, sweep_on};
+ghost use Rattle.map_ops.specs.Asking.{printed, summed};
 ghost use Rattle.bt_ir.specs.Running.{MayAsk, Did, IsReady, AreReady, scene_in};
 ghost use Rattle.map_ops.specs.Values.{next, number_of, text_of, holds};
 ghost use Rattle.map_ops.specs.Builtins.{builtin_value};
@@ -32,6 +33,7 @@ use ir_code::state::State;
 use map_ops::access::{get, part, tell};
 use map_ops::builtin::builtin_value;
 use map_ops::printing::print_map;
+use map_ops::summing::sum_under;
 use map_ops::sweep::{Sweep, ask_each};
 use map_ops::values::{as_shape, holds, next, number_of, text_of};
 use std::alloc::Global;
@@ -177,6 +179,43 @@ fn get_on<P: Port>(
     let parts = pop_key(alloc, key.len(), &mut state.stack)?;
     let value = get(alloc, map, Key::of(parts), port)?;
     put(as_shape(shape, &value), state)
+}
+
+/// The number of an aggregation under a key, over the tables of all actors.
+fn sum<P: Port>(
+    alloc: Global,
+    view: &View<'_>,
+    map: MapId,
+    key: &Key,
+    port: &mut P,
+) -> Result<i64, Memory>
+    requires can { CanSweep (P.fixed port.old).setting map (kind_of view.now.maps.now map) view.now.actors }
+    requires gathers { IsAggregation (kind_of view.now.maps.now map) }
+    ensures performed { Performed (summed map key.now view.now.actors) (P.steps port.old) (P.steps port.new) result }
+    ensures kept { P.fixed port.new ≡ P.fixed port.old }
+{
+    let kind = kind_of(view.maps, map);
+    sum_under(alloc, kind, map, key, view.actors, port)
+}
+
+/// Puts the number of an aggregation under the key on the stack.
+fn sum_on<P: Port>(
+    alloc: Global,
+    view: &View<'_>,
+    map: MapId,
+    key: &[Shape],
+    state: &mut State,
+    port: &mut P,
+) -> Result<(), Memory>
+    requires few { length key.now ≤ MOST_PARTS }
+    requires can { CanSweep (P.fixed port.old).setting map (kind_of view.now.maps.now map) view.now.actors }
+    requires gathers { IsAggregation (kind_of view.now.maps.now map) }
+    ensures performed { Did (sum_on map key.now view.now.actors state.old) (P.steps port.old) (P.steps port.new) result state.new }
+    ensures kept { P.fixed port.new ≡ P.fixed port.old }
+{
+    let parts = pop_key(alloc, key.len(), &mut state.stack)?;
+    let number = sum(alloc, view, map, &Key::of(parts), port)?;
+    put(Value::Int(number), state)
 }
 
 /// Sets the value under the key on the stack to the one above it.
@@ -435,6 +474,7 @@ pub fn run_instr<P: Port>(
         Instr::Compare { equal } => compare_on(*equal, state)?,
         Instr::Truth => truth_on(state)?,
         Instr::Get { map, key, shape } => get_on(alloc, *map, key.as_slice(), *shape, state, port)?,
+        Instr::ReadAgg { map, key } => sum_on(alloc, view, *map, key.as_slice(), state, port)?,
         Instr::Set { map, key, .. } => set_on(alloc, *map, key.as_slice(), state, port)?,
         Instr::Delete { map, key } => delete_on(alloc, *map, key.as_slice(), state, port)?,
         Instr::Update { map, key, op } => update_on(alloc, *map, key.as_slice(), *op, state, port)?,

@@ -32,7 +32,7 @@ use Rattle.map_ops.specs.Values.{holds, next, number_of, text_of, shape_of}
 use Rattle.walk_meaning.specs.Does.{BodyScene}
 use Rattle.walk_meaning.specs.Exprs.{value_does, values_do, number_does, text_does, number_value, text_value, tested, number_field, text_field, step_variable, step_map}
 use Rattle.walk_meaning.specs.Maps.{number_variable, text_variable, with_variable, variable}
-use Rattle.walk_meaning.proofs.ExprDoes.{number_num, builtin_num, field_num, var_num, map_num, stepvar_num, stepmap_num, unary_num, binary_num, compare_num, andthen_num, orelse_num, choose_num, text_str, comm_str, field_str, var_str, map_str, choose_str, num_any, str_any}
+use Rattle.walk_meaning.proofs.ExprDoes.{number_num, builtin_num, field_num, var_num, map_num, stepvar_num, stepmap_num, unary_num, binary_num, compare_num, andthen_num, orelse_num, choose_num, text_str, comm_str, field_str, var_str, map_str, choose_str, num_any, str_any, agg_num}
 use Rattle.ir_code.specs.declared.blocks.Exit.TheVariants.{Goto, Branch}
 use Rattle.ir_code.specs.declared.instr.Instr.TheVariants as i
 use Rattle.ir_code.specs.Figures.{size_of, sizes_of}
@@ -47,7 +47,7 @@ use Rattle.bt_lower.proofs.Exprs.{Parts-none, Parts-less, Parts-fit, Parts-appen
 use Rattle.bt_lower.proofs.Choices.{Lowers-arm, Lowers-either}
 use Rattle.bt_lower.proofs.Blocks.{and_then-same}
 use Rattle.bt_lower.proofs.Lists.{fit-parts, fit-head}
-use Rattle.bt_lower.proofs.Maps.{map_names, Lowers-read_number, Lowers-read_text, stepped-puts}
+use Rattle.bt_lower.proofs.Maps.{map_names, Lowers-read_number, Lowers-read_text, stepped-puts, Lowers-read_agg}
 use Rattle.bt_lower.proofs.Trees as tree
 use Rattle.bt_lower.proofs.Words.{Lowers-leaf, Lowers-number, Lowers-literal, Lowers-builtin, Lowers-command, Lowers-both, Lowers-unary, Lowers-tested, Lowers-compared}
 
@@ -201,6 +201,14 @@ N-Map e m keys es shape c c1 new he hk hs e1 l0 =
     (Parts-less _ _ _ (need (max (list_frame (values_need keys)) (sizes_of (key_shapes (all_made keys)) + 8)) (16 + codes_in (values_need keys))) _ c new
     (omega (arith, ap (λ (n : ℕ). max (list_frame (values_need keys)) (n + 8)) l.sized)) (omega arith)
     (Lowers-read_number m (parts_in (all_made keys)) (key_shapes (all_made keys)) (values_do keys) (need (list_frame (values_need keys)) (codes_in (values_need keys))) c c1 new (e1 ∙ ap (λ x. pushed (i.Get m x shapes.Int) c) hs) l.lowered))
+
+pub N-Agg : (e : NumExpr) (m : MapId) (keys es : List AnyExpr) (shape : List Shape) (c c1 new : Code) → e ≡ nums.Agg m keys → es ≡ keys → shape ≡ key_shapes (all_made keys) → c1 ≡ pushed (i.ReadAgg m shape) c → LowersList es c1 new → LowersNumber e c new
+N-Agg e m keys es shape c c1 new he hk hs e1 l0 =
+    let l = subst (λ (x : List AnyExpr). LowersList x c1 new) hk l0 in
+    num-is e (nums.Agg m keys) _ _ _ c new he (tree.num-Agg-parts m keys) (agg_num (nums.Agg m keys) m keys keys refl refl) (tree.num-Agg-need m keys)
+    (Parts-less _ _ _ (need (max (list_frame (values_need keys)) (sizes_of (key_shapes (all_made keys)) + 8)) (16 + codes_in (values_need keys))) _ c new
+    (omega (arith, ap (λ (n : ℕ). max (list_frame (values_need keys)) (n + 8)) l.sized)) (omega arith)
+    (Lowers-read_agg m (parts_in (all_made keys)) (key_shapes (all_made keys)) (values_do keys) (need (list_frame (values_need keys)) (codes_in (values_need keys))) c c1 new (e1 ∙ ap (λ x. pushed (i.ReadAgg m x) c) hs) l.lowered))
 
 pub S-Map : (e : StrExpr) (m : MapId) (keys es : List AnyExpr) (shape : List Shape) (c c1 new : Code) → e ≡ strs.Map m keys → es ≡ keys → shape ≡ key_shapes (all_made keys) → c1 ≡ pushed (i.Get m shape shapes.Str) c → LowersList es c1 new → LowersText e c new
 S-Map e m keys es shape c c1 new he hk hs e1 l0 =

@@ -14,7 +14,7 @@ use Rattle.typed_tree.specs.declared.expr.NumExpr.{NumExpr, fold-roll-NumExpr}
 use Rattle.typed_tree.specs.declared.expr.NumExpr.TheVariants as nums
 use Rattle.typed_tree.specs.declared.expr.StrExpr.{StrExpr, fold-roll-StrExpr}
 use Rattle.typed_tree.specs.declared.expr.StrExpr.TheVariants as strs
-use Rattle.typed_tree.specs.Parts.{Part, Made, made, made_of, num_parts, str_parts, num_layer, str_layer, any_layer, compared, keyed_parts}
+use Rattle.typed_tree.specs.Parts.{Part, Made, made, made_of, num_parts, str_parts, num_layer, str_layer, any_layer, compared, keyed_parts, AggOf, key_shapes, parts_in}
 use Rattle.typed_tree.specs.Parts.{Constant, Literal, Numeric, Command, FieldOf, VarOf, Stepped, Prefixed, Joined, Both, Either, Chosen}
 use Rattle.bt_lower.specs.Lowers.{all_made}
 use Rattle.bt_lower.specs.Needs.{Need, Valued, need, valued, more, greater, beside, codes_in, value_need, number_need, text_need, values_need}
@@ -49,6 +49,12 @@ num-Map-parts m keys = ap num_parts (sym (nums.rolls-Map m keys)) ∙ fold-roll-
 
 pub num-Map-need : (m : MapId) (keys : List AnyExpr) → number_need (nums.Map m keys) ≡ need (beside (values_need keys) 8) (16 + codes_in (values_need keys))
 num-Map-need m keys = ap number_need (sym (nums.rolls-Map m keys)) ∙ fold-roll-NumExpr Valued Need Need value_need_by_parts number_need_by_parts text_need_by_parts (NumExpr-F.NumExpr::Map m keys)
+
+pub num-Agg-parts : (m : MapId) (keys : List AnyExpr) → num_parts (nums.Agg m keys) ≡ AggOf m.0 (key_shapes (all_made keys)) ∷ parts_in (all_made keys)
+num-Agg-parts m keys = ap num_parts (sym (nums.rolls-Agg m keys)) ∙ fold-roll-NumExpr Made (List Part) (List Part) any_layer num_layer str_layer (NumExpr-F.Agg m keys)
+
+pub num-Agg-need : (m : MapId) (keys : List AnyExpr) → number_need (nums.Agg m keys) ≡ need (beside (values_need keys) 8) (16 + codes_in (values_need keys))
+num-Agg-need m keys = ap number_need (sym (nums.rolls-Agg m keys)) ∙ fold-roll-NumExpr Valued Need Need value_need_by_parts number_need_by_parts text_need_by_parts (NumExpr-F.Agg m keys)
 
 pub num-StepVar-parts : (x : ℕ) (plus : Bool) (prefix : Bool) → num_parts (nums.StepVar x plus prefix) ≡ Stepped plus prefix ∷ VarOf x Int ∷ []
 num-StepVar-parts x plus prefix = ap num_parts (sym (nums.rolls-StepVar x plus prefix)) ∙ fold-roll-NumExpr Made (List Part) (List Part) any_layer num_layer str_layer (NumExpr-F.StepVar x plus prefix)

@@ -71,6 +71,7 @@ number_need_by_parts (NumExpr-F.Builtin b) = need 8 4
 number_need_by_parts (NumExpr-F.NumExpr::Field f) = need 8 8
 number_need_by_parts (NumExpr-F.NumExpr::Var n) = need 8 4
 number_need_by_parts (NumExpr-F.NumExpr::Map m keys) = need (beside keys 8) (16 + codes_in keys)
+number_need_by_parts (NumExpr-F.Agg m keys) = need (beside keys 8) (16 + codes_in keys)
 number_need_by_parts (NumExpr-F.StepVar n plus prefix) = need 8 12
 number_need_by_parts (NumExpr-F.StepMap m keys plus prefix) = need (beside keys 16) (32 + codes_in keys)
 number_need_by_parts (NumExpr-F.Unary op value) = more 8 value

@@ -59,7 +59,7 @@ fn take_back(alloc: Global, instr: &Instr, stack: &mut Items<Shape>) -> Result<(
         Instr::Unary(_) | Instr::Truth => retype(alloc, stack, 1, &[Shape::Int]),
         Instr::Binary(_) => retype(alloc, stack, 1, &[Shape::Int, Shape::Int]),
         Instr::Compare { .. } => retype(alloc, stack, 1, &[Shape::Str, Shape::Str]),
-        Instr::Get { key, .. } | Instr::StepMap { key, .. } => retype(
+        Instr::Get { key, .. } | Instr::ReadAgg { key, .. } | Instr::StepMap { key, .. } => retype(
             alloc,
             stack,
             1,

@@ -117,7 +117,7 @@ pub fn number_need(e: &NumExpr) -> Result<Need, Memory>
     match e {
         NumExpr::Number(_) | NumExpr::Builtin(_) | NumExpr::Var(_) => Ok(figures(8, 4)),
         NumExpr::Field(_) => Ok(figures(8, 8)),
-        NumExpr::Map { keys, .. } => {
+        NumExpr::Map { keys, .. } | NumExpr::Agg { keys, .. } => {
             let keys = values_need(keys.as_slice())?;
             Ok(under(keys, 8, 16)?)
         }

@@ -73,6 +73,11 @@ pub fn lower_number(alloc: Global, e: &NumExpr, code: &mut Code) -> Result<(), M
             )?;
             lower_values(alloc, keys.as_slice(), code)?;
         }
+        NumExpr::Agg { map, keys } => {
+            let key = shapes_of(alloc, keys.as_slice())?;
+            code.push(alloc, Instr::ReadAgg { map: *map, key })?;
+            lower_values(alloc, keys.as_slice(), code)?;
+        }
         NumExpr::StepVar { var, plus, prefix } => code.push(
             alloc,
             Instr::StepVar {

@@ -31,8 +31,8 @@ use Rattle.map_ops.specs.declared.sweep.Sweep.TheVariants.{Read, Clear, Zero}
 use Rattle.walk_meaning.specs.Does.{BodyScene, Does, given, looked_at, changed, lifted, bind, choose, gathered, in_order, if_holds}
 use Rattle.walk_meaning.specs.Exprs.{read, value_by_parts, number_by_parts, text_by_parts, value_does, values_do, number_does, text_does, step_at}
 use Rattle.map_ops.specs.Holders.{part, holder, holders, sweep_op}
-use Rattle.walk_meaning.specs.Maps.{get, set, delete, add, kind_in_body}
-use Rattle.map_ops.specs.Asking.{tells, got, asked_from, swept, printed}
+use Rattle.walk_meaning.specs.Maps.{get, set, delete, add, kind_in_body, sum_at}
+use Rattle.map_ops.specs.Asking.{tells, got, asked_from, swept, printed, summed}
 use Rattle.walk_meaning.specs.Stmts.{plain, stmt_by_parts, block_by_parts, stmt_does, block_does, number_or_one, print, clear, zero_all, if_next, in_sequence, first_arm, arm_does, cut, entered, turn, turns, tests, while_true, again}
 use Rattle.walk_meaning.specs.Walk.{walk, first_frame, guarded, ending_of, tree_does}
 use Rattle.bt_meaning.specs.Ticks.{OnlyStops}
@@ -110,13 +110,12 @@ at_part m key op = told-stops (part m key) op (not_part m key op)
 get-stops : (m : MapId) (key : List Value) → Stops (get m key)
 get-stops m key = lifted-stops (λ scene. got m key) (λ scene. (not_part m key (ops.Get key), λ reply. tt))
 
-asked_from-only : (sweep : Sweep) (kind : MapKind) (m : MapId) (replies : List Reply) (first n : ℕ) → OnlyStops (asked_from (holder kind m) (sweep_op sweep kind m) replies first n)
-asked_from-only sweep kind m replies first zero = tt
-asked_from-only sweep kind m replies first (suc n) =
-    (not_holder kind m first (sweep_op sweep kind m), λ reply. asked_from-only sweep kind m (replies ++ reply ∷ []) (first + 1) n)
+asked_from-only : (object : ℕ → ObjectId) (op : Op) → ((n : ℕ) → object n ≡ Clock → op ≡ ops.Stop) → (replies : List Reply) (first n : ℕ) → OnlyStops (asked_from object op replies first n)
+asked_from-only object op p replies first zero = tt
+asked_from-only object op p replies first (suc n) = (p first, λ reply. asked_from-only object op p (replies ++ reply ∷ []) (first + 1) n)
 
 swept-only : (sweep : Sweep) (kind : MapKind) (m : MapId) (actors : ℕ) → OnlyStops (swept sweep kind m actors)
-swept-only sweep kind m actors = asked_from-only sweep kind m [] 0 (holders kind actors)
+swept-only sweep kind m actors = asked_from-only (holder kind m) (sweep_op sweep kind m) (λ n. not_holder kind m n (sweep_op sweep kind m)) [] 0 (holders kind actors)
 
 printed-only : (kind : MapKind) (m : MapId) (top : ℕ) (div : ℤ) (actors : ℕ) → OnlyStops (printed kind m top div actors)
 printed-only kind m top div actors = stops-then (swept Read kind m actors) _ (swept-only Read kind m actors) (λ replies. told-only Out _ (not_out _))
@@ -124,6 +123,11 @@ printed-only kind m top div actors = stops-then (swept Read kind m actors) _ (sw
 sweep-stops : (sweep : Sweep) (m : MapId) → Stops (lifted (λ scene. swept sweep (kind_in_body m scene.maps) m scene.actors))
 sweep-stops sweep m =
     lifted-stops (λ scene. swept sweep (kind_in_body m scene.maps) m scene.actors) (λ scene. swept-only sweep (kind_in_body m scene.maps) m scene.actors)
+
+sum-stops : (m : MapId) (key : List Value) → Stops (sum_at m key)
+sum-stops m key =
+    lifted-stops (λ scene. summed m key scene.actors)
+    (λ scene. stops-then (asked_from Cpu (ops.Read m) [] 0 scene.actors) _ (asked_from-only Cpu (ops.Read m) (λ n. not_cpu n (ops.Read m)) [] 0 scene.actors) (λ replies. tt))
 
 -- ---- expressions
 
@@ -169,6 +173,8 @@ num_case (NumExpr-F.Builtin b) = looked_at-stops _
 num_case (NumExpr-F.NumExpr::Field f) = looked_at-stops _
 num_case (NumExpr-F.NumExpr::Var n) = looked_at-stops _
 num_case (NumExpr-F.NumExpr::Map m ks) = then-given (read m (map value_does (firsts ks))) _ (read-stops m ks)
+num_case (NumExpr-F.Agg m ks) =
+    bind-stops (in_order (map value_does (firsts ks))) (λ key. sum_at m key) (gathered-stops ks []) (λ key. sum-stops m key)
 num_case (NumExpr-F.StepVar n plus prefix) = bind-stops _ _ (looked_at-stops _) (λ old. then-given (changed _) _ (changed-stops _))
 num_case (NumExpr-F.StepMap m ks plus prefix) =
     bind-stops (in_order (map value_does (firsts ks))) (λ key. step_at m key plus prefix) (gathered-stops ks []) (λ key. step-stops m plus prefix key)

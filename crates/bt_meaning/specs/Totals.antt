@@ -20,7 +20,7 @@ use Rattle.typed_tree.specs.declared.script.Typed.{Typed}
 use Rattle.typed_tree.specs.declared.stmt.Jump.{Jump}
 use Rattle.typed_tree.specs.declared.stmt.Jump.TheVariants.{Exit}
 use Rattle.typed_tree.specs.Bodies.{tree_parts}
-use Rattle.typed_tree.specs.Parts.{Part, Cleared, Zeroed, Jumped}
+use Rattle.typed_tree.specs.Parts.{Part, AggOf, Cleared, Zeroed, Jumped}
 use Rattle.agg_core.specs.Aggregates.{aggregate}
 use Rattle.agg_core.specs.Answers.{agg_kind_in}
 use Rattle.agg_core.specs.Changes.{is_key, with_key}
@@ -35,14 +35,15 @@ abbrev pub StaysInBody : Jump → Type 0
 StaysInBody Exit = ⊥
 StaysInBody jump = ⊤
 
--- a part is no `clear`, `zero` or `exit`
+-- a part reads no aggregation, and is no `clear`, `zero` or `exit`
 abbrev pub Keeps : Part → Type 0
+Keeps (AggOf number keys) = ⊥
 Keeps (Cleared number) = ⊥
 Keeps (Zeroed number) = ⊥
 Keeps (Jumped jump inside) = StaysInBody jump
 Keeps part = ⊤
 
--- all maps are aggregations, and no `clear`, `zero` or `exit` stands in the script
+-- all maps are aggregations that no expression reads, and no `clear`, `zero` or `exit` stands in the script
 pub record IsAggregationOnly (script : Typed) : Type 0 where
   pub maps : All (λ (decl : MapDecl). IsAggregation decl.kind) script.maps
   pub no_exit : script.uses_exit ≡ false

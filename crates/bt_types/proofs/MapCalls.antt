@@ -29,7 +29,7 @@ use Rattle.expr_types.specs.Rules.{broken_at, breaks, are_rows, write_breaks, is
 use Rattle.expr_types.specs.Walk.{Seen, MapSeen, at, points_of, words_of}
 use Rattle.typed_tree.specs.Parts.{stmt_parts, Part, Gathered, Deleted, Shown, Cleared, Zeroed, Made, gather_parts, number_parts, delete_parts, key_shapes, parts_in}
 use Rattle.expr_types.specs.Typing.{IsDeclared, IsMapOf, IsNamed, AllFit, title, titles_of, word_of}
-use Rattle.expr_types.specs.Maps.{shape_held}
+use Rattle.expr_types.specs.Maps.{kind_held}
 use Rattle.expr_types.specs.Checked.{Checked, KeyChecked}
 use Rattle.bt_types.specs.Told.{Told, used, function_kind, kind_of_call, number_of_call, gather_told, print_told, clear_told, zero_told, delete_points, delete_told}
 use Rattle.bt_types.specs.Done.{Done, DoesIn, UseChecked, Removed}
@@ -171,10 +171,6 @@ not_broken : (b : Bool) (r : Rule) → breaks b r ≡ None → b ≡ false
 not_broken true r h = cc
 not_broken false r h = refl
 
-shared_shape : (s : Shape) → is_agg (kind_of_shape s) ≡ false
-shared_shape Int = refl
-shared_shape Str = refl
-
 -- the mentions of a deletion
 pub record Deletion (name : List ℕ) (at_map place : Place) (sorts : List Sort) (keys : List Made) (k0 k1 : Known) : Type 0 where
   pub used : breaks (is_one_too_many k0 name) TooManyMaps ≡ None
@@ -222,9 +218,9 @@ delete_leaves name keys k0 k1 k2 mentioned shared h is =
     let first = subst (λ (x : Known). Grows k0 x) (sym mentioned) (grows_mention k0 name) in
     record {
       grows = grows_on k0 k1 k2 first (subst (λ (x : Known). Grows k1 x) (sym is) (grows_decides k1 name Ints keys));
-      kind = kind_of_shape (shape_held (decl_in name k.decided));
-      shared = shared_shape (shape_held (decl_in name k.decided));
-      declared = subst (λ (x : Known). IsDeclared x name (kind_of_shape (shape_held (decl_in name k.decided))) keys) (sym is) there;
+      kind = kind_held (decl_in name k.decided);
+      shared = there.1;
+      declared = subst (λ (x : Known). IsDeclared x name (kind_held (decl_in name k.decided)) keys) (sym is) there.0;
     }
 
 parts_both : (ms ns : List Made) → parts_in (ms ++ ns) ≡ parts_in ms ++ parts_in ns

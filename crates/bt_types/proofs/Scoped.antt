@@ -22,9 +22,9 @@ use Rattle.tracefs_format.specs.declared.field.FieldKind.{FieldKind}
 use Rattle.tracefs_format.specs.declared.field.FieldKind.TheVariants as field
 use Rattle.tracefs_format.specs.declared.layout.Layout.{Layout}
 use Rattle.typed_tree.specs.Bodies.{scope_of, tree_parts}
-use Rattle.typed_tree.specs.Parts.{Part, Constant, Literal, Numeric, Command, FieldOf, VarOf, MapOf, Stepped, Prefixed, Joined, Both, Either, Chosen}
+use Rattle.typed_tree.specs.Parts.{Part, Constant, Literal, Numeric, Command, FieldOf, VarOf, MapOf, AggOf, Stepped, Prefixed, Joined, Both, Either, Chosen}
 use Rattle.typed_tree.specs.Parts.{Assigned, Gathered, Deleted, Printed, Shown, Cleared, Zeroed, Jumped, Looped, Unrolled, Arm, Otherwise, NoOtherwise, Ending}
-use Rattle.typed_tree.specs.Scope.{Scope, decl_of, format_of, same_shape, same_shapes, same_agg, same_kind, same_bool, same_field_kind, same_field, kind_of_shape, is_agg, is_fine_decl, is_shape, has_field, is_declared, is_shared, is_there, takes, fits, all_fit, shape_of_field, may_print}
+use Rattle.typed_tree.specs.Scope.{Scope, decl_of, format_of, same_shape, same_shapes, same_agg, same_kind, same_bool, same_field_kind, same_field, kind_of_shape, is_agg, is_summed_kind, is_fine_decl, is_shape, has_field, is_declared, is_shared, is_summed, is_there, takes, fits, all_fit, shape_of_field, may_print}
 use Rattle.bt_ast.specs.declared.attached.BodyId.{BodyId}
 use Rattle.bt_ast.specs.declared.probe.Script.{Script}
 use Rattle.tracefs_format.specs.declared.format.Format.{Format}
@@ -165,6 +165,13 @@ shared_fits k number kind keys shared m =
     ∙ both_true (cond (is_agg d.kind) false true) (same_shapes d.key_shape keys) (ap (λ (x : MapKind). cond (is_agg x) false true) m.declared.kinds ∙ ap (λ (b : Bool). cond b false true) shared)
     (ap (λ (x : List Shape). same_shapes x keys) m.declared.shapes ∙ shapes_self keys)
 
+summed_fits : (k : Known) (number : ℕ) (kind : MapKind) (keys : List Shape) → is_summed_kind kind ≡ true → IsMapOf k number kind keys → is_summed (decl_of number (maps_at (maps_of k) k.named)) keys ≡ true
+summed_fits k number kind keys summed m =
+    let d = m.declared.decl in
+    ap (λ (o : Option MapDecl). is_summed o keys) (declared_there k number kind keys m)
+    ∙ both_true (is_summed_kind d.kind) (same_shapes d.key_shape keys) (ap is_summed_kind m.declared.kinds ∙ summed)
+    (ap (λ (x : List Shape). same_shapes x keys) m.declared.shapes ∙ shapes_self keys)
+
 there_fits : (k : Known) (number : ℕ) (name : List ℕ) → IsNamed k number name → is_there (decl_of number (maps_at (maps_of k) k.named)) ≡ true
 there_fits k number name h = ap (λ (o : Option MapDecl). is_there o) (named_decl k number name h)
 
@@ -192,6 +199,7 @@ part_fits k s (FieldOf f shape) h =
 part_fits k s (VarOf number shape) h =
     ap (λ (o : Option Shape). is_shape o shape) (get_mapped (λ (v : Var). v.shape) k.vars number h.var h.numbered) ∙ (ap (λ (x : Shape). same_shape x shape) h.shapes ∙ shape_self shape)
 part_fits k s (MapOf number keys shape) h = map_fits k number (kind_of_shape shape) keys h
+part_fits k s (AggOf number keys) h = summed_fits k number h.kind keys h.summed h.map
 part_fits k s (Gathered number keys kind counts) h = both_true (is_declared (decl_of number (maps_at (maps_of k) k.named)) (Aggs kind) keys) _ (map_fits k number (Aggs kind) keys h.0) h.1
 part_fits k s (Deleted number keys) h = shared_fits k number h.kind keys h.shared h.map
 part_fits k s (Printed number shapes) h = call_fits k number shapes s h

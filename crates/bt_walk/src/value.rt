@@ -1,18 +1,21 @@
 // The evaluation of expressions through a port.
-ghost use Rattle.std.specs.Prelude.{◌≡◌, ◌≤◌, length, cond, not, IfOk};
+ghost use Rattle.std.specs.Prelude.{◌≡◌, ◌≤◌, length, cond, not, IfOk, IsTrue};
 ghost use Rattle.std.specs.Str.{bytes_eq};
 ghost use Rattle.bt_core.specs.declared.map.MapKind.TheVariants as kinds;
 ghost use Rattle.bt_core.specs.declared.value.Value.TheVariants as values;
-ghost use Rattle.bt_core.specs.Kinds.{HasShape, IsOfShape};
+ghost use Rattle.bt_core.specs.Kinds.{HasShape, IsOfShape, IsAggregation};
 ghost use Rattle.typed_tree.specs.Parts.{made_of, num_parts, str_parts, parts_in, key_shapes};
-ghost use Rattle.walk_meaning.specs.Exprs.{value_does, values_do, number_does, text_does, step_at, read};
+ghost use Rattle.walk_meaning.specs.Exprs.{value_does, values_do, number_does, text_does, step_at, read, read_agg};
+ghost use Rattle.typed_tree.specs.Scope.{decl_of, is_summed, is_there};
 ghost use Rattle.map_ops.specs.Values.{next, number_of};
-ghost use Rattle.walk_meaning.specs.Maps.{variable, with_variable};
+ghost use Rattle.walk_meaning.specs.declared.flow.Frame.{Frame as Kept};
+ghost use Rattle.walk_meaning.specs.Maps.{kind_in_body, sum_at, variable, with_variable};
 ghost use Rattle.walk_meaning.specs.Does.{in_order};
 ghost use Rattle.bt_walk.specs.Walked.{Walked, WalkedAnywhere};
 ghost use Rattle.walk_meaning.specs.Served.{all_made, IsServed, Fits, NamesShared, HoldsUnder, scene_in};
 
 use crate::access::{assign, set, truth, variable};
+use crate::view::kind_in_body;
 use bt_core::arithmetic::{binary, unary};
 use bt_core::items::Items;
 use bt_core::key::Key;
@@ -24,6 +27,7 @@ use bt_core::value::Value;
 use event_record::reading::{int_field, str_field};
 use map_ops::access::get;
 use map_ops::builtin::builtin_value;
+use map_ops::summing::sum_under;
 use map_ops::values::{holds, next, number_of, text_of};
 use std::alloc::Global;
 use typed_tree::expr::{AnyExpr, NumExpr, StrExpr};
@@ -82,6 +86,7 @@ pub fn number<P: Port>(
             let read = read(alloc, view, *map, keys.as_slice(), frame, port)?;
             Ok(number_of(&read))
         }
+        NumExpr::Agg { map, keys } => read_agg(alloc, view, *map, keys.as_slice(), frame, port),
         NumExpr::StepVar { var, plus, prefix } => Ok(step_variable(*var, *plus, *prefix, frame)),
         NumExpr::StepMap {
             map,
@@ -193,6 +198,28 @@ fn read<P: Port>(
     get(alloc, map, key, port)
 }
 
+/// The number of an aggregation under a key that is evaluated first.
+#[cycle(value)]
+fn read_agg<P: Port>(
+    alloc: Global,
+    view: &View<'_>,
+    map: MapId,
+    keys: &[AnyExpr],
+    frame: &mut Frame,
+    port: &mut P,
+) -> Result<i64, Memory>
+    requires served { IsServed view.now (P.fixed port.old).setting }
+    requires fits { Fits view.now (parts_in (all_made keys.now)) }
+    requires declared { IsTrue (is_summed (decl_of map.0 view.now.body.now.maps) (key_shapes (all_made keys.now))) }
+    ensures walked { Walked (read_agg map (values_do keys.now)) (scene_in view.now) frame.old (P.steps port.old) (P.steps port.new) result frame.new }
+    ensures kept { P.fixed port.new ≡ P.fixed port.old }
+    ensures turns { frame.new.turns ≡ frame.old.turns }
+{
+    let parts = values(alloc, view, keys, frame, port)?;
+    let key = Key::of(parts.into_vec());
+    sum_at(alloc, view, map, &key, port)
+}
+
 /// Evaluates expressions from left to right.
 #[cycle(value)]
 pub fn values<P: Port>(
@@ -234,6 +261,24 @@ fn step_variable(var: u32, plus: bool, prefix: bool, frame: &mut Frame) -> i64
     let new = next(plus, old);
     assign(var, Value::Int(new), frame);
     if prefix { new } else { old }
+}
+
+/// The number of an aggregation under a key, over the tables of all actors.
+fn sum_at<P: Port>(
+    alloc: Global,
+    view: &View<'_>,
+    map: MapId,
+    key: &Key,
+    port: &mut P,
+) -> Result<i64, Memory>
+    requires served { IsServed view.now (P.fixed port.old).setting }
+    requires named { IsTrue (is_there (decl_of map.0 view.now.body.now.maps)) }
+    requires gathers { IsAggregation (kind_in_body map view.now.body.now.maps) }
+    ensures walked { (frame : Kept) → Walked (sum_at map key.now) (scene_in view.now) frame (P.steps port.old) (P.steps port.new) result frame }
+    ensures kept { P.fixed port.new ≡ P.fixed port.old }
+{
+    let kind = kind_in_body(map, view.body.maps.as_slice());
+    sum_under(alloc, kind, map, key, view.actors, port)
 }
 
 /// Steps the value of a map under a key, and gives the new one or the old one.

@@ -38,11 +38,11 @@ use Rattle.map_ops.specs.Holders.{part}
 use Rattle.map_ops.specs.declared.sweep.Sweep.{Sweep}
 use Rattle.map_ops.specs.declared.sweep.Sweep.TheVariants as sweeping
 use Rattle.helper_abi.specs.declared.helper.Helper.{Helper}
-use Rattle.helper_abi.specs.declared.helper.Helper.TheVariants.{Get, Set, Delete, Aggregate, Print, Clear, Zero, Printf, Exit, Cut, ReadStr}
+use Rattle.helper_abi.specs.declared.helper.Helper.TheVariants.{Get, Set, Delete, Aggregate, Print, Clear, Zero, Printf, Exit, Cut, ReadStr, ReadAgg}
 use Rattle.helper_abi.specs.Numbers.{helper_at}
 use Rattle.helper_abi.specs.Reading.{shape_bytes, bytes_of_shapes, value_in, values_in, values_at, value_at, shape_of_kind, payload_text}
-use Rattle.helper_abi.specs.Steps.{wrote, frame_kept, got_into}
-use Rattle.helper_abi.specs.Helpers.{Desk, numbered, map_id, of_sort, table_map, value_map, are_shown, in_range, if_range, with_read, with_room, helper_steps, helpers}
+use Rattle.helper_abi.specs.Steps.{wrote, frame_kept, got_into, summed_into}
+use Rattle.helper_abi.specs.Helpers.{Desk, numbered, map_id, of_sort, table_map, value_map, summed_map, are_shown, in_range, if_range, with_read, with_room, helper_steps, helpers}
 use Rattle.helper_abi.specs.Helpers as does
 use Rattle.map_ops.specs.Asking as asking
 use Rattle.helper_abi.specs.Served.{desk_of}
@@ -52,7 +52,7 @@ use Rattle.bpf_check.specs.declared.known.Seen.{Seen}
 use Rattle.bpf_check.specs.Sheet.{Sheet, sheet_of}
 use Rattle.bpf_check.specs.States.{known_of}
 use Rattle.bpf_check.specs.Reading.{number_in, lies_in, may_store}
-use Rattle.bpf_check.specs.Calls.{in_frame, in_results, known_at, known_value_map, known_table_map, is_key, held_bytes, get_fits, set_fits, delete_fits, add_fits, limits_fit, printf_fits, is_line, helper_fits, known_helper_fits}
+use Rattle.bpf_check.specs.Calls.{in_frame, in_results, known_at, known_value_map, known_table_map, known_summed_map, is_key, held_bytes, get_fits, set_fits, delete_fits, add_fits, sum_fits, limits_fit, printf_fits, is_line, helper_fits, known_helper_fits}
 use Rattle.bpf_check.proofs.Going.{bind_some}
 use Rattle.check_laws.specs.Safe.{CanReply, Yields}
 use Rattle.check_laws.proofs.Holding.{HoldsKnown, Holds, Counts, GivesWell, HelpersServe}
@@ -206,6 +206,11 @@ module _ (typed : Typed) (least actor actors : ℕ) (s : Spaces) (turns : ℕ) (
       by (replies.Value v) k held = wrote_well to (shape_bytes (shape_of_kind decl.kind)) v (value_long decl.kind v k held) e
       by r k held = absurd k
 
+  summed_well : (m : ℕ) (key : List Value) (to : ℕ) → may_store to 8 ≡ true → Well (summed_into s (map_id m) key to actors)
+  summed_well m key to e =
+      let read = asking.summed (map_id m) key actors in
+      Yields-then K (λ n. Unit {0}) (GivesWell sheet turns s) read _ (any_yields K read) (λ n h. wrote_well to 8 (Int n) refl e)
+
   -- ---- each helper
 
   get_well : (m key to : ℕ) (decl : MapDecl) → value_map typed.maps m ≡ Some decl → lies_in FRAME FRAME_BYTES key (bytes_of_shapes decl.key_shape) ≡ true → may_store to (held_bytes decl) ≡ true
@@ -242,6 +247,15 @@ module _ (typed : Typed) (least actor actors : ℕ) (s : Spaces) (turns : ℕ) (
       subst (λ (x : Interaction Answer). Well x) (sym (ap (λ (o : Option MapDecl). in_range o (λ d. with_read (values_at s d.key_shape key) (λ k. frame_kept s (asking.tells (Cpu actor) (ops.Add (map_id m) k (cast_signed w64 number)))))) found
       ∙ ap (λ (o : Option (List Value)). with_read o (λ k. frame_kept s (asking.tells (Cpu actor) (ops.Add (map_id m) k (cast_signed w64 number))))) vs.1))
       (told_well (Cpu actor) (ops.Add (map_id m) vs.0 (cast_signed w64 number)))
+
+  read_agg_well : (m key to : ℕ) (decl : MapDecl) → summed_map typed.maps m ≡ Some decl → lies_in FRAME FRAME_BYTES key (bytes_of_shapes decl.key_shape) ≡ true → may_store to 8 ≡ true
+      → Well (does.read_agg typed.maps actors m key to s)
+  read_agg_well m key to decl found at e =
+      let vs = values_there s decl.key_shape key at in
+      subst (λ (x : Interaction Answer). Well x) (sym (ap (λ (o : Option MapDecl). in_range o (λ d. with_read (values_at s d.key_shape key) (λ k. with_room to 8 (summed_into s (map_id m) k to actors)))) found
+      ∙ ap (λ (o : Option (List Value)). with_read o (λ k. with_room to 8 (summed_into s (map_id m) k to actors))) vs.1
+      ∙ ap (λ (b : Bool). cond b (summed_into s (map_id m) vs.0 to actors) (Ended BadBytes)) (room_there to 8 e)))
+      (summed_well m vs.0 to e)
 
   print_well : (m top div : ℕ) (decl : MapDecl) → numbered typed.maps m ≡ Some decl → are_shown top div ≡ true → Well (does.print typed.maps actors m top div s)
   print_well m top div decl found e =
@@ -297,6 +311,13 @@ module _ (typed : Typed) (least actor actors : ℕ) (s : Spaces) (turns : ℕ) (
         let p = and_parts (is_key decl (known_of a 2)) _ f in
         aggregate_well (arg 1) (arg 2) (arg 3) decl (finds (table_map typed.maps) (known_of a 1) decl (reg_of regs 1) e (holds.each 1)) (frame_is _ (known_of a 2) _ p.0 (holds.each 2))
 
+    sums : (o : Option MapDecl) → known_summed_map typed.maps (known_of a 1) ≡ o → sum_fits o (known_of a 2) (known_of a 3) ≡ true → Well (does.read_agg typed.maps actors (arg 1) (arg 2) (arg 3) s)
+    sums None e f = absurd (cc)
+    sums (Some decl) e f =
+        let p = and_parts (is_key decl (known_of a 2)) (in_results 8 (number_in (known_of a 3))) f in
+        read_agg_well (arg 1) (arg 2) (arg 3) decl (finds (summed_map typed.maps) (known_of a 1) decl (reg_of regs 1) e (holds.each 1)) (frame_is _ (known_of a 2) _ p.0 (holds.each 2))
+        (results_is 8 (known_of a 3) _ p.1 (holds.each 3))
+
     printfs : (o : Option (List Piece)) → known_at typed.formats (known_of a 1) ≡ o → printf_fits o (known_of a 2) ≡ true → Well (does.printf typed.formats (arg 1) (arg 2) s)
     printfs None e f = absurd (cc)
     printfs (Some pieces) e f = printf_well (arg 1) (arg 2) pieces (finds (numbered typed.formats) (known_of a 1) pieces (reg_of regs 1) e (holds.each 1)) (frame_is _ (known_of a 2) _ f (holds.each 2))
@@ -324,6 +345,7 @@ module _ (typed : Typed) (least actor actors : ℕ) (s : Spaces) (turns : ℕ) (
     steps_well Exit f = told_well Clock ops.Stop
     steps_well Cut f = cut_well (arg 1) (line_is (known_of a 1) _ f (holds.each 1))
     steps_well ReadStr f = read_well (arg 1) (arg 2) (arg 3) (results_is 64 (known_of a 1) _ (and_parts _ _ f).0 (holds.each 1))
+    steps_well ReadAgg f = sums _ refl f
 
     calls_well : (o : Option Helper) → known_helper_fits typed.maps typed.formats (known_of a 1) (known_of a 2) (known_of a 3) o ≡ true
         → Well (in_range o (λ helper. helper_steps (desk_of typed actor actors) helper (arg 1) (arg 2) (arg 3) s))

@@ -26,16 +26,18 @@ fn decl(alloc: Global, kind: MapKind) -> Result<MapDecl, Memory>
     })
 }
 
-// A script with a map of numbers, one of strings and one of counts, each with one number as its key, and
-// the format `%d`.
+// A script with a map of numbers, one of strings, one of counts and one of histograms, each with one number
+// as its key, and the format `%d`.
 fn script(alloc: Global) -> Result<Typed, Memory> {
     let numbers = decl(alloc, MapKind::Ints)?;
     let strings = decl(alloc, MapKind::Strs)?;
     let counts = decl(alloc, MapKind::Aggs(AggKind::Count))?;
+    let histograms = decl(alloc, MapKind::Aggs(AggKind::Hist))?;
     let mut maps = Items::new(alloc);
     maps.push(numbers)?;
     maps.push(strings)?;
     maps.push(counts)?;
+    maps.push(histograms)?;
     let mut pieces = Items::new(alloc);
     pieces.push(Piece::Conversion {
         left: false,
@@ -58,7 +60,7 @@ fn script(alloc: Global) -> Result<Typed, Memory> {
 #[test]
 fn calls_are_accepted_or_refused(rt: HostRuntime) -> Result<(), Fail> {
     let typed = script(rt.alloc())?;
-    let rows: [(&[u8], Result<u64, CodeFault>, &str); 17] = [
+    let rows: [(&[u8], Result<u64, CodeFault>, &str); 21] = [
         (
             b"\xb7\x01\0\0\0\0\0\0\xbf\xa2\0\0\0\0\0\0\x07\x02\0\0\xf0\xff\xff\xff\
 \xbf\xa3\0\0\0\0\0\0\x07\x03\0\0\xe8\xff\xff\xff\x85\0\0\0\x01\0\0\0\x95\0\0\0\0\0\0\0",
@@ -96,7 +98,31 @@ fn calls_are_accepted_or_refused(rt: HostRuntime) -> Result<(), Fail> {
             "get of a count",
         ),
         (
-            b"\xb7\x01\0\0\x03\0\0\0\x85\0\0\0\x06\0\0\0\x95\0\0\0\0\0\0\0",
+            b"\xb7\x01\0\0\x02\0\0\0\xbf\xa2\0\0\0\0\0\0\x07\x02\0\0\xf0\xff\xff\xff\
+\xbf\xa3\0\0\0\0\0\0\x07\x03\0\0\xe8\xff\xff\xff\x85\0\0\0\x0c\0\0\0\x95\0\0\0\0\0\0\0",
+            Ok(28679),
+            "read of a count",
+        ),
+        (
+            b"\xb7\x01\0\0\x02\0\0\0\xbf\xa2\0\0\0\0\0\0\x07\x02\0\0\xf0\xff\xff\xff\
+\xbf\xa3\0\0\0\0\0\0\x07\x03\0\0\xf1\xff\xff\xff\x85\0\0\0\x0c\0\0\0\x95\0\0\0\0\0\0\0",
+            S2,
+            "read of a count into the count of turns",
+        ),
+        (
+            b"\xb7\x01\0\0\x03\0\0\0\xbf\xa2\0\0\0\0\0\0\x07\x02\0\0\xf0\xff\xff\xff\
+\xbf\xa3\0\0\0\0\0\0\x07\x03\0\0\xe8\xff\xff\xff\x85\0\0\0\x0c\0\0\0\x95\0\0\0\0\0\0\0",
+            S2,
+            "read of a histogram",
+        ),
+        (
+            b"\xb7\x01\0\0\0\0\0\0\xbf\xa2\0\0\0\0\0\0\x07\x02\0\0\xf0\xff\xff\xff\
+\xbf\xa3\0\0\0\0\0\0\x07\x03\0\0\xe8\xff\xff\xff\x85\0\0\0\x0c\0\0\0\x95\0\0\0\0\0\0\0",
+            S2,
+            "read of a number as an aggregation",
+        ),
+        (
+            b"\xb7\x01\0\0\x04\0\0\0\x85\0\0\0\x06\0\0\0\x95\0\0\0\0\0\0\0",
             S2,
             "clear of a map that is not there",
         ),

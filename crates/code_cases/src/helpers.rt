@@ -119,15 +119,17 @@ fn decl(alloc: Global, kind: MapKind, shape: Shape) -> Result<MapDecl, Memory>
     })
 }
 
-// A script with a map of numbers, one of strings and one of counts, and the format `%d`.
+// A script with a map of numbers, one of strings, one of counts and one of histograms, and the format `%d`.
 fn script(alloc: Global) -> Result<Typed, Memory> {
     let numbers = decl(alloc, MapKind::Ints, Shape::Int)?;
     let strings = decl(alloc, MapKind::Strs, Shape::Str)?;
     let counts = decl(alloc, MapKind::Aggs(AggKind::Count), Shape::Int)?;
+    let histograms = decl(alloc, MapKind::Aggs(AggKind::Hist), Shape::Int)?;
     let mut maps = Items::new(alloc);
     maps.push(numbers)?;
     maps.push(strings)?;
     maps.push(counts)?;
+    maps.push(histograms)?;
     let mut pieces = Items::new(alloc);
     pieces.push(Piece::Conversion {
         left: false,
@@ -162,7 +164,7 @@ const TO: u64 = 0x3_0000_0010;
 
 const TEXT: u64 = 0x3_0000_0040;
 
-// Calls a helper over a frame with the key 5, the value 9 and the string `cd`, for actor 1 of 2.
+// Calls a helper over a frame with the key 5, the value 9, the number 6 and the string `cd`, for actor 1 of 2.
 fn called(alloc: Global, number: u32, args: [u64; 3]) -> Result<Asked, Memory> {
     let typed = script(alloc)?;
     let mut port = Quiet {
@@ -173,6 +175,7 @@ fn called(alloc: Global, number: u32, args: [u64; 3]) -> Result<Asked, Memory> {
     let mut memory = Regions::new(&context, &[7, 97, 98, 0, 99]);
     memory.store(KEY, &5u64.to_le_bytes());
     memory.store(VALUE, &9u64.to_le_bytes());
+    memory.store(TO, &6u64.to_le_bytes());
     memory.store(TEXT, &[99, 100]);
     let mut helpers = HelperPort::new(&mut port, &typed, 1, 2);
     let args = [args[0], args[1], args[2], 0, 0];

@@ -1,11 +1,9 @@
 // The frames of worked bodies.
-use crate::scripts::{formats, typed_of};
+use body_fixtures::lowered::probe_of;
+use body_fixtures::worked::FIVE;
 use bpf_frame::error::CodeError;
-use bpf_frame::frame::{Frame, Place};
+use bpf_frame::frame::Place;
 use bpf_frame::placing::place_frame;
-use bt_core::items::Items;
-use bt_lower::lower::lower;
-use ir_code::probe::IrProbe;
 use std::alloc::Global;
 use std::test::Fail;
 
@@ -45,54 +43,32 @@ const VARIABLES: [Place; 6] = [
     },
 ];
 
-/// A string is put over the variables, and then it is taken.
-const PUT_AND_STORE: [Place; 2] = [
-    Place {
-        offset: 384,
-        size: 64,
-    },
-    Place {
-        offset: 384,
-        size: 0,
-    },
+/// A string is put over the variables.
+const PUT: Place = Place {
+    offset: 384,
+    size: 64,
+};
+
+/// Then it is taken.
+const TAKEN: Place = Place {
+    offset: 384,
+    size: 0,
+};
+
+/// Six strings, one after the other.
+const TURNS: [Place; 12] = [
+    PUT, TAKEN, PUT, TAKEN, PUT, TAKEN, PUT, TAKEN, PUT, TAKEN, PUT, TAKEN,
 ];
-
-/// The body of a script that has one.
-pub(crate) fn probe_of(alloc: Global, text: &[u8]) -> Result<IrProbe, Fail> {
-    let formats = formats(alloc)?;
-    let typed = typed_of(alloc, text, formats.as_slice())?;
-    let mut probes = lower(alloc, &typed)?.into_vec();
-    match probes.pop() {
-        Some(probe) => Ok(probe),
-        None => Err(Fail::from("no body")),
-    }
-}
-
-fn fault_of(placed: Result<Frame, CodeError>) -> Option<CodeError> {
-    match placed {
-        Ok(_) => None,
-        Err(fault) => Some(fault),
-    }
-}
 
 #[test]
 fn eight_strings_have_no_room(rt: HostRuntime) -> Result<(), Fail> {
     let alloc = rt.alloc();
     let probe = probe_of(alloc, EIGHT)?;
-    let fault = fault_of(place_frame(alloc, &probe));
-    assert_eq!(rt; fault, Some(CodeError::FrameTooLarge(600)));
+    assert_eq!(rt;
+        place_frame(alloc, &probe).err(),
+        Some(CodeError::FrameTooLarge(600))
+    );
     Ok(())
-}
-
-/// The places of values that are put and taken, so many times.
-fn turns(alloc: Global, count: usize) -> Result<Items<Place>, Fail> {
-    let mut places = Items::new(alloc);
-    for _ in 0..count {
-        for place in PUT_AND_STORE {
-            places.push(place)?;
-        }
-    }
-    Ok(places)
 }
 
 #[test]
@@ -102,40 +78,43 @@ fn six_strings_lie_below_the_one_that_is_assigned(rt: HostRuntime) -> Result<(),
     let frame = place_frame(alloc, &probe)?;
     assert_eq!(rt; frame.variables.as_slice(), &VARIABLES[..]);
     // The first block is the body's end; a run begins at the last one.
-    assert_eq!(rt; frame.blocks.len(), 2);
-    for (block, count) in frame.blocks.as_slice().iter().zip([0, 6]) {
-        let places = turns(alloc, count)?;
-        assert_eq!(rt; block.puts.as_slice(), places.as_slice());
-        assert_eq!(rt; (block.stack.len(), block.end), (0, 384));
+    match frame.blocks.as_slice() {
+        [last, first] => {
+            assert!(rt; last.puts.is_empty());
+            assert_eq!(rt; (last.stack.len(), last.end), (0, 384));
+            assert_eq!(rt; first.puts.as_slice(), &TURNS[..]);
+            assert_eq!(rt; (first.stack.len(), first.end), (0, 384));
+        }
+        _ => return Err(Fail::from("no two blocks")),
     }
     Ok(())
 }
-
-/// Five numbers, of which the first four have registers.
-const FIVE: &[u8] =
-    b"BEGIN { $a = 1; $b = 2; $c = 3; $d = 4; $e = 5; @x = $a + $b + $c + $d + $e; }";
 
 /// A string and a number.
 const MIXED: &[u8] = b"BEGIN { $s = \"x\"; $a = 1; }";
 
-#[test]
-fn the_first_four_numbers_have_registers(rt: HostRuntime) -> Result<(), Fail> {
-    let alloc = rt.alloc();
-    let probe = probe_of(alloc, FIVE)?;
-    let frame = place_frame(alloc, &probe)?;
-    let registers = [Some(6), Some(7), Some(8), Some(9), None, None];
-    for (variable, register) in registers.iter().enumerate() {
-        assert_eq!(rt; frame.register_of(variable as u32), *register);
-    }
-    Ok(())
+/// A script with one body, a variable and its register: of five numbers the first four have one, and a string has none.
+const REGISTERS: [(&[u8], u32, Option<u8>); 8] = [
+    (FIVE, 0, Some(6)),
+    (FIVE, 1, Some(7)),
+    (FIVE, 2, Some(8)),
+    (FIVE, 3, Some(9)),
+    (FIVE, 4, None),
+    (FIVE, 5, None),
+    (MIXED, 0, None),
+    (MIXED, 1, Some(6)),
+];
+
+fn register_of(alloc: Global, text: &[u8], variable: u32) -> Result<Option<u8>, Fail> {
+    let probe = probe_of(alloc, text)?;
+    Ok(place_frame(alloc, &probe)?.register_of(variable))
 }
 
 #[test]
-fn a_string_has_no_register(rt: HostRuntime) -> Result<(), Fail> {
+fn the_first_four_numbers_have_registers(rt: HostRuntime) -> Result<(), Fail> {
     let alloc = rt.alloc();
-    let probe = probe_of(alloc, MIXED)?;
-    let frame = place_frame(alloc, &probe)?;
-    assert_eq!(rt; frame.register_of(0), None);
-    assert_eq!(rt; frame.register_of(1), Some(6));
+    for (number, row) in REGISTERS.iter().enumerate() {
+        assert!(rt; register_of(alloc, row.0, row.1)? == row.2, "row {number}");
+    }
     Ok(())
 }

@@ -6,12 +6,6 @@ mod bodies;
 #[cfg(test)]
 mod frames;
 #[cfg(test)]
-mod port;
-#[cfg(test)]
 mod programs;
 #[cfg(test)]
-mod replies;
-#[cfg(test)]
 mod runs;
-#[cfg(test)]
-mod scripts;

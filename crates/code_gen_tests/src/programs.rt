@@ -1,5 +1,6 @@
 // Programs of worked bodies: how many slots they may need, and their fuel.
-use crate::frames::probe_of;
+use crate::frames::EIGHT;
+use body_fixtures::lowered::probe_of;
 use bpf_codegen::generate::{Program, generate_program};
 use bpf_frame::error::CodeError;
 use bt_core::memory::Memory;
@@ -22,19 +23,15 @@ fn program_of(alloc: Global, text: &[u8]) -> Result<Result<Program, CodeError>, 
     Ok(generate_program(alloc, &probe))
 }
 
-fn fault_of(program: Result<Program, CodeError>) -> Option<CodeError> {
-    match program {
-        Ok(_) => None,
-        Err(fault) => Some(fault),
-    }
-}
-
 #[test]
-fn a_body_of_4112_slots_is_too_large(rt: HostRuntime) -> Result<(), Fail> {
+fn bodies_that_are_too_large_have_no_program(rt: HostRuntime) -> Result<(), Fail> {
     let alloc = rt.alloc();
     let text = printing(alloc, 255)?;
-    let fault = fault_of(program_of(alloc, text.as_slice())?);
+    let fault = program_of(alloc, text.as_slice())?.err();
     assert_eq!(rt; fault, Some(CodeError::CodeTooLarge(4112)));
+    // A large frame is told first.
+    let fault = program_of(alloc, EIGHT)?.err();
+    assert_eq!(rt; fault, Some(CodeError::FrameTooLarge(600)));
     Ok(())
 }
 
@@ -50,14 +47,6 @@ fn a_body_of_4096_slots_has_a_program(rt: HostRuntime) -> Result<(), Fail> {
     Ok(())
 }
 
-#[test]
-fn a_large_frame_is_told_first(rt: HostRuntime) -> Result<(), Fail> {
-    let alloc = rt.alloc();
-    let fault = fault_of(program_of(alloc, crate::frames::EIGHT)?);
-    assert_eq!(rt; fault, Some(CodeError::FrameTooLarge(600)));
-    Ok(())
-}
-
 /// `exit()`: a call of the helper 9, and an exit. Behind it stands the body's end, to which nothing leads here.
 #[test]
 fn a_body_that_stops_calls_the_helper_and_ends(rt: HostRuntime) -> Result<(), Fail> {
@@ -70,7 +59,7 @@ fn a_body_that_stops_calls_the_helper_and_ends(rt: HostRuntime) -> Result<(), Fa
 }
 
 /// Worked bodies, and how many slots their programs have at most.
-const FEW: [(&[u8], usize); 7] = [
+const FEW: [(&[u8], usize); 8] = [
     (
         b"tracepoint:raw_syscalls:sys_enter { @[comm] = count(); }",
         25,
@@ -94,18 +83,22 @@ const FEW: [(&[u8], usize); 7] = [
         41,
     ),
     (b"tracepoint:raw_syscalls:sys_enter { @i++; }", 16),
+    (
+        b"tracepoint:raw_syscalls:sys_enter { @c = count(); @x = @c; }",
+        20,
+    ),
 ];
+
+fn bytes_of(alloc: Global, text: &[u8]) -> Result<usize, Fail> {
+    Ok(program_of(alloc, text)??.bytes.len())
+}
 
 #[test]
 fn programs_of_worked_bodies_have_few_slots(rt: HostRuntime) -> Result<(), Fail> {
     let alloc = rt.alloc();
-    for (text, slots) in FEW {
-        let program = program_of(alloc, text)??;
-        assert!(rt;
-            program.bytes.len() <= 8 * slots,
-            "{} bytes, {slots} slots",
-            program.bytes.len()
-        );
+    for (number, row) in FEW.iter().enumerate() {
+        let bytes = bytes_of(alloc, row.0)?;
+        assert!(rt; bytes.div_ceil(8) <= row.1, "row {number}: {bytes} bytes");
     }
     Ok(())
 }

@@ -11,7 +11,7 @@ use Rattle.expr_types.specs.declared.known.Var.{Var}
 use Rattle.expr_types.specs.Mentions.{Sort, Word, VarWord, MapWord, GatherWord, DeleteWord, PrintfWord, ShowWord, ClearWord, ZeroWord}
 use Rattle.expr_types.specs.Known.{event_field}
 use Rattle.expr_types.specs.Grows.{IsFrontOf, Grows}
-use Rattle.typed_tree.specs.Parts.{Part, Constant, Literal, Numeric, Command, FieldOf, VarOf, MapOf, Stepped, Prefixed, Joined, Both, Either, Chosen}
+use Rattle.typed_tree.specs.Parts.{Part, Constant, Literal, Numeric, Command, FieldOf, VarOf, MapOf, AggOf, Stepped, Prefixed, Joined, Both, Either, Chosen}
 use Rattle.typed_tree.specs.Parts.{Assigned, Gathered, Deleted, Printed, Shown, Cleared, Zeroed, Jumped, Looped, Unrolled, Arm, Otherwise, NoOtherwise, Ending, Made}
 use Rattle.expr_types.specs.Typing.{IsDeclared, IsNamed, IsMap, IsMapOf, Fits, AllFit, Titles, titles_of, title, word_of, words_by, IsTyping}
 use Rattle.expr_types.proofs.Growing.{decl_later, shape_later}
@@ -54,6 +54,7 @@ fits_later : (a b : Known) → Grows a b → (p : Part) → Fits a p → Fits b 
 fits_later a b g (FieldOf f shape) h = (ap (λ e. event_field e f.name) g.event ∙ h.0, h.1)
 fits_later a b g (VarOf number shape) h = record { var = h.var; numbered = get_later a.vars b.vars number h.var g.vars h.numbered; shapes = h.shapes }
 fits_later a b g (MapOf number keys shape) h = map_of_later a b g number _ keys h
+fits_later a b g (AggOf number keys) h = record { kind = h.kind; summed = h.summed; map = map_of_later a b g number h.kind keys h.map }
 fits_later a b g (Gathered number keys kind counts) h = (map_of_later a b g number _ keys h.0, h.1)
 fits_later a b g (Deleted number keys) h = record { kind = h.kind; shared = h.shared; map = map_of_later a b g number h.kind keys h.map }
 fits_later a b g (Printed number shapes) h =
@@ -106,6 +107,7 @@ call_title a b g number call h =
 word_later : (a b : Known) → Grows a b → (p : Part) → Fits a p → word_of (titles_of b) p ≡ word_of (titles_of a) p
 word_later a b g (VarOf number shape) h = ap VarWord (var_title a b g number h.var h.numbered)
 word_later a b g (MapOf number keys shape) h = ap (λ n. MapWord n (length keys)) (map_title a b g number h.name h.named.numbered)
+word_later a b g (AggOf number keys) h = ap (λ n. MapWord n (length keys)) (map_title a b g number h.map.name h.map.named.numbered)
 word_later a b g (Gathered number keys kind counts) h = ap (λ n. GatherWord n (length keys) kind) (map_title a b g number h.0.name h.0.named.numbered)
 word_later a b g (Deleted number keys) h = ap (λ n. DeleteWord n (length keys)) (map_title a b g number h.map.name h.map.named.numbered)
 word_later a b g (Printed number shapes) h = ap PrintfWord (call_title a b g number h.call h.numbered)

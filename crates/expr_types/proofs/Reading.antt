@@ -1,5 +1,6 @@
 -- What mentions of maps decide, and reads and steps of maps.
 use Rattle.std.proofs.Common.{◌≡◌, ◌++◌, ℕ, suc, Bool, true, false, cond, not, ◌&&◌, ◌||◌, nat_lt, nat_le, List, [], ◌∷◌, length, map, unwrap_or, Option, Some, None, Result, Ok, Err, OnOk, IfOk, refl, sym, ap, subst, ◌∙◌}
+use Rattle.std.specs.Prelude.{if◌then◌else◌}
 use Rattle.std.specs.Str.{bytes_eq}
 use Rattle.std.proofs.lemmas.Bool.{ltb-false, le-leb}
 use Rattle.bt_core.specs.declared.limits.TheConstants.{KEY_PARTS}
@@ -8,11 +9,11 @@ use Rattle.bt_core.specs.declared.map.MapDecl.{MapDecl}
 use Rattle.bt_core.specs.declared.map.MapKind.{MapKind}
 use Rattle.bt_core.specs.declared.map.MapKind.TheVariants.{Ints, Strs, Aggs}
 use Rattle.bt_core.specs.declared.map.Shape.{Shape}
-use Rattle.bt_core.specs.declared.map.Shape.TheVariants.{Int, Str}
+use Rattle.bt_core.specs.declared.map.Shape.TheVariants.{Int}
 use Rattle.typed_tree.specs.declared.expr.AnyExpr.{AnyExpr}
 use Rattle.typed_tree.specs.declared.expr.NumExpr.{NumExpr}
 use Rattle.typed_tree.specs.Parts.{Made, made, made_of, num_parts, parts_in, key_shapes, keyed_parts, Stepped}
-use Rattle.typed_tree.specs.Scope.{same_kind, same_shapes, kind_of_shape, is_agg, is_fine_kind, is_fine_decl}
+use Rattle.typed_tree.specs.Scope.{same_kind, same_shapes, is_agg, is_hist, is_number, is_fine_kind, is_fine_decl}
 use Rattle.typed_tree.proofs.Same.{kind_is, shapes_are}
 use Rattle.expr_types.specs.declared.fault.Fault.{Fault}
 use Rattle.expr_types.specs.declared.fault.Rule.{Rule}
@@ -20,14 +21,14 @@ use Rattle.expr_types.specs.declared.fault.Rule.TheVariants as rule
 use Rattle.expr_types.specs.declared.fault.TypeError.{TypeError}
 use Rattle.expr_types.specs.declared.known.Known.{Known}
 use Rattle.expr_types.specs.Mentions.{Sort, Reads, Steps, Word, MapWord, StepWord}
-use Rattle.expr_types.specs.Known.{has_name, decl_in, decl_shape, shape_in, shapes_in, with_mention, decide_after, decides}
+use Rattle.expr_types.specs.Known.{has_name, decl_in, decl_shape, shape_of_kind, shape_in, shapes_in, with_mention, decide_after, decides}
 use Rattle.expr_types.specs.Grows.{Grows}
 use Rattle.expr_types.specs.Judge.{unless_broken, judged, SaysFault, Refuses}
-use Rattle.expr_types.specs.Rules.{is_agg_in, is_other_kind, is_other_key, has_other_keys, is_one_too_many, first_of_rules, read_breaks, write_breaks}
+use Rattle.expr_types.specs.Rules.{is_agg_in, is_hist_in, is_other_kind, is_other_key, has_other_keys, is_one_too_many, first_of_rules, read_breaks, write_breaks}
 use Rattle.expr_types.specs.Walk.{MapSeen, OnMap, at, map_read, map_words, step_seen}
-use Rattle.expr_types.specs.Typing.{IsDeclared, titles_of, title, words_by}
+use Rattle.expr_types.specs.Typing.{IsDeclared, IsNamed, AllFit, Titles, titles_of, title, words_by}
 use Rattle.expr_types.specs.Checked.{Checked, Checks, ChecksNumber, KeyChecked}
-use Rattle.expr_types.specs.Maps.{shape_of_map, shape_held, read_made}
+use Rattle.expr_types.specs.Maps.{kind_held, read_made}
 use Rattle.expr_types.proofs.Judging.{judged_ok}
 use Rattle.expr_types.proofs.Growing.{grows_on, grows_decides}
 use Rattle.expr_types.proofs.Later.{named_later, all_later, words_later, title_is}
@@ -63,8 +64,8 @@ few_parts k name shapes h =
     le-leb (length shapes) KEY_PARTS (ltb-false KEY_PARTS (length shapes) n.0)
 
 -- what a read breaks, and what a write does
-pub read_keeps : (k : Known) (name : List ℕ) (shapes : List Shape) → read_breaks k name shapes ≡ None → (is_agg_in (decl_in name k.decided) ≡ false) × (has_other_keys k name shapes ≡ false)
-read_keeps k name shapes = none_hold (is_one_too_many k name) (is_agg_in (decl_in name k.decided)) (has_other_keys k name shapes) rule.TooManyMaps rule.AggregationRead rule.OtherKeys
+pub read_keeps : (k : Known) (name : List ℕ) (shapes : List Shape) → read_breaks k name shapes ≡ None → (is_hist_in (decl_in name k.decided) ≡ false) × (has_other_keys k name shapes ≡ false)
+read_keeps k name shapes = none_hold (is_one_too_many k name) (is_hist_in (decl_in name k.decided)) (has_other_keys k name shapes) rule.TooManyMaps rule.AggregationRead rule.OtherKeys
 
 pub write_keeps : (k : Known) (name : List ℕ) (kind : MapKind) (shapes : List Shape) → write_breaks k name kind shapes ≡ None → (is_other_kind (decl_in name k.decided) kind ≡ false) × (has_other_keys k name shapes ≡ false)
 write_keeps k name kind shapes = none_hold (is_one_too_many k name) (is_other_kind (decl_in name k.decided) kind) (has_other_keys k name shapes) rule.TooManyMaps rule.OtherKind rule.OtherKeys
@@ -115,37 +116,68 @@ write_declares k name kind shapes f h =
       shapes = keys_kept (decl_in name k.decided) d shapes refl o.1;
     }
 
-kind_held : (kind : MapKind) → is_agg kind ≡ false → kind ≡ kind_of_shape (shape_of_map kind)
-kind_held Ints h = refl
-kind_held Strs h = refl
-kind_held (Aggs a) h = cc
+-- a mention of a map that decides no other keys leaves it with what it holds
+held_declares : (k : Known) (name : List ℕ) (shapes : List Shape) → has_other_keys k name shapes ≡ false
+    → IsDeclared (decides k name Ints shapes) name (kind_held (decl_in name (decides k name Ints shapes).decided)) shapes
+held_declares k name shapes h =
+    let d : MapDecl = record { name = name; kind = Ints; key_shape = shapes } in
+    let found = decides_first k name Ints shapes (fine_decl k name Ints shapes refl h) in
+    let o = or_none (nat_lt KEY_PARTS (length shapes)) (is_other_key (decl_in name k.decided) shapes) h in
+    record {
+      decl = unwrap_or (decl_in name k.decided) d;
+      found = found;
+      kinds = sym (ap kind_held found);
+      shapes = keys_kept (decl_in name k.decided) d shapes refl o.1;
+    }
 
 shared_kept : (o : Option MapDecl) (d : MapDecl) → is_agg d.kind ≡ false → is_agg_in o ≡ false → is_agg (unwrap_or o d).kind ≡ false
 shared_kept None d e h = e
 shared_kept (Some first) d e h = h
 
--- a mention of a map that is no aggregation leaves it one, of the kind that it has
+-- a mention of a map that is no aggregation leaves it one
 pub shared_declares : (k : Known) (name : List ℕ) (shapes : List Shape) → is_agg_in (decl_in name k.decided) ≡ false → has_other_keys k name shapes ≡ false
-    → IsDeclared (decides k name Ints shapes) name (kind_of_shape (shape_held (decl_in name (decides k name Ints shapes).decided))) shapes
+    → IsDeclared (decides k name Ints shapes) name (kind_held (decl_in name (decides k name Ints shapes).decided)) shapes
+    × (is_agg (kind_held (decl_in name (decides k name Ints shapes).decided)) ≡ false)
 shared_declares k name shapes a h =
     let d : MapDecl = record { name = name; kind = Ints; key_shape = shapes } in
-    let first = unwrap_or (decl_in name k.decided) d in
     let found = decides_first k name Ints shapes (fine_decl k name Ints shapes refl h) in
-    let o = or_none (nat_lt KEY_PARTS (length shapes)) (is_other_key (decl_in name k.decided) shapes) h in
-    record {
-      decl = first;
-      found = found;
-      kinds = kind_held first.kind (shared_kept (decl_in name k.decided) d refl a) ∙ sym (ap (λ (x : Option MapDecl). kind_of_shape (shape_held x)) found);
-      shapes = keys_kept (decl_in name k.decided) d shapes refl o.1;
-    }
+    (held_declares k name shapes h, ap (λ (x : Option MapDecl). is_agg (kind_held x)) found ∙ shared_kept (decl_in name k.decided) d refl a)
 
+no_hist_kept : (o : Option MapDecl) (d : MapDecl) → is_hist d.kind ≡ false → is_hist_in o ≡ false → is_hist (unwrap_or o d).kind ≡ false
+no_hist_kept None d e h = e
+no_hist_kept (Some first) d e h = h
+
+-- a map that is read is declared, and no histogram
 read_declares : (k : Known) (name : List ℕ) (shapes : List Shape) → read_breaks k name shapes ≡ None
-    → IsDeclared (decides k name Ints shapes) name (kind_of_shape (shape_held (decl_in name (decides k name Ints shapes).decided))) shapes
-read_declares k name shapes h = let n = read_keeps k name shapes h in shared_declares k name shapes n.0 n.1
+    → IsDeclared (decides k name Ints shapes) name (kind_held (decl_in name (decides k name Ints shapes).decided)) shapes
+    × (is_hist (kind_held (decl_in name (decides k name Ints shapes).decided)) ≡ false)
+read_declares k name shapes h =
+    let n = read_keeps k name shapes h in
+    let d : MapDecl = record { name = name; kind = Ints; key_shape = shapes } in
+    let found = decides_first k name Ints shapes (fine_decl k name Ints shapes refl n.1) in
+    (held_declares k name shapes n.1, ap (λ (x : Option MapDecl). is_hist (kind_held x)) found ∙ no_hist_kept (decl_in name k.decided) d refl n.0)
 
-held_is : (o : Option MapDecl) (d : MapDecl) (s : Shape) → o ≡ Some d → d.kind ≡ kind_of_shape s → decl_shape o ≡ Some s
-held_is o d Int e h = ap decl_shape e ∙ ap (λ (k : MapKind). decl_shape (Some (record d { kind = k }))) h
-held_is o d Str e h = ap decl_shape e ∙ ap (λ (k : MapKind). decl_shape (Some (record d { kind = k }))) h
+-- what a read makes has the type of what the map holds, fits, and is written as the map and its key
+made_shape : (kind : MapKind) (number : ℕ) (keys : List Made) → is_hist kind ≡ false → shape_of_kind kind ≡ Some (read_made kind number keys).shape
+made_shape Ints number keys h = refl
+made_shape Strs number keys h = refl
+made_shape (Aggs a) number keys h = ap (λ (b : Bool). if b then Some Int else None) (not_false (is_number a) h)
+
+held_shape : (o : Option MapDecl) (d : MapDecl) (number : ℕ) (keys : List Made) → o ≡ Some d → is_hist (kind_held o) ≡ false → decl_shape o ≡ Some (read_made (kind_held o) number keys).shape
+held_shape None d number keys e h = cc
+held_shape (Some first) d number keys e h = made_shape first.kind number keys h
+
+made_fits : (k : Known) (name : List ℕ) (kind : MapKind) (number : ℕ) (keys : List Made) → is_hist kind ≡ false → IsNamed k number name → IsDeclared k name kind (key_shapes keys) → AllFit k (parts_in keys)
+    → AllFit k (read_made kind number keys).parts
+made_fits k name Ints number keys h n d f = (record { name = name; named = n; declared = d }, f)
+made_fits k name Strs number keys h n d f = (record { name = name; named = n; declared = d }, f)
+made_fits k name (Aggs a) number keys h n d f =
+    (record { kind = Aggs a; summed = not_false (is_number a) h; map = record { name = name; named = n; declared = d } }, f)
+
+made_words : (t : Titles) (kind : MapKind) (number : ℕ) (keys : List Made) → words_by t (read_made kind number keys).parts ≡ (MapWord (title t.maps number) (length (key_shapes keys)) ∷ words_by t (parts_in keys))
+made_words t Ints number keys = refl
+made_words t Strs number keys = refl
+made_words t (Aggs a) number keys = refl
 
 -- the types of a key's parts, as they are known
 pub shapes_known : (k : Known) (sorts : List Sort) (ms : List Made) → map (shape_in k) sorts ≡ map (λ m. Some m.shape) ms → shapes_in k sorts ≡ key_shapes ms
@@ -180,7 +212,7 @@ read_judged : (m : MapSeen) (k : Known) (shapes : List Shape) → shapes_in k m.
 read_judged m k shapes h = ap (λ (s : List Shape). unless_broken (read_breaks k m.name s) m.place (Ok (decides k m.name Ints s))) h
 
 read_checked : (m : MapSeen) (k0 k1 : Known) (number : ℕ) (keys : List Made) → KeyChecked m k0 k1 number keys → read_breaks k1 m.name (key_shapes keys) ≡ None
-    → (let k : Known = decides k1 m.name Ints (key_shapes keys) in Checked (map_read m) k0 k (read_made (shape_held (decl_in m.name k.decided)) number keys))
+    → (let k : Known = decides k1 m.name Ints (key_shapes keys) in Checked (map_read m) k0 k (read_made (kind_held (decl_in m.name k.decided)) number keys))
 read_checked m k0 k1 number keys c h =
     let k : Known = decides k1 m.name Ints (key_shapes keys) in
     let g : Grows k1 k = grows_decides k1 m.name Ints (key_shapes keys) in
@@ -190,14 +222,14 @@ read_checked m k0 k1 number keys c h =
           ∙ (read_judged m k1 (key_shapes keys) (shapes_known k1 m.keys keys c.sorts) ∙ ap (λ (o : Option Rule). unless_broken o m.place (Ok k)) h);
       grows = grows_on k0 k1 k c.grows g;
       typing = record {
-        shape = held_is (decl_in m.name k.decided) d.decl (shape_held (decl_in m.name k.decided)) d.found d.kinds;
-        fits = (record { name = m.name; named = named_later k1 k g number m.name c.named; declared = d }, all_later k1 k g (parts_in keys) c.fits);
-        written = key_written m k0 k1 k number keys c g;
+        shape = held_shape (decl_in m.name k.decided) d.0.decl number keys d.0.found d.1;
+        fits = made_fits k m.name (kind_held (decl_in m.name k.decided)) number keys d.1 (named_later k1 k g number m.name c.named) d.0 (all_later k1 k g (parts_in keys) c.fits);
+        written = made_words (titles_of k) (kind_held (decl_in m.name k.decided)) number keys ∙ key_written m k0 k1 k number keys c g;
       };
     }
 
 pub read_checks : (m : MapSeen) (k0 k1 k2 : Known) (number : ℕ) (keys : List Made) (r : Result AnyExpr TypeError) → KeyChecked m k0 k1 number keys → Refuses (read_breaks k1 m.name (key_shapes keys)) m.place r
-    → OnOk r (k2 ≡ decides k1 m.name Ints (key_shapes keys)) → IfOk r (λ e. made_of e ≡ read_made (shape_held (decl_in m.name k2.decided)) number keys) → Checks (map_read m) k0 k2 r
+    → OnOk r (k2 ≡ decides k1 m.name Ints (key_shapes keys)) → IfOk r (λ e. made_of e ≡ read_made (kind_held (decl_in m.name k2.decided)) number keys) → Checks (map_read m) k0 k2 r
 read_checks m k0 k1 k2 number keys (Ok e) c h l g = rw (g, l) (read_checked m k0 k1 number keys c h)
 read_checks m k0 k1 k2 number keys (Err e) c h l g =
     behind_refused m.points (at m.place (Reads m.name m.keys) ∷ []) k0 k1 e c.whole

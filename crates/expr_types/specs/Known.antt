@@ -12,7 +12,7 @@ use Rattle.fmt_text.specs.Deciding.{format_pieces}
 use Rattle.tracefs_format.specs.ByName.{field_named}
 use Rattle.tracefs_format.specs.declared.field.Field.{Field}
 use Rattle.tracefs_format.specs.declared.layout.Layout.{Layout}
-use Rattle.typed_tree.specs.Scope.{shape_of_field, kind_of_shape, is_fine_decl}
+use Rattle.typed_tree.specs.Scope.{shape_of_field, kind_of_shape, is_number, is_fine_decl}
 use Rattle.expr_types.specs.declared.known.Known.{Known}
 use Rattle.expr_types.specs.declared.known.Printed.{Printed}
 use Rattle.expr_types.specs.declared.known.Var.{Var}
@@ -48,11 +48,11 @@ abbrev pub call_at : List ℕ → Place → List Printed → ℕ
 call_at format place [] = 0
 call_at format place (p ∷ ps) = if is_call format place p then 0 else call_at format place ps + 1
 
--- the type of what a map of a kind holds; an aggregation has none
+-- the type of what is read of a map of a kind; a histogram has none
 abbrev pub shape_of_kind : MapKind → Option Shape
 shape_of_kind Ints = Some Int
 shape_of_kind Strs = Some Str
-shape_of_kind (Aggs a) = None
+shape_of_kind (Aggs a) = if is_number a then Some Int else None
 
 abbrev pub decl_shape : Option MapDecl → Option Shape
 decl_shape None = None

@@ -1,20 +1,18 @@
 -- What a read of a map makes.
-use Rattle.std.specs.Prelude.{ℕ, List, Option, Some, None}
+use Rattle.std.specs.Prelude.{ℕ, List, ◌∷◌, Option, Some, None}
 use Rattle.bt_core.specs.declared.map.MapDecl.{MapDecl}
 use Rattle.bt_core.specs.declared.map.MapKind.{MapKind}
 use Rattle.bt_core.specs.declared.map.MapKind.TheVariants.{Ints, Strs, Aggs}
-use Rattle.bt_core.specs.declared.map.Shape.{Shape}
 use Rattle.bt_core.specs.declared.map.Shape.TheVariants.{Int, Str}
-use Rattle.typed_tree.specs.Parts.{Made, made, keyed_parts}
+use Rattle.typed_tree.specs.Parts.{Made, AggOf, made, parts_in, key_shapes, keyed_parts}
 
-abbrev pub shape_of_map : MapKind → Shape
-shape_of_map Ints = Int
-shape_of_map Strs = Str
-shape_of_map (Aggs a) = Int
+-- what a map was decided to hold, and whole numbers where nothing was decided
+abbrev pub kind_held : Option MapDecl → MapKind
+kind_held None = Ints
+kind_held (Some d) = d.kind
 
-abbrev pub shape_held : Option MapDecl → Shape
-shape_held None = Int
-shape_held (Some d) = shape_of_map d.kind
-
-abbrev pub read_made : Shape → ℕ → List Made → Made
-read_made shape number keys = made shape (keyed_parts number keys shape)
+-- by what the map holds: the value under the key, or the number of an aggregation under it
+abbrev pub read_made : MapKind → ℕ → List Made → Made
+read_made Ints number keys = made Int (keyed_parts number keys Int)
+read_made Strs number keys = made Str (keyed_parts number keys Str)
+read_made (Aggs kind) number keys = made Int (AggOf number (key_shapes keys) ∷ parts_in keys)

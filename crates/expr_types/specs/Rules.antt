@@ -8,7 +8,7 @@ use Rattle.bt_core.specs.declared.map.Shape.{Shape}
 use Rattle.bt_core.specs.declared.map.Shape.TheVariants.{Str}
 use Rattle.fmt_text.specs.Deciding.{format_pieces}
 use Rattle.tracefs_format.specs.declared.field.Field.{Field}
-use Rattle.typed_tree.specs.Scope.{same_shape, same_shapes, same_kind, is_agg, is_fine_agg, takes, shape_of_field}
+use Rattle.typed_tree.specs.Scope.{same_shape, same_shapes, same_kind, is_agg, is_hist, is_fine_agg, takes, shape_of_field}
 use Rattle.expr_types.specs.declared.fault.Rule.{Rule}
 use Rattle.expr_types.specs.declared.fault.Rule.TheVariants as rule
 use Rattle.expr_types.specs.declared.known.Known.{Known}
@@ -28,6 +28,11 @@ breaks test rule = first_of_rules ((test, rule) ∷ [])
 abbrev pub is_agg_in : Option MapDecl → Bool
 is_agg_in None = false
 is_agg_in (Some d) = is_agg d.kind
+
+-- a map was decided to count numbers in buckets
+abbrev pub is_hist_in : Option MapDecl → Bool
+is_hist_in None = false
+is_hist_in (Some d) = is_hist d.kind
 
 -- a map was decided to hold another kind than this, or to have other keys
 abbrev pub is_other_kind : Option MapDecl → MapKind → Bool
@@ -63,7 +68,7 @@ has_other_keys k name shapes = nat_lt KEY_PARTS (length shapes) || is_other_key 
 abbrev pub read_breaks : Known → List ℕ → List Shape → Option Rule
 read_breaks k name shapes = first_of_rules
     ((is_one_too_many k name, rule.TooManyMaps)
-    ∷ (is_agg_in (decl_in name k.decided), rule.AggregationRead)
+    ∷ (is_hist_in (decl_in name k.decided), rule.AggregationRead)
     ∷ (has_other_keys k name shapes, rule.OtherKeys) ∷ [])
 
 abbrev pub write_breaks : Known → List ℕ → MapKind → List Shape → Option Rule

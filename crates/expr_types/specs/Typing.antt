@@ -1,5 +1,5 @@
 -- A typed tree under what is known: it fits the declarations, and written back it is the script's.
-use Rattle.std.specs.Prelude.{◌≡◌, ℕ, pos, ◌≤◌, ◌≤ℤ◌, true, false, ◌||◌, List, [], ◌∷◌, map, length, Some, None, slice_get}
+use Rattle.std.specs.Prelude.{◌≡◌, ℕ, ◌≤◌, true, false, ◌||◌, List, [], ◌∷◌, map, length, Some, None, slice_get}
 use Rattle.std.specs.List.{AllByRecursion, list_any}
 use Rattle.std.specs.Prelude.{◌==◌}
 use Rattle.bt_ast.specs.declared.expr.Builtin.{Builtin}
@@ -11,9 +11,9 @@ use Rattle.bt_core.specs.declared.map.Shape.{Shape}
 use Rattle.fmt_text.specs.Deciding.{format_pieces}
 use Rattle.typed_tree.specs.declared.expr.NumBuiltin.{NumBuiltin}
 use Rattle.typed_tree.specs.declared.expr.NumBuiltin.TheVariants.{Pid, Tid, Uid, Gid, Cpu, Nsecs, Elapsed}
-use Rattle.typed_tree.specs.Parts.{Part, Constant, Literal, Numeric, Command, FieldOf, VarOf, MapOf, Stepped, Prefixed, Joined, Both, Either, Chosen}
+use Rattle.typed_tree.specs.Parts.{Part, Constant, Literal, Numeric, Command, FieldOf, VarOf, MapOf, AggOf, Stepped, Prefixed, Joined, Both, Either, Chosen}
 use Rattle.typed_tree.specs.Parts.{Assigned, Gathered, Deleted, Printed, Shown, Cleared, Zeroed, Jumped, Looped, Unrolled, Arm, Otherwise, NoOtherwise, Ending, Made}
-use Rattle.typed_tree.specs.Scope.{shape_of_field, kind_of_shape, is_agg, is_count, same_bool, leaves_body, takes, may_print}
+use Rattle.typed_tree.specs.Scope.{shape_of_field, kind_of_shape, is_agg, is_summed_kind, is_count, same_bool, leaves_body, takes, may_print}
 use Rattle.expr_types.specs.declared.known.Known.{Known}
 use Rattle.expr_types.specs.declared.known.Printed.{Printed as Call}
 use Rattle.expr_types.specs.declared.known.Var.{Var}
@@ -51,6 +51,12 @@ pub record IsSharedMap (k : Known) (number : ℕ) (keys : List Shape) : Type 0 w
   pub shared : is_agg kind ≡ false
   pub map : IsMapOf k number kind keys
 
+-- the number of an aggregation that is no histogram
+pub record IsSummedMap (k : Known) (number : ℕ) (keys : List Shape) : Type 0 where
+  pub kind : MapKind
+  pub summed : is_summed_kind kind ≡ true
+  pub map : IsMapOf k number kind keys
+
 pub record IsVarOf (k : Known) (number : ℕ) (shape : Shape) : Type 0 where
   pub var : Var
   pub numbered : slice_get k.vars number ≡ Some var
@@ -68,6 +74,7 @@ abbrev pub Fits : Known → Part → Type 0
 Fits k (FieldOf f shape) = (event_field k.event f.name ≡ Some f) × (shape_of_field f.kind ≡ Some shape)
 Fits k (VarOf number shape) = IsVarOf k number shape
 Fits k (MapOf number keys shape) = IsMapOf k number (kind_of_shape shape) keys
+Fits k (AggOf number keys) = IsSummedMap k number keys
 Fits k (Gathered number keys kind counts) = IsMapOf k number (Aggs kind) keys × (same_bool counts (is_count kind) ≡ true)
 Fits k (Deleted number keys) = IsSharedMap k number keys
 Fits k (Printed format shapes) = IsCallOf k format shapes
@@ -126,6 +133,7 @@ word_of t Command = BuiltinWord script.Comm
 word_of t (FieldOf f shape) = FieldWord f.name
 word_of t (VarOf number shape) = VarWord (title t.variables number)
 word_of t (MapOf number keys shape) = MapWord (title t.maps number) (length keys)
+word_of t (AggOf number keys) = MapWord (title t.maps number) (length keys)
 word_of t (Stepped plus prefix) = StepWord plus prefix
 word_of t (Prefixed op) = UnaryWord op
 word_of t (Joined op) = BinaryWord op

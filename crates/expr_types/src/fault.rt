@@ -32,7 +32,7 @@ pub enum Rule {
     /// The bounds of a linear histogram are none.
     #[error("Y8 bad lhist")]
     BadBounds,
-    /// An aggregation stands in an expression.
+    /// A histogram is read in an expression.
     #[error("Y9 aggregation read")]
     AggregationRead,
     /// The body has no event.

@@ -8,7 +8,7 @@ ghost use Rattle.typed_tree.specs.Scope.{is_fine_kind};
 ghost use Rattle.expr_types.specs.Known.{decl_in, decides};
 ghost use Rattle.expr_types.specs.Judge.{Refuses};
 ghost use Rattle.expr_types.specs.Rules.{read_breaks, write_breaks};
-ghost use Rattle.expr_types.specs.Maps.{shape_held, read_made};
+ghost use Rattle.expr_types.specs.Maps.{kind_held, read_made};
 
 use crate::fault::TypeError;
 use crate::known::Known;
@@ -38,28 +38,25 @@ pub fn shapes(alloc: Global, keys: &[AnyExpr]) -> Result<Items<Shape>, Memory>
     Ok(shapes)
 }
 
-/// What a map holds that is no aggregation.
-fn shape_held(decl: Option<&MapDecl>) -> Shape
-    ensures { result ≡ shape_held (option_copied decl.entry) }
+/// What a map was decided to hold, and whole numbers where nothing was decided.
+fn kind_held(decl: Option<&MapDecl>) -> MapKind
+    ensures { result ≡ kind_held (option_copied decl.entry) }
 {
     match decl {
-        None => Shape::Int,
-        Some(decl) => match decl.kind {
-            MapKind::Ints => Shape::Int,
-            MapKind::Strs => Shape::Str,
-            MapKind::Aggs(_) => Shape::Int,
-        },
+        None => MapKind::Ints,
+        Some(decl) => decl.kind,
     }
 }
 
-/// The value of a map.
-fn value_of(shape: Shape, keyed: Keyed) -> AnyExpr
-    ensures { made_of result ≡ read_made shape keyed.map.0 (map made_of keyed.keys) }
+/// The value of a map that holds this, or its number.
+fn value_of(kind: MapKind, keyed: Keyed) -> AnyExpr
+    ensures { made_of result ≡ read_made kind keyed.map.0 (map made_of keyed.keys) }
 {
     let Keyed { map, keys } = keyed;
-    match shape {
-        Shape::Int => AnyExpr::Num(NumExpr::Map { map, keys }),
-        Shape::Str => AnyExpr::Str(StrExpr::Map { map, keys }),
+    match kind {
+        MapKind::Ints => AnyExpr::Num(NumExpr::Map { map, keys }),
+        MapKind::Strs => AnyExpr::Str(StrExpr::Map { map, keys }),
+        MapKind::Aggs(_) => AnyExpr::Num(NumExpr::Agg { map, keys }),
     }
 }
 
@@ -93,11 +90,11 @@ pub fn read(
 ) -> Result<AnyExpr, TypeError>
     ensures refuses { Refuses (read_breaks known.old name.now (key_shapes (map made_of keyed.keys))) place result }
     ensures learned { OnOk result (known.new ≡ decides known.old name.now Ints (key_shapes (map made_of keyed.keys))) }
-    ensures made { IfOk result (λ e. made_of e ≡ read_made (shape_held (decl_in name.now known.new.decided)) keyed.map.0 (map made_of keyed.keys)) }
+    ensures made { IfOk result (λ e. made_of e ≡ read_made (kind_held (decl_in name.now known.new.decided)) keyed.map.0 (map made_of keyed.keys)) }
 {
     let shapes = shapes(alloc, keyed.keys.as_slice())?;
     read_mention(alloc, known, name, shapes, place)?;
-    Ok(value_of(shape_held(known.decl(name.as_slice())), keyed))
+    Ok(value_of(kind_held(known.decl(name.as_slice())), keyed))
 }
 
 /// A mention that decides this kind, which is fine by itself.

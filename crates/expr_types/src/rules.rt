@@ -4,13 +4,14 @@ ghost use Rattle.typed_tree.specs.Scope.{same_shape, same_shapes, same_kind, is_
 ghost use Rattle.expr_types.specs.declared.fault.TypeError.TheVariants.{Broken};
 ghost use Rattle.expr_types.specs.Known.{decl_in};
 ghost use Rattle.expr_types.specs.Judge.{Refuses};
-ghost use Rattle.expr_types.specs.Rules.{is_one_too_many, is_agg_in, is_other_kind, is_other_key, has_other_keys, read_breaks, write_breaks};
+ghost use Rattle.expr_types.specs.Rules.{is_one_too_many, is_agg_in, is_hist_in, is_other_kind, is_other_key, has_other_keys, read_breaks, write_breaks};
 
 use crate::fault::{Fault, Rule, TypeError};
 use crate::known::Known;
 use bt_core::limits::{KEY_PARTS, LHIST_BUCKETS, MAPS};
 use bt_core::map::{AggKind, MapKind, Shape};
 use bt_core::place::Place;
+use typed_tree::kind::is_hist;
 
 /// A rule that is broken at a place.
 pub fn broken(rule: Rule, place: Place) -> TypeError
@@ -95,6 +96,16 @@ pub fn is_agg(known: &Known, name: &[u8]) -> bool
     }
 }
 
+/// Whether a map was decided to count numbers in buckets.
+fn is_hist_map(known: &Known, name: &[u8]) -> bool
+    ensures { result ≡ is_hist_in (decl_in name.now known.now.decided) }
+{
+    match known.decl(name) {
+        None => false,
+        Some(decl) => is_hist(decl.kind),
+    }
+}
+
 /// Whether a map was decided to hold another kind than this.
 fn is_other_kind(known: &Known, name: &[u8], kind: MapKind) -> bool
     ensures { result ≡ is_other_kind (decl_in name.now known.now.decided) kind }
@@ -125,7 +136,7 @@ pub fn read_breaks(known: &Known, name: &[u8], shapes: &[Shape]) -> Option<Rule>
     if is_one_too_many(known, name) {
         return Some(Rule::TooManyMaps);
     }
-    if is_agg(known, name) {
+    if is_hist_map(known, name) {
         return Some(Rule::AggregationRead);
     }
     if has_other_keys(known, name, shapes) {

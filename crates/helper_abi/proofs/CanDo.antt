@@ -17,8 +17,9 @@ use Rattle.bt_core.specs.Kinds.{HasShape, IsOfShape, IsOfKind, IsShared, IsAggre
 use Rattle.bt_core.specs.KeyBytes.{part_of}
 use Rattle.bt_core.specs.Ports.{Setting, CanStep, IsSharedOp}
 use Rattle.bpf_insn.specs.Regions.{is_in_frame}
-use Rattle.typed_tree.specs.Scope.{is_agg, is_fine_decl, is_fine_kind}
-use Rattle.helper_abi.specs.Helpers.{numbered, map_id, of_sort, table_map, value_map}
+use Rattle.typed_tree.specs.Scope.{is_agg, is_summed_kind, is_fine_decl, is_fine_kind}
+use Rattle.typed_tree.proofs.Summed.{summed_kind}
+use Rattle.helper_abi.specs.Helpers.{numbered, map_id, of_sort, table_map, value_map, summed_map}
 use Rattle.helper_abi.specs.Reading.{shape_bytes, shape_of_kind}
 use Rattle.helper_abi.specs.Served.{ServesMaps, HasRoom}
 use Rattle.map_ops.specs.Holders.{part, CanSweep}
@@ -79,6 +80,15 @@ value_map-is maps n decl e = value_sort (numbered maps n) decl e
 
 pub table_map-is : (maps : List MapDecl) (n : ℕ) (decl : MapDecl) → table_map maps n ≡ Some decl → (numbered maps n ≡ Some decl) × IsAggregation decl.kind
 table_map-is maps n decl e = table_sort (numbered maps n) decl e
+
+summed_sort : (o : Option MapDecl) (decl : MapDecl) → option_and_then (λ (d : MapDecl). of_sort (is_summed_kind d.kind) d) o ≡ Some decl → (o ≡ Some decl) × IsAggregation decl.kind
+summed_sort None decl e = cc
+summed_sort (Some d) decl e =
+    let p = of_sort-is (is_summed_kind d.kind) d decl e in
+    (ap (λ (x : MapDecl). Some x) p.1, subst (λ (x : MapDecl). IsAggregation x.kind) p.1 (summed_kind d.kind p.0))
+
+pub summed_map-is : (maps : List MapDecl) (n : ℕ) (decl : MapDecl) → summed_map maps n ≡ Some decl → (numbered maps n ≡ Some decl) × IsAggregation decl.kind
+summed_map-is maps n decl e = summed_sort (numbered maps n) decl e
 
 -- ---- steps
 

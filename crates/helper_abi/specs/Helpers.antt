@@ -13,14 +13,14 @@ use Rattle.bpf_insn.specs.Regions.{Spaces, is_in_frame}
 use Rattle.bpf_insn.specs.Machine.{Answer, BadBytes, BadArgument, Helpers}
 use Rattle.fmt_text.specs.Arguments.{argument_shapes}
 use Rattle.fmt_text.specs.declared.piece.Piece.{Piece}
-use Rattle.typed_tree.specs.Scope.{is_agg}
+use Rattle.typed_tree.specs.Scope.{is_agg, is_summed_kind}
 use Rattle.helper_abi.specs.declared.helper.Helper.{Helper}
-use Rattle.helper_abi.specs.declared.helper.Helper.TheVariants.{Get, Set, Delete, Aggregate, Print, Clear, Zero, Printf, Exit, Cut, ReadStr}
+use Rattle.helper_abi.specs.declared.helper.Helper.TheVariants.{Get, Set, Delete, Aggregate, Print, Clear, Zero, Printf, Exit, Cut, ReadStr, ReadAgg}
 use Rattle.map_ops.specs.declared.sweep.Sweep.{Sweep}
 use Rattle.map_ops.specs.declared.sweep.Sweep.TheVariants as sweeps
 use Rattle.helper_abi.specs.Numbers.{helper_at}
 use Rattle.helper_abi.specs.Reading.{shape_bytes, shape_of_kind, value_at, values_at, payload_text}
-use Rattle.helper_abi.specs.Steps.{wrote, frame_kept, got_into}
+use Rattle.helper_abi.specs.Steps.{wrote, frame_kept, got_into, summed_into}
 use Rattle.map_ops.specs.Asking.{tells, swept, printed}
 use Rattle.map_ops.specs.Holders.{part}
 
@@ -40,7 +40,7 @@ numbered xs n = cond (nat_lt n (2 ^ 32)) (slice_get xs n) None
 abbrev pub map_id : ℕ → MapId
 map_id n = record { 0 = n }
 
--- a map by its number where it gathers numbers, or where it does not
+-- a map by its number where it gathers numbers, where it does not, or where it gathers them into one number
 abbrev pub of_sort : Bool → MapDecl → Option MapDecl
 of_sort holds decl = cond holds (Some decl) None
 
@@ -49,6 +49,9 @@ table_map maps n = option_and_then (λ (decl : MapDecl). of_sort (is_agg decl.ki
 
 abbrev pub value_map : List MapDecl → ℕ → Option MapDecl
 value_map maps n = option_and_then (λ (decl : MapDecl). of_sort (not (is_agg decl.kind)) decl) (numbered maps n)
+
+abbrev pub summed_map : List MapDecl → ℕ → Option MapDecl
+summed_map maps n = option_and_then (λ (decl : MapDecl). of_sort (is_summed_kind decl.kind) decl) (numbered maps n)
 
 -- how many rows are kept, at least 0, and what the values are divided by, at least 1
 abbrev pub are_shown : ℕ → ℕ → Bool
@@ -98,6 +101,13 @@ aggregate maps actor m key number s =
     with_read (values_at s decl.key_shape key) (λ key.
     frame_kept s (tells (Cpu actor) (ops.Add (map_id m) key (cast_signed w64 number)))))
 
+-- the number of an aggregation under a key is written at an address
+abbrev pub read_agg : List MapDecl → ℕ → ℕ → ℕ → ℕ → Spaces → Interaction Answer
+read_agg maps actors m key to s =
+    in_range (summed_map maps m) (λ decl.
+    with_read (values_at s decl.key_shape key) (λ key.
+    with_room to 8 (summed_into s (map_id m) key to actors)))
+
 abbrev pub print : List MapDecl → ℕ → ℕ → ℕ → ℕ → Spaces → Interaction Answer
 print maps actors m top div s =
     in_range (numbered maps m) (λ decl.
@@ -137,6 +147,7 @@ helper_steps d Printf a b c s = printf d.formats a b s
 helper_steps d Exit a b c s = exit s
 helper_steps d Cut a b c s = cut a s
 helper_steps d ReadStr a b c s = read_str a b c s
+helper_steps d ReadAgg a b c s = read_agg d.maps d.actors a b c s
 
 -- the helper of a number; no other number is in range
 abbrev pub helpers : Desk → Helpers

@@ -5,7 +5,9 @@ ghost use Rattle.helper_abi.specs.Helpers.{helpers, helper_steps};
 ghost use Rattle.helper_abi.specs.Served.{IsFor, desk_of};
 
 use crate::helper::Helper;
-use crate::helpers::{aggregate, cut, delete, exit, get, print, printf, read_str, set, sweep_map};
+use crate::helpers::{
+    aggregate, cut, delete, exit, get, print, printf, read_agg, read_str, set, sweep_map,
+};
 use bpf_interp::ports::{PortFault, Ports};
 use bpf_interp::regions::Regions;
 use bt_core::port::Port;
@@ -74,6 +76,7 @@ fn act<P: Port>(
         Helper::Exit => exit(alloc, port, memory),
         Helper::Cut => cut(alloc, port, a, memory),
         Helper::ReadStr => read_str(a, b, c, memory),
+        Helper::ReadAgg => read_agg(alloc, port, maps, actors, a, b, c, memory),
     }
 }
 

@@ -3,15 +3,15 @@ ghost use Rattle.std.specs.Prelude.{◌≡◌, ◌<◌, List};
 ghost use Rattle.bt_core.specs.declared.step.Step.{Step};
 ghost use Rattle.std.specs.Option.{option_copied};
 ghost use Rattle.bpf_interp.specs.Running.{Called};
-ghost use Rattle.typed_tree.specs.Scope.{is_agg};
-ghost use Rattle.helper_abi.specs.Helpers.{numbered, table_map, value_map, are_shown, get, set, delete, aggregate, print, sweep_map, printf, exit, cut, read_str};
+ghost use Rattle.typed_tree.specs.Scope.{is_agg, is_summed_kind};
+ghost use Rattle.helper_abi.specs.Helpers.{numbered, table_map, value_map, summed_map, are_shown, get, set, delete, aggregate, read_agg, print, sweep_map, printf, exit, cut, read_str};
 ghost use Rattle.helper_abi.specs.Served.{ServesMaps};
 
 use crate::printing::{print_map, sweep_all};
 use crate::reading::{
     TEXT_BYTES, key_at, payload_text, put, shape_bytes, shape_of_kind, value_at, values_at,
 };
-use crate::steps::{get_into, tell};
+use crate::steps::{get_into, sum_into, tell};
 use bpf_interp::ports::PortFault;
 use bpf_interp::regions::Regions;
 use bt_core::item::Item;
@@ -25,6 +25,7 @@ use fmt_text::piece::Piece;
 use map_ops::access::part;
 use map_ops::sweep::Sweep;
 use std::alloc::Global;
+use typed_tree::kind::is_summed_kind;
 
 // What has a number of 32 bits in a list.
 fn numbered<T>(list: &[T], number: u64) -> Option<&T>
@@ -61,6 +62,18 @@ fn table_map(maps: &[MapDecl], number: u64) -> Option<&MapDecl>
 {
     let decl = numbered(maps, number)?;
     if is_agg(decl.kind) { Some(decl) } else { None }
+}
+
+// An aggregation that is no histogram by its number.
+fn summed_map(maps: &[MapDecl], number: u64) -> Option<&MapDecl>
+    ensures { option_copied result ≡ summed_map maps.now number }
+{
+    let decl = numbered(maps, number)?;
+    if is_summed_kind(decl.kind) {
+        Some(decl)
+    } else {
+        None
+    }
 }
 
 // Whether so many rows are kept, and the values divided by this.
@@ -176,6 +189,38 @@ pub fn aggregate<P: Port>(
     };
     let op = Op::Add(MapId(map as u32), key, number.cast_signed());
     tell(alloc, port, ObjectId::Cpu(actor), op, memory)
+}
+
+/// The number of an aggregation under the key at an address, over the tables of all actors, is written at another.
+pub fn read_agg<P: Port>(
+    alloc: Global,
+    port: &mut P,
+    maps: &[MapDecl],
+    actors: u32,
+    map: u64,
+    key: u64,
+    to: u64,
+    memory: &mut Regions,
+) -> Result<u64, PortFault>
+    requires served { ServesMaps maps.now (P.fixed port.old).setting }
+    requires actors { (P.fixed port.old).setting.actors ≡ actors }
+    ensures called { Called (read_agg maps.now actors map key to memory.old) (P.steps port.old) (P.steps port.new) result memory.new.frame }
+    ensures kept { P.fixed port.new ≡ P.fixed port.old }
+    ensures context { memory.new.context ≡ memory.old.context }
+    ensures payload { memory.new.payload ≡ memory.old.payload }
+{
+    let Some(decl) = summed_map(maps, map) else {
+        return Err(PortFault::Helper);
+    };
+    let key = match key_at(alloc, memory, decl.key_shape.as_slice(), key) {
+        Ok(key) => key,
+        Err(fault) => return Err(fault),
+    };
+    if !memory.in_frame(to, 8) {
+        return Err(PortFault::Address);
+    }
+    let map = MapId(map as u32);
+    sum_into(alloc, port, decl.kind, map, &key, to, actors, memory)
 }
 
 /// The merged rows of a map are emitted.

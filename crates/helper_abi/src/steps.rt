@@ -1,21 +1,25 @@
 // What helpers ask of maps.
-ghost use Rattle.std.specs.Prelude.{◌≡◌};
+ghost use Rattle.std.specs.Prelude.{◌≡◌, IsTrue};
 ghost use Rattle.bt_core.specs.declared.step.Op.TheVariants as ops;
+ghost use Rattle.bt_core.specs.Kinds.{IsAggregation};
 ghost use Rattle.bt_core.specs.Ports.{CanStep};
+ghost use Rattle.bpf_insn.specs.Regions.{is_in_frame};
 ghost use Rattle.bpf_interp.specs.Running.{Called};
-ghost use Rattle.map_ops.specs.Holders.{part};
+ghost use Rattle.map_ops.specs.Holders.{part, CanSweep};
 ghost use Rattle.helper_abi.specs.Served.{HasRoom};
-ghost use Rattle.helper_abi.specs.Steps.{frame_kept, got_into};
+ghost use Rattle.helper_abi.specs.Steps.{frame_kept, got_into, summed_into};
 ghost use Rattle.map_ops.specs.Asking.{tells};
 
 use crate::reading::put;
 use bpf_interp::ports::PortFault;
 use bpf_interp::regions::Regions;
 use bt_core::key::Key;
-use bt_core::map::MapId;
+use bt_core::map::{MapId, MapKind};
 use bt_core::port::Port;
 use bt_core::step::{ObjectId, Op};
+use bt_core::value::Value;
 use map_ops::access;
+use map_ops::summing::sum_under;
 use std::alloc::Global;
 
 /// Makes a step whose reply says nothing.
@@ -55,6 +59,34 @@ pub fn get_into<P: Port>(
     match access::get(alloc, map, key, port) {
         Ok(value) => {
             put(memory, to, &value);
+            Ok(0)
+        }
+        Err(_) => Err(PortFault::Memory),
+    }
+}
+
+/// Reads the number of an aggregation under a key, and writes it into the frame, which has room for it.
+pub fn sum_into<P: Port>(
+    alloc: Global,
+    port: &mut P,
+    kind: MapKind,
+    map: MapId,
+    key: &Key,
+    to: u64,
+    actors: u32,
+    memory: &mut Regions,
+) -> Result<u64, PortFault>
+    requires can { CanSweep (P.fixed port.old).setting map kind actors }
+    requires gathers { IsAggregation kind }
+    requires room { IsTrue (is_in_frame to 8) }
+    ensures called { Called (summed_into memory.old map key.now to actors) (P.steps port.old) (P.steps port.new) result memory.new.frame }
+    ensures kept { P.fixed port.new ≡ P.fixed port.old }
+    ensures context { memory.new.context ≡ memory.old.context }
+    ensures payload { memory.new.payload ≡ memory.old.payload }
+{
+    match sum_under(alloc, kind, map, key, actors, port) {
+        Ok(number) => {
+            put(memory, to, &Value::Int(number));
             Ok(0)
         }
         Err(_) => Err(PortFault::Memory),

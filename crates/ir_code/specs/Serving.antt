@@ -28,6 +28,7 @@ IsServedAs served maps m = slice_get served m.0 ≡ slice_get maps m.0
 
 abbrev pub ServesInstr : List MapDecl → List MapDecl → Instr → Type 0
 ServesInstr served maps (i.Get m key shape) = IsServedAs served maps m
+ServesInstr served maps (i.ReadAgg m key) = IsServedAs served maps m
 ServesInstr served maps (i.Set m key shape) = IsServedAs served maps m
 ServesInstr served maps (i.Delete m key) = IsServedAs served maps m
 ServesInstr served maps (i.Update m key op) = IsServedAs served maps m

@@ -58,6 +58,11 @@ pub enum Instr {
         key: Items<Shape>,
         shape: Shape,
     },
+    /// Takes a key, and puts the number under it of an aggregation that is no histogram, over the tables of all actors.
+    ReadAgg {
+        map: MapId,
+        key: Items<Shape>,
+    },
     /// Takes a value of this type and the key below it.
     Set {
         map: MapId,

@@ -459,6 +459,7 @@ truth-last xs e = by (nat_eq (length xs) 0) refl e
     is (Some (i.Binary op)) t = absurd (cc)
     is (Some (i.Compare equal)) t = absurd (cc)
     is (Some (i.Get m key shape)) t = absurd (cc)
+    is (Some (i.ReadAgg m key)) t = absurd (cc)
     is (Some (i.Set m key shape)) t = absurd (cc)
     is (Some (i.Delete m key)) t = absurd (cc)
     is (Some (i.Update m key op)) t = absurd (cc)

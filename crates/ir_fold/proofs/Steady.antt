@@ -20,7 +20,7 @@ use Rattle.ir_code.specs.declared.state.Way.TheVariants.{To}
 use Rattle.ir_code.specs.Meaning.{Scene, instr_run, instrs_run, exit_run, goes_on, block_run, run_from, popped, put, key_on, unkeyed, updated, stepped, count_way, counted, turn_way}
 use Rattle.map_ops.specs.declared.sweep.Sweep.TheVariants.{Clear, Zero}
 use Rattle.map_ops.specs.Holders.{part, kind_of}
-use Rattle.map_ops.specs.Asking.{tells, got, swept, printed}
+use Rattle.map_ops.specs.Asking.{tells, got, swept, printed, summed}
 use Rattle.ir_code.specs.Stacks.{top}
 use Rattle.ir_code.specs.Ways.{depth_in, depth_at, lies_below, leads}
 use Rattle.map_ops.specs.Values.{number_of, as_shape, holds}
@@ -67,6 +67,7 @@ one-keeps (i.Binary op) scene s = refl
 one-keeps (i.Compare equal) scene s = refl
 one-keeps i.Truth scene s = refl
 one-keeps (i.Get m key shape) scene s = asked s (got m (key_on key s)) (λ v. put (as_shape shape v) (unkeyed key s)) (λ a. refl)
+one-keeps (i.ReadAgg m key) scene s = asked s (summed m (key_on key s) scene.actors) (λ n. put (Int n) (unkeyed key s)) (λ a. refl)
 one-keeps (i.Set m key shape) scene s = asked s (tells (part m (key_on key (popped s))) (ops.Set (key_on key (popped s)) (top s.stack))) (λ u. unkeyed key (popped s)) (λ a. refl)
 one-keeps (i.Delete m key) scene s = asked s (tells (part m (key_on key s)) (ops.Delete (key_on key s))) (λ u. unkeyed key s) (λ a. refl)
 one-keeps (i.Update m key op) scene s = asked s (updated m (key_on key (popped s)) op (number_of (top s.stack))) (λ u. unkeyed key (popped s)) (λ a. refl)

@@ -12,7 +12,7 @@ use Rattle.bt_core.specs.declared.value.Value.TheVariants.{Int, Str}
 use Rattle.bt_core.specs.declared.map.AggKind.{AggKind}
 use Rattle.map_printer.specs.Buckets.{is_shown, label_of}
 use Rattle.map_printer.specs.Rows.{divided}
-use Rattle.map_printer.specs.Values.{number_of, quotient}
+use Rattle.map_rows.specs.Numbers.{number_of, quotient}
 use Rattle.serde_json.specs.Data.{Data, number}
 use Rattle.serde_json.specs.Find.{of_integer}
 use Rattle.serde_json.specs.View.{items_of}

@@ -18,7 +18,7 @@ use bt_core::map::AggKind;
 use bt_core::memory::Memory;
 use bt_core::value::Value;
 use map_printer::row_text::divided;
-use map_printer::value_text::{number_of, quotient};
+use map_rows::numbers::{number_of, quotient};
 use serde_json::{Value as Json, json};
 use std::alloc::Global;
 

@@ -1,10 +1,10 @@
 // Bodies with their literals folded.
-use crate::scripts::{formats, typed_of};
-use bt_lower::lower::lower;
+use body_fixtures::lowered::probe_of;
 use ir_code::blocks::{Block, Exit};
 use ir_code::instr::Instr;
 use ir_code::probe::IrProbe;
 use ir_fold::fold::fold;
+use std::alloc::Global;
 use std::test::Fail;
 
 /// The text of a script with one body; and how many operators on numbers and how many branches its instructions have as they
@@ -50,18 +50,19 @@ fn figures(probe: &IrProbe) -> (usize, usize) {
     (found, branches)
 }
 
+/// The figures of a script's one body, as it is lowered and when it is folded.
+fn both(alloc: Global, text: &[u8]) -> Result<((usize, usize), (usize, usize)), Fail> {
+    let probe = probe_of(alloc, text)?;
+    let lowered = figures(&probe);
+    let folded = fold(alloc, probe)?;
+    Ok((lowered, figures(&folded)))
+}
+
 #[test]
 fn operators_and_branches_on_literals_are_folded(rt: HostRuntime) -> Result<(), Fail> {
     let alloc = rt.alloc();
-    let formats = formats(alloc)?;
-    for (text, lowered, folded) in FOLDS {
-        let typed = typed_of(alloc, text, formats.as_slice())?;
-        let probes = lower(alloc, &typed)?;
-        assert_eq!(rt; probes.len(), 1);
-        for probe in probes.into_vec() {
-            assert_eq!(rt; figures(&probe), lowered);
-            assert_eq!(rt; figures(&fold(alloc, probe)?), folded);
-        }
+    for (number, row) in FOLDS.iter().enumerate() {
+        assert!(rt; both(alloc, row.0)? == (row.1, row.2), "row {number}");
     }
     Ok(())
 }

@@ -8,12 +8,4 @@ mod folds;
 #[cfg(test)]
 mod large;
 #[cfg(test)]
-mod port;
-#[cfg(test)]
-mod replies;
-#[cfg(test)]
-mod runs;
-#[cfg(test)]
-mod scripts;
-#[cfg(test)]
 mod sums;

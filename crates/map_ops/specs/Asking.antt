@@ -1,16 +1,18 @@
 -- What is asked of the objects that hold maps, reply by reply.
 use Rattle.std.specs.Prelude.{ℕ, zero, suc, ◌+◌, ℤ, List, [], ◌∷◌, ◌++◌}
+use Rattle.std.specs.List.{flat_map}
 use Rattle.bt_core.specs.declared.item.Item.TheVariants as items
 use Rattle.bt_core.specs.declared.map.MapId.{MapId}
 use Rattle.bt_core.specs.declared.map.MapKind.{MapKind}
 use Rattle.bt_core.specs.declared.step.ObjectId.{ObjectId}
-use Rattle.bt_core.specs.declared.step.ObjectId.TheVariants.{Out}
+use Rattle.bt_core.specs.declared.step.ObjectId.TheVariants.{Cpu, Out}
 use Rattle.bt_core.specs.declared.step.Op.{Op}
 use Rattle.bt_core.specs.declared.step.Op.TheVariants as ops
 use Rattle.bt_core.specs.declared.step.Reply.{Reply}
 use Rattle.bt_core.specs.declared.value.Value.{Value}
 use Rattle.bt_core.specs.Interaction.{Interaction, Ended, ask, and_then}
-use Rattle.map_rows.specs.Merged.{merged}
+use Rattle.map_rows.specs.Merged.{agg_rows, merged, merged_rows}
+use Rattle.map_rows.specs.UnderKey.{number_under}
 use Rattle.map_ops.specs.declared.sweep.Sweep.{Sweep}
 use Rattle.map_ops.specs.declared.sweep.Sweep.TheVariants.{Read}
 use Rattle.map_ops.specs.Holders.{part, holder, holders, sweep_op}
@@ -36,3 +38,8 @@ swept sweep kind m actors = asked_from (holder kind m) (sweep_op sweep kind m) [
 -- all objects that hold the map are read, and then its merged rows are emitted, also where there are none
 abbrev pub printed : MapKind → MapId → ℕ → ℤ → ℕ → Interaction (Unit {0})
 printed kind m top div actors = and_then (swept Read kind m actors) (λ replies. tells Out (ops.Emit (items.Map m (merged kind replies) top div)))
+
+-- the tables of all actors are read, and the value is the number under the key of their merged rows
+abbrev pub summed : MapId → List Value → ℕ → Interaction ℤ
+summed m key actors =
+    and_then (asked_from Cpu (ops.Read m) [] 0 actors) (λ replies. Ended (number_under key (merged_rows (flat_map agg_rows replies))))

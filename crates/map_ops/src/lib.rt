@@ -4,5 +4,6 @@
 pub mod access;
 pub mod builtin;
 pub mod printing;
+pub mod summing;
 pub mod sweep;
 pub mod values;

@@ -27,6 +27,11 @@ rows_in (Aggs kind) reply = []
 rows_in kind (replies.Pairs rows) = map value_row rows
 rows_in kind reply = []
 
+-- the rows of aggregates of a reply
+abbrev pub agg_rows : Reply → List (List Value × Cell)
+agg_rows (replies.Aggs rows) = map agg_row rows
+agg_rows reply = []
+
 -- those of all replies, one reply after the other
 abbrev pub all_rows : MapKind → List Reply → List (List Value × Cell)
 all_rows kind replies = flat_map (rows_in kind) replies

@@ -4,7 +4,7 @@ ghost use Rattle.bt_core.specs.declared.item.Cell.TheVariants.{Agg as Aggregate}
 ghost use Rattle.bt_core.specs.declared.value.Value.TheVariants.{Int};
 ghost use Rattle.typed_tree.specs.declared.script.Typed.{Typed};
 ghost use Rattle.bt_meaning.specs.Totals.{IsAggregationOnly, totals, who};
-ghost use Rattle.meaning_tests.specs.Bodies.{clear_statement, print_statement};
+ghost use Rattle.meaning_tests.specs.Bodies.{clear_statement, print_statement, read_statement};
 ghost use Rattle.meaning_tests.specs.Intervals.{first_three, printing};
 ghost use Rattle.meaning_tests.specs.Scripts.{IsCounting};
 ghost use Rattle.meaning_tests.specs.Serial.{by_second, counted_by_cpu};
@@ -25,15 +25,16 @@ fn ticks_count_for_who_runs_them()
         (Int (pos 4) ∷ [], Aggregate (counted 1)) ∷ (Int (pos 9) ∷ [], Aggregate (counted 1)) ∷ [] }
 {}
 
-// A script that prints its counts only adds and prints; one that clears them does not.
-fn clears_are_told()
+// A script that prints its counts only adds and prints; one that clears or reads them does not.
+fn clears_and_reads_are_told()
     ensures prints { (script : Typed) → IsCounting (print_statement ∷ []) script → IsAggregationOnly script }
     ensures clears { (script : Typed) → IsCounting (print_statement ∷ clear_statement ∷ []) script → IsAggregationOnly script → ⊥ }
+    ensures reads { (script : Typed) → IsCounting (print_statement ∷ read_statement ∷ []) script → IsAggregationOnly script → ⊥ }
 {}
 
 #[test]
 fn totals_of_runs() {
     counts_add_up();
     ticks_count_for_who_runs_them();
-    clears_are_told();
+    clears_and_reads_are_told();
 }

@@ -3,7 +3,9 @@ use crate::texts::SYS_ENTER;
 use rec_format::entries::EntryRef;
 use rec_format::error::{CountOf, RecordingError};
 use rec_format::reading::read_recording;
+use rec_format::recording::{CpuTrack, Recording};
 use rec_format::writing::write_recording;
+use std::alloc::Global;
 use std::test::Fail;
 use tracefs_format::error::FormatError;
 
@@ -146,6 +148,51 @@ fn is_seen(entry: &EntryRef<'_>, wanted: &Seen) -> bool {
     }
 }
 
+/// Whether a CPU has this number and these entries.
+fn has_entries(track: &CpuTrack, number: u32, entries: &[Seen]) -> bool {
+    if track.number != number || track.entries.len() != entries.len() {
+        return false;
+    }
+    for (place, wanted) in entries.iter().enumerate() {
+        match track.entries.get(place) {
+            Some(entry) => {
+                if !is_seen(&entry, wanted) {
+                    return false;
+                }
+            }
+            None => return false,
+        }
+    }
+    true
+}
+
+/// Whether a recording is what a row spells.
+fn is_spelled(recording: &Recording, row: &Spelled) -> bool {
+    if recording.version != row.version || (recording.start, recording.end) != row.span {
+        return false;
+    }
+    if recording.formats.len() != row.formats || recording.cpus.len() != row.cpus.len() {
+        return false;
+    }
+    for (track, (number, entries)) in recording.cpus.as_slice().iter().zip(row.cpus) {
+        if !has_entries(track, *number, *entries) {
+            return false;
+        }
+    }
+    true
+}
+
+/// Whether bytes that end before the last one are refused as such, wherever they end.
+fn is_cut_anywhere(alloc: Global, bytes: &[u8]) -> Result<bool, Fail> {
+    for len in 0..bytes.len() {
+        let part = Vec::from_slice(alloc, &bytes[..len])?;
+        if read_recording(alloc, part).err() != Some(RecordingError::Truncated(len as u64)) {
+            return Ok(false);
+        }
+    }
+    Ok(true)
+}
+
 #[test]
 fn what_a_file_spells_is_read_and_written(rt: HostRuntime) -> Result<(), Fail> {
     let alloc = rt.alloc();
@@ -153,33 +200,12 @@ fn what_a_file_spells_is_read_and_written(rt: HostRuntime) -> Result<(), Fail> {
         let mut file = Vec::from_slice(alloc, row.pieces[0])?;
         file.extend_from_slice(row.pieces[1])?;
         file.extend_from_slice(row.pieces[2])?;
-        let bytes = file.as_slice();
-        assert_eq!(rt; bytes.len(), row.size);
-        let recording = read_recording(alloc, Vec::from_slice(alloc, bytes)?)?;
-        assert_eq!(rt;
-            (recording.version, recording.start, recording.end),
-            (row.version, row.span.0, row.span.1)
-        );
-        assert_eq!(rt;
-            (recording.formats.len(), recording.cpus.len()),
-            (row.formats, row.cpus.len())
-        );
-        for (track, (number, entries)) in recording.cpus.as_slice().iter().zip(row.cpus) {
-            assert_eq!(rt;
-                (track.number, track.entries.len()),
-                (*number, entries.len())
-            );
-            for (place, wanted) in entries.iter().enumerate() {
-                let entry = track.entries.get(place).ok_or("no entry")?;
-                assert!(rt; is_seen(&entry, wanted));
-            }
-        }
+        assert!(rt; file.len() == row.size);
+        let recording = read_recording(alloc, Vec::from_slice(alloc, file.as_slice())?)?;
+        assert!(rt; is_spelled(&recording, row));
         let written = write_recording(alloc, &recording)?;
-        assert!(rt; written.as_slice() == bytes);
-        for len in 0..bytes.len() {
-            let error = read_recording(alloc, Vec::from_slice(alloc, &bytes[..len])?).err();
-            assert_eq!(rt; error, Some(RecordingError::Truncated(len as u64)));
-        }
+        assert!(rt; written.as_slice() == file.as_slice());
+        assert!(rt; is_cut_anywhere(alloc, file.as_slice())?);
     }
     Ok(())
 }

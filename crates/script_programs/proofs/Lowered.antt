@@ -11,7 +11,7 @@ use Rattle.bt_core.specs.declared.map.MapKind.TheVariants.{Ints, Strs, Aggs}
 use Rattle.bt_core.specs.declared.step.ObjectId.{ObjectId}
 use Rattle.bt_core.specs.declared.step.ObjectId.TheVariants.{Shared, Cpu, Clock, Out}
 use Rattle.bt_core.specs.declared.step.Op.{Op}
-use Rattle.bt_core.specs.declared.step.Op.TheVariants.{Get}
+use Rattle.bt_core.specs.declared.step.Op.TheVariants.{Get, Read}
 use Rattle.bt_core.specs.declared.step.Reply.{Reply}
 use Rattle.bt_core.specs.declared.step.Reply.TheVariants.{Done, Value as ValueReply, Pairs, Aggs as AggsReply, Last, Stopped}
 use Rattle.bt_core.specs.declared.value.Value.{Value}
@@ -34,7 +34,7 @@ use Rattle.ir_code.specs.declared.probe.IrProbe.{IrProbe}
 use Rattle.bt_lower.specs.Bodies.{IsLowered, LowersScript}
 use Rattle.body_code.specs.Bodies.{IsDeskFor, IsEventFor, KeepsBody}
 use Rattle.body_code.specs.Holding.{SameEnd}
-use Rattle.body_code.specs.Replies.{AnswersAt, AnswersOp, GivesValue, IsOwnReply, shape_held}
+use Rattle.body_code.specs.Replies.{AnswersAt, AnswersOp, AnswersTable, GivesValue, IsOwnReply, shape_held}
 use Rattle.helper_abi.specs.Reading.{shape_of_kind}
 use Rattle.body_code.specs.Words.{HasShape}
 use Rattle.replay_laws.specs.Agree.{Comes}
@@ -76,9 +76,13 @@ at_op : (maps : List MapDecl) (m : MapId) (op : Op) (reply : Reply) → IsSomeAn
 at_op maps m (Get key) reply is held = get_fits (slice_get maps m.0) key reply is held
 at_op maps m op reply is held = tt
 
+at_table : (op : Op) (reply : Reply) → IsHeldReply reply → AnswersTable op reply
+at_table (Read m) reply held = held
+at_table op reply held = tt
+
 at_object : (maps : List MapDecl) (object : ObjectId) (op : Op) (reply : Reply) → IsReplyOf maps object op reply → IsHeldReply reply → AnswersAt maps object op reply
 at_object maps (Shared m part) op reply is held = at_op maps m op reply is held
-at_object maps (Cpu actor) op reply is held = tt
+at_object maps (Cpu actor) op reply is held = at_table op reply held
 at_object maps Clock op reply is held = tt
 at_object maps Out op reply is held = tt
 

@@ -162,6 +162,8 @@ module _ (sh : Word → Shape) (t : Titles) where
   num_case (NumExpr-F.NumExpr::Var n) agree st = record { item = Slot Int; reads = ap (λ (h : Shape). push (Slot h) st) agree.0; worth = refl }
   num_case (NumExpr-F.NumExpr::Map m ks) agree st =
       record { item = Cell Int (values_need (firsts ks)); reads = cell_pushed m.0 (map made_of (firsts ks)) Int (values_need (firsts ks)) st agree.0 (values_pushed ks agree.1 st); worth = refl }
+  num_case (NumExpr-F.Agg m ks) agree st =
+      record { item = Cell Int (values_need (firsts ks)); reads = cell_pushed m.0 (map made_of (firsts ks)) Int (values_need (firsts ks)) st agree.0 (values_pushed ks agree.1 st); worth = refl }
   num_case (NumExpr-F.StepVar n plus prefix) agree st =
       record { item = Held (valued 8 (need 8 12)); reads = ap (λ (h : Shape). step sh (word_of t (Stepped plus prefix)) (push (Slot h) st)) agree.1.0; worth = refl }
   num_case (NumExpr-F.StepMap m ks plus prefix) agree st =

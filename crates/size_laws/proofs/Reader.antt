@@ -8,7 +8,7 @@ use Rattle.bt_ast.specs.declared.expr.Builtin.TheVariants.{Comm}
 use Rattle.bt_core.specs.declared.map.Shape.{Shape}
 use Rattle.bt_core.specs.declared.map.Shape.TheVariants.{Int, Str}
 use Rattle.bt_core.specs.declared.operator.BinOp.{BinOp}
-use Rattle.typed_tree.specs.Parts.{Part, FieldOf, VarOf, MapOf, Gathered}
+use Rattle.typed_tree.specs.Parts.{Part, FieldOf, VarOf, MapOf, AggOf, Gathered}
 use Rattle.typed_tree.specs.Scope.{is_count}
 use Rattle.expr_types.specs.Mentions.{Word, NumberWord, TextWord, BuiltinWord, FieldWord, VarWord, MapWord, StepWord, UnaryWord, BinaryWord, AndWord, OrWord, ChooseWord}
 use Rattle.expr_types.specs.Mentions.{AssignWord, GatherWord, DeleteWord, PrintfWord, ShowWord, ClearWord, ZeroWord, JumpWord, WhileWord, UnrollWord, ArmWord, ElseWord, NoElseWord, EndWord}
@@ -203,11 +203,12 @@ body_need sh (w ∷ ws) = greater (need 0 0) (several (read sh ws fresh).here)
 -- ---- words of parts
 
 module _ (sh : Word → Shape) (t : Titles) where
-  -- a part has the type that its word has; an aggregation has no number where it counts
+  -- a part has the type that its word has; one that gathers has no number where it counts
   abbrev pub Agrees : Part → Type 0
   Agrees (FieldOf f shape) = sh (word_of t (FieldOf f shape)) ≡ shape
   Agrees (VarOf number shape) = sh (word_of t (VarOf number shape)) ≡ shape
   Agrees (MapOf number keys shape) = sh (word_of t (MapOf number keys shape)) ≡ shape
+  Agrees (AggOf number keys) = sh (word_of t (AggOf number keys)) ≡ Int
   Agrees (Gathered number keys kind counts) = counts ≡ is_count kind
   Agrees p = Unit {0}
 

@@ -1,11 +1,14 @@
 -- The types of the parts of a tree are told by its words and what is known.
-use Rattle.std.proofs.Common.{◌≡◌, ℕ, Bool, true, false, List, [], ◌∷◌, map, Option, Some, unwrap_or, refl, sym, ap, ◌∙◌}
+use Rattle.std.proofs.Common.{◌≡◌, ℕ, Bool, true, false, List, [], ◌∷◌, map, Option, Some, None, unwrap_or, refl, sym, ap, ◌∙◌}
+use Rattle.std.specs.Prelude.{if◌then◌else◌}
 use Rattle.bt_core.specs.declared.map.MapDecl.{MapDecl}
+use Rattle.bt_core.specs.declared.map.MapKind.{MapKind}
+use Rattle.bt_core.specs.declared.map.MapKind.TheVariants.{Ints, Strs, Aggs}
 use Rattle.bt_core.specs.declared.map.Shape.{Shape}
 use Rattle.bt_core.specs.declared.map.Shape.TheVariants.{Int, Str}
 use Rattle.tracefs_format.specs.declared.field.Field.{Field}
-use Rattle.typed_tree.specs.Parts.{Part, FieldOf, VarOf, MapOf, Gathered}
-use Rattle.typed_tree.specs.Scope.{kind_of_shape, is_count, same_bool}
+use Rattle.typed_tree.specs.Parts.{Part, FieldOf, VarOf, MapOf, AggOf, Gathered}
+use Rattle.typed_tree.specs.Scope.{kind_of_shape, is_count, is_number, is_summed_kind, same_bool}
 use Rattle.expr_types.specs.declared.known.Known.{Known}
 use Rattle.expr_types.specs.declared.known.Var.{Var}
 use Rattle.expr_types.specs.Known.{shape_in, shape_of_kind, decl_shape, decl_in, field_shape, var_in}
@@ -29,6 +32,15 @@ held : (shape : Shape) → shape_of_kind (kind_of_shape shape) ≡ Some shape
 held Int = refl
 held Str = refl
 
+one_number : (b : Bool) → b ≡ true → unwrap_or (if b then Some Int else None) Int ≡ Int
+one_number true e = refl
+one_number false e = refl
+
+summed : (kind : MapKind) → is_summed_kind kind ≡ true → unwrap_or (shape_of_kind kind) Int ≡ Int
+summed (Aggs a) e = one_number (is_number a) e
+summed Ints e = refl
+summed Strs e = cc
+
 same : (a b : Bool) → same_bool a b ≡ true → a ≡ b
 same true b e = sym e
 same false true e = cc
@@ -44,6 +56,10 @@ agrees k apart (MapOf number keys shape) h =
     ap (λ (name : List ℕ). unwrap_or (decl_shape (decl_in name k.decided)) Int) (title_is k.names number h.name h.named.numbered)
     ∙ (ap (λ (o : Option MapDecl). unwrap_or (decl_shape o) Int) h.declared.found
     ∙ (ap (λ kind. unwrap_or (shape_of_kind kind) Int) h.declared.kinds ∙ ap (λ (o : Option Shape). unwrap_or o Int) (held shape)))
+agrees k apart (AggOf number keys) h =
+    ap (λ (name : List ℕ). unwrap_or (decl_shape (decl_in name k.decided)) Int) (title_is k.names number h.map.name h.map.named.numbered)
+    ∙ (ap (λ (o : Option MapDecl). unwrap_or (decl_shape o) Int) h.map.declared.found
+    ∙ (ap (λ kind. unwrap_or (shape_of_kind kind) Int) h.map.declared.kinds ∙ summed h.kind h.summed))
 agrees k apart (Gathered number keys kind counts) h = same counts (is_count kind) h.1
 agrees k apart p h = tt
 

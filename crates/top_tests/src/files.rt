@@ -25,13 +25,17 @@ pub const REST: &[u8] = b"\x01\0\0\0\x01\0\0\0\0\0\0\0\0\0\0\0bash\0\0\0\0\0\0\0
 /// The value 42.
 pub const VALUE: &[u8] = b"\x2a\0\0\0\0\0\0\0";
 
-/// The times 0, 1, 2 and 3.
-pub const TIMES: [&[u8]; 4] = [
-    b"\0\0\0\0\0\0\0\0",
-    b"\x01\0\0\0\0\0\0\0",
-    b"\x02\0\0\0\0\0\0\0",
-    b"\x03\0\0\0\0\0\0\0",
-];
+/// The time 0.
+pub const AT_0: &[u8] = b"\0\0\0\0\0\0\0\0";
+
+/// The time 1.
+pub const AT_1: &[u8] = b"\x01\0\0\0\0\0\0\0";
+
+/// The time 2.
+pub const AT_2: &[u8] = b"\x02\0\0\0\0\0\0\0";
+
+/// The time 3.
+pub const AT_3: &[u8] = b"\x03\0\0\0\0\0\0\0";
 
 /// What stands before the entries of the CPU 0 that has one.
 pub const FIRST_WITH_ONE: &[u8] = b"\0\0\0\0\x01\0\0\0";
@@ -41,7 +45,7 @@ pub const ONE: [&[u8]; 6] = [
     b"BTRACE01\x01\0\0\0",
     HEAD,
     FIRST_WITH_ONE,
-    TIMES[0],
+    AT_0,
     REST,
     VALUE,
 ];
@@ -51,11 +55,11 @@ pub const ONE_EACH: [&[u8]; 10] = [
     b"BTRACE01\x02\0\0\0",
     HEAD,
     FIRST_WITH_ONE,
-    TIMES[0],
+    AT_0,
     REST,
     VALUE,
     b"\x01\0\0\0\x01\0\0\0",
-    TIMES[0],
+    AT_0,
     REST,
     VALUE,
 ];

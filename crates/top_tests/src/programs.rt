@@ -1,5 +1,5 @@
 // The programs that are handed back: their listings, and how many instructions they take.
-use crate::files::{Answer, HEAD, REST, TIMES, answer_to, joined};
+use crate::files::{AT_0, AT_1, AT_2, Answer, HEAD, REST, answer_to, joined};
 use crate::machine::instructions_of;
 use std::test::Fail;
 use turn_lock::gate::Open;
@@ -38,13 +38,13 @@ const THREE_EVENTS: [&[u8]; 12] = [
     b"BTRACE01\x01\0\0\0",
     HEAD,
     b"\0\0\0\0\x03\0\0\0",
-    TIMES[0],
+    AT_0,
     REST,
     b"\x01\0\0\0\0\0\0\0",
-    TIMES[1],
+    AT_1,
     REST,
     b"\x02\0\0\0\0\0\0\0",
-    TIMES[2],
+    AT_2,
     REST,
     b"\xfc\xff\xff\xff\xff\xff\xff\xff",
 ];

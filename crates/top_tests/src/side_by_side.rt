@@ -1,5 +1,5 @@
 // That CPUs run side by side, each at an object of its own.
-use crate::files::{Answer, HEAD, ONE_EACH, REST, TIMES, VALUE, answer_to, joined};
+use crate::files::{AT_0, AT_1, Answer, HEAD, ONE_EACH, REST, VALUE, answer_to, joined};
 use bt_core::map::MapId;
 use bt_core::step::ObjectId;
 use std::sync::atomic::AtomicU64;
@@ -110,17 +110,17 @@ const TWO_EACH: [&[u8]; 16] = [
     b"BTRACE01\x02\0\0\0",
     HEAD,
     b"\0\0\0\0\x02\0\0\0",
-    TIMES[0],
+    AT_0,
     REST,
     VALUE,
-    TIMES[1],
+    AT_1,
     REST,
     VALUE,
     b"\x01\0\0\0\x02\0\0\0",
-    TIMES[0],
+    AT_0,
     REST,
     VALUE,
-    TIMES[1],
+    AT_1,
     REST,
     VALUE,
 ];

@@ -1,6 +1,6 @@
 // The steps that are handed back.
 use crate::files::{
-    Answer, FIRST_WITH_ONE, HEAD, ONE, ONE_EACH, REST, TIMES, VALUE, answer_to, joined,
+    AT_1, AT_2, AT_3, Answer, FIRST_WITH_ONE, HEAD, ONE, ONE_EACH, REST, VALUE, answer_to, joined,
 };
 use bt_core::step::Op;
 use std::test::Fail;
@@ -30,14 +30,14 @@ const MARKED_BETWEEN: [&[u8]; 14] = [
     HEAD,
     b"\0\0\0\0\x03\0\0\0",
     b"\0",
-    TIMES[1],
+    AT_1,
     REST,
     VALUE,
     b"\x01",
-    TIMES[2],
+    AT_2,
     FIVE_LOST,
     b"\0",
-    TIMES[3],
+    AT_3,
     REST,
     VALUE,
 ];
@@ -48,11 +48,11 @@ const MARKED_BEHIND: [&[u8]; 10] = [
     HEAD,
     b"\0\0\0\0\x02\0\0\0",
     b"\0",
-    TIMES[1],
+    AT_1,
     REST,
     VALUE,
     b"\x01",
-    TIMES[2],
+    AT_2,
     FIVE_LOST,
 ];
 

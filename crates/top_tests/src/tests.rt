@@ -1,7 +1,9 @@
 // Faults of files and sinks, want of memory, and a long recording.
 ghost use Rattle.std.specs.Prelude.{◌-◌, ◌^◌, None};
 
-use crate::files::{Answer, HEAD, REST, TIMES, VALUE, answer_to, files, joined, report_on};
+use crate::files::{
+    AT_0, AT_1, AT_2, Answer, HEAD, REST, VALUE, answer_to, files, joined, report_on,
+};
 use crate::machine::instructions_of;
 use bt_core::items::Items;
 use bt_io::mem_shelf::MemShelf;
@@ -38,13 +40,13 @@ const THREE: [&[u8]; 12] = [
     b"BTRACE01\x01\0\0\0",
     HEAD,
     b"\0\0\0\0\x03\0\0\0",
-    TIMES[0],
+    AT_0,
     REST,
     VALUE,
-    TIMES[1],
+    AT_1,
     REST,
     VALUE,
-    TIMES[2],
+    AT_2,
     REST,
     VALUE,
 ];

@@ -123,6 +123,7 @@ module _ (m : MapId) (one two : BodyScene) (like : AreLike one two) where
   num_case (NumExpr-F.NumExpr::Field f) q = looked_at-sure _ (λ frame. ap (field_number f) like.payload)
   num_case (NumExpr-F.NumExpr::Var n) q = looked_at-sure _ (λ frame. refl)
   num_case (NumExpr-F.NumExpr::Map n ks) q = absurd q.0
+  num_case (NumExpr-F.Agg n ks) q = absurd q.0
   num_case (NumExpr-F.StepVar n plus prefix) q = bind-sure _ _ (looked_at-sure _ (λ frame. refl)) (λ old. then-given (changed _) _ (changed-sure _))
   num_case (NumExpr-F.StepMap n ks plus prefix) q = absurd q.1.0
   num_case (NumExpr-F.Unary op d) q = then-given (number_does d.0) _ (d.1 q.1)

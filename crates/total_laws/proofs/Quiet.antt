@@ -3,7 +3,7 @@ use Rattle.std.specs.Prelude.{◌≡◌, List}
 use Rattle.std.specs.List.{AllByRecursion}
 use Rattle.typed_tree.specs.declared.expr.NumBuiltin.{NumBuiltin}
 use Rattle.typed_tree.specs.declared.expr.NumBuiltin.TheVariants as builtins
-use Rattle.typed_tree.specs.Parts.{Part, Numeric, MapOf, Deleted, Cleared, Zeroed, Jumped}
+use Rattle.typed_tree.specs.Parts.{Part, Numeric, MapOf, AggOf, Deleted, Cleared, Zeroed, Jumped}
 use Rattle.bt_meaning.specs.Totals.{StaysInBody}
 use Rattle.walk_meaning.specs.Does.{BodyScene}
 
@@ -28,6 +28,7 @@ IsQuietBuiltin one two builtin = Unit {0}
 abbrev pub IsQuiet : BodyScene → BodyScene → Part → Type 0
 IsQuiet one two (Numeric builtin) = IsQuietBuiltin one two builtin
 IsQuiet one two (MapOf number keys shape) = ⊥
+IsQuiet one two (AggOf number keys) = ⊥
 IsQuiet one two (Deleted number keys) = ⊥
 IsQuiet one two (Cleared number) = ⊥
 IsQuiet one two (Zeroed number) = ⊥

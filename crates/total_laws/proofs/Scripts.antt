@@ -19,7 +19,7 @@ use Rattle.typed_tree.specs.declared.expr.NumBuiltin.{NumBuiltin}
 use Rattle.typed_tree.specs.declared.expr.NumBuiltin.TheVariants as builtins
 use Rattle.typed_tree.specs.declared.script.Typed.{Typed}
 use Rattle.typed_tree.specs.Bodies.{scope_of, tree_parts}
-use Rattle.typed_tree.specs.Parts.{Part, Numeric, MapOf, Deleted, Cleared, Zeroed, Jumped}
+use Rattle.typed_tree.specs.Parts.{Part, Numeric, MapOf, AggOf, Deleted, Cleared, Zeroed, Jumped}
 use Rattle.typed_tree.specs.Scope.{Scope, all_fit, fits, decl_of, is_agg, is_declared, is_shared, kind_of_shape, same_kind, same_shapes}
 use Rattle.walk_meaning.proofs.Declared.{served}
 use Rattle.walk_meaning.specs.Walk.{walk}
@@ -73,6 +73,7 @@ module _ (one two : BodyScene) (scope : Scope) (gathers : (number : ℕ) → Gat
   quiet_part : (p : Part) → fits scope p ≡ true → Keeps p → SeesCpu p → IsQuiet one two p
   quiet_part (Numeric b) f k h = quiet_builtin b h
   quiet_part (MapOf number keys shape) f k h = none_declared (decl_of number scope.maps) (gathers number) shape keys f
+  quiet_part (AggOf number keys) f k h = k
   quiet_part (Deleted number keys) f k h = none_shared (decl_of number scope.maps) (gathers number) keys f
   quiet_part (Cleared number) f k h = k
   quiet_part (Zeroed number) f k h = k

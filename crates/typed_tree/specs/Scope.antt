@@ -1,5 +1,5 @@
 -- What a typed tree may name, and which parts fit it.
-use Rattle.std.specs.Prelude.{ℕ, ℤ, pos, Bool, true, false, ◌&&◌, ◌||◌, ◌==◌, ◌^◌, nat_le, int_le, int_lt, nat_lt, List, [], ◌∷◌, length, Option, Some, None, slice_get, if◌then◌else◌}
+use Rattle.std.specs.Prelude.{ℕ, ℤ, pos, Bool, true, false, not, ◌&&◌, ◌||◌, ◌==◌, ◌^◌, nat_le, int_le, int_lt, nat_lt, List, [], ◌∷◌, length, Option, Some, None, slice_get, if◌then◌else◌}
 use Rattle.std.specs.List.{list_all, list_any}
 use Rattle.std.specs.Str.{bytes_eq}
 use Rattle.bt_core.specs.declared.limits.TheConstants.{KEY_PARTS, LHIST_BUCKETS}
@@ -21,7 +21,7 @@ use Rattle.tracefs_format.specs.declared.field.FieldKind.TheVariants.{Number, Ch
 use Rattle.tracefs_format.specs.declared.layout.Layout.{Layout}
 use Rattle.typed_tree.specs.declared.stmt.Jump.{Jump}
 use Rattle.typed_tree.specs.declared.stmt.Jump.TheVariants.{Break, Continue, Exit, Return}
-use Rattle.typed_tree.specs.Parts.{Part, Constant, Literal, Numeric, Command, FieldOf, VarOf, MapOf, Stepped, Prefixed, Joined, Both, Either, Chosen}
+use Rattle.typed_tree.specs.Parts.{Part, Constant, Literal, Numeric, Command, FieldOf, VarOf, MapOf, AggOf, Stepped, Prefixed, Joined, Both, Either, Chosen}
 use Rattle.typed_tree.specs.Parts.{Assigned, Gathered, Deleted, Printed, Shown, Cleared, Zeroed, Jumped, Looped, Unrolled, Arm, Otherwise, NoOtherwise, Ending}
 
 -- the maps and formats that may be named, by their numbers in the script, the layout of the event, and the types of the variables
@@ -75,6 +75,23 @@ is_agg Strs = false
 abbrev pub is_count : AggKind → Bool
 is_count agg.Count = true
 is_count kind = false
+
+-- an aggregation that is one number, and no histogram
+abbrev pub is_number : AggKind → Bool
+is_number agg.Hist = false
+is_number (agg.Lhist min max step) = false
+is_number kind = true
+
+abbrev pub is_summed_kind : MapKind → Bool
+is_summed_kind (Aggs kind) = is_number kind
+is_summed_kind Ints = false
+is_summed_kind Strs = false
+
+-- an aggregation that is a histogram
+abbrev pub is_hist : MapKind → Bool
+is_hist (Aggs kind) = not (is_number kind)
+is_hist Ints = false
+is_hist Strs = false
 
 -- the bounds of a linear histogram: the greatest is above the least, and there are at most 1,000 steps of at least 1
 abbrev pub is_fine_agg : AggKind → Bool
@@ -130,6 +147,11 @@ abbrev pub is_shared : Option MapDecl → List Shape → Bool
 is_shared None keys = false
 is_shared (Some decl) keys = (if is_agg decl.kind then false else true) && same_shapes decl.key_shape keys
 
+-- an aggregation that is one number, with these keys
+abbrev pub is_summed : Option MapDecl → List Shape → Bool
+is_summed None keys = false
+is_summed (Some decl) keys = is_summed_kind decl.kind && same_shapes decl.key_shape keys
+
 abbrev pub is_there : {A : Type 0} → Option A → Bool
 is_there None = false
 is_there (Some a) = true
@@ -154,6 +176,7 @@ abbrev pub fits : Scope → Part → Bool
 fits s (FieldOf field shape) = has_field s.layout field && is_shape (shape_of_field field.kind) shape
 fits s (VarOf number shape) = is_shape (slice_get s.variables number) shape
 fits s (MapOf number keys shape) = is_declared (decl_of number s.maps) (kind_of_shape shape) keys
+fits s (AggOf number keys) = is_summed (decl_of number s.maps) keys
 fits s (Gathered number keys kind counts) = is_declared (decl_of number s.maps) (Aggs kind) keys && same_bool counts (is_count kind)
 fits s (Deleted number keys) = is_shared (decl_of number s.maps) keys
 fits s (Printed format shapes) = takes (format_of format s.formats) shapes

@@ -3,5 +3,6 @@
 
 pub mod body;
 pub mod expr;
+pub mod kind;
 pub mod script;
 pub mod stmt;

@@ -2,8 +2,4 @@
 #![tactic(auto)]
 
 #[cfg(test)]
-mod many;
-#[cfg(test)]
 mod rules;
-#[cfg(test)]
-mod scripts;

@@ -1,21 +1,27 @@
 -- What is asked by words, and by expressions.
-use Rattle.std.proofs.Common.{◌≡◌, ◌++◌, ℕ, ℤ, List, [], ◌∷◌, Bool, true, false, map, sym, ◌∙◌, subst, append_assoc, append-nil}
+use Rattle.std.proofs.Common.{◌≡◌, ◌++◌, ◌+◌, ◌<◌, ℕ, zero, suc, ℤ, List, [], ◌∷◌, Bool, true, false, map, sym, ◌∙◌, subst, append_assoc, append-nil, arith}
+use Rattle.std.specs.List.{AllByRecursion}
 use Rattle.std.specs.Prelude.{IsTrue}
 use Rattle.std.proofs.lemmas.Bool.{and_parts}
 use Rattle.std.proofs.lemmas.List.Folds.{list_all-append}
 use Rattle.bt_core.specs.declared.item.Item.{Item}
 use Rattle.bt_core.specs.declared.map.MapDecl.{MapDecl}
 use Rattle.bt_core.specs.declared.map.MapId.{MapId}
+use Rattle.bt_core.specs.declared.map.MapKind.{MapKind}
+use Rattle.bt_core.specs.declared.map.MapKind.TheVariants.{Ints, Strs, Aggs}
 use Rattle.bt_core.specs.declared.map.Shape.{Shape}
 use Rattle.bt_core.specs.declared.map.Shape.TheVariants as shapes
 use Rattle.bt_core.specs.declared.step.ObjectId.{ObjectId}
 use Rattle.bt_core.specs.declared.step.Op.{Op}
+use Rattle.bt_core.specs.declared.step.Reply.{Reply}
+use Rattle.bt_core.specs.declared.step.ObjectId.TheVariants.{Cpu}
+use Rattle.bt_core.specs.declared.step.Op.TheVariants as ops
 use Rattle.bt_core.specs.declared.step.Op.TheVariants.{Get, Set}
 use Rattle.bt_core.specs.declared.value.Value.{Value}
 use Rattle.bt_core.specs.declared.value.Value.TheVariants.{Int, Str}
 use Rattle.bt_core.specs.Interaction.{Interaction, Ended, Asks, and_then}
 use Rattle.bt_core.specs.Kinds.{HasShape, IsOfShape}
-use Rattle.bt_core.specs.Ports.{Setting, CanStep}
+use Rattle.bt_core.specs.Ports.{Setting, CanStep, IsReplyOf}
 use Rattle.typed_tree.specs.declared.expr.AnyExpr.{AnyExpr, roll-AnyExpr, map-AnyExpr, fold-roll-AnyExpr}
 use Rattle.typed_tree.specs.declared.expr.AnyExpr.TheOpen.{NumExpr-F, StrExpr-F, AnyExpr-F}
 use Rattle.typed_tree.specs.declared.expr.NumExpr.{NumExpr, roll-NumExpr, map-NumExpr, fold-roll-NumExpr, ind-NumExpr}
@@ -23,17 +29,21 @@ use Rattle.typed_tree.specs.declared.expr.StrExpr.{StrExpr, roll-StrExpr, map-St
 use Rattle.typed_tree.specs.declared.expr.AnyExpr.{ind-AnyExpr}
 use Rattle.typed_tree.specs.Parts as tree
 use Rattle.typed_tree.specs.Parts.{Made, Part, made_of, num_parts, str_parts, parts_in, key_shapes, keyed_parts}
-use Rattle.typed_tree.specs.Scope.{fits, all_fit, is_declared, decl_of, kind_of_shape}
+use Rattle.typed_tree.specs.Scope.{fits, all_fit, is_declared, is_summed, decl_of, kind_of_shape}
 use Rattle.walk_meaning.specs.declared.flow.Frame.{Frame}
 use Rattle.walk_meaning.specs.declared.view.View.{View}
 use Rattle.walk_meaning.specs.Admits.{AdmitsOf, EmitsOnly}
 use Rattle.walk_meaning.specs.Does.{BodyScene, Does, given, looked_at, changed, lifted, bind, choose, gathered, in_order, if_holds}
 use Rattle.walk_meaning.specs.Exprs.{read, value_by_parts, number_by_parts, text_by_parts, value_does, number_does, text_does, step_at}
-use Rattle.map_ops.specs.Asking.{tells, got}
-use Rattle.map_ops.specs.Holders.{part}
-use Rattle.walk_meaning.specs.Maps.{get, set}
+use Rattle.map_ops.specs.declared.sweep.Sweep.{Sweep}
+use Rattle.map_ops.specs.declared.sweep.Sweep.TheVariants.{Read, Clear, Zero}
+use Rattle.map_ops.specs.Asking.{tells, got, asked_from, swept, summed}
+use Rattle.map_ops.specs.Holders.{part, holder, holders, sweep_op, CanSweep}
+use Rattle.map_ops.proofs.Sweeping.{sweep_step}
+use Rattle.walk_meaning.specs.Maps.{get, set, sum_at}
 use Rattle.walk_meaning.specs.Served.{IsServed, Fits, scene_in, scope_in}
-use Rattle.walk_meaning.proofs.Declared.{HasShape-more, valued, get_can, set_can}
+use Rattle.walk_meaning.proofs.Declared.{HasShape-more, valued, summing, get_can, set_can, table_can}
+use Rattle.walk_meaning.proofs.TreeParts.{agg_head}
 
 -- a call that can be made, and what it emits is fine
 abbrev pub IsFineCall : Setting → (Item → Type 0) → ObjectId → Op → Type 0
@@ -43,6 +53,42 @@ pub Admits-bind : {A B : Type 0} (calls : ObjectId → Op → Type 0) (maps : Li
     → AdmitsOf calls maps holds t → ((a : A) → holds a → AdmitsOf calls maps after (k a)) → AdmitsOf calls maps after (and_then t k)
 Admits-bind calls maps holds after (Ended a) k p q = q a p
 Admits-bind calls maps holds after (Asks call next) k p q = (p.0, λ reply kind. Admits-bind calls maps holds after (next reply) k (p.1 reply kind) q)
+
+-- a reply of the kind that an operation has on one of these objects
+abbrev pub IsReplyIn : Setting → (ℕ → ObjectId) → Op → Reply → Type 0
+IsReplyIn setting object op reply = (i : ℕ) × IsReplyOf setting.maps (object i) op reply
+
+module _ (setting : Setting) (fine : Item → Type 0) where
+  abbrev Fine : {A : Type 0} → (A → Type 0) → Interaction A → Type 0
+  Fine holds t = AdmitsOf (IsFineCall setting fine) setting.maps holds t
+
+  one_more : (P : Reply → Type 0) (replies : List Reply) (reply : Reply) → AllByRecursion P replies → P reply → AllByRecursion P (replies ++ reply ∷ [])
+  one_more P [] reply h p = (p, tt)
+  one_more P (r ∷ rs) reply h p = (h.0, one_more P rs reply h.1 p)
+
+  pub asked_from-fine : (object : ℕ → ObjectId) (op : Op) (n first : ℕ) (replies : List Reply) → EmitsOnly fine op → ((i : ℕ) → i < first + n → CanStep setting (object i) op)
+      → AllByRecursion (IsReplyIn setting object op) replies → Fine (AllByRecursion (IsReplyIn setting object op)) (asked_from object op replies first n)
+  asked_from-fine object op zero first replies f can are = are
+  asked_from-fine object op (suc n) first replies f can are =
+      ((can first (omega arith), f), λ reply kind. asked_from-fine object op n (first + 1) (replies ++ reply ∷ []) f (λ i l. can i (omega (arith, l))) (one_more (IsReplyIn setting object op) replies reply are (first, kind)))
+
+  sweep_fine : (sweep : Sweep) (kind : MapKind) (m : MapId) → EmitsOnly fine (sweep_op sweep kind m)
+  sweep_fine Read Ints m = tt
+  sweep_fine Read Strs m = tt
+  sweep_fine Read (Aggs a) m = tt
+  sweep_fine Clear Ints m = tt
+  sweep_fine Clear Strs m = tt
+  sweep_fine Clear (Aggs a) m = tt
+  sweep_fine Zero Ints m = tt
+  sweep_fine Zero Strs m = tt
+  sweep_fine Zero (Aggs a) m = tt
+
+  -- each object of a sweep is asked what it takes
+  pub swept-fine : (sweep : Sweep) (kind : MapKind) (m : MapId) (actors : ℕ) → CanSweep setting m kind actors
+      → Fine (AllByRecursion (IsReplyIn setting (holder kind m) (sweep_op sweep kind m))) (swept sweep kind m actors)
+  swept-fine sweep kind m actors can =
+      asked_from-fine (holder kind m) (sweep_op sweep kind m) (holders kind actors) 0 [] (sweep_fine sweep kind m)
+      (λ i l. let below : i < holders kind actors = omega (arith, l) in sweep_step setting m sweep kind actors i can below) tt
 
 module _ (setting : Setting) (fine : Item → Type 0) (scene : BodyScene) where
   abbrev pub Good : {A : Type 0} → (A → Type 0) → Does A → Type 0
@@ -147,6 +193,13 @@ module _ (v : View) (setting : Setting) (served : IsServed v setting) (fine : It
   two-given : {A B C : Type 0} (d : Does A) (e : Does B) (f : A → B → C) → Does_good Free d → Does_good Free e → Does_good {A = C} Free (bind d (λ a. bind e (λ b. given (f a b))))
   two-given d e f p q = bind-good setting fine (scene_in v) Free Free d (λ a. bind e (λ b. given (f a b))) p (λ a h. then-given e (f a) q)
 
+  sum-good : (m : MapId) (ks : List ManyAny) (key : List Value) → IsTrue (is_summed (decl_of m.0 v.body.now.maps) (key_shapes (map made_of (firsts ks)))) → Does_good Free (sum_at m key)
+  sum-good m ks key d =
+      let found = summing v setting m (key_shapes (map made_of (firsts ks))) served d in
+      lifted-good setting fine (scene_in v) Free (λ scene. summed m key scene.actors)
+      (Admits-bind (IsFineCall setting fine) setting.maps (AllByRecursion (IsReplyIn setting Cpu (ops.Read m))) (λ (n : ℤ). Unit {0}) (asked_from Cpu (ops.Read m) [] 0 v.actors) _
+      (asked_from-fine setting fine Cpu (ops.Read m) v.actors 0 [] tt (λ i l. let below : i < v.actors = omega (arith, l) in table_can v setting m (key_shapes (map made_of (firsts ks))) i served found below) tt) (λ replies h. tt))
+
   step-good : (m : MapId) (ks : List ManyAny) (plus prefix : Bool) → Declares m ks shapes.Int → (key : List Value) → HasShape (key_shapes (map made_of (firsts ks))) key → Does_good Free (step_at m key plus prefix)
   step-good m ks plus prefix d key shaped =
       let found = valued v setting m _ shapes.Int served d in
@@ -163,6 +216,10 @@ module _ (v : View) (setting : Setting) (served : IsServed v setting) (fine : It
   num_case (NumExpr-F.NumExpr::Field f) fit = looked_at-good setting fine (scene_in v) _
   num_case (NumExpr-F.NumExpr::Var n) fit = looked_at-good setting fine (scene_in v) _
   num_case (NumExpr-F.NumExpr::Map m ks) fit = let p = map_fits m ks shapes.Int fit in then-given (read m (map value_does (firsts ks))) _ (read-good m ks shapes.Int p.0 p.1)
+  num_case (NumExpr-F.Agg m ks) fit =
+      let p = agg_head v m (map made_of (firsts ks)) fit in
+      bind-good setting fine (scene_in v) (HasShape (key_shapes (map made_of (firsts ks)))) Free (in_order (map value_does (firsts ks))) (λ key. sum_at m key) (values-good ks p.1)
+      (λ key shaped. sum-good m ks key p.0)
   num_case (NumExpr-F.StepVar n plus prefix) fit =
       bind-good setting fine (scene_in v) Free Free _ _ (looked_at-good setting fine (scene_in v) _) (λ old h. then-given (changed _) _ (changed-good setting fine (scene_in v) _))
   num_case (NumExpr-F.StepMap m ks plus prefix) fit =

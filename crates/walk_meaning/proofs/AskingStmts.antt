@@ -1,5 +1,5 @@
 -- What is asked by statements, and by whole bodies.
-use Rattle.std.proofs.Common.{◌≡◌, ◌++◌, ◌+◌, ◌<◌, ℕ, zero, suc, ℤ, pos, List, [], ◌∷◌, Option, Some, None, Bool, true, false, map, refl, sym, ap, subst, arith}
+use Rattle.std.proofs.Common.{◌≡◌, ◌++◌, ℕ, zero, suc, ℤ, pos, List, [], ◌∷◌, Option, Some, None, Bool, true, false, map, refl, sym, ap, subst}
 use Rattle.std.specs.Prelude.{IsTrue, is_none, int_le, nat_lt, ◌^◌}
 use Rattle.std.proofs.lemmas.Bool.{and_parts}
 use Rattle.std.specs.List.{AllByRecursion}
@@ -10,7 +10,6 @@ use Rattle.bt_core.specs.declared.map.Shape.{Shape}
 use Rattle.bt_core.specs.declared.map.MapDecl.{MapDecl}
 use Rattle.bt_core.specs.declared.map.MapId.{MapId}
 use Rattle.bt_core.specs.declared.map.MapKind.{MapKind}
-use Rattle.bt_core.specs.declared.map.MapKind.TheVariants.{Ints, Strs, Aggs}
 use Rattle.bt_core.specs.declared.map.Shape.TheVariants as shapes
 use Rattle.bt_core.specs.declared.step.ObjectId.{ObjectId}
 use Rattle.bt_core.specs.declared.step.ObjectId.TheVariants.{Clock, Out, Cpu}
@@ -21,7 +20,7 @@ use Rattle.bt_core.specs.declared.value.Value.{Value}
 use Rattle.bt_core.specs.declared.value.Value.TheVariants.{Int}
 use Rattle.bt_core.specs.Kinds.{HasShape, IsOfShape}
 use Rattle.bt_core.specs.Interaction.{Interaction, Ended, Asks}
-use Rattle.bt_core.specs.Ports.{Setting, CanStep, IsReplyOf}
+use Rattle.bt_core.specs.Ports.{Setting, CanStep}
 use Rattle.typed_tree.specs.declared.expr.AnyExpr.{AnyExpr}
 use Rattle.typed_tree.specs.declared.expr.NumExpr.{NumExpr}
 use Rattle.typed_tree.specs.declared.stmt.Jump.TheVariants as jumps
@@ -40,23 +39,18 @@ use Rattle.walk_meaning.specs.declared.flow.Flow.TheVariants.{Next, Break, Conti
 use Rattle.map_ops.specs.declared.sweep.Sweep.{Sweep}
 use Rattle.map_ops.specs.declared.sweep.Sweep.TheVariants.{Read, Clear, Zero}
 use Rattle.walk_meaning.specs.declared.view.View.{View}
-use Rattle.walk_meaning.specs.Admits.{Admits, AdmitsOf, EmitsOnly}
+use Rattle.walk_meaning.specs.Admits.{Admits, AdmitsOf}
 use Rattle.walk_meaning.specs.Does.{Does, given, changed, lifted, bind, in_order}
 use Rattle.walk_meaning.specs.Exprs.{value_does, values_do, number_does}
-use Rattle.map_ops.specs.Holders.{part, holder, holders, sweep_op, CanSweep}
+use Rattle.map_ops.specs.Holders.{part, holder, sweep_op, CanSweep}
 use Rattle.walk_meaning.specs.Maps.{get, set, delete, add, kind_in_body}
-use Rattle.map_ops.specs.Asking.{asked_from, tells, swept, printed}
-use Rattle.map_ops.proofs.Sweeping.{sweep_step}
+use Rattle.map_ops.specs.Asking.{tells, swept, printed}
 use Rattle.walk_meaning.specs.Stmts.{stmt_by_parts, block_by_parts, stmt_does, block_does, number_or_one, print, clear, zero_all, if_next, in_sequence, first_arm, arm_does, cut, entered, turn, turns, tests, while_true, again}
 use Rattle.walk_meaning.specs.Walk.{walk, first_frame, guarded, ending_of, tree_does}
 use Rattle.walk_meaning.specs.Served.{CanWalk, IsServed, Fits, scene_in, scope_in}
-use Rattle.walk_meaning.proofs.Asking.{IsFineCall, Admits-bind, Good, given-good, looked_at-good, changed-good, bind-good, lifted-good, told-good, if_holds-good, get-good, values-good, AnyGood, any_good, num_good, split, then-given}
+use Rattle.walk_meaning.proofs.Asking.{IsFineCall, IsReplyIn, swept-fine as any_swept-fine, Admits-bind, Good, given-good, looked_at-good, changed-good, bind-good, lifted-good, told-good, if_holds-good, get-good, values-good, AnyGood, any_good, num_good, split, then-given}
 use Rattle.walk_meaning.proofs.Declared.{shared, valued, gathering, get_can, set_can, delete_can, add_can, sweep_can}
 use Rattle.walk_meaning.proofs.TreeParts.{set_head, update_head, gather_head, delete_head}
-
--- a reply of the kind that an operation has on one of these objects
-abbrev pub IsReplyIn : Setting → (ℕ → ObjectId) → Op → Reply → Type 0
-IsReplyIn setting object op reply = (i : ℕ) × IsReplyOf setting.maps (object i) op reply
 
 abbrev pub view_of : TypedBody → Context → List ℕ → ℕ → ℕ → View
 view_of body context payload actor actors =
@@ -103,34 +97,11 @@ module _ (v : View) (setting : Setting) (served : IsServed v setting) (fine : It
   keys-good : (es : List AnyExpr) → Fits v (parts_in (map made_of es)) → Does_good (HasShape (key_shapes (map made_of es))) (in_order (values_do es))
   keys-good es = subst (λ (l : List AnyExpr). Fits v (parts_in (map made_of l)) → Does_good (HasShape (key_shapes (map made_of l))) (in_order (values_do l))) (pairs es) (values-good v setting served fine (map pair es))
 
-  one_more : (P : Reply → Type 0) (replies : List Reply) (reply : Reply) → AllByRecursion P replies → P reply → AllByRecursion P (replies ++ reply ∷ [])
-  one_more P [] reply h p = (p, tt)
-  one_more P (r ∷ rs) reply h p = (h.0, one_more P rs reply h.1 p)
-
-  asked_from-fine : (object : ℕ → ObjectId) (op : Op) (n first : ℕ) (replies : List Reply) → EmitsOnly fine op → ((i : ℕ) → i < first + n → CanStep setting (object i) op)
-      → AllByRecursion (IsReplyIn setting object op) replies → Fine (AllByRecursion (IsReplyIn setting object op)) (asked_from object op replies first n)
-  asked_from-fine object op zero first replies f can are = are
-  asked_from-fine object op (suc n) first replies f can are =
-      ((can first (omega arith), f), λ reply kind. asked_from-fine object op n (first + 1) (replies ++ reply ∷ []) f (λ i l. can i (omega (arith, l))) (one_more (IsReplyIn setting object op) replies reply are (first, kind)))
-
-  sweep_fine : (sweep : Sweep) (kind : MapKind) (m : MapId) → EmitsOnly fine (sweep_op sweep kind m)
-  sweep_fine Read Ints m = tt
-  sweep_fine Read Strs m = tt
-  sweep_fine Read (Aggs a) m = tt
-  sweep_fine Clear Ints m = tt
-  sweep_fine Clear Strs m = tt
-  sweep_fine Clear (Aggs a) m = tt
-  sweep_fine Zero Ints m = tt
-  sweep_fine Zero Strs m = tt
-  sweep_fine Zero (Aggs a) m = tt
-
   abbrev Swept : Sweep → MapKind → MapId → List Reply → Type 0
   Swept sweep kind m = AllByRecursion (IsReplyIn setting (holder kind m) (sweep_op sweep kind m))
 
   swept-fine : (sweep : Sweep) (kind : MapKind) (m : MapId) → CanSweep setting m kind v.actors → Fine (Swept sweep kind m) (swept sweep kind m v.actors)
-  swept-fine sweep kind m can =
-      asked_from-fine (holder kind m) (sweep_op sweep kind m) (holders kind v.actors) 0 [] (sweep_fine sweep kind m)
-      (λ i l. let below : i < holders kind v.actors = omega (arith, l) in sweep_step setting m sweep kind v.actors i can below) tt
+  swept-fine sweep kind m can = any_swept-fine setting fine sweep kind m v.actors can
 
   abbrev kind_here : MapId → MapKind
   kind_here m = kind_in_body m v.body.now.maps

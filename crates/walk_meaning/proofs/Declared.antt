@@ -16,13 +16,14 @@ use Rattle.bt_core.specs.declared.value.Value.TheVariants.{Int, Str}
 use Rattle.bt_core.specs.KeyBytes.{part_of}
 use Rattle.bt_core.specs.Kinds.{HasShape, IsOfShape, IsOfKind, IsShared, IsAggregation}
 use Rattle.bt_core.specs.declared.step.ObjectId.TheVariants.{Cpu}
-use Rattle.bt_core.specs.declared.step.Op.TheVariants.{Get, Set, Delete, Add}
+use Rattle.bt_core.specs.declared.step.Op.TheVariants.{Get, Set, Delete, Add, Read}
 use Rattle.bt_core.specs.Ports.{Setting, CanStep}
 use Rattle.tracefs_format.specs.declared.field.Field.{Field}
 use Rattle.tracefs_format.specs.declared.layout.Layout.{Layout}
 use Rattle.tracefs_format.specs.Sizes.{end_of, greatest_end}
 use Rattle.typed_tree.specs.Parts.{FieldOf}
-use Rattle.typed_tree.specs.Scope.{decl_of, same_shape, same_shapes, same_kind, same_field, same_field_kind, same_bool, has_field, is_shape, shape_of_field, is_agg, is_shared, is_there, is_declared, is_fine_decl, is_fine_kind, kind_of_shape, fits}
+use Rattle.typed_tree.specs.Scope.{decl_of, same_shape, same_shapes, same_kind, same_field, same_field_kind, same_bool, has_field, is_shape, shape_of_field, is_agg, is_shared, is_summed, is_summed_kind, is_there, is_declared, is_fine_decl, is_fine_kind, kind_of_shape, fits}
+use Rattle.typed_tree.proofs.Summed.{summed_kind}
 use Rattle.std.specs.Str.{bytes_eq}
 use Rattle.walk_meaning.specs.declared.view.View.{View}
 use Rattle.map_ops.specs.Holders.{part, kind_in, CanSweep}
@@ -131,6 +132,24 @@ of_agg : (k : MapKind) (a : AggKind) → same_kind k (Aggs a) ≡ true → IsAgg
 of_agg Ints a e = cc
 of_agg Strs a e = cc
 of_agg (Aggs b) a e = tt
+
+summed_case : (v : View) (setting : Setting) (m : MapId) (keys : List Shape) (o : Option MapDecl) → IsServed v setting → decl_of m.0 v.body.now.maps ≡ o → is_summed o keys ≡ true → Found setting m keys IsAggregation
+summed_case v setting m keys None s h e = cc
+summed_case v setting m keys (Some decl) s h e =
+    let p = and_parts (is_summed_kind decl.kind) (same_shapes decl.key_shape keys) e in
+    found v setting m keys IsAggregation decl s h p.1 (summed_kind decl.kind p.0)
+
+pub summing : (v : View) (setting : Setting) (m : MapId) (keys : List Shape) → IsServed v setting → IsTrue (is_summed (decl_of m.0 v.body.now.maps) keys) → Found setting m keys IsAggregation
+summing v setting m keys s h = summed_case v setting m keys (decl_of m.0 v.body.now.maps) s refl h
+
+-- what such an aggregation holds
+pub summed_here : (o : Option MapDecl) (keys : List Shape) → is_summed o keys ≡ true → IsAggregation (kind_in o)
+summed_here None keys e = cc
+summed_here (Some decl) keys e = summed_kind decl.kind (and_parts (is_summed_kind decl.kind) (same_shapes decl.key_shape keys) e).0
+
+-- the tables of all actors can be read
+pub table_can : (v : View) (setting : Setting) (m : MapId) (keys : List Shape) (n : ℕ) → IsServed v setting → Found setting m keys IsAggregation → n < v.actors → CanStep setting (Cpu n) (Read m)
+table_can v setting m keys n s f h = (omega (arith, h, s.can.actors_are_the_ports), rw f.here f.kind)
 
 declared_case : (v : View) (setting : Setting) (m : MapId) (keys : List Shape) (kind : MapKind) (holds : MapKind → Type 0) → ((k : MapKind) → same_kind k kind ≡ true → holds k) → (o : Option MapDecl) → IsServed v setting →
     decl_of m.0 v.body.now.maps ≡ o → is_declared o kind keys ≡ true → Found setting m keys holds

@@ -14,7 +14,7 @@ use Rattle.typed_tree.specs.declared.expr.NumExpr.TheVariants as nums
 use Rattle.typed_tree.specs.declared.expr.StrExpr.{StrExpr, fold-roll-StrExpr}
 use Rattle.typed_tree.specs.declared.expr.StrExpr.TheVariants as strs
 use Rattle.walk_meaning.specs.Does.{Does, given, if_holds}
-use Rattle.walk_meaning.specs.Exprs.{value_by_parts, number_by_parts, text_by_parts, value_does, number_does, text_does, values_do, builtin, command, number_field, text_field, before, both, texts_compared, and_also, or_else, read_number, read_text, step_variable, step_map, number_value, text_value}
+use Rattle.walk_meaning.specs.Exprs.{value_by_parts, number_by_parts, text_by_parts, value_does, number_does, text_does, values_do, builtin, command, number_field, text_field, before, both, texts_compared, and_also, or_else, read_number, read_agg, read_text, step_variable, step_map, number_value, text_value}
 use Rattle.walk_meaning.specs.Maps.{number_variable, text_variable}
 
 num_Number : (n : ℤ) → number_does (nums.Number n) ≡ given n
@@ -46,6 +46,12 @@ num_Map m keys = ap number_does (sym (nums.rolls-Map m keys)) ∙ fold-roll-NumE
 
 pub map_num : (e : NumExpr) (m : MapId) (keys : List AnyExpr) (keys1 : List AnyExpr) → e ≡ (nums.Map m keys) → keys1 ≡ keys → number_does e ≡ read_number m (values_do keys1)
 map_num e m keys keys1 h p0 = ap number_does h ∙ num_Map m keys ∙ ap (λ (u : List AnyExpr). read_number m (values_do u)) (sym p0)
+
+num_Agg : (m : MapId) (keys : List AnyExpr) → number_does (nums.Agg m keys) ≡ read_agg m (values_do keys)
+num_Agg m keys = ap number_does (sym (nums.rolls-Agg m keys)) ∙ fold-roll-NumExpr (Does Value) (Does ℤ) (Does (List ℕ)) value_by_parts number_by_parts text_by_parts (NumExpr-F.Agg m keys)
+
+pub agg_num : (e : NumExpr) (m : MapId) (keys : List AnyExpr) (keys1 : List AnyExpr) → e ≡ (nums.Agg m keys) → keys1 ≡ keys → number_does e ≡ read_agg m (values_do keys1)
+agg_num e m keys keys1 h p0 = ap number_does h ∙ num_Agg m keys ∙ ap (λ (u : List AnyExpr). read_agg m (values_do u)) (sym p0)
 
 num_StepVar : (x : ℕ) (plus : Bool) (prefix : Bool) → number_does (nums.StepVar x plus prefix) ≡ step_variable x plus prefix
 num_StepVar x plus prefix = ap number_does (sym (nums.rolls-StepVar x plus prefix)) ∙ fold-roll-NumExpr (Does Value) (Does ℤ) (Does (List ℕ)) value_by_parts number_by_parts text_by_parts (NumExpr-F.StepVar x plus prefix)

@@ -1,6 +1,6 @@
 -- Items that a walk emits are of the script's formats and maps.
-use Rattle.std.proofs.Common.{◌≡◌, ◌++◌, ℕ, suc, ℤ, pos, List, [], ◌∷◌, Option, Some, None, All, refl, sym, ◌∙◌, subst, arith, rules}
-use Rattle.std.specs.Prelude.{IsTrue, IsSomeAnd, slice_get, int_le, ◌≤ℤ◌, ◌==◌, if◌then◌else◌}
+use Rattle.std.proofs.Common.{◌≡◌, ℕ, suc, ℤ, pos, List, [], ◌∷◌, Option, Some, None, All, refl, sym, subst, arith, rules}
+use Rattle.std.specs.Prelude.{IsTrue, IsSomeAnd, slice_get, int_le, ◌≤ℤ◌, ◌==◌}
 use Rattle.std.specs.List.{AllByRecursion}
 use Rattle.std.proofs.lemmas.List.Elements.{All-from_recursion}
 use Rattle.bt_core.specs.declared.context.Context.{Context}
@@ -28,7 +28,8 @@ use Rattle.map_ops.specs.Holders.{holder, kind_in, sweep_op}
 use Rattle.walk_meaning.specs.Walk.{walk}
 use Rattle.walk_meaning.specs.Served.{CanWalk}
 use Rattle.walk_meaning.proofs.Asking.{IsFineCall}
-use Rattle.walk_meaning.proofs.AskingStmts.{IsReplyIn, walk-fine, weaker-calls}
+use Rattle.walk_meaning.proofs.Asking.{IsReplyIn}
+use Rattle.walk_meaning.proofs.AskingStmts.{walk-fine, weaker-calls}
 use Rattle.walk_meaning.proofs.Declared.{same_shapes-equal, served, served_pick}
 
 -- what is found of a list by its number stands in the script's list there

@@ -1,38 +1,52 @@
 -- Expressions do the same by another way of reading that reads alike what can come.
-use Rattle.std.proofs.Common.{◌≡◌, ◌++◌, ℕ, ℤ, pos, List, [], ◌∷◌, Bool, true, false, map, refl, sym, ◌∙◌, subst}
+use Rattle.std.proofs.Common.{◌≡◌, ◌++◌, ◌+◌, ℕ, zero, suc, ℤ, pos, List, [], ◌∷◌, Bool, true, false, map, refl, sym, ap, ◌∙◌, subst}
 use Rattle.std.specs.Prelude.{IsTrue, cond}
+use Rattle.std.specs.List.{flat_map}
+use Rattle.std.proofs.lemmas.List.Concat.{flat_map-append}
 use Rattle.std.proofs.lemmas.Bool.{and_parts}
 use Rattle.std.proofs.lemmas.List.Folds.{list_all-append}
+use Rattle.bt_core.specs.declared.item.Cell.{Cell}
 use Rattle.bt_core.specs.declared.map.MapId.{MapId}
+use Rattle.bt_core.specs.declared.map.MapKind.{MapKind}
+use Rattle.bt_core.specs.declared.map.MapKind.TheVariants.{Ints, Strs, Aggs}
+use Rattle.bt_core.specs.Kinds.{IsAggregation}
 use Rattle.bt_core.specs.declared.map.Shape.{Shape}
 use Rattle.bt_core.specs.declared.map.Shape.TheVariants as shapes
 use Rattle.bt_core.specs.declared.step.ObjectId.{ObjectId}
 use Rattle.bt_core.specs.declared.step.Op.{Op}
+use Rattle.bt_core.specs.declared.step.ObjectId.TheVariants.{Cpu}
 use Rattle.bt_core.specs.declared.step.Op.TheVariants.{Get}
+use Rattle.bt_core.specs.declared.step.Op.TheVariants as ops
 use Rattle.bt_core.specs.declared.step.Reply.{Reply}
 use Rattle.bt_core.specs.declared.value.Value.{Value}
 use Rattle.bt_core.specs.declared.value.Value.TheVariants.{Int, Str}
-use Rattle.bt_core.specs.Interaction.{Call}
-use Rattle.map_rows.specs.Merged.{rows_in}
+use Rattle.bt_core.specs.Interaction.{Interaction, Ended, Call}
+use Rattle.map_rows.specs.Merged.{agg_rows, rows_in, merged_rows}
+use Rattle.map_rows.specs.UnderKey.{number_under as number_in}
 use Rattle.typed_tree.specs.declared.expr.AnyExpr.{AnyExpr, roll-AnyExpr, map-AnyExpr, fold-roll-AnyExpr, ind-AnyExpr}
 use Rattle.typed_tree.specs.declared.expr.AnyExpr.TheOpen.{NumExpr-F, StrExpr-F, AnyExpr-F}
 use Rattle.typed_tree.specs.declared.expr.NumExpr.{NumExpr, roll-NumExpr, map-NumExpr, fold-roll-NumExpr, ind-NumExpr}
 use Rattle.typed_tree.specs.declared.expr.StrExpr.{StrExpr, roll-StrExpr, map-StrExpr, fold-roll-StrExpr}
 use Rattle.typed_tree.specs.Parts as tree
 use Rattle.typed_tree.specs.Parts.{Made, Part, made_of, num_parts, str_parts, parts_in, key_shapes, keyed_parts}
-use Rattle.typed_tree.specs.Scope.{fits, all_fit, is_declared, is_there, decl_of, kind_of_shape}
+use Rattle.typed_tree.specs.Scope.{fits, all_fit, is_declared, is_summed, is_there, decl_of, kind_of_shape}
 use Rattle.walk_meaning.specs.declared.flow.Frame.{Frame}
 use Rattle.map_ops.specs.declared.sweep.Sweep.TheVariants.{Read}
 use Rattle.walk_meaning.specs.declared.view.View.{View}
 use Rattle.walk_meaning.specs.Does.{BodyScene, Does, given, lifted, bind, then, choose, gathered, in_order, if_holds}
 use Rattle.walk_meaning.specs.Exprs.{read, builtin, command, number_field, text_field, step_variable, value_by_parts, number_by_parts, text_by_parts, value_does, number_does, text_does, step_at}
 use Rattle.map_ops.specs.Values.{number_of, text_of, value_of, next}
-use Rattle.walk_meaning.specs.Maps.{number_variable, text_variable, get, set, kind_in_body}
-use Rattle.map_ops.specs.Holders.{part, holder, sweep_op}
-use Rattle.walk_meaning.specs.Reading.{Reader, number_under, text_under, stepped_under, num_by, str_by, value_by, number_by, text_by}
+use Rattle.walk_meaning.specs.Maps.{number_variable, text_variable, get, set, kind_in_body, sum_at}
+use Rattle.map_ops.specs.Asking.{asked_from, swept, summed}
+use Rattle.map_ops.specs.Holders.{part, holder, holders, sweep_op}
+use Rattle.walk_meaning.specs.Reading.{Reader, number_under, text_under, stepped_under, summed_by, summed_under, num_by, str_by, value_by, number_by, text_by}
 use Rattle.bt_core.specs.Same.{SameTo}
 use Rattle.walk_meaning.specs.Served.{Fits, scene_in, scope_in}
+use Rattle.typed_tree.proofs.Summed.{summed_there}
 use Rattle.bt_core.proofs.SameLaws.{SameTo-self, SameTo-and_then, SameTo-mapped}
+use Rattle.map_ops.proofs.AggSums.{rows_same}
+use Rattle.walk_meaning.proofs.Declared.{summed_here}
+use Rattle.walk_meaning.proofs.TreeParts.{agg_head}
 
 abbrev pub call_at : ObjectId → Op → Call
 call_at object op = record { object = object; op = op }
@@ -153,6 +167,61 @@ module _ (comes : Call → Reply → Type 0) (reader : Reader) (v : View) (reads
       bind-tied comes (scene_in v) (λ (n : ℤ) (value : Value). n ≡ number_of value) (λ (a b : ℤ). a ≡ b) (number_under reader m key) (get m key) _ _ (number-tied m keys key d)
       (λ n value h. subst (λ (x : ℤ). Same (then (set m key (Int (next plus n))) (given (cond prefix (next plus n) n))) (then (set m key (Int (next plus x))) (given (cond prefix (next plus x) x)))) h (self-tied comes (scene_in v) (then (set m key (Int (next plus n))) (given (cond prefix (next plus n) n)))))
 
+  -- ---- the rows of a map
+
+  -- replies that have the same rows by both ways
+  abbrev pub Rows : MapKind → List Reply → List Reply → Type 0
+  Rows kind rs qs = (rs ≡ qs) × (flat_map (reader.rows kind) rs ≡ flat_map (rows_in kind) rs)
+
+  rows-more : (kind : MapKind) (rs : List Reply) (r : Reply) → flat_map (reader.rows kind) rs ≡ flat_map (rows_in kind) rs → reader.rows kind r ≡ rows_in kind r → flat_map (reader.rows kind) (rs ++ r ∷ []) ≡ flat_map (rows_in kind) (rs ++ r ∷ [])
+  rows-more kind rs r h e =
+      flat_map-append (reader.rows kind) rs (r ∷ []) ∙ ap (λ (l : List (List Value × Cell)). l ++ (reader.rows kind r ++ [])) h ∙ ap (λ (l : List (List Value × Cell)). flat_map (rows_in kind) rs ++ (l ++ [])) e ∙
+      sym (flat_map-append (rows_in kind) rs (r ∷ []))
+
+  asked_from-same : (kind : MapKind) (object : ℕ → ObjectId) (op : Op) (n start : ℕ) (replies : List Reply) → ((i : ℕ) (reply : Reply) → comes (call_at (object i) op) reply → reader.rows kind reply ≡ rows_in kind reply) →
+      flat_map (reader.rows kind) replies ≡ flat_map (rows_in kind) replies → SameTo comes (Rows kind) (asked_from object op replies start n) (asked_from object op replies start n)
+  asked_from-same kind object op zero start replies alike h = (refl, h)
+  asked_from-same kind object op (suc n) start replies alike h =
+      (refl, λ r i. asked_from-same kind object op n (start + 1) (replies ++ r ∷ []) alike (rows-more kind replies r h (alike start r i)))
+
+  abbrev kind_here : MapId → MapKind
+  kind_here m = kind_in_body m v.body.now.maps
+
+  pub swept-same : (m : MapId) → IsTrue (is_there (decl_of m.0 v.body.now.maps)) → SameTo comes (Rows (kind_here m)) (swept Read (kind_here m) m v.actors) (swept Read (kind_here m) m v.actors)
+  swept-same m named =
+      asked_from-same (kind_here m) (holder (kind_here m) m) (sweep_op Read (kind_here m) m) (holders (kind_here m) v.actors) 0 [] (λ i reply h. reads.rows m i reply named h) refl
+
+  pub lifted-same : {A : Type 0} (t u : BodyScene → Interaction A) → SameTo comes (λ (a b : A). a ≡ b) (t (scene_in v)) (u (scene_in v)) → Same (lifted t) (lifted u)
+  unfolding lifted
+  lifted-same {A} t u p frame =
+      SameTo-and_then comes (λ (a b : A). a ≡ b) (Ends comes (scene_in v) (λ (a b : A). a ≡ b)) (t (scene_in v)) (u (scene_in v)) (λ value. Ended (value, frame)) (λ value. Ended (value, frame)) p (λ a b h. (h, refl))
+
+  -- ---- aggregations that are read
+
+  number-same : (key : List Value) (kind : MapKind) → IsAggregation kind → (rs qs : List Reply) → Rows kind rs qs → number_in key (merged_rows (flat_map (reader.rows kind) rs)) ≡ number_in key (merged_rows (flat_map agg_rows qs))
+  number-same key Ints g rs qs h = absurd g
+  number-same key Strs g rs qs h = absurd g
+  number-same key (Aggs a) g rs qs h =
+      ap (λ (rows : List (List Value × Cell)). number_in key (merged_rows rows))
+      (h.1 ∙ ap (λ (l : List Reply). flat_map (rows_in (Aggs a)) l) h.0 ∙ ap (λ (f : Reply → List (List Value × Cell)). flat_map f qs) (λ i r. rows_same a r i))
+
+  tables-alike : (m : MapId) (kind : MapKind) → IsAggregation kind → ((n : ℕ) (reply : Reply) → comes (call_at (holder kind m n) (sweep_op Read kind m)) reply → reader.rows kind reply ≡ rows_in kind reply) →
+      (n : ℕ) (reply : Reply) → comes (call_at (Cpu n) (ops.Read m)) reply → reader.rows kind reply ≡ rows_in kind reply
+  tables-alike m Ints g p n reply h = absurd g
+  tables-alike m Strs g p n reply h = absurd g
+  tables-alike m (Aggs a) g p n reply h = p n reply h
+
+  summed-same : (m : MapId) (key : List Value) → IsTrue (is_there (decl_of m.0 v.body.now.maps)) → IsAggregation (kind_here m) → SameTo comes (λ (a b : ℤ). a ≡ b) (summed_by reader (kind_here m) m key v.actors) (summed m key v.actors)
+  summed-same m key named gathers =
+      SameTo-and_then comes (Rows (kind_here m)) (λ (a b : ℤ). a ≡ b) (asked_from Cpu (ops.Read m) [] 0 v.actors) (asked_from Cpu (ops.Read m) [] 0 v.actors)
+      (λ rs. Ended (number_in key (merged_rows (flat_map (reader.rows (kind_here m)) rs)))) (λ qs. Ended (number_in key (merged_rows (flat_map agg_rows qs))))
+      (asked_from-same (kind_here m) Cpu (ops.Read m) v.actors 0 [] (tables-alike m (kind_here m) gathers (λ n reply h. reads.rows m n reply named h)) refl) (number-same key (kind_here m) gathers)
+
+  sum-same : (m : MapId) (keys : List Shape) (key : List Value) → IsTrue (is_summed (decl_of m.0 v.body.now.maps) keys) → Same (summed_under reader m key) (sum_at m key)
+  sum-same m keys key d =
+      lifted-same (λ scene. summed_by reader (kind_in_body m scene.maps) m key scene.actors) (λ scene. summed m key scene.actors)
+      (summed-same m key (summed_there (decl_of m.0 v.body.now.maps) keys d) (summed_here (decl_of m.0 v.body.now.maps) keys d))
+
   two-same : {A B C : Type 0} (d d' : Does A) (e e' : Does B) (f : A → B → C) → Same d d' → Same e e' → Same (bind d (λ a. bind e (λ b. given (f a b)))) (bind d' (λ a. bind e' (λ b. given (f a b))))
   two-same {A} {B} {C} d d' e e' f p q = bind-same comes (scene_in v) (λ (a b : C). a ≡ b) d d' _ _ p (λ a. first-same comes (scene_in v) e e' (λ b. given (f a b)) q)
 
@@ -170,6 +239,10 @@ module _ (comes : Call → Reply → Type 0) (reader : Reader) (v : View) (reads
       let p = map_fits m ks shapes.Int fit in
       mapped-tied comes (scene_in v) (λ (n : ℤ) (value : Value). n ≡ number_of value) (bind (in_order (map (value_by reader) (firsts ks))) (number_under reader m)) (read m (map value_does (firsts ks))) number_of
       (under-tied (λ (n : ℤ) (value : Value). n ≡ number_of value) m ks (number_under reader m) p.1 (λ key. number-tied m _ key p.0)) (λ n value h. h)
+  num_case (NumExpr-F.Agg m ks) fit =
+      let p = agg_head v m (map made_of (firsts ks)) fit in
+      bind-same comes (scene_in v) (λ (a b : ℤ). a ≡ b) (in_order (map (value_by reader) (firsts ks))) (in_order (map value_does (firsts ks))) (summed_under reader m) (λ key. sum_at m key) (values-same ks p.1)
+      (λ key. sum-same m (key_shapes (map made_of (firsts ks))) key p.0)
   num_case (NumExpr-F.StepVar n plus prefix) fit = self-tied comes (scene_in v) (step_variable n plus prefix)
   num_case (NumExpr-F.StepMap m ks plus prefix) fit =
       let p = map_fits m ks shapes.Int fit in

@@ -1,9 +1,8 @@
 -- Statements and whole bodies do the same by another way of reading that reads alike what can come.
-use Rattle.std.proofs.Common.{◌≡◌, ◌++◌, ◌+◌, ℕ, zero, suc, ℤ, pos, List, [], ◌∷◌, Option, Some, None, Bool, true, false, map, refl, sym, ap, ◌∙◌, subst}
+use Rattle.std.proofs.Common.{◌≡◌, ◌++◌, ℕ, zero, suc, ℤ, pos, List, [], ◌∷◌, Option, Some, None, Bool, true, false, map, refl, sym, ap, ◌∙◌, subst}
 use Rattle.std.specs.Prelude.{IsTrue, is_none}
 use Rattle.std.specs.List.{flat_map}
 use Rattle.std.proofs.lemmas.Bool.{and_parts}
-use Rattle.std.proofs.lemmas.List.Concat.{flat_map-append}
 use Rattle.bt_core.specs.declared.ending.Ending.{Ending}
 use Rattle.bt_core.specs.declared.item.Cell.{Cell}
 use Rattle.bt_core.specs.declared.item.Item.TheVariants as items
@@ -13,9 +12,7 @@ use Rattle.bt_core.specs.declared.map.MapKind.TheVariants.{Ints}
 use Rattle.bt_core.specs.declared.map.Shape.{Shape}
 use Rattle.bt_core.specs.declared.map.Shape.TheVariants as shapes
 use Rattle.bt_core.specs.declared.operator.BinOp.{BinOp}
-use Rattle.bt_core.specs.declared.step.ObjectId.{ObjectId}
 use Rattle.bt_core.specs.declared.step.ObjectId.TheVariants.{Out}
-use Rattle.bt_core.specs.declared.step.Op.{Op}
 use Rattle.bt_core.specs.declared.step.Op.TheVariants as ops
 use Rattle.bt_core.specs.declared.step.Reply.{Reply}
 use Rattle.bt_core.specs.declared.value.Value.{Value}
@@ -42,15 +39,14 @@ use Rattle.walk_meaning.specs.Does.{BodyScene, Does, given, looked_at, changed, 
 use Rattle.walk_meaning.specs.Exprs.{value_does, values_do, number_does}
 use Rattle.map_ops.specs.Values.{number_of}
 use Rattle.walk_meaning.specs.Maps.{get, set, kind_in_body}
-use Rattle.map_ops.specs.Holders.{holder, holders, sweep_op}
-use Rattle.map_ops.specs.Asking.{asked_from, tells, swept, printed}
+use Rattle.map_ops.specs.Asking.{tells, swept, printed}
 use Rattle.walk_meaning.specs.Reading.{Reader, number_under, updated_under, value_by, values_by, number_by, number_or_one_by, printed_by, print_by, arm_by, stmt_by, block_by, guarded_by, tree_by, walk_by}
 use Rattle.bt_core.specs.Same.{SameTo}
 use Rattle.walk_meaning.specs.Stmts.{plain, stmt_by_parts, block_by_parts, stmt_does, block_does, number_or_one, print, clear, zero_all, jump_to, cut, update_at, if_next, in_sequence, first_arm, arm_does, entered, turn, turns, tests, while_true, again}
 use Rattle.walk_meaning.specs.Walk.{walk, first_frame, guarded, tree_does}
 use Rattle.walk_meaning.specs.Served.{Fits, scene_in, scope_in}
 use Rattle.bt_core.proofs.SameLaws.{SameTo-self, SameTo-and_then}
-use Rattle.walk_meaning.proofs.ReadExprs.{ReadsAlike, call_at, Ends, Tied, self-tied, bind-tied, bind-same, first-same, if_holds-tied, AnyRead, any_read, num_read, halves, values-same, number-tied}
+use Rattle.walk_meaning.proofs.ReadExprs.{ReadsAlike, Ends, Tied, self-tied, bind-tied, bind-same, first-same, if_holds-tied, AnyRead, any_read, num_read, halves, values-same, number-tied, Rows, swept-same, lifted-same}
 use Rattle.walk_meaning.proofs.TreeParts.{update_head}
 
 module _ (comes : Call → Reply → Type 0) (reader : Reader) (v : View) (reads : ReadsAlike comes reader v) where
@@ -85,32 +81,13 @@ module _ (comes : Call → Reply → Type 0) (reader : Reader) (v : View) (reads
 
   -- ---- the rows of a map
 
-  -- replies that have the same rows by both ways
-  abbrev Rows : MapKind → List Reply → List Reply → Type 0
-  Rows kind rs qs = (rs ≡ qs) × (flat_map (reader.rows kind) rs ≡ flat_map (rows_in kind) rs)
-
-  rows-more : (kind : MapKind) (rs : List Reply) (r : Reply) → flat_map (reader.rows kind) rs ≡ flat_map (rows_in kind) rs → reader.rows kind r ≡ rows_in kind r → flat_map (reader.rows kind) (rs ++ r ∷ []) ≡ flat_map (rows_in kind) (rs ++ r ∷ [])
-  rows-more kind rs r h e =
-      flat_map-append (reader.rows kind) rs (r ∷ []) ∙ ap (λ (l : List (List Value × Cell)). l ++ (reader.rows kind r ++ [])) h ∙ ap (λ (l : List (List Value × Cell)). flat_map (rows_in kind) rs ++ (l ++ [])) e ∙
-      sym (flat_map-append (rows_in kind) rs (r ∷ []))
-
-  asked_from-same : (kind : MapKind) (object : ℕ → ObjectId) (op : Op) (n start : ℕ) (replies : List Reply) → ((i : ℕ) (reply : Reply) → comes (call_at (object i) op) reply → reader.rows kind reply ≡ rows_in kind reply) →
-      flat_map (reader.rows kind) replies ≡ flat_map (rows_in kind) replies → SameTo comes (Rows kind) (asked_from object op replies start n) (asked_from object op replies start n)
-  asked_from-same kind object op zero start replies alike h = (refl, h)
-  asked_from-same kind object op (suc n) start replies alike h =
-      (refl, λ r i. asked_from-same kind object op n (start + 1) (replies ++ r ∷ []) alike (rows-more kind replies r h (alike start r i)))
-
   abbrev kind_here : MapId → MapKind
   kind_here m = kind_in_body m v.body.now.maps
-
-  swept-same : (m : MapId) → IsTrue (is_there (decl_of m.0 v.body.now.maps)) → SameTo comes (Rows (kind_here m)) (swept Read (kind_here m) m v.actors) (swept Read (kind_here m) m v.actors)
-  swept-same m named =
-      asked_from-same (kind_here m) (holder (kind_here m) m) (sweep_op Read (kind_here m) m) (holders (kind_here m) v.actors) 0 [] (λ i reply h. reads.rows m i reply named h) refl
 
   abbrev shown : MapId → ℕ → ℤ → List (List Value × Cell) → Interaction (Unit {0})
   shown m top div rows = tells Out (ops.Emit (items.Map m rows top div))
 
-  shown-same : (m : MapId) (top : ℕ) (div : ℤ) (kind : MapKind) (rs qs : List Reply) → Rows kind rs qs → SameTo comes (λ (a b : Unit {0}). a ≡ b) (shown m top div (merged_rows (flat_map (reader.rows kind) rs))) (shown m top div (merged kind qs))
+  shown-same : (m : MapId) (top : ℕ) (div : ℤ) (kind : MapKind) (rs qs : List Reply) → Rows comes reader v reads kind rs qs → SameTo comes (λ (a b : Unit {0}). a ≡ b) (shown m top div (merged_rows (flat_map (reader.rows kind) rs))) (shown m top div (merged kind qs))
   unfolding merged
   shown-same m top div kind rs qs h =
       subst (λ (rows : List (List Value × Cell)). SameTo comes (λ (a b : Unit {0}). a ≡ b) (shown m top div (merged_rows (flat_map (reader.rows kind) rs))) (shown m top div (merged_rows rows)))
@@ -119,18 +96,13 @@ module _ (comes : Call → Reply → Type 0) (reader : Reader) (v : View) (reads
 
   printed-same : (m : MapId) (top : ℕ) (div : ℤ) → IsTrue (is_there (decl_of m.0 v.body.now.maps)) → SameTo comes (λ (a b : Unit {0}). a ≡ b) (printed_by reader (kind_here m) m top div v.actors) (printed (kind_here m) m top div v.actors)
   printed-same m top div named =
-      SameTo-and_then comes (Rows (kind_here m)) (λ (a b : Unit {0}). a ≡ b) (swept Read (kind_here m) m v.actors) (swept Read (kind_here m) m v.actors)
-      (λ rs. shown m top div (merged_rows (flat_map (reader.rows (kind_here m)) rs))) (λ qs. shown m top div (merged (kind_here m) qs)) (swept-same m named) (shown-same m top div (kind_here m))
-
-  lifted-same : {A : Type 0} (t u : BodyScene → Interaction A) → SameTo comes (λ (a b : A). a ≡ b) (t (scene_in v)) (u (scene_in v)) → Same (lifted t) (lifted u)
-  unfolding lifted
-  lifted-same {A} t u p frame =
-      SameTo-and_then comes (λ (a b : A). a ≡ b) (Ends comes (scene_in v) (λ (a b : A). a ≡ b)) (t (scene_in v)) (u (scene_in v)) (λ value. Ended (value, frame)) (λ value. Ended (value, frame)) p (λ a b h. (h, refl))
+      SameTo-and_then comes (Rows comes reader v reads (kind_here m)) (λ (a b : Unit {0}). a ≡ b) (swept Read (kind_here m) m v.actors) (swept Read (kind_here m) m v.actors)
+      (λ rs. shown m top div (merged_rows (flat_map (reader.rows (kind_here m)) rs))) (λ qs. shown m top div (merged (kind_here m) qs)) (swept-same comes reader v reads m named) (shown-same m top div (kind_here m))
 
   print-same : (m : MapId) (top : ℕ) (div : ℤ) → IsTrue (is_there (decl_of m.0 v.body.now.maps)) → Same (print_by reader m top div) (print m top div)
   print-same m top div named =
       first (lifted (λ scene. printed_by reader (kind_in_body m scene.maps) m top div scene.actors)) (lifted (λ scene. printed (kind_in_body m scene.maps) m top div scene.actors)) (λ u. given Next)
-      (lifted-same (λ scene. printed_by reader (kind_in_body m scene.maps) m top div scene.actors) (λ scene. printed (kind_in_body m scene.maps) m top div scene.actors) (printed-same m top div named))
+      (lifted-same comes reader v reads (λ scene. printed_by reader (kind_in_body m scene.maps) m top div scene.actors) (λ scene. printed (kind_in_body m scene.maps) m top div scene.actors) (printed-same m top div named))
 
   update-same : (m : MapId) (keys : List Shape) (op : BinOp) (b : ℤ) (key : List Value) → IsTrue (is_declared (decl_of m.0 v.body.now.maps) Ints keys) → Same (updated_under reader m op b key) (update_at m key op b)
   update-same m keys op b key d =

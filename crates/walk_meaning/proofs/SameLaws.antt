@@ -2,7 +2,7 @@
 use Rattle.std.proofs.Common.{◌≡◌, List, [], ◌∷◌, refl, sym, ap, ◌∙◌, subst, Some}
 use Rattle.bt_core.specs.declared.map.MapDecl.{MapDecl}
 use Rattle.bt_core.specs.declared.step.Reply.{Reply}
-use Rattle.bt_core.specs.Interaction.{Interaction, Ended, Asks, Call, and_then, calls, value_under}
+use Rattle.bt_core.specs.Interaction.{Interaction, Ended, Asks, Call, calls, value_under}
 use Rattle.walk_meaning.specs.SameUnder.{SameUnder, IsReplyTo, AreRepliesTo}
 
 -- the same calls under a list of replies of the right kinds, and the same value

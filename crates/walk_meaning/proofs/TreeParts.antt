@@ -17,8 +17,8 @@ use Rattle.typed_tree.specs.declared.expr.NumExpr.{NumExpr, fold-roll-NumExpr}
 use Rattle.typed_tree.specs.declared.expr.NumExpr.TheVariants as nums
 use Rattle.typed_tree.specs.declared.expr.StrExpr.{StrExpr, fold-roll-StrExpr}
 use Rattle.typed_tree.specs.declared.expr.StrExpr.TheVariants as strs
-use Rattle.typed_tree.specs.Parts.{Part, Made, made_of, any_layer, num_layer, str_layer, num_parts, str_parts, parts_in, key_shapes, keyed_parts, FieldOf, MapOf, Stepped, set_map_parts, update_map_parts, gather_parts, number_parts, delete_parts}
-use Rattle.typed_tree.specs.Scope.{fits, all_fit, is_declared, is_shared, decl_of, kind_of_shape, same_bool, is_count}
+use Rattle.typed_tree.specs.Parts.{Part, Made, made_of, any_layer, num_layer, str_layer, num_parts, str_parts, parts_in, key_shapes, keyed_parts, FieldOf, MapOf, AggOf, Stepped, set_map_parts, update_map_parts, gather_parts, number_parts, delete_parts}
+use Rattle.typed_tree.specs.Scope.{fits, all_fit, is_declared, is_shared, is_summed, decl_of, kind_of_shape, same_bool, is_count}
 use Rattle.walk_meaning.specs.declared.view.View.{View}
 use Rattle.walk_meaning.specs.Served.{Fits, NamesShared, scope_in, all_made}
 
@@ -38,6 +38,10 @@ step_map_parts v e m keys plus prefix h fit =
     let is : num_parts e ≡ Stepped plus prefix ∷ keyed_parts m.0 (all_made keys) Int =
     ap num_parts h ∙ (ap num_parts (sym (nums.rolls-StepMap m keys plus prefix)) ∙ fold-roll-NumExpr Made (List Part) (List Part) any_layer num_layer str_layer (NumExpr-F.StepMap m keys plus prefix)) in
     (and_parts (fits (scope_in v) (MapOf m.0 (key_shapes (all_made keys)) Int)) (all_fit (scope_in v) (parts_in (all_made keys))) (subst (λ (l : List Part). all_fit (scope_in v) l ≡ true) is fit)).0
+
+-- an aggregation that is read, and the parts of its key
+pub agg_head : (v : View) (m : MapId) (keys : List Made) → Fits v (AggOf m.0 (key_shapes keys) ∷ parts_in keys) → IsTrue (is_summed (decl_of m.0 v.body.now.maps) (key_shapes keys)) × Fits v (parts_in keys)
+agg_head v m keys fit = let p = and_parts (fits (scope_in v) (AggOf m.0 (key_shapes keys))) (all_fit (scope_in v) (parts_in keys)) fit in (p.0, p.1)
 
 -- an expression of several
 pub one_fits : (v : View) (es : List AnyExpr) (n : ℕ) (e : AnyExpr) → n < length es → e ≡ get_or es n e → Fits v (parts_in (all_made es)) → Fits v (made_of e).parts

@@ -17,7 +17,7 @@ use Rattle.typed_tree.specs.declared.expr.StrExpr.{StrExpr, fold-StrExpr}
 use Rattle.map_ops.specs.Builtins.{builtin_value}
 use Rattle.walk_meaning.specs.Does.{Does, given, looked_at, bind, then, if_holds, in_order}
 use Rattle.map_ops.specs.Values.{holds, number_of, text_of, next}
-use Rattle.walk_meaning.specs.Maps.{number_variable, text_variable, assigned, get, set}
+use Rattle.walk_meaning.specs.Maps.{number_variable, text_variable, assigned, get, set, sum_at}
 
 abbrev pub builtin : NumBuiltin → Does ℤ
 builtin b = looked_at (λ scene frame. builtin_value b scene.context)
@@ -63,6 +63,10 @@ read_number m keys = bind (read m keys) (λ value. given (number_of value))
 abbrev pub read_text : MapId → List (Does Value) → Does (List ℕ)
 read_text m keys = bind (read m keys) (λ value. given (text_of value))
 
+-- a key, and then the number of an aggregation under it
+abbrev pub read_agg : MapId → List (Does Value) → Does ℤ
+read_agg m keys = bind (in_order keys) (λ key. sum_at m key)
+
 -- `++` and `--`: the prefix form gives the new value, the postfix form the old one
 abbrev pub step_variable : ℕ → Bool → Bool → Does ℤ
 step_variable var plus prefix =
@@ -90,6 +94,7 @@ number_by_parts (NumExpr-F.Builtin b) = builtin b
 number_by_parts (NumExpr-F.NumExpr::Field f) = number_field f
 number_by_parts (NumExpr-F.NumExpr::Var n) = number_variable n
 number_by_parts (NumExpr-F.NumExpr::Map m keys) = read_number m keys
+number_by_parts (NumExpr-F.Agg m keys) = read_agg m keys
 number_by_parts (NumExpr-F.StepVar n plus prefix) = step_variable n plus prefix
 number_by_parts (NumExpr-F.StepMap m keys plus prefix) = step_map m keys plus prefix
 number_by_parts (NumExpr-F.Unary op value) = before op value

@@ -7,7 +7,7 @@ use Rattle.bt_core.specs.declared.step.ObjectId.TheVariants.{Cpu}
 use Rattle.bt_core.specs.declared.step.Op.TheVariants as ops
 use Rattle.bt_core.specs.declared.value.Value.{Value}
 use Rattle.typed_tree.specs.Scope.{decl_of}
-use Rattle.map_ops.specs.Asking.{tells, got}
+use Rattle.map_ops.specs.Asking.{tells, got, summed}
 use Rattle.map_ops.specs.Holders.{part, kind_in}
 use Rattle.map_ops.specs.Values.{number_of, text_of, or_zero}
 use Rattle.walk_meaning.specs.declared.flow.Frame.{Frame}
@@ -46,3 +46,7 @@ add m key n = lifted (λ scene. tells (Cpu scene.actor) (ops.Add m key n))
 -- what a map holds, by the body's list
 abbrev pub kind_in_body : MapId → List (MapId × MapDecl) → MapKind
 kind_in_body m maps = kind_in (decl_of m.0 maps)
+
+-- the number of an aggregation under a key, over the tables of all actors
+abbrev pub sum_at : MapId → List Value → Does ℤ
+sum_at m key = lifted (λ scene. summed m key scene.actors)

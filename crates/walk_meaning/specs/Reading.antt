@@ -1,5 +1,5 @@
 -- The walk by any way of reading replies.
-use Rattle.std.specs.Prelude.{◌≡◌, ℕ, ℤ, pos, Bool, cond, List, Option, Some, None, map}
+use Rattle.std.specs.Prelude.{◌≡◌, ℕ, ℤ, pos, Bool, cond, List, [], Option, Some, None, map}
 use Rattle.std.specs.List.{flat_map}
 use Rattle.bt_core.specs.declared.agg.Agg.{Agg}
 use Rattle.bt_core.specs.declared.context.Context.{Context}
@@ -11,7 +11,7 @@ use Rattle.bt_core.specs.declared.map.MapId.{MapId}
 use Rattle.bt_core.specs.declared.map.MapKind.{MapKind}
 use Rattle.bt_core.specs.declared.map.MapKind.TheVariants.{Aggs}
 use Rattle.bt_core.specs.declared.operator.BinOp.{BinOp}
-use Rattle.bt_core.specs.declared.step.ObjectId.TheVariants.{Out}
+use Rattle.bt_core.specs.declared.step.ObjectId.TheVariants.{Cpu, Out}
 use Rattle.bt_core.specs.declared.step.Op.TheVariants as ops
 use Rattle.bt_core.specs.declared.step.Reply.{Reply}
 use Rattle.bt_core.specs.declared.step.Reply.TheVariants as replies
@@ -21,6 +21,7 @@ use Rattle.bt_core.specs.Arithmetic.{binary_value}
 use Rattle.bt_core.specs.Interaction.{Interaction, Ended, ask, and_then}
 use Rattle.bt_core.specs.Kinds.{IsShared}
 use Rattle.map_rows.specs.Merged.{rows_in, value_row, agg_row, merged_rows}
+use Rattle.map_rows.specs.UnderKey.{number_under as number_in}
 use Rattle.typed_tree.specs.declared.body.TypedBody.{TypedBody}
 use Rattle.typed_tree.specs.declared.body.TypedTree.{TypedTree}
 use Rattle.typed_tree.specs.declared.expr.AnyExpr.{AnyExpr, fold-AnyExpr}
@@ -32,7 +33,7 @@ use Rattle.typed_tree.specs.declared.stmt.TypedStmt.TheOpen.{TypedStmt-F}
 use Rattle.walk_meaning.specs.declared.flow.Flow.{Flow}
 use Rattle.walk_meaning.specs.declared.flow.Flow.TheVariants.{Next}
 use Rattle.map_ops.specs.declared.sweep.Sweep.TheVariants.{Read}
-use Rattle.map_ops.specs.Asking.{tells, swept}
+use Rattle.map_ops.specs.Asking.{tells, asked_from, swept}
 use Rattle.map_ops.specs.Holders.{part}
 use Rattle.map_ops.specs.Values.{number_of, text_of, value_of, next}
 use Rattle.walk_meaning.specs.Does.{Does, given, lifted, bind, then, if_holds, in_order}
@@ -70,9 +71,19 @@ module _ (reader : Reader) where
   abbrev pub stepped_under : MapId → Bool → Bool → List Value → Does ℤ
   stepped_under m plus prefix key = bind (number_under m key) (λ old. then (set m key (Int (next plus old))) (given (cond prefix (next plus old) old)))
 
+  -- the number of an aggregation under a key of the merged rows of all tables
+  abbrev pub summed_by : MapKind → MapId → List Value → ℕ → Interaction ℤ
+  summed_by kind m key actors =
+      and_then (asked_from Cpu (ops.Read m) [] 0 actors)
+      (λ replies. Ended (number_in key (merged_rows (flat_map (reader.rows kind) replies))))
+
+  abbrev pub summed_under : MapId → List Value → Does ℤ
+  summed_under m key = lifted (λ scene. summed_by (kind_in_body m scene.maps) m key scene.actors)
+
   -- the expressions that read a reply; each other one does what it does in the walk
   abbrev pub num_by : NumExpr-F (Does Value) (Does ℤ) (Does (List ℕ)) → Does ℤ
   num_by (NumExpr-F.NumExpr::Map m keys) = bind (in_order keys) (number_under m)
+  num_by (NumExpr-F.Agg m keys) = bind (in_order keys) (summed_under m)
   num_by (NumExpr-F.StepMap m keys plus prefix) = bind (in_order keys) (stepped_under m plus prefix)
   num_by e = number_by_parts e
 

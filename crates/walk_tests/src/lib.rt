@@ -2,16 +2,6 @@
 #![tactic(auto)]
 
 #[cfg(test)]
-mod port;
-#[cfg(test)]
-mod replies;
-#[cfg(test)]
 mod rows;
 #[cfg(test)]
-mod scripts;
-#[cfg(test)]
-mod tables;
-#[cfg(test)]
 mod traps;
-#[cfg(test)]
-mod walks;

@@ -83,6 +83,14 @@ class Scripts(unittest.TestCase):
                    "t:x:a { @x = 1; } t:x:b { @x = 2; }")
         self.check("@x is set and read by all CPUs", "t:x:a { if (@x[pid] != 0) { @c = count(); } @x[pid] = 1; }")
 
+    def test_reads_of_aggregations(self):
+        self.check("@c is read before all CPUs have added", "t:x:a { @c = count(); if (@c > 5) { @h = hist(1); } }",
+                   "t:x:a { @c[pid] = sum(1); } t:x:b /@c[pid] > 5/ { @h = hist(1); }", "t:x:a { @c = avg(1); } i:s:1 { @h = hist(@c); }",
+                   "t:x:a { @c[cpu] = count(); } t:x:b { @h = hist(@c[0]); }", "t:x:a { @c[cpu] = count(); } i:s:1 { @h = hist(@c[cpu]); }")
+        self.check("@c and @d are read before all CPUs have added", "t:x:a { @c = min(1); @d = max(2); @h = hist(@d - @c); }")
+        self.check("", "t:x:a { @c[cpu] = count(); @h = hist(@c[cpu]); }", "BEGIN { @c = count(); } t:x:a { @h = hist(@c); }",
+                   't:x:a { @c = count(); } END { printf("%d\\n", @c); }', "t:x:a { @d = count(); } i:s:1 { @c = count(); @h = hist(@c); }")
+
     def test_what_is_printed_before_the_end(self):
         self.check("@c is printed before the end", "t:x:a { @c = count(); } interval:s:1 { print(@c); }",
                    "t:x:a { @c = count(); } interval:s:1 { print(@c); clear(@c); }")

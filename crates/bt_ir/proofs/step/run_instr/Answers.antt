@@ -33,6 +33,17 @@ returns-in_ok-get_on-in-Get-clause-performed g c =
     let made = simp c.as_slice.ensures at c.in_ok-get_on-in-Get.ensures.performed in
     subst (λ (i : Instr). Whole (instr_run i (scene_in c.args.view.now) c.args.state.now) (g.P.Port.steps c.args.port.now) (g.P.Port.steps c.get_on.new.port) c.get_on.new.state) (sym c.in-Get.is) made
 
+pub returns-in_err-sum_on-in-ReadAgg-clause-performed : goal.returns-in_err-sum_on-in-ReadAgg-clause-performed
+returns-in_err-sum_on-in-ReadAgg-clause-performed g c =
+    let p = err_from_is_err_and c.from_residual-in_err-sum_on-in-ReadAgg.result c.from_residual-in_err-sum_on-in-ReadAgg.ensures.1 in
+    let made = simp c.as_slice-in-ReadAgg.ensures at c.in_err-sum_on-in-ReadAgg.ensures.performed in
+    rw p.1 (subst (λ (i : Instr). Part (instr_run i (scene_in c.args.view.now) c.args.state.now) (g.P.Port.steps c.args.port.now) (g.P.Port.steps c.sum_on.new.port)) (sym c.in-ReadAgg.is) made)
+
+pub returns-in_ok-sum_on-in-ReadAgg-clause-performed : goal.returns-in_ok-sum_on-in-ReadAgg-clause-performed
+returns-in_ok-sum_on-in-ReadAgg-clause-performed g c =
+    let made = simp c.as_slice-in-ReadAgg.ensures at c.in_ok-sum_on-in-ReadAgg.ensures.performed in
+    subst (λ (i : Instr). Whole (instr_run i (scene_in c.args.view.now) c.args.state.now) (g.P.Port.steps c.args.port.now) (g.P.Port.steps c.sum_on.new.port) c.sum_on.new.state) (sym c.in-ReadAgg.is) made
+
 pub returns-in_err-set_on-in-Set-clause-performed : goal.returns-in_err-set_on-in-Set-clause-performed
 returns-in_err-set_on-in-Set-clause-performed g c =
     let p = err_from_is_err_and c.from_residual-in_err-set_on-in-Set.result c.from_residual-in_err-set_on-in-Set.ensures.1 in

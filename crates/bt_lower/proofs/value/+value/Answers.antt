@@ -5,7 +5,7 @@ use Rattle.ir_code.specs.declared.instr.Instr.TheVariants as i
 use Rattle.bt_core.specs.declared.value.Value.TheVariants.{Str}
 use Rattle.bt_lower.specs.Code.{pushed}
 use Rattle.bt_lower.specs.Lowers.{all_made}
-use Rattle.bt_lower.proofs.Arms.{N-Number, N-Builtin, N-Field, N-Var, N-Map, N-StepVar, N-StepMap, N-Unary, N-Binary, N-Compare, N-AndThen, N-OrElse, N-Choose, S-Text, S-Comm, S-Field, S-Var, S-Map, S-Choose, List-start, List-next, Tested-arm}
+use Rattle.bt_lower.proofs.Arms.{N-Number, N-Builtin, N-Field, N-Var, N-Map, N-Agg, N-StepVar, N-StepMap, N-Unary, N-Binary, N-Compare, N-AndThen, N-OrElse, N-Choose, S-Text, S-Comm, S-Field, S-Var, S-Map, S-Choose, List-start, List-next, Tested-arm}
 use Rattle.bt_lower.proofs.Choices.{Lowers-arm}
 use Rattle.bt_lower.proofs.value.+value.Goals as goal
 
@@ -31,6 +31,11 @@ lower_number-returns-in_ok-lower_values-in-Map t c =
 
 pub lower_number-returns-in_ok-push-in-StepVar : goal.lower_number-returns-in_ok-push-in-StepVar
 lower_number-returns-in_ok-push-in-StepVar t c = N-StepVar _ _ _ _ _ _ c.in-StepVar.is c.in_ok-push-in-StepVar.ensures
+
+pub lower_number-returns-in_ok-lower_values-in-Agg : goal.lower_number-returns-in_ok-lower_values-in-Agg
+lower_number-returns-in_ok-lower_values-in-Agg t c =
+    let key = c.in_ok-key-in-Agg.ensures ∙ ap (λ l. key_shapes (all_made l)) c.as_slice-in-Agg.ensures in
+    N-Agg _ _ _ _ _ _ _ _ c.in-Agg.is (c.as_slice-in-Agg-2).ensures key c.in_ok-push-in-Agg.ensures c.in_ok-lower_values-in-Agg.ensures
 
 pub lower_number-returns-in_ok-lower_values-in-StepMap : goal.lower_number-returns-in_ok-lower_values-in-StepMap
 lower_number-returns-in_ok-lower_values-in-StepMap t c =

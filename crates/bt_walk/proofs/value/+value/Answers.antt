@@ -5,10 +5,12 @@ use Rattle.bt_core.specs.declared.map.Shape.TheVariants as shapes
 use Rattle.bt_core.specs.declared.value.Value.TheVariants.{Int}
 use Rattle.bt_core.specs.Arithmetic.{truth}
 use Rattle.typed_tree.specs.Parts.{made_of, key_shapes}
+use Rattle.typed_tree.specs.Scope.{decl_of}
 use Rattle.map_ops.specs.Values.{number_of, text_of}
 use Rattle.walk_meaning.specs.Served.{Fits, IsServed, all_made}
 use Rattle.bt_walk.proofs.Binds.{Part-first, Part-next, Whole-next, Walked-next, Given-done, Looked-done, Changed-done, Number-done, Number-seen, Whole-yes, Whole-no, Part-yes, Part-no, Walked-yes, Walked-no, Lifted-walked}
-use Rattle.walk_meaning.proofs.Declared.{shared, valued, few_values, keyed, held, field_inside, part_below}
+use Rattle.walk_meaning.proofs.Declared.{shared, summing, summed_here, valued, few_values, keyed, held, field_inside, part_below}
+use Rattle.typed_tree.proofs.Summed.{summed_there}
 use Rattle.walk_meaning.proofs.TreeParts.{num_field_parts, str_field_parts, step_map_parts, one_fits, one_size}
 use Rattle.typed_tree.proofs.expr.AnyExpr.TheLaws.{the_size}
 use denote.Param.Weighed.{most}
@@ -321,3 +323,25 @@ values-loop-key-preserved g t c =
 
 pub values-returns-clause-walked : goal.values-returns-clause-walked
 values-returns-clause-walked g t c = gathers-end _ _ _ _ _ _ _ _ c.loop-key-test.false c.loop-key.invariant.left
+
+pub read_agg-returns-in_err-parts-clause-walked : goal.read_agg-returns-in_err-parts-clause-walked
+read_agg-returns-in_err-parts-clause-walked g t c =
+    let p = err_from_is_err_and c.from_residual.result c.from_residual.ensures.1 in
+    rw p.1 (Part-first _ _ _ _ _ _ c.in_err-parts.ensures.walked)
+
+pub read_agg-of-key-requires : goal.read_agg-of-key-requires
+read_agg-of-key-requires g t c =
+    let found = summing c.args.view.now (g.P.Port.fixed c.args.port.now).setting c.args.map (key_shapes (all_made c.args.keys.now)) c.requires.served c.requires.declared in
+    rw c.into_vec.ensures (few_values _ _ _ _ _ found c.in_ok-parts.ensures.shaped)
+
+pub read_agg-sum_at-requires-clause-named : goal.read_agg-sum_at-requires-clause-named
+read_agg-sum_at-requires-clause-named g t c = summed_there _ _ c.requires.declared
+
+pub read_agg-sum_at-requires-clause-gathers : goal.read_agg-sum_at-requires-clause-gathers
+read_agg-sum_at-requires-clause-gathers g t c =
+    summed_here (decl_of c.args.map.0 c.args.view.now.body.now.maps) (key_shapes (all_made c.args.keys.now)) c.requires.declared
+
+pub read_agg-returns-clause-walked : goal.read_agg-returns-clause-walked
+read_agg-returns-clause-walked g t c =
+    let made = rw (c.of-key.ensures, c.into_vec.ensures) at c.sum_at.ensures.walked in
+    (Walked-next _ _ _ _ _ _ _ _ c.in_ok-parts.ensures.walked _ _ _ (made _))

@@ -19,6 +19,9 @@ decreases-text g l = 3 * goal.size-text g l
 abbrev pub decreases-read : goal.decreases-read
 decreases-read g l = 3 * goal.size-read g l + 2
 
+abbrev pub decreases-read_agg : goal.decreases-read_agg
+decreases-read_agg g l = 3 * goal.size-read_agg g l + 2
+
 abbrev pub decreases-values : goal.decreases-values
 decreases-values g l = 3 * goal.size-values g l + 1
 

@@ -1,2 +1,0 @@
-pub mod OwnMaps
-pub mod Passing
