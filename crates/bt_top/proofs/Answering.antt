@@ -96,6 +96,15 @@ of_vet order contents outcome why comes found = by (not_refused order contents o
     by (inl vet) = vet
     by (inr none) = absurd (some_why why (sym found ∙ none))
 
+-- `vet` runs nothing
+vet_runs : (order : Order) → IsVetOrder order → IsRunOrder order → ⊥
+vet_runs (Run serial stats json script recording) vet run = vet
+vet_runs (Check script recording) vet run = run
+vet_runs (Code script recording) vet run = run
+vet_runs (Vet script recording) vet run = run
+vet_runs (Gen x n) vet run = run
+vet_runs (Big x n) vet run = vet
+
 -- programs that are refused are not due to files
 no_script : (why : CodeRefusal) → ◌≡◌ {A = Option Refusal} (Some (RefusedCode why)) (Some (Script script.TooLong)) → ⊥
 no_script why e = cc
@@ -372,11 +381,3 @@ module _ (order : Order) (seen : ShelfUse) (out : SinkUse) (bytes : List ℕ) wh
       by (Some why) found refusal e =
           subst (λ (r : Option Refusal). IsSome outcome.work ↔ HasWork r (Some order)) (sym e.0)
           ((λ some. vet_runs order (of_vet order contents outcome why comes found) ((runs order contents outcome comes).0 some)), λ none. absurd none)
-
-      vet_runs : (one : Order) → IsVetOrder one → IsRunOrder one → ⊥
-      vet_runs (Run serial stats json script recording) vet run = vet
-      vet_runs (Check script recording) vet run = run
-      vet_runs (Code script recording) vet run = run
-      vet_runs (Vet script recording) vet run = run
-      vet_runs (Gen x n) vet run = run
-      vet_runs (Big x n) vet run = vet

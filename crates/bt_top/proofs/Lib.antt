@@ -5,9 +5,9 @@ mod Headlines
 mod LineLaws
 mod Listed
 mod Making
+mod Passing
 mod Performing
 mod Reading
 mod Scripts
 mod TooLarge
 mod Vetted
-mod Vetting

@@ -133,7 +133,8 @@ fn vet_outcome(alloc: Global, job: Job) -> Result<Outcome, Memory>
     let formats = job.recording.formats.as_slice();
     let ids = job.attached.bodies.as_slice();
     let programs = job.programs.as_slice();
-    match vet_programs(alloc, formats, ids, &job.typed, programs)? {
+    let verdict = vet_programs(alloc, formats, ids, &job.typed, programs)?;
+    match verdict {
         Verdict::Accepted(lines) => Ok(Outcome {
             work: None,
             programs: job.programs,

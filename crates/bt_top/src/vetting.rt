@@ -3,7 +3,7 @@ ghost use Rattle.std.specs.Prelude.{◌≡◌, ◌≢◌, ◌++◌, ◌≤◌, l
 ghost use Rattle.std.specs.List.{AllByRecursion};
 ghost use Rattle.walk_meaning.specs.Served.{least_length};
 ghost use Rattle.bt_top.specs.Doing.{CanBeListed};
-ghost use Rattle.bt_top.specs.Vetting.{IsAnswerOf, IsVerdict, Passes, line_of, most_of};
+ghost use Rattle.bt_top.specs.Vetting.{IsAnswerOf, IsVerdict, Passes, line_of, most_of, refusal_of};
 
 use crate::listing::push_name;
 use crate::refusal::CodeRefusal;
@@ -52,6 +52,19 @@ fn vet_program(
     check_code(alloc, program.bytes.as_slice(), typed, least_length(body))
 }
 
+/// Why a program is refused, by the fault that the check tells of it; want of memory is no such fault.
+fn refusal_of(id: BodyId, fault: CodeFault) -> Option<CodeRefusal>
+    ensures { result ≡ refusal_of id fault }
+{
+    match fault {
+        CodeFault::Memory => None,
+        _ => Some(CodeRefusal {
+            probe: id.probe,
+            fault,
+        }),
+    }
+}
+
 /// Adds the line of a body of whose program a run takes at most so many instructions.
 fn push_line(text: &mut Vec<u8>, formats: &[Format], id: BodyId, most: u64) -> Result<(), Memory>
     ensures { OnOk result (text.new.items ≡ text.old.items ++ line_of formats.now id most) }
@@ -85,11 +98,10 @@ pub(crate) fn vet_programs(
         let id = ids[number];
         let most = match vet_program(alloc, typed, body, &programs[number]) {
             Ok(most) => most,
-            Err(CodeFault::Memory) => return Err(Memory),
-            Err(fault) => {
-                let probe = id.probe;
-                return Ok(Verdict::Refused(CodeRefusal { probe, fault }));
-            }
+            Err(fault) => match refusal_of(id, fault) {
+                None => return Err(Memory),
+                Some(why) => return Ok(Verdict::Refused(why)),
+            },
         };
         push_line(&mut text, formats, id, most)?;
     }

@@ -5,6 +5,7 @@ use Rattle.run_output.specs.declared.form.Form.{Form}
 use Rattle.bt_top.specs.Jobs.{IsJobFor}
 use Rattle.bt_top.specs.Orders.{on_script}
 use Rattle.bt_top.specs.Outcomes.{ComesTo, IsOutcomeOfRun, stats_line}
+use Rattle.bt_top.proofs.Passing.{names_bodies}
 use Rattle.bt_top.proofs.Performing.{goes_on, made}
 use Rattle.bt_top.proofs.tasks.outcome_of.Goals as goal
 
@@ -37,6 +38,10 @@ returns-in_ok-code_outcome-in-Code g c =
     c.in_ok-job-in-Code.job c.in_ok-code_outcome-in-Code.field-0
     (rw (c.as_str-in-Code.ensures, c.as_str-in-Code-2.ensures) at c.in_ok-job-in-Code.ensures.performs)
     (λ contents is. (c.in_ok-job-in-Code.job, is, c.in_ok-code_outcome-in-Code.ensures)))
+
+pub vet_outcome-requires-clause-named : goal.vet_outcome-requires-clause-named
+vet_outcome-requires-clause-named g c =
+    let reads = c.in_ok-job-in-Vet.ensures.performs.reads in names_bodies _ reads.contents c.in_ok-job-in-Vet.job reads.value
 
 pub returns-in_ok-vet_outcome-in-Vet : goal.returns-in_ok-vet_outcome-in-Vet
 returns-in_ok-vet_outcome-in-Vet g c =

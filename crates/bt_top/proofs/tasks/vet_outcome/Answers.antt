@@ -4,7 +4,7 @@ use Rattle.bpf_codegen.specs.declared.generate.Program.{Program}
 use Rattle.bt_ast.specs.declared.attached.BodyId.{BodyId}
 use Rattle.bt_top.specs.Doing.{CanBeListed}
 use Rattle.bt_top.proofs.Listed.{can_be_listed}
-use Rattle.bt_top.proofs.Vetting.{accepted_all, refused_one}
+use Rattle.bt_top.proofs.Passing.{accepted_all, refused_one}
 use Rattle.bt_top.proofs.tasks.vet_outcome.Goals as goal
 
 pub vet_programs-requires-clause-can_be_listed : goal.vet_programs-requires-clause-can_be_listed
@@ -22,9 +22,9 @@ vet_programs-requires-clause-named c =
 pub returns-in-Accepted : goal.returns-in-Accepted
 returns-in-Accepted c =
     accepted_all c.args.job c.as_slice-formats.result.now c.as_slice-ids.result.now c.as_slice-programs.result.now c.in-Accepted.lines c.as_slice-formats.ensures
-    c.as_slice-ids.ensures c.as_slice-programs.ensures (rw c.in-Accepted.is at c.in_ok-vet_programs.ensures)
+    c.as_slice-ids.ensures c.as_slice-programs.ensures (rw c.in-Accepted.is at c.in_ok-verdict.ensures)
 
-pub returns-in-Refused : goal.returns-in-Refused
-returns-in-Refused c =
+pub returns : goal.returns
+returns c =
     refused_one c.args.job c.as_slice-formats.result.now c.as_slice-ids.result.now c.as_slice-programs.result.now c.in-Refused.why c.new.result
-    c.as_slice-formats.ensures c.as_slice-ids.ensures c.as_slice-programs.ensures (rw c.in-Refused.is at c.in_ok-vet_programs.ensures) c.new.ensures
+    c.as_slice-formats.ensures c.as_slice-ids.ensures c.as_slice-programs.ensures (rw c.in-Refused.is at c.in_ok-verdict.ensures) c.new.ensures

@@ -20,4 +20,4 @@ returns-in-Recording g c = rw (c.in-Recording.is, ← c.operand_name-in-Recordin
 
 pub returns-in-RefusedCode : goal.returns-in-RefusedCode
 returns-in-RefusedCode g c =
-    rw (c.in-RefusedCode.is, ← c.operand_name-in-RefusedCode.ensures, ← c.from.ensures) c.tell_numbered.ensures
+    rw (c.in-RefusedCode.is, ← c.operand_name-name.ensures, ← c.from.ensures) c.tell_numbered.ensures

@@ -2,9 +2,9 @@
 use Rattle.std.proofs.Common.{◌≡◌, ◌≢◌, ℕ, zero, suc, ◌+◌, ◌*◌, ◌<◌, ◌≤◌, List, [], ◌∷◌, length, get_or, refl, sym, ap, subst, ◌∙◌, arith, inl, inr}
 use Rattle.std.specs.Prelude.{◌⊎◌, ◌/◌, Option, Some, None, Result, Ok, Err, IfOk, IfErr, slice_get}
 use Rattle.std.proofs.lemmas.Bool.{cases_eq}
-use Rattle.std.proofs.lemmas.Option.{slice_get-get_or}
+use Rattle.std.proofs.lemmas.Option.{slice_get-get_or, slice_get_within}
 use Rattle.bpf_check.specs.declared.check.CodeFault.{CodeFault}
-use Rattle.bpf_check.specs.declared.check.CodeFault.TheVariants.{Memory}
+use Rattle.bpf_check.specs.declared.check.CodeFault.TheVariants.{S1, S2, Memory}
 use Rattle.bpf_check.specs.Answers.{IsAnswer}
 use Rattle.bpf_check.specs.Sheet.{sheet_of}
 use Rattle.bpf_codegen.specs.declared.generate.Program.{Program}
@@ -25,7 +25,7 @@ use Rattle.bt_top.specs.declared.vetting.Verdict.TheVariants.{Accepted, Refused}
 use Rattle.bt_top.specs.Jobs.{IsJobFor}
 use Rattle.bt_top.specs.Orders.{OperandFile}
 use Rattle.bt_top.specs.Outcomes.{IsOutcomeOfVet}
-use Rattle.bt_top.specs.Vetting.{IsAnswerOf, IsVerdict, PassBefore, Passes, most_of}
+use Rattle.bt_top.specs.Vetting.{AllPass, IsAnswerOf, IsFirstRefused, IsVerdict, PassBefore, Passes, most_of, refusal_of}
 use Rattle.bt_top.proofs.Asked.{IsAskedFor, of_files}
 
 -- ---- the program of a body
@@ -96,6 +96,39 @@ pass_more typed programs many body program of_body of_program before passes = λ
         let same_body : body ≡ other = same_some body other (sym of_body ∙ sym (ap (slice_get typed.bodies) last) ∙ on) in
         let same_program : program ≡ made = same_some program made (sym of_program ∙ sym (ap (slice_get programs) last) ∙ at) in
         subst (λ (p : Program). Passes typed other p) same_program (subst (λ (b : TypedBody). Passes typed b program) same_body passes)
+
+-- what stands at a place of a list
+pub read_at : {X : Type 0} (seen xs : List X) (n : ℕ) (x : X) → seen ≡ xs → x ≡ get_or seen n x → n < length xs → slice_get xs n ≡ Some x
+read_at {X = X} seen xs n x same is low =
+    subst (λ (l : List X). slice_get l n ≡ Some x) same
+    (slice_get-get_or seen n x (subst (λ (l : List X). n < length l) (sym same) low) ∙ ap Some (sym is))
+
+refused_by : (id : BodyId) (fault : CodeFault) (why : CodeRefusal) → refusal_of id fault ≡ Some why
+    → (fault ≢ Memory) × (◌≡◌ {A = CodeRefusal} (record { probe = id.probe; fault = fault }) why)
+refused_by id (S1 error) why e = (λ same. cc, same_some _ why e)
+refused_by id S2 why e = (λ same. cc, same_some _ why e)
+refused_by id Memory why e = absurd (let none : None ≡ Some why = e in cc)
+
+-- a program is refused, and none before it is
+pub first_refused : (ids : List BodyId) (typed : Typed) (programs : List Program) (n : ℕ) (id : BodyId) (body : TypedBody) (program : Program)
+    (fault : CodeFault) (why : CodeRefusal) → slice_get ids n ≡ Some id → slice_get typed.bodies n ≡ Some body → slice_get programs n ≡ Some program
+    → PassBefore typed programs n → (fault ≢ Memory → IsAnswerOf typed body program (Err fault)) → refusal_of id fault ≡ Some why
+    → IsFirstRefused ids typed programs why
+first_refused ids typed programs n id body program fault why of_id of_body of_program before says e =
+    let by = refused_by id fault why e in
+    subst (λ (w : CodeRefusal). IsFirstRefused ids typed programs w) by.1 (record {
+      number = n;
+      refused = record { body = body; program = program; of_body = of_body; of_program = of_program; is = says by.0 };
+      before = before;
+      id = id;
+      named = of_id;
+      probe = refl;
+    })
+
+-- where the loop ends all programs were looked at
+pub all_passed : (typed : Typed) (programs : List Program) (many : ℕ) → length programs ≤ many → PassBefore typed programs many → AllPass typed programs
+all_passed typed programs many past before = λ n body program on at.
+    let low = slice_get_within programs n program at in before n body program (omega (arith, past, low)) on at
 
 -- ---- of a job
 

@@ -1,0 +1,35 @@
+use Rattle.std.proofs.Common.{get_or, refl, sym, arith, ◌∙◌}
+use Rattle.std.specs.Prelude.{min}
+use Rattle.std.proofs.lemmas.Option.{slice_get-get_or}
+use Rattle.bt_ast.specs.declared.attached.BodyId.{BodyId}
+use Rattle.bt_ast.specs.declared.attached.BodyPoint.TheVariants.{Begin}
+use Rattle.bt_top.specs.Vetting.{program_line}
+use Rattle.bt_top.proofs.Listed.{listing_all}
+use Rattle.bt_top.proofs.Passing.{all_passed, first_refused, read_at}
+use Rattle.bt_top.proofs.vetting.vet_programs.Goals as goal
+
+abbrev first : BodyId
+first = record { probe = 0; point = Begin }
+
+pub returns-in-Some : goal.returns-in-Some
+returns-in-Some c =
+    let n = c.loop-number.number in
+    let low = c.loop-number-test.true in
+    let many = c.requires.as_many in
+    let named = c.requires.named in
+    first_refused c.args.ids.now c.args.typed.now c.args.programs.now n (get_or c.args.ids.now n first) c.index-as_slice-number.result
+    c.index-programs-number.result c.in-Err.fault c.in-Some.why (slice_get-get_or c.args.ids.now n first (omega (arith, low, many, named)))
+    (read_at c.as_slice.result.now c.args.typed.now.bodies n c.index-as_slice-number.result c.as_slice.ensures c.index-as_slice-number.is (omega (arith, low, many)))
+    (read_at c.args.programs.now c.args.programs.now n c.index-programs-number.result refl c.index-programs-number.is low)
+    c.loop-number.invariant.before c.in-Err.ensures.refused (sym (rw c.in-Some.is at c.refusal_of.ensures))
+
+pub returns : goal.returns
+returns c =
+    let n = c.loop-number.number in
+    let past = c.loop-number-test.false in
+    let many = c.requires.as_many in
+    let named = c.requires.named in (
+      all_passed c.args.typed.now c.args.programs.now n past c.loop-number.invariant.before,
+      c.of.ensures ∙ c.loop-number.invariant.lines
+          ∙ listing_all (program_line c.args.formats.now) c.args.ids.now c.args.programs.now n (omega (arith, past, many, named)),
+    )
