@@ -41,7 +41,8 @@ returns-in_ok-code_outcome-in-Code g c =
 
 pub vet_outcome-requires-clause-named : goal.vet_outcome-requires-clause-named
 vet_outcome-requires-clause-named g c =
-    let reads = c.in_ok-job-in-Vet.ensures.performs.reads in names_bodies _ reads.contents c.in_ok-job-in-Vet.job reads.value
+    let reads = c.in_ok-job-in-Vet.ensures.performs.reads in
+    names_bodies (on_script c.as_str-in-Vet.result.now c.as_str-in-Vet-2.result.now) reads.contents c.in_ok-job-in-Vet.job reads.value
 
 pub returns-in_ok-vet_outcome-in-Vet : goal.returns-in_ok-vet_outcome-in-Vet
 returns-in_ok-vet_outcome-in-Vet g c =

@@ -1,5 +1,4 @@
-use Rattle.bt_top.proofs.Passing.{Says, answer_most, answer_passes, answer_refused, of_program}
-use Rattle.walk_meaning.specs.Served.{least_length}
+use Rattle.bt_top.proofs.Passing.{answer_most, answer_passes, answer_refused, of_program}
 use Rattle.bt_top.proofs.vetting.vet_program.Goals as goal
 
 pub returns-clause-most : goal.returns-clause-most

@@ -1,5 +1,4 @@
 use Rattle.std.proofs.Common.{get_or, refl, sym, arith, ◌∙◌}
-use Rattle.std.specs.Prelude.{min}
 use Rattle.std.proofs.lemmas.Option.{slice_get-get_or}
 use Rattle.bt_ast.specs.declared.attached.BodyId.{BodyId}
 use Rattle.bt_ast.specs.declared.attached.BodyPoint.TheVariants.{Begin}
