@@ -16,10 +16,10 @@ use Rattle.bpf_check.specs.Sheet.{Sheet}
 use Rattle.bpf_check.specs.declared.ways.Way.{Way}
 use Rattle.bpf_check.specs.declared.ways.Ways.{Ways}
 use Rattle.bpf_check.specs.declared.ways.Ways.TheVariants.{Finish}
-use Rattle.bpf_check.specs.States.{known_of, paid, written}
+use Rattle.bpf_check.specs.States.{known_of, paid, register_written}
 use Rattle.bpf_check.specs.Reading.{set_known, number_in, may_load, may_store}
 use Rattle.bpf_check.specs.Calls.{call_fits}
-use Rattle.bpf_check.specs.Effects.{source_known, first_known, alu_known, loaded, stored, after_call, effect}
+use Rattle.bpf_check.specs.Effects.{source_known, first_known, alu_known, loaded, frame_stored, after_helper, effect}
 use Rattle.bpf_check.specs.Ways.{goes, is_back, jumped, one_way, two_ways, onward, taken, through_gate, from_insn, from_gate, gate_at, leads}
 use Rattle.bpf_check.specs.Tables.{AreInside, IsFew, AreFew}
 use Rattle.bpf_check.proofs.Going.{bind_some, some_is, arrives, one_is, two_is}
@@ -59,7 +59,7 @@ onward_inside code p i s ways e = one_inside (length code) (goes code p (p + 1) 
 
 gate_inside : (code : List Insn) (p : ℕ) (offset : ℤ) (s : Seen) (ways : Ways) → through_gate code p offset s ≡ Some ways → AreInside (length code) ways
 gate_inside code p (pos n) s ways e =
-    let a = bind_some (written s 1 Num) (λ after. two_ways (goes code p (p + 4) (taken after)) (goes code p (p + 2 + n) after)) ways e in
+    let a = bind_some (register_written s 1 Num) (λ after. two_ways (goes code p (p + 4) (taken after)) (goes code p (p + 2 + n) after)) ways e in
     two_inside (length code) _ _ ways a.2 (goes_inside code p (p + 4) (taken a.0)) (goes_inside code p (p + 2 + n) a.0)
 gate_inside code p (negsuc n) s ways e = absurd (cc)
 
@@ -79,7 +79,7 @@ ways_inside t code n p s o ways e led some = subst (λ (m : ℕ). AreInside m wa
 
 -- ---- ways have at most one credit more
 
-written_credit : (s after : Seen) (r : ℕ) (k : Known) → written s r k ≡ Some after → after.credit ≡ s.credit
+written_credit : (s after : Seen) (r : ℕ) (k : Known) → register_written s r k ≡ Some after → after.credit ≡ s.credit
 written_credit s after r k e = by (nat_lt r 10) e
   where
     by : (b : Bool) → cond b (Some (record s { regs = slice_set s.regs r k })) None ≡ Some after → after.credit ≡ s.credit
@@ -93,15 +93,15 @@ same_credit false s x after e f = absurd (cc)
 loaded_credit : (payload : ℕ) (s after : Seen) (size : Size) (dst src : ℕ) (offset : ℤ) → loaded payload s size dst src offset ≡ Some after → after.credit ≡ s.credit
 loaded_credit payload s after size dst src offset e = by (number_in (known_of s src)) e
   where
-    by : (o : Option ℕ) → option_and_then (λ base. cond (may_load payload (address_of base offset) (byte_len (size_width size))) (written s dst Num) None) o ≡ Some after → after.credit ≡ s.credit
+    by : (o : Option ℕ) → option_and_then (λ base. cond (may_load payload (address_of base offset) (byte_len (size_width size))) (register_written s dst Num) None) o ≡ Some after → after.credit ≡ s.credit
     by None f = absurd (cc)
     by (Some base) f = one (may_load payload (address_of base offset) (byte_len (size_width size))) f
       where
-        one : (b : Bool) → cond b (written s dst Num) None ≡ Some after → after.credit ≡ s.credit
+        one : (b : Bool) → cond b (register_written s dst Num) None ≡ Some after → after.credit ≡ s.credit
         one true g = written_credit s after dst Num g
         one false g = absurd (cc)
 
-stored_credit : (s after : Seen) (size : Size) (dst : ℕ) (offset : ℤ) → stored s size dst offset ≡ Some after → after.credit ≡ s.credit
+stored_credit : (s after : Seen) (size : Size) (dst : ℕ) (offset : ℤ) → frame_stored s size dst offset ≡ Some after → after.credit ≡ s.credit
 stored_credit s after size dst offset e = by (number_in (known_of s dst)) e
   where
     by : (o : Option ℕ) → option_and_then (λ base. cond (may_store (address_of base offset) (byte_len (size_width size))) (Some s) None) o ≡ Some after → after.credit ≡ s.credit
@@ -110,22 +110,22 @@ stored_credit s after size dst offset e = by (number_in (known_of s dst)) e
 
 effect_credit : (t : Sheet) (i : Insn) (s after : Seen) → effect t i s ≡ Some after → after.credit ≡ s.credit
 effect_credit t (Alu wide op dst src offset) s after e =
-    let a = bind_some (first_known op s dst) (λ x. option_and_then (λ y. written s dst (alu_known wide op offset x y)) (source_known s src)) after e in
-    let b = bind_some (source_known s src) (λ y. written s dst (alu_known wide op offset a.0 y)) after a.2 in
+    let a = bind_some (first_known op s dst) (λ x. option_and_then (λ y. register_written s dst (alu_known wide op offset x y)) (source_known s src)) after e in
+    let b = bind_some (source_known s src) (λ y. register_written s dst (alu_known wide op offset a.0 y)) after a.2 in
     written_credit s after dst _ b.2
-effect_credit t (Neg wide dst) s after e = written_credit s after dst Num (bind_some (set_known (known_of s dst)) (λ x. written s dst Num) after e).2
-effect_credit t (End wide big dst bits) s after e = written_credit s after dst Num (bind_some (set_known (known_of s dst)) (λ x. written s dst Num) after e).2
+effect_credit t (Neg wide dst) s after e = written_credit s after dst Num (bind_some (set_known (known_of s dst)) (λ x. register_written s dst Num) after e).2
+effect_credit t (End wide big dst bits) s after e = written_credit s after dst Num (bind_some (set_known (known_of s dst)) (λ x. register_written s dst Num) after e).2
 effect_credit t (Jump wide op dst src offset) s after e =
     let a = bind_some (set_known (known_of s dst)) (λ x. option_and_then (λ y. Some s) (source_known s src)) after e in
     let b = bind_some (source_known s src) (λ y. Some s) after a.2 in
     ap (λ (x : Seen). x.credit) (sym (some_is s after b.2))
 effect_credit t (Ja offset) s after e = ap (λ (x : Seen). x.credit) (sym (some_is s after e))
 effect_credit t (JaLong imm) s after e = ap (λ (x : Seen). x.credit) (sym (some_is s after e))
-effect_credit t (Call number) s after e = same_credit (call_fits t.maps t.formats number s) s (after_call s) after refl e
+effect_credit t (Call number) s after e = same_credit (call_fits t.maps t.formats number s) s (after_helper s) after refl e
 effect_credit t Exit s after e = ap (λ (x : Seen). x.credit) (sym (some_is s after e))
 effect_credit t (Load size sign dst src offset) s after e = loaded_credit t.payload s after size dst src offset e
 effect_credit t (StoreImm size dst offset imm) s after e = stored_credit s after size dst offset e
-effect_credit t (Store size dst src offset) s after e = stored_credit s after size dst offset (bind_some (set_known (known_of s src)) (λ x. stored s size dst offset) after e).2
+effect_credit t (Store size dst src offset) s after e = stored_credit s after size dst offset (bind_some (set_known (known_of s src)) (λ x. frame_stored s size dst offset) after e).2
 effect_credit t (Wide dst number) s after e = written_credit s after dst (Const number) e
 effect_credit t Half s after e = absurd (cc)
 
@@ -163,7 +163,7 @@ onward_few code p n i s ways le e = one_few n (goes code p (p + 1) s) ways e (λ
 
 gate_few : (code : List Insn) (p : ℕ) (offset : ℤ) (s : Seen) (ways : Ways) → through_gate code p offset s ≡ Some ways → AreFew (s.credit + 1) ways
 gate_few code p (pos n) s ways e =
-    let a = bind_some (written s 1 Num) (λ after. two_ways (goes code p (p + 4) (taken after)) (goes code p (p + 2 + n) after)) ways e in
+    let a = bind_some (register_written s 1 Num) (λ after. two_ways (goes code p (p + 4) (taken after)) (goes code p (p + 2 + n) after)) ways e in
     let c = written_credit s a.0 1 Num a.1 in
     two_few (s.credit + 1) _ _ ways a.2 (λ w f. goes_few code p (p + 4) (s.credit + 1) (taken a.0) w (omega (arith, c)) f)
     (λ w f. goes_few code p (p + 2 + n) (s.credit + 1) a.0 w (omega (arith, c)) f)

@@ -27,10 +27,10 @@ use Rattle.bpf_check.specs.Sheet.{Sheet}
 use Rattle.bpf_check.specs.declared.ways.Way.{Way}
 use Rattle.bpf_check.specs.declared.ways.Ways.{Ways}
 use Rattle.bpf_check.specs.declared.ways.Ways.TheVariants.{Finish, To, Either}
-use Rattle.bpf_check.specs.States.{known_of, written, paid, CoversKnown, Covers}
+use Rattle.bpf_check.specs.States.{known_of, register_written, paid, CoversKnown, Covers}
 use Rattle.bpf_check.specs.Reading.{set_known, number_in, may_load, may_store}
 use Rattle.bpf_check.specs.Calls.{in_frame, in_results, get_fits, set_fits, delete_fits, add_fits, sum_fits, limits_fit, printf_fits, is_line, helper_fits, known_helper_fits, call_fits}
-use Rattle.bpf_check.specs.Effects.{source_known, first_known, sum_known, difference_known, wide_known, alu_known, loaded, stored, after_call, called, effect}
+use Rattle.bpf_check.specs.Effects.{source_known, first_known, sum_known, difference_known, wide_known, alu_known, loaded, frame_stored, after_helper, called, effect}
 use Rattle.bpf_check.specs.Ways.{may_go, goes, is_back, jumped, one_way, two_ways, onward, taken, through_gate, from_insn, from_gate, gate_at, leads}
 use Rattle.bpf_check.specs.Closed.{HasCover, IsCovered, AreCovered, Meets, IsClosed}
 use Rattle.bpf_check.proofs.Registers.{known_refl, covers_at, covers_set, covers_trans}
@@ -159,7 +159,7 @@ module _ (t : Sheet) (a s : Seen) (full : length s.regs ≡ 10) (c : Covers a s)
   first_also Mov dst = tt
   first_also op dst = reg_also dst
 
-  written_also : (r : ℕ) (x y : Known) → CoversKnown x y → AlsoSeen (written a r x) (written s r y)
+  written_also : (r : ℕ) (x y : Known) → CoversKnown x y → AlsoSeen (register_written a r x) (register_written s r y)
   written_also r x y h = by (nat_lt r 10) refl
     where
       by : (b : Bool) → nat_lt r 10 ≡ b → AlsoSeen (cond b (Some (record a { regs = slice_set a.regs r x })) None) (cond b (Some (record s { regs = slice_set s.regs r y })) None)
@@ -169,11 +169,11 @@ module _ (t : Sheet) (a s : Seen) (full : length s.regs ≡ 10) (c : Covers a s)
   loaded_also : (size : Size) (dst src : ℕ) (offset : ℤ) → AlsoSeen (loaded t.payload a size dst src offset) (loaded t.payload s size dst src offset)
   loaded_also size dst src offset = number_then (number_in (known_of a src)) (number_in (known_of s src)) _ _ (base_also src) (λ base. by (may_load t.payload (address_of base offset) (byte_len (size_width size))))
     where
-      by : (b : Bool) → AlsoSeen (cond b (written a dst Num) None) (cond b (written s dst Num) None)
+      by : (b : Bool) → AlsoSeen (cond b (register_written a dst Num) None) (cond b (register_written s dst Num) None)
       by true = written_also dst Num Num tt
       by false = tt
 
-  stored_also : (size : Size) (dst : ℕ) (offset : ℤ) → AlsoSeen (stored a size dst offset) (stored s size dst offset)
+  stored_also : (size : Size) (dst : ℕ) (offset : ℤ) → AlsoSeen (frame_stored a size dst offset) (frame_stored s size dst offset)
   stored_also size dst offset = number_then (number_in (known_of a dst)) (number_in (known_of s dst)) _ _ (base_also dst) (λ base. by (may_store (address_of base offset) (byte_len (size_width size))))
     where
       by : (b : Bool) → AlsoSeen (cond b (Some a) None) (cond b (Some s) None)
@@ -276,7 +276,7 @@ record Pair (a s : Seen) : Type 0 where
 put_both : (a s : Seen) (r : ℕ) (k : Known) → r < 10 → Pair a s → Pair (put a r k) (put s r k)
 put_both a s r k lt p = record { full = length-set s.regs r k ∙ p.full; covers = covers_set a s r k k lt p.full (known_refl k) p.covers }
 
-after_also : (a s : Seen) → length s.regs ≡ 10 → Covers a s → Covers (after_call a) (after_call s)
+after_also : (a s : Seen) → length s.regs ≡ 10 → Covers a s → Covers (after_helper a) (after_helper s)
 after_also a s full c =
     let p0 = put_both a s 0 (Const 0) (omega arith) (record { full = full; covers = c }) in
     let p1 = put_both _ _ 1 Unset (omega arith) p0 in
@@ -290,7 +290,7 @@ module _ (t : Sheet) (a s : Seen) (full : length s.regs ≡ 10) (c : Covers a s)
   called_also : (n : ℕ) → AlsoSeen (called t.maps t.formats a n) (called t.maps t.formats s n)
   called_also n = by (call_fits t.maps t.formats n a) (call_fits t.maps t.formats n s) (fits_also t a s full c n)
     where
-      by : (b d : Bool) → (b ≡ true → d ≡ true) → AlsoSeen (cond b (Some (after_call a)) None) (cond d (Some (after_call s)) None)
+      by : (b d : Bool) → (b ≡ true → d ≡ true) → AlsoSeen (cond b (Some (after_helper a)) None) (cond d (Some (after_helper s)) None)
       by true true h = after_also a s full c
       by true false h = let e : false ≡ true = h refl in absurd (cc)
       by false d h = tt
@@ -371,7 +371,7 @@ taken_also a s c = record { regs = c.regs; credit = omega (arith, c.credit) }
 
 gate_also : (t : Sheet) (code : List Insn) (p : ℕ) (offset : ℤ) (a s : Seen) → length s.regs ≡ 10 → Covers a s → AlsoWays (through_gate code p offset a) (through_gate code p offset s)
 gate_also t code p (pos n) a s full c =
-    seen_then (written a 1 Num) (written s 1 Num) _ _ (written_also t a s full c 1 Num Num tt)
+    seen_then (register_written a 1 Num) (register_written s 1 Num) _ _ (written_also t a s full c 1 Num Num tt)
     (λ x y h. two_also _ _ _ _ (goes_also code p (p + 4) (taken x) (taken y) (taken_also x y h)) (goes_also code p (p + 2 + n) x y h))
 gate_also t code p (negsuc n) a s full c = tt
 

@@ -18,7 +18,7 @@ use Rattle.bpf_check.specs.declared.known.Known.{Known}
 use Rattle.bpf_check.specs.declared.known.Known.TheVariants.{Unset, Num, Const}
 use Rattle.bpf_check.specs.declared.known.Seen.{Seen}
 use Rattle.bpf_check.specs.Sheet.{Sheet}
-use Rattle.bpf_check.specs.States.{known_of, written}
+use Rattle.bpf_check.specs.States.{known_of, register_written}
 use Rattle.bpf_check.specs.Reading.{set_known, number_in, may_load, may_store}
 use Rattle.bpf_check.specs.Calls.{call_fits}
 
@@ -54,35 +54,35 @@ alu_known true op offset x y = wide_known op offset x y
 -- a load is of bytes that lie in a region, and a store of bytes of the frame before the count of turns
 abbrev pub loaded : ℕ → Seen → Size → ℕ → ℕ → ℤ → Option Seen
 loaded payload s size dst src offset =
-    option_and_then (λ base. cond (may_load payload (address_of base offset) (byte_len (size_width size))) (written s dst Num) None)
+    option_and_then (λ base. cond (may_load payload (address_of base offset) (byte_len (size_width size))) (register_written s dst Num) None)
     (number_in (known_of s src))
 
-abbrev pub stored : Seen → Size → ℕ → ℤ → Option Seen
-stored s size dst offset =
+abbrev pub frame_stored : Seen → Size → ℕ → ℤ → Option Seen
+frame_stored s size dst offset =
     option_and_then (λ base. cond (may_store (address_of base offset) (byte_len (size_width size))) (Some s) None) (number_in (known_of s dst))
 
 -- a call sets R0 to 0, and unsets R1 to R5
-abbrev pub after_call : Seen → Seen
-after_call s = record s {
+abbrev pub after_helper : Seen → Seen
+after_helper s = record s {
   regs = slice_set (slice_set (slice_set (slice_set (slice_set (slice_set s.regs 0 (Const 0)) 1 Unset) 2 Unset) 3 Unset) 4 Unset) 5 Unset;
 }
 
 abbrev pub called : List MapDecl → List (List Piece) → Seen → ℕ → Option Seen
-called maps formats s n = cond (call_fits maps formats n s) (Some (after_call s)) None
+called maps formats s n = cond (call_fits maps formats n s) (Some (after_helper s)) None
 
 -- what is known after arithmetic, after a change of a register by itself alone, after a comparison, and after a store of a register
 abbrev pub calculated : Seen → Bool → AluOp → ℕ → Source → ℤ → Option Seen
 calculated s wide op dst src offset =
-    option_and_then (λ x. option_and_then (λ y. written s dst (alu_known wide op offset x y)) (source_known s src)) (first_known op s dst)
+    option_and_then (λ x. option_and_then (λ y. register_written s dst (alu_known wide op offset x y)) (source_known s src)) (first_known op s dst)
 
 abbrev pub changed : Seen → ℕ → Option Seen
-changed s dst = option_and_then (λ x. written s dst Num) (set_known (known_of s dst))
+changed s dst = option_and_then (λ x. register_written s dst Num) (set_known (known_of s dst))
 
 abbrev pub compared : Seen → ℕ → Source → Option Seen
 compared s dst src = option_and_then (λ x. option_and_then (λ y. Some s) (source_known s src)) (set_known (known_of s dst))
 
 abbrev pub stored_from : Seen → Size → ℕ → ℕ → ℤ → Option Seen
-stored_from s size dst src offset = option_and_then (λ x. stored s size dst offset) (set_known (known_of s src))
+stored_from s size dst src offset = option_and_then (λ x. frame_stored s size dst offset) (set_known (known_of s src))
 
 -- what is known after an instruction, where it finds what it wants
 abbrev pub effect : Sheet → Insn → Seen → Option Seen
@@ -91,9 +91,9 @@ effect t (Neg wide dst) s = changed s dst
 effect t (End wide big dst bits) s = changed s dst
 effect t (Jump wide op dst src offset) s = compared s dst src
 effect t (Load size sign dst src offset) s = loaded t.payload s size dst src offset
-effect t (StoreImm size dst offset imm) s = stored s size dst offset
+effect t (StoreImm size dst offset imm) s = frame_stored s size dst offset
 effect t (Store size dst src offset) s = stored_from s size dst src offset
-effect t (Wide dst number) s = written s dst (Const number)
+effect t (Wide dst number) s = register_written s dst (Const number)
 effect t (Call number) s = called t.maps t.formats s number
 effect t Half s = None
 effect t i s = Some s

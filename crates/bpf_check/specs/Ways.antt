@@ -16,7 +16,7 @@ use Rattle.bpf_check.specs.Sheet.{Sheet}
 use Rattle.bpf_check.specs.declared.ways.Way.{Way}
 use Rattle.bpf_check.specs.declared.ways.Ways.{Ways}
 use Rattle.bpf_check.specs.declared.ways.Ways.TheVariants.{Finish, To, Either}
-use Rattle.bpf_check.specs.States.{written, paid}
+use Rattle.bpf_check.specs.States.{register_written, paid}
 use Rattle.bpf_check.specs.Effects.{effect}
 
 -- ---- gates: the turns that were taken are loaded; where there are 4,096 a jump leads on; and one more is stored
@@ -88,7 +88,7 @@ taken s = record s { credit = s.credit + 1 }
 
 -- a gate gives one credit, and none where its jump, which goes forward, is taken
 abbrev pub through_gate : List Insn → ℕ → ℤ → Seen → Option Ways
-through_gate code p (pos n) s = option_and_then (λ after. two_ways (goes code p (p + 4) (taken after)) (goes code p (p + 2 + n) after)) (written s 1 Num)
+through_gate code p (pos n) s = option_and_then (λ after. two_ways (goes code p (p + 4) (taken after)) (goes code p (p + 2 + n) after)) (register_written s 1 Num)
 through_gate code p (negsuc n) s = None
 
 abbrev pub from_insn : Sheet → List Insn → ℕ → Seen → Option Insn → Option Ways

@@ -4,13 +4,13 @@ ghost use Rattle.std.specs.Int.{byte_len};
 ghost use Rattle.bpf_insn.specs.Words.{size_width};
 ghost use Rattle.bpf_insn.specs.Machine.{address_of};
 ghost use Rattle.bpf_check.specs.Reading.{set_known, number_in, lies_in, may_load, may_store};
-ghost use Rattle.bpf_check.specs.Effects.{source_known, first_known, sum_known, difference_known, alu_known, loaded, stored};
-ghost use Rattle.bpf_check.specs.Effects.{after_call, called, calculated, changed, compared, stored_from, effect};
+ghost use Rattle.bpf_check.specs.Effects.{source_known, first_known, sum_known, difference_known, alu_known, loaded, frame_stored};
+ghost use Rattle.bpf_check.specs.Effects.{after_helper, called, calculated, changed, compared, stored_from, effect};
 ghost use Rattle.bpf_check.specs.Calls.{call_fits};
 ghost use Rattle.bpf_check.specs.Sheet.{sheet_of};
 
 use crate::calls::call_fits;
-use crate::known::{Known, Seen, known_of, written};
+use crate::known::{Known, Seen, known_of, register_written};
 use bpf_insn::address::{CONTEXT, CONTEXT_BYTES, FRAME, PAYLOAD};
 use bpf_insn::insn::{AluOp, Insn, Size, Source};
 use bt_core::limits::FRAME_BYTES;
@@ -136,15 +136,15 @@ fn loaded(payload: u32, seen: Seen, size: Size, dst: u8, src: u8, offset: i16) -
 {
     let base = number_in(known_of(&seen, src))?;
     if may_load(payload, address_of(base, offset), size_bytes(size)) {
-        written(seen, dst, Known::Num)
+        register_written(seen, dst, Known::Num)
     } else {
         None
     }
 }
 
 // A store is of bytes of the frame before the count of turns.
-fn stored(seen: Seen, size: Size, dst: u8, offset: i16) -> Option<Seen>
-    ensures { result ≡ stored seen size dst offset }
+fn frame_stored(seen: Seen, size: Size, dst: u8, offset: i16) -> Option<Seen>
+    ensures { result ≡ frame_stored seen size dst offset }
 {
     let base = number_in(known_of(&seen, dst))?;
     if may_store(address_of(base, offset), size_bytes(size)) {
@@ -155,8 +155,8 @@ fn stored(seen: Seen, size: Size, dst: u8, offset: i16) -> Option<Seen>
 }
 
 // A call sets R0 to 0, and unsets R1 to R5.
-fn after_call(seen: Seen) -> Seen
-    ensures { result ≡ after_call seen }
+fn after_helper(seen: Seen) -> Seen
+    ensures { result ≡ after_helper seen }
 {
     let mut after = seen;
     after.regs[0] = Known::Const(0);
@@ -172,7 +172,7 @@ fn called(typed: &Typed, seen: Seen, number: u32) -> Option<Seen>
     ensures { result ≡ called typed.now.maps typed.now.formats seen number }
 {
     if call_fits(typed, number, &seen) {
-        Some(after_call(seen))
+        Some(after_helper(seen))
     } else {
         None
     }
@@ -184,7 +184,7 @@ fn calculated(seen: Seen, wide: bool, op: AluOp, dst: u8, src: Source, offset: i
 {
     let x = first_known(op, &seen, dst)?;
     let y = source_known(&seen, src)?;
-    written(seen, dst, alu_known(wide, op, offset, x, y))
+    register_written(seen, dst, alu_known(wide, op, offset, x, y))
 }
 
 // A register changes by itself alone.
@@ -192,7 +192,7 @@ fn changed(seen: Seen, dst: u8) -> Option<Seen>
     ensures { result ≡ changed seen dst }
 {
     set_known(known_of(&seen, dst))?;
-    written(seen, dst, Known::Num)
+    register_written(seen, dst, Known::Num)
 }
 
 fn compared(seen: Seen, dst: u8, src: Source) -> Option<Seen>
@@ -207,7 +207,7 @@ fn stored_from(seen: Seen, size: Size, dst: u8, src: u8, offset: i16) -> Option<
     ensures { result ≡ stored_from seen size dst src offset }
 {
     set_known(known_of(&seen, src))?;
-    stored(seen, size, dst, offset)
+    frame_stored(seen, size, dst, offset)
 }
 
 /// What is known after an instruction, where it finds what it wants: what it reads is set, what it loads
@@ -239,14 +239,14 @@ pub fn effect(typed: &Typed, payload: u32, insn: Insn, seen: Seen) -> Option<See
             dst,
             offset,
             ..
-        } => stored(seen, size, dst, offset),
+        } => frame_stored(seen, size, dst, offset),
         Insn::Store {
             size,
             dst,
             src,
             offset,
         } => stored_from(seen, size, dst, src, offset),
-        Insn::Wide { dst, number } => written(seen, dst, Known::Const(number)),
+        Insn::Wide { dst, number } => register_written(seen, dst, Known::Const(number)),
         Insn::Call { number } => called(typed, seen, number),
         Insn::Half => None,
         _ => Some(seen),

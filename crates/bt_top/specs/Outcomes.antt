@@ -7,7 +7,7 @@ use Rattle.bt_words.specs.declared.order.Order.TheVariants.{Run, Check, Code, Ve
 use Rattle.rec_format.specs.declared.recording.Recording.{Recording as Recorded}
 use Rattle.rec_format.specs.Recordings.{recording_bytes}
 use Rattle.rec_gen.specs.Made.{IsMade}
-use Rattle.json_out.specs.Lines.{stats_line as json_stats_line}
+use Rattle.json_out.specs.Lines.{json_stats_line}
 use Rattle.run_base.specs.declared.job.Job.{Job}
 use Rattle.run_base.specs.declared.job.Work.{Work}
 use Rattle.run_output.specs.declared.form.Form.{Form}

@@ -52,7 +52,7 @@ fn instructions_line(alloc: Global, form: Form, instructions: u64) -> Result<Vec
 {
     match form {
         Form::Text => text_line(alloc, instructions),
-        Form::Json => json_out::ends::stats_line(alloc, instructions),
+        Form::Json => json_out::ends::json_stats_line(alloc, instructions),
     }
 }
 

@@ -23,7 +23,7 @@ use Rattle.bpf_insn.specs.declared.insn.Insn.TheVariants.{Alu, Jump, Load, Store
 use Rattle.bpf_insn.specs.declared.insn.Size.TheVariants.{Dw}
 use Rattle.bpf_insn.specs.declared.insn.Source.TheVariants.{Imm}
 use Rattle.bpf_insn.specs.declared.trap.Trap.TheVariants.{BadJump}
-use Rattle.bpf_insn.specs.Regions.{Spaces, place_in, part_of, bytes_in, stored as stored_in}
+use Rattle.bpf_insn.specs.Regions.{Spaces, place_in, part_of, bytes_in, stored}
 use Rattle.bpf_insn.specs.Words.{test_holds}
 use Rattle.bpf_insn.specs.Machine.{Helpers, MachineState, GoesOn, Traps, is_entry, enters, with_value, set_reg, plain_step, machine_step, call_or, call_number, reg_of, loads, stores, number_of_bytes, jump_by}
 use Rattle.bpf_interp.specs.Running.{after_step, machine_run}
@@ -32,7 +32,7 @@ use Rattle.bpf_check.specs.declared.known.Seen.{Seen}
 use Rattle.bpf_check.specs.Sheet.{Sheet}
 use Rattle.bpf_check.specs.declared.ways.Way.{Way}
 use Rattle.bpf_check.specs.declared.ways.Ways.{Ways}
-use Rattle.bpf_check.specs.States.{written}
+use Rattle.bpf_check.specs.States.{register_written}
 use Rattle.bpf_check.specs.Ways.{goes, two_ways, taken, through_gate, from_gate, gate_at, is_turns_load, turns_jump, is_turns_add, is_turns_store}
 use Rattle.check_laws.proofs.Holding.{Holds, Counts}
 use Rattle.bpf_check.proofs.Registers.{get-set-same, get-set-other}
@@ -200,7 +200,7 @@ module _ (K : Asked → Reply → Type 0) (t : Sheet) (helper : Helpers) (code :
     three = record two { regs = slice_set one.regs 1 (Some (turns + 1)); place = st.place + 1 + 1 + 1 }
 
     abbrev counted_up : Spaces
-    counted_up = stored_in st.spaces 12884902392 (to_le_bytes w64 (turns + 1))
+    counted_up = stored st.spaces 12884902392 (to_le_bytes w64 (turns + 1))
 
     abbrev four : MachineState
     four = record three { spaces = counted_up; place = st.place + 1 + 1 + 1 + 1 }
@@ -277,7 +277,7 @@ module _ (K : Asked → Reply → Type 0) (t : Sheet) (helper : Helpers) (code :
       by : (offset : ℤ) → Gate code st.place offset → through_gate code st.place offset a ≡ Some ways → GateWays K t helper code st a turns ways
       by (negsuc n) g f = absurd (cc)
       by (pos n) g f =
-          let p = bind_some (written a 1 Num) (λ after. two_ways (goes code st.place (st.place + 4) (taken after)) (goes code st.place (st.place + 2 + n) after)) ways f in
+          let p = bind_some (register_written a 1 Num) (λ after. two_ways (goes code st.place (st.place + 4) (taken after)) (goes code st.place (st.place + 2 + n) after)) ways f in
           let w = wrote a p.0 1 Num p.1 in
           let o = two_is (goes code st.place (st.place + 4) (taken p.0)) (goes code st.place (st.place + 2 + n) p.0) ways p.2 in
           let v = arrives code st.place (st.place + 4) (taken p.0) o.0 o.2 in

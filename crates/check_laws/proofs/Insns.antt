@@ -19,9 +19,9 @@ use Rattle.bpf_insn.specs.declared.insn.Size.TheVariants.{W, H, B, Dw}
 use Rattle.bpf_insn.specs.declared.insn.Source.{Source}
 use Rattle.bpf_insn.specs.declared.insn.Source.TheVariants.{Imm, Reg}
 use Rattle.bpf_insn.specs.declared.trap.Trap.TheVariants.{BadAddress}
-use Rattle.bpf_insn.specs.Regions.{Spaces, place_in, part_of, bytes_in, stored as stored_in, written as written_in}
+use Rattle.bpf_insn.specs.Regions.{Spaces, place_in, part_of, bytes_in, stored, written}
 use Rattle.bpf_insn.specs.Words.{alu_value, neg_value, end_value, size_width, low, test_holds}
-use Rattle.bpf_insn.specs.Machine.{Helpers, Answer, Gave, BadBytes, BadArgument, MachineState, Next, Ends, Traps, enters, with_value, set_reg, change, first_operand, source_of, plain_step, machine_step, call_step, answered, args_of, after_call as after_machine_call, jump_by, reg_of, address_of, loads, load, stores, store, number_of_bytes}
+use Rattle.bpf_insn.specs.Machine.{Helpers, Answer, Gave, BadBytes, BadArgument, MachineState, Next, Ends, Traps, enters, with_value, set_reg, change, first_operand, source_of, plain_step, machine_step, call_step, answered, args_of, after_call, jump_by, reg_of, address_of, loads, load, stores, store, number_of_bytes}
 use Rattle.bpf_check.specs.declared.known.Known.{Known}
 use Rattle.bpf_check.specs.declared.known.Known.TheVariants.{Unset, Num, Const}
 use Rattle.bpf_check.specs.declared.known.Seen.{Seen}
@@ -29,10 +29,10 @@ use Rattle.bpf_check.specs.Sheet.{Sheet}
 use Rattle.bpf_check.specs.declared.ways.Way.{Way}
 use Rattle.bpf_check.specs.declared.ways.Ways.{Ways}
 use Rattle.bpf_check.specs.declared.ways.Ways.TheVariants.{Finish, Either}
-use Rattle.bpf_check.specs.States.{known_of, written}
+use Rattle.bpf_check.specs.States.{known_of, register_written}
 use Rattle.bpf_check.specs.Reading.{set_known, number_in, lies_in, may_load, may_store}
 use Rattle.bpf_check.specs.Calls.{call_fits}
-use Rattle.bpf_check.specs.Effects.{source_known, first_known, alu_known, loaded, stored, after_call, called, effect}
+use Rattle.bpf_check.specs.Effects.{source_known, first_known, alu_known, loaded, frame_stored, after_helper, called, effect}
 use Rattle.bpf_check.specs.Ways.{goes, jumped, one_way, two_ways, onward, from_gate, from_insn}
 use Rattle.check_laws.specs.Safe.{Yields}
 use Rattle.check_laws.proofs.Holding.{HoldsKnown, Holds, Counts, GivesWell, HelpersServe}
@@ -83,7 +83,7 @@ load_there s payload a n le e = by (or_cases (lies_in CONTEXT CONTEXT_BYTES a n)
     by (inr h) = rest (or_cases (lies_in PAYLOAD payload a n) _ h)
 
 -- bytes before the count of turns are written
-pub store_keeps : (front tail bs : List ℕ) (at : ℕ) → at + length bs ≤ length front → written_in (front ++ tail) at bs ≡ written_in front at bs ++ tail
+pub store_keeps : (front tail bs : List ℕ) (at : ℕ) → at + length bs ≤ length front → written (front ++ tail) at bs ≡ written front at bs ++ tail
 store_keeps front tail bs at le =
     let e1 : take at (front ++ tail) ≡ take at front = take-append-le at front tail (omega (arith, le)) in
     let e2 : drop (at + length bs) (front ++ tail) ≡ drop (at + length bs) front ++ tail = drop-append-le (at + length bs) front tail le in
@@ -92,7 +92,7 @@ store_keeps front tail bs at le =
     ∙ ap (λ (l : List ℕ). take at front ++ l) (sym (append_assoc bs (drop (at + length bs) front) tail))
     ∙ sym (append_assoc (take at front) (bs ++ drop (at + length bs) front) tail)
 
-pub written_long : (front bs : List ℕ) (at : ℕ) → at + length bs ≤ length front → length (written_in front at bs) ≡ length front
+pub written_long : (front bs : List ℕ) (at : ℕ) → at + length bs ≤ length front → length (written front at bs) ≡ length front
 written_long front bs at le =
     omega (arith, le, length-append (take at front) (bs ++ drop (at + length bs) front), length-append bs (drop (at + length bs) front), length-take at front, length-drop (at + length bs) front)
 
@@ -116,7 +116,7 @@ pub record Wrote (a after : Seen) (dst : ℕ) (k : Known) : Type 0 where
   pub low : dst < 10
   pub is : put a dst k ≡ after
 
-pub wrote : (a after : Seen) (dst : ℕ) (k : Known) → written a dst k ≡ Some after → Wrote a after dst k
+pub wrote : (a after : Seen) (dst : ℕ) (k : Known) → register_written a dst k ≡ Some after → Wrote a after dst k
 wrote a after dst k e = by (nat_lt dst 10) refl e
   where
     by : (b : Bool) → nat_lt dst 10 ≡ b → cond b (Some (put a dst k)) None ≡ Some after → Wrote a after dst k
@@ -126,7 +126,7 @@ wrote a after dst k e = by (nat_lt dst 10) refl e
 module _ (K : Asked → Reply → Type 0) (t : Sheet) (helper : Helpers) (code : List Insn) (serve : HelpersServe K t helper) where
   module _ (st : MachineState) (a : Seen) (turns : ℕ) (h : Holds st.regs a) (c : Counts t st.spaces turns) where
     -- a register is written
-    writes : (dst v q : ℕ) (k : Known) (after : Seen) (ways : Ways) (next : Next) → written a dst k ≡ Some after → HoldsKnown k (Some v) → next ≡ set_reg code st dst v q
+    writes : (dst v q : ℕ) (k : Known) (after : Seen) (ways : Ways) (next : Next) → register_written a dst k ≡ Some after → HoldsKnown k (Some v) → next ≡ set_reg code st dst v q
         → one_way (goes code st.place q after) ≡ Some ways → st.place < q → LeadsAs t st.place a turns next ways
     writes dst v q k after ways next e means is go lt =
         let w = wrote a after dst k e in
@@ -149,7 +149,7 @@ module _ (K : Asked → Reply → Type 0) (t : Sheet) (helper : Helpers) (code :
         (ap (λ (o : Option ℕ). with_value st.place o (λ m. with_value st.place (source_of st.regs src) (λ n. next m n))) x.is
         ∙ ap (λ (o : Option ℕ). with_value st.place o (λ n. next x.value n)) y.is) go (omega arith)
 
-    change_row : (f : ℕ → ℕ) (dst : ℕ) (after : Seen) (ways : Ways) → option_and_then (λ x. written a dst Num) (set_known (known_of a dst)) ≡ Some after
+    change_row : (f : ℕ → ℕ) (dst : ℕ) (after : Seen) (ways : Ways) → option_and_then (λ x. register_written a dst Num) (set_known (known_of a dst)) ≡ Some after
         → one_way (goes code st.place (st.place + 1) after) ≡ Some ways → LeadsAs t st.place a turns (change code st f dst) ways
     change_row f dst after ways e go =
         let p = bind_some (set_known (known_of a dst)) _ after e in
@@ -165,7 +165,7 @@ module _ (K : Asked → Reply → Type 0) (t : Sheet) (helper : Helpers) (code :
         let w = size_width size in
         by (may_load t.payload (address_of p.0 offset) (byte_len w)) refl p.2 x
       where
-        by : {base : ℕ} (b : Bool) → may_load t.payload (address_of base offset) (byte_len (size_width size)) ≡ b → cond b (written a dst Num) None ≡ Some after → reg_of st.regs src ≡ Some base
+        by : {base : ℕ} (b : Bool) → may_load t.payload (address_of base offset) (byte_len (size_width size)) ≡ b → cond b (register_written a dst Num) None ≡ Some after → reg_of st.regs src ≡ Some base
             → LeadsAs t st.place a turns (load code st sign (size_width size) dst src offset) ways
         by {base} true m f x =
             let there = load_there st.spaces t.payload (address_of base offset) (byte_len (size_width size)) c.payload m in
@@ -175,7 +175,7 @@ module _ (K : Asked → Reply → Type 0) (t : Sheet) (helper : Helpers) (code :
             ∙ ap (λ (o : Option (List ℕ)). loads code st dst (option_map (number_of_bytes sign (size_width size)) o)) there.1) go (omega arith)
         by {base} false m f x = absurd (cc)
 
-    store_row : (size : Size) (dst : ℕ) (offset : ℤ) (value : Option ℕ) (v : ℕ) (after : Seen) (ways : Ways) → value ≡ Some v → stored a size dst offset ≡ Some after
+    store_row : (size : Size) (dst : ℕ) (offset : ℤ) (value : Option ℕ) (v : ℕ) (after : Seen) (ways : Ways) → value ≡ Some v → frame_stored a size dst offset ≡ Some after
         → one_way (goes code st.place (st.place + 1) after) ≡ Some ways → LeadsAs t st.place a turns (store code st (size_width size) dst value offset) ways
     store_row size dst offset value v after ways ev e go =
         let p = bind_some (number_in (known_of a dst)) _ after e in
@@ -192,7 +192,7 @@ module _ (K : Asked → Reply → Type 0) (t : Sheet) (helper : Helpers) (code :
             let bytes = to_le_bytes (size_width size) (low (size_width size) v) in
             let long : length bytes ≡ byte_len (size_width size) = le_long (size_width size) (low (size_width size) v) size refl in
             let inside : lies_in FRAME 504 address (length bytes) ≡ true = subst (λ (n : ℕ). lies_in FRAME 504 address n ≡ true) (sym long) m in
-            let to : MachineState = record st { spaces = stored_in st.spaces address bytes } in
+            let to : MachineState = record st { spaces = stored st.spaces address bytes } in
             let bounds = and_parts (nat_le FRAME address) _ inside in
             let more = and_parts (nat_le (length bytes) 504) _ bounds.1 in
             let l2 = leb-true (length bytes) 504 more.0 in
@@ -206,9 +206,9 @@ module _ (K : Asked → Reply → Type 0) (t : Sheet) (helper : Helpers) (code :
             (record {
               payload = c.payload;
               short = c.short;
-              front = written_in c.front (address - FRAME) bytes;
+              front = written c.front (address - FRAME) bytes;
               long = written_long c.front bytes (address - FRAME) room ∙ c.long;
-              frame = ap (λ (l : List ℕ). written_in l (address - FRAME) bytes) c.frame ∙ store_keeps c.front (to_le_bytes w64 turns) bytes (address - FRAME) room;
+              frame = ap (λ (l : List ℕ). written l (address - FRAME) bytes) c.frame ∙ store_keeps c.front (to_le_bytes w64 turns) bytes (address - FRAME) room;
               few = c.few;
             })
             (ap (λ (s : Seen). s.credit) (sym (some_is a after f))) (omega arith)
@@ -247,9 +247,9 @@ module _ (K : Asked → Reply → Type 0) (t : Sheet) (helper : Helpers) (code :
         → Yields K (λ next. LeadsAs t st.place a turns next ways) (call_step helper code n st)
     call_row n after ways e go = by (call_fits t.maps t.formats n a) refl e
       where
-        given : a ≡ a → after_call a ≡ after → (x : Answer) → GivesWell t turns st.spaces x → LeadsAs t st.place a turns (answered code st x) ways
+        given : a ≡ a → after_helper a ≡ after → (x : Answer) → GivesWell t turns st.spaces x → LeadsAs t st.place a turns (answered code st x) ways
         given s same (Gave m frame) g =
-            let to : MachineState = record st { regs = after_machine_call st.regs m; spaces = record st.spaces { frame = frame } } in
+            let to : MachineState = record st { regs = after_call st.regs m; spaces = record st.spaces { frame = frame } } in
             let h0 = set_holds st.regs a 0 (Const 0) (Some m) (omega arith) (ap (λ (x : ℕ). Some x) g.0) h in
             let h1 = set_holds _ _ 1 Unset None (omega arith) tt h0 in
             let h2 = set_holds _ _ 2 Unset None (omega arith) tt h1 in
@@ -260,8 +260,8 @@ module _ (K : Asked → Reply → Type 0) (t : Sheet) (helper : Helpers) (code :
         given s same BadBytes g = absurd g
         given s same BadArgument g = absurd g
 
-        by : (b : Bool) → call_fits t.maps t.formats n a ≡ b → cond b (Some (after_call a)) None ≡ Some after → Yields K (λ next. LeadsAs t st.place a turns next ways) (call_step helper code n st)
-        by true f g = Yields-then K (GivesWell t turns st.spaces) (λ next. LeadsAs t st.place a turns next ways) (helper n (args_of st.regs) st.spaces) _ (serve n turns st.regs st.spaces a f h c) (given refl (some_is (after_call a) after g))
+        by : (b : Bool) → call_fits t.maps t.formats n a ≡ b → cond b (Some (after_helper a)) None ≡ Some after → Yields K (λ next. LeadsAs t st.place a turns next ways) (call_step helper code n st)
+        by true f g = Yields-then K (GivesWell t turns st.spaces) (λ next. LeadsAs t st.place a turns next ways) (helper n (args_of st.regs) st.spaces) _ (serve n turns st.regs st.spaces a f h c) (given refl (some_is (after_helper a) after g))
         by false f g = absurd (cc)
 
     insn_row : (i : Insn) (after : Seen) (ways : Ways) → effect t i a ≡ Some after → onward code st.place i after ≡ Some ways → Yields K (λ next. LeadsAs t st.place a turns next ways) (machine_step helper code (Some i) st)

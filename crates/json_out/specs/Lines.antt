@@ -87,5 +87,5 @@ abbrev pub end_lines : List MapDecl → List (List (List Value × Cell)) → Lis
 end_lines maps rows lost = all_map_lines maps rows ++ all_lost_lines maps lost
 
 -- the number of instructions
-abbrev pub stats_line : ℕ → List ℕ
-stats_line instructions = json_line (stats_data instructions)
+abbrev pub json_stats_line : ℕ → List ℕ
+json_stats_line instructions = json_line (stats_data instructions)

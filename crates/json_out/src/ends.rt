@@ -2,7 +2,7 @@
 ghost use Rattle.std.specs.Prelude.{◌≡◌, ◌++◌, length, IfOk, OnOk};
 ghost use Rattle.map_rows.specs.Fits.{AllRowsFit};
 ghost use Rattle.serde_json.specs.View.{view};
-ghost use Rattle.json_out.specs.Lines.{all_map_lines, all_lost_lines, end_lines, stats_data, stats_line};
+ghost use Rattle.json_out.specs.Lines.{all_map_lines, all_lost_lines, end_lines, stats_data, json_stats_line};
 
 use crate::maps::{write_lost, write_map};
 use crate::text::line_of;
@@ -84,8 +84,8 @@ fn stats_value(alloc: Global, instructions: u64) -> Result<Json, Memory>
 /// # Errors
 ///
 /// [`Memory`] may come at any number.
-pub fn stats_line(alloc: Global, instructions: u64) -> Result<Vec<u8>, Memory>
-    ensures { IfOk result (λ lines. lines.items ≡ stats_line instructions) }
+pub fn json_stats_line(alloc: Global, instructions: u64) -> Result<Vec<u8>, Memory>
+    ensures { IfOk result (λ lines. lines.items ≡ json_stats_line instructions) }
 {
     line_of(alloc, &stats_value(alloc, instructions)?)
 }

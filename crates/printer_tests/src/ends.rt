@@ -1,7 +1,7 @@
 // Numbers at the end of a run that are greater than those of any recorded case.
 use bt_core::items::Items;
 use bt_core::map::{MapDecl, MapKind};
-use json_out::ends::{end_lines, stats_line};
+use json_out::ends::{end_lines, json_stats_line};
 use map_printer::printing::print_end;
 use std::test::Fail;
 
@@ -31,6 +31,6 @@ fn the_end_tells_great_numbers(rt: HostRuntime) -> Result<(), Fail> {
     assert!(rt; print_end(alloc, &maps, &rows, &lost)?.as_slice() == WARNINGS);
     assert!(rt; end_lines(alloc, &maps, &rows, &lost)?.as_slice() == LINES);
     let stats = b"{\"instructions\":20483,\"type\":\"stats\"}\n".as_slice();
-    assert!(rt; stats_line(alloc, 20_483)?.as_slice() == stats);
+    assert!(rt; json_stats_line(alloc, 20_483)?.as_slice() == stats);
     Ok(())
 }
