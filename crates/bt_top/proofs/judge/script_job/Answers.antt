@@ -1,6 +1,6 @@
 use Rattle.std.proofs.Common.{arith}
 use Rattle.bt_grammar.specs.Tokens.{items}
-use Rattle.bt_top.proofs.Scripts.{attach_told, bodies_checked, bodies_of_tree, type_told, job_told, size_told}
+use Rattle.bt_top.proofs.Scripts.{attach_told, bodies_checked, bodies_of_tree, type_told, job_told, size_told, text_told}
 use Rattle.bt_top.proofs.TooLarge.{has_probe}
 use Rattle.bt_top.proofs.judge.script_job.Goals as goal
 
@@ -47,3 +47,6 @@ returns-in-Err-check-clause-fault c =
     (rw c.as_slice-formats.ensures at c.in-Ok-attach.ensures.allowed)
     (bodies_of_tree c.in-Ok.tree c.args.recording c.in-Ok-attach.attached (rw c.as_slice-formats.ensures at c.in-Ok-attach.ensures.found))
     (rw c.as_slice-formats.ensures at c.in-Err-check.ensures.fault))
+
+pub returns-in-Err-clause-fault : goal.returns-in-Err-clause-fault
+returns-in-Err-clause-fault c = text_told c.args.script.now c.args.recording c.in-Err.refusal c.in-Err.ensures.fault
