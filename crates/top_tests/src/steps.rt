@@ -1,6 +1,6 @@
 // The steps that are handed back.
 use crate::files::{
-    AT_1, AT_2, AT_3, Answer, FIRST_WITH_ONE, HEAD, ONE, ONE_EACH, REST, VALUE, answer_to, joined,
+    AT_0, AT_1, AT_2, AT_3, Answer, HEAD, ONE, ONE_EACH, REST, VALUE, answer_to, joined,
 };
 use bt_core::step::Op;
 use std::test::Fail;
@@ -13,6 +13,7 @@ fn name_of(op: &Op) -> &str {
         Op::Set(_, _) => "set",
         Op::ReadAll => "read",
         Op::Clear => "clear",
+        Op::Read(_) => "read table",
         Op::Add(_, _, _) => "add",
         Op::Check => "check",
         Op::Stop => "stop",
@@ -56,6 +57,28 @@ const MARKED_BEHIND: [&[u8]; 10] = [
     FIVE_LOST,
 ];
 
+/// A recording whose one CPU has five events.
+const FIVE: [&[u8]; 18] = [
+    b"BTRACE01\x01\0\0\0",
+    HEAD,
+    b"\0\0\0\0\x05\0\0\0",
+    AT_0,
+    REST,
+    VALUE,
+    AT_1,
+    REST,
+    VALUE,
+    AT_2,
+    REST,
+    VALUE,
+    AT_3,
+    REST,
+    VALUE,
+    AT_3,
+    REST,
+    VALUE,
+];
+
 /// Words, a script, the parts of a recording, the output, and by whom each step is made and what it does.
 type Row = (
     &'static [&'static str],
@@ -65,7 +88,7 @@ type Row = (
     &'static [(u32, &'static str)],
 );
 
-const ROWS: [Row; 4] = [
+const ROWS: [Row; 6] = [
     // A mark is told between the events that it stands between.
     (
         &["run", "s.bt", "r.bin"],
@@ -117,6 +140,49 @@ const ROWS: [Row; 4] = [
             (1, "clear"),
             (1, "clear"),
             (1, "clear"),
+        ],
+    ),
+    // A read of an aggregation asks the table of the CPU and that of `BEGIN` and `END`.
+    (
+        &["run", "s.bt", "r.bin"],
+        b"tracepoint:t:e { @c = count(); if (@c == 3) { @hit = count(); } }",
+        &FIVE,
+        b"@c: 5\n\n@hit: 1\n\n",
+        &[
+            (0, "add"),
+            (0, "read table"),
+            (0, "read table"),
+            (0, "add"),
+            (0, "read table"),
+            (0, "read table"),
+            (0, "add"),
+            (0, "read table"),
+            (0, "read table"),
+            (0, "add"),
+            (0, "add"),
+            (0, "read table"),
+            (0, "read table"),
+            (0, "add"),
+            (0, "read table"),
+            (0, "read table"),
+        ],
+    ),
+    // Where there are two CPUs it asks three.
+    (
+        &["run", "--serial", "s.bt", "r.bin"],
+        b"tracepoint:t:e { @c = count(); if (@c == 2) { @hit = count(); } }",
+        &ONE_EACH,
+        b"@c: 2\n\n@hit: 1\n\n",
+        &[
+            (0, "add"),
+            (0, "read table"),
+            (0, "read table"),
+            (0, "read table"),
+            (1, "add"),
+            (1, "read table"),
+            (1, "read table"),
+            (1, "read table"),
+            (1, "add"),
         ],
     ),
 ];
