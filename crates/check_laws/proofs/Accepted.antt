@@ -11,7 +11,8 @@ use Rattle.bpf_check.specs.Sheet.{sheet_of}
 use Rattle.bpf_check.specs.Closed.{IsClosedCode}
 use Rattle.bpf_check.specs.Answers.{IsAnswer}
 use Rattle.bpf_check.proofs.Answering.{same_code}
-use Rattle.check_laws.specs.Safe.{CanReply, Yields, EndsWell}
+use Rattle.bt_core.specs.Same.{Yields}
+use Rattle.check_laws.specs.Safe.{CanReply, EndsWell}
 use Rattle.check_laws.proofs.Serving.{script_serves}
 use Rattle.check_laws.proofs.Whole.{safe_code}
 

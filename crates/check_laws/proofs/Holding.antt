@@ -11,7 +11,7 @@ use Rattle.bpf_check.specs.declared.known.Seen.{Seen}
 use Rattle.bpf_check.specs.Sheet.{Sheet}
 use Rattle.bpf_check.specs.States.{known_in}
 use Rattle.bpf_check.specs.Calls.{call_fits}
-use Rattle.check_laws.specs.Safe.{Yields}
+use Rattle.bt_core.specs.Same.{Yields}
 
 -- what is known of a register holds of it
 abbrev pub HoldsKnown : Known → Option ℕ → Type 0

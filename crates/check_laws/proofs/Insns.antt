@@ -34,7 +34,7 @@ use Rattle.bpf_check.specs.Reading.{set_known, number_in, lies_in, may_load, may
 use Rattle.bpf_check.specs.Calls.{call_fits}
 use Rattle.bpf_check.specs.Effects.{source_known, first_known, alu_known, loaded, frame_stored, after_helper, called, effect}
 use Rattle.bpf_check.specs.Ways.{goes, jumped, one_way, two_ways, onward, from_gate, from_insn}
-use Rattle.check_laws.specs.Safe.{Yields}
+use Rattle.bt_core.specs.Same.{Yields}
 use Rattle.check_laws.proofs.Holding.{HoldsKnown, Holds, Counts, GivesWell, HelpersServe}
 use Rattle.check_laws.proofs.Sound.{Yields-then, Pays, GoesAs, LeadsAs, Steps}
 use Rattle.bpf_check.proofs.Going.{bind_some, some_is, arrives, one_is, two_is}

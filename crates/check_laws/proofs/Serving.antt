@@ -54,7 +54,8 @@ use Rattle.bpf_check.specs.States.{known_of}
 use Rattle.bpf_check.specs.Reading.{number_in, lies_in, may_store}
 use Rattle.bpf_check.specs.Calls.{in_frame, in_results, known_at, known_value_map, known_table_map, known_summed_map, is_key, held_bytes, get_fits, set_fits, delete_fits, add_fits, sum_fits, limits_fit, printf_fits, is_line, helper_fits, known_helper_fits}
 use Rattle.bpf_check.proofs.Going.{bind_some}
-use Rattle.check_laws.specs.Safe.{CanReply, Yields}
+use Rattle.bt_core.specs.Same.{Yields}
+use Rattle.check_laws.specs.Safe.{CanReply}
 use Rattle.check_laws.proofs.Holding.{HoldsKnown, Holds, Counts, GivesWell, HelpersServe}
 use Rattle.check_laws.proofs.Sound.{Yields-then}
 use Rattle.check_laws.proofs.Insns.{place_some, IsThere, or_second, part_there, written_long, store_keeps}

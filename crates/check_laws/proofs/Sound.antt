@@ -20,7 +20,8 @@ use Rattle.bpf_check.specs.declared.ways.Ways.TheVariants.{Finish, To, Either}
 use Rattle.bpf_check.specs.States.{known_in, CoversKnown, Covers}
 use Rattle.bpf_check.specs.Ways.{gate_at, leads}
 use Rattle.bpf_check.specs.Closed.{HasCover, IsCovered, AreCovered, Meets, IsClosed}
-use Rattle.check_laws.specs.Safe.{Yields, EndsWell}
+use Rattle.bt_core.specs.Same.{Yields}
+use Rattle.check_laws.specs.Safe.{EndsWell}
 use Rattle.check_laws.proofs.Holding.{HoldsKnown, Holds, Counts}
 
 -- ---- what is covered holds less

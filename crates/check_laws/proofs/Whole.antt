@@ -12,7 +12,8 @@ use Rattle.bpf_check.specs.Sheet.{Sheet}
 use Rattle.bpf_check.specs.States.{known_in, entry_seen}
 use Rattle.bpf_check.specs.Ways.{gate_at, from_insn, from_gate, leads}
 use Rattle.bpf_check.specs.Closed.{Meets, IsClosed}
-use Rattle.check_laws.specs.Safe.{Yields, EndsWell}
+use Rattle.bt_core.specs.Same.{Yields}
+use Rattle.check_laws.specs.Safe.{EndsWell}
 use Rattle.check_laws.proofs.Holding.{HoldsKnown, HelpersServe}
 use Rattle.bpf_check.proofs.Registers.{known_high}
 use Rattle.check_laws.proofs.Sound.{safe, arrive, rank_entry}

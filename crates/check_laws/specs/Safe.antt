@@ -2,16 +2,11 @@
 use Rattle.std.specs.Prelude.{List, Result, Ok, Err}
 use Rattle.bt_core.specs.declared.map.MapDecl.{MapDecl}
 use Rattle.bt_core.specs.declared.step.Reply.{Reply}
-use Rattle.bt_core.specs.Interaction.{Call, Interaction, Ended, Asks}
+use Rattle.bt_core.specs.Interaction.{Call}
 use Rattle.bt_core.specs.Ports.{IsReplyOf}
 use Rattle.step_list.specs.HeldReplies.{IsHeldReply}
 use Rattle.bpf_insn.specs.declared.trap.Trap.{Trap}
 use Rattle.bpf_interp.specs.declared.machine.Ended.{Ended as EndedRun}
-
--- under replies that fit, it ends with such a value
-abbrev pub Yields : {A : Type 0} → (Call → Reply → Type 0) → (A → Type 0) → Interaction A → Type 0
-Yields K P (Ended a) = P a
-Yields K P (Asks c f) = (r : Reply) → K c r → Yields K P (f r)
 
 -- a reply of the kind that its call has, where these maps are declared, as a program holds it
 abbrev pub CanReply : List MapDecl → Call → Reply → Type 0

@@ -7,7 +7,8 @@ ghost use Rattle.helper_abi.specs.Running.{script_run};
 ghost use Rattle.helper_abi.specs.Served.{desk_of};
 ghost use Rattle.bpf_check.specs.Sheet.{sheet_of};
 ghost use Rattle.bpf_check.specs.Answers.{IsAnswer};
-ghost use Rattle.check_laws.specs.Safe.{CanReply, Yields, EndsWell};
+ghost use Rattle.bt_core.specs.Same.{Yields};
+ghost use Rattle.check_laws.specs.Safe.{CanReply, EndsWell};
 
 /// Code that [`bpf_check::check::check_code`] accepts ends by its exit within the number of instructions
 /// that was answered, and so neither traps nor goes on: for every number of actors, every actor, every
