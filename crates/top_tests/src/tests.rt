@@ -57,7 +57,7 @@ type Taking = (usize, &'static [u32]);
 
 /// Words, which reads fail, what the output and `err` take, the status, what both have then, and whether there is work.
 type Row = (
-    [&'static str; 3],
+    &'static [&'static str],
     &'static [u32],
     [Taking; 2],
     u8,
@@ -68,9 +68,9 @@ type Row = (
 
 const FAULTS: [Row; 4] = [
     // A fault of `err` too leaves a prefix of its line, and changes nothing else.
-    (RUN, &[], [(2, &[2]), (3, &[3])], 5, b"@:", b"write ", true),
+    (&RUN, &[], [(2, &[2]), (3, &[3])], 5, b"@:", b"write ", true),
     (
-        ["check", "s.bt", "r.bin"],
+        &["check", "s.bt", "r.bin"],
         &[],
         [(1, &[3]), (64, &[])],
         5,
@@ -79,7 +79,7 @@ const FAULTS: [Row; 4] = [
         false,
     ),
     (
-        RUN,
+        &RUN,
         &[1],
         [(4096, &[]), (4096, &[])],
         4,
@@ -88,7 +88,7 @@ const FAULTS: [Row; 4] = [
         false,
     ),
     (
-        RUN,
+        &RUN,
         &[2],
         [(4096, &[]), (4096, &[])],
         4,
@@ -126,7 +126,7 @@ fn a_fault_leaves_a_prefix_and_the_work(rt: HostRuntime) -> Result<(), Fail> {
         assert!(rt; 0 < out.0 && 0 < err.0);
         let mut out = MemSink::new(alloc, 4096, out.0, Vec::from_slice(alloc, out.1)?)?;
         let mut err = MemSink::new(alloc, 4096, err.0, Vec::from_slice(alloc, err.1)?)?;
-        let report = report_on(&rt, alloc, &words, &mut shelf, &mut out, &mut err, &Open)?;
+        let report = report_on(&rt, alloc, words, &mut shelf, &mut out, &mut err, &Open)?;
         assert!(rt; report.status == status, "{line:?}");
         assert!(rt; out.taken() == told && err.taken() == line, "{line:?}");
         assert!(rt; report.work.is_some() == works, "{line:?}");
