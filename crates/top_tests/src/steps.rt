@@ -88,7 +88,7 @@ type Row = (
     &'static [(u32, &'static str)],
 );
 
-const ROWS: [Row; 6] = [
+const ROWS: [Row; 5] = [
     // A mark is told between the events that it stands between.
     (
         &["run", "s.bt", "r.bin"],
@@ -167,24 +167,6 @@ const ROWS: [Row; 6] = [
             (0, "read table"),
         ],
     ),
-    // Where there are two CPUs it asks three.
-    (
-        &["run", "--serial", "s.bt", "r.bin"],
-        b"tracepoint:t:e { @c = count(); if (@c == 2) { @hit = count(); } }",
-        &ONE_EACH,
-        b"@c: 2\n\n@hit: 1\n\n",
-        &[
-            (0, "add"),
-            (0, "read table"),
-            (0, "read table"),
-            (0, "read table"),
-            (1, "add"),
-            (1, "read table"),
-            (1, "read table"),
-            (1, "read table"),
-            (1, "add"),
-        ],
-    ),
 ];
 
 #[test]
@@ -206,5 +188,23 @@ fn steps_are_handed_back_in_their_order(rt: HostRuntime) -> Result<(), Fail> {
             stamp = stamp.saturating_add(1);
         }
     }
+    Ok(())
+}
+
+/// A script that counts, reads the count, and counts where it is 2.
+const SECOND: &[u8] = b"tracepoint:t:e { @c = count(); if (@c == 2) { @hit = count(); } }";
+
+/// The words that run a script on one thread.
+const SERIAL: [&str; 4] = ["run", "--serial", "s.bt", "r.bin"];
+
+#[test]
+fn a_read_asks_three_tables_where_there_are_two_cpus(rt: HostRuntime) -> Result<(), Fail> {
+    let alloc = rt.alloc();
+    let recording = joined(alloc, &ONE_EACH)?;
+    let Answer { report, out } = answer_to(&rt, alloc, &SERIAL, SECOND, recording, &Open)?;
+    assert!(rt; report.status == 0);
+    assert!(rt; out.taken() == b"@c: 2\n\n@hit: 1\n\n".as_slice());
+    let work = report.work.ok_or("no work")?;
+    assert!(rt; work.steps.len() == 9);
     Ok(())
 }
