@@ -1,0 +1,108 @@
+#!/usr/bin/env python3
+"""Measures this program beside `perf script` with awk on one real recording, by hand: python3 bench/peer.py PERF.DATA [TIMES [PROGRAM]]
+
+PERF.DATA is a file of `perf record -a -R -T -e raw_syscalls:sys_enter`, of at most 1,048,576 events; bench/README.md has a load that makes
+about a million. It is made a recording by `tools/btrecord convert`, whole and its first half, in a folder that is removed at the end. Then
+each line of the table is run TIMES times in turn (5 where nothing is said), the runs by PROGRAM or else by the built program
+crates/bt_program/out/bt_program: the median of the processor times in seconds (of the user and of the system together, of a pipe's programs
+too), the median of the wall times, and the greatest memory of a process in MB. The counts of all ways are compared: where they differ it ends
+with status 1.
+"""
+import os
+import shlex
+import statistics
+import subprocess
+import sys
+import tempfile
+
+from serial import PROGRAM, TOP
+
+POINT = "tracepoint:raw_syscalls:sys_enter"
+SCRIPTS = {"count by name": POINT + " { @[comm] = count(); }\n",
+           "histogram": POINT + " { @ = hist(args.id); }\n",
+           "printf": POINT + ' { printf("%s %d\\n", comm, args.id); }\n'}
+# What a process needs at least is told for who starts it, so each line is run by a small process of its own.
+RUNNER = """
+import os, resource, subprocess, sys, time
+began = time.monotonic()
+status = subprocess.run(sys.argv[2:], stdout=open(sys.argv[1], "wb"), stderr=subprocess.DEVNULL).returncode
+wall = time.monotonic() - began
+usage = resource.getrusage(resource.RUSAGE_CHILDREN)
+print(status, usage.ru_utime + usage.ru_stime, wall, usage.ru_maxrss / 1024)
+"""
+AWK = "awk '{ n[$1]++ } END { for (name in n) print name, n[name] }'"
+
+
+def measured(words, output):
+    """The processor seconds, the wall seconds and the greatest memory in MB of a run, whose output goes to a file."""
+    done = subprocess.run([sys.executable, "-S", "-c", RUNNER, output, *words], stdout=subprocess.PIPE, text=True, check=True)
+    status, *figures = done.stdout.split()
+    if status != "0":
+        sys.exit(f"{shlex.join(words)} ended with status {status}")
+    return [float(figure) for figure in figures]
+
+
+def peer(data, fields):
+    """The words of a count of the events by the name of their thread, by perf and awk."""
+    return ["sh", "-c", f"perf script -i {shlex.quote(data)} -F {fields} 2>/dev/null | {AWK}"]
+
+
+def lines_of(program, folder, recordings, data):
+    """The lines of the table: a name, a share of the events, and words."""
+    lines = [("perf script -F comm,event,trace | awk", 1, peer(data, "comm,event,trace")),
+             ("perf script -F comm,event | awk", 1, peer(data, "comm,event"))]
+    for share, recording in recordings:
+        source = os.path.join(folder, "count by name.bt")
+        lines.append(("check", share, [program, "check", source, recording]))
+        for name in SCRIPTS:
+            source = os.path.join(folder, f"{name}.bt")
+            for words in (["run", "--serial"], ["run"]):
+                lines.append((f"{name}, {' '.join(words)}", share, [program, *words, source, recording]))
+    return lines
+
+
+def total(path):
+    """The sum of all counts in an output: of the lines `@[name]: N`, or `name N`."""
+    with open(path, "rb") as file:
+        return sum(int(line.split()[-1]) for line in file if line.strip())
+
+
+def made(data, folder):
+    """The recording of all events of a file of perf, and that of its first half by time."""
+    tool = [sys.executable, "-B", os.path.join(TOP, "tools", "btrecord")]
+    whole, half = os.path.join(folder, "whole.btr"), os.path.join(folder, "half.btr")
+    subprocess.run([*tool, "convert", data, "-o", whole], check=True)
+    times = subprocess.run([*tool, "dump", whole], stdout=subprocess.PIPE, text=True, check=True).stdout.splitlines()
+    middle = times[len(times) // 2].split("]", 1)[1].split(":", 1)[0].strip()
+    subprocess.run([*tool, "cut", whole, "--to", middle, "-o", half], check=True)
+    return [(0.5, half), (1, whole)]
+
+
+def main():
+    if len(sys.argv) < 2:
+        sys.exit(__doc__)
+    data, times = sys.argv[1], int(sys.argv[2]) if len(sys.argv) > 2 else 5
+    program = sys.argv[3] if len(sys.argv) > 3 else PROGRAM
+    if not os.path.exists(program):
+        sys.exit("build the program first: ./btreplay")
+    with tempfile.TemporaryDirectory() as folder:
+        for name, script in SCRIPTS.items():
+            with open(os.path.join(folder, f"{name}.bt"), "w") as file:
+                file.write(script)
+        recordings = made(data, folder)
+        lines, rounds = lines_of(program, folder, recordings, data), []
+        for _ in range(times):
+            rounds.append([measured(words, os.path.join(folder, f"output{at}")) for at, (_, _, words) in enumerate(lines)])
+        print(f"{'way':40}{'events':>8}{'processor s':>13}{'wall s':>8}{'MB':>7}")
+        for at, (name, share, _) in enumerate(lines):
+            processor, wall = (statistics.median(row[at][which] for row in rounds) for which in (0, 1))
+            print(f"{name:40}{'all' if share == 1 else 'half':>8}{processor:>13.2f}{wall:>8.2f}{max(row[at][2] for row in rounds):>7.0f}")
+        counts = {total(os.path.join(folder, f"output{at}")) for at, (name, share, _) in enumerate(lines)
+                  if share == 1 and name.startswith(("perf", "count"))}
+        if len(counts) != 1:
+            sys.exit(f"the ways count differently: {sorted(counts)}")
+        print(f"each way counted {counts.pop():,} events; the recording has {os.path.getsize(recordings[1][1]) / 1e6:.0f} MB")
+
+
+if __name__ == "__main__":
+    main()
