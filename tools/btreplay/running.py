@@ -7,6 +7,7 @@ import subprocess
 import sys
 from dataclasses import dataclass
 
+HUGE_PAGES = "glibc.malloc.hugetlb=1"
 PASSED_ON = (signal.SIGINT, signal.SIGTERM, signal.SIGHUP, signal.SIGQUIT)
 
 
@@ -18,11 +19,21 @@ class Ended:
     told: bytes
 
 
+def with_huge_pages(environment):
+    """The environment of the program: its C library asks the system for huge pages, which are given where the system gives them by asking, and
+    with which a large recording is read faster. What the caller tells the C library otherwise stands."""
+    told = [tunable for tunable in environment.get("GLIBC_TUNABLES", "").split(":") if tunable]
+    if any(tunable.startswith("glibc.malloc.hugetlb=") for tunable in told):
+        return environment
+    return {**environment, "GLIBC_TUNABLES": ":".join([*told, HUGE_PAGES])}
+
+
 def run_program(program, words, output=None, meanwhile=lambda: None):
     """Runs the program with words and the caller's standard input and output, and does `meanwhile` beside it.
 
     It has all files that the caller left open for it, as those of a shell's <(..). Signals that would end this command go to the program, whose end is waited for. What the program tells is handed back."""
-    child = subprocess.Popen([str(program), *words], close_fds=False, stdout=output, stderr=subprocess.PIPE)
+    child = subprocess.Popen([str(program), *words], close_fds=False, stdout=output, stderr=subprocess.PIPE,
+                             env=with_huge_pages(dict(os.environ)))
     before = {}
     try:
         for number in PASSED_ON:

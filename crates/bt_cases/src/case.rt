@@ -1,4 +1,5 @@
 // Worked cases: a command line over two files, and what has to come of it.
+use crate::faults::Faults;
 use crate::outcome::Outcome;
 use anyhow::{Context, Result};
 use serde_json::Value;
@@ -6,13 +7,14 @@ use std::alloc::Global;
 use std::fs;
 use std::rt::Files;
 
-/// The words of a command line, the bytes of the files `s.bt` and `r.bin`, what may come, how often it is tried, and whether the same
-/// comes on threads, without the word `--serial`.
+/// The words of a command line, the bytes of the files `s.bt` and `r.bin`, what fails of shelf and sinks, what may come, how often it is
+/// tried, and whether the same comes on threads, without the word `--serial`.
 #[derive(Drop)]
 pub(crate) struct Case {
     pub words: Vec<String>,
     pub script: Vec<u8>,
     pub recording: Vec<u8>,
+    pub faults: Faults,
     pub wanted: Vec<Outcome>,
     pub times: u64,
     pub on_threads: bool,
@@ -96,7 +98,8 @@ fn recording_of<R: Files + AllocGlobal>(rt: &R, value: &Value) -> Result<Vec<u8>
 
 impl Case {
     /// The case of a line: an object whose recording may stand in a file and whose other bytes are texts. It may have
-    /// hexadecimal `out_hex` or several `outs` in place of its `out`, `times`, the number of tries, which is else 1, and `threads`, where no schedule changes the answer.
+    /// hexadecimal `out_hex` or several `outs` in place of its `out`, `times`, the number of tries, which is else 1, `threads`, where no
+    /// schedule changes the answer, and the members that [`Faults`] has.
     pub fn of<R: Files + AllocGlobal>(rt: &R, line: &str) -> Result<Case> {
         let alloc = rt.alloc();
         let value = Value::from_str(alloc, line)?;
@@ -104,6 +107,7 @@ impl Case {
             words: words_of(alloc, &value)?,
             script: bytes_of(alloc, &value, "script")?,
             recording: recording_of(rt, &value)?,
+            faults: Faults::of(alloc, &value)?,
             wanted: wanted_of(alloc, &value)?,
             times: value.get("times").and_then(Value::as_u64).unwrap_or(1),
             on_threads: value.get("threads").is_some(),

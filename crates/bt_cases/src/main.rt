@@ -2,6 +2,7 @@
 #![tactic(auto)]
 
 mod case;
+mod faults;
 mod outcome;
 mod tally;
 mod vet;
@@ -69,7 +70,7 @@ fn run_file<R: Files + Print + AllocGlobal + Threads + Wait + Sync>(
     Ok(())
 }
 
-/// Runs the cases of the seven files. Those of the last file run on threads many times.
+/// Runs the cases of the eight files. Those of the last file run on threads many times.
 fn main(rt: HostRuntime) -> Result<()> {
     let mut tally = Tally::default();
     let mut vets = Tally::default();
@@ -78,6 +79,7 @@ fn main(rt: HostRuntime) -> Result<()> {
     run_file(&rt, "rows.jsonl", &mut tally, &mut vets)?;
     run_file(&rt, "printed.jsonl", &mut tally, &mut vets)?;
     run_file(&rt, "recorded.jsonl", &mut tally, &mut vets)?;
+    run_file(&rt, "faults.jsonl", &mut tally, &mut vets)?;
     run_file(&rt, "examples.jsonl", &mut tally, &mut vets)?;
     run_file(&rt, "schedules.jsonl", &mut tally, &mut vets)?;
     println!(rt; "{tally}")?;

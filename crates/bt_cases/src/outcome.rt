@@ -1,17 +1,12 @@
 // What comes of a case.
 use crate::case::Case;
 use bt_core::memory::Memory;
-use bt_io::mem_shelf::MemShelf;
-use bt_io::mem_sink::MemSink;
 use bt_top::serve::serve;
 use std::alloc::Global;
 use std::fmt;
 use std::sync::Wait;
 use std::thread::Threads;
 use turn_lock::gate::Open;
-
-/// How many bytes a sink takes.
-const ROOM: usize = 1 << 24;
 
 /// The exit status, and the bytes that were written to the output and to `err`.
 #[derive(PartialEq, Eq, Drop)]
@@ -45,16 +40,16 @@ fn files_of(alloc: Global, case: &Case) -> Result<Vec<(String, Vec<u8>)>, Memory
     Ok(files)
 }
 
-/// What the top call answers and writes to words over the files of a case, on a shelf and sinks that never fail.
+/// What the top call answers and writes to words over the files of a case, on a shelf and sinks that fail as the case says.
 pub(crate) fn outcome_of<R: Threads + Wait + Sync>(
     rt: &R,
     alloc: Global,
     case: &Case,
     words: &[String],
 ) -> Result<Outcome, Memory> {
-    let mut shelf = MemShelf::new(alloc, files_of(alloc, case)?, Vec::new(alloc));
-    let mut out = MemSink::new(alloc, ROOM, ROOM, Vec::new(alloc))?;
-    let mut err = MemSink::new(alloc, ROOM, ROOM, Vec::new(alloc))?;
+    let mut shelf = case.faults.shelf(alloc, files_of(alloc, case)?)?;
+    let mut out = case.faults.output(alloc)?;
+    let mut err = case.faults.errors(alloc)?;
     let report = serve(rt, alloc, words, &mut shelf, &mut out, &mut err, &Open);
     Ok(Outcome {
         status: u64::from(report.status),

@@ -6,13 +6,14 @@ use std::alloc::Global;
 use std::sync::Wait;
 use std::thread::Threads;
 
-/// Whether the script of a case is compiled: it is read by `run`, `check` or `code`, which ends with status 0.
+/// Whether the script of a case is compiled: it is read by `run`, `check` or `code`, which ends with status 0, and nothing fails.
 pub(crate) fn is_compiled(case: &Case) -> bool {
     let reads = match case.words.as_slice() {
         [] => false,
         [first, ..] => matches!(first.as_str(), "run" | "check" | "code"),
     };
     reads
+        && case.faults.are_none()
         && case
             .wanted
             .as_slice()

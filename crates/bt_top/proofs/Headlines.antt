@@ -1,7 +1,8 @@
 -- What a run that ends with status 0 promises.
-use Rattle.std.proofs.Common.{◌≡◌, ℕ, List, ◌++◌, length, sym, subst, arith, inl, inr}
-use Rattle.std.specs.Prelude.{Bool, false, Option, Some, None, IsSomeAnd}
+use Rattle.std.proofs.Common.{◌≡◌, ℕ, List, [], ◌∷◌, ◌++◌, length, sym, subst, arith, inl, inr}
+use Rattle.std.specs.Prelude.{Bool, true, false, Option, Some, None, IsSomeAnd}
 use Rattle.std.specs.Io.KnownBytes.{Appends}
+use Rattle.big_script.specs.declared.script.TheConstants.{SCRIPT}
 use Rattle.big_script.specs.Jobs.{IsAttachedOver, IsTypedOver, HaveFewKeys}
 use Rattle.bt_ast.specs.declared.attached.Attached.{Attached}
 use Rattle.bt_ast.specs.declared.probe.Script.{Script as Tree}
@@ -24,6 +25,7 @@ use Rattle.run_output.specs.declared.form.Form.TheVariants.{Text}
 use Rattle.rec_format.specs.declared.recording.Recording.{Recording as Recorded}
 use Rattle.rec_format.specs.Recordings.{IsValidRecording}
 use Rattle.rec_gen.specs.Made.{IsMade}
+use Rattle.script_programs.specs.Programs.{KeepScript}
 use Rattle.total_laws.specs.Ends.{EndsWithTotals, IsAddingRun}
 use Rattle.typed_tree.specs.declared.script.Typed.{Typed}
 use Rattle.bt_top.specs.declared.outcome.Outcome.{Outcome}
@@ -31,10 +33,11 @@ use Rattle.bt_top.specs.declared.refusal.CodeRefusal.{CodeRefusal}
 use Rattle.bt_top.specs.declared.refusal.Refusal.{Refusal}
 use Rattle.bt_top.specs.declared.refusal.Refusal.TheVariants.{Usage, Script, Recording, ReadFault, WriteFault, Memory, RefusedCode}
 use Rattle.bt_top.specs.Doing.{Wrote}
-use Rattle.bt_top.specs.Headline.{Headline, PrintsItsSteps, PrintsItsTotals, PrintsOfFiles}
-use Rattle.bt_top.specs.Jobs.{IsBigJob, meaning_of}
+use Rattle.bt_top.specs.Headline.{Headline, IsSerialList, OnlyAdds, PrintsItsSteps, PrintsItsTotals, PrintsOfFiles, RanPrograms}
+use Rattle.bt_top.specs.Jobs.{AsksFor, IsBigJob, IsJobFor, meaning_of}
 use Rattle.bt_top.specs.Lines.{SinkUse}
-use Rattle.bt_top.specs.Orders.{files_of, form_of}
+use Rattle.bt_top.specs.Meanings.{Meaning, IsBigMeaning, IsMeaningFor, Means}
+use Rattle.bt_top.specs.Orders.{OperandFile, files_of, form_of}
 use Rattle.bt_top.specs.Outcomes.{ComesTo, IsOutcomeOfRun, bytes_written, stats_line, summary_line}
 use Rattle.bt_top.specs.Refusals.{status_of}
 use Rattle.bt_top.specs.Serve.{ShelfUse, AreContentsOf}
@@ -82,52 +85,103 @@ pub record AreRunLaws : Type 0 where
   pub totals : (script : Typed) (attached : Attached) (r : Recorded) (steps : List Step) → IsAddingRun script attached r steps
       → EndsWithTotals script attached r steps
 
+-- the meaning of a job, and that of the files or of the numbers that ask for it
+abbrev meaning_in : Job → Meaning
+meaning_in job = record { recording = job.recording; attached = job.attached; typed = job.typed }
+
+means_job : (text : List ℕ) (job : Job) → AsksFor text job → Means text (meaning_in job)
+means_job text job asks = record {
+  tree = asks.tree;
+  has = asks.script.has;
+  can_attach = asks.script.attached;
+  attached = asks.attached;
+  well_typed = asks.script.typed;
+  typed = asks.typed;
+}
+
+means_files : (files : List OperandFile) (contents : List (List ℕ)) (job : Job) → IsJobFor files contents job
+    → IsMeaningFor files contents (meaning_in job)
+means_files files [] job is = absurd is.of
+means_files files (text ∷ []) job is = absurd is.of
+means_files files (text ∷ bytes ∷ more) job is =
+    record { short = is.short; of = record { is = is.of.is; means = means_job text job is.of.asks } }
+
+means_numbers : (x n : ℕ) (job : Job) → IsBigJob x n job → IsBigMeaning x n (meaning_in job)
+means_numbers x n job of = record { made = of.made; valid = of.valid; means = means_job SCRIPT job of.asks }
+
 module _ (laws : AreRunLaws) (seen : ShelfUse) (out : SinkUse) (outcome : Outcome) (refusal : Option Refusal)
     (wrote : Wrote out outcome.refused refusal (bytes_written outcome)) where
+  adds : (job : Job) (steps : List Step) → IsJob job.typed job.attached job.recording
+      → IsInterleaving (replay_of job.typed job.attached job.recording) steps → OnlyAdds (meaning_in job) steps
+      → EndsWithTotals job.typed job.attached job.recording steps
+  adds job steps can interleaving only =
+      laws.totals job.typed job.attached job.recording steps
+      (record { job = can; only_adds = only.adds; interleaving = interleaving; few_keys = only.few_keys })
+
   prints : (form : Form) (serial : Bool) (job : Job) (rest : Work → List ℕ) → IsJob job.typed job.attached job.recording
-      → (run : IsOutcomeOfRun form serial job rest outcome) → status_of refusal ≡ 0 → PrintsItsSteps form job (rest run.work) out run.work
+      → (run : IsOutcomeOfRun form serial job rest outcome) → status_of refusal ≡ 0
+      → PrintsItsSteps form (meaning_in job) (rest run.work) out run.work.steps
   prints form serial job rest can run zero = record {
-    interleaving = run.done.replayed.interleaving;
+    replayed = run.done.replayed;
     ticks = laws.ticks job.typed job.attached job.recording run.work.steps can run.done.replayed.interleaving;
     reads = laws.reads (meaning_of job) run.work.steps run.done.replayed.interleaving;
+    totals = adds job run.work.steps can run.done.replayed.interleaving;
     written = subst (λ (text : List ℕ). Appends out.taken out.taken_after (text ++ rest run.work)) run.done.printed
         (subst (λ (o : Outcome). Appends out.taken out.taken_after (bytes_written o)) run.is (written_whole out outcome.refused refusal (bytes_written outcome) wrote zero));
   }
 
-  adds : (x n : ℕ) (job : Job) (of : IsBigJob x n job) (rest : Work → List ℕ) (run : IsOutcomeOfRun Text false job rest outcome)
-      → IsAddingRun job.typed job.attached job.recording run.work.steps
-  adds x n job of rest run =
+  ran_programs : (form : Form) (serial : Bool) (job : Job) (rest : Work → List ℕ) → KeepScript job.typed job.programs
+      → (run : IsOutcomeOfRun form serial job rest outcome) → RanPrograms (meaning_in job) job.programs run.work
+  ran_programs form serial job rest kept run = record { kept = kept; instructions = run.done.instructions }
+
+  on_one : (form : Form) (serial : Bool) (job : Job) (rest : Work → List ℕ) (run : IsOutcomeOfRun form serial job rest outcome) → serial ≡ true
+      → IsSerialList (meaning_in job) run.work.steps
+  on_one form serial job rest run is = (run.done.on_one_thread is).serial
+
+  big_adds : (x n : ℕ) (job : Job) (of : IsBigJob x n job) (steps : List Step) → OnlyAdds (meaning_in job) steps
+  big_adds x n job of steps =
       let over = typed_over of.asks.tree job.recording job.attached job.typed of.asks.script.has of.asks.attached of.asks.typed in
       record {
-        job = can_run job laws.jobs (of_numbers x n job of);
-        only_adds = laws.only x n job.recording job.typed of.made over;
-        interleaving = run.done.replayed.interleaving;
+        adds = laws.only x n job.recording job.typed of.made over;
         few_keys = λ m low. laws.few x n job.recording job.attached job.typed of.made
-            (attached_over of.asks.tree job.recording job.attached of.asks.script.has of.asks.attached) over m (who run.work.steps);
+            (attached_over of.asks.tree job.recording job.attached of.asks.script.has of.asks.attached) over m (who steps);
       }
+
+  files_headline : (form : Form) (serial stats : Bool) (files : List OperandFile) (contents : List (List ℕ)) (job : Job)
+      → AreContentsOf seen.held files contents → IsJobFor files contents job
+      → IsOutcomeOfRun form serial job (λ work. stats_line form stats work.instructions) outcome → status_of refusal ≡ 0
+      → IsSomeAnd outcome.work (PrintsOfFiles form seen.held files serial stats outcome.programs out)
+  files_headline form serial stats files contents job held is run zero =
+      let asked = of_files files contents job is in
+      subst (λ (o : Outcome). IsSomeAnd o.work (PrintsOfFiles form seen.held files serial stats o.programs out)) (sym run.is) (record {
+        contents = contents;
+        read = held;
+        meaning = meaning_in job;
+        accepted = means_files files contents job is;
+        prints = prints form serial job (λ work. stats_line form stats work.instructions) (can_run job laws.jobs asked) run zero;
+        on_one_thread = on_one form serial job (λ work. stats_line form stats work.instructions) run;
+        ran = ran_programs form serial job (λ work. stats_line form stats work.instructions) asked.asks.programs run;
+      })
+
+  numbers_headline : (x n : ℕ) (job : Job) (of : IsBigJob x n job)
+      → IsOutcomeOfRun Text false job (λ work. summary_line n (length work.steps)) outcome → status_of refusal ≡ 0
+      → IsSomeAnd outcome.work (PrintsItsTotals x n outcome.programs out)
+  numbers_headline x n job of run zero =
+      let can = can_run job laws.jobs (of_numbers x n job of) in
+      subst (λ (o : Outcome). IsSomeAnd o.work (PrintsItsTotals x n o.programs out)) (sym run.is) (record {
+        meaning = meaning_in job;
+        of = means_numbers x n job of;
+        prints = prints Text false job (λ work. summary_line n (length work.steps)) can run zero;
+        totals = adds job run.work.steps can run.done.replayed.interleaving (big_adds x n job of run.work.steps);
+        ran = ran_programs Text false job (λ work. summary_line n (length work.steps)) of.asks.programs run;
+      })
 
   pub done_headline : (order : Order) (contents : List (List ℕ)) → AreContentsOf seen.held (files_of order) contents → ComesTo order contents outcome
       → Headline (Some order) seen out (report_of refusal outcome)
-  done_headline (Run serial stats json script recording) contents held comes = λ zero.
-      subst (λ (o : Outcome). IsSomeAnd o.work (PrintsOfFiles (form_of json) seen.held (files_of (Run serial stats json script recording)) stats out))
-      (sym comes.2.is) (record {
-        contents = contents;
-        read = held;
-        job = comes.0;
-        accepted = comes.1;
-        prints = prints (form_of json) serial comes.0 (λ work. stats_line (form_of json) stats work.instructions)
-            (can_run comes.0 laws.jobs (of_files _ contents comes.0 comes.1)) comes.2 zero;
-      })
+  done_headline (Run serial stats json script recording) contents held comes =
+      files_headline (form_of json) serial stats (files_of (Run serial stats json script recording)) contents comes.0 held comes.1 comes.2
   done_headline (Check script recording) contents held comes = tt
   done_headline (Code script recording) contents held comes = tt
   done_headline (Vet script recording) contents held comes = tt
   done_headline (Gen x n) contents held comes = tt
-  done_headline (Big x n) contents held comes = λ zero.
-      subst (λ (o : Outcome). IsSomeAnd o.work (PrintsItsTotals x n out)) (sym comes.2.is) (record {
-        job = comes.0;
-        of = comes.1;
-        prints = prints Text false comes.0 (λ work. summary_line n (length work.steps))
-            (can_run comes.0 laws.jobs (of_numbers x n comes.0 comes.1)) comes.2 zero;
-        totals = laws.totals comes.0.typed comes.0.attached comes.0.recording comes.2.work.steps
-            (adds x n comes.0 comes.1 (λ work. summary_line n (length work.steps)) comes.2);
-      })
+  done_headline (Big x n) contents held comes = numbers_headline x n comes.0 comes.1 comes.2

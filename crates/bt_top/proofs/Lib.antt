@@ -5,6 +5,7 @@ mod Headlines
 mod LineLaws
 mod Listed
 mod Making
+mod Offered
 mod Passing
 mod Performing
 mod Reading

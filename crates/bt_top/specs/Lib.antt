@@ -6,9 +6,11 @@ pub mod Sizes
 pub mod Script
 pub mod Refusals
 pub mod Due
+pub mod Meanings
 pub mod Jobs
 pub mod Outcomes
 pub mod Serve
+pub mod Offered
 pub mod Doing
 pub mod Headline
 pub mod Vetted

@@ -1,10 +1,11 @@
 // What an order comes to, and how it is written.
-ghost use Rattle.std.specs.Prelude.{◌≡◌, OnOk, OnErr};
+ghost use Rattle.std.specs.Prelude.{◌≡◌, OnOk, OnErr, length};
 ghost use Rattle.std.specs.Io.KnownBytes.{Appends};
 ghost use Rattle.bt_io.specs.Faults.{Rose};
 ghost use Rattle.bt_io.specs.Taken.{AppendsPart};
 ghost use Rattle.bt_top.specs.Doing.{Wrote, WroteBytes};
 ghost use Rattle.bt_top.specs.Lines.{sink_use};
+ghost use Rattle.bt_top.specs.Offered.{OffersBoth};
 ghost use Rattle.bt_top.specs.Outcomes.{bytes_written, work_text};
 
 use crate::refusal::{CodeRefusal, Refusal};
@@ -38,6 +39,7 @@ fn write_outcome<K: Sink>(out: &mut K, outcome: &Outcome) -> Result<(), SinkFail
     ensures whole { OnOk result (Appends (K.taken out.old) (K.taken out.new) (bytes_written outcome.now)) }
     ensures part { OnErr result (AppendsPart (K.taken out.old) (K.taken out.new) (bytes_written outcome.now)) }
     ensures failed { OnErr result (Rose (K.faults out.old) (K.faults out.new)) }
+    ensures offered { OffersBoth (K.offers out.old) (K.offers out.new) (length (work_text outcome.now.work)) (length outcome.now.rest) }
 {
     write_all(out, work_text(&outcome.work))?;
     write_all(out, outcome.rest.as_slice())
@@ -45,7 +47,8 @@ fn write_outcome<K: Sink>(out: &mut K, outcome: &Outcome) -> Result<(), SinkFail
 
 /// Writes the bytes of an outcome, and answers why that did not end, where it did not.
 fn write_fault<K: Sink>(out: &mut K, outcome: &Outcome) -> Option<Refusal>
-    ensures { WroteBytes (sink_use K.taken K.faults out.old out.new) result (bytes_written outcome.now) }
+    ensures wrote { WroteBytes (sink_use K.taken K.faults out.old out.new) result (bytes_written outcome.now) }
+    ensures offered { OffersBoth (K.offers out.old) (K.offers out.new) (length (work_text outcome.now.work)) (length outcome.now.rest) }
 {
     match write_outcome(out, outcome) {
         Ok(()) => None,
@@ -55,7 +58,8 @@ fn write_fault<K: Sink>(out: &mut K, outcome: &Outcome) -> Option<Refusal>
 
 /// Writes an outcome, and answers why that did not end, where it did not. Of programs that are refused nothing is written.
 pub(crate) fn write_refusal<K: Sink>(out: &mut K, outcome: &Outcome) -> Option<Refusal>
-    ensures { Wrote (sink_use K.taken K.faults out.old out.new) outcome.now.refused result (bytes_written outcome.now) }
+    ensures wrote { Wrote (sink_use K.taken K.faults out.old out.new) outcome.now.refused result (bytes_written outcome.now) }
+    ensures offered { OffersBoth (K.offers out.old) (K.offers out.new) (length (work_text outcome.now.work)) (length outcome.now.rest) }
 {
     match outcome.refused {
         None => write_fault(out, outcome),

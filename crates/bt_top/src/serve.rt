@@ -3,6 +3,7 @@ ghost use Rattle.std.specs.Prelude.{◌≡◌, ◌≢◌, ◌↔◌, None, Some,
 ghost use Rattle.bt_words.specs.Words.{HasBounds, order_of};
 ghost use Rattle.bt_top.specs.Headline.{Headline};
 ghost use Rattle.bt_top.specs.Lines.{SinkFailed, sink_use};
+ghost use Rattle.bt_top.specs.Offered.{IsOffered};
 ghost use Rattle.bt_top.specs.Orders.{files_in, files_of, names_of};
 ghost use Rattle.bt_top.specs.Refusals.{status_of};
 ghost use Rattle.bt_top.specs.Serve.{AnswersOrder, AsksExactly, AsksFirst, EndsAsDue, HasWork, AnswersWords, IsComplete};
@@ -57,6 +58,7 @@ fn perform<S: Shelf, K: Sink, G: Gate + Sync, R: Threads + Wait + Sync>(
         (sink_use K.taken K.faults out.old out.new) result }
     ensures vetted { Vetted (Some order.now) (shelf_use S.held S.faults S.asked shelf.old shelf.new)
         (sink_use K.taken K.faults out.old out.new) result }
+    ensures offered { IsOffered (sink_use K.taken K.faults out.old out.new) (K.offers out.old) (K.offers out.new) result }
 {
     bt_job::laws::accepted_scripts_are_jobs();
     bt_meaning::laws::ticks_come_after();
@@ -142,6 +144,9 @@ pub fn serve<S: Shelf, K: Sink, E: Sink, G: Gate + Sync, R: Threads + Wait + Syn
     // told, by its probe; else all are accepted, and the lines that tell so were written at status 0. No other order ends with status 8.
     ensures vetted { Vetted (order_of words.now) (shelf_use S.held S.faults S.asked shelf.old shelf.new)
         (sink_use K.taken K.faults out.old out.new) result }
+
+    // Each call of the output was offered all that was left of the text, and then of what stands behind it, but at most 4,096 bytes.
+    ensures offered { IsOffered (sink_use K.taken K.faults out.old out.new) (K.offers out.old) (K.offers out.new) result }
 
     // The line of the refusal is appended to `err`, or a prefix of it where the count of its faults rose.
     ensures told { TellsRefusal (files_in (order_of words.now)) result.refusal (sink_use E.taken E.faults err.old err.new) }

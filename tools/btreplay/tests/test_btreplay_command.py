@@ -33,6 +33,13 @@ class Command(unittest.TestCase):
         self.assertEqual(self.at.run("any", "", "words -e", status=1), (1, "", ""))
         self.assertEqual(self.at.words(), ["any", "", "words -e"])
 
+    def test_huge_pages_are_asked_for(self):
+        """Unless the caller says otherwise; what else the caller tells the C library stands."""
+        words, does = ("gen", "1", "2"), 'printf %s "$GLIBC_TUNABLES"'
+        for tunables, given in (("", "glibc.malloc.hugetlb=1"), ("glibc.malloc.hugetlb=0", "glibc.malloc.hugetlb=0"),
+                                ("glibc.malloc.check=1", "glibc.malloc.check=1:glibc.malloc.hugetlb=1")):
+            self.assertEqual(self.at.run(*words, does=does, more=[("GLIBC_TUNABLES", tunables)]), (0, given, ""))
+
     def test_the_order_of_cpus_is_told_once_and_for_a_run_without_serial_alone(self):
         self.at.write("pair.bt", PAIR)
         self.assertEqual(self.at.run("run", "pair.bt", "r.btr", out="text"), (0, "text", ORDER))

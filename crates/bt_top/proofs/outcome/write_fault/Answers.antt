@@ -1,8 +1,8 @@
 use Rattle.std.proofs.Common.{refl, inl, inr}
 use Rattle.bt_top.proofs.outcome.write_fault.Goals as goal
 
-pub returns-in-Ok : goal.returns-in-Ok
-returns-in-Ok g c = inl (refl, c.in-Ok.ensures.whole)
+pub returns-in-Ok-clause-wrote : goal.returns-in-Ok-clause-wrote
+returns-in-Ok-clause-wrote g c = inl (refl, c.in-Ok.ensures.whole)
 
-pub returns-in-Err : goal.returns-in-Err
-returns-in-Err g c = inr (refl, c.in-Err.ensures.failed, c.in-Err.ensures.part)
+pub returns-in-Err-clause-wrote : goal.returns-in-Err-clause-wrote
+returns-in-Err-clause-wrote g c = inr (refl, c.in-Err.ensures.failed, c.in-Err.ensures.part)

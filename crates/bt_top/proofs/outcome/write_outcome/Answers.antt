@@ -1,4 +1,5 @@
 use Rattle.bt_io.proofs.Appending.{AppendsPart-after}
+use Rattle.bt_top.proofs.Offered.{no_offers}
 use Rattle.bt_top.proofs.outcome.write_outcome.Goals as goal
 
 pub returns-clause-part : goal.returns-clause-part

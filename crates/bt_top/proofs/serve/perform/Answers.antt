@@ -1,6 +1,7 @@
 use Rattle.std.specs.Prelude.{Some}
 use Rattle.bt_top.proofs.Answering.{done_answer, done_exact, files_exact, kept, refused_answer}
 use Rattle.bt_top.proofs.Headlines.{AreRunLaws, done_headline, refused_headline}
+use Rattle.bt_top.proofs.Offered.{done_offered, refused_offered}
 use Rattle.bt_top.proofs.Vetted.{done_vetted, refused_vetted}
 use Rattle.bt_top.proofs.serve.perform.Goals as goal
 
@@ -23,12 +24,12 @@ returns-in-Err-clause-vetted g c =
 pub returns-clause-answered : goal.returns-clause-answered
 returns-clause-answered g c =
     rw c.reported.ensures
-    (done_answer c.args.order.now _ _ c.in-Ok.outcome c.in-Ok.ensures c.write_refusal-refusal.result c.write_refusal-refusal.ensures)
+    (done_answer c.args.order.now _ _ c.in-Ok.outcome c.in-Ok.ensures c.write_refusal-refusal.result c.write_refusal-refusal.ensures.wrote)
 
 pub returns-clause-exact : goal.returns-clause-exact
 returns-clause-exact g c =
     rw c.reported.ensures
-    (done_exact c.args.order.now _ _ c.in-Ok.outcome c.in-Ok.ensures c.write_refusal-refusal.result c.write_refusal-refusal.ensures)
+    (done_exact c.args.order.now _ _ c.in-Ok.outcome c.in-Ok.ensures c.write_refusal-refusal.result c.write_refusal-refusal.ensures.wrote)
 
 pub returns-clause-headline : goal.returns-clause-headline
 returns-clause-headline g c =
@@ -42,11 +43,22 @@ returns-clause-headline g c =
     } in
     let reads = c.in-Ok.ensures.reads in
     rw c.reported.ensures
-    (done_headline laws _ _ c.in-Ok.outcome c.write_refusal-refusal.result c.write_refusal-refusal.ensures c.args.order.now reads.contents
+    (done_headline laws _ _ c.in-Ok.outcome c.write_refusal-refusal.result c.write_refusal-refusal.ensures.wrote c.args.order.now reads.contents
     reads.held reads.value)
 
 pub returns-clause-vetted : goal.returns-clause-vetted
 returns-clause-vetted g c =
     let reads = c.in-Ok.ensures.reads in
     rw c.reported.ensures
-    (done_vetted _ _ c.in-Ok.outcome c.write_refusal-refusal.result c.write_refusal-refusal.ensures c.args.order.now reads.contents reads.held reads.value)
+    (done_vetted _ _ c.in-Ok.outcome c.write_refusal-refusal.result c.write_refusal-refusal.ensures.wrote c.args.order.now reads.contents reads.held reads.value)
+
+pub returns-in-Err-clause-offered : goal.returns-in-Err-clause-offered
+returns-in-Err-clause-offered g c =
+    let reads = c.in-Err.ensures.reads in
+    rw c.refused.ensures
+    (refused_offered _ reads.contents _ _ (kept (g.K.Sink.taken c.args.out.now)) (g.K.Sink.offers c.args.out.now) c.in-Err.refusal reads.came)
+
+pub returns-clause-offered : goal.returns-clause-offered
+returns-clause-offered g c =
+    rw c.reported.ensures
+    (done_offered _ _ _ c.in-Ok.outcome c.write_refusal-refusal.result c.write_refusal-refusal.ensures.wrote c.write_refusal-refusal.ensures.offered)

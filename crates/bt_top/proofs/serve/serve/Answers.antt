@@ -7,6 +7,7 @@ use Rattle.bt_top.specs.Serve.{EndsAsDue, OnTold}
 use Rattle.std.specs.Prelude.{Some}
 use Rattle.bt_top.proofs.Answering.{is_complete, kept, on_order, words_answer}
 use Rattle.bt_top.proofs.Headlines.{refused_headline}
+use Rattle.bt_top.proofs.Offered.{usage_offered, words_offered}
 use Rattle.bt_top.proofs.Performing.{memory_complete, memory_exact, nothing_asked, nothing_asked_exactly}
 use Rattle.bt_top.proofs.Vetted.{memory_vetted}
 use Rattle.bt_top.proofs.serve.serve.Goals as goal
@@ -45,3 +46,11 @@ returns-in-Err-Memory-clause-vetted g c =
 pub returns-in-Err-Memory-clause-asked_exactly : goal.returns-in-Err-Memory-clause-asked_exactly
 returns-in-Err-Memory-clause-asked_exactly g c =
     rw c.refused-in-Err-Memory.ensures (nothing_asked_exactly (files_in (order_of c.args.words.now)) _ refl)
+
+pub returns-in-Err-Memory-clause-offered : goal.returns-in-Err-Memory-clause-offered
+returns-in-Err-Memory-clause-offered g c =
+    rw c.refused-in-Err-Memory.ensures (words_offered _ (kept (g.K.Sink.taken c.args.out.now)) (g.K.Sink.offers c.args.out.now))
+
+pub returns-in-Err-Usage-clause-offered : goal.returns-in-Err-Usage-clause-offered
+returns-in-Err-Usage-clause-offered g c =
+    rw c.refused-in-Err-Usage.ensures (usage_offered _ (kept (g.K.Sink.taken c.args.out.now)) (g.K.Sink.offers c.args.out.now))
