@@ -12,13 +12,14 @@ pub record NamedFile : Type 0 where
   pub bytes : List ℕ
 
 -- a shelf in memory: its files, the numbers of the calls that fail, how many calls and how many
--- faults there were, and the names that were asked for
+-- faults there were, the names that were asked for, and those whose reads failed
 pub record ShelfState : Type 0 where
   pub files : List NamedFile
   pub failing : List ℕ
   pub calls : ℕ
   pub faults : ℕ
   pub asked : List (List ℕ)
+  pub failed : List (List ℕ)
 
 -- the file of a name and bytes as a program holds them
 abbrev pub file_of : String Global × Vec ℕ Global → NamedFile

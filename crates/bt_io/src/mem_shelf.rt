@@ -15,9 +15,9 @@ use std::marker::Model;
 /// Files in memory, for tests. It tells their bytes.
 ///
 /// The bytes under a name are those of the first file that has it. A call whose number is listed as
-/// failing answers [`ShelfError::Failed`], and so does a call for a name that is not held; the count
-/// of faults rises by one then and at no other time. Calls are numbered from 1. The count of calls
-/// and the count of faults stand still at 2^64 - 1.
+/// failing answers [`ShelfError::Failed`], and so does a call for a name that is not held; the name is
+/// noted as failed then, and the count of faults rises by one, and at no other time. Calls are numbered
+/// from 1. The count of calls and the count of faults stand still at 2^64 - 1.
 #[derive(Drop)]
 pub struct MemShelf {
     files: Vec<(String, Vec<u8>)>,
@@ -25,6 +25,7 @@ pub struct MemShelf {
     calls: u64,
     faults: u64,
     asked: Items<Items<u8>>,
+    failed: Items<Items<u8>>,
 }
 
 impl Model for MemShelf {
@@ -33,7 +34,14 @@ impl Model for MemShelf {
 
     ghost Value = { ShelfState };
 
-    ghost view = { λ s. record { files = map file_of s.files.items; failing = s.failing.items; calls = s.calls; faults = s.faults; asked = s.asked } };
+    ghost view = { λ s. record {
+      files = map file_of s.files.items;
+      failing = s.failing.items;
+      calls = s.calls;
+      faults = s.faults;
+      asked = s.asked;
+      failed = s.failed;
+    } };
 }
 
 impl MemShelf {
@@ -45,6 +53,7 @@ impl MemShelf {
         ensures uncalled { result.calls ≡ 0 }
         ensures faultless { result.faults ≡ 0 }
         ensures unasked { result.asked ≡ [] }
+        ensures none_failed { result.failed ≡ [] }
     {
         MemShelf {
             files,
@@ -52,6 +61,7 @@ impl MemShelf {
             calls: 0,
             faults: 0,
             asked: Items::new(alloc),
+            failed: Items::new(alloc),
         }
     }
 }
@@ -62,6 +72,8 @@ impl Shelf for MemShelf {
     ghost faults = { λ s. s.faults };
 
     ghost asked = { λ s. s.asked };
+
+    ghost failed = { λ s. s.failed };
 
     fn read(&mut self, alloc: Global, name: &str, limit: u64) -> Result<Vec<u8>, ShelfError>
         // The answer: that of the files and of the call's number, or want of memory.
@@ -84,6 +96,8 @@ impl Shelf for MemShelf {
         ensures too_long { IsErrOf result ShelfError.TooLong → IfSome (file_named name.now self.old.files) (λ all. limit < length all) }
         ensures failed { IsErrOf result ShelfError.Failed → Rose self.old.faults self.new.faults }
         ensures later { self.old.faults ≤ self.new.faults }
+        ensures failed_name { IsErrOf result ShelfError.Failed → self.new.failed ≡ self.old.failed ++ name.now ∷ [] }
+        ensures none_failed { IsErrOf result ShelfError.Failed ⊎ (self.new.failed ≡ self.old.failed) }
         ensures kept { (other : List ℕ) → file_named other self.new.files ≡ file_named other self.old.files }
     {
         self.calls = self.calls.saturating_add(1);
@@ -91,6 +105,7 @@ impl Shelf for MemShelf {
         let fails = is_among(self.calls, self.failing.as_slice());
         match answer(alloc, self.files.as_slice(), fails, name, limit) {
             Err(ShelfError::Failed) => {
+                note(alloc, &mut self.failed, name)?;
                 self.faults = self.faults.saturating_add(1);
                 Err(ShelfError::Failed)
             }

@@ -22,6 +22,7 @@ pub struct FileShelf<R> {
     rt: R,
     faults: u64,
     asked: Items<Items<u8>>,
+    failed: Items<Items<u8>>,
 }
 
 impl<R> Model for FileShelf<R> {
@@ -29,7 +30,7 @@ impl<R> Model for FileShelf<R> {
 
     ghost Value = { ReadLog };
 
-    ghost view = { λ s. record { faults = s.faults; asked = s.asked } };
+    ghost view = { λ s. record { faults = s.faults; asked = s.asked; failed = s.failed } };
 }
 
 impl<R: Files> FileShelf<R> {
@@ -37,11 +38,13 @@ impl<R: Files> FileShelf<R> {
     pub fn new(rt: R, alloc: Global) -> FileShelf<R>
         ensures faultless { result.faults ≡ 0 }
         ensures unasked { result.asked ≡ [] }
+        ensures none_failed { result.failed ≡ [] }
     {
         FileShelf {
             rt,
             faults: 0,
             asked: Items::new(alloc),
+            failed: Items::new(alloc),
         }
     }
 }
@@ -52,6 +55,8 @@ impl<R: Files> Shelf for FileShelf<R> {
     ghost faults = { λ s. s.faults };
 
     ghost asked = { λ s. s.asked };
+
+    ghost failed = { λ s. s.failed };
 
     fn read(&mut self, alloc: Global, name: &str, limit: u64) -> Result<Vec<u8>, ShelfError>
         // What stands after it.
@@ -64,10 +69,13 @@ impl<R: Files> Shelf for FileShelf<R> {
         ensures fits { IfOk result (λ bytes. length bytes.items ≤ limit) }
         ensures failed { IsErrOf result ShelfError.Failed → Rose self.old.faults self.new.faults }
         ensures later { self.old.faults ≤ self.new.faults }
+        ensures failed_name { IsErrOf result ShelfError.Failed → self.new.failed ≡ self.old.failed ++ name.now ∷ [] }
+        ensures none_failed { IsErrOf result ShelfError.Failed ⊎ (self.new.failed ≡ self.old.failed) }
     {
         note(alloc, &mut self.asked, name)?;
         match load(&self.rt, alloc, name, limit) {
             Err(ShelfError::Failed) => {
+                note(alloc, &mut self.failed, name)?;
                 self.faults = self.faults.saturating_add(1);
                 Err(ShelfError::Failed)
             }

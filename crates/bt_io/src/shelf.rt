@@ -41,10 +41,14 @@ pub trait Shelf {
     /// The names that were asked for so far, in their order.
     ghost asked: { Self → List (List ℕ) };
 
+    /// The names whose reads failed so far, in their order.
+    ghost failed: { Self → List (List ℕ) };
+
     /// All bytes of the file of this name, which are at most `limit`.
     ///
     /// Answers [`ShelfError::TooLong`] where the file holds more, [`ShelfError::Failed`] only where
-    /// the count of faults rose, and [`ShelfError::Memory`] where there is no room for the bytes.
+    /// the count of faults rose, with its name noted as failed, and [`ShelfError::Memory`] where there is no
+    /// room for the bytes, or for the name.
     /// Whatever it answers, the files stay as they are. Want of memory may come before the name is
     /// noted.
     fn read(&mut self, alloc: Global, name: &str, limit: u64) -> Result<Vec<u8>, ShelfError>
@@ -53,6 +57,8 @@ pub trait Shelf {
         ensures too_long { IsErrOf result ShelfError.TooLong → IfSome (held self.old name.now) (λ all. limit < length all) }
         ensures failed { IsErrOf result ShelfError.Failed → Rose (faults self.old) (faults self.new) }
         ensures later { faults self.old ≤ faults self.new }
+        ensures failed_name { IsErrOf result ShelfError.Failed → failed self.new ≡ failed self.old ++ name.now ∷ [] }
+        ensures none_failed { IsErrOf result ShelfError.Failed ⊎ (failed self.new ≡ failed self.old) }
         ensures kept { (other : List ℕ) → held self.new other ≡ held self.old other }
         ensures named { IsErrOf result ShelfError.Memory ⊎ (asked self.new ≡ asked self.old ++ name.now ∷ []) }
         ensures named_or_not { (asked self.new ≡ asked self.old ++ name.now ∷ []) ⊎ (asked self.new ≡ asked self.old) };

@@ -1,6 +1,7 @@
 mod Answering
 mod Asked
 mod Due
+mod FailedNames
 mod Headlines
 mod LineLaws
 mod Listed

@@ -9,6 +9,7 @@ pub mod Due
 pub mod Meanings
 pub mod Jobs
 pub mod Outcomes
+pub mod FailedNames
 pub mod Serve
 pub mod Offered
 pub mod Doing

@@ -1,7 +1,8 @@
 // The files that orders name.
 ghost use Rattle.std.specs.Prelude.{IfOk};
 ghost use Rattle.bt_meaning.specs.Jobs.{IsJob};
-ghost use Rattle.bt_top.specs.Doing.{ComesOfFiles};
+ghost use Rattle.bt_top.specs.Doing.{ComesOfFiles, refusal_in};
+ghost use Rattle.bt_top.specs.FailedNames.{FailsNamed};
 ghost use Rattle.bt_top.specs.Jobs.{IsJobFor};
 ghost use Rattle.bt_top.specs.Orders.{on_script};
 ghost use Rattle.bt_top.specs.Serve.{shelf_use};
@@ -23,6 +24,7 @@ pub(crate) fn read_job<S: Shelf>(
     ensures can_run { IfOk result (λ job. IsJob job.typed job.attached job.recording) }
     ensures performs { ComesOfFiles (on_script script.now recording.now) (IsJobFor (on_script script.now recording.now))
         (shelf_use S.held S.faults S.asked shelf.old shelf.new) result }
+    ensures fault_named { FailsNamed (on_script script.now recording.now) (refusal_in result) (S.failed shelf.old) (S.failed shelf.new) }
 {
     let text = match shelf.read(alloc, script, SCRIPT_BYTES) {
         Ok(text) => text,

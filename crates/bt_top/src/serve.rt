@@ -1,6 +1,7 @@
 // The top call.
 ghost use Rattle.std.specs.Prelude.{◌≡◌, ◌≢◌, ◌↔◌, None, Some, IfSome, IsSome};
 ghost use Rattle.bt_words.specs.Words.{HasBounds, order_of};
+ghost use Rattle.bt_top.specs.FailedNames.{FailsNamed};
 ghost use Rattle.bt_top.specs.Headline.{Headline};
 ghost use Rattle.bt_top.specs.Lines.{SinkFailed, sink_use};
 ghost use Rattle.bt_top.specs.Offered.{IsOffered};
@@ -50,6 +51,7 @@ fn perform<S: Shelf, K: Sink, G: Gate + Sync, R: Threads + Wait + Sync>(
     ensures known { result.refusal ≢ Some Refusal.Usage }
     ensures asked { AsksFirst (S.asked shelf.old) (S.asked shelf.new) (names_of (files_of order.now)) }
     ensures asked_exactly { AsksExactly (files_of order.now) result.refusal (shelf_use S.held S.faults S.asked shelf.old shelf.new) }
+    ensures fault_named { FailsNamed (files_of order.now) result.refusal (S.failed shelf.old) (S.failed shelf.new) }
     ensures answered { AnswersOrder order.now (shelf_use S.held S.faults S.asked shelf.old shelf.new)
         (sink_use K.taken K.faults out.old out.new) result }
     ensures exact { OnTold (S.held shelf.old) (files_of order.now) (EndsAsDue order.now result.refusal) }
@@ -119,6 +121,9 @@ pub fn serve<S: Shelf, K: Sink, E: Sink, G: Gate + Sync, R: Threads + Wait + Syn
     ensures usage { (result.refusal ≡ Some Refusal.Usage) ↔ (order_of words.now ≡ None) }
     ensures asked { AsksFirst (S.asked shelf.old) (S.asked shelf.new) (names_of (files_in (order_of words.now))) }
     ensures asked_exactly { AsksExactly (files_in (order_of words.now)) result.refusal (shelf_use S.held S.faults S.asked shelf.old shelf.new) }
+
+    // A fault of a read is told of the file whose name the shelf noted as failed in this call, and of none where it noted none.
+    ensures fault_named { FailsNamed (files_in (order_of words.now)) result.refusal (S.failed shelf.old) (S.failed shelf.new) }
 
     // What comes of an order is due to its files, or is a fault before which nothing was due; nothing is due to `gen` and `big`. At status 0 and
     // 5 there is what the order comes to: the work of a run, the programs of a run, a listing or a check, one for each body, which keeps it, and

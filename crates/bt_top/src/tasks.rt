@@ -3,7 +3,8 @@ ghost use Rattle.std.specs.Prelude.{◌≡◌, ◌≤◌, length, IfOk};
 ghost use Rattle.bt_meaning.specs.Jobs.{IsJob};
 ghost use Rattle.bt_words.specs.Words.{HasBounds};
 ghost use Rattle.script_programs.specs.Programs.{KeepScript};
-ghost use Rattle.bt_top.specs.Doing.{ComesOfFiles};
+ghost use Rattle.bt_top.specs.Doing.{ComesOfFiles, refusal_in};
+ghost use Rattle.bt_top.specs.FailedNames.{FailsNamed};
 ghost use Rattle.bt_top.specs.Orders.{files_of, form_of};
 ghost use Rattle.bt_top.specs.Outcomes.{ComesTo, IsOutcomeOfRun, IsOutcomeOfVet, check_outcome, code_outcome, instructions_line, stats_line};
 ghost use Rattle.bt_top.specs.Serve.{shelf_use};
@@ -159,7 +160,8 @@ pub(crate) fn outcome_of<S: Shelf, G: Gate + Sync, R: Threads + Wait + Sync>(
     gate: &G,
 ) -> Result<Outcome, Refusal>
     requires { HasBounds order.now }
-    ensures { ComesOfFiles (files_of order.now) (ComesTo order.now) (shelf_use S.held S.faults S.asked shelf.old shelf.new) result }
+    ensures performs { ComesOfFiles (files_of order.now) (ComesTo order.now) (shelf_use S.held S.faults S.asked shelf.old shelf.new) result }
+    ensures fault_named { FailsNamed (files_of order.now) (refusal_in result) (S.failed shelf.old) (S.failed shelf.new) }
 {
     match order {
         Order::Run {

@@ -1,5 +1,5 @@
 // Faults of files and sinks, want of memory, and a long recording.
-ghost use Rattle.std.specs.Prelude.{◌-◌, ◌^◌, None};
+ghost use Rattle.std.specs.Prelude.{◌-◌, ◌^◌, None, []};
 
 use crate::files::{
     AT_0, AT_1, AT_2, Answer, HEAD, REST, VALUE, answer_to, files, joined, report_on,
@@ -135,10 +135,10 @@ fn a_fault_leaves_a_prefix_and_the_work(rt: HostRuntime) -> Result<(), Fail> {
     Ok(())
 }
 
-/// A shelf that gives the script and answers an error for the recording. It tells no content.
+/// A shelf that gives the script, and answers of the recording that it is too long, or that memory ran out. It tells no content.
 #[derive(Drop)]
 struct Refusing {
-    answer: ShelfError,
+    is_long: bool,
     asked: Items<Items<u8>>,
 }
 
@@ -149,6 +149,8 @@ impl Shelf for Refusing {
 
     ghost asked = { λ s. s.asked };
 
+    ghost failed = { λ s. [] };
+
     fn read(&mut self, alloc: Global, name: &str, limit: u64) -> Result<Vec<u8>, ShelfError> {
         let Ok(kept) = Vec::from_slice(alloc, name.as_bytes()) else {
             return Err(ShelfError::Memory);
@@ -157,7 +159,11 @@ impl Shelf for Refusing {
             return Err(ShelfError::Memory);
         };
         if name == "r.bin" || limit < 50 {
-            return Err(self.answer);
+            return Err(if self.is_long {
+                ShelfError::TooLong
+            } else {
+                ShelfError::Memory
+            });
         }
         Vec::from_slice(alloc, COUNT).map_err(|_| ShelfError::Memory)
     }
@@ -168,15 +174,15 @@ fn a_long_recording_and_want_of_memory_are_told(rt: HostRuntime) -> Result<(), F
     let alloc = rt.alloc();
     let rows = [
         (
-            ShelfError::TooLong,
+            true,
             3,
             b"r.bin: recording too long\n".as_slice(),
         ),
-        (ShelfError::Memory, 6, b"out of memory\n".as_slice()),
+        (false, 6, b"out of memory\n".as_slice()),
     ];
-    for (answer_of_recording, status, line) in rows {
+    for (is_long, status, line) in rows {
         let mut shelf = Refusing {
-            answer: answer_of_recording,
+            is_long,
             asked: Items::new(alloc),
         };
         let mut out = MemSink::new(alloc, 4096, 4096, Vec::new(alloc))?;

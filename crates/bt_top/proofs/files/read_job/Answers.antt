@@ -1,3 +1,7 @@
+use Rattle.bt_top.specs.declared.refusal.Operand.TheVariants.{Script, Recording}
+use Rattle.std.proofs.Common.{refl, ◌∙◌, ap}
+use Rattle.bt_top.specs.Orders.{on_script}
+use Rattle.bt_top.proofs.FailedNames.{judged_failed, none_failed_ok, unread_failed}
 use Rattle.bt_top.proofs.Reading.{both_read, noted_ok, read_error, recording_unread, rose_from, script_unread}
 use Rattle.bt_top.proofs.files.read_job.Goals as goal
 
@@ -23,3 +27,20 @@ returns-clause-performs g c =
     (rw (← c.read.ensures.kept c.args.recording.now) c.in-Ok-read.ensures.bytes)
     c.judge.result _ c.judge.ensures.job c.judge.ensures.refused c.judge.ensures.exact
     (noted_ok c.in-Ok.text c.in-Ok.ensures.named) (noted_ok c.in-Ok-read.bytes c.in-Ok-read.ensures.named)
+
+pub returns-in-Err-clause-fault_named : goal.returns-in-Err-clause-fault_named
+returns-in-Err-clause-fault_named g c =
+    rw c.read_refusal.ensures
+    (unread_failed (on_script c.args.script.now c.args.recording.now) Script c.args.script.now _ _ c.in-Err.error refl
+    (λ e. c.in-Err.ensures.failed_name (read_error e)) c.in-Err.ensures.none_failed)
+
+pub returns-in-Err-read-clause-fault_named : goal.returns-in-Err-read-clause-fault_named
+returns-in-Err-read-clause-fault_named g c =
+    rw (c.read_refusal-in-Err-read.ensures, ← none_failed_ok c.in-Ok.text c.in-Ok.ensures.none_failed)
+    (unread_failed (on_script c.args.script.now c.args.recording.now) Recording c.args.recording.now _ _ c.in-Err-read.error refl
+    (λ e. c.in-Err-read.ensures.failed_name (read_error e)) c.in-Err-read.ensures.none_failed)
+
+pub returns-clause-fault_named : goal.returns-clause-fault_named
+returns-clause-fault_named g c =
+    judged_failed (on_script c.args.script.now c.args.recording.now) _ _ _ _ c.judge.result c.judge.ensures.refused
+    (none_failed_ok c.in-Ok-read.bytes c.in-Ok-read.ensures.none_failed ∙ none_failed_ok c.in-Ok.text c.in-Ok.ensures.none_failed)

@@ -9,8 +9,8 @@ use Rattle.bt_top.proofs.Passing.{names_bodies}
 use Rattle.bt_top.proofs.Performing.{goes_on, made}
 use Rattle.bt_top.proofs.tasks.outcome_of.Goals as goal
 
-pub returns-in_ok-run_outcome-in-Run : goal.returns-in_ok-run_outcome-in-Run
-returns-in_ok-run_outcome-in-Run g c =
+pub returns-in_ok-run_outcome-in-Run-clause-performs : goal.returns-in_ok-run_outcome-in-Run-clause-performs
+returns-in_ok-run_outcome-in-Run-clause-performs g c =
     rw c.in-Run.is
     (goes_on _ (IsJobFor (on_script c.in-Run.script c.in-Run.recording))
     (ComesTo (Run c.in-Run.serial c.in-Run.stats c.in-Run.json c.in-Run.script c.in-Run.recording)) _
@@ -23,16 +23,16 @@ returns-in_ok-run_outcome-in-Run g c =
           c.in_ok-run_outcome-in-Run.field-0) c.form_of-form.ensures c.in_ok-run_outcome-in-Run.ensures,
     )))
 
-pub returns-in_ok-check_outcome-in-Check : goal.returns-in_ok-check_outcome-in-Check
-returns-in_ok-check_outcome-in-Check g c =
+pub returns-in_ok-check_outcome-in-Check-clause-performs : goal.returns-in_ok-check_outcome-in-Check-clause-performs
+returns-in_ok-check_outcome-in-Check-clause-performs g c =
     rw c.in-Check.is
     (goes_on _ (IsJobFor (on_script c.in-Check.script c.in-Check.recording)) (ComesTo (Check c.in-Check.script c.in-Check.recording)) _
     c.in_ok-read_job-in-Check.field-0 c.in_ok-check_outcome-in-Check.field-0
     (rw (c.as_str-in-Check.ensures, c.as_str-in-Check-2.ensures) at c.in_ok-read_job-in-Check.ensures.performs)
     (λ contents is. (c.in_ok-read_job-in-Check.field-0, is, c.in_ok-check_outcome-in-Check.ensures)))
 
-pub returns-in_ok-code_outcome-in-Code : goal.returns-in_ok-code_outcome-in-Code
-returns-in_ok-code_outcome-in-Code g c =
+pub returns-in_ok-code_outcome-in-Code-clause-performs : goal.returns-in_ok-code_outcome-in-Code-clause-performs
+returns-in_ok-code_outcome-in-Code-clause-performs g c =
     rw c.in-Code.is
     (goes_on _ (IsJobFor (on_script c.in-Code.script c.in-Code.recording)) (ComesTo (Code c.in-Code.script c.in-Code.recording)) _
     c.in_ok-job-in-Code.job c.in_ok-code_outcome-in-Code.field-0
@@ -44,14 +44,14 @@ vet_outcome-requires-clause-named g c =
     let reads = c.in_ok-job-in-Vet.ensures.performs.reads in
     names_bodies (on_script c.as_str-in-Vet.result.now c.as_str-in-Vet-2.result.now) reads.contents c.in_ok-job-in-Vet.job reads.value
 
-pub returns-in_ok-vet_outcome-in-Vet : goal.returns-in_ok-vet_outcome-in-Vet
-returns-in_ok-vet_outcome-in-Vet g c =
+pub returns-in_ok-vet_outcome-in-Vet-clause-performs : goal.returns-in_ok-vet_outcome-in-Vet-clause-performs
+returns-in_ok-vet_outcome-in-Vet-clause-performs g c =
     rw c.in-Vet.is
     (goes_on _ (IsJobFor (on_script c.in-Vet.script c.in-Vet.recording)) (ComesTo (Vet c.in-Vet.script c.in-Vet.recording)) _
     c.in_ok-job-in-Vet.job c.in_ok-vet_outcome-in-Vet.field-0
     (rw (c.as_str-in-Vet.ensures, c.as_str-in-Vet-2.ensures) at c.in_ok-job-in-Vet.ensures.performs)
     (λ contents is. (c.in_ok-job-in-Vet.job, is, c.in_ok-vet_outcome-in-Vet.ensures)))
 
-pub returns-in_ok-gen_outcome-in-Gen : goal.returns-in_ok-gen_outcome-in-Gen
-returns-in_ok-gen_outcome-in-Gen g c =
+pub returns-in_ok-gen_outcome-in-Gen-clause-performs : goal.returns-in_ok-gen_outcome-in-Gen-clause-performs
+returns-in_ok-gen_outcome-in-Gen-clause-performs g c =
     rw c.in-Gen.is (made (ComesTo (Gen c.in-Gen.x c.in-Gen.n)) _ refl c.in_ok-gen_outcome-in-Gen.field-0 c.in_ok-gen_outcome-in-Gen.ensures)
