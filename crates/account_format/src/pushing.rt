@@ -1,6 +1,6 @@
 // Writing numbers, values and keys behind bytes.
 ghost use Rattle.std.specs.Prelude.{◌≡◌, ◌++◌, ◌∷◌, [], OnOk};
-ghost use Rattle.std.specs.Int.{w32, w64, to_le_bytes};
+ghost use Rattle.std.specs.Int.{w32, w64, cast_unsigned, to_le_bytes};
 ghost use Rattle.bt_core.specs.KeyBytes.{value_bytes, key_bytes};
 ghost use Rattle.account_format.specs.Entries.{of_map};
 
@@ -34,11 +34,18 @@ pub(crate) fn push_u64(bytes: &mut Vec<u8>, number: u64) -> Result<(), AllocErro
     bytes.extend_from_slice(&piece)
 }
 
+/// A number with a sign, as the one without it that has its bits.
+pub(crate) fn push_i64(bytes: &mut Vec<u8>, number: i64) -> Result<(), AllocError>
+    ensures { OnOk result (bytes.new.items ≡ bytes.old.items ++ to_le_bytes w64 (cast_unsigned w64 number)) }
+{
+    push_u64(bytes, number.cast_unsigned())
+}
+
 pub(crate) fn push_value(bytes: &mut Vec<u8>, value: &Value) -> Result<(), AllocError>
     ensures { OnOk result (bytes.new.items ≡ bytes.old.items ++ value_bytes value.now) }
 {
     match value {
-        Value::Int(number) => push_u64(bytes, number.cast_unsigned()),
+        Value::Int(number) => push_i64(bytes, *number),
         Value::Str(text) => bytes.extend_from_slice(&text_bytes(text)),
     }
 }

@@ -1,10 +1,12 @@
 // Writing an account.
-ghost use Rattle.std.specs.Prelude.{◌≡◌, ◌++◌, IfOk, OnOk};
+ghost use Rattle.std.specs.Prelude.{◌≡◌, ◌<◌, ◌^◌, ◌++◌, length, IfOk, OnOk};
+ghost use Rattle.std.specs.List.{AllByRecursion};
 ghost use Rattle.bt_core.specs.declared.step.ObjectId.TheVariants as objects;
-ghost use Rattle.account_format.specs.Entries.{call_bytes, entry_bytes};
+ghost use Rattle.account_format.specs.Entries.{call_bytes, entry_bytes, FitsStep};
 ghost use Rattle.account_format.specs.Accounts.{entries_bytes, account_bytes};
 
-use crate::pushing::{push_byte, push_keyed, push_numbered, push_u32, push_u64, push_value};
+use crate::held::step_is_held;
+use crate::pushing::{push_byte, push_i64, push_keyed, push_numbered, push_u32, push_u64, push_value};
 use crate::reading::MAGIC;
 use bt_core::map::MapId;
 use bt_core::memory::Memory;
@@ -19,7 +21,13 @@ use weave::woven::Woven;
 ///
 /// Its only error is [`Memory`].
 pub fn write_account(alloc: Global, steps: &Woven, text: &[u8]) -> Result<Vec<u8>, Memory>
-    ensures { IfOk result (λ bytes. bytes.items ≡ account_bytes steps.now text.now) }
+    // The bytes are the account.
+    ensures bytes { IfOk result (λ bytes. bytes.items ≡ account_bytes steps.now text.now) }
+    // Each step is as a program holds it, so that none has numbers whose bytes are those of smaller ones.
+    ensures fits { OnOk result (AllByRecursion FitsStep steps.now) }
+    // 64 bits count the steps, and the text.
+    ensures few { OnOk result (length steps.now < 2 ^ 64) }
+    ensures short { OnOk result (length text.now < 2 ^ 64) }
 {
     let mut bytes = Vec::new(alloc);
     bytes.extend_from_slice(MAGIC)?;
@@ -32,20 +40,22 @@ pub fn write_account(alloc: Global, steps: &Woven, text: &[u8]) -> Result<Vec<u8
 
 /// The entries of steps, in their order.
 fn push_entries(alloc: Global, bytes: &mut Vec<u8>, steps: &Woven) -> Result<(), Memory>
-    ensures { OnOk result (bytes.new.items ≡ bytes.old.items ++ entries_bytes steps.now) }
+    ensures bytes { OnOk result (bytes.new.items ≡ bytes.old.items ++ entries_bytes steps.now) }
+    ensures fits { OnOk result (AllByRecursion FitsStep steps.now) }
 {
     let ordered = steps.in_order(alloc)?;
-    for place in 0..ordered.len() {
-        if let Some(step) = ordered.get(alloc, place)? {
-            push_entry(bytes, &step)?;
-        }
+    let mut left = ordered.steps();
+    while let Some(step) = left.next(alloc)? {
+        push_entry(bytes, &step)?;
     }
     Ok(())
 }
 
 fn push_entry(bytes: &mut Vec<u8>, step: &Step) -> Result<(), AllocError>
-    ensures { OnOk result (bytes.new.items ≡ bytes.old.items ++ entry_bytes step.now) }
+    ensures bytes { OnOk result (bytes.new.items ≡ bytes.old.items ++ entry_bytes step.now) }
+    ensures fits { FitsStep step.now }
 {
+    step_is_held(step);
     push_u32(bytes, step.actor)?;
     push_u64(bytes, step.stamp)?;
     push_call(bytes, step.object, &step.op)
@@ -95,7 +105,7 @@ fn push_table(bytes: &mut Vec<u8>, table: u32, op: &Op) -> Result<(), AllocError
     match op {
         Op::Add(map, key, number) => {
             push_keyed(bytes, 7, *map, key)?;
-            push_u64(bytes, number.cast_unsigned())
+            push_i64(bytes, *number)
         }
         Op::Read(map) => push_numbered(bytes, 8, *map, table),
         Op::ClearOf(map) => push_numbered(bytes, 9, *map, table),
