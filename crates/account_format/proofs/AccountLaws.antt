@@ -1,21 +1,21 @@
 -- Bytes are the account of one list and one text at most, and are wrong at one place at most.
-use Rattle.std.proofs.Common.{◌≡◌, ◌≢◌, ℕ, zero, suc, ◌+◌, ◌-◌, ◌<◌, ◌≤◌, ◌^◌, Bool, true, List, [], ◌∷◌, ◌++◌, length, w64, Option, Some, None, ◌⊎◌, inl, inr, refl, sym, ap, subst, ◌∙◌, append_assoc, append-nil, length-append, arith}
+use Rattle.std.proofs.Common.{◌≡◌, ◌≢◌, ℕ, zero, suc, ◌+◌, ◌-◌, ◌<◌, ◌≤◌, ◌^◌, Bool, List, [], ◌∷◌, ◌++◌, length, w64, Option, Some, None, inl, inr, refl, sym, ap, subst, ◌∙◌, append_assoc, append-nil, length-append, arith}
 use Rattle.std.specs.Prelude.{codes, nat_eq}
 use Rattle.std.specs.Int.{to_le_bytes}
-use Rattle.std.specs.List.{flat_map, AllByRecursion}
+use Rattle.std.specs.List.{AllByRecursion}
 use Rattle.std.specs.Cmp.Lexicographic.{pointwise, nat_list_eq_equiv, same_text}
 use Rattle.std.proofs.lemmas.List.{append_cancel_left}
 use Rattle.std.proofs.lemmas.Option.{same_Some}
 use Rattle.bt_core.specs.declared.step.Step.{Step}
 use Rattle.bt_core.specs.Ports.{Setting}
-use Rattle.rec_format.specs.Fronts.{◌>>=◌, where_true, bytes_at, number_at}
+use Rattle.rec_format.specs.Fronts.{where_true, bytes_at, number_at}
 use Rattle.rec_format.proofs.Fields.{IsBytes, bind_some, where_true_some, bytes_takes, bytes_again, wide64, number_takes, number_again}
 use Rattle.rec_format.proofs.PartLaws.{bind_to}
 use Rattle.account_format.specs.Entries.{entry_bytes, IsEntry}
-use Rattle.account_format.specs.Accounts.{entries_bytes, account_bytes, IsAccount}
+use Rattle.account_format.specs.Accounts.{entries_bytes, IsAccount}
 use Rattle.account_format.specs.Forms.{AreDue, state_after, spelled, IsOfForm, IsWrongAt}
 use Rattle.account_format.specs.Wrong.{Part, Magic, Count, Entry, Size, Text, Due, AtMagic, AtCount, AtEntries, AtText, AtEnd, IsDuePart, due_after, part_bytes, IsEndOf, account_form, IsWrongAccount}
-use Rattle.account_format.specs.Reading.{magic_at, entry_at, steps_at, behind}
+use Rattle.account_format.specs.Reading.{magic_at, entry_at}
 use Rattle.account_format.proofs.FormLaws.{AreApart, wrong_here, wrong_later, one_offset, one_form, not_both}
 use Rattle.account_format.proofs.EntryLaws.{entry_again, Walked}
 
@@ -157,7 +157,7 @@ module _ (setting : Setting) where
       record {
         within = omega (arith, h.within, long);
         later = λ i w. let same : (length bytes - length rest) + (length (part_bytes x) + i) ≡ (length bytes - length after) + i = omega (arith, h.within, long) in
-          subst (λ (n : ℕ). IsWrongAccount setting bytes n) same (h.later (length (part_bytes x) + i) (wrong_later (account_form setting) due x rest after i is e w));
+            subst (λ (n : ℕ). IsWrongAccount setting bytes n) same (h.later (length (part_bytes x) + i) (wrong_later (account_form setting) due x rest after i is e w));
       }
 
   pub later_entries : (steps : List Step) (left : ℕ) (bytes rest after : List ℕ) → AllByRecursion (IsEntry setting) steps → rest ≡ entries_bytes steps ++ after → IsLater (AtEntries (length steps + left)) bytes rest → IsLater (AtEntries left) bytes after

@@ -1,6 +1,6 @@
 -- An operation that is read is the one that was written, and what was written is read again.
-use Rattle.std.proofs.Common.{◌≡◌, ℕ, ◌+◌, ◌%◌, ◌<◌, ◌≤◌, ◌^◌, Bool, true, List, [], ◌∷◌, ◌++◌, w64, w32, ℤ, FitsSigned, Option, Some, None, refl, sym, ap, subst, ◌∙◌, append_assoc, arith}
-use Rattle.std.specs.Prelude.{nat_lt, slice_get, sum}
+use Rattle.std.proofs.Common.{◌≡◌, ℕ, ◌<◌, ◌^◌, Bool, List, [], ◌∷◌, ◌++◌, w64, w32, ℤ, Option, Some, refl, sym, ap, subst, ◌∙◌, append_assoc, arith}
+use Rattle.std.specs.Prelude.{nat_lt, slice_get}
 use Rattle.std.specs.Int.{to_le_bytes, cast_signed, cast_unsigned}
 use Rattle.std.proofs.lemmas.Bool.{ltb-true, lt-ltb}
 use Rattle.std.proofs.lemmas.Int.{to_z-of_z, of_z-to_z}
@@ -15,7 +15,7 @@ use Rattle.bt_core.specs.declared.step.ObjectId.TheVariants.{Shared, Cpu, Clock,
 use Rattle.bt_core.specs.declared.step.Op.{Op}
 use Rattle.bt_core.specs.declared.step.Op.TheVariants as ops
 use Rattle.bt_core.specs.declared.value.Value.{Value}
-use Rattle.bt_core.specs.Kinds.{IsOfKind, IsShared, IsAggregation, HasShape}
+use Rattle.bt_core.specs.Kinds.{IsShared, IsAggregation, HasShape}
 use Rattle.bt_core.specs.KeyBytes.{value_bytes, key_bytes, part_of}
 use Rattle.bt_core.specs.Ports.{Setting, CanStep, Serves, IsSharedOp, IsTableOp}
 use Rattle.rec_format.specs.Fronts.{◌>>=◌, where_true, number_at}
@@ -28,7 +28,7 @@ use Rattle.account_format.specs.declared.kind.Kind.{Kind}
 use Rattle.account_format.specs.declared.kind.Kind.TheVariants as kinds
 use Rattle.account_format.proofs.ValueLaws.{bits-small, signed_fits, value_takes, value_again, key_takes, key_again}
 use Rattle.account_format.proofs.KindLaws.{kind_byte}
-use Rattle.account_format.proofs.SpotLaws.{some_and, and_some, held_shared, shared_held, shaped_kind, kind_shaped, Named, KeyedTook, PartTook, TablesTook, keyed_takes, keyed_again, part_takes, part_again, table_takes, table_again, table_map_takes, table_map_again}
+use Rattle.account_format.proofs.SpotLaws.{some_and, and_some, held_shared, shared_held, shaped_kind, kind_shaped, Named, keyed_takes, keyed_again, part_takes, part_again, table_takes, table_again, table_map_takes, table_map_again}
 
 part_below : (key : List Value) → part_of key < PARTS
 part_below key = omega arith
@@ -100,8 +100,11 @@ module _ (setting : Setting) (actor : ℕ) where
       moved kinds.Set bytes (Shared m (part_of key)) object (ops.Set key b.0.0) op b.0.1 rest b.2 (record {
         parts = behind_map 2 m bytes (key_bytes key ++ value_bytes b.0.0) b.0.1 (whole.parts ∙ ap (λ (l : List ℕ). l ++ b.0.1) (append_assoc (to_le_bytes w32 m.0) (key_bytes key) (value_bytes b.0.0)));
         rest_fits = whole.rest_fits;
-        own = (part_below key, serves setting.maps m k.decl (λ decl. IsShared decl.kind × IsSharedOp decl (ops.Set key b.0.0)) k.named
-            (held_shared k.decl.kind shape k.held, (k.shaped, shaped_kind k.decl.kind shape b.0.0 k.held v.1)));
+        own = (
+          part_below key,
+          serves setting.maps m k.decl (λ decl. IsShared decl.kind × IsSharedOp decl (ops.Set key b.0.0)) k.named
+              (held_shared k.decl.kind shape k.held, (k.shaped, shaped_kind k.decl.kind shape b.0.0 k.held v.1)),
+        );
         home = refl;
         object_fits = (k.named.few, omega (arith, part_below key));
         op_fits = (k.fits, v.2);

@@ -1,9 +1,9 @@
 -- An entry that is read is the one that was written, and what was written is read again; and so are entries one after the other.
-use Rattle.std.proofs.Common.{◌≡◌, ◌≢◌, ℕ, zero, suc, ◌+◌, ◌-◌, ◌<◌, ◌≤◌, ◌^◌, Bool, true, List, [], ◌∷◌, ◌++◌, length, drop, w64, w32, Option, Some, None, ◌⊎◌, inl, inr, refl, sym, ap, subst, ◌∙◌, append_assoc, arith}
+use Rattle.std.proofs.Common.{◌≡◌, ◌≢◌, ℕ, zero, suc, ◌+◌, ◌-◌, ◌<◌, ◌^◌, Bool, List, [], ◌∷◌, ◌++◌, length, drop, w64, w32, Option, Some, None, ◌⊎◌, inl, inr, refl, sym, ap, subst, ◌∙◌, append_assoc, arith}
 use Rattle.std.specs.Prelude.{nat_lt, slice_get}
 use Rattle.std.proofs.Math.Seq.{drop-nil}
 use Rattle.std.specs.Int.{to_le_bytes}
-use Rattle.std.specs.List.{flat_map, AllByRecursion}
+use Rattle.std.specs.List.{AllByRecursion}
 use Rattle.std.proofs.lemmas.Bool.{ltb-true, lt-ltb}
 use Rattle.std.proofs.lemmas.Option.{same_Some}
 use Rattle.bt_core.specs.declared.step.ObjectId.{ObjectId}
@@ -12,16 +12,15 @@ use Rattle.bt_core.specs.declared.step.Reply.{Reply}
 use Rattle.bt_core.specs.declared.step.Reply.TheVariants.{Done}
 use Rattle.bt_core.specs.declared.step.Step.{Step}
 use Rattle.bt_core.specs.Ports.{Setting}
-use Rattle.rec_format.specs.Fronts.{◌>>=◌, where_true, number_at}
+use Rattle.rec_format.specs.Fronts.{where_true, number_at}
 use Rattle.rec_format.proofs.Fields.{IsBytes, bind_some, where_true_some, Takes, wide32, wide64, number_takes, number_again}
 use Rattle.rec_format.proofs.PartLaws.{bind_to}
 use Rattle.account_format.specs.declared.kind.Kind.{Kind}
-use Rattle.blank_steps.specs.Blank.{blank, blank_op}
 use Rattle.account_format.specs.Entries.{call_bytes, entry_bytes, FitsStep, IsTold, IsEntry}
 use Rattle.account_format.specs.Accounts.{entries_bytes}
 use Rattle.account_format.specs.Reading.{kind_at, head_at, call_of_kind, unanswered, entry_at, with_first, behind_first, steps_at, behind}
 use Rattle.account_format.proofs.KindLaws.{kind_byte, kind_takes}
-use Rattle.account_format.proofs.CallLaws.{CallTook, call_takes, ReadAgain, call_again}
+use Rattle.account_format.proofs.CallLaws.{call_takes, call_again}
 
 regroup : (a b c d : List ℕ) → (a ++ (b ++ c)) ++ d ≡ a ++ (b ++ (c ++ d))
 regroup a b c d = simp append_assoc

@@ -1,8 +1,7 @@
 -- Bytes have one reading by parts, where parts that are due in one state are told apart by their spellings.
-use Rattle.std.proofs.Common.{◌≡◌, ◌≢◌, ℕ, ◌+◌, ◌<◌, List, [], ◌∷◌, ◌++◌, length, length-append, sym, refl, ap, ◌∙◌, subst, arith}
+use Rattle.std.proofs.Common.{◌≡◌, ◌≢◌, ℕ, ◌+◌, List, [], ◌∷◌, ◌++◌, length, length-append, sym, refl, ap, ◌∙◌, subst}
 use Rattle.std.proofs.lemmas.List.{append-nil, append_assoc, append_cancel_left}
-use Rattle.std.specs.List.{flat_map}
-use Rattle.account_format.specs.Forms.{Form, AreDue, state_after, spelled, Stands, IsOfForm, IsWrongAt}
+use Rattle.account_format.specs.Forms.{Form, state_after, spelled, Stands, IsOfForm, IsWrongAt}
 
 module _ {S P : Type 0} (form : Form S P) where
   -- parts that are due in one state and begin the same bytes are one, and leave the same
@@ -36,10 +35,10 @@ module _ {S P : Type 0} (form : Form S P) where
         absurd (g.none p (spelled form ps ++ xs) h.due.0 (sym g.bytes_are ∙ h.bytes_are ∙ append_assoc (form.spelling p) (spelled form ps) xs))
     one_reading s bytes (p ∷ ps) (q ∷ qs) xs ys h g =
         let both = apart s p q (spelled form ps ++ xs) (spelled form qs ++ ys) h.due.0 g.due.0
-            (sym (append_assoc (form.spelling p) (spelled form ps) xs) ∙ sym h.bytes_are ∙ g.bytes_are ∙ append_assoc (form.spelling q) (spelled form qs) ys) in
+        (sym (append_assoc (form.spelling p) (spelled form ps) xs) ∙ sym h.bytes_are ∙ g.bytes_are ∙ append_assoc (form.spelling q) (spelled form qs) ys) in
         let g_here : Stands form (form.after s p) (spelled form ps ++ xs) qs ys =
-            subst (λ z. Stands form (form.after s z) (spelled form ps ++ xs) qs ys) (sym both.0)
-            (record { due = g.due.1; bytes_are = both.1; none = g.none }) in
+        subst (λ z. Stands form (form.after s z) (spelled form ps ++ xs) qs ys) (sym both.0)
+        (record { due = g.due.1; bytes_are = both.1; none = g.none }) in
         let rest = one_reading (form.after s p) (spelled form ps ++ xs) ps qs xs ys (record { due = h.due.1; bytes_are = refl; none = h.none }) g_here in
         λ i. both.0 i ∷ rest i
 

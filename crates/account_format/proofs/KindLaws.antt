@@ -1,9 +1,8 @@
 -- The byte of a kind tells the kind.
-use Rattle.std.proofs.Common.{◌≡◌, ℕ, suc, Bool, true, false, cond, List, [], ◌∷◌, Option, Some, None, ◌⊎◌, inl, inr, refl, sym, ap, ◌∙◌, subst}
+use Rattle.std.proofs.Common.{◌≡◌, ℕ, suc, Bool, true, false, cond, List, [], ◌∷◌, Option, Some, ◌⊎◌, inl, inr, refl, sym, ap, ◌∙◌, subst}
 use Rattle.std.specs.Prelude.{nat_eq}
 use Rattle.std.proofs.lemmas.Bool.{eqb-true}
 use Rattle.std.proofs.lemmas.Option.{same_Some}
-use Rattle.rec_format.specs.Fronts.{◌>>=◌}
 use Rattle.rec_format.proofs.Fields.{IsBytes, bind_some}
 use Rattle.account_format.specs.declared.kind.Kind.{Kind}
 use Rattle.account_format.specs.declared.kind.Kind.TheVariants as kinds

@@ -1,5 +1,5 @@
 -- The parts of an account as they are read, and each place where reading stops.
-use Rattle.std.proofs.Common.{◌≡◌, ◌≢◌, ℕ, ◌-◌, ◌<◌, ◌≤◌, ◌^◌, List, [], ◌∷◌, ◌++◌, length, w64, Option, Some, None, inl, inr, refl, sym, ap, subst, ◌∙◌, append-nil, length-append, arith}
+use Rattle.std.proofs.Common.{◌≡◌, ◌≢◌, ℕ, ◌-◌, ◌<◌, ◌≤◌, ◌^◌, List, [], ◌++◌, length, w64, Some, None, sym, ap, subst, ◌∙◌, append-nil, length-append, arith}
 use Rattle.std.specs.Prelude.{codes}
 use Rattle.std.specs.Int.{to_le_bytes}
 use Rattle.std.specs.List.{AllByRecursion}
@@ -15,7 +15,7 @@ use Rattle.account_format.specs.Accounts.{entries_bytes, IsAccount}
 use Rattle.account_format.specs.Reading.{magic_at, steps_at, behind}
 use Rattle.account_format.specs.Wrong.{AtCount, AtEntries, AtText, IsWrongAccount}
 use Rattle.account_format.proofs.AccountLaws.{magic_takes, IsLater, behind_magic, bad_count, behind_count, bad_entry, behind_entries, bad_size, behind_size, bad_text, left_over}
-use Rattle.account_format.proofs.EntryLaws.{Walked, walked}
+use Rattle.account_format.proofs.EntryLaws.{walked}
 
 module _ (setting : Setting) (bytes : List ℕ) where
   -- the bytes end with the rest, and are wrong where it begins

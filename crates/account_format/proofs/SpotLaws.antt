@@ -1,11 +1,9 @@
 -- The maps, keys, parts and tables that are read are those that were written, and what was written is read again.
-use Rattle.std.proofs.Common.{◌≡◌, ℕ, ◌+◌, ◌*◌, ◌%◌, ◌<◌, ◌≤◌, ◌^◌, Bool, true, false, ltb, List, [], ◌∷◌, ◌++◌, w64, w32, ℤ, FitsSigned, Option, Some, None, refl, sym, ap, subst, ◌∙◌, append_assoc, arith}
-use Rattle.std.specs.Prelude.{nat_lt, slice_get, IsSomeAnd, sum}
-use Rattle.std.specs.Int.{to_le_bytes, cast_signed, cast_unsigned}
+use Rattle.std.proofs.Common.{◌≡◌, ℕ, ◌<◌, ◌^◌, Bool, true, List, ◌++◌, w32, Option, Some, None, refl, sym, ap, subst, arith}
+use Rattle.std.specs.Prelude.{nat_lt, slice_get, IsSomeAnd}
+use Rattle.std.specs.Int.{to_le_bytes}
 use Rattle.std.proofs.lemmas.Bool.{ltb-true, lt-ltb}
-use Rattle.std.proofs.lemmas.Int.{to_z-of_z, of_z-to_z}
 use Rattle.std.proofs.lemmas.Option.{same_Some}
-use Rattle.bt_core.specs.declared.item.Item.TheVariants.{Cut}
 use Rattle.bt_core.specs.declared.limits.TheConstants.{PARTS}
 use Rattle.bt_core.specs.declared.map.MapDecl.{MapDecl}
 use Rattle.bt_core.specs.declared.map.MapId.{MapId}
@@ -13,25 +11,16 @@ use Rattle.bt_core.specs.declared.map.MapKind.{MapKind}
 use Rattle.bt_core.specs.declared.map.MapKind.TheVariants.{Ints, Strs, Aggs}
 use Rattle.bt_core.specs.declared.map.Shape.{Shape}
 use Rattle.bt_core.specs.declared.map.Shape.TheVariants as shapes
-use Rattle.bt_core.specs.declared.step.ObjectId.{ObjectId}
-use Rattle.bt_core.specs.declared.step.ObjectId.TheVariants.{Shared, Cpu, Clock, Out}
-use Rattle.bt_core.specs.declared.step.Op.{Op}
-use Rattle.bt_core.specs.declared.step.Op.TheVariants as ops
 use Rattle.bt_core.specs.declared.value.Value.{Value}
 use Rattle.bt_core.specs.declared.value.Value.TheVariants.{Int, Str}
 use Rattle.bt_core.specs.Kinds.{IsOfShape, IsOfKind, IsShared, IsAggregation, HasShape}
-use Rattle.bt_core.specs.KeyBytes.{FitsValue, value_bytes, key_bytes, part_of}
-use Rattle.bt_core.specs.Ports.{Setting, CanStep, IsSharedOp}
-use Rattle.rec_format.specs.Fronts.{◌>>=◌, where_true, number_at}
-use Rattle.rec_format.proofs.Fields.{IsBytes, bind_some, where_true_some, Takes, Takes-then, wide32, wide64, number_takes, number_again}
+use Rattle.bt_core.specs.KeyBytes.{key_bytes}
+use Rattle.rec_format.specs.Fronts.{where_true, number_at}
+use Rattle.rec_format.proofs.Fields.{IsBytes, bind_some, where_true_some, Takes, Takes-then, wide32, number_takes, number_again}
 use Rattle.rec_format.proofs.PartLaws.{bind_to}
-use Rattle.blank_steps.specs.Blank.{blank_op}
-use Rattle.account_format.specs.Entries.{of_map, call_bytes, IsAtHome, FitsKey, FitsOp, FitsObject}
-use Rattle.account_format.specs.Reading.{held_shape, is_aggregation, map_at, shared_map_at, table_map_at, keyed_at, key_at, value_at, part_at, table_at, get_at, set_at, delete_at, sweep_at, add_at, read_at, clear_of_at, zero_of_at, cross_at, kind_at, call_of_kind}
-use Rattle.account_format.specs.declared.kind.Kind.{Kind}
-use Rattle.account_format.specs.declared.kind.Kind.TheVariants as kinds
-use Rattle.account_format.proofs.ValueLaws.{bits-small, value_takes, value_again, key_takes, key_again}
-use Rattle.account_format.proofs.KindLaws.{kind_byte}
+use Rattle.account_format.specs.Entries.{FitsKey}
+use Rattle.account_format.specs.Reading.{held_shape, is_aggregation, map_at, shared_map_at, table_map_at, keyed_at, key_at, part_at, table_at}
+use Rattle.account_format.proofs.ValueLaws.{key_takes, key_again}
 
 -- ---- maps
 

@@ -1,5 +1,5 @@
 -- A value or a key that is read is the one that was written, and what was written is read again.
-use Rattle.std.proofs.Common.{◌≡◌, ◌≢◌, ℕ, zero, suc, ◌+◌, ◌-◌, ◌^◌, ◌<◌, ◌≤◌, Bool, true, false, cond, leb, List, [], ◌∷◌, ◌++◌, length, take, drop, min, replicate, ℤ, pos, negsuc, FitsSigned, w64, Option, Some, None, refl, sym, ap, subst, ◌∙◌, append_assoc, append-nil, length-append, arith}
+use Rattle.std.proofs.Common.{◌≡◌, ◌≢◌, ℕ, zero, suc, ◌-◌, ◌^◌, ◌<◌, ◌≤◌, Bool, true, false, cond, List, [], ◌∷◌, ◌++◌, length, take, drop, min, replicate, ℤ, pos, negsuc, FitsSigned, w64, Option, Some, None, refl, sym, ap, subst, ◌∙◌, append_assoc, length-append, arith}
 use Rattle.std.specs.List.{AllByRecursion, take_while}
 use Rattle.std.specs.Int.{to_le_bytes, cast_signed, cast_unsigned}
 use Rattle.std.specs.Cmp.Lexicographic.{pointwise, nat_list_eq_equiv, same_text}
@@ -19,7 +19,7 @@ use Rattle.bt_core.specs.Kinds.{IsOfShape, HasShape}
 use Rattle.bt_core.specs.KeyBytes.{FitsValue, value_bytes, key_bytes}
 use Rattle.bt_core.specs.Text.{IsShortText, is_text_byte, short_text}
 use Rattle.bt_core.proofs.TextLemmas.{kept_front, kept_IsShortText}
-use Rattle.rec_format.specs.Fronts.{◌>>=◌, where_true, bytes_at, number_at}
+use Rattle.rec_format.specs.Fronts.{where_true, bytes_at, number_at}
 use Rattle.rec_format.proofs.Fields.{IsBytes, bind_some, where_true_some, Takes, Takes-then, bytes_takes, bytes_again, wide64, number_takes, number_again}
 use Rattle.rec_format.proofs.PartLaws.{bind_to}
 use Rattle.account_format.specs.Entries.{FitsKey}

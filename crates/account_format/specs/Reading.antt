@@ -114,7 +114,8 @@ add_at maps actor bytes =
 
 -- a map that gathers numbers, and the table of one of so many actors
 unfoldable pub table_at : List MapDecl → ℕ → List ℕ → Option ((MapId × ℕ) × List ℕ)
-table_at maps actors bytes = table_map_at maps bytes >>= λ map. number_at w32 map.1 >>= λ table. where_true (nat_lt table.0 actors) ((map.0.0, table.0), table.1)
+table_at maps actors bytes =
+    table_map_at maps bytes >>= λ map. number_at w32 map.1 >>= λ table. where_true (nat_lt table.0 actors) ((map.0.0, table.0), table.1)
 
 unfoldable pub read_at : List MapDecl → ℕ → List ℕ → Asked
 read_at maps actors bytes = table_at maps actors bytes >>= λ found. Some ((Cpu found.0.1, ops.Read found.0.0), found.1)

@@ -52,10 +52,7 @@ fn set_at<'b>(alloc: Global, maps: &[MapDecl], bytes: &'b [u8]) -> Result<Asked<
         return Ok(None);
     };
     let part = part_of(&key);
-    Ok(Some((
-        (ObjectId::Shared { map, part }, Op::Set(key, value)),
-        rest,
-    )))
+    Ok(Some(((ObjectId::Shared { map, part }, Op::Set(key, value)), rest)))
 }
 
 /// An operation on a part of a shared map.
@@ -86,7 +83,10 @@ fn add_at<'b>(
         return Ok(None);
     };
     Ok(Some((
-        (ObjectId::Cpu(actor), Op::Add(map, key, number.cast_signed())),
+        (
+            ObjectId::Cpu(actor),
+            Op::Add(map, key, number.cast_signed()),
+        ),
         rest,
     )))
 }
@@ -151,9 +151,6 @@ pub(crate) fn call_at<'b>(
         Kind::Cross => Ok(cross_at(scope.ticks, bytes)),
         Kind::Check => Ok(Some(((ObjectId::Clock, Op::Check), bytes))),
         Kind::Stop => Ok(Some(((ObjectId::Clock, Op::Stop), bytes))),
-        Kind::Emit => Ok(Some((
-            (ObjectId::Out, Op::Emit(Item::Cut { line: 0 })),
-            bytes,
-        ))),
+        Kind::Emit => Ok(Some(((ObjectId::Out, Op::Emit(Item::Cut { line: 0 })), bytes))),
     }
 }

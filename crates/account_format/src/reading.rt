@@ -54,11 +54,7 @@ pub fn read_account<'a>(
 }
 
 /// The account that the bytes spell, or where they are wrong.
-fn read<'a>(
-    alloc: Global,
-    scope: &Scope<'a>,
-    bytes: &'a [u8],
-) -> Result<Account<'a>, AccountFault>
+fn read<'a>(alloc: Global, scope: &Scope<'a>, bytes: &'a [u8]) -> Result<Account<'a>, AccountFault>
     ensures read { IfOk result (λ account. IsAccount (setting_in scope.now) bytes.now account.entries account.text.now) }
     ensures fault { IfErr result (IsFault (setting_in scope.now) bytes.now) }
 {

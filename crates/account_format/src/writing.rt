@@ -6,7 +6,9 @@ ghost use Rattle.account_format.specs.Entries.{call_bytes, entry_bytes, FitsStep
 ghost use Rattle.account_format.specs.Accounts.{entries_bytes, account_bytes};
 
 use crate::held::step_is_held;
-use crate::pushing::{push_byte, push_i64, push_keyed, push_numbered, push_u32, push_u64, push_value};
+use crate::pushing::{
+    push_byte, push_i64, push_keyed, push_numbered, push_u32, push_u64, push_value,
+};
 use crate::reading::MAGIC;
 use bt_core::map::MapId;
 use bt_core::memory::Memory;

@@ -8,7 +8,7 @@ use Rattle.rec_format.proofs.WholeLaws.{nothing_left, something_left}
 use Rattle.account_format.specs.Reading.{steps_at}
 use Rattle.account_format.specs.Scopes.{setting_in}
 use Rattle.account_format.proofs.AccountLaws.{bad_magic}
-use Rattle.account_format.proofs.ReadLaws.{is_counted, stops_at_count, Listed, as_listed, stops_at_entry, Sized, as_sized, stops_at_size, Ended, as_ended, stops_at_text, stops_behind, is_read, IsBadFrom, told_from}
+use Rattle.account_format.proofs.ReadLaws.{is_counted, stops_at_count, Listed, as_listed, stops_at_entry, Sized, as_sized, stops_at_size, Ended, as_ended, stops_at_text, stops_behind, is_read, told_from}
 use Rattle.account_format.proofs.reading.read.Goals as goal
 
 -- fewer entries than there were to be

@@ -1,4 +1,4 @@
-use Rattle.std.proofs.Common.{◌≡◌, ◌≢◌, ℕ, List, Option, Some, None, Bor, inl, inr, arith}
+use Rattle.std.proofs.Common.{◌≡◌, ℕ, List, Some, None, Bor, inl, inr}
 use Rattle.bt_core.specs.declared.step.Step.{Step}
 use Rattle.bt_core.specs.Ports.{Setting}
 use Rattle.account_format.specs.Reading.{entry_at}
