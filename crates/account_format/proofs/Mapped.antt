@@ -1,6 +1,11 @@
--- What a mapped answer tells of the answer.
-use Rattle.std.proofs.Common.{◌≡◌, Option, Some, None, sym, ap, ◌∙◌}
+-- What is seen of what was read.
+use Rattle.std.proofs.Common.{◌≡◌, ℕ, List, Option, Some, None, Bor, sym, ap, ◌∙◌}
 use Rattle.std.specs.Option.{option_map}
+use Rattle.bt_core.specs.declared.step.Step.{Step}
+
+-- an entry, and the bytes after it
+abbrev pub seen : Step × Bor (List ℕ) → Step × List ℕ
+seen entry = (entry.0, entry.1.now)
 
 pub mapped_none : {T U : Type 0} (f : T → U) (r : Option T) (x : Option U) → option_map f r ≡ x → r ≡ None → x ≡ None
 mapped_none f r x e none = sym e ∙ ap (option_map f) none

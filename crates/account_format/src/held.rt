@@ -1,4 +1,4 @@
-// What the types of a step say of it.
+// What the types of a step say of it. These functions are for proofs: they only read the step.
 ghost use Rattle.std.specs.Prelude.{◌<◌, ◌^◌, FitsSigned};
 ghost use Rattle.std.specs.Int.{w64};
 ghost use Rattle.std.specs.List.{AllByRecursion};

@@ -55,7 +55,8 @@ c\0\0\0\0\0\0\0\0\0\0\0\0\0\0\0\0\0\0\0\0\0\0\0\0\0\0\0\0\0\0\0\0\0\0\0\0\0\0\0\
         4 => b"\0\0\0\0\x05\0\0\0\0\0\0\0\x04\x01\0\0\0\x05\0\0\0",
         5 => b"\0\0\0\0\x06\0\0\0\0\0\0\0\x05\x02\0\0\0\0\0\0\0",
         6 => b"\0\0\0\0\x07\0\0\0\0\0\0\0\x06\x01\0\0\0\x07\0\0\0",
-        7 => b"\x01\0\0\0\xff\xff\xff\xff\xff\xff\xff\xff\x07\0\0\0\0\xff\xff\xff\xff\xff\xff\xff\xff",
+        7 =>
+            b"\x01\0\0\0\xff\xff\xff\xff\xff\xff\xff\xff\x07\0\0\0\0\xff\xff\xff\xff\xff\xff\xff\xff",
         8 => b"\0\0\0\0\x09\0\0\0\0\0\0\0\x08\0\0\0\0\x01\0\0\0",
         9 => b"\x01\0\0\0\x0a\0\0\0\0\0\0\0\x09\0\0\0\0\0\0\0\0",
         10 => b"\0\0\0\0\x0b\0\0\0\0\0\0\0\x0a\0\0\0\0\x01\0\0\0",
@@ -272,7 +273,11 @@ fn wrong_bytes_are_told_where_they_begin(rt: HostRuntime) -> Result<(), Fail> {
     };
     for (place, (bytes, offset)) in WRONG.iter().enumerate() {
         let fault = read_account(alloc, &scope, bytes).err();
-        assert_eq!(rt; fault, Some(AccountFault::BadAccount(*offset)), "at {place}");
+        assert_eq!(rt;
+            fault,
+            Some(AccountFault::BadAccount(*offset)),
+            "at {place}"
+        );
     }
     Ok(())
 }

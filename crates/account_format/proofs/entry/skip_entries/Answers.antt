@@ -1,15 +1,10 @@
-use Rattle.std.proofs.Common.{◌≡◌, ℕ, List, Some, None, Bor, refl, arith}
-use Rattle.bt_core.specs.declared.step.Step.{Step}
+use Rattle.std.proofs.Common.{◌≡◌, Some, None, refl, arith}
 use Rattle.bt_core.specs.Ports.{Setting}
 use Rattle.account_format.specs.Reading.{entry_at}
 use Rattle.account_format.specs.Scopes.{setting_in}
 use Rattle.account_format.proofs.EntryLaws.{passed_first, passed_more, passed_stop, passed_all}
-use Rattle.account_format.proofs.Mapped.{mapped_none, mapped_some}
+use Rattle.account_format.proofs.Mapped.{seen, mapped_none, mapped_some}
 use Rattle.account_format.proofs.entry.skip_entries.Goals as goal
-
--- an entry and the bytes after it, as they were read
-abbrev seen : Step × Bor (List ℕ) → Step × List ℕ
-seen entry = (entry.0, entry.1.now)
 
 pub loop-place-init : goal.loop-place-init
 loop-place-init c = passed_first (setting_in c.args.scope.now) c.args.count c.args.bytes.now

@@ -1,15 +1,10 @@
-use Rattle.std.proofs.Common.{◌≡◌, ℕ, List, Some, None, Bor, inl, inr}
-use Rattle.bt_core.specs.declared.step.Step.{Step}
+use Rattle.std.proofs.Common.{◌≡◌, Some, None, inl, inr}
 use Rattle.bt_core.specs.Ports.{Setting}
 use Rattle.account_format.specs.Reading.{entry_at}
 use Rattle.account_format.specs.Scopes.{setting_in}
 use Rattle.account_format.proofs.EntryLaws.{none_next, one_next}
-use Rattle.account_format.proofs.Mapped.{mapped_none, mapped_some}
+use Rattle.account_format.proofs.Mapped.{seen, mapped_none, mapped_some}
 use Rattle.account_format.proofs.entries.Entries.next.Goals as goal
-
--- an entry and the bytes after it, as they were read
-abbrev seen : Step × Bor (List ℕ) → Step × List ℕ
-seen entry = (entry.0, entry.1.now)
 
 pub returns-then-self-eq0-clause-step : goal.returns-then-self-eq0-clause-step
 returns-then-self-eq0-clause-step c = (none_next (setting_in c.self.inside.scope) c.self.inside.left c.self.inside.bytes.now c.args.self.now c.self.view_is (inl c.if-self-eq0.true)).0
