@@ -1,0 +1,13 @@
+pub mod FormLaws
+pub mod ValueLaws
+pub mod KindLaws
+pub mod SpotLaws
+pub mod CallLaws
+pub mod EntryLaws
+pub mod AccountLaws
+pub mod BlankLaws
+pub mod Mapped
+pub mod KeyLoop
+pub mod Answered
+pub mod PushLaws
+pub mod ReadLaws

@@ -1,0 +1,7 @@
+pub mod Entries
+pub mod Accounts
+pub mod Forms
+pub mod Wrong
+pub mod Reading
+pub mod Scopes
+pub mod Answers

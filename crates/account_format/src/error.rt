@@ -1,0 +1,25 @@
+// What is wrong with the bytes of an account.
+use bt_core::memory::Memory as NoMemory;
+use thiserror::Error;
+
+/// Why bytes are not read as an account.
+#[derive(Clone, Copy, PartialEq, Eq, Debug, Error)]
+pub enum AccountFault {
+    /// Bytes from this offset on, counted from 0, have not the form of an account.
+    #[error("N1 bad account at byte {0}")]
+    BadAccount(u64),
+    /// Memory ran out.
+    #[error("out of memory")]
+    Memory,
+}
+
+impl From<NoMemory> for AccountFault {
+    ghost use Rattle.std.specs.Prelude.{◌≡◌};
+    ghost use Rattle.account_format.specs.declared.error.AccountFault.TheVariants.{Memory};
+
+    ghost from_gives = { λ _ e. e ≡ Memory };
+
+    fn from(_error: NoMemory) -> AccountFault {
+        AccountFault::Memory
+    }
+}

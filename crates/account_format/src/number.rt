@@ -1,0 +1,38 @@
+// Numbers and pieces at the front of the bytes.
+ghost use Rattle.std.specs.Prelude.{◌≡◌};
+ghost use Rattle.std.specs.Int.{w32, w64};
+ghost use Rattle.std.specs.Option.{option_map};
+ghost use Rattle.rec_format.specs.Fronts.{bytes_at, number_at};
+
+use byteorder::{ByteOrder, LittleEndian};
+
+/// So many bytes and those after them.
+pub(crate) fn bytes_at(bytes: &[u8], count: usize) -> Option<(&[u8], &[u8])>
+    ensures { option_map (λ piece. (piece.0.now, piece.1.now)) result ≡ bytes_at count bytes.now }
+{
+    if count <= bytes.len() {
+        Some(bytes.split_at(count))
+    } else {
+        None
+    }
+}
+
+/// A number of 32 bits and the bytes after it.
+pub(crate) fn u32_at(bytes: &[u8]) -> Option<(u32, &[u8])>
+    ensures { option_map (λ field. (field.0, field.1.now)) result ≡ number_at w32 bytes.now }
+{
+    if bytes.len() < 4 {
+        return None;
+    }
+    Some((LittleEndian::read_u32(bytes), &bytes[4..]))
+}
+
+/// A number of 64 bits and the bytes after it.
+pub(crate) fn u64_at(bytes: &[u8]) -> Option<(u64, &[u8])>
+    ensures { option_map (λ field. (field.0, field.1.now)) result ≡ number_at w64 bytes.now }
+{
+    if bytes.len() < 8 {
+        return None;
+    }
+    Some((LittleEndian::read_u64(bytes), &bytes[8..]))
+}
