@@ -1,5 +1,5 @@
 -- What the output was offered, from how an outcome was written.
-use Rattle.std.proofs.Common.{◌≡◌, ℕ, List, [], length, refl, sym, subst, append-nil, inl, inr}
+use Rattle.std.proofs.Common.{ℕ, List, [], length, refl, sym, subst, append-nil, inl, inr}
 use Rattle.std.specs.Prelude.{Option, Some, None}
 use Rattle.std.specs.Io.KnownBytes.{Keeps}
 use Rattle.bt_io.specs.Offers.{OffersAllLeft}

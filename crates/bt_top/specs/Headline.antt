@@ -1,5 +1,5 @@
 -- What the product promises: the printed bytes are those of the interleaving handed back.
-use Rattle.std.specs.Prelude.{◌≡◌, ℕ, Bool, true, false, List, ◌++◌, length, map, Option, Some, None, IsSomeAnd}
+use Rattle.std.specs.Prelude.{◌≡◌, ℕ, Bool, true, List, ◌++◌, length, map, Option, Some, None, IsSomeAnd}
 use Rattle.std.specs.Io.KnownBytes.{Appends}
 use Rattle.bpf_codegen.specs.declared.generate.Program.{Program}
 use Rattle.bpf_insn.specs.declared.insn.Insn.{Insn}

@@ -173,11 +173,7 @@ impl Shelf for Refusing {
 fn a_long_recording_and_want_of_memory_are_told(rt: HostRuntime) -> Result<(), Fail> {
     let alloc = rt.alloc();
     let rows = [
-        (
-            true,
-            3,
-            b"r.bin: recording too long\n".as_slice(),
-        ),
+        (true, 3, b"r.bin: recording too long\n".as_slice()),
         (false, 6, b"out of memory\n".as_slice()),
     ];
     for (is_long, status, line) in rows {

@@ -1,5 +1,5 @@
 use Rattle.bt_top.specs.declared.refusal.Operand.TheVariants.{Script, Recording}
-use Rattle.std.proofs.Common.{refl, ◌∙◌, ap}
+use Rattle.std.proofs.Common.{refl, ◌∙◌}
 use Rattle.bt_top.specs.Orders.{on_script}
 use Rattle.bt_top.proofs.FailedNames.{judged_failed, none_failed_ok, unread_failed}
 use Rattle.bt_top.proofs.Reading.{both_read, noted_ok, read_error, recording_unread, rose_from, script_unread}

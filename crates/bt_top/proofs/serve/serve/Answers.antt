@@ -53,4 +53,4 @@ returns-in-Err-Memory-clause-offered g c =
 
 pub returns-in-Err-Usage-clause-offered : goal.returns-in-Err-Usage-clause-offered
 returns-in-Err-Usage-clause-offered g c =
-    rw c.refused-in-Err-Usage.ensures (usage_offered _ (kept (g.K.Sink.taken c.args.out.now)) (g.K.Sink.offers c.args.out.now))
+    rw c.refused.ensures (usage_offered _ (kept (g.K.Sink.taken c.args.out.now)) (g.K.Sink.offers c.args.out.now))
