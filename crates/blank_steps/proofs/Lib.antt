@@ -1,0 +1,2 @@
+pub mod BlankLists
+pub mod OthersItems
