@@ -1,2 +1,3 @@
 pub mod BlankLists
+pub mod Computations
 pub mod OthersItems
