@@ -12,6 +12,7 @@ use Rattle.bt_meaning.specs.Interleavings.{IsWhole}
 use Rattle.bt_meaning.specs.Replays.{Replay, cpus_of, begin_of, answers_of}
 use Rattle.blank_steps.specs.Blank.{blank}
 use Rattle.begun_lists.specs.Begun.{MayFollow, IsBegun, HasDone, program_of, clock_after, AreAllWhole}
+use Rattle.begun_lists.specs.Parts.{HasParts}
 use Rattle.begun_lists.specs.Wrong.{NoneFollows, IsWrongStep, IsUnfinished}
 use Rattle.blank_steps.proofs.Computations.{Begins-front}
 use Rattle.begun_lists.proofs.Cuts.{last_apart, take_again}
@@ -40,18 +41,7 @@ module _ (p : Replay) where
   pub by_actor : (us : List Step) (n : Step) → (n.actor ≤ cpus_of p → ⊥) → NoneFollows p us n
   by_actor us n ne v e may = ne (subst (λ a. a ≤ cpus_of p) (ap (λ (s : Step). s.actor) e) may.actor)
 
-  -- what the passes over a list find of it
-  pub record HasParts (steps : List Step) : Type 0 where
-    pub actors : AtEach (λ before s. s.actor ≤ cpus_of p) steps
-    pub begins : (actor : ℕ) → actor ≤ cpus_of p → Begins (program_of p actor) (of_actor actor steps)
-    pub replies : RepliesFollow (answers_of p) steps
-    pub after_begin : AtEach (λ before s. s.actor ≢ cpus_of p → IsWhole (begin_of p) (of_actor (cpus_of p) before)) steps
-    pub before_end : AtEach (λ before s. s.actor ≡ cpus_of p → HasDone (begin_of p) (of_actor (cpus_of p) before)
-        → (cpu : ℕ) → cpu < cpus_of p → IsWhole (program_of p cpu) (of_actor cpu before)) steps
-    pub stamps : AtEach (λ before s. s.stamp ≡ suc (max (clock_after (cpus_of p) before s.actor) (greatest (on_object s.object before)))) steps
-    pub order : AtEach (λ before s. (earlier : List Step) (t : Step) → before ≡ earlier ++ t ∷ [] → comes_before s t ≡ false) steps
-
-  pub parts_begun : (steps : List Step) → HasParts steps → IsBegun p steps
+  pub parts_begun : (steps : List Step) → HasParts p steps → IsBegun p steps
   parts_begun steps h before s after e = record {
     actor = h.actors before s after e;
     asked = subst (Begins (program_of p s.actor)) (ap (λ l. l ++ s ∷ []) refl) (Begins-front (program_of p s.actor) (of_actor s.actor before ++ s ∷ []) (of_actor s.actor after)

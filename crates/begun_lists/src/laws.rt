@@ -6,6 +6,7 @@ ghost use Rattle.bt_meaning.specs.Interleavings.{IsReplayed};
 ghost use Rattle.bt_meaning.specs.Replays.{PlansAreOwn, Replay};
 ghost use Rattle.blank_steps.specs.Blank.{blank};
 ghost use Rattle.begun_lists.specs.Begun.{AreAllWhole, clock_after, IsBegun};
+ghost use Rattle.begun_lists.specs.Parts.{HasParts};
 ghost use Rattle.begun_lists.specs.Wrong.{IsUnfinished, IsWrongStep, NoneFollows};
 
 /// The lists that can be made and in which each actor's program is whole are those that a run hands back.
@@ -13,6 +14,12 @@ pub fn whole_lists_are_replayed()
     ensures whole { (p : Replay) (steps : List Step) → PlansAreOwn p → IsBegun p steps → AreAllWhole p steps → IsReplayed p steps }
     ensures begun { (p : Replay) (steps : List Step) → PlansAreOwn p → IsReplayed p steps → IsBegun p steps }
     ensures all_whole { (p : Replay) (steps : List Step) → PlansAreOwn p → IsReplayed p steps → AreAllWhole p steps }
+{}
+
+/// A list can be made where each actor's steps begin its program, its replies, stamps and order are right, and BEGIN and END stand
+/// where they may.
+pub fn lists_with_parts_are_begun()
+    ensures { (p : Replay) (steps : List Step) → HasParts p steps → IsBegun p steps }
 {}
 
 /// Entries tell at most one list that can be made.

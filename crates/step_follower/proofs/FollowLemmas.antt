@@ -115,8 +115,8 @@ module _ (setting : Setting) (l : List Step) (at from : ℕ) (object : ObjectId)
   abbrev met : List Step
   met = slice_set l at (with_op op (get_or l at d))
 
-  pub met_home : map (blank_of setting.actor) met ≡ map (blank_of setting.actor) l
-  met_home = map-set_same (blank_of setting.actor) l at (with_op op (get_or l at d)) d
+  pub met_blanks : map (blank_of setting.actor) met ≡ map (blank_of setting.actor) l
+  met_blanks = map-set_same (blank_of setting.actor) l at (with_op op (get_or l at d)) d
       (blank_with setting.actor op (get_or l at d) (sym (ap (λ (c : Call). c.op) next)) own)
 
   pub met_steps : of_actor setting.actor (take (suc at) met) ≡ of_actor setting.actor (take at l) ++ with_op op (get_or l at d) ∷ []

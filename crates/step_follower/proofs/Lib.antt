@@ -1,4 +1,4 @@
-mod FollowLemmas
+pub mod FollowLemmas
 pub mod FollowedLaws
 pub mod Joining
 pub mod Others

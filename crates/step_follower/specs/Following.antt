@@ -17,10 +17,11 @@ use Rattle.step_follower.specs.declared.follow.Walk.{Walk}
 use Rattle.step_follower.specs.Followed.{AreStrays}
 use Rattle.blank_steps.specs.Blank.{blank_of}
 
--- what is seen of following: how far the list was followed, and the steps that were made off it
+-- what is seen of following: from where and how far the list was followed, and the steps that were made off it
 pub record Seen : Type 0 where
   pub setting : Setting
   pub list : List Step
+  pub from : ℕ
   pub at : ℕ
   pub strays : List Step
 
@@ -28,11 +29,16 @@ pub record Seen : Type 0 where
 abbrev pub steps_in : Seen → List Step
 steps_in w = of_actor w.setting.actor (take w.at w.list) ++ w.strays
 
+-- what of the list is before all that was followed
+abbrev pub front_in : Seen → List Step
+front_in w = take w.from w.list
+
 -- the list but for the actor's items
-abbrev pub home_in : Seen → List Step
-home_in w = map (blank_of w.setting.actor) w.list
+abbrev pub blanks_in : Seen → List Step
+blanks_in w = map (blank_of w.setting.actor) w.list
 
 pub record IsFollowing (w : Seen) : Type 0 where
+  pub behind : w.from ≤ w.at
   pub within : w.at ≤ length w.list
   pub replies : AllByRecursion (λ (s : Step). s.actor ≡ w.setting.actor → IsReplyOf w.setting.maps s.object s.op s.reply) w.list
   pub last_own : (n : ℕ) (d : Step) → w.at ≡ suc n → (slice_index_or w.list n d).actor ≡ w.setting.actor
@@ -42,7 +48,7 @@ abbrev pub setting_of : Walk → Setting
 setting_of w = record { actor = w.actor; actors = w.actors; ticks = w.ticks; maps = w.maps }
 
 abbrev pub seen_of : Walk → Seen
-seen_of w = record { setting = setting_of w; list = w.list; at = w.at; strays = w.strays }
+seen_of w = record { setting = setting_of w; list = w.list; from = w.from; at = w.at; strays = w.strays }
 
 abbrev pub with_op : Op → Step → Step
 with_op op s = record { actor = s.actor; object = s.object; stamp = s.stamp; op = op; reply = s.reply }

@@ -6,7 +6,7 @@ ghost use Rattle.bt_core.specs.Interaction.{MakesStep, last_reply, call_of};
 ghost use Rattle.bt_core.specs.Ports.{CanStep, IsReplyOf};
 ghost use Rattle.bt_core.specs.Steps.{of_actor};
 ghost use Rattle.blank_steps.specs.Blank.{blank_op, blank_call};
-ghost use Rattle.step_follower.specs.Following.{IsFollowing, home_in, steps_in, seen_of, setting_of, value_where_empty, with_op};
+ghost use Rattle.step_follower.specs.Following.{blanks_in, front_in, IsFollowing, steps_in, seen_of, setting_of, value_where_empty, with_op};
 
 use blank_steps::blank::is_same_but_item;
 use bt_core::items::Items;
@@ -19,7 +19,7 @@ use bt_core::value::Value;
 use std::alloc::Global;
 use std::marker::Model;
 
-/// How far a list was followed for an actor, and the steps that were made off it.
+/// From where and how far a list was followed for an actor, and the steps that were made off it.
 #[derive(Drop)]
 pub struct Walk {
     pub actor: u32,
@@ -27,6 +27,7 @@ pub struct Walk {
     pub ticks: u32,
     pub maps: Items<MapDecl>,
     pub list: Items<Step>,
+    pub from: usize,
     pub at: usize,
     pub strays: Items<Step>,
 }
@@ -91,7 +92,8 @@ fn take_step(alloc: Global, walk: &mut Walk, object: ObjectId, op: Op) -> Result
     requires can { CanStep (setting_of walk.old) object op }
     ensures follows { IsFollowing (seen_of walk.new) }
     ensures setting { setting_of walk.new ≡ setting_of walk.old }
-    ensures home { home_in (seen_of walk.new) ≡ home_in (seen_of walk.old) }
+    ensures front { front_in (seen_of walk.new) ≡ front_in (seen_of walk.old) }
+    ensures blanks { blanks_in (seen_of walk.new) ≡ blanks_in (seen_of walk.old) }
     ensures made { OnOk result (MakesStep (steps_in (seen_of walk.old)) (steps_in (seen_of walk.new)) walk.old.actor object op) }
     ensures replied { OnOk result (IsReplyOf walk.old.maps object op (last_reply (steps_in (seen_of walk.new)))) }
     ensures none { OnErr result (steps_in (seen_of walk.new) ≡ steps_in (seen_of walk.old)) }
@@ -163,11 +165,11 @@ impl Model for Follower {
 }
 
 impl Port for Follower {
-    type Home = Items<Step>;
+    type Home = (Items<Step>, Items<Step>);
 
     ghost steps = { λ p. steps_in p };
 
-    ghost fixed = { λ p. record { setting = p.setting; home = home_in p } };
+    ghost fixed = { λ p. record { setting = p.setting; home = (front_in p, blanks_in p) } };
 
     fn step(&mut self, alloc: Global, object: ObjectId, op: Op) -> Result<(), Memory> {
         take_step(alloc, &mut self.walk, object, op)
@@ -179,7 +181,7 @@ impl Port for Follower {
 }
 
 impl Follower {
-    /// Follows a list for an actor, from its start.
+    /// Follows a list for an actor from a place, which is the start or right behind a step of the actor.
     pub fn new(
         alloc: Global,
         actor: u32,
@@ -187,12 +189,13 @@ impl Follower {
         ticks: u32,
         maps: Items<MapDecl>,
         list: Items<Step>,
-        at: usize,
+        from: usize,
     ) -> Follower
-        requires within { at ≤ length list }
-        requires first { (n : ℕ) (d : MadeStep) → at ≡ suc n → (slice_index_or list n d).actor ≡ actor }
+        requires within { from ≤ length list }
+        requires first { (n : ℕ) (d : MadeStep) → from ≡ suc n → (slice_index_or list n d).actor ≡ actor }
         requires replies { AllByRecursion (λ (s : MadeStep). s.actor ≡ actor → IsReplyOf maps s.object s.op s.reply) list }
-        ensures { result ≡ record { setting = record { actor = actor; actors = actors; ticks = ticks; maps = maps }; list = list; at = at; strays = [] } }
+        ensures { result ≡ record {
+            setting = record { actor = actor; actors = actors; ticks = ticks; maps = maps }; list = list; from = from; at = from; strays = [] } }
     {
         Follower {
             walk: Walk {
@@ -201,7 +204,8 @@ impl Follower {
                 ticks,
                 maps,
                 list,
-                at,
+                from,
+                at: from,
                 strays: Items::new(alloc),
             },
         }
@@ -227,6 +231,7 @@ impl Follower {
             ticks: _,
             maps: _,
             list,
+            from: _,
             at,
             strays,
         } = walk;

@@ -7,11 +7,11 @@ use Rattle.bt_core.specs.Steps.{of_actor}
 use Rattle.bt_core.proofs.InteractionLaws.{last_reply-append}
 use Rattle.blank_steps.specs.Blank.{blank_of, blank_call}
 use Rattle.step_follower.specs.Following.{setting_of}
-use Rattle.step_follower.proofs.FollowLemmas.{met_home, met_reply, by_result}
+use Rattle.step_follower.proofs.FollowLemmas.{met_blanks, met_reply, by_result}
 use Rattle.step_follower.proofs.follow.take_step.Goals as goal
 
-pub returns-then-is_next-clause-home : goal.returns-then-is_next-clause-home
-returns-then-is_next-clause-home c =
+pub returns-then-is_next-clause-blanks : goal.returns-then-is_next-clause-blanks
+returns-then-is_next-clause-blanks c =
     let w = c.args.walk.now in
     let d = c.index-as_slice-at.result in
     let lt : c.skip_others-at.result < length w.list = search rules in
@@ -19,7 +19,7 @@ returns-then-is_next-clause-home c =
     let own = subst (λ (l : List Step). c.skip_others-at.result < length l → (get_or l c.skip_others-at.result d).actor ≡ w.actor) c.as_slice.ensures (c.skip_others-at.ensures.own d) lt in
     let next = c.if-is_next.ensures.0 refl in
     ap (map (blank_of w.actor)) (c.set_op.ensures d)
-    ∙ met_home (setting_of w) w.list c.skip_others-at.result w.at c.args.object c.args.op d lt own
+    ∙ met_blanks (setting_of w) w.list c.skip_others-at.result w.at c.args.object c.args.op d lt own
     (subst (λ (s : Step). blank_call (call_of s) ≡ blank_call (record { object = c.args.object; op = c.args.op })) same next)
 
 pub returns-then-is_next-clause-replied : goal.returns-then-is_next-clause-replied
