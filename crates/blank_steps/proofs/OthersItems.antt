@@ -17,6 +17,12 @@ module _ (b : ℕ) where
       by_test true = refl
       by_test false = refl
 
+  module _ (old new : List Step) (same : map (blank_of b) new ≡ map (blank_of b) old) where
+    pub actor_same : (n : ℕ) (d : Step) → (get_or new n d).actor ≡ (get_or old n d).actor
+    actor_same n d =
+        sym (blank_actor (get_or new n d)) ∙ ap (λ (s : Step). s.actor) (sym (get_or-map (blank_of b) new n d) ∙ ap (λ l. get_or l n (blank_of b d)) same ∙ get_or-map (blank_of b) old n d)
+        ∙ blank_actor (get_or old n d)
+
   module _ (a : ℕ) (ne : a ≢ b) where
     blank_other : (s : Step) → s.actor ≡ a → blank_of b s ≡ s
     blank_other s own = ap (λ (c : Bool). cond c (without_item s) s) (ne_eqb s.actor b (λ e. ne (sym own ∙ e)))
@@ -35,8 +41,3 @@ module _ (b : ℕ) where
       pub back_same : (n : ℕ) → of_actor a (drop n new) ≡ of_actor a (drop n old)
       back_same n =
           sym (seen_through (drop n new)) ∙ ap (of_actor a) (sym (drop-map (blank_of b) n new) ∙ ap (drop n) same ∙ drop-map (blank_of b) n old) ∙ seen_through (drop n old)
-
-      pub actor_same : (n : ℕ) (d : Step) → (get_or new n d).actor ≡ (get_or old n d).actor
-      actor_same n d =
-          sym (blank_actor (get_or new n d)) ∙ ap (λ (s : Step). s.actor) (sym (get_or-map (blank_of b) new n d) ∙ ap (λ l. get_or l n (blank_of b d)) same ∙ get_or-map (blank_of b) old n d)
-          ∙ blank_actor (get_or old n d)

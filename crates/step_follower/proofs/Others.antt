@@ -14,5 +14,5 @@ module _ (b a : ℕ) (ne : a ≢ b) (old new : List Step) (same : map (blank_of 
     followed = subst (λ (z : List Step × List Step). Followed t z.0 f.strays z.1) (λ i. (sym (front_same b a ne old new same at) i, sym (back_same b a ne old new same at) i)) f.followed;
     none = f.none;
     within = (let k = sym (length-map new (blank_of b)) ∙ ap length same ∙ length-map old (blank_of b) in let w = f.within in omega arith);
-    last_own = λ n d e. actor_same b a ne old new same n d ∙ f.last_own n d e;
+    last_own = λ n d e. actor_same b old new same n d ∙ f.last_own n d e;
   }

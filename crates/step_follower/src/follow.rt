@@ -32,12 +32,18 @@ pub struct Walk {
     pub strays: Items<Step>,
 }
 
-/// What was followed of a list: the list with the actor's items, how far, and whether all steps were made on it.
+/// How far a list was followed for an actor, and whether all its steps were made on the list.
+#[derive(Clone, Copy, Drop)]
+pub struct Reached {
+    pub at: usize,
+    pub on_list: bool,
+}
+
+/// A list with the items of an actor, and how far it was followed.
 #[derive(Drop)]
 pub struct Trail {
     pub list: Items<Step>,
-    pub at: usize,
-    pub on_list: bool,
+    pub reached: Reached,
 }
 
 /// The place of the actor's next step, or the length of the list.
@@ -195,7 +201,12 @@ impl Follower {
         requires first { (n : ℕ) (d : MadeStep) → from ≡ suc n → (slice_index_or list n d).actor ≡ actor }
         requires replies { AllByRecursion (λ (s : MadeStep). s.actor ≡ actor → IsReplyOf maps s.object s.op s.reply) list }
         ensures { result ≡ record {
-            setting = record { actor = actor; actors = actors; ticks = ticks; maps = maps }; list = list; from = from; at = from; strays = [] } }
+          setting = record { actor = actor; actors = actors; ticks = ticks; maps = maps };
+          list = list;
+          from = from;
+          at = from;
+          strays = [];
+        } }
     {
         Follower {
             walk: Walk {
@@ -221,8 +232,8 @@ impl Follower {
     /// What was followed.
     pub fn into_trail(self) -> Trail
         ensures list { result.list ≡ self.list }
-        ensures at { result.at ≡ self.at }
-        ensures on { IsTrue result.on_list ↔ (self.strays ≡ []) }
+        ensures at { result.reached.at ≡ self.at }
+        ensures on { IsTrue result.reached.on_list ↔ (self.strays ≡ []) }
     {
         let Follower { walk } = self;
         let Walk {
@@ -236,6 +247,9 @@ impl Follower {
             strays,
         } = walk;
         let on_list = strays.is_empty();
-        Trail { list, at, on_list }
+        Trail {
+            list,
+            reached: Reached { at, on_list },
+        }
     }
 }

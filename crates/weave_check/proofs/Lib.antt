@@ -1,4 +1,5 @@
 pub mod WholeFollowed
 pub mod AllActors
 pub mod Barriers
+pub mod MainLaws
 pub mod Places

@@ -23,7 +23,7 @@ use std::alloc::Global;
 use step_follower::follow::{Follower, Trail};
 
 /// A port that follows a list for an actor, from a place that is the start or right behind a step of the actor.
-fn follower_of(
+pub(crate) fn follower_of(
     alloc: Global,
     recording: &Recording,
     attached: &Attached,
@@ -67,7 +67,7 @@ pub fn follow_cpu<B: Bodies>(
     requires actor { (B.plan bodies.old).actor ≡ cpu }
     requires replies { AllByRecursion (λ (s : MadeStep). s.actor ≡ cpu → IsReplyOf maps.now s.object s.op s.reply) list }
     ensures followed { IfOk result (λ trail.
-        IsFollowed (actor_program (B.plan bodies.old) exits recording.now attached.now) cpu trail.list trail.at trail.on_list) }
+        IsFollowed (actor_program (B.plan bodies.old) exits recording.now attached.now) cpu trail.list trail.reached.at trail.reached.on_list) }
     ensures list { IfOk result (λ trail. map (blank_of cpu) trail.list ≡ map (blank_of cpu) list) }
     ensures plan_kept { B.plan bodies.new ≡ B.plan bodies.old }
 {
@@ -93,7 +93,7 @@ pub fn follow_begin<B: Bodies>(
     requires few_ticks { length attached.now.ticks ≤ MOST_TICKS }
     requires replies { AllByRecursion (λ (s : MadeStep). s.actor ≡ main → IsReplyOf maps.now s.object s.op s.reply) list }
     ensures followed { IfOk result (λ trail.
-        IsFollowed (begin_program (B.plan bodies.old) recording.now attached.now) main trail.list trail.at trail.on_list) }
+        IsFollowed (begin_program (B.plan bodies.old) recording.now attached.now) main trail.list trail.reached.at trail.reached.on_list) }
     ensures list { IfOk result (λ trail. map (blank_of main) trail.list ≡ map (blank_of main) list) }
     ensures plan_kept { B.plan bodies.new ≡ B.plan bodies.old }
 {

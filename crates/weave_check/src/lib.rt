@@ -2,3 +2,4 @@
 #![tactic(auto)]
 
 pub mod actors;
+pub mod main_actor;
