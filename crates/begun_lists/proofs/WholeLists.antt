@@ -36,7 +36,7 @@ unmapped (Asks c g) f (s ∷ ss) b h = let r = unmapped (g s.reply) f ss b h.1 i
 
 -- ---- clocks
 
-of_both : (main a : ℕ) (xs : List Step) → greatest (filter (λ s. is_of main s || is_of a s) xs) ≡ max (greatest (of_actor main xs)) (greatest (of_actor a xs))
+pub of_both : (main a : ℕ) (xs : List Step) → greatest (filter (λ s. is_of main s || is_of a s) xs) ≡ max (greatest (of_actor main xs)) (greatest (of_actor a xs))
 of_both main a [] = omega arith
 of_both main a (x ∷ xs) = by_tests (is_of main x) (is_of a x) (of_both main a xs)
   where

@@ -98,6 +98,7 @@ fn take_step(alloc: Global, walk: &mut Walk, object: ObjectId, op: Op) -> Result
     requires can { CanStep (setting_of walk.old) object op }
     ensures follows { IsFollowing (seen_of walk.new) }
     ensures setting { setting_of walk.new ≡ setting_of walk.old }
+    ensures from { walk.new.from ≡ walk.old.from }
     ensures front { front_in (seen_of walk.new) ≡ front_in (seen_of walk.old) }
     ensures blanks { blanks_in (seen_of walk.new) ≡ blanks_in (seen_of walk.old) }
     ensures made { OnOk result (MakesStep (steps_in (seen_of walk.old)) (steps_in (seen_of walk.new)) walk.old.actor object op) }
@@ -171,11 +172,11 @@ impl Model for Follower {
 }
 
 impl Port for Follower {
-    type Home = (Items<Step>, Items<Step>);
+    type Home = (usize, Items<Step>, Items<Step>);
 
     ghost steps = { λ p. steps_in p };
 
-    ghost fixed = { λ p. record { setting = p.setting; home = (front_in p, blanks_in p) } };
+    ghost fixed = { λ p. record { setting = p.setting; home = (p.from, front_in p, blanks_in p) } };
 
     fn step(&mut self, alloc: Global, object: ObjectId, op: Op) -> Result<(), Memory> {
         take_step(alloc, &mut self.walk, object, op)

@@ -1,5 +1,4 @@
 pub mod WholeFollowed
 pub mod AllActors
 pub mod Barriers
-pub mod MainLaws
 pub mod Places

@@ -1,5 +1,4 @@
 //! Whether a written list of steps is one that a script can make over a recording.
 #![tactic(auto)]
 
-pub mod actors;
-pub mod main_actor;
+pub mod laws;

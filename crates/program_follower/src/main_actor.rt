@@ -8,7 +8,7 @@ ghost use Rattle.actor_plan.specs.Programs.{actor_program, begin_program};
 ghost use Rattle.actor_plan.specs.Ready.{IsReady};
 ghost use Rattle.blank_steps.specs.Blank.{blank_of};
 ghost use Rattle.step_follower.specs.Followed.{IsFollowed};
-ghost use Rattle.weave_check.specs.Settings.{setting_for};
+ghost use Rattle.program_follower.specs.Settings.{setting_for};
 
 use crate::actors::{follow_begin, follower_of};
 use actor_plan::bodies::Bodies;

@@ -9,7 +9,7 @@ ghost use Rattle.actor_plan.specs.Programs.{actor_program, begin_program, end_pr
 ghost use Rattle.actor_plan.specs.Ready.{IsReady};
 ghost use Rattle.blank_steps.specs.Blank.{blank_of};
 ghost use Rattle.step_follower.specs.Followed.{IsFollowed};
-ghost use Rattle.weave_check.specs.Settings.{setting_for};
+ghost use Rattle.program_follower.specs.Settings.{setting_for};
 
 use actor_plan::bodies::Bodies;
 use actor_plan::program::{run_begin, run_cpu, run_end};
@@ -38,7 +38,12 @@ pub(crate) fn follower_of(
     requires within { from ≤ length list }
     requires first { (n : ℕ) (d : MadeStep) → from ≡ suc n → (slice_index_or list n d).actor ≡ actor }
     ensures { IfOk result (λ port. port ≡ record {
-        setting = setting_for recording.now attached.now maps.now actor; list = list; from = from; at = from; strays = [] }) }
+      setting = setting_for recording.now attached.now maps.now actor;
+      list = list;
+      from = from;
+      at = from;
+      strays = [];
+    }) }
 {
     let served = maps.try_copy(alloc)?;
     let actors = recording.cpus.len() as u32 + 1;
@@ -72,9 +77,7 @@ pub fn follow_cpu<B: Bodies>(
     ensures plan_kept { B.plan bodies.new ≡ B.plan bodies.old }
 {
     let mut port = follower_of(alloc, recording, attached, maps, cpu, list, 0)?;
-    run_cpu(
-        alloc, bodies, recording, attached, cpu, exits, &mut port,
-    )?;
+    run_cpu(alloc, bodies, recording, attached, cpu, exits, &mut port)?;
     port.stands();
     Ok(port.into_trail())
 }
