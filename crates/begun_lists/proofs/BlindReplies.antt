@@ -73,4 +73,3 @@ module _ (maps : List MapDecl) (cpus : ℕ) where
   pub replies_alike : (o : ObjectId) (ops pops : List Op) (op pop : Op) → map blank_op ops ≡ map blank_op pops → blank_op op ≡ blank_op pop → answer maps cpus o ops op ≡ answer maps cpus o pops pop
   replies_alike o ops pops op pop e f =
       sym (blind_before o ops op) ∙ sym (blind_now o (map blank_op ops) op) ∙ (λ i. answer maps cpus o (e i) (f i)) ∙ blind_now o (map blank_op pops) pop ∙ blind_before o pops pop
-

@@ -48,7 +48,7 @@ none_own a bs [] none = refl
 none_own a bs (x ∷ xs) none = dite (ℕ_discrete x.actor a)
     (λ own. absurd (none bs x xs refl (omega arith) own))
     (λ ne. of_actor-other a [] x xs ne ∙ none_own a (bs ++ x ∷ []) xs (λ before s after e le own.
-      none before s after (sym (append_assoc bs (x ∷ []) xs) ∙ e) (let k = length-append bs (x ∷ []) in omega arith) own))
+    none before s after (sym (append_assoc bs (x ∷ []) xs) ∙ e) (let k = length-append bs (x ∷ []) in omega arith) own))
 
 pub take_again : {X : Type 0} (i j : ℕ) (xs : List X) → i ≤ j → take i (take j xs) ≡ take i xs
 take_again zero j xs le = refl
@@ -73,4 +73,3 @@ last_apart f (x ∷ xs) (z ∷ zs) y e =
     let tail : map f xs ≡ zs ++ y ∷ [] = cc in
     let r = last_apart f xs zs y tail in
     record { front = x ∷ r.front; last = r.last; whole = ap (λ l. x ∷ l) r.whole; fronts = (λ i. head i ∷ r.fronts i); lasts = r.lasts }
-

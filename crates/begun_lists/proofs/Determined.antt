@@ -1,5 +1,5 @@
 -- A list that a run can make is determined by the actors and stamps of its steps, and by a list of them without replies and items.
-use Rattle.std.proofs.Common.{◌≡◌, ◌≢◌, ℕ, List, [], ◌∷◌, ◌++◌, map, sym, refl, ap, ◌∙◌, subst}
+use Rattle.std.proofs.Common.{◌≡◌, ℕ, List, [], ◌∷◌, ◌++◌, map, sym, refl, ap, ◌∙◌, subst}
 use Rattle.std.proofs.lemmas.List.{append-nil, append_assoc, map-append}
 use mathlib.Core.Logic.{dite}
 use native.Mathlib.Decide.{ℕ_discrete}
@@ -28,16 +28,16 @@ module _ (p : Replay) where
       let tail : map blank xs ≡ map blank ys = cc in
       let o : x.object ≡ y.object = ap (λ (s : Step). s.object) head in
       let r : x.reply ≡ y.reply =
-          h bs x xs refl
-          ∙ ap (λ q. answers_of p q (operations (on_object q bs)) x.op) o
-          ∙ replies_alike p.maps (cpus_of p) y.object (operations (on_object y.object bs)) (operations (on_object y.object cs)) x.op y.op (operations_alike y.object bs cs e) (ap (λ (s : Step). s.op) head)
-          ∙ sym (g cs y ys refl) in
+      h bs x xs refl
+      ∙ ap (λ q. answers_of p q (operations (on_object q bs)) x.op) o
+      ∙ replies_alike p.maps (cpus_of p) y.object (operations (on_object y.object bs)) (operations (on_object y.object cs)) x.op y.op (operations_alike y.object bs cs e) (ap (λ (s : Step). s.op) head)
+      ∙ sym (g cs y ys refl) in
       let same : without_item x ≡ without_item y = (λ i. record { actor = (head i).actor; object = (head i).object; stamp = (head i).stamp; op = (head i).op; reply = r i }) in
       ap (map without_item) (sym (append_assoc bs (x ∷ []) xs))
       ∙ alike_from (bs ++ x ∷ []) (cs ++ y ∷ []) xs ys
-        (subst (RepliesFollow (answers_of p)) (sym (append_assoc bs (x ∷ []) xs)) h)
-        (subst (RepliesFollow (answers_of p)) (sym (append_assoc cs (y ∷ []) ys)) g)
-        (map-append without_item bs (x ∷ []) ∙ (λ i. e i ++ same i ∷ []) ∙ sym (map-append without_item cs (y ∷ []))) tail
+      (subst (RepliesFollow (answers_of p)) (sym (append_assoc bs (x ∷ []) xs)) h)
+      (subst (RepliesFollow (answers_of p)) (sym (append_assoc cs (y ∷ []) ys)) g)
+      (map-append without_item bs (x ∷ []) ∙ (λ i. e i ++ same i ∷ []) ∙ sym (map-append without_item cs (y ∷ []))) tail
       ∙ ap (map without_item) (append_assoc cs (y ∷ []) ys)
 
   pub alike : (xs ys : List Step) → RepliesFollow (answers_of p) xs → RepliesFollow (answers_of p) ys → map blank xs ≡ map blank ys → map without_item xs ≡ map without_item ys
@@ -59,9 +59,9 @@ module _ (p : Replay) where
   begins_from a bs [] h g = subst (λ l. Begins (program_of p a) (of_actor a l)) (sym (append-nil bs)) g
   begins_from a bs (x ∷ xs) h g =
       let more : Begins (program_of p a) (of_actor a (bs ++ x ∷ [])) = dite (ℕ_discrete x.actor a)
-          (λ own. subst (Begins (program_of p a)) (sym (of_actor-own a bs x [] own))
-            (subst (λ n. Begins (program_of p n) (of_actor n bs ++ x ∷ [])) own (h bs x xs refl).asked))
-          (λ ne. subst (Begins (program_of p a)) (sym (of_actor-other a bs x [] ne ∙ append-nil (of_actor a bs))) g) in
+      (λ own. subst (Begins (program_of p a)) (sym (of_actor-own a bs x [] own))
+      (subst (λ n. Begins (program_of p n) (of_actor n bs ++ x ∷ [])) own (h bs x xs refl).asked))
+      (λ ne. subst (Begins (program_of p a)) (sym (of_actor-other a bs x [] ne ∙ append-nil (of_actor a bs))) g) in
       subst (λ l. Begins (program_of p a) (of_actor a l)) (append_assoc bs (x ∷ []) xs)
       (begins_from a (bs ++ x ∷ []) xs (subst (IsBegun p) (sym (append_assoc bs (x ∷ []) xs)) h) more)
 
@@ -80,11 +80,11 @@ module _ (p : Replay) where
       let mx = h bs x xs refl in
       let my = g bs y ys refl in
       let c : call_of x ≡ call_of y = next_is_one (program_of p y.actor) (of_actor y.actor bs) x y [] []
-          (subst (λ n. Begins (program_of p n) (of_actor n bs ++ x ∷ [])) a mx.asked) my.asked in
+      (subst (λ n. Begins (program_of p n) (of_actor n bs ++ x ∷ [])) a mx.asked) my.asked in
       let r : x.reply ≡ y.reply = mx.reply ∙ ap (λ (d : Call). answers_of p d.object (operations (on_object d.object bs)) d.op) c ∙ sym my.reply in
       let same : x ≡ y = step_is x y a (ap (λ (s : Step). s.stamp) head) c r in
       let rest = one_from (bs ++ x ∷ []) xs ys (subst (IsBegun p) (sym (append_assoc bs (x ∷ []) xs)) h)
-          (subst (IsBegun p) (ap (λ s. bs ++ s ∷ ys) (sym same) ∙ sym (append_assoc bs (x ∷ []) ys)) g) tail in
+      (subst (IsBegun p) (ap (λ s. bs ++ s ∷ ys) (sym same) ∙ sym (append_assoc bs (x ∷ []) ys)) g) tail in
       λ i. same i ∷ rest i
 
   pub only_one : (xs ys : List Step) → IsBegun p xs → IsBegun p ys → map blank xs ≡ map blank ys → xs ≡ ys

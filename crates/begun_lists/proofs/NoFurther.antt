@@ -1,15 +1,17 @@
 -- Where a list that can be made goes no further, and that no list of entries has two answers.
-use Rattle.std.proofs.Common.{◌≡◌, ◌≢◌, ◌+◌, max, ℕ, suc, ◌<◌, ◌≤◌, false, List, [], ◌∷◌, ◌++◌, length, map, take, drop, sym, refl, ap, ◌∙◌, subst, arith}
+use Rattle.std.proofs.Common.{◌≡◌, ◌≢◌, ◌⊎◌, inl, inr, ◌+◌, max, ℕ, suc, ◌<◌, ◌≤◌, List, [], ◌∷◌, ◌++◌, length, map, take, drop, sym, refl, ap, ◌∙◌, subst, arith}
 use Rattle.std.proofs.lemmas.List.{append_assoc, take-append-drop, length-append, length-map, take-map}
 use Rattle.std.proofs.Math.Seq.{take-append_seam, take-append-add}
+use mathlib.Core.Logic.{dite}
+use native.Mathlib.Decide.{ℕ_discrete}
 use Rattle.bt_core.specs.declared.step.Step.{Step}
 use Rattle.bt_core.specs.Interaction.{Begins}
-use Rattle.bt_core.specs.Steps.{of_actor, on_object, AtEach, RepliesFollow}
+use Rattle.bt_core.specs.Steps.{of_actor, on_object}
 use Rattle.bt_core.proofs.StepLists.{of_actor-own}
 use Rattle.weave.specs.Lists.{greatest}
-use Rattle.weave.specs.Order.{comes_before}
+use Rattle.weave.proofs.Less.{less_or_not}
 use Rattle.bt_meaning.specs.Interleavings.{IsWhole}
-use Rattle.bt_meaning.specs.Replays.{Replay, cpus_of, begin_of, answers_of}
+use Rattle.bt_meaning.specs.Replays.{Replay, cpus_of, begin_of}
 use Rattle.blank_steps.specs.Blank.{blank}
 use Rattle.begun_lists.specs.Begun.{MayFollow, IsBegun, HasDone, program_of, clock_after, AreAllWhole}
 use Rattle.begun_lists.specs.Parts.{HasParts}
@@ -64,11 +66,18 @@ module _ (p : Replay) where
   }
 
 -- no two of these can be
-pub one_wrong_step : (p : Replay) (entries : List Step) (i j : ℕ) → IsWrongStep p entries i → IsWrongStep p entries j → i < j → ⊥
+one_wrong_step : (p : Replay) (entries : List Step) (i j : ℕ) → IsWrongStep p entries i → IsWrongStep p entries j → i < j → ⊥
 one_wrong_step p entries i j a b lt =
     let w = take-append-drop (suc i) b.made in
     let front : IsBegun p (take (suc i) b.made) = begun_front p (take (suc i) b.made) (drop (suc i) b.made) (subst (IsBegun p) (sym w) b.begun) in
     a.no_more (take (suc i) b.made) front (sym (take-map blank (suc i) b.made) ∙ ap (take (suc i)) b.told ∙ take_again (suc i) j entries (omega arith))
+
+pub same_wrong_step : (p : Replay) (entries : List Step) (i j : ℕ) → IsWrongStep p entries i → IsWrongStep p entries j → i ≡ j
+same_wrong_step p entries i j a b = dite (ℕ_discrete i j) (λ e. e) (λ ne. absurd (apart (less_or_not i j) ne))
+  where
+    apart : (i < j) ⊎ (j ≤ i) → i ≢ j → ⊥
+    apart (inl lt) ne = one_wrong_step p entries i j a b lt
+    apart (inr le) ne = one_wrong_step p entries j i b a (let m : j ≢ i = λ e. ne (sym e) in omega arith)
 
 -- where all entries are those of a list that can be made, none is wrong
 pub none_wrong : (p : Replay) (made : List Step) (i : ℕ) → IsBegun p made → IsWrongStep p (map blank made) i → ⊥

@@ -1,6 +1,6 @@
 -- The lists that can be made, and in which each actor's program is whole, are those that a run hands back.
 use Rattle.std.proofs.Common.{◌≡◌, ◌≢◌, ℕ, suc, max, ◌+◌, ◌<◌, ◌≤◌, ◌||◌, nat_lt, Bool, true, false, cond, List, [], ◌∷◌, ◌++◌, length, take, drop}
-use Rattle.std.proofs.Common.{get_or, slice_index_or, sym, refl, ap, ◌∙◌, subst, arith, eq-eqb, ne_eqb}
+use Rattle.std.proofs.Common.{inl, inr, get_or, slice_index_or, sym, refl, ap, ◌∙◌, subst, arith, eq-eqb, ne_eqb}
 use Rattle.std.proofs.lemmas.Bool.{ltb-true}
 use Rattle.std.proofs.lemmas.List.{append-nil, append_assoc, length-append, take-append-drop, length-take-le, get_or-append-add}
 use Rattle.std.proofs.Math.Seq.{take-append_seam, drop-append_seam, drop-cons, take-suc, get_or-append_seam}
@@ -67,16 +67,15 @@ module _ (main begun : ℕ) (steps : List Step) (between : StandsBetween main be
   pub clocks : clock_after main before s.actor ≡ actor_clock main begun steps before s
   clocks = dite (ℕ_discrete s.actor main)
       (λ own. ap (λ (b : Bool). cond b (greatest before) (greatest (filter (λ u. is_of main u || is_of s.actor u) before))) (eq-eqb s.actor main own)
-        ∙ by_begun (nat_lt (length (of_actor main before)) begun) refl
-        ∙ sym (ap (λ (b : Bool). cond b (main_clock main begun before) (max (greatest (begin_steps main begun steps)) (greatest (of_actor s.actor before)))) (eq-eqb s.actor main own)))
+      ∙ by_begun (nat_lt (length (of_actor main before)) begun) refl
+      ∙ sym (ap (λ (b : Bool). cond b (main_clock main begun before) (max (greatest (begin_steps main begun steps)) (greatest (of_actor s.actor before)))) (eq-eqb s.actor main own)))
       (λ ne. ap (λ (b : Bool). cond b (greatest before) (greatest (filter (λ u. is_of main u || is_of s.actor u) before))) (ne_eqb s.actor main ne)
-        ∙ of_both main s.actor before ∙ ap (λ l. max (greatest l) (greatest (of_actor s.actor before))) (sym (begun_before ne))
-        ∙ sym (ap (λ (b : Bool). cond b (main_clock main begun before) (max (greatest (begin_steps main begun steps)) (greatest (of_actor s.actor before)))) (ne_eqb s.actor main ne)))
+      ∙ of_both main s.actor before ∙ ap (λ l. max (greatest l) (greatest (of_actor s.actor before))) (sym (begun_before ne))
+      ∙ sym (ap (λ (b : Bool). cond b (main_clock main begun before) (max (greatest (begin_steps main begun steps)) (greatest (of_actor s.actor before)))) (ne_eqb s.actor main ne)))
     where
       by_begun : (b : Bool) → nat_lt (length (of_actor main before)) begun ≡ b → greatest before ≡ cond b (greatest (of_actor main before)) (greatest before)
       by_begun true q = ap greatest (sym (only_mains (ltb-true (length (of_actor main before)) begun q)))
       by_begun false q = refl
-
 
 -- ---- programs
 
@@ -103,9 +102,14 @@ module _ (p : Replay) (own : PlansAreOwn p) where
   halves : (steps : List Step) → IsWhole (program_of p main) steps → Halves steps
   halves steps w =
       let r = runs_split (begin_of p) (λ begun. and_then (end_of p) (λ ended. Ended (record { to_end = true; instructions = begun + ended }))) steps w.value
-          (subst (λ t. Runs t steps w.value) main_is w.runs) in
-      record { first = r.front; last = r.back; parts = r.whole; begin = record { value = r.value; runs = r.first };
-        end = unmapped (end_of p) (λ ended. record { to_end = true; instructions = r.value + ended }) r.back w.value r.second }
+      (subst (λ t. Runs t steps w.value) main_is w.runs) in
+      record {
+        first = r.front;
+        last = r.back;
+        parts = r.whole;
+        begin = record { value = r.value; runs = r.first };
+        end = unmapped (end_of p) (λ ended. record { to_end = true; instructions = r.value + ended }) r.back w.value r.second;
+      }
 
   join : (first last : List Step) → IsWhole (begin_of p) first → IsWhole (end_of p) last → IsWhole (program_of p main) (first ++ last)
   join first last b e = record {
@@ -113,7 +117,7 @@ module _ (p : Replay) (own : PlansAreOwn p) where
     runs = subst (λ (t : Interaction Outcome). Runs t (first ++ last) (record { to_end = true; instructions = b.value + e.value })) (sym main_is)
         (Runs-and_then (begin_of p) _ first last b.value _ b.runs
         (subst (λ (l : List Step). Runs {A = Outcome} (and_then (end_of p) (λ ended. Ended (record { to_end = true; instructions = b.value + ended }))) l (record { to_end = true; instructions = b.value + e.value })) (append-nil last)
-          (Runs-and_then (end_of p) (λ ended. Ended (record { to_end = true; instructions = b.value + ended })) last [] e.value _ e.runs refl)));
+        (Runs-and_then (end_of p) (λ ended. Ended (record { to_end = true; instructions = b.value + ended })) last [] e.value _ e.runs refl)));
   }
 
   -- ---- from what can be made to interleavings
@@ -132,7 +136,7 @@ module _ (p : Replay) (own : PlansAreOwn p) where
     between before s after e ne =
         let w = (begun before s after e).after_begin ne in
         ap length (one_front (begin_of p) (of_actor main before) h.first (of_actor main (s ∷ after)) h.last w.value h.begin.value w.runs h.begin.runs
-          (sym (of_actor-append main before (s ∷ after)) ∙ ap (of_actor main) (sym e) ∙ h.parts))
+        (sym (of_actor-append main before (s ∷ after)) ∙ ap (of_actor main) (sym e) ∙ h.parts))
 
     limits : HasLimits p (length h.first) steps
     limits = record {
@@ -162,13 +166,13 @@ module _ (p : Replay) (own : PlansAreOwn p) where
             let l = limits_of p steps it in
             sym (length-take-le (length it.first) (of_actor main steps) l.enough)
             ∙ ap length (one_front (begin_of p) (begin_steps main (length it.first) steps) h.first (end_steps main (length it.first) steps) h.last l.begin.value h.begin.value l.begin.runs h.begin.runs
-              (take-append-drop (length it.first) (of_actor main steps) ∙ h.parts))
+            (take-append-drop (length it.first) (of_actor main steps) ∙ h.parts))
 
         in_order : (k : ℕ) (d : Step) → k + 1 < length steps → comes_before (slice_index_or steps (k + 1) d) (slice_index_or steps k d) ≡ false
         in_order k d lt =
             let one : k + 1 ≡ suc k = omega arith in
             let cut : steps ≡ take (suc k) steps ++ get_or steps (suc k) d ∷ drop (suc (suc k)) steps =
-                sym (take-append-drop (suc k) steps) ∙ ap (λ l. take (suc k) steps ++ l) (drop-cons steps (suc k) d (omega arith)) in
+            sym (take-append-drop (suc k) steps) ∙ ap (λ l. take (suc k) steps ++ l) (drop-cons steps (suc k) d (omega arith)) in
             ap (λ n. comes_before (slice_index_or steps n d) (slice_index_or steps k d)) one
             ∙ (begun (take (suc k) steps) (get_or steps (suc k) d) (drop (suc (suc k)) steps) cut).order (take k steps) (get_or steps k d) (take-suc steps k d (omega arith))
 
@@ -187,14 +191,14 @@ module _ (p : Replay) (own : PlansAreOwn p) where
     pub all_whole : AreAllWhole p steps
     all_whole actor le = dite (ℕ_discrete actor main)
         (λ e. subst (λ a. IsWhole (program_of p a) (of_actor a steps)) (sym e)
-          (subst (IsWhole (program_of p main)) (sym mains) (join (begin_steps main n steps) (end_steps main n steps) has.begin has.end)))
+        (subst (IsWhole (program_of p main)) (sym mains) (join (begin_steps main n steps) (end_steps main n steps) has.begin has.end)))
         (λ ne. let lt : actor < main = omega arith in subst (λ t. IsWhole t (of_actor actor steps)) (sym (cpu_is actor lt)) (has.each_cpu actor lt))
 
     -- where BEGIN is done, no CPU comes behind a step of the main actor
     done_is : (before : List Step) (s : Step) (after : List Step) → steps ≡ before ++ s ∷ after → HasDone (begin_of p) (of_actor main before) → n ≤ length (of_actor main before)
     done_is before s after e d =
         let same : d.made ≡ begin_steps main n steps = one_front (begin_of p) d.made (begin_steps main n steps) (d.more ++ of_actor main (s ∷ after)) (end_steps main n steps) d.whole.value has.begin.value d.whole.runs has.begin.runs
-            (sym (append_assoc d.made d.more (of_actor main (s ∷ after))) ∙ ap (λ l. l ++ of_actor main (s ∷ after)) (sym d.parts) ∙ sym (of_actor-append main before (s ∷ after)) ∙ ap (of_actor main) (sym e) ∙ mains) in
+        (sym (append_assoc d.made d.more (of_actor main (s ∷ after))) ∙ ap (λ l. l ++ of_actor main (s ∷ after)) (sym d.parts) ∙ sym (of_actor-append main before (s ∷ after)) ∙ ap (of_actor main) (sym e) ∙ mains) in
         let many : length (begin_steps main n steps) ≡ n = length-take-le n (of_actor main steps) has.enough in
         let k = ap length d.parts ∙ length-append d.made d.more in
         let m = ap length same in omega arith
@@ -208,8 +212,8 @@ module _ (p : Replay) (own : PlansAreOwn p) where
       before_end = λ before s after e own done cpu lt.
           let many = done_is before s after e done in
           let none : of_actor cpu (s ∷ after) ≡ [] = none_own cpu before (s ∷ after) (λ bs u cs q le by.
-              dite (ℕ_discrete u.actor main) (λ z. absurd (let t : cpu ≡ main = sym by ∙ z in omega arith))
-              (λ other. late before s after e own many bs u cs (e ∙ q) le other)) in
+          dite (ℕ_discrete u.actor main) (λ z. absurd (let t : cpu ≡ main = sym by ∙ z in omega arith))
+          (λ other. late before s after e own many bs u cs (e ∙ q) le other)) in
           subst (IsWhole (program_of p cpu)) (ap (of_actor cpu) e ∙ of_actor-append cpu before (s ∷ after) ∙ ap (λ l. of_actor cpu before ++ l) none ∙ append-nil (of_actor cpu before))
           (all_whole cpu (omega arith));
       stamps = λ before s after e. r.woven.stamps before s after e ∙ ap (λ k. suc (max k (greatest (on_object s.object before)))) (sym (clocks main n steps has.between before s after e));
@@ -221,7 +225,7 @@ module _ (p : Replay) (own : PlansAreOwn p) where
         late before s after e own many bs u cs q le other = elim (cut_twice before s after bs u cs (sym e ∙ q) le) [
           | inl z ↦ other (ap (λ (x : Step). x.actor) (sym z) ∙ own)
           | inr z ↦ (let k = has.between bs u cs q other in
-            let m = ap length (ap (of_actor main) z.1 ∙ of_actor-own main before s z.0 own) ∙ length-append (of_actor main before) (s ∷ of_actor main z.0) in omega arith)
+              let m = ap length (ap (of_actor main) z.1 ∙ of_actor-own main before s z.0 own) ∙ length-append (of_actor main before) (s ∷ of_actor main z.0) in omega arith)
         ]
 
         in_order : (before : List Step) (s : Step) (after : List Step) → steps ≡ before ++ s ∷ after → (earlier : List Step) (t : Step) → before ≡ earlier ++ t ∷ [] → comes_before s t ≡ false

@@ -1,7 +1,7 @@
 -- Lists of steps that a run of a script can make, up to some moment.
-use Rattle.std.specs.Prelude.{◌≡◌, ◌≢◌, ℕ, suc, max, ◌<◌, ◌≤◌, ◌||◌, Bool, false, List, [], ◌∷◌, ◌++◌, filter, if◌then◌else◌, ◌==◌}
+use Rattle.std.specs.Prelude.{◌≡◌, ◌≢◌, ℕ, suc, max, ◌<◌, ◌≤◌, ◌||◌, false, List, [], ◌∷◌, ◌++◌, filter, if◌then◌else◌, ◌==◌}
 use Rattle.bt_core.specs.declared.step.Step.{Step}
-use Rattle.bt_core.specs.Interaction.{Interaction, Begins, Runs}
+use Rattle.bt_core.specs.Interaction.{Interaction, Begins}
 use Rattle.bt_core.specs.Steps.{is_of, of_actor, on_object, operations, AtEach}
 use Rattle.weave.specs.Lists.{greatest}
 use Rattle.weave.specs.Order.{comes_before}

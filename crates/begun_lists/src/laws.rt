@@ -1,10 +1,14 @@
 // Laws of lists that can be made.
 ghost use Rattle.std.specs.Prelude.{◌≡◌, ◌<◌, ◌++◌, ◌∷◌, ℕ, List, length, map};
+ghost use Rattle.bt_core.specs.declared.map.MapDecl.{MapDecl};
+ghost use Rattle.bt_core.specs.declared.step.ObjectId.{ObjectId};
+ghost use Rattle.bt_core.specs.declared.step.Op.{Op};
 ghost use Rattle.bt_core.specs.declared.step.Step.{Step};
+ghost use Rattle.agg_core.specs.Answers.{answer};
 ghost use Rattle.weave.specs.Woven.{actor_clock, StandsBetween};
 ghost use Rattle.bt_meaning.specs.Interleavings.{IsReplayed};
 ghost use Rattle.bt_meaning.specs.Replays.{PlansAreOwn, Replay};
-ghost use Rattle.blank_steps.specs.Blank.{blank};
+ghost use Rattle.blank_steps.specs.Blank.{blank, blank_op};
 ghost use Rattle.begun_lists.specs.Begun.{AreAllWhole, clock_after, IsBegun};
 ghost use Rattle.begun_lists.specs.Parts.{HasParts};
 ghost use Rattle.begun_lists.specs.Wrong.{IsUnfinished, IsWrongStep, NoneFollows};
@@ -20,6 +24,12 @@ pub fn whole_lists_are_replayed()
 /// where they may.
 pub fn lists_with_parts_are_begun()
     ensures { (p : Replay) (steps : List Step) → HasParts p steps → IsBegun p steps }
+{}
+
+/// What an object replies does not depend on what was emitted, before or now.
+pub fn replies_tell_no_items()
+    ensures { (maps : List MapDecl) (cpus : ℕ) (object : ObjectId) (before others : List Op) (op other : Op) →
+        map blank_op before ≡ map blank_op others → blank_op op ≡ blank_op other → answer maps cpus object before op ≡ answer maps cpus object others other }
 {}
 
 /// Entries tell at most one list that can be made.
