@@ -2,3 +2,4 @@ pub mod WholeFollowed
 pub mod AllActors
 pub mod Barriers
 pub mod Places
+mod Together
