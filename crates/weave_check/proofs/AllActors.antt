@@ -1,28 +1,25 @@
 -- How far a written list can be made, by all actors: no further than each of them follows it.
-use Rattle.std.proofs.Common.{◌≡◌, ◌≢◌, ◌⊎◌, ◌+◌, min, ℕ, zero, suc, ◌<◌, ◌≤◌, Bool, true, false, List, [], ◌∷◌, ◌++◌, length, map, take, drop, get_or, sym, refl, ap, ◌∙◌, subst, arith, inl, inr, IsTrue}
-use Rattle.std.proofs.lemmas.List.{append-nil, append_assoc, take-append-drop, length-take-le, map-append}
+use Rattle.std.proofs.Common.{◌≡◌, min, ℕ, suc, ◌<◌, ◌≤◌, Bool, true, false, List, [], ◌∷◌, ◌++◌, length, map, take, drop, get_or, sym, refl, ap, ◌∙◌, subst, arith, IsTrue}
+use Rattle.std.proofs.lemmas.List.{take-append-drop, length-take-le, map-append}
 use Rattle.std.proofs.Math.Seq.{drop-cons, take-length}
 use mathlib.Core.Logic.{dite}
 use native.Mathlib.Decide.{ℕ_discrete}
 use Rattle.bt_core.specs.declared.step.Step.{Step}
-use Rattle.bt_core.specs.Interaction.{Interaction, Begins}
-use Rattle.bt_core.specs.Steps.{of_actor, AtEach}
+use Rattle.bt_core.specs.Interaction.{Begins}
+use Rattle.bt_core.specs.Steps.{of_actor}
 use Rattle.bt_core.proofs.StepLists.{of_actor-append, of_actor-own}
-use Rattle.bt_meaning.specs.Interleavings.{IsWhole, IsReplayed}
-use Rattle.bt_meaning.specs.Replays.{Replay, PlansAreOwn, cpus_of}
+use Rattle.bt_meaning.specs.Interleavings.{IsWhole}
+use Rattle.bt_meaning.specs.Replays.{Replay}
 use Rattle.blank_steps.specs.Blank.{blank}
-use Rattle.begun_lists.specs.Begun.{MayFollow, IsBegun, program_of, AreAllWhole}
+use Rattle.begun_lists.specs.Begun.{IsBegun, program_of}
 use Rattle.step_follower.specs.Followed.{Followed, IsFollowed}
-use Rattle.step_follower.specs.Followed.{AreStrays}
 use Rattle.blank_steps.proofs.Computations.{Begins-front}
-use Rattle.begun_lists.specs.Parts.{HasParts}
-use Rattle.begun_lists.specs.Wrong.{NoneFollows, IsWrongStep}
+use Rattle.begun_lists.specs.Wrong.{IsWrongStep}
 use Rattle.begun_lists.proofs.Cuts.{take_again}
-use Rattle.begun_lists.proofs.NoFurther.{parts_begun, wrong_step}
+use Rattle.begun_lists.proofs.NoFurther.{wrong_step}
 use Rattle.step_follower.proofs.FollowedLaws.{followed_begins}
 use Rattle.weave_check.specs.Limits.{IsLimit}
 use Rattle.weave_check.proofs.WholeFollowed.{by_program, followed_whole, not_whole}
-use Rattle.begun_lists.proofs.WholeLists.{replayed}
 
 module _ (p : Replay) (list : List Step) where
   pub no_limit : IsLimit p list (length list)
@@ -50,23 +47,24 @@ module _ (p : Replay) (list : List Step) where
           let next : of_actor a (drop j list) ≡ n ∷ of_actor a (drop (suc j) list) = ap (of_actor a) (drop-cons list j d lt) ∙ of_actor-own a [] n (drop (suc j) list) e in
           by_program p (take j list) n f.strays (of_actor a (drop (suc j) list))
           (subst (λ b. Followed (program_of p b) (of_actor b (take j list)) f.strays (n ∷ of_actor a (drop (suc j) list))) (sym e)
-            (subst (Followed (program_of p a) (of_actor a (take j list)) f.strays) next here));
+          (subst (Followed (program_of p a) (of_actor a (take j list)) f.strays) next here));
     }
 
     pub followed_to : (k : ℕ) → k ≤ j → Begins (program_of p a) (of_actor a (take k list))
     followed_to k le = Begins-front (program_of p a) (of_actor a (take k list)) (of_actor a (drop k (take j list)))
         (subst (Begins (program_of p a)) (ap (of_actor a) (sym (take-append-drop k (take j list))) ∙ of_actor-append a (take k (take j list)) (drop k (take j list))
-          ∙ ap (λ l. of_actor a l ++ of_actor a (drop k (take j list))) (take_again k j list le))
+        ∙ ap (λ l. of_actor a l ++ of_actor a (drop k (take j list))) (take_again k j list le))
         (followed_begins (program_of p a) (of_actor a (take j list)) f.strays (of_actor a (drop j list)) here))
 
     -- the whole list was followed: then the program is whole or not, as all steps were made on it
     pub followed_whole_or_not : j ≡ length list → (IsTrue on → IsWhole (program_of p a) (of_actor a list)) × ((on ≡ false) → IsWhole (program_of p a) (of_actor a list) → ⊥)
     followed_whole_or_not e =
-        let all : take j list ≡ list = ap (λ k. take k list) e ∙ take-length list in
-        (λ t. subst (λ l. IsWhole (program_of p a) (of_actor a l)) all
-          (followed_whole (program_of p a) (of_actor a (take j list)) (of_actor a (drop j list))
-            (subst (λ s. Followed (program_of p a) (of_actor a (take j list)) s (of_actor a (drop j list))) (f.none.0 t) here)),
-        λ no w. strayed f.strays (λ q. absurd (let t : IsTrue on = f.none.1 q in let z : false ≡ true = sym no ∙ t in let bad : ⊥ = cc in bad)) here (subst (λ l. IsWhole (program_of p a) (of_actor a l)) (sym all) w))
+        let all : take j list ≡ list = ap (λ k. take k list) e ∙ take-length list in (
+          λ t. subst (λ l. IsWhole (program_of p a) (of_actor a l)) all
+              (followed_whole (program_of p a) (of_actor a (take j list)) (of_actor a (drop j list))
+              (subst (λ s. Followed (program_of p a) (of_actor a (take j list)) s (of_actor a (drop j list))) (f.none.0 t) here)),
+          λ no w. strayed f.strays (λ q. absurd (let t : IsTrue on = f.none.1 q in let z : false ≡ true = sym no ∙ t in let bad : ⊥ = cc in bad)) here (subst (λ l. IsWhole (program_of p a) (of_actor a l)) (sym all) w),
+        )
       where
         strayed : (ss : List Step) → (ss ≡ [] → ⊥) → Followed (program_of p a) (of_actor a (take j list)) ss (of_actor a (drop j list)) → IsWhole (program_of p a) (of_actor a (take j list)) → ⊥
         strayed [] some g w = some refl
@@ -75,14 +73,10 @@ module _ (p : Replay) (list : List Step) where
   -- ---- the answers
 
   -- up to a limit the list can be made, and it has more: so that step is wrong
-  pub wrong_at : (j : ℕ) (d : Step) → IsLimit p list j → HasParts p (take j list) → j < length list → IsWrongStep p (map blank list) j
-  wrong_at j d limit parts lt =
+  pub wrong_at : (j : ℕ) (d : Step) → IsLimit p list j → IsBegun p (take j list) → j < length list → IsWrongStep p (map blank list) j
+  wrong_at j d limit begun lt =
       let n = get_or list j d in
       let cut : take j list ++ n ∷ drop (suc j) list ≡ list = ap (λ l. take j list ++ l) (sym (drop-cons list j d lt)) ∙ take-append-drop j list in
       subst (λ (z : List Step × ℕ). IsWrongStep p z.0 z.1)
       (λ i. ((sym (map-append blank (take j list) (n ∷ drop (suc j) list)) ∙ ap (map blank) cut) i, length-take-le j list limit.within i))
-      (wrong_step p (take j list) n (map blank (drop (suc j) list)) (parts_begun p (take j list) parts) (limit.none d lt))
-
-  -- up to its end, and each program is whole: so it is one that a run hands back
-  pub right_to_end : PlansAreOwn p → HasParts p list → AreAllWhole p list → IsReplayed p list
-  right_to_end own parts whole = replayed p own list (parts_begun p list parts) whole
+      (wrong_step p (take j list) n (map blank (drop (suc j) list)) begun (limit.none d lt))

@@ -1,13 +1,10 @@
 -- What all passes over a list find, put together: up to the least limit the list can be made.
-use Rattle.std.proofs.Common.{◌≡◌, ◌≢◌, ◌+◌, max, ℕ, zero, suc, ◌<◌, ◌≤◌, Bool, true, false, List, [], ◌∷◌, ◌++◌, length, take, drop, sym, refl, ap, ◌∙◌, subst, arith, IsTrue}
+use Rattle.std.proofs.Common.{◌≡◌, ◌≢◌, ◌+◌, max, ℕ, suc, ◌<◌, ◌≤◌, Bool, false, List, [], ◌∷◌, ◌++◌, length, take, drop, sym, refl, ap, ◌∙◌, subst, arith, IsTrue}
 use Rattle.std.proofs.lemmas.List.{append-nil, append_assoc, take-append-drop, length-append, length-take-le}
 use Rattle.std.proofs.Math.Seq.{take-append_seam, take-append-add}
-use Rattle.std.specs.List.{AllByRecursion}
-use mathlib.Core.Logic.{dite}
-use native.Mathlib.Decide.{ℕ_discrete}
 use Rattle.bt_core.specs.declared.step.Step.{Step}
 use Rattle.bt_core.specs.Interaction.{Interaction, Begins, Runs}
-use Rattle.bt_core.specs.Steps.{of_actor, on_object, operations, AtEach, RepliesFollow}
+use Rattle.bt_core.specs.Steps.{of_actor, on_object, AtEach, RepliesFollow}
 use Rattle.bt_core.proofs.StepLists.{of_actor-append, of_actor-own}
 use Rattle.weave.specs.Lists.{greatest}
 use Rattle.weave.specs.Order.{comes_before}
@@ -21,11 +18,11 @@ use Rattle.begun_lists.specs.Parts.{HasParts}
 use Rattle.weave_check.proofs.WholeFollowed.{followed_whole}
 
 -- a cut of the front of a list is a cut of the list
-record CutAt (list before : List Step) (s : Step) : Type 0 where
-  is : before ≡ take (length before) list
-  next : before ++ s ∷ [] ≡ take (suc (length before)) list
+pub record CutAt (list before : List Step) (s : Step) : Type 0 where
+  pub is : before ≡ take (length before) list
+  pub next : before ++ s ∷ [] ≡ take (suc (length before)) list
 
-cut_at : (list : List Step) (l : ℕ) (before : List Step) (s : Step) (after : List Step) → take l list ≡ before ++ s ∷ after → l ≤ length list → CutAt list before s
+pub cut_at : (list : List Step) (l : ℕ) (before : List Step) (s : Step) (after : List Step) → take l list ≡ before ++ s ∷ after → l ≤ length list → CutAt list before s
 cut_at list l before s after e le =
     let lt : length before < l = (let k = ap length e ∙ length-append before (s ∷ after) in let m = length-take-le l list le in omega arith) in
     record {
@@ -52,7 +49,7 @@ module _ (p : Replay) (list : List Step) (l : ℕ) (le : l ≤ length list) (at 
     -- the barriers: a CPU's step stands behind the whole of BEGIN, and where BEGIN is done a step of the main actor behind all CPUs'
     (after : AtEach (λ before s. s.actor ≢ cpus_of p → IsTrue on_begin × (at_begin ≤ length before)) (take l list))
     (behind : AtEach (λ before s. s.actor ≡ cpus_of p → HasDone (begin_of p) (of_actor (cpus_of p) before)
-        → (cpu : ℕ) → cpu < cpus_of p → IsTrue (on cpu) × (at cpu ≤ length before)) (take l list)) where
+    → (cpu : ℕ) → cpu < cpus_of p → IsTrue (on cpu) × (at cpu ≤ length before)) (take l list)) where
   whole_at : (a : ℕ) → a ≤ cpus_of p → IsTrue (on a) → IsWhole (program_of p a) (of_actor a (take (at a) list))
   whole_at a low t = let f = followed a low in
       followed_whole (program_of p a) (of_actor a (take (at a) list)) (of_actor a (drop (at a) list))
@@ -90,13 +87,13 @@ module _ (p : Replay) (list : List Step) (l : ℕ) (le : l ≤ length list) (at 
       let b = after before s rest e ne in
       let lt = within before s rest e in
       let front : before ≡ take at_begin list ++ drop at_begin (take (length before) list) =
-          c.is ∙ sym (take-append-drop at_begin (take (length before) list)) ∙ ap (λ xs. xs ++ drop at_begin (take (length before) list)) (take_again at_begin (length before) list b.1) in
+      c.is ∙ sym (take-append-drop at_begin (take (length before) list)) ∙ ap (λ xs. xs ++ drop at_begin (take (length before) list)) (take_again at_begin (length before) list b.1) in
       let none : of_actor (cpus_of p) (drop at_begin (take (length before) list)) ≡ [] =
-          none_own (cpus_of p) (take at_begin list) (drop at_begin (take (length before) list)) (λ bs u cs q long own.
-            late before s rest e ne bs u cs (front ∙ q) own b.0
-              (begun_by before bs u cs (front ∙ q) long b.1 b.0 c.is (omega arith))) in
+      none_own (cpus_of p) (take at_begin list) (drop at_begin (take (length before) list)) (λ bs u cs q long own.
+      late before s rest e ne bs u cs (front ∙ q) own b.0
+      (begun_by before bs u cs (front ∙ q) long b.1 b.0 c.is (omega arith))) in
       subst (IsWhole (begin_of p)) (sym (ap (of_actor (cpus_of p)) c.is ∙ split_front (cpus_of p) list at_begin (length before) b.1
-        ∙ ap (λ ys. of_actor (cpus_of p) (take at_begin list) ++ ys) none ∙ append-nil (of_actor (cpus_of p) (take at_begin list)))) (begin_whole b.0)
+      ∙ ap (λ ys. of_actor (cpus_of p) (take at_begin list) ++ ys) none ∙ append-nil (of_actor (cpus_of p) (take at_begin list)))) (begin_whole b.0)
     where
       -- behind BEGIN's place, BEGIN is done
       begun_by : (before bs : List Step) (u : Step) (cs : List Step) → before ≡ bs ++ u ∷ cs → length (take at_begin list) ≤ length bs → at_begin ≤ length before → IsTrue on_begin
@@ -127,7 +124,7 @@ module _ (p : Replay) (list : List Step) (l : ℕ) (le : l ≤ length list) (at 
           whole_ends (program_of p s.actor) (of_actor s.actor before) s [] w.value
           (subst (λ xs. Runs (program_of p s.actor) (of_actor s.actor xs) w.value) (sym c.is) w.runs)
           (subst (Begins (program_of p s.actor)) (ap (of_actor s.actor) (sym c.next) ∙ of_actor-own s.actor before s [] refl)
-            (to s.actor (omega arith) (suc (length before)) (omega arith)))
+          (to s.actor (omega arith) (suc (length before)) (omega arith)))
 
   -- all that the passes find of the front
   pub has_parts : RepliesFollow (answers_of p) (take l list)

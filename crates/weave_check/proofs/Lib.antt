@@ -3,3 +3,4 @@ pub mod AllActors
 pub mod Barriers
 pub mod Places
 mod Together
+pub mod FirstStop

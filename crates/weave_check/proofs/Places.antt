@@ -1,12 +1,11 @@
 -- Where BEGIN is done, its place was passed: what code tests by places is what the barriers speak of.
-use Rattle.std.proofs.Common.{◌≡◌, ◌≢◌, ◌⊎◌, ◌+◌, ℕ, zero, suc, ◌<◌, ◌≤◌, Bool, true, false, List, [], ◌∷◌, ◌++◌, length, take, drop, get_or, slice_index_or, sym, refl, ap, ◌∙◌, subst, arith, IsTrue, inl, inr}
-use Rattle.std.proofs.lemmas.List.{append-nil, append_assoc, take-append-drop, length-append, length-take-le, drop-append-le}
+use Rattle.std.proofs.Common.{◌≡◌, ◌⊎◌, ℕ, zero, suc, ◌<◌, ◌≤◌, Bool, List, [], ◌∷◌, ◌++◌, length, take, drop, get_or, slice_index_or, sym, refl, ap, ◌∙◌, subst, arith, IsTrue, inl, inr}
+use Rattle.std.proofs.lemmas.List.{append_assoc, take-append-drop, length-append, length-take-le, drop-append-le}
 use Rattle.weave.proofs.Less.{less_or_not}
 use Rattle.bt_core.specs.declared.step.Step.{Step}
-use Rattle.bt_core.specs.Interaction.{Interaction, Begins, Runs}
+use Rattle.bt_core.specs.Interaction.{Interaction, Begins}
 use Rattle.bt_core.specs.Steps.{of_actor}
 use Rattle.bt_core.proofs.StepLists.{of_actor-append}
-use Rattle.bt_meaning.specs.Interleavings.{IsWhole}
 use Rattle.begun_lists.specs.Begun.{HasDone}
 use Rattle.step_follower.specs.Followed.{Followed, IsFollowed}
 use Rattle.blank_steps.proofs.Computations.{Begins-front, Runs-Begins-all}
@@ -47,13 +46,13 @@ module _ {A : Type 0} (t : Interaction A) (a : ℕ) (list : List Step) (at : ℕ
           let own = last_own n d (sym e) in
           let g = get_or list n d in
           let cut : of_actor a (take at list) ≡ (done.made ++ done.more) ++ (of_actor a (drop j (take n list)) ++ g ∷ []) =
-              ap (λ k. of_actor a (take k list)) (sym e) ∙ take_own a list n d (omega arith) own
-              ∙ ap (λ l. l ++ g ∷ []) (split_front a list j n (omega arith) ∙ ap (λ l. l ++ of_actor a (drop j (take n list))) done.parts)
-              ∙ append_assoc (done.made ++ done.more) (of_actor a (drop j (take n list))) (g ∷ []) in
+          ap (λ k. of_actor a (take k list)) (sym e) ∙ take_own a list n d (omega arith) own
+          ∙ ap (λ l. l ++ g ∷ []) (split_front a list j n (omega arith) ∙ ap (λ l. l ++ of_actor a (drop j (take n list))) done.parts)
+          ∙ append_assoc (done.made ++ done.more) (of_actor a (drop j (take n list))) (g ∷ []) in
           let b = Begins-front t (of_actor a (take at list)) f.strays begins in
           not_none done.more (of_actor a (drop j (take n list))) g []
           (no_more t done.made (done.more ++ (of_actor a (drop j (take n list)) ++ g ∷ [])) done.whole
-            (subst (Begins t) (cut ∙ append_assoc done.made done.more (of_actor a (drop j (take n list)) ++ g ∷ [])) b))
+          (subst (Begins t) (cut ∙ append_assoc done.made done.more (of_actor a (drop j (take n list)) ++ g ∷ [])) b))
         where
           first_of : (l : List Step) → 0 < length l → Step
           first_of [] lt = absurd (omega arith)

@@ -12,7 +12,7 @@ loop-reached-preserved c = λ place.
     passed_more c.args.each.now n c.loop-reached.all one c.both-all.result place (λ d. get_or_default c.args.each.now n d c.loop-reached.all c.loop-reached-test.true)
     (c.loop-reached.invariant place)
     (subst (λ r. IsPassed c.both-all.result place ↔ (IsPassed c.loop-reached.all place × IsPassed r place))
-      (get_or_default c.args.each.now n _ c.loop-reached.all c.loop-reached-test.true) (c.both-all.ensures place))
+    (get_or_default c.args.each.now n _ c.loop-reached.all c.loop-reached-test.true) (c.both-all.ensures place))
 
 pub returns : goal.returns
 returns c = λ place.
