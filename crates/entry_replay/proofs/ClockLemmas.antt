@@ -1,5 +1,5 @@
 -- The clocks after one step more.
-use Rattle.std.proofs.Common.{◌≡◌, ◌≢◌, ℕ, max, ◌+◌, ◌<◌, ◌≤◌, List, [], ◌∷◌, ◌++◌, length, slice_index_or, slice_set, sym, refl, ap, ◌∙◌, arith, ◌||◌, cond, Bool, eq-eqb, ne_eqb}
+use Rattle.std.proofs.Common.{◌≡◌, ◌≢◌, ℕ, max, ◌<◌, ◌≤◌, List, [], ◌∷◌, ◌++◌, length, slice_index_or, slice_set, sym, ap, ◌∙◌, arith, ◌||◌, cond, Bool, eq-eqb, ne_eqb}
 use Rattle.std.specs.List.{filter}
 use Rattle.std.proofs.lemmas.List.{append-nil, get_or-set_same, get_or-set_other, length-set}
 use mathlib.Core.Logic.{dite}
@@ -41,7 +41,7 @@ module _ (main : ℕ) (before : List Step) (clocks : Clocks) (tell : TellClocks 
           → slice_index_or (slice_set clocks.lasts.items s.actor (max last s.stamp)) actor d ≡ greatest (of_actor actor (before ++ s ∷ []))
       by_actor actor d lt = dite (ℕ_discrete s.actor actor)
           (λ e. ap (λ n. slice_index_or (slice_set clocks.lasts.items s.actor (max last s.stamp)) n d) (sym e) ∙ get_or-set_same clocks.lasts.items s.actor (max last s.stamp) d low
-            ∙ ap (λ n. max n s.stamp) (is d ∙ ap (λ n. slice_index_or clocks.lasts.items n d) e ∙ tell.each actor d lt)
-            ∙ sym (greatest_more (of_actor actor before) s) ∙ ap greatest (sym (of_actor-own actor before s [] e)))
+          ∙ ap (λ n. max n s.stamp) (is d ∙ ap (λ n. slice_index_or clocks.lasts.items n d) e ∙ tell.each actor d lt)
+          ∙ sym (greatest_more (of_actor actor before) s) ∙ ap greatest (sym (of_actor-own actor before s [] e)))
           (λ ne. get_or-set_other clocks.lasts.items s.actor actor (max last s.stamp) d (λ e. ne (sym e)) ∙ tell.each actor d lt
-            ∙ ap greatest (sym (of_actor-other actor before s [] ne ∙ append-nil (of_actor actor before))))
+          ∙ ap greatest (sym (of_actor-other actor before s [] ne ∙ append-nil (of_actor actor before))))
