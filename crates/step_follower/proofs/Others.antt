@@ -25,7 +25,7 @@ module _ (b a : ℕ) (ne : a ≢ b) (old new : List Step) (same : map (blank_of 
 
 -- ---- replies of their kinds, where the items of one actor change
 
-without_twice : (a : ℕ) (s : Step) → without_item (blank_of a s) ≡ without_item s
+pub without_twice : (a : ℕ) (s : Step) → without_item (blank_of a s) ≡ without_item s
 without_twice a s = by_test (is_of a s)
   where
     by_test : (b : Bool) → without_item (cond b (without_item s) s) ≡ without_item s

@@ -1,0 +1,4 @@
+//! Whether a written list of entries tells the steps of a run, and where it does not.
+#![tactic(auto)]
+
+pub mod follow_all;
