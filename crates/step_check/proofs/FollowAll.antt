@@ -1,6 +1,6 @@
 -- One actor more was followed through a list.
-use Rattle.std.proofs.Common.{◌≡◌, ◌≢◌, ◌+◌, ℕ, ◌<◌, ◌≤◌, Bool, List, [], ◌∷◌, ◌++◌, length, map, get_or, slice_index_or, slice_set, sym, refl, ap, ◌∙◌, subst, arith}
-use Rattle.std.proofs.lemmas.List.{get_or-set_same, get_or-set_other, length-set}
+use Rattle.std.proofs.Common.{◌≡◌, ◌≢◌, ◌↔◌, ◌+◌, ℕ, ◌<◌, ◌≤◌, Bool, List, [], ◌∷◌, ◌++◌, length, map, get_or, slice_index_or, slice_set, sym, refl, ap, ◌∙◌, subst, arith}
+use Rattle.std.proofs.lemmas.List.{get_or-set_same, get_or-set_other, length-append, length-set}
 use Rattle.std.proofs.Math.ListN.{get_or-append}
 use Rattle.std.proofs.Math.Seq.{get_or-append_seam}
 use Rattle.std.specs.List.{AllByRecursion}
@@ -18,6 +18,8 @@ use Rattle.blank_steps.specs.Blank.{blank_of, without_item}
 use Rattle.step_follower.specs.declared.follow.Reached.{Reached}
 use Rattle.step_follower.specs.Followed.{IsFollowed}
 use Rattle.step_follower.proofs.Others.{followed_kept, replies_kept, without_twice}
+use Rattle.bt_meaning.specs.Replays.{Replay, begin_of, cpus_of}
+use Rattle.weave_check.specs.Stops.{AreReached, ArePassed, IsPassed}
 use Rattle.program_follower.specs.Settings.{setting_for}
 use Rattle.step_check.specs.Plans.{CanFollow, HaveOwnReplies, HavePlans}
 
@@ -79,3 +81,21 @@ module _ (plans : ℕ → Plan) (exits : Bool) (r : Recording) (attached : Attac
       (λ ne. subst (λ (z : Reached). IsFollowed (actor_program (plans a) exits r attached) a new z.at z.on_list)
         (sym (get_or-append each (reached ∷ []) d a (omega arith)))
         (followed_kept n a ne old new same (actor_program (plans a) exits r attached) (slice_index_or each a d).at (slice_index_or each a d).on_list (so a d (omega arith))))
+
+-- ---- all actors
+
+passed_too : (each : List Reached) (whole : Reached) (place : ℕ) → ArePassed (length each) each place ↔ ArePassed (length each) (each ++ whole ∷ []) place
+passed_too each whole place =
+    ((λ passed a d lt. subst (λ z. IsPassed z place) (sym (get_or-append each (whole ∷ []) d a lt)) (passed a d lt)),
+    λ passed a d lt. subst (λ z. IsPassed z place) (get_or-append each (whole ∷ []) d a lt) (passed a d lt))
+
+pub all_reached : (p : Replay) (list : List Step) (each : List Reached) (whole begin cpus : Reached) → length each ≡ cpus_of p
+    → AreFollowed p.plan p.exits p.recording p.attached list (each ++ whole ∷ []) (cpus_of p + 1) → IsFollowed (begin_of p) (cpus_of p) list begin.at begin.on_list
+    → ((place : ℕ) → IsPassed cpus place ↔ ArePassed (length each) each place) → AreReached p list (each ++ whole ∷ []) begin cpus
+all_reached p list each whole begin cpus size followed begun together = record {
+  count = length-append each (whole ∷ []) ∙ (let n = size in omega arith);
+  followed = λ actor d le. followed actor d (omega arith);
+  begun = begun;
+  together = λ place. subst (λ (n : ℕ). IsPassed cpus place ↔ ArePassed n (each ++ whole ∷ []) place) size
+      ((λ passed. (passed_too each whole place).0 ((together place).0 passed)), λ passed. (together place).1 ((passed_too each whole place).1 passed));
+}

@@ -1,5 +1,5 @@
 -- The bodies of all actors, by their plans.
-use Rattle.std.specs.Prelude.{◌≡◌, ℕ, ◌+◌, ◌<◌, ◌≤◌, List, length, slice_index_or}
+use Rattle.std.specs.Prelude.{◌≡◌, ℕ, Bool, ◌+◌, ◌<◌, ◌≤◌, List, length, slice_index_or}
 use Rattle.std.specs.List.{AllByRecursion}
 use Rattle.bt_ast.specs.declared.attached.Attached.{Attached}
 use Rattle.bt_core.specs.declared.map.MapDecl.{MapDecl}
@@ -7,6 +7,7 @@ use Rattle.bt_core.specs.declared.step.Step.{Step}
 use Rattle.bt_core.specs.Ports.{IsReplyOf}
 use Rattle.rec_format.specs.declared.recording.Recording.{Recording}
 use Rattle.actor_plan.specs.Plans.{Plan}
+use Rattle.bt_meaning.specs.Replays.{Replay}
 use Rattle.actor_plan.specs.Ready.{CanReplay, IsPlanFor}
 
 -- there are bodies of each CPU and of the main actor, and each has its actor's plan
@@ -22,3 +23,7 @@ pub record CanFollow (r : Recording) (attached : Attached) (maps : List MapDecl)
 -- each reply is of the kind that its operation has
 abbrev pub HaveOwnReplies : List MapDecl → List Step → Type 0
 HaveOwnReplies maps list = AllByRecursion (λ (s : Step). IsReplyOf maps s.object s.op s.reply) list
+
+-- these plans over a recording
+abbrev pub replay_by : Recording → Attached → Bool → List MapDecl → (ℕ → Plan) → Replay
+replay_by r attached exits maps plans = record { recording = r; attached = attached; exits = exits; maps = maps; plan = plans }
