@@ -47,7 +47,7 @@ blind_any f h (op ∷ ops) = λ i. at_blank f h op i || blind_any f h ops i
 
 -- ---- lists that are the same but for items
 
-filter_through : (f : Step → Step) (test : Step → Bool) → ((s : Step) → test (f s) ≡ test s) → (xs : List Step) → filter test (map f xs) ≡ map f (filter test xs)
+pub filter_through : (f : Step → Step) (test : Step → Bool) → ((s : Step) → test (f s) ≡ test s) → (xs : List Step) → filter test (map f xs) ≡ map f (filter test xs)
 filter_through f test same [] = refl
 filter_through f test same (x ∷ xs) =
     (λ i. cond (same x i) (f x ∷ filter_through f test same xs i) (filter_through f test same xs i)) ∙ by_test (test x)
