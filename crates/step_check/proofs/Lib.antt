@@ -1,2 +1,3 @@
 mod Alike
 mod FollowAll
+mod Verdict
