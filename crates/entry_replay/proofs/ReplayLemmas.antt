@@ -1,8 +1,12 @@
 -- One entry more is made as a step.
 use Rattle.std.proofs.Common.{◌≡◌, ◌+◌, ℕ, zero, suc, max, ◌<◌, List, [], ◌∷◌, ◌++◌, length, map, take, get_or, slice_set, sym, refl, ap, ◌∙◌, subst, arith}
-use Rattle.std.proofs.lemmas.List.{length-set, take_more_set}
+use Rattle.std.proofs.lemmas.List.{append_assoc, length-set, take_more_set}
 use Rattle.std.proofs.Math.Seq.{map-set_same}
 use Rattle.std.specs.List.{AllByRecursion}
+use Rattle.std.specs.Prelude.{All}
+use Rattle.bt_core.specs.Kinds.{IsFineDecl}
+use Rattle.bt_core.specs.Ports.{IsReplyOf}
+use Rattle.turn_lock.specs.History.{Each}
 use Rattle.bt_core.specs.declared.step.Reply.{Reply}
 use Rattle.bt_core.specs.declared.step.Step.{Step}
 use Rattle.bt_core.specs.Steps.{AtEach, on_object, operations, RepliesFollow}
@@ -13,7 +17,8 @@ use Rattle.begun_lists.specs.Begun.{clock_after}
 use Rattle.begun_lists.specs.Parts.{IsStampedAfter, NotBeforeLast}
 use Rattle.run_objects.specs.declared.objects.Objects.{Objects}
 use Rattle.run_objects.specs.Objects.{IsAnswer, Stand}
-use Rattle.run_objects.specs.Worlds.{World, answers}
+use Rattle.run_objects.specs.Worlds.{World, answers, IsOwn}
+use Rattle.run_objects.proofs.KindLemmas.{answer_is_of_its_kind}
 use Rattle.entry_replay.specs.declared.replay.Replaying.{Replaying}
 use Rattle.entry_replay.specs.Clocks.{TellClocks}
 use Rattle.entry_replay.specs.Replaying.{CanBeMade, IsReplaying, IsWrongNext, taken, with_reply, world_of}
@@ -75,3 +80,22 @@ module _ (r : Replaying) (is : IsReplaying r) (lt : r.at < length r.entries) (d 
 -- what is wrong with a step is told by its entry
 pub wrong_alike : (main : ℕ) (before : List Step) (s t : Step) → blank s ≡ blank t → IsWrongNext main before s → IsWrongNext main before t
 wrong_alike main before s t e wrong stamped order = wrong (subst (IsStampedAfter main before) (sym e) stamped) (subst (NotBeforeLast before) (sym e) order)
+
+-- ---- replies of their kinds
+
+each_snoc : (P : Step → Type 0) (xs : List Step) (x : Step) → Each P xs → P x → Each P (xs ++ x ∷ [])
+each_snoc P [] x e p = (p, tt)
+each_snoc P (y ∷ ys) x e p = (e.0, each_snoc P ys x e.1 p)
+
+kinds_from : (w : World) → All IsFineDecl w.maps → (before steps : List Step) → Each (λ (s : Step). IsOwn w s.object s.op) before → AllByRecursion (CanBeMade w) steps
+    → RepliesFollow (answers w) (before ++ steps) → AllByRecursion (λ (s : Step). IsReplyOf w.maps s.object s.op s.reply) steps
+kinds_from w fine before [] own can h = tt
+kinds_from w fine before (x ∷ xs) own can h =
+    (subst (IsReplyOf w.maps x.object x.op) (sym (h before x xs refl)) (answer_is_of_its_kind w x.object x.op before fine own can.0.own),
+    kinds_from w fine (before ++ x ∷ []) xs (each_snoc (λ (s : Step). IsOwn w s.object s.op) before x own can.0.own) can.1
+      (subst (RepliesFollow (answers w)) (sym (append_assoc before (x ∷ []) xs)) h))
+
+-- each reply that follows is of the kind that its operation has
+pub kinds_follow : (w : World) (steps : List Step) → All IsFineDecl w.maps → AllByRecursion (CanBeMade w) steps → RepliesFollow (answers w) steps
+    → AllByRecursion (λ (s : Step). IsReplyOf w.maps s.object s.op s.reply) steps
+kinds_follow w steps fine can h = kinds_from w fine [] steps tt can h

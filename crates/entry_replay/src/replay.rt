@@ -3,6 +3,7 @@ ghost use Rattle.std.specs.Prelude.{◌≡◌, ◌+◌, ◌<◌, ◌≤◌, ◌^
 ghost use Rattle.std.specs.List.{AllByRecursion};
 ghost use Rattle.bt_core.specs.declared.step.Step.{Step as MadeStep};
 ghost use Rattle.bt_core.specs.Kinds.{IsFineDecl};
+ghost use Rattle.bt_core.specs.Ports.{IsReplyOf};
 ghost use Rattle.bt_core.specs.Steps.{AtEach, RepliesFollow};
 ghost use Rattle.agg_core.specs.Answers.{answer};
 ghost use Rattle.weave.specs.Order.{comes_before};
@@ -108,6 +109,7 @@ fn take_all(alloc: Global, state: &mut Replaying) -> Result<(), Memory>
     ensures world { world_of state.new ≡ world_of state.old }
     ensures told { map blank state.new.entries ≡ map blank state.old.entries }
     ensures within { OnOk result (state.new.at ≤ length state.new.entries) }
+    ensures can { OnOk result (AllByRecursion (CanBeMade (world_of state.new)) (taken state.new)) }
     ensures replies { OnOk result (RepliesFollow (answers (world_of state.new)) (taken state.new)) }
     ensures stamps { OnOk result (AtEach (IsStampedAfter state.new.cpus) (taken state.new)) }
     ensures order { OnOk result (AtEach NotBeforeLast (taken state.new)) }
@@ -148,6 +150,8 @@ pub fn replay(
     requires few_cpus { cpus + 1 < 2 ^ 32 }
     requires can { AllByRecursion (CanBeMade (record { cpus = cpus; ticks = ticks; maps = maps.now })) entries }
     ensures within { IfOk result (λ list. length list ≤ length entries) }
+    ensures can { IfOk result (λ list. AllByRecursion (CanBeMade (record { cpus = cpus; ticks = ticks; maps = maps.now })) list) }
+    ensures kinds { IfOk result (λ list. AllByRecursion (λ (s : MadeStep). IsReplyOf maps.now s.object s.op s.reply) list) }
     ensures told { IfOk result (λ list. map blank list ≡ take (length list) (map blank entries)) }
     ensures replies { IfOk result (λ list. RepliesFollow (answer maps.now cpus) list) }
     ensures stamps { IfOk result (λ list. AtEach (IsStampedAfter cpus) list) }

@@ -16,7 +16,9 @@ use Rattle.begun_lists.specs.Wrong.{IsUnfinished, IsWrongStep, NoneFollows}
 use Rattle.begun_lists.proofs.Cuts.{AtEach-front, take_again}
 use Rattle.begun_lists.proofs.NoFurther.{wrong_step}
 use Rattle.begun_lists.proofs.WholeLists.{replayed}
-use Rattle.entry_replay.specs.Replaying.{IsWrongNext}
+use Rattle.agg_core.specs.Answers.{answer}
+use Rattle.run_objects.specs.Worlds.{World}
+use Rattle.entry_replay.specs.Replaying.{CanBeMade, IsWrongNext}
 use Rattle.step_follower.specs.declared.follow.Reached.{Reached}
 use Rattle.weave_check.specs.Stops.{AllMayStand, AreReached, MayStand}
 use Rattle.weave_check.proofs.AllActors.{wrong_at}
@@ -109,3 +111,57 @@ module _ (p : Replay) (entries made list : List Step) (all_blank : map blank ent
 
     pub is_right : PlansAreOwn p → ((a : ℕ) (d : Reached) → a < length each → IsTrue (slice_index_or each a d).on_list) → IsReplayed p list
     is_right own ons = replayed p own list whole (all_whole_where_on p list each begin cpus reached low stop within stand all ons)
+
+-- ---- as the code finds it
+
+low_alike : (most : ℕ) (xs ys : List Step) → map without_item ys ≡ map without_item xs → AllByRecursion (λ s. s.actor ≤ most) xs → AllByRecursion (λ s. s.actor ≤ most) ys
+low_alike most [] [] e h = tt
+low_alike most [] (y ∷ ys) e h = absurd (let q : ⊥ = cc in q)
+low_alike most (x ∷ xs) [] e h = absurd (let q : ⊥ = cc in q)
+low_alike most (x ∷ xs) (y ∷ ys) e h =
+    let head : without_item y ≡ without_item x = cc in
+    let tail : map without_item ys ≡ map without_item xs = cc in
+    (subst (λ a. a ≤ most) (sym (ap (λ (s : Step). s.actor) head)) h.0, low_alike most xs ys tail h.1)
+
+actors_low : (w : World) (xs : List Step) → AllByRecursion (CanBeMade w) xs → AllByRecursion (λ s. s.actor ≤ w.cpus) xs
+actors_low w [] h = tt
+actors_low w (x ∷ xs) h = (h.0.actor, actors_low w xs h.1)
+
+pub low_by : (w : World) (most : ℕ) (made list : List Step) → w.cpus ≡ most → map without_item list ≡ map without_item made → AllByRecursion (CanBeMade w) made → AllByRecursion (λ s. s.actor ≤ most) list
+low_by w most made list is alike can = low_alike most made list alike (subst (λ n. AllByRecursion (λ (s : Step). s.actor ≤ n) made) is (actors_low w made can))
+
+pub below_by : (list : List Step) (most size : ℕ) → size ≡ most + 1 → AllByRecursion (λ s. s.actor ≤ most) list → AllByRecursion (λ s. s.actor < size) list
+below_by [] most size e h = tt
+below_by (x ∷ xs) most size e h = ((let k = h.0 in omega arith), below_by xs most size e h.1)
+
+module _ (p : Replay) (entries made list : List Step) (n : ℕ) (main : n ≡ cpus_of p) (all_blank : map blank entries ≡ entries) (short : length made ≤ length entries)
+    (told : map blank made ≡ take (length made) (map blank entries)) (alike : map without_item list ≡ map without_item made)
+    (replies : RepliesFollow (answer p.maps n) made) (stamps : AtEach (IsStampedAfter n) made) (order : AtEach NotBeforeLast made)
+    (wrong : (d : Step) → length made < length entries → IsWrongNext n made (slice_index_or entries (length made) d))
+    (each : List Reached) (begin cpus : Reached) (reached : AreReached p list each begin cpus) (low : AllByRecursion (λ s. s.actor ≤ cpus_of p) list)
+    (l : List Step) (is_l : l ≡ list) (e : List Reached) (is_e : e ≡ each)
+    (stop : ℕ) (within : stop ≤ length l) (stand : AllMayStand n e begin cpus stop l)
+    (ends : (d : Step) → stop < length l → MayStand n e begin cpus stop (slice_index_or l stop d) → ⊥) where
+  here : {P : Type 0} → ((replies : RepliesFollow (answers_of p) made) (stamps : AtEach (IsStampedAfter (cpus_of p)) made)
+      (wrong : (d : Step) → length made < length entries → IsWrongNext (cpus_of p) made (slice_index_or entries (length made) d)) (within : stop ≤ length list)
+      (stand : AllMayStand (cpus_of p) each begin cpus stop list)
+      (ends : (d : Step) → stop < length list → MayStand (cpus_of p) each begin cpus stop (slice_index_or list stop d) → ⊥) → P) → P
+  here f = f
+      (subst (λ m. RepliesFollow (answer p.maps m) made) main replies)
+      (subst (λ m. AtEach (IsStampedAfter m) made) main stamps)
+      (λ d lt. subst (λ m. IsWrongNext m made (slice_index_or entries (length made) d)) main (wrong d lt))
+      (subst (λ z. stop ≤ length z) is_l within)
+      (subst (λ (z : (ℕ × List Step) × List Reached). AllMayStand z.0.0 z.1 begin cpus stop z.0.1) (λ i. ((main i, is_l i), is_e i)) stand)
+      (subst (λ (z : (ℕ × List Step) × List Reached). (d : Step) → stop < length z.0.1 → MayStand z.0.0 z.1 begin cpus stop (slice_index_or z.0.1 stop d) → ⊥)
+        (λ i. ((main i, is_l i), is_e i)) ends)
+
+  pub found_wrong : (d : Step) → stop < length entries → IsWrongStep p entries stop
+  found_wrong d lt = here (λ r s w i a o. is_wrong p entries made list all_blank short told alike r s order w each begin cpus reached low stop i a o d lt)
+
+  pub found_unfinished : length entries ≤ stop → (a : ℕ) (d : Reached) → a < length each → (slice_index_or each a d).on_list ≡ false → IsUnfinished p entries
+  found_unfinished every a d lt off = here (λ r s w i st o. is_unfinished p entries made list all_blank short told alike r s order w each begin cpus reached low stop i st o every a d lt off)
+
+  pub found_right : length entries ≤ stop → PlansAreOwn p → ((a : ℕ) (d : Reached) → a < length each → IsTrue (slice_index_or each a d).on_list) → IsReplayed p list × (map blank list ≡ entries)
+  found_right every own ons = here (λ r s w i st o.
+      (is_right p entries made list all_blank short told alike r s order w each begin cpus reached low stop i st o every own ons,
+      all_told p entries made list all_blank short told alike r s order w each begin cpus reached low stop i st o every))

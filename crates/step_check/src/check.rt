@@ -43,3 +43,46 @@ fn are_all_on(each: &[Reached]) -> bool
     }
     true
 }
+
+/// Checks entries that tell the steps of a run: they are made as steps once more, followed for all actors, and found wrong at a place,
+/// unfinished, or to tell the steps that are handed back. The bodies are those of all actors, the last of which is the main one.
+///
+/// [`Memory`] is the one error.
+pub fn check_steps<B: Bodies>(
+    alloc: Global,
+    bodies: &mut [B],
+    recording: &Recording,
+    attached: &Attached,
+    maps: &Items<MapDecl>,
+    exits: bool,
+    entries: Items<Step>,
+) -> Result<Checked, Memory>
+    ghost plans: { ℕ → Plan }
+    requires can { CanFollow recording.now attached.now maps.now plans }
+    requires plans { HavePlans B.plan plans (length recording.now.cpus) bodies.old }
+    requires fine { All IsFineDecl maps.now }
+    requires entries { AllByRecursion (CanBeMade (record { cpus = length recording.now.cpus; ticks = length attached.now.ticks; maps = maps.now })) entries }
+    requires blank { map blank entries ≡ entries }
+    ensures { IfOk result (λ found. IsFound (replay_by recording.now attached.now exits maps.now plans) entries found) }
+{
+    let total = entries.len();
+    let cpus = recording.cpus.len() as u32;
+    let ticks = attached.ticks.len() as u32;
+    let made = replay(alloc, maps, cpus, ticks, entries)?;
+    let trails = follow_all(alloc, bodies, recording, attached, maps, exits, made)?;
+    let stop = first_stop(
+        trails.list.as_slice(),
+        trails.each.as_slice(),
+        trails.begin,
+        trails.cpus,
+        cpus,
+    );
+    if stop < total {
+        return Ok(Checked::Wrong(stop));
+    }
+    if are_all_on(trails.each.as_slice()) {
+        Ok(Checked::Right(trails.list))
+    } else {
+        Ok(Checked::Unfinished)
+    }
+}

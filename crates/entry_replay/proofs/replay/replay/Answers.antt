@@ -4,14 +4,18 @@ use Rattle.std.proofs.Math.ListN.{get_or-map}
 use Rattle.std.specs.List.{AllByRecursion}
 use Rattle.bt_core.specs.declared.map.MapDecl.{MapDecl}
 use Rattle.bt_core.specs.declared.step.Step.{Step}
+use Rattle.std.specs.Prelude.{All}
+use Rattle.bt_core.specs.Kinds.{IsFineDecl}
+use Rattle.bt_core.specs.Ports.{IsReplyOf}
 use Rattle.bt_core.specs.Steps.{on_object, operations}
 use Rattle.bt_core.proofs.StepLists.{AtEach-none}
 use Rattle.agg_core.specs.Answers.{answer}
 use Rattle.blank_steps.specs.Blank.{blank}
 use Rattle.begun_lists.specs.Parts.{IsStampedAfter, NotBeforeLast}
 use Rattle.run_objects.specs.Objects.{Stand}
-use Rattle.entry_replay.specs.Replaying.{CanBeMade, IsWrongNext}
-use Rattle.entry_replay.proofs.ReplayLemmas.{wrong_alike}
+use Rattle.run_objects.specs.Worlds.{World}
+use Rattle.entry_replay.specs.Replaying.{CanBeMade, IsWrongNext, world_of}
+use Rattle.entry_replay.proofs.ReplayLemmas.{kinds_follow, wrong_alike}
 use Rattle.entry_replay.proofs.replay.replay.Goals as goal
 
 pub take_all-requires : goal.take_all-requires
@@ -44,3 +48,10 @@ returns-clause-wrong c = λ d lt.
     let there : IsWrongNext new.cpus (take new.at new.entries) (get_or c.args.entries new.at d) =
     wrong_alike new.cpus (take new.at new.entries) (get_or new.entries new.at d) (get_or c.args.entries new.at d) alike (c.in_ok-take_all.ensures.wrong d (omega arith)) in
     subst (λ (z : (ℕ × List Step) × ℕ). IsWrongNext z.0.0 z.0.1 (get_or c.args.entries z.1 d)) (λ i. ((cpus i, sym c.first_steps.ensures i), sym size i)) there
+
+pub returns-clause-kinds : goal.returns-clause-kinds
+returns-clause-kinds c =
+    let new = c.take_all.new.state in
+    let maps : new.maps.value ≡ c.args.maps.now = ap (λ (w : World). w.maps) c.in_ok-take_all.ensures.world ∙ c.of.ensures in
+    subst (λ (z : List MapDecl × List Step). AllByRecursion (λ (s : Step). IsReplyOf z.0 s.object s.op s.reply) z.1) (λ i. (maps i, sym c.first_steps.ensures i))
+    (kinds_follow (world_of new) (take new.at new.entries) (subst (All IsFineDecl) (sym maps) c.requires.fine) c.in_ok-take_all.ensures.can c.in_ok-take_all.ensures.replies)
