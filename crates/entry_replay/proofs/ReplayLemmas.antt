@@ -90,10 +90,11 @@ each_snoc P (y ∷ ys) x e p = (e.0, each_snoc P ys x e.1 p)
 kinds_from : (w : World) → All IsFineDecl w.maps → (before steps : List Step) → Each (λ (s : Step). IsOwn w s.object s.op) before → AllByRecursion (CanBeMade w) steps
     → RepliesFollow (answers w) (before ++ steps) → AllByRecursion (λ (s : Step). IsReplyOf w.maps s.object s.op s.reply) steps
 kinds_from w fine before [] own can h = tt
-kinds_from w fine before (x ∷ xs) own can h =
-    (subst (IsReplyOf w.maps x.object x.op) (sym (h before x xs refl)) (answer_is_of_its_kind w x.object x.op before fine own can.0.own),
-    kinds_from w fine (before ++ x ∷ []) xs (each_snoc (λ (s : Step). IsOwn w s.object s.op) before x own can.0.own) can.1
-      (subst (RepliesFollow (answers w)) (sym (append_assoc before (x ∷ []) xs)) h))
+kinds_from w fine before (x ∷ xs) own can h = (
+  subst (IsReplyOf w.maps x.object x.op) (sym (h before x xs refl)) (answer_is_of_its_kind w x.object x.op before fine own can.0.own),
+  kinds_from w fine (before ++ x ∷ []) xs (each_snoc (λ (s : Step). IsOwn w s.object s.op) before x own can.0.own) can.1
+      (subst (RepliesFollow (answers w)) (sym (append_assoc before (x ∷ []) xs)) h),
+)
 
 -- each reply that follows is of the kind that its operation has
 pub kinds_follow : (w : World) (steps : List Step) → All IsFineDecl w.maps → AllByRecursion (CanBeMade w) steps → RepliesFollow (answers w) steps

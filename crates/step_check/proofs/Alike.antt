@@ -75,7 +75,7 @@ module _ (xs ys : List Step) (e : map without_item xs ≡ map without_item ys) w
       ap (λ (z : Step). z.reply) (sym r.steps) ∙ h r.front r.step r.back r.cut
       ∙ ap (λ o. answer maps cpus o (operations (on_object o r.front)) r.step.op) (ap (λ (z : Step). z.object) r.steps)
       ∙ replies_alike maps cpus s.object (operations (on_object s.object r.front)) (operations (on_object s.object before)) r.step.op s.op (operations_alike s.object r.front before r.fronts)
-        (ap (λ (z : Step). z.op) r.steps)
+      (ap (λ (z : Step). z.op) r.steps)
 
   pub stamps_too : (main : ℕ) → AtEach (IsStampedAfter main) xs → AtEach (IsStampedAfter main) ys
   stamps_too main h before s after q =

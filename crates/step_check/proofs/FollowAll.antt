@@ -77,17 +77,18 @@ module _ (plans : ℕ → Plan) (exits : Bool) (r : Recording) (attached : Attac
       → IsFollowed (actor_program (plans n) exits r attached) n new reached.at reached.on_list → AreFollowed new (each ++ reached ∷ []) (n + 1)
   followed_more old new each n reached size same so one a d lt = dite (ℕ_discrete a n)
       (λ e. subst (λ (z : ℕ × Reached). IsFollowed (actor_program (plans z.0) exits r attached) z.0 new z.1.at z.1.on_list)
-        (λ i. (sym e i, sym (ap (λ k. slice_index_or (each ++ reached ∷ []) k d) (e ∙ sym size) ∙ get_or-append_seam each reached [] d) i)) one)
+      (λ i. (sym e i, sym (ap (λ k. slice_index_or (each ++ reached ∷ []) k d) (e ∙ sym size) ∙ get_or-append_seam each reached [] d) i)) one)
       (λ ne. subst (λ (z : Reached). IsFollowed (actor_program (plans a) exits r attached) a new z.at z.on_list)
-        (sym (get_or-append each (reached ∷ []) d a (omega arith)))
-        (followed_kept n a ne old new same (actor_program (plans a) exits r attached) (slice_index_or each a d).at (slice_index_or each a d).on_list (so a d (omega arith))))
+      (sym (get_or-append each (reached ∷ []) d a (omega arith)))
+      (followed_kept n a ne old new same (actor_program (plans a) exits r attached) (slice_index_or each a d).at (slice_index_or each a d).on_list (so a d (omega arith))))
 
 -- ---- all actors
 
 passed_too : (each : List Reached) (whole : Reached) (place : ℕ) → ArePassed (length each) each place ↔ ArePassed (length each) (each ++ whole ∷ []) place
-passed_too each whole place =
-    ((λ passed a d lt. subst (λ z. IsPassed z place) (sym (get_or-append each (whole ∷ []) d a lt)) (passed a d lt)),
-    λ passed a d lt. subst (λ z. IsPassed z place) (get_or-append each (whole ∷ []) d a lt) (passed a d lt))
+passed_too each whole place = (
+  (λ passed a d lt. subst (λ z. IsPassed z place) (sym (get_or-append each (whole ∷ []) d a lt)) (passed a d lt)),
+  λ passed a d lt. subst (λ z. IsPassed z place) (get_or-append each (whole ∷ []) d a lt) (passed a d lt),
+)
 
 pub all_reached : (p : Replay) (list : List Step) (each : List Reached) (whole begin cpus : Reached) → length each ≡ cpus_of p
     → AreFollowed p.plan p.exits p.recording p.attached list (each ++ whole ∷ []) (cpus_of p + 1) → IsFollowed (begin_of p) (cpus_of p) list begin.at begin.on_list

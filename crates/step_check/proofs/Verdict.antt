@@ -79,8 +79,8 @@ module _ (p : Replay) (entries made list : List Step) (all_blank : map blank ent
     wrong_end : IsBegun p list → IsWrongStep p entries (length made)
     wrong_end whole =
         let cut : map blank list ++ blank next ∷ drop (suc (length made)) entries ≡ entries =
-            (λ i. list_told i ++ blank_next i ∷ drop (suc (length made)) entries)
-            ∙ ap (λ l. take (length made) entries ++ l) (sym (drop-cons entries (length made) d more)) ∙ take-append-drop (length made) entries in
+        (λ i. list_told i ++ blank_next i ∷ drop (suc (length made)) entries)
+        ∙ ap (λ l. take (length made) entries ++ l) (sym (drop-cons entries (length made) d more)) ∙ take-append-drop (length made) entries in
         subst (λ (z : List Step × ℕ). IsWrongStep p z.0 z.1) (λ i. (cut i, size i)) (wrong_step p list next (drop (suc (length made)) entries) whole none)
 
   pub is_wrong : (d : Step) → stop < length entries → IsWrongStep p entries stop
@@ -153,7 +153,7 @@ module _ (p : Replay) (entries made list : List Step) (n : ℕ) (main : n ≡ cp
       (subst (λ z. stop ≤ length z) is_l within)
       (subst (λ (z : (ℕ × List Step) × List Reached). AllMayStand z.0.0 z.1 begin cpus stop z.0.1) (λ i. ((main i, is_l i), is_e i)) stand)
       (subst (λ (z : (ℕ × List Step) × List Reached). (d : Step) → stop < length z.0.1 → MayStand z.0.0 z.1 begin cpus stop (slice_index_or z.0.1 stop d) → ⊥)
-        (λ i. ((main i, is_l i), is_e i)) ends)
+      (λ i. ((main i, is_l i), is_e i)) ends)
 
   pub found_wrong : (d : Step) → stop < length entries → IsWrongStep p entries stop
   found_wrong d lt = here (λ r s w i a o. is_wrong p entries made list all_blank short told alike r s order w each begin cpus reached low stop i a o d lt)
@@ -162,6 +162,7 @@ module _ (p : Replay) (entries made list : List Step) (n : ℕ) (main : n ≡ cp
   found_unfinished every a d lt off = here (λ r s w i st o. is_unfinished p entries made list all_blank short told alike r s order w each begin cpus reached low stop i st o every a d lt off)
 
   pub found_right : length entries ≤ stop → PlansAreOwn p → ((a : ℕ) (d : Reached) → a < length each → IsTrue (slice_index_or each a d).on_list) → IsReplayed p list × (map blank list ≡ entries)
-  found_right every own ons = here (λ r s w i st o.
-      (is_right p entries made list all_blank short told alike r s order w each begin cpus reached low stop i st o every own ons,
-      all_told p entries made list all_blank short told alike r s order w each begin cpus reached low stop i st o every))
+  found_right every own ons = here (λ r s w i st o. (
+    is_right p entries made list all_blank short told alike r s order w each begin cpus reached low stop i st o every own ons,
+    all_told p entries made list all_blank short told alike r s order w each begin cpus reached low stop i st o every,
+  ))

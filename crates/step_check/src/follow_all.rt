@@ -48,7 +48,7 @@ pub fn follow_cpus<B: Bodies>(
     ensures count { IfOk result (λ trails. length trails.each.items ≡ length recording.now.cpus) }
     ensures followed { IfOk result (λ trails. (cpu : ℕ) (d : Reach) → cpu < length recording.now.cpus →
         IsFollowed (actor_program (plans cpu) exits recording.now attached.now) cpu trails.list
-            (slice_index_or trails.each.items cpu d).at (slice_index_or trails.each.items cpu d).on_list) }
+        (slice_index_or trails.each.items cpu d).at (slice_index_or trails.each.items cpu d).on_list) }
     ensures alike { IfOk result (λ trails. map without_item trails.list ≡ map without_item list) }
     ensures replies { IfOk result (λ trails. HaveOwnReplies maps.now trails.list) }
     ensures plans_kept { IfOk result (λ trails. HavePlans B.plan plans (length recording.now.cpus) bodies.new) }
@@ -106,8 +106,9 @@ pub fn follow_all<B: Bodies>(
         trails.list trails.each.items trails.begin trails.cpus) }
     ensures alike { IfOk result (λ trails. map without_item trails.list ≡ map without_item list) }
 {
-    let CpuTrails { list, each } =
-        follow_cpus(alloc, bodies, recording, attached, maps, exits, list)?;
+    let CpuTrails { list, each } = follow_cpus(
+        alloc, bodies, recording, attached, maps, exits, list,
+    )?;
     let cpus = reached_by_all(each.as_slice());
     let main = recording.cpus.len() as u32;
     let MainTrail { list, begin, whole } = follow_main(

@@ -41,8 +41,9 @@ module _ (a : ℕ) (maps : List MapDecl) (by : ℕ → Type 0) where
   replies_kept (x ∷ xs) (y ∷ ys) e h =
       let head : blank_of a y ≡ blank_of a x = cc in
       let tail : map (blank_of a) ys ≡ map (blank_of a) xs = cc in
-      let same : without_item x ≡ without_item y = sym (without_twice a x) ∙ ap without_item (sym head) ∙ without_twice a y in
-      (λ own. subst (IsReplyOf maps y.object y.op) (ap (λ (s : Step). s.reply) same)
-        (reply_alike maps x.reply x.object y.object x.op y.op (ap (λ (s : Step). s.object) same) (ap (λ (s : Step). s.op) same)
-          (h.0 (subst by (ap (λ (s : Step). s.actor) (sym same)) own))),
-      replies_kept xs ys tail h.1)
+      let same : without_item x ≡ without_item y = sym (without_twice a x) ∙ ap without_item (sym head) ∙ without_twice a y in (
+        λ own. subst (IsReplyOf maps y.object y.op) (ap (λ (s : Step). s.reply) same)
+            (reply_alike maps x.reply x.object y.object x.op y.op (ap (λ (s : Step). s.object) same) (ap (λ (s : Step). s.op) same)
+            (h.0 (subst by (ap (λ (s : Step). s.actor) (sym same)) own))),
+        replies_kept xs ys tail h.1,
+      )

@@ -21,15 +21,15 @@ returns-clause-reached g c =
     let own : g.B.Bodies.plan (get_or c.follow_cpus.new.bodies m c.index-bodies-main.result) ≡ g.plans m = kept.each m c.index-bodies-main.result low in
     let pushed : c.push.new.self.items ≡ f.each.items ++ t.whole ∷ [] = search rules in
     let followed : AreFollowed g.plans c.args.exits r at t.list (f.each.items ++ t.whole ∷ []) (m + 1) =
-        followed_more g.plans c.args.exits r at f.list t.list f.each.items m t.whole (c.in_ok-list.ensures.count ∙ sym main) c.in_ok-list-2.ensures.list
-        (λ a d lt. c.in_ok-list.ensures.followed a d (omega arith))
-        (subst (λ (plan : Plan). IsFollowed (actor_program plan c.args.exits r at) m t.list t.whole.at t.whole.on_list) own c.in_ok-list-2.ensures.whole) in
+    followed_more g.plans c.args.exits r at f.list t.list f.each.items m t.whole (c.in_ok-list.ensures.count ∙ sym main) c.in_ok-list-2.ensures.list
+    (λ a d lt. c.in_ok-list.ensures.followed a d (omega arith))
+    (subst (λ (plan : Plan). IsFollowed (actor_program plan c.args.exits r at) m t.list t.whole.at t.whole.on_list) own c.in_ok-list-2.ensures.whole) in
     let begun : IsFollowed (begin_program (g.plans (length r.cpus)) r at) (length r.cpus) t.list t.begin.at t.begin.on_list =
-        subst (λ (z : Plan × ℕ). IsFollowed (begin_program z.0 r at) z.1 t.list t.begin.at t.begin.on_list) (λ i. ((own ∙ ap g.plans main) i, main i)) c.in_ok-list-2.ensures.begin in
+    subst (λ (z : Plan × ℕ). IsFollowed (begin_program z.0 r at) z.1 t.list t.begin.at t.begin.on_list) (λ i. ((own ∙ ap g.plans main) i, main i)) c.in_ok-list-2.ensures.begin in
     subst (λ (l : List Reached). AreReached (replay_by r at c.args.exits c.args.maps.now g.plans) t.list l t.begin c.reached_by_all-cpus.result) (sym pushed)
     (all_reached (replay_by r at c.args.exits c.args.maps.now g.plans) t.list f.each.items t.whole t.begin c.reached_by_all-cpus.result c.in_ok-list.ensures.count
-      (subst (λ (n : ℕ). AreFollowed g.plans c.args.exits r at t.list (f.each.items ++ t.whole ∷ []) (n + 1)) main followed) begun
-      (λ place. subst (λ (l : List Reached). IsPassed c.reached_by_all-cpus.result place ↔ ArePassed (length l) l place) c.as_slice.ensures.value (c.reached_by_all-cpus.ensures place)))
+    (subst (λ (n : ℕ). AreFollowed g.plans c.args.exits r at t.list (f.each.items ++ t.whole ∷ []) (n + 1)) main followed) begun
+    (λ place. subst (λ (l : List Reached). IsPassed c.reached_by_all-cpus.result place ↔ ArePassed (length l) l place) c.as_slice.ensures.value (c.reached_by_all-cpus.ensures place)))
 
 pub returns-clause-alike : goal.returns-clause-alike
 returns-clause-alike g c =

@@ -21,7 +21,7 @@ loop-cpu-preserved g c =
       count = ap length pushed ∙ length-append l.each.items (t.reached ∷ []) ∙ (let n = inv.count in omega arith);
       followed = subst (λ (z : List Reached). AreFollowed g.plans c.args.exits r c.args.attached.now t.list z (l.cpu + 1)) (sym pushed)
           (followed_more g.plans c.args.exits r c.args.attached.now l.list t.list l.each.items l.cpu t.reached inv.count c.in_ok-trail.ensures.list inv.followed
-            (subst (λ (plan : Plan). IsFollowed (actor_program plan c.args.exits r c.args.attached.now) l.cpu t.list t.reached.at t.reached.on_list) own c.in_ok-trail.ensures.followed));
+          (subst (λ (plan : Plan). IsFollowed (actor_program plan c.args.exits r c.args.attached.now) l.cpu t.list t.reached.at t.reached.on_list) own c.in_ok-trail.ensures.followed));
       alike = same_but_items l.cpu t.list l.list c.in_ok-trail.ensures.list ∙ inv.alike;
       replies = replies_stay c.args.maps.now l.cpu l.list t.list c.in_ok-trail.ensures.list inv.replies;
     }
