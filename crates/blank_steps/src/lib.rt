@@ -1,2 +1,4 @@
-//! Steps without what they emit and without their replies: what an account tells of them.
+//! What an account tells of steps: all but their replies and items.
 #![tactic(auto)]
+
+pub mod blank;

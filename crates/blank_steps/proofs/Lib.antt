@@ -1,0 +1,3 @@
+pub mod BlankLists
+pub mod Computations
+pub mod OthersItems

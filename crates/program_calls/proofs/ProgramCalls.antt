@@ -1,0 +1,50 @@
+-- The programs of a script's actors make no other calls.
+use Rattle.std.proofs.Common.{◌+◌, ℕ, List, length}
+use Rattle.std.specs.Prelude.{slice_get, Option, Some, None}
+use Rattle.bt_ast.specs.declared.attached.Attached.{Attached}
+use Rattle.bt_core.specs.declared.context.Context.{Context}
+use Rattle.bt_core.specs.declared.map.MapDecl.{MapDecl}
+use Rattle.bt_core.specs.declared.step.ObjectId.{ObjectId}
+use Rattle.bt_core.specs.declared.step.ObjectId.TheVariants.{Shared, Cpu, Clock, Out}
+use Rattle.bt_core.specs.declared.step.Op.{Op}
+use Rattle.bt_core.specs.declared.step.Op.TheVariants.{Cross, Check}
+use Rattle.bt_core.specs.Interaction.{Interaction, Ended, Asks}
+use Rattle.rec_format.specs.declared.recording.Recording.{Recording}
+use Rattle.typed_tree.specs.declared.body.TypedBody.{TypedBody}
+use Rattle.typed_tree.specs.declared.script.Typed.{Typed}
+use Rattle.walk_meaning.specs.Walk.{walk}
+use Rattle.actor_plan.specs.Plans.{AsksOf}
+use Rattle.actor_plan.proofs.AskLaws.{program_asks}
+use Rattle.bt_meaning.specs.Jobs.{IsJob}
+use Rattle.bt_meaning.specs.Walks.{walked, walking, replay_of}
+use Rattle.begun_lists.specs.Begun.{program_of}
+use Rattle.walk_calls.specs.Calls.{IsWalkCall, OnlyCalls}
+use Rattle.walk_calls.proofs.WalkCalls.{only-then, walk_calls}
+use Rattle.program_calls.specs.Calls.{IsProgramCall}
+
+-- a call of a walk is one of a program
+of_walk : (actor : ℕ) (object : ObjectId) (op : Op) → IsWalkCall actor object op → IsProgramCall actor object op
+of_walk actor Clock (Cross tick) h = tt
+of_walk actor Clock Check h = tt
+of_walk actor (Shared m p) op h = h
+of_walk actor (Cpu a) op h = h
+of_walk actor Out op h = h
+of_walk actor Clock op h = h
+
+asks : {A : Type 0} (actor : ℕ) (maps : List MapDecl) (t : Interaction A) → OnlyCalls (IsWalkCall actor) t → AsksOf (IsProgramCall actor) maps t
+asks actor maps (Ended a) h = tt
+asks actor maps (Asks c f) h = (of_walk actor c.object c.op h.0, λ r kind. asks actor maps (f r) (h.1 r))
+
+walked_calls : (o : Option TypedBody) (context : Context) (payload : List ℕ) (actor actors : ℕ) → OnlyCalls (IsWalkCall actor) (walked o context payload actor actors)
+walked_calls None context payload actor actors = tt
+walked_calls (Some body) context payload actor actors =
+    only-then (IsWalkCall actor) (walk body context payload actor actors) (λ ending. Ended 0) (walk_calls body context payload actor actors) (λ ending. tt)
+
+-- whatever is replied in its kind
+pub programs_call : (script : Typed) (attached : Attached) (r : Recording) → IsJob script attached r → (actor : ℕ)
+    → AsksOf (IsProgramCall actor) script.maps (program_of (replay_of script attached r) actor)
+programs_call script attached r job actor =
+    program_asks (IsProgramCall actor) script.maps (walking script (length r.cpus + 1) actor) r attached job.valid (job.bodies actor) tt (λ tick lt. tt) (λ number count. tt)
+    (λ body context payload can. asks actor script.maps (walked (slice_get script.bodies body) context payload actor (length r.cpus + 1))
+    (walked_calls (slice_get script.bodies body) context payload actor (length r.cpus + 1)))
+    script.uses_exit

@@ -1,0 +1,13 @@
+-- What calls the programs of a script's actors make.
+use Rattle.std.specs.Prelude.{ℕ, ⊤}
+use Rattle.bt_core.specs.declared.step.ObjectId.{ObjectId}
+use Rattle.bt_core.specs.declared.step.ObjectId.TheVariants.{Clock}
+use Rattle.bt_core.specs.declared.step.Op.{Op}
+use Rattle.bt_core.specs.declared.step.Op.TheVariants.{Cross, Check}
+use Rattle.walk_calls.specs.Calls.{IsWalkCall}
+
+-- those of walks; and the clock is asked whether to go on, and who is the last to cross a tick
+abbrev pub IsProgramCall : ℕ → ObjectId → Op → Type 0
+IsProgramCall actor Clock (Cross tick) = ⊤
+IsProgramCall actor Clock Check = ⊤
+IsProgramCall actor object op = IsWalkCall actor object op

@@ -1,0 +1,4 @@
+pub mod FollowLemmas
+pub mod FollowedLaws
+pub mod Joining
+pub mod Others

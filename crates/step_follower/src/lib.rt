@@ -1,0 +1,4 @@
+//! A port that follows a written list of steps for one actor.
+#![tactic(auto)]
+
+pub mod follow;

@@ -1,0 +1,4 @@
+//! What calls the walks of bodies make.
+#![tactic(auto)]
+
+pub mod laws;
