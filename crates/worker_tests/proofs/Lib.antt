@@ -1,0 +1,5 @@
+pub mod Closing
+pub mod Listed
+pub mod Ready
+pub mod Scripts
+pub mod Turning
