@@ -127,8 +127,7 @@ fn op(alloc: Global, row: u32) -> Result<Op, Memory> {
 fn spelled(alloc: Global, row: u32, text: &[u8]) -> Result<Vec<u8>, Memory> {
     let mut bytes = Vec::from_slice(alloc, b"BACCT001\x01\0\0\0\0\0\0\0")?;
     bytes.extend_from_slice(entry(row))?;
-    bytes.push(text.len() as u8)?;
-    bytes.extend_from_slice(b"\0\0\0\0\0\0\0")?;
+    bytes.extend_from_slice(&(text.len() as u64).to_le_bytes())?;
     bytes.extend_from_slice(text)?;
     Ok(bytes)
 }
