@@ -33,7 +33,8 @@ use Rattle.expr_types.specs.declared.known.Known.{Known}
 use Rattle.expr_types.specs.declared.known.Printed.{Printed as Call}
 use Rattle.expr_types.specs.declared.known.Var.{Var}
 use Rattle.expr_types.specs.Known.{decl_in, event_field}
-use Rattle.bt_types.specs.Open.{IsOpen, Closes, again, map_at, maps_at, format_at, formats_at}
+use Rattle.bt_types.specs.Listed.{map_at, maps_at, format_at, formats_at}
+use Rattle.bt_types.specs.Open.{IsOpen, Closes, again}
 use Rattle.bt_types.specs.Script.{decl_or_none, maps_of}
 use Rattle.expr_types.specs.Typing.{IsDeclared, IsNamed, IsMapOf, IsCallOf, Fits, AllFit}
 use Rattle.typed_tree.proofs.Same.{both_hold}

@@ -101,7 +101,7 @@ gather_told m kind number word =
 -- `printf`: the arguments, and then the format
 abbrev pub printf_told : List ℕ → Place → List Seen → Told
 printf_told format place values =
-    next (says (PrintfWord format)) (next (values_told values) (next (says EndWord) (asks place (Prints format place (map (λ v. v.sort) values)))))
+    next (says (PrintfWord format place)) (next (values_told values) (next (says EndWord) (asks place (Prints format place (map (λ v. v.sort) values)))))
 
 -- a map as a whole
 abbrev pub used : MapSeen → List Point
