@@ -1,5 +1,5 @@
 -- The names of maps, the variables and the calls of `printf` that are known are apart: each is found by its own key.
-use Rattle.std.proofs.Common.{◌≡◌, ◌++◌, ◌+◌, ◌==◌, ◌&&◌, ◌||◌, ℕ, Bool, true, false, cond, List, [], ◌∷◌, Option, Some, None, Result, Ok, refl, sym, ap, subst}
+use Rattle.std.proofs.Common.{◌≡◌, ◌++◌, ◌+◌, ◌==◌, ◌||◌, ℕ, Bool, true, false, cond, List, [], ◌∷◌, Option, Some, None, Result, Ok, refl, ap, subst}
 use Rattle.std.specs.Prelude.{if◌then◌else◌}
 use Rattle.std.specs.List.{list_any}
 use Rattle.std.specs.Str.{bytes_eq}
@@ -15,7 +15,7 @@ use Rattle.expr_types.specs.declared.known.Known.{Known}
 use Rattle.expr_types.specs.declared.known.Printed.{Printed as Call}
 use Rattle.expr_types.specs.declared.known.Var.{Var}
 use Rattle.expr_types.specs.Judge.{unless_broken, judged}
-use Rattle.expr_types.specs.Known.{has_name, place_of, decl_in, var_in, is_call, has_call, call_at, printed, shapes_in, kind_for, add_name, add_number, with_name, with_mention, decide_after, set_after, with_var, add_call, called, with_call, decides, learn}
+use Rattle.expr_types.specs.Known.{has_name, place_of, decl_in, var_in, is_call, has_call, call_at, printed, shapes_in, kind_for, add_name, add_number, with_name, with_mention, decide_after, set_after, with_var, add_call, with_call, decides, learn}
 use Rattle.expr_types.specs.Mentions.{Mention, Begins, Names, Uses, Reads, Steps, Sets, Gathers, NeedsShared, Deletes, ReadsVar, SetsVar, Args, ReadsField, Point}
 use Rattle.expr_types.specs.Mentions.{NeedsWhole, NeedsSame, NeedsShort, NeedsBounds, NeedsTurns, NeedsRows, Prints, Jumps}
 use Rattle.expr_types.specs.Rules.{broken_at}

@@ -2,14 +2,13 @@
 use Rattle.std.proofs.Common.{◌≡◌, ◌++◌, ℕ, suc, Bool, true, false, List, [], ◌∷◌, length, map, refl, sym, ap, ◌∙◌, subst}
 use Rattle.bt_core.specs.declared.map.Shape.{Shape}
 use Rattle.bt_core.specs.declared.map.Shape.TheVariants.{Int, Str}
-use Rattle.bt_core.specs.declared.operator.BinOp.{BinOp}
 use Rattle.typed_tree.specs.declared.expr.AnyExpr.{AnyExpr, roll-AnyExpr, map-AnyExpr, fold-roll-AnyExpr, ind-AnyExpr}
 use Rattle.typed_tree.specs.declared.expr.AnyExpr.TheOpen.{NumExpr-F, StrExpr-F, AnyExpr-F}
 use Rattle.typed_tree.specs.declared.expr.NumExpr.{NumExpr, roll-NumExpr, map-NumExpr, fold-roll-NumExpr, ind-NumExpr}
 use Rattle.typed_tree.specs.declared.expr.StrExpr.{StrExpr, roll-StrExpr, map-StrExpr, fold-roll-StrExpr}
 use Rattle.typed_tree.specs.Parts as tree
 use Rattle.typed_tree.specs.Parts.{Made, Part, made_of, num_parts, str_parts, parts_in, key_shapes, keyed_parts, compared, AggOf, Stepped, Prefixed, Joined, Both, Either, Chosen}
-use Rattle.typing_laws.proofs.Reader.{Value, Num, Text, Item, Held, Slot, Cell, Stack, num, push, value, num_in, str_in, any_in, num_of, any_of, map_of, keys_in, past_keys, stepped, joined_by, is_equal, chosen, step, run, run-append, run_two, Pushes, PushesAny, PushesAll, all_pushed, keys_found, behind_keys}
+use Rattle.typing_laws.proofs.Reader.{Value, Num, Text, Item, Held, Slot, Cell, Stack, num, push, value, num_in, any_in, num_of, any_of, map_of, past_keys, joined_by, is_equal, chosen, step, run, run-append, run_two, Pushes, PushesAny, PushesAll, all_pushed, keys_found, behind_keys}
 
 abbrev pub AnyReads : AnyExpr → Type 0
 AnyReads a = (st : Stack) → PushesAny (made_of a).parts st a

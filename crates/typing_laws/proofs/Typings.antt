@@ -1,5 +1,5 @@
 -- Trees that are typed under the same are one, and so are typed scripts over the same formats.
-use Rattle.std.proofs.Common.{◌≡◌, ◌++◌, ℕ, false, List, [], ◌∷◌, map, Option, Some, None, Result, Ok, Err, refl, sym, ap, subst, ◌∙◌}
+use Rattle.std.proofs.Common.{◌≡◌, ◌++◌, false, List, [], ◌∷◌, map, Option, Some, None, Result, Ok, Err, refl, sym, ap, subst, ◌∙◌}
 use Rattle.std.specs.Prelude.{IsTrue}
 use Rattle.std.specs.List.{list_all}
 use Rattle.std.proofs.Props.{props}
@@ -25,11 +25,11 @@ use Rattle.expr_types.specs.Judge.{judged}
 use Rattle.expr_types.specs.Mentions.{Word, Point}
 use Rattle.expr_types.specs.Typing.{AllFit, titles_of, words_by}
 use Rattle.bt_types.specs.Bodies.{nothing, told_at}
-use Rattle.bt_types.specs.Listed.{IsListed, maps_at, formats_at}
+use Rattle.bt_types.specs.Listed.{IsListed}
 use Rattle.bt_types.specs.Script.{AreTypedBodies, IsTypedScript, maps_of}
 use Rattle.bt_types.specs.Under.{IsUnder, AreBehind, AreUnder, known_or, known_behind}
 use Rattle.typing_laws.proofs.Apart.{AreApart, judged_apart}
-use Rattle.typing_laws.proofs.Reader.{Stack, Guarded, block_of, fresh, guarded, read_body}
+use Rattle.typing_laws.proofs.Reader.{Stack, block_of, fresh, guarded, read_body}
 use Rattle.typing_laws.proofs.Stmts.{tree_reads}
 use Rattle.typing_laws.proofs.Words.{parts_by, words_read}
 

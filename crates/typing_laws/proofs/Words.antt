@@ -1,7 +1,5 @@
 -- The parts of a tree are told by its words and what is known.
-use Rattle.std.proofs.Common.{◌≡◌, ◌++◌, ◌+◌, ℕ, Bool, true, false, List, [], ◌∷◌, length, map, Option, Some, None, unwrap_or, slice_get, refl, sym, ap, ◌∙◌}
-use Rattle.bt_ast.specs.declared.expr.Builtin.{Builtin}
-use Rattle.bt_ast.specs.declared.expr.Builtin.TheVariants as script
+use Rattle.std.proofs.Common.{◌≡◌, ℕ, Bool, true, false, List, [], ◌∷◌, map, Option, Some, None, unwrap_or, slice_get, refl, sym, ap, ◌∙◌}
 use Rattle.bt_core.specs.declared.map.MapDecl.{MapDecl}
 use Rattle.bt_core.specs.declared.map.MapKind.{MapKind}
 use Rattle.bt_core.specs.declared.map.MapKind.TheVariants.{Ints, Strs, Aggs}
@@ -10,17 +8,18 @@ use Rattle.bt_core.specs.declared.map.Shape.TheVariants.{Int, Str}
 use Rattle.bt_core.specs.declared.place.Place.{Place}
 use Rattle.tracefs_format.specs.declared.field.Field.{Field}
 use Rattle.typed_tree.specs.declared.expr.NumBuiltin.{NumBuiltin}
-use Rattle.typed_tree.specs.declared.expr.NumBuiltin.TheVariants.{Pid, Tid, Uid, Gid, Cpu, Nsecs, Elapsed}
+use Rattle.typed_tree.specs.declared.expr.NumBuiltin.TheVariants.{Pid}
 use Rattle.typed_tree.specs.Parts.{Part, Constant, Literal, Numeric, Command, FieldOf, VarOf, MapOf, AggOf, Stepped, Prefixed, Joined, Both, Either, Chosen}
 use Rattle.typed_tree.specs.Parts.{Assigned, Gathered, Deleted, Printed, Shown, Cleared, Zeroed, Jumped, Looped, Unrolled, Arm, Otherwise, NoOtherwise, Ending}
 use Rattle.typed_tree.specs.Scope.{shape_of_field, kind_of_shape, is_count, is_summed_kind, same_bool}
 use Rattle.expr_types.specs.declared.known.Known.{Known}
 use Rattle.expr_types.specs.declared.known.Printed.{Printed as Call}
 use Rattle.expr_types.specs.declared.known.Var.{Var}
+use Rattle.expr_types.specs.Join.{builtin_made}
 use Rattle.expr_types.specs.Known.{decl_in, place_of, call_at, event_field}
 use Rattle.expr_types.specs.Mentions.{Word, NumberWord, TextWord, BuiltinWord, FieldWord, VarWord, MapWord, StepWord, UnaryWord, BinaryWord, AndWord, OrWord, ChooseWord}
 use Rattle.expr_types.specs.Mentions.{AssignWord, GatherWord, DeleteWord, PrintfWord, ShowWord, ClearWord, ZeroWord, JumpWord, WhileWord, UnrollWord, ArmWord, ElseWord, NoElseWord, EndWord}
-use Rattle.expr_types.specs.Typing.{IsNamed, IsDeclared, IsMapOf, Fits, AllFit, titles_of, title, word_of, words_by}
+use Rattle.expr_types.specs.Typing.{IsNamed, IsMapOf, Fits, AllFit, titles_of, title, word_of, words_by}
 use Rattle.expr_types.proofs.Later.{get_mapped, title_is, format_is}
 use Rattle.typing_laws.proofs.Apart.{AreApart, var_named, place_first, call_first}
 use Rattle.typing_laws.proofs.Finding.{first_at}
@@ -28,15 +27,9 @@ use Rattle.typing_laws.proofs.Reader.{Stack, step, run}
 
 -- ---- the part that a word stands for, as far as a reader of parts asks
 
-abbrev pub builtin_part : Builtin → Part
-builtin_part script.Comm = Command
-builtin_part script.Pid = Numeric Pid
-builtin_part script.Tid = Numeric Tid
-builtin_part script.Uid = Numeric Uid
-builtin_part script.Gid = Numeric Gid
-builtin_part script.Cpu = Numeric Cpu
-builtin_part script.Nsecs = Numeric Nsecs
-builtin_part script.Elapsed = Numeric Elapsed
+abbrev pub first_part : List Part → Part
+first_part [] = Ending
+first_part (p ∷ ps) = p
 
 abbrev pub field_part : Option Field → Part
 field_part None = Ending
@@ -66,7 +59,7 @@ keys_of (Some decl) = decl.key_shape
 abbrev pub part_by : Known → Word → Part
 part_by k (NumberWord number) = Constant number
 part_by k (TextWord text) = Literal text
-part_by k (BuiltinWord builtin) = builtin_part builtin
+part_by k (BuiltinWord builtin) = first_part (builtin_made builtin).parts
 part_by k (FieldWord name) = field_part (event_field k.event name)
 part_by k (VarWord name) = var_part (var_number name k.vars) (slice_get k.vars (var_number name k.vars))
 part_by k (MapWord name parts) = map_part (place_of name k.names) (decl_in name k.decided)
@@ -100,12 +93,7 @@ same false false e = refl
 
 numeric : (b : NumBuiltin) (k : Known) → part_by k (word_of (titles_of k) (Numeric b)) ≡ Numeric b
 numeric Pid k = refl
-numeric Tid k = refl
-numeric Uid k = refl
-numeric Gid k = refl
-numeric Cpu k = refl
-numeric Nsecs k = refl
-numeric Elapsed k = refl
+numeric b k = refl
 
 shape_part : (number : ℕ) (keys : List Shape) (shape : Shape) → kind_part number keys (kind_of_shape shape) ≡ MapOf number keys shape
 shape_part number keys Int = refl
