@@ -1,5 +1,5 @@
 -- From checked bodies to a typed script.
-use Rattle.std.proofs.Common.{◌≡◌, ◌++◌, ◌==◌, ℕ, Bool, true, false, List, [], ◌∷◌, map, Option, Some, None, Result, Ok, Err, IsErrAnd, IfErr, slice_get, All, refl, sym, ap, subst, ◌∙◌}
+use Rattle.std.proofs.Common.{◌≡◌, ◌++◌, ℕ, List, [], ◌∷◌, map, Option, Some, None, Result, Ok, Err, IsErrAnd, IfErr, slice_get, All, refl, sym, ap, subst, ◌∙◌}
 use Rattle.std.specs.List.{AllByRecursion, AllZip, cons_option}
 use Rattle.std.specs.Option.{option_map}
 use Rattle.std.proofs.lemmas.List.Elements.{All-from_recursion}
@@ -19,16 +19,14 @@ use Rattle.expr_types.specs.declared.fault.Fault.{Fault}
 use Rattle.expr_types.specs.declared.fault.TypeError.{TypeError}
 use Rattle.expr_types.specs.declared.fault.TypeError.TheVariants.{Broken}
 use Rattle.expr_types.specs.declared.known.Known.{Known}
-use Rattle.expr_types.specs.declared.known.Printed.{Printed as Call}
 use Rattle.expr_types.specs.declared.known.Var.{Var}
-use Rattle.bt_types.specs.Bodies.{body_told, script_told, nothing, fault_of, type_fault}
+use Rattle.bt_types.specs.Bodies.{script_told, nothing, fault_of, type_fault}
 use Rattle.expr_types.specs.Judge.{judged, SaysFault}
-use Rattle.expr_types.specs.Mentions.{Word}
-use Rattle.bt_types.specs.Listed.{IsListed, map_at, maps_at, format_at, formats_at}
+use Rattle.bt_types.specs.Listed.{IsListed, maps_at, formats_at}
 use Rattle.bt_types.specs.Open.{HasNumbers, IsOpen, BodiesDone, IsClosed, again}
 use Rattle.bt_types.specs.Script.{IsTypedBody, AreTypedBodies}
 use Rattle.bt_types.specs.Under.{AreBehind, known_behind}
-use Rattle.expr_types.specs.Typing.{Titles, titles_of, words_by}
+use Rattle.expr_types.specs.Typing.{titles_of, words_by}
 use Rattle.expr_types.proofs.Later.{words_later}
 use Rattle.bt_types.proofs.Sound.{Sound, sound_judged}
 

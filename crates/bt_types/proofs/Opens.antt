@@ -1,15 +1,13 @@
 -- Bodies that were checked, one behind the other.
-use Rattle.std.proofs.Common.{◌≡◌, ◌++◌, ◌+◌, ℕ, ◌<◌, ◌≤◌, suc, List, [], ◌∷◌, length, map, take, drop, get_or, Option, Some, None, Result, Ok, Err, IsErrAnd, MatchResult, slice_get, refl, sym, ap, subst, ◌∙◌, arith, drop-cons, append-nil}
+use Rattle.std.proofs.Common.{◌≡◌, ◌++◌, ◌+◌, ℕ, ◌<◌, ◌≤◌, suc, List, [], ◌∷◌, length, map, take, drop, get_or, Option, Some, Result, Ok, Err, IsErrAnd, MatchResult, slice_get, refl, sym, ap, subst, ◌∙◌, arith, drop-cons, append-nil}
 use Rattle.std.specs.List.{AllZip}
-use Rattle.std.proofs.lemmas.List.{drop_all, take_all, take-append-drop}
+use Rattle.std.proofs.lemmas.List.{take_all, take-append-drop}
 use Rattle.std.proofs.Math.Seq.{take-suc}
 use Rattle.bt_ast.specs.declared.attached.BodyId.{BodyId}
-use Rattle.bt_ast.specs.declared.attached.BodyPoint.{BodyPoint}
 use Rattle.bt_ast.specs.declared.probe.Probe.{Probe}
 use Rattle.bt_ast.specs.declared.probe.Script.{Script}
 use Rattle.tracefs_format.specs.declared.format.Format.{Format}
 use Rattle.tracefs_format.specs.declared.layout.Layout.{Layout}
-use Rattle.typed_tree.specs.declared.body.TypedTree.{TypedTree}
 use Rattle.bt_types.specs.declared.body.OpenBody.{OpenBody}
 use Rattle.expr_types.specs.declared.fault.Fault.{Fault}
 use Rattle.expr_types.specs.declared.fault.TypeError.{TypeError}
@@ -18,7 +16,7 @@ use Rattle.bt_types.specs.Bodies.{begun_told, body_told, layout_at, script_told,
 use Rattle.expr_types.specs.Grows.{Grows}
 use Rattle.expr_types.specs.Judge.{judged, SaysFault}
 use Rattle.expr_types.specs.Known.{begun}
-use Rattle.expr_types.specs.Mentions.{Point, Word}
+use Rattle.expr_types.specs.Mentions.{Point}
 use Rattle.bt_types.specs.Open.{BodyDone, OneDone, HasNumbers, IsOpen, BodiesDone, again}
 use Rattle.bt_types.specs.Told.{Told, told_in_turn}
 use Rattle.bt_types.specs.Under.{IsUnder, AreBehind, known_or, known_behind}

@@ -1,11 +1,10 @@
 -- Calls of `printf`.
-use Rattle.std.proofs.Common.{◌≡◌, ◌++◌, ◌&&◌, ◌||◌, ◌==◌, ◌+◌, ◌<◌, ℕ, suc, Bool, true, false, cond, not, nat_eq, List, [], ◌∷◌, length, map, unwrap_or, Option, Some, None, slice_get, refl, sym, ap, subst, ◌∙◌, arith, add-one, drop, get_or, drop-cons}
+use Rattle.std.proofs.Common.{◌≡◌, ◌++◌, ◌&&◌, ◌||◌, ◌==◌, ◌+◌, ℕ, Bool, true, false, cond, not, List, [], ◌∷◌, map, Option, Some, None, slice_get, refl, sym, ap, subst, ◌∙◌, add-one}
 use Rattle.std.specs.List.{list_any}
 use Rattle.std.specs.Str.{bytes_eq}
-use Rattle.std.proofs.lemmas.Bool.{eq-eqb, eqb-true}
+use Rattle.std.proofs.lemmas.Bool.{eqb-true}
 use Rattle.bt_core.specs.declared.place.Place.{Place}
 use Rattle.bt_core.specs.declared.map.Shape.{Shape}
-use Rattle.fmt_text.specs.declared.piece.Piece.{Piece}
 use Rattle.fmt_text.specs.Deciding.{format_pieces}
 use Rattle.typed_tree.specs.Scope.{takes}
 use Rattle.typed_tree.proofs.Same.{both_hold}
@@ -14,13 +13,12 @@ use Rattle.expr_types.specs.declared.fault.Rule.TheVariants.{BadFormat}
 use Rattle.expr_types.specs.declared.fault.TypeError.{TypeError}
 use Rattle.expr_types.specs.declared.known.Known.{Known}
 use Rattle.expr_types.specs.declared.known.Printed.{Printed as Call}
-use Rattle.expr_types.specs.Grows.{Grows}
-use Rattle.expr_types.specs.Mentions.{Sort, Prints, PrintfWord, EndWord, Word}
-use Rattle.expr_types.specs.Known.{shape_in, shapes_in, is_call, has_call, call_at, printed, add_call, called, with_call}
+use Rattle.expr_types.specs.Mentions.{Prints, PrintfWord, EndWord}
+use Rattle.expr_types.specs.Known.{shapes_in, is_call, has_call, call_at, printed, add_call, with_call}
 use Rattle.expr_types.specs.Judge.{judged, SaysFault, IsBreach}
 use Rattle.expr_types.specs.Rules.{breaks}
 use Rattle.expr_types.specs.Walk.{Seen, at, points_of, words_of}
-use Rattle.typed_tree.specs.Parts.{Part, Printed, Ending, Made, key_shapes, parts_in, printf_parts}
+use Rattle.typed_tree.specs.Parts.{Printed, Ending, Made, key_shapes, parts_in, printf_parts}
 use Rattle.expr_types.specs.Typing.{AreTyping, IsCallOf, format_of_call, format_title, titles_of}
 use Rattle.expr_types.specs.Checked.{AllChecked}
 use Rattle.bt_types.specs.Told.{printf_told}
@@ -31,7 +29,7 @@ use Rattle.expr_types.proofs.Keys.{all_sorts, all_fit, all_words}
 use Rattle.expr_types.proofs.Later.{format_is}
 use Rattle.expr_types.proofs.Reading.{shapes_known}
 use Rattle.bt_types.proofs.MapCalls.{holds_not}
-use Rattle.bt_types.proofs.Turns.{Went, went_both, went_at, fault_behind, fault_here, Held, held_none, held_more, held_both, held_later, done_of}
+use Rattle.bt_types.proofs.Turns.{Went, went_both, went_at, fault_behind, fault_here, held_none, held_more, held_both, held_later, done_of}
 
 -- a call that is one of several, by its number among them
 pub record CallThere (calls : List Call) (number : ℕ) (format : List ℕ) (place : Place) : Type 0 where

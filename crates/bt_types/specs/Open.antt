@@ -1,5 +1,5 @@
 -- Bodies that were checked, while their script is: definitions for the proof of the check alone.
-use Rattle.std.specs.Prelude.{◌≡◌, ℕ, true, List, [], ◌∷◌, map, Option, Some, None, slice_get, Ok}
+use Rattle.std.specs.Prelude.{◌≡◌, true, List, map, Some, slice_get, Ok}
 use Rattle.std.specs.List.{AllZip}
 use Rattle.bt_ast.specs.declared.attached.BodyId.{BodyId}
 use Rattle.bt_ast.specs.declared.attached.BodyPoint.{BodyPoint}

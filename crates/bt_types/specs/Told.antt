@@ -1,5 +1,5 @@
 -- The mentions of statements in walk order, and their words.
-use Rattle.std.specs.Prelude.{ℕ, ℤ, pos, unsigned_abs, Bool, true, false, List, [], ◌∷◌, ◌++◌, Option, Some, None, unwrap_or, map, length, if◌then◌else◌}
+use Rattle.std.specs.Prelude.{ℕ, ℤ, pos, unsigned_abs, Bool, true, List, [], ◌∷◌, ◌++◌, Option, Some, None, unwrap_or, map, length, if◌then◌else◌}
 use Rattle.bt_ast.specs.declared.expr.Expr.{Expr, out-Expr}
 use Rattle.bt_ast.specs.contracts.gathering.GatheringPartialEq.TheImpl as functions
 use Rattle.bt_ast.specs.declared.gathering.Gathering.{Gathering}

@@ -1,12 +1,7 @@
-use Rattle.std.proofs.Common.{◌≡◌, true, List, Some, map, sym, ap, subst, ◌∙◌}
-use Rattle.std.specs.List.{list_all}
-use Rattle.typed_tree.specs.Scope.{is_fine_decl}
-use Rattle.bt_ast.specs.declared.attached.BodyId.{BodyId}
-use Rattle.expr_types.specs.declared.known.Known.{Known}
+use Rattle.std.proofs.Common.{List, sym, subst}
 use Rattle.typed_tree.specs.declared.body.TypedTree.{TypedTree}
-use Rattle.bt_types.specs.Bodies.{script_told, nothing}
+use Rattle.bt_types.specs.Bodies.{nothing}
 use Rattle.bt_types.specs.Under.{AreUnder}
-use Rattle.expr_types.specs.Judge.{judged, SaysFault}
 use Rattle.bt_types.proofs.Closing.{fault_said, none_said, done_at, end_sound, typed_bodies, trees_same, are_in, all_listed}
 use Rattle.bt_types.proofs.Scoped.{maps_fine, bodies_close}
 use Rattle.bt_types.proofs.script.check.Goals as goal
