@@ -11,7 +11,7 @@ use Rattle.bt_core.specs.declared.limits.TheConstants.{EVENTS}
 use Rattle.bt_words.specs.declared.order.Order.{Order}
 use Rattle.bt_words.specs.declared.order.Order.TheVariants.{Check, Code, Vet, Gen, Big}
 use Rattle.bt_words.specs.Words.{account_order, are_account_words, are_run_words, is_empty, is_operand, number_in, numbers, of_three, of_two, order_by, order_of, order_of_words, plain_order, verify_order}
-use Rattle.bt_words.specs.Words.{AreBounded, HasBounds, run_order, two_numbers}
+use Rattle.bt_words.specs.Words.{HasBounds, run_order, two_numbers}
 
 -- the numbers of the order, where there is one, are within their bounds
 abbrev AreSmall : Option Order → Type 0

@@ -1,5 +1,5 @@
 -- What clap reads behind `account`.
-use Rattle.std.proofs.Common.{◌≡◌, ◌⊎◌, ◌∙◌, ◌+◌, ◌≤◌, ◌&&◌, ◌||◌, ◌++◌, ℕ, Bool, cond, true, false, List, [], ◌∷◌, Option, Some, None, IsSome, ap, ap₂, append-nil, codes, count_by, drop, filter, fold, length, nat_le, option_and_then, refl, subst, suc, sym, inl, inr, true≢false, arith}
+use Rattle.std.proofs.Common.{◌≡◌, ◌⊎◌, ◌∙◌, ◌+◌, ◌≤◌, ◌&&◌, ◌||◌, ◌++◌, ℕ, Bool, cond, true, false, List, [], ◌∷◌, Some, None, IsSome, ap, ap₂, append-nil, codes, count_by, drop, filter, fold, length, nat_le, option_and_then, refl, subst, suc, sym, inl, inr, true≢false, arith}
 use Rattle.std.specs.List.{list_all, slice_get}
 use Rattle.std.specs.Str.{bytes_eq}
 use Rattle.std.proofs.lemmas.Slice.Eq.{bytes_eq-Decides}
