@@ -1,20 +1,28 @@
 -- What an order comes to, from what comes of its files.
-use Rattle.std.proofs.Common.{◌≡◌, ℕ, List, [], ◌∷◌, refl, sym, ap, inl, inr}
-use Rattle.std.specs.Prelude.{◌⊎◌, Bool, Option, Some, None, Ok, IfSome}
+use Rattle.std.proofs.Common.{◌≡◌, ◌≢◌, ℕ, ◌<◌, ◌^◌, List, [], ◌∷◌, length, refl, sym, ap, subst, ◌∙◌, inl, inr}
+use Rattle.std.specs.Prelude.{◌⊎◌, Bool, true, false, Option, Some, None, Result, Ok, Err, IfSome}
+use Rattle.std.specs.List.{AllByRecursion}
+use Rattle.account_check.specs.Answers.{IsAnswerTo}
+use Rattle.account_check.specs.declared.error.AccountError.{AccountError}
+use Rattle.account_check.specs.declared.error.AccountError.TheVariants as wrong
+use Rattle.account_format.specs.Accounts.{account_bytes}
+use Rattle.account_format.specs.Entries.{FitsStep}
+use Rattle.bt_core.specs.declared.step.Step.{Step}
 use Rattle.bpf_codegen.specs.declared.generate.Program.{Program}
 use Rattle.bt_words.specs.declared.order.Order.{Order}
-use Rattle.bt_words.specs.declared.order.Order.TheVariants.{Run, Check, Code, Vet, Gen, Big}
+use Rattle.bt_words.specs.declared.order.Order.TheVariants.{Run, Check, Code, Vet, Account, Verify, Gen, Big}
 use Rattle.rec_format.specs.declared.recording.Recording.{Recording as Recorded}
 use Rattle.rec_format.specs.Recordings.{recording_bytes}
 use Rattle.run_base.specs.declared.job.Job.{Job}
 use Rattle.run_base.specs.declared.job.Work.{Work}
 use Rattle.run_output.specs.declared.form.Form.{Form}
+use Rattle.run_output.specs.declared.form.Form.TheVariants.{Text}
 use Rattle.bt_top.specs.declared.outcome.Outcome.{Outcome}
 use Rattle.bt_top.specs.declared.refusal.Refusal.TheVariants.{Memory}
 use Rattle.bt_top.specs.Doing.{ComesOfFiles}
 use Rattle.bt_top.specs.Jobs.{IsWorkOf}
 use Rattle.bt_top.specs.Orders.{OperandFile, files_of, names_of}
-use Rattle.bt_top.specs.Outcomes.{IsOutcomeOfRun, gen_outcome, run_outcome}
+use Rattle.bt_top.specs.Outcomes.{IsOutcomeOfAccount, IsOutcomeOfRun, IsOutcomeOfVerify, gen_outcome, run_outcome, verify_outcome}
 use Rattle.bt_top.specs.Serve.{ShelfUse, AsksExactly, AsksFirst, EndsAsDue, IsComplete, IsEndStatus, OnTold}
 
 -- ---- outcomes
@@ -26,8 +34,8 @@ ran_with form serial job work rest line done is = record { work = work; done = d
 
 -- the bytes of a recording, with no programs
 pub made_with : (says : Recorded) (programs : List Program) (rest : List ℕ) → programs ≡ [] → rest ≡ recording_bytes says
-    → ◌≡◌ {A = Outcome} (record { work = None; programs = programs; refused = None; rest = rest }) (gen_outcome says)
-made_with says programs rest none spelled = λ i. record { work = None; programs = none i; refused = None; rest = spelled i }
+    → ◌≡◌ {A = Outcome} (record { work = None; programs = programs; refused = None; prints = true; rest = rest }) (gen_outcome says)
+made_with says programs rest none spelled = λ i. record { work = None; programs = none i; refused = None; prints = true; rest = spelled i }
 
 -- ---- of all files alike
 
@@ -71,6 +79,9 @@ plain_end (Check script recording) status is = is
 plain_end (Code script recording) status is = is
 plain_end (Vet script recording) status (inl zero) = inl zero
 plain_end (Vet script recording) status (inr six) = inr (inl six)
+plain_end (Account serial script recording) status is = is
+plain_end (Verify script recording account) status (inl zero) = inl zero
+plain_end (Verify script recording account) status (inr six) = inr (inl six)
 plain_end (Gen x n) status is = is
 plain_end (Big x n) status is = is
 
@@ -105,3 +116,39 @@ module _ {B : Type 0} (Other : List (List ℕ) → B → Type 0) (seen : ShelfUs
       | inr e ↦ inl (sym e.1)
     ];
   }
+
+-- ---- of accounts
+
+pub accounted_for : (serial : Bool) (job : Job) (work : Work) (text rest : List ℕ) → IsWorkOf Text serial job work → text ≡ work.text
+    → rest ≡ account_bytes work.steps text → AllByRecursion FitsStep work.steps → length work.steps < 2 ^ 64 → length text < 2 ^ 64
+    → IsOutcomeOfAccount serial job (record { work = Some work; programs = job.programs; refused = None; prints = false; rest = rest })
+accounted_for serial job work text rest done same spelled fits few short = record {
+  work = work;
+  done = done;
+  fits = fits;
+  few = few;
+  short = subst (λ (l : List ℕ). length l < 2 ^ 64) same short;
+  is = ap (λ (l : List ℕ). record { work = Some work; programs = job.programs; refused = None; prints = false; rest = l })
+      (spelled ∙ ap (λ (l : List ℕ). account_bytes work.steps l) same);
+}
+
+-- the one answer to an account
+module _ (job : Job) (account : List ℕ) where
+  abbrev pub Answers : Result (List Step) AccountError → Type 0
+  Answers answer = IsAnswerTo job.typed job.attached job.recording account answer
+
+  abbrev pub OnlyThis : Result (List Step) AccountError → Type 0
+  OnlyThis answer = (other : Result (List Step) AccountError) → Answers other → other ≢ Err wrong.Memory → (answer ≡ other) ⊎ (answer ≡ Err wrong.Memory)
+
+  only_one : (answer : Result (List Step) AccountError) → answer ≢ Err wrong.Memory → OnlyThis answer → (other : Result (List Step) AccountError)
+      → other ≢ Err wrong.Memory → Answers other → answer ≡ other
+  only_one answer known only other not_memory is = by (only other is not_memory)
+    where
+      by : (answer ≡ other) ⊎ (answer ≡ Err wrong.Memory) → answer ≡ other
+      by (inl same) = same
+      by (inr memory) = absurd (known memory)
+
+  pub verified_by : (answer : Result (List Step) AccountError) (outcome : Outcome) → answer ≢ Err wrong.Memory → Answers answer → OnlyThis answer
+      → outcome ≡ verify_outcome answer → IsOutcomeOfVerify job account outcome
+  verified_by answer outcome known holds only is =
+      record { answer = answer; known = known; holds = holds; only = only_one answer known only; is = is }
