@@ -1,5 +1,5 @@
 -- From checked bodies to a typed script.
-use Rattle.std.proofs.Common.{◌≡◌, ◌++◌, ◌==◌, ℕ, Bool, true, false, List, [], ◌∷◌, map, Option, Some, None, Result, Ok, Err, IsErrAnd, IfErr, slice_get, All, refl, sym, ap, subst, ◌∙◌}
+use Rattle.std.proofs.Common.{◌≡◌, ◌++◌, ℕ, List, [], ◌∷◌, map, Option, Some, None, Result, Ok, Err, IsErrAnd, IfErr, slice_get, All, refl, sym, ap, subst, ◌∙◌}
 use Rattle.std.specs.List.{AllByRecursion, AllZip, cons_option}
 use Rattle.std.specs.Option.{option_map}
 use Rattle.std.proofs.lemmas.List.Elements.{All-from_recursion}
@@ -19,14 +19,14 @@ use Rattle.expr_types.specs.declared.fault.Fault.{Fault}
 use Rattle.expr_types.specs.declared.fault.TypeError.{TypeError}
 use Rattle.expr_types.specs.declared.fault.TypeError.TheVariants.{Broken}
 use Rattle.expr_types.specs.declared.known.Known.{Known}
-use Rattle.expr_types.specs.declared.known.Printed.{Printed as Call}
 use Rattle.expr_types.specs.declared.known.Var.{Var}
-use Rattle.bt_types.specs.Bodies.{body_told, script_told, nothing, fault_of, type_fault}
+use Rattle.bt_types.specs.Bodies.{script_told, nothing, fault_of, type_fault}
 use Rattle.expr_types.specs.Judge.{judged, SaysFault}
-use Rattle.expr_types.specs.Mentions.{Word}
-use Rattle.bt_types.specs.Open.{IsOpen, BodiesDone, IsClosed, again, map_at, maps_at, format_at, formats_at}
+use Rattle.bt_types.specs.Listed.{IsListed, maps_at, formats_at}
+use Rattle.bt_types.specs.Open.{HasNumbers, IsOpen, BodiesDone, IsClosed, again}
 use Rattle.bt_types.specs.Script.{IsTypedBody, AreTypedBodies}
-use Rattle.expr_types.specs.Typing.{Titles, titles_of, words_by}
+use Rattle.bt_types.specs.Under.{AreBehind, known_behind}
+use Rattle.expr_types.specs.Typing.{titles_of, words_by}
 use Rattle.expr_types.proofs.Later.{words_later}
 use Rattle.bt_types.proofs.Sound.{Sound, sound_judged}
 
@@ -124,3 +124,18 @@ trees_same maps formats [] [] h = refl
 trees_same maps formats [] (t ∷ ts) h = absurd h
 trees_same maps formats (b ∷ bs) [] h = absurd h
 trees_same maps formats (b ∷ bs) (t ∷ ts) h = let first = h.0.tree in let rest = trees_same maps formats bs ts h.1 in λ i. first i ∷ rest i
+
+-- a typed body lists what its checked one has named
+listed : (maps : List MapDecl) (formats : List (List Piece)) (k : Known) (body : OpenBody) (typed : TypedBody) → IsClosed maps formats body typed → HasNumbers k body → IsListed maps formats k typed
+listed maps formats k body typed c n =
+    record { maps_named = c.maps_named ∙ ap (maps_at maps) n.named; formats_called = c.formats_called ∙ ap (formats_at formats) n.calls }
+
+pub all_listed : (script : Script) (layouts : List Format) (maps : List MapDecl) (formats : List (List Piece)) (before : Known) (ids : List BodyId) (bodies : List OpenBody) (typed : List TypedBody)
+    → AllZip (IsClosed maps formats) bodies typed → AreBehind (λ k id body. HasNumbers k body) script layouts before ids bodies → AreBehind (λ k id body. IsListed maps formats k body) script layouts before ids typed
+all_listed script layouts maps formats before [] [] [] c n = tt
+all_listed script layouts maps formats before [] (b ∷ bs) ts c n = absurd n
+all_listed script layouts maps formats before (id ∷ ids) [] ts c n = absurd n
+all_listed script layouts maps formats before ids [] (t ∷ ts) c n = absurd c
+all_listed script layouts maps formats before ids (b ∷ bs) [] c n = absurd c
+all_listed script layouts maps formats before (id ∷ ids) (b ∷ bs) (t ∷ ts) c n =
+    (listed maps formats (known_behind script layouts before id) b t c.0 n.0, all_listed script layouts maps formats (known_behind script layouts before id) ids bs ts c.1 n.1)

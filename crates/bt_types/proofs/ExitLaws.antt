@@ -5,7 +5,7 @@ use Rattle.std.proofs.lemmas.List.Folds.{list_any_at, list_any_more}
 use Rattle.std.proofs.lemmas.List.{take_all}
 use Rattle.bt_ast.specs.declared.expr.Expr.{Expr}
 use Rattle.bt_ast.specs.declared.stmt.Block.{Block, out-Block, roll-out-Block, fold-roll-Block}
-use Rattle.bt_ast.specs.declared.stmt.StmtKind.{StmtKind, fold-roll-StmtKind}
+use Rattle.bt_ast.specs.declared.stmt.StmtKind.{fold-roll-StmtKind}
 use Rattle.bt_ast.specs.declared.stmt.StmtKind.TheVariants.{If, rolls-If}
 use Rattle.bt_ast.specs.declared.stmt.StmtKind.TheOpen.{StmtKind-F}
 use Rattle.bt_ast.specs.declared.stmt.StmtKind.TheShapes.{former-StmtKind-If-0-at-2}

@@ -1,5 +1,5 @@
 -- Loops and arms: a word, a condition and a block.
-use Rattle.std.proofs.Common.{◌≡◌, ◌≤◌, ◌++◌, ℕ, ℤ, not, unsigned_abs, List, [], ◌∷◌, None, refl, sym, ap, subst, ◌∙◌}
+use Rattle.std.proofs.Common.{◌≡◌, ◌≤◌, ◌++◌, ℕ, ℤ, not, unsigned_abs, List, [], ◌∷◌, None, ap}
 use Rattle.bt_core.specs.declared.place.Place.{Place}
 use Rattle.expr_types.specs.declared.fault.Rule.TheVariants.{WrongType}
 use Rattle.expr_types.specs.declared.fault.TypeError.{TypeError}

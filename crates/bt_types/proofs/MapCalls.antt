@@ -3,32 +3,29 @@ use Rattle.std.proofs.Common.{◌≡◌, ◌++◌, ◌^◌, ◌&&◌, ℕ, ℤ, 
 use Rattle.std.specs.Prelude.{int_le}
 use Rattle.std.proofs.lemmas.Bool.Decides.{nat_tests}
 use Rattle.bt_core.specs.declared.place.Place.{Place}
-use Rattle.bt_ast.specs.declared.expr.Expr.{Expr}
 use Rattle.bt_ast.specs.declared.gathering.Gathering.{Gathering}
 use Rattle.bt_ast.specs.declared.gathering.Gathering.TheVariants.{Sum}
 use Rattle.bt_ast.specs.declared.gathering.TheConstants.{GATHERINGS}
 use Rattle.bt_ast.specs.declared.stmt.AggCall.{AggCall}
 use Rattle.bt_ast.specs.declared.stmt.AggCall.TheVariants.{Count, Gather, Lhist}
 use Rattle.bt_core.specs.declared.map.AggKind.{AggKind}
-use Rattle.bt_core.specs.declared.map.MapKind.{MapKind}
-use Rattle.bt_core.specs.declared.map.MapKind.TheVariants.{Ints, Strs, Aggs}
+use Rattle.bt_core.specs.declared.map.MapKind.TheVariants.{Ints, Aggs}
 use Rattle.bt_core.specs.declared.map.Shape.{Shape}
-use Rattle.bt_core.specs.declared.map.Shape.TheVariants.{Int, Str}
 use Rattle.typed_tree.specs.declared.expr.NumExpr.{NumExpr}
 use Rattle.typed_tree.specs.declared.stmt.TypedStmt.{TypedStmt}
-use Rattle.typed_tree.specs.Scope.{kind_of_shape, is_agg, is_count, is_fine_agg, same_bool, may_print}
+use Rattle.typed_tree.specs.Scope.{is_count, is_fine_agg, same_bool, may_print}
 use Rattle.expr_types.specs.declared.fault.Rule.{Rule}
 use Rattle.expr_types.specs.declared.fault.Rule.TheVariants.{BadBounds, OtherKeys, TooManyMaps, WrongType}
 use Rattle.expr_types.specs.declared.fault.TypeError.{TypeError}
 use Rattle.expr_types.specs.declared.known.Known.{Known}
 use Rattle.expr_types.specs.Grows.{Grows}
-use Rattle.expr_types.specs.Mentions.{Sort, Mention, Uses, Gathers, NeedsBounds, NeedsShared, NeedsRows, Deletes, Word, GatherWord, ShowWord, ClearWord, ZeroWord, DeleteWord, Point}
-use Rattle.expr_types.specs.Known.{shape_in, shapes_in, decl_in, with_mention, decides, learn}
+use Rattle.expr_types.specs.Mentions.{Sort, Uses, Gathers, NeedsBounds, NeedsShared, NeedsRows, Deletes, GatherWord, ShowWord, ClearWord, ZeroWord, DeleteWord, Point}
+use Rattle.expr_types.specs.Known.{shape_in, shapes_in, decl_in, with_mention, decides}
 use Rattle.expr_types.specs.Judge.{judged, Says, SaysFault, IsBreach}
-use Rattle.expr_types.specs.Rules.{broken_at, breaks, are_rows, write_breaks, is_agg_in, is_one_too_many, has_other_keys}
+use Rattle.expr_types.specs.Rules.{breaks, are_rows, write_breaks, is_agg_in, is_one_too_many, has_other_keys}
 use Rattle.expr_types.specs.Walk.{Seen, MapSeen, at, points_of, words_of}
 use Rattle.typed_tree.specs.Parts.{stmt_parts, Part, Gathered, Deleted, Shown, Cleared, Zeroed, Made, gather_parts, number_parts, delete_parts, key_shapes, parts_in}
-use Rattle.expr_types.specs.Typing.{IsDeclared, IsMapOf, IsNamed, AllFit, title, titles_of, word_of}
+use Rattle.expr_types.specs.Typing.{IsDeclared, title, titles_of}
 use Rattle.expr_types.specs.Maps.{kind_held}
 use Rattle.expr_types.specs.Checked.{Checked, KeyChecked}
 use Rattle.bt_types.specs.Told.{Told, used, function_kind, kind_of_call, number_of_call, gather_told, print_told, clear_told, zero_told, delete_points, delete_told}

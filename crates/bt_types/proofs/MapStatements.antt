@@ -1,9 +1,8 @@
 -- Statements that write to a map.
-use Rattle.std.proofs.Common.{◌≡◌, ◌++◌, ℕ, Bool, true, false, List, [], ◌∷◌, length, map, unwrap_or, Option, Some, None, Result, Ok, Err, IfOk, is_none, slice_get, refl, sym, ap, subst, ◌∙◌}
+use Rattle.std.proofs.Common.{◌≡◌, ◌++◌, ℕ, true, List, [], ◌∷◌, length, unwrap_or, Option, Some, None, refl, sym, ap, subst, ◌∙◌}
 use Rattle.bt_core.specs.declared.place.Place.{Place}
-use Rattle.bt_core.specs.declared.map.AggKind.{AggKind}
 use Rattle.bt_core.specs.declared.map.MapKind.{MapKind}
-use Rattle.bt_core.specs.declared.map.MapKind.TheVariants.{Ints, Strs, Aggs}
+use Rattle.bt_core.specs.declared.map.MapKind.TheVariants.{Ints}
 use Rattle.bt_core.specs.declared.map.Shape.{Shape}
 use Rattle.bt_core.specs.declared.map.Shape.TheVariants.{Int, Str}
 use Rattle.bt_core.specs.declared.operator.BinOp.{BinOp}
@@ -18,17 +17,17 @@ use Rattle.expr_types.specs.Judge.{judged, SaysFault, IsBreach}
 use Rattle.expr_types.specs.Rules.{broken_at, write_breaks}
 use Rattle.expr_types.specs.Walk.{Seen, MapSeen, OnMap, at, map_words}
 use Rattle.typed_tree.specs.Parts.{Part, MapOf, Assigned, Made, keyed_parts, key_shapes, parts_in, set_map_parts, update_map_parts}
-use Rattle.expr_types.specs.Typing.{IsDeclared, IsMapOf, IsNamed, Fits, title, titles_of, word_of}
+use Rattle.expr_types.specs.Typing.{IsDeclared, IsMapOf, title, titles_of}
 use Rattle.expr_types.specs.Join.{whole_breaks}
 use Rattle.expr_types.specs.Checked.{Checked, KeyChecked}
-use Rattle.bt_types.specs.Told.{Told, set_told, update_told}
+use Rattle.bt_types.specs.Told.{set_told, update_told}
 use Rattle.bt_types.specs.Done.{Done}
 use Rattle.expr_types.proofs.Growing.{grows_on, shape_later, IsInner}
 use Rattle.expr_types.proofs.Later.{named_later, title_is}
 use Rattle.expr_types.proofs.Keys.{key_sorts_later}
 use Rattle.expr_types.proofs.Reading.{write_declares, shapes_known, same_number}
 use Rattle.bt_types.proofs.Numbers.{whole_went, whole_fault}
-use Rattle.bt_types.proofs.Turns.{Went, went_both, went_at, went_seen, went_key, fault_first, fault_behind, fault_here, Held, held_more, held_both, held_key, held_seen, held_later, done_of}
+use Rattle.bt_types.proofs.Turns.{Went, went_both, went_at, went_seen, went_key, fault_behind, fault_here, held_more, held_both, held_key, held_seen, held_later, done_of}
 
 -- a mention that decides a kind, at a key whose types are known
 pub record Decided (m : MapSeen) (mention : Mention) (kind : MapKind) (keys : List Made) (k : Known) : Type 0 where

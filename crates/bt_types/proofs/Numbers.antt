@@ -1,8 +1,8 @@
 -- Whole numbers that statements ask for, and variables that they set.
-use Rattle.std.proofs.Common.{◌≡◌, ◌++◌, ℕ, Bool, List, [], ◌∷◌, map, unwrap_or, Option, Some, None, Result, Ok, Err, IfOk, slice_get, refl, sym, ap, subst, ◌∙◌}
+use Rattle.std.proofs.Common.{◌≡◌, ◌++◌, ℕ, List, [], ◌∷◌, unwrap_or, Option, Some, None, Result, Ok, Err, IfOk, slice_get, refl, sym, ap, subst, ◌∙◌}
 use Rattle.bt_core.specs.declared.place.Place.{Place}
 use Rattle.bt_core.specs.declared.map.Shape.{Shape}
-use Rattle.bt_core.specs.declared.map.Shape.TheVariants.{Int, Str}
+use Rattle.bt_core.specs.declared.map.Shape.TheVariants.{Int}
 use Rattle.bt_core.specs.declared.operator.BinOp.{BinOp}
 use Rattle.bt_ast.specs.declared.expr.Expr.{Expr}
 use Rattle.expr_types.specs.declared.fault.Rule.{Rule}
@@ -11,21 +11,20 @@ use Rattle.expr_types.specs.declared.fault.TypeError.{TypeError}
 use Rattle.expr_types.specs.declared.known.Known.{Known}
 use Rattle.expr_types.specs.declared.known.Var.{Var}
 use Rattle.typed_tree.specs.declared.expr.NumExpr.{NumExpr}
-use Rattle.expr_types.specs.Grows.{Grows}
-use Rattle.expr_types.specs.Mentions.{Sort, Mention, NeedsWhole, SetsVar, OfVar, Word, VarWord, AssignWord, Point}
+use Rattle.expr_types.specs.Mentions.{Sort, NeedsWhole, SetsVar, VarWord, AssignWord, Point}
 use Rattle.expr_types.specs.Known.{shape_in, var_in, with_var, learn}
-use Rattle.expr_types.specs.Judge.{judged, SaysFault, IsBreach, Refuses, Says}
+use Rattle.expr_types.specs.Judge.{judged, SaysFault, IsBreach, Refuses}
 use Rattle.expr_types.specs.Rules.{broken_at, breaks, is_text, are_two}
 use Rattle.expr_types.specs.Walk.{Seen, OnVar, at, of_expr, step_points}
 use Rattle.typed_tree.specs.Parts.{Part, VarOf, Assigned, Made, num_parts, set_var_parts, update_var_parts}
-use Rattle.expr_types.specs.Typing.{IsVarOf, Fits, title, titles_of, word_of}
+use Rattle.expr_types.specs.Typing.{title, titles_of}
 use Rattle.expr_types.specs.Join.{whole_breaks, set_breaks}
 use Rattle.expr_types.specs.Checked.{Checked}
-use Rattle.bt_types.specs.Told.{Told, next, asks, value_told, number_told, set_told, update_told}
+use Rattle.bt_types.specs.Told.{asks, value_told, number_told, set_told, update_told}
 use Rattle.bt_types.specs.Done.{Done, Does}
 use Rattle.expr_types.proofs.Growing.{grows_none}
 use Rattle.expr_types.proofs.Later.{get_mapped, title_is}
-use Rattle.bt_types.proofs.Turns.{Went, went_both, went_at, went_seen, fault_first, fault_behind, fault_here, Held, held_more, held_seen, held_later, done_of, done_then, done_value, refused_next}
+use Rattle.bt_types.proofs.Turns.{Went, went_both, went_at, went_seen, fault_first, fault_behind, fault_here, held_more, held_seen, held_later, done_of, done_then, done_value, refused_next}
 
 -- the title of a variable
 pub var_title : (k : Known) (number : ℕ) (v : Var) → slice_get k.vars number ≡ Some v → title (titles_of k).variables number ≡ v.name

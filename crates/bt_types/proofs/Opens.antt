@@ -1,15 +1,13 @@
 -- Bodies that were checked, one behind the other.
-use Rattle.std.proofs.Common.{◌≡◌, ◌++◌, ◌+◌, ℕ, ◌<◌, ◌≤◌, suc, List, [], ◌∷◌, length, map, take, drop, get_or, Option, Some, None, Result, Ok, Err, IsErrAnd, MatchResult, slice_get, refl, sym, ap, subst, ◌∙◌, arith, drop-cons, append-nil}
+use Rattle.std.proofs.Common.{◌≡◌, ◌++◌, ◌+◌, ℕ, ◌<◌, ◌≤◌, suc, List, [], ◌∷◌, length, map, take, drop, get_or, Option, Some, Result, Ok, Err, IsErrAnd, MatchResult, slice_get, refl, sym, ap, subst, ◌∙◌, arith, drop-cons, append-nil}
 use Rattle.std.specs.List.{AllZip}
-use Rattle.std.proofs.lemmas.List.{drop_all, take_all, take-append-drop}
+use Rattle.std.proofs.lemmas.List.{take_all, take-append-drop}
 use Rattle.std.proofs.Math.Seq.{take-suc}
 use Rattle.bt_ast.specs.declared.attached.BodyId.{BodyId}
-use Rattle.bt_ast.specs.declared.attached.BodyPoint.{BodyPoint}
 use Rattle.bt_ast.specs.declared.probe.Probe.{Probe}
 use Rattle.bt_ast.specs.declared.probe.Script.{Script}
 use Rattle.tracefs_format.specs.declared.format.Format.{Format}
 use Rattle.tracefs_format.specs.declared.layout.Layout.{Layout}
-use Rattle.typed_tree.specs.declared.body.TypedTree.{TypedTree}
 use Rattle.bt_types.specs.declared.body.OpenBody.{OpenBody}
 use Rattle.expr_types.specs.declared.fault.Fault.{Fault}
 use Rattle.expr_types.specs.declared.fault.TypeError.{TypeError}
@@ -18,10 +16,10 @@ use Rattle.bt_types.specs.Bodies.{begun_told, body_told, layout_at, script_told,
 use Rattle.expr_types.specs.Grows.{Grows}
 use Rattle.expr_types.specs.Judge.{judged, SaysFault}
 use Rattle.expr_types.specs.Known.{begun}
-use Rattle.expr_types.specs.Mentions.{Point, Word}
-use Rattle.bt_types.specs.Open.{BodyDone, OneDone, IsOpen, BodiesDone, again}
+use Rattle.expr_types.specs.Mentions.{Point}
+use Rattle.bt_types.specs.Open.{BodyDone, OneDone, HasNumbers, IsOpen, BodiesDone, again}
 use Rattle.bt_types.specs.Told.{Told, told_in_turn}
-use Rattle.bt_types.specs.Under.{IsUnder, AreUnder, known_or, known_behind}
+use Rattle.bt_types.specs.Under.{IsUnder, AreBehind, known_or, known_behind}
 use Rattle.expr_types.proofs.Growing.{grows_none, grows_on}
 use Rattle.expr_types.proofs.Judging.{judged_ok, judged_err}
 use Rattle.bt_types.proofs.Runs.{map_more, map_both, points_both}
@@ -98,7 +96,7 @@ one_done script formats id probe k0 k1 (Ok body) p h = record { probe = probe; o
 one_done script formats id probe k0 k1 (Err e) p h = subst (λ (t : Told). SaysFault (judged t.points k0) e) (sym (told_is script formats id probe p)) h
 
 pub bodies_begin : (script : Script) (formats : List Format) (k : Known) → BodiesDone script formats [] k k []
-bodies_begin script formats k = record { whole = refl; each = tt; under = tt }
+bodies_begin script formats k = record { whole = refl; each = tt; under = tt; numbers = tt }
 
 -- what is judged behind the first of two lists
 rest_judged : (ps qs : List Point) (before now : Known) → judged (ps ++ qs) before ≡ Ok now → judged qs (known_or before (judged ps before)) ≡ Ok now
@@ -111,28 +109,34 @@ rest_judged ps qs before now j = by (judged ps before) refl
 ok_same : (a b : Known) → ◌≡◌ {A = Result Known Fault} (Ok a) (Ok b) → a ≡ b
 ok_same a b e = cc
 
--- one more tree
-under_more : (script : Script) (formats : List Format) (ids : List BodyId) (trees : List TypedTree) (before now : Known) (id : BodyId) (tree : TypedTree)
-    → AreUnder script formats before ids trees → judged (told_in_turn (map (told_at script formats) ids)).points before ≡ Ok now
-    → IsUnder (known_behind script formats now id) (told_at script formats id).words tree → AreUnder script formats before (ids ++ id ∷ []) (trees ++ tree ∷ [])
-under_more script formats [] [] before now id tree h j u =
-    (subst (λ (k : Known). IsUnder (known_behind script formats k id) (told_at script formats id).words tree) (sym (ok_same before now j)) u, tt)
-under_more script formats [] (t ∷ ts) before now id tree h j u = absurd h
-under_more script formats (i ∷ is) [] before now id tree h j u = absurd h
-under_more script formats (i ∷ is) (t ∷ ts) before now id tree h j u =
+-- one more
+behind_more : {A : Type 0} (Is : Known → BodyId → A → Type 0) (script : Script) (formats : List Format) (ids : List BodyId) (xs : List A) (before now : Known) (id : BodyId) (x : A)
+    → AreBehind Is script formats before ids xs → judged (told_in_turn (map (told_at script formats) ids)).points before ≡ Ok now
+    → Is (known_behind script formats now id) id x → AreBehind Is script formats before (ids ++ id ∷ []) (xs ++ x ∷ [])
+behind_more Is script formats [] [] before now id x h j u = (subst (λ (k : Known). Is (known_behind script formats k id) id x) (sym (ok_same before now j)) u, tt)
+behind_more Is script formats [] (y ∷ ys) before now id x h j u = absurd h
+behind_more Is script formats (i ∷ is) [] before now id x h j u = absurd h
+behind_more Is script formats (i ∷ is) (y ∷ ys) before now id x h j u =
     let rest = rest_judged (told_at script formats i).points (told_in_turn (map (told_at script formats) is)).points before now j in
-    (h.0, under_more script formats is ts (known_behind script formats before i) now id tree h.1 rest u)
+    (h.0, behind_more Is script formats is ys (known_behind script formats before i) now id x h.1 rest u)
 
--- a body that was just checked is typed under what is known now
+-- what is known behind a body that was just checked is what is known now
+known_now : (script : Script) (formats : List Format) (id : BodyId) (k0 k1 : Known) (body : OpenBody) → OneDone script formats id k0 k1 body → known_behind script formats k0 id ≡ k1
+known_now script formats id k0 k1 body o =
+    ap (λ (t : Told). known_or k0 (judged t.points k0)) (told_is script formats id o.probe o.of_probe) ∙ ap (known_or k0) o.done.done.whole
+
+-- a body that was just checked is typed under what is known now, and has the numbers of what it has named
 just_under : (script : Script) (formats : List Format) (id : BodyId) (k0 k1 : Known) (body : OpenBody) → OneDone script formats id k0 k1 body
     → IsUnder (known_behind script formats k0 id) (told_at script formats id).words body.tree
 just_under script formats id k0 k1 body o =
     let d = o.done in
-    let told = told_is script formats id o.probe o.of_probe in
-    let now : known_behind script formats k0 id ≡ k1 = ap (λ (t : Told). known_or k0 (judged t.points k0)) told ∙ ap (known_or k0) d.done.whole in
-    let words : (body_told o.probe).words ≡ (told_at script formats id).words = ap (λ (t : Told). t.words) (sym told) in
-    subst (λ (k : Known). IsUnder k (told_at script formats id).words body.tree) (sym now)
+    let words : (body_told o.probe).words ≡ (told_at script formats id).words = ap (λ (t : Told). t.words) (sym (told_is script formats id o.probe o.of_probe)) in
+    subst (λ (k : Known). IsUnder k (told_at script formats id).words body.tree) (sym (known_now script formats id k0 k1 body o))
     (record { variables = d.keeps.variables; fits = d.done.fits; written = d.done.written ∙ words })
+
+just_numbered : (script : Script) (formats : List Format) (id : BodyId) (k0 k1 : Known) (body : OpenBody) → OneDone script formats id k0 k1 body → HasNumbers (known_behind script formats k0 id) body
+just_numbered script formats id k0 k1 body o =
+    subst (λ (k : Known). HasNumbers k body) (sym (known_now script formats id k0 k1 body o)) (record { named = o.done.keeps.named; calls = o.done.keeps.calls })
 
 pub bodies_more : (script : Script) (formats : List Format) (ids : List BodyId) (i : ℕ) (id : BodyId) (k0 k1 k2 : Known) (bodies : List OpenBody) (body : OpenBody) → i < length ids → id ≡ get_or ids i id
     → BodiesDone script formats (take i ids) k0 k1 bodies → OneDone script formats id k1 k2 body → BodiesDone script formats (take (i + 1) ids) k0 k2 (bodies ++ body ∷ [])
@@ -143,7 +147,8 @@ bodies_more script formats ids i id k0 k1 k2 bodies body within is c d =
       each = subst (λ (l : List BodyId). AllZip (IsOpen script formats k2) l (bodies ++ body ∷ [])) (sym longer)
           (zip_more (IsOpen script formats k2) (take i ids) bodies id body (opens_later script formats k1 k2 (layout_at formats id.point) (take i ids) bodies d.done.done.grows c.each) (just_open script formats id k1 k2 body d));
       under = rw (longer, map_more (λ (b : OpenBody). b.tree) bodies body)
-          (under_more script formats (take i ids) (map (λ (b : OpenBody). b.tree) bodies) k0 k1 id body.tree c.under c.whole (just_under script formats id k1 k2 body d));
+          (behind_more (λ k b tree. IsUnder k (told_at script formats b).words tree) script formats (take i ids) (map (λ (b : OpenBody). b.tree) bodies) k0 k1 id body.tree c.under c.whole (just_under script formats id k1 k2 body d));
+      numbers = rw longer (behind_more (λ k b body. HasNumbers k body) script formats (take i ids) bodies k0 k1 id body c.numbers c.whole (just_numbered script formats id k1 k2 body d));
     }
 
 pub bodies_refused : (script : Script) (formats : List Format) (ids : List BodyId) (i : ℕ) (id : BodyId) (k0 k1 : Known) (bodies : List OpenBody) (e : TypeError) → i < length ids → id ≡ get_or ids i id

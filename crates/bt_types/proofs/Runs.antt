@@ -1,8 +1,7 @@
 -- What is done for each item of a list in turn.
-use Rattle.std.proofs.Common.{◌≡◌, ◌++◌, ◌+◌, ℕ, ◌<◌, ◌≤◌, suc, List, [], ◌∷◌, length, map, take, drop, get_or, Result, Ok, Err, refl, sym, ap, subst, ◌∙◌, arith, drop-cons, append_assoc, append-nil}
-use Rattle.std.proofs.lemmas.List.{drop_all, take_all, take-append-drop}
+use Rattle.std.proofs.Common.{◌≡◌, ◌++◌, ◌+◌, ℕ, ◌<◌, ◌≤◌, suc, List, [], ◌∷◌, length, map, take, drop, get_or, refl, sym, ap, subst, ◌∙◌, arith, drop-cons, append_assoc, append-nil}
+use Rattle.std.proofs.lemmas.List.{take_all, take-append-drop}
 use Rattle.std.proofs.Math.Seq.{take-suc}
-use Rattle.expr_types.specs.declared.fault.Fault.{Fault}
 use Rattle.expr_types.specs.declared.fault.TypeError.{TypeError}
 use Rattle.expr_types.specs.declared.known.Known.{Known}
 use Rattle.expr_types.specs.Mentions.{Point, Word}
@@ -10,7 +9,7 @@ use Rattle.expr_types.specs.Judge.{judged, SaysFault}
 use Rattle.typed_tree.specs.Parts.{Part}
 use Rattle.bt_types.specs.Told.{Told, told, next, told_in_turn}
 use Rattle.typed_tree.specs.Parts.{joined}
-use Rattle.bt_types.specs.Done.{Done, Does}
+use Rattle.bt_types.specs.Done.{Done}
 use Rattle.expr_types.proofs.Growing.{grows_none}
 use Rattle.bt_types.proofs.Turns.{done_next, refused_next, refused_front}
 

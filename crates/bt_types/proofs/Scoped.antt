@@ -1,5 +1,5 @@
 -- A body that fits what is known at the end fits its own declarations.
-use Rattle.std.proofs.Common.{◌≡◌, ◌++◌, ◌&&◌, ◌||◌, ◌==◌, int_eq, ◌≤◌, ℕ, ℤ, zero, suc, T, Bool, true, false, cond, not, nat_le, nat_lt, nat_eq, List, [], ◌∷◌, length, map, find, Option, Some, None, slice_get, All, refl, sym, ap, subst, ◌∙◌, arith}
+use Rattle.std.proofs.Common.{◌≡◌, ◌&&◌, ◌||◌, ◌==◌, int_eq, ◌≤◌, ℕ, ℤ, zero, suc, T, Bool, true, false, cond, nat_le, nat_lt, List, [], ◌∷◌, length, map, find, Option, Some, None, slice_get, All, refl, sym, ap, subst, ◌∙◌, arith}
 use Rattle.std.specs.List.{AllByRecursion, AllZip, cons_option, list_all, list_any}
 use Rattle.std.specs.Option.{option_map}
 use Rattle.std.specs.Str.{bytes_eq}
@@ -16,7 +16,7 @@ use Rattle.bt_core.specs.declared.map.Shape.{Shape}
 use Rattle.bt_core.specs.declared.map.Shape.TheVariants.{Int, Str}
 use Rattle.fmt_text.specs.Deciding.{format_pieces}
 use Rattle.fmt_text.specs.declared.piece.Piece.{Piece}
-use Rattle.tracefs_format.specs.ByName.{field_named, field_called}
+use Rattle.tracefs_format.specs.ByName.{field_called}
 use Rattle.tracefs_format.specs.declared.field.Field.{Field}
 use Rattle.tracefs_format.specs.declared.field.FieldKind.{FieldKind}
 use Rattle.tracefs_format.specs.declared.field.FieldKind.TheVariants as field
@@ -33,9 +33,10 @@ use Rattle.expr_types.specs.declared.known.Known.{Known}
 use Rattle.expr_types.specs.declared.known.Printed.{Printed as Call}
 use Rattle.expr_types.specs.declared.known.Var.{Var}
 use Rattle.expr_types.specs.Known.{decl_in, event_field}
-use Rattle.bt_types.specs.Open.{IsOpen, Closes, again, map_at, maps_at, format_at, formats_at}
+use Rattle.bt_types.specs.Listed.{maps_at, formats_at}
+use Rattle.bt_types.specs.Open.{IsOpen, Closes, again}
 use Rattle.bt_types.specs.Script.{decl_or_none, maps_of}
-use Rattle.expr_types.specs.Typing.{IsDeclared, IsNamed, IsMapOf, IsCallOf, Fits, AllFit}
+use Rattle.expr_types.specs.Typing.{IsNamed, IsMapOf, IsCallOf, Fits, AllFit}
 use Rattle.typed_tree.proofs.Same.{both_hold}
 use Rattle.expr_types.proofs.Finding.{same_self}
 use Rattle.expr_types.proofs.Later.{get_mapped, all_later}

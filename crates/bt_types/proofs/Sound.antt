@@ -1,5 +1,5 @@
 -- What is known is well formed: declarations are fine, and the pieces of formats are theirs.
-use Rattle.std.proofs.Common.{◌≡◌, ◌++◌, ◌&&◌, ◌||◌, ◌==◌, ℕ, Bool, true, false, cond, not, List, [], ◌∷◌, map, unwrap_or, Option, Some, None, Result, Ok, Err, refl, sym, ap, subst, ◌∙◌}
+use Rattle.std.proofs.Common.{◌≡◌, ◌++◌, ◌&&◌, ◌==◌, ℕ, Bool, true, false, cond, List, [], ◌∷◌, unwrap_or, Option, Some, None, Result, Ok, refl, ap, subst}
 use Rattle.std.specs.List.{AllByRecursion, list_all, list_any}
 use Rattle.bt_core.specs.declared.map.MapDecl.{MapDecl}
 use Rattle.bt_core.specs.declared.map.MapKind.{MapKind}
@@ -15,9 +15,9 @@ use Rattle.expr_types.specs.declared.fault.Rule.TheVariants.{BadFormat}
 use Rattle.expr_types.specs.declared.known.Known.{Known}
 use Rattle.expr_types.specs.declared.known.Printed.{Printed as Call}
 use Rattle.expr_types.specs.declared.known.Var.{Var}
-use Rattle.expr_types.specs.Mentions.{Sort, Mention, Begins, Names, Uses, Reads, Steps, Sets, Gathers, NeedsShared, Deletes, ReadsVar, SetsVar, Args, ReadsField, NeedsWhole, NeedsSame, NeedsShort, NeedsBounds, NeedsTurns, NeedsRows, Prints, Jumps, Point}
-use Rattle.expr_types.specs.Known.{has_name, place_of, decl_in, var_in, has_call, call_at, printed, shapes_in, kind_for, add_name, add_number, with_name, with_mention, decide_after, set_after, with_var, add_call, called, with_call, decides, learn}
-use Rattle.expr_types.specs.Rules.{breaks, broken_at}
+use Rattle.expr_types.specs.Mentions.{Mention, Begins, Names, Uses, Reads, Steps, Sets, Gathers, NeedsShared, Deletes, ReadsVar, SetsVar, Args, ReadsField, NeedsWhole, NeedsSame, NeedsShort, NeedsBounds, NeedsTurns, NeedsRows, Prints, Jumps, Point}
+use Rattle.expr_types.specs.Known.{has_name, place_of, decl_in, var_in, has_call, printed, shapes_in, kind_for, add_name, with_name, with_mention, decide_after, set_after, add_call, with_call, decides, learn}
+use Rattle.expr_types.specs.Rules.{broken_at}
 use Rattle.expr_types.specs.Judge.{unless_broken, judged}
 use Rattle.bt_types.proofs.MapCalls.{holds_not}
 

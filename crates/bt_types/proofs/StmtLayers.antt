@@ -5,18 +5,12 @@ use Rattle.bt_core.specs.declared.map.MapId.{MapId}
 use Rattle.bt_core.specs.declared.operator.BinOp.{BinOp}
 use Rattle.bt_core.specs.declared.place.Place.{Place}
 use Rattle.bt_ast.specs.declared.expr.Expr.{Expr}
-use Rattle.bt_ast.specs.declared.expr.MapRef.{MapRef}
-use Rattle.bt_ast.specs.declared.expr.Target.{Target, fold-roll-Target}
-use Rattle.bt_ast.specs.declared.expr.Target.TheVariants as target
-use Rattle.bt_ast.specs.declared.expr.ExprKind.TheOpen.{Target-F}
 use Rattle.bt_ast.specs.declared.stmt.Block.{Block, out-Block, roll-out-Block, fold-roll-Block}
-use Rattle.bt_ast.specs.declared.stmt.Stmt.{Stmt, out-Stmt}
 use Rattle.bt_ast.specs.declared.stmt.StmtKind.{StmtKind, fold-roll-StmtKind}
 use Rattle.bt_ast.specs.declared.stmt.StmtKind.TheVariants.{If, While, Unroll, rolls-If, rolls-While, rolls-Unroll}
 use Rattle.bt_ast.specs.declared.stmt.StmtKind.TheOpen.{StmtKind-F}
 use Rattle.bt_ast.specs.declared.stmt.StmtKind.TheShapes.{former-StmtKind-If-0-at-2}
 use Rattle.typed_tree.specs.declared.stmt.TypedStmt.TheShapes.{former-TypedStmt-If-0-at-2}
-use Rattle.expr_types.specs.Walk.{Seen, MapSeen, TargetSeen, OnMap, OnVar, kind_layer, target_layer, expr_layer, step_layer, map_layer, of_expr, of_map, of_target}
 use Rattle.typed_tree.specs.declared.expr.NumExpr.{NumExpr}
 use Rattle.typed_tree.specs.declared.expr.AnyExpr.{AnyExpr}
 use Rattle.typed_tree.specs.declared.stmt.Jump.{Jump}

@@ -1,5 +1,5 @@
 -- What is done in turn.
-use Rattle.std.proofs.Common.{◌≡◌, ◌++◌, ℕ, Bool, List, [], ◌∷◌, map, Option, Some, None, Result, Ok, Err, IsErrAnd, refl, sym, ap, subst, ◌∙◌, append-nil}
+use Rattle.std.proofs.Common.{◌≡◌, ◌++◌, ℕ, Bool, List, [], ◌∷◌, Option, None, Result, Ok, Err, IsErrAnd, refl, sym, ap, subst, ◌∙◌, append-nil}
 use Rattle.bt_core.specs.declared.place.Place.{Place}
 use Rattle.expr_types.specs.declared.fault.Fault.{Fault}
 use Rattle.expr_types.specs.declared.fault.Rule.{Rule}
@@ -14,8 +14,8 @@ use Rattle.expr_types.specs.Rules.{broken_at}
 use Rattle.expr_types.specs.Walk.{Seen, MapSeen, at}
 use Rattle.typed_tree.specs.Parts.{Part, Made, parts_in}
 use Rattle.expr_types.specs.Typing.{Fits, AllFit, titles_of, word_of, words_by}
-use Rattle.expr_types.specs.Checked.{Checked, AllChecked, KeyChecked}
-use Rattle.bt_types.specs.Told.{Told, told, next, says, asks, value_told, values_told}
+use Rattle.expr_types.specs.Checked.{Checked, KeyChecked}
+use Rattle.bt_types.specs.Told.{Told, next, says, asks, value_told}
 use Rattle.bt_types.specs.Done.{Done, Does, DoesIn}
 use Rattle.expr_types.proofs.Judging.{judged_ok, judged_err}
 use Rattle.expr_types.proofs.Growing.{grows_none, grows_on, grows_learn, IsInner}

@@ -1,5 +1,5 @@
 -- Whether `exit()` stands in a script.
-use Rattle.std.specs.Prelude.{Bool, true, false, ◌||◌, Option, unwrap_or}
+use Rattle.std.specs.Prelude.{Bool, true, false, ◌||◌, unwrap_or}
 use Rattle.std.specs.List.{list_any}
 use Rattle.bt_ast.specs.declared.expr.Expr.{Expr}
 use Rattle.bt_ast.specs.declared.probe.Probe.{Probe}

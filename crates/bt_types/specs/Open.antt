@@ -1,13 +1,11 @@
 -- Bodies that were checked, while their script is: definitions for the proof of the check alone.
-use Rattle.std.specs.Prelude.{◌≡◌, ℕ, true, List, [], ◌∷◌, map, Option, Some, None, slice_get, Ok}
-use Rattle.std.specs.List.{AllZip, filter_map}
-use Rattle.std.specs.Option.{option_map}
+use Rattle.std.specs.Prelude.{◌≡◌, true, List, map, Some, slice_get, Ok}
+use Rattle.std.specs.List.{AllZip}
 use Rattle.bt_ast.specs.declared.attached.BodyId.{BodyId}
 use Rattle.bt_ast.specs.declared.attached.BodyPoint.{BodyPoint}
 use Rattle.bt_ast.specs.declared.probe.Probe.{Probe}
 use Rattle.bt_ast.specs.declared.probe.Script.{Script}
 use Rattle.bt_core.specs.declared.map.MapDecl.{MapDecl}
-use Rattle.bt_core.specs.declared.map.MapId.{MapId}
 use Rattle.fmt_text.specs.declared.piece.Piece.{Piece}
 use Rattle.tracefs_format.specs.declared.format.Format.{Format}
 use Rattle.typed_tree.specs.declared.body.TypedBody.{TypedBody}
@@ -18,7 +16,8 @@ use Rattle.expr_types.specs.declared.known.Known.{Known}
 use Rattle.expr_types.specs.declared.known.Var.{Var}
 use Rattle.bt_types.specs.Bodies.{body_told, layout_at, script_told}
 use Rattle.bt_types.specs.Done.{Done}
-use Rattle.bt_types.specs.Under.{AreUnder}
+use Rattle.bt_types.specs.Listed.{maps_at, formats_at}
+use Rattle.bt_types.specs.Under.{AreBehind, AreUnder}
 use Rattle.expr_types.specs.Grows.{Grows}
 use Rattle.expr_types.specs.Judge.{judged}
 use Rattle.expr_types.specs.Known.{begun}
@@ -58,23 +57,16 @@ pub record IsOpen (script : Script) (formats : List Format) (k : Known) (id : Bo
   pub layout : body.layout ≡ layout_at formats id.point
   pub keeps : Keeps past body
 
+-- a body has the numbers of the maps and calls that it has named, where so much is known at its end
+pub record HasNumbers (k : Known) (body : OpenBody) : Type 0 where
+  pub named : body.named ≡ k.named
+  pub calls : body.calls ≡ k.calls
+
 pub record BodiesDone (script : Script) (formats : List Format) (bodies : List BodyId) (before now : Known) (opens : List OpenBody) : Type 0 where
   pub whole : judged (script_told script formats bodies).points before ≡ Ok now
   pub each : AllZip (IsOpen script formats now) bodies opens
   pub under : AreUnder script formats before bodies (map (λ (b : OpenBody). b.tree) opens)
-
--- the maps and formats of these numbers
-abbrev pub map_at : List MapDecl → ℕ → Option (MapId × MapDecl)
-map_at maps n = option_map (λ (d : MapDecl). (record { 0 = n }, d)) (slice_get maps n)
-
-abbrev pub maps_at : List MapDecl → List ℕ → List (MapId × MapDecl)
-maps_at maps named = filter_map (map_at maps) named
-
-abbrev pub format_at : List (List Piece) → ℕ → Option (ℕ × List Piece)
-format_at formats n = option_map (λ (pieces : List Piece). (n, pieces)) (slice_get formats n)
-
-abbrev pub formats_at : List (List Piece) → List ℕ → List (ℕ × List Piece)
-formats_at formats calls = filter_map (format_at formats) calls
+  pub numbers : AreBehind (λ k id body. HasNumbers k body) script formats before bodies opens
 
 -- what a body names is there, in its types, among these maps and formats
 abbrev pub Closes : List MapDecl → List (List Piece) → OpenBody → Type 0

@@ -15,8 +15,9 @@ use Rattle.bt_types.specs.Bodies.{body_told, layout_at, nothing, script_told}
 use Rattle.expr_types.specs.Judge.{judged}
 use Rattle.expr_types.specs.Known.{decl_in}
 use Rattle.bt_types.specs.Exits.{script_exits}
-use Rattle.bt_types.specs.Under.{AreUnder}
-use Rattle.expr_types.specs.Typing.{words_by}
+use Rattle.bt_types.specs.Listed.{IsListed}
+use Rattle.bt_types.specs.Under.{AreBehind, AreUnder}
+use Rattle.expr_types.specs.Typing.{format_of_call, words_by}
 
 -- a map that is never decided holds whole numbers, and its keys have no parts
 abbrev pub decl_or_none : List ℕ → Option MapDecl → MapDecl
@@ -33,7 +34,7 @@ pub record IsTypedBody (script : Script) (formats : List Format) (k : Known) (id
   pub of_probe : slice_get script.probes id.probe ≡ Some probe
   pub layout : body.layout ≡ layout_at formats id.point
   pub variables : List (List ℕ)
-  pub written : words_by (record { maps = k.names; variables = variables; formats = map (λ (p : Printed). p.text) k.printed }) (tree_parts body.tree) ≡ (body_told probe).words
+  pub written : words_by (record { maps = k.names; variables = variables; formats = map format_of_call k.printed }) (tree_parts body.tree) ≡ (body_told probe).words
 
 -- each body has its typed one
 abbrev pub AreTypedBodies : Script → List Format → Known → List BodyId → List TypedBody → Type 0
@@ -42,7 +43,8 @@ AreTypedBodies script formats k [] (b ∷ bs) = ⊥
 AreTypedBodies script formats k (id ∷ ids) [] = ⊥
 AreTypedBodies script formats k (id ∷ ids) (b ∷ bs) = IsTypedBody script formats k id b × AreTypedBodies script formats k ids bs
 
--- no rule is broken, and what is known at the end is what was made of the script; each body's tree is typed under what is known in it
+-- No rule is broken, and what is known at the end is what was made of the script. Each body's tree is typed under what is known in it, and it lists
+-- what it has named. There is one typed script at most.
 pub record IsTypedScript (script : Script) (formats : List Format) (bodies : List BodyId) (typed : Typed) : Type 0 where
   pub known : Known
   pub whole : judged (script_told script formats bodies).points nothing ≡ Ok known
@@ -51,3 +53,4 @@ pub record IsTypedScript (script : Script) (formats : List Format) (bodies : Lis
   pub exits : typed.uses_exit ≡ script_exits script
   pub each : AreTypedBodies script formats known bodies typed.bodies
   pub under : AreUnder script formats nothing bodies (map (λ (b : TypedBody). b.tree) typed.bodies)
+  pub lists : AreBehind (λ k id body. IsListed typed.maps typed.formats k body) script formats nothing bodies typed.bodies

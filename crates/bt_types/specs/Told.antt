@@ -1,5 +1,5 @@
 -- The mentions of statements in walk order, and their words.
-use Rattle.std.specs.Prelude.{ℕ, ℤ, pos, unsigned_abs, Bool, true, false, List, [], ◌∷◌, ◌++◌, Option, Some, None, unwrap_or, map, length, if◌then◌else◌}
+use Rattle.std.specs.Prelude.{ℕ, ℤ, pos, unsigned_abs, Bool, true, List, [], ◌∷◌, ◌++◌, Option, Some, None, unwrap_or, map, length, if◌then◌else◌}
 use Rattle.bt_ast.specs.declared.expr.Expr.{Expr, out-Expr}
 use Rattle.bt_ast.specs.contracts.gathering.GatheringPartialEq.TheImpl as functions
 use Rattle.bt_ast.specs.declared.gathering.Gathering.{Gathering}
@@ -101,7 +101,7 @@ gather_told m kind number word =
 -- `printf`: the arguments, and then the format
 abbrev pub printf_told : List ℕ → Place → List Seen → Told
 printf_told format place values =
-    next (says (PrintfWord format)) (next (values_told values) (next (says EndWord) (asks place (Prints format place (map (λ v. v.sort) values)))))
+    next (says (PrintfWord format place)) (next (values_told values) (next (says EndWord) (asks place (Prints format place (map (λ v. v.sort) values)))))
 
 -- a map as a whole
 abbrev pub used : MapSeen → List Point

@@ -28,11 +28,14 @@ pub record IsUnder (k : Known) (words : List Word) (tree : TypedTree) : Type 0 w
   pub fits : AllFit k (tree_parts tree)
   pub written : words_by (titles_of k) (tree_parts tree) ≡ words
 
--- the trees of these bodies, each under what is known at its end, where so much is known before the first
+-- each of these is so under what is known at the end of its body, where so much is known before the first body
+abbrev pub AreBehind : {A : Type 0} → (Known → BodyId → A → Type 0) → Script → List Format → Known → List BodyId → List A → Type 0
+AreBehind Is script formats before [] [] = Unit {0}
+AreBehind Is script formats before [] (x ∷ xs) = ⊥
+AreBehind Is script formats before (id ∷ ids) [] = ⊥
+AreBehind Is script formats before (id ∷ ids) (x ∷ xs) =
+    Is (known_behind script formats before id) id x × AreBehind Is script formats (known_behind script formats before id) ids xs
+
+-- the trees of these bodies
 abbrev pub AreUnder : Script → List Format → Known → List BodyId → List TypedTree → Type 0
-AreUnder script formats before [] [] = Unit {0}
-AreUnder script formats before [] (t ∷ ts) = ⊥
-AreUnder script formats before (id ∷ ids) [] = ⊥
-AreUnder script formats before (id ∷ ids) (t ∷ ts) =
-    IsUnder (known_behind script formats before id) (told_at script formats id).words t
-    × AreUnder script formats (known_behind script formats before id) ids ts
+AreUnder script formats before ids trees = AreBehind (λ k id tree. IsUnder k (told_at script formats id).words tree) script formats before ids trees

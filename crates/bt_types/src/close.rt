@@ -4,7 +4,8 @@ ghost use Rattle.std.specs.List.{AllZip, list_all};
 ghost use Rattle.typed_tree.specs.Scope.{is_fine_decl};
 ghost use Rattle.expr_types.specs.declared.known.Printed.{Printed as PrintedValue};
 ghost use Rattle.expr_types.specs.Known.{decl_in};
-ghost use Rattle.bt_types.specs.Open.{Closes, IsClosed, format_at, formats_at, map_at, maps_at};
+ghost use Rattle.bt_types.specs.Listed.{format_at, formats_at, map_at, maps_at};
+ghost use Rattle.bt_types.specs.Open.{Closes, IsClosed};
 ghost use Rattle.bt_types.specs.Script.{decl_or_none, maps_of};
 
 use crate::body::OpenBody;

@@ -5,6 +5,7 @@ use Rattle.std.proofs.lemmas.List.{map-append}
 use Rattle.std.proofs.lemmas.List.Folds.{list_any-append}
 use Rattle.bt_core.specs.declared.map.MapKind.{MapKind}
 use Rattle.bt_core.specs.declared.map.Shape.{Shape}
+use Rattle.bt_core.specs.declared.place.Place.{Place}
 use Rattle.expr_types.specs.declared.known.Known.{Known}
 use Rattle.expr_types.specs.declared.known.Printed.{Printed as Call}
 use Rattle.expr_types.specs.declared.known.Var.{Var}
@@ -13,7 +14,7 @@ use Rattle.expr_types.specs.Known.{event_field}
 use Rattle.expr_types.specs.Grows.{IsFrontOf, Grows}
 use Rattle.typed_tree.specs.Parts.{Part, Constant, Literal, Numeric, Command, FieldOf, VarOf, MapOf, AggOf, Stepped, Prefixed, Joined, Both, Either, Chosen}
 use Rattle.typed_tree.specs.Parts.{Assigned, Gathered, Deleted, Printed, Shown, Cleared, Zeroed, Jumped, Looped, Unrolled, Arm, Otherwise, NoOtherwise, Ending, Made}
-use Rattle.expr_types.specs.Typing.{IsDeclared, IsNamed, IsMap, IsMapOf, Fits, AllFit, Titles, titles_of, title, word_of, words_by, IsTyping}
+use Rattle.expr_types.specs.Typing.{IsDeclared, IsNamed, IsMap, IsMapOf, Fits, AllFit, Titles, no_format, format_of_call, titles_of, title, format_title, word_of, words_by, IsTyping}
 use Rattle.expr_types.proofs.Growing.{decl_later, shape_later}
 
 -- what stands at a place of a list stands there in a longer one
@@ -98,11 +99,13 @@ var_title a b g number var h =
     let of : Var → List ℕ = λ v. v.name in
     title_is (map of b.vars) number var.name (get_mapped of b.vars number var (get_later a.vars b.vars number var g.vars h)) ∙ sym (title_is (map of a.vars) number var.name (get_mapped of a.vars number var h))
 
-call_title : (a b : Known) → Grows a b → (number : ℕ) (call : Call) → slice_get a.printed number ≡ Some call → title (titles_of b).formats number ≡ title (titles_of a).formats number
-call_title a b g number call h =
-    let of : Call → List ℕ = λ c. c.text in
-    title_is (map of b.printed) number call.text (get_mapped of b.printed number call (get_later a.printed b.printed number call g.printed h))
-    ∙ sym (title_is (map of a.printed) number call.text (get_mapped of a.printed number call h))
+-- the format of a call
+pub format_is : (calls : List Call) (number : ℕ) (call : Call) → slice_get calls number ≡ Some call → format_title (map format_of_call calls) number ≡ format_of_call call
+format_is calls number call h =
+    ap (λ (o : Option (List ℕ × Place)). elim o [ None ↦ no_format | Some format ↦ format ]) (get_mapped format_of_call calls number call h)
+
+format_later : (a b : Known) → Grows a b → (number : ℕ) (call : Call) → slice_get a.printed number ≡ Some call → format_title (titles_of b).formats number ≡ format_title (titles_of a).formats number
+format_later a b g number call h = format_is b.printed number call (get_later a.printed b.printed number call g.printed h) ∙ sym (format_is a.printed number call h)
 
 word_later : (a b : Known) → Grows a b → (p : Part) → Fits a p → word_of (titles_of b) p ≡ word_of (titles_of a) p
 word_later a b g (VarOf number shape) h = ap VarWord (var_title a b g number h.var h.numbered)
@@ -110,7 +113,7 @@ word_later a b g (MapOf number keys shape) h = ap (λ n. MapWord n (length keys)
 word_later a b g (AggOf number keys) h = ap (λ n. MapWord n (length keys)) (map_title a b g number h.map.name h.map.named.numbered)
 word_later a b g (Gathered number keys kind counts) h = ap (λ n. GatherWord n (length keys) kind) (map_title a b g number h.0.name h.0.named.numbered)
 word_later a b g (Deleted number keys) h = ap (λ n. DeleteWord n (length keys)) (map_title a b g number h.map.name h.map.named.numbered)
-word_later a b g (Printed number shapes) h = ap PrintfWord (call_title a b g number h.call h.numbered)
+word_later a b g (Printed number shapes) h = ap (λ (f : List ℕ × Place). PrintfWord f.0 f.1) (format_later a b g number h.call h.numbered)
 word_later a b g (Shown number top div) h = ap (λ n. ShowWord n top div) (map_title a b g number h.0.name h.0.named.numbered)
 word_later a b g (Cleared number) h = ap ClearWord (map_title a b g number h.name h.named.numbered)
 word_later a b g (Zeroed number) h = ap ZeroWord (map_title a b g number h.name h.named.numbered)

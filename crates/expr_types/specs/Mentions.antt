@@ -67,11 +67,11 @@ pub data Word : Type 0 where
   AndWord : Word
   OrWord : Word
   ChooseWord : Word
-  -- of statements: an assignment, by its operator; an aggregation; a deletion; a call; a map as a whole
+  -- of statements: an assignment, by its operator; an aggregation; a deletion; a call whose format stands at a place; a map as a whole
   AssignWord : (op : Option BinOp) → Word
   GatherWord : (name : List ℕ) (parts : ℕ) (kind : AggKind) → Word
   DeleteWord : (name : List ℕ) (parts : ℕ) → Word
-  PrintfWord : (format : List ℕ) → Word
+  PrintfWord : (format : List ℕ) (place : Place) → Word
   ShowWord : (name : List ℕ) (top : ℕ) (div : ℤ) → Word
   ClearWord : (name : List ℕ) → Word
   ZeroWord : (name : List ℕ) → Word

@@ -8,6 +8,7 @@ use Rattle.bt_core.specs.declared.map.MapDecl.{MapDecl}
 use Rattle.bt_core.specs.declared.map.MapKind.{MapKind}
 use Rattle.bt_core.specs.declared.map.MapKind.TheVariants.{Aggs}
 use Rattle.bt_core.specs.declared.map.Shape.{Shape}
+use Rattle.bt_core.specs.declared.place.Place.{Place}
 use Rattle.fmt_text.specs.Deciding.{format_pieces}
 use Rattle.typed_tree.specs.declared.expr.NumBuiltin.{NumBuiltin}
 use Rattle.typed_tree.specs.declared.expr.NumBuiltin.TheVariants.{Pid, Tid, Uid, Gid, Cpu, Nsecs, Elapsed}
@@ -112,17 +113,27 @@ builtin_of Cpu = script.Cpu
 builtin_of Nsecs = script.Nsecs
 builtin_of Elapsed = script.Elapsed
 
--- the names of maps and variables and the texts of formats, by their numbers
+-- the names of maps and variables, and the text and the place of the format of each call of `printf`, by their numbers
 pub record Titles : Type 0 where
   pub maps : List (List ℕ)
   pub variables : List (List ℕ)
-  pub formats : List (List ℕ)
+  pub formats : List (List ℕ × Place)
+
+abbrev pub format_of_call : Call → List ℕ × Place
+format_of_call call = (call.text, call.place)
 
 abbrev pub titles_of : Known → Titles
-titles_of k = record { maps = k.names; variables = map (λ (v : Var). v.name) k.vars; formats = map (λ (c : Call). c.text) k.printed }
+titles_of k = record { maps = k.names; variables = map (λ (v : Var). v.name) k.vars; formats = map format_of_call k.printed }
 
 abbrev pub title : List (List ℕ) → ℕ → List ℕ
 title names number = elim (slice_get names number) [ None ↦ [] | Some name ↦ name ]
+
+-- what is said of a format that is not there
+abbrev pub no_format : List ℕ × Place
+no_format = ([], record { line = 0; column = 0 })
+
+abbrev pub format_title : List (List ℕ × Place) → ℕ → List ℕ × Place
+format_title formats number = elim (slice_get formats number) [ None ↦ no_format | Some format ↦ format ]
 
 -- the script's word for a part
 abbrev pub word_of : Titles → Part → Word
@@ -143,7 +154,7 @@ word_of t Chosen = ChooseWord
 word_of t (Assigned op) = AssignWord op
 word_of t (Gathered number keys kind counts) = GatherWord (title t.maps number) (length keys) kind
 word_of t (Deleted number keys) = DeleteWord (title t.maps number) (length keys)
-word_of t (Printed format shapes) = PrintfWord (title t.formats format)
+word_of t (Printed format shapes) = PrintfWord (format_title t.formats format).0 (format_title t.formats format).1
 word_of t (Shown number top div) = ShowWord (title t.maps number) top div
 word_of t (Cleared number) = ClearWord (title t.maps number)
 word_of t (Zeroed number) = ZeroWord (title t.maps number)

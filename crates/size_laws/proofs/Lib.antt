@@ -1,6 +1,0 @@
-mod Apart
-mod Exprs
-mod OneSize
-mod Reader
-mod Shapes
-mod Stmts

@@ -1,9 +1,8 @@
-use Rattle.std.proofs.Common.{◌≡◌, Bool, map, sym, ap, subst, ◌∙◌}
-use Rattle.bt_ast.specs.declared.expr.MapRef.{out-MapRef}
-use Rattle.expr_types.specs.Walk.{MapSeen, OnMap, OnVar, of_expr, of_map}
+use Rattle.std.proofs.Common.{Bool, map, ap}
+use Rattle.expr_types.specs.Walk.{MapSeen, OnMap, of_expr, of_map}
 use Rattle.typed_tree.specs.Parts.{made_of, stmt_parts}
 use Rattle.expr_types.proofs.Layers.{map_is}
-use Rattle.bt_types.proofs.Turns.{does_in_err, fault_first, fault_behind, went_key, went_seen}
+use Rattle.bt_types.proofs.Turns.{does_in_err, fault_first, fault_behind, went_key}
 use Rattle.bt_types.specs.Told.{set_told}
 use Rattle.bt_types.proofs.MapStatements.{set_map_done, set_map_refused}
 use Rattle.bt_types.proofs.StmtLayers.{map_stmt}

@@ -1,4 +1,4 @@
-use Rattle.std.proofs.Common.{◌≡◌, Bool, Option, Some, None, sym, ap, subst, ◌∙◌}
+use Rattle.std.proofs.Common.{◌≡◌, Bool, Some, None, ap, subst, ◌∙◌}
 use Rattle.bt_core.specs.declared.map.Shape.{Shape}
 use Rattle.expr_types.specs.declared.known.Var.{Var}
 use Rattle.expr_types.specs.Judge.{IsBreach}

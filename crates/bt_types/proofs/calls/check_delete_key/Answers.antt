@@ -1,12 +1,7 @@
-use Rattle.std.proofs.Common.{◌≡◌, ◌∷◌, [], ◌++◌, Bool, List, map, Some, OnOk, sym, ap, subst, ◌∙◌}
-use Rattle.bt_core.specs.declared.place.Place.{Place}
+use Rattle.std.proofs.Common.{◌≡◌, ◌∷◌, [], ◌++◌, List, map, ap, ◌∙◌}
 use Rattle.expr_types.specs.Walk.{MapSeen, of_expr, of_map}
-use Rattle.expr_types.specs.Mentions.{Sort}
-use Rattle.expr_types.specs.Known.{shape_in}
-use Rattle.expr_types.specs.Judge.{judged, Says}
-use Rattle.typed_tree.specs.Parts.{Made, made_of, stmt_parts, key_shapes}
-use Rattle.bt_types.specs.Told.{delete_told, delete_points}
-use Rattle.bt_types.specs.Done.{Removed}
+use Rattle.typed_tree.specs.Parts.{made_of, stmt_parts}
+use Rattle.bt_types.specs.Told.{delete_told}
 use Rattle.expr_types.proofs.Layers.{map_is}
 use Rattle.bt_types.proofs.Turns.{does_in_err, fault_first}
 use Rattle.typed_tree.specs.declared.expr.AnyExpr.{AnyExpr}

@@ -1,4 +1,4 @@
-use Rattle.std.proofs.Common.{◌≡◌, Bool, FitsSigned, w64, sym, ap, subst, ◌∙◌}
+use Rattle.std.proofs.Common.{Bool, FitsSigned, w64}
 use Rattle.std.proofs.lemmas.Int.{to_z-of_z}
 use Rattle.expr_types.specs.Walk.{of_map}
 use Rattle.typed_tree.specs.Parts.{stmt_parts}

@@ -1,10 +1,8 @@
-use Rattle.std.proofs.Common.{◌≡◌, ◌∷◌, [], ◌++◌, Bool, List, map, Some, sym, ap, subst, ◌∙◌}
-use Rattle.bt_core.specs.declared.map.Shape.{Shape}
-use Rattle.expr_types.specs.Known.{shape_in, decides, with_mention}
+use Rattle.std.proofs.Common.{Bool, List, map}
 use Rattle.expr_types.specs.Mentions.{Sort}
-use Rattle.typed_tree.specs.Parts.{Made, made_of, key_shapes}
+use Rattle.typed_tree.specs.Parts.{made_of, key_shapes}
 use Rattle.bt_types.specs.Told.{delete_points}
-use Rattle.bt_types.proofs.MapCalls.{Deletion, delete_went, delete_first, delete_second, delete_third, delete_leaves, says_err}
+use Rattle.bt_types.proofs.MapCalls.{delete_went, delete_first, delete_second, delete_third, delete_leaves, says_err}
 use Rattle.bt_types.proofs.StmtLayers.{delete_stmt}
 use Rattle.bt_types.proofs.calls.check_removed.Goals as goal
 

@@ -1,7 +1,6 @@
-use Rattle.std.proofs.Common.{◌≡◌, ◌∷◌, [], ◌++◌, Bool, List, map, Some, sym, ap, subst, ◌∙◌}
+use Rattle.std.proofs.Common.{map, ap}
 use Rattle.expr_types.specs.Walk.{MapSeen, of_map}
 use Rattle.typed_tree.specs.Parts.{made_of}
-use Rattle.bt_types.specs.Told.{used}
 use Rattle.expr_types.proofs.Layers.{map_is}
 use Rattle.bt_types.proofs.Turns.{fault_first}
 use Rattle.bt_types.proofs.MapCalls.{use_done, use_refused, use_err}

@@ -1,4 +1,3 @@
-use Rattle.std.proofs.Common.{◌≡◌}
 use Rattle.std.specs.List.{AllZip}
 use Rattle.bt_types.specs.Open.{IsClosed}
 use Rattle.bt_types.proofs.close.close_bodies.Given as goal

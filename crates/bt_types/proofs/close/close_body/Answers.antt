@@ -1,8 +1,3 @@
-use Rattle.std.proofs.Common.{◌≡◌, true, List, ℕ, sym, subst}
-use Rattle.std.specs.List.{list_all}
-use Rattle.bt_core.specs.declared.map.MapDecl.{MapDecl}
-use Rattle.bt_core.specs.declared.map.MapId.{MapId}
-use Rattle.typed_tree.specs.Scope.{is_fine_decl}
 use Rattle.bt_types.proofs.Scoped.{named_fine}
 use Rattle.bt_types.proofs.close.close_body.Goals as goal
 

@@ -1,5 +1,5 @@
 use Rattle.std.proofs.Common.{◌≡◌, take}
-use Rattle.bt_types.specs.Open.{formats_at}
+use Rattle.bt_types.specs.Listed.{formats_at}
 use Rattle.bt_types.proofs.close.formats_at.Given as goal
 
 -- what was seen so far

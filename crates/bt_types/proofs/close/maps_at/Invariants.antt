@@ -1,5 +1,5 @@
 use Rattle.std.proofs.Common.{◌≡◌, take}
-use Rattle.bt_types.specs.Open.{maps_at}
+use Rattle.bt_types.specs.Listed.{maps_at}
 use Rattle.bt_types.proofs.close.maps_at.Given as goal
 
 -- what was seen so far

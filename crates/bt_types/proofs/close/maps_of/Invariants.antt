@@ -1,4 +1,4 @@
-use Rattle.std.proofs.Common.{◌≡◌, map, take, List, ℕ}
+use Rattle.std.proofs.Common.{◌≡◌, map, take}
 use Rattle.expr_types.specs.Known.{decl_in}
 use Rattle.bt_types.specs.Script.{decl_or_none}
 use Rattle.bt_types.proofs.close.maps_of.Given as goal

@@ -1,7 +1,7 @@
-use Rattle.std.proofs.Common.{◌≡◌, ◌||◌, Bool, true, false, Option, Some, None, arith, List, option_map, unwrap_or, sym, ap, subst, ◌∙◌}
+use Rattle.std.proofs.Common.{◌≡◌, ◌||◌, Bool, true, false, Option, arith, List, option_map, unwrap_or, sym, ap, subst, ◌∙◌}
 use Rattle.std.specs.List.{list_any}
 use Rattle.bt_ast.specs.declared.expr.Expr.{Expr}
-use Rattle.bt_ast.specs.declared.stmt.Block.{Block, out-Block}
+use Rattle.bt_ast.specs.declared.stmt.Block.{Block}
 use Rattle.bt_ast.specs.declared.stmt.Stmt.{Stmt}
 use Rattle.bt_types.specs.Exits.{stmt_exits, block_exits}
 use Rattle.bt_types.proofs.ExitLaws.{block_exits_is, if_exits, any_here, none_more, none_all}

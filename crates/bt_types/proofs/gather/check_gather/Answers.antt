@@ -1,12 +1,9 @@
-use Rattle.std.proofs.Common.{◌≡◌, ◌∷◌, [], ◌++◌, Bool, List, map, Some, sym, ap, subst, ◌∙◌}
-use Rattle.bt_ast.specs.declared.expr.MapRef.{out-MapRef}
-use Rattle.expr_types.specs.Walk.{MapSeen, of_expr, of_map}
+use Rattle.std.proofs.Common.{Bool, map, ap}
+use Rattle.expr_types.specs.Walk.{MapSeen, of_map}
 use Rattle.typed_tree.specs.Parts.{made_of, stmt_parts}
 use Rattle.expr_types.proofs.Layers.{map_is}
-use Rattle.bt_types.proofs.Turns.{does_in_err, fault_first, fault_behind, went_key, went_seen, went_none, held_none, held_seen}
-use Rattle.bt_core.specs.declared.map.AggKind.{AggKind}
-use Rattle.bt_core.specs.declared.map.MapKind.TheVariants.{Aggs}
-use Rattle.typed_tree.specs.Scope.{is_fine_agg, is_count, same_bool}
+use Rattle.bt_types.proofs.Turns.{does_in_err, fault_first, fault_behind, went_key}
+use Rattle.typed_tree.specs.Scope.{is_fine_agg}
 use Rattle.expr_types.specs.declared.fault.Rule.TheVariants.{BadBounds}
 use Rattle.bt_types.specs.Told.{gather_told, gathered_told, kind_of_call, number_of_call}
 use Rattle.bt_types.proofs.MapCalls.{holds_not, counts_alone, gather_done, gather_bounds, gather_refused}

@@ -1,7 +1,7 @@
-use Rattle.std.proofs.Common.{◌≡◌, ◌∷◌, [], ◌++◌, Bool, List, map, Some, sym, ap, subst, ◌∙◌}
-use Rattle.expr_types.specs.Walk.{MapSeen, of_expr, of_map}
+use Rattle.std.proofs.Common.{Bool, map}
+use Rattle.expr_types.specs.Walk.{of_expr}
 use Rattle.typed_tree.specs.Parts.{made_of, stmt_parts}
-use Rattle.bt_types.proofs.Turns.{does_in_err, fault_first, fault_behind, went_key, went_seen, went_none, held_none, held_seen}
+use Rattle.bt_types.proofs.Turns.{does_in_err, fault_first}
 use Rattle.expr_types.specs.Walk.{points_of}
 use Rattle.bt_types.specs.Told.{printf_told}
 use Rattle.bt_types.proofs.Printing.{printf_done, printf_refused}

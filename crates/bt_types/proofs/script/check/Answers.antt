@@ -1,13 +1,8 @@
-use Rattle.std.proofs.Common.{◌≡◌, true, List, Some, map, sym, ap, subst, ◌∙◌}
-use Rattle.std.specs.List.{list_all}
-use Rattle.typed_tree.specs.Scope.{is_fine_decl}
-use Rattle.bt_ast.specs.declared.attached.BodyId.{BodyId}
-use Rattle.expr_types.specs.declared.known.Known.{Known}
+use Rattle.std.proofs.Common.{List, sym, subst}
 use Rattle.typed_tree.specs.declared.body.TypedTree.{TypedTree}
-use Rattle.bt_types.specs.Bodies.{script_told, nothing}
+use Rattle.bt_types.specs.Bodies.{nothing}
 use Rattle.bt_types.specs.Under.{AreUnder}
-use Rattle.expr_types.specs.Judge.{judged, SaysFault}
-use Rattle.bt_types.proofs.Closing.{fault_said, none_said, done_at, end_sound, typed_bodies, trees_same, are_in}
+use Rattle.bt_types.proofs.Closing.{fault_said, none_said, done_at, end_sound, typed_bodies, trees_same, are_in, all_listed}
 use Rattle.bt_types.proofs.Scoped.{maps_fine, bodies_close}
 use Rattle.bt_types.proofs.script.check.Goals as goal
 
@@ -66,6 +61,7 @@ returns-clause-typed c =
       each = typed_bodies script formats k c.in_ok-maps.maps c.in_ok-formats.formats ids c.in_ok-bodies.bodies c.in_ok-bodies-2.bodies done.each c.in_ok-bodies-2.ensures;
       under = subst (λ (l : List TypedTree). AreUnder script formats nothing ids l)
           (sym (trees_same c.in_ok-maps.maps c.in_ok-formats.formats c.in_ok-bodies.bodies c.in_ok-bodies-2.bodies c.in_ok-bodies-2.ensures)) done.under;
+      lists = all_listed script formats c.in_ok-maps.maps c.in_ok-formats.formats nothing ids c.in_ok-bodies.bodies c.in_ok-bodies-2.bodies c.in_ok-bodies-2.ensures done.numbers;
     }
 
 pub returns-clause-allowed : goal.returns-clause-allowed

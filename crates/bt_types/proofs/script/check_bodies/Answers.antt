@@ -1,4 +1,4 @@
-use Rattle.std.proofs.Common.{◌≡◌, ◌+◌, get_or, List, take, sym, subst}
+use Rattle.std.proofs.Common.{◌+◌, get_or, List, take, sym, subst}
 use Rattle.std.proofs.lemmas.List.{get_or_default}
 use Rattle.bt_ast.specs.declared.attached.BodyId.{BodyId}
 use Rattle.bt_ast.specs.declared.attached.BodyPoint.TheVariants.{Begin}

@@ -1,23 +1,20 @@
-use Rattle.std.proofs.Common.{◌≡◌, ◌+◌, ◌++◌, ◌∷◌, [], ℤ, List, Bool, true, not, map, take, option_map, unsigned_abs, FitsSigned, w64, Option, Some, None, Result, Ok, Err, rules, arith, refl, sym, ap, subst, ◌∙◌}
+use Rattle.std.proofs.Common.{◌+◌, ◌∷◌, [], List, Bool, true, map, take, option_map, FitsSigned, w64, arith, refl, sym, subst}
 use Rattle.std.proofs.lemmas.Int.{to_z-of_z}
 use Rattle.bt_ast.specs.declared.expr.Expr.{Expr}
 use Rattle.bt_ast.specs.declared.stmt.Block.{Block, out-Block}
 use Rattle.bt_ast.specs.declared.stmt.Stmt.{Stmt}
-use Rattle.expr_types.specs.declared.fault.TypeError.{TypeError}
-use Rattle.expr_types.specs.declared.known.Known.{Known}
 use Rattle.typed_tree.specs.declared.expr.NumExpr.{NumExpr}
 use Rattle.typed_tree.specs.declared.stmt.TypedStmt.{TypedStmt}
 use Rattle.typed_tree.specs.declared.stmt.TypedBlock.{TypedBlock}
-use Rattle.expr_types.specs.Mentions.{ArmWord, WhileWord, UnrollWord, EndWord}
+use Rattle.expr_types.specs.Mentions.{ArmWord, WhileWord, EndWord}
 use Rattle.expr_types.specs.Judge.{judged, SaysFault}
-use Rattle.expr_types.specs.Walk.{of_expr, of_map}
 use Rattle.typed_tree.specs.Parts.{Part, Arm, Looped, Ending, num_parts, joined, arm_parts, otherwise_parts, stmt_parts, block_parts}
-use Rattle.bt_types.specs.Told.{Told, next, says, told_in_turn, condition_told, arm_told, otherwise_told, if_told, while_told, unroll_told, block_told, of_block, of_stmt}
-use Rattle.bt_types.specs.Done.{Done, Does}
-use Rattle.bt_types.proofs.Turns.{done_next, done_says, refused_front, refused_next, does_err, does_in_err, does_at}
-use Rattle.bt_types.proofs.Runs.{run_begins, run_more, run_refused, run_ends}
+use Rattle.bt_types.specs.Told.{Told, says, told_in_turn, condition_told, arm_told, otherwise_told, if_told, while_told, unroll_told, block_told, of_block, of_stmt}
+use Rattle.bt_types.specs.Done.{Done}
+use Rattle.bt_types.proofs.Turns.{done_next, done_says, refused_front, refused_next, does_err, does_in_err}
+use Rattle.bt_types.proofs.Runs.{run_more, run_refused, run_ends}
 use Rattle.bt_types.proofs.Loops.{worded_done, worded_first, worded_second, unroll_done, unroll_first, unroll_refused}
-use Rattle.bt_types.proofs.StmtLayers.{while_is, unroll_is, block_is, if_is, while_stmt, unroll_stmt, block_of, if_stmt}
+use Rattle.bt_types.proofs.StmtLayers.{block_is, if_is, while_stmt, unroll_stmt, block_of, if_stmt}
 use Rattle.bt_types.proofs.stmt.+stmt.Goals as goal
 
 pub check_stmts-returns-in_err-typed : goal.check_stmts-returns-in_err-typed

@@ -1,4 +1,4 @@
-use Rattle.std.proofs.Common.{◌≡◌, map, take}
+use Rattle.std.proofs.Common.{map, take}
 use Rattle.bt_types.specs.Told.{told_in_turn, arm_told, of_block, of_stmt}
 use Rattle.typed_tree.specs.Parts.{joined, arm_parts, stmt_parts, block_parts}
 use Rattle.bt_types.specs.Done.{Done}

@@ -1,0 +1,7 @@
+mod Apart
+mod Exprs
+mod Finding
+mod Reader
+mod Stmts
+pub mod Typings
+mod Words
