@@ -12,6 +12,7 @@ use anyhow::{Context, Result};
 use bt_core::memory::Memory;
 use case::Case;
 use outcome::{Outcome, differing};
+use std::alloc::Global;
 use std::fs;
 use std::rt::Files;
 use std::sync::Wait;
