@@ -1,13 +1,16 @@
 -- The read of one file, and reads behind others.
-use Rattle.std.proofs.Common.{◌≡◌, ℕ, ◌<◌, ◌≤◌, ◌⊎◌, List, [], ◌∷◌, ◌++◌, length, refl, ap, subst, inl, inr, ◌∙◌, append_assoc}
-use Rattle.std.specs.Prelude.{Option, Some, Result, Ok, Err, IfSome, IsErrOf}
+use Rattle.std.proofs.Common.{◌≡◌, ℕ, ◌<◌, ◌≤◌, ◌⊎◌, List, [], ◌∷◌, ◌++◌, length, refl, sym, ap, subst, inl, inr, ◌∙◌, append_assoc, append-nil}
+use Rattle.std.specs.Prelude.{Option, Some, Result, Ok, Err, IfErr, IfOk, IfSome, IsErrOf}
 use Rattle.bt_io.specs.declared.shelf.ShelfError.{ShelfError}
 use Rattle.bt_io.specs.declared.shelf.ShelfError.TheVariants as shelf
+use Rattle.run_base.specs.declared.job.Job.{Job}
 use Rattle.bt_top.specs.declared.refusal.Operand.{Operand}
 use Rattle.bt_top.specs.declared.refusal.Operand.TheVariants as operand
 use Rattle.bt_top.specs.declared.refusal.Refusal.{Refusal}
 use Rattle.bt_top.specs.declared.refusal.Refusal.TheVariants.{Memory}
-use Rattle.bt_top.specs.Doing.{IsRead, IsUnread}
+use Rattle.bt_top.specs.Doing.{IsFaultRefusal, IsRead, IsUnread}
+use Rattle.bt_top.specs.Due.{AreShort, IsFinding}
+use Rattle.bt_top.specs.Jobs.{IsJobFor, IsJobOf}
 use Rattle.bt_top.specs.Orders.{OperandFile, limit_of}
 use Rattle.bt_top.specs.Refusals.{read_refusal}
 use Rattle.bt_top.specs.Serve.{ShelfUse, ShelfFailed}
@@ -59,3 +62,26 @@ unread_from seen between file refusal same later after (inr (inr e)) =
 -- names that are asked for one behind the other
 pub two_asked : (old between new names : List (List ℕ)) (name : List ℕ) → between ≡ old ++ names → new ≡ between ++ name ∷ [] → new ≡ old ++ (names ++ name ∷ [])
 two_asked old between new names name first second = second ∙ ap (λ (l : List (List ℕ)). l ++ name ∷ []) first ∙ append_assoc old names (name ∷ [])
+
+-- where a read came first, its name or none was asked for
+pub named_first : (old new : List (List ℕ)) (name : List ℕ) → (new ≡ old ++ name ∷ []) ⊎ (new ≡ old) → (new ≡ old ++ name ∷ []) ⊎ (new ≡ old ++ [])
+named_first old new name (inl e) = inl e
+named_first old new name (inr e) = inr (e ∙ sym (append-nil old))
+
+-- where it came behind others, theirs and its own were, or theirs alone
+pub named_next : (old between new names : List (List ℕ)) (name : List ℕ) → between ≡ old ++ names
+    → (new ≡ between ++ name ∷ []) ⊎ (new ≡ between) → (new ≡ old ++ (names ++ name ∷ [])) ⊎ (new ≡ old ++ names)
+named_next old between new names name first (inl e) = inl (two_asked old between new names name first e)
+named_next old between new names name first (inr e) = inr (e ∙ first)
+
+-- what refuses a script and a recording is found of contents that begin with them
+pub found_of : {A : Type 0} (text bytes : List ℕ) (more : List (List ℕ)) (answer : Result A Refusal) → IfErr answer (IsFaultRefusal text bytes)
+    → IfErr answer (λ refusal. (refusal ≡ Memory) ⊎ IsFinding (text ∷ bytes ∷ more) (Some refusal))
+found_of text bytes more (Ok a) wrong = tt
+found_of text bytes more (Err refusal) wrong = wrong
+
+-- what a script and a recording ask for is what files ask for that begin with them
+pub both_jobs : (files : List OperandFile) (text bytes : List ℕ) (more : List (List ℕ)) (answer : Result Job Refusal) → AreShort files (text ∷ bytes ∷ more)
+    → IfOk answer (IsJobOf text bytes) → IfOk answer (IsJobFor files (text ∷ bytes ∷ more))
+both_jobs files text bytes more (Ok job) short of = record { short = short; of = of }
+both_jobs files text bytes more (Err refusal) short of = tt
