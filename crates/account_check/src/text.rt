@@ -1,5 +1,5 @@
 // The text that steps print, and where another differs from it.
-ghost use Rattle.std.specs.Prelude.{◌≡◌, ◌++◌, ◌∷◌, [], ℕ, length, IfOk, OnOk, MatchOption};
+ghost use Rattle.std.specs.Prelude.{◌≡◌, ◌↔◌, ◌++◌, ◌∷◌, [], ℕ, length, slice_get, Some, IsTrue, IfOk, OnOk, MatchOption};
 ghost use Rattle.std.specs.List.{flat_map};
 ghost use Rattle.map_printer.specs.ItemTexts.{item_text};
 ghost use Rattle.map_rows.specs.Fits.{AllRowsFit};
@@ -72,12 +72,22 @@ pub(crate) fn text_of(alloc: Global, script: &Typed, told: &Told) -> Result<Vec<
     Ok(text)
 }
 
+/// Whether a text has this byte at this place.
+fn has_byte(text: &[u8], at: usize, byte: u8) -> bool
+    ensures { IsTrue result ↔ (slice_get text.now at ≡ Some byte) }
+{
+    match text.get(at) {
+        Some(there) => *there == byte,
+        None => false,
+    }
+}
+
 /// The first place where one text differs from another, or `None` where they are the same.
 pub(crate) fn first_difference(one: &[u8], other: &[u8]) -> Option<usize>
     ensures { MatchOption result (one.now ≡ other.now) (λ at. DifferAt one.now other.now at) }
 {
     for (at, byte) in one.iter().enumerate() {
-        if at >= other.len() || other[at] != *byte {
+        if !has_byte(other, at, *byte) {
             return Some(at);
         }
     }
