@@ -18,7 +18,7 @@ first_stop-stop-requires g c =
     let n = c.len-cpus.result in
     let main : n ≡ length r.cpus = search rules in
     let w : World = record { cpus = n; ticks = c.len-ticks.result; maps = c.args.maps.now } in
-    let low = low_by w (length r.cpus) c.in_ok-made.made t.list main c.in_ok-trails.ensures.alike c.in_ok-made.ensures.can in
+    let low = low_by w (length r.cpus) c.in_ok-made.made.list t.list main c.in_ok-trails.ensures.alike c.in_ok-made.ensures.can in
     let below = below_by t.list (length r.cpus) (length t.each.items) c.in_ok-trails.ensures.reached.count low in
     subst (λ (z : List Step × List Reached). AllByRecursion (λ (s : Step). s.actor < length z.1) z.0) (λ i. (sym c.as_slice.ensures i, sym c.as_slice-2.ensures.value i)) below
 
@@ -30,9 +30,9 @@ returns-then-stop-total g c =
     let n = c.len-cpus.result in
     let main : n ≡ length r.cpus = search rules in
     let w : World = record { cpus = n; ticks = c.len-ticks.result; maps = c.args.maps.now } in
-    let low = low_by w (length r.cpus) c.in_ok-made.made t.list main c.in_ok-trails.ensures.alike c.in_ok-made.ensures.can in
+    let low = low_by w (length r.cpus) c.in_ok-made.made.list t.list main c.in_ok-trails.ensures.alike c.in_ok-made.ensures.can in
     let lt : c.first_stop-stop.result < length c.args.entries = (let k = c.if-stop-total.true in let m : c.len-total.result ≡ length c.args.entries = search rules in omega arith) in
-    found_wrong p c.args.entries c.in_ok-made.made t.list n main c.requires.1.1.1.1.1 c.in_ok-made.ensures.within c.in_ok-made.ensures.told c.in_ok-trails.ensures.alike
+    found_wrong p c.args.entries c.in_ok-made.made.list t.list n main c.requires.1.1.1.1.1 c.in_ok-made.ensures.within c.in_ok-made.ensures.told c.in_ok-trails.ensures.alike
     c.in_ok-made.ensures.replies c.in_ok-made.ensures.stamps c.in_ok-made.ensures.order c.in_ok-made.ensures.wrong
     t.each.items t.begin t.cpus c.in_ok-trails.ensures.reached low c.as_slice.result.now c.as_slice.ensures c.as_slice-2.result.now c.as_slice-2.ensures.value
     c.first_stop-stop.result c.first_stop-stop.ensures.within c.first_stop-stop.ensures.before c.first_stop-stop.ensures.stop
@@ -46,10 +46,10 @@ returns-then-are_all_on g c =
     let n = c.len-cpus.result in
     let main : n ≡ length r.cpus = search rules in
     let w : World = record { cpus = n; ticks = c.len-ticks.result; maps = c.args.maps.now } in
-    let low = low_by w (length r.cpus) c.in_ok-made.made t.list main c.in_ok-trails.ensures.alike c.in_ok-made.ensures.can in
+    let low = low_by w (length r.cpus) c.in_ok-made.made.list t.list main c.in_ok-trails.ensures.alike c.in_ok-made.ensures.can in
     let every : length c.args.entries ≤ c.first_stop-stop.result = (let k = c.if-stop-total.false in let m : c.len-total.result ≡ length c.args.entries = search rules in omega arith) in
     let ons = subst (λ (z : List Reached). (a : ℕ) (d : Reached) → a < length z → IsTrue (slice_index_or z a d).on_list) c.as_slice-3.ensures.value (c.are_all_on.ensures.on c.if-are_all_on.true) in
-    found_right p c.args.entries c.in_ok-made.made t.list n main c.requires.1.1.1.1.1 c.in_ok-made.ensures.within c.in_ok-made.ensures.told c.in_ok-trails.ensures.alike
+    found_right p c.args.entries c.in_ok-made.made.list t.list n main c.requires.1.1.1.1.1 c.in_ok-made.ensures.within c.in_ok-made.ensures.told c.in_ok-trails.ensures.alike
     c.in_ok-made.ensures.replies c.in_ok-made.ensures.stamps c.in_ok-made.ensures.order c.in_ok-made.ensures.wrong
     t.each.items t.begin t.cpus c.in_ok-trails.ensures.reached low c.as_slice.result.now c.as_slice.ensures c.as_slice-2.result.now c.as_slice-2.ensures.value
     c.first_stop-stop.result c.first_stop-stop.ensures.within c.first_stop-stop.ensures.before c.first_stop-stop.ensures.stop
@@ -63,10 +63,10 @@ returns-else-are_all_on g c =
     let n = c.len-cpus.result in
     let main : n ≡ length r.cpus = search rules in
     let w : World = record { cpus = n; ticks = c.len-ticks.result; maps = c.args.maps.now } in
-    let low = low_by w (length r.cpus) c.in_ok-made.made t.list main c.in_ok-trails.ensures.alike c.in_ok-made.ensures.can in
+    let low = low_by w (length r.cpus) c.in_ok-made.made.list t.list main c.in_ok-trails.ensures.alike c.in_ok-made.ensures.can in
     let every : length c.args.entries ≤ c.first_stop-stop.result = (let k = c.if-stop-total.false in let m : c.len-total.result ≡ length c.args.entries = search rules in omega arith) in
     let off = subst (λ (z : List Reached). (a : ℕ) × ((d : Reached) × (a < length z) × ((slice_index_or z a d).on_list ≡ false))) c.as_slice-3.ensures.value (c.are_all_on.ensures.off c.if-are_all_on.false) in
-    found_unfinished p c.args.entries c.in_ok-made.made t.list n main c.requires.1.1.1.1.1 c.in_ok-made.ensures.within c.in_ok-made.ensures.told c.in_ok-trails.ensures.alike
+    found_unfinished p c.args.entries c.in_ok-made.made.list t.list n main c.requires.1.1.1.1.1 c.in_ok-made.ensures.within c.in_ok-made.ensures.told c.in_ok-trails.ensures.alike
     c.in_ok-made.ensures.replies c.in_ok-made.ensures.stamps c.in_ok-made.ensures.order c.in_ok-made.ensures.wrong
     t.each.items t.begin t.cpus c.in_ok-trails.ensures.reached low c.as_slice.result.now c.as_slice.ensures c.as_slice-2.result.now c.as_slice-2.ensures.value
     c.first_stop-stop.result c.first_stop-stop.ensures.within c.first_stop-stop.ensures.before c.first_stop-stop.ensures.stop

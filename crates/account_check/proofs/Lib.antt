@@ -1,0 +1,5 @@
+mod Differing
+mod EntryLemmas
+mod OneAnswer
+mod RunsTold
+mod TextLemmas
