@@ -1,8 +1,6 @@
 -- Texts differ at one place at most.
-use Rattle.std.proofs.Common.{◌≡◌, ◌≢◌, ◌⊎◌, ℕ, zero, suc, ◌+◌, ◌<◌, ◌≤◌, List, [], ◌∷◌, ◌++◌, length, take, get_or, Option, Some, None, inl, inr, refl, sym, ap, ◌∙◌, arith}
+use Rattle.std.proofs.Common.{◌≡◌, ◌≢◌, ◌⊎◌, ℕ, zero, suc, ◌<◌, ◌≤◌, List, [], ◌∷◌, take, inl, inr, refl, sym, ap, ◌∙◌, arith}
 use Rattle.std.specs.Prelude.{slice_get}
-use Rattle.std.proofs.lemmas.List.{take_more, take_all}
-use Rattle.std.proofs.lemmas.Option.{get_or_from_slice_get, slice_get_within}
 use Rattle.weave.proofs.Less.{less_or_not}
 use Rattle.account_check.specs.Differences.{DifferAt}
 
@@ -27,32 +25,3 @@ one_difference xs ys i j one other = by (less_or_not i j) (less_or_not j i)
 
 pub not_itself : (xs : List ℕ) (at : ℕ) → DifferAt xs xs at → ⊥
 not_itself xs at differ = differ.here refl
-
--- ---- as the code finds it
-
-pub take_next : (i : ℕ) (xs ys : List ℕ) (b : ℕ) → take i xs ≡ take i ys → slice_get xs i ≡ Some b → slice_get ys i ≡ Some b → take (i + 1) xs ≡ take (i + 1) ys
-take_next i xs ys b same e f =
-    take_more xs i b (slice_get_within xs i b e) ∙ (λ k. same k ++ (get_or_from_slice_get xs i b b e ∙ sym (get_or_from_slice_get ys i b b f)) k ∷ [])
-    ∙ sym (take_more ys i b (slice_get_within ys i b f))
-
-pub byte_differs : (i : ℕ) (xs ys : List ℕ) (b : ℕ) → take i xs ≡ take i ys → slice_get xs i ≡ Some b → (slice_get ys i ≡ Some b → ⊥) → DifferAt xs ys i
-byte_differs i xs ys b same e ne = record { before = same; here = λ q. ne (sym q ∙ e) }
-
-none_behind : (xs : List ℕ) → slice_get xs (length xs) ≡ None
-none_behind [] = refl
-none_behind (x ∷ xs) = none_behind xs
-
-none_there : (ys : List ℕ) (i : ℕ) → i < length ys → slice_get ys i ≡ None → ⊥
-none_there [] i lt e = omega arith
-none_there (y ∷ ys) zero lt e = cc
-none_there (y ∷ ys) (suc i) lt e = none_there ys i (omega arith) e
-
-pub shorter_differs : (i : ℕ) (xs ys : List ℕ) → length xs ≤ i → take i xs ≡ take i ys → length xs < length ys → i ≤ length xs → DifferAt xs ys (length xs)
-shorter_differs i xs ys done same lt le =
-    let e : i ≡ length xs = omega arith in record {
-      before = sym (ap (λ n. take n xs) e) ∙ same ∙ ap (λ n. take n ys) e;
-      here = λ q. none_there ys (length xs) lt (sym q ∙ none_behind xs);
-    }
-
-pub same_texts : (i : ℕ) (xs ys : List ℕ) → length xs ≤ i → take i xs ≡ take i ys → length ys ≤ length xs → xs ≡ ys
-same_texts i xs ys done same le = sym (take_all xs i done) ∙ same ∙ take_all ys i (omega arith)

@@ -1,5 +1,5 @@
 -- What entries give to who makes steps of them.
-use Rattle.std.proofs.Common.{◌≡◌, ◌<◌, ◌≤◌, ◌+◌, ℕ, List, [], ◌∷◌, length, map, arith, refl}
+use Rattle.std.proofs.Common.{◌≡◌, ◌<◌, ◌≤◌, ◌+◌, ℕ, List, [], ◌∷◌, length, map, slice_index_or, refl, sym, ap, ◌∙◌, arith}
 use Rattle.std.specs.Prelude.{All}
 use Rattle.std.specs.List.{AllByRecursion}
 use Rattle.std.proofs.lemmas.List.Elements.{All-from_recursion}
@@ -10,13 +10,15 @@ use Rattle.bt_core.specs.declared.step.Step.{Step}
 use Rattle.bt_core.specs.Kinds.{IsFineDecl}
 use Rattle.rec_format.specs.declared.recording.Recording.{Recording}
 use Rattle.typed_tree.specs.declared.script.Typed.{Typed}
-use Rattle.actor_plan.specs.Plans.{TakesFew}
+use Rattle.actor_plan.specs.Plans.{Plan, TakesFew}
 use Rattle.blank_steps.specs.Blank.{blank, blank_op}
 use Rattle.bt_meaning.specs.Jobs.{IsJob}
 use Rattle.bt_meaning.specs.Walks.{walking}
 use Rattle.bt_meaning.proofs.OwnCalls.{all_fine}
 use Rattle.entry_replay.specs.Replaying.{CanBeMade}
-use Rattle.step_check.specs.Plans.{CanFollow}
+use Rattle.step_check.specs.Plans.{CanFollow, HavePlans}
+use Rattle.walk_bodies.specs.declared.walks.Walks.{Walks}
+use Rattle.walk_bodies.specs.Plans.{plan_of}
 use Rattle.account_format.specs.Entries.{FitsOp, FitsStep, IsEntry}
 use Rattle.account_check.specs.Accounts.{named}
 
@@ -46,6 +48,14 @@ module _ (script : Typed) (attached : Attached) (r : Recording) where
     };
     plans_are = λ actor. record { actor_is = refl; actors = refl; served = λ number lt. refl; bodies = job.bodies actor; takes_few = few actor };
   }
+
+-- the walks of all actors have the plans of their actors
+pub have_plans : (script : Typed) (cpus n : ℕ) (plans : ℕ → Plan) → plans ≡ walking script (cpus + 1) → n ≡ cpus → (walks : List Walks) → length walks ≡ n + 1
+    → ((actor : ℕ) (d : Walks) → actor < n + 1 → plan_of (slice_index_or walks actor d) ≡ walking script (n + 1) actor) → HavePlans plan_of plans cpus walks
+have_plans script cpus n plans are same walks count each = record {
+  count = count ∙ ap (λ k. k + 1) same;
+  each = λ actor d lt. each actor d (omega arith) ∙ ap (λ k. walking script (k + 1) actor) same ∙ (λ i. sym are i actor);
+}
 
 -- ---- steps that entries tell
 

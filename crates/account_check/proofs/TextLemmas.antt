@@ -24,4 +24,4 @@ module _ (f : Item → List ℕ) where
 
   -- of all steps
   pub all_texts : (steps : List Step) (i : ℕ) (text : List ℕ) → length steps ≤ i → text ≡ flat_map f (emitted (take i steps)) → text ≡ flat_map f (emitted steps)
-  all_texts steps i text done e = e ∙ ap (λ l. flat_map f (emitted l)) (take_all steps i done)
+  all_texts steps i text done e = e ∙ ap (λ l. flat_map f (emitted l)) (take_all i steps done)

@@ -28,7 +28,7 @@ pub(crate) struct Written<'a> {
 /// What the entries of an account may name.
 fn scope_of<'a>(recording: &Recording, attached: &Attached, script: &'a Typed) -> Scope<'a>
     requires { IsJob script.now attached.now recording.now }
-    ensures { setting_in result.now ≡ named script.now attached.now recording.now }
+    ensures { setting_in result ≡ named script.now attached.now recording.now }
 {
     Scope {
         actors: recording.cpus.len() as u32 + 1,
@@ -51,15 +51,15 @@ fn list_of(alloc: Global, entries: &mut Entries<'_>) -> Result<Items<Step>, Memo
 /// Reads an account.
 ///
 /// [`AccountError::BadAccount`] and [`AccountError::Memory`] are its errors.
-pub(crate) fn written<'a>(
+pub(crate) fn read<'a>(
     alloc: Global,
     recording: &Recording,
     attached: &Attached,
-    script: &Typed,
+    script: &'a Typed,
     account: &'a [u8],
 ) -> Result<Written<'a>, AccountError>
     requires { IsJob script.now attached.now recording.now }
-    ensures read { IfOk result (λ read. IsAccount (named script.now attached.now recording.now) account.now read.entries read.text.now) }
+    ensures read { IfOk result (λ written. IsAccount (named script.now attached.now recording.now) account.now written.entries written.text.now) }
     ensures wrong { IfErr result (λ error. IsAnswerTo script.now attached.now recording.now account.now (Err error)) }
 {
     let scope = scope_of(recording, attached, script);

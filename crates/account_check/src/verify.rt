@@ -8,7 +8,7 @@ ghost use Rattle.account_check.specs.declared.error.AccountError.TheVariants.{Me
 
 use crate::checking::found_of;
 use crate::error::AccountError;
-use crate::reading::{Written, written};
+use crate::reading::{Written, read};
 use crate::text::{first_difference, text_of};
 use bt_ast::attached::Attached;
 use bt_core::items::Items;
@@ -56,7 +56,7 @@ fn check(
     requires { IsJob script.now attached.now recording.now }
     ensures { IsAnswerTo script.now attached.now recording.now account.now result }
 {
-    let Written { entries, text } = written(alloc, recording, attached, script, account)?;
+    let Written { entries, text } = read(alloc, recording, attached, script, account)?;
     let told = match found_of(alloc, recording, attached, script, entries)? {
         Checked::Wrong(place) => return Err(AccountError::WrongStep(place as u64)),
         Checked::Unfinished => return Err(AccountError::Unfinished),

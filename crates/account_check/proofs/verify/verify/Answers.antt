@@ -3,4 +3,4 @@ use Rattle.account_check.proofs.verify.verify.Goals as goal
 
 pub returns-clause-only : goal.returns-clause-only
 returns-clause-only c = λ other answer some.
-    one_answer c.args.script.now c.args.attached.now c.args.recording.now c.args.account.now c.requires c.check.result other c.check.ensures answer some
+    one_answer c.args.script.now c.args.attached.now c.args.recording.now c.args.account.now c.requires.job c.check.result other c.check.ensures answer some

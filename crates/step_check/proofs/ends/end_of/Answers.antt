@@ -5,4 +5,4 @@ use Rattle.step_check.proofs.ends.end_of.Goals as goal
 
 pub returns-clause-fit : goal.returns-clause-fit
 returns-clause-fit g c =
-    subst (AllRowsFit c.args.maps.now) (sym c.in_ok-end.ensures.rows) (rows_fit g.at c.requires.closed.fine c.requires.closed.possible c.args.maps.now c.requires.maps)
+    subst (AllRowsFit c.args.maps.now) (sym c.in_ok-end.ensures.rows) (rows_fit g.at c.requires.0.fine c.requires.0.possible c.args.maps.now c.requires.1)
