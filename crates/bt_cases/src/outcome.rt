@@ -31,11 +31,7 @@ impl fmt::Display for Outcome {
 }
 
 /// The files of a case, by their names, with this account.
-fn files_of(
-    alloc: Global,
-    case: &Case,
-    account: &[u8],
-) -> Result<Vec<(String, Vec<u8>)>, Memory> {
+fn files_of(alloc: Global, case: &Case, account: &[u8]) -> Result<Vec<(String, Vec<u8>)>, Memory> {
     let mut files = Vec::new(alloc);
     let script = Vec::from_slice(alloc, case.script.as_slice())?;
     files.push((String::from_str(alloc, "s.bt")?, script))?;
