@@ -1,7 +1,7 @@
 // Two workers over one script: which steps they make, and what is left where the bodies of one run out of memory.
 use crate::runs::{Made, run_both};
 use crate::script::counting;
-use crate::told::{Told, interleaved, told};
+use crate::told::{Told, interleaved, text_of, told};
 use actor_plan::outcome::Outcome;
 use bt_core::memory::Memory;
 use std::test::Fail;
@@ -46,6 +46,9 @@ fn workers_in_turn_make_this_interleaving(rt: HostRuntime) -> Result<(), Fail> {
         assert!(rt; told(step) == Some(*wanted), "{wanted:?}");
     }
     assert!(rt; interleaved(made.steps.as_slice()) == Some((10, 10)));
+    let formats = scripted.typed.formats.as_slice();
+    let text = text_of(alloc, formats, made.steps.as_slice())?;
+    assert!(rt; text.as_slice() == b"1\n2\n3\n4\n".as_slice());
     Ok(())
 }
 
@@ -67,29 +70,42 @@ const WELL: Result<Outcome, Memory> = Ok(Outcome {
     instructions: 0,
 });
 
-/// At which run the bodies of each CPU run out of memory, 0 for never; whether the workers are on threads of their own; how the run of
-/// each ends; and how many steps each makes. At each event before that run a CPU makes its five steps.
-const FAILING: [((u32, u32), bool, [Result<Outcome, Memory>; 2], (usize, usize)); 6] = [
-    ((1, 0), false, [Err(Memory), WELL], (0, 10)),
-    ((2, 0), false, [Err(Memory), WELL], (5, 10)),
-    ((0, 1), false, [WELL, Err(Memory)], (10, 0)),
-    ((0, 2), false, [WELL, Err(Memory)], (10, 5)),
-    ((2, 0), true, [Err(Memory), WELL], (5, 10)),
-    ((2, 2), true, [Err(Memory), Err(Memory)], (5, 5)),
+/// A row of the table below.
+type Failing = (
+    (u32, u32),
+    [Result<Outcome, Memory>; 2],
+    (usize, usize),
+    Option<&'static [u8]>,
+);
+
+/// At which run the bodies of each CPU run out of memory, 0 for never; how the run of each worker ends; how many steps each makes; and
+/// what is printed where the second worker begins when the first one has ended, or `None` where they are beside each other.
+///
+/// At each event before that run a CPU makes its five steps, and prints how many events there were of both CPUs.
+const FAILING: [Failing; 6] = [
+    ((1, 0), [Err(Memory), WELL], (0, 10), Some(b"1\n2\n")),
+    ((2, 0), [Err(Memory), WELL], (5, 10), Some(b"1\n2\n3\n")),
+    ((0, 1), [WELL, Err(Memory)], (10, 0), Some(b"1\n2\n")),
+    ((0, 2), [WELL, Err(Memory)], (10, 5), Some(b"1\n2\n3\n")),
+    ((2, 0), [Err(Memory), WELL], (5, 10), None),
+    ((2, 2), [Err(Memory), Err(Memory)], (5, 5), None),
 ];
 
 #[test]
 fn want_of_memory_stops_one_worker_alone(rt: HostRuntime) -> Result<(), Fail> {
     let alloc = rt.alloc();
     let scripted = counting(alloc)?;
-    for (fails_at, are_beside, ends, steps) in FAILING {
+    for (fails_at, ends, steps, text) in FAILING {
         let Made {
             first,
             second,
             steps: made,
-        } = run_both(&rt, alloc, &scripted, fails_at, are_beside)?;
+        } = run_both(&rt, alloc, &scripted, fails_at, text.is_none())?;
         assert!(rt; first == ends[0] && second == ends[1], "{fails_at:?}");
         assert!(rt; interleaved(made.as_slice()) == Some(steps), "{fails_at:?}");
+        let printed = text_of(alloc, scripted.typed.formats.as_slice(), made.as_slice())?;
+        let printed = printed.as_slice();
+        assert!(rt; text.is_none_or(|text| printed == text), "{fails_at:?}");
     }
     Ok(())
 }

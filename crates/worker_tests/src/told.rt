@@ -1,7 +1,12 @@
 // What steps tell.
 use bt_core::item::Item;
+use bt_core::items::Items;
+use bt_core::memory::Memory;
 use bt_core::step::{Op, Reply, Step};
 use bt_core::value::Value;
+use fmt_text::piece::Piece;
+use fmt_text::rendering::render;
+use std::alloc::Global;
 
 /// What a step tells: its stamp, its actor, what it does, and the number that it gets, sets, adds or prints.
 pub type Told = (u64, u32, &'static str, i64);
@@ -89,4 +94,30 @@ pub fn interleaved(steps: &[Step]) -> Option<(usize, usize)> {
         }
     }
     Some((first.steps, second.steps))
+}
+
+/// The text of a number in a format of one number with a literal behind it; nothing of anything else.
+fn line_of(alloc: Global, pieces: &[Piece], values: &[Value]) -> Result<Vec<u8>, Memory> {
+    match (pieces, values) {
+        ([Piece::Conversion { letter: b'd', .. }, Piece::Literal(_)], [Value::Int(_)]) => {
+            render(alloc, pieces, values)
+        }
+        _ => Ok(Vec::new(alloc)),
+    }
+}
+
+/// What steps print whose items are numbers in the first of these formats, one behind the other.
+pub fn text_of(
+    alloc: Global,
+    formats: &[Items<Piece>],
+    steps: &[Step],
+) -> Result<Vec<u8>, Memory> {
+    let mut text = Vec::new(alloc);
+    for step in steps {
+        if let (Op::Emit(Item::Printf { format: 0, values }), [pieces, ..]) = (&step.op, formats) {
+            let line = line_of(alloc, pieces.as_slice(), values.as_slice())?;
+            text.extend_from_slice(line.as_slice())?;
+        }
+    }
+    Ok(text)
 }
