@@ -113,6 +113,7 @@ fn take_all(alloc: Global, state: &mut Replaying) -> Result<(), Memory>
     ensures replies { OnOk result (RepliesFollow (answers (world_of state.new)) (taken state.new)) }
     ensures stamps { OnOk result (AtEach (IsStampedAfter state.new.cpus) (taken state.new)) }
     ensures order { OnOk result (AtEach NotBeforeLast (taken state.new)) }
+    ensures stand { OnOk result (state.new.at ≡ length state.new.entries → Stand (world_of state.new) (taken state.new) state.new.objects) }
     ensures wrong { OnOk result ((d : MadeStep) → state.new.at < length state.new.entries →
         IsWrongNext state.new.cpus (taken state.new) (slice_index_or state.new.entries state.new.at d)) }
 {
@@ -134,8 +135,16 @@ fn first_steps(list: Items<Step>, count: usize) -> Items<Step>
     Items::of(list)
 }
 
+/// Entries that were made as steps, as far as their stamps and their order are right, and the objects at which they were made.
+#[derive(Drop)]
+pub struct Replayed {
+    pub list: Items<Step>,
+    pub objects: Objects,
+}
+
 /// Makes entries as steps once more at new objects, as far as their stamps and their order are right: gives those entries, with their
-/// replies. The objects are of a world with these maps, so many CPUs and so many ticks.
+/// replies, and the objects. The objects are of a world with these maps, so many CPUs and so many ticks; where all entries were made,
+/// they are those after these steps.
 ///
 /// [`Memory`] is the one error.
 pub fn replay(
@@ -144,19 +153,22 @@ pub fn replay(
     cpus: u32,
     ticks: u32,
     entries: Items<Step>,
-) -> Result<Items<Step>, Memory>
+) -> Result<Replayed, Memory>
     requires fine { All IsFineDecl maps.now }
     requires some_cpus { 0 < cpus }
     requires few_cpus { cpus + 1 < 2 ^ 32 }
     requires can { AllByRecursion (CanBeMade (record { cpus = cpus; ticks = ticks; maps = maps.now })) entries }
-    ensures within { IfOk result (λ list. length list ≤ length entries) }
-    ensures can { IfOk result (λ list. AllByRecursion (CanBeMade (record { cpus = cpus; ticks = ticks; maps = maps.now })) list) }
-    ensures kinds { IfOk result (λ list. AllByRecursion (λ (s : MadeStep). IsReplyOf maps.now s.object s.op s.reply) list) }
-    ensures told { IfOk result (λ list. map blank list ≡ take (length list) (map blank entries)) }
-    ensures replies { IfOk result (λ list. RepliesFollow (answer maps.now cpus) list) }
-    ensures stamps { IfOk result (λ list. AtEach (IsStampedAfter cpus) list) }
-    ensures order { IfOk result (λ list. AtEach NotBeforeLast list) }
-    ensures wrong { IfOk result (λ list. (d : MadeStep) → length list < length entries → IsWrongNext cpus list (slice_index_or entries (length list) d)) }
+    ensures within { IfOk result (λ made. length made.list ≤ length entries) }
+    ensures can { IfOk result (λ made. AllByRecursion (CanBeMade (record { cpus = cpus; ticks = ticks; maps = maps.now })) made.list) }
+    ensures kinds { IfOk result (λ made. AllByRecursion (λ (s : MadeStep). IsReplyOf maps.now s.object s.op s.reply) made.list) }
+    ensures told { IfOk result (λ made. map blank made.list ≡ take (length made.list) (map blank entries)) }
+    ensures replies { IfOk result (λ made. RepliesFollow (answer maps.now cpus) made.list) }
+    ensures stamps { IfOk result (λ made. AtEach (IsStampedAfter cpus) made.list) }
+    ensures order { IfOk result (λ made. AtEach NotBeforeLast made.list) }
+    ensures stand { IfOk result (λ made. length made.list ≡ length entries →
+        Stand (record { cpus = cpus; ticks = ticks; maps = maps.now }) made.list made.objects) }
+    ensures wrong { IfOk result (λ made. (d : MadeStep) → length made.list < length entries →
+        IsWrongNext cpus made.list (slice_index_or entries (length made.list) d)) }
 {
     let objects = new_objects(alloc, maps, cpus, ticks)?;
     let clocks = Clocks::new(alloc, cpus)?;
@@ -170,5 +182,8 @@ pub fn replay(
         at: 0,
     };
     take_all(alloc, &mut state)?;
-    Ok(first_steps(state.entries, state.at))
+    Ok(Replayed {
+        list: first_steps(state.entries, state.at),
+        objects: state.objects,
+    })
 }

@@ -1,3 +1,4 @@
 mod Alike
+mod EndLemmas
 mod FollowAll
 mod Verdict

@@ -9,18 +9,30 @@ ghost use Rattle.step_follower.specs.declared.follow.Reached.{Reached as Reach};
 ghost use Rattle.step_check.specs.Answers.{IsFound};
 ghost use Rattle.step_check.specs.Plans.{CanFollow, HavePlans, replay_by};
 
+use crate::ends::{Ended, end_of};
 use crate::follow_all::follow_all;
 use actor_plan::bodies::Bodies;
 use bt_ast::attached::Attached;
+use bt_core::item::Cell;
 use bt_core::items::Items;
+use bt_core::key::Key;
 use bt_core::map::MapDecl;
 use bt_core::memory::Memory;
 use bt_core::step::Step;
 use entry_replay::replay::replay;
 use rec_format::recording::Recording;
 use std::alloc::Global;
+use std::snapshot::Snapshot;
 use step_follower::follow::Reached;
 use weave_check::stops::first_stop;
+
+/// The steps that entries tell, and of each map the rows after these steps and how many of its updates they lost.
+#[derive(Drop)]
+pub struct Told {
+    pub steps: Items<Step>,
+    pub rows: Vec<Items<(Key, Cell)>>,
+    pub lost: Vec<u64>,
+}
 
 /// What is found of entries: the place of the first wrong one, or that some actor has not done all of its program, or the steps that
 /// they tell.
@@ -28,7 +40,7 @@ use weave_check::stops::first_stop;
 pub enum Checked {
     Wrong(usize),
     Unfinished,
-    Right(Items<Step>),
+    Right(Told),
 }
 
 /// Whether all actors made all their steps on the list.
@@ -45,7 +57,8 @@ fn are_all_on(each: &[Reached]) -> bool
 }
 
 /// Checks entries that tell the steps of a run: they are made as steps once more, followed for all actors, and found wrong at a place,
-/// unfinished, or to tell the steps that are handed back. The bodies are those of all actors, the last of which is the main one.
+/// unfinished, or to tell the steps that are handed back, with what is in the maps after them. The bodies are those of all actors, the last
+/// of which is the main one.
 ///
 /// [`Memory`] is the one error.
 pub fn check_steps<B: Bodies>(
@@ -69,7 +82,8 @@ pub fn check_steps<B: Bodies>(
     let cpus = recording.cpus.len() as u32;
     let ticks = attached.ticks.len() as u32;
     let made = replay(alloc, maps, cpus, ticks, entries)?;
-    let trails = follow_all(alloc, bodies, recording, attached, maps, exits, made)?;
+    let steps = Snapshot::of(&made.list);
+    let trails = follow_all(alloc, bodies, recording, attached, maps, exits, made.list)?;
     let stop = first_stop(
         trails.list.as_slice(),
         trails.each.as_slice(),
@@ -80,9 +94,19 @@ pub fn check_steps<B: Bodies>(
     if stop < total {
         return Ok(Checked::Wrong(stop));
     }
-    if are_all_on(trails.each.as_slice()) {
-        Ok(Checked::Right(trails.list))
-    } else {
-        Ok(Checked::Unfinished)
+    if !are_all_on(trails.each.as_slice()) {
+        return Ok(Checked::Unfinished);
     }
+    let ended = Ended {
+        cpus,
+        ticks,
+        made: steps,
+        objects: made.objects.close(alloc)?,
+    };
+    let (rows, lost) = end_of(alloc, maps.as_slice(), &ended)?;
+    Ok(Checked::Right(Told {
+        steps: trails.list,
+        rows,
+        lost,
+    }))
 }

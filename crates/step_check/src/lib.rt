@@ -2,4 +2,5 @@
 #![tactic(auto)]
 
 pub mod check;
+pub mod ends;
 pub mod follow_all;

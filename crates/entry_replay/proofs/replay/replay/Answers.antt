@@ -55,3 +55,13 @@ returns-clause-kinds c =
     let maps : new.maps.value ≡ c.args.maps.now = ap (λ (w : World). w.maps) c.in_ok-take_all.ensures.world ∙ c.of.ensures in
     subst (λ (z : List MapDecl × List Step). AllByRecursion (λ (s : Step). IsReplyOf z.0 s.object s.op s.reply) z.1) (λ i. (maps i, sym c.first_steps.ensures i))
     (kinds_follow (world_of new) (take new.at new.entries) (subst (All IsFineDecl) (sym maps) c.requires.fine) c.in_ok-take_all.ensures.can c.in_ok-take_all.ensures.replies)
+
+pub returns-clause-stand : goal.returns-clause-stand
+returns-clause-stand c = λ all.
+    let new = c.take_all.new.state in
+    let size : length c.first_steps.result ≡ new.at = ap length c.first_steps.ensures ∙ length-take-le new.at new.entries c.in_ok-take_all.ensures.within in
+    let count : length new.entries ≡ length c.args.entries = sym (length-map new.entries blank) ∙ ap length c.in_ok-take_all.ensures.told ∙ length-map c.args.entries blank in
+    let whole : new.at ≡ length new.entries = sym size ∙ all ∙ sym count in
+    let world : world_of new ≡ record { cpus = c.args.cpus; ticks = c.args.ticks; maps = c.args.maps.now } =
+    c.in_ok-take_all.ensures.world ∙ (λ i. record { cpus = c.args.cpus; ticks = c.args.ticks; maps = c.of.ensures i }) in
+    subst (λ (z : World × List Step). Stand z.0 z.1 new.objects) (λ i. (world i, sym c.first_steps.ensures i)) (c.in_ok-take_all.ensures.stand whole)

@@ -1,0 +1,4 @@
+pub mod Accounts
+pub mod Answers
+pub mod Differences
+pub mod Faults
