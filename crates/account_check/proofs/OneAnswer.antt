@@ -175,7 +175,6 @@ module _ (script : Typed) (attached : Attached) (r : Recording) where
       pub one_answer : (a b : Answer) → IsAnswerTo script attached r bytes a → IsAnswerTo script attached r bytes b → b ≢ Err Memory → (a ≡ b) ⊎ (a ≡ Err Memory)
       one_answer a b h g ne = both_seen a b (seen a h) (seen b g) ne
 
-
       pub one_true : (steps others : List Step) → IsTrueAccount script attached r bytes steps → IsTrueAccount script attached r bytes others → steps ≡ others
       one_true steps others h g =
           let told = (one_account (named script attached r) bytes (map blank steps) (map blank others) (text_after script attached r steps) (text_after script attached r others) (true_account steps h) (true_account others g)).0 in
