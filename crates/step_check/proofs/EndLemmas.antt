@@ -16,7 +16,9 @@ use Rattle.agg_core.specs.Changes.{lost_updates}
 use Rattle.map_ops.specs.declared.sweep.Sweep.TheVariants as sweeps
 use Rattle.map_ops.specs.Holders.{sweep_op}
 use Rattle.map_rows.specs.Merged.{merged}
+use Rattle.map_rows.specs.Fits.{AllRowsFit}
 use Rattle.bt_meaning.specs.Prints.{holders_of, lost_after, lost_by, of_maps, operations_at, rows_after}
+use Rattle.bt_meaning.specs.Replays.{Replay, cpus_of}
 use Rattle.blank_steps.specs.Blank.{blank_op, without_item}
 use Rattle.blank_steps.proofs.BlankLists.{blind_map, operations_alike}
 use Rattle.begun_lists.proofs.BlindReplies.{replies_alike}
@@ -25,7 +27,9 @@ use Rattle.run_objects.specs.Closed.{AreClosedAt, MapsStand}
 use Rattle.run_objects.specs.Moments.{Moment}
 use Rattle.run_objects.specs.Worlds.{IsOwn, World}
 use Rattle.entry_replay.specs.Replaying.{CanBeMade}
+use Rattle.step_check.specs.declared.check.Told.{Told}
 use Rattle.step_check.specs.declared.ends.Ended.{Ended}
+use Rattle.step_check.specs.Answers.{TellsEnd}
 
 -- the world of a run that has ended, with these maps, and the steps that were made in it
 abbrev pub moment_of : List MapDecl → Ended → Moment
@@ -70,3 +74,16 @@ closed_at w steps closed fine can stand = record { fine = fine; possible = each_
 pub all_made : (entries made list : List Step) (stop : ℕ) → length made ≤ length entries → map without_item list ≡ map without_item made → stop ≤ length list → length entries ≤ stop → length made ≡ length entries
 all_made entries made list stop short alike within every =
     let size : length list ≡ length made = sym (length-map list without_item) ∙ ap length alike ∙ length-map made without_item in omega arith
+
+pub closed_by : (w : World) (made steps : List Step) (closed : Closed) → steps ≡ made → All IsFineDecl w.maps → AllByRecursion (CanBeMade w) made → MapsStand w made closed
+    → AreClosedAt (record { world = w; steps = steps }) closed
+closed_by w made steps closed is fine can stand = closed_at w steps closed fine (subst (AllByRecursion (CanBeMade w)) (sym is) can) (subst (λ (l : List Step). MapsStand w l closed) (sym is) stand)
+
+-- what is read after the steps that were made is what is in the maps after those with items
+pub tells_end : (p : Replay) (told : Told) (made steps : List Step) (n : ℕ) (maps : List MapDecl) → n ≡ cpus_of p → steps ≡ made → maps ≡ p.maps → map without_item told.steps ≡ map without_item made
+    → told.rows.items ≡ of_maps (rows_after p.maps n steps) 0 maps → told.lost.items ≡ of_maps (lost_after p.maps n steps) 0 maps → AllRowsFit maps told.rows.items → TellsEnd p told
+tells_end p told made steps n maps main is same alike rows lost fit = record {
+  rows = rows ∙ (λ i. of_maps (rows_after p.maps (main i) (is i)) 0 (same i)) ∙ sym (all_rows_alike p.maps (cpus_of p) told.steps made alike);
+  lost = lost ∙ (λ i. of_maps (lost_after p.maps (main i) (is i)) 0 (same i)) ∙ sym (all_lost_alike p.maps (cpus_of p) told.steps made alike);
+  fit = subst (λ (m : List MapDecl). AllRowsFit m told.rows.items) same fit;
+}
