@@ -75,15 +75,18 @@ pub all_made : (entries made list : List Step) (stop : ℕ) → length made ≤ 
 all_made entries made list stop short alike within every =
     let size : length list ≡ length made = sym (length-map list without_item) ∙ ap length alike ∙ length-map made without_item in omega arith
 
-pub closed_by : (w : World) (made steps : List Step) (closed : Closed) → steps ≡ made → All IsFineDecl w.maps → AllByRecursion (CanBeMade w) made → MapsStand w made closed
-    → AreClosedAt (record { world = w; steps = steps }) closed
-closed_by w made steps closed is fine can stand = closed_at w steps closed fine (subst (AllByRecursion (CanBeMade w)) (sym is) can) (subst (λ (l : List Step). MapsStand w l closed) (sym is) stand)
+pub closed_by : (cpus ticks : ℕ) (own maps : List MapDecl) (made steps : List Step) (closed : Closed) → maps ≡ own → steps ≡ made → All IsFineDecl own
+    → AllByRecursion (CanBeMade (record { cpus = cpus; ticks = ticks; maps = own })) made → MapsStand (record { cpus = cpus; ticks = ticks; maps = own }) made closed
+    → AreClosedAt (record { world = record { cpus = cpus; ticks = ticks; maps = maps }; steps = steps }) closed
+closed_by cpus ticks own maps made steps closed same is fine can stand =
+    subst (λ (z : List MapDecl × List Step). AreClosedAt (record { world = record { cpus = cpus; ticks = ticks; maps = z.0 }; steps = z.1 }) closed) (λ i. (sym same i, sym is i))
+    (closed_at (record { cpus = cpus; ticks = ticks; maps = own }) made closed fine can stand)
 
 -- what is read after the steps that were made is what is in the maps after those with items
 pub tells_end : (p : Replay) (told : Told) (made steps : List Step) (n : ℕ) (maps : List MapDecl) → n ≡ cpus_of p → steps ≡ made → maps ≡ p.maps → map without_item told.steps ≡ map without_item made
-    → told.rows.items ≡ of_maps (rows_after p.maps n steps) 0 maps → told.lost.items ≡ of_maps (lost_after p.maps n steps) 0 maps → AllRowsFit maps told.rows.items → TellsEnd p told
+    → told.rows.items ≡ of_maps (rows_after maps n steps) 0 maps → told.lost.items ≡ of_maps (lost_after maps n steps) 0 maps → AllRowsFit maps told.rows.items → TellsEnd p told
 tells_end p told made steps n maps main is same alike rows lost fit = record {
-  rows = rows ∙ (λ i. of_maps (rows_after p.maps (main i) (is i)) 0 (same i)) ∙ sym (all_rows_alike p.maps (cpus_of p) told.steps made alike);
-  lost = lost ∙ (λ i. of_maps (lost_after p.maps (main i) (is i)) 0 (same i)) ∙ sym (all_lost_alike p.maps (cpus_of p) told.steps made alike);
+  rows = rows ∙ (λ i. of_maps (rows_after (same i) (main i) (is i)) 0 (same i)) ∙ sym (all_rows_alike p.maps (cpus_of p) told.steps made alike);
+  lost = lost ∙ (λ i. of_maps (lost_after (same i) (main i) (is i)) 0 (same i)) ∙ sym (all_lost_alike p.maps (cpus_of p) told.steps made alike);
   fit = subst (λ (m : List MapDecl). AllRowsFit m told.rows.items) same fit;
 }

@@ -6,6 +6,7 @@ use Rattle.bt_core.specs.declared.step.Reply.TheVariants.{Done}
 use Rattle.bt_core.specs.declared.step.Step.{Step}
 use Rattle.run_objects.specs.Worlds.{World}
 use Rattle.step_follower.specs.declared.follow.Reached.{Reached}
+use Rattle.step_check.specs.declared.check.Told.{Told}
 use Rattle.step_check.specs.Plans.{replay_by}
 use Rattle.step_check.proofs.EndLemmas.{all_made, closed_by, tells_end}
 use Rattle.step_check.proofs.Verdict.{below_by, found_right, found_unfinished, found_wrong, low_by}
@@ -65,8 +66,9 @@ end_of-requires g c =
     let within = subst (λ (z : List Step). c.first_stop-stop.result ≤ length z) c.as_slice.ensures c.first_stop-stop.ensures.within in
     let all = all_made c.args.entries made t.list c.first_stop-stop.result c.in_ok-made.ensures.within c.in_ok-trails.ensures.alike within every in
     (
-      closed_by w made c.of-steps.result.value _ c.of-steps.ensures c.requires.1.1.1.0 c.in_ok-made.ensures.can (c.in_ok-close.ensures w made (c.in_ok-made.ensures.stand all)),
-      sym c.as_slice-4.ensures,
+      closed_by c.len-cpus.result c.len-ticks.result c.args.maps.now c.as_slice-4.result.now made c.of-steps.result.value _ c.as_slice-4.ensures c.of-steps.ensures c.requires.1.1.1.0
+      c.in_ok-made.ensures.can (c.in_ok-close.ensures w made (c.in_ok-made.ensures.stand all)),
+      refl,
     )
 
 pub returns : goal.returns
@@ -85,5 +87,6 @@ returns g c =
     t.each.items t.begin t.cpus c.in_ok-trails.ensures.reached low c.as_slice.result.now c.as_slice.ensures c.as_slice-2.result.now c.as_slice-2.ensures.value
     c.first_stop-stop.result c.first_stop-stop.ensures.within c.first_stop-stop.ensures.before c.first_stop-stop.ensures.stop
     every (λ actor. (c.requires.1.0.plans_are actor).actor_is) ons in
-    (found.0, found.1, tells_end p _ c.in_ok-made.made.list c.of-steps.result.value n c.as_slice-4.result.now main c.of-steps.ensures c.as_slice-4.ensures
+    let told : Told = record { steps = t.list; rows = c.in_ok-rows.rows; lost = c.in_ok-rows.lost } in
+    (found.0, found.1, tells_end p told c.in_ok-made.made.list c.of-steps.result.value n c.as_slice-4.result.now main c.of-steps.ensures c.as_slice-4.ensures
     c.in_ok-trails.ensures.alike c.in_ok-rows.ensures.rows c.in_ok-rows.ensures.lost c.in_ok-rows.ensures.fit)
