@@ -1,1 +1,1 @@
-mod ProgramCalls
+pub mod ProgramCalls
