@@ -23,7 +23,7 @@ use Rattle.account_check.specs.Accounts.{IsTrueAccount, named, run, text_after}
 use Rattle.account_check.specs.Answers.{HasUnfinished, HasWrongStep, HasWrongText, IsAnswerTo}
 use Rattle.account_check.specs.Differences.{DifferAt}
 use Rattle.account_check.proofs.Differing.{not_itself, one_difference}
-use Rattle.account_check.proofs.RunsTold.{plans_own, steps_told}
+use Rattle.account_check.proofs.RunsTold.{MakeCalls, plans_own, steps_told}
 
 module _ (script : Typed) (attached : Attached) (r : Recording) where
   abbrev Answer : Type 0
@@ -138,10 +138,10 @@ module _ (script : Typed) (attached : Attached) (r : Recording) where
     abbrev Seen : Answer → Type 0
     Seen a = (a ≡ Err Memory) ⊎ (IsBad a ⊎ IsRead a)
 
-    module _ (job : IsJob script attached r) where
+    module _ (job : IsJob script attached r) (calls : MakeCalls script attached r) where
       -- a true account is one of its steps as entries
       pub true_account : (steps : List Step) → IsTrueAccount script attached r bytes steps → IsAccount (named script attached r) bytes (map blank steps) (text_after script attached r steps)
-      true_account steps h = account_of (named script attached r) bytes steps (text_after script attached r steps) (steps_told script attached r job steps h.replayed h.fits) h.few h.short h.spelled
+      true_account steps h = account_of (named script attached r) bytes steps (text_after script attached r steps) (steps_told script attached r job steps h.replayed calls h.fits) h.few h.short h.spelled
 
       seen : (a : Answer) → IsAnswerTo script attached r bytes a → Seen a
       seen (Ok steps) h = inr (inr (record {

@@ -1,1 +1,1 @@
-pub mod ProgramCalls
+mod ProgramCalls
