@@ -1,6 +1,5 @@
 -- Of bytes there is one answer.
-use Rattle.std.proofs.Common.{◌≡◌, ◌≢◌, ◌⊎◌, ◌<◌, ◌^◌, ℕ, List, length, map, Result, Ok, Err, inl, inr, refl, sym, ap, ◌∙◌, subst}
-use Rattle.std.specs.List.{AllByRecursion}
+use Rattle.std.proofs.Common.{◌≡◌, ◌≢◌, ◌⊎◌, ℕ, List, map, Result, Ok, Err, inl, inr, refl, sym, ap, ◌∙◌, subst}
 use Rattle.bt_ast.specs.declared.attached.Attached.{Attached}
 use Rattle.bt_core.specs.declared.step.Step.{Step}
 use Rattle.rec_format.specs.declared.recording.Recording.{Recording}
@@ -20,7 +19,7 @@ use Rattle.account_format.proofs.BlankLaws.{account_of}
 use Rattle.account_check.specs.declared.error.AccountError.{AccountError}
 use Rattle.account_check.specs.declared.error.AccountError.TheVariants.{BadAccount, WrongStep, Unfinished, WrongText, Memory}
 use Rattle.account_check.specs.Accounts.{IsTrueAccount, named, run, text_after}
-use Rattle.account_check.specs.Answers.{HasUnfinished, HasWrongStep, HasWrongText, IsAnswerTo}
+use Rattle.account_check.specs.Answers.{IsAnswerTo}
 use Rattle.account_check.specs.Differences.{DifferAt}
 use Rattle.account_check.proofs.Differing.{not_itself, one_difference}
 use Rattle.account_check.proofs.RunsTold.{MakeCalls, plans_own, steps_told}
