@@ -1,4 +1,4 @@
-use Rattle.std.proofs.Common.{rules, ◌≡◌, ◌<◌, ◌≤◌, ◌+◌, ℕ, false, IsTrue, List, length, slice_index_or, sym, refl, ap, ◌∙◌, subst, arith}
+use Rattle.std.proofs.Common.{rules, ◌≡◌, ◌<◌, ◌≤◌, ℕ, false, IsTrue, List, length, slice_index_or, sym, refl, subst, arith}
 use Rattle.std.specs.List.{AllByRecursion}
 use Rattle.bt_core.specs.declared.step.ObjectId.TheVariants.{Clock}
 use Rattle.bt_core.specs.declared.step.Op.TheVariants.{Check}
@@ -64,10 +64,9 @@ end_of-requires g c =
     let w : World = record { cpus = c.len-cpus.result; ticks = c.len-ticks.result; maps = c.args.maps.now } in
     let every : length c.args.entries ≤ c.first_stop-stop.result = (let k = c.if-stop-total.false in let m : c.len-total.result ≡ length c.args.entries = search rules in omega arith) in
     let within = subst (λ (z : List Step). c.first_stop-stop.result ≤ length z) c.as_slice.ensures c.first_stop-stop.ensures.within in
-    let all = all_made c.args.entries made t.list c.first_stop-stop.result c.in_ok-made.ensures.within c.in_ok-trails.ensures.alike within every in
-    (
+    let all = all_made c.args.entries made t.list c.first_stop-stop.result c.in_ok-made.ensures.within c.in_ok-trails.ensures.alike within every in (
       closed_by c.len-cpus.result c.len-ticks.result c.args.maps.now c.as_slice-4.result.now made c.of-steps.result.value _ c.as_slice-4.ensures c.of-steps.ensures c.requires.1.1.1.0
-      c.in_ok-made.ensures.can (c.in_ok-close.ensures w made (c.in_ok-made.ensures.stand all)),
+          c.in_ok-made.ensures.can (c.in_ok-close.ensures w made (c.in_ok-made.ensures.stand all)),
       refl,
     )
 
@@ -87,6 +86,9 @@ returns g c =
     t.each.items t.begin t.cpus c.in_ok-trails.ensures.reached low c.as_slice.result.now c.as_slice.ensures c.as_slice-2.result.now c.as_slice-2.ensures.value
     c.first_stop-stop.result c.first_stop-stop.ensures.within c.first_stop-stop.ensures.before c.first_stop-stop.ensures.stop
     every (λ actor. (c.requires.1.0.plans_are actor).actor_is) ons in
-    let told : Told = record { steps = t.list; rows = c.in_ok-rows.rows; lost = c.in_ok-rows.lost } in
-    (found.0, found.1, tells_end p told c.in_ok-made.made.list c.of-steps.result.value n c.as_slice-4.result.now main c.of-steps.ensures c.as_slice-4.ensures
-    c.in_ok-trails.ensures.alike c.in_ok-rows.ensures.rows c.in_ok-rows.ensures.lost c.in_ok-rows.ensures.fit)
+    let told : Told = record { steps = t.list; rows = c.in_ok-rows.rows; lost = c.in_ok-rows.lost } in (
+      found.0,
+      found.1,
+      tells_end p told c.in_ok-made.made.list c.of-steps.result.value n c.as_slice-4.result.now main c.of-steps.ensures c.as_slice-4.ensures
+          c.in_ok-trails.ensures.alike c.in_ok-rows.ensures.rows c.in_ok-rows.ensures.lost c.in_ok-rows.ensures.fit,
+    )
