@@ -1,6 +1,5 @@
 -- Of bytes there is one answer.
-use Rattle.std.proofs.Common.{◌≡◌, ◌≢◌, ◌⊎◌, ◌<◌, ◌^◌, ℕ, List, length, map, Result, Ok, Err, inl, inr, refl, sym, ap, ◌∙◌, subst}
-use Rattle.std.specs.List.{AllByRecursion}
+use Rattle.std.proofs.Common.{◌≡◌, ◌≢◌, ◌⊎◌, ℕ, List, map, Result, Ok, Err, inl, inr, refl, sym, ap, ◌∙◌, subst}
 use Rattle.bt_ast.specs.declared.attached.Attached.{Attached}
 use Rattle.bt_core.specs.declared.step.Step.{Step}
 use Rattle.rec_format.specs.declared.recording.Recording.{Recording}
@@ -20,10 +19,10 @@ use Rattle.account_format.proofs.BlankLaws.{account_of}
 use Rattle.account_check.specs.declared.error.AccountError.{AccountError}
 use Rattle.account_check.specs.declared.error.AccountError.TheVariants.{BadAccount, WrongStep, Unfinished, WrongText, Memory}
 use Rattle.account_check.specs.Accounts.{IsTrueAccount, named, run, text_after}
-use Rattle.account_check.specs.Answers.{HasUnfinished, HasWrongStep, HasWrongText, IsAnswerTo}
+use Rattle.account_check.specs.Answers.{IsAnswerTo}
 use Rattle.account_check.specs.Differences.{DifferAt}
 use Rattle.account_check.proofs.Differing.{not_itself, one_difference}
-use Rattle.account_check.proofs.RunsTold.{plans_own, steps_told}
+use Rattle.account_check.proofs.RunsTold.{MakeCalls, plans_own, steps_told}
 
 module _ (script : Typed) (attached : Attached) (r : Recording) where
   abbrev Answer : Type 0
@@ -138,10 +137,10 @@ module _ (script : Typed) (attached : Attached) (r : Recording) where
     abbrev Seen : Answer → Type 0
     Seen a = (a ≡ Err Memory) ⊎ (IsBad a ⊎ IsRead a)
 
-    module _ (job : IsJob script attached r) where
+    module _ (job : IsJob script attached r) (calls : MakeCalls script attached r) where
       -- a true account is one of its steps as entries
       pub true_account : (steps : List Step) → IsTrueAccount script attached r bytes steps → IsAccount (named script attached r) bytes (map blank steps) (text_after script attached r steps)
-      true_account steps h = account_of (named script attached r) bytes steps (text_after script attached r steps) (steps_told script attached r job steps h.replayed h.fits) h.few h.short h.spelled
+      true_account steps h = account_of (named script attached r) bytes steps (text_after script attached r steps) (steps_told script attached r job steps h.replayed calls h.fits) h.few h.short h.spelled
 
       seen : (a : Answer) → IsAnswerTo script attached r bytes a → Seen a
       seen (Ok steps) h = inr (inr (record {
@@ -174,7 +173,6 @@ module _ (script : Typed) (attached : Attached) (r : Recording) where
 
       pub one_answer : (a b : Answer) → IsAnswerTo script attached r bytes a → IsAnswerTo script attached r bytes b → b ≢ Err Memory → (a ≡ b) ⊎ (a ≡ Err Memory)
       one_answer a b h g ne = both_seen a b (seen a h) (seen b g) ne
-
 
       pub one_true : (steps others : List Step) → IsTrueAccount script attached r bytes steps → IsTrueAccount script attached r bytes others → steps ≡ others
       one_true steps others h g =

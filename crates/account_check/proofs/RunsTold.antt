@@ -1,5 +1,5 @@
 -- Entries can tell of the steps of a run.
-use Rattle.std.proofs.Common.{◌≡◌, ◌+◌, ◌<◌, ◌≤◌, ◌^◌, ℕ, List, [], ◌∷◌, ◌++◌, length, refl, sym, subst, arith}
+use Rattle.std.proofs.Common.{◌≡◌, ℕ, List, [], ◌∷◌, ◌++◌, refl, sym, subst, arith}
 use Rattle.std.specs.List.{AllByRecursion}
 use Rattle.bt_ast.specs.declared.attached.Attached.{Attached}
 use Rattle.bt_core.specs.declared.map.MapDecl.{MapDecl}
@@ -28,7 +28,6 @@ use Rattle.begun_lists.specs.Begun.{IsBegun, program_of}
 use Rattle.begun_lists.proofs.Cuts.{cuts_of_each, each_of_cuts}
 use Rattle.begun_lists.proofs.WholeLists.{begun_of_replayed}
 use Rattle.program_calls.specs.Calls.{IsProgramCall}
-use Rattle.program_calls.proofs.ProgramCalls.{programs_call}
 use Rattle.account_format.specs.Entries.{FitsStep, IsAtHome, IsTold}
 use Rattle.account_check.specs.Accounts.{named, run}
 
@@ -53,6 +52,10 @@ module _ (script : Typed) (attached : Attached) (r : Recording) where
   pub plans_own : PlansAreOwn (run script attached r)
   plans_own actor = refl
 
+  -- each actor makes calls of programs alone
+  abbrev pub MakeCalls : Type 0
+  MakeCalls = (actor : ℕ) → AsksOf (IsProgramCall actor) script.maps (program_of (run script attached r) actor)
+
   module _ (job : IsJob script attached r) (steps : List Step) (replayed : IsReplayed (run script attached r) steps) where
     own : AllByRecursion (IsOwnStep script attached r) steps
     own = script_steps script attached r job (λ decl rs all. merged_fit decl rs all) steps replayed.interleaving
@@ -69,15 +72,15 @@ module _ (script : Typed) (attached : Attached) (r : Recording) where
         (each_so (IsOwnStep script attached r) (λ (u : Step). IsReplyOf script.maps u.object u.op u.reply) (λ u h. h.1) before
         (each_front (IsOwnStep script attached r) before (s ∷ after) (subst (AllByRecursion (IsOwnStep script attached r)) cut own)))
 
-    home : (before : List Step) (s : Step) (after : List Step) → steps ≡ before ++ s ∷ after → IsAtHome s.actor s.object s.op
-    home before s after cut = at_home s.actor s.object s.op
-        (next_is (IsProgramCall s.actor) script.maps (program_of (run script attached r) s.actor) (of_actor s.actor before) s (programs_call script attached r job s.actor)
+    home : MakeCalls → (before : List Step) (s : Step) (after : List Step) → steps ≡ before ++ s ∷ after → IsAtHome s.actor s.object s.op
+    home calls before s after cut = at_home s.actor s.object s.op
+        (next_is (IsProgramCall s.actor) script.maps (program_of (run script attached r) s.actor) (of_actor s.actor before) s (calls s.actor)
         (begun before s after cut).asked (kinds before s after cut))
 
-    pub steps_told : AllByRecursion FitsStep steps → AllByRecursion (IsTold (named script attached r)) steps
-    steps_told fits = each_of_cuts (IsTold (named script attached r)) [] steps (λ before s after cut. record {
+    pub steps_told : MakeCalls → AllByRecursion FitsStep steps → AllByRecursion (IsTold (named script attached r)) steps
+    steps_told calls fits = each_of_cuts (IsTold (named script attached r)) [] steps (λ before s after cut. record {
       fits = cuts_of_each FitsStep steps fits before s after cut;
       actor = (let le = (begun before s after cut).actor in omega arith);
       own = (cuts_of_each (IsOwnStep script attached r) steps own before s after cut).0.0;
-      home = home before s after cut;
+      home = home calls before s after cut;
     })

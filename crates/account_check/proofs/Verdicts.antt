@@ -1,5 +1,5 @@
 -- What is answered of an account whose entries were checked.
-use Rattle.std.proofs.Common.{◌≡◌, ◌<◌, ◌^◌, ℕ, List, [], ◌∷◌, length, map, Err, refl, sym, ap, ◌∙◌, subst}
+use Rattle.std.proofs.Common.{◌≡◌, ◌<◌, ◌^◌, ℕ, List, [], ◌∷◌, length, map, refl, sym, ap, ◌∙◌, subst}
 use Rattle.std.specs.List.{AllByRecursion}
 use Rattle.std.proofs.lemmas.List.{length-map}
 use Rattle.bt_ast.specs.declared.attached.Attached.{Attached}
@@ -16,7 +16,7 @@ use Rattle.account_check.specs.Accounts.{IsTrueAccount, named, run, text_after}
 use Rattle.account_check.specs.Answers.{HasWrongText}
 use Rattle.account_check.specs.Differences.{DifferAt}
 use Rattle.account_check.proofs.EntryLemmas.{steps_fit}
-use Rattle.account_check.proofs.RunsTold.{steps_told}
+use Rattle.account_check.proofs.RunsTold.{MakeCalls, steps_told}
 
 module _ (script : Typed) (attached : Attached) (r : Recording) where
   entries_fit : (entries : List Step) → AllByRecursion (IsEntry (named script attached r)) entries → AllByRecursion FitsStep entries
@@ -36,14 +36,14 @@ module _ (script : Typed) (attached : Attached) (r : Recording) where
     }
 
     -- or it is what they print
-    pub true_of : IsJob script attached r → text ≡ printed → IsTrueAccount script attached r bytes steps
-    true_of job same =
+    pub true_of : IsJob script attached r → MakeCalls script attached r → text ≡ printed → IsTrueAccount script attached r bytes steps
+    true_of job calls same =
         let fits : AllByRecursion FitsStep steps = steps_fit steps (subst (AllByRecursion FitsStep) (sym told) (entries_fit entries account.each)) in
         let few : length steps < 2 ^ 64 = subst (λ (n : ℕ). n < 2 ^ 64) (ap length (sym told) ∙ length-map steps blank) account.few in
         let is : text ≡ text_after script attached r steps = same ∙ prints in
         let short : length (text_after script attached r steps) < 2 ^ 64 = subst (λ (t : List ℕ). length t < 2 ^ 64) is account.short in
         let spelled : account_bytes steps (text_after script attached r steps) ≡ account_bytes (map blank steps) (text_after script attached r steps) =
-        (account_of (named script attached r) (account_bytes steps (text_after script attached r steps)) steps (text_after script attached r steps) (steps_told script attached r job steps replayed fits) few short refl).spelled in
+        (account_of (named script attached r) (account_bytes steps (text_after script attached r steps)) steps (text_after script attached r steps) (steps_told script attached r job steps replayed calls fits) few short refl).spelled in
         record {
           replayed = replayed;
           fits = fits;

@@ -14,11 +14,15 @@ ghost use Rattle.bt_meaning.specs.Replays.{cpus_of};
 ghost use Rattle.bt_meaning.specs.Walks.{replay_of};
 ghost use Rattle.account_check.specs.Accounts.{IsTrueAccount};
 
+use program_calls::laws::programs_make_such_calls;
+
 /// An account is true of one list of steps at most. Nothing runs.
 pub fn one_account()
     ensures { (script : Typed) (attached : Attached) (r : Recording) (bytes : List ℕ) (one other : List Step) → IsJob script attached r →
         IsTrueAccount script attached r bytes one → IsTrueAccount script attached r bytes other → one ≡ other }
-{}
+{
+    programs_make_such_calls();
+}
 
 /// The account of the steps of a run and of what they print is true of these steps, where its numbers are in their ranges. Nothing runs.
 pub fn accounts_of_runs_are_true()

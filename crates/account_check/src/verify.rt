@@ -13,6 +13,7 @@ use crate::text::{first_difference, text_of};
 use bt_ast::attached::Attached;
 use bt_core::items::Items;
 use bt_core::step::Step;
+use program_calls::laws::programs_make_such_calls;
 use rec_format::recording::Recording;
 use std::alloc::Global;
 use step_check::check::Checked;
@@ -42,6 +43,7 @@ pub fn verify(
     ensures only { (other : Result (List MadeStep) Fault) → IsAnswerTo script.now attached.now recording.now account.now other →
         other ≢ Err Memory → (result ≡ other) ⊎ (result ≡ Err Memory) }
 {
+    programs_make_such_calls();
     check(alloc, recording, attached, script, account)
 }
 
@@ -56,6 +58,7 @@ fn check(
     requires { IsJob script.now attached.now recording.now }
     ensures { IsAnswerTo script.now attached.now recording.now account.now result }
 {
+    programs_make_such_calls();
     let Written { entries, text } = read(alloc, recording, attached, script, account)?;
     let told = match found_of(alloc, recording, attached, script, entries)? {
         Checked::Wrong(place) => return Err(AccountError::WrongStep(place as u64)),

@@ -1,5 +1,5 @@
 -- What is in the maps after steps is in them after all that are the same but for items.
-use Rattle.std.proofs.Common.{◌≡◌, ℕ, ◌%◌, ◌^◌, ◌<◌, ◌≤◌, List, [], ◌∷◌, length, map, sum, reverse, sym, refl, ap, ◌∙◌, subst, arith}
+use Rattle.std.proofs.Common.{◌≡◌, ℕ, ◌%◌, ◌^◌, ◌≤◌, List, [], ◌∷◌, length, map, sum, reverse, sym, refl, ap, ◌∙◌, subst, arith}
 use Rattle.std.specs.Prelude.{All}
 use Rattle.std.proofs.lemmas.List.{length-map}
 use Rattle.std.specs.List.{AllByRecursion}
@@ -16,7 +16,9 @@ use Rattle.agg_core.specs.Changes.{lost_updates}
 use Rattle.map_ops.specs.declared.sweep.Sweep.TheVariants as sweeps
 use Rattle.map_ops.specs.Holders.{sweep_op}
 use Rattle.map_rows.specs.Merged.{merged}
+use Rattle.map_rows.specs.Fits.{AllRowsFit}
 use Rattle.bt_meaning.specs.Prints.{holders_of, lost_after, lost_by, of_maps, operations_at, rows_after}
+use Rattle.bt_meaning.specs.Replays.{Replay, cpus_of}
 use Rattle.blank_steps.specs.Blank.{blank_op, without_item}
 use Rattle.blank_steps.proofs.BlankLists.{blind_map, operations_alike}
 use Rattle.begun_lists.proofs.BlindReplies.{replies_alike}
@@ -25,7 +27,9 @@ use Rattle.run_objects.specs.Closed.{AreClosedAt, MapsStand}
 use Rattle.run_objects.specs.Moments.{Moment}
 use Rattle.run_objects.specs.Worlds.{IsOwn, World}
 use Rattle.entry_replay.specs.Replaying.{CanBeMade}
+use Rattle.step_check.specs.declared.check.Told.{Told}
 use Rattle.step_check.specs.declared.ends.Ended.{Ended}
+use Rattle.step_check.specs.Answers.{TellsEnd}
 
 -- the world of a run that has ended, with these maps, and the steps that were made in it
 abbrev pub moment_of : List MapDecl → Ended → Moment
@@ -70,3 +74,19 @@ closed_at w steps closed fine can stand = record { fine = fine; possible = each_
 pub all_made : (entries made list : List Step) (stop : ℕ) → length made ≤ length entries → map without_item list ≡ map without_item made → stop ≤ length list → length entries ≤ stop → length made ≡ length entries
 all_made entries made list stop short alike within every =
     let size : length list ≡ length made = sym (length-map list without_item) ∙ ap length alike ∙ length-map made without_item in omega arith
+
+pub closed_by : (cpus ticks : ℕ) (own maps : List MapDecl) (made steps : List Step) (closed : Closed) → maps ≡ own → steps ≡ made → All IsFineDecl own
+    → AllByRecursion (CanBeMade (record { cpus = cpus; ticks = ticks; maps = own })) made → MapsStand (record { cpus = cpus; ticks = ticks; maps = own }) made closed
+    → AreClosedAt (record { world = record { cpus = cpus; ticks = ticks; maps = maps }; steps = steps }) closed
+closed_by cpus ticks own maps made steps closed same is fine can stand =
+    subst (λ (z : List MapDecl × List Step). AreClosedAt (record { world = record { cpus = cpus; ticks = ticks; maps = z.0 }; steps = z.1 }) closed) (λ i. (sym same i, sym is i))
+    (closed_at (record { cpus = cpus; ticks = ticks; maps = own }) made closed fine can stand)
+
+-- what is read after the steps that were made is what is in the maps after those with items
+pub tells_end : (p : Replay) (told : Told) (made steps : List Step) (n : ℕ) (maps : List MapDecl) → n ≡ cpus_of p → steps ≡ made → maps ≡ p.maps → map without_item told.steps ≡ map without_item made
+    → told.rows.items ≡ of_maps (rows_after maps n steps) 0 maps → told.lost.items ≡ of_maps (lost_after maps n steps) 0 maps → AllRowsFit maps told.rows.items → TellsEnd p told
+tells_end p told made steps n maps main is same alike rows lost fit = record {
+  rows = rows ∙ (λ i. of_maps (rows_after (same i) (main i) (is i)) 0 (same i)) ∙ sym (all_rows_alike p.maps (cpus_of p) told.steps made alike);
+  lost = lost ∙ (λ i. of_maps (lost_after (same i) (main i) (is i)) 0 (same i)) ∙ sym (all_lost_alike p.maps (cpus_of p) told.steps made alike);
+  fit = subst (λ (m : List MapDecl). AllRowsFit m told.rows.items) same fit;
+}

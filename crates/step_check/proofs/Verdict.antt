@@ -1,5 +1,5 @@
 -- What is found of entries that were made as steps once more, and then followed for all actors.
-use Rattle.std.proofs.Common.{◌≡◌, ◌≢◌, ◌⊎◌, ◌+◌, ℕ, suc, ◌<◌, ◌≤◌, false, IsTrue, List, [], ◌∷◌, ◌++◌, length, map, take, drop, get_or, slice_index_or, sym, refl, ap, ◌∙◌, subst, arith, inl, inr}
+use Rattle.std.proofs.Common.{◌≡◌, ◌⊎◌, ◌+◌, ℕ, suc, ◌<◌, ◌≤◌, false, IsTrue, List, [], ◌∷◌, ◌++◌, length, map, take, drop, get_or, slice_index_or, sym, refl, ap, ◌∙◌, subst, arith, inl, inr}
 use Rattle.std.proofs.lemmas.List.{get_or_default, length-map, take-append-drop}
 use Rattle.std.proofs.Math.Seq.{drop-cons, take-length}
 use Rattle.std.proofs.Math.ListN.{get_or-map}
@@ -10,7 +10,7 @@ use Rattle.weave.proofs.Less.{less_or_not}
 use Rattle.bt_meaning.specs.Interleavings.{IsReplayed}
 use Rattle.bt_meaning.specs.Replays.{Replay, PlansAreOwn, answers_of, cpus_of}
 use Rattle.blank_steps.specs.Blank.{blank, without_item}
-use Rattle.begun_lists.specs.Begun.{AreAllWhole, IsBegun, MayFollow}
+use Rattle.begun_lists.specs.Begun.{IsBegun}
 use Rattle.begun_lists.specs.Parts.{IsStampedAfter, NotBeforeLast}
 use Rattle.begun_lists.specs.Wrong.{IsUnfinished, IsWrongStep, NoneFollows}
 use Rattle.begun_lists.proofs.Cuts.{AtEach-front, take_again}

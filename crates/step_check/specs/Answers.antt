@@ -1,5 +1,5 @@
 -- What is found of entries.
-use Rattle.std.specs.Prelude.{◌≡◌, ℕ, List, map}
+use Rattle.std.specs.Prelude.{◌≡◌, List, map}
 use Rattle.bt_core.specs.declared.step.Step.{Step}
 use Rattle.bt_meaning.specs.Interleavings.{IsReplayed}
 use Rattle.bt_meaning.specs.Prints.{lost_after, of_maps, rows_after}

@@ -1,5 +1,5 @@
 -- The bodies of all actors, by their plans.
-use Rattle.std.specs.Prelude.{◌≡◌, ℕ, Bool, ◌+◌, ◌<◌, ◌≤◌, List, length, slice_index_or}
+use Rattle.std.specs.Prelude.{◌≡◌, ℕ, Bool, ◌+◌, ◌<◌, List, length, slice_index_or}
 use Rattle.std.specs.List.{AllByRecursion}
 use Rattle.bt_ast.specs.declared.attached.Attached.{Attached}
 use Rattle.bt_core.specs.declared.map.MapDecl.{MapDecl}

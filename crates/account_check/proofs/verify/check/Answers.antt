@@ -29,4 +29,5 @@ returns-in-None c =
     let script = c.args.script.now in let attached = c.args.attached.now in let r = c.args.recording.now in
     let found = subst (IsFound (run script attached r) c.in_ok-entries.field-0.entries) c.in-Right.is c.in_ok-place.ensures in
     true_of script attached r c.args.account.now c.in_ok-entries.field-0.entries c.in_ok-entries.field-0.text.now c.in_ok-entries.ensures.read c.in-Right.told.steps found.0 found.1
-    c.in_ok-printed.printed.items (c.in_ok-printed.ensures (length r.cpus) found.2.rows found.2.lost) c.requires (c.in-None.ensures ∙ c.as_slice.ensures.value)
+    c.in_ok-printed.printed.items (c.in_ok-printed.ensures (length r.cpus) found.2.rows found.2.lost) c.requires
+    (λ actor. c.programs_make_such_calls.ensures script attached r c.requires actor) (c.in-None.ensures ∙ c.as_slice.ensures.value)

@@ -34,34 +34,34 @@ take_all-requires c =
 pub returns-clause-told : goal.returns-clause-told
 returns-clause-told c =
     let new = c.take_all.new.state in
-    let size : length c.first_steps-list.result ≡ new.at = ap length c.first_steps-list.ensures ∙ length-take-le new.at new.entries c.in_ok-take_all.ensures.within in
-    ap (map blank) c.first_steps-list.ensures ∙ sym (take-map blank new.at new.entries) ∙ ap (take new.at) c.in_ok-take_all.ensures.told ∙ ap (λ n. take n (map blank c.args.entries)) (sym size)
+    let size : length c.first_steps.result ≡ new.at = ap length c.first_steps.ensures ∙ length-take-le new.at new.entries c.in_ok-take_all.ensures.within in
+    ap (map blank) c.first_steps.ensures ∙ sym (take-map blank new.at new.entries) ∙ ap (take new.at) c.in_ok-take_all.ensures.told ∙ ap (λ n. take n (map blank c.args.entries)) (sym size)
 
 pub returns-clause-wrong : goal.returns-clause-wrong
 returns-clause-wrong c = λ d lt.
     let new = c.take_all.new.state in
-    let size : length c.first_steps-list.result ≡ new.at = ap length c.first_steps-list.ensures ∙ length-take-le new.at new.entries c.in_ok-take_all.ensures.within in
+    let size : length c.first_steps.result ≡ new.at = ap length c.first_steps.ensures ∙ length-take-le new.at new.entries c.in_ok-take_all.ensures.within in
     let count : length new.entries ≡ length c.args.entries = sym (length-map new.entries blank) ∙ ap length c.in_ok-take_all.ensures.told ∙ length-map c.args.entries blank in
     let alike : blank (get_or new.entries new.at d) ≡ blank (get_or c.args.entries new.at d) =
     sym (get_or-map blank new.entries new.at d) ∙ ap (λ l. get_or l new.at (blank d)) c.in_ok-take_all.ensures.told ∙ get_or-map blank c.args.entries new.at d in
     let cpus : new.cpus ≡ c.args.cpus = search rules in
     let there : IsWrongNext new.cpus (take new.at new.entries) (get_or c.args.entries new.at d) =
     wrong_alike new.cpus (take new.at new.entries) (get_or new.entries new.at d) (get_or c.args.entries new.at d) alike (c.in_ok-take_all.ensures.wrong d (omega arith)) in
-    subst (λ (z : (ℕ × List Step) × ℕ). IsWrongNext z.0.0 z.0.1 (get_or c.args.entries z.1 d)) (λ i. ((cpus i, sym c.first_steps-list.ensures i), sym size i)) there
+    subst (λ (z : (ℕ × List Step) × ℕ). IsWrongNext z.0.0 z.0.1 (get_or c.args.entries z.1 d)) (λ i. ((cpus i, sym c.first_steps.ensures i), sym size i)) there
 
 pub returns-clause-kinds : goal.returns-clause-kinds
 returns-clause-kinds c =
     let new = c.take_all.new.state in
     let maps : new.maps.value ≡ c.args.maps.now = ap (λ (w : World). w.maps) c.in_ok-take_all.ensures.world ∙ c.of.ensures in
-    subst (λ (z : List MapDecl × List Step). AllByRecursion (λ (s : Step). IsReplyOf z.0 s.object s.op s.reply) z.1) (λ i. (maps i, sym c.first_steps-list.ensures i))
+    subst (λ (z : List MapDecl × List Step). AllByRecursion (λ (s : Step). IsReplyOf z.0 s.object s.op s.reply) z.1) (λ i. (maps i, sym c.first_steps.ensures i))
     (kinds_follow (world_of new) (take new.at new.entries) (subst (All IsFineDecl) (sym maps) c.requires.fine) c.in_ok-take_all.ensures.can c.in_ok-take_all.ensures.replies)
 
 pub returns-clause-stand : goal.returns-clause-stand
 returns-clause-stand c = λ all.
     let new = c.take_all.new.state in
-    let size : length c.first_steps-list.result ≡ new.at = ap length c.first_steps-list.ensures ∙ length-take-le new.at new.entries c.in_ok-take_all.ensures.within in
+    let size : length c.first_steps.result ≡ new.at = ap length c.first_steps.ensures ∙ length-take-le new.at new.entries c.in_ok-take_all.ensures.within in
     let count : length new.entries ≡ length c.args.entries = sym (length-map new.entries blank) ∙ ap length c.in_ok-take_all.ensures.told ∙ length-map c.args.entries blank in
     let whole : new.at ≡ length new.entries = sym size ∙ all ∙ sym count in
     let world : world_of new ≡ record { cpus = c.args.cpus; ticks = c.args.ticks; maps = c.args.maps.now } =
     c.in_ok-take_all.ensures.world ∙ (λ i. record { cpus = c.args.cpus; ticks = c.args.ticks; maps = c.of.ensures i }) in
-    subst (λ (z : World × List Step). Stand z.0 z.1 new.objects) (λ i. (world i, sym c.first_steps-list.ensures i)) (c.in_ok-take_all.ensures.stand whole)
+    subst (λ (z : World × List Step). Stand z.0 z.1 new.objects) (λ i. (world i, sym c.first_steps.ensures i)) (c.in_ok-take_all.ensures.stand whole)

@@ -1,4 +1,4 @@
-use Rattle.std.proofs.Common.{sym, ◌∙◌, subst}
+use Rattle.std.proofs.Common.{sym, subst}
 use Rattle.map_rows.specs.Fits.{AllRowsFit}
 use Rattle.run_objects.proofs.MapReads.{rows_fit}
 use Rattle.step_check.proofs.ends.end_of.Goals as goal
