@@ -124,7 +124,7 @@ may_deny order contents outcome why comes found = by (denied_by order contents o
   where
     by : DeniedBy order outcome.refused → MayDeny order why
     by (inl none) = absurd (some_why why (sym found ∙ none))
-    by (inr e) = subst (λ (d : Denial). MayDeny order d) (same_why e.0 why (sym e.1.0 ∙ found)) e.1.1
+    by (inr e) = subst (λ (d : Denial). MayDeny order d) (same_why e.0 why (sym e.1 ∙ found)) e.2
 
 -- neither runs anything
 denied_runs : (order : Order) (why : Denial) → MayDeny order why → IsRunOrder order → ⊥
@@ -389,7 +389,7 @@ module _ (order : Order) (seen : ShelfUse) (out : SinkUse) (bytes : List ℕ) wh
   done_asked None refusal (inr e) asked =
       subst (λ (r : Option Refusal). AsksExactly (files_of order) r seen) (sym e.0) (fault_asked asked)
   done_asked (Some why) refusal e asked =
-      subst (λ (r : Option Refusal). AsksExactly (files_of order) r seen) (sym e.0) (asked_as (Denied why) (inr (why, refl)) asked)
+      subst (λ (r : Option Refusal). AsksExactly (files_of order) r seen) (sym e.0) (denied_asked why asked)
 
   -- words are refused before
   none_usage : ◌≡◌ {A = Option Refusal} None (Some Usage) → ⊥

@@ -71,6 +71,11 @@ failed_among files file seen refusal failed after named (inr (inr e)) told =
     (long_failed files file.operand failed after
     (long_alone file file.operand failed after (subst (λ (r : Refusal). FailsNamed (file ∷ []) (Some r) failed after) e.0 told)))
 
+-- names that were noted as failed before stand
+pub failed_later : (files : List OperandFile) (failed between after : List (List ℕ)) (refusal : Refusal) → between ≡ failed
+    → FailsNamed files (Some refusal) between after → FailsNamed files (Some refusal) failed after
+failed_later files failed between after refusal same told = subst (λ (l : List (List ℕ)). FailsNamed files (Some refusal) l after) same told
+
 -- what is found of the contents is no fault of a read
 first_failed : (files : List OperandFile) (text bytes : List ℕ) (failed after : List (List ℕ)) (refusal : Refusal) → IsFirstRefusal text bytes refusal
     → after ≡ failed → FailsNamed files (Some refusal) failed after

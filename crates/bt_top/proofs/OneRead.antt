@@ -1,6 +1,7 @@
 -- The read of one file, and reads behind others.
 use Rattle.std.proofs.Common.{◌≡◌, ℕ, ◌<◌, ◌≤◌, ◌⊎◌, List, [], ◌∷◌, ◌++◌, length, refl, sym, ap, subst, inl, inr, ◌∙◌, append_assoc, append-nil}
 use Rattle.std.specs.Prelude.{Option, Some, Result, Ok, Err, IfErr, IfOk, IfSome, IsErrOf}
+use Rattle.bt_io.specs.Faults.{Rose}
 use Rattle.bt_io.specs.declared.shelf.ShelfError.{ShelfError}
 use Rattle.bt_io.specs.declared.shelf.ShelfError.TheVariants as shelf
 use Rattle.run_base.specs.declared.job.Job.{Job}
@@ -52,10 +53,7 @@ pub unread_from : (seen between : ShelfUse) (file : OperandFile) (refusal : Refu
     → seen.faults ≤ between.faults → between.faults_after ≡ seen.faults_after → IsUnread file between refusal → IsUnread file seen refusal
 unread_from seen between file refusal same later after (inl memory) = inl memory
 unread_from seen between file refusal same later after (inr (inl e)) =
-    inr (inl (e.0, subst (λ (n : ℕ). rose seen.faults n) after (rose_from seen.faults between.faults between.faults_after later e.1)))
-  where
-    abbrev rose : ℕ → ℕ → Type 0
-    rose before behind = ShelfFailed (record { held = seen.held; faults = before; faults_after = behind; asked = seen.asked; asked_after = seen.asked_after })
+    inr (inl (e.0, subst (λ (n : ℕ). Rose seen.faults n) after (rose_from seen.faults between.faults between.faults_after later e.1)))
 unread_from seen between file refusal same later after (inr (inr e)) =
     inr (inr (e.0, subst (λ (o : Option (List ℕ)). IfSome o (λ bytes. limit_of file.operand < length bytes)) (same file.name) e.1))
 

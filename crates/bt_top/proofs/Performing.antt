@@ -1,12 +1,13 @@
 -- What an order comes to, from what comes of its files.
 use Rattle.std.proofs.Common.{◌≡◌, ◌≢◌, ℕ, ◌<◌, ◌^◌, List, [], ◌∷◌, length, refl, sym, ap, subst, ◌∙◌, inl, inr}
-use Rattle.std.specs.Prelude.{◌⊎◌, Bool, true, false, Option, Some, None, Result, Ok, Err, IfSome}
+use Rattle.std.specs.Prelude.{◌⊎◌, Bool, true, false, Option, Some, None, Result, Ok, Err, IfOk, IfSome, OnOk}
 use Rattle.std.specs.List.{AllByRecursion}
 use Rattle.account_check.specs.Answers.{IsAnswerTo}
 use Rattle.account_check.specs.declared.error.AccountError.{AccountError}
 use Rattle.account_check.specs.declared.error.AccountError.TheVariants as wrong
 use Rattle.account_format.specs.Accounts.{account_bytes}
 use Rattle.account_format.specs.Entries.{FitsStep}
+use Rattle.bt_core.specs.declared.memory.Memory.{Memory as NoMemory}
 use Rattle.bt_core.specs.declared.step.Step.{Step}
 use Rattle.bpf_codegen.specs.declared.generate.Program.{Program}
 use Rattle.bt_words.specs.declared.order.Order.{Order}
@@ -22,7 +23,7 @@ use Rattle.bt_top.specs.declared.refusal.Refusal.TheVariants.{Memory}
 use Rattle.bt_top.specs.Doing.{ComesOfFiles}
 use Rattle.bt_top.specs.Jobs.{IsWorkOf}
 use Rattle.bt_top.specs.Orders.{OperandFile, files_of, names_of}
-use Rattle.bt_top.specs.Outcomes.{IsOutcomeOfAccount, IsOutcomeOfRun, IsOutcomeOfVerify, gen_outcome, run_outcome, verify_outcome}
+use Rattle.bt_top.specs.Outcomes.{IsOutcomeOfAccount, IsOutcomeOfRun, IsOutcomeOfVerify, gen_outcome, plain_outcome, run_outcome, verify_outcome}
 use Rattle.bt_top.specs.Serve.{ShelfUse, AsksExactly, AsksFirst, EndsAsDue, IsComplete, IsEndStatus, OnTold}
 
 -- ---- outcomes
@@ -132,6 +133,17 @@ accounted_for serial job work text rest done same spelled fits few short = recor
       (spelled ∙ ap (λ (l : List ℕ). account_bytes work.steps l) same);
 }
 
+err_is : (one other : AccountError) → ◌≡◌ {A = Result (List Step) AccountError} (Err one) (Err other) → one ≡ other
+err_is one other e = cc
+
+pub ok_known : (steps : List Step) → ◌≡◌ {A = Result (List Step) AccountError} (Ok steps) (Err wrong.Memory) → ⊥
+ok_known steps e = cc
+
+-- of what has no programs, with a line
+pub plain_with : (programs : List Program) (line rest : List ℕ) → programs ≡ [] → line ≡ rest
+    → ◌≡◌ {A = Outcome} (record { work = None; programs = programs; refused = None; prints = true; rest = line }) (plain_outcome rest)
+plain_with programs line rest none is = λ i. record { work = None; programs = none i; refused = None; prints = true; rest = is i }
+
 -- the one answer to an account
 module _ (job : Job) (account : List ℕ) where
   abbrev pub Answers : Result (List Step) AccountError → Type 0
@@ -152,3 +164,8 @@ module _ (job : Job) (account : List ℕ) where
       → outcome ≡ verify_outcome answer → IsOutcomeOfVerify job account outcome
   verified_by answer outcome known holds only is =
       record { answer = answer; known = known; holds = holds; only = only_one answer known only; is = is }
+
+  pub denied_verified : (error : AccountError) (found : Result Outcome NoMemory) → Answers (Err error) → OnlyThis (Err error)
+      → OnOk found (error ≢ wrong.Memory) → IfOk found (λ outcome. outcome ≡ verify_outcome (Err error)) → IfOk found (IsOutcomeOfVerify job account)
+  denied_verified error (Ok outcome) holds only known is = verified_by (Err error) outcome (λ e. known (err_is error wrong.Memory e)) holds only is
+  denied_verified error (Err memory) holds only known is = tt

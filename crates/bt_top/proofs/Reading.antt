@@ -338,23 +338,23 @@ long_comes operand.Script files contents failed is = inl is
 long_comes operand.Recording files contents failed is = inl is
 long_comes operand.Account files contents failed is = inl is
 
-module _ {B : Type 0} (seen : ShelfUse) (file : OperandFile) (more front : List OperandFile) (texts : List (List ℕ)) (refusal : Refusal)
+module _ (seen : ShelfUse) (file : OperandFile) (more front : List OperandFile) (texts : List (List ℕ)) (refusal : Refusal)
     (are : AreRead seen.held front texts) (apart : AllApart seen.held file more front) (unread : IsUnread file seen refusal) where
-  abbrev files : List OperandFile
-  files = front ++ file ∷ more
+  abbrev listed : List OperandFile
+  listed = front ++ file ∷ more
 
   abbrev last : List ℕ
   last = unwrap_or (seen.held file.name) (long_list (limit_of file.operand)).0
 
-  abbrev contents : List (List ℕ)
-  contents = texts ++ last ∷ others_of seen.held more
+  abbrev bytes_of : List (List ℕ)
+  bytes_of = texts ++ last ∷ others_of seen.held more
 
-  came : IsUnread file seen refusal → MayCome files contents (ShelfFailed seen) ⊥ (Some refusal)
-  came (inl memory) = subst (λ (r : Refusal). MayCome files contents (ShelfFailed seen) ⊥ (Some r)) (sym memory) tt
-  came (inr (inl e)) = subst (λ (r : Refusal). MayCome files contents (ShelfFailed seen) ⊥ (Some r)) (sym e.0)
+  came : IsUnread file seen refusal → MayCome listed bytes_of (ShelfFailed seen) ⊥ (Some refusal)
+  came (inl memory) = subst (λ (r : Refusal). MayCome listed bytes_of (ShelfFailed seen) ⊥ (Some r)) (sym memory) tt
+  came (inr (inl e)) = subst (λ (r : Refusal). MayCome listed bytes_of (ShelfFailed seen) ⊥ (Some r)) (sym e.0)
       (e.1, reached seen.held file more front texts last (others_of seen.held more) are)
-  came (inr (inr e)) = subst (λ (r : Refusal). MayCome files contents (ShelfFailed seen) ⊥ (Some r)) (sym e.0)
-      (long_comes file.operand files contents (ShelfFailed seen)
+  came (inr (inr e)) = subst (λ (r : Refusal). MayCome listed bytes_of (ShelfFailed seen) ⊥ (Some r)) (sym e.0)
+      (long_comes file.operand listed bytes_of (ShelfFailed seen)
       (too_long_due seen.held file more front texts last (others_of seen.held more) are (long_or (limit_of file.operand) (seen.held file.name) e.1)))
 
   memory_asked : (before : List OperandFile) → AsksExactly (before ++ file ∷ more) (Some Memory) seen
@@ -366,15 +366,15 @@ module _ {B : Type 0} (seen : ShelfUse) (file : OperandFile) (more front : List 
   exactly_on [] why known asked = exactly file more why seen known asked
   exactly_on (f ∷ before) why known asked = exactly f (before ++ file ∷ more) why seen known asked
 
-  known_asked : (why : Refusal) → refusal ≡ why → (why ≡ Memory → ⊥) → names_read files (Some why) ≡ names_of front ++ file.name ∷ []
-      → ((refusal ≡ Memory → ⊥) → seen.asked_after ≡ seen.asked ++ (names_of front ++ file.name ∷ [])) → AsksExactly files (Some refusal) seen
+  known_asked : (why : Refusal) → refusal ≡ why → (why ≡ Memory → ⊥) → names_read listed (Some why) ≡ names_of front ++ file.name ∷ []
+      → ((refusal ≡ Memory → ⊥) → seen.asked_after ≡ seen.asked ++ (names_of front ++ file.name ∷ [])) → AsksExactly listed (Some refusal) seen
   known_asked why e known read named =
-      subst (λ (r : Refusal). AsksExactly files (Some r) seen) (sym e)
+      subst (λ (r : Refusal). AsksExactly listed (Some r) seen) (sym e)
       (exactly_on front why known (named (λ m. known (sym e ∙ m)) ∙ ap (λ (l : List (List ℕ)). seen.asked ++ l) (sym read)))
 
   asked_exactly : IsUnread file seen refusal → ((refusal ≡ Memory → ⊥) → seen.asked_after ≡ seen.asked ++ (names_of front ++ file.name ∷ []))
-      → AsksExactly files (Some refusal) seen
-  asked_exactly (inl memory) named = subst (λ (r : Refusal). AsksExactly files (Some r) seen) (sym memory) (memory_asked front)
+      → AsksExactly listed (Some refusal) seen
+  asked_exactly (inl memory) named = subst (λ (r : Refusal). AsksExactly listed (Some r) seen) (sym memory) (memory_asked front)
   asked_exactly (inr (inl e)) named =
       known_asked (ReadFault file.operand) e.0 (not_memory_fault file.operand)
       (read_to seen.held file more front (Some (ReadFault file.operand)) (ends_here file.operand) (λ one other. ends_not file.operand one other) apart) named
@@ -382,9 +382,9 @@ module _ {B : Type 0} (seen : ShelfUse) (file : OperandFile) (more front : List 
       known_asked (too_long file.operand) e.0 (not_memory_long file.operand)
       (read_to seen.held file more front (Some (too_long file.operand)) (ends_long file.operand) (λ one other. ends_not_long file.operand one other) apart) named
 
-  comes : IsUnread file seen refusal → (told : List (List ℕ)) → AreTold seen.held files told → ComesIfDue files (Some refusal) told
-  comes (inl memory) told are_told due is = inr (subst (λ (r : Refusal). MayStandFor files (Some r) due) (sym memory) tt)
-  comes (inr (inl e)) told are_told due is = inr (subst (λ (r : Refusal). MayStandFor files (Some r) due) (sym e.0)
+  comes : IsUnread file seen refusal → (told : List (List ℕ)) → AreTold seen.held listed told → ComesIfDue listed (Some refusal) told
+  comes (inl memory) told are_told due is = inr (subst (λ (r : Refusal). MayStandFor listed (Some r) due) (sym memory) tt)
+  comes (inr (inl e)) told are_told due is = inr (subst (λ (r : Refusal). MayStandFor listed (Some r) due) (sym e.0)
       (stands seen.held file more front due apart
       (not_due seen.held file more front told due (front_short seen.held file more front texts told are are_told) is)))
   comes (inr (inr e)) told are_told due is =
@@ -393,7 +393,7 @@ module _ {B : Type 0} (seen : ShelfUse) (file : OperandFile) (more front : List 
       (long_at seen.held file more front told are_told e.1) is)
 
   asked_first : (seen.asked_after ≡ seen.asked ++ (names_of front ++ file.name ∷ [])) ⊎ (seen.asked_after ≡ seen.asked ++ names_of front)
-      → AsksFirst seen.asked seen.asked_after (names_of files)
+      → AsksFirst seen.asked seen.asked_after (names_of listed)
   asked_first (inl e) = subst (λ (l : List (List ℕ)). AsksFirst seen.asked seen.asked_after l)
       (append_assoc (names_of front) (file.name ∷ []) (names_of more) ∙ sym (names_on front file more))
       (asks_to seen.asked seen.asked_after (names_of front ++ file.name ∷ []) (names_of more) e)
@@ -401,20 +401,20 @@ module _ {B : Type 0} (seen : ShelfUse) (file : OperandFile) (more front : List 
       (asks_to seen.asked seen.asked_after (names_of front) (file.name ∷ names_of more) e)
 
   -- what comes of files of which the first ones are read and the next one is not
-  pub file_unread : (Comes : List (List ℕ) → B → Type 0)
+  pub file_unread : {B : Type 0} (Comes : List (List ℕ) → B → Type 0)
       → ((refusal ≡ Memory → ⊥) → seen.asked_after ≡ seen.asked ++ (names_of front ++ file.name ∷ []))
       → (seen.asked_after ≡ seen.asked ++ (names_of front ++ file.name ∷ [])) ⊎ (seen.asked_after ≡ seen.asked ++ names_of front)
-      → ComesOfFiles files Comes seen (Err refusal)
+      → ComesOfFiles listed Comes seen (Err refusal)
   file_unread Comes named named_or_not = record {
     reads = record {
-      contents = contents;
+      contents = bytes_of;
       held = contents_held seen.held file more front texts last (others_of seen.held more) are (held_or _ _) (are_others seen.held more);
       value = tt;
       came = came unread;
     };
     asked = asked_first named_or_not;
     asked_exactly = asked_exactly unread named;
-    exact = on_told_by seen.held files (ComesIfDue files (Some refusal)) (comes unread);
+    exact = on_told_by seen.held listed (ComesIfDue listed (Some refusal)) (comes unread);
   }
 
 -- ---- all files are read

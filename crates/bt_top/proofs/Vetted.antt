@@ -115,7 +115,7 @@ module _ (order : Order) (other : (script recording : List ℕ) → order ≡ Ve
   other_status out (Some why) refusal bytes (inl none) wrote = absurd (some_why why none)
   other_status out (Some why) refusal bytes (inr e) wrote =
       subst (λ (r : Option Refusal). status_of r ≢ 8) (sym wrote.0)
-      (subst (λ (d : Denial). status_of (Some (Denied d)) ≢ 8) (sym (same_why why e.0 e.1.0)) (other_denial order e.0 e.1.1 other))
+      (subst (λ (d : Denial). status_of (Some (Denied d)) ≢ 8) (sym (same_why why e.0 e.1)) (other_denial order e.0 e.2 other))
 
 pub done_vetted : (seen : ShelfUse) (out : SinkUse) (outcome : Outcome) (refusal : Option Refusal) → Wrote out outcome.refused refusal (bytes_written outcome)
     → (order : Order) (contents : List (List ℕ)) → AreContentsOf seen.held (files_of order) contents → ComesTo order contents outcome

@@ -1,8 +1,9 @@
 // The orders on accounts.
-ghost use Rattle.std.specs.Prelude.{◌≡◌, IfOk};
+ghost use Rattle.std.specs.Prelude.{◌≡◌, ◌≢◌, Err, IfOk, OnOk};
 ghost use Rattle.bt_meaning.specs.Jobs.{IsJob};
 ghost use Rattle.script_programs.specs.Programs.{KeepScript};
-ghost use Rattle.bt_top.specs.Outcomes.{IsOutcomeOfAccount, IsOutcomeOfVerify, verified_line};
+ghost use Rattle.account_check.specs.declared.error.AccountError.TheVariants as wrong;
+ghost use Rattle.bt_top.specs.Outcomes.{IsOutcomeOfAccount, IsOutcomeOfVerify, verified_line, verify_outcome};
 
 use crate::outcome::Outcome;
 use crate::refusal::Denial;
@@ -68,8 +69,18 @@ pub(crate) fn verify_outcome(alloc: Global, job: &Job, account: &[u8]) -> Result
             prints: true,
             rest: verified_line(alloc, steps.len())?,
         }),
-        Err(AccountError::Memory) => Err(Memory),
-        Err(error) => Ok(Outcome {
+        Err(error) => denied_outcome(alloc, error),
+    }
+}
+
+/// What a check of an account comes to that is not true, for this reason.
+fn denied_outcome(alloc: Global, error: AccountError) -> Result<Outcome, Memory>
+    ensures known { OnOk result (error ≢ wrong.Memory) }
+    ensures outcome { IfOk result (λ outcome. outcome ≡ verify_outcome (Err error)) }
+{
+    match error {
+        AccountError::Memory => Err(Memory),
+        error => Ok(Outcome {
             work: None,
             programs: Items::new(alloc),
             refused: Some(Denial::Account(error)),

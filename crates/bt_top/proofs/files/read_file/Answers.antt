@@ -1,5 +1,6 @@
 use Rattle.std.proofs.Common.{[], ◌∷◌}
 use Rattle.bt_top.specs.Orders.{file_of}
+use Rattle.bt_top.specs.Serve.{shelf_use}
 use Rattle.bt_top.proofs.FailedNames.{named_alone, none_failed_ok, unread_failed}
 use Rattle.bt_top.proofs.OneRead.{noted_ok, noted_unless, unread_by}
 use Rattle.bt_top.proofs.Reading.{read_error}
@@ -17,7 +18,7 @@ returns-in-Ok-clause-fault_named g c = none_failed_ok c.in-Ok.bytes c.in-Ok.ensu
 pub returns-in-Err-clause-unread : goal.returns-in-Err-clause-unread
 returns-in-Err-clause-unread g c =
     rw c.read_refusal.ensures
-    (unread_by (file_of c.args.operand c.args.name.now) _ c.in-Err.error (λ e. c.in-Err.ensures.failed (read_error e))
+    (unread_by (file_of c.args.operand c.args.name.now) (shelf_use g.S.Shelf.held g.S.Shelf.faults g.S.Shelf.asked c.args.shelf.now c.read.new.self) c.in-Err.error (λ e. c.in-Err.ensures.failed (read_error e))
     (λ e. rw (← c.limit_of.ensures) (c.in-Err.ensures.too_long (read_error e))))
 
 pub returns-in-Err-clause-named_unless : goal.returns-in-Err-clause-named_unless
