@@ -19,12 +19,13 @@ use Rattle.run_base.specs.declared.job.Work.{Work}
 use Rattle.run_output.specs.declared.form.Form.{Form}
 use Rattle.run_output.specs.declared.form.Form.TheVariants.{Text}
 use Rattle.bt_top.specs.declared.outcome.Outcome.{Outcome}
+use Rattle.bt_top.specs.declared.refusal.Refusal.{Refusal}
 use Rattle.bt_top.specs.declared.refusal.Refusal.TheVariants.{Memory}
 use Rattle.bt_top.specs.Doing.{ComesOfFiles}
 use Rattle.bt_top.specs.Jobs.{IsWorkOf}
 use Rattle.bt_top.specs.Orders.{OperandFile, files_of, names_of}
 use Rattle.bt_top.specs.Outcomes.{IsOutcomeOfAccount, IsOutcomeOfRun, IsOutcomeOfVerify, gen_outcome, plain_outcome, run_outcome, verify_outcome}
-use Rattle.bt_top.specs.Serve.{ShelfUse, AsksExactly, AsksFirst, EndsAsDue, IsComplete, IsEndStatus, OnTold}
+use Rattle.bt_top.specs.Serve.{ShelfUse, AsksExactly, AsksFirst, ComesIfDue, EndsAsDue, IsComplete, IsEndStatus, OnTold}
 
 -- ---- outcomes
 
@@ -103,6 +104,25 @@ module _ {A B : Type 0} (files : List OperandFile) (Comes : List (List ℕ) → 
     asked_exactly = p.asked_exactly;
     exact = p.exact;
   }
+
+-- files that are refused are refused whatever is made of them, and memory may run out where they are not
+pub stays_refused : {A B : Type 0} (files : List OperandFile) (Comes : List (List ℕ) → A → Type 0) (Other : List (List ℕ) → B → Type 0) (seen : ShelfUse)
+    (refusal : Refusal) → ComesOfFiles files Comes seen (Err refusal) → ComesOfFiles files Other seen (Err refusal)
+stays_refused files Comes Other seen refusal p = record {
+  reads = record { contents = p.reads.contents; held = p.reads.held; value = tt; came = p.reads.came };
+  asked = p.asked;
+  asked_exactly = p.asked_exactly;
+  exact = p.exact;
+}
+
+pub runs_out : {A B : Type 0} (first : OperandFile) (files : List OperandFile) (Comes : List (List ℕ) → A → Type 0) (Other : List (List ℕ) → B → Type 0)
+    (seen : ShelfUse) (a : A) → ComesOfFiles (first ∷ files) Comes seen (Ok a) → ComesOfFiles (first ∷ files) Other seen (Err Memory)
+runs_out first files Comes Other seen a p = record {
+  reads = record { contents = p.reads.contents; held = p.reads.held; value = tt; came = tt };
+  asked = p.asked;
+  asked_exactly = tt;
+  exact = on_told-map seen.held (first ∷ files) (ComesIfDue (first ∷ files) None) (ComesIfDue (first ∷ files) (Some Memory)) (λ contents comes due is. inr tt) p.exact;
+}
 
 -- ---- of an order without files
 

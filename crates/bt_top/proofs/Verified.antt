@@ -168,19 +168,19 @@ pub done_verified : (seen : ShelfUse) (out : SinkUse) (outcome : Outcome) (refus
 done_verified seen out outcome refusal wrote (Verify script recording account) contents read comes =
     verify_says seen.held script recording account out contents read comes.0 comes.1 outcome refusal comes.2 wrote
 done_verified seen out outcome refusal wrote (Run serial stats json script recording) contents read comes =
-    other_status (Run serial stats json script recording) (λ s r a e. cc) out outcome.refused refusal _ (denied_by _ contents outcome comes) wrote
+    other_status (Run serial stats json script recording) (λ s r a e. cc) out outcome.refused refusal _ (denied_by (Run serial stats json script recording) contents outcome comes) wrote
 done_verified seen out outcome refusal wrote (Check script recording) contents read comes =
-    other_status (Check script recording) (λ s r a e. cc) out outcome.refused refusal _ (denied_by _ contents outcome comes) wrote
+    other_status (Check script recording) (λ s r a e. cc) out outcome.refused refusal _ (denied_by (Check script recording) contents outcome comes) wrote
 done_verified seen out outcome refusal wrote (Code script recording) contents read comes =
-    other_status (Code script recording) (λ s r a e. cc) out outcome.refused refusal _ (denied_by _ contents outcome comes) wrote
+    other_status (Code script recording) (λ s r a e. cc) out outcome.refused refusal _ (denied_by (Code script recording) contents outcome comes) wrote
 done_verified seen out outcome refusal wrote (Vet script recording) contents read comes =
-    other_status (Vet script recording) (λ s r a e. cc) out outcome.refused refusal _ (denied_by _ contents outcome comes) wrote
+    other_status (Vet script recording) (λ s r a e. cc) out outcome.refused refusal _ (denied_by (Vet script recording) contents outcome comes) wrote
 done_verified seen out outcome refusal wrote (Account serial script recording) contents read comes =
-    other_status (Account serial script recording) (λ s r a e. cc) out outcome.refused refusal _ (denied_by _ contents outcome comes) wrote
+    other_status (Account serial script recording) (λ s r a e. cc) out outcome.refused refusal _ (denied_by (Account serial script recording) contents outcome comes) wrote
 done_verified seen out outcome refusal wrote (Gen x n) contents read comes =
-    other_status (Gen x n) (λ s r a e. cc) out outcome.refused refusal _ (denied_by _ contents outcome comes) wrote
+    other_status (Gen x n) (λ s r a e. cc) out outcome.refused refusal _ (denied_by (Gen x n) contents outcome comes) wrote
 done_verified seen out outcome refusal wrote (Big x n) contents read comes =
-    other_status (Big x n) (λ s r a e. cc) out outcome.refused refusal _ (denied_by _ contents outcome comes) wrote
+    other_status (Big x n) (λ s r a e. cc) out outcome.refused refusal _ (denied_by (Big x n) contents outcome comes) wrote
 
 -- ---- where something else is refused
 
@@ -197,7 +197,7 @@ module _ (contents : List (List ℕ)) where
   not_found : (all : List (List ℕ)) → IsFinding all (Some LongAccount) → ⊥
   not_found [] is = some_none is
   not_found (text ∷ []) is = some_none is
-  not_found (text ∷ bytes ∷ more) is = is
+  not_found (text ∷ second ∷ more) is = is
 
   not_long_pair : (script recording : List ℕ) (all : List (List ℕ)) → IsTooLong (on_script script recording) all (Some LongAccount) → ⊥
   not_long_pair script recording [] is = is

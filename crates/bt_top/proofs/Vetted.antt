@@ -123,19 +123,19 @@ pub done_vetted : (seen : ShelfUse) (out : SinkUse) (outcome : Outcome) (refusal
 done_vetted seen out outcome refusal wrote (Vet script recording) contents read comes =
     vet_says seen.held script recording out contents read comes.0 comes.1 outcome refusal comes.2 wrote
 done_vetted seen out outcome refusal wrote (Run serial stats json script recording) contents read comes =
-    other_status (Run serial stats json script recording) (λ s r e. cc) out outcome.refused refusal _ (denied_by _ contents outcome comes) wrote
+    other_status (Run serial stats json script recording) (λ s r e. cc) out outcome.refused refusal _ (denied_by (Run serial stats json script recording) contents outcome comes) wrote
 done_vetted seen out outcome refusal wrote (Check script recording) contents read comes =
-    other_status (Check script recording) (λ s r e. cc) out outcome.refused refusal _ (denied_by _ contents outcome comes) wrote
+    other_status (Check script recording) (λ s r e. cc) out outcome.refused refusal _ (denied_by (Check script recording) contents outcome comes) wrote
 done_vetted seen out outcome refusal wrote (Code script recording) contents read comes =
-    other_status (Code script recording) (λ s r e. cc) out outcome.refused refusal _ (denied_by _ contents outcome comes) wrote
+    other_status (Code script recording) (λ s r e. cc) out outcome.refused refusal _ (denied_by (Code script recording) contents outcome comes) wrote
 done_vetted seen out outcome refusal wrote (Account serial script recording) contents read comes =
-    other_status (Account serial script recording) (λ s r e. cc) out outcome.refused refusal _ (denied_by _ contents outcome comes) wrote
+    other_status (Account serial script recording) (λ s r e. cc) out outcome.refused refusal _ (denied_by (Account serial script recording) contents outcome comes) wrote
 done_vetted seen out outcome refusal wrote (Verify script recording account) contents read comes =
-    other_status (Verify script recording account) (λ s r e. cc) out outcome.refused refusal _ (denied_by _ contents outcome comes) wrote
+    other_status (Verify script recording account) (λ s r e. cc) out outcome.refused refusal _ (denied_by (Verify script recording account) contents outcome comes) wrote
 done_vetted seen out outcome refusal wrote (Gen x n) contents read comes =
-    other_status (Gen x n) (λ s r e. cc) out outcome.refused refusal _ (denied_by _ contents outcome comes) wrote
+    other_status (Gen x n) (λ s r e. cc) out outcome.refused refusal _ (denied_by (Gen x n) contents outcome comes) wrote
 done_vetted seen out outcome refusal wrote (Big x n) contents read comes =
-    other_status (Big x n) (λ s r e. cc) out outcome.refused refusal _ (denied_by _ contents outcome comes) wrote
+    other_status (Big x n) (λ s r e. cc) out outcome.refused refusal _ (denied_by (Big x n) contents outcome comes) wrote
 
 -- ---- where something else is refused
 

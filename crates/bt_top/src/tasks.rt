@@ -10,7 +10,7 @@ ghost use Rattle.bt_top.specs.Outcomes.{ComesTo, IsOutcomeOfRun, IsOutcomeOfVet,
 ghost use Rattle.bt_top.specs.Serve.{shelf_use};
 
 use crate::accounts::{account_outcome, verify_outcome};
-use crate::files::{AccountJob, read_account_job, read_job};
+use crate::files::{read_account_job, read_job};
 use crate::listing::script_listing;
 use crate::made::{big_outcome, gen_outcome};
 use crate::outcome::Outcome;
@@ -206,14 +206,14 @@ pub(crate) fn outcome_of<S: Shelf, G: Gate + Sync, R: Threads + Wait + Sync>(
             recording,
             account,
         } => {
-            let AccountJob { job, account } = read_account_job(
+            let both = read_account_job(
                 alloc,
                 script.as_str(),
                 recording.as_str(),
                 account.as_str(),
                 shelf,
             )?;
-            Ok(verify_outcome(alloc, &job, account.as_slice())?)
+            Ok(verify_outcome(alloc, &both.job, both.account.as_slice())?)
         }
         Order::Gen { x, n } => Ok(gen_outcome(alloc, *x, *n)?),
         Order::Big { x, n } => big_outcome(rt, alloc, *x, *n, gate),

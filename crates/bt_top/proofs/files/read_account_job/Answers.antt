@@ -1,6 +1,7 @@
 use Rattle.std.proofs.Common.{[], ◌∷◌, refl, ◌∙◌}
 use Rattle.std.specs.Prelude.{Ok, Err}
 use Rattle.bt_top.specs.declared.refusal.Operand.TheVariants.{Script, Recording, Account}
+use Rattle.bt_top.specs.declared.files.AccountJob.{AccountJob}
 use Rattle.bt_top.specs.Doing.{IsRead}
 use Rattle.bt_top.specs.Orders.{file_of, on_account}
 use Rattle.bt_top.specs.Serve.{shelf_use}
@@ -101,5 +102,6 @@ returns-clause-performs g c =
 
 pub returns-clause-fault_named : goal.returns-clause-fault_named
 returns-clause-fault_named g c =
-    judged_failed (on_account c.args.script.now c.args.recording.now c.args.account.now) _ _ _ _ c.judge.result c.judge.ensures.refused
+    judged_failed {A = AccountJob} (on_account c.args.script.now c.args.recording.now c.args.account.now) c.as_slice.result.now c.in-Ok-read_file.bytes.items _ _
+    (Err c.in-Err-judge.refusal) c.in-Err-judge.ensures.refused
     (c.in-Ok-read_file-2.ensures.fault_named ∙ (c.in-Ok-read_file.ensures.fault_named ∙ c.in-Ok.ensures.fault_named))

@@ -70,11 +70,17 @@ returns-in_ok-verify_outcome-in-Verify-clause-performs g c =
     rw c.in-Verify.is
     (goes_on _ (IsAccountJob (on_account c.in-Verify.script c.in-Verify.recording c.in-Verify.account))
     (ComesTo (Verify c.in-Verify.script c.in-Verify.recording c.in-Verify.account)) _
-    c.in_ok-read_account_job-in-Verify.field-0 c.in_ok-verify_outcome-in-Verify.field-0
-    (rw (c.as_str-in-Verify.ensures, c.as_str-in-Verify-2.ensures, c.as_str-in-Verify-3.ensures) at c.in_ok-read_account_job-in-Verify.ensures.performs)
+    c.in_ok-both-in-Verify.both c.in_ok-verify_outcome-in-Verify.field-0
+    (rw (c.as_str-in-Verify.ensures, c.as_str-in-Verify-2.ensures, c.as_str-in-Verify-3.ensures) at c.in_ok-both-in-Verify.ensures.performs)
     (λ contents is. (
-      c.in_ok-read_account_job-in-Verify.field-0.job,
+      c.in_ok-both-in-Verify.both.job,
       is.job,
-      subst (λ (bytes : List ℕ). IsOutcomeOfVerify c.in_ok-read_account_job-in-Verify.field-0.job bytes c.in_ok-verify_outcome-in-Verify.field-0)
+      subst (λ (bytes : List ℕ). IsOutcomeOfVerify c.in_ok-both-in-Verify.both.job bytes c.in_ok-verify_outcome-in-Verify.field-0)
           (c.as_slice.ensures ∙ sym is.account) c.in_ok-verify_outcome-in-Verify.ensures,
     )))
+
+pub returns-in_err-both-in-Verify-clause-performs : goal.returns-in_err-both-in-Verify-clause-performs
+returns-in_err-both-in-Verify-clause-performs g c = ?
+
+pub returns-in_err-verify_outcome-in-Verify-clause-performs : goal.returns-in_err-verify_outcome-in-Verify-clause-performs
+returns-in_err-verify_outcome-in-Verify-clause-performs g c = ?
