@@ -76,7 +76,7 @@ returns-in_ok-verify_outcome-in-Verify-clause-performs g c =
       c.in_ok-both-in-Verify.both.job,
       is.job,
       subst (λ (bytes : List ℕ). IsOutcomeOfVerify c.in_ok-both-in-Verify.both.job bytes c.in_ok-verify_outcome-in-Verify.field-0)
-          (c.as_slice.ensures ∙ sym is.account) c.in_ok-verify_outcome-in-Verify.ensures,
+          (c.as_slice.ensures.value ∙ sym is.account) c.in_ok-verify_outcome-in-Verify.ensures,
     )))
 
 pub returns-in_err-both-in-Verify-clause-performs : goal.returns-in_err-both-in-Verify-clause-performs
