@@ -18,6 +18,10 @@ HELP = """usage: btreplay run [--serial] [--stats] [--json] SCRIPT RECORDING
        btreplay code SCRIPT RECORDING          lists the BPF code of each body
        btreplay gen X N                        writes a made recording of N events
        btreplay big X N                        runs a built-in script over it
+       btreplay account [--serial] SCRIPT RECORDING
+                                               runs the script as run does, and writes an account: all steps, and the text
+       btreplay verify SCRIPT RECORDING ACCOUNT
+                                               checks an account against the script and the recording
        btreplay vet SCRIPT RECORDING           checks the BPF code of each body
        btreplay --help | --version
 
@@ -27,7 +31,7 @@ SCRIPT may be - for standard input, or -e 'PROGRAM' for a script as it stands.
 """
 UNPROVED_HELP = """btreplay --unproved and the words of a command do it by a build that is not proved, which is there within some two minutes.
 """
-TAKES_SCRIPT = ("run", "check", "code", "vet", "explain")
+TAKES_SCRIPT = ("run", "check", "code", "vet", "explain", "account", "verify")
 FAILED = 1
 MOST_SCRIPT = 65_536
 
@@ -38,12 +42,13 @@ class BadWords(Exception):
 
 @dataclass
 class Asked:
-    """A call of the program: its words, the two operands where there are two, the handles that it takes, how a script is called, and whether the
-    program is the one that is not proved."""
+    """A call of the program: its words, the operands where there are as many as it takes, the handles that it takes, how a script is called, and
+    whether the program is the one that is not proved."""
 
     words: list
     script: str = None
     recording: str = None
+    account: str = None
     shown: str = None
     text: bytes = None
     handles: tuple = ()
@@ -53,6 +58,11 @@ class Asked:
     def command(self):
         """The command's word."""
         return self.words[0] if self.words else ""
+
+    @property
+    def takes(self):
+        """How many files the command takes."""
+        return 3 if self.command == "verify" else 2
 
 
 def handle_of(script):
@@ -89,7 +99,7 @@ def asked_of(words):
         at = asked.words.index("-e")
     else:
         places = operands(asked.words)
-        at = places[0] if len(places) == 2 else None
+        at = places[0] if len(places) == asked.takes else None
         if at is not None and asked.words[at] == "-":
             given = standard_input()
     if given is not None:
@@ -98,8 +108,9 @@ def asked_of(words):
         asked.handles = (handle,)
         asked.words[at] = f"/dev/fd/{handle}"
     found = [asked.words[place] for place in operands(asked.words)]
-    if len(found) == 2:
-        asked.script, asked.recording = found
+    if len(found) == asked.takes:
+        asked.script, asked.recording, *more = found
+        asked.account = more[0] if more else None
         asked.shown = asked.shown or asked.script
     return asked
 
@@ -178,7 +189,7 @@ def explain(program, asked):
 def after_refusal_files(ended, asked):
     """What is told of files that were refused, of the script where it is one."""
     from btreplay.refusal import about_files, about_recording
-    lines = about_files(ended.status, ended.told, asked.script, asked.recording) if not asked.handles else []
+    lines = about_files(ended.status, ended.told, asked.script, asked.recording, asked.account) if not asked.handles else []
     return lines or about_recording(ended.status, asked.recording)
 
 

@@ -13,10 +13,10 @@ _btreplay() {
     if ((COMP_CWORD <= first)); then
         local own="--help --version"
         ((first == 1)) && own="$own --unproved"
-        mapfile -t COMPREPLY < <(compgen -W "run check explain code gen big vet $own" -- "$word")
+        mapfile -t COMPREPLY < <(compgen -W "run check explain code gen big account verify vet $own" -- "$word")
         return
     fi
-    case ${COMP_WORDS[first]} in run | check | explain | code | vet) ;; *) return ;; esac
+    case ${COMP_WORDS[first]} in run | check | explain | code | account | verify | vet) ;; *) return ;; esac
     for ((at = first + 1; at < COMP_CWORD; at++)); do
         if ((skip)); then
             skip=0
@@ -30,11 +30,14 @@ _btreplay() {
     if [[ $word == -* ]]; then
         local options="-e"
         [[ ${COMP_WORDS[first]} == run ]] && options="-e --serial --stats --json"
+        [[ ${COMP_WORDS[first]} == account ]] && options="-e --serial"
         mapfile -t COMPREPLY < <(compgen -W "$options" -- "$word")
     elif ((given == 0)); then
         _btreplay_files "$word" "*.bt"
     elif ((given == 1)); then
         _btreplay_files "$word" "*.btr"
+    elif ((given == 2)) && [[ ${COMP_WORDS[first]} == verify ]]; then
+        _btreplay_files "$word" "*.account"
     fi
 }
 

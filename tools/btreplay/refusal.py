@@ -9,8 +9,9 @@ from btreplay.tokens import offset_of
 
 SCRIPT, RECORDING, READ, WRITE = 2, 3, 4, 5
 # The commands, each with its options and what it takes.
-FILES, NUMBERS = "a script and a recording", "two numbers, as in 7 1000"
-COMMANDS = {"run": ("--serial --stats --json", FILES), "check": ("", FILES), "explain": ("", FILES), "code": ("", FILES), "vet": ("", FILES), "gen": ("", NUMBERS), "big": ("", NUMBERS)}
+FILES, NUMBERS, THREE = "a script and a recording", "two numbers, as in 7 1000", "a script, a recording and an account"
+COMMANDS = {"run": ("--serial --stats --json", FILES), "check": ("", FILES), "explain": ("", FILES), "code": ("", FILES), "vet": ("", FILES),
+            "account": ("--serial", FILES), "verify": ("", THREE), "gen": ("", NUMBERS), "big": ("", NUMBERS)}
 MOST_SCRIPT = 65_536
 # How files of other programs begin.
 CONVERTED = {b"\x17\x08\x44tracing": "trace-cmd", b"PERFILE2": "perf"}
@@ -78,10 +79,10 @@ def why_unread(path):
         return getattr(error, "strerror", None) or "no file has such a name"
 
 
-def about_files(status, told, script, recording):
+def about_files(status, told, script, recording, account=None):
     """Lines for files that were not read, and for operands in the other order."""
     if status == READ:
-        name = next((name for name in (script, recording) if told == f"{name}: read fault\n".encode(errors="surrogateescape")), None)
+        name = next((name for name in (script, recording, account) if name is not None and told == f"{name}: read fault\n".encode(errors="surrogateescape")), None)
         return [f"{name}: {why_unread(name)}"] if name is not None else []
     if status in (SCRIPT, RECORDING) and begins_a_recording(script) and not begins_a_recording(recording):
         return [f"{script} is a recording and {recording} is none: the script comes first, then the recording"]
@@ -111,12 +112,13 @@ def about_words(words):
         return [f"there is no command {words[0]}; btreplay --help has all of them"]
     options, takes = COMMANDS[words[0]]
     other = [word for word in words[1:] if word.startswith("-") and word != "-" and word not in options.split()]
-    if other[:1] == ["-e"] and takes == FILES:
-        return ["a script stands behind -e, and a recording"]
+    if other[:1] == ["-e"] and takes in (FILES, THREE):
+        return ["a script stands behind -e, and a recording" + (", and an account" if takes == THREE else "")]
     if other:
         return [f"{words[0]} has no option {other[0]}" + (f"; it has {listed(options.split())}" if options else "")]
     count = sum(word == "-" or not word.startswith("-") for word in words[1:])
-    return [f"{words[0]} takes {takes}" + (f", and {count} {'word stands' if count == 1 else 'words stand'} there" if count != 2 else "")]
+    wanted = 3 if takes == THREE else 2
+    return [f"{words[0]} takes {takes}" + (f", and {count} {'word stands' if count == 1 else 'words stand'} there" if count != wanted else "")]
 
 
 def text_of_file(path, most=MOST_SCRIPT):

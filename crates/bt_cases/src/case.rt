@@ -7,17 +7,19 @@ use std::alloc::Global;
 use std::fs;
 use std::rt::Files;
 
-/// The words of a command line, the bytes of the files `s.bt` and `r.bin`, what fails of shelf and sinks, what may come, how often it is
-/// tried, and whether the same comes on threads, without the word `--serial`.
+/// The words of a command line, the bytes of the files `s.bt`, `r.bin` and `a.bin`, what fails of shelf and sinks, what may come, how often it
+/// is tried, whether the same comes on threads, without the word `--serial`, and how many of the accounts that come are verified.
 #[derive(Drop)]
 pub(crate) struct Case {
     pub words: Vec<String>,
     pub script: Vec<u8>,
     pub recording: Vec<u8>,
+    pub account: Vec<u8>,
     pub faults: Faults,
     pub wanted: Vec<Outcome>,
     pub times: u64,
     pub on_threads: bool,
+    pub verifies: u64,
 }
 
 /// The text of a member of an object.
@@ -72,11 +74,14 @@ fn outs_of(alloc: Global, value: &Value) -> Result<Vec<Vec<u8>>> {
     Ok(outs)
 }
 
-/// What may come of a case.
+/// What may come of a case. It is left open where accounts are verified.
 fn wanted_of(alloc: Global, value: &Value) -> Result<Vec<Outcome>> {
     let status = value.get("status").and_then(Value::as_u64);
     let status = status.context("no status")?;
     let mut wanted = Vec::new(alloc);
+    if value.get("verifies").is_some() {
+        return Ok(wanted);
+    }
     for out in outs_of(alloc, value)? {
         wanted.push(Outcome {
             status,
@@ -96,10 +101,17 @@ fn recording_of<R: Files + AllocGlobal>(rt: &R, value: &Value) -> Result<Vec<u8>
     }
 }
 
+/// The account of a case: the bytes of `account`, which is hexadecimal, and none where it is left out.
+fn account_of(alloc: Global, value: &Value) -> Result<Vec<u8>> {
+    let digits = value.get("account").and_then(Value::as_str);
+    Ok(hex::decode(alloc, digits.unwrap_or(""))?)
+}
+
 impl Case {
     /// The case of a line: an object whose recording may stand in a file and whose other bytes are texts. It may have
     /// hexadecimal `out_hex` or several `outs` in place of its `out`, `times`, the number of tries, which is else 1, `threads`, where no
-    /// schedule changes the answer, and the members that [`Faults`] has.
+    /// schedule changes the answer, a hexadecimal `account`, and the members that [`Faults`] has. Or it has `verifies`, how often its words
+    /// write an account that has to be true, in the place of what comes.
     pub fn of<R: Files + AllocGlobal>(rt: &R, line: &str) -> Result<Case> {
         let alloc = rt.alloc();
         let value = Value::from_str(alloc, line)?;
@@ -107,10 +119,12 @@ impl Case {
             words: words_of(alloc, &value)?,
             script: bytes_of(alloc, &value, "script")?,
             recording: recording_of(rt, &value)?,
+            account: account_of(alloc, &value)?,
             faults: Faults::of(alloc, &value)?,
             wanted: wanted_of(alloc, &value)?,
             times: value.get("times").and_then(Value::as_u64).unwrap_or(1),
             on_threads: value.get("threads").is_some(),
+            verifies: value.get("verifies").and_then(Value::as_u64).unwrap_or(0),
         })
     }
 }

@@ -5,16 +5,20 @@ mod case;
 mod faults;
 mod outcome;
 mod tally;
+mod verified;
 mod vet;
 
 use anyhow::{Context, Result};
+use bt_core::memory::Memory;
 use case::Case;
 use outcome::{Outcome, differing};
+use std::alloc::Global;
 use std::fs;
 use std::rt::Files;
 use std::sync::Wait;
 use std::thread::Threads;
 use tally::Tally;
+use verified::unverified;
 use vet::{is_compiled, vetted};
 
 /// Tells what came of a case that differs, and what may come.
@@ -46,6 +50,19 @@ fn run_vet<R: Print + AllocGlobal + Threads + Wait + Sync>(
     Ok(())
 }
 
+/// The first outcome of a case that may not come.
+fn fault_of<R: Threads + Wait + Sync>(
+    rt: &R,
+    alloc: Global,
+    case: &Case,
+) -> Result<Option<Outcome>, Memory> {
+    if case.verifies > 0 {
+        unverified(rt, alloc, case)
+    } else {
+        differing(rt, alloc, case)
+    }
+}
+
 /// Runs the cases of a file, one a line, and counts how they end, and how the check of their code does.
 fn run_file<R: Files + Print + AllocGlobal + Threads + Wait + Sync>(
     rt: &R,
@@ -59,7 +76,7 @@ fn run_file<R: Files + Print + AllocGlobal + Threads + Wait + Sync>(
     for line in text.as_str().lines() {
         number = number.saturating_add(1);
         let case = Case::of(rt, line).context(format_args!("case {number} of {name}"))?;
-        let differs = differing(rt, alloc, &case)?;
+        let differs = fault_of(rt, alloc, &case)?;
         tally.count(differs.is_none());
         if differs.is_some() {
             println!(rt; "case {number} of {name} differs")?;
@@ -70,7 +87,7 @@ fn run_file<R: Files + Print + AllocGlobal + Threads + Wait + Sync>(
     Ok(())
 }
 
-/// Runs the cases of the eight files. Those of the last file run on threads many times.
+/// Runs the cases of the ten files. Those of the last two run on threads, many of them many times.
 fn main(rt: HostRuntime) -> Result<()> {
     let mut tally = Tally::default();
     let mut vets = Tally::default();
@@ -81,7 +98,9 @@ fn main(rt: HostRuntime) -> Result<()> {
     run_file(&rt, "recorded.jsonl", &mut tally, &mut vets)?;
     run_file(&rt, "faults.jsonl", &mut tally, &mut vets)?;
     run_file(&rt, "examples.jsonl", &mut tally, &mut vets)?;
+    run_file(&rt, "accounts.jsonl", &mut tally, &mut vets)?;
     run_file(&rt, "schedules.jsonl", &mut tally, &mut vets)?;
+    run_file(&rt, "verified.jsonl", &mut tally, &mut vets)?;
     println!(rt; "{tally}")?;
     println!(rt; "vet: {vets}")?;
     Ok(())

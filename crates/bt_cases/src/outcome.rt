@@ -30,24 +30,27 @@ impl fmt::Display for Outcome {
     }
 }
 
-/// The files of a case, by their names.
-fn files_of(alloc: Global, case: &Case) -> Result<Vec<(String, Vec<u8>)>, Memory> {
+/// The files of a case, by their names, with this account.
+fn files_of(alloc: Global, case: &Case, account: &[u8]) -> Result<Vec<(String, Vec<u8>)>, Memory> {
     let mut files = Vec::new(alloc);
     let script = Vec::from_slice(alloc, case.script.as_slice())?;
     files.push((String::from_str(alloc, "s.bt")?, script))?;
     let recording = Vec::from_slice(alloc, case.recording.as_slice())?;
     files.push((String::from_str(alloc, "r.bin")?, recording))?;
+    let account = Vec::from_slice(alloc, account)?;
+    files.push((String::from_str(alloc, "a.bin")?, account))?;
     Ok(files)
 }
 
-/// What the top call answers and writes to words over the files of a case, on a shelf and sinks that fail as the case says.
-pub(crate) fn outcome_of<R: Threads + Wait + Sync>(
+/// What the top call answers and writes to words over the files of a case, with this account, on a shelf and sinks that fail as the case says.
+pub(crate) fn outcome_over<R: Threads + Wait + Sync>(
     rt: &R,
     alloc: Global,
     case: &Case,
+    account: &[u8],
     words: &[String],
 ) -> Result<Outcome, Memory> {
-    let mut shelf = case.faults.shelf(alloc, files_of(alloc, case)?)?;
+    let mut shelf = case.faults.shelf(alloc, files_of(alloc, case, account)?)?;
     let mut out = case.faults.output(alloc)?;
     let mut err = case.faults.errors(alloc)?;
     let report = serve(rt, alloc, words, &mut shelf, &mut out, &mut err, &Open);
@@ -56,6 +59,16 @@ pub(crate) fn outcome_of<R: Threads + Wait + Sync>(
         out: Vec::from_slice(alloc, out.taken())?,
         err: Vec::from_slice(alloc, err.taken())?,
     })
+}
+
+/// What the top call answers and writes to words over the files of a case.
+pub(crate) fn outcome_of<R: Threads + Wait + Sync>(
+    rt: &R,
+    alloc: Global,
+    case: &Case,
+    words: &[String],
+) -> Result<Outcome, Memory> {
+    outcome_over(rt, alloc, case, case.account.as_slice(), words)
 }
 
 /// The words but `--serial`.

@@ -1,36 +1,39 @@
 -- What a call answers, from what its order comes to and from how that is written.
 use Rattle.std.proofs.Common.{◌≡◌, ℕ, ◌⊎◌, List, [], ◌∷◌, refl, sym, ap, subst, ◌∙◌, inl, inr}
-use Rattle.std.specs.Prelude.{◌↔◌, ◌≢◌, Bool, false, Option, Some, None, Ok, Err, IfSome, IsSome, unwrap_or}
+use Rattle.std.specs.Prelude.{◌↔◌, ◌≢◌, Bool, false, Option, Some, None, Result, Ok, Err, IfSome, IsSome}
 use Rattle.std.specs.Io.KnownBytes.{Keeps}
 use Rattle.std.proofs.lemmas.Bool.{false≢true}
 use Rattle.bt_words.specs.declared.order.Order.{Order}
-use Rattle.bt_words.specs.declared.order.Order.TheVariants.{Run, Check, Code, Vet, Gen, Big}
+use Rattle.bt_words.specs.declared.order.Order.TheVariants.{Run, Check, Code, Vet, Account, Verify, Gen, Big}
 use Rattle.run_base.specs.declared.job.Job.{Job}
 use Rattle.run_base.specs.declared.job.Work.{Work}
 use Rattle.run_output.specs.declared.form.Form.{Form}
 use Rattle.run_output.specs.declared.form.Form.TheVariants.{Text}
 use Rattle.bt_top.specs.declared.outcome.Outcome.{Outcome}
 use Rattle.bt_top.specs.declared.report.Report.{Report}
-use Rattle.bt_top.specs.declared.refusal.CodeRefusal.{CodeRefusal}
+use Rattle.bt_top.specs.declared.refusal.Denial.{Denial}
+use Rattle.bt_top.specs.declared.refusal.Denial.TheVariants as denial
 use Rattle.bt_top.specs.declared.refusal.Operand.{Operand}
 use Rattle.bt_top.specs.declared.refusal.Operand.TheVariants as operand
 use Rattle.bt_top.specs.declared.refusal.RecordingRefusal.TheVariants as recording
 use Rattle.bt_top.specs.declared.refusal.ScriptRefusal.TheVariants as script
 use Rattle.bt_top.specs.declared.refusal.Refusal.{Refusal}
-use Rattle.bt_top.specs.declared.refusal.Refusal.TheVariants.{Usage, Script, Recording, ReadFault, WriteFault, Memory, RefusedCode}
+use Rattle.bt_top.specs.declared.refusal.Refusal.TheVariants.{Usage, Script, Recording, ReadFault, WriteFault, Memory, LongAccount, Denied}
 use Rattle.bt_top.specs.Doing.{ComesOfFiles, Wrote}
 use Rattle.bt_top.specs.Due.{IsDue, IsFinding, IsTooLong}
 use Rattle.bt_top.specs.Jobs.{IsJobFor}
 use Rattle.bt_top.specs.Lines.{SinkUse, SinkFailed}
 use Rattle.bt_top.specs.Orders.{OperandFile, files_of, form_of}
-use Rattle.bt_top.specs.Outcomes.{ComesTo, IsOutcomeOfRun, IsOutcomeOfVet, accepted_outcome, bytes_written, check_outcome, code_outcome, gen_outcome, refused_outcome}
+use Rattle.account_check.specs.declared.error.AccountError.{AccountError}
+use Rattle.bt_core.specs.declared.step.Step.{Step}
+use Rattle.bt_top.specs.Outcomes.{ComesTo, IsOutcomeOfRun, IsOutcomeOfVerify, IsOutcomeOfVet, accepted_outcome, bytes_written, check_outcome, code_outcome, gen_outcome, refused_outcome, verify_outcome}
 use Rattle.bt_top.specs.Refusals.{status_of, too_long}
 use Rattle.bt_top.specs.Serve.{ShelfUse, ShelfFailed, AreContentsOf, MayCome, MayStandFor, ComesIfDue, OnTold, IsReached, ReadFailed, IsComplete}
-use Rattle.bt_top.specs.Serve.{AsksExactly, EndsAsDue, HasWork, IsEndStatus, IsVetOrder, MayEnd, MayEndFor}
+use Rattle.bt_top.specs.Serve.{AsksExactly, EndsAsDue, HasWork, IsEndStatus, MayDeny, MayEnd, MayEndFor}
 use Rattle.bt_top.specs.Serve.{IsTold, IsWritten, IsDone, IsDoneUnlessRefused, IsNothing, AnswersOrder, AnswersWords, IsRunOrder}
 use Rattle.bt_top.proofs.Due.{job_accepted}
 use Rattle.bt_top.proofs.Performing.{on_told-map, plain_end}
-use Rattle.bt_top.proofs.Reading.{held_or}
+use Rattle.bt_top.proofs.Reading.{are_others, others_of}
 
 -- ---- what was done
 
@@ -53,6 +56,8 @@ due held (Run serial stats json script recording) contents outcome are comes = j
 due held (Check script recording) contents outcome are comes = job_is_due _ contents comes.0 comes.1
 due held (Code script recording) contents outcome are comes = job_is_due _ contents comes.0 comes.1
 due held (Vet script recording) contents outcome are comes = job_is_due _ contents comes.0 comes.1
+due held (Account serial script recording) contents outcome are comes = job_is_due _ contents comes.0 comes.1
+due held (Verify script recording account) contents outcome are comes = job_is_due _ contents comes.0 comes.1
 due held (Gen x n) contents outcome are comes = nothing_is_due held contents are
 due held (Big x n) contents outcome are comes = nothing_is_due held contents are
 
@@ -68,71 +73,102 @@ no_work : (job : Job) (outcome : Outcome) → IsOutcomeOfVet job outcome → IsS
 no_work job outcome (inl e) some = false≢true (same_work outcome (accepted_outcome job) e.1 some)
 no_work job outcome (inr e) some = false≢true (same_work outcome (refused_outcome job e.0) e.2 some)
 
+checked_nothing : (answer : Result (List Step) AccountError) → IsSome (verify_outcome answer).work → ⊥
+checked_nothing (Ok steps) some = false≢true some
+checked_nothing (Err error) some = false≢true some
+
 runs : (order : Order) (contents : List (List ℕ)) (outcome : Outcome) → ComesTo order contents outcome → IsSome outcome.work ↔ IsRunOrder order
 runs (Run serial stats json script recording) contents outcome comes = (λ some. tt, λ is. ran (form_of json) serial comes.0 _ outcome comes.2)
 runs (Check script recording) contents outcome comes = (λ some. absurd (false≢true (same_work outcome check_outcome comes.2 some)), λ is. absurd is)
 runs (Code script recording) contents outcome comes = (λ some. absurd (false≢true (same_work outcome (code_outcome comes.0) comes.2 some)), λ is. absurd is)
 runs (Vet script recording) contents outcome comes = (λ some. absurd (no_work comes.0 outcome comes.2 some), λ is. absurd is)
+runs (Account serial script recording) contents outcome comes =
+    (λ some. tt, λ is. subst (λ (o : Outcome). IsSome o.work) (sym comes.2.is) refl)
+runs (Verify script recording account) contents outcome comes =
+    (λ some. absurd (checked_nothing comes.2.answer (same_work outcome (verify_outcome comes.2.answer) comes.2.is some)), λ is. absurd is)
 runs (Gen x n) contents outcome comes = (λ some. absurd (false≢true (same_work outcome (gen_outcome comes.0) comes.2 some)), λ is. absurd is)
 runs (Big x n) contents outcome comes = (λ some. tt, λ is. ran Text false comes.0 _ outcome comes.2)
 
--- the programs of `vet` alone are refused
-pub not_refused : (order : Order) (contents : List (List ℕ)) (outcome : Outcome) → ComesTo order contents outcome → IsVetOrder order ⊎ (outcome.refused ≡ None)
-not_refused (Run serial stats json script recording) contents outcome comes = inr (ap (λ (o : Outcome). o.refused) comes.2.is)
-not_refused (Check script recording) contents outcome comes = inr (ap (λ (o : Outcome). o.refused) comes.2)
-not_refused (Code script recording) contents outcome comes = inr (ap (λ (o : Outcome). o.refused) comes.2)
-not_refused (Vet script recording) contents outcome comes = inl tt
-not_refused (Gen x n) contents outcome comes = inr (ap (λ (o : Outcome). o.refused) comes.2)
-not_refused (Big x n) contents outcome comes = inr (ap (λ (o : Outcome). o.refused) comes.2.is)
+-- of `vet` alone a program is refused, and of `verify` an account
+abbrev pub DeniedBy : Order → Option Denial → Type 0
+DeniedBy order found = (found ≡ None) ⊎ ((why : Denial) × (found ≡ Some why) × MayDeny order why)
 
-pub some_why : (why : CodeRefusal) → ◌≡◌ {A = Option CodeRefusal} (Some why) None → ⊥
+vet_denies : (job : Job) (script recording : List ℕ) (outcome : Outcome) → IsOutcomeOfVet job outcome → DeniedBy (Vet script recording) outcome.refused
+vet_denies job script recording outcome (inl e) = inl (ap (λ (o : Outcome). o.refused) e.1)
+vet_denies job script recording outcome (inr e) = inr (denial.Code e.0, ap (λ (o : Outcome). o.refused) e.2, tt)
+
+verify_denies : (script recording account : List ℕ) (answer : Result (List Step) AccountError) (outcome : Outcome) → outcome ≡ verify_outcome answer
+    → DeniedBy (Verify script recording account) outcome.refused
+verify_denies script recording account (Ok steps) outcome is = inl (ap (λ (o : Outcome). o.refused) is)
+verify_denies script recording account (Err error) outcome is = inr (denial.Account error, ap (λ (o : Outcome). o.refused) is, tt)
+
+pub denied_by : (order : Order) (contents : List (List ℕ)) (outcome : Outcome) → ComesTo order contents outcome → DeniedBy order outcome.refused
+denied_by (Run serial stats json script recording) contents outcome comes = inl (ap (λ (o : Outcome). o.refused) comes.2.is)
+denied_by (Check script recording) contents outcome comes = inl (ap (λ (o : Outcome). o.refused) comes.2)
+denied_by (Code script recording) contents outcome comes = inl (ap (λ (o : Outcome). o.refused) comes.2)
+denied_by (Vet script recording) contents outcome comes = vet_denies comes.0 script recording outcome comes.2
+denied_by (Account serial script recording) contents outcome comes = inl (ap (λ (o : Outcome). o.refused) comes.2.is)
+denied_by (Verify script recording account) contents outcome comes = verify_denies script recording account comes.2.answer outcome comes.2.is
+denied_by (Gen x n) contents outcome comes = inl (ap (λ (o : Outcome). o.refused) comes.2)
+denied_by (Big x n) contents outcome comes = inl (ap (λ (o : Outcome). o.refused) comes.2.is)
+
+pub some_why : (why : Denial) → ◌≡◌ {A = Option Denial} (Some why) None → ⊥
 some_why why e = cc
 
-of_vet : (order : Order) (contents : List (List ℕ)) (outcome : Outcome) (why : CodeRefusal) → ComesTo order contents outcome → outcome.refused ≡ Some why
-    → IsVetOrder order
-of_vet order contents outcome why comes found = by (not_refused order contents outcome comes)
+pub same_why : (one other : Denial) → Some one ≡ Some other → one ≡ other
+same_why one other e = cc
+
+pub may_deny : (order : Order) (contents : List (List ℕ)) (outcome : Outcome) (why : Denial) → ComesTo order contents outcome → outcome.refused ≡ Some why
+    → MayDeny order why
+may_deny order contents outcome why comes found = by (denied_by order contents outcome comes)
   where
-    by : IsVetOrder order ⊎ (outcome.refused ≡ None) → IsVetOrder order
-    by (inl vet) = vet
-    by (inr none) = absurd (some_why why (sym found ∙ none))
+    by : DeniedBy order outcome.refused → MayDeny order why
+    by (inl none) = absurd (some_why why (sym found ∙ none))
+    by (inr e) = subst (λ (d : Denial). MayDeny order d) (same_why e.0 why (sym e.1 ∙ found)) e.2
 
--- `vet` runs nothing
-vet_runs : (order : Order) → IsVetOrder order → IsRunOrder order → ⊥
-vet_runs (Run serial stats json script recording) vet run = vet
-vet_runs (Check script recording) vet run = run
-vet_runs (Code script recording) vet run = run
-vet_runs (Vet script recording) vet run = run
-vet_runs (Gen x n) vet run = run
-vet_runs (Big x n) vet run = vet
+-- neither runs anything
+denied_runs : (order : Order) (why : Denial) → MayDeny order why → IsRunOrder order → ⊥
+denied_runs (Run serial stats json script recording) why may run = may
+denied_runs (Check script recording) why may run = run
+denied_runs (Code script recording) why may run = run
+denied_runs (Vet script recording) why may run = run
+denied_runs (Account serial script recording) why may run = may
+denied_runs (Verify script recording account) why may run = run
+denied_runs (Gen x n) why may run = run
+denied_runs (Big x n) why may run = may
 
--- programs that are refused are not due to files
-no_script : (why : CodeRefusal) → ◌≡◌ {A = Option Refusal} (Some (RefusedCode why)) (Some (Script script.TooLong)) → ⊥
+-- what is refused that was checked is not due to files
+no_script : (why : Denial) → ◌≡◌ {A = Option Refusal} (Some (Denied why)) (Some (Script script.TooLong)) → ⊥
 no_script why e = cc
 
-no_recording : (why : CodeRefusal) → ◌≡◌ {A = Option Refusal} (Some (RefusedCode why)) (Some (Recording recording.TooLong)) → ⊥
+no_recording : (why : Denial) → ◌≡◌ {A = Option Refusal} (Some (Denied why)) (Some (Recording recording.TooLong)) → ⊥
 no_recording why e = cc
 
-some_none : (why : CodeRefusal) → ◌≡◌ {A = Option Refusal} (Some (RefusedCode why)) None → ⊥
+no_account : (why : Denial) → ◌≡◌ {A = Option Refusal} (Some (Denied why)) (Some LongAccount) → ⊥
+no_account why e = cc
+
+some_none : (why : Denial) → ◌≡◌ {A = Option Refusal} (Some (Denied why)) None → ⊥
 some_none why e = cc
 
-too_long_of : (file : Operand) (why : CodeRefusal) → Some (RefusedCode why) ≡ Some (too_long file) → ⊥
+too_long_of : (file : Operand) (why : Denial) → Some (Denied why) ≡ Some (too_long file) → ⊥
 too_long_of operand.Script why e = no_script why e
 too_long_of operand.Recording why e = no_recording why e
+too_long_of operand.Account why e = no_account why e
 
-not_too_long : (files : List OperandFile) (contents : List (List ℕ)) (why : CodeRefusal) → IsTooLong files contents (Some (RefusedCode why)) → ⊥
+not_too_long : (files : List OperandFile) (contents : List (List ℕ)) (why : Denial) → IsTooLong files contents (Some (Denied why)) → ⊥
 not_too_long [] contents why is = is
 not_too_long (file ∷ files) [] why is = is
 not_too_long (file ∷ files) (bytes ∷ contents) why (inl e) = too_long_of file.operand why e.1
 not_too_long (file ∷ files) (bytes ∷ contents) why (inr e) = not_too_long files contents why e.1
 
-not_found : (contents : List (List ℕ)) (why : CodeRefusal) → IsFinding contents (Some (RefusedCode why)) → ⊥
+not_found : (contents : List (List ℕ)) (why : Denial) → IsFinding contents (Some (Denied why)) → ⊥
 not_found [] why e = some_none why e
 not_found (text ∷ []) why e = some_none why e
 not_found (text ∷ bytes ∷ more) why e = e
 
-pub code_not_due : (files : List OperandFile) (contents : List (List ℕ)) (why : CodeRefusal) → IsDue files contents (Some (RefusedCode why)) → ⊥
-code_not_due files contents why (inl is) = not_too_long files contents why is
-code_not_due files contents why (inr is) = not_found contents why is.1
+pub denial_not_due : (files : List OperandFile) (contents : List (List ℕ)) (why : Denial) → IsDue files contents (Some (Denied why)) → ⊥
+denial_not_due files contents why (inl is) = not_too_long files contents why is
+denial_not_due files contents why (inr is) = not_found contents why is.1
 
 -- what comes of files is an end of their order
 came_end : (order : Order) (contents : List (List ℕ)) (read_failed write_failed : Type 0) (refusal : Refusal)
@@ -143,7 +179,8 @@ came_end order contents read_failed write_failed (Recording why) came = came
 came_end order contents read_failed write_failed (ReadFault file) came = came
 came_end order contents read_failed write_failed WriteFault came = absurd came.0
 came_end order contents read_failed write_failed Memory came = came
-came_end order contents read_failed write_failed (RefusedCode why) came = absurd (code_not_due (files_of order) contents why came)
+came_end order contents read_failed write_failed LongAccount came = came
+came_end order contents read_failed write_failed (Denied why) came = absurd (denial_not_due (files_of order) contents why came)
 
 stands_end : (order : Order) (refusal due : Option Refusal) → MayStandFor (files_of order) refusal due → MayEndFor order refusal due
 stands_end order None due stands = stands
@@ -153,7 +190,8 @@ stands_end order (Some (Recording why)) due stands = stands
 stands_end order (Some (ReadFault file)) due stands = stands
 stands_end order (Some WriteFault) due stands = stands
 stands_end order (Some Memory) due stands = stands
-stands_end order (Some (RefusedCode why)) due stands = absurd stands
+stands_end order (Some LongAccount) due stands = stands
+stands_end order (Some (Denied why)) due stands = absurd stands
 
 ends_due : (order : Order) (refusal : Option Refusal) (contents : List (List ℕ)) → ComesIfDue (files_of order) refusal contents → EndsAsDue order refusal contents
 ends_due order refusal contents comes = λ due is. by due (comes due is)
@@ -176,13 +214,13 @@ module _ (order : Order) (seen : ShelfUse) (out : SinkUse) (outcome : Outcome) (
   nothing_due : IsDue (files_of order) performs.reads.contents None
   nothing_due = due seen.held order performs.reads.contents outcome performs.reads.held performs.reads.value
 
-  told_as : (found : Option CodeRefusal) (refusal : Option Refusal) → outcome.refused ≡ found → IsTold found refusal → IsTold outcome.refused refusal
-  told_as found refusal is told = subst (λ (f : Option CodeRefusal). IsTold f refusal) (sym is) told
+  told_as : (found : Option Denial) (refusal : Option Refusal) → outcome.refused ≡ found → IsTold found refusal → IsTold outcome.refused refusal
+  told_as found refusal is told = subst (λ (f : Option Denial). IsTold f refusal) (sym is) told
 
-  vet_alone : (why : CodeRefusal) → outcome.refused ≡ Some why → IsVetOrder order
-  vet_alone why found = of_vet order performs.reads.contents outcome why performs.reads.value found
+  denies : (why : Denial) → outcome.refused ≡ Some why → MayDeny order why
+  denies why found = may_deny order performs.reads.contents outcome why performs.reads.value found
 
-  answer : (found : Option CodeRefusal) (refusal : Option Refusal) → outcome.refused ≡ found → Wrote out found refusal (bytes_written outcome)
+  answer : (found : Option Denial) (refusal : Option Refusal) → outcome.refused ≡ found → Wrote out found refusal (bytes_written outcome)
       → AnswersOrder order seen out (report_of refusal outcome)
   answer None refusal none (inl e) = subst (λ (r : Option Refusal). AnswersOrder order seen out (report_of r outcome)) (sym e.0) (record {
     contents = performs.reads.contents;
@@ -199,8 +237,8 @@ module _ (order : Order) (seen : ShelfUse) (out : SinkUse) (outcome : Outcome) (
   answer (Some why) refusal found e = subst (λ (r : Option Refusal). AnswersOrder order seen out (report_of r outcome)) (sym e.0) (record {
     contents = performs.reads.contents;
     held = performs.reads.held;
-    came = (vet_alone why found, nothing_due);
-    done = is_done (Some (RefusedCode why)) (told_as (Some why) (Some (RefusedCode why)) found refl) e.1;
+    came = (denies why found, nothing_due);
+    done = is_done (Some (Denied why)) (told_as (Some why) (Some (Denied why)) found refl) e.1;
   })
 
   pub done_answer : (refusal : Option Refusal) → Wrote out outcome.refused refusal (bytes_written outcome) → AnswersOrder order seen out (report_of refusal outcome)
@@ -216,14 +254,14 @@ module _ (order : Order) (seen : ShelfUse) (out : SinkUse) (outcome : Outcome) (
   exact_by refusal stands = on_told-map seen.held (files_of order) (ComesIfDue (files_of order) None) (EndsAsDue order refusal)
       (λ contents comes due is. stands due (none_due due (comes due is))) performs.exact
 
-  exact : (found : Option CodeRefusal) (refusal : Option Refusal) → outcome.refused ≡ found → Wrote out found refusal (bytes_written outcome)
+  exact : (found : Option Denial) (refusal : Option Refusal) → outcome.refused ≡ found → Wrote out found refusal (bytes_written outcome)
       → OnTold seen.held (files_of order) (EndsAsDue order refusal)
   exact None refusal none (inl e) = subst (λ (r : Option Refusal). OnTold seen.held (files_of order) (EndsAsDue order r)) (sym e.0)
       (exact_by None (λ due is. inl (sym is)))
   exact None refusal none (inr e) = subst (λ (r : Option Refusal). OnTold seen.held (files_of order) (EndsAsDue order r)) (sym e.0)
       (exact_by (Some WriteFault) (λ due is. inr is))
   exact (Some why) refusal found e = subst (λ (r : Option Refusal). OnTold seen.held (files_of order) (EndsAsDue order r)) (sym e.0)
-      (exact_by (Some (RefusedCode why)) (λ due is. inr (vet_alone why found, is)))
+      (exact_by (Some (Denied why)) (λ due is. inr (denies why found, is)))
 
   pub done_exact : (refusal : Option Refusal) → Wrote out outcome.refused refusal (bytes_written outcome) → OnTold seen.held (files_of order) (EndsAsDue order refusal)
   done_exact refusal wrote = exact outcome.refused refusal refl wrote
@@ -250,7 +288,8 @@ module _ (order : Order) (seen : ShelfUse) (out : SinkUse) (keeps : Keeps out.ta
   nothing_done contents (ReadFault file) came = is_nothing (ReadFault file)
   nothing_done contents WriteFault came = absurd came.0
   nothing_done contents Memory came = is_nothing Memory
-  nothing_done contents (RefusedCode why) came = absurd (code_not_due (files_of order) contents why came)
+  nothing_done contents LongAccount came = is_nothing LongAccount
+  nothing_done contents (Denied why) came = absurd (denial_not_due (files_of order) contents why came)
 
   pub refused_answer : (refusal : Refusal) → ComesOfFiles (files_of order) (ComesTo order) seen (Err refusal) → AnswersOrder order seen out (refused_report refusal)
   refused_answer refusal comes = record {
@@ -262,14 +301,18 @@ module _ (order : Order) (seen : ShelfUse) (out : SinkUse) (keeps : Keeps out.ta
 
 -- ---- the whole call
 
--- programs that are refused end an order with status 8, and only `vet`
-refused_end : (order : Order) (status : ℕ) → IsVetOrder order → status ≡ 8 → IsEndStatus order status
-refused_end (Run serial stats json script recording) status vet is = absurd vet
-refused_end (Check script recording) status vet is = absurd vet
-refused_end (Code script recording) status vet is = absurd vet
-refused_end (Vet script recording) status vet is = inr (inr is)
-refused_end (Gen x n) status vet is = absurd vet
-refused_end (Big x n) status vet is = absurd vet
+-- what is refused that was checked ends an order with a status of its own
+denied_end : (order : Order) (status : ℕ) (why : Denial) → MayDeny order why → status ≡ status_of (Some (Denied why)) → IsEndStatus order status
+denied_end (Run serial stats json script recording) status why may is = absurd may
+denied_end (Check script recording) status why may is = absurd may
+denied_end (Code script recording) status why may is = absurd may
+denied_end (Vet script recording) status (denial.Code why) may is = inr (inr is)
+denied_end (Vet script recording) status (denial.Account error) may is = absurd may
+denied_end (Account serial script recording) status why may is = absurd may
+denied_end (Verify script recording account) status (denial.Code why) may is = absurd may
+denied_end (Verify script recording account) status (denial.Account error) may is = inr (inr is)
+denied_end (Gen x n) status why may is = absurd may
+denied_end (Big x n) status why may is = absurd may
 
 -- accepted files are answered with success where nothing failed, or memory ran out, or programs are refused
 pub is_complete : (order : Order) (seen : ShelfUse) (out : SinkUse) (report : Report)
@@ -291,26 +334,17 @@ is_complete order seen out report status answers exact =
     ends (Some Memory) is may no_read no_write due = plain_end order report.status (inr is)
     ends (Some (ReadFault file)) is may no_read no_write due = absurd (no_read (reached (files_of order) answers.contents file may.0 may.1))
     ends (Some WriteFault) is may no_read no_write due = absurd (no_write may.0)
-    ends (Some (RefusedCode why)) is may no_read no_write due = refused_end order report.status may.0 is
+    ends (Some (Denied why)) is may no_read no_write due = denied_end order report.status why may.0 is
     ends (Some refusal) is may no_read no_write (inl e) = absurd (cc)
     ends (Some refusal) is may no_read no_write (inr stands) = absurd stands
 
 -- ---- want of memory at the words, whatever they ask for
 
-told_or : (held : List ℕ → Option (List ℕ)) → List OperandFile → List (List ℕ)
-told_or held [] = []
-told_or held (file ∷ files) = unwrap_or (held file.name) [] ∷ told_or held files
-
-are_told : (held : List ℕ → Option (List ℕ)) (files : List OperandFile) → AreContentsOf held files (told_or held files)
-unfolding told_or
-are_told held [] = tt
-are_told held (file ∷ files) = (held_or _ _, are_told held files)
-
 pub words_answer : (order : Option Order) (seen : ShelfUse) (out : SinkUse) → Keeps out.taken out.taken_after → AnswersWords order seen out (refused_report Memory)
 words_answer None seen out keeps = record { work = refl; programs = refl; written = keeps }
 words_answer (Some order) seen out keeps = record {
-  contents = told_or seen.held (files_of order);
-  held = are_told seen.held (files_of order);
+  contents = others_of seen.held (files_of order);
+  held = are_others seen.held (files_of order);
   came = tt;
   done = record { work = refl; programs = refl; written = keeps };
 }
@@ -323,34 +357,39 @@ on_order (Some order) P p = p order
 
 module _ (order : Order) (seen : ShelfUse) (out : SinkUse) (bytes : List ℕ) where
   -- no refusal of the write tells more of the reads
-  asked_as : (refusal : Refusal) → (refusal ≡ WriteFault) ⊎ ((why : CodeRefusal) × (refusal ≡ RefusedCode why)) → AsksExactly (files_of order) None seen
-      → AsksExactly (files_of order) (Some refusal) seen
-  asked_as refusal (inl e) asked = subst (λ (r : Refusal). AsksExactly (files_of order) (Some r) seen) (sym e) (by order refl asked)
+  denied_asked : (why : Denial) → AsksExactly (files_of order) None seen → AsksExactly (files_of order) (Some (Denied why)) seen
+  denied_asked why asked = by order refl asked
+    where
+      by : (one : Order) → one ≡ order → AsksExactly (files_of one) None seen → AsksExactly (files_of one) (Some (Denied why)) seen
+      by (Run serial stats json script recording) e asked = asked
+      by (Check script recording) e asked = asked
+      by (Code script recording) e asked = asked
+      by (Vet script recording) e asked = asked
+      by (Account serial script recording) e asked = asked
+      by (Verify script recording account) e asked = asked
+      by (Gen x n) e asked = asked
+      by (Big x n) e asked = asked
+
+  fault_asked : AsksExactly (files_of order) None seen → AsksExactly (files_of order) (Some WriteFault) seen
+  fault_asked asked = by order refl asked
     where
       by : (one : Order) → one ≡ order → AsksExactly (files_of one) None seen → AsksExactly (files_of one) (Some WriteFault) seen
       by (Run serial stats json script recording) e asked = asked
       by (Check script recording) e asked = asked
       by (Code script recording) e asked = asked
       by (Vet script recording) e asked = asked
-      by (Gen x n) e asked = asked
-      by (Big x n) e asked = asked
-  asked_as refusal (inr e) asked = subst (λ (r : Refusal). AsksExactly (files_of order) (Some r) seen) (sym e.1) (by order refl asked)
-    where
-      by : (one : Order) → one ≡ order → AsksExactly (files_of one) None seen → AsksExactly (files_of one) (Some (RefusedCode e.0)) seen
-      by (Run serial stats json script recording) e asked = asked
-      by (Check script recording) e asked = asked
-      by (Code script recording) e asked = asked
-      by (Vet script recording) e asked = asked
+      by (Account serial script recording) e asked = asked
+      by (Verify script recording account) e asked = asked
       by (Gen x n) e asked = asked
       by (Big x n) e asked = asked
 
-  pub done_asked : (found : Option CodeRefusal) (refusal : Option Refusal) → Wrote out found refusal bytes → AsksExactly (files_of order) None seen
+  pub done_asked : (found : Option Denial) (refusal : Option Refusal) → Wrote out found refusal bytes → AsksExactly (files_of order) None seen
       → AsksExactly (files_of order) refusal seen
   done_asked None refusal (inl e) asked = subst (λ (r : Option Refusal). AsksExactly (files_of order) r seen) (sym e.0) asked
   done_asked None refusal (inr e) asked =
-      subst (λ (r : Option Refusal). AsksExactly (files_of order) r seen) (sym e.0) (asked_as WriteFault (inl refl) asked)
+      subst (λ (r : Option Refusal). AsksExactly (files_of order) r seen) (sym e.0) (fault_asked asked)
   done_asked (Some why) refusal e asked =
-      subst (λ (r : Option Refusal). AsksExactly (files_of order) r seen) (sym e.0) (asked_as (RefusedCode why) (inr (why, refl)) asked)
+      subst (λ (r : Option Refusal). AsksExactly (files_of order) r seen) (sym e.0) (denied_asked why asked)
 
   -- words are refused before
   none_usage : ◌≡◌ {A = Option Refusal} None (Some Usage) → ⊥
@@ -359,20 +398,20 @@ module _ (order : Order) (seen : ShelfUse) (out : SinkUse) (bytes : List ℕ) wh
   write_usage : ◌≡◌ {A = Option Refusal} (Some WriteFault) (Some Usage) → ⊥
   write_usage e = cc
 
-  code_usage : (why : CodeRefusal) → ◌≡◌ {A = Option Refusal} (Some (RefusedCode why)) (Some Usage) → ⊥
-  code_usage why e = cc
+  denial_usage : (why : Denial) → ◌≡◌ {A = Option Refusal} (Some (Denied why)) (Some Usage) → ⊥
+  denial_usage why e = cc
 
-  pub done_known : (found : Option CodeRefusal) (refusal : Option Refusal) → Wrote out found refusal bytes → refusal ≢ Some Usage
+  pub done_known : (found : Option Denial) (refusal : Option Refusal) → Wrote out found refusal bytes → refusal ≢ Some Usage
   done_known None refusal (inl e) = λ usage. none_usage (sym e.0 ∙ usage)
   done_known None refusal (inr e) = λ usage. write_usage (sym e.0 ∙ usage)
-  done_known (Some why) refusal e = λ usage. code_usage why (sym e.0 ∙ usage)
+  done_known (Some why) refusal e = λ usage. denial_usage why (sym e.0 ∙ usage)
 
   -- work is there of a run, whether all of it was written or not
   pub done_worked : (contents : List (List ℕ)) (outcome : Outcome) → ComesTo order contents outcome → (refusal : Option Refusal)
       → Wrote out outcome.refused refusal bytes → IsSome outcome.work ↔ HasWork refusal (Some order)
   done_worked contents outcome comes refusal wrote = by outcome.refused refl refusal wrote
     where
-      by : (found : Option CodeRefusal) → outcome.refused ≡ found → (refusal : Option Refusal) → Wrote out found refusal bytes
+      by : (found : Option Denial) → outcome.refused ≡ found → (refusal : Option Refusal) → Wrote out found refusal bytes
           → IsSome outcome.work ↔ HasWork refusal (Some order)
       by None none refusal (inl e) =
           subst (λ (r : Option Refusal). IsSome outcome.work ↔ HasWork r (Some order)) (sym e.0) (runs order contents outcome comes)
@@ -380,4 +419,4 @@ module _ (order : Order) (seen : ShelfUse) (out : SinkUse) (bytes : List ℕ) wh
           subst (λ (r : Option Refusal). IsSome outcome.work ↔ HasWork r (Some order)) (sym e.0) (runs order contents outcome comes)
       by (Some why) found refusal e =
           subst (λ (r : Option Refusal). IsSome outcome.work ↔ HasWork r (Some order)) (sym e.0)
-          ((λ some. vet_runs order (of_vet order contents outcome why comes found) ((runs order contents outcome comes).0 some)), λ none. absurd none)
+          ((λ some. denied_runs order why (may_deny order contents outcome why comes found) ((runs order contents outcome comes).0 some)), λ none. absurd none)

@@ -3,18 +3,18 @@ use Rattle.std.proofs.Common.{◌≡◌, ℕ, ◌⊎◌, List, [], ◌∷◌, �
 use Rattle.std.specs.Prelude.{Option, Some, None, Result, Ok, Err, IfErr, IsErrOf}
 use Rattle.bt_io.specs.declared.shelf.ShelfError.{ShelfError}
 use Rattle.bt_io.specs.declared.shelf.ShelfError.TheVariants as shelf
-use Rattle.run_base.specs.declared.job.Job.{Job}
-use Rattle.bt_top.specs.declared.refusal.CodeRefusal.{CodeRefusal}
+use Rattle.bt_top.specs.declared.refusal.Denial.{Denial}
 use Rattle.bt_top.specs.declared.refusal.Operand.{Operand}
 use Rattle.bt_top.specs.declared.refusal.Operand.TheVariants as operand
 use Rattle.bt_top.specs.declared.refusal.Refusal.{Refusal}
-use Rattle.bt_top.specs.declared.refusal.Refusal.TheVariants.{Usage, Script, Recording, ReadFault, WriteFault, Memory, RefusedCode}
-use Rattle.bt_top.specs.Doing.{IsFaultRefusal, Wrote, refusal_in}
+use Rattle.bt_top.specs.declared.refusal.Refusal.TheVariants.{Usage, Script, Recording, ReadFault, WriteFault, Memory, LongAccount, Denied}
+use Rattle.bt_top.specs.Doing.{IsFaultRefusal, IsUnread, Wrote, refusal_in}
 use Rattle.bt_top.specs.Due.{IsFirstRefusal}
 use Rattle.bt_top.specs.FailedNames.{FailsNamed}
 use Rattle.bt_top.specs.Lines.{SinkUse}
-use Rattle.bt_top.specs.Orders.{OperandFile, operand_name}
-use Rattle.bt_top.specs.Refusals.{read_refusal}
+use Rattle.bt_top.specs.Orders.{OperandFile, file_of, operand_name}
+use Rattle.bt_top.specs.Refusals.{read_refusal, too_long}
+use Rattle.bt_top.specs.Serve.{ShelfUse}
 
 -- a read that succeeded noted no name as failed
 pub none_failed_ok : {A : Type 0} {P : Type 0} (a : A) → IsErrOf {T = A} {E = ShelfError} (Ok a) shelf.Failed ⊎ P → P
@@ -36,7 +36,45 @@ unread_failed files file name failed after shelf.Failed named noted none =
     noted refl ∙ ap (λ (n : List ℕ). failed ++ n ∷ []) (sym named)
 unread_failed files operand.Script name failed after shelf.TooLong named noted none = none_failed shelf.TooLong (λ e. cc) none
 unread_failed files operand.Recording name failed after shelf.TooLong named noted none = none_failed shelf.TooLong (λ e. cc) none
+unread_failed files operand.Account name failed after shelf.TooLong named noted none = none_failed shelf.TooLong (λ e. cc) none
 unread_failed files file name failed after shelf.Memory named noted none = none_failed shelf.Memory (λ e. cc) none
+
+pub named_alone : (one : Operand) (name : List ℕ) → operand_name (file_of one name ∷ []) one ≡ name
+named_alone operand.Script name = refl
+named_alone operand.Recording name = refl
+named_alone operand.Account name = refl
+
+-- what is told of the read of one file is told of it among others
+long_failed : (files : List OperandFile) (one : Operand) (failed after : List (List ℕ)) → FailsNamed [] (Some (too_long one)) failed after
+    → FailsNamed files (Some (too_long one)) failed after
+long_failed files operand.Script failed after same = same
+long_failed files operand.Recording failed after same = same
+long_failed files operand.Account failed after same = same
+
+long_alone : (file : OperandFile) (one : Operand) (failed after : List (List ℕ)) → FailsNamed (file ∷ []) (Some (too_long one)) failed after
+    → FailsNamed [] (Some (too_long one)) failed after
+long_alone file operand.Script failed after same = same
+long_alone file operand.Recording failed after same = same
+long_alone file operand.Account failed after same = same
+
+pub failed_among : (files : List OperandFile) (file : OperandFile) (seen : ShelfUse) (refusal : Refusal) (failed after : List (List ℕ))
+    → operand_name (file ∷ []) file.operand ≡ operand_name files file.operand → IsUnread file seen refusal
+    → FailsNamed (file ∷ []) (Some refusal) failed after → FailsNamed files (Some refusal) failed after
+failed_among files file seen refusal failed after named (inl memory) told =
+    subst (λ (r : Refusal). FailsNamed files (Some r) failed after) (sym memory)
+    (subst (λ (r : Refusal). FailsNamed (file ∷ []) (Some r) failed after) memory told)
+failed_among files file seen refusal failed after named (inr (inl e)) told =
+    subst (λ (r : Refusal). FailsNamed files (Some r) failed after) (sym e.0)
+    (subst (λ (r : Refusal). FailsNamed (file ∷ []) (Some r) failed after) e.0 told ∙ ap (λ (n : List ℕ). failed ++ n ∷ []) named)
+failed_among files file seen refusal failed after named (inr (inr e)) told =
+    subst (λ (r : Refusal). FailsNamed files (Some r) failed after) (sym e.0)
+    (long_failed files file.operand failed after
+    (long_alone file file.operand failed after (subst (λ (r : Refusal). FailsNamed (file ∷ []) (Some r) failed after) e.0 told)))
+
+-- names that were noted as failed before stand
+pub failed_later : (files : List OperandFile) (failed between after : List (List ℕ)) (refusal : Refusal) → between ≡ failed
+    → FailsNamed files (Some refusal) between after → FailsNamed files (Some refusal) failed after
+failed_later files failed between after refusal same told = subst (λ (l : List (List ℕ)). FailsNamed files (Some refusal) l after) same told
 
 -- what is found of the contents is no fault of a read
 first_failed : (files : List OperandFile) (text bytes : List ℕ) (failed after : List (List ℕ)) (refusal : Refusal) → IsFirstRefusal text bytes refusal
@@ -47,17 +85,18 @@ first_failed files text bytes failed after (Recording why) first same = same
 first_failed files text bytes failed after (ReadFault file) first same = absurd first
 first_failed files text bytes failed after WriteFault first same = absurd first
 first_failed files text bytes failed after Memory first same = absurd first
-first_failed files text bytes failed after (RefusedCode why) first same = absurd first
+first_failed files text bytes failed after LongAccount first same = absurd first
+first_failed files text bytes failed after (Denied why) first same = absurd first
 
-pub judged_failed : (files : List OperandFile) (text bytes : List ℕ) (failed after : List (List ℕ)) (answer : Result Job Refusal)
+pub judged_failed : {A : Type 0} (files : List OperandFile) (text bytes : List ℕ) (failed after : List (List ℕ)) (answer : Result A Refusal)
     → IfErr answer (IsFaultRefusal text bytes) → after ≡ failed → FailsNamed files (refusal_in answer) failed after
-judged_failed files text bytes failed after (Ok job) refused same = same
+judged_failed files text bytes failed after (Ok a) refused same = same
 judged_failed files text bytes failed after (Err refusal) (inl memory) same =
     subst (λ (r : Refusal). FailsNamed files (Some r) failed after) (sym memory) same
 judged_failed files text bytes failed after (Err refusal) (inr first) same = first_failed files text bytes failed after refusal first same
 
 -- nor is how an outcome was written
-pub written_failed : (files : List OperandFile) (failed after : List (List ℕ)) (out : SinkUse) (found : Option CodeRefusal) (refusal : Option Refusal) (bytes : List ℕ)
+pub written_failed : (files : List OperandFile) (failed after : List (List ℕ)) (out : SinkUse) (found : Option Denial) (refusal : Option Refusal) (bytes : List ℕ)
     → Wrote out found refusal bytes → after ≡ failed → FailsNamed files refusal failed after
 written_failed files failed after out None refusal bytes (inl e) same = subst (λ (r : Option Refusal). FailsNamed files r failed after) (sym e.0) same
 written_failed files failed after out None refusal bytes (inr e) same = subst (λ (r : Option Refusal). FailsNamed files r failed after) (sym e.0) same

@@ -1,5 +1,10 @@
 -- What a run that ends with status 0 promises.
-use Rattle.std.proofs.Common.{◌≡◌, ℕ, List, [], ◌∷◌, ◌++◌, length, sym, subst, arith, inl, inr}
+use Rattle.std.proofs.Common.{◌≡◌, ℕ, ◌<◌, ◌^◌, List, [], ◌∷◌, ◌++◌, length, sym, ap, subst, arith, inl, inr}
+use Rattle.std.specs.List.{AllByRecursion}
+use Rattle.account_check.specs.Accounts.{IsTrueAccount}
+use Rattle.account_format.specs.Accounts.{account_bytes}
+use Rattle.account_format.specs.Entries.{FitsStep}
+use Rattle.bt_meaning.specs.Prints.{printed_text}
 use Rattle.std.specs.Prelude.{Bool, true, false, Option, Some, None, IsSomeAnd}
 use Rattle.std.specs.Io.KnownBytes.{Appends}
 use Rattle.big_script.specs.declared.script.TheConstants.{SCRIPT}
@@ -8,15 +13,15 @@ use Rattle.bt_ast.specs.declared.attached.Attached.{Attached}
 use Rattle.bt_ast.specs.declared.probe.Script.{Script as Tree}
 use Rattle.bt_attach.specs.Attaching.{IsAttachedTo, attach_fault}
 use Rattle.bt_core.specs.declared.step.Step.{Step}
-use Rattle.bt_meaning.specs.Interleavings.{IsInterleaving}
+use Rattle.bt_meaning.specs.Interleavings.{IsInterleaving, IsReplayed}
 use Rattle.bt_meaning.specs.Jobs.{IsJob}
-use Rattle.bt_meaning.specs.Replays.{Replay}
+use Rattle.bt_meaning.specs.Replays.{Replay, cpus_of}
 use Rattle.bt_meaning.specs.Ticks.{TicksComeAfter}
 use Rattle.bt_meaning.specs.Totals.{IsAggregationOnly, who}
 use Rattle.bt_meaning.specs.Walks.{replay_of}
 use Rattle.bt_types.specs.Script.{IsTypedScript}
 use Rattle.bt_words.specs.declared.order.Order.{Order}
-use Rattle.bt_words.specs.declared.order.Order.TheVariants.{Run, Check, Code, Vet, Gen, Big}
+use Rattle.bt_words.specs.declared.order.Order.TheVariants.{Run, Check, Code, Vet, Account, Verify, Gen, Big}
 use Rattle.run_base.specs.declared.job.Job.{Job}
 use Rattle.run_base.specs.declared.job.Work.{Work}
 use Rattle.run_laws.specs.Reads.{ReadsSeeBeginnings}
@@ -29,16 +34,17 @@ use Rattle.script_programs.specs.Programs.{KeepScript}
 use Rattle.total_laws.specs.Ends.{EndsWithTotals, IsAddingRun}
 use Rattle.typed_tree.specs.declared.script.Typed.{Typed}
 use Rattle.bt_top.specs.declared.outcome.Outcome.{Outcome}
-use Rattle.bt_top.specs.declared.refusal.CodeRefusal.{CodeRefusal}
+use Rattle.bt_top.specs.declared.refusal.Denial.{Denial}
+use Rattle.bt_top.specs.declared.refusal.Denial.TheVariants as denial
 use Rattle.bt_top.specs.declared.refusal.Refusal.{Refusal}
-use Rattle.bt_top.specs.declared.refusal.Refusal.TheVariants.{Usage, Script, Recording, ReadFault, WriteFault, Memory, RefusedCode}
+use Rattle.bt_top.specs.declared.refusal.Refusal.TheVariants.{Usage, Script, Recording, ReadFault, WriteFault, Memory, LongAccount, Denied}
 use Rattle.bt_top.specs.Doing.{Wrote}
-use Rattle.bt_top.specs.Headline.{Headline, IsSerialList, OnlyAdds, PrintsItsSteps, PrintsItsTotals, PrintsOfFiles, RanPrograms}
-use Rattle.bt_top.specs.Jobs.{AsksFor, IsBigJob, IsJobFor, meaning_of}
+use Rattle.bt_top.specs.Headline.{AccountsForItsSteps, AccountsOfFiles, AreStepsOf, Headline, IsSerialList, OnlyAdds, PrintsItsSteps, PrintsItsTotals, PrintsOfFiles, RanPrograms}
+use Rattle.bt_top.specs.Jobs.{AsksFor, IsBigJob, IsJobFor, IsWorkOf, meaning_of}
 use Rattle.bt_top.specs.Lines.{SinkUse}
 use Rattle.bt_top.specs.Meanings.{Meaning, IsBigMeaning, IsMeaningFor, Means}
 use Rattle.bt_top.specs.Orders.{OperandFile, files_of, form_of}
-use Rattle.bt_top.specs.Outcomes.{ComesTo, IsOutcomeOfRun, bytes_written, stats_line, summary_line}
+use Rattle.bt_top.specs.Outcomes.{ComesTo, IsOutcomeOfAccount, IsOutcomeOfRun, bytes_written, stats_line, summary_line}
 use Rattle.bt_top.specs.Refusals.{status_of}
 use Rattle.bt_top.specs.Serve.{ShelfUse, AreContentsOf}
 use Rattle.bt_top.proofs.Answering.{refused_report, report_of}
@@ -53,7 +59,9 @@ no_success (Recording why) zero = omega (arith, zero)
 no_success (ReadFault file) zero = omega (arith, zero)
 no_success WriteFault zero = omega (arith, zero)
 no_success Memory zero = omega (arith, zero)
-no_success (RefusedCode why) zero = omega (arith, zero)
+no_success LongAccount zero = omega (arith, zero)
+no_success (Denied (denial.Code why)) zero = omega (arith, zero)
+no_success (Denied (denial.Account error)) zero = omega (arith, zero)
 
 -- so nothing is promised of a call that is refused
 pub refused_headline : (order : Option Order) (seen : ShelfUse) (out : SinkUse) (refusal : Refusal) → Headline order seen out (refused_report refusal)
@@ -62,15 +70,17 @@ refused_headline (Some (Run serial stats json script recording)) seen out refusa
 refused_headline (Some (Check script recording)) seen out refusal = tt
 refused_headline (Some (Code script recording)) seen out refusal = tt
 refused_headline (Some (Vet script recording)) seen out refusal = tt
+refused_headline (Some (Account serial script recording)) seen out refusal = λ zero. absurd (no_success refusal zero)
+refused_headline (Some (Verify script recording account)) seen out refusal = tt
 refused_headline (Some (Gen x n)) seen out refusal = tt
 refused_headline (Some (Big x n)) seen out refusal = λ zero. absurd (no_success refusal zero)
 
 -- the whole was written, or the status is not 0
-written_whole : (out : SinkUse) (found : Option CodeRefusal) (refusal : Option Refusal) (bytes : List ℕ) → Wrote out found refusal bytes → status_of refusal ≡ 0
+written_whole : (out : SinkUse) (found : Option Denial) (refusal : Option Refusal) (bytes : List ℕ) → Wrote out found refusal bytes → status_of refusal ≡ 0
     → Appends out.taken out.taken_after bytes
 written_whole out None refusal bytes (inl e) zero = e.1
 written_whole out None refusal bytes (inr e) zero = absurd (no_success WriteFault (subst (λ (r : Option Refusal). status_of r ≡ 0) e.0 zero))
-written_whole out (Some why) refusal bytes e zero = absurd (no_success (RefusedCode why) (subst (λ (r : Option Refusal). status_of r ≡ 0) e.0 zero))
+written_whole out (Some why) refusal bytes e zero = absurd (no_success (Denied why) (subst (λ (r : Option Refusal). status_of r ≡ 0) e.0 zero))
 
 -- what the laws say of jobs, of interleavings, and of scripts that only add
 pub record AreRunLaws : Type 0 where
@@ -86,7 +96,7 @@ pub record AreRunLaws : Type 0 where
       → EndsWithTotals script attached r steps
 
 -- the meaning of a job, and that of the files or of the numbers that ask for it
-abbrev meaning_in : Job → Meaning
+abbrev pub meaning_in : Job → Meaning
 meaning_in job = record { recording = job.recording; attached = job.attached; typed = job.typed }
 
 means_job : (text : List ℕ) (job : Job) → AsksFor text job → Means text (meaning_in job)
@@ -99,7 +109,7 @@ means_job text job asks = record {
   typed = asks.typed;
 }
 
-means_files : (files : List OperandFile) (contents : List (List ℕ)) (job : Job) → IsJobFor files contents job
+pub means_files : (files : List OperandFile) (contents : List (List ℕ)) (job : Job) → IsJobFor files contents job
     → IsMeaningFor files contents (meaning_in job)
 means_files files [] job is = absurd is.of
 means_files files (text ∷ []) job is = absurd is.of
@@ -108,6 +118,18 @@ means_files files (text ∷ bytes ∷ more) job is =
 
 means_numbers : (x n : ℕ) (job : Job) → IsBigJob x n job → IsBigMeaning x n (meaning_in job)
 means_numbers x n job of = record { made = of.made; valid = of.valid; means = means_job SCRIPT job of.asks }
+
+-- what is written of a run is true of its steps
+true_account : (job : Job) (work : Work) → IsReplayed (meaning_of job) work.steps → work.text ≡ printed_text job.typed (cpus_of (meaning_of job)) work.steps
+    → AllByRecursion FitsStep work.steps → length work.steps < 2 ^ 64 → length work.text < 2 ^ 64
+    → IsTrueAccount job.typed job.attached job.recording (account_bytes work.steps work.text) work.steps
+true_account job work replayed printed fits few short = record {
+  replayed = replayed;
+  fits = fits;
+  few = few;
+  short = subst (λ (text : List ℕ). length text < 2 ^ 64) printed short;
+  spelled = ap (λ (text : List ℕ). account_bytes work.steps text) printed;
+}
 
 module _ (laws : AreRunLaws) (seen : ShelfUse) (out : SinkUse) (outcome : Outcome) (refusal : Option Refusal)
     (wrote : Wrote out outcome.refused refusal (bytes_written outcome)) where
@@ -118,25 +140,32 @@ module _ (laws : AreRunLaws) (seen : ShelfUse) (out : SinkUse) (outcome : Outcom
       laws.totals job.typed job.attached job.recording steps
       (record { job = can; only_adds = only.adds; interleaving = interleaving; few_keys = only.few_keys })
 
+  made : (job : Job) (steps : List Step) → IsJob job.typed job.attached job.recording → IsReplayed (meaning_of job) steps → AreStepsOf (meaning_in job) steps
+  made job steps can replayed = record {
+    replayed = replayed;
+    ticks = laws.ticks job.typed job.attached job.recording steps can replayed.interleaving;
+    reads = laws.reads (meaning_of job) steps replayed.interleaving;
+    totals = adds job steps can replayed.interleaving;
+  }
+
+  whole : status_of refusal ≡ 0 → Appends out.taken out.taken_after (bytes_written outcome)
+  whole zero = written_whole out outcome.refused refusal (bytes_written outcome) wrote zero
+
   prints : (form : Form) (serial : Bool) (job : Job) (rest : Work → List ℕ) → IsJob job.typed job.attached job.recording
       → (run : IsOutcomeOfRun form serial job rest outcome) → status_of refusal ≡ 0
       → PrintsItsSteps form (meaning_in job) (rest run.work) out run.work.steps
   prints form serial job rest can run zero = record {
-    replayed = run.done.replayed;
-    ticks = laws.ticks job.typed job.attached job.recording run.work.steps can run.done.replayed.interleaving;
-    reads = laws.reads (meaning_of job) run.work.steps run.done.replayed.interleaving;
-    totals = adds job run.work.steps can run.done.replayed.interleaving;
+    made = made job run.work.steps can run.done.replayed;
     written = subst (λ (text : List ℕ). Appends out.taken out.taken_after (text ++ rest run.work)) run.done.printed
-        (subst (λ (o : Outcome). Appends out.taken out.taken_after (bytes_written o)) run.is (written_whole out outcome.refused refusal (bytes_written outcome) wrote zero));
+        (subst (λ (o : Outcome). Appends out.taken out.taken_after (bytes_written o)) run.is (whole zero));
   }
 
-  ran_programs : (form : Form) (serial : Bool) (job : Job) (rest : Work → List ℕ) → KeepScript job.typed job.programs
-      → (run : IsOutcomeOfRun form serial job rest outcome) → RanPrograms (meaning_in job) job.programs run.work
-  ran_programs form serial job rest kept run = record { kept = kept; instructions = run.done.instructions }
+  ran_programs : (form : Form) (serial : Bool) (job : Job) (work : Work) → KeepScript job.typed job.programs → IsWorkOf form serial job work
+      → RanPrograms (meaning_in job) job.programs work
+  ran_programs form serial job work kept done = record { kept = kept; instructions = done.instructions }
 
-  on_one : (form : Form) (serial : Bool) (job : Job) (rest : Work → List ℕ) (run : IsOutcomeOfRun form serial job rest outcome) → serial ≡ true
-      → IsSerialList (meaning_in job) run.work.steps
-  on_one form serial job rest run is = (run.done.on_one_thread is).serial
+  on_one : (form : Form) (serial : Bool) (job : Job) (work : Work) → IsWorkOf form serial job work → serial ≡ true → IsSerialList (meaning_in job) work.steps
+  on_one form serial job work done is = (done.on_one_thread is).serial
 
   big_adds : (x n : ℕ) (job : Job) (of : IsBigJob x n job) (steps : List Step) → OnlyAdds (meaning_in job) steps
   big_adds x n job of steps =
@@ -159,8 +188,8 @@ module _ (laws : AreRunLaws) (seen : ShelfUse) (out : SinkUse) (outcome : Outcom
         meaning = meaning_in job;
         accepted = means_files files contents job is;
         prints = prints form serial job (λ work. stats_line form stats work.instructions) (can_run job laws.jobs asked) run zero;
-        on_one_thread = on_one form serial job (λ work. stats_line form stats work.instructions) run;
-        ran = ran_programs form serial job (λ work. stats_line form stats work.instructions) asked.asks.programs run;
+        on_one_thread = on_one form serial job run.work run.done;
+        ran = ran_programs form serial job run.work asked.asks.programs run.done;
       })
 
   numbers_headline : (x n : ℕ) (job : Job) (of : IsBigJob x n job)
@@ -173,7 +202,27 @@ module _ (laws : AreRunLaws) (seen : ShelfUse) (out : SinkUse) (outcome : Outcom
         of = means_numbers x n job of;
         prints = prints Text false job (λ work. summary_line n (length work.steps)) can run zero;
         totals = adds job run.work.steps can run.done.replayed.interleaving (big_adds x n job of run.work.steps);
-        ran = ran_programs Text false job (λ work. summary_line n (length work.steps)) of.asks.programs run;
+        ran = ran_programs Text false job run.work of.asks.programs run.done;
+      })
+
+  account_headline : (serial : Bool) (files : List OperandFile) (contents : List (List ℕ)) (job : Job) → AreContentsOf seen.held files contents
+      → IsJobFor files contents job → IsOutcomeOfAccount serial job outcome → status_of refusal ≡ 0
+      → IsSomeAnd outcome.work (AccountsOfFiles seen.held files serial outcome.programs out)
+  account_headline serial files contents job held is run zero =
+      let asked = of_files files contents job is in
+      subst (λ (o : Outcome). IsSomeAnd o.work (AccountsOfFiles seen.held files serial o.programs out)) (sym run.is) (record {
+        contents = contents;
+        read = held;
+        meaning = meaning_in job;
+        accepted = means_files files contents job is;
+        accounts = record {
+          made = made job run.work.steps (can_run job laws.jobs asked) run.done.replayed;
+          text = run.done.printed;
+          written = subst (λ (o : Outcome). Appends out.taken out.taken_after (bytes_written o)) run.is (whole zero);
+          is_true = true_account job run.work run.done.replayed run.done.printed run.fits run.few run.short;
+        };
+        on_one_thread = on_one Text serial job run.work run.done;
+        ran = ran_programs Text serial job run.work asked.asks.programs run.done;
       })
 
   pub done_headline : (order : Order) (contents : List (List ℕ)) → AreContentsOf seen.held (files_of order) contents → ComesTo order contents outcome
@@ -183,5 +232,8 @@ module _ (laws : AreRunLaws) (seen : ShelfUse) (out : SinkUse) (outcome : Outcom
   done_headline (Check script recording) contents held comes = tt
   done_headline (Code script recording) contents held comes = tt
   done_headline (Vet script recording) contents held comes = tt
+  done_headline (Account serial script recording) contents held comes =
+      account_headline serial (files_of (Account serial script recording)) contents comes.0 held comes.1 comes.2
+  done_headline (Verify script recording account) contents held comes = tt
   done_headline (Gen x n) contents held comes = tt
   done_headline (Big x n) contents held comes = numbers_headline x n comes.0 comes.1 comes.2

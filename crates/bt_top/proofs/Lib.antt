@@ -6,10 +6,12 @@ mod Headlines
 mod LineLaws
 mod Listed
 mod Making
+mod OneRead
 mod Offered
 mod Passing
 mod Performing
 mod Reading
 mod Scripts
 mod TooLarge
+mod Verified
 mod Vetted

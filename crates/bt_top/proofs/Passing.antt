@@ -1,6 +1,6 @@
 -- The check of programs, body by body.
 use Rattle.std.proofs.Common.{◌≡◌, ◌≢◌, ℕ, ◌+◌, ◌*◌, ◌<◌, ◌≤◌, List, [], ◌∷◌, length, get_or, refl, sym, ap, subst, ◌∙◌, arith, inl, inr}
-use Rattle.std.specs.Prelude.{◌⊎◌, ◌/◌, Option, Some, None, Result, Ok, Err, IfOk, IfErr, slice_get}
+use Rattle.std.specs.Prelude.{◌⊎◌, ◌/◌, true, Option, Some, None, Result, Ok, Err, IfOk, IfErr, slice_get}
 use Rattle.std.proofs.lemmas.Bool.{cases_eq}
 use Rattle.std.proofs.lemmas.Option.{slice_get-get_or, slice_get_within}
 use Rattle.bpf_check.specs.declared.check.CodeFault.{CodeFault}
@@ -19,6 +19,8 @@ use Rattle.typed_tree.specs.declared.body.TypedBody.{TypedBody}
 use Rattle.typed_tree.specs.declared.script.Typed.{Typed}
 use Rattle.walk_meaning.specs.Served.{least_length}
 use Rattle.bt_top.specs.declared.refusal.CodeRefusal.{CodeRefusal}
+use Rattle.bt_top.specs.declared.refusal.Denial.{Denial}
+use Rattle.bt_top.specs.declared.refusal.Denial.TheVariants as denial
 use Rattle.bt_top.specs.declared.outcome.Outcome.{Outcome}
 use Rattle.bt_top.specs.declared.vetting.Verdict.{Verdict}
 use Rattle.bt_top.specs.declared.vetting.Verdict.TheVariants.{Accepted, Refused}
@@ -148,8 +150,8 @@ pub names_bodies : (files : List OperandFile) (contents : List (List ℕ)) (job 
 names_bodies files contents job is = named job (of_files files contents job is)
 
 -- what is said of a job's programs is what it comes to
-abbrev pub said_of : Job → Option CodeRefusal → List ℕ → Outcome
-said_of job refused rest = record { work = None; programs = job.programs; refused = refused; rest = rest }
+abbrev pub said_of : Job → Option Denial → List ℕ → Outcome
+said_of job refused rest = record { work = None; programs = job.programs; refused = refused; prints = true; rest = rest }
 
 said_again : (job : Job) (formats : List Format) (ids : List BodyId) (programs : List Program) (verdict : Verdict) → formats ≡ job.recording.formats
     → ids ≡ job.attached.bodies → programs ≡ job.programs → IsVerdict formats ids job.typed programs verdict
@@ -168,6 +170,6 @@ accepted_all job formats ids programs lines a b c is =
 
 pub refused_one : (job : Job) (formats : List Format) (ids : List BodyId) (programs : List Program) (why : CodeRefusal) (rest : List ℕ)
     → formats ≡ job.recording.formats → ids ≡ job.attached.bodies → programs ≡ job.programs → IsVerdict formats ids job.typed programs (Refused why)
-    → rest ≡ [] → IsOutcomeOfVet job (said_of job (Some why) rest)
+    → rest ≡ [] → IsOutcomeOfVet job (said_of job (Some (denial.Code why)) rest)
 refused_one job formats ids programs why rest a b c is none =
-    inr (why, said_again job formats ids programs (Refused why) a b c is, ap (λ (l : List ℕ). said_of job (Some why) l) none)
+    inr (why, said_again job formats ids programs (Refused why) a b c is, ap (λ (l : List ℕ). said_of job (Some (denial.Code why)) l) none)

@@ -1,21 +1,31 @@
 -- What an order comes to, from what comes of its files.
-use Rattle.std.proofs.Common.{◌≡◌, ℕ, List, [], ◌∷◌, refl, sym, ap, inl, inr}
-use Rattle.std.specs.Prelude.{◌⊎◌, Bool, Option, Some, None, Ok, IfSome}
+use Rattle.std.proofs.Common.{◌≡◌, ◌≢◌, ℕ, ◌<◌, ◌^◌, List, [], ◌∷◌, length, refl, sym, ap, subst, ◌∙◌, inl, inr}
+use Rattle.std.specs.Prelude.{◌⊎◌, Bool, true, false, Option, Some, None, Result, Ok, Err, IfOk, IfSome, OnOk}
+use Rattle.std.specs.List.{AllByRecursion}
+use Rattle.account_check.specs.Answers.{IsAnswerTo}
+use Rattle.account_check.specs.declared.error.AccountError.{AccountError}
+use Rattle.account_check.specs.declared.error.AccountError.TheVariants as wrong
+use Rattle.account_format.specs.Accounts.{account_bytes}
+use Rattle.account_format.specs.Entries.{FitsStep}
+use Rattle.bt_core.specs.declared.memory.Memory.{Memory as NoMemory}
+use Rattle.bt_core.specs.declared.step.Step.{Step}
 use Rattle.bpf_codegen.specs.declared.generate.Program.{Program}
 use Rattle.bt_words.specs.declared.order.Order.{Order}
-use Rattle.bt_words.specs.declared.order.Order.TheVariants.{Run, Check, Code, Vet, Gen, Big}
+use Rattle.bt_words.specs.declared.order.Order.TheVariants.{Run, Check, Code, Vet, Account, Verify, Gen, Big}
 use Rattle.rec_format.specs.declared.recording.Recording.{Recording as Recorded}
 use Rattle.rec_format.specs.Recordings.{recording_bytes}
 use Rattle.run_base.specs.declared.job.Job.{Job}
 use Rattle.run_base.specs.declared.job.Work.{Work}
 use Rattle.run_output.specs.declared.form.Form.{Form}
+use Rattle.run_output.specs.declared.form.Form.TheVariants.{Text}
 use Rattle.bt_top.specs.declared.outcome.Outcome.{Outcome}
+use Rattle.bt_top.specs.declared.refusal.Refusal.{Refusal}
 use Rattle.bt_top.specs.declared.refusal.Refusal.TheVariants.{Memory}
 use Rattle.bt_top.specs.Doing.{ComesOfFiles}
 use Rattle.bt_top.specs.Jobs.{IsWorkOf}
 use Rattle.bt_top.specs.Orders.{OperandFile, files_of, names_of}
-use Rattle.bt_top.specs.Outcomes.{IsOutcomeOfRun, gen_outcome, run_outcome}
-use Rattle.bt_top.specs.Serve.{ShelfUse, AsksExactly, AsksFirst, EndsAsDue, IsComplete, IsEndStatus, OnTold}
+use Rattle.bt_top.specs.Outcomes.{IsOutcomeOfAccount, IsOutcomeOfRun, IsOutcomeOfVerify, gen_outcome, plain_outcome, run_outcome, verify_outcome}
+use Rattle.bt_top.specs.Serve.{ShelfUse, AsksExactly, AsksFirst, ComesIfDue, EndsAsDue, IsComplete, IsEndStatus, OnTold}
 
 -- ---- outcomes
 
@@ -26,8 +36,8 @@ ran_with form serial job work rest line done is = record { work = work; done = d
 
 -- the bytes of a recording, with no programs
 pub made_with : (says : Recorded) (programs : List Program) (rest : List ℕ) → programs ≡ [] → rest ≡ recording_bytes says
-    → ◌≡◌ {A = Outcome} (record { work = None; programs = programs; refused = None; rest = rest }) (gen_outcome says)
-made_with says programs rest none spelled = λ i. record { work = None; programs = none i; refused = None; rest = spelled i }
+    → ◌≡◌ {A = Outcome} (record { work = None; programs = programs; refused = None; prints = true; rest = rest }) (gen_outcome says)
+made_with says programs rest none spelled = λ i. record { work = None; programs = none i; refused = None; prints = true; rest = spelled i }
 
 -- ---- of all files alike
 
@@ -71,6 +81,9 @@ plain_end (Check script recording) status is = is
 plain_end (Code script recording) status is = is
 plain_end (Vet script recording) status (inl zero) = inl zero
 plain_end (Vet script recording) status (inr six) = inr (inl six)
+plain_end (Account serial script recording) status is = is
+plain_end (Verify script recording account) status (inl zero) = inl zero
+plain_end (Verify script recording account) status (inr six) = inr (inl six)
 plain_end (Gen x n) status is = is
 plain_end (Big x n) status is = is
 
@@ -92,6 +105,25 @@ module _ {A B : Type 0} (files : List OperandFile) (Comes : List (List ℕ) → 
     exact = p.exact;
   }
 
+-- files that are refused are refused whatever is made of them, and memory may run out where they are not
+pub stays_refused : {A B : Type 0} (files : List OperandFile) (Comes : List (List ℕ) → A → Type 0) (Other : List (List ℕ) → B → Type 0) (seen : ShelfUse)
+    (refusal : Refusal) → ComesOfFiles files Comes seen (Err refusal) → ComesOfFiles files Other seen (Err refusal)
+stays_refused files Comes Other seen refusal p = record {
+  reads = record { contents = p.reads.contents; held = p.reads.held; value = tt; came = p.reads.came };
+  asked = p.asked;
+  asked_exactly = p.asked_exactly;
+  exact = p.exact;
+}
+
+pub runs_out : {A B : Type 0} (first : OperandFile) (files : List OperandFile) (Comes : List (List ℕ) → A → Type 0) (Other : List (List ℕ) → B → Type 0)
+    (seen : ShelfUse) (a : A) → ComesOfFiles (first ∷ files) Comes seen (Ok a) → ComesOfFiles (first ∷ files) Other seen (Err Memory)
+runs_out first files Comes Other seen a p = record {
+  reads = record { contents = p.reads.contents; held = p.reads.held; value = tt; came = tt };
+  asked = p.asked;
+  asked_exactly = tt;
+  exact = on_told-map seen.held (first ∷ files) (ComesIfDue (first ∷ files) None) (ComesIfDue (first ∷ files) (Some Memory)) (λ contents comes due is. inr tt) p.exact;
+}
+
 -- ---- of an order without files
 
 module _ {B : Type 0} (Other : List (List ℕ) → B → Type 0) (seen : ShelfUse) (same : seen.asked_after ≡ seen.asked) where
@@ -105,3 +137,55 @@ module _ {B : Type 0} (Other : List (List ℕ) → B → Type 0) (seen : ShelfUs
       | inr e ↦ inl (sym e.1)
     ];
   }
+
+-- ---- of accounts
+
+pub accounted_for : (serial : Bool) (job : Job) (work : Work) (text rest : List ℕ) → IsWorkOf Text serial job work → text ≡ work.text
+    → rest ≡ account_bytes work.steps text → AllByRecursion FitsStep work.steps → length work.steps < 2 ^ 64 → length text < 2 ^ 64
+    → IsOutcomeOfAccount serial job (record { work = Some work; programs = job.programs; refused = None; prints = false; rest = rest })
+accounted_for serial job work text rest done same spelled fits few short = record {
+  work = work;
+  done = done;
+  fits = fits;
+  few = few;
+  short = subst (λ (l : List ℕ). length l < 2 ^ 64) same short;
+  is = ap (λ (l : List ℕ). record { work = Some work; programs = job.programs; refused = None; prints = false; rest = l })
+      (spelled ∙ ap (λ (l : List ℕ). account_bytes work.steps l) same);
+}
+
+err_is : (one other : AccountError) → ◌≡◌ {A = Result (List Step) AccountError} (Err one) (Err other) → one ≡ other
+err_is one other e = cc
+
+pub ok_known : (steps : List Step) → ◌≡◌ {A = Result (List Step) AccountError} (Ok steps) (Err wrong.Memory) → ⊥
+ok_known steps e = cc
+
+-- of what has no programs, with a line
+pub plain_with : (programs : List Program) (line rest : List ℕ) → programs ≡ [] → line ≡ rest
+    → ◌≡◌ {A = Outcome} (record { work = None; programs = programs; refused = None; prints = true; rest = line }) (plain_outcome rest)
+plain_with programs line rest none is = λ i. record { work = None; programs = none i; refused = None; prints = true; rest = is i }
+
+-- the one answer to an account
+module _ (job : Job) (account : List ℕ) where
+  abbrev pub Answers : Result (List Step) AccountError → Type 0
+  Answers answer = IsAnswerTo job.typed job.attached job.recording account answer
+
+  abbrev pub OnlyThis : Result (List Step) AccountError → Type 0
+  OnlyThis answer = (other : Result (List Step) AccountError) → Answers other → other ≢ Err wrong.Memory → (answer ≡ other) ⊎ (answer ≡ Err wrong.Memory)
+
+  only_one : (answer : Result (List Step) AccountError) → answer ≢ Err wrong.Memory → OnlyThis answer → (other : Result (List Step) AccountError)
+      → other ≢ Err wrong.Memory → Answers other → answer ≡ other
+  only_one answer known only other not_memory is = by (only other is not_memory)
+    where
+      by : (answer ≡ other) ⊎ (answer ≡ Err wrong.Memory) → answer ≡ other
+      by (inl same) = same
+      by (inr memory) = absurd (known memory)
+
+  pub verified_by : (answer : Result (List Step) AccountError) (outcome : Outcome) → answer ≢ Err wrong.Memory → Answers answer → OnlyThis answer
+      → outcome ≡ verify_outcome answer → IsOutcomeOfVerify job account outcome
+  verified_by answer outcome known holds only is =
+      record { answer = answer; known = known; holds = holds; only = only_one answer known only; is = is }
+
+  pub denied_verified : (error : AccountError) (found : Result Outcome NoMemory) → Answers (Err error) → OnlyThis (Err error)
+      → OnOk found (error ≢ wrong.Memory) → IfOk found (λ outcome. outcome ≡ verify_outcome (Err error)) → IfOk found (IsOutcomeOfVerify job account)
+  denied_verified error (Ok outcome) holds only known is = verified_by (Err error) outcome (λ e. known (err_is error wrong.Memory e)) holds only is
+  denied_verified error (Err memory) holds only known is = tt

@@ -3,23 +3,25 @@ use Rattle.std.proofs.Common.{◌≡◌, ◌≢◌, ℕ, ◌⊎◌, List, refl, 
 use Rattle.std.specs.Prelude.{Option, Some, None}
 use Rattle.bpf_codegen.specs.declared.generate.Program.{Program}
 use Rattle.bt_words.specs.declared.order.Order.{Order}
-use Rattle.bt_words.specs.declared.order.Order.TheVariants.{Run, Check, Code, Vet, Gen, Big}
+use Rattle.bt_words.specs.declared.order.Order.TheVariants.{Run, Check, Code, Vet, Account, Verify, Gen, Big}
 use Rattle.run_base.specs.declared.job.Job.{Job}
 use Rattle.typed_tree.specs.declared.script.Typed.{Typed}
 use Rattle.bt_top.specs.declared.outcome.Outcome.{Outcome}
 use Rattle.bt_top.specs.declared.refusal.CodeRefusal.{CodeRefusal}
+use Rattle.bt_top.specs.declared.refusal.Denial.{Denial}
+use Rattle.bt_top.specs.declared.refusal.Denial.TheVariants as denial
 use Rattle.bt_top.specs.declared.refusal.Refusal.{Refusal}
-use Rattle.bt_top.specs.declared.refusal.Refusal.TheVariants.{Usage, Script, Recording, ReadFault, WriteFault, Memory, RefusedCode}
+use Rattle.bt_top.specs.declared.refusal.Refusal.TheVariants.{Usage, Script, Recording, ReadFault, WriteFault, Memory, LongAccount, Denied}
 use Rattle.bt_top.specs.Doing.{Wrote, WroteBytes}
 use Rattle.bt_top.specs.Jobs.{IsJobFor}
 use Rattle.bt_top.specs.Lines.{SinkUse}
 use Rattle.bt_top.specs.Orders.{OperandFile, files_of, on_script}
 use Rattle.bt_top.specs.Outcomes.{ComesTo, IsOutcomeOfVet, accepted_outcome, bytes_written, refused_outcome}
 use Rattle.bt_top.specs.Refusals.{status_of}
-use Rattle.bt_top.specs.Serve.{ShelfUse, ShelfFailed, AreContentsOf, IsVetOrder, MayCome}
+use Rattle.bt_top.specs.Serve.{ShelfUse, ShelfFailed, AreContentsOf, MayCome, MayDeny}
 use Rattle.bt_top.specs.Vetted.{HasRefused, IsVetted, IsVettedUnlessRefused, Vetted}
 use Rattle.bt_top.specs.Vetting.{AllPass, IsFirstRefused}
-use Rattle.bt_top.proofs.Answering.{code_not_due, not_refused, refused_report, report_of, some_why}
+use Rattle.bt_top.proofs.Answering.{DeniedBy, denial_not_due, denied_by, refused_report, report_of, same_why, some_why}
 
 -- where all programs are accepted none is refused
 none_refused : (typed : Typed) (programs : List Program) → AllPass typed programs → HasRefused typed programs → ⊥
@@ -27,13 +29,13 @@ none_refused typed programs pass has =
     let refused = has.2 in
     (pass has.0 refused.body refused.program refused.of_body refused.of_program).not_refused has.1 refused.is
 
-first_is : (one other : CodeRefusal) → Some (RefusedCode one) ≡ Some (RefusedCode other) → one ≡ other
+first_is : (one other : CodeRefusal) → Some (Denied (denial.Code one)) ≡ Some (Denied (denial.Code other)) → one ≡ other
 first_is one other e = cc
 
-no_code : (why : CodeRefusal) → ◌≡◌ {A = Option Refusal} None (Some (RefusedCode why)) → ⊥
+no_code : (why : CodeRefusal) → ◌≡◌ {A = Option Refusal} None (Some (Denied (denial.Code why))) → ⊥
 no_code why e = cc
 
-no_code_fault : (why : CodeRefusal) → ◌≡◌ {A = Option Refusal} (Some WriteFault) (Some (RefusedCode why)) → ⊥
+no_code_fault : (why : CodeRefusal) → ◌≡◌ {A = Option Refusal} (Some WriteFault) (Some (Denied (denial.Code why))) → ⊥
 no_code_fault why e = cc
 
 -- ---- of `vet`
@@ -67,7 +69,7 @@ module _ (held : List ℕ → Option (List ℕ)) (script recording : List ℕ) (
       })
 
   refused : (why : CodeRefusal) → IsFirstRefused job.attached.bodies job.typed job.programs why
-      → IsVetted held (on_script script recording) out (report_of (Some (RefusedCode why)) (refused_outcome job why))
+      → IsVetted held (on_script script recording) out (report_of (Some (Denied (denial.Code why))) (refused_outcome job why))
   refused why first = record {
     contents = contents;
     read = read;
@@ -93,34 +95,47 @@ module _ (held : List ℕ → Option (List ℕ)) (script recording : List ℕ) (
 
 -- ---- of the other orders
 
-other_status : (out : SinkUse) (found : Option CodeRefusal) (refusal : Option Refusal) (bytes : List ℕ) → found ≡ None → Wrote out found refusal bytes
-    → status_of refusal ≢ 8
-other_status out None refusal bytes none (inl e) = subst (λ (r : Option Refusal). status_of r ≢ 8) (sym e.0) (λ eight. omega (arith, eight))
-other_status out None refusal bytes none (inr e) = subst (λ (r : Option Refusal). status_of r ≢ 8) (sym e.0) (λ eight. omega (arith, eight))
-other_status out (Some why) refusal bytes none wrote = absurd (some_why why none)
+-- what other orders end with has another status
+other_denial : (order : Order) (why : Denial) → MayDeny order why → ((script recording : List ℕ) → order ≡ Vet script recording → ⊥) → status_of (Some (Denied why)) ≢ 8
+other_denial (Run serial stats json script recording) why may other = absurd may
+other_denial (Check script recording) why may other = absurd may
+other_denial (Code script recording) why may other = absurd may
+other_denial (Vet script recording) why may other = absurd (other script recording refl)
+other_denial (Account serial script recording) why may other = absurd may
+other_denial (Verify script recording account) (denial.Code why) may other = absurd may
+other_denial (Verify script recording account) (denial.Account error) may other = λ eight. omega (arith, eight)
+other_denial (Gen x n) why may other = absurd may
+other_denial (Big x n) why may other = absurd may
+
+module _ (order : Order) (other : (script recording : List ℕ) → order ≡ Vet script recording → ⊥) where
+  other_status : (out : SinkUse) (found : Option Denial) (refusal : Option Refusal) (bytes : List ℕ) → DeniedBy order found → Wrote out found refusal bytes
+      → status_of refusal ≢ 8
+  other_status out None refusal bytes by (inl e) = subst (λ (r : Option Refusal). status_of r ≢ 8) (sym e.0) (λ eight. omega (arith, eight))
+  other_status out None refusal bytes by (inr e) = subst (λ (r : Option Refusal). status_of r ≢ 8) (sym e.0) (λ eight. omega (arith, eight))
+  other_status out (Some why) refusal bytes (inl none) wrote = absurd (some_why why none)
+  other_status out (Some why) refusal bytes (inr e) wrote =
+      subst (λ (r : Option Refusal). status_of r ≢ 8) (sym wrote.0)
+      (subst (λ (d : Denial). status_of (Some (Denied d)) ≢ 8) (sym (same_why why e.0 e.1)) (other_denial order e.0 e.2 other))
 
 pub done_vetted : (seen : ShelfUse) (out : SinkUse) (outcome : Outcome) (refusal : Option Refusal) → Wrote out outcome.refused refusal (bytes_written outcome)
     → (order : Order) (contents : List (List ℕ)) → AreContentsOf seen.held (files_of order) contents → ComesTo order contents outcome
     → Vetted (Some order) seen out (report_of refusal outcome)
-done_vetted seen out outcome refusal wrote order contents read comes = by order read comes (not_refused order contents outcome comes)
-  where
-    plain : outcome.refused ≡ None → status_of refusal ≢ 8
-    plain none = other_status out outcome.refused refusal (bytes_written outcome) none wrote
-
-    by : (order : Order) → AreContentsOf seen.held (files_of order) contents → ComesTo order contents outcome → IsVetOrder order ⊎ (outcome.refused ≡ None)
-        → Vetted (Some order) seen out (report_of refusal outcome)
-    by (Vet script recording) read comes none =
-        vet_says seen.held script recording out contents read comes.0 comes.1 outcome refusal comes.2 wrote
-    by (Run serial stats json script recording) read comes (inl vet) = absurd vet
-    by (Run serial stats json script recording) read comes (inr none) = plain none
-    by (Check script recording) read comes (inl vet) = absurd vet
-    by (Check script recording) read comes (inr none) = plain none
-    by (Code script recording) read comes (inl vet) = absurd vet
-    by (Code script recording) read comes (inr none) = plain none
-    by (Gen x n) read comes (inl vet) = absurd vet
-    by (Gen x n) read comes (inr none) = plain none
-    by (Big x n) read comes (inl vet) = absurd vet
-    by (Big x n) read comes (inr none) = plain none
+done_vetted seen out outcome refusal wrote (Vet script recording) contents read comes =
+    vet_says seen.held script recording out contents read comes.0 comes.1 outcome refusal comes.2 wrote
+done_vetted seen out outcome refusal wrote (Run serial stats json script recording) contents read comes =
+    other_status (Run serial stats json script recording) (λ s r e. cc) out outcome.refused refusal _ (denied_by (Run serial stats json script recording) contents outcome comes) wrote
+done_vetted seen out outcome refusal wrote (Check script recording) contents read comes =
+    other_status (Check script recording) (λ s r e. cc) out outcome.refused refusal _ (denied_by (Check script recording) contents outcome comes) wrote
+done_vetted seen out outcome refusal wrote (Code script recording) contents read comes =
+    other_status (Code script recording) (λ s r e. cc) out outcome.refused refusal _ (denied_by (Code script recording) contents outcome comes) wrote
+done_vetted seen out outcome refusal wrote (Account serial script recording) contents read comes =
+    other_status (Account serial script recording) (λ s r e. cc) out outcome.refused refusal _ (denied_by (Account serial script recording) contents outcome comes) wrote
+done_vetted seen out outcome refusal wrote (Verify script recording account) contents read comes =
+    other_status (Verify script recording account) (λ s r e. cc) out outcome.refused refusal _ (denied_by (Verify script recording account) contents outcome comes) wrote
+done_vetted seen out outcome refusal wrote (Gen x n) contents read comes =
+    other_status (Gen x n) (λ s r e. cc) out outcome.refused refusal _ (denied_by (Gen x n) contents outcome comes) wrote
+done_vetted seen out outcome refusal wrote (Big x n) contents read comes =
+    other_status (Big x n) (λ s r e. cc) out outcome.refused refusal _ (denied_by (Big x n) contents outcome comes) wrote
 
 -- ---- where something else is refused
 
@@ -132,7 +147,8 @@ module _ (order : Order) (seen : ShelfUse) (out : SinkUse) (contents : List (Lis
   refused_status (ReadFault file) came = λ eight. omega (arith, eight)
   refused_status WriteFault came = λ eight. omega (arith, eight)
   refused_status Memory came = λ eight. omega (arith, eight)
-  refused_status (RefusedCode why) came = absurd (code_not_due (files_of order) contents why came)
+  refused_status LongAccount came = λ eight. omega (arith, eight)
+  refused_status (Denied why) came = absurd (denial_not_due (files_of order) contents why came)
 
   refused_unless : (files : List OperandFile) (refusal : Refusal) → MayCome (files_of order) contents (ShelfFailed seen) ⊥ (Some refusal)
       → status_of (Some refusal) ≢ 8 → IsVettedUnlessRefused (Some refusal) seen.held files out (refused_report refusal)
@@ -142,7 +158,8 @@ module _ (order : Order) (seen : ShelfUse) (out : SinkUse) (contents : List (Lis
   refused_unless files (ReadFault file) came other = other
   refused_unless files WriteFault came other = absurd came.0
   refused_unless files Memory came other = other
-  refused_unless files (RefusedCode why) came other = absurd (code_not_due (files_of order) contents why came)
+  refused_unless files LongAccount came other = other
+  refused_unless files (Denied why) came other = absurd (denial_not_due (files_of order) contents why came)
 
   pub refused_vetted : (refusal : Refusal) → MayCome (files_of order) contents (ShelfFailed seen) ⊥ (Some refusal)
       → Vetted (Some order) seen out (refused_report refusal)
@@ -153,6 +170,8 @@ module _ (order : Order) (seen : ShelfUse) (out : SinkUse) (contents : List (Lis
       by (Check script recording) e = refused_status refusal came
       by (Code script recording) e = refused_status refusal came
       by (Vet script recording) e = refused_unless (on_script script recording) refusal came (refused_status refusal came)
+      by (Account serial script recording) e = refused_status refusal came
+      by (Verify script recording account) e = refused_status refusal came
       by (Gen x n) e = refused_status refusal came
       by (Big x n) e = refused_status refusal came
 
@@ -166,6 +185,8 @@ memory_vetted (Some (Run serial stats json script recording)) seen out = memory_
 memory_vetted (Some (Check script recording)) seen out = memory_status
 memory_vetted (Some (Code script recording)) seen out = memory_status
 memory_vetted (Some (Vet script recording)) seen out = memory_status
+memory_vetted (Some (Account serial script recording)) seen out = memory_status
+memory_vetted (Some (Verify script recording account)) seen out = memory_status
 memory_vetted (Some (Gen x n)) seen out = memory_status
 memory_vetted (Some (Big x n)) seen out = memory_status
 

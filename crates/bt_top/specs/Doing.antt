@@ -1,5 +1,5 @@
 -- What the steps of a call answer, between the words and the write. No public contract speaks of it.
-use Rattle.std.specs.Prelude.{◌≡◌, ℕ, ◌⊎◌, ◌≤◌, ◌<◌, ◌*◌, ◌%◌, List, length, Option, Some, None, Result, Ok, Err, IfOk, IfErr, slice_get}
+use Rattle.std.specs.Prelude.{◌≡◌, ℕ, ◌⊎◌, ◌≤◌, ◌<◌, ◌*◌, ◌%◌, List, length, Option, Some, None, Result, Ok, Err, IfOk, IfErr, IfSome, slice_get}
 use Rattle.std.specs.Io.KnownBytes.{Appends, Keeps}
 use Rattle.bt_io.specs.Taken.{AppendsPart}
 use Rattle.bpf_codegen.specs.declared.generate.Program.{Program}
@@ -13,14 +13,18 @@ use Rattle.script_programs.specs.declared.error.SizeFault.{SizeFault}
 use Rattle.script_programs.specs.Programs.{KeepScript}
 use Rattle.script_programs.specs.Sizes.{first_size_fault}
 use Rattle.typed_tree.specs.declared.script.Typed.{Typed}
-use Rattle.bt_top.specs.declared.refusal.CodeRefusal.{CodeRefusal}
+use Rattle.bt_top.specs.declared.files.AccountJob.{AccountJob}
+use Rattle.bt_top.specs.declared.refusal.Denial.{Denial}
 use Rattle.bt_top.specs.declared.refusal.Refusal.{Refusal}
-use Rattle.bt_top.specs.declared.refusal.Refusal.TheVariants.{Script, WriteFault, Memory, RefusedCode}
+use Rattle.bt_top.specs.declared.refusal.Refusal.TheVariants.{Script, ReadFault, WriteFault, Memory, Denied}
 use Rattle.bt_top.specs.declared.refusal.ScriptFault.{ScriptFault}
 use Rattle.bt_top.specs.declared.refusal.ScriptRefusal.TheVariants as script
 use Rattle.bt_top.specs.Due.{IsFirstRefusal, IsJudged}
 use Rattle.bt_top.specs.Lines.{SinkUse, SinkFailed}
-use Rattle.bt_top.specs.Orders.{OperandFile, names_of}
+use Rattle.bt_top.specs.Jobs.{IsJobFor}
+use Rattle.bt_top.specs.Orders.{OperandFile, limit_of, names_of}
+use Rattle.bt_top.specs.Outcomes.{account_in}
+use Rattle.bt_top.specs.Refusals.{too_long}
 use Rattle.bt_top.specs.Script.{IsScriptFault, IsTextFault}
 use Rattle.bt_top.specs.Serve.{ShelfUse, ShelfFailed, AreContentsOf, AsksExactly, AsksFirst, ComesIfDue, MayCome, OnTold}
 use Rattle.bt_top.specs.Sizes.{IsProbePlace, TellsLarge, size_refusal}
@@ -79,6 +83,22 @@ IsExact text bytes refusal = (due : Option Refusal) → IsJudged text bytes due 
 
 -- ---- the reads, and what is done with what they give
 
+-- a file was read: it has no more bytes than it may have, and they are what the shelf tells of it
+pub record IsRead (held : List ℕ → Option (List ℕ)) (file : OperandFile) (bytes : List ℕ) : Type 0 where
+  pub fits : length bytes ≤ limit_of file.operand
+  pub told : IfSome (held file.name) (λ told. bytes ≡ told)
+
+-- why a file was not read: memory ran out, or the shelf's count of faults rose, or the shelf tells more bytes of it than it may have
+abbrev pub IsUnread : OperandFile → ShelfUse → Refusal → Type 0
+IsUnread file shelf refusal =
+    (refusal ≡ Memory) ⊎ (((refusal ≡ ReadFault file.operand) × ShelfFailed shelf)
+    ⊎ ((refusal ≡ too_long file.operand) × IfSome (shelf.held file.name) (λ bytes. limit_of file.operand < length bytes)))
+
+-- what files with these contents ask for, of which the third is an account
+pub record IsAccountJob (files : List OperandFile) (contents : List (List ℕ)) (both : AccountJob) : Type 0 where
+  pub job : IsJobFor files contents both.job
+  pub account : account_in contents ≡ both.account.items
+
 -- what comes of files with contents that the shelf tells, before the write
 pub record ComesOfContents {A : Type 0} (files : List OperandFile) (Comes : List (List ℕ) → A → Type 0) (shelf : ShelfUse) (answer : Result A Refusal) : Type 0 where
   pub contents : List (List ℕ)
@@ -101,10 +121,10 @@ WroteBytes out refusal bytes =
     ((refusal ≡ None) × Appends out.taken out.taken_after bytes)
     ⊎ ((refusal ≡ Some WriteFault) × SinkFailed out × AppendsPart out.taken out.taken_after bytes)
 
--- so it is where no program is refused; else that is told, and nothing was written
-abbrev pub Wrote : SinkUse → Option CodeRefusal → Option Refusal → List ℕ → Type 0
+-- so it is where nothing that was checked is refused; else that is told, and nothing was written
+abbrev pub Wrote : SinkUse → Option Denial → Option Refusal → List ℕ → Type 0
 Wrote out None refusal bytes = WroteBytes out refusal bytes
-Wrote out (Some why) refusal bytes = (refusal ≡ Some (RefusedCode why)) × Keeps out.taken out.taken_after
+Wrote out (Some why) refusal bytes = (refusal ≡ Some (Denied why)) × Keeps out.taken out.taken_after
 
 -- ---- listings
 

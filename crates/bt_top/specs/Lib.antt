@@ -14,4 +14,5 @@ pub mod Serve
 pub mod Offered
 pub mod Doing
 pub mod Headline
+pub mod Verified
 pub mod Vetted

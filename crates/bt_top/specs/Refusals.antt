@@ -1,5 +1,7 @@
 -- The status and the line of each refusal.
 use Rattle.std.specs.Prelude.{ℕ, List, [], ◌∷◌, codes, Option, Some, None}
+use Rattle.account_check.specs.declared.error.AccountError.{AccountError}
+use Rattle.account_check.specs.declared.error.AccountError.TheVariants as account
 use Rattle.bt_io.specs.declared.shelf.ShelfError.{ShelfError}
 use Rattle.bt_io.specs.declared.shelf.ShelfError.TheVariants as shelf
 use Rattle.tracefs_format.specs.declared.error.FormatError.{FormatError}
@@ -8,6 +10,8 @@ use Rattle.rec_format.specs.declared.error.CountOf.{CountOf}
 use Rattle.rec_format.specs.declared.error.CountOf.TheVariants.{Cpus, Formats, Events, Span}
 use Rattle.rec_format.specs.declared.error.RecordingError.{RecordingError}
 use Rattle.rec_format.specs.declared.error.RecordingError.TheVariants as fault
+use Rattle.bt_top.specs.declared.refusal.Denial.{Denial}
+use Rattle.bt_top.specs.declared.refusal.Denial.TheVariants as denial
 use Rattle.bt_top.specs.declared.refusal.Operand.{Operand}
 use Rattle.bt_top.specs.declared.refusal.Operand.TheVariants as operand
 use Rattle.bt_top.specs.declared.refusal.ScriptFault.{ScriptFault}
@@ -21,7 +25,7 @@ use Rattle.bt_top.specs.declared.refusal.ScriptRefusal.TheVariants as script
 use Rattle.bt_top.specs.declared.refusal.RecordingRefusal.{RecordingRefusal}
 use Rattle.bt_top.specs.declared.refusal.RecordingRefusal.TheVariants as recording
 use Rattle.bt_top.specs.declared.refusal.Refusal.{Refusal}
-use Rattle.bt_top.specs.declared.refusal.Refusal.TheVariants.{Usage, Script, Recording, ReadFault, WriteFault, Memory, RefusedCode}
+use Rattle.bt_top.specs.declared.refusal.Refusal.TheVariants.{Usage, Script, Recording, ReadFault, WriteFault, Memory, LongAccount, Denied}
 use Rattle.bt_top.specs.Lines.{Piece, Text, Number}
 use Rattle.bt_top.specs.Orders.{OperandFile, operand_name}
 
@@ -33,12 +37,15 @@ status_of (Some (Recording why)) = 3
 status_of (Some (ReadFault operand)) = 4
 status_of (Some WriteFault) = 5
 status_of (Some Memory) = 6
-status_of (Some (RefusedCode why)) = 8
+status_of (Some LongAccount) = 7
+status_of (Some (Denied (denial.Account error))) = 7
+status_of (Some (Denied (denial.Code why))) = 8
 
 -- what tells that a file is longer than it may be
 abbrev pub too_long : Operand → Refusal
 too_long operand.Script = Script script.TooLong
 too_long operand.Recording = Recording recording.TooLong
+too_long operand.Account = LongAccount
 
 -- why a file is not read
 abbrev pub read_refusal : Operand → ShelfError → Refusal
@@ -155,6 +162,14 @@ abbrev pub recording_pieces : RecordingRefusal → List Piece
 recording_pieces recording.TooLong = Text (codes ": recording too long") ∷ []
 recording_pieces (recording.Fault error) = Text (codes ": ") ∷ fault_pieces error
 
+-- what is wrong with an account
+abbrev pub account_pieces : AccountError → List Piece
+account_pieces (account.BadAccount offset) = Text (codes "N1 bad account at byte ") ∷ Number offset ∷ []
+account_pieces (account.WrongStep step) = Text (codes "N2 wrong step ") ∷ Number step ∷ []
+account_pieces account.Unfinished = Text (codes "N3 unfinished") ∷ []
+account_pieces (account.WrongText offset) = Text (codes "N4 wrong text at byte ") ∷ Number offset ∷ []
+account_pieces account.Memory = Text (codes "out of memory") ∷ []
+
 -- what is told of words that break the rule: how the program is used
 abbrev pub usage_pieces : List Piece
 usage_pieces =
@@ -163,6 +178,8 @@ usage_pieces =
     ∷ Text (codes "       btreplay code SCRIPT RECORDING\n")
     ∷ Text (codes "       btreplay gen X N\n")
     ∷ Text (codes "       btreplay big X N\n")
+    ∷ Text (codes "       btreplay account [--serial] SCRIPT RECORDING\n")
+    ∷ Text (codes "       btreplay verify SCRIPT RECORDING ACCOUNT\n")
     ∷ Text (codes "       btreplay vet SCRIPT RECORDING")
     ∷ []
 
@@ -174,5 +191,7 @@ refusal_pieces files (Recording why) = Text (operand_name files operand.Recordin
 refusal_pieces files (ReadFault file) = Text (operand_name files file) ∷ Text (codes ": read fault") ∷ []
 refusal_pieces files WriteFault = Text (codes "write fault") ∷ []
 refusal_pieces files Memory = Text (codes "out of memory") ∷ []
-refusal_pieces files (RefusedCode why) =
+refusal_pieces files LongAccount = Text (operand_name files operand.Account) ∷ Text (codes ": account too long") ∷ []
+refusal_pieces files (Denied (denial.Code why)) =
     Text (operand_name files operand.Script) ∷ Text (codes ": ") ∷ Text (codes "code refused in probe ") ∷ Number why.probe ∷ []
+refusal_pieces files (Denied (denial.Account error)) = Text (operand_name files operand.Account) ∷ Text (codes ": ") ∷ account_pieces error

@@ -4,16 +4,17 @@ use Rattle.std.specs.Io.KnownBytes.{Appends, Keeps}
 use Rattle.bt_io.specs.Faults.{Rose}
 use Rattle.bt_io.specs.Taken.{AppendsPart}
 use Rattle.bt_words.specs.declared.order.Order.{Order}
-use Rattle.bt_words.specs.declared.order.Order.TheVariants.{Run, Check, Code, Vet, Gen, Big}
+use Rattle.bt_words.specs.declared.order.Order.TheVariants.{Run, Check, Code, Vet, Account, Verify, Gen, Big}
 use Rattle.bt_top.specs.declared.outcome.Outcome.{Outcome}
 use Rattle.bt_top.specs.declared.report.Report.{Report}
-use Rattle.bt_top.specs.declared.refusal.CodeRefusal.{CodeRefusal}
+use Rattle.bt_top.specs.declared.refusal.Denial.{Denial}
+use Rattle.bt_top.specs.declared.refusal.Denial.TheVariants as denial
 use Rattle.bt_top.specs.declared.refusal.Operand.{Operand}
 use Rattle.bt_top.specs.declared.refusal.Operand.TheVariants as operand
 use Rattle.bt_top.specs.declared.refusal.RecordingRefusal.TheVariants as recording
 use Rattle.bt_top.specs.declared.refusal.ScriptRefusal.TheVariants as script
 use Rattle.bt_top.specs.declared.refusal.Refusal.{Refusal}
-use Rattle.bt_top.specs.declared.refusal.Refusal.TheVariants.{Script, Recording, ReadFault, WriteFault, Memory, RefusedCode}
+use Rattle.bt_top.specs.declared.refusal.Refusal.TheVariants.{Script, Recording, ReadFault, WriteFault, Memory, LongAccount, Denied}
 use Rattle.bt_top.specs.Due.{IsDue}
 use Rattle.bt_top.specs.Lines.{SinkUse, SinkFailed, Writes}
 use Rattle.bt_top.specs.Orders.{OperandFile, files_of, limit_of}
@@ -49,6 +50,8 @@ ends_at operand.Script (Some (Script script.TooLong)) = true
 ends_at operand.Script (Some (ReadFault operand.Script)) = true
 ends_at operand.Recording (Some (Recording recording.TooLong)) = true
 ends_at operand.Recording (Some (ReadFault operand.Recording)) = true
+ends_at operand.Account (Some LongAccount) = true
+ends_at operand.Account (Some (ReadFault operand.Account)) = true
 ends_at file refusal = false
 
 -- the names of the files that are read before this comes: up to the one whose read ends the call, else all
@@ -104,23 +107,20 @@ MayStandFor files refusal due = ⊥
 abbrev pub ComesIfDue : List OperandFile → Option Refusal → List (List ℕ) → Type 0
 ComesIfDue files refusal contents = (due : Option Refusal) → IsDue files contents due → (refusal ≡ due) ⊎ MayStandFor files refusal due
 
--- `vet` alone ends with programs that are refused
-abbrev pub IsVetOrder : Order → Type 0
-IsVetOrder (Run serial stats json script recording) = ⊥
-IsVetOrder (Check script recording) = ⊥
-IsVetOrder (Code script recording) = ⊥
-IsVetOrder (Vet script recording) = Unit {0}
-IsVetOrder (Gen x n) = ⊥
-IsVetOrder (Big x n) = ⊥
+-- `vet` alone ends with a program that is refused, and `verify` with an account that is
+abbrev pub MayDeny : Order → Denial → Type 0
+MayDeny (Vet script recording) (denial.Code why) = Unit {0}
+MayDeny (Verify script recording account) (denial.Account error) = Unit {0}
+MayDeny order why = ⊥
 
--- what may come of an order over files with these contents: the same as of its files, and programs that are refused where nothing is due
+-- what may come of an order over files with these contents: the same as of its files, and what it checks refused where nothing is due
 abbrev pub MayEnd : Order → List (List ℕ) → (read_failed write_failed : Type 0) → Option Refusal → Type 0
-MayEnd order contents read_failed write_failed (Some (RefusedCode why)) = IsVetOrder order × IsDue (files_of order) contents None
+MayEnd order contents read_failed write_failed (Some (Denied why)) = MayDeny order why × IsDue (files_of order) contents None
 MayEnd order contents read_failed write_failed refusal = MayCome (files_of order) contents read_failed write_failed refusal
 
--- what stands for what is due to the files of an order: the same, and programs that are refused where nothing is due
+-- what stands for what is due to the files of an order: the same, and what it checks refused where nothing is due
 abbrev pub MayEndFor : Order → Option Refusal → Option Refusal → Type 0
-MayEndFor order (Some (RefusedCode why)) due = IsVetOrder order × (due ≡ None)
+MayEndFor order (Some (Denied why)) due = MayDeny order why × (due ≡ None)
 MayEndFor order refusal due = MayStandFor (files_of order) refusal due
 
 -- what is due to the files of an order comes, unless something stands for it
@@ -132,9 +132,10 @@ abbrev pub ReadFailed : List OperandFile → ShelfUse → Type 0
 ReadFailed [] shelf = ⊥
 ReadFailed (file ∷ files) shelf = ShelfFailed shelf
 
--- the status of success or of want of memory, and of `vet` also that of programs that are refused
+-- the status of success or of want of memory, of `vet` also that of programs that are refused, and of `verify` that of accounts that are
 abbrev pub IsEndStatus : Order → ℕ → Type 0
 IsEndStatus (Vet script recording) status = (status ≡ 0) ⊎ ((status ≡ 6) ⊎ (status ≡ 8))
+IsEndStatus (Verify script recording account) status = (status ≡ 0) ⊎ ((status ≡ 6) ⊎ (status ≡ 7))
 IsEndStatus order status = (status ≡ 0) ⊎ (status ≡ 6)
 
 -- so it ends where nothing is due to the files and nothing failed
@@ -144,9 +145,9 @@ IsComplete order read_failed write_failed status contents =
 
 -- ---- what is done
 
--- programs that are refused are told; else nothing is, or a fault of the write
-abbrev pub IsTold : Option CodeRefusal → Option Refusal → Type 0
-IsTold (Some why) refusal = refusal ≡ Some (RefusedCode why)
+-- what is refused that was checked is told; else nothing is, or a fault of the write
+abbrev pub IsTold : Option Denial → Option Refusal → Type 0
+IsTold (Some why) refusal = refusal ≡ Some (Denied why)
 IsTold None refusal = (refusal ≡ None) ⊎ (refusal ≡ Some WriteFault)
 
 -- the output took the bytes at status 0, a prefix of them after a fault of the write, and else nothing
@@ -155,7 +156,7 @@ IsWritten out None bytes = Appends out.taken out.taken_after bytes
 IsWritten out (Some WriteFault) bytes = AppendsPart out.taken out.taken_after bytes
 IsWritten out (Some refusal) bytes = Keeps out.taken out.taken_after
 
--- what the order comes to was done: its work and its programs are handed back, and its bytes were written; or its programs are refused, and
+-- what the order comes to was done: its work and its programs are handed back, and its bytes were written; or what it checks is refused, and
 -- that is told
 pub record IsDone (order : Order) (contents : List (List ℕ)) (out : SinkUse) (report : Report) : Type 0 where
   pub outcome : Outcome
@@ -171,12 +172,12 @@ pub record IsNothing (out : SinkUse) (report : Report) : Type 0 where
   pub programs : report.programs ≡ []
   pub written : Keeps out.taken out.taken_after
 
--- all was done at status 0, all but a part of the writing after a fault of the write, all but the writing where programs are refused, and else
--- nothing
+-- all was done at status 0, all but a part of the writing after a fault of the write, all but the writing where what was checked is refused, and
+-- else nothing
 abbrev pub IsDoneUnlessRefused : Option Refusal → Order → List (List ℕ) → SinkUse → Report → Type 0
 IsDoneUnlessRefused None order contents out report = IsDone order contents out report
 IsDoneUnlessRefused (Some WriteFault) order contents out report = IsDone order contents out report
-IsDoneUnlessRefused (Some (RefusedCode why)) order contents out report = IsDone order contents out report
+IsDoneUnlessRefused (Some (Denied why)) order contents out report = IsDone order contents out report
 IsDoneUnlessRefused (Some refusal) order contents out report = IsNothing out report
 
 -- the answer to an order, over files whose contents are what the shelf tells of them
@@ -197,6 +198,8 @@ IsRunOrder (Run serial stats json script recording) = Unit {0}
 IsRunOrder (Check script recording) = ⊥
 IsRunOrder (Code script recording) = ⊥
 IsRunOrder (Vet script recording) = ⊥
+IsRunOrder (Account serial script recording) = Unit {0}
+IsRunOrder (Verify script recording account) = ⊥
 IsRunOrder (Gen x n) = ⊥
 IsRunOrder (Big x n) = Unit {0}
 

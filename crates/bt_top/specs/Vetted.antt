@@ -8,8 +8,9 @@ use Rattle.bt_words.specs.declared.order.Order.TheVariants.{Vet}
 use Rattle.run_base.specs.declared.job.Job.{Job}
 use Rattle.typed_tree.specs.declared.script.Typed.{Typed}
 use Rattle.bt_top.specs.declared.refusal.CodeRefusal.{CodeRefusal}
+use Rattle.bt_top.specs.declared.refusal.Denial.TheVariants as denial
 use Rattle.bt_top.specs.declared.refusal.Refusal.{Refusal}
-use Rattle.bt_top.specs.declared.refusal.Refusal.TheVariants.{WriteFault, RefusedCode}
+use Rattle.bt_top.specs.declared.refusal.Refusal.TheVariants.{WriteFault, Denied}
 use Rattle.bt_top.specs.declared.report.Report.{Report}
 use Rattle.bt_top.specs.Jobs.{IsJobFor}
 use Rattle.bt_top.specs.Lines.{SinkUse}
@@ -30,7 +31,7 @@ pub record IsVetted (held : List ℕ → Option (List ℕ)) (files : List Operan
   pub accepted : IsJobFor files contents job
   pub programs : report.programs ≡ job.programs
   pub exact : (report.status ≡ 8) ↔ HasRefused job.typed report.programs
-  pub first : (why : CodeRefusal) → report.refusal ≡ Some (RefusedCode why) → IsFirstRefused job.attached.bodies job.typed report.programs why
+  pub first : (why : CodeRefusal) → report.refusal ≡ Some (Denied (denial.Code why)) → IsFirstRefused job.attached.bodies job.typed report.programs why
   pub passed : report.status ≢ 8 → AllPass job.typed report.programs
   pub lines : report.status ≡ 0 → Appends out.taken out.taken_after (vet_listing job.recording.formats job.attached.bodies report.programs)
 
@@ -38,7 +39,7 @@ pub record IsVetted (held : List ℕ → Option (List ℕ)) (files : List Operan
 abbrev pub IsVettedUnlessRefused : Option Refusal → (List ℕ → Option (List ℕ)) → List OperandFile → SinkUse → Report → Type 0
 IsVettedUnlessRefused None held files out report = IsVetted held files out report
 IsVettedUnlessRefused (Some WriteFault) held files out report = IsVetted held files out report
-IsVettedUnlessRefused (Some (RefusedCode why)) held files out report = IsVetted held files out report
+IsVettedUnlessRefused (Some (Denied (denial.Code why))) held files out report = IsVetted held files out report
 IsVettedUnlessRefused (Some refusal) held files out report = report.status ≢ 8
 
 -- status 8 is of `vet` alone

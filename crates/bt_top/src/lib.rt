@@ -1,8 +1,10 @@
 //! The top call: from the words of a command line to the bytes written.
 #![tactic(auto)]
 
+mod accounts;
 mod files;
 mod judge;
+pub mod limits;
 mod line;
 mod listing;
 mod made;

@@ -37,6 +37,7 @@ pub(crate) fn gen_outcome(alloc: Global, x: u32, n: u32) -> Result<Outcome, Memo
         work: None,
         programs: Items::new(alloc),
         refused: None,
+        prints: true,
         rest: Items::of(bytes),
     })
 }
@@ -101,6 +102,7 @@ pub(crate) fn big_outcome<G: Gate + Sync, R: Threads + Wait + Sync>(
         work: Some(work),
         programs: job.programs,
         refused: None,
+        prints: true,
         rest,
     })
 }

@@ -6,31 +6,33 @@ ghost use Rattle.bt_io.specs.Taken.{AppendsPart};
 ghost use Rattle.bt_top.specs.Doing.{Wrote, WroteBytes};
 ghost use Rattle.bt_top.specs.Lines.{sink_use};
 ghost use Rattle.bt_top.specs.Offered.{OffersBoth};
-ghost use Rattle.bt_top.specs.Outcomes.{bytes_written, work_text};
+ghost use Rattle.bt_top.specs.Outcomes.{bytes_written, shown_text};
 
-use crate::refusal::{CodeRefusal, Refusal};
+use crate::refusal::{Denial, Refusal};
 use bpf_codegen::generate::Program;
 use bt_core::items::Items;
 use bt_io::sink::{Sink, SinkFailed, write_all};
 use run_base::job::Work;
 
-/// What an order comes to where its files are not refused: the work of a run; the programs that were run, listed or checked; why the check
-/// refuses them, where it does; and the bytes that are written behind the text of the work, which are JSON lines where these are asked for.
+/// What an order comes to where its files are not refused: the work of a run; the programs that were run, listed or checked; why what it
+/// checks is refused, where it is; whether the text of the work is written, which are JSON lines where these are asked for; and the bytes that
+/// are written behind it.
 #[derive(Drop)]
 pub(crate) struct Outcome {
     pub work: Option<Work>,
     pub programs: Items<Program>,
-    pub refused: Option<CodeRefusal>,
+    pub refused: Option<Denial>,
+    pub prints: bool,
     pub rest: Items<u8>,
 }
 
-/// The text of the work, where there is work.
-fn work_text(work: &Option<Work>) -> &[u8]
-    ensures { result.now ≡ work_text work.now }
+/// The text of the work, where there is work and its text is written.
+fn shown_text(outcome: &Outcome) -> &[u8]
+    ensures { result.now ≡ shown_text outcome.now }
 {
-    match work {
-        None => &[],
-        Some(work) => work.text.as_slice(),
+    match &outcome.work {
+        Some(work) if outcome.prints => work.text.as_slice(),
+        _ => &[],
     }
 }
 
@@ -39,16 +41,16 @@ fn write_outcome<K: Sink>(out: &mut K, outcome: &Outcome) -> Result<(), SinkFail
     ensures whole { OnOk result (Appends (K.taken out.old) (K.taken out.new) (bytes_written outcome.now)) }
     ensures part { OnErr result (AppendsPart (K.taken out.old) (K.taken out.new) (bytes_written outcome.now)) }
     ensures failed { OnErr result (Rose (K.faults out.old) (K.faults out.new)) }
-    ensures offered { OffersBoth (K.offers out.old) (K.offers out.new) (length (work_text outcome.now.work)) (length outcome.now.rest) }
+    ensures offered { OffersBoth (K.offers out.old) (K.offers out.new) (length (shown_text outcome.now)) (length outcome.now.rest) }
 {
-    write_all(out, work_text(&outcome.work))?;
+    write_all(out, shown_text(outcome))?;
     write_all(out, outcome.rest.as_slice())
 }
 
 /// Writes the bytes of an outcome, and answers why that did not end, where it did not.
 fn write_fault<K: Sink>(out: &mut K, outcome: &Outcome) -> Option<Refusal>
     ensures wrote { WroteBytes (sink_use K.taken K.faults out.old out.new) result (bytes_written outcome.now) }
-    ensures offered { OffersBoth (K.offers out.old) (K.offers out.new) (length (work_text outcome.now.work)) (length outcome.now.rest) }
+    ensures offered { OffersBoth (K.offers out.old) (K.offers out.new) (length (shown_text outcome.now)) (length outcome.now.rest) }
 {
     match write_outcome(out, outcome) {
         Ok(()) => None,
@@ -56,13 +58,13 @@ fn write_fault<K: Sink>(out: &mut K, outcome: &Outcome) -> Option<Refusal>
     }
 }
 
-/// Writes an outcome, and answers why that did not end, where it did not. Of programs that are refused nothing is written.
+/// Writes an outcome, and answers why that did not end, where it did not. Where what was checked is refused nothing is written.
 pub(crate) fn write_refusal<K: Sink>(out: &mut K, outcome: &Outcome) -> Option<Refusal>
     ensures wrote { Wrote (sink_use K.taken K.faults out.old out.new) outcome.now.refused result (bytes_written outcome.now) }
-    ensures offered { OffersBoth (K.offers out.old) (K.offers out.new) (length (work_text outcome.now.work)) (length outcome.now.rest) }
+    ensures offered { OffersBoth (K.offers out.old) (K.offers out.new) (length (shown_text outcome.now)) (length outcome.now.rest) }
 {
     match outcome.refused {
         None => write_fault(out, outcome),
-        Some(why) => Some(Refusal::RefusedCode(why)),
+        Some(why) => Some(Refusal::Denied(why)),
     }
 }

@@ -2,6 +2,7 @@
 ghost use Rattle.std.specs.Prelude.{◌≡◌};
 ghost use Rattle.bt_top.specs.Refusals.{status_of, recording_refusal, read_refusal};
 
+use account_check::error::AccountError;
 use bpf_check::check::CodeFault;
 use bt_core::memory::Memory;
 use bt_core::place::Place;
@@ -14,6 +15,7 @@ use rec_format::error::RecordingError;
 pub enum Operand {
     Script,
     Recording,
+    Account,
 }
 
 /// What is wrong with a script: the first fault of its text, of its tokens, of the points of its probes, or
@@ -84,6 +86,15 @@ pub struct CodeRefusal {
     pub fault: CodeFault,
 }
 
+/// Why what an order checks is refused.
+#[derive(Clone, Copy, PartialEq, Eq, Debug)]
+pub enum Denial {
+    /// The code of a program is.
+    Code(CodeRefusal),
+    /// The account is: the first thing that is wrong with it.
+    Account(AccountError),
+}
+
 /// Why a call is refused. Each has its exit status.
 #[derive(Clone, Copy, PartialEq, Eq, Debug)]
 pub enum Refusal {
@@ -99,8 +110,10 @@ pub enum Refusal {
     WriteFault,
     /// Memory ran out: status 6.
     Memory,
-    /// The check refuses a program that was made: status 8.
-    RefusedCode(CodeRefusal),
+    /// The account has more bytes than it may have: status 7.
+    LongAccount,
+    /// What was checked is refused: status 7 of an account, and status 8 of the code of a program.
+    Denied(Denial),
 }
 
 impl From<Memory> for Refusal {
@@ -126,7 +139,9 @@ pub(crate) fn status_of(refusal: Option<Refusal>) -> u8
         Some(Refusal::ReadFault(_)) => 4,
         Some(Refusal::WriteFault) => 5,
         Some(Refusal::Memory) => 6,
-        Some(Refusal::RefusedCode(_)) => 8,
+        Some(Refusal::LongAccount) => 7,
+        Some(Refusal::Denied(Denial::Account(_))) => 7,
+        Some(Refusal::Denied(Denial::Code(_))) => 8,
     }
 }
 
@@ -138,6 +153,7 @@ pub(crate) fn read_refusal(operand: Operand, error: ShelfError) -> Refusal
         (ShelfError::Failed, operand) => Refusal::ReadFault(operand),
         (ShelfError::TooLong, Operand::Script) => Refusal::Script(ScriptRefusal::TooLong),
         (ShelfError::TooLong, Operand::Recording) => Refusal::Recording(RecordingRefusal::TooLong),
+        (ShelfError::TooLong, Operand::Account) => Refusal::LongAccount,
         (ShelfError::Memory, _) => Refusal::Memory,
     }
 }

@@ -9,8 +9,8 @@ use run_base::job::Work;
 use std::alloc::Global;
 
 /// What a call answers: the exit status, why it was refused where it was, the work that was done, which is there at status 0
-/// and 5 of `run` and `big`, and the programs that were run, listed or checked, one for each body in the order of the bodies, at status 0 and 5
-/// of `run`, `code`, `big` and `vet`, and at status 8, which is of `vet` alone.
+/// and 5 of `run`, `big` and `account`, and the programs that were run, listed or checked, one for each body in the order of the bodies, at
+/// status 0 and 5 of `run`, `code`, `big`, `vet` and `account`, and at status 8, which is of `vet` alone.
 #[derive(Debug, Drop)]
 pub struct Report {
     pub status: u8,

@@ -9,6 +9,7 @@ ghost use Rattle.bt_top.specs.Orders.{files_in, files_of, names_of};
 ghost use Rattle.bt_top.specs.Refusals.{status_of};
 ghost use Rattle.bt_top.specs.Serve.{AnswersOrder, AsksExactly, AsksFirst, EndsAsDue, HasWork, AnswersWords, IsComplete};
 ghost use Rattle.bt_top.specs.Serve.{OnTold, ReadFailed, TellsRefusal, shelf_use};
+ghost use Rattle.bt_top.specs.Verified.{Verified};
 ghost use Rattle.bt_top.specs.Vetted.{Vetted};
 
 use crate::outcome::{Outcome, write_refusal};
@@ -60,7 +61,9 @@ fn perform<S: Shelf, K: Sink, G: Gate + Sync, R: Threads + Wait + Sync>(
         (sink_use K.taken K.faults out.old out.new) result }
     ensures vetted { Vetted (Some order.now) (shelf_use S.held S.faults S.asked shelf.old shelf.new)
         (sink_use K.taken K.faults out.old out.new) result }
-    ensures offered { IsOffered (sink_use K.taken K.faults out.old out.new) (K.offers out.old) (K.offers out.new) result }
+    ensures verified { Verified (Some order.now) (shelf_use S.held S.faults S.asked shelf.old shelf.new)
+        (sink_use K.taken K.faults out.old out.new) result }
+    ensures offered { IsOffered (Some order.now) (sink_use K.taken K.faults out.old out.new) (K.offers out.old) (K.offers out.new) result }
 {
     bt_job::laws::accepted_scripts_are_jobs();
     bt_meaning::laws::ticks_come_after();
@@ -86,10 +89,14 @@ fn perform<S: Shelf, K: Sink, G: Gate + Sync, R: Threads + Wait + Sync>(
 /// CPU on a thread of its own, and writes its text and behind it the line `summary: N events, M steps`, M the length of
 /// the list of steps. `vet SCRIPT RECORDING` checks the bytes of the programs, by rules that know nothing of how they
 /// were made, and writes for each body the line `probe P K: at most N instructions`, N being 4,097 times the slots of
-/// its program; the first program that is refused is told in place of that.
+/// its program; the first program that is refused is told in place of that. `account SCRIPT RECORDING`, with or without
+/// `--serial`, runs the script as `run` does, and writes an account in place of the text: the bytes of all steps of the
+/// run and of its text. `verify SCRIPT RECORDING ACCOUNT` checks an account against the script's own meaning, by rules
+/// that know nothing of the run that it tells of, and writes `verified: N steps` and a newline; the first thing that is
+/// wrong with it is told in place of that.
 ///
-/// The programs of the script, one for each body in the order of the bodies, are handed back by `run`, `code`, `vet`
-/// and `big`. Each keeps its body: its code makes the calls of the body's walk, and ends where the walk ends.
+/// The programs of the script, one for each body in the order of the bodies, are handed back by `run`, `code`, `vet`,
+/// `big` and `account`. Each keeps its body: its code makes the calls of the body's walk, and ends where the walk ends.
 ///
 /// The work that is handed back has all steps of the run in one list. It is an interleaving: `BEGIN` makes its steps
 /// first and `END` last, in between each CPU makes its whole program in its order, and each reply follows from the
@@ -98,8 +105,8 @@ fn perform<S: Shelf, K: Sink, G: Gate + Sync, R: Threads + Wait + Sync>(
 /// The gate is told of each step while it is made, and may hold it up; a run on threads takes it, and nothing else
 /// does. A run on threads may wait for others at the locks of its objects.
 ///
-/// Refusals come in the order words, script read, recording read, recording, lexing, parsing, attaching,
-/// typing, frame and code, check of the code, run, write. A file that is too long is refused at its read. A recording is refused with
+/// Refusals come in the order words, script read, recording read, account read, recording, lexing, parsing, attaching,
+/// typing, frame and code, check of the code or of the account, run, write. A file that is too long is refused at its read. A recording is refused with
 /// the first check that its bytes fail. A script is refused with the first lexical fault of its text, the
 /// first fault of its tokens by the grammar of the bpftrace language, the first of its points that may not
 /// be attached over this recording, the first rule of types that is broken in its bodies, in walk order, or
@@ -136,12 +143,13 @@ pub fn serve<S: Shelf, K: Sink, E: Sink, G: Gate + Sync, R: Threads + Wait + Syn
         (IsComplete order (ReadFailed (files_of order) (shelf_use S.held S.faults S.asked shelf.old shelf.new))
         (SinkFailed (sink_use K.taken K.faults out.old out.new)) result.status)) }
 
-    // Work is there at status 0 and 5 of `run` and `big`.
+    // Work is there at status 0 and 5 of `run`, `big` and `account`.
     ensures worked { IsSome result.work ↔ HasWork result.refusal (order_of words.now) }
 
     // The headline: where `run` or `big` ends with status 0, the bytes written are exactly those that the script's own meaning prints under
     // the interleaving handed back with them, as text or, with `--json`, as JSON lines, and the line of instructions where it is asked for.
-    // Behind the text of `big`, which ends with exactly the totals of its maps, stands the line that tells its events and steps.
+    // Behind the text of `big`, which ends with exactly the totals of its maps, stands the line that tells its events and steps. Where `account`
+    // ends with status 0, they are the account of that interleaving and of the text that it prints, which is true.
     ensures headline { Headline (order_of words.now) (shelf_use S.held S.faults S.asked shelf.old shelf.new)
         (sink_use K.taken K.faults out.old out.new) result }
 
@@ -150,8 +158,13 @@ pub fn serve<S: Shelf, K: Sink, E: Sink, G: Gate + Sync, R: Threads + Wait + Syn
     ensures vetted { Vetted (order_of words.now) (shelf_use S.held S.faults S.asked shelf.old shelf.new)
         (sink_use K.taken K.faults out.old out.new) result }
 
+    // What `verify` says of the account that it reads: status 7 comes exactly where something is wrong with it, and that is told; else it tells a
+    // run that the script can make over the recording, and at status 0 the line that tells so was written. No other order ends with status 7.
+    ensures verified { Verified (order_of words.now) (shelf_use S.held S.faults S.asked shelf.old shelf.new)
+        (sink_use K.taken K.faults out.old out.new) result }
+
     // Each call of the output was offered all that was left of the text, and then of what stands behind it, but at most 4,096 bytes.
-    ensures offered { IsOffered (sink_use K.taken K.faults out.old out.new) (K.offers out.old) (K.offers out.new) result }
+    ensures offered { IsOffered (order_of words.now) (sink_use K.taken K.faults out.old out.new) (K.offers out.old) (K.offers out.new) result }
 
     // The line of the refusal is appended to `err`, or a prefix of it where the count of its faults rose.
     ensures told { TellsRefusal (files_in (order_of words.now)) result.refusal (sink_use E.taken E.faults err.old err.new) }

@@ -9,11 +9,12 @@ ghost use Rattle.bt_top.specs.Orders.{files_of, form_of};
 ghost use Rattle.bt_top.specs.Outcomes.{ComesTo, IsOutcomeOfRun, IsOutcomeOfVet, check_outcome, code_outcome, instructions_line, stats_line};
 ghost use Rattle.bt_top.specs.Serve.{shelf_use};
 
-use crate::files::read_job;
+use crate::accounts::{account_outcome, verify_outcome};
+use crate::files::{read_account_job, read_job};
 use crate::listing::script_listing;
 use crate::made::{big_outcome, gen_outcome};
 use crate::outcome::Outcome;
-use crate::refusal::Refusal;
+use crate::refusal::{Denial, Refusal};
 use crate::vetting::{Verdict, vet_programs};
 use crate::work::run;
 use bt_core::items::Items;
@@ -93,6 +94,7 @@ fn run_outcome<G: Gate + Sync, R: Threads + Wait + Sync>(
         work: Some(work),
         programs: job.programs,
         refused: None,
+        prints: true,
         rest,
     })
 }
@@ -105,6 +107,7 @@ fn check_outcome(alloc: Global) -> Result<Outcome, Memory>
         work: None,
         programs: Items::new(alloc),
         refused: None,
+        prints: true,
         rest: Items::from_slice(alloc, b"ok\n")?,
     })
 }
@@ -121,6 +124,7 @@ fn code_outcome(alloc: Global, job: Job) -> Result<Outcome, Memory>
         work: None,
         programs: job.programs,
         refused: None,
+        prints: true,
         rest,
     })
 }
@@ -140,12 +144,14 @@ fn vet_outcome(alloc: Global, job: Job) -> Result<Outcome, Memory>
             work: None,
             programs: job.programs,
             refused: None,
+            prints: true,
             rest: lines,
         }),
         Verdict::Refused(why) => Ok(Outcome {
             work: None,
             programs: job.programs,
-            refused: Some(why),
+            refused: Some(Denial::Code(why)),
+            prints: true,
             rest: Items::new(alloc),
         }),
     }
@@ -186,6 +192,28 @@ pub(crate) fn outcome_of<S: Shelf, G: Gate + Sync, R: Threads + Wait + Sync>(
         Order::Vet { script, recording } => {
             let job = read_job(alloc, script.as_str(), recording.as_str(), shelf)?;
             Ok(vet_outcome(alloc, job)?)
+        }
+        Order::Account {
+            serial,
+            script,
+            recording,
+        } => {
+            let job = read_job(alloc, script.as_str(), recording.as_str(), shelf)?;
+            Ok(account_outcome(rt, alloc, *serial, job, gate)?)
+        }
+        Order::Verify {
+            script,
+            recording,
+            account,
+        } => {
+            let both = read_account_job(
+                alloc,
+                script.as_str(),
+                recording.as_str(),
+                account.as_str(),
+                shelf,
+            )?;
+            Ok(verify_outcome(alloc, &both.job, both.account.as_slice())?)
         }
         Order::Gen { x, n } => Ok(gen_outcome(alloc, *x, *n)?),
         Order::Big { x, n } => big_outcome(rt, alloc, *x, *n, gate),

@@ -1,16 +1,18 @@
 // What is told of each refusal.
 ghost use Rattle.std.specs.Prelude.{◌≡◌, ◌∷◌, [], codes};
 ghost use Rattle.rec_format.specs.declared.error.RecordingError.TheVariants as wrong;
+ghost use Rattle.bt_top.specs.declared.refusal.Refusal.TheVariants as refusal;
 ghost use Rattle.bt_top.specs.declared.refusal.ScriptRefusal.TheVariants as refused;
 ghost use Rattle.bt_top.specs.Lines.{Writes, sink_use, Text, Number};
-ghost use Rattle.bt_top.specs.Refusals.{count_word, event_pieces, fault_pieces, broken_format_pieces};
+ghost use Rattle.bt_top.specs.Refusals.{account_pieces, count_word, event_pieces, fault_pieces, broken_format_pieces};
 ghost use Rattle.bt_top.specs.Refusals.{recording_pieces, refusal_pieces, rule_text, script_fault_text, script_pieces};
 ghost use Rattle.bt_top.specs.Refusals.{size_in, unit_in, usage_pieces};
-ghost use Rattle.bt_top.specs.Orders.{files_of, on_script, operand_name};
+ghost use Rattle.bt_top.specs.Orders.{files_of, on_account, on_script, operand_name};
 ghost use Rattle.bt_top.specs.Serve.{TellsRefusal};
 
 use crate::line::{Piece, write_line};
-use crate::refusal::{Operand, RecordingRefusal, Refusal, ScriptFault, ScriptRefusal};
+use crate::refusal::{Denial, Operand, RecordingRefusal, Refusal, ScriptFault, ScriptRefusal};
+use account_check::error::AccountError;
 use bt_core::place::Place;
 use bt_io::sink::Sink;
 use bt_words::order::{FileName, Order};
@@ -104,6 +106,23 @@ fn one_of<'o>(script: &'o FileName, recording: &'o FileName, operand: Operand) -
     match operand {
         Operand::Script => script.as_str(),
         Operand::Recording => recording.as_str(),
+        Operand::Account => "",
+    }
+}
+
+/// The one of three names that an operand has.
+fn one_of_three<'o>(
+    script: &'o FileName,
+    recording: &'o FileName,
+    account: &'o FileName,
+    operand: Operand,
+) -> &'o str
+    ensures { result.now ≡ operand_name (on_account script.now recording.now account.now) operand }
+{
+    match operand {
+        Operand::Script => script.as_str(),
+        Operand::Recording => recording.as_str(),
+        Operand::Account => account.as_str(),
     }
 }
 
@@ -122,6 +141,16 @@ fn operand_name(order: &Order, operand: Operand) -> &str
         Order::Check { script, recording } => one_of(script, recording, operand),
         Order::Code { script, recording } => one_of(script, recording, operand),
         Order::Vet { script, recording } => one_of(script, recording, operand),
+        Order::Account {
+            serial: _,
+            script,
+            recording,
+        } => one_of(script, recording, operand),
+        Order::Verify {
+            script,
+            recording,
+            account,
+        } => one_of_three(script, recording, account, operand),
         Order::Gen { .. } | Order::Big { .. } => "",
     }
 }
@@ -291,6 +320,36 @@ fn tell_script<E: Sink>(err: &mut E, name: &str, why: ScriptRefusal)
     }
 }
 
+/// Tells what is wrong with an account.
+fn tell_account<E: Sink>(err: &mut E, name: &str, error: AccountError)
+    ensures { Writes (sink_use E.taken E.faults err.old err.new) (Text name.now ∷ Text (codes ": ") ∷ account_pieces error) }
+{
+    match error {
+        AccountError::BadAccount(offset) => {
+            tell_numbered(err, name, "N1 bad account at byte ", offset)
+        }
+        AccountError::WrongStep(step) => tell_numbered(err, name, "N2 wrong step ", step),
+        AccountError::Unfinished => tell_text(err, name, "N3 unfinished"),
+        AccountError::WrongText(offset) => {
+            tell_numbered(err, name, "N4 wrong text at byte ", offset)
+        }
+        AccountError::Memory => tell_text(err, name, "out of memory"),
+    }
+}
+
+/// Tells why what an order checks is refused.
+fn tell_denial<E: Sink>(err: &mut E, order: &Order, why: Denial)
+    ensures { Writes (sink_use E.taken E.faults err.old err.new) (refusal_pieces (files_of order.now) (refusal.Denied why)) }
+{
+    match why {
+        Denial::Code(why) => {
+            let name = operand_name(order, Operand::Script);
+            tell_numbered(err, name, "code refused in probe ", u64::from(why.probe))
+        }
+        Denial::Account(error) => tell_account(err, operand_name(order, Operand::Account), error),
+    }
+}
+
 /// Tells how the program is used.
 pub(crate) fn tell_usage<E: Sink>(err: &mut E)
     ensures { Writes (sink_use E.taken E.faults err.old err.new) usage_pieces }
@@ -300,8 +359,10 @@ pub(crate) fn tell_usage<E: Sink>(err: &mut E)
     let code = Piece::Text("       btreplay code SCRIPT RECORDING\n");
     let made = Piece::Text("       btreplay gen X N\n");
     let big = Piece::Text("       btreplay big X N\n");
+    let account = Piece::Text("       btreplay account [--serial] SCRIPT RECORDING\n");
+    let verify = Piece::Text("       btreplay verify SCRIPT RECORDING ACCOUNT\n");
     let vet = Piece::Text("       btreplay vet SCRIPT RECORDING");
-    write_line(err, &[run, check, code, made, big, vet]);
+    write_line(err, &[run, check, code, made, big, account, verify, vet]);
 }
 
 /// Tells that memory ran out.
@@ -329,10 +390,11 @@ fn tell<E: Sink>(err: &mut E, order: &Order, refusal: Refusal)
         }
         Refusal::WriteFault => write_line(err, &[Piece::Text("write fault")]),
         Refusal::Memory => tell_memory(err),
-        Refusal::RefusedCode(why) => {
-            let name = operand_name(order, Operand::Script);
-            tell_numbered(err, name, "code refused in probe ", u64::from(why.probe))
+        Refusal::LongAccount => {
+            let name = Piece::Text(operand_name(order, Operand::Account));
+            write_line(err, &[name, Piece::Text(": account too long")])
         }
+        Refusal::Denied(why) => tell_denial(err, order, why),
     }
 }
 

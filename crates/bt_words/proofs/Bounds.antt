@@ -10,8 +10,8 @@ use Rattle.bt_core.specs.Bytes.{is_digit}
 use Rattle.bt_core.specs.declared.limits.TheConstants.{EVENTS}
 use Rattle.bt_words.specs.declared.order.Order.{Order}
 use Rattle.bt_words.specs.declared.order.Order.TheVariants.{Check, Code, Vet, Gen, Big}
-use Rattle.bt_words.specs.Words.{are_run_words, is_empty, is_operand, number_in, numbers, of_two, order_by, order_of, order_of_words, plain_order}
-use Rattle.bt_words.specs.Words.{AreBounded, HasBounds, run_order, two_numbers}
+use Rattle.bt_words.specs.Words.{account_order, are_account_words, are_run_words, is_empty, is_operand, number_in, numbers, of_three, of_two, order_by, order_of, order_of_words, plain_order, verify_order}
+use Rattle.bt_words.specs.Words.{HasBounds, run_order, two_numbers}
 
 -- the numbers of the order, where there is one, are within their bounds
 abbrev AreSmall : Option Order → Type 0
@@ -53,6 +53,20 @@ two_small read (a ∷ b ∷ c ∷ more) p = tt
 run_small : (words : List (List ℕ)) → AreSmall (run_order words)
 run_small words = either_small (are_run_words words) (of_two _ (filter is_operand words)) None (two_small _ (filter is_operand words) (λ a b. tt)) tt
 
+account_small : (words : List (List ℕ)) → AreSmall (account_order words)
+account_small words = either_small (are_account_words words) (of_two _ (filter is_operand words)) None (two_small _ (filter is_operand words) (λ a b. tt)) tt
+
+three_small : (made : List ℕ → List ℕ → List ℕ → Option Order) (words : List (List ℕ)) → ((a b c : List ℕ) → AreSmall (made a b c)) → AreSmall (of_three made words)
+three_small made [] p = tt
+three_small made (a ∷ []) p = tt
+three_small made (a ∷ b ∷ []) p = tt
+three_small made (a ∷ b ∷ c ∷ []) p = p a b c
+three_small made (a ∷ b ∷ c ∷ d ∷ more) p = tt
+
+verify_small : (words : List (List ℕ)) → AreSmall (verify_order words)
+verify_small words =
+    either_small (list_all is_operand words) (of_three _ (filter is_operand words)) None (three_small _ (filter is_operand words) (λ a b c. tt)) tt
+
 plain_small : (command : List ℕ) (operands : List (List ℕ)) → AreSmall (plain_order command operands)
 plain_small command operands =
     either_small (bytes_eq command (codes "check")) (of_two (λ script recording. Some (Check script recording)) operands) _ (two_small _ operands (λ a b. tt))
@@ -69,7 +83,9 @@ words_small [] = tt
 words_small (command ∷ words) =
     either_small (list_any is_empty words) None (order_by command words) tt
     (either_small (bytes_eq command (codes "run")) (run_order words) _ (run_small words)
-    (either_small (list_all is_operand words) (plain_order command (filter is_operand words)) None (plain_small command (filter is_operand words)) tt))
+    (either_small (bytes_eq command (codes "account")) (account_order words) _ (account_small words)
+    (either_small (bytes_eq command (codes "verify")) (verify_order words) _ (verify_small words)
+    (either_small (list_all is_operand words) (plain_order command (filter is_operand words)) None (plain_small command (filter is_operand words)) tt))))
 
 pub bounded_order : {E : Type 0} (words : List (String Global)) (answer : Result Order E) → IfOk answer (λ order. order_of words ≡ Some order) → IfOk answer HasBounds
 bounded_order words (Ok order) e = subst AreSmall e (words_small (map string_bytes words))

@@ -24,17 +24,17 @@ use Rattle.bt_words.proofs.ClapRun.{HasRows, Stands, flag_row, reads, shape}
 abbrev pub flag_text : Bool → Text
 flag_text flag = cond flag (codes "true") (codes "false")
 
-abbrev flag_end : Text → Bool → Row
+abbrev pub flag_end : Text → Bool → Row
 flag_end id flag = row id AsWritten (cond flag CommandLine DefaultValue) (flag_text flag ∷ [])
 
-abbrev flag_of : Text → Rule
+abbrev pub flag_of : Text → Rule
 flag_of id = with_index 1 (filled (flag_rule id))
 
-abbrev Defaulted : Text → Bool → List Row → Type 0
+abbrev pub Defaulted : Text → Bool → List Row → Type 0
 Defaulted id flag rows = (found id (with_default rows (flag_of id)) ≡ Some (flag_end id flag))
     × ((other : Text) → bytes_eq id other ≡ false → found other (with_default rows (flag_of id)) ≡ found other rows)
 
-defaulted : (id : Text) (flag : Bool) (rows : List Row) → bytes_eq id id ≡ true → found id rows ≡ flag_row id flag → Defaulted id flag rows
+pub defaulted : (id : Text) (flag : Bool) (rows : List Row) → bytes_eq id id ≡ true → found id rows ≡ flag_row id flag → Defaulted id flag rows
 defaulted id true rows same there =
     let kept = default_kept (flag_of id) rows (flag_end id true) there in
     (ap (found id) kept ∙ there, λ other differs. ap (found other) kept)
@@ -45,7 +45,7 @@ defaulted id false rows same none =
     )
 
 -- an argument without a default gets no row
-no_default : (id : Text) (rows : List Row) → cond (has_row id rows) rows rows ≡ rows
+pub no_default : (id : Text) (rows : List Row) → cond (has_row id rows) rows rows ≡ rows
 no_default id rows = go (has_row id rows)
   where
     go : (b : Bool) → cond b rows rows ≡ rows
@@ -85,7 +85,7 @@ ends serial stats json script recording rows has =
       recording_row = three.1 (codes "recording") refl ∙ two.1 (codes "recording") refl ∙ one.1 (codes "recording") refl ∙ has.recording_row;
     }
 
-abbrev given_row : Option Row → Bool
+abbrev pub given_row : Option Row → Bool
 given_row o = option_map_or (λ r. explicit_source r.source) o false
 
 valid : (serial stats json : Bool) (script recording : Text) (rows : List Row) → Ends serial stats json script recording rows
@@ -144,7 +144,7 @@ is_run words there = go (are_run_words words) refl (filter is_operand words) ref
     go true e (a ∷ b ∷ []) f h = record { script = a; recording = b; are = e; operands = f }
     go true e (a ∷ b ∷ c ∷ more) f h = absurd (true≢false (sym h))
 
-at_most_one : (n : ℕ) → nat_le n 1 ≡ true → n ≤ 1
+pub at_most_one : (n : ℕ) → nat_le n 1 ≡ true → n ≤ 1
 at_most_one n h = grind (arith, nat_tests)
 
 -- clap takes the words of such an order, and gives back what the rule says of them

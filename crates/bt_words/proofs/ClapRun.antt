@@ -62,12 +62,12 @@ pub record Stands (serial stats json : Bool) (operands : List Text) (w : Walk) :
 abbrev pub Steps : Walk → Text → Bool → Bool → Bool → List Text → Type 0
 Steps w word serial stats json operands = (turn_passes shape [] w word ≡ true) × Stands serial stats json operands (walked shape.rules [] w word)
 
-and_true : (a : Bool) → a ≡ true → (a && true) ≡ true
+pub and_true : (a : Bool) → a ≡ true → (a && true) ≡ true
 and_true true h = refl
 and_true false h = h
 
 -- a flag that was not used passes
-first_use : (a : Bool) → a ≡ false → ((not a || false) && true) ≡ true
+pub first_use : (a : Bool) → a ≡ false → ((not a || false) && true) ≡ true
 first_use true h = absurd (Rattle.std.proofs.Common.true≢false h)
 first_use false h = refl
 
@@ -168,10 +168,10 @@ json_step serial stats operands w st =
       },
     )
 
-script_one : IsOne script_rule
+pub script_one : IsOne script_rule
 script_one = record { multiple = refl; several = refl; trailing = refl }
 
-recording_one : IsOne recording_rule
+pub recording_one : IsOne recording_rule
 recording_one = record { multiple = refl; several = refl; trailing = refl }
 
 -- the two operands
@@ -233,7 +233,7 @@ Reads words = (serial stats json : Bool) (operands : List Text) (w : Walk) → S
     × Stands (serial || nat_le 1 (count_by is_serial words)) (stats || nat_le 1 (count_by is_stats words)) (json || nat_le 1 (count_by is_json words))
     (operands ++ filter is_operand words) (fold (walked shape.rules []) w words)
 
-or_false : (a : Bool) → (a || false) ≡ a
+pub or_false : (a : Bool) → (a || false) ≡ a
 or_false true = refl
 or_false false = refl
 
@@ -253,10 +253,10 @@ reads_none serial stats json operands w st all few_serial few_stats few_json two
       (subst (λ (xs : List Text). Stands serial stats json xs w) (sym (append-nil operands)) st))),
 )
 
-count_cons : (p : Text → Bool) (word : Text) (rest : List Text) → count_by p (word ∷ rest) ≡ cond (p word) 1 0 + count_by p rest
+pub count_cons : (p : Text → Bool) (word : Text) (rest : List Text) → count_by p (word ∷ rest) ≡ cond (p word) 1 0 + count_by p rest
 count_cons p word rest = sum_by-cons (λ w. cond (p w) 1 0) word rest
 
-is_there : (n : ℕ) → 1 ≤ n → nat_le 1 n ≡ true
+pub is_there : (n : ℕ) → 1 ≤ n → nat_le 1 n ≡ true
 is_there n h = grind (arith, nat_tests)
 
 reads_serial : (rest : List Text) → Reads rest → Reads (codes "--serial" ∷ rest)
@@ -290,11 +290,11 @@ reads_json rest more serial stats false operands w st all few_serial few_stats f
     (then_more w (codes "--json") rest step.0 later.0, rw there later.1)
 
 -- an operand is no option, so it changes no count
-no_option : (option word : Text) → is_operand (45 ∷ option) ≡ false → is_operand word ≡ true → bytes_eq word (45 ∷ option) ≡ false
+pub no_option : (option word : Text) → is_operand (45 ∷ option) ≡ false → is_operand word ≡ true → bytes_eq word (45 ∷ option) ≡ false
 no_option option [] is operand = refl
 no_option option (x ∷ xs) is operand = rw (not_true (x == 45) operand) refl
 
-count_less : (p : Text → Bool) (word : Text) (rest : List Text) → p word ≡ false → count_by p (word ∷ rest) ≡ count_by p rest
+pub count_less : (p : Text → Bool) (word : Text) (rest : List Text) → p word ≡ false → count_by p (word ∷ rest) ≡ count_by p rest
 count_less p word rest not_it = rw not_it refl
 
 -- what the rule says of an operand and the words behind it

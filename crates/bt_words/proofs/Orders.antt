@@ -5,12 +5,13 @@ use Rattle.std.specs.Str.{bytes_eq}
 use Rattle.std.proofs.lemmas.Bool.Decides.{nat_tests}
 use Rattle.clap.proofs.WalkLemmas.{both}
 use Rattle.bt_words.specs.declared.order.Order.{Order}
+use Rattle.bt_words.specs.declared.order.Order.TheVariants.{Verify}
 use Rattle.bt_words.specs.declared.order.WordsError.{WordsError}
 use Rattle.bt_words.specs.declared.order.WordsError.TheVariants.{Usage, Memory}
 use Rattle.bt_core.specs.Bytes.{is_digit}
 use Rattle.bt_core.specs.declared.limits.TheConstants.{EVENTS}
-use Rattle.bt_words.specs.Words.{IsAnswer, is_empty, is_operand, number_in, numbers, of_two, order_by, order_of, plain_order, two_numbers}
-use Rattle.bt_words.specs.Commands.{AreTwoOperands}
+use Rattle.bt_words.specs.Words.{IsAnswer, is_empty, is_operand, number_in, numbers, of_two, of_three, order_by, order_of, plain_order, two_numbers, verify_order}
+use Rattle.bt_words.specs.Commands.{AreThreeOperands, AreTwoOperands}
 
 -- the order of operands alone
 abbrev pub operands_order : (List ℕ → List ℕ → Option Order) → List (List ℕ) → Option Order
@@ -39,6 +40,49 @@ files_fit made words = go (list_all is_operand words) refl
     go : (b : Bool) → list_all is_operand words ≡ b → (b && length words == 2) ≡ is_some (cond b (of_two (λ x y. Some (made x y)) (filter is_operand words)) None)
     go true e = sym (ap (λ xs. is_some (of_two (λ x y. Some (made x y)) xs)) (kept is_operand words e) ∙ two_made made words)
     go false e = refl
+
+-- ---- three operands
+
+not_three : (n : ℕ) → false ≡ (suc (suc (suc (suc n))) == 3)
+not_three n = grind (arith, nat_tests)
+
+abbrev three : List (List ℕ) → Option Order
+three = of_three (λ script recording account. Some (Verify script recording account))
+
+three_made : (words : List (List ℕ)) → is_some (three words) ≡ (length words == 3)
+three_made [] = refl
+three_made (a ∷ []) = refl
+three_made (a ∷ b ∷ []) = refl
+three_made (a ∷ b ∷ c ∷ []) = refl
+three_made (a ∷ b ∷ c ∷ d ∷ more) = not_three (length more)
+
+pub three_fit : (words : List (List ℕ)) → (list_all is_operand words && length words == 3) ≡ is_some (verify_order words)
+three_fit words = go (list_all is_operand words) refl
+  where
+    go : (b : Bool) → list_all is_operand words ≡ b → (b && length words == 3) ≡ is_some (cond b (three (filter is_operand words)) None)
+    go true e = sym (ap (λ xs. is_some (three xs)) (kept is_operand words e) ∙ three_made words)
+    go false e = refl
+
+three_length : (words : List (List ℕ)) → IsSome (three words) → length words ≡ 3
+three_length [] h = absurd (true≢false (sym h))
+three_length (a ∷ []) h = absurd (true≢false (sym h))
+three_length (a ∷ b ∷ []) h = absurd (true≢false (sym h))
+three_length (a ∷ b ∷ c ∷ []) h = refl
+three_length (a ∷ b ∷ c ∷ d ∷ more) h = absurd (true≢false (sym h))
+
+-- behind `verify` stand three operands
+pub behind_verify : (words : List (List ℕ)) → IsSome (verify_order words) → AreThreeOperands words
+behind_verify words there = go (list_all is_operand words) refl there
+  where
+    go : (b : Bool) → list_all is_operand words ≡ b → IsSome (cond b (three (filter is_operand words)) None) → AreThreeOperands words
+    go true all some = (all, three_length words (rw (kept is_operand words all) at some))
+    go false all some = absurd (true≢false (sym some))
+
+-- what they ask for
+pub verify_is : (words : List (List ℕ)) (a b c script recording account : List ℕ) → AreThreeOperands words → words ≡ a ∷ b ∷ c ∷ []
+    → script ≡ a → recording ≡ b → account ≡ c → verify_order words ≡ Some (Verify script recording account)
+verify_is words a b c script recording account are is first second third =
+    rw (are.0, first, second, third) (ap three (kept is_operand words are.0) ∙ ap three is)
 
 -- a word that spells a number is an operand
 digit_first : (b : ℕ) → is_digit b ≡ true → not (b == 45) ≡ true
@@ -111,16 +155,16 @@ plain_two command (a ∷ b ∷ []) h = refl
 plain_two command (a ∷ b ∷ c ∷ more) h = absurd (nothing _ (no_order command) h)
 
 -- behind such a command stand two operands, and they alone decide
-pub behind : (command : List ℕ) (words : List (List ℕ)) → bytes_eq command (codes "run") ≡ false → IsSome (order_by command words)
-    → AreTwoOperands words × (order_by command words ≡ plain_order command words)
-behind command words not_run there = go (list_all is_operand words) refl (rw not_run at there)
+pub behind : (command : List ℕ) (words : List (List ℕ)) → bytes_eq command (codes "run") ≡ false → bytes_eq command (codes "account") ≡ false
+    → bytes_eq command (codes "verify") ≡ false → IsSome (order_by command words) → AreTwoOperands words × (order_by command words ≡ plain_order command words)
+behind command words not_run not_account not_verify there = go (list_all is_operand words) refl (rw (not_run, not_account, not_verify) at there)
   where
     go : (b : Bool) → list_all is_operand words ≡ b → IsSome (cond b (plain_order command (filter is_operand words)) None)
         → AreTwoOperands words × (order_by command words ≡ plain_order command words)
     go true all some =
         let is = kept is_operand words all in (
           (all, plain_two command words (rw is at some)),
-          rw (not_run, all) (ap (plain_order command) is),
+          rw (not_run, not_account, not_verify, all) (ap (plain_order command) is),
         )
     go false all some = absurd (true≢false (sym some))
 

@@ -29,6 +29,16 @@ run_app =
     with_operands (with_rule (with_rule (with_rule (plain_app (codes "run")) (flag_rule (codes "serial"))) (flag_rule (codes "stats")))
     (flag_rule (codes "json"))) (codes "script") (codes "recording")
 
+abbrev pub account_app : App
+account_app = with_operands (with_rule (plain_app (codes "account")) (flag_rule (codes "serial"))) (codes "script") (codes "recording")
+
+abbrev pub verify_app : App
+verify_app = with_rule (with_operands (plain_app (codes "verify")) (codes "script") (codes "recording")) (operand_rule (codes "account"))
+
 -- what a command of two operands takes
 abbrev pub AreTwoOperands : List Text → Type 0
 AreTwoOperands words = (list_all is_operand words ≡ true) × (length words ≡ 2)
+
+-- what a command of three operands takes
+abbrev pub AreThreeOperands : List Text → Type 0
+AreThreeOperands words = (list_all is_operand words ≡ true) × (length words ≡ 3)

@@ -9,7 +9,7 @@ use Rattle.bt_core.specs.declared.limits.TheConstants.{EVENTS}
 use Rattle.bt_words.specs.declared.order.WordsError.{WordsError}
 use Rattle.bt_words.specs.declared.order.WordsError.TheVariants.{Usage, Memory}
 use Rattle.bt_words.specs.declared.order.Order.{Order}
-use Rattle.bt_words.specs.declared.order.Order.TheVariants.{Run, Check, Code, Vet, Gen, Big}
+use Rattle.bt_words.specs.declared.order.Order.TheVariants.{Run, Check, Code, Vet, Account, Verify, Gen, Big}
 
 abbrev pub is_empty : List ℕ → Bool
 is_empty word = length word == 0
@@ -41,6 +41,14 @@ are_run_words words =
     list_all has_place_in_run words
     && (nat_le (count_by is_serial words) 1 && (nat_le (count_by is_stats words) 1 && nat_le (count_by is_json words) 1))
 
+-- behind `account`: operands, and its one option
+abbrev pub has_place_in_account : List ℕ → Bool
+has_place_in_account word = is_operand word || is_serial word
+
+-- the option at most once
+abbrev pub are_account_words : List (List ℕ) → Bool
+are_account_words words = list_all has_place_in_account words && nat_le (count_by is_serial words) 1
+
 -- the number that 1 to 10 decimal digits spell, if it is at most so great
 abbrev pub number_in : ℕ → List ℕ → Option ℕ
 number_in greatest word =
@@ -53,6 +61,14 @@ of_two read [] = None
 of_two read (a ∷ []) = None
 of_two read (a ∷ b ∷ []) = read a b
 of_two read (a ∷ b ∷ c ∷ more) = None
+
+-- three operands, read by a function of all
+abbrev pub of_three : (List ℕ → List ℕ → List ℕ → Option Order) → List (List ℕ) → Option Order
+of_three read [] = None
+of_three read (a ∷ []) = None
+of_three read (a ∷ b ∷ []) = None
+of_three read (a ∷ b ∷ c ∷ []) = read a b c
+of_three read (a ∷ b ∷ c ∷ d ∷ more) = None
 
 abbrev pub numbers : (ℕ → ℕ → Order) → Option ℕ → Option ℕ → Option Order
 numbers made None n = None
@@ -69,7 +85,19 @@ run_order words =
     (nat_le 1 (count_by is_json words)) script recording)) (filter is_operand words)
     else None
 
--- the order of a command that takes no options
+abbrev pub account_order : List (List ℕ) → Option Order
+account_order words =
+    if are_account_words words
+    then of_two (λ script recording. Some (Account (nat_le 1 (count_by is_serial words)) script recording)) (filter is_operand words)
+    else None
+
+abbrev pub verify_order : List (List ℕ) → Option Order
+verify_order words =
+    if list_all is_operand words
+    then of_three (λ script recording account. Some (Verify script recording account)) (filter is_operand words)
+    else None
+
+-- the order of a command that takes two operands and no options
 abbrev pub plain_order : List ℕ → List (List ℕ) → Option Order
 plain_order command operands =
     if bytes_eq command (codes "check") then of_two (λ script recording. Some (Check script recording)) operands
@@ -82,6 +110,8 @@ plain_order command operands =
 abbrev pub order_by : List ℕ → List (List ℕ) → Option Order
 order_by command words =
     if bytes_eq command (codes "run") then run_order words
+    else if bytes_eq command (codes "account") then account_order words
+    else if bytes_eq command (codes "verify") then verify_order words
     else if list_all is_operand words then plain_order command (filter is_operand words)
     else None
 

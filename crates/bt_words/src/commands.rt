@@ -1,7 +1,7 @@
 // The commands as clap reads them: one for each command word, without flags for help or the version.
 ghost use Rattle.std.specs.Prelude.{◌≡◌, IfOk, false};
 ghost use Rattle.clap.specs.Words.{app_of, rule_of};
-ghost use Rattle.bt_words.specs.Commands.{flag_rule, operand_rule, plain_app, run_app, two_app, with_operands};
+ghost use Rattle.bt_words.specs.Commands.{account_app, flag_rule, operand_rule, plain_app, run_app, two_app, verify_app, with_operands};
 
 use clap::{Arg, ArgAction, Command};
 use std::alloc::{AllocError, Global};
@@ -18,6 +18,23 @@ pub(crate) fn run_command<'a>(alloc: Global) -> Result<Command<'a>, AllocError>
         .arg(stats)?
         .arg(json)?;
     with_operands(alloc, command, "script", "recording")
+}
+
+/// `account`, with its option.
+pub(crate) fn account_command<'a>(alloc: Global) -> Result<Command<'a>, AllocError>
+    ensures { IfOk result (λ command. app_of command ≡ account_app) }
+{
+    let serial = flag(alloc, "serial");
+    let command = plain_command(alloc, "account").arg(serial)?;
+    with_operands(alloc, command, "script", "recording")
+}
+
+/// `verify`, with its three operands.
+pub(crate) fn verify_command<'a>(alloc: Global) -> Result<Command<'a>, AllocError>
+    ensures { IfOk result (λ command. app_of command ≡ verify_app) }
+{
+    let command = plain_command(alloc, "verify");
+    with_operands(alloc, command, "script", "recording")?.arg(operand(alloc, "account"))
 }
 
 /// A command of two operands alone.

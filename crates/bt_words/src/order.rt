@@ -40,7 +40,7 @@ impl FileName {
     }
 }
 
-/// What words ask for: one of the six commands, with what it takes.
+/// What words ask for: one of the eight commands, with what it takes.
 #[derive(Debug, Drop)]
 pub enum Order {
     /// To run a script over a recording: on one thread, or on threads; with or without the number of
@@ -66,6 +66,18 @@ pub enum Order {
     Vet {
         script: FileName,
         recording: FileName,
+    },
+    /// To run a script over a recording, on one thread or on threads, and to write an account of its steps.
+    Account {
+        serial: bool,
+        script: FileName,
+        recording: FileName,
+    },
+    /// To check an account.
+    Verify {
+        script: FileName,
+        recording: FileName,
+        account: FileName,
     },
     /// To make the recording of two numbers.
     Gen {

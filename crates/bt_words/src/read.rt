@@ -2,9 +2,9 @@
 ghost use Rattle.std.specs.Prelude.{◌≡◌, ◌↔◌, ◌∷◌, [], IsSome, None, Some, Err, IfOk, IfErr, drop, map, true, string_bytes};
 ghost use Rattle.clap.specs.Words.{app_of, found_of, matches_of, rows_of, takes};
 ghost use Rattle.bt_words.specs.Commands.{AreTwoOperands};
-ghost use Rattle.bt_words.specs.Words.{order_by, order_of, plain_order, run_order, HasBounds, IsAnswer};
+ghost use Rattle.bt_words.specs.Words.{account_order, order_by, order_of, plain_order, run_order, verify_order, HasBounds, IsAnswer};
 
-use crate::commands::{run_command, two_command};
+use crate::commands::{account_command, run_command, two_command, verify_command};
 use crate::number::{Numbers, two_numbers};
 use crate::order::{FileName, Order, WordsError};
 use crate::rule::is_admitted;
@@ -12,8 +12,9 @@ use clap::{ArgMatches, Command};
 use std::alloc::Global;
 
 /// What words ask for. The first is the command; behind it stand options and operands in any order,
-/// none of them empty. Options begin with `-`: `run` takes `--serial`, `--stats` and `--json`, each once. The
-/// numbers of `gen` and `big` are at most 2,147,483,647 and the limit of events.
+/// none of them empty. Options begin with `-`: `run` takes `--serial`, `--stats` and `--json`, each once, and
+/// `account` takes `--serial` once. `verify` takes three operands, and each other command two. The numbers of
+/// `gen` and `big` are at most 2,147,483,647 and the limit of events.
 ///
 /// # Errors
 ///
@@ -37,6 +38,10 @@ fn admitted_order(alloc: Global, command: &str, words: &[String]) -> Result<Orde
 {
     if command == "run" {
         run_order(alloc, words)
+    } else if command == "account" {
+        account_order(alloc, words)
+    } else if command == "verify" {
+        verify_order(alloc, words)
     } else {
         plain_order(alloc, command, two_operands(alloc, command, words)?)
     }
@@ -56,6 +61,37 @@ fn run_order(alloc: Global, words: &[String]) -> Result<Order, WordsError>
         json: matches.get_flag("json"),
         script: FileName::of(alloc, script)?,
         recording: FileName::of(alloc, recording)?,
+    })
+}
+
+/// The order of `account`, as clap reads its option and operands.
+fn account_order(alloc: Global, words: &[String]) -> Result<Order, WordsError>
+    requires { IsSome (account_order (drop 1 (map string_bytes words.now))) }
+    ensures { IsAnswer (account_order (drop 1 (map string_bytes words.now))) result }
+{
+    let matches = parsed(account_command(alloc)?, words)?;
+    let script = matches.get_str("script").unwrap();
+    let recording = matches.get_str("recording").unwrap();
+    Ok(Order::Account {
+        serial: matches.get_flag("serial"),
+        script: FileName::of(alloc, script)?,
+        recording: FileName::of(alloc, recording)?,
+    })
+}
+
+/// The order of `verify`, as clap reads its operands.
+fn verify_order(alloc: Global, words: &[String]) -> Result<Order, WordsError>
+    requires { IsSome (verify_order (drop 1 (map string_bytes words.now))) }
+    ensures { IsAnswer (verify_order (drop 1 (map string_bytes words.now))) result }
+{
+    let matches = parsed(verify_command(alloc)?, words)?;
+    let script = matches.get_str("script").unwrap();
+    let recording = matches.get_str("recording").unwrap();
+    let account = matches.get_str("account").unwrap();
+    Ok(Order::Verify {
+        script: FileName::of(alloc, script)?,
+        recording: FileName::of(alloc, recording)?,
+        account: FileName::of(alloc, account)?,
     })
 }
 

@@ -3,7 +3,7 @@ ghost use Rattle.std.specs.Prelude.{◌≡◌, ◌||◌, ℕ, codes, count_by, f
 ghost use Rattle.std.specs.List.{list_all, list_any};
 ghost use Rattle.std.specs.Str.{bytes_eq};
 ghost use Rattle.bt_words.specs.declared.order.Order.{Order};
-ghost use Rattle.bt_words.specs.Words.{has_place_in_run, is_empty, is_operand, of_two, order_by, order_of, two_numbers};
+ghost use Rattle.bt_words.specs.Words.{has_place_in_account, has_place_in_run, is_empty, is_operand, of_two, order_by, order_of, two_numbers};
 
 use crate::number::two_numbers;
 
@@ -23,6 +23,10 @@ fn suits(command: &str, words: &[String]) -> bool
 {
     if command == "run" {
         are_run_words(words)
+    } else if command == "account" {
+        are_account_words(words)
+    } else if command == "verify" {
+        are_three_operands(words)
     } else if command == "check" || command == "code" || command == "vet" {
         are_two_operands(words)
     } else if command == "gen" || command == "big" {
@@ -41,6 +45,20 @@ fn are_run_words(words: &[String]) -> bool
         && count(words, "--stats") <= 1
         && count(words, "--json") <= 1
         && count_operands(words) == 2
+}
+
+/// Whether the words are two operands, and the option that `account` takes, at most once.
+fn are_account_words(words: &[String]) -> bool
+    ensures { result ≡ is_some (order_by (codes "account") (map string_bytes words.now)) }
+{
+    have_place_in_account(words) && count(words, "--serial") <= 1 && count_operands(words) == 2
+}
+
+/// Whether the words are three operands alone.
+fn are_three_operands(words: &[String]) -> bool
+    ensures { result ≡ is_some (order_by (codes "verify") (map string_bytes words.now)) }
+{
+    are_operands(words) && words.len() == 3
 }
 
 /// Whether the words are two operands alone.
@@ -109,6 +127,25 @@ fn have_place_in_run(words: &[String]) -> bool
 {
     for word in words {
         if !has_place_in_run(word.as_str()) {
+            return false;
+        }
+    }
+    true
+}
+
+/// Whether a word may stand behind `account`.
+fn has_place_in_account(word: &str) -> bool
+    ensures { result ≡ has_place_in_account word.now }
+{
+    is_operand(word) || word == "--serial"
+}
+
+/// Whether all words may stand behind `account`, however often.
+fn have_place_in_account(words: &[String]) -> bool
+    ensures { result ≡ list_all has_place_in_account (map string_bytes words.now) }
+{
+    for word in words {
+        if !has_place_in_account(word.as_str()) {
             return false;
         }
     }

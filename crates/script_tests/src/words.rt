@@ -117,6 +117,65 @@ fn files_are_any_words(rt: HostRuntime) -> Result<(), Fail> {
     Ok(())
 }
 
+/// Arrangements of `--serial` and two operands behind `account`, with whether it stands in them.
+const ACCOUNTS: [(&[&str], bool); 4] = [
+    (&["account", "a", "b"], false),
+    (&["account", "--serial", "a", "b"], true),
+    (&["account", "a", "--serial", "b"], true),
+    (&["account", "a", "b", "--serial"], true),
+];
+
+#[test]
+fn accounts_are_serial_or_not(rt: HostRuntime) -> Result<(), Fail> {
+    let alloc = rt.alloc();
+    for (texts, has_serial) in ACCOUNTS {
+        let words = words_of(alloc, texts)?;
+        let Ok(
+            Order::Account {
+                serial,
+                script,
+                recording,
+            },
+        ) = read_words(alloc, &words)
+        else {
+            return Err(Fail::from("no account"));
+        };
+        assert_eq!(rt; serial, has_serial, "{texts:?}");
+        assert!(rt;
+            script.as_str() == "a" && recording.as_str() == "b",
+            "{texts:?}"
+        );
+    }
+    Ok(())
+}
+
+#[test]
+fn three_files_are_verified(rt: HostRuntime) -> Result<(), Fail> {
+    let alloc = rt.alloc();
+    let cases = [
+        ["verify", "s.bt", "r.bin", "a.bin"],
+        ["verify", "same", "same", "same"],
+        ["verify", "verify", "a--serial", "account"],
+    ];
+    for texts in cases {
+        let words = words_of(alloc, &texts)?;
+        let Ok(
+            Order::Verify {
+                script,
+                recording,
+                account,
+            },
+        ) = read_words(alloc, &words)
+        else {
+            return Err(Fail::from("no account to check"));
+        };
+        assert_eq!(rt; script.as_str(), texts[1]);
+        assert_eq!(rt; recording.as_str(), texts[2]);
+        assert_eq!(rt; account.as_str(), texts[3]);
+    }
+    Ok(())
+}
+
 #[test]
 fn numbers_reach_their_limits(rt: HostRuntime) -> Result<(), Fail> {
     let alloc = rt.alloc();
@@ -143,7 +202,7 @@ fn numbers_reach_their_limits(rt: HostRuntime) -> Result<(), Fail> {
 }
 
 /// Words that break the rule.
-const REFUSED: [&[&str]; 54] = [
+const REFUSED: [&[&str]; 74] = [
     &[],
     &[""],
     &["help"],
@@ -161,6 +220,12 @@ const REFUSED: [&[&str]; 54] = [
     &["code", "a", "b", "c"],
     &["vet", "a"],
     &["vet", "a", "b", "c"],
+    &["account", "a"],
+    &["account", "--serial", "a"],
+    &["account", "a", "b", "c"],
+    &["verify", "a"],
+    &["verify", "a", "b"],
+    &["verify", "a", "b", "c", "d"],
     &["gen", "1"],
     &["big", "1", "2", "3"],
     // options that are none
@@ -178,12 +243,24 @@ const REFUSED: [&[&str]; 54] = [
     &["run", "-", "a"],
     &["run", "-", "a", "b"],
     &["run", "a", "-b"],
+    &["account", "a", "-b"],
+    &["account", "--account", "a", "b"],
+    &["verify", "a", "b", "-c"],
     // options that come twice, or at another command
     &["run", "--serial", "--serial", "a", "b"],
     &["run", "--stats", "a", "b", "--stats"],
     &["run", "--serial", "a", "--stats", "b", "--serial"],
     &["run", "--json", "--json", "a", "b"],
     &["run", "--json", "a", "--serial", "b", "--json"],
+    &["account", "--serial", "--serial", "a", "b"],
+    &["account", "--serial", "a", "b", "--serial"],
+    &["account", "--stats", "a", "b"],
+    &["account", "a", "b", "--json"],
+    &["account", "--serial", "a", "--stats", "b"],
+    &["verify", "--serial", "a", "b", "c"],
+    &["verify", "a", "b", "c", "--stats"],
+    &["verify", "a", "--json", "b", "c"],
+    &["verify", "--serial", "a", "b"],
     &["check", "--serial", "a", "b"],
     &["code", "a", "b", "--stats"],
     &["gen", "--stats", "1", "2"],
@@ -196,6 +273,8 @@ const REFUSED: [&[&str]; 54] = [
     &["run", "a", ""],
     &["check", "a", "b", ""],
     &["vet", "", "b"],
+    &["account", "a", ""],
+    &["verify", "a", "b", ""],
     // numbers
     &["gen", "2147483648", "1"],
     &["gen", "1", "1048577"],

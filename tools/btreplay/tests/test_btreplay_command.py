@@ -28,7 +28,7 @@ class Command(unittest.TestCase):
         self.assertEqual(self.at.words(), ["run", "--serial", "s.bt", "r.btr", "--stats"])
         self.assertEqual(self.at.run("run", "--json", "s.bt", "r.btr", out="{}\n"), (0, "{}\n", ""))
         self.assertEqual(self.at.words(), ["run", "--json", "s.bt", "r.btr"])
-        for status in (1, 2, 3, 5, 6, 8, 77):
+        for status in (1, 2, 3, 5, 6, 7, 8, 77):
             self.assertEqual(self.at.run("gen", "1", "2", status=status, err="some fault"), (status, "", "some fault\n"))
         self.assertEqual(self.at.run("any", "", "words -e", status=1), (1, "", ""))
         self.assertEqual(self.at.words(), ["any", "", "words -e"])
@@ -63,6 +63,9 @@ class Command(unittest.TestCase):
                            (["run", "--seriall", "s.bt", "r.btr"], "run has no option --seriall; it has --serial, --stats and --json"),
                            (["check", "--serial", "s.bt", "r.btr"], "check has no option --serial"),
                            (["vet", "s.bt"], f"vet {files} 1 word stands there"),
+                           (["account", "--stats", "s.bt", "r.btr"], "account has no option --stats; it has --serial"),
+                           (["verify", "s.bt", "r.btr"], "verify takes a script, a recording and an account, and 2 words stand there"),
+                           (["verify", "--serial", "s.bt", "r.btr", "a.account"], "verify has no option --serial"),
                            (["run", "-e"], "a script stands behind -e, and a recording"),
                            (["run", "-e", "BEGIN { }"], f"run {files} 1 word stands there"),
                            (["run", "-"], f"run {files} 1 word stands there")):
@@ -81,6 +84,9 @@ class Command(unittest.TestCase):
             self.assertEqual((self.at.folder / "script").read_text(), "BEGIN { }")
         self.assertEqual(self.at.run("check", "-e", "BEGIN #", "r.btr", status=2, err="@SCRIPT@:1:7: X1 bad character"),
                          (2, "", "-e:1:7: X1 bad character\n"))
+        self.assertEqual(self.at.run("verify", "-e", "BEGIN { }", "r.btr", "a.account", status=7, err="a.account: N2 wrong step 0"),
+                         (7, "", "a.account: N2 wrong step 0\n"))
+        self.assertEqual([word for word in self.at.words() if not word.startswith("/dev/fd/")], ["verify", "r.btr", "a.account"])
         self.assertEqual(self.at.run("run", "-e", status=1, err="usage"), (1, "", "usage\n"))
         self.assertEqual(self.at.words(), ["run", "-e"])
 
@@ -102,6 +108,8 @@ class Command(unittest.TestCase):
                              (4, "", f"{name}: read fault\nbtreplay: {name}: {why}\n"))
         self.assertEqual(self.at.run("run", "s.bt", "no.btr", status=4, err="no.btr: read fault")[2],
                          "no.btr: read fault\nbtreplay: no.btr: there is no such file\n")
+        self.assertEqual(self.at.run("verify", "s.bt", "r.btr", "no.account", status=4, err="no.account: read fault")[2],
+                         "no.account: read fault\nbtreplay: no.account: there is no such file\n")
 
     def test_operands_in_the_other_order(self):
         told = "btreplay: r.btr is a recording and s.bt is none: the script comes first, then the recording\n"

@@ -96,7 +96,7 @@ class Completion(unittest.TestCase):
         folder = tempfile.TemporaryDirectory()
         self.addCleanup(folder.cleanup)
         self.folder = pathlib.Path(folder.name)
-        for name in ("s.bt", "r.btr", "notes.txt"):
+        for name in ("s.bt", "r.btr", "a.account", "notes.txt"):
             (self.folder / name).touch()
         (self.folder / "sub").mkdir()
 
@@ -108,7 +108,7 @@ class Completion(unittest.TestCase):
         return sorted(done.stdout.decode().split())
 
     def test_words(self):
-        self.assertEqual(self.completed(""), sorted("run check explain code gen big vet --help --version --unproved".split()))
+        self.assertEqual(self.completed(""), sorted("run check explain code gen big account verify vet --help --version --unproved".split()))
         self.assertEqual(self.completed("ru"), ["run"])
         self.assertEqual(self.completed("--unproved", "c"), ["check", "code"])
         self.assertEqual(self.completed("--unproved", "-"), ["--help", "--version"])
@@ -116,6 +116,8 @@ class Completion(unittest.TestCase):
         self.assertEqual(self.completed("check", "-"), ["-e"])
         self.assertEqual(self.completed("gen", ""), [])
         self.assertEqual(self.completed("vet", "-"), ["-e"])
+        self.assertEqual(self.completed("account", "-"), ["--serial", "-e"])
+        self.assertEqual(self.completed("verify", "-"), ["-e"])
 
     def test_files(self):
         self.assertEqual(self.completed("run", ""), ["s.bt", "sub"])
@@ -126,6 +128,8 @@ class Completion(unittest.TestCase):
         self.assertEqual(self.completed("explain", "-", "r"), ["r.btr"])
         self.assertEqual(self.completed("vet", "s.bt", ""), ["r.btr", "sub"])
         self.assertEqual(self.completed("run", "s.bt", "r.btr", ""), [])
+        self.assertEqual(self.completed("verify", "s.bt", "r.btr", ""), ["a.account", "sub"])
+        self.assertEqual(self.completed("account", "s.bt", "r.btr", ""), [])
 
 
 if __name__ == "__main__":

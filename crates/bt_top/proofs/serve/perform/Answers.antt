@@ -3,6 +3,7 @@ use Rattle.bt_top.proofs.Answering.{done_answer, done_exact, files_exact, kept, 
 use Rattle.bt_top.proofs.FailedNames.{written_failed}
 use Rattle.bt_top.proofs.Headlines.{AreRunLaws, done_headline, refused_headline}
 use Rattle.bt_top.proofs.Offered.{done_offered, refused_offered}
+use Rattle.bt_top.proofs.Verified.{done_verified, refused_verified}
 use Rattle.bt_top.proofs.Vetted.{done_vetted, refused_vetted}
 use Rattle.bt_top.proofs.serve.perform.Goals as goal
 
@@ -57,12 +58,14 @@ pub returns-in-Err-clause-offered : goal.returns-in-Err-clause-offered
 returns-in-Err-clause-offered g c =
     let reads = c.in-Err.ensures.performs.reads in
     rw c.refused.ensures
-    (refused_offered _ reads.contents _ _ (kept (g.K.Sink.taken c.args.out.now)) (g.K.Sink.offers c.args.out.now) c.in-Err.refusal reads.came)
+    (refused_offered _ reads.contents _ _ (kept (g.K.Sink.taken c.args.out.now)) (Some c.args.order.now) (g.K.Sink.offers c.args.out.now) c.in-Err.refusal reads.came)
 
 pub returns-clause-offered : goal.returns-clause-offered
 returns-clause-offered g c =
+    let reads = c.in-Ok.ensures.performs.reads in
     rw c.reported.ensures
-    (done_offered _ _ _ c.in-Ok.outcome c.write_refusal-refusal.result c.write_refusal-refusal.ensures.wrote c.write_refusal-refusal.ensures.offered)
+    (done_offered c.args.order.now reads.contents _ _ _ c.in-Ok.outcome c.write_refusal-refusal.result reads.value c.write_refusal-refusal.ensures.wrote
+    c.write_refusal-refusal.ensures.offered)
 
 pub returns-in-Err-clause-fault_named : goal.returns-in-Err-clause-fault_named
 returns-in-Err-clause-fault_named g c = rw c.refused.ensures c.in-Err.ensures.fault_named
@@ -71,3 +74,14 @@ pub returns-clause-fault_named : goal.returns-clause-fault_named
 returns-clause-fault_named g c =
     rw c.reported.ensures
     (written_failed _ _ _ _ c.in-Ok.outcome.refused c.write_refusal-refusal.result _ c.write_refusal-refusal.ensures.wrote c.in-Ok.ensures.fault_named)
+
+pub returns-in-Err-clause-verified : goal.returns-in-Err-clause-verified
+returns-in-Err-clause-verified g c =
+    let reads = c.in-Err.ensures.performs.reads in
+    rw c.refused.ensures (refused_verified c.args.order.now _ _ reads.contents c.in-Err.refusal reads.came)
+
+pub returns-clause-verified : goal.returns-clause-verified
+returns-clause-verified g c =
+    let reads = c.in-Ok.ensures.performs.reads in
+    rw c.reported.ensures
+    (done_verified _ _ c.in-Ok.outcome c.write_refusal-refusal.result c.write_refusal-refusal.ensures.wrote c.args.order.now reads.contents reads.held reads.value)

@@ -9,6 +9,7 @@ use Rattle.bt_top.proofs.Answering.{is_complete, kept, on_order, words_answer}
 use Rattle.bt_top.proofs.Headlines.{refused_headline}
 use Rattle.bt_top.proofs.Offered.{usage_offered, words_offered}
 use Rattle.bt_top.proofs.Performing.{memory_complete, memory_exact, nothing_asked, nothing_asked_exactly}
+use Rattle.bt_top.proofs.Verified.{memory_verified}
 use Rattle.bt_top.proofs.Vetted.{memory_vetted}
 use Rattle.bt_top.proofs.serve.serve.Goals as goal
 
@@ -49,8 +50,12 @@ returns-in-Err-Memory-clause-asked_exactly g c =
 
 pub returns-in-Err-Memory-clause-offered : goal.returns-in-Err-Memory-clause-offered
 returns-in-Err-Memory-clause-offered g c =
-    rw c.refused-in-Err-Memory.ensures (words_offered _ (kept (g.K.Sink.taken c.args.out.now)) (g.K.Sink.offers c.args.out.now))
+    rw c.refused-in-Err-Memory.ensures (words_offered (order_of c.args.words.now) _ (kept (g.K.Sink.taken c.args.out.now)) (g.K.Sink.offers c.args.out.now))
 
 pub returns-in-Err-Usage-clause-offered : goal.returns-in-Err-Usage-clause-offered
 returns-in-Err-Usage-clause-offered g c =
-    rw c.refused.ensures (usage_offered _ (kept (g.K.Sink.taken c.args.out.now)) (g.K.Sink.offers c.args.out.now))
+    rw c.refused.ensures (usage_offered (order_of c.args.words.now) _ (kept (g.K.Sink.taken c.args.out.now)) (g.K.Sink.offers c.args.out.now))
+
+pub returns-in-Err-Memory-clause-verified : goal.returns-in-Err-Memory-clause-verified
+returns-in-Err-Memory-clause-verified g c =
+    rw c.refused-in-Err-Memory.ensures (memory_verified (order_of c.args.words.now) _ _)

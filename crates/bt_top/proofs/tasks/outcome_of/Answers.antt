@@ -1,10 +1,11 @@
-use Rattle.std.proofs.Common.{refl, subst}
-use Rattle.bt_words.specs.declared.order.Order.TheVariants.{Run, Check, Code, Vet, Gen}
+use Rattle.std.proofs.Common.{List, ℕ, refl, sym, subst, ◌∙◌}
+use Rattle.bt_words.specs.declared.order.Order.TheVariants.{Run, Check, Code, Vet, Account, Verify, Gen}
 use Rattle.run_base.specs.declared.job.Work.{Work}
 use Rattle.run_output.specs.declared.form.Form.{Form}
 use Rattle.bt_top.specs.Jobs.{IsJobFor}
-use Rattle.bt_top.specs.Orders.{on_script}
-use Rattle.bt_top.specs.Outcomes.{ComesTo, IsOutcomeOfRun, stats_line}
+use Rattle.bt_top.specs.Doing.{IsAccountJob}
+use Rattle.bt_top.specs.Orders.{on_account, on_script}
+use Rattle.bt_top.specs.Outcomes.{ComesTo, IsOutcomeOfRun, IsOutcomeOfVerify, stats_line}
 use Rattle.bt_top.proofs.Passing.{names_bodies}
 use Rattle.bt_top.proofs.Performing.{goes_on, made}
 use Rattle.bt_top.proofs.tasks.outcome_of.Goals as goal
@@ -55,3 +56,31 @@ returns-in_ok-vet_outcome-in-Vet-clause-performs g c =
 pub returns-in_ok-gen_outcome-in-Gen-clause-performs : goal.returns-in_ok-gen_outcome-in-Gen-clause-performs
 returns-in_ok-gen_outcome-in-Gen-clause-performs g c =
     rw c.in-Gen.is (made (ComesTo (Gen c.in-Gen.x c.in-Gen.n)) _ refl c.in_ok-gen_outcome-in-Gen.field-0 c.in_ok-gen_outcome-in-Gen.ensures)
+
+pub returns-in_ok-account_outcome-in-Account-clause-performs : goal.returns-in_ok-account_outcome-in-Account-clause-performs
+returns-in_ok-account_outcome-in-Account-clause-performs g c =
+    rw c.in-Account.is
+    (goes_on _ (IsJobFor (on_script c.in-Account.script c.in-Account.recording)) (ComesTo (Account c.in-Account.serial c.in-Account.script c.in-Account.recording)) _
+    c.in_ok-job-in-Account.job c.in_ok-account_outcome-in-Account.field-0
+    (rw (c.as_str-in-Account.ensures, c.as_str-in-Account-2.ensures) at c.in_ok-job-in-Account.ensures.performs)
+    (λ contents is. (c.in_ok-job-in-Account.job, is, c.in_ok-account_outcome-in-Account.ensures)))
+
+pub returns-in_ok-verify_outcome-in-Verify-clause-performs : goal.returns-in_ok-verify_outcome-in-Verify-clause-performs
+returns-in_ok-verify_outcome-in-Verify-clause-performs g c =
+    rw c.in-Verify.is
+    (goes_on _ (IsAccountJob (on_account c.in-Verify.script c.in-Verify.recording c.in-Verify.account))
+    (ComesTo (Verify c.in-Verify.script c.in-Verify.recording c.in-Verify.account)) _
+    c.in_ok-both-in-Verify.both c.in_ok-verify_outcome-in-Verify.field-0
+    (rw (c.as_str-in-Verify.ensures, c.as_str-in-Verify-2.ensures, c.as_str-in-Verify-3.ensures) at c.in_ok-both-in-Verify.ensures.performs)
+    (λ contents is. (
+      c.in_ok-both-in-Verify.both.job,
+      is.job,
+      subst (λ (bytes : List ℕ). IsOutcomeOfVerify c.in_ok-both-in-Verify.both.job bytes c.in_ok-verify_outcome-in-Verify.field-0)
+          (c.as_slice.ensures.value ∙ sym is.account) c.in_ok-verify_outcome-in-Verify.ensures,
+    )))
+
+pub returns-in_err-both-in-Verify-clause-performs : goal.returns-in_err-both-in-Verify-clause-performs
+returns-in_err-both-in-Verify-clause-performs g c = ?
+
+pub returns-in_err-verify_outcome-in-Verify-clause-performs : goal.returns-in_err-verify_outcome-in-Verify-clause-performs
+returns-in_err-verify_outcome-in-Verify-clause-performs g c = ?

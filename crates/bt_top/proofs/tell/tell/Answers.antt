@@ -18,6 +18,8 @@ returns-in-Script g c = rw (c.in-Script.is, ← c.operand_name.ensures) c.tell_s
 pub returns-in-Recording : goal.returns-in-Recording
 returns-in-Recording g c = rw (c.in-Recording.is, ← c.operand_name-in-Recording.ensures) c.tell_recording.ensures
 
-pub returns-in-RefusedCode : goal.returns-in-RefusedCode
-returns-in-RefusedCode g c =
-    rw (c.in-RefusedCode.is, ← c.operand_name-name.ensures, ← c.from.ensures) c.tell_numbered.ensures
+pub returns-in-LongAccount : goal.returns-in-LongAccount
+returns-in-LongAccount g c = rw (c.in-LongAccount.is, ← c.operand_name-in-LongAccount.ensures) c.write_line-in-LongAccount.ensures
+
+pub returns-in-Denied : goal.returns-in-Denied
+returns-in-Denied g c = rw c.in-Denied.is c.tell_denial.ensures
