@@ -1,16 +1,12 @@
 // Why a body has no code.
 use bt_core::memory::Memory;
-use thiserror::Error;
 
 /// Why there is no frame or no code for a body: its frame would have so many bytes, or its code so many slots, where there may
-/// be 512 and 4,096; or memory ran out.
-#[derive(Clone, Copy, PartialEq, Eq, Debug, Error)]
+/// be 512 and 4,096; or memory ran out. What a user reads of it is written where refusals are told.
+#[derive(Clone, Copy, PartialEq, Eq, Debug)]
 pub enum CodeError {
-    #[error("frame too large: {0} bytes")]
     FrameTooLarge(u64),
-    #[error("code too large: {0} slots")]
     CodeTooLarge(u64),
-    #[error("out of memory")]
     Memory,
 }
 

@@ -1,3 +1,4 @@
 pub mod Callings
 pub mod CanDo
+mod ToldBack
 pub mod ReadingLemmas
