@@ -1,4 +1,3 @@
 pub mod Callings
 pub mod CanDo
-mod ToldBack
 pub mod ReadingLemmas
