@@ -106,13 +106,12 @@ fn perform<S: Shelf, K: Sink, G: Gate + Sync, R: Threads + Wait + Sync>(
 /// does. A run on threads may wait for others at the locks of its objects.
 ///
 /// Refusals come in the order words, script read, recording read, account read, recording, lexing, parsing, attaching,
-/// typing, frame and code, check of the code or of the account, run, write. A file that is too long is refused at its read. A recording is refused with
-/// the first check that its bytes fail. A script is refused with the first lexical fault of its text, the
-/// first fault of its tokens by the grammar of the bpftrace language, the first of its points that may not
-/// be attached over this recording, the first rule of types that is broken in its bodies, in walk order, or
-/// the first body that is too large, each with line and column. Want of memory may come at any of them. Before the
-/// write nothing goes to `out`. What is refused is told by its line to `err`, and a fault there changes
-/// nothing else.
+/// typing, frame and code, check of the code or of the account, run, write. A file that is too long is refused at its
+/// read. A recording is refused with the first check that its bytes fail. A script is refused with the first lexical
+/// fault of its text, the first fault of its tokens by the grammar of the bpftrace language, the first of its points
+/// that may not be attached over this recording, the first rule of types that is broken in its bodies, in walk order,
+/// or the first body that is too large, each with line and column. Want of memory may come at any of them. Before the
+/// write nothing goes to `out`. What is refused is told by its line to `err`, and a fault there changes nothing else.
 pub fn serve<S: Shelf, K: Sink, E: Sink, G: Gate + Sync, R: Threads + Wait + Sync>(
     rt: &R,
     alloc: Global,
