@@ -40,7 +40,7 @@ use Rattle.bt_top.specs.declared.refusal.Refusal.{Refusal}
 use Rattle.bt_top.specs.declared.refusal.Refusal.TheVariants.{Usage, Script, Recording, ReadFault, WriteFault, Memory, LongAccount, Denied}
 use Rattle.bt_top.specs.Doing.{Wrote}
 use Rattle.bt_top.specs.Headline.{AccountsForItsSteps, AccountsOfFiles, AreStepsOf, Headline, IsSerialList, OnlyAdds, PrintsItsSteps, PrintsItsTotals, PrintsOfFiles, RanPrograms}
-use Rattle.bt_top.specs.Jobs.{AsksFor, IsBigJob, IsJobFor, IsWorkOf, meaning_of}
+use Rattle.bt_top.specs.Jobs.{AsksFor, IsBigJob, IsJobFor, IsWorkOf, meaning_in, meaning_of}
 use Rattle.bt_top.specs.Lines.{SinkUse}
 use Rattle.bt_top.specs.Meanings.{Meaning, IsBigMeaning, IsMeaningFor, Means}
 use Rattle.bt_top.specs.Orders.{OperandFile, files_of, form_of}
@@ -95,10 +95,7 @@ pub record AreRunLaws : Type 0 where
   pub totals : (script : Typed) (attached : Attached) (r : Recorded) (steps : List Step) → IsAddingRun script attached r steps
       → EndsWithTotals script attached r steps
 
--- the meaning of a job, and that of the files or of the numbers that ask for it
-abbrev pub meaning_in : Job → Meaning
-meaning_in job = record { recording = job.recording; attached = job.attached; typed = job.typed }
-
+-- the meaning of a job is that of the files or of the numbers that ask for it
 means_job : (text : List ℕ) (job : Job) → AsksFor text job → Means text (meaning_in job)
 means_job text job asks = record {
   tree = asks.tree;

@@ -6,6 +6,7 @@ mod Headlines
 mod LineLaws
 mod Listed
 mod Making
+mod OneMeaning
 mod OneRead
 mod Offered
 mod Passing

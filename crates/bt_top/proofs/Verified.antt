@@ -19,7 +19,7 @@ use Rattle.bt_top.specs.declared.refusal.Refusal.{Refusal}
 use Rattle.bt_top.specs.declared.refusal.Refusal.TheVariants.{Usage, Script, Recording, ReadFault, WriteFault, Memory, LongAccount, Denied}
 use Rattle.bt_top.specs.Doing.{Wrote, WroteBytes}
 use Rattle.bt_top.specs.Due.{IsDue, IsFinding, IsTooLong}
-use Rattle.bt_top.specs.Jobs.{IsJobFor}
+use Rattle.bt_top.specs.Jobs.{IsJobFor, meaning_in}
 use Rattle.bt_top.specs.Lines.{SinkUse}
 use Rattle.bt_top.specs.Orders.{OperandFile, files_of, on_account, on_script}
 use Rattle.bt_top.specs.Outcomes.{ComesTo, IsOutcomeOfVerify, account_in, bytes_written, verify_outcome}
@@ -27,7 +27,7 @@ use Rattle.bt_top.specs.Refusals.{status_of, too_long}
 use Rattle.bt_top.specs.Serve.{ShelfUse, ShelfFailed, AreContentsOf, MayCome, MayDeny}
 use Rattle.bt_top.specs.Verified.{IsVerified, IsVerifiedUnlessRefused, IsWrong, IsWrongBy, Verified}
 use Rattle.bt_top.proofs.Answering.{DeniedBy, denial_not_due, denied_by, refused_report, report_of, same_why, some_why}
-use Rattle.bt_top.proofs.Headlines.{meaning_in, means_files}
+use Rattle.bt_top.proofs.Headlines.{means_files}
 
 -- ---- of `verify`
 

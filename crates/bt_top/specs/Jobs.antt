@@ -22,6 +22,7 @@ use Rattle.run_output.specs.Outputs.{output_of}
 use Rattle.script_programs.specs.Programs.{AreCodesOf, KeepScript}
 use Rattle.script_programs.specs.Sizes.{first_size_fault}
 use Rattle.bt_top.specs.Due.{AreShort, IsRecording, IsAcceptedScript}
+use Rattle.bt_top.specs.Meanings.{Meaning}
 use Rattle.bt_top.specs.Orders.{OperandFile}
 
 -- ---- jobs
@@ -56,6 +57,10 @@ pub record IsBigJob (seed count : ℕ) (job : Job) : Type 0 where
   pub made : IsMade seed count job.recording
   pub valid : IsValidRecording job.recording
   pub asks : AsksFor SCRIPT job
+
+-- its meaning: the same without programs
+abbrev pub meaning_in : Job → Meaning
+meaning_in job = record { recording = job.recording; attached = job.attached; typed = job.typed }
 
 -- ---- work
 

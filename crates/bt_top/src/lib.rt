@@ -4,6 +4,7 @@
 mod accounts;
 mod files;
 mod judge;
+pub mod laws;
 pub mod limits;
 mod line;
 mod listing;
