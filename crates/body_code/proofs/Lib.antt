@@ -44,6 +44,7 @@ pub mod Loops
 pub mod LoopForm
 pub mod Under
 pub mod Landings
+pub mod Aims
 pub mod Asked
 pub mod Summed
 pub mod HeldNumbers

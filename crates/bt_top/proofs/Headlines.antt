@@ -24,7 +24,7 @@ use Rattle.bt_words.specs.declared.order.Order.{Order}
 use Rattle.bt_words.specs.declared.order.Order.TheVariants.{Run, Check, Code, Vet, Account, Verify, Gen, Big}
 use Rattle.run_base.specs.declared.job.Job.{Job}
 use Rattle.run_base.specs.declared.job.Work.{Work}
-use Rattle.run_laws.specs.Reads.{ReadsSeeBeginnings}
+use Rattle.run_laws.specs.Reads.{AddsAreOwn, ReadsSeeBeginnings}
 use Rattle.run_output.specs.declared.form.Form.{Form}
 use Rattle.run_output.specs.declared.form.Form.TheVariants.{Text}
 use Rattle.rec_format.specs.declared.recording.Recording.{Recording as Recorded}
@@ -89,6 +89,8 @@ pub record AreRunLaws : Type 0 where
   pub ticks : (script : Typed) (attached : Attached) (r : Recorded) (steps : List Step) → IsJob script attached r
       → IsInterleaving (replay_of script attached r) steps → TicksComeAfter (replay_of script attached r) steps
   pub reads : (p : Replay) (steps : List Step) → IsInterleaving p steps → ReadsSeeBeginnings p steps
+  pub own_adds : (script : Typed) (attached : Attached) (r : Recorded) (steps : List Step) → IsJob script attached r
+      → IsInterleaving (replay_of script attached r) steps → AddsAreOwn steps
   pub only : (seed count : ℕ) (r : Recorded) (typed : Typed) → IsMade seed count r → IsTypedOver r typed → IsAggregationOnly typed
   pub few : (seed count : ℕ) (r : Recorded) (attached : Attached) (typed : Typed) → IsMade seed count r → IsAttachedOver r attached → IsTypedOver r typed
       → HaveFewKeys typed attached r
@@ -142,6 +144,7 @@ module _ (laws : AreRunLaws) (seen : ShelfUse) (out : SinkUse) (outcome : Outcom
     replayed = replayed;
     ticks = laws.ticks job.typed job.attached job.recording steps can replayed.interleaving;
     reads = laws.reads (meaning_of job) steps replayed.interleaving;
+    own_adds = laws.own_adds job.typed job.attached job.recording steps can replayed.interleaving;
     totals = adds job steps can replayed.interleaving;
   }
 

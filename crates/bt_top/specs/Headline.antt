@@ -19,7 +19,7 @@ use Rattle.bt_words.specs.declared.order.Order.{Order}
 use Rattle.bt_words.specs.declared.order.Order.TheVariants.{Run, Account, Big}
 use Rattle.code_bodies.specs.Coding.{code_replay}
 use Rattle.run_base.specs.declared.job.Work.{Work}
-use Rattle.run_laws.specs.Reads.{ReadsSeeBeginnings}
+use Rattle.run_laws.specs.Reads.{AddsAreOwn, ReadsSeeBeginnings}
 use Rattle.run_output.specs.declared.form.Form.{Form}
 use Rattle.run_output.specs.declared.form.Form.TheVariants.{Text}
 use Rattle.run_output.specs.Outputs.{output_of}
@@ -39,11 +39,12 @@ pub record OnlyAdds (m : Meaning) (steps : List Step) : Type 0 where
 
 -- One list of all steps at maps, clock and output, whoever made them, in the order of their stamps, in which each CPU's events keep their order,
 -- every answer follows from the steps before it, and each tick comes after every event recorded before it. What is read of a CPU's table while it
--- adds there is a beginning of what it adds. Where the script only adds and prints, the text ends with exactly the totals.
+-- adds there is a beginning of what it adds, and nobody else adds there. Where the script only adds and prints, the text ends with exactly the totals.
 pub record AreStepsOf (m : Meaning) (steps : List Step) : Type 0 where
   pub replayed : IsReplayed (replay_by m) steps
   pub ticks : TicksComeAfter (replay_by m) steps
   pub reads : ReadsSeeBeginnings (replay_by m) steps
+  pub own_adds : AddsAreOwn steps
   pub totals : OnlyAdds m steps → EndsWithTotals m.typed m.attached m.recording steps
 
 -- The bytes written are exactly those that the script's own meaning prints under the list of steps that is handed back with them, as text

@@ -1,1 +1,2 @@
 mod ProgramCalls
+mod StepCalls

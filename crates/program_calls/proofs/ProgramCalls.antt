@@ -13,8 +13,9 @@ use Rattle.rec_format.specs.declared.recording.Recording.{Recording}
 use Rattle.typed_tree.specs.declared.body.TypedBody.{TypedBody}
 use Rattle.typed_tree.specs.declared.script.Typed.{Typed}
 use Rattle.walk_meaning.specs.Walk.{walk}
-use Rattle.actor_plan.specs.Plans.{AsksOf}
-use Rattle.actor_plan.proofs.AskLaws.{program_asks}
+use Rattle.actor_plan.specs.Plans.{Plan, AsksOf, BodiesAsk}
+use Rattle.actor_plan.specs.Programs.{begin_program, cpu_program, end_program}
+use Rattle.actor_plan.proofs.AskLaws.{program_asks, begin_asks, cpu_asks, end_asks}
 use Rattle.bt_meaning.specs.Jobs.{IsJob}
 use Rattle.bt_meaning.specs.Walks.{walked, walking, replay_of}
 use Rattle.begun_lists.specs.Begun.{program_of}
@@ -40,11 +41,23 @@ walked_calls None context payload actor actors = tt
 walked_calls (Some body) context payload actor actors =
     only-then (IsWalkCall actor) (walk body context payload actor actors) (λ ending. Ended 0) (walk_calls body context payload actor actors) (λ ending. tt)
 
--- whatever is replied in its kind
-pub programs_call : (script : Typed) (attached : Attached) (r : Recording) → IsJob script attached r → (actor : ℕ)
-    → AsksOf (IsProgramCall actor) script.maps (program_of (replay_of script attached r) actor)
-programs_call script attached r job actor =
-    program_asks (IsProgramCall actor) script.maps (walking script (length r.cpus + 1) actor) r attached job.valid (job.bodies actor) tt (λ tick lt. tt) (λ number count. tt)
-    (λ body context payload can. asks actor script.maps (walked (slice_get script.bodies body) context payload actor (length r.cpus + 1))
-    (walked_calls (slice_get script.bodies body) context payload actor (length r.cpus + 1)))
-    script.uses_exit
+module _ (script : Typed) (attached : Attached) (r : Recording) (job : IsJob script attached r) (actor : ℕ) where
+  abbrev plan : Plan
+  plan = walking script (length r.cpus + 1) actor
+
+  bodies_call : BodiesAsk (IsProgramCall actor) script.maps plan
+  bodies_call body context payload can = asks actor script.maps (walked (slice_get script.bodies body) context payload actor (length r.cpus + 1))
+      (walked_calls (slice_get script.bodies body) context payload actor (length r.cpus + 1))
+
+  -- whatever is replied in its kind
+  pub programs_call : AsksOf (IsProgramCall actor) script.maps (program_of (replay_of script attached r) actor)
+  programs_call = program_asks (IsProgramCall actor) script.maps plan r attached job.valid (job.bodies actor) tt (λ tick lt. tt) (λ number count. tt) bodies_call script.uses_exit
+
+  pub begin_call : AsksOf (IsProgramCall actor) script.maps (begin_program plan r attached)
+  begin_call = begin_asks (IsProgramCall actor) script.maps plan r attached job.valid (job.bodies actor) tt (λ tick lt. tt) (λ number count. tt) bodies_call
+
+  pub cpu_call : AsksOf (IsProgramCall actor) script.maps (cpu_program plan script.uses_exit r attached)
+  cpu_call = cpu_asks (IsProgramCall actor) script.maps plan r attached job.valid (job.bodies actor) tt (λ tick lt. tt) (λ number count. tt) bodies_call script.uses_exit
+
+  pub end_call : AsksOf (IsProgramCall actor) script.maps (end_program plan r attached)
+  end_call = end_asks (IsProgramCall actor) script.maps plan r attached job.valid (job.bodies actor) tt (λ tick lt. tt) (λ number count. tt) bodies_call

@@ -1,2 +1,3 @@
 mod Leaving
 mod ReadLemmas
+mod OwnAdds

@@ -39,3 +39,10 @@ pub record SeesBeginning (p : Replay) (actor : ℕ) (steps before : List Step) (
 abbrev pub ReadsSeeBeginnings : Replay → List Step → Type 0
 ReadsSeeBeginnings p steps =
     (actor : ℕ) (map : MapId) → AtEach (λ before s. s.object ≡ Cpu actor → s.op ≡ Read map → SeesBeginning p actor steps before s) steps
+
+-- The adds among the operations at an actor's tables are exactly those of the actor itself, a CPU or the main actor, in its order, up to each
+-- place of the list. So the reply of a read there is the answer after what the actor itself added before it, and what was cleared and
+-- zeroed there.
+abbrev pub AddsAreOwn : List Step → Type 0
+AddsAreOwn steps =
+    (actor : ℕ) (before after : List Step) → steps ≡ before ++ after → filter is_add (changes_at actor before) ≡ operations (add_steps_of actor before)

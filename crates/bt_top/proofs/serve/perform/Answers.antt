@@ -39,6 +39,7 @@ returns-clause-headline g c =
       jobs = c.accepted_scripts_are_jobs.ensures;
       ticks = c.ticks_come_after.ensures.script;
       reads = c.reads_see_beginnings.ensures;
+      own_adds = c.adds_are_own.ensures;
       only = c.script_only_adds.ensures.only;
       few = c.script_only_adds.ensures.few;
       totals = c.totals_are_exact.ensures;
