@@ -1,4 +1,5 @@
 use Rattle.std.proofs.Common.{List, ℕ, refl, sym, subst, ◌∙◌}
+use Rattle.std.proofs.lemmas.Result.{err_from_is_err_and}
 use Rattle.bt_words.specs.declared.order.Order.TheVariants.{Run, Check, Code, Vet, Account, Verify, Gen}
 use Rattle.run_base.specs.declared.job.Work.{Work}
 use Rattle.run_output.specs.declared.form.Form.{Form}
@@ -7,7 +8,7 @@ use Rattle.bt_top.specs.Doing.{IsAccountJob}
 use Rattle.bt_top.specs.Orders.{on_account, on_script}
 use Rattle.bt_top.specs.Outcomes.{ComesTo, IsOutcomeOfRun, IsOutcomeOfVerify, stats_line}
 use Rattle.bt_top.proofs.Passing.{names_bodies}
-use Rattle.bt_top.proofs.Performing.{goes_on, made}
+use Rattle.bt_top.proofs.Performing.{goes_on, made, runs_out, stays_refused}
 use Rattle.bt_top.proofs.tasks.outcome_of.Goals as goal
 
 pub returns-in_ok-run_outcome-in-Run-clause-performs : goal.returns-in_ok-run_outcome-in-Run-clause-performs
@@ -80,7 +81,18 @@ returns-in_ok-verify_outcome-in-Verify-clause-performs g c =
     )))
 
 pub returns-in_err-both-in-Verify-clause-performs : goal.returns-in_err-both-in-Verify-clause-performs
-returns-in_err-both-in-Verify-clause-performs g c = ?
+returns-in_err-both-in-Verify-clause-performs g c =
+    let p = err_from_is_err_and c.from_residual-in_err-both-in-Verify.result c.from_residual-in_err-both-in-Verify.ensures.1 in
+    rw (c.in-Verify.is, p.1, p.2)
+    (stays_refused (on_account c.in-Verify.script c.in-Verify.recording c.in-Verify.account)
+    (IsAccountJob (on_account c.in-Verify.script c.in-Verify.recording c.in-Verify.account))
+    (ComesTo (Verify c.in-Verify.script c.in-Verify.recording c.in-Verify.account)) _ c.in_err-both-in-Verify.field-0.0
+    (rw (c.as_str-in-Verify.ensures, c.as_str-in-Verify-2.ensures, c.as_str-in-Verify-3.ensures) at c.in_err-both-in-Verify.ensures.performs))
 
 pub returns-in_err-verify_outcome-in-Verify-clause-performs : goal.returns-in_err-verify_outcome-in-Verify-clause-performs
-returns-in_err-verify_outcome-in-Verify-clause-performs g c = ?
+returns-in_err-verify_outcome-in-Verify-clause-performs g c =
+    let p = err_from_is_err_and c.from_residual-in_err-verify_outcome-in-Verify.result c.from_residual-in_err-verify_outcome-in-Verify.ensures.1 in
+    rw (c.in-Verify.is, p.1, p.2)
+    (runs_out _ _ (IsAccountJob (on_account c.in-Verify.script c.in-Verify.recording c.in-Verify.account))
+    (ComesTo (Verify c.in-Verify.script c.in-Verify.recording c.in-Verify.account)) _ c.in_ok-both-in-Verify.both
+    (rw (c.as_str-in-Verify.ensures, c.as_str-in-Verify-2.ensures, c.as_str-in-Verify-3.ensures) at c.in_ok-both-in-Verify.ensures.performs))
