@@ -169,11 +169,10 @@ module _ (held : List ℕ → Option (List ℕ)) (file : OperandFile) (more : Li
   front_short [] (t ∷ texts) contents are told = absurd are
   front_short (f ∷ front) [] contents are told = absurd are
   front_short (f ∷ front) (t ∷ texts) [] are told = absurd told
-  front_short (f ∷ front) (t ∷ texts) (bytes ∷ contents) are told =
-      (
-        subst (λ (l : List ℕ). length l ≤ limit_of f.operand) (same_told (held f.name) t bytes are.0.told told.0) are.0.fits,
-        front_short front texts contents are.1 told.1,
-      )
+  front_short (f ∷ front) (t ∷ texts) (bytes ∷ contents) are told = (
+    subst (λ (l : List ℕ). length l ≤ limit_of f.operand) (same_told (held f.name) t bytes are.0.told told.0) are.0.fits,
+    front_short front texts contents are.1 told.1,
+  )
 
   -- the read of the file is reached
   reached : (front : List OperandFile) (texts : List (List ℕ)) (bytes : List ℕ) (others : List (List ℕ)) → AreRead held front texts

@@ -46,8 +46,8 @@ returns-in-Err-read_file-2-clause-performs g c =
     let middle = shelf_use g.S.Shelf.held g.S.Shelf.faults g.S.Shelf.asked c.read_file.new.shelf c.read_file-3.new.shelf in
     let between = shelf_use g.S.Shelf.held g.S.Shelf.faults g.S.Shelf.asked c.read_file-2.new.shelf c.read_file-3.new.shelf in
     let second : IsRead held (file_of Recording c.args.recording.now) c.in-Ok-read_file.bytes.items =
-        read_from held (g.S.Shelf.held c.read_file.new.shelf) (file_of Recording c.args.recording.now) c.in-Ok-read_file.bytes.items
-        c.read_file.ensures.kept c.in-Ok-read_file.ensures.read in
+    read_from held (g.S.Shelf.held c.read_file.new.shelf) (file_of Recording c.args.recording.now) c.in-Ok-read_file.bytes.items
+    c.read_file.ensures.kept c.in-Ok-read_file.ensures.read in
     let both = two_asked _ _ _ (c.args.script.now ∷ []) c.args.recording.now c.in-Ok.ensures.named c.in-Ok-read_file.ensures.named in
     file_unread seen (file_of Account c.args.account.now) [] (file_of Script c.args.script.now ∷ file_of Recording c.args.recording.now ∷ [])
     (c.in-Ok.text.items ∷ c.in-Ok-read_file.bytes.items ∷ []) c.in-Err-read_file-2.refusal (c.in-Ok.ensures.read, (second, tt))
@@ -72,11 +72,11 @@ returns-in-Ok-judge-clause-performs g c =
     let text = c.as_slice.result.now in let bytes = c.in-Ok-read_file.bytes.items in let account = c.in-Ok-read_file-2.account.items in
     let first : IsRead held (file_of Script c.args.script.now) text = rw c.as_slice.ensures.value c.in-Ok.ensures.read in
     let second : IsRead held (file_of Recording c.args.recording.now) bytes =
-        read_from held (g.S.Shelf.held c.read_file.new.shelf) (file_of Recording c.args.recording.now) bytes c.read_file.ensures.kept c.in-Ok-read_file.ensures.read in
+    read_from held (g.S.Shelf.held c.read_file.new.shelf) (file_of Recording c.args.recording.now) bytes c.read_file.ensures.kept c.in-Ok-read_file.ensures.read in
     let third : IsRead held (file_of Account c.args.account.now) account =
-        read_from held (g.S.Shelf.held c.read_file.new.shelf) (file_of Account c.args.account.now) account c.read_file.ensures.kept
-        (read_from (g.S.Shelf.held c.read_file.new.shelf) (g.S.Shelf.held c.read_file-2.new.shelf) (file_of Account c.args.account.now) account
-        c.read_file-2.ensures.kept c.in-Ok-read_file-2.ensures.read) in
+    read_from held (g.S.Shelf.held c.read_file.new.shelf) (file_of Account c.args.account.now) account c.read_file.ensures.kept
+    (read_from (g.S.Shelf.held c.read_file.new.shelf) (g.S.Shelf.held c.read_file-2.new.shelf) (file_of Account c.args.account.now) account
+    c.read_file-2.ensures.kept c.in-Ok-read_file-2.ensures.read) in
     all_read _ (file_of Script c.args.script.now) (file_of Recording c.args.recording.now ∷ file_of Account c.args.account.now ∷ [])
     (text ∷ bytes ∷ account ∷ []) (first, (second, (third, tt))) (Ok _) _
     (record { job = record { short = (first.fits, (second.fits, (third.fits, tt))); of = c.in-Ok-judge.ensures.job }; account = refl })
@@ -90,11 +90,11 @@ returns-clause-performs g c =
     let text = c.as_slice.result.now in let bytes = c.in-Ok-read_file.bytes.items in let account = c.in-Ok-read_file-2.account.items in
     let first : IsRead held (file_of Script c.args.script.now) text = rw c.as_slice.ensures.value c.in-Ok.ensures.read in
     let second : IsRead held (file_of Recording c.args.recording.now) bytes =
-        read_from held (g.S.Shelf.held c.read_file.new.shelf) (file_of Recording c.args.recording.now) bytes c.read_file.ensures.kept c.in-Ok-read_file.ensures.read in
+    read_from held (g.S.Shelf.held c.read_file.new.shelf) (file_of Recording c.args.recording.now) bytes c.read_file.ensures.kept c.in-Ok-read_file.ensures.read in
     let third : IsRead held (file_of Account c.args.account.now) account =
-        read_from held (g.S.Shelf.held c.read_file.new.shelf) (file_of Account c.args.account.now) account c.read_file.ensures.kept
-        (read_from (g.S.Shelf.held c.read_file.new.shelf) (g.S.Shelf.held c.read_file-2.new.shelf) (file_of Account c.args.account.now) account
-        c.read_file-2.ensures.kept c.in-Ok-read_file-2.ensures.read) in
+    read_from held (g.S.Shelf.held c.read_file.new.shelf) (file_of Account c.args.account.now) account c.read_file.ensures.kept
+    (read_from (g.S.Shelf.held c.read_file.new.shelf) (g.S.Shelf.held c.read_file-2.new.shelf) (file_of Account c.args.account.now) account
+    c.read_file-2.ensures.kept c.in-Ok-read_file-2.ensures.read) in
     all_read _ (file_of Script c.args.script.now) (file_of Recording c.args.recording.now ∷ file_of Account c.args.account.now ∷ [])
     (text ∷ bytes ∷ account ∷ []) (first, (second, (third, tt))) (Err c.in-Err-judge.refusal) _ tt c.in-Err-judge.ensures.refused c.in-Err-judge.ensures.exact
     (two_asked _ _ _ (c.args.script.now ∷ c.args.recording.now ∷ []) c.args.account.now

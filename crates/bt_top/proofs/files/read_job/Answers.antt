@@ -43,8 +43,8 @@ returns-clause-performs g c =
     let text = c.as_slice.result.now in let bytes = c.in-Ok-read_file.bytes.items in
     let first : IsRead (g.S.Shelf.held c.args.shelf.now) (file_of Script c.args.script.now) text = rw c.as_slice.ensures.value c.in-Ok.ensures.read in
     let second : IsRead (g.S.Shelf.held c.args.shelf.now) (file_of Recording c.args.recording.now) bytes =
-        read_from (g.S.Shelf.held c.args.shelf.now) (g.S.Shelf.held c.read_file.new.shelf) (file_of Recording c.args.recording.now) bytes
-        c.read_file.ensures.kept c.in-Ok-read_file.ensures.read in
+    read_from (g.S.Shelf.held c.args.shelf.now) (g.S.Shelf.held c.read_file.new.shelf) (file_of Recording c.args.recording.now) bytes
+    c.read_file.ensures.kept c.in-Ok-read_file.ensures.read in
     all_read _ (file_of Script c.args.script.now) (file_of Recording c.args.recording.now ∷ []) (text ∷ bytes ∷ []) (first, (second, tt)) c.judge.result _
     (both_jobs (on_script c.args.script.now c.args.recording.now) text bytes [] c.judge.result (first.fits, (second.fits, tt)) c.judge.ensures.job)
     (found_of text bytes [] c.judge.result c.judge.ensures.refused) c.judge.ensures.exact
