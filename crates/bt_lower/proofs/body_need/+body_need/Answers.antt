@@ -23,7 +23,7 @@ stmt_need-returns-in_ok-greater-in-If-clause-need t c =
 pub stmt_need-returns-in_err-greater-in-If-clause-beyond : goal.stmt_need-returns-in_err-greater-in-If-clause-beyond
 stmt_need-returns-in_err-greater-in-If-clause-beyond t c =
     let whole : greater c.loop-left.all c.in_ok-otherwise-in-If.otherwise ≡ stmt_need c.args.s.now =
-        if-sum _ _ _ _ _ _ _ _ c.in-If.is c.as_slice-arms.ensures (omega (arith, c.loop-left-test.false)) c.loop-left.invariant.sums c.in_ok-otherwise-in-If.ensures.need refl in
+    if-sum _ _ _ _ _ _ _ _ c.in-If.is c.as_slice-arms.ensures (omega (arith, c.loop-left-test.false)) c.loop-left.invariant.sums c.in_ok-otherwise-in-If.ensures.need refl in
     let beyond = subst IsTooMuch whole c.in_err-greater-in-If.ensures.beyond in
     search rules
 

@@ -15,8 +15,10 @@ program_of-requires c =
     let probes = c.as_slice-probe-items.result.now in
     let lowers : LowersScript c.args.script.now probes = subst (LowersScript c.args.script.now) (sym c.as_slice-probe-items.ensures)
     (script_still_lowered c.args.script.now _ _ c.in_ok-lowered.ensures c.in_ok-probes.ensures) in
-    record { fits = probe_fits c.args.script.now probes c.loop-probe.probe-index c.probe-item.result lowers c.loop-probe-test.true c.probe-item.is
-    (ap (first_size_fault 0) (sym c.as_slice.ensures) ∙ c.in_ok-check_sizes.ensures.fit) }
+    record {
+      fits = probe_fits c.args.script.now probes c.loop-probe.probe-index c.probe-item.result lowers c.loop-probe-test.true c.probe-item.is
+          (ap (first_size_fault 0) (sym c.as_slice.ensures) ∙ c.in_ok-check_sizes.ensures.fit);
+    }
 
 pub loop-probe-preserved : goal.loop-probe-preserved
 loop-probe-preserved c =
