@@ -12,6 +12,7 @@ pub mod Jumps
 pub mod Lists
 pub mod Loops
 pub mod Maps
+pub mod Needing
 pub mod Opening
 pub mod Patches
 pub mod Placed

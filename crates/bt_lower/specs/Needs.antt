@@ -1,6 +1,6 @@
 -- What the code of a typed body needs: bytes of frame and slots of code. Both are sums over the tree, and do not depend on how code
 -- is generated.
-use Rattle.std.specs.Prelude.{ℕ, ◌+◌, max, List, [], ◌∷◌, Option, Some, None, map, option_map}
+use Rattle.std.specs.Prelude.{ℕ, ◌+◌, ◌≤◌, ◌^◌, max, List, [], ◌∷◌, Option, Some, None, map, option_map}
 use Rattle.typed_tree.specs.declared.body.TypedTree.{TypedTree}
 use Rattle.typed_tree.specs.declared.expr.AnyExpr.{AnyExpr, fold-AnyExpr}
 use Rattle.typed_tree.specs.declared.expr.NumExpr.{NumExpr, fold-NumExpr}
@@ -20,6 +20,13 @@ use Rattle.bt_lower.specs.declared.need.Listed.{Listed}
 -- so many bytes of frame and slots
 abbrev pub need : ℕ → ℕ → Need
 need frame code = record { frame = frame; code = code }
+
+-- that it is beyond every number of 64 bits
+abbrev pub IsTooMuch : Need → Type 0
+IsTooMuch n = 2 ^ 64 ≤ max n.frame n.code
+
+abbrev pub IsTooMuchListed : Listed → Type 0
+IsTooMuchListed all = 2 ^ 64 ≤ max all.sizes (max all.need.frame all.need.code)
 
 -- an expression by the bytes of its value and what it needs
 abbrev pub valued : ℕ → Need → Valued

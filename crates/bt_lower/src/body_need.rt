@@ -1,7 +1,7 @@
 // What statements and bodies need.
-ghost use Rattle.std.specs.Prelude.{◌≡◌, ◌+◌, IfOk};
+ghost use Rattle.std.specs.Prelude.{◌≡◌, ◌+◌, IfOk, OnErr};
 ghost use Rattle.ir_code.specs.Figures.{by_shape};
-ghost use Rattle.bt_lower.specs.Needs.{need, more, greater, set_map_need, update_map_need, taking_need, stmt_need, block_need, arm_need, tree_else_need, gather_need, number_need, value_need, values_need, tree_need};
+ghost use Rattle.bt_lower.specs.Needs.{need, more, greater, set_map_need, update_map_need, taking_need, stmt_need, block_need, arm_need, tree_else_need, gather_need, number_need, value_need, values_need, tree_need, IsTooMuch};
 
 use crate::need::{
     Need, figures, greater, jump_need, more, number_need, predicate_need, sizes_of, sum, under,
@@ -25,7 +25,8 @@ fn store_slots(shape: Shape) -> u64
 
 /// So many slots more behind.
 fn and_code(n: Need, code: u64) -> Result<Need, Memory>
-    ensures { IfOk result (λ all. all ≡ need n.frame (n.code + code)) }
+    ensures need { IfOk result (λ all. all ≡ need n.frame (n.code + code)) }
+    ensures beyond { OnErr result (IsTooMuch (need n.frame (n.code + code))) }
 {
     let code = sum(n.code, code)?;
     Ok(figures(n.frame, code))
@@ -33,7 +34,8 @@ fn and_code(n: Need, code: u64) -> Result<Need, Memory>
 
 /// What an aggregation needs.
 fn gather_need(keys: &[AnyExpr], number: &Option<NumExpr>) -> Result<Need, Memory>
-    ensures { IfOk result (λ n. n ≡ gather_need (values_need keys.now) number.now) }
+    ensures need { IfOk result (λ n. n ≡ gather_need (values_need keys.now) number.now) }
+    ensures beyond { OnErr result (IsTooMuch (gather_need (values_need keys.now) number.now)) }
 {
     let keys = values_need(keys)?;
     match number {
@@ -48,7 +50,8 @@ fn gather_need(keys: &[AnyExpr], number: &Option<NumExpr>) -> Result<Need, Memor
 
 /// What an assignment to a map needs.
 fn set_map_need(keys: &[AnyExpr], value: &AnyExpr) -> Result<Need, Memory>
-    ensures { IfOk result (λ n. n ≡ set_map_need (values_need keys.now) (value_need value.now).need) }
+    ensures need { IfOk result (λ n. n ≡ set_map_need (values_need keys.now) (value_need value.now).need) }
+    ensures beyond { OnErr result (IsTooMuch (set_map_need (values_need keys.now) (value_need value.now).need)) }
 {
     let keys = values_need(keys)?;
     let value = value_need(value)?;
@@ -58,7 +61,8 @@ fn set_map_need(keys: &[AnyExpr], value: &AnyExpr) -> Result<Need, Memory>
 
 /// What `op=` on a map needs.
 fn update_map_need(keys: &[AnyExpr], value: &NumExpr) -> Result<Need, Memory>
-    ensures { IfOk result (λ n. n ≡ update_map_need (values_need keys.now) (number_need value.now)) }
+    ensures need { IfOk result (λ n. n ≡ update_map_need (values_need keys.now) (number_need value.now)) }
+    ensures beyond { OnErr result (IsTooMuch (update_map_need (values_need keys.now) (number_need value.now))) }
 {
     let keys = values_need(keys)?;
     let value = number_need(value)?;
@@ -68,7 +72,8 @@ fn update_map_need(keys: &[AnyExpr], value: &NumExpr) -> Result<Need, Memory>
 
 /// What a statement needs that takes values alone.
 fn taking_need(values: &[AnyExpr]) -> Result<Need, Memory>
-    ensures { IfOk result (λ n. n ≡ taking_need (values_need values.now)) }
+    ensures need { IfOk result (λ n. n ≡ taking_need (values_need values.now)) }
+    ensures beyond { OnErr result (IsTooMuch (taking_need (values_need values.now))) }
 {
     let values = values_need(values)?;
     Ok(more(16, values.need)?)
@@ -77,7 +82,8 @@ fn taking_need(values: &[AnyExpr]) -> Result<Need, Memory>
 /// What a statement needs.
 #[cycle(body_need)]
 pub fn stmt_need(s: &TypedStmt) -> Result<Need, Memory>
-    ensures { IfOk result (λ n. n ≡ stmt_need s.now) }
+    ensures need { IfOk result (λ n. n ≡ stmt_need s.now) }
+    ensures beyond { OnErr result (IsTooMuch (stmt_need s.now)) }
 {
     match s {
         TypedStmt::SetVar { value, .. } => {
@@ -129,7 +135,8 @@ pub fn stmt_need(s: &TypedStmt) -> Result<Need, Memory>
 /// What a block needs.
 #[cycle(body_need)]
 pub fn block_need(block: &TypedBlock) -> Result<Need, Memory>
-    ensures { IfOk result (λ n. n ≡ block_need block.now) }
+    ensures need { IfOk result (λ n. n ≡ block_need block.now) }
+    ensures beyond { OnErr result (IsTooMuch (block_need block.now)) }
 {
     let stmts = block.stmts.as_slice();
     let mut all = figures(0, 0);
@@ -145,7 +152,8 @@ pub fn block_need(block: &TypedBlock) -> Result<Need, Memory>
 /// What an arm of an `if` needs.
 #[cycle(body_need)]
 fn arm_need(block: &TypedBlock, test: &NumExpr) -> Result<Need, Memory>
-    ensures { IfOk result (λ n. n ≡ arm_need (test.now, block_need block.now)) }
+    ensures need { IfOk result (λ n. n ≡ arm_need (test.now, block_need block.now)) }
+    ensures beyond { OnErr result (IsTooMuch (arm_need (test.now, block_need block.now))) }
 {
     let test = number_need(test)?;
     let block = block_need(block)?;
@@ -156,7 +164,8 @@ fn arm_need(block: &TypedBlock, test: &NumExpr) -> Result<Need, Memory>
 /// What the block of an `else` needs, where there is one.
 #[cycle(body_need)]
 fn otherwise_need(otherwise: &Option<TypedBlock>) -> Result<Need, Memory>
-    ensures { IfOk result (λ n. n ≡ tree_else_need otherwise.now) }
+    ensures need { IfOk result (λ n. n ≡ tree_else_need otherwise.now) }
+    ensures beyond { OnErr result (IsTooMuch (tree_else_need otherwise.now)) }
 {
     match otherwise {
         None => Ok(figures(0, 0)),
@@ -166,7 +175,8 @@ fn otherwise_need(otherwise: &Option<TypedBlock>) -> Result<Need, Memory>
 
 /// What a whole body needs: 24 bytes are its own, and each variable has its bytes.
 pub fn tree_need(tree: &TypedTree) -> Result<Need, Memory>
-    ensures { IfOk result (λ n. n ≡ tree_need tree.now) }
+    ensures need { IfOk result (λ n. n ≡ tree_need tree.now) }
+    ensures beyond { OnErr result (IsTooMuch (tree_need tree.now)) }
 {
     let variables = sizes_of(tree.variables.as_slice())?;
     let predicate = predicate_need(&tree.predicate)?;

@@ -1,5 +1,5 @@
 // The code of a body as it is made: from its end to its start.
-ghost use Rattle.std.specs.Prelude.{◌≡◌, ◌+◌, ◌++◌, OnOk, IfOk, length, reverse};
+ghost use Rattle.std.specs.Prelude.{◌≡◌, ◌+◌, ◌≤◌, ◌^◌, ◌++◌, OnOk, OnErr, IfOk, length, reverse};
 ghost use Rattle.ir_code.specs.Typing.{operand_shapes, gives, front_of};
 ghost use Rattle.bt_lower.specs.Code.{pushed, closed, begun, untyped, reserved, gated, patched, taken_back};
 
@@ -192,7 +192,8 @@ fn turned(instrs: Items<Instr>) -> Items<Instr>
 
 /// One deeper. Loops that nest deeper than memory could hold are answered as want of it.
 fn deeper(depth: usize) -> Result<usize, Memory>
-    ensures { IfOk result (λ deeper. deeper ≡ depth + 1) }
+    ensures deeper { IfOk result (λ deeper. deeper ≡ depth + 1) }
+    ensures beyond { OnErr result (2 ^ 64 ≤ depth + 1) }
 {
     if depth == usize::MAX {
         return Err(Memory);

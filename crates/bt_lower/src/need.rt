@@ -1,9 +1,9 @@
 // What typed bodies need: bytes of frame and slots of code. A sum that 64 bits do not hold is answered as want of memory: memory
 // holds no body that needs so much.
-ghost use Rattle.std.specs.Prelude.{◌≡◌, ◌+◌, IfOk, []};
+ghost use Rattle.std.specs.Prelude.{◌≡◌, ◌+◌, ◌≤◌, ◌^◌, IfOk, OnErr, []};
 ghost use Rattle.bt_core.specs.declared.map.Shape.{Shape};
 ghost use Rattle.ir_code.specs.Figures.{by_shape, sizes_of};
-ghost use Rattle.bt_lower.specs.Needs.{need, more, greater, listed, before_others, then_beside, under, value_need, values_need, number_need, text_need, jump_need, predicate_need};
+ghost use Rattle.bt_lower.specs.Needs.{need, more, greater, listed, before_others, then_beside, under, IsTooMuch, IsTooMuchListed, value_need, values_need, number_need, text_need, jump_need, predicate_need};
 
 use bt_core::map::Shape;
 use bt_core::memory::Memory;
@@ -35,7 +35,8 @@ pub struct Listed {
 
 /// The sum of two numbers.
 pub fn sum(a: u64, b: u64) -> Result<u64, Memory>
-    ensures { IfOk result (λ sum. sum ≡ a + b) }
+    ensures sum { IfOk result (λ sum. sum ≡ a + b) }
+    ensures beyond { OnErr result (2 ^ 64 ≤ a + b) }
 {
     match a.checked_add(b) {
         Some(sum) => Ok(sum),
@@ -52,7 +53,8 @@ pub fn figures(frame: u64, code: u64) -> Need
 
 /// Some slots more.
 pub fn more(slots: u64, n: Need) -> Result<Need, Memory>
-    ensures { IfOk result (λ all. all ≡ more slots n) }
+    ensures more { IfOk result (λ all. all ≡ more slots n) }
+    ensures beyond { OnErr result (IsTooMuch (more slots n)) }
 {
     let code = sum(slots, n.code)?;
     Ok(figures(n.frame, code))
@@ -60,7 +62,8 @@ pub fn more(slots: u64, n: Need) -> Result<Need, Memory>
 
 /// One after another: the greater frame, and all slots.
 pub fn greater(a: Need, b: Need) -> Result<Need, Memory>
-    ensures { IfOk result (λ all. all ≡ greater a b) }
+    ensures greater { IfOk result (λ all. all ≡ greater a b) }
+    ensures beyond { OnErr result (IsTooMuch (greater a b)) }
 {
     let code = sum(a.code, b.code)?;
     Ok(figures(a.frame.max(b.frame), code))
@@ -68,7 +71,8 @@ pub fn greater(a: Need, b: Need) -> Result<Need, Memory>
 
 /// The one, and then the other beside so many bytes.
 fn then_beside(bytes: u64, a: Need, b: Need) -> Result<Need, Memory>
-    ensures { IfOk result (λ all. all ≡ then_beside bytes a b) }
+    ensures beside { IfOk result (λ all. all ≡ then_beside bytes a b) }
+    ensures beyond { OnErr result (IsTooMuch (then_beside bytes a b)) }
 {
     let frame = sum(bytes, b.frame)?;
     Ok(greater(a, figures(frame, b.code))?)
@@ -76,7 +80,8 @@ fn then_beside(bytes: u64, a: Need, b: Need) -> Result<Need, Memory>
 
 /// So many bytes and slots beside a key.
 pub fn under(keys: Listed, frame: u64, slots: u64) -> Result<Need, Memory>
-    ensures { IfOk result (λ all. all ≡ under keys frame slots) }
+    ensures under { IfOk result (λ all. all ≡ under keys frame slots) }
+    ensures beyond { OnErr result (IsTooMuch (under keys frame slots)) }
 {
     let frame = sum(keys.sizes, frame)?;
     let code = sum(slots, keys.need.code)?;
@@ -85,7 +90,8 @@ pub fn under(keys: Listed, frame: u64, slots: u64) -> Result<Need, Memory>
 
 /// An expression before others.
 fn before(v: Valued, rest: Listed) -> Result<Listed, Memory>
-    ensures { IfOk result (λ all. all ≡ before_others v rest) }
+    ensures before { IfOk result (λ all. all ≡ before_others v rest) }
+    ensures beyond { OnErr result (IsTooMuchListed (before_others v rest)) }
 {
     let sizes = sum(v.size, rest.sizes)?;
     let need = then_beside(v.size, v.need, rest.need)?;
@@ -95,7 +101,9 @@ fn before(v: Valued, rest: Listed) -> Result<Listed, Memory>
 /// What an expression needs.
 #[cycle(need)]
 pub fn value_need(e: &AnyExpr) -> Result<Valued, Memory>
-    ensures { IfOk result (λ v. v ≡ value_need e.now) }
+    ensures need { IfOk result (λ v. v ≡ value_need e.now) }
+    ensures beyond { OnErr result (IsTooMuch (value_need e.now).need) }
+    ensures room { IfOk result (λ v. v.size ≤ v.need.frame) }
 {
     match e {
         AnyExpr::Num(e) => {
@@ -112,7 +120,9 @@ pub fn value_need(e: &AnyExpr) -> Result<Valued, Memory>
 /// What a whole number needs.
 #[cycle(need)]
 pub fn number_need(e: &NumExpr) -> Result<Need, Memory>
-    ensures { IfOk result (λ n. n ≡ number_need e.now) }
+    ensures need { IfOk result (λ n. n ≡ number_need e.now) }
+    ensures beyond { OnErr result (IsTooMuch (number_need e.now)) }
+    ensures room { IfOk result (λ n. 8 ≤ n.frame) }
 {
     match e {
         NumExpr::Number(_) | NumExpr::Builtin(_) | NumExpr::Var(_) => Ok(figures(8, 4)),
@@ -160,7 +170,9 @@ pub fn number_need(e: &NumExpr) -> Result<Need, Memory>
 /// What a string needs.
 #[cycle(need)]
 pub fn text_need(e: &StrExpr) -> Result<Need, Memory>
-    ensures { IfOk result (λ n. n ≡ text_need e.now) }
+    ensures need { IfOk result (λ n. n ≡ text_need e.now) }
+    ensures beyond { OnErr result (IsTooMuch (text_need e.now)) }
+    ensures room { IfOk result (λ n. 64 ≤ n.frame) }
 {
     match e {
         StrExpr::Text(_) => Ok(figures(64, 32)),
@@ -181,7 +193,8 @@ pub fn text_need(e: &StrExpr) -> Result<Need, Memory>
 /// What expressions need that are evaluated from left to right.
 #[cycle(need)]
 pub fn values_need(es: &[AnyExpr]) -> Result<Listed, Memory>
-    ensures { IfOk result (λ all. all ≡ listed (values_need es.now)) }
+    ensures need { IfOk result (λ all. all ≡ listed (values_need es.now)) }
+    ensures beyond { OnErr result (IsTooMuch (listed (values_need es.now)).need) }
 {
     let mut all = Listed {
         sizes: 0,
@@ -198,7 +211,8 @@ pub fn values_need(es: &[AnyExpr]) -> Result<Listed, Memory>
 
 /// A test and two ways on, of which one is taken.
 fn chosen(test: Need, one: Need, other: Need) -> Result<Need, Memory>
-    ensures { IfOk result (λ all. all ≡ more 8 (greater test (greater one other))) }
+    ensures need { IfOk result (λ all. all ≡ more 8 (greater test (greater one other))) }
+    ensures beyond { OnErr result (IsTooMuch (more 8 (greater test (greater one other)))) }
 {
     let ways = greater(one, other)?;
     let all = greater(test, ways)?;
@@ -219,7 +233,8 @@ pub fn jump_need(jump: Jump) -> Need
 
 /// What a predicate needs, where there is one.
 pub fn predicate_need(predicate: &Option<NumExpr>) -> Result<Need, Memory>
-    ensures { IfOk result (λ n. n ≡ predicate_need predicate.now) }
+    ensures need { IfOk result (λ n. n ≡ predicate_need predicate.now) }
+    ensures beyond { OnErr result (IsTooMuch (predicate_need predicate.now)) }
 {
     match predicate {
         None => Ok(figures(0, 0)),
@@ -232,7 +247,8 @@ pub fn predicate_need(predicate: &Option<NumExpr>) -> Result<Need, Memory>
 
 /// The bytes of values of these types.
 pub fn sizes_of(shapes: &[Shape]) -> Result<u64, Memory>
-    ensures { IfOk result (λ bytes. bytes ≡ sizes_of shapes.now) }
+    ensures sum { IfOk result (λ bytes. bytes ≡ sizes_of shapes.now) }
+    ensures beyond { OnErr result (2 ^ 64 ≤ sizes_of shapes.now) }
 {
     let mut bytes = 0;
     let mut left = shapes.len();

@@ -1,6 +1,7 @@
 // Assignments, and whole numbers that a statement asks for.
-ghost use Rattle.std.specs.Prelude.{◌≡◌, IfOk, OnOk, Some, map, slice_get};
+ghost use Rattle.std.specs.Prelude.{◌≡◌, ◌≢◌, Err, IfOk, OnOk, Some, map, slice_get};
 ghost use Rattle.bt_core.specs.declared.map.Shape.TheVariants.{Int};
+ghost use Rattle.expr_types.specs.declared.fault.TypeError.TheVariants.{Memory as NoMemory};
 ghost use Rattle.expr_types.specs.declared.known.Var.{Var};
 ghost use Rattle.expr_types.specs.Mentions.{NeedsWhole};
 ghost use Rattle.expr_types.specs.Known.{var_in, with_var};
@@ -34,6 +35,7 @@ use typed_tree::stmt::TypedStmt;
 fn whole(value: AnyExpr, place: Place) -> Result<NumExpr, TypeError>
     ensures refuses { Refuses (whole_breaks (made_of value).shape) place result }
     ensures made { IfOk result (λ n. num_parts n ≡ (made_of value).parts) }
+    ensures not_memory { result ≢ Err NoMemory }
 {
     match value {
         AnyExpr::Num(value) => Ok(value),

@@ -1,7 +1,8 @@
 // Calls on maps: `print`, `clear`, `zero` and `delete`.
-ghost use Rattle.std.specs.Prelude.{◌≡◌, ◌∷◌, [], Bool, List, IfOk, OnOk, MatchResult, Some, map, not, unsigned_abs};
+ghost use Rattle.std.specs.Prelude.{◌≡◌, ◌≢◌, ◌∷◌, [], Bool, Err, List, IfOk, OnOk, MatchResult, Some, map, not, unsigned_abs};
 ghost use Rattle.typed_tree.specs.Parts.{Made, delete_parts, key_shapes, made_of, stmt_parts};
 ghost use Rattle.expr_types.specs.declared.fault.Rule.TheVariants.{WrongType};
+ghost use Rattle.expr_types.specs.declared.fault.TypeError.TheVariants.{Memory as NoMemory};
 ghost use Rattle.expr_types.specs.Judge.{Refuses, Says, SaysFault, judged};
 ghost use Rattle.expr_types.specs.Rules.{are_rows, breaks};
 ghost use Rattle.expr_types.specs.Walk.{of_expr, of_map};
@@ -36,6 +37,7 @@ fn check_used(alloc: Global, known: &mut Known, map: &MapRef) -> Result<MapId, T
 fn check_rows(top: i64, div: i64, place: Place) -> Result<u64, TypeError>
     ensures refuses { Refuses (breaks (not (are_rows top div)) WrongType) place result }
     ensures same { IfOk result (λ rows. rows ≡ unsigned_abs top) }
+    ensures not_memory { result ≢ Err NoMemory }
 {
     if top < 0 || div < 1 {
         return Err(broken(Rule::WrongType, place));

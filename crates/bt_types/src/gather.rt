@@ -1,9 +1,10 @@
 // Aggregations.
-ghost use Rattle.std.specs.Prelude.{◌≡◌, IfOk, is_none, not};
+ghost use Rattle.std.specs.Prelude.{◌≡◌, ◌≢◌, Err, IfOk, is_none, not};
 ghost use Rattle.std.specs.Option.{option_copied};
 ghost use Rattle.typed_tree.specs.Parts.{number_parts, stmt_parts};
 ghost use Rattle.typed_tree.specs.Scope.{is_fine_agg};
 ghost use Rattle.expr_types.specs.declared.fault.Rule.TheVariants.{BadBounds};
+ghost use Rattle.expr_types.specs.declared.fault.TypeError.TheVariants.{Memory as NoMemory};
 ghost use Rattle.expr_types.specs.Judge.{Refuses};
 ghost use Rattle.expr_types.specs.Rules.{breaks};
 ghost use Rattle.expr_types.specs.Walk.{of_map};
@@ -89,7 +90,8 @@ fn check_gathered(
 ///
 /// [`Rule::BadBounds`] at the place.
 fn check_bounds(kind: AggKind, place: Place) -> Result<(), TypeError>
-    ensures { Refuses (breaks (not (is_fine_agg kind)) BadBounds) place result }
+    ensures refuses { Refuses (breaks (not (is_fine_agg kind)) BadBounds) place result }
+    ensures not_memory { result ≢ Err NoMemory }
 {
     if !is_fine_agg(kind) {
         return Err(broken(Rule::BadBounds, place));

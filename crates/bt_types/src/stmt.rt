@@ -1,6 +1,7 @@
 // Statements: their first fault, or what they are as typed ones.
-ghost use Rattle.std.specs.Prelude.{◌≡◌, ◌≤◌, true, map, not, option_map, IfOk, unsigned_abs};
+ghost use Rattle.std.specs.Prelude.{◌≡◌, ◌≢◌, ◌≤◌, true, Err, map, not, option_map, IfOk, unsigned_abs};
 ghost use Rattle.expr_types.specs.declared.fault.Rule.TheVariants.{NoLoop, WrongType};
+ghost use Rattle.expr_types.specs.declared.fault.TypeError.TheVariants.{Memory as NoMemory};
 ghost use Rattle.expr_types.specs.Judge.{Refuses};
 ghost use Rattle.expr_types.specs.Rules.{are_turns, breaks};
 ghost use Rattle.expr_types.specs.Walk.{of_expr, of_step, of_target};
@@ -63,6 +64,7 @@ fn check_step_stmt(alloc: Global, known: &mut Known, step: &IncDec) -> Result<Ty
 fn jump_in_loop(inside: bool, jump: Jump, place: Place) -> Result<TypedStmt, TypeError>
     ensures refuses { Refuses (breaks (not inside) NoLoop) place result }
     ensures made { IfOk result (λ s. s ≡ JumpStmt jump) }
+    ensures not_memory { result ≢ Err NoMemory }
 {
     if inside {
         Ok(TypedStmt::Jump(jump))
@@ -79,6 +81,7 @@ fn jump_in_loop(inside: bool, jump: Jump, place: Place) -> Result<TypedStmt, Typ
 fn check_turns(turns: i64, place: Place) -> Result<u32, TypeError>
     ensures refuses { Refuses (breaks (not (are_turns turns)) WrongType) place result }
     ensures same { IfOk result (λ n. (n ≡ unsigned_abs turns) × (1 ≤ n) × (n ≤ 100)) }
+    ensures not_memory { result ≢ Err NoMemory }
 {
     if turns < 1 || turns > 100 {
         return Err(broken(Rule::WrongType, place));

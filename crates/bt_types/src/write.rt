@@ -1,9 +1,10 @@
 // Mentions that decide what a map holds.
-ghost use Rattle.std.specs.Prelude.{◌≡◌, true, OnOk, map};
+ghost use Rattle.std.specs.Prelude.{◌≡◌, ◌≢◌, true, Err, OnOk, map};
 ghost use Rattle.bt_core.specs.declared.map.MapKind.TheVariants.{Ints};
 ghost use Rattle.typed_tree.specs.Parts.{made_of, key_shapes};
 ghost use Rattle.typed_tree.specs.Scope.{is_fine_kind, kind_of_shape};
 ghost use Rattle.expr_types.specs.Known.{decl_in, decides, with_mention};
+ghost use Rattle.expr_types.specs.declared.fault.TypeError.TheVariants.{Memory as NoMemory};
 ghost use Rattle.expr_types.specs.Judge.{Refuses};
 ghost use Rattle.expr_types.specs.Rules.{breaks, has_other_keys, is_agg_in, is_one_too_many, write_breaks};
 ghost use Rattle.expr_types.specs.declared.fault.Rule.TheVariants.{OtherKeys, TooManyMaps, WrongType};
@@ -94,7 +95,8 @@ pub(crate) fn use_map(
 
 /// That a map is no aggregation, as far as it is decided.
 pub(crate) fn check_shared(known: &Known, name: &Items<u8>, place: Place) -> Result<(), TypeError>
-    ensures { Refuses (breaks (is_agg_in (decl_in name.now known.now.decided)) WrongType) place result }
+    ensures refuses { Refuses (breaks (is_agg_in (decl_in name.now known.now.decided)) WrongType) place result }
+    ensures not_memory { result ≢ Err NoMemory }
 {
     if is_agg(known, name.as_slice()) {
         return Err(broken(Rule::WrongType, place));

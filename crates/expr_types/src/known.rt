@@ -1,5 +1,5 @@
 // What is known at a place of the walk: what earlier mentions decided.
-ghost use Rattle.std.specs.Prelude.{◌≡◌, ◌==◌, true, false, Some, None, OnOk, IfOk, MatchOption, slice_get};
+ghost use Rattle.std.specs.Prelude.{◌≡◌, ◌==◌, ◌≤◌, ◌^◌, true, false, Some, None, OnOk, OnErr, IfOk, MatchOption, slice_get};
 ghost use Rattle.std.specs.List.{list_any};
 ghost use Rattle.std.specs.Option.{option_copied};
 ghost use Rattle.fmt_text.specs.Deciding.{format_pieces};
@@ -66,7 +66,8 @@ fn place_of(names: &[Items<u8>], name: &[u8]) -> Option<usize>
 
 /// A place as a number of a map, a variable or a format.
 pub fn number_of(place: usize) -> Result<u32, Memory>
-    ensures { IfOk result (λ n. n ≡ place) }
+    ensures number { IfOk result (λ n. n ≡ place) }
+    ensures beyond { OnErr result (2 ^ 32 ≤ place) }
 {
     match u32::try_from(place) {
         Ok(number) => Ok(number),

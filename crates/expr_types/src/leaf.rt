@@ -1,10 +1,10 @@
 // Expressions without parts, and what joins parts.
-ghost use Rattle.std.specs.Prelude.{◌≡◌, ◌∷◌, ◌++◌, [], IfOk, length, nat_lt};
+ghost use Rattle.std.specs.Prelude.{◌≡◌, ◌≢◌, ◌∷◌, ◌++◌, [], Err, IfOk, length, nat_lt};
 ghost use Rattle.bt_core.specs.Text.{short_text};
 ghost use Rattle.bt_core.specs.declared.limits.TheConstants.{STRING_BYTES};
 ghost use Rattle.bt_core.specs.declared.map.Shape.TheVariants.{Int, Str};
 ghost use Rattle.expr_types.specs.declared.fault.Rule.TheVariants.{WrongType};
-ghost use Rattle.expr_types.specs.declared.fault.TypeError.TheVariants.{Broken};
+ghost use Rattle.expr_types.specs.declared.fault.TypeError.TheVariants.{Broken, Memory as NoMemory};
 ghost use Rattle.typed_tree.specs.Parts.{made, made_of, Literal, Prefixed, Joined, Chosen, num_parts, str_parts, compared};
 ghost use Rattle.expr_types.specs.Judge.{Refuses};
 ghost use Rattle.expr_types.specs.Rules.{breaks};
@@ -44,6 +44,7 @@ pub fn wrong_type(place: Place) -> TypeError
 pub fn literal(text: &[u8], place: Place) -> Result<AnyExpr, TypeError>
     ensures refuses { Refuses (breaks (nat_lt STRING_BYTES (length text.now)) WrongType) place result }
     ensures made { IfOk result (λ e. made_of e ≡ made Str (Literal (short_text text.now) ∷ [])) }
+    ensures not_memory { result ≢ Err NoMemory }
 {
     if text.len() > STRING_BYTES {
         return Err(wrong_type(place));

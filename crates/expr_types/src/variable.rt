@@ -1,9 +1,10 @@
 // Variables of a body.
-ghost use Rattle.std.specs.Prelude.{◌≡◌, ◌∷◌, []};
+ghost use Rattle.std.specs.Prelude.{◌≡◌, ◌≤◌, ◌^◌, ◌∷◌, [], Err, length};
 ghost use Rattle.bt_core.specs.declared.map.Shape.TheVariants.{Int};
 ghost use Rattle.typed_tree.specs.Parts.{made, made_of, num_parts, Stepped, VarOf};
 ghost use Rattle.expr_types.specs.Mentions.{ReadsVar, OfVar, VarWord};
 ghost use Rattle.expr_types.specs.Walk.{at, seen, step_seen, OnVar};
+ghost use Rattle.expr_types.specs.declared.fault.TypeError.TheVariants.{Memory as NoMemory};
 ghost use Rattle.expr_types.specs.Checked.{Checks, ChecksNumber};
 
 use crate::fault::{Rule, TypeError};
@@ -28,7 +29,8 @@ fn variable_of(shape: Shape, number: u32) -> AnyExpr
 /// A variable that is read.
 #[tactic(auto, using(crate::proofs::Constructs::var_checked, crate::proofs::Constructs::var_refused))]
 pub fn variable(known: &Known, var: &VarRef) -> Result<AnyExpr, TypeError>
-    ensures { Checks (seen (at var.now.place (ReadsVar var.now.name) ∷ []) (OfVar var.now.name) (VarWord var.now.name ∷ [])) known.now known.now result }
+    ensures checks { Checks (seen (at var.now.place (ReadsVar var.now.name) ∷ []) (OfVar var.now.name) (VarWord var.now.name ∷ [])) known.now known.now result }
+    ensures beyond { result ≡ Err NoMemory → 2 ^ 32 ≤ length known.now.vars }
 {
     match known.var(var.name.as_slice()) {
         None => Err(broken(Rule::NotSet, var.place)),
@@ -55,7 +57,8 @@ pub fn step_variable(
     prefix: bool,
     place: Place,
 ) -> Result<NumExpr, TypeError>
-    ensures { ChecksNumber (step_seen plus prefix place (OnVar var.now.name var.now.place)) known.now known.now result }
+    ensures checks { ChecksNumber (step_seen plus prefix place (OnVar var.now.name var.now.place)) known.now known.now result }
+    ensures beyond { result ≡ Err NoMemory → 2 ^ 32 ≤ length known.now.vars }
 {
     match known.var(var.name.as_slice()) {
         None => Err(broken(Rule::NotSet, var.place)),

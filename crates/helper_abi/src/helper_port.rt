@@ -1,7 +1,9 @@
 // The port of helpers.
-ghost use Rattle.std.specs.Prelude.{◌≡◌};
+ghost use Rattle.std.specs.Prelude.{◌≡◌, Err, None};
 ghost use Rattle.bpf_interp.specs.Running.{Called};
+ghost use Rattle.bpf_interp.specs.declared.ports.PortFault.TheVariants.{Helper as BadArgument};
 ghost use Rattle.helper_abi.specs.Helpers.{helpers, helper_steps};
+ghost use Rattle.helper_abi.specs.Numbers.{helper_at};
 ghost use Rattle.helper_abi.specs.Served.{IsFor, desk_of};
 
 use crate::helper::Helper;
@@ -93,6 +95,7 @@ fn perform<P: Port>(
 ) -> Result<u64, PortFault>
     requires { IsFor typed.now.maps actor actors (P.fixed port.old).setting }
     ensures called { Called (helpers (desk_of typed.now actor actors) number args memory.old) (P.steps port.old) (P.steps port.new) result memory.new.frame }
+    ensures argument { helper_at number ≡ None → result ≡ Err BadArgument }
     ensures kept { P.fixed port.new ≡ P.fixed port.old }
     ensures context { memory.new.context ≡ memory.old.context }
     ensures payload { memory.new.payload ≡ memory.old.payload }

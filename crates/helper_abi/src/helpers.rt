@@ -1,8 +1,9 @@
 // The helpers: which arguments are in range, which bytes have to lie inside a region, and then the steps.
-ghost use Rattle.std.specs.Prelude.{◌≡◌, ◌<◌, List};
+ghost use Rattle.std.specs.Prelude.{◌≡◌, ◌≢◌, ◌<◌, ◌≤◌, ◌^◌, Err, List, None, false};
 ghost use Rattle.bt_core.specs.declared.step.Step.{Step};
 ghost use Rattle.std.specs.Option.{option_copied};
 ghost use Rattle.bpf_interp.specs.Running.{Called};
+ghost use Rattle.bpf_interp.specs.declared.ports.PortFault.TheVariants.{Helper as BadArgument, Memory as NoMemory};
 ghost use Rattle.typed_tree.specs.Scope.{is_agg, is_summed_kind};
 ghost use Rattle.helper_abi.specs.Helpers.{numbered, table_map, value_map, summed_map, are_shown, get, set, delete, aggregate, read_agg, print, sweep_map, printf, exit, cut, read_str};
 ghost use Rattle.helper_abi.specs.Served.{ServesMaps};
@@ -95,6 +96,7 @@ pub fn get<P: Port>(
 ) -> Result<u64, PortFault>
     requires { ServesMaps maps.now (P.fixed port.old).setting }
     ensures called { Called (get maps.now map key to memory.old) (P.steps port.old) (P.steps port.new) result memory.new.frame }
+    ensures argument { value_map maps.now map ≡ None → result ≡ Err BadArgument }
     ensures kept { P.fixed port.new ≡ P.fixed port.old }
     ensures context { memory.new.context ≡ memory.old.context }
     ensures payload { memory.new.payload ≡ memory.old.payload }
@@ -124,6 +126,7 @@ pub fn set<P: Port>(
 ) -> Result<u64, PortFault>
     requires { ServesMaps maps.now (P.fixed port.old).setting }
     ensures called { Called (set maps.now map key value memory.now) (P.steps port.old) (P.steps port.new) result memory.now.frame }
+    ensures argument { value_map maps.now map ≡ None → result ≡ Err BadArgument }
     ensures kept { P.fixed port.new ≡ P.fixed port.old }
 {
     let Some(decl) = value_map(maps, map) else {
@@ -151,6 +154,7 @@ pub fn delete<P: Port>(
 ) -> Result<u64, PortFault>
     requires { ServesMaps maps.now (P.fixed port.old).setting }
     ensures called { Called (delete maps.now map key memory.now) (P.steps port.old) (P.steps port.new) result memory.now.frame }
+    ensures argument { value_map maps.now map ≡ None → result ≡ Err BadArgument }
     ensures kept { P.fixed port.new ≡ P.fixed port.old }
 {
     let Some(decl) = value_map(maps, map) else {
@@ -178,6 +182,7 @@ pub fn aggregate<P: Port>(
     requires served { ServesMaps maps.now (P.fixed port.old).setting }
     requires actor { actor < (P.fixed port.old).setting.actors }
     ensures called { Called (aggregate maps.now actor map key number memory.now) (P.steps port.old) (P.steps port.new) result memory.now.frame }
+    ensures argument { table_map maps.now map ≡ None → result ≡ Err BadArgument }
     ensures kept { P.fixed port.new ≡ P.fixed port.old }
 {
     let Some(decl) = table_map(maps, map) else {
@@ -205,6 +210,7 @@ pub fn read_agg<P: Port>(
     requires served { ServesMaps maps.now (P.fixed port.old).setting }
     requires actors { (P.fixed port.old).setting.actors ≡ actors }
     ensures called { Called (read_agg maps.now actors map key to memory.old) (P.steps port.old) (P.steps port.new) result memory.new.frame }
+    ensures argument { summed_map maps.now map ≡ None → result ≡ Err BadArgument }
     ensures kept { P.fixed port.new ≡ P.fixed port.old }
     ensures context { memory.new.context ≡ memory.old.context }
     ensures payload { memory.new.payload ≡ memory.old.payload }
@@ -237,6 +243,8 @@ pub fn print<P: Port>(
     requires served { ServesMaps maps.now (P.fixed port.old).setting }
     requires actors { (P.fixed port.old).setting.actors ≡ actors }
     ensures called { Called (print maps.now actors map top div memory.now) (P.steps port.old) (P.steps port.new) result memory.now.frame }
+    ensures argument { numbered maps.now map ≡ None → result ≡ Err BadArgument }
+    ensures shown { are_shown top div ≡ false → result ≡ Err BadArgument }
     ensures kept { P.fixed port.new ≡ P.fixed port.old }
 {
     let Some(decl) = numbered(maps, map) else {
@@ -271,6 +279,7 @@ pub fn sweep_map<P: Port>(
     requires served { ServesMaps maps.now (P.fixed port.old).setting }
     requires actors { (P.fixed port.old).setting.actors ≡ actors }
     ensures called { Called (sweep_map maps.now actors sweep map memory.now) (P.steps port.old) (P.steps port.new) result memory.now.frame }
+    ensures argument { numbered maps.now map ≡ None → result ≡ Err BadArgument }
     ensures kept { P.fixed port.new ≡ P.fixed port.old }
 {
     let Some(decl) = numbered(maps, map) else {
@@ -297,6 +306,7 @@ pub fn printf<P: Port>(
     memory: &Regions,
 ) -> Result<u64, PortFault>
     ensures called { Called (printf formats.now format address memory.now) (P.steps port.old) (P.steps port.new) result memory.now.frame }
+    ensures argument { numbered formats.now format ≡ None → result ≡ Err BadArgument }
     ensures kept { P.fixed port.new ≡ P.fixed port.old }
 {
     let Some(pieces) = numbered(formats, format) else {
@@ -331,6 +341,7 @@ pub fn cut<P: Port>(
     memory: &Regions,
 ) -> Result<u64, PortFault>
     ensures called { Called (cut line memory.now) (P.steps port.old) (P.steps port.new) result memory.now.frame }
+    ensures argument { 2 ^ 32 ≤ line → result ≡ Err BadArgument }
     ensures kept { P.fixed port.new ≡ P.fixed port.old }
 {
     if line >= 0x1_0000_0000 {
@@ -343,6 +354,7 @@ pub fn cut<P: Port>(
 /// A string of the payload is written at an address. No step is made.
 pub fn read_str(to: u64, place: u64, count: u64, memory: &mut Regions) -> Result<u64, PortFault>
     ensures called { (steps : List Step) → Called (read_str to place count memory.old) steps steps result memory.new.frame }
+    ensures not_memory { result ≢ Err NoMemory }
     ensures context { memory.new.context ≡ memory.old.context }
     ensures payload { memory.new.payload ≡ memory.old.payload }
 {

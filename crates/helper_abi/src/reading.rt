@@ -1,10 +1,11 @@
 // The values that helpers read, and the bytes that they write.
-ghost use Rattle.std.specs.Prelude.{◌≡◌, ◌<◌, ◌≤◌, ◌*◌, ◌^◌, length, None, Some, IfOk, IfSome, IsTrue, MatchOption};
+ghost use Rattle.std.specs.Prelude.{◌≡◌, ◌<◌, ◌≤◌, ◌*◌, ◌^◌, length, None, Some, Err, IfOk, IfSome, IsTrue, MatchOption};
 ghost use Rattle.bt_core.specs.declared.limits.TheConstants.{KEY_PARTS as MOST_PARTS};
 ghost use Rattle.bt_core.specs.declared.value.Value.TheVariants as variants;
 ghost use Rattle.bt_core.specs.Kinds.{HasShape, IsOfShape};
 ghost use Rattle.bt_core.specs.KeyBytes.{value_bytes};
 ghost use Rattle.bpf_insn.specs.Regions.{bytes_in, is_in_frame, stored};
+ghost use Rattle.bpf_interp.specs.declared.ports.PortFault.TheVariants.{Address};
 ghost use Rattle.helper_abi.specs.Reading.{shape_bytes, bytes_of_shapes, value_in, values_in, bytes_at, values_at, value_at, shape_of_kind, payload_text};
 ghost use Rattle.helper_abi.specs.Served.{Reads};
 ghost use Rattle.helper_abi.specs.Writing.{room_of};
@@ -117,6 +118,7 @@ pub fn values_at(
     address: u64,
 ) -> Result<Items<Value>, PortFault>
     ensures read { Reads (values_at memory.now shapes.now address) result }
+    ensures outside { values_at memory.now shapes.now address ≡ None → result ≡ Err Address }
     ensures shaped { IfOk result (λ values. HasShape shapes.now values) }
 {
     let Some(bytes) = bytes_at(memory, shapes, address) else {
@@ -141,6 +143,7 @@ pub fn key_at(
 ) -> Result<Key, PortFault>
     requires { length shapes.now ≤ MOST_PARTS }
     ensures read { Reads (values_at memory.now shapes.now address) result }
+    ensures outside { values_at memory.now shapes.now address ≡ None → result ≡ Err Address }
     ensures shaped { IfOk result (λ key. HasShape shapes.now key) }
 {
     match values_at(alloc, memory, shapes, address) {

@@ -36,13 +36,6 @@ as_many [] (q ∷ qs) made = absurd made
 as_many (p ∷ ps) [] made = absurd made
 as_many (p ∷ ps) (q ∷ qs) made = ap suc (as_many ps qs made.1)
 
-pub so_many : (probes : List IrProbe) (i : ℕ) (programs : List Program) → i ≤ length probes → AreMade (take i probes) programs → length programs ≡ i
-so_many probes zero [] low made = refl
-so_many probes zero (q ∷ qs) low made = absurd made
-so_many [] (suc i) programs low made = absurd (omega arith)
-so_many (p ∷ ps) (suc i) [] low made = absurd made
-so_many (p ∷ ps) (suc i) (q ∷ qs) low made = ap suc (so_many ps i qs (omega arith) made.1)
-
 pub next_made : (probes : List IrProbe) (i : ℕ) (programs new : List Program) (probe : IrProbe) (program : Program) → i < length probes
     → probe ≡ get_or probes i probe → AreMade (take i probes) programs → IsMade probe program → new ≡ programs ++ program ∷ []
     → AreMade (take (i + 1) probes) new
@@ -62,27 +55,17 @@ abbrev pub first_of : ℕ → List IrProbe → Option (ℕ × SizeFault)
 first_of place [] = None
 first_of place (p ∷ ps) = or_else (option_map (λ fault. (place, fault)) (too_large p.frame_need p.code_need)) (first_of (place + 1) ps)
 
-none_too_large : (probes : List IrProbe) (programs : List Program) (place : ℕ) → AreMade probes programs → first_of place probes ≡ None
-none_too_large [] [] place made = refl
-none_too_large [] (q ∷ qs) place made = absurd made
-none_too_large (p ∷ ps) [] place made = absurd made
-none_too_large (p ∷ ps) (q ∷ qs) place made =
-    let rest = none_too_large ps qs (place + 1) made.1 in
-    λ k. or_else (option_map (λ fault. (place, fault)) (made.0.fits k)) (rest k)
+both_none : (place : ℕ) (found : Option SizeFault) (later : Option (ℕ × SizeFault)) → or_else (option_map (λ fault. (place, fault)) found) later ≡ None
+    → (found ≡ None) × (later ≡ None)
+both_none place None later e = (refl, e)
+both_none place (Some fault) later e = absurd (let none : ⊥ = cc in none)
 
-first_there : (probes : List IrProbe) (i place : ℕ) (programs : List Program) (probe : IrProbe) (fault : SizeFault) → i < length probes
-    → probe ≡ get_or probes i probe → AreMade (take i probes) programs → too_large probe.frame_need probe.code_need ≡ Some fault
-    → first_of place probes ≡ Some (place + i, fault)
-first_there [] i place programs probe fault low at made is = absurd (omega arith)
-first_there (p ∷ ps) zero place programs probe fault low at made is =
-    let here : too_large p.frame_need p.code_need ≡ Some fault = ap (λ (x : IrProbe). too_large x.frame_need x.code_need) (sym at) ∙ is in
-    (λ k. or_else (option_map (λ fault. (place, fault)) (here k)) (first_of (place + 1) ps))
-    ∙ ap (λ (n : ℕ). Some (n, fault)) (omega arith)
-first_there (p ∷ ps) (suc i) place [] probe fault low at made is = absurd made
-first_there (p ∷ ps) (suc i) place (q ∷ qs) probe fault low at made is =
-    let rest = first_there ps i (place + 1) qs probe fault (omega arith) at made.1 is in
-    (λ k. or_else (option_map (λ fault. (place, fault)) (made.0.fits k)) (rest k))
-    ∙ ap (λ (n : ℕ). Some (n, fault)) (omega arith)
+none_there : (probes : List IrProbe) (i place : ℕ) (probe : IrProbe) → i < length probes → probe ≡ get_or probes i probe → first_of place probes ≡ None
+    → too_large probe.frame_need probe.code_need ≡ None
+none_there [] i place probe low at none = absurd (omega arith)
+none_there (p ∷ ps) zero place probe low at none =
+    ap (λ (x : IrProbe). too_large x.frame_need x.code_need) at ∙ (both_none place _ _ none).0
+none_there (p ∷ ps) (suc i) place probe low at none = none_there ps i (place + 1) probe (omega arith) at (both_none place _ _ none).1
 
 -- bodies have the sizes of what they are lowered to
 same_first : (maps : List MapDecl) (formats : List (List Shape)) (bodies : List TypedBody) (probes : List IrProbe) (place : ℕ) → length probes ≡ length bodies
@@ -96,18 +79,13 @@ same_first maps formats (b ∷ bs) (p ∷ ps) place e each =
     let rest = same_first maps formats bs ps (place + 1) (omega (arith, e)) (λ n body probe at on. each (suc n) body probe at on) in
     λ k. or_else (option_map (λ fault. (place, fault)) (too_large (lowered.frame k) (lowered.code k))) (rest k)
 
-pub script_first : (script : Typed) (probes : List IrProbe) → LowersScript script probes → first_of 0 probes ≡ first_size_fault 0 script.bodies
+script_first : (script : Typed) (probes : List IrProbe) → LowersScript script probes → first_of 0 probes ≡ first_size_fault 0 script.bodies
 script_first script probes lowers = same_first _ _ script.bodies probes 0 lowers.as_many lowers.each
 
-pub script_fits : (script : Typed) (probes : List IrProbe) (programs : List Program) → LowersScript script probes → AreMade probes programs
-    → first_size_fault 0 script.bodies ≡ None
-script_fits script probes programs lowers made = sym (script_first script probes lowers) ∙ none_too_large probes programs 0 made
-
-pub script_too_large : (script : Typed) (probes : List IrProbe) (i : ℕ) (programs : List Program) (probe : IrProbe) (fault : SizeFault)
-    → LowersScript script probes → i < length probes → probe ≡ get_or probes i probe → AreMade (take i probes) programs
-    → too_large probe.frame_need probe.code_need ≡ Some fault → first_size_fault 0 script.bodies ≡ Some (i, fault)
-script_too_large script probes i programs probe fault lowers low at made is =
-    sym (script_first script probes lowers) ∙ first_there probes i 0 programs probe fault low at made is ∙ ap (λ (n : ℕ). Some (n, fault)) (omega arith)
+-- of no probe is something too large where nothing is of a body
+pub probe_fits : (script : Typed) (probes : List IrProbe) (i : ℕ) (probe : IrProbe) → LowersScript script probes → i < length probes
+    → probe ≡ get_or probes i probe → first_size_fault 0 script.bodies ≡ None → too_large probe.frame_need probe.code_need ≡ None
+probe_fits script probes i probe lowers low at none = none_there probes i 0 probe low at (script_first script probes lowers ∙ none)
 
 -- ---- what the programs keep
 

@@ -1,11 +1,11 @@
 -- Folded bodies are lowered too.
-use Rattle.std.proofs.Common.{◌≡◌, ℕ, zero, suc, ◌≤◌, List, [], ◌∷◌, ◌++◌, length, map, Option, Some, refl, sym, ap, ◌∙◌, subst, arith}
+use Rattle.std.proofs.Common.{◌≡◌, ℕ, zero, suc, List, [], ◌∷◌, ◌++◌, length, Some, refl, ap, ◌∙◌, subst, arith}
 use Rattle.std.specs.Prelude.{slice_get}
 use Rattle.std.specs.List.{AllZip}
 use Rattle.bt_core.specs.declared.map.MapDecl.{MapDecl}
 use Rattle.bt_core.specs.declared.map.Shape.{Shape}
 use Rattle.ir_code.specs.declared.probe.IrProbe.{IrProbe}
-use Rattle.bt_lower.specs.Bodies.{IsLowered, LoweredSoFar, LowersScript}
+use Rattle.bt_lower.specs.Bodies.{IsLowered, LowersScript}
 use Rattle.ir_fold.specs.Folded.{IsFoldOf}
 use Rattle.typed_tree.specs.declared.body.TypedBody.{TypedBody}
 use Rattle.typed_tree.specs.declared.script.Typed.{Typed}

@@ -1,18 +1,16 @@
 -- Programs of typed instructions. No public contract speaks of it.
-use Rattle.std.specs.Prelude.{◌≡◌, List, None}
+use Rattle.std.specs.Prelude.{List}
 use Rattle.std.specs.List.{AllZip}
 use Rattle.bpf_codegen.specs.declared.generate.Program.{Program}
 use Rattle.ir_code.specs.declared.probe.IrProbe.{IrProbe}
 use Rattle.body_code.specs.Blocks.{code_of}
 use Rattle.body_code.specs.Bodies.{KeepsBody}
 use Rattle.script_programs.specs.Programs.{IsProgram}
-use Rattle.script_programs.specs.Sizes.{too_large}
 
--- the program is the code of a body in typed instructions, which keeps it; and nothing of it is too large
+-- the program is the code of a body in typed instructions, which keeps it
 pub record IsMade (probe : IrProbe) (program : Program) : Type 0 where
   pub is : IsProgram (code_of probe) program
   pub keeps : KeepsBody probe (code_of probe)
-  pub fits : too_large probe.frame_need probe.code_need ≡ None
 
 -- one for each
 abbrev pub AreMade : List IrProbe → List Program → Type 0

@@ -6,3 +6,4 @@ pub mod error;
 pub mod folding;
 pub mod laws;
 pub mod programs;
+pub mod sizes;

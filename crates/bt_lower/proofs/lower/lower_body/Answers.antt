@@ -8,9 +8,9 @@ invariant_of-result c = record { led = placed-leads c.args.script.now.maps c.arg
 
 pub invariant_of-result-2 : goal.invariant_of-result-2
 invariant_of-result-2 c =
-    let code = ap (λ (n : Need). n.code) c.in_ok-need.ensures in
+    let code = ap (λ (n : Need). n.code) c.in_ok-need.ensures.need in
     record {
-      typed = placed-typed-at c.args.script.now.maps c.args.script.now.formats c.args.body.now c.requires.here c.in_ok-list.list c.in_ok-list.ensures _ _ _ _ c.in_ok-variables.ensures c.in_ok-maps.ensures (c.in_ok-formats.ensures ∙ c.requires.shapes) (ap (λ (n : Need). n.frame) c.in_ok-need.ensures);
+      typed = placed-typed-at c.args.script.now.maps c.args.script.now.formats c.args.body.now c.requires.here c.in_ok-list.list c.in_ok-list.ensures _ _ _ _ c.in_ok-variables.ensures c.in_ok-maps.ensures (c.in_ok-formats.ensures ∙ c.requires.shapes) (ap (λ (n : Need). n.frame) c.in_ok-need.ensures.need);
       covered = omega (arith, c.in_ok-list.ensures.slots, code);
     }
 
@@ -21,6 +21,6 @@ returns c = record {
   maps_are = c.in_ok-maps.ensures;
   formats_are = c.in_ok-formats.ensures ∙ c.requires.shapes;
   reads = placed-reads c.args.script.now.maps c.args.script.now.formats c.args.body.now c.requires.here c.in_ok-list.list c.in_ok-list.ensures;
-  frame = ap (λ (n : Need). n.frame) c.in_ok-need.ensures;
-  code = ap (λ (n : Need). n.code) c.in_ok-need.ensures;
+  frame = ap (λ (n : Need). n.frame) c.in_ok-need.ensures.need;
+  code = ap (λ (n : Need). n.code) c.in_ok-need.ensures.need;
 }

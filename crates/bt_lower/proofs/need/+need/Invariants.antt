@@ -18,6 +18,7 @@ abbrev pub invariant-values_need-loop-left : goal.invariant-values_need-loop-lef
 invariant-values_need-loop-left l = record {
   within : l.left ≤ length l.es;
   sums : l.all ≡ listed (values_need (drop l.left l.es));
+  room : l.all.sizes ≤ l.all.need.frame;
 }
 
 abbrev pub decreases-values_need-loop-left : goal.decreases-values_need-loop-left

@@ -14,20 +14,20 @@ returns-in_err-use_map-clause-says c = λ (sorts : List Sort) h.
 pub returns-in_err-check_shared-clause-says : goal.returns-in_err-check_shared-clause-says
 returns-in_err-check_shared-clause-says c = λ (sorts : List Sort) h.
     says_err (delete_points c.args.name.now c.args.at_map c.args.place sorts) c.args.known.now _ _ c.in_err-check_shared.field-0.0 c.from_residual-in_err-check_shared.ensures.1
-    (delete_second c.args.name.now c.args.at_map c.args.place sorts (map made_of c.args.keyed.keys) c.args.known.now c.use_map.new.known _ (record { used = c.in_ok-use_map.ensures.refuses; mentioned = c.in_ok-use_map.ensures.learned; types = h }) c.in_err-check_shared.ensures)
+    (delete_second c.args.name.now c.args.at_map c.args.place sorts (map made_of c.args.keyed.keys) c.args.known.now c.use_map.new.known _ (record { used = c.in_ok-use_map.ensures.refuses; mentioned = c.in_ok-use_map.ensures.learned; types = h }) c.in_err-check_shared.ensures.refuses)
 
 pub returns-in_err-remove-clause-says : goal.returns-in_err-remove-clause-says
 returns-in_err-remove-clause-says c = λ (sorts : List Sort) h.
     says_err (delete_points c.args.name.now c.args.at_map c.args.place sorts) c.args.known.now _ _ c.in_err-remove.field-0.0 c.from_residual-in_err-remove.ensures.1
-    (delete_third c.args.name.now c.args.at_map c.args.place sorts (map made_of c.args.keyed.keys) c.args.known.now c.use_map.new.known _ (record { used = c.in_ok-use_map.ensures.refuses; mentioned = c.in_ok-use_map.ensures.learned; types = h }) c.in_ok-check_shared.ensures c.in_err-remove.ensures.refuses)
+    (delete_third c.args.name.now c.args.at_map c.args.place sorts (map made_of c.args.keyed.keys) c.args.known.now c.use_map.new.known _ (record { used = c.in_ok-use_map.ensures.refuses; mentioned = c.in_ok-use_map.ensures.learned; types = h }) c.in_ok-check_shared.ensures.refuses c.in_err-remove.ensures.refuses)
 
 pub returns-clause-says : goal.returns-clause-says
 returns-clause-says c = λ (sorts : List Sort) h.
-    (delete_went c.args.name.now c.args.at_map c.args.place sorts (map made_of c.args.keyed.keys) c.args.known.now c.use_map.new.known c.remove.new.known (record { used = c.in_ok-use_map.ensures.refuses; mentioned = c.in_ok-use_map.ensures.learned; types = h }) c.in_ok-check_shared.ensures c.in_ok-remove.ensures.refuses c.in_ok-remove.ensures.learned).whole
+    (delete_went c.args.name.now c.args.at_map c.args.place sorts (map made_of c.args.keyed.keys) c.args.known.now c.use_map.new.known c.remove.new.known (record { used = c.in_ok-use_map.ensures.refuses; mentioned = c.in_ok-use_map.ensures.learned; types = h }) c.in_ok-check_shared.ensures.refuses c.in_ok-remove.ensures.refuses c.in_ok-remove.ensures.learned).whole
 
 pub returns-clause-removed : goal.returns-clause-removed
 returns-clause-removed c =
-    delete_leaves c.args.name.now (key_shapes (map made_of c.args.keyed.keys)) c.args.known.now c.use_map.new.known c.remove.new.known c.in_ok-use_map.ensures.learned c.in_ok-check_shared.ensures c.in_ok-remove.ensures.refuses c.in_ok-remove.ensures.learned
+    delete_leaves c.args.name.now (key_shapes (map made_of c.args.keyed.keys)) c.args.known.now c.use_map.new.known c.remove.new.known c.in_ok-use_map.ensures.learned c.in_ok-check_shared.ensures.refuses c.in_ok-remove.ensures.refuses c.in_ok-remove.ensures.learned
 
 pub returns-clause-made : goal.returns-clause-made
 returns-clause-made c = λ (inside : Bool). delete_stmt c.args.keyed.map c.args.keyed.keys inside

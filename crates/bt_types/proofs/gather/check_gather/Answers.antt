@@ -25,7 +25,7 @@ pub returns-in_err-check_bounds : goal.returns-in_err-check_bounds
 returns-in_err-check_bounds c =
     does_in_err (gather_told (of_map c.args.map.now) (kind_of_call c.args.call.now) (gathered_told (number_of_call c.args.call.now) c.args.word) c.args.word) stmt_parts c.args.known.now _ _ c.in_err-check_bounds.field-0.0 c.from_residual-in_err-check_bounds.ensures.1
     (gather_bounds (of_map c.args.map.now) (kind_of_call c.args.call.now) (gathered_told (number_of_call c.args.call.now) c.args.word) c.args.word c.args.known.now c.check_key.new.known c.check_gathered.new.known c.in_ok-keyed.keyed.map.0 (map made_of c.in_ok-keyed.keyed.keys) _ _ c.in_ok-keyed.ensures c.in_ok-number.ensures.does
-    (rw (← c.kind_of_call-kind.ensures) c.in_err-check_bounds.ensures))
+    (rw (← c.kind_of_call-kind.ensures) c.in_err-check_bounds.ensures.refuses))
 
 pub returns-in_err-write_key : goal.returns-in_err-write_key
 returns-in_err-write_key c =
@@ -34,10 +34,10 @@ returns-in_err-write_key c =
     let placed = ap (λ (s : MapSeen). s.place) (map_is m) in
     does_in_err (gather_told (of_map c.args.map.now) (kind_of_call c.args.call.now) (gathered_told (number_of_call c.args.call.now) c.args.word) c.args.word) stmt_parts c.args.known.now _ _ c.in_err-write_key.field-0.0 c.from_residual-in_err-write_key.ensures.1
     (gather_refused (of_map c.args.map.now) (kind_of_call c.args.call.now) (gathered_told (number_of_call c.args.call.now) c.args.word) c.args.word c.args.known.now c.check_key.new.known c.check_gathered.new.known c.in_ok-keyed.keyed.map.0 (map made_of c.in_ok-keyed.keyed.keys) _ _ c.in_ok-keyed.ensures c.in_ok-number.ensures.does
-    (rw (← c.kind_of_call-kind.ensures) c.in_ok-check_bounds.ensures) (rw (named, placed, ← c.kind_of_call-kind.ensures) c.in_err-write_key.ensures.refuses))
+    (rw (← c.kind_of_call-kind.ensures) c.in_ok-check_bounds.ensures.refuses) (rw (named, placed, ← c.kind_of_call-kind.ensures) c.in_err-write_key.ensures.refuses))
 
 pub write_key-requires : goal.write_key-requires
-write_key-requires c = holds_not (is_fine_agg c.kind_of_call-kind.result) BadBounds c.in_ok-check_bounds.ensures
+write_key-requires c = holds_not (is_fine_agg c.kind_of_call-kind.result) BadBounds c.in_ok-check_bounds.ensures.refuses
 
 pub returns : goal.returns
 returns c = λ (inside : Bool).
@@ -47,6 +47,6 @@ returns c = λ (inside : Bool).
     let call = c.args.call.now in
     rw (gather_stmt c.in_ok-keyed.keyed.map c.in_ok-keyed.keyed.keys c.kind_of_call-kind.result c.in_ok-number.number inside, c.kind_of_call-kind.ensures)
     (gather_done (of_map c.args.map.now) (kind_of_call call) (gathered_told (number_of_call call) c.args.word) c.args.word c.args.known.now c.check_key.new.known c.check_gathered.new.known c.write_key.new.known c.in_ok-keyed.keyed.map.0 (map made_of c.in_ok-keyed.keyed.keys) c.in_ok-number.number
-    c.in_ok-keyed.ensures c.in_ok-number.ensures.does (rw (← c.kind_of_call-kind.ensures) c.in_ok-check_bounds.ensures)
+    c.in_ok-keyed.ensures c.in_ok-number.ensures.does (rw (← c.kind_of_call-kind.ensures) c.in_ok-check_bounds.ensures.refuses)
     (rw (named, ← c.kind_of_call-kind.ensures) c.in_ok-write_key.ensures.refuses) (rw (named, ← c.kind_of_call-kind.ensures) c.in_ok-write_key.ensures.learned)
     (rw c.in_ok-number.ensures.there (counts_alone call)))

@@ -14,4 +14,4 @@ fine k name other kind shapes others breaks e f h g is = subst (λ (s : List Sha
 
 pub decide-requires : goal.decide-requires
 decide-requires c =
-    fine c.args.known.now c.args.name.now c.as_slice.result.now c.args.kind c.args.shapes c.as_slice-2.result.now c.write_breaks.result c.as_slice.ensures c.as_slice-2.ensures c.write_breaks.ensures c.in_ok-refuse.ensures c.requires
+    fine c.args.known.now c.args.name.now c.as_slice.result.now c.args.kind c.args.shapes c.as_slice-2.result.now c.write_breaks.result c.as_slice.ensures c.as_slice-2.ensures c.write_breaks.ensures c.in_ok-refuse.ensures.refuses c.requires

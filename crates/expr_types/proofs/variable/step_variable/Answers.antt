@@ -9,13 +9,13 @@ use Rattle.expr_types.specs.Checked.{Checked}
 use Rattle.expr_types.proofs.Constructs.{step_var_checked}
 use Rattle.expr_types.proofs.variable.step_variable.Goals as goal
 
-pub returns-in_ok-number-in-Int : goal.returns-in_ok-number-in-Int
-returns-in_ok-number-in-Int c =
+pub returns-in_ok-number-in-Int-clause-checks : goal.returns-in_ok-number-in-Int-clause-checks
+returns-in_ok-number-in-Int-clause-checks c =
     let k = c.args.known.now in
     let v = c.args.var.now in
     let found =
     subst (λ (s : Shape). (var_in v.name k.vars ≡ Some s) × (slice_get k.vars c.in-Some.at ≡ Some (let x : Var = record { name = v.name; shape = s } in x))) c.in-Int.is
     (subst (λ (n : List ℕ). (var_in n k.vars ≡ Some c.in-Some.shape) × (slice_get k.vars c.in-Some.at ≡ Some (let x : Var = record { name = n; shape = c.in-Some.shape } in x))) c.as_slice.ensures c.in-Some.ensures) in
-    let numbered = ap (λ n. slice_get k.vars n) c.in_ok-number-in-Int.ensures ∙ found.1 in
+    let numbered = ap (λ n. slice_get k.vars n) c.in_ok-number-in-Int.ensures.number ∙ found.1 in
     subst (λ (ps : List Part). Checked (step_seen c.args.plus c.args.prefix c.args.place (OnVar v.name v.place)) k k (made Int ps)) (sym c.stepped.ensures)
     (step_var_checked k v.name v.place c.args.place c.in_ok-number-in-Int.number c.args.plus c.args.prefix found.0 numbered)

@@ -8,12 +8,12 @@ use Rattle.expr_types.specs.Checked.{Checked}
 use Rattle.expr_types.proofs.Constructs.{var_checked}
 use Rattle.expr_types.proofs.variable.variable.Goals as goal
 
-pub returns-in_ok-number-in-Some : goal.returns-in_ok-number-in-Some
-returns-in_ok-number-in-Some c =
+pub returns-in_ok-number-in-Some-clause-checks : goal.returns-in_ok-number-in-Some-clause-checks
+returns-in_ok-number-in-Some-clause-checks c =
     let k = c.args.known.now in
     let v = c.args.var.now in
     let shape = c.in-Some.shape in
     let found = subst (λ (n : List ℕ). (var_in n k.vars ≡ Some shape) × (slice_get k.vars c.in-Some.place ≡ Some (let x : Var = record { name = n; shape = shape } in x))) c.as_slice.ensures c.in-Some.ensures in
-    let numbered = ap (λ n. slice_get k.vars n) c.in_ok-number-in-Some.ensures ∙ found.1 in
+    let numbered = ap (λ n. slice_get k.vars n) c.in_ok-number-in-Some.ensures.number ∙ found.1 in
     subst (λ (m : Made). Checked (seen (at v.place (ReadsVar v.name) ∷ []) (OfVar v.name) (VarWord v.name ∷ [])) k k m) (sym c.variable_of.ensures)
     (var_checked k v.name v.place c.in_ok-number-in-Some.number shape found.0 numbered)

@@ -1,4 +1,4 @@
-use Rattle.std.proofs.Common.{◌≡◌, ◌++◌, ◌∷◌, [], sym, subst, List}
+use Rattle.std.proofs.Common.{◌++◌, ◌∷◌, [], sym, subst, List}
 use Rattle.std.specs.List.{AllZip}
 use Rattle.ir_code.specs.declared.probe.IrProbe.{IrProbe}
 use Rattle.ir_fold.specs.Folded.{IsFoldOf}

@@ -8,4 +8,4 @@ returns-in_ok-push-in-None-clause-numbered c =
     let none : has_call c.args.format.now c.args.place c.args.self.now.printed ≡ false =
     subst (λ (n : List ℕ). has_call n c.args.place c.args.self.now.printed ≡ false) c.as_slice.ensures (rw c.in-None.is at c.in_ok-found.ensures) in
     last_pushed c.args.format.now c.as_slice-in-None.result.now c.args.place c.args.pieces c.args.self.now.printed c.push.new.self c.in_ok-number-in-None.number
-    none c.requires c.as_slice-in-None.ensures (c.in_ok-number-in-None.ensures ∙ c.len.ensures) c.in_ok-push-in-None.ensures
+    none c.requires c.as_slice-in-None.ensures (c.in_ok-number-in-None.ensures.number ∙ c.len.ensures) c.in_ok-push-in-None.ensures

@@ -8,7 +8,7 @@ added : (c : goal.In_ok-push-in-None) → (c.in_ok-number-in-None.number ≡ pla
 added c =
     let new_one : has_name c.args.name.now c.args.self.now.names ≡ false =
     subst (λ (n : List ℕ). has_name n c.args.self.now.names ≡ false) c.as_slice-2.ensures (subst (λ (ns : List (List ℕ)). has_name c.as_slice-2.result.now ns ≡ false) c.as_slice.ensures c.in-None.ensures) in
-    name_added c.args.self.now.names c.push.new.self c.args.name.now c.in_ok-try_copy-in-None.field-0 c.in_ok-number-in-None.number new_one c.in_ok-try_copy-in-None.ensures (c.in_ok-number-in-None.ensures ∙ c.len.ensures) c.in_ok-push-in-None.ensures.ok
+    name_added c.args.self.now.names c.push.new.self c.args.name.now c.in_ok-try_copy-in-None.field-0 c.in_ok-number-in-None.number new_one c.in_ok-try_copy-in-None.ensures (c.in_ok-number-in-None.ensures.number ∙ c.len.ensures) c.in_ok-push-in-None.ensures.ok
 
 pub returns-in_ok-push-in-None-clause-placed : goal.returns-in_ok-push-in-None-clause-placed
 returns-in_ok-push-in-None-clause-placed c = (added c).0
