@@ -1,0 +1,4 @@
+pub mod Plans
+pub mod Ready
+pub mod Scripts
+pub mod Turning
