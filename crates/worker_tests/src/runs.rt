@@ -44,7 +44,7 @@ pub struct Did {
 
 /// The turns that a worker leaves, and what it did.
 fn finished<B: Drop, G: Gate>(alloc: Global, task: Task<B, G>) -> Result<(WorkerTurns, Did), Memory>
-    ensures { IfOk result (λ r. r.0 ≡ task.worker.turns) }
+    ensures { IfOk result (λ r. r.0 ≡ task.entry.worker.turns) }
 {
     let Task { worker, ended } = task;
     let (turns, trace) = worker.finish();

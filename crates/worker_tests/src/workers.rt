@@ -102,10 +102,12 @@ fn run_two<'g, B: Bodies + Drop + Send, G: Gate + Sync, R: Threads + Wait + Sync
     requires some { 0 < threads }
     requires one { IsReady B.plan world.now one.worker }
     requires other { IsReady B.plan world.now other.worker }
-    ensures one { IfOk result (λ r. AreTurnsOf (sets_in world.now) one.worker.cpu r.0.worker.turns) }
-    ensures other { IfOk result (λ r. AreTurnsOf (sets_in world.now) other.worker.cpu r.1.worker.turns) }
+    ensures one { IfOk result (λ r. AreTurnsOf (sets_in world.now) one.entry.worker.cpu r.0.worker.turns) }
+    ensures other { IfOk result (λ r. AreTurnsOf (sets_in world.now) other.entry.worker.cpu r.1.worker.turns) }
 {
-    let mut tasks = vec![in alloc; one, other]?;
+    let mut tasks = Vec::with_capacity(alloc, 2)?;
+    tasks.push_reserved(one);
+    tasks.push_reserved(other);
     run_each(rt, alloc, world, tasks.as_mut_slice(), threads);
     let other = tasks.remove(1);
     let one = tasks.remove(0);
@@ -123,8 +125,8 @@ pub fn run_both<'g, B: Bodies + Drop + Send, G: Gate + Sync, R: Threads + Wait +
 ) -> Result<(Task<'g, B, G>, Task<'g, B, G>), Memory>
     requires first { IsReady B.plan world.now first.worker }
     requires second { IsReady B.plan world.now second.worker }
-    ensures first { IfOk result (λ r. AreTurnsOf (sets_in world.now) first.worker.cpu r.0.worker.turns) }
-    ensures second { IfOk result (λ r. AreTurnsOf (sets_in world.now) second.worker.cpu r.1.worker.turns) }
+    ensures first { IfOk result (λ r. AreTurnsOf (sets_in world.now) first.entry.worker.cpu r.0.worker.turns) }
+    ensures second { IfOk result (λ r. AreTurnsOf (sets_in world.now) second.entry.worker.cpu r.1.worker.turns) }
 {
     match order {
         Order::FirstBefore => run_two(rt, alloc, world, 1, first, second),
