@@ -1,4 +1,3 @@
+pub mod Pairs
 pub mod Plans
-pub mod Ready
 pub mod Scripts
-pub mod Turning

@@ -20,10 +20,10 @@ const WELL: Option<Result<Outcome, Memory>> = Some(Ok(Outcome {
 /// How a worker ends whose bodies run out of memory.
 const WANT: Option<Result<Outcome, Memory>> = Some(Err(Memory));
 
-/// Whether these are all steps that a CPU makes at so many events, one behind the other. It prints its own number.
-fn is_at_events(did: &Did, cpu: u32, events: usize) -> bool {
+/// Whether a worker made so many steps, and they are those of its CPU's events, from the first one on. A CPU prints its own number.
+fn made_first(did: &Did, cpu: u32, count: usize) -> bool {
     let steps = did.steps.as_slice();
-    if steps.len() != 3 * events {
+    if steps.len() != count {
         return false;
     }
     for place in 0..steps.len() {
@@ -36,30 +36,30 @@ fn is_at_events(did: &Did, cpu: u32, events: usize) -> bool {
     true
 }
 
-/// At which run the bodies of each CPU run out of memory, 0 for never; how the worker of each ends; and at how many events it makes steps.
+/// At which run the bodies of each CPU run out of memory, 0 for never; how the worker of each ends; and how many steps it makes.
 const ROWS: [((u32, u32), [Option<Result<Outcome, Memory>>; 2], [usize; 2]); 5] = [
-    ((0, 0), [WELL, WELL], [2, 2]),
-    ((1, 0), [WANT, WELL], [0, 2]),
-    ((2, 0), [WANT, WELL], [1, 2]),
-    ((0, 1), [WELL, WANT], [2, 0]),
-    ((0, 2), [WELL, WANT], [2, 1]),
+    ((0, 0), [WELL, WELL], [6, 6]),
+    ((1, 0), [WANT, WELL], [0, 6]),
+    ((2, 0), [WANT, WELL], [3, 6]),
+    ((0, 1), [WELL, WANT], [6, 0]),
+    ((0, 2), [WELL, WANT], [6, 3]),
 ];
 
 #[test]
 fn want_of_memory_stops_one_worker_alone(rt: HostRuntime) -> Result<(), Fail> {
     let alloc = rt.alloc();
     let scripted = new_scripted(alloc)?;
-    for (fails_at, ends, events) in ROWS {
+    for (fails_at, ends, steps) in ROWS {
         for order in [Order::FirstBefore, Order::SecondBefore, Order::Beside] {
             let made = make(&rt, alloc, &scripted, fails_at, order)?;
             assert!(rt; made.first.ended == ends[0], "{fails_at:?} {order:?}");
             assert!(rt; made.second.ended == ends[1], "{fails_at:?} {order:?}");
             assert!(rt;
-                is_at_events(&made.first, 0, events[0]),
+                made_first(&made.first, 0, steps[0]),
                 "{fails_at:?} {order:?}"
             );
             assert!(rt;
-                is_at_events(&made.second, 1, events[1]),
+                made_first(&made.second, 1, steps[1]),
                 "{fails_at:?} {order:?}"
             );
             assert_eq!(rt; made.closed, (PARTS as usize, 3));

@@ -79,6 +79,23 @@ fn run_each<B: Bodies + Send, G: Gate + Sync, R: Threads + Wait + Sync>(
     thread::for_each_mut(rt, tasks, threads, &|_, task| run_one(shared, task));
 }
 
+/// The same, of a vector.
+fn run_all<B: Bodies + Send, G: Gate + Sync, R: Threads + Wait + Sync>(
+    rt: &R,
+    alloc: Global,
+    world: &SharedWorld,
+    tasks: &mut Vec<Task<B, G>>,
+    threads: usize,
+)
+    requires some { 0 < threads }
+    requires ready { (i : ℕ) (d : Task B G) → i < length tasks.old.items → IsReady B.plan world.now (slice_index_or tasks.old.items i d).worker }
+    ensures same { length tasks.new.items ≡ length tasks.old.items }
+    ensures ran { (i : ℕ) (d : Task B G) → i < length tasks.old.items →
+        AreTurnsOf (sets_in world.now) (slice_index_or tasks.old.items i d).worker.cpu (slice_index_or tasks.new.items i d).worker.turns }
+{
+    run_each(rt, alloc, world, tasks.as_mut_slice(), threads);
+}
+
 /// In which order two workers run.
 #[derive(Clone, Copy, PartialEq, Eq, Debug)]
 pub enum Order {
@@ -108,7 +125,7 @@ fn run_two<'g, B: Bodies + Drop + Send, G: Gate + Sync, R: Threads + Wait + Sync
     let mut tasks = Vec::with_capacity(alloc, 2)?;
     tasks.push_reserved(one);
     tasks.push_reserved(other);
-    run_each(rt, alloc, world, tasks.as_mut_slice(), threads);
+    run_all(rt, alloc, world, &mut tasks, threads);
     let other = tasks.remove(1);
     let one = tasks.remove(0);
     Ok((one, other))
