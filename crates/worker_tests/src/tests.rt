@@ -6,7 +6,6 @@ use crate::workers::Order;
 use actor_plan::outcome::Outcome;
 use bt_core::limits::PARTS;
 use bt_core::memory::Memory;
-use std::mem::ManuallyDrop;
 use std::test::Fail;
 
 /// What a CPU does at each of its two events: what it sets the shared map to, what it adds at its own table, and that it prints.
@@ -49,8 +48,7 @@ const ROWS: [((u32, u32), [Option<Result<Outcome, Memory>>; 2], [usize; 2]); 5] 
 #[test]
 fn want_of_memory_stops_one_worker_alone(rt: HostRuntime) -> Result<(), Fail> {
     let alloc = rt.alloc();
-    // To drop a typed script takes a proof as long as all else here, so it is left.
-    let scripted = ManuallyDrop::new(new_scripted(alloc)?);
+    let scripted = new_scripted(alloc)?;
     for (fails_at, ends, steps) in ROWS {
         for order in [Order::FirstBefore, Order::SecondBefore, Order::Beside] {
             let made = make(&rt, alloc, &scripted, fails_at, order)?;
