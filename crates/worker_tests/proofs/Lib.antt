@@ -1,0 +1,4 @@
+pub mod Pairs
+pub mod Plans
+pub mod Ready
+pub mod Scripts
