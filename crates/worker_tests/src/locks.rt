@@ -1,5 +1,5 @@
 // The locks of a run of two CPUs, and the turns of both and of the main actor at them.
-ghost use Rattle.std.specs.Prelude.{◌≡◌, ◌+◌, ◌<◌, ◌^◌, [], ◌∷◌, All, length, IfOk};
+ghost use Rattle.std.specs.Prelude.{◌≡◌, ◌<◌, ◌^◌, [], ◌∷◌, All, length, IfOk};
 ghost use Rattle.bt_core.specs.Kinds.{IsFineDecl};
 ghost use Rattle.cpu_worker.specs.Worlds.{AreTurnsOf};
 ghost use Rattle.percpu_tables.specs.Tables.{table_actors, table_maps};
