@@ -29,7 +29,7 @@ SCRIPT may be - for standard input, or -e 'PROGRAM' for a script as it stands.
 --serial takes the events of all CPUs in one order, by their times; --stats tells how many instructions were run;
 --json writes JSON lines in place of text.
 """
-UNPROVED_HELP = """btreplay --unproved and the words of a command do it by a build that is not proved, which is there within some two minutes.
+UNPROVED_HELP = """btreplay --unproved and the words of a command do it by a build that is not proved, which is there within some three minutes.
 """
 TAKES_SCRIPT = ("run", "check", "code", "vet", "explain", "account", "verify")
 FAILED = 1
