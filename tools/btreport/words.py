@@ -34,6 +34,6 @@ def parsed(arguments):
     parser.add_argument(
         "--unproved",
         action="store_true",
-        help="take the build that is not proved, which is there within some two minutes",
+        help="take the build that is not proved, which is there within some three minutes",
     )
     return parser.parse_args(arguments)
