@@ -73,17 +73,29 @@ pub fn joined(alloc: Global, parts: &[&[u8]]) -> Result<Vec<u8>, Memory> {
     Ok(bytes)
 }
 
+/// A file of this name.
+fn file(alloc: Global, name: &str, bytes: Vec<u8>) -> Result<(String, Vec<u8>), Memory> {
+    Ok((String::from_str(alloc, name)?, bytes))
+}
+
 /// A script and a recording under their names.
 pub fn files(
     alloc: Global,
     script: &[u8],
     recording: Vec<u8>,
 ) -> Result<Vec<(String, Vec<u8>)>, Memory> {
-    let mut files = Vec::new(alloc);
-    let script = Vec::from_slice(alloc, script)?;
-    files.push((String::from_str(alloc, "s.bt")?, script))?;
-    files.push((String::from_str(alloc, "r.bin")?, recording))?;
-    Ok(files)
+    let recording = file(alloc, "r.bin", recording)?;
+    let script = file(alloc, "s.bt", Vec::from_slice(alloc, script)?)?;
+    Ok(vec![in alloc; script, recording]?)
+}
+
+/// Words as owned texts.
+fn words_of(alloc: Global, asked: &[&str]) -> Result<Vec<String>, Memory> {
+    let mut words = Vec::new(alloc);
+    for word in asked {
+        words.push(String::from_str(alloc, word)?)?;
+    }
+    Ok(words)
 }
 
 /// What a call answers to words on files and sinks.
@@ -96,10 +108,7 @@ pub fn report_on<S: Shelf, G: Gate + Sync, R: Threads + Wait + Sync>(
     err: &mut MemSink,
     gate: &G,
 ) -> Result<Report, Memory> {
-    let mut words = Vec::new(alloc);
-    for word in asked {
-        words.push(String::from_str(alloc, word)?)?;
-    }
+    let words = words_of(alloc, asked)?;
     Ok(serve(rt, alloc, words.as_slice(), shelf, out, err, gate))
 }
 
@@ -110,8 +119,33 @@ pub struct Answer {
     pub out: MemSink,
 }
 
-/// The answer to words over a script and the bytes of a recording, on a shelf and sinks that do not fail.
+impl Answer {
+    /// The number of the steps that were made, where there is work.
+    pub fn steps(&self) -> Option<usize> {
+        let work = self.report.work.as_ref()?;
+        Some(work.steps.len())
+    }
+
+    /// Whether the call ended well, and wrote this.
+    pub fn is(&self, told: &[u8]) -> bool {
+        self.report.status == 0 && self.out.taken() == told
+    }
+}
+
+/// The answer to words over a script and the parts of a recording, on a shelf and sinks that do not fail.
 pub fn answer_to<G: Gate + Sync, R: Threads + Wait + Sync>(
+    rt: &R,
+    alloc: Global,
+    asked: &[&str],
+    script: &[u8],
+    recording: &[&[u8]],
+    gate: &G,
+) -> Result<Answer, Memory> {
+    answer_over(rt, alloc, asked, script, joined(alloc, recording)?, gate)
+}
+
+/// The same over the bytes of a recording.
+pub fn answer_over<G: Gate + Sync, R: Threads + Wait + Sync>(
     rt: &R,
     alloc: Global,
     asked: &[&str],

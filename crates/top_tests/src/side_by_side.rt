@@ -1,5 +1,5 @@
 // That CPUs run side by side, each at an object of its own.
-use crate::files::{AT_0, AT_1, Answer, HEAD, ONE_EACH, REST, VALUE, answer_to, joined};
+use crate::files::{AT_0, AT_1, HEAD, ONE_EACH, REST, VALUE, answer_to};
 use bt_core::map::MapId;
 use bt_core::step::ObjectId;
 use std::sync::atomic::AtomicU64;
@@ -67,22 +67,10 @@ const FIRST_PARTS: [ObjectId; 2] = [
 /// The words of a run on threads.
 const RUN: [&str; 3] = ["run", "s.bt", "r.bin"];
 
-#[test]
-fn cpus_run_side_by_side(rt: HostRuntime) -> Result<(), Fail> {
-    let rows = [
-        (
-            b"tracepoint:t:e { @[comm] = count(); }".as_slice(),
-            b"@[bash]: 2\n\n".as_slice(),
-            (ObjectId::Cpu(0), ObjectId::Cpu(1)),
-        ),
-        (
-            b"tracepoint:t:e { if (cpu == 0) { @x = 1; } else { @y = 1; } }".as_slice(),
-            b"@x: 1\n\n@y: 1\n\n".as_slice(),
-            (FIRST_PARTS[0], FIRST_PARTS[1]),
-        ),
-    ];
-    for (script, wanted, (first, second)) in rows {
-        let gate = UntilBoth {
+impl UntilBoth {
+    /// A gate that has noted nothing.
+    fn new() -> UntilBoth {
+        UntilBoth {
             first: Noted {
                 turns: AtomicU64::new(0),
                 object: Mutex::new(None),
@@ -92,15 +80,39 @@ fn cpus_run_side_by_side(rt: HostRuntime) -> Result<(), Fail> {
                 object: Mutex::new(None),
             },
             missed: AtomicU64::new(0),
-        };
-        let alloc = rt.alloc();
-        let recording = joined(alloc, &ONE_EACH)?;
-        let Answer { report, out } = answer_to(&rt, alloc, &RUN, script, recording, &gate)?;
-        assert!(rt; report.status == 0);
-        assert!(rt; out.taken() == wanted);
-        assert!(rt; *gate.first.object.lock(&rt) == Some(first));
-        assert!(rt; *gate.second.object.lock(&rt) == Some(second));
-        assert_eq!(rt; gate.missed.load(SeqCst), 0);
+        }
+    }
+
+    /// Whether the first turns were at these objects, and each was held until the other one was.
+    fn has_noted<R: Wait>(&self, rt: &R, first: ObjectId, second: ObjectId) -> bool {
+        *self.first.object.lock(rt) == Some(first)
+            && *self.second.object.lock(rt) == Some(second)
+            && self.missed.load(SeqCst) == 0
+    }
+}
+
+/// Scripts, what they print, and the objects of the first turns.
+const SIDE_BY_SIDE: [(&[u8], &[u8], [ObjectId; 2]); 2] = [
+    (
+        b"tracepoint:t:e { @[comm] = count(); }",
+        b"@[bash]: 2\n\n",
+        [ObjectId::Cpu(0), ObjectId::Cpu(1)],
+    ),
+    (
+        b"tracepoint:t:e { if (cpu == 0) { @x = 1; } else { @y = 1; } }",
+        b"@x: 1\n\n@y: 1\n\n",
+        FIRST_PARTS,
+    ),
+];
+
+#[test]
+fn cpus_run_side_by_side(rt: HostRuntime) -> Result<(), Fail> {
+    let alloc = rt.alloc();
+    for (script, told, [first, second]) in &SIDE_BY_SIDE {
+        let gate = UntilBoth::new();
+        let answer = answer_to(&rt, alloc, &RUN, *script, &ONE_EACH, &gate)?;
+        assert!(rt; answer.is(*told));
+        assert!(rt; gate.has_noted(&rt, *first, *second));
     }
     Ok(())
 }
@@ -125,29 +137,25 @@ const TWO_EACH: [&[u8]; 16] = [
     VALUE,
 ];
 
+/// Scripts, recordings, and how many steps each run makes.
+const STEPS: [(&[u8], &[&[u8]], usize); 2] = [
+    // For each event an add, three reads and what is emitted.
+    (b"tracepoint:t:e { @ = count(); print(@); }", &ONE_EACH, 10),
+    // Four adds, and for each of two ticks two crossings, three reads and what is emitted.
+    (
+        b"tracepoint:t:e { @ = count(); } interval:s:1 { print(@); }",
+        &TWO_EACH,
+        16,
+    ),
+];
+
 #[test]
 fn every_schedule_has_as_many_steps(rt: HostRuntime) -> Result<(), Fail> {
-    let rows = [
-        // For each event an add, three reads and what is emitted.
-        (
-            b"tracepoint:t:e { @ = count(); print(@); }".as_slice(),
-            ONE_EACH.as_slice(),
-            10,
-        ),
-        // Four adds, and for each of two ticks two crossings, three reads and what is emitted.
-        (
-            b"tracepoint:t:e { @ = count(); } interval:s:1 { print(@); }".as_slice(),
-            TWO_EACH.as_slice(),
-            16,
-        ),
-    ];
-    for (script, parts, wanted) in rows {
+    let alloc = rt.alloc();
+    for (script, parts, wanted) in &STEPS {
         for _ in 0..50 {
-            let alloc = rt.alloc();
-            let recording = joined(alloc, parts)?;
-            let Answer { report, .. } = answer_to(&rt, alloc, &RUN, script, recording, &Open)?;
-            let work = report.work.ok_or("no work")?;
-            assert_eq!(rt; work.steps.len(), wanted);
+            let answer = answer_to(&rt, alloc, &RUN, *script, *parts, &Open)?;
+            assert_eq!(rt; answer.steps(), Some(*wanted));
         }
     }
     Ok(())

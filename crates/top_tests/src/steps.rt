@@ -1,8 +1,8 @@
 // The steps that are handed back.
-use crate::files::{
-    AT_0, AT_1, AT_2, AT_3, Answer, HEAD, ONE, ONE_EACH, REST, VALUE, answer_to, joined,
-};
-use bt_core::step::Op;
+use crate::files::{AT_0, AT_1, AT_2, AT_3, Answer, HEAD, ONE, ONE_EACH, REST, VALUE, answer_to};
+use bt_core::memory::Memory;
+use bt_core::step::{Op, Step};
+use std::alloc::Global;
 use std::test::Fail;
 use turn_lock::gate::Open;
 
@@ -169,24 +169,36 @@ const ROWS: [Row; 5] = [
     ),
 ];
 
+/// Whether steps are by these actors, do this, and have the stamps from 1 on.
+fn are_these(made: &[Step], wanted: &[(u32, &str)]) -> bool {
+    if made.len() != wanted.len() {
+        return false;
+    }
+    let mut stamp = 1u64;
+    for (step, (actor, name)) in made.iter().zip(wanted) {
+        if step.actor != *actor || step.stamp != stamp || name_of(&step.op) != *name {
+            return false;
+        }
+        stamp = stamp.saturating_add(1);
+    }
+    true
+}
+
+/// Whether these steps are handed back.
+fn hands_back(alloc: Global, answer: &Answer, wanted: &[(u32, &str)]) -> Result<bool, Memory> {
+    match &answer.report.work {
+        Some(work) => Ok(are_these(work.steps.to_vec(alloc)?.as_slice(), wanted)),
+        None => Ok(false),
+    }
+}
+
 #[test]
 fn steps_are_handed_back_in_their_order(rt: HostRuntime) -> Result<(), Fail> {
     let alloc = rt.alloc();
-    for (place, (words, script, parts, wanted, steps)) in ROWS.iter().enumerate() {
-        let recording = joined(alloc, parts)?;
-        let Answer { report, out } = answer_to(&rt, alloc, words, script, recording, &Open)?;
-        assert!(rt; report.status == 0 && out.taken() == *wanted, "row {place}");
-        let made = report.work.ok_or("no work")?.steps.to_vec(alloc)?;
-        assert!(rt; made.len() == steps.len(), "row {place}");
-        let mut stamp = 1u64;
-        for (step, (actor, name)) in made.iter().zip(steps.iter()) {
-            assert!(rt;
-                step.actor == *actor && step.stamp == stamp,
-                "row {place}, step {stamp}"
-            );
-            assert!(rt; name_of(&step.op) == *name, "row {place}, step {stamp}");
-            stamp = stamp.saturating_add(1);
-        }
+    for (place, (words, script, parts, told, steps)) in ROWS.iter().enumerate() {
+        let answer = answer_to(&rt, alloc, *words, *script, *parts, &Open)?;
+        assert!(rt; answer.is(*told), "row {place}");
+        assert!(rt; hands_back(alloc, &answer, *steps)?, "row {place}");
     }
     Ok(())
 }
@@ -199,12 +211,8 @@ const SERIAL: [&str; 4] = ["run", "--serial", "s.bt", "r.bin"];
 
 #[test]
 fn a_read_asks_three_tables_where_there_are_two_cpus(rt: HostRuntime) -> Result<(), Fail> {
-    let alloc = rt.alloc();
-    let recording = joined(alloc, &ONE_EACH)?;
-    let Answer { report, out } = answer_to(&rt, alloc, &SERIAL, SECOND, recording, &Open)?;
-    assert!(rt; report.status == 0);
-    assert!(rt; out.taken() == b"@c: 2\n\n@hit: 1\n\n".as_slice());
-    let work = report.work.ok_or("no work")?;
-    assert!(rt; work.steps.len() == 9);
+    let answer = answer_to(&rt, rt.alloc(), &SERIAL, SECOND, &ONE_EACH, &Open)?;
+    assert!(rt; answer.is(b"@c: 2\n\n@hit: 1\n\n"));
+    assert_eq!(rt; answer.steps(), Some(9));
     Ok(())
 }

@@ -1,11 +1,10 @@
 // Faults of files and sinks, want of memory, and a long recording.
 ghost use Rattle.std.specs.Prelude.{◌-◌, ◌^◌, None, []};
 
-use crate::files::{
-    AT_0, AT_1, AT_2, Answer, HEAD, REST, VALUE, answer_to, files, joined, report_on,
-};
+use crate::files::{AT_0, AT_1, AT_2, HEAD, REST, VALUE, answer_over, files, joined, report_on};
 use crate::machine::instructions_of;
 use bt_core::items::Items;
+use bt_core::memory::Memory;
 use bt_io::mem_shelf::MemShelf;
 use bt_io::mem_sink::MemSink;
 use bt_io::shelf::{Shelf, ShelfError};
@@ -20,19 +19,22 @@ const COUNT: &[u8] = b"tracepoint:t:e { @ = count(); }";
 /// The words that run it.
 const RUN: [&str; 3] = ["run", "s.bt", "r.bin"];
 
-#[test]
-fn a_million_events_are_counted(rt: HostRuntime) -> Result<(), Fail> {
-    let alloc = rt.alloc();
-    let parts = [b"BTRACE01\x01\0\0\0", HEAD, b"\0\0\0\0\0\0\x10\0"];
-    let mut recording = joined(alloc, &parts)?;
+/// A recording of one CPU with 1,048,576 events.
+fn million(alloc: Global) -> Result<Vec<u8>, Memory> {
+    let mut recording = joined(alloc, &[b"BTRACE01\x01\0\0\0", HEAD, b"\0\0\0\0\0\0\x10\0"])?;
     for time in 0..1_048_576u64 {
         recording.extend_from_slice(&time.to_le_bytes())?;
         recording.extend_from_slice(REST)?;
         recording.extend_from_slice(VALUE)?;
     }
-    let Answer { report, out } = answer_to(&rt, alloc, &RUN, COUNT, recording, &Open)?;
-    assert!(rt; report.status == 0);
-    assert!(rt; out.taken() == b"@: 1048576\n\n".as_slice());
+    Ok(recording)
+}
+
+#[test]
+fn a_million_events_are_counted(rt: HostRuntime) -> Result<(), Fail> {
+    let alloc = rt.alloc();
+    let answer = answer_over(&rt, alloc, &RUN, COUNT, million(alloc)?, &Open)?;
+    assert!(rt; answer.is(b"@: 1048576\n\n"));
     Ok(())
 }
 
@@ -100,12 +102,8 @@ const FAULTS: [Row; 4] = [
 
 /// Whether a report has the work of three events that are counted, with its text, its steps and the instructions of its
 /// one program.
-fn counts_three(alloc: Global, report: Report) -> Result<bool, Fail> {
-    if report.work.is_none() {
-        return Ok(false);
-    }
-    let work = report.work.ok_or("no work")?;
-    let [program] = report.programs.as_slice() else {
+fn counts_three(alloc: Global, report: &Report) -> Result<bool, Fail> {
+    let (Some(work), [program]) = (&report.work, report.programs.as_slice()) else {
         return Ok(false);
     };
     let one = instructions_of(alloc, program, 42)?;
@@ -116,21 +114,49 @@ fn counts_three(alloc: Global, report: Report) -> Result<bool, Fail> {
     )
 }
 
+/// A shelf and two sinks.
+#[derive(Drop)]
+struct Bench {
+    shelf: MemShelf,
+    out: MemSink,
+    err: MemSink,
+}
+
+/// A sink that takes so many bytes a call, of which the calls of these numbers fail.
+fn sink_of(alloc: Global, taking: &Taking) -> Result<MemSink, Memory> {
+    let failing = Vec::from_slice(alloc, taking.1)?;
+    MemSink::new(alloc, 4096, taking.0.max(1), failing)
+}
+
+/// A shelf with the counting script and three events, of which these reads fail.
+fn shelf_of(alloc: Global, failing: &[u32]) -> Result<MemShelf, Memory> {
+    let files = files(alloc, COUNT, joined(alloc, &THREE)?)?;
+    Ok(MemShelf::new(alloc, files, Vec::from_slice(alloc, failing)?))
+}
+
+/// The shelf and the sinks of a row.
+fn bench_of(alloc: Global, failing: &[u32], takings: &[Taking; 2]) -> Result<Bench, Memory> {
+    Ok(Bench {
+        shelf: shelf_of(alloc, failing)?,
+        out: sink_of(alloc, &takings[0])?,
+        err: sink_of(alloc, &takings[1])?,
+    })
+}
+
 #[test]
 fn a_fault_leaves_a_prefix_and_the_work(rt: HostRuntime) -> Result<(), Fail> {
     let alloc = rt.alloc();
-    for (words, failing, [out, err], status, told, line, works) in FAULTS {
-        let failing = Vec::from_slice(alloc, failing)?;
-        let files = files(alloc, COUNT, joined(alloc, &THREE)?)?;
-        let mut shelf = MemShelf::new(alloc, files, failing);
-        assert!(rt; 0 < out.0 && 0 < err.0);
-        let mut out = MemSink::new(alloc, 4096, out.0, Vec::from_slice(alloc, out.1)?)?;
-        let mut err = MemSink::new(alloc, 4096, err.0, Vec::from_slice(alloc, err.1)?)?;
-        let report = report_on(&rt, alloc, words, &mut shelf, &mut out, &mut err, &Open)?;
-        assert!(rt; report.status == status, "{line:?}");
-        assert!(rt; out.taken() == told && err.taken() == line, "{line:?}");
-        assert!(rt; report.work.is_some() == works, "{line:?}");
-        assert!(rt; counts_three(alloc, report)? == works, "{line:?}");
+    for (words, failing, takings, status, told, line, works) in &FAULTS {
+        let mut bench = bench_of(alloc, *failing, takings)?;
+        let Bench { shelf, out, err } = &mut bench;
+        let report = report_on(&rt, alloc, *words, shelf, out, err, &Open)?;
+        assert!(rt; report.status == *status, "{line:?}");
+        assert!(rt;
+            bench.out.taken() == *told && bench.err.taken() == *line,
+            "{line:?}"
+        );
+        assert!(rt; report.work.is_some() == *works, "{line:?}");
+        assert!(rt; counts_three(alloc, &report)? == *works, "{line:?}");
     }
     Ok(())
 }
@@ -169,28 +195,36 @@ impl Shelf for Refusing {
     }
 }
 
+/// Whether the recording is too long, or memory runs out; the status; and the line that is told.
+const REFUSED: [(bool, u8, &[u8]); 2] = [
+    (true, 3, b"r.bin: recording too long\n"),
+    (false, 6, b"out of memory\n"),
+];
+
+/// Whether the script was asked for, and then the recording.
+fn asked_for_both(shelf: &Refusing) -> bool {
+    match shelf.asked.as_slice() {
+        [script, recording] => {
+            script.as_slice() == b"s.bt".as_slice() && recording.as_slice() == b"r.bin".as_slice()
+        }
+        _ => false,
+    }
+}
+
 #[test]
 fn a_long_recording_and_want_of_memory_are_told(rt: HostRuntime) -> Result<(), Fail> {
     let alloc = rt.alloc();
-    let rows = [
-        (true, 3, b"r.bin: recording too long\n".as_slice()),
-        (false, 6, b"out of memory\n".as_slice()),
-    ];
-    for (is_long, status, line) in rows {
+    for (is_long, status, line) in &REFUSED {
         let mut shelf = Refusing {
-            is_long,
+            is_long: *is_long,
             asked: Items::new(alloc),
         };
         let mut out = MemSink::new(alloc, 4096, 4096, Vec::new(alloc))?;
         let mut err = MemSink::new(alloc, 4096, 4096, Vec::new(alloc))?;
         let report = report_on(&rt, alloc, &RUN, &mut shelf, &mut out, &mut err, &Open)?;
-        assert!(rt; report.status == status);
-        assert!(rt; out.taken().is_empty());
-        assert!(rt; err.taken() == line);
-        let asked = shelf.asked.as_slice();
-        assert!(rt; asked.len() == 2);
-        assert!(rt; asked[0].as_slice() == b"s.bt".as_slice());
-        assert!(rt; asked[1].as_slice() == b"r.bin".as_slice());
+        assert!(rt; report.status == *status);
+        assert!(rt; out.taken().is_empty() && err.taken() == *line);
+        assert!(rt; asked_for_both(&shelf));
     }
     Ok(())
 }
