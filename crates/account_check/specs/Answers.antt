@@ -44,4 +44,4 @@ module _ (script : Typed) (attached : Attached) (r : Recording) (bytes : List â„
   IsAnswerTo (Err (WrongStep place)) = HasWrongStep place
   IsAnswerTo (Err Unfinished) = HasUnfinished
   IsAnswerTo (Err (WrongText at)) = HasWrongText at
-  IsAnswerTo (Err Memory) = Unit {0}
+  IsAnswerTo (Err (Memory _)) = Unit {0}

@@ -7,4 +7,4 @@ use Rattle.account_check.specs.declared.error.AccountError.TheVariants.{BadAccou
 -- the same fault, as one of an account
 abbrev pub error_of : AccountFault → AccountError
 error_of (faults.BadAccount offset) = BadAccount offset
-error_of faults.Memory = Memory
+error_of (faults.Memory m) = Memory m

@@ -20,17 +20,17 @@ pub enum AccountError {
     WrongText(u64),
     /// Memory ran out.
     #[error("out of memory")]
-    Memory,
+    Memory(NoMemory),
 }
 
 impl From<NoMemory> for AccountError {
     ghost use Rattle.std.specs.Prelude.{◌≡◌};
     ghost use Rattle.account_check.specs.declared.error.AccountError.TheVariants.{Memory};
 
-    ghost from_gives = { λ _ e. e ≡ Memory };
+    ghost from_gives = { λ m e. e ≡ Memory m };
 
-    fn from(_error: NoMemory) -> AccountError {
-        AccountError::Memory
+    fn from(error: NoMemory) -> AccountError {
+        AccountError::Memory(error)
     }
 }
 
@@ -43,7 +43,7 @@ impl From<AccountFault> for AccountError {
     fn from(fault: AccountFault) -> AccountError {
         match fault {
             AccountFault::BadAccount(offset) => AccountError::BadAccount(offset),
-            AccountFault::Memory => AccountError::Memory,
+            AccountFault::Memory(memory) => AccountError::Memory(memory),
         }
     }
 }

@@ -10,16 +10,16 @@ pub enum AccountFault {
     BadAccount(u64),
     /// Memory ran out.
     #[error("out of memory")]
-    Memory,
+    Memory(NoMemory),
 }
 
 impl From<NoMemory> for AccountFault {
     ghost use Rattle.std.specs.Prelude.{◌≡◌};
     ghost use Rattle.account_format.specs.declared.error.AccountFault.TheVariants.{Memory};
 
-    ghost from_gives = { λ _ e. e ≡ Memory };
+    ghost from_gives = { λ m e. e ≡ Memory m };
 
-    fn from(_error: NoMemory) -> AccountFault {
-        AccountFault::Memory
+    fn from(error: NoMemory) -> AccountFault {
+        AccountFault::Memory(error)
     }
 }
