@@ -17,8 +17,8 @@ use Rattle.account_format.specs.Accounts.{IsAccount}
 use Rattle.account_format.specs.Wrong.{IsWrongAccount}
 use Rattle.account_format.proofs.AccountLaws.{account_not_wrong, one_account, one_wrong_place}
 use Rattle.account_format.proofs.BlankLaws.{account_of}
-use Rattle.account_check.specs.declared.error.AccountError.{AccountError}
-use Rattle.account_check.specs.declared.error.AccountError.TheVariants.{BadAccount, WrongStep, Unfinished, WrongText, Memory}
+use Rattle.account_format.specs.declared.error.AccountError.{AccountError}
+use Rattle.account_format.specs.declared.error.AccountError.TheVariants.{BadAccount, WrongStep, Unfinished, WrongText, Memory}
 use Rattle.account_check.specs.Accounts.{IsTrueAccount, named, run, text_after}
 use Rattle.account_check.specs.Answers.{IsAnswerTo}
 use Rattle.account_check.specs.Differences.{DifferAt}

@@ -4,11 +4,11 @@ ghost use Rattle.bt_core.specs.declared.step.Step.{Step as MadeStep};
 ghost use Rattle.bt_core.specs.Want.{out_of_memory};
 ghost use Rattle.bt_meaning.specs.Jobs.{IsJob};
 ghost use Rattle.account_check.specs.Answers.{IsAnswerTo};
-ghost use Rattle.account_check.specs.declared.error.AccountError.{AccountError as Fault};
-ghost use Rattle.account_check.specs.declared.error.AccountError.TheVariants.{Memory};
+ghost use Rattle.account_format.specs.declared.error.AccountError.{AccountError as Fault};
+ghost use Rattle.account_format.specs.declared.error.AccountError.TheVariants.{Memory};
 
 use crate::checking::found_of;
-use crate::error::AccountError;
+use account_format::error::AccountError;
 use crate::reading::{Written, read};
 use crate::text::{first_difference, text_of};
 use bt_ast::attached::Attached;

@@ -24,7 +24,7 @@ use Rattle.bt_top.specs.Due.{IsDue, IsFinding, IsTooLong}
 use Rattle.bt_top.specs.Jobs.{IsJobFor}
 use Rattle.bt_top.specs.Lines.{SinkUse, SinkFailed}
 use Rattle.bt_top.specs.Orders.{OperandFile, files_of, form_of}
-use Rattle.account_check.specs.declared.error.AccountError.{AccountError}
+use Rattle.account_format.specs.declared.error.AccountError.{AccountError}
 use Rattle.bt_core.specs.declared.step.Step.{Step}
 use Rattle.bt_top.specs.Outcomes.{ComesTo, IsOutcomeOfRun, IsOutcomeOfVerify, IsOutcomeOfVet, accepted_outcome, bytes_written, check_outcome, code_outcome, gen_outcome, refused_outcome, verify_outcome}
 use Rattle.bt_top.specs.Refusals.{status_of, too_long}

@@ -10,6 +10,8 @@ use Rattle.bpf_check.specs.Sheet.{sheet_of}
 use Rattle.bpf_codegen.specs.declared.generate.Program.{Program}
 use Rattle.bpf_encode.proofs.CodeLemmas.{length-code_bytes}
 use Rattle.bt_ast.specs.declared.attached.BodyId.{BodyId}
+use Rattle.bt_core.specs.declared.memory.Memory.{Memory as NoMemory}
+use Rattle.bt_core.specs.Want.{out_of_memory}
 use Rattle.bt_types.specs.Script.{AreTypedBodies}
 use Rattle.bt_ast.specs.declared.probe.Script.{Script as Tree}
 use Rattle.expr_types.specs.declared.known.Known.{Known}
@@ -34,8 +36,8 @@ use Rattle.bt_top.proofs.Asked.{IsAskedFor, of_files}
 
 -- what the check says of bytes: its answer holds of them, and no other but for want of memory
 pub record Says (typed : Typed) (least : ℕ) (bytes : List ℕ) (answer : Result ℕ CodeFault) : Type 0 where
-  pub holds : answer ≢ Err Memory → IsAnswer (sheet_of typed least) bytes answer
-  pub only : (other : Result ℕ CodeFault) → IsAnswer (sheet_of typed least) bytes other → (answer ≡ other) ⊎ (answer ≡ Err Memory)
+  pub holds : answer ≢ Err (Memory out_of_memory) → IsAnswer (sheet_of typed least) bytes answer
+  pub only : (other : Result ℕ CodeFault) → IsAnswer (sheet_of typed least) bytes other → (answer ≡ other) ⊎ (answer ≡ Err (Memory out_of_memory))
 
 module _ (typed : Typed) (body : TypedBody) (program : Program) where
   pub of_program : (least : ℕ) (bytes : List ℕ) (answer : Result ℕ CodeFault) → least ≡ least_length body.layout → bytes ≡ program.bytes
@@ -53,7 +55,7 @@ module _ (typed : Typed) (body : TypedBody) (program : Program) where
   ok_err most fault e = cc
 
   accepts : (most : ℕ) → Says typed (least_length body.layout) program.bytes (Ok most) → IsAnswerOf typed body program (Ok most)
-  accepts most says = says.holds (ok_err most Memory)
+  accepts most says = says.holds (ok_err most (Memory out_of_memory))
 
   pub answer_most : (answer : Result ℕ CodeFault) → Says typed (least_length body.layout) program.bytes answer → IfOk answer (λ most. most ≡ most_of program)
   answer_most (Ok most) says = is_most most (accepts most says)
@@ -65,18 +67,18 @@ module _ (typed : Typed) (body : TypedBody) (program : Program) where
     not_refused = λ fault is. by fault (says.only (Err fault) is);
   }
     where
-      by : (fault : CodeFault) → (◌≡◌ {A = Result ℕ CodeFault} (Ok most) (Err fault)) ⊎ (◌≡◌ {A = Result ℕ CodeFault} (Ok most) (Err Memory)) → ⊥
+      by : (fault : CodeFault) → (◌≡◌ {A = Result ℕ CodeFault} (Ok most) (Err fault)) ⊎ (◌≡◌ {A = Result ℕ CodeFault} (Ok most) (Err (Memory out_of_memory))) → ⊥
       by fault (inl e) = ok_err most fault e
-      by fault (inr e) = ok_err most Memory e
+      by fault (inr e) = ok_err most (Memory out_of_memory) e
   answer_passes (Err fault) says = tt
 
   err_is : (one other : CodeFault) → ◌≡◌ {A = Result ℕ CodeFault} (Err one) (Err other) → one ≡ other
   err_is one other e = cc
 
   pub answer_refused : (answer : Result ℕ CodeFault) → Says typed (least_length body.layout) program.bytes answer
-      → IfErr answer (λ fault. fault ≢ Memory → IsAnswerOf typed body program (Err fault))
+      → IfErr answer (λ fault. fault ≢ Memory out_of_memory → IsAnswerOf typed body program (Err fault))
   answer_refused (Ok most) says = tt
-  answer_refused (Err fault) says = λ other. says.holds (λ e. other (err_is fault Memory e))
+  answer_refused (Err fault) says = λ other. says.holds (λ e. other (err_is fault (Memory out_of_memory) e))
 
 -- ---- the programs of all bodies
 
@@ -105,16 +107,19 @@ read_at {X = X} seen xs n x same is low =
     subst (λ (l : List X). slice_get l n ≡ Some x) same
     (slice_get-get_or seen n x (subst (λ (l : List X). n < length l) (sym same) low) ∙ ap Some (sym is))
 
-refused_by : (id : BodyId) (fault : CodeFault) (why : CodeRefusal) → refusal_of id fault ≡ Some why
-    → (fault ≢ Memory) × (◌≡◌ {A = CodeRefusal} (record { probe = id.probe; fault = fault }) why)
-refused_by id (S1 error) why e = (λ same. cc, same_some _ why e)
-refused_by id S2 why e = (λ same. cc, same_some _ why e)
-refused_by id Memory why e = absurd (let none : None ≡ Some why = e in cc)
+same_ok : (a b : CodeRefusal) → ◌≡◌ {A = Result CodeRefusal NoMemory} (Ok a) (Ok b) → a ≡ b
+same_ok a b e = cc
+
+refused_by : (id : BodyId) (fault : CodeFault) (why : CodeRefusal) → refusal_of id fault ≡ Ok why
+    → (fault ≢ Memory out_of_memory) × (◌≡◌ {A = CodeRefusal} (record { probe = id.probe; fault = fault }) why)
+refused_by id (S1 error) why e = (λ same. cc, same_ok _ why e)
+refused_by id S2 why e = (λ same. cc, same_ok _ why e)
+refused_by id (Memory memory) why e = absurd (let none : ◌≡◌ {A = Result CodeRefusal NoMemory} (Err memory) (Ok why) = e in cc)
 
 -- a program is refused, and none before it is
 pub first_refused : (ids : List BodyId) (typed : Typed) (programs : List Program) (n : ℕ) (id : BodyId) (body : TypedBody) (program : Program)
     (fault : CodeFault) (why : CodeRefusal) → slice_get ids n ≡ Some id → slice_get typed.bodies n ≡ Some body → slice_get programs n ≡ Some program
-    → PassBefore typed programs n → (fault ≢ Memory → IsAnswerOf typed body program (Err fault)) → refusal_of id fault ≡ Some why
+    → PassBefore typed programs n → (fault ≢ Memory out_of_memory → IsAnswerOf typed body program (Err fault)) → refusal_of id fault ≡ Ok why
     → IsFirstRefused ids typed programs why
 first_refused ids typed programs n id body program fault why of_id of_body of_program before says e =
     let by = refused_by id fault why e in

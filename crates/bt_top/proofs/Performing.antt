@@ -3,12 +3,13 @@ use Rattle.std.proofs.Common.{◌≡◌, ◌≢◌, ℕ, ◌<◌, ◌^◌, List,
 use Rattle.std.specs.Prelude.{◌⊎◌, Bool, true, false, Option, Some, None, Result, Ok, Err, IfOk, IfSome, OnOk}
 use Rattle.std.specs.List.{AllByRecursion}
 use Rattle.account_check.specs.Answers.{IsAnswerTo}
-use Rattle.account_check.specs.declared.error.AccountError.{AccountError}
-use Rattle.account_check.specs.declared.error.AccountError.TheVariants as wrong
+use Rattle.account_format.specs.declared.error.AccountError.{AccountError}
+use Rattle.account_format.specs.declared.error.AccountError.TheVariants as wrong
 use Rattle.account_format.specs.Accounts.{account_bytes}
 use Rattle.account_format.specs.Entries.{FitsStep}
 use Rattle.bt_core.specs.declared.memory.Memory.{Memory as NoMemory}
 use Rattle.bt_core.specs.declared.step.Step.{Step}
+use Rattle.bt_core.specs.Want.{out_of_memory}
 use Rattle.bpf_codegen.specs.declared.generate.Program.{Program}
 use Rattle.bt_words.specs.declared.order.Order.{Order}
 use Rattle.bt_words.specs.declared.order.Order.TheVariants.{Run, Check, Code, Vet, Account, Verify, Gen, Big}
@@ -156,7 +157,7 @@ accounted_for serial job work text rest done same spelled fits few short = recor
 err_is : (one other : AccountError) → ◌≡◌ {A = Result (List Step) AccountError} (Err one) (Err other) → one ≡ other
 err_is one other e = cc
 
-pub ok_known : (steps : List Step) → ◌≡◌ {A = Result (List Step) AccountError} (Ok steps) (Err wrong.Memory) → ⊥
+pub ok_known : (steps : List Step) → ◌≡◌ {A = Result (List Step) AccountError} (Ok steps) (Err (wrong.Memory out_of_memory)) → ⊥
 ok_known steps e = cc
 
 -- of what has no programs, with a line
@@ -170,22 +171,22 @@ module _ (job : Job) (account : List ℕ) where
   Answers answer = IsAnswerTo job.typed job.attached job.recording account answer
 
   abbrev pub OnlyThis : Result (List Step) AccountError → Type 0
-  OnlyThis answer = (other : Result (List Step) AccountError) → Answers other → other ≢ Err wrong.Memory → (answer ≡ other) ⊎ (answer ≡ Err wrong.Memory)
+  OnlyThis answer = (other : Result (List Step) AccountError) → Answers other → other ≢ Err (wrong.Memory out_of_memory) → (answer ≡ other) ⊎ (answer ≡ Err (wrong.Memory out_of_memory))
 
-  only_one : (answer : Result (List Step) AccountError) → answer ≢ Err wrong.Memory → OnlyThis answer → (other : Result (List Step) AccountError)
-      → other ≢ Err wrong.Memory → Answers other → answer ≡ other
+  only_one : (answer : Result (List Step) AccountError) → answer ≢ Err (wrong.Memory out_of_memory) → OnlyThis answer → (other : Result (List Step) AccountError)
+      → other ≢ Err (wrong.Memory out_of_memory) → Answers other → answer ≡ other
   only_one answer known only other not_memory is = by (only other is not_memory)
     where
-      by : (answer ≡ other) ⊎ (answer ≡ Err wrong.Memory) → answer ≡ other
+      by : (answer ≡ other) ⊎ (answer ≡ Err (wrong.Memory out_of_memory)) → answer ≡ other
       by (inl same) = same
       by (inr memory) = absurd (known memory)
 
-  pub verified_by : (answer : Result (List Step) AccountError) (outcome : Outcome) → answer ≢ Err wrong.Memory → Answers answer → OnlyThis answer
+  pub verified_by : (answer : Result (List Step) AccountError) (outcome : Outcome) → answer ≢ Err (wrong.Memory out_of_memory) → Answers answer → OnlyThis answer
       → outcome ≡ verify_outcome answer → IsOutcomeOfVerify job account outcome
   verified_by answer outcome known holds only is =
       record { answer = answer; known = known; holds = holds; only = only_one answer known only; is = is }
 
   pub denied_verified : (error : AccountError) (found : Result Outcome NoMemory) → Answers (Err error) → OnlyThis (Err error)
-      → OnOk found (error ≢ wrong.Memory) → IfOk found (λ outcome. outcome ≡ verify_outcome (Err error)) → IfOk found (IsOutcomeOfVerify job account)
-  denied_verified error (Ok outcome) holds only known is = verified_by (Err error) outcome (λ e. known (err_is error wrong.Memory e)) holds only is
+      → OnOk found (error ≢ wrong.Memory out_of_memory) → IfOk found (λ outcome. outcome ≡ verify_outcome (Err error)) → IfOk found (IsOutcomeOfVerify job account)
+  denied_verified error (Ok outcome) holds only known is = verified_by (Err error) outcome (λ e. known (err_is error (wrong.Memory out_of_memory) e)) holds only is
   denied_verified error (Err memory) holds only known is = tt

@@ -4,11 +4,12 @@ use Rattle.std.specs.Prelude.{◌≡◌, ◌≢◌, ℕ, ◌<◌, ◌^◌, ◌�
 use Rattle.std.specs.Fmt.{decimal}
 use Rattle.std.specs.List.{AllByRecursion}
 use Rattle.account_check.specs.Answers.{IsAnswerTo}
-use Rattle.account_check.specs.declared.error.AccountError.{AccountError}
-use Rattle.account_check.specs.declared.error.AccountError.TheVariants as wrong
+use Rattle.account_format.specs.declared.error.AccountError.{AccountError}
+use Rattle.account_format.specs.declared.error.AccountError.TheVariants as wrong
 use Rattle.account_format.specs.Accounts.{account_bytes}
 use Rattle.account_format.specs.Entries.{FitsStep}
 use Rattle.bt_core.specs.declared.step.Step.{Step}
+use Rattle.bt_core.specs.Want.{out_of_memory}
 use Rattle.bt_words.specs.declared.order.Order.{Order}
 use Rattle.bt_words.specs.declared.order.Order.TheVariants.{Run, Check, Code, Vet, Account, Verify, Gen, Big}
 use Rattle.rec_format.specs.declared.recording.Recording.{Recording as Recorded}
@@ -126,9 +127,9 @@ pub record IsOutcomeOfAccount (serial : Bool) (job : Job) (outcome : Outcome) : 
 -- a check of an account of a run of a job: the one answer that there is
 pub record IsOutcomeOfVerify (job : Job) (account : List ℕ) (outcome : Outcome) : Type 0 where
   pub answer : Result (List Step) AccountError
-  pub known : answer ≢ Err wrong.Memory
+  pub known : answer ≢ Err (wrong.Memory out_of_memory)
   pub holds : IsAnswerTo job.typed job.attached job.recording account answer
-  pub only : (other : Result (List Step) AccountError) → other ≢ Err wrong.Memory → IsAnswerTo job.typed job.attached job.recording account other → answer ≡ other
+  pub only : (other : Result (List Step) AccountError) → other ≢ Err (wrong.Memory out_of_memory) → IsAnswerTo job.typed job.attached job.recording account other → answer ≡ other
   pub is : outcome ≡ verify_outcome answer
 
 -- the bytes of the account, which is the third of the files

@@ -1,7 +1,7 @@
 -- The status and the line of each refusal.
 use Rattle.std.specs.Prelude.{ℕ, List, [], ◌∷◌, codes, Option, Some, None}
-use Rattle.account_check.specs.declared.error.AccountError.{AccountError}
-use Rattle.account_check.specs.declared.error.AccountError.TheVariants as account
+use Rattle.account_format.specs.declared.error.AccountError.{AccountError}
+use Rattle.account_format.specs.declared.error.AccountError.TheVariants as account
 use Rattle.bt_io.specs.declared.shelf.ShelfError.{ShelfError}
 use Rattle.bt_io.specs.declared.shelf.ShelfError.TheVariants as shelf
 use Rattle.tracefs_format.specs.declared.error.FormatError.{FormatError}
@@ -73,7 +73,7 @@ rule_pieces rule.BadId = Text (codes "F2 bad id") ∷ []
 rule_pieces (rule.BadField line) = Text (codes "F3 bad line ") ∷ Number line ∷ []
 rule_pieces (rule.Overlong line) = Text (codes "F4 overlong line ") ∷ Number line ∷ []
 rule_pieces (rule.SameName line) = Text (codes "F5 same name line ") ∷ Number line ∷ []
-rule_pieces rule.Memory = Text (codes "out of memory") ∷ []
+rule_pieces (rule.Memory _) = Text (codes "out of memory") ∷ []
 
 -- the text of the format at a place breaks a rule
 abbrev pub broken_format_pieces : ℕ → List Piece → List Piece
@@ -168,7 +168,7 @@ account_pieces (account.BadAccount offset) = Text (codes "N1 bad account at byte
 account_pieces (account.WrongStep step) = Text (codes "N2 wrong step ") ∷ Number step ∷ []
 account_pieces account.Unfinished = Text (codes "N3 unfinished") ∷ []
 account_pieces (account.WrongText offset) = Text (codes "N4 wrong text at byte ") ∷ Number offset ∷ []
-account_pieces account.Memory = Text (codes "out of memory") ∷ []
+account_pieces (account.Memory _) = Text (codes "out of memory") ∷ []
 
 -- what is told of words that break the rule: how the program is used
 abbrev pub usage_pieces : List Piece

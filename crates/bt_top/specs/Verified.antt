@@ -3,9 +3,10 @@ use Rattle.std.specs.Prelude.{◌≡◌, ◌≢◌, ◌↔◌, ℕ, List, length
 use Rattle.std.specs.Io.KnownBytes.{Appends}
 use Rattle.account_check.specs.Accounts.{IsTrueAccount}
 use Rattle.account_check.specs.Answers.{IsAnswerTo}
-use Rattle.account_check.specs.declared.error.AccountError.{AccountError}
-use Rattle.account_check.specs.declared.error.AccountError.TheVariants as wrong
+use Rattle.account_format.specs.declared.error.AccountError.{AccountError}
+use Rattle.account_format.specs.declared.error.AccountError.TheVariants as wrong
 use Rattle.bt_core.specs.declared.step.Step.{Step}
+use Rattle.bt_core.specs.Want.{out_of_memory}
 use Rattle.bt_words.specs.declared.order.Order.{Order}
 use Rattle.bt_words.specs.declared.order.Order.TheVariants.{Verify}
 use Rattle.bt_top.specs.declared.refusal.Denial.TheVariants as denial
@@ -24,7 +25,7 @@ TellsRun m bytes steps = IsTrueAccount m.typed m.attached m.recording bytes step
 
 -- this is wrong with them
 pub record IsWrongBy (m : Meaning) (bytes : List ℕ) (error : AccountError) : Type 0 where
-  pub known : error ≢ wrong.Memory
+  pub known : error ≢ wrong.Memory out_of_memory
   pub is : IsAnswerTo m.typed m.attached m.recording bytes (Err error)
 
 -- something is wrong with them

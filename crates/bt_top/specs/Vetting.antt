@@ -1,5 +1,5 @@
 -- What the check says of a script's programs.
-use Rattle.std.specs.Prelude.{◌≡◌, ℕ, ◌<◌, ◌*◌, ◌/◌, ◌++◌, List, codes, length, Option, Some, None, Result, Ok, Err, slice_get}
+use Rattle.std.specs.Prelude.{◌≡◌, ℕ, ◌<◌, ◌*◌, ◌/◌, ◌++◌, List, codes, length, Option, Some, Result, Ok, Err, slice_get}
 use Rattle.std.specs.Fmt.{decimal}
 use Rattle.bpf_check.specs.Answers.{IsAnswer}
 use Rattle.bpf_check.specs.Sheet.{sheet_of}
@@ -7,6 +7,7 @@ use Rattle.bpf_check.specs.declared.check.CodeFault.{CodeFault}
 use Rattle.bpf_check.specs.declared.check.CodeFault.TheVariants.{Memory}
 use Rattle.bpf_codegen.specs.declared.generate.Program.{Program}
 use Rattle.bt_ast.specs.declared.attached.BodyId.{BodyId}
+use Rattle.bt_core.specs.declared.memory.Memory.{Memory as NoMemory}
 use Rattle.tracefs_format.specs.declared.format.Format.{Format}
 use Rattle.typed_tree.specs.declared.body.TypedBody.{TypedBody}
 use Rattle.typed_tree.specs.declared.script.Typed.{Typed}
@@ -66,9 +67,9 @@ pub record IsRefused (typed : Typed) (programs : List Program) (number : ℕ) (f
   pub is : IsAnswerOf typed body program (Err fault)
 
 -- why a program is refused, by the fault that the check tells of it; want of memory is no such fault
-abbrev pub refusal_of : BodyId → CodeFault → Option CodeRefusal
-refusal_of id Memory = None
-refusal_of id fault = Some (record { probe = id.probe; fault = fault })
+abbrev pub refusal_of : BodyId → CodeFault → Result CodeRefusal NoMemory
+refusal_of id (Memory memory) = Err memory
+refusal_of id fault = Ok (record { probe = id.probe; fault = fault })
 
 -- this tells the first body whose program is refused, by its probe, and the program's fault
 pub record IsFirstRefused (ids : List BodyId) (typed : Typed) (programs : List Program) (why : CodeRefusal) : Type 0 where

@@ -2,7 +2,7 @@
 ghost use Rattle.std.specs.Prelude.{◌≡◌};
 ghost use Rattle.bt_top.specs.Refusals.{status_of, recording_refusal, read_refusal};
 
-use account_check::error::AccountError;
+use account_format::error::AccountError;
 use bpf_check::check::CodeFault;
 use bt_core::memory::Memory;
 use bt_core::place::Place;

@@ -12,7 +12,7 @@ ghost use Rattle.bt_top.specs.Serve.{TellsRefusal};
 
 use crate::line::{Piece, write_line};
 use crate::refusal::{Denial, Operand, RecordingRefusal, Refusal, ScriptFault, ScriptRefusal};
-use account_check::error::AccountError;
+use account_format::error::AccountError;
 use bt_core::place::Place;
 use bt_io::sink::Sink;
 use bt_words::order::{FileName, Order};
@@ -189,7 +189,7 @@ fn tell_format<E: Sink>(err: &mut E, name: &str, place: u32, rule: FormatError)
         FormatError::BadField(line) => tell_rule_at(err, name, place, "F3 bad line ", line),
         FormatError::Overlong(line) => tell_rule_at(err, name, place, "F4 overlong line ", line),
         FormatError::SameName(line) => tell_rule_at(err, name, place, "F5 same name line ", line),
-        FormatError::Memory => tell_rule(err, name, place, "out of memory"),
+        FormatError::Memory(_) => tell_rule(err, name, place, "out of memory"),
     }
 }
 
@@ -333,7 +333,7 @@ fn tell_account<E: Sink>(err: &mut E, name: &str, error: AccountError)
         AccountError::WrongText(offset) => {
             tell_numbered(err, name, "N4 wrong text at byte ", offset)
         }
-        AccountError::Memory => tell_text(err, name, "out of memory"),
+        AccountError::Memory(_) => tell_text(err, name, "out of memory"),
     }
 }
 

@@ -1,6 +1,7 @@
 // The check of a script's programs.
 ghost use Rattle.std.specs.Prelude.{◌≡◌, ◌≢◌, ◌++◌, ◌≤◌, length, Err, IfOk, IfErr, OnOk};
 ghost use Rattle.std.specs.List.{AllByRecursion};
+ghost use Rattle.bt_core.specs.Want.{out_of_memory};
 ghost use Rattle.walk_meaning.specs.Served.{least_length};
 ghost use Rattle.bt_top.specs.Doing.{CanBeListed};
 ghost use Rattle.bt_top.specs.Vetting.{IsAnswerOf, IsVerdict, Passes, line_of, most_of, refusal_of};
@@ -47,18 +48,18 @@ fn vet_program(
     requires { CanBeListed program.now }
     ensures most { IfOk result (λ most. most ≡ most_of program.now) }
     ensures passes { IfOk result (λ most. Passes typed.now body.now program.now) }
-    ensures refused { IfErr result (λ fault. fault ≢ CodeFault.Memory → IsAnswerOf typed.now body.now program.now (Err fault)) }
+    ensures refused { IfErr result (λ fault. fault ≢ CodeFault.Memory out_of_memory → IsAnswerOf typed.now body.now program.now (Err fault)) }
 {
     check_code(alloc, program.bytes.as_slice(), typed, least_length(body))
 }
 
 /// Why a program is refused, by the fault that the check tells of it; want of memory is no such fault.
-fn refusal_of(id: BodyId, fault: CodeFault) -> Option<CodeRefusal>
+fn refusal_of(id: BodyId, fault: CodeFault) -> Result<CodeRefusal, Memory>
     ensures { result ≡ refusal_of id fault }
 {
     match fault {
-        CodeFault::Memory => None,
-        _ => Some(CodeRefusal {
+        CodeFault::Memory(memory) => Err(memory),
+        fault => Ok(CodeRefusal {
             probe: id.probe,
             fault,
         }),
@@ -98,10 +99,10 @@ pub(crate) fn vet_programs(
         let id = ids[number];
         let most = match vet_program(alloc, typed, body, &programs[number]) {
             Ok(most) => most,
-            Err(fault) => match refusal_of(id, fault) {
-                None => return Err(Memory),
-                Some(why) => return Ok(Verdict::Refused(why)),
-            },
+            Err(fault) => {
+                let why = refusal_of(id, fault)?;
+                return Ok(Verdict::Refused(why));
+            }
         };
         push_line(&mut text, formats, id, most)?;
     }
