@@ -8,9 +8,9 @@ ghost use Rattle.account_format.specs.declared.error.AccountError.{AccountError 
 ghost use Rattle.account_format.specs.declared.error.AccountError.TheVariants.{Memory};
 
 use crate::checking::found_of;
-use account_format::error::AccountError;
 use crate::reading::{Written, read};
 use crate::text::{first_difference, text_of};
+use account_format::error::AccountError;
 use bt_ast::attached::Attached;
 use bt_core::items::Items;
 use bt_core::step::Step;

@@ -20,13 +20,25 @@ use Rattle.run_base.specs.declared.job.Work.{Work}
 use Rattle.run_output.specs.declared.form.Form.{Form}
 use Rattle.run_output.specs.declared.form.Form.TheVariants.{Text}
 use Rattle.bt_top.specs.declared.outcome.Outcome.{Outcome}
-use Rattle.bt_top.specs.declared.refusal.Refusal.{Refusal}
-use Rattle.bt_top.specs.declared.refusal.Refusal.TheVariants.{Memory}
-use Rattle.bt_top.specs.Doing.{ComesOfFiles}
+use Rattle.bt_judge.specs.declared.refusal.Refusal.{Refusal}
+use Rattle.bt_judge.specs.declared.refusal.Refusal.TheVariants.{Memory}
+use Rattle.bt_judge.specs.Doing.{ComesOfFiles}
 use Rattle.bt_top.specs.Jobs.{IsWorkOf}
-use Rattle.bt_top.specs.Orders.{OperandFile, files_of, names_of}
-use Rattle.bt_top.specs.Outcomes.{IsOutcomeOfAccount, IsOutcomeOfRun, IsOutcomeOfVerify, gen_outcome, plain_outcome, run_outcome, verify_outcome}
-use Rattle.bt_top.specs.Serve.{ShelfUse, AsksExactly, AsksFirst, ComesIfDue, EndsAsDue, IsComplete, IsEndStatus, OnTold}
+use Rattle.bt_judge.specs.Orders.{OperandFile, files_of, names_of}
+use Rattle.bt_top.specs.Outcomes.{IsOutcomeOfAccount, IsOutcomeOfRun, IsOutcomeOfVerify, gen_outcome, plain_outcome, run_outcome, verify_outcome, IsOutcomeOfVet}
+use Rattle.bt_judge.specs.Reads.{ShelfUse, AsksExactly, AsksFirst, ComesIfDue, OnTold}
+use Rattle.bt_top.specs.Serve.{EndsAsDue, IsComplete, IsEndStatus}
+use Rattle.bt_ast.specs.declared.attached.BodyId.{BodyId}
+use Rattle.tracefs_format.specs.declared.format.Format.{Format}
+use Rattle.bt_judge.specs.declared.refusal.CodeRefusal.{CodeRefusal}
+use Rattle.bt_judge.specs.declared.refusal.Denial.{Denial}
+use Rattle.bt_judge.specs.declared.refusal.Denial.TheVariants as denial
+use Rattle.bt_judge.specs.declared.vetting.Verdict.{Verdict}
+use Rattle.bt_judge.specs.declared.vetting.Verdict.TheVariants.{Accepted, Refused}
+use Rattle.bt_judge.specs.FailedNames.{FailsNamed}
+use Rattle.bt_judge.specs.Lines.{SinkUse}
+use Rattle.bt_judge.specs.Vetting.{IsVerdict}
+use Rattle.bt_top.specs.Writing.{Wrote}
 
 -- ---- outcomes
 
@@ -39,6 +51,42 @@ ran_with form serial job work rest line done is = record { work = work; done = d
 pub made_with : (says : Recorded) (programs : List Program) (rest : List ℕ) → programs ≡ [] → rest ≡ recording_bytes says
     → ◌≡◌ {A = Outcome} (record { work = None; programs = programs; refused = None; prints = true; rest = rest }) (gen_outcome says)
 made_with says programs rest none spelled = λ i. record { work = None; programs = none i; refused = None; prints = true; rest = spelled i }
+
+-- ---- of a check of programs
+
+-- what is said of a job's programs is what it comes to
+abbrev pub said_of : Job → Option Denial → List ℕ → Outcome
+said_of job refused rest = record { work = None; programs = job.programs; refused = refused; prints = true; rest = rest }
+
+said_again : (job : Job) (formats : List Format) (ids : List BodyId) (programs : List Program) (verdict : Verdict) → formats ≡ job.recording.formats
+    → ids ≡ job.attached.bodies → programs ≡ job.programs → IsVerdict formats ids job.typed programs verdict
+    → IsVerdict job.recording.formats job.attached.bodies job.typed job.programs verdict
+said_again job formats ids programs verdict a b c is =
+    subst (λ (l : List Program). IsVerdict job.recording.formats job.attached.bodies job.typed l verdict) c
+    (subst (λ (l : List BodyId). IsVerdict job.recording.formats l job.typed programs verdict) b
+    (subst (λ (l : List Format). IsVerdict l ids job.typed programs verdict) a is))
+
+pub accepted_all : (job : Job) (formats : List Format) (ids : List BodyId) (programs : List Program) (lines : List ℕ) → formats ≡ job.recording.formats
+    → ids ≡ job.attached.bodies → programs ≡ job.programs → IsVerdict formats ids job.typed programs (Accepted lines)
+    → IsOutcomeOfVet job (said_of job None lines)
+accepted_all job formats ids programs lines a b c is =
+    let said = said_again job formats ids programs (Accepted lines) a b c is in
+    inl (said.0, ap (λ (l : List ℕ). said_of job None l) said.1)
+
+pub refused_one : (job : Job) (formats : List Format) (ids : List BodyId) (programs : List Program) (why : CodeRefusal) (rest : List ℕ)
+    → formats ≡ job.recording.formats → ids ≡ job.attached.bodies → programs ≡ job.programs → IsVerdict formats ids job.typed programs (Refused why)
+    → rest ≡ [] → IsOutcomeOfVet job (said_of job (Some (denial.Code why)) rest)
+refused_one job formats ids programs why rest a b c is none =
+    inr (why, said_again job formats ids programs (Refused why) a b c is, ap (λ (l : List ℕ). said_of job (Some (denial.Code why)) l) none)
+
+-- ---- how it was written
+
+-- that a write failed is no fault of a read
+pub written_failed : (files : List OperandFile) (failed after : List (List ℕ)) (out : SinkUse) (found : Option Denial) (refusal : Option Refusal) (bytes : List ℕ)
+    → Wrote out found refusal bytes → after ≡ failed → FailsNamed files refusal failed after
+written_failed files failed after out None refusal bytes (inl e) same = subst (λ (r : Option Refusal). FailsNamed files r failed after) (sym e.0) same
+written_failed files failed after out None refusal bytes (inr e) same = subst (λ (r : Option Refusal). FailsNamed files r failed after) (sym e.0) same
+written_failed files failed after out (Some why) refusal bytes e same = subst (λ (r : Option Refusal). FailsNamed files r failed after) (sym e.0) same
 
 -- ---- of all files alike
 

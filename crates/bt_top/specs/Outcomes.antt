@@ -21,12 +21,15 @@ use Rattle.run_base.specs.declared.job.Work.{Work}
 use Rattle.run_output.specs.declared.form.Form.{Form}
 use Rattle.run_output.specs.declared.form.Form.TheVariants.{Text, Json}
 use Rattle.bt_top.specs.declared.outcome.Outcome.{Outcome}
-use Rattle.bt_top.specs.declared.refusal.CodeRefusal.{CodeRefusal}
-use Rattle.bt_top.specs.declared.refusal.Denial.TheVariants as denial
-use Rattle.bt_top.specs.Jobs.{IsBigJob, IsJobFor, IsWorkOf}
-use Rattle.bt_top.specs.Listings.{script_listing}
-use Rattle.bt_top.specs.Orders.{OperandFile, form_of, on_account, on_script}
-use Rattle.bt_top.specs.Vetting.{AllPass, IsFirstRefused, vet_listing}
+use Rattle.bt_judge.specs.declared.refusal.CodeRefusal.{CodeRefusal}
+use Rattle.bt_judge.specs.declared.refusal.Denial.TheVariants as denial
+use Rattle.bt_top.specs.Jobs.{IsBigJob, IsWorkOf}
+use Rattle.bt_judge.specs.Jobs.{IsJobFor}
+use Rattle.bt_judge.specs.Listings.{script_listing}
+use Rattle.bt_judge.specs.Orders.{on_account, on_script}
+use Rattle.bt_top.specs.Outcomes.{form_of}
+use Rattle.bt_judge.specs.Vetting.{AllPass, IsFirstRefused, vet_listing}
+use Rattle.bt_judge.specs.Jobs.{account_in}
 
 -- ---- outcomes
 
@@ -87,6 +90,11 @@ abbrev pub verify_outcome : Result (List Step) AccountError → Outcome
 verify_outcome (Ok steps) = plain_outcome (verified_line (length steps))
 verify_outcome (Err error) = record { work = None; programs = []; refused = Some (denial.Account error); prints = true; rest = [] }
 
+-- the form that is asked for: JSON lines with `--json`, and else text
+abbrev pub form_of : Bool → Form
+form_of true = Json
+form_of false = Text
+
 -- the line of instructions: of a text, or a JSON line
 abbrev pub instructions_line : Form → ℕ → List ℕ
 instructions_line Text instructions = codes "instructions: " ++ decimal instructions ++ codes "\n"
@@ -131,11 +139,6 @@ pub record IsOutcomeOfVerify (job : Job) (account : List ℕ) (outcome : Outcome
   pub holds : IsAnswerTo job.typed job.attached job.recording account answer
   pub only : (other : Result (List Step) AccountError) → other ≢ Err (wrong.Memory out_of_memory) → IsAnswerTo job.typed job.attached job.recording account other → answer ≡ other
   pub is : outcome ≡ verify_outcome answer
-
--- the bytes of the account, which is the third of the files
-abbrev pub account_in : List (List ℕ) → List ℕ
-account_in (text ∷ bytes ∷ account ∷ more) = account
-account_in contents = []
 
 -- what an order comes to, over files with these contents: `run` to a run of their job in the form that is asked for, with the line of
 -- instructions behind its text where it is asked for; `check` to `ok`; `code` to the listing of their job; `vet` to the check of its programs;

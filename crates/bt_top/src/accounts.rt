@@ -7,13 +7,13 @@ ghost use Rattle.account_format.specs.declared.error.AccountError.TheVariants as
 ghost use Rattle.bt_top.specs.Outcomes.{IsOutcomeOfAccount, IsOutcomeOfVerify, verified_line, verify_outcome};
 
 use crate::outcome::Outcome;
-use crate::refusal::Denial;
 use crate::work::run;
-use account_format::error::AccountError;
 use account_check::verify::verify;
+use account_format::error::AccountError;
 use account_format::writing::write_account;
 use bt_core::items::Items;
 use bt_core::memory::Memory;
+use bt_judge::refusal::Denial;
 use itoa::Buffer;
 use run_base::job::Job;
 use run_output::form::Form;
