@@ -2,6 +2,7 @@
 use Rattle.std.proofs.Common.{◌≡◌, ◌≢◌, ◌+◌, ◌-◌, ◌<◌, ◌++◌, ◌⊎◌, inl, inr, ℕ, List, [], ◌∷◌, Some, None, length, refl, sym, ap, ◌∙◌, arith, append_assoc, MatchResult, Result, Ok, Err}
 use Rattle.std.proofs.lemmas.List.{length-append}
 use Rattle.fmt_text.specs.declared.piece.Piece.{Piece}
+use Rattle.bt_core.specs.Want.{out_of_memory}
 use Rattle.fmt_text.specs.declared.piece.FormatFault.{FormatFault}
 use Rattle.fmt_text.specs.declared.piece.FormatFault.TheVariants.{BadAt, Memory}
 use Rattle.fmt_text.specs.declared.conversion.Front.{Front}
@@ -137,15 +138,15 @@ reached_bad text rest done literal offset r none some long = record {
 }
 
 -- what was answered, said in four ways
-pub only_this : (text : List ℕ) (r : Result (List Piece) FormatFault) (pieces : List Piece) → MatchResult r (IsFormat text) (IsFault text) → IsFormat text pieces → (r ≡ Ok pieces) ⊎ (r ≡ Err Memory)
+pub only_this : (text : List ℕ) (r : Result (List Piece) FormatFault) (pieces : List Piece) → MatchResult r (IsFormat text) (IsFault text) → IsFormat text pieces → (r ≡ Ok pieces) ⊎ (r ≡ Err (Memory out_of_memory))
 only_this text (Ok found) pieces h is = inl (ap (λ (x : List Piece). Ok x) (one_format text found pieces h is))
 only_this text (Err (BadAt offset)) pieces h is = absurd (no_bad_place text pieces offset is h)
-only_this text (Err Memory) pieces h is = inr refl
+only_this text (Err (Memory _)) pieces h is = inr refl
 
-pub this_place : (text : List ℕ) (r : Result (List Piece) FormatFault) (offset : ℕ) → MatchResult r (IsFormat text) (IsFault text) → IsBadAt text offset → (r ≡ Err (BadAt offset)) ⊎ (r ≡ Err Memory)
+pub this_place : (text : List ℕ) (r : Result (List Piece) FormatFault) (offset : ℕ) → MatchResult r (IsFormat text) (IsFault text) → IsBadAt text offset → (r ≡ Err (BadAt offset)) ⊎ (r ≡ Err (Memory out_of_memory))
 this_place text (Ok found) offset h is = absurd (no_bad_place text found offset h is)
 this_place text (Err (BadAt other)) offset h is = inl (ap (λ (x : ℕ). Err (BadAt x)) (one_bad_place text other offset h is))
-this_place text (Err Memory) offset h is = inr refl
+this_place text (Err (Memory _)) offset h is = inr refl
 
 part_long : (part : Part) → 0 < length (part_text part)
 part_long (Byte b) = omega arith

@@ -96,4 +96,4 @@ going_on done bytes pieces = done ++ before bytes pieces
 
 abbrev pub IsFault : List ℕ → FormatFault → Type 0
 IsFault text (BadAt offset) = IsBadAt text offset
-IsFault text Memory = Unit {0}
+IsFault text (Memory _) = Unit {0}

@@ -51,16 +51,16 @@ pub enum FormatFault {
     BadAt(u64),
     /// Memory ran out.
     #[error("out of memory")]
-    Memory,
+    Memory(NoMemory),
 }
 
 impl From<NoMemory> for FormatFault {
     ghost use Rattle.std.specs.Prelude.{◌≡◌};
     ghost use Rattle.fmt_text.specs.declared.piece.FormatFault.TheVariants.{Memory};
 
-    ghost from_gives = { λ _ e. e ≡ Memory };
+    ghost from_gives = { λ m e. e ≡ Memory m };
 
-    fn from(_error: NoMemory) -> FormatFault {
-        FormatFault::Memory
+    fn from(error: NoMemory) -> FormatFault {
+        FormatFault::Memory(error)
     }
 }

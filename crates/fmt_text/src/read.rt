@@ -1,6 +1,7 @@
 // Reading a format.
 ghost use Rattle.std.specs.Prelude.{◌≡◌, ◌≢◌, ◌⊎◌, ℕ, List, Ok, Err, IfErr, IfOk, MatchResult};
 ghost use Rattle.fmt_text.specs.declared.piece.Piece.{Piece as PieceValue};
+ghost use Rattle.bt_core.specs.Want.{out_of_memory};
 ghost use Rattle.fmt_text.specs.Formats.{IsFormat, IsBadAt};
 ghost use Rattle.fmt_text.specs.Reading.{IsFault};
 
@@ -20,11 +21,11 @@ pub fn read_format(alloc: Global, text: &[u8]) -> Result<Items<Piece>, FormatFau
     // What is read are the format's pieces.
     ensures found { IfOk result (λ pieces. IsFormat text.now pieces) }
     // The pieces of a format are read, unless memory runs out.
-    ensures only { (pieces : List PieceValue) → IsFormat text.now pieces → (result ≡ Ok pieces) ⊎ (result ≡ Err FormatFault.Memory) }
+    ensures only { (pieces : List PieceValue) → IsFormat text.now pieces → (result ≡ Ok pieces) ⊎ (result ≡ Err (FormatFault.Memory out_of_memory)) }
     // Any other error tells the first bad place of the text.
-    ensures fault { IfErr result (λ e. e ≢ FormatFault.Memory → IsFault text.now e) }
+    ensures fault { IfErr result (λ e. e ≢ FormatFault.Memory out_of_memory → IsFault text.now e) }
     // The first bad place is told, unless memory runs out.
-    ensures refused { (offset : ℕ) → IsBadAt text.now offset → (result ≡ Err (FormatFault.BadAt offset)) ⊎ (result ≡ Err FormatFault.Memory) }
+    ensures refused { (offset : ℕ) → IsBadAt text.now offset → (result ≡ Err (FormatFault.BadAt offset)) ⊎ (result ≡ Err (FormatFault.Memory out_of_memory)) }
 {
     read(alloc, text)
 }
