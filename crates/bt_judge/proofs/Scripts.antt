@@ -37,8 +37,7 @@ use Rattle.bt_judge.specs.declared.refusal.Refusal.{Refusal}
 use Rattle.bt_judge.specs.declared.refusal.ScriptRefusal.TheVariants.{Fault}
 use Rattle.bt_judge.specs.declared.refusal.Refusal.TheVariants.{Script}
 use Rattle.bt_judge.specs.Script.{offset_place, token_place, lexical_refusal, parse_refusal, attach_refusal, HasTree, IsTextFault, IsAttachFault}
-use Rattle.bt_judge.specs.Script.{type_refusal, body_fault, IsTypeFault, IsSizeFault}
-use Rattle.bt_judge.specs.Script.{IsScriptFault}
+use Rattle.bt_judge.specs.Script.{type_refusal, body_fault, IsTypeFault, IsSizeFault, IsScriptFault}
 use Rattle.bt_types.specs.Script.{IsTypedScript}
 use Rattle.bt_ast.specs.declared.probe.Probe.{Probe}
 use Rattle.script_programs.specs.declared.error.SizeFault.{SizeFault}

@@ -17,9 +17,8 @@ use Rattle.bt_judge.specs.declared.refusal.Refusal.TheVariants.{Script, ReadFaul
 use Rattle.bt_judge.specs.declared.refusal.ScriptFault.{ScriptFault}
 use Rattle.bt_judge.specs.declared.refusal.ScriptRefusal.TheVariants as script
 use Rattle.bt_judge.specs.Due.{IsFirstRefusal, IsJudged}
-use Rattle.bt_judge.specs.Jobs.{IsJobFor}
+use Rattle.bt_judge.specs.Jobs.{IsJobFor, account_in}
 use Rattle.bt_judge.specs.Orders.{OperandFile, limit_of, names_of}
-use Rattle.bt_judge.specs.Jobs.{account_in}
 use Rattle.bt_judge.specs.Refusals.{too_long}
 use Rattle.bt_judge.specs.Script.{IsScriptFault, IsTextFault}
 use Rattle.bt_judge.specs.Reads.{ShelfUse, ShelfFailed, AreContentsOf, AsksExactly, AsksFirst, ComesIfDue, MayCome, OnTold}

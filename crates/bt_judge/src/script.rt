@@ -1,8 +1,7 @@
 // The trees of scripts, and why scripts are refused.
 ghost use Rattle.std.specs.Prelude.{◌≡◌, ◌≤◌, IfErr, IfOk, length, slice_get};
 ghost use Rattle.bt_lexer.specs.Places.{offset_of};
-ghost use Rattle.bt_judge.specs.Script.{token_place, offset_place, lexical_refusal, parse_refusal, attach_refusal, type_refusal};
-ghost use Rattle.bt_judge.specs.Script.{HasTree};
+ghost use Rattle.bt_judge.specs.Script.{token_place, offset_place, lexical_refusal, parse_refusal, attach_refusal, type_refusal, HasTree};
 ghost use Rattle.bt_judge.specs.Doing.{IsTextRefusal};
 
 use crate::refusal::{Refusal, ScriptFault, ScriptRefusal};

@@ -5,8 +5,7 @@ ghost use Rattle.bt_judge.specs.declared.refusal.Refusal.TheVariants as refusal;
 ghost use Rattle.bt_judge.specs.declared.refusal.ScriptRefusal.TheVariants as refused;
 ghost use Rattle.bt_judge.specs.Lines.{Writes, sink_use, Text, Number};
 ghost use Rattle.bt_judge.specs.Refusals.{account_pieces, count_word, event_pieces, fault_pieces, broken_format_pieces};
-ghost use Rattle.bt_judge.specs.Refusals.{recording_pieces, refusal_pieces, rule_text, script_fault_text, script_pieces};
-ghost use Rattle.bt_judge.specs.Refusals.{size_in, unit_in, usage_pieces};
+ghost use Rattle.bt_judge.specs.Refusals.{recording_pieces, refusal_pieces, rule_text, script_fault_text, script_pieces, size_in, unit_in, usage_pieces};
 ghost use Rattle.bt_judge.specs.Orders.{files_of, on_account, on_script, operand_name};
 ghost use Rattle.bt_judge.specs.Refusals.{TellsRefusal};
 

@@ -9,8 +9,8 @@ use Rattle.run_base.specs.declared.job.Job.{Job}
 use Rattle.run_base.specs.declared.job.Work.{Work}
 use Rattle.run_output.specs.declared.form.Form.{Form}
 use Rattle.run_output.specs.declared.form.Form.TheVariants.{Text}
-use Rattle.bt_top.specs.declared.outcome.Outcome.{Outcome}
-use Rattle.bt_top.specs.declared.report.Report.{Report}
+use Rattle.account_format.specs.declared.error.AccountError.{AccountError}
+use Rattle.bt_core.specs.declared.step.Step.{Step}
 use Rattle.bt_judge.specs.declared.refusal.Denial.{Denial}
 use Rattle.bt_judge.specs.declared.refusal.Denial.TheVariants as denial
 use Rattle.bt_judge.specs.declared.refusal.Operand.{Operand}
@@ -20,24 +20,22 @@ use Rattle.bt_judge.specs.declared.refusal.ScriptRefusal.TheVariants as script
 use Rattle.bt_judge.specs.declared.refusal.Refusal.{Refusal}
 use Rattle.bt_judge.specs.declared.refusal.Refusal.TheVariants.{Usage, Script, Recording, ReadFault, WriteFault, Memory, LongAccount, Denied}
 use Rattle.bt_judge.specs.Doing.{ComesOfFiles}
-use Rattle.bt_top.specs.Writing.{Wrote}
 use Rattle.bt_judge.specs.Due.{IsDue, IsFinding, IsTooLong}
 use Rattle.bt_judge.specs.Jobs.{IsJobFor}
 use Rattle.bt_judge.specs.Lines.{SinkUse, SinkFailed}
 use Rattle.bt_judge.specs.Orders.{OperandFile, files_of}
-use Rattle.bt_top.specs.Outcomes.{form_of}
-use Rattle.account_format.specs.declared.error.AccountError.{AccountError}
-use Rattle.bt_core.specs.declared.step.Step.{Step}
-use Rattle.bt_top.specs.Outcomes.{ComesTo, IsOutcomeOfRun, IsOutcomeOfVet, accepted_outcome, bytes_written, check_outcome, code_outcome, gen_outcome, refused_outcome, verify_outcome}
+use Rattle.bt_judge.specs.Reads.{ShelfUse, ShelfFailed, AreContentsOf, MayCome, MayStandFor, ComesIfDue, OnTold, IsReached, AsksExactly}
 use Rattle.bt_judge.specs.Refusals.{status_of, too_long}
-use Rattle.bt_judge.specs.Reads.{ShelfUse, ShelfFailed, AreContentsOf, MayCome, MayStandFor, ComesIfDue, OnTold, IsReached}
-use Rattle.bt_top.specs.Serve.{ReadFailed, IsComplete}
-use Rattle.bt_judge.specs.Reads.{AsksExactly}
-use Rattle.bt_top.specs.Serve.{EndsAsDue, HasWork, IsEndStatus, MayDeny, MayEnd, MayEndFor}
-use Rattle.bt_top.specs.Serve.{IsTold, IsWritten, IsDone, IsDoneUnlessRefused, IsNothing, AnswersOrder, AnswersWords, IsRunOrder}
 use Rattle.bt_judge.proofs.Due.{job_accepted}
-use Rattle.bt_top.proofs.Performing.{on_told-map, plain_end}
 use Rattle.bt_judge.proofs.Reading.{are_others, others_of}
+use Rattle.bt_top.specs.declared.outcome.Outcome.{Outcome}
+use Rattle.bt_top.specs.declared.report.Report.{Report}
+use Rattle.bt_top.specs.Writing.{Wrote}
+use Rattle.bt_top.specs.Outcomes.{form_of}
+use Rattle.bt_top.specs.Outcomes.{ComesTo, IsOutcomeOfRun, IsOutcomeOfVet, accepted_outcome, bytes_written, check_outcome, code_outcome, gen_outcome, refused_outcome, verify_outcome}
+use Rattle.bt_top.specs.Serve.{ReadFailed, IsComplete, EndsAsDue, HasWork, IsEndStatus, MayDeny, MayEnd, MayEndFor}
+use Rattle.bt_top.specs.Serve.{IsTold, IsWritten, IsDone, IsDoneUnlessRefused, IsNothing, AnswersOrder, AnswersWords, IsRunOrder}
+use Rattle.bt_top.proofs.Performing.{on_told-map, plain_end}
 
 -- ---- what was done
 

@@ -33,26 +33,24 @@ use Rattle.rec_gen.specs.Made.{IsMade}
 use Rattle.script_programs.specs.Programs.{KeepScript}
 use Rattle.total_laws.specs.Ends.{EndsWithTotals, IsAddingRun}
 use Rattle.typed_tree.specs.declared.script.Typed.{Typed}
-use Rattle.bt_top.specs.declared.outcome.Outcome.{Outcome}
 use Rattle.bt_judge.specs.declared.refusal.Denial.{Denial}
 use Rattle.bt_judge.specs.declared.refusal.Denial.TheVariants as denial
 use Rattle.bt_judge.specs.declared.refusal.Refusal.{Refusal}
 use Rattle.bt_judge.specs.declared.refusal.Refusal.TheVariants.{Usage, Script, Recording, ReadFault, WriteFault, Memory, LongAccount, Denied}
+use Rattle.bt_judge.specs.Jobs.{IsJobFor, meaning_in}
+use Rattle.bt_judge.specs.Lines.{SinkUse}
+use Rattle.bt_judge.specs.Orders.{OperandFile, files_of}
+use Rattle.bt_judge.specs.Reads.{ShelfUse, AreContentsOf}
+use Rattle.bt_judge.specs.Refusals.{status_of}
+use Rattle.bt_judge.proofs.Asked.{can_run, of_files}
+use Rattle.bt_judge.proofs.OneMeaning.{means_files, means_job}
+use Rattle.bt_top.specs.declared.outcome.Outcome.{Outcome}
 use Rattle.bt_top.specs.Writing.{Wrote}
 use Rattle.bt_top.specs.Headline.{AccountsOfFiles, AreStepsOf, Headline, IsSerialList, OnlyAdds, PrintsItsSteps, PrintsItsTotals, PrintsOfFiles, RanPrograms}
-use Rattle.bt_judge.specs.Jobs.{IsJobFor, meaning_in}
-use Rattle.bt_top.specs.Jobs.{IsBigJob, IsWorkOf, meaning_of}
-use Rattle.bt_judge.specs.Lines.{SinkUse}
-use Rattle.bt_top.specs.Jobs.{IsBigMeaning}
-use Rattle.bt_judge.specs.Orders.{OperandFile, files_of}
-use Rattle.bt_top.specs.Outcomes.{form_of}
-use Rattle.bt_top.specs.Outcomes.{ComesTo, IsOutcomeOfAccount, IsOutcomeOfRun, bytes_written, stats_line, summary_line}
-use Rattle.bt_judge.specs.Refusals.{status_of}
-use Rattle.bt_judge.specs.Reads.{ShelfUse, AreContentsOf}
+use Rattle.bt_top.specs.Jobs.{IsBigJob, IsWorkOf, meaning_of, IsBigMeaning}
+use Rattle.bt_top.specs.Outcomes.{form_of, ComesTo, IsOutcomeOfAccount, IsOutcomeOfRun, bytes_written, stats_line, summary_line}
 use Rattle.bt_top.proofs.Answering.{refused_report, report_of}
-use Rattle.bt_judge.proofs.Asked.{can_run, of_files}
 use Rattle.bt_top.proofs.Making.{attached_over, of_numbers, typed_over}
-use Rattle.bt_judge.proofs.OneMeaning.{means_files, means_job}
 
 -- no refusal has status 0
 no_success : (refusal : Refusal) → status_of (Some refusal) ≡ 0 → ⊥

@@ -19,25 +19,25 @@ use Rattle.run_base.specs.declared.job.Job.{Job}
 use Rattle.run_base.specs.declared.job.Work.{Work}
 use Rattle.run_output.specs.declared.form.Form.{Form}
 use Rattle.run_output.specs.declared.form.Form.TheVariants.{Text}
-use Rattle.bt_top.specs.declared.outcome.Outcome.{Outcome}
-use Rattle.bt_judge.specs.declared.refusal.Refusal.{Refusal}
-use Rattle.bt_judge.specs.declared.refusal.Refusal.TheVariants.{Memory}
-use Rattle.bt_judge.specs.Doing.{ComesOfFiles}
-use Rattle.bt_top.specs.Jobs.{IsWorkOf}
-use Rattle.bt_judge.specs.Orders.{OperandFile, files_of, names_of}
-use Rattle.bt_top.specs.Outcomes.{IsOutcomeOfAccount, IsOutcomeOfRun, IsOutcomeOfVerify, gen_outcome, plain_outcome, run_outcome, verify_outcome, IsOutcomeOfVet}
-use Rattle.bt_judge.specs.Reads.{ShelfUse, AsksExactly, AsksFirst, ComesIfDue, OnTold}
-use Rattle.bt_top.specs.Serve.{EndsAsDue, IsComplete, IsEndStatus}
 use Rattle.bt_ast.specs.declared.attached.BodyId.{BodyId}
 use Rattle.tracefs_format.specs.declared.format.Format.{Format}
+use Rattle.bt_judge.specs.declared.refusal.Refusal.{Refusal}
+use Rattle.bt_judge.specs.declared.refusal.Refusal.TheVariants.{Memory}
 use Rattle.bt_judge.specs.declared.refusal.CodeRefusal.{CodeRefusal}
 use Rattle.bt_judge.specs.declared.refusal.Denial.{Denial}
 use Rattle.bt_judge.specs.declared.refusal.Denial.TheVariants as denial
 use Rattle.bt_judge.specs.declared.vetting.Verdict.{Verdict}
 use Rattle.bt_judge.specs.declared.vetting.Verdict.TheVariants.{Accepted, Refused}
+use Rattle.bt_judge.specs.Doing.{ComesOfFiles}
 use Rattle.bt_judge.specs.FailedNames.{FailsNamed}
 use Rattle.bt_judge.specs.Lines.{SinkUse}
+use Rattle.bt_judge.specs.Orders.{OperandFile, files_of, names_of}
+use Rattle.bt_judge.specs.Reads.{ShelfUse, AsksExactly, AsksFirst, ComesIfDue, OnTold}
 use Rattle.bt_judge.specs.Vetting.{IsVerdict}
+use Rattle.bt_top.specs.declared.outcome.Outcome.{Outcome}
+use Rattle.bt_top.specs.Jobs.{IsWorkOf}
+use Rattle.bt_top.specs.Outcomes.{IsOutcomeOfAccount, IsOutcomeOfRun, IsOutcomeOfVerify, gen_outcome, plain_outcome, run_outcome, verify_outcome, IsOutcomeOfVet}
+use Rattle.bt_top.specs.Serve.{EndsAsDue, IsComplete, IsEndStatus}
 use Rattle.bt_top.specs.Writing.{Wrote}
 
 -- ---- outcomes

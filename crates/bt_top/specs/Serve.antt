@@ -4,8 +4,6 @@ use Rattle.std.specs.Io.KnownBytes.{Appends, Keeps}
 use Rattle.bt_io.specs.Taken.{AppendsPart}
 use Rattle.bt_words.specs.declared.order.Order.{Order}
 use Rattle.bt_words.specs.declared.order.Order.TheVariants.{Run, Check, Code, Vet, Account, Verify, Gen, Big}
-use Rattle.bt_top.specs.declared.outcome.Outcome.{Outcome}
-use Rattle.bt_top.specs.declared.report.Report.{Report}
 use Rattle.bt_judge.specs.declared.refusal.Denial.{Denial}
 use Rattle.bt_judge.specs.declared.refusal.Denial.TheVariants as denial
 use Rattle.bt_judge.specs.declared.refusal.RecordingRefusal.TheVariants as recording
@@ -15,8 +13,10 @@ use Rattle.bt_judge.specs.declared.refusal.Refusal.TheVariants.{WriteFault, Deni
 use Rattle.bt_judge.specs.Due.{IsDue}
 use Rattle.bt_judge.specs.Lines.{SinkUse, SinkFailed}
 use Rattle.bt_judge.specs.Orders.{OperandFile, files_of}
-use Rattle.bt_top.specs.Outcomes.{ComesTo, bytes_written}
 use Rattle.bt_judge.specs.Reads.{ShelfUse, ShelfFailed, AreContentsOf, MayCome, MayStandFor}
+use Rattle.bt_top.specs.declared.outcome.Outcome.{Outcome}
+use Rattle.bt_top.specs.declared.report.Report.{Report}
+use Rattle.bt_top.specs.Outcomes.{ComesTo, bytes_written}
 
 -- ---- what comes of an order
 

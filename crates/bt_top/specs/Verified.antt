@@ -12,13 +12,13 @@ use Rattle.bt_words.specs.declared.order.Order.TheVariants.{Verify}
 use Rattle.bt_judge.specs.declared.refusal.Denial.TheVariants as denial
 use Rattle.bt_judge.specs.declared.refusal.Refusal.{Refusal}
 use Rattle.bt_judge.specs.declared.refusal.Refusal.TheVariants.{WriteFault, LongAccount, Denied}
-use Rattle.bt_top.specs.declared.report.Report.{Report}
+use Rattle.bt_judge.specs.Jobs.{account_in}
 use Rattle.bt_judge.specs.Lines.{SinkUse}
 use Rattle.bt_judge.specs.Meanings.{Meaning, IsMeaningFor}
 use Rattle.bt_judge.specs.Orders.{OperandFile, on_account}
-use Rattle.bt_judge.specs.Jobs.{account_in}
-use Rattle.bt_top.specs.Outcomes.{verified_line}
 use Rattle.bt_judge.specs.Reads.{ShelfUse, AreContentsOf}
+use Rattle.bt_top.specs.declared.report.Report.{Report}
+use Rattle.bt_top.specs.Outcomes.{verified_line}
 
 -- these bytes are the account of these steps, which a run with this meaning can make, and of the text that they print
 abbrev pub TellsRun : Meaning → List ℕ → List Step → Type 0

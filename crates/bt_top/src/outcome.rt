@@ -3,8 +3,8 @@ ghost use Rattle.std.specs.Prelude.{◌≡◌, OnOk, OnErr, length};
 ghost use Rattle.std.specs.Io.KnownBytes.{Appends};
 ghost use Rattle.bt_io.specs.Faults.{Rose};
 ghost use Rattle.bt_io.specs.Taken.{AppendsPart};
-ghost use Rattle.bt_top.specs.Writing.{Wrote, WroteBytes};
 ghost use Rattle.bt_judge.specs.Lines.{sink_use};
+ghost use Rattle.bt_top.specs.Writing.{Wrote, WroteBytes};
 ghost use Rattle.bt_top.specs.Offered.{OffersBoth};
 ghost use Rattle.bt_top.specs.Outcomes.{bytes_written, shown_text};
 

@@ -2,16 +2,13 @@
 ghost use Rattle.std.specs.Prelude.{◌≡◌, ◌≢◌, ◌↔◌, None, Some, IfSome, IsSome};
 ghost use Rattle.bt_words.specs.Words.{HasBounds, order_of};
 ghost use Rattle.bt_judge.specs.FailedNames.{FailsNamed};
-ghost use Rattle.bt_top.specs.Headline.{Headline};
 ghost use Rattle.bt_judge.specs.Lines.{SinkFailed, sink_use};
-ghost use Rattle.bt_top.specs.Offered.{IsOffered};
 ghost use Rattle.bt_judge.specs.Orders.{files_in, files_of, names_of};
-ghost use Rattle.bt_judge.specs.Refusals.{status_of};
-ghost use Rattle.bt_top.specs.Serve.{AnswersOrder, EndsAsDue, HasWork, AnswersWords, IsComplete};
-ghost use Rattle.bt_judge.specs.Reads.{AsksExactly, AsksFirst};
-ghost use Rattle.bt_judge.specs.Reads.{OnTold, shelf_use};
-ghost use Rattle.bt_top.specs.Serve.{ReadFailed};
-ghost use Rattle.bt_judge.specs.Refusals.{TellsRefusal};
+ghost use Rattle.bt_judge.specs.Reads.{AsksExactly, AsksFirst, OnTold, shelf_use};
+ghost use Rattle.bt_judge.specs.Refusals.{status_of, TellsRefusal};
+ghost use Rattle.bt_top.specs.Headline.{Headline};
+ghost use Rattle.bt_top.specs.Offered.{IsOffered};
+ghost use Rattle.bt_top.specs.Serve.{AnswersOrder, EndsAsDue, HasWork, AnswersWords, IsComplete, ReadFailed};
 ghost use Rattle.bt_top.specs.Verified.{Verified};
 ghost use Rattle.bt_top.specs.Vetted.{Vetted};
 

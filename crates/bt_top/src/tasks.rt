@@ -6,9 +6,8 @@ ghost use Rattle.script_programs.specs.Programs.{KeepScript};
 ghost use Rattle.bt_judge.specs.Doing.{ComesOfFiles, refusal_in};
 ghost use Rattle.bt_judge.specs.FailedNames.{FailsNamed};
 ghost use Rattle.bt_judge.specs.Orders.{files_of};
-ghost use Rattle.bt_top.specs.Outcomes.{form_of};
-ghost use Rattle.bt_top.specs.Outcomes.{ComesTo, IsOutcomeOfRun, IsOutcomeOfVet, check_outcome, code_outcome, instructions_line, stats_line};
 ghost use Rattle.bt_judge.specs.Reads.{shelf_use};
+ghost use Rattle.bt_top.specs.Outcomes.{form_of, ComesTo, IsOutcomeOfRun, IsOutcomeOfVet, check_outcome, code_outcome, instructions_line, stats_line};
 
 use crate::accounts::{account_outcome, verify_outcome};
 use crate::made::{big_outcome, gen_outcome};

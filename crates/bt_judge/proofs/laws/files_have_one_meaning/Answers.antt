@@ -1,5 +1,4 @@
-use Rattle.bt_judge.proofs.OneMeaning.{means_files}
-use Rattle.bt_judge.proofs.OneMeaning.{one_meaning}
+use Rattle.bt_judge.proofs.OneMeaning.{means_files, one_meaning}
 use Rattle.bt_judge.proofs.laws.files_have_one_meaning.Goals as goal
 
 pub returns-clause-one : goal.returns-clause-one
