@@ -45,7 +45,7 @@ fault_of r BadLength h = h
 fault_of r (BadOpcode n) h = h
 fault_of r (BadField n) h = h
 fault_of r (HalfWide n) h = h
-fault_of r Memory h = tt
+fault_of r (Memory m) h = tt
 
 pub either : {A E : Type 0} (r : Result A E) (P Q : A → Type 0) (R S : E → Type 0) → ((a : A) → P a → Q a) → ((e : E) → R e → S e) → MatchResult r P R
     → MatchResult r Q S

@@ -7,6 +7,7 @@ use Rattle.std.proofs.Math.Bool.{and-false}
 use Rattle.std.proofs.lemmas.Bool.{and_parts}
 use Rattle.std.proofs.lemmas.List.{get_or-append-add}
 use Rattle.bpf_insn.specs.declared.form.Form.{Form}
+use Rattle.bt_core.specs.Want.{out_of_memory}
 use Rattle.bpf_insn.specs.declared.insn.Insn.{Insn}
 use Rattle.bpf_insn.specs.declared.insn.Insn.TheVariants.{Wide, Half}
 use Rattle.bpf_insn.specs.declared.slot.Slot.{Slot}
@@ -193,7 +194,7 @@ fault_found bytes (BadField n) h multiple f = either f
     either (inl r) = reached bytes n false HasBadField (BadField n) r (field_stops n r.rest (rest_bytes bytes n false HasBadField r h) r.whole r.at_fault)
     either (inr r) = reached bytes n true HasBadHalf (BadField n) r (half_stops n r.rest (rest_bytes bytes n true HasBadHalf r h) r.whole r.at_fault)
 fault_found bytes (HalfWide n) h multiple f = reached bytes n false IsHalfWide (HalfWide n) f (wide_stops n f.rest f.at_fault)
-fault_found bytes Memory h multiple f = absurd f
+fault_found bytes (Memory m) h multiple f = absurd f
 
 -- bytes that are no whole slots have no other fault
 pub only_length : (bytes : List ℕ) (e : DecodeError) → (length bytes % 8 ≡ 0 → ⊥) → IsFirstFault bytes e → BadLength ≡ e
@@ -205,15 +206,15 @@ only_length bytes (BadField n) odd f = absurd (either f)
     either (inl r) = odd r.multiple
     either (inr r) = odd r.multiple
 only_length bytes (HalfWide n) odd f = absurd (odd f.multiple)
-only_length bytes Memory odd f = absurd f
+only_length bytes (Memory m) odd f = absurd f
 
 -- an answer to bytes with a fault
 abbrev IsAnswer : {A : Type 0} → Result A DecodeError → DecodeError → Type 0
-IsAnswer r e = (r ≡ Err e) ⊎ (r ≡ Err Memory)
+IsAnswer r e = (r ≡ Err e) ⊎ (r ≡ Err (Memory out_of_memory))
 
 pub fault_answered : {A : Type 0} (items : A → List Insn) (bytes : List ℕ) (r : Result A DecodeError) (e : DecodeError) → AreBytes bytes
     → length bytes % 8 ≡ 0 → MatchResult r (λ code. decoded 0 false (length bytes / 8) bytes ≡ Ok (items code))
-    (λ f. FaultIs (decoded 0 false (length bytes / 8) bytes) f) → IsFirstFault bytes e → (r ≡ Err e) ⊎ (r ≡ Err Memory)
+    (λ f. FaultIs (decoded 0 false (length bytes / 8) bytes) f) → IsFirstFault bytes e → (r ≡ Err e) ⊎ (r ≡ Err (Memory out_of_memory))
 fault_answered {A = A} items bytes (Ok code) e h multiple m f = absurd (let g = sym m ∙ fault_found bytes e h multiple f in cc)
 fault_answered {A = A} items bytes (Err g) e h multiple m f = at g m
   where
@@ -225,7 +226,7 @@ fault_answered {A = A} items bytes (Err g) e h multiple m f = at g m
     at (BadOpcode n) m = inl (ap (λ (x : DecodeError). Err x) (same (BadOpcode n) m))
     at (BadField n) m = inl (ap (λ (x : DecodeError). Err x) (same (BadField n) m))
     at (HalfWide n) m = inl (ap (λ (x : DecodeError). Err x) (same (HalfWide n) m))
-    at Memory m = inr refl
+    at (Memory none) m = inr refl
 
 -- bytes have one first fault at most
 whole_or_odd : (n : ℕ) → (n % 8 ≡ 0) ⊎ (n % 8 ≡ 0 → ⊥)

@@ -7,6 +7,7 @@ use Rattle.std.proofs.lemmas.List.{length-drop}
 use Rattle.std.proofs.lemmas.Bool.{and_parts}
 use Rattle.std.proofs.lemmas.Int.{of_z-to_z}
 use Rattle.bpf_insn.specs.declared.form.Form.{Form}
+use Rattle.bt_core.specs.Want.{out_of_memory}
 use Rattle.bpf_insn.specs.declared.insn.Insn.{Insn}
 use Rattle.bpf_insn.specs.declared.insn.Insn.TheVariants.{Half}
 use Rattle.bpf_insn.specs.declared.slot.Slot.{Slot}
@@ -188,17 +189,17 @@ refused_at : (bytes : List ℕ) (e : DecodeError) → AreBytes bytes → length 
 refused_at bytes e hb whole d = refused bytes e (outcome_is bytes _ (Err e) d (outcome_at bytes hb whole))
 
 pub fault_is : (bytes : List ℕ) (e : DecodeError) → AreBytes bytes → length bytes % 8 ≡ 0 → FaultIs (decoded 0 false (length bytes / 8) bytes) e →
-    e ≢ Memory → IsFirstFault bytes e
+    e ≢ Memory out_of_memory → IsFirstFault bytes e
 fault_is bytes BadLength h whole f known = refused_at bytes BadLength h whole f
 fault_is bytes (BadOpcode n) h whole f known = refused_at bytes (BadOpcode n) h whole f
 fault_is bytes (BadField n) h whole f known = refused_at bytes (BadField n) h whole f
 fault_is bytes (HalfWide n) h whole f known = refused_at bytes (HalfWide n) h whole f
-fault_is bytes Memory h whole f known = absurd (known refl)
+fault_is bytes (Memory m) h whole f known = absurd (known refl)
 
 pub only_memory : (bytes : List ℕ) (e : DecodeError) (code : List Insn) → IsCodeOf code bytes → FaultIs (decoded 0 false (length bytes / 8) bytes) e
-    → e ≡ Memory
+    → e ≡ Memory out_of_memory
 only_memory bytes BadLength code c f = let g = complete_at code bytes c in absurd (cc)
 only_memory bytes (BadOpcode n) code c f = let g = complete_at code bytes c in absurd (cc)
 only_memory bytes (BadField n) code c f = let g = complete_at code bytes c in absurd (cc)
 only_memory bytes (HalfWide n) code c f = let g = complete_at code bytes c in absurd (cc)
-only_memory bytes Memory code c f = refl
+only_memory bytes (Memory m) code c f = refl

@@ -60,7 +60,7 @@ IsFirstFault bytes BadLength = length bytes % 8 ≡ 0 → ⊥
 IsFirstFault bytes (BadOpcode n) = FaultAt false HasBadOpcode bytes n
 IsFirstFault bytes (BadField n) = FaultAt false HasBadField bytes n ⊎ FaultAt true HasBadHalf bytes n
 IsFirstFault bytes (HalfWide n) = FaultAt false IsHalfWide bytes n
-IsFirstFault bytes Memory = ⊥
+IsFirstFault bytes (Memory _) = ⊥
 
 -- each number is one of 8 bits
 abbrev pub AreBytes : List ℕ → Type 0

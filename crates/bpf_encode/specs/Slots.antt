@@ -84,7 +84,7 @@ after_code is (Err e) = Err e
 
 -- the answer is this fault, but for want of memory
 abbrev pub FaultIs : Result (List Insn) DecodeError → DecodeError → Type 0
-FaultIs r Memory = Unit {0}
+FaultIs r (Memory _) = Unit {0}
 FaultIs r BadLength = r ≡ Err BadLength
 FaultIs r (BadOpcode n) = r ≡ Err (BadOpcode n)
 FaultIs r (BadField n) = r ≡ Err (BadField n)

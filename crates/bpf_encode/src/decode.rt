@@ -1,5 +1,6 @@
 // From bytes to instructions.
 ghost use Rattle.std.specs.Prelude.{◌≡◌, ◌<◌, ◌≤◌, ◌*◌, ◌/◌, ◌^◌, ◌%◌, ◌≢◌, ◌⊎◌, ℕ, List, false, length, Ok, Err, IfOk, IfErr, MatchResult};
+ghost use Rattle.bt_core.specs.Want.{out_of_memory};
 ghost use Rattle.bpf_insn.specs.declared.insn.Insn.{Insn as InsnValue};
 ghost use Rattle.bpf_insn.specs.Code.{is_wide};
 ghost use Rattle.bpf_insn.specs.Classes.{class_form};
@@ -13,6 +14,7 @@ use crate::slot_bytes::slot_at;
 use bpf_insn::form::Form;
 use bpf_insn::insn::Insn;
 use bpf_insn::slot::Slot;
+use bt_core::memory::Memory as NoMemory;
 use std::alloc::{AllocError, AllocFailed, Global};
 use thiserror::Error;
 
@@ -35,17 +37,18 @@ pub enum DecodeError {
     HalfWide(u32),
     /// Memory ran out.
     #[error("out of memory")]
-    Memory,
+    Memory(NoMemory),
 }
 
 impl<T: Drop> From<AllocFailed<T>> for DecodeError {
     ghost use Rattle.std.specs.Prelude.{◌≡◌};
     ghost use Rattle.bpf_encode.specs.declared.decode.DecodeError.TheVariants.{Memory};
+    ghost use Rattle.bt_core.specs.Want.{out_of_memory};
 
-    ghost from_gives = { λ _ e. e ≡ Memory };
+    ghost from_gives = { λ _ e. e ≡ Memory out_of_memory };
 
-    fn from(_error: AllocFailed<T>) -> DecodeError {
-        DecodeError::Memory
+    fn from(error: AllocFailed<T>) -> DecodeError {
+        DecodeError::Memory(error.into())
     }
 }
 
@@ -154,11 +157,11 @@ pub fn decode(alloc: Global, bytes: &[u8]) -> Result<Vec<Insn>, DecodeError>
     ensures code { IfOk result (λ code. IsCodeOf code.items bytes.now) }
     // The code that the bytes are is decoded, unless memory runs out.
     ensures only { (code : List InsnValue) → IsCodeOf code bytes.now →
-        MatchResult result (λ answer. answer.items ≡ code) (λ e. e ≡ DecodeError.Memory) }
+        MatchResult result (λ answer. answer.items ≡ code) (λ e. e ≡ DecodeError.Memory out_of_memory) }
     // Any other error is the first fault of the bytes.
-    ensures fault { IfErr result (λ e. e ≢ DecodeError.Memory → IsFirstFault bytes.now e) }
+    ensures fault { IfErr result (λ e. e ≢ DecodeError.Memory out_of_memory → IsFirstFault bytes.now e) }
     // The first fault of the bytes is answered, unless memory runs out.
-    ensures refused { (e : ErrorValue) → IsFirstFault bytes.now e → (result ≡ Err e) ⊎ (result ≡ Err DecodeError.Memory) }
+    ensures refused { (e : ErrorValue) → IsFirstFault bytes.now e → (result ≡ Err e) ⊎ (result ≡ Err (DecodeError.Memory out_of_memory)) }
 {
     if bytes.len() % 8 != 0 {
         return Err(DecodeError::BadLength);

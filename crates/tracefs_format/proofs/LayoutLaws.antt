@@ -9,6 +9,7 @@ use Rattle.std.proofs.lemmas.List.{append-nil}
 use Rattle.std.proofs.lemmas.List.Folds.{list_any-append}
 use Rattle.std.proofs.lemmas.Slice.Eq.{bytes_eq-Decides}
 use Rattle.bt_core.specs.declared.limits.TheConstants.{LAYOUT_END}
+use Rattle.bt_core.specs.Want.{out_of_memory}
 use Rattle.tracefs_format.specs.declared.error.FormatError.{FormatError}
 use Rattle.tracefs_format.specs.declared.error.FormatError.TheVariants.{NoName, BadId, BadField, Overlong, SameName, Memory}
 use Rattle.tracefs_format.specs.declared.field.Field.{Field}
@@ -262,27 +263,27 @@ one_layout text a b s t = one_read text a b (IsLayoutOf-read text a s).1 (IsLayo
 
 -- ---- what a reader answers
 
-fails-is : (e : FormatError) (fault : Option FormatError) → e ≢ Memory → Fails e fault → fault ≡ Some e
+fails-is : (e : FormatError) (fault : Option FormatError) → e ≢ Memory out_of_memory → Fails e fault → fault ≡ Some e
 fails-is NoName fault n h = h
 fails-is BadId fault n h = h
 fails-is (BadField line) fault n h = h
 fails-is (Overlong line) fault n h = h
 fails-is (SameName line) fault n h = h
-fails-is Memory fault n h = absurd (n refl)
+fails-is (Memory _) fault n h = absurd (n refl)
 
-fails-or : (e : FormatError) (fault : Option FormatError) → Fails e fault → (fault ≡ Some e) ⊎ (e ≡ Memory)
+fails-or : (e : FormatError) (fault : Option FormatError) → Fails e fault → (fault ≡ Some e) ⊎ (e ≡ Memory out_of_memory)
 fails-or NoName fault h = inl h
 fails-or BadId fault h = inl h
 fails-or (BadField line) fault h = inl h
 fails-or (Overlong line) fault h = inl h
 fails-or (SameName line) fault h = inl h
-fails-or Memory fault h = inr refl
+fails-or (Memory _) fault h = inr refl
 
 pub answer-found : (text : List ℕ) (r : Result Layout FormatError) → Answers r (layout_fault text) (IsReadOf text) → IfOk r (λ l. IsLayoutOf text l)
 answer-found text (Ok l) a = read-IsLayoutOf text l a.0 a.1
 answer-found text (Err e) a = tt
 
-pub answer-only : (text : List ℕ) (r : Result Layout FormatError) → Answers r (layout_fault text) (IsReadOf text) → (l : Layout) → IsLayoutOf text l → (r ≡ Ok l) ⊎ (r ≡ Err Memory)
+pub answer-only : (text : List ℕ) (r : Result Layout FormatError) → Answers r (layout_fault text) (IsReadOf text) → (l : Layout) → IsLayoutOf text l → (r ≡ Ok l) ⊎ (r ≡ Err (Memory out_of_memory))
 answer-only text (Ok m) a l s = inl (ap Ok (one_read text m l a.1 (IsLayoutOf-read text l s).1))
 answer-only text (Err e) a l s =
     elim (fails-or e (layout_fault text) a) [
@@ -290,11 +291,11 @@ answer-only text (Err e) a l s =
       | inr memory ↦ inr (ap Err memory)
     ]
 
-pub answer-fault : (text : List ℕ) (r : Result Layout FormatError) → Answers r (layout_fault text) (IsReadOf text) → IfErr r (λ e. e ≢ Memory → layout_fault text ≡ Some e)
+pub answer-fault : (text : List ℕ) (r : Result Layout FormatError) → Answers r (layout_fault text) (IsReadOf text) → IfErr r (λ e. e ≢ Memory out_of_memory → layout_fault text ≡ Some e)
 answer-fault text (Ok l) a = tt
 answer-fault text (Err e) a = λ n. fails-is e (layout_fault text) n a
 
-pub answer-refused : (text : List ℕ) (r : Result Layout FormatError) → Answers r (layout_fault text) (IsReadOf text) → (e : FormatError) → layout_fault text ≡ Some e → (r ≡ Err e) ⊎ (r ≡ Err Memory)
+pub answer-refused : (text : List ℕ) (r : Result Layout FormatError) → Answers r (layout_fault text) (IsReadOf text) → (e : FormatError) → layout_fault text ≡ Some e → (r ≡ Err e) ⊎ (r ≡ Err (Memory out_of_memory))
 answer-refused text (Ok l) a e h = absurd (none_some (sym a.0 ∙ h))
 answer-refused text (Err d) a e h =
     elim (fails-or d (layout_fault text) a) [

@@ -21,7 +21,7 @@ Fails-or BadId a b h = ap (λ v. option_or v b) h
 Fails-or (BadField n) a b h = ap (λ v. option_or v b) h
 Fails-or (Overlong n) a b h = ap (λ v. option_or v b) h
 Fails-or (SameName n) a b h = ap (λ v. option_or v b) h
-Fails-or Memory a b h = h
+Fails-or (Memory _) a b h = h
 
 pub read_lines-more : (line : List ℕ) (lines : List (List ℕ)) → is_print_line line ≡ false → read_lines (line ∷ lines) ≡ line ∷ read_lines lines
 read_lines-more line lines h = take_while-cons (λ l. not (is_print_line l)) line lines ∙ rw h refl

@@ -17,7 +17,7 @@ use Rattle.tracefs_format.specs.Reading.{name_on, id_on}
 use Rattle.tracefs_format.specs.Sizes.{greatest_end}
 
 abbrev pub Fails : FormatError → Option FormatError → Type 0
-Fails Memory fault = ⊤
+Fails (Memory _) fault = ⊤
 Fails NoName fault = fault ≡ Some NoName
 Fails BadId fault = fault ≡ Some BadId
 Fails (BadField line) fault = fault ≡ Some (BadField line)

@@ -25,16 +25,16 @@ pub enum FormatError {
     SameName(u32),
     /// Memory ran out.
     #[error("out of memory")]
-    Memory,
+    Memory(NoMemory),
 }
 
 impl From<NoMemory> for FormatError {
     ghost use Rattle.std.specs.Prelude.{◌≡◌};
     ghost use Rattle.tracefs_format.specs.declared.error.FormatError.TheVariants.{Memory};
 
-    ghost from_gives = { λ _ e. e ≡ Memory };
+    ghost from_gives = { λ m e. e ≡ Memory m };
 
-    fn from(_error: NoMemory) -> FormatError {
-        FormatError::Memory
+    fn from(error: NoMemory) -> FormatError {
+        FormatError::Memory(error)
     }
 }

@@ -1,6 +1,7 @@
 // Reading a format text.
 ghost use Rattle.std.specs.Prelude.{◌≡◌, ◌≢◌, ◌⊎◌, ◌∷◌, [], ◌++◌, ◌+◌, ◌<◌};
 ghost use Rattle.std.specs.Prelude.{◌^◌, drop, length, IfOk, IfErr, Some, Ok, Err};
+ghost use Rattle.bt_core.specs.Want.{out_of_memory};
 ghost use Rattle.tracefs_format.specs.declared.layout.Layout.{Layout};
 ghost use Rattle.tracefs_format.specs.declared.error.FormatError.{FormatError};
 ghost use Rattle.tracefs_format.specs.Lines.{text_lines};
@@ -32,11 +33,11 @@ pub fn read_layout(alloc: Global, text: &[u8]) -> Result<Layout, FormatError>
     // What is read is the text's layout.
     ensures found { IfOk result (λ layout. IsLayoutOf text.now layout) }
     // The text's layout is read, unless memory runs out.
-    ensures only { (layout : Layout) → IsLayoutOf text.now layout → (result ≡ Ok layout) ⊎ (result ≡ Err FormatError.Memory) }
+    ensures only { (layout : Layout) → IsLayoutOf text.now layout → (result ≡ Ok layout) ⊎ (result ≡ Err (FormatError.Memory out_of_memory)) }
     // Any other error is the first rule that the text breaks.
-    ensures fault { IfErr result (λ e. e ≢ FormatError.Memory → layout_fault text.now ≡ Some e) }
+    ensures fault { IfErr result (λ e. e ≢ FormatError.Memory out_of_memory → layout_fault text.now ≡ Some e) }
     // The first rule that the text breaks is answered, unless memory runs out.
-    ensures refused { (e : FormatError) → layout_fault text.now ≡ Some e → (result ≡ Err e) ⊎ (result ≡ Err FormatError.Memory) }
+    ensures refused { (e : FormatError) → layout_fault text.now ≡ Some e → (result ≡ Err e) ⊎ (result ≡ Err (FormatError.Memory out_of_memory)) }
 {
     read(alloc, text)
 }
