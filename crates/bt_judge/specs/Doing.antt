@@ -1,4 +1,4 @@
--- What the steps of a call answer, between the words and the write. No public contract speaks of it.
+-- What is answered of a script and a recording, and of the files of an order that hold them.
 use Rattle.std.specs.Prelude.{◌≡◌, ℕ, ◌⊎◌, ◌≤◌, ◌<◌, ◌*◌, ◌%◌, List, length, Option, Some, None, Result, Ok, Err, IfOk, IfErr, IfSome, slice_get}
 use Rattle.bpf_codegen.specs.declared.generate.Program.{Program}
 use Rattle.bt_core.specs.declared.limits.TheConstants.{CODE_SLOTS}

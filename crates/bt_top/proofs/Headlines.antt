@@ -1,5 +1,5 @@
 -- What a run that ends with status 0 promises.
-use Rattle.std.proofs.Common.{◌≡◌, ℕ, ◌<◌, ◌^◌, List, [], ◌∷◌, ◌++◌, length, sym, ap, subst, arith, inl, inr}
+use Rattle.std.proofs.Common.{◌≡◌, ℕ, ◌<◌, ◌^◌, List, [], ◌++◌, length, sym, ap, subst, arith, inl, inr}
 use Rattle.std.specs.List.{AllByRecursion}
 use Rattle.account_check.specs.Accounts.{IsTrueAccount}
 use Rattle.account_format.specs.Accounts.{account_bytes}

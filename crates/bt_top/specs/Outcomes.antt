@@ -1,6 +1,6 @@
 -- What each order comes to where its files are not refused: the work that was done, the programs that were run, listed or checked, and the bytes
 -- that are written.
-use Rattle.std.specs.Prelude.{◌≡◌, ◌≢◌, ℕ, ◌<◌, ◌^◌, ◌⊎◌, Bool, true, false, ◌++◌, List, [], ◌∷◌, codes, length, Option, Some, None, Result, Ok, Err, if◌then◌else◌}
+use Rattle.std.specs.Prelude.{◌≡◌, ◌≢◌, ℕ, ◌<◌, ◌^◌, ◌⊎◌, Bool, true, false, ◌++◌, List, [], codes, length, Option, Some, None, Result, Ok, Err, if◌then◌else◌}
 use Rattle.std.specs.Fmt.{decimal}
 use Rattle.std.specs.List.{AllByRecursion}
 use Rattle.account_check.specs.Answers.{IsAnswerTo}
@@ -136,7 +136,8 @@ pub record IsOutcomeOfVerify (job : Job) (account : List ℕ) (outcome : Outcome
   pub answer : Result (List Step) AccountError
   pub known : answer ≢ Err (wrong.Memory out_of_memory)
   pub holds : IsAnswerTo job.typed job.attached job.recording account answer
-  pub only : (other : Result (List Step) AccountError) → other ≢ Err (wrong.Memory out_of_memory) → IsAnswerTo job.typed job.attached job.recording account other → answer ≡ other
+  pub only : (other : Result (List Step) AccountError) → other ≢ Err (wrong.Memory out_of_memory)
+      → IsAnswerTo job.typed job.attached job.recording account other → answer ≡ other
   pub is : outcome ≡ verify_outcome answer
 
 -- what an order comes to, over files with these contents: `run` to a run of their job in the form that is asked for, with the line of

@@ -1,13 +1,11 @@
 -- What the top call answers.
-use Rattle.std.specs.Prelude.{◌≡◌, ◌≢◌, ℕ, ◌++◌, ◌≤◌, ◌⊎◌, List, [], ◌∷◌, Option, Some, None, if◌then◌else◌}
+use Rattle.std.specs.Prelude.{◌≡◌, ℕ, ◌⊎◌, List, [], ◌∷◌, Option, Some, None}
 use Rattle.std.specs.Io.KnownBytes.{Appends, Keeps}
 use Rattle.bt_io.specs.Taken.{AppendsPart}
 use Rattle.bt_words.specs.declared.order.Order.{Order}
 use Rattle.bt_words.specs.declared.order.Order.TheVariants.{Run, Check, Code, Vet, Account, Verify, Gen, Big}
 use Rattle.bt_judge.specs.declared.refusal.Denial.{Denial}
 use Rattle.bt_judge.specs.declared.refusal.Denial.TheVariants as denial
-use Rattle.bt_judge.specs.declared.refusal.RecordingRefusal.TheVariants as recording
-use Rattle.bt_judge.specs.declared.refusal.ScriptRefusal.TheVariants as script
 use Rattle.bt_judge.specs.declared.refusal.Refusal.{Refusal}
 use Rattle.bt_judge.specs.declared.refusal.Refusal.TheVariants.{WriteFault, Denied}
 use Rattle.bt_judge.specs.Due.{IsDue}
