@@ -5,20 +5,32 @@ use bt_core::item::Item;
 use bt_core::items::Items;
 use bt_core::key::Key;
 use bt_core::map::MapId;
-use bt_core::memory::TryCopy;
+use bt_core::memory::{Memory, TryCopy};
 use bt_core::text::Str64;
 use bt_core::value::Value;
+use std::alloc::Global;
 use std::test::Fail;
 
-#[test]
-fn lists_boxes_items_and_bytes_of_keys_are_made(rt: HostRuntime) -> Result<(), Fail> {
-    let alloc = rt.alloc();
+/// A list into which an element is inserted in the middle, behind a reservation, and one pushed at the end.
+fn inserted(alloc: Global) -> Result<Items<u8>, Memory> {
     let mut list = Items::from_slice(alloc, b"ad")?;
     list.reserve(2)?;
     list.insert(1, b'b')?;
     list.push(b'e')?;
-    assert_eq!(rt; list.as_slice(), b"abde".as_slice());
+    Ok(list)
+}
+
+#[test]
+fn lists_and_boxes_are_made(rt: HostRuntime) -> Result<(), Fail> {
+    let alloc = rt.alloc();
+    assert_eq!(rt; inserted(alloc)?.as_slice(), b"abde".as_slice());
     assert_eq!(rt; Boxed::new(alloc, 7u64)?.try_copy(alloc)?.into_inner(), 7);
+    Ok(())
+}
+
+#[test]
+fn items_are_copied(rt: HostRuntime) -> Result<(), Fail> {
+    let alloc = rt.alloc();
     let item = Item::Map {
         map: MapId(3),
         rows: Items::new(alloc),
@@ -35,8 +47,18 @@ fn lists_boxes_items_and_bytes_of_keys_are_made(rt: HostRuntime) -> Result<(), F
             }
         )
     );
-    let key = Key::of(vec![in alloc; Value::Int(-2), Value::Str(Str64::of(b"k"))]?);
-    let bytes = encode_key(alloc, &key)?;
+    Ok(())
+}
+
+/// The key of a number and a text.
+fn key_of_both(alloc: Global) -> Result<Key, Memory> {
+    Ok(Key::of(vec![in alloc; Value::Int(-2), Value::Str(Str64::of(b"k"))]?))
+}
+
+#[test]
+fn bytes_of_keys_are_made(rt: HostRuntime) -> Result<(), Fail> {
+    let alloc = rt.alloc();
+    let bytes = encode_key(alloc, &key_of_both(alloc)?)?;
     assert_eq!(rt; bytes.len(), 72);
     assert_eq!(rt;
         &bytes[..9],
@@ -45,14 +67,21 @@ fn lists_boxes_items_and_bytes_of_keys_are_made(rt: HostRuntime) -> Result<(), F
     Ok(())
 }
 
+/// The part of a key of one value.
+fn part_of_one(alloc: Global, value: Value) -> Result<u32, Memory> {
+    Ok(part_of(&Key::of(vec![in alloc; value]?)))
+}
+
 #[test]
 fn keys_go_to_parts_by_the_sums_of_their_bytes(rt: HostRuntime) -> Result<(), Fail> {
     let alloc = rt.alloc();
     for (number, part) in [(5, 5), (13, 5), (-1, 0)] {
-        let key = Key::of(vec![in alloc; Value::Int(number)]?);
-        assert_eq!(rt; part_of(&key), part, "at {number}");
+        assert_eq!(rt;
+            part_of_one(alloc, Value::Int(number))?,
+            part,
+            "at {number}"
+        );
     }
-    let text = Key::of(vec![in alloc; Value::Str(Str64::of(b"ab"))]?);
-    assert_eq!(rt; part_of(&text), 3);
+    assert_eq!(rt; part_of_one(alloc, Value::Str(Str64::of(b"ab")))?, 3);
     Ok(())
 }

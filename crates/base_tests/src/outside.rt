@@ -2,42 +2,90 @@
 use bt_io::real::{FileShelf, StdSink, TRIES};
 use bt_io::shelf::{Shelf, ShelfError};
 use bt_io::sink::{Sink, SinkFailed};
+use std::alloc::Global;
 use std::cell::Cell;
 use std::fmt::Display;
 use std::io::{ErrorKind, Print};
 use std::test::Fail;
 use std::{fs, io, process};
 
-#[test]
-fn real_files_are_read_and_real_streams_are_written(rt: HostRuntime) -> Result<(), Fail> {
-    let alloc = rt.alloc();
-    let id = process::id(rt.process());
-    let path = format!(in alloc; "/tmp/base_tests_{id}")?;
-    let missing = format!(in alloc; "/tmp/base_tests_{id}/missing")?;
-    fs::write(&rt, path.as_str(), b"five\n".as_slice())?;
-    let mut shelf = FileShelf::new(rt, alloc);
-    for (name, limit, want) in [
-        (path.as_str(), 5, "five\n"),
-        (path.as_str(), u64::MAX, "five\n"),
-        (path.as_str(), 4, "too long"),
-        ("/dev/zero", 4, "too long"),
-        ("/dev/null", 0, ""),
-        (missing.as_str(), 5, "failed"),
-        ("/tmp", 5, "failed"),
-    ] {
-        let read = shelf.read(alloc, name, limit);
-        let told = match &read {
-            Ok(bytes) => bytes.as_slice(),
-            Err(ShelfError::TooLong) => b"too long",
-            Err(ShelfError::Failed) => b"failed",
-            Err(ShelfError::Memory) => b"no room",
-        };
-        assert_eq!(rt; told, want.as_bytes(), "at {name}");
+/// What a read of a file gives: its bytes, or its fault.
+type Read = Result<&'static [u8], ShelfError>;
+
+/// Whether a shelf gives this of a file.
+fn gives(
+    shelf: &mut FileShelf<HostRuntime>,
+    alloc: Global,
+    name: &str,
+    limit: u64,
+    want: &Read,
+) -> bool {
+    match (shelf.read(alloc, name, limit), want) {
+        (Ok(bytes), Ok(want)) => bytes.as_slice() == *want,
+        (Err(fault), Err(want)) => fault == *want,
+        _ => false,
     }
+}
+
+/// Reads of files that every system has.
+const READS: [(&str, u64, Read); 3] = [
+    ("/dev/zero", 4, Err(ShelfError::TooLong)),
+    ("/dev/null", 0, Ok(b"")),
+    ("/tmp", 5, Err(ShelfError::Failed)),
+];
+
+#[test]
+fn files_of_the_system_are_read(rt: HostRuntime) {
+    let alloc = rt.alloc();
+    let mut shelf = FileShelf::new(rt, alloc);
+    for (name, limit, want) in &READS {
+        assert!(rt; gives(&mut shelf, alloc, name, *limit, want), "at {name}");
+    }
+}
+
+/// Reads of a file of five bytes that was written, or of one below it that is not there.
+const OWN_READS: [(bool, u64, Read); 4] = [
+    (true, 5, Ok(b"five\n")),
+    (true, u64::MAX, Ok(b"five\n")),
+    (true, 4, Err(ShelfError::TooLong)),
+    (false, 5, Err(ShelfError::Failed)),
+];
+
+/// The first of these reads that gives another answer.
+fn first_other(rt: HostRuntime, alloc: Global, path: &str, missing: &str) -> Option<usize> {
+    let mut shelf = FileShelf::new(rt, alloc);
+    for place in 0..OWN_READS.len() {
+        let (is_there, limit, want) = &OWN_READS[place];
+        let name = if *is_there { path } else { missing };
+        if !gives(&mut shelf, alloc, name, *limit, want) {
+            return Some(place);
+        }
+    }
+    None
+}
+
+/// A path of this process, with this behind it.
+fn own_path(rt: &HostRuntime, alloc: Global, behind: &str) -> Result<String, Fail> {
+    let id = process::id(rt.process());
+    Ok(format!(in alloc; "/tmp/base_tests_{id}{behind}")?)
+}
+
+#[test]
+fn written_files_are_read(rt: HostRuntime) -> Result<(), Fail> {
+    let alloc = rt.alloc();
+    let path = own_path(&rt, alloc, "")?;
+    let missing = own_path(&rt, alloc, "/missing")?;
+    fs::write(&rt, path.as_str(), b"five\n".as_slice())?;
+    let other = first_other(rt, alloc, path.as_str(), missing.as_str());
     fs::remove_file(&rt, path.as_str())?;
+    assert_eq!(rt; other, None);
+    Ok(())
+}
+
+#[test]
+fn real_streams_are_written(rt: HostRuntime) {
     assert_eq!(rt; StdSink::out(rt).write(b"out\n"), Ok(4));
     assert_eq!(rt; StdSink::err(rt).write(b"err\n"), Ok(4));
-    Ok(())
 }
 
 // A stream that a signal interrupts a number of times.

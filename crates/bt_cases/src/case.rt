@@ -7,14 +7,20 @@ use std::alloc::Global;
 use std::fs;
 use std::rt::Files;
 
-/// The words of a command line, the bytes of the files `s.bt`, `r.bin` and `a.bin`, what fails of shelf and sinks, what may come, how often it
-/// is tried, whether the same comes on threads, without the word `--serial`, and how many of the accounts that come are verified.
+/// The bytes of the files `s.bt`, `r.bin` and `a.bin`.
 #[derive(Drop)]
-pub(crate) struct Case {
-    pub words: Vec<String>,
+pub(crate) struct CaseFiles {
     pub script: Vec<u8>,
     pub recording: Vec<u8>,
     pub account: Vec<u8>,
+}
+
+/// The words of a command line, the files, what fails of shelf and sinks, what may come, how often it is tried, whether the same comes on
+/// threads, without the word `--serial`, and how many of the accounts that come are verified.
+#[derive(Drop)]
+pub(crate) struct Case {
+    pub words: Vec<String>,
+    pub files: CaseFiles,
     pub faults: Faults,
     pub wanted: Vec<Outcome>,
     pub times: u64,
@@ -60,36 +66,35 @@ fn out_of(alloc: Global, value: &Value) -> Result<Vec<u8>> {
     }
 }
 
-/// The outputs that may come: the one of the case, or the texts of the list `outs` where several schedules may be taken.
-fn outs_of(alloc: Global, value: &Value) -> Result<Vec<Vec<u8>>> {
-    let mut outs = Vec::new(alloc);
-    if value.get("outs").is_none() {
-        outs.push(out_of(alloc, value)?)?;
-        return Ok(outs);
-    }
+/// What comes of a case with this output.
+fn outcome_with(alloc: Global, value: &Value, status: u64, out: Vec<u8>) -> Result<Outcome> {
+    let err = bytes_of(alloc, value, "err")?;
+    Ok(Outcome { status, out, err })
+}
+
+/// What may come where several schedules may be taken: the outputs are the texts of the list `outs`.
+fn several_of(alloc: Global, value: &Value, status: u64) -> Result<Vec<Outcome>> {
+    let mut wanted = Vec::new(alloc);
     for out in list_of(value, "outs")? {
         let text = out.as_str().context("no output")?;
-        outs.push(Vec::from_slice(alloc, text.as_bytes())?)?;
+        let out = Vec::from_slice(alloc, text.as_bytes())?;
+        wanted.push(outcome_with(alloc, value, status, out)?)?;
     }
-    Ok(outs)
+    Ok(wanted)
 }
 
 /// What may come of a case. It is left open where accounts are verified.
 fn wanted_of(alloc: Global, value: &Value) -> Result<Vec<Outcome>> {
     let status = value.get("status").and_then(Value::as_u64);
     let status = status.context("no status")?;
-    let mut wanted = Vec::new(alloc);
     if value.get("verifies").is_some() {
-        return Ok(wanted);
+        return Ok(Vec::new(alloc));
     }
-    for out in outs_of(alloc, value)? {
-        wanted.push(Outcome {
-            status,
-            out,
-            err: bytes_of(alloc, value, "err")?,
-        })?;
+    if value.get("outs").is_some() {
+        return several_of(alloc, value, status);
     }
-    Ok(wanted)
+    let outcome = outcome_with(alloc, value, status, out_of(alloc, value)?)?;
+    Ok(vec![in alloc; outcome]?)
 }
 
 /// The recording of a case: the bytes of the file that `recording_file` names, or those of `recording`, which
@@ -107,24 +112,42 @@ fn account_of(alloc: Global, value: &Value) -> Result<Vec<u8>> {
     Ok(hex::decode(alloc, digits.unwrap_or(""))?)
 }
 
+/// The files of a case.
+fn files_of<R: Files + AllocGlobal>(rt: &R, value: &Value) -> Result<CaseFiles> {
+    let alloc = rt.alloc();
+    Ok(CaseFiles {
+        script: bytes_of(alloc, value, "script")?,
+        recording: recording_of(rt, value)?,
+        account: account_of(alloc, value)?,
+    })
+}
+
+/// A number of an object, which may be left out.
+fn number_or(value: &Value, name: &str, otherwise: u64) -> u64 {
+    value.get(name).and_then(Value::as_u64).unwrap_or(otherwise)
+}
+
+/// The case of an object.
+fn case_of<R: Files + AllocGlobal>(rt: &R, value: &Value) -> Result<Case> {
+    let alloc = rt.alloc();
+    Ok(Case {
+        words: words_of(alloc, value)?,
+        files: files_of(rt, value)?,
+        faults: Faults::of(alloc, value)?,
+        wanted: wanted_of(alloc, value)?,
+        times: number_or(value, "times", 1),
+        on_threads: value.get("threads").is_some(),
+        verifies: number_or(value, "verifies", 0),
+    })
+}
+
 impl Case {
     /// The case of a line: an object whose recording may stand in a file and whose other bytes are texts. It may have
     /// hexadecimal `out_hex` or several `outs` in place of its `out`, `times`, the number of tries, which is else 1, `threads`, where no
     /// schedule changes the answer, a hexadecimal `account`, and the members that [`Faults`] has. Or it has `verifies`, how often its words
     /// write an account that has to be true, in the place of what comes.
     pub fn of<R: Files + AllocGlobal>(rt: &R, line: &str) -> Result<Case> {
-        let alloc = rt.alloc();
-        let value = Value::from_str(alloc, line)?;
-        Ok(Case {
-            words: words_of(alloc, &value)?,
-            script: bytes_of(alloc, &value, "script")?,
-            recording: recording_of(rt, &value)?,
-            account: account_of(alloc, &value)?,
-            faults: Faults::of(alloc, &value)?,
-            wanted: wanted_of(alloc, &value)?,
-            times: value.get("times").and_then(Value::as_u64).unwrap_or(1),
-            on_threads: value.get("threads").is_some(),
-            verifies: value.get("verifies").and_then(Value::as_u64).unwrap_or(0),
-        })
+        let value = Value::from_str(rt.alloc(), line)?;
+        case_of(rt, &value)
     }
 }

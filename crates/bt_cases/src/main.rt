@@ -17,7 +17,7 @@ use std::fs;
 use std::rt::Files;
 use std::sync::Wait;
 use std::thread::Threads;
-use tally::Tally;
+use tally::{Tallies, Tally};
 use verified::unverified;
 use vet::{is_compiled, vetted};
 
@@ -63,45 +63,72 @@ fn fault_of<R: Threads + Wait + Sync>(
     }
 }
 
-/// Runs the cases of a file, one a line, and counts how they end, and how the check of their code does.
-fn run_file<R: Files + Print + AllocGlobal + Threads + Wait + Sync>(
+/// Runs a case, counts how it ends, and tells it where it differs.
+fn run_case<R: Print + AllocGlobal + Threads + Wait + Sync>(
     rt: &R,
     name: &str,
+    number: u64,
+    case: &Case,
     tally: &mut Tally,
-    vets: &mut Tally,
 ) -> Result<()> {
-    let alloc = rt.alloc();
-    let text = fs::read_to_string(rt, name).context(format_args!("reading {name}"))?;
-    let mut number = 0u64;
-    for line in text.as_str().lines() {
-        number = number.saturating_add(1);
-        let case = Case::of(rt, line).context(format_args!("case {number} of {name}"))?;
-        let differs = fault_of(rt, alloc, &case)?;
-        tally.count(differs.is_none());
-        if differs.is_some() {
-            println!(rt; "case {number} of {name} differs")?;
-            tell(rt, &case, &differs)?;
-        }
-        run_vet(rt, &case, vets)?;
+    let differs = fault_of(rt, rt.alloc(), case)?;
+    tally.count(differs.is_none());
+    if differs.is_some() {
+        println!(rt; "case {number} of {name} differs")?;
+        tell(rt, case, &differs)?;
     }
     Ok(())
 }
 
-/// Runs the cases of the ten files. Those of the last two run on threads, many of them many times.
+/// Runs the case of a line, and counts how it ends, and how the check of its code does.
+fn run_line<R: Files + Print + AllocGlobal + Threads + Wait + Sync>(
+    rt: &R,
+    name: &str,
+    number: u64,
+    line: &str,
+    tallies: &mut Tallies,
+) -> Result<()> {
+    let case = Case::of(rt, line).context(format_args!("case {number} of {name}"))?;
+    run_case(rt, name, number, &case, &mut tallies.cases)?;
+    run_vet(rt, &case, &mut tallies.vets)
+}
+
+/// Runs the cases of a file, one a line, and counts how they end, and how the check of their code does.
+fn run_file<R: Files + Print + AllocGlobal + Threads + Wait + Sync>(
+    rt: &R,
+    name: &str,
+    tallies: &mut Tallies,
+) -> Result<()> {
+    let text = fs::read_to_string(rt, name).context(format_args!("reading {name}"))?;
+    let mut number = 0u64;
+    for line in text.as_str().lines() {
+        number = number.saturating_add(1);
+        run_line(rt, name, number, line, tallies)?;
+    }
+    Ok(())
+}
+
+/// The files of the cases. Those of the last two run on threads, many of them many times.
+const FILES: [&str; 10] = [
+    "cases.jsonl",
+    "refused.jsonl",
+    "rows.jsonl",
+    "printed.jsonl",
+    "recorded.jsonl",
+    "faults.jsonl",
+    "examples.jsonl",
+    "accounts.jsonl",
+    "schedules.jsonl",
+    "verified.jsonl",
+];
+
+/// Runs the cases of all files.
 fn main(rt: HostRuntime) -> Result<()> {
-    let mut tally = Tally::default();
-    let mut vets = Tally::default();
-    run_file(&rt, "cases.jsonl", &mut tally, &mut vets)?;
-    run_file(&rt, "refused.jsonl", &mut tally, &mut vets)?;
-    run_file(&rt, "rows.jsonl", &mut tally, &mut vets)?;
-    run_file(&rt, "printed.jsonl", &mut tally, &mut vets)?;
-    run_file(&rt, "recorded.jsonl", &mut tally, &mut vets)?;
-    run_file(&rt, "faults.jsonl", &mut tally, &mut vets)?;
-    run_file(&rt, "examples.jsonl", &mut tally, &mut vets)?;
-    run_file(&rt, "accounts.jsonl", &mut tally, &mut vets)?;
-    run_file(&rt, "schedules.jsonl", &mut tally, &mut vets)?;
-    run_file(&rt, "verified.jsonl", &mut tally, &mut vets)?;
-    println!(rt; "{tally}")?;
-    println!(rt; "vet: {vets}")?;
+    let mut tallies = Tallies::default();
+    for name in FILES {
+        run_file(&rt, name, &mut tallies)?;
+    }
+    println!(rt; "{}", tallies.cases)?;
+    println!(rt; "vet: {}", tallies.vets)?;
     Ok(())
 }

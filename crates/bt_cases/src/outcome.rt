@@ -1,6 +1,8 @@
 // What comes of a case.
 use crate::case::Case;
 use bt_core::memory::Memory;
+use bt_io::mem_shelf::MemShelf;
+use bt_io::mem_sink::MemSink;
 use bt_top::serve::serve;
 use std::alloc::Global;
 use std::fmt;
@@ -30,16 +32,43 @@ impl fmt::Display for Outcome {
     }
 }
 
+/// A file of this name.
+fn file(alloc: Global, name: &str, bytes: &[u8]) -> Result<(String, Vec<u8>), Memory> {
+    let name = String::from_str(alloc, name)?;
+    Ok((name, Vec::from_slice(alloc, bytes)?))
+}
+
 /// The files of a case, by their names, with this account.
 fn files_of(alloc: Global, case: &Case, account: &[u8]) -> Result<Vec<(String, Vec<u8>)>, Memory> {
-    let mut files = Vec::new(alloc);
-    let script = Vec::from_slice(alloc, case.script.as_slice())?;
-    files.push((String::from_str(alloc, "s.bt")?, script))?;
-    let recording = Vec::from_slice(alloc, case.recording.as_slice())?;
-    files.push((String::from_str(alloc, "r.bin")?, recording))?;
-    let account = Vec::from_slice(alloc, account)?;
-    files.push((String::from_str(alloc, "a.bin")?, account))?;
+    let mut files = Vec::with_capacity(alloc, 3)?;
+    files.push(file(alloc, "s.bt", case.files.script.as_slice())?)?;
+    files.push(file(alloc, "r.bin", case.files.recording.as_slice())?)?;
+    files.push(file(alloc, "a.bin", account)?)?;
     Ok(files)
+}
+
+/// What the top call answers to words on files and sinks.
+fn status_over<R: Threads + Wait + Sync>(
+    rt: &R,
+    alloc: Global,
+    words: &[String],
+    shelf: &mut MemShelf,
+    out: &mut MemSink,
+    err: &mut MemSink,
+) -> u64 {
+    u64::from(serve(rt, alloc, words, shelf, out, err, &Open).status)
+}
+
+/// What was written to both sinks, beside the status.
+fn outcome_with(
+    alloc: Global,
+    status: u64,
+    out: &MemSink,
+    err: &MemSink,
+) -> Result<Outcome, Memory> {
+    let out = Vec::from_slice(alloc, out.taken())?;
+    let err = Vec::from_slice(alloc, err.taken())?;
+    Ok(Outcome { status, out, err })
 }
 
 /// What the top call answers and writes to words over the files of a case, with this account, on a shelf and sinks that fail as the case says.
@@ -53,12 +82,8 @@ pub(crate) fn outcome_over<R: Threads + Wait + Sync>(
     let mut shelf = case.faults.shelf(alloc, files_of(alloc, case, account)?)?;
     let mut out = case.faults.output(alloc)?;
     let mut err = case.faults.errors(alloc)?;
-    let report = serve(rt, alloc, words, &mut shelf, &mut out, &mut err, &Open);
-    Ok(Outcome {
-        status: u64::from(report.status),
-        out: Vec::from_slice(alloc, out.taken())?,
-        err: Vec::from_slice(alloc, err.taken())?,
-    })
+    let status = status_over(rt, alloc, words, &mut shelf, &mut out, &mut err);
+    outcome_with(alloc, status, &out, &err)
 }
 
 /// What the top call answers and writes to words over the files of a case.
@@ -68,7 +93,7 @@ pub(crate) fn outcome_of<R: Threads + Wait + Sync>(
     case: &Case,
     words: &[String],
 ) -> Result<Outcome, Memory> {
-    outcome_over(rt, alloc, case, case.account.as_slice(), words)
+    outcome_over(rt, alloc, case, case.files.account.as_slice(), words)
 }
 
 /// The words but `--serial`.

@@ -26,3 +26,10 @@ impl fmt::Display for Tally {
         write!(f, "{agree} cases agree, {differ} differ")
     }
 }
+
+/// How cases end, and how the check of their code does.
+#[derive(Clone, Copy, Default, PartialEq, Eq)]
+pub(crate) struct Tallies {
+    pub cases: Tally,
+    pub vets: Tally,
+}

@@ -65,18 +65,23 @@ fn lines_of(alloc: Global, listing: &str) -> Result<Vec<u8>> {
     Ok(lines)
 }
 
+/// What is owed by the listing that `code` writes.
+fn owed_by(alloc: Global, code: &Outcome) -> Result<Outcome> {
+    let listing = str::from_utf8(code.out.as_slice()).context("a listing that is no text")?;
+    let out = lines_of(alloc, listing)?;
+    Ok(Outcome {
+        status: 0,
+        out,
+        err: Vec::new(alloc),
+    })
+}
+
 /// What `vet` answers to a case, and what is owed by the listing that `code` writes.
 pub(crate) fn vetted<R: Threads + Wait + Sync>(
     rt: &R,
     alloc: Global,
     case: &Case,
 ) -> Result<(Outcome, Outcome)> {
-    let code = outcome_by(rt, alloc, case, "code")?;
-    let listing = str::from_utf8(code.out.as_slice()).context("a listing that is no text")?;
-    let owed = Outcome {
-        status: 0,
-        out: lines_of(alloc, listing)?,
-        err: Vec::new(alloc),
-    };
+    let owed = owed_by(alloc, &outcome_by(rt, alloc, case, "code")?)?;
     Ok((outcome_by(rt, alloc, case, "vet")?, owed))
 }

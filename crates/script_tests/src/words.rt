@@ -12,6 +12,12 @@ fn words_of(alloc: Global, texts: &[&str]) -> Result<Vec<String>, AllocError> {
     Ok(words)
 }
 
+/// What these words ask for.
+fn order_of(alloc: Global, texts: &[&str]) -> Result<Order, WordsError> {
+    let words = words_of(alloc, texts)?;
+    read_words(alloc, &words)
+}
+
 /// Each arrangement of `--serial`, `--stats` and two operands behind `run`, and some with `--json`, with whether each
 /// of the three stands in it.
 const RUNS: [(&[&str], bool, bool, bool); 27] = [
@@ -59,60 +65,61 @@ const RUNS: [(&[&str], bool, bool, bool); 27] = [
     ),
 ];
 
+/// Whether an order is a run of `a` over `b` with these of the three options.
+fn is_run(order: &Order, options: [bool; 3]) -> bool {
+    match order {
+        Order::Run {
+            serial,
+            stats,
+            json,
+            script,
+            recording,
+        } => {
+            [*serial, *stats, *json] == options
+                && script.as_str() == "a"
+                && recording.as_str() == "b"
+        }
+        _ => false,
+    }
+}
+
 #[test]
 fn options_stand_anywhere(rt: HostRuntime) -> Result<(), Fail> {
-    let alloc = rt.alloc();
-    for (texts, has_serial, has_stats, has_json) in RUNS {
-        let words = words_of(alloc, texts)?;
-        let Ok(
-            Order::Run {
-                serial,
-                stats,
-                json,
-                script,
-                recording,
-            },
-        ) = read_words(alloc, &words)
-        else {
-            return Err(Fail::from("no run"));
-        };
-        assert_eq!(rt;
-            (serial, stats, json),
-            (has_serial, has_stats, has_json),
-            "{texts:?}"
-        );
-        assert!(rt;
-            script.as_str() == "a" && recording.as_str() == "b",
-            "{texts:?}"
-        );
+    for (texts, serial, stats, json) in &RUNS {
+        let order = order_of(rt.alloc(), texts)?;
+        assert!(rt; is_run(&order, [*serial, *stats, *json]), "{texts:?}");
     }
     Ok(())
 }
 
+/// Commands over any two words.
+const FILES: [[&str; 3]; 8] = [
+    ["check", "s.bt", "r.bin"],
+    ["code", "s.bt", "r.bin"],
+    ["check", "a-b", "a--serial"],
+    ["code", "same", "same"],
+    ["check", "help", "check"],
+    ["code", "\u{2212}-serial", "=\n x"],
+    ["vet", "s.bt", "r.bin"],
+    ["vet", "vet", "a-b"],
+];
+
+/// Whether an order is this command over these two files.
+fn is_over(order: &Order, texts: &[&str; 3]) -> bool {
+    let (command, script, recording) = match order {
+        Order::Check { script, recording } => ("check", script, recording),
+        Order::Code { script, recording } => ("code", script, recording),
+        Order::Vet { script, recording } => ("vet", script, recording),
+        _ => return false,
+    };
+    command == texts[0] && script.as_str() == texts[1] && recording.as_str() == texts[2]
+}
+
 #[test]
 fn files_are_any_words(rt: HostRuntime) -> Result<(), Fail> {
-    let alloc = rt.alloc();
-    let cases = [
-        ["check", "s.bt", "r.bin"],
-        ["code", "s.bt", "r.bin"],
-        ["check", "a-b", "a--serial"],
-        ["code", "same", "same"],
-        ["check", "help", "check"],
-        ["code", "\u{2212}-serial", "=\n x"],
-        ["vet", "s.bt", "r.bin"],
-        ["vet", "vet", "a-b"],
-    ];
-    for texts in cases {
-        let words = words_of(alloc, &texts)?;
-        let (command, script, recording) = match read_words(alloc, &words)? {
-            Order::Check { script, recording } => ("check", script, recording),
-            Order::Code { script, recording } => ("code", script, recording),
-            Order::Vet { script, recording } => ("vet", script, recording),
-            _ => return Err(Fail::from("no files")),
-        };
-        assert_eq!(rt; command, texts[0]);
-        assert_eq!(rt; script.as_str(), texts[1]);
-        assert_eq!(rt; recording.as_str(), texts[2]);
+    for texts in &FILES {
+        let order = order_of(rt.alloc(), texts)?;
+        assert!(rt; is_over(&order, texts), "{texts:?}");
     }
     Ok(())
 }
@@ -125,78 +132,85 @@ const ACCOUNTS: [(&[&str], bool); 4] = [
     (&["account", "a", "b", "--serial"], true),
 ];
 
+/// Whether an order is an account of `a` over `b`, on one thread or not.
+fn is_account(order: &Order, is_serial: bool) -> bool {
+    match order {
+        Order::Account {
+            serial,
+            script,
+            recording,
+        } => *serial == is_serial && script.as_str() == "a" && recording.as_str() == "b",
+        _ => false,
+    }
+}
+
 #[test]
 fn accounts_are_serial_or_not(rt: HostRuntime) -> Result<(), Fail> {
-    let alloc = rt.alloc();
-    for (texts, has_serial) in ACCOUNTS {
-        let words = words_of(alloc, texts)?;
-        let Ok(
-            Order::Account {
-                serial,
-                script,
-                recording,
-            },
-        ) = read_words(alloc, &words)
-        else {
-            return Err(Fail::from("no account"));
-        };
-        assert_eq!(rt; serial, has_serial, "{texts:?}");
-        assert!(rt;
-            script.as_str() == "a" && recording.as_str() == "b",
-            "{texts:?}"
-        );
+    for (texts, is_serial) in &ACCOUNTS {
+        let order = order_of(rt.alloc(), texts)?;
+        assert!(rt; is_account(&order, *is_serial), "{texts:?}");
     }
     Ok(())
+}
+
+/// Accounts that are to be checked, over any three words.
+const VERIFIED: [[&str; 4]; 3] = [
+    ["verify", "s.bt", "r.bin", "a.bin"],
+    ["verify", "same", "same", "same"],
+    ["verify", "verify", "a--serial", "account"],
+];
+
+/// Whether an order is to check an account, over these three files.
+fn is_verified(order: &Order, texts: &[&str; 4]) -> bool {
+    match order {
+        Order::Verify {
+            script,
+            recording,
+            account,
+        } => {
+            script.as_str() == texts[1]
+                && recording.as_str() == texts[2]
+                && account.as_str() == texts[3]
+        }
+        _ => false,
+    }
 }
 
 #[test]
 fn three_files_are_verified(rt: HostRuntime) -> Result<(), Fail> {
-    let alloc = rt.alloc();
-    let cases = [
-        ["verify", "s.bt", "r.bin", "a.bin"],
-        ["verify", "same", "same", "same"],
-        ["verify", "verify", "a--serial", "account"],
-    ];
-    for texts in cases {
-        let words = words_of(alloc, &texts)?;
-        let Ok(
-            Order::Verify {
-                script,
-                recording,
-                account,
-            },
-        ) = read_words(alloc, &words)
-        else {
-            return Err(Fail::from("no account to check"));
-        };
-        assert_eq!(rt; script.as_str(), texts[1]);
-        assert_eq!(rt; recording.as_str(), texts[2]);
-        assert_eq!(rt; account.as_str(), texts[3]);
+    for texts in &VERIFIED {
+        let order = order_of(rt.alloc(), texts)?;
+        assert!(rt; is_verified(&order, texts), "{texts:?}");
     }
     Ok(())
 }
 
+/// Commands with two numbers.
+const NUMBERS: [([&str; 3], u32, u32); 4] = [
+    (
+        ["gen", "2147483647", "0001048576"],
+        2_147_483_647,
+        1_048_576,
+    ),
+    (["big", "2147483647", "1048576"], 2_147_483_647, 1_048_576),
+    (["gen", "0", "0000000000"], 0, 0),
+    (["big", "0000000010", "7"], 10, 7),
+];
+
+/// The command of an order with two numbers, and these.
+fn numbers_of(order: &Order) -> Option<(&'static str, u32, u32)> {
+    match order {
+        Order::Gen { x, n } => Some(("gen", *x, *n)),
+        Order::Big { x, n } => Some(("big", *x, *n)),
+        _ => None,
+    }
+}
+
 #[test]
 fn numbers_reach_their_limits(rt: HostRuntime) -> Result<(), Fail> {
-    let alloc = rt.alloc();
-    let cases = [
-        (
-            ["gen", "2147483647", "0001048576"],
-            2_147_483_647,
-            1_048_576,
-        ),
-        (["big", "2147483647", "1048576"], 2_147_483_647, 1_048_576),
-        (["gen", "0", "0000000000"], 0, 0),
-        (["big", "0000000010", "7"], 10, 7),
-    ];
-    for (texts, first, second) in cases {
-        let words = words_of(alloc, &texts)?;
-        let (read, x, n) = match read_words(alloc, &words)? {
-            Order::Gen { x, n } => ("gen", x, n),
-            Order::Big { x, n } => ("big", x, n),
-            _ => return Err(Fail::from("no numbers")),
-        };
-        assert_eq!(rt; (read, x, n), (texts[0], first, second));
+    for (texts, first, second) in &NUMBERS {
+        let order = order_of(rt.alloc(), texts)?;
+        assert_eq!(rt; numbers_of(&order), Some((texts[0], *first, *second)));
     }
     Ok(())
 }
@@ -285,12 +299,9 @@ const REFUSED: [&[&str]; 74] = [
 ];
 
 #[test]
-fn other_words_are_refused(rt: HostRuntime) -> Result<(), Fail> {
-    let alloc = rt.alloc();
-    for texts in REFUSED {
-        let words = words_of(alloc, texts)?;
-        let usage = matches!(read_words(alloc, &words), Err(WordsError::Usage));
-        assert!(rt; usage, "{texts:?}");
+fn other_words_are_refused(rt: HostRuntime) {
+    for texts in &REFUSED {
+        let order = order_of(rt.alloc(), texts);
+        assert!(rt; matches!(order, Err(WordsError::Usage)), "{texts:?}");
     }
-    Ok(())
 }

@@ -128,42 +128,78 @@ fn step(alloc: Global, row: usize) -> Result<Step, Memory> {
     })
 }
 
-/// The lists of the actors.
+/// The list of an actor whose steps are these rows.
+fn list_of(alloc: Global, rows: &[usize]) -> Result<StepList, Memory> {
+    let mut list = StepList::new(alloc);
+    for row in rows {
+        let Step {
+            actor,
+            object,
+            stamp,
+            op,
+            reply,
+        } = step(alloc, *row)?;
+        list.reserve(alloc)?;
+        list.push_reserved(actor, object, stamp, op, reply);
+    }
+    Ok(list)
+}
+
+/// The lists of the actors, woven.
 fn woven(alloc: Global) -> Result<Woven, Memory> {
     let mut lists = Vec::new(alloc);
     for rows in LISTS {
-        let mut list = StepList::new(alloc);
-        for row in rows {
-            let (actor, object, stamp) = PLACES[*row % ROWS];
-            let op = op(alloc, *row)?;
-            let reply = reply(alloc, *row)?;
-            list.reserve(alloc)?;
-            list.push_reserved(actor, object, stamp, op, reply);
-        }
-        lists.push(list)?;
+        lists.push(list_of(alloc, rows)?)?;
     }
     Woven::of(lists)
 }
 
+/// Whether a step is that of a row.
+fn is_row(alloc: Global, step: &Step, row: usize) -> Result<bool, Memory> {
+    Ok(*step == self::step(alloc, row)?)
+}
+
+/// Whether there is a step, and it is that of a row; behind the last row whether there is none.
+fn is_at(alloc: Global, step: Option<Step>, row: usize) -> Result<bool, Memory> {
+    match step {
+        Some(step) => Ok(row < ROWS && is_row(alloc, &step, row)?),
+        None => Ok(ROWS <= row),
+    }
+}
+
 #[test]
-fn a_woven_list_is_told_as_a_vector_by_its_places_and_step_by_step(
-    rt: HostRuntime,
-) -> Result<(), Fail> {
+fn a_woven_list_is_told_as_a_vector(rt: HostRuntime) -> Result<(), Fail> {
     let alloc = rt.alloc();
     let woven = woven(alloc)?;
     let steps = woven.to_vec(alloc)?;
+    assert!(rt; woven.len() == ROWS && steps.len() == ROWS);
+    for row in 0..ROWS {
+        assert!(rt; is_row(alloc, &steps[row], row)?, "row {row}");
+    }
+    Ok(())
+}
+
+#[test]
+fn a_woven_list_is_told_by_its_places(rt: HostRuntime) -> Result<(), Fail> {
+    let alloc = rt.alloc();
+    let woven = woven(alloc)?;
+    let ordered = woven.in_order(alloc)?;
+    assert_eq!(rt; ordered.len(), ROWS);
+    for row in 0..=ROWS {
+        assert!(rt; is_at(alloc, ordered.get(alloc, row)?, row)?, "row {row}");
+    }
+    assert!(rt; ordered.get(alloc, usize::MAX)?.is_none());
+    Ok(())
+}
+
+#[test]
+fn a_woven_list_is_told_step_by_step(rt: HostRuntime) -> Result<(), Fail> {
+    let alloc = rt.alloc();
+    let woven = woven(alloc)?;
     let ordered = woven.in_order(alloc)?;
     let mut left = ordered.steps();
-    assert!(rt; woven.len() == ROWS && ordered.len() == ROWS && steps.len() == ROWS);
-    for row in 0..ROWS {
-        let want = step(alloc, row)?;
-        assert_eq!(rt; steps[row], want);
-        let want = Some(want);
-        assert_eq!(rt; ordered.get(alloc, row)?, want);
-        assert_eq!(rt; left.next(alloc)?, want);
-    }
-    for place in [ROWS, usize::MAX] {
-        assert!(rt; ordered.get(alloc, place)?.is_none() && left.next(alloc)?.is_none());
+    for row in 0..ROWS + 2 {
+        assert!(rt; is_at(alloc, left.next(alloc)?, row)?, "row {row}");
     }
     Ok(())
 }

@@ -3,7 +3,7 @@ use actor_plan::bodies::Bodies;
 use bt_core::context::Context;
 use bt_core::memory::Memory;
 use bt_core::port::Port;
-use std::alloc::Global;
+use std::alloc::{AllocError, Global};
 
 /// Bodies of which one run, counted from 1, runs out of memory before it makes a step. With 0 none does.
 #[derive(Drop)]
@@ -27,7 +27,7 @@ impl<B: Bodies> Bodies for Failing<B> {
     ) -> Result<u64, Memory> {
         self.runs = self.runs.saturating_add(1);
         if self.runs == self.fails_at {
-            return Err(Memory);
+            return Err(AllocError.into());
         }
         self.bodies.run(alloc, body, context, payload, port)
     }

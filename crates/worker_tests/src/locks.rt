@@ -2,9 +2,9 @@
 ghost use Rattle.std.specs.Prelude.{◌≡◌, ◌<◌, ◌^◌, [], ◌∷◌, All, length, IfOk};
 ghost use Rattle.bt_core.specs.Kinds.{IsFineDecl};
 ghost use Rattle.cpu_worker.specs.Worlds.{AreTurnsOf};
-ghost use Rattle.percpu_tables.specs.Tables.{table_actors, table_maps};
-ghost use Rattle.shared_maps.specs.Maps.{part_actors, part_maps};
-ghost use Rattle.side_locks.specs.Sides.{side_kind};
+ghost use Rattle.percpu_tables.specs.Tables.{table_actors, table_maps, AreAllTableTurns};
+ghost use Rattle.shared_maps.specs.Maps.{part_actors, part_maps, AreAllPartTurns};
+ghost use Rattle.side_locks.specs.Sides.{side_kind, AreAllSideTurns};
 
 use crate::script::Scripted;
 use bt_core::memory::Memory;
@@ -12,6 +12,8 @@ use cpu_worker::world::WorkerTurns;
 use percpu_tables::tables::Tables;
 use shared_maps::maps::SharedMaps;
 use side_locks::sides::SideLocks;
+use side_locks::turns::SideTurns;
+use stamped::turns::Turns;
 use std::alloc::Global;
 
 /// The locks round all objects of a run.
@@ -87,6 +89,56 @@ pub fn new_locks(alloc: Global, scripted: &Scripted) -> Result<(Locks, AllTurns)
     Ok((locks, turns))
 }
 
+/// Three as a list.
+fn listed<T: Drop>(alloc: Global, first: T, second: T, third: T) -> Result<Vec<T>, Memory>
+    ensures { IfOk result (λ list. list.items ≡ first ∷ second ∷ third ∷ []) }
+{
+    Ok(vec![in alloc; first, second, third]?)
+}
+
+/// Closes the shared maps with the turns of all actors, and gives how many parts there were.
+fn close_maps(
+    alloc: Global,
+    maps: SharedMaps,
+    first: Turns,
+    second: Turns,
+    main: Turns,
+) -> Result<usize, Memory>
+    requires { AreAllPartTurns maps (first ∷ second ∷ main ∷ []) }
+{
+    let turns = listed(alloc, first, second, main)?;
+    Ok(maps.close(alloc, turns)?.len())
+}
+
+/// Closes the tables of all actors with their turns, and gives how many there were.
+fn close_tables(
+    alloc: Global,
+    tables: Tables,
+    first: Turns,
+    second: Turns,
+    main: Turns,
+) -> Result<usize, Memory>
+    requires { AreAllTableTurns tables (first ∷ second ∷ main ∷ []) }
+{
+    let turns = listed(alloc, first, second, main)?;
+    Ok(tables.close(alloc, turns)?.len())
+}
+
+/// Closes the clock and the output with the turns of all actors.
+fn close_sides(
+    alloc: Global,
+    sides: SideLocks,
+    first: SideTurns,
+    second: SideTurns,
+    main: SideTurns,
+) -> Result<(), Memory>
+    requires { AreAllSideTurns sides (first ∷ second ∷ main ∷ []) }
+{
+    let turns = listed(alloc, first, second, main)?;
+    let _closed = sides.close(alloc, turns)?;
+    Ok(())
+}
+
 /// Closes all locks with the turns of all actors, and gives how many parts of shared maps and how many actors' tables there were.
 pub fn close(alloc: Global, locks: Locks, turns: AllTurns) -> Result<(usize, usize), Memory>
     requires maps { part_actors locks.maps ≡ 3 }
@@ -101,16 +153,14 @@ pub fn close(alloc: Global, locks: Locks, turns: AllTurns) -> Result<(usize, usi
         second,
         main,
     } = turns;
-    let maps = locks
-        .maps
-        .close(alloc, vec![in alloc; first.maps, second.maps, main.maps]?)?;
-    let tables = locks.tables.close(
+    let maps = close_maps(alloc, locks.maps, first.maps, second.maps, main.maps);
+    let tables = close_tables(
         alloc,
-        vec![in alloc; first.tables, second.tables, main.tables]?,
-    )?;
-    let _sides = locks.sides.close(
-        alloc,
-        vec![in alloc; first.sides, second.sides, main.sides]?,
-    )?;
-    Ok((maps.len(), tables.len()))
+        locks.tables,
+        first.tables,
+        second.tables,
+        main.tables,
+    );
+    close_sides(alloc, locks.sides, first.sides, second.sides, main.sides)?;
+    Ok((maps?, tables?))
 }

@@ -1,7 +1,7 @@
 // Runs of a script by the workers of two CPUs.
-ghost use Rattle.std.specs.Prelude.{◌≡◌, ◌<◌, length, IfOk};
-ghost use Rattle.actor_plan.specs.Ready.{IsPlanFor};
+ghost use Rattle.std.specs.Prelude.{◌≡◌, ◌<◌, IfOk};
 ghost use Rattle.bt_meaning.specs.Jobs.{IsJob};
+ghost use Rattle.cpu_worker.specs.Worlds.{sets_in, world_cpus, AreTurnsOf, IsPlanIn};
 ghost use Rattle.walk_bodies.specs.Plans.{plan_of};
 
 use crate::failing::Failing;
@@ -21,15 +21,15 @@ use walk_bodies::laws::walks_take_few;
 use walk_bodies::walks::Walks;
 
 /// The bodies of one of two CPUs, of which this run runs out of memory.
-fn failing_at(scripted: &Scripted, cpu: u32, fails_at: u32) -> Failing<Walks<'_>>
-    requires job { IsJob scripted.now.typed scripted.now.attached scripted.now.recording }
-    requires two { length scripted.now.recording.cpus ≡ 2 }
+fn failing_at<'w>(world: &SharedWorld<'w>, cpu: u32, fails_at: u32) -> Failing<Walks<'w>>
+    requires job { IsJob world.now.typed.now world.now.attached.now world.now.recording.now }
+    requires two { world_cpus world.now ≡ 2 }
     requires known { cpu < 2 }
-    ensures { IsPlanFor scripted.now.recording scripted.now.attached scripted.now.typed.maps cpu (plan_of result.bodies) }
+    ensures { IsPlanIn world.now cpu (plan_of result.bodies) }
 {
     walks_take_few();
     Failing {
-        bodies: Walks::new(&scripted.typed, cpu, 3),
+        bodies: Walks::new(world.typed, cpu, 3),
         fails_at,
         runs: 0,
     }
@@ -53,6 +53,44 @@ fn finished<B: Drop, G: Gate>(alloc: Global, task: Task<B, G>) -> Result<(Worker
     Ok((turns, Did { ended, steps }))
 }
 
+/// At which run the bodies of each of two CPUs run out of memory, 0 for never, and in which order the workers run.
+#[derive(Clone, Copy, Debug)]
+pub struct Trial {
+    pub fails_at: (u32, u32),
+    pub order: Order,
+}
+
+/// The turns that both workers leave, and what each did.
+type Left = ((WorkerTurns, Did), (WorkerTurns, Did));
+
+/// Runs the workers of both CPUs of a script, with these turns.
+fn run_two<R: Threads + Wait + Sync>(
+    rt: &R,
+    alloc: Global,
+    world: &SharedWorld,
+    trial: Trial,
+    first: WorkerTurns,
+    second: WorkerTurns,
+) -> Result<Left, Memory>
+    requires job { IsJob world.now.typed.now world.now.attached.now world.now.recording.now }
+    requires two { world_cpus world.now ≡ 2 }
+    requires first { AreTurnsOf (sets_in world.now) 0 first }
+    requires second { AreTurnsOf (sets_in world.now) 1 second }
+    ensures first { IfOk result (λ r. AreTurnsOf (sets_in world.now) 0 r.0.0) }
+    ensures second { IfOk result (λ r. AreTurnsOf (sets_in world.now) 1 r.1.0) }
+{
+    let gate = Open;
+    let (first_fails, second_fails) = trial.fails_at;
+    let bodies = failing_at(world, 0, first_fails);
+    let first = new_task(alloc, world, 0, bodies, &gate, first);
+    let bodies = failing_at(world, 1, second_fails);
+    let second = new_task(alloc, world, 1, bodies, &gate, second);
+    let (first, second) = run_both(rt, alloc, world, trial.order, first, second)?;
+    let first = finished(alloc, first)?;
+    let second = finished(alloc, second)?;
+    Ok((first, second))
+}
+
 /// What both workers did, and how many parts of shared maps and tables were given back when all locks were closed.
 #[derive(Drop)]
 pub struct Made {
@@ -61,14 +99,12 @@ pub struct Made {
     pub closed: (usize, usize),
 }
 
-/// Runs the workers of both CPUs of a script in this order, the bodies of each of which run out of memory at this run, 0 for never. Then
-/// closes all locks with all turns.
+/// Runs the workers of both CPUs of a script, and then closes all locks with all turns.
 pub fn make<R: Threads + Wait + Sync>(
     rt: &R,
     alloc: Global,
     scripted: &Scripted,
-    fails_at: (u32, u32),
-    order: Order,
+    trial: Trial,
 ) -> Result<Made, Fail>
     requires { IsJob scripted.now.typed scripted.now.attached scripted.now.recording }
 {
@@ -89,26 +125,9 @@ pub fn make<R: Threads + Wait + Sync>(
         tables: &locks.tables,
         sides: &locks.sides,
     };
-    let gate = Open;
-    let first = new_task(
-        alloc,
-        &world,
-        0,
-        failing_at(scripted, 0, fails_at.0),
-        &gate,
-        first,
-    );
-    let second = new_task(
-        alloc,
-        &world,
-        1,
-        failing_at(scripted, 1, fails_at.1),
-        &gate,
-        second,
-    );
-    let (first, second) = run_both(rt, alloc, &world, order, first, second)?;
-    let (first, first_did) = finished(alloc, first)?;
-    let (second, second_did) = finished(alloc, second)?;
+    let ((first, first_did), (second, second_did)) = run_two(
+        rt, alloc, &world, trial, first, second,
+    )?;
     let turns = AllTurns {
         first,
         second,
