@@ -109,6 +109,15 @@ module _ (script : Typed) where
         let is = each_code script.bodies programs the_codes found.1 n program code on (slice_get-get_or the_codes n [] (omega (arith, many, lt))) in
         short_bytes code program is
 
+    -- and its bytes spell a code
+    pub each_spelt : (n : ℕ) (program : Program) → n < length programs → program ≡ get_or programs n program → (code : List Insn) × IsCodeOf code program.bytes
+    unfolding the_codes
+    each_spelt n program lt at =
+        let many = are_codes.as_many in
+        let on = slice_get-get_or programs n program lt ∙ ap Some (sym at) in
+        let code = get_or the_codes n [] in
+        (code, are_codes.each n program code on (slice_get-get_or the_codes n [] (omega (arith, many, lt))))
+
 -- one code more, and all
 module _ (programs : List Program) (others : List (List Insn)) (are : AreCodesOf programs others) (i : ℕ) (codes : List (List Insn)) (so_far : codes ≡ take i others) where
   pub one_more : (program : Program) (got : List Insn) (new : List (List Insn)) → i < length programs → program ≡ get_or programs i program

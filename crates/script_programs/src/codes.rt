@@ -9,20 +9,26 @@ ghost use Rattle.typed_tree.specs.declared.script.Typed.{Typed};
 ghost use Rattle.script_programs.specs.Programs.{AreCodesOf, KeepScript};
 
 use bpf_codegen::generate::Program;
-use bpf_encode::decode::decode;
+use bpf_encode::decode::{DecodeError, decode};
 use bpf_insn::insn::Insn;
 use bt_core::items::Items;
 use bt_core::memory::Memory;
 use std::alloc::Global;
 
-/// The code that a program is, where it is one.
+/// The code that a program is.
+///
+/// # Errors
+///
+/// [`Memory`] where there is no room for it.
 fn code_of(alloc: Global, program: &Program) -> Result<Items<Insn>, Memory>
-    requires { length program.now.bytes < 2 ^ 35 }
+    requires short { length program.now.bytes < 2 ^ 35 }
+    requires spelt { (code : List InsnValue) × IsCodeOf code program.now.bytes }
     ensures { IfOk result (λ got. (code : List InsnValue) → IsCodeOf code program.now.bytes → got ≡ code) }
 {
     match decode(alloc, program.bytes.as_slice()) {
         Ok(code) => Ok(Items::of(code)),
-        Err(_) => Err(Memory),
+        Err(DecodeError::Memory(want)) => Err(want),
+        Err(_) => unreachable!(),
     }
 }
 

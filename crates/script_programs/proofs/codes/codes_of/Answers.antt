@@ -3,12 +3,14 @@ use Rattle.std.specs.List.{AllByRecursion}
 use Rattle.code_bodies.specs.Coding.{CanRunCode}
 use Rattle.code_bodies.specs.Kept.{KeepBodies}
 use Rattle.script_programs.specs.Programs.{AreCodesOf}
-use Rattle.script_programs.proofs.ProgramCodes.{are_all, are_codes, can_run, each_short, keep_bodies, one_more, the_codes}
+use Rattle.script_programs.proofs.ProgramCodes.{are_all, are_codes, can_run, each_short, each_spelt, keep_bodies, one_more, the_codes}
 use Rattle.script_programs.proofs.codes.codes_of.Goals as goal
 
 pub code_of-requires : goal.code_of-requires
-code_of-requires c =
-    each_short c.requires.0 c.args.programs.now c.requires.1 c.loop-program.program-index c.program-item.result c.loop-program-test.true c.program-item.is
+code_of-requires c = record {
+  short = each_short c.requires.0 c.args.programs.now c.requires.1 c.loop-program.program-index c.program-item.result c.loop-program-test.true c.program-item.is;
+  spelt = each_spelt c.requires.0 c.args.programs.now c.requires.1 c.loop-program.program-index c.program-item.result c.loop-program-test.true c.program-item.is;
+}
 
 pub loop-program-preserved : goal.loop-program-preserved
 loop-program-preserved c = λ others are.
