@@ -43,7 +43,7 @@ use Rattle.bt_ast.specs.declared.probe.Probe.{Probe}
 use Rattle.script_programs.specs.declared.error.SizeFault.{SizeFault}
 use Rattle.script_programs.specs.Sizes.{first_size_fault}
 use Rattle.typed_tree.specs.declared.script.Typed.{Typed}
-use Rattle.bpf_codegen.specs.declared.generate.Program.{Program}
+use Rattle.bpf_encode.specs.declared.program.Program.{Program}
 use Rattle.bt_judge.specs.Doing.{ArePrograms, IsSizeAnswer, IsTextRefusal, IsScriptRefusal}
 use Rattle.bt_judge.specs.Jobs.{AsksFor}
 use Rattle.bt_judge.specs.Sizes.{HasTypes, IsLarge, IsProbePlace, IsSized, TellsLarge, size_refusal, size_wrong}

@@ -1,6 +1,6 @@
 -- What is answered of a script and a recording, and of the files of an order that hold them.
 use Rattle.std.specs.Prelude.{◌≡◌, ℕ, ◌⊎◌, ◌≤◌, ◌<◌, ◌*◌, ◌%◌, List, length, Option, Some, None, Result, Ok, Err, IfOk, IfErr, IfSome, slice_get}
-use Rattle.bpf_codegen.specs.declared.generate.Program.{Program}
+use Rattle.bpf_encode.specs.declared.program.Program.{Program}
 use Rattle.bt_core.specs.declared.limits.TheConstants.{CODE_SLOTS}
 use Rattle.bt_ast.specs.declared.attached.Attached.{Attached}
 use Rattle.bt_ast.specs.declared.attached.BodyId.{BodyId}
@@ -8,7 +8,7 @@ use Rattle.bt_ast.specs.declared.probe.Script.{Script as Tree}
 use Rattle.bt_core.specs.declared.place.Place.{Place}
 use Rattle.rec_format.specs.declared.recording.Recording.{Recording as Recorded}
 use Rattle.script_programs.specs.declared.error.SizeFault.{SizeFault}
-use Rattle.script_programs.specs.Programs.{KeepScript}
+use Rattle.program_codes.specs.Programs.{KeepScript}
 use Rattle.script_programs.specs.Sizes.{first_size_fault}
 use Rattle.typed_tree.specs.declared.script.Typed.{Typed}
 use Rattle.bt_judge.specs.declared.files.AccountJob.{AccountJob}

@@ -5,7 +5,7 @@ use Rattle.bpf_check.specs.Answers.{IsAnswer}
 use Rattle.bpf_check.specs.Sheet.{sheet_of}
 use Rattle.bpf_check.specs.declared.check.CodeFault.{CodeFault}
 use Rattle.bpf_check.specs.declared.check.CodeFault.TheVariants.{Memory}
-use Rattle.bpf_codegen.specs.declared.generate.Program.{Program}
+use Rattle.bpf_encode.specs.declared.program.Program.{Program}
 use Rattle.bt_ast.specs.declared.attached.BodyId.{BodyId}
 use Rattle.bt_core.specs.declared.memory.Memory.{Memory as NoMemory}
 use Rattle.tracefs_format.specs.declared.format.Format.{Format}

@@ -4,8 +4,8 @@ ghost use Rattle.std.specs.List.{AllByRecursion};
 ghost use Rattle.bt_judge.specs.Doing.{CanBeListed};
 ghost use Rattle.bt_judge.specs.Listings.{body_listing, body_name, event_name, head_line, point_name, script_listing};
 
-use bpf_codegen::generate::Program;
 use bpf_encode::listing::listing;
+use bpf_encode::program::Program;
 use bt_ast::attached::{BodyId, BodyPoint};
 use bt_core::items::Items;
 use bt_core::memory::Memory;

@@ -4,7 +4,7 @@ ghost use Rattle.bt_judge.specs.Doing.{ArePrograms, HasProbe, IsSizeAnswer, Tell
 ghost use Rattle.bt_judge.specs.Sizes.{IsProbePlace, size_wrong};
 
 use crate::refusal::{Refusal, ScriptFault, ScriptRefusal};
-use bpf_codegen::generate::Program;
+use bpf_encode::program::Program;
 use bt_ast::attached::Attached;
 use bt_ast::probe::Script;
 use bt_core::items::Items;

@@ -9,7 +9,7 @@ ghost use Rattle.bt_judge.specs.Vetting.{IsAnswerOf, IsVerdict, Passes, line_of,
 use crate::listing::push_name;
 use crate::refusal::CodeRefusal;
 use bpf_check::check::{CodeFault, check_code};
-use bpf_codegen::generate::Program;
+use bpf_encode::program::Program;
 use bt_ast::attached::BodyId;
 use bt_core::items::Items;
 use bt_core::memory::Memory;

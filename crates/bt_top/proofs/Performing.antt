@@ -10,7 +10,7 @@ use Rattle.account_format.specs.Entries.{FitsStep}
 use Rattle.bt_core.specs.declared.memory.Memory.{Memory as NoMemory}
 use Rattle.bt_core.specs.declared.step.Step.{Step}
 use Rattle.bt_core.specs.Want.{out_of_memory}
-use Rattle.bpf_codegen.specs.declared.generate.Program.{Program}
+use Rattle.bpf_encode.specs.declared.program.Program.{Program}
 use Rattle.bt_words.specs.declared.order.Order.{Order}
 use Rattle.bt_words.specs.declared.order.Order.TheVariants.{Run, Check, Code, Vet, Account, Verify, Gen, Big}
 use Rattle.rec_format.specs.declared.recording.Recording.{Recording as Recorded}

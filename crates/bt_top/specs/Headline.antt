@@ -3,7 +3,7 @@ use Rattle.std.specs.Prelude.{◌≡◌, ℕ, Bool, true, List, ◌++◌, length
 use Rattle.std.specs.Io.KnownBytes.{Appends}
 use Rattle.account_check.specs.Accounts.{IsTrueAccount}
 use Rattle.account_format.specs.Accounts.{account_bytes}
-use Rattle.bpf_codegen.specs.declared.generate.Program.{Program}
+use Rattle.bpf_encode.specs.declared.program.Program.{Program}
 use Rattle.bpf_insn.specs.declared.insn.Insn.{Insn}
 use Rattle.bt_core.specs.declared.step.ObjectId.{ObjectId}
 use Rattle.bt_core.specs.declared.step.Step.{Step}
@@ -23,7 +23,7 @@ use Rattle.run_laws.specs.Reads.{AddsAreOwn, ReadsSeeBeginnings}
 use Rattle.run_output.specs.declared.form.Form.{Form}
 use Rattle.run_output.specs.declared.form.Form.TheVariants.{Text}
 use Rattle.run_output.specs.Outputs.{output_of}
-use Rattle.script_programs.specs.Programs.{AreCodesOf, KeepScript}
+use Rattle.program_codes.specs.Programs.{AreCodesOf, KeepScript}
 use Rattle.total_laws.specs.Ends.{EndsWithTotals, HaveFewKeys}
 use Rattle.bt_judge.specs.Lines.{SinkUse}
 use Rattle.bt_judge.specs.Meanings.{Meaning, IsMeaningFor, replay_by}

@@ -8,7 +8,7 @@ ghost use Rattle.bt_top.specs.Writing.{Wrote, WroteBytes};
 ghost use Rattle.bt_top.specs.Offered.{OffersBoth};
 ghost use Rattle.bt_top.specs.Outcomes.{bytes_written, shown_text};
 
-use bpf_codegen::generate::Program;
+use bpf_encode::program::Program;
 use bt_core::items::Items;
 use bt_io::sink::{Sink, SinkFailed, write_all};
 use bt_judge::refusal::{Denial, Refusal};

@@ -2,7 +2,7 @@
 ghost use Rattle.std.specs.Prelude.{◌≡◌, [], None, Some};
 ghost use Rattle.bt_judge.specs.Refusals.{status_of};
 
-use bpf_codegen::generate::Program;
+use bpf_encode::program::Program;
 use bt_core::items::Items;
 use bt_judge::refusal::{Refusal, status_of};
 use run_base::job::Work;

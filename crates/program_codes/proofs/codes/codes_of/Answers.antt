@@ -2,9 +2,9 @@ use Rattle.std.proofs.Common.{sym, subst}
 use Rattle.std.specs.List.{AllByRecursion}
 use Rattle.code_bodies.specs.Coding.{CanRunCode}
 use Rattle.code_bodies.specs.Kept.{KeepBodies}
-use Rattle.script_programs.specs.Programs.{AreCodesOf}
-use Rattle.script_programs.proofs.ProgramCodes.{are_all, are_codes, can_run, each_short, each_spelt, keep_bodies, one_more, the_codes}
-use Rattle.script_programs.proofs.codes.codes_of.Goals as goal
+use Rattle.program_codes.specs.Programs.{AreCodesOf}
+use Rattle.program_codes.proofs.ProgramCodes.{are_all, are_codes, can_run, each_short, each_spelt, keep_bodies, one_more, the_codes}
+use Rattle.program_codes.proofs.codes.codes_of.Goals as goal
 
 pub code_of-requires : goal.code_of-requires
 code_of-requires c = record {

@@ -7,12 +7,12 @@ use Rattle.std.proofs.lemmas.Option.{slice_get-get_or}
 use Rattle.bpf_insn.specs.declared.insn.Insn.{Insn}
 use Rattle.bpf_encode.specs.Decoding.{IsCodeOf}
 use Rattle.bpf_encode.proofs.CodeLemmas.{length-code_bytes}
-use Rattle.bpf_codegen.specs.declared.generate.Program.{Program}
+use Rattle.bpf_encode.specs.declared.program.Program.{Program}
 use Rattle.typed_tree.specs.declared.body.TypedBody.{TypedBody}
 use Rattle.typed_tree.specs.declared.script.Typed.{Typed}
 use Rattle.code_bodies.specs.Coding.{CanRunCode}
 use Rattle.code_bodies.specs.Kept.{KeepBodies, KeepsWalk}
-use Rattle.script_programs.specs.Programs.{AreCodesOf, IsProgram, KeepScript, KeepsItsBody}
+use Rattle.program_codes.specs.Programs.{AreCodesOf, IsProgram, KeepScript, KeepsItsBody}
 
 same : {A : Type 0} (a b : A) → Some a ≡ Some b → a ≡ b
 same a b e = cc
