@@ -173,8 +173,8 @@ fn a_woven_list_is_told_as_a_vector(rt: HostRuntime) -> Result<(), Fail> {
     let woven = woven(alloc)?;
     let steps = woven.to_vec(alloc)?;
     assert!(rt; woven.len() == ROWS && steps.len() == ROWS);
-    for row in 0..ROWS {
-        assert!(rt; is_row(alloc, &steps[row], row)?, "row {row}");
+    for (row, step) in steps.as_slice().iter().enumerate() {
+        assert!(rt; is_row(alloc, step, row)?, "row {row}");
     }
     Ok(())
 }

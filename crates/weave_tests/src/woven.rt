@@ -47,16 +47,46 @@ fn add_at<R: Wait>(
     perform(rt, alloc, lock, turn, trace, add(alloc, number), &Open)
 }
 
+// The trace of the first actor: it comes to the table, to the output and back to the table.
+fn first_trace<R: Wait>(
+    rt: &R,
+    alloc: Global,
+    table: &TurnLock<Tally>,
+    at_table: &mut Turn,
+    out: &TurnLock<Tally>,
+    at_out: &mut Turn,
+) -> Result<Trace, Memory>
+    requires table { IsOf table.now at_table.old × (caller_of at_table.old ≡ 0) }
+    requires out { IsOf out.now at_out.old × (caller_of at_out.old ≡ 0) }
+{
+    let mut trace = Trace::new(alloc, 0);
+    add_at(rt, alloc, table, at_table, &mut trace, 5)?;
+    add_at(rt, alloc, out, at_out, &mut trace, 3)?;
+    add_at(rt, alloc, table, at_table, &mut trace, -2)?;
+    Ok(trace)
+}
+
+// The trace of the second actor, which comes to the output.
+fn second_trace<R: Wait>(
+    rt: &R,
+    alloc: Global,
+    out: &TurnLock<Tally>,
+    at_out: &mut Turn,
+) -> Result<Trace, Memory>
+    requires out { IsOf out.now at_out.old × (caller_of at_out.old ≡ 1) }
+{
+    let mut trace = Trace::new(alloc, 1);
+    add_at(rt, alloc, out, at_out, &mut trace, 7)?;
+    Ok(trace)
+}
+
 // Both actors come first at an object of theirs, and then the first one comes to the second's and back to its own.
 fn traces<R: Wait>(rt: &R, alloc: Global) -> Result<Vec<Trace>, Memory> {
     let (table, mut table_turns) = TurnLock::new(alloc, Tally::new(), ObjectId::Cpu(0), 2)?;
     let (out, mut out_turns) = TurnLock::new(alloc, Tally::new(), ObjectId::Out, 2)?;
-    let mut first = Trace::new(alloc, 0);
-    let mut second = Trace::new(alloc, 1);
-    add_at(rt, alloc, &out, &mut out_turns[1], &mut second, 7)?;
-    add_at(rt, alloc, &table, &mut table_turns[0], &mut first, 5)?;
-    add_at(rt, alloc, &out, &mut out_turns[0], &mut first, 3)?;
-    add_at(rt, alloc, &table, &mut table_turns[0], &mut first, -2)?;
+    let second = second_trace(rt, alloc, &out, &mut out_turns[1])?;
+    let (at_table, at_out) = (&mut table_turns[0], &mut out_turns[0]);
+    let first = first_trace(rt, alloc, &table, at_table, &out, at_out)?;
     Ok(vec![in alloc; second, first]?)
 }
 
@@ -68,22 +98,27 @@ const STEPS: [(u32, ObjectId, u64, i64, i64); 4] = [
     (0, ObjectId::Cpu(0), 3, -2, 3),
 ];
 
+/// Whether a step is that of a row.
+fn is_step(alloc: Global, step: &Step, at: usize) -> bool {
+    let (actor, object, stamp, number, sum) = STEPS[at % STEPS.len()];
+    let want = Step {
+        actor,
+        object,
+        stamp,
+        op: add(alloc, number),
+        reply: Reply::Value(Value::Int(sum)),
+    };
+    *step == want
+}
+
 #[test]
 fn stamps_count_up_and_steps_come_by_stamp_and_then_by_object(rt: HostRuntime) -> Result<(), Fail> {
     let alloc = rt.alloc();
     let woven = weave(alloc, traces(&rt, alloc)?)?;
     let steps = woven.to_vec(alloc)?;
-    assert!(rt; woven.len() == 4 && steps.len() == 4);
-    for at in 0..4 {
-        let (actor, object, stamp, number, sum) = STEPS[at];
-        let want = Step {
-            actor,
-            object,
-            stamp,
-            op: add(alloc, number),
-            reply: Reply::Value(Value::Int(sum)),
-        };
-        assert_eq!(rt; steps[at], want);
+    assert!(rt; woven.len() == STEPS.len() && steps.len() == STEPS.len());
+    for (place, step) in steps.as_slice().iter().enumerate() {
+        assert!(rt; is_step(alloc, step, place), "step {place}");
     }
     Ok(())
 }
@@ -104,21 +139,34 @@ fn fourth(alloc: Global, actor: u32, first: u64) -> Result<StepList, Memory> {
     Ok(list)
 }
 
-// The stamps are all numbers below a million.
-#[test]
-fn a_million_steps_are_put_in_order(rt: HostRuntime) -> Result<(), Fail> {
-    let alloc = rt.alloc();
+// The lists of four actors, whose stamps are all numbers below a million, woven.
+fn million(alloc: Global) -> Result<Woven, Memory> {
     let mut lists = Vec::new(alloc);
     for (actor, first) in [(0, 2), (1, 0), (2, 3), (3, 1)] {
         lists.push(fourth(alloc, actor, first)?)?;
     }
-    let woven = Woven::of(lists)?;
+    Woven::of(lists)
+}
+
+/// The stamp and the actor of the step at a place.
+fn at(steps: &[Step], place: usize) -> Option<(u64, u32)> {
+    let step = steps.get(place)?;
+    Some((step.stamp, step.actor))
+}
+
+/// The stamp and the actor at some places of them.
+const PLACES: [(usize, u64, u32); 3] = [(0, 0, 1), (123456, 123456, 1), (999999, 999999, 2)];
+
+#[test]
+fn a_million_steps_are_put_in_order(rt: HostRuntime) -> Result<(), Fail> {
+    let alloc = rt.alloc();
+    let woven = million(alloc)?;
     assert_eq!(rt; woven.len(), 1000000);
     assert!(rt; woven.emitted(alloc)?.is_empty());
     let steps = woven.to_vec(alloc)?;
     assert!(rt; steps.len() == 1000000);
-    assert_eq!(rt; (steps[0].stamp, steps[0].actor), (0, 1));
-    assert_eq!(rt; (steps[123456].stamp, steps[123456].actor), (123456, 1));
-    assert_eq!(rt; (steps[999999].stamp, steps[999999].actor), (999999, 2));
+    for (place, stamp, actor) in PLACES {
+        assert_eq!(rt; at(steps.as_slice(), place), Some((stamp, actor)));
+    }
     Ok(())
 }
