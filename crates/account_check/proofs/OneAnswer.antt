@@ -2,6 +2,7 @@
 use Rattle.std.proofs.Common.{◌≡◌, ◌≢◌, ◌⊎◌, ℕ, List, map, Result, Ok, Err, inl, inr, refl, sym, ap, ◌∙◌, subst}
 use Rattle.bt_ast.specs.declared.attached.Attached.{Attached}
 use Rattle.bt_core.specs.declared.step.Step.{Step}
+use Rattle.bt_core.specs.Want.{out_of_memory}
 use Rattle.rec_format.specs.declared.recording.Recording.{Recording}
 use Rattle.typed_tree.specs.declared.script.Typed.{Typed}
 use Rattle.blank_steps.specs.Blank.{blank}
@@ -16,8 +17,8 @@ use Rattle.account_format.specs.Accounts.{IsAccount}
 use Rattle.account_format.specs.Wrong.{IsWrongAccount}
 use Rattle.account_format.proofs.AccountLaws.{account_not_wrong, one_account, one_wrong_place}
 use Rattle.account_format.proofs.BlankLaws.{account_of}
-use Rattle.account_check.specs.declared.error.AccountError.{AccountError}
-use Rattle.account_check.specs.declared.error.AccountError.TheVariants.{BadAccount, WrongStep, Unfinished, WrongText, Memory}
+use Rattle.account_format.specs.declared.error.AccountError.{AccountError}
+use Rattle.account_format.specs.declared.error.AccountError.TheVariants.{BadAccount, WrongStep, Unfinished, WrongText, Memory}
 use Rattle.account_check.specs.Accounts.{IsTrueAccount, named, run, text_after}
 use Rattle.account_check.specs.Answers.{IsAnswerTo}
 use Rattle.account_check.specs.Differences.{DifferAt}
@@ -47,7 +48,7 @@ module _ (script : Typed) (attached : Attached) (r : Recording) where
   Finds entries text (Err (WrongStep place)) = IsWrongStep (run script attached r) entries place
   Finds entries text (Err Unfinished) = IsUnfinished (run script attached r) entries
   Finds entries text (Err (WrongText at)) = Differs entries text at
-  Finds entries text (Err Memory) = ⊥
+  Finds entries text (Err (Memory m)) = ⊥
 
   begun : (steps : List Step) → IsReplayed (run script attached r) steps → IsBegun (run script attached r) steps
   begun steps replayed = begun_of_replayed (run script attached r) (plans_own script attached r) steps replayed
@@ -83,7 +84,7 @@ module _ (script : Typed) (attached : Attached) (r : Recording) where
     with_agreed steps (Err (WrongStep place)) h g = absurd (no_wrong entries steps place h.replayed h.told g)
     with_agreed steps (Err Unfinished) h g = absurd (no_unfinished entries steps h.replayed h.told g)
     with_agreed steps (Err (WrongText at)) h g = absurd (text_agrees entries text steps at h g)
-    with_agreed steps (Err Memory) h g = absurd g
+    with_agreed steps (Err (Memory m)) h g = absurd g
 
     with_wrong : (place : ℕ) (b : Answer) → IsWrongStep (run script attached r) entries place → Finds entries text b → Err (WrongStep place) ≡ b
     with_wrong place (Ok steps) h g = absurd (no_wrong entries steps place g.replayed g.told h)
@@ -91,7 +92,7 @@ module _ (script : Typed) (attached : Attached) (r : Recording) where
     with_wrong place (Err (WrongStep other)) h g = ap (λ (n : ℕ). Err (WrongStep n)) (same_wrong_step (run script attached r) entries place other h g)
     with_wrong place (Err Unfinished) h g = absurd (not_wrong_and_unfinished entries place h g)
     with_wrong place (Err (WrongText at)) h g = absurd (no_wrong entries g.steps place g.replayed g.told h)
-    with_wrong place (Err Memory) h g = absurd g
+    with_wrong place (Err (Memory m)) h g = absurd g
 
     with_unfinished : (b : Answer) → IsUnfinished (run script attached r) entries → Finds entries text b → Err Unfinished ≡ b
     with_unfinished (Ok steps) h g = absurd (no_unfinished entries steps g.replayed g.told h)
@@ -99,7 +100,7 @@ module _ (script : Typed) (attached : Attached) (r : Recording) where
     with_unfinished (Err (WrongStep place)) h g = absurd (not_wrong_and_unfinished entries place g h)
     with_unfinished (Err Unfinished) h g = refl
     with_unfinished (Err (WrongText at)) h g = absurd (no_unfinished entries g.steps g.replayed g.told h)
-    with_unfinished (Err Memory) h g = absurd g
+    with_unfinished (Err (Memory m)) h g = absurd g
 
     with_text : (at : ℕ) (b : Answer) → Differs entries text at → Finds entries text b → Err (WrongText at) ≡ b
     with_text at (Ok steps) h g = absurd (text_agrees entries text steps at g h)
@@ -110,7 +111,7 @@ module _ (script : Typed) (attached : Attached) (r : Recording) where
         let same : g.steps ≡ h.steps = same_steps g.steps h.steps g.replayed h.replayed (g.told ∙ sym h.told) in
         ap (λ (n : ℕ). Err (WrongText n))
         (one_difference text (text_after script attached r h.steps) at other h.differ (subst (λ (l : List Step). DifferAt text (text_after script attached r l) other) same g.differ))
-    with_text at (Err Memory) h g = absurd g
+    with_text at (Err (Memory m)) h g = absurd g
 
     one_found : (a b : Answer) → Finds entries text a → Finds entries text b → a ≡ b
     one_found (Ok steps) b h g = with_agreed steps b h g
@@ -118,7 +119,7 @@ module _ (script : Typed) (attached : Attached) (r : Recording) where
     one_found (Err (WrongStep place)) b h g = with_wrong place b h g
     one_found (Err Unfinished) b h g = with_unfinished b h g
     one_found (Err (WrongText at)) b h g = with_text at b h g
-    one_found (Err Memory) b h g = absurd h
+    one_found (Err (Memory m)) b h g = absurd h
 
   -- ---- what is answered of bytes
 
@@ -135,7 +136,7 @@ module _ (script : Typed) (attached : Attached) (r : Recording) where
       finds : Finds entries text a
 
     abbrev Seen : Answer → Type 0
-    Seen a = (a ≡ Err Memory) ⊎ (IsBad a ⊎ IsRead a)
+    Seen a = (a ≡ Err (Memory out_of_memory)) ⊎ (IsBad a ⊎ IsRead a)
 
     module _ (job : IsJob script attached r) (calls : MakeCalls script attached r) where
       -- a true account is one of its steps as entries
@@ -158,9 +159,9 @@ module _ (script : Typed) (attached : Attached) (r : Recording) where
         account = h.account;
         finds = record { steps = h.steps; replayed = h.replayed; told = refl; differ = h.differ };
       }))
-      seen (Err Memory) h = inl refl
+      seen (Err (Memory m)) h = inl refl
 
-      both_seen : (a b : Answer) → Seen a → Seen b → b ≢ Err Memory → (a ≡ b) ⊎ (a ≡ Err Memory)
+      both_seen : (a b : Answer) → Seen a → Seen b → b ≢ Err (Memory out_of_memory) → (a ≡ b) ⊎ (a ≡ Err (Memory out_of_memory))
       both_seen a b (inl none) y ne = inr none
       both_seen a b (inr x) (inl none) ne = absurd (ne none)
       both_seen a b (inr (inl one)) (inr (inl other)) ne =
@@ -171,7 +172,7 @@ module _ (script : Typed) (attached : Attached) (r : Recording) where
           let same = one_account (named script attached r) bytes one.entries other.entries one.text other.text one.account other.account in
           inl (one_found other.entries other.text a b (subst (λ (z : List Step × List ℕ). Finds z.0 z.1 a) (λ i. (same.0 i, same.1 i)) one.finds) other.finds)
 
-      pub one_answer : (a b : Answer) → IsAnswerTo script attached r bytes a → IsAnswerTo script attached r bytes b → b ≢ Err Memory → (a ≡ b) ⊎ (a ≡ Err Memory)
+      pub one_answer : (a b : Answer) → IsAnswerTo script attached r bytes a → IsAnswerTo script attached r bytes b → b ≢ Err (Memory out_of_memory) → (a ≡ b) ⊎ (a ≡ Err (Memory out_of_memory))
       one_answer a b h g ne = both_seen a b (seen a h) (seen b g) ne
 
       pub one_true : (steps others : List Step) → IsTrueAccount script attached r bytes steps → IsTrueAccount script attached r bytes others → steps ≡ others

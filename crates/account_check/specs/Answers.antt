@@ -9,8 +9,8 @@ use Rattle.bt_meaning.specs.Interleavings.{IsReplayed}
 use Rattle.begun_lists.specs.Wrong.{IsWrongStep, IsUnfinished}
 use Rattle.account_format.specs.Accounts.{IsAccount}
 use Rattle.account_format.specs.Wrong.{IsWrongAccount}
-use Rattle.account_check.specs.declared.error.AccountError.{AccountError}
-use Rattle.account_check.specs.declared.error.AccountError.TheVariants.{BadAccount, WrongStep, Unfinished, WrongText, Memory}
+use Rattle.account_format.specs.declared.error.AccountError.{AccountError}
+use Rattle.account_format.specs.declared.error.AccountError.TheVariants.{BadAccount, WrongStep, Unfinished, WrongText, Memory}
 use Rattle.account_check.specs.Accounts.{named, run, text_after, IsTrueAccount}
 use Rattle.account_check.specs.Differences.{DifferAt}
 
@@ -44,4 +44,4 @@ module _ (script : Typed) (attached : Attached) (r : Recording) (bytes : List â„
   IsAnswerTo (Err (WrongStep place)) = HasWrongStep place
   IsAnswerTo (Err Unfinished) = HasUnfinished
   IsAnswerTo (Err (WrongText at)) = HasWrongText at
-  IsAnswerTo (Err Memory) = Unit {0}
+  IsAnswerTo (Err (Memory _)) = Unit {0}

@@ -1,4 +1,3 @@
 pub mod Accounts
 pub mod Answers
 pub mod Differences
-pub mod Faults

@@ -3,7 +3,6 @@
 
 mod bodies;
 mod checking;
-pub mod error;
 pub mod laws;
 mod reading;
 mod text;

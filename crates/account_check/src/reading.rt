@@ -6,8 +6,8 @@ ghost use Rattle.bt_meaning.specs.Jobs.{IsJob};
 ghost use Rattle.account_check.specs.Accounts.{named};
 ghost use Rattle.account_check.specs.Answers.{IsAnswerTo};
 
-use crate::error::AccountError;
 use account_format::entries::Entries;
+use account_format::error::AccountError;
 use account_format::reading::{Account, read_account};
 use account_format::scope::Scope;
 use bt_ast::attached::Attached;

@@ -1,15 +1,16 @@
 // The check of an account.
 ghost use Rattle.std.specs.Prelude.{◌≡◌, ◌≢◌, ◌⊎◌, List, Result, Err};
 ghost use Rattle.bt_core.specs.declared.step.Step.{Step as MadeStep};
+ghost use Rattle.bt_core.specs.Want.{out_of_memory};
 ghost use Rattle.bt_meaning.specs.Jobs.{IsJob};
 ghost use Rattle.account_check.specs.Answers.{IsAnswerTo};
-ghost use Rattle.account_check.specs.declared.error.AccountError.{AccountError as Fault};
-ghost use Rattle.account_check.specs.declared.error.AccountError.TheVariants.{Memory};
+ghost use Rattle.account_format.specs.declared.error.AccountError.{AccountError as Fault};
+ghost use Rattle.account_format.specs.declared.error.AccountError.TheVariants.{Memory};
 
 use crate::checking::found_of;
-use crate::error::AccountError;
 use crate::reading::{Written, read};
 use crate::text::{first_difference, text_of};
+use account_format::error::AccountError;
 use bt_ast::attached::Attached;
 use bt_core::items::Items;
 use bt_core::step::Step;
@@ -41,7 +42,7 @@ pub fn verify(
     ensures answer { IsAnswerTo script.now attached.now recording.now account.now result }
     // There is one answer, and it comes unless memory runs out.
     ensures only { (other : Result (List MadeStep) Fault) → IsAnswerTo script.now attached.now recording.now account.now other →
-        other ≢ Err Memory → (result ≡ other) ⊎ (result ≡ Err Memory) }
+        other ≢ Err (Memory out_of_memory) → (result ≡ other) ⊎ (result ≡ Err (Memory out_of_memory)) }
 {
     programs_make_such_calls();
     check(alloc, recording, attached, script, account)

@@ -8,4 +8,4 @@ use Rattle.account_format.specs.Wrong.{IsWrongAccount}
 -- bad bytes are wrong at the offset; want of memory tells nothing
 abbrev pub IsFault : Setting → List ℕ → AccountFault → Type 0
 IsFault setting bytes (BadAccount offset) = IsWrongAccount setting bytes offset
-IsFault setting bytes Memory = Unit {0}
+IsFault setting bytes (Memory _) = Unit {0}

@@ -5,3 +5,4 @@ pub mod Wrong
 pub mod Reading
 pub mod Scopes
 pub mod Answers
+pub mod Faults

@@ -1,6 +1,7 @@
 // Reading an account.
 ghost use Rattle.std.specs.Prelude.{◌≡◌, ◌≢◌, ◌⊎◌, ◌-◌, ◌≤◌, ℕ, List, length, IfOk, IfErr, IsOkAnd, Err};
 ghost use Rattle.bt_core.specs.declared.step.Step.{Step};
+ghost use Rattle.bt_core.specs.Want.{out_of_memory};
 ghost use Rattle.account_format.specs.declared.error.AccountFault.TheVariants as fault;
 ghost use Rattle.std.specs.Option.{option_map};
 ghost use Rattle.account_format.specs.Accounts.{IsAccount};
@@ -43,12 +44,12 @@ pub fn read_account<'a>(
     ensures read { IfOk result (λ account. IsAccount (setting_in scope.now) bytes.now account.entries account.text.now) }
     // Where the bytes are the account of steps and a text, these are read, unless memory runs out.
     ensures only { (steps : List Step) (text : List ℕ) → IsAccount (setting_in scope.now) bytes.now steps text
-        → IsOkAnd result (λ account. (account.entries ≡ steps) × (account.text.now ≡ text)) ⊎ (result ≡ Err fault.Memory) }
+        → IsOkAnd result (λ account. (account.entries ≡ steps) × (account.text.now ≡ text)) ⊎ (result ≡ Err (fault.Memory out_of_memory)) }
     // Where bytes are told to be wrong, they are wrong there.
     ensures wrong { (offset : ℕ) → result ≡ Err (fault.BadAccount offset) → IsWrongAccount (setting_in scope.now) bytes.now offset }
     // Where bytes are wrong, they are told to be wrong there, unless memory runs out.
     ensures refused { (offset : ℕ) → IsWrongAccount (setting_in scope.now) bytes.now offset
-        → (result ≡ Err (fault.BadAccount offset)) ⊎ (result ≡ Err fault.Memory) }
+        → (result ≡ Err (fault.BadAccount offset)) ⊎ (result ≡ Err (fault.Memory out_of_memory)) }
 {
     read(alloc, scope, bytes)
 }

@@ -9,7 +9,7 @@ use bt_core::map::MapDecl;
 use bt_core::memory::{Memory, TryCopy};
 use bt_core::port::Port;
 use bt_core::step::{ObjectId, Op, Reply, Step};
-use std::alloc::Global;
+use std::alloc::{AllocError, Global};
 
 /// Keeps the steps that are made. A `Get`, a `ReadAll` and a `Read` get the next reply of the list, and all other operations `Done`.
 #[derive(Drop)]
@@ -48,7 +48,7 @@ fn answer(
     if is_reply_of(maps, object, op, &reply) {
         Ok(reply)
     } else {
-        Err(Memory)
+        Err(AllocError.into())
     }
 }
 

@@ -3,6 +3,7 @@ use Rattle.std.proofs.Common.{◌≡◌, ◌≢◌, ℕ, zero, suc, ◌*◌, ◌
 use Rattle.std.specs.Prelude.{◌⊎◌, slice_set, replicate}
 use Rattle.std.proofs.lemmas.Bool.{cases_eq}
 use Rattle.std.proofs.lemmas.List.{get_or-set_same, get_or-set_other, length-replicate}
+use Rattle.bt_core.specs.Want.{out_of_memory}
 use Rattle.bpf_insn.specs.declared.insn.Insn.{Insn}
 use Rattle.bpf_encode.specs.declared.decode.DecodeError.{DecodeError}
 use Rattle.bpf_encode.specs.declared.decode.DecodeError.TheVariants as decoding
@@ -73,40 +74,40 @@ pub one_answer : (t : Sheet) (bytes : List ℕ) (r s : Result ℕ CodeFault) →
 one_answer t bytes (Ok m) (Ok n) b h k = ap (λ (x : ℕ). Ok x) (h.is_most ∙ ap (λ (c : List Insn). 4097 * length c) (same_code h.code k.code bytes h.is_code_of k.is_code_of) ∙ sym k.is_most)
 one_answer t bytes (Ok m) (Err (S1 e)) b h k = absurd (none_beside_lem bytes h.code e b h.is_code_of k)
 one_answer t bytes (Ok m) (Err S2) b h k = absurd (k.not_closed (subst (IsClosedCode t) (same_code h.code k.code bytes h.is_code_of k.is_code_of) h.closed))
-one_answer t bytes (Ok m) (Err Memory) b h k = absurd k
+one_answer t bytes (Ok m) (Err (Memory want)) b h k = absurd k
 one_answer t bytes (Err (S1 e)) (Ok n) b h k = absurd (none_beside_lem bytes k.code e b k.is_code_of h)
 one_answer t bytes (Err (S1 e)) (Err (S1 f)) b h k = ap (λ (x : DecodeError). Err (S1 x)) (one_fault_lem bytes e f b h k)
 one_answer t bytes (Err (S1 e)) (Err S2) b h k = absurd (none_beside_lem bytes k.code e b k.is_code_of h)
-one_answer t bytes (Err (S1 e)) (Err Memory) b h k = absurd k
+one_answer t bytes (Err (S1 e)) (Err (Memory want)) b h k = absurd k
 one_answer t bytes (Err S2) (Ok n) b h k = absurd (h.not_closed (subst (IsClosedCode t) (same_code k.code h.code bytes k.is_code_of h.is_code_of) k.closed))
 one_answer t bytes (Err S2) (Err (S1 f)) b h k = absurd (none_beside_lem bytes h.code f b h.is_code_of k)
 one_answer t bytes (Err S2) (Err S2) b h k = refl
-one_answer t bytes (Err S2) (Err Memory) b h k = absurd k
-one_answer t bytes (Err Memory) s b h k = absurd h
+one_answer t bytes (Err S2) (Err (Memory want)) b h k = absurd k
+one_answer t bytes (Err (Memory want)) s b h k = absurd h
 
-pub only_answer : (t : Sheet) (bytes : List ℕ) (r s : Result ℕ CodeFault) → AreBytes bytes → (r ≢ Err Memory → IsAnswer t bytes r) → IsAnswer t bytes s → (r ≡ s) ⊎ (r ≡ Err Memory)
+pub only_answer : (t : Sheet) (bytes : List ℕ) (r s : Result ℕ CodeFault) → AreBytes bytes → (r ≢ Err (Memory out_of_memory) → IsAnswer t bytes r) → IsAnswer t bytes s → (r ≡ s) ⊎ (r ≡ Err (Memory out_of_memory))
 only_answer t bytes (Ok m) s b h k = inl (one_answer t bytes (Ok m) s b (h (λ e. cc)) k)
 only_answer t bytes (Err (S1 e)) s b h k = inl (one_answer t bytes (Err (S1 e)) s b (h (λ f. cc)) k)
 only_answer t bytes (Err S2) s b h k = inl (one_answer t bytes (Err S2) s b (h (λ e. cc)) k)
-only_answer t bytes (Err Memory) s b h k = inr refl
+only_answer t bytes (Err (Memory want)) s b h k = inr refl
 
 -- what is judged of code holds of its bytes
-judged_of : (t : Sheet) (code : List Insn) (bytes : List ℕ) (r : Result ℕ CodeFault) → IsCodeOf code bytes → Judges t code r → r ≢ Err Memory → IsAnswer t bytes r
+judged_of : (t : Sheet) (code : List Insn) (bytes : List ℕ) (r : Result ℕ CodeFault) → IsCodeOf code bytes → Judges t code r → r ≢ Err (Memory out_of_memory) → IsAnswer t bytes r
 judged_of t code bytes (Ok m) is j ne = record { code = code; is_code_of = is; closed = j.0; is_most = j.1 }
 judged_of t code bytes (Err (S1 e)) is j ne = absurd j
 judged_of t code bytes (Err S2) is j ne = record { code = code; is_code_of = is; not_closed = j }
-judged_of t code bytes (Err Memory) is j ne = absurd (ne refl)
+judged_of t code bytes (Err (Memory want)) is j ne = absurd (ne refl)
 
-pub judged : (t : Sheet) (code insns : List Insn) (bytes : List ℕ) (r : Result ℕ CodeFault) → insns ≡ code → IsCodeOf code bytes → Judges t insns r → r ≢ Err Memory → IsAnswer t bytes r
+pub judged : (t : Sheet) (code insns : List Insn) (bytes : List ℕ) (r : Result ℕ CodeFault) → insns ≡ code → IsCodeOf code bytes → Judges t insns r → r ≢ Err (Memory out_of_memory) → IsAnswer t bytes r
 judged t code insns bytes r same is j = judged_of t code bytes r is (subst (λ (l : List Insn). Judges t l r) same j)
 
 -- what does not decode has its first fault
-pub faulted : (t : Sheet) (bytes : List ℕ) (e : DecodeError) (f : CodeFault) → f ≡ refused e → (e ≢ decoding.Memory → IsFirstFault bytes e) → f ≢ Memory → IsAnswer t bytes (Err f)
+pub faulted : (t : Sheet) (bytes : List ℕ) (e : DecodeError) (f : CodeFault) → f ≡ refused e → (e ≢ decoding.Memory out_of_memory → IsFirstFault bytes e) → f ≢ Memory out_of_memory → IsAnswer t bytes (Err f)
 faulted t bytes e f is h ne = subst (λ (x : CodeFault). IsAnswer t bytes (Err x)) (sym is) (by e h (λ same. ne (is ∙ same)))
   where
-    by : (e : DecodeError) → (e ≢ decoding.Memory → IsFirstFault bytes e) → refused e ≢ Memory → IsAnswer t bytes (Err (refused e))
+    by : (e : DecodeError) → (e ≢ decoding.Memory out_of_memory → IsFirstFault bytes e) → refused e ≢ Memory out_of_memory → IsAnswer t bytes (Err (refused e))
     by decoding.BadLength h ne = h (λ x. cc)
     by (decoding.BadOpcode n) h ne = h (λ x. cc)
     by (decoding.BadField n) h ne = h (λ x. cc)
     by (decoding.HalfWide n) h ne = h (λ x. cc)
-    by decoding.Memory h ne = absurd (ne refl)
+    by (decoding.Memory want) h ne = absurd (ne refl)

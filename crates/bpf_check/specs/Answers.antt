@@ -28,7 +28,7 @@ abbrev pub IsAnswer : Sheet → List ℕ → Result ℕ CodeFault → Type 0
 IsAnswer t bytes (Ok most) = AreClosed t bytes most
 IsAnswer t bytes (Err (S1 fault)) = IsFirstFault bytes fault
 IsAnswer t bytes (Err S2) = AreOpen t bytes
-IsAnswer t bytes (Err Memory) = ⊥
+IsAnswer t bytes (Err (Memory _)) = ⊥
 
 -- ---- of code, for the proofs
 
@@ -36,8 +36,8 @@ abbrev pub Judges : Sheet → List Insn → Result ℕ CodeFault → Type 0
 Judges t code (Ok most) = IsClosedCode t code × (most ≡ 4097 * length code)
 Judges t code (Err (S1 fault)) = ⊥
 Judges t code (Err S2) = IsClosedCode t code → ⊥
-Judges t code (Err Memory) = Unit {0}
+Judges t code (Err (Memory _)) = Unit {0}
 
 abbrev pub refused : DecodeError → CodeFault
-refused decoding.Memory = Memory
+refused (decoding.Memory want) = Memory want
 refused fault = S1 fault

@@ -1,6 +1,7 @@
 // The check of the bytes of code.
 ghost use Rattle.std.specs.Prelude.{◌≡◌, ◌≢◌, ◌⊎◌, ◌≤◌, ◌*◌, ℕ, Result, Err, length};
 ghost use Rattle.bt_core.specs.declared.limits.TheConstants.{CODE_SLOTS};
+ghost use Rattle.bt_core.specs.Want.{out_of_memory};
 ghost use Rattle.bpf_check.specs.declared.check.CodeFault.{CodeFault as FaultValue};
 ghost use Rattle.bpf_check.specs.Sheet.{sheet_of};
 ghost use Rattle.bpf_check.specs.Answers.{IsAnswer, Judges, refused};
@@ -8,6 +9,7 @@ ghost use Rattle.bpf_check.specs.Answers.{IsAnswer, Judges, refused};
 use crate::settle::{entry_table, is_closed};
 use bpf_encode::decode::{DecodeError, decode};
 use bpf_insn::insn::Insn;
+use bt_core::memory::Memory as NoMemory;
 use std::alloc::Global;
 use thiserror::Error;
 use typed_tree::script::Typed;
@@ -23,7 +25,7 @@ pub enum CodeFault {
     S2,
     /// Memory ran out.
     #[error("out of memory")]
-    Memory,
+    Memory(NoMemory),
 }
 
 // What a fault of decoding is for the check.
@@ -31,7 +33,7 @@ fn refused(fault: DecodeError) -> CodeFault
     ensures { result ≡ refused fault }
 {
     match fault {
-        DecodeError::Memory => CodeFault::Memory,
+        DecodeError::Memory(want) => CodeFault::Memory(want),
         _ => CodeFault::S1(fault),
     }
 }
@@ -47,7 +49,7 @@ fn judge(alloc: Global, typed: &Typed, payload: u32, code: &[Insn]) -> Result<u6
     }
     let mut table = match entry_table(alloc, code.len()) {
         Ok(table) => table,
-        Err(_) => return Err(CodeFault::Memory),
+        Err(want) => return Err(CodeFault::Memory(want)),
     };
     if is_closed(typed, payload, code, table.as_mut_slice()) {
         Ok(4097 * code.len() as u64)
@@ -70,10 +72,10 @@ fn judge(alloc: Global, typed: &Typed, payload: u32, code: &[Insn]) -> Result<u6
 pub fn check_code(alloc: Global, code: &[u8], typed: &Typed, payload: u32) -> Result<u64, CodeFault>
     requires { length code.now ≤ 8 * CODE_SLOTS }
     // What is answered holds of the bytes.
-    ensures answer { result ≢ Err CodeFault.Memory → IsAnswer (sheet_of typed.now payload) code.now result }
+    ensures answer { result ≢ Err (CodeFault.Memory out_of_memory) → IsAnswer (sheet_of typed.now payload) code.now result }
     // The answer that holds of the bytes is given, unless memory runs out.
     ensures only { (answer : Result ℕ FaultValue) → IsAnswer (sheet_of typed.now payload) code.now answer →
-        (result ≡ answer) ⊎ (result ≡ Err CodeFault.Memory) }
+        (result ≡ answer) ⊎ (result ≡ Err (CodeFault.Memory out_of_memory)) }
 {
     match decode(alloc, code) {
         Ok(insns) => judge(alloc, typed, payload, insns.as_slice()),

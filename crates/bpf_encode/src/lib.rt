@@ -9,4 +9,5 @@ pub mod encode;
 mod fields;
 pub mod laws;
 pub mod listing;
+pub mod program;
 mod slot_bytes;

@@ -3,7 +3,7 @@ use bt_core::memory::Memory;
 use bt_io::shelf::Shelf;
 use bt_io::sink::{Sink, write_all};
 use bt_top::serve::serve;
-use std::alloc::Global;
+use std::alloc::{AllocError, Global};
 use std::io::ErrorKind;
 use std::rt::Env;
 use std::sync::Wait;
@@ -15,11 +15,12 @@ use turn_lock::gate::Open;
 const OUT_OF_MEMORY: u8 = 6;
 
 /// The words after the program's name. Where one is no UTF-8 there are none, so that the call is
-/// answered by how the program is used.
+/// answered by how the program is used. [`Memory`] where the system refuses it.
 fn words_of<R: Env + AllocGlobal>(rt: &R) -> Result<Vec<String>, Memory> {
     match env::args(rt) {
         Ok(args) => Ok(args.skip(1).collect(rt.alloc())?),
-        Err(error) if error.kind() == ErrorKind::OutOfMemory => Err(Memory),
+        // The system refused memory, as an allocator does.
+        Err(error) if error.kind() == ErrorKind::OutOfMemory => Err(AllocError.into()),
         Err(_) => Ok(Vec::new(rt.alloc())),
     }
 }

@@ -9,31 +9,33 @@ use Rattle.run_base.specs.declared.job.Job.{Job}
 use Rattle.run_base.specs.declared.job.Work.{Work}
 use Rattle.run_output.specs.declared.form.Form.{Form}
 use Rattle.run_output.specs.declared.form.Form.TheVariants.{Text}
+use Rattle.account_format.specs.declared.error.AccountError.{AccountError}
+use Rattle.bt_core.specs.declared.step.Step.{Step}
+use Rattle.bt_judge.specs.declared.refusal.Denial.{Denial}
+use Rattle.bt_judge.specs.declared.refusal.Denial.TheVariants as denial
+use Rattle.bt_judge.specs.declared.refusal.Operand.{Operand}
+use Rattle.bt_judge.specs.declared.refusal.Operand.TheVariants as operand
+use Rattle.bt_judge.specs.declared.refusal.RecordingRefusal.TheVariants as recording
+use Rattle.bt_judge.specs.declared.refusal.ScriptRefusal.TheVariants as script
+use Rattle.bt_judge.specs.declared.refusal.Refusal.{Refusal}
+use Rattle.bt_judge.specs.declared.refusal.Refusal.TheVariants.{Usage, Script, Recording, ReadFault, WriteFault, Memory, LongAccount, Denied}
+use Rattle.bt_judge.specs.Doing.{ComesOfFiles}
+use Rattle.bt_judge.specs.Due.{IsDue, IsFinding, IsTooLong}
+use Rattle.bt_judge.specs.Jobs.{IsJobFor}
+use Rattle.bt_judge.specs.Lines.{SinkUse, SinkFailed}
+use Rattle.bt_judge.specs.Orders.{OperandFile, files_of}
+use Rattle.bt_judge.specs.Reads.{ShelfUse, ShelfFailed, AreContentsOf, MayCome, MayStandFor, ComesIfDue, OnTold, IsReached, AsksExactly}
+use Rattle.bt_judge.specs.Refusals.{status_of, too_long}
+use Rattle.bt_judge.proofs.Due.{job_accepted}
+use Rattle.bt_judge.proofs.Reading.{are_others, others_of}
 use Rattle.bt_top.specs.declared.outcome.Outcome.{Outcome}
 use Rattle.bt_top.specs.declared.report.Report.{Report}
-use Rattle.bt_top.specs.declared.refusal.Denial.{Denial}
-use Rattle.bt_top.specs.declared.refusal.Denial.TheVariants as denial
-use Rattle.bt_top.specs.declared.refusal.Operand.{Operand}
-use Rattle.bt_top.specs.declared.refusal.Operand.TheVariants as operand
-use Rattle.bt_top.specs.declared.refusal.RecordingRefusal.TheVariants as recording
-use Rattle.bt_top.specs.declared.refusal.ScriptRefusal.TheVariants as script
-use Rattle.bt_top.specs.declared.refusal.Refusal.{Refusal}
-use Rattle.bt_top.specs.declared.refusal.Refusal.TheVariants.{Usage, Script, Recording, ReadFault, WriteFault, Memory, LongAccount, Denied}
-use Rattle.bt_top.specs.Doing.{ComesOfFiles, Wrote}
-use Rattle.bt_top.specs.Due.{IsDue, IsFinding, IsTooLong}
-use Rattle.bt_top.specs.Jobs.{IsJobFor}
-use Rattle.bt_top.specs.Lines.{SinkUse, SinkFailed}
-use Rattle.bt_top.specs.Orders.{OperandFile, files_of, form_of}
-use Rattle.account_check.specs.declared.error.AccountError.{AccountError}
-use Rattle.bt_core.specs.declared.step.Step.{Step}
-use Rattle.bt_top.specs.Outcomes.{ComesTo, IsOutcomeOfRun, IsOutcomeOfVerify, IsOutcomeOfVet, accepted_outcome, bytes_written, check_outcome, code_outcome, gen_outcome, refused_outcome, verify_outcome}
-use Rattle.bt_top.specs.Refusals.{status_of, too_long}
-use Rattle.bt_top.specs.Serve.{ShelfUse, ShelfFailed, AreContentsOf, MayCome, MayStandFor, ComesIfDue, OnTold, IsReached, ReadFailed, IsComplete}
-use Rattle.bt_top.specs.Serve.{AsksExactly, EndsAsDue, HasWork, IsEndStatus, MayDeny, MayEnd, MayEndFor}
+use Rattle.bt_top.specs.Writing.{Wrote}
+use Rattle.bt_top.specs.Outcomes.{form_of}
+use Rattle.bt_top.specs.Outcomes.{ComesTo, IsOutcomeOfRun, IsOutcomeOfVet, accepted_outcome, bytes_written, check_outcome, code_outcome, gen_outcome, refused_outcome, verify_outcome}
+use Rattle.bt_top.specs.Serve.{ReadFailed, IsComplete, EndsAsDue, HasWork, IsEndStatus, MayDeny, MayEnd, MayEndFor}
 use Rattle.bt_top.specs.Serve.{IsTold, IsWritten, IsDone, IsDoneUnlessRefused, IsNothing, AnswersOrder, AnswersWords, IsRunOrder}
-use Rattle.bt_top.proofs.Due.{job_accepted}
 use Rattle.bt_top.proofs.Performing.{on_told-map, plain_end}
-use Rattle.bt_top.proofs.Reading.{are_others, others_of}
 
 -- ---- what was done
 
@@ -270,10 +272,6 @@ module _ (order : Order) (seen : ShelfUse) (out : SinkUse) (outcome : Outcome) (
 
 abbrev pub refused_report : Refusal → Report
 refused_report refusal = record { status = status_of (Some refusal); refusal = Some refusal; work = None; programs = [] }
-
-pub kept : (told : Option (List ℕ)) → Keeps told told
-kept None = tt
-kept (Some bytes) = refl
 
 -- the answer to an order whose files are refused, or not read
 module _ (order : Order) (seen : ShelfUse) (out : SinkUse) (keeps : Keeps out.taken out.taken_after) where

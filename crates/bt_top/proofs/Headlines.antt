@@ -1,5 +1,5 @@
 -- What a run that ends with status 0 promises.
-use Rattle.std.proofs.Common.{◌≡◌, ℕ, ◌<◌, ◌^◌, List, [], ◌∷◌, ◌++◌, length, sym, ap, subst, arith, inl, inr}
+use Rattle.std.proofs.Common.{◌≡◌, ℕ, ◌<◌, ◌^◌, List, [], ◌++◌, length, sym, ap, subst, arith, inl, inr}
 use Rattle.std.specs.List.{AllByRecursion}
 use Rattle.account_check.specs.Accounts.{IsTrueAccount}
 use Rattle.account_format.specs.Accounts.{account_bytes}
@@ -30,26 +30,27 @@ use Rattle.run_output.specs.declared.form.Form.TheVariants.{Text}
 use Rattle.rec_format.specs.declared.recording.Recording.{Recording as Recorded}
 use Rattle.rec_format.specs.Recordings.{IsValidRecording}
 use Rattle.rec_gen.specs.Made.{IsMade}
-use Rattle.script_programs.specs.Programs.{KeepScript}
+use Rattle.program_codes.specs.Programs.{KeepScript}
 use Rattle.total_laws.specs.Ends.{EndsWithTotals, IsAddingRun}
 use Rattle.typed_tree.specs.declared.script.Typed.{Typed}
+use Rattle.bt_judge.specs.declared.refusal.Denial.{Denial}
+use Rattle.bt_judge.specs.declared.refusal.Denial.TheVariants as denial
+use Rattle.bt_judge.specs.declared.refusal.Refusal.{Refusal}
+use Rattle.bt_judge.specs.declared.refusal.Refusal.TheVariants.{Usage, Script, Recording, ReadFault, WriteFault, Memory, LongAccount, Denied}
+use Rattle.bt_judge.specs.Jobs.{IsJobFor, meaning_in}
+use Rattle.bt_judge.specs.Lines.{SinkUse}
+use Rattle.bt_judge.specs.Orders.{OperandFile, files_of}
+use Rattle.bt_judge.specs.Reads.{ShelfUse, AreContentsOf}
+use Rattle.bt_judge.specs.Refusals.{status_of}
+use Rattle.bt_judge.proofs.Asked.{can_run, of_files}
+use Rattle.bt_judge.proofs.OneMeaning.{means_files, means_job}
 use Rattle.bt_top.specs.declared.outcome.Outcome.{Outcome}
-use Rattle.bt_top.specs.declared.refusal.Denial.{Denial}
-use Rattle.bt_top.specs.declared.refusal.Denial.TheVariants as denial
-use Rattle.bt_top.specs.declared.refusal.Refusal.{Refusal}
-use Rattle.bt_top.specs.declared.refusal.Refusal.TheVariants.{Usage, Script, Recording, ReadFault, WriteFault, Memory, LongAccount, Denied}
-use Rattle.bt_top.specs.Doing.{Wrote}
-use Rattle.bt_top.specs.Headline.{AccountsForItsSteps, AccountsOfFiles, AreStepsOf, Headline, IsSerialList, OnlyAdds, PrintsItsSteps, PrintsItsTotals, PrintsOfFiles, RanPrograms}
-use Rattle.bt_top.specs.Jobs.{AsksFor, IsBigJob, IsJobFor, IsWorkOf, meaning_in, meaning_of}
-use Rattle.bt_top.specs.Lines.{SinkUse}
-use Rattle.bt_top.specs.Meanings.{Meaning, IsBigMeaning, IsMeaningFor, Means}
-use Rattle.bt_top.specs.Orders.{OperandFile, files_of, form_of}
-use Rattle.bt_top.specs.Outcomes.{ComesTo, IsOutcomeOfAccount, IsOutcomeOfRun, bytes_written, stats_line, summary_line}
-use Rattle.bt_top.specs.Refusals.{status_of}
-use Rattle.bt_top.specs.Serve.{ShelfUse, AreContentsOf}
+use Rattle.bt_top.specs.Writing.{Wrote}
+use Rattle.bt_top.specs.Headline.{AccountsOfFiles, AreStepsOf, Headline, IsSerialList, OnlyAdds, PrintsItsSteps, PrintsItsTotals, PrintsOfFiles, RanPrograms}
+use Rattle.bt_top.specs.Jobs.{IsBigJob, IsWorkOf, meaning_of, IsBigMeaning}
+use Rattle.bt_top.specs.Outcomes.{form_of, ComesTo, IsOutcomeOfAccount, IsOutcomeOfRun, bytes_written, stats_line, summary_line}
 use Rattle.bt_top.proofs.Answering.{refused_report, report_of}
-use Rattle.bt_top.proofs.Asked.{can_run, of_files, of_numbers}
-use Rattle.bt_top.proofs.Making.{attached_over, typed_over}
+use Rattle.bt_top.proofs.Making.{attached_over, of_numbers, typed_over}
 
 -- no refusal has status 0
 no_success : (refusal : Refusal) → status_of (Some refusal) ≡ 0 → ⊥
@@ -97,24 +98,7 @@ pub record AreRunLaws : Type 0 where
   pub totals : (script : Typed) (attached : Attached) (r : Recorded) (steps : List Step) → IsAddingRun script attached r steps
       → EndsWithTotals script attached r steps
 
--- the meaning of a job is that of the files or of the numbers that ask for it
-means_job : (text : List ℕ) (job : Job) → AsksFor text job → Means text (meaning_in job)
-means_job text job asks = record {
-  tree = asks.tree;
-  has = asks.script.has;
-  can_attach = asks.script.attached;
-  attached = asks.attached;
-  well_typed = asks.script.typed;
-  typed = asks.typed;
-}
-
-pub means_files : (files : List OperandFile) (contents : List (List ℕ)) (job : Job) → IsJobFor files contents job
-    → IsMeaningFor files contents (meaning_in job)
-means_files files [] job is = absurd is.of
-means_files files (text ∷ []) job is = absurd is.of
-means_files files (text ∷ bytes ∷ more) job is =
-    record { short = is.short; of = record { is = is.of.is; means = means_job text job is.of.asks } }
-
+-- the meaning of a job is that of the numbers that ask for it
 means_numbers : (x n : ℕ) (job : Job) → IsBigJob x n job → IsBigMeaning x n (meaning_in job)
 means_numbers x n job of = record { made = of.made; valid = of.valid; means = means_job SCRIPT job of.asks }
 

@@ -14,17 +14,22 @@ use Rattle.rec_format.specs.declared.recording.Recording.{Recording as Recorded}
 use Rattle.script_programs.specs.declared.error.SizeFault.{SizeFault}
 use Rattle.script_programs.specs.Sizes.{first_size_fault}
 use Rattle.typed_tree.specs.declared.script.Typed.{Typed}
-use Rattle.bt_top.specs.declared.refusal.Refusal.{Refusal}
-use Rattle.bt_top.specs.declared.refusal.Refusal.TheVariants.{Memory}
 use Rattle.bt_attach.specs.Attaching.{attach_fault}
 use Rattle.bt_meaning.specs.Jobs.{IsJob}
 use Rattle.rec_format.specs.Recordings.{IsValidRecording}
 use Rattle.rec_gen.specs.Made.{IsMade}
-use Rattle.bt_top.specs.Doing.{IsScriptRefusal}
-use Rattle.bt_top.specs.Jobs.{AsksFor, IsBigJob}
-use Rattle.bt_top.specs.Script.{HasTree, IsScriptFault, IsSizeFault}
-use Rattle.bt_top.proofs.Asked.{can_run, of_numbers}
-use Rattle.bt_top.proofs.Scripts.{AreScriptLaws, attach_apart, no_tree, type_apart}
+use Rattle.bt_judge.specs.declared.refusal.Refusal.{Refusal}
+use Rattle.bt_judge.specs.declared.refusal.Refusal.TheVariants.{Memory}
+use Rattle.bt_judge.specs.Doing.{IsScriptRefusal}
+use Rattle.bt_judge.specs.Jobs.{AsksFor}
+use Rattle.bt_judge.specs.Script.{HasTree, IsScriptFault, IsSizeFault}
+use Rattle.bt_judge.proofs.Asked.{can_run, IsAskedFor}
+use Rattle.bt_judge.proofs.Scripts.{AreScriptLaws, attach_apart, no_tree, type_apart}
+use Rattle.bt_top.specs.Jobs.{IsBigJob}
+
+-- the job of the built-in script
+pub of_numbers : (x n : ℕ) (job : Job) → IsBigJob x n job → IsAskedFor job
+of_numbers x n job of = record { text = SCRIPT; valid = of.valid; asks = of.asks }
 
 has_tree : (tree : Tree) → IsTree tree → HasTree SCRIPT tree
 has_tree tree has = record { tokens = has.tokens; are = has.are; is = has.is }

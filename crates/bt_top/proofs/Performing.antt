@@ -3,13 +3,14 @@ use Rattle.std.proofs.Common.{◌≡◌, ◌≢◌, ℕ, ◌<◌, ◌^◌, List,
 use Rattle.std.specs.Prelude.{◌⊎◌, Bool, true, false, Option, Some, None, Result, Ok, Err, IfOk, IfSome, OnOk}
 use Rattle.std.specs.List.{AllByRecursion}
 use Rattle.account_check.specs.Answers.{IsAnswerTo}
-use Rattle.account_check.specs.declared.error.AccountError.{AccountError}
-use Rattle.account_check.specs.declared.error.AccountError.TheVariants as wrong
+use Rattle.account_format.specs.declared.error.AccountError.{AccountError}
+use Rattle.account_format.specs.declared.error.AccountError.TheVariants as wrong
 use Rattle.account_format.specs.Accounts.{account_bytes}
 use Rattle.account_format.specs.Entries.{FitsStep}
 use Rattle.bt_core.specs.declared.memory.Memory.{Memory as NoMemory}
 use Rattle.bt_core.specs.declared.step.Step.{Step}
-use Rattle.bpf_codegen.specs.declared.generate.Program.{Program}
+use Rattle.bt_core.specs.Want.{out_of_memory}
+use Rattle.bpf_encode.specs.declared.program.Program.{Program}
 use Rattle.bt_words.specs.declared.order.Order.{Order}
 use Rattle.bt_words.specs.declared.order.Order.TheVariants.{Run, Check, Code, Vet, Account, Verify, Gen, Big}
 use Rattle.rec_format.specs.declared.recording.Recording.{Recording as Recorded}
@@ -18,14 +19,26 @@ use Rattle.run_base.specs.declared.job.Job.{Job}
 use Rattle.run_base.specs.declared.job.Work.{Work}
 use Rattle.run_output.specs.declared.form.Form.{Form}
 use Rattle.run_output.specs.declared.form.Form.TheVariants.{Text}
+use Rattle.bt_ast.specs.declared.attached.BodyId.{BodyId}
+use Rattle.tracefs_format.specs.declared.format.Format.{Format}
+use Rattle.bt_judge.specs.declared.refusal.Refusal.{Refusal}
+use Rattle.bt_judge.specs.declared.refusal.Refusal.TheVariants.{Memory}
+use Rattle.bt_judge.specs.declared.refusal.CodeRefusal.{CodeRefusal}
+use Rattle.bt_judge.specs.declared.refusal.Denial.{Denial}
+use Rattle.bt_judge.specs.declared.refusal.Denial.TheVariants as denial
+use Rattle.bt_judge.specs.declared.vetting.Verdict.{Verdict}
+use Rattle.bt_judge.specs.declared.vetting.Verdict.TheVariants.{Accepted, Refused}
+use Rattle.bt_judge.specs.Doing.{ComesOfFiles}
+use Rattle.bt_judge.specs.FailedNames.{FailsNamed}
+use Rattle.bt_judge.specs.Lines.{SinkUse}
+use Rattle.bt_judge.specs.Orders.{OperandFile, files_of, names_of}
+use Rattle.bt_judge.specs.Reads.{ShelfUse, AsksExactly, AsksFirst, ComesIfDue, OnTold}
+use Rattle.bt_judge.specs.Vetting.{IsVerdict}
 use Rattle.bt_top.specs.declared.outcome.Outcome.{Outcome}
-use Rattle.bt_top.specs.declared.refusal.Refusal.{Refusal}
-use Rattle.bt_top.specs.declared.refusal.Refusal.TheVariants.{Memory}
-use Rattle.bt_top.specs.Doing.{ComesOfFiles}
 use Rattle.bt_top.specs.Jobs.{IsWorkOf}
-use Rattle.bt_top.specs.Orders.{OperandFile, files_of, names_of}
-use Rattle.bt_top.specs.Outcomes.{IsOutcomeOfAccount, IsOutcomeOfRun, IsOutcomeOfVerify, gen_outcome, plain_outcome, run_outcome, verify_outcome}
-use Rattle.bt_top.specs.Serve.{ShelfUse, AsksExactly, AsksFirst, ComesIfDue, EndsAsDue, IsComplete, IsEndStatus, OnTold}
+use Rattle.bt_top.specs.Outcomes.{IsOutcomeOfAccount, IsOutcomeOfRun, IsOutcomeOfVerify, gen_outcome, plain_outcome, run_outcome, verify_outcome, IsOutcomeOfVet}
+use Rattle.bt_top.specs.Serve.{EndsAsDue, IsComplete, IsEndStatus}
+use Rattle.bt_top.specs.Writing.{Wrote}
 
 -- ---- outcomes
 
@@ -38,6 +51,42 @@ ran_with form serial job work rest line done is = record { work = work; done = d
 pub made_with : (says : Recorded) (programs : List Program) (rest : List ℕ) → programs ≡ [] → rest ≡ recording_bytes says
     → ◌≡◌ {A = Outcome} (record { work = None; programs = programs; refused = None; prints = true; rest = rest }) (gen_outcome says)
 made_with says programs rest none spelled = λ i. record { work = None; programs = none i; refused = None; prints = true; rest = spelled i }
+
+-- ---- of a check of programs
+
+-- what is said of a job's programs is what it comes to
+abbrev pub said_of : Job → Option Denial → List ℕ → Outcome
+said_of job refused rest = record { work = None; programs = job.programs; refused = refused; prints = true; rest = rest }
+
+said_again : (job : Job) (formats : List Format) (ids : List BodyId) (programs : List Program) (verdict : Verdict) → formats ≡ job.recording.formats
+    → ids ≡ job.attached.bodies → programs ≡ job.programs → IsVerdict formats ids job.typed programs verdict
+    → IsVerdict job.recording.formats job.attached.bodies job.typed job.programs verdict
+said_again job formats ids programs verdict a b c is =
+    subst (λ (l : List Program). IsVerdict job.recording.formats job.attached.bodies job.typed l verdict) c
+    (subst (λ (l : List BodyId). IsVerdict job.recording.formats l job.typed programs verdict) b
+    (subst (λ (l : List Format). IsVerdict l ids job.typed programs verdict) a is))
+
+pub accepted_all : (job : Job) (formats : List Format) (ids : List BodyId) (programs : List Program) (lines : List ℕ) → formats ≡ job.recording.formats
+    → ids ≡ job.attached.bodies → programs ≡ job.programs → IsVerdict formats ids job.typed programs (Accepted lines)
+    → IsOutcomeOfVet job (said_of job None lines)
+accepted_all job formats ids programs lines a b c is =
+    let said = said_again job formats ids programs (Accepted lines) a b c is in
+    inl (said.0, ap (λ (l : List ℕ). said_of job None l) said.1)
+
+pub refused_one : (job : Job) (formats : List Format) (ids : List BodyId) (programs : List Program) (why : CodeRefusal) (rest : List ℕ)
+    → formats ≡ job.recording.formats → ids ≡ job.attached.bodies → programs ≡ job.programs → IsVerdict formats ids job.typed programs (Refused why)
+    → rest ≡ [] → IsOutcomeOfVet job (said_of job (Some (denial.Code why)) rest)
+refused_one job formats ids programs why rest a b c is none =
+    inr (why, said_again job formats ids programs (Refused why) a b c is, ap (λ (l : List ℕ). said_of job (Some (denial.Code why)) l) none)
+
+-- ---- how it was written
+
+-- that a write failed is no fault of a read
+pub written_failed : (files : List OperandFile) (failed after : List (List ℕ)) (out : SinkUse) (found : Option Denial) (refusal : Option Refusal) (bytes : List ℕ)
+    → Wrote out found refusal bytes → after ≡ failed → FailsNamed files refusal failed after
+written_failed files failed after out None refusal bytes (inl e) same = subst (λ (r : Option Refusal). FailsNamed files r failed after) (sym e.0) same
+written_failed files failed after out None refusal bytes (inr e) same = subst (λ (r : Option Refusal). FailsNamed files r failed after) (sym e.0) same
+written_failed files failed after out (Some why) refusal bytes e same = subst (λ (r : Option Refusal). FailsNamed files r failed after) (sym e.0) same
 
 -- ---- of all files alike
 
@@ -156,7 +205,7 @@ accounted_for serial job work text rest done same spelled fits few short = recor
 err_is : (one other : AccountError) → ◌≡◌ {A = Result (List Step) AccountError} (Err one) (Err other) → one ≡ other
 err_is one other e = cc
 
-pub ok_known : (steps : List Step) → ◌≡◌ {A = Result (List Step) AccountError} (Ok steps) (Err wrong.Memory) → ⊥
+pub ok_known : (steps : List Step) → ◌≡◌ {A = Result (List Step) AccountError} (Ok steps) (Err (wrong.Memory out_of_memory)) → ⊥
 ok_known steps e = cc
 
 -- of what has no programs, with a line
@@ -170,22 +219,22 @@ module _ (job : Job) (account : List ℕ) where
   Answers answer = IsAnswerTo job.typed job.attached job.recording account answer
 
   abbrev pub OnlyThis : Result (List Step) AccountError → Type 0
-  OnlyThis answer = (other : Result (List Step) AccountError) → Answers other → other ≢ Err wrong.Memory → (answer ≡ other) ⊎ (answer ≡ Err wrong.Memory)
+  OnlyThis answer = (other : Result (List Step) AccountError) → Answers other → other ≢ Err (wrong.Memory out_of_memory) → (answer ≡ other) ⊎ (answer ≡ Err (wrong.Memory out_of_memory))
 
-  only_one : (answer : Result (List Step) AccountError) → answer ≢ Err wrong.Memory → OnlyThis answer → (other : Result (List Step) AccountError)
-      → other ≢ Err wrong.Memory → Answers other → answer ≡ other
+  only_one : (answer : Result (List Step) AccountError) → answer ≢ Err (wrong.Memory out_of_memory) → OnlyThis answer → (other : Result (List Step) AccountError)
+      → other ≢ Err (wrong.Memory out_of_memory) → Answers other → answer ≡ other
   only_one answer known only other not_memory is = by (only other is not_memory)
     where
-      by : (answer ≡ other) ⊎ (answer ≡ Err wrong.Memory) → answer ≡ other
+      by : (answer ≡ other) ⊎ (answer ≡ Err (wrong.Memory out_of_memory)) → answer ≡ other
       by (inl same) = same
       by (inr memory) = absurd (known memory)
 
-  pub verified_by : (answer : Result (List Step) AccountError) (outcome : Outcome) → answer ≢ Err wrong.Memory → Answers answer → OnlyThis answer
+  pub verified_by : (answer : Result (List Step) AccountError) (outcome : Outcome) → answer ≢ Err (wrong.Memory out_of_memory) → Answers answer → OnlyThis answer
       → outcome ≡ verify_outcome answer → IsOutcomeOfVerify job account outcome
   verified_by answer outcome known holds only is =
       record { answer = answer; known = known; holds = holds; only = only_one answer known only; is = is }
 
   pub denied_verified : (error : AccountError) (found : Result Outcome NoMemory) → Answers (Err error) → OnlyThis (Err error)
-      → OnOk found (error ≢ wrong.Memory) → IfOk found (λ outcome. outcome ≡ verify_outcome (Err error)) → IfOk found (IsOutcomeOfVerify job account)
-  denied_verified error (Ok outcome) holds only known is = verified_by (Err error) outcome (λ e. known (err_is error wrong.Memory e)) holds only is
+      → OnOk found (error ≢ wrong.Memory out_of_memory) → IfOk found (λ outcome. outcome ≡ verify_outcome (Err error)) → IfOk found (IsOutcomeOfVerify job account)
+  denied_verified error (Ok outcome) holds only known is = verified_by (Err error) outcome (λ e. known (err_is error (wrong.Memory out_of_memory) e)) holds only is
   denied_verified error (Err memory) holds only known is = tt

@@ -2,32 +2,34 @@
 use Rattle.std.proofs.Common.{◌≡◌, ◌≢◌, ℕ, ◌⊎◌, List, [], ◌∷◌, length, refl, sym, ap, subst, arith, inl, inr, ◌∙◌}
 use Rattle.std.specs.Prelude.{◌↔◌, Option, Some, None, Result, Ok, Err}
 use Rattle.account_check.specs.Answers.{IsAnswerTo}
-use Rattle.account_check.specs.declared.error.AccountError.{AccountError}
-use Rattle.account_check.specs.declared.error.AccountError.TheVariants as wrong
+use Rattle.account_format.specs.declared.error.AccountError.{AccountError}
+use Rattle.account_format.specs.declared.error.AccountError.TheVariants as wrong
 use Rattle.bt_core.specs.declared.step.Step.{Step}
+use Rattle.bt_core.specs.Want.{out_of_memory}
 use Rattle.bt_words.specs.declared.order.Order.{Order}
 use Rattle.bt_words.specs.declared.order.Order.TheVariants.{Run, Check, Code, Vet, Account, Verify, Gen, Big}
 use Rattle.run_base.specs.declared.job.Job.{Job}
+use Rattle.bt_judge.specs.declared.refusal.Denial.{Denial}
+use Rattle.bt_judge.specs.declared.refusal.Denial.TheVariants as denial
+use Rattle.bt_judge.specs.declared.refusal.Operand.{Operand}
+use Rattle.bt_judge.specs.declared.refusal.Operand.TheVariants as operand
+use Rattle.bt_judge.specs.declared.refusal.RecordingRefusal.TheVariants as recording
+use Rattle.bt_judge.specs.declared.refusal.ScriptRefusal.TheVariants as script
+use Rattle.bt_judge.specs.declared.refusal.Refusal.{Refusal}
+use Rattle.bt_judge.specs.declared.refusal.Refusal.TheVariants.{Usage, Script, Recording, ReadFault, WriteFault, Memory, LongAccount, Denied}
+use Rattle.bt_judge.specs.Due.{IsDue, IsFinding, IsTooLong}
+use Rattle.bt_judge.specs.Jobs.{IsJobFor, meaning_in, account_in}
+use Rattle.bt_judge.specs.Lines.{SinkUse}
+use Rattle.bt_judge.specs.Orders.{OperandFile, files_of, on_account, on_script}
+use Rattle.bt_judge.specs.Reads.{ShelfUse, ShelfFailed, AreContentsOf, MayCome}
+use Rattle.bt_judge.specs.Refusals.{status_of, too_long}
+use Rattle.bt_judge.proofs.OneMeaning.{means_files}
 use Rattle.bt_top.specs.declared.outcome.Outcome.{Outcome}
-use Rattle.bt_top.specs.declared.refusal.Denial.{Denial}
-use Rattle.bt_top.specs.declared.refusal.Denial.TheVariants as denial
-use Rattle.bt_top.specs.declared.refusal.Operand.{Operand}
-use Rattle.bt_top.specs.declared.refusal.Operand.TheVariants as operand
-use Rattle.bt_top.specs.declared.refusal.RecordingRefusal.TheVariants as recording
-use Rattle.bt_top.specs.declared.refusal.ScriptRefusal.TheVariants as script
-use Rattle.bt_top.specs.declared.refusal.Refusal.{Refusal}
-use Rattle.bt_top.specs.declared.refusal.Refusal.TheVariants.{Usage, Script, Recording, ReadFault, WriteFault, Memory, LongAccount, Denied}
-use Rattle.bt_top.specs.Doing.{Wrote, WroteBytes}
-use Rattle.bt_top.specs.Due.{IsDue, IsFinding, IsTooLong}
-use Rattle.bt_top.specs.Jobs.{IsJobFor, meaning_in}
-use Rattle.bt_top.specs.Lines.{SinkUse}
-use Rattle.bt_top.specs.Orders.{OperandFile, files_of, on_account, on_script}
-use Rattle.bt_top.specs.Outcomes.{ComesTo, IsOutcomeOfVerify, account_in, bytes_written, verify_outcome}
-use Rattle.bt_top.specs.Refusals.{status_of, too_long}
-use Rattle.bt_top.specs.Serve.{ShelfUse, ShelfFailed, AreContentsOf, MayCome, MayDeny}
+use Rattle.bt_top.specs.Writing.{Wrote, WroteBytes}
+use Rattle.bt_top.specs.Outcomes.{ComesTo, IsOutcomeOfVerify, bytes_written, verify_outcome}
+use Rattle.bt_top.specs.Serve.{MayDeny}
 use Rattle.bt_top.specs.Verified.{IsVerified, IsVerifiedUnlessRefused, IsWrong, IsWrongBy, Verified}
 use Rattle.bt_top.proofs.Answering.{DeniedBy, denial_not_due, denied_by, refused_report, report_of, same_why, some_why}
-use Rattle.bt_top.proofs.Headlines.{means_files}
 
 -- ---- of `verify`
 
@@ -37,11 +39,11 @@ ok_err steps error e = cc
 err_is : (one other : AccountError) → ◌≡◌ {A = Result (List Step) AccountError} (Err one) (Err other) → one ≡ other
 err_is one other e = cc
 
-known_err : (error : AccountError) → (◌≡◌ {A = Result (List Step) AccountError} (Err error) (Err wrong.Memory) → ⊥) → error ≢ wrong.Memory
+known_err : (error : AccountError) → (◌≡◌ {A = Result (List Step) AccountError} (Err error) (Err (wrong.Memory out_of_memory)) → ⊥) → error ≢ wrong.Memory out_of_memory
 known_err error known e = known (ap (λ (x : AccountError). Err x) e)
 
-known_again : (error : AccountError) → error ≢ wrong.Memory → ◌≡◌ {A = Result (List Step) AccountError} (Err error) (Err wrong.Memory) → ⊥
-known_again error known e = known (err_is error wrong.Memory e)
+known_again : (error : AccountError) → error ≢ wrong.Memory out_of_memory → ◌≡◌ {A = Result (List Step) AccountError} (Err error) (Err (wrong.Memory out_of_memory)) → ⊥
+known_again error known e = known (err_is error (wrong.Memory out_of_memory) e)
 
 told_is : (one other : AccountError) → Some (Denied (denial.Account one)) ≡ Some (Denied (denial.Account other)) → one ≡ other
 told_is one other e = cc
@@ -55,7 +57,7 @@ fault_told error e = cc
 -- this answer is the one that there is
 abbrev IsOnly : Job → List ℕ → Result (List Step) AccountError → Type 0
 IsOnly job bytes answer =
-    (other : Result (List Step) AccountError) → other ≢ Err wrong.Memory → IsAnswerTo job.typed job.attached job.recording bytes other → answer ≡ other
+    (other : Result (List Step) AccountError) → other ≢ Err (wrong.Memory out_of_memory) → IsAnswerTo job.typed job.attached job.recording bytes other → answer ≡ other
 
 module _ (held : List ℕ → Option (List ℕ)) (script recording account : List ℕ) (out : SinkUse) (contents : List (List ℕ))
     (read : AreContentsOf held (on_account script recording account) contents) (job : Job)
@@ -100,7 +102,7 @@ module _ (held : List ℕ → Option (List ℕ)) (script recording account : Lis
         })
 
   -- something is wrong with it
-  module _ (error : AccountError) (known : ◌≡◌ {A = Result (List Step) AccountError} (Err error) (Err wrong.Memory) → ⊥) (holds : Answers (Err error))
+  module _ (error : AccountError) (known : ◌≡◌ {A = Result (List Step) AccountError} (Err error) (Err (wrong.Memory out_of_memory)) → ⊥) (holds : Answers (Err error))
       (only : IsOnly job bytes (Err error)) where
     is_wrong : IsWrongBy (meaning_in job) bytes error
     is_wrong = record { known = known_err error known; is = holds }
@@ -123,7 +125,7 @@ module _ (held : List ℕ → Option (List ℕ)) (script recording account : Lis
       line = λ zero. absurd (omega (arith, zero));
     }
 
-  answer_says : (answer : Result (List Step) AccountError) (refusal : Option Refusal) → answer ≢ Err wrong.Memory → Answers answer
+  answer_says : (answer : Result (List Step) AccountError) (refusal : Option Refusal) → answer ≢ Err (wrong.Memory out_of_memory) → Answers answer
       → IsOnly job bytes answer → Wrote out (verify_outcome answer).refused refusal (bytes_written (verify_outcome answer))
       → IsVerifiedUnlessRefused refusal held files out (report_of refusal (verify_outcome answer))
   answer_says (Ok steps) refusal known holds only wrote = accepted steps holds only refusal wrote

@@ -1,26 +1,27 @@
 -- What `vet` says of programs, from what its order comes to and from how that is written.
 use Rattle.std.proofs.Common.{◌≡◌, ◌≢◌, ℕ, ◌⊎◌, List, refl, sym, subst, arith, inl, inr}
 use Rattle.std.specs.Prelude.{Option, Some, None}
-use Rattle.bpf_codegen.specs.declared.generate.Program.{Program}
+use Rattle.bpf_encode.specs.declared.program.Program.{Program}
 use Rattle.bt_words.specs.declared.order.Order.{Order}
 use Rattle.bt_words.specs.declared.order.Order.TheVariants.{Run, Check, Code, Vet, Account, Verify, Gen, Big}
 use Rattle.run_base.specs.declared.job.Job.{Job}
 use Rattle.typed_tree.specs.declared.script.Typed.{Typed}
+use Rattle.bt_judge.specs.declared.refusal.CodeRefusal.{CodeRefusal}
+use Rattle.bt_judge.specs.declared.refusal.Denial.{Denial}
+use Rattle.bt_judge.specs.declared.refusal.Denial.TheVariants as denial
+use Rattle.bt_judge.specs.declared.refusal.Refusal.{Refusal}
+use Rattle.bt_judge.specs.declared.refusal.Refusal.TheVariants.{Usage, Script, Recording, ReadFault, WriteFault, Memory, LongAccount, Denied}
+use Rattle.bt_judge.specs.Jobs.{IsJobFor}
+use Rattle.bt_judge.specs.Lines.{SinkUse}
+use Rattle.bt_judge.specs.Orders.{OperandFile, files_of, on_script}
+use Rattle.bt_judge.specs.Reads.{ShelfUse, ShelfFailed, AreContentsOf, MayCome}
+use Rattle.bt_judge.specs.Refusals.{status_of}
+use Rattle.bt_judge.specs.Vetting.{AllPass, IsFirstRefused}
 use Rattle.bt_top.specs.declared.outcome.Outcome.{Outcome}
-use Rattle.bt_top.specs.declared.refusal.CodeRefusal.{CodeRefusal}
-use Rattle.bt_top.specs.declared.refusal.Denial.{Denial}
-use Rattle.bt_top.specs.declared.refusal.Denial.TheVariants as denial
-use Rattle.bt_top.specs.declared.refusal.Refusal.{Refusal}
-use Rattle.bt_top.specs.declared.refusal.Refusal.TheVariants.{Usage, Script, Recording, ReadFault, WriteFault, Memory, LongAccount, Denied}
-use Rattle.bt_top.specs.Doing.{Wrote, WroteBytes}
-use Rattle.bt_top.specs.Jobs.{IsJobFor}
-use Rattle.bt_top.specs.Lines.{SinkUse}
-use Rattle.bt_top.specs.Orders.{OperandFile, files_of, on_script}
+use Rattle.bt_top.specs.Writing.{Wrote, WroteBytes}
 use Rattle.bt_top.specs.Outcomes.{ComesTo, IsOutcomeOfVet, accepted_outcome, bytes_written, refused_outcome}
-use Rattle.bt_top.specs.Refusals.{status_of}
-use Rattle.bt_top.specs.Serve.{ShelfUse, ShelfFailed, AreContentsOf, MayCome, MayDeny}
+use Rattle.bt_top.specs.Serve.{MayDeny}
 use Rattle.bt_top.specs.Vetted.{HasRefused, IsVetted, IsVettedUnlessRefused, Vetted}
-use Rattle.bt_top.specs.Vetting.{AllPass, IsFirstRefused}
 use Rattle.bt_top.proofs.Answering.{DeniedBy, denial_not_due, denied_by, refused_report, report_of, same_why, some_why}
 
 -- where all programs are accepted none is refused

@@ -3,7 +3,7 @@ use Rattle.std.specs.Prelude.{◌≡◌, ℕ, Bool, true, List, ◌++◌, length
 use Rattle.std.specs.Io.KnownBytes.{Appends}
 use Rattle.account_check.specs.Accounts.{IsTrueAccount}
 use Rattle.account_format.specs.Accounts.{account_bytes}
-use Rattle.bpf_codegen.specs.declared.generate.Program.{Program}
+use Rattle.bpf_encode.specs.declared.program.Program.{Program}
 use Rattle.bpf_insn.specs.declared.insn.Insn.{Insn}
 use Rattle.bt_core.specs.declared.step.ObjectId.{ObjectId}
 use Rattle.bt_core.specs.declared.step.Step.{Step}
@@ -23,14 +23,15 @@ use Rattle.run_laws.specs.Reads.{AddsAreOwn, ReadsSeeBeginnings}
 use Rattle.run_output.specs.declared.form.Form.{Form}
 use Rattle.run_output.specs.declared.form.Form.TheVariants.{Text}
 use Rattle.run_output.specs.Outputs.{output_of}
-use Rattle.script_programs.specs.Programs.{AreCodesOf, KeepScript}
+use Rattle.program_codes.specs.Programs.{AreCodesOf, KeepScript}
 use Rattle.total_laws.specs.Ends.{EndsWithTotals, HaveFewKeys}
+use Rattle.bt_judge.specs.Lines.{SinkUse}
+use Rattle.bt_judge.specs.Meanings.{Meaning, IsMeaningFor, replay_by}
+use Rattle.bt_judge.specs.Orders.{OperandFile, files_of}
+use Rattle.bt_judge.specs.Reads.{ShelfUse, AreContentsOf}
 use Rattle.bt_top.specs.declared.report.Report.{Report}
-use Rattle.bt_top.specs.Lines.{SinkUse}
-use Rattle.bt_top.specs.Meanings.{Meaning, IsBigMeaning, IsMeaningFor, replay_by}
-use Rattle.bt_top.specs.Orders.{OperandFile, files_of, form_of}
-use Rattle.bt_top.specs.Outcomes.{stats_line, summary_line}
-use Rattle.bt_top.specs.Serve.{ShelfUse, AreContentsOf}
+use Rattle.bt_top.specs.Jobs.{IsBigMeaning}
+use Rattle.bt_top.specs.Outcomes.{form_of, stats_line, summary_line}
 
 -- the script only adds and prints, and its totals have at most 4,096 keys in each map
 pub record OnlyAdds (m : Meaning) (steps : List Step) : Type 0 where

@@ -1,14 +1,15 @@
 -- What each order comes to where its files are not refused: the work that was done, the programs that were run, listed or checked, and the bytes
 -- that are written.
-use Rattle.std.specs.Prelude.{◌≡◌, ◌≢◌, ℕ, ◌<◌, ◌^◌, ◌⊎◌, Bool, true, false, ◌++◌, List, [], ◌∷◌, codes, length, Option, Some, None, Result, Ok, Err, if◌then◌else◌}
+use Rattle.std.specs.Prelude.{◌≡◌, ◌≢◌, ℕ, ◌<◌, ◌^◌, ◌⊎◌, Bool, true, false, ◌++◌, List, [], codes, length, Option, Some, None, Result, Ok, Err, if◌then◌else◌}
 use Rattle.std.specs.Fmt.{decimal}
 use Rattle.std.specs.List.{AllByRecursion}
 use Rattle.account_check.specs.Answers.{IsAnswerTo}
-use Rattle.account_check.specs.declared.error.AccountError.{AccountError}
-use Rattle.account_check.specs.declared.error.AccountError.TheVariants as wrong
+use Rattle.account_format.specs.declared.error.AccountError.{AccountError}
+use Rattle.account_format.specs.declared.error.AccountError.TheVariants as wrong
 use Rattle.account_format.specs.Accounts.{account_bytes}
 use Rattle.account_format.specs.Entries.{FitsStep}
 use Rattle.bt_core.specs.declared.step.Step.{Step}
+use Rattle.bt_core.specs.Want.{out_of_memory}
 use Rattle.bt_words.specs.declared.order.Order.{Order}
 use Rattle.bt_words.specs.declared.order.Order.TheVariants.{Run, Check, Code, Vet, Account, Verify, Gen, Big}
 use Rattle.rec_format.specs.declared.recording.Recording.{Recording as Recorded}
@@ -19,13 +20,15 @@ use Rattle.run_base.specs.declared.job.Job.{Job}
 use Rattle.run_base.specs.declared.job.Work.{Work}
 use Rattle.run_output.specs.declared.form.Form.{Form}
 use Rattle.run_output.specs.declared.form.Form.TheVariants.{Text, Json}
+use Rattle.bt_judge.specs.declared.refusal.CodeRefusal.{CodeRefusal}
+use Rattle.bt_judge.specs.declared.refusal.Denial.TheVariants as denial
+use Rattle.bt_judge.specs.Jobs.{IsJobFor, account_in}
+use Rattle.bt_judge.specs.Listings.{script_listing}
+use Rattle.bt_judge.specs.Orders.{on_account, on_script}
+use Rattle.bt_judge.specs.Vetting.{AllPass, IsFirstRefused, vet_listing}
 use Rattle.bt_top.specs.declared.outcome.Outcome.{Outcome}
-use Rattle.bt_top.specs.declared.refusal.CodeRefusal.{CodeRefusal}
-use Rattle.bt_top.specs.declared.refusal.Denial.TheVariants as denial
-use Rattle.bt_top.specs.Jobs.{IsBigJob, IsJobFor, IsWorkOf}
-use Rattle.bt_top.specs.Listings.{script_listing}
-use Rattle.bt_top.specs.Orders.{OperandFile, form_of, on_account, on_script}
-use Rattle.bt_top.specs.Vetting.{AllPass, IsFirstRefused, vet_listing}
+use Rattle.bt_top.specs.Jobs.{IsBigJob, IsWorkOf}
+use Rattle.bt_top.specs.Outcomes.{form_of}
 
 -- ---- outcomes
 
@@ -86,6 +89,11 @@ abbrev pub verify_outcome : Result (List Step) AccountError → Outcome
 verify_outcome (Ok steps) = plain_outcome (verified_line (length steps))
 verify_outcome (Err error) = record { work = None; programs = []; refused = Some (denial.Account error); prints = true; rest = [] }
 
+-- the form that is asked for: JSON lines with `--json`, and else text
+abbrev pub form_of : Bool → Form
+form_of true = Json
+form_of false = Text
+
 -- the line of instructions: of a text, or a JSON line
 abbrev pub instructions_line : Form → ℕ → List ℕ
 instructions_line Text instructions = codes "instructions: " ++ decimal instructions ++ codes "\n"
@@ -126,15 +134,11 @@ pub record IsOutcomeOfAccount (serial : Bool) (job : Job) (outcome : Outcome) : 
 -- a check of an account of a run of a job: the one answer that there is
 pub record IsOutcomeOfVerify (job : Job) (account : List ℕ) (outcome : Outcome) : Type 0 where
   pub answer : Result (List Step) AccountError
-  pub known : answer ≢ Err wrong.Memory
+  pub known : answer ≢ Err (wrong.Memory out_of_memory)
   pub holds : IsAnswerTo job.typed job.attached job.recording account answer
-  pub only : (other : Result (List Step) AccountError) → other ≢ Err wrong.Memory → IsAnswerTo job.typed job.attached job.recording account other → answer ≡ other
+  pub only : (other : Result (List Step) AccountError) → other ≢ Err (wrong.Memory out_of_memory)
+      → IsAnswerTo job.typed job.attached job.recording account other → answer ≡ other
   pub is : outcome ≡ verify_outcome answer
-
--- the bytes of the account, which is the third of the files
-abbrev pub account_in : List (List ℕ) → List ℕ
-account_in (text ∷ bytes ∷ account ∷ more) = account
-account_in contents = []
 
 -- what an order comes to, over files with these contents: `run` to a run of their job in the form that is asked for, with the line of
 -- instructions behind its text where it is asked for; `check` to `ok`; `code` to the listing of their job; `vet` to the check of its programs;

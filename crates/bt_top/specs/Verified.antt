@@ -3,20 +3,22 @@ use Rattle.std.specs.Prelude.{◌≡◌, ◌≢◌, ◌↔◌, ℕ, List, length
 use Rattle.std.specs.Io.KnownBytes.{Appends}
 use Rattle.account_check.specs.Accounts.{IsTrueAccount}
 use Rattle.account_check.specs.Answers.{IsAnswerTo}
-use Rattle.account_check.specs.declared.error.AccountError.{AccountError}
-use Rattle.account_check.specs.declared.error.AccountError.TheVariants as wrong
+use Rattle.account_format.specs.declared.error.AccountError.{AccountError}
+use Rattle.account_format.specs.declared.error.AccountError.TheVariants as wrong
 use Rattle.bt_core.specs.declared.step.Step.{Step}
+use Rattle.bt_core.specs.Want.{out_of_memory}
 use Rattle.bt_words.specs.declared.order.Order.{Order}
 use Rattle.bt_words.specs.declared.order.Order.TheVariants.{Verify}
-use Rattle.bt_top.specs.declared.refusal.Denial.TheVariants as denial
-use Rattle.bt_top.specs.declared.refusal.Refusal.{Refusal}
-use Rattle.bt_top.specs.declared.refusal.Refusal.TheVariants.{WriteFault, LongAccount, Denied}
+use Rattle.bt_judge.specs.declared.refusal.Denial.TheVariants as denial
+use Rattle.bt_judge.specs.declared.refusal.Refusal.{Refusal}
+use Rattle.bt_judge.specs.declared.refusal.Refusal.TheVariants.{WriteFault, LongAccount, Denied}
+use Rattle.bt_judge.specs.Jobs.{account_in}
+use Rattle.bt_judge.specs.Lines.{SinkUse}
+use Rattle.bt_judge.specs.Meanings.{Meaning, IsMeaningFor}
+use Rattle.bt_judge.specs.Orders.{OperandFile, on_account}
+use Rattle.bt_judge.specs.Reads.{ShelfUse, AreContentsOf}
 use Rattle.bt_top.specs.declared.report.Report.{Report}
-use Rattle.bt_top.specs.Lines.{SinkUse}
-use Rattle.bt_top.specs.Meanings.{Meaning, IsMeaningFor}
-use Rattle.bt_top.specs.Orders.{OperandFile, on_account}
-use Rattle.bt_top.specs.Outcomes.{account_in, verified_line}
-use Rattle.bt_top.specs.Serve.{ShelfUse, AreContentsOf}
+use Rattle.bt_top.specs.Outcomes.{verified_line}
 
 -- these bytes are the account of these steps, which a run with this meaning can make, and of the text that they print
 abbrev pub TellsRun : Meaning → List ℕ → List Step → Type 0
@@ -24,7 +26,7 @@ TellsRun m bytes steps = IsTrueAccount m.typed m.attached m.recording bytes step
 
 -- this is wrong with them
 pub record IsWrongBy (m : Meaning) (bytes : List ℕ) (error : AccountError) : Type 0 where
-  pub known : error ≢ wrong.Memory
+  pub known : error ≢ wrong.Memory out_of_memory
   pub is : IsAnswerTo m.typed m.attached m.recording bytes (Err error)
 
 -- something is wrong with them

@@ -2,21 +2,21 @@
 use Rattle.std.specs.Prelude.{◌≡◌, ◌≢◌, ◌↔◌, ℕ, List, Option, Some, None}
 use Rattle.std.specs.Io.KnownBytes.{Appends}
 use Rattle.bpf_check.specs.declared.check.CodeFault.{CodeFault}
-use Rattle.bpf_codegen.specs.declared.generate.Program.{Program}
+use Rattle.bpf_encode.specs.declared.program.Program.{Program}
 use Rattle.bt_words.specs.declared.order.Order.{Order}
 use Rattle.bt_words.specs.declared.order.Order.TheVariants.{Vet}
 use Rattle.run_base.specs.declared.job.Job.{Job}
 use Rattle.typed_tree.specs.declared.script.Typed.{Typed}
-use Rattle.bt_top.specs.declared.refusal.CodeRefusal.{CodeRefusal}
-use Rattle.bt_top.specs.declared.refusal.Denial.TheVariants as denial
-use Rattle.bt_top.specs.declared.refusal.Refusal.{Refusal}
-use Rattle.bt_top.specs.declared.refusal.Refusal.TheVariants.{WriteFault, Denied}
+use Rattle.bt_judge.specs.declared.refusal.CodeRefusal.{CodeRefusal}
+use Rattle.bt_judge.specs.declared.refusal.Denial.TheVariants as denial
+use Rattle.bt_judge.specs.declared.refusal.Refusal.{Refusal}
+use Rattle.bt_judge.specs.declared.refusal.Refusal.TheVariants.{WriteFault, Denied}
+use Rattle.bt_judge.specs.Jobs.{IsJobFor}
+use Rattle.bt_judge.specs.Lines.{SinkUse}
+use Rattle.bt_judge.specs.Orders.{OperandFile, on_script}
+use Rattle.bt_judge.specs.Reads.{ShelfUse, AreContentsOf}
+use Rattle.bt_judge.specs.Vetting.{AllPass, IsFirstRefused, IsRefused, vet_listing}
 use Rattle.bt_top.specs.declared.report.Report.{Report}
-use Rattle.bt_top.specs.Jobs.{IsJobFor}
-use Rattle.bt_top.specs.Lines.{SinkUse}
-use Rattle.bt_top.specs.Orders.{OperandFile, on_script}
-use Rattle.bt_top.specs.Serve.{ShelfUse, AreContentsOf}
-use Rattle.bt_top.specs.Vetting.{AllPass, IsFirstRefused, IsRefused, vet_listing}
 
 -- the check refuses one of the programs
 abbrev pub HasRefused : Typed → List Program → Type 0

@@ -1,18 +1,19 @@
 // The orders on accounts.
 ghost use Rattle.std.specs.Prelude.{◌≡◌, ◌≢◌, Err, IfOk, OnOk};
+ghost use Rattle.bt_core.specs.Want.{out_of_memory};
 ghost use Rattle.bt_meaning.specs.Jobs.{IsJob};
-ghost use Rattle.script_programs.specs.Programs.{KeepScript};
-ghost use Rattle.account_check.specs.declared.error.AccountError.TheVariants as wrong;
+ghost use Rattle.program_codes.specs.Programs.{KeepScript};
+ghost use Rattle.account_format.specs.declared.error.AccountError.TheVariants as wrong;
 ghost use Rattle.bt_top.specs.Outcomes.{IsOutcomeOfAccount, IsOutcomeOfVerify, verified_line, verify_outcome};
 
 use crate::outcome::Outcome;
-use crate::refusal::Denial;
 use crate::work::run;
-use account_check::error::AccountError;
 use account_check::verify::verify;
+use account_format::error::AccountError;
 use account_format::writing::write_account;
 use bt_core::items::Items;
 use bt_core::memory::Memory;
+use bt_judge::refusal::Denial;
 use itoa::Buffer;
 use run_base::job::Job;
 use run_output::form::Form;
@@ -75,11 +76,11 @@ pub(crate) fn verify_outcome(alloc: Global, job: &Job, account: &[u8]) -> Result
 
 /// What a check of an account comes to that is not true, for this reason.
 fn denied_outcome(alloc: Global, error: AccountError) -> Result<Outcome, Memory>
-    ensures known { OnOk result (error ≢ wrong.Memory) }
+    ensures known { OnOk result (error ≢ wrong.Memory out_of_memory) }
     ensures outcome { IfOk result (λ outcome. outcome ≡ verify_outcome (Err error)) }
 {
     match error {
-        AccountError::Memory => Err(Memory),
+        AccountError::Memory(memory) => Err(memory),
         error => Ok(Outcome {
             work: None,
             programs: Items::new(alloc),

@@ -1,24 +1,24 @@
 // The top call.
 ghost use Rattle.std.specs.Prelude.{◌≡◌, ◌≢◌, ◌↔◌, None, Some, IfSome, IsSome};
 ghost use Rattle.bt_words.specs.Words.{HasBounds, order_of};
-ghost use Rattle.bt_top.specs.FailedNames.{FailsNamed};
+ghost use Rattle.bt_judge.specs.FailedNames.{FailsNamed};
+ghost use Rattle.bt_judge.specs.Lines.{SinkFailed, sink_use};
+ghost use Rattle.bt_judge.specs.Orders.{files_in, files_of, names_of};
+ghost use Rattle.bt_judge.specs.Reads.{AsksExactly, AsksFirst, OnTold, shelf_use};
+ghost use Rattle.bt_judge.specs.Refusals.{status_of, TellsRefusal};
 ghost use Rattle.bt_top.specs.Headline.{Headline};
-ghost use Rattle.bt_top.specs.Lines.{SinkFailed, sink_use};
 ghost use Rattle.bt_top.specs.Offered.{IsOffered};
-ghost use Rattle.bt_top.specs.Orders.{files_in, files_of, names_of};
-ghost use Rattle.bt_top.specs.Refusals.{status_of};
-ghost use Rattle.bt_top.specs.Serve.{AnswersOrder, AsksExactly, AsksFirst, EndsAsDue, HasWork, AnswersWords, IsComplete};
-ghost use Rattle.bt_top.specs.Serve.{OnTold, ReadFailed, TellsRefusal, shelf_use};
+ghost use Rattle.bt_top.specs.Serve.{AnswersOrder, EndsAsDue, HasWork, AnswersWords, IsComplete, ReadFailed};
 ghost use Rattle.bt_top.specs.Verified.{Verified};
 ghost use Rattle.bt_top.specs.Vetted.{Vetted};
 
 use crate::outcome::{Outcome, write_refusal};
-use crate::refusal::{Refusal, status_of};
 use crate::report::{Report, refused};
 use crate::tasks::outcome_of;
-use crate::tell::{tell_memory, tell_refusal, tell_usage};
 use bt_io::shelf::Shelf;
 use bt_io::sink::Sink;
+use bt_judge::refusal::{Refusal, status_of};
+use bt_judge::tell::{tell_memory, tell_refusal, tell_usage};
 use bt_words::order::{Order, WordsError};
 use bt_words::read::read_words;
 use std::alloc::Global;

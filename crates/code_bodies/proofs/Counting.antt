@@ -16,7 +16,7 @@ whole t old new end w = Whole-and_then t (λ end. Ended (count_of end)) old new 
 pub counted : (t : Interaction (Result EndedRun Trap)) (old new : List Step) (r : Result EndedRun Trap) → RunPerformed t old new r
     → Performed (and_then t (λ end. Ended (count_of end))) old new (told r)
 counted t old new (Ok ended) h = whole t old new (Ok ended) h
-counted t old new (Err trap.Memory) h = Part-and_then t (λ end. Ended (count_of end)) old new h
+counted t old new (Err (trap.Memory want)) h = Part-and_then t (λ end. Ended (count_of end)) old new h
 counted t old new (Err (trap.BadJump n)) h = whole t old new (Err (trap.BadJump n)) h
 counted t old new (Err (trap.BadAddress n)) h = whole t old new (Err (trap.BadAddress n)) h
 counted t old new (Err (trap.UnsetRegister n)) h = whole t old new (Err (trap.UnsetRegister n)) h

@@ -14,5 +14,5 @@ with_maps maps s = record { actor = s.actor; actors = s.actors; ticks = s.ticks;
 -- the count of a run, but for want of memory
 abbrev pub told : Result EndedRun Trap → Result ℕ NoMemory
 told (Ok ended) = Ok ended.instructions
-told (Err trap.Memory) = Err (record {})
+told (Err (trap.Memory want)) = Err want
 told (Err other) = Ok 0

@@ -56,7 +56,7 @@ fn count_in(run: Result<Ended, Trap>) -> Result<u64, Memory>
 {
     match run {
         Ok(ended) => Ok(ended.instructions),
-        Err(Trap::Memory) => Err(Memory),
+        Err(Trap::Memory(want)) => Err(want),
         Err(_) => Ok(0),
     }
 }

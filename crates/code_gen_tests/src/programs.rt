@@ -1,7 +1,8 @@
 // Programs of worked bodies: how many slots they may need, and their fuel.
 use crate::frames::EIGHT;
 use body_fixtures::lowered::probe_of;
-use bpf_codegen::generate::{Program, generate_program};
+use bpf_codegen::generate::generate_program;
+use bpf_encode::program::Program;
 use bpf_frame::error::CodeError;
 use bt_core::memory::Memory;
 use std::alloc::Global;

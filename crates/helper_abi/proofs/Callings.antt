@@ -38,7 +38,7 @@ read-some {A} o go a old new r frame e h = subst (λ (x : Option A). Called (wit
 pub read-fault : {A : Type 0} (o : Option A) (go : A → Interaction Answer) (fault : PortFault) (steps : List Step) (frame : List ℕ) → IsReadFault o fault → Called (with_read o go) steps steps (Err fault) frame
 read-fault o go Address steps frame h = read-none o go steps frame h
 read-fault o go Helper steps frame h = absurd h
-read-fault o go Memory steps frame h = Performed-none _ _ _ refl
+read-fault o go (Memory m) steps frame h = Performed-none _ _ _ refl
 
 -- the same of a fault
 pub fault-some : {A : Type 0} (o : Option A) (go : A → Interaction Answer) (a : A) (old new : List Step) (fault : PortFault) → o ≡ Some a → FaultCalled (go a) old new fault → FaultCalled (in_range o go) old new fault
@@ -59,4 +59,4 @@ pub Called-after : {A : Type 0} (t : Interaction A) (k : A → Interaction Answe
 Called-after t k old mid new a (Ok n) frame p q = Whole-and_then t k old mid new a _ p q
 Called-after t k old mid new a (Err Address) frame p q = Whole-and_then t k old mid new a _ p q
 Called-after t k old mid new a (Err Helper) frame p q = Whole-and_then t k old mid new a _ p q
-Called-after t k old mid new a (Err Memory) frame p q = Part-after t k old mid new a p q
+Called-after t k old mid new a (Err (Memory m)) frame p q = Part-after t k old mid new a p q

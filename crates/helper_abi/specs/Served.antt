@@ -36,7 +36,7 @@ HasRoom setting m to = IsSomeAnd (slice_get setting.maps m.0) (λ decl. IsTrue (
 abbrev pub IsReadFault : {A : Type 0} → Option A → PortFault → Type 0
 IsReadFault r Address = r ≡ None
 IsReadFault r Helper = ⊥
-IsReadFault r Memory = Unit {0}
+IsReadFault r (Memory _) = Unit {0}
 
 -- what is read there
 abbrev pub Reads : {A : Type 0} → Option A → Result A PortFault → Type 0

@@ -1,6 +1,7 @@
 // The helpers: which arguments are in range, which bytes have to lie inside a region, and then the steps.
 ghost use Rattle.std.specs.Prelude.{◌≡◌, ◌≢◌, ◌<◌, ◌≤◌, ◌^◌, Err, List, None, false};
 ghost use Rattle.bt_core.specs.declared.step.Step.{Step};
+ghost use Rattle.bt_core.specs.Want.{out_of_memory};
 ghost use Rattle.std.specs.Option.{option_copied};
 ghost use Rattle.bpf_interp.specs.Running.{Called};
 ghost use Rattle.bpf_interp.specs.declared.ports.PortFault.TheVariants.{Helper as BadArgument, Memory as NoMemory};
@@ -314,7 +315,7 @@ pub fn printf<P: Port>(
     };
     let shapes = match argument_shapes(alloc, pieces.as_slice()) {
         Ok(shapes) => shapes,
-        Err(_) => return Err(PortFault::Memory),
+        Err(want) => return Err(PortFault::Memory(want)),
     };
     let values = match values_at(alloc, memory, shapes.as_slice(), address) {
         Ok(values) => values,
@@ -354,7 +355,7 @@ pub fn cut<P: Port>(
 /// A string of the payload is written at an address. No step is made.
 pub fn read_str(to: u64, place: u64, count: u64, memory: &mut Regions) -> Result<u64, PortFault>
     ensures called { (steps : List Step) → Called (read_str to place count memory.old) steps steps result memory.new.frame }
-    ensures not_memory { result ≢ Err NoMemory }
+    ensures not_memory { result ≢ Err (NoMemory out_of_memory) }
     ensures context { memory.new.context ≡ memory.old.context }
     ensures payload { memory.new.payload ≡ memory.old.payload }
 {

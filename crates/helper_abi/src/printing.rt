@@ -31,7 +31,7 @@ pub fn print_map<P: Port>(
 {
     match printing::print_map(alloc, kind, map, top, div, actors, port) {
         Ok(()) => Ok(0),
-        Err(_) => Err(PortFault::Memory),
+        Err(want) => Err(PortFault::Memory(want)),
     }
 }
 
@@ -52,6 +52,6 @@ pub fn sweep_all<P: Port>(
 {
     match ask_each(alloc, sweep, kind, map, actors, port) {
         Ok(_) => Ok(0),
-        Err(_) => Err(PortFault::Memory),
+        Err(want) => Err(PortFault::Memory(want)),
     }
 }

@@ -126,7 +126,7 @@ pub fn values_at(
     };
     match values_in(alloc, shapes, bytes) {
         Ok(values) => Ok(values),
-        Err(_) => Err(PortFault::Memory),
+        Err(want) => Err(PortFault::Memory(want)),
     }
 }
 

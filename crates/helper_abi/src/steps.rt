@@ -36,7 +36,7 @@ pub fn tell<P: Port>(
 {
     match access::tell(alloc, object, op, port) {
         Ok(()) => Ok(0),
-        Err(_) => Err(PortFault::Memory),
+        Err(want) => Err(PortFault::Memory(want)),
     }
 }
 
@@ -61,7 +61,7 @@ pub fn get_into<P: Port>(
             put(memory, to, &value);
             Ok(0)
         }
-        Err(_) => Err(PortFault::Memory),
+        Err(want) => Err(PortFault::Memory(want)),
     }
 }
 
@@ -89,6 +89,6 @@ pub fn sum_into<P: Port>(
             put(memory, to, &Value::Int(number));
             Ok(0)
         }
-        Err(_) => Err(PortFault::Memory),
+        Err(want) => Err(PortFault::Memory(want)),
     }
 }

@@ -1,5 +1,5 @@
 // The entries of a CPU, where they lie in the file.
-ghost use Rattle.std.specs.Prelude.{◌≡◌, ◌+◌, length, slice_get, drop, IfOk};
+ghost use Rattle.std.specs.Prelude.{◌≡◌, ◌+◌, ◌^◌, ◌≤◌, length, slice_get, drop, IfOk, OnErr};
 ghost use Rattle.std.specs.Arc.{arc_value};
 ghost use Rattle.std.specs.Option.{option_map};
 ghost use Rattle.rec_format.specs.Events.{event_of};
@@ -7,7 +7,7 @@ ghost use Rattle.rec_format.specs.Fronts.{event_at, event_part, entry_part, mark
 ghost use Rattle.rec_format.specs.InFile.{first_bytes, entry_place, entry_in, entries_in, entry_seen, event_seen, event_taken, mark_taken};
 
 use crate::part::{EntryBytes, EventBytes, event_at, mark_at};
-use bt_core::memory::Memory;
+use bt_core::memory::{Memory, fitting};
 use std::alloc::Global;
 use std::marker::Model;
 use std::sync::Arc;
@@ -123,14 +123,10 @@ pub(crate) fn place_of(
     entry: &EntryBytes<'_>,
     format: u32,
 ) -> Result<EntryPlace, Memory>
-    ensures { IfOk result (λ place. place ≡ entry_place (start + first_bytes marks) (entry_part entry.now) format) }
+    ensures place { IfOk result (λ place. place ≡ entry_place (start + first_bytes marks) (entry_part entry.now) format) }
+    ensures beyond { OnErr result (2 ^ 32 ≤ start + first_bytes marks) }
 {
-    let Some(from) = start.checked_add(usize::from(marks)) else {
-        return Err(Memory);
-    };
-    let Ok(at) = u32::try_from(from) else {
-        return Err(Memory);
-    };
+    let at = u32::try_from(fitting(start.checked_add(usize::from(marks)))?)?;
     match entry {
         EntryBytes::Event(_) => Ok(EntryPlace::Event { at, format }),
         _ => Ok(EntryPlace::Lost { at }),

@@ -36,9 +36,7 @@ pub fn entries_of(alloc: Global, events: &[Event]) -> Result<Entries, Memory>
     let mut bytes = Vec::new(alloc);
     let mut places = Vec::new(alloc);
     for event in events {
-        let Ok(at) = u32::try_from(bytes.len()) else {
-            return Err(Memory);
-        };
+        let at = u32::try_from(bytes.len())?;
         push_event(&mut bytes, &seen(event))?;
         places.push(EntryPlace::Event {
             at,

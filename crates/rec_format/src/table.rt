@@ -69,7 +69,7 @@ impl FormatTable {
         }
         let layout = match read_layout(alloc, part.text) {
             Ok(layout) => layout,
-            Err(FormatError::Memory) => return Err(RecordingError::Memory),
+            Err(FormatError::Memory(_)) => return Err(RecordingError::Memory),
             Err(fault) => return Err(RecordingError::Format(place, fault)),
         };
         let name = tracepoint_name(alloc, part.system, layout.name.as_slice())?;

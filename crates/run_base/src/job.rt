@@ -1,5 +1,5 @@
 // What is run, and what a run makes.
-use bpf_codegen::generate::Program;
+use bpf_encode::program::Program;
 use bt_ast::attached::Attached;
 use bt_core::items::Items;
 use rec_format::recording::Recording;

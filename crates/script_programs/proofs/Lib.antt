@@ -1,5 +1,4 @@
 mod Lowered
 pub mod Made
-pub mod ProgramCodes
 pub mod Sizing
 pub mod StillLowered

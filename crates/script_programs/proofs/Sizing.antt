@@ -3,6 +3,7 @@ use Rattle.std.proofs.Common.{◌≡◌, ℕ, zero, suc, ◌+◌, ◌≤◌, ◌
 use Rattle.std.specs.Prelude.{Option, Some, None, slice_get}
 use Rattle.std.specs.Option.{option_map}
 use Rattle.std.proofs.lemmas.Bool.Decides.{nat_tests}
+use Rattle.bt_core.specs.declared.limits.TheConstants.{FRAME_BYTES, CODE_SLOTS}
 use Rattle.bt_lower.specs.declared.need.Need.{Need}
 use Rattle.bt_lower.specs.Needs.{tree_need, IsTooMuch}
 use Rattle.typed_tree.specs.declared.body.TypedBody.{TypedBody}
@@ -55,6 +56,13 @@ only_here (Some g) later k p f e some = ap (λ (x : ℕ × SizeFault). x.0) (sam
 -- what 64 bits do not hold is too large
 not_small : (n : Need) → IsTooMuch n → too_large n.frame n.code ≡ None → ⊥
 not_small n much none = grind (arith, nat_tests)
+
+-- what is not too large has room
+pub frame_fits : (frame code : ℕ) → too_large frame code ≡ None → frame ≤ FRAME_BYTES
+frame_fits frame code none = grind (arith, nat_tests)
+
+pub code_fits : (frame code : ℕ) → too_large frame code ≡ None → code ≤ CODE_SLOTS
+code_fits frame code none = grind (arith, nat_tests)
 
 same_body : (bodies : List TypedBody) (k : ℕ) (body b : TypedBody) → k < length bodies → body ≡ get_or bodies k body → slice_get bodies k ≡ Some b → b ≡ body
 same_body [] k body b low at on = absurd (omega arith)

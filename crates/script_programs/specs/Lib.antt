@@ -1,4 +1,3 @@
 pub mod Probes
-pub mod Programs
 pub mod Sizes
 pub mod Making

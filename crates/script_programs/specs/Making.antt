@@ -1,11 +1,11 @@
 -- Programs of typed instructions. No public contract speaks of it.
 use Rattle.std.specs.Prelude.{List}
 use Rattle.std.specs.List.{AllZip}
-use Rattle.bpf_codegen.specs.declared.generate.Program.{Program}
+use Rattle.bpf_encode.specs.declared.program.Program.{Program}
 use Rattle.ir_code.specs.declared.probe.IrProbe.{IrProbe}
 use Rattle.body_code.specs.Blocks.{code_of}
 use Rattle.body_code.specs.Bodies.{KeepsBody}
-use Rattle.script_programs.specs.Programs.{IsProgram}
+use Rattle.program_codes.specs.Programs.{IsProgram}
 
 -- the program is the code of a body in typed instructions, which keeps it
 pub record IsMade (probe : IrProbe) (program : Program) : Type 0 where

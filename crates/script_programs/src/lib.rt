@@ -1,7 +1,6 @@
 //! The programs of a script: one for each body, which keeps it.
 #![tactic(auto)]
 
-pub mod codes;
 pub mod error;
 pub mod folding;
 pub mod laws;

@@ -1,7 +1,7 @@
 // Programs of whole scripts.
 ghost use Rattle.std.specs.Prelude.{◌≡◌, None, Some, Err, ℕ, IfOk};
 ghost use Rattle.script_programs.specs.Making.{IsMade};
-ghost use Rattle.script_programs.specs.Programs.{KeepScript};
+ghost use Rattle.program_codes.specs.Programs.{KeepScript};
 ghost use Rattle.script_programs.specs.Sizes.{first_size_fault, too_large, IsUntold};
 ghost use Rattle.script_programs.specs.declared.error.SizeFault.{SizeFault as Fault};
 
@@ -9,7 +9,9 @@ use crate::error::ProgramsError;
 use crate::folding::fold_all;
 use crate::laws::lowered_code_keeps_bodies;
 use crate::sizes::check_sizes;
-use bpf_codegen::generate::{Program, generate_program};
+use bpf_codegen::generate::generate_program;
+use bpf_encode::program::Program;
+use bpf_frame::error::CodeError;
 use bt_core::items::Items;
 use bt_core::memory::Memory;
 use bt_lower::lower::lower;
@@ -18,13 +20,19 @@ use std::alloc::Global;
 use typed_tree::script::Typed;
 
 /// The program of a body that is not too large.
+///
+/// # Errors
+///
+/// [`Memory`] where there is no room for it.
+#[tactic(auto, using(crate::proofs::Sizing::frame_fits, crate::proofs::Sizing::code_fits))]
 fn program_of(alloc: Global, probe: &IrProbe) -> Result<Program, Memory>
     requires fits { too_large probe.now.frame_need probe.now.code_need ≡ None }
     ensures made { IfOk result (IsMade probe.now) }
 {
     match generate_program(alloc, probe) {
         Ok(program) => Ok(program),
-        Err(_) => Err(Memory),
+        Err(CodeError::Memory(want)) => Err(want),
+        Err(_) => unreachable!(),
     }
 }
 

@@ -1,6 +1,6 @@
 -- From workers that ran to what the CPUs leave.
 use Rattle.std.proofs.Common.{◌≡◌, ℕ, zero, suc, max, ◌+◌, ◌<◌, List, [], ◌∷◌, length, get_or, map, sum, refl, sym, ap, ◌∙◌, subst, arith, Result, Ok, Err}
-use Rattle.std.specs.Prelude.{IfOk, Option, Some, None, IsSomeAnd, MatchResult}
+use Rattle.std.specs.Prelude.{IfOk, Option, Some, None, IsSome, IsSomeAnd, MatchResult}
 use Rattle.std.proofs.lemmas.List.{length-map}
 use Rattle.bt_core.specs.declared.memory.Memory.{Memory}
 use Rattle.bt_core.specs.declared.step.ObjectId.{ObjectId}
@@ -28,7 +28,7 @@ use Rattle.cpu_worker.specs.Worlds.{world_cpus, sets_in, setting_in, AreTurnsOf,
 use Rattle.run_base.specs.Jobs.{HavePlans}
 use Rattle.thread_run.specs.declared.tasks.Gathered.{Gathered}
 use Rattle.thread_run.specs.Acts.{replay_in, ArePlansIn, CanMake, HaveRun, HaveGone}
-use Rattle.thread_run.specs.Tasks.{count_of, IsWell, bodies_in, turns_in, trace_in, count_in, HasEndedWell, IsFresh}
+use Rattle.thread_run.specs.Tasks.{count_of, IsWell, bodies_in, turns_in, trace_in, count_in, HasEnded, HasEndedWell, IsFresh}
 use Rattle.thread_run.specs.Turns.{AreUnused, AreTurnsFrom, AllOwn}
 use Rattle.thread_run.proofs.Turning.{sum_first, each_so, own_new, own_kept}
 
@@ -51,6 +51,19 @@ ended_well : (P : Outcome → Type 0) (Q : Memory → Type 0) (r : Option (Resul
 ended_well P Q None well h = absurd well
 ended_well P Q (Some (Ok o)) well h = (o, h, refl)
 ended_well P Q (Some (Err e)) well h = absurd well
+
+some_and : {T : Type 0} (P : T → Type 0) (r : Option T) → IsSomeAnd r P → IsSome r
+some_and P None h = h
+some_and P (Some x) h = tt
+
+-- workers that ran have kept how that ended
+pub all_ended : {B G : Type 0} (plan : B → Plan) (world : SharedWorld) (olds news : List (Task B G)) → length news ≡ length olds
+    → ((i : ℕ) (d : Task B G) → i < length olds → HasRun plan world (get_or olds i d) (get_or news i d)) → Each HasEnded news
+all_ended plan world [] [] long ran = tt
+all_ended plan world [] (v ∷ vs) long ran = absurd (omega (arith, long))
+all_ended plan world (t ∷ ts) [] long ran = absurd (omega (arith, long))
+all_ended plan world (t ∷ ts) (v ∷ vs) long ran =
+    (some_and _ v.ended (ran 0 t (omega arith)).ended, all_ended plan world ts vs (omega (arith, long)) (λ i d lt. ran (suc i) d (omega (arith, lt))))
 
 module _ (world : SharedWorld) (clock : ℕ) (plans : ℕ → Plan) where
   -- what the CPUs from this one on leave

@@ -1,5 +1,5 @@
 -- The workers of a run. No public contract speaks of it.
-use Rattle.std.specs.Prelude.{◌≡◌, ℕ, [], Option, Some, None, Result, Ok, Err}
+use Rattle.std.specs.Prelude.{◌≡◌, ℕ, [], Option, Some, None, IsSome, Result, Ok, Err}
 use Rattle.bt_core.specs.declared.memory.Memory.{Memory}
 use Rattle.stamped.specs.declared.trace.Trace.{Trace}
 use Rattle.stamped.specs.Traces.{actor_of, clock_of, steps_of}
@@ -31,6 +31,10 @@ module _ {B G : Type 0} where
 
   abbrev pub count_in : Task B G → ℕ
   count_in task = count_of task.ended
+
+  -- its worker was run, and it has kept how that ended
+  abbrev pub HasEnded : Task B G → Type 0
+  HasEnded task = IsSome task.ended
 
   abbrev pub HasEndedWell : Task B G → Type 0
   HasEndedWell task = IsWell task.ended

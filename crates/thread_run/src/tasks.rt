@@ -1,13 +1,12 @@
 // The CPUs of a run, each with a worker.
-ghost use Rattle.std.specs.Prelude.{◌≡◌, Some, Ok, map, sum as total, length, IfOk};
+ghost use Rattle.std.specs.Prelude.{◌≡◌, map, sum as total, length, IfOk};
 ghost use Rattle.turn_lock.specs.History.{Each};
 ghost use Rattle.run_ends.specs.Ends.{latest};
-ghost use Rattle.thread_run.specs.Tasks.{bodies_in, turns_in, trace_in, count_in, HasEndedWell, IsFresh};
+ghost use Rattle.thread_run.specs.Tasks.{bodies_in, turns_in, trace_in, count_in, HasEnded, HasEndedWell, IsFresh};
 ghost use Rattle.thread_run.specs.Turns.{AreOneActors};
 
 use crate::side_by_side::Task;
 use actor_plan::bodies::Bodies;
-use actor_plan::outcome::Outcome;
 use bt_core::memory::Memory;
 use cpu_worker::worker::CpuWorker;
 use cpu_worker::world::WorkerTurns;
@@ -52,21 +51,12 @@ pub(crate) fn new_tasks<'g, B: Bodies + Drop, G: Gate>(
     Ok(tasks)
 }
 
-/// How a worker's run ended, or [`Memory`] where it was not run.
-fn outcome_of(ended: Option<Result<Outcome, Memory>>) -> Result<Outcome, Memory>
-    ensures { IfOk result (λ outcome. ended ≡ Some (Ok outcome)) }
-{
-    match ended {
-        Some(outcome) => outcome,
-        None => Err(Memory),
-    }
-}
-
-/// What the workers leave, or [`Memory`] where one of them ended so.
+/// What the workers leave, each of which was run, or [`Memory`] where one of them ended so.
 pub(crate) fn gather<B: Bodies + Drop, G: Gate>(
     alloc: Global,
     tasks: Vec<Task<B, G>>,
 ) -> Result<Gathered, Memory>
+    requires ended { Each HasEnded tasks.entry.items }
     ensures turns { IfOk result (λ all. all.turns.items ≡ map turns_in tasks.entry.items) }
     ensures traces { IfOk result (λ all. all.traces.items ≡ map trace_in tasks.entry.items) }
     ensures instructions { IfOk result (λ all. all.instructions ≡ total (map count_in tasks.entry.items)) }
@@ -78,7 +68,7 @@ pub(crate) fn gather<B: Bodies + Drop, G: Gate>(
     for task in tasks {
         let Task { worker, ended } = task;
         let (own_turns, trace) = worker.finish();
-        let outcome = outcome_of(ended)?;
+        let outcome = ended.unwrap()?;
         instructions = sum(instructions, outcome.instructions)?;
         turns.push(own_turns)?;
         traces.push(trace)?;

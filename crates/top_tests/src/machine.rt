@@ -1,6 +1,6 @@
 // The machine on programs that are handed back.
-use bpf_codegen::generate::Program;
 use bpf_encode::decode::decode;
+use bpf_encode::program::Program;
 use bpf_interp::machine::Machine;
 use bpf_interp::ports::{PortFault, Ports};
 use bpf_interp::regions::Regions;

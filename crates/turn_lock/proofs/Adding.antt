@@ -1,5 +1,5 @@
 -- One more entry, by an object that fits the history.
-use Rattle.std.proofs.Common.{◌≡◌, ℕ, suc, ◌+◌, ◌<◌, max, Option, Some, Result, Ok, Err, IfOk, OnErr, arith, List, [], ◌∷◌, ◌++◌, sym, refl, ap, ◌∙◌, subst}
+use Rattle.std.proofs.Common.{◌≡◌, ℕ, suc, ◌+◌, ◌<◌, max, ◌^◌, Option, Some, SomeIff, Result, Ok, Err, IfOk, OnErr, arith, List, [], ◌∷◌, ◌++◌, sym, refl, ap, ◌∙◌, subst}
 use Rattle.std.proofs.lemmas.List.{append-nil}
 use Rattle.bt_core.specs.declared.step.Op.{Op}
 use Rattle.turn_lock.specs.declared.entry.Entry.{Entry}
@@ -31,8 +31,8 @@ same_desk xs d d' a b = let t : Some d ≡ Some d' = ap (desk_in d) (sym a ∙ b
 pub same_history : (s : Stage) (h g : List Entry) → s ≡ Holds h → s ≡ Holds g → h ≡ g
 same_history s h g a b = cc
 
-pub next_stamp : (n a b : ℕ) → n ≡ max a b → n + 1 ≡ suc (max a b)
-next_stamp n a b e = omega arith
+pub next_stamp : (r : Option ℕ) (n a b next : ℕ) → SomeIff r (n + 1 < 2 ^ 64) (n + 1) → r ≡ Some next → n ≡ max a b → next ≡ suc (max a b)
+next_stamp r n a b next s f e = let next_is = (subst (λ (o : Option ℕ). SomeIff o (n + 1 < 2 ^ 64) (n + 1)) f s).1 in omega (arith, next_is, e)
 
 pub ok_weaken : {A E : Type 0} (P Q : A → Type 0) (r : Result A E) → ((x : A) → P x → Q x) → IfOk r P → IfOk r Q
 ok_weaken P Q (Ok x) f h = f x h

@@ -13,9 +13,9 @@ use crate::rule::{Deal, Draw, Keep, Leave, Look, Made, Note, TakeIn, Told, Turns
 use crate::turn::{Joined, Turn};
 use crate::view::{About, Desk, View};
 use atomic_table::{Badge, Seat, Table};
-use bt_core::memory::Memory;
+use bt_core::memory::{Memory, fitting};
 use bt_core::step::{ObjectId, Op, Reply};
-use std::alloc::Global;
+use std::alloc::{AllocError, Global};
 use std::hint::spin_loop;
 use std::marker::Brand;
 use std::mem;
@@ -191,19 +191,22 @@ impl<O: SeqObject> TurnLock<O> {
     {
         let Desk { mut object, stamp } = self.take(seat);
         let last = floor.max(stamp);
-        if last == u64::MAX {
-            self.give_up(seat, Desk { object, stamp });
-            return Err(Memory);
-        }
+        let next = match fitting(last.checked_add(1)) {
+            Ok(next) => next,
+            Err(memory) => {
+                self.give_up(seat, Desk { object, stamp });
+                return Err(memory);
+            }
+        };
         match object.apply(alloc, op) {
             Ok(reply) => {
-                let stamp = last + 1;
+                let stamp = next;
                 self.pass_on::<Brand>(seat, Desk { object, stamp }, caller, floor, op, &reply);
                 Ok((reply, stamp))
             }
-            Err(Memory) => {
+            Err(memory) => {
                 self.give_up(seat, Desk { object, stamp });
-                Err(Memory)
+                Err(memory)
             }
         }
     }
@@ -314,13 +317,9 @@ impl<O: SeqObject> TurnLock<O> {
         let mut turns = Vec::with_capacity(alloc, callers as usize)?;
         for caller in 1..callers {
             let seat = self.table.shared.split_seat::<Deal>(&mut first);
-            let Ok(()) = turns.push(Turn::of(caller, seat)) else {
-                return Err(Memory);
-            };
+            turns.push(Turn::of(caller, seat))?;
         }
-        let Ok(()) = turns.insert(0, Turn::of(0, first)) else {
-            return Err(Memory);
-        };
+        turns.insert(0, Turn::of(0, first))?;
         Ok(turns)
     }
 
@@ -347,8 +346,9 @@ impl<O: SeqObject> TurnLock<O> {
         };
         let mut slots = Vec::with_capacity(alloc, 1)?;
         slots.push_reserved(Some(Desk { object, stamp: 0 }));
+        // A table that is refused gives its slots back, and no error of the allocator's.
         let Ok((table, first)) = Table::new(alloc, &[0, 0], slots, &about) else {
-            return Err(Memory);
+            return Err(AllocError.into());
         };
         let lock = TurnLock { table, id };
         let turns = lock.deal(alloc, first, callers)?;

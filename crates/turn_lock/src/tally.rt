@@ -6,7 +6,7 @@ use crate::object::SeqObject;
 use bt_core::memory::Memory;
 use bt_core::step::{Op, Reply};
 use bt_core::value::Value;
-use std::alloc::Global;
+use std::alloc::{AllocError, Global};
 
 /// Adds numbers up: it replies to each `Add` the sum so far, with this number, modulo 2^64 as a
 /// signed number. No other operation is its own, and each `Add` is free.
@@ -95,7 +95,7 @@ impl SeqObject for Balky {
     fn apply(&mut self, alloc: Global, op: &Op) -> Result<Reply, Memory> {
         self.calls = self.calls.saturating_add(1);
         if self.refused.contains(&self.calls) {
-            return Err(Memory);
+            return Err(AllocError.into());
         }
         self.tally.apply(alloc, op)
     }

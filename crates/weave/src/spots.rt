@@ -1,5 +1,5 @@
 // Where the steps of lists lie, in their order.
-ghost use Rattle.std.specs.Prelude.{◌≡◌, ◌++◌, map, slice_get, IfOk, OnOk};
+ghost use Rattle.std.specs.Prelude.{◌≡◌, ◌≤◌, ◌^◌, ◌++◌, map, slice_get, IfOk, OnErr, OnOk};
 ghost use Rattle.step_list.specs.Lists.{steps_in};
 ghost use Rattle.weave.specs.Keyed.{keyed_at, keyed_from, keyed_before, keyed_lists};
 ghost use Rattle.weave.specs.Ranked.{ranked};
@@ -37,12 +37,10 @@ pub(crate) fn spots_in_order(alloc: Global, lists: &[StepList]) -> Result<Vec<Sp
 
 /// A number in 32 bits. [`Memory`] where it does not fit.
 fn small(number: usize) -> Result<u32, Memory>
-    ensures { IfOk result (λ it. it ≡ number) }
+    ensures same { IfOk result (λ it. it ≡ number) }
+    ensures beyond { OnErr result (2 ^ 32 ≤ number) }
 {
-    if number > 0xffff_ffff {
-        return Err(Memory);
-    }
-    Ok(number as u32)
+    Ok(u32::try_from(number)?)
 }
 
 /// The spots of these lists, list by list.

@@ -1,12 +1,12 @@
 // Lists of steps as one list in order.
-ghost use Rattle.std.specs.Prelude.{◌≡◌, length, IfOk};
+ghost use Rattle.std.specs.Prelude.{◌≡◌, ◌≤◌, ◌^◌, length, IfOk, OnErr};
 ghost use Rattle.std.specs.List.Sorted.{IsPermutation};
 ghost use Rattle.step_list.specs.HeldReplies.{AreHeldReplies};
 ghost use Rattle.weave.specs.Listed.{listed};
 ghost use Rattle.weave.specs.Order.{InOrder, comes_before};
 ghost use Rattle.weave.specs.Ranked.{ranked};
 
-use bt_core::memory::Memory;
+use bt_core::memory::{Memory, fitting};
 use std::fmt;
 use std::marker::Model;
 use step_list::list::StepList;
@@ -76,14 +76,12 @@ impl fmt::Debug for Woven {
 
 /// How many steps lists have together. [`Memory`] where the number does not fit.
 fn count(lists: &[StepList]) -> Result<usize, Memory>
-    ensures { IfOk result (λ n. n ≡ length (listed lists.now)) }
+    ensures counts { IfOk result (λ n. n ≡ length (listed lists.now)) }
+    ensures beyond { OnErr result (2 ^ 64 ≤ length (listed lists.now)) }
 {
     let mut sum: usize = 0;
     for list in lists {
-        match sum.checked_add(list.len()) {
-            None => return Err(Memory),
-            Some(more) => sum = more,
-        }
+        sum = fitting(sum.checked_add(list.len()))?;
     }
     Ok(sum)
 }

@@ -1,6 +1,7 @@
 use Rattle.std.specs.Prelude.{Some}
-use Rattle.bt_top.proofs.Answering.{done_answer, done_exact, files_exact, kept, refused_answer}
-use Rattle.bt_top.proofs.FailedNames.{written_failed}
+use Rattle.bt_judge.proofs.LineLaws.{kept}
+use Rattle.bt_top.proofs.Answering.{done_answer, done_exact, files_exact, refused_answer}
+use Rattle.bt_top.proofs.Performing.{written_failed}
 use Rattle.bt_top.proofs.Headlines.{AreRunLaws, done_headline, refused_headline}
 use Rattle.bt_top.proofs.Offered.{done_offered, refused_offered}
 use Rattle.bt_top.proofs.Verified.{done_verified, refused_verified}

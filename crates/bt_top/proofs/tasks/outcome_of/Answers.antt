@@ -3,11 +3,11 @@ use Rattle.std.proofs.lemmas.Result.{err_from_is_err_and}
 use Rattle.bt_words.specs.declared.order.Order.TheVariants.{Run, Check, Code, Vet, Account, Verify, Gen}
 use Rattle.run_base.specs.declared.job.Work.{Work}
 use Rattle.run_output.specs.declared.form.Form.{Form}
-use Rattle.bt_top.specs.Jobs.{IsJobFor}
-use Rattle.bt_top.specs.Doing.{IsAccountJob}
-use Rattle.bt_top.specs.Orders.{on_account, on_script}
+use Rattle.bt_judge.specs.Doing.{IsAccountJob}
+use Rattle.bt_judge.specs.Jobs.{IsJobFor}
+use Rattle.bt_judge.specs.Orders.{on_account, on_script}
+use Rattle.bt_judge.proofs.Passing.{names_bodies}
 use Rattle.bt_top.specs.Outcomes.{ComesTo, IsOutcomeOfRun, IsOutcomeOfVerify, stats_line}
-use Rattle.bt_top.proofs.Passing.{names_bodies}
 use Rattle.bt_top.proofs.Performing.{goes_on, made, runs_out, stays_refused}
 use Rattle.bt_top.proofs.tasks.outcome_of.Goals as goal
 

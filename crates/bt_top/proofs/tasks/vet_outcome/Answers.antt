@@ -1,10 +1,10 @@
 use Rattle.std.proofs.Common.{◌≤◌, List, length, sym, ap, subst, ◌∙◌}
 use Rattle.std.specs.List.{AllByRecursion}
-use Rattle.bpf_codegen.specs.declared.generate.Program.{Program}
+use Rattle.bpf_encode.specs.declared.program.Program.{Program}
 use Rattle.bt_ast.specs.declared.attached.BodyId.{BodyId}
-use Rattle.bt_top.specs.Doing.{CanBeListed}
-use Rattle.bt_top.proofs.Listed.{can_be_listed}
-use Rattle.bt_top.proofs.Passing.{accepted_all, refused_one}
+use Rattle.bt_judge.specs.Doing.{CanBeListed}
+use Rattle.bt_judge.proofs.Listed.{can_be_listed}
+use Rattle.bt_top.proofs.Performing.{accepted_all, refused_one}
 use Rattle.bt_top.proofs.tasks.vet_outcome.Goals as goal
 
 pub vet_programs-requires-clause-can_be_listed : goal.vet_programs-requires-clause-can_be_listed

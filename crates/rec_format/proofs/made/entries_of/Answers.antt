@@ -27,9 +27,9 @@ loop-event-preserved c = λ more.
     let whole : IsEventPart (part_of_event e) = subst (λ (x : Event). IsEventPart (part_of_event x)) c.seen.ensures c.push_event.ensures.whole in
     let written : c.push_event.new.bytes.items ≡ old ++ event_bytes (part_of_event e) = c.in_ok-push_event.ensures.written ∙ ap (λ (x : Event). old ++ event_bytes (part_of_event x)) c.seen.ensures in
     let file : c.push_event.new.bytes.items ++ more ≡ old ++ (event_bytes (part_of_event e) ++ more) = ap (λ (l : List ℕ). l ++ more) written ∙ append_assoc old (event_bytes (part_of_event e)) more in
-    let at : c.in-Ok.at ≡ length old = omega (arith, c.in-Ok.ensures, c.len.ensures) in
-    let added = entries_more (old ++ (event_bytes (part_of_event e) ++ more)) c.loop-event.places.items c.push.new.self.items (place.Event c.in-Ok.at e.format) (entry.Event e) c.in_ok-push.ensures.items
-    (spelled_lies old more c.in-Ok.at e at whole) in
+    let at : c.in_ok-at.at ≡ length old = omega (arith, c.in_ok-at.ensures, c.len.ensures) in
+    let added = entries_more (old ++ (event_bytes (part_of_event e) ++ more)) c.loop-event.places.items c.push.new.self.items (place.Event c.in_ok-at.at e.format) (entry.Event e) c.in_ok-push.ensures.items
+    (spelled_lies old more c.in_ok-at.at e at whole) in
     let taken : take (i + 1) c.args.events.now ≡ take i c.args.events.now ++ e ∷ [] = take_more c.args.events.now i e c.loop-event-test.true ∙ ap (λ (x : Event). take i c.args.events.now ++ x ∷ []) (sym c.event-item.is) in
     ap (λ (l : List ℕ). entries_in l c.push.new.self.items) file ∙ added
     ∙ ap (λ (l : List Entry). l ++ entry.Event e ∷ []) (c.loop-event.invariant (event_bytes (part_of_event e) ++ more))

@@ -36,7 +36,7 @@ loop-place-preserved c =
     let first = first_passes (entries s.marks) s.formats.now c.loop-place.earliest s.end c.args.cpu c.loop-place.place part (sym c.in_ok-format.ensures.checked) in
     let lies = entry_lies s.marks s.file.now c.loop-place.rest.now c.in-Some.after.now (length s.file.now - length c.loop-place.rest.now) c.in_ok-format.format c.args.cpu c.loop-place.place s.formats.now part rest (sym c.in-Some.ensures)
     c.in_ok-format.ensures.accepted first in
-    let added = entries_more s.file.now c.loop-place.places.items c.push.new.self.items c.in_ok-lies.lies (entry_made s.formats.now part) c.in_ok-push.ensures.items (ap (entry_in s.file.now) c.in_ok-lies.ensures ∙ lies) in
+    let added = entries_more s.file.now c.loop-place.places.items c.push.new.self.items c.in_ok-lies.lies (entry_made s.formats.now part) c.in_ok-push.ensures.items (ap (entry_in s.file.now) c.in_ok-lies.ensures.place ∙ lies) in
     let next = entry_next (entries s.marks) (readable s.marks) s.formats.now s.start s.end c.args.cpu c.loop-place.place c.loop-place.earliest
     c.args.bytes.now c.loop-place.rest.now c.in-Some.after.now es (entries_in s.file.now c.push.new.self.items) part fits c.loop-place.invariant.has c.loop-place.invariant.time
     (sym c.in-Some.ensures) (sym c.in_ok-format.ensures.checked) added in

@@ -1,5 +1,5 @@
 use Rattle.std.proofs.Common.{List, [], sym, ap, ◌∙◌, subst}
-use Rattle.bpf_codegen.specs.declared.generate.Program.{Program}
+use Rattle.bpf_encode.specs.declared.program.Program.{Program}
 use Rattle.bt_lower.specs.Bodies.{LowersScript}
 use Rattle.script_programs.specs.Sizes.{first_size_fault}
 use Rattle.script_programs.specs.Making.{AreMade}

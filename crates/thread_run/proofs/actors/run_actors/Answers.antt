@@ -78,4 +78,4 @@ returns g c = λ plans have.
       raised_turns = refl;
       raised_plan = refl;
       ended = c.in_ok-main-2.ensures;
-    }) _ c.in_ok-push.ensures.items c.in_ok-push-2.ensures.items (c.in_ok-all-2.ensures ∙ ap (λ k. k + c.in_ok-main-2.finished) c.in_ok-sum.ensures)
+    }) _ c.in_ok-push.ensures.items c.in_ok-push-2.ensures.items (c.in_ok-all-2.ensures.both ∙ ap (λ k. k + c.in_ok-main-2.finished) c.in_ok-sum.ensures.both)

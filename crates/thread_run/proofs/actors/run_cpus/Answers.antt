@@ -1,5 +1,5 @@
 use Rattle.std.proofs.Common.{sym, ◌∙◌, arith}
-use Rattle.thread_run.proofs.Running.{by_result, tasks_long, tasks_ready, tasks_gone}
+use Rattle.thread_run.proofs.Running.{all_ended, by_result, tasks_long, tasks_ready, tasks_gone}
 use Rattle.thread_run.proofs.Turning.{one_actors}
 use Rattle.cpu_worker.specs.Worlds.{sets_in}
 use Rattle.thread_run.proofs.actors.run_cpus.Goals as goal
@@ -17,6 +17,9 @@ run_all-requires-clause-some g c lifetimes bounds = let e = tasks_long g.B.Bodie
 pub run_all-requires-clause-ready : goal.run_all-requires-clause-ready
 run_all-requires-clause-ready g c lifetimes bounds = tasks_ready g.B.Bodies.plan c.args.world.now c.args.clock c.args.bodies.items c.args.turns.items c.in_ok-tasks.tasks.items c.in_ok-tasks.ensures.bodies c.in_ok-tasks.ensures.turns c.in_ok-tasks.ensures.fresh c.requires.turns
     c.requires.replay c.requires.plans c.requires.cpus
+
+pub gather-requires : goal.gather-requires
+gather-requires g c = all_ended g.B.Bodies.plan c.args.world.now c.in_ok-tasks.tasks.items c.run_all.new.tasks.items c.run_all.ensures.same c.run_all.ensures.ran
 
 pub returns : goal.returns
 returns g c = by_result c.gather.result _ _ _ _ _ c.gather.ensures.turns c.gather.ensures.traces c.gather.ensures.instructions c.gather.ensures.well

@@ -1,6 +1,7 @@
 use Rattle.std.proofs.Common.{◌≡◌, map, sum}
+use Rattle.std.specs.Vec.Iter.{into_iter_items}
 use Rattle.turn_lock.specs.History.{Each}
-use Rattle.thread_run.specs.Tasks.{turns_in, trace_in, count_in, HasEndedWell}
+use Rattle.thread_run.specs.Tasks.{turns_in, trace_in, count_in, HasEnded, HasEndedWell}
 use Rattle.thread_run.proofs.tasks.gather.Given as goal
 
 abbrev pub invariant-loop-task : goal.invariant-loop-task
@@ -9,4 +10,5 @@ invariant-loop-task g l = record {
   traces : l.traces.items ≡ map trace_in l.yielded;
   instructions : l.instructions ≡ sum (map count_in l.yielded);
   well : Each HasEndedWell l.yielded;
+  left : Each HasEnded (into_iter_items l.task-iterator);
 }

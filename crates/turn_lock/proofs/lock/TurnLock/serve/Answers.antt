@@ -12,16 +12,16 @@ pass_on-requires-clause-held g c = let h = c.requires.held in let about = c.args
     let F : g.row.O.Denot → List Op → Type 0 = fits g.O.SeqObject.kind g.O.SeqObject.stands_for about in
     let same : h.1 ≡ c.take-object.result = same_desk c.args.seat.now.me.1 h.1 c.take-object.result h.3 c.take-object.ensures.slot.0 in
     let ok = subst (λ (d : Desk g.row.O.Denot). DeskOk l F d h.0) same h.4.0 in
-    let replies = c.in-Ok.ensures.replies (ops h.0) ok.object.1 in let taken = c.in-Ok.ensures.taken (ops h.0) ok.object.1 in
+    let replies = c.in-Ok-apply.ensures.replies (ops h.0) ok.object.1 in let taken = c.in-Ok-apply.ensures.taken (ops h.0) ok.object.1 in
     let stage = ap (λ m. m.0.stage) c.take-object.ensures.slot.1 ∙ h.2 in (
       h.0,
       stage,
-      adds l F c.take-object.result (record { object = c.apply.new.self; stamp = c.max-last.result + 1 }) h.0
-          (entry c.args.caller c.args.floor (c.max-last.result + 1) c.args.op.now c.in-Ok.reply)
+      adds l F c.take-object.result (record { object = c.apply.new.self; stamp = c.in-Ok.next }) h.0
+          (entry c.args.caller c.args.floor c.in-Ok.next c.args.op.now c.in-Ok-apply.reply)
           ok h.4.1 c.requires.own (replies ∙ ap (λ k. g.O.SeqObject.reply_after k (ops h.0) c.args.op.now) ok.object.0)
-          (next_stamp _ _ _ c.max-last.ensures) refl (c.in-Ok.ensures.kind ∙ ok.object.0, taken),
+          (next_stamp c.checked_add.result _ _ _ _ c.checked_add.ensures c.in-Ok.ensures.fits c.max-last.ensures) refl (c.in-Ok-apply.ensures.kind ∙ ok.object.0, taken),
     )
 
-pub returns-in-Ok-clause-done : goal.returns-in-Ok-clause-done
-returns-in-Ok-clause-done g c h e = let s = c.take-object.ensures.slot.1 in let t = c.pass_on.ensures.view h (ap (λ m. m.0.stage) s ∙ e) in
-    (t.0 ∙ ap (λ m. (after (entry c.args.caller c.args.floor (c.max-last.result + 1) c.args.op.now c.in-Ok.reply ∷ []) m.0 h, [])) s, t.1)
+pub returns-in-Ok-apply-clause-done : goal.returns-in-Ok-apply-clause-done
+returns-in-Ok-apply-clause-done g c h e = let s = c.take-object.ensures.slot.1 in let t = c.pass_on.ensures.view h (ap (λ m. m.0.stage) s ∙ e) in
+    (t.0 ∙ ap (λ m. (after (entry c.args.caller c.args.floor c.in-Ok.next c.args.op.now c.in-Ok-apply.reply ∷ []) m.0 h, [])) s, t.1)

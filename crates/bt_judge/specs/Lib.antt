@@ -1,0 +1,13 @@
+pub mod Orders
+pub mod Lines
+pub mod Listings
+pub mod Vetting
+pub mod Sizes
+pub mod Script
+pub mod Refusals
+pub mod Due
+pub mod Meanings
+pub mod Jobs
+pub mod FailedNames
+pub mod Reads
+pub mod Doing

@@ -1,0 +1,87 @@
+// What a script and a recording ask for.
+ghost use Rattle.std.specs.Prelude.{◌≡◌, ◌≤◌, length, IfOk, IfErr};
+ghost use Rattle.bt_core.specs.declared.limits.TheConstants.{SCRIPT_BYTES};
+ghost use Rattle.bt_meaning.specs.Jobs.{IsJob};
+ghost use Rattle.rec_format.specs.Places.{AreBytes};
+ghost use Rattle.rec_format.specs.Recordings.{IsValidRecording};
+ghost use Rattle.bt_judge.specs.Doing.{IsExact, IsFaultRefusal, IsScriptRefusal, refusal_in};
+ghost use Rattle.bt_judge.specs.Jobs.{AsksFor, IsJobOf};
+
+use crate::refusal::{Refusal, recording_refusal};
+use crate::script::{attach_refusal, tree_of, type_refusal};
+use crate::sizes::programs_for;
+use bt_attach::attach::attach;
+use bt_types::script::check;
+use rec_format::reading::read_recording;
+use rec_format::recording::Recording;
+use run_base::job::Job;
+use std::alloc::Global;
+
+/// What a script asks for over a recording, whose probes may all be attached to it and whose bodies have types and are not too large.
+pub fn script_job(alloc: Global, script: &[u8], recording: Recording) -> Result<Job, Refusal>
+    requires short { length script.now ≤ SCRIPT_BYTES }
+    requires valid { IsValidRecording recording }
+    ensures same { IfOk result (λ job. job.recording ≡ recording) }
+    ensures asks { IfOk result (AsksFor script.now) }
+    ensures fault { IfErr result (IsScriptRefusal script.now recording) }
+{
+    bt_grammar::laws::few_probes();
+    bt_attach::laws::bodies_are_there();
+    let tree = match tree_of(alloc, script) {
+        Ok(tree) => tree,
+        Err(refusal) => return Err(refusal),
+    };
+    let formats = recording.formats.as_slice();
+    let attached = match attach(alloc, &tree, formats, recording.start, recording.end) {
+        Ok(attached) => attached,
+        Err(error) => return Err(attach_refusal(error)),
+    };
+    let typed = match check(alloc, &tree, &attached, formats) {
+        Ok(typed) => typed,
+        Err(error) => return Err(type_refusal(error)),
+    };
+    match programs_for(alloc, &tree, &attached, &typed) {
+        Ok(programs) => Ok(Job {
+            recording,
+            attached,
+            typed,
+            programs,
+        }),
+        Err(refusal) => Err(refusal),
+    }
+}
+
+/// What a script and a recording ask for, of which nothing is refused. The recording is refused before the script is.
+fn accept(alloc: Global, script: &[u8], recording: Vec<u8>) -> Result<Job, Refusal>
+    requires { length script.now ≤ SCRIPT_BYTES }
+    ensures job { IfOk result (IsJobOf script.now recording.items) }
+    ensures refused { IfErr result (IsFaultRefusal script.now recording.items) }
+{
+    match read_recording(alloc, recording) {
+        Ok(recording) => script_job(alloc, script, recording),
+        Err(error) => Err(recording_refusal(error)),
+    }
+}
+
+/// Bytes are below 256, as their type says. Nothing is read.
+fn are_bytes(bytes: &[u8])
+    ensures { AreBytes bytes.now }
+{}
+
+/// The same. Of what is due to them there is only one thing, so that comes unless memory runs out; and what they ask for can be run.
+pub(crate) fn judge(alloc: Global, script: &[u8], recording: Vec<u8>) -> Result<Job, Refusal>
+    requires { length script.now ≤ SCRIPT_BYTES }
+    ensures job { IfOk result (IsJobOf script.now recording.items) }
+    ensures can_run { IfOk result (λ job. IsJob job.typed job.attached job.recording) }
+    ensures refused { IfErr result (IsFaultRefusal script.now recording.items) }
+    ensures exact { IsExact script.now recording.items (refusal_in result) }
+{
+    are_bytes(recording.as_slice());
+    rec_format::laws::one_recording();
+    rec_format::laws::one_fault();
+    bt_lexer::laws::one_answer();
+    bt_grammar::laws::one_answer();
+    size_laws::laws::scripts_have_one_size();
+    bt_job::laws::accepted_scripts_are_jobs();
+    accept(alloc, script, recording)
+}
