@@ -1,7 +1,7 @@
 // The programs that are handed back: their listings, and how many instructions they take.
 use crate::files::{AT_0, AT_1, AT_2, Answer, HEAD, REST, answer_to};
 use crate::machine::instructions_of;
-use bpf_codegen::generate::Program;
+use bpf_encode::program::Program;
 use bt_core::memory::Memory;
 use std::alloc::Global;
 use std::test::Fail;
