@@ -69,10 +69,7 @@ pub fn number_of(place: usize) -> Result<u32, Memory>
     ensures number { IfOk result (λ n. n ≡ place) }
     ensures beyond { OnErr result (2 ^ 32 ≤ place) }
 {
-    match u32::try_from(place) {
-        Ok(number) => Ok(number),
-        Err(_) => Err(Memory),
-    }
+    Ok(u32::try_from(place)?)
 }
 
 /// Whether a number is one of these.
