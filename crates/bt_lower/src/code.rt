@@ -6,7 +6,7 @@ ghost use Rattle.bt_lower.specs.Code.{pushed, closed, begun, untyped, reserved, 
 use bt_core::ending::Ending;
 use bt_core::items::Items;
 use bt_core::map::Shape;
-use bt_core::memory::{Memory, TryCopy};
+use bt_core::memory::{Memory, TryCopy, fitting};
 use ir_code::blocks::{Block, Exit};
 use ir_code::instr::Instr;
 use std::alloc::Global;
@@ -195,8 +195,5 @@ fn deeper(depth: usize) -> Result<usize, Memory>
     ensures deeper { IfOk result (λ deeper. deeper ≡ depth + 1) }
     ensures beyond { OnErr result (2 ^ 64 ≤ depth + 1) }
 {
-    if depth == usize::MAX {
-        return Err(Memory);
-    }
-    Ok(depth + 1)
+    fitting(depth.checked_add(1))
 }

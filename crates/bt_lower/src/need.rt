@@ -6,7 +6,7 @@ ghost use Rattle.ir_code.specs.Figures.{by_shape, sizes_of};
 ghost use Rattle.bt_lower.specs.Needs.{need, more, greater, listed, before_others, then_beside, under, IsTooMuch, IsTooMuchListed, value_need, values_need, number_need, text_need, jump_need, predicate_need};
 
 use bt_core::map::Shape;
-use bt_core::memory::Memory;
+use bt_core::memory::{Memory, fitting};
 use ir_code::figures::size_of;
 use typed_tree::expr::{AnyExpr, NumExpr, StrExpr};
 use typed_tree::stmt::Jump;
@@ -38,10 +38,7 @@ pub fn sum(a: u64, b: u64) -> Result<u64, Memory>
     ensures sum { IfOk result (λ sum. sum ≡ a + b) }
     ensures beyond { OnErr result (2 ^ 64 ≤ a + b) }
 {
-    match a.checked_add(b) {
-        Some(sum) => Ok(sum),
-        None => Err(Memory),
-    }
+    fitting(a.checked_add(b))
 }
 
 /// So many bytes and slots.
