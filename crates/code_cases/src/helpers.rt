@@ -119,17 +119,8 @@ fn decl(alloc: Global, kind: MapKind, shape: Shape) -> Result<MapDecl, Memory>
     })
 }
 
-// A script with a map of numbers, one of strings, one of counts and one of histograms, and the format `%d`.
-fn script(alloc: Global) -> Result<Typed, Memory> {
-    let numbers = decl(alloc, MapKind::Ints, Shape::Int)?;
-    let strings = decl(alloc, MapKind::Strs, Shape::Str)?;
-    let counts = decl(alloc, MapKind::Aggs(AggKind::Count), Shape::Int)?;
-    let histograms = decl(alloc, MapKind::Aggs(AggKind::Hist), Shape::Int)?;
-    let mut maps = Items::new(alloc);
-    maps.push(numbers)?;
-    maps.push(strings)?;
-    maps.push(counts)?;
-    maps.push(histograms)?;
+/// The format `%d`, alone.
+fn formats(alloc: Global) -> Result<Items<Items<Piece>>, Memory> {
     let mut pieces = Items::new(alloc);
     pieces.push(Piece::Conversion {
         left: false,
@@ -139,6 +130,17 @@ fn script(alloc: Global) -> Result<Typed, Memory> {
     })?;
     let mut formats = Items::new(alloc);
     formats.push(pieces)?;
+    Ok(formats)
+}
+
+// A script with a map of numbers, one of strings, one of counts and one of histograms, and the format `%d`.
+fn script(alloc: Global) -> Result<Typed, Memory> {
+    let mut maps = Items::new(alloc);
+    maps.push(decl(alloc, MapKind::Ints, Shape::Int)?)?;
+    maps.push(decl(alloc, MapKind::Strs, Shape::Str)?)?;
+    maps.push(decl(alloc, MapKind::Aggs(AggKind::Count), Shape::Int)?)?;
+    maps.push(decl(alloc, MapKind::Aggs(AggKind::Hist), Shape::Int)?)?;
+    let formats = formats(alloc)?;
     Ok(Typed {
         maps,
         formats,
@@ -192,25 +194,31 @@ fn called(alloc: Global, number: u32, args: [u64; 3]) -> Result<Asked, Memory> {
     })
 }
 
-/// Tells what comes of a line `NAME = NUMBER A B C`, the number and the arguments of a call in decimals: its answer, the
-/// eight bytes that it may have written, and its steps.
-pub(crate) fn tell_helper<R: Print + AllocGlobal>(rt: &R, line: &str) -> Result<()> {
-    let (name, words) = line.split_once(" = ").context("no call")?;
+/// The numbers of a call: that of the helper, and its three arguments.
+fn numbers_of(words: &str) -> Result<[u64; 4]> {
     let mut numbers = [0; 4];
     for (number, word) in numbers.iter_mut().zip(words.split(' ')) {
         *number = word.parse::<u64>()?;
     }
-    let [number, a, b, c] = numbers;
-    let asked = called(rt.alloc(), u32::try_from(number)?, [a, b, c])?;
-    let Asked {
-        answer,
-        steps,
-        word,
-    } = asked;
-    println!(rt; "{name}: {answer:?}, {word:x}")?;
-    for step in steps.as_slice() {
+    Ok(numbers)
+}
+
+/// Tells the steps of a call.
+fn tell_steps<R: Print>(rt: &R, steps: &[Step]) -> Result<()> {
+    for step in steps {
         let Step { object, op, .. } = step;
         println!(rt; "    {object:?} {op:?}")?;
     }
     Ok(())
+}
+
+/// Tells what comes of a line `NAME = NUMBER A B C`, the number and the arguments of a call in decimals: its answer, the
+/// eight bytes that it may have written, and its steps.
+pub(crate) fn tell_helper<R: Print + AllocGlobal>(rt: &R, line: &str) -> Result<()> {
+    let (name, words) = line.split_once(" = ").context("no call")?;
+    let [number, a, b, c] = numbers_of(words)?;
+    let asked = called(rt.alloc(), u32::try_from(number)?, [a, b, c])?;
+    let (answer, word) = (&asked.answer, asked.word);
+    println!(rt; "{name}: {answer:?}, {word:x}")?;
+    tell_steps(rt, asked.steps.as_slice())
 }

@@ -49,13 +49,8 @@ impl Ports for Watcher {
     }
 }
 
-/// Tells how the code of a line `NAME = FUEL CODE` runs, the fuel in decimals and the code in hexadecimal digits: whether it
-/// takes all its fuel, and what its last two calls showed.
-pub(crate) fn tell_run<R: Print + AllocGlobal>(rt: &R, line: &str) -> Result<()> {
-    let alloc = rt.alloc();
-    let (name, words) = line.split_once(" = ").context("no run")?;
-    let (fuel, digits) = words.split_once(" ").context("no code")?;
-    let fuel = fuel.parse::<u64>()?;
+/// Code over a port that has seen nothing, and whether its run takes all of the fuel.
+fn watched(alloc: Global, digits: &str, fuel: u64) -> Result<(Watcher, bool)> {
     let bytes = hex::decode(alloc, digits)?;
     if bytes.len() > 10_000 {
         bail!("too long");
@@ -70,26 +65,28 @@ pub(crate) fn tell_run<R: Print + AllocGlobal>(rt: &R, line: &str) -> Result<()>
         number: 0,
         stack: [0; 32],
     };
-    let ended = Machine::run(
-        alloc,
-        code.as_slice(),
-        &[0; 128],
-        &[7, 0],
-        &mut watcher,
-        fuel,
-    )?;
-    let all = ended.instructions == fuel;
-    println!(rt; "{name}: all fuel {all}")?;
-    let Watcher {
-        earlier,
-        last,
-        number,
-        stack,
-    } = watcher;
-    let [a, b, c, d, e] = earlier;
+    let code = code.as_slice();
+    let ended = Machine::run(alloc, code, &[0; 128], &[7, 0], &mut watcher, fuel)?;
+    Ok((watcher, ended.instructions == fuel))
+}
+
+/// Tells what the last two calls showed.
+fn tell_calls<R: Print + AllocGlobal>(rt: &R, watcher: &Watcher) -> Result<()> {
+    let [a, b, c, d, e] = watcher.earlier;
     println!(rt; "    {a:x} {b:x} {c:x} {d:x} {e:x}")?;
-    let [a, b, c, d, e] = last;
-    let stack = hex::encode(alloc, stack)?;
+    let number = watcher.number;
+    let [a, b, c, d, e] = watcher.last;
+    let stack = hex::encode(rt.alloc(), watcher.stack)?;
     println!(rt; "    {number}: {a:x} {b:x} {c:x} {d:x} {e:x} {stack}")?;
     Ok(())
+}
+
+/// Tells how the code of a line `NAME = FUEL CODE` runs, the fuel in decimals and the code in hexadecimal digits: whether it
+/// takes all its fuel, and what its last two calls showed.
+pub(crate) fn tell_run<R: Print + AllocGlobal>(rt: &R, line: &str) -> Result<()> {
+    let (name, words) = line.split_once(" = ").context("no run")?;
+    let (fuel, digits) = words.split_once(" ").context("no code")?;
+    let (watcher, all) = watched(rt.alloc(), digits, fuel.parse::<u64>()?)?;
+    println!(rt; "{name}: all fuel {all}")?;
+    tell_calls(rt, &watcher)
 }
