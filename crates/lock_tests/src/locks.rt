@@ -11,7 +11,7 @@ use bt_core::map::MapId;
 use bt_core::memory::Memory;
 use bt_core::step::{ObjectId, Op, Reply};
 use bt_core::value::Value;
-use std::alloc::Global;
+use std::alloc::{AllocError, Global};
 use std::sync::atomic::AtomicU64;
 use std::sync::atomic::Ordering::SeqCst;
 use std::sync::{Arc, Mutex, Wait};
@@ -155,7 +155,7 @@ impl SeqObject for Counted {
 
     fn apply(&mut self, _alloc: Global, _op: &Op) -> Result<Reply, Memory> {
         if self.taken.fetch_add(1, SeqCst) % 2 == 1 {
-            return Err(Memory);
+            return Err(AllocError.into());
         }
         Ok(Reply::Done)
     }
