@@ -21,20 +21,25 @@ fn number(line: &Value, name: &str) -> u64 {
     line.get(name).and_then(Value::as_u64).unwrap_or(0)
 }
 
+/// The text of a line.
+fn text_of(alloc: Global, line: &Value) -> Result<Vec<u8>> {
+    let mut text = hex::decode(alloc, part(line, "hex"))?;
+    text.extend_from_slice(part(line, "text").as_bytes())?;
+    for _ in 0..number(line, "times") {
+        text.extend_from_slice(part(line, "again").as_bytes())?;
+    }
+    text.extend_from_slice(part(line, "end").as_bytes())?;
+    Ok(text)
+}
+
 impl Asked {
     /// What a line asks for: an object with `ask` and a `text`, which may go on with `times` copies of `again` and then with `end`. A text
     /// that is no UTF-8 stands in `hex`, in hexadecimal. A `note` is for who reads the data.
     pub fn of(alloc: Global, line: &str) -> Result<Asked> {
         let line = Value::from_str(alloc, line)?;
-        let mut text = hex::decode(alloc, part(&line, "hex"))?;
-        text.extend_from_slice(part(&line, "text").as_bytes())?;
-        for _ in 0..number(&line, "times") {
-            text.extend_from_slice(part(&line, "again").as_bytes())?;
-        }
-        text.extend_from_slice(part(&line, "end").as_bytes())?;
         Ok(Asked {
             what: String::from_str(alloc, part(&line, "ask"))?,
-            text,
+            text: text_of(alloc, &line)?,
             offset: number(&line, "offset") as usize,
         })
     }
