@@ -2,6 +2,7 @@
 use Rattle.std.specs.Prelude.{◌≡◌, ◌≢◌, List, Result, Ok, Err}
 use Rattle.bt_lexer.specs.declared.token.Token.{Token}
 use Rattle.bt_parser.specs.declared.fault.Fault.{Fault}
+use Rattle.bt_core.specs.Want.{out_of_memory}
 use Rattle.bt_parser.specs.declared.fault.Fault.TheVariants.{OutOfMemory}
 use Rattle.bt_grammar.specs.Tokens.{items}
 use Rattle.bt_grammar.specs.Reading.{Out, Done, Refused}
@@ -9,4 +10,4 @@ use Rattle.bt_grammar.specs.Reading.{Out, Done, Refused}
 -- the outcome, with the tokens that are left, unless there is no memory
 abbrev pub Reads : {A : Type 0} → Out A → Result A Fault → List Token → Type 0
 Reads out (Ok a) left = out ≡ Done a (items left)
-Reads out (Err e) left = e ≢ OutOfMemory → out ≡ Refused (items left)
+Reads out (Err e) left = e ≢ OutOfMemory out_of_memory → out ≡ Refused (items left)

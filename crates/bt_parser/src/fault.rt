@@ -6,7 +6,7 @@ use std::alloc::AllocError;
 /// stands.
 #[derive(Clone, Copy, PartialEq, Eq, Debug, Drop)]
 pub enum Fault {
-    OutOfMemory,
+    OutOfMemory(Memory),
     Syntax,
 }
 
@@ -14,20 +14,21 @@ impl From<Memory> for Fault {
     ghost use Rattle.std.specs.Prelude.{◌≡◌};
     ghost use Rattle.bt_parser.specs.declared.fault.Fault.TheVariants.{OutOfMemory};
 
-    ghost from_gives = { λ _ e. e ≡ OutOfMemory };
+    ghost from_gives = { λ m e. e ≡ OutOfMemory m };
 
-    fn from(_error: Memory) -> Fault {
-        Fault::OutOfMemory
+    fn from(error: Memory) -> Fault {
+        Fault::OutOfMemory(error)
     }
 }
 
 impl From<AllocError> for Fault {
     ghost use Rattle.std.specs.Prelude.{◌≡◌};
+    ghost use Rattle.bt_core.specs.Want.{out_of_memory};
     ghost use Rattle.bt_parser.specs.declared.fault.Fault.TheVariants.{OutOfMemory};
 
-    ghost from_gives = { λ _ e. e ≡ OutOfMemory };
+    ghost from_gives = { λ _ e. e ≡ OutOfMemory out_of_memory };
 
-    fn from(_error: AllocError) -> Fault {
-        Fault::OutOfMemory
+    fn from(error: AllocError) -> Fault {
+        Fault::OutOfMemory(error.into())
     }
 }

@@ -55,7 +55,7 @@ fn next_probe(alloc: Global, tokens: &mut Cursor<'_>) -> Result<Option<Probe>, M
     match probe(alloc, tokens) {
         Ok(probe) => Ok(Some(probe)),
         Err(Fault::Syntax) => Ok(None),
-        Err(Fault::OutOfMemory) => Err(Memory),
+        Err(Fault::OutOfMemory(memory)) => Err(memory),
     }
 }
 
