@@ -1,5 +1,5 @@
 // Assignments, and whole numbers that a statement asks for.
-ghost use Rattle.std.specs.Prelude.{◌≡◌, ◌≢◌, Err, IfOk, OnOk, Some, map, slice_get};
+ghost use Rattle.std.specs.Prelude.{◌≡◌, ◌≢◌, ◌≤◌, ◌^◌, Err, IfOk, OnOk, Some, length, map, slice_get};
 ghost use Rattle.bt_core.specs.declared.map.Shape.TheVariants.{Int};
 ghost use Rattle.expr_types.specs.declared.fault.TypeError.TheVariants.{Memory as NoMemory};
 ghost use Rattle.expr_types.specs.declared.known.Var.{Var};
@@ -136,6 +136,7 @@ pub(crate) fn check_set_map(
 pub(crate) fn number_var(known: &Known, var: &VarRef, place: Place) -> Result<u32, TypeError>
     ensures says { Says (judged (step_points place (OnVar var.now.name var.now.place)) known.now) known.now result }
     ensures numbered { IfOk result (λ number. slice_get known.now.vars number ≡ Some (record { name = var.now.name; shape = Int })) }
+    ensures beyond { result ≡ Err NoMemory → 2 ^ 32 ≤ length known.now.vars }
 {
     match known.var(var.name.as_slice()) {
         None => Err(broken(Rule::NotSet, var.place)),

@@ -34,7 +34,7 @@ fn pieces_of(alloc: Global, text: &[u8]) -> Result<Option<Items<Piece>>, Memory>
     match read_format(alloc, text) {
         Ok(pieces) => Ok(Some(pieces)),
         Err(FormatFault::BadAt(_)) => Ok(None),
-        Err(FormatFault::Memory) => Err(Memory),
+        Err(FormatFault::Memory(memory)) => Err(memory),
     }
 }
 
