@@ -1,5 +1,5 @@
 // Parts of shared maps that no step was made at yet.
-ghost use Rattle.std.specs.Prelude.{◌≡◌, [], ◌++◌, OnOk, IfOk};
+ghost use Rattle.std.specs.Prelude.{◌≡◌, ◌≤◌, ◌^◌, [], ◌++◌, OnErr, OnOk, IfOk};
 ghost use Rattle.bt_core.specs.declared.limits.TheConstants.{PARTS as ALL_PARTS};
 ghost use Rattle.bt_core.specs.Kinds.{IsShared};
 ghost use Rattle.turn_lock.specs.History.{Each};
@@ -19,12 +19,10 @@ pub(crate) type Parts = Vec<(ObjectId, SharedPart)>;
 
 // The number of a place, or [`Memory`] past the greatest that fits.
 fn number(place: usize) -> Result<u32, Memory>
-    ensures { IfOk result (λ number. number ≡ place) }
+    ensures same { IfOk result (λ number. number ≡ place) }
+    ensures beyond { OnErr result (2 ^ 32 ≤ place) }
 {
-    match u32::try_from(place) {
-        Ok(number) => Ok(number),
-        Err(_) => Err(Memory),
-    }
+    Ok(u32::try_from(place)?)
 }
 
 // Adds all parts of the shared map with this number.
