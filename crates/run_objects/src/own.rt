@@ -1,10 +1,10 @@
 // An object of a run with its clock.
-ghost use Rattle.std.specs.Prelude.{◌≡◌, ◌<◌, ◌++◌, ◌∷◌, [], List, length, max, suc, slice_index_or, IfOk, OnOk, OnErr};
+ghost use Rattle.std.specs.Prelude.{◌≡◌, ◌<◌, ◌≤◌, ◌^◌, ◌++◌, ◌∷◌, [], List, length, max, suc, slice_index_or, IfOk, OnOk, OnErr};
 ghost use Rattle.bt_core.specs.declared.step.Op.{Op};
 ghost use Rattle.run_objects.specs.declared.own.OwnObject.{OwnObject};
 ghost use Rattle.run_objects.specs.Took.{TookAt};
 
-use bt_core::memory::Memory;
+use bt_core::memory::{Memory, fitting};
 use bt_core::step::{Op, Reply};
 use std::alloc::Global;
 use turn_lock::object::SeqObject;
@@ -29,15 +29,14 @@ impl<O: SeqObject> OwnObject<O> {
         ensures clock { IfOk result (λ r. self.new.clock ≡ r.1) }
         ensures memory { OnErr result ((before : List Op) → O.stands_for self.old.object before → O.stands_for self.new.object before) }
         ensures same { OnErr result (self.new.clock ≡ self.old.clock) }
+        // A free operation is refused only where its stamp would not fit.
+        ensures beyond { OnErr result ((before : List Op) → O.stands_for self.old.object before → O.is_free (O.kind self.old.object) before op.now →
+            2 ^ 64 ≤ suc (max clock self.old.clock)) }
     {
-        match self.clock.max(clock).checked_add(1) {
-            None => Err(Memory),
-            Some(stamp) => {
-                let reply = self.object.apply(alloc, op)?;
-                self.clock = stamp;
-                Ok((reply, stamp))
-            }
-        }
+        let stamp = fitting(self.clock.max(clock).checked_add(1))?;
+        let reply = self.object.apply(alloc, op)?;
+        self.clock = stamp;
+        Ok((reply, stamp))
     }
 }
 

@@ -14,7 +14,7 @@ loop-map-preserved c =
     slice_get-get_or c.args.maps.now c.loop-map.map c.index-maps-map.result c.loop-map-test.true ∙ ap Some (sym c.index-maps-map.is) in record {
       count = omega arith;
       each = maps_more c.args.maps.now c.loop-map.all.items _ c.in_ok-parts_of.field-0 c.index-maps-map.result c.loop-map.map i there
-          (subst (λ n. AreNewParts n c.index-maps-map.result c.in_ok-parts_of.field-0) c.in_ok-map.ensures c.in_ok-parts_of.ensures) c.in_ok-push.ensures.items c.loop-map.invariant.each;
+          (subst (λ n. AreNewParts n c.index-maps-map.result c.in_ok-parts_of.field-0) c.in_ok-map.ensures.same c.in_ok-parts_of.ensures) c.in_ok-push.ensures.items c.loop-map.invariant.each;
     }
 
 pub returns : goal.returns

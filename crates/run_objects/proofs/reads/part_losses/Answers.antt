@@ -11,7 +11,7 @@ pub loop-part-preserved : goal.loop-part-preserved
 loop-part-preserved c = λ maps steps all. let i = c.loop-part.part-index in
     let lt : c.loop-part.part-index < length c.args.parts.now = c.loop-part-test.true in
     let one : StandsAt shared_kind SharedStands (IsPartOf maps c.args.map.0) steps (Shared c.args.map c.loop-part.part-index) c.part-item.result = subst (StandsAt shared_kind SharedStands (IsPartOf maps c.args.map.0) steps (Shared c.args.map c.loop-part.part-index)) (sym c.part-item.is) (all i c.part-item.result lt) in
-    sum_more (part_lost maps steps c.args.map) i c.loop-part.total _ c.lost.result (c.loop-part.invariant maps steps all) (c.lost.ensures (operations (on_object (Shared c.args.map i) steps)) one.stood) c.in_ok-total.ensures
+    sum_more (part_lost maps steps c.args.map) i c.loop-part.total _ c.lost.result (c.loop-part.invariant maps steps all) (c.lost.ensures (operations (on_object (Shared c.args.map i) steps)) one.stood) c.in_ok-total.ensures.both
 
 pub returns : goal.returns
 returns c = λ maps steps all. let f = c.loop-part-test.false in let a = c.loop-part.auto.part-index-end in

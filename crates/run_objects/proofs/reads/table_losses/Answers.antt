@@ -12,7 +12,7 @@ pub loop-table-preserved : goal.loop-table-preserved
 loop-table-preserved c = λ maps steps all. let i = c.loop-table.table-index in
     let lt : c.loop-table.table-index < length c.args.tables.now = c.loop-table-test.true in
     let one : StandsAt cpu_kind CpuStands (λ (ms : List MapDecl). ms ≡ maps) steps (Cpu c.loop-table.table-index) c.table-item.result = subst (StandsAt cpu_kind CpuStands (λ (ms : List MapDecl). ms ≡ maps) steps (Cpu c.loop-table.table-index)) (sym c.table-item.is) (all i c.table-item.result lt) in
-    sum_more (table_lost maps steps c.args.map) i c.loop-table.total _ c.lost.result (c.loop-table.invariant maps steps all) (c.lost.ensures (operations (on_object (Cpu i) steps)) one.stood) c.in_ok-total.ensures
+    sum_more (table_lost maps steps c.args.map) i c.loop-table.total _ c.lost.result (c.loop-table.invariant maps steps all) (c.lost.ensures (operations (on_object (Cpu i) steps)) one.stood) c.in_ok-total.ensures.both
 
 pub returns : goal.returns
 returns c = λ maps steps all. let f = c.loop-table-test.false in let a = c.loop-table.auto.table-index-end in
