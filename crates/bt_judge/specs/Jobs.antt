@@ -1,5 +1,5 @@
 -- What a script and a recording ask for: a job.
-use Rattle.std.specs.Prelude.{◌≡◌, ℕ, List, ◌∷◌, None}
+use Rattle.std.specs.Prelude.{◌≡◌, ℕ, List, [], ◌∷◌, None}
 use Rattle.bt_ast.specs.declared.probe.Script.{Script as Tree}
 use Rattle.bt_attach.specs.Attaching.{IsAttachedTo}
 use Rattle.bt_types.specs.Script.{IsTypedScript}

@@ -28,17 +28,17 @@ loop-number-preserved c =
           c.loop-number.invariant.before c.in-Ok.ensures.passes;
     }
 
-pub returns-in_ok-why : goal.returns-in_ok-why
-returns-in_ok-why c =
+pub returns-in-Err : goal.returns-in-Err
+returns-in-Err c =
     let n = c.loop-number.number in
     let low = c.loop-number-test.true in
     let many = c.requires.as_many in
     let named = c.requires.named in
     first_refused c.args.ids.now c.args.typed.now c.args.programs.now n (get_or c.args.ids.now n first) c.index-as_slice-number.result
-    c.index-programs-number.result c.in-Err.fault c.in_ok-why.why (slice_get-get_or c.args.ids.now n first (omega (arith, low, many, named)))
+    c.index-programs-number.result c.in-Err.fault c.in_ok-why-in-Err.why (slice_get-get_or c.args.ids.now n first (omega (arith, low, many, named)))
     (read_at c.as_slice.result.now c.args.typed.now.bodies n c.index-as_slice-number.result c.as_slice.ensures c.index-as_slice-number.is (omega (arith, low, many)))
     (read_at c.args.programs.now c.args.programs.now n c.index-programs-number.result refl c.index-programs-number.is low)
-    c.loop-number.invariant.before c.in-Err.ensures.refused (sym c.in_ok-why.ensures)
+    c.loop-number.invariant.before c.in-Err.ensures.refused (sym c.in_ok-why-in-Err.ensures)
 
 pub returns : goal.returns
 returns c =
