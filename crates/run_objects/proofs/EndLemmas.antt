@@ -1,5 +1,5 @@
 -- What is read of a map at the end, of the objects that hold it.
-use Rattle.std.proofs.Common.{◌≡◌, ℕ, ◌<◌, List, length, sum, Result, Ok, Err, IfOk, Vec, Global, sym, ap, ◌∙◌, subst, arith}
+use Rattle.std.proofs.Common.{◌≡◌, ℕ, ◌<◌, ◌≤◌, ◌^◌, List, length, sum, Result, Ok, Err, IfOk, OnErr, Vec, Global, sym, ap, ◌∙◌, subst, arith}
 use Rattle.std.specs.Prelude.{All, Some, slice_get, slice_index_or}
 use Rattle.std.proofs.lemmas.Option.{slice_get_within}
 use Rattle.bt_core.specs.declared.map.AggKind.{AggKind}
@@ -40,6 +40,14 @@ module _ (at : Moment) (closed : Closed) (m : MapId) (decl : MapDecl) (is : AreC
       h at.world.maps at.steps (subst (AllStandAt cpu_kind CpuStands (λ ms. ms ≡ at.world.maps) at.steps Cpu) (sym same) is.stand.tables)
       ∙ ap (λ n. sum (of_first (table_lost at.world.maps at.steps m) n)) (ap length same ∙ is.stand.table_count) ∙ sym (table_losses at m decl there kind e)
 
+  pub tables_beyond : (tables : List CpuTable) → tables ≡ closed.tables.items → (kind : AggKind) → decl.kind ≡ Aggs kind → (r : Result ℕ Memory)
+      → OnErr r ((maps : List MapDecl) (steps : List Step) → AllStandAt cpu_kind CpuStands (λ ms. ms ≡ maps) steps Cpu tables → 2 ^ 64 ≤ sum (of_first (table_lost maps steps m) (length tables)))
+      → OnErr r (2 ^ 64 ≤ lost_after at.world.maps at.world.cpus at.steps m decl)
+  tables_beyond tables same kind e (Ok lost) h = tt
+  tables_beyond tables same kind e (Err x) h =
+      subst (λ n. 2 ^ 64 ≤ n) (ap (λ n. sum (of_first (table_lost at.world.maps at.steps m) n)) (ap length same ∙ is.stand.table_count) ∙ sym (table_losses at m decl there kind e))
+      (h at.world.maps at.steps (subst (AllStandAt cpu_kind CpuStands (λ ms. ms ≡ at.world.maps) at.steps Cpu) (sym same) is.stand.tables))
+
   -- ---- a shared map
 
   map_within : m.0 < length closed.parts.items
@@ -68,3 +76,11 @@ module _ (at : Moment) (closed : Closed) (m : MapId) (decl : MapDecl) (is : AreC
     parts_lost sh (Err x) h = tt
     parts_lost sh (Ok lost) h = h at.world.maps at.steps stands_all
         ∙ ap (λ n. sum (of_first (part_lost at.world.maps at.steps m) n)) (ap length same ∙ stands.count decl there sh) ∙ sym (part_losses at m decl there sh)
+
+    pub parts_beyond : IsShared decl.kind → (r : Result ℕ Memory)
+        → OnErr r ((maps : List MapDecl) (steps : List Step) → AllStandAt shared_kind SharedStands (IsPartOf maps m.0) steps (Shared m) parts → 2 ^ 64 ≤ sum (of_first (part_lost maps steps m) (length parts)))
+        → OnErr r (2 ^ 64 ≤ lost_after at.world.maps at.world.cpus at.steps m decl)
+    parts_beyond sh (Ok lost) h = tt
+    parts_beyond sh (Err x) h =
+        subst (λ n. 2 ^ 64 ≤ n) (ap (λ n. sum (of_first (part_lost at.world.maps at.steps m) n)) (ap length same ∙ stands.count decl there sh) ∙ sym (part_losses at m decl there sh))
+        (h at.world.maps at.steps stands_all)

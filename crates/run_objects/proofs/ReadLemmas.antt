@@ -1,6 +1,6 @@
 -- What is read of one object more.
-use Rattle.std.proofs.Common.{◌≡◌, ℕ, zero, suc, ◌+◌, List, [], ◌∷◌, ◌++◌, map, sum, sym, ap, ◌∙◌, arith}
-use Rattle.std.specs.Prelude.{Option, Some}
+use Rattle.std.proofs.Common.{◌≡◌, ◌⊎◌, ℕ, zero, suc, ◌+◌, ◌<◌, ◌≤◌, List, [], ◌∷◌, ◌++◌, map, sum, refl, sym, ap, subst, ◌∙◌, arith, inl, inr}
+use Rattle.std.specs.Prelude.{Option, Some, Result, Ok, Err, OnErr}
 use Rattle.std.specs.List.{range_with_len}
 use Rattle.bt_core.specs.declared.map.MapDecl.{MapDecl}
 use Rattle.std.proofs.lemmas.List.{map-append}
@@ -24,6 +24,31 @@ sum_more f n total new x e one is = is ∙ (λ i. e i + one i) ∙ sym (ap sum (
   where
     one_sum : (k : ℕ) → sum (k ∷ []) ≡ k
     one_sum k = let e : 0 + k ≡ k = omega arith in e
+
+at_most : (a b : ℕ) → a ≤ b → (a ≡ b) ⊎ (a < b)
+at_most a b h = grind arith
+
+one_more : (f : ℕ → ℕ) (n : ℕ) → sum (of_first f n) + f n ≡ sum (of_first f (suc n))
+one_more f n = let e : n + 1 ≡ suc n = omega arith in sum_more f n (sum (of_first f n)) (sum (of_first f n) + f n) (f n) refl refl refl ∙ ap (λ k. sum (of_first f k)) e
+
+within_more : (f : ℕ → ℕ) (i n : ℕ) → (i ≤ n → sum (of_first f i) ≤ sum (of_first f n)) → (i ≡ suc n) ⊎ (i < suc n) → sum (of_first f i) ≤ sum (of_first f (suc n))
+within_more f i n earlier (inl e) = let P : ℕ → Type 0 = λ k. sum (of_first f i) ≤ sum (of_first f k) in subst P e (omega arith)
+within_more f i n earlier (inr lt) = let before = earlier (omega arith) in let more = one_more f n in omega (arith, before, more)
+
+-- the first of them come to no more than all
+sum_within : (f : ℕ → ℕ) (i n : ℕ) → i ≤ n → sum (of_first f i) ≤ sum (of_first f n)
+sum_within f i zero le = let e : 0 ≡ i = omega arith in let P : ℕ → Type 0 = λ k. sum (of_first f k) ≤ sum (of_first f 0) in subst P e (omega arith)
+sum_within f i (suc n) le = within_more f i n (sum_within f i n) (at_most i (suc n) le)
+
+-- where one more is too much, all are
+pub sum_beyond : (f : ℕ → ℕ) (most i n total x : ℕ) → i < n → total ≡ sum (of_first f i) → x ≡ f i → most ≤ total + x → most ≤ sum (of_first f n)
+sum_beyond f most i n total x lt e one much =
+    let more = sum_more f i total (total + x) x e one refl in let all = sum_within f (i + 1) n (omega arith) in omega (arith, more, all, much)
+
+-- a fact of each error holds of whatever came
+pub on_err : {A E : Type 0} (r : Result A E) (P : Type 0) → P → OnErr r P
+on_err (Ok x) P h = tt
+on_err (Err e) P h = h
 
 pub same_decl : (a b : MapDecl) (o : Option MapDecl) → o ≡ Some a → o ≡ Some b → a ≡ b
 same_decl a b o e f = cc

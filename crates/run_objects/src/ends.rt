@@ -1,5 +1,5 @@
 // What is printed at the end of a run.
-ghost use Rattle.std.specs.Prelude.{◌≡◌, ◌<◌, ◌^◌, Some, slice_get, length, All, IfOk};
+ghost use Rattle.std.specs.Prelude.{◌≡◌, ◌<◌, ◌≤◌, ◌^◌, Some, slice_get, length, All, IfOk, OnErr};
 ghost use Rattle.bt_meaning.specs.Prints.{read_of, rows_after, lost_after, of_maps};
 ghost use Rattle.run_objects.specs.Closed.{AreClosedAt};
 ghost use Rattle.run_objects.specs.Moments.{Moment};
@@ -57,7 +57,8 @@ fn lost_of(closed: &Closed, map: MapId, decl: &MapDecl) -> Result<u64, Memory>
     ghost at: { Moment }
     requires closed { AreClosedAt at closed.now }
     requires declared { slice_get at.world.maps map.0 ≡ Some decl.now }
-    ensures { IfOk result (λ lost. lost ≡ lost_after at.world.maps at.world.cpus at.steps map decl.now) }
+    ensures lost { IfOk result (λ lost. lost ≡ lost_after at.world.maps at.world.cpus at.steps map decl.now) }
+    ensures beyond { OnErr result (2 ^ 64 ≤ lost_after at.world.maps at.world.cpus at.steps map decl.now) }
 {
     match decl.kind {
         MapKind::Aggs(_) => table_losses(closed.tables.as_slice(), map),

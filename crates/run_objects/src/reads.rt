@@ -1,5 +1,5 @@
 // What is read of the objects that hold a map.
-ghost use Rattle.std.specs.Prelude.{◌≡◌, ◌<◌, List, All, IfOk, length, sum, Some, slice_get};
+ghost use Rattle.std.specs.Prelude.{◌≡◌, ◌<◌, ◌≤◌, ◌^◌, List, All, IfOk, OnErr, length, sum, Some, slice_get};
 ghost use Rattle.bt_core.specs.declared.map.MapDecl.{MapDecl};
 ghost use Rattle.bt_core.specs.declared.step.ObjectId.TheVariants.{Shared as PartOf, Cpu as TablesOf};
 ghost use Rattle.bt_core.specs.declared.step.Step.{Step};
@@ -36,8 +36,10 @@ pub(crate) fn table_replies(
 /// How many updates of an aggregation the tables of all actors lost.
 pub(crate) fn table_losses(tables: &[CpuTable], map: MapId) -> Result<u64, Memory>
     requires { All (λ (table : CpuTable). IsAggMap (cpu_kind table) map) tables.now }
-    ensures { IfOk result (λ lost. (maps : List MapDecl) (steps : List Step) → AllStandAt cpu_kind CpuStands (λ ms. ms ≡ maps) steps TablesOf tables.now →
+    ensures lost { IfOk result (λ lost. (maps : List MapDecl) (steps : List Step) → AllStandAt cpu_kind CpuStands (λ ms. ms ≡ maps) steps TablesOf tables.now →
         lost ≡ sum (of_first (table_lost maps steps map) (length tables.now))) }
+    ensures beyond { OnErr result ((maps : List MapDecl) (steps : List Step) → AllStandAt cpu_kind CpuStands (λ ms. ms ≡ maps) steps TablesOf tables.now →
+        2 ^ 64 ≤ sum (of_first (table_lost maps steps map) (length tables.now))) }
 {
     let mut total = 0;
     for table in tables {
@@ -68,9 +70,12 @@ pub(crate) fn part_replies(
 /// How many updates of a shared map all its parts lost.
 pub(crate) fn part_losses(parts: &[SharedPart], map: MapId) -> Result<u64, Memory>
     requires { All (λ (part : SharedPart). (shared_kind part).map ≡ map) parts.now }
-    ensures { IfOk result (λ lost. (maps : List MapDecl) (steps : List Step) →
+    ensures lost { IfOk result (λ lost. (maps : List MapDecl) (steps : List Step) →
         AllStandAt shared_kind SharedStands (IsPartOf maps map.0) steps (PartOf map) parts.now →
         lost ≡ sum (of_first (part_lost maps steps map) (length parts.now))) }
+    ensures beyond { OnErr result ((maps : List MapDecl) (steps : List Step) →
+        AllStandAt shared_kind SharedStands (IsPartOf maps map.0) steps (PartOf map) parts.now →
+        2 ^ 64 ≤ sum (of_first (part_lost maps steps map) (length parts.now))) }
 {
     let mut total = 0;
     for part in parts {
