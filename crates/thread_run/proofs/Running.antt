@@ -53,8 +53,8 @@ ended_well P Q (Some (Ok o)) well h = (o, h, refl)
 ended_well P Q (Some (Err e)) well h = absurd well
 
 some_and : {T : Type 0} (P : T → Type 0) (r : Option T) → IsSomeAnd r P → IsSome r
-some_and P None h = h
-some_and P (Some x) h = tt
+some_and P None h = absurd h
+some_and P (Some x) h = refl
 
 -- workers that ran have kept how that ended
 pub all_ended : {B G : Type 0} (plan : B → Plan) (world : SharedWorld) (olds news : List (Task B G)) → length news ≡ length olds

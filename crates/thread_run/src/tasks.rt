@@ -56,7 +56,7 @@ pub(crate) fn gather<B: Bodies + Drop, G: Gate>(
     alloc: Global,
     tasks: Vec<Task<B, G>>,
 ) -> Result<Gathered, Memory>
-    requires ended { Each HasEnded tasks.entry.items }
+    requires ended { Each HasEnded tasks.items }
     ensures turns { IfOk result (λ all. all.turns.items ≡ map turns_in tasks.entry.items) }
     ensures traces { IfOk result (λ all. all.traces.items ≡ map trace_in tasks.entry.items) }
     ensures instructions { IfOk result (λ all. all.instructions ≡ total (map count_in tasks.entry.items)) }

@@ -19,7 +19,7 @@ run_all-requires-clause-ready g c lifetimes bounds = tasks_ready g.B.Bodies.plan
     c.requires.replay c.requires.plans c.requires.cpus
 
 pub gather-requires : goal.gather-requires
-gather-requires g c = all_ended g.B.Bodies.plan c.args.world.now c.in_ok-tasks.tasks.items c.run_all.new.tasks.items c.run_all.ensures.same c.run_all.ensures.ran
+gather-requires g c = record { ended = all_ended g.B.Bodies.plan c.args.world.now c.in_ok-tasks.tasks.items c.run_all.new.tasks.items c.run_all.ensures.same c.run_all.ensures.ran }
 
 pub returns : goal.returns
 returns g c = by_result c.gather.result _ _ _ _ _ c.gather.ensures.turns c.gather.ensures.traces c.gather.ensures.instructions c.gather.ensures.well
