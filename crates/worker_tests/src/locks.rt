@@ -89,13 +89,6 @@ pub fn new_locks(alloc: Global, scripted: &Scripted) -> Result<(Locks, AllTurns)
     Ok((locks, turns))
 }
 
-/// Three as a list.
-fn listed<T: Drop>(alloc: Global, first: T, second: T, third: T) -> Result<Vec<T>, Memory>
-    ensures { IfOk result (λ list. list.items ≡ first ∷ second ∷ third ∷ []) }
-{
-    Ok(vec![in alloc; first, second, third]?)
-}
-
 /// Closes the shared maps with the turns of all actors, and gives how many parts there were.
 fn close_maps(
     alloc: Global,
@@ -106,7 +99,7 @@ fn close_maps(
 ) -> Result<usize, Memory>
     requires { AreAllPartTurns maps (first ∷ second ∷ main ∷ []) }
 {
-    let turns = listed(alloc, first, second, main)?;
+    let turns = vec![in alloc; first, second, main]?;
     Ok(maps.close(alloc, turns)?.len())
 }
 
@@ -120,7 +113,7 @@ fn close_tables(
 ) -> Result<usize, Memory>
     requires { AreAllTableTurns tables (first ∷ second ∷ main ∷ []) }
 {
-    let turns = listed(alloc, first, second, main)?;
+    let turns = vec![in alloc; first, second, main]?;
     Ok(tables.close(alloc, turns)?.len())
 }
 
@@ -134,7 +127,7 @@ fn close_sides(
 ) -> Result<(), Memory>
     requires { AreAllSideTurns sides (first ∷ second ∷ main ∷ []) }
 {
-    let turns = listed(alloc, first, second, main)?;
+    let turns = vec![in alloc; first, second, main]?;
     let _closed = sides.close(alloc, turns)?;
     Ok(())
 }
