@@ -28,7 +28,6 @@ use Rattle.bt_judge.specs.Orders.{on_account, on_script}
 use Rattle.bt_judge.specs.Vetting.{AllPass, IsFirstRefused, vet_listing}
 use Rattle.bt_top.specs.declared.outcome.Outcome.{Outcome}
 use Rattle.bt_top.specs.Jobs.{IsBigJob, IsWorkOf}
-use Rattle.bt_top.specs.Outcomes.{form_of}
 
 -- ---- outcomes
 
