@@ -108,11 +108,11 @@ const SIDE_BY_SIDE: [(&[u8], &[u8], [ObjectId; 2]); 2] = [
 #[test]
 fn cpus_run_side_by_side(rt: HostRuntime) -> Result<(), Fail> {
     let alloc = rt.alloc();
-    for (script, told, [first, second]) in &SIDE_BY_SIDE {
+    for (script, told, objects) in SIDE_BY_SIDE {
         let gate = UntilBoth::new();
-        let answer = answer_to(&rt, alloc, &RUN, *script, &ONE_EACH, &gate)?;
-        assert!(rt; answer.is(*told));
-        assert!(rt; gate.has_noted(&rt, *first, *second));
+        let answer = answer_to(&rt, alloc, &RUN, script, &ONE_EACH, &gate)?;
+        assert!(rt; answer.is(told));
+        assert!(rt; gate.has_noted(&rt, objects[0], objects[1]));
     }
     Ok(())
 }
