@@ -10,6 +10,7 @@ ghost use Rattle.turn_lock.specs.Calls.{caller_of, seen, Gains, Stays, Calls, Lo
 use crate::gate::Gate;
 use crate::object::SeqObject;
 use crate::rule::{Deal, Draw, Keep, Leave, Look, Made, Note, TakeIn, Told, Turns};
+use crate::sleepers::Sleepers;
 use crate::turn::{Joined, Turn};
 use crate::view::{About, Desk, View};
 use atomic_table::{Badge, Seat, Table};
@@ -21,9 +22,9 @@ use std::marker::Brand;
 use std::mem;
 use std::snapshot::Snapshot;
 use std::sync::Wait;
-use std::thread::yield_now;
 
-/// How often a waiting caller looks before it leaves the processor to others at each look.
+/// How often a waiting caller looks before it sleeps. So many looks take some microseconds, in which most turns end; a caller
+/// whose turn does not come so soon would only keep the processor from the one that has the turn.
 const LOOKS: u32 = 64;
 
 // The words of the table: the ticket that is drawn next, and the ticket that is served.
@@ -42,6 +43,7 @@ pub(crate) type Place<O> = Seat<Option<Desk<O>>, View>;
 pub struct TurnLock<O: SeqObject> {
     table: Table<Option<Desk<O>>, View, About<O>, Turns, Global>,
     id: ObjectId,
+    sleepers: Sleepers,
     ghost sized: { (table.shared.table_id.words ≡ 2) × (table.shared.table_id.slots ≡ 1) },
     ghost some_callers: { 0 < table.shared.key.callers },
 }
@@ -87,7 +89,7 @@ impl<O: SeqObject> TurnLock<O> {
                 looks += 1;
                 spin_loop();
             } else {
-                yield_now();
+                self.sleepers.sleep(rt, ticket);
             }
         }
         unreachable!()
@@ -113,7 +115,7 @@ impl<O: SeqObject> TurnLock<O> {
         drop(self.table.shared.exchange(seat, 0, Some(desk)));
     }
 
-    // Gives the slot back and serves the next ticket.
+    // Gives the slot back, serves the next ticket, and wakes its caller.
     fn leave<W: Made>(&self, seat: &mut Place<O>)
         requires table { seat.old.table_id ≡ table_of self.now }
         requires view { seat.old.me.0.live ≡ true }
@@ -123,7 +125,8 @@ impl<O: SeqObject> TurnLock<O> {
         ensures table { seat.new.table_id ≡ seat.old.table_id }
         ensures view { (h : List Entry) → seat.old.me.0.stage ≡ Holds h → seat.new.me ≡ (after W.made seat.old.me.0 h, []) }
     {
-        self.table.shared.fetch_add::<Leave<W>>(seat, SERVING, 1);
+        let served = self.table.shared.fetch_add::<Leave<W>>(seat, SERVING, 1);
+        self.sleepers.wake(served.wrapping_add(1));
     }
 
     // Gives the object back with one more entry, and passes the turn on.
@@ -344,13 +347,18 @@ impl<O: SeqObject> TurnLock<O> {
             first: Snapshot::of(&object),
             callers,
         };
+        let sleepers = Sleepers::new(alloc, callers)?;
         let mut slots = Vec::with_capacity(alloc, 1)?;
         slots.push_reserved(Some(Desk { object, stamp: 0 }));
         // A table that is refused gives its slots back, and no error of the allocator's.
         let Ok((table, first)) = Table::new(alloc, &[0, 0], slots, &about) else {
             return Err(AllocError.into());
         };
-        let lock = TurnLock { table, id };
+        let lock = TurnLock {
+            table,
+            id,
+            sleepers,
+        };
         let turns = lock.deal(alloc, first, callers)?;
         Ok((lock, turns))
     }
@@ -387,7 +395,11 @@ impl<O: SeqObject> TurnLock<O> {
         ensures desk { DeskOk (law_of O.kind O.is_own O.reply_after self) (fits_of O.kind O.stands_for self) result seat.me.0.seen }
         ensures view { Agrees seat.me.0.seen seat.me.0 }
     {
-        let TurnLock { table, id: _ } = self;
+        let TurnLock {
+            table,
+            id: _,
+            sleepers: _,
+        } = self;
         let mut closed = table.close_with(seat);
         let slot = closed.take(0);
         closed.free();
