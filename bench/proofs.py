@@ -1,0 +1,104 @@
+#!/usr/bin/env python3
+"""Measures by hand what the check of a crate spends its time on: python3 bench/proofs.py CRATE [FUNCTION ..]
+
+It checks the crate of this name, from nothing and with one job, or of it the named functions and those that they call, as `rt check --only` names
+them. The libraries below must be there: `rt ci CRATE`, or `rt lib` in their folders, builds them. The check is one by hand: it is not the gate,
+and nothing of it is kept. For each module of the proof it tells the seconds of the clock that passed until it was checked, the longest first,
+and before them the sums by kind of module. Of a function, `Lts` is the part that the borrow checker leaves, `Proof` and `Tie` are what its
+clauses take, and a module that is none of a function's is a file of `specs/` or `proofs/`, or what is made of a type.
+"""
+import collections
+import os
+import pathlib
+import re
+import subprocess
+import sys
+import tempfile
+
+TOP = pathlib.Path(__file__).resolve().parent.parent
+CRATES = TOP / "crates"
+SHOWN = 40
+LEAST = 0.5
+
+
+def dependencies():
+    """What each crate of the repository names, by crates.txt."""
+    found = {}
+    for line in (TOP / "crates.txt").read_text().splitlines():
+        if line.strip() and not line.startswith("#"):
+            head, _, rest = line.partition(":")
+            found[head.split()[0]] = rest.split()
+    return found
+
+
+def below(crate, named):
+    """All crates of the repository that a crate stands on."""
+    found = set()
+    left = list(named[crate])
+    while left:
+        name = left.pop()
+        if name in named and name not in found:
+            found.add(name)
+            left += named[name]
+    return sorted(found)
+
+
+def words_of_check(crate, functions, kept):
+    """The words of the check, whose modules are written to a folder as they are checked."""
+    named = dependencies()
+    if crate not in named:
+        sys.exit(f"there is no crate {crate} in crates.txt")
+    kit = pathlib.Path(subprocess.run(["rt", "doc"], stdout=subprocess.PIPE, text=True, check=True).stdout.strip()).parent
+    root = "src/lib.rt" if (CRATES / crate / "src" / "lib.rt").is_file() else "src/main.rt"
+    words = [kit / "bin" / "rattle", "check", "--crate-name", crate, root, "--jobs", "1", "--incremental", kept]
+    words += ["--antt-project", kit / "rattle" / "logic" / "antt-project.json", "--logic-built", kit / "logic_built"]
+    words += ["-L", f"dependency={kit / 'rlibs'}", "--extern", f"std={kit / 'rlibs' / 'std.rlib'}"]
+    for name in named[crate]:
+        library = CRATES / name / "out" / "rlib" if name in named else kit / "rlibs"
+        words += ["--extern", f"{name}={library / (name + '.rlib')}"]
+    for name in below(crate, named):
+        words += ["-L", f"dependency={CRATES / name / 'out' / 'rlib'}"]
+    for function in functions:
+        words += ["--only", function]
+    return [str(word) for word in words]
+
+
+def times(kept):
+    """The modules in the order in which they were written, each with the seconds since the one before."""
+    written = sorted((os.stat(path).st_mtime, path.name) for path in pathlib.Path(kept).rglob("*.oantt"))
+    return [(now - before, name.removesuffix(".oantt").removesuffix(".decls")) for (before, _), (now, name) in zip(written, written[1:])]
+
+
+def kind(module):
+    """What a module is: the last part of its name, without the function that it may be of."""
+    library, _, rest = module.partition(".")
+    if library.endswith("-specs"):
+        return "specs"
+    return re.sub("-.*", "", rest.rsplit(".", 1)[-1]) or library
+
+
+def main(words):
+    """Checks, and prints the two tables. The status is that of the check."""
+    if not words or words[0].startswith("-"):
+        sys.exit(__doc__)
+    crate, *functions = words
+    with tempfile.TemporaryDirectory(prefix="proofs-") as kept:
+        done = subprocess.run(words_of_check(crate, functions, kept), cwd=CRATES / crate, stdout=subprocess.PIPE, stderr=subprocess.STDOUT, text=True)
+        seconds = collections.Counter()
+        kinds = collections.Counter()
+        for spent, module in times(kept):
+            seconds[module] += spent
+            kinds[kind(module)] += spent
+    for what, spent in kinds.most_common():
+        if spent >= LEAST:
+            print(f"{spent:8.1f}  {what}")
+    print()
+    for module, spent in seconds.most_common(SHOWN):
+        if spent >= LEAST:
+            print(f"{spent:8.1f}  {module}")
+    print(done.stdout.splitlines()[-1] if done.stdout else f"the check ended with status {done.returncode}")
+    return done.returncode
+
+
+if __name__ == "__main__":
+    sys.exit(main(sys.argv[1:]))
