@@ -48,10 +48,13 @@ bytes_written outcome = shown_text outcome ++ outcome.rest
 abbrev pub run_outcome : Job → Work → List ℕ → Outcome
 run_outcome job work rest = record { work = Some work; programs = job.programs; refused = None; prints = true; rest = rest }
 
--- of a run of which an account stands in the place of its text
+-- of a run of which these bytes stand in the place of its text
+abbrev pub account_with : Job → Work → List ℕ → Outcome
+account_with job work rest = record { work = Some work; programs = job.programs; refused = None; prints = false; rest = rest }
+
+-- and of one whose account stands there
 abbrev pub account_outcome : Job → Work → Outcome
-account_outcome job work =
-    record { work = Some work; programs = job.programs; refused = None; prints = false; rest = account_bytes work.steps work.text }
+account_outcome job work = account_with job work (account_bytes work.steps work.text)
 
 -- of what runs nothing and has no programs: the bytes that it writes
 abbrev pub plain_outcome : List ℕ → Outcome

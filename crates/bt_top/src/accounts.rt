@@ -4,10 +4,10 @@ ghost use Rattle.bt_core.specs.Want.{out_of_memory};
 ghost use Rattle.bt_meaning.specs.Jobs.{IsJob};
 ghost use Rattle.program_codes.specs.Programs.{KeepScript};
 ghost use Rattle.account_format.specs.declared.error.AccountError.TheVariants as wrong;
-ghost use Rattle.bt_top.specs.Outcomes.{IsOutcomeOfAccount, IsOutcomeOfVerify, verified_line, verify_outcome};
+ghost use Rattle.bt_top.specs.Outcomes.{account_with, IsOutcomeOfAccount, IsOutcomeOfVerify, verified_line, verify_outcome};
 
 use crate::outcome::Outcome;
-use crate::work::run;
+use crate::work::{programs_of, run};
 use account_check::verify::verify;
 use account_format::error::AccountError;
 use account_format::writing::write_account;
@@ -15,12 +15,29 @@ use bt_core::items::Items;
 use bt_core::memory::Memory;
 use bt_judge::refusal::Denial;
 use itoa::Buffer;
-use run_base::job::Job;
+use run_base::job::{Job, Work};
 use run_output::form::Form;
 use std::alloc::Global;
 use std::sync::Wait;
 use std::thread::Threads;
 use turn_lock::gate::Gate;
+
+/// The work of a job, and the account of its steps.
+fn accounted<G: Gate + Sync, R: Threads + Wait + Sync>(
+    rt: &R,
+    alloc: Global,
+    serial: bool,
+    job: &Job,
+    gate: &G,
+) -> Result<(Work, Items<u8>), Memory>
+    requires job { IsJob job.now.typed job.now.attached job.now.recording }
+    requires programs { KeepScript job.now.typed job.now.programs }
+    ensures { IfOk result (λ done. IsOutcomeOfAccount serial job.now (account_with job.now done.0 done.1)) }
+{
+    let work = run(rt, alloc, Form::Text, serial, job, gate)?;
+    let account = write_account(alloc, &work.steps, work.text.as_slice())?;
+    Ok((work, Items::of(account)))
+}
 
 /// Runs a job. In place of what it prints stands the account of its steps.
 pub(crate) fn account_outcome<G: Gate + Sync, R: Threads + Wait + Sync>(
@@ -34,14 +51,13 @@ pub(crate) fn account_outcome<G: Gate + Sync, R: Threads + Wait + Sync>(
     requires programs { KeepScript job.typed job.programs }
     ensures { IfOk result (IsOutcomeOfAccount serial job) }
 {
-    let work = run(rt, alloc, Form::Text, serial, &job, gate)?;
-    let account = write_account(alloc, &work.steps, work.text.as_slice())?;
+    let (work, rest) = accounted(rt, alloc, serial, &job, gate)?;
     Ok(Outcome {
         work: Some(work),
-        programs: job.programs,
+        programs: programs_of(job),
         refused: None,
         prints: false,
-        rest: Items::of(account),
+        rest,
     })
 }
 

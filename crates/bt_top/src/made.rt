@@ -1,5 +1,5 @@
 // The orders that make their recording.
-ghost use Rattle.std.specs.Prelude.{◌≡◌, [], IfOk, IfErr};
+ghost use Rattle.std.specs.Prelude.{◌≡◌, [], IfOk, IfErr, false, length};
 ghost use Rattle.bt_meaning.specs.Jobs.{IsJob};
 ghost use Rattle.rec_format.specs.Recordings.{IsValidRecording};
 ghost use Rattle.rec_gen.specs.Made.{IsMade};
@@ -7,10 +7,12 @@ ghost use Rattle.bt_words.specs.declared.order.Order.{Order};
 ghost use Rattle.bt_words.specs.Words.{AreBounded};
 ghost use Rattle.bt_judge.specs.Jobs.{AsksFor};
 ghost use Rattle.bt_top.specs.Jobs.{IsBigJob};
-ghost use Rattle.bt_top.specs.Outcomes.{ComesTo, summary_line};
+ghost use Rattle.bt_top.specs.Outcomes.{ComesTo, IsOutcomeOfRun, run_outcome, summary_line};
+ghost use Rattle.program_codes.specs.Programs.{KeepScript};
+ghost use Rattle.run_output.specs.declared.form.Form.TheVariants.{Text};
 
 use crate::outcome::Outcome;
-use crate::work::run;
+use crate::work::{programs_of, run};
 use big_script::script::SCRIPT;
 use bt_core::items::Items;
 use bt_core::memory::Memory;
@@ -20,7 +22,7 @@ use itoa::Buffer;
 use rec_format::recording::Recording;
 use rec_format::writing::write_recording;
 use rec_gen::generate::generate;
-use run_base::job::Job;
+use run_base::job::{Job, Work};
 use run_output::form::Form;
 use std::alloc::Global;
 use std::sync::Wait;
@@ -84,6 +86,24 @@ fn summary_line(alloc: Global, events: u32, steps: usize) -> Result<Items<u8>, M
     Ok(Items::of(line))
 }
 
+/// The work of a large run, and the line of its events and steps.
+fn summed_up<G: Gate + Sync, R: Threads + Wait + Sync>(
+    rt: &R,
+    alloc: Global,
+    n: u32,
+    job: &Job,
+    gate: &G,
+) -> Result<(Work, Items<u8>), Memory>
+    requires job { IsJob job.now.typed job.now.attached job.now.recording }
+    requires programs { KeepScript job.now.typed job.now.programs }
+    ensures { IfOk result (λ done. IsOutcomeOfRun Text false job.now (λ work. summary_line n (length work.steps))
+        (run_outcome job.now done.0 done.1)) }
+{
+    let work = run(rt, alloc, Form::Text, false, job, gate)?;
+    let rest = summary_line(alloc, n, work.steps.len())?;
+    Ok((work, rest))
+}
+
 /// Runs the built-in script over the recording of a seed and a count of events. Behind its text stands the summary of the run.
 pub(crate) fn big_outcome<G: Gate + Sync, R: Threads + Wait + Sync>(
     rt: &R,
@@ -97,11 +117,10 @@ pub(crate) fn big_outcome<G: Gate + Sync, R: Threads + Wait + Sync>(
     ensures memory { IfErr result (λ refusal. refusal ≡ Refusal.Memory) }
 {
     let job = big_job(alloc, x, n)?;
-    let work = run(rt, alloc, Form::Text, false, &job, gate)?;
-    let rest = summary_line(alloc, n, work.steps.len())?;
+    let (work, rest) = summed_up(rt, alloc, n, &job, gate)?;
     Ok(Outcome {
         work: Some(work),
-        programs: job.programs,
+        programs: programs_of(job),
         refused: None,
         prints: true,
         rest,

@@ -7,12 +7,14 @@ ghost use Rattle.bt_judge.specs.Doing.{ComesOfFiles, refusal_in};
 ghost use Rattle.bt_judge.specs.FailedNames.{FailsNamed};
 ghost use Rattle.bt_judge.specs.Orders.{files_of};
 ghost use Rattle.bt_judge.specs.Reads.{shelf_use};
-ghost use Rattle.bt_top.specs.Outcomes.{form_of, ComesTo, IsOutcomeOfRun, IsOutcomeOfVet, check_outcome, code_outcome, instructions_line, stats_line};
+ghost use Rattle.bt_top.specs.Outcomes.{form_of, ComesTo, IsOutcomeOfRun, IsOutcomeOfVet, check_outcome, code_outcome, instructions_line, run_outcome, stats_line};
+ghost use Rattle.bt_judge.specs.Listings.{script_listing};
+ghost use Rattle.bt_judge.specs.Vetting.{IsVerdict};
 
 use crate::accounts::{account_outcome, verify_outcome};
 use crate::made::{big_outcome, gen_outcome};
 use crate::outcome::Outcome;
-use crate::work::run;
+use crate::work::{programs_of, run};
 use bt_core::items::Items;
 use bt_core::memory::Memory;
 use bt_io::shelf::Shelf;
@@ -22,7 +24,7 @@ use bt_judge::refusal::{Denial, Refusal};
 use bt_judge::vetting::{Verdict, vet_programs};
 use bt_words::order::Order;
 use itoa::Buffer;
-use run_base::job::Job;
+use run_base::job::{Job, Work};
 use run_output::form::Form;
 use std::alloc::Global;
 use std::sync::Wait;
@@ -74,6 +76,26 @@ fn stats_line(
     Ok(Items::of(line))
 }
 
+/// The work of a job, and the line of instructions behind its text, where it is asked for.
+fn ran<G: Gate + Sync, R: Threads + Wait + Sync>(
+    rt: &R,
+    alloc: Global,
+    form: Form,
+    serial: bool,
+    stats: bool,
+    job: &Job,
+    gate: &G,
+) -> Result<(Work, Items<u8>), Memory>
+    requires job { IsJob job.now.typed job.now.attached job.now.recording }
+    requires programs { KeepScript job.now.typed job.now.programs }
+    ensures { IfOk result (λ done. IsOutcomeOfRun form serial job.now (λ work. stats_line form stats work.instructions)
+        (run_outcome job.now done.0 done.1)) }
+{
+    let work = run(rt, alloc, form, serial, job, gate)?;
+    let rest = stats_line(alloc, form, stats, work.instructions)?;
+    Ok((work, rest))
+}
+
 /// Runs a job. What it prints comes in the form, and so does the line of instructions behind it, where it is asked for.
 fn run_outcome<G: Gate + Sync, R: Threads + Wait + Sync>(
     rt: &R,
@@ -88,11 +110,10 @@ fn run_outcome<G: Gate + Sync, R: Threads + Wait + Sync>(
     requires programs { KeepScript job.typed job.programs }
     ensures { IfOk result (IsOutcomeOfRun form serial job (λ work. stats_line form stats work.instructions)) }
 {
-    let work = run(rt, alloc, form, serial, &job, gate)?;
-    let rest = stats_line(alloc, form, stats, work.instructions)?;
+    let (work, rest) = ran(rt, alloc, form, serial, stats, &job, gate)?;
     Ok(Outcome {
         work: Some(work),
-        programs: job.programs,
+        programs: programs_of(job),
         refused: None,
         prints: true,
         rest,
@@ -112,21 +133,41 @@ fn check_outcome(alloc: Global) -> Result<Outcome, Memory>
     })
 }
 
+/// The listing of the programs of a job.
+fn listed(alloc: Global, job: &Job) -> Result<Items<u8>, Memory>
+    requires { KeepScript job.now.typed job.now.programs }
+    ensures { IfOk result (λ rest. rest ≡ script_listing job.now.recording.formats job.now.attached.bodies job.now.programs) }
+{
+    let formats = job.recording.formats.as_slice();
+    let bodies = job.attached.bodies.as_slice();
+    script_listing(alloc, formats, bodies, job.programs.as_slice())
+}
+
 /// Lists the programs of a job.
 fn code_outcome(alloc: Global, job: Job) -> Result<Outcome, Memory>
     requires { KeepScript job.typed job.programs }
     ensures { IfOk result (λ outcome. outcome ≡ code_outcome job) }
 {
-    let formats = job.recording.formats.as_slice();
-    let bodies = job.attached.bodies.as_slice();
-    let rest = script_listing(alloc, formats, bodies, job.programs.as_slice())?;
+    let rest = listed(alloc, &job)?;
     Ok(Outcome {
         work: None,
-        programs: job.programs,
+        programs: programs_of(job),
         refused: None,
         prints: true,
         rest,
     })
+}
+
+/// What a check of the programs of a job says.
+fn verdict_on(alloc: Global, job: &Job) -> Result<Verdict, Memory>
+    requires programs { KeepScript job.now.typed job.now.programs }
+    requires named { length job.now.typed.bodies ≤ length job.now.attached.bodies }
+    ensures { IfOk result (IsVerdict job.now.recording.formats job.now.attached.bodies job.now.typed job.now.programs) }
+{
+    let formats = job.recording.formats.as_slice();
+    let ids = job.attached.bodies.as_slice();
+    let programs = job.programs.as_slice();
+    vet_programs(alloc, formats, ids, &job.typed, programs)
 }
 
 /// Checks the programs of a job.
@@ -135,21 +176,19 @@ fn vet_outcome(alloc: Global, job: Job) -> Result<Outcome, Memory>
     requires named { length job.typed.bodies ≤ length job.attached.bodies }
     ensures { IfOk result (IsOutcomeOfVet job) }
 {
-    let formats = job.recording.formats.as_slice();
-    let ids = job.attached.bodies.as_slice();
-    let programs = job.programs.as_slice();
-    let verdict = vet_programs(alloc, formats, ids, &job.typed, programs)?;
+    let verdict = verdict_on(alloc, &job)?;
+    let programs = programs_of(job);
     match verdict {
         Verdict::Accepted(lines) => Ok(Outcome {
             work: None,
-            programs: job.programs,
+            programs,
             refused: None,
             prints: true,
             rest: lines,
         }),
         Verdict::Refused(why) => Ok(Outcome {
             work: None,
-            programs: job.programs,
+            programs,
             refused: Some(Denial::Code(why)),
             prints: true,
             rest: Items::new(alloc),

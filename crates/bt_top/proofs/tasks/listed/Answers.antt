@@ -3,9 +3,9 @@ use Rattle.std.specs.List.{AllByRecursion}
 use Rattle.bpf_encode.specs.declared.program.Program.{Program}
 use Rattle.bt_judge.specs.Doing.{CanBeListed}
 use Rattle.bt_judge.proofs.Listed.{can_be_listed}
-use Rattle.bt_top.proofs.tasks.code_outcome.Goals as goal
+use Rattle.bt_top.proofs.tasks.listed.Goals as goal
 
 pub script_listing-requires : goal.script_listing-requires
 script_listing-requires c =
     subst (λ (programs : List Program). AllByRecursion CanBeListed programs) (sym c.as_slice.ensures)
-    (can_be_listed c.args.job.typed c.args.job.programs c.requires)
+    (can_be_listed c.args.job.now.typed c.args.job.now.programs c.requires)
