@@ -17,15 +17,10 @@ use atomic_table::{Badge, Seat, Table};
 use bt_core::memory::{Memory, fitting};
 use bt_core::step::{ObjectId, Op, Reply};
 use std::alloc::{AllocError, Global};
-use std::hint::spin_loop;
 use std::marker::Brand;
 use std::mem;
 use std::snapshot::Snapshot;
 use std::sync::Wait;
-
-/// How often a waiting caller looks before it sleeps. So many looks take some microseconds, in which most turns end; a caller
-/// whose turn does not come so soon would only keep the processor from the one that has the turn.
-const LOOKS: u32 = 64;
 
 // The words of the table: the ticket that is drawn next, and the ticket that is served.
 const TICKET: usize = 0;
@@ -80,17 +75,13 @@ impl<O: SeqObject> TurnLock<O> {
         ensures table { seat.new.table_id ≡ seat.old.table_id }
         ensures view { Entered (Finds (law_of O.kind O.is_own O.reply_after self.now) (fits_of O.kind O.stands_for self.now)) seat.old.me seat.new.me }
     {
-        let mut looks = 0;
+        let mut waited = self.sleepers.begin();
         for _ in rt.forever() {
             if self.look::<Brand>(seat, ticket) {
+                self.sleepers.end(&waited);
                 return;
             }
-            if looks < LOOKS {
-                looks += 1;
-                spin_loop();
-            } else {
-                self.sleepers.sleep(rt, ticket);
-            }
+            self.sleepers.wait(rt, ticket, &mut waited);
         }
         unreachable!()
     }
