@@ -38,7 +38,7 @@ int_by true ts = read reads a_number (rest_of ts) >>= λ n r. Done (negated n) r
 int_by false ts = read reads a_number ts
 
 abbrev pub parens_by : List Item → Out Expr
-parens_by ts = read reads (mark OpenParen) ts >>= λ _ r. reads (Expression false) r >>= λ x r1. read reads (mark CloseParen) r1 >>= λ _ r2. Done x r2
+parens_by ts = read reads (mark OpenParen) ts >>= λ _ r. read reads (Until value CloseParen) r
 
 abbrev pub count_form : Form (AggCall × Place)
 count_form = Then count_call (mark CountWord) empty_parens
@@ -65,8 +65,8 @@ bounds_by ts = reads Int ts >>= λ a r. read reads (mark Comma) r >>= λ _ r1. r
     read reads (mark CloseParen) r4 >>= λ _ r5. Done (record { min = a; max = b; step = c }) r5
 
 abbrev pub lhist_by : List Item → Out (AggCall × Place)
-lhist_by ts = read reads (mark LhistWord) ts >>= λ p r. read reads (mark OpenParen) r >>= λ _ r1. reads (Expression false) r1 >>= λ x r2.
-    read reads (mark Comma) r2 >>= λ _ r3. bounds_by r3 >>= λ b r4. Done (aggs.Lhist x b.min b.max b.step, p) r4
+lhist_by ts = read reads (mark LhistWord) ts >>= λ p r. read reads (mark OpenParen) r >>= λ _ r1. read reads (Until value Comma) r1 >>= λ x r2.
+    bounds_by r2 >>= λ b r3. Done (aggs.Lhist x b.min b.max b.step, p) r3
 
 abbrev pub aggregation_by : Option Class → List Item → Out (AggCall × Place)
 aggregation_by (Some CountWord) ts = read reads count_form ts
