@@ -1,6 +1,7 @@
 -- Each part of an expression is read by its steps.
-use Rattle.std.proofs.Common.{◌≡◌, Bool, true, false, not, List, [], ◌∷◌, ◌++◌, refl, sym, ◌∙◌, inl, inr, ◌⊎◌, Option, Some, None, if◌then◌else◌}
+use Rattle.std.proofs.Common.{◌≡◌, Bool, true, false, not, List, [], ◌∷◌, ◌++◌, Result, Ok, Err, refl, sym, ap, ◌∙◌, inl, inr, ◌⊎◌, Option, Some, None, if◌then◌else◌}
 use Rattle.bt_core.specs.declared.operator.UnOp.{UnOp}
+use Rattle.bt_lexer.specs.declared.token.Token.{Token}
 use Rattle.bt_lexer.specs.declared.token.TokenKind.{TokenKind}
 use Rattle.bt_core.specs.declared.place.Place.{Place}
 use Rattle.bt_ast.specs.declared.expr.Expr.{Expr}
@@ -12,9 +13,12 @@ use Rattle.bt_grammar.specs.declared.class.Tier.TheVariants.{Products, Sums, Shi
 use Rattle.bt_grammar.specs.Classes.{is, is_step, prefix_of, joins}
 use Rattle.bt_grammar.specs.Form.{Item, brace_next, Primary, Unary, Level, Expression, Values, Keyed, Assignable, Tok, Empty, Call, Then, Or, Until, Op}
 use Rattle.bt_grammar.specs.Fine.{FineAt, Led}
+use Rattle.bt_grammar.specs.Tokens.{items}
 use Rattle.bt_grammar.specs.Reading.{Out, Done, Refused, Unfinished, and_then, read, reads, goes_on, starts, rest_of, first, sens, differs}
 use Rattle.bt_grammar.specs.Rules.{rule, mark, ends, optional, after_comma, value, operand, operation}
 use Rattle.bt_grammar.specs.Trees.{second, snoc, pair, choose, map_ref, map_operand, binary}
+use Rattle.bt_parser.specs.declared.fault.Fault.{Fault}
+use Rattle.bt_parser.specs.Contract.{Makes, Reads}
 use Rattle.bt_parser.specs.Mirror.{class_at, front_place, operator_at, when, prefix_at, named, operand_by, tighter, level_on, level_by, level_turn, choice_by, expression_by, unary_by, primary_by, keyed_by, map_by, assignable_by, dot_form, field_form, field_by, keys_by, values_on, values_behind, values_turn, step_at, step_on, map_value}
 use Rattle.bt_grammar.proofs.Enough.{reads_is}
 use Rattle.bt_grammar.proofs.Steps.{goes_on_stop, goes_on_more}
@@ -31,6 +35,11 @@ pub and_then_same : {A B : Type 0} (o : Out A) (f g : A → List Item → Out B)
 and_then_same (Done a r) f g h = h a r
 and_then_same (Refused r) f g h = refl
 and_then_same Unfinished f g h = refl
+
+-- what is made of what was read
+pub made_reads : {A : Type 0} (out : Out A) (a : A) (r : Result A Fault) (left : List Token) → Makes a r → out ≡ Done a (items left) → Reads out r left
+made_reads out a (Ok b) left m h = h ∙ ap (λ x. Done x (items left)) (sym m)
+made_reads out a (Err e) left m h = λ other. absurd (other m)
 
 -- ---- a choice by the next token
 

@@ -1,6 +1,6 @@
 // Expressions.
-ghost use Rattle.std.specs.Prelude.{◌≡◌, ◌<◌, ◌≤◌, IfOk, OnOk, length};
-ghost use Rattle.bt_parser.specs.Contract.{Reads};
+ghost use Rattle.std.specs.Prelude.{◌≡◌, ◌<◌, ◌≤◌, OnOk, length};
+ghost use Rattle.bt_parser.specs.Contract.{Makes, Reads};
 ghost use Rattle.bt_grammar.specs.Form.{Assignable, Expression, Keyed, Level, Primary, Unary, Until};
 ghost use Rattle.bt_grammar.specs.Reading.{read, reads};
 ghost use Rattle.bt_parser.specs.Mirror.{alternatives_by, chosen_by, joined, joined_by, keys_by, operand_by, paren_by, step_by, values_behind};
@@ -16,7 +16,6 @@ use crate::tables::tighter;
 use bt_ast::expr::{Expr, ExprKind, MapRef, Target, VarRef};
 use bt_core::boxed::Boxed;
 use bt_core::items::Items;
-use bt_core::memory::Memory;
 use bt_core::operator::UnOp;
 use bt_core::place::Place;
 use bt_grammar::class::{Class, Tier};
@@ -30,8 +29,8 @@ struct Both {
 }
 
 /// Two operands joined by the operator that a mark of a tier is.
-fn join(alloc: Global, class: Class, left: Expr, right: Expr) -> Result<Expr, Memory>
-    ensures { IfOk result (λ e. e ≡ joined class left right) }
+fn join(alloc: Global, class: Class, left: Expr, right: Expr) -> Result<Expr, Fault>
+    ensures { Makes (joined class left right) result }
 {
     let place = left.place;
     let both = boxed_both(alloc, left, right)?;
@@ -55,24 +54,24 @@ fn joined_kind(class: Class, both: Both) -> ExprKind
 }
 
 /// Puts two expressions into boxes.
-fn boxed_both(alloc: Global, a: Expr, b: Expr) -> Result<Both, Memory>
-    ensures { IfOk result (λ both. both ≡ record { first = a; second = b }) }
+fn boxed_both(alloc: Global, a: Expr, b: Expr) -> Result<Both, Fault>
+    ensures { Makes (record { first = a; second = b }) result }
 {
     let first = Boxed::new(alloc, a)?;
     boxed_second(alloc, first, b)
 }
 
 /// Puts the second of two expressions into its box.
-fn boxed_second(alloc: Global, first: Boxed<Expr>, b: Expr) -> Result<Both, Memory>
-    ensures { IfOk result (λ both. both ≡ record { first = first; second = b }) }
+fn boxed_second(alloc: Global, first: Boxed<Expr>, b: Expr) -> Result<Both, Fault>
+    ensures { Makes (record { first = first; second = b }) result }
 {
     let second = Boxed::new(alloc, b)?;
     Ok(Both { first, second })
 }
 
 /// `condition ? yes : no`, of the condition and both the others.
-fn choose(alloc: Global, condition: Expr, both: Both) -> Result<Expr, Memory>
-    ensures { IfOk result (λ e. e ≡ expr (exprs.Choose condition both.first both.second) (place_of_expr condition)) }
+fn choose(alloc: Global, condition: Expr, both: Both) -> Result<Expr, Fault>
+    ensures { Makes (expr (exprs.Choose condition both.first both.second) (place_of_expr condition)) result }
 {
     let place = condition.place;
     let condition = Boxed::new(alloc, condition)?;
@@ -92,8 +91,8 @@ fn choose_kind(condition: Boxed<Expr>, both: Both) -> ExprKind
 }
 
 /// An operator and the operand behind it.
-fn operated(alloc: Global, op: UnOp, value: Expr, place: Place) -> Result<Expr, Memory>
-    ensures { IfOk result (λ e. e ≡ expr (exprs.Unary op value) place) }
+fn operated(alloc: Global, op: UnOp, value: Expr, place: Place) -> Result<Expr, Fault>
+    ensures { Makes (expr (exprs.Unary op value) place) result }
 {
     let value = Boxed::new(alloc, value)?;
     let kind = ExprKind::Unary { op, value };
@@ -101,8 +100,8 @@ fn operated(alloc: Global, op: UnOp, value: Expr, place: Place) -> Result<Expr, 
 }
 
 /// An expression in parentheses.
-fn paren(alloc: Global, inner: Expr, place: Place) -> Result<Expr, Memory>
-    ensures { IfOk result (λ e. e ≡ expr (exprs.Paren inner) place) }
+fn paren(alloc: Global, inner: Expr, place: Place) -> Result<Expr, Fault>
+    ensures { Makes (expr (exprs.Paren inner) place) result }
 {
     let kind = ExprKind::Paren(Boxed::new(alloc, inner)?);
     Ok(Expr { kind, place })
@@ -134,7 +133,7 @@ fn choice(
     ensures shorter { OnOk result (length tokens.new < length tokens.old) }
 {
     let both = alternatives(alloc, tokens, in_predicate)?;
-    Ok(choose(alloc, condition, both)?)
+    choose(alloc, condition, both)
 }
 
 /// Two expressions with a colon between them.
@@ -149,7 +148,7 @@ fn alternatives(
 {
     let yes = value_until(alloc, tokens, Class::Colon)?;
     let no = expression(alloc, tokens, in_predicate)?;
-    Ok(boxed_both(alloc, yes, no)?)
+    boxed_both(alloc, yes, no)
 }
 
 /// An expression and, behind it, a token of the class.
@@ -196,7 +195,7 @@ fn joined(
     ensures shorter { OnOk result (length tokens.new < length tokens.old) }
 {
     let right = operand(alloc, tokens, in_predicate, tighter(tier))?;
-    Ok(join(alloc, class, left, right)?)
+    join(alloc, class, left, right)
 }
 
 /// What operators join: operands of the next tier, or one without operators between operands.
@@ -226,7 +225,7 @@ fn unary(alloc: Global, tokens: &mut Cursor<'_>) -> Result<Expr, Fault>
     };
     let place = tokens.skip();
     let value = unary(alloc, tokens)?;
-    Ok(operated(alloc, op, value, place)?)
+    operated(alloc, op, value, place)
 }
 
 #[cycle(expr)]
@@ -262,7 +261,7 @@ fn closed(alloc: Global, tokens: &mut Cursor<'_>, place: Place) -> Result<Expr, 
     ensures shorter { OnOk result (length tokens.new < length tokens.old) }
 {
     let inner = value_until(alloc, tokens, Class::CloseParen)?;
-    Ok(paren(alloc, inner, place)?)
+    paren(alloc, inner, place)
 }
 
 /// The target of a `++` or `--` that stands before it, at the place.

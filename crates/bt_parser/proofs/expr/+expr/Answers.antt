@@ -1,8 +1,20 @@
-use Rattle.std.proofs.Common.{rules, arith}
+use Rattle.std.proofs.Common.{refl, rules, arith}
 use Rattle.std.proofs.lemmas.Grind.{common_steps}
 use Rattle.bt_grammar.specs.Tokens.{items}
-use Rattle.bt_parser.proofs.Mirrored.{assignable_is, expression_is, keyed_is, level_is, level_turns, primary_is, unary_is, values_turns}
+use Rattle.bt_parser.proofs.Mirrored.{assignable_is, expression_is, keyed_is, level_is, level_turns, made_reads, primary_is, unary_is, values_turns}
 use Rattle.bt_parser.proofs.expr.+expr.Goals as goal
+
+pub alternatives-returns-clause-reads : goal.alternatives-returns-clause-reads
+alternatives-returns-clause-reads t c = made_reads _ _ _ _ c.boxed_both.ensures (rw (c.in_ok-yes.ensures.reads, c.in_ok-no.ensures.reads) refl)
+
+pub choice-returns-clause-reads : goal.choice-returns-clause-reads
+choice-returns-clause-reads t c = made_reads _ _ _ _ c.choose.ensures (rw c.in_ok-both.ensures.reads refl)
+
+pub closed-returns-clause-reads : goal.closed-returns-clause-reads
+closed-returns-clause-reads t c = made_reads _ _ _ _ c.paren.ensures (rw c.in_ok-inner.ensures.reads refl)
+
+pub joined-returns-clause-reads : goal.joined-returns-clause-reads
+joined-returns-clause-reads t c = made_reads _ _ _ _ c.join.ensures (first_of (search rules, grind (arith, common_steps)))
 
 pub assignable-returns-in_err-keyed-clause-reads : goal.assignable-returns-in_err-keyed-clause-reads
 assignable-returns-in_err-keyed-clause-reads t c = rw (assignable_is (items c.args.tokens.now)) (first_of (search rules, grind (arith, common_steps)))
@@ -74,7 +86,7 @@ pub unary-returns-in_err-value-clause-reads : goal.unary-returns-in_err-value-cl
 unary-returns-in_err-value-clause-reads t c = rw (unary_is (items c.args.tokens.now)) (first_of (search rules, grind (arith, common_steps)))
 
 pub unary-returns-clause-reads : goal.unary-returns-clause-reads
-unary-returns-clause-reads t c = rw (unary_is (items c.args.tokens.now)) (first_of (search rules, grind (arith, common_steps)))
+unary-returns-clause-reads t c = made_reads _ _ _ _ c.operated.ensures (rw (unary_is (items c.args.tokens.now)) (first_of (search rules, grind (arith, common_steps))))
 
 pub values-returns-in_err-expression-2-clause-reads : goal.values-returns-in_err-expression-2-clause-reads
 values-returns-in_err-expression-2-clause-reads t c = let e = values_turns c.loop-alloc.values (items c.loop-alloc.tokens) in rw (← c.loop-alloc.invariant.0) (first_of (search rules, grind (arith, common_steps)))
