@@ -138,11 +138,7 @@ fn choice(
 
 /// Two expressions with a colon between them.
 #[cycle(expr)]
-fn alternatives(
-    alloc: Global,
-    tokens: &mut Cursor<'_>,
-    in_predicate: bool,
-) -> Result<Both, Fault>
+fn alternatives(alloc: Global, tokens: &mut Cursor<'_>, in_predicate: bool) -> Result<Both, Fault>
     ensures reads { Reads (alternatives_by in_predicate (items tokens.old)) result tokens.new }
     ensures shorter { OnOk result (length tokens.new < length tokens.old) }
 {
