@@ -1,21 +1,25 @@
 -- Each part of an expression is read by its steps.
-use Rattle.std.proofs.Common.{◌≡◌, Bool, true, false, not, List, [], ◌∷◌, ◌++◌, refl, sym, ◌∙◌, inl, inr, ◌⊎◌, Option, Some, None, if◌then◌else◌}
+use Rattle.std.proofs.Common.{◌≡◌, Bool, true, false, not, List, [], ◌∷◌, ◌++◌, Result, Ok, Err, refl, sym, ap, ◌∙◌, inl, inr, ◌⊎◌, Option, Some, None, if◌then◌else◌}
 use Rattle.bt_core.specs.declared.operator.UnOp.{UnOp}
+use Rattle.bt_lexer.specs.declared.token.Token.{Token}
 use Rattle.bt_lexer.specs.declared.token.TokenKind.{TokenKind}
 use Rattle.bt_core.specs.declared.place.Place.{Place}
 use Rattle.bt_ast.specs.declared.expr.Expr.{Expr}
 use Rattle.bt_ast.specs.declared.expr.MapRef.{MapRef}
 use Rattle.bt_grammar.specs.declared.class.Class.{Class}
-use Rattle.bt_grammar.specs.declared.class.Class.TheVariants.{Increment, Decrement, MapName, OpenParen, OpenBracket, CloseBracket, Comma, Question, Colon}
+use Rattle.bt_grammar.specs.declared.class.Class.TheVariants.{Arrow, Dot, Increment, Decrement, MapName, OpenParen, OpenBracket, CloseBracket, Comma, Question, Colon}
 use Rattle.bt_grammar.specs.declared.class.Tier.{Tier}
 use Rattle.bt_grammar.specs.declared.class.Tier.TheVariants.{Products, Sums, Shifts, Orders, Equalities, BitAnds, BitXors, BitOrs, AndThens, OrElses}
 use Rattle.bt_grammar.specs.Classes.{is, is_step, prefix_of, joins}
 use Rattle.bt_grammar.specs.Form.{Item, brace_next, Primary, Unary, Level, Expression, Values, Keyed, Assignable, Tok, Empty, Call, Then, Or, Until, Op}
 use Rattle.bt_grammar.specs.Fine.{FineAt, Led}
+use Rattle.bt_grammar.specs.Tokens.{items}
 use Rattle.bt_grammar.specs.Reading.{Out, Done, Refused, Unfinished, and_then, read, reads, goes_on, starts, rest_of, first, sens, differs}
 use Rattle.bt_grammar.specs.Rules.{rule, mark, ends, optional, after_comma, value, operand, operation}
 use Rattle.bt_grammar.specs.Trees.{second, snoc, pair, choose, map_ref, map_operand, binary}
-use Rattle.bt_parser.specs.Mirror.{class_at, operator_at, when, prefix_at, named, operand_by, tighter, level_on, level_by, level_turn, choice_by, expression_by, unary_by, primary_by, keyed_by, map_by, assignable_by, values_on, values_behind, values_turn, step_at, step_on, map_value}
+use Rattle.bt_parser.specs.declared.fault.Fault.{Fault}
+use Rattle.bt_parser.specs.Contract.{Makes, Reads}
+use Rattle.bt_parser.specs.Mirror.{class_at, front_place, operator_at, when, prefix_at, named, operand_by, tighter, level_on, level_by, level_turn, choice_by, expression_by, unary_by, primary_by, keyed_by, map_by, assignable_by, dot_form, field_form, field_by, keys_by, values_on, values_behind, values_turn, step_at, step_on, map_value}
 use Rattle.bt_grammar.proofs.Enough.{reads_is}
 use Rattle.bt_grammar.proofs.Steps.{goes_on_stop, goes_on_more}
 use Rattle.bt_grammar.proofs.Checked.{fine_rule}
@@ -31,6 +35,11 @@ pub and_then_same : {A B : Type 0} (o : Out A) (f g : A → List Item → Out B)
 and_then_same (Done a r) f g h = h a r
 and_then_same (Refused r) f g h = refl
 and_then_same Unfinished f g h = refl
+
+-- what is made of what was read
+pub made_reads : {A : Type 0} (out : Out A) (a : A) (r : Result A Fault) (left : List Token) → Makes a r → out ≡ Done a (items left) → Reads out r left
+made_reads out a (Ok b) left m h = h ∙ ap (λ x. Done x (items left)) (sym m)
+made_reads out a (Err e) left m h = λ other. absurd (other m)
 
 -- ---- a choice by the next token
 
@@ -99,10 +108,13 @@ pub values_start : (ts : List Item) → reads Values ts ≡ values_behind [] ts
 unfolding goes_on
 values_start ts = rw (reads_is Values ts) (simp and_then_assoc)
 
+keys_is : (r : List Item) → read reads (Or (Then second (mark OpenBracket) (Until (Call Values) CloseBracket)) (Empty [])) r ≡ keys_by r
+keys_is [] = refl
+keys_is (u ∷ r) = choice (is OpenBracket u.class) _ _ _ _ (λ h. rw (h, ← values_start r) (simp and_then_assoc)) (λ h. refl)
+
 keys_at : (t : Item) (r : List Item)
     → and_then (read reads (Or (Then second (mark OpenBracket) (Until (Call Values) CloseBracket)) (Empty [])) r) (λ keys r'. Done (map_ref t keys) r') ≡ keyed_by (named t) r
-keys_at t [] = refl
-keys_at t (u ∷ r) = choice_then (is OpenBracket u.class) _ _ _ ∙ choice (is OpenBracket u.class) _ _ _ _ (λ h. rw (h, ← values_start r) (simp and_then_assoc)) (λ h. refl)
+keys_at t r = rw (keys_is r) refl
 
 pub keyed_is : (ts : List Item) → reads Keyed ts ≡ map_by ts
 keyed_is ts = rw (reads_is Keyed ts) (and_then_same (read reads (Tok (is MapName)) ts) _ _ keys_at ∙ sym (and_then_assoc (read reads (Tok (is MapName)) ts) (λ t r. Done (named t) r) keyed_by))
@@ -162,3 +174,17 @@ primary_at _ k p r = refl
 pub primary_is : (ts : List Item) → reads Primary ts ≡ primary_by (class_at ts) ts
 primary_is [] = reads_is Primary []
 primary_is (t ∷ r) = rw (reads_is Primary (t ∷ r)) (primary_at t.class t.kind t.place r)
+
+-- ---- fields
+
+dot_at : (c : Class) (k : TokenKind) (p : Place) (r : List Item)
+    → read reads dot_form (it c k p ∷ r) ≡ (if starts (ends Arrow) (it c k p ∷ r) then Done p r else read reads (mark Dot) (it c k p ∷ r))
+dot_at Arrow k p r = refl
+dot_at _ k p r = refl
+
+pub dot_is : (ts : List Item) → read reads dot_form ts ≡ (if starts (ends Arrow) ts then Done (front_place ts) (rest_of ts) else read reads (mark Dot) ts)
+dot_is [] = refl
+dot_is (t ∷ r) = dot_at t.class t.kind t.place r
+
+pub field_is : (ts : List Item) → read reads field_form ts ≡ field_by ts
+field_is ts = simp and_then_assoc

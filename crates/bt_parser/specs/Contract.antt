@@ -1,4 +1,4 @@
--- What a function that reads a part ensures.
+-- What a function ensures that reads a part, or that makes one.
 use Rattle.std.specs.Prelude.{◌≡◌, ◌≢◌, List, Result, Ok, Err}
 use Rattle.bt_lexer.specs.declared.token.Token.{Token}
 use Rattle.bt_parser.specs.declared.fault.Fault.{Fault}
@@ -11,3 +11,8 @@ use Rattle.bt_grammar.specs.Reading.{Out, Done, Refused}
 abbrev pub Reads : {A : Type 0} → Out A → Result A Fault → List Token → Type 0
 Reads out (Ok a) left = out ≡ Done a (items left)
 Reads out (Err e) left = e ≢ OutOfMemory out_of_memory → out ≡ Refused (items left)
+
+-- what is made, unless there is no memory
+abbrev pub Makes : {A : Type 0} → A → Result A Fault → Type 0
+Makes a (Ok b) = b ≡ a
+Makes a (Err e) = e ≡ OutOfMemory out_of_memory

@@ -17,11 +17,12 @@ use Rattle.bt_grammar.specs.declared.class.Class.TheVariants.{Increment, Decreme
 use Rattle.bt_grammar.specs.declared.class.Tier.{Tier}
 use Rattle.bt_grammar.specs.declared.class.Tier.TheVariants.{Products, Sums, Shifts, Orders, Equalities, BitAnds, BitXors, BitOrs, AndThens, OrElses}
 use Rattle.bt_parser.specs.declared.cursor.Named.{Named}
+use Rattle.bt_parser.specs.declared.expr.Both.{Both}
 use Rattle.bt_grammar.specs.Classes.{is, tier_number, is_builtin, is_step, is_dot, is_word, builtin_of, prefix_of, joins}
-use Rattle.bt_grammar.specs.Form.{Item, brace_next, Primary, Unary, Level, Expression, Keyed, Assignable, Form, Tok, Map, Then, Or}
+use Rattle.bt_grammar.specs.Form.{Item, brace_next, Primary, Unary, Level, Expression, Keyed, Assignable, Form, Tok, Map, Then, Or, Until}
 use Rattle.bt_grammar.specs.Reading.{Out, Done, and_then, read, reads, goes_on, starts, rest_of}
 use Rattle.bt_grammar.specs.Rules.{mark, ends, optional, after_comma, value, operation}
-use Rattle.bt_grammar.specs.Trees.{second, snoc, bytes_at, expr, place_of_expr, place_of_map, binary, binary_kind, number_expr, text_expr, builtin_expr, field_expr, var_operand, step_after}
+use Rattle.bt_grammar.specs.Trees.{second, snoc, place_at, bytes_at, expr, place_of_expr, place_of_map, binary, binary_kind, number_expr, text_expr, builtin_expr, field_expr, var_operand, step_after}
 
 infixl 10 ◌>>=◌
 abbrev pub ◌>>=◌ : {A B : Type 0} → Out A → (A → List Item → Out B) → Out B
@@ -111,14 +112,24 @@ level_by p tier ts = operand_by p (tighter tier) ts >>= λ x r. level_on p tier 
 abbrev pub joined : Class → Expr → Expr → Expr
 joined c left right = expr (binary_kind c left right) (place_of_expr left)
 
+-- a left operand with the one that comes next
+abbrev pub joined_by : Bool → Tier → Class → Expr → List Item → Out Expr
+joined_by p tier c left ts = operand_by p (tighter tier) ts >>= λ right r. Done (joined c left right) r
+
 abbrev pub level_turn : Bool → Tier → Option Class → Expr → List Item → Out Expr
 level_turn p tier None left ts = Done left ts
-level_turn p tier (Some c) left ts = operand_by p (tighter tier) (rest_of ts) >>= λ right r. level_on p tier (joined c left right) r
+level_turn p tier (Some c) left ts = joined_by p tier c left (rest_of ts) >>= λ x r. level_on p tier x r
+
+-- two expressions with a colon between them
+abbrev pub alternatives_by : Bool → List Item → Out Both
+alternatives_by p ts = read reads (Until value Colon) ts >>= λ y r. reads (Expression p) r >>= λ z r1. Done (record { first = y; second = z }) r1
+
+-- a condition with the two expressions behind its `?`
+abbrev pub chosen_by : Bool → Expr → List Item → Out Expr
+chosen_by p x ts = alternatives_by p ts >>= λ both r. Done (expr (exprs.Choose x both.first both.second) (place_of_expr x)) r
 
 abbrev pub choice_by : Bool → Expr → List Item → Out Expr
-choice_by p x r = if starts (ends Question) r
-    then (reads (Expression false) (rest_of r) >>= λ y r1. read reads (mark Colon) r1 >>= λ _ r2. reads (Expression p) r2 >>= λ z r3. Done (expr (exprs.Choose x y z) (place_of_expr x)) r3)
-    else Done x r
+choice_by p x r = if starts (ends Question) r then chosen_by p x (rest_of r) else Done x r
 
 abbrev pub expression_by : Bool → List Item → Out Expr
 expression_by p ts = reads (Level p OrElses) ts >>= λ x r. choice_by p x r
@@ -140,8 +151,15 @@ text_form = Map text_expr (Tok (is TextLiteral))
 abbrev pub builtin_form : Form Expr
 builtin_form = Map builtin_expr (Tok is_builtin)
 
+abbrev pub dot_form : Form Place
+dot_form = Map place_at (Tok is_dot)
+
 abbrev pub field_form : Form Expr
 field_form = Then field_expr (mark ArgsWord) (Then second (Tok is_dot) (Tok is_word))
+
+abbrev pub field_by : List Item → Out Expr
+field_by ts = read reads (mark ArgsWord) ts >>= λ place r. read reads dot_form r >>= λ _ r1. read reads word_form r1 >>= λ word r2.
+    Done (expr (exprs.Field word.bytes word.place) place) r2
 
 abbrev pub variable_form : Form Expr
 variable_form = Then var_operand (Tok (is VarName)) (optional (Tok is_step))
@@ -159,11 +177,19 @@ abbrev pub step_on : {A : Type 0} → (Option Bool → A) → Option Bool → Li
 step_on f None ts = Done (f None) ts
 step_on f (Some plus) ts = Done (f (Some plus)) (rest_of ts)
 
+-- an expression in parentheses, behind the first of them
+abbrev pub paren_by : Place → List Item → Out Expr
+paren_by place ts = read reads (Until value CloseParen) ts >>= λ x r. Done (expr (exprs.Paren x) place) r
+
+-- the target of a step that stands before it
+abbrev pub step_by : Bool → Place → List Item → Out Expr
+step_by plus place ts = reads Assignable ts >>= λ t r. Done (expr (exprs.Step (step_of t plus place)) place) r
+
 abbrev pub primary_by : Option Class → List Item → Out Expr
-primary_by (Some OpenParen) ts = reads (Expression false) (rest_of ts) >>= λ x r. read reads (mark CloseParen) r >>= λ _ r'. Done (expr (exprs.Paren x) (front_place ts)) r'
+primary_by (Some OpenParen) ts = paren_by (front_place ts) (rest_of ts)
 primary_by (Some MapName) ts = reads Keyed ts >>= λ m r. step_on (map_value m) (step_at r) r
-primary_by (Some Increment) ts = reads Assignable (rest_of ts) >>= λ t r. Done (expr (exprs.Step (step_of t true (front_place ts))) (front_place ts)) r
-primary_by (Some Decrement) ts = reads Assignable (rest_of ts) >>= λ t r. Done (expr (exprs.Step (step_of t false (front_place ts))) (front_place ts)) r
+primary_by (Some Increment) ts = step_by true (front_place ts) (rest_of ts)
+primary_by (Some Decrement) ts = step_by false (front_place ts) (rest_of ts)
 primary_by _ ts = read reads leaf ts
 
 -- more values behind commas
@@ -174,10 +200,14 @@ values_on values ts = goes_on snoc (after_comma value) values ts
 abbrev pub values_behind : List Expr → List Item → Out (List Expr)
 values_behind values ts = reads (Expression false) ts >>= λ x r. values_on (values ++ x ∷ []) r
 
+-- the parts of a key in brackets, where a bracket comes next
+abbrev pub keys_by : List Item → Out (List Expr)
+keys_by ts = if starts (ends OpenBracket) ts
+    then (values_behind [] (rest_of ts) >>= λ keys r. read reads (mark CloseBracket) r >>= λ _ r1. Done keys r1)
+    else Done [] ts
+
 abbrev pub keyed_by : Named → List Item → Out MapRef
-keyed_by n r = if starts (ends OpenBracket) r
-    then (values_behind [] (rest_of r) >>= λ keys r1. read reads (mark CloseBracket) r1 >>= λ _ r2. Done (roll-MapRef (record { name = n.bytes; keys = keys; place = n.place })) r2)
-    else Done (roll-MapRef (record { name = n.bytes; keys = []; place = n.place })) r
+keyed_by n ts = keys_by ts >>= λ keys r. Done (roll-MapRef (record { name = n.bytes; keys = keys; place = n.place })) r
 
 abbrev pub map_by : List Item → Out MapRef
 map_by ts = read reads (named_form MapName) ts >>= keyed_by

@@ -38,7 +38,7 @@ int_by true ts = read reads a_number (rest_of ts) >>= λ n r. Done (negated n) r
 int_by false ts = read reads a_number ts
 
 abbrev pub parens_by : List Item → Out Expr
-parens_by ts = read reads (mark OpenParen) ts >>= λ _ r. reads (Expression false) r >>= λ x r1. read reads (mark CloseParen) r1 >>= λ _ r2. Done x r2
+parens_by ts = read reads (mark OpenParen) ts >>= λ _ r. read reads (Until value CloseParen) r
 
 abbrev pub count_form : Form (AggCall × Place)
 count_form = Then count_call (mark CountWord) empty_parens
@@ -65,8 +65,8 @@ bounds_by ts = reads Int ts >>= λ a r. read reads (mark Comma) r >>= λ _ r1. r
     read reads (mark CloseParen) r4 >>= λ _ r5. Done (record { min = a; max = b; step = c }) r5
 
 abbrev pub lhist_by : List Item → Out (AggCall × Place)
-lhist_by ts = read reads (mark LhistWord) ts >>= λ p r. read reads (mark OpenParen) r >>= λ _ r1. reads (Expression false) r1 >>= λ x r2.
-    read reads (mark Comma) r2 >>= λ _ r3. bounds_by r3 >>= λ b r4. Done (aggs.Lhist x b.min b.max b.step, p) r4
+lhist_by ts = read reads (mark LhistWord) ts >>= λ p r. read reads (mark OpenParen) r >>= λ _ r1. read reads (Until value Comma) r1 >>= λ x r2.
+    bounds_by r2 >>= λ b r3. Done (aggs.Lhist x b.min b.max b.step, p) r3
 
 abbrev pub aggregation_by : Option Class → List Item → Out (AggCall × Place)
 aggregation_by (Some CountWord) ts = read reads count_form ts
@@ -140,10 +140,13 @@ abbrev pub print_by : List Item → Out StmtKind
 print_by ts = read reads (mark OpenParen) ts >>= λ _ r. read reads map_form r >>= λ m r1. read reads limits_form r1 >>= λ limits r2.
     read reads (mark CloseParen) r2 >>= λ _ r3. Done (stmts.Print m limits.0 limits.1) r3
 
+-- the parts of a key behind its bracket, the bracket behind them, and the closing parenthesis
+abbrev pub closed_keys_by : List Item → Out (List Expr)
+closed_keys_by ts = values_behind [] ts >>= λ keys r. read reads (mark CloseBracket) r >>= λ _ r1. read reads (mark CloseParen) r1 >>= λ _ r2. Done keys r2
+
 abbrev pub delete_on : Named → Option Class → List Item → Out StmtKind
-delete_on n (Some Comma) ts = reads (Expression false) (rest_of ts) >>= λ x r. read reads (mark CloseParen) r >>= λ _ r1. Done (stmts.DeleteKey (bare_map n) x) r1
-delete_on n (Some OpenBracket) ts = values_behind [] (rest_of ts) >>= λ keys r. read reads (mark CloseBracket) r >>= λ _ r1. read reads (mark CloseParen) r1 >>= λ _ r2.
-    Done (stmts.Delete (roll-MapRef (record { name = n.bytes; keys = keys; place = n.place }))) r2
+delete_on n (Some Comma) ts = read reads (Until value CloseParen) (rest_of ts) >>= λ x r. Done (stmts.DeleteKey (bare_map n) x) r
+delete_on n (Some OpenBracket) ts = closed_keys_by (rest_of ts) >>= λ keys r. Done (stmts.Delete (roll-MapRef (record { name = n.bytes; keys = keys; place = n.place }))) r
 delete_on n _ ts = read reads (mark CloseParen) ts >>= λ _ r. Done (stmts.Delete (bare_map n)) r
 
 abbrev pub delete_by : List Item → Out StmtKind

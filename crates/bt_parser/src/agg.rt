@@ -8,7 +8,7 @@ ghost use Rattle.bt_parser.specs.Statements.{bounds_by, count_form, gather_form,
 ghost use Rattle.bt_grammar.specs.Tokens.{items};
 
 use crate::cursor::Cursor;
-use crate::expr::expression;
+use crate::expr::value_until;
 use crate::fault::Fault;
 use bt_ast::expr::Expr;
 use bt_ast::stmt::AggCall;
@@ -37,9 +37,7 @@ pub fn in_parens(alloc: Global, tokens: &mut Cursor<'_>) -> Result<Expr, Fault>
     ensures shorter { OnOk result (length tokens.new < length tokens.old) }
 {
     tokens.expect(Class::OpenParen)?;
-    let value = expression(alloc, tokens, false)?;
-    tokens.expect(Class::CloseParen)?;
-    Ok(value)
+    value_until(alloc, tokens, Class::CloseParen)
 }
 
 #[tactic(auto, using(crate::proofs::Stated::count_is))]
@@ -95,8 +93,7 @@ fn lhist(alloc: Global, tokens: &mut Cursor<'_>) -> Result<(AggCall, Place), Fau
 {
     let place = tokens.expect(Class::LhistWord)?;
     tokens.expect(Class::OpenParen)?;
-    let number = expression(alloc, tokens, false)?;
-    tokens.expect(Class::Comma)?;
+    let number = value_until(alloc, tokens, Class::Comma)?;
     let Bounds { min, max, step } = read_bounds(tokens)?;
     let call = AggCall::Lhist {
         number,

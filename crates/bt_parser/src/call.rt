@@ -4,12 +4,12 @@ ghost use Rattle.bt_parser.specs.Contract.{Reads};
 ghost use Rattle.bt_grammar.specs.Form.{CallOrJump, Delete, Print, Printf};
 ghost use Rattle.bt_parser.specs.Mirror.{class_at, values_on};
 ghost use Rattle.bt_grammar.specs.Reading.{read, reads};
-ghost use Rattle.bt_parser.specs.Statements.{behind_word, delete_on, exit_by, in_parens_map, limit_form, limits_form, map_form};
+ghost use Rattle.bt_parser.specs.Statements.{bare_map, behind_word, closed_keys_by, delete_on, exit_by, in_parens_map, limit_form, limits_form, map_form};
 ghost use Rattle.bt_grammar.specs.Tables.{is_call};
 ghost use Rattle.bt_grammar.specs.Tokens.{items};
 
 use crate::cursor::{Cursor, Named};
-use crate::expr::{expression, values};
+use crate::expr::{value_until, values};
 use crate::fault::Fault;
 use bt_ast::expr::{Expr, MapRef};
 use bt_ast::stmt::{Stmt, StmtKind};
@@ -123,6 +123,25 @@ fn delete(alloc: Global, tokens: &mut Cursor<'_>) -> Result<StmtKind, Fault>
     delete_rest(alloc, tokens, bytes, place)
 }
 
+/// A map of the name, as a whole.
+fn named_map(alloc: Global, name: Items<u8>, place: Place) -> MapRef
+    ensures { result ≡ bare_map (record { bytes = name; place = place }) }
+{
+    let keys = Items::new(alloc);
+    MapRef { name, keys, place }
+}
+
+/// The parts of a key behind its bracket, the bracket behind them, and the closing parenthesis.
+fn closed_keys(alloc: Global, tokens: &mut Cursor<'_>) -> Result<Items<Expr>, Fault>
+    ensures reads { Reads (closed_keys_by (items tokens.old)) result tokens.new }
+    ensures shorter { OnOk result (length tokens.new < length tokens.old) }
+{
+    let keys = values(alloc, tokens, Items::new(alloc))?;
+    tokens.expect(Class::CloseBracket)?;
+    tokens.expect(Class::CloseParen)?;
+    Ok(keys)
+}
+
 /// What is deleted of a map of the name, behind that.
 fn delete_rest(
     alloc: Global,
@@ -133,25 +152,21 @@ fn delete_rest(
     ensures reads { Reads (delete_on (record { bytes = name; place = place }) (class_at (items tokens.old)) (items tokens.old)) result tokens.new }
     ensures shorter { OnOk result (length tokens.new < length tokens.old) }
 {
-    let keys = Items::new(alloc);
     match tokens.peek() {
         Some(Class::Comma) => {
             tokens.skip();
-            let key = expression(alloc, tokens, false)?;
-            tokens.expect(Class::CloseParen)?;
-            let map = MapRef { name, keys, place };
+            let key = value_until(alloc, tokens, Class::CloseParen)?;
+            let map = named_map(alloc, name, place);
             Ok(StmtKind::DeleteKey { map, key })
         }
         Some(Class::OpenBracket) => {
             tokens.skip();
-            let keys = values(alloc, tokens, keys)?;
-            tokens.expect(Class::CloseBracket)?;
-            tokens.expect(Class::CloseParen)?;
+            let keys = closed_keys(alloc, tokens)?;
             Ok(StmtKind::Delete(MapRef { name, keys, place }))
         }
         _ => {
             tokens.expect(Class::CloseParen)?;
-            Ok(StmtKind::Delete(MapRef { name, keys, place }))
+            Ok(StmtKind::Delete(named_map(alloc, name, place)))
         }
     }
 }

@@ -1,12 +1,13 @@
 // Expressions.
-ghost use Rattle.std.specs.Prelude.{◌≡◌, ◌<◌, IfOk, OnOk, length};
-ghost use Rattle.bt_parser.specs.Contract.{Reads};
-ghost use Rattle.bt_grammar.specs.Form.{Assignable, Expression, Keyed, Level, Primary, Unary};
-ghost use Rattle.bt_grammar.specs.Reading.{reads};
-ghost use Rattle.bt_parser.specs.Mirror.{joined, operand_by, values_behind};
+ghost use Rattle.std.specs.Prelude.{◌≡◌, ◌<◌, ◌≤◌, OnOk, length};
+ghost use Rattle.bt_parser.specs.Contract.{Makes, Reads};
+ghost use Rattle.bt_grammar.specs.Form.{Assignable, Expression, Keyed, Level, Primary, Unary, Until};
+ghost use Rattle.bt_grammar.specs.Reading.{read, reads};
+ghost use Rattle.bt_parser.specs.Mirror.{alternatives_by, chosen_by, joined, joined_by, keys_by, operand_by, paren_by, step_by, values_behind};
 ghost use Rattle.bt_ast.specs.declared.expr.ExprKind.TheVariants as exprs;
+ghost use Rattle.bt_grammar.specs.Rules.{value};
 ghost use Rattle.bt_grammar.specs.Tokens.{items};
-ghost use Rattle.bt_grammar.specs.Trees.{expr, place_of_expr};
+ghost use Rattle.bt_grammar.specs.Trees.{binary_kind, expr, place_of_expr};
 
 use crate::cursor::{Cursor, Named};
 use crate::fault::Fault;
@@ -15,48 +16,83 @@ use crate::tables::tighter;
 use bt_ast::expr::{Expr, ExprKind, MapRef, Target, VarRef};
 use bt_core::boxed::Boxed;
 use bt_core::items::Items;
-use bt_core::memory::Memory;
 use bt_core::operator::UnOp;
 use bt_core::place::Place;
 use bt_grammar::class::{Class, Tier};
 use std::alloc::Global;
 
+/// Two expressions in boxes.
+#[derive(Drop)]
+struct Both {
+    first: Boxed<Expr>,
+    second: Boxed<Expr>,
+}
+
 /// Two operands joined by the operator that a mark of a tier is.
-fn join(alloc: Global, class: Class, left: Expr, right: Expr) -> Result<Expr, Memory>
-    ensures { IfOk result (λ e. e ≡ joined class left right) }
+fn join(alloc: Global, class: Class, left: Expr, right: Expr) -> Result<Expr, Fault>
+    ensures { Makes (joined class left right) result }
 {
     let place = left.place;
-    let left = Boxed::new(alloc, left)?;
-    let right = Boxed::new(alloc, right)?;
-    let kind = match class {
+    let both = boxed_both(alloc, left, right)?;
+    let kind = joined_kind(class, both);
+    Ok(Expr { kind, place })
+}
+
+/// What two operands are that an operator joins.
+fn joined_kind(class: Class, both: Both) -> ExprKind
+    ensures { result ≡ binary_kind class both.first both.second }
+{
+    let Both {
+        first: left,
+        second: right,
+    } = both;
+    match class {
         Class::Operator(op) => ExprKind::Binary { op, left, right },
         Class::AndAnd => ExprKind::AndThen { left, right },
         _ => ExprKind::OrElse { left, right },
-    };
-    Ok(Expr { kind, place })
+    }
 }
 
-/// Two expressions in boxes.
-fn boxed_both(alloc: Global, a: Expr, b: Expr) -> Result<(Boxed<Expr>, Boxed<Expr>), Memory>
-    ensures { IfOk result (λ both. both ≡ (a, b)) }
+/// Puts two expressions into boxes.
+fn boxed_both(alloc: Global, a: Expr, b: Expr) -> Result<Both, Fault>
+    ensures { Makes (record { first = a; second = b }) result }
 {
-    Ok((Boxed::new(alloc, a)?, Boxed::new(alloc, b)?))
+    let first = Boxed::new(alloc, a)?;
+    boxed_second(alloc, first, b)
 }
 
-/// `condition ? yes : no`.
-fn choose(alloc: Global, condition: Expr, yes: Expr, no: Expr) -> Result<Expr, Memory>
-    ensures { IfOk result (λ e. e ≡ expr (exprs.Choose condition yes no) (place_of_expr condition)) }
+/// Puts the second of two expressions into its box.
+fn boxed_second(alloc: Global, first: Boxed<Expr>, b: Expr) -> Result<Both, Fault>
+    ensures { Makes (record { first = first; second = b }) result }
+{
+    let second = Boxed::new(alloc, b)?;
+    Ok(Both { first, second })
+}
+
+/// `condition ? yes : no`, of the condition and both the others.
+fn choose(alloc: Global, condition: Expr, both: Both) -> Result<Expr, Fault>
+    ensures { Makes (expr (exprs.Choose condition both.first both.second) (place_of_expr condition)) result }
 {
     let place = condition.place;
     let condition = Boxed::new(alloc, condition)?;
-    let (yes, no) = boxed_both(alloc, yes, no)?;
-    let kind = ExprKind::Choose { condition, yes, no };
+    let kind = choose_kind(condition, both);
     Ok(Expr { kind, place })
 }
 
+/// `condition ? yes : no`, where all are in boxes.
+fn choose_kind(condition: Boxed<Expr>, both: Both) -> ExprKind
+    ensures { result ≡ exprs.Choose condition both.first both.second }
+{
+    let Both {
+        first: yes,
+        second: no,
+    } = both;
+    ExprKind::Choose { condition, yes, no }
+}
+
 /// An operator and the operand behind it.
-fn operated(alloc: Global, op: UnOp, value: Expr, place: Place) -> Result<Expr, Memory>
-    ensures { IfOk result (λ e. e ≡ expr (exprs.Unary op value) place) }
+fn operated(alloc: Global, op: UnOp, value: Expr, place: Place) -> Result<Expr, Fault>
+    ensures { Makes (expr (exprs.Unary op value) place) result }
 {
     let value = Boxed::new(alloc, value)?;
     let kind = ExprKind::Unary { op, value };
@@ -64,8 +100,8 @@ fn operated(alloc: Global, op: UnOp, value: Expr, place: Place) -> Result<Expr, 
 }
 
 /// An expression in parentheses.
-fn paren(alloc: Global, inner: Expr, place: Place) -> Result<Expr, Memory>
-    ensures { IfOk result (λ e. e ≡ expr (exprs.Paren inner) place) }
+fn paren(alloc: Global, inner: Expr, place: Place) -> Result<Expr, Fault>
+    ensures { Makes (expr (exprs.Paren inner) place) result }
 {
     let kind = ExprKind::Paren(Boxed::new(alloc, inner)?);
     Ok(Expr { kind, place })
@@ -82,10 +118,44 @@ pub fn expression(alloc: Global, tokens: &mut Cursor<'_>, in_predicate: bool) ->
         return Ok(condition);
     }
     tokens.skip();
-    let yes = expression(alloc, tokens, false)?;
-    tokens.expect(Class::Colon)?;
+    choice(alloc, tokens, in_predicate, condition)
+}
+
+/// What a condition is with the two expressions behind its `?`.
+#[cycle(expr)]
+fn choice(
+    alloc: Global,
+    tokens: &mut Cursor<'_>,
+    in_predicate: bool,
+    condition: Expr,
+) -> Result<Expr, Fault>
+    ensures reads { Reads (chosen_by in_predicate condition (items tokens.old)) result tokens.new }
+    ensures shorter { OnOk result (length tokens.new < length tokens.old) }
+{
+    let both = alternatives(alloc, tokens, in_predicate)?;
+    choose(alloc, condition, both)
+}
+
+/// Two expressions with a colon between them.
+#[cycle(expr)]
+fn alternatives(alloc: Global, tokens: &mut Cursor<'_>, in_predicate: bool) -> Result<Both, Fault>
+    ensures reads { Reads (alternatives_by in_predicate (items tokens.old)) result tokens.new }
+    ensures shorter { OnOk result (length tokens.new < length tokens.old) }
+{
+    let yes = value_until(alloc, tokens, Class::Colon)?;
     let no = expression(alloc, tokens, in_predicate)?;
-    Ok(choose(alloc, condition, yes, no)?)
+    boxed_both(alloc, yes, no)
+}
+
+/// An expression and, behind it, a token of the class.
+#[cycle(expr)]
+pub fn value_until(alloc: Global, tokens: &mut Cursor<'_>, class: Class) -> Result<Expr, Fault>
+    ensures reads { Reads (read reads (Until value class) (items tokens.old)) result tokens.new }
+    ensures shorter { OnOk result (length tokens.new < length tokens.old) }
+{
+    let value = expression(alloc, tokens, false)?;
+    tokens.expect(class)?;
+    Ok(value)
 }
 
 /// Operands joined by operators of the tier, from the left.
@@ -102,10 +172,26 @@ fn level(
     let mut left = operand(alloc, tokens, in_predicate, tighter(tier))?;
     while let Some(class) = tokens.operator(in_predicate, tier) {
         tokens.skip();
-        let right = operand(alloc, tokens, in_predicate, tighter(tier))?;
-        left = join(alloc, class, left, right)?;
+        left = joined(alloc, tokens, in_predicate, tier, class, left)?;
     }
     Ok(left)
+}
+
+/// A left operand joined with the one that comes next.
+#[cycle(expr)]
+fn joined(
+    alloc: Global,
+    tokens: &mut Cursor<'_>,
+    in_predicate: bool,
+    tier: Tier,
+    class: Class,
+    left: Expr,
+) -> Result<Expr, Fault>
+    ensures reads { Reads (joined_by in_predicate tier class left (items tokens.old)) result tokens.new }
+    ensures shorter { OnOk result (length tokens.new < length tokens.old) }
+{
+    let right = operand(alloc, tokens, in_predicate, tighter(tier))?;
+    join(alloc, class, left, right)
 }
 
 /// What operators join: operands of the next tier, or one without operators between operands.
@@ -135,7 +221,7 @@ fn unary(alloc: Global, tokens: &mut Cursor<'_>) -> Result<Expr, Fault>
     };
     let place = tokens.skip();
     let value = unary(alloc, tokens)?;
-    Ok(operated(alloc, op, value, place)?)
+    operated(alloc, op, value, place)
 }
 
 #[cycle(expr)]
@@ -146,9 +232,7 @@ fn primary(alloc: Global, tokens: &mut Cursor<'_>) -> Result<Expr, Fault>
     match tokens.peek() {
         Some(Class::OpenParen) => {
             let place = tokens.skip();
-            let inner = expression(alloc, tokens, false)?;
-            tokens.expect(Class::CloseParen)?;
-            Ok(paren(alloc, inner, place)?)
+            closed(alloc, tokens, place)
         }
         Some(Class::MapName) => {
             let map = keyed(alloc, tokens)?;
@@ -156,16 +240,34 @@ fn primary(alloc: Global, tokens: &mut Cursor<'_>) -> Result<Expr, Fault>
         }
         Some(Class::Increment) => {
             let place = tokens.skip();
-            let target = assignable(alloc, tokens)?;
-            Ok(step_value(target, true, place))
+            stepped(alloc, tokens, true, place)
         }
         Some(Class::Decrement) => {
             let place = tokens.skip();
-            let target = assignable(alloc, tokens)?;
-            Ok(step_value(target, false, place))
+            stepped(alloc, tokens, false, place)
         }
         _ => leaf(alloc, tokens),
     }
+}
+
+/// An expression in parentheses, behind the first of them, which stands at the place.
+#[cycle(expr)]
+fn closed(alloc: Global, tokens: &mut Cursor<'_>, place: Place) -> Result<Expr, Fault>
+    ensures reads { Reads (paren_by place (items tokens.old)) result tokens.new }
+    ensures shorter { OnOk result (length tokens.new < length tokens.old) }
+{
+    let inner = value_until(alloc, tokens, Class::CloseParen)?;
+    paren(alloc, inner, place)
+}
+
+/// The target of a `++` or `--` that stands before it, at the place.
+#[cycle(expr)]
+fn stepped(alloc: Global, tokens: &mut Cursor<'_>, plus: bool, place: Place) -> Result<Expr, Fault>
+    ensures reads { Reads (step_by plus place (items tokens.old)) result tokens.new }
+    ensures shorter { OnOk result (length tokens.new < length tokens.old) }
+{
+    let target = assignable(alloc, tokens)?;
+    Ok(step_value(target, plus, place))
 }
 
 /// A map, with the parts of its key in brackets if it has one.
@@ -175,19 +277,28 @@ pub fn keyed(alloc: Global, tokens: &mut Cursor<'_>) -> Result<MapRef, Fault>
     ensures shorter { OnOk result (length tokens.new < length tokens.old) }
 {
     let Named { bytes, place } = tokens.named(alloc, Class::MapName)?;
-    let name = bytes;
+    let keys = keys(alloc, tokens)?;
+    Ok(MapRef {
+        name: bytes,
+        keys,
+        place,
+    })
+}
+
+/// The parts of a key in brackets, where a bracket comes next.
+#[cycle(expr)]
+fn keys(alloc: Global, tokens: &mut Cursor<'_>) -> Result<Items<Expr>, Fault>
+    ensures reads { Reads (keys_by (items tokens.old)) result tokens.new }
+    ensures no_longer { OnOk result (length tokens.new ≤ length tokens.old) }
+{
     let none = Items::new(alloc);
     if !tokens.sees(Class::OpenBracket) {
-        return Ok(MapRef {
-            name,
-            keys: none,
-            place,
-        });
+        return Ok(none);
     }
     tokens.skip();
     let keys = values(alloc, tokens, none)?;
     tokens.expect(Class::CloseBracket)?;
-    Ok(MapRef { name, keys, place })
+    Ok(keys)
 }
 
 /// A map or a variable.

@@ -3,7 +3,7 @@ ghost use Rattle.std.specs.Prelude.{◌≡◌, ◌<◌, ◌≤◌, OnOk, length}
 ghost use Rattle.bt_ast.specs.declared.expr.ExprKind.TheVariants as exprs;
 ghost use Rattle.bt_parser.specs.Contract.{Reads};
 ghost use Rattle.bt_grammar.specs.Reading.{Done, read, reads};
-ghost use Rattle.bt_parser.specs.Mirror.{builtin_form, field_form, leaf, map_value, number_form, step_at, step_of, step_on, text_form, variable_form};
+ghost use Rattle.bt_parser.specs.Mirror.{builtin_form, dot_form, field_form, leaf, map_value, number_form, step_at, step_of, step_on, text_form, variable_form};
 ghost use Rattle.bt_grammar.specs.Tokens.{items};
 ghost use Rattle.bt_grammar.specs.Trees.{expr};
 
@@ -80,17 +80,26 @@ fn builtin(tokens: &mut Cursor<'_>) -> Result<Expr, Fault>
     Ok(Expr { kind, place })
 }
 
+/// The mark between `args` and the name of a field.
+#[tactic(auto, using(crate::proofs::Mirrored::dot_is))]
+fn dot(tokens: &mut Cursor<'_>) -> Result<Place, Fault>
+    ensures reads { Reads (read reads dot_form (items tokens.old)) result tokens.new }
+    ensures shorter { OnOk result (length tokens.new < length tokens.old) }
+{
+    if tokens.sees(Class::Arrow) {
+        return Ok(tokens.skip());
+    }
+    tokens.expect(Class::Dot)
+}
+
 /// A field of the event, `args.name` or `args->name`.
+#[tactic(auto, using(crate::proofs::Mirrored::field_is))]
 fn field(alloc: Global, tokens: &mut Cursor<'_>) -> Result<Expr, Fault>
     ensures reads { Reads (read reads field_form (items tokens.old)) result tokens.new }
     ensures shorter { OnOk result (length tokens.new < length tokens.old) }
 {
     let place = tokens.expect(Class::ArgsWord)?;
-    if tokens.sees(Class::Arrow) {
-        tokens.skip();
-    } else {
-        tokens.expect(Class::Dot)?;
-    }
+    dot(tokens)?;
     let word = tokens.word(alloc)?;
     let kind = ExprKind::Field {
         name: word.bytes,

@@ -9,8 +9,14 @@ use Rattle.bt_parser.proofs.expr.+expr.Given as goal
 abbrev pub decreases-keyed : goal.decreases-keyed
 decreases-keyed l = 32 * length l.tokens.now
 
+abbrev pub decreases-keys : goal.decreases-keys
+decreases-keys l = 32 * length l.tokens.now
+
 abbrev pub decreases-assignable : goal.decreases-assignable
 decreases-assignable l = 32 * length l.tokens.now + 1
+
+abbrev pub decreases-stepped : goal.decreases-stepped
+decreases-stepped l = 32 * length l.tokens.now + 2
 
 abbrev pub decreases-primary : goal.decreases-primary
 decreases-primary l = 32 * length l.tokens.now + 2
@@ -24,11 +30,26 @@ decreases-operand l = 32 * length l.tokens.now + (4 + 2 * tier_rank l.tier)
 abbrev pub decreases-level : goal.decreases-level
 decreases-level l = 32 * length l.tokens.now + (5 + 2 * tier_number l.tier)
 
+abbrev pub decreases-joined : goal.decreases-joined
+decreases-joined l = 32 * length l.tokens.now + (5 + 2 * tier_number l.tier)
+
 abbrev pub decreases-expression : goal.decreases-expression
 decreases-expression l = 32 * length l.tokens.now + 26
 
+abbrev pub decreases-value_until : goal.decreases-value_until
+decreases-value_until l = 32 * length l.tokens.now + 27
+
 abbrev pub decreases-values : goal.decreases-values
 decreases-values l = 32 * length l.tokens.now + 27
+
+abbrev pub decreases-closed : goal.decreases-closed
+decreases-closed l = 32 * length l.tokens.now + 28
+
+abbrev pub decreases-alternatives : goal.decreases-alternatives
+decreases-alternatives l = 32 * length l.tokens.now + 28
+
+abbrev pub decreases-choice : goal.decreases-choice
+decreases-choice l = 32 * length l.tokens.now + 29
 
 -- what there is, with what is read from here, is the part
 abbrev pub invariant-level-loop-class : goal.invariant-level-loop-class
