@@ -74,6 +74,14 @@ fn main_actor<B: Bodies + Drop>(
     }
 }
 
+/// How many instructions `BEGIN`, the CPUs and `END` took together.
+fn counted(begun: u64, cpus: u64, finished: u64) -> Result<u64, Memory>
+    ensures { IfOk result (λ count. count ≡ begun + cpus + finished) }
+{
+    let both = sum(begun, cpus)?;
+    Ok(sum(both, finished)?)
+}
+
 /// Puts the main actor's turns and trace behind those of the CPUs, and counts the instructions of `BEGIN` and `END` with theirs.
 fn add_main<B: Bodies + Drop>(
     main: MainActor<B>,
@@ -83,13 +91,13 @@ fn add_main<B: Bodies + Drop>(
 ) -> Result<(), Memory>
     ensures { OnOk result (IsWithMain main begun finished all.old all.new) }
 {
+    all.instructions = counted(begun, all.instructions, finished)?;
     let MainActor {
         bodies,
         turns,
         trace,
     } = main;
     drop(bodies);
-    all.instructions = sum(sum(begun, all.instructions)?, finished)?;
     all.turns.push(turns)?;
     all.traces.push(trace)?;
     Ok(())
