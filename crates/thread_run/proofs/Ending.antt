@@ -1,8 +1,9 @@
 -- From the main actor's trace and the CPUs' to what all actors leave.
-use Rattle.std.proofs.Common.{◌≡◌, ℕ, max, ◌+◌, List, [], ◌∷◌, ◌++◌, length, get_or, refl, sym, ap, ◌∙◌, subst, arith}
+use Rattle.std.proofs.Common.{◌≡◌, ℕ, max, ◌+◌, Result, Ok, Err, List, [], ◌∷◌, ◌++◌, length, get_or, refl, sym, ap, ◌∙◌, subst, arith}
 use Rattle.std.proofs.lemmas.List.{drop_at}
-use Rattle.std.specs.Prelude.{drop}
+use Rattle.std.specs.Prelude.{drop, IfOk}
 use Rattle.std.specs.List.{remove}
+use Rattle.bt_core.specs.declared.memory.Memory.{Memory}
 use Rattle.bt_core.specs.declared.step.Step.{Step}
 use Rattle.bt_core.specs.Interaction.{Runs}
 use Rattle.turn_lock.specs.History.{Each}
@@ -21,7 +22,7 @@ use Rattle.cpu_worker.specs.Worlds.{world_cpus, sets_in, setting_in, AreTurnsOf,
 use Rattle.thread_run.specs.declared.main_actor.MainActor.{MainActor}
 use Rattle.thread_run.specs.declared.tasks.Gathered.{Gathered}
 use Rattle.run_base.specs.Jobs.{HavePlans}
-use Rattle.thread_run.specs.Acts.{ArePlansIn, HasDone, replay_in, CanMake, HaveGone, AreDone}
+use Rattle.thread_run.specs.Acts.{ArePlansIn, HasDone, IsFirst, IsRaised, IsWithMain, replay_in, CanMake, HaveGone, AreDone}
 use Rattle.thread_run.specs.Turns.{AreUnused, AreTurnsFrom, AllOwn}
 use Rattle.thread_run.proofs.Running.{climbs_greatest, can_make}
 use Rattle.thread_run.proofs.Turning.{get_front, less_long, each_so, turns_more, own_both, own_long, own_new, own_kept, own_same}
@@ -29,20 +30,19 @@ use Rattle.thread_run.proofs.Turning.{get_front, less_long, each_so, turns_more,
 same_made : (xs ys zs : List Step) → xs ++ ys ≡ xs ++ zs → ys ≡ zs
 same_made xs ys zs e = sym (drop_at xs ys (length xs) refl) ∙ ap (drop (length xs)) e ∙ drop_at xs zs (length xs) refl
 
+-- what follows at Ok from what a result has at Ok
+pub if_ok_so : {A : Type 0} (P Q : A → Type 0) (r : Result A Memory) → ((x : A) → P x → Q x) → IfOk r P → IfOk r Q
+if_ok_so P Q (Ok x) f h = f x h
+if_ok_so P Q (Err e) f h = tt
+
 -- the main actor's turns and its trace at four moments: empty, after BEGIN, raised, and after END
 pub record Moments {B : Type 0} (plan : B → Plan) (world : SharedWorld) (plans : ℕ → Plan) (empty begun raised finished : MainActor B) (all : Gathered) (begin_count end_count : ℕ) : Type 0 where
-  pub actor : actor_of empty.trace ≡ world_cpus world
-  pub none : (steps_of empty.trace ≡ []) × (floors_of empty.trace ≡ [])
-  pub clock : clock_of empty.trace ≡ 0
+  pub first : IsFirst (world_cpus world) empty.trace
   pub unused : AreUnused empty.turns
   pub begin_plan : plan empty.bodies ≡ plans (world_cpus world)
   pub began : HasDone plan world (begin_program (plan empty.bodies) world.recording.now world.attached.now) empty begun begin_count
   pub gone : HaveGone (replay_in world plans) world (clock_of begun.trace) all
-  pub raised_actor : actor_of raised.trace ≡ actor_of begun.trace
-  pub raised_clock : clock_of raised.trace ≡ max (clock_of begun.trace) (latest all.traces.items)
-  pub raised_steps : (steps_of raised.trace ≡ steps_of begun.trace) × (floors_of raised.trace ≡ floors_of begun.trace)
-  pub raised_turns : raised.turns ≡ begun.turns
-  pub raised_plan : plan raised.bodies ≡ plan begun.bodies
+  pub is_raised : IsRaised all.traces.items begun raised
   pub ended : HasDone plan world (end_program (plan raised.bodies) world.recording.now world.attached.now) raised finished end_count
 
 module _ {B : Type 0} (plan : B → Plan) (world : SharedWorld) (plans : ℕ → Plan) (empty begun raised finished : MainActor B) (all : Gathered) (begin_count end_count : ℕ)
@@ -63,32 +63,32 @@ module _ {B : Type 0} (plan : B → Plan) (world : SharedWorld) (plans : ℕ →
   last_is = same_made (steps_of raised.trace) h.ended.since.made last (sym h.ended.since.steps_grew ∙ h.ended.whole.grew)
 
   begun_steps : steps_of begun.trace ≡ first
-  begun_steps = h.began.whole.grew ∙ ap (λ l. l ++ first) h.none.0
+  begun_steps = h.began.whole.grew ∙ ap (λ l. l ++ first) h.first.empty.0
 
   begun_floors : floors_of begun.trace ≡ floors_from 0 first
-  begun_floors = h.began.since.floors_grew ∙ (λ i. h.none.1 i ++ floors_from (h.clock i) (first_is i))
+  begun_floors = h.began.since.floors_grew ∙ (λ i. h.first.empty.1 i ++ floors_from (h.first.clock_is i) (first_is i))
 
   begun_clock : clock_of begun.trace ≡ greatest first
   begun_clock = h.began.since.clock ∙ climbs_greatest (clock_of empty.trace) h.began.since.made h.began.since.climbs
-      ∙ (λ i. max (h.clock i) (greatest (first_is i))) ∙ (let e : max 0 (greatest first) ≡ greatest first = omega arith in e)
+      ∙ (λ i. max (h.first.clock_is i) (greatest (first_is i))) ∙ (let e : max 0 (greatest first) ≡ greatest first = omega arith in e)
 
   finished_steps : steps_of finished.trace ≡ first ++ last
-  finished_steps = h.ended.whole.grew ∙ ap (λ l. l ++ last) (h.raised_steps.0 ∙ begun_steps)
+  finished_steps = h.ended.whole.grew ∙ ap (λ l. l ++ last) (h.is_raised.steps.0 ∙ begun_steps)
 
   turned : clock_of raised.trace ≡ max (greatest first) (latest all.traces.items)
-  turned = h.raised_clock ∙ ap (λ c. max c (latest all.traces.items)) begun_clock
+  turned = h.is_raised.clock ∙ ap (λ c. max c (latest all.traces.items)) begun_clock
 
   finished_floors : floors_of finished.trace ≡ floors_from 0 first ++ floors_from (max (greatest first) (latest all.traces.items)) last
-  finished_floors = h.ended.since.floors_grew ∙ (λ i. (h.raised_steps.1 ∙ begun_floors) i ++ floors_from (turned i) (last_is i))
+  finished_floors = h.ended.since.floors_grew ∙ (λ i. (h.is_raised.steps.1 ∙ begun_floors) i ++ floors_from (turned i) (last_is i))
 
   raised_by : actor_of raised.trace ≡ n
-  raised_by = h.raised_actor ∙ h.began.actor ∙ h.actor
+  raised_by = h.is_raised.actor ∙ h.began.actor ∙ h.first.actor_is
 
   finished_by : actor_of finished.trace ≡ n
   finished_by = h.ended.actor ∙ raised_by
 
   first_by : Each (IsBy (setting_in world n)) first
-  first_by = subst (λ (z : ℕ × List Step). Each (IsBy (setting_in world z.0)) z.1) (λ i. (h.actor i, first_is i)) h.began.since.by
+  first_by = subst (λ (z : ℕ × List Step). Each (IsBy (setting_in world z.0)) z.1) (λ i. (h.first.actor_is i, first_is i)) h.began.since.by
 
   last_by : Each (IsBy (setting_in world n)) last
   last_by = subst (λ (z : ℕ × List Step). Each (IsBy (setting_in world z.0)) z.1) (λ i. (raised_by i, last_is i)) h.ended.since.by
@@ -106,30 +106,29 @@ module _ {B : Type 0} (plan : B → Plan) (world : SharedWorld) (plans : ℕ →
   }
 
   begun_turns : AreTurnsOf (sets_in world) n begun.turns
-  begun_turns = subst (λ a. AreTurnsOf (sets_in world) a begun.turns) h.actor h.began.turns_are
+  begun_turns = subst (λ a. AreTurnsOf (sets_in world) a begun.turns) h.first.actor_is h.began.turns_are
 
   finished_turns : AreTurnsOf (sets_in world) n finished.turns
   finished_turns = subst (λ a. AreTurnsOf (sets_in world) a finished.turns) raised_by h.ended.turns_are
 
   begun_own : AreOwnIn (sets_in world) begun.turns begun.trace
-  begun_own = own_kept (sets_in world) empty.turns begun.turns empty.trace begun.trace h.began.own (own_new (sets_in world) empty.turns empty.trace h.unused h.none.0)
+  begun_own = own_kept (sets_in world) empty.turns begun.turns empty.trace begun.trace h.began.own (own_new (sets_in world) empty.turns empty.trace h.unused h.first.empty.0)
 
   raised_own : AreOwnIn (sets_in world) raised.turns raised.trace
-  raised_own = subst (λ w. AreOwnIn (sets_in world) w raised.trace) (sym h.raised_turns) (own_same (sets_in world) begun.turns begun.trace raised.trace h.raised_steps.0 h.raised_steps.1 begun_own)
+  raised_own = subst (λ w. AreOwnIn (sets_in world) w raised.trace) (sym h.is_raised.turns) (own_same (sets_in world) begun.turns begun.trace raised.trace h.is_raised.steps.0 h.is_raised.steps.1 begun_own)
 
   begin_runs : Runs (begin_program (plans n) world.recording.now world.attached.now) first begin_count
   begin_runs = subst (λ (q : Plan). Runs (begin_program q world.recording.now world.attached.now) first begin_count) h.begin_plan h.began.whole.runs
 
   end_runs : Runs (end_program (plans n) world.recording.now world.attached.now) last end_count
-  end_runs = subst (λ (q : Plan). Runs (end_program q world.recording.now world.attached.now) last end_count) (h.raised_plan ∙ h.began.plan_kept ∙ h.begin_plan) h.ended.whole.runs
+  end_runs = subst (λ (q : Plan). Runs (end_program q world.recording.now world.attached.now) last end_count) (ap plan h.is_raised.bodies ∙ h.began.plan_kept ∙ h.begin_plan) h.ended.whole.runs
 
   -- what is left, where the main actor's turns and trace stand behind the CPUs'
-  pub all_done : (left : Gathered) → left.turns.items ≡ all.turns.items ++ finished.turns ∷ [] → left.traces.items ≡ all.traces.items ++ finished.trace ∷ []
-      → left.instructions ≡ begin_count + all.instructions + end_count → AreDone (replay_in world plans) world left
-  all_done left turns traces counted = record {
+  pub all_done : (left : Gathered) → IsWithMain finished begin_count end_count all left → AreDone (replay_in world plans) world left
+  all_done left with_main = record {
     cpus = all.traces.items;
     main = finished.trace;
-    traces = traces;
+    traces = with_main.traces;
     many = h.gone.many;
     begun = first;
     finished = last;
@@ -140,12 +139,12 @@ module _ {B : Type 0} (plan : B → Plan) (world : SharedWorld) (plans : ℕ →
     begin = begin_runs;
     ran = h.gone.ran;
     finish = end_runs;
-    counted = counted;
-    turns = subst (AreTurnsFrom (sets_in world) 0) (sym turns)
+    counted = with_main.counted;
+    turns = subst (AreTurnsFrom (sets_in world) 0) (sym with_main.turns)
         (turns_more (sets_in world) 0 n all.turns.items finished.turns (let e = own_long (sets_in world) all.turns.items all.traces.items h.gone.own in let m = h.gone.many in omega (arith, e, m)) h.gone.turns finished_turns);
-    own = subst (λ (z : List WorkerTurns × List Trace). AllOwn (sets_in world) z.0 z.1) (λ i. (sym turns i, sym traces i))
+    own = subst (λ (z : List WorkerTurns × List Trace). AllOwn (sets_in world) z.0 z.1) (λ i. (sym with_main.turns i, sym with_main.traces i))
         (own_both (sets_in world) all.turns.items all.traces.items finished.turns finished.trace h.gone.own (own_kept (sets_in world) raised.turns finished.turns raised.trace finished.trace h.ended.own raised_own));
-    can = subst (Each (CanMake world)) (sym traces) (each_both (CanMake world) all.traces.items (finished.trace ∷ []) h.gone.can (can_make world n (steps_of finished.trace) main_by, tt));
+    can = subst (Each (CanMake world)) (sym with_main.traces) (each_both (CanMake world) all.traces.items (finished.trace ∷ []) h.gone.can (can_make world n (steps_of finished.trace) main_by, tt));
   }
 
 -- ---- the last bodies are the main actor's

@@ -1,15 +1,16 @@
 -- What actors do. No public contract speaks of it.
-use Rattle.std.specs.Prelude.{◌≡◌, ℕ, ◌+◌, ◌<◌, ◌++◌, List, [], ◌∷◌, length, slice_index_or}
+use Rattle.std.specs.Prelude.{◌≡◌, ℕ, ◌+◌, ◌<◌, ◌++◌, List, [], ◌∷◌, length, max, slice_index_or}
 use Rattle.bt_core.specs.declared.step.Step.{Step}
 use Rattle.bt_core.specs.Interaction.{Interaction, Runs, Whole}
 use Rattle.bt_core.specs.Ports.{CanStep}
 use Rattle.turn_lock.specs.History.{Each}
 use Rattle.stamped.specs.declared.trace.Trace.{Trace}
-use Rattle.stamped.specs.Traces.{actor_of, steps_of}
+use Rattle.stamped.specs.Traces.{actor_of, clock_of, steps_of, floors_of}
 use Rattle.actor_plan.specs.declared.outcome.Outcome.{Outcome}
 use Rattle.actor_plan.specs.Plans.{Plan}
+use Rattle.actor_plan.specs.Programs.{end_program}
 use Rattle.bt_meaning.specs.Replays.{Replay, cpus_of, begin_of, cpu_of, end_of}
-use Rattle.run_ends.specs.Ends.{AreCpuTraces, HaveEnded}
+use Rattle.run_ends.specs.Ends.{AreCpuTraces, HaveEnded, latest}
 use Rattle.cpu_worker.specs.declared.world.SharedWorld.{SharedWorld}
 use Rattle.cpu_worker.specs.Chains.{Since}
 use Rattle.cpu_worker.specs.Worlds.{sets_in, setting_in, AreTurnsOf, IsPlanIn, KeepsOwn}
@@ -77,3 +78,32 @@ pub record AreDone (p : Replay) (world : SharedWorld) (all : Gathered) : Type 0 
   pub turns : AreTurnsFrom (sets_in world) 0 all.turns.items
   pub own : AllOwn (sets_in world) all.turns.items all.traces.items
   pub can : Each (CanMake world) all.traces.items
+
+-- an actor's trace before its first step
+pub record IsFirst (actor : ℕ) (trace : Trace) : Type 0 where
+  pub actor_is : actor_of trace ≡ actor
+  pub empty : (steps_of trace ≡ []) × (floors_of trace ≡ [])
+  pub clock_is : clock_of trace ≡ 0
+
+-- the main actor's turns and trace stand behind the CPUs', and the instructions of BEGIN and END are counted with theirs
+pub record IsWithMain {B : Type 0} (main : MainActor B) (begun finished : ℕ) (cpus all : Gathered) : Type 0 where
+  pub turns : all.turns.items ≡ cpus.turns.items ++ main.turns ∷ []
+  pub traces : all.traces.items ≡ cpus.traces.items ++ main.trace ∷ []
+  pub counted : all.instructions ≡ begun + cpus.instructions + finished
+
+-- the main actor with its clock raised to the latest of these traces, and else the same
+pub record IsRaised {B : Type 0} (traces : List Trace) (old new : MainActor B) : Type 0 where
+  pub actor : actor_of new.trace ≡ actor_of old.trace
+  pub clock : clock_of new.trace ≡ max (clock_of old.trace) (latest traces)
+  pub steps : (steps_of new.trace ≡ steps_of old.trace) × (floors_of new.trace ≡ floors_of old.trace)
+  pub turns : new.turns ≡ old.turns
+  pub bodies : new.bodies ≡ old.bodies
+
+-- what is left where the main actor, which began with so many instructions, ran END after the CPUs, from the latest clock on
+pub record HasEndedAll {B : Type 0} (plan : B → Plan) (world : SharedWorld) (begun : MainActor B) (begin_count : ℕ) (cpus all : Gathered) : Type 0 where
+  pub raised : MainActor B
+  pub finished : MainActor B
+  pub end_count : ℕ
+  pub is_raised : IsRaised cpus.traces.items begun raised
+  pub ended : HasDone plan world (end_program (plan raised.bodies) world.recording.now world.attached.now) raised finished end_count
+  pub with_main : IsWithMain finished begin_count end_count cpus all

@@ -12,6 +12,7 @@ use cpu_worker::world::{SharedWorld, WorkerTurns};
 use cpu_worker::world_port::WorldPort;
 use stamped::trace::Trace;
 use std::alloc::Global;
+use std::mem;
 use std::sync::Wait;
 use turn_lock::gate::Gate;
 
@@ -24,73 +25,63 @@ pub(crate) struct MainActor<B> {
 }
 
 /// Runs the bodies of `BEGIN`, and tells how many instructions they took.
-pub(crate) fn begin<B: Bodies + Drop, G: Gate, R: Wait>(
+pub(crate) fn begin<B: Bodies, G: Gate, R: Wait>(
     rt: &R,
     alloc: Global,
     world: &SharedWorld,
     gate: &G,
-    main: MainActor<B>,
-) -> Result<(MainActor<B>, u64), Memory>
+    main: &mut MainActor<B>,
+) -> Result<u64, Memory>
     requires replay { CanReplay world.now }
-    requires turns { AreTurnsOf (sets_in world.now) (actor_of main.trace) main.turns }
-    requires plan { IsPlanIn world.now (actor_of main.trace) (B.plan main.bodies) }
-    ensures { IfOk result (λ r. HasDone B.plan world.now
-        (begin_program (B.plan main.bodies) world.now.recording.now world.now.attached.now) main r.0 r.1) }
+    requires turns { AreTurnsOf (sets_in world.now) (actor_of main.old.trace) main.old.turns }
+    requires plan { IsPlanIn world.now (actor_of main.old.trace) (B.plan main.old.bodies) }
+    ensures { IfOk result (λ count. HasDone B.plan world.now
+        (begin_program (B.plan main.old.bodies) world.now.recording.now world.now.attached.now) main.old main.new count) }
 {
-    let MainActor {
-        mut bodies,
-        turns,
-        trace,
-    } = main;
+    let actor = main.turns.tables.actor();
+    let turns = mem::replace(&mut main.turns, WorkerTurns::none(alloc, actor));
+    let trace = mem::replace(&mut main.trace, Trace::new(alloc, actor));
     let mut port = WorldPort::new(rt, world, turns, trace, gate);
     let count = run_begin(
         alloc,
-        &mut bodies,
+        &mut main.bodies,
         world.recording,
         world.attached,
         &mut port,
     );
     let (turns, trace) = port.into_parts();
-    let main = MainActor {
-        bodies,
-        turns,
-        trace,
-    };
-    Ok((main, count?))
+    main.turns = turns;
+    main.trace = trace;
+    count
 }
 
 /// Runs the bodies of `END`, and tells how many instructions they took.
-pub(crate) fn end<B: Bodies + Drop, G: Gate, R: Wait>(
+pub(crate) fn end<B: Bodies, G: Gate, R: Wait>(
     rt: &R,
     alloc: Global,
     world: &SharedWorld,
     gate: &G,
-    main: MainActor<B>,
-) -> Result<(MainActor<B>, u64), Memory>
+    main: &mut MainActor<B>,
+) -> Result<u64, Memory>
     requires replay { CanReplay world.now }
-    requires turns { AreTurnsOf (sets_in world.now) (actor_of main.trace) main.turns }
-    requires plan { IsPlanIn world.now (actor_of main.trace) (B.plan main.bodies) }
-    ensures { IfOk result (λ r. HasDone B.plan world.now
-        (end_program (B.plan main.bodies) world.now.recording.now world.now.attached.now) main r.0 r.1) }
+    requires turns { AreTurnsOf (sets_in world.now) (actor_of main.old.trace) main.old.turns }
+    requires plan { IsPlanIn world.now (actor_of main.old.trace) (B.plan main.old.bodies) }
+    ensures { IfOk result (λ count. HasDone B.plan world.now
+        (end_program (B.plan main.old.bodies) world.now.recording.now world.now.attached.now) main.old main.new count) }
 {
-    let MainActor {
-        mut bodies,
-        turns,
-        trace,
-    } = main;
+    let actor = main.turns.tables.actor();
+    let turns = mem::replace(&mut main.turns, WorkerTurns::none(alloc, actor));
+    let trace = mem::replace(&mut main.trace, Trace::new(alloc, actor));
     let mut port = WorldPort::new(rt, world, turns, trace, gate);
     let count = run_end(
         alloc,
-        &mut bodies,
+        &mut main.bodies,
         world.recording,
         world.attached,
         &mut port,
     );
     let (turns, trace) = port.into_parts();
-    let main = MainActor {
-        bodies,
-        turns,
-        trace,
-    };
-    Ok((main, count?))
+    main.turns = turns;
+    main.trace = trace;
+    count
 }

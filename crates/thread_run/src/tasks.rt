@@ -23,6 +23,28 @@ pub(crate) struct Gathered {
     pub(crate) instructions: u64,
 }
 
+/// A worker of the CPU with these bodies and turns, which was not run. Its trace is empty and has this clock.
+fn new_task<'g, B: Bodies + Drop, G: Gate>(
+    alloc: Global,
+    bodies: B,
+    turns: WorkerTurns,
+    clock: u64,
+    gate: &'g G,
+) -> Task<'g, B, G>
+    requires by { AreOneActors turns }
+    ensures bodies { bodies_in result ≡ bodies }
+    ensures turns { turns_in result ≡ turns }
+    ensures fresh { IsFresh clock result }
+{
+    let cpu = turns.tables.actor();
+    let mut trace = Trace::new(alloc, cpu);
+    trace.raise(clock);
+    Task {
+        worker: CpuWorker::new(cpu, bodies, gate, turns, trace),
+        ended: None,
+    }
+}
+
 /// Workers of the CPUs with these bodies and turns, in their order. Their traces are empty and have this clock.
 pub(crate) fn new_tasks<'g, B: Bodies + Drop, G: Gate>(
     alloc: Global,
@@ -39,14 +61,7 @@ pub(crate) fn new_tasks<'g, B: Bodies + Drop, G: Gate>(
 {
     let mut tasks = Vec::with_capacity(alloc, bodies.len())?;
     for (own, own_turns) in bodies.into_iter().zip(turns) {
-        let cpu = own_turns.tables.actor();
-        let mut trace = Trace::new(alloc, cpu);
-        trace.raise(clock);
-        let worker = CpuWorker::new(cpu, own, gate, own_turns, trace);
-        tasks.push(Task {
-            worker,
-            ended: None,
-        })?;
+        tasks.push(new_task(alloc, own, own_turns, clock, gate))?;
     }
     Ok(tasks)
 }
