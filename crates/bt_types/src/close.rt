@@ -12,6 +12,7 @@ use crate::body::OpenBody;
 use bt_core::items::Items;
 use bt_core::map::{MapDecl, MapId, MapKind};
 use bt_core::memory::{Memory, TryCopy};
+use expr_types::fault::beside;
 use expr_types::known::Known;
 use fmt_text::piece::Piece;
 use std::alloc::Global;
@@ -118,6 +119,20 @@ fn formats_at(
     Ok(all)
 }
 
+/// The maps and the formats that a body names.
+fn named_in(
+    alloc: Global,
+    body: &OpenBody,
+    maps: &[MapDecl],
+    formats: &[Items<Piece>],
+) -> Result<(Items<(MapId, MapDecl)>, Items<(u32, Items<Piece>)>), Memory>
+    ensures { IfOk result (λ named. (named.0 ≡ maps_at maps.now body.now.named) × (named.1 ≡ formats_at formats.now body.now.calls)) }
+{
+    let maps = maps_at(alloc, maps, body.named.as_slice())?;
+    let formats = formats_at(alloc, formats, body.calls.as_slice());
+    beside(maps, formats)
+}
+
 /// A body with the declarations and formats that it names.
 fn close_body(
     alloc: Global,
@@ -129,14 +144,9 @@ fn close_body(
     requires fits { Closes maps.now formats.now body }
     ensures { IfOk result (λ typed. IsClosed maps.now formats.now body typed) }
 {
-    let OpenBody {
-        tree,
-        layout,
-        named,
-        calls,
-    } = body;
-    let maps = maps_at(alloc, maps.as_slice(), named.as_slice())?;
-    let formats = formats_at(alloc, formats.as_slice(), calls.as_slice())?;
+    let named = named_in(alloc, &body, maps.as_slice(), formats.as_slice());
+    let (body, (maps, formats)) = beside(body, named)?;
+    let OpenBody { tree, layout, .. } = body;
     Ok(TypedBody {
         tree,
         layout,

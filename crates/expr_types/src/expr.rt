@@ -7,7 +7,7 @@ ghost use Rattle.typed_tree.specs.Parts.{made_of};
 ghost use Rattle.expr_types.specs.Judge.{judged, SaysFault};
 ghost use Rattle.expr_types.specs.Checked.{Checked, Checks, ChecksNumber, ChecksAll, KeyChecked};
 
-use crate::fault::TypeError;
+use crate::fault::{TypeError, beside};
 use crate::field::field;
 use crate::known::Known;
 use crate::leaf::{Joint, builtin, choose, join, literal, unary};
@@ -121,7 +121,7 @@ fn check_second(
     ensures { (s : Seen) (before : Known) → Checked s before known.old (made_of left) →
         Checks (joint_seen joint place s (of_expr right.now)) before known.new result }
 {
-    let right = check_expr(alloc, known, right)?;
+    let (left, right) = beside(left, check_expr(alloc, known, right))?;
     join(alloc, joint, left, right, place)
 }
 
@@ -138,7 +138,7 @@ fn check_last(
     ensures { (s t : Seen) (before between : Known) → Checked s before between (made_of condition) → Checked t between known.old (made_of yes) →
         Checks (choose_seen place s t (of_expr no.now)) before known.new result }
 {
-    let no = check_expr(alloc, known, no)?;
+    let ((condition, yes), no) = beside((condition, yes), check_expr(alloc, known, no))?;
     choose(alloc, condition, yes, no, place)
 }
 
@@ -176,7 +176,7 @@ fn check_kind(
         }
         ExprKind::Choose { condition, yes, no } => {
             let condition = check_expr(alloc, known, condition.get())?;
-            let yes = check_expr(alloc, known, yes.get())?;
+            let (condition, yes) = beside(condition, check_expr(alloc, known, yes.get()))?;
             check_last(alloc, known, no.get(), condition, yes, place)
         }
     }

@@ -9,9 +9,9 @@ ghost use Rattle.typed_tree.specs.Parts.{made, made_of, Literal, Prefixed, Joine
 ghost use Rattle.expr_types.specs.Judge.{Refuses};
 ghost use Rattle.expr_types.specs.Rules.{breaks};
 ghost use Rattle.expr_types.specs.Joint.{joint_breaks, joint_part};
-ghost use Rattle.expr_types.specs.Join.{builtin_made, joined_breaks, whole_breaks, both_break, choose_breaks, logical_part};
+ghost use Rattle.expr_types.specs.Join.{builtin_made, joined_breaks, whole_breaks, both_break, same_breaks, choose_breaks, logical_part};
 
-use crate::fault::{Rule, TypeError};
+use crate::fault::{Rule, TypeError, beside};
 use crate::rules::broken;
 use bt_ast::expr::Builtin;
 use bt_core::boxed::Boxed;
@@ -69,35 +69,89 @@ pub fn builtin(builtin: Builtin) -> AnyExpr
     AnyExpr::Num(NumExpr::Builtin(number))
 }
 
+/// A whole number, where no other type may stand.
+fn whole(value: AnyExpr, place: Place) -> Result<NumExpr, TypeError>
+    ensures refuses { Refuses (whole_breaks (made_of value).shape) place result }
+    ensures same { IfOk result (λ number. made_of value ≡ made Int (num_parts number)) }
+{
+    match value {
+        AnyExpr::Num(number) => Ok(number),
+        AnyExpr::Str(_) => Err(wrong_type(place)),
+    }
+}
+
+/// A string, where no other type may stand.
+fn string(value: AnyExpr, place: Place) -> Result<StrExpr, TypeError>
+    ensures refuses { Refuses (same_breaks Str (made_of value).shape) place result }
+    ensures same { IfOk result (λ text. made_of value ≡ made Str (str_parts text)) }
+{
+    match value {
+        AnyExpr::Str(text) => Ok(text),
+        AnyExpr::Num(_) => Err(wrong_type(place)),
+    }
+}
+
 /// An operator before a whole number.
 pub fn unary(alloc: Global, op: UnOp, value: AnyExpr, place: Place) -> Result<AnyExpr, TypeError>
     ensures refuses { Refuses (whole_breaks (made_of value).shape) place result }
     ensures made { IfOk result (λ e. made_of e ≡ made Int (Prefixed op ∷ (made_of value).parts)) }
 {
-    match value {
-        AnyExpr::Str(_) => Err(wrong_type(place)),
-        AnyExpr::Num(value) => {
-            let value = Boxed::new(alloc, value)?;
-            Ok(AnyExpr::Num(NumExpr::Unary { op, value }))
-        }
-    }
+    let value = whole(value, place)?;
+    let value = Boxed::new(alloc, value)?;
+    Ok(AnyExpr::Num(NumExpr::Unary { op, value }))
 }
 
-/// Two whole numbers with an operator between them.
-fn numbers(alloc: Global, op: BinOp, left: NumExpr, right: NumExpr) -> Result<AnyExpr, Memory>
-    ensures { IfOk result (λ e. made_of e ≡ made Int (Joined op ∷ (num_parts left ++ num_parts right))) }
+/// Two values put on the heap, one after the other.
+fn boxed_two<V: Drop>(alloc: Global, left: V, right: V) -> Result<(Boxed<V>, Boxed<V>), Memory>
+    ensures { IfOk result (λ boxed. boxed ≡ (left, right)) }
 {
     let left = Boxed::new(alloc, left)?;
     let right = Boxed::new(alloc, right)?;
+    Ok((left, right))
+}
+
+/// A whole number and a second operand with an operator between them.
+fn binary_number(
+    alloc: Global,
+    op: BinOp,
+    left: NumExpr,
+    right: AnyExpr,
+    place: Place,
+) -> Result<AnyExpr, TypeError>
+    ensures refuses { Refuses (joined_breaks op Int (made_of right).shape) place result }
+    ensures made { IfOk result (λ e. made_of e ≡ made Int (Joined op ∷ (num_parts left ++ (made_of right).parts))) }
+{
+    let (left, right) = beside(left, whole(right, place))?;
+    let (left, right) = boxed_two(alloc, left, right)?;
     Ok(AnyExpr::Num(NumExpr::Binary { op, left, right }))
 }
 
-/// Two strings that are compared.
-fn strings(alloc: Global, equal: bool, left: StrExpr, right: StrExpr) -> Result<AnyExpr, Memory>
-    ensures { IfOk result (λ e. made_of e ≡ made Int (Joined (compared equal) ∷ (str_parts left ++ str_parts right))) }
+/// Whether an operator between strings is `==`; it may be `!=` and no other one.
+fn equality(op: BinOp, place: Place) -> Result<bool, TypeError>
+    ensures refuses { Refuses (joined_breaks op Str Str) place result }
+    ensures same { IfOk result (λ equal. op ≡ compared equal) }
 {
-    let left = Boxed::new(alloc, left)?;
-    let right = Boxed::new(alloc, right)?;
+    match op {
+        BinOp::Eq => Ok(true),
+        BinOp::Ne => Ok(false),
+        _ => Err(wrong_type(place)),
+    }
+}
+
+/// A string and a second operand with an operator between them.
+fn binary_string(
+    alloc: Global,
+    op: BinOp,
+    left: StrExpr,
+    right: AnyExpr,
+    place: Place,
+) -> Result<AnyExpr, TypeError>
+    ensures refuses { Refuses (joined_breaks op Str (made_of right).shape) place result }
+    ensures made { IfOk result (λ e. made_of e ≡ made Int (Joined op ∷ (str_parts left ++ (made_of right).parts))) }
+{
+    let (left, right) = beside(left, string(right, place))?;
+    let ((left, right), equal) = beside((left, right), equality(op, place))?;
+    let (left, right) = boxed_two(alloc, left, right)?;
     Ok(AnyExpr::Num(NumExpr::Compare { equal, left, right }))
 }
 
@@ -112,28 +166,9 @@ fn binary(
     ensures refuses { Refuses (joined_breaks op (made_of left).shape (made_of right).shape) place result }
     ensures made { IfOk result (λ e. made_of e ≡ made Int (Joined op ∷ ((made_of left).parts ++ (made_of right).parts))) }
 {
-    match (left, right) {
-        (AnyExpr::Num(left), AnyExpr::Num(right)) => Ok(numbers(alloc, op, left, right)?),
-        (AnyExpr::Str(left), AnyExpr::Str(right)) => match op {
-            BinOp::Eq => Ok(strings(alloc, true, left, right)?),
-            BinOp::Ne => Ok(strings(alloc, false, left, right)?),
-            _ => Err(wrong_type(place)),
-        },
-        (AnyExpr::Num(_), AnyExpr::Str(_)) => Err(wrong_type(place)),
-        (AnyExpr::Str(_), AnyExpr::Num(_)) => Err(wrong_type(place)),
-    }
-}
-
-/// Two whole numbers with `&&` or `||` between them.
-fn logicals(alloc: Global, both: bool, left: NumExpr, right: NumExpr) -> Result<AnyExpr, Memory>
-    ensures { IfOk result (λ e. made_of e ≡ made Int (logical_part both ∷ (num_parts left ++ num_parts right))) }
-{
-    let left = Boxed::new(alloc, left)?;
-    let right = Boxed::new(alloc, right)?;
-    if both {
-        Ok(AnyExpr::Num(NumExpr::AndThen { left, right }))
-    } else {
-        Ok(AnyExpr::Num(NumExpr::OrElse { left, right }))
+    match left {
+        AnyExpr::Num(left) => binary_number(alloc, op, left, right, place),
+        AnyExpr::Str(left) => binary_string(alloc, op, left, right, place),
     }
 }
 
@@ -148,12 +183,13 @@ fn logical(
     ensures refuses { Refuses (both_break (made_of left).shape (made_of right).shape) place result }
     ensures made { IfOk result (λ e. made_of e ≡ made Int (logical_part both ∷ ((made_of left).parts ++ (made_of right).parts))) }
 {
-    match left {
-        AnyExpr::Str(_) => Err(wrong_type(place)),
-        AnyExpr::Num(left) => match right {
-            AnyExpr::Str(_) => Err(wrong_type(place)),
-            AnyExpr::Num(right) => Ok(logicals(alloc, both, left, right)?),
-        },
+    let (right, left) = beside(right, whole(left, place))?;
+    let (left, right) = beside(left, whole(right, place))?;
+    let (left, right) = boxed_two(alloc, left, right)?;
+    if both {
+        Ok(AnyExpr::Num(NumExpr::AndThen { left, right }))
+    } else {
+        Ok(AnyExpr::Num(NumExpr::OrElse { left, right }))
     }
 }
 
@@ -175,33 +211,50 @@ pub fn join(
     }
 }
 
-/// `condition ? yes : no` of whole numbers.
+/// Three values put on the heap, one after the other.
+fn boxed_three<C: Drop, V: Drop>(
+    alloc: Global,
+    condition: C,
+    yes: V,
+    no: V,
+) -> Result<(Boxed<C>, Boxed<V>, Boxed<V>), Memory>
+    ensures { IfOk result (λ boxed. boxed ≡ (condition, yes, no)) }
+{
+    let condition = Boxed::new(alloc, condition)?;
+    let yes = Boxed::new(alloc, yes)?;
+    let no = Boxed::new(alloc, no)?;
+    Ok((condition, yes, no))
+}
+
+/// `condition ? yes : no` where what is chosen first is a whole number.
 fn choose_number(
     alloc: Global,
     condition: NumExpr,
     yes: NumExpr,
-    no: NumExpr,
-) -> Result<AnyExpr, Memory>
-    ensures { IfOk result (λ e. made_of e ≡ made Int (Chosen ∷ (num_parts condition ++ (num_parts yes ++ num_parts no)))) }
+    no: AnyExpr,
+    place: Place,
+) -> Result<AnyExpr, TypeError>
+    ensures refuses { Refuses (same_breaks Int (made_of no).shape) place result }
+    ensures made { IfOk result (λ e. made_of e ≡ made Int (Chosen ∷ (num_parts condition ++ (num_parts yes ++ (made_of no).parts)))) }
 {
-    let condition = Boxed::new(alloc, condition)?;
-    let yes = Boxed::new(alloc, yes)?;
-    let no = Boxed::new(alloc, no)?;
+    let ((condition, yes), no) = beside((condition, yes), whole(no, place))?;
+    let (condition, yes, no) = boxed_three(alloc, condition, yes, no)?;
     Ok(AnyExpr::Num(NumExpr::Choose { condition, yes, no }))
 }
 
-/// `condition ? yes : no` of strings.
+/// `condition ? yes : no` where what is chosen first is a string.
 fn choose_string(
     alloc: Global,
     condition: NumExpr,
     yes: StrExpr,
-    no: StrExpr,
-) -> Result<AnyExpr, Memory>
-    ensures { IfOk result (λ e. made_of e ≡ made Str (Chosen ∷ (num_parts condition ++ (str_parts yes ++ str_parts no)))) }
+    no: AnyExpr,
+    place: Place,
+) -> Result<AnyExpr, TypeError>
+    ensures refuses { Refuses (same_breaks Str (made_of no).shape) place result }
+    ensures made { IfOk result (λ e. made_of e ≡ made Str (Chosen ∷ (num_parts condition ++ (str_parts yes ++ (made_of no).parts)))) }
 {
-    let condition = Boxed::new(alloc, condition)?;
-    let yes = Boxed::new(alloc, yes)?;
-    let no = Boxed::new(alloc, no)?;
+    let ((condition, yes), no) = beside((condition, yes), string(no, place))?;
+    let (condition, yes, no) = boxed_three(alloc, condition, yes, no)?;
     Ok(AnyExpr::Str(StrExpr::Choose { condition, yes, no }))
 }
 
@@ -217,13 +270,9 @@ pub fn choose(
     ensures made { IfOk result (λ e. made_of e
         ≡ made (made_of yes).shape (Chosen ∷ ((made_of condition).parts ++ ((made_of yes).parts ++ (made_of no).parts)))) }
 {
-    match condition {
-        AnyExpr::Str(_) => Err(wrong_type(place)),
-        AnyExpr::Num(condition) => match (yes, no) {
-            (AnyExpr::Num(yes), AnyExpr::Num(no)) => Ok(choose_number(alloc, condition, yes, no)?),
-            (AnyExpr::Str(yes), AnyExpr::Str(no)) => Ok(choose_string(alloc, condition, yes, no)?),
-            (AnyExpr::Num(_), AnyExpr::Str(_)) => Err(wrong_type(place)),
-            (AnyExpr::Str(_), AnyExpr::Num(_)) => Err(wrong_type(place)),
-        },
+    let ((yes, no), condition) = beside((yes, no), whole(condition, place))?;
+    match yes {
+        AnyExpr::Num(yes) => choose_number(alloc, condition, yes, no, place),
+        AnyExpr::Str(yes) => choose_string(alloc, condition, yes, no, place),
     }
 }

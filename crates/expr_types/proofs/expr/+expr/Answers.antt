@@ -1,4 +1,4 @@
-use Rattle.std.proofs.Common.{◌≡◌, ◌+◌, List, map, take, sym, ap, subst, Result, Err}
+use Rattle.std.proofs.Common.{◌≡◌, ◌+◌, List, map, take, sym, ap, subst, Result, Ok, Err}
 use Rattle.std.proofs.lemmas.Result.{err_from_is_err_and}
 use Rattle.bt_ast.specs.declared.expr.Expr.{Expr}
 use Rattle.bt_ast.specs.declared.expr.IncDec.{out-IncDec}
@@ -25,6 +25,13 @@ use Rattle.expr_types.proofs.expr.+expr.Goals as goal
 -- an error that is handed on
 handed_on : (s : Seen) (before now : Known) (r : Result AnyExpr TypeError) (e f : TypeError) → r ≡ Err e → e ≡ f → SaysFault (judged s.points before) f → Checks s before now r
 handed_on s before now r e f is same h = rw (is, same) h
+
+-- what an answer says of the error, and of the value, that it is
+fault_of : (s : Seen) (before now : Known) (r : Result AnyExpr TypeError) (e : TypeError) → r ≡ Err e → Checks s before now r → SaysFault (judged s.points before) e
+fault_of s before now r e is h = subst (λ (x : Result AnyExpr TypeError). Checks s before now x) is h
+
+checked_of : (s : Seen) (before now : Known) (r : Result AnyExpr TypeError) (e : AnyExpr) → r ≡ Ok e → Checks s before now r → Checked s before now (made_of e)
+checked_of s before now r e is h = subst (λ (x : Result AnyExpr TypeError). Checks s before now x) is h
 
 handed_number : (s : Seen) (before now : Known) (r : Result NumExpr TypeError) (e f : TypeError) → r ≡ Err e → e ≡ f → SaysFault (judged s.points before) f → ChecksNumber s before now r
 handed_number s before now r e f is same h = rw (is, same) h
@@ -75,20 +82,23 @@ check_kind-returns-in_err-condition-in-Choose t c =
     rw c.in-Choose.is (rw (choose_is c.in-Choose.condition c.in-Choose.yes c.in-Choose.no c.args.place)
     (handed_on _ c.args.known.now _ c.from_residual-in_err-condition-in-Choose.result p.0 c.in_err-condition-in-Choose.field-0.0 p.1 p.2 (front_refused (of_expr c.in-Choose.condition).points _ c.args.known.now _ condition)))
 
-pub check_kind-returns-in_err-yes-in-Choose : goal.check_kind-returns-in_err-yes-in-Choose
-check_kind-returns-in_err-yes-in-Choose t c =
-    let p = err_from_is_err_and c.from_residual-in_err-yes-in-Choose.result c.from_residual-in_err-yes-in-Choose.ensures.1 in
+pub check_kind-returns-in_err-condition-in-Choose-2 : goal.check_kind-returns-in_err-condition-in-Choose-2
+check_kind-returns-in_err-condition-in-Choose-2 t c =
+    let p = err_from_is_err_and c.from_residual-in_err-condition-in-Choose-2.result c.from_residual-in_err-condition-in-Choose-2.ensures.1 in
     let condition = subst (λ (e : Expr). Checked (of_expr e) c.args.known.now c.check_expr-in-Choose.new.known (made_of c.in_ok-condition-in-Choose.condition)) c.get-in-Choose.ensures c.in_ok-condition-in-Choose.ensures in
-    let yes = subst (λ (e : Expr). SaysFault (judged (of_expr e).points c.check_expr-in-Choose.new.known) c.in_err-yes-in-Choose.field-0.0) c.get-in-Choose-2.ensures c.in_err-yes-in-Choose.ensures in
+    let fault = fault_of (of_expr c.get-in-Choose-2.result.now) c.check_expr-in-Choose.new.known c.check_expr-in-Choose-2.new.known c.check_expr-in-Choose-2.result c.in_err-condition-in-Choose-2.field-0.0 c.in_err-condition-in-Choose-2.ensures c.check_expr-in-Choose-2.ensures in
+    let yes = subst (λ (e : Expr). SaysFault (judged (of_expr e).points c.check_expr-in-Choose.new.known) c.in_err-condition-in-Choose-2.field-0.0) c.get-in-Choose-2.ensures fault in
     rw c.in-Choose.is (rw (choose_is c.in-Choose.condition c.in-Choose.yes c.in-Choose.no c.args.place)
-    (handed_on _ c.args.known.now _ c.from_residual-in_err-yes-in-Choose.result p.0 c.in_err-yes-in-Choose.field-0.0 p.1 p.2
+    (handed_on _ c.args.known.now _ c.from_residual-in_err-condition-in-Choose-2.result p.0 c.in_err-condition-in-Choose-2.field-0.0 p.1 p.2
     (later_refused (of_expr c.in-Choose.condition) c.args.known.now c.check_expr-in-Choose.new.known (made_of c.in_ok-condition-in-Choose.condition) _ _ condition
     (front_refused (of_expr c.in-Choose.yes).points _ c.check_expr-in-Choose.new.known _ yes))))
 
-pub check_kind-returns-in_ok-yes-in-Choose : goal.check_kind-returns-in_ok-yes-in-Choose
-check_kind-returns-in_ok-yes-in-Choose t c =
-    let condition = subst (λ (e : Expr). Checked (of_expr e) c.args.known.now c.check_expr-in-Choose.new.known (made_of c.in_ok-condition-in-Choose.condition)) c.get-in-Choose.ensures c.in_ok-condition-in-Choose.ensures in
-    let yes = subst (λ (e : Expr). Checked (of_expr e) c.check_expr-in-Choose.new.known c.check_expr-in-Choose-2.new.known (made_of c.in_ok-yes-in-Choose.yes)) c.get-in-Choose-2.ensures c.in_ok-yes-in-Choose.ensures in
+pub check_kind-returns-in_ok-condition-in-Choose-2 : goal.check_kind-returns-in_ok-condition-in-Choose-2
+check_kind-returns-in_ok-condition-in-Choose-2 t c =
+    let kept = subst (λ (e : AnyExpr). Checked (of_expr c.get-in-Choose.result.now) c.args.known.now c.check_expr-in-Choose.new.known (made_of e)) (sym c.in_ok-condition-in-Choose-2.ensures.0) c.in_ok-condition-in-Choose.ensures in
+    let condition = subst (λ (e : Expr). Checked (of_expr e) c.args.known.now c.check_expr-in-Choose.new.known (made_of c.in_ok-condition-in-Choose-2.condition)) c.get-in-Choose.ensures kept in
+    let checked = checked_of (of_expr c.get-in-Choose-2.result.now) c.check_expr-in-Choose.new.known c.check_expr-in-Choose-2.new.known c.check_expr-in-Choose-2.result c.in_ok-condition-in-Choose-2.yes c.in_ok-condition-in-Choose-2.ensures.1 c.check_expr-in-Choose-2.ensures in
+    let yes = subst (λ (e : Expr). Checked (of_expr e) c.check_expr-in-Choose.new.known c.check_expr-in-Choose-2.new.known (made_of c.in_ok-condition-in-Choose-2.yes)) c.get-in-Choose-2.ensures checked in
     let all = subst (λ (e : Expr). Checks (choose_seen c.args.place (of_expr c.in-Choose.condition) (of_expr c.in-Choose.yes) (of_expr e)) c.args.known.now c.check_last.new.known c.check_last.result) c.get-in-Choose-3.ensures
     (c.check_last.ensures (of_expr c.in-Choose.condition) (of_expr c.in-Choose.yes) c.args.known.now c.check_expr-in-Choose.new.known condition yes) in
     rw c.in-Choose.is (rw (choose_is c.in-Choose.condition c.in-Choose.yes c.in-Choose.no c.args.place) all)
@@ -111,24 +121,31 @@ check_operand-returns-in_err-value t c =
     handed_on (unary_seen c.args.op c.args.place (of_expr c.args.value.now)) c.args.known.now _ c.from_residual.result p.0 c.in_err-value.field-0.0 p.1 p.2 (front_refused (of_expr c.args.value.now).points _ c.args.known.now _ c.in_err-value.ensures)
 
 pub check_second-returns : goal.check_second-returns
-check_second-returns t c s before left =
-    joint_checks s (of_expr c.args.right.now) before c.args.known.now c.check_expr.new.known (made_of c.args.left) (made_of c.in_ok-right.right) c.args.joint c.args.place c.join.result left c.in_ok-right.ensures c.join.ensures.refuses c.join.ensures.made
+check_second-returns t c s before first =
+    let left = subst (λ (e : AnyExpr). Checked s before c.args.known.now (made_of e)) (sym c.in_ok-left.ensures.0) first in
+    let right = checked_of (of_expr c.args.right.now) c.args.known.now c.check_expr.new.known c.check_expr.result c.in_ok-left.right c.in_ok-left.ensures.1 c.check_expr.ensures in
+    joint_checks s (of_expr c.args.right.now) before c.args.known.now c.check_expr.new.known (made_of c.in_ok-left.left) (made_of c.in_ok-left.right) c.args.joint c.args.place c.join.result left right c.join.ensures.refuses c.join.ensures.made
 
-pub check_second-returns-in_err-right : goal.check_second-returns-in_err-right
-check_second-returns-in_err-right t c s before left =
+pub check_second-returns-in_err-left : goal.check_second-returns-in_err-left
+check_second-returns-in_err-left t c s before left =
     let p = err_from_is_err_and c.from_residual.result c.from_residual.ensures.1 in
-    handed_on (joint_seen c.args.joint c.args.place s (of_expr c.args.right.now)) before _ c.from_residual.result p.0 c.in_err-right.field-0.0 p.1 p.2
-    (later_refused s before c.args.known.now (made_of c.args.left) _ _ left (front_refused (of_expr c.args.right.now).points _ c.args.known.now _ c.in_err-right.ensures))
+    let right = fault_of (of_expr c.args.right.now) c.args.known.now c.check_expr.new.known c.check_expr.result c.in_err-left.field-0.0 c.in_err-left.ensures c.check_expr.ensures in
+    handed_on (joint_seen c.args.joint c.args.place s (of_expr c.args.right.now)) before _ c.from_residual.result p.0 c.in_err-left.field-0.0 p.1 p.2
+    (later_refused s before c.args.known.now (made_of c.args.left) _ _ left (front_refused (of_expr c.args.right.now).points _ c.args.known.now _ right))
 
 pub check_last-returns : goal.check_last-returns
 check_last-returns t c s u before between first second =
-    choose_checks s u (of_expr c.args.no.now) before between c.args.known.now c.check_expr.new.known (made_of c.args.condition) (made_of c.args.yes) (made_of c.in_ok-no.no) c.args.place c.choose.result first second c.in_ok-no.ensures c.choose.ensures.refuses c.choose.ensures.made
+    let condition = subst (λ (kept : AnyExpr × AnyExpr). Checked s before between (made_of kept.0)) (sym c.in_ok-condition.ensures.0) first in
+    let yes = subst (λ (kept : AnyExpr × AnyExpr). Checked u between c.args.known.now (made_of kept.1)) (sym c.in_ok-condition.ensures.0) second in
+    let no = checked_of (of_expr c.args.no.now) c.args.known.now c.check_expr.new.known c.check_expr.result c.in_ok-condition.no c.in_ok-condition.ensures.1 c.check_expr.ensures in
+    choose_checks s u (of_expr c.args.no.now) before between c.args.known.now c.check_expr.new.known (made_of c.in_ok-condition.condition) (made_of c.in_ok-condition.yes) (made_of c.in_ok-condition.no) c.args.place c.choose.result condition yes no c.choose.ensures.refuses c.choose.ensures.made
 
-pub check_last-returns-in_err-no : goal.check_last-returns-in_err-no
-check_last-returns-in_err-no t c s u before between first second =
+pub check_last-returns-in_err-condition : goal.check_last-returns-in_err-condition
+check_last-returns-in_err-condition t c s u before between first second =
     let p = err_from_is_err_and c.from_residual.result c.from_residual.ensures.1 in
-    handed_on (choose_seen c.args.place s u (of_expr c.args.no.now)) before _ c.from_residual.result p.0 c.in_err-no.field-0.0 p.1 p.2
-    (later_refused s before between (made_of c.args.condition) _ _ first (later_refused u between c.args.known.now (made_of c.args.yes) _ _ second (front_refused (of_expr c.args.no.now).points _ c.args.known.now _ c.in_err-no.ensures)))
+    let no = fault_of (of_expr c.args.no.now) c.args.known.now c.check_expr.new.known c.check_expr.result c.in_err-condition.field-0.0 c.in_err-condition.ensures c.check_expr.ensures in
+    handed_on (choose_seen c.args.place s u (of_expr c.args.no.now)) before _ c.from_residual.result p.0 c.in_err-condition.field-0.0 p.1 p.2
+    (later_refused s before between (made_of c.args.condition) _ _ first (later_refused u between c.args.known.now (made_of c.args.yes) _ _ second (front_refused (of_expr c.args.no.now).points _ c.args.known.now _ no)))
 
 pub check_all-returns-in_err-typed : goal.check_all-returns-in_err-typed
 check_all-returns-in_err-typed t c =
