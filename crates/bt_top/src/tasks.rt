@@ -5,9 +5,9 @@ ghost use Rattle.bt_words.specs.Words.{HasBounds};
 ghost use Rattle.program_codes.specs.Programs.{KeepScript};
 ghost use Rattle.bt_judge.specs.Doing.{ComesOfFiles, refusal_in};
 ghost use Rattle.bt_judge.specs.FailedNames.{FailsNamed};
-ghost use Rattle.bt_judge.specs.Orders.{files_of};
+ghost use Rattle.bt_judge.specs.Orders.{files_of, on_account, on_script};
 ghost use Rattle.bt_judge.specs.Reads.{shelf_use};
-ghost use Rattle.bt_top.specs.Outcomes.{form_of, ComesTo, IsOutcomeOfRun, IsOutcomeOfVet, check_outcome, code_outcome, instructions_line, run_outcome, stats_line};
+ghost use Rattle.bt_top.specs.Outcomes.{form_of, ComesTo, IsOutcomeOfRun, IsOutcomeOfVerify, IsOutcomeOfVet, check_outcome, code_outcome, instructions_line, run_outcome, stats_line};
 ghost use Rattle.bt_judge.specs.Listings.{script_listing};
 ghost use Rattle.bt_judge.specs.Vetting.{IsVerdict};
 
@@ -18,11 +18,11 @@ use crate::work::{programs_of, run};
 use bt_core::items::Items;
 use bt_core::memory::Memory;
 use bt_io::shelf::Shelf;
-use bt_judge::files::{read_account_job, read_job};
+use bt_judge::files::{AccountJob, read_account_job, read_job};
 use bt_judge::listing::script_listing;
 use bt_judge::refusal::{Denial, Refusal};
 use bt_judge::vetting::{Verdict, vet_programs};
-use bt_words::order::Order;
+use bt_words::order::{FileName, Order};
 use itoa::Buffer;
 use run_base::job::{Job, Work};
 use run_output::form::Form;
@@ -196,6 +196,119 @@ fn vet_outcome(alloc: Global, job: Job) -> Result<Outcome, Memory>
     }
 }
 
+/// Reads a script and a recording, and runs what they ask for.
+fn run_files<S: Shelf, G: Gate + Sync, R: Threads + Wait + Sync>(
+    rt: &R,
+    alloc: Global,
+    serial: bool,
+    stats: bool,
+    json: bool,
+    script: &FileName,
+    recording: &FileName,
+    shelf: &mut S,
+    gate: &G,
+) -> Result<Outcome, Refusal>
+    ensures performs { ComesOfFiles (on_script script.now recording.now) (ComesTo (Order.Run serial stats json script.now recording.now))
+        (shelf_use S.held S.faults S.asked shelf.old shelf.new) result }
+    ensures fault_named { FailsNamed (on_script script.now recording.now) (refusal_in result) (S.failed shelf.old) (S.failed shelf.new) }
+{
+    let job = read_job(alloc, script.as_str(), recording.as_str(), shelf)?;
+    Ok(run_outcome(rt, alloc, form_of(json), serial, stats, job, gate)?)
+}
+
+/// Reads a script and a recording, and tells that nothing of them is refused.
+fn check_files<S: Shelf>(
+    alloc: Global,
+    script: &FileName,
+    recording: &FileName,
+    shelf: &mut S,
+) -> Result<Outcome, Refusal>
+    ensures performs { ComesOfFiles (on_script script.now recording.now) (ComesTo (Order.Check script.now recording.now))
+        (shelf_use S.held S.faults S.asked shelf.old shelf.new) result }
+    ensures fault_named { FailsNamed (on_script script.now recording.now) (refusal_in result) (S.failed shelf.old) (S.failed shelf.new) }
+{
+    read_job(alloc, script.as_str(), recording.as_str(), shelf)?;
+    Ok(check_outcome(alloc)?)
+}
+
+/// Reads a script and a recording, and lists the programs of what they ask for.
+fn code_files<S: Shelf>(
+    alloc: Global,
+    script: &FileName,
+    recording: &FileName,
+    shelf: &mut S,
+) -> Result<Outcome, Refusal>
+    ensures performs { ComesOfFiles (on_script script.now recording.now) (ComesTo (Order.Code script.now recording.now))
+        (shelf_use S.held S.faults S.asked shelf.old shelf.new) result }
+    ensures fault_named { FailsNamed (on_script script.now recording.now) (refusal_in result) (S.failed shelf.old) (S.failed shelf.new) }
+{
+    let job = read_job(alloc, script.as_str(), recording.as_str(), shelf)?;
+    Ok(code_outcome(alloc, job)?)
+}
+
+/// Reads a script and a recording, and checks the programs of what they ask for.
+fn vet_files<S: Shelf>(
+    alloc: Global,
+    script: &FileName,
+    recording: &FileName,
+    shelf: &mut S,
+) -> Result<Outcome, Refusal>
+    ensures performs { ComesOfFiles (on_script script.now recording.now) (ComesTo (Order.Vet script.now recording.now))
+        (shelf_use S.held S.faults S.asked shelf.old shelf.new) result }
+    ensures fault_named { FailsNamed (on_script script.now recording.now) (refusal_in result) (S.failed shelf.old) (S.failed shelf.new) }
+{
+    let job = read_job(alloc, script.as_str(), recording.as_str(), shelf)?;
+    Ok(vet_outcome(alloc, job)?)
+}
+
+/// Reads a script and a recording, and runs what they ask for. In place of what it prints stands the account of its steps.
+fn account_files<S: Shelf, G: Gate + Sync, R: Threads + Wait + Sync>(
+    rt: &R,
+    alloc: Global,
+    serial: bool,
+    script: &FileName,
+    recording: &FileName,
+    shelf: &mut S,
+    gate: &G,
+) -> Result<Outcome, Refusal>
+    ensures performs { ComesOfFiles (on_script script.now recording.now) (ComesTo (Order.Account serial script.now recording.now))
+        (shelf_use S.held S.faults S.asked shelf.old shelf.new) result }
+    ensures fault_named { FailsNamed (on_script script.now recording.now) (refusal_in result) (S.failed shelf.old) (S.failed shelf.new) }
+{
+    let job = read_job(alloc, script.as_str(), recording.as_str(), shelf)?;
+    Ok(account_outcome(rt, alloc, serial, job, gate)?)
+}
+
+/// Checks an account of a run of the job that stands beside it.
+fn verified(alloc: Global, both: AccountJob) -> Result<Outcome, Memory>
+    requires { IsJob both.job.typed both.job.attached both.job.recording }
+    ensures { IfOk result (IsOutcomeOfVerify both.job both.account.items) }
+{
+    verify_outcome(alloc, &both.job, both.account.as_slice())
+}
+
+/// Reads a script, a recording and an account, and checks the account.
+fn verify_files<S: Shelf>(
+    alloc: Global,
+    script: &FileName,
+    recording: &FileName,
+    account: &FileName,
+    shelf: &mut S,
+) -> Result<Outcome, Refusal>
+    ensures performs { ComesOfFiles (on_account script.now recording.now account.now) (ComesTo (Order.Verify script.now recording.now account.now))
+        (shelf_use S.held S.faults S.asked shelf.old shelf.new) result }
+    ensures fault_named { FailsNamed (on_account script.now recording.now account.now) (refusal_in result) (S.failed shelf.old) (S.failed shelf.new) }
+{
+    let both = read_account_job(
+        alloc,
+        script.as_str(),
+        recording.as_str(),
+        account.as_str(),
+        shelf,
+    )?;
+    Ok(verified(alloc, both)?)
+}
+
 /// What an order comes to: reads its files, and does all but its writing.
 pub(crate) fn outcome_of<S: Shelf, G: Gate + Sync, R: Threads + Wait + Sync>(
     rt: &R,
@@ -215,45 +328,22 @@ pub(crate) fn outcome_of<S: Shelf, G: Gate + Sync, R: Threads + Wait + Sync>(
             json,
             script,
             recording,
-        } => {
-            let job = read_job(alloc, script.as_str(), recording.as_str(), shelf)?;
-            let form = form_of(*json);
-            Ok(run_outcome(rt, alloc, form, *serial, *stats, job, gate)?)
-        }
-        Order::Check { script, recording } => {
-            read_job(alloc, script.as_str(), recording.as_str(), shelf)?;
-            Ok(check_outcome(alloc)?)
-        }
-        Order::Code { script, recording } => {
-            let job = read_job(alloc, script.as_str(), recording.as_str(), shelf)?;
-            Ok(code_outcome(alloc, job)?)
-        }
-        Order::Vet { script, recording } => {
-            let job = read_job(alloc, script.as_str(), recording.as_str(), shelf)?;
-            Ok(vet_outcome(alloc, job)?)
-        }
+        } => run_files(
+            rt, alloc, *serial, *stats, *json, script, recording, shelf, gate,
+        ),
+        Order::Check { script, recording } => check_files(alloc, script, recording, shelf),
+        Order::Code { script, recording } => code_files(alloc, script, recording, shelf),
+        Order::Vet { script, recording } => vet_files(alloc, script, recording, shelf),
         Order::Account {
             serial,
             script,
             recording,
-        } => {
-            let job = read_job(alloc, script.as_str(), recording.as_str(), shelf)?;
-            Ok(account_outcome(rt, alloc, *serial, job, gate)?)
-        }
+        } => account_files(rt, alloc, *serial, script, recording, shelf, gate),
         Order::Verify {
             script,
             recording,
             account,
-        } => {
-            let both = read_account_job(
-                alloc,
-                script.as_str(),
-                recording.as_str(),
-                account.as_str(),
-                shelf,
-            )?;
-            Ok(verify_outcome(alloc, &both.job, both.account.as_slice())?)
-        }
+        } => verify_files(alloc, script, recording, account, shelf),
         Order::Gen { x, n } => Ok(gen_outcome(alloc, *x, *n)?),
         Order::Big { x, n } => big_outcome(rt, alloc, *x, *n, gate),
     }

@@ -1,0 +1,18 @@
+use Rattle.bt_judge.proofs.Passing.{names_bodies}
+use Rattle.bt_judge.specs.Jobs.{IsJobFor}
+use Rattle.bt_judge.specs.Orders.{on_script}
+use Rattle.bt_words.specs.declared.order.Order.TheVariants.{Vet}
+use Rattle.bt_top.specs.Outcomes.{ComesTo}
+use Rattle.bt_top.proofs.Performing.{goes_on}
+use Rattle.bt_top.proofs.tasks.vet_files.Goals as goal
+
+pub returns-clause-performs : goal.returns-clause-performs
+returns-clause-performs g c =
+    goes_on _ (IsJobFor (on_script c.args.script.now c.args.recording.now)) (ComesTo (Vet c.args.script.now c.args.recording.now)) _ c.in_ok-job.job c.in_ok-vet_outcome.field-0
+    (rw (c.as_str.ensures, c.as_str-2.ensures) at c.in_ok-job.ensures.performs)
+    (λ contents is. (c.in_ok-job.job, is, c.in_ok-vet_outcome.ensures))
+
+pub vet_outcome-requires-clause-named : goal.vet_outcome-requires-clause-named
+vet_outcome-requires-clause-named g c =
+    let reads = c.in_ok-job.ensures.performs.reads in
+    names_bodies (on_script c.as_str.result.now c.as_str-2.result.now) reads.contents c.in_ok-job.job reads.value
