@@ -88,18 +88,18 @@ pub fn stmt_need(s: &TypedStmt) -> Result<Need, Memory>
     match s {
         TypedStmt::SetVar { value, .. } => {
             let valued = value_need(value)?;
-            Ok(more(store_slots(value.shape()), valued.need)?)
+            more(store_slots(value.shape()), valued.need)
         }
-        TypedStmt::SetMap { keys, value, .. } => Ok(set_map_need(keys.as_slice(), value)?),
-        TypedStmt::UpdateVar { value, .. } => Ok(more(16, number_need(value)?)?),
-        TypedStmt::UpdateMap { keys, value, .. } => Ok(update_map_need(keys.as_slice(), value)?),
-        TypedStmt::Gather { keys, number, .. } => Ok(gather_need(keys.as_slice(), number)?),
-        TypedStmt::Step(value) => Ok(number_need(value)?),
-        TypedStmt::Printf { values, .. } => Ok(taking_need(values.as_slice())?),
+        TypedStmt::SetMap { keys, value, .. } => set_map_need(keys.as_slice(), value),
+        TypedStmt::UpdateVar { value, .. } => more(16, number_need(value)?),
+        TypedStmt::UpdateMap { keys, value, .. } => update_map_need(keys.as_slice(), value),
+        TypedStmt::Gather { keys, number, .. } => gather_need(keys.as_slice(), number),
+        TypedStmt::Step(value) => number_need(value),
+        TypedStmt::Printf { values, .. } => taking_need(values.as_slice()),
         TypedStmt::Print { .. } => Ok(figures(0, 16)),
         TypedStmt::Clear(_) => Ok(figures(0, 12)),
         TypedStmt::Zero(_) => Ok(figures(0, 12)),
-        TypedStmt::Delete { keys, .. } => Ok(taking_need(keys.as_slice())?),
+        TypedStmt::Delete { keys, .. } => taking_need(keys.as_slice()),
         TypedStmt::Jump(to) => Ok(jump_need(*to)),
         TypedStmt::If { arms, otherwise } => {
             let arms = arms.as_slice();
@@ -121,7 +121,7 @@ pub fn stmt_need(s: &TypedStmt) -> Result<Need, Memory>
             let test = number_need(condition)?;
             let block = block_need(block)?;
             let all = greater(test, block)?;
-            Ok(more(24, all)?)
+            more(24, all)
         }
         TypedStmt::Unroll { block, .. } => {
             let block = block_need(block)?;

@@ -126,40 +126,40 @@ pub fn number_need(e: &NumExpr) -> Result<Need, Memory>
         NumExpr::Field(_) => Ok(figures(8, 8)),
         NumExpr::Map { keys, .. } | NumExpr::Agg { keys, .. } => {
             let keys = values_need(keys.as_slice())?;
-            Ok(under(keys, 8, 16)?)
+            under(keys, 8, 16)
         }
         NumExpr::StepVar { .. } => Ok(figures(8, 12)),
         NumExpr::StepMap { keys, .. } => {
             let keys = values_need(keys.as_slice())?;
-            Ok(under(keys, 16, 32)?)
+            under(keys, 16, 32)
         }
         NumExpr::Unary { value, .. } => {
             let value = number_need(value.get())?;
-            Ok(more(8, value)?)
+            more(8, value)
         }
         NumExpr::Binary { left, right, .. } => {
             let left = number_need(left.get())?;
             let right = number_need(right.get())?;
             let left = more(12, left)?;
-            Ok(then_beside(8, left, right)?)
+            then_beside(8, left, right)
         }
         NumExpr::Compare { left, right, .. } => {
             let left = text_need(left.get())?;
             let right = text_need(right.get())?;
             let left = more(48, left)?;
-            Ok(then_beside(64, left, right)?)
+            then_beside(64, left, right)
         }
         NumExpr::AndThen { left, right } | NumExpr::OrElse { left, right } => {
             let left = number_need(left.get())?;
             let right = number_need(right.get())?;
             let both = greater(left, right)?;
-            Ok(more(16, both)?)
+            more(16, both)
         }
         NumExpr::Choose { condition, yes, no } => {
             let condition = number_need(condition.get())?;
             let yes = number_need(yes.get())?;
             let no = number_need(no.get())?;
-            Ok(chosen(condition, yes, no)?)
+            chosen(condition, yes, no)
         }
     }
 }
@@ -176,13 +176,13 @@ pub fn text_need(e: &StrExpr) -> Result<Need, Memory>
         StrExpr::Comm | StrExpr::Field(_) | StrExpr::Var(_) => Ok(figures(64, 24)),
         StrExpr::Map { keys, .. } => {
             let keys = values_need(keys.as_slice())?;
-            Ok(under(keys, 64, 40)?)
+            under(keys, 64, 40)
         }
         StrExpr::Choose { condition, yes, no } => {
             let condition = number_need(condition.get())?;
             let yes = text_need(yes.get())?;
             let no = text_need(no.get())?;
-            Ok(chosen(condition, yes, no)?)
+            chosen(condition, yes, no)
         }
     }
 }
