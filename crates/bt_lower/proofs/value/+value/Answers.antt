@@ -18,29 +18,29 @@ lower_number-returns-in_ok-push-in-Number t c =
 pub lower_number-returns-in_ok-push-in-Builtin : goal.lower_number-returns-in_ok-push-in-Builtin
 lower_number-returns-in_ok-push-in-Builtin t c = N-Builtin _ _ _ _ c.in-Builtin.is c.in_ok-push-in-Builtin.ensures
 
-pub lower_number-returns-in_ok-push-in-Field : goal.lower_number-returns-in_ok-push-in-Field
-lower_number-returns-in_ok-push-in-Field t c = N-Field _ _ _ _ c.in-Field.is (c.in_ok-push-in-Field.ensures ∙ ap (λ f. pushed (i.NumberField f) c.args.code.now) c.in_ok-field-in-Field.ensures)
+pub lower_number-returns-in_ok-push_number_field-in-Field : goal.lower_number-returns-in_ok-push_number_field-in-Field
+lower_number-returns-in_ok-push_number_field-in-Field t c = N-Field _ _ _ _ c.in-Field.is c.in_ok-push_number_field-in-Field.ensures
 
 pub lower_number-returns-in_ok-push-in-Var : goal.lower_number-returns-in_ok-push-in-Var
 lower_number-returns-in_ok-push-in-Var t c = N-Var _ _ _ _ c.in-Var.is c.in_ok-push-in-Var.ensures
 
 pub lower_number-returns-in_ok-lower_values-in-Map : goal.lower_number-returns-in_ok-lower_values-in-Map
 lower_number-returns-in_ok-lower_values-in-Map t c =
-    let key = c.in_ok-key-in-Map.ensures ∙ ap (λ l. key_shapes (all_made l)) c.as_slice.ensures in
-    N-Map _ _ _ _ _ _ _ _ c.in-Map.is c.as_slice-in-Map.ensures key c.in_ok-push-in-Map.ensures c.in_ok-lower_values-in-Map.ensures
+    let key = ap (λ l. key_shapes (all_made l)) c.as_slice.ensures in
+    N-Map _ _ _ _ _ _ _ _ c.in-Map.is c.as_slice-in-Map.ensures key c.in_ok-push_get-in-Map.ensures c.in_ok-lower_values-in-Map.ensures
 
 pub lower_number-returns-in_ok-push-in-StepVar : goal.lower_number-returns-in_ok-push-in-StepVar
 lower_number-returns-in_ok-push-in-StepVar t c = N-StepVar _ _ _ _ _ _ c.in-StepVar.is c.in_ok-push-in-StepVar.ensures
 
 pub lower_number-returns-in_ok-lower_values-in-Agg : goal.lower_number-returns-in_ok-lower_values-in-Agg
 lower_number-returns-in_ok-lower_values-in-Agg t c =
-    let key = c.in_ok-key-in-Agg.ensures ∙ ap (λ l. key_shapes (all_made l)) c.as_slice-in-Agg.ensures in
-    N-Agg _ _ _ _ _ _ _ _ c.in-Agg.is (c.as_slice-in-Agg-2).ensures key c.in_ok-push-in-Agg.ensures c.in_ok-lower_values-in-Agg.ensures
+    let key = ap (λ l. key_shapes (all_made l)) c.as_slice-in-Agg.ensures in
+    N-Agg _ _ _ _ _ _ _ _ c.in-Agg.is (c.as_slice-in-Agg-2).ensures key c.in_ok-push_read_agg-in-Agg.ensures c.in_ok-lower_values-in-Agg.ensures
 
 pub lower_number-returns-in_ok-lower_values-in-StepMap : goal.lower_number-returns-in_ok-lower_values-in-StepMap
 lower_number-returns-in_ok-lower_values-in-StepMap t c =
-    let key = c.in_ok-key-in-StepMap.ensures ∙ ap (λ l. key_shapes (all_made l)) c.as_slice-in-StepMap.ensures in
-    N-StepMap _ _ _ _ _ _ _ _ _ _ c.in-StepMap.is (c.as_slice-in-StepMap-2).ensures key c.in_ok-push-in-StepMap.ensures c.in_ok-lower_values-in-StepMap.ensures
+    let key = ap (λ l. key_shapes (all_made l)) c.as_slice-in-StepMap.ensures in
+    N-StepMap _ _ _ _ _ _ _ _ _ _ c.in-StepMap.is (c.as_slice-in-StepMap-2).ensures key c.in_ok-push_step_map-in-StepMap.ensures c.in_ok-lower_values-in-StepMap.ensures
 
 pub lower_number-returns-in_ok-lower_number-in-Unary : goal.lower_number-returns-in_ok-lower_number-in-Unary
 lower_number-returns-in_ok-lower_number-in-Unary t c = N-Unary _ _ _ _ _ _ _ c.in-Unary.is c.get.ensures c.in_ok-push-in-Unary.ensures c.in_ok-lower_number-in-Unary.ensures
@@ -78,16 +78,16 @@ lower_text-returns-in_ok-push-in-Text t c = S-Text _ _ _ _ c.in-Text.is (c.in_ok
 pub lower_text-returns-in_ok-push-in-Comm : goal.lower_text-returns-in_ok-push-in-Comm
 lower_text-returns-in_ok-push-in-Comm t c = S-Comm _ _ _ c.in-Comm.is c.in_ok-push-in-Comm.ensures
 
-pub lower_text-returns-in_ok-push-in-Field : goal.lower_text-returns-in_ok-push-in-Field
-lower_text-returns-in_ok-push-in-Field t c = S-Field _ _ _ _ c.in-Field.is (c.in_ok-push-in-Field.ensures ∙ ap (λ f. pushed (i.TextField f) c.args.code.now) c.in_ok-field-in-Field.ensures)
+pub lower_text-returns-in_ok-push_text_field-in-Field : goal.lower_text-returns-in_ok-push_text_field-in-Field
+lower_text-returns-in_ok-push_text_field-in-Field t c = S-Field _ _ _ _ c.in-Field.is c.in_ok-push_text_field-in-Field.ensures
 
 pub lower_text-returns-in_ok-push-in-Var : goal.lower_text-returns-in_ok-push-in-Var
 lower_text-returns-in_ok-push-in-Var t c = S-Var _ _ _ _ c.in-Var.is c.in_ok-push-in-Var.ensures
 
 pub lower_text-returns-in_ok-lower_values-in-Map : goal.lower_text-returns-in_ok-lower_values-in-Map
 lower_text-returns-in_ok-lower_values-in-Map t c =
-    let key = c.in_ok-key-in-Map.ensures ∙ ap (λ l. key_shapes (all_made l)) c.as_slice.ensures in
-    S-Map _ _ _ _ _ _ _ _ c.in-Map.is c.as_slice-in-Map.ensures key c.in_ok-push-in-Map.ensures c.in_ok-lower_values-in-Map.ensures
+    let key = ap (λ l. key_shapes (all_made l)) c.as_slice.ensures in
+    S-Map _ _ _ _ _ _ _ _ c.in-Map.is c.as_slice-in-Map.ensures key c.in_ok-push_get-in-Map.ensures c.in_ok-lower_values-in-Map.ensures
 
 pub lower_text-returns-in_ok-lower_number-in-Choose : goal.lower_text-returns-in_ok-lower_number-in-Choose
 lower_text-returns-in_ok-lower_number-in-Choose t c =
