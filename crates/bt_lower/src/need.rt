@@ -75,6 +75,24 @@ fn then_beside(bytes: u64, a: Need, b: Need) -> Result<Need, Memory>
     Ok(greater(a, figures(frame, b.code))?)
 }
 
+/// One after another, and some slots more.
+pub(crate) fn greater_and(slots: u64, a: Need, b: Need) -> Result<Need, Memory>
+    ensures both { IfOk result (λ all. all ≡ more slots (greater a b)) }
+    ensures beyond { OnErr result (IsTooMuch (more slots (greater a b))) }
+{
+    let both = greater(a, b)?;
+    Ok(more(slots, both)?)
+}
+
+/// Two operands: the second is evaluated beside the value of the first, which has so many bytes, and some slots more.
+fn operands(slots: u64, bytes: u64, left: Need, right: Need) -> Result<Need, Memory>
+    ensures both { IfOk result (λ all. all ≡ then_beside bytes (more slots left) right) }
+    ensures beyond { OnErr result (IsTooMuch (then_beside bytes (more slots left) right)) }
+{
+    let left = more(slots, left)?;
+    Ok(then_beside(bytes, left, right)?)
+}
+
 /// So many bytes and slots beside a key.
 pub fn under(keys: Listed, frame: u64, slots: u64) -> Result<Need, Memory>
     ensures under { IfOk result (λ all. all ≡ under keys frame slots) }
@@ -140,20 +158,17 @@ pub fn number_need(e: &NumExpr) -> Result<Need, Memory>
         NumExpr::Binary { left, right, .. } => {
             let left = number_need(left.get())?;
             let right = number_need(right.get())?;
-            let left = more(12, left)?;
-            then_beside(8, left, right)
+            operands(12, 8, left, right)
         }
         NumExpr::Compare { left, right, .. } => {
             let left = text_need(left.get())?;
             let right = text_need(right.get())?;
-            let left = more(48, left)?;
-            then_beside(64, left, right)
+            operands(48, 64, left, right)
         }
         NumExpr::AndThen { left, right } | NumExpr::OrElse { left, right } => {
             let left = number_need(left.get())?;
             let right = number_need(right.get())?;
-            let both = greater(left, right)?;
-            more(16, both)
+            greater_and(16, left, right)
         }
         NumExpr::Choose { condition, yes, no } => {
             let condition = number_need(condition.get())?;
