@@ -122,23 +122,23 @@ pub fn lower_number(alloc: Global, e: &NumExpr, code: &mut Code) -> Result<(), M
     ensures { OnOk result (LowersNumber e.now code.old code.new) }
 {
     match e {
-        NumExpr::Number(n) => code.push(alloc, Instr::Put(Value::Int(*n)))?,
-        NumExpr::Builtin(b) => code.push(alloc, Instr::Builtin(*b))?,
-        NumExpr::Field(f) => push_number_field(alloc, f, code)?,
+        NumExpr::Number(n) => code.push(alloc, Instr::Put(Value::Int(*n))),
+        NumExpr::Builtin(b) => code.push(alloc, Instr::Builtin(*b)),
+        NumExpr::Field(f) => push_number_field(alloc, f, code),
         NumExpr::Var(x) => code.push(
             alloc,
             Instr::Load {
                 var: *x,
                 shape: Shape::Int,
             },
-        )?,
+        ),
         NumExpr::Map { map, keys } => {
             push_get(alloc, *map, keys.as_slice(), Shape::Int, code)?;
-            lower_values(alloc, keys.as_slice(), code)?;
+            lower_values(alloc, keys.as_slice(), code)
         }
         NumExpr::Agg { map, keys } => {
             push_read_agg(alloc, *map, keys.as_slice(), code)?;
-            lower_values(alloc, keys.as_slice(), code)?;
+            lower_values(alloc, keys.as_slice(), code)
         }
         NumExpr::StepVar { var, plus, prefix } => code.push(
             alloc,
@@ -147,7 +147,7 @@ pub fn lower_number(alloc: Global, e: &NumExpr, code: &mut Code) -> Result<(), M
                 plus: *plus,
                 prefix: *prefix,
             },
-        )?,
+        ),
         NumExpr::StepMap {
             map,
             keys,
@@ -155,21 +155,21 @@ pub fn lower_number(alloc: Global, e: &NumExpr, code: &mut Code) -> Result<(), M
             prefix,
         } => {
             push_step_map(alloc, *map, keys.as_slice(), *plus, *prefix, code)?;
-            lower_values(alloc, keys.as_slice(), code)?;
+            lower_values(alloc, keys.as_slice(), code)
         }
         NumExpr::Unary { op, value } => {
             code.push(alloc, Instr::Unary(*op))?;
-            lower_number(alloc, value.get(), code)?;
+            lower_number(alloc, value.get(), code)
         }
         NumExpr::Binary { op, left, right } => {
             code.push(alloc, Instr::Binary(*op))?;
             lower_number(alloc, right.get(), code)?;
-            lower_number(alloc, left.get(), code)?;
+            lower_number(alloc, left.get(), code)
         }
         NumExpr::Compare { equal, left, right } => {
             code.push(alloc, Instr::Compare { equal: *equal })?;
             lower_text(alloc, right.get(), code)?;
-            lower_text(alloc, left.get(), code)?;
+            lower_text(alloc, left.get(), code)
         }
         NumExpr::AndThen { left, right } => {
             let after = code.close(alloc)?;
@@ -177,7 +177,7 @@ pub fn lower_number(alloc: Global, e: &NumExpr, code: &mut Code) -> Result<(), M
             let second = known_arm(alloc, Value::Int(0), after, code)?;
             let first = tested_arm(alloc, right.get(), after, code)?;
             code.begin(alloc, Exit::Branch { first, second }, &[Shape::Int])?;
-            lower_number(alloc, left.get(), code)?;
+            lower_number(alloc, left.get(), code)
         }
         NumExpr::OrElse { left, right } => {
             let after = code.close(alloc)?;
@@ -185,7 +185,7 @@ pub fn lower_number(alloc: Global, e: &NumExpr, code: &mut Code) -> Result<(), M
             let second = tested_arm(alloc, right.get(), after, code)?;
             let first = known_arm(alloc, Value::Int(1), after, code)?;
             code.begin(alloc, Exit::Branch { first, second }, &[Shape::Int])?;
-            lower_number(alloc, left.get(), code)?;
+            lower_number(alloc, left.get(), code)
         }
         NumExpr::Choose { condition, yes, no } => {
             let after = code.close(alloc)?;
@@ -193,10 +193,9 @@ pub fn lower_number(alloc: Global, e: &NumExpr, code: &mut Code) -> Result<(), M
             let second = lower_number_arm(alloc, no.get(), after, code)?;
             let first = lower_number_arm(alloc, yes.get(), after, code)?;
             code.begin(alloc, Exit::Branch { first, second }, &[Shape::Int])?;
-            lower_number(alloc, condition.get(), code)?;
+            lower_number(alloc, condition.get(), code)
         }
     }
-    Ok(())
 }
 
 /// Lowers a string.
@@ -205,19 +204,19 @@ pub fn lower_text(alloc: Global, e: &StrExpr, code: &mut Code) -> Result<(), Mem
     ensures { OnOk result (LowersText e.now code.old code.new) }
 {
     match e {
-        StrExpr::Text(s) => code.push(alloc, Instr::Put(Value::Str(s.copy())))?,
-        StrExpr::Comm => code.push(alloc, Instr::Comm)?,
-        StrExpr::Field(f) => push_text_field(alloc, f, code)?,
+        StrExpr::Text(s) => code.push(alloc, Instr::Put(Value::Str(s.copy()))),
+        StrExpr::Comm => code.push(alloc, Instr::Comm),
+        StrExpr::Field(f) => push_text_field(alloc, f, code),
         StrExpr::Var(x) => code.push(
             alloc,
             Instr::Load {
                 var: *x,
                 shape: Shape::Str,
             },
-        )?,
+        ),
         StrExpr::Map { map, keys } => {
             push_get(alloc, *map, keys.as_slice(), Shape::Str, code)?;
-            lower_values(alloc, keys.as_slice(), code)?;
+            lower_values(alloc, keys.as_slice(), code)
         }
         StrExpr::Choose { condition, yes, no } => {
             let after = code.close(alloc)?;
@@ -225,10 +224,9 @@ pub fn lower_text(alloc: Global, e: &StrExpr, code: &mut Code) -> Result<(), Mem
             let second = lower_text_arm(alloc, no.get(), after, code)?;
             let first = lower_text_arm(alloc, yes.get(), after, code)?;
             code.begin(alloc, Exit::Branch { first, second }, &[Shape::Int])?;
-            lower_number(alloc, condition.get(), code)?;
+            lower_number(alloc, condition.get(), code)
         }
     }
-    Ok(())
 }
 
 /// Lowers expressions that are evaluated from left to right: the last one is evaluated last, so it is lowered first.
