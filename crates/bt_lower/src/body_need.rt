@@ -5,8 +5,8 @@ ghost use Rattle.ir_code.specs.Figures.{by_shape};
 ghost use Rattle.bt_lower.specs.Needs.{need, more, greater, set_map_need, update_map_need, taking_need, stmt_need, block_need, arm_need, tree_else_need, gather_need, number_need, value_need, values_need, tree_need, IsTooMuch};
 
 use crate::need::{
-    Need, figures, greater, greater_and, jump_need, more, number_need, predicate_need, sizes_of, sum,
-    under, value_need, values_need,
+    Need, figures, greater, greater_and, jump_need, more, number_need, predicate_need, sizes_of,
+    sum, under, value_need, values_need,
 };
 use bt_core::map::Shape;
 use bt_core::memory::Memory;

@@ -67,12 +67,7 @@ fn push_get(
 }
 
 /// Likewise an aggregation at a key.
-fn push_read_agg(
-    alloc: Global,
-    map: MapId,
-    keys: &[AnyExpr],
-    code: &mut Code,
-) -> Result<(), Memory>
+fn push_read_agg(alloc: Global, map: MapId, keys: &[AnyExpr], code: &mut Code) -> Result<(), Memory>
     ensures { OnOk result (code.new ≡ pushed (instrs.ReadAgg map (key_shapes (all_made keys.now))) code.old) }
 {
     let key = shapes_of(alloc, keys)?;
