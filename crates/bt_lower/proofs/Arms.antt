@@ -1,11 +1,12 @@
 -- Lowering of each kind of expression, by its tree.
-use Rattle.std.proofs.Common.{◌≡◌, ℕ, zero, suc, ◌+◌, ◌≤◌, ◌<◌, ◌-◌, List, [], ◌∷◌, ◌++◌, length, refl, sym, ap, ◌∙◌, subst, arith, Bool, true, false, drop, drop-cons, get_or}
-use Rattle.std.specs.Prelude.{ℤ, pos, max, cond, slice_get}
+use Rattle.std.proofs.Common.{◌≡◌, ℕ, zero, suc, ◌+◌, ◌≤◌, ◌<◌, ◌-◌, Result, Ok, Err, List, [], ◌∷◌, ◌++◌, length, refl, sym, ap, ◌∙◌, subst, arith, Bool, true, false, drop, drop-cons, get_or}
+use Rattle.std.specs.Prelude.{ℤ, pos, max, cond, slice_get, OnOk}
 use Rattle.std.proofs.Math.Nat.{le-max_left, le-max_right, max-le}
 use Rattle.std.proofs.lemmas.Bool.{and_parts}
 use Rattle.std.proofs.lemmas.List.{drop_all}
 use Rattle.bt_core.specs.declared.map.MapId.{MapId}
 use Rattle.bt_core.specs.declared.map.Shape.{Shape}
+use Rattle.bt_core.specs.declared.memory.Memory.{Memory}
 use Rattle.bt_core.specs.declared.map.Shape.TheVariants as shapes
 use Rattle.bt_core.specs.declared.operator.BinOp.{BinOp}
 use Rattle.bt_core.specs.declared.operator.UnOp.{UnOp}
@@ -50,6 +51,11 @@ use Rattle.bt_lower.proofs.Lists.{fit-parts, fit-head}
 use Rattle.bt_lower.proofs.Maps.{map_names, Lowers-read_number, Lowers-read_text, stepped-puts, Lowers-read_agg}
 use Rattle.bt_lower.proofs.Trees as tree
 use Rattle.bt_lower.proofs.Words.{Lowers-leaf, Lowers-number, Lowers-literal, Lowers-builtin, Lowers-command, Lowers-both, Lowers-unary, Lowers-tested, Lowers-compared}
+
+-- what follows at Ok from what is so at Ok
+pub at-ok : {A : Type 0} {P Q : Type 0} (r : Result A Memory) → OnOk r P → (P → Q) → OnOk r Q
+at-ok (Ok x) h f = f h
+at-ok (Err e) h f = tt
 
 num-is : (e x : NumExpr) (ps : List Part) (d : Does ℤ) (n : Need) (c new : Code) → e ≡ x → num_parts x ≡ ps → number_does x ≡ d → number_need x ≡ n → LowersValue ps (number_value d) shapes.Int n c new → LowersNumber e c new
 num-is e x ps d n c new he hp hd hn l =

@@ -1,11 +1,12 @@
 // What statements and bodies need.
 ghost use Rattle.std.specs.Prelude.{◌≡◌, ◌+◌, IfOk, OnErr};
+ghost use Rattle.typed_tree.specs.Parts.{made_of};
 ghost use Rattle.ir_code.specs.Figures.{by_shape};
 ghost use Rattle.bt_lower.specs.Needs.{need, more, greater, set_map_need, update_map_need, taking_need, stmt_need, block_need, arm_need, tree_else_need, gather_need, number_need, value_need, values_need, tree_need, IsTooMuch};
 
 use crate::need::{
-    Need, figures, greater, jump_need, more, number_need, predicate_need, sizes_of, sum, under,
-    value_need, values_need,
+    Need, figures, greater, greater_and, jump_need, more, number_need, predicate_need, sizes_of,
+    sum, under, value_need, values_need,
 };
 use bt_core::map::Shape;
 use bt_core::memory::Memory;
@@ -79,6 +80,34 @@ fn taking_need(values: &[AnyExpr]) -> Result<Need, Memory>
     Ok(more(16, values.need)?)
 }
 
+/// What an assignment to a variable needs.
+fn set_variable_need(value: &AnyExpr) -> Result<Need, Memory>
+    ensures need { IfOk result (λ n. n ≡ more (by_shape (made_of value.now).shape 8 24) (value_need value.now).need) }
+    ensures beyond { OnErr result (IsTooMuch (more (by_shape (made_of value.now).shape 8 24) (value_need value.now).need)) }
+{
+    let valued = value_need(value)?;
+    Ok(more(store_slots(value.shape()), valued.need)?)
+}
+
+/// What `op=` on a variable needs.
+fn update_variable_need(value: &NumExpr) -> Result<Need, Memory>
+    ensures need { IfOk result (λ n. n ≡ more 16 (number_need value.now)) }
+    ensures beyond { OnErr result (IsTooMuch (more 16 (number_need value.now))) }
+{
+    let value = number_need(value)?;
+    Ok(more(16, value)?)
+}
+
+/// What `unroll` needs, by what its block needs.
+fn unroll_need(block: Need) -> Result<Need, Memory>
+    ensures need { IfOk result (λ n. n ≡ need (8 + block.frame) (32 + block.code)) }
+    ensures beyond { OnErr result (IsTooMuch (need (8 + block.frame) (32 + block.code))) }
+{
+    let frame = sum(8, block.frame)?;
+    let code = sum(32, block.code)?;
+    Ok(figures(frame, code))
+}
+
 /// What a statement needs.
 #[cycle(body_need)]
 pub fn stmt_need(s: &TypedStmt) -> Result<Need, Memory>
@@ -86,20 +115,17 @@ pub fn stmt_need(s: &TypedStmt) -> Result<Need, Memory>
     ensures beyond { OnErr result (IsTooMuch (stmt_need s.now)) }
 {
     match s {
-        TypedStmt::SetVar { value, .. } => {
-            let valued = value_need(value)?;
-            Ok(more(store_slots(value.shape()), valued.need)?)
-        }
-        TypedStmt::SetMap { keys, value, .. } => Ok(set_map_need(keys.as_slice(), value)?),
-        TypedStmt::UpdateVar { value, .. } => Ok(more(16, number_need(value)?)?),
-        TypedStmt::UpdateMap { keys, value, .. } => Ok(update_map_need(keys.as_slice(), value)?),
-        TypedStmt::Gather { keys, number, .. } => Ok(gather_need(keys.as_slice(), number)?),
-        TypedStmt::Step(value) => Ok(number_need(value)?),
-        TypedStmt::Printf { values, .. } => Ok(taking_need(values.as_slice())?),
+        TypedStmt::SetVar { value, .. } => set_variable_need(value),
+        TypedStmt::SetMap { keys, value, .. } => set_map_need(keys.as_slice(), value),
+        TypedStmt::UpdateVar { value, .. } => update_variable_need(value),
+        TypedStmt::UpdateMap { keys, value, .. } => update_map_need(keys.as_slice(), value),
+        TypedStmt::Gather { keys, number, .. } => gather_need(keys.as_slice(), number),
+        TypedStmt::Step(value) => number_need(value),
+        TypedStmt::Printf { values, .. } => taking_need(values.as_slice()),
         TypedStmt::Print { .. } => Ok(figures(0, 16)),
         TypedStmt::Clear(_) => Ok(figures(0, 12)),
         TypedStmt::Zero(_) => Ok(figures(0, 12)),
-        TypedStmt::Delete { keys, .. } => Ok(taking_need(keys.as_slice())?),
+        TypedStmt::Delete { keys, .. } => taking_need(keys.as_slice()),
         TypedStmt::Jump(to) => Ok(jump_need(*to)),
         TypedStmt::If { arms, otherwise } => {
             let arms = arms.as_slice();
@@ -120,14 +146,11 @@ pub fn stmt_need(s: &TypedStmt) -> Result<Need, Memory>
         } => {
             let test = number_need(condition)?;
             let block = block_need(block)?;
-            let all = greater(test, block)?;
-            Ok(more(24, all)?)
+            greater_and(24, test, block)
         }
         TypedStmt::Unroll { block, .. } => {
             let block = block_need(block)?;
-            let frame = sum(8, block.frame)?;
-            let code = sum(32, block.code)?;
-            Ok(figures(frame, code))
+            unroll_need(block)
         }
     }
 }
@@ -157,8 +180,7 @@ fn arm_need(block: &TypedBlock, test: &NumExpr) -> Result<Need, Memory>
 {
     let test = number_need(test)?;
     let block = block_need(block)?;
-    let one = greater(test, block)?;
-    Ok(more(8, one)?)
+    greater_and(8, test, block)
 }
 
 /// What the block of an `else` needs, where there is one.

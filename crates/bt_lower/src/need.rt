@@ -75,6 +75,24 @@ fn then_beside(bytes: u64, a: Need, b: Need) -> Result<Need, Memory>
     Ok(greater(a, figures(frame, b.code))?)
 }
 
+/// One after another, and some slots more.
+pub(crate) fn greater_and(slots: u64, a: Need, b: Need) -> Result<Need, Memory>
+    ensures both { IfOk result (λ all. all ≡ more slots (greater a b)) }
+    ensures beyond { OnErr result (IsTooMuch (more slots (greater a b))) }
+{
+    let both = greater(a, b)?;
+    Ok(more(slots, both)?)
+}
+
+/// Two operands: the second is evaluated beside the value of the first, which has so many bytes, and some slots more.
+fn operands(slots: u64, bytes: u64, left: Need, right: Need) -> Result<Need, Memory>
+    ensures both { IfOk result (λ all. all ≡ then_beside bytes (more slots left) right) }
+    ensures beyond { OnErr result (IsTooMuch (then_beside bytes (more slots left) right)) }
+{
+    let left = more(slots, left)?;
+    Ok(then_beside(bytes, left, right)?)
+}
+
 /// So many bytes and slots beside a key.
 pub fn under(keys: Listed, frame: u64, slots: u64) -> Result<Need, Memory>
     ensures under { IfOk result (λ all. all ≡ under keys frame slots) }
@@ -126,40 +144,37 @@ pub fn number_need(e: &NumExpr) -> Result<Need, Memory>
         NumExpr::Field(_) => Ok(figures(8, 8)),
         NumExpr::Map { keys, .. } | NumExpr::Agg { keys, .. } => {
             let keys = values_need(keys.as_slice())?;
-            Ok(under(keys, 8, 16)?)
+            under(keys, 8, 16)
         }
         NumExpr::StepVar { .. } => Ok(figures(8, 12)),
         NumExpr::StepMap { keys, .. } => {
             let keys = values_need(keys.as_slice())?;
-            Ok(under(keys, 16, 32)?)
+            under(keys, 16, 32)
         }
         NumExpr::Unary { value, .. } => {
             let value = number_need(value.get())?;
-            Ok(more(8, value)?)
+            more(8, value)
         }
         NumExpr::Binary { left, right, .. } => {
             let left = number_need(left.get())?;
             let right = number_need(right.get())?;
-            let left = more(12, left)?;
-            Ok(then_beside(8, left, right)?)
+            operands(12, 8, left, right)
         }
         NumExpr::Compare { left, right, .. } => {
             let left = text_need(left.get())?;
             let right = text_need(right.get())?;
-            let left = more(48, left)?;
-            Ok(then_beside(64, left, right)?)
+            operands(48, 64, left, right)
         }
         NumExpr::AndThen { left, right } | NumExpr::OrElse { left, right } => {
             let left = number_need(left.get())?;
             let right = number_need(right.get())?;
-            let both = greater(left, right)?;
-            Ok(more(16, both)?)
+            greater_and(16, left, right)
         }
         NumExpr::Choose { condition, yes, no } => {
             let condition = number_need(condition.get())?;
             let yes = number_need(yes.get())?;
             let no = number_need(no.get())?;
-            Ok(chosen(condition, yes, no)?)
+            chosen(condition, yes, no)
         }
     }
 }
@@ -176,13 +191,13 @@ pub fn text_need(e: &StrExpr) -> Result<Need, Memory>
         StrExpr::Comm | StrExpr::Field(_) | StrExpr::Var(_) => Ok(figures(64, 24)),
         StrExpr::Map { keys, .. } => {
             let keys = values_need(keys.as_slice())?;
-            Ok(under(keys, 64, 40)?)
+            under(keys, 64, 40)
         }
         StrExpr::Choose { condition, yes, no } => {
             let condition = number_need(condition.get())?;
             let yes = text_need(yes.get())?;
             let no = text_need(no.get())?;
-            Ok(chosen(condition, yes, no)?)
+            chosen(condition, yes, no)
         }
     }
 }

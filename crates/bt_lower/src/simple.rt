@@ -92,14 +92,13 @@ pub fn gather(
         Some(value) => {
             code.push(alloc, Instr::Add { map, key })?;
             lower_number(alloc, value, code)?;
-            lower_values(alloc, keys, code)?;
+            lower_values(alloc, keys, code)
         }
         None => {
             code.push(alloc, Instr::Count { map, key })?;
-            lower_values(alloc, keys, code)?;
+            lower_values(alloc, keys, code)
         }
     }
-    Ok(())
 }
 
 /// Lowers an expression whose value is let go.
@@ -160,13 +159,12 @@ pub fn jump(alloc: Global, jump: Jump, way: Ways, code: &mut Code) -> Result<(),
     ensures { OnOk result (LowersStatement (stmts.Jump jump) way code.old code.new) }
 {
     match jump {
-        Jump::Break => code.begin(alloc, Exit::Goto(way.leave), &[])?,
-        Jump::Continue => code.begin(alloc, Exit::Goto(way.again), &[])?,
-        Jump::Return => code.begin(alloc, Exit::End(Ending::Return), &[])?,
+        Jump::Break => code.begin(alloc, Exit::Goto(way.leave), &[]),
+        Jump::Continue => code.begin(alloc, Exit::Goto(way.again), &[]),
+        Jump::Return => code.begin(alloc, Exit::End(Ending::Return), &[]),
         Jump::Exit => {
             code.begin(alloc, Exit::End(Ending::Exit), &[])?;
-            code.push(alloc, Instr::Stop)?;
+            code.push(alloc, Instr::Stop)
         }
     }
-    Ok(())
 }

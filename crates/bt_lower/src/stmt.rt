@@ -26,41 +26,40 @@ pub fn lower_stmt(alloc: Global, s: &TypedStmt, way: Ways, code: &mut Code) -> R
     ensures { OnOk result (LowersStatement s.now way code.old code.new) }
 {
     match s {
-        TypedStmt::SetVar { var, value } => set_variable(alloc, *var, value, code)?,
+        TypedStmt::SetVar { var, value } => set_variable(alloc, *var, value, code),
         TypedStmt::SetMap { map, keys, value } => {
-            set_map(alloc, *map, keys.as_slice(), value, code)?
+            set_map(alloc, *map, keys.as_slice(), value, code)
         }
-        TypedStmt::UpdateVar { var, op, value } => update_variable(alloc, *var, *op, value, code)?,
+        TypedStmt::UpdateVar { var, op, value } => update_variable(alloc, *var, *op, value, code),
         TypedStmt::UpdateMap {
             map,
             keys,
             op,
             value,
-        } => update_map(alloc, *map, keys.as_slice(), *op, value, code)?,
+        } => update_map(alloc, *map, keys.as_slice(), *op, value, code),
         TypedStmt::Gather {
             map,
             keys,
             kind,
             number,
-        } => gather(alloc, *map, keys.as_slice(), *kind, number, code)?,
-        TypedStmt::Step(value) => step(alloc, value, code)?,
-        TypedStmt::Printf { format, values } => printf(alloc, *format, values.as_slice(), code)?,
-        TypedStmt::Print { map, top, div } => print(alloc, *map, *top, *div, code)?,
-        TypedStmt::Clear(map) => clear(alloc, *map, code)?,
-        TypedStmt::Zero(map) => zero(alloc, *map, code)?,
-        TypedStmt::Delete { map, keys } => delete_at(alloc, *map, keys.as_slice(), code)?,
-        TypedStmt::Jump(to) => jump(alloc, *to, way, code)?,
-        TypedStmt::If { .. } => lower_if(alloc, s, way, code)?,
+        } => gather(alloc, *map, keys.as_slice(), *kind, number, code),
+        TypedStmt::Step(value) => step(alloc, value, code),
+        TypedStmt::Printf { format, values } => printf(alloc, *format, values.as_slice(), code),
+        TypedStmt::Print { map, top, div } => print(alloc, *map, *top, *div, code),
+        TypedStmt::Clear(map) => clear(alloc, *map, code),
+        TypedStmt::Zero(map) => zero(alloc, *map, code),
+        TypedStmt::Delete { map, keys } => delete_at(alloc, *map, keys.as_slice(), code),
+        TypedStmt::Jump(to) => jump(alloc, *to, way, code),
+        TypedStmt::If { .. } => lower_if(alloc, s, way, code),
         TypedStmt::While {
             condition,
             block,
             line,
-        } => lower_while(alloc, block, condition, *line, code)?,
+        } => lower_while(alloc, block, condition, *line, code),
         TypedStmt::Unroll { turns, block, line } => {
-            lower_unroll(alloc, *turns, block, *line, code)?
+            lower_unroll(alloc, *turns, block, *line, code)
         }
     }
-    Ok(())
 }
 
 /// Lowers the statements of a block from the last one to the first.

@@ -1,22 +1,25 @@
 // Lowering of expressions: a function puts what evaluates before what is open.
 ghost use Rattle.std.specs.Prelude.{◌≡◌, OnOk, IfOk, []};
 ghost use Rattle.bt_core.specs.declared.map.Shape.TheVariants as shapes;
+ghost use Rattle.ir_code.specs.declared.instr.Instr.TheVariants as instrs;
 ghost use Rattle.typed_tree.specs.Parts.{num_parts, str_parts, key_shapes};
 ghost use Rattle.walk_meaning.specs.Does.{given};
 ghost use Rattle.walk_meaning.specs.Exprs.{number_does, text_does, number_value, text_value, tested};
+ghost use Rattle.bt_lower.specs.Code.{pushed};
 ghost use Rattle.bt_lower.specs.Lowers.{LowersAny, LowersNumber, LowersText, LowersList, LowersArm, all_made, known_need};
 ghost use Rattle.map_ops.specs.Values.{shape_of};
 ghost use Rattle.bt_lower.specs.Needs.{number_need, text_need, more};
 
 use crate::code::Code;
 use bt_core::items::Items;
-use bt_core::map::Shape;
+use bt_core::map::{MapId, Shape};
 use bt_core::memory::{Memory, TryCopy};
 use bt_core::value::Value;
 use ir_code::blocks::Exit;
 use ir_code::instr::Instr;
 use ir_code::state::shape_of;
 use std::alloc::Global;
+use tracefs_format::field::Field;
 use typed_tree::expr::{AnyExpr, NumExpr, StrExpr};
 
 /// The types of a key's parts.
@@ -28,6 +31,72 @@ pub fn shapes_of(alloc: Global, keys: &[AnyExpr]) -> Result<Items<Shape>, Memory
         shapes.push(key.shape())?;
     }
     Ok(shapes)
+}
+
+/// Puts the number in a field before what is open.
+fn push_number_field(alloc: Global, field: &Field, code: &mut Code) -> Result<(), Memory>
+    ensures { OnOk result (code.new ≡ pushed (instrs.NumberField field.now) code.old) }
+{
+    let field = field.try_copy(alloc)?;
+    code.push(alloc, Instr::NumberField(field))?;
+    Ok(())
+}
+
+/// Likewise the string in a field.
+fn push_text_field(alloc: Global, field: &Field, code: &mut Code) -> Result<(), Memory>
+    ensures { OnOk result (code.new ≡ pushed (instrs.TextField field.now) code.old) }
+{
+    let field = field.try_copy(alloc)?;
+    code.push(alloc, Instr::TextField(field))?;
+    Ok(())
+}
+
+/// Likewise the value that a map has at a key.
+fn push_get(
+    alloc: Global,
+    map: MapId,
+    keys: &[AnyExpr],
+    shape: Shape,
+    code: &mut Code,
+) -> Result<(), Memory>
+    ensures { OnOk result (code.new ≡ pushed (instrs.Get map (key_shapes (all_made keys.now)) shape) code.old) }
+{
+    let key = shapes_of(alloc, keys)?;
+    code.push(alloc, Instr::Get { map, key, shape })?;
+    Ok(())
+}
+
+/// Likewise an aggregation at a key.
+fn push_read_agg(alloc: Global, map: MapId, keys: &[AnyExpr], code: &mut Code) -> Result<(), Memory>
+    ensures { OnOk result (code.new ≡ pushed (instrs.ReadAgg map (key_shapes (all_made keys.now))) code.old) }
+{
+    let key = shapes_of(alloc, keys)?;
+    code.push(alloc, Instr::ReadAgg { map, key })?;
+    Ok(())
+}
+
+/// Likewise the step of a map's number at a key.
+fn push_step_map(
+    alloc: Global,
+    map: MapId,
+    keys: &[AnyExpr],
+    plus: bool,
+    prefix: bool,
+    code: &mut Code,
+) -> Result<(), Memory>
+    ensures { OnOk result (code.new ≡ pushed (instrs.StepMap map (key_shapes (all_made keys.now)) plus prefix) code.old) }
+{
+    let key = shapes_of(alloc, keys)?;
+    code.push(
+        alloc,
+        Instr::StepMap {
+            map,
+            key,
+            plus,
+            prefix,
+        },
+    )?;
+    Ok(())
 }
 
 /// Lowers an expression.
@@ -48,35 +117,23 @@ pub fn lower_number(alloc: Global, e: &NumExpr, code: &mut Code) -> Result<(), M
     ensures { OnOk result (LowersNumber e.now code.old code.new) }
 {
     match e {
-        NumExpr::Number(n) => code.push(alloc, Instr::Put(Value::Int(*n)))?,
-        NumExpr::Builtin(b) => code.push(alloc, Instr::Builtin(*b))?,
-        NumExpr::Field(f) => {
-            let field = f.try_copy(alloc)?;
-            code.push(alloc, Instr::NumberField(field))?;
-        }
+        NumExpr::Number(n) => code.push(alloc, Instr::Put(Value::Int(*n))),
+        NumExpr::Builtin(b) => code.push(alloc, Instr::Builtin(*b)),
+        NumExpr::Field(f) => push_number_field(alloc, f, code),
         NumExpr::Var(x) => code.push(
             alloc,
             Instr::Load {
                 var: *x,
                 shape: Shape::Int,
             },
-        )?,
+        ),
         NumExpr::Map { map, keys } => {
-            let key = shapes_of(alloc, keys.as_slice())?;
-            code.push(
-                alloc,
-                Instr::Get {
-                    map: *map,
-                    key,
-                    shape: Shape::Int,
-                },
-            )?;
-            lower_values(alloc, keys.as_slice(), code)?;
+            push_get(alloc, *map, keys.as_slice(), Shape::Int, code)?;
+            lower_values(alloc, keys.as_slice(), code)
         }
         NumExpr::Agg { map, keys } => {
-            let key = shapes_of(alloc, keys.as_slice())?;
-            code.push(alloc, Instr::ReadAgg { map: *map, key })?;
-            lower_values(alloc, keys.as_slice(), code)?;
+            push_read_agg(alloc, *map, keys.as_slice(), code)?;
+            lower_values(alloc, keys.as_slice(), code)
         }
         NumExpr::StepVar { var, plus, prefix } => code.push(
             alloc,
@@ -85,38 +142,29 @@ pub fn lower_number(alloc: Global, e: &NumExpr, code: &mut Code) -> Result<(), M
                 plus: *plus,
                 prefix: *prefix,
             },
-        )?,
+        ),
         NumExpr::StepMap {
             map,
             keys,
             plus,
             prefix,
         } => {
-            let key = shapes_of(alloc, keys.as_slice())?;
-            code.push(
-                alloc,
-                Instr::StepMap {
-                    map: *map,
-                    key,
-                    plus: *plus,
-                    prefix: *prefix,
-                },
-            )?;
-            lower_values(alloc, keys.as_slice(), code)?;
+            push_step_map(alloc, *map, keys.as_slice(), *plus, *prefix, code)?;
+            lower_values(alloc, keys.as_slice(), code)
         }
         NumExpr::Unary { op, value } => {
             code.push(alloc, Instr::Unary(*op))?;
-            lower_number(alloc, value.get(), code)?;
+            lower_number(alloc, value.get(), code)
         }
         NumExpr::Binary { op, left, right } => {
             code.push(alloc, Instr::Binary(*op))?;
             lower_number(alloc, right.get(), code)?;
-            lower_number(alloc, left.get(), code)?;
+            lower_number(alloc, left.get(), code)
         }
         NumExpr::Compare { equal, left, right } => {
             code.push(alloc, Instr::Compare { equal: *equal })?;
             lower_text(alloc, right.get(), code)?;
-            lower_text(alloc, left.get(), code)?;
+            lower_text(alloc, left.get(), code)
         }
         NumExpr::AndThen { left, right } => {
             let after = code.close(alloc)?;
@@ -124,7 +172,7 @@ pub fn lower_number(alloc: Global, e: &NumExpr, code: &mut Code) -> Result<(), M
             let second = known_arm(alloc, Value::Int(0), after, code)?;
             let first = tested_arm(alloc, right.get(), after, code)?;
             code.begin(alloc, Exit::Branch { first, second }, &[Shape::Int])?;
-            lower_number(alloc, left.get(), code)?;
+            lower_number(alloc, left.get(), code)
         }
         NumExpr::OrElse { left, right } => {
             let after = code.close(alloc)?;
@@ -132,7 +180,7 @@ pub fn lower_number(alloc: Global, e: &NumExpr, code: &mut Code) -> Result<(), M
             let second = tested_arm(alloc, right.get(), after, code)?;
             let first = known_arm(alloc, Value::Int(1), after, code)?;
             code.begin(alloc, Exit::Branch { first, second }, &[Shape::Int])?;
-            lower_number(alloc, left.get(), code)?;
+            lower_number(alloc, left.get(), code)
         }
         NumExpr::Choose { condition, yes, no } => {
             let after = code.close(alloc)?;
@@ -140,10 +188,9 @@ pub fn lower_number(alloc: Global, e: &NumExpr, code: &mut Code) -> Result<(), M
             let second = lower_number_arm(alloc, no.get(), after, code)?;
             let first = lower_number_arm(alloc, yes.get(), after, code)?;
             code.begin(alloc, Exit::Branch { first, second }, &[Shape::Int])?;
-            lower_number(alloc, condition.get(), code)?;
+            lower_number(alloc, condition.get(), code)
         }
     }
-    Ok(())
 }
 
 /// Lowers a string.
@@ -152,30 +199,19 @@ pub fn lower_text(alloc: Global, e: &StrExpr, code: &mut Code) -> Result<(), Mem
     ensures { OnOk result (LowersText e.now code.old code.new) }
 {
     match e {
-        StrExpr::Text(s) => code.push(alloc, Instr::Put(Value::Str(s.copy())))?,
-        StrExpr::Comm => code.push(alloc, Instr::Comm)?,
-        StrExpr::Field(f) => {
-            let field = f.try_copy(alloc)?;
-            code.push(alloc, Instr::TextField(field))?;
-        }
+        StrExpr::Text(s) => code.push(alloc, Instr::Put(Value::Str(s.copy()))),
+        StrExpr::Comm => code.push(alloc, Instr::Comm),
+        StrExpr::Field(f) => push_text_field(alloc, f, code),
         StrExpr::Var(x) => code.push(
             alloc,
             Instr::Load {
                 var: *x,
                 shape: Shape::Str,
             },
-        )?,
+        ),
         StrExpr::Map { map, keys } => {
-            let key = shapes_of(alloc, keys.as_slice())?;
-            code.push(
-                alloc,
-                Instr::Get {
-                    map: *map,
-                    key,
-                    shape: Shape::Str,
-                },
-            )?;
-            lower_values(alloc, keys.as_slice(), code)?;
+            push_get(alloc, *map, keys.as_slice(), Shape::Str, code)?;
+            lower_values(alloc, keys.as_slice(), code)
         }
         StrExpr::Choose { condition, yes, no } => {
             let after = code.close(alloc)?;
@@ -183,10 +219,9 @@ pub fn lower_text(alloc: Global, e: &StrExpr, code: &mut Code) -> Result<(), Mem
             let second = lower_text_arm(alloc, no.get(), after, code)?;
             let first = lower_text_arm(alloc, yes.get(), after, code)?;
             code.begin(alloc, Exit::Branch { first, second }, &[Shape::Int])?;
-            lower_number(alloc, condition.get(), code)?;
+            lower_number(alloc, condition.get(), code)
         }
     }
-    Ok(())
 }
 
 /// Lowers expressions that are evaluated from left to right: the last one is evaluated last, so it is lowered first.

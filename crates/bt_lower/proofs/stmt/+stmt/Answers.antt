@@ -9,6 +9,7 @@ use Rattle.std.specs.Prelude.{ℤ}
 use Rattle.bt_core.specs.declared.value.Value.TheVariants.{Int}
 use Rattle.ir_code.specs.declared.instr.Instr.TheVariants as i
 use Rattle.bt_lower.specs.Code.{pushed}
+use Rattle.bt_lower.proofs.Arms.{at-ok}
 use Rattle.bt_lower.proofs.Branches.{Else-none, Else-some, Arms-start, Arms-more, Arms-next, T-If, T-If-none, T-If-else}
 use Rattle.bt_lower.proofs.Jumps.{Same, Same-single}
 use Rattle.bt_lower.proofs.Rest.{Rest-start, Rest-next, Rest-end}
@@ -17,50 +18,55 @@ use Rattle.bt_lower.proofs.Unrolled.{unroll-steps}
 use Rattle.bt_lower.proofs.Whiled.{T-While}
 use Rattle.bt_lower.proofs.stmt.+stmt.Goals as goal
 
-pub lower_stmt-returns-in_ok-set_variable-in-SetVar : goal.lower_stmt-returns-in_ok-set_variable-in-SetVar
-lower_stmt-returns-in_ok-set_variable-in-SetVar t c = Same-single _ _ _ _ _ c.in-SetVar.is c.in_ok-set_variable-in-SetVar.ensures
+pub lower_stmt-returns-in-SetVar : goal.lower_stmt-returns-in-SetVar
+lower_stmt-returns-in-SetVar t c = at-ok c.set_variable.result c.set_variable.ensures (Same-single _ _ _ _ _ c.in-SetVar.is)
 
-pub lower_stmt-returns-in_ok-update_variable-in-UpdateVar : goal.lower_stmt-returns-in_ok-update_variable-in-UpdateVar
-lower_stmt-returns-in_ok-update_variable-in-UpdateVar t c = Same-single _ _ _ _ _ c.in-UpdateVar.is c.in_ok-update_variable-in-UpdateVar.ensures
+pub lower_stmt-returns-in-UpdateVar : goal.lower_stmt-returns-in-UpdateVar
+lower_stmt-returns-in-UpdateVar t c = at-ok c.update_variable.result c.update_variable.ensures (Same-single _ _ _ _ _ c.in-UpdateVar.is)
 
-pub lower_stmt-returns-in_ok-step-in-Step : goal.lower_stmt-returns-in_ok-step-in-Step
-lower_stmt-returns-in_ok-step-in-Step t c = Same-single _ _ _ _ _ c.in-Step.is c.in_ok-step-in-Step.ensures
+pub lower_stmt-returns-in-Step : goal.lower_stmt-returns-in-Step
+lower_stmt-returns-in-Step t c = at-ok c.step.result c.step.ensures (Same-single _ _ _ _ _ c.in-Step.is)
 
-pub lower_stmt-returns-in_ok-clear-in-Clear : goal.lower_stmt-returns-in_ok-clear-in-Clear
-lower_stmt-returns-in_ok-clear-in-Clear t c = Same-single _ _ _ _ _ c.in-Clear.is c.in_ok-clear-in-Clear.ensures
+pub lower_stmt-returns-in-Clear : goal.lower_stmt-returns-in-Clear
+lower_stmt-returns-in-Clear t c = at-ok c.clear.result c.clear.ensures (Same-single _ _ _ _ _ c.in-Clear.is)
 
-pub lower_stmt-returns-in_ok-zero-in-Zero : goal.lower_stmt-returns-in_ok-zero-in-Zero
-lower_stmt-returns-in_ok-zero-in-Zero t c = Same-single _ _ _ _ _ c.in-Zero.is c.in_ok-zero-in-Zero.ensures
+pub lower_stmt-returns-in-Zero : goal.lower_stmt-returns-in-Zero
+lower_stmt-returns-in-Zero t c = at-ok c.zero.result c.zero.ensures (Same-single _ _ _ _ _ c.in-Zero.is)
 
-pub lower_stmt-returns-in_ok-lower_while-in-While : goal.lower_stmt-returns-in_ok-lower_while-in-While
-lower_stmt-returns-in_ok-lower_while-in-While t c = Same-single _ _ _ _ _ c.in-While.is c.in_ok-lower_while-in-While.ensures
+pub lower_stmt-returns-in-While : goal.lower_stmt-returns-in-While
+lower_stmt-returns-in-While t c = at-ok c.lower_while.result c.lower_while.ensures (Same-single _ _ _ _ _ c.in-While.is)
 
-pub lower_stmt-returns-in_ok-lower_unroll-in-Unroll : goal.lower_stmt-returns-in_ok-lower_unroll-in-Unroll
-lower_stmt-returns-in_ok-lower_unroll-in-Unroll t c = Same-single _ _ _ _ _ c.in-Unroll.is c.in_ok-lower_unroll-in-Unroll.ensures
+pub lower_stmt-returns-in-Unroll : goal.lower_stmt-returns-in-Unroll
+lower_stmt-returns-in-Unroll t c = at-ok c.lower_unroll.result c.lower_unroll.ensures (Same-single _ _ _ _ _ c.in-Unroll.is)
 
-pub lower_stmt-returns-in_ok-set_map-in-SetMap : goal.lower_stmt-returns-in_ok-set_map-in-SetMap
-lower_stmt-returns-in_ok-set_map-in-SetMap t c = Same-single _ _ _ _ _ (c.in-SetMap.is ∙ ap (λ (l : List AnyExpr). stmts.SetMap c.in-SetMap.map l c.in-SetMap.value) (sym c.as_slice.ensures)) c.in_ok-set_map-in-SetMap.ensures
+pub lower_stmt-returns-in-SetMap : goal.lower_stmt-returns-in-SetMap
+lower_stmt-returns-in-SetMap t c =
+    at-ok c.set_map.result c.set_map.ensures (Same-single _ _ _ _ _ (c.in-SetMap.is ∙ ap (λ (l : List AnyExpr). stmts.SetMap c.in-SetMap.map l c.in-SetMap.value) (sym c.as_slice.ensures)))
 
-pub lower_stmt-returns-in_ok-update_map-in-UpdateMap : goal.lower_stmt-returns-in_ok-update_map-in-UpdateMap
-lower_stmt-returns-in_ok-update_map-in-UpdateMap t c = Same-single _ _ _ _ _ (c.in-UpdateMap.is ∙ ap (λ (l : List AnyExpr). stmts.UpdateMap c.in-UpdateMap.map l c.in-UpdateMap.op c.in-UpdateMap.value) (sym c.as_slice-in-UpdateMap.ensures)) c.in_ok-update_map-in-UpdateMap.ensures
+pub lower_stmt-returns-in-UpdateMap : goal.lower_stmt-returns-in-UpdateMap
+lower_stmt-returns-in-UpdateMap t c =
+    at-ok c.update_map.result c.update_map.ensures (Same-single _ _ _ _ _ (c.in-UpdateMap.is ∙ ap (λ (l : List AnyExpr). stmts.UpdateMap c.in-UpdateMap.map l c.in-UpdateMap.op c.in-UpdateMap.value) (sym c.as_slice-in-UpdateMap.ensures)))
 
-pub lower_stmt-returns-in_ok-gather-in-Gather : goal.lower_stmt-returns-in_ok-gather-in-Gather
-lower_stmt-returns-in_ok-gather-in-Gather t c = Same-single _ _ _ _ _ (c.in-Gather.is ∙ ap (λ (l : List AnyExpr). stmts.Gather c.in-Gather.map l c.in-Gather.kind c.in-Gather.number) (sym c.as_slice-in-Gather.ensures)) c.in_ok-gather-in-Gather.ensures
+pub lower_stmt-returns-in-Gather : goal.lower_stmt-returns-in-Gather
+lower_stmt-returns-in-Gather t c =
+    at-ok c.gather.result c.gather.ensures (Same-single _ _ _ _ _ (c.in-Gather.is ∙ ap (λ (l : List AnyExpr). stmts.Gather c.in-Gather.map l c.in-Gather.kind c.in-Gather.number) (sym c.as_slice-in-Gather.ensures)))
 
-pub lower_stmt-returns-in_ok-printf-in-Printf : goal.lower_stmt-returns-in_ok-printf-in-Printf
-lower_stmt-returns-in_ok-printf-in-Printf t c = Same-single _ _ _ _ _ (c.in-Printf.is ∙ ap (λ (l : List AnyExpr). stmts.Printf c.in-Printf.format l) (sym c.as_slice-in-Printf.ensures)) c.in_ok-printf-in-Printf.ensures
+pub lower_stmt-returns-in-Printf : goal.lower_stmt-returns-in-Printf
+lower_stmt-returns-in-Printf t c =
+    at-ok c.printf.result c.printf.ensures (Same-single _ _ _ _ _ (c.in-Printf.is ∙ ap (λ (l : List AnyExpr). stmts.Printf c.in-Printf.format l) (sym c.as_slice-in-Printf.ensures)))
 
-pub lower_stmt-returns-in_ok-delete_at-in-Delete : goal.lower_stmt-returns-in_ok-delete_at-in-Delete
-lower_stmt-returns-in_ok-delete_at-in-Delete t c = Same-single _ _ _ _ _ (c.in-Delete.is ∙ ap (λ (l : List AnyExpr). stmts.Delete c.in-Delete.map l) (sym c.as_slice-in-Delete.ensures)) c.in_ok-delete_at-in-Delete.ensures
+pub lower_stmt-returns-in-Delete : goal.lower_stmt-returns-in-Delete
+lower_stmt-returns-in-Delete t c =
+    at-ok c.delete_at.result c.delete_at.ensures (Same-single _ _ _ _ _ (c.in-Delete.is ∙ ap (λ (l : List AnyExpr). stmts.Delete c.in-Delete.map l) (sym c.as_slice-in-Delete.ensures)))
 
-pub lower_stmt-returns-in_ok-print-in-Print : goal.lower_stmt-returns-in_ok-print-in-Print
-lower_stmt-returns-in_ok-print-in-Print t c =
+pub lower_stmt-returns-in-Print : goal.lower_stmt-returns-in-Print
+lower_stmt-returns-in-Print t c =
     let fits : SFits w64 c.in-Print.div = search rules in
-    let made = simp to_z-of_z at c.in_ok-print-in-Print.ensures in
-    Same-single _ _ _ _ _ c.in-Print.is made
+    let made = simp to_z-of_z at c.print.ensures in
+    at-ok c.print.result made (Same-single _ _ _ _ _ c.in-Print.is)
 
-pub lower_stmt-returns-in_ok-jump-in-Jump : goal.lower_stmt-returns-in_ok-jump-in-Jump
-lower_stmt-returns-in_ok-jump-in-Jump t c = Same _ _ _ _ _ c.in-Jump.is c.in_ok-jump-in-Jump.ensures
+pub lower_stmt-returns-in-Jump : goal.lower_stmt-returns-in-Jump
+lower_stmt-returns-in-Jump t c = at-ok c.jump.result c.jump.ensures (Same _ _ _ _ _ c.in-Jump.is)
 
 pub lower_block-loop-left-init : goal.lower_block-loop-left-init
 lower_block-loop-left-init t c = record { within = omega arith; lowered = Rest-start c.as_slice-stmts.result.now _ _ _ refl }
@@ -83,8 +89,8 @@ lower_else-returns-in_ok-number-in-Some t c = Else-some _ _ _ _ _ _ _ c.in-Some.
 pub lower_while-returns : goal.lower_while-returns
 lower_while-returns t c = λ way. T-While _ _ _ _ _ _ _ _ _ way _ _ _ _ _ _ _ _ _ _ _ c.in_ok-leave.ensures.closed c.in_ok-leave.ensures.number c.in_ok-cut.ensures.made c.in_ok-cut.ensures.number c.in_ok-again.ensures.reserved c.in_ok-again.ensures.number c.in_ok-turn.ensures c.gate.ensures c.in_ok-first.ensures.closed c.in_ok-first.ensures.number c.in_ok-begin.ensures c.in_ok-lower_number.ensures c.in_ok-head.ensures.closed c.in_ok-head.ensures.number c.in_ok-patch.ensures
 
-pub lower_stmt-returns-in_ok-lower_if-in-If : goal.lower_stmt-returns-in_ok-lower_if-in-If
-lower_stmt-returns-in_ok-lower_if-in-If t c = c.in_ok-lower_if-in-If.ensures _ _ c.in-If.is
+pub lower_stmt-returns-in-If : goal.lower_stmt-returns-in-If
+lower_stmt-returns-in-If t c = at-ok c.lower_if.result c.lower_if.ensures (λ lowered. lowered _ _ c.in-If.is)
 
 pub lower_only_else-returns-in_ok-lower_block-in-Some : goal.lower_only_else-returns-in_ok-lower_block-in-Some
 lower_only_else-returns-in_ok-lower_block-in-Some t c = T-If-else _ _ _ _ _ c.in-Some.is c.in_ok-lower_block-in-Some.ensures
