@@ -96,10 +96,7 @@ fn check_all(
 }
 
 /// The maps and the formats of a script.
-fn shared_of(
-    alloc: Global,
-    known: Known,
-) -> Result<(Items<MapDecl>, Items<Items<Piece>>), Memory>
+fn shared_of(alloc: Global, known: Known) -> Result<(Items<MapDecl>, Items<Items<Piece>>), Memory>
     ensures { IfOk result (λ shared. (shared.0 ≡ maps_of known) × (shared.1 ≡ map (λ (p : PrintedValue). p.pieces) known.printed)) }
 {
     let maps = maps_of(alloc, &known);

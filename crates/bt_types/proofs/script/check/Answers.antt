@@ -53,7 +53,7 @@ invariant_of-result c =
     let maps_same = ap (λ (both : List MapDecl × List (List Piece)). both.0) c.in_ok-maps.ensures.0 in
     let formats_same = ap (λ (both : List MapDecl × List (List Piece)). both.1) c.in_ok-maps.ensures.0 in
     let closed : AllZip (IsClosed c.in_ok-maps.maps c.in_ok-maps.formats) opens c.in_ok-maps.bodies =
-        rw (maps_same, formats_same, ← c.in_ok-bodies.ensures.0) (IfOk-at_ok _ c.in_ok-maps.ensures.1 c.close_bodies-closed.ensures) in
+    rw (maps_same, formats_same, ← c.in_ok-bodies.ensures.0) (IfOk-at_ok _ c.in_ok-maps.ensures.1 c.close_bodies-closed.ensures) in
     record {
       fine = rw (maps_same, shared.0) (maps_fine k sound);
       placed = ∣ are_in c.in_ok-maps.maps c.in_ok-maps.formats opens c.in_ok-maps.bodies closed ∣₁;
@@ -71,7 +71,7 @@ returns-clause-typed c =
     let maps_same = ap (λ (both : List MapDecl × List (List Piece)). both.0) c.in_ok-maps.ensures.0 in
     let formats_same = ap (λ (both : List MapDecl × List (List Piece)). both.1) c.in_ok-maps.ensures.0 in
     let closed : AllZip (IsClosed c.in_ok-maps.maps c.in_ok-maps.formats) opens c.in_ok-maps.bodies =
-        rw (maps_same, formats_same, ← c.in_ok-bodies.ensures.0) (IfOk-at_ok _ c.in_ok-maps.ensures.1 c.close_bodies-closed.ensures) in
+    rw (maps_same, formats_same, ← c.in_ok-bodies.ensures.0) (IfOk-at_ok _ c.in_ok-maps.ensures.1 c.close_bodies-closed.ensures) in
     record {
       known = k;
       whole = done.whole;
