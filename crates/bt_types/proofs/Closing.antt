@@ -1,5 +1,5 @@
 -- From checked bodies to a typed script.
-use Rattle.std.proofs.Common.{◌≡◌, ◌++◌, ℕ, List, [], ◌∷◌, map, Option, Some, None, Result, Ok, Err, IsErrAnd, IfErr, slice_get, All, refl, sym, ap, subst, ◌∙◌}
+use Rattle.std.proofs.Common.{◌≡◌, ◌++◌, ℕ, List, [], ◌∷◌, map, Option, Some, None, Result, Ok, Err, IsErrAnd, IfErr, MatchResult, slice_get, All, refl, sym, ap, subst, ◌∙◌}
 use Rattle.std.specs.List.{AllByRecursion, AllZip, cons_option}
 use Rattle.std.specs.Option.{option_map}
 use Rattle.std.proofs.lemmas.List.Elements.{All-from_recursion}
@@ -139,3 +139,9 @@ all_listed script layouts maps formats before ids [] (t ∷ ts) c n = absurd c
 all_listed script layouts maps formats before ids (b ∷ bs) [] c n = absurd c
 all_listed script layouts maps formats before (id ∷ ids) (b ∷ bs) (t ∷ ts) c n =
     (listed maps formats (known_behind script layouts before id) b t c.0 n.0, all_listed script layouts maps formats (known_behind script layouts before id) ids bs ts c.1 n.1)
+
+-- what an answer says stays true of it behind what was kept
+pub told_beside : {K T E : Type 0} (P : K → T → Type 0) (Q : E → Type 0) (kept : K) (answer : Result T E) (r : Result (K × T) E)
+    → MatchResult r (λ both. (both.0 ≡ kept) × (answer ≡ Ok both.1)) (λ e. answer ≡ Err e) → MatchResult answer (P kept) Q → MatchResult r (λ both. P both.0 both.1) Q
+told_beside P Q kept answer (Ok both) b h = subst (λ k. P k both.1) (sym b.0) (subst (λ x. MatchResult x (P kept) Q) b.1 h)
+told_beside P Q kept answer (Err e) b h = subst (λ x. MatchResult x (P kept) Q) b h

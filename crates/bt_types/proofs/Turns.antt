@@ -136,3 +136,10 @@ does_in_err t ps k0 now (Err e) f is h = subst (λ (x : TypeError). SaysFault (j
 pub does_at : {A : Type 0} (t : Told) (ps : A → Bool → List Part) (k0 now : Known) (r : Result A TypeError) (inside : Bool) → DoesIn t ps k0 now r → Does t (λ a. ps a inside) k0 now r
 does_at t ps k0 now (Ok a) inside h = h inside
 does_at t ps k0 now (Err e) inside h = h
+
+-- what an answer says of a value that it has, and of its error
+pub done_in : {A : Type 0} (t : Told) (ps : A → List Part) (k0 now : Known) (r : Result A TypeError) (a : A) → r ≡ Ok a → Does t ps k0 now r → Done t k0 now (ps a)
+done_in t ps k0 now r a is h = subst (λ (x : Result _ TypeError). Does t ps k0 now x) is h
+
+pub fault_in : {A : Type 0} (t : Told) (ps : A → List Part) (k0 now : Known) (r : Result A TypeError) (e : TypeError) → r ≡ Err e → Does t ps k0 now r → SaysFault (judged t.points k0) e
+fault_in t ps k0 now r e is h = subst (λ (x : Result _ TypeError). Does t ps k0 now x) is h

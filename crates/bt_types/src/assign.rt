@@ -19,7 +19,7 @@ use bt_core::map::{MapKind, Shape};
 use bt_core::operator::BinOp;
 use bt_core::place::Place;
 use expr_types::expr::{check_expr, check_key};
-use expr_types::fault::{Rule, TypeError};
+use expr_types::fault::{Rule, TypeError, beside};
 use expr_types::known::{Known, number_of};
 use expr_types::maps::Keyed;
 use expr_types::rules::{broken, same_shape};
@@ -108,7 +108,8 @@ pub(crate) fn check_set_var(
     ensures { DoesIn (set_told (OnVar var.now.name var.now.place) (of_expr value.now)) stmt_parts known.old known.new result }
 {
     let value = check_expr(alloc, known, value)?;
-    let number = assign(alloc, known, &var.name, value.shape(), var.place)?;
+    let number = assign(alloc, known, &var.name, value.shape(), var.place);
+    let (value, number) = beside(value, number)?;
     Ok(TypedStmt::SetVar { var: number, value })
 }
 
@@ -122,9 +123,10 @@ pub(crate) fn check_set_map(
     ensures { DoesIn (set_told (OnMap (of_map map.now)) (of_expr value.now)) stmt_parts known.old known.new result }
 {
     let keyed = check_key(alloc, known, map)?;
-    let value = check_expr(alloc, known, value)?;
-    write_value(alloc, known, &map.name, &value, &keyed.keys, map.place)?;
-    let Keyed { map, keys } = keyed;
+    let value = check_expr(alloc, known, value);
+    let (keyed, value) = beside(keyed, value)?;
+    let written = write_value(alloc, known, &map.name, &value, &keyed.keys, map.place);
+    let ((Keyed { map, keys }, value), ()) = beside((keyed, value), written)?;
     Ok(TypedStmt::SetMap { map, keys, value })
 }
 
@@ -157,7 +159,8 @@ pub(crate) fn check_update_var(
     ensures { DoesIn (update_told op (OnVar var.now.name var.now.place) (of_expr value.now) place) stmt_parts known.old known.new result }
 {
     let value = check_expr(alloc, known, value)?;
-    let number = number_var(known, var, place)?;
+    let number = number_var(known, var, place);
+    let (value, number) = beside(value, number)?;
     let value = whole(value, place)?;
     Ok(TypedStmt::UpdateVar {
         var: number,
@@ -178,17 +181,13 @@ pub(crate) fn check_update_map(
     ensures { DoesIn (update_told op (OnMap (of_map map.now)) (of_expr value.now) place) stmt_parts known.old known.new result }
 {
     let keyed = check_key(alloc, known, map)?;
-    let value = check_expr(alloc, known, value)?;
-    write_key(
-        alloc,
-        known,
-        &map.name,
-        MapKind::Ints,
-        &keyed.keys,
-        map.place,
-    )?;
-    let value = whole(value, place)?;
-    let Keyed { map, keys } = keyed;
+    let value = check_expr(alloc, known, value);
+    let (keyed, value) = beside(keyed, value)?;
+    let kind = MapKind::Ints;
+    let written = write_key(alloc, known, &map.name, kind, &keyed.keys, map.place);
+    let ((keyed, value), ()) = beside((keyed, value), written)?;
+    let number = whole(value, place);
+    let (Keyed { map, keys }, value) = beside(keyed, number)?;
     Ok(TypedStmt::UpdateMap {
         map,
         keys,

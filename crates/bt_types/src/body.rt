@@ -15,7 +15,7 @@ use bt_ast::expr::Expr;
 use bt_ast::probe::Probe;
 use bt_core::items::Items;
 use bt_core::memory::{Memory, TryCopy};
-use expr_types::fault::TypeError;
+use expr_types::fault::{TypeError, beside};
 use expr_types::known::Known;
 use std::alloc::Global;
 use tracefs_format::format::Format;
@@ -57,8 +57,10 @@ fn check_tree(alloc: Global, known: &mut Known, probe: &Probe) -> Result<TypedTr
     ensures variables { IfOk result (λ tree. tree.variables ≡ map (λ (v : VarValue). v.shape) known.new.vars) }
 {
     let predicate = check_predicate(alloc, known, &probe.predicate)?;
-    let block = check_block(alloc, known, false, &probe.block)?;
-    let variables = known.vars.shapes(alloc)?;
+    let block = check_block(alloc, known, false, &probe.block);
+    let (predicate, block) = beside(predicate, block)?;
+    let shapes = known.vars.shapes(alloc);
+    let ((predicate, block), variables) = beside((predicate, block), shapes)?;
     Ok(TypedTree {
         variables,
         predicate,
@@ -81,6 +83,31 @@ fn layout_at(alloc: Global, formats: &[Format], point: BodyPoint) -> Result<Opti
     }
 }
 
+/// Begins a body: its event is known, and the event's layout is made once more.
+fn begin(
+    alloc: Global,
+    known: &mut Known,
+    formats: &[Format],
+    point: BodyPoint,
+) -> Result<Option<Layout>, Memory>
+    ensures { IfOk result (λ layout. (layout ≡ layout_at formats.now point) × (known.new ≡ begun known.old (layout_at formats.now point))) }
+{
+    let event = layout_at(alloc, formats, point)?;
+    let layout = layout_at(alloc, formats, point);
+    let (event, layout) = beside(event, layout)?;
+    known.begin(alloc, event);
+    Ok(layout)
+}
+
+/// The numbers of the maps and of the calls that a body has named.
+fn numbers_of(alloc: Global, known: &Known) -> Result<(Items<u32>, Items<u32>), Memory>
+    ensures { IfOk result (λ numbers. (numbers.0 ≡ known.now.named) × (numbers.1 ≡ known.now.calls)) }
+{
+    let named = Items::from_slice(alloc, known.named.as_slice())?;
+    let calls = Items::from_slice(alloc, known.calls.as_slice())?;
+    Ok((named, calls))
+}
+
 /// A body of a probe.
 pub(crate) fn check_body(
     alloc: Global,
@@ -92,12 +119,11 @@ pub(crate) fn check_body(
     ensures { MatchResult result (λ body. BodyDone formats.now point probe.now known.old known.new body)
         (λ e. SaysFault (judged (body_told probe.now).points (begun known.old (layout_at formats.now point))) e) }
 {
-    let event = layout_at(alloc, formats, point)?;
-    let layout = layout_at(alloc, formats, point)?;
-    known.begin(alloc, event);
-    let tree = check_tree(alloc, known, probe)?;
-    let named = Items::from_slice(alloc, known.named.as_slice())?;
-    let calls = Items::from_slice(alloc, known.calls.as_slice())?;
+    let layout = begin(alloc, known, formats, point)?;
+    let tree = check_tree(alloc, known, probe);
+    let (layout, tree) = beside(layout, tree)?;
+    let numbers = numbers_of(alloc, known);
+    let ((layout, tree), (named, calls)) = beside((layout, tree), numbers)?;
     Ok(OpenBody {
         tree,
         layout,

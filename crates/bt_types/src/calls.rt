@@ -17,11 +17,12 @@ use bt_core::items::Items;
 use bt_core::map::MapId;
 use bt_core::place::Place;
 use expr_types::expr::{check_expr, check_key};
-use expr_types::fault::{Rule, TypeError};
+use expr_types::fault::{Rule, TypeError, beside};
 use expr_types::known::Known;
 use expr_types::maps::Keyed;
 use expr_types::rules::broken;
 use std::alloc::Global;
+use typed_tree::expr::AnyExpr;
 use typed_tree::stmt::TypedStmt;
 
 /// A map as a whole.
@@ -85,6 +86,25 @@ pub(crate) fn check_zero(
     Ok(TypedStmt::Zero(map))
 }
 
+/// A mention of a map of which a key of these parts is deleted: the map as a whole, that it is no aggregation, and its key.
+fn mention_removed(
+    alloc: Global,
+    known: &mut Known,
+    name: &Items<u8>,
+    at_map: Place,
+    keys: &Items<AnyExpr>,
+    place: Place,
+) -> Result<(), TypeError>
+    ensures says { (sorts : List Sort) → map (shape_in known.old) sorts ≡ map (λ (m : Made). Some m.shape) (map made_of keys.now)
+        → Says (judged (delete_points name.now at_map place sorts) known.old) known.new result }
+    ensures removed { OnOk result (Removed known.old known.new name.now (key_shapes (map made_of keys.now))) }
+{
+    use_map(alloc, known, name, at_map)?;
+    check_shared(known, name, place)?;
+    remove(alloc, known, name, keys, at_map)?;
+    Ok(())
+}
+
 /// The deletion of a key, whose parts were checked: the map as a whole, that it is no aggregation, and its key.
 fn check_removed(
     alloc: Global,
@@ -99,10 +119,8 @@ fn check_removed(
     ensures removed { OnOk result (Removed known.old known.new name.now (key_shapes (map made_of keyed.keys))) }
     ensures made { IfOk result (λ s. (inside : Bool) → stmt_parts s inside ≡ delete_parts keyed.map.0 (map made_of keyed.keys)) }
 {
-    use_map(alloc, known, name, at_map)?;
-    check_shared(known, name, place)?;
-    remove(alloc, known, name, &keyed.keys, at_map)?;
-    let Keyed { map, keys } = keyed;
+    let removed = mention_removed(alloc, known, name, at_map, &keyed.keys, place);
+    let (Keyed { map, keys }, ()) = beside(keyed, removed)?;
     Ok(TypedStmt::Delete { map, keys })
 }
 
@@ -129,8 +147,9 @@ pub(crate) fn check_delete_key(
 ) -> Result<TypedStmt, TypeError>
     ensures { DoesIn (delete_told (of_map map.now) (of_expr key.now ∷ []) place) stmt_parts known.old known.new result }
 {
-    let mut keyed = check_key(alloc, known, map)?;
-    let key = check_expr(alloc, known, key)?;
+    let keyed = check_key(alloc, known, map)?;
+    let key = check_expr(alloc, known, key);
+    let (mut keyed, key) = beside(keyed, key)?;
     keyed.keys.push(key)?;
     check_removed(alloc, known, &map.name, map.place, keyed, place)
 }

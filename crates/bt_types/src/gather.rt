@@ -19,7 +19,7 @@ use bt_ast::stmt::AggCall;
 use bt_core::map::{AggKind, MapKind};
 use bt_core::place::Place;
 use expr_types::expr::check_key;
-use expr_types::fault::{Rule, TypeError};
+use expr_types::fault::{Rule, TypeError, beside};
 use expr_types::known::Known;
 use expr_types::maps::Keyed;
 use expr_types::rules::{broken, is_fine_agg};
@@ -111,12 +111,14 @@ pub(crate) fn check_gather(
         known.old known.new result }
 {
     let keyed = check_key(alloc, known, map)?;
-    let number = check_gathered(alloc, known, call, word)?;
+    let number = check_gathered(alloc, known, call, word);
+    let (keyed, number) = beside(keyed, number)?;
     let kind = kind_of_call(call);
-    check_bounds(kind, word)?;
+    let bounds = check_bounds(kind, word);
+    let (read, ()) = beside((keyed, number), bounds)?;
     let of = MapKind::Aggs(kind);
-    write_key(alloc, known, &map.name, of, &keyed.keys, map.place)?;
-    let Keyed { map, keys } = keyed;
+    let written = write_key(alloc, known, &map.name, of, &read.0.keys, map.place);
+    let ((Keyed { map, keys }, number), ()) = beside(read, written)?;
     Ok(TypedStmt::Gather {
         map,
         keys,

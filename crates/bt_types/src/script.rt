@@ -3,11 +3,12 @@ ghost use Rattle.std.specs.Prelude.{◌≡◌, All, IfErr, IfOk, IsTrue, MatchRe
 ghost use Rattle.std.specs.List.{list_all};
 ghost use Rattle.typed_tree.specs.Scope.{is_fine_decl};
 ghost use Rattle.expr_types.specs.declared.fault.Fault.{Fault as FaultValue};
+ghost use Rattle.expr_types.specs.declared.known.Printed.{Printed as PrintedValue};
 ghost use Rattle.expr_types.specs.declared.fault.TypeError.TheVariants.{Broken};
 ghost use Rattle.bt_types.specs.Bodies.{IsBodyOf, nothing, script_told, told_at, type_fault};
 ghost use Rattle.expr_types.specs.Judge.{SaysFault, judged};
 ghost use Rattle.bt_types.specs.Open.{BodiesDone, OneDone};
-ghost use Rattle.bt_types.specs.Script.{IsTypedScript};
+ghost use Rattle.bt_types.specs.Script.{IsTypedScript, maps_of};
 
 use crate::body::{OpenBody, check_body};
 use crate::close::{close_bodies, formats_of, maps_of};
@@ -15,10 +16,13 @@ use crate::exits::script_exits;
 use bt_ast::attached::{Attached, BodyId};
 use bt_ast::probe::Script;
 use bt_core::items::Items;
-use expr_types::fault::TypeError;
+use bt_core::map::MapDecl;
+use bt_core::memory::Memory;
+use expr_types::fault::{TypeError, beside};
 use expr_types::known::Known;
 use expr_types::printed::Calls;
 use expr_types::variables::Variables;
+use fmt_text::piece::Piece;
 use std::alloc::Global;
 use tracefs_format::format::Format;
 use typed_tree::script::Typed;
@@ -75,6 +79,31 @@ fn check_bodies(
     Ok(all)
 }
 
+/// All bodies in their order from their script's beginning, behind what is known at its end.
+fn check_all(
+    alloc: Global,
+    script: &Script,
+    formats: &[Format],
+    bodies: &[BodyId],
+) -> Result<(Known, Items<OpenBody>), TypeError>
+    requires { All (IsBodyOf script.now formats.now) bodies.now }
+    ensures { MatchResult result (λ all. BodiesDone script.now formats.now bodies.now nothing all.0 all.1)
+        (λ e. SaysFault (judged (script_told script.now formats.now bodies.now).points nothing) e) }
+{
+    let mut known = nothing(alloc);
+    let all = check_bodies(alloc, &mut known, script, formats, bodies);
+    beside(known, all)
+}
+
+/// The maps and the formats of a script.
+fn shared_of(alloc: Global, known: Known) -> Result<(Items<MapDecl>, Items<Items<Piece>>), Memory>
+    ensures { IfOk result (λ shared. (shared.0 ≡ maps_of known) × (shared.1 ≡ map (λ (p : PrintedValue). p.pieces) known.printed)) }
+{
+    let maps = maps_of(alloc, &known);
+    let (known, maps) = beside(known, maps)?;
+    beside(maps, formats_of(alloc, known))
+}
+
 /// The types of a script over a recording's formats, by the sections on types, variables and maps of the bpftrace language
 /// reference. The bodies are walked in their order, each from its beginning: its predicate, and its statements in turn. A map
 /// has the kind and the key of its first mention, and a variable the type of its first assignment in its body.
@@ -97,17 +126,11 @@ pub fn check(
     // Any error but want of memory is the first fault of the walk.
     ensures fault { (f : FaultValue) → IfErr result (λ e. e ≡ Broken f → type_fault script.now formats.now attached.now.bodies ≡ Some f) }
 {
-    let mut known = nothing(alloc);
-    let bodies = check_bodies(
-        alloc,
-        &mut known,
-        script,
-        formats,
-        attached.bodies.as_slice(),
-    )?;
-    let maps = maps_of(alloc, &known)?;
-    let formats = formats_of(alloc, known)?;
-    let bodies = close_bodies(alloc, bodies, &maps, &formats)?;
+    let (known, bodies) = check_all(alloc, script, formats, attached.bodies.as_slice())?;
+    let shared = shared_of(alloc, known);
+    let (bodies, (maps, formats)) = beside(bodies, shared)?;
+    let closed = close_bodies(alloc, bodies, &maps, &formats);
+    let ((maps, formats), bodies) = beside((maps, formats), closed)?;
     Ok(Typed {
         maps,
         formats,

@@ -22,7 +22,7 @@ use bt_core::items::Items;
 use bt_core::operator::BinOp;
 use bt_core::place::Place;
 use expr_types::expr::check_step;
-use expr_types::fault::{Rule, TypeError};
+use expr_types::fault::{Rule, TypeError, beside};
 use expr_types::known::Known;
 use expr_types::rules::broken;
 use std::alloc::Global;
@@ -133,8 +133,8 @@ fn check_arm(
     ensures { Does (arm_told (condition.now, of_block block.now inside)) (λ arm. arm_parts (arm.0, block_parts arm.1 inside)) known.old known.new result }
 {
     let condition = check_condition(alloc, known, condition)?;
-    let block = check_block(alloc, known, inside, block)?;
-    Ok((condition, block))
+    let block = check_block(alloc, known, inside, block);
+    beside(condition, block)
 }
 
 /// The block of `else`, where there is one.
@@ -169,7 +169,8 @@ fn check_while(
     ensures { DoesIn (while_told place condition.now (of_block block.now true)) stmt_parts known.old known.new result }
 {
     let condition = check_condition(alloc, known, condition)?;
-    let block = check_block(alloc, known, true, block)?;
+    let block = check_block(alloc, known, true, block);
+    let (condition, block) = beside(condition, block)?;
     Ok(TypedStmt::While {
         condition,
         block,
@@ -253,11 +254,9 @@ fn check_kind(
                 let typed = check_arm(alloc, known, inside, &arm.1, &arm.0)?;
                 all.push(typed)?;
             }
-            let otherwise = check_otherwise(alloc, known, inside, otherwise)?;
-            Ok(TypedStmt::If {
-                arms: all,
-                otherwise,
-            })
+            let otherwise = check_otherwise(alloc, known, inside, otherwise);
+            let (arms, otherwise) = beside(all, otherwise)?;
+            Ok(TypedStmt::If { arms, otherwise })
         }
         StmtKind::While { condition, block } => check_while(alloc, known, block, condition, place),
         StmtKind::Unroll { turns, block } => check_unroll(alloc, known, block, *turns, place),

@@ -1,4 +1,7 @@
-use Rattle.std.proofs.Common.{Bool, map, ap}
+use Rattle.std.proofs.Common.{◌∙◌, Bool, map, ap}
+use Rattle.std.proofs.lemmas.Result.{IfOk-at_ok, MatchResult-at_err, MatchResult-at_ok}
+use Rattle.expr_types.specs.declared.maps.Keyed.{Keyed}
+use Rattle.typed_tree.specs.declared.expr.AnyExpr.{AnyExpr}
 use Rattle.expr_types.specs.Walk.{MapSeen, OnMap, of_expr, of_map}
 use Rattle.typed_tree.specs.Parts.{made_of, stmt_parts}
 use Rattle.expr_types.proofs.Layers.{map_is}
@@ -13,26 +16,39 @@ returns-in_err-keyed c =
     does_in_err (set_told (OnMap (of_map c.args.map.now)) (of_expr c.args.value.now)) stmt_parts c.args.known.now _ _ c.in_err-keyed.field-0.0 c.from_residual.ensures.1
     (fault_first (of_map c.args.map.now).points _ c.args.known.now _ c.in_err-keyed.ensures)
 
-pub returns-in_err-value : goal.returns-in_err-value
-returns-in_err-value c =
-    does_in_err (set_told (OnMap (of_map c.args.map.now)) (of_expr c.args.value.now)) stmt_parts c.args.known.now _ _ c.in_err-value.field-0.0 c.from_residual-in_err-value.ensures.1
+pub returns-in_err-keyed-2 : goal.returns-in_err-keyed-2
+returns-in_err-keyed-2 c =
+    let e = c.in_err-keyed-2.field-0.0 in
+    let fault = MatchResult-at_err _ _ e c.in_err-keyed-2.ensures c.check_expr-value.ensures in
+    does_in_err (set_told (OnMap (of_map c.args.map.now)) (of_expr c.args.value.now)) stmt_parts c.args.known.now _ _ e c.from_residual-in_err-keyed-2.ensures.1
     (fault_behind (of_map c.args.map.now).points _ c.args.known.now c.check_key.new.known _ (went_key (of_map c.args.map.now) c.args.known.now c.check_key.new.known _ _ c.in_ok-keyed.ensures)
-    (fault_first (of_expr c.args.value.now).points _ c.check_key.new.known _ c.in_err-value.ensures))
+    (fault_first (of_expr c.args.value.now).points _ c.check_key.new.known _ fault))
 
-pub returns-in_err-write_value : goal.returns-in_err-write_value
-returns-in_err-write_value c =
+pub returns-in_err-map : goal.returns-in_err-map
+returns-in_err-map c =
     let m = c.args.map.now in
     let named = ap (λ (s : MapSeen). s.name) (map_is m) in
     let placed = ap (λ (s : MapSeen). s.place) (map_is m) in
-    does_in_err (set_told (OnMap (of_map c.args.map.now)) (of_expr c.args.value.now)) stmt_parts c.args.known.now _ _ c.in_err-write_value.field-0.0 c.from_residual-in_err-write_value.ensures.1
-    (set_map_refused (of_map c.args.map.now) (of_expr c.args.value.now) c.args.known.now c.check_key.new.known c.check_expr.new.known c.in_ok-keyed.keyed.map.0 (map made_of c.in_ok-keyed.keyed.keys) (made_of c.in_ok-value.value) _ c.in_ok-keyed.ensures c.in_ok-value.ensures
-    (rw (named, placed) c.in_err-write_value.ensures.refuses))
+    let checked = MatchResult-at_ok _ _ _ c.in_ok-keyed-2.ensures.1 c.check_expr-value.ensures in
+    let keys = ap (λ (k : Keyed). k.keys) c.in_ok-keyed-2.ensures.0 in
+    let e = c.in_err-map.field-0.0 in
+    let breach = MatchResult-at_err _ _ e c.in_err-map.ensures c.write_value-written.ensures.refuses in
+    does_in_err (set_told (OnMap (of_map c.args.map.now)) (of_expr c.args.value.now)) stmt_parts c.args.known.now _ _ e c.from_residual-in_err-map.ensures.1
+    (set_map_refused (of_map m) (of_expr c.args.value.now) c.args.known.now c.check_key.new.known c.check_expr-value.new.known c.in_ok-keyed.keyed.map.0 (map made_of c.in_ok-keyed.keyed.keys) (made_of c.in_ok-keyed-2.value) e c.in_ok-keyed.ensures checked
+    (rw (named, placed, ← keys) breach))
 
 pub returns : goal.returns
 returns c = λ (inside : Bool).
     let m = c.args.map.now in
     let named = ap (λ (s : MapSeen). s.name) (map_is m) in
-    let placed = ap (λ (s : MapSeen). s.place) (map_is m) in
-    rw (map_stmt c.in_ok-keyed.keyed.map c.in_ok-keyed.keyed.keys c.in_ok-value.value inside)
-    (set_map_done (of_map c.args.map.now) (of_expr c.args.value.now) c.args.known.now c.check_key.new.known c.check_expr.new.known c.write_value.new.known c.in_ok-keyed.keyed.map.0 (map made_of c.in_ok-keyed.keyed.keys) (made_of c.in_ok-value.value) c.in_ok-keyed.ensures c.in_ok-value.ensures
-    (rw named c.in_ok-write_value.ensures.refuses) (rw named c.in_ok-write_value.ensures.learned))
+    let checked = MatchResult-at_ok _ _ _ c.in_ok-keyed-2.ensures.1 c.check_expr-value.ensures in
+    let keys = ap (λ (k : Keyed). k.keys) c.in_ok-keyed-2.ensures.0 in
+    let kept = ap (λ (r : Keyed × AnyExpr). r.0) c.in_ok-map.ensures.0 ∙ c.in_ok-keyed-2.ensures.0 in
+    let map_kept = ap (λ (k : Keyed). k.map) kept in
+    let keys_kept = ap (λ (k : Keyed). k.keys) kept in
+    let value_kept = ap (λ (r : Keyed × AnyExpr). r.1) c.in_ok-map.ensures.0 in
+    let allowed = MatchResult-at_ok _ _ _ c.in_ok-map.ensures.1 c.write_value-written.ensures.refuses in
+    let learned = IfOk-at_ok _ c.in_ok-map.ensures.1 c.write_value-written.ensures.learned in
+    rw (map_kept, keys_kept, value_kept, map_stmt c.in_ok-keyed.keyed.map c.in_ok-keyed.keyed.keys c.in_ok-keyed-2.value inside)
+    (set_map_done (of_map m) (of_expr c.args.value.now) c.args.known.now c.check_key.new.known c.check_expr-value.new.known c.write_value-written.new.known c.in_ok-keyed.keyed.map.0 (map made_of c.in_ok-keyed.keyed.keys) (made_of c.in_ok-keyed-2.value) c.in_ok-keyed.ensures checked
+    (rw (named, ← keys) allowed) (rw (named, ← keys) learned))

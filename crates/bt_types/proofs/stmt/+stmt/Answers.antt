@@ -1,5 +1,6 @@
 use Rattle.std.proofs.Common.{◌+◌, ◌∷◌, [], List, Bool, true, map, take, option_map, FitsSigned, w64, arith, refl, sym, subst}
 use Rattle.std.proofs.lemmas.Int.{to_z-of_z}
+use Rattle.std.proofs.lemmas.Result.{MatchResult-at_err, MatchResult-at_ok, MatchResult-weaker}
 use Rattle.bt_ast.specs.declared.expr.Expr.{Expr}
 use Rattle.bt_ast.specs.declared.stmt.Block.{Block, out-Block}
 use Rattle.bt_ast.specs.declared.stmt.Stmt.{Stmt}
@@ -11,8 +12,9 @@ use Rattle.expr_types.specs.Judge.{judged, SaysFault}
 use Rattle.typed_tree.specs.Parts.{Part, Arm, Looped, Ending, num_parts, joined, arm_parts, otherwise_parts, stmt_parts, block_parts}
 use Rattle.bt_types.specs.Told.{Told, says, told_in_turn, condition_told, arm_told, otherwise_told, if_told, while_told, unroll_told, block_told, of_block, of_stmt}
 use Rattle.bt_types.specs.Done.{Done}
-use Rattle.bt_types.proofs.Turns.{done_next, done_says, refused_front, refused_next, does_err, does_in_err}
+use Rattle.bt_types.proofs.Turns.{done_in, done_next, done_says, fault_in, refused_front, refused_next, does_err, does_in_err}
 use Rattle.bt_types.proofs.Runs.{run_more, run_refused, run_ends}
+use Rattle.bt_types.proofs.Closing.{told_beside}
 use Rattle.bt_types.proofs.Loops.{worded_done, worded_first, worded_second, unroll_done, unroll_first, unroll_refused}
 use Rattle.bt_types.proofs.StmtLayers.{block_is, if_is, while_stmt, unroll_stmt, block_of, if_stmt}
 use Rattle.bt_types.proofs.stmt.+stmt.Goals as goal
@@ -49,31 +51,36 @@ check_arm-returns-in_err-condition t c =
     does_err (arm_told (c.args.condition.now, of_block c.args.block.now c.args.inside)) (λ arm. arm_parts (arm.0, block_parts arm.1 c.args.inside)) c.args.known.now _ _ c.in_err-condition.field-0.0 c.from_residual.ensures.1
     (worded_first ArmWord Arm (condition_told c.args.condition.now) (of_block c.args.block.now c.args.inside) c.args.known.now c.in_err-condition.field-0.0 tt refl c.in_err-condition.ensures)
 
-pub check_arm-returns-in_err-block : goal.check_arm-returns-in_err-block
-check_arm-returns-in_err-block t c =
-    does_err (arm_told (c.args.condition.now, of_block c.args.block.now c.args.inside)) (λ arm. arm_parts (arm.0, block_parts arm.1 c.args.inside)) c.args.known.now _ _ c.in_err-block.field-0.0 c.from_residual-in_err-block.ensures.1
-    (worded_second ArmWord Arm (condition_told c.args.condition.now) (of_block c.args.block.now c.args.inside) c.args.known.now c.check_condition.new.known (num_parts c.in_ok-condition.condition) c.in_err-block.field-0.0 tt refl c.in_ok-condition.ensures c.in_err-block.ensures)
-
 pub check_arm-returns : goal.check_arm-returns
 check_arm-returns t c =
-    worded_done ArmWord Arm (condition_told c.args.condition.now) (of_block c.args.block.now c.args.inside) c.args.known.now c.check_condition.new.known c.check_block.new.known (num_parts c.in_ok-condition.condition) (block_parts c.in_ok-block.block c.args.inside) tt refl
-    c.in_ok-condition.ensures c.in_ok-block.ensures
+    let inside = c.args.inside in
+    let told = arm_told (c.args.condition.now, of_block c.args.block.now inside) in
+    let k = c.check_condition.new.known in
+    let condition = num_parts c.in_ok-condition.condition in
+    told_beside (λ (n : NumExpr) (b : TypedBlock). Done told c.args.known.now c.check_block-block.new.known (arm_parts (n, block_parts b inside))) (λ e. SaysFault (judged told.points c.args.known.now) e)
+    c.in_ok-condition.condition c.check_block-block.result c.beside.result c.beside.ensures
+    (MatchResult-weaker c.check_block-block.result c.check_block-block.ensures
+    (λ b done. worded_done ArmWord Arm (condition_told c.args.condition.now) (of_block c.args.block.now inside) c.args.known.now k c.check_block-block.new.known condition (block_parts b inside) tt refl c.in_ok-condition.ensures done)
+    (λ e fault. worded_second ArmWord Arm (condition_told c.args.condition.now) (of_block c.args.block.now inside) c.args.known.now k condition e tt refl c.in_ok-condition.ensures fault))
 
 pub check_while-returns-in_err-condition : goal.check_while-returns-in_err-condition
 check_while-returns-in_err-condition t c =
     does_in_err (while_told c.args.place c.args.condition.now (of_block c.args.block.now true)) (stmt_parts) c.args.known.now _ _ c.in_err-condition.field-0.0 c.from_residual.ensures.1
     (worded_first (WhileWord c.args.place.line) (Looped c.args.place.line) (condition_told c.args.condition.now) (of_block c.args.block.now true) c.args.known.now c.in_err-condition.field-0.0 tt refl c.in_err-condition.ensures)
 
-pub check_while-returns-in_err-block : goal.check_while-returns-in_err-block
-check_while-returns-in_err-block t c =
-    does_in_err (while_told c.args.place c.args.condition.now (of_block c.args.block.now true)) (stmt_parts) c.args.known.now _ _ c.in_err-block.field-0.0 c.from_residual-in_err-block.ensures.1
-    (worded_second (WhileWord c.args.place.line) (Looped c.args.place.line) (condition_told c.args.condition.now) (of_block c.args.block.now true) c.args.known.now c.check_condition.new.known (num_parts c.in_ok-condition.condition) c.in_err-block.field-0.0 tt refl c.in_ok-condition.ensures c.in_err-block.ensures)
+pub check_while-returns-in_err-condition-2 : goal.check_while-returns-in_err-condition-2
+check_while-returns-in_err-condition-2 t c =
+    let e = c.in_err-condition-2.field-0.0 in
+    let fault = MatchResult-at_err _ _ e c.in_err-condition-2.ensures c.check_block-block.ensures in
+    does_in_err (while_told c.args.place c.args.condition.now (of_block c.args.block.now true)) (stmt_parts) c.args.known.now _ _ e c.from_residual-in_err-condition-2.ensures.1
+    (worded_second (WhileWord c.args.place.line) (Looped c.args.place.line) (condition_told c.args.condition.now) (of_block c.args.block.now true) c.args.known.now c.check_condition.new.known (num_parts c.in_ok-condition.condition) e tt refl c.in_ok-condition.ensures fault)
 
 pub check_while-returns : goal.check_while-returns
 check_while-returns t c = λ (inside : Bool).
-    rw (while_stmt c.in_ok-condition.condition c.in_ok-block.block c.args.place.line inside)
-    (worded_done (WhileWord c.args.place.line) (Looped c.args.place.line) (condition_told c.args.condition.now) (of_block c.args.block.now true) c.args.known.now c.check_condition.new.known c.check_block.new.known (num_parts c.in_ok-condition.condition) (block_parts c.in_ok-block.block true) tt refl
-    c.in_ok-condition.ensures c.in_ok-block.ensures)
+    let done = MatchResult-at_ok _ _ _ c.in_ok-condition-2.ensures.1 c.check_block-block.ensures in
+    rw (c.in_ok-condition-2.ensures.0, while_stmt c.in_ok-condition.condition c.in_ok-condition-2.block c.args.place.line inside)
+    (worded_done (WhileWord c.args.place.line) (Looped c.args.place.line) (condition_told c.args.condition.now) (of_block c.args.block.now true) c.args.known.now c.check_condition.new.known c.check_block-block.new.known (num_parts c.in_ok-condition.condition) (block_parts c.in_ok-condition-2.block true) tt refl
+    c.in_ok-condition.ensures done)
 
 pub check_unroll-returns-in_err-block : goal.check_unroll-returns-in_err-block
 check_unroll-returns-in_err-block t c =
@@ -118,21 +125,23 @@ check_kind-loop-arm-preserved t c =
     (run_more (arm_at c.args.inside) (parts_at c.args.inside) arms c.loop-arm.arm-index c.arm-item.result c.args.known.now c.loop-arm.known c.check_arm.new.known c.loop-arm.all c.in_ok-typed-in-If.typed
     c.loop-arm-test.true c.arm-item.is c.loop-arm.invariant c.in_ok-typed-in-If.ensures)
 
-pub check_kind-returns-in_err-otherwise-in-If : goal.check_kind-returns-in_err-otherwise-in-If
-check_kind-returns-in_err-otherwise-in-If t c =
+pub check_kind-returns-in_err-arms-in-If : goal.check_kind-returns-in_err-arms-in-If
+check_kind-returns-in_err-arms-in-If t c =
     let parts = joined (map (parts_at c.args.inside) c.loop-arm.all) in
     let other = option_map (λ b. of_block b c.args.inside) c.in-If.otherwise in
     let arms = subst (λ (l : List (Expr × Block)). Done (told_in_turn (map (arm_at c.args.inside) l)) c.args.known.now c.loop-arm.known parts) c.as_slice-arm-items.ensures
     (run_ends (arm_at c.args.inside) c.as_slice-arm-items.result.now c.loop-arm.arm-index c.args.known.now c.loop-arm.known parts (omega arith) c.loop-arm.invariant) in
+    let fault = fault_in (otherwise_told other) (λ b. otherwise_parts (option_map (λ b. block_parts b c.args.inside) b)) c.loop-arm.known c.check_otherwise-otherwise.new.known c.check_otherwise-otherwise.result c.in_err-arms-in-If.field-0.0 c.in_err-arms-in-If.ensures c.check_otherwise-otherwise.ensures in
     rw c.in-If.is (rw (if_is c.in-If.arms c.in-If.otherwise c.args.inside c.args.place)
-    (does_err (if_told (map (arm_at c.args.inside) c.in-If.arms) other) (λ s. stmt_parts s c.args.inside) c.args.known.now _ _ c.in_err-otherwise-in-If.field-0.0 c.from_residual-in_err-otherwise-in-If.ensures.1
-    (refused_next (told_in_turn (map (arm_at c.args.inside) c.in-If.arms)) (otherwise_told other) c.args.known.now c.loop-arm.known parts c.in_err-otherwise-in-If.field-0.0 arms c.in_err-otherwise-in-If.ensures)))
+    (does_err (if_told (map (arm_at c.args.inside) c.in-If.arms) other) (λ s. stmt_parts s c.args.inside) c.args.known.now _ _ c.in_err-arms-in-If.field-0.0 c.from_residual-in_err-arms-in-If.ensures.1
+    (refused_next (told_in_turn (map (arm_at c.args.inside) c.in-If.arms)) (otherwise_told other) c.args.known.now c.loop-arm.known parts c.in_err-arms-in-If.field-0.0 arms fault)))
 
-pub check_kind-returns-in_ok-otherwise-in-If : goal.check_kind-returns-in_ok-otherwise-in-If
-check_kind-returns-in_ok-otherwise-in-If t c =
+pub check_kind-returns-in_ok-arms-in-If : goal.check_kind-returns-in_ok-arms-in-If
+check_kind-returns-in_ok-arms-in-If t c =
     let parts = joined (map (parts_at c.args.inside) c.loop-arm.all) in
     let other = option_map (λ b. of_block b c.args.inside) c.in-If.otherwise in
     let arms = subst (λ (l : List (Expr × Block)). Done (told_in_turn (map (arm_at c.args.inside) l)) c.args.known.now c.loop-arm.known parts) c.as_slice-arm-items.ensures
     (run_ends (arm_at c.args.inside) c.as_slice-arm-items.result.now c.loop-arm.arm-index c.args.known.now c.loop-arm.known parts (omega arith) c.loop-arm.invariant) in
-    rw c.in-If.is (rw (if_is c.in-If.arms c.in-If.otherwise c.args.inside c.args.place, if_stmt c.loop-arm.all c.in_ok-otherwise-in-If.otherwise c.args.inside)
-    (done_next (told_in_turn (map (arm_at c.args.inside) c.in-If.arms)) (otherwise_told other) c.args.known.now c.loop-arm.known c.check_otherwise.new.known parts (otherwise_parts (option_map (λ b. block_parts b c.args.inside) c.in_ok-otherwise-in-If.otherwise)) arms c.in_ok-otherwise-in-If.ensures))
+    let done = done_in (otherwise_told other) (λ b. otherwise_parts (option_map (λ b. block_parts b c.args.inside) b)) c.loop-arm.known c.check_otherwise-otherwise.new.known c.check_otherwise-otherwise.result c.in_ok-arms-in-If.otherwise c.in_ok-arms-in-If.ensures.1 c.check_otherwise-otherwise.ensures in
+    rw c.in-If.is (rw (if_is c.in-If.arms c.in-If.otherwise c.args.inside c.args.place, c.in_ok-arms-in-If.ensures.0, if_stmt c.loop-arm.all c.in_ok-arms-in-If.otherwise c.args.inside)
+    (done_next (told_in_turn (map (arm_at c.args.inside) c.in-If.arms)) (otherwise_told other) c.args.known.now c.loop-arm.known c.check_otherwise-otherwise.new.known parts (otherwise_parts (option_map (λ b. block_parts b c.args.inside) c.in_ok-arms-in-If.otherwise)) arms done))
