@@ -1,5 +1,5 @@
 // The CPUs of a run, each with a worker.
-ghost use Rattle.std.specs.Prelude.{◌≡◌, map, sum as total, length, IfOk};
+ghost use Rattle.std.specs.Prelude.{◌≡◌, ◌+◌, ◌∷◌, ◌++◌, [], map, sum as total, length, IfOk};
 ghost use Rattle.turn_lock.specs.History.{Each};
 ghost use Rattle.run_ends.specs.Ends.{latest};
 ghost use Rattle.thread_run.specs.Tasks.{bodies_in, turns_in, trace_in, count_in, HasEnded, HasEndedWell, IsFresh};
@@ -66,6 +66,26 @@ pub(crate) fn new_tasks<'g, B: Bodies + Drop, G: Gate>(
     Ok(tasks)
 }
 
+/// Puts what a worker leaves, which was run, behind what others left, or answers [`Memory`] where its run ended so.
+fn add_task<B: Bodies + Drop, G: Gate>(
+    task: Task<B, G>,
+    all: &mut Gathered,
+) -> Result<(), Memory>
+    requires ended { HasEnded task }
+    ensures turns { IfOk result (λ _. all.new.turns.items ≡ all.old.turns.items ++ turns_in task.entry ∷ []) }
+    ensures traces { IfOk result (λ _. all.new.traces.items ≡ all.old.traces.items ++ trace_in task.entry ∷ []) }
+    ensures instructions { IfOk result (λ _. all.new.instructions ≡ all.old.instructions + count_in task.entry) }
+    ensures well { IfOk result (λ _. HasEndedWell task.entry) }
+{
+    let Task { worker, ended } = task;
+    let outcome = ended.unwrap()?;
+    all.instructions = sum(all.instructions, outcome.instructions)?;
+    let (turns, trace) = worker.finish();
+    all.turns.push(turns)?;
+    all.traces.push(trace)?;
+    Ok(())
+}
+
 /// What the workers leave, each of which was run, or [`Memory`] where one of them ended so.
 pub(crate) fn gather<B: Bodies + Drop, G: Gate>(
     alloc: Global,
@@ -77,22 +97,17 @@ pub(crate) fn gather<B: Bodies + Drop, G: Gate>(
     ensures instructions { IfOk result (λ all. all.instructions ≡ total (map count_in tasks.entry.items)) }
     ensures well { IfOk result (λ _. Each HasEndedWell tasks.entry.items) }
 {
-    let mut turns = Vec::with_capacity(alloc, tasks.len())?;
-    let mut traces = Vec::with_capacity(alloc, tasks.len())?;
-    let mut instructions = 0;
-    for task in tasks {
-        let Task { worker, ended } = task;
-        let (own_turns, trace) = worker.finish();
-        let outcome = ended.unwrap()?;
-        instructions = sum(instructions, outcome.instructions)?;
-        turns.push(own_turns)?;
-        traces.push(trace)?;
-    }
-    Ok(Gathered {
+    let turns = Vec::with_capacity(alloc, tasks.len())?;
+    let traces = Vec::with_capacity(alloc, tasks.len())?;
+    let mut all = Gathered {
         turns,
         traces,
-        instructions,
-    })
+        instructions: 0,
+    };
+    for task in tasks {
+        add_task(task, &mut all)?;
+    }
+    Ok(all)
 }
 
 /// The latest clock of these traces, or 0.

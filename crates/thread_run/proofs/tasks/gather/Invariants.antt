@@ -6,9 +6,9 @@ use Rattle.thread_run.proofs.tasks.gather.Given as goal
 
 abbrev pub invariant-loop-task : goal.invariant-loop-task
 invariant-loop-task g l = record {
-  turns : l.turns.items ≡ map turns_in l.yielded;
-  traces : l.traces.items ≡ map trace_in l.yielded;
-  instructions : l.instructions ≡ sum (map count_in l.yielded);
+  turns : l.all.turns.items ≡ map turns_in l.yielded;
+  traces : l.all.traces.items ≡ map trace_in l.yielded;
+  instructions : l.all.instructions ≡ sum (map count_in l.yielded);
   well : Each HasEndedWell l.yielded;
   left : Each HasEnded (into_iter_items l.task-iterator);
 }
