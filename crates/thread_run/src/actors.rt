@@ -11,7 +11,7 @@ ghost use Rattle.thread_run.specs.Turns.{AreTurnsFrom, AreUnused};
 
 use crate::main_actor::{MainActor, begin, end};
 use crate::side_by_side::run_all;
-use crate::tasks::{Gathered, gather, latest_clock, new_tasks};
+use crate::tasks::{Gathered, gather, latest_clock, new_tasks, push_both};
 use actor_plan::bodies::Bodies;
 use bt_core::memory::Memory;
 use cpu_worker::world::{SharedWorld, WorkerTurns};
@@ -98,9 +98,7 @@ fn add_main<B: Bodies + Drop>(
         trace,
     } = main;
     drop(bodies);
-    all.turns.push(turns)?;
-    all.traces.push(trace)?;
-    Ok(())
+    push_both(&mut all.turns, &mut all.traces, turns, trace)
 }
 
 /// Runs `END`, from the latest clock on, and puts what the main actor leaves behind what the CPUs left.

@@ -1,12 +1,13 @@
 // The CPUs of a run, each with a worker.
-ghost use Rattle.std.specs.Prelude.{◌≡◌, ◌+◌, ◌∷◌, ◌++◌, [], map, sum as total, length, IfOk};
+ghost use Rattle.std.specs.Prelude.{◌≡◌, ◌+◌, ◌∷◌, ◌++◌, [], map, sum as total, length, IfOk, IsSome};
 ghost use Rattle.turn_lock.specs.History.{Each};
 ghost use Rattle.run_ends.specs.Ends.{latest};
-ghost use Rattle.thread_run.specs.Tasks.{bodies_in, turns_in, trace_in, count_in, HasEnded, HasEndedWell, IsFresh};
+ghost use Rattle.thread_run.specs.Tasks.{bodies_in, turns_in, trace_in, count_in, count_of, IsWell, HasEnded, HasEndedWell, IsFresh};
 ghost use Rattle.thread_run.specs.Turns.{AreOneActors};
 
 use crate::side_by_side::Task;
 use actor_plan::bodies::Bodies;
+use actor_plan::outcome::Outcome;
 use bt_core::memory::Memory;
 use cpu_worker::worker::CpuWorker;
 use cpu_worker::world::WorkerTurns;
@@ -66,6 +67,31 @@ pub(crate) fn new_tasks<'g, B: Bodies + Drop, G: Gate>(
     Ok(tasks)
 }
 
+/// Puts one value behind each of two lists.
+pub(crate) fn push_both<A: Drop, B: Drop>(
+    firsts: &mut Vec<A>,
+    seconds: &mut Vec<B>,
+    first: A,
+    second: B,
+) -> Result<(), Memory>
+    ensures firsts { IfOk result (λ _. firsts.new.items ≡ firsts.old.items ++ first ∷ []) }
+    ensures seconds { IfOk result (λ _. seconds.new.items ≡ seconds.old.items ++ second ∷ []) }
+{
+    firsts.push(first)?;
+    seconds.push(second)?;
+    Ok(())
+}
+
+/// So many instructions and those of a run that has ended, or [`Memory`] where it ended so.
+fn count_with(instructions: u64, ended: Option<Result<Outcome, Memory>>) -> Result<u64, Memory>
+    requires ended { IsSome ended }
+    ensures count { IfOk result (λ count. count ≡ instructions + count_of ended) }
+    ensures well { IfOk result (λ _. IsWell ended) }
+{
+    let outcome = ended.unwrap()?;
+    Ok(sum(instructions, outcome.instructions)?)
+}
+
 /// Puts what a worker leaves, which was run, behind what others left, or answers [`Memory`] where its run ended so.
 fn add_task<B: Bodies + Drop, G: Gate>(
     task: Task<B, G>,
@@ -78,12 +104,9 @@ fn add_task<B: Bodies + Drop, G: Gate>(
     ensures well { IfOk result (λ _. HasEndedWell task.entry) }
 {
     let Task { worker, ended } = task;
-    let outcome = ended.unwrap()?;
-    all.instructions = sum(all.instructions, outcome.instructions)?;
+    all.instructions = count_with(all.instructions, ended)?;
     let (turns, trace) = worker.finish();
-    all.turns.push(turns)?;
-    all.traces.push(trace)?;
-    Ok(())
+    push_both(&mut all.turns, &mut all.traces, turns, trace)
 }
 
 /// What the workers leave, each of which was run, or [`Memory`] where one of them ended so.
