@@ -227,7 +227,8 @@ fn check_files<S: Shelf>(
         (shelf_use S.held S.faults S.asked shelf.old shelf.new) result }
     ensures fault_named { FailsNamed (on_script script.now recording.now) (refusal_in result) (S.failed shelf.old) (S.failed shelf.new) }
 {
-    read_job(alloc, script.as_str(), recording.as_str(), shelf)?;
+    let job = read_job(alloc, script.as_str(), recording.as_str(), shelf)?;
+    drop(job);
     Ok(check_outcome(alloc)?)
 }
 
@@ -284,7 +285,9 @@ fn verified(alloc: Global, both: AccountJob) -> Result<Outcome, Memory>
     requires { IsJob both.job.typed both.job.attached both.job.recording }
     ensures { IfOk result (IsOutcomeOfVerify both.job both.account.items) }
 {
-    verify_outcome(alloc, &both.job, both.account.as_slice())
+    let outcome = verify_outcome(alloc, &both.job, both.account.as_slice());
+    drop(both);
+    outcome
 }
 
 /// Reads a script, a recording and an account, and checks the account.

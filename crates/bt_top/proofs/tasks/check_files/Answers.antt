@@ -7,6 +7,6 @@ use Rattle.bt_top.proofs.tasks.check_files.Goals as goal
 
 pub returns-clause-performs : goal.returns-clause-performs
 returns-clause-performs g c =
-    goes_on _ (IsJobFor (on_script c.args.script.now c.args.recording.now)) (ComesTo (Check c.args.script.now c.args.recording.now)) _ c.in_ok-read_job.field-0 c.in_ok-check_outcome.field-0
-    (rw (c.as_str.ensures, c.as_str-2.ensures) at c.in_ok-read_job.ensures.performs)
-    (λ contents is. (c.in_ok-read_job.field-0, is, c.in_ok-check_outcome.ensures))
+    goes_on _ (IsJobFor (on_script c.args.script.now c.args.recording.now)) (ComesTo (Check c.args.script.now c.args.recording.now)) _ c.in_ok-job.job c.in_ok-check_outcome.field-0
+    (rw (c.as_str.ensures, c.as_str-2.ensures) at c.in_ok-job.ensures.performs)
+    (λ contents is. (c.in_ok-job.job, is, c.in_ok-check_outcome.ensures))
