@@ -93,10 +93,7 @@ fn count_with(instructions: u64, ended: Option<Result<Outcome, Memory>>) -> Resu
 }
 
 /// Puts what a worker leaves, which was run, behind what others left, or answers [`Memory`] where its run ended so.
-fn add_task<B: Bodies + Drop, G: Gate>(
-    task: Task<B, G>,
-    all: &mut Gathered,
-) -> Result<(), Memory>
+fn add_task<B: Bodies + Drop, G: Gate>(task: Task<B, G>, all: &mut Gathered) -> Result<(), Memory>
     requires ended { HasEnded task }
     ensures turns { IfOk result (λ _. all.new.turns.items ≡ all.old.turns.items ++ turns_in task.entry ∷ []) }
     ensures traces { IfOk result (λ _. all.new.traces.items ≡ all.old.traces.items ++ trace_in task.entry ∷ []) }
