@@ -1,11 +1,13 @@
 #!/usr/bin/env python3
-"""Measures by hand what the check of a crate spends its time on: python3 bench/proofs.py CRATE [FUNCTION ..]
+"""Measures by hand what the check of a crate spends its time on: python3 bench/proofs.py [--sources] CRATE [FUNCTION ..]
 
 It checks the crate of this name, from nothing and with one job, or of it the named functions and those that they call, as `rt check --only` names
-them. The libraries below must be there: `rt ci CRATE`, or `rt lib` in their folders, builds them. The check is one by hand: it is not the gate,
-and nothing of it is kept. For each module of the proof it tells the seconds of the clock that passed until it was checked, the longest first,
-and before them the sums by kind of module. Of a function, `Lts` is the part that the borrow checker leaves, `Proof` and `Tie` are what its
-clauses take, and a module that is none of a function's is a file of `specs/` or `proofs/`, or what is made of a type.
+them. The libraries below must be there: `rt ci CRATE`, or `rt lib` in their folders, builds them. With `--sources` they need not be: each is read
+as source, and the functions of it that the named ones call are checked as well. That wants functions to be named, takes one or two minutes more for
+a crate low down, and more than 12 GB for the topmost. The check is one by hand: it is not the gate, and nothing of it is kept. For each module of
+the proof it tells the seconds of the clock that passed until it was checked, the longest first, and before them the sums by kind of module. Of a
+function, `Lts` is the part that the borrow checker leaves, `Proof` and `Tie` are what its clauses take, and a module that is none of a function's
+is a file of `specs/` or `proofs/`, or what is made of a type.
 """
 import collections
 import os
@@ -43,8 +45,29 @@ def below(crate, named):
     return sorted(found)
 
 
-def words_of_check(crate, functions, kept):
-    """The words of the check, whose modules are written to a folder as they are checked."""
+def as_libraries(crate, named, kit):
+    """The words that name the libraries below a crate as they are built."""
+    words = []
+    for name in named[crate]:
+        library = CRATES / name / "out" / "rlib" if name in named else kit / "rlibs"
+        words += ["--extern", f"{name}={library / (name + '.rlib')}"]
+    for name in below(crate, named):
+        words += ["-L", f"dependency={CRATES / name / 'out' / 'rlib'}"]
+    return words
+
+
+def as_sources(crate, named, kit):
+    """The words that name the libraries below a crate by their sources."""
+    ours = below(crate, named)
+    of_kit = sorted({name for it in [crate, *ours] for name in named[it] if name not in named})
+    words = [word for name in of_kit for word in ("--extern", f"{name}={kit / 'rlibs' / (name + '.rlib')}")]
+    for name in ours:
+        words += ["--lib", f"{name}:{','.join([*named[name], 'std'])}={CRATES / name / 'src' / 'lib.rt'}"]
+    return words
+
+
+def words_of_check(crate, functions, kept, libraries):
+    """The words of the check, whose modules are written to a folder as they are checked. What is passed last gives those of the libraries."""
     named = dependencies()
     if crate not in named:
         sys.exit(f"there is no crate {crate} in crates.txt")
@@ -53,11 +76,7 @@ def words_of_check(crate, functions, kept):
     words = [kit / "bin" / "rattle", "check", "--crate-name", crate, root, "--jobs", "1", "--incremental", kept]
     words += ["--antt-project", kit / "rattle" / "logic" / "antt-project.json", "--logic-built", kit / "logic_built"]
     words += ["-L", f"dependency={kit / 'rlibs'}", "--extern", f"std={kit / 'rlibs' / 'std.rlib'}"]
-    for name in named[crate]:
-        library = CRATES / name / "out" / "rlib" if name in named else kit / "rlibs"
-        words += ["--extern", f"{name}={library / (name + '.rlib')}"]
-    for name in below(crate, named):
-        words += ["-L", f"dependency={CRATES / name / 'out' / 'rlib'}"]
+    words += libraries(crate, named, kit)
     for function in functions:
         words += ["--only", function]
     return [str(word) for word in words]
@@ -79,11 +98,15 @@ def kind(module):
 
 def main(words):
     """Checks, and prints the two tables. The status is that of the check."""
-    if not words or words[0].startswith("-"):
+    libraries = as_libraries
+    if words[:1] == ["--sources"]:
+        libraries, words = as_sources, words[1:]
+    if not words or words[0].startswith("-") or (libraries == as_sources and len(words) == 1):
         sys.exit(__doc__)
     crate, *functions = words
     with tempfile.TemporaryDirectory(prefix="proofs-") as kept:
-        done = subprocess.run(words_of_check(crate, functions, kept), cwd=CRATES / crate, stdout=subprocess.PIPE, stderr=subprocess.STDOUT, text=True)
+        check = words_of_check(crate, functions, kept, libraries)
+        done = subprocess.run(check, cwd=CRATES / crate, stdout=subprocess.PIPE, stderr=subprocess.STDOUT, text=True)
         seconds = collections.Counter()
         kinds = collections.Counter()
         for spent, module in times(kept):
