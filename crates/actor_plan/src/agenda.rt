@@ -15,7 +15,7 @@ use std::alloc::Global;
 
 /// An item of a CPU's agenda: a tick by its place among the attached ticks, or an event or a mark of lost ones by its
 /// place among the CPU's entries.
-#[derive(Clone, Copy, PartialEq, Eq, Debug)]
+#[derive(Clone, Copy, PartialEq, Eq)]
 pub enum AgendaItem {
     Tick(u32),
     Event(u32),

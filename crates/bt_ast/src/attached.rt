@@ -2,7 +2,7 @@
 use bt_core::items::Items;
 
 /// What a body is run at. An event is named by the place of its format in the recording.
-#[derive(Clone, Copy, PartialEq, Eq, Debug)]
+#[derive(Clone, Copy, PartialEq, Eq)]
 pub enum BodyPoint {
     Begin,
     End,
@@ -11,14 +11,14 @@ pub enum BodyPoint {
 }
 
 /// A body: a probe, by its place in the script, together with one thing that it is attached to.
-#[derive(Clone, Copy, PartialEq, Eq, Debug)]
+#[derive(Clone, Copy, PartialEq, Eq)]
 pub struct BodyId {
     pub probe: u32,
     pub point: BodyPoint,
 }
 
 /// A tick of an interval: its time in nanoseconds and the body that is run, by its place.
-#[derive(Clone, Copy, PartialEq, Eq, Debug)]
+#[derive(Clone, Copy, PartialEq, Eq)]
 pub struct Tick {
     pub time: u64,
     pub body: u32,
@@ -26,11 +26,23 @@ pub struct Tick {
 
 /// The bodies of a script over a recording, in the order in which they are numbered; for each format the bodies
 /// that its events run; the ticks in their order; and the bodies that run before and after all others.
-#[derive(PartialEq, Eq, Debug, Drop)]
 pub struct Attached {
     pub bodies: Items<BodyId>,
     pub by_format: Items<Items<u32>>,
     pub ticks: Items<Tick>,
     pub begin: Items<u32>,
     pub end: Items<u32>,
+}
+
+// Written out, so that it is one call wherever such a value is let go.
+impl Drop for Attached {
+    fn drop(self) {
+        let Self {
+            bodies: _,
+            by_format: _,
+            ticks: _,
+            begin: _,
+            end: _,
+        } = self;
+    }
 }

@@ -6,7 +6,7 @@ use bt_core::operator::{BinOp, UnOp};
 use bt_core::place::Place;
 
 /// A builtin variable.
-#[derive(Clone, Copy, PartialEq, Eq, Debug)]
+#[derive(Clone, Copy, PartialEq, Eq)]
 pub enum Builtin {
     Pid,
     Tid,
@@ -19,16 +19,23 @@ pub enum Builtin {
 }
 
 /// A variable of a body, by its name with the `$`.
-#[derive(PartialEq, Eq, Debug, Drop)]
+#[derive(PartialEq, Eq)]
 pub struct VarRef {
     pub name: Items<u8>,
     pub place: Place,
 }
 
+// Written out, so that it is one call wherever such a value is let go.
+impl Drop for VarRef {
+    fn drop(self) {
+        let Self { name: _, place: _ } = self;
+    }
+}
+
 /// A map, by its name with the `@`, and the parts of its key. A map that is named as a whole has no
 /// parts here.
 #[cycle(expr)]
-#[derive(PartialEq, Debug, Drop)]
+#[derive(PartialEq, Drop)]
 pub struct MapRef {
     pub name: Items<u8>,
     pub keys: Items<Expr>,
@@ -37,7 +44,7 @@ pub struct MapRef {
 
 /// What is assigned to.
 #[cycle(expr)]
-#[derive(PartialEq, Debug, Drop)]
+#[derive(PartialEq, Drop)]
 pub enum Target {
     Map(MapRef),
     Var(VarRef),
@@ -46,7 +53,7 @@ pub enum Target {
 /// `++` where `plus` is true and otherwise `--`, which stands before its target where `prefix` is true and otherwise
 /// after it.
 #[cycle(expr)]
-#[derive(PartialEq, Debug, Drop)]
+#[derive(PartialEq, Drop)]
 pub struct IncDec {
     pub target: Target,
     pub plus: bool,
@@ -56,7 +63,7 @@ pub struct IncDec {
 
 /// An expression and where it begins.
 #[cycle(expr)]
-#[derive(PartialEq, Debug, Drop)]
+#[derive(PartialEq, Drop)]
 pub struct Expr {
     pub kind: ExprKind,
     pub place: Place,
@@ -64,7 +71,7 @@ pub struct Expr {
 
 /// What an expression is.
 #[cycle(expr)]
-#[derive(PartialEq, Debug, Drop)]
+#[derive(PartialEq, Drop)]
 pub enum ExprKind {
     /// A number of 64 bits. One from 2^63 on stands as the signed number with the same bits.
     Number(i64),

@@ -2,7 +2,7 @@
 use bt_core::map::AggKind;
 
 /// A map function of one number.
-#[derive(Clone, Copy, PartialEq, Eq, Debug)]
+#[derive(Clone, Copy, PartialEq, Eq)]
 pub enum Gathering {
     Sum,
     Min,

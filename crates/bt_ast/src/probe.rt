@@ -5,7 +5,7 @@ use bt_core::items::Items;
 use bt_core::place::Place;
 
 /// The unit of an interval's number: seconds, milliseconds, microseconds, or times a second.
-#[derive(Clone, Copy, PartialEq, Eq, Debug)]
+#[derive(Clone, Copy, PartialEq, Eq)]
 pub enum Unit {
     S,
     Ms,
@@ -14,7 +14,7 @@ pub enum Unit {
 }
 
 /// What a probe is attached to. The system and the name of a tracepoint may hold `*`.
-#[derive(PartialEq, Eq, Debug, Drop)]
+#[derive(PartialEq, Eq)]
 pub enum Point {
     Begin {
         place: Place,
@@ -34,8 +34,28 @@ pub enum Point {
     },
 }
 
+// Written out, so that it is one call wherever such a value is let go.
+impl Drop for Point {
+    fn drop(self) {
+        match self {
+            Point::Begin { place: _ }
+            | Point::End { place: _ }
+            | Point::Tracepoint {
+                system: _,
+                name: _,
+                place: _,
+            }
+            | Point::Interval {
+                unit: _,
+                number: _,
+                place: _,
+            } => {}
+        }
+    }
+}
+
 /// Points, the condition under which the block is run, and the block.
-#[derive(PartialEq, Debug, Drop)]
+#[derive(PartialEq)]
 pub struct Probe {
     pub points: Items<Point>,
     pub predicate: Option<Expr>,
@@ -43,8 +63,20 @@ pub struct Probe {
     pub place: Place,
 }
 
+// Written out, so that it is one call wherever such a value is let go.
+impl Drop for Probe {
+    fn drop(self) {
+        let Self {
+            points: _,
+            predicate: _,
+            block: _,
+            place: _,
+        } = self;
+    }
+}
+
 /// The probes of a script in their order.
-#[derive(PartialEq, Debug, Drop)]
+#[derive(PartialEq, Drop)]
 pub struct Script {
     pub probes: Items<Probe>,
 }

@@ -7,7 +7,7 @@ use bt_core::operator::BinOp;
 use bt_core::place::Place;
 
 /// What is gathered in an aggregation map: a map function and its arguments.
-#[derive(PartialEq, Debug, Drop)]
+#[derive(PartialEq)]
 pub enum AggCall {
     Count,
     /// A map function of one number.
@@ -23,9 +23,28 @@ pub enum AggCall {
     },
 }
 
+// Written out, so that it is one call wherever such a value is let go.
+impl Drop for AggCall {
+    fn drop(self) {
+        match self {
+            AggCall::Count
+            | AggCall::Gather {
+                function: _,
+                number: _,
+            }
+            | AggCall::Lhist {
+                number: _,
+                min: _,
+                max: _,
+                step: _,
+            } => {}
+        }
+    }
+}
+
 /// Statements in braces.
 #[cycle(block)]
-#[derive(PartialEq, Debug, Drop)]
+#[derive(PartialEq, Drop)]
 pub struct Block {
     pub stmts: Items<Stmt>,
     pub place: Place,
@@ -33,7 +52,7 @@ pub struct Block {
 
 /// A statement and where it begins.
 #[cycle(block)]
-#[derive(PartialEq, Debug, Drop)]
+#[derive(PartialEq, Drop)]
 pub struct Stmt {
     pub kind: StmtKind,
     pub place: Place,
@@ -41,7 +60,7 @@ pub struct Stmt {
 
 /// What a statement is.
 #[cycle(block)]
-#[derive(PartialEq, Debug, Drop)]
+#[derive(PartialEq, Drop)]
 pub enum StmtKind {
     /// `map = agg`, where the aggregation's word stands at `agg_place`.
     SetAgg {

@@ -18,13 +18,25 @@ use tracefs_format::format::Format;
 
 /// Which kinds of points a probe has, which formats they match, and how many ticks there are up to
 /// and with them, those of earlier probes included.
-#[derive(Drop)]
 pub(crate) struct Seen {
     pub begin: bool,
     pub end: bool,
     pub interval: bool,
     pub marks: Items<bool>,
     pub ticks: u64,
+}
+
+// Written out, so that it is one call wherever such a value is let go.
+impl Drop for Seen {
+    fn drop(self) {
+        let Self {
+            begin: _,
+            end: _,
+            interval: _,
+            marks: _,
+            ticks: _,
+        } = self;
+    }
 }
 
 fn mark_count(marks: &[bool]) -> usize

@@ -8,16 +8,25 @@ use std::fs;
 use std::rt::Files;
 
 /// The bytes of the files `s.bt`, `r.bin` and `a.bin`.
-#[derive(Drop)]
 pub(crate) struct CaseFiles {
     pub script: Vec<u8>,
     pub recording: Vec<u8>,
     pub account: Vec<u8>,
 }
 
+// Written out, so that it is one call wherever such a value is let go.
+impl Drop for CaseFiles {
+    fn drop(self) {
+        let Self {
+            script: _,
+            recording: _,
+            account: _,
+        } = self;
+    }
+}
+
 /// The words of a command line, the files, what fails of shelf and sinks, what may come, how often it is tried, whether the same comes on
 /// threads, without the word `--serial`, and how many of the accounts that come are verified.
-#[derive(Drop)]
 pub(crate) struct Case {
     pub words: Vec<String>,
     pub files: CaseFiles,
@@ -26,6 +35,21 @@ pub(crate) struct Case {
     pub times: u64,
     pub on_threads: bool,
     pub verifies: u64,
+}
+
+// Written out, so that it is one call wherever such a value is let go.
+impl Drop for Case {
+    fn drop(self) {
+        let Self {
+            words: _,
+            files: _,
+            faults: _,
+            wanted: _,
+            times: _,
+            on_threads: _,
+            verifies: _,
+        } = self;
+    }
 }
 
 /// The text of a member of an object.

@@ -11,13 +11,25 @@ const ROOM: u64 = 1 << 24;
 
 /// How many bytes the output takes in all and in one call, and the numbers of the reads, of the calls of the output and of those of `err` that
 /// fail, counted from 1.
-#[derive(Drop)]
 pub(crate) struct Faults {
     room: usize,
     most: usize,
     reads: Vec<u32>,
     out: Vec<u32>,
     err: Vec<u32>,
+}
+
+// Written out, so that it is one call wherever such a value is let go.
+impl Drop for Faults {
+    fn drop(self) {
+        let Self {
+            room: _,
+            most: _,
+            reads: _,
+            out: _,
+            err: _,
+        } = self;
+    }
 }
 
 /// The numbers in a list of an object, which may be left out.

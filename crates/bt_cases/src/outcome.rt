@@ -11,11 +11,22 @@ use std::thread::Threads;
 use turn_lock::gate::Open;
 
 /// The exit status, and the bytes that were written to the output and to `err`.
-#[derive(PartialEq, Eq, Drop)]
+#[derive(PartialEq, Eq)]
 pub(crate) struct Outcome {
     pub status: u64,
     pub out: Vec<u8>,
     pub err: Vec<u8>,
+}
+
+// Written out, so that it is one call wherever such a value is let go.
+impl Drop for Outcome {
+    fn drop(self) {
+        let Self {
+            status: _,
+            out: _,
+            err: _,
+        } = self;
+    }
 }
 
 /// Bytes as text, where they are such.

@@ -4,7 +4,7 @@ use bt_ast::gathering::Gathering;
 use bt_core::operator::BinOp;
 
 /// What the grammar sees of a token: which word or mark it is, or its kind.
-#[derive(Clone, Copy, PartialEq, Eq, Debug)]
+#[derive(Clone, Copy, PartialEq, Eq)]
 pub enum Class {
     /// The word of a builtin variable.
     BuiltinWord(Builtin),
@@ -105,7 +105,7 @@ pub enum Class {
 }
 
 /// Binary operators that bind equally, from the tightest to the loosest.
-#[derive(Clone, Copy, PartialEq, Eq, Debug)]
+#[derive(Clone, Copy, PartialEq, Eq)]
 pub enum Tier {
     /// `*`, `/` and `%`.
     Products,

@@ -18,7 +18,6 @@ use std::marker::Model;
 /// failing answers [`ShelfError::Failed`], and so does a call for a name that is not held; the name is
 /// noted as failed then, and the count of faults rises by one, and at no other time. Calls are numbered
 /// from 1. The count of calls and the count of faults stand still at 2^64 - 1.
-#[derive(Drop)]
 pub struct MemShelf {
     files: Vec<(String, Vec<u8>)>,
     failing: Vec<u32>,
@@ -26,6 +25,20 @@ pub struct MemShelf {
     faults: u64,
     asked: Items<Items<u8>>,
     failed: Items<Items<u8>>,
+}
+
+// Written out, so that it is one call wherever such a value is let go.
+impl Drop for MemShelf {
+    fn drop(self) {
+        let Self {
+            files: _,
+            failing: _,
+            calls: _,
+            faults: _,
+            asked: _,
+            failed: _,
+        } = self;
+    }
 }
 
 impl Model for MemShelf {

@@ -18,7 +18,6 @@ use std::marker::Model;
 /// is used up; the count of faults rises by one then and at no other time. Every other call takes as
 /// many bytes as the least of the piece's length, `most` and what is left of the room. Calls are
 /// numbered from 1. The count of calls and the count of faults stand still at 2^64 - 1.
-#[derive(Drop)]
 pub struct MemSink {
     taken: Vec<u8>,
     offers: Vec<(usize, usize)>,
@@ -27,6 +26,21 @@ pub struct MemSink {
     failing: Vec<u32>,
     calls: u64,
     faults: u64,
+}
+
+// Written out, so that it is one call wherever such a value is let go.
+impl Drop for MemSink {
+    fn drop(self) {
+        let Self {
+            taken: _,
+            offers: _,
+            room: _,
+            most: _,
+            failing: _,
+            calls: _,
+            faults: _,
+        } = self;
+    }
 }
 
 impl Model for MemSink {

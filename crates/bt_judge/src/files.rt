@@ -73,10 +73,16 @@ pub fn read_job<S: Shelf>(
 }
 
 /// What a script and a recording ask for, and the bytes of an account.
-#[derive(Drop)]
 pub struct AccountJob {
     pub job: Job,
     pub account: Vec<u8>,
+}
+
+// Written out, so that it is one call wherever such a value is let go.
+impl Drop for AccountJob {
+    fn drop(self) {
+        let Self { job: _, account: _ } = self;
+    }
 }
 
 /// Reads the script, the recording and the account of these names, and answers what the first two ask for, with the bytes of the third. All

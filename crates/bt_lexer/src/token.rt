@@ -3,7 +3,6 @@ use bt_core::items::Items;
 use bt_core::place::Place;
 
 /// What a token is, with the bytes of the token, or what they stand for.
-#[derive(PartialEq, Eq, Debug, Drop)]
 pub enum TokenKind {
     /// A letter, then letters and digits, where `_` counts as a letter.
     Word(Items<u8>),
@@ -21,8 +20,22 @@ pub enum TokenKind {
     Mark(Items<u8>),
 }
 
+// Written out, so that it is one call wherever such a value is let go.
+impl Drop for TokenKind {
+    fn drop(self) {
+        match self {
+            TokenKind::Word(_)
+            | TokenKind::Attach(_)
+            | TokenKind::Map(_)
+            | TokenKind::Var(_)
+            | TokenKind::Number(_)
+            | TokenKind::Text(_)
+            | TokenKind::Mark(_) => {}
+        }
+    }
+}
+
 /// A token, its span in bytes, and the place at which it begins.
-#[derive(PartialEq, Eq, Debug, Drop)]
 pub struct Token {
     pub kind: TokenKind,
     /// How many bytes stand before the token.
@@ -30,4 +43,16 @@ pub struct Token {
     /// How many bytes stand before its end.
     pub end: u32,
     pub place: Place,
+}
+
+// Written out, so that it is one call wherever such a value is let go.
+impl Drop for Token {
+    fn drop(self) {
+        let Self {
+            kind: _,
+            start: _,
+            end: _,
+            place: _,
+        } = self;
+    }
 }

@@ -16,14 +16,14 @@ use std::alloc::Global;
 
 /// An item of a CPU's agenda. Of items with one time ticks come before entries; ticks go by their order and then by CPU, and
 /// entries by CPU and then by their place on it. An entry is an event, or a mark of lost ones.
-#[derive(Clone, Copy, PartialEq, Eq, PartialOrd, Ord, Debug)]
+#[derive(Clone, Copy, PartialEq, Eq, PartialOrd, Ord)]
 pub enum Due {
     Tick { tick: u32, cpu: u32 },
     Entry { cpu: u32, entry: u32, lost: bool },
 }
 
 /// An item with its time in nanoseconds, by which it is taken.
-#[derive(Clone, Copy, PartialEq, Eq, PartialOrd, Ord, Debug)]
+#[derive(Clone, Copy, PartialEq, Eq, PartialOrd, Ord)]
 pub struct Scheduled {
     pub time: u64,
     pub due: Due,

@@ -14,12 +14,13 @@ ghost use Rattle.bt_types.specs.Done.{Does, DoesIn};
 
 use crate::write::{write_key, write_value};
 use bt_ast::expr::{Expr, MapRef, VarRef};
+use bt_core::beside::beside;
 use bt_core::items::Items;
 use bt_core::map::{MapKind, Shape};
 use bt_core::operator::BinOp;
 use bt_core::place::Place;
 use expr_types::expr::{check_expr, check_key};
-use expr_types::fault::{Rule, TypeError, beside};
+use expr_types::fault::{Rule, TypeError};
 use expr_types::known::{Known, number_of};
 use expr_types::maps::Keyed;
 use expr_types::rules::{broken, same_shape};

@@ -13,11 +13,12 @@ ghost use Rattle.expr_types.specs.Mentions.{Sort};
 
 use crate::write::{check_shared, remove, use_map};
 use bt_ast::expr::{Expr, MapRef};
+use bt_core::beside::beside;
 use bt_core::items::Items;
 use bt_core::map::MapId;
 use bt_core::place::Place;
 use expr_types::expr::{check_expr, check_key};
-use expr_types::fault::{Rule, TypeError, beside};
+use expr_types::fault::{Rule, TypeError};
 use expr_types::known::Known;
 use expr_types::maps::Keyed;
 use expr_types::rules::broken;

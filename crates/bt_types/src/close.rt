@@ -9,10 +9,10 @@ ghost use Rattle.bt_types.specs.Open.{Closes, IsClosed};
 ghost use Rattle.bt_types.specs.Script.{decl_or_none, maps_of};
 
 use crate::body::OpenBody;
+use bt_core::beside::beside;
 use bt_core::items::Items;
 use bt_core::map::{MapDecl, MapId, MapKind};
 use bt_core::memory::{Memory, TryCopy};
-use expr_types::fault::beside;
 use expr_types::known::Known;
 use fmt_text::piece::Piece;
 use std::alloc::Global;

@@ -7,7 +7,7 @@ use std::marker::Model;
 use thiserror::Error;
 
 /// The name of a file. Contracts see its bytes.
-#[derive(Debug, Drop)]
+#[derive(Drop)]
 pub struct FileName {
     text: String,
 }
@@ -41,7 +41,6 @@ impl FileName {
 }
 
 /// What words ask for: one of the eight commands, with what it takes.
-#[derive(Debug, Drop)]
 pub enum Order {
     /// To run a script over a recording: on one thread, or on threads; with or without the number of
     /// instructions; and to write what it prints as JSON lines, or as text.
@@ -89,6 +88,45 @@ pub enum Order {
         x: u32,
         n: u32,
     },
+}
+
+// Written out, so that it is one call wherever such a value is let go.
+impl Drop for Order {
+    fn drop(self) {
+        match self {
+            Order::Run {
+                serial: _,
+                stats: _,
+                json: _,
+                script: _,
+                recording: _,
+            }
+            | Order::Check {
+                script: _,
+                recording: _,
+            }
+            | Order::Code {
+                script: _,
+                recording: _,
+            }
+            | Order::Vet {
+                script: _,
+                recording: _,
+            }
+            | Order::Account {
+                serial: _,
+                script: _,
+                recording: _,
+            }
+            | Order::Verify {
+                script: _,
+                recording: _,
+                account: _,
+            }
+            | Order::Gen { x: _, n: _ }
+            | Order::Big { x: _, n: _ } => {}
+        }
+    }
 }
 
 /// Why words give no order.

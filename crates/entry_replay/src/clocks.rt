@@ -8,10 +8,16 @@ use bt_core::memory::Memory;
 use std::alloc::Global;
 
 /// The greatest stamp of each actor, the last of which is the main one, and that of all.
-#[derive(Drop)]
 pub struct Clocks {
     pub lasts: Vec<u64>,
     pub top: u64,
+}
+
+// Written out, so that it is one call wherever such a value is let go.
+impl Drop for Clocks {
+    fn drop(self) {
+        let Self { lasts: _, top: _ } = self;
+    }
 }
 
 impl Clocks {

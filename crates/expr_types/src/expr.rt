@@ -7,13 +7,14 @@ ghost use Rattle.typed_tree.specs.Parts.{made_of};
 ghost use Rattle.expr_types.specs.Judge.{judged, SaysFault};
 ghost use Rattle.expr_types.specs.Checked.{Checked, Checks, ChecksNumber, ChecksAll, KeyChecked};
 
-use crate::fault::{TypeError, beside};
+use crate::fault::TypeError;
 use crate::field::field;
 use crate::known::Known;
 use crate::leaf::{Joint, builtin, choose, join, literal, unary};
 use crate::maps::{Keyed, read, step};
 use crate::variable::{step_variable, variable};
 use bt_ast::expr::{Expr, ExprKind, IncDec, MapRef, Target};
+use bt_core::beside::beside;
 use bt_core::items::Items;
 use bt_core::operator::UnOp;
 use bt_core::place::Place;

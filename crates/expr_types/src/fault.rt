@@ -1,6 +1,4 @@
 // Faults of types.
-ghost use Rattle.std.specs.Prelude.{◌≡◌, Ok, Err, MatchResult};
-
 use bt_core::memory::Memory;
 use bt_core::place::Place;
 
@@ -55,17 +53,5 @@ impl From<Memory> for TypeError {
 
     fn from(_error: Memory) -> TypeError {
         TypeError::Memory
-    }
-}
-
-/// What an answer has, behind what was kept meanwhile, which is let go where the answer is an error.
-///
-/// A function that keeps a tree over `?` calls it, so that the tree is let go in one place.
-pub fn beside<K: Drop, T, E>(kept: K, answer: Result<T, E>) -> Result<(K, T), E>
-    ensures { MatchResult result (λ both. (both.0 ≡ kept) × (answer ≡ Ok both.1)) (λ e. answer ≡ Err e) }
-{
-    match answer {
-        Ok(value) => Ok((kept, value)),
-        Err(error) => Err(error),
     }
 }

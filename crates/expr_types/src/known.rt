@@ -27,11 +27,21 @@ pub struct Var {
 }
 
 /// A call of `printf`: where its format stands, the format's text, and its pieces.
-#[derive(Drop)]
 pub struct Printed {
     pub place: Place,
     pub text: Items<u8>,
     pub pieces: Items<Piece>,
+}
+
+// Written out, so that it is one call wherever such a value is let go.
+impl Drop for Printed {
+    fn drop(self) {
+        let Self {
+            place: _,
+            text: _,
+            pieces: _,
+        } = self;
+    }
 }
 
 /// What is known at a place of the walk.

@@ -11,9 +11,10 @@ ghost use Rattle.expr_types.specs.Rules.{breaks};
 ghost use Rattle.expr_types.specs.Joint.{joint_breaks, joint_part};
 ghost use Rattle.expr_types.specs.Join.{builtin_made, joined_breaks, whole_breaks, both_break, same_breaks, choose_breaks, logical_part};
 
-use crate::fault::{Rule, TypeError, beside};
+use crate::fault::{Rule, TypeError};
 use crate::rules::broken;
 use bt_ast::expr::Builtin;
+use bt_core::beside::beside;
 use bt_core::boxed::Boxed;
 use bt_core::limits::STRING_BYTES;
 use bt_core::memory::Memory;

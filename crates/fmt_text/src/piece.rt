@@ -7,7 +7,6 @@ use std::alloc::{AllocError, AllocFailed, Global};
 use thiserror::Error;
 
 /// A piece of a format: bytes that stand for themselves, or a conversion, which stands for a value.
-#[derive(PartialEq, Eq, Debug, Drop)]
 pub enum Piece {
     /// A longest run of bytes, at least one. Each `%%` of the format is one `%` here.
     Literal(Items<u8>),
@@ -22,6 +21,21 @@ pub enum Piece {
         /// The letter: one of `d`, `i`, `u`, `x`, `X`, `s` and `c`.
         letter: u8,
     },
+}
+
+// Written out, so that it is one call wherever such a value is let go.
+impl Drop for Piece {
+    fn drop(self) {
+        match self {
+            Piece::Literal(_)
+            | Piece::Conversion {
+                left: _,
+                zero: _,
+                width: _,
+                letter: _,
+            } => {}
+        }
+    }
 }
 
 impl TryCopy for Piece {

@@ -9,15 +9,25 @@ use bt_core::value::Value;
 
 /// What a run keeps: the variables by their numbers, how many loop turns are left, and the values on the stack, the first one
 /// put first.
-#[derive(Drop)]
 pub struct State {
     pub variables: Items<Value>,
     pub turns: u32,
     pub stack: Items<Value>,
 }
 
+// Written out, so that it is one call wherever such a value is let go.
+impl Drop for State {
+    fn drop(self) {
+        let Self {
+            variables: _,
+            turns: _,
+            stack: _,
+        } = self;
+    }
+}
+
 /// Where an exit leads: to a block by its number, or to the end of the run.
-#[derive(Clone, Copy, PartialEq, Eq, Debug)]
+#[derive(Clone, Copy, PartialEq, Eq)]
 pub enum Way {
     To(usize),
     Ends(Ending),

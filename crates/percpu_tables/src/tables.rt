@@ -36,13 +36,19 @@ use turn_lock::turn::Joined;
 /// those of another. They may be shared among threads by reference.
 ///
 /// Contracts see the declarations of the maps and the number of actors.
-#[derive(Drop)]
 pub struct Tables {
     set: LockSet<CpuTable>,
     maps: Items<MapDecl>,
     ghost fine: { All IsFineDecl maps } by { fine_decls_prop maps },
     ghost ids: { ids_of set ≡ numbered Cpu 0 (actors_of set) },
     ghost kinds: { kinds_of cpu_kind set ≡ numbered (λ _. maps) 0 (actors_of set) },
+}
+
+// Written out, so that it is one call wherever such a value is let go.
+impl Drop for Tables {
+    fn drop(self) {
+        let Self { set: _, maps: _ } = self;
+    }
 }
 
 // The place of the tables of an actor, and 0 for any other object.

@@ -13,7 +13,7 @@ use std::marker::Model;
 use std::sync::Arc;
 
 /// An entry of a CPU, whose payload lies in the file.
-#[derive(Clone, Copy, Debug)]
+#[derive(Clone, Copy)]
 pub enum EntryRef<'f> {
     /// An event.
     Event(EventRef<'f>),
@@ -27,7 +27,7 @@ pub enum EntryRef<'f> {
 }
 
 /// An event, whose payload lies in the file.
-#[derive(Clone, Copy, Debug)]
+#[derive(Clone, Copy)]
 pub struct EventRef<'f> {
     /// In nanoseconds.
     pub time: u64,

@@ -7,7 +7,6 @@ use tracefs_format::format::Format;
 ///
 /// Times are in nanoseconds, on one clock of the recording's own. `IsValidRecording` says which
 /// recordings are valid; the others have no file.
-#[derive(Drop)]
 pub struct Recording {
     /// 1, whose CPUs have events alone, or 2, whose CPUs may have marks of lost events as well.
     pub version: u32,
@@ -21,8 +20,20 @@ pub struct Recording {
     pub cpus: Items<CpuTrack>,
 }
 
+// Written out, so that it is one call wherever such a value is let go.
+impl Drop for Recording {
+    fn drop(self) {
+        let Self {
+            version: _,
+            start: _,
+            end: _,
+            formats: _,
+            cpus: _,
+        } = self;
+    }
+}
+
 /// The entries of a CPU, in the order of their times.
-#[derive(Drop)]
 pub struct CpuTrack {
     /// The number that the recorded machine gives the CPU.
     pub number: u32,
@@ -30,8 +41,17 @@ pub struct CpuTrack {
     pub entries: Entries,
 }
 
+// Written out, so that it is one call wherever such a value is let go.
+impl Drop for CpuTrack {
+    fn drop(self) {
+        let Self {
+            number: _,
+            entries: _,
+        } = self;
+    }
+}
+
 /// What a CPU's track holds: an event, or the mark that the kernel lost some.
-#[derive(PartialEq, Eq, Debug, Drop)]
 pub enum Entry {
     /// An event.
     Event(Event),
@@ -44,8 +64,16 @@ pub enum Entry {
     },
 }
 
+// Written out, so that it is one call wherever such a value is let go.
+impl Drop for Entry {
+    fn drop(self) {
+        match self {
+            Entry::Event(_) | Entry::Lost { time: _, count: _ } => {}
+        }
+    }
+}
+
 /// An event: what the kernel knew of its moment, and the bytes that the tracepoint wrote.
-#[derive(PartialEq, Eq, Debug, Drop)]
 pub struct Event {
     /// In nanoseconds.
     pub time: u64,
@@ -63,4 +91,20 @@ pub struct Event {
     pub format: u32,
     /// Its first two bytes are the ID of its format, the lower first.
     pub payload: Items<u8>,
+}
+
+// Written out, so that it is one call wherever such a value is let go.
+impl Drop for Event {
+    fn drop(self) {
+        let Self {
+            time: _,
+            pid: _,
+            tid: _,
+            uid: _,
+            gid: _,
+            comm: _,
+            format: _,
+            payload: _,
+        } = self;
+    }
 }

@@ -17,9 +17,19 @@ pub struct Job {
 
 /// What a run makes: its steps as one woven list, the text that they print, or their JSON lines where these were asked
 /// for, and how many instructions were executed.
-#[derive(Debug, Drop)]
 pub struct Work {
     pub steps: Woven,
     pub text: Items<u8>,
     pub instructions: u64,
+}
+
+// Written out, so that it is one call wherever such a value is let go.
+impl Drop for Work {
+    fn drop(self) {
+        let Self {
+            steps: _,
+            text: _,
+            instructions: _,
+        } = self;
+    }
 }

@@ -14,10 +14,19 @@ use step_objects::shared::SharedPart;
 
 /// The objects of a run that has ended which hold its maps: the parts of each map at its number, none of an aggregation, and the
 /// tables of each actor.
-#[derive(Drop)]
 pub struct Closed {
     pub parts: Vec<Vec<SharedPart>>,
     pub tables: Vec<CpuTable>,
+}
+
+// Written out, so that it is one call wherever such a value is let go.
+impl Drop for Closed {
+    fn drop(self) {
+        let Self {
+            parts: _,
+            tables: _,
+        } = self;
+    }
 }
 
 /// The objects of this list, without their clocks.

@@ -33,7 +33,6 @@ use turn_lock::turn::Joined;
 /// other. They may be shared among threads by reference.
 ///
 /// Contracts see the declarations of the maps and the number of actors.
-#[derive(Drop)]
 pub struct SharedMaps {
     set: LockSet<SharedPart>,
     maps: Items<MapDecl>,
@@ -41,6 +40,17 @@ pub struct SharedMaps {
     ghost ids: { ids_of set ≡ map (λ (part : Part). part.0) (parts_from 0 maps) },
     ghost kinds: { kinds_of shared_kind set ≡ map (λ (part : Part). part.1) (parts_from 0 maps) },
     ghost places: { firsts.items ≡ firsts_from 0 maps },
+}
+
+// Written out, so that it is one call wherever such a value is let go.
+impl Drop for SharedMaps {
+    fn drop(self) {
+        let Self {
+            set: _,
+            maps: _,
+            firsts: _,
+        } = self;
+    }
 }
 
 impl SharedMaps {

@@ -32,7 +32,6 @@ use turn_lock::turn::Joined;
 /// reference.
 ///
 /// Contracts see the numbers of CPUs and of ticks.
-#[derive(Drop)]
 pub struct SideLocks {
     clock: LockSet<TickClock>,
     out: LockSet<OutLog>,
@@ -44,6 +43,18 @@ pub struct SideLocks {
     ghost out_id: { ids_of out ≡ TheOut ∷ [] },
     ghost out_is: { kinds_of (λ _. tt) out ≡ tt ∷ [] },
     ghost out_actors: { actors_of out ≡ cpus + 1 },
+}
+
+// Written out, so that it is one call wherever such a value is let go.
+impl Drop for SideLocks {
+    fn drop(self) {
+        let Self {
+            clock: _,
+            out: _,
+            cpus: _,
+            ticks: _,
+        } = self;
+    }
 }
 
 // A lock round one object that has taken no operation yet, and the turns of each actor at it.

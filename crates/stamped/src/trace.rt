@@ -16,7 +16,6 @@ use step_list::list::StepList;
 /// The clock begins at 0 and then stands at the last step's stamp, unless it was raised since. So
 /// each stamp is above the clock before it, and the stamps rise. Contracts see the actor, the steps,
 /// the clocks before them (their floors) and the clock.
-#[derive(Drop)]
 pub struct Trace {
     actor: u32,
     clock: u64,
@@ -27,6 +26,19 @@ pub struct Trace {
     ghost before: { IsTrue (is_all_before (length (steps_in steps)) raised.items) },
     ghost paired: { length (floors_told 0 0 (steps_in steps) raised.items) ≡ length (steps_in steps) },
     ghost rising: { IsTrue (is_rising 0 (steps_in steps) (floors_told 0 0 (steps_in steps) raised.items) clock) },
+}
+
+// Written out, so that it is one call wherever such a value is let go.
+impl Drop for Trace {
+    fn drop(self) {
+        let Self {
+            actor: _,
+            clock: _,
+            steps: _,
+            stood: _,
+            raised: _,
+        } = self;
+    }
 }
 
 impl Trace {

@@ -27,7 +27,6 @@ pub struct Place {
 /// type says when it is pushed.
 ///
 /// Contracts speak of the list of its steps, `steps_in`, and of the room that is reserved, `HasPlace`.
-#[derive(Drop)]
 pub struct StepList {
     places: Vec<Place>,
     keys: Vec<Key>,
@@ -37,6 +36,19 @@ pub struct StepList {
     ghost within: { IsTrue (is_all_within (length keys.items) (length whole.items) places.items) },
     ghost held: { AreHeldReplies (expanded keys.items whole.items places.items) } by { held_prop (expanded keys.items whole.items places.items) },
     ghost last_is: { last ≡ last_told places.items } by { Coded-set last-code last (last_told places.items) },
+}
+
+// Written out, so that it is one call wherever such a value is let go.
+impl Drop for StepList {
+    fn drop(self) {
+        let Self {
+            places: _,
+            keys: _,
+            slots: _,
+            whole: _,
+            last: _,
+        } = self;
+    }
 }
 
 impl StepList {

@@ -113,10 +113,16 @@ pub fn report_on<S: Shelf, G: Gate + Sync, R: Threads + Wait + Sync>(
 }
 
 /// What a call answered, and what it wrote to its output.
-#[derive(Drop)]
 pub struct Answer {
     pub report: Report,
     pub out: MemSink,
+}
+
+// Written out, so that it is one call wherever such a value is let go.
+impl Drop for Answer {
+    fn drop(self) {
+        let Self { report: _, out: _ } = self;
+    }
 }
 
 impl Answer {

@@ -115,11 +115,21 @@ fn counts_three(alloc: Global, report: &Report) -> Result<bool, Fail> {
 }
 
 /// A shelf and two sinks.
-#[derive(Drop)]
 struct Bench {
     shelf: MemShelf,
     out: MemSink,
     err: MemSink,
+}
+
+// Written out, so that it is one call wherever such a value is let go.
+impl Drop for Bench {
+    fn drop(self) {
+        let Self {
+            shelf: _,
+            out: _,
+            err: _,
+        } = self;
+    }
 }
 
 /// A sink that takes so many bytes a call, of which the calls of these numbers fail.

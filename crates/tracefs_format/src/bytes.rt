@@ -6,7 +6,7 @@ ghost use Rattle.tracefs_format.specs.Bytes.{cut_at, before_last, after, labelle
 use bt_core::bytes::{is_digit, is_word_byte};
 
 /// A class of bytes.
-#[derive(Clone, Copy, PartialEq, Eq, Debug)]
+#[derive(Clone, Copy, PartialEq, Eq)]
 pub enum ByteClass {
     /// A space or a tab.
     Blank,

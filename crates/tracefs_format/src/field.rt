@@ -8,7 +8,7 @@ use bt_core::memory::{Memory, TryCopy};
 use std::alloc::Global;
 
 /// What the bytes of a field mean.
-#[derive(Clone, Copy, PartialEq, Eq, Debug)]
+#[derive(Clone, Copy, PartialEq, Eq)]
 pub enum FieldKind {
     /// A whole number of 1, 2, 4 or 8 bytes. A pointer is read as one.
     Number,
@@ -21,7 +21,6 @@ pub enum FieldKind {
 }
 
 /// A field of an event: its name, its place in the payload in bytes, and what its bytes mean.
-#[derive(PartialEq, Eq, Debug, Drop)]
 pub struct Field {
     /// Letters, digits and `_`. It may be empty; then nothing reads the field.
     pub name: Items<u8>,
@@ -37,6 +36,19 @@ pub struct Field {
     pub ghost sized: { IsTrue (fits_kind kind size) },
     /// It ends within the bytes that a layout may have.
     pub ghost inside: { offset + size ≤ LAYOUT_END },
+}
+
+// Written out, so that it is one call wherever such a value is let go.
+impl Drop for Field {
+    fn drop(self) {
+        let Self {
+            name: _,
+            offset: _,
+            size: _,
+            signed: _,
+            kind: _,
+        } = self;
+    }
 }
 
 impl TryCopy for Field {

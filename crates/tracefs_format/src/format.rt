@@ -8,7 +8,6 @@ use bt_core::memory::{Memory, TryCopy};
 use std::alloc::Global;
 
 /// A tracepoint: the system that it belongs to, its format text, and the layout that the text describes.
-#[derive(PartialEq, Eq, Debug, Drop)]
 pub struct Format {
     /// The system that the tracepoint belongs to, as `sched`.
     pub system: Items<u8>,
@@ -16,6 +15,17 @@ pub struct Format {
     pub text: Items<u8>,
     /// What the text says.
     pub layout: Layout,
+}
+
+// Written out, so that it is one call wherever such a value is let go.
+impl Drop for Format {
+    fn drop(self) {
+        let Self {
+            system: _,
+            text: _,
+            layout: _,
+        } = self;
+    }
 }
 
 impl Format {

@@ -8,7 +8,6 @@ use bt_core::memory::{Memory, TryCopy};
 use std::alloc::Global;
 
 /// The layout of an event: its name, the number that its payloads begin with, and its fields.
-#[derive(PartialEq, Eq, Debug, Drop)]
 pub struct Layout {
     /// Letters, digits and `_`, at least one.
     pub name: Items<u8>,
@@ -19,6 +18,18 @@ pub struct Layout {
     /// How many bytes a payload needs: the greatest end of a field, and 0 without fields.
     pub size: u32,
     pub ghost covers: { size ≡ greatest_end fields },
+}
+
+// Written out, so that it is one call wherever such a value is let go.
+impl Drop for Layout {
+    fn drop(self) {
+        let Self {
+            name: _,
+            id: _,
+            fields: _,
+            size: _,
+        } = self;
+    }
 }
 
 impl Layout {

@@ -12,16 +12,25 @@ use fmt_text::piece::Piece;
 use tracefs_format::layout::Layout;
 
 /// The typed predicate and block of a body, and the types of its variables by their numbers, in the order of their first assignments.
-#[derive(Drop)]
 pub struct TypedTree {
     pub variables: Items<Shape>,
     pub predicate: Option<NumExpr>,
     pub block: TypedBlock,
 }
 
+// Written out, so that it is one call wherever such a value is let go.
+impl Drop for TypedTree {
+    fn drop(self) {
+        let Self {
+            variables: _,
+            predicate: _,
+            block: _,
+        } = self;
+    }
+}
+
 /// A typed body: its tree, the layout of its event where it has one, and the maps and formats that the tree names, by their
 /// numbers in the script.
-#[derive(Drop)]
 pub struct TypedBody {
     pub tree: TypedTree,
     pub layout: Option<Layout>,
@@ -31,4 +40,16 @@ pub struct TypedBody {
     pub ghost fine: { IsTrue (list_all (λ m. is_fine_decl m.1) maps) },
     /// What the tree names is there and has the types in which it is used, and no rule of types is broken.
     pub ghost typed: { IsTrue (all_fit (scope_of maps formats layout tree.variables) (tree_parts tree)) },
+}
+
+// Written out, so that it is one call wherever such a value is let go.
+impl Drop for TypedBody {
+    fn drop(self) {
+        let Self {
+            tree: _,
+            layout: _,
+            maps: _,
+            formats: _,
+        } = self;
+    }
 }

@@ -11,7 +11,6 @@ use fmt_text::piece::Piece;
 
 /// A typed script: its maps in the order of their first mention, the formats of its `printf` calls in the order of the
 /// calls, its bodies by their numbers, and whether `exit()` stands in it.
-#[derive(Drop)]
 pub struct Typed {
     pub maps: Items<MapDecl>,
     pub formats: Items<Items<Piece>>,
@@ -21,4 +20,16 @@ pub struct Typed {
     pub ghost fine: { IsTrue (list_all is_fine_decl maps) },
     /// The maps and formats of each body stand in the script's at their numbers.
     pub ghost placed: { ∥ AreIn maps formats bodies ∥₁ },
+}
+
+// Written out, so that it is one call wherever such a value is let go.
+impl Drop for Typed {
+    fn drop(self) {
+        let Self {
+            maps: _,
+            formats: _,
+            bodies: _,
+            uses_exit: _,
+        } = self;
+    }
 }

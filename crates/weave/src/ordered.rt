@@ -13,10 +13,16 @@ use step_list::list::StepList;
 /// The steps of a woven list by their places. Contracts see the list.
 ///
 /// The steps stay in the lists that they were made in. Beside these there is where each step lies, in 8 bytes a step.
-#[derive(Drop)]
 pub struct Ordered<'a> {
     lists: &'a [StepList],
     spots: Vec<Spot>,
+}
+
+// Written out, so that it is one call wherever such a value is let go.
+impl<'a> Drop for Ordered<'a> {
+    fn drop(self) {
+        let Self { lists: _, spots: _ } = self;
+    }
 }
 
 impl<'a> Model for Ordered<'a> {

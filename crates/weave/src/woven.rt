@@ -14,10 +14,16 @@ use step_list::list::StepList;
 /// All steps of a run in order: by stamp, and those with one stamp by object. Contracts see the one list.
 ///
 /// The steps stay in the lists that they were made in: none is merged, sorted or copied.
-#[derive(Drop)]
 pub struct Woven {
     lists: Vec<StepList>,
     len: usize,
+}
+
+// Written out, so that it is one call wherever such a value is let go.
+impl Drop for Woven {
+    fn drop(self) {
+        let Self { lists: _, len: _ } = self;
+    }
 }
 
 impl Model for Woven {

@@ -132,13 +132,9 @@ fn step(alloc: Global, row: usize) -> Result<Step, Memory> {
 fn list_of(alloc: Global, rows: &[usize]) -> Result<StepList, Memory> {
     let mut list = StepList::new(alloc);
     for row in rows {
-        let Step {
-            actor,
-            object,
-            stamp,
-            op,
-            reply,
-        } = step(alloc, *row)?;
+        let (actor, object, stamp) = PLACES[*row % ROWS];
+        let op = op(alloc, *row)?;
+        let reply = reply(alloc, *row)?;
         list.reserve(alloc)?;
         list.push_reserved(actor, object, stamp, op, reply);
     }

@@ -36,10 +36,16 @@ fn failing_at<'w>(world: &SharedWorld<'w>, cpu: u32, fails_at: u32) -> Failing<W
 }
 
 /// What a worker did: how its run ended, and the list of its steps.
-#[derive(Drop)]
 pub struct Did {
     pub ended: Option<Result<Outcome, Memory>>,
     pub steps: Vec<Step>,
+}
+
+// Written out, so that it is one call wherever such a value is let go.
+impl Drop for Did {
+    fn drop(self) {
+        let Self { ended: _, steps: _ } = self;
+    }
 }
 
 /// The turns that a worker leaves, and what it did.
@@ -92,11 +98,21 @@ fn run_two<R: Threads + Wait + Sync>(
 }
 
 /// What both workers did, and how many parts of shared maps and tables were given back when all locks were closed.
-#[derive(Drop)]
 pub struct Made {
     pub first: Did,
     pub second: Did,
     pub closed: (usize, usize),
+}
+
+// Written out, so that it is one call wherever such a value is let go.
+impl Drop for Made {
+    fn drop(self) {
+        let Self {
+            first: _,
+            second: _,
+            closed: _,
+        } = self;
+    }
 }
 
 /// Runs the workers of both CPUs of a script, and then closes all locks with all turns.

@@ -72,11 +72,21 @@ fn tree_of(alloc: Global, text: &[u8]) -> Result<Script, Fail>
 }
 
 /// A script with its types, and what it is attached to in a recording.
-#[derive(Drop)]
 pub struct Scripted {
     pub recording: Recording,
     pub attached: Attached,
     pub typed: Typed,
+}
+
+// Written out, so that it is one call wherever such a value is let go.
+impl Drop for Scripted {
+    fn drop(self) {
+        let Self {
+            recording: _,
+            attached: _,
+            typed: _,
+        } = self;
+    }
 }
 
 /// The script, over the recording of two CPUs with two events each.
