@@ -4,6 +4,7 @@ ghost use Rattle.typed_tree.specs.Scope.{is_fine_decl, is_fine_kind};
 ghost use Rattle.code_cases.specs.Quiet.{reply_of, shared_reply, table_reply, clock_reply, value_of_map};
 ghost use Rattle.std.specs.Option.{option_copied};
 
+use crate::steps::tell_steps;
 use anyhow::{Context, Result};
 use bpf_interp::ports::{PortFault, Ports};
 use bpf_interp::regions::Regions;
@@ -201,15 +202,6 @@ fn numbers_of(words: &str) -> Result<[u64; 4]> {
         *number = word.parse::<u64>()?;
     }
     Ok(numbers)
-}
-
-/// Tells the steps of a call.
-fn tell_steps<R: Print>(rt: &R, steps: &[Step]) -> Result<()> {
-    for step in steps {
-        let Step { object, op, .. } = step;
-        println!(rt; "    {object:?} {op:?}")?;
-    }
-    Ok(())
 }
 
 /// Tells what comes of a line `NAME = NUMBER A B C`, the number and the arguments of a call in decimals: its answer, the

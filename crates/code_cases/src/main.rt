@@ -5,6 +5,7 @@
 mod codes;
 mod helpers;
 mod runs;
+mod steps;
 
 use anyhow::Result;
 use bt_core::context::Context;
