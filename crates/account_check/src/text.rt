@@ -11,7 +11,7 @@ ghost use Rattle.account_check.specs.Differences.{DifferAt};
 
 use bt_core::memory::Memory;
 use bt_core::step::{Op, Step};
-use map_printer::item_text::print_item;
+use map_printer::item_text::write_item;
 use map_printer::printing::print_end;
 use std::alloc::Global;
 use step_check::check::Told;
@@ -23,16 +23,16 @@ fn write_step(out: &mut Vec<u8>, alloc: Global, script: &Typed, step: &Step) -> 
     ensures { OnOk result (out.new.items ≡
         out.old.items ++ flat_map (item_text script.now.formats script.now.maps) (emitted (step.now ∷ []))) }
 {
-    if let Op::Emit(item) = &step.op {
-        let text = print_item(
+    match &step.op {
+        Op::Emit(item) => write_item(
+            out,
             alloc,
             script.formats.as_slice(),
             script.maps.as_slice(),
             item,
-        )?;
-        out.extend_from_slice(text.as_slice())?;
+        ),
+        _ => Ok(()),
     }
-    Ok(())
 }
 
 /// The texts of what steps emit, one behind the other.

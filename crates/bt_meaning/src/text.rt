@@ -12,26 +12,30 @@ use bt_core::item::{Cell, Item};
 use bt_core::items::Items;
 use bt_core::key::Key;
 use bt_core::memory::Memory;
-use map_printer::item_text::print_item;
+use map_printer::item_text::write_item;
 use map_printer::printing::print_end;
 use std::alloc::Global;
 use step_list::emits::Emitted;
 use typed_tree::script::Typed;
 use weave::woven::Woven;
 
-/// Writes the text of an item.
-fn write_item(out: &mut Vec<u8>, alloc: Global, script: &Typed, item: &Item) -> Result<(), Memory>
+/// Writes the text of an item that was emitted.
+fn write_emitted(
+    out: &mut Vec<u8>,
+    alloc: Global,
+    script: &Typed,
+    item: &Item,
+) -> Result<(), Memory>
     requires { IsItemOf script.now.formats script.now.maps item.now }
     ensures { OnOk result (out.new.items ≡ out.old.items ++ item_text script.now.formats script.now.maps item.now) }
 {
-    let text = print_item(
+    write_item(
+        out,
         alloc,
         script.formats.as_slice(),
         script.maps.as_slice(),
         item,
-    )?;
-    out.extend_from_slice(text.as_slice())?;
-    Ok(())
+    )
 }
 
 /// The texts of items, one behind the other.
@@ -41,7 +45,7 @@ fn texts_of(alloc: Global, script: &Typed, emits: &[Emitted]) -> Result<Vec<u8>,
 {
     let mut text = Vec::new(alloc);
     for emit in emits {
-        write_item(&mut text, alloc, script, emit.item)?;
+        write_emitted(&mut text, alloc, script, emit.item)?;
     }
     Ok(text)
 }

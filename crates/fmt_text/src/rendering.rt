@@ -195,7 +195,7 @@ fn write_piece<'a>(
     }
 }
 
-/// The text of a `printf` call: the format's pieces in their order, each conversion with the text of the
+/// Writes the text of a `printf` call: the format's pieces in their order, each conversion with the text of the
 /// next of the values, of which there are as many, each of the type that its conversion wants.
 ///
 /// `d` and `i` print a number with its sign, `u`, `x` and `X` its 64 bits unsigned, `c` its low 8 bits as
@@ -205,15 +205,33 @@ fn write_piece<'a>(
 ///
 /// # Errors
 ///
+/// [`Memory`] may come at any pieces. After it a part of the text may be written.
+pub fn write_rendered(
+    out: &mut Vec<u8>,
+    alloc: Global,
+    pieces: &[Piece],
+    values: &[Value],
+) -> Result<(), Memory>
+    requires { AreArgumentsOf pieces.now values.now }
+    ensures { OnOk result (out.new.items ≡ out.old.items ++ rendered pieces.now values.now) }
+{
+    let mut rest = values;
+    for piece in pieces {
+        rest = write_piece(out, alloc, piece, rest)?;
+    }
+    Ok(())
+}
+
+/// The text of a `printf` call, as [`write_rendered`] writes it.
+///
+/// # Errors
+///
 /// [`Memory`] may come at any pieces.
 pub fn render(alloc: Global, pieces: &[Piece], values: &[Value]) -> Result<Vec<u8>, Memory>
     requires { AreArgumentsOf pieces.now values.now }
     ensures { IfOk result (λ text. text.items ≡ rendered pieces.now values.now) }
 {
     let mut text = Vec::new(alloc);
-    let mut rest = values;
-    for piece in pieces {
-        rest = write_piece(&mut text, alloc, piece, rest)?;
-    }
+    write_rendered(&mut text, alloc, pieces, values)?;
     Ok(text)
 }

@@ -1,11 +1,10 @@
 // The warnings of lost updates, of a cut loop and of lost events.
-ghost use Rattle.std.specs.Prelude.{◌≡◌, ◌++◌, IfOk, OnOk, codes, decimal};
+ghost use Rattle.std.specs.Prelude.{◌≡◌, ◌++◌, OnOk, codes, decimal};
 ghost use Rattle.map_printer.specs.Ends.{lost_text, warning_text};
 ghost use Rattle.map_printer.specs.ItemTexts.{cut_text, lost_events_text};
 
 use bt_core::memory::Memory;
 use itoa::Buffer;
-use std::alloc::Global;
 
 /// Writes the beginning of a warning, with the number of what was lost.
 fn write_number_lost(out: &mut Vec<u8>, lost: u64) -> Result<(), Memory>
@@ -46,33 +45,27 @@ pub fn write_lost(out: &mut Vec<u8>, name: &[u8], lost: u64) -> Result<(), Memor
     Ok(())
 }
 
-/// The warning that a run was cut at the loop on this line.
+/// Writes the warning that a run was cut at the loop on this line.
 ///
-/// # Errors
-///
-/// [`Memory`] may come at any line.
-pub fn print_cut(alloc: Global, line: u32) -> Result<Vec<u8>, Memory>
-    ensures { IfOk result (λ text. text.items ≡ cut_text line) }
+/// After [`Memory`] a part of it may be written.
+pub fn write_cut(out: &mut Vec<u8>, line: u32) -> Result<(), Memory>
+    ensures { OnOk result (out.new.items ≡ out.old.items ++ cut_text line) }
 {
-    let mut text = Vec::new(alloc);
-    text.extend_from_slice(b"WARNING: loop limit reached at line ")?;
-    text.extend_from_slice(Buffer::new().format(line).as_bytes())?;
-    text.push(b'\n')?;
-    Ok(text)
+    out.extend_from_slice(b"WARNING: loop limit reached at line ")?;
+    out.extend_from_slice(Buffer::new().format(line).as_bytes())?;
+    out.push(b'\n')?;
+    Ok(())
 }
 
-/// The warning that so many events of the CPU of this number were lost.
+/// Writes the warning that so many events of the CPU of this number were lost.
 ///
-/// # Errors
-///
-/// [`Memory`] may come at any numbers.
-pub fn print_lost_events(alloc: Global, cpu: u32, count: u64) -> Result<Vec<u8>, Memory>
-    ensures { IfOk result (λ text. text.items ≡ lost_events_text cpu count) }
+/// After [`Memory`] a part of it may be written.
+pub fn write_lost_events(out: &mut Vec<u8>, cpu: u32, count: u64) -> Result<(), Memory>
+    ensures { OnOk result (out.new.items ≡ out.old.items ++ lost_events_text cpu count) }
 {
-    let mut text = Vec::new(alloc);
-    write_number_lost(&mut text, count)?;
-    text.extend_from_slice(b" events lost on cpu ")?;
-    text.extend_from_slice(Buffer::new().format(cpu).as_bytes())?;
-    text.push(b'\n')?;
-    Ok(text)
+    write_number_lost(out, count)?;
+    out.extend_from_slice(b" events lost on cpu ")?;
+    out.extend_from_slice(Buffer::new().format(cpu).as_bytes())?;
+    out.push(b'\n')?;
+    Ok(())
 }
