@@ -1,6 +1,6 @@
 // The commands as clap reads them: one for each command word, without flags for help or the version.
 ghost use Rattle.std.specs.Prelude.{◌≡◌, IfOk, false};
-ghost use Rattle.clap.specs.Words.{app_of, rule_of};
+ghost use Rattle.clap.specs.Words.{app_of, rule_of, with_rule};
 ghost use Rattle.bt_words.specs.Commands.{account_app, flag_rule, operand_rule, plain_app, run_app, two_app, verify_app, with_operands};
 
 use clap::{Arg, ArgAction, Command};
@@ -10,13 +10,9 @@ use std::alloc::{AllocError, Global};
 pub(crate) fn run_command<'a>(alloc: Global) -> Result<Command<'a>, AllocError>
     ensures { IfOk result (λ command. app_of command ≡ run_app) }
 {
-    let serial = flag(alloc, "serial");
-    let stats = flag(alloc, "stats");
-    let json = flag(alloc, "json");
-    let command = plain_command(alloc, "run")
-        .arg(serial)?
-        .arg(stats)?
-        .arg(json)?;
+    let command = with_flag(alloc, plain_command(alloc, "run"), "serial")?;
+    let command = with_flag(alloc, command, "stats")?;
+    let command = with_flag(alloc, command, "json")?;
     with_operands(alloc, command, "script", "recording")
 }
 
@@ -24,8 +20,7 @@ pub(crate) fn run_command<'a>(alloc: Global) -> Result<Command<'a>, AllocError>
 pub(crate) fn account_command<'a>(alloc: Global) -> Result<Command<'a>, AllocError>
     ensures { IfOk result (λ command. app_of command ≡ account_app) }
 {
-    let serial = flag(alloc, "serial");
-    let command = plain_command(alloc, "account").arg(serial)?;
+    let command = with_flag(alloc, plain_command(alloc, "account"), "serial")?;
     with_operands(alloc, command, "script", "recording")
 }
 
@@ -51,6 +46,17 @@ fn plain_command<'a>(alloc: Global, name: &'a str) -> Command<'a>
     Command::new(alloc, name)
         .disable_help_flag(true)
         .disable_version_flag(true)
+}
+
+/// The command with an option more.
+fn with_flag<'a>(
+    alloc: Global,
+    command: Command<'a>,
+    name: &'a str,
+) -> Result<Command<'a>, AllocError>
+    ensures { IfOk result (λ all. app_of all ≡ with_rule (app_of command.entry) (flag_rule name.entry.now)) }
+{
+    command.arg(flag(alloc, name))
 }
 
 /// The command with two operands more.

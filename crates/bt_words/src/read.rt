@@ -8,6 +8,7 @@ use crate::commands::{account_command, run_command, two_command, verify_command}
 use crate::number::{Numbers, two_numbers};
 use crate::order::{FileName, Order, WordsError};
 use crate::rule::is_admitted;
+use bt_core::beside::beside;
 use clap::{ArgMatches, Command};
 use std::alloc::Global;
 
@@ -95,22 +96,28 @@ fn verify_order(alloc: Global, words: &[String]) -> Result<Order, WordsError>
     })
 }
 
+/// The names that two texts are.
+fn two_names(alloc: Global, first: &str, second: &str) -> Result<(FileName, FileName), WordsError>
+    ensures names { IfOk result (λ names. (names.0 ≡ first.now) × (names.1 ≡ second.now)) }
+    ensures memory { IfErr result (λ error. error ≡ WordsError.Memory) }
+{
+    let first = FileName::of(alloc, first)?;
+    Ok(beside(first, FileName::of(alloc, second))?)
+}
+
 /// The order of a command that takes two operands and no options.
 fn plain_order(alloc: Global, command: &str, operands: Operands<'_>) -> Result<Order, WordsError>
     ensures { IsAnswer (plain_order command.now (operands.entry.first.now ∷ operands.entry.second.now ∷ [])) result }
 {
     let Operands { first, second } = operands;
     if command == "check" {
-        let script = FileName::of(alloc, first)?;
-        let recording = FileName::of(alloc, second)?;
+        let (script, recording) = two_names(alloc, first, second)?;
         Ok(Order::Check { script, recording })
     } else if command == "code" {
-        let script = FileName::of(alloc, first)?;
-        let recording = FileName::of(alloc, second)?;
+        let (script, recording) = two_names(alloc, first, second)?;
         Ok(Order::Code { script, recording })
     } else if command == "vet" {
-        let script = FileName::of(alloc, first)?;
-        let recording = FileName::of(alloc, second)?;
+        let (script, recording) = two_names(alloc, first, second)?;
         Ok(Order::Vet { script, recording })
     } else if command == "gen" {
         let Numbers { x, n } = two_numbers(first, second).ok_or(WordsError::Usage)?;
