@@ -1,6 +1,6 @@
 -- Bytes are one recording or have one fault: a reading that is a function of the bytes goes the same way.
 use Rattle.std.proofs.Common.{◌≡◌, ◌≢◌, ◌⊎◌, ℕ, ◌+◌, ◌-◌, ◌≤◌, Bool, false, cond, ◌||◌, Option, Some, None, Result, Ok, Err, List, [], ◌∷◌, ◌++◌, length, refl, ap, sym, subst, ◌∙◌, append_assoc, arith, inl, inr}
-use Rattle.std.specs.Prelude.{nat_lt, nat_le, ◌&&◌, ◌==◌}
+use Rattle.std.specs.Prelude.{nat_lt, nat_le, ◌&&◌, ◌==◌, IfOk, IfErr}
 use Rattle.std.specs.List.{list_all, list_any, AllByRecursion}
 use Rattle.std.proofs.lemmas.Bool.{le-ltb, ne_eqb, leb-true, and_parts}
 use Rattle.std.proofs.lemmas.List.{append-nil, length-append}
@@ -338,6 +338,18 @@ is_memory fault.Memory = inl refl
 
 abbrev Answer : Type 0
 Answer = Result Recording RecordingError
+
+pub answer_valid : (bytes : List ℕ) (answer : Answer) → Answers answer (IsSpelled bytes) (IsRecordingFault bytes) → IfOk answer IsValidRecording
+answer_valid bytes (Ok x) is = is.valid
+answer_valid bytes (Err e) is = tt
+
+pub answer_spelled : (bytes : List ℕ) (answer : Answer) → Answers answer (IsSpelled bytes) (IsRecordingFault bytes) → IfOk answer (λ r. bytes ≡ recording_bytes r)
+answer_spelled bytes (Ok x) is = is.spelled
+answer_spelled bytes (Err e) is = tt
+
+pub answer_fault : (bytes : List ℕ) (answer : Answer) → Answers answer (IsSpelled bytes) (IsRecordingFault bytes) → IfErr answer (λ e. e ≢ fault.Memory → IsRecordingFault bytes e)
+answer_fault bytes (Ok x) is = tt
+answer_fault bytes (Err e) is = is
 
 pub answer_only : (bytes : List ℕ) (answer : Answer) → IsBytes bytes → Answers answer (IsSpelled bytes) (IsRecordingFault bytes) → (r : Recording) → IsValidRecording r → bytes ≡ recording_bytes r
     → (answer ≡ Ok r) ⊎ (answer ≡ Err fault.Memory)

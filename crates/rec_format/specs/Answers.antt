@@ -34,6 +34,13 @@ pub record IsTable (formats : List Format) (places : BTreeMap ℕ ℕ) (names : 
   pub by_name : (name : List ℕ) → contains (slice_cmp nat_cmp) names name ≡ list_any (λ f. bytes_eq (full_name f) name) formats
   pub systems : AllByRecursion (λ f. IsTrue (has_no_colon f.system)) formats
 
+-- the format of a part that passes its own checks
+pub record IsFormatOf (part : FormatPart) (format : Format) : Type 0 where
+  pub layout : Layout
+  pub made : format ≡ format_of part layout
+  pub system : is_system part.system ≡ true
+  pub read : IsLayoutOf part.text layout
+
 -- these formats, and behind them the one of this part
 pub record AddsFormat (earlier : List Format) (part : FormatPart) (later : List Format) : Type 0 where
   pub layout : Layout

@@ -3,7 +3,7 @@ use Rattle.std.proofs.Common.{◌≡◌, ℕ, ◌+◌, ◌^◌, ◌≤◌, ◌<�
 use Rattle.std.specs.Prelude.{codes, ◌==◌}
 use Rattle.std.specs.List.{slice_split, onto_first, cons_option}
 use Rattle.std.specs.Option.{option_or}
-use Rattle.std.proofs.lemmas.List.{length-map, length-drop, length-append}
+use Rattle.std.proofs.lemmas.List.{append-nil, length-map, length-drop, length-append}
 use Rattle.std.proofs.lemmas.List.Sums.{take_while-cons}
 use Rattle.tracefs_format.specs.declared.error.FormatError.{FormatError}
 use Rattle.tracefs_format.specs.declared.error.FormatError.TheVariants.{NoName, BadId, BadField, Overlong, SameName, Memory}
@@ -28,6 +28,12 @@ read_lines-more line lines h = take_while-cons (λ l. not (is_print_line l)) lin
 
 pub described-cons : (line : List ℕ) (lines : List (List ℕ)) → described (line ∷ lines) ≡ described (line ∷ []) ++ described lines
 described-cons line lines = elim (field_on line) as (λ o. cons_option o (described lines) ≡ cons_option o [] ++ described lines) [ None ↦ refl | Some d ↦ refl ]
+
+-- an empty line passes, and describes nothing
+pub line_empty : (number : ℕ) (table : List Description) (line : List ℕ) → length line ≡ 0 → (line_fault number table line ≡ None) × (table ≡ table ++ described (line ∷ []))
+unfolding field_on
+line_empty number table [] h = (refl, sym (append-nil table))
+line_empty number table (b ∷ bs) h = absurd cc
 
 -- the fault of a line that is read is the first of those that are left
 pub line_fails : (e : FormatError) (number : ℕ) (table : List Description) (line : List ℕ) (lines rest : List (List ℕ)) (whole : Option FormatError) → lines ≡ line ∷ rest → is_print_line line ≡ false

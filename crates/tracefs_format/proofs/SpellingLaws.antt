@@ -175,6 +175,12 @@ field_on-steps : (line : List ℕ) → field_on line ≡ from_first line
 unfolding field_on
 field_on-steps line = refl
 
+-- the parts of a line, each cut off what the one before left
+four_parts : (line first after1 second after2 third after3 fourth after4 : List ℕ) → line ≡ first ++ 59 ∷ after1 → after1 ≡ second ++ 59 ∷ after2 → after2 ≡ third ++ 59 ∷ after3
+    → after3 ≡ fourth ++ 59 ∷ after4 → after4 ≡ [] → line ≡ first ++ (59 ∷ (second ++ (59 ∷ (third ++ (59 ∷ (fourth ++ 59 ∷ []))))))
+four_parts line first after1 second after2 third after3 fourth after4 is1 is2 is3 is4 none =
+    is1 ∙ ap (λ l. first ++ (59 ∷ l)) (is2 ∙ ap (λ l. second ++ (59 ∷ l)) (is3 ∙ ap (λ l. third ++ (59 ∷ l)) (is4 ∙ ap (λ l. fourth ++ 59 ∷ l) none)))
+
 pub field_on-IsFieldLine : (line : List ℕ) (d : Description) → field_on line ≡ Some d → IsFieldLine line d
 field_on-IsFieldLine line d h =
     let cut1 = bind_some (cut_at 59 line) (λ first. labelled (codes "field:") first.0 >>= λ declaration. from_second declaration first.1) d (sym (field_on-steps line) ∙ h) in
@@ -205,7 +211,7 @@ field_on-IsFieldLine line d h =
       second = second.0;
       third = third.0;
       fourth = fourth.0;
-      parts = is1.0 ∙ ap (λ l. first.0 ++ (59 ∷ l)) (is2.0 ∙ ap (λ l. second.0 ++ (59 ∷ l)) (is3.0 ∙ ap (λ l. third.0 ++ (59 ∷ l)) (is4.0 ∙ ap (λ l. fourth.0 ++ 59 ∷ l) none)));
+      parts = four_parts line first.0 first.1 second.0 second.1 third.0 third.1 fourth.0 fourth.1 is1.0 is2.0 is3.0 is4.0 none;
       declaration = declaration;
       declared = spelled1;
       no_semicolon = value_other (codes "field:") declaration first.0 spelled1 is1.1;

@@ -2,11 +2,12 @@
 ghost use Rattle.std.specs.Prelude.{◌≡◌};
 
 use bt_core::memory::Memory as NoMemory;
+use std::fmt;
 use thiserror::Error;
 
 /// Why a format text has no layout: the first rule that it breaks, in the order of its lines. Lines
 /// are counted from 1.
-#[derive(Clone, Copy, PartialEq, Eq, Debug, Error)]
+#[derive(Clone, Copy, PartialEq, Eq, Error)]
 pub enum FormatError {
     /// Line 1 is not `name:` and a name of letters, digits and `_`.
     #[error("F1 no name")]
@@ -26,6 +27,13 @@ pub enum FormatError {
     /// Memory ran out.
     #[error("out of memory")]
     Memory(NoMemory),
+}
+
+// Tests show such an error by its text, so that no second function tells its parts.
+impl fmt::Debug for FormatError {
+    fn fmt<W: fmt::Write>(&self, f: &mut fmt::Formatter<W>) -> fmt::Result {
+        fmt::Display::fmt(self, f)
+    }
 }
 
 impl From<NoMemory> for FormatError {

@@ -80,7 +80,6 @@ fn read_fields(alloc: Global, mut lines: Lines<'_>) -> Result<FieldTable, Format
 }
 
 /// The table with the field that a line describes, if the line is not empty.
-#[tactic(auto, unfolding(crate::specs::Reading::field_on))]
 fn read_line(
     alloc: Global,
     table: FieldTable,

@@ -1,9 +1,10 @@
 // The fields that were read so far, and the names that they have.
-ghost use Rattle.std.specs.Prelude.{◌≡◌, ◌≢◌, ◌||◌, ◌∷◌, [], ◌++◌, ℕ, List, not, IfOk, OnOk, IsTrue, Some};
+ghost use Rattle.std.specs.Prelude.{◌≡◌, ◌≢◌, ◌||◌, ◌∷◌, [], ◌++◌, ℕ, List, map, not, IfOk, OnOk, IsTrue, Some};
 ghost use Rattle.std.specs.Str.{bytes_eq};
 ghost use Rattle.tracefs_format.specs.Kinds.{fits_kind};
 ghost use Rattle.tracefs_format.specs.Described.{described_by};
-ghost use Rattle.tracefs_format.specs.Tables.{Answers, has_name, is_known, IsMadeOf};
+ghost use Rattle.tracefs_format.specs.FieldLines.{description};
+ghost use Rattle.tracefs_format.specs.Tables.{Answers, has_name, is_known, IsMadeOf, IsTable};
 ghost use Rattle.tracefs_format.specs.Layouts.{field_fault};
 
 use crate::error::FormatError;
@@ -22,6 +23,12 @@ use std::marker::Model;
 /// Contracts see what the lines of these fields say.
 #[derive(Drop)]
 pub struct FieldTable {
+    tables: Tables,
+}
+
+/// What a table of fields has. It does not fit together where a field was refused.
+#[derive(Drop)]
+struct Tables {
     fields: Items<Field>,
     names: BTreeSet<Items<u8>>,
     size: u32,
@@ -34,9 +41,9 @@ impl Model for FieldTable {
 
     ghost Value = { List Description };
 
-    ghost view = { λ s. map description s.fields };
+    ghost view = { λ s. map description s.tables.fields };
 
-    ghost invariant = { λ s. IsTable s.fields s.names s.size };
+    ghost invariant = { λ s. IsTable s.tables.fields s.tables.names s.tables.size };
 }
 
 impl FieldTable {
@@ -45,9 +52,11 @@ impl FieldTable {
         ensures { result ≡ [] }
     {
         FieldTable {
-            fields: Items::new(alloc),
-            names: BTreeSet::new(alloc),
-            size: 0,
+            tables: Tables {
+                fields: Items::new(alloc),
+                names: BTreeSet::new(alloc),
+                size: 0,
+            },
         }
     }
 
@@ -62,42 +71,54 @@ impl FieldTable {
         requires { IsTrue (fits_kind line.kind line.size) }
         ensures { Answers result (field_fault number self (Some (described_by line.entry))) (λ table. table ≡ self ++ described_by line.entry ∷ []) }
     {
-        let FieldTable {
-            mut fields,
-            mut names,
-            size,
-        } = self;
-        let end = u64::from(line.offset) + u64::from(line.size);
-        if end > u64::from(LAYOUT_END) {
-            return Err(FormatError::Overlong(number));
-        }
-        if !note_name(alloc, &mut names, line.name)? {
-            return Err(FormatError::SameName(number));
-        }
-        fields.push(Field {
-            name: Items::from_slice(alloc, line.name)?,
-            offset: line.offset,
-            size: line.size,
-            signed: line.signed,
-            kind: line.kind,
-        })?;
-        Ok(FieldTable {
-            fields,
-            names,
-            size: size.max(end as u32),
-        })
+        let FieldTable { mut tables } = self;
+        tables.add(alloc, line, number)?;
+        Ok(FieldTable { tables })
     }
 
     /// The layout of these fields.
     pub fn into_layout(self, name: Items<u8>, id: u16) -> Layout
         ensures { IsMadeOf name id self result }
     {
+        let Tables {
+            fields,
+            names: _names,
+            size,
+        } = self.tables;
         Layout {
             name,
             id,
-            fields: self.fields,
-            size: self.size,
+            fields,
+            size,
         }
+    }
+}
+
+impl Tables {
+    /// Adds the field of a line, or answers why it is refused.
+    fn add(&mut self, alloc: Global, line: FieldLine<'_>, number: u32) -> Result<(), FormatError>
+        requires fits { IsTable self.old.fields self.old.names self.old.size }
+        requires kind { IsTrue (fits_kind line.kind line.size) }
+        ensures answer { Answers result (field_fault number (map description self.old.fields) (Some (described_by line.entry)))
+            (λ _. map description self.new.fields ≡ map description self.old.fields ++ described_by line.entry ∷ []) }
+        ensures table { OnOk result (IsTable self.new.fields self.new.names self.new.size) }
+    {
+        let end = u64::from(line.offset) + u64::from(line.size);
+        if end > u64::from(LAYOUT_END) {
+            return Err(FormatError::Overlong(number));
+        }
+        if !note_name(alloc, &mut self.names, line.name)? {
+            return Err(FormatError::SameName(number));
+        }
+        self.fields.push(Field {
+            name: Items::from_slice(alloc, line.name)?,
+            offset: line.offset,
+            size: line.size,
+            signed: line.signed,
+            kind: line.kind,
+        })?;
+        self.size = self.size.max(end as u32);
+        Ok(())
     }
 }
 
