@@ -1,4 +1,4 @@
-// The parts of a recording at the front of bytes. They are taken apart by `else`, since a `?` is two more calls to prove.
+// The parts of a recording at the front of bytes.
 ghost use Rattle.std.specs.Prelude.{◌≡◌};
 ghost use Rattle.std.specs.Option.{option_map};
 ghost use Rattle.rec_format.specs.Fronts.{bytes_at, header_part, header_at, format_part, format_at, cpu_part, cpu_at, event_part, event_at};
@@ -55,21 +55,11 @@ pub(crate) enum EntryBytes<'b> {
 pub(crate) fn header_at(bytes: &[u8]) -> Option<(Header<'_>, &[u8])>
     ensures { option_map (λ part. (header_part part.0, part.1.now)) result ≡ header_at bytes.now }
 {
-    let Some((magic, bytes)) = bytes_at(bytes, 8) else {
-        return None;
-    };
-    let Some((cpus, bytes)) = u32_at(bytes) else {
-        return None;
-    };
-    let Some((formats, bytes)) = u32_at(bytes) else {
-        return None;
-    };
-    let Some((start, bytes)) = u64_at(bytes) else {
-        return None;
-    };
-    let Some((end, rest)) = u64_at(bytes) else {
-        return None;
-    };
+    let (magic, bytes) = bytes_at(bytes, 8)?;
+    let (cpus, bytes) = u32_at(bytes)?;
+    let (formats, bytes) = u32_at(bytes)?;
+    let (start, bytes) = u64_at(bytes)?;
+    let (end, rest) = u64_at(bytes)?;
     let header = Header {
         magic,
         cpus,
@@ -85,12 +75,8 @@ pub(crate) fn header_at(bytes: &[u8]) -> Option<(Header<'_>, &[u8])>
 pub(crate) fn format_at(bytes: &[u8]) -> Option<(FormatText<'_>, &[u8])>
     ensures { option_map (λ part. (format_part part.0, part.1.now)) result ≡ format_at bytes.now }
 {
-    let Some((system, bytes)) = sized16_at(bytes) else {
-        return None;
-    };
-    let Some((text, rest)) = sized32_at(bytes) else {
-        return None;
-    };
+    let (system, bytes) = sized16_at(bytes)?;
+    let (text, rest) = sized32_at(bytes)?;
     Some((FormatText { system, text }, rest))
 }
 
@@ -99,12 +85,8 @@ pub(crate) fn format_at(bytes: &[u8]) -> Option<(FormatText<'_>, &[u8])>
 pub(crate) fn cpu_at(bytes: &[u8]) -> Option<(CpuHead, &[u8])>
     ensures { option_map (λ part. (cpu_part part.0, part.1.now)) result ≡ cpu_at bytes.now }
 {
-    let Some((number, bytes)) = u32_at(bytes) else {
-        return None;
-    };
-    let Some((entries, rest)) = u32_at(bytes) else {
-        return None;
-    };
+    let (number, bytes) = u32_at(bytes)?;
+    let (entries, rest) = u32_at(bytes)?;
     Some((CpuHead { number, entries }, rest))
 }
 
@@ -125,25 +107,13 @@ fn comm_at(bytes: &[u8]) -> Option<([u8; 16], &[u8])>
 pub(crate) fn event_at(bytes: &[u8]) -> Option<(EventBytes<'_>, &[u8])>
     ensures { option_map (λ part. (event_part part.0, part.1.now)) result ≡ event_at bytes.now }
 {
-    let Some((time, bytes)) = u64_at(bytes) else {
-        return None;
-    };
-    let Some((pid, bytes)) = u32_at(bytes) else {
-        return None;
-    };
-    let Some((tid, bytes)) = u32_at(bytes) else {
-        return None;
-    };
-    let Some((uid, bytes)) = u32_at(bytes) else {
-        return None;
-    };
-    let Some((gid, bytes)) = u32_at(bytes) else {
-        return None;
-    };
+    let (time, bytes) = u64_at(bytes)?;
+    let (pid, bytes) = u32_at(bytes)?;
+    let (tid, bytes) = u32_at(bytes)?;
+    let (uid, bytes) = u32_at(bytes)?;
+    let (gid, bytes) = u32_at(bytes)?;
     let (comm, bytes) = comm_at(bytes)?;
-    let Some((payload, rest)) = sized32_at(bytes) else {
-        return None;
-    };
+    let (payload, rest) = sized32_at(bytes)?;
     let event = EventBytes {
         time,
         pid,
@@ -161,12 +131,8 @@ pub(crate) fn event_at(bytes: &[u8]) -> Option<(EventBytes<'_>, &[u8])>
 pub(crate) fn mark_at(bytes: &[u8]) -> Option<(EntryBytes<'_>, &[u8])>
     ensures { option_map (λ part. (entry_part part.0, part.1.now)) result ≡ mark_at bytes.now }
 {
-    let Some((time, bytes)) = u64_at(bytes) else {
-        return None;
-    };
-    let Some((count, rest)) = u64_at(bytes) else {
-        return None;
-    };
+    let (time, bytes) = u64_at(bytes)?;
+    let (count, rest) = u64_at(bytes)?;
     Some((EntryBytes::Lost { time, count }, rest))
 }
 
@@ -174,9 +140,7 @@ pub(crate) fn mark_at(bytes: &[u8]) -> Option<(EntryBytes<'_>, &[u8])>
 fn plain_at(bytes: &[u8]) -> Option<(EntryBytes<'_>, &[u8])>
     ensures { option_map (λ part. (entry_part part.0, part.1.now)) result ≡ plain_at bytes.now }
 {
-    let Some((event, rest)) = event_at(bytes) else {
-        return None;
-    };
+    let (event, rest) = event_at(bytes)?;
     Some((EntryBytes::Event(event), rest))
 }
 

@@ -80,13 +80,9 @@ impl FormatTable {
     pub fn find(&self, id: u16) -> Option<(u32, &Format)>
         ensures { option_map (λ found. (found.0, found.1.now)) result ≡ format_with id self.now }
     {
-        let Some(place) = self.tables.places.get(&id) else {
-            return None;
-        };
-        let Some(format) = self.tables.formats.get(*place as usize) else {
-            return None;
-        };
-        Some((*place, format))
+        let place = *self.tables.places.get(&id)?;
+        let format = self.tables.formats.get(place as usize)?;
+        Some((place, format))
     }
 
     /// The formats in their order.

@@ -87,36 +87,19 @@ fn flag_after(part: &[u8], label: &[u8]) -> Option<bool>
 }
 
 /// The field that a line describes, or `None` where it is no field line.
-// By `else`, since a `?` is two more calls to prove.
 #[tactic(auto, unfolding(crate::specs::Reading::field_on))]
 pub fn field_on(line: &[u8]) -> Option<FieldLine<'_>>
     ensures field { Finds described_by result (field_on line.now) }
     ensures sized { IfSome result (λ f. IsTrue (fits_kind f.kind f.size)) }
 {
-    let Some((part, rest)) = cut_at(line, b';') else {
-        return None;
-    };
-    let Some(declaration) = labelled(part, b"field:") else {
-        return None;
-    };
-    let Some((part, rest)) = cut_at(rest, b';') else {
-        return None;
-    };
-    let Some(offset) = number_after(part, b"offset:") else {
-        return None;
-    };
-    let Some((part, rest)) = cut_at(rest, b';') else {
-        return None;
-    };
-    let Some(size) = number_after(part, b"size:") else {
-        return None;
-    };
-    let Some((part, rest)) = cut_at(rest, b';') else {
-        return None;
-    };
-    let Some(signed) = flag_after(part, b"signed:") else {
-        return None;
-    };
+    let (part, rest) = cut_at(line, b';')?;
+    let declaration = labelled(part, b"field:")?;
+    let (part, rest) = cut_at(rest, b';')?;
+    let offset = number_after(part, b"offset:")?;
+    let (part, rest) = cut_at(rest, b';')?;
+    let size = number_after(part, b"size:")?;
+    let (part, rest) = cut_at(rest, b';')?;
+    let signed = flag_after(part, b"signed:")?;
     if !rest.is_empty() {
         return None;
     }
