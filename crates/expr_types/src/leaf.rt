@@ -77,7 +77,10 @@ fn whole(value: AnyExpr, place: Place) -> Result<NumExpr, TypeError>
 {
     match value {
         AnyExpr::Num(number) => Ok(number),
-        AnyExpr::Str(_) => Err(wrong_type(place)),
+        AnyExpr::Str(text) => {
+            drop(text);
+            Err(wrong_type(place))
+        }
     }
 }
 
@@ -88,7 +91,10 @@ fn string(value: AnyExpr, place: Place) -> Result<StrExpr, TypeError>
 {
     match value {
         AnyExpr::Str(text) => Ok(text),
-        AnyExpr::Num(_) => Err(wrong_type(place)),
+        AnyExpr::Num(number) => {
+            drop(number);
+            Err(wrong_type(place))
+        }
     }
 }
 
