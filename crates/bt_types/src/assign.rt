@@ -40,7 +40,10 @@ fn whole(value: AnyExpr, place: Place) -> Result<NumExpr, TypeError>
 {
     match value {
         AnyExpr::Num(value) => Ok(value),
-        AnyExpr::Str(_) => Err(broken(Rule::WrongType, place)),
+        AnyExpr::Str(text) => {
+            drop(text);
+            Err(broken(Rule::WrongType, place))
+        }
     }
 }
 

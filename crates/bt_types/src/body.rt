@@ -1,5 +1,7 @@
 // Bodies: a probe with one of its events, or with none.
 ghost use Rattle.std.specs.Prelude.{◌≡◌, IfOk, MatchResult, map};
+ghost use Rattle.std.specs.Option.{option_copied, option_map};
+ghost use Rattle.tracefs_format.specs.declared.format.Format.{Format as FormatValue};
 ghost use Rattle.typed_tree.specs.Bodies.{predicate_parts, tree_parts};
 ghost use Rattle.expr_types.specs.declared.known.Var.{Var as VarValue};
 ghost use Rattle.bt_types.specs.Bodies.{body_told, layout_at, predicate_told};
@@ -69,6 +71,16 @@ fn check_tree(alloc: Global, known: &mut Known, probe: &Probe) -> Result<TypedTr
     })
 }
 
+/// A copy of the layout of a format, where there is one.
+fn layout_of(alloc: Global, format: Option<&Format>) -> Result<Option<Layout>, Memory>
+    ensures { IfOk result (λ layout. layout ≡ option_map (λ (f : FormatValue). f.layout) (option_copied format.entry)) }
+{
+    match format {
+        None => Ok(None),
+        Some(format) => Ok(Some(format.layout.try_copy(alloc)?)),
+    }
+}
+
 /// The layout of the event of a body.
 fn layout_at(alloc: Global, formats: &[Format], point: BodyPoint) -> Result<Option<Layout>, Memory>
     ensures { IfOk result (λ layout. layout ≡ layout_at formats.now point) }
@@ -77,10 +89,7 @@ fn layout_at(alloc: Global, formats: &[Format], point: BodyPoint) -> Result<Opti
         BodyPoint::Begin => Ok(None),
         BodyPoint::End => Ok(None),
         BodyPoint::Interval => Ok(None),
-        BodyPoint::Event(place) => match formats.get(place as usize) {
-            None => Ok(None),
-            Some(format) => Ok(Some(format.layout.try_copy(alloc)?)),
-        },
+        BodyPoint::Event(place) => layout_of(alloc, formats.get(place as usize)),
     }
 }
 

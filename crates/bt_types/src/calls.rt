@@ -1,5 +1,5 @@
 // Calls on maps: `print`, `clear`, `zero` and `delete`.
-ghost use Rattle.std.specs.Prelude.{◌≡◌, ◌≢◌, ◌∷◌, [], Bool, Err, List, IfOk, OnOk, MatchResult, Some, map, not, unsigned_abs};
+ghost use Rattle.std.specs.Prelude.{◌≡◌, ◌≢◌, ◌∷◌, ◌++◌, [], Bool, Err, List, IfOk, OnOk, MatchResult, Some, map, not, unsigned_abs};
 ghost use Rattle.typed_tree.specs.Parts.{Made, delete_parts, key_shapes, made_of, stmt_parts};
 ghost use Rattle.expr_types.specs.declared.fault.Rule.TheVariants.{WrongType};
 ghost use Rattle.expr_types.specs.declared.fault.TypeError.TheVariants.{Memory as NoMemory};
@@ -16,6 +16,7 @@ use bt_ast::expr::{Expr, MapRef};
 use bt_core::beside::beside;
 use bt_core::items::Items;
 use bt_core::map::MapId;
+use bt_core::memory::Memory;
 use bt_core::place::Place;
 use expr_types::expr::{check_expr, check_key};
 use expr_types::fault::{Rule, TypeError};
@@ -138,6 +139,15 @@ pub(crate) fn check_delete(
     check_removed(alloc, known, &map.name, map.place, keyed, place)
 }
 
+/// A map and a key with one part more.
+fn with_part(keyed: Keyed, part: AnyExpr) -> Result<Keyed, Memory>
+    ensures { IfOk result (λ all. (all.map ≡ keyed.map) × (all.keys ≡ keyed.keys ++ part ∷ [])) }
+{
+    let Keyed { map, mut keys } = keyed;
+    keys.push(part)?;
+    Ok(Keyed { map, keys })
+}
+
 /// `delete(map, key)`.
 pub(crate) fn check_delete_key(
     alloc: Global,
@@ -150,7 +160,7 @@ pub(crate) fn check_delete_key(
 {
     let keyed = check_key(alloc, known, map)?;
     let key = check_expr(alloc, known, key);
-    let (mut keyed, key) = beside(keyed, key)?;
-    keyed.keys.push(key)?;
+    let (keyed, key) = beside(keyed, key)?;
+    let keyed = with_part(keyed, key)?;
     check_removed(alloc, known, &map.name, map.place, keyed, place)
 }

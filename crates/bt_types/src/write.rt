@@ -9,6 +9,7 @@ ghost use Rattle.expr_types.specs.Judge.{Refuses};
 ghost use Rattle.expr_types.specs.Rules.{breaks, has_other_keys, is_agg_in, is_one_too_many, write_breaks};
 ghost use Rattle.expr_types.specs.declared.fault.Rule.TheVariants.{OtherKeys, TooManyMaps, WrongType};
 
+use bt_core::beside::beside;
 use bt_core::items::Items;
 use bt_core::map::{MapKind, Shape};
 use bt_core::place::Place;
@@ -104,6 +105,24 @@ pub(crate) fn check_shared(known: &Known, name: &Items<u8>, place: Place) -> Res
     Ok(())
 }
 
+/// A mention of a map of which a key of these types is deleted, where it has no other keys.
+fn mention_keys(
+    alloc: Global,
+    known: &mut Known,
+    name: &Items<u8>,
+    shapes: &Items<Shape>,
+    place: Place,
+) -> Result<(), TypeError>
+    ensures refuses { Refuses (breaks (has_other_keys known.old name.now shapes.now) OtherKeys) place result }
+    ensures learned { OnOk result (known.new ≡ with_mention known.old name.now) }
+{
+    if has_other_keys(known, name.as_slice(), shapes.as_slice()) {
+        return Err(broken(Rule::OtherKeys, place));
+    }
+    known.mention(alloc, name)?;
+    Ok(())
+}
+
 /// A mention of a map of which a key of these parts is deleted: a map that is not decided holds whole numbers.
 pub(crate) fn remove(
     alloc: Global,
@@ -116,10 +135,8 @@ pub(crate) fn remove(
     ensures learned { OnOk result (known.new ≡ decides known.old name.now Ints (key_shapes (map made_of keys.now))) }
 {
     let shapes = shapes(alloc, keys.as_slice())?;
-    if has_other_keys(known, name.as_slice(), shapes.as_slice()) {
-        return Err(broken(Rule::OtherKeys, place));
-    }
-    known.mention(alloc, name)?;
+    let mentioned = mention_keys(alloc, known, name, &shapes, place);
+    let (shapes, ()) = beside(shapes, mentioned)?;
     known.decide(alloc, name, MapKind::Ints, shapes)?;
     Ok(())
 }

@@ -77,7 +77,10 @@ fn whole(value: AnyExpr, place: Place) -> Result<NumExpr, TypeError>
 {
     match value {
         AnyExpr::Num(number) => Ok(number),
-        AnyExpr::Str(_) => Err(wrong_type(place)),
+        AnyExpr::Str(text) => {
+            drop(text);
+            Err(wrong_type(place))
+        }
     }
 }
 
@@ -88,7 +91,10 @@ fn string(value: AnyExpr, place: Place) -> Result<StrExpr, TypeError>
 {
     match value {
         AnyExpr::Str(text) => Ok(text),
-        AnyExpr::Num(_) => Err(wrong_type(place)),
+        AnyExpr::Num(number) => {
+            drop(number);
+            Err(wrong_type(place))
+        }
     }
 }
 
@@ -139,6 +145,22 @@ fn equality(op: BinOp, place: Place) -> Result<bool, TypeError>
     }
 }
 
+/// Two strings with an operator between them.
+fn compare(
+    alloc: Global,
+    op: BinOp,
+    left: StrExpr,
+    right: StrExpr,
+    place: Place,
+) -> Result<AnyExpr, TypeError>
+    ensures refuses { Refuses (joined_breaks op Str Str) place result }
+    ensures made { IfOk result (λ e. made_of e ≡ made Int (Joined op ∷ (str_parts left ++ str_parts right))) }
+{
+    let ((left, right), equal) = beside((left, right), equality(op, place))?;
+    let (left, right) = boxed_two(alloc, left, right)?;
+    Ok(AnyExpr::Num(NumExpr::Compare { equal, left, right }))
+}
+
 /// A string and a second operand with an operator between them.
 fn binary_string(
     alloc: Global,
@@ -151,9 +173,7 @@ fn binary_string(
     ensures made { IfOk result (λ e. made_of e ≡ made Int (Joined op ∷ (str_parts left ++ (made_of right).parts))) }
 {
     let (left, right) = beside(left, string(right, place))?;
-    let ((left, right), equal) = beside((left, right), equality(op, place))?;
-    let (left, right) = boxed_two(alloc, left, right)?;
-    Ok(AnyExpr::Num(NumExpr::Compare { equal, left, right }))
+    compare(alloc, op, left, right, place)
 }
 
 /// Two operands with an operator between them: whole numbers, or for `==` and `!=` two values of one type.
@@ -173,6 +193,15 @@ fn binary(
     }
 }
 
+/// Two whole numbers, where no other type may stand.
+fn both_whole(left: AnyExpr, right: AnyExpr, place: Place) -> Result<(NumExpr, NumExpr), TypeError>
+    ensures refuses { Refuses (both_break (made_of left).shape (made_of right).shape) place result }
+    ensures same { IfOk result (λ both. (made_of left ≡ made Int (num_parts both.0)) × (made_of right ≡ made Int (num_parts both.1))) }
+{
+    let (right, left) = beside(right, whole(left, place))?;
+    beside(left, whole(right, place))
+}
+
 /// Two operands of which the second is evaluated where the first asks for it: `&&` where `both`, otherwise `||`.
 fn logical(
     alloc: Global,
@@ -184,8 +213,7 @@ fn logical(
     ensures refuses { Refuses (both_break (made_of left).shape (made_of right).shape) place result }
     ensures made { IfOk result (λ e. made_of e ≡ made Int (logical_part both ∷ ((made_of left).parts ++ (made_of right).parts))) }
 {
-    let (right, left) = beside(right, whole(left, place))?;
-    let (left, right) = beside(left, whole(right, place))?;
+    let (left, right) = both_whole(left, right, place)?;
     let (left, right) = boxed_two(alloc, left, right)?;
     if both {
         Ok(AnyExpr::Num(NumExpr::AndThen { left, right }))

@@ -13,6 +13,7 @@ ghost use Rattle.expr_types.specs.Maps.{kind_held, read_made};
 use crate::fault::TypeError;
 use crate::known::Known;
 use crate::rules::{read_breaks, refuse, write_breaks};
+use bt_core::beside::beside;
 use bt_core::items::Items;
 use bt_core::map::{MapDecl, MapId, MapKind, Shape};
 use bt_core::memory::Memory;
@@ -60,17 +61,18 @@ fn value_of(kind: MapKind, keyed: Keyed) -> AnyExpr
     }
 }
 
-/// A mention that decides that a map holds whole numbers, where nothing is decided.
+/// A mention that decides that a map holds whole numbers, where nothing is decided, with a key of these parts.
 fn read_mention(
     alloc: Global,
     known: &mut Known,
     name: &Items<u8>,
-    shapes: Items<Shape>,
+    keys: &Items<AnyExpr>,
     place: Place,
 ) -> Result<(), TypeError>
-    ensures refuses { Refuses (read_breaks known.old name.now shapes) place result }
-    ensures learned { OnOk result (known.new ≡ decides known.old name.now Ints shapes) }
+    ensures refuses { Refuses (read_breaks known.old name.now (key_shapes (map made_of keys.now))) place result }
+    ensures learned { OnOk result (known.new ≡ decides known.old name.now Ints (key_shapes (map made_of keys.now))) }
 {
+    let shapes = shapes(alloc, keys.as_slice())?;
     refuse(
         read_breaks(known, name.as_slice(), shapes.as_slice()),
         place,
@@ -92,8 +94,8 @@ pub fn read(
     ensures learned { OnOk result (known.new ≡ decides known.old name.now Ints (key_shapes (map made_of keyed.keys))) }
     ensures made { IfOk result (λ e. made_of e ≡ read_made (kind_held (decl_in name.now known.new.decided)) keyed.map.0 (map made_of keyed.keys)) }
 {
-    let shapes = shapes(alloc, keyed.keys.as_slice())?;
-    read_mention(alloc, known, name, shapes, place)?;
+    let mentioned = read_mention(alloc, known, name, &keyed.keys, place);
+    let (keyed, ()) = beside(keyed, mentioned)?;
     Ok(value_of(kind_held(known.decl(name.as_slice())), keyed))
 }
 
@@ -119,6 +121,21 @@ pub fn write(
     Ok(())
 }
 
+/// A mention that decides that a map holds whole numbers, with a key of these parts.
+fn step_mention(
+    alloc: Global,
+    known: &mut Known,
+    name: &Items<u8>,
+    keys: &Items<AnyExpr>,
+    place: Place,
+) -> Result<(), TypeError>
+    ensures refuses { Refuses (write_breaks known.old name.now Ints (key_shapes (map made_of keys.now))) place result }
+    ensures learned { OnOk result (known.new ≡ decides known.old name.now Ints (key_shapes (map made_of keys.now))) }
+{
+    let shapes = shapes(alloc, keys.as_slice())?;
+    write(alloc, known, name, MapKind::Ints, shapes, place)
+}
+
 /// `++` or `--` of a map.
 pub fn step(
     alloc: Global,
@@ -133,9 +150,8 @@ pub fn step(
     ensures learned { OnOk result (known.new ≡ decides known.old name.now Ints (key_shapes (map made_of keyed.keys))) }
     ensures made { IfOk result (λ n. num_parts n ≡ (Stepped plus prefix ∷ keyed_parts keyed.map.0 (map made_of keyed.keys) Int)) }
 {
-    let shapes = shapes(alloc, keyed.keys.as_slice())?;
-    write(alloc, known, name, MapKind::Ints, shapes, place)?;
-    let Keyed { map, keys } = keyed;
+    let mentioned = step_mention(alloc, known, name, &keyed.keys, place);
+    let (Keyed { map, keys }, ()) = beside(keyed, mentioned)?;
     Ok(NumExpr::StepMap {
         map,
         keys,

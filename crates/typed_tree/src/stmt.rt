@@ -15,7 +15,6 @@ pub enum Jump {
 
 /// A typed statement.
 #[cycle(typed_block)]
-#[derive(Drop)]
 pub enum TypedStmt {
     /// `$var = value`.
     SetVar {
@@ -86,6 +85,73 @@ pub enum TypedStmt {
         block: TypedBlock,
         line: u32,
     },
+}
+
+// Written out, so that it is one call wherever such a value is let go.
+impl Drop for TypedStmt {
+    #[cycle(typed_block)]
+    fn drop(self) {
+        match self {
+            TypedStmt::SetVar { var: _, value } => drop(value),
+            TypedStmt::SetMap {
+                map: _,
+                keys,
+                value,
+            } => {
+                drop(keys);
+                drop(value);
+            }
+            TypedStmt::UpdateVar {
+                var: _,
+                op: _,
+                value,
+            } => drop(value),
+            TypedStmt::UpdateMap {
+                map: _,
+                keys,
+                op: _,
+                value,
+            } => {
+                drop(keys);
+                drop(value);
+            }
+            TypedStmt::Gather {
+                map: _,
+                keys,
+                kind: _,
+                number,
+            } => {
+                drop(keys);
+                drop(number);
+            }
+            TypedStmt::Step(value) => drop(value),
+            TypedStmt::Printf { format: _, values } => drop(values),
+            TypedStmt::Print {
+                map: _,
+                top: _,
+                div: _,
+            } => {}
+            TypedStmt::Clear(_) | TypedStmt::Zero(_) | TypedStmt::Jump(_) => {}
+            TypedStmt::Delete { map: _, keys } => drop(keys),
+            TypedStmt::If { arms, otherwise } => {
+                drop(arms);
+                drop(otherwise);
+            }
+            TypedStmt::While {
+                condition,
+                block,
+                line: _,
+            } => {
+                drop(condition);
+                drop(block);
+            }
+            TypedStmt::Unroll {
+                turns: _,
+                block,
+                line: _,
+            } => drop(block),
+        }
+    }
 }
 
 /// Typed statements in braces.

@@ -30,9 +30,10 @@ returns c =
     let placed = ap (λ (s : MapSeen). s.place) (map_is m) in
     let keyed = c.in_ok-keyed-2.keyed in
     let key = c.in_ok-keyed-2.key in
-    let went : KeyChecked (of_map m) c.args.known.now c.check_key.new.known keyed.map.0 (map made_of keyed.keys) = rw c.in_ok-keyed-2.ensures.0 c.in_ok-keyed.ensures in
+    let all = c.in_ok-keyed-3.keyed in
+    let went : KeyChecked (of_map m) c.args.known.now c.check_key.new.known all.map.0 (map made_of keyed.keys) = rw (c.in_ok-keyed-3.ensures.0, c.in_ok-keyed-2.ensures.0) c.in_ok-keyed.ensures in
     let checked = MatchResult-at_ok _ _ key c.in_ok-keyed-2.ensures.1 c.check_expr-key.ensures in
-    let e : map made_of c.push.new.self ≡ map made_of keyed.keys ++ made_of key ∷ [] = ap (λ (l : List AnyExpr). map made_of l) c.in_ok-push.ensures.ok ∙ map_more made_of keyed.keys key in
-    delete_with (of_map m) (of_expr c.args.key.now) c.args.place c.args.known.now c.check_key.new.known c.check_expr-key.new.known c.check_removed.new.known keyed.map.0
-    (map made_of keyed.keys) (made_of key) (map made_of c.push.new.self) c.check_removed.result went checked e
+    let e : map made_of all.keys ≡ map made_of keyed.keys ++ made_of key ∷ [] = ap (λ (l : List AnyExpr). map made_of l) c.in_ok-keyed-3.ensures.1 ∙ map_more made_of keyed.keys key in
+    delete_with (of_map m) (of_expr c.args.key.now) c.args.place c.args.known.now c.check_key.new.known c.check_expr-key.new.known c.check_removed.new.known all.map.0
+    (map made_of keyed.keys) (made_of key) (map made_of all.keys) c.check_removed.result went checked e
     (λ sorts h. rw (named, placed) (c.check_removed.ensures.says sorts h)) (rw named c.check_removed.ensures.removed) c.check_removed.ensures.made
