@@ -71,7 +71,7 @@ pub struct Expr {
 
 /// What an expression is.
 #[cycle(expr)]
-#[derive(PartialEq, Drop)]
+#[derive(PartialEq)]
 pub enum ExprKind {
     /// A number of 64 bits. One from 2^63 on stands as the signed number with the same bits.
     Number(i64),
@@ -113,4 +113,34 @@ pub enum ExprKind {
         yes: Boxed<Expr>,
         no: Boxed<Expr>,
     },
+}
+
+// Written out, so that it is one call wherever such a value is let go.
+impl Drop for ExprKind {
+    #[cycle(expr)]
+    fn drop(self) {
+        match self {
+            ExprKind::Number(_) | ExprKind::Builtin(_) => {}
+            ExprKind::Text(text) => drop(text),
+            ExprKind::Field {
+                name,
+                name_place: _,
+            } => drop(name),
+            ExprKind::Var(var) => drop(var),
+            ExprKind::Map(map) => drop(map),
+            ExprKind::Step(step) => drop(step),
+            ExprKind::Paren(value) | ExprKind::Unary { op: _, value } => drop(value),
+            ExprKind::Binary { op: _, left, right }
+            | ExprKind::AndThen { left, right }
+            | ExprKind::OrElse { left, right } => {
+                drop(left);
+                drop(right);
+            }
+            ExprKind::Choose { condition, yes, no } => {
+                drop(condition);
+                drop(yes);
+                drop(no);
+            }
+        }
+    }
 }

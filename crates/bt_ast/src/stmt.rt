@@ -60,7 +60,7 @@ pub struct Stmt {
 
 /// What a statement is.
 #[cycle(block)]
-#[derive(PartialEq, Drop)]
+#[derive(PartialEq)]
 pub enum StmtKind {
     /// `map = agg`, where the aggregation's word stands at `agg_place`.
     SetAgg {
@@ -112,4 +112,60 @@ pub enum StmtKind {
         turns: i64,
         block: Block,
     },
+}
+
+// Written out, so that it is one call wherever such a value is let go.
+impl Drop for StmtKind {
+    #[cycle(block)]
+    fn drop(self) {
+        match self {
+            StmtKind::SetAgg {
+                map,
+                agg,
+                agg_place: _,
+            } => {
+                drop(map);
+                drop(agg);
+            }
+            StmtKind::Assign {
+                target,
+                op: _,
+                value,
+            } => {
+                drop(target);
+                drop(value);
+            }
+            StmtKind::Step(step) => drop(step),
+            StmtKind::Printf {
+                format,
+                format_place: _,
+                values,
+            } => {
+                drop(format);
+                drop(values);
+            }
+            StmtKind::Print {
+                map,
+                top: _,
+                div: _,
+            }
+            | StmtKind::Clear(map)
+            | StmtKind::Zero(map)
+            | StmtKind::Delete(map) => drop(map),
+            StmtKind::DeleteKey { map, key } => {
+                drop(map);
+                drop(key);
+            }
+            StmtKind::Exit | StmtKind::Break | StmtKind::Continue | StmtKind::Return => {}
+            StmtKind::If { arms, otherwise } => {
+                drop(arms);
+                drop(otherwise);
+            }
+            StmtKind::While { condition, block } => {
+                drop(condition);
+                drop(block);
+            }
+            StmtKind::Unroll { turns: _, block } => drop(block),
+        }
+    }
 }
