@@ -5,7 +5,7 @@ use Rattle.std.specs.List.{AllByRecursion}
 use Rattle.bpf_encode.specs.declared.program.Program.{Program}
 use Rattle.bpf_encode.proofs.CodeLemmas.{length-code_bytes}
 use Rattle.bt_ast.specs.declared.attached.BodyId.{BodyId}
-use Rattle.program_codes.specs.Programs.{KeepScript, KeepsItsBody}
+use Rattle.code_bodies.specs.Programs.{KeepScript, KeepsItsBody}
 use Rattle.typed_tree.specs.declared.body.TypedBody.{TypedBody}
 use Rattle.typed_tree.specs.declared.script.Typed.{Typed}
 use Rattle.bt_judge.specs.Doing.{CanBeListed}

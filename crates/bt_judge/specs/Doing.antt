@@ -8,7 +8,7 @@ use Rattle.bt_ast.specs.declared.probe.Script.{Script as Tree}
 use Rattle.bt_core.specs.declared.place.Place.{Place}
 use Rattle.rec_format.specs.declared.recording.Recording.{Recording as Recorded}
 use Rattle.script_programs.specs.declared.error.SizeFault.{SizeFault}
-use Rattle.program_codes.specs.Programs.{KeepScript}
+use Rattle.code_bodies.specs.Programs.{KeepScript}
 use Rattle.script_programs.specs.Sizes.{first_size_fault}
 use Rattle.typed_tree.specs.declared.script.Typed.{Typed}
 use Rattle.bt_judge.specs.declared.files.AccountJob.{AccountJob}

@@ -4,7 +4,7 @@ use Rattle.bt_ast.specs.declared.probe.Script.{Script as Tree}
 use Rattle.bt_attach.specs.Attaching.{IsAttachedTo}
 use Rattle.bt_types.specs.Script.{IsTypedScript}
 use Rattle.run_base.specs.declared.job.Job.{Job}
-use Rattle.program_codes.specs.Programs.{KeepScript}
+use Rattle.code_bodies.specs.Programs.{KeepScript}
 use Rattle.script_programs.specs.Sizes.{first_size_fault}
 use Rattle.bt_judge.specs.Due.{AreShort, IsRecording, IsAcceptedScript}
 use Rattle.bt_judge.specs.Meanings.{Meaning}

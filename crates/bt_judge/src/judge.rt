@@ -7,6 +7,7 @@ ghost use Rattle.rec_format.specs.Recordings.{IsValidRecording};
 ghost use Rattle.bt_judge.specs.Doing.{IsExact, IsFaultRefusal, IsScriptRefusal, refusal_in};
 ghost use Rattle.bt_judge.specs.Jobs.{AsksFor, IsJobOf};
 
+use crate::laws::scripts_have_one_size;
 use crate::refusal::{Refusal, recording_refusal};
 use crate::script::{attach_refusal, tree_of, type_refusal};
 use crate::sizes::programs_for;
@@ -81,7 +82,7 @@ pub(crate) fn judge(alloc: Global, script: &[u8], recording: Vec<u8>) -> Result<
     rec_format::laws::one_fault();
     bt_lexer::laws::one_answer();
     bt_grammar::laws::one_answer();
-    size_laws::laws::scripts_have_one_size();
+    scripts_have_one_size();
     bt_job::laws::accepted_scripts_are_jobs();
     accept(alloc, script, recording)
 }

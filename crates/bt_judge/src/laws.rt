@@ -1,6 +1,12 @@
-// The law on the meaning of files.
+// The laws on the meaning of files, and on the sizes of typed scripts.
 ghost use Rattle.std.specs.Prelude.{◌≡◌, List, ℕ};
+ghost use Rattle.bt_ast.specs.declared.attached.BodyId.{BodyId};
+ghost use Rattle.bt_ast.specs.declared.probe.Script.{Script};
+ghost use Rattle.bt_types.specs.Script.{IsTypedScript};
 ghost use Rattle.run_base.specs.declared.job.Job.{Job};
+ghost use Rattle.script_programs.specs.Sizes.{first_size_fault};
+ghost use Rattle.tracefs_format.specs.declared.format.Format.{Format};
+ghost use Rattle.typed_tree.specs.declared.script.Typed.{Typed};
 ghost use Rattle.bt_judge.specs.Jobs.{IsJobFor, meaning_in};
 ghost use Rattle.bt_judge.specs.Meanings.{IsMeaningFor, Meaning};
 ghost use Rattle.bt_judge.specs.Orders.{OperandFile};
@@ -19,3 +25,12 @@ pub fn files_have_one_meaning()
     bt_attach::laws::attachments_are_one();
     typing_laws::laws::scripts_have_one_typing();
 }
+
+/// Of all typed scripts of one script over the same formats and bodies the same body, if any, is the first that needs too large a
+/// frame or too large a code, and it needs as many bytes or slots in each: the fault is a function of the script and of what it is
+/// attached to. The formats may be any.
+pub fn scripts_have_one_size()
+    ensures { (script : Script) (formats : List Format) (bodies : List BodyId) (one other : Typed) →
+        IsTypedScript script formats bodies one → IsTypedScript script formats bodies other →
+        first_size_fault 0 one.bodies ≡ first_size_fault 0 other.bodies }
+{}

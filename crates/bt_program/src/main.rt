@@ -2,7 +2,7 @@
 #![tactic(auto)]
 
 use bt_io::real::{FileShelf, StdSink};
-use bt_main::call::status_of_call;
+use bt_top::call::status_of_call;
 use std::process::ExitCode;
 
 /// Does what the words ask for over the files of the system, and ends with its status.

@@ -49,7 +49,7 @@ use Rattle.bpf_insn.specs.declared.insn.Insn.{Insn}
 use Rattle.replay_laws.specs.Agree.{AllReplies}
 use Rattle.replay_laws.specs.HeldReplies.{IsHeldReply}
 use Rattle.code_bodies.specs.Coding.{code_replay, coding}
-use Rattle.program_codes.specs.Programs.{AreCodesOf}
+use Rattle.code_bodies.specs.Programs.{AreCodesOf}
 use Rattle.step_list.specs.declared.list.StepList.{StepList}
 use Rattle.step_list.specs.Lists.{steps_in}
 use Rattle.weave.specs.Listed.{listed}

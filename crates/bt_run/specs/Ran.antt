@@ -11,7 +11,7 @@ use Rattle.bt_meaning.specs.Serial.{serial_steps, unstamped}
 use Rattle.bt_meaning.specs.Texts.{EmitOwn}
 use Rattle.bt_meaning.specs.Walks.{replay_of}
 use Rattle.code_bodies.specs.Coding.{code_replay}
-use Rattle.program_codes.specs.Programs.{AreCodesOf}
+use Rattle.code_bodies.specs.Programs.{AreCodesOf}
 use Rattle.run_base.specs.declared.job.Job.{Job}
 use Rattle.run_base.specs.Jobs.{cpus_in, world_for}
 use Rattle.run_output.specs.declared.form.Form.{Form}

@@ -30,7 +30,7 @@ use Rattle.run_output.specs.declared.form.Form.TheVariants.{Text}
 use Rattle.rec_format.specs.declared.recording.Recording.{Recording as Recorded}
 use Rattle.rec_format.specs.Recordings.{IsValidRecording}
 use Rattle.rec_gen.specs.Made.{IsMade}
-use Rattle.program_codes.specs.Programs.{KeepScript}
+use Rattle.code_bodies.specs.Programs.{KeepScript}
 use Rattle.total_laws.specs.Ends.{EndsWithTotals, IsAddingRun}
 use Rattle.typed_tree.specs.declared.script.Typed.{Typed}
 use Rattle.bt_judge.specs.declared.refusal.Denial.{Denial}

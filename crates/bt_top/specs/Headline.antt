@@ -23,7 +23,7 @@ use Rattle.run_laws.specs.Reads.{AddsAreOwn, ReadsSeeBeginnings}
 use Rattle.run_output.specs.declared.form.Form.{Form}
 use Rattle.run_output.specs.declared.form.Form.TheVariants.{Text}
 use Rattle.run_output.specs.Outputs.{output_of}
-use Rattle.program_codes.specs.Programs.{AreCodesOf, KeepScript}
+use Rattle.code_bodies.specs.Programs.{AreCodesOf, KeepScript}
 use Rattle.total_laws.specs.Ends.{EndsWithTotals, HaveFewKeys}
 use Rattle.bt_judge.specs.Lines.{SinkUse}
 use Rattle.bt_judge.specs.Meanings.{Meaning, IsMeaningFor, replay_by}

@@ -2,7 +2,7 @@
 ghost use Rattle.std.specs.Prelude.{◌≡◌, ◌≢◌, Err, IfOk, OnOk};
 ghost use Rattle.bt_core.specs.Want.{out_of_memory};
 ghost use Rattle.bt_meaning.specs.Jobs.{IsJob};
-ghost use Rattle.program_codes.specs.Programs.{KeepScript};
+ghost use Rattle.code_bodies.specs.Programs.{KeepScript};
 ghost use Rattle.account_format.specs.declared.error.AccountError.TheVariants as wrong;
 ghost use Rattle.bt_top.specs.Outcomes.{account_with, IsOutcomeOfAccount, IsOutcomeOfVerify, verified_line, verify_outcome};
 

@@ -8,7 +8,7 @@ ghost use Rattle.bt_words.specs.Words.{AreBounded};
 ghost use Rattle.bt_judge.specs.Jobs.{AsksFor};
 ghost use Rattle.bt_top.specs.Jobs.{IsBigJob};
 ghost use Rattle.bt_top.specs.Outcomes.{ComesTo, IsOutcomeOfRun, run_outcome, summary_line};
-ghost use Rattle.program_codes.specs.Programs.{KeepScript};
+ghost use Rattle.code_bodies.specs.Programs.{KeepScript};
 ghost use Rattle.run_output.specs.declared.form.Form.TheVariants.{Text};
 
 use crate::outcome::Outcome;
@@ -56,7 +56,7 @@ fn big_script_job(alloc: Global, x: u32, n: u32, recording: Recording) -> Result
     big_script::laws::script_is_accepted();
     bt_lexer::laws::one_answer();
     bt_grammar::laws::one_answer();
-    size_laws::laws::scripts_have_one_size();
+    bt_judge::laws::scripts_have_one_size();
     script_job(alloc, &SCRIPT, recording)
 }
 

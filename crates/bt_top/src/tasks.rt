@@ -2,7 +2,7 @@
 ghost use Rattle.std.specs.Prelude.{◌≡◌, ◌≤◌, length, IfOk};
 ghost use Rattle.bt_meaning.specs.Jobs.{IsJob};
 ghost use Rattle.bt_words.specs.Words.{HasBounds};
-ghost use Rattle.program_codes.specs.Programs.{KeepScript};
+ghost use Rattle.code_bodies.specs.Programs.{KeepScript};
 ghost use Rattle.bt_judge.specs.Doing.{ComesOfFiles, refusal_in};
 ghost use Rattle.bt_judge.specs.FailedNames.{FailsNamed};
 ghost use Rattle.bt_judge.specs.Orders.{files_of, on_account, on_script};

@@ -1,7 +1,7 @@
 // The work of a job.
 ghost use Rattle.std.specs.Prelude.{◌≡◌, IfOk};
 ghost use Rattle.bt_meaning.specs.Jobs.{IsJob};
-ghost use Rattle.program_codes.specs.Programs.{KeepScript};
+ghost use Rattle.code_bodies.specs.Programs.{KeepScript};
 ghost use Rattle.bt_top.specs.Jobs.{IsWorkOf};
 
 use bpf_encode::program::Program;

@@ -2,3 +2,4 @@ mod Counting
 mod Few
 mod Means
 mod Seen
+pub mod ProgramCodes

@@ -3,3 +3,4 @@ pub mod Coding
 pub mod Kept
 pub mod Running
 pub mod Serving
+pub mod Programs

@@ -18,7 +18,7 @@ use Rattle.typed_tree.specs.declared.body.TypedBody.{TypedBody}
 use Rattle.typed_tree.specs.declared.script.Typed.{Typed}
 use Rattle.script_programs.specs.declared.error.SizeFault.{SizeFault}
 use Rattle.script_programs.specs.Making.{IsMade, AreMade}
-use Rattle.program_codes.specs.Programs.{KeepScript}
+use Rattle.code_bodies.specs.Programs.{KeepScript}
 use Rattle.script_programs.specs.Sizes.{first_size_fault, or_else, too_large}
 
 -- ---- one program more

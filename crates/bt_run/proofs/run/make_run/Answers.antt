@@ -5,7 +5,7 @@ use Rattle.bpf_insn.specs.declared.insn.Insn.{Insn}
 use Rattle.bt_core.specs.declared.step.Step.{Step}
 use Rattle.step_list.specs.Lists.{steps_in}
 use Rattle.code_bodies.specs.Coding.{CanRunCode, coding}
-use Rattle.program_codes.specs.Programs.{AreCodesOf, KeepScript}
+use Rattle.code_bodies.specs.Programs.{AreCodesOf, KeepScript}
 use Rattle.run_base.specs.Jobs.{cpus_in}
 use Rattle.bt_run.specs.Made.{IsMade}
 use Rattle.run_base.proofs.CodeLemmas.{few_slots, jobs_run}

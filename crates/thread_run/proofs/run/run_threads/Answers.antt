@@ -3,7 +3,7 @@ use Rattle.std.specs.List.{AllByRecursion}
 use Rattle.bpf_insn.specs.declared.insn.Insn.{Insn}
 use Rattle.bt_meaning.specs.Instructions.{instructions_of}
 use Rattle.code_bodies.specs.Coding.{CanRunCode, code_replay, coding}
-use Rattle.program_codes.specs.Programs.{AreCodesOf, KeepScript}
+use Rattle.code_bodies.specs.Programs.{AreCodesOf, KeepScript}
 use Rattle.run_base.specs.Jobs.{cpus_in}
 use Rattle.run_base.proofs.CodeLemmas.{few_slots, jobs_run}
 use Rattle.thread_run.specs.Made.{IsMade}

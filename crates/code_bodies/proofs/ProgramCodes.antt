@@ -12,7 +12,7 @@ use Rattle.typed_tree.specs.declared.body.TypedBody.{TypedBody}
 use Rattle.typed_tree.specs.declared.script.Typed.{Typed}
 use Rattle.code_bodies.specs.Coding.{CanRunCode}
 use Rattle.code_bodies.specs.Kept.{KeepBodies, KeepsWalk}
-use Rattle.program_codes.specs.Programs.{AreCodesOf, IsProgram, KeepScript, KeepsItsBody}
+use Rattle.code_bodies.specs.Programs.{AreCodesOf, IsProgram, KeepScript, KeepsItsBody}
 
 same : {A : Type 0} (a b : A) → Some a ≡ Some b → a ≡ b
 same a b e = cc

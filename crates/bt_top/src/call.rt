@@ -1,8 +1,9 @@
 // The call of the program.
+
+use crate::serve::serve;
 use bt_core::memory::Memory;
 use bt_io::shelf::Shelf;
 use bt_io::sink::{Sink, write_all};
-use bt_top::serve::serve;
 use std::alloc::{AllocError, Global};
 use std::io::ErrorKind;
 use std::rt::Env;

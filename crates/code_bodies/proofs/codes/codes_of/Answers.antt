@@ -2,9 +2,9 @@ use Rattle.std.proofs.Common.{sym, subst}
 use Rattle.std.specs.List.{AllByRecursion}
 use Rattle.code_bodies.specs.Coding.{CanRunCode}
 use Rattle.code_bodies.specs.Kept.{KeepBodies}
-use Rattle.program_codes.specs.Programs.{AreCodesOf}
-use Rattle.program_codes.proofs.ProgramCodes.{are_all, are_codes, can_run, each_short, each_spelt, keep_bodies, one_more, the_codes}
-use Rattle.program_codes.proofs.codes.codes_of.Goals as goal
+use Rattle.code_bodies.specs.Programs.{AreCodesOf}
+use Rattle.code_bodies.proofs.ProgramCodes.{are_all, are_codes, can_run, each_short, each_spelt, keep_bodies, one_more, the_codes}
+use Rattle.code_bodies.proofs.codes.codes_of.Goals as goal
 
 pub code_of-requires : goal.code_of-requires
 code_of-requires c = record {

@@ -6,7 +6,7 @@ ghost use Rattle.bpf_insn.specs.declared.insn.Insn.{Insn as InsnValue};
 ghost use Rattle.code_bodies.specs.Coding.{CanRunCode};
 ghost use Rattle.code_bodies.specs.Kept.{KeepBodies};
 ghost use Rattle.typed_tree.specs.declared.script.Typed.{Typed};
-ghost use Rattle.program_codes.specs.Programs.{AreCodesOf, KeepScript};
+ghost use Rattle.code_bodies.specs.Programs.{AreCodesOf, KeepScript};
 
 use bpf_encode::decode::{DecodeError, decode};
 use bpf_encode::program::Program;

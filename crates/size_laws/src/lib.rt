@@ -1,4 +1,0 @@
-//! That a script over given formats has one size: the first body that is too large is a function of the two.
-#![tactic(auto)]
-
-pub mod laws;
