@@ -17,7 +17,7 @@ use bt_core::limits::FRAME_BYTES;
 use typed_tree::script::Typed;
 
 /// The bytes of the frame that stores may write: those before the count of turns.
-const STORE_BYTES: u64 = 504;
+const STORE_BYTES: u64 = FRAME_BYTES - 8;
 
 // What is known of a register that is read, where it is set.
 pub fn set_known(known: Known) -> Option<Known>

@@ -23,7 +23,7 @@ use Rattle.bt_meaning.specs.Prints.{emitted, item_in, rows_after, lost_after, of
 
 items_told : (found : List Emitted) → map item_of found ≡ map (λ (t : Sent). t.1.1) (map told found)
 items_told [] = refl
-items_told (e ∷ found) = ap (λ l. e.item.now ∷ l) (items_told found)
+items_told (e ∷ found) = ap (λ l. item_of e ∷ l) (items_told found)
 
 one_sent : (stamp : ℕ) (object : ObjectId) (op : Op) (told : List Sent) (items : List Item) → map (λ (t : Sent). t.1.1) told ≡ items
     → map (λ (t : Sent). t.1.1) (cons_option (sent stamp object op) told) ≡ cons_option (item_in op) items

@@ -4,6 +4,7 @@ use Rattle.std.specs.List.{AllByRecursion}
 use Rattle.bt_core.specs.declared.item.Item.{Item}
 use Rattle.bt_core.specs.declared.step.Step.{Step}
 use Rattle.map_rows.specs.Items.{IsItemOf}
+use Rattle.step_list.specs.Emits.{item_told}
 use Rattle.step_list.specs.declared.emits.Emitted.{Emitted}
 use Rattle.typed_tree.specs.declared.script.Typed.{Typed}
 use Rattle.walk_meaning.specs.Admits.{EmitsOnly}
@@ -14,4 +15,4 @@ EmitOwn script steps = AllByRecursion (λ (s : Step). EmitsOnly (IsItemOf script
 
 -- the item that was emitted
 abbrev pub item_of : Emitted → Item
-item_of e = e.item.now
+item_of e = item_told e.item

@@ -5,6 +5,7 @@ ghost use Rattle.map_printer.specs.Ends.{end_text};
 ghost use Rattle.map_rows.specs.Fits.{AllRowsFit};
 ghost use Rattle.map_printer.specs.ItemTexts.{item_text};
 ghost use Rattle.map_rows.specs.Items.{IsItemOf};
+ghost use Rattle.step_list.specs.Emits.{item_told};
 ghost use Rattle.bt_meaning.specs.Prints.{emitted, lost_after, of_maps, printed_text, rows_after};
 ghost use Rattle.bt_meaning.specs.Texts.{EmitOwn, item_of};
 
@@ -15,17 +16,12 @@ use bt_core::memory::Memory;
 use map_printer::item_text::write_item;
 use map_printer::printing::print_end;
 use std::alloc::Global;
-use step_list::emits::Emitted;
+use step_list::emits::{Emitted, EmittedItem, printed};
 use typed_tree::script::Typed;
 use weave::woven::Woven;
 
-/// Writes the text of an item that was emitted.
-fn write_emitted(
-    out: &mut Vec<u8>,
-    alloc: Global,
-    script: &Typed,
-    item: &Item,
-) -> Result<(), Memory>
+/// Writes the text of an item.
+fn write_text(out: &mut Vec<u8>, alloc: Global, script: &Typed, item: &Item) -> Result<(), Memory>
     requires { IsItemOf script.now.formats script.now.maps item.now }
     ensures { OnOk result (out.new.items ≡ out.old.items ++ item_text script.now.formats script.now.maps item.now) }
 {
@@ -36,6 +32,25 @@ fn write_emitted(
         script.maps.as_slice(),
         item,
     )
+}
+
+/// Writes the text of an item that was emitted.
+fn write_emitted(
+    out: &mut Vec<u8>,
+    alloc: Global,
+    script: &Typed,
+    emitted: EmittedItem<'_>,
+) -> Result<(), Memory>
+    requires { IsItemOf script.now.formats script.now.maps (item_told emitted) }
+    ensures { OnOk result (out.new.items ≡ out.old.items ++ item_text script.now.formats script.now.maps (item_told emitted.entry)) }
+{
+    match emitted {
+        EmittedItem::Whole(item) => write_text(out, alloc, script, item),
+        EmittedItem::Printed(print, prints) => {
+            let item = printed(alloc, print, prints)?;
+            write_text(out, alloc, script, &item)
+        }
+    }
 }
 
 /// The texts of items, one behind the other.

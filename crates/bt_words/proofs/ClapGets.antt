@@ -1,24 +1,26 @@
 -- What the getters of clap's matches answer, by the rows.
-use Rattle.std.proofs.Common.{◌≡◌, ◌∙◌, Bool, List, ℕ, true, false, codes, Option, Some, None, IsSome, option_map, ap, sym, true≢false}
+use Rattle.std.proofs.Common.{◌≡◌, ◌∙◌, Bool, List, true, false, codes, Option, Some, None, IsSome, is_some, option_map, ap, refl, sym, true≢false}
 use Rattle.std.specs.Borrow.{Bor}
+use Rattle.std.specs.Option.{unwrap_or}
 use Rattle.clap.specs.Words.{Row, Text, first_of, first_value, one_of, one_text, rows_of}
 use Rattle.bt_words.proofs.ClapEnd.{flag_text}
 use Rattle.clap.specs.declared.parser.matches.Found.{Found}
 use Rattle.clap.proofs.WalkLemmas.{first_value-rows, one_text-rows}
 
-some_there : (o : Option (Bor Text)) (t : Text) → option_map (λ s. s.now) o ≡ Some t → IsSome o
-some_there None t h = absurd (true≢false (sym (ap (λ (x : Option Text). Rattle.std.specs.Option.is_some x) h)))
-some_there (Some s) t h = Rattle.std.proofs.Common.refl
+-- a text that clap read is there
+pub text_there : (f : Found) (id : Text) (o : Option (Bor Text)) → option_map (λ s. s.now) o ≡ first_value f id → IsSome (first_of id (rows_of f)) → IsSome o
+text_there f id None got there = absurd (true≢false (sym (ap is_some (got ∙ first_value-rows f id) ∙ there)))
+text_there f id (Some s) got there = refl
 
--- a text that is given is there
-pub given : (f : Found) (id t : Text) (rows : List Row) (o : Option (Bor Text)) → option_map (λ s. s.now) o ≡ first_value f id
-    → rows_of f ≡ rows → first_of id rows ≡ Some t → IsSome o × (option_map (λ s. s.now) o ≡ Some t)
-given f id t rows o got is first =
-    let e = got ∙ first_value-rows f id ∙ ap (first_of id) is ∙ first in
-    (some_there o t e, e)
+pub text_read : (f : Found) (id : Text) (o : Option (Bor Text)) (s : Bor Text) → option_map (λ s. s.now) o ≡ first_value f id → o ≡ Some s
+    → first_of id (rows_of f) ≡ Some s.now
+text_read f id o s got is = sym (first_value-rows f id) ∙ sym got ∙ ap (option_map (λ s. s.now)) is
 
-pub text_is : (o : Option (Bor Text)) (s : Bor Text) (t : Text) → o ≡ Some s → option_map (λ s. s.now) o ≡ Some t → s.now ≡ t
-text_is o s t is e = ap (λ (x : Option Text). Rattle.std.specs.Option.unwrap_or x t) (sym (ap (option_map (λ s. s.now)) is) ∙ e)
+pub first_there : (id t : Text) (rows all : List Row) → rows ≡ all → first_of id all ≡ Some t → IsSome (first_of id rows)
+first_there id t rows all is first = ap is_some (ap (first_of id) is ∙ first)
+
+pub text_is : (id s t : Text) (rows all : List Row) → rows ≡ all → first_of id all ≡ Some t → first_of id rows ≡ Some s → s ≡ t
+text_is id s t rows all is first got = ap (λ (x : Option Text). unwrap_or x t) (sym got ∙ ap (first_of id) is ∙ first)
 
 -- a flag is as its text says
 pub flag_is : (f : Found) (id : Text) (rows : List Row) (flag result : Bool) → rows_of f ≡ rows → one_of id rows ≡ Some (flag_text flag)

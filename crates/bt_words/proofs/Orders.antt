@@ -1,8 +1,9 @@
 -- What the rule says of a command that takes two operands.
-use Rattle.std.proofs.Common.{◌≡◌, ◌∙◌, ◌==◌, ◌&&◌, ℕ, Bool, cond, true, false, not, List, [], ◌∷◌, Option, Some, None, IsSome, IfOk, Result, Ok, Err, String, Global, drop, map, string_bytes, suc, ap, codes, filter, is_some, length, refl, sym, true≢false, arith}
+use Rattle.std.proofs.Common.{◌≡◌, ◌∙◌, ◌==◌, ◌&&◌, ℕ, Bool, cond, true, false, not, List, [], ◌∷◌, Option, Some, None, IsSome, IfOk, Result, Ok, Err, String, Global, drop, map, string_bytes, suc, ap, codes, filter, is_some, length, refl, sym, true≢false, arith, Decides}
 use Rattle.std.specs.List.{list_all, list_any, slice_index_or}
 use Rattle.std.specs.Str.{bytes_eq}
 use Rattle.std.proofs.lemmas.Bool.Decides.{nat_tests}
+use Rattle.std.proofs.lemmas.Slice.Eq.{bytes_eq-Decides}
 use Rattle.clap.proofs.WalkLemmas.{both}
 use Rattle.bt_words.specs.declared.order.Order.{Order}
 use Rattle.bt_words.specs.declared.order.Order.TheVariants.{Verify}
@@ -155,16 +156,24 @@ plain_two command (a ∷ b ∷ []) h = refl
 plain_two command (a ∷ b ∷ c ∷ more) h = absurd (nothing _ (no_order command) h)
 
 -- behind such a command stand two operands, and they alone decide
-pub behind : (command : List ℕ) (words : List (List ℕ)) → bytes_eq command (codes "run") ≡ false → bytes_eq command (codes "account") ≡ false
-    → bytes_eq command (codes "verify") ≡ false → IsSome (order_by command words) → AreTwoOperands words × (order_by command words ≡ plain_order command words)
-behind command words not_run not_account not_verify there = go (list_all is_operand words) refl (rw (not_run, not_account, not_verify) at there)
+pub behind : (command : List ℕ) (words : List (List ℕ)) → (command ≡ codes "run" → ⊥) → (command ≡ codes "account" → ⊥)
+    → (command ≡ codes "verify" → ⊥) → IsSome (order_by command words) → AreTwoOperands words × (order_by command words ≡ plain_order command words)
+behind command words not_run not_account not_verify there =
+    go (list_all is_operand words) refl (rw (unlike _ _ not_run, unlike _ _ not_account, unlike _ _ not_verify) at there)
   where
+    unlike : (xs ys : List ℕ) → (xs ≡ ys → ⊥) → bytes_eq xs ys ≡ false
+    unlike xs ys differ = decided (bytes_eq xs ys) (bytes_eq-Decides xs ys)
+      where
+        decided : (b : Bool) → Decides b (xs ≡ ys) → b ≡ false
+        decided true same = absurd (differ (same.0 refl))
+        decided false same = refl
+
     go : (b : Bool) → list_all is_operand words ≡ b → IsSome (cond b (plain_order command (filter is_operand words)) None)
         → AreTwoOperands words × (order_by command words ≡ plain_order command words)
     go true all some =
         let is = kept is_operand words all in (
           (all, plain_two command words (rw is at some)),
-          rw (not_run, not_account, not_verify, all) (ap (plain_order command) is),
+          rw (unlike _ _ not_run, unlike _ _ not_account, unlike _ _ not_verify, all) (ap (plain_order command) is),
         )
     go false all some = absurd (true≢false (sym some))
 

@@ -1,5 +1,6 @@
 -- What clap is told of the commands.
-use Rattle.std.specs.Prelude.{◌≡◌, List, length, true, codes, Some}
+use Rattle.std.specs.Prelude.{◌≡◌, ◌||◌, List, length, true, codes, Some}
+use Rattle.std.specs.Str.{bytes_eq}
 use Rattle.std.specs.List.{list_all}
 use Rattle.clap.specs.Words.{App, Rule, Text, new_app, new_rule, with_rule}
 use Rattle.clap.specs.Simple.{on_top}
@@ -42,3 +43,11 @@ AreTwoOperands words = (list_all is_operand words ≡ true) × (length words ≡
 -- what a command of three operands takes
 abbrev pub AreThreeOperands : List Text → Type 0
 AreThreeOperands words = (list_all is_operand words ≡ true) × (length words ≡ 3)
+
+-- the commands of two files and no options
+abbrev pub IsFileCommand : Text → Type 0
+IsFileCommand command = (bytes_eq command (codes "check") || (bytes_eq command (codes "code") || bytes_eq command (codes "vet"))) ≡ true
+
+-- the commands of two numbers
+abbrev pub IsNumberCommand : Text → Type 0
+IsNumberCommand command = (bytes_eq command (codes "gen") || bytes_eq command (codes "big")) ≡ true

@@ -1,6 +1,6 @@
 // The commands as clap reads them: one for each command word, without flags for help or the version.
 ghost use Rattle.std.specs.Prelude.{◌≡◌, IfOk, false};
-ghost use Rattle.clap.specs.Words.{app_of, rule_of, with_rule};
+ghost use Rattle.clap.specs.Words.{App, app_of, rule_of, with_rule};
 ghost use Rattle.bt_words.specs.Commands.{account_app, flag_rule, operand_rule, plain_app, run_app, two_app, verify_app, with_operands};
 
 use clap::{Arg, ArgAction, Command};
@@ -10,33 +10,34 @@ use std::alloc::{AllocError, Global};
 pub(crate) fn run_command<'a>(alloc: Global) -> Result<Command<'a>, AllocError>
     ensures { IfOk result (λ command. app_of command ≡ run_app) }
 {
-    let command = with_flag(alloc, plain_command(alloc, "run"), "serial")?;
-    let command = with_flag(alloc, command, "stats")?;
-    let command = with_flag(alloc, command, "json")?;
-    with_operands(alloc, command, "script", "recording")
+    let serial = with_flag(alloc, Ok(plain_command(alloc, "run")), "serial");
+    let stats = with_flag(alloc, serial, "stats");
+    let json = with_flag(alloc, stats, "json");
+    with_operands(alloc, json, "script", "recording")
 }
 
 /// `account`, with its option.
 pub(crate) fn account_command<'a>(alloc: Global) -> Result<Command<'a>, AllocError>
     ensures { IfOk result (λ command. app_of command ≡ account_app) }
 {
-    let command = with_flag(alloc, plain_command(alloc, "account"), "serial")?;
-    with_operands(alloc, command, "script", "recording")
+    let serial = with_flag(alloc, Ok(plain_command(alloc, "account")), "serial");
+    with_operands(alloc, serial, "script", "recording")
 }
 
 /// `verify`, with its three operands.
 pub(crate) fn verify_command<'a>(alloc: Global) -> Result<Command<'a>, AllocError>
     ensures { IfOk result (λ command. app_of command ≡ verify_app) }
 {
-    let command = plain_command(alloc, "verify");
-    with_operands(alloc, command, "script", "recording")?.arg(operand(alloc, "account"))
+    let command = Ok(plain_command(alloc, "verify"));
+    let files = with_operands(alloc, command, "script", "recording");
+    with_operand(alloc, files, "account")
 }
 
 /// A command of two operands alone.
 pub(crate) fn two_command<'a>(alloc: Global, name: &'a str) -> Result<Command<'a>, AllocError>
     ensures { IfOk result (λ command. app_of command ≡ two_app name.entry.now) }
 {
-    with_operands(alloc, plain_command(alloc, name), "first", "second")
+    with_operands(alloc, Ok(plain_command(alloc, name)), "first", "second")
 }
 
 /// A command without flags for help or the version.
@@ -48,29 +49,38 @@ fn plain_command<'a>(alloc: Global, name: &'a str) -> Command<'a>
         .disable_version_flag(true)
 }
 
-/// The command with an option more.
+/// The command with an option more, where there was memory for what it has.
 fn with_flag<'a>(
     alloc: Global,
-    command: Command<'a>,
+    command: Result<Command<'a>, AllocError>,
     name: &'a str,
 ) -> Result<Command<'a>, AllocError>
-    ensures { IfOk result (λ all. app_of all ≡ with_rule (app_of command.entry) (flag_rule name.entry.now)) }
+    ensures { (app : App) → IfOk command.entry (λ c. app_of c ≡ app) → IfOk result (λ all. app_of all ≡ with_rule app (flag_rule name.entry.now)) }
 {
-    command.arg(flag(alloc, name))
+    command?.arg(flag(alloc, name))
 }
 
-/// The command with two operands more.
+/// The command with an operand more, where there was memory for what it has.
+fn with_operand<'a>(
+    alloc: Global,
+    command: Result<Command<'a>, AllocError>,
+    name: &'a str,
+) -> Result<Command<'a>, AllocError>
+    ensures { (app : App) → IfOk command.entry (λ c. app_of c ≡ app) → IfOk result (λ all. app_of all ≡ with_rule app (operand_rule name.entry.now)) }
+{
+    command?.arg(operand(alloc, name))
+}
+
+/// The command with two operands more, where there was memory for what it has.
 fn with_operands<'a>(
     alloc: Global,
-    command: Command<'a>,
+    command: Result<Command<'a>, AllocError>,
     first: &'a str,
     second: &'a str,
 ) -> Result<Command<'a>, AllocError>
-    ensures { IfOk result (λ all. app_of all ≡ with_operands (app_of command.entry) first.entry.now second.entry.now) }
+    ensures { (app : App) → IfOk command.entry (λ c. app_of c ≡ app) → IfOk result (λ all. app_of all ≡ with_operands app first.entry.now second.entry.now) }
 {
-    command
-        .arg(operand(alloc, first))?
-        .arg(operand(alloc, second))
+    with_operand(alloc, with_operand(alloc, command, first), second)
 }
 
 /// The option `--name`.

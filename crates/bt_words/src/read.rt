@@ -1,7 +1,7 @@
 // Reading words: first the rule is tested, then clap reads the words that it admits.
 ghost use Rattle.std.specs.Prelude.{◌≡◌, ◌↔◌, ◌∷◌, [], IsSome, None, Some, Err, IfOk, IfErr, drop, map, true, string_bytes};
-ghost use Rattle.clap.specs.Words.{app_of, found_of, matches_of, rows_of, takes};
-ghost use Rattle.bt_words.specs.Commands.{AreTwoOperands};
+ghost use Rattle.clap.specs.Words.{app_of, first_of, found_of, matches_of, rows_of, takes};
+ghost use Rattle.bt_words.specs.Commands.{AreTwoOperands, IsFileCommand, IsNumberCommand};
 ghost use Rattle.bt_words.specs.Words.{account_order, order_by, order_of, plain_order, run_order, verify_order, HasBounds, IsAnswer};
 
 use crate::commands::{account_command, run_command, two_command, verify_command};
@@ -37,14 +37,11 @@ fn admitted_order(alloc: Global, command: &str, words: &[String]) -> Result<Orde
     requires { IsSome (order_by command.now (drop 1 (map string_bytes words.now))) }
     ensures { IsAnswer (order_by command.now (drop 1 (map string_bytes words.now))) result }
 {
-    if command == "run" {
-        run_order(alloc, words)
-    } else if command == "account" {
-        account_order(alloc, words)
-    } else if command == "verify" {
-        verify_order(alloc, words)
-    } else {
-        plain_order(alloc, command, two_operands(alloc, command, words)?)
+    match command {
+        "run" => run_order(alloc, words),
+        "account" => account_order(alloc, words),
+        "verify" => verify_order(alloc, words),
+        _ => plain_order(alloc, command, two_operands(alloc, command, words)?),
     }
 }
 
@@ -54,14 +51,19 @@ fn run_order(alloc: Global, words: &[String]) -> Result<Order, WordsError>
     ensures { IsAnswer (run_order (drop 1 (map string_bytes words.now))) result }
 {
     let matches = parsed(run_command(alloc)?, words)?;
-    let script = matches.get_str("script").unwrap();
-    let recording = matches.get_str("recording").unwrap();
+    let serial = matches.get_flag("serial");
+    let stats = matches.get_flag("stats");
+    let json = matches.get_flag("json");
+    let first = text(&matches, "script");
+    let second = text(&matches, "recording");
+    drop(matches);
+    let (script, recording) = two_names(alloc, first, second)?;
     Ok(Order::Run {
-        serial: matches.get_flag("serial"),
-        stats: matches.get_flag("stats"),
-        json: matches.get_flag("json"),
-        script: FileName::of(alloc, script)?,
-        recording: FileName::of(alloc, recording)?,
+        serial,
+        stats,
+        json,
+        script,
+        recording,
     })
 }
 
@@ -71,12 +73,15 @@ fn account_order(alloc: Global, words: &[String]) -> Result<Order, WordsError>
     ensures { IsAnswer (account_order (drop 1 (map string_bytes words.now))) result }
 {
     let matches = parsed(account_command(alloc)?, words)?;
-    let script = matches.get_str("script").unwrap();
-    let recording = matches.get_str("recording").unwrap();
+    let serial = matches.get_flag("serial");
+    let first = text(&matches, "script");
+    let second = text(&matches, "recording");
+    drop(matches);
+    let (script, recording) = two_names(alloc, first, second)?;
     Ok(Order::Account {
-        serial: matches.get_flag("serial"),
-        script: FileName::of(alloc, script)?,
-        recording: FileName::of(alloc, recording)?,
+        serial,
+        script,
+        recording,
     })
 }
 
@@ -86,13 +91,15 @@ fn verify_order(alloc: Global, words: &[String]) -> Result<Order, WordsError>
     ensures { IsAnswer (verify_order (drop 1 (map string_bytes words.now))) result }
 {
     let matches = parsed(verify_command(alloc)?, words)?;
-    let script = matches.get_str("script").unwrap();
-    let recording = matches.get_str("recording").unwrap();
-    let account = matches.get_str("account").unwrap();
+    let first = text(&matches, "script");
+    let second = text(&matches, "recording");
+    let third = text(&matches, "account");
+    drop(matches);
+    let (script, recording) = two_names(alloc, first, second)?;
     Ok(Order::Verify {
-        script: FileName::of(alloc, script)?,
-        recording: FileName::of(alloc, recording)?,
-        account: FileName::of(alloc, account)?,
+        script,
+        recording,
+        account: FileName::of(alloc, third)?,
     })
 }
 
@@ -109,25 +116,36 @@ fn two_names(alloc: Global, first: &str, second: &str) -> Result<(FileName, File
 fn plain_order(alloc: Global, command: &str, operands: Operands<'_>) -> Result<Order, WordsError>
     ensures { IsAnswer (plain_order command.now (operands.entry.first.now ∷ operands.entry.second.now ∷ [])) result }
 {
-    let Operands { first, second } = operands;
-    if command == "check" {
-        let (script, recording) = two_names(alloc, first, second)?;
-        Ok(Order::Check { script, recording })
-    } else if command == "code" {
-        let (script, recording) = two_names(alloc, first, second)?;
-        Ok(Order::Code { script, recording })
-    } else if command == "vet" {
-        let (script, recording) = two_names(alloc, first, second)?;
-        Ok(Order::Vet { script, recording })
-    } else if command == "gen" {
-        let Numbers { x, n } = two_numbers(first, second).ok_or(WordsError::Usage)?;
-        Ok(Order::Gen { x, n })
-    } else if command == "big" {
-        let Numbers { x, n } = two_numbers(first, second).ok_or(WordsError::Usage)?;
-        Ok(Order::Big { x, n })
-    } else {
-        Err(WordsError::Usage)
+    match command {
+        "check" | "code" | "vet" => file_order(alloc, command, operands),
+        "gen" | "big" => number_order(command, operands),
+        _ => Err(WordsError::Usage),
     }
+}
+
+/// The order of a command that takes the names of two files and no options.
+fn file_order(alloc: Global, command: &str, operands: Operands<'_>) -> Result<Order, WordsError>
+    requires { IsFileCommand command.now }
+    ensures { IsAnswer (plain_order command.now (operands.entry.first.now ∷ operands.entry.second.now ∷ [])) result }
+{
+    let (script, recording) = two_names(alloc, operands.first, operands.second)?;
+    Ok(match command {
+        "check" => Order::Check { script, recording },
+        "code" => Order::Code { script, recording },
+        _ => Order::Vet { script, recording },
+    })
+}
+
+/// The order of a command that takes two numbers.
+fn number_order(command: &str, operands: Operands<'_>) -> Result<Order, WordsError>
+    requires { IsNumberCommand command.now }
+    ensures { IsAnswer (plain_order command.now (operands.entry.first.now ∷ operands.entry.second.now ∷ [])) result }
+{
+    let Numbers { x, n } = two_numbers(operands.first, operands.second).ok_or(WordsError::Usage)?;
+    Ok(match command {
+        "gen" => Order::Gen { x, n },
+        _ => Order::Big { x, n },
+    })
 }
 
 /// Two operands.
@@ -148,10 +166,18 @@ fn two_operands<'w>(
     ensures memory { IfErr result (λ error. error ≡ WordsError.Memory) }
 {
     let matches = parsed(two_command(alloc, command)?, words)?;
-    Ok(Operands {
-        first: matches.get_str("first").unwrap(),
-        second: matches.get_str("second").unwrap(),
-    })
+    let first = text(&matches, "first");
+    let second = text(&matches, "second");
+    drop(matches);
+    Ok(Operands { first, second })
+}
+
+/// The text that clap read under a name.
+fn text<'w>(matches: &ArgMatches<'w>, name: &str) -> &'w str
+    requires { IsSome (first_of name.now (rows_of (found_of matches.now))) }
+    ensures { first_of name.now (rows_of (found_of matches.now)) ≡ Some result.now }
+{
+    matches.get_str(name).unwrap()
 }
 
 /// What clap reads in words that the command takes: it fails only for want of memory.

@@ -21,18 +21,13 @@ pub(crate) fn is_admitted(words: &[String]) -> bool
 fn suits(command: &str, words: &[String]) -> bool
     ensures { result ≡ is_some (order_by command.now (map string_bytes words.now)) }
 {
-    if command == "run" {
-        are_run_words(words)
-    } else if command == "account" {
-        are_account_words(words)
-    } else if command == "verify" {
-        are_three_operands(words)
-    } else if command == "check" || command == "code" || command == "vet" {
-        are_two_operands(words)
-    } else if command == "gen" || command == "big" {
-        are_two_numbers(words)
-    } else {
-        false
+    match command {
+        "run" => are_run_words(words),
+        "account" => are_account_words(words),
+        "verify" => are_three_operands(words),
+        "check" | "code" | "vet" => are_two_operands(words),
+        "gen" | "big" => are_two_numbers(words),
+        _ => false,
     }
 }
 

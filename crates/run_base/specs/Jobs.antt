@@ -1,5 +1,5 @@
 -- Jobs whose actors' bodies do what plans say. No public contract speaks of it.
-use Rattle.std.specs.Prelude.{◌≡◌, ℕ, ◌+◌, ◌<◌, List, length, slice_index_or}
+use Rattle.std.specs.Prelude.{ℕ, ◌+◌, List, length}
 use Rattle.actor_plan.specs.Plans.{Plan}
 use Rattle.actor_plan.specs.Ready.{CanReplay, IsPlanFor}
 use Rattle.bt_meaning.specs.Replays.{Replay}
@@ -37,8 +37,3 @@ world_for job = record { cpus = cpus_in job; ticks = length job.attached.ticks; 
 pub record CanRunAll (job : Job) (plans : ℕ → Plan) : Type 0 where
   pub replay : CanReplay job.recording job.attached
   pub plans_are : (actor : ℕ) → IsPlanFor job.recording job.attached job.typed.maps actor (plans actor)
-
--- there are bodies for each actor, which tell its plan
-pub record HavePlans {B : Type 0} (plan_of : B → Plan) (actors : ℕ) (plans : ℕ → Plan) (bodies : List B) : Type 0 where
-  pub count : length bodies ≡ actors
-  pub each : (actor : ℕ) (d : B) → actor < length bodies → plan_of (slice_index_or bodies actor d) ≡ plans actor

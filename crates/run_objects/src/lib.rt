@@ -4,7 +4,7 @@
 pub mod closed;
 pub mod ends;
 pub mod new_objects;
-pub mod numbers;
+mod numbers;
 pub mod objects;
 pub mod own;
 mod reads;

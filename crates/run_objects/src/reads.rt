@@ -7,9 +7,8 @@ ghost use Rattle.step_objects.specs.Objects.{cpu_kind, CpuStands, shared_kind, S
 ghost use Rattle.run_objects.specs.Moments.{table_reply, table_lost, part_reply, part_lost, of_first};
 ghost use Rattle.run_objects.specs.Objects.{AllStandAt, IsPartOf};
 
-use crate::numbers::sum;
 use bt_core::map::MapId;
-use bt_core::memory::Memory;
+use bt_core::memory::{Memory, sum};
 use bt_core::step::Reply;
 use std::alloc::Global;
 use step_objects::cpu::CpuTable;

@@ -4,6 +4,7 @@ ghost use Rattle.std.specs.List.{AllByRecursion, flat_map};
 ghost use Rattle.json_out.specs.Lines.{item_lines};
 ghost use Rattle.map_rows.specs.Fits.{AllRowsFit};
 ghost use Rattle.map_rows.specs.Items.{IsItemOf};
+ghost use Rattle.step_list.specs.Emits.{item_told};
 ghost use Rattle.bt_meaning.specs.Prints.{emitted, lost_after, of_maps, rows_after};
 ghost use Rattle.bt_meaning.specs.Texts.{EmitOwn, item_of};
 ghost use Rattle.run_output.specs.JsonLines.{json_text_of};
@@ -15,7 +16,7 @@ use bt_core::memory::Memory;
 use json_out::ends::end_lines;
 use json_out::items::item_lines;
 use std::alloc::Global;
-use step_list::emits::Emitted;
+use step_list::emits::{Emitted, EmittedItem, printed};
 use typed_tree::script::Typed;
 use weave::woven::Woven;
 
@@ -34,6 +35,25 @@ fn write_item(out: &mut Vec<u8>, alloc: Global, script: &Typed, item: &Item) -> 
     Ok(())
 }
 
+/// Writes the lines of an item that was emitted.
+fn write_emitted(
+    out: &mut Vec<u8>,
+    alloc: Global,
+    script: &Typed,
+    emitted: EmittedItem<'_>,
+) -> Result<(), Memory>
+    requires { IsItemOf script.now.formats script.now.maps (item_told emitted) }
+    ensures { OnOk result (out.new.items ≡ out.old.items ++ item_lines script.now.formats script.now.maps (item_told emitted.entry)) }
+{
+    match emitted {
+        EmittedItem::Whole(item) => write_item(out, alloc, script, item),
+        EmittedItem::Printed(print, prints) => {
+            let item = printed(alloc, print, prints)?;
+            write_item(out, alloc, script, &item)
+        }
+    }
+}
+
 /// The lines of items, one behind the other.
 fn lines_of(alloc: Global, script: &Typed, emits: &[Emitted]) -> Result<Vec<u8>, Memory>
     requires { AllByRecursion (IsItemOf script.now.formats script.now.maps) (map item_of emits.now) }
@@ -42,7 +62,7 @@ fn lines_of(alloc: Global, script: &Typed, emits: &[Emitted]) -> Result<Vec<u8>,
 {
     let mut lines = Vec::new(alloc);
     for emit in emits {
-        write_item(&mut lines, alloc, script, emit.item)?;
+        write_emitted(&mut lines, alloc, script, emit.item)?;
     }
     Ok(lines)
 }

@@ -1,5 +1,6 @@
 // What a step did, in 16 bytes where it can be told so.
 ghost use Rattle.std.specs.Prelude.{◌≡◌, List, [], IfOk, MatchOption};
+ghost use Rattle.bt_core.specs.declared.item.Item.{Item as Sent};
 ghost use Rattle.bt_core.specs.declared.value.Value.{Value as Part};
 ghost use Rattle.step_list.specs.declared.deed.Deed.{Deed as OneDeed};
 ghost use Rattle.step_list.specs.declared.deed.Mark.TheVariants.{Whole};
@@ -24,8 +25,9 @@ pub struct Deed {
 /// map and a part by their numbers, where these are below 256.
 ///
 /// `GetInt`, `SetInt` and `Delete` are made at a part of a shared map: a get that a number was replied to, a set of a number, a delete.
-/// `Add` is made at the actor's own tables, and `Check` at the clock, with its reply. `Whole` is the number of a deed that is kept
-/// whole, counted from 0, for all that the others do not tell.
+/// `Add` is made at the actor's own tables, and `Check` at the clock, with its reply. `Print` emits what a `printf` call prints, by its
+/// number in the list of these, and `Whole` is the number of a deed that is kept whole, both counted from 0; the second is for all that
+/// the others do not tell.
 #[derive(Clone, Copy)]
 pub enum Mark {
     GetInt {
@@ -57,6 +59,10 @@ pub enum Mark {
     Check {
         actor: u8,
         stopped: bool,
+    },
+    Print {
+        actor: u8,
+        print: u32,
     },
     Whole(u64),
 }
@@ -102,7 +108,7 @@ pub(crate) fn copy_op(alloc: Global, op: &Op) -> Result<Op, Memory>
 /// Where the deed is kept whole. A mark of no such deed tells the reply by itself.
 pub(crate) fn place_of(mark: &Mark) -> Option<u64>
     ensures { MatchOption result
-        ((keys : List (List Part)) (whole : List OneDeed) → (deed_of keys whole mark.now).reply ≡ reply_told mark.now)
+        ((keys : List (List Part)) (whole : List OneDeed) (prints : List Sent) → (deed_of keys whole prints mark.now).reply ≡ reply_told mark.now)
         (λ place. mark.now ≡ Whole place) }
 {
     match mark {
@@ -111,7 +117,8 @@ pub(crate) fn place_of(mark: &Mark) -> Option<u64>
         | Mark::SetInt { .. }
         | Mark::Delete { .. }
         | Mark::Add { .. }
-        | Mark::Check { .. } => None,
+        | Mark::Check { .. }
+        | Mark::Print { .. } => None,
     }
 }
 
@@ -122,29 +129,32 @@ pub(crate) fn reply_of(mark: &Mark) -> Reply
     match mark {
         Mark::GetInt { number, .. } => Reply::Value(Value::Int(*number)),
         Mark::Check { stopped, .. } => Reply::Stopped(*stopped),
-        Mark::SetInt { .. } | Mark::Delete { .. } | Mark::Add { .. } | Mark::Whole(_) => {
-            Reply::Done
-        }
+        Mark::SetInt { .. }
+        | Mark::Delete { .. }
+        | Mark::Add { .. }
+        | Mark::Print { .. }
+        | Mark::Whole(_) => Reply::Done,
     }
 }
 
 /// The actor that a mark tells by itself, or 0.
 pub(crate) fn actor_of(mark: &Mark) -> u32
-    ensures { result ≡ (deed_of [] [] mark.now).actor }
+    ensures { result ≡ (deed_of [] [] [] mark.now).actor }
 {
     match mark {
         Mark::GetInt { actor, .. }
         | Mark::SetInt { actor, .. }
         | Mark::Delete { actor, .. }
         | Mark::Add { actor, .. }
-        | Mark::Check { actor, .. } => *actor as u32,
+        | Mark::Check { actor, .. }
+        | Mark::Print { actor, .. } => *actor as u32,
         Mark::Whole(_) => 0,
     }
 }
 
 /// The object that a mark tells by itself, or the output.
 pub(crate) fn object_of(mark: &Mark) -> ObjectId
-    ensures { result ≡ (deed_of [] [] mark.now).object }
+    ensures { result ≡ (deed_of [] [] [] mark.now).object }
 {
     match mark {
         Mark::GetInt { map, part, .. }
@@ -155,6 +165,6 @@ pub(crate) fn object_of(mark: &Mark) -> ObjectId
         },
         Mark::Add { actor, .. } => ObjectId::Cpu(*actor as u32),
         Mark::Check { .. } => ObjectId::Clock,
-        Mark::Whole(_) => ObjectId::Out,
+        Mark::Print { .. } | Mark::Whole(_) => ObjectId::Out,
     }
 }

@@ -1,31 +1,52 @@
 // Items that the steps of a list emitted.
-ghost use Rattle.std.specs.Prelude.{◌≡◌, ◌++◌, [], List, map, OnOk};
+ghost use Rattle.std.specs.Prelude.{◌≡◌, ◌++◌, [], List, get_or, map, IfOk, OnOk};
 ghost use Rattle.std.specs.List.{cons_option, filter_map};
 ghost use Rattle.std.specs.Option.{option_map};
 ghost use Rattle.bt_core.specs.declared.value.Value.{Value as Part};
-ghost use Rattle.step_list.specs.Deeds.{deed_of};
+ghost use Rattle.step_list.specs.Deeds.{deed_of, no_item};
 ghost use Rattle.step_list.specs.Places.{expanded, step_by_deed};
 ghost use Rattle.step_list.specs.Emits.{told, emit_of};
 ghost use Rattle.step_list.specs.Lists.{steps_in};
 
 use crate::deed::{Deed, Mark};
 use crate::list::{Place, StepList};
+use crate::marking::print_at;
 use bt_core::item::Item;
 use bt_core::memory::Memory;
 use bt_core::step::{ObjectId, Op};
+use print_list::list::PrintList;
+use std::alloc::Global;
 
 /// An item that a step emitted, with the step's stamp and object.
 #[derive(Clone, Copy)]
 pub struct Emitted<'a> {
     pub stamp: u64,
     pub object: ObjectId,
-    pub item: &'a Item,
+    pub item: EmittedItem<'a>,
 }
 
-/// What a place tells that was emitted. An `Emit` is always kept whole.
-pub(crate) fn emit_at<'a>(whole: &'a [Deed], place: &Place) -> Option<Emitted<'a>>
+/// An item that a step emitted, where it lies: as it is, or by its number in a list of printed items, counted from 0.
+#[derive(Clone, Copy)]
+pub enum EmittedItem<'a> {
+    Whole(&'a Item),
+    Printed(u32, &'a PrintList),
+}
+
+/// A copy of the item of a number in a list of printed items. [`Memory`] where there is no room for it.
+pub fn printed(alloc: Global, print: u32, prints: &PrintList) -> Result<Item, Memory>
+    ensures { IfOk result (λ item. item ≡ get_or prints.now print no_item) }
+{
+    print_at(alloc, prints, print)
+}
+
+/// What a place tells that was emitted.
+pub(crate) fn emit_at<'a>(
+    whole: &'a [Deed],
+    prints: &'a PrintList,
+    place: &Place,
+) -> Option<Emitted<'a>>
     ensures { (keys : List (List Part)) →
-        option_map told result ≡ emit_of (step_by_deed place.now.stamp (deed_of keys whole.now place.now.mark)) }
+        option_map told result ≡ emit_of (step_by_deed place.now.stamp (deed_of keys whole.now prints.now place.now.mark)) }
 {
     match place.mark {
         Mark::Whole(number) => match whole.get(number as usize) {
@@ -33,12 +54,17 @@ pub(crate) fn emit_at<'a>(whole: &'a [Deed], place: &Place) -> Option<Emitted<'a
                 Op::Emit(item) => Some(Emitted {
                     stamp: place.stamp,
                     object: deed.object,
-                    item,
+                    item: EmittedItem::Whole(item),
                 }),
                 _ => None,
             },
             None => None,
         },
+        Mark::Print { print, .. } => Some(Emitted {
+            stamp: place.stamp,
+            object: ObjectId::Out,
+            item: EmittedItem::Printed(print, prints),
+        }),
         Mark::GetInt { .. }
         | Mark::SetInt { .. }
         | Mark::Delete { .. }
@@ -63,14 +89,15 @@ fn add<'a>(found: &mut Vec<Emitted<'a>>, emitted: Option<Emitted<'a>>) -> Result
 /// Puts what places tell that was emitted behind what was found, in their order.
 pub(crate) fn emits_of<'a>(
     whole: &'a [Deed],
+    prints: &'a PrintList,
     places: &[Place],
     found: &mut Vec<Emitted<'a>>,
 ) -> Result<(), Memory>
     ensures { OnOk result ((keys : List (List Part)) →
-        map told found.new.items ≡ map told found.old.items ++ filter_map emit_of (expanded keys whole.now places.now)) }
+        map told found.new.items ≡ map told found.old.items ++ filter_map emit_of (expanded keys whole.now prints.now places.now)) }
 {
     for place in places {
-        let emitted = emit_at(whole, place);
+        let emitted = emit_at(whole, prints, place);
         add(found, emitted)?;
     }
     Ok(())
@@ -81,6 +108,6 @@ impl StepList {
     pub fn emitted<'a>(&'a self, found: &mut Vec<Emitted<'a>>) -> Result<(), Memory>
         ensures { OnOk result (map told found.new.items ≡ map told found.old.items ++ filter_map emit_of (steps_in self.now)) }
     {
-        emits_of(self.whole(), self.places(), found)
+        emits_of(self.whole(), self.prints(), self.places(), found)
     }
 }

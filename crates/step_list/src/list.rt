@@ -13,6 +13,7 @@ use crate::marking::{keep, told};
 use bt_core::key::Key;
 use bt_core::memory::Memory;
 use bt_core::step::{ObjectId, Op, Reply, Step};
+use print_list::list::PrintList;
 use std::alloc::Global;
 
 /// A step, in 24 bytes: its stamp, and what it did.
@@ -22,7 +23,8 @@ pub struct Place {
     pub mark: Mark,
 }
 
-/// Steps in the order in which they were pushed, in 24 bytes a step. What no mark tells is kept whole beside these. A key is kept once,
+/// Steps in the order in which they were pushed, in 24 bytes a step. What a `printf` call printed is kept beside these in a list of such
+/// items, and what no mark tells is kept whole. A key is kept once,
 /// but where another key with a hash of the same slot was kept since. What was replied is a number of 64 bits or a string of bytes, as its
 /// type says when it is pushed.
 ///
@@ -32,9 +34,10 @@ pub struct StepList {
     keys: Vec<Key>,
     slots: Vec<u32>,
     whole: Vec<Deed>,
+    prints: PrintList,
     last: Reply,
-    ghost within: { IsTrue (is_all_within (length keys.items) (length whole.items) places.items) },
-    ghost held: { AreHeldReplies (expanded keys.items whole.items places.items) } by { held_prop (expanded keys.items whole.items places.items) },
+    ghost within: { IsTrue (is_all_within (length keys.items) (length whole.items) (length prints) places.items) },
+    ghost held: { AreHeldReplies (expanded keys.items whole.items prints places.items) } by { held_prop (expanded keys.items whole.items prints places.items) },
     ghost last_is: { last ≡ last_told places.items } by { Coded-set last-code last (last_told places.items) },
 }
 
@@ -46,6 +49,7 @@ impl Drop for StepList {
             keys: _,
             slots: _,
             whole: _,
+            prints: _,
             last: _,
         } = self;
     }
@@ -64,6 +68,7 @@ impl StepList {
             keys: Vec::new(alloc),
             slots: Vec::new(alloc),
             whole: Vec::new(alloc),
+            prints: PrintList::new(alloc),
             last: Reply::Done,
         }
     }
@@ -99,6 +104,7 @@ impl StepList {
                 alloc,
                 self.keys.as_slice(),
                 self.whole.as_slice(),
+                self.prints(),
                 *found,
             )?)),
         }
@@ -112,6 +118,7 @@ impl StepList {
             alloc,
             self.keys.as_slice(),
             self.whole.as_slice(),
+            self.prints(),
             self.places(),
             steps,
         )
@@ -129,6 +136,13 @@ impl StepList {
         ensures { result.now ≡ self.now.whole.items }
     {
         self.whole.as_slice()
+    }
+
+    /// The items that `printf` calls emitted, in the order in which they were pushed.
+    pub(crate) fn prints(&self) -> &PrintList
+        ensures { result.now ≡ self.now.prints }
+    {
+        &self.prints
     }
 
     /// Makes room for one step. The steps stay, also after [`Memory`], and so does room that was there, with which it does not fail.
@@ -159,6 +173,7 @@ impl StepList {
             &mut self.keys,
             &mut self.slots,
             &mut self.whole,
+            &mut self.prints,
             Deed {
                 actor,
                 object,
@@ -171,16 +186,23 @@ impl StepList {
     }
 }
 
-/// A copy of the step that a place tells, by the keys and the deeds that are kept whole. [`Memory`] where there is no room for it.
-fn step_at(alloc: Global, keys: &[Key], whole: &[Deed], place: Place) -> Result<Step, Memory>
-    ensures { IfOk result (λ step. step ≡ step_by_deed place.stamp (deed_of keys.now whole.now place.mark)) }
+/// A copy of the step that a place tells, by the keys, the deeds that are kept whole and the printed items. [`Memory`] where there is no
+/// room for it.
+fn step_at(
+    alloc: Global,
+    keys: &[Key],
+    whole: &[Deed],
+    prints: &PrintList,
+    place: Place,
+) -> Result<Step, Memory>
+    ensures { IfOk result (λ step. step ≡ step_by_deed place.stamp (deed_of keys.now whole.now prints.now place.mark)) }
 {
     let Deed {
         actor,
         object,
         op,
         reply,
-    } = told(alloc, keys, whole, place.mark)?;
+    } = told(alloc, keys, whole, prints, place.mark)?;
     Ok(Step {
         actor,
         object,
@@ -195,13 +217,14 @@ fn copy_steps(
     alloc: Global,
     keys: &[Key],
     whole: &[Deed],
+    prints: &PrintList,
     places: &[Place],
     steps: &mut Vec<Step>,
 ) -> Result<(), Memory>
-    ensures { OnOk result (steps.new.items ≡ steps.old.items ++ expanded keys.now whole.now places.now) }
+    ensures { OnOk result (steps.new.items ≡ steps.old.items ++ expanded keys.now whole.now prints.now places.now) }
 {
     for place in places {
-        let step = step_at(alloc, keys, whole, *place)?;
+        let step = step_at(alloc, keys, whole, prints, *place)?;
         steps.push(step)?;
     }
     Ok(())

@@ -1,20 +1,30 @@
 // Marks of deeds, and deeds of marks.
-ghost use Rattle.std.specs.Prelude.{◌≡◌, ℕ, ◌<◌, IsTrue, List, [], length, vec_len, vec_capacity, IfOk};
+ghost use Rattle.std.specs.Prelude.{◌≡◌, ℕ, ◌<◌, IsTrue, List, [], get_or, length, vec_len, vec_capacity, IfOk, IfSome};
+ghost use Rattle.bt_core.specs.declared.item.Item.{Item as Sent};
 ghost use Rattle.bt_core.specs.declared.value.Value.{Value as Part};
-ghost use Rattle.step_list.specs.Deeds.{deed_of, is_within, Extends};
+ghost use Rattle.step_list.specs.Deeds.{deed_of, emitted, is_within, no_item, Extends};
 
 use crate::deed::{Deed, Mark, actor_of, object_of, reply_of};
 use crate::keys::{keep_key, key_at};
+use bt_core::item::Item;
 use bt_core::key::Key;
 use bt_core::map::MapId;
 use bt_core::memory::Memory;
 use bt_core::step::{ObjectId, Op, Reply};
 use bt_core::value::Value;
+use print_list::list::PrintList;
 use std::alloc::Global;
 
-/// A copy of the deed that a mark tells, by the keys and the deeds that are kept whole. [`Memory`] where there is no room for it.
-pub(crate) fn told(alloc: Global, keys: &[Key], whole: &[Deed], mark: Mark) -> Result<Deed, Memory>
-    ensures { IfOk result (λ deed. deed ≡ deed_of keys.now whole.now mark) }
+/// A copy of the deed that a mark tells, by the keys, the deeds that are kept whole and the printed items. [`Memory`] where there is no
+/// room for it.
+pub(crate) fn told(
+    alloc: Global,
+    keys: &[Key],
+    whole: &[Deed],
+    prints: &PrintList,
+    mark: Mark,
+) -> Result<Deed, Memory>
+    ensures { IfOk result (λ deed. deed ≡ deed_of keys.now whole.now prints.now mark) }
 {
     if let Mark::Whole(place) = mark {
         return match whole.get(place as usize) {
@@ -27,7 +37,7 @@ pub(crate) fn told(alloc: Global, keys: &[Key], whole: &[Deed], mark: Mark) -> R
             }),
         };
     }
-    let op = op_told(alloc, keys, &mark)?;
+    let op = op_told(alloc, keys, prints, &mark)?;
     Ok(Deed {
         actor: actor_of(&mark),
         object: object_of(&mark),
@@ -36,9 +46,9 @@ pub(crate) fn told(alloc: Global, keys: &[Key], whole: &[Deed], mark: Mark) -> R
     })
 }
 
-/// The operation that a mark tells by itself, or a stop. [`Memory`] where there is no room for its key.
-fn op_told(alloc: Global, keys: &[Key], mark: &Mark) -> Result<Op, Memory>
-    ensures { IfOk result (λ op. op ≡ (deed_of keys.now [] mark.now).op) }
+/// The operation that a mark tells by itself, or a stop. [`Memory`] where there is no room for its key or its item.
+fn op_told(alloc: Global, keys: &[Key], prints: &PrintList, mark: &Mark) -> Result<Op, Memory>
+    ensures { IfOk result (λ op. op ≡ (deed_of keys.now [] prints.now mark.now).op) }
 {
     match mark {
         Mark::GetInt { key, .. } => Ok(Op::Get(key_at(alloc, keys, *key)?)),
@@ -54,7 +64,18 @@ fn op_told(alloc: Global, keys: &[Key], mark: &Mark) -> Result<Op, Memory>
             ..
         } => Ok(Op::Add(MapId(*map as u32), key_at(alloc, keys, *key)?, *number)),
         Mark::Check { .. } => Ok(Op::Check),
+        Mark::Print { print, .. } => Ok(Op::Emit(print_at(alloc, prints, *print)?)),
         Mark::Whole(_) => Ok(Op::Stop),
+    }
+}
+
+/// A copy of the printed item of a number. [`Memory`] where there is no room for it.
+pub(crate) fn print_at(alloc: Global, prints: &PrintList, print: u32) -> Result<Item, Memory>
+    ensures { IfOk result (λ item. item ≡ get_or prints.now print no_item) }
+{
+    match prints.get(alloc, print as usize)? {
+        Some(item) => Ok(item),
+        None => Ok(Item::Cut { line: 0 }),
     }
 }
 
@@ -63,14 +84,16 @@ pub(crate) fn keep(
     keys: &mut Vec<Key>,
     slots: &mut Vec<u32>,
     whole: &mut Vec<Deed>,
+    prints: &mut PrintList,
     deed: Deed,
 ) -> Mark
     requires keys { vec_len keys.old < vec_capacity keys.old }
     requires whole { vec_len whole.old < vec_capacity whole.old }
     ensures keys { Extends keys.old.items keys.new.items }
     ensures whole { Extends whole.old.items whole.new.items }
-    ensures within { IsTrue (is_within (length keys.new.items) (length whole.new.items) result) }
-    ensures deed { deed_of keys.new.items whole.new.items result ≡ deed }
+    ensures prints { Extends prints.old prints.new }
+    ensures within { IsTrue (is_within (length keys.new.items) (length whole.new.items) (length prints.new) result) }
+    ensures deed { deed_of keys.new.items whole.new.items prints.new result ≡ deed }
 {
     if keys.len() >= 0xffff_ffff || deed.actor >= 256 {
         return keep_whole(whole, deed);
@@ -79,7 +102,7 @@ pub(crate) fn keep(
         ObjectId::Shared { .. } => keep_shared(keys, slots, whole, deed),
         ObjectId::Cpu(_) => keep_add(keys, slots, whole, deed),
         ObjectId::Clock => keep_check(whole, deed),
-        ObjectId::Out => keep_whole(whole, deed),
+        ObjectId::Out => keep_emit(whole, prints, deed),
     }
 }
 
@@ -91,8 +114,8 @@ fn keep_shared(keys: &mut Vec<Key>, slots: &mut Vec<u32>, whole: &mut Vec<Deed>,
     requires whole { vec_len whole.old < vec_capacity whole.old }
     ensures keys { Extends keys.old.items keys.new.items }
     ensures whole { Extends whole.old.items whole.new.items }
-    ensures within { IsTrue (is_within (length keys.new.items) (length whole.new.items) result) }
-    ensures deed { deed_of keys.new.items whole.new.items result ≡ deed }
+    ensures within { (prints : ℕ) → IsTrue (is_within (length keys.new.items) (length whole.new.items) prints result) }
+    ensures deed { (prints : List Sent) → deed_of keys.new.items whole.new.items prints result ≡ deed }
 {
     let actor = deed.actor;
     match (deed.object, deed.op, deed.reply) {
@@ -139,8 +162,8 @@ fn keep_add(keys: &mut Vec<Key>, slots: &mut Vec<u32>, whole: &mut Vec<Deed>, de
     requires whole { vec_len whole.old < vec_capacity whole.old }
     ensures keys { Extends keys.old.items keys.new.items }
     ensures whole { Extends whole.old.items whole.new.items }
-    ensures within { IsTrue (is_within (length keys.new.items) (length whole.new.items) result) }
-    ensures deed { deed_of keys.new.items whole.new.items result ≡ deed }
+    ensures within { (prints : ℕ) → IsTrue (is_within (length keys.new.items) (length whole.new.items) prints result) }
+    ensures deed { (prints : List Sent) → deed_of keys.new.items whole.new.items prints result ≡ deed }
 {
     let actor = deed.actor;
     match (deed.object, deed.op, deed.reply) {
@@ -168,8 +191,8 @@ fn keep_check(whole: &mut Vec<Deed>, deed: Deed) -> Mark
     requires actor { deed.actor < 256 }
     requires whole { vec_len whole.old < vec_capacity whole.old }
     ensures whole { Extends whole.old.items whole.new.items }
-    ensures within { (keys : ℕ) → IsTrue (is_within keys (length whole.new.items) result) }
-    ensures deed { (keys : List (List Part)) → deed_of keys whole.new.items result ≡ deed }
+    ensures within { (keys prints : ℕ) → IsTrue (is_within keys (length whole.new.items) prints result) }
+    ensures deed { (keys : List (List Part)) (prints : List Sent) → deed_of keys whole.new.items prints result ≡ deed }
 {
     let actor = deed.actor;
     match (deed.object, deed.op, deed.reply) {
@@ -189,12 +212,51 @@ fn keep_check(whole: &mut Vec<Deed>, deed: Deed) -> Mark
     }
 }
 
+/// Keeps what a step did at the output.
+fn keep_emit(whole: &mut Vec<Deed>, prints: &mut PrintList, deed: Deed) -> Mark
+    requires actor { deed.actor < 256 }
+    requires whole { vec_len whole.old < vec_capacity whole.old }
+    ensures whole { Extends whole.old.items whole.new.items }
+    ensures prints { Extends prints.old prints.new }
+    ensures within { (keys : ℕ) → IsTrue (is_within keys (length whole.new.items) (length prints.new) result) }
+    ensures deed { (keys : List (List Part)) → deed_of keys whole.new.items prints.new result ≡ deed }
+{
+    match keep_print(prints, &deed) {
+        Some(print) => Mark::Print {
+            actor: deed.actor as u8,
+            print,
+        },
+        None => keep_whole(whole, deed),
+    }
+}
+
+/// Keeps what a `printf` call emitted, and tells its number. `None` where the deed is another one, or where there is no room for it.
+fn keep_print(prints: &mut PrintList, deed: &Deed) -> Option<u32>
+    ensures prints { Extends prints.old prints.new }
+    ensures kept { IfSome result (λ print. (print < length prints.new)
+        × (deed.now ≡ emitted deed.now.actor (get_or prints.new print no_item))) }
+{
+    if prints.len() >= 0xffff_ffff {
+        return None;
+    }
+    match (deed.object, &deed.op, &deed.reply) {
+        (ObjectId::Out, Op::Emit(Item::Printf { format, values }), Reply::Done) => {
+            let print = prints.len() as u32;
+            match prints.push(*format, values.as_slice()) {
+                Ok(()) => Some(print),
+                Err(_) => None,
+            }
+        }
+        _ => None,
+    }
+}
+
 /// Keeps a deed whole, behind all others. There is room for it.
 fn keep_whole(whole: &mut Vec<Deed>, deed: Deed) -> Mark
     requires whole { vec_len whole.old < vec_capacity whole.old }
     ensures whole { Extends whole.old.items whole.new.items }
-    ensures within { (keys : ℕ) → IsTrue (is_within keys (length whole.new.items) result) }
-    ensures deed { (keys : List (List Part)) → deed_of keys whole.new.items result ≡ deed }
+    ensures within { (keys prints : ℕ) → IsTrue (is_within keys (length whole.new.items) prints result) }
+    ensures deed { (keys : List (List Part)) (prints : List Sent) → deed_of keys whole.new.items prints result ≡ deed }
 {
     let place = whole.len() as u64;
     whole.push_reserved(deed);

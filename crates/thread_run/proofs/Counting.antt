@@ -23,7 +23,7 @@ use Rattle.bt_meaning.proofs.Counts.{cpu_count, main_count}
 use Rattle.bt_meaning.proofs.ThreeParts.{HasLimits, interleaves, limits_of}
 use Rattle.run_objects.proofs.ReadLemmas.{sum_more}
 use Rattle.run_ends.specs.Ends.{HasParts}
-use Rattle.thread_run.specs.Acts.{HaveRun}
+use Rattle.thread_actors.specs.Acts.{HaveRun}
 
 runs_one : {A : Type 0} (t : Interaction A) (ss : List Step) (a b : A) → Runs t ss a → Runs t ss b → a ≡ b
 runs_one t ss a b h k = let e : Some a ≡ Some b = sym (value_under-Runs t ss a h) ∙ value_under-Runs t ss b k in cc

@@ -1,9 +1,5 @@
-pub mod Turning
-pub mod Running
-pub mod Ending
 pub mod Counting
 pub mod Making
 pub mod Objects
 pub mod Closing
 pub mod Telling
-pub mod Rowing

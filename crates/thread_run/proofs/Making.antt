@@ -46,13 +46,13 @@ use Rattle.run_ends.proofs.Ending.{each_both, are_traces, parts, cpu_traces}
 use Rattle.cpu_worker.specs.declared.world.SharedWorld.{SharedWorld}
 use Rattle.cpu_worker.specs.declared.world.WorkerTurns.{WorkerTurns}
 use Rattle.cpu_worker.specs.Worlds.{world_cpus, maps_in, sets_in, setting_in}
-use Rattle.thread_run.specs.declared.tasks.Gathered.{Gathered}
-use Rattle.thread_run.specs.Acts.{replay_in, CanMake, AreDone}
+use Rattle.thread_actors.specs.declared.tasks.Gathered.{Gathered}
+use Rattle.thread_actors.specs.Acts.{replay_in, CanMake, AreDone}
 use Rattle.thread_run.specs.Closed.{part_id, part_kind, PartsStand, TablesStand}
-use Rattle.thread_run.specs.Turns.{at_maps, at_tables, at_sides}
+use Rattle.thread_actors.specs.Turns.{at_maps, at_tables, at_sides}
 use Rattle.thread_run.proofs.Counting.{replayed, counted}
 use Rattle.thread_run.proofs.Objects.{AreShut, given, pairs, maps_stand, tables_stand, own_of_part, reply_of_part, out_kind, out_stands}
-use Rattle.thread_run.proofs.Turning.{maps_rows, tables_rows, clock_rows, out_rows, maps_own, tables_own, clock_own, out_own, own_long}
+use Rattle.thread_actors.proofs.Turning.{maps_rows, tables_rows, clock_rows, out_rows, maps_own, tables_own, clock_own, out_own, own_long}
 
 all_can : (world : SharedWorld) (ts : List Trace) → Each (CanMake world) ts → Each (λ (s : Step). CanStep (setting_in world 0) s.object s.op) (all_steps ts)
 all_can world [] h = tt

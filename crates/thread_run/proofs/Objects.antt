@@ -43,7 +43,7 @@ use Rattle.run_ends.proofs.Closing.{one_history, histories, have_histories, all_
 use Rattle.run_ends.proofs.Ending.{each_both}
 use Rattle.cpu_worker.specs.declared.world.SharedWorld.{SharedWorld}
 use Rattle.cpu_worker.specs.Worlds.{world_cpus, maps_in, setting_in}
-use Rattle.thread_run.specs.Acts.{CanMake}
+use Rattle.thread_actors.specs.Acts.{CanMake}
 use Rattle.thread_run.specs.Closed.{part_id, part_kind, PartsStand, TablesStand}
 
 -- ---- which objects there are

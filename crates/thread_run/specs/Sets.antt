@@ -7,7 +7,7 @@ use Rattle.run_base.specs.declared.job.Job.{Job}
 use Rattle.run_base.specs.Jobs.{cpus_in}
 use Rattle.cpu_worker.specs.declared.world.WorkerTurns.{WorkerTurns}
 use Rattle.thread_run.specs.declared.sets.Sets.{Sets}
-use Rattle.thread_run.specs.Turns.{at_maps, at_tables, at_sides}
+use Rattle.thread_actors.specs.Turns.{at_maps, at_tables, at_sides}
 
 -- the sets are those of the job's maps and ticks, for its CPUs and the main actor
 pub record AreFor (job : Job) (sets : Sets) : Type 0 where

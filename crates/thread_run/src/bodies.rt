@@ -3,7 +3,8 @@ ghost use Rattle.std.specs.Prelude.{◌+◌, ◌<◌, ◌^◌, IfOk};
 ghost use Rattle.std.specs.List.{AllByRecursion};
 ghost use Rattle.code_bodies.specs.Coding.{CanRunCode};
 ghost use Rattle.code_bodies.specs.Running.{plan_of};
-ghost use Rattle.run_base.specs.Jobs.{cpus_in, plans_by, HavePlans};
+ghost use Rattle.run_base.specs.Jobs.{cpus_in, plans_by};
+ghost use Rattle.thread_actors.specs.Plans.{HavePlans};
 
 use bpf_insn::insn::Insn;
 use bt_core::items::Items;

@@ -5,12 +5,12 @@ ghost use Rattle.code_bodies.specs.Coding.{CanRunCode};
 ghost use Rattle.run_base.specs.Jobs.{plans_by, CanRunAll};
 ghost use Rattle.thread_run.specs.Made.{IsMade};
 
-use crate::actors::run_actors;
+use thread_actors::actors::run_actors;
 use crate::bodies::all_bodies;
 use crate::closed::closed_of;
 use crate::sets::{Sets, new_sets};
-use crate::tasks::Gathered;
-use crate::turns::parted;
+use thread_actors::tasks::Gathered;
+use thread_actors::turns::parted;
 use bpf_insn::insn::Insn;
 use bt_core::items::Items;
 use bt_core::memory::Memory;

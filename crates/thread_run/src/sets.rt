@@ -3,10 +3,10 @@ ghost use Rattle.std.specs.Prelude.{◌≡◌, ◌+◌, ◌<◌, ◌^◌, All, l
 ghost use Rattle.bt_core.specs.Kinds.{IsFineDecl};
 ghost use Rattle.turn_lock.specs.History.{Each};
 ghost use Rattle.run_base.specs.Jobs.{cpus_in};
-ghost use Rattle.thread_run.specs.Turns.{AreUnused};
+ghost use Rattle.thread_actors.specs.Turns.{AreUnused};
 ghost use Rattle.thread_run.specs.Sets.{AreFor, AreAllTurns};
 
-use crate::turns::joined;
+use thread_actors::turns::joined;
 use bt_core::memory::Memory;
 use cpu_worker::world::WorkerTurns;
 use percpu_tables::tables::Tables;

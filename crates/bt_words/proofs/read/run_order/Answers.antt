@@ -1,28 +1,32 @@
 use Rattle.std.proofs.Common.{◌∙◌, ap, codes, drop, map, string_bytes}
-use Rattle.clap.specs.Words.{App, found_of, matches_of, takes}
+use Rattle.clap.specs.Words.{App, found_of, matches_of, rows_of, takes}
+use Rattle.bt_words.specs.Commands.{run_app}
 use Rattle.bt_words.proofs.ClapEnd.{is_run, reads_run, run_is}
-use Rattle.bt_words.proofs.ClapGets.{flag_is, given, text_is}
+use Rattle.bt_words.proofs.ClapGets.{first_there, flag_is, text_is}
 use Rattle.bt_words.proofs.read.run_order.Goals as goal
 
 pub parsed-requires : goal.parsed-requires
 parsed-requires c =
     let words = map string_bytes c.args.words.now in
-    let read = reads_run words (is_run (drop 1 words) c.requires) in
+    let is = is_run (drop 1 words) c.requires in
+    let read = reads_run words is in
     ap (λ (a : App). takes a words) c.in_ok-run_command.ensures ∙ read.takes_them
 
-pub unwrap-script-requires : goal.unwrap-script-requires
-unwrap-script-requires c =
+pub text-first-requires : goal.text-first-requires
+text-first-requires c =
     let words = map string_bytes c.args.words.now in
-    let read = reads_run words (is_run (drop 1 words) c.requires) in
+    let is = is_run (drop 1 words) c.requires in
+    let read = reads_run words is in
     let rows = c.in_ok-matches.ensures.matches ∙ ap (λ (a : App). matches_of a words) c.in_ok-run_command.ensures in
-    (given (found_of c.in_ok-matches.matches) (codes "script") _ _ c.get_str.result c.get_str.ensures rows read.script_text).0
+    first_there (codes "script") _ (rows_of (found_of c.in_ok-matches.matches)) (matches_of run_app words) rows read.script_text
 
-pub unwrap-recording-requires : goal.unwrap-recording-requires
-unwrap-recording-requires c =
+pub text-second-requires : goal.text-second-requires
+text-second-requires c =
     let words = map string_bytes c.args.words.now in
-    let read = reads_run words (is_run (drop 1 words) c.requires) in
+    let is = is_run (drop 1 words) c.requires in
+    let read = reads_run words is in
     let rows = c.in_ok-matches.ensures.matches ∙ ap (λ (a : App). matches_of a words) c.in_ok-run_command.ensures in
-    (given (found_of c.in_ok-matches.matches) (codes "recording") _ _ c.get_str-2.result c.get_str-2.ensures rows read.recording_text).0
+    first_there (codes "recording") _ (rows_of (found_of c.in_ok-matches.matches)) (matches_of run_app words) rows read.recording_text
 
 pub returns : goal.returns
 returns c =
@@ -31,11 +35,9 @@ returns c =
     let read = reads_run words is in
     let found = found_of c.in_ok-matches.matches in
     let rows = c.in_ok-matches.ensures.matches ∙ ap (λ (a : App). matches_of a words) c.in_ok-run_command.ensures in
-    let script = text_is c.get_str.result c.unwrap-script.result _ c.unwrap-script.ensures
-    (given found (codes "script") _ _ c.get_str.result c.get_str.ensures rows read.script_text).1 in
-    let recording = text_is c.get_str-2.result c.unwrap-recording.result _ c.unwrap-recording.ensures
-    (given found (codes "recording") _ _ c.get_str-2.result c.get_str-2.ensures rows read.recording_text).1 in
-    let serial = flag_is found (codes "serial") _ _ c.get_flag.result rows read.serial_text c.get_flag.ensures.value c.get_flag.ensures.other in
-    let stats = flag_is found (codes "stats") _ _ c.get_flag-2.result rows read.stats_text c.get_flag-2.ensures.value c.get_flag-2.ensures.other in
-    let json = flag_is found (codes "json") _ _ c.get_flag-3.result rows read.json_text c.get_flag-3.ensures.value c.get_flag-3.ensures.other in
-    run_is (drop 1 words) is _ _ _ _ _ serial stats json (c.in_ok-of.ensures ∙ script) (c.in_ok-of-2.ensures ∙ recording)
+    let script = text_is (codes "script") c.text-first.result.now _ (rows_of found) (matches_of run_app words) rows read.script_text c.text-first.ensures in
+    let recording = text_is (codes "recording") c.text-second.result.now _ (rows_of found) (matches_of run_app words) rows read.recording_text c.text-second.ensures in
+    let serial = flag_is found (codes "serial") _ _ c.get_flag-serial.result rows read.serial_text c.get_flag-serial.ensures.value c.get_flag-serial.ensures.other in
+    let stats = flag_is found (codes "stats") _ _ c.get_flag-stats.result rows read.stats_text c.get_flag-stats.ensures.value c.get_flag-stats.ensures.other in
+    let json = flag_is found (codes "json") _ _ c.get_flag-json.result rows read.json_text c.get_flag-json.ensures.value c.get_flag-json.ensures.other in
+    run_is (drop 1 words) is _ _ _ _ _ serial stats json (c.in_ok-script.ensures.names.0 ∙ script) (c.in_ok-script.ensures.names.1 ∙ recording)

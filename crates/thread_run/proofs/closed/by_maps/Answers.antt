@@ -2,7 +2,7 @@ use Rattle.std.proofs.Common.{arith}
 use Rattle.std.specs.Vec.Iter.{into_iter_items}
 use Rattle.run_objects.specs.Closed.{part_list}
 use Rattle.thread_run.proofs.Closing.{map_more, none_left}
-use Rattle.thread_run.proofs.Rowing.{one_made, all_made}
+use Rattle.thread_actors.proofs.Rowing.{one_made, all_made}
 use Rattle.thread_run.proofs.closed.by_maps.Goals as goal
 
 pub loop-decl-preserved : goal.loop-decl-preserved

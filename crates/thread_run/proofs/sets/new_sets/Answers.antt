@@ -1,7 +1,7 @@
 use Rattle.std.proofs.Common.{sym, ap, subst}
 use Rattle.stamped.specs.SetTurns.{AreNew}
 use Rattle.side_locks.specs.Turns.{clocks, outs}
-use Rattle.thread_run.proofs.Turning.{all_unused}
+use Rattle.thread_actors.proofs.Turning.{all_unused}
 use Rattle.thread_run.proofs.sets.new_sets.Goals as goal
 
 pub returns-clause-unused : goal.returns-clause-unused

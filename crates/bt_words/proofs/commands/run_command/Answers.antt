@@ -1,0 +1,5 @@
+use Rattle.bt_words.proofs.commands.run_command.Goals as goal
+
+pub returns : goal.returns
+returns c =
+    c.with_operands.ensures _ (c.with_flag-json.ensures _ (c.with_flag-stats.ensures _ (c.with_flag-serial.ensures _ c.plain_command.ensures)))

@@ -1,0 +1,4 @@
+pub mod Turning
+pub mod Running
+pub mod Ending
+pub mod Rowing
