@@ -6,7 +6,6 @@ ghost use Rattle.run_base.specs.Jobs.{cpus_in};
 ghost use Rattle.thread_actors.specs.Turns.{AreUnused};
 ghost use Rattle.thread_run.specs.Sets.{AreFor, AreAllTurns};
 
-use thread_actors::turns::joined;
 use bt_core::memory::Memory;
 use cpu_worker::world::WorkerTurns;
 use percpu_tables::tables::Tables;
@@ -14,6 +13,7 @@ use run_base::job::Job;
 use shared_maps::maps::SharedMaps;
 use side_locks::sides::SideLocks;
 use std::alloc::Global;
+use thread_actors::turns::joined;
 
 /// The locks round all objects of a run.
 #[derive(Drop)]
