@@ -21,7 +21,7 @@ use Rattle.rec_format.specs.declared.recording.Recording.{Recording}
 use Rattle.rec_format.specs.Places.{entry_at_place}
 use Rattle.rec_format.specs.Recordings.{IsValidRecording}
 use Rattle.rec_format.proofs.ForOthers.{recorded_format}
-use Rattle.tracefs_format.proofs.ForOthers.{all_at}
+use Rattle.event_layout.proofs.Lists.{all_at}
 use Rattle.actor_plan.specs.declared.agenda.AgendaItem.{AgendaItem}
 use Rattle.actor_plan.specs.declared.agenda.AgendaItem.TheVariants as item
 use Rattle.actor_plan.specs.Agendas.{agenda_of}

@@ -9,7 +9,7 @@ use Rattle.bt_core.specs.declared.step.Op.{Op}
 use Rattle.bt_core.specs.declared.step.Reply.{Reply}
 use Rattle.bt_core.specs.Interaction.{Interaction, Asks, Ended, value_under}
 use Rattle.bt_core.specs.Ports.{Setting, CanStep, IsReplyOf}
-use Rattle.tracefs_format.specs.declared.format.Format.{Format}
+use Rattle.event_layout.specs.declared.format.Format.{Format}
 use Rattle.actor_plan.specs.declared.limits.TheConstants.{RUN_INSTRUCTIONS}
 
 -- The actor that runs the bodies, the number of actors, the script's maps by their numbers, the layout size of each body by its

@@ -4,10 +4,10 @@ use bt_attach::error::AttachError;
 use bt_core::items::Items;
 use bt_core::memory::Memory;
 use bt_core::place::Place;
+use event_layout::format::Format;
+use event_layout::layout::Layout;
 use std::alloc::Global;
 use std::test::Fail;
-use tracefs_format::format::Format;
-use tracefs_format::layout::Layout;
 
 /// What names end in.
 const ENDS: &[u8; 64] = b"0123456789ABCDEFGHIJKLMNOPQRSTUVWXYZabcdefghijklmnopqrstuvwxyz_-";

@@ -6,7 +6,7 @@ use Rattle.bt_core.specs.declared.map.AggKind.{AggKind}
 use Rattle.bt_core.specs.declared.map.AggKind.TheVariants as agg
 use Rattle.bt_core.specs.declared.map.MapId.{MapId}
 use Rattle.bt_ast.specs.declared.expr.Builtin.TheVariants.{Comm}
-use Rattle.tracefs_format.specs.declared.field.Field.{Field}
+use Rattle.event_layout.specs.declared.field.Field.{Field}
 use Rattle.typed_tree.specs.Bodies.{predicate_parts, tree_parts}
 use Rattle.typed_tree.specs.declared.body.TypedTree.{TypedTree}
 use Rattle.typed_tree.specs.declared.expr.AnyExpr.{AnyExpr}

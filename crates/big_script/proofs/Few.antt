@@ -21,7 +21,7 @@ use Rattle.bt_ast.specs.declared.attached.BodyPoint.TheVariants as points
 use Rattle.bt_ast.specs.declared.attached.Tick.{Tick}
 use Rattle.bt_attach.specs.Attaching.{IsAttachedTo, bodies_from, bodies_at, at_each, ticks_from}
 use Rattle.bt_attach.specs.Ticks.{AreInOrder}
-use Rattle.tracefs_format.specs.declared.format.Format.{Format}
+use Rattle.event_layout.specs.declared.format.Format.{Format}
 use Rattle.rec_format.specs.declared.recording.CpuTrack.{CpuTrack}
 use Rattle.rec_format.specs.declared.recording.Entry.{Entry}
 use Rattle.rec_format.specs.declared.recording.Entry.TheVariants as entry

@@ -1,15 +1,15 @@
 -- The one layout of a made recording, and what the script's point matches there.
 use Rattle.std.proofs.Common.{◌≡◌, ℕ, true, false, List, [], ◌∷◌, map, drop, Some, refl, ap, sym, ◌∙◌, arith}
 use Rattle.std.specs.Prelude.{codes}
-use Rattle.tracefs_format.specs.declared.field.Field.{Field}
-use Rattle.tracefs_format.specs.declared.field.FieldKind.TheVariants.{Number, Other}
-use Rattle.tracefs_format.specs.declared.format.Format.{Format}
-use Rattle.tracefs_format.specs.declared.layout.Layout.{Layout}
-use Rattle.tracefs_format.specs.FieldLines.{description}
-use Rattle.tracefs_format.specs.Layouts.{IsLayoutOf, line_at, read_lines, described}
-use Rattle.tracefs_format.specs.Lines.{text_lines}
-use Rattle.tracefs_format.specs.Reading.{name_on, id_on, field_on, number_after, flag_after}
-use Rattle.tracefs_format.specs.Declarations.{kind_of}
+use Rattle.event_layout.specs.declared.field.Field.{Field}
+use Rattle.event_layout.specs.declared.field.FieldKind.TheVariants.{Number, Other}
+use Rattle.event_layout.specs.declared.format.Format.{Format}
+use Rattle.event_layout.specs.declared.layout.Layout.{Layout}
+use Rattle.event_layout.specs.FieldLines.{description}
+use Rattle.event_layout.specs.Layouts.{IsLayoutOf, line_at, read_lines, described}
+use Rattle.event_layout.specs.Lines.{text_lines}
+use Rattle.event_layout.specs.Reading.{name_on, id_on, field_on, number_after, flag_after}
+use Rattle.event_layout.specs.Declarations.{kind_of}
 use Rattle.tracefs_format.proofs.LayoutLaws.{IsLayoutOf-read}
 use Rattle.tracefs_format.proofs.SameLaws.{same_layout}
 use Rattle.tracefs_format.proofs.StripLaws.{some_is}

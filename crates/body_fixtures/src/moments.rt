@@ -4,7 +4,7 @@ ghost use Rattle.walk_meaning.specs.Served.{least_length};
 
 use bt_core::context::Context;
 use bt_core::text::Str64;
-use tracefs_format::layout::Layout;
+use event_layout::layout::Layout;
 
 /// The run of a body: the time and thread that it sees, its payload, and the actor that runs it, of so many.
 #[derive(Clone, Copy)]

@@ -9,10 +9,10 @@ use bt_core::items::Items;
 use bt_lexer::lexer::lex;
 use bt_parser::parse::parse;
 use bt_types::script::check;
+use event_layout::format::Format;
 use expr_types::fault::TypeError;
 use std::alloc::Global;
 use std::test::Fail;
-use tracefs_format::format::Format;
 use tracefs_format::reading::read_layout;
 use typed_tree::script::Typed;
 

@@ -9,7 +9,7 @@ use Rattle.bt_ast.specs.declared.attached.BodyPoint.TheVariants.{Begin, End, Int
 use Rattle.bt_ast.specs.declared.probe.Point.{Point}
 use Rattle.bt_ast.specs.declared.probe.Probe.{Probe}
 use Rattle.bt_ast.specs.declared.probe.Script.{Script}
-use Rattle.tracefs_format.specs.declared.format.Format.{Format}
+use Rattle.event_layout.specs.declared.format.Format.{Format}
 use Rattle.bt_attach.specs.Attaching.{places_from, places, is_begin, is_end, is_interval, is_matched, once, begin_and_end, body_points, bodies_from, IsAttachedTo}
 use Rattle.bt_attach.specs.There.{IsEventThere, IsThere}
 

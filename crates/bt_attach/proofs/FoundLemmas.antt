@@ -11,7 +11,7 @@ use Rattle.bt_ast.specs.declared.attached.BodyPoint.{BodyPoint}
 use Rattle.bt_ast.specs.declared.attached.BodyPoint.TheVariants.{Begin as AtBegin, End as AtEnd}
 use Rattle.bt_ast.specs.declared.attached.BodyId.{BodyId}
 use Rattle.bt_ast.specs.declared.attached.Tick.{Tick}
-use Rattle.tracefs_format.specs.declared.format.Format.{Format}
+use Rattle.event_layout.specs.declared.format.Format.{Format}
 use Rattle.bt_attach.specs.declared.error.AttachError.{AttachError}
 use Rattle.bt_attach.specs.declared.seen.Seen.{Seen}
 use Rattle.bt_attach.specs.declared.attach.Found.{Found}

@@ -10,7 +10,7 @@ use Rattle.bt_ast.specs.declared.attached.Tick.{Tick}
 use Rattle.bt_ast.specs.declared.probe.Script.{Script}
 use Rattle.bt_core.proofs.StableOrder.{stable_order}
 use Rattle.bt_core.specs.Sorted.{ordered}
-use Rattle.tracefs_format.specs.declared.format.Format.{Format}
+use Rattle.event_layout.specs.declared.format.Format.{Format}
 use Rattle.bt_attach.specs.Attaching.{IsAttachedTo, at_each, bodies_at}
 use Rattle.bt_attach.specs.Ticks.{AreInOrder}
 

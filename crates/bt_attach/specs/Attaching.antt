@@ -13,7 +13,7 @@ use Rattle.bt_ast.specs.declared.attached.BodyPoint.TheVariants.{Begin as AtBegi
 use Rattle.bt_ast.specs.declared.attached.BodyId.{BodyId}
 use Rattle.bt_ast.specs.declared.attached.Tick.{Tick}
 use Rattle.bt_ast.specs.declared.attached.Attached.{Attached}
-use Rattle.tracefs_format.specs.declared.format.Format.{Format}
+use Rattle.event_layout.specs.declared.format.Format.{Format}
 use Rattle.bt_attach.specs.declared.error.AttachError.{AttachError}
 use Rattle.bt_attach.specs.declared.error.AttachError.TheVariants.{UnknownTracepoint, NoMatch, BadPeriod, TooManyTicks, TooManyAttached}
 use Rattle.bt_attach.specs.Pattern.{matches}

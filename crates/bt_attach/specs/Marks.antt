@@ -1,6 +1,6 @@
 -- What goes with the code: marks of the formats that points match.
 use Rattle.std.specs.Prelude.{ℕ, Bool, ◌&&◌, ◌||◌, List, [], ◌∷◌}
-use Rattle.tracefs_format.specs.declared.format.Format.{Format}
+use Rattle.event_layout.specs.declared.format.Format.{Format}
 use Rattle.bt_attach.specs.Pattern.{matches}
 
 abbrev pub is_named : List ℕ → List ℕ → Format → Bool

@@ -8,7 +8,7 @@ use Rattle.bt_ast.specs.declared.probe.Point.TheVariants.{Begin, End, Tracepoint
 use Rattle.bt_ast.specs.declared.attached.BodyPoint.{BodyPoint}
 use Rattle.bt_ast.specs.declared.attached.BodyPoint.TheVariants.{Begin as AtBegin, End as AtEnd, Interval as AtTicks, Event}
 use Rattle.bt_ast.specs.declared.attached.BodyId.{BodyId}
-use Rattle.tracefs_format.specs.declared.format.Format.{Format}
+use Rattle.event_layout.specs.declared.format.Format.{Format}
 use Rattle.bt_attach.specs.declared.error.AttachError.{AttachError}
 use Rattle.bt_attach.specs.declared.error.AttachError.TheVariants.{Memory}
 use Rattle.bt_attach.specs.declared.seen.Seen.{Seen}

@@ -4,7 +4,7 @@ use Rattle.bt_ast.specs.declared.attached.BodyId.{BodyId}
 use Rattle.bt_ast.specs.declared.attached.BodyPoint.{BodyPoint}
 use Rattle.bt_ast.specs.declared.attached.BodyPoint.TheVariants.{Begin, End, Interval, Event}
 use Rattle.bt_ast.specs.declared.probe.Script.{Script}
-use Rattle.tracefs_format.specs.declared.format.Format.{Format}
+use Rattle.event_layout.specs.declared.format.Format.{Format}
 
 -- an event is that of one of the formats
 abbrev pub IsEventThere : List Format → BodyPoint → Type 0

@@ -9,8 +9,8 @@ use crate::ticks::{add_points, in_order};
 use bt_ast::attached::{Attached, BodyId, BodyPoint, Tick};
 use bt_ast::probe::{Probe, Script};
 use bt_core::items::Items;
+use event_layout::format::Format;
 use std::alloc::Global;
-use tracefs_format::format::Format;
 
 /// The bodies of probes, and their ticks in the order of their points.
 #[derive(Drop)]

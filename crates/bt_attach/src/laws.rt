@@ -2,7 +2,7 @@
 ghost use Rattle.std.specs.Prelude.{◌≡◌, All, List, ℕ};
 ghost use Rattle.bt_ast.specs.declared.attached.Attached.{Attached as AttachedValue};
 ghost use Rattle.bt_ast.specs.declared.probe.Script.{Script as ScriptValue};
-ghost use Rattle.tracefs_format.specs.declared.format.Format.{Format as FormatValue};
+ghost use Rattle.event_layout.specs.declared.format.Format.{Format as FormatValue};
 ghost use Rattle.bt_attach.specs.Attaching.{IsAttachedTo};
 ghost use Rattle.bt_attach.specs.There.{IsThere};
 

@@ -7,8 +7,8 @@ ghost use Rattle.bt_attach.specs.Marks.{is_named, either_each};
 use crate::pattern::{either, is_match};
 use bt_core::items::Items;
 use bt_core::memory::Memory;
+use event_layout::format::Format;
 use std::alloc::Global;
-use tracefs_format::format::Format;
 
 /// Marks of formats, and whether a new point matched one.
 #[derive(Drop)]

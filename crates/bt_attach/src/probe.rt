@@ -10,8 +10,8 @@ use bt_ast::probe::Point;
 use bt_core::items::Items;
 use bt_core::limits::BODIES;
 use bt_core::memory::Memory;
+use event_layout::format::Format;
 use std::alloc::Global;
-use tracefs_format::format::Format;
 
 /// Marks of which none is set.
 fn no_marks(alloc: Global, count: usize) -> Result<Items<bool>, Memory>

@@ -13,8 +13,8 @@ use bt_ast::probe::{Point, Unit};
 use bt_core::items::Items;
 use bt_core::limits::TICKS;
 use bt_core::place::Place;
+use event_layout::format::Format;
 use std::alloc::Global;
-use tracefs_format::format::Format;
 
 /// Which kinds of points a probe has, which formats they match, and how many ticks there are up to
 /// and with them, those of earlier probes included.

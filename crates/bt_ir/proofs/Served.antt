@@ -11,8 +11,8 @@ use Rattle.bt_core.specs.declared.map.Shape.TheVariants as shapes
 use Rattle.bt_core.specs.declared.limits.TheConstants.{KEY_PARTS}
 use Rattle.bt_core.specs.Kinds.{HasShape, IsAggregation}
 use Rattle.bt_core.specs.Ports.{Setting}
-use Rattle.tracefs_format.specs.declared.field.FieldKind.{FieldKind}
-use Rattle.tracefs_format.specs.declared.field.FieldKind.TheVariants.{Number, Chars, DataLoc, Other}
+use Rattle.event_layout.specs.declared.field.FieldKind.{FieldKind}
+use Rattle.event_layout.specs.declared.field.FieldKind.TheVariants.{Number, Chars, DataLoc, Other}
 use Rattle.typed_tree.specs.Scope.{same_shapes, is_shape, shape_of_field, is_declared, is_shared, is_summed, is_summed_kind, is_there, kind_of_shape, may_print}
 use Rattle.ir_code.specs.declared.blocks.Block.{Block}
 use Rattle.ir_code.specs.declared.blocks.Exit.{Exit}

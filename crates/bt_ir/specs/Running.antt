@@ -8,8 +8,8 @@ use Rattle.bt_core.specs.declared.step.Step.{Step}
 use Rattle.bt_core.specs.Interaction.{Interaction, Ended, Asks, Whole, Part}
 use Rattle.bt_core.specs.Kinds.{IsAggregation}
 use Rattle.bt_core.specs.Ports.{Setting, CanStep}
-use Rattle.tracefs_format.specs.declared.field.FieldKind.TheVariants.{Number, Chars, DataLoc}
-use Rattle.tracefs_format.specs.Sizes.{end_of}
+use Rattle.event_layout.specs.declared.field.FieldKind.TheVariants.{Number, Chars, DataLoc}
+use Rattle.event_layout.specs.Sizes.{end_of}
 use Rattle.map_ops.specs.Holders.{kind_of, CanSweep}
 use Rattle.ir_code.specs.declared.blocks.Block.{Block}
 use Rattle.ir_code.specs.declared.instr.Instr.{Instr}

@@ -8,8 +8,8 @@ use Rattle.bt_ast.specs.declared.attached.BodyId.{BodyId}
 use Rattle.bt_ast.specs.declared.attached.BodyPoint.{BodyPoint}
 use Rattle.bt_ast.specs.declared.attached.BodyPoint.TheVariants.{Begin, End, Interval, Event}
 use Rattle.bt_ast.specs.declared.probe.Script.{Script}
-use Rattle.tracefs_format.specs.declared.format.Format.{Format}
-use Rattle.tracefs_format.specs.declared.layout.Layout.{Layout}
+use Rattle.event_layout.specs.declared.format.Format.{Format}
+use Rattle.event_layout.specs.declared.layout.Layout.{Layout}
 use Rattle.typed_tree.specs.declared.body.TypedBody.{TypedBody}
 use Rattle.expr_types.specs.declared.known.Known.{Known}
 use Rattle.bt_types.specs.Bodies.{layout_at}

@@ -11,7 +11,7 @@ use Rattle.bt_ast.specs.declared.attached.BodyPoint.TheVariants.{Event}
 use Rattle.bt_ast.specs.declared.probe.Point.{Point}
 use Rattle.bt_ast.specs.declared.probe.Point.TheVariants.{Begin, End, Tracepoint, Interval}
 use Rattle.bt_ast.specs.declared.probe.Probe.{Probe}
-use Rattle.tracefs_format.specs.declared.format.Format.{Format}
+use Rattle.event_layout.specs.declared.format.Format.{Format}
 use Rattle.bt_attach.specs.declared.error.AttachError.{AttachError}
 use Rattle.bt_attach.specs.Ticks.{first_ticks, ticks_by, tick_count, period_in}
 use Rattle.bt_attach.specs.Attaching.{body_points, bodies_from, begin_and_end, point_ticks, ticks_from, point_tick_count, or_else, own_fault, too_many_ticks, too_many_bodies, point_fault, points_fault, probes_fault, places_from, is_matched}

@@ -12,8 +12,8 @@ use Rattle.bt_ast.specs.declared.attached.Tick.{Tick}
 use Rattle.bt_ast.specs.declared.probe.Script.{Script}
 use Rattle.rec_format.specs.declared.recording.Recording.{Recording}
 use Rattle.rec_format.specs.Recordings.{IsValidRecording}
-use Rattle.tracefs_format.specs.declared.format.Format.{Format}
-use Rattle.tracefs_format.specs.declared.layout.Layout.{Layout}
+use Rattle.event_layout.specs.declared.format.Format.{Format}
+use Rattle.event_layout.specs.declared.layout.Layout.{Layout}
 use Rattle.typed_tree.specs.declared.script.Typed.{Typed}
 use Rattle.bt_attach.specs.Attaching.{IsAttachedTo, attach_fault, probes_fault, bodies_from, bodies_at, is_at}
 use Rattle.bt_types.specs.Bodies.{layout_at}

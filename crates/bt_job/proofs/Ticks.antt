@@ -14,7 +14,7 @@ use Rattle.bt_ast.specs.declared.attached.Tick.{Tick}
 use Rattle.bt_ast.specs.declared.probe.Point.{Point}
 use Rattle.bt_ast.specs.declared.probe.Point.TheVariants.{Begin, End, Tracepoint, Interval}
 use Rattle.bt_ast.specs.declared.probe.Probe.{Probe}
-use Rattle.tracefs_format.specs.declared.format.Format.{Format}
+use Rattle.event_layout.specs.declared.format.Format.{Format}
 use Rattle.bt_attach.specs.Ticks.{first_ticks, ticks_by, period_in, AreInOrder}
 use Rattle.bt_attach.specs.Attaching.{is_interval, is_matched, once, places, begin_and_end, body_points, bodies_from, point_ticks, ticks_from}
 use Rattle.std.proofs.lemmas.Option.{slice_get_within, get_or_from_slice_get}

@@ -12,7 +12,7 @@ use Rattle.bt_lexer.specs.Tokens.{IsTokensOf}
 use Rattle.bt_types.specs.Script.{IsTypedScript}
 use Rattle.rec_format.specs.declared.recording.Recording.{Recording as Recorded}
 use Rattle.rec_format.specs.Recordings.{IsValidRecording, recording_bytes}
-use Rattle.tracefs_format.specs.declared.format.Format.{Format}
+use Rattle.event_layout.specs.declared.format.Format.{Format}
 use Rattle.typed_tree.specs.declared.script.Typed.{Typed}
 use Rattle.bt_judge.specs.Meanings.{IsMeaningFor, Meaning, Means}
 use Rattle.bt_judge.specs.Orders.{OperandFile}

@@ -16,7 +16,7 @@ use Rattle.bt_types.specs.Script.{AreTypedBodies}
 use Rattle.bt_ast.specs.declared.probe.Script.{Script as Tree}
 use Rattle.expr_types.specs.declared.known.Known.{Known}
 use Rattle.run_base.specs.declared.job.Job.{Job}
-use Rattle.tracefs_format.specs.declared.format.Format.{Format}
+use Rattle.event_layout.specs.declared.format.Format.{Format}
 use Rattle.typed_tree.specs.declared.body.TypedBody.{TypedBody}
 use Rattle.typed_tree.specs.declared.script.Typed.{Typed}
 use Rattle.walk_meaning.specs.Served.{least_length}

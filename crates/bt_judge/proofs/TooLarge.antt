@@ -11,7 +11,7 @@ use Rattle.bt_types.specs.Script.{AreTypedBodies, IsTypedScript}
 use Rattle.expr_types.specs.declared.known.Known.{Known}
 use Rattle.script_programs.specs.declared.error.SizeFault.{SizeFault}
 use Rattle.script_programs.specs.Sizes.{first_size_fault, or_else, size_fault}
-use Rattle.tracefs_format.specs.declared.format.Format.{Format}
+use Rattle.event_layout.specs.declared.format.Format.{Format}
 use Rattle.typed_tree.specs.declared.body.TypedBody.{TypedBody}
 use Rattle.typed_tree.specs.declared.script.Typed.{Typed}
 use Rattle.bt_judge.specs.Doing.{HasProbe}

@@ -6,7 +6,7 @@ use Rattle.bpf_encode.specs.Listing.{listing_of}
 use Rattle.bt_ast.specs.declared.attached.BodyId.{BodyId}
 use Rattle.bt_ast.specs.declared.attached.BodyPoint.{BodyPoint}
 use Rattle.bt_ast.specs.declared.attached.BodyPoint.TheVariants.{Begin, End, Interval, Event}
-use Rattle.tracefs_format.specs.declared.format.Format.{Format}
+use Rattle.event_layout.specs.declared.format.Format.{Format}
 
 -- the system and the name of an event
 abbrev pub event_name : Option Format → List ℕ

@@ -4,8 +4,8 @@ use Rattle.account_format.specs.declared.error.AccountError.{AccountError}
 use Rattle.account_format.specs.declared.error.AccountError.TheVariants as account
 use Rattle.bt_io.specs.declared.shelf.ShelfError.{ShelfError}
 use Rattle.bt_io.specs.declared.shelf.ShelfError.TheVariants as shelf
-use Rattle.tracefs_format.specs.declared.error.FormatError.{FormatError}
-use Rattle.tracefs_format.specs.declared.error.FormatError.TheVariants as rule
+use Rattle.event_layout.specs.declared.error.FormatError.{FormatError}
+use Rattle.event_layout.specs.declared.error.FormatError.TheVariants as rule
 use Rattle.rec_format.specs.declared.error.CountOf.{CountOf}
 use Rattle.rec_format.specs.declared.error.CountOf.TheVariants.{Cpus, Formats, Events, Span}
 use Rattle.rec_format.specs.declared.error.RecordingError.{RecordingError}

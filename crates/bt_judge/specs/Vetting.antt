@@ -8,7 +8,7 @@ use Rattle.bpf_check.specs.declared.check.CodeFault.TheVariants.{Memory}
 use Rattle.bpf_encode.specs.declared.program.Program.{Program}
 use Rattle.bt_ast.specs.declared.attached.BodyId.{BodyId}
 use Rattle.bt_core.specs.declared.memory.Memory.{Memory as NoMemory}
-use Rattle.tracefs_format.specs.declared.format.Format.{Format}
+use Rattle.event_layout.specs.declared.format.Format.{Format}
 use Rattle.typed_tree.specs.declared.body.TypedBody.{TypedBody}
 use Rattle.typed_tree.specs.declared.script.Typed.{Typed}
 use Rattle.walk_meaning.specs.Served.{least_length}

@@ -5,7 +5,7 @@ ghost use Rattle.bt_ast.specs.declared.probe.Script.{Script};
 ghost use Rattle.bt_types.specs.Script.{IsTypedScript};
 ghost use Rattle.run_base.specs.declared.job.Job.{Job};
 ghost use Rattle.script_programs.specs.Sizes.{first_size_fault};
-ghost use Rattle.tracefs_format.specs.declared.format.Format.{Format};
+ghost use Rattle.event_layout.specs.declared.format.Format.{Format};
 ghost use Rattle.typed_tree.specs.declared.script.Typed.{Typed};
 ghost use Rattle.bt_judge.specs.Jobs.{IsJobFor, meaning_in};
 ghost use Rattle.bt_judge.specs.Meanings.{IsMeaningFor, Meaning};

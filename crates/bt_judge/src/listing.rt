@@ -9,9 +9,9 @@ use bpf_encode::program::Program;
 use bt_ast::attached::{BodyId, BodyPoint};
 use bt_core::items::Items;
 use bt_core::memory::Memory;
+use event_layout::format::Format;
 use itoa::Buffer;
 use std::alloc::Global;
-use tracefs_format::format::Format;
 
 /// Adds the system and the name of an event.
 fn push_event(text: &mut Vec<u8>, format: &Format) -> Result<(), Memory>

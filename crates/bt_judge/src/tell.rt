@@ -15,9 +15,9 @@ use account_format::error::AccountError;
 use bt_core::place::Place;
 use bt_io::sink::Sink;
 use bt_words::order::{FileName, Order};
+use event_layout::error::FormatError;
 use expr_types::fault::Rule;
 use rec_format::error::{CountOf, RecordingError};
-use tracefs_format::error::FormatError;
 
 /// The number that is out of its bounds.
 fn count_word(what: CountOf) -> &'static str

@@ -13,9 +13,9 @@ use bpf_encode::program::Program;
 use bt_ast::attached::BodyId;
 use bt_core::items::Items;
 use bt_core::memory::Memory;
+use event_layout::format::Format;
 use itoa::Buffer;
 use std::alloc::Global;
-use tracefs_format::format::Format;
 use typed_tree::body::TypedBody;
 use typed_tree::script::Typed;
 

@@ -15,11 +15,11 @@ use bt_core::items::Items;
 use bt_core::map::{MapId, Shape};
 use bt_core::memory::{Memory, TryCopy};
 use bt_core::value::Value;
+use event_layout::field::Field;
 use ir_code::blocks::Exit;
 use ir_code::instr::Instr;
 use ir_code::state::shape_of;
 use std::alloc::Global;
-use tracefs_format::field::Field;
 use typed_tree::expr::{AnyExpr, NumExpr, StrExpr};
 
 /// The types of a key's parts.

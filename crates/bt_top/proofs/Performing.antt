@@ -20,7 +20,7 @@ use Rattle.run_base.specs.declared.job.Work.{Work}
 use Rattle.run_output.specs.declared.form.Form.{Form}
 use Rattle.run_output.specs.declared.form.Form.TheVariants.{Text}
 use Rattle.bt_ast.specs.declared.attached.BodyId.{BodyId}
-use Rattle.tracefs_format.specs.declared.format.Format.{Format}
+use Rattle.event_layout.specs.declared.format.Format.{Format}
 use Rattle.bt_judge.specs.declared.refusal.Refusal.{Refusal}
 use Rattle.bt_judge.specs.declared.refusal.Refusal.TheVariants.{Memory}
 use Rattle.bt_judge.specs.declared.refusal.CodeRefusal.{CodeRefusal}

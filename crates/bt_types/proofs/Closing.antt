@@ -8,7 +8,7 @@ use Rattle.bt_ast.specs.declared.probe.Script.{Script}
 use Rattle.bt_core.specs.declared.map.MapDecl.{MapDecl}
 use Rattle.bt_core.specs.declared.map.MapId.{MapId}
 use Rattle.fmt_text.specs.declared.piece.Piece.{Piece}
-use Rattle.tracefs_format.specs.declared.format.Format.{Format}
+use Rattle.event_layout.specs.declared.format.Format.{Format}
 use Rattle.typed_tree.specs.Bodies.{tree_parts}
 use Rattle.typed_tree.specs.Script.{IsIn, AreIn}
 use Rattle.typed_tree.specs.declared.body.TypedBody.{TypedBody}

@@ -6,8 +6,8 @@ use Rattle.std.proofs.Math.Seq.{take-suc}
 use Rattle.bt_ast.specs.declared.attached.BodyId.{BodyId}
 use Rattle.bt_ast.specs.declared.probe.Probe.{Probe}
 use Rattle.bt_ast.specs.declared.probe.Script.{Script}
-use Rattle.tracefs_format.specs.declared.format.Format.{Format}
-use Rattle.tracefs_format.specs.declared.layout.Layout.{Layout}
+use Rattle.event_layout.specs.declared.format.Format.{Format}
+use Rattle.event_layout.specs.declared.layout.Layout.{Layout}
 use Rattle.bt_types.specs.declared.body.OpenBody.{OpenBody}
 use Rattle.expr_types.specs.declared.fault.Fault.{Fault}
 use Rattle.expr_types.specs.declared.fault.TypeError.{TypeError}

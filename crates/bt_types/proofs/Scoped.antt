@@ -16,18 +16,18 @@ use Rattle.bt_core.specs.declared.map.Shape.{Shape}
 use Rattle.bt_core.specs.declared.map.Shape.TheVariants.{Int, Str}
 use Rattle.fmt_text.specs.Deciding.{format_pieces}
 use Rattle.fmt_text.specs.declared.piece.Piece.{Piece}
-use Rattle.tracefs_format.specs.ByName.{field_called}
-use Rattle.tracefs_format.specs.declared.field.Field.{Field}
-use Rattle.tracefs_format.specs.declared.field.FieldKind.{FieldKind}
-use Rattle.tracefs_format.specs.declared.field.FieldKind.TheVariants as field
-use Rattle.tracefs_format.specs.declared.layout.Layout.{Layout}
+use Rattle.event_layout.specs.ByName.{field_called}
+use Rattle.event_layout.specs.declared.field.Field.{Field}
+use Rattle.event_layout.specs.declared.field.FieldKind.{FieldKind}
+use Rattle.event_layout.specs.declared.field.FieldKind.TheVariants as field
+use Rattle.event_layout.specs.declared.layout.Layout.{Layout}
 use Rattle.typed_tree.specs.Bodies.{scope_of, tree_parts}
 use Rattle.typed_tree.specs.Parts.{Part, Constant, Literal, Numeric, Command, FieldOf, VarOf, MapOf, AggOf, Stepped, Prefixed, Joined, Both, Either, Chosen}
 use Rattle.typed_tree.specs.Parts.{Assigned, Gathered, Deleted, Printed, Shown, Cleared, Zeroed, Jumped, Looped, Unrolled, Arm, Otherwise, NoOtherwise, Ending}
 use Rattle.typed_tree.specs.Scope.{Scope, decl_of, format_of, same_shape, same_shapes, same_agg, same_kind, same_bool, same_field_kind, same_field, kind_of_shape, is_agg, is_summed_kind, is_fine_decl, is_shape, has_field, is_declared, is_shared, is_summed, is_there, takes, fits, all_fit, shape_of_field, may_print}
 use Rattle.bt_ast.specs.declared.attached.BodyId.{BodyId}
 use Rattle.bt_ast.specs.declared.probe.Script.{Script}
-use Rattle.tracefs_format.specs.declared.format.Format.{Format}
+use Rattle.event_layout.specs.declared.format.Format.{Format}
 use Rattle.bt_types.specs.declared.body.OpenBody.{OpenBody}
 use Rattle.expr_types.specs.declared.known.Known.{Known}
 use Rattle.expr_types.specs.declared.known.Printed.{Printed as Call}

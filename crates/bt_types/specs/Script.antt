@@ -5,7 +5,7 @@ use Rattle.bt_ast.specs.declared.probe.Probe.{Probe}
 use Rattle.bt_ast.specs.declared.probe.Script.{Script}
 use Rattle.bt_core.specs.declared.map.MapDecl.{MapDecl}
 use Rattle.bt_core.specs.declared.map.MapKind.TheVariants.{Ints}
-use Rattle.tracefs_format.specs.declared.format.Format.{Format}
+use Rattle.event_layout.specs.declared.format.Format.{Format}
 use Rattle.typed_tree.specs.declared.body.TypedBody.{TypedBody}
 use Rattle.typed_tree.specs.declared.script.Typed.{Typed}
 use Rattle.typed_tree.specs.Bodies.{tree_parts}

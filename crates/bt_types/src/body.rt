@@ -1,7 +1,7 @@
 // Bodies: a probe with one of its events, or with none.
 ghost use Rattle.std.specs.Prelude.{◌≡◌, IfOk, MatchResult, map};
 ghost use Rattle.std.specs.Option.{option_copied, option_map};
-ghost use Rattle.tracefs_format.specs.declared.format.Format.{Format as FormatValue};
+ghost use Rattle.event_layout.specs.declared.format.Format.{Format as FormatValue};
 ghost use Rattle.typed_tree.specs.Bodies.{predicate_parts, tree_parts};
 ghost use Rattle.expr_types.specs.declared.known.Var.{Var as VarValue};
 ghost use Rattle.bt_types.specs.Bodies.{body_told, layout_at, predicate_told};
@@ -18,11 +18,11 @@ use bt_ast::probe::Probe;
 use bt_core::beside::beside;
 use bt_core::items::Items;
 use bt_core::memory::{Memory, TryCopy};
+use event_layout::format::Format;
+use event_layout::layout::Layout;
 use expr_types::fault::TypeError;
 use expr_types::known::Known;
 use std::alloc::Global;
-use tracefs_format::format::Format;
-use tracefs_format::layout::Layout;
 use typed_tree::body::TypedTree;
 use typed_tree::expr::NumExpr;
 

@@ -19,13 +19,13 @@ use bt_core::beside::beside;
 use bt_core::items::Items;
 use bt_core::map::MapDecl;
 use bt_core::memory::Memory;
+use event_layout::format::Format;
 use expr_types::fault::TypeError;
 use expr_types::known::Known;
 use expr_types::printed::Calls;
 use expr_types::variables::Variables;
 use fmt_text::piece::Piece;
 use std::alloc::Global;
-use tracefs_format::format::Format;
 use typed_tree::script::Typed;
 
 /// What is known before a script.

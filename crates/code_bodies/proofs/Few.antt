@@ -14,7 +14,7 @@ use Rattle.event_record.specs.Contexts.{context_bytes}
 use Rattle.helper_abi.specs.Helpers.{helpers}
 use Rattle.helper_abi.specs.Running.{script_run}
 use Rattle.helper_abi.specs.Served.{desk_of}
-use Rattle.tracefs_format.proofs.ForOthers.{all_at}
+use Rattle.event_layout.proofs.Lists.{all_at}
 use Rattle.typed_tree.specs.declared.script.Typed.{Typed}
 use Rattle.actor_plan.specs.Plans.{TakesFew}
 use Rattle.code_bodies.specs.Coding.{fuel_of, count_of, coded, coding}

@@ -20,7 +20,7 @@ use Rattle.rec_format.specs.declared.recording.Event.{Event}
 use Rattle.rec_format.specs.declared.recording.Recording.{Recording}
 use Rattle.rec_format.specs.Places.{entry_at_place}
 use Rattle.rec_format.proofs.ForOthers.{recorded_format}
-use Rattle.tracefs_format.proofs.ForOthers.{all_at}
+use Rattle.event_layout.proofs.Lists.{all_at}
 use Rattle.typed_tree.specs.declared.body.TypedBody.{TypedBody}
 use Rattle.typed_tree.specs.declared.script.Typed.{Typed}
 use Rattle.actor_plan.specs.Contexts.{event_context, tick_context, begin_context, end_context}

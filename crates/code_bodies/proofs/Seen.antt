@@ -6,7 +6,7 @@ use Rattle.std.proofs.lemmas.List.Sums.{take_while-cons}
 use Rattle.bt_ast.specs.declared.attached.Attached.{Attached}
 use Rattle.bt_core.specs.Text.{IsShortText, is_text_byte, short_text}
 use Rattle.bt_core.proofs.TextLemmas.{kept_front, kept_IsShortText}
-use Rattle.tracefs_format.proofs.ForOthers.{all_at}
+use Rattle.event_layout.proofs.Lists.{all_at}
 use Rattle.rec_format.specs.declared.recording.CpuTrack.{CpuTrack}
 use Rattle.rec_format.specs.declared.recording.Entry.TheVariants as entry
 use Rattle.rec_format.specs.declared.recording.Event.{Event}

@@ -12,8 +12,8 @@ use Rattle.bt_core.proofs.operator.BinOp.TheSendSync as binary
 use Rattle.bt_core.proofs.operator.UnOp.TheSendSync as unary
 use Rattle.bt_core.proofs.text.Str64.TheSendSync as text
 use Rattle.fmt_text.proofs.piece.Piece.TheSendSync as piece
-use Rattle.tracefs_format.proofs.field.Field.TheSendSync as field
-use Rattle.tracefs_format.proofs.layout.Layout.TheSendSync as layout
+use Rattle.event_layout.proofs.field.Field.TheSendSync as field
+use Rattle.event_layout.proofs.layout.Layout.TheSendSync as layout
 use Rattle.typed_tree.proofs.expr.AnyExpr.TheLaws.TheKnot as exprs
 use Rattle.typed_tree.proofs.expr.NumBuiltin.TheSendSync as builtin
 use Rattle.typed_tree.proofs.stmt.Jump.TheSendSync as jump
@@ -28,7 +28,7 @@ use Rattle.bt_core.specs.contracts.items.Items as items_c
 use Rattle.bt_core.specs.contracts.map.MapDecl as decl_c
 use Rattle.bt_core.specs.contracts.map.MapId as map_id_c
 use Rattle.fmt_text.specs.contracts.piece.Piece as piece_c
-use Rattle.tracefs_format.specs.contracts.layout.Layout as layout_c
+use Rattle.event_layout.specs.contracts.layout.Layout as layout_c
 use Rattle.typed_tree.specs.contracts.expr.AnyExpr as any_expr
 use Rattle.typed_tree.specs.contracts.expr.NumExpr as num_expr
 use Rattle.typed_tree.specs.contracts.expr.StrExpr as str_expr

@@ -2,9 +2,9 @@
 use Rattle.std.specs.Prelude.{ℕ, ◌+◌, ◌/◌, ◌%◌, ◌^◌, ℤ, ◌==◌, nat_le, List, [], length, take, drop, if◌then◌else◌}
 use Rattle.std.specs.Int.{Width, w8, w16, w32, w64, from_le_bytes, cast_signed}
 use Rattle.bt_core.specs.Text.{short_text}
-use Rattle.tracefs_format.specs.declared.field.Field.{Field}
-use Rattle.tracefs_format.specs.declared.field.FieldKind.{FieldKind}
-use Rattle.tracefs_format.specs.declared.field.FieldKind.TheVariants.{Number, Chars, DataLoc, Other}
+use Rattle.event_layout.specs.declared.field.Field.{Field}
+use Rattle.event_layout.specs.declared.field.FieldKind.{FieldKind}
+use Rattle.event_layout.specs.declared.field.FieldKind.TheVariants.{Number, Chars, DataLoc, Other}
 
 -- the bytes at a field's place
 abbrev pub field_bytes : Field → List ℕ → List ℕ

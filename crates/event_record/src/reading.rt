@@ -1,13 +1,13 @@
 // Reading the fields of a payload.
 ghost use Rattle.std.specs.Prelude.{◌≡◌, ◌≤◌, ◌⊎◌, length, IsTrue};
 ghost use Rattle.std.specs.Int.{w32, w64, from_le_bytes, cast_signed};
-ghost use Rattle.tracefs_format.specs.Kinds.{is_number_size};
-ghost use Rattle.tracefs_format.specs.Sizes.{end_of};
+ghost use Rattle.event_layout.specs.Kinds.{is_number_size};
+ghost use Rattle.event_layout.specs.Sizes.{end_of};
 ghost use Rattle.event_record.specs.Fields.{field_bytes, width_of, field_number, field_text, located};
 
 use bt_core::text::Str64;
 use byteorder::{ByteOrder, LittleEndian};
-use tracefs_format::field::{Field, FieldKind};
+use event_layout::field::{Field, FieldKind};
 
 /// The number of a field: of its bytes the first is the lowest, and they are read in two's complement
 /// where the field is signed. An unsigned number of 8 bytes from 2^63 on is read as the negative

@@ -6,9 +6,9 @@ use Rattle.bt_core.specs.declared.place.Place.{Place}
 use Rattle.bt_core.specs.Text.{short_text}
 use Rattle.bt_core.specs.declared.map.Shape.{Shape}
 use Rattle.bt_core.specs.declared.map.Shape.TheVariants.{Int, Str}
-use Rattle.tracefs_format.specs.ByName.{field_called, field_named}
-use Rattle.tracefs_format.specs.declared.field.Field.{Field}
-use Rattle.tracefs_format.specs.declared.layout.Layout.{Layout}
+use Rattle.event_layout.specs.ByName.{field_called, field_named}
+use Rattle.event_layout.specs.declared.field.Field.{Field}
+use Rattle.event_layout.specs.declared.layout.Layout.{Layout}
 use Rattle.typed_tree.specs.declared.expr.AnyExpr.{AnyExpr}
 use Rattle.typed_tree.specs.Parts.{Literal, FieldOf, VarOf, Stepped, Made, made, made_of}
 use Rattle.typed_tree.specs.Scope.{shape_of_field}

@@ -9,7 +9,7 @@ use Rattle.bt_core.specs.declared.operator.BinOp.TheVariants.{Eq, Ne}
 use Rattle.expr_types.specs.declared.fault.Rule.{Rule}
 use Rattle.expr_types.specs.declared.fault.Rule.TheVariants.{WrongType}
 use Rattle.typed_tree.specs.declared.expr.NumBuiltin.TheVariants as number
-use Rattle.tracefs_format.specs.declared.field.Field.{Field}
+use Rattle.event_layout.specs.declared.field.Field.{Field}
 use Rattle.typed_tree.specs.Scope.{same_shape, shape_of_field}
 use Rattle.expr_types.specs.Rules.{first_of_rules, are_two}
 use Rattle.typed_tree.specs.Parts.{Part, FieldOf, Numeric, Command, Both, Either, Made, made}

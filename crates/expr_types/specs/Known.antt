@@ -9,9 +9,9 @@ use Rattle.bt_core.specs.declared.map.Shape.{Shape}
 use Rattle.bt_core.specs.declared.map.Shape.TheVariants.{Int, Str}
 use Rattle.bt_core.specs.declared.place.Place.{Place}
 use Rattle.fmt_text.specs.Deciding.{format_pieces}
-use Rattle.tracefs_format.specs.ByName.{field_named}
-use Rattle.tracefs_format.specs.declared.field.Field.{Field}
-use Rattle.tracefs_format.specs.declared.layout.Layout.{Layout}
+use Rattle.event_layout.specs.ByName.{field_named}
+use Rattle.event_layout.specs.declared.field.Field.{Field}
+use Rattle.event_layout.specs.declared.layout.Layout.{Layout}
 use Rattle.typed_tree.specs.Scope.{shape_of_field, kind_of_shape, is_number, is_fine_decl}
 use Rattle.expr_types.specs.declared.known.Known.{Known}
 use Rattle.expr_types.specs.declared.known.Printed.{Printed}

@@ -7,7 +7,7 @@ use Rattle.bt_core.specs.declared.map.MapKind.TheVariants.{Ints, Aggs}
 use Rattle.bt_core.specs.declared.map.Shape.{Shape}
 use Rattle.bt_core.specs.declared.map.Shape.TheVariants.{Str}
 use Rattle.fmt_text.specs.Deciding.{format_pieces}
-use Rattle.tracefs_format.specs.declared.field.Field.{Field}
+use Rattle.event_layout.specs.declared.field.Field.{Field}
 use Rattle.typed_tree.specs.Scope.{same_shape, same_shapes, same_kind, is_agg, is_hist, is_fine_agg, takes, shape_of_field}
 use Rattle.expr_types.specs.declared.fault.Rule.{Rule}
 use Rattle.expr_types.specs.declared.fault.Rule.TheVariants as rule

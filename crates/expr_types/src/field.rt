@@ -13,8 +13,8 @@ use crate::rules::broken;
 use bt_core::items::Items;
 use bt_core::memory::TryCopy;
 use bt_core::place::Place;
+use event_layout::field::{Field, FieldKind};
 use std::alloc::Global;
-use tracefs_format::field::{Field, FieldKind};
 use typed_tree::expr::{AnyExpr, NumExpr, StrExpr};
 
 /// The field of a kind that a script reads, as an expression.

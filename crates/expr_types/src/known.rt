@@ -14,10 +14,10 @@ use bt_core::items::Items;
 use bt_core::map::{MapDecl, MapId, MapKind, Shape};
 use bt_core::memory::{Memory, TryCopy};
 use bt_core::place::Place;
+use event_layout::field::Field;
+use event_layout::layout::Layout;
 use fmt_text::piece::Piece;
 use std::alloc::Global;
-use tracefs_format::field::Field;
-use tracefs_format::layout::Layout;
 
 /// A variable of a body and what it holds.
 #[derive(Drop)]

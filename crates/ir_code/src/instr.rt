@@ -3,7 +3,7 @@ use bt_core::items::Items;
 use bt_core::map::{MapId, Shape};
 use bt_core::operator::{BinOp, UnOp};
 use bt_core::value::Value;
-use tracefs_format::field::Field;
+use event_layout::field::Field;
 use typed_tree::expr::NumBuiltin;
 
 /// An instruction. A variable is named by its number in its body, and a key by the types of its parts.

@@ -1,7 +1,7 @@
 -- Lemmas for the crates above: what a valid recording has at each place. The crate's own proofs stand in the other files.
 use Rattle.std.proofs.Common.{◌≡◌, ℕ, ◌<◌, ◌≤◌, Some, inl, inr}
-use Rattle.tracefs_format.specs.declared.format.Format.{Format}
-use Rattle.tracefs_format.specs.ByName.{IsNamed}
+use Rattle.event_layout.specs.declared.format.Format.{Format}
+use Rattle.event_layout.specs.ByName.{IsNamed}
 use Rattle.std.specs.Prelude.{slice_get}
 use Rattle.rec_format.specs.declared.recording.Recording.{Recording}
 use Rattle.rec_format.specs.declared.recording.CpuTrack.{CpuTrack}

@@ -4,7 +4,7 @@ use Rattle.std.specs.Prelude.{nat_eq}
 use Rattle.std.specs.Int.{w64}
 use Rattle.std.proofs.lemmas.List.{drop_at, take-append-drop, length-append, length-drop}
 use Rattle.std.proofs.lemmas.Option.{same_Some}
-use Rattle.tracefs_format.specs.declared.format.Format.{Format}
+use Rattle.event_layout.specs.declared.format.Format.{Format}
 use Rattle.rec_format.specs.declared.entries.EntryPlace.{EntryPlace}
 use Rattle.rec_format.specs.declared.recording.Entry.{Entry}
 use Rattle.rec_format.specs.declared.recording.Entry.TheVariants as entry

@@ -6,9 +6,9 @@ use Rattle.std.proofs.lemmas.Bool.{cases_lt, eq-eqb, eqb-false, or_parts, and_fr
 use Rattle.std.proofs.lemmas.Slice.Eq.{bytes_eq-Decides}
 use Rattle.std.specs.List.{slice_get}
 use Rattle.std.proofs.lemmas.Option.{same_Some}
-use Rattle.tracefs_format.specs.declared.format.Format.{Format}
-use Rattle.tracefs_format.specs.ByName.{IsNamed, is_same_tracepoint}
-use Rattle.tracefs_format.proofs.ForOthers.{all_at}
+use Rattle.event_layout.specs.declared.format.Format.{Format}
+use Rattle.event_layout.specs.ByName.{IsNamed, is_same_tracepoint}
+use Rattle.event_layout.proofs.Lists.{all_at}
 use Rattle.rec_format.specs.Checks.{has_marks, is_same_event}
 use Rattle.rec_format.specs.declared.recording.Recording.{Recording}
 use Rattle.rec_format.specs.declared.recording.CpuTrack.{CpuTrack}

@@ -13,9 +13,9 @@ use Rattle.std.specs.declared.cmp.Ordering.TheVariants.{Less, Equal, Greater}
 use Rattle.std.proofs.lemmas.List.Folds.{list_any-append}
 use Rattle.std.proofs.lemmas.Option.{same_Some}
 use Rattle.tracefs_format.proofs.ForOthers.{bytes_eq-full_name, set_inserted}
-use Rattle.tracefs_format.specs.declared.format.Format.{Format}
-use Rattle.tracefs_format.specs.ByName.{full_name, is_same_tracepoint}
-use Rattle.tracefs_format.specs.Names.{has_no_colon}
+use Rattle.event_layout.specs.declared.format.Format.{Format}
+use Rattle.event_layout.specs.ByName.{full_name, is_same_tracepoint}
+use Rattle.event_layout.specs.Names.{has_no_colon}
 use Rattle.rec_format.specs.Checks.{is_system_byte, is_system, is_same_event}
 use Rattle.rec_format.specs.Events.{format_with}
 use Rattle.rec_format.specs.declared.check.TheConstants.{SYSTEM_BYTES}

@@ -6,10 +6,10 @@ use Rattle.std.proofs.lemmas.Bool.{le-ltb, ne_eqb, leb-true, and_parts}
 use Rattle.std.proofs.lemmas.List.{append-nil, length-append}
 use Rattle.std.proofs.lemmas.Option.{same_Some}
 use Rattle.bt_core.specs.declared.limits.TheConstants.{CPUS, FORMATS, EVENTS}
-use Rattle.tracefs_format.specs.declared.format.Format.{Format}
-use Rattle.tracefs_format.specs.declared.error.FormatError.{FormatError}
-use Rattle.tracefs_format.specs.declared.layout.Layout.{Layout}
-use Rattle.tracefs_format.specs.Layouts.{IsLayoutOf, layout_fault}
+use Rattle.event_layout.specs.declared.format.Format.{Format}
+use Rattle.event_layout.specs.declared.error.FormatError.{FormatError}
+use Rattle.event_layout.specs.declared.layout.Layout.{Layout}
+use Rattle.event_layout.specs.Layouts.{IsLayoutOf, layout_fault}
 use Rattle.tracefs_format.proofs.ForOthers.{text_layout_or_fault, text_no_fault, text_one_layout}
 use Rattle.rec_format.specs.declared.check.TheConstants.{SYSTEM_BYTES}
 use Rattle.rec_format.specs.declared.error.RecordingError.{RecordingError}

@@ -5,11 +5,11 @@ use Rattle.std.specs.List.{list_all, list_any}
 use Rattle.std.specs.Str.{bytes_eq}
 use Rattle.bt_core.specs.Bytes.{is_word_byte}
 use Rattle.bt_core.specs.declared.limits.TheConstants.{CPUS, FORMATS, EVENTS}
-use Rattle.tracefs_format.specs.declared.format.Format.{Format}
-use Rattle.tracefs_format.specs.declared.error.FormatError.{FormatError}
-use Rattle.tracefs_format.specs.declared.layout.Layout.{Layout}
-use Rattle.tracefs_format.specs.ByName.{is_same_tracepoint}
-use Rattle.tracefs_format.specs.Layouts.{IsLayoutOf, layout_fault}
+use Rattle.event_layout.specs.declared.format.Format.{Format}
+use Rattle.event_layout.specs.declared.error.FormatError.{FormatError}
+use Rattle.event_layout.specs.declared.layout.Layout.{Layout}
+use Rattle.event_layout.specs.ByName.{is_same_tracepoint}
+use Rattle.event_layout.specs.Layouts.{IsLayoutOf, layout_fault}
 use Rattle.rec_format.specs.declared.check.TheConstants.{SYSTEM_BYTES}
 use Rattle.rec_format.specs.declared.error.RecordingError.{RecordingError}
 use Rattle.rec_format.specs.declared.error.RecordingError.TheVariants as fault

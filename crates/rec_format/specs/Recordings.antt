@@ -2,8 +2,8 @@
 use Rattle.std.specs.Prelude.{◌≡◌, ◌⊎◌, ◌+◌, ◌≤◌, ◌<◌, ◌^◌, ℕ, ⊤, Bool, true, false, sum_by, List, [], ◌∷◌, ◌++◌, length}
 use Rattle.std.specs.List.{flat_map, AllByRecursion}
 use Rattle.bt_core.specs.declared.limits.TheConstants.{CPUS, FORMATS, EVENTS}
-use Rattle.tracefs_format.specs.declared.format.Format.{Format}
-use Rattle.tracefs_format.specs.Layouts.{IsLayoutOf}
+use Rattle.event_layout.specs.declared.format.Format.{Format}
+use Rattle.event_layout.specs.Layouts.{IsLayoutOf}
 use Rattle.rec_format.specs.declared.recording.Recording.{Recording}
 use Rattle.rec_format.specs.declared.recording.CpuTrack.{CpuTrack}
 use Rattle.rec_format.specs.Parts.{HeaderPart, header_bytes, FormatPart, format_bytes, CpuPart, cpu_bytes}

@@ -1,7 +1,7 @@
 // Laws of the definitions: what bytes spell, which fault they have, and what a valid recording has at each place.
 ghost use Rattle.std.specs.Prelude.{◌≡◌, ◌≤◌, ◌<◌, ℕ, Some, List, slice_get, slice_index};
-ghost use Rattle.tracefs_format.specs.declared.format.Format.{Format};
-ghost use Rattle.tracefs_format.specs.ByName.{IsNamed};
+ghost use Rattle.event_layout.specs.declared.format.Format.{Format};
+ghost use Rattle.event_layout.specs.ByName.{IsNamed};
 ghost use Rattle.rec_format.specs.declared.error.RecordingError.{RecordingError};
 ghost use Rattle.rec_format.specs.declared.recording.CpuTrack.{CpuTrack};
 ghost use Rattle.rec_format.specs.declared.recording.Entry.{Entry};

@@ -1,7 +1,7 @@
 // Recordings of tracepoint events.
 use crate::entries::Entries;
 use bt_core::items::Items;
-use tracefs_format::format::Format;
+use event_layout::format::Format;
 
 /// A recording: when it starts and ends, its event formats, and the entries of each CPU.
 ///

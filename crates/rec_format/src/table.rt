@@ -2,7 +2,7 @@
 ghost use Rattle.std.specs.Prelude.{◌≡◌, ◌<◌, ◌^◌, ◌∷◌, ◌++◌, [], List, length, true, false, IfOk, OnOk};
 ghost use Rattle.std.specs.List.{list_any};
 ghost use Rattle.std.specs.Option.{option_map};
-ghost use Rattle.tracefs_format.specs.declared.format.Format.{Format as Tracepoint};
+ghost use Rattle.event_layout.specs.declared.format.Format.{Format as Tracepoint};
 ghost use Rattle.rec_format.specs.declared.error.RecordingError.TheVariants.{SameEvent};
 ghost use Rattle.rec_format.specs.Checks.{IsFormatFault, is_system, is_same_event, format_of};
 ghost use Rattle.rec_format.specs.Events.{format_with};
@@ -14,12 +14,12 @@ use crate::error::RecordingError;
 use crate::part::FormatText;
 use bt_core::items::Items;
 use bt_core::memory::Memory;
+use event_layout::error::FormatError;
+use event_layout::format::{Format, tracepoint_name};
+use event_layout::layout::Layout;
 use std::alloc::Global;
 use std::collections::{BTreeMap, BTreeSet};
 use std::marker::Model;
-use tracefs_format::error::FormatError;
-use tracefs_format::format::{Format, tracepoint_name};
-use tracefs_format::layout::Layout;
 use tracefs_format::reading::read_layout;
 
 /// The formats of a recording that is being read, with tables that find each by its ID, and by its
@@ -41,7 +41,7 @@ struct Tables {
 
 impl Model for FormatTable {
     ghost use Rattle.std.specs.Prelude.{List};
-    ghost use Rattle.tracefs_format.specs.declared.format.Format.{Format as Tracepoint};
+    ghost use Rattle.event_layout.specs.declared.format.Format.{Format as Tracepoint};
     ghost use Rattle.rec_format.specs.Answers.{IsTable};
 
     ghost Value = { List Tracepoint };

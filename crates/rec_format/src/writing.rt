@@ -16,8 +16,8 @@ use crate::entries::{Entries, EntryRef, EventRef};
 use crate::recording::{CpuTrack, Recording};
 use bt_core::memory::Memory;
 use byteorder::{ByteOrder, LittleEndian};
+use event_layout::format::Format;
 use std::alloc::{AllocError, Global};
-use tracefs_format::format::Format;
 
 /// The one spelling of a valid recording. Reading it gives the recording again.
 ///

@@ -1,16 +1,16 @@
 -- What the layout of the one format is.
 use Rattle.std.proofs.Common.{◌≡◌, ◌⊎◌, inl, inr, Result, Ok, Err, ℕ, ◌+◌, max, List, [], ◌∷◌, map, drop, Some, None, refl, ap, sym, ◌∙◌}
 use Rattle.bt_core.specs.Want.{out_of_memory}
-use Rattle.tracefs_format.specs.declared.error.FormatError.{FormatError}
-use Rattle.tracefs_format.specs.declared.error.FormatError.TheVariants.{Memory}
-use Rattle.tracefs_format.specs.declared.field.Field.{Field}
-use Rattle.tracefs_format.specs.declared.layout.Layout.{Layout}
-use Rattle.tracefs_format.specs.FieldLines.{Description, description}
-use Rattle.tracefs_format.specs.Layouts.{IsLayoutOf, layout_fault, line_at, read_lines, described}
-use Rattle.tracefs_format.specs.Lines.{text_lines}
-use Rattle.tracefs_format.specs.Reading.{name_on, id_on, field_on, number_after, flag_after}
-use Rattle.tracefs_format.specs.Declarations.{kind_of}
-use Rattle.tracefs_format.specs.Sizes.{end_of, greatest_end}
+use Rattle.event_layout.specs.declared.error.FormatError.{FormatError}
+use Rattle.event_layout.specs.declared.error.FormatError.TheVariants.{Memory}
+use Rattle.event_layout.specs.declared.field.Field.{Field}
+use Rattle.event_layout.specs.declared.layout.Layout.{Layout}
+use Rattle.event_layout.specs.FieldLines.{Description, description}
+use Rattle.event_layout.specs.Layouts.{IsLayoutOf, layout_fault, line_at, read_lines, described}
+use Rattle.event_layout.specs.Lines.{text_lines}
+use Rattle.event_layout.specs.Reading.{name_on, id_on, field_on, number_after, flag_after}
+use Rattle.event_layout.specs.Declarations.{kind_of}
+use Rattle.event_layout.specs.Sizes.{end_of, greatest_end}
 use Rattle.tracefs_format.proofs.ForOthers.{text_layout_or_fault}
 use Rattle.tracefs_format.proofs.LayoutLaws.{IsLayoutOf-read}
 use Rattle.tracefs_format.proofs.StripLaws.{some_is}

@@ -1,13 +1,13 @@
 // The one format of a made recording.
 ghost use Rattle.std.specs.Prelude.{◌≡◌, IfOk, codes};
 ghost use Rattle.bt_core.specs.Want.{out_of_memory};
-ghost use Rattle.tracefs_format.specs.Layouts.{IsLayoutOf};
+ghost use Rattle.event_layout.specs.Layouts.{IsLayoutOf};
 
 use bt_core::items::Items;
 use bt_core::memory::Memory;
+use event_layout::error::FormatError;
+use event_layout::format::Format;
 use std::alloc::Global;
-use tracefs_format::error::FormatError;
-use tracefs_format::format::Format;
 use tracefs_format::reading::read_layout;
 
 /// The format of the start of a system call, as tracefs shows it.

@@ -1,7 +1,7 @@
 // The layouts of format texts.
 use crate::texts::*;
+use event_layout::field::FieldKind;
 use std::test::Fail;
-use tracefs_format::field::FieldKind;
 use tracefs_format::reading::read_layout;
 
 /// A text, with the name, the ID and the size that it has, and its fields in their order: common ones and those behind them.

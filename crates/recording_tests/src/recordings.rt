@@ -1,5 +1,6 @@
 // Recordings byte by byte: what is read and written, and each check with its exact value.
 use crate::texts::SYS_ENTER;
+use event_layout::error::FormatError;
 use rec_format::entries::EntryRef;
 use rec_format::error::{CountOf, RecordingError};
 use rec_format::reading::read_recording;
@@ -7,7 +8,6 @@ use rec_format::recording::{CpuTrack, Recording};
 use rec_format::writing::write_recording;
 use std::alloc::Global;
 use std::test::Fail;
-use tracefs_format::error::FormatError;
 
 /// What stands before the text of a system call's entry: a header for two CPUs and one format, and the system.
 const BEFORE_TEXT: &[u8] = b"BTRACE01\x02\0\0\0\x01\0\0\0\0\0\0\0\0\0\0\0\0\x945w\0\0\0\0\

@@ -1,5 +1,5 @@
 // Format texts of Linux, with the fields that their lines describe.
-use tracefs_format::field::FieldKind;
+use event_layout::field::FieldKind;
 
 /// What is wanted of a field: its name, offset, size, sign and kind.
 pub type Wanted<'a> = (&'a [u8], u32, u32, bool, FieldKind);

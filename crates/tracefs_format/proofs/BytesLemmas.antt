@@ -8,7 +8,8 @@ use Rattle.std.proofs.lemmas.Bool.{cases_lt, lt-ltb, le-ltb, eqb-true, lt-leb}
 use Rattle.std.proofs.Math.Numerals.{one-add, add-one}
 use Rattle.std.specs.Option.{option_map, option_or}
 use denote.Ref.{Bor}
-use Rattle.tracefs_format.specs.Bytes.{without_front, without_end, longest_beginning, longest_ending, cut_at, before_last, after, decimal_value, number_in, Finds}
+use Rattle.event_layout.specs.Bytes.{without_front, without_end, longest_beginning, longest_ending, cut_at, before_last, after, decimal_value, number_in}
+use Rattle.tracefs_format.specs.Classes.{Finds}
 
 -- ---- the end of bytes
 

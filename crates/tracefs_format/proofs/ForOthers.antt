@@ -1,18 +1,16 @@
 -- Lemmas for the crates above. The crate's own proofs stand in the other files.
 use Rattle.std.proofs.Common.{◌≡◌, ◌⊎◌, ℕ, Bool, true, cond, ◌||◌, List, Some, None}
 use Rattle.std.specs.Prelude.{IsTrue}
-use Rattle.std.specs.List.{slice_get, AllByRecursion}
 use Rattle.std.specs.Str.{bytes_eq}
 use Rattle.std.specs.Ordering.{nat_cmp, is_eq}
 use Rattle.std.specs.Cmp.Lexicographic.{slice_cmp}
-use Rattle.tracefs_format.specs.declared.error.FormatError.{FormatError}
-use Rattle.tracefs_format.specs.declared.format.Format.{Format}
-use Rattle.tracefs_format.specs.declared.layout.Layout.{Layout}
-use Rattle.tracefs_format.specs.ByName.{full_name, is_same_tracepoint}
-use Rattle.tracefs_format.specs.Layouts.{IsLayoutOf, layout_fault}
-use Rattle.tracefs_format.specs.Names.{has_no_colon}
+use Rattle.event_layout.specs.declared.error.FormatError.{FormatError}
+use Rattle.event_layout.specs.declared.format.Format.{Format}
+use Rattle.event_layout.specs.declared.layout.Layout.{Layout}
+use Rattle.event_layout.specs.ByName.{full_name, is_same_tracepoint}
+use Rattle.event_layout.specs.Layouts.{IsLayoutOf, layout_fault}
+use Rattle.event_layout.specs.Names.{has_no_colon}
 use Rattle.tracefs_format.proofs.LayoutLaws.{layout_or_fault, IsLayoutOf-read, one_layout}
-use Rattle.tracefs_format.proofs.Lists as lists
 use Rattle.tracefs_format.proofs.NameLaws.{full_name-is_same}
 use Rattle.tracefs_format.proofs.NameSets as sets
 
@@ -34,7 +32,3 @@ bytes_eq-full_name = full_name-is_same
 -- what a set has after a name was inserted
 pub set_inserted : (name copied other : List ℕ) (old new : Bool) → copied ≡ name → new ≡ cond (is_eq (slice_cmp nat_cmp copied other)) true old → new ≡ (bytes_eq name other || old)
 set_inserted = sets.inserted
-
--- what holds of each item holds of the one at a place
-pub all_at : {X : Type 0} (P : X → Type 0) (xs : List X) (place : ℕ) (x : X) → AllByRecursion P xs → slice_get xs place ≡ Some x → P x
-all_at P xs place x = lists.all_at P xs place x

@@ -10,20 +10,20 @@ use Rattle.std.proofs.lemmas.List.Folds.{list_any-append}
 use Rattle.std.proofs.lemmas.Slice.Eq.{bytes_eq-Decides}
 use Rattle.bt_core.specs.declared.limits.TheConstants.{LAYOUT_END}
 use Rattle.bt_core.specs.Want.{out_of_memory}
-use Rattle.tracefs_format.specs.declared.error.FormatError.{FormatError}
-use Rattle.tracefs_format.specs.declared.error.FormatError.TheVariants.{NoName, BadId, BadField, Overlong, SameName, Memory}
-use Rattle.tracefs_format.specs.declared.field.Field.{Field}
-use Rattle.tracefs_format.specs.declared.layout.Layout.{Layout}
-use Rattle.tracefs_format.specs.FieldLines.{Description, description, IsFieldLine}
-use Rattle.tracefs_format.specs.Lines.{text_lines}
-use Rattle.tracefs_format.specs.Reading.{name_on, id_on, field_on}
-use Rattle.tracefs_format.specs.Layouts.{filled, read_lines, AreFieldLines, HaveNamesApart, IsLayoutOf, line_at, described, is_taken, field_fault, line_fault, lines_fault, fault_unless, layout_fault}
-use Rattle.tracefs_format.specs.Sizes.{end_of, greatest_end}
-use Rattle.tracefs_format.specs.declared.field.FieldKind.{FieldKind}
-use Rattle.tracefs_format.specs.declared.field.FieldKind.TheVariants.{Number, Chars, DataLoc, Other}
-use Rattle.tracefs_format.specs.Bytes.{words}
-use Rattle.tracefs_format.specs.Declarations.{kind_of, is_char_words, declared_type, ungrouped}
-use Rattle.tracefs_format.specs.Kinds.{fits_kind, is_number_size}
+use Rattle.event_layout.specs.declared.error.FormatError.{FormatError}
+use Rattle.event_layout.specs.declared.error.FormatError.TheVariants.{NoName, BadId, BadField, Overlong, SameName, Memory}
+use Rattle.event_layout.specs.declared.field.Field.{Field}
+use Rattle.event_layout.specs.declared.layout.Layout.{Layout}
+use Rattle.event_layout.specs.FieldLines.{Description, description, IsFieldLine}
+use Rattle.event_layout.specs.Lines.{text_lines}
+use Rattle.event_layout.specs.Reading.{name_on, id_on, field_on}
+use Rattle.event_layout.specs.Layouts.{filled, read_lines, AreFieldLines, HaveNamesApart, IsLayoutOf, line_at, described, is_taken, field_fault, line_fault, lines_fault, fault_unless, layout_fault}
+use Rattle.event_layout.specs.Sizes.{end_of, greatest_end}
+use Rattle.event_layout.specs.declared.field.FieldKind.{FieldKind}
+use Rattle.event_layout.specs.declared.field.FieldKind.TheVariants.{Number, Chars, DataLoc, Other}
+use Rattle.event_layout.specs.Bytes.{words}
+use Rattle.event_layout.specs.Declarations.{kind_of, is_char_words, declared_type, ungrouped}
+use Rattle.event_layout.specs.Kinds.{fits_kind, is_number_size}
 use Rattle.tracefs_format.specs.Tables.{Answers, Fails, IsReadOf}
 use Rattle.tracefs_format.proofs.SameLaws.{same_layout}
 use Rattle.tracefs_format.proofs.StripLaws.{some_is}

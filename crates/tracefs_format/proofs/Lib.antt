@@ -1,7 +1,6 @@
 pub mod BytesLemmas
 pub mod ForOthers
 pub mod LayoutLaws
-pub mod Lists
 pub mod LoopLemmas
 pub mod NameLaws
 pub mod NameSets

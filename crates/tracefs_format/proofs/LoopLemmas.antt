@@ -5,13 +5,13 @@ use Rattle.std.specs.List.{slice_split, onto_first, cons_option}
 use Rattle.std.specs.Option.{option_or}
 use Rattle.std.proofs.lemmas.List.{append-nil, length-map, length-drop, length-append}
 use Rattle.std.proofs.lemmas.List.Sums.{take_while-cons}
-use Rattle.tracefs_format.specs.declared.error.FormatError.{FormatError}
-use Rattle.tracefs_format.specs.declared.error.FormatError.TheVariants.{NoName, BadId, BadField, Overlong, SameName, Memory}
-use Rattle.tracefs_format.specs.Bytes.{is_blank, is_line_end, without_end, without_front, after}
-use Rattle.tracefs_format.specs.FieldLines.{Description}
-use Rattle.tracefs_format.specs.Lines.{text_lines}
-use Rattle.tracefs_format.specs.Reading.{◌>>=◌, name_on, field_on, word_in}
-use Rattle.tracefs_format.specs.Layouts.{is_print_line, read_lines, described, line_at, line_fault, lines_fault}
+use Rattle.event_layout.specs.declared.error.FormatError.{FormatError}
+use Rattle.event_layout.specs.declared.error.FormatError.TheVariants.{NoName, BadId, BadField, Overlong, SameName, Memory}
+use Rattle.event_layout.specs.Bytes.{is_blank, is_line_end, without_end, without_front, after}
+use Rattle.event_layout.specs.FieldLines.{Description}
+use Rattle.event_layout.specs.Lines.{text_lines}
+use Rattle.event_layout.specs.Reading.{◌>>=◌, name_on, field_on, word_in}
+use Rattle.event_layout.specs.Layouts.{is_print_line, read_lines, described, line_at, line_fault, lines_fault}
 use Rattle.tracefs_format.specs.Tables.{Fails}
 use Rattle.tracefs_format.proofs.BytesLemmas.{after-parts, length-without_end}
 

@@ -6,13 +6,13 @@ use Rattle.std.specs.Str.{bytes_eq}
 use Rattle.std.proofs.lemmas.Bool.{lt-ltb, and_parts}
 use Rattle.std.proofs.lemmas.Option.{same_Some}
 use Rattle.std.proofs.lemmas.Slice.Eq.{bytes_eq-Decides}
-use Rattle.tracefs_format.specs.declared.field.Field.{Field}
-use Rattle.tracefs_format.specs.declared.format.Format.{Format}
-use Rattle.tracefs_format.specs.Bytes.{cut_at}
-use Rattle.tracefs_format.specs.ByName.{field_named, full_name, IsFieldNamed, IsNamed, is_same_tracepoint}
-use Rattle.tracefs_format.specs.Layouts.{HaveNamesApart}
-use Rattle.tracefs_format.specs.Names.{has_no_colon}
-use Rattle.tracefs_format.proofs.Lists.{all_at}
+use Rattle.event_layout.specs.declared.field.Field.{Field}
+use Rattle.event_layout.specs.declared.format.Format.{Format}
+use Rattle.event_layout.specs.Bytes.{cut_at}
+use Rattle.event_layout.specs.ByName.{field_named, full_name, IsFieldNamed, IsNamed, is_same_tracepoint}
+use Rattle.event_layout.specs.Layouts.{HaveNamesApart}
+use Rattle.event_layout.specs.Names.{has_no_colon}
+use Rattle.event_layout.proofs.Lists.{all_at}
 use Rattle.tracefs_format.proofs.SpellingLaws.{parts-cut_at}
 
 -- ---- fields

@@ -4,11 +4,11 @@ use Rattle.std.specs.Prelude.{IsTrue}
 use mathlib.Core.Bool.{Bool-set}
 use Rattle.std.proofs.Props.{props}
 use Rattle.bt_core.specs.declared.limits.TheConstants.{LAYOUT_END}
-use Rattle.tracefs_format.specs.declared.field.Field.{Field}
-use Rattle.tracefs_format.specs.declared.layout.Layout.{Layout}
-use Rattle.tracefs_format.specs.FieldLines.{Description, description}
-use Rattle.tracefs_format.specs.Kinds.{fits_kind}
-use Rattle.tracefs_format.specs.Sizes.{greatest_end}
+use Rattle.event_layout.specs.declared.field.Field.{Field}
+use Rattle.event_layout.specs.declared.layout.Layout.{Layout}
+use Rattle.event_layout.specs.FieldLines.{Description, description}
+use Rattle.event_layout.specs.Kinds.{fits_kind}
+use Rattle.event_layout.specs.Sizes.{greatest_end}
 
 test_prop : (b : Bool) → IsProp (b ≡ true)
 test_prop b = Bool-set b true

@@ -7,13 +7,13 @@ use Rattle.std.specs.Option.{option_map}
 use Rattle.std.specs.Str.{bytes_eq}
 use Rattle.std.proofs.lemmas.Bool.{eqb-true, leb-true, le-leb, lt-ltb, and_parts, and_from}
 use Rattle.std.proofs.lemmas.List.{nil_from_length}
-use Rattle.tracefs_format.specs.declared.field.FieldKind.{FieldKind}
+use Rattle.event_layout.specs.declared.field.FieldKind.{FieldKind}
 use Rattle.std.proofs.lemmas.Slice.Eq.{bytes_eq-Decides}
-use Rattle.tracefs_format.specs.Bytes.{is_blank, without_front, longest_beginning, cut_at, after, labelled, decimal_value, number_in, flag_in}
-use Rattle.tracefs_format.specs.Declarations.{declared_name, declared_kind}
-use Rattle.tracefs_format.specs.FieldLines.{Description, IsLabelled, IsNumber, IsFieldLine, flag_bytes}
-use Rattle.tracefs_format.specs.Lines.{AreBlanks, IsWord, IsDecimal, IsNameLine, IsIdLine}
-use Rattle.tracefs_format.specs.Reading.{◌>>=◌, word_in, name_on, id_on, number_after, flag_after, field_on}
+use Rattle.event_layout.specs.Bytes.{is_blank, without_front, longest_beginning, cut_at, after, labelled, decimal_value, number_in, flag_in}
+use Rattle.event_layout.specs.Declarations.{declared_name, declared_kind}
+use Rattle.event_layout.specs.FieldLines.{Description, IsLabelled, IsNumber, IsFieldLine, flag_bytes}
+use Rattle.event_layout.specs.Lines.{AreBlanks, IsWord, IsDecimal, IsNameLine, IsIdLine}
+use Rattle.event_layout.specs.Reading.{◌>>=◌, word_in, name_on, id_on, number_after, flag_after, field_on}
 use Rattle.tracefs_format.proofs.BytesLemmas.{with_first, front_parts, after-append, after-parts}
 use Rattle.tracefs_format.proofs.StripLaws.{IsLabel, labelled-IsLabelled, IsLabelled-labelled, list_all-both, list_all-parts, list_all-weaker, all-longest_beginning, without_front-append, some_is}
 

@@ -3,9 +3,9 @@ use Rattle.std.proofs.Common.{◌≡◌, ℕ, Bool, true, false, cond, ◌&&◌,
 use Rattle.std.proofs.lemmas.Bool.{and_parts, and_from}
 use Rattle.std.specs.List.{list_all}
 use Rattle.std.specs.Option.{option_map}
-use Rattle.tracefs_format.specs.Bytes.{is_blank, without_front, without_end, longest_beginning, longest_ending, stripped, after, labelled}
-use Rattle.tracefs_format.specs.Lines.{AreBlanks}
-use Rattle.tracefs_format.specs.FieldLines.{IsLabelled}
+use Rattle.event_layout.specs.Bytes.{is_blank, without_front, without_end, longest_beginning, longest_ending, stripped, after, labelled}
+use Rattle.event_layout.specs.Lines.{AreBlanks}
+use Rattle.event_layout.specs.FieldLines.{IsLabelled}
 use Rattle.tracefs_format.proofs.BytesLemmas.{front_parts, end_parts, without_end-all, after-append, after-parts}
 
 and_true : (a : Bool) → (a && true) ≡ a

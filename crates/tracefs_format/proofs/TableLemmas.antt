@@ -8,10 +8,10 @@ use Rattle.std.specs.BTreeSet.{BTreeSet}
 use Rattle.std.proofs.lemmas.List.{map_push}
 use Rattle.std.proofs.lemmas.List.Folds.{list_any-append}
 use Rattle.bt_core.specs.declared.limits.TheConstants.{LAYOUT_END}
-use Rattle.tracefs_format.specs.declared.field.Field.{Field}
-use Rattle.tracefs_format.specs.FieldLines.{Description, description}
-use Rattle.tracefs_format.specs.Layouts.{is_taken, field_fault}
-use Rattle.tracefs_format.specs.Sizes.{end_of, greatest_end}
+use Rattle.event_layout.specs.declared.field.Field.{Field}
+use Rattle.event_layout.specs.FieldLines.{Description, description}
+use Rattle.event_layout.specs.Layouts.{is_taken, field_fault}
+use Rattle.event_layout.specs.Sizes.{end_of, greatest_end}
 use Rattle.tracefs_format.specs.Tables.{has_name, is_known, IsTable}
 
 pub greatest_end-push : (fs : List Field) (f : Field) → greatest_end (fs ++ f ∷ []) ≡ max (greatest_end fs) (end_of f)

@@ -4,7 +4,7 @@ use Rattle.std.specs.Prelude.{nat_lt, filter}
 use Rattle.std.specs.List.{slice_split, onto_first}
 use Rattle.std.proofs.lemmas.List.{length-append}
 use Rattle.std.proofs.lemmas.Bool.{lt-ltb}
-use Rattle.tracefs_format.specs.Bytes.{longest_beginning, without_front}
+use Rattle.event_layout.specs.Bytes.{longest_beginning, without_front}
 use Rattle.tracefs_format.proofs.BytesLemmas.{front_parts, length-without_front}
 
 abbrev some_bytes : List ℕ → Bool

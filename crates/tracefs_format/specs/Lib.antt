@@ -1,12 +1,3 @@
-pub mod ByName
-pub mod Bytes
-pub mod Declarations
+pub mod Classes
 pub mod Described
-pub mod FieldLines
-pub mod Kinds
-pub mod Layouts
-pub mod Lines
-pub mod Names
-pub mod Reading
-pub mod Sizes
 pub mod Tables

@@ -6,15 +6,15 @@ use Rattle.std.specs.Str.{bytes_eq}
 use Rattle.std.specs.Ordering.{nat_cmp}
 use Rattle.std.specs.Cmp.Lexicographic.{slice_cmp}
 use Rattle.std.specs.BTreeSet.{BTreeSet, contains}
-use Rattle.tracefs_format.specs.declared.error.FormatError.{FormatError}
-use Rattle.tracefs_format.specs.declared.error.FormatError.TheVariants.{NoName, BadId, BadField, Overlong, SameName, Memory}
-use Rattle.tracefs_format.specs.declared.field.Field.{Field}
-use Rattle.tracefs_format.specs.declared.layout.Layout.{Layout}
-use Rattle.tracefs_format.specs.FieldLines.{Description, description}
-use Rattle.tracefs_format.specs.Layouts.{line_at, read_lines, described}
-use Rattle.tracefs_format.specs.Lines.{text_lines}
-use Rattle.tracefs_format.specs.Reading.{name_on, id_on}
-use Rattle.tracefs_format.specs.Sizes.{greatest_end}
+use Rattle.event_layout.specs.declared.error.FormatError.{FormatError}
+use Rattle.event_layout.specs.declared.error.FormatError.TheVariants.{NoName, BadId, BadField, Overlong, SameName, Memory}
+use Rattle.event_layout.specs.declared.field.Field.{Field}
+use Rattle.event_layout.specs.declared.layout.Layout.{Layout}
+use Rattle.event_layout.specs.FieldLines.{Description, description}
+use Rattle.event_layout.specs.Layouts.{line_at, read_lines, described}
+use Rattle.event_layout.specs.Lines.{text_lines}
+use Rattle.event_layout.specs.Reading.{name_on, id_on}
+use Rattle.event_layout.specs.Sizes.{greatest_end}
 
 abbrev pub Fails : FormatError → Option FormatError → Type 0
 Fails (Memory _) fault = ⊤

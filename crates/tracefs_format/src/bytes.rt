@@ -1,7 +1,9 @@
 // Classes of bytes, and cuts of byte lists.
 ghost use Rattle.std.specs.Prelude.{◌≡◌, ◌==◌, ◌<◌, ◌≤◌, ◌++◌, length, position, Option, OnSome, IfSome};
-ghost use Rattle.tracefs_format.specs.Bytes.{is_in, without_front, without_end, longest_beginning, longest_ending, stripped};
-ghost use Rattle.tracefs_format.specs.Bytes.{cut_at, before_last, after, labelled, number_in, flag_in, Finds};
+ghost use Rattle.event_layout.specs.Bytes.{without_front, without_end, longest_beginning, longest_ending, stripped};
+ghost use Rattle.tracefs_format.specs.Classes.{is_in};
+ghost use Rattle.event_layout.specs.Bytes.{cut_at, before_last, after, labelled, number_in, flag_in};
+ghost use Rattle.tracefs_format.specs.Classes.{Finds};
 
 use bt_core::bytes::{is_digit, is_word_byte};
 

@@ -1,12 +1,12 @@
 // The declaration of a field: its name and what says its kind.
 ghost use Rattle.std.specs.Prelude.{◌≡◌, is_some, IsTrue};
-ghost use Rattle.tracefs_format.specs.Bytes.{Finds};
-ghost use Rattle.tracefs_format.specs.Kinds.{fits_kind, is_number_size};
-ghost use Rattle.tracefs_format.specs.Declarations.{ungrouped, declared_name, declared_type, kind_of};
+ghost use Rattle.tracefs_format.specs.Classes.{Finds};
+ghost use Rattle.event_layout.specs.Kinds.{fits_kind, is_number_size};
+ghost use Rattle.event_layout.specs.Declarations.{ungrouped, declared_name, declared_type, kind_of};
 
 use crate::bytes::{ByteClass, before_last, split_ending};
-use crate::field::FieldKind;
 use crate::words::{has_word, is_char_words};
+use event_layout::field::FieldKind;
 
 /// A declaration in its parts.
 #[derive(Clone, Copy)]

@@ -2,17 +2,17 @@
 ghost use Rattle.std.specs.Prelude.{◌≡◌, ◌≤◌, ◌↔◌, ◌⊎◌, ℕ, List, Some, None, IsTrue};
 ghost use Rattle.std.specs.List.{AllByRecursion};
 ghost use Rattle.bt_core.specs.declared.limits.TheConstants.{LAYOUT_END};
-ghost use Rattle.tracefs_format.specs.declared.error.FormatError.{FormatError};
-ghost use Rattle.tracefs_format.specs.declared.field.Field.{Field};
-ghost use Rattle.tracefs_format.specs.declared.format.Format.{Format};
-ghost use Rattle.tracefs_format.specs.declared.layout.Layout.{Layout};
-ghost use Rattle.tracefs_format.specs.ByName.{field_named, full_name, IsFieldNamed, IsNamed};
-ghost use Rattle.tracefs_format.specs.FieldLines.{Description, IsFieldLine};
-ghost use Rattle.tracefs_format.specs.Layouts.{IsLayoutOf, layout_fault};
-ghost use Rattle.tracefs_format.specs.Lines.{IsNameLine, IsIdLine};
-ghost use Rattle.tracefs_format.specs.Names.{has_no_colon};
-ghost use Rattle.tracefs_format.specs.Reading.{name_on, id_on, field_on};
-ghost use Rattle.tracefs_format.specs.Sizes.{end_of};
+ghost use Rattle.event_layout.specs.declared.error.FormatError.{FormatError};
+ghost use Rattle.event_layout.specs.declared.field.Field.{Field};
+ghost use Rattle.event_layout.specs.declared.format.Format.{Format};
+ghost use Rattle.event_layout.specs.declared.layout.Layout.{Layout};
+ghost use Rattle.event_layout.specs.ByName.{field_named, full_name, IsFieldNamed, IsNamed};
+ghost use Rattle.event_layout.specs.FieldLines.{Description, IsFieldLine};
+ghost use Rattle.event_layout.specs.Layouts.{IsLayoutOf, layout_fault};
+ghost use Rattle.event_layout.specs.Lines.{IsNameLine, IsIdLine};
+ghost use Rattle.event_layout.specs.Names.{has_no_colon};
+ghost use Rattle.event_layout.specs.Reading.{name_on, id_on, field_on};
+ghost use Rattle.event_layout.specs.Sizes.{end_of};
 
 /// Each text has either one layout or a first rule that it breaks.
 pub fn one_answer()

@@ -2,14 +2,14 @@
 ghost use Rattle.std.specs.Prelude.{◌≡◌, IfSome, IsTrue};
 ghost use Rattle.std.specs.List.{list_all};
 ghost use Rattle.bt_core.specs.Bytes.{is_word_byte};
-ghost use Rattle.tracefs_format.specs.Bytes.{Finds};
-ghost use Rattle.tracefs_format.specs.Kinds.{fits_kind};
-ghost use Rattle.tracefs_format.specs.Reading.{word_in, name_on, id_on, number_after, flag_after, field_on};
+ghost use Rattle.tracefs_format.specs.Classes.{Finds};
+ghost use Rattle.event_layout.specs.Kinds.{fits_kind};
+ghost use Rattle.event_layout.specs.Reading.{word_in, name_on, id_on, number_after, flag_after, field_on};
 ghost use Rattle.tracefs_format.specs.Described.{described_by};
 
 use crate::bytes::{ByteClass, after, cut_at, flag_in, labelled, number_in, without_front};
 use crate::declaration::{declaration_parts, kind_of};
-use crate::field::FieldKind;
+use event_layout::field::FieldKind;
 
 /// What a field line says of its field.
 #[derive(Clone, Copy)]

@@ -1,6 +1,6 @@
 // The lines of a text, one after the other.
 ghost use Rattle.std.specs.Prelude.{◌≡◌, ◌∷◌, [], drop, slice_index_or, MatchOption};
-ghost use Rattle.tracefs_format.specs.Lines.{text_lines};
+ghost use Rattle.event_layout.specs.Lines.{text_lines};
 
 use crate::bytes::{ByteClass, cut_at, without_end};
 use std::marker::Model;
@@ -16,7 +16,7 @@ pub struct Lines<'a> {
 impl<'a> Model for Lines<'a> {
     ghost use Rattle.std.specs.Prelude.{List, ℕ};
     ghost use Rattle.std.specs.Option.{option_copied};
-    ghost use Rattle.tracefs_format.specs.Lines.{lines_left};
+    ghost use Rattle.event_layout.specs.Lines.{lines_left};
 
     ghost Value = { List (List ℕ) };
 

@@ -2,18 +2,18 @@
 ghost use Rattle.std.specs.Prelude.{◌≡◌, ◌≢◌, ◌⊎◌, ◌∷◌, [], ◌++◌, ◌+◌, ◌<◌};
 ghost use Rattle.std.specs.Prelude.{◌^◌, drop, length, IfOk, IfErr, Some, Ok, Err};
 ghost use Rattle.bt_core.specs.Want.{out_of_memory};
-ghost use Rattle.tracefs_format.specs.declared.layout.Layout.{Layout};
-ghost use Rattle.tracefs_format.specs.declared.error.FormatError.{FormatError};
-ghost use Rattle.tracefs_format.specs.Lines.{text_lines};
-ghost use Rattle.tracefs_format.specs.Layouts.{IsLayoutOf, layout_fault, line_fault, lines_fault, read_lines, described};
+ghost use Rattle.event_layout.specs.declared.layout.Layout.{Layout};
+ghost use Rattle.event_layout.specs.declared.error.FormatError.{FormatError};
+ghost use Rattle.event_layout.specs.Lines.{text_lines};
+ghost use Rattle.event_layout.specs.Layouts.{IsLayoutOf, layout_fault, line_fault, lines_fault, read_lines, described};
 ghost use Rattle.tracefs_format.specs.Tables.{Answers, IsReadOf};
 
-use crate::error::FormatError;
-use crate::layout::Layout;
 use crate::line::{field_on, id_on, name_on};
 use crate::lines::Lines;
 use crate::table::FieldTable;
 use bt_core::items::Items;
+use event_layout::error::FormatError;
+use event_layout::layout::Layout;
 use std::alloc::Global;
 
 /// The layout of a format text, in the form of `/sys/kernel/tracing/events/SYSTEM/EVENT/format`.

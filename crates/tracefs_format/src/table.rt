@@ -1,19 +1,19 @@
 // The fields that were read so far, and the names that they have.
 ghost use Rattle.std.specs.Prelude.{◌≡◌, ◌≢◌, ◌||◌, ◌∷◌, [], ◌++◌, ℕ, List, map, not, IfOk, OnOk, IsTrue, Some};
 ghost use Rattle.std.specs.Str.{bytes_eq};
-ghost use Rattle.tracefs_format.specs.Kinds.{fits_kind};
+ghost use Rattle.event_layout.specs.Kinds.{fits_kind};
 ghost use Rattle.tracefs_format.specs.Described.{described_by};
-ghost use Rattle.tracefs_format.specs.FieldLines.{description};
+ghost use Rattle.event_layout.specs.FieldLines.{description};
 ghost use Rattle.tracefs_format.specs.Tables.{Answers, has_name, is_known, IsMadeOf, IsTable};
-ghost use Rattle.tracefs_format.specs.Layouts.{field_fault};
+ghost use Rattle.event_layout.specs.Layouts.{field_fault};
 
-use crate::error::FormatError;
-use crate::field::Field;
-use crate::layout::Layout;
 use crate::line::FieldLine;
 use bt_core::items::Items;
 use bt_core::limits::LAYOUT_END;
 use bt_core::memory::Memory;
+use event_layout::error::FormatError;
+use event_layout::field::Field;
+use event_layout::layout::Layout;
 use std::alloc::Global;
 use std::collections::BTreeSet;
 use std::marker::Model;
@@ -36,7 +36,7 @@ struct Tables {
 
 impl Model for FieldTable {
     ghost use Rattle.std.specs.Prelude.{List, map};
-    ghost use Rattle.tracefs_format.specs.FieldLines.{Description, description};
+    ghost use Rattle.event_layout.specs.FieldLines.{Description, description};
     ghost use Rattle.tracefs_format.specs.Tables.{IsTable};
 
     ghost Value = { List Description };

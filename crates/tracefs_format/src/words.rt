@@ -2,8 +2,8 @@
 ghost use Rattle.std.specs.Prelude.{◌≡◌, ◌<◌, ◌∷◌, [], length};
 ghost use Rattle.std.specs.List.{list_any};
 ghost use Rattle.std.specs.Str.{bytes_eq};
-ghost use Rattle.tracefs_format.specs.Bytes.{words};
-ghost use Rattle.tracefs_format.specs.Declarations.{is_char_words, is_char_alone};
+ghost use Rattle.event_layout.specs.Bytes.{words};
+ghost use Rattle.event_layout.specs.Declarations.{is_char_words, is_char_alone};
 
 use crate::bytes::{ByteClass, split_beginning, without_front};
 

@@ -4,7 +4,7 @@ use Rattle.bt_core.specs.declared.map.MapDecl.{MapDecl}
 use Rattle.bt_core.specs.declared.map.MapId.{MapId}
 use Rattle.bt_core.specs.declared.map.Shape.{Shape}
 use Rattle.fmt_text.specs.declared.piece.Piece.{Piece}
-use Rattle.tracefs_format.specs.declared.layout.Layout.{Layout}
+use Rattle.event_layout.specs.declared.layout.Layout.{Layout}
 use Rattle.typed_tree.specs.declared.body.TypedTree.{TypedTree}
 use Rattle.typed_tree.specs.declared.expr.NumExpr.{NumExpr}
 use Rattle.typed_tree.specs.Parts.{Part, Otherwise, NoOtherwise, num_parts, block_parts}

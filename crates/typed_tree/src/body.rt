@@ -8,8 +8,8 @@ use crate::expr::NumExpr;
 use crate::stmt::TypedBlock;
 use bt_core::items::Items;
 use bt_core::map::{MapDecl, MapId, Shape};
+use event_layout::layout::Layout;
 use fmt_text::piece::Piece;
-use tracefs_format::layout::Layout;
 
 /// The typed predicate and block of a body, and the types of its variables by their numbers, in the order of their first assignments.
 pub struct TypedTree {

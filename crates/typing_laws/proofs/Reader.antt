@@ -7,7 +7,7 @@ use Rattle.bt_core.specs.declared.map.Shape.{Shape}
 use Rattle.bt_core.specs.declared.map.Shape.TheVariants.{Int, Str}
 use Rattle.bt_core.specs.declared.operator.BinOp.{BinOp}
 use Rattle.bt_core.specs.declared.operator.BinOp.TheVariants.{Eq}
-use Rattle.tracefs_format.specs.declared.field.Field.{Field}
+use Rattle.event_layout.specs.declared.field.Field.{Field}
 use Rattle.typed_tree.specs.declared.expr.AnyExpr.{AnyExpr, roll-AnyExpr}
 use Rattle.typed_tree.specs.declared.expr.AnyExpr.TheOpen.{NumExpr-F, StrExpr-F, AnyExpr-F}
 use Rattle.typed_tree.specs.declared.expr.NumExpr.{NumExpr, roll-NumExpr}

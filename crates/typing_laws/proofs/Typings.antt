@@ -8,7 +8,7 @@ use Rattle.bt_ast.specs.declared.attached.BodyId.{BodyId}
 use Rattle.bt_ast.specs.declared.probe.Script.{Script}
 use Rattle.bt_core.specs.declared.map.MapDecl.{MapDecl}
 use Rattle.fmt_text.specs.declared.piece.Piece.{Piece}
-use Rattle.tracefs_format.specs.declared.format.Format.{Format}
+use Rattle.event_layout.specs.declared.format.Format.{Format}
 use Rattle.typed_tree.specs.declared.body.TypedBody.{TypedBody}
 use Rattle.typed_tree.specs.declared.body.TypedTree.{TypedTree}
 use Rattle.typed_tree.specs.declared.expr.NumExpr.{NumExpr}

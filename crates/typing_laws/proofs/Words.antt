@@ -6,7 +6,7 @@ use Rattle.bt_core.specs.declared.map.MapKind.TheVariants.{Ints, Strs, Aggs}
 use Rattle.bt_core.specs.declared.map.Shape.{Shape}
 use Rattle.bt_core.specs.declared.map.Shape.TheVariants.{Int, Str}
 use Rattle.bt_core.specs.declared.place.Place.{Place}
-use Rattle.tracefs_format.specs.declared.field.Field.{Field}
+use Rattle.event_layout.specs.declared.field.Field.{Field}
 use Rattle.typed_tree.specs.declared.expr.NumBuiltin.{NumBuiltin}
 use Rattle.typed_tree.specs.declared.expr.NumBuiltin.TheVariants.{Pid}
 use Rattle.typed_tree.specs.Parts.{Part, Constant, Literal, Numeric, Command, FieldOf, VarOf, MapOf, AggOf, Stepped, Prefixed, Joined, Both, Either, Chosen}

@@ -3,7 +3,7 @@ ghost use Rattle.std.specs.Prelude.{◌≡◌, List};
 ghost use Rattle.bt_ast.specs.declared.attached.BodyId.{BodyId};
 ghost use Rattle.bt_ast.specs.declared.probe.Script.{Script};
 ghost use Rattle.bt_types.specs.Script.{IsTypedScript};
-ghost use Rattle.tracefs_format.specs.declared.format.Format.{Format};
+ghost use Rattle.event_layout.specs.declared.format.Format.{Format};
 ghost use Rattle.typed_tree.specs.declared.script.Typed.{Typed};
 
 /// Of one script over the same formats and bodies there is one typed script at most: its maps, formats and trees, what each body

@@ -18,9 +18,9 @@ use Rattle.bt_core.specs.Kinds.{HasShape, IsOfShape, IsOfKind, IsShared, IsAggre
 use Rattle.bt_core.specs.declared.step.ObjectId.TheVariants.{Cpu}
 use Rattle.bt_core.specs.declared.step.Op.TheVariants.{Get, Set, Delete, Add, Read}
 use Rattle.bt_core.specs.Ports.{Setting, CanStep}
-use Rattle.tracefs_format.specs.declared.field.Field.{Field}
-use Rattle.tracefs_format.specs.declared.layout.Layout.{Layout}
-use Rattle.tracefs_format.specs.Sizes.{end_of, greatest_end}
+use Rattle.event_layout.specs.declared.field.Field.{Field}
+use Rattle.event_layout.specs.declared.layout.Layout.{Layout}
+use Rattle.event_layout.specs.Sizes.{end_of, greatest_end}
 use Rattle.typed_tree.specs.Parts.{FieldOf}
 use Rattle.typed_tree.specs.Scope.{decl_of, same_shape, same_shapes, same_kind, same_field, same_field_kind, same_bool, has_field, is_shape, shape_of_field, is_agg, is_shared, is_summed, is_summed_kind, is_there, is_declared, is_fine_decl, is_fine_kind, kind_of_shape, fits}
 use Rattle.typed_tree.proofs.Summed.{summed_kind}

@@ -10,7 +10,7 @@ use Rattle.bt_core.specs.declared.map.MapKind.TheVariants.{Ints, Aggs}
 use Rattle.bt_core.specs.declared.map.AggKind.{AggKind}
 use Rattle.bt_core.specs.declared.operator.BinOp.{BinOp}
 use Rattle.bt_core.specs.declared.map.Shape.TheVariants.{Int, Str}
-use Rattle.tracefs_format.specs.declared.field.Field.{Field}
+use Rattle.event_layout.specs.declared.field.Field.{Field}
 use Rattle.typed_tree.specs.declared.expr.AnyExpr.{AnyExpr}
 use Rattle.typed_tree.specs.declared.expr.AnyExpr.TheOpen.{NumExpr-F, StrExpr-F}
 use Rattle.typed_tree.specs.declared.expr.NumExpr.{NumExpr, fold-roll-NumExpr}

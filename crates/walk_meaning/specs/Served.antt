@@ -9,7 +9,7 @@ use Rattle.bt_core.specs.declared.map.Shape.{Shape}
 use Rattle.bt_core.specs.declared.value.Value.{Value}
 use Rattle.bt_core.specs.Kinds.{IsShared, HasShape}
 use Rattle.bt_core.specs.Ports.{Setting}
-use Rattle.tracefs_format.specs.declared.layout.Layout.{Layout}
+use Rattle.event_layout.specs.declared.layout.Layout.{Layout}
 use Rattle.typed_tree.specs.declared.body.TypedBody.{TypedBody}
 use Rattle.typed_tree.specs.declared.expr.AnyExpr.{AnyExpr}
 use Rattle.typed_tree.specs.declared.stmt.TypedBlock.{TypedBlock}

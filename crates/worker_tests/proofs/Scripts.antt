@@ -7,7 +7,7 @@ use Rattle.bt_ast.specs.declared.attached.BodyPoint.TheVariants.{Begin, End, Int
 use Rattle.bt_ast.specs.declared.probe.Script.{Script}
 use Rattle.bt_attach.specs.There.{IsEventThere, IsThere}
 use Rattle.bt_types.specs.Bodies.{IsEventOf, IsBodyOf}
-use Rattle.tracefs_format.specs.declared.format.Format.{Format}
+use Rattle.event_layout.specs.declared.format.Format.{Format}
 
 event_is_there : (formats : List Format) (point : BodyPoint) → IsEventThere formats point → IsEventOf formats point
 event_is_there formats (Event place) there = there

@@ -3,7 +3,7 @@ use Rattle.bt_ast.specs.declared.attached.BodyId.{BodyId}
 use Rattle.bt_ast.specs.declared.attached.BodyPoint.{BodyPoint}
 use Rattle.bt_ast.specs.declared.attached.BodyPoint.TheVariants.{Begin, End, Interval, Event}
 use Rattle.bt_ast.specs.declared.probe.Script.{Script}
-use Rattle.tracefs_format.specs.declared.format.Format.{Format}
+use Rattle.event_layout.specs.declared.format.Format.{Format}
 use Rattle.bt_attach.specs.There.{IsEventThere, IsThere}
 use Rattle.bt_attach.proofs.BodyLemmas.{bodies_there}
 use Rattle.bt_types.specs.Bodies.{IsEventOf, IsBodyOf}

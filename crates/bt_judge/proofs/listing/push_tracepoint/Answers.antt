@@ -1,7 +1,7 @@
 use Rattle.std.proofs.Common.{◌≡◌, ◌++◌, ◌∙◌, ap, List, ℕ, codes, append_assoc, sym}
 use Rattle.std.specs.Prelude.{Option, Some, slice_get}
 use Rattle.std.proofs.lemmas.Option.{slice_get-get_or}
-use Rattle.tracefs_format.specs.declared.format.Format.{Format}
+use Rattle.event_layout.specs.declared.format.Format.{Format}
 use Rattle.bt_judge.specs.Listings.{event_name}
 use Rattle.bt_judge.proofs.Listed.{on_ok-map}
 use Rattle.bt_judge.proofs.listing.push_tracepoint.Goals as goal

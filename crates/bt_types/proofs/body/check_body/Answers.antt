@@ -1,7 +1,7 @@
 use Rattle.std.proofs.Common.{◌∙◌, ap, subst, Option}
 use Rattle.std.proofs.lemmas.Result.{IfOk-at_ok}
 use Rattle.expr_types.specs.declared.known.Known.{Known}
-use Rattle.tracefs_format.specs.declared.layout.Layout.{Layout}
+use Rattle.event_layout.specs.declared.layout.Layout.{Layout}
 use Rattle.typed_tree.specs.declared.body.TypedTree.{TypedTree}
 use Rattle.typed_tree.specs.Bodies.{tree_parts}
 use Rattle.bt_types.specs.Bodies.{body_told}

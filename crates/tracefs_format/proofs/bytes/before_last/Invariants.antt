@@ -1,5 +1,5 @@
 use Rattle.std.proofs.Common.{◌≡◌, length}
-use Rattle.tracefs_format.specs.Bytes.{before_last}
+use Rattle.event_layout.specs.Bytes.{before_last}
 use Rattle.tracefs_format.proofs.bytes.before_last.Given as goal
 
 abbrev pub invariant-loop-rest : goal.invariant-loop-rest

@@ -1,7 +1,7 @@
 use Rattle.std.proofs.Common.{◌≡◌, ◌≤◌, ◌+◌, ◌-◌, ◌*◌, drop}
 use Rattle.std.specs.List.{list_all, fold}
 use Rattle.bt_core.specs.Bytes.{is_digit}
-use Rattle.tracefs_format.specs.Bytes.{decimal_value}
+use Rattle.event_layout.specs.Bytes.{decimal_value}
 use Rattle.tracefs_format.proofs.bytes.number_in.Given as goal
 
 -- what is read, with what is read from here, is the whole

@@ -1,5 +1,5 @@
 use Rattle.std.proofs.Common.{◌∙◌}
-use Rattle.tracefs_format.specs.Bytes.{is_in}
+use Rattle.tracefs_format.specs.Classes.{is_in}
 use Rattle.tracefs_format.proofs.BytesLemmas.{length-without_end, drop-without_end, take-without_end}
 use Rattle.tracefs_format.proofs.bytes.split_ending.Goals as goal
 

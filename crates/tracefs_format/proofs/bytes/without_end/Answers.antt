@@ -1,5 +1,5 @@
 use Rattle.std.proofs.Common.{◌∙◌, sym, arith}
-use Rattle.tracefs_format.specs.Bytes.{is_in}
+use Rattle.tracefs_format.specs.Classes.{is_in}
 use Rattle.tracefs_format.proofs.BytesLemmas.{without_end-last_yes, without_end-last_no}
 use Rattle.tracefs_format.proofs.bytes.without_end.Goals as goal
 

@@ -1,5 +1,6 @@
 use Rattle.std.proofs.Common.{◌≡◌, length}
-use Rattle.tracefs_format.specs.Bytes.{without_end, is_in}
+use Rattle.event_layout.specs.Bytes.{without_end}
+use Rattle.tracefs_format.specs.Classes.{is_in}
 use Rattle.tracefs_format.proofs.bytes.without_end.Given as goal
 
 abbrev pub invariant-loop-rest : goal.invariant-loop-rest

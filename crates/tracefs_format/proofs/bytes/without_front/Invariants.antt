@@ -1,5 +1,6 @@
 use Rattle.std.proofs.Common.{◌≡◌, length}
-use Rattle.tracefs_format.specs.Bytes.{without_front, is_in}
+use Rattle.event_layout.specs.Bytes.{without_front}
+use Rattle.tracefs_format.specs.Classes.{is_in}
 use Rattle.tracefs_format.proofs.bytes.without_front.Given as goal
 
 abbrev pub invariant-loop-rest : goal.invariant-loop-rest

@@ -1,7 +1,7 @@
 use Rattle.std.proofs.Common.{◌≡◌, ◌∙◌, ap, sym, drop, Some}
-use Rattle.tracefs_format.specs.Lines.{text_lines}
-use Rattle.tracefs_format.specs.Layouts.{line_at}
-use Rattle.tracefs_format.specs.Reading.{name_on}
+use Rattle.event_layout.specs.Lines.{text_lines}
+use Rattle.event_layout.specs.Layouts.{line_at}
+use Rattle.event_layout.specs.Reading.{name_on}
 use Rattle.tracefs_format.proofs.LoopLemmas.{few_lines}
 use Rattle.tracefs_format.proofs.reading.read.Goals as goal
 

@@ -1,6 +1,6 @@
 use Rattle.std.proofs.Common.{◌≡◌, ◌∙◌, sym, false, arith, [], ap, length}
 use Rattle.std.proofs.lemmas.Result.{err_from_is_err_and}
-use Rattle.tracefs_format.specs.Layouts.{is_print_line, read_lines, lines_fault, described}
+use Rattle.event_layout.specs.Layouts.{is_print_line, read_lines, lines_fault, described}
 use Rattle.tracefs_format.proofs.LoopLemmas.{line_fails, line_passes, line_described}
 use Rattle.tracefs_format.proofs.reading.read_fields.Goals as goal
 

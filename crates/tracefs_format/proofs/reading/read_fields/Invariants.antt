@@ -1,5 +1,5 @@
 use Rattle.std.proofs.Common.{◌≡◌, ◌≤◌, ◌+◌, ◌++◌, [], length}
-use Rattle.tracefs_format.specs.Layouts.{lines_fault, read_lines, described}
+use Rattle.event_layout.specs.Layouts.{lines_fault, read_lines, described}
 use Rattle.tracefs_format.proofs.reading.read_fields.Given as goal
 
 -- what is read, with what is read from here, is the whole

@@ -1,6 +1,6 @@
 use Rattle.std.proofs.Common.{◌∙◌, sym}
 use Rattle.bt_core.specs.Bytes.{is_word_byte}
-use Rattle.tracefs_format.specs.Bytes.{is_separator, without_front}
+use Rattle.event_layout.specs.Bytes.{is_separator, without_front}
 use Rattle.tracefs_format.proofs.WordsLemmas.{words-skip, words-some, words-none, words-shorter}
 use Rattle.tracefs_format.proofs.words.first_word.Goals as goal
 

@@ -1,7 +1,7 @@
 use Rattle.std.proofs.Common.{◌≡◌, length}
 use Rattle.std.specs.List.{list_any}
 use Rattle.std.specs.Str.{bytes_eq}
-use Rattle.tracefs_format.specs.Bytes.{words}
+use Rattle.event_layout.specs.Bytes.{words}
 use Rattle.tracefs_format.proofs.words.has_word.Given as goal
 
 abbrev pub invariant-loop-word : goal.invariant-loop-word

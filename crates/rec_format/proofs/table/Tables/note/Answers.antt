@@ -5,10 +5,10 @@ use Rattle.std.specs.Ordering.{nat_cmp}
 use Rattle.std.specs.Cmp.Lexicographic.{slice_cmp}
 use Rattle.std.specs.BTreeMap.{get}
 use Rattle.std.specs.BTreeSet.{contains}
-use Rattle.tracefs_format.specs.declared.format.Format.{Format}
+use Rattle.event_layout.specs.declared.format.Format.{Format}
 use Rattle.rec_format.specs.declared.error.RecordingError.TheVariants as fault
-use Rattle.tracefs_format.specs.ByName.{full_name}
-use Rattle.tracefs_format.specs.Names.{has_no_colon}
+use Rattle.event_layout.specs.ByName.{full_name}
+use Rattle.event_layout.specs.Names.{has_no_colon}
 use Rattle.rec_format.proofs.TableLaws.{same_known, table_added, system-no_colon}
 use Rattle.rec_format.proofs.table.Tables.note.Goals as goal
 use Rattle.rec_format.proofs.table.Tables.note.Goals.{then-contains_key-via-then-contains_key, then-contains_key-via-else-contains_key+then-contains}

@@ -1,7 +1,7 @@
 use Rattle.std.proofs.Common.{◌∙◌, ◌∷◌, [], ap, sym, map}
 use Rattle.std.specs.Option.{option_copied}
-use Rattle.tracefs_format.specs.Bytes.{is_line_end, without_end}
-use Rattle.tracefs_format.specs.Lines.{lines_left, text_lines}
+use Rattle.event_layout.specs.Bytes.{is_line_end, without_end}
+use Rattle.event_layout.specs.Lines.{lines_left, text_lines}
 use Rattle.tracefs_format.proofs.BytesLemmas.{slice_split-Some, slice_split-None}
 use Rattle.tracefs_format.proofs.lines.Lines.next.Goals as goal
 

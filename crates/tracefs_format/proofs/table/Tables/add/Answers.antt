@@ -1,5 +1,5 @@
 use Rattle.std.proofs.Common.{List, ℕ, refl, ap, arith, map}
-use Rattle.tracefs_format.specs.FieldLines.{Description, description}
+use Rattle.event_layout.specs.FieldLines.{Description, description}
 use Rattle.tracefs_format.specs.Described.{described_by}
 use Rattle.tracefs_format.proofs.TableLemmas.{table-added, added-fault, added-fields}
 use Rattle.tracefs_format.proofs.table.Tables.add.Goals as goal

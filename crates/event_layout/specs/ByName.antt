@@ -1,9 +1,9 @@
 -- Fields by their names, and tracepoints by their systems and names.
 use Rattle.std.specs.Prelude.{◌≡◌, ◌≢◌, ℕ, Bool, ◌&&◌, nat_lt, List, [], length, slice_get, Option, Some, None, find, if◌then◌else◌}
 use Rattle.std.specs.Str.{bytes_eq}
-use Rattle.tracefs_format.specs.declared.field.Field.{Field}
-use Rattle.tracefs_format.specs.declared.format.Format.{Format}
-use Rattle.tracefs_format.specs.Names.{tracepoint_name}
+use Rattle.event_layout.specs.declared.field.Field.{Field}
+use Rattle.event_layout.specs.declared.format.Format.{Format}
+use Rattle.event_layout.specs.Names.{tracepoint_name}
 
 -- the first field of this name
 abbrev pub field_called : List ℕ → List Field → Option Field

@@ -2,7 +2,7 @@
 use Rattle.std.specs.Prelude.{◌≡◌, ◌≢◌, ◌≤◌, ℕ, ◌==◌, codes, map, List, [], ◌++◌, IsTrue, Option, Some, None}
 use Rattle.std.specs.List.{list_all, slice_split}
 use Rattle.bt_core.specs.Bytes.{is_digit, is_word_byte}
-use Rattle.tracefs_format.specs.Bytes.{is_blank, is_line_end, without_end, decimal_value}
+use Rattle.event_layout.specs.Bytes.{is_blank, is_line_end, without_end, decimal_value}
 
 -- the lines of a text, cut at its newlines, without the blanks and carriage returns at their ends
 abbrev pub text_lines : List ℕ → List (List ℕ)

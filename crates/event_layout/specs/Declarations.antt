@@ -4,10 +4,10 @@ use Rattle.std.specs.Prelude.{List, [], ◌∷◌, Option, None, is_some, unwrap
 use Rattle.std.specs.List.{list_any, starts_with, ends_with}
 use Rattle.std.specs.Str.{bytes_eq}
 use Rattle.bt_core.specs.Bytes.{is_word_byte}
-use Rattle.tracefs_format.specs.declared.field.FieldKind.{FieldKind}
-use Rattle.tracefs_format.specs.declared.field.FieldKind.TheVariants.{Number, Chars, DataLoc, Other}
-use Rattle.tracefs_format.specs.Bytes.{without_end, longest_ending, before_last, words}
-use Rattle.tracefs_format.specs.Kinds.{is_number_size}
+use Rattle.event_layout.specs.declared.field.FieldKind.{FieldKind}
+use Rattle.event_layout.specs.declared.field.FieldKind.TheVariants.{Number, Chars, DataLoc, Other}
+use Rattle.event_layout.specs.Bytes.{without_end, longest_ending, before_last, words}
+use Rattle.event_layout.specs.Kinds.{is_number_size}
 
 -- a declaration without its last bracket group, where it ends in one: what stands before its last `[`
 abbrev pub ungrouped : List ℕ → Option (List ℕ)

@@ -1,6 +1,6 @@
 // The layout of an event.
 ghost use Rattle.std.specs.Prelude.{◌≡◌, IfOk};
-ghost use Rattle.tracefs_format.specs.Sizes.{greatest_end};
+ghost use Rattle.event_layout.specs.Sizes.{greatest_end};
 
 use crate::field::Field;
 use bt_core::items::Items;
@@ -34,7 +34,7 @@ impl Drop for Layout {
 
 impl Layout {
     ghost use Rattle.std.specs.Option.{option_copied};
-    ghost use Rattle.tracefs_format.specs.ByName.{field_named};
+    ghost use Rattle.event_layout.specs.ByName.{field_named};
 
     /// The field of this name, or `None` where there is none. The empty name finds none, since nothing
     /// reads a field without a name.

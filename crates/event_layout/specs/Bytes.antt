@@ -1,12 +1,10 @@
 -- Words on the bytes of a format text.
-use Rattle.std.specs.Prelude.{◌≡◌, ℕ, ◌+◌, ◌*◌, ◌-◌, Bool, true, false, ◌==◌, ◌||◌, ◌&&◌, not}
+use Rattle.std.specs.Prelude.{ℕ, ◌+◌, ◌*◌, ◌-◌, Bool, true, false, ◌==◌, ◌||◌, ◌&&◌, not}
 use Rattle.std.specs.Prelude.{nat_le, nat_lt, filter, codes, List, [], ◌∷◌, length, Option, Some, None, if◌then◌else◌}
 use Rattle.std.specs.List.{list_all, fold, slice_split}
 use Rattle.std.specs.Str.{bytes_eq}
 use Rattle.std.specs.Option.{option_map, option_or}
 use Rattle.bt_core.specs.Bytes.{is_digit, is_word_byte}
-use Rattle.tracefs_format.specs.declared.bytes.ByteClass.{ByteClass}
-use Rattle.tracefs_format.specs.declared.bytes.ByteClass.TheVariants.{Blank, LineEnd, Word, Separator}
 
 -- a space or a tab
 abbrev pub is_blank : ℕ → Bool
@@ -19,12 +17,6 @@ is_line_end b = is_blank b || b == 13
 -- what stands between words
 abbrev pub is_separator : ℕ → Bool
 is_separator b = not (is_word_byte b)
-
-abbrev pub is_in : ByteClass → ℕ → Bool
-is_in Blank = is_blank
-is_in LineEnd = is_line_end
-is_in Word = is_word_byte
-is_in Separator = is_separator
 
 -- bytes without those at the front that pass
 abbrev pub without_front : (ℕ → Bool) → List ℕ → List ℕ
@@ -86,8 +78,3 @@ flag_in bytes = if bytes_eq bytes (codes "0") then Some false else if bytes_eq b
 -- the words of bytes: the longest runs of letters and digits
 abbrev pub words : List ℕ → List (List ℕ)
 words bytes = filter (λ word. nat_lt 0 (length word)) (slice_split is_separator bytes)
-
--- what was found, seen by view, is what there is
-abbrev pub Finds : {X Y : Type 0} → (X → Y) → Option X → Option Y → Type 0
-Finds view None there = there ≡ None
-Finds view (Some x) there = there ≡ Some (view x)

@@ -1,11 +1,11 @@
 -- Field lines: how one is spelled.
 use Rattle.std.specs.Prelude.{◌≡◌, ◌≤◌, ℕ, Bool, true, false, ◌==◌, not, codes, List, [], ◌∷◌, ◌++◌, IsTrue}
 use Rattle.std.specs.List.{list_all}
-use Rattle.tracefs_format.specs.declared.field.Field.{Field}
-use Rattle.tracefs_format.specs.declared.field.FieldKind.{FieldKind}
-use Rattle.tracefs_format.specs.Bytes.{stripped}
-use Rattle.tracefs_format.specs.Declarations.{declared_name, declared_kind}
-use Rattle.tracefs_format.specs.Lines.{AreBlanks, IsDecimal}
+use Rattle.event_layout.specs.declared.field.Field.{Field}
+use Rattle.event_layout.specs.declared.field.FieldKind.{FieldKind}
+use Rattle.event_layout.specs.Bytes.{stripped}
+use Rattle.event_layout.specs.Declarations.{declared_name, declared_kind}
+use Rattle.event_layout.specs.Lines.{AreBlanks, IsDecimal}
 
 -- what a field line says
 pub record Description : Type 0 where

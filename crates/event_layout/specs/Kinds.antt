@@ -1,7 +1,7 @@
 -- Kinds of fields and the sizes that they have.
 use Rattle.std.specs.Prelude.{ℕ, Bool, true, ◌==◌, ◌||◌}
-use Rattle.tracefs_format.specs.declared.field.FieldKind.{FieldKind}
-use Rattle.tracefs_format.specs.declared.field.FieldKind.TheVariants.{Number, Chars, DataLoc, Other}
+use Rattle.event_layout.specs.declared.field.FieldKind.{FieldKind}
+use Rattle.event_layout.specs.declared.field.FieldKind.TheVariants.{Number, Chars, DataLoc, Other}
 
 -- whether a number may have this many bytes
 abbrev pub is_number_size : ℕ → Bool

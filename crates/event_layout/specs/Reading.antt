@@ -2,9 +2,9 @@
 use Rattle.std.specs.Prelude.{◌==◌, ◌&&◌, ℕ, Bool, nat_lt, codes, List, length, Option, Some, None, if◌then◌else◌}
 use Rattle.std.specs.List.{list_all}
 use Rattle.bt_core.specs.Bytes.{is_word_byte}
-use Rattle.tracefs_format.specs.Bytes.{is_blank, without_front, cut_at, after, labelled, number_in, flag_in}
-use Rattle.tracefs_format.specs.Declarations.{declared_name, declared_kind}
-use Rattle.tracefs_format.specs.FieldLines.{Description}
+use Rattle.event_layout.specs.Bytes.{is_blank, without_front, cut_at, after, labelled, number_in, flag_in}
+use Rattle.event_layout.specs.Declarations.{declared_name, declared_kind}
+use Rattle.event_layout.specs.FieldLines.{Description}
 
 infixl 10 ◌>>=◌
 abbrev pub ◌>>=◌ : {A B : Type 0} → Option A → (A → Option B) → Option B

@@ -1,6 +1,6 @@
 -- The size of a layout.
 use Rattle.std.specs.Prelude.{ℕ, ◌+◌, max, List, [], ◌∷◌}
-use Rattle.tracefs_format.specs.declared.field.Field.{Field}
+use Rattle.event_layout.specs.declared.field.Field.{Field}
 
 -- where a field ends
 abbrev pub end_of : Field → ℕ

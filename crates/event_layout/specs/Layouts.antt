@@ -5,14 +5,14 @@ use Rattle.std.specs.List.{list_any, starts_with, take_while, filter_map, AllByR
 use Rattle.std.specs.Option.{option_or}
 use Rattle.std.specs.Str.{bytes_eq}
 use Rattle.bt_core.specs.declared.limits.TheConstants.{LAYOUT_END}
-use Rattle.tracefs_format.specs.declared.error.FormatError.{FormatError}
-use Rattle.tracefs_format.specs.declared.error.FormatError.TheVariants.{NoName, BadId, BadField, Overlong, SameName}
-use Rattle.tracefs_format.specs.declared.field.Field.{Field}
-use Rattle.tracefs_format.specs.declared.layout.Layout.{Layout}
-use Rattle.tracefs_format.specs.Lines.{text_lines, IsNameLine, IsIdLine}
-use Rattle.tracefs_format.specs.FieldLines.{Description, description, IsFieldLine}
-use Rattle.tracefs_format.specs.Reading.{name_on, id_on, field_on}
-use Rattle.tracefs_format.specs.Sizes.{end_of, greatest_end}
+use Rattle.event_layout.specs.declared.error.FormatError.{FormatError}
+use Rattle.event_layout.specs.declared.error.FormatError.TheVariants.{NoName, BadId, BadField, Overlong, SameName}
+use Rattle.event_layout.specs.declared.field.Field.{Field}
+use Rattle.event_layout.specs.declared.layout.Layout.{Layout}
+use Rattle.event_layout.specs.Lines.{text_lines, IsNameLine, IsIdLine}
+use Rattle.event_layout.specs.FieldLines.{Description, description, IsFieldLine}
+use Rattle.event_layout.specs.Reading.{name_on, id_on, field_on}
+use Rattle.event_layout.specs.Sizes.{end_of, greatest_end}
 
 -- at such a line the reading ends
 abbrev pub is_print_line : List ℕ → Bool

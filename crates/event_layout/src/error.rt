@@ -38,7 +38,7 @@ impl fmt::Debug for FormatError {
 
 impl From<NoMemory> for FormatError {
     ghost use Rattle.std.specs.Prelude.{◌≡◌};
-    ghost use Rattle.tracefs_format.specs.declared.error.FormatError.TheVariants.{Memory};
+    ghost use Rattle.event_layout.specs.declared.error.FormatError.TheVariants.{Memory};
 
     ghost from_gives = { λ m e. e ≡ Memory m };
 

@@ -1,6 +1,6 @@
 // A tracepoint with its format text.
 ghost use Rattle.std.specs.Prelude.{◌≡◌, IfOk};
-ghost use Rattle.tracefs_format.specs.Names.{tracepoint_name};
+ghost use Rattle.event_layout.specs.Names.{tracepoint_name};
 
 use crate::layout::Layout;
 use bt_core::items::Items;
@@ -30,7 +30,7 @@ impl Drop for Format {
 
 impl Format {
     ghost use Rattle.std.specs.Prelude.{IsTrue, ◌↔◌};
-    ghost use Rattle.tracefs_format.specs.ByName.{IsNamed};
+    ghost use Rattle.event_layout.specs.ByName.{IsNamed};
 
     /// Whether the tracepoint belongs to this system and has this name.
     pub fn is_named(&self, system: &[u8], name: &[u8]) -> bool

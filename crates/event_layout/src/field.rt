@@ -1,7 +1,7 @@
 // The fields of an event.
 ghost use Rattle.std.specs.Prelude.{◌≡◌, ◌+◌, ◌≤◌, IfOk, IsTrue};
 ghost use Rattle.bt_core.specs.declared.limits.TheConstants.{LAYOUT_END};
-ghost use Rattle.tracefs_format.specs.Kinds.{fits_kind};
+ghost use Rattle.event_layout.specs.Kinds.{fits_kind};
 
 use bt_core::items::Items;
 use bt_core::memory::{Memory, TryCopy};

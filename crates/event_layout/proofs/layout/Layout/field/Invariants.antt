@@ -1,6 +1,6 @@
 use Rattle.std.proofs.Common.{◌≡◌, ◌<◌, length, drop}
-use Rattle.tracefs_format.specs.ByName.{field_called}
-use Rattle.tracefs_format.proofs.layout.Layout.field.Given as goal
+use Rattle.event_layout.specs.ByName.{field_called}
+use Rattle.event_layout.proofs.layout.Layout.field.Given as goal
 
 -- the field is not among those that were passed
 abbrev pub invariant-loop-field : goal.invariant-loop-field

@@ -1,0 +1,10 @@
+pub mod ByName
+pub mod Bytes
+pub mod Declarations
+pub mod FieldLines
+pub mod Kinds
+pub mod Layouts
+pub mod Lines
+pub mod Names
+pub mod Reading
+pub mod Sizes
