@@ -11,7 +11,7 @@ use Rattle.rec_format.specs.Recordings.{IsValidRecording}
 use Rattle.run_base.specs.declared.job.Job.{Job}
 use Rattle.typed_tree.specs.declared.script.Typed.{Typed}
 use Rattle.bt_judge.specs.Jobs.{AsksFor, IsJobFor, IsJobOf}
-use Rattle.bt_judge.specs.Orders.{OperandFile}
+use Rattle.bt_refusal.specs.Orders.{OperandFile}
 
 pub record IsAskedFor (job : Job) : Type 0 where
   pub text : List ℕ

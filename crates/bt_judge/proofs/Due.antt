@@ -13,14 +13,14 @@ use Rattle.bt_attach.specs.Attaching.{IsAttachedTo, attach_fault}
 use Rattle.bt_meaning.specs.Jobs.{IsJob}
 use Rattle.bt_types.specs.Script.{IsTypedScript}
 use Rattle.run_base.specs.declared.job.Job.{Job}
-use Rattle.bt_judge.specs.declared.refusal.ScriptRefusal.TheVariants as script
-use Rattle.bt_judge.specs.declared.refusal.RecordingRefusal.TheVariants as recording
-use Rattle.bt_judge.specs.declared.refusal.Refusal.{Refusal}
-use Rattle.bt_judge.specs.declared.refusal.Refusal.TheVariants.{Script, Recording}
+use Rattle.bt_refusal.specs.declared.refusal.ScriptRefusal.TheVariants as script
+use Rattle.bt_refusal.specs.declared.refusal.RecordingRefusal.TheVariants as recording
+use Rattle.bt_refusal.specs.declared.refusal.Refusal.{Refusal}
+use Rattle.bt_refusal.specs.declared.refusal.Refusal.TheVariants.{Script, Recording}
 use Rattle.bt_judge.specs.Doing.{IsExact, IsFaultRefusal, IsScriptRefusal, refusal_in}
 use Rattle.bt_judge.specs.Due.{IsRecording, AreAccepted, IsFirstRefusal, IsJudged}
 use Rattle.bt_judge.specs.Jobs.{AsksFor, IsJobOf}
-use Rattle.bt_judge.specs.Refusals.{recording_refusal}
+use Rattle.bt_refusal.specs.Refusals.{recording_refusal}
 use Rattle.bt_judge.specs.Script.{IsScriptFault}
 use Rattle.bt_judge.proofs.Asked.{can_run, of_both}
 use Rattle.bt_judge.proofs.Scripts.{AreScriptLaws, one_script_fault, no_script_fault}

@@ -3,15 +3,15 @@ use Rattle.std.proofs.Common.{◌≡◌, ℕ, ◌⊎◌, List, [], ◌∷◌, �
 use Rattle.std.specs.Prelude.{Some, Result, Ok, Err, IfErr, IsErrOf}
 use Rattle.bt_io.specs.declared.shelf.ShelfError.{ShelfError}
 use Rattle.bt_io.specs.declared.shelf.ShelfError.TheVariants as shelf
-use Rattle.bt_judge.specs.declared.refusal.Operand.{Operand}
-use Rattle.bt_judge.specs.declared.refusal.Operand.TheVariants as operand
-use Rattle.bt_judge.specs.declared.refusal.Refusal.{Refusal}
-use Rattle.bt_judge.specs.declared.refusal.Refusal.TheVariants.{Usage, Script, Recording, ReadFault, WriteFault, Memory, LongAccount, Denied}
+use Rattle.bt_refusal.specs.declared.refusal.Operand.{Operand}
+use Rattle.bt_refusal.specs.declared.refusal.Operand.TheVariants as operand
+use Rattle.bt_refusal.specs.declared.refusal.Refusal.{Refusal}
+use Rattle.bt_refusal.specs.declared.refusal.Refusal.TheVariants.{Usage, Script, Recording, ReadFault, WriteFault, Memory, LongAccount, Denied}
 use Rattle.bt_judge.specs.Doing.{IsFaultRefusal, IsUnread, refusal_in}
 use Rattle.bt_judge.specs.Due.{IsFirstRefusal}
 use Rattle.bt_judge.specs.FailedNames.{FailsNamed}
-use Rattle.bt_judge.specs.Orders.{OperandFile, file_of, operand_name}
-use Rattle.bt_judge.specs.Refusals.{read_refusal, too_long}
+use Rattle.bt_refusal.specs.Orders.{OperandFile, file_of, operand_name}
+use Rattle.bt_refusal.specs.Refusals.{read_refusal, too_long}
 use Rattle.bt_judge.specs.Reads.{ShelfUse}
 
 -- a read that succeeded noted no name as failed

@@ -1,7 +1,6 @@
 pub mod Asked
 pub mod Due
 mod FailedNames
-pub mod LineLaws
 pub mod Listed
 pub mod OneMeaning
 mod OneRead

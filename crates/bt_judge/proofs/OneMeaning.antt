@@ -15,7 +15,7 @@ use Rattle.rec_format.specs.Recordings.{IsValidRecording, recording_bytes}
 use Rattle.event_layout.specs.declared.format.Format.{Format}
 use Rattle.typed_tree.specs.declared.script.Typed.{Typed}
 use Rattle.bt_judge.specs.Meanings.{IsMeaningFor, Meaning, Means}
-use Rattle.bt_judge.specs.Orders.{OperandFile}
+use Rattle.bt_refusal.specs.Orders.{OperandFile}
 use Rattle.bt_judge.specs.Script.{HasTree}
 use Rattle.run_base.specs.declared.job.Job.{Job}
 use Rattle.bt_judge.specs.Jobs.{AsksFor, IsJobFor, meaning_in}

@@ -5,15 +5,15 @@ use Rattle.bt_io.specs.Faults.{Rose}
 use Rattle.bt_io.specs.declared.shelf.ShelfError.{ShelfError}
 use Rattle.bt_io.specs.declared.shelf.ShelfError.TheVariants as shelf
 use Rattle.run_base.specs.declared.job.Job.{Job}
-use Rattle.bt_judge.specs.declared.refusal.Operand.{Operand}
-use Rattle.bt_judge.specs.declared.refusal.Operand.TheVariants as operand
-use Rattle.bt_judge.specs.declared.refusal.Refusal.{Refusal}
-use Rattle.bt_judge.specs.declared.refusal.Refusal.TheVariants.{Memory}
+use Rattle.bt_refusal.specs.declared.refusal.Operand.{Operand}
+use Rattle.bt_refusal.specs.declared.refusal.Operand.TheVariants as operand
+use Rattle.bt_refusal.specs.declared.refusal.Refusal.{Refusal}
+use Rattle.bt_refusal.specs.declared.refusal.Refusal.TheVariants.{Memory}
 use Rattle.bt_judge.specs.Doing.{IsFaultRefusal, IsRead, IsUnread}
 use Rattle.bt_judge.specs.Due.{AreShort, IsFinding}
 use Rattle.bt_judge.specs.Jobs.{IsJobFor, IsJobOf}
-use Rattle.bt_judge.specs.Orders.{OperandFile, limit_of}
-use Rattle.bt_judge.specs.Refusals.{read_refusal}
+use Rattle.bt_refusal.specs.Orders.{OperandFile, limit_of}
+use Rattle.bt_refusal.specs.Refusals.{read_refusal}
 use Rattle.bt_judge.specs.Reads.{ShelfUse, ShelfFailed}
 use Rattle.bt_judge.proofs.Reading.{rose_from}
 

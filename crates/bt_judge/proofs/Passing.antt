@@ -20,9 +20,9 @@ use Rattle.event_layout.specs.declared.format.Format.{Format}
 use Rattle.typed_tree.specs.declared.body.TypedBody.{TypedBody}
 use Rattle.typed_tree.specs.declared.script.Typed.{Typed}
 use Rattle.walk_meaning.specs.Served.{least_length}
-use Rattle.bt_judge.specs.declared.refusal.CodeRefusal.{CodeRefusal}
+use Rattle.bt_refusal.specs.declared.refusal.CodeRefusal.{CodeRefusal}
 use Rattle.bt_judge.specs.Jobs.{IsJobFor}
-use Rattle.bt_judge.specs.Orders.{OperandFile}
+use Rattle.bt_refusal.specs.Orders.{OperandFile}
 use Rattle.bt_judge.specs.Vetting.{AllPass, IsAnswerOf, IsFirstRefused, PassBefore, Passes, most_of, refusal_of}
 use Rattle.bt_judge.proofs.Asked.{IsAskedFor, of_files}
 

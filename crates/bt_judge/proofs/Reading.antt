@@ -4,16 +4,16 @@ use Rattle.std.specs.Prelude.{Bool, true, false, cond, Option, Some, None, Resul
 use Rattle.std.proofs.lemmas.List.{length-replicate}
 use Rattle.bt_io.specs.Faults.{Rose}
 use Rattle.bt_io.specs.declared.shelf.ShelfError.{ShelfError}
-use Rattle.bt_judge.specs.declared.refusal.Operand.{Operand}
-use Rattle.bt_judge.specs.declared.refusal.Operand.TheVariants as operand
-use Rattle.bt_judge.specs.declared.refusal.RecordingRefusal.TheVariants as recording
-use Rattle.bt_judge.specs.declared.refusal.ScriptRefusal.TheVariants as script
-use Rattle.bt_judge.specs.declared.refusal.Refusal.{Refusal}
-use Rattle.bt_judge.specs.declared.refusal.Refusal.TheVariants.{Usage, Script, Recording, ReadFault, WriteFault, Memory, LongAccount, Denied}
+use Rattle.bt_refusal.specs.declared.refusal.Operand.{Operand}
+use Rattle.bt_refusal.specs.declared.refusal.Operand.TheVariants as operand
+use Rattle.bt_refusal.specs.declared.refusal.RecordingRefusal.TheVariants as recording
+use Rattle.bt_refusal.specs.declared.refusal.ScriptRefusal.TheVariants as script
+use Rattle.bt_refusal.specs.declared.refusal.Refusal.{Refusal}
+use Rattle.bt_refusal.specs.declared.refusal.Refusal.TheVariants.{Usage, Script, Recording, ReadFault, WriteFault, Memory, LongAccount, Denied}
 use Rattle.bt_judge.specs.Doing.{ComesOfFiles, IsRead, IsUnread, refusal_in}
 use Rattle.bt_judge.specs.Due.{AreShort, IsDue, IsFinding, IsFirstRefusal, IsTooLong}
-use Rattle.bt_judge.specs.Orders.{OperandFile, limit_of, names_of}
-use Rattle.bt_judge.specs.Refusals.{too_long}
+use Rattle.bt_refusal.specs.Orders.{OperandFile, limit_of, names_of}
+use Rattle.bt_refusal.specs.Refusals.{too_long}
 use Rattle.bt_judge.specs.Reads.{ShelfUse, ShelfFailed, AreContentsOf, AsksExactly, AsksFirst, ComesIfDue, IsReached, MayCome, MayStandFor, OnTold, ReadStandsFor, ends_at, names_read}
 
 -- ---- files and their contents

@@ -29,13 +29,13 @@ use Rattle.bt_grammar.specs.Form.{Item}
 use Rattle.bt_grammar.specs.Grammar.{IsTreeOf}
 use Rattle.bt_grammar.specs.Refusals.{IsAccepted, IsRefusal}
 use Rattle.bt_grammar.specs.Tokens.{items}
-use Rattle.bt_judge.specs.declared.refusal.ScriptFault.{ScriptFault}
-use Rattle.bt_judge.specs.declared.refusal.ScriptFault.TheVariants.{BadCharacter, OpenString, OpenComment, NumberTooLarge, BadEscape, StringTooLong, Syntax}
-use Rattle.bt_judge.specs.declared.refusal.ScriptFault.TheVariants.{TooDeep, TooManyProbes, UnknownTracepoint, NoMatch, BadPeriod, TooManyTicks, TooManyAttached}
-use Rattle.bt_judge.specs.declared.refusal.ScriptFault.TheVariants.{Types}
-use Rattle.bt_judge.specs.declared.refusal.Refusal.{Refusal}
-use Rattle.bt_judge.specs.declared.refusal.ScriptRefusal.TheVariants.{Fault}
-use Rattle.bt_judge.specs.declared.refusal.Refusal.TheVariants.{Script}
+use Rattle.bt_refusal.specs.declared.refusal.ScriptFault.{ScriptFault}
+use Rattle.bt_refusal.specs.declared.refusal.ScriptFault.TheVariants.{BadCharacter, OpenString, OpenComment, NumberTooLarge, BadEscape, StringTooLong, Syntax}
+use Rattle.bt_refusal.specs.declared.refusal.ScriptFault.TheVariants.{TooDeep, TooManyProbes, UnknownTracepoint, NoMatch, BadPeriod, TooManyTicks, TooManyAttached}
+use Rattle.bt_refusal.specs.declared.refusal.ScriptFault.TheVariants.{Types}
+use Rattle.bt_refusal.specs.declared.refusal.Refusal.{Refusal}
+use Rattle.bt_refusal.specs.declared.refusal.ScriptRefusal.TheVariants.{Fault}
+use Rattle.bt_refusal.specs.declared.refusal.Refusal.TheVariants.{Script}
 use Rattle.bt_judge.specs.Script.{offset_place, token_place, lexical_refusal, parse_refusal, attach_refusal, HasTree, IsTextFault, IsAttachFault}
 use Rattle.bt_judge.specs.Script.{type_refusal, body_fault, IsTypeFault, IsSizeFault, IsScriptFault}
 use Rattle.bt_types.specs.Script.{IsTypedScript}

@@ -12,14 +12,14 @@ use Rattle.code_bodies.specs.Programs.{KeepScript}
 use Rattle.script_programs.specs.Sizes.{first_size_fault}
 use Rattle.typed_tree.specs.declared.script.Typed.{Typed}
 use Rattle.bt_judge.specs.declared.files.AccountJob.{AccountJob}
-use Rattle.bt_judge.specs.declared.refusal.Refusal.{Refusal}
-use Rattle.bt_judge.specs.declared.refusal.Refusal.TheVariants.{Script, ReadFault, Memory}
-use Rattle.bt_judge.specs.declared.refusal.ScriptFault.{ScriptFault}
-use Rattle.bt_judge.specs.declared.refusal.ScriptRefusal.TheVariants as script
+use Rattle.bt_refusal.specs.declared.refusal.Refusal.{Refusal}
+use Rattle.bt_refusal.specs.declared.refusal.Refusal.TheVariants.{Script, ReadFault, Memory}
+use Rattle.bt_refusal.specs.declared.refusal.ScriptFault.{ScriptFault}
+use Rattle.bt_refusal.specs.declared.refusal.ScriptRefusal.TheVariants as script
 use Rattle.bt_judge.specs.Due.{IsFirstRefusal, IsJudged}
 use Rattle.bt_judge.specs.Jobs.{IsJobFor, account_in}
-use Rattle.bt_judge.specs.Orders.{OperandFile, limit_of, names_of}
-use Rattle.bt_judge.specs.Refusals.{too_long}
+use Rattle.bt_refusal.specs.Orders.{OperandFile, limit_of, names_of}
+use Rattle.bt_refusal.specs.Refusals.{too_long}
 use Rattle.bt_judge.specs.Script.{IsScriptFault, IsTextFault}
 use Rattle.bt_judge.specs.Reads.{ShelfUse, ShelfFailed, AreContentsOf, AsksExactly, AsksFirst, ComesIfDue, MayCome, OnTold}
 use Rattle.bt_judge.specs.Sizes.{IsProbePlace, TellsLarge, size_refusal}

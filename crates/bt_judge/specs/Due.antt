@@ -5,12 +5,12 @@ use Rattle.rec_format.specs.Recordings.{recording_bytes, IsValidRecording}
 use Rattle.rec_format.specs.Faults.{IsRecordingFault}
 use Rattle.bt_ast.specs.declared.probe.Script.{Script as Tree}
 use Rattle.bt_attach.specs.Attaching.{attach_fault}
-use Rattle.bt_judge.specs.declared.refusal.ScriptRefusal.TheVariants as script
-use Rattle.bt_judge.specs.declared.refusal.RecordingRefusal.TheVariants as recording
-use Rattle.bt_judge.specs.declared.refusal.Refusal.{Refusal}
-use Rattle.bt_judge.specs.declared.refusal.Refusal.TheVariants.{Script, Recording}
-use Rattle.bt_judge.specs.Orders.{OperandFile, limit_of}
-use Rattle.bt_judge.specs.Refusals.{too_long}
+use Rattle.bt_refusal.specs.declared.refusal.ScriptRefusal.TheVariants as script
+use Rattle.bt_refusal.specs.declared.refusal.RecordingRefusal.TheVariants as recording
+use Rattle.bt_refusal.specs.declared.refusal.Refusal.{Refusal}
+use Rattle.bt_refusal.specs.declared.refusal.Refusal.TheVariants.{Script, Recording}
+use Rattle.bt_refusal.specs.Orders.{OperandFile, limit_of}
+use Rattle.bt_refusal.specs.Refusals.{too_long}
 use Rattle.bt_judge.specs.Script.{IsScriptFault, HasTree, body_fault}
 use Rattle.bt_judge.specs.Sizes.{IsSized}
 

@@ -1,8 +1,8 @@
 -- Of which file it is told that its read failed.
 use Rattle.std.specs.Prelude.{◌≡◌, ℕ, List, [], ◌∷◌, ◌++◌, Option, Some}
-use Rattle.bt_judge.specs.declared.refusal.Refusal.{Refusal}
-use Rattle.bt_judge.specs.declared.refusal.Refusal.TheVariants.{ReadFault}
-use Rattle.bt_judge.specs.Orders.{OperandFile, operand_name}
+use Rattle.bt_refusal.specs.declared.refusal.Refusal.{Refusal}
+use Rattle.bt_refusal.specs.declared.refusal.Refusal.TheVariants.{ReadFault}
+use Rattle.bt_refusal.specs.Orders.{OperandFile, operand_name}
 
 -- The shelf noted one name more as failed, that of the file whose read is told to have failed; where no such fault is told it noted none.
 abbrev pub FailsNamed : List OperandFile → Option Refusal → (failed failed_after : List (List ℕ)) → Type 0

@@ -8,7 +8,7 @@ use Rattle.code_bodies.specs.Programs.{KeepScript}
 use Rattle.script_programs.specs.Sizes.{first_size_fault}
 use Rattle.bt_judge.specs.Due.{AreShort, IsRecording, IsAcceptedScript}
 use Rattle.bt_judge.specs.Meanings.{Meaning}
-use Rattle.bt_judge.specs.Orders.{OperandFile}
+use Rattle.bt_refusal.specs.Orders.{OperandFile}
 
 -- What a script asks for over the recording of a job: what the script, with its tree, is attached to in it; the script with its types, of
 -- which no body is too large; and a program for each body, which keeps it.

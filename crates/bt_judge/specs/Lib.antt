@@ -1,10 +1,7 @@
-pub mod Orders
-pub mod Lines
 pub mod Listings
 pub mod Vetting
 pub mod Sizes
 pub mod Script
-pub mod Refusals
 pub mod Due
 pub mod Meanings
 pub mod Jobs

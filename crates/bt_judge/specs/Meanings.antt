@@ -9,7 +9,7 @@ use Rattle.bt_types.specs.Script.{IsTypedScript}
 use Rattle.rec_format.specs.declared.recording.Recording.{Recording as Recorded}
 use Rattle.typed_tree.specs.declared.script.Typed.{Typed}
 use Rattle.bt_judge.specs.Due.{AreShort, IsRecording}
-use Rattle.bt_judge.specs.Orders.{OperandFile}
+use Rattle.bt_refusal.specs.Orders.{OperandFile}
 use Rattle.bt_judge.specs.Script.{HasTree, body_fault}
 
 -- a recording, what a script is attached to in it, and the script with its types

@@ -1,15 +1,15 @@
 -- What comes of the reads of the files of an order, before anything is done.
 use Rattle.std.specs.Prelude.{◌≡◌, ◌≢◌, ℕ, Bool, true, false, ◌++◌, ◌≤◌, ◌⊎◌, List, [], ◌∷◌, length, Option, Some, None, IfSome, if◌then◌else◌}
 use Rattle.bt_io.specs.Faults.{Rose}
-use Rattle.bt_judge.specs.declared.refusal.Operand.{Operand}
-use Rattle.bt_judge.specs.declared.refusal.Operand.TheVariants as operand
-use Rattle.bt_judge.specs.declared.refusal.RecordingRefusal.TheVariants as recording
-use Rattle.bt_judge.specs.declared.refusal.ScriptRefusal.TheVariants as script
-use Rattle.bt_judge.specs.declared.refusal.Refusal.{Refusal}
-use Rattle.bt_judge.specs.declared.refusal.Refusal.TheVariants.{Script, Recording, ReadFault, WriteFault, Memory, LongAccount}
+use Rattle.bt_refusal.specs.declared.refusal.Operand.{Operand}
+use Rattle.bt_refusal.specs.declared.refusal.Operand.TheVariants as operand
+use Rattle.bt_refusal.specs.declared.refusal.RecordingRefusal.TheVariants as recording
+use Rattle.bt_refusal.specs.declared.refusal.ScriptRefusal.TheVariants as script
+use Rattle.bt_refusal.specs.declared.refusal.Refusal.{Refusal}
+use Rattle.bt_refusal.specs.declared.refusal.Refusal.TheVariants.{Script, Recording, ReadFault, WriteFault, Memory, LongAccount}
 use Rattle.bt_judge.specs.Due.{IsDue}
-use Rattle.bt_judge.specs.Orders.{OperandFile, limit_of}
-use Rattle.bt_judge.specs.Refusals.{too_long}
+use Rattle.bt_refusal.specs.Orders.{OperandFile, limit_of}
+use Rattle.bt_refusal.specs.Refusals.{too_long}
 
 -- ---- the files that are asked for
 

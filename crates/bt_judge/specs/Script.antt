@@ -15,16 +15,16 @@ use Rattle.bt_grammar.specs.declared.error.ParseError.{ParseError}
 use Rattle.bt_grammar.specs.declared.error.ParseError.TheVariants as parsing
 use Rattle.bt_grammar.specs.Refusals.{IsAccepted, IsRefusal}
 use Rattle.bt_grammar.specs.Tokens.{items}
-use Rattle.bt_judge.specs.declared.refusal.ScriptFault.TheVariants.{BadCharacter, OpenString, OpenComment, NumberTooLarge, BadEscape, StringTooLong, Syntax}
+use Rattle.bt_refusal.specs.declared.refusal.ScriptFault.TheVariants.{BadCharacter, OpenString, OpenComment, NumberTooLarge, BadEscape, StringTooLong, Syntax}
 use Rattle.expr_types.specs.declared.fault.Fault.{Fault as TypeFault}
 use Rattle.expr_types.specs.declared.fault.TypeError.{TypeError}
 use Rattle.expr_types.specs.declared.fault.TypeError.TheVariants as typing
 use Rattle.bt_types.specs.Bodies.{type_fault}
-use Rattle.bt_judge.specs.declared.refusal.ScriptFault.TheVariants.{TooDeep, TooManyProbes, UnknownTracepoint, NoMatch, BadPeriod, TooManyTicks, TooManyAttached}
-use Rattle.bt_judge.specs.declared.refusal.ScriptFault.TheVariants.{Types}
-use Rattle.bt_judge.specs.declared.refusal.Refusal.{Refusal}
-use Rattle.bt_judge.specs.declared.refusal.ScriptRefusal.TheVariants.{Fault}
-use Rattle.bt_judge.specs.declared.refusal.Refusal.TheVariants.{Script, Memory}
+use Rattle.bt_refusal.specs.declared.refusal.ScriptFault.TheVariants.{TooDeep, TooManyProbes, UnknownTracepoint, NoMatch, BadPeriod, TooManyTicks, TooManyAttached}
+use Rattle.bt_refusal.specs.declared.refusal.ScriptFault.TheVariants.{Types}
+use Rattle.bt_refusal.specs.declared.refusal.Refusal.{Refusal}
+use Rattle.bt_refusal.specs.declared.refusal.ScriptRefusal.TheVariants.{Fault}
+use Rattle.bt_refusal.specs.declared.refusal.Refusal.TheVariants.{Script, Memory}
 use Rattle.bt_judge.specs.Sizes.{IsLarge}
 
 -- ---- the first fault of a script

@@ -12,11 +12,11 @@ use Rattle.script_programs.specs.declared.error.SizeFault.{SizeFault}
 use Rattle.script_programs.specs.declared.error.SizeFault.TheVariants as size
 use Rattle.script_programs.specs.Sizes.{first_size_fault}
 use Rattle.typed_tree.specs.declared.script.Typed.{Typed}
-use Rattle.bt_judge.specs.declared.refusal.Refusal.{Refusal}
-use Rattle.bt_judge.specs.declared.refusal.Refusal.TheVariants.{Script}
-use Rattle.bt_judge.specs.declared.refusal.ScriptFault.{ScriptFault}
-use Rattle.bt_judge.specs.declared.refusal.ScriptFault.TheVariants.{FrameTooLarge, CodeTooLarge}
-use Rattle.bt_judge.specs.declared.refusal.ScriptRefusal.TheVariants.{Fault}
+use Rattle.bt_refusal.specs.declared.refusal.Refusal.{Refusal}
+use Rattle.bt_refusal.specs.declared.refusal.Refusal.TheVariants.{Script}
+use Rattle.bt_refusal.specs.declared.refusal.ScriptFault.{ScriptFault}
+use Rattle.bt_refusal.specs.declared.refusal.ScriptFault.TheVariants.{FrameTooLarge, CodeTooLarge}
+use Rattle.bt_refusal.specs.declared.refusal.ScriptRefusal.TheVariants.{Fault}
 
 -- what is too large of a body, as a fault of its script
 abbrev pub size_wrong : SizeFault → ScriptFault

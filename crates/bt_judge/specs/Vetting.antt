@@ -12,7 +12,7 @@ use Rattle.event_layout.specs.declared.format.Format.{Format}
 use Rattle.typed_tree.specs.declared.body.TypedBody.{TypedBody}
 use Rattle.typed_tree.specs.declared.script.Typed.{Typed}
 use Rattle.walk_meaning.specs.Served.{least_length}
-use Rattle.bt_judge.specs.declared.refusal.CodeRefusal.{CodeRefusal}
+use Rattle.bt_refusal.specs.declared.refusal.CodeRefusal.{CodeRefusal}
 use Rattle.bt_judge.specs.declared.vetting.Verdict.{Verdict}
 use Rattle.bt_judge.specs.declared.vetting.Verdict.TheVariants.{Accepted, Refused}
 use Rattle.bt_judge.specs.Listings.{body_name, of_bodies}

@@ -1,18 +1,18 @@
 // The files that orders name.
 ghost use Rattle.std.specs.Prelude.{◌≡◌, ◌≢◌, ◌≤◌, ◌⊎◌, [], ◌∷◌, ◌++◌, ℕ, List, IfOk, IfErr};
 ghost use Rattle.bt_meaning.specs.Jobs.{IsJob};
-ghost use Rattle.bt_judge.specs.declared.refusal.Refusal.TheVariants as refusal;
+ghost use Rattle.bt_refusal.specs.declared.refusal.Refusal.TheVariants as refusal;
 ghost use Rattle.bt_judge.specs.Doing.{ComesOfFiles, IsAccountJob, IsRead, IsUnread, refusal_in};
 ghost use Rattle.bt_judge.specs.FailedNames.{FailsNamed};
 ghost use Rattle.bt_judge.specs.Jobs.{IsJobFor};
-ghost use Rattle.bt_judge.specs.Orders.{file_of, limit_of, on_account, on_script};
+ghost use Rattle.bt_refusal.specs.Orders.{file_of, limit_of, on_account, on_script};
 ghost use Rattle.bt_judge.specs.Reads.{shelf_use};
 
 use crate::judge::judge;
-use crate::limits::ACCOUNT_BYTES;
-use crate::refusal::{Operand, Refusal, read_refusal};
 use bt_core::limits::{RECORDING_BYTES, SCRIPT_BYTES};
 use bt_io::shelf::Shelf;
+use bt_refusal::limits::ACCOUNT_BYTES;
+use bt_refusal::refusal::{Operand, Refusal, read_refusal};
 use run_base::job::Job;
 use std::alloc::Global;
 

@@ -8,10 +8,10 @@ ghost use Rattle.bt_judge.specs.Doing.{IsExact, IsFaultRefusal, IsScriptRefusal,
 ghost use Rattle.bt_judge.specs.Jobs.{AsksFor, IsJobOf};
 
 use crate::laws::scripts_have_one_size;
-use crate::refusal::{Refusal, recording_refusal};
 use crate::script::{attach_refusal, tree_of, type_refusal};
 use crate::sizes::programs_for;
 use bt_attach::attach::attach;
+use bt_refusal::refusal::{Refusal, recording_refusal};
 use bt_types::script::check;
 use rec_format::reading::read_recording;
 use rec_format::recording::Recording;

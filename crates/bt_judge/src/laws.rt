@@ -9,7 +9,7 @@ ghost use Rattle.event_layout.specs.declared.format.Format.{Format};
 ghost use Rattle.typed_tree.specs.declared.script.Typed.{Typed};
 ghost use Rattle.bt_judge.specs.Jobs.{IsJobFor, meaning_in};
 ghost use Rattle.bt_judge.specs.Meanings.{IsMeaningFor, Meaning};
-ghost use Rattle.bt_judge.specs.Orders.{OperandFile};
+ghost use Rattle.bt_refusal.specs.Orders.{OperandFile};
 
 /// Files have one meaning at most: one recording, what the one tree of the script is attached to in it, and one typed script. And the job that is
 /// answered for files has their meaning. So all that is said of a meaning of the files speaks of the same one, and of that of the job.

@@ -4,7 +4,6 @@ ghost use Rattle.bt_lexer.specs.Places.{offset_of};
 ghost use Rattle.bt_judge.specs.Script.{token_place, offset_place, lexical_refusal, parse_refusal, attach_refusal, type_refusal, HasTree};
 ghost use Rattle.bt_judge.specs.Doing.{IsTextRefusal};
 
-use crate::refusal::{Refusal, ScriptFault, ScriptRefusal};
 use bt_ast::probe::Script;
 use bt_attach::error::AttachError;
 use bt_core::limits::SCRIPT_BYTES;
@@ -16,6 +15,7 @@ use bt_lexer::lexer::lex;
 use bt_lexer::line::line_column;
 use bt_lexer::token::Token;
 use bt_parser::parse::parse;
+use bt_refusal::refusal::{Refusal, ScriptFault, ScriptRefusal};
 use expr_types::fault::TypeError;
 use std::alloc::Global;
 

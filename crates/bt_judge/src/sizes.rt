@@ -3,12 +3,12 @@ ghost use Rattle.std.specs.Prelude.{◌≡◌, ℕ, ◌<◌, length, IfOk, IfErr
 ghost use Rattle.bt_judge.specs.Doing.{ArePrograms, HasProbe, IsSizeAnswer, TellsSize};
 ghost use Rattle.bt_judge.specs.Sizes.{IsProbePlace, size_wrong};
 
-use crate::refusal::{Refusal, ScriptFault, ScriptRefusal};
 use bpf_encode::program::Program;
 use bt_ast::attached::Attached;
 use bt_ast::probe::Script;
 use bt_core::items::Items;
 use bt_core::place::Place;
+use bt_refusal::refusal::{Refusal, ScriptFault, ScriptRefusal};
 use script_programs::error::{ProgramsError, SizeFault};
 use script_programs::programs::programs_of;
 use std::alloc::Global;

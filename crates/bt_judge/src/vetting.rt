@@ -7,12 +7,12 @@ ghost use Rattle.bt_judge.specs.Doing.{CanBeListed};
 ghost use Rattle.bt_judge.specs.Vetting.{IsAnswerOf, IsVerdict, Passes, line_of, most_of, refusal_of};
 
 use crate::listing::push_name;
-use crate::refusal::CodeRefusal;
 use bpf_check::check::{CodeFault, check_code};
 use bpf_encode::program::Program;
 use bt_ast::attached::BodyId;
 use bt_core::items::Items;
 use bt_core::memory::Memory;
+use bt_refusal::refusal::CodeRefusal;
 use event_layout::format::Format;
 use itoa::Buffer;
 use std::alloc::Global;

@@ -33,15 +33,15 @@ use Rattle.rec_gen.specs.Made.{IsMade}
 use Rattle.code_bodies.specs.Programs.{KeepScript}
 use Rattle.total_laws.specs.Ends.{EndsWithTotals, IsAddingRun}
 use Rattle.typed_tree.specs.declared.script.Typed.{Typed}
-use Rattle.bt_judge.specs.declared.refusal.Denial.{Denial}
-use Rattle.bt_judge.specs.declared.refusal.Denial.TheVariants as denial
-use Rattle.bt_judge.specs.declared.refusal.Refusal.{Refusal}
-use Rattle.bt_judge.specs.declared.refusal.Refusal.TheVariants.{Usage, Script, Recording, ReadFault, WriteFault, Memory, LongAccount, Denied}
+use Rattle.bt_refusal.specs.declared.refusal.Denial.{Denial}
+use Rattle.bt_refusal.specs.declared.refusal.Denial.TheVariants as denial
+use Rattle.bt_refusal.specs.declared.refusal.Refusal.{Refusal}
+use Rattle.bt_refusal.specs.declared.refusal.Refusal.TheVariants.{Usage, Script, Recording, ReadFault, WriteFault, Memory, LongAccount, Denied}
 use Rattle.bt_judge.specs.Jobs.{IsJobFor, meaning_in}
-use Rattle.bt_judge.specs.Lines.{SinkUse}
-use Rattle.bt_judge.specs.Orders.{OperandFile, files_of}
+use Rattle.bt_refusal.specs.Lines.{SinkUse}
+use Rattle.bt_refusal.specs.Orders.{OperandFile, files_of}
 use Rattle.bt_judge.specs.Reads.{ShelfUse, AreContentsOf}
-use Rattle.bt_judge.specs.Refusals.{status_of}
+use Rattle.bt_refusal.specs.Refusals.{status_of}
 use Rattle.bt_judge.proofs.Asked.{can_run, of_files}
 use Rattle.bt_judge.proofs.OneMeaning.{means_files, means_job}
 use Rattle.bt_top.specs.declared.outcome.Outcome.{Outcome}

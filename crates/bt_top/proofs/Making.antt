@@ -18,8 +18,8 @@ use Rattle.bt_attach.specs.Attaching.{attach_fault}
 use Rattle.bt_meaning.specs.Jobs.{IsJob}
 use Rattle.rec_format.specs.Recordings.{IsValidRecording}
 use Rattle.rec_gen.specs.Made.{IsMade}
-use Rattle.bt_judge.specs.declared.refusal.Refusal.{Refusal}
-use Rattle.bt_judge.specs.declared.refusal.Refusal.TheVariants.{Memory}
+use Rattle.bt_refusal.specs.declared.refusal.Refusal.{Refusal}
+use Rattle.bt_refusal.specs.declared.refusal.Refusal.TheVariants.{Memory}
 use Rattle.bt_judge.specs.Doing.{IsScriptRefusal}
 use Rattle.bt_judge.specs.Jobs.{AsksFor}
 use Rattle.bt_judge.specs.Script.{HasTree, IsScriptFault, IsSizeFault}

@@ -21,17 +21,17 @@ use Rattle.run_output.specs.declared.form.Form.{Form}
 use Rattle.run_output.specs.declared.form.Form.TheVariants.{Text}
 use Rattle.bt_ast.specs.declared.attached.BodyId.{BodyId}
 use Rattle.event_layout.specs.declared.format.Format.{Format}
-use Rattle.bt_judge.specs.declared.refusal.Refusal.{Refusal}
-use Rattle.bt_judge.specs.declared.refusal.Refusal.TheVariants.{Memory}
-use Rattle.bt_judge.specs.declared.refusal.CodeRefusal.{CodeRefusal}
-use Rattle.bt_judge.specs.declared.refusal.Denial.{Denial}
-use Rattle.bt_judge.specs.declared.refusal.Denial.TheVariants as denial
+use Rattle.bt_refusal.specs.declared.refusal.Refusal.{Refusal}
+use Rattle.bt_refusal.specs.declared.refusal.Refusal.TheVariants.{Memory}
+use Rattle.bt_refusal.specs.declared.refusal.CodeRefusal.{CodeRefusal}
+use Rattle.bt_refusal.specs.declared.refusal.Denial.{Denial}
+use Rattle.bt_refusal.specs.declared.refusal.Denial.TheVariants as denial
 use Rattle.bt_judge.specs.declared.vetting.Verdict.{Verdict}
 use Rattle.bt_judge.specs.declared.vetting.Verdict.TheVariants.{Accepted, Refused}
 use Rattle.bt_judge.specs.Doing.{ComesOfFiles}
 use Rattle.bt_judge.specs.FailedNames.{FailsNamed}
-use Rattle.bt_judge.specs.Lines.{SinkUse}
-use Rattle.bt_judge.specs.Orders.{OperandFile, files_of, names_of}
+use Rattle.bt_refusal.specs.Lines.{SinkUse}
+use Rattle.bt_refusal.specs.Orders.{OperandFile, files_of, names_of}
 use Rattle.bt_judge.specs.Reads.{ShelfUse, AsksExactly, AsksFirst, ComesIfDue, OnTold}
 use Rattle.bt_judge.specs.Vetting.{IsVerdict}
 use Rattle.bt_top.specs.declared.outcome.Outcome.{Outcome}

@@ -25,9 +25,9 @@ use Rattle.run_output.specs.declared.form.Form.TheVariants.{Text}
 use Rattle.run_output.specs.Outputs.{output_of}
 use Rattle.code_bodies.specs.Programs.{AreCodesOf, KeepScript}
 use Rattle.total_laws.specs.Ends.{EndsWithTotals, HaveFewKeys}
-use Rattle.bt_judge.specs.Lines.{SinkUse}
+use Rattle.bt_refusal.specs.Lines.{SinkUse}
 use Rattle.bt_judge.specs.Meanings.{Meaning, IsMeaningFor, replay_by}
-use Rattle.bt_judge.specs.Orders.{OperandFile, files_of}
+use Rattle.bt_refusal.specs.Orders.{OperandFile, files_of}
 use Rattle.bt_judge.specs.Reads.{ShelfUse, AreContentsOf}
 use Rattle.bt_top.specs.declared.report.Report.{Report}
 use Rattle.bt_top.specs.Jobs.{IsBigMeaning}

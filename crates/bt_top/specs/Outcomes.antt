@@ -20,11 +20,11 @@ use Rattle.run_base.specs.declared.job.Job.{Job}
 use Rattle.run_base.specs.declared.job.Work.{Work}
 use Rattle.run_output.specs.declared.form.Form.{Form}
 use Rattle.run_output.specs.declared.form.Form.TheVariants.{Text, Json}
-use Rattle.bt_judge.specs.declared.refusal.CodeRefusal.{CodeRefusal}
-use Rattle.bt_judge.specs.declared.refusal.Denial.TheVariants as denial
+use Rattle.bt_refusal.specs.declared.refusal.CodeRefusal.{CodeRefusal}
+use Rattle.bt_refusal.specs.declared.refusal.Denial.TheVariants as denial
 use Rattle.bt_judge.specs.Jobs.{IsJobFor, account_in}
 use Rattle.bt_judge.specs.Listings.{script_listing}
-use Rattle.bt_judge.specs.Orders.{on_account, on_script}
+use Rattle.bt_refusal.specs.Orders.{on_account, on_script}
 use Rattle.bt_judge.specs.Vetting.{AllPass, IsFirstRefused, vet_listing}
 use Rattle.bt_top.specs.declared.outcome.Outcome.{Outcome}
 use Rattle.bt_top.specs.Jobs.{IsBigJob, IsWorkOf}

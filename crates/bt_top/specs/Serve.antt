@@ -4,13 +4,13 @@ use Rattle.std.specs.Io.KnownBytes.{Appends, Keeps}
 use Rattle.bt_io.specs.Taken.{AppendsPart}
 use Rattle.bt_words.specs.declared.order.Order.{Order}
 use Rattle.bt_words.specs.declared.order.Order.TheVariants.{Run, Check, Code, Vet, Account, Verify, Gen, Big}
-use Rattle.bt_judge.specs.declared.refusal.Denial.{Denial}
-use Rattle.bt_judge.specs.declared.refusal.Denial.TheVariants as denial
-use Rattle.bt_judge.specs.declared.refusal.Refusal.{Refusal}
-use Rattle.bt_judge.specs.declared.refusal.Refusal.TheVariants.{WriteFault, Denied}
+use Rattle.bt_refusal.specs.declared.refusal.Denial.{Denial}
+use Rattle.bt_refusal.specs.declared.refusal.Denial.TheVariants as denial
+use Rattle.bt_refusal.specs.declared.refusal.Refusal.{Refusal}
+use Rattle.bt_refusal.specs.declared.refusal.Refusal.TheVariants.{WriteFault, Denied}
 use Rattle.bt_judge.specs.Due.{IsDue}
-use Rattle.bt_judge.specs.Lines.{SinkUse, SinkFailed}
-use Rattle.bt_judge.specs.Orders.{OperandFile, files_of}
+use Rattle.bt_refusal.specs.Lines.{SinkUse, SinkFailed}
+use Rattle.bt_refusal.specs.Orders.{OperandFile, files_of}
 use Rattle.bt_judge.specs.Reads.{ShelfUse, ShelfFailed, AreContentsOf, MayCome, MayStandFor}
 use Rattle.bt_top.specs.declared.outcome.Outcome.{Outcome}
 use Rattle.bt_top.specs.declared.report.Report.{Report}

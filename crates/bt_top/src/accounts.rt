@@ -13,7 +13,7 @@ use account_format::error::AccountError;
 use account_format::writing::write_account;
 use bt_core::items::Items;
 use bt_core::memory::Memory;
-use bt_judge::refusal::Denial;
+use bt_refusal::refusal::Denial;
 use itoa::Buffer;
 use run_base::job::{Job, Work};
 use run_output::form::Form;

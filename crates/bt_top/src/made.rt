@@ -17,7 +17,7 @@ use big_script::script::SCRIPT;
 use bt_core::items::Items;
 use bt_core::memory::Memory;
 use bt_judge::judge::script_job;
-use bt_judge::refusal::Refusal;
+use bt_refusal::refusal::Refusal;
 use itoa::Buffer;
 use rec_format::recording::Recording;
 use rec_format::writing::write_recording;

@@ -3,7 +3,7 @@ ghost use Rattle.std.specs.Prelude.{◌≡◌, OnOk, OnErr, length};
 ghost use Rattle.std.specs.Io.KnownBytes.{Appends};
 ghost use Rattle.bt_io.specs.Faults.{Rose};
 ghost use Rattle.bt_io.specs.Taken.{AppendsPart};
-ghost use Rattle.bt_judge.specs.Lines.{sink_use};
+ghost use Rattle.bt_refusal.specs.Lines.{sink_use};
 ghost use Rattle.bt_top.specs.Writing.{Wrote, WroteBytes};
 ghost use Rattle.bt_top.specs.Offered.{OffersBoth};
 ghost use Rattle.bt_top.specs.Outcomes.{bytes_written, shown_text};
@@ -11,7 +11,7 @@ ghost use Rattle.bt_top.specs.Outcomes.{bytes_written, shown_text};
 use bpf_encode::program::Program;
 use bt_core::items::Items;
 use bt_io::sink::{Sink, SinkFailed, write_all};
-use bt_judge::refusal::{Denial, Refusal};
+use bt_refusal::refusal::{Denial, Refusal};
 use run_base::job::Work;
 
 /// What an order comes to where its files are not refused: the work of a run; the programs that were run, listed or checked; why what it

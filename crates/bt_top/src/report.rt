@@ -1,10 +1,10 @@
 // What a call answers.
 ghost use Rattle.std.specs.Prelude.{◌≡◌, [], None, Some};
-ghost use Rattle.bt_judge.specs.Refusals.{status_of};
+ghost use Rattle.bt_refusal.specs.Refusals.{status_of};
 
 use bpf_encode::program::Program;
 use bt_core::items::Items;
-use bt_judge::refusal::{Refusal, status_of};
+use bt_refusal::refusal::{Refusal, status_of};
 use run_base::job::Work;
 use std::alloc::Global;
 

@@ -1,9 +1,9 @@
 use Rattle.std.proofs.Common.{[], ◌∷◌, refl, ◌∙◌}
 use Rattle.std.specs.Prelude.{Ok, Err}
-use Rattle.bt_judge.specs.declared.refusal.Operand.TheVariants.{Script, Recording, Account}
+use Rattle.bt_refusal.specs.declared.refusal.Operand.TheVariants.{Script, Recording, Account}
 use Rattle.bt_judge.specs.declared.files.AccountJob.{AccountJob}
 use Rattle.bt_judge.specs.Doing.{IsRead}
-use Rattle.bt_judge.specs.Orders.{file_of, on_account}
+use Rattle.bt_refusal.specs.Orders.{file_of, on_account}
 use Rattle.bt_judge.specs.Reads.{shelf_use}
 use Rattle.bt_judge.proofs.FailedNames.{failed_among, failed_later, judged_failed}
 use Rattle.bt_judge.proofs.OneRead.{found_of, named_first, named_next, read_from, two_asked, unread_from}

@@ -1,5 +1,5 @@
 use Rattle.std.proofs.Common.{[], ◌∷◌}
-use Rattle.bt_judge.specs.Orders.{file_of}
+use Rattle.bt_refusal.specs.Orders.{file_of}
 use Rattle.bt_judge.specs.Reads.{shelf_use}
 use Rattle.bt_judge.proofs.FailedNames.{named_alone, none_failed_ok, unread_failed}
 use Rattle.bt_judge.proofs.OneRead.{noted_ok, noted_unless, unread_by}

@@ -1,8 +1,8 @@
 use Rattle.std.proofs.Common.{[], ◌∷◌, refl, ◌∙◌}
-use Rattle.bt_judge.specs.declared.refusal.Operand.TheVariants.{Script, Recording}
+use Rattle.bt_refusal.specs.declared.refusal.Operand.TheVariants.{Script, Recording}
 use Rattle.bt_judge.specs.Doing.{IsRead}
 use Rattle.bt_judge.specs.Jobs.{IsJobFor}
-use Rattle.bt_judge.specs.Orders.{file_of, on_script}
+use Rattle.bt_refusal.specs.Orders.{file_of, on_script}
 use Rattle.bt_judge.specs.Reads.{shelf_use}
 use Rattle.bt_judge.proofs.FailedNames.{failed_among, failed_later, judged_failed}
 use Rattle.bt_judge.proofs.OneRead.{both_jobs, found_of, named_first, named_next, read_from, two_asked, unread_from}

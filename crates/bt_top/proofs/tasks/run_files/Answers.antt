@@ -1,5 +1,5 @@
 use Rattle.bt_judge.specs.Jobs.{IsJobFor}
-use Rattle.bt_judge.specs.Orders.{on_script}
+use Rattle.bt_refusal.specs.Orders.{on_script}
 use Rattle.bt_words.specs.declared.order.Order.TheVariants.{Run}
 use Rattle.run_base.specs.declared.job.Work.{Work}
 use Rattle.run_output.specs.declared.form.Form.{Form}

@@ -1,4 +1,0 @@
-use Rattle.bt_judge.proofs.tell.tell_recording.Goals as goal
-
-pub returns-in-TooLong : goal.returns-in-TooLong
-returns-in-TooLong g c = rw c.in-TooLong.is c.write_line.ensures
