@@ -8,7 +8,7 @@ use bt_core::memory::Memory;
 use bt_core::place::Place;
 use bt_io::shelf::ShelfError;
 use expr_types::fault::Rule;
-use rec_format::error::RecordingError;
+use recordings::error::RecordingError;
 
 /// A file that the words name.
 #[derive(Clone, Copy, PartialEq, Eq)]

@@ -3,20 +3,20 @@ ghost use Rattle.std.specs.Prelude.{◌≡◌, ◌<◌, ◌^◌, ◌∷◌, ◌+
 ghost use Rattle.std.specs.List.{list_any};
 ghost use Rattle.std.specs.Option.{option_map};
 ghost use Rattle.event_layout.specs.declared.format.Format.{Format as Tracepoint};
-ghost use Rattle.rec_format.specs.declared.error.RecordingError.TheVariants.{SameEvent};
-ghost use Rattle.rec_format.specs.Checks.{IsFormatFault, is_system, is_same_event, format_of};
-ghost use Rattle.rec_format.specs.Events.{format_with};
-ghost use Rattle.rec_format.specs.Fronts.{format_part};
+ghost use Rattle.recordings.specs.declared.error.RecordingError.TheVariants.{SameEvent};
+ghost use Rattle.recordings.specs.Checks.{IsFormatFault, is_system, is_same_event, format_of};
+ghost use Rattle.recordings.specs.Events.{format_with};
+ghost use Rattle.rec_format.specs.Heads.{format_part};
 ghost use Rattle.rec_format.specs.Answers.{Answers, AddsFormat, IsTable, IsFormatOf};
 
 use crate::check::is_system;
-use crate::error::RecordingError;
 use crate::part::FormatText;
 use bt_core::items::Items;
 use bt_core::memory::Memory;
 use event_layout::error::FormatError;
 use event_layout::format::{Format, tracepoint_name};
 use event_layout::layout::Layout;
+use recordings::error::RecordingError;
 use std::alloc::Global;
 use std::collections::{BTreeMap, BTreeSet};
 use std::marker::Model;

@@ -1,11 +1,11 @@
 // Recordings byte by byte: what is read and written, and each check with its exact value.
 use crate::texts::SYS_ENTER;
 use event_layout::error::FormatError;
-use rec_format::entries::EntryRef;
-use rec_format::error::{CountOf, RecordingError};
 use rec_format::reading::read_recording;
-use rec_format::recording::{CpuTrack, Recording};
 use rec_format::writing::write_recording;
+use recordings::entries::EntryRef;
+use recordings::error::{CountOf, RecordingError};
+use recordings::recording::{CpuTrack, Recording};
 use std::alloc::Global;
 use std::test::Fail;
 
