@@ -186,7 +186,10 @@ fn is_spelled(recording: &Recording, row: &Spelled) -> bool {
 fn is_cut_anywhere(alloc: Global, bytes: &[u8]) -> Result<bool, Fail> {
     for len in 0..bytes.len() {
         let part = Vec::from_slice(alloc, &bytes[..len])?;
-        if read_recording(alloc, part).err() != Some(RecordingError::Truncated(len as u64)) {
+        let Err(RecordingError::Truncated(offset)) = read_recording(alloc, part) else {
+            return Ok(false);
+        };
+        if offset != len as u64 {
             return Ok(false);
         }
     }

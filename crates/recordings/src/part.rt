@@ -57,13 +57,27 @@ fn comm_at(bytes: &[u8]) -> Option<([u8; 16], &[u8])>
 pub fn event_at(bytes: &[u8]) -> Option<(EventBytes<'_>, &[u8])>
     ensures { option_map (λ part. (event_part part.0, part.1.now)) result ≡ event_at bytes.now }
 {
-    let (time, bytes) = u64_at(bytes)?;
-    let (pid, bytes) = u32_at(bytes)?;
-    let (tid, bytes) = u32_at(bytes)?;
-    let (uid, bytes) = u32_at(bytes)?;
-    let (gid, bytes) = u32_at(bytes)?;
-    let (comm, bytes) = comm_at(bytes)?;
-    let (payload, rest) = sized32_at(bytes)?;
+    let Some((time, bytes)) = u64_at(bytes) else {
+        return None;
+    };
+    let Some((pid, bytes)) = u32_at(bytes) else {
+        return None;
+    };
+    let Some((tid, bytes)) = u32_at(bytes) else {
+        return None;
+    };
+    let Some((uid, bytes)) = u32_at(bytes) else {
+        return None;
+    };
+    let Some((gid, bytes)) = u32_at(bytes) else {
+        return None;
+    };
+    let Some((comm, bytes)) = comm_at(bytes) else {
+        return None;
+    };
+    let Some((payload, rest)) = sized32_at(bytes) else {
+        return None;
+    };
     let event = EventBytes {
         time,
         pid,
@@ -81,7 +95,11 @@ pub fn event_at(bytes: &[u8]) -> Option<(EventBytes<'_>, &[u8])>
 pub fn mark_at(bytes: &[u8]) -> Option<(EntryBytes<'_>, &[u8])>
     ensures { option_map (λ part. (entry_part part.0, part.1.now)) result ≡ mark_at bytes.now }
 {
-    let (time, bytes) = u64_at(bytes)?;
-    let (count, rest) = u64_at(bytes)?;
+    let Some((time, bytes)) = u64_at(bytes) else {
+        return None;
+    };
+    let Some((count, rest)) = u64_at(bytes) else {
+        return None;
+    };
     Some((EntryBytes::Lost { time, count }, rest))
 }
