@@ -72,9 +72,7 @@ pub fn event_at(bytes: &[u8]) -> Option<(EventBytes<'_>, &[u8])>
     let Some((gid, bytes)) = u32_at(bytes) else {
         return None;
     };
-    let Some((comm, bytes)) = comm_at(bytes) else {
-        return None;
-    };
+    let (comm, bytes) = comm_at(bytes)?;
     let Some((payload, rest)) = sized32_at(bytes) else {
         return None;
     };
