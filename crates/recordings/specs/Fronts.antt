@@ -1,6 +1,6 @@
 -- How pieces, numbers, events and marks are taken from the front of bytes: each is a value and the bytes after it, or nothing.
 use Rattle.std.specs.Prelude.{ℕ, Bool, nat_le, List, length, take, drop, Option, Some, None, if◌then◌else◌}
-use Rattle.std.specs.Int.{Width, w16, w32, w64, byte_len, from_le_bytes}
+use Rattle.std.specs.Int.{Width, w32, w64, byte_len, from_le_bytes}
 use Rattle.recordings.specs.declared.part.EntryBytes.{EntryBytes}
 use Rattle.recordings.specs.declared.part.EntryBytes.TheVariants as held
 use Rattle.recordings.specs.declared.part.EventBytes.{EventBytes}
