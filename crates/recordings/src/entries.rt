@@ -87,10 +87,7 @@ impl Model for Entries {
 
 impl Entries {
     /// The entries at places of a file.
-    pub fn of(
-        file: &Arc<Vec<u8>, Global>,
-        places: Vec<EntryPlace>,
-    ) -> Result<Entries, Memory>
+    pub fn of(file: &Arc<Vec<u8>, Global>, places: Vec<EntryPlace>) -> Result<Entries, Memory>
         ensures { IfOk result (λ all. all ≡ entries_in (arc_value file.now).items places.items) }
     {
         let file = Arc::try_clone(file)?;
