@@ -3,7 +3,7 @@ use Rattle.std.proofs.Common.{◌≡◌, ℕ, List, Result, Err, refl, sym, ◌�
 use Rattle.std.specs.Prelude.{IfErr}
 use Rattle.bt_ast.specs.declared.attached.Attached.{Attached}
 use Rattle.bt_core.specs.Ports.{Setting}
-use Rattle.rec_format.specs.declared.recording.Recording.{Recording}
+use Rattle.recordings.specs.declared.recording.Recording.{Recording}
 use Rattle.typed_tree.specs.declared.script.Typed.{Typed}
 use Rattle.account_format.specs.declared.error.AccountFault.{AccountFault}
 use Rattle.account_format.specs.declared.error.AccountFault.TheVariants as faults

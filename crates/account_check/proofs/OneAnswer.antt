@@ -3,7 +3,7 @@ use Rattle.std.proofs.Common.{◌≡◌, ◌≢◌, ◌⊎◌, ℕ, List, map, R
 use Rattle.bt_ast.specs.declared.attached.Attached.{Attached}
 use Rattle.bt_core.specs.declared.step.Step.{Step}
 use Rattle.bt_core.specs.Want.{out_of_memory}
-use Rattle.rec_format.specs.declared.recording.Recording.{Recording}
+use Rattle.recordings.specs.declared.recording.Recording.{Recording}
 use Rattle.typed_tree.specs.declared.script.Typed.{Typed}
 use Rattle.blank_steps.specs.Blank.{blank}
 use Rattle.bt_meaning.specs.Interleavings.{IsReplayed}

@@ -3,7 +3,7 @@ ghost use Rattle.std.specs.Prelude.{◌≡◌, ◌<◌, ◌^◌, ℕ, List, leng
 ghost use Rattle.std.specs.List.{AllByRecursion};
 ghost use Rattle.bt_ast.specs.declared.attached.Attached.{Attached};
 ghost use Rattle.bt_core.specs.declared.step.Step.{Step};
-ghost use Rattle.rec_format.specs.declared.recording.Recording.{Recording};
+ghost use Rattle.recordings.specs.declared.recording.Recording.{Recording};
 ghost use Rattle.typed_tree.specs.declared.script.Typed.{Typed};
 ghost use Rattle.account_format.specs.Entries.{FitsStep};
 ghost use Rattle.account_format.specs.Accounts.{account_bytes};

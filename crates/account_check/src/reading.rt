@@ -14,7 +14,7 @@ use bt_ast::attached::Attached;
 use bt_core::items::Items;
 use bt_core::memory::Memory;
 use bt_core::step::Step;
-use rec_format::recording::Recording;
+use recordings::recording::Recording;
 use std::alloc::Global;
 use typed_tree::script::Typed;
 

@@ -8,9 +8,9 @@ use Rattle.std.proofs.lemmas.List.{append_cancel_left}
 use Rattle.std.proofs.lemmas.Option.{same_Some}
 use Rattle.bt_core.specs.declared.step.Step.{Step}
 use Rattle.bt_core.specs.Ports.{Setting}
-use Rattle.rec_format.specs.Fronts.{where_true, bytes_at, number_at}
-use Rattle.rec_format.proofs.Fields.{IsBytes, bind_some, where_true_some, bytes_takes, bytes_again, wide64, number_takes, number_again}
-use Rattle.rec_format.proofs.PartLaws.{bind_to}
+use Rattle.recordings.specs.Fronts.{where_true, bytes_at, number_at}
+use Rattle.recordings.proofs.Fields.{IsBytes, bind_some, where_true_some, bytes_takes, bytes_again, wide64, number_takes, number_again}
+use Rattle.recordings.proofs.PartLaws.{bind_to}
 use Rattle.account_format.specs.Entries.{entry_bytes, IsEntry}
 use Rattle.account_format.specs.Accounts.{entries_bytes, IsAccount}
 use Rattle.account_format.specs.Forms.{AreDue, state_after, spelled, IsOfForm, IsWrongAt}

@@ -18,9 +18,9 @@ use Rattle.bt_core.specs.declared.value.Value.{Value}
 use Rattle.bt_core.specs.Kinds.{IsShared, IsAggregation, HasShape}
 use Rattle.bt_core.specs.KeyBytes.{value_bytes, key_bytes, part_of}
 use Rattle.bt_core.specs.Ports.{Setting, CanStep, Serves, IsSharedOp, IsTableOp}
-use Rattle.rec_format.specs.Fronts.{◌>>=◌, where_true, number_at}
-use Rattle.rec_format.proofs.Fields.{IsBytes, bind_some, where_true_some, Takes, Takes-then, wide32, wide64, number_takes, number_again}
-use Rattle.rec_format.proofs.PartLaws.{bind_to}
+use Rattle.recordings.specs.Fronts.{◌>>=◌, where_true, number_at}
+use Rattle.recordings.proofs.Fields.{IsBytes, bind_some, where_true_some, Takes, Takes-then, wide32, wide64, number_takes, number_again}
+use Rattle.recordings.proofs.PartLaws.{bind_to}
 use Rattle.blank_steps.specs.Blank.{blank_op}
 use Rattle.account_format.specs.Entries.{of_map, call_bytes, IsAtHome, FitsKey, FitsOp, FitsObject}
 use Rattle.account_format.specs.Reading.{table_map_at, keyed_at, key_at, value_at, part_at, table_at, get_at, set_at, delete_at, sweep_at, add_at, read_at, clear_of_at, zero_of_at, cross_at, kind_at, call_of_kind}

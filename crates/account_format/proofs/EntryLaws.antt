@@ -12,9 +12,9 @@ use Rattle.bt_core.specs.declared.step.Reply.{Reply}
 use Rattle.bt_core.specs.declared.step.Reply.TheVariants.{Done}
 use Rattle.bt_core.specs.declared.step.Step.{Step}
 use Rattle.bt_core.specs.Ports.{Setting}
-use Rattle.rec_format.specs.Fronts.{where_true, number_at}
-use Rattle.rec_format.proofs.Fields.{IsBytes, bind_some, where_true_some, Takes, wide32, wide64, number_takes, number_again}
-use Rattle.rec_format.proofs.PartLaws.{bind_to}
+use Rattle.recordings.specs.Fronts.{where_true, number_at}
+use Rattle.recordings.proofs.Fields.{IsBytes, bind_some, where_true_some, Takes, wide32, wide64, number_takes, number_again}
+use Rattle.recordings.proofs.PartLaws.{bind_to}
 use Rattle.account_format.specs.declared.kind.Kind.{Kind}
 use Rattle.account_format.specs.Entries.{call_bytes, entry_bytes, FitsStep, IsTold, IsEntry}
 use Rattle.account_format.specs.Accounts.{entries_bytes}

@@ -6,7 +6,7 @@ use Rattle.std.proofs.lemmas.List.{drop_all}
 use Rattle.bt_core.specs.declared.limits.TheConstants.{KEY_PARTS}
 use Rattle.bt_core.specs.declared.map.Shape.{Shape}
 use Rattle.bt_core.specs.declared.value.Value.{Value}
-use Rattle.rec_format.specs.Fronts.{◌>>=◌}
+use Rattle.recordings.specs.Fronts.{◌>>=◌}
 use Rattle.account_format.specs.Reading.{value_at, values_at, key_at}
 
 -- these values, and then those that are read

@@ -3,7 +3,7 @@ use Rattle.std.proofs.Common.{◌≡◌, ℕ, suc, Bool, true, false, cond, List
 use Rattle.std.specs.Prelude.{nat_eq}
 use Rattle.std.proofs.lemmas.Bool.{eqb-true}
 use Rattle.std.proofs.lemmas.Option.{same_Some}
-use Rattle.rec_format.proofs.Fields.{IsBytes, bind_some}
+use Rattle.recordings.proofs.Fields.{IsBytes, bind_some}
 use Rattle.account_format.specs.declared.kind.Kind.{Kind}
 use Rattle.account_format.specs.declared.kind.Kind.TheVariants as kinds
 use Rattle.account_format.specs.Reading.{kind_of, kind_at}

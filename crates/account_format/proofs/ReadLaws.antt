@@ -5,8 +5,8 @@ use Rattle.std.specs.Int.{to_le_bytes}
 use Rattle.std.specs.List.{AllByRecursion}
 use Rattle.bt_core.specs.declared.step.Step.{Step}
 use Rattle.bt_core.specs.Ports.{Setting}
-use Rattle.rec_format.specs.Fronts.{number_at}
-use Rattle.rec_format.proofs.Fields.{IsBytes, wide64, number_takes}
+use Rattle.recordings.specs.Fronts.{number_at}
+use Rattle.recordings.proofs.Fields.{IsBytes, wide64, number_takes}
 use Rattle.account_format.specs.declared.error.AccountFault.{AccountFault}
 use Rattle.account_format.specs.declared.error.AccountFault.TheVariants.{BadAccount}
 use Rattle.account_format.specs.Answers.{IsFault}

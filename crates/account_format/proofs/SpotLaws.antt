@@ -15,9 +15,9 @@ use Rattle.bt_core.specs.declared.value.Value.{Value}
 use Rattle.bt_core.specs.declared.value.Value.TheVariants.{Int, Str}
 use Rattle.bt_core.specs.Kinds.{IsOfShape, IsOfKind, IsShared, IsAggregation, HasShape}
 use Rattle.bt_core.specs.KeyBytes.{key_bytes}
-use Rattle.rec_format.specs.Fronts.{where_true, number_at}
-use Rattle.rec_format.proofs.Fields.{IsBytes, bind_some, where_true_some, Takes, Takes-then, wide32, number_takes, number_again}
-use Rattle.rec_format.proofs.PartLaws.{bind_to}
+use Rattle.recordings.specs.Fronts.{where_true, number_at}
+use Rattle.recordings.proofs.Fields.{IsBytes, bind_some, where_true_some, Takes, Takes-then, wide32, number_takes, number_again}
+use Rattle.recordings.proofs.PartLaws.{bind_to}
 use Rattle.account_format.specs.Entries.{FitsKey}
 use Rattle.account_format.specs.Reading.{held_shape, is_aggregation, map_at, shared_map_at, table_map_at, keyed_at, key_at, part_at, table_at}
 use Rattle.account_format.proofs.ValueLaws.{key_takes, key_again}

@@ -19,9 +19,9 @@ use Rattle.bt_core.specs.Kinds.{IsOfShape, HasShape}
 use Rattle.bt_core.specs.KeyBytes.{FitsValue, value_bytes, key_bytes}
 use Rattle.bt_core.specs.Text.{IsShortText, is_text_byte, short_text}
 use Rattle.bt_core.proofs.TextLemmas.{kept_front, kept_IsShortText}
-use Rattle.rec_format.specs.Fronts.{where_true, bytes_at, number_at}
-use Rattle.rec_format.proofs.Fields.{IsBytes, bind_some, where_true_some, Takes, Takes-then, bytes_takes, bytes_again, wide64, number_takes, number_again}
-use Rattle.rec_format.proofs.PartLaws.{bind_to}
+use Rattle.recordings.specs.Fronts.{where_true, bytes_at, number_at}
+use Rattle.recordings.proofs.Fields.{IsBytes, bind_some, where_true_some, Takes, Takes-then, bytes_takes, bytes_again, wide64, number_takes, number_again}
+use Rattle.recordings.proofs.PartLaws.{bind_to}
 use Rattle.account_format.specs.Entries.{FitsKey}
 use Rattle.account_format.specs.Reading.{text_at, value_at, values_at, key_at}
 

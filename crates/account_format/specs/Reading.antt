@@ -22,7 +22,7 @@ use Rattle.bt_core.specs.declared.value.Value.TheVariants.{Int, Str}
 use Rattle.bt_core.specs.KeyBytes.{value_bytes, part_of}
 use Rattle.bt_core.specs.Ports.{Setting}
 use Rattle.bt_core.specs.Text.{short_text}
-use Rattle.rec_format.specs.Fronts.{◌>>=◌, where_true, bytes_at, number_at}
+use Rattle.recordings.specs.Fronts.{◌>>=◌, where_true, bytes_at, number_at}
 use Rattle.account_format.specs.declared.kind.Kind.{Kind}
 use Rattle.account_format.specs.declared.kind.Kind.TheVariants as kinds
 

@@ -2,7 +2,7 @@
 ghost use Rattle.std.specs.Prelude.{◌≡◌};
 ghost use Rattle.std.specs.Int.{w32, w64};
 ghost use Rattle.std.specs.Option.{option_map};
-ghost use Rattle.rec_format.specs.Fronts.{bytes_at, number_at};
+ghost use Rattle.recordings.specs.Fronts.{bytes_at, number_at};
 
 use byteorder::{ByteOrder, LittleEndian};
 

@@ -8,16 +8,16 @@ use Rattle.std.proofs.lemmas.List.Sums.{get_or-le-sum_by}
 use Rattle.bt_core.specs.declared.limits.TheConstants.{EVENTS}
 use Rattle.bt_ast.specs.declared.attached.Attached.{Attached}
 use Rattle.bt_ast.specs.declared.attached.Tick.{Tick}
-use Rattle.rec_format.specs.declared.recording.CpuTrack.{CpuTrack}
-use Rattle.rec_format.specs.declared.recording.Recording.{Recording}
-use Rattle.rec_format.specs.declared.recording.Entry.{Entry}
-use Rattle.rec_format.specs.declared.recording.Entry.TheVariants as entry
-use Rattle.rec_format.specs.Entries.{AreInTime}
-use Rattle.rec_format.specs.EntryParts.{entries}
-use Rattle.rec_format.specs.Places.{entry_time}
-use Rattle.rec_format.specs.Recordings.{IsValidRecording}
-use Rattle.rec_format.specs.Checks.{has_marks}
-use Rattle.rec_format.proofs.PlaceLaws.{track_at}
+use Rattle.recordings.specs.declared.recording.CpuTrack.{CpuTrack}
+use Rattle.recordings.specs.declared.recording.Recording.{Recording}
+use Rattle.recordings.specs.declared.recording.Entry.{Entry}
+use Rattle.recordings.specs.declared.recording.Entry.TheVariants as entry
+use Rattle.recordings.specs.Entries.{AreInTime}
+use Rattle.recordings.specs.EntryParts.{entries}
+use Rattle.recordings.specs.Places.{entry_time}
+use Rattle.recordings.specs.Recordings.{IsValidRecording}
+use Rattle.recordings.specs.Checks.{has_marks}
+use Rattle.recordings.proofs.PlaceLaws.{track_at}
 use Rattle.actor_plan.specs.declared.agenda.AgendaItem.TheVariants as item
 use Rattle.actor_plan.specs.Agendas.{AreInTurn, entries_of, entries_on_track, item_at, entries_where, is_between, items_from, agenda_of}
 use Rattle.actor_plan.specs.Steps.{entries_on, earlier, earlier_count, taken}

@@ -14,13 +14,13 @@ use Rattle.bt_core.specs.declared.item.Item.TheVariants.{Lost}
 use Rattle.bt_core.specs.declared.step.ObjectId.TheVariants.{Clock, Out}
 use Rattle.bt_core.specs.declared.step.Op.{Op}
 use Rattle.bt_core.specs.declared.step.Op.TheVariants.{Check, Cross, Emit}
-use Rattle.rec_format.specs.declared.recording.CpuTrack.{CpuTrack}
-use Rattle.rec_format.specs.declared.recording.Entry.{Entry}
-use Rattle.rec_format.specs.declared.recording.Entry.TheVariants as entry
-use Rattle.rec_format.specs.declared.recording.Recording.{Recording}
-use Rattle.rec_format.specs.Places.{entry_at_place}
-use Rattle.rec_format.specs.Recordings.{IsValidRecording}
-use Rattle.rec_format.proofs.ForOthers.{recorded_format}
+use Rattle.recordings.specs.declared.recording.CpuTrack.{CpuTrack}
+use Rattle.recordings.specs.declared.recording.Entry.{Entry}
+use Rattle.recordings.specs.declared.recording.Entry.TheVariants as entry
+use Rattle.recordings.specs.declared.recording.Recording.{Recording}
+use Rattle.recordings.specs.Places.{entry_at_place}
+use Rattle.recordings.specs.Recordings.{IsValidRecording}
+use Rattle.recordings.proofs.ForOthers.{recorded_format}
 use Rattle.event_layout.proofs.Lists.{all_at}
 use Rattle.actor_plan.specs.declared.agenda.AgendaItem.{AgendaItem}
 use Rattle.actor_plan.specs.declared.agenda.AgendaItem.TheVariants as item

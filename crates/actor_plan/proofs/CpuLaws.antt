@@ -8,9 +8,9 @@ use Rattle.std.proofs.lemmas.List.Sums.{get_or-le-sum_by}
 use Rattle.std.proofs.lemmas.Option.{slice_get-get_or}
 use Rattle.bt_ast.specs.declared.attached.Attached.{Attached}
 use Rattle.bt_core.specs.declared.limits.TheConstants.{EVENTS, TICKS}
-use Rattle.rec_format.specs.declared.recording.CpuTrack.{CpuTrack}
-use Rattle.rec_format.specs.declared.recording.Recording.{Recording}
-use Rattle.rec_format.specs.Recordings.{IsValidRecording}
+use Rattle.recordings.specs.declared.recording.CpuTrack.{CpuTrack}
+use Rattle.recordings.specs.declared.recording.Recording.{Recording}
+use Rattle.recordings.specs.Recordings.{IsValidRecording}
 use Rattle.actor_plan.specs.declared.agenda.AgendaItem.{AgendaItem}
 use Rattle.actor_plan.specs.declared.agenda.AgendaItem.TheVariants as item
 use Rattle.actor_plan.specs.Agendas.{AreInTurn, agenda_of, entries_of, entries_on_track, tick_place, entry_place}

@@ -10,14 +10,14 @@ use Rattle.bt_core.specs.declared.memory.Memory.{Memory}
 use Rattle.bt_core.specs.declared.step.Step.{Step}
 use Rattle.bt_core.specs.Interaction.{Performed}
 use Rattle.bt_core.specs.Ports.{Setting}
-use Rattle.rec_format.specs.declared.recording.CpuTrack.{CpuTrack}
-use Rattle.rec_format.specs.declared.recording.Entry.{Entry}
-use Rattle.rec_format.specs.declared.recording.Entry.TheVariants as entry
-use Rattle.rec_format.specs.declared.recording.Event.{Event}
-use Rattle.rec_format.specs.declared.recording.Recording.{Recording}
-use Rattle.rec_format.specs.Places.{HasFormat}
-use Rattle.rec_format.specs.Recordings.{IsValidRecording}
-use Rattle.rec_format.proofs.ForOthers.{recorded_format}
+use Rattle.recordings.specs.declared.recording.CpuTrack.{CpuTrack}
+use Rattle.recordings.specs.declared.recording.Entry.{Entry}
+use Rattle.recordings.specs.declared.recording.Entry.TheVariants as entry
+use Rattle.recordings.specs.declared.recording.Event.{Event}
+use Rattle.recordings.specs.declared.recording.Recording.{Recording}
+use Rattle.recordings.specs.Places.{HasFormat}
+use Rattle.recordings.specs.Recordings.{IsValidRecording}
+use Rattle.recordings.proofs.ForOthers.{recorded_format}
 use Rattle.actor_plan.specs.declared.limits.TheConstants.{RUN_INSTRUCTIONS}
 use Rattle.actor_plan.specs.Contexts.{tick_context}
 use Rattle.actor_plan.specs.Plans.{Plan, CanRun, IsBodyFor}

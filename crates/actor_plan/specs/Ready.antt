@@ -4,8 +4,8 @@ use Rattle.bt_ast.specs.declared.attached.Attached.{Attached}
 use Rattle.bt_core.specs.declared.limits.TheConstants.{BODIES, TICKS}
 use Rattle.bt_core.specs.declared.map.MapDecl.{MapDecl}
 use Rattle.bt_core.specs.Ports.{Setting}
-use Rattle.rec_format.specs.declared.recording.Recording.{Recording}
-use Rattle.rec_format.specs.Recordings.{IsValidRecording}
+use Rattle.recordings.specs.declared.recording.Recording.{Recording}
+use Rattle.recordings.specs.Recordings.{IsValidRecording}
 use Rattle.actor_plan.specs.Agendas.{AreInTurn}
 use Rattle.actor_plan.specs.Plans.{Plan, AreServed, HasBodies, ServesPlan, TakesFew}
 

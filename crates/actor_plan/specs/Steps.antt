@@ -1,9 +1,9 @@
 -- What the loops over entries and ticks add. No public contract speaks of it.
 use Rattle.std.specs.Prelude.{◌≡◌, ℕ, suc, ◌+◌, nat_lt, List, [], ◌∷◌, ◌++◌, drop, if◌then◌else◌}
 use Rattle.bt_ast.specs.declared.attached.Tick.{Tick}
-use Rattle.rec_format.specs.declared.recording.Entry.{Entry}
-use Rattle.rec_format.specs.declared.recording.Entry.TheVariants as entry
-use Rattle.rec_format.specs.Places.{entry_time, HasFormat}
+use Rattle.recordings.specs.declared.recording.Entry.{Entry}
+use Rattle.recordings.specs.declared.recording.Entry.TheVariants as entry
+use Rattle.recordings.specs.Places.{entry_time, HasFormat}
 use Rattle.event_layout.specs.declared.format.Format.{Format}
 use Rattle.actor_plan.specs.declared.agenda.AgendaItem.{AgendaItem}
 use Rattle.actor_plan.specs.declared.agenda.AgendaItem.TheVariants as item

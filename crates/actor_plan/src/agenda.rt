@@ -1,16 +1,16 @@
 // Agendas: the entries and ticks that a CPU takes, in their order.
 ghost use Rattle.std.specs.Prelude.{◌≡◌, ◌<◌, ◌≤◌, ◌^◌, ◌++◌, drop, length, IfOk, OnOk};
-ghost use Rattle.rec_format.specs.InFile.{entry_seen};
-ghost use Rattle.rec_format.specs.Places.{entry_time};
-ghost use Rattle.rec_format.specs.Recordings.{IsValidRecording};
+ghost use Rattle.recordings.specs.InFile.{entry_seen};
+ghost use Rattle.recordings.specs.Places.{entry_time};
+ghost use Rattle.recordings.specs.Recordings.{IsValidRecording};
 ghost use Rattle.actor_plan.specs.Agendas.{AreInTurn, item_at, agenda_of};
 ghost use Rattle.actor_plan.specs.Steps.{PushesEarlier, entries_on, taken};
 
 use bt_ast::attached::{Attached, Tick};
 use bt_core::items::Items;
 use bt_core::memory::Memory;
-use rec_format::entries::{Entries, EntryRef};
-use rec_format::recording::Recording;
+use recordings::entries::{Entries, EntryRef};
+use recordings::recording::Recording;
 use std::alloc::Global;
 
 /// An item of a CPU's agenda: a tick by its place among the attached ticks, or an event or a mark of lost ones by its

@@ -1,13 +1,13 @@
 // What bodies see of the event, tick or moment that they run at.
 ghost use Rattle.std.specs.Prelude.{◌≡◌, ◌<◌, ◌^◌, length};
-ghost use Rattle.rec_format.specs.InFile.{event_seen};
+ghost use Rattle.recordings.specs.InFile.{event_seen};
 ghost use Rattle.actor_plan.specs.Contexts.{event_context, moment_context, tick_context, begin_context, end_context};
 
 use bt_ast::attached::Tick;
 use bt_core::context::Context;
 use bt_core::text::Str64;
-use rec_format::entries::EventRef;
-use rec_format::recording::{CpuTrack, Recording};
+use recordings::entries::EventRef;
+use recordings::recording::{CpuTrack, Recording};
 
 /// What a body sees of an event of a CPU: the event's values, and the CPU's number. The name of the thread ends before its
 /// first zero byte.

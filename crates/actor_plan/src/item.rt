@@ -2,8 +2,8 @@
 ghost use Rattle.std.specs.Prelude.{◌≡◌, ◌≤◌, ◌*◌, Some, IfOk, slice_get};
 ghost use Rattle.bt_core.specs.declared.limits.TheConstants.{BODIES as MOST_BODIES};
 ghost use Rattle.bt_core.specs.Interaction.{Performed};
-ghost use Rattle.rec_format.specs.InFile.{event_seen, entry_seen};
-ghost use Rattle.rec_format.specs.Places.{HasFormat};
+ghost use Rattle.recordings.specs.InFile.{event_seen, entry_seen};
+ghost use Rattle.recordings.specs.Places.{HasFormat};
 ghost use Rattle.actor_plan.specs.Programs.{event_work, mark_work, entry_work, tick_work, item_work};
 ghost use Rattle.actor_plan.specs.Steps.{IsRecorded};
 ghost use Rattle.actor_plan.specs.Ready.{IsReady};
@@ -19,8 +19,8 @@ use bt_core::item::Item;
 use bt_core::memory::Memory;
 use bt_core::port::Port;
 use bt_core::step::{ObjectId, Op};
-use rec_format::entries::{EntryRef, EventRef};
-use rec_format::recording::{CpuTrack, Recording};
+use recordings::entries::{EntryRef, EventRef};
+use recordings::recording::{CpuTrack, Recording};
 use std::alloc::Global;
 
 /// Runs the bodies that are attached to an event, and gives the sum of their instructions.

@@ -17,7 +17,7 @@ use crate::outcome::Outcome;
 use bt_ast::attached::Attached;
 use bt_core::memory::Memory;
 use bt_core::port::Port;
-use rec_format::recording::{CpuTrack, Recording};
+use recordings::recording::{CpuTrack, Recording};
 use std::alloc::Global;
 
 /// Takes one item of a CPU's agenda, as the program of that item alone: where the script has an exit, it is first checked

@@ -3,7 +3,7 @@ use Rattle.std.proofs.Common.{◌≡◌, ℕ, List, [], ◌∷◌, None, refl, �
 use Rattle.bt_ast.specs.declared.attached.BodyId.{BodyId}
 use Rattle.bt_ast.specs.declared.attached.BodyPoint.TheVariants.{Event}
 use Rattle.bt_attach.specs.Attaching.{attach_fault, bodies_from}
-use Rattle.rec_format.specs.declared.recording.Recording.{Recording}
+use Rattle.recordings.specs.declared.recording.Recording.{Recording}
 use Rattle.rec_gen.specs.Made.{IsMade}
 use Rattle.big_script.proofs.Grammar.{the_tree}
 use Rattle.big_script.proofs.MadeFormat.{the_format, formats_are}

@@ -13,7 +13,7 @@ use Rattle.event_layout.specs.Declarations.{kind_of}
 use Rattle.tracefs_format.proofs.LayoutLaws.{IsLayoutOf-read}
 use Rattle.tracefs_format.proofs.SameLaws.{same_layout}
 use Rattle.tracefs_format.proofs.StripLaws.{some_is}
-use Rattle.rec_format.specs.declared.recording.Recording.{Recording}
+use Rattle.recordings.specs.declared.recording.Recording.{Recording}
 use Rattle.rec_gen.specs.declared.format.TheConstants.{TEXT}
 use Rattle.rec_gen.specs.Made.{IsMade}
 

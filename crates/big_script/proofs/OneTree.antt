@@ -14,7 +14,7 @@ use Rattle.bt_lexer.specs.declared.token.Token.{Token}
 use Rattle.bt_lexer.proofs.Results.{one_list}
 use Rattle.bt_lexer.proofs.Whole.{tokens_found}
 use Rattle.bt_types.specs.Script.{IsTypedScript}
-use Rattle.rec_format.specs.declared.recording.Recording.{Recording}
+use Rattle.recordings.specs.declared.recording.Recording.{Recording}
 use Rattle.rec_gen.specs.Made.{IsMade}
 use Rattle.typed_tree.specs.declared.script.Typed.{Typed}
 use Rattle.big_script.specs.declared.script.TheConstants.{SCRIPT}

@@ -13,7 +13,7 @@ use Rattle.bt_types.specs.Exits.{script_exits}
 use Rattle.bt_types.specs.Script.{IsTypedScript, maps_of}
 use Rattle.bt_types.specs.Told.{Told}
 use Rattle.bt_types.specs.Under.{IsUnder, AreUnder, known_or}
-use Rattle.rec_format.specs.declared.recording.Recording.{Recording}
+use Rattle.recordings.specs.declared.recording.Recording.{Recording}
 use Rattle.rec_gen.specs.Made.{IsMade}
 use Rattle.big_script.proofs.Attach.{the_bodies}
 use Rattle.big_script.proofs.Body.{IsBody, body_is}

@@ -8,7 +8,7 @@ use Rattle.bt_core.specs.declared.map.MapId.{MapId}
 use Rattle.bt_meaning.specs.Totals.{totals}
 use Rattle.bt_meaning.specs.Walks.{replay_of}
 use Rattle.bt_types.specs.Script.{IsTypedScript}
-use Rattle.rec_format.specs.declared.recording.Recording.{Recording}
+use Rattle.recordings.specs.declared.recording.Recording.{Recording}
 use Rattle.typed_tree.specs.declared.script.Typed.{Typed}
 use Rattle.big_script.specs.Tree.{IsTree}
 

@@ -2,7 +2,7 @@
 ghost use Rattle.std.specs.Prelude.{◌≡◌, ℕ, None};
 ghost use Rattle.bt_ast.specs.declared.attached.Attached.{Attached};
 ghost use Rattle.bt_meaning.specs.Totals.{IsAggregationOnly};
-ghost use Rattle.rec_format.specs.declared.recording.Recording.{Recording};
+ghost use Rattle.recordings.specs.declared.recording.Recording.{Recording};
 ghost use Rattle.rec_gen.specs.Made.{IsMade};
 ghost use Rattle.script_programs.specs.Sizes.{first_size_fault};
 ghost use Rattle.typed_tree.specs.declared.script.Typed.{Typed};

@@ -10,8 +10,8 @@ use Rattle.bt_ast.specs.declared.attached.BodyPoint.{BodyPoint}
 use Rattle.bt_ast.specs.declared.attached.BodyPoint.TheVariants.{Begin, End, Event}
 use Rattle.bt_ast.specs.declared.attached.Tick.{Tick}
 use Rattle.bt_ast.specs.declared.probe.Script.{Script}
-use Rattle.rec_format.specs.declared.recording.Recording.{Recording}
-use Rattle.rec_format.specs.Recordings.{IsValidRecording}
+use Rattle.recordings.specs.declared.recording.Recording.{Recording}
+use Rattle.recordings.specs.Recordings.{IsValidRecording}
 use Rattle.event_layout.specs.declared.format.Format.{Format}
 use Rattle.event_layout.specs.declared.layout.Layout.{Layout}
 use Rattle.typed_tree.specs.declared.script.Typed.{Typed}

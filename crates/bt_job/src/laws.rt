@@ -5,8 +5,8 @@ ghost use Rattle.bt_ast.specs.declared.probe.Script.{Script};
 ghost use Rattle.bt_attach.specs.Attaching.{IsAttachedTo, attach_fault};
 ghost use Rattle.bt_meaning.specs.Jobs.{IsJob};
 ghost use Rattle.bt_types.specs.Script.{IsTypedScript};
-ghost use Rattle.rec_format.specs.declared.recording.Recording.{Recording};
-ghost use Rattle.rec_format.specs.Recordings.{IsValidRecording};
+ghost use Rattle.recordings.specs.declared.recording.Recording.{Recording};
+ghost use Rattle.recordings.specs.Recordings.{IsValidRecording};
 ghost use Rattle.typed_tree.specs.declared.script.Typed.{Typed};
 
 /// What a script is attached to over a valid recording, and the script with its types, can be run: its bodies are there with

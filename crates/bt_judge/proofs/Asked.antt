@@ -6,8 +6,8 @@ use Rattle.bt_ast.specs.declared.probe.Script.{Script as Tree}
 use Rattle.bt_attach.specs.Attaching.{IsAttachedTo, attach_fault}
 use Rattle.bt_meaning.specs.Jobs.{IsJob}
 use Rattle.bt_types.specs.Script.{IsTypedScript}
-use Rattle.rec_format.specs.declared.recording.Recording.{Recording as Recorded}
-use Rattle.rec_format.specs.Recordings.{IsValidRecording}
+use Rattle.recordings.specs.declared.recording.Recording.{Recording as Recorded}
+use Rattle.recordings.specs.Recordings.{IsValidRecording}
 use Rattle.run_base.specs.declared.job.Job.{Job}
 use Rattle.typed_tree.specs.declared.script.Typed.{Typed}
 use Rattle.bt_judge.specs.Jobs.{AsksFor, IsJobFor, IsJobOf}

@@ -1,10 +1,10 @@
 -- Of what is due to a script and a recording there is only one thing, so it comes.
 use Rattle.std.proofs.Common.{◌≡◌, ◌≢◌, ℕ, List, refl, sym, ap, subst, ◌∙◌, inl, inr}
 use Rattle.std.specs.Prelude.{Option, Some, None, Result, Ok, Err, IfOk, IfErr}
-use Rattle.rec_format.specs.declared.recording.Recording.{Recording as Recorded}
-use Rattle.rec_format.specs.declared.error.RecordingError.{RecordingError}
-use Rattle.rec_format.specs.declared.error.RecordingError.TheVariants as fault
-use Rattle.rec_format.specs.Recordings.{recording_bytes, IsValidRecording}
+use Rattle.recordings.specs.declared.recording.Recording.{Recording as Recorded}
+use Rattle.recordings.specs.declared.error.RecordingError.{RecordingError}
+use Rattle.recordings.specs.declared.error.RecordingError.TheVariants as fault
+use Rattle.recordings.specs.Recordings.{recording_bytes, IsValidRecording}
 use Rattle.rec_format.specs.Faults.{IsRecordingFault}
 use Rattle.typed_tree.specs.declared.script.Typed.{Typed}
 use Rattle.bt_ast.specs.declared.attached.Attached.{Attached}

@@ -10,8 +10,8 @@ use Rattle.bt_grammar.specs.Tokens.{items}
 use Rattle.bt_lexer.specs.declared.token.Token.{Token}
 use Rattle.bt_lexer.specs.Tokens.{IsTokensOf}
 use Rattle.bt_types.specs.Script.{IsTypedScript}
-use Rattle.rec_format.specs.declared.recording.Recording.{Recording as Recorded}
-use Rattle.rec_format.specs.Recordings.{IsValidRecording, recording_bytes}
+use Rattle.recordings.specs.declared.recording.Recording.{Recording as Recorded}
+use Rattle.recordings.specs.Recordings.{IsValidRecording, recording_bytes}
 use Rattle.event_layout.specs.declared.format.Format.{Format}
 use Rattle.typed_tree.specs.declared.script.Typed.{Typed}
 use Rattle.bt_judge.specs.Meanings.{IsMeaningFor, Meaning, Means}

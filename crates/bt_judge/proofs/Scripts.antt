@@ -7,7 +7,7 @@ use Rattle.event_layout.specs.declared.format.Format.{Format}
 use Rattle.bt_lexer.specs.declared.error.LexError.{LexError}
 use Rattle.bt_lexer.specs.declared.error.LexError.TheVariants as lexical
 use Rattle.bt_core.specs.declared.place.Place.{Place}
-use Rattle.rec_format.specs.declared.recording.Recording.{Recording as Recorded}
+use Rattle.recordings.specs.declared.recording.Recording.{Recording as Recorded}
 use Rattle.bt_attach.specs.declared.error.AttachError.{AttachError}
 use Rattle.bt_attach.specs.declared.error.AttachError.TheVariants as attaching
 use Rattle.bt_attach.specs.Attaching.{attach_fault, IsAttachedTo}

@@ -6,7 +6,7 @@ use Rattle.bt_ast.specs.declared.attached.Attached.{Attached}
 use Rattle.bt_ast.specs.declared.attached.BodyId.{BodyId}
 use Rattle.bt_ast.specs.declared.probe.Script.{Script as Tree}
 use Rattle.bt_core.specs.declared.place.Place.{Place}
-use Rattle.rec_format.specs.declared.recording.Recording.{Recording as Recorded}
+use Rattle.recordings.specs.declared.recording.Recording.{Recording as Recorded}
 use Rattle.script_programs.specs.declared.error.SizeFault.{SizeFault}
 use Rattle.code_bodies.specs.Programs.{KeepScript}
 use Rattle.script_programs.specs.Sizes.{first_size_fault}

@@ -1,7 +1,7 @@
 -- What is due to the files of an order: what refuses them, or nothing. It says what comes where no fault comes and memory suffices.
 use Rattle.std.specs.Prelude.{◌≡◌, ℕ, ◌<◌, ◌≤◌, ◌⊎◌, List, [], ◌∷◌, length, Option, Some, None}
-use Rattle.rec_format.specs.declared.recording.Recording.{Recording as Recorded}
-use Rattle.rec_format.specs.Recordings.{recording_bytes, IsValidRecording}
+use Rattle.recordings.specs.declared.recording.Recording.{Recording as Recorded}
+use Rattle.recordings.specs.Recordings.{recording_bytes, IsValidRecording}
 use Rattle.rec_format.specs.Faults.{IsRecordingFault}
 use Rattle.bt_ast.specs.declared.probe.Script.{Script as Tree}
 use Rattle.bt_attach.specs.Attaching.{attach_fault}

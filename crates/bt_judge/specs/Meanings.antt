@@ -6,7 +6,7 @@ use Rattle.bt_attach.specs.Attaching.{IsAttachedTo, attach_fault}
 use Rattle.bt_meaning.specs.Replays.{Replay}
 use Rattle.bt_meaning.specs.Walks.{replay_of}
 use Rattle.bt_types.specs.Script.{IsTypedScript}
-use Rattle.rec_format.specs.declared.recording.Recording.{Recording as Recorded}
+use Rattle.recordings.specs.declared.recording.Recording.{Recording as Recorded}
 use Rattle.typed_tree.specs.declared.script.Typed.{Typed}
 use Rattle.bt_judge.specs.Due.{AreShort, IsRecording}
 use Rattle.bt_refusal.specs.Orders.{OperandFile}

@@ -1,6 +1,6 @@
 -- The tree of a script, and its first fault over a recording.
 use Rattle.std.specs.Prelude.{◌≡◌, ℕ, ◌⊎◌, List, take, length, slice_get, Option, Some, None}
-use Rattle.rec_format.specs.declared.recording.Recording.{Recording as Recorded}
+use Rattle.recordings.specs.declared.recording.Recording.{Recording as Recorded}
 use Rattle.bt_attach.specs.declared.error.AttachError.{AttachError}
 use Rattle.bt_attach.specs.declared.error.AttachError.TheVariants as attaching
 use Rattle.bt_attach.specs.Attaching.{attach_fault, bodies_from}

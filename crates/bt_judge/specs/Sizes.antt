@@ -7,7 +7,7 @@ use Rattle.bt_ast.specs.declared.probe.Script.{Script as Tree}
 use Rattle.bt_attach.specs.Attaching.{IsAttachedTo}
 use Rattle.bt_core.specs.declared.place.Place.{Place}
 use Rattle.bt_types.specs.Script.{IsTypedScript}
-use Rattle.rec_format.specs.declared.recording.Recording.{Recording as Recorded}
+use Rattle.recordings.specs.declared.recording.Recording.{Recording as Recorded}
 use Rattle.script_programs.specs.declared.error.SizeFault.{SizeFault}
 use Rattle.script_programs.specs.declared.error.SizeFault.TheVariants as size
 use Rattle.script_programs.specs.Sizes.{first_size_fault}

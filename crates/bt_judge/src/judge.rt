@@ -2,8 +2,8 @@
 ghost use Rattle.std.specs.Prelude.{◌≡◌, ◌≤◌, length, IfOk, IfErr};
 ghost use Rattle.bt_core.specs.declared.limits.TheConstants.{SCRIPT_BYTES};
 ghost use Rattle.bt_meaning.specs.Jobs.{IsJob};
-ghost use Rattle.rec_format.specs.Places.{AreBytes};
-ghost use Rattle.rec_format.specs.Recordings.{IsValidRecording};
+ghost use Rattle.recordings.specs.Places.{AreBytes};
+ghost use Rattle.recordings.specs.Recordings.{IsValidRecording};
 ghost use Rattle.bt_judge.specs.Doing.{IsExact, IsFaultRefusal, IsScriptRefusal, refusal_in};
 ghost use Rattle.bt_judge.specs.Jobs.{AsksFor, IsJobOf};
 
@@ -14,7 +14,7 @@ use bt_attach::attach::attach;
 use bt_refusal::refusal::{Refusal, recording_refusal};
 use bt_types::script::check;
 use rec_format::reading::read_recording;
-use rec_format::recording::Recording;
+use recordings::recording::Recording;
 use run_base::job::Job;
 use std::alloc::Global;
 

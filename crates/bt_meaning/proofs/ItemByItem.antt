@@ -9,7 +9,7 @@ use Rattle.bt_core.specs.declared.step.Step.{Step}
 use Rattle.bt_core.specs.Interaction.{Interaction, Ended, and_then, Runs}
 use Rattle.bt_core.specs.Steps.{of_actor, RepliesFollow}
 use Rattle.bt_core.proofs.InteractionLaws.{Runs-and_then}
-use Rattle.rec_format.specs.declared.recording.CpuTrack.{CpuTrack}
+use Rattle.recordings.specs.declared.recording.CpuTrack.{CpuTrack}
 use Rattle.actor_plan.specs.declared.agenda.AgendaItem.{AgendaItem}
 use Rattle.actor_plan.specs.declared.outcome.Outcome.{Outcome}
 use Rattle.actor_plan.specs.Programs.{after_count, item_work, items_program, then_program}

@@ -11,12 +11,12 @@ use mathlib.Core.Logic.{dite}
 use native.Mathlib.Decide.{ℕ_discrete}
 use Rattle.bt_ast.specs.declared.attached.Attached.{Attached}
 use Rattle.bt_ast.specs.declared.attached.Tick.{Tick as TickTime}
-use Rattle.rec_format.specs.declared.recording.CpuTrack.{CpuTrack}
-use Rattle.rec_format.specs.declared.recording.Entry.{Entry as RecordedEntry}
-use Rattle.rec_format.specs.declared.recording.Entry.TheVariants as entry
-use Rattle.rec_format.specs.declared.recording.Recording.{Recording}
-use Rattle.rec_format.specs.Places.{entry_time}
-use Rattle.rec_format.specs.Recordings.{IsValidRecording}
+use Rattle.recordings.specs.declared.recording.CpuTrack.{CpuTrack}
+use Rattle.recordings.specs.declared.recording.Entry.{Entry as RecordedEntry}
+use Rattle.recordings.specs.declared.recording.Entry.TheVariants as entry
+use Rattle.recordings.specs.declared.recording.Recording.{Recording}
+use Rattle.recordings.specs.Places.{entry_time}
+use Rattle.recordings.specs.Recordings.{IsValidRecording}
 use Rattle.weave.proofs.Less.{less_or_not, is_less, not_less}
 use Rattle.bt_core.specs.Sorted.{ordered}
 use Rattle.actor_plan.specs.declared.agenda.AgendaItem.{AgendaItem}

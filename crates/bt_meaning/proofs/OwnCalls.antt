@@ -20,7 +20,7 @@ use Rattle.bt_core.specs.Kinds.{IsFineDecl}
 use Rattle.bt_core.specs.Ports.{CanStep, IsReplyOf}
 use Rattle.bt_core.specs.Steps.{is_of, of_actor, is_on, on_object, operations, RepliesFollow}
 use Rattle.bt_core.proofs.StepLists.{is_same_object-true}
-use Rattle.rec_format.specs.declared.recording.Recording.{Recording}
+use Rattle.recordings.specs.declared.recording.Recording.{Recording}
 use Rattle.typed_tree.specs.declared.body.TypedBody.{TypedBody}
 use Rattle.typed_tree.specs.declared.script.Typed.{Typed}
 use Rattle.typed_tree.specs.Scope.{is_fine_decl}

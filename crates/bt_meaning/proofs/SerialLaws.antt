@@ -9,8 +9,8 @@ use Rattle.bt_core.specs.declared.step.Step.{Step}
 use Rattle.bt_core.specs.Interaction.{Interaction, Runs}
 use Rattle.bt_core.specs.Steps.{is_of, of_actor}
 use Rattle.bt_core.proofs.StepLists.{AtEach-none}
-use Rattle.rec_format.specs.declared.recording.CpuTrack.{CpuTrack}
-use Rattle.rec_format.specs.Recordings.{IsValidRecording}
+use Rattle.recordings.specs.declared.recording.CpuTrack.{CpuTrack}
+use Rattle.recordings.specs.Recordings.{IsValidRecording}
 use Rattle.actor_plan.specs.Agendas.{AreInTurn, agenda_of}
 use Rattle.actor_plan.specs.Programs.{item_work, items_program, track_program}
 use Rattle.bt_meaning.specs.Interleavings.{IsInterleaving, IsWhole}

@@ -15,11 +15,11 @@ use Rattle.bt_core.specs.declared.step.Reply.TheVariants.{Last}
 use Rattle.bt_core.specs.declared.step.Step.{Step}
 use Rattle.bt_core.specs.Interaction.{Interaction, Ended, and_then, Runs}
 use Rattle.bt_core.specs.Steps.{is_of, of_actor, is_on, on_object, operations}
-use Rattle.rec_format.specs.declared.recording.CpuTrack.{CpuTrack}
-use Rattle.rec_format.specs.declared.recording.Entry.{Entry}
-use Rattle.rec_format.specs.declared.recording.Entry.TheVariants as entry
-use Rattle.rec_format.specs.Places.{entry_time}
-use Rattle.rec_format.specs.Recordings.{IsValidRecording}
+use Rattle.recordings.specs.declared.recording.CpuTrack.{CpuTrack}
+use Rattle.recordings.specs.declared.recording.Entry.{Entry}
+use Rattle.recordings.specs.declared.recording.Entry.TheVariants as entry
+use Rattle.recordings.specs.Places.{entry_time}
+use Rattle.recordings.specs.Recordings.{IsValidRecording}
 use Rattle.agg_core.specs.Answers.{is_cross}
 use Rattle.weave.proofs.Less.{less_or_not}
 use Rattle.weave.proofs.Among.{Has, contains_from, has_either, has_filter, has_front, has_middle}

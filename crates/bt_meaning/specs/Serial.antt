@@ -3,7 +3,7 @@ use Rattle.std.specs.Prelude.{ℕ, Bool, true, false, if◌then◌else◌, List,
 use Rattle.bt_core.specs.declared.step.Step.{Step}
 use Rattle.bt_core.specs.Interaction.{Interaction, Ended, Asks, Call}
 use Rattle.bt_core.specs.Steps.{on_object, operations}
-use Rattle.rec_format.specs.declared.recording.CpuTrack.{CpuTrack}
+use Rattle.recordings.specs.declared.recording.CpuTrack.{CpuTrack}
 use Rattle.actor_plan.specs.declared.agenda.AgendaItem.{AgendaItem}
 use Rattle.actor_plan.specs.declared.outcome.Outcome.{Outcome}
 use Rattle.actor_plan.specs.Programs.{items_program, item_work}

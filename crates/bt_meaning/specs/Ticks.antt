@@ -11,9 +11,9 @@ use Rattle.bt_core.specs.declared.step.Step.{Step}
 use Rattle.bt_core.specs.Interaction.{Interaction, Ended, Asks, Runs}
 use Rattle.bt_core.specs.Steps.{is_on, of_actor}
 use Rattle.agg_core.specs.Answers.{is_cross}
-use Rattle.rec_format.specs.declared.recording.CpuTrack.{CpuTrack}
-use Rattle.rec_format.specs.declared.recording.Entry.{Entry}
-use Rattle.rec_format.specs.Places.{entry_time}
+use Rattle.recordings.specs.declared.recording.CpuTrack.{CpuTrack}
+use Rattle.recordings.specs.declared.recording.Entry.{Entry}
+use Rattle.recordings.specs.Places.{entry_time}
 use Rattle.actor_plan.specs.declared.agenda.AgendaItem.{AgendaItem}
 use Rattle.actor_plan.specs.declared.agenda.AgendaItem.TheVariants as item
 use Rattle.actor_plan.specs.declared.outcome.Outcome.{Outcome}

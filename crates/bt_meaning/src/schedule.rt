@@ -1,17 +1,17 @@
 // The order in which a run on one thread takes the items of all agendas.
 ghost use Rattle.std.specs.Prelude.{◌≡◌, ◌++◌, ◌<◌, ◌≤◌, ◌^◌, IfOk, OnOk, length};
 ghost use Rattle.std.specs.List.{All};
-ghost use Rattle.rec_format.specs.declared.recording.CpuTrack.{CpuTrack};
-ghost use Rattle.rec_format.specs.InFile.{entry_seen};
-ghost use Rattle.rec_format.specs.Recordings.{IsValidRecording};
+ghost use Rattle.recordings.specs.declared.recording.CpuTrack.{CpuTrack};
+ghost use Rattle.recordings.specs.InFile.{entry_seen};
+ghost use Rattle.recordings.specs.Recordings.{IsValidRecording};
 ghost use Rattle.bt_meaning.specs.Schedules.{all_due, entries_due, entry_due, serial_order, ticks_due};
 
 use actor_plan::agenda::time_of;
 use bt_ast::attached::{Attached, Tick};
 use bt_core::items::Items;
 use bt_core::memory::Memory;
-use rec_format::entries::{Entries, EntryRef};
-use rec_format::recording::{CpuTrack, Recording};
+use recordings::entries::{Entries, EntryRef};
+use recordings::recording::{CpuTrack, Recording};
 use std::alloc::Global;
 
 /// An item of a CPU's agenda. Of items with one time ticks come before entries; ticks go by their order and then by CPU, and

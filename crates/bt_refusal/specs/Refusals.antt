@@ -6,10 +6,10 @@ use Rattle.bt_io.specs.declared.shelf.ShelfError.{ShelfError}
 use Rattle.bt_io.specs.declared.shelf.ShelfError.TheVariants as shelf
 use Rattle.event_layout.specs.declared.error.FormatError.{FormatError}
 use Rattle.event_layout.specs.declared.error.FormatError.TheVariants as rule
-use Rattle.rec_format.specs.declared.error.CountOf.{CountOf}
-use Rattle.rec_format.specs.declared.error.CountOf.TheVariants.{Cpus, Formats, Events, Span}
-use Rattle.rec_format.specs.declared.error.RecordingError.{RecordingError}
-use Rattle.rec_format.specs.declared.error.RecordingError.TheVariants as fault
+use Rattle.recordings.specs.declared.error.CountOf.{CountOf}
+use Rattle.recordings.specs.declared.error.CountOf.TheVariants.{Cpus, Formats, Events, Span}
+use Rattle.recordings.specs.declared.error.RecordingError.{RecordingError}
+use Rattle.recordings.specs.declared.error.RecordingError.TheVariants as fault
 use Rattle.bt_refusal.specs.declared.refusal.Denial.TheVariants as denial
 use Rattle.bt_refusal.specs.declared.refusal.Operand.{Operand}
 use Rattle.bt_refusal.specs.declared.refusal.Operand.TheVariants as operand

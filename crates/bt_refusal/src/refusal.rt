@@ -8,7 +8,7 @@ use bt_core::memory::Memory;
 use bt_core::place::Place;
 use bt_io::shelf::ShelfError;
 use expr_types::fault::Rule;
-use rec_format::error::RecordingError;
+use recordings::error::RecordingError;
 
 /// A file that the words name.
 #[derive(Clone, Copy, PartialEq, Eq)]
@@ -70,7 +70,7 @@ pub enum ScriptRefusal {
 }
 
 /// Why a recording is refused.
-#[derive(Clone, Copy, PartialEq, Eq)]
+#[derive(Clone, Copy)]
 pub enum RecordingRefusal {
     /// It has more bytes than it may have.
     TooLong,
@@ -96,7 +96,7 @@ pub enum Denial {
 }
 
 /// Why a call is refused. Each has its exit status.
-#[derive(Clone, Copy, PartialEq, Eq)]
+#[derive(Clone, Copy)]
 pub enum Refusal {
     /// The words break the rule: status 1.
     Usage,

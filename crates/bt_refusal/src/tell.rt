@@ -1,6 +1,6 @@
 // What is told of each refusal.
 ghost use Rattle.std.specs.Prelude.{◌≡◌, ◌∷◌, [], codes};
-ghost use Rattle.rec_format.specs.declared.error.RecordingError.TheVariants as wrong;
+ghost use Rattle.recordings.specs.declared.error.RecordingError.TheVariants as wrong;
 ghost use Rattle.bt_refusal.specs.declared.refusal.Refusal.TheVariants as refusal;
 ghost use Rattle.bt_refusal.specs.declared.refusal.ScriptRefusal.TheVariants as refused;
 ghost use Rattle.bt_refusal.specs.Lines.{Writes, sink_use, Text, Number};
@@ -17,7 +17,7 @@ use bt_io::sink::Sink;
 use bt_words::order::{FileName, Order};
 use event_layout::error::FormatError;
 use expr_types::fault::Rule;
-use rec_format::error::{CountOf, RecordingError};
+use recordings::error::{CountOf, RecordingError};
 
 /// The number that is out of its bounds.
 fn count_word(what: CountOf) -> &'static str

@@ -12,8 +12,8 @@ use Rattle.bt_core.specs.declared.step.Step.{Step}
 use Rattle.bt_core.specs.Interaction.{Interaction, Ended, and_then, Runs, value_under}
 use Rattle.bt_core.specs.Steps.{is_of, of_actor}
 use Rattle.bt_core.proofs.InteractionLaws.{Runs-and_then, value_under-Runs}
-use Rattle.rec_format.specs.declared.recording.CpuTrack.{CpuTrack}
-use Rattle.rec_format.specs.Recordings.{IsValidRecording}
+use Rattle.recordings.specs.declared.recording.CpuTrack.{CpuTrack}
+use Rattle.recordings.specs.Recordings.{IsValidRecording}
 use Rattle.weave.proofs.Less.{is_less, not_less}
 use Rattle.actor_plan.specs.declared.agenda.AgendaItem.{AgendaItem}
 use Rattle.actor_plan.specs.declared.outcome.Outcome.{Outcome}

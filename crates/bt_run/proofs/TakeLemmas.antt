@@ -6,7 +6,7 @@ use Rattle.std.proofs.lemmas.List.{drop_more, drop_all, drop-append-le}
 use Rattle.bt_core.specs.declared.step.Step.{Step}
 use Rattle.bt_core.specs.Interaction.{Interaction, Whole}
 use Rattle.bt_core.specs.Steps.{RepliesFollow}
-use Rattle.rec_format.specs.declared.recording.CpuTrack.{CpuTrack}
+use Rattle.recordings.specs.declared.recording.CpuTrack.{CpuTrack}
 use Rattle.turn_lock.specs.History.{Each}
 use Rattle.weave.specs.Woven.{StampsFollow, StandsBetween}
 use Rattle.actor_plan.specs.declared.agenda.AgendaItem.{AgendaItem}

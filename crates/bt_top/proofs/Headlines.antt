@@ -27,8 +27,8 @@ use Rattle.run_base.specs.declared.job.Work.{Work}
 use Rattle.run_laws.specs.Reads.{AddsAreOwn, ReadsSeeBeginnings}
 use Rattle.run_output.specs.declared.form.Form.{Form}
 use Rattle.run_output.specs.declared.form.Form.TheVariants.{Text}
-use Rattle.rec_format.specs.declared.recording.Recording.{Recording as Recorded}
-use Rattle.rec_format.specs.Recordings.{IsValidRecording}
+use Rattle.recordings.specs.declared.recording.Recording.{Recording as Recorded}
+use Rattle.recordings.specs.Recordings.{IsValidRecording}
 use Rattle.rec_gen.specs.Made.{IsMade}
 use Rattle.code_bodies.specs.Programs.{KeepScript}
 use Rattle.total_laws.specs.Ends.{EndsWithTotals, IsAddingRun}

@@ -10,13 +10,13 @@ use Rattle.bt_ast.specs.declared.probe.Script.{Script as Tree}
 use Rattle.bt_attach.specs.Attaching.{IsAttachedTo}
 use Rattle.run_base.specs.declared.job.Job.{Job}
 use Rattle.bt_types.specs.Script.{IsTypedScript}
-use Rattle.rec_format.specs.declared.recording.Recording.{Recording as Recorded}
+use Rattle.recordings.specs.declared.recording.Recording.{Recording as Recorded}
 use Rattle.script_programs.specs.declared.error.SizeFault.{SizeFault}
 use Rattle.script_programs.specs.Sizes.{first_size_fault}
 use Rattle.typed_tree.specs.declared.script.Typed.{Typed}
 use Rattle.bt_attach.specs.Attaching.{attach_fault}
 use Rattle.bt_meaning.specs.Jobs.{IsJob}
-use Rattle.rec_format.specs.Recordings.{IsValidRecording}
+use Rattle.recordings.specs.Recordings.{IsValidRecording}
 use Rattle.rec_gen.specs.Made.{IsMade}
 use Rattle.bt_refusal.specs.declared.refusal.Refusal.{Refusal}
 use Rattle.bt_refusal.specs.declared.refusal.Refusal.TheVariants.{Memory}

@@ -10,7 +10,7 @@ use Rattle.bt_meaning.specs.Replays.{Replay, cpus_of}
 use Rattle.bt_meaning.specs.Serial.{serial_steps, unstamped}
 use Rattle.bt_meaning.specs.Walks.{replay_of}
 use Rattle.code_bodies.specs.Coding.{code_replay}
-use Rattle.rec_format.specs.Recordings.{IsValidRecording}
+use Rattle.recordings.specs.Recordings.{IsValidRecording}
 use Rattle.rec_gen.specs.Made.{IsMade}
 use Rattle.run_base.specs.declared.job.Job.{Job}
 use Rattle.run_base.specs.declared.job.Work.{Work}

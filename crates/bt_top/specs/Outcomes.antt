@@ -12,8 +12,8 @@ use Rattle.bt_core.specs.declared.step.Step.{Step}
 use Rattle.bt_core.specs.Want.{out_of_memory}
 use Rattle.bt_words.specs.declared.order.Order.{Order}
 use Rattle.bt_words.specs.declared.order.Order.TheVariants.{Run, Check, Code, Vet, Account, Verify, Gen, Big}
-use Rattle.rec_format.specs.declared.recording.Recording.{Recording as Recorded}
-use Rattle.rec_format.specs.Recordings.{recording_bytes}
+use Rattle.recordings.specs.declared.recording.Recording.{Recording as Recorded}
+use Rattle.recordings.specs.Recordings.{recording_bytes}
 use Rattle.rec_gen.specs.Made.{IsMade}
 use Rattle.json_out.specs.Lines.{json_stats_line}
 use Rattle.run_base.specs.declared.job.Job.{Job}

@@ -1,7 +1,7 @@
 // The orders that make their recording.
 ghost use Rattle.std.specs.Prelude.{◌≡◌, [], IfOk, IfErr, false, length};
 ghost use Rattle.bt_meaning.specs.Jobs.{IsJob};
-ghost use Rattle.rec_format.specs.Recordings.{IsValidRecording};
+ghost use Rattle.recordings.specs.Recordings.{IsValidRecording};
 ghost use Rattle.rec_gen.specs.Made.{IsMade};
 ghost use Rattle.bt_words.specs.declared.order.Order.{Order};
 ghost use Rattle.bt_words.specs.Words.{AreBounded};
@@ -19,9 +19,9 @@ use bt_core::memory::Memory;
 use bt_judge::judge::script_job;
 use bt_refusal::refusal::Refusal;
 use itoa::Buffer;
-use rec_format::recording::Recording;
 use rec_format::writing::write_recording;
 use rec_gen::generate::generate;
+use recordings::recording::Recording;
 use run_base::job::{Job, Work};
 use run_output::form::Form;
 use std::alloc::Global;

@@ -14,12 +14,12 @@ use Rattle.bpf_insn.specs.declared.insn.Insn.{Insn}
 use Rattle.event_record.specs.Contexts.{context_bytes}
 use Rattle.helper_abi.specs.Running.{script_run}
 use Rattle.helper_abi.specs.Served.{desk_of}
-use Rattle.rec_format.specs.declared.recording.CpuTrack.{CpuTrack}
-use Rattle.rec_format.specs.declared.recording.Entry.TheVariants as entry
-use Rattle.rec_format.specs.declared.recording.Event.{Event}
-use Rattle.rec_format.specs.declared.recording.Recording.{Recording}
-use Rattle.rec_format.specs.Places.{entry_at_place}
-use Rattle.rec_format.proofs.ForOthers.{recorded_format}
+use Rattle.recordings.specs.declared.recording.CpuTrack.{CpuTrack}
+use Rattle.recordings.specs.declared.recording.Entry.TheVariants as entry
+use Rattle.recordings.specs.declared.recording.Event.{Event}
+use Rattle.recordings.specs.declared.recording.Recording.{Recording}
+use Rattle.recordings.specs.Places.{entry_at_place}
+use Rattle.recordings.proofs.ForOthers.{recorded_format}
 use Rattle.event_layout.proofs.Lists.{all_at}
 use Rattle.typed_tree.specs.declared.body.TypedBody.{TypedBody}
 use Rattle.typed_tree.specs.declared.script.Typed.{Typed}

@@ -7,14 +7,14 @@ use Rattle.bt_ast.specs.declared.attached.Attached.{Attached}
 use Rattle.bt_core.specs.Text.{IsShortText, is_text_byte, short_text}
 use Rattle.bt_core.proofs.TextLemmas.{kept_front, kept_IsShortText}
 use Rattle.event_layout.proofs.Lists.{all_at}
-use Rattle.rec_format.specs.declared.recording.CpuTrack.{CpuTrack}
-use Rattle.rec_format.specs.declared.recording.Entry.TheVariants as entry
-use Rattle.rec_format.specs.declared.recording.Event.{Event}
-use Rattle.rec_format.specs.declared.recording.Recording.{Recording}
-use Rattle.rec_format.specs.Checks.{has_marks}
-use Rattle.rec_format.specs.EntryParts.{IsEntry}
-use Rattle.rec_format.specs.Places.{IsHeldEntry}
-use Rattle.rec_format.specs.Recordings.{IsTrack, IsValidRecording}
+use Rattle.recordings.specs.declared.recording.CpuTrack.{CpuTrack}
+use Rattle.recordings.specs.declared.recording.Entry.TheVariants as entry
+use Rattle.recordings.specs.declared.recording.Event.{Event}
+use Rattle.recordings.specs.declared.recording.Recording.{Recording}
+use Rattle.recordings.specs.Checks.{has_marks}
+use Rattle.recordings.specs.EntryParts.{IsEntry}
+use Rattle.recordings.specs.Places.{IsHeldEntry}
+use Rattle.recordings.specs.Recordings.{IsTrack, IsValidRecording}
 use Rattle.typed_tree.specs.declared.body.TypedBody.{TypedBody}
 use Rattle.actor_plan.specs.Contexts.{event_context, moment_context}
 use Rattle.walk_meaning.specs.Served.{least_length}

@@ -10,7 +10,7 @@ use Rattle.bpf_interp.specs.declared.machine.Ended.{Ended as EndedRun}
 use Rattle.event_record.specs.Contexts.{context_bytes}
 use Rattle.helper_abi.specs.Running.{script_run}
 use Rattle.helper_abi.specs.Served.{desk_of}
-use Rattle.rec_format.specs.declared.recording.Recording.{Recording}
+use Rattle.recordings.specs.declared.recording.Recording.{Recording}
 use Rattle.typed_tree.specs.declared.body.TypedBody.{TypedBody}
 use Rattle.typed_tree.specs.declared.script.Typed.{Typed}
 use Rattle.actor_plan.specs.Plans.{Plan}

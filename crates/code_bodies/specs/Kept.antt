@@ -12,9 +12,9 @@ use Rattle.bpf_interp.specs.declared.machine.Ended.{Ended as EndedRun}
 use Rattle.event_record.specs.Contexts.{context_bytes, AreBytes, IsContext}
 use Rattle.helper_abi.specs.Running.{script_run}
 use Rattle.helper_abi.specs.Served.{desk_of}
-use Rattle.rec_format.specs.declared.recording.CpuTrack.{CpuTrack}
-use Rattle.rec_format.specs.declared.recording.Recording.{Recording}
-use Rattle.rec_format.specs.Places.{IsHeldEntry}
+use Rattle.recordings.specs.declared.recording.CpuTrack.{CpuTrack}
+use Rattle.recordings.specs.declared.recording.Recording.{Recording}
+use Rattle.recordings.specs.Places.{IsHeldEntry}
 use Rattle.typed_tree.specs.declared.body.TypedBody.{TypedBody}
 use Rattle.typed_tree.specs.declared.script.Typed.{Typed}
 use Rattle.bt_core.specs.Same.{SameTo}

@@ -4,7 +4,7 @@ ghost use Rattle.std.specs.List.{AllByRecursion};
 ghost use Rattle.bt_ast.specs.declared.attached.Attached.{Attached};
 ghost use Rattle.bt_core.specs.declared.step.Step.{Step};
 ghost use Rattle.bpf_insn.specs.declared.insn.Insn.{Insn};
-ghost use Rattle.rec_format.specs.declared.recording.Recording.{Recording};
+ghost use Rattle.recordings.specs.declared.recording.Recording.{Recording};
 ghost use Rattle.typed_tree.specs.declared.script.Typed.{Typed};
 ghost use Rattle.actor_plan.specs.Plans.{TakesFew};
 ghost use Rattle.bt_meaning.specs.Interleavings.{IsReplayed};

@@ -7,7 +7,7 @@ use Rattle.bt_core.specs.declared.memory.Memory.{Memory}
 use Rattle.bt_core.specs.declared.step.Step.{Step}
 use Rattle.bt_core.specs.Ports.{Setting}
 use Rattle.bt_core.specs.Interaction.{Interaction, Performed, Runs, Begins}
-use Rattle.rec_format.specs.declared.recording.Recording.{Recording}
+use Rattle.recordings.specs.declared.recording.Recording.{Recording}
 use Rattle.actor_plan.specs.Plans.{Plan}
 use Rattle.actor_plan.specs.Programs.{actor_program, cpu_program, main_program}
 use Rattle.cpu_worker.specs.declared.world_port.Start.{Start}

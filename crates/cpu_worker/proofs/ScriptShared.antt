@@ -38,7 +38,7 @@ use Rattle.typed_tree.specs.contracts.body.TypedBody as body
 use Rattle.typed_tree.specs.contracts.script.Typed as script
 use Rattle.bt_ast.proofs.attached.Attached.TheSendSync as attached
 use Rattle.percpu_tables.proofs.tables.Tables.TheSendSync as tables
-use Rattle.rec_format.proofs.recording.Recording.TheSendSync as recording
+use Rattle.recordings.proofs.recording.Recording.TheSendSync as recording
 use Rattle.shared_maps.proofs.maps.SharedMaps.TheSendSync as maps
 use Rattle.side_locks.proofs.sides.SideLocks.TheSendSync as sides
 use Rattle.cpu_worker.specs.contracts.world.SharedWorld as world

@@ -6,7 +6,7 @@ ghost use Rattle.side_locks.specs.Sides.{side_kind};
 
 use bt_ast::attached::Attached;
 use percpu_tables::tables::Tables;
-use rec_format::recording::Recording;
+use recordings::recording::Recording;
 use shared_maps::maps::SharedMaps;
 use side_locks::sides::SideLocks;
 use side_locks::turns::SideTurns;

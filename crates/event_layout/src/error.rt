@@ -7,7 +7,7 @@ use thiserror::Error;
 
 /// Why a format text has no layout: the first rule that it breaks, in the order of its lines. Lines
 /// are counted from 1.
-#[derive(Clone, Copy, PartialEq, Eq, Error)]
+#[derive(Clone, Copy, Error)]
 pub enum FormatError {
     /// Line 1 is not `name:` and a name of letters, digits and `_`.
     #[error("F1 no name")]

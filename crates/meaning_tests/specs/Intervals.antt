@@ -5,7 +5,7 @@ use Rattle.std.specs.Prelude.{ℕ, zero, suc, true, false, List, [], ◌∷◌, 
 use Rattle.bt_ast.specs.declared.attached.Attached.{Attached}
 use Rattle.bt_core.specs.declared.step.Step.{Step}
 use Rattle.bt_core.specs.Interaction.{Interaction, Ended}
-use Rattle.rec_format.specs.declared.recording.Recording.{Recording}
+use Rattle.recordings.specs.declared.recording.Recording.{Recording}
 use Rattle.bt_meaning.specs.Replays.{Replay}
 use Rattle.meaning_tests.specs.Written.{attached_with, tick_at, cpu_with, recording_of, counts_decl, counts_one, prints, clears, adds, crosses, reads, clears_of, emits}
 

@@ -7,7 +7,7 @@ use Rattle.bt_core.specs.declared.step.Op.TheVariants.{Emit, Stop}
 use Rattle.bt_core.specs.declared.step.Reply.TheVariants.{Done}
 use Rattle.bt_core.specs.declared.step.Step.{Step}
 use Rattle.bt_core.specs.Interaction.{Interaction}
-use Rattle.rec_format.specs.declared.recording.CpuTrack.{CpuTrack}
+use Rattle.recordings.specs.declared.recording.CpuTrack.{CpuTrack}
 use Rattle.bt_meaning.specs.Replays.{Replay}
 use Rattle.meaning_tests.specs.Serial.{checks}
 use Rattle.meaning_tests.specs.Written.{attached_with, event_at, lost_at, counts_decl, counts_one, step, adds, stops}

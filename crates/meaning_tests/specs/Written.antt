@@ -21,10 +21,10 @@ use Rattle.bt_core.specs.declared.step.Reply.TheVariants as replies
 use Rattle.bt_core.specs.declared.step.Step.{Step}
 use Rattle.bt_core.specs.declared.value.Value.{Value}
 use Rattle.bt_core.specs.Interaction.{Interaction, Ended, Asks}
-use Rattle.rec_format.specs.declared.recording.CpuTrack.{CpuTrack}
-use Rattle.rec_format.specs.declared.recording.Entry.{Entry}
-use Rattle.rec_format.specs.declared.recording.Entry.TheVariants as entries
-use Rattle.rec_format.specs.declared.recording.Recording.{Recording}
+use Rattle.recordings.specs.declared.recording.CpuTrack.{CpuTrack}
+use Rattle.recordings.specs.declared.recording.Entry.{Entry}
+use Rattle.recordings.specs.declared.recording.Entry.TheVariants as entries
+use Rattle.recordings.specs.declared.recording.Recording.{Recording}
 use Rattle.map_rows.specs.Merged.{merged}
 
 -- ---- recordings

@@ -1,12 +1,12 @@
 // The order of the items of two CPUs, of a recording that is read.
-ghost use Rattle.rec_format.specs.Recordings.{IsValidRecording};
+ghost use Rattle.recordings.specs.Recordings.{IsValidRecording};
 
 use bt_ast::attached::{Attached, Tick};
 use bt_core::items::Items;
 use bt_core::memory::Memory;
 use bt_meaning::schedule::{Due, Scheduled, schedule};
 use rec_format::reading::read_recording;
-use rec_format::recording::Recording;
+use recordings::recording::Recording;
 use std::alloc::Global;
 use std::test::Fail;
 

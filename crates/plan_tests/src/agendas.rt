@@ -1,6 +1,6 @@
 // Agendas: where ticks stand between the events of recordings and the marks of lost ones, and what the bodies there see.
 ghost use Rattle.std.specs.Prelude.{IsTrue};
-ghost use Rattle.rec_format.specs.Recordings.{IsValidRecording};
+ghost use Rattle.recordings.specs.Recordings.{IsValidRecording};
 ghost use Rattle.actor_plan.specs.Agendas.{AreInTurn};
 
 use actor_plan::agenda::{AgendaItem, agenda};
@@ -8,7 +8,7 @@ use bt_ast::attached::{Attached, Tick};
 use bt_core::items::Items;
 use bt_core::memory::Memory;
 use rec_format::reading::read_recording;
-use rec_format::recording::Recording;
+use recordings::recording::Recording;
 use std::alloc::Global;
 use std::test::Fail;
 

@@ -9,7 +9,7 @@ use Rattle.bt_core.specs.declared.step.ObjectId.TheVariants.{Shared, Cpu, Clock,
 use Rattle.bt_core.specs.declared.step.Op.{Op}
 use Rattle.bt_core.specs.declared.step.Op.TheVariants.{Cross, Check}
 use Rattle.bt_core.specs.Interaction.{Interaction, Ended, Asks}
-use Rattle.rec_format.specs.declared.recording.Recording.{Recording}
+use Rattle.recordings.specs.declared.recording.Recording.{Recording}
 use Rattle.typed_tree.specs.declared.body.TypedBody.{TypedBody}
 use Rattle.typed_tree.specs.declared.script.Typed.{Typed}
 use Rattle.walk_meaning.specs.Walk.{walk}

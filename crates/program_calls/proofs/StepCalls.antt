@@ -10,7 +10,7 @@ use Rattle.bt_core.specs.declared.step.Step.{Step}
 use Rattle.bt_core.specs.Interaction.{Call, Interaction, Ended, Asks, Runs}
 use Rattle.bt_core.specs.Ports.{IsReplyOf}
 use Rattle.bt_core.specs.Steps.{is_of, of_actor}
-use Rattle.rec_format.specs.declared.recording.Recording.{Recording}
+use Rattle.recordings.specs.declared.recording.Recording.{Recording}
 use Rattle.typed_tree.specs.declared.script.Typed.{Typed}
 use Rattle.actor_plan.specs.Plans.{AsksOf}
 use Rattle.bt_meaning.specs.Interleavings.{IsInterleaving}

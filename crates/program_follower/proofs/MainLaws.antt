@@ -8,7 +8,7 @@ use Rattle.bt_core.specs.Interaction.{Interaction, Ended, Runs, Whole, and_then}
 use Rattle.bt_core.specs.Ports.{Fixed, Setting}
 use Rattle.bt_core.specs.Steps.{of_actor}
 use Rattle.bt_core.proofs.InteractionLaws.{Runs-and_then}
-use Rattle.rec_format.specs.declared.recording.Recording.{Recording}
+use Rattle.recordings.specs.declared.recording.Recording.{Recording}
 use Rattle.std.proofs.lemmas.Bool.Decides.{nat_tests}
 use Rattle.actor_plan.specs.declared.outcome.Outcome.{Outcome}
 use Rattle.actor_plan.specs.Plans.{Plan}

@@ -18,7 +18,7 @@ use bt_core::items::Items;
 use bt_core::map::MapDecl;
 use bt_core::memory::Memory;
 use bt_core::step::Step;
-use rec_format::recording::Recording;
+use recordings::recording::Recording;
 use std::alloc::Global;
 use step_follower::follow::{Reached, Trail};
 

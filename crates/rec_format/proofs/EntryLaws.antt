@@ -4,14 +4,15 @@ use Rattle.std.specs.Prelude.{nat_lt}
 use Rattle.std.specs.List.{AllByRecursion}
 use Rattle.std.proofs.lemmas.Bool.{ltb-false, le-ltb, or_parts}
 use Rattle.event_layout.specs.declared.format.Format.{Format}
-use Rattle.rec_format.specs.declared.error.RecordingError.{RecordingError}
-use Rattle.rec_format.specs.declared.error.RecordingError.TheVariants as fault
-use Rattle.rec_format.specs.Entries.{EntryKind, entries_bytes, time_of, AreInTime, time_after, unless_first, entry_fault, NextEntryFails, EntryFails, HasEntries}
-use Rattle.rec_format.specs.Recordings.{AreFormats}
-use Rattle.rec_format.proofs.Fields.{IsBytes}
+use Rattle.recordings.specs.declared.error.RecordingError.{RecordingError}
+use Rattle.recordings.specs.declared.error.RecordingError.TheVariants as fault
+use Rattle.recordings.specs.Entries.{EntryKind, entries_bytes, time_of, AreInTime, time_after, unless_first, entry_fault, NextEntryFails, EntryFails, HasEntries}
+use Rattle.recordings.specs.Recordings.{AreFormats}
+use Rattle.recordings.proofs.Fields.{IsBytes}
 use Rattle.rec_format.proofs.Lists.{suffix_fits, each_more, spelled_more, length_more}
 use Rattle.rec_format.proofs.Many.{then_read, whole_part, unless_fault, many, Chain, many_all, many_fails}
-use Rattle.rec_format.proofs.PartLaws.{Reads, cut_short, refused, nothing_read}
+use Rattle.recordings.proofs.PartLaws.{Reads}
+use Rattle.rec_format.proofs.HeadLaws.{cut_short, refused, nothing_read}
 
 -- What is proved of a kind of entry on its own: how its parts are read, and which entry a part makes under the formats. An entry
 -- is made again of its part, a fine one has no fault of its own, and a part without one makes a fine entry.

@@ -1,25 +1,24 @@
 -- What a payload that passes has, and which event a part makes.
-use Rattle.std.proofs.Common.{◌≡◌, ℕ, zero, suc, ◌≤◌, true, false, cond, Option, Some, None, List, [], ◌∷◌, ◌++◌, length, take, drop, refl, ap, sym, ◌∙◌, append_assoc, arith}
+use Rattle.std.proofs.Common.{◌≡◌, ℕ, zero, suc, ◌≤◌, true, false, cond, Option, Some, None, List, [], ◌∷◌, ◌++◌, length, take, refl, ap, sym, ◌∙◌, append_assoc, arith}
 use Rattle.std.specs.Prelude.{nat_lt, unwrap_or, ◌==◌}
 use Rattle.std.specs.Int.{w16, w32, w64, to_le_bytes, from_le_bytes}
 use Rattle.std.specs.List.{slice_get}
 use Rattle.std.specs.Option.{option_map}
 use Rattle.std.proofs.lemmas.Bool.{ltb-false, le-ltb, eq-eqb, or_parts}
-use Rattle.std.proofs.lemmas.List.{length-take, take-append-drop}
+use Rattle.std.proofs.lemmas.List.{length-take}
 use Rattle.std.proofs.lemmas.Option.{same_Some}
-use Rattle.byteorder.specs.Endian.{little_number}
-use Rattle.byteorder.specs.Numbers.{length-bytes_low_first, little_number-reads_back}
 use Rattle.event_layout.specs.declared.format.Format.{Format}
 use Rattle.event_layout.proofs.Lists.{all_at}
-use Rattle.rec_format.specs.declared.error.RecordingError.{RecordingError}
-use Rattle.rec_format.specs.declared.error.RecordingError.TheVariants as fault
-use Rattle.rec_format.specs.declared.recording.Event.{Event}
-use Rattle.rec_format.specs.Parts.{EventPart, IsEventPart, event_bytes}
-use Rattle.rec_format.specs.Checks.{is_same_event}
-use Rattle.rec_format.specs.Events.{part_of_event, IsEvent, format_with, length_fault, payload_fault}
-use Rattle.rec_format.specs.Recordings.{IsFormat, AreApart, AreFormats}
-use Rattle.rec_format.specs.Events.{event_of}
-use Rattle.rec_format.proofs.Fields.{IsBytes, IsBytes-take, wide16, from_le_bytes-front}
+use Rattle.recordings.specs.declared.error.RecordingError.{RecordingError}
+use Rattle.recordings.specs.declared.error.RecordingError.TheVariants as fault
+use Rattle.recordings.specs.declared.recording.Event.{Event}
+use Rattle.recordings.specs.Parts.{EventPart, IsEventPart, event_bytes}
+use Rattle.recordings.specs.Checks.{is_same_event}
+use Rattle.recordings.specs.Events.{part_of_event, IsEvent, format_with, length_fault, payload_fault}
+use Rattle.recordings.specs.Recordings.{AreApart, AreFormats}
+use Rattle.recordings.specs.Events.{event_of}
+use Rattle.recordings.proofs.Fields.{IsBytes, IsBytes-take, wide16, from_le_bytes-front}
+use Rattle.recordings.proofs.PayloadLaws.{event_id, two_bytes}
 use Rattle.rec_format.proofs.Lists.{suffix_fits, prefix_fits}
 use Rattle.rec_format.proofs.TableLaws.{later, found_there}
 
@@ -42,16 +41,6 @@ place_of formats payload = unwrap_or (option_map (λ found. found.0) (format_wit
 pub place_of-Some : (formats : List Format) (payload : List ℕ) (place : ℕ) → option_map (λ found. found.0) (format_with (from_le_bytes w16 payload) formats) ≡ Some place → place_of formats payload ≡ place
 unfolding place_of
 place_of-Some formats payload place h = ap (λ (o : Option ℕ). unwrap_or o 0) h
-
--- the ID that an event's payload begins with
-pub event_id : (formats : List Format) (e : Event) → AreFormats formats → (is : IsEvent formats e) → from_le_bytes w16 e.payload ≡ is.format.layout.id
-event_id formats e pass is =
-    let f : IsFormat is.format = all_at IsFormat formats e.format is.format pass.each is.placed in
-    let payload : e.payload ≡ to_le_bytes w16 is.format.layout.id ++ drop 2 e.payload = sym (take-append-drop 2 e.payload) ∙ ap (λ (l : List ℕ). l ++ drop 2 e.payload) is.begins in
-    wide16.read e.payload ∙ ap (λ (l : List ℕ). little_number 2 l) payload ∙ little_number-reads_back 2 is.format.layout.id (drop 2 e.payload) (omega (arith, f.layout.id.within))
-
-pub two_bytes : (formats : List Format) (e : Event) → (is : IsEvent formats e) → 2 ≤ length e.payload
-two_bytes formats e is = omega (arith, ap length is.begins, length-take 2 e.payload, length-bytes_low_first 0 2 is.format.layout.id)
 
 event_known : (formats : List Format) (e : Event) → AreFormats formats → (is : IsEvent formats e) → format_with (from_le_bytes w16 e.payload) formats ≡ Some (e.format, is.format)
 event_known formats e pass is = ap (λ (id : ℕ). format_with id formats) (event_id formats e pass is) ∙ known_format formats e.format is.format pass.apart is.placed

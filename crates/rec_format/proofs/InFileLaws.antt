@@ -5,15 +5,16 @@ use Rattle.std.specs.Int.{w64}
 use Rattle.std.proofs.lemmas.List.{drop_at, take-append-drop, length-append, length-drop}
 use Rattle.std.proofs.lemmas.Option.{same_Some}
 use Rattle.event_layout.specs.declared.format.Format.{Format}
-use Rattle.rec_format.specs.declared.entries.EntryPlace.{EntryPlace}
-use Rattle.rec_format.specs.declared.recording.Entry.{Entry}
-use Rattle.rec_format.specs.declared.recording.Entry.TheVariants as entry
-use Rattle.rec_format.specs.EntryParts.{EntryPart, Misses, Unknown, tag_fault}
-use Rattle.rec_format.specs.Fronts.{number_at, event_at, mark_at, plain_at, tagged_at, entry_at}
-use Rattle.rec_format.specs.InFile.{first_bytes, entry_place, event_taken, mark_taken, entry_in, entries_in}
+use Rattle.recordings.specs.declared.entries.EntryPlace.{EntryPlace}
+use Rattle.recordings.specs.declared.recording.Entry.{Entry}
+use Rattle.recordings.specs.declared.recording.Entry.TheVariants as entry
+use Rattle.recordings.specs.EntryParts.{EntryPart, Misses, Unknown, tag_fault}
+use Rattle.recordings.specs.Fronts.{number_at, event_at, mark_at}
+use Rattle.rec_format.specs.Heads.{plain_at, tagged_at, entry_at}
+use Rattle.recordings.specs.InFile.{first_bytes, entry_place, event_taken, mark_taken, entry_in, entries_in}
 use Rattle.rec_format.specs.Answers.{IsPartPlaced}
-use Rattle.rec_format.specs.Events.{event_of}
-use Rattle.rec_format.proofs.Fields.{bind_some}
+use Rattle.recordings.specs.Events.{event_of}
+use Rattle.recordings.proofs.Fields.{bind_some}
 use Rattle.rec_format.proofs.EventLaws.{place_of-Some}
 use Rattle.rec_format.proofs.KindLaws.{entry_made, mapped_some}
 

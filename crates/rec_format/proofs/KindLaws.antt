@@ -6,17 +6,18 @@ use Rattle.std.specs.Option.{option_map}
 use Rattle.std.proofs.lemmas.Option.{same_Some}
 use Rattle.std.proofs.lemmas.Bool.{eqb-true}
 use Rattle.event_layout.specs.declared.format.Format.{Format}
-use Rattle.rec_format.specs.declared.error.RecordingError.{RecordingError}
-use Rattle.rec_format.specs.declared.error.RecordingError.TheVariants as fault
-use Rattle.rec_format.specs.declared.recording.Entry.{Entry}
-use Rattle.rec_format.specs.declared.recording.Entry.TheVariants as entry
-use Rattle.rec_format.specs.Parts.{EventPart, event_bytes}
-use Rattle.rec_format.specs.Fronts.{number_at, event_at, mark_at, plain_at, tagged_at, entry_at}
-use Rattle.rec_format.specs.Recordings.{AreFormats}
-use Rattle.rec_format.specs.EntryParts.{EntryPart, Occurs, Misses, Unknown, part_of_entry, IsEntryPart, entry_bytes, tag_fault, part_fault, IsEntry, entries}
-use Rattle.rec_format.proofs.Fields.{IsBytes, bind_some, Takes, Takes-then, wide64, number_takes, number_again}
+use Rattle.recordings.specs.declared.error.RecordingError.{RecordingError}
+use Rattle.recordings.specs.declared.error.RecordingError.TheVariants as fault
+use Rattle.recordings.specs.declared.recording.Entry.{Entry}
+use Rattle.recordings.specs.declared.recording.Entry.TheVariants as entry
+use Rattle.recordings.specs.Parts.{EventPart, event_bytes}
+use Rattle.recordings.specs.Fronts.{number_at, event_at, mark_at}
+use Rattle.rec_format.specs.Heads.{plain_at, tagged_at, entry_at}
+use Rattle.recordings.specs.Recordings.{AreFormats}
+use Rattle.recordings.specs.EntryParts.{EntryPart, Occurs, Misses, Unknown, part_of_entry, IsEntryPart, entry_bytes, tag_fault, part_fault, IsEntry, entries}
+use Rattle.recordings.proofs.Fields.{IsBytes, bind_some, Takes, Takes-then, wide64, number_takes, number_again}
 use Rattle.rec_format.proofs.Lists.{suffix_fits}
-use Rattle.rec_format.proofs.PartLaws.{Reads, event_reads, bind_to}
+use Rattle.recordings.proofs.PartLaws.{Reads, event_reads, bind_to}
 use Rattle.rec_format.proofs.EntryLaws.{IsReadable}
 use Rattle.rec_format.proofs.EventLaws.{event_made, faultless, event_fine, event_again}
 

@@ -1,12 +1,9 @@
 pub mod EntryLaws
 pub mod EventLaws
-pub mod Fields
-pub mod ForOthers
+pub mod HeadLaws
 pub mod Lists
 pub mod LoopLaws
 pub mod Many
-pub mod PartLaws
-pub mod PlaceLaws
 pub mod TableLaws
 pub mod UniqueLaws
 pub mod WholeLaws

@@ -6,22 +6,22 @@ use Rattle.std.proofs.lemmas.Bool.{ltb-false, or_parts}
 use Rattle.std.proofs.lemmas.List.Sums.{sum_by-append}
 use Rattle.bt_core.specs.declared.limits.TheConstants.{EVENTS}
 use Rattle.event_layout.specs.declared.format.Format.{Format}
-use Rattle.rec_format.specs.declared.error.RecordingError.{RecordingError}
-use Rattle.rec_format.specs.declared.error.RecordingError.TheVariants as fault
-use Rattle.rec_format.specs.declared.error.CountOf.TheVariants as count
-use Rattle.rec_format.specs.declared.recording.CpuTrack.{CpuTrack}
-use Rattle.rec_format.specs.declared.recording.Entry.{Entry}
-use Rattle.rec_format.specs.Parts.{FormatPart, format_bytes, CpuPart, cpu_bytes}
-use Rattle.rec_format.specs.Fronts.{format_at, cpu_at}
-use Rattle.rec_format.specs.Checks.{is_same_event, format_of, IsFormatFault, cpu_fault}
-use Rattle.rec_format.specs.Entries.{entries_bytes, EntryFails, HasEntries}
-use Rattle.rec_format.specs.EntryParts.{entries}
-use Rattle.rec_format.specs.Recordings.{part_of_format, formats_bytes, track_bytes, tracks_bytes, total_entries, IsFormat, AreApart, IsTrack, AreNumbered}
+use Rattle.recordings.specs.declared.error.RecordingError.{RecordingError}
+use Rattle.recordings.specs.declared.error.RecordingError.TheVariants as fault
+use Rattle.recordings.specs.declared.error.CountOf.TheVariants as count
+use Rattle.recordings.specs.declared.recording.CpuTrack.{CpuTrack}
+use Rattle.recordings.specs.declared.recording.Entry.{Entry}
+use Rattle.recordings.specs.Parts.{FormatPart, format_bytes, CpuPart, cpu_bytes}
+use Rattle.rec_format.specs.Heads.{format_at, cpu_at}
+use Rattle.recordings.specs.Checks.{is_same_event, format_of, IsFormatFault, cpu_fault}
+use Rattle.recordings.specs.Entries.{entries_bytes, EntryFails, HasEntries}
+use Rattle.recordings.specs.EntryParts.{entries}
+use Rattle.recordings.specs.Recordings.{part_of_format, formats_bytes, track_bytes, tracks_bytes, total_entries, IsFormat, AreApart, IsTrack, AreNumbered}
 use Rattle.rec_format.specs.Faults.{FormatFails, HasFormats, least_after, HeadHasFault, TrackFails, CpuFails, HasTracks}
 use Rattle.rec_format.specs.Answers.{AddsFormat}
-use Rattle.rec_format.proofs.Fields.{IsBytes}
+use Rattle.recordings.proofs.Fields.{IsBytes}
 use Rattle.rec_format.proofs.Lists.{suffix_fits, each_more, spelled_more, length_more}
-use Rattle.rec_format.proofs.PartLaws.{format_reads, cpu_reads, cut_short, refused}
+use Rattle.rec_format.proofs.HeadLaws.{format_reads, cpu_reads, cut_short, refused}
 
 -- ---- formats
 

@@ -3,8 +3,8 @@ use Rattle.std.proofs.Common.{◌≡◌, ℕ, zero, suc, ◌+◌, ◌-◌, ◌<�
 use Rattle.std.specs.List.{flat_map}
 use Rattle.std.proofs.lemmas.List.{append-nil}
 use Rattle.std.proofs.lemmas.List.Concat.{flat_map-cons}
-use Rattle.rec_format.specs.declared.error.RecordingError.{RecordingError}
-use Rattle.rec_format.specs.declared.error.RecordingError.TheVariants as fault
+use Rattle.recordings.specs.declared.error.RecordingError.{RecordingError}
+use Rattle.recordings.specs.declared.error.RecordingError.TheVariants as fault
 
 abbrev pub then_read : {A B : Type 0} → Result A RecordingError → (A → Result B RecordingError) → Result B RecordingError
 then_read (Ok x) f = f x

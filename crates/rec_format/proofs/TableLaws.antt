@@ -16,9 +16,9 @@ use Rattle.tracefs_format.proofs.ForOthers.{bytes_eq-full_name, set_inserted}
 use Rattle.event_layout.specs.declared.format.Format.{Format}
 use Rattle.event_layout.specs.ByName.{full_name, is_same_tracepoint}
 use Rattle.event_layout.specs.Names.{has_no_colon}
-use Rattle.rec_format.specs.Checks.{is_system_byte, is_system, is_same_event}
-use Rattle.rec_format.specs.Events.{format_with}
-use Rattle.rec_format.specs.declared.check.TheConstants.{SYSTEM_BYTES}
+use Rattle.recordings.specs.Checks.{is_system_byte, is_system, is_same_event}
+use Rattle.recordings.specs.Events.{format_with}
+use Rattle.recordings.specs.declared.limits.TheConstants.{SYSTEM_BYTES}
 use Rattle.rec_format.specs.Answers.{IsTable}
 use Rattle.rec_format.proofs.Lists.{each_more}
 

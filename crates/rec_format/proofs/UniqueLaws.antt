@@ -11,26 +11,26 @@ use Rattle.event_layout.specs.declared.error.FormatError.{FormatError}
 use Rattle.event_layout.specs.declared.layout.Layout.{Layout}
 use Rattle.event_layout.specs.Layouts.{IsLayoutOf, layout_fault}
 use Rattle.tracefs_format.proofs.ForOthers.{text_layout_or_fault, text_no_fault, text_one_layout}
-use Rattle.rec_format.specs.declared.check.TheConstants.{SYSTEM_BYTES}
-use Rattle.rec_format.specs.declared.error.RecordingError.{RecordingError}
-use Rattle.rec_format.specs.declared.error.RecordingError.TheVariants as fault
-use Rattle.rec_format.specs.declared.error.CountOf.TheVariants as count
-use Rattle.rec_format.specs.declared.recording.Recording.{Recording}
-use Rattle.rec_format.specs.declared.recording.CpuTrack.{CpuTrack}
-use Rattle.rec_format.specs.declared.recording.Entry.{Entry}
-use Rattle.rec_format.specs.Parts.{HeaderPart, header_bytes, FormatPart, IsFormatPart, format_bytes, CpuPart, IsCpuPart, cpu_bytes}
-use Rattle.rec_format.specs.Fronts.{header_at, format_at, cpu_at}
-use Rattle.rec_format.specs.Stops.{IsCutShort, IsRefused}
-use Rattle.rec_format.specs.Checks.{version_of, has_marks, header_fault, is_system_byte, is_system, is_same_event, format_of, IsFormatFault, cpu_fault}
-use Rattle.rec_format.specs.Entries.{entries_bytes, HasEntries}
-use Rattle.rec_format.specs.EntryParts.{entries}
-use Rattle.rec_format.specs.Recordings.{header_of, part_of_format, head_of_track, formats_bytes, track_bytes, tracks_bytes, recording_bytes, total_entries, IsFormat, AreApart, AreFormats, IsTrack, AreNumbered, IsValidRecording}
+use Rattle.recordings.specs.declared.limits.TheConstants.{SYSTEM_BYTES}
+use Rattle.recordings.specs.declared.error.RecordingError.{RecordingError}
+use Rattle.recordings.specs.declared.error.RecordingError.TheVariants as fault
+use Rattle.recordings.specs.declared.error.CountOf.TheVariants as count
+use Rattle.recordings.specs.declared.recording.Recording.{Recording}
+use Rattle.recordings.specs.declared.recording.CpuTrack.{CpuTrack}
+use Rattle.recordings.specs.declared.recording.Entry.{Entry}
+use Rattle.recordings.specs.Parts.{HeaderPart, header_bytes, FormatPart, IsFormatPart, format_bytes, CpuPart, IsCpuPart, cpu_bytes}
+use Rattle.rec_format.specs.Heads.{header_at, format_at, cpu_at}
+use Rattle.recordings.specs.Stops.{IsCutShort, IsRefused}
+use Rattle.recordings.specs.Checks.{version_of, has_marks, header_fault, is_system_byte, is_system, is_same_event, format_of, IsFormatFault, cpu_fault}
+use Rattle.recordings.specs.Entries.{entries_bytes, HasEntries}
+use Rattle.recordings.specs.EntryParts.{entries}
+use Rattle.recordings.specs.Recordings.{header_of, part_of_format, head_of_track, formats_bytes, track_bytes, tracks_bytes, recording_bytes, total_entries, IsFormat, AreApart, AreFormats, IsTrack, AreNumbered, IsValidRecording}
 use Rattle.rec_format.specs.Faults.{HeaderFails, HasHeader, FormatFails, HasFormats, least_after, HeadHasFault, TrackFails, CpuFails, HasTracks, IsRecordingFault}
 use Rattle.rec_format.specs.Answers.{Answers, IsSpelled}
-use Rattle.rec_format.proofs.Fields.{IsBytes}
+use Rattle.recordings.proofs.Fields.{IsBytes}
 use Rattle.rec_format.proofs.Lists.{suffix_fits}
 use Rattle.rec_format.proofs.Many.{then_read, whole_part, unless_fault, many, Chain, many_all, many_fails}
-use Rattle.rec_format.proofs.PartLaws.{header_reads, format_reads, cpu_reads, nothing_read}
+use Rattle.rec_format.proofs.HeadLaws.{header_reads, format_reads, cpu_reads, nothing_read}
 use Rattle.rec_format.proofs.EntryLaws.{read_entry, entries_again, entries_fail}
 use Rattle.rec_format.proofs.KindLaws.{readable}
 use Rattle.rec_format.proofs.LoopLaws.{least_more, total_more, total_first}

@@ -1,12 +1,10 @@
 -- The version of a recording and its magic.
-use Rattle.std.proofs.Common.{◌≡◌, ◌⊎◌, ℕ, Bool, true, false, cond, not, ◌||◌, List, length, refl, ap, sym, ◌∙◌, inl, inr}
+use Rattle.std.proofs.Common.{◌≡◌, ℕ, Bool, true, false, cond, not, ◌||◌, List, length, refl, ap, sym, ◌∙◌, inl, inr}
 use Rattle.std.specs.Prelude.{codes, ◌==◌}
 use Rattle.std.specs.Str.{bytes_eq}
 use Rattle.std.proofs.lemmas.Slice.Eq.{bytes_eq-Decides}
-use Rattle.rec_format.specs.Checks.{magic_of, version_of}
-
-abbrev pub IsVersion : ℕ → Type 0
-IsVersion version = (version ≡ 1) ⊎ (version ≡ 2)
+use Rattle.recordings.specs.Checks.{magic_of, version_of}
+use Rattle.recordings.proofs.PlaceLaws.{IsVersion}
 
 abbrev is_unknown : List ℕ → Bool
 is_unknown magic = not (bytes_eq magic (codes "BTRACE01") || bytes_eq magic (codes "BTRACE02"))

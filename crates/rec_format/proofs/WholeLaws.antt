@@ -1,20 +1,21 @@
 -- The parts that were read make a recording.
-use Rattle.std.proofs.Common.{◌≡◌, ℕ, ◌≤◌, Bool, true, false, cond, not, ◌||◌, Option, Some, None, List, [], ◌∷◌, ◌≢◌, ◌++◌, length, refl, ap, sym, ◌∙◌, append_assoc, arith}
+use Rattle.std.proofs.Common.{◌≡◌, ℕ, ◌≤◌, Bool, true, false, cond, not, ◌||◌, Option, Some, None, List, ◌++◌, length, refl, ap, sym, ◌∙◌, append_assoc, arith}
 use Rattle.std.specs.Prelude.{nat_lt, codes, ◌==◌}
 use Rattle.std.specs.Str.{bytes_eq}
-use Rattle.std.proofs.lemmas.Bool.{ltb-false, eqb-false, eqb-true, or_parts}
+use Rattle.std.proofs.lemmas.Bool.{ltb-false, eqb-false, or_parts}
 use Rattle.bt_core.specs.declared.limits.TheConstants.{CPUS, FORMATS}
 use Rattle.event_layout.specs.declared.format.Format.{Format}
-use Rattle.rec_format.specs.declared.error.RecordingError.{RecordingError}
-use Rattle.rec_format.specs.declared.error.RecordingError.TheVariants as fault
-use Rattle.rec_format.specs.declared.error.CountOf.TheVariants as count
-use Rattle.rec_format.specs.declared.recording.Recording.{Recording}
-use Rattle.rec_format.specs.declared.recording.CpuTrack.{CpuTrack}
-use Rattle.rec_format.specs.Parts.{HeaderPart, header_bytes}
-use Rattle.rec_format.specs.Checks.{magic_of, version_of, has_marks, header_fault}
-use Rattle.rec_format.specs.Recordings.{header_of, formats_bytes, tracks_bytes, recording_bytes, IsValidRecording}
+use Rattle.recordings.specs.declared.error.RecordingError.{RecordingError}
+use Rattle.recordings.specs.declared.error.RecordingError.TheVariants as fault
+use Rattle.recordings.specs.declared.error.CountOf.TheVariants as count
+use Rattle.recordings.specs.declared.recording.Recording.{Recording}
+use Rattle.recordings.specs.declared.recording.CpuTrack.{CpuTrack}
+use Rattle.recordings.specs.Parts.{HeaderPart, header_bytes}
+use Rattle.recordings.specs.Checks.{magic_of, version_of, has_marks, header_fault}
+use Rattle.recordings.specs.Recordings.{header_of, formats_bytes, tracks_bytes, recording_bytes, IsValidRecording}
 use Rattle.rec_format.specs.Faults.{HasHeader, HasFormats, HasTracks}
-use Rattle.rec_format.proofs.Versions.{IsVersion, known_magic}
+use Rattle.rec_format.proofs.Versions.{known_magic}
+use Rattle.recordings.proofs.PlaceLaws.{IsVersion}
 
 record Bounds (h : HeaderPart) : Type 0 where
   magic : h.magic ≡ magic_of (version_of h.magic)
@@ -93,13 +94,3 @@ whole_recording bytes after_header after_formats rest h formats cpus header fs c
           ∙ ap (λ (g : HeaderPart). header_bytes g ++ (formats_bytes formats ++ (tracks_bytes marks cpus ++ rest))) (same_header h formats cpus b.magic fs.counted cs.counted)
           ∙ regroup (header_bytes (header_of r)) (formats_bytes formats) (tracks_bytes marks cpus) rest;
     }
-
--- ---- what is left
-
-pub nothing_left : (rest : List ℕ) → true ≡ (length rest == 0) → rest ≡ []
-nothing_left [] h = refl
-nothing_left (b ∷ rest) h = let none = eqb-true (length (b ∷ rest)) 0 (sym h) in absurd (omega arith)
-
-pub something_left : (rest : List ℕ) → false ≡ (length rest == 0) → rest ≢ []
-something_left [] h e = cc
-something_left (b ∷ rest) h e = cc

@@ -5,10 +5,10 @@ use Rattle.std.specs.List.{flat_map, AllByRecursion}
 use Rattle.std.proofs.lemmas.List.{take_more, flat_map_more}
 use Rattle.bt_core.specs.declared.limits.TheConstants.{EVENTS}
 use Rattle.event_layout.specs.declared.format.Format.{Format}
-use Rattle.rec_format.specs.declared.recording.CpuTrack.{CpuTrack}
-use Rattle.rec_format.specs.declared.recording.Entry.{Entry}
-use Rattle.rec_format.specs.EntryParts.{part_of_entry, IsEntryPart, IsEntry}
-use Rattle.rec_format.specs.Recordings.{total_entries, IsTrack}
+use Rattle.recordings.specs.declared.recording.CpuTrack.{CpuTrack}
+use Rattle.recordings.specs.declared.recording.Entry.{Entry}
+use Rattle.recordings.specs.EntryParts.{part_of_entry, IsEntryPart, IsEntry}
+use Rattle.recordings.specs.Recordings.{total_entries, IsTrack}
 use Rattle.rec_format.specs.Answers.{CanWriteTrack}
 use Rattle.rec_format.proofs.KindLaws.{entry_whole}
 use Rattle.rec_format.proofs.LoopLaws.{total_first}

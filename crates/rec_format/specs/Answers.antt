@@ -13,15 +13,15 @@ use Rattle.event_layout.specs.declared.layout.Layout.{Layout}
 use Rattle.event_layout.specs.ByName.{full_name}
 use Rattle.event_layout.specs.Layouts.{IsLayoutOf}
 use Rattle.event_layout.specs.Names.{has_no_colon}
-use Rattle.rec_format.specs.declared.error.RecordingError.{RecordingError}
-use Rattle.rec_format.specs.declared.error.RecordingError.TheVariants as fault
-use Rattle.rec_format.specs.declared.recording.CpuTrack.{CpuTrack}
-use Rattle.rec_format.specs.declared.recording.Recording.{Recording}
-use Rattle.rec_format.specs.Recordings.{recording_bytes, IsValidRecording}
-use Rattle.rec_format.specs.EntryParts.{EntryPart, Occurs, part_of_entry, IsEntryPart}
-use Rattle.rec_format.specs.Parts.{FormatPart}
-use Rattle.rec_format.specs.Checks.{is_system, is_same_event, format_of}
-use Rattle.rec_format.specs.Events.{format_with}
+use Rattle.recordings.specs.declared.error.RecordingError.{RecordingError}
+use Rattle.recordings.specs.declared.error.RecordingError.TheVariants as fault
+use Rattle.recordings.specs.declared.recording.CpuTrack.{CpuTrack}
+use Rattle.recordings.specs.declared.recording.Recording.{Recording}
+use Rattle.recordings.specs.Recordings.{recording_bytes, IsValidRecording}
+use Rattle.recordings.specs.EntryParts.{EntryPart, Occurs, part_of_entry, IsEntryPart}
+use Rattle.recordings.specs.Parts.{FormatPart}
+use Rattle.recordings.specs.Checks.{is_system, is_same_event, format_of}
+use Rattle.recordings.specs.Events.{format_with}
 
 -- a value of which the one holds, or a fault of which the other holds; and at any time want of memory
 abbrev pub Answers : {T : Type 0} → Result T RecordingError → (T → Type 0) → (RecordingError → Type 0) → Type 0

@@ -1,16 +1,16 @@
 -- The first fault of bytes that are no recording: the parts before it stand there and pass their checks.
 use Rattle.std.specs.Prelude.{◌≡◌, ◌≢◌, ◌⊎◌, ◌+◌, ◌<◌, ℕ, Bool, List, [], ◌∷◌, ◌++◌, length, Some, None}
 use Rattle.event_layout.specs.declared.format.Format.{Format}
-use Rattle.rec_format.specs.declared.error.RecordingError.{RecordingError}
-use Rattle.rec_format.specs.declared.error.RecordingError.TheVariants as fault
-use Rattle.rec_format.specs.declared.recording.Recording.{Recording}
-use Rattle.rec_format.specs.declared.recording.CpuTrack.{CpuTrack}
-use Rattle.rec_format.specs.Parts.{HeaderPart, IsHeaderPart, header_bytes, IsFormatPart, format_bytes, CpuPart, IsCpuPart, cpu_bytes}
-use Rattle.rec_format.specs.Stops.{IsCutShort, IsRefused}
-use Rattle.rec_format.specs.Checks.{version_of, has_marks, header_fault, IsFormatFault, cpu_fault}
-use Rattle.rec_format.specs.Entries.{EntryFails}
-use Rattle.rec_format.specs.EntryParts.{entries}
-use Rattle.rec_format.specs.Recordings.{formats_bytes, tracks_bytes, recording_bytes, total_entries, AreFormats, AreTracks, IsValidRecording}
+use Rattle.recordings.specs.declared.error.RecordingError.{RecordingError}
+use Rattle.recordings.specs.declared.error.RecordingError.TheVariants as fault
+use Rattle.recordings.specs.declared.recording.Recording.{Recording}
+use Rattle.recordings.specs.declared.recording.CpuTrack.{CpuTrack}
+use Rattle.recordings.specs.Parts.{HeaderPart, IsHeaderPart, header_bytes, IsFormatPart, format_bytes, CpuPart, IsCpuPart, cpu_bytes}
+use Rattle.recordings.specs.Stops.{IsCutShort, IsRefused}
+use Rattle.recordings.specs.Checks.{version_of, has_marks, header_fault, IsFormatFault, cpu_fault}
+use Rattle.recordings.specs.Entries.{EntryFails}
+use Rattle.recordings.specs.EntryParts.{entries}
+use Rattle.recordings.specs.Recordings.{formats_bytes, tracks_bytes, recording_bytes, total_entries, AreFormats, AreTracks, IsValidRecording}
 
 -- ---- the header
 

@@ -1,12 +1,3 @@
 pub mod Answers
-pub mod Checks
-pub mod Entries
-pub mod Events
 pub mod Faults
-pub mod Fronts
-pub mod Parts
-pub mod Stops
-pub mod Places
-pub mod Recordings
-pub mod EntryParts
-pub mod InFile
+pub mod Heads

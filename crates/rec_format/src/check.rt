@@ -1,22 +1,20 @@
 // The checks of the parts of a recording.
 ghost use Rattle.std.specs.Prelude.{◌≡◌};
 ghost use Rattle.std.specs.List.{list_all};
-ghost use Rattle.rec_format.specs.Fronts.{header_part, cpu_part};
-ghost use Rattle.rec_format.specs.Checks.{version_of, has_marks, header_fault, is_system_byte, is_system, cpu_fault};
+ghost use Rattle.rec_format.specs.Heads.{header_part, cpu_part};
+ghost use Rattle.recordings.specs.Checks.{version_of, has_marks, header_fault, is_system_byte, is_system, cpu_fault};
 
-use crate::error::{CountOf, RecordingError};
 use crate::part::{CpuHead, Header};
 use bt_core::bytes::is_word_byte;
 use bt_core::limits::{CPUS, EVENTS, FORMATS};
+use recordings::error::{CountOf, RecordingError};
+use recordings::limits::SYSTEM_BYTES;
 
 /// What a recording of version 1 begins with.
 pub(crate) const MAGIC: &[u8; 8] = b"BTRACE01";
 
 /// What a recording of version 2 begins with.
 pub(crate) const MAGIC_OF_MARKED: &[u8; 8] = b"BTRACE02";
-
-/// The most bytes that the name of a system may have.
-pub(crate) const SYSTEM_BYTES: usize = 64;
 
 /// The first check that a header fails.
 pub(crate) fn header_fault(header: &Header<'_>) -> Option<RecordingError>

@@ -1,13 +1,13 @@
 // The header and the formats of a recording.
 ghost use Rattle.std.specs.Prelude.{◌≡◌};
-ghost use Rattle.rec_format.specs.Fronts.{header_part};
+ghost use Rattle.rec_format.specs.Heads.{header_part};
 ghost use Rattle.rec_format.specs.Faults.{HeaderFails, HasHeader, FormatFails, HasFormats};
 ghost use Rattle.rec_format.specs.Answers.{Answers};
 
 use crate::check::header_fault;
-use crate::error::RecordingError;
 use crate::part::{Header, format_at, header_at};
 use crate::table::FormatTable;
+use recordings::error::RecordingError;
 use std::alloc::Global;
 
 /// The header, and what follows it.

@@ -2,15 +2,15 @@
 ghost use Rattle.std.specs.Prelude.{◌≡◌, ◌≤◌, ◌<◌, ℕ, Some, List, slice_get, slice_index};
 ghost use Rattle.event_layout.specs.declared.format.Format.{Format};
 ghost use Rattle.event_layout.specs.ByName.{IsNamed};
-ghost use Rattle.rec_format.specs.declared.error.RecordingError.{RecordingError};
-ghost use Rattle.rec_format.specs.declared.recording.CpuTrack.{CpuTrack};
-ghost use Rattle.rec_format.specs.declared.recording.Entry.{Entry};
-ghost use Rattle.rec_format.specs.declared.recording.Entry.TheVariants as Entry;
-ghost use Rattle.rec_format.specs.declared.recording.Event.{Event};
-ghost use Rattle.rec_format.specs.declared.recording.Recording.{Recording};
-ghost use Rattle.rec_format.specs.Recordings.{recording_bytes, IsValidRecording};
+ghost use Rattle.recordings.specs.declared.error.RecordingError.{RecordingError};
+ghost use Rattle.recordings.specs.declared.recording.CpuTrack.{CpuTrack};
+ghost use Rattle.recordings.specs.declared.recording.Entry.{Entry};
+ghost use Rattle.recordings.specs.declared.recording.Entry.TheVariants as Entry;
+ghost use Rattle.recordings.specs.declared.recording.Event.{Event};
+ghost use Rattle.recordings.specs.declared.recording.Recording.{Recording};
+ghost use Rattle.recordings.specs.Recordings.{recording_bytes, IsValidRecording};
 ghost use Rattle.rec_format.specs.Faults.{IsRecordingFault};
-ghost use Rattle.rec_format.specs.Places.{AreBytes, entry_at_place, entry_time, HasFormat};
+ghost use Rattle.recordings.specs.Places.{AreBytes, entry_at_place, entry_time, HasFormat};
 
 /// Two valid recordings have two spellings, so a spelling that is read gives its recording again.
 pub fn one_recording()

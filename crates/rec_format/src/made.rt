@@ -1,13 +1,13 @@
 // Entries that are made, and not read.
 ghost use Rattle.std.specs.Prelude.{◌≡◌, ◌<◌, ◌^◌, length, map, IfOk};
 ghost use Rattle.std.specs.List.{AllByRecursion};
-ghost use Rattle.rec_format.specs.declared.recording.Entry.TheVariants.{Event as EventEntry};
-ghost use Rattle.rec_format.specs.InFile.{event_seen};
+ghost use Rattle.recordings.specs.declared.recording.Entry.TheVariants.{Event as EventEntry};
+ghost use Rattle.recordings.specs.InFile.{event_seen};
 
-use crate::entries::{Entries, EntryPlace, EventRef};
-use crate::recording::Event;
 use crate::writing::push_event;
 use bt_core::memory::Memory;
+use recordings::entries::{Entries, EntryPlace, EventRef};
+use recordings::recording::Event;
 use std::alloc::Global;
 
 /// An event, as it is seen where it lies.

@@ -1,10 +1,12 @@
 // The parts of a recording at the front of bytes.
 ghost use Rattle.std.specs.Prelude.{◌≡◌};
 ghost use Rattle.std.specs.Option.{option_map};
-ghost use Rattle.rec_format.specs.Fronts.{bytes_at, header_part, header_at, format_part, format_at, cpu_part, cpu_at, event_part, event_at};
-ghost use Rattle.rec_format.specs.Fronts.{entry_part, mark_at, plain_at, tagged_at, entry_at};
+ghost use Rattle.recordings.specs.Fronts.{entry_part};
+ghost use Rattle.rec_format.specs.Heads.{header_part, header_at, format_part, format_at, cpu_part, cpu_at, plain_at, tagged_at, entry_at};
 
-use crate::number::{bytes_at, sized16_at, sized32_at, u32_at, u64_at};
+use crate::number::sized16_at;
+use recordings::number::{bytes_at, sized32_at, u32_at, u64_at};
+use recordings::part::{EntryBytes, event_at, mark_at};
 
 /// The header of a recording.
 #[derive(Clone, Copy)]
@@ -30,28 +32,8 @@ pub(crate) struct CpuHead {
     pub entries: u32,
 }
 
-/// An event, with its payload where it lies.
-#[derive(Clone, Copy)]
-pub(crate) struct EventBytes<'b> {
-    pub time: u64,
-    pub pid: u32,
-    pub tid: u32,
-    pub uid: u32,
-    pub gid: u32,
-    pub comm: [u8; 16],
-    pub payload: &'b [u8],
-}
-
-/// An entry: an event, the mark of lost ones, or a byte with which no entry begins.
-#[derive(Clone, Copy)]
-pub(crate) enum EntryBytes<'b> {
-    Event(EventBytes<'b>),
-    Lost { time: u64, count: u64 },
-    Unknown(u8),
-}
-
 /// A header, and what follows it.
-#[tactic(auto, unfolding(crate::specs::Fronts::header_at))]
+#[tactic(auto, unfolding(crate::specs::Heads::header_at))]
 pub(crate) fn header_at(bytes: &[u8]) -> Option<(Header<'_>, &[u8])>
     ensures { option_map (λ part. (header_part part.0, part.1.now)) result ≡ header_at bytes.now }
 {
@@ -71,7 +53,7 @@ pub(crate) fn header_at(bytes: &[u8]) -> Option<(Header<'_>, &[u8])>
 }
 
 /// A format, and what follows it.
-#[tactic(auto, unfolding(crate::specs::Fronts::format_at))]
+#[tactic(auto, unfolding(crate::specs::Heads::format_at))]
 pub(crate) fn format_at(bytes: &[u8]) -> Option<(FormatText<'_>, &[u8])>
     ensures { option_map (λ part. (format_part part.0, part.1.now)) result ≡ format_at bytes.now }
 {
@@ -81,59 +63,13 @@ pub(crate) fn format_at(bytes: &[u8]) -> Option<(FormatText<'_>, &[u8])>
 }
 
 /// The head of a CPU, and what follows it.
-#[tactic(auto, unfolding(crate::specs::Fronts::cpu_at))]
+#[tactic(auto, unfolding(crate::specs::Heads::cpu_at))]
 pub(crate) fn cpu_at(bytes: &[u8]) -> Option<(CpuHead, &[u8])>
     ensures { option_map (λ part. (cpu_part part.0, part.1.now)) result ≡ cpu_at bytes.now }
 {
     let (number, bytes) = u32_at(bytes)?;
     let (entries, rest) = u32_at(bytes)?;
     Some((CpuHead { number, entries }, rest))
-}
-
-/// Sixteen bytes, and what follows them.
-fn comm_at(bytes: &[u8]) -> Option<([u8; 16], &[u8])>
-    ensures { option_map (λ part. (part.0, part.1.now)) result ≡ bytes_at 16 bytes.now }
-{
-    if bytes.len() < 16 {
-        return None;
-    }
-    let mut comm = [0; 16];
-    comm.copy_from_slice(&bytes[..16]);
-    Some((comm, &bytes[16..]))
-}
-
-/// An event, and what follows it.
-#[tactic(auto, unfolding(crate::specs::Fronts::event_at))]
-pub(crate) fn event_at(bytes: &[u8]) -> Option<(EventBytes<'_>, &[u8])>
-    ensures { option_map (λ part. (event_part part.0, part.1.now)) result ≡ event_at bytes.now }
-{
-    let (time, bytes) = u64_at(bytes)?;
-    let (pid, bytes) = u32_at(bytes)?;
-    let (tid, bytes) = u32_at(bytes)?;
-    let (uid, bytes) = u32_at(bytes)?;
-    let (gid, bytes) = u32_at(bytes)?;
-    let (comm, bytes) = comm_at(bytes)?;
-    let (payload, rest) = sized32_at(bytes)?;
-    let event = EventBytes {
-        time,
-        pid,
-        tid,
-        uid,
-        gid,
-        comm,
-        payload,
-    };
-    Some((event, rest))
-}
-
-/// A mark, and what follows it.
-#[tactic(auto, unfolding(crate::specs::Fronts::mark_at))]
-pub(crate) fn mark_at(bytes: &[u8]) -> Option<(EntryBytes<'_>, &[u8])>
-    ensures { option_map (λ part. (entry_part part.0, part.1.now)) result ≡ mark_at bytes.now }
-{
-    let (time, bytes) = u64_at(bytes)?;
-    let (count, rest) = u64_at(bytes)?;
-    Some((EntryBytes::Lost { time, count }, rest))
 }
 
 /// An event as an entry, and what follows it.

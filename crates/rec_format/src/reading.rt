@@ -1,18 +1,18 @@
 // Reading a recording.
 ghost use Rattle.std.specs.Prelude.{◌≡◌, ◌≢◌, ◌⊎◌, IfOk, IfErr, Ok, Err};
 ghost use Rattle.std.specs.Arc.{arc_value};
-ghost use Rattle.rec_format.specs.declared.recording.Recording.{Recording};
-ghost use Rattle.rec_format.specs.declared.error.RecordingError.{RecordingError};
-ghost use Rattle.rec_format.specs.Recordings.{recording_bytes, IsValidRecording};
+ghost use Rattle.recordings.specs.declared.recording.Recording.{Recording};
+ghost use Rattle.recordings.specs.declared.error.RecordingError.{RecordingError};
+ghost use Rattle.recordings.specs.Recordings.{recording_bytes, IsValidRecording};
 ghost use Rattle.rec_format.specs.Faults.{IsRecordingFault};
 ghost use Rattle.rec_format.specs.Answers.{Answers, IsSpelled};
-ghost use Rattle.rec_format.specs.Places.{AreBytes};
+ghost use Rattle.recordings.specs.Places.{AreBytes};
 
 use crate::check::{has_marks, version_of};
-use crate::error::RecordingError;
 use crate::formats::{read_formats, read_header};
-use crate::recording::Recording;
 use crate::tracks::{Setting, read_tracks};
+use recordings::error::RecordingError;
+use recordings::recording::Recording;
 use std::alloc::Global;
 use std::sync::Arc;
 

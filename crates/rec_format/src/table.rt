@@ -3,20 +3,21 @@ ghost use Rattle.std.specs.Prelude.{◌≡◌, ◌<◌, ◌^◌, ◌∷◌, ◌+
 ghost use Rattle.std.specs.List.{list_any};
 ghost use Rattle.std.specs.Option.{option_map};
 ghost use Rattle.event_layout.specs.declared.format.Format.{Format as Tracepoint};
-ghost use Rattle.rec_format.specs.declared.error.RecordingError.TheVariants.{SameEvent};
-ghost use Rattle.rec_format.specs.Checks.{IsFormatFault, is_system, is_same_event, format_of};
-ghost use Rattle.rec_format.specs.Events.{format_with};
-ghost use Rattle.rec_format.specs.Fronts.{format_part};
+ghost use Rattle.event_layout.specs.Names.{tracepoint_name};
+ghost use Rattle.recordings.specs.declared.error.RecordingError.TheVariants.{SameEvent};
+ghost use Rattle.recordings.specs.Checks.{IsFormatFault, is_system, is_same_event, format_of};
+ghost use Rattle.recordings.specs.Events.{format_with};
+ghost use Rattle.rec_format.specs.Heads.{format_part};
 ghost use Rattle.rec_format.specs.Answers.{Answers, AddsFormat, IsTable, IsFormatOf};
 
 use crate::check::is_system;
-use crate::error::RecordingError;
 use crate::part::FormatText;
 use bt_core::items::Items;
 use bt_core::memory::Memory;
 use event_layout::error::FormatError;
-use event_layout::format::{Format, tracepoint_name};
+use event_layout::format::Format;
 use event_layout::layout::Layout;
+use recordings::error::RecordingError;
 use std::alloc::Global;
 use std::collections::{BTreeMap, BTreeSet};
 use std::marker::Model;
@@ -127,6 +128,17 @@ impl Tables {
         self.names.insert(name)?;
         Ok(())
     }
+}
+
+/// How the tracepoint of a system and a name is called: both with a colon between them, as
+/// `sched:sched_switch`.
+fn tracepoint_name(alloc: Global, system: &[u8], name: &[u8]) -> Result<Items<u8>, Memory>
+    ensures { IfOk result (λ joined. joined ≡ tracepoint_name system.now name.now) }
+{
+    let mut joined = Vec::from_slice(alloc, system)?;
+    joined.push(b':')?;
+    joined.extend_from_slice(name)?;
+    Ok(Items::of(joined))
 }
 
 /// The format of this part behind so many others, or the first check that it fails by itself.

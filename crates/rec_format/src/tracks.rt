@@ -1,24 +1,25 @@
 // The CPUs of a recording and their entries.
-ghost use Rattle.std.specs.Prelude.{◌≡◌, ◌-◌, drop, length, IfOk};
+ghost use Rattle.std.specs.Prelude.{◌≡◌, ◌+◌, ◌-◌, ◌^◌, ◌≤◌, drop, length, IfOk, OnErr};
 ghost use Rattle.std.specs.Arc.{arc_value};
 ghost use Rattle.std.specs.Result.{result_err};
-ghost use Rattle.rec_format.specs.Fronts.{event_part, entry_part};
-ghost use Rattle.rec_format.specs.Entries.{entry_fault, EntryFails, HasEntries};
-ghost use Rattle.rec_format.specs.EntryParts.{entries, part_time};
-ghost use Rattle.rec_format.specs.Events.{payload_fault};
+ghost use Rattle.recordings.specs.Fronts.{event_part, entry_part};
+ghost use Rattle.recordings.specs.Entries.{entry_fault, EntryFails, HasEntries};
+ghost use Rattle.recordings.specs.EntryParts.{entries, part_time};
+ghost use Rattle.recordings.specs.Events.{payload_fault};
 ghost use Rattle.rec_format.specs.Faults.{CpuFails, HasTracks};
-ghost use Rattle.rec_format.specs.InFile.{entries_in};
+ghost use Rattle.recordings.specs.InFile.{first_bytes, entry_place, entries_in};
 ghost use Rattle.rec_format.specs.Answers.{Answers, IsPlaced, IsPartPlaced};
 
 use crate::check::cpu_fault;
-use crate::entries::{Entries, EntryPlace, place_of};
-use crate::error::RecordingError;
 use crate::number::u16_at;
-use crate::part::{EntryBytes, EventBytes, cpu_at, entry_at};
-use crate::recording::CpuTrack;
+use crate::part::{cpu_at, entry_at};
 use crate::table::FormatTable;
 use bt_core::items::Items;
-use bt_core::memory::Memory;
+use bt_core::memory::{Memory, fitting};
+use recordings::entries::{Entries, EntryPlace};
+use recordings::error::RecordingError;
+use recordings::part::{EntryBytes, EventBytes};
+use recordings::recording::CpuTrack;
 use std::alloc::Global;
 use std::sync::Arc;
 
@@ -63,6 +64,24 @@ fn time_of(entry: &EntryBytes<'_>) -> u64
         EntryBytes::Event(event) => event.time,
         EntryBytes::Lost { time, .. } => *time,
         EntryBytes::Unknown(_) => 0,
+    }
+}
+
+/// Where an entry lies that begins at a byte, of a format at this place if it is an event. A byte before it tells its kind, where
+/// there may be marks. [`Memory`] where the byte's number does not fit.
+fn place_of(
+    marks: bool,
+    start: usize,
+    entry: &EntryBytes<'_>,
+    format: u32,
+) -> Result<EntryPlace, Memory>
+    ensures place { IfOk result (λ place. place ≡ entry_place (start + first_bytes marks) (entry_part entry.now) format) }
+    ensures beyond { OnErr result (2 ^ 32 ≤ start + first_bytes marks) }
+{
+    let at = u32::try_from(fitting(start.checked_add(usize::from(marks)))?)?;
+    match entry {
+        EntryBytes::Event(_) => Ok(EntryPlace::Event { at, format }),
+        _ => Ok(EntryPlace::Lost { at }),
     }
 }
 

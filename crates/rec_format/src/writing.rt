@@ -2,21 +2,21 @@
 ghost use Rattle.std.specs.Prelude.{◌≡◌, ◌<◌, ◌^◌, ◌∷◌, ◌++◌, length, IfOk, OnOk};
 ghost use Rattle.std.specs.Int.{w16, w32, w64, to_le_bytes};
 ghost use Rattle.std.specs.List.{AllByRecursion};
-ghost use Rattle.rec_format.specs.Parts.{sized_bytes, header_bytes, format_bytes, IsEventPart, event_bytes};
-ghost use Rattle.rec_format.specs.Checks.{magic_of};
-ghost use Rattle.rec_format.specs.Entries.{entries_bytes};
-ghost use Rattle.rec_format.specs.EntryParts.{Occurs, part_of_entry, IsEntryPart, entry_bytes, entries as entry_kind};
-ghost use Rattle.rec_format.specs.Events.{part_of_event};
-ghost use Rattle.rec_format.specs.InFile.{event_seen, entry_seen};
-ghost use Rattle.rec_format.specs.Recordings.{header_of, part_of_format, formats_bytes, track_bytes, tracks_bytes, recording_bytes, IsValidRecording};
+ghost use Rattle.recordings.specs.Parts.{sized_bytes, header_bytes, format_bytes, IsEventPart, event_bytes};
+ghost use Rattle.recordings.specs.Checks.{magic_of};
+ghost use Rattle.recordings.specs.Entries.{entries_bytes};
+ghost use Rattle.recordings.specs.EntryParts.{Occurs, part_of_entry, IsEntryPart, entry_bytes, entries as entry_kind};
+ghost use Rattle.recordings.specs.Events.{part_of_event};
+ghost use Rattle.recordings.specs.InFile.{event_seen, entry_seen};
+ghost use Rattle.recordings.specs.Recordings.{header_of, part_of_format, formats_bytes, track_bytes, tracks_bytes, recording_bytes, IsValidRecording};
 ghost use Rattle.rec_format.specs.Answers.{CanWriteFormat, CanWriteTrack};
 
 use crate::check::{MAGIC, MAGIC_OF_MARKED, has_marks};
-use crate::entries::{Entries, EntryRef, EventRef};
-use crate::recording::{CpuTrack, Recording};
 use bt_core::memory::Memory;
 use byteorder::{ByteOrder, LittleEndian};
 use event_layout::format::Format;
+use recordings::entries::{Entries, EntryRef, EventRef};
+use recordings::recording::{CpuTrack, Recording};
 use std::alloc::{AllocError, Global};
 
 /// The one spelling of a valid recording. Reading it gives the recording again.

@@ -3,7 +3,7 @@ use Rattle.std.proofs.Common.{◌≡◌, ◌≢◌, ℕ, suc, ◌+◌, ◌*◌, 
 use Rattle.std.specs.Prelude.{cond}
 use Rattle.std.proofs.lemmas.Bool.{eq-eqb, ne_eqb}
 use Rattle.std.proofs.lemmas.List.{append-nil}
-use Rattle.rec_format.specs.declared.recording.Event.{Event}
+use Rattle.recordings.specs.declared.recording.Event.{Event}
 use Rattle.rec_gen.specs.Draws.{next_state, state_after}
 use Rattle.rec_gen.specs.Made.{name_of, payload_of, made_event, events_on}
 

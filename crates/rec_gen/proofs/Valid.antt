@@ -2,7 +2,7 @@
 use Rattle.std.proofs.Common.{◌≡◌, ℕ, zero, suc, ◌+◌, ◌*◌, ◌<◌, ◌≤◌, ◌^◌, ◌%◌, Bool, true, false, List, [], ◌∷◌, ◌++◌, length, map, refl, ap, sym, subst, ◌∙◌, arith, inl}
 use Rattle.std.specs.Prelude.{◌==◌, cond, codes}
 use Rattle.std.specs.Int.{w16, to_le_bytes}
-use Rattle.rec_format.specs.Checks.{is_system}
+use Rattle.recordings.specs.Checks.{is_system}
 use Rattle.std.specs.List.{AllByRecursion}
 use Rattle.std.proofs.lemmas.List.{length-append, length-map}
 use Rattle.std.proofs.lemmas.Nat.{mod_below}
@@ -10,14 +10,14 @@ use Rattle.bt_core.specs.declared.limits.TheConstants.{EVENTS}
 use Rattle.event_layout.specs.declared.format.Format.{Format}
 use Rattle.event_layout.specs.Layouts.{IsLayoutOf}
 use Rattle.tracefs_format.proofs.ForOthers.{text_one_layout}
-use Rattle.rec_format.specs.declared.recording.Recording.{Recording}
-use Rattle.rec_format.specs.declared.recording.Entry.TheVariants as entry
-use Rattle.rec_format.specs.declared.recording.Event.{Event}
-use Rattle.rec_format.specs.Entries.{AreInTime}
-use Rattle.rec_format.specs.EntryParts.{entries, IsEntry}
-use Rattle.rec_format.specs.Events.{IsEvent, part_of_event}
-use Rattle.rec_format.specs.Parts.{IsEventPart}
-use Rattle.rec_format.specs.Recordings.{IsValidRecording, IsFormat, IsTrack}
+use Rattle.recordings.specs.declared.recording.Recording.{Recording}
+use Rattle.recordings.specs.declared.recording.Entry.TheVariants as entry
+use Rattle.recordings.specs.declared.recording.Event.{Event}
+use Rattle.recordings.specs.Entries.{AreInTime}
+use Rattle.recordings.specs.EntryParts.{entries, IsEntry}
+use Rattle.recordings.specs.Events.{IsEvent, part_of_event}
+use Rattle.recordings.specs.Parts.{IsEventPart}
+use Rattle.recordings.specs.Recordings.{IsValidRecording, IsFormat, IsTrack}
 use Rattle.rec_gen.specs.declared.format.TheConstants.{TEXT}
 use Rattle.rec_gen.specs.Draws.{drawn_at}
 use Rattle.rec_gen.specs.Made.{name_of, made_event, events_on, made_track, made_tracks, IsMade}

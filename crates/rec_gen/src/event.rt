@@ -6,7 +6,7 @@ use crate::draws::Drawn;
 use bt_core::items::Items;
 use bt_core::memory::Memory;
 use byteorder::{ByteOrder, LittleEndian};
-use rec_format::recording::Event;
+use recordings::recording::Event;
 use std::alloc::Global;
 
 /// The name of a thread, with zero bytes behind it.

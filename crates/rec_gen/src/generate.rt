@@ -1,7 +1,7 @@
 // Made recordings.
 ghost use Rattle.std.specs.Prelude.{◌≡◌, ◌<◌, ◌≤◌, ◌+◌, ◌*◌, ◌^◌, IfOk};
 ghost use Rattle.bt_core.specs.declared.limits.TheConstants.{EVENTS};
-ghost use Rattle.rec_format.specs.Recordings.{IsValidRecording};
+ghost use Rattle.recordings.specs.Recordings.{IsValidRecording};
 ghost use Rattle.rec_gen.specs.Made.{made_track, IsMade};
 
 use crate::draws::Draws;
@@ -10,7 +10,7 @@ use crate::format::made_format;
 use bt_core::items::Items;
 use bt_core::memory::Memory;
 use rec_format::made::entries_of;
-use rec_format::recording::{CpuTrack, Recording};
+use recordings::recording::{CpuTrack, Recording};
 use std::alloc::Global;
 
 /// How many CPUs a made recording has.

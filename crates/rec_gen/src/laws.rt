@@ -1,8 +1,8 @@
 // Laws of made recordings.
 ghost use Rattle.std.specs.Prelude.{◌≡◌, ◌<◌, ◌≤◌, ◌^◌, ℕ};
 ghost use Rattle.bt_core.specs.declared.limits.TheConstants.{EVENTS};
-ghost use Rattle.rec_format.specs.declared.recording.Recording.{Recording};
-ghost use Rattle.rec_format.specs.Recordings.{IsValidRecording};
+ghost use Rattle.recordings.specs.declared.recording.Recording.{Recording};
+ghost use Rattle.recordings.specs.Recordings.{IsValidRecording};
 ghost use Rattle.rec_gen.specs.Made.{IsMade};
 
 /// A seed and a count make one recording, and it is valid.

@@ -1,11 +1,11 @@
 // Recordings byte by byte: what is read and written, and each check with its exact value.
 use crate::texts::SYS_ENTER;
 use event_layout::error::FormatError;
-use rec_format::entries::EntryRef;
-use rec_format::error::{CountOf, RecordingError};
 use rec_format::reading::read_recording;
-use rec_format::recording::{CpuTrack, Recording};
 use rec_format::writing::write_recording;
+use recordings::entries::EntryRef;
+use recordings::error::{CountOf, RecordingError};
+use recordings::recording::{CpuTrack, Recording};
 use std::alloc::Global;
 use std::test::Fail;
 
@@ -186,7 +186,10 @@ fn is_spelled(recording: &Recording, row: &Spelled) -> bool {
 fn is_cut_anywhere(alloc: Global, bytes: &[u8]) -> Result<bool, Fail> {
     for len in 0..bytes.len() {
         let part = Vec::from_slice(alloc, &bytes[..len])?;
-        if read_recording(alloc, part).err() != Some(RecordingError::Truncated(len as u64)) {
+        let Err(RecordingError::Truncated(offset)) = read_recording(alloc, part) else {
+            return Ok(false);
+        };
+        if offset != len as u64 {
             return Ok(false);
         }
     }

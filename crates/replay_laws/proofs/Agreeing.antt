@@ -10,9 +10,9 @@ use Rattle.bt_core.specs.declared.step.Op.{Op}
 use Rattle.bt_core.specs.declared.step.Reply.{Reply}
 use Rattle.bt_core.specs.declared.step.Step.{Step}
 use Rattle.bt_core.specs.Ports.{CanStep, IsReplyOf}
-use Rattle.rec_format.specs.declared.recording.CpuTrack.{CpuTrack}
-use Rattle.rec_format.specs.declared.recording.Recording.{Recording}
-use Rattle.rec_format.specs.Recordings.{IsValidRecording}
+use Rattle.recordings.specs.declared.recording.CpuTrack.{CpuTrack}
+use Rattle.recordings.specs.declared.recording.Recording.{Recording}
+use Rattle.recordings.specs.Recordings.{IsValidRecording}
 use Rattle.typed_tree.specs.declared.script.Typed.{Typed}
 use Rattle.agg_core.proofs.KindLaws.{answer-kind}
 use Rattle.actor_plan.specs.declared.agenda.AgendaItem.{AgendaItem}

@@ -13,7 +13,7 @@ use Rattle.bt_core.specs.declared.step.Op.{Op}
 use Rattle.bt_core.specs.Interaction.{Interaction, Ended, Asks, and_then}
 use Rattle.bt_core.specs.Kinds.{IsFineDecl}
 use Rattle.bt_core.specs.Ports.{CanStep}
-use Rattle.rec_format.specs.declared.recording.Recording.{Recording}
+use Rattle.recordings.specs.declared.recording.Recording.{Recording}
 use Rattle.typed_tree.specs.declared.body.TypedBody.{TypedBody}
 use Rattle.typed_tree.specs.declared.script.Typed.{Typed}
 use Rattle.actor_plan.specs.Plans.{AsksOf, BodiesAsk}

@@ -2,8 +2,8 @@
 ghost use Rattle.std.specs.Prelude.{◌≡◌, List};
 ghost use Rattle.bt_ast.specs.declared.attached.Attached.{Attached};
 ghost use Rattle.bt_core.specs.declared.step.Step.{Step};
-ghost use Rattle.rec_format.specs.declared.recording.Recording.{Recording};
-ghost use Rattle.rec_format.specs.Recordings.{IsValidRecording};
+ghost use Rattle.recordings.specs.declared.recording.Recording.{Recording};
+ghost use Rattle.recordings.specs.Recordings.{IsValidRecording};
 ghost use Rattle.typed_tree.specs.declared.script.Typed.{Typed};
 ghost use Rattle.actor_plan.specs.Agendas.{AreInTurn};
 ghost use Rattle.bt_meaning.specs.Interleavings.{IsInterleaving, IsReplayed};

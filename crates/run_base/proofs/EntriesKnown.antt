@@ -12,20 +12,20 @@ use Rattle.std.specs.contracts.alloc.Global as heap
 use Rattle.std.specs.contracts.impls.GlobalAllocator.TheImpl.{ghosts}
 use Rattle.std.specs.contracts.sync.Arc as arc
 use Rattle.std.specs.contracts.vec.Vec as bytes
-use Rattle.rec_format.specs.contracts.entries.Entries as C
-use Rattle.rec_format.specs.contracts.entries.Entries.TheInside as I
-use Rattle.rec_format.specs.declared.entries.Entries as D
-use Rattle.rec_format.specs.declared.entries.Entries.TheView.{view, invariant}
-use Rattle.rec_format.specs.declared.recording.Entry.{Entry}
-use Rattle.rec_format.specs.declared.entries.EntryPlace.{EntryPlace}
-use Rattle.rec_format.specs.declared.entries.EntryPlace.TheVariants as place
-use Rattle.rec_format.specs.EntryParts.{EntryPart, Occurs, Misses, Unknown}
-use Rattle.rec_format.specs.Fronts.{event_at}
-use Rattle.rec_format.specs.InFile.{event_taken, mark_of, mark_taken, entry_in, entries_in}
-use Rattle.rec_format.specs.Parts.{EventPart, event_bytes, sized_bytes}
-use Rattle.rec_format.specs.Places.{IsHeldEntry}
-use Rattle.rec_format.proofs.Fields.{IsBytes, IsBytes-drop, IsBytes-take}
-use Rattle.rec_format.proofs.PartLaws.{event_reads}
+use Rattle.recordings.specs.contracts.entries.Entries as C
+use Rattle.recordings.specs.contracts.entries.Entries.TheInside as I
+use Rattle.recordings.specs.declared.entries.Entries as D
+use Rattle.recordings.specs.declared.entries.Entries.TheView.{view, invariant}
+use Rattle.recordings.specs.declared.recording.Entry.{Entry}
+use Rattle.recordings.specs.declared.entries.EntryPlace.{EntryPlace}
+use Rattle.recordings.specs.declared.entries.EntryPlace.TheVariants as place
+use Rattle.recordings.specs.EntryParts.{EntryPart, Occurs, Misses, Unknown}
+use Rattle.recordings.specs.Fronts.{event_at}
+use Rattle.recordings.specs.InFile.{event_taken, mark_of, mark_taken, entry_in, entries_in}
+use Rattle.recordings.specs.Parts.{EventPart, event_bytes, sized_bytes}
+use Rattle.recordings.specs.Places.{IsHeldEntry}
+use Rattle.recordings.proofs.Fields.{IsBytes, IsBytes-drop, IsBytes-take}
+use Rattle.recordings.proofs.PartLaws.{event_reads}
 use Rattle.run_base.proofs.ArcKnown.{arc_known}
 
 abbrev file_known : Known (arc.the_row (bytes.the_row (UInt w8) heap.the_row ghosts) heap.the_row ghosts)

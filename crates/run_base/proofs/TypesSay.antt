@@ -5,9 +5,9 @@ use Rattle.std.proofs.lemmas.List.Elements.{recursion_from_All}
 use mir.Syntax.{w32, w64}
 use denote.Known.{All, Known, uint_known, declared_known}
 use Rattle.run_base.proofs.EntriesKnown.{entries_known, entries_held}
-use Rattle.rec_format.specs.contracts.recording.CpuTrack as track
+use Rattle.recordings.specs.contracts.recording.CpuTrack as track
 use Rattle.bt_ast.specs.contracts.attached.Tick as tick
-use Rattle.rec_format.specs.declared.recording.CpuTrack.{CpuTrack}
+use Rattle.recordings.specs.declared.recording.CpuTrack.{CpuTrack}
 use Rattle.bt_ast.specs.declared.attached.Tick.{Tick}
 use Rattle.run_base.specs.Held.{IsHeldTrack, IsHeldTick}
 

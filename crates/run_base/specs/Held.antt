@@ -2,8 +2,8 @@
 use Rattle.std.specs.Prelude.{◌<◌, ◌^◌}
 use Rattle.std.specs.List.{AllByRecursion}
 use Rattle.bt_ast.specs.declared.attached.Tick.{Tick}
-use Rattle.rec_format.specs.declared.recording.CpuTrack.{CpuTrack}
-use Rattle.rec_format.specs.Places.{IsHeldEntry}
+use Rattle.recordings.specs.declared.recording.CpuTrack.{CpuTrack}
+use Rattle.recordings.specs.Places.{IsHeldEntry}
 
 abbrev pub IsHeldTrack : CpuTrack → Type 0
 IsHeldTrack track = AllByRecursion IsHeldEntry track.entries

@@ -6,7 +6,7 @@ ghost use Rattle.run_base.specs.Held.{IsHeldTick, IsHeldTrack};
 use crate::job::Job;
 use bt_ast::attached::Tick;
 use bt_core::items::Items;
-use rec_format::recording::CpuTrack;
+use recordings::recording::CpuTrack;
 
 /// What all entries have of bytes are bytes, as their types say. Nothing is read.
 fn tracks_are_held(tracks: &Items<CpuTrack>)

@@ -2,7 +2,7 @@
 use bpf_encode::program::Program;
 use bt_ast::attached::Attached;
 use bt_core::items::Items;
-use rec_format::recording::Recording;
+use recordings::recording::Recording;
 use typed_tree::script::Typed;
 use weave::woven::Woven;
 

@@ -5,7 +5,7 @@ use Rattle.bt_ast.specs.declared.attached.Attached.{Attached}
 use Rattle.bt_core.specs.declared.map.MapDecl.{MapDecl}
 use Rattle.bt_core.specs.declared.step.Step.{Step}
 use Rattle.bt_core.specs.Ports.{IsReplyOf}
-use Rattle.rec_format.specs.declared.recording.Recording.{Recording}
+use Rattle.recordings.specs.declared.recording.Recording.{Recording}
 use Rattle.actor_plan.specs.Plans.{Plan}
 use Rattle.bt_meaning.specs.Replays.{Replay}
 use Rattle.actor_plan.specs.Ready.{CanReplay, IsPlanFor}

@@ -20,7 +20,7 @@ use bt_core::map::MapDecl;
 use bt_core::memory::Memory;
 use bt_core::step::Step;
 use entry_replay::replay::replay;
-use rec_format::recording::Recording;
+use recordings::recording::Recording;
 use std::alloc::Global;
 use std::snapshot::Snapshot;
 use step_follower::follow::Reached;

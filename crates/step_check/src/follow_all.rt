@@ -16,7 +16,7 @@ use bt_core::memory::Memory;
 use bt_core::step::Step;
 use program_follower::actors::follow_cpu;
 use program_follower::main_actor::{MainTrail, follow_main};
-use rec_format::recording::Recording;
+use recordings::recording::Recording;
 use std::alloc::Global;
 use step_follower::follow::{Reached, Trail};
 use weave_check::stops::reached_by_all;

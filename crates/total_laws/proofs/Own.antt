@@ -13,10 +13,10 @@ use Rattle.bt_core.specs.declared.step.ObjectId.TheVariants.{Clock}
 use Rattle.bt_core.specs.declared.step.Op.TheVariants.{Cross}
 use Rattle.bt_core.specs.declared.step.Step.{Step}
 use Rattle.bt_core.specs.Interaction.{Interaction, Ended, Asks, Runs, and_then}
-use Rattle.rec_format.specs.declared.recording.CpuTrack.{CpuTrack}
-use Rattle.rec_format.specs.declared.recording.Entry.{Entry}
-use Rattle.rec_format.specs.declared.recording.Entry.TheVariants as entry
-use Rattle.rec_format.specs.declared.recording.Recording.{Recording}
+use Rattle.recordings.specs.declared.recording.CpuTrack.{CpuTrack}
+use Rattle.recordings.specs.declared.recording.Entry.{Entry}
+use Rattle.recordings.specs.declared.recording.Entry.TheVariants as entry
+use Rattle.recordings.specs.declared.recording.Recording.{Recording}
 use Rattle.typed_tree.specs.declared.script.Typed.{Typed}
 use Rattle.actor_plan.specs.declared.agenda.AgendaItem.{AgendaItem}
 use Rattle.actor_plan.specs.declared.agenda.AgendaItem.TheVariants as item

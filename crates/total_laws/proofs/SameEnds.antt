@@ -7,7 +7,7 @@ use Rattle.bt_ast.specs.declared.attached.Tick.{Tick}
 use Rattle.bt_core.specs.declared.limits.TheConstants.{KEYS}
 use Rattle.bt_core.specs.declared.map.MapId.{MapId}
 use Rattle.bt_core.specs.declared.step.Step.{Step}
-use Rattle.rec_format.specs.declared.recording.Recording.{Recording}
+use Rattle.recordings.specs.declared.recording.Recording.{Recording}
 use Rattle.typed_tree.specs.declared.body.TypedBody.{TypedBody}
 use Rattle.typed_tree.specs.declared.script.Typed.{Typed}
 use Rattle.typed_tree.specs.Bodies.{tree_parts}

@@ -17,7 +17,7 @@ use Rattle.bt_core.specs.declared.step.Reply.TheVariants.{Aggs}
 use Rattle.bt_core.specs.declared.step.Step.{Step}
 use Rattle.bt_core.specs.Ports.{CanStep}
 use Rattle.bt_core.specs.Steps.{is_of, of_actor, is_on, is_same_object, on_object, operations}
-use Rattle.rec_format.specs.declared.recording.Recording.{Recording}
+use Rattle.recordings.specs.declared.recording.Recording.{Recording}
 use Rattle.typed_tree.specs.declared.script.Typed.{Typed}
 use Rattle.agg_core.specs.Answers.{agg_kind_in, back, table_change}
 use Rattle.bt_meaning.specs.OwnSteps.{setting_of, IsOwnStep}

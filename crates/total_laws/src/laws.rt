@@ -2,7 +2,7 @@
 ghost use Rattle.std.specs.Prelude.{◌≡◌, List, length};
 ghost use Rattle.bt_ast.specs.declared.attached.Attached.{Attached};
 ghost use Rattle.bt_core.specs.declared.step.Step.{Step};
-ghost use Rattle.rec_format.specs.declared.recording.Recording.{Recording};
+ghost use Rattle.recordings.specs.declared.recording.Recording.{Recording};
 ghost use Rattle.typed_tree.specs.declared.script.Typed.{Typed};
 ghost use Rattle.bt_meaning.specs.Interleavings.{IsInterleaving};
 ghost use Rattle.bt_meaning.specs.Walks.{replay_of};

@@ -56,7 +56,7 @@ fn is_number_size(size: u32) -> bool
 }
 
 /// The kind of a field of this type and size.
-#[tactic(auto, unfolding(crate::specs::Declarations::kind_of))]
+#[tactic(auto, unfolding(event_layout::specs::Declarations::kind_of))]
 pub fn kind_of(type_: &[u8], is_array: bool, size: u32) -> FieldKind
     ensures kind { result ≡ kind_of type_.now is_array size }
     ensures sized { IsTrue (fits_kind result size) }

@@ -40,7 +40,7 @@ fn all_word(bytes: &[u8]) -> bool
 }
 
 /// The name that line 1 spells, or `None` where it is no name line.
-#[tactic(auto, unfolding(crate::specs::Reading::name_on))]
+#[tactic(auto, unfolding(event_layout::specs::Reading::name_on))]
 pub fn name_on(line: &[u8]) -> Option<&[u8]>
     ensures { Finds (λ name. name.now) result (name_on line.now) }
 {
@@ -51,7 +51,7 @@ pub fn name_on(line: &[u8]) -> Option<&[u8]>
 }
 
 /// The number that line 2 spells, or `None` where it is no line of an ID.
-#[tactic(auto, unfolding(crate::specs::Reading::id_on))]
+#[tactic(auto, unfolding(event_layout::specs::Reading::id_on))]
 pub fn id_on(line: &[u8]) -> Option<u16>
     ensures { result ≡ id_on line.now }
 {
@@ -65,7 +65,7 @@ pub fn id_on(line: &[u8]) -> Option<u16>
 }
 
 /// The number that stands after a label.
-#[tactic(auto, unfolding(crate::specs::Reading::number_after))]
+#[tactic(auto, unfolding(event_layout::specs::Reading::number_after))]
 fn number_after(part: &[u8], label: &[u8]) -> Option<u32>
     ensures { result ≡ number_after label.now part.now }
 {
@@ -76,7 +76,7 @@ fn number_after(part: &[u8], label: &[u8]) -> Option<u32>
 }
 
 /// The flag that stands after a label.
-#[tactic(auto, unfolding(crate::specs::Reading::flag_after))]
+#[tactic(auto, unfolding(event_layout::specs::Reading::flag_after))]
 fn flag_after(part: &[u8], label: &[u8]) -> Option<bool>
     ensures { result ≡ flag_after label.now part.now }
 {
@@ -87,7 +87,7 @@ fn flag_after(part: &[u8], label: &[u8]) -> Option<bool>
 }
 
 /// The field that a line describes, or `None` where it is no field line.
-#[tactic(auto, unfolding(crate::specs::Reading::field_on))]
+#[tactic(auto, unfolding(event_layout::specs::Reading::field_on))]
 pub fn field_on(line: &[u8]) -> Option<FieldLine<'_>>
     ensures field { Finds described_by result (field_on line.now) }
     ensures sized { IfSome result (λ f. IsTrue (fits_kind f.kind f.size)) }

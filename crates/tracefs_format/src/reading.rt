@@ -43,7 +43,7 @@ pub fn read_layout(alloc: Global, text: &[u8]) -> Result<Layout, FormatError>
 }
 
 /// What the text's lines say, or the first fault.
-#[tactic(auto, unfolding(crate::specs::Layouts::layout_fault))]
+#[tactic(auto, unfolding(event_layout::specs::Layouts::layout_fault))]
 fn read(alloc: Global, text: &[u8]) -> Result<Layout, FormatError>
     requires { length text.now < 2 ^ 32 }
     ensures { Answers result (layout_fault text.now) (IsReadOf text.now) }

@@ -1,7 +1,7 @@
 -- What can be run of a script that can be run over a recording.
 use Rattle.std.proofs.Common.{◌≡◌, ℕ, ◌+◌, length, refl, sym, subst}
 use Rattle.bt_ast.specs.declared.attached.Attached.{Attached}
-use Rattle.rec_format.specs.declared.recording.Recording.{Recording}
+use Rattle.recordings.specs.declared.recording.Recording.{Recording}
 use Rattle.typed_tree.specs.declared.script.Typed.{Typed}
 use Rattle.actor_plan.specs.Plans.{Plan, TakesFew}
 use Rattle.actor_plan.specs.Ready.{CanReplay, IsPlanFor}

@@ -10,7 +10,7 @@ use bt_lexer::lexer::lex;
 use bt_parser::parse::parse;
 use bt_types::script::check;
 use rec_format::reading::read_recording;
-use rec_format::recording::Recording;
+use recordings::recording::Recording;
 use std::alloc::Global;
 use std::test::Fail;
 use typed_tree::script::Typed;

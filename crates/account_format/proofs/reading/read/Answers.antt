@@ -3,8 +3,8 @@ use Rattle.std.specs.Prelude.{IsTrue, ◌↔◌}
 use Rattle.std.proofs.lemmas.List.{take-append-drop}
 use Rattle.std.proofs.lemmas.Result.{err_from_is_err_and}
 use Rattle.bt_core.specs.Ports.{Setting}
-use Rattle.rec_format.proofs.Fields.{IsBytes}
-use Rattle.rec_format.proofs.WholeLaws.{nothing_left, something_left}
+use Rattle.recordings.proofs.Fields.{IsBytes}
+use Rattle.recordings.proofs.Left.{nothing_left, something_left}
 use Rattle.account_format.specs.Reading.{steps_at}
 use Rattle.account_format.specs.Scopes.{setting_in}
 use Rattle.account_format.proofs.AccountLaws.{bad_magic}

@@ -1,5 +1,5 @@
 use Rattle.std.proofs.Common.{◌≡◌, ◌∙◌, List, IfOk, get_or, ap, subst}
-use Rattle.rec_format.specs.declared.recording.CpuTrack.{CpuTrack}
+use Rattle.recordings.specs.declared.recording.CpuTrack.{CpuTrack}
 use Rattle.actor_plan.specs.declared.agenda.AgendaItem.{AgendaItem}
 use Rattle.actor_plan.specs.Agendas.{agenda_of}
 use Rattle.actor_plan.specs.Steps.{taken}

@@ -1,8 +1,8 @@
 use Rattle.std.proofs.Common.{◌≡◌, ◌+◌, ◌<◌, ◌≤◌, None, Some, ap, arith, drop, slice_get, sym, ◌∙◌}
 use Rattle.std.specs.Option.{option_map}
 use Rattle.std.proofs.lemmas.Option.{slice_get_within}
-use Rattle.rec_format.specs.InFile.{entry_seen}
-use Rattle.rec_format.specs.Places.{entry_time}
+use Rattle.recordings.specs.InFile.{entry_seen}
+use Rattle.recordings.specs.Places.{entry_time}
 use Rattle.actor_plan.specs.Agendas.{item_at}
 use Rattle.actor_plan.specs.Steps.{earlier, earlier_count}
 use Rattle.actor_plan.proofs.LoopLaws.{all_pushed, none_counted, none_earlier, none_left, one_counted, one_earlier, pushed}

@@ -1,7 +1,7 @@
 use Rattle.std.proofs.Common.{◌≡◌, ◌+◌, None, Some, ap, append-nil, arith, drop, slice_get, sym, ◌++◌, ◌∙◌}
 use Rattle.std.specs.Option.{option_map}
 use Rattle.std.proofs.lemmas.Option.{slice_get_within}
-use Rattle.rec_format.specs.InFile.{entry_seen}
+use Rattle.recordings.specs.InFile.{entry_seen}
 use Rattle.actor_plan.specs.Agendas.{item_at}
 use Rattle.actor_plan.specs.Steps.{entries_on}
 use Rattle.actor_plan.proofs.LoopLaws.{none_left, one_entry, pushed}

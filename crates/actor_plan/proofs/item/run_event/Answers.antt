@@ -3,7 +3,7 @@ use Rattle.std.specs.Prelude.{All, slice_index_or}
 use Rattle.bt_core.specs.Interaction.{Interaction, Whole, Performed}
 use Rattle.bt_core.proofs.InteractionLaws.{Whole-Ended}
 use Rattle.bt_core.specs.declared.limits.TheConstants.{BODIES}
-use Rattle.rec_format.specs.InFile.{event_seen}
+use Rattle.recordings.specs.InFile.{event_seen}
 use Rattle.actor_plan.specs.Plans.{IsBodyFor}
 use Rattle.actor_plan.specs.Contexts.{event_context}
 use Rattle.actor_plan.specs.Programs.{in_turn}

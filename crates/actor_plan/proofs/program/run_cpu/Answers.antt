@@ -4,7 +4,7 @@ use Rattle.std.proofs.lemmas.Result.{err_from_is_err_and}
 use Rattle.bt_core.specs.declared.limits.TheConstants.{EVENTS, TICKS}
 use Rattle.bt_core.specs.Interaction.{Interaction, Performed}
 use Rattle.bt_core.proofs.InteractionLaws.{Performed-none}
-use Rattle.rec_format.specs.declared.recording.CpuTrack.{CpuTrack}
+use Rattle.recordings.specs.declared.recording.CpuTrack.{CpuTrack}
 use Rattle.actor_plan.specs.declared.agenda.AgendaItem.{AgendaItem}
 use Rattle.actor_plan.specs.declared.outcome.Outcome.{Outcome}
 use Rattle.actor_plan.specs.Agendas.{agenda_of}

@@ -1,5 +1,5 @@
 use Rattle.std.proofs.Common.{subst}
-use Rattle.rec_format.specs.Places.{AreBytes}
+use Rattle.recordings.specs.Places.{AreBytes}
 use Rattle.bt_judge.proofs.Due.{AreLaws, is_exact, jobs_can_run}
 use Rattle.bt_judge.proofs.judge.judge.Goals as goal
 

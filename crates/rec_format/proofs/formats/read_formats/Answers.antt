@@ -1,9 +1,9 @@
 use Rattle.std.proofs.Common.{sym, arith}
 use Rattle.std.proofs.lemmas.Result.{err_from_is_err_and}
-use Rattle.rec_format.specs.Fronts.{format_part}
-use Rattle.rec_format.specs.Recordings.{formats_bytes}
-use Rattle.rec_format.proofs.Fields.{IsBytes}
-use Rattle.rec_format.proofs.PartLaws.{format_reads}
+use Rattle.rec_format.specs.Heads.{format_part}
+use Rattle.recordings.specs.Recordings.{formats_bytes}
+use Rattle.recordings.proofs.Fields.{IsBytes}
+use Rattle.rec_format.proofs.HeadLaws.{format_reads}
 use Rattle.rec_format.proofs.Lists.{suffix_fits}
 use Rattle.rec_format.proofs.LoopLaws.{format_next, format_cut, format_refused}
 use Rattle.rec_format.proofs.formats.read_formats.Goals as goal

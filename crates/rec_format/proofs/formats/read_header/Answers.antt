@@ -1,8 +1,8 @@
 use Rattle.std.proofs.Common.{◌≡◌, Some, sym, arith, inl, inr}
-use Rattle.rec_format.specs.Fronts.{header_part}
-use Rattle.rec_format.specs.Checks.{header_fault}
-use Rattle.rec_format.proofs.Fields.{IsBytes}
-use Rattle.rec_format.proofs.PartLaws.{header_reads, cut_short, refused}
+use Rattle.rec_format.specs.Heads.{header_part}
+use Rattle.recordings.specs.Checks.{header_fault}
+use Rattle.recordings.proofs.Fields.{IsBytes}
+use Rattle.rec_format.proofs.HeadLaws.{header_reads, cut_short, refused}
 use Rattle.rec_format.proofs.formats.read_header.Goals as goal
 
 pub returns-in_default : goal.returns-in_default

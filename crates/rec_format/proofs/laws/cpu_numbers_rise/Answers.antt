@@ -1,4 +1,4 @@
-use Rattle.rec_format.proofs.PlaceLaws.{numbers_rise}
+use Rattle.recordings.proofs.PlaceLaws.{numbers_rise}
 use Rattle.rec_format.proofs.laws.cpu_numbers_rise.Goals as goal
 
 pub returns : goal.returns

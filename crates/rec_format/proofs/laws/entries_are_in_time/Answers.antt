@@ -1,4 +1,4 @@
-use Rattle.rec_format.proofs.PlaceLaws.{entry_within, entries_in_order}
+use Rattle.recordings.proofs.PlaceLaws.{entry_within, entries_in_order}
 use Rattle.rec_format.proofs.laws.entries_are_in_time.Goals as goal
 
 pub returns : goal.returns

@@ -1,4 +1,4 @@
-use Rattle.rec_format.proofs.PlaceLaws.{event_has_format}
+use Rattle.recordings.proofs.PlaceLaws.{event_has_format}
 use Rattle.rec_format.proofs.laws.events_have_formats.Goals as goal
 
 pub returns : goal.returns

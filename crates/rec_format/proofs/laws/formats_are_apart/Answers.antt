@@ -1,5 +1,5 @@
 use Rattle.std.proofs.Common.{inl, inr}
-use Rattle.rec_format.proofs.PlaceLaws.{one_format}
+use Rattle.recordings.proofs.PlaceLaws.{one_format}
 use Rattle.rec_format.proofs.laws.formats_are_apart.Goals as goal
 
 pub returns : goal.returns

@@ -1,4 +1,4 @@
-use Rattle.rec_format.proofs.PlaceLaws.{mark_tells}
+use Rattle.recordings.proofs.PlaceLaws.{mark_tells}
 use Rattle.rec_format.proofs.laws.marks_tell_losses.Goals as goal
 
 pub returns : goal.returns

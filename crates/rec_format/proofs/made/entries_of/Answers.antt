@@ -1,16 +1,16 @@
 use Rattle.std.proofs.Common.{◌≡◌, ℕ, ◌+◌, List, [], ◌∷◌, ◌++◌, length, map, take, sym, ap, subst, ◌∙◌, append_assoc, arith}
 use Rattle.std.specs.Prelude.{IfOk}
 use Rattle.std.proofs.lemmas.List.{drop_at, take_more, take_all, append-nil}
-use Rattle.rec_format.specs.declared.entries.EntryPlace.TheVariants as place
-use Rattle.rec_format.specs.declared.recording.Entry.{Entry}
-use Rattle.rec_format.specs.declared.recording.Entry.TheVariants as entry
-use Rattle.rec_format.specs.declared.recording.Event.{Event}
-use Rattle.rec_format.specs.Events.{part_of_event}
-use Rattle.rec_format.specs.InFile.{entry_in, entries_in, event_taken}
-use Rattle.rec_format.specs.Parts.{IsEventPart, event_bytes}
-use Rattle.rec_format.specs.Fronts.{event_at}
+use Rattle.recordings.specs.declared.entries.EntryPlace.TheVariants as place
+use Rattle.recordings.specs.declared.recording.Entry.{Entry}
+use Rattle.recordings.specs.declared.recording.Entry.TheVariants as entry
+use Rattle.recordings.specs.declared.recording.Event.{Event}
+use Rattle.recordings.specs.Events.{part_of_event}
+use Rattle.recordings.specs.InFile.{entry_in, entries_in, event_taken}
+use Rattle.recordings.specs.Parts.{IsEventPart, event_bytes}
+use Rattle.recordings.specs.Fronts.{event_at}
 use Rattle.rec_format.proofs.InFileLaws.{entries_more, map_more}
-use Rattle.rec_format.proofs.PartLaws.{event_reads}
+use Rattle.recordings.proofs.PartLaws.{event_reads}
 use Rattle.rec_format.proofs.made.entries_of.Goals as goal
 
 -- an event that is spelled behind bytes lies there

@@ -1,6 +1,6 @@
 use Rattle.std.proofs.Common.{◌≡◌, ℕ, List, ◌++◌, map, take}
-use Rattle.rec_format.specs.declared.recording.Entry.TheVariants as entry
-use Rattle.rec_format.specs.InFile.{entries_in}
+use Rattle.recordings.specs.declared.recording.Entry.TheVariants as entry
+use Rattle.recordings.specs.InFile.{entries_in}
 use Rattle.rec_format.proofs.made.entries_of.Given as goal
 
 -- whatever is written behind them, the entries are those of the events so far

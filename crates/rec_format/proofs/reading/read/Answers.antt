@@ -1,16 +1,17 @@
 use Rattle.std.proofs.Common.{◌≡◌, Bool, List, ℕ, ◌++◌, ◌-◌, sym, ap, subst, ◌∙◌, length, arith, inl, inr}
 use Rattle.std.proofs.lemmas.Result.{err_from_is_err_and}
 use Rattle.std.proofs.lemmas.List.{append-nil, length-append}
-use Rattle.rec_format.specs.declared.error.RecordingError.TheVariants as fault
-use Rattle.rec_format.specs.Checks.{version_of, has_marks}
-use Rattle.rec_format.specs.Fronts.{header_part}
+use Rattle.recordings.specs.declared.error.RecordingError.TheVariants as fault
+use Rattle.recordings.specs.Checks.{version_of, has_marks}
+use Rattle.rec_format.specs.Heads.{header_part}
 use Rattle.event_layout.specs.declared.format.Format.{Format}
-use Rattle.rec_format.specs.declared.recording.Recording.{Recording}
-use Rattle.rec_format.specs.Recordings.{recording_bytes}
+use Rattle.recordings.specs.declared.recording.Recording.{Recording}
+use Rattle.recordings.specs.Recordings.{recording_bytes}
 use Rattle.rec_format.specs.Faults.{CpuFails, HasTracks}
 use Rattle.rec_format.specs.Answers.{IsSpelled}
 use Rattle.rec_format.proofs.InFileLaws.{whole_rest, rest_more}
-use Rattle.rec_format.proofs.WholeLaws.{whole_recording, nothing_left, something_left}
+use Rattle.rec_format.proofs.WholeLaws.{whole_recording}
+use Rattle.recordings.proofs.Left.{nothing_left, something_left}
 use Rattle.rec_format.proofs.reading.read.Goals as goal
 
 pub read_tracks-requires : goal.read_tracks-requires

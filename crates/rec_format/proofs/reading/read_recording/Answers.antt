@@ -1,5 +1,5 @@
 use Rattle.std.proofs.Common.{◌≡◌, ℕ, List, ap, subst, ◌∙◌}
-use Rattle.rec_format.specs.Places.{AreBytes}
+use Rattle.recordings.specs.Places.{AreBytes}
 use Rattle.rec_format.specs.Faults.{IsRecordingFault}
 use Rattle.rec_format.specs.Answers.{Answers, IsSpelled}
 use Rattle.rec_format.proofs.UniqueLaws.{answer_valid, answer_spelled, answer_only, answer_fault, answer_refused}

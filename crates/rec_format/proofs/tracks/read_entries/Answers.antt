@@ -1,11 +1,11 @@
 use Rattle.std.proofs.Common.{List, length, ◌-◌, sym, ap, ◌∙◌, arith}
 use Rattle.std.proofs.lemmas.Result.{err_from_is_err_and}
-use Rattle.rec_format.specs.declared.recording.Entry.{Entry}
-use Rattle.rec_format.specs.Entries.{entries_bytes}
-use Rattle.rec_format.specs.EntryParts.{EntryPart, entries}
-use Rattle.rec_format.specs.Fronts.{entry_part}
-use Rattle.rec_format.specs.InFile.{entry_in, entries_in}
-use Rattle.rec_format.proofs.Fields.{IsBytes}
+use Rattle.recordings.specs.declared.recording.Entry.{Entry}
+use Rattle.recordings.specs.Entries.{entries_bytes}
+use Rattle.recordings.specs.EntryParts.{EntryPart, entries}
+use Rattle.recordings.specs.Fronts.{entry_part}
+use Rattle.recordings.specs.InFile.{entry_in, entries_in}
+use Rattle.recordings.proofs.Fields.{IsBytes}
 use Rattle.rec_format.proofs.EntryLaws.{entry_next, entry_cut, entry_refused, first_passes}
 use Rattle.rec_format.proofs.KindLaws.{entry_made, readable}
 use Rattle.rec_format.proofs.InFileLaws.{rest_more, entry_lies, entries_more}

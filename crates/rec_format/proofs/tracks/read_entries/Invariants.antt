@@ -1,7 +1,7 @@
 use Rattle.std.proofs.Common.{◌≡◌}
-use Rattle.rec_format.specs.Entries.{time_after, HasEntries}
-use Rattle.rec_format.specs.EntryParts.{entries}
-use Rattle.rec_format.specs.InFile.{entries_in}
+use Rattle.recordings.specs.Entries.{time_after, HasEntries}
+use Rattle.recordings.specs.EntryParts.{entries}
+use Rattle.recordings.specs.InFile.{entries_in}
 use Rattle.rec_format.proofs.tracks.read_entries.Given as goal
 
 abbrev pub invariant-loop-place : goal.invariant-loop-place

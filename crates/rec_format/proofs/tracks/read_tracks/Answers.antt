@@ -1,16 +1,16 @@
 use Rattle.std.proofs.Common.{◌≡◌, ℕ, ◌+◌, List, length, ap, sym, subst, ◌∙◌, arith}
 use Rattle.std.proofs.lemmas.Result.{err_from_is_err_and}
-use Rattle.rec_format.specs.Fronts.{cpu_part}
-use Rattle.rec_format.specs.declared.recording.Entry.{Entry}
-use Rattle.rec_format.specs.Entries.{HasEntries}
-use Rattle.rec_format.specs.EntryParts.{entries}
-use Rattle.rec_format.specs.InFile.{entries_in}
-use Rattle.rec_format.specs.Parts.{cpu_bytes}
-use Rattle.rec_format.specs.Recordings.{tracks_bytes}
-use Rattle.rec_format.proofs.Fields.{IsBytes}
+use Rattle.rec_format.specs.Heads.{cpu_part}
+use Rattle.recordings.specs.declared.recording.Entry.{Entry}
+use Rattle.recordings.specs.Entries.{HasEntries}
+use Rattle.recordings.specs.EntryParts.{entries}
+use Rattle.recordings.specs.InFile.{entries_in}
+use Rattle.recordings.specs.Parts.{cpu_bytes}
+use Rattle.recordings.specs.Recordings.{tracks_bytes}
+use Rattle.recordings.proofs.Fields.{IsBytes}
 use Rattle.rec_format.proofs.InFileLaws.{rest_more}
 use Rattle.rec_format.proofs.Lists.{suffix_fits}
-use Rattle.rec_format.proofs.PartLaws.{cpu_reads}
+use Rattle.rec_format.proofs.HeadLaws.{cpu_reads}
 use Rattle.rec_format.proofs.LoopLaws.{Counts, track_next, cpu_cut, cpu_refused, track_fails}
 use Rattle.rec_format.proofs.tracks.read_tracks.Goals as goal
 

@@ -1,10 +1,10 @@
 use Rattle.std.proofs.Common.{◌≡◌, ℕ, List, ◌<◌, length, get_or, None, Some, Option, ap, sym, ◌∙◌, arith}
 use Rattle.std.specs.List.{slice_get}
 use Rattle.std.proofs.lemmas.Option.{get_or_from_slice_get, slice_get-get_or}
-use Rattle.rec_format.specs.declared.recording.Entry.{Entry}
-use Rattle.rec_format.specs.declared.recording.Entry.TheVariants as entry
-use Rattle.rec_format.specs.EntryParts.{part_of_entry, entry_bytes}
-use Rattle.rec_format.specs.InFile.{entry_seen}
+use Rattle.recordings.specs.declared.recording.Entry.{Entry}
+use Rattle.recordings.specs.declared.recording.Entry.TheVariants as entry
+use Rattle.recordings.specs.EntryParts.{part_of_entry, entry_bytes}
+use Rattle.recordings.specs.InFile.{entry_seen}
 use Rattle.rec_format.proofs.WriteLaws.{written_more}
 use Rattle.rec_format.proofs.writing.push_entries.Goals as goal
 use Rattle.rec_format.proofs.writing.push_entries.Goals.{in-Some+in_ok-push_entry, in_default}

@@ -1,6 +1,6 @@
 use Rattle.std.proofs.Common.{◌≡◌, ◌++◌, take}
-use Rattle.rec_format.specs.Entries.{entries_bytes}
-use Rattle.rec_format.specs.EntryParts.{entries}
+use Rattle.recordings.specs.Entries.{entries_bytes}
+use Rattle.recordings.specs.EntryParts.{entries}
 use Rattle.rec_format.proofs.writing.push_entries.Given as goal
 
 abbrev pub invariant-loop-place : goal.invariant-loop-place

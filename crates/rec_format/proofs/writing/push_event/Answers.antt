@@ -1,7 +1,7 @@
-use Rattle.rec_format.specs.Parts.{sized_bytes}
+use Rattle.recordings.specs.Parts.{sized_bytes}
 use Rattle.std.specs.Int.{w32, w64, to_le_bytes}
-use Rattle.rec_format.specs.declared.recording.Event.{Event}
-use Rattle.rec_format.specs.InFile.{event_seen}
+use Rattle.recordings.specs.declared.recording.Event.{Event}
+use Rattle.recordings.specs.InFile.{event_seen}
 use Rattle.rec_format.proofs.WriteLaws.{written7}
 use Rattle.rec_format.proofs.writing.push_event.Goals as goal
 

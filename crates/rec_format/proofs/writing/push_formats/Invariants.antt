@@ -1,5 +1,5 @@
 use Rattle.std.proofs.Common.{◌≡◌, ◌++◌, take}
-use Rattle.rec_format.specs.Recordings.{formats_bytes}
+use Rattle.recordings.specs.Recordings.{formats_bytes}
 use Rattle.rec_format.proofs.writing.push_formats.Given as goal
 
 abbrev pub invariant-loop-format : goal.invariant-loop-format

@@ -1,7 +1,7 @@
 use Rattle.std.proofs.Common.{ℕ, List, length, ◌++◌, ap, ◌∙◌}
 use Rattle.std.specs.Int.{w32, w64, to_le_bytes}
-use Rattle.rec_format.specs.declared.recording.Recording.{Recording}
-use Rattle.rec_format.specs.Checks.{magic_of}
+use Rattle.recordings.specs.declared.recording.Recording.{Recording}
+use Rattle.recordings.specs.Checks.{magic_of}
 use Rattle.rec_format.proofs.WriteLaws.{written5}
 use Rattle.rec_format.proofs.writing.push_header.Goals as goal
 

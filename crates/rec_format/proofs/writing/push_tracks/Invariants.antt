@@ -1,5 +1,5 @@
 use Rattle.std.proofs.Common.{◌≡◌, ◌++◌, take}
-use Rattle.rec_format.specs.Recordings.{tracks_bytes}
+use Rattle.recordings.specs.Recordings.{tracks_bytes}
 use Rattle.rec_format.proofs.writing.push_tracks.Given as goal
 
 abbrev pub invariant-loop-track : goal.invariant-loop-track

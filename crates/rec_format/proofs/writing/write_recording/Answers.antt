@@ -1,8 +1,8 @@
 use Rattle.std.proofs.Common.{Bool, List, sym, subst}
 use Rattle.std.specs.List.{AllByRecursion}
-use Rattle.rec_format.specs.declared.recording.CpuTrack.{CpuTrack}
-use Rattle.rec_format.specs.declared.recording.Recording.{Recording}
-use Rattle.rec_format.specs.Checks.{has_marks}
+use Rattle.recordings.specs.declared.recording.CpuTrack.{CpuTrack}
+use Rattle.recordings.specs.declared.recording.Recording.{Recording}
+use Rattle.recordings.specs.Checks.{has_marks}
 use Rattle.rec_format.specs.Answers.{CanWriteTrack}
 use Rattle.rec_format.proofs.WriteLaws.{tracks_writable}
 use Rattle.rec_format.proofs.writing.write_recording.Goals as goal

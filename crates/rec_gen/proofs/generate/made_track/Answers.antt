@@ -1,6 +1,6 @@
 use Rattle.std.proofs.Common.{List, ◌<◌, ◌^◌, length, ap, sym, subst, ◌∙◌, ◌++◌, ◌∷◌, []}
 use Rattle.std.specs.List.{AllByRecursion}
-use Rattle.rec_format.specs.declared.recording.Event.{Event}
+use Rattle.recordings.specs.declared.recording.Event.{Event}
 use Rattle.rec_gen.specs.Draws.{next_state}
 use Rattle.rec_gen.proofs.Valid.{short_events}
 use Rattle.rec_gen.proofs.Loop.{more, no_more, three_on, drawn_event}

@@ -19,7 +19,7 @@ use denote.Triple.Walked.{Stays, walk_of, says, stay_dropped, Goes-dropped, ends
 use Rattle.run_base.proofs.ItemsKnown.{items_known}
 use Rattle.run_base.proofs.TypesSay.{track_known, tracks_held}
 use Rattle.bt_core.specs.contracts.items.Items as items
-use Rattle.rec_format.specs.contracts.recording.CpuTrack as track
+use Rattle.recordings.specs.contracts.recording.CpuTrack as track
 use Rattle.run_base.specs.contracts.held.tracks_are_held as f
 use Rattle.run_base.proofs.held.tracks_are_held.Statement.{statement}
 use Rattle.run_base.proofs.held.tracks_are_held.Code as code

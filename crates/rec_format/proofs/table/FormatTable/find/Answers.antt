@@ -1,6 +1,6 @@
 use Rattle.std.proofs.Common.{Some, None, ap, ◌∙◌}
 use Rattle.std.specs.Option.{option_map}
-use Rattle.rec_format.specs.Events.{format_with}
+use Rattle.recordings.specs.Events.{format_with}
 use Rattle.rec_format.proofs.TableLaws.{place_found}
 use Rattle.rec_format.proofs.table.FormatTable.find.Goals as goal
 

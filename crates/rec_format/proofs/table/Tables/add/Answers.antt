@@ -1,7 +1,7 @@
 use Rattle.std.proofs.Common.{◌∷◌, [], ◌++◌, inr, ap, sym, ◌∙◌}
 use Rattle.std.proofs.lemmas.Result.{err_from_is_err_and}
 use Rattle.std.specs.List.{list_any}
-use Rattle.rec_format.specs.Checks.{is_same_event}
+use Rattle.recordings.specs.Checks.{is_same_event}
 use Rattle.rec_format.proofs.table.Tables.add.Goals as goal
 
 pub returns-in_err-note-clause-answer : goal.returns-in_err-note-clause-answer

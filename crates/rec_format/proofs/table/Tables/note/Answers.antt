@@ -6,7 +6,7 @@ use Rattle.std.specs.Cmp.Lexicographic.{slice_cmp}
 use Rattle.std.specs.BTreeMap.{get}
 use Rattle.std.specs.BTreeSet.{contains}
 use Rattle.event_layout.specs.declared.format.Format.{Format}
-use Rattle.rec_format.specs.declared.error.RecordingError.TheVariants as fault
+use Rattle.recordings.specs.declared.error.RecordingError.TheVariants as fault
 use Rattle.event_layout.specs.ByName.{full_name}
 use Rattle.event_layout.specs.Names.{has_no_colon}
 use Rattle.rec_format.proofs.TableLaws.{same_known, table_added, system-no_colon}

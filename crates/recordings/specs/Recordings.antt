@@ -4,13 +4,13 @@ use Rattle.std.specs.List.{flat_map, AllByRecursion}
 use Rattle.bt_core.specs.declared.limits.TheConstants.{CPUS, FORMATS, EVENTS}
 use Rattle.event_layout.specs.declared.format.Format.{Format}
 use Rattle.event_layout.specs.Layouts.{IsLayoutOf}
-use Rattle.rec_format.specs.declared.recording.Recording.{Recording}
-use Rattle.rec_format.specs.declared.recording.CpuTrack.{CpuTrack}
-use Rattle.rec_format.specs.Parts.{HeaderPart, header_bytes, FormatPart, format_bytes, CpuPart, cpu_bytes}
-use Rattle.rec_format.specs.Checks.{magic_of, has_marks, is_system, is_same_event}
-use Rattle.rec_format.specs.Entries.{entries_bytes, AreEntries}
-use Rattle.rec_format.specs.EntryParts.{entries}
-pub use Rattle.rec_format.specs.Events.{IsEvent}
+use Rattle.recordings.specs.declared.recording.Recording.{Recording}
+use Rattle.recordings.specs.declared.recording.CpuTrack.{CpuTrack}
+use Rattle.recordings.specs.Parts.{HeaderPart, header_bytes, FormatPart, format_bytes, CpuPart, cpu_bytes}
+use Rattle.recordings.specs.Checks.{magic_of, has_marks, is_system, is_same_event}
+use Rattle.recordings.specs.Entries.{entries_bytes, AreEntries}
+use Rattle.recordings.specs.EntryParts.{entries}
+pub use Rattle.recordings.specs.Events.{IsEvent}
 
 -- ---- the parts that a recording is spelled with
 

@@ -1,7 +1,7 @@
 -- How a part that is due is wrong: it is not there as a whole, or it is and has a fault.
 use Rattle.std.specs.Prelude.{◌≡◌, ℕ, List, ◌++◌}
-use Rattle.rec_format.specs.declared.error.RecordingError.{RecordingError}
-use Rattle.rec_format.specs.declared.error.RecordingError.TheVariants as fault
+use Rattle.recordings.specs.declared.error.RecordingError.{RecordingError}
+use Rattle.recordings.specs.declared.error.RecordingError.TheVariants as fault
 
 -- no whole part stands there; it is told with the length of all the bytes
 pub record IsCutShort {P : Type 0} (IsWhole : P → Type 0) (spelling : P → List ℕ) (whole : ℕ) (bytes : List ℕ)

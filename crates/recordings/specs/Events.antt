@@ -4,10 +4,10 @@ use Rattle.std.specs.Prelude.{◌∷◌, length, take, slice_get, Option, Some, 
 use Rattle.std.specs.Int.{w16, to_le_bytes, from_le_bytes}
 use Rattle.std.specs.Option.{option_map}
 use Rattle.event_layout.specs.declared.format.Format.{Format}
-use Rattle.rec_format.specs.declared.error.RecordingError.{RecordingError}
-use Rattle.rec_format.specs.declared.error.RecordingError.TheVariants as fault
-use Rattle.rec_format.specs.declared.recording.Event.{Event}
-use Rattle.rec_format.specs.Parts.{EventPart, IsEventPart}
+use Rattle.recordings.specs.declared.error.RecordingError.{RecordingError}
+use Rattle.recordings.specs.declared.error.RecordingError.TheVariants as fault
+use Rattle.recordings.specs.declared.recording.Event.{Event}
+use Rattle.recordings.specs.Parts.{EventPart, IsEventPart}
 
 abbrev pub part_of_event : Event → EventPart
 part_of_event e = record { time = e.time; pid = e.pid; tid = e.tid; uid = e.uid; gid = e.gid; comm = e.comm; payload = e.payload }

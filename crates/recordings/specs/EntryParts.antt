@@ -3,13 +3,13 @@
 use Rattle.std.specs.Prelude.{◌≡◌, ◌<◌, ◌^◌, ℕ, Bool, true, false, nat_eq, List, [], ◌∷◌, ◌++◌, Option, Some, None, if◌then◌else◌}
 use Rattle.std.specs.Int.{w64, to_le_bytes}
 use Rattle.event_layout.specs.declared.format.Format.{Format}
-use Rattle.rec_format.specs.declared.error.RecordingError.{RecordingError}
-use Rattle.rec_format.specs.declared.error.RecordingError.TheVariants as fault
-use Rattle.rec_format.specs.declared.recording.Entry.{Entry}
-use Rattle.rec_format.specs.declared.recording.Entry.TheVariants as entry
-use Rattle.rec_format.specs.Parts.{EventPart, IsEventPart, event_bytes}
-use Rattle.rec_format.specs.Entries.{EntryKind}
-use Rattle.rec_format.specs.Events.{part_of_event, IsEvent, payload_fault}
+use Rattle.recordings.specs.declared.error.RecordingError.{RecordingError}
+use Rattle.recordings.specs.declared.error.RecordingError.TheVariants as fault
+use Rattle.recordings.specs.declared.recording.Entry.{Entry}
+use Rattle.recordings.specs.declared.recording.Entry.TheVariants as entry
+use Rattle.recordings.specs.Parts.{EventPart, IsEventPart, event_bytes}
+use Rattle.recordings.specs.Entries.{EntryKind}
+use Rattle.recordings.specs.Events.{part_of_event, IsEvent, payload_fault}
 
 -- an event, a mark of so many lost ones, and a byte with which no entry begins
 pub data EntryPart : Type 0 where

@@ -1,17 +1,17 @@
 -- Entries where they lie in the bytes of a file.
 use Rattle.std.specs.Prelude.{ℕ, Bool, true, false, List, map, drop, Option, Some, None}
-use Rattle.rec_format.specs.declared.entries.EntryPlace.{EntryPlace}
-use Rattle.rec_format.specs.declared.entries.EntryPlace.TheVariants as place
-use Rattle.rec_format.specs.declared.entries.EntryRef.{EntryRef}
-use Rattle.rec_format.specs.declared.entries.EntryRef.TheVariants as seen
-use Rattle.rec_format.specs.declared.entries.EventRef.{EventRef}
-use Rattle.rec_format.specs.declared.recording.Entry.{Entry}
-use Rattle.rec_format.specs.declared.recording.Event.{Event}
-use Rattle.rec_format.specs.declared.recording.Entry.TheVariants as entry
-use Rattle.rec_format.specs.Parts.{EventPart}
-use Rattle.rec_format.specs.EntryParts.{EntryPart, Occurs, Misses, Unknown}
-use Rattle.rec_format.specs.Fronts.{event_at, mark_at}
-use Rattle.rec_format.specs.Events.{event_of}
+use Rattle.recordings.specs.declared.entries.EntryPlace.{EntryPlace}
+use Rattle.recordings.specs.declared.entries.EntryPlace.TheVariants as place
+use Rattle.recordings.specs.declared.entries.EntryRef.{EntryRef}
+use Rattle.recordings.specs.declared.entries.EntryRef.TheVariants as seen
+use Rattle.recordings.specs.declared.entries.EventRef.{EventRef}
+use Rattle.recordings.specs.declared.recording.Entry.{Entry}
+use Rattle.recordings.specs.declared.recording.Event.{Event}
+use Rattle.recordings.specs.declared.recording.Entry.TheVariants as entry
+use Rattle.recordings.specs.Parts.{EventPart}
+use Rattle.recordings.specs.EntryParts.{EntryPart, Occurs, Misses, Unknown}
+use Rattle.recordings.specs.Fronts.{event_at, mark_at}
+use Rattle.recordings.specs.Events.{event_of}
 
 -- the bytes before an event or a mark that tell its kind
 abbrev pub first_bytes : Bool → ℕ

@@ -10,11 +10,11 @@ use Rattle.event_layout.specs.declared.error.FormatError.{FormatError}
 use Rattle.event_layout.specs.declared.layout.Layout.{Layout}
 use Rattle.event_layout.specs.ByName.{is_same_tracepoint}
 use Rattle.event_layout.specs.Layouts.{IsLayoutOf, layout_fault}
-use Rattle.rec_format.specs.declared.check.TheConstants.{SYSTEM_BYTES}
-use Rattle.rec_format.specs.declared.error.RecordingError.{RecordingError}
-use Rattle.rec_format.specs.declared.error.RecordingError.TheVariants as fault
-use Rattle.rec_format.specs.declared.error.CountOf.TheVariants as count
-use Rattle.rec_format.specs.Parts.{HeaderPart, FormatPart, CpuPart}
+use Rattle.recordings.specs.declared.limits.TheConstants.{SYSTEM_BYTES}
+use Rattle.recordings.specs.declared.error.RecordingError.{RecordingError}
+use Rattle.recordings.specs.declared.error.RecordingError.TheVariants as fault
+use Rattle.recordings.specs.declared.error.CountOf.TheVariants as count
+use Rattle.recordings.specs.Parts.{HeaderPart, FormatPart, CpuPart}
 
 -- the first of these faults whose test holds
 abbrev pub first_fault : List (Bool × RecordingError) → Option RecordingError

@@ -3,14 +3,14 @@ use Rattle.std.proofs.Common.{◌≡◌, ℕ, ◌<◌, ◌≤◌, Some, inl, inr
 use Rattle.event_layout.specs.declared.format.Format.{Format}
 use Rattle.event_layout.specs.ByName.{IsNamed}
 use Rattle.std.specs.Prelude.{slice_get}
-use Rattle.rec_format.specs.declared.recording.Recording.{Recording}
-use Rattle.rec_format.specs.declared.recording.CpuTrack.{CpuTrack}
-use Rattle.rec_format.specs.declared.recording.Entry.{Entry}
-use Rattle.rec_format.specs.declared.recording.Entry.TheVariants as entry
-use Rattle.rec_format.specs.declared.recording.Event.{Event}
-use Rattle.rec_format.specs.Places.{entry_at_place, entry_time, HasFormat}
-use Rattle.rec_format.specs.Recordings.{IsValidRecording}
-use Rattle.rec_format.proofs.PlaceLaws as places
+use Rattle.recordings.specs.declared.recording.Recording.{Recording}
+use Rattle.recordings.specs.declared.recording.CpuTrack.{CpuTrack}
+use Rattle.recordings.specs.declared.recording.Entry.{Entry}
+use Rattle.recordings.specs.declared.recording.Entry.TheVariants as entry
+use Rattle.recordings.specs.declared.recording.Event.{Event}
+use Rattle.recordings.specs.Places.{entry_at_place, entry_time, HasFormat}
+use Rattle.recordings.specs.Recordings.{IsValidRecording}
+use Rattle.recordings.proofs.PlaceLaws as places
 
 pub recorded_format : (r : Recording) (cpu place : ℕ) (e : Event) → IsValidRecording r → entry_at_place r cpu place ≡ Some (entry.Event e) → HasFormat r.formats e
 recorded_format = places.event_has_format

@@ -9,18 +9,17 @@ use Rattle.std.proofs.lemmas.Option.{same_Some}
 use Rattle.event_layout.specs.declared.format.Format.{Format}
 use Rattle.event_layout.specs.ByName.{IsNamed, is_same_tracepoint}
 use Rattle.event_layout.proofs.Lists.{all_at}
-use Rattle.rec_format.specs.Checks.{has_marks, is_same_event}
-use Rattle.rec_format.specs.declared.recording.Recording.{Recording}
-use Rattle.rec_format.specs.declared.recording.CpuTrack.{CpuTrack}
-use Rattle.rec_format.specs.declared.recording.Entry.{Entry}
-use Rattle.rec_format.specs.declared.recording.Entry.TheVariants as entry
-use Rattle.rec_format.specs.declared.recording.Event.{Event}
-use Rattle.rec_format.specs.Entries.{EntryKind, time_of, AreInTime}
-use Rattle.rec_format.specs.EntryParts.{part_of_entry, part_time, IsEntry, entries}
-use Rattle.rec_format.specs.Places.{entry_at_place, entry_time, HasFormat}
-use Rattle.rec_format.specs.Recordings.{IsTrack, AreApart, AreNumbered, IsValidRecording}
-use Rattle.rec_format.proofs.EventLaws.{event_id, two_bytes}
-use Rattle.rec_format.proofs.Versions.{IsVersion}
+use Rattle.recordings.specs.Checks.{has_marks, is_same_event}
+use Rattle.recordings.specs.declared.recording.Recording.{Recording}
+use Rattle.recordings.specs.declared.recording.CpuTrack.{CpuTrack}
+use Rattle.recordings.specs.declared.recording.Entry.{Entry}
+use Rattle.recordings.specs.declared.recording.Entry.TheVariants as entry
+use Rattle.recordings.specs.declared.recording.Event.{Event}
+use Rattle.recordings.specs.Entries.{EntryKind, time_of, AreInTime}
+use Rattle.recordings.specs.EntryParts.{part_of_entry, part_time, IsEntry, entries}
+use Rattle.recordings.specs.Places.{entry_at_place, entry_time, HasFormat}
+use Rattle.recordings.specs.Recordings.{IsTrack, AreApart, AreNumbered, IsValidRecording}
+use Rattle.recordings.proofs.PayloadLaws.{event_id, two_bytes}
 
 -- ---- formats
 
@@ -103,6 +102,10 @@ pub event_has_format : (r : Recording) (cpu place : ℕ) (e : Event) → IsValid
 event_has_format r cpu place e valid at =
     let is = entry_is r cpu place (entry.Event e) valid at in
     record { format = is.format; placed = is.placed; two = two_bytes r.formats e is; id = event_id r.formats e valid.formats is; long = is.long; short = is.whole.payload }
+
+-- the versions that there are
+abbrev pub IsVersion : ℕ → Type 0
+IsVersion version = (version ≡ 1) ⊎ (version ≡ 2)
 
 -- where there is a mark there may be marks, and it tells of some events
 mark_stands : (marks : Bool) (formats : List Format) (time count : ℕ) → IsEntry marks formats (entry.Lost time count) → (marks ≡ true) × (1 ≤ count)

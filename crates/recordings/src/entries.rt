@@ -1,13 +1,13 @@
 // The entries of a CPU, where they lie in the file.
-ghost use Rattle.std.specs.Prelude.{◌≡◌, ◌+◌, ◌^◌, ◌≤◌, length, slice_get, drop, IfOk, OnErr};
+ghost use Rattle.std.specs.Prelude.{◌≡◌, length, slice_get, drop, IfOk};
 ghost use Rattle.std.specs.Arc.{arc_value};
 ghost use Rattle.std.specs.Option.{option_map};
-ghost use Rattle.rec_format.specs.Events.{event_of};
-ghost use Rattle.rec_format.specs.Fronts.{event_at, event_part, entry_part, mark_at};
-ghost use Rattle.rec_format.specs.InFile.{first_bytes, entry_place, entry_in, entries_in, entry_seen, event_seen, event_taken, mark_taken};
+ghost use Rattle.recordings.specs.Events.{event_of};
+ghost use Rattle.recordings.specs.Fronts.{event_at, event_part, entry_part, mark_at};
+ghost use Rattle.recordings.specs.InFile.{entry_in, entries_in, entry_seen, event_seen, event_taken, mark_taken};
 
 use crate::part::{EntryBytes, EventBytes, event_at, mark_at};
-use bt_core::memory::{Memory, fitting};
+use bt_core::memory::Memory;
 use std::alloc::Global;
 use std::marker::Model;
 use std::sync::Arc;
@@ -49,9 +49,19 @@ pub struct EventRef<'f> {
 
 /// Where an entry lies: an event from the byte on, with the place of its format, or a mark.
 #[derive(Clone, Copy, Drop)]
-pub(crate) enum EntryPlace {
-    Event { at: u32, format: u32 },
-    Lost { at: u32 },
+pub enum EntryPlace {
+    /// An event.
+    Event {
+        /// Its first byte, counted from 0.
+        at: u32,
+        /// The place of its format in the recording, counted from 0.
+        format: u32,
+    },
+    /// The mark that events were lost.
+    Lost {
+        /// The first byte of its time, counted from 0.
+        at: u32,
+    },
 }
 
 /// The entries of a CPU, in the order of the file. They lie in the file's bytes, which all CPUs share, so
@@ -67,8 +77,8 @@ pub struct Entries {
 impl Model for Entries {
     ghost use Rattle.std.specs.Prelude.{List};
     ghost use Rattle.std.specs.Arc.{arc_value};
-    ghost use Rattle.rec_format.specs.declared.recording.Entry.{Entry};
-    ghost use Rattle.rec_format.specs.InFile.{entries_in};
+    ghost use Rattle.recordings.specs.declared.recording.Entry.{Entry};
+    ghost use Rattle.recordings.specs.InFile.{entries_in};
 
     ghost Value = { List Entry };
 
@@ -77,10 +87,7 @@ impl Model for Entries {
 
 impl Entries {
     /// The entries at places of a file.
-    pub(crate) fn of(
-        file: &Arc<Vec<u8>, Global>,
-        places: Vec<EntryPlace>,
-    ) -> Result<Entries, Memory>
+    pub fn of(file: &Arc<Vec<u8>, Global>, places: Vec<EntryPlace>) -> Result<Entries, Memory>
         ensures { IfOk result (λ all. all ≡ entries_in (arc_value file.now).items places.items) }
     {
         let file = Arc::try_clone(file)?;
@@ -88,7 +95,7 @@ impl Entries {
     }
 
     /// The entries at places of bytes.
-    pub(crate) fn in_bytes(
+    pub fn in_bytes(
         alloc: Global,
         bytes: Vec<u8>,
         places: Vec<EntryPlace>,
@@ -112,24 +119,6 @@ impl Entries {
     {
         let found = self.places.get(place)?;
         Some(entry_in((*self.file).as_slice(), *found))
-    }
-}
-
-/// Where an entry lies that begins at a byte, of a format at this place if it is an event. A byte before it tells its kind, where
-/// there may be marks. [`Memory`] where the byte's number does not fit.
-pub(crate) fn place_of(
-    marks: bool,
-    start: usize,
-    entry: &EntryBytes<'_>,
-    format: u32,
-) -> Result<EntryPlace, Memory>
-    ensures place { IfOk result (λ place. place ≡ entry_place (start + first_bytes marks) (entry_part entry.now) format) }
-    ensures beyond { OnErr result (2 ^ 32 ≤ start + first_bytes marks) }
-{
-    let at = u32::try_from(fitting(start.checked_add(usize::from(marks)))?)?;
-    match entry {
-        EntryBytes::Event(_) => Ok(EntryPlace::Event { at, format }),
-        _ => Ok(EntryPlace::Lost { at }),
     }
 }
 

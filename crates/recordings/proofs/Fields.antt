@@ -6,8 +6,8 @@ use Rattle.std.proofs.lemmas.Nat.{le_bytes_2, le_bytes_4, le_bytes_8}
 use Rattle.std.specs.Int.{Width, w16, w32, w64, byte_len, to_le_bytes, from_le_bytes}
 use Rattle.byteorder.specs.Endian.{little_number}
 use Rattle.byteorder.specs.Numbers.{length-bytes_low_first, little_number-reads_back, little_from-lt, little_from-append}
-use Rattle.rec_format.specs.Parts.{sized_bytes}
-use Rattle.rec_format.specs.Fronts.{◌>>=◌, where_true, bytes_at, number_at, sized_at}
+use Rattle.recordings.specs.Parts.{sized_bytes}
+use Rattle.recordings.specs.Fronts.{◌>>=◌, where_true, bytes_at, number_at, sized_at}
 
 abbrev pub IsBytes : List ℕ → Type 0
 IsBytes bytes = (i : ℕ) → get_or bytes i 0 < 256

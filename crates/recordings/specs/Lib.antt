@@ -1,0 +1,10 @@
+pub mod Checks
+pub mod Entries
+pub mod EntryParts
+pub mod Events
+pub mod Fronts
+pub mod InFile
+pub mod Parts
+pub mod Places
+pub mod Recordings
+pub mod Stops
