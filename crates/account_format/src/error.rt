@@ -25,7 +25,7 @@ impl From<NoMemory> for AccountFault {
 }
 
 /// Why an account is not true.
-#[derive(Clone, Copy, PartialEq, Eq, Debug, Error)]
+#[derive(Clone, Copy, Debug, Error)]
 pub enum AccountError {
     /// Bytes from this offset on, counted from 0, have not the form of an account.
     #[error("N1 bad account at byte {0}")]

@@ -11,14 +11,14 @@ pub enum BodyPoint {
 }
 
 /// A body: a probe, by its place in the script, together with one thing that it is attached to.
-#[derive(Clone, Copy, PartialEq, Eq)]
+#[derive(Clone, Copy)]
 pub struct BodyId {
     pub probe: u32,
     pub point: BodyPoint,
 }
 
 /// A tick of an interval: its time in nanoseconds and the body that is run, by its place.
-#[derive(Clone, Copy, PartialEq, Eq)]
+#[derive(Clone, Copy)]
 pub struct Tick {
     pub time: u64,
     pub body: u32,

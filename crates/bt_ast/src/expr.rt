@@ -19,7 +19,6 @@ pub enum Builtin {
 }
 
 /// A variable of a body, by its name with the `$`.
-#[derive(PartialEq, Eq)]
 pub struct VarRef {
     pub name: Items<u8>,
     pub place: Place,
@@ -35,7 +34,7 @@ impl Drop for VarRef {
 /// A map, by its name with the `@`, and the parts of its key. A map that is named as a whole has no
 /// parts here.
 #[cycle(expr)]
-#[derive(PartialEq, Drop)]
+#[derive(Drop)]
 pub struct MapRef {
     pub name: Items<u8>,
     pub keys: Items<Expr>,
@@ -44,7 +43,7 @@ pub struct MapRef {
 
 /// What is assigned to.
 #[cycle(expr)]
-#[derive(PartialEq, Drop)]
+#[derive(Drop)]
 pub enum Target {
     Map(MapRef),
     Var(VarRef),
@@ -53,7 +52,7 @@ pub enum Target {
 /// `++` where `plus` is true and otherwise `--`, which stands before its target where `prefix` is true and otherwise
 /// after it.
 #[cycle(expr)]
-#[derive(PartialEq, Drop)]
+#[derive(Drop)]
 pub struct IncDec {
     pub target: Target,
     pub plus: bool,
@@ -63,7 +62,7 @@ pub struct IncDec {
 
 /// An expression and where it begins.
 #[cycle(expr)]
-#[derive(PartialEq, Drop)]
+#[derive(Drop)]
 pub struct Expr {
     pub kind: ExprKind,
     pub place: Place,
@@ -71,7 +70,6 @@ pub struct Expr {
 
 /// What an expression is.
 #[cycle(expr)]
-#[derive(PartialEq)]
 pub enum ExprKind {
     /// A number of 64 bits. One from 2^63 on stands as the signed number with the same bits.
     Number(i64),

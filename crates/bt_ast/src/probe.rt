@@ -5,7 +5,7 @@ use bt_core::items::Items;
 use bt_core::place::Place;
 
 /// The unit of an interval's number: seconds, milliseconds, microseconds, or times a second.
-#[derive(Clone, Copy, PartialEq, Eq)]
+#[derive(Clone, Copy)]
 pub enum Unit {
     S,
     Ms,
@@ -14,7 +14,6 @@ pub enum Unit {
 }
 
 /// What a probe is attached to. The system and the name of a tracepoint may hold `*`.
-#[derive(PartialEq, Eq)]
 pub enum Point {
     Begin {
         place: Place,
@@ -55,7 +54,6 @@ impl Drop for Point {
 }
 
 /// Points, the condition under which the block is run, and the block.
-#[derive(PartialEq)]
 pub struct Probe {
     pub points: Items<Point>,
     pub predicate: Option<Expr>,
@@ -76,7 +74,7 @@ impl Drop for Probe {
 }
 
 /// The probes of a script in their order.
-#[derive(PartialEq, Drop)]
+#[derive(Drop)]
 pub struct Script {
     pub probes: Items<Probe>,
 }

@@ -7,7 +7,6 @@ use bt_core::operator::BinOp;
 use bt_core::place::Place;
 
 /// What is gathered in an aggregation map: a map function and its arguments.
-#[derive(PartialEq)]
 pub enum AggCall {
     Count,
     /// A map function of one number.
@@ -44,7 +43,7 @@ impl Drop for AggCall {
 
 /// Statements in braces.
 #[cycle(block)]
-#[derive(PartialEq, Drop)]
+#[derive(Drop)]
 pub struct Block {
     pub stmts: Items<Stmt>,
     pub place: Place,
@@ -52,7 +51,7 @@ pub struct Block {
 
 /// A statement and where it begins.
 #[cycle(block)]
-#[derive(PartialEq, Drop)]
+#[derive(Drop)]
 pub struct Stmt {
     pub kind: StmtKind,
     pub place: Place,
@@ -60,7 +59,6 @@ pub struct Stmt {
 
 /// What a statement is.
 #[cycle(block)]
-#[derive(PartialEq)]
 pub enum StmtKind {
     /// `map = agg`, where the aggregation's word stands at `agg_place`.
     SetAgg {

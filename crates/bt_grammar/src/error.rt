@@ -5,7 +5,7 @@ ghost use Rattle.bt_grammar.specs.declared.error.ParseError.TheVariants.{Memory}
 use thiserror::Error;
 
 /// The first fault of a list of tokens, with the number of tokens before it, or want of memory.
-#[derive(Clone, Copy, PartialEq, Eq, Debug, Error)]
+#[derive(Clone, Copy, Debug, Error)]
 pub enum ParseError {
     /// P1: no script goes on with this token, or none ends here where no token is left.
     #[error("syntax at token {0}")]

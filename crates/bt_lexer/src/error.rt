@@ -6,7 +6,7 @@ use std::alloc::AllocFailed;
 use thiserror::Error;
 
 /// The first lexical fault of a text, with its offset in bytes, or want of memory.
-#[derive(Clone, Copy, PartialEq, Eq, Debug, Error)]
+#[derive(Clone, Copy, Debug, Error)]
 pub enum LexError {
     /// X1: no token begins with this byte, or it does not fit the token that it stands in.
     #[error("bad character at byte {0}")]

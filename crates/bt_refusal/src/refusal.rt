@@ -11,7 +11,7 @@ use expr_types::fault::Rule;
 use recordings::error::RecordingError;
 
 /// A file that the words name.
-#[derive(Clone, Copy, PartialEq, Eq)]
+#[derive(Clone, Copy)]
 pub enum Operand {
     Script,
     Recording,
@@ -20,7 +20,7 @@ pub enum Operand {
 
 /// What is wrong with a script: the first fault of its text, of its tokens, of the points of its probes, or
 /// of its types; or its first body that is too large.
-#[derive(Clone, Copy, PartialEq, Eq)]
+#[derive(Clone, Copy)]
 pub enum ScriptFault {
     /// X1: no token begins with this byte, or it does not fit the token that it stands in.
     BadCharacter,
@@ -59,7 +59,7 @@ pub enum ScriptFault {
 }
 
 /// Why a script is refused.
-#[derive(Clone, Copy, PartialEq, Eq)]
+#[derive(Clone, Copy)]
 pub enum ScriptRefusal {
     /// It has more bytes than it may have.
     TooLong,
@@ -80,14 +80,14 @@ pub enum RecordingRefusal {
 
 /// Why code is refused: the number of the probe, from 0 in the order of the script, of the first body whose program the
 /// check refuses, and the fault of that program.
-#[derive(Clone, Copy, PartialEq, Eq)]
+#[derive(Clone, Copy)]
 pub struct CodeRefusal {
     pub probe: u32,
     pub fault: CodeFault,
 }
 
 /// Why what an order checks is refused.
-#[derive(Clone, Copy, PartialEq, Eq)]
+#[derive(Clone, Copy)]
 pub enum Denial {
     /// The code of a program is.
     Code(CodeRefusal),

@@ -130,7 +130,7 @@ impl Drop for Order {
 }
 
 /// Why words give no order.
-#[derive(Clone, Copy, PartialEq, Eq, Debug, Error)]
+#[derive(Clone, Copy, Debug, Error)]
 pub enum WordsError {
     /// The words break the rule of the command line.
     #[error("usage")]

@@ -58,7 +58,7 @@ impl TryCopy for Piece {
 }
 
 /// Why a text is no format.
-#[derive(Clone, Copy, PartialEq, Eq, Debug, Error)]
+#[derive(Clone, Copy, Debug, Error)]
 pub enum FormatFault {
     /// The `%` at this offset begins neither a conversion nor `%%`. It is the first such one.
     #[error("bad format at byte {0}")]

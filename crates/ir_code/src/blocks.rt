@@ -8,7 +8,7 @@ use bt_core::items::Items;
 use bt_core::map::Shape;
 
 /// How a block ends.
-#[derive(Clone, Copy, PartialEq, Eq)]
+#[derive(Clone, Copy)]
 pub enum Exit {
     /// Goes on to a block.
     Goto(usize),

@@ -27,7 +27,7 @@ impl Drop for State {
 }
 
 /// Where an exit leads: to a block by its number, or to the end of the run.
-#[derive(Clone, Copy, PartialEq, Eq)]
+#[derive(Clone, Copy)]
 pub enum Way {
     To(usize),
     Ends(Ending),

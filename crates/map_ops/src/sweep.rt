@@ -15,7 +15,7 @@ use bt_core::step::{ObjectId, Op, Reply};
 use std::alloc::Global;
 
 /// What is done to a whole map: its rows are read, or taken away, or their values are made 0 or empty.
-#[derive(Clone, Copy, PartialEq, Eq)]
+#[derive(Clone, Copy)]
 pub enum Sweep {
     Read,
     Clear,

@@ -16,7 +16,7 @@ use typed_tree::script::Typed;
 use weave::woven::Woven;
 
 /// In which form a run writes what it prints: as text, or as JSON lines.
-#[derive(Clone, Copy, PartialEq, Eq)]
+#[derive(Clone, Copy)]
 pub enum Form {
     Text,
     Json,

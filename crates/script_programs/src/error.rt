@@ -2,7 +2,7 @@
 use bt_core::memory::Memory;
 
 /// What is too large for a body to have a program.
-#[derive(Clone, Copy, PartialEq, Eq)]
+#[derive(Clone, Copy)]
 pub enum SizeFault {
     /// The frame would have so many bytes, more than 512.
     FrameTooLarge(u64),
@@ -11,7 +11,7 @@ pub enum SizeFault {
 }
 
 /// Why a script has no programs: the first body, by its place, that would be too large; or memory ran out.
-#[derive(Clone, Copy, PartialEq, Eq)]
+#[derive(Clone, Copy)]
 pub enum ProgramsError {
     TooLarge { body: u32, fault: SizeFault },
     Memory,

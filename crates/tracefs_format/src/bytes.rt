@@ -8,7 +8,7 @@ ghost use Rattle.tracefs_format.specs.Classes.{Finds};
 use bt_core::bytes::{is_digit, is_word_byte};
 
 /// A class of bytes.
-#[derive(Clone, Copy, PartialEq, Eq)]
+#[derive(Clone, Copy)]
 pub enum ByteClass {
     /// A space or a tab.
     Blank,

@@ -5,7 +5,7 @@ use bt_core::map::{AggKind, MapId};
 use bt_core::operator::BinOp;
 
 /// A statement that goes elsewhere: out of a loop, to its next turn, or to the body's end, by `exit()` or `return`.
-#[derive(Clone, Copy, PartialEq, Eq)]
+#[derive(Clone, Copy)]
 pub enum Jump {
     Break,
     Continue,

@@ -4,7 +4,7 @@ use bt_core::items::Items;
 use bt_core::value::Value;
 
 /// Where a statement leads: to the next one, out of its loop, to the next turn of its loop, or to the end of the run.
-#[derive(Clone, Copy, PartialEq, Eq)]
+#[derive(Clone, Copy)]
 pub enum Flow {
     Next,
     Break,
