@@ -15,10 +15,10 @@ use Rattle.typed_tree.specs.Scope.{fits, all_fit}
 use Rattle.walk_meaning.specs.declared.view.View.{View}
 use Rattle.walk_meaning.specs.Served.{Fits, scope_in}
 
-behind : (v : View) (p : Part) (a all : List Part) → all ≡ p ∷ a → Fits v all → Fits v a
+pub behind : (v : View) (p : Part) (a all : List Part) → all ≡ p ∷ a → Fits v all → Fits v a
 behind v p a all is fit = (and_parts (fits (scope_in v) p) (all_fit (scope_in v) a) (subst (λ (l : List Part). all_fit (scope_in v) l ≡ true) is fit)).1
 
-two : (v : View) (a b : List Part) → Fits v (a ++ b) → Fits v a × Fits v b
+pub two : (v : View) (a b : List Part) → Fits v (a ++ b) → Fits v a × Fits v b
 two v a b fit = and_parts (all_fit (scope_in v) a) (all_fit (scope_in v) b) (sym (list_all-append (fits (scope_in v)) a b) ∙ fit)
 
 module _ (v : View) (e : NumExpr) (fit : Fits v (num_parts e)) where

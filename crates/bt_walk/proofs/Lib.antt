@@ -3,4 +3,5 @@ pub mod Binds
 pub mod Fitting
 pub mod Gathers
 pub mod Loops
+pub mod Statements
 pub mod WalkedAs
