@@ -1,8 +1,9 @@
 -- What a statement of each kind does, and what fits of it, from the fit of the whole.
-use Rattle.std.proofs.Common.{◌≡◌, ◌++◌, ℕ, ◌≤◌, arith, Bool, true, List, [], ◌∷◌, Option, refl, sym, ap, ◌∙◌, subst}
+use Rattle.std.proofs.Common.{◌≡◌, ◌++◌, ℕ, ◌≤◌, arith, Bool, true, List, [], ◌∷◌, Option, Some, None, refl, sym, ap, ◌∙◌, subst}
 use Rattle.std.specs.Prelude.{is_none}
 use Rattle.bt_core.specs.declared.map.AggKind.{AggKind}
 use Rattle.bt_core.specs.declared.map.MapId.{MapId}
+use Rattle.bt_core.specs.declared.map.Shape.TheVariants.{Int}
 use Rattle.bt_core.specs.declared.operator.BinOp.{BinOp}
 use Rattle.typed_tree.specs.declared.expr.AnyExpr.{AnyExpr}
 use Rattle.typed_tree.specs.declared.expr.NumExpr.{NumExpr}
@@ -11,7 +12,7 @@ use Rattle.typed_tree.specs.declared.stmt.TypedBlock.{TypedBlock}
 use Rattle.typed_tree.specs.declared.stmt.TypedStmt.{TypedStmt, fold-roll-TypedStmt}
 use Rattle.typed_tree.specs.declared.stmt.TypedStmt.TheVariants as stmts
 use Rattle.typed_tree.specs.declared.stmt.TypedStmt.TheOpen.{TypedStmt-F}
-use Rattle.typed_tree.specs.Parts.{Part, stmt_layer, block_layer, stmt_parts, block_parts, made_of, num_parts, parts_in, key_shapes, set_var_parts, set_map_parts, update_var_parts, update_map_parts, gather_parts, printf_parts, delete_parts, number_parts, Made, Gathered, Looped, Unrolled, Printed, Ending}
+use Rattle.typed_tree.specs.Parts.{Part, stmt_layer, block_layer, stmt_parts, block_parts, made_of, num_parts, parts_in, key_shapes, set_var_parts, set_map_parts, update_var_parts, update_map_parts, gather_parts, printf_parts, delete_parts, number_parts, Made, keyed_parts, MapOf, Assigned, Gathered, Looped, Unrolled, Printed, Ending}
 use Rattle.walk_meaning.specs.declared.flow.Flow.{Flow}
 use Rattle.walk_meaning.specs.declared.view.View.{View}
 use Rattle.walk_meaning.specs.Does.{Does}
@@ -101,3 +102,13 @@ unroll_fits v s n block line h fit =
 
 pub gather_split : (v : View) (m : MapId) (keys : List Made) (kind : AggKind) (number : Option NumExpr) → Fits v (gather_parts m.0 keys kind number) → Fits v (parts_in keys) × Fits v (number_parts number)
 gather_split v m keys kind number fit = two v (parts_in keys) (number_parts number) (behind v (Gathered m.0 (key_shapes keys) kind (is_none number)) (parts_in keys ++ number_parts number) (gather_parts m.0 keys kind number) refl fit)
+
+pub set_split : (v : View) (m : MapId) (keys : List Made) (value : Made) → Fits v (set_map_parts m.0 keys value) → Fits v (parts_in keys) × Fits v value.parts
+set_split v m keys value fit =
+    let both = two v (keyed_parts m.0 keys value.shape) value.parts (behind v (Assigned None) (keyed_parts m.0 keys value.shape ++ value.parts) (set_map_parts m.0 keys value) refl fit) in
+    (behind v (MapOf m.0 (key_shapes keys) value.shape) (parts_in keys) (keyed_parts m.0 keys value.shape) refl both.0, both.1)
+
+pub update_split : (v : View) (op : BinOp) (m : MapId) (keys : List Made) (value : List Part) → Fits v (update_map_parts op m.0 keys value) → Fits v (parts_in keys) × Fits v value
+update_split v op m keys value fit =
+    let both = two v (keyed_parts m.0 keys Int) value (behind v (Assigned (Some op)) (keyed_parts m.0 keys Int ++ value) (update_map_parts op m.0 keys value) refl fit) in
+    (behind v (MapOf m.0 (key_shapes keys) Int) (parts_in keys) (keyed_parts m.0 keys Int) refl both.0, both.1)

@@ -384,12 +384,12 @@ pub walk_stmt-returns-in-Unroll-clause-turns : goal.walk_stmt-returns-in-Unroll-
 walk_stmt-returns-in-Unroll-clause-turns g t c = c.walk_turns.ensures.turns
 
 pub walk_stmt-walk_while-requires : goal.walk_stmt-walk_while-requires
-walk_stmt-walk_while-requires g t c κs within = 
+walk_stmt-walk_while-requires g t c κs within =
     let fit = while_fits c.args.view.now c.args.s.now _ _ _ c.in-While.is c.requires.fits in
     (search (rules, stmts.the_lemmas, blocks.the_lemmas), (within.0, (within.1, (c.requires.served, (fit.1, fit.0)))))
 
 pub walk_stmt-walk_turns-requires : goal.walk_stmt-walk_turns-requires
-walk_stmt-walk_turns-requires g t c κs within = 
+walk_stmt-walk_turns-requires g t c κs within =
     let fit = unroll_fits c.args.view.now c.args.s.now _ _ _ c.in-Unroll.is c.requires.fits in
     (search (rules, stmts.the_lemmas, blocks.the_lemmas), (within.0, (within.1, (c.requires.served, fit))))
 
