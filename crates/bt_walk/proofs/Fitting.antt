@@ -1,6 +1,5 @@
 -- What fits of an expression's operands, from the fit of the whole.
 use Rattle.std.proofs.Common.{◌≡◌, ◌++◌, List, ◌∷◌, Bool, true, sym, ap, ◌∙◌, subst}
-use Rattle.std.specs.List.{list_all}
 use Rattle.std.proofs.lemmas.Bool.{and_parts}
 use Rattle.std.proofs.lemmas.List.Folds.{list_all-append}
 use Rattle.bt_core.specs.declared.operator.BinOp.{BinOp}
