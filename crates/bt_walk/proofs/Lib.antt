@@ -1,5 +1,7 @@
 pub mod Bodies
 pub mod Binds
+pub mod Fitting
 pub mod Gathers
 pub mod Loops
+pub mod Statements
 pub mod WalkedAs

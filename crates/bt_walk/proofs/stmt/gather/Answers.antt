@@ -6,6 +6,7 @@ use Rattle.walk_meaning.specs.Served.{all_made}
 use Rattle.bt_walk.proofs.Binds.{Part-first, Part-next, Whole-next, Given-done, Lifted-done, Lifted-begun}
 use Rattle.walk_meaning.proofs.Declared.{gathering, add_can}
 use Rattle.walk_meaning.proofs.TreeParts.{gather_head}
+use Rattle.bt_walk.proofs.Statements.{gather_split}
 use Rattle.bt_walk.proofs.stmt.gather.Goals as goal
 
 pub key-requires-clause-few : goal.key-requires-clause-few
@@ -39,3 +40,9 @@ returns-clause-walked g c =
     let fn : SFits w64 c.in_ok-n.n = search rules in
     let told = simp to_z-of_z at c.in_ok-tell.ensures.performed in
     (Whole-next _ _ _ _ _ _ _ _ c.in_ok-key.ensures.walked _ _ (Whole-next _ _ _ _ _ _ _ _ c.in_ok-n.ensures.walked _ _ (Whole-next _ _ _ _ _ _ _ _ (Lifted-done _ _ _ _ _ _ told) _ _ (Given-done _ _ _ _ _ _ refl refl))))
+
+pub key-requires-clause-fits : goal.key-requires-clause-fits
+key-requires-clause-fits g c = (gather_split c.args.view.now c.args.map (all_made c.args.keys.now) c.args.kind c.args.number.now c.requires.fits).0
+
+pub number_or_one-requires-clause-fits : goal.number_or_one-requires-clause-fits
+number_or_one-requires-clause-fits g c = (gather_split c.args.view.now c.args.map (all_made c.args.keys.now) c.args.kind c.args.number.now c.requires.fits).1

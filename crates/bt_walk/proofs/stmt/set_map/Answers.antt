@@ -5,6 +5,7 @@ use Rattle.walk_meaning.specs.Served.{all_made}
 use Rattle.bt_walk.proofs.Binds.{Part-first, Part-next, Whole-next, Given-done}
 use Rattle.walk_meaning.proofs.Declared.{valued, set_can}
 use Rattle.walk_meaning.proofs.TreeParts.{set_head}
+use Rattle.bt_walk.proofs.Statements.{set_split}
 use Rattle.bt_walk.proofs.stmt.set_map.Goals as goal
 
 pub key-requires-clause-few : goal.key-requires-clause-few
@@ -33,3 +34,9 @@ returns-in_err-set-clause-walked g c =
 
 pub returns-clause-walked : goal.returns-clause-walked
 returns-clause-walked g c = (Whole-next _ _ _ _ _ _ _ _ c.in_ok-key.ensures.walked _ _ (Whole-next _ _ _ _ _ _ _ _ c.in_ok-value.ensures.walked _ _ (Whole-next _ _ _ _ _ _ _ _ (c.in_ok-set.ensures.made _ _) _ _ (Given-done _ _ _ _ _ _ refl refl))))
+
+pub key-requires-clause-fits : goal.key-requires-clause-fits
+key-requires-clause-fits g c = (set_split c.args.view.now c.args.map (all_made c.args.keys.now) (made_of c.args.e.now) c.requires.fits).0
+
+pub value-requires-clause-fits : goal.value-requires-clause-fits
+value-requires-clause-fits g c = (set_split c.args.view.now c.args.map (all_made c.args.keys.now) (made_of c.args.e.now) c.requires.fits).1

@@ -7,6 +7,7 @@ use Rattle.walk_meaning.specs.Served.{all_made}
 use Rattle.bt_walk.proofs.Binds.{Part-first, Part-next, Walked-next}
 use Rattle.walk_meaning.proofs.Declared.{valued, held}
 use Rattle.walk_meaning.proofs.TreeParts.{update_head}
+use Rattle.bt_walk.proofs.Statements.{update_split}
 use Rattle.bt_walk.proofs.stmt.update_map.Goals as goal
 
 pub key-requires-clause-few : goal.key-requires-clause-few
@@ -33,3 +34,9 @@ returns-clause-walked g c =
     let fb : SFits w64 c.in_ok-b.b = search rules in
     let made = simp to_z-of_z at c.update_at.ensures.made in
     (Walked-next _ _ _ _ _ _ _ _ c.in_ok-key.ensures.walked _ _ _ (Walked-next _ _ _ _ _ _ _ _ c.in_ok-b.ensures.walked _ _ _ (made _ _)))
+
+pub key-requires-clause-fits : goal.key-requires-clause-fits
+key-requires-clause-fits g c = (update_split c.args.view.now c.args.op c.args.map (all_made c.args.keys.now) (num_parts c.args.e.now) c.requires.fits).0
+
+pub number-requires-clause-fits : goal.number-requires-clause-fits
+number-requires-clause-fits g c = (update_split c.args.view.now c.args.op c.args.map (all_made c.args.keys.now) (num_parts c.args.e.now) c.requires.fits).1

@@ -17,6 +17,9 @@ use denote.Param.Weighed.{most}
 use Rattle.bt_walk.proofs.Gathers.{gathers-start, gathers-stop, gathers-next, gathers-drop, gathers-end, shapes-next}
 use Rattle.walk_meaning.proofs.ExprDoes as does
 use Rattle.bt_walk.proofs.WalkedAs as told
+use Rattle.bt_walk.proofs.Fitting.{unary_fits, binary_fits, compare_fits, and_fits, or_fits, choose_fits, choose_text_fits}
+use Rattle.typed_tree.specs.declared.expr.NumExpr as nums
+use Rattle.typed_tree.specs.declared.expr.StrExpr as strs
 use Rattle.bt_walk.proofs.value.+value.Goals as goal
 
 pub number-int_field-requires-clause-inside : goal.number-int_field-requires-clause-inside
@@ -345,3 +348,339 @@ pub read_agg-returns-clause-walked : goal.read_agg-returns-clause-walked
 read_agg-returns-clause-walked g t c =
     let made = rw (c.of-key.ensures, c.into_vec.ensures) at c.sum_at.ensures.walked in
     (Walked-next _ _ _ _ _ _ _ _ c.in_ok-parts.ensures.walked _ _ _ (made _))
+
+pub number-number-requires : goal.number-number-requires
+number-number-requires g t c κs within = (search (rules, nums.the_lemmas), (within.0, (within.1, (c.requires.served, unary_fits c.args.view.now c.args.e.now c.requires.fits _ _ _ c.in-Unary.is c.get.ensures))))
+
+pub number-number-requires-in-Binary : goal.number-number-requires-in-Binary
+number-number-requires-in-Binary g t c κs within = (search (rules, nums.the_lemmas), (within.0, (within.1, (c.requires.served, rw c.get-in-Binary.ensures (binary_fits c.args.view.now c.args.e.now c.requires.fits _ _ _ c.in-Binary.is).0))))
+
+pub number-number-requires-in-Binary-2 : goal.number-number-requires-in-Binary-2
+number-number-requires-in-Binary-2 g t c κs within = (search (rules, nums.the_lemmas), (within.0, (within.1, (rw c.in_ok-a-in-Binary.ensures.kept c.requires.served, rw (c.get-in-Binary-2).ensures (binary_fits c.args.view.now c.args.e.now c.requires.fits _ _ _ c.in-Binary.is).1))))
+
+pub number-text-requires : goal.number-text-requires
+number-text-requires g t c κs within = (search (rules, nums.the_lemmas), (within.0, (within.1, (c.requires.served, rw c.get-in-Compare.ensures (compare_fits c.args.view.now c.args.e.now c.requires.fits _ _ _ c.in-Compare.is).0))))
+
+pub number-text-requires-in-Compare : goal.number-text-requires-in-Compare
+number-text-requires-in-Compare g t c κs within = (search (rules, nums.the_lemmas), (within.0, (within.1, (rw c.in_ok-a-in-Compare.ensures.kept c.requires.served, rw (c.get-in-Compare-2).ensures (compare_fits c.args.view.now c.args.e.now c.requires.fits _ _ _ c.in-Compare.is).1))))
+
+pub number-number-requires-in-AndThen : goal.number-number-requires-in-AndThen
+number-number-requires-in-AndThen g t c κs within = (search (rules, nums.the_lemmas), (within.0, (within.1, (c.requires.served, rw c.get-in-AndThen.ensures (and_fits c.args.view.now c.args.e.now c.requires.fits _ _ c.in-AndThen.is).0))))
+
+pub number-number-requires-then-holds : goal.number-number-requires-then-holds
+number-number-requires-then-holds g t c κs within = (search (rules, nums.the_lemmas), (within.0, (within.1, (rw c.in_ok-a-in-AndThen.ensures.kept c.requires.served, rw c.get-then-holds.ensures (and_fits c.args.view.now c.args.e.now c.requires.fits _ _ c.in-AndThen.is).1))))
+
+pub number-number-requires-in-OrElse : goal.number-number-requires-in-OrElse
+number-number-requires-in-OrElse g t c κs within = (search (rules, nums.the_lemmas), (within.0, (within.1, (c.requires.served, rw c.get-in-OrElse.ensures (or_fits c.args.view.now c.args.e.now c.requires.fits _ _ c.in-OrElse.is).0))))
+
+pub number-number-requires-else-holds-2 : goal.number-number-requires-else-holds-2
+number-number-requires-else-holds-2 g t c κs within = (search (rules, nums.the_lemmas), (within.0, (within.1, (rw c.in_ok-a-in-OrElse.ensures.kept c.requires.served, rw (c.get-else-holds-2).ensures (or_fits c.args.view.now c.args.e.now c.requires.fits _ _ c.in-OrElse.is).1))))
+
+pub number-number-requires-in-Choose : goal.number-number-requires-in-Choose
+number-number-requires-in-Choose g t c κs within = (search (rules, nums.the_lemmas), (within.0, (within.1, (c.requires.served, rw c.get-in-Choose.ensures (choose_fits c.args.view.now c.args.e.now c.requires.fits _ _ _ c.in-Choose.is).0))))
+
+pub number-number-requires-then-holds-3 : goal.number-number-requires-then-holds-3
+number-number-requires-then-holds-3 g t c κs within = (search (rules, nums.the_lemmas), (within.0, (within.1, (rw c.in_ok-test-in-Choose.ensures.kept c.requires.served, rw (c.get-then-holds-3).ensures (choose_fits c.args.view.now c.args.e.now c.requires.fits _ _ _ c.in-Choose.is).1.0))))
+
+pub number-number-requires-else-holds-3 : goal.number-number-requires-else-holds-3
+number-number-requires-else-holds-3 g t c κs within = (search (rules, nums.the_lemmas), (within.0, (within.1, (rw c.in_ok-test-in-Choose.ensures.kept c.requires.served, rw (c.get-else-holds-3).ensures (choose_fits c.args.view.now c.args.e.now c.requires.fits _ _ _ c.in-Choose.is).1.1))))
+
+pub text-number-requires : goal.text-number-requires
+text-number-requires g t c κs within = (search (rules, strs.the_lemmas), (within.0, (within.1, (c.requires.served, rw c.get.ensures (choose_text_fits c.args.view.now c.args.e.now c.requires.fits _ _ _ c.in-Choose.is).0))))
+
+pub text-text-requires : goal.text-text-requires
+text-text-requires g t c κs within = (search (rules, strs.the_lemmas), (within.0, (within.1, (rw c.in_ok-test-in-Choose.ensures.kept c.requires.served, rw c.get-then-holds.ensures (choose_text_fits c.args.view.now c.args.e.now c.requires.fits _ _ _ c.in-Choose.is).1.0))))
+
+pub text-text-requires-else-holds : goal.text-text-requires-else-holds
+text-text-requires-else-holds g t c κs within = (search (rules, strs.the_lemmas), (within.0, (within.1, (rw c.in_ok-test-in-Choose.ensures.kept c.requires.served, rw c.get-else-holds.ensures (choose_text_fits c.args.view.now c.args.e.now c.requires.fits _ _ _ c.in-Choose.is).1.1))))
+
+pub number-returns-in-Builtin-clause-kept : goal.number-returns-in-Builtin-clause-kept
+number-returns-in-Builtin-clause-kept g t c = refl
+
+pub number-returns-in-Builtin-clause-turns : goal.number-returns-in-Builtin-clause-turns
+number-returns-in-Builtin-clause-turns g t c = refl
+
+pub number-returns-in-Field-clause-kept : goal.number-returns-in-Field-clause-kept
+number-returns-in-Field-clause-kept g t c = refl
+
+pub number-returns-in-Field-clause-turns : goal.number-returns-in-Field-clause-turns
+number-returns-in-Field-clause-turns g t c = refl
+
+pub number-returns-in-Number-clause-kept : goal.number-returns-in-Number-clause-kept
+number-returns-in-Number-clause-kept g t c = refl
+
+pub number-returns-in-Number-clause-turns : goal.number-returns-in-Number-clause-turns
+number-returns-in-Number-clause-turns g t c = refl
+
+pub number-returns-in-Var-clause-kept : goal.number-returns-in-Var-clause-kept
+number-returns-in-Var-clause-kept g t c = refl
+
+pub number-returns-in-Var-clause-turns : goal.number-returns-in-Var-clause-turns
+number-returns-in-Var-clause-turns g t c = refl
+
+pub number-returns-in-StepVar-clause-kept : goal.number-returns-in-StepVar-clause-kept
+number-returns-in-StepVar-clause-kept g t c = refl
+
+pub number-returns-in-Agg-clause-kept : goal.number-returns-in-Agg-clause-kept
+number-returns-in-Agg-clause-kept g t c = c.read_agg.ensures.kept
+
+pub number-returns-in-Agg-clause-turns : goal.number-returns-in-Agg-clause-turns
+number-returns-in-Agg-clause-turns g t c = c.read_agg.ensures.turns
+
+pub number-returns-in_err-read-in-Map-clause-kept : goal.number-returns-in_err-read-in-Map-clause-kept
+number-returns-in_err-read-in-Map-clause-kept g t c = c.in_err-read-in-Map.ensures.kept
+
+pub number-returns-in_err-read-in-Map-clause-turns : goal.number-returns-in_err-read-in-Map-clause-turns
+number-returns-in_err-read-in-Map-clause-turns g t c = c.in_err-read-in-Map.ensures.turns
+
+pub number-returns-in_ok-read-in-Map-clause-kept : goal.number-returns-in_ok-read-in-Map-clause-kept
+number-returns-in_ok-read-in-Map-clause-kept g t c = c.in_ok-read-in-Map.ensures.kept
+
+pub number-returns-in_ok-read-in-Map-clause-turns : goal.number-returns-in_ok-read-in-Map-clause-turns
+number-returns-in_ok-read-in-Map-clause-turns g t c = c.in_ok-read-in-Map.ensures.turns
+
+pub number-returns-in_err-parts-in-StepMap-clause-kept : goal.number-returns-in_err-parts-in-StepMap-clause-kept
+number-returns-in_err-parts-in-StepMap-clause-kept g t c = c.in_err-parts-in-StepMap.ensures.kept
+
+pub number-returns-in_err-parts-in-StepMap-clause-turns : goal.number-returns-in_err-parts-in-StepMap-clause-turns
+number-returns-in_err-parts-in-StepMap-clause-turns g t c = c.in_err-parts-in-StepMap.ensures.turns
+
+pub number-returns-in_ok-parts-in-StepMap-clause-kept : goal.number-returns-in_ok-parts-in-StepMap-clause-kept
+number-returns-in_ok-parts-in-StepMap-clause-kept g t c = c.step_map.ensures.kept ∙ c.in_ok-parts-in-StepMap.ensures.kept
+
+pub number-returns-in_ok-parts-in-StepMap-clause-turns : goal.number-returns-in_ok-parts-in-StepMap-clause-turns
+number-returns-in_ok-parts-in-StepMap-clause-turns g t c = c.in_ok-parts-in-StepMap.ensures.turns
+
+pub number-returns-in_err-a-in-Unary-clause-kept : goal.number-returns-in_err-a-in-Unary-clause-kept
+number-returns-in_err-a-in-Unary-clause-kept g t c = c.in_err-a-in-Unary.ensures.kept
+
+pub number-returns-in_err-a-in-Unary-clause-turns : goal.number-returns-in_err-a-in-Unary-clause-turns
+number-returns-in_err-a-in-Unary-clause-turns g t c = c.in_err-a-in-Unary.ensures.turns
+
+pub number-returns-in_err-a-in-Binary-clause-kept : goal.number-returns-in_err-a-in-Binary-clause-kept
+number-returns-in_err-a-in-Binary-clause-kept g t c = c.in_err-a-in-Binary.ensures.kept
+
+pub number-returns-in_err-a-in-Binary-clause-turns : goal.number-returns-in_err-a-in-Binary-clause-turns
+number-returns-in_err-a-in-Binary-clause-turns g t c = c.in_err-a-in-Binary.ensures.turns
+
+pub number-returns-in_err-a-in-Compare-clause-kept : goal.number-returns-in_err-a-in-Compare-clause-kept
+number-returns-in_err-a-in-Compare-clause-kept g t c = c.in_err-a-in-Compare.ensures.kept
+
+pub number-returns-in_err-a-in-Compare-clause-turns : goal.number-returns-in_err-a-in-Compare-clause-turns
+number-returns-in_err-a-in-Compare-clause-turns g t c = c.in_err-a-in-Compare.ensures.turns
+
+pub number-returns-in_err-a-in-AndThen-clause-kept : goal.number-returns-in_err-a-in-AndThen-clause-kept
+number-returns-in_err-a-in-AndThen-clause-kept g t c = c.in_err-a-in-AndThen.ensures.kept
+
+pub number-returns-in_err-a-in-AndThen-clause-turns : goal.number-returns-in_err-a-in-AndThen-clause-turns
+number-returns-in_err-a-in-AndThen-clause-turns g t c = c.in_err-a-in-AndThen.ensures.turns
+
+pub number-returns-in_err-a-in-OrElse-clause-kept : goal.number-returns-in_err-a-in-OrElse-clause-kept
+number-returns-in_err-a-in-OrElse-clause-kept g t c = c.in_err-a-in-OrElse.ensures.kept
+
+pub number-returns-in_err-a-in-OrElse-clause-turns : goal.number-returns-in_err-a-in-OrElse-clause-turns
+number-returns-in_err-a-in-OrElse-clause-turns g t c = c.in_err-a-in-OrElse.ensures.turns
+
+pub number-returns-in_ok-a-in-Unary-clause-kept : goal.number-returns-in_ok-a-in-Unary-clause-kept
+number-returns-in_ok-a-in-Unary-clause-kept g t c = c.in_ok-a-in-Unary.ensures.kept
+
+pub number-returns-in_ok-a-in-Unary-clause-turns : goal.number-returns-in_ok-a-in-Unary-clause-turns
+number-returns-in_ok-a-in-Unary-clause-turns g t c = c.in_ok-a-in-Unary.ensures.turns
+
+pub number-returns-in_err-b-in-Binary-clause-kept : goal.number-returns-in_err-b-in-Binary-clause-kept
+number-returns-in_err-b-in-Binary-clause-kept g t c = c.in_err-b-in-Binary.ensures.kept ∙ c.in_ok-a-in-Binary.ensures.kept
+
+pub number-returns-in_err-b-in-Binary-clause-turns : goal.number-returns-in_err-b-in-Binary-clause-turns
+number-returns-in_err-b-in-Binary-clause-turns g t c = c.in_err-b-in-Binary.ensures.turns ∙ c.in_ok-a-in-Binary.ensures.turns
+
+pub number-returns-in_ok-b-in-Binary-clause-kept : goal.number-returns-in_ok-b-in-Binary-clause-kept
+number-returns-in_ok-b-in-Binary-clause-kept g t c = c.in_ok-b-in-Binary.ensures.kept ∙ c.in_ok-a-in-Binary.ensures.kept
+
+pub number-returns-in_ok-b-in-Binary-clause-turns : goal.number-returns-in_ok-b-in-Binary-clause-turns
+number-returns-in_ok-b-in-Binary-clause-turns g t c = c.in_ok-b-in-Binary.ensures.turns ∙ c.in_ok-a-in-Binary.ensures.turns
+
+pub number-returns-in_err-b-in-Compare-clause-kept : goal.number-returns-in_err-b-in-Compare-clause-kept
+number-returns-in_err-b-in-Compare-clause-kept g t c = c.in_err-b-in-Compare.ensures.kept ∙ c.in_ok-a-in-Compare.ensures.kept
+
+pub number-returns-in_err-b-in-Compare-clause-turns : goal.number-returns-in_err-b-in-Compare-clause-turns
+number-returns-in_err-b-in-Compare-clause-turns g t c = c.in_err-b-in-Compare.ensures.turns ∙ c.in_ok-a-in-Compare.ensures.turns
+
+pub number-returns-in_ok-b-in-Compare-clause-kept : goal.number-returns-in_ok-b-in-Compare-clause-kept
+number-returns-in_ok-b-in-Compare-clause-kept g t c = c.in_ok-b-in-Compare.ensures.kept ∙ c.in_ok-a-in-Compare.ensures.kept
+
+pub number-returns-in_ok-b-in-Compare-clause-turns : goal.number-returns-in_ok-b-in-Compare-clause-turns
+number-returns-in_ok-b-in-Compare-clause-turns g t c = c.in_ok-b-in-Compare.ensures.turns ∙ c.in_ok-a-in-Compare.ensures.turns
+
+pub number-returns-in_err-b-in-AndThen-clause-kept : goal.number-returns-in_err-b-in-AndThen-clause-kept
+number-returns-in_err-b-in-AndThen-clause-kept g t c = c.in_err-b-in-AndThen.ensures.kept ∙ c.in_ok-a-in-AndThen.ensures.kept
+
+pub number-returns-in_err-b-in-AndThen-clause-turns : goal.number-returns-in_err-b-in-AndThen-clause-turns
+number-returns-in_err-b-in-AndThen-clause-turns g t c = c.in_err-b-in-AndThen.ensures.turns ∙ c.in_ok-a-in-AndThen.ensures.turns
+
+pub number-returns-in_ok-b-in-AndThen-clause-kept : goal.number-returns-in_ok-b-in-AndThen-clause-kept
+number-returns-in_ok-b-in-AndThen-clause-kept g t c = c.in_ok-b-in-AndThen.ensures.kept ∙ c.in_ok-a-in-AndThen.ensures.kept
+
+pub number-returns-in_ok-b-in-AndThen-clause-turns : goal.number-returns-in_ok-b-in-AndThen-clause-turns
+number-returns-in_ok-b-in-AndThen-clause-turns g t c = c.in_ok-b-in-AndThen.ensures.turns ∙ c.in_ok-a-in-AndThen.ensures.turns
+
+pub number-returns-in_err-b-in-OrElse-clause-kept : goal.number-returns-in_err-b-in-OrElse-clause-kept
+number-returns-in_err-b-in-OrElse-clause-kept g t c = c.in_err-b-in-OrElse.ensures.kept ∙ c.in_ok-a-in-OrElse.ensures.kept
+
+pub number-returns-in_err-b-in-OrElse-clause-turns : goal.number-returns-in_err-b-in-OrElse-clause-turns
+number-returns-in_err-b-in-OrElse-clause-turns g t c = c.in_err-b-in-OrElse.ensures.turns ∙ c.in_ok-a-in-OrElse.ensures.turns
+
+pub number-returns-in_ok-b-in-OrElse-clause-kept : goal.number-returns-in_ok-b-in-OrElse-clause-kept
+number-returns-in_ok-b-in-OrElse-clause-kept g t c = c.in_ok-b-in-OrElse.ensures.kept ∙ c.in_ok-a-in-OrElse.ensures.kept
+
+pub number-returns-in_ok-b-in-OrElse-clause-turns : goal.number-returns-in_ok-b-in-OrElse-clause-turns
+number-returns-in_ok-b-in-OrElse-clause-turns g t c = c.in_ok-b-in-OrElse.ensures.turns ∙ c.in_ok-a-in-OrElse.ensures.turns
+
+pub number-returns-else-holds-clause-kept : goal.number-returns-else-holds-clause-kept
+number-returns-else-holds-clause-kept g t c = c.in_ok-a-in-AndThen.ensures.kept
+
+pub number-returns-else-holds-clause-turns : goal.number-returns-else-holds-clause-turns
+number-returns-else-holds-clause-turns g t c = c.in_ok-a-in-AndThen.ensures.turns
+
+pub number-returns-then-holds-2-clause-kept : goal.number-returns-then-holds-2-clause-kept
+number-returns-then-holds-2-clause-kept g t c = c.in_ok-a-in-OrElse.ensures.kept
+
+pub number-returns-then-holds-2-clause-turns : goal.number-returns-then-holds-2-clause-turns
+number-returns-then-holds-2-clause-turns g t c = c.in_ok-a-in-OrElse.ensures.turns
+
+pub number-returns-in_err-test-in-Choose-clause-kept : goal.number-returns-in_err-test-in-Choose-clause-kept
+number-returns-in_err-test-in-Choose-clause-kept g t c = c.in_err-test-in-Choose.ensures.kept
+
+pub number-returns-in_err-test-in-Choose-clause-turns : goal.number-returns-in_err-test-in-Choose-clause-turns
+number-returns-in_err-test-in-Choose-clause-turns g t c = c.in_err-test-in-Choose.ensures.turns
+
+pub number-returns-then-holds-3-clause-kept : goal.number-returns-then-holds-3-clause-kept
+number-returns-then-holds-3-clause-kept g t c = (c.number-then-holds-3).ensures.kept ∙ c.in_ok-test-in-Choose.ensures.kept
+
+pub number-returns-then-holds-3-clause-turns : goal.number-returns-then-holds-3-clause-turns
+number-returns-then-holds-3-clause-turns g t c = (c.number-then-holds-3).ensures.turns ∙ c.in_ok-test-in-Choose.ensures.turns
+
+pub number-returns-else-holds-3-clause-kept : goal.number-returns-else-holds-3-clause-kept
+number-returns-else-holds-3-clause-kept g t c = (c.number-else-holds-3).ensures.kept ∙ c.in_ok-test-in-Choose.ensures.kept
+
+pub number-returns-else-holds-3-clause-turns : goal.number-returns-else-holds-3-clause-turns
+number-returns-else-holds-3-clause-turns g t c = (c.number-else-holds-3).ensures.turns ∙ c.in_ok-test-in-Choose.ensures.turns
+
+pub text-returns-in-Comm-clause-kept : goal.text-returns-in-Comm-clause-kept
+text-returns-in-Comm-clause-kept g t c = refl
+
+pub text-returns-in-Comm-clause-turns : goal.text-returns-in-Comm-clause-turns
+text-returns-in-Comm-clause-turns g t c = refl
+
+pub text-returns-in-Field-clause-kept : goal.text-returns-in-Field-clause-kept
+text-returns-in-Field-clause-kept g t c = refl
+
+pub text-returns-in-Field-clause-turns : goal.text-returns-in-Field-clause-turns
+text-returns-in-Field-clause-turns g t c = refl
+
+pub text-returns-in-Text-clause-kept : goal.text-returns-in-Text-clause-kept
+text-returns-in-Text-clause-kept g t c = refl
+
+pub text-returns-in-Text-clause-turns : goal.text-returns-in-Text-clause-turns
+text-returns-in-Text-clause-turns g t c = refl
+
+pub text-returns-in-Var-clause-kept : goal.text-returns-in-Var-clause-kept
+text-returns-in-Var-clause-kept g t c = refl
+
+pub text-returns-in-Var-clause-turns : goal.text-returns-in-Var-clause-turns
+text-returns-in-Var-clause-turns g t c = refl
+
+pub text-returns-in_err-read-in-Map-clause-kept : goal.text-returns-in_err-read-in-Map-clause-kept
+text-returns-in_err-read-in-Map-clause-kept g t c = c.in_err-read-in-Map.ensures.kept
+
+pub text-returns-in_err-read-in-Map-clause-turns : goal.text-returns-in_err-read-in-Map-clause-turns
+text-returns-in_err-read-in-Map-clause-turns g t c = c.in_err-read-in-Map.ensures.turns
+
+pub text-returns-in_ok-read-in-Map-clause-kept : goal.text-returns-in_ok-read-in-Map-clause-kept
+text-returns-in_ok-read-in-Map-clause-kept g t c = c.in_ok-read-in-Map.ensures.kept
+
+pub text-returns-in_ok-read-in-Map-clause-turns : goal.text-returns-in_ok-read-in-Map-clause-turns
+text-returns-in_ok-read-in-Map-clause-turns g t c = c.in_ok-read-in-Map.ensures.turns
+
+pub text-returns-in_err-test-in-Choose-clause-kept : goal.text-returns-in_err-test-in-Choose-clause-kept
+text-returns-in_err-test-in-Choose-clause-kept g t c = c.in_err-test-in-Choose.ensures.kept
+
+pub text-returns-in_err-test-in-Choose-clause-turns : goal.text-returns-in_err-test-in-Choose-clause-turns
+text-returns-in_err-test-in-Choose-clause-turns g t c = c.in_err-test-in-Choose.ensures.turns
+
+pub text-returns-then-holds-clause-kept : goal.text-returns-then-holds-clause-kept
+text-returns-then-holds-clause-kept g t c = c.text.ensures.kept ∙ c.in_ok-test-in-Choose.ensures.kept
+
+pub text-returns-then-holds-clause-turns : goal.text-returns-then-holds-clause-turns
+text-returns-then-holds-clause-turns g t c = c.text.ensures.turns ∙ c.in_ok-test-in-Choose.ensures.turns
+
+pub text-returns-else-holds-clause-kept : goal.text-returns-else-holds-clause-kept
+text-returns-else-holds-clause-kept g t c = c.text-else-holds.ensures.kept ∙ c.in_ok-test-in-Choose.ensures.kept
+
+pub text-returns-else-holds-clause-turns : goal.text-returns-else-holds-clause-turns
+text-returns-else-holds-clause-turns g t c = c.text-else-holds.ensures.turns ∙ c.in_ok-test-in-Choose.ensures.turns
+
+pub value-returns-in_err-n-in-Num-clause-kept : goal.value-returns-in_err-n-in-Num-clause-kept
+value-returns-in_err-n-in-Num-clause-kept g t c = c.in_err-n-in-Num.ensures.kept
+
+pub value-returns-in_err-n-in-Num-clause-turns : goal.value-returns-in_err-n-in-Num-clause-turns
+value-returns-in_err-n-in-Num-clause-turns g t c = c.in_err-n-in-Num.ensures.turns
+
+pub value-returns-in_err-s-in-Str-clause-kept : goal.value-returns-in_err-s-in-Str-clause-kept
+value-returns-in_err-s-in-Str-clause-kept g t c = c.in_err-s-in-Str.ensures.kept
+
+pub value-returns-in_err-s-in-Str-clause-turns : goal.value-returns-in_err-s-in-Str-clause-turns
+value-returns-in_err-s-in-Str-clause-turns g t c = c.in_err-s-in-Str.ensures.turns
+
+pub value-returns-in_ok-n-in-Num-clause-kept : goal.value-returns-in_ok-n-in-Num-clause-kept
+value-returns-in_ok-n-in-Num-clause-kept g t c = c.in_ok-n-in-Num.ensures.kept
+
+pub value-returns-in_ok-n-in-Num-clause-turns : goal.value-returns-in_ok-n-in-Num-clause-turns
+value-returns-in_ok-n-in-Num-clause-turns g t c = c.in_ok-n-in-Num.ensures.turns
+
+pub value-returns-in_ok-s-in-Str-clause-kept : goal.value-returns-in_ok-s-in-Str-clause-kept
+value-returns-in_ok-s-in-Str-clause-kept g t c = c.in_ok-s-in-Str.ensures.kept
+
+pub value-returns-in_ok-s-in-Str-clause-turns : goal.value-returns-in_ok-s-in-Str-clause-turns
+value-returns-in_ok-s-in-Str-clause-turns g t c = c.in_ok-s-in-Str.ensures.turns
+
+pub read-returns-in_err-parts-clause-kept : goal.read-returns-in_err-parts-clause-kept
+read-returns-in_err-parts-clause-kept g t c = c.in_err-parts.ensures.kept
+
+pub read-returns-in_err-parts-clause-turns : goal.read-returns-in_err-parts-clause-turns
+read-returns-in_err-parts-clause-turns g t c = c.in_err-parts.ensures.turns
+
+pub read_agg-returns-in_err-parts-clause-kept : goal.read_agg-returns-in_err-parts-clause-kept
+read_agg-returns-in_err-parts-clause-kept g t c = c.in_err-parts.ensures.kept
+
+pub read_agg-returns-in_err-parts-clause-turns : goal.read_agg-returns-in_err-parts-clause-turns
+read_agg-returns-in_err-parts-clause-turns g t c = c.in_err-parts.ensures.turns
+
+pub read-returns-clause-kept : goal.read-returns-clause-kept
+read-returns-clause-kept g t c = c.get.ensures.kept ∙ c.in_ok-parts.ensures.kept
+
+pub read-returns-clause-turns : goal.read-returns-clause-turns
+read-returns-clause-turns g t c = c.in_ok-parts.ensures.turns
+
+pub read_agg-returns-clause-kept : goal.read_agg-returns-clause-kept
+read_agg-returns-clause-kept g t c = c.sum_at.ensures.kept ∙ c.in_ok-parts.ensures.kept
+
+pub read_agg-returns-clause-turns : goal.read_agg-returns-clause-turns
+read_agg-returns-clause-turns g t c = c.in_ok-parts.ensures.turns
+
+pub values-returns-clause-kept : goal.values-returns-clause-kept
+values-returns-clause-kept g t c = c.loop-key.invariant.kept
+
+pub values-returns-clause-turns : goal.values-returns-clause-turns
+values-returns-clause-turns g t c = c.loop-key.invariant.turns
+
+pub values-returns-in_err-part-clause-kept : goal.values-returns-in_err-part-clause-kept
+values-returns-in_err-part-clause-kept g t c = c.in_err-part.ensures.kept ∙ c.loop-key.invariant.kept
+
+pub values-returns-in_err-part-clause-turns : goal.values-returns-in_err-part-clause-turns
+values-returns-in_err-part-clause-turns g t c = c.in_err-part.ensures.turns ∙ c.loop-key.invariant.turns
+
+pub values-returns-in_err-push-clause-kept : goal.values-returns-in_err-push-clause-kept
+values-returns-in_err-push-clause-kept g t c = c.in_ok-part.ensures.kept ∙ c.loop-key.invariant.kept
+
+pub values-returns-in_err-push-clause-turns : goal.values-returns-in_err-push-clause-turns
+values-returns-in_err-push-clause-turns g t c = c.in_ok-part.ensures.turns ∙ c.loop-key.invariant.turns

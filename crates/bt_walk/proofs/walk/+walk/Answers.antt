@@ -17,6 +17,7 @@ use Rattle.bt_walk.proofs.Binds.{Walked-next, Looked-done, Changed-done}
 use Rattle.bt_walk.proofs.Loops.{Left-Walked, done_with, block-stop, block-next, block-leaves, block-end, arm-stop, arm-yes, arm-no, arms-end, turns-start, turns-stop, turns-next, turns-leaves, turns-end, while-starts, while-stop, while-ends, while-breaks, while-leaves, while-again}
 use Rattle.bt_walk.proofs.WalkedAs.{Walked-stmt}
 use Rattle.walk_meaning.proofs.StmtDoes.{print_stmt, if_stmt, arms_fit, otherwise_fits, block_is, stmts_fit}
+use Rattle.bt_walk.proofs.Statements.{same_turns, clear_does, delete_does, delete_fits, gather_does, gather_fits, jump_does, printf_does, printf_fits, setmap_does, setmap_fits, setvar_does, setvar_fits, step_does, step_fits, unroll_does, unroll_fits, updatemap_does, updatemap_fits, updatevar_does, updatevar_fits, while_does, while_fits, zero_does}
 use Rattle.bt_walk.proofs.walk.+walk.Goals as goal
 
 stopped : (flow : Flow) → flow ≡ Stop Cut → leaves flow ≡ None → ⊥
@@ -210,3 +211,244 @@ walk_while-returns-else-holds-clause-walked g t c =
     let test = simp to_z-of_z at c.holds.ensures in
     let e = sym test ∙ c.if-holds.false in
     while-ends _ _ _ _ _ _ _ _ c.loop-value.invariant.looping _ _ _ c.in_ok-value.ensures.walked e
+
+pub walk_stmt-set_variable-requires-clause-served : goal.walk_stmt-set_variable-requires-clause-served
+walk_stmt-set_variable-requires-clause-served g t c = c.requires.served
+
+pub walk_stmt-set_variable-requires-clause-fits : goal.walk_stmt-set_variable-requires-clause-fits
+walk_stmt-set_variable-requires-clause-fits g t c = setvar_fits c.args.view.now c.args.s.now _ _ c.in-SetVar.is c.requires.fits
+
+pub walk_stmt-returns-in-SetVar-clause-walked : goal.walk_stmt-returns-in-SetVar-clause-walked
+walk_stmt-returns-in-SetVar-clause-walked g t c = Walked-stmt _ _ _ _ _ _ _ _ (setvar_does c.args.s.now _ _ c.in-SetVar.is) c.set_variable.ensures.walked
+
+pub walk_stmt-returns-in-SetVar-clause-kept : goal.walk_stmt-returns-in-SetVar-clause-kept
+walk_stmt-returns-in-SetVar-clause-kept g t c = c.set_variable.ensures.kept
+
+pub walk_stmt-returns-in-SetVar-clause-turns : goal.walk_stmt-returns-in-SetVar-clause-turns
+walk_stmt-returns-in-SetVar-clause-turns g t c = same_turns _ _ c.set_variable.ensures.turns
+
+pub walk_stmt-set_map-requires-clause-served : goal.walk_stmt-set_map-requires-clause-served
+walk_stmt-set_map-requires-clause-served g t c = c.requires.served
+
+pub walk_stmt-set_map-requires-clause-fits : goal.walk_stmt-set_map-requires-clause-fits
+walk_stmt-set_map-requires-clause-fits g t c = setmap_fits c.args.view.now c.args.s.now _ _ _ _ c.in-SetMap.is c.as_slice.ensures c.requires.fits
+
+pub walk_stmt-returns-in-SetMap-clause-walked : goal.walk_stmt-returns-in-SetMap-clause-walked
+walk_stmt-returns-in-SetMap-clause-walked g t c = Walked-stmt _ _ _ _ _ _ _ _ (setmap_does c.args.s.now _ _ _ _ c.in-SetMap.is c.as_slice.ensures) c.set_map.ensures.walked
+
+pub walk_stmt-returns-in-SetMap-clause-kept : goal.walk_stmt-returns-in-SetMap-clause-kept
+walk_stmt-returns-in-SetMap-clause-kept g t c = c.set_map.ensures.kept
+
+pub walk_stmt-returns-in-SetMap-clause-turns : goal.walk_stmt-returns-in-SetMap-clause-turns
+walk_stmt-returns-in-SetMap-clause-turns g t c = same_turns _ _ c.set_map.ensures.turns
+
+pub walk_stmt-update_variable-requires-clause-served : goal.walk_stmt-update_variable-requires-clause-served
+walk_stmt-update_variable-requires-clause-served g t c = c.requires.served
+
+pub walk_stmt-update_variable-requires-clause-fits : goal.walk_stmt-update_variable-requires-clause-fits
+walk_stmt-update_variable-requires-clause-fits g t c = updatevar_fits c.args.view.now c.args.s.now _ _ _ c.in-UpdateVar.is c.requires.fits
+
+pub walk_stmt-returns-in-UpdateVar-clause-walked : goal.walk_stmt-returns-in-UpdateVar-clause-walked
+walk_stmt-returns-in-UpdateVar-clause-walked g t c = Walked-stmt _ _ _ _ _ _ _ _ (updatevar_does c.args.s.now _ _ _ c.in-UpdateVar.is) c.update_variable.ensures.walked
+
+pub walk_stmt-returns-in-UpdateVar-clause-kept : goal.walk_stmt-returns-in-UpdateVar-clause-kept
+walk_stmt-returns-in-UpdateVar-clause-kept g t c = c.update_variable.ensures.kept
+
+pub walk_stmt-returns-in-UpdateVar-clause-turns : goal.walk_stmt-returns-in-UpdateVar-clause-turns
+walk_stmt-returns-in-UpdateVar-clause-turns g t c = same_turns _ _ c.update_variable.ensures.turns
+
+pub walk_stmt-update_map-requires-clause-served : goal.walk_stmt-update_map-requires-clause-served
+walk_stmt-update_map-requires-clause-served g t c = c.requires.served
+
+pub walk_stmt-update_map-requires-clause-fits : goal.walk_stmt-update_map-requires-clause-fits
+walk_stmt-update_map-requires-clause-fits g t c = updatemap_fits c.args.view.now c.args.s.now _ _ _ _ _ c.in-UpdateMap.is c.as_slice-in-UpdateMap.ensures c.requires.fits
+
+pub walk_stmt-returns-in-UpdateMap-clause-walked : goal.walk_stmt-returns-in-UpdateMap-clause-walked
+walk_stmt-returns-in-UpdateMap-clause-walked g t c = Walked-stmt _ _ _ _ _ _ _ _ (updatemap_does c.args.s.now _ _ _ _ _ c.in-UpdateMap.is c.as_slice-in-UpdateMap.ensures) c.update_map.ensures.walked
+
+pub walk_stmt-returns-in-UpdateMap-clause-kept : goal.walk_stmt-returns-in-UpdateMap-clause-kept
+walk_stmt-returns-in-UpdateMap-clause-kept g t c = c.update_map.ensures.kept
+
+pub walk_stmt-returns-in-UpdateMap-clause-turns : goal.walk_stmt-returns-in-UpdateMap-clause-turns
+walk_stmt-returns-in-UpdateMap-clause-turns g t c = same_turns _ _ c.update_map.ensures.turns
+
+pub walk_stmt-gather-requires-clause-served : goal.walk_stmt-gather-requires-clause-served
+walk_stmt-gather-requires-clause-served g t c = c.requires.served
+
+pub walk_stmt-gather-requires-clause-fits : goal.walk_stmt-gather-requires-clause-fits
+walk_stmt-gather-requires-clause-fits g t c = gather_fits c.args.view.now c.args.s.now _ _ _ _ _ c.in-Gather.is c.as_slice-in-Gather.ensures c.requires.fits
+
+pub walk_stmt-returns-in-Gather-clause-walked : goal.walk_stmt-returns-in-Gather-clause-walked
+walk_stmt-returns-in-Gather-clause-walked g t c = Walked-stmt _ _ _ _ _ _ _ _ (gather_does c.args.s.now _ _ _ _ _ c.in-Gather.is c.as_slice-in-Gather.ensures) c.gather.ensures.walked
+
+pub walk_stmt-returns-in-Gather-clause-kept : goal.walk_stmt-returns-in-Gather-clause-kept
+walk_stmt-returns-in-Gather-clause-kept g t c = c.gather.ensures.kept
+
+pub walk_stmt-returns-in-Gather-clause-turns : goal.walk_stmt-returns-in-Gather-clause-turns
+walk_stmt-returns-in-Gather-clause-turns g t c = same_turns _ _ c.gather.ensures.turns
+
+pub walk_stmt-step-requires-clause-served : goal.walk_stmt-step-requires-clause-served
+walk_stmt-step-requires-clause-served g t c = c.requires.served
+
+pub walk_stmt-step-requires-clause-fits : goal.walk_stmt-step-requires-clause-fits
+walk_stmt-step-requires-clause-fits g t c = step_fits c.args.view.now c.args.s.now _ c.in-Step.is c.requires.fits
+
+pub walk_stmt-returns-in-Step-clause-walked : goal.walk_stmt-returns-in-Step-clause-walked
+walk_stmt-returns-in-Step-clause-walked g t c = Walked-stmt _ _ _ _ _ _ _ _ (step_does c.args.s.now _ c.in-Step.is) c.step.ensures.walked
+
+pub walk_stmt-returns-in-Step-clause-kept : goal.walk_stmt-returns-in-Step-clause-kept
+walk_stmt-returns-in-Step-clause-kept g t c = c.step.ensures.kept
+
+pub walk_stmt-returns-in-Step-clause-turns : goal.walk_stmt-returns-in-Step-clause-turns
+walk_stmt-returns-in-Step-clause-turns g t c = same_turns _ _ c.step.ensures.turns
+
+pub walk_stmt-printf-requires-clause-served : goal.walk_stmt-printf-requires-clause-served
+walk_stmt-printf-requires-clause-served g t c = c.requires.served
+
+pub walk_stmt-printf-requires-clause-fits : goal.walk_stmt-printf-requires-clause-fits
+walk_stmt-printf-requires-clause-fits g t c = printf_fits c.args.view.now c.args.s.now _ _ _ c.in-Printf.is c.as_slice-in-Printf.ensures c.requires.fits
+
+pub walk_stmt-returns-in-Printf-clause-walked : goal.walk_stmt-returns-in-Printf-clause-walked
+walk_stmt-returns-in-Printf-clause-walked g t c = Walked-stmt _ _ _ _ _ _ _ _ (printf_does c.args.s.now _ _ _ c.in-Printf.is c.as_slice-in-Printf.ensures) c.printf.ensures.walked
+
+pub walk_stmt-returns-in-Printf-clause-kept : goal.walk_stmt-returns-in-Printf-clause-kept
+walk_stmt-returns-in-Printf-clause-kept g t c = c.printf.ensures.kept
+
+pub walk_stmt-returns-in-Printf-clause-turns : goal.walk_stmt-returns-in-Printf-clause-turns
+walk_stmt-returns-in-Printf-clause-turns g t c = same_turns _ _ c.printf.ensures.turns
+
+pub walk_stmt-delete_at-requires-clause-served : goal.walk_stmt-delete_at-requires-clause-served
+walk_stmt-delete_at-requires-clause-served g t c = c.requires.served
+
+pub walk_stmt-delete_at-requires-clause-fits : goal.walk_stmt-delete_at-requires-clause-fits
+walk_stmt-delete_at-requires-clause-fits g t c = delete_fits c.args.view.now c.args.s.now _ _ _ c.in-Delete.is c.as_slice-in-Delete.ensures c.requires.fits
+
+pub walk_stmt-returns-in-Delete-clause-walked : goal.walk_stmt-returns-in-Delete-clause-walked
+walk_stmt-returns-in-Delete-clause-walked g t c = Walked-stmt _ _ _ _ _ _ _ _ (delete_does c.args.s.now _ _ _ c.in-Delete.is c.as_slice-in-Delete.ensures) c.delete_at.ensures.walked
+
+pub walk_stmt-returns-in-Delete-clause-kept : goal.walk_stmt-returns-in-Delete-clause-kept
+walk_stmt-returns-in-Delete-clause-kept g t c = c.delete_at.ensures.kept
+
+pub walk_stmt-returns-in-Delete-clause-turns : goal.walk_stmt-returns-in-Delete-clause-turns
+walk_stmt-returns-in-Delete-clause-turns g t c = same_turns _ _ c.delete_at.ensures.turns
+
+pub walk_stmt-returns-in-Clear-clause-walked : goal.walk_stmt-returns-in-Clear-clause-walked
+walk_stmt-returns-in-Clear-clause-walked g t c = Walked-stmt _ _ _ _ _ _ _ _ (clear_does c.args.s.now _ c.in-Clear.is) (c.clear.ensures.walked _)
+
+pub walk_stmt-returns-in-Zero-clause-walked : goal.walk_stmt-returns-in-Zero-clause-walked
+walk_stmt-returns-in-Zero-clause-walked g t c = Walked-stmt _ _ _ _ _ _ _ _ (zero_does c.args.s.now _ c.in-Zero.is) (c.zero.ensures.walked _)
+
+pub walk_stmt-returns-in-Print-clause-kept : goal.walk_stmt-returns-in-Print-clause-kept
+walk_stmt-returns-in-Print-clause-kept g t c = c.print.ensures.kept
+
+pub walk_stmt-returns-in-Print-clause-turns : goal.walk_stmt-returns-in-Print-clause-turns
+walk_stmt-returns-in-Print-clause-turns g t c = same_turns _ _ refl
+
+pub walk_stmt-returns-in-Clear-clause-kept : goal.walk_stmt-returns-in-Clear-clause-kept
+walk_stmt-returns-in-Clear-clause-kept g t c = c.clear.ensures.kept
+
+pub walk_stmt-returns-in-Clear-clause-turns : goal.walk_stmt-returns-in-Clear-clause-turns
+walk_stmt-returns-in-Clear-clause-turns g t c = same_turns _ _ refl
+
+pub walk_stmt-returns-in-Zero-clause-kept : goal.walk_stmt-returns-in-Zero-clause-kept
+walk_stmt-returns-in-Zero-clause-kept g t c = c.zero.ensures.kept
+
+pub walk_stmt-returns-in-Zero-clause-turns : goal.walk_stmt-returns-in-Zero-clause-turns
+walk_stmt-returns-in-Zero-clause-turns g t c = same_turns _ _ refl
+
+pub walk_stmt-returns-in-Jump-clause-kept : goal.walk_stmt-returns-in-Jump-clause-kept
+walk_stmt-returns-in-Jump-clause-kept g t c = c.jump.ensures.kept
+
+pub walk_stmt-returns-in-Jump-clause-turns : goal.walk_stmt-returns-in-Jump-clause-turns
+walk_stmt-returns-in-Jump-clause-turns g t c = same_turns _ _ refl
+
+pub walk_stmt-returns-in-Jump-clause-walked : goal.walk_stmt-returns-in-Jump-clause-walked
+walk_stmt-returns-in-Jump-clause-walked g t c = Walked-stmt _ _ _ _ _ _ _ _ (jump_does c.args.s.now _ c.in-Jump.is) (c.jump.ensures.made _ _)
+
+pub walk_stmt-returns-in-While-clause-walked : goal.walk_stmt-returns-in-While-clause-walked
+walk_stmt-returns-in-While-clause-walked g t c = Walked-stmt _ _ _ _ _ _ _ _ (while_does c.args.s.now _ _ _ c.in-While.is) c.walk_while.ensures.walked
+
+pub walk_stmt-returns-in-While-clause-kept : goal.walk_stmt-returns-in-While-clause-kept
+walk_stmt-returns-in-While-clause-kept g t c = c.walk_while.ensures.kept
+
+pub walk_stmt-returns-in-While-clause-turns : goal.walk_stmt-returns-in-While-clause-turns
+walk_stmt-returns-in-While-clause-turns g t c = c.walk_while.ensures.turns
+
+pub walk_stmt-returns-in-Unroll-clause-walked : goal.walk_stmt-returns-in-Unroll-clause-walked
+walk_stmt-returns-in-Unroll-clause-walked g t c = Walked-stmt _ _ _ _ _ _ _ _ (unroll_does c.args.s.now _ _ _ c.in-Unroll.is) c.walk_turns.ensures.walked
+
+pub walk_stmt-returns-in-Unroll-clause-kept : goal.walk_stmt-returns-in-Unroll-clause-kept
+walk_stmt-returns-in-Unroll-clause-kept g t c = c.walk_turns.ensures.kept
+
+pub walk_stmt-returns-in-Unroll-clause-turns : goal.walk_stmt-returns-in-Unroll-clause-turns
+walk_stmt-returns-in-Unroll-clause-turns g t c = c.walk_turns.ensures.turns
+
+pub walk_stmt-walk_while-requires : goal.walk_stmt-walk_while-requires
+walk_stmt-walk_while-requires g t c κs within =
+    let fit = while_fits c.args.view.now c.args.s.now _ _ _ c.in-While.is c.requires.fits in
+    (search (rules, stmts.the_lemmas, blocks.the_lemmas), (within.0, (within.1, (c.requires.served, (fit.1, fit.0)))))
+
+pub walk_stmt-walk_turns-requires : goal.walk_stmt-walk_turns-requires
+walk_stmt-walk_turns-requires g t c κs within =
+    let fit = unroll_fits c.args.view.now c.args.s.now _ _ _ c.in-Unroll.is c.requires.fits in
+    (search (rules, stmts.the_lemmas, blocks.the_lemmas), (within.0, (within.1, (c.requires.served, fit))))
+
+pub walk_block-returns-in_err-flow-clause-kept : goal.walk_block-returns-in_err-flow-clause-kept
+walk_block-returns-in_err-flow-clause-kept g t c = c.in_err-flow.ensures.kept ∙ c.loop-stmt.invariant.kept
+
+pub walk_block-returns-in_err-flow-clause-turns : goal.walk_block-returns-in_err-flow-clause-turns
+walk_block-returns-in_err-flow-clause-turns g t c = omega (arith, c.in_err-flow.ensures.turns, c.loop-stmt.invariant.turns)
+
+pub walk_block-returns-else-is_next-clause-kept : goal.walk_block-returns-else-is_next-clause-kept
+walk_block-returns-else-is_next-clause-kept g t c = c.in_ok-flow.ensures.kept ∙ c.loop-stmt.invariant.kept
+
+pub walk_block-returns-else-is_next-clause-turns : goal.walk_block-returns-else-is_next-clause-turns
+walk_block-returns-else-is_next-clause-turns g t c = omega (arith, c.in_ok-flow.ensures.turns, c.loop-stmt.invariant.turns)
+
+pub walk_block-returns-clause-kept : goal.walk_block-returns-clause-kept
+walk_block-returns-clause-kept g t c = c.loop-stmt.invariant.kept
+
+pub walk_block-returns-clause-turns : goal.walk_block-returns-clause-turns
+walk_block-returns-clause-turns g t c = c.loop-stmt.invariant.turns
+
+pub walk_turns-returns-in_err-flow-clause-kept : goal.walk_turns-returns-in_err-flow-clause-kept
+walk_turns-returns-in_err-flow-clause-kept g t c = c.in_err-flow.ensures.kept ∙ c.loop-made.invariant.kept
+
+pub walk_turns-returns-in_err-flow-clause-turns : goal.walk_turns-returns-in_err-flow-clause-turns
+walk_turns-returns-in_err-flow-clause-turns g t c = omega (arith, c.in_err-flow.ensures.turns, c.loop-made.invariant.turns)
+
+pub walk_turns-returns-in-Some-clause-kept : goal.walk_turns-returns-in-Some-clause-kept
+walk_turns-returns-in-Some-clause-kept g t c = c.in_ok-flow.ensures.kept ∙ c.loop-made.invariant.kept
+
+pub walk_turns-returns-in-Some-clause-turns : goal.walk_turns-returns-in-Some-clause-turns
+walk_turns-returns-in-Some-clause-turns g t c = omega (arith, c.in_ok-flow.ensures.turns, c.loop-made.invariant.turns)
+
+pub walk_turns-returns-clause-kept : goal.walk_turns-returns-clause-kept
+walk_turns-returns-clause-kept g t c = c.loop-made.invariant.kept
+
+pub walk_turns-returns-clause-turns : goal.walk_turns-returns-clause-turns
+walk_turns-returns-clause-turns g t c = c.loop-made.invariant.turns
+
+pub walk_while-returns-in_err-value-clause-kept : goal.walk_while-returns-in_err-value-clause-kept
+walk_while-returns-in_err-value-clause-kept g t c = c.in_err-value.ensures.kept ∙ c.loop-value.invariant.kept
+
+pub walk_while-returns-in_err-value-clause-turns : goal.walk_while-returns-in_err-value-clause-turns
+walk_while-returns-in_err-value-clause-turns g t c = omega (arith, c.in_err-value.ensures.turns, c.loop-value.invariant.turns)
+
+pub walk_while-returns-in_err-flow-clause-kept : goal.walk_while-returns-in_err-flow-clause-kept
+walk_while-returns-in_err-flow-clause-kept g t c = c.in_err-flow.ensures.kept ∙ c.in_ok-value.ensures.kept ∙ c.loop-value.invariant.kept
+
+pub walk_while-returns-in_err-flow-clause-turns : goal.walk_while-returns-in_err-flow-clause-turns
+walk_while-returns-in_err-flow-clause-turns g t c = omega (arith, c.in_err-flow.ensures.turns, c.in_ok-value.ensures.turns, c.loop-value.invariant.turns)
+
+pub walk_while-returns-in-Some-clause-kept : goal.walk_while-returns-in-Some-clause-kept
+walk_while-returns-in-Some-clause-kept g t c = c.in_ok-flow.ensures.kept ∙ c.in_ok-value.ensures.kept ∙ c.loop-value.invariant.kept
+
+pub walk_while-returns-in-Some-clause-turns : goal.walk_while-returns-in-Some-clause-turns
+walk_while-returns-in-Some-clause-turns g t c = omega (arith, c.in_ok-flow.ensures.turns, c.in_ok-value.ensures.turns, c.loop-value.invariant.turns)
+
+pub walk_while-returns-else-holds-clause-kept : goal.walk_while-returns-else-holds-clause-kept
+walk_while-returns-else-holds-clause-kept g t c = c.in_ok-value.ensures.kept ∙ c.loop-value.invariant.kept
+
+pub walk_while-returns-else-holds-clause-turns : goal.walk_while-returns-else-holds-clause-turns
+walk_while-returns-else-holds-clause-turns g t c = omega (arith, c.in_ok-value.ensures.turns, c.loop-value.invariant.turns)
