@@ -3,7 +3,7 @@ use bt_core::memory::Memory;
 use bt_core::place::Place;
 
 /// A rule of types that a script breaks. What a user reads of it is written where refusals are told.
-#[derive(Clone, Copy, PartialEq, Eq)]
+#[derive(Clone, Copy, PartialEq, Eq, Debug)]
 pub enum Rule {
     /// The event has no field of this name.
     UnknownField,
@@ -32,14 +32,14 @@ pub enum Rule {
 }
 
 /// A rule and the place at which it is broken.
-#[derive(Clone, Copy, PartialEq, Eq)]
+#[derive(Clone, Copy, PartialEq, Eq, Debug)]
 pub struct Fault {
     pub rule: Rule,
     pub place: Place,
 }
 
 /// Why a script has no types: its first fault in walk order, or want of memory.
-#[derive(Clone, Copy, PartialEq, Eq)]
+#[derive(Clone, Copy, PartialEq, Eq, Debug)]
 pub enum TypeError {
     Broken(Fault),
     Memory,
