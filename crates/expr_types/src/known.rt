@@ -10,6 +10,7 @@ ghost use Rattle.expr_types.specs.Typing.{IsNamed};
 
 use crate::printed::Calls;
 use crate::variables::Variables;
+use bt_core::beside::beside;
 use bt_core::items::Items;
 use bt_core::map::{MapDecl, MapId, MapKind, Shape};
 use bt_core::memory::{Memory, TryCopy};
@@ -193,15 +194,16 @@ impl Known {
         requires { is_fine_decl (record { name = name.now; kind = kind; key_shape = key_shape }) ≡ true }
         ensures { OnOk result (self.new ≡ with_decl self.old (record { name = name.now; kind = kind; key_shape = key_shape })) }
     {
-        if self.decl(name.as_slice()).is_none() {
-            let name = name.try_copy(alloc)?;
-            self.decided.push(MapDecl {
-                name,
-                kind,
-                key_shape,
-            })?;
+        if self.decl(name.as_slice()).is_some() {
+            drop(key_shape);
+            return Ok(());
         }
-        Ok(())
+        let (key_shape, name) = beside(key_shape, name.try_copy(alloc))?;
+        self.decided.push(MapDecl {
+            name,
+            kind,
+            key_shape,
+        })
     }
 
     /// Adds a variable, where there is none of this name.

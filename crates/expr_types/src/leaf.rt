@@ -112,9 +112,8 @@ pub fn unary(alloc: Global, op: UnOp, value: AnyExpr, place: Place) -> Result<An
 fn boxed_two<V: Drop>(alloc: Global, left: V, right: V) -> Result<(Boxed<V>, Boxed<V>), Memory>
     ensures { IfOk result (λ boxed. boxed ≡ (left, right)) }
 {
-    let left = Boxed::new(alloc, left)?;
-    let right = Boxed::new(alloc, right)?;
-    Ok((left, right))
+    let (right, left) = beside(right, Boxed::new(alloc, left))?;
+    beside(left, Boxed::new(alloc, right))
 }
 
 /// A whole number and a second operand with an operator between them.
@@ -240,19 +239,16 @@ pub fn join(
     }
 }
 
-/// Three values put on the heap, one after the other.
+/// A condition and two values put on the heap, one after the other.
 fn boxed_three<C: Drop, V: Drop>(
     alloc: Global,
     condition: C,
-    yes: V,
-    no: V,
-) -> Result<(Boxed<C>, Boxed<V>, Boxed<V>), Memory>
-    ensures { IfOk result (λ boxed. boxed ≡ (condition, yes, no)) }
+    values: (V, V),
+) -> Result<(Boxed<C>, (Boxed<V>, Boxed<V>)), Memory>
+    ensures { IfOk result (λ boxed. boxed ≡ (condition, values)) }
 {
-    let condition = Boxed::new(alloc, condition)?;
-    let yes = Boxed::new(alloc, yes)?;
-    let no = Boxed::new(alloc, no)?;
-    Ok((condition, yes, no))
+    let (values, condition) = beside(values, Boxed::new(alloc, condition))?;
+    beside(condition, boxed_two(alloc, values.0, values.1))
 }
 
 /// `condition ? yes : no` where what is chosen first is a whole number.
@@ -267,7 +263,7 @@ fn choose_number(
     ensures made { IfOk result (λ e. made_of e ≡ made Int (Chosen ∷ (num_parts condition ++ (num_parts yes ++ (made_of no).parts)))) }
 {
     let ((condition, yes), no) = beside((condition, yes), whole(no, place))?;
-    let (condition, yes, no) = boxed_three(alloc, condition, yes, no)?;
+    let (condition, (yes, no)) = boxed_three(alloc, condition, (yes, no))?;
     Ok(AnyExpr::Num(NumExpr::Choose { condition, yes, no }))
 }
 
@@ -283,7 +279,7 @@ fn choose_string(
     ensures made { IfOk result (λ e. made_of e ≡ made Str (Chosen ∷ (num_parts condition ++ (str_parts yes ++ (made_of no).parts)))) }
 {
     let ((condition, yes), no) = beside((condition, yes), string(no, place))?;
-    let (condition, yes, no) = boxed_three(alloc, condition, yes, no)?;
+    let (condition, (yes, no)) = boxed_three(alloc, condition, (yes, no))?;
     Ok(AnyExpr::Str(StrExpr::Choose { condition, yes, no }))
 }
 

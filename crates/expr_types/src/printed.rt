@@ -1,6 +1,5 @@
 // The calls of `printf` of a script: in their order, and found by their places and texts.
-ghost use Rattle.std.specs.Prelude.{◌≡◌, ◌++◌, ◌∷◌, [], true, false, OnOk, IfOk, MatchOption, length, map, slice_get};
-ghost use Rattle.std.specs.Option.{option_copied, option_map};
+ghost use Rattle.std.specs.Prelude.{◌≡◌, ◌++◌, ◌∷◌, [], true, false, OnOk, IfOk, MatchOption, length, map};
 ghost use Rattle.expr_types.specs.declared.known.Printed.{Printed as Call};
 ghost use Rattle.expr_types.specs.Known.{has_call, call_at};
 
@@ -75,16 +74,6 @@ impl Calls {
     {
         let key = key(alloc, format, place)?;
         Ok(self.pieces.get_index_of(&key))
-    }
-
-    /// The pieces of the format of a call, by its number.
-    pub fn pieces(&self, number: usize) -> Option<&Items<Piece>>
-        ensures { option_copied result ≡ option_map (λ (c : Call). c.pieces) (slice_get self.now number) }
-    {
-        match self.pieces.get_index(number) {
-            None => None,
-            Some((_, pieces)) => Some(pieces),
-        }
     }
 
     /// The pieces of all formats, in the order of the calls.

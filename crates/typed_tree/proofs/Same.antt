@@ -7,7 +7,7 @@ use Rattle.std.proofs.lemmas.Bool.Decides.{Decides-int_eq}
 use Rattle.std.proofs.lemmas.Float.{T_from_true}
 use Rattle.bt_core.specs.declared.limits.TheConstants.{KEY_PARTS, LHIST_BUCKETS}
 use Rattle.bt_core.specs.declared.map.AggKind.{AggKind}
-use Rattle.bt_core.specs.declared.map.AggKind.TheVariants.{Lhist}
+use Rattle.bt_core.specs.declared.map.AggKind.TheVariants.{Count, Sum, Min, Max, Avg, Hist, Lhist}
 use Rattle.bt_core.specs.declared.map.MapDecl.{MapDecl}
 use Rattle.bt_core.specs.declared.map.MapKind.{MapKind}
 use Rattle.bt_core.specs.declared.map.MapKind.TheVariants.{Ints, Strs, Aggs}
@@ -37,20 +37,55 @@ shapes_are (s ∷ ss) (t ∷ ts) h =
     let r = shapes_are ss ts p.1 in
     cc
 
-steps_are : (a : AggKind) (low high wide : ℤ) → same_agg a (Lhist low high wide) ≡ true → a ≡ Lhist low high wide
-steps_are (Lhist min max step) low high wide h =
+steps_are : (min max step low high wide : ℤ) → same_agg (Lhist min max step) (Lhist low high wide) ≡ true → Lhist min max step ≡ Lhist low high wide
+steps_are min max step low high wide h =
     let p = both_hold (int_eq min low) (int_eq max high && int_eq step wide) h in
     let q = both_hold (int_eq max high) (int_eq step wide) p.1 in
     let x = (Decides-int_eq min low).0 p.0 in
     let y = (Decides-int_eq max high).0 q.0 in
     let z = (Decides-int_eq step wide).0 q.1 in
     cc
-steps_are a low high wide h = cc
+
+-- a test that says no says nothing that is so
+no : {P : Type 0} → false ≡ true → P
+no h = cc
+
+count_is : (b : AggKind) → same_agg Count b ≡ true → Count ≡ b
+count_is Count h = refl
+count_is b h = no h
+
+sum_is : (b : AggKind) → same_agg Sum b ≡ true → Sum ≡ b
+sum_is Sum h = refl
+sum_is b h = no h
+
+min_is : (b : AggKind) → same_agg Min b ≡ true → Min ≡ b
+min_is Min h = refl
+min_is b h = no h
+
+max_is : (b : AggKind) → same_agg Max b ≡ true → Max ≡ b
+max_is Max h = refl
+max_is b h = no h
+
+avg_is : (b : AggKind) → same_agg Avg b ≡ true → Avg ≡ b
+avg_is Avg h = refl
+avg_is b h = no h
+
+hist_is : (b : AggKind) → same_agg Hist b ≡ true → Hist ≡ b
+hist_is Hist h = refl
+hist_is b h = no h
+
+lhist_is : (min max step : ℤ) (b : AggKind) → same_agg (Lhist min max step) b ≡ true → Lhist min max step ≡ b
+lhist_is min max step (Lhist low high wide) h = steps_are min max step low high wide h
+lhist_is min max step b h = no h
 
 agg_is : (a b : AggKind) → same_agg a b ≡ true → a ≡ b
-agg_is a (Lhist low high wide) h = steps_are a low high wide h
-agg_is (Lhist min max step) b h = cc
-agg_is a b h = cc
+agg_is Count b h = count_is b h
+agg_is Sum b h = sum_is b h
+agg_is Min b h = min_is b h
+agg_is Max b h = max_is b h
+agg_is Avg b h = avg_is b h
+agg_is Hist b h = hist_is b h
+agg_is (Lhist min max step) b h = lhist_is min max step b h
 
 pub kind_is : (a b : MapKind) → same_kind a b ≡ true → a ≡ b
 kind_is Ints Ints h = refl
