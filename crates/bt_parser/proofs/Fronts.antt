@@ -36,6 +36,19 @@ no_second [] now classes e v none = ap (λ z. brace_next (rest_of (items z))) v
 no_second (t ∷ []) now classes e v none = ap (λ z. brace_next (rest_of (items z))) v
 no_second (t ∷ u ∷ rest) now classes e v none = let h : length classes ≡ suc (suc (length (classes_of rest))) = ap length e in absurd (omega arith)
 
+-- whether the class behind the front is the expected one
+pub second_is : (rest now : List Token) (classes : List Class) (k d : Class) → classes ≡ classes_of rest → rest ≡ now → 2 ≤ length classes
+    → is k (get_or classes 1 d) ≡ starts (ends k) (rest_of (items now))
+second_is [] now classes k d e v some = let h : length classes ≡ 0 = ap length e in absurd (omega arith)
+second_is (t ∷ []) now classes k d e v some = let h : length classes ≡ 1 = ap length e in absurd (omega arith)
+second_is (t ∷ u ∷ rest) now classes k d e v some = ap (λ z. is k (get_or z 1 d)) e ∙ ap (λ z. starts (ends k) (rest_of (items z))) v
+
+pub second_none : (rest now : List Token) (classes : List Class) (k : Class) → classes ≡ classes_of rest → rest ≡ now → length classes < 2
+    → false ≡ starts (ends k) (rest_of (items now))
+second_none [] now classes k e v none = ap (λ z. starts (ends k) (rest_of (items z))) v
+second_none (t ∷ []) now classes k e v none = ap (λ z. starts (ends k) (rest_of (items z))) v
+second_none (t ∷ u ∷ rest) now classes k e v none = let h : length classes ≡ suc (suc (length (classes_of rest))) = ap length e in absurd (omega arith)
+
 -- the classes of a front
 pub classes_of-take : (n : ℕ) (tokens : List Token) → take n (classes_of tokens) ≡ classes_of (take n tokens)
 classes_of-take zero tokens = refl

@@ -19,7 +19,7 @@ use Rattle.bt_grammar.specs.Rules.{rule, mark, ends, optional, after_comma, valu
 use Rattle.bt_grammar.specs.Trees.{second, snoc, pair, choose, map_ref, map_operand, binary}
 use Rattle.bt_parser.specs.declared.fault.Fault.{Fault}
 use Rattle.bt_parser.specs.Contract.{Makes, Reads}
-use Rattle.bt_parser.specs.Mirror.{class_at, front_place, operator_at, when, prefix_at, named, operand_by, tighter, level_on, level_by, level_turn, choice_by, expression_by, unary_by, primary_by, keyed_by, map_by, assignable_by, dot_form, field_form, field_by, keys_by, values_on, values_behind, values_turn, step_at, step_on, map_value}
+use Rattle.bt_parser.specs.Mirror.{class_at, front_place, operator_at, when, prefix_at, named, operand_by, tighter, level_on, level_by, level_turn, choice_by, expression_by, unary_by, primary_by, keyed_by, map_by, assignable_by, dot_form, field_form, field_by, keys_by, values_on, values_behind, values_turn, plus_of, step_at, step_on, map_value}
 use Rattle.bt_grammar.proofs.Enough.{reads_is}
 use Rattle.bt_grammar.proofs.Steps.{goes_on_stop, goes_on_more}
 use Rattle.bt_grammar.proofs.Checked.{fine_rule}
@@ -152,6 +152,12 @@ values_turns values ts = by_comma (starts (ends Comma) ts) refl
 
 abbrev pub it : Class → TokenKind → Place → Item
 it c k p = record { class = c; kind = k; place = p }
+
+-- `++` and `--` are the classes of steps, and which of them it is
+pub step_class : (c : Class) → plus_of c ≡ (if is_step c then Some (is Increment c) else None)
+step_class Increment = refl
+step_class Decrement = refl
+step_class _ = refl
 
 -- a step behind a map
 map_step_at : (m : MapRef) (c : Class) (k : TokenKind) (p : Place) (r : List Item)

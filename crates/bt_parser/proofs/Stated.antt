@@ -1,23 +1,25 @@
 -- Each part of a statement is read by its steps.
-use Rattle.std.proofs.Common.{◌≡◌, Bool, true, false, List, [], ◌∷◌, refl, sym, ◌∙◌, Some, None}
+use Rattle.std.proofs.Common.{◌≡◌, Bool, true, false, List, [], ◌∷◌, refl, sym, subst, ◌∙◌, Some, None}
 use Rattle.bt_lexer.specs.declared.token.TokenKind.{TokenKind}
 use Rattle.bt_core.specs.declared.place.Place.{Place}
 use Rattle.bt_ast.specs.declared.expr.MapRef.{MapRef}
 use Rattle.bt_ast.specs.declared.expr.Target.{Target}
 use Rattle.bt_ast.specs.declared.expr.VarRef.{VarRef}
+use Rattle.bt_ast.specs.declared.stmt.StmtKind.{StmtKind}
 use Rattle.bt_core.specs.declared.operator.BinOp.{BinOp}
 use Rattle.bt_core.specs.declared.operator.BinOp.TheVariants.{Add, Sub, Mul, Div, Mod, Shl, Shr, BitAnd, BitOr, BitXor}
 use Rattle.bt_grammar.specs.declared.class.Class.{Class}
 use Rattle.bt_grammar.specs.declared.class.Class.TheVariants.{CountWord, LhistWord, PrintfWord, PrintWord, ClearWord, ZeroWord, DeleteWord, ExitWord, BreakWord, ContinueWord, ReturnWord, MapName, VarName, OpenParen, CloseParen, OpenBracket, CloseBracket, Comma, Assign, Increment, Decrement, GatherWord, Operator, UpdateMark}
-use Rattle.bt_grammar.specs.Classes.{is, gathering_of}
-use Rattle.bt_grammar.specs.Form.{Item, Values, Int, Aggregation, Update, AfterMap, AfterVar, Printf, Print, Delete, CallOrJump, Simple, Tok, Call, Map, Then, Or, Until}
+use Rattle.bt_grammar.specs.Classes.{is, is_step, gathering_of}
+use Rattle.bt_grammar.specs.Form.{Item, Values, Int, Aggregation, Update, AfterMap, AfterVar, Printf, Print, Delete, CallOrJump, Simple, Assignable, Form, Tok, Call, Map, Then, Or, Until}
 use Rattle.bt_grammar.specs.Reading.{Out, Done, Refused, Unfinished, and_then, read, reads, starts, goes_on}
 use Rattle.bt_grammar.specs.Rules.{rule, mark, ends, in_parens, value}
-use Rattle.bt_grammar.specs.Trees.{gather_map, set_map, on_item, delete_all, delete_keyed, delete_key}
+use Rattle.bt_grammar.specs.Trees.{gather_map, set_map, on_item, delete_all, delete_keyed, delete_key, step_stmt}
 use Rattle.bt_parser.specs.Mirror.{class_at, named, named_form, step_at}
-use Rattle.bt_parser.specs.Statements.{given, int_by, parens_by, count_form, count_by, gather_form, gathering_at, gather_by, lhist_form, lhist_by, aggregation_by, begins_aggregation, update_at, update_by, set_map_by, after_map_by, after_var_by, map_form, whole_map_by, in_parens_map, map_in_parens_by, printf_by, limit_form, limit_by, limits_form, limits_by, print_by, delete_on, delete_by, call_at, call_by, simple_by}
+use Rattle.bt_parser.specs.Statements.{given, int_by, parens_by, count_form, count_by, gather_form, gathering_at, gather_by, lhist_form, lhist_by, aggregation_by, begins_aggregation, update_at, update_by, set_map_by, after_map_by, after_var_by, map_form, whole_map_by, in_parens_map, map_in_parens_by, printf_by, limit_form, limit_by, limits_form, limits_by, print_by, delete_on, delete_by, call_at, call_by, simple_by, step_or_call}
 use Rattle.bt_grammar.proofs.Enough.{reads_is}
-use Rattle.bt_parser.proofs.Mirrored.{and_then_assoc, and_then_same, choice, choice_then, values_start, it}
+use Rattle.bt_grammar.proofs.AllClasses.{is_same}
+use Rattle.bt_parser.proofs.Mirrored.{and_then_assoc, and_then_same, choice, choice_then, values_start, step_class, it}
 
 -- ---- numbers and map functions
 
@@ -136,27 +138,29 @@ limits_is (t ∷ r) = limits_at t r (is Comma t.class) refl
 pub print_is : (ts : List Item) → reads Print ts ≡ print_by ts
 print_is ts = rw (reads_is Print ts) (simp and_then_assoc)
 
-delete_at : (t : Item) (c : Class) (k : TokenKind) (p : Place) (r : List Item)
-    → and_then (read reads (Or (Map delete_all (mark CloseParen))
-    (Or (Then delete_keyed (mark OpenBracket) (Until (Until (Call Values) CloseBracket) CloseParen)) (Then delete_key (mark Comma) (Until value CloseParen)))) (it c k p ∷ r))
-    (λ f r1. Done (on_item t f) r1) ≡ delete_on (named t) (Some c) (it c k p ∷ r)
-delete_at t Comma k p r = simp and_then_assoc
-delete_at t OpenBracket k p r = rw (← values_start r) (simp and_then_assoc)
-delete_at t CloseParen k p r = refl
-delete_at t _ k p r = refl
+abbrev behind_name : Form (Item → StmtKind)
+behind_name = Or (Map delete_all (mark CloseParen))
+    (Or (Then delete_keyed (mark OpenBracket) (Until (Until (Call Values) CloseBracket) CloseParen)) (Then delete_key (mark Comma) (Until value CloseParen)))
 
-delete_rest : (t : Item) (ts : List Item)
-    → and_then (read reads (Or (Map delete_all (mark CloseParen))
-    (Or (Then delete_keyed (mark OpenBracket) (Until (Until (Call Values) CloseBracket) CloseParen)) (Then delete_key (mark Comma) (Until value CloseParen)))) ts)
-    (λ f r1. Done (on_item t f) r1) ≡ delete_on (named t) (class_at ts) ts
+-- by the classes that may stand behind the name, of which each is not the others
+delete_at : (t : Item) (c : Class) (k : TokenKind) (p : Place) (r : List Item) (b d : Bool) → is Comma c ≡ b → is OpenBracket c ≡ d
+    → and_then (read reads behind_name (it c k p ∷ r)) (λ f r1. Done (on_item t f) r1) ≡ delete_on (named t) (it c k p ∷ r)
+delete_at t c k p r true d h i = subst (λ c. and_then (read reads behind_name (it c k p ∷ r)) (λ f r1. Done (on_item t f) r1) ≡ delete_on (named t) (it c k p ∷ r)) (sym (is_same Comma c h)) (simp and_then_assoc)
+delete_at t c k p r false true h i =
+    subst (λ c. and_then (read reads behind_name (it c k p ∷ r)) (λ f r1. Done (on_item t f) r1) ≡ delete_on (named t) (it c k p ∷ r)) (sym (is_same OpenBracket c i)) (rw (← values_start r) (simp and_then_assoc))
+delete_at t c k p r false false h i = delete_end t c k p r (is CloseParen c) refl h i
+  where
+    delete_end : (t : Item) (c : Class) (k : TokenKind) (p : Place) (r : List Item) (e : Bool) → is CloseParen c ≡ e → is Comma c ≡ false → is OpenBracket c ≡ false
+        → and_then (read reads behind_name (it c k p ∷ r)) (λ f r1. Done (on_item t f) r1) ≡ delete_on (named t) (it c k p ∷ r)
+    delete_end t c k p r true g h i = rw (g, h, i) refl
+    delete_end t c k p r false g h i = rw (g, h, i) refl
+
+delete_rest : (t : Item) (ts : List Item) → and_then (read reads behind_name ts) (λ f r1. Done (on_item t f) r1) ≡ delete_on (named t) ts
 delete_rest t [] = refl
-delete_rest t (u ∷ r) = delete_at t u.class u.kind u.place r
+delete_rest t (u ∷ r) = delete_at t u.class u.kind u.place r (is Comma u.class) (is OpenBracket u.class) refl refl
 
-delete_name : (ts : List Item)
-    → read reads (Then on_item (Tok (is MapName)) (Or (Map delete_all (mark CloseParen))
-    (Or (Then delete_keyed (mark OpenBracket) (Until (Until (Call Values) CloseBracket) CloseParen)) (Then delete_key (mark Comma) (Until value CloseParen))))) ts
-    ≡ and_then (read reads (named_form MapName) ts) (λ n r. delete_on n (class_at r) r)
-delete_name ts = and_then_same (read reads (Tok (is MapName)) ts) _ _ delete_rest ∙ sym (and_then_assoc (read reads (Tok (is MapName)) ts) (λ t r. Done (named t) r) (λ n r. delete_on n (class_at r) r))
+delete_name : (ts : List Item) → read reads (Then on_item (Tok (is MapName)) behind_name) ts ≡ and_then (read reads (named_form MapName) ts) delete_on
+delete_name ts = and_then_same (read reads (Tok (is MapName)) ts) _ _ delete_rest ∙ sym (and_then_assoc (read reads (Tok (is MapName)) ts) (λ t r. Done (named t) r) delete_on)
 
 pub delete_is : (ts : List Item) → reads Delete ts ≡ delete_by ts
 delete_is ts = rw (reads_is Delete ts) (and_then_same (read reads (mark OpenParen) ts) _ _ (λ p r. same_value _ ∙ delete_name r))
@@ -184,13 +188,16 @@ call_is (t ∷ r) = rw (reads_is CallOrJump (t ∷ r)) (call_kind t.class t.kind
 
 -- ---- simple statements
 
-simple_kind : (c : Class) (k : TokenKind) (p : Place) (r : List Item) → read reads (rule Simple) (it c k p ∷ r) ≡ simple_by (Some c) (it c k p ∷ r)
-simple_kind MapName k p r = simp and_then_assoc
-simple_kind VarName k p r = simp and_then_assoc
-simple_kind Increment k p r = refl
-simple_kind Decrement k p r = refl
-simple_kind _ k p r = refl
+step_or_call_at : (t : Item) (r : List Item) (b : Bool) → is_step t.class ≡ b
+    → read reads (Or (Then step_stmt (Tok is_step) (Call Assignable)) (Call CallOrJump)) (t ∷ r) ≡ step_or_call (step_at (t ∷ r)) (t ∷ r)
+step_or_call_at t r true h = rw (step_class t.class, h) refl
+step_or_call_at t r false h = rw (step_class t.class, h) refl
 
-pub simple_is : (ts : List Item) → reads Simple ts ≡ simple_by (class_at ts) ts
+simple_at : (t : Item) (r : List Item) (b d : Bool) → is MapName t.class ≡ b → is VarName t.class ≡ d → read reads (rule Simple) (t ∷ r) ≡ simple_by (t ∷ r)
+simple_at t r true d h i = rw h (simp and_then_assoc)
+simple_at t r false true h i = rw (h, i) (simp and_then_assoc)
+simple_at t r false false h i = rw (h, i) (step_or_call_at t r (is_step t.class) refl)
+
+pub simple_is : (ts : List Item) → reads Simple ts ≡ simple_by ts
 simple_is [] = reads_is Simple []
-simple_is (t ∷ r) = rw (reads_is Simple (t ∷ r)) (simple_kind t.class t.kind t.place r)
+simple_is (t ∷ r) = rw (reads_is Simple (t ∷ r)) (simple_at t r (is MapName t.class) (is VarName t.class) refl refl)

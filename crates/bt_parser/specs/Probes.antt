@@ -3,6 +3,7 @@ use Rattle.std.specs.Prelude.{true, List, [], ◌∷◌, ◌++◌, Option, Some,
 use Rattle.bt_ast.specs.declared.expr.Expr.{Expr}
 use Rattle.bt_ast.specs.declared.probe.Point.{Point}
 use Rattle.bt_ast.specs.declared.probe.Probe.{Probe}
+use Rattle.bt_ast.specs.declared.stmt.Block.{Block}
 use Rattle.bt_core.specs.declared.operator.BinOp.TheVariants.{Div}
 use Rattle.bt_grammar.specs.declared.class.Class.TheVariants.{Comma, Operator}
 use Rattle.bt_grammar.specs.Classes.{is_point}
@@ -32,5 +33,9 @@ predicate_by ts = if starts (ends (Operator Div)) ts
     then (reads (Expression true) (rest_of ts) >>= λ x r. read reads (mark (Operator Div)) r >>= λ _ r1. Done (Some x) r1)
     else Done None ts
 
+-- a predicate or none, and a block
+abbrev pub guarded_by : List Item → Out (Option Expr × Block)
+guarded_by ts = read reads predicate_form ts >>= λ x r. reads Braced r >>= λ b r1. Done (x, b) r1
+
 abbrev pub probe_by : List Item → Out Probe
-probe_by ts = reads Points ts >>= λ ps r. read reads predicate_form r >>= λ x r1. reads Braced r1 >>= λ b r2. Done (probe_of x b ps) r2
+probe_by ts = reads Points ts >>= λ ps r. guarded_by r >>= λ g r1. Done (probe_of g.0 g.1 ps) r1

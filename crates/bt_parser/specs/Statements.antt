@@ -25,7 +25,7 @@ use Rattle.bt_grammar.specs.Reading.{Out, Done, Refused, read, reads, starts, re
 use Rattle.bt_grammar.specs.Rules.{mark, ends, optional, in_parens, after_comma, empty_parens, value, a_number}
 use Rattle.bt_grammar.specs.Trees.{pair, negated, count_call, gather_call, lhist_call, map_ref, step_after, place_of_map, place_of_target, stmt, top_and_div}
 use Rattle.bt_grammar.specs.Form.{Call}
-use Rattle.bt_parser.specs.Mirror.{◌>>=◌, class_at, front_place, when, named_form, var_of, values_on, values_behind, step_of}
+use Rattle.bt_parser.specs.Mirror.{◌>>=◌, class_at, front_place, when, named_form, var_of, values_on, values_behind, step_at, step_of}
 
 -- what is made of a value
 abbrev pub given : {A B : Type 0} → A → Out (A → B) → Out B
@@ -82,21 +82,25 @@ abbrev pub update_at : List Item → Option BinOp
 update_at [] = None
 update_at (t ∷ r) = update_of t.class
 
+abbrev pub assign_by : Target → Option BinOp → List Item → Out StmtKind
+assign_by target op ts = reads (Expression false) ts >>= λ x r. Done (stmts.Assign target op x) r
+
 abbrev pub update_by : Target → Option Bool → Option BinOp → List Item → Out StmtKind
 update_by target (Some plus) op ts = Done (stmts.Step (step_after target plus (place_of_target target))) (rest_of ts)
-update_by target None (Some op) ts = reads (Expression false) (rest_of ts) >>= λ x r. Done (stmts.Assign target (Some op) x) r
+update_by target None (Some op) ts = assign_by target (Some op) (rest_of ts)
 update_by target None None ts = Refused ts
 
+abbrev pub set_agg_by : MapRef → List Item → Out StmtKind
+set_agg_by m ts = reads Aggregation ts >>= λ a r. Done (stmts.SetAgg m a.0 a.1) r
+
 abbrev pub set_map_by : MapRef → List Item → Out StmtKind
-set_map_by m r = if starts begins_aggregation r
-    then (reads Aggregation r >>= λ a r1. Done (stmts.SetAgg m a.0 a.1) r1)
-    else (reads (Expression false) r >>= λ x r1. Done (stmts.Assign (targets.Map m) None x) r1)
+set_map_by m r = if starts begins_aggregation r then set_agg_by m r else assign_by (targets.Map m) None r
 
 abbrev pub after_map_by : MapRef → List Item → Out StmtKind
 after_map_by m ts = if starts (ends Assign) ts then set_map_by m (rest_of ts) else given (targets.Map m) (reads Update ts)
 
 abbrev pub after_var_by : VarRef → List Item → Out StmtKind
-after_var_by v ts = if starts (ends Assign) ts then (reads (Expression false) (rest_of ts) >>= λ x r. Done (stmts.Assign (targets.Var v) None x) r)
+after_var_by v ts = if starts (ends Assign) ts then assign_by (targets.Var v) None (rest_of ts)
     else given (targets.Var v) (reads Update ts)
 
 -- ---- calls and jumps
@@ -116,9 +120,12 @@ in_parens_map = in_parens map_form
 abbrev pub map_in_parens_by : List Item → Out MapRef
 map_in_parens_by ts = read reads (mark OpenParen) ts >>= λ _ r. read reads map_form r >>= λ m r1. read reads (mark CloseParen) r1 >>= λ _ r2. Done m r2
 
+-- the values of a format and the closing parenthesis
+abbrev pub closed_values_by : List Item → Out (List Expr)
+closed_values_by ts = values_on [] ts >>= λ vs r. read reads (mark CloseParen) r >>= λ _ r1. Done vs r1
+
 abbrev pub printf_by : List Item → Out StmtKind
-printf_by ts = read reads (mark OpenParen) ts >>= λ _ r. read reads (named_form TextLiteral) r >>= λ n r1. values_on [] r1 >>= λ vs r2.
-    read reads (mark CloseParen) r2 >>= λ _ r3. Done (stmts.Printf n.bytes n.place vs) r3
+printf_by ts = read reads (mark OpenParen) ts >>= λ _ r. read reads (named_form TextLiteral) r >>= λ n r1. closed_values_by r1 >>= λ vs r2. Done (stmts.Printf n.bytes n.place vs) r2
 
 abbrev pub limit_form : Form (Option ℤ)
 limit_form = optional (after_comma a_number)
@@ -136,31 +143,48 @@ limits_on (Some top) ts = read reads limit_form ts >>= λ div r. Done (Some top,
 abbrev pub limits_by : List Item → Out (Option ℤ × Option ℤ)
 limits_by ts = read reads limit_form ts >>= limits_on
 
+-- the limits and the closing parenthesis
+abbrev pub closed_limits_by : List Item → Out (Option ℤ × Option ℤ)
+closed_limits_by ts = read reads limits_form ts >>= λ limits r. read reads (mark CloseParen) r >>= λ _ r1. Done limits r1
+
 abbrev pub print_by : List Item → Out StmtKind
-print_by ts = read reads (mark OpenParen) ts >>= λ _ r. read reads map_form r >>= λ m r1. read reads limits_form r1 >>= λ limits r2.
-    read reads (mark CloseParen) r2 >>= λ _ r3. Done (stmts.Print m limits.0 limits.1) r3
+print_by ts = read reads (mark OpenParen) ts >>= λ _ r. read reads map_form r >>= λ m r1. closed_limits_by r1 >>= λ limits r2. Done (stmts.Print m limits.0 limits.1) r2
 
 -- the parts of a key behind its bracket, the bracket behind them, and the closing parenthesis
 abbrev pub closed_keys_by : List Item → Out (List Expr)
 closed_keys_by ts = values_behind [] ts >>= λ keys r. read reads (mark CloseBracket) r >>= λ _ r1. read reads (mark CloseParen) r1 >>= λ _ r2. Done keys r2
 
-abbrev pub delete_on : Named → Option Class → List Item → Out StmtKind
-delete_on n (Some Comma) ts = read reads (Until value CloseParen) (rest_of ts) >>= λ x r. Done (stmts.DeleteKey (bare_map n) x) r
-delete_on n (Some OpenBracket) ts = closed_keys_by (rest_of ts) >>= λ keys r. Done (stmts.Delete (roll-MapRef (record { name = n.bytes; keys = keys; place = n.place }))) r
-delete_on n _ ts = read reads (mark CloseParen) ts >>= λ _ r. Done (stmts.Delete (bare_map n)) r
+abbrev pub delete_key_by : Named → List Item → Out StmtKind
+delete_key_by n ts = read reads (Until value CloseParen) ts >>= λ x r. Done (stmts.DeleteKey (bare_map n) x) r
+
+abbrev pub delete_keyed_by : Named → List Item → Out StmtKind
+delete_keyed_by n ts = closed_keys_by ts >>= λ keys r. Done (stmts.Delete (roll-MapRef (record { name = n.bytes; keys = keys; place = n.place }))) r
+
+abbrev pub delete_all_by : Named → List Item → Out StmtKind
+delete_all_by n ts = read reads (mark CloseParen) ts >>= λ _ r. Done (stmts.Delete (bare_map n)) r
+
+abbrev pub delete_on : Named → List Item → Out StmtKind
+delete_on n ts = if starts (ends Comma) ts then delete_key_by n (rest_of ts)
+    else (if starts (ends OpenBracket) ts then delete_keyed_by n (rest_of ts) else delete_all_by n ts)
 
 abbrev pub delete_by : List Item → Out StmtKind
-delete_by ts = read reads (mark OpenParen) ts >>= λ _ r. read reads (named_form MapName) r >>= λ n r1. delete_on n (class_at r1) r1
+delete_by ts = read reads (mark OpenParen) ts >>= λ _ r. read reads (named_form MapName) r >>= delete_on
 
 abbrev pub exit_by : List Item → Out StmtKind
 exit_by ts = read reads (mark OpenParen) ts >>= λ _ r. read reads (mark CloseParen) r >>= λ _ r1. Done stmts.Exit r1
+
+abbrev pub clear_by : List Item → Out StmtKind
+clear_by ts = read reads in_parens_map ts >>= λ m r. Done (stmts.Clear m) r
+
+abbrev pub zero_by : List Item → Out StmtKind
+zero_by ts = read reads in_parens_map ts >>= λ m r. Done (stmts.Zero m) r
 
 -- what follows the first word of a call or jump
 abbrev pub behind_word : Class → List Item → Out StmtKind
 behind_word PrintfWord ts = reads Printf ts
 behind_word PrintWord ts = reads Print ts
-behind_word ClearWord ts = read reads in_parens_map ts >>= λ m r. Done (stmts.Clear m) r
-behind_word ZeroWord ts = read reads in_parens_map ts >>= λ m r. Done (stmts.Zero m) r
+behind_word ClearWord ts = clear_by ts
+behind_word ZeroWord ts = zero_by ts
 behind_word DeleteWord ts = reads Delete ts
 behind_word ExitWord ts = exit_by ts
 behind_word BreakWord ts = Done stmts.Break ts
@@ -180,12 +204,18 @@ call_by (Some c) ts = behind_word c (rest_of ts) >>= λ k r. Done (stmt (front_p
 abbrev pub step_stmt_by : Bool → Place → List Item → Out Stmt
 step_stmt_by plus place ts = reads Assignable ts >>= λ t r. Done (stmt place (stmts.Step (step_of t plus place))) r
 
-abbrev pub simple_by : Option Class → List Item → Out Stmt
-simple_by (Some MapName) ts = reads Keyed ts >>= λ m r. given m (reads AfterMap r) >>= λ k r1. Done (stmt (place_of_map m) k) r1
-simple_by (Some VarName) ts = read reads (named_form VarName) ts >>= λ n r. given (var_of n) (reads AfterVar r) >>= λ k r1. Done (stmt n.place k) r1
-simple_by (Some Increment) ts = step_stmt_by true (front_place ts) (rest_of ts)
-simple_by (Some Decrement) ts = step_stmt_by false (front_place ts) (rest_of ts)
-simple_by _ ts = reads CallOrJump ts
+abbrev pub map_stmt_by : List Item → Out Stmt
+map_stmt_by ts = reads Keyed ts >>= λ m r. given m (reads AfterMap r) >>= λ k r1. Done (stmt (place_of_map m) k) r1
+
+abbrev pub var_stmt_by : List Item → Out Stmt
+var_stmt_by ts = read reads (named_form VarName) ts >>= λ n r. given (var_of n) (reads AfterVar r) >>= λ k r1. Done (stmt n.place k) r1
+
+abbrev pub step_or_call : Option Bool → List Item → Out Stmt
+step_or_call (Some plus) ts = step_stmt_by plus (front_place ts) (rest_of ts)
+step_or_call None ts = reads CallOrJump ts
+
+abbrev pub simple_by : List Item → Out Stmt
+simple_by ts = if starts (ends MapName) ts then map_stmt_by ts else (if starts (ends VarName) ts then var_stmt_by ts else step_or_call (step_at ts) ts)
 
 -- ---- control and blocks
 
@@ -199,33 +229,53 @@ arms_on arms ts = reads Tail ts >>= λ t r. Done (stmts.If (arms ++ t.0) t.1) r
 abbrev pub branches_by : List Item → Out StmtKind
 branches_by ts = reads Arm ts >>= λ a r. arms_on (a ∷ []) r
 
+-- whether `else` and `if` come next
+abbrev pub is_else_if : List Item → Bool
+is_else_if ts = if starts (ends ElseWord) ts then starts (ends IfWord) (rest_of ts) else false
+
+-- the block behind an `else`, where one comes next
+abbrev pub otherwise_by : List Item → Out (Option Block)
+otherwise_by ts = if starts (ends ElseWord) ts then (reads Braced (rest_of ts) >>= λ b r. Done (Some b) r) else Done None ts
+
 abbrev pub arms_turn : List (Expr × Block) → List Item → Out StmtKind
-arms_turn arms ts = if starts (ends ElseWord) ts
-    then (if starts (ends IfWord) (rest_of ts) then (reads Arm (rest_of (rest_of ts)) >>= λ a r. arms_on (arms ++ a ∷ []) r)
-    else (reads Braced (rest_of ts) >>= λ b r. Done (stmts.If arms (Some b)) r))
-    else Done (stmts.If arms None) ts
+arms_turn arms ts = if is_else_if ts then (reads Arm (rest_of (rest_of ts)) >>= λ a r. arms_on (arms ++ a ∷ []) r)
+    else (otherwise_by ts >>= λ o r. Done (stmts.If arms o) r)
 
 abbrev pub turns_by : List Item → Out ℤ
 turns_by ts = read reads (mark OpenParen) ts >>= λ _ r. read reads a_number r >>= λ n r1. read reads (mark CloseParen) r1 >>= λ _ r2. Done n r2
 
-abbrev pub control_by : Option Class → List Item → Out Stmt
-control_by (Some IfWord) ts = branches_by (rest_of ts) >>= λ k r. Done (stmt (front_place ts) k) r
-control_by (Some WhileWord) ts = reads Arm (rest_of ts) >>= λ a r. Done (stmt (front_place ts) (stmts.While a.0 a.1)) r
-control_by _ ts = read reads (mark UnrollWord) ts >>= λ p r. read reads (in_parens a_number) r >>= λ n r1. reads Braced r1 >>= λ b r2. Done (stmt p (stmts.Unroll n b)) r2
+abbrev pub if_by : Place → List Item → Out Stmt
+if_by place ts = branches_by ts >>= λ k r. Done (stmt place k) r
+
+abbrev pub while_by : Place → List Item → Out Stmt
+while_by place ts = reads Arm ts >>= λ a r. Done (stmt place (stmts.While a.0 a.1)) r
+
+abbrev pub unroll_by : List Item → Out Stmt
+unroll_by ts = read reads (mark UnrollWord) ts >>= λ p r. read reads (in_parens a_number) r >>= λ n r1. reads Braced r1 >>= λ b r2. Done (stmt p (stmts.Unroll n b)) r2
+
+abbrev pub control_by : List Item → Out Stmt
+control_by ts = if starts (ends IfWord) ts then if_by (front_place ts) (rest_of ts)
+    else (if starts (ends WhileWord) ts then while_by (front_place ts) (rest_of ts) else unroll_by ts)
 
 -- the statements so far, and what is read of the others
 unfoldable pub body_on : List Stmt → List Item → Out (List Stmt)
 body_on body ts = reads Body ts >>= λ b r. Done (body ++ b) r
 
-abbrev pub after_simple : List Stmt → List Item → Out (List Stmt)
-after_simple body r = if starts (ends Semicolon) r then body_on body (rest_of r) else (read reads (mark CloseBrace) r >>= λ _ r1. Done body r1)
-
 abbrev pub begins_control : Class → Bool → Bool
 begins_control c brace = is_control c
 
+-- a statement without blocks, before what may stand behind it
+abbrev pub ended : Stmt → List Item → Out Stmt
+ended x r = if starts (ends Semicolon) r then Done x (rest_of r) else (if starts (ends CloseBrace) r then Done x r else Refused r)
+
+abbrev pub ended_by : List Item → Out Stmt
+ended_by ts = reads Simple ts >>= ended
+
+abbrev pub stmt_by : List Item → Out Stmt
+stmt_by ts = if starts begins_control ts then reads Control ts else ended_by ts
+
 abbrev pub body_turn : List Stmt → List Item → Out (List Stmt)
-body_turn body ts = if starts (ends CloseBrace) ts then Done body (rest_of ts)
-    else (if starts begins_control ts then (reads Control ts >>= λ x r. body_on (body ++ x ∷ []) r) else (reads Simple ts >>= λ x r. after_simple (body ++ x ∷ []) r))
+body_turn body ts = if starts (ends CloseBrace) ts then Done body (rest_of ts) else (stmt_by ts >>= λ x r. body_on (body ++ x ∷ []) r)
 
 abbrev pub block_by : List Item → Out Block
 block_by ts = read reads (mark OpenBrace) ts >>= λ p r. reads Body r >>= λ b r1. Done (roll-Block (record { stmts = b; place = p })) r1

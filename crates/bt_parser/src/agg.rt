@@ -18,7 +18,6 @@ use bt_grammar::class::Class;
 use std::alloc::Global;
 
 /// A number, with a `-` before it or none.
-#[tactic(auto, using(crate::proofs::Stated::int_is))]
 fn int(tokens: &mut Cursor<'_>) -> Result<i64, Fault>
     ensures reads { Reads (reads Int (items tokens.old)) result tokens.new }
     ensures shorter { OnOk result (length tokens.new < length tokens.old) }
@@ -31,7 +30,6 @@ fn int(tokens: &mut Cursor<'_>) -> Result<i64, Fault>
 }
 
 /// An expression in parentheses.
-#[tactic(auto, using(crate::proofs::Stated::parens_is))]
 pub fn in_parens(alloc: Global, tokens: &mut Cursor<'_>) -> Result<Expr, Fault>
     ensures reads { Reads (read reads (in_parens value) (items tokens.old)) result tokens.new }
     ensures shorter { OnOk result (length tokens.new < length tokens.old) }
@@ -40,7 +38,6 @@ pub fn in_parens(alloc: Global, tokens: &mut Cursor<'_>) -> Result<Expr, Fault>
     value_until(alloc, tokens, Class::CloseParen)
 }
 
-#[tactic(auto, using(crate::proofs::Stated::count_is))]
 fn count(tokens: &mut Cursor<'_>) -> Result<(AggCall, Place), Fault>
     ensures reads { Reads (read reads count_form (items tokens.old)) result tokens.new }
     ensures shorter { OnOk result (length tokens.new < length tokens.old) }
@@ -51,7 +48,6 @@ fn count(tokens: &mut Cursor<'_>) -> Result<(AggCall, Place), Fault>
     Ok((AggCall::Count, place))
 }
 
-#[tactic(auto, using(crate::proofs::Stated::gather_is))]
 fn gather(alloc: Global, tokens: &mut Cursor<'_>) -> Result<(AggCall, Place), Fault>
     ensures reads { Reads (read reads gather_form (items tokens.old)) result tokens.new }
     ensures shorter { OnOk result (length tokens.new < length tokens.old) }
@@ -86,7 +82,6 @@ fn read_bounds(tokens: &mut Cursor<'_>) -> Result<Bounds, Fault>
     Ok(Bounds { min, max, step })
 }
 
-#[tactic(auto, using(crate::proofs::Stated::lhist_is))]
 fn lhist(alloc: Global, tokens: &mut Cursor<'_>) -> Result<(AggCall, Place), Fault>
     ensures reads { Reads (read reads lhist_form (items tokens.old)) result tokens.new }
     ensures shorter { OnOk result (length tokens.new < length tokens.old) }
@@ -105,7 +100,6 @@ fn lhist(alloc: Global, tokens: &mut Cursor<'_>) -> Result<(AggCall, Place), Fau
 }
 
 /// A map function and where its word stands.
-#[tactic(auto, using(crate::proofs::Stated::aggregation_is))]
 pub fn aggregation(alloc: Global, tokens: &mut Cursor<'_>) -> Result<(AggCall, Place), Fault>
     ensures reads { Reads (reads Aggregation (items tokens.old)) result tokens.new }
     ensures shorter { OnOk result (length tokens.new < length tokens.old) }

@@ -3,7 +3,7 @@ ghost use Rattle.std.specs.Prelude.{◌≡◌, ◌<◌, OnOk, length};
 ghost use Rattle.bt_parser.specs.Contract.{Reads};
 ghost use Rattle.bt_grammar.specs.Form.{AfterMap, AfterVar, Update};
 ghost use Rattle.bt_grammar.specs.Reading.{reads};
-ghost use Rattle.bt_parser.specs.Statements.{given};
+ghost use Rattle.bt_parser.specs.Statements.{assign_by, given, set_agg_by};
 ghost use Rattle.bt_grammar.specs.Tokens.{items};
 ghost use Rattle.bt_grammar.specs.Trees.{place_of_target, step_after};
 
@@ -13,6 +13,7 @@ use crate::expr::expression;
 use crate::fault::Fault;
 use bt_ast::expr::{IncDec, MapRef, Target, VarRef};
 use bt_ast::stmt::StmtKind;
+use bt_core::operator::BinOp;
 use bt_core::place::Place;
 use bt_grammar::class::Class;
 use std::alloc::Global;
@@ -39,8 +40,21 @@ fn step_after(target: Target, plus: bool) -> IncDec
     }
 }
 
+/// The assignment of a value that comes next, by an operator or none.
+fn assign(
+    alloc: Global,
+    tokens: &mut Cursor<'_>,
+    target: Target,
+    op: Option<BinOp>,
+) -> Result<StmtKind, Fault>
+    ensures reads { Reads (assign_by target op (items tokens.old)) result tokens.new }
+    ensures shorter { OnOk result (length tokens.new < length tokens.old) }
+{
+    let value = expression(alloc, tokens, false)?;
+    Ok(StmtKind::Assign { target, op, value })
+}
+
 /// `++`, `--`, or an operator with `=` and a value.
-#[tactic(auto, using(crate::proofs::Stated::update_is))]
 fn update(alloc: Global, tokens: &mut Cursor<'_>, target: Target) -> Result<StmtKind, Fault>
     ensures reads { Reads (given target (reads Update (items tokens.old))) result tokens.new }
     ensures shorter { OnOk result (length tokens.new < length tokens.old) }
@@ -53,16 +67,23 @@ fn update(alloc: Global, tokens: &mut Cursor<'_>, target: Target) -> Result<Stmt
         return Err(Fault::Syntax);
     };
     tokens.skip();
-    let value = expression(alloc, tokens, false)?;
-    Ok(StmtKind::Assign {
-        target,
-        op: Some(op),
-        value,
+    assign(alloc, tokens, target, Some(op))
+}
+
+/// A map function for a map.
+fn set_agg(alloc: Global, tokens: &mut Cursor<'_>, map: MapRef) -> Result<StmtKind, Fault>
+    ensures reads { Reads (set_agg_by map (items tokens.old)) result tokens.new }
+    ensures shorter { OnOk result (length tokens.new < length tokens.old) }
+{
+    let (agg, agg_place) = aggregation(alloc, tokens)?;
+    Ok(StmtKind::SetAgg {
+        map,
+        agg,
+        agg_place,
     })
 }
 
 /// What follows a map: `=` with a map function or a value, or an update.
-#[tactic(auto, using(crate::proofs::Stated::after_map_is))]
 pub fn after_map(alloc: Global, tokens: &mut Cursor<'_>, map: MapRef) -> Result<StmtKind, Fault>
     ensures reads { Reads (given map (reads AfterMap (items tokens.old))) result tokens.new }
     ensures shorter { OnOk result (length tokens.new < length tokens.old) }
@@ -72,23 +93,12 @@ pub fn after_map(alloc: Global, tokens: &mut Cursor<'_>, map: MapRef) -> Result<
     }
     tokens.skip();
     if tokens.begins_aggregation() {
-        let (agg, agg_place) = aggregation(alloc, tokens)?;
-        return Ok(StmtKind::SetAgg {
-            map,
-            agg,
-            agg_place,
-        });
+        return set_agg(alloc, tokens, map);
     }
-    let value = expression(alloc, tokens, false)?;
-    Ok(StmtKind::Assign {
-        target: Target::Map(map),
-        op: None,
-        value,
-    })
+    assign(alloc, tokens, Target::Map(map), None)
 }
 
 /// What follows a variable: `=` with a value, or an update.
-#[tactic(auto, using(crate::proofs::Stated::after_var_is))]
 pub fn after_var(alloc: Global, tokens: &mut Cursor<'_>, var: VarRef) -> Result<StmtKind, Fault>
     ensures reads { Reads (given var (reads AfterVar (items tokens.old))) result tokens.new }
     ensures shorter { OnOk result (length tokens.new < length tokens.old) }
@@ -97,10 +107,5 @@ pub fn after_var(alloc: Global, tokens: &mut Cursor<'_>, var: VarRef) -> Result<
         return update(alloc, tokens, Target::Var(var));
     }
     tokens.skip();
-    let value = expression(alloc, tokens, false)?;
-    Ok(StmtKind::Assign {
-        target: Target::Var(var),
-        op: None,
-        value,
-    })
+    assign(alloc, tokens, Target::Var(var), None)
 }

@@ -1,10 +1,10 @@
 // Blocks and the statements that have them.
-ghost use Rattle.std.specs.Prelude.{◌<◌, OnOk, length};
+ghost use Rattle.std.specs.Prelude.{◌<◌, ◌≤◌, OnOk, length};
 ghost use Rattle.bt_parser.specs.Contract.{Reads};
 ghost use Rattle.bt_grammar.specs.Form.{Arm, Body, Braced, Control};
 ghost use Rattle.bt_grammar.specs.Reading.{read, reads};
 ghost use Rattle.bt_grammar.specs.Rules.{a_number, in_parens};
-ghost use Rattle.bt_parser.specs.Statements.{branches_by};
+ghost use Rattle.bt_parser.specs.Statements.{branches_by, ended_by, if_by, otherwise_by, stmt_by, unroll_by, while_by};
 ghost use Rattle.bt_grammar.specs.Tokens.{items};
 
 use crate::agg::in_parens;
@@ -14,11 +14,11 @@ use crate::simple::simple;
 use bt_ast::expr::Expr;
 use bt_ast::stmt::{Block, Stmt, StmtKind};
 use bt_core::items::Items;
+use bt_core::place::Place;
 use bt_grammar::class::Class;
 use std::alloc::Global;
 
 /// A number in parentheses.
-#[tactic(auto, using(crate::proofs::Blocks::turns_is))]
 fn turns(tokens: &mut Cursor<'_>) -> Result<i64, Fault>
     ensures reads { Reads (read reads (in_parens a_number) (items tokens.old)) result tokens.new }
     ensures shorter { OnOk result (length tokens.new < length tokens.old) }
@@ -40,6 +40,19 @@ fn arm(alloc: Global, tokens: &mut Cursor<'_>) -> Result<(Expr, Block), Fault>
     Ok((condition, block))
 }
 
+/// The block behind an `else`, where one comes next.
+#[cycle(block)]
+fn otherwise(alloc: Global, tokens: &mut Cursor<'_>) -> Result<Option<Block>, Fault>
+    ensures reads { Reads (otherwise_by (items tokens.old)) result tokens.new }
+    ensures no_longer { OnOk result (length tokens.new ≤ length tokens.old) }
+{
+    if !tokens.sees(Class::ElseWord) {
+        return Ok(None);
+    }
+    tokens.skip();
+    Ok(Some(block(alloc, tokens)?))
+}
+
 /// The arms of an `if`, behind its word.
 #[cycle(block)]
 fn branches(alloc: Global, tokens: &mut Cursor<'_>) -> Result<StmtKind, Fault>
@@ -48,22 +61,47 @@ fn branches(alloc: Global, tokens: &mut Cursor<'_>) -> Result<StmtKind, Fault>
 {
     let mut arms = Items::new(alloc);
     arms.push(arm(alloc, tokens)?)?;
-    while tokens.sees(Class::ElseWord) {
+    while tokens.sees_else_if() {
         tokens.skip();
-        if !tokens.sees(Class::IfWord) {
-            let otherwise = block(alloc, tokens)?;
-            return Ok(StmtKind::If {
-                arms,
-                otherwise: Some(otherwise),
-            });
-        }
         tokens.skip();
         arms.push(arm(alloc, tokens)?)?;
     }
-    Ok(StmtKind::If {
-        arms,
-        otherwise: None,
-    })
+    let otherwise = otherwise(alloc, tokens)?;
+    Ok(StmtKind::If { arms, otherwise })
+}
+
+/// What an `if` is, behind its word, which stands at the place.
+#[cycle(block)]
+fn if_stmt(alloc: Global, tokens: &mut Cursor<'_>, place: Place) -> Result<Stmt, Fault>
+    ensures reads { Reads (if_by place (items tokens.old)) result tokens.new }
+    ensures shorter { OnOk result (length tokens.new < length tokens.old) }
+{
+    let kind = branches(alloc, tokens)?;
+    Ok(Stmt { kind, place })
+}
+
+/// What a `while` is, behind its word, which stands at the place.
+#[cycle(block)]
+fn while_stmt(alloc: Global, tokens: &mut Cursor<'_>, place: Place) -> Result<Stmt, Fault>
+    ensures reads { Reads (while_by place (items tokens.old)) result tokens.new }
+    ensures shorter { OnOk result (length tokens.new < length tokens.old) }
+{
+    let (condition, block) = arm(alloc, tokens)?;
+    let kind = StmtKind::While { condition, block };
+    Ok(Stmt { kind, place })
+}
+
+/// An `unroll`.
+#[cycle(block)]
+fn unroll(alloc: Global, tokens: &mut Cursor<'_>) -> Result<Stmt, Fault>
+    ensures reads { Reads (unroll_by (items tokens.old)) result tokens.new }
+    ensures shorter { OnOk result (length tokens.new < length tokens.old) }
+{
+    let place = tokens.expect(Class::UnrollWord)?;
+    let turns = turns(tokens)?;
+    let block = block(alloc, tokens)?;
+    let kind = StmtKind::Unroll { turns, block };
+    Ok(Stmt { kind, place })
 }
 
 /// A statement with blocks.
@@ -72,25 +110,41 @@ fn control(alloc: Global, tokens: &mut Cursor<'_>) -> Result<Stmt, Fault>
     ensures reads { Reads (reads Control (items tokens.old)) result tokens.new }
     ensures shorter { OnOk result (length tokens.new < length tokens.old) }
 {
-    match tokens.peek() {
-        Some(Class::IfWord) => {
-            let place = tokens.skip();
-            let kind = branches(alloc, tokens)?;
-            Ok(Stmt { kind, place })
-        }
-        Some(Class::WhileWord) => {
-            let place = tokens.skip();
-            let (condition, block) = arm(alloc, tokens)?;
-            let kind = StmtKind::While { condition, block };
-            Ok(Stmt { kind, place })
-        }
-        _ => {
-            let place = tokens.expect(Class::UnrollWord)?;
-            let turns = turns(tokens)?;
-            let block = block(alloc, tokens)?;
-            let kind = StmtKind::Unroll { turns, block };
-            Ok(Stmt { kind, place })
-        }
+    if tokens.sees(Class::IfWord) {
+        let place = tokens.skip();
+        return if_stmt(alloc, tokens, place);
+    }
+    if tokens.sees(Class::WhileWord) {
+        let place = tokens.skip();
+        return while_stmt(alloc, tokens, place);
+    }
+    unroll(alloc, tokens)
+}
+
+/// A statement without blocks, with the semicolon behind it, which may be left out before a closing brace.
+fn ended(alloc: Global, tokens: &mut Cursor<'_>) -> Result<Stmt, Fault>
+    ensures reads { Reads (ended_by (items tokens.old)) result tokens.new }
+    ensures shorter { OnOk result (length tokens.new < length tokens.old) }
+{
+    let stmt = simple(alloc, tokens)?;
+    if tokens.sees(Class::Semicolon) {
+        tokens.skip();
+    } else if !tokens.sees(Class::CloseBrace) {
+        return Err(Fault::Syntax);
+    }
+    Ok(stmt)
+}
+
+/// A statement of a block.
+#[cycle(block)]
+fn stmt(alloc: Global, tokens: &mut Cursor<'_>) -> Result<Stmt, Fault>
+    ensures reads { Reads (stmt_by (items tokens.old)) result tokens.new }
+    ensures shorter { OnOk result (length tokens.new < length tokens.old) }
+{
+    if tokens.begins_control() {
+        control(alloc, tokens)
+    } else {
+        ended(alloc, tokens)
     }
 }
 
@@ -102,16 +156,7 @@ fn body(alloc: Global, tokens: &mut Cursor<'_>) -> Result<Items<Stmt>, Fault>
 {
     let mut stmts = Items::new(alloc);
     while !tokens.sees(Class::CloseBrace) {
-        if tokens.begins_control() {
-            stmts.push(control(alloc, tokens)?)?;
-        } else {
-            stmts.push(simple(alloc, tokens)?)?;
-            if !tokens.sees(Class::Semicolon) {
-                tokens.expect(Class::CloseBrace)?;
-                return Ok(stmts);
-            }
-            tokens.skip();
-        }
+        stmts.push(stmt(alloc, tokens)?)?;
     }
     tokens.skip();
     Ok(stmts)

@@ -2,9 +2,9 @@
 ghost use Rattle.std.specs.Prelude.{◌≡◌, ◌<◌, ◌≤◌, [], OnOk, length, true};
 ghost use Rattle.bt_parser.specs.Contract.{Reads};
 ghost use Rattle.bt_grammar.specs.Form.{CallOrJump, Delete, Print, Printf};
-ghost use Rattle.bt_parser.specs.Mirror.{class_at, values_on};
+ghost use Rattle.bt_parser.specs.Mirror.{values_on};
 ghost use Rattle.bt_grammar.specs.Reading.{read, reads};
-ghost use Rattle.bt_parser.specs.Statements.{bare_map, behind_word, closed_keys_by, delete_on, exit_by, in_parens_map, limit_form, limits_form, map_form};
+ghost use Rattle.bt_parser.specs.Statements.{bare_map, behind_word, clear_by, closed_keys_by, closed_limits_by, closed_values_by, delete_all_by, delete_key_by, delete_keyed_by, delete_on, exit_by, in_parens_map, limit_form, limits_form, map_form, zero_by};
 ghost use Rattle.bt_grammar.specs.Tables.{is_call};
 ghost use Rattle.bt_grammar.specs.Tokens.{items};
 
@@ -19,7 +19,6 @@ use bt_grammar::class::Class;
 use std::alloc::Global;
 
 /// A map that is named as a whole.
-#[tactic(auto, using(crate::proofs::Stated::whole_map_is))]
 fn whole_map(alloc: Global, tokens: &mut Cursor<'_>) -> Result<MapRef, Fault>
     ensures reads { Reads (read reads map_form (items tokens.old)) result tokens.new }
     ensures shorter { OnOk result (length tokens.new < length tokens.old) }
@@ -33,7 +32,6 @@ fn whole_map(alloc: Global, tokens: &mut Cursor<'_>) -> Result<MapRef, Fault>
 }
 
 /// A map that is named as a whole, in parentheses.
-#[tactic(auto, using(crate::proofs::Stated::map_in_parens_is))]
 fn map_in_parens(alloc: Global, tokens: &mut Cursor<'_>) -> Result<MapRef, Fault>
     ensures reads { Reads (read reads in_parens_map (items tokens.old)) result tokens.new }
     ensures shorter { OnOk result (length tokens.new < length tokens.old) }
@@ -45,7 +43,6 @@ fn map_in_parens(alloc: Global, tokens: &mut Cursor<'_>) -> Result<MapRef, Fault
 }
 
 /// The values of a format, each behind a comma.
-#[tactic(auto, using(crate::proofs::Mirrored::values_turns))]
 fn format_values(alloc: Global, tokens: &mut Cursor<'_>) -> Result<Items<Expr>, Fault>
     ensures reads { Reads (values_on [] (items tokens.old)) result tokens.new }
     ensures no_longer { OnOk result (length tokens.new ≤ length tokens.old) }
@@ -58,15 +55,24 @@ fn format_values(alloc: Global, tokens: &mut Cursor<'_>) -> Result<Items<Expr>, 
     values(alloc, tokens, none)
 }
 
-#[tactic(auto, using(crate::proofs::Stated::printf_is))]
+/// The values of a format and the closing parenthesis behind them.
+fn closed_values(alloc: Global, tokens: &mut Cursor<'_>) -> Result<Items<Expr>, Fault>
+    ensures reads { Reads (closed_values_by (items tokens.old)) result tokens.new }
+    ensures shorter { OnOk result (length tokens.new < length tokens.old) }
+{
+    let values = format_values(alloc, tokens)?;
+    tokens.expect(Class::CloseParen)?;
+    Ok(values)
+}
+
+/// What is printed by a format, behind the word `printf`.
 fn printf(alloc: Global, tokens: &mut Cursor<'_>) -> Result<StmtKind, Fault>
     ensures reads { Reads (reads Printf (items tokens.old)) result tokens.new }
     ensures shorter { OnOk result (length tokens.new < length tokens.old) }
 {
     tokens.expect(Class::OpenParen)?;
     let Named { bytes, place } = tokens.named(alloc, Class::TextLiteral)?;
-    let values = format_values(alloc, tokens)?;
-    tokens.expect(Class::CloseParen)?;
+    let values = closed_values(alloc, tokens)?;
     Ok(StmtKind::Printf {
         format: bytes,
         format_place: place,
@@ -75,7 +81,6 @@ fn printf(alloc: Global, tokens: &mut Cursor<'_>) -> Result<StmtKind, Fault>
 }
 
 /// A number behind a comma, where a comma comes next.
-#[tactic(auto, using(crate::proofs::Stated::limit_is))]
 fn limit(tokens: &mut Cursor<'_>) -> Result<Option<i64>, Fault>
     ensures reads { Reads (read reads limit_form (items tokens.old)) result tokens.new }
     ensures no_longer { OnOk result (length tokens.new ≤ length tokens.old) }
@@ -88,7 +93,6 @@ fn limit(tokens: &mut Cursor<'_>) -> Result<Option<i64>, Fault>
 }
 
 /// The two limits of what is printed: how many values, and by what they are divided.
-#[tactic(auto, using(crate::proofs::Stated::limits_is))]
 fn limits(tokens: &mut Cursor<'_>) -> Result<(Option<i64>, Option<i64>), Fault>
     ensures reads { Reads (read reads limits_form (items tokens.old)) result tokens.new }
     ensures no_longer { OnOk result (length tokens.new ≤ length tokens.old) }
@@ -100,20 +104,28 @@ fn limits(tokens: &mut Cursor<'_>) -> Result<(Option<i64>, Option<i64>), Fault>
     Ok((Some(top), div))
 }
 
-#[tactic(auto, using(crate::proofs::Stated::print_is))]
+/// The two limits of what is printed and the closing parenthesis behind them.
+fn closed_limits(tokens: &mut Cursor<'_>) -> Result<(Option<i64>, Option<i64>), Fault>
+    ensures reads { Reads (closed_limits_by (items tokens.old)) result tokens.new }
+    ensures shorter { OnOk result (length tokens.new < length tokens.old) }
+{
+    let limits = limits(tokens)?;
+    tokens.expect(Class::CloseParen)?;
+    Ok(limits)
+}
+
+/// Which map is printed, behind the word `print`.
 fn print(alloc: Global, tokens: &mut Cursor<'_>) -> Result<StmtKind, Fault>
     ensures reads { Reads (reads Print (items tokens.old)) result tokens.new }
     ensures shorter { OnOk result (length tokens.new < length tokens.old) }
 {
     tokens.expect(Class::OpenParen)?;
     let map = whole_map(alloc, tokens)?;
-    let (top, div) = limits(tokens)?;
-    tokens.expect(Class::CloseParen)?;
+    let (top, div) = closed_limits(tokens)?;
     Ok(StmtKind::Print { map, top, div })
 }
 
 /// What is deleted: a map's values, or that of one key, which stands in brackets or behind a comma.
-#[tactic(auto, using(crate::proofs::Stated::delete_is))]
 fn delete(alloc: Global, tokens: &mut Cursor<'_>) -> Result<StmtKind, Fault>
     ensures reads { Reads (reads Delete (items tokens.old)) result tokens.new }
     ensures shorter { OnOk result (length tokens.new < length tokens.old) }
@@ -142,6 +154,49 @@ fn closed_keys(alloc: Global, tokens: &mut Cursor<'_>) -> Result<Items<Expr>, Fa
     Ok(keys)
 }
 
+/// The deletion of one key of a map of the name, which stands behind a comma.
+fn delete_key(
+    alloc: Global,
+    tokens: &mut Cursor<'_>,
+    name: Items<u8>,
+    place: Place,
+) -> Result<StmtKind, Fault>
+    ensures reads { Reads (delete_key_by (record { bytes = name; place = place }) (items tokens.old)) result tokens.new }
+    ensures shorter { OnOk result (length tokens.new < length tokens.old) }
+{
+    let key = value_until(alloc, tokens, Class::CloseParen)?;
+    let map = named_map(alloc, name, place);
+    Ok(StmtKind::DeleteKey { map, key })
+}
+
+/// The deletion of a key of a map of the name, whose parts stand behind a bracket.
+fn delete_keyed(
+    alloc: Global,
+    tokens: &mut Cursor<'_>,
+    name: Items<u8>,
+    place: Place,
+) -> Result<StmtKind, Fault>
+    ensures reads { Reads (delete_keyed_by (record { bytes = name; place = place }) (items tokens.old)) result tokens.new }
+    ensures shorter { OnOk result (length tokens.new < length tokens.old) }
+{
+    let keys = closed_keys(alloc, tokens)?;
+    Ok(StmtKind::Delete(MapRef { name, keys, place }))
+}
+
+/// The deletion of all values of a map of the name.
+fn delete_all(
+    alloc: Global,
+    tokens: &mut Cursor<'_>,
+    name: Items<u8>,
+    place: Place,
+) -> Result<StmtKind, Fault>
+    ensures reads { Reads (delete_all_by (record { bytes = name; place = place }) (items tokens.old)) result tokens.new }
+    ensures shorter { OnOk result (length tokens.new < length tokens.old) }
+{
+    tokens.expect(Class::CloseParen)?;
+    Ok(StmtKind::Delete(named_map(alloc, name, place)))
+}
+
 /// What is deleted of a map of the name, behind that.
 fn delete_rest(
     alloc: Global,
@@ -149,26 +204,18 @@ fn delete_rest(
     name: Items<u8>,
     place: Place,
 ) -> Result<StmtKind, Fault>
-    ensures reads { Reads (delete_on (record { bytes = name; place = place }) (class_at (items tokens.old)) (items tokens.old)) result tokens.new }
+    ensures reads { Reads (delete_on (record { bytes = name; place = place }) (items tokens.old)) result tokens.new }
     ensures shorter { OnOk result (length tokens.new < length tokens.old) }
 {
-    match tokens.peek() {
-        Some(Class::Comma) => {
-            tokens.skip();
-            let key = value_until(alloc, tokens, Class::CloseParen)?;
-            let map = named_map(alloc, name, place);
-            Ok(StmtKind::DeleteKey { map, key })
-        }
-        Some(Class::OpenBracket) => {
-            tokens.skip();
-            let keys = closed_keys(alloc, tokens)?;
-            Ok(StmtKind::Delete(MapRef { name, keys, place }))
-        }
-        _ => {
-            tokens.expect(Class::CloseParen)?;
-            Ok(StmtKind::Delete(named_map(alloc, name, place)))
-        }
+    if tokens.sees(Class::Comma) {
+        tokens.skip();
+        return delete_key(alloc, tokens, name, place);
     }
+    if tokens.sees(Class::OpenBracket) {
+        tokens.skip();
+        return delete_keyed(alloc, tokens, name, place);
+    }
+    delete_all(alloc, tokens, name, place)
 }
 
 fn exit(tokens: &mut Cursor<'_>) -> Result<StmtKind, Fault>
@@ -180,6 +227,22 @@ fn exit(tokens: &mut Cursor<'_>) -> Result<StmtKind, Fault>
     Ok(StmtKind::Exit)
 }
 
+/// Which map is cleared, behind the word `clear`.
+fn clear(alloc: Global, tokens: &mut Cursor<'_>) -> Result<StmtKind, Fault>
+    ensures reads { Reads (clear_by (items tokens.old)) result tokens.new }
+    ensures shorter { OnOk result (length tokens.new < length tokens.old) }
+{
+    Ok(StmtKind::Clear(map_in_parens(alloc, tokens)?))
+}
+
+/// Which map's values are set to 0, behind the word `zero`.
+fn zero(alloc: Global, tokens: &mut Cursor<'_>) -> Result<StmtKind, Fault>
+    ensures reads { Reads (zero_by (items tokens.old)) result tokens.new }
+    ensures shorter { OnOk result (length tokens.new < length tokens.old) }
+{
+    Ok(StmtKind::Zero(map_in_parens(alloc, tokens)?))
+}
+
 /// What follows the first word of a call or jump.
 fn behind_word(alloc: Global, tokens: &mut Cursor<'_>, class: Class) -> Result<StmtKind, Fault>
     requires { is_call class ≡ true }
@@ -189,8 +252,8 @@ fn behind_word(alloc: Global, tokens: &mut Cursor<'_>, class: Class) -> Result<S
     match class {
         Class::PrintfWord => printf(alloc, tokens),
         Class::PrintWord => print(alloc, tokens),
-        Class::ClearWord => Ok(StmtKind::Clear(map_in_parens(alloc, tokens)?)),
-        Class::ZeroWord => Ok(StmtKind::Zero(map_in_parens(alloc, tokens)?)),
+        Class::ClearWord => clear(alloc, tokens),
+        Class::ZeroWord => zero(alloc, tokens),
         Class::DeleteWord => delete(alloc, tokens),
         Class::ExitWord => exit(tokens),
         Class::BreakWord => Ok(StmtKind::Break),
@@ -201,7 +264,6 @@ fn behind_word(alloc: Global, tokens: &mut Cursor<'_>, class: Class) -> Result<S
 }
 
 /// A call or a jump.
-#[tactic(auto, using(crate::proofs::Stated::call_is))]
 pub fn call(alloc: Global, tokens: &mut Cursor<'_>) -> Result<Stmt, Fault>
     ensures reads { Reads (reads CallOrJump (items tokens.old)) result tokens.new }
     ensures shorter { OnOk result (length tokens.new < length tokens.old) }

@@ -10,7 +10,7 @@ ghost use Rattle.bt_grammar.specs.Reading.{read, reads, rest_of, starts};
 ghost use Rattle.bt_grammar.specs.Rules.{a_number, ends, mark};
 ghost use Rattle.bt_parser.specs.Mirror.{class_at, front_place, named_form, operator_at, prefix_at, builtin_at, step_at, when, word_form};
 ghost use Rattle.bt_parser.specs.Probes.{point_form};
-ghost use Rattle.bt_parser.specs.Statements.{begins_aggregation, begins_control, call_at, gathering_at, update_at};
+ghost use Rattle.bt_parser.specs.Statements.{begins_aggregation, begins_control, call_at, gathering_at, is_else_if, update_at};
 ghost use Rattle.bt_grammar.specs.Tables.{is_call};
 ghost use Rattle.bt_grammar.specs.Tokens.{items};
 ghost use Rattle.bt_grammar.specs.Trees.{kind_bytes, kind_number};
@@ -153,6 +153,25 @@ impl<'a> Cursor<'a> {
             None => false,
             Some(next) => is(class, next),
         }
+    }
+
+    /// Whether the token behind the next one is of the class.
+    fn sees_second(&self, expected: Class) -> bool
+        ensures class { result ≡ starts (ends expected) (rest_of (items self.now)) }
+        ensures some { IsTrue result → 1 < length self.now }
+    {
+        match self.classes {
+            [_, class, ..] => is(expected, *class),
+            _ => false,
+        }
+    }
+
+    /// Whether `else` and `if` come next.
+    pub fn sees_else_if(&self) -> bool
+        ensures class { result ≡ is_else_if (items self.now) }
+        ensures some { IsTrue result → 1 < length self.now }
+    {
+        self.sees(Class::ElseWord) && self.sees_second(Class::IfWord)
     }
 
     /// The class of the next token where it is a binary operator of the tier.

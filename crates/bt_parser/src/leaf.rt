@@ -81,7 +81,6 @@ fn builtin(tokens: &mut Cursor<'_>) -> Result<Expr, Fault>
 }
 
 /// The mark between `args` and the name of a field.
-#[tactic(auto, using(crate::proofs::Mirrored::dot_is))]
 fn dot(tokens: &mut Cursor<'_>) -> Result<Place, Fault>
     ensures reads { Reads (read reads dot_form (items tokens.old)) result tokens.new }
     ensures shorter { OnOk result (length tokens.new < length tokens.old) }
@@ -93,7 +92,6 @@ fn dot(tokens: &mut Cursor<'_>) -> Result<Place, Fault>
 }
 
 /// A field of the event, `args.name` or `args->name`.
-#[tactic(auto, using(crate::proofs::Mirrored::field_is))]
 fn field(alloc: Global, tokens: &mut Cursor<'_>) -> Result<Expr, Fault>
     ensures reads { Reads (read reads field_form (items tokens.old)) result tokens.new }
     ensures shorter { OnOk result (length tokens.new < length tokens.old) }

@@ -2,7 +2,7 @@
 ghost use Rattle.std.specs.Prelude.{◌<◌, ◌≤◌, IfOk, OnOk, length};
 ghost use Rattle.bt_parser.specs.Contract.{Reads};
 ghost use Rattle.bt_grammar.specs.Form.{OneProbe, Points};
-ghost use Rattle.bt_parser.specs.Probes.{predicate_form};
+ghost use Rattle.bt_parser.specs.Probes.{guarded_by, predicate_form};
 ghost use Rattle.bt_grammar.specs.Reading.{read, reads};
 ghost use Rattle.bt_grammar.specs.Tokens.{items};
 
@@ -13,6 +13,7 @@ use crate::fault::Fault;
 use crate::point::place_of_points;
 use bt_ast::expr::Expr;
 use bt_ast::probe::{Point, Probe};
+use bt_ast::stmt::Block;
 use bt_core::items::Items;
 use bt_core::operator::BinOp;
 use bt_grammar::class::Class;
@@ -34,7 +35,6 @@ fn points(alloc: Global, tokens: &mut Cursor<'_>) -> Result<Items<Point>, Fault>
 }
 
 /// An expression between slashes, where a slash comes next.
-#[tactic(auto, using(crate::proofs::Probed::predicate_is))]
 fn predicate(alloc: Global, tokens: &mut Cursor<'_>) -> Result<Option<Expr>, Fault>
     ensures reads { Reads (read reads predicate_form (items tokens.old)) result tokens.new }
     ensures no_longer { OnOk result (length tokens.new ≤ length tokens.old) }
@@ -48,15 +48,23 @@ fn predicate(alloc: Global, tokens: &mut Cursor<'_>) -> Result<Option<Expr>, Fau
     Ok(Some(value))
 }
 
+/// A predicate or none, and a block.
+fn guarded(alloc: Global, tokens: &mut Cursor<'_>) -> Result<(Option<Expr>, Block), Fault>
+    ensures reads { Reads (guarded_by (items tokens.old)) result tokens.new }
+    ensures shorter { OnOk result (length tokens.new < length tokens.old) }
+{
+    let predicate = predicate(alloc, tokens)?;
+    let block = block(alloc, tokens)?;
+    Ok((predicate, block))
+}
+
 /// A probe: points, a predicate or none, and a block.
-#[tactic(auto, using(crate::proofs::Probed::probe_is))]
 pub fn probe(alloc: Global, tokens: &mut Cursor<'_>) -> Result<Probe, Fault>
     ensures reads { Reads (reads OneProbe (items tokens.old)) result tokens.new }
     ensures shorter { OnOk result (length tokens.new < length tokens.old) }
 {
     let points = points(alloc, tokens)?;
-    let predicate = predicate(alloc, tokens)?;
-    let block = block(alloc, tokens)?;
+    let (predicate, block) = guarded(alloc, tokens)?;
     let place = place_of_points(points.as_slice());
     Ok(Probe {
         points,

@@ -25,62 +25,32 @@ block-returns-clause-reads t c = rw (block_is (items c.args.tokens.now)) (first_
 pub body-loop-alloc-init : goal.body-loop-alloc-init
 body-loop-alloc-init t c = let e = body_start (items c.args.tokens.now) in (first_of (search rules, grind (arith, common_steps)))
 
-pub body-returns-in_err-control-clause-reads : goal.body-returns-in_err-control-clause-reads
-body-returns-in_err-control-clause-reads t c = let e = body_turns c.loop-alloc.stmts (items c.loop-alloc.tokens) in rw (← c.loop-alloc.invariant.0) (first_of (search rules, grind (arith, common_steps)))
-
-pub body-returns-in_err-simple-clause-reads : goal.body-returns-in_err-simple-clause-reads
-body-returns-in_err-simple-clause-reads t c = let e = body_turns c.loop-alloc.stmts (items c.loop-alloc.tokens) in rw (← c.loop-alloc.invariant.0) (first_of (search rules, grind (arith, common_steps)))
-
-pub body-returns-in_err-expect-clause-reads : goal.body-returns-in_err-expect-clause-reads
-body-returns-in_err-expect-clause-reads t c = let e = body_turns c.loop-alloc.stmts (items c.loop-alloc.tokens) in rw (← c.loop-alloc.invariant.0) (first_of (search rules, grind (arith, common_steps)))
-
-pub body-returns-then-not-sees-clause-reads : goal.body-returns-then-not-sees-clause-reads
-body-returns-then-not-sees-clause-reads t c = let e = body_turns c.loop-alloc.stmts (items c.loop-alloc.tokens) in rw (← c.loop-alloc.invariant.0) (first_of (search rules, grind (arith, common_steps)))
+pub body-returns-in_err-stmt-clause-reads : goal.body-returns-in_err-stmt-clause-reads
+body-returns-in_err-stmt-clause-reads t c = let e = body_turns c.loop-alloc.stmts (items c.loop-alloc.tokens) in rw (← c.loop-alloc.invariant.0) (first_of (search rules, grind (arith, common_steps)))
 
 pub body-returns-clause-reads : goal.body-returns-clause-reads
 body-returns-clause-reads t c = let e = body_turns c.loop-alloc.stmts (items c.loop-alloc.tokens) in rw (← c.loop-alloc.invariant.0) (first_of (search rules, grind (arith, common_steps)))
 
-pub body-loop-alloc-preserved-in_ok-push : goal.body-loop-alloc-preserved-in_ok-push
-body-loop-alloc-preserved-in_ok-push t c = let e = body_turns c.loop-alloc.stmts (items c.loop-alloc.tokens) in (rw (← c.loop-alloc.invariant.0) (first_of (search rules, grind (arith, common_steps))), (first_of (search rules, grind (arith, common_steps))))
-
 pub body-loop-alloc-preserved : goal.body-loop-alloc-preserved
 body-loop-alloc-preserved t c = let e = body_turns c.loop-alloc.stmts (items c.loop-alloc.tokens) in (rw (← c.loop-alloc.invariant.0) (first_of (search rules, grind (arith, common_steps))), (first_of (search rules, grind (arith, common_steps))))
 
-pub branches-returns-in_err-otherwise-clause-reads : goal.branches-returns-in_err-otherwise-clause-reads
-branches-returns-in_err-otherwise-clause-reads t c = let e = arms_turns c.loop-alloc.arms (items c.loop-alloc.tokens) in rw (← c.loop-alloc.invariant.0) (first_of (search rules, grind (arith, common_steps)))
-
-pub branches-returns-then-not-sees-clause-reads : goal.branches-returns-then-not-sees-clause-reads
-branches-returns-then-not-sees-clause-reads t c = let e = arms_turns c.loop-alloc.arms (items c.loop-alloc.tokens) in rw (← c.loop-alloc.invariant.0) (first_of (search rules, grind (arith, common_steps)))
-
 pub branches-returns-in_err-arm-2-clause-reads : goal.branches-returns-in_err-arm-2-clause-reads
-branches-returns-in_err-arm-2-clause-reads t c = let e = arms_turns c.loop-alloc.arms (items c.loop-alloc.tokens) in rw (← c.loop-alloc.invariant.0) (first_of (search rules, grind (arith, common_steps)))
+branches-returns-in_err-arm-2-clause-reads t c = let e = arms_turns c.loop-tokens.arms (items c.loop-tokens.tokens) in rw (← c.loop-tokens.invariant.0) (first_of (search rules, grind (arith, common_steps)))
+
+pub branches-returns-in_err-otherwise-clause-reads : goal.branches-returns-in_err-otherwise-clause-reads
+branches-returns-in_err-otherwise-clause-reads t c = let e = arms_turns c.loop-tokens.arms (items c.loop-tokens.tokens) in rw (← c.loop-tokens.invariant.0) (first_of (search rules, grind (arith, common_steps)))
 
 pub branches-returns-clause-reads : goal.branches-returns-clause-reads
-branches-returns-clause-reads t c = let e = arms_turns c.loop-alloc.arms (items c.loop-alloc.tokens) in rw (← c.loop-alloc.invariant.0) (first_of (search rules, grind (arith, common_steps)))
+branches-returns-clause-reads t c = let e = arms_turns c.loop-tokens.arms (items c.loop-tokens.tokens) in rw (← c.loop-tokens.invariant.0) (first_of (search rules, grind (arith, common_steps)))
 
-pub branches-loop-alloc-preserved : goal.branches-loop-alloc-preserved
-branches-loop-alloc-preserved t c = let e = arms_turns c.loop-alloc.arms (items c.loop-alloc.tokens) in (rw (← c.loop-alloc.invariant.0) (first_of (search rules, grind (arith, common_steps))), (first_of (search rules, grind (arith, common_steps))))
+pub branches-loop-tokens-preserved : goal.branches-loop-tokens-preserved
+branches-loop-tokens-preserved t c = let e = arms_turns c.loop-tokens.arms (items c.loop-tokens.tokens) in (rw (← c.loop-tokens.invariant.0) (first_of (search rules, grind (arith, common_steps))), (first_of (search rules, grind (arith, common_steps))))
 
-pub control-returns-in_err-kind-in-Some-IfWord-clause-reads : goal.control-returns-in_err-kind-in-Some-IfWord-clause-reads
-control-returns-in_err-kind-in-Some-IfWord-clause-reads t c = rw (control_is (items c.args.tokens.now)) (first_of (search rules, grind (arith, common_steps)))
+pub control-returns-then-sees-clause-reads : goal.control-returns-then-sees-clause-reads
+control-returns-then-sees-clause-reads t c = rw (control_is (items c.args.tokens.now)) (search rules)
 
-pub control-returns-in_err-condition-in-Some-WhileWord-clause-reads : goal.control-returns-in_err-condition-in-Some-WhileWord-clause-reads
-control-returns-in_err-condition-in-Some-WhileWord-clause-reads t c = rw (control_is (items c.args.tokens.now)) (first_of (search rules, grind (arith, common_steps)))
+pub control-returns-then-sees-2-clause-reads : goal.control-returns-then-sees-2-clause-reads
+control-returns-then-sees-2-clause-reads t c = rw (control_is (items c.args.tokens.now)) (search rules)
 
-pub control-returns-in_err-place-in_default-clause-reads : goal.control-returns-in_err-place-in_default-clause-reads
-control-returns-in_err-place-in_default-clause-reads t c = rw (control_is (items c.args.tokens.now)) (first_of (search rules, grind (arith, common_steps)))
-
-pub control-returns-in_err-turns-in_default-clause-reads : goal.control-returns-in_err-turns-in_default-clause-reads
-control-returns-in_err-turns-in_default-clause-reads t c = rw (control_is (items c.args.tokens.now)) (first_of (search rules, grind (arith, common_steps)))
-
-pub control-returns-in_err-block-in_default-clause-reads : goal.control-returns-in_err-block-in_default-clause-reads
-control-returns-in_err-block-in_default-clause-reads t c = rw (control_is (items c.args.tokens.now)) (first_of (search rules, grind (arith, common_steps)))
-
-pub control-returns-in_ok-kind-in-Some-IfWord-clause-reads : goal.control-returns-in_ok-kind-in-Some-IfWord-clause-reads
-control-returns-in_ok-kind-in-Some-IfWord-clause-reads t c = rw (control_is (items c.args.tokens.now)) (first_of (search rules, grind (arith, common_steps)))
-
-pub control-returns-in_ok-condition-in-Some-WhileWord-clause-reads : goal.control-returns-in_ok-condition-in-Some-WhileWord-clause-reads
-control-returns-in_ok-condition-in-Some-WhileWord-clause-reads t c = rw (control_is (items c.args.tokens.now)) (first_of (search rules, grind (arith, common_steps)))
-
-pub control-returns-in_ok-block-in_default-clause-reads : goal.control-returns-in_ok-block-in_default-clause-reads
-control-returns-in_ok-block-in_default-clause-reads t c = rw (control_is (items c.args.tokens.now)) (first_of (search rules, grind (arith, common_steps)))
+pub control-returns-clause-reads : goal.control-returns-clause-reads
+control-returns-clause-reads t c = rw (control_is (items c.args.tokens.now)) (search rules)

@@ -1,0 +1,10 @@
+use Rattle.std.proofs.Common.{rules}
+use Rattle.bt_grammar.specs.Tokens.{items}
+use Rattle.bt_parser.proofs.Stated.{parens_is}
+use Rattle.bt_parser.proofs.agg.in_parens.Goals as goal
+
+pub returns-in_err-expect-clause-reads : goal.returns-in_err-expect-clause-reads
+returns-in_err-expect-clause-reads c = rw (parens_is (items c.args.tokens.now)) (search rules)
+
+pub returns-clause-reads : goal.returns-clause-reads
+returns-clause-reads c = rw (parens_is (items c.args.tokens.now)) (search rules)

@@ -1,0 +1,13 @@
+use Rattle.std.proofs.Common.{rules}
+use Rattle.bt_grammar.specs.Tokens.{items}
+use Rattle.bt_parser.proofs.Stated.{after_map_is}
+use Rattle.bt_parser.proofs.assign.after_map.Goals as goal
+
+pub returns-then-not-sees-clause-reads : goal.returns-then-not-sees-clause-reads
+returns-then-not-sees-clause-reads c = rw (after_map_is c.args.map (items c.args.tokens.now)) (search rules)
+
+pub returns-then-begins_aggregation-clause-reads : goal.returns-then-begins_aggregation-clause-reads
+returns-then-begins_aggregation-clause-reads c = rw (after_map_is c.args.map (items c.args.tokens.now)) (search rules)
+
+pub returns-clause-reads : goal.returns-clause-reads
+returns-clause-reads c = rw (after_map_is c.args.map (items c.args.tokens.now)) (search rules)

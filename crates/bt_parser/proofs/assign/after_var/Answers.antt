@@ -1,0 +1,10 @@
+use Rattle.std.proofs.Common.{rules}
+use Rattle.bt_grammar.specs.Tokens.{items}
+use Rattle.bt_parser.proofs.Stated.{after_var_is}
+use Rattle.bt_parser.proofs.assign.after_var.Goals as goal
+
+pub returns-then-not-sees-clause-reads : goal.returns-then-not-sees-clause-reads
+returns-then-not-sees-clause-reads c = rw (after_var_is c.args.var (items c.args.tokens.now)) (search rules)
+
+pub returns-clause-reads : goal.returns-clause-reads
+returns-clause-reads c = rw (after_var_is c.args.var (items c.args.tokens.now)) (search rules)

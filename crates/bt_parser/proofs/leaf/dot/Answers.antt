@@ -1,0 +1,10 @@
+use Rattle.std.proofs.Common.{rules}
+use Rattle.bt_grammar.specs.Tokens.{items}
+use Rattle.bt_parser.proofs.Mirrored.{dot_is}
+use Rattle.bt_parser.proofs.leaf.dot.Goals as goal
+
+pub returns-then-sees-clause-reads : goal.returns-then-sees-clause-reads
+returns-then-sees-clause-reads c = rw (dot_is (items c.args.tokens.now)) (search rules)
+
+pub returns-clause-reads : goal.returns-clause-reads
+returns-clause-reads c = rw (dot_is (items c.args.tokens.now)) (search rules)
