@@ -32,7 +32,8 @@ pub enum EmittedItem<'a> {
     Printed(u32, &'a PrintList),
 }
 
-/// A copy of the item of a number in a list of printed items. [`Memory`] where there is no room for it.
+/// A copy of the item of a number in a list of printed items, or a cut of line 0 where the list has none of that number. [`Memory`] where there
+/// is no room for it.
 pub fn printed(alloc: Global, print: u32, prints: &PrintList) -> Result<Item, Memory>
     ensures { IfOk result (λ item. item ≡ get_or prints.now print no_item) }
 {
