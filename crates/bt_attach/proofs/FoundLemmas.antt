@@ -1,5 +1,6 @@
 -- What is found of probes, one after the other.
-use Rattle.std.proofs.Common.{◌≡◌, ◌+◌, ◌-◌, ◌<◌, ◌≤◌, ◌++◌, ℕ, ◌*◌, ◌/◌, suc, zero, Bool, cond, List, [], ◌∷◌, length, drop, get_or, sum_by, Option, Some, None, refl, sym, ap, ◌∙◌, arith, drop-cons, subst, append_assoc}
+use Rattle.std.proofs.Common.{◌≡◌, ◌+◌, ◌-◌, ◌<◌, ◌≤◌, ◌++◌, ℕ, ◌*◌, ◌/◌, suc, zero, Bool, true, false, cond, List, [], ◌∷◌, length, drop, get_or, sum_by, Option, Some, None, refl, sym, ap, ◌∙◌, arith, drop-cons, subst, append_assoc}
+use Rattle.std.specs.Int.{from_bool}
 use Rattle.std.specs.List.{list_any, flat_map}
 use Rattle.std.proofs.lemmas.List.{length-append, length-map, drop_all}
 use Rattle.std.proofs.lemmas.List.Sums.{sum_by-cons}
@@ -15,11 +16,12 @@ use Rattle.event_layout.specs.declared.format.Format.{Format}
 use Rattle.bt_attach.specs.declared.error.AttachError.{AttachError}
 use Rattle.bt_attach.specs.declared.seen.Seen.{Seen}
 use Rattle.bt_attach.specs.declared.attach.Found.{Found}
+use Rattle.bt_attach.specs.declared.bodies.Runs.{Runs}
 use Rattle.bt_ast.specs.declared.probe.Script.{Script}
 use Rattle.bt_ast.specs.declared.attached.Attached.{Attached}
 use Rattle.bt_attach.specs.Ticks.{AreInOrder, first_ticks, ticks_by, tick_count, period_in}
 use Rattle.bt_attach.specs.Attaching.{is_begin, is_end, once, begin_and_end, body_points, bodies_from, point_ticks, ticks_from, point_tick_count, or_else, points_fault, probes_fault, attach_fault, at_each, bodies_at, IsAttachedTo}
-use Rattle.bt_attach.specs.Steps.{IsSeen, seen_points, with_probe, AddsProbe, IsFound, NoneFailed}
+use Rattle.bt_attach.specs.Steps.{IsSeen, seen_points, with_probe, AddsProbe, IsFound, NoneFailed, AreRuns}
 use Rattle.bt_attach.proofs.SeenLemmas.{seen_bodies, once_length}
 
 first_length : (start period body k : ℕ) → length (first_ticks start period body k) ≡ k
@@ -91,10 +93,33 @@ adds_from formats start span probe body t b points own old new s te be pe answer
           (omega (arith, be, few_bodies)) (omega (arith, be, body_is)) bodies ticks,
     )
 
+pub fault_from : (formats : List Format) (span t b : ℕ) (points own : List Point) (old : Found) (o : Option AttachError) → t ≡ length old.ticks.items → b ≡ length old.bodies → points ≡ own
+    → points_fault formats span t b [] points ≡ o → points_fault formats span (length old.ticks.items) (length old.bodies) [] own ≡ o
+fault_from formats span t b points own old o te be pe h =
+    ap (points_fault formats span (length old.ticks.items) (length old.bodies) []) (sym pe)
+    ∙ (ap (λ (n : ℕ). points_fault formats span n (length old.bodies) [] points) (sym te) ∙ (ap (λ (n : ℕ). points_fault formats span t n [] points) (sym be) ∙ h))
+
+pub from_bool_is : (b : Bool) → from_bool b ≡ cond b 1 0
+from_bool_is true = refl
+from_bool_is false = refl
+
+pub one_most : (b : Bool) → from_bool b ≤ 1
+one_most true = omega arith
+one_most false = omega arith
+
 next_drop : (probes : List Probe) (i : ℕ) (p : Probe) → i < length probes → p ≡ get_or probes i p → drop i probes ≡ p ∷ drop (i + 1) probes
 next_drop probes i p within is =
     drop-cons probes i p within
     ∙ (ap (λ (q : Probe). q ∷ drop (suc i) probes) (sym is) ∙ ap (λ (n : ℕ). p ∷ drop n probes) (let e : suc i ≡ i + 1 = omega arith in e))
+
+pub none_yet : (formats : List Format) (start span : ℕ) (probes : List Probe) (f : Found) → f.bodies ≡ [] → f.ticks.items ≡ [] → NoneFailed formats start span probes 0 f
+none_yet formats start span probes f b t = record {
+  bodies = ap (λ (l : List BodyId). l ++ bodies_from formats 0 probes) b;
+  ticks = ap (λ (l : List Tick). l ++ ticks_from start span formats (length f.bodies) probes) t ∙ ap (λ (l : List BodyId). ticks_from start span formats (length l) probes) b;
+  left = ap (λ (l : List Tick). probes_fault formats span (length l) (length f.bodies) probes) t ∙ ap (λ (l : List BodyId). probes_fault formats span 0 (length l) probes) b;
+  bodies_fit = (let e = ap (λ (l : List BodyId). length l) b in omega (arith, e));
+  ticks_fit = (let e = ap (λ (l : List Tick). length l) t in omega (arith, e));
+}
 
 pub failed_probe : (formats : List Format) (start span : ℕ) (probes : List Probe) (i : ℕ) (p : Probe) (f : Found) (e : AttachError) → NoneFailed formats start span probes i f → i < length probes → p ≡ get_or probes i p
     → points_fault formats span (length f.ticks.items) (length f.bodies) [] p.points ≡ Some e → probes_fault formats span 0 0 probes ≡ Some e
@@ -146,14 +171,18 @@ all_found formats start span probes i f h past =
       },
     )
 
+-- the same runs, of what was passed to a call
+pub runs_of : (bodies own : List BodyId) (formats : ℕ) (r : Runs) → bodies ≡ own → AreRuns bodies formats r → AreRuns own formats r
+runs_of bodies own formats r e h = subst (λ (l : List BodyId). AreRuns l formats r) e h
+
 pub attached_is : (script : Script) (formats : List Format) (start end span : ℕ) (probes : List Probe) (f : Found) (a : Attached) → probes ≡ script.probes → span ≡ end - start → IsFound formats start span probes f
-    → a.bodies ≡ f.bodies → a.by_format ≡ at_each f.bodies (length formats) → a.begin ≡ bodies_at f.bodies AtBegin → a.end ≡ bodies_at f.bodies AtEnd → AreInOrder f.ticks.items a.ticks
+    → a.bodies ≡ f.bodies → AreRuns f.bodies (length formats) (record { by_format = a.by_format; begin = a.begin; end = a.end }) → AreInOrder f.ticks.items a.ticks
     → IsAttachedTo script formats start end a
-attached_is script formats start end span probes f a pe se is bodies by_format begin finish order = record {
+attached_is script formats start end span probes f a pe se is bodies runs order = record {
   bodies = bodies ∙ (is.bodies ∙ ap (bodies_from formats 0) pe);
-  by_format = by_format ∙ ap (λ (b : List BodyId). at_each b (length formats)) (sym bodies);
-  begin = begin ∙ ap (λ (b : List BodyId). bodies_at b AtBegin) (sym bodies);
-  finish = finish ∙ ap (λ (b : List BodyId). bodies_at b AtEnd) (sym bodies);
+  by_format = runs.by_format ∙ ap (λ (b : List BodyId). at_each b (length formats)) (sym bodies);
+  begin = runs.begin ∙ ap (λ (b : List BodyId). bodies_at b AtBegin) (sym bodies);
+  finish = runs.finish ∙ ap (λ (b : List BodyId). bodies_at b AtEnd) (sym bodies);
   ticks = subst (λ (t : List Tick). AreInOrder t a.ticks)
       (is.ticks ∙ (ap (λ (n : ℕ). ticks_from start n formats 0 probes) se ∙ ap (ticks_from start (end - start) formats 0) pe)) order;
 }

@@ -1,5 +1,5 @@
 -- What is seen of a probe, point by point.
-use Rattle.std.proofs.Common.{◌≡◌, ◌+◌, ◌<◌, ◌≤◌, ◌++◌, ◌||◌, ℕ, suc, Bool, true, false, cond, List, [], ◌∷◌, map, length, take, drop, get_or, replicate, sum_by, count_by, Option, Some, None, refl, sym, ap, ◌∙◌, arith, drop-cons, subst, nat_lt}
+use Rattle.std.proofs.Common.{◌≡◌, ◌+◌, ◌<◌, ◌≤◌, ◌++◌, ◌||◌, ℕ, suc, Bool, true, false, cond, List, [], ◌∷◌, map, length, take, drop, get_or, replicate, sum_by, count_by, Option, Some, None, Result, Err, ◌≢◌, refl, sym, ap, ◌∙◌, arith, drop-cons, subst, nat_lt}
 use Rattle.std.proofs.Math.Seq.{take-suc}
 use Rattle.std.proofs.lemmas.Bool.Decides.{nat_tests}
 use Rattle.std.specs.List.{list_any}
@@ -13,11 +13,11 @@ use Rattle.bt_ast.specs.declared.attached.BodyPoint.{BodyPoint}
 use Rattle.bt_ast.specs.declared.attached.BodyPoint.TheVariants.{Begin as AtBegin, End as AtEnd, Interval as AtTicks, Event}
 use Rattle.event_layout.specs.declared.format.Format.{Format}
 use Rattle.bt_attach.specs.declared.error.AttachError.{AttachError}
-use Rattle.bt_attach.specs.declared.error.AttachError.TheVariants.{TooManyAttached}
+use Rattle.bt_attach.specs.declared.error.AttachError.TheVariants.{TooManyAttached, Memory}
 use Rattle.bt_attach.specs.declared.seen.Seen.{Seen}
 use Rattle.bt_attach.specs.Attaching.{is_begin, is_end, is_interval, matches_format, is_matched, once, places, places_from, point_tick_count, body_points, begin_and_end, or_else, own_fault, too_many_ticks, too_many_bodies, point_fault, points_fault, place_of}
 use Rattle.bt_attach.specs.Marks.{is_named, either_each}
-use Rattle.bt_attach.specs.Steps.{added, IsSeen, seen_points, NoneBroken}
+use Rattle.bt_attach.specs.Steps.{added, IsSeen, seen_points, NoneBroken, Answers}
 
 number : Bool → ℕ
 number b = cond b 1 0
@@ -260,3 +260,7 @@ all_seen formats span ticks bodies points i s h past = (
   sym h.left ∙ ap (points_fault formats span ticks bodies (take i points)) (drop_all i points past),
   subst (λ (ps : List Point). IsSeen formats span ticks ps s) (take_all i points past) h.seen,
 )
+
+-- an error that is handed on
+pub handed_on : {X : Type 0} (P : X → Type 0) (r : Result X AttachError) (e f : AttachError) (fault : Option AttachError) → r ≡ Err e → e ≡ f → (f ≢ Memory → fault ≡ Some f) → Answers fault P r
+handed_on P r e f fault is same known = rw is (rw same known)

@@ -13,8 +13,9 @@ use Rattle.bt_attach.specs.declared.error.AttachError.{AttachError}
 use Rattle.bt_attach.specs.declared.error.AttachError.TheVariants.{Memory}
 use Rattle.bt_attach.specs.declared.seen.Seen.{Seen}
 use Rattle.bt_attach.specs.declared.attach.Found.{Found}
+use Rattle.bt_attach.specs.declared.bodies.Runs.{Runs}
 use Rattle.bt_ast.specs.declared.probe.Probe.{Probe}
-use Rattle.bt_attach.specs.Attaching.{points_fault, probes_fault, body_points, begin_and_end, bodies_from, point_ticks, ticks_from}
+use Rattle.bt_attach.specs.Attaching.{points_fault, probes_fault, body_points, begin_and_end, bodies_from, point_ticks, ticks_from, at_each, bodies_at}
 use Rattle.bt_attach.specs.Attaching.{is_begin, is_end, is_interval, is_matched, once, places, places_from, point_tick_count}
 use Rattle.bt_attach.specs.Marks.{is_named, either_each}
 
@@ -64,6 +65,12 @@ pub record AddsProbe (formats : List Format) (start span probe : ℕ) (points : 
   pub tick_count : length new.ticks.items ≡ length old.ticks.items + sum_by (point_tick_count span) points
   pub bodies_fit : length new.bodies ≤ BODIES
   pub ticks_fit : length new.ticks.items ≤ TICKS
+
+-- where bodies are run
+pub record AreRuns (bodies : List BodyId) (formats : ℕ) (runs : Runs) : Type 0 where
+  pub by_format : runs.by_format ≡ at_each bodies formats
+  pub begin : runs.begin ≡ bodies_at bodies AtBegin
+  pub finish : runs.end ≡ bodies_at bodies AtEnd
 
 -- all that the probes add
 pub record IsFound (formats : List Format) (start span : ℕ) (probes : List Probe) (f : Found) : Type 0 where

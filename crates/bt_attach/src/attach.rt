@@ -2,11 +2,11 @@
 ghost use Rattle.std.specs.Prelude.{◌≡◌, ◌≢◌, ◌+◌, ◌-◌, ◌≤◌, ◌<◌, ◌^◌, [], length, None, Some, IfOk, IfErr};
 ghost use Rattle.bt_attach.specs.Attaching.{IsAttachedTo, attach_fault};
 
-use crate::bodies::{add_bodies, bodies_at, bodies_by_format};
+use crate::bodies::{Runs, add_bodies};
 use crate::error::AttachError;
 use crate::probe::check_points;
 use crate::ticks::{add_points, in_order};
-use bt_ast::attached::{Attached, BodyId, BodyPoint, Tick};
+use bt_ast::attached::{Attached, BodyId, Tick};
 use bt_ast::probe::{Probe, Script};
 use bt_core::items::Items;
 use event_layout::format::Format;
@@ -26,39 +26,35 @@ impl Found {
     ghost use Rattle.bt_attach.specs.Steps.{AddsProbe, IsFound, Answers};
 
     /// Adds a probe, where none of its points breaks a rule.
-    fn with_probe(
-        self,
+    fn add_probe(
+        &mut self,
         alloc: Global,
         place: u32,
         probe: &Probe,
         formats: &[Format],
         start: u64,
         span: u64,
-    ) -> Result<Found, AttachError>
+    ) -> Result<(), AttachError>
         requires formats { length formats.now < 2 ^ 32 }
         requires end { start + span < 2 ^ 64 }
-        requires few_bodies { length self.bodies ≤ MOST_BODIES }
-        requires few_ticks { length self.ticks.items ≤ MOST_TICKS }
-        ensures { let fault = points_fault formats.now span (length self.ticks.items) (length self.bodies) [] probe.now.points in
-            Answers fault (AddsProbe formats.now start span place probe.now.points self) result }
+        requires few_bodies { length self.old.bodies ≤ MOST_BODIES }
+        requires few_ticks { length self.old.ticks.items ≤ MOST_TICKS }
+        ensures { let fault = points_fault formats.now span (length self.old.ticks.items) (length self.old.bodies) [] probe.now.points in
+            Answers fault (λ _. AddsProbe formats.now start span place probe.now.points self.old self.new) result }
     {
-        let Found {
-            mut bodies,
-            mut ticks,
-        } = self;
         let points = probe.points.as_slice();
         let seen = check_points(
             alloc,
             points,
             formats,
             span,
-            ticks.len() as u64,
-            bodies.len() as u64,
+            self.ticks.len() as u64,
+            self.bodies.len() as u64,
         )?;
-        let body = bodies.len() as u32 + u32::from(seen.begin) + u32::from(seen.end);
-        add_points(&mut ticks, start, span, body, points)?;
-        add_bodies(&mut bodies, place, &seen)?;
-        Ok(Found { bodies, ticks })
+        let body = self.bodies.len() as u32 + u32::from(seen.begin) + u32::from(seen.end);
+        add_points(&mut self.ticks, start, span, body, points)?;
+        add_bodies(&mut self.bodies, place, &seen)?;
+        Ok(())
     }
 
     /// All that the probes of a script add.
@@ -79,7 +75,7 @@ impl Found {
             ticks: Vec::new(alloc),
         };
         for (i, probe) in probes.iter().enumerate() {
-            found = found.with_probe(alloc, i as u32, probe, formats, start, span)?;
+            found.add_probe(alloc, i as u32, probe, formats, start, span)?;
         }
         Ok(found)
     }
@@ -113,10 +109,12 @@ pub fn attach(
         start,
         end.saturating_sub(start),
     )?;
-    let ticks = Items::of(in_order(ticks)?);
-    let by_format = bodies_by_format(alloc, bodies.as_slice(), formats.len() as u32)?;
-    let begin = bodies_at(alloc, bodies.as_slice(), BodyPoint::Begin)?;
-    let end = bodies_at(alloc, bodies.as_slice(), BodyPoint::End)?;
+    let ticks = in_order(ticks)?;
+    let Runs {
+        by_format,
+        begin,
+        end,
+    } = Runs::of(alloc, bodies.as_slice(), formats.len() as u32)?;
     Ok(Attached {
         bodies,
         by_format,

@@ -63,11 +63,7 @@ fn is_at(point: BodyPoint, other: BodyPoint) -> bool
 }
 
 /// The numbers of the bodies that are run at a point.
-pub(crate) fn bodies_at(
-    alloc: Global,
-    bodies: &[BodyId],
-    point: BodyPoint,
-) -> Result<Items<u32>, Memory>
+fn bodies_at(alloc: Global, bodies: &[BodyId], point: BodyPoint) -> Result<Items<u32>, Memory>
     requires { length bodies.now < 2 ^ 32 }
     ensures { IfOk result (λ numbers. numbers ≡ bodies_at bodies.now point) }
 {
@@ -81,7 +77,7 @@ pub(crate) fn bodies_at(
 }
 
 /// For each of so many formats, the numbers of the bodies that its events run.
-pub(crate) fn bodies_by_format(
+fn bodies_by_format(
     alloc: Global,
     bodies: &[BodyId],
     count: u32,
@@ -94,4 +90,32 @@ pub(crate) fn bodies_by_format(
         lists.push(bodies_at(alloc, bodies, BodyPoint::Event(k))?)?;
     }
     Ok(lists)
+}
+
+/// The numbers of the bodies that are run at the events of each format, before all and after all.
+#[derive(Drop)]
+pub(crate) struct Runs {
+    pub by_format: Items<Items<u32>>,
+    pub begin: Items<u32>,
+    pub end: Items<u32>,
+}
+
+impl Runs {
+    ghost use Rattle.std.specs.Prelude.{◌<◌, ◌^◌, length, IfOk};
+    ghost use Rattle.bt_attach.specs.Steps.{AreRuns};
+
+    /// Where bodies are run: at the events of so many formats, before all and after all.
+    pub(crate) fn of(alloc: Global, bodies: &[BodyId], formats: u32) -> Result<Runs, Memory>
+        requires { length bodies.now < 2 ^ 32 }
+        ensures { IfOk result (λ runs. AreRuns bodies.now formats runs) }
+    {
+        let begin = bodies_at(alloc, bodies, BodyPoint::Begin)?;
+        let end = bodies_at(alloc, bodies, BodyPoint::End)?;
+        let by_format = bodies_by_format(alloc, bodies, formats)?;
+        Ok(Runs {
+            by_format,
+            begin,
+            end,
+        })
+    }
 }

@@ -1,10 +1,10 @@
 // The formats that points match.
-ghost use Rattle.std.specs.Prelude.{◌≡◌, ◌&&◌, ◌||◌, length, IfOk};
+ghost use Rattle.std.specs.Prelude.{◌≡◌, length, IfOk};
 ghost use Rattle.std.specs.List.{list_any};
 ghost use Rattle.bt_attach.specs.Pattern.{matches};
 ghost use Rattle.bt_attach.specs.Marks.{is_named, either_each};
 
-use crate::pattern::{either, is_match};
+use crate::pattern::is_match;
 use bt_core::items::Items;
 use bt_core::memory::Memory;
 use event_layout::format::Format;
@@ -43,8 +43,8 @@ pub(crate) fn mark(
     let mut found = false;
     for (k, format) in formats.iter().enumerate() {
         let here = is_named(alloc, system, name, format)?;
-        found = either(found, here);
-        next.push(either(marks[k], here))?;
+        found |= here;
+        next.push(marks[k] | here)?;
     }
     Ok(Marked { marks: next, found })
 }

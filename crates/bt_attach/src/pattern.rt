@@ -1,5 +1,5 @@
 // Patterns of names: `*` stands for any run of bytes.
-ghost use Rattle.std.specs.Prelude.{◌≡◌, ◌+◌, false, true, length, replicate, IfOk, OnOk, IsTrue, ◌↔◌, ◌∷◌, ◌&&◌, ◌||◌};
+ghost use Rattle.std.specs.Prelude.{◌≡◌, ◌+◌, false, true, length, replicate, IfOk, OnOk, IsTrue, ◌↔◌, ◌∷◌};
 ghost use Rattle.bt_attach.specs.Pattern.{IsMatch, matches};
 ghost use Rattle.bt_attach.specs.Rows.{starred, met, after_byte};
 
@@ -10,18 +10,6 @@ use std::mem;
 /// The byte that stands for any run of bytes.
 const STAR: u8 = 42;
 
-pub(crate) fn either(a: bool, b: bool) -> bool
-    ensures { result ≡ (a || b) }
-{
-    a || b
-}
-
-fn both(a: bool, b: bool) -> bool
-    ensures { result ≡ (a && b) }
-{
-    a && b
-}
-
 /// The places that are reached behind a `*`: each from the first one that was reached on.
 fn starred(row: &[bool], next: &mut Vec<bool>) -> Result<(), Memory>
     ensures { OnOk result (next.new.items ≡ starred false row.now) }
@@ -29,7 +17,7 @@ fn starred(row: &[bool], next: &mut Vec<bool>) -> Result<(), Memory>
     next.clear();
     let mut reached = false;
     for here in row {
-        reached = either(reached, *here);
+        reached |= *here;
         next.push(reached)?;
     }
     Ok(())
@@ -44,7 +32,7 @@ fn met(byte: u8, name: &[u8], row: &[bool], next: &mut Vec<bool>) -> Result<(), 
     let mut reached = false;
     for (i, other) in name.iter().enumerate() {
         next.push(reached)?;
-        reached = both(row[i], *other == byte);
+        reached = row[i] & (*other == byte);
     }
     next.push(reached)?;
     Ok(())
@@ -66,9 +54,8 @@ fn after_byte(byte: u8, name: &[u8], row: &[bool], next: &mut Vec<bool>) -> Resu
 fn first_row(alloc: Global, name: &[u8]) -> Result<Vec<bool>, Memory>
     ensures { IfOk result (λ row. row.items ≡ true ∷ replicate (length name.now) false) }
 {
-    let others = vec![in alloc; false; name.len()]?;
-    let mut row = vec![in alloc; true]?;
-    row.extend_from_slice(&others)?;
+    let mut row = vec![in alloc; false; name.len()]?;
+    row.insert(0, true)?;
     Ok(row)
 }
 

@@ -5,7 +5,7 @@ ghost use Rattle.bt_attach.specs.Attaching.{points_fault};
 ghost use Rattle.bt_attach.specs.Steps.{seen_points, IsSeen, Answers};
 
 use crate::error::AttachError;
-use crate::seen::{Seen, body_count, place_of, with_point};
+use crate::seen::{Seen, add_point, body_count, place_of};
 use bt_ast::probe::Point;
 use bt_core::items::Items;
 use bt_core::limits::BODIES;
@@ -45,7 +45,7 @@ pub(crate) fn check_points(
         ticks,
     };
     for point in points {
-        seen = with_point(alloc, seen, point, formats, span)?;
+        add_point(alloc, &mut seen, point, formats, span)?;
         if bodies + body_count(&seen) > u64::from(BODIES) {
             return Err(AttachError::TooManyAttached(place_of(point)));
         }

@@ -1,6 +1,6 @@
 // What is seen of a probe behind some of its points.
-ghost use Rattle.std.specs.Prelude.{◌≡◌, ◌+◌, ◌≤◌, ◌||◌, [], length, count_by};
-ghost use Rattle.std.specs.List.{list_any};
+ghost use Rattle.std.specs.Prelude.{◌≡◌, ◌+◌, ◌≤◌, [], length, count_by, if◌then◌else◌};
+ghost use Rattle.bt_attach.specs.declared.error.AttachError.TheVariants.{UnknownTracepoint, NoMatch};
 ghost use Rattle.bt_core.specs.declared.limits.TheConstants.{TICKS as MOST_TICKS};
 ghost use Rattle.bt_ast.specs.declared.probe.Point.{Point as PointValue};
 ghost use Rattle.bt_attach.specs.Attaching.{or_else, own_fault, has_star, place_of, point_tick_count, too_many_ticks};
@@ -56,10 +56,15 @@ pub(crate) fn body_count(seen: &Seen) -> u64
     u64::from(seen.begin) + u64::from(seen.end) + u64::from(seen.interval) + events
 }
 
-fn has_star(system: &[u8], name: &[u8]) -> bool
-    ensures { result ≡ has_star system.now name.now }
+/// Why a tracepoint that matches no format is refused.
+fn no_match(system: &[u8], name: &[u8], place: Place) -> AttachError
+    ensures { result ≡ (if has_star system.now name.now then NoMatch place else UnknownTracepoint place) }
 {
-    system.contains(&b'*') || name.contains(&b'*')
+    if system.contains(&b'*') || name.contains(&b'*') {
+        AttachError::NoMatch(place)
+    } else {
+        AttachError::UnknownTracepoint(place)
+    }
 }
 
 /// The place of a point.
@@ -74,17 +79,18 @@ pub(crate) fn place_of(point: &Point) -> Place
     }
 }
 
-fn with_tracepoint(
+/// Marks the formats that a tracepoint matches, where it matches one.
+fn add_tracepoint(
     alloc: Global,
-    mut seen: Seen,
+    seen: &mut Seen,
     formats: &[Format],
     system: &Items<u8>,
     name: &Items<u8>,
     place: Place,
-) -> Result<Seen, AttachError>
-    requires { length seen.marks ≡ length formats.now }
+) -> Result<(), AttachError>
+    requires { length seen.old.marks ≡ length formats.now }
     ensures { let point = PointValue.Tracepoint system.now name.now place in
-        Answers (own_fault formats.now point) (λ next. next ≡ added formats.now 0 seen point) result }
+        Answers (own_fault formats.now point) (λ _. seen.new ≡ added formats.now 0 seen.old point) result }
 {
     let marked = mark(
         alloc,
@@ -94,27 +100,24 @@ fn with_tracepoint(
         name.as_slice(),
     )?;
     if !marked.found {
-        return if has_star(system.as_slice(), name.as_slice()) {
-            Err(AttachError::NoMatch(place))
-        } else {
-            Err(AttachError::UnknownTracepoint(place))
-        };
+        return Err(no_match(system.as_slice(), name.as_slice(), place));
     }
     seen.marks = marked.marks;
-    Ok(seen)
+    Ok(())
 }
 
-fn with_interval(
-    mut seen: Seen,
+/// Adds the ticks of an interval, where there are not too many with them.
+fn add_interval(
+    seen: &mut Seen,
     span: u64,
     unit: Unit,
     number: u64,
     place: Place,
-) -> Result<Seen, AttachError>
-    requires { seen.ticks ≤ MOST_TICKS }
+) -> Result<(), AttachError>
+    requires { seen.old.ticks ≤ MOST_TICKS }
     ensures { let point = PointValue.Interval unit number place in
-        let fault = or_else (own_fault [] point) (too_many_ticks (seen.ticks + point_tick_count span point) point) in
-        Answers fault (λ next. next ≡ added [] span seen point) result }
+        let fault = or_else (own_fault [] point) (too_many_ticks (seen.old.ticks + point_tick_count span point) point) in
+        Answers fault (λ _. seen.new ≡ added [] span seen.old point) result }
 {
     let Some(period) = period_in(unit, number) else {
         return Err(AttachError::BadPeriod(place));
@@ -125,41 +128,41 @@ fn with_interval(
     }
     seen.interval = true;
     seen.ticks += count;
-    Ok(seen)
+    Ok(())
 }
 
 /// Adds a point, where it breaks no rule by itself and there are not too many ticks with it.
-pub(crate) fn with_point(
+pub(crate) fn add_point(
     alloc: Global,
-    mut seen: Seen,
+    seen: &mut Seen,
     point: &Point,
     formats: &[Format],
     span: u64,
-) -> Result<Seen, AttachError>
-    requires marks { length seen.marks ≡ length formats.now }
-    requires ticks { seen.ticks ≤ MOST_TICKS }
+) -> Result<(), AttachError>
+    requires marks { length seen.old.marks ≡ length formats.now }
+    requires ticks { seen.old.ticks ≤ MOST_TICKS }
     ensures { Answers
-        (or_else (own_fault formats.now point.now) (too_many_ticks (seen.ticks + point_tick_count span point.now) point.now))
-        (λ next. next ≡ added formats.now span seen point.now) result }
+        (or_else (own_fault formats.now point.now) (too_many_ticks (seen.old.ticks + point_tick_count span point.now) point.now))
+        (λ _. seen.new ≡ added formats.now span seen.old point.now) result }
 {
     match point {
         Point::Begin { .. } => {
             seen.begin = true;
-            Ok(seen)
+            Ok(())
         }
         Point::End { .. } => {
             seen.end = true;
-            Ok(seen)
+            Ok(())
         }
         Point::Tracepoint {
             system,
             name,
             place,
-        } => with_tracepoint(alloc, seen, formats, system, name, *place),
+        } => add_tracepoint(alloc, seen, formats, system, name, *place),
         Point::Interval {
             unit,
             number,
             place,
-        } => with_interval(seen, span, *unit, *number, *place),
+        } => add_interval(seen, span, *unit, *number, *place),
     }
 }

@@ -7,6 +7,7 @@ ghost use Rattle.bt_attach.specs.Ticks.{first_ticks, AreInOrder};
 use crate::period::period_in;
 use bt_ast::attached::Tick;
 use bt_ast::probe::Point;
+use bt_core::items::Items;
 use bt_core::memory::Memory;
 
 /// Adds the first so many ticks of a period.
@@ -28,11 +29,11 @@ pub(crate) fn add_ticks(
 }
 
 /// The ticks in order: by time, and at one time as they stood.
-pub(crate) fn in_order(mut ticks: Vec<Tick>) -> Result<Vec<Tick>, Memory>
-    ensures { IfOk result (λ sorted. AreInOrder ticks.items sorted.items) }
+pub(crate) fn in_order(mut ticks: Vec<Tick>) -> Result<Items<Tick>, Memory>
+    ensures { IfOk result (λ sorted. AreInOrder ticks.items sorted) }
 {
     ticks.sort_by_key(|t| t.time)?;
-    Ok(ticks)
+    Ok(Items::of(ticks))
 }
 
 /// Adds the ticks of a point, where it is an interval.

@@ -1,11 +1,9 @@
-use Rattle.std.proofs.Common.{◌≡◌, ◌≢◌, refl, sym, subst, List, Option, Some, Result, Err, IfErr}
+use Rattle.std.proofs.Common.{◌≡◌, ◌≢◌, refl, Option, Some, Result, Err, IfErr}
 use Rattle.std.proofs.lemmas.Result.{err_from_is_err_and}
-use Rattle.bt_ast.specs.declared.attached.Tick.{Tick}
-use Rattle.bt_attach.specs.Ticks.{AreInOrder}
 use Rattle.bt_ast.specs.declared.attached.Attached.{Attached}
 use Rattle.bt_attach.specs.declared.error.AttachError.{AttachError}
 use Rattle.bt_attach.specs.declared.error.AttachError.TheVariants.{Memory}
-use Rattle.bt_attach.proofs.FoundLemmas.{attached_is, fault_is}
+use Rattle.bt_attach.proofs.FoundLemmas.{attached_is, fault_is, runs_of}
 use Rattle.bt_attach.proofs.attach.attach.Goals as goal
 
 handed_on : (r : Result Attached AttachError) (e f : AttachError) (fault : Option AttachError) → r ≡ Err e → e ≡ f → (f ≢ Memory → fault ≡ Some f) → IfErr r (λ x. x ≢ Memory → fault ≡ Some x)
@@ -21,9 +19,8 @@ returns-in_err-bodies-clause-fault c =
 pub returns : goal.returns
 returns c = record {
   found = attached_is c.args.script.now c.args.formats.now c.args.start c.args.end c.saturating_sub.result c.as_slice-probes.result.now c.in_ok-bodies.field-0 _
-      c.as_slice-probes.ensures c.saturating_sub.ensures c.in_ok-bodies.ensures.1 refl (cc (c.in_ok-by_format.ensures, c.as_slice.ensures))
-      (cc (c.in_ok-begin.ensures, c.as_slice-2.ensures)) (cc (c.in_ok-end.ensures, c.as_slice-3.ensures))
-      (subst (λ (l : List Tick). AreInOrder c.in_ok-bodies.field-0.ticks.items l) (sym c.of-ticks.ensures) c.in_ok-in_order.ensures);
+      c.as_slice-probes.ensures c.saturating_sub.ensures c.in_ok-bodies.ensures.1 refl
+      (runs_of _ _ _ _ c.as_slice.ensures c.in_ok-by_format.ensures) c.in_ok-ticks.ensures;
   allowed = fault_is c.args.script.now c.args.formats.now c.args.start c.args.end c.saturating_sub.result c.as_slice-probes.result.now _
       c.as_slice-probes.ensures c.saturating_sub.ensures c.in_ok-bodies.ensures.0;
   fault = tt;
