@@ -1,19 +1,8 @@
-use Rattle.std.proofs.Common.{◌+◌, ◌<◌, ◌≤◌, ◌++◌, ℕ, pos, List, ◌∷◌, drop, get_or, length, refl, sym, subst, ◌∙◌}
-use Rattle.std.proofs.lemmas.List.{drop_more}
-use Rattle.bt_core.specs.declared.value.Value.{Value}
-use Rattle.bt_core.specs.declared.item.Cell.{Cell}
-use Rattle.bt_core.specs.declared.map.MapDecl.{MapDecl}
-use Rattle.map_rows.specs.Fits.{AllRowsFit}
+use Rattle.std.proofs.Common.{◌<◌, ◌≤◌, ◌++◌, ℕ, pos, length, refl, sym, subst, ◌∙◌}
 use Rattle.map_printer.specs.Ends.{printed_map, map_texts}
+use Rattle.map_printer.proofs.Fitting.{fit_behind}
 use Rattle.map_printer.proofs.Chains.{next_pair, last_pair}
 use Rattle.map_printer.proofs.printing.write_maps.Goals as goal
-
--- rows of the maps from one on fit, so those of the maps behind it do
-fit_behind : (maps : List MapDecl) (rows : List (List (List Value × Cell))) (i : ℕ) (m : MapDecl) (r : List (List Value × Cell)) → i < length maps → i < length rows
-    → AllRowsFit (drop i maps) (drop i rows) → AllRowsFit (drop (i + 1) maps) (drop (i + 1) rows)
-fit_behind maps rows i m r less same fit =
-    (subst (λ (l : List (List (List Value × Cell))). AllRowsFit (get_or maps i m ∷ drop (i + 1) maps) l) (drop_more rows i r same)
-    (subst (λ (l : List MapDecl). AllRowsFit l (drop i rows)) (drop_more maps i m less) fit)).1
 
 pub loop-at-preserved : goal.loop-at-preserved
 loop-at-preserved c =

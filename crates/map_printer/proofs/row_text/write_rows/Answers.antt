@@ -8,7 +8,7 @@ pub loop-row-preserved : goal.loop-row-preserved
 loop-row-preserved c =
     let name = c.args.name.now in
     let div : ℤ = to_z w64 (of_z w64 c.args.div) in
-    next_row (rows_text name div) (rows_text name div) (row_text name div) (λ x xs. refl) c.args.rows.now c.loop-row.row-index c.row-item.result c.loop-row.out.items c.write_row.new.out.items
+    next_row (rows_text name div) (rows_text name div) (row_text name div) (λ x xs. refl) c.args.rows.now c.loop-row.row-index c.row-item.result c.row-item.result c.loop-row.out.items c.write_row.new.out.items
     (c.args.out.now.items ++ rows_text name div c.args.rows.now) c.loop-row-test.true c.row-item.is c.loop-row.invariant c.in_ok-write_row.ensures
 
 pub returns : goal.returns
