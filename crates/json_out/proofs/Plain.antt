@@ -17,7 +17,7 @@ use Rattle.serde_json.specs.Data.{Data, number}
 use Rattle.serde_json.specs.Find.{of_integer}
 use Rattle.serde_json.specs.View.{items_of}
 use Rattle.serde_json.specs.Written.{has_float, items_have_float}
-use Rattle.json_out.specs.Rows.{value_data, bucket_data, shown_bucket, buckets, divided_value, agg_data, cell_data, row_data}
+use Rattle.json_out.specs.Rows.{value_data, bucket_data, shown_bucket, buckets, agg_data, cell_data, row_data}
 use Rattle.json_out.specs.Lines.{map_data}
 use Rattle.json_out.specs.Texts.{list_data}
 

@@ -1,16 +1,28 @@
 // The buckets of histograms.
-ghost use Rattle.std.specs.Prelude.{◌≡◌, ◌++◌, ◌<◌, ◌-◌, [], ◌∷◌, map, cond, length, slice_index, IfOk, OnOk};
+ghost use Rattle.std.specs.Prelude.{◌≡◌, ◌++◌, ◌<◌, ◌-◌, [], ◌∷◌, map, cond, length, slice_index, string_bytes, IfOk, OnOk};
 ghost use Rattle.map_printer.specs.Buckets.{label_of, HasLabel, FitsCounts};
 ghost use Rattle.serde_json.specs.View.{view};
 ghost use Rattle.json_out.specs.Rows.{bucket_data, buckets};
+ghost use Rattle.json_out.specs.Texts.{text_of_bytes};
 
+use crate::objects::pair;
 use crate::text::text_of;
 use bt_core::map::AggKind;
 use bt_core::memory::Memory;
 use map_printer::hist_text::{one_if_some, some_counts};
 use map_printer::labels::write_label;
-use serde_json::{Value as Json, json};
+use serde_json::{Value as Json, push};
 use std::alloc::Global;
+
+/// The label of a bucket as text, where `last` is the last bucket.
+fn label_text(alloc: Global, kind: AggKind, last: usize, bucket: usize) -> Result<String, Memory>
+    requires { HasLabel kind last bucket }
+    ensures { IfOk result (λ text. string_bytes text ≡ text_of_bytes (label_of kind last bucket)) }
+{
+    let mut label = Vec::new(alloc);
+    write_label(&mut label, kind, last, bucket)?;
+    text_of(alloc, &label)
+}
 
 /// A bucket's count and label, where `last` is the last bucket.
 fn bucket_value(
@@ -23,10 +35,14 @@ fn bucket_value(
     requires { HasLabel kind last bucket }
     ensures { IfOk result (λ value. view value ≡ bucket_data (label_of kind last bucket) count) }
 {
-    let mut label = Vec::new(alloc);
-    write_label(&mut label, kind, last, bucket)?;
-    let label = text_of(alloc, &label)?;
-    Ok(json!(in alloc; {"count": count, "label": label})?)
+    let label = label_text(alloc, kind, last, bucket)?;
+    pair(
+        alloc,
+        "count",
+        Json::from(count),
+        "label",
+        Json::from(label),
+    )
 }
 
 /// Adds the bucket where it is shown.
@@ -45,7 +61,8 @@ fn push_shown(
 {
     if shown {
         let last = counts.len() - 1;
-        list.push(bucket_value(alloc, kind, last, bucket, counts[bucket])?)?;
+        let value = bucket_value(alloc, kind, last, bucket, counts[bucket])?;
+        push(list, value)?;
     }
     Ok(())
 }

@@ -5,13 +5,14 @@ ghost use Rattle.serde_json.specs.View.{view};
 ghost use Rattle.json_out.specs.Lines.{all_map_lines, all_lost_lines, end_lines, stats_data, json_stats_line};
 
 use crate::maps::{write_lost, write_map};
+use crate::objects::typed;
 use crate::text::line_of;
 use bt_core::item::Cell;
 use bt_core::items::Items;
 use bt_core::key::Key;
 use bt_core::map::MapDecl;
 use bt_core::memory::Memory;
-use serde_json::{Value as Json, json};
+use serde_json::Value as Json;
 use std::alloc::Global;
 
 /// Writes the line of each map that has rows.
@@ -76,7 +77,7 @@ pub fn end_lines(
 fn stats_value(alloc: Global, instructions: u64) -> Result<Json, Memory>
     ensures { IfOk result (λ json. view json ≡ stats_data instructions) }
 {
-    Ok(json!(in alloc; {"instructions": instructions, "type": "stats"})?)
+    typed(alloc, "stats", "instructions", Json::from(instructions))
 }
 
 /// The line of the number of instructions that a run executed.
@@ -87,5 +88,5 @@ fn stats_value(alloc: Global, instructions: u64) -> Result<Json, Memory>
 pub fn json_stats_line(alloc: Global, instructions: u64) -> Result<Vec<u8>, Memory>
     ensures { IfOk result (λ lines. lines.items ≡ json_stats_line instructions) }
 {
-    line_of(alloc, &stats_value(alloc, instructions)?)
+    line_of(alloc, stats_value(alloc, instructions)?)
 }

@@ -8,6 +8,7 @@ ghost use Rattle.json_out.specs.Lines.{printf_data, cut_data, lost_events_data, 
 ghost use Rattle.json_out.specs.Texts.{json_line};
 
 use crate::maps::map_lines;
+use crate::objects::{typed, typed_pair};
 use crate::text::{line_of, text_of};
 use bt_core::item::{Cell, Item};
 use bt_core::items::Items;
@@ -17,7 +18,7 @@ use bt_core::memory::Memory;
 use bt_core::value::Value;
 use fmt_text::piece::Piece;
 use fmt_text::rendering::render;
-use serde_json::{Value as Json, json};
+use serde_json::Value as Json;
 use std::alloc::Global;
 
 /// What a call printed.
@@ -25,21 +26,22 @@ fn printf_value(alloc: Global, text: &[u8]) -> Result<Json, Memory>
     ensures { IfOk result (λ json. view json ≡ printf_data text.now) }
 {
     let text = text_of(alloc, text)?;
-    Ok(json!(in alloc; {"data": text, "type": "printf"})?)
+    typed(alloc, "printf", "data", Json::from(text))
 }
 
 /// That a run was cut at the loop on this line.
 fn cut_value(alloc: Global, line: u32) -> Result<Json, Memory>
     ensures { IfOk result (λ json. view json ≡ cut_data line) }
 {
-    Ok(json!(in alloc; {"line": line, "type": "cut"})?)
+    typed(alloc, "cut", "line", Json::from(line))
 }
 
 /// That so many events of the CPU of this number were lost.
 fn lost_value(alloc: Global, cpu: u32, count: u64) -> Result<Json, Memory>
     ensures { IfOk result (λ json. view json ≡ lost_events_data cpu count) }
 {
-    Ok(json!(in alloc; {"count": count, "cpu": cpu, "type": "lost_events"})?)
+    let count = Json::from(count);
+    typed_pair(alloc, "lost_events", "count", count, "cpu", Json::from(cpu))
 }
 
 /// The line of a call with this format.
@@ -48,7 +50,7 @@ fn call_line(alloc: Global, pieces: &[Piece], values: &[Value]) -> Result<Vec<u8
     ensures { IfOk result (λ line. line.items ≡ json_line (printf_data (rendered pieces.now values.now))) }
 {
     let text = render(alloc, pieces, values)?;
-    line_of(alloc, &printf_value(alloc, &text)?)
+    line_of(alloc, printf_value(alloc, &text)?)
 }
 
 /// The line of a call with the format of this number.
@@ -89,14 +91,14 @@ fn declared_lines(
 fn cut_line(alloc: Global, line: u32) -> Result<Vec<u8>, Memory>
     ensures { IfOk result (λ lines. lines.items ≡ json_line (cut_data line)) }
 {
-    line_of(alloc, &cut_value(alloc, line)?)
+    line_of(alloc, cut_value(alloc, line)?)
 }
 
 /// The line of lost events.
 fn lost_line(alloc: Global, cpu: u32, count: u64) -> Result<Vec<u8>, Memory>
     ensures { IfOk result (λ lines. lines.items ≡ json_line (lost_events_data cpu count)) }
 {
-    line_of(alloc, &lost_value(alloc, cpu, count)?)
+    line_of(alloc, lost_value(alloc, cpu, count)?)
 }
 
 /// The line of an item of output of a script with these formats and maps, each by its number: what a `printf`

@@ -6,5 +6,6 @@ mod buckets;
 pub mod ends;
 pub mod items;
 mod maps;
+mod objects;
 mod rows;
 mod text;

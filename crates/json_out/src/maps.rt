@@ -8,6 +8,7 @@ ghost use Rattle.serde_json.specs.View.{view};
 ghost use Rattle.json_out.specs.Lines.{map_data, rows_lines, map_lines, lost_updates_data, lost_lines};
 ghost use Rattle.json_out.specs.Rows.{row_data};
 
+use crate::objects::typed_pair;
 use crate::rows::row_list;
 use crate::text::{text_of, write_line};
 use bt_core::item::Cell;
@@ -16,7 +17,7 @@ use bt_core::map::MapDecl;
 use bt_core::memory::Memory;
 use map_printer::order::put_in_order;
 use map_printer::printing::{copied, top_rows};
-use serde_json::{Value as Json, json};
+use serde_json::Value as Json;
 use std::alloc::Global;
 
 /// The map of this name with these rows.
@@ -25,9 +26,9 @@ fn map_value(alloc: Global, name: &[u8], rows: &[(Key, Cell)], div: i64) -> Resu
     requires fit { All (λ row. FitsCell row.1) rows.now }
     ensures { IfOk result (λ json. view json ≡ map_data name.now (map (row_data div) rows.now)) }
 {
+    let name = Json::from(text_of(alloc, name)?);
     let list = row_list(alloc, rows, div)?;
-    let name = text_of(alloc, name)?;
-    Ok(json!(in alloc; {"data": list, "map": name, "type": "map"})?)
+    typed_pair(alloc, "map", "data", Json::from(list), "map", name)
 }
 
 /// Writes the line of a map, its rows in the order in which they come; nothing where there are none.
@@ -42,10 +43,10 @@ fn write_rows(
     requires fit { All (λ row. FitsCell row.1) rows.now }
     ensures { OnOk result (out.new.items ≡ out.old.items ++ rows_lines name.now div rows.now) }
 {
-    if !rows.is_empty() {
-        write_line(out, alloc, &map_value(alloc, name, rows, div)?)?;
+    if rows.is_empty() {
+        return Ok(());
     }
-    Ok(())
+    write_line(out, alloc, map_value(alloc, name, rows, div)?)
 }
 
 /// Writes the line of a map: its last rows in ascending order of their values, as many as `top` says,
@@ -88,16 +89,23 @@ pub fn map_lines(
 fn lost_value(alloc: Global, name: &[u8], lost: u64) -> Result<Json, Memory>
     ensures { IfOk result (λ json. view json ≡ lost_updates_data lost name.now) }
 {
-    let name = text_of(alloc, name)?;
-    Ok(json!(in alloc; {"count": lost, "map": name, "type": "lost_updates"})?)
+    let name = Json::from(text_of(alloc, name)?);
+    typed_pair(
+        alloc,
+        "lost_updates",
+        "count",
+        Json::from(lost),
+        "map",
+        name,
+    )
 }
 
 /// Writes the line of so many lost updates of the map of this name; nothing where none was lost.
 pub fn write_lost(out: &mut Vec<u8>, alloc: Global, name: &[u8], lost: u64) -> Result<(), Memory>
     ensures { OnOk result (out.new.items ≡ out.old.items ++ lost_lines lost name.now) }
 {
-    if 0 < lost {
-        write_line(out, alloc, &lost_value(alloc, name, lost)?)?;
+    if lost == 0 {
+        return Ok(());
     }
-    Ok(())
+    write_line(out, alloc, lost_value(alloc, name, lost)?)
 }

@@ -10,6 +10,7 @@ ghost use Rattle.json_out.specs.Rows.{value_data, buckets, divided_value, agg_da
 ghost use Rattle.json_out.specs.Texts.{list_data};
 
 use crate::buckets::bucket_list;
+use crate::objects::pair;
 use crate::text::text_of;
 use bt_core::agg::{Agg, Buckets};
 use bt_core::item::Cell;
@@ -19,7 +20,7 @@ use bt_core::memory::Memory;
 use bt_core::value::Value;
 use map_printer::row_text::divided;
 use map_rows::numbers::{number_of, quotient};
-use serde_json::{Value as Json, json};
+use serde_json::{Value as Json, push};
 use std::alloc::Global;
 
 /// A value: a number or a string.
@@ -38,7 +39,7 @@ fn parts_of(alloc: Global, parts: &[Value]) -> Result<Vec<Json>, Memory>
 {
     let mut list = Vec::with_capacity(alloc, parts.len())?;
     for part in parts {
-        list.push(value_of(alloc, part)?)?;
+        push(&mut list, value_of(alloc, part)?)?;
     }
     Ok(list)
 }
@@ -98,7 +99,7 @@ fn row_value(alloc: Global, row: &(Key, Cell), div: i64) -> Result<Json, Memory>
 {
     let parts = parts_of(alloc, row.0.parts())?;
     let value = cell_value(alloc, &row.1, div)?;
-    Ok(json!(in alloc; {"key": parts, "value": value})?)
+    pair(alloc, "key", Json::from(parts), "value", value)
 }
 
 /// Rows in the order in which they come.
@@ -109,7 +110,7 @@ pub fn row_list(alloc: Global, rows: &[(Key, Cell)], div: i64) -> Result<Vec<Jso
 {
     let mut list = Vec::with_capacity(alloc, rows.len())?;
     for row in rows {
-        list.push(row_value(alloc, row, div)?)?;
+        push(&mut list, row_value(alloc, row, div)?)?;
     }
     Ok(list)
 }

@@ -19,21 +19,21 @@ pub fn text_of(alloc: Global, bytes: &[u8]) -> Result<String, Memory>
     Ok(text)
 }
 
-/// The line of a value.
+/// The line of a value, which is let go.
 #[tactic(auto, unfolding(crate::specs::Texts::json_line))]
-pub fn line_of(alloc: Global, value: &Json) -> Result<Vec<u8>, Memory>
-    requires { has_float (view value.now) ≡ false }
-    ensures { IfOk result (λ line. line.items ≡ json_line (view value.now)) }
+pub fn line_of(alloc: Global, value: Json) -> Result<Vec<u8>, Memory>
+    requires { has_float (view value) ≡ false }
+    ensures { IfOk result (λ line. line.items ≡ json_line (view value)) }
 {
     let mut line = value.to_vec(alloc)?;
     line.push(b'\n')?;
     Ok(line)
 }
 
-/// Writes the line of a value.
-pub fn write_line(out: &mut Vec<u8>, alloc: Global, value: &Json) -> Result<(), Memory>
-    requires { has_float (view value.now) ≡ false }
-    ensures { OnOk result (out.new.items ≡ out.old.items ++ json_line (view value.now)) }
+/// Writes the line of a value, which is let go.
+pub fn write_line(out: &mut Vec<u8>, alloc: Global, value: Json) -> Result<(), Memory>
+    requires { has_float (view value) ≡ false }
+    ensures { OnOk result (out.new.items ≡ out.old.items ++ json_line (view value)) }
 {
     let line = line_of(alloc, value)?;
     out.extend_from_slice(&line)?;

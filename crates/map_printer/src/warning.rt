@@ -3,6 +3,7 @@ ghost use Rattle.std.specs.Prelude.{◌≡◌, ◌++◌, OnOk, codes, decimal};
 ghost use Rattle.map_printer.specs.Ends.{lost_text, warning_text};
 ghost use Rattle.map_printer.specs.ItemTexts.{cut_text, lost_events_text};
 
+use crate::joined::write_three;
 use bt_core::memory::Memory;
 use itoa::Buffer;
 
@@ -15,22 +16,12 @@ fn write_number_lost(out: &mut Vec<u8>, lost: u64) -> Result<(), Memory>
     Ok(())
 }
 
-/// Writes the end of a warning, with the map's name.
-fn write_lost_in(out: &mut Vec<u8>, name: &[u8]) -> Result<(), Memory>
-    ensures { OnOk result (out.new.items ≡ out.old.items ++ (codes " updates lost in " ++ (name.now ++ codes "\n"))) }
-{
-    out.extend_from_slice(b" updates lost in ")?;
-    out.extend_from_slice(name)?;
-    out.push(b'\n')?;
-    Ok(())
-}
-
 /// Writes a whole warning.
 fn write_warning(out: &mut Vec<u8>, name: &[u8], lost: u64) -> Result<(), Memory>
     ensures { OnOk result (out.new.items ≡ out.old.items ++ warning_text lost name.now) }
 {
     write_number_lost(out, lost)?;
-    write_lost_in(out, name)
+    write_three(out, b" updates lost in ", name, b"\n")
 }
 
 /// Writes the warning that so many updates of the map of this name were lost; nothing where none was.
@@ -51,10 +42,12 @@ pub fn write_lost(out: &mut Vec<u8>, name: &[u8], lost: u64) -> Result<(), Memor
 pub fn write_cut(out: &mut Vec<u8>, line: u32) -> Result<(), Memory>
     ensures { OnOk result (out.new.items ≡ out.old.items ++ cut_text line) }
 {
-    out.extend_from_slice(b"WARNING: loop limit reached at line ")?;
-    out.extend_from_slice(Buffer::new().format(line).as_bytes())?;
-    out.push(b'\n')?;
-    Ok(())
+    write_three(
+        out,
+        b"WARNING: loop limit reached at line ",
+        Buffer::new().format(line).as_bytes(),
+        b"\n",
+    )
 }
 
 /// Writes the warning that so many events of the CPU of this number were lost.
@@ -64,8 +57,10 @@ pub fn write_lost_events(out: &mut Vec<u8>, cpu: u32, count: u64) -> Result<(), 
     ensures { OnOk result (out.new.items ≡ out.old.items ++ lost_events_text cpu count) }
 {
     write_number_lost(out, count)?;
-    out.extend_from_slice(b" events lost on cpu ")?;
-    out.extend_from_slice(Buffer::new().format(cpu).as_bytes())?;
-    out.push(b'\n')?;
-    Ok(())
+    write_three(
+        out,
+        b" events lost on cpu ",
+        Buffer::new().format(cpu).as_bytes(),
+        b"\n",
+    )
 }
