@@ -65,18 +65,6 @@ block_need-returns-in_err-all-clause-beyond t c =
     let slots = slots_from stmt_need stmts (c.loop-left.left - 1) c.loop-left.left _ (omega arith) (omega arith) c.index-stmts-left.is in
     grind (arith, whole, frame, slots)
 
-pub stmt_need-returns-in_err-test-in-While-clause-need : goal.stmt_need-returns-in_err-test-in-While-clause-need
-stmt_need-returns-in_err-test-in-While-clause-need t c = failed _ _ c.from_residual-in_err-test-in-While.result c.from_residual-in_err-test-in-While.ensures.1
-
-pub stmt_need-returns-in_err-test-in-While-clause-beyond : goal.stmt_need-returns-in_err-test-in-While-clause-beyond
-stmt_need-returns-in_err-test-in-While-clause-beyond t c = at-err c.from_residual-in_err-test-in-While.result (part-first 24 _ _ _ c.in_err-test-in-While.ensures.beyond (while-is _ _ _ _ c.in-While.is))
-
-pub stmt_need-returns-in_err-block-in-While-clause-need : goal.stmt_need-returns-in_err-block-in-While-clause-need
-stmt_need-returns-in_err-block-in-While-clause-need t c = failed _ _ c.from_residual-in_err-block-in-While.result c.from_residual-in_err-block-in-While.ensures.1
-
-pub stmt_need-returns-in_err-block-in-While-clause-beyond : goal.stmt_need-returns-in_err-block-in-While-clause-beyond
-stmt_need-returns-in_err-block-in-While-clause-beyond t c = at-err c.from_residual-in_err-block-in-While.result (part-second 24 _ _ _ c.in_err-block-in-While.ensures.beyond (while-is _ _ _ _ c.in-While.is))
-
 pub stmt_need-returns-in_err-block-in-Unroll-clause-need : goal.stmt_need-returns-in_err-block-in-Unroll-clause-need
 stmt_need-returns-in_err-block-in-Unroll-clause-need t c = failed _ _ c.from_residual-in_err-block-in-Unroll.result c.from_residual-in_err-block-in-Unroll.ensures.1
 
@@ -98,17 +86,17 @@ stmt_need-returns-in_err-all-in-If-clause-need t c = failed _ _ c.from_residual-
 pub stmt_need-returns-in_err-greater-in-If-clause-need : goal.stmt_need-returns-in_err-greater-in-If-clause-need
 stmt_need-returns-in_err-greater-in-If-clause-need t c = failed _ _ c.from_residual-in_err-greater-in-If.result c.from_residual-in_err-greater-in-If.ensures.1
 
-pub arm_need-returns-in_err-test-clause-need : goal.arm_need-returns-in_err-test-clause-need
-arm_need-returns-in_err-test-clause-need t c = failed _ _ c.from_residual.result c.from_residual.ensures.1
+pub tested_need-returns-in_err-test-clause-need : goal.tested_need-returns-in_err-test-clause-need
+tested_need-returns-in_err-test-clause-need t c = failed _ _ c.from_residual.result c.from_residual.ensures.1
 
-pub arm_need-returns-in_err-test-clause-beyond : goal.arm_need-returns-in_err-test-clause-beyond
-arm_need-returns-in_err-test-clause-beyond t c = at-err c.from_residual.result (part-first 8 _ _ _ c.in_err-test.ensures.beyond refl)
+pub tested_need-returns-in_err-test-clause-beyond : goal.tested_need-returns-in_err-test-clause-beyond
+tested_need-returns-in_err-test-clause-beyond t c = at-err c.from_residual.result (part-first c.args.slots _ _ _ c.in_err-test.ensures.beyond refl)
 
-pub arm_need-returns-in_err-block-clause-need : goal.arm_need-returns-in_err-block-clause-need
-arm_need-returns-in_err-block-clause-need t c = failed _ _ c.from_residual-in_err-block.result c.from_residual-in_err-block.ensures.1
+pub tested_need-returns-in_err-block-clause-need : goal.tested_need-returns-in_err-block-clause-need
+tested_need-returns-in_err-block-clause-need t c = failed _ _ c.from_residual-in_err-block.result c.from_residual-in_err-block.ensures.1
 
-pub arm_need-returns-in_err-block-clause-beyond : goal.arm_need-returns-in_err-block-clause-beyond
-arm_need-returns-in_err-block-clause-beyond t c = at-err c.from_residual-in_err-block.result (part-second 8 _ _ _ c.in_err-block.ensures.beyond refl)
+pub tested_need-returns-in_err-block-clause-beyond : goal.tested_need-returns-in_err-block-clause-beyond
+tested_need-returns-in_err-block-clause-beyond t c = at-err c.from_residual-in_err-block.result (part-second c.args.slots _ _ _ c.in_err-block.ensures.beyond refl)
 
 pub block_need-returns-in_err-one-clause-need : goal.block_need-returns-in_err-one-clause-need
 block_need-returns-in_err-one-clause-need t c = failed _ _ c.from_residual.result c.from_residual.ensures.1
@@ -191,23 +179,23 @@ stmt_need-returns-in-Jump-clause-need t c = c.jump_need.ensures ∙ sym (ap stmt
 pub stmt_need-returns-in-Jump-clause-beyond : goal.stmt_need-returns-in-Jump-clause-beyond
 stmt_need-returns-in-Jump-clause-beyond t c = tt
 
-pub stmt_need-returns-in_ok-block-in-While-clause-need : goal.stmt_need-returns-in_ok-block-in-While-clause-need
-stmt_need-returns-in_ok-block-in-While-clause-need t c = same _ _ _ c.greater_and.ensures.both (greater-are 24 _ _ _ _ c.in_ok-test-in-While.ensures.need c.in_ok-block-in-While.ensures.need ∙ sym (while-is _ _ _ _ c.in-While.is))
-
-pub stmt_need-returns-in_ok-block-in-While-clause-beyond : goal.stmt_need-returns-in_ok-block-in-While-clause-beyond
-stmt_need-returns-in_ok-block-in-While-clause-beyond t c = same-beyond _ _ _ c.greater_and.ensures.beyond (greater-are 24 _ _ _ _ c.in_ok-test-in-While.ensures.need c.in_ok-block-in-While.ensures.need ∙ sym (while-is _ _ _ _ c.in-While.is))
-
 pub stmt_need-returns-in_ok-block-in-Unroll-clause-need : goal.stmt_need-returns-in_ok-block-in-Unroll-clause-need
 stmt_need-returns-in_ok-block-in-Unroll-clause-need t c = same _ _ _ c.unroll_need.ensures.need (ap (λ (n : Need). need (8 + n.frame) (32 + n.code)) c.in_ok-block-in-Unroll.ensures.need ∙ sym (unroll-is _ _ _ _ c.in-Unroll.is))
 
 pub stmt_need-returns-in_ok-block-in-Unroll-clause-beyond : goal.stmt_need-returns-in_ok-block-in-Unroll-clause-beyond
 stmt_need-returns-in_ok-block-in-Unroll-clause-beyond t c = same-beyond _ _ _ c.unroll_need.ensures.beyond (ap (λ (n : Need). need (8 + n.frame) (32 + n.code)) c.in_ok-block-in-Unroll.ensures.need ∙ sym (unroll-is _ _ _ _ c.in-Unroll.is))
 
-pub arm_need-returns-clause-need : goal.arm_need-returns-clause-need
-arm_need-returns-clause-need t c = same _ _ _ c.greater_and.ensures.both (greater-are 8 _ _ _ _ c.in_ok-test.ensures.need c.in_ok-block.ensures.need)
+pub tested_need-returns-clause-need : goal.tested_need-returns-clause-need
+tested_need-returns-clause-need t c = same _ _ _ c.greater_and.ensures.both (greater-are c.args.slots _ _ _ _ c.in_ok-test.ensures.need c.in_ok-block.ensures.need)
 
-pub arm_need-returns-clause-beyond : goal.arm_need-returns-clause-beyond
-arm_need-returns-clause-beyond t c = same-beyond _ _ _ c.greater_and.ensures.beyond (greater-are 8 _ _ _ _ c.in_ok-test.ensures.need c.in_ok-block.ensures.need)
+pub tested_need-returns-clause-beyond : goal.tested_need-returns-clause-beyond
+tested_need-returns-clause-beyond t c = same-beyond _ _ _ c.greater_and.ensures.beyond (greater-are c.args.slots _ _ _ _ c.in_ok-test.ensures.need c.in_ok-block.ensures.need)
 
 pub stmt_need-returns-in_ok-greater-in-If-clause-beyond : goal.stmt_need-returns-in_ok-greater-in-If-clause-beyond
 stmt_need-returns-in_ok-greater-in-If-clause-beyond t c = tt
+
+pub stmt_need-returns-in-While-clause-need : goal.stmt_need-returns-in-While-clause-need
+stmt_need-returns-in-While-clause-need t c = same _ _ _ c.tested_need-in-While.ensures.need (sym (while-is _ _ _ _ c.in-While.is))
+
+pub stmt_need-returns-in-While-clause-beyond : goal.stmt_need-returns-in-While-clause-beyond
+stmt_need-returns-in-While-clause-beyond t c = same-beyond _ _ _ c.tested_need-in-While.ensures.beyond (sym (while-is _ _ _ _ c.in-While.is))

@@ -1,7 +1,7 @@
 use Rattle.std.proofs.Common.{arith, refl, sym, ap, subst, ◌∙◌}
 use Rattle.bt_lower.specs.declared.need.Listed.{Listed}
 use Rattle.bt_lower.specs.declared.need.Valued.{Valued}
-use Rattle.bt_lower.specs.Needs.{IsTooMuch, value_need, number_need, text_need, valued, under, more}
+use Rattle.bt_lower.specs.Needs.{IsTooMuch, listed, values_need, value_need, number_need, text_need, valued, under, more}
 use Rattle.bt_lower.proofs.Measured.{same, same-beyond, roomy, at-least, at-err, failed, part-more, part-keys, part-left, part-right, part-test, part-one, part-other, beside-are, one-of-are, under-room, beside-room, test-room, one-room, step-map-is, unary-is, binary-is, compare-is, choose-is, text-map-is, text-choose-is}
 use Rattle.bt_lower.proofs.Needing.{frame_from, codes_from}
 use Rattle.bt_lower.proofs.Trees as tree
@@ -37,23 +37,14 @@ value_need-returns-in_err-need-in-Str-clause-room t c = failed _ _ c.from_residu
 pub value_need-returns-in_err-need-in-Str-clause-beyond : goal.value_need-returns-in_err-need-in-Str-clause-beyond
 value_need-returns-in_err-need-in-Str-clause-beyond t c = at-err c.from_residual-in_err-need-in-Str.result (subst IsTooMuch (sym (ap (λ (v : Valued). v.need) (ap value_need c.in-Str.is ∙ tree.any-Str-need _))) c.in_err-need-in-Str.ensures.beyond)
 
-pub number_need-returns-in_err-keys-in-StepMap-clause-need : goal.number_need-returns-in_err-keys-in-StepMap-clause-need
-number_need-returns-in_err-keys-in-StepMap-clause-need t c = failed _ _ c.from_residual.result c.from_residual.ensures.1
-
-pub number_need-returns-in_err-keys-in-StepMap-clause-room : goal.number_need-returns-in_err-keys-in-StepMap-clause-room
-number_need-returns-in_err-keys-in-StepMap-clause-room t c = failed _ _ c.from_residual.result c.from_residual.ensures.1
-
-pub number_need-returns-in_err-keys-in-StepMap-clause-beyond : goal.number_need-returns-in_err-keys-in-StepMap-clause-beyond
-number_need-returns-in_err-keys-in-StepMap-clause-beyond t c = at-err c.from_residual.result (part-keys 16 32 _ _ c.in_err-keys-in-StepMap.ensures.beyond (step-map-is _ _ _ _ _ _ c.in-StepMap.is c.as_slice.ensures))
-
 pub number_need-returns-in_err-value-in-Unary-clause-need : goal.number_need-returns-in_err-value-in-Unary-clause-need
-number_need-returns-in_err-value-in-Unary-clause-need t c = failed _ _ c.from_residual-in_err-value-in-Unary.result c.from_residual-in_err-value-in-Unary.ensures.1
+number_need-returns-in_err-value-in-Unary-clause-need t c = failed _ _ c.from_residual.result c.from_residual.ensures.1
 
 pub number_need-returns-in_err-value-in-Unary-clause-room : goal.number_need-returns-in_err-value-in-Unary-clause-room
-number_need-returns-in_err-value-in-Unary-clause-room t c = failed _ _ c.from_residual-in_err-value-in-Unary.result c.from_residual-in_err-value-in-Unary.ensures.1
+number_need-returns-in_err-value-in-Unary-clause-room t c = failed _ _ c.from_residual.result c.from_residual.ensures.1
 
 pub number_need-returns-in_err-value-in-Unary-clause-beyond : goal.number_need-returns-in_err-value-in-Unary-clause-beyond
-number_need-returns-in_err-value-in-Unary-clause-beyond t c = at-err c.from_residual-in_err-value-in-Unary.result (part-more 8 _ _ c.in_err-value-in-Unary.ensures.beyond (unary-is _ _ _ _ c.in-Unary.is c.get.ensures))
+number_need-returns-in_err-value-in-Unary-clause-beyond t c = at-err c.from_residual.result (part-more 8 _ _ c.in_err-value-in-Unary.ensures.beyond (unary-is _ _ _ _ c.in-Unary.is c.get.ensures))
 
 pub number_need-returns-in_err-left-in-Binary-clause-need : goal.number_need-returns-in_err-left-in-Binary-clause-need
 number_need-returns-in_err-left-in-Binary-clause-need t c = failed _ _ c.from_residual-in_err-left-in-Binary.result c.from_residual-in_err-left-in-Binary.ensures.1
@@ -118,12 +109,6 @@ number_need-returns-in_err-no-in-Choose-clause-room t c = failed _ _ c.from_resi
 pub number_need-returns-in_err-no-in-Choose-clause-beyond : goal.number_need-returns-in_err-no-in-Choose-clause-beyond
 number_need-returns-in_err-no-in-Choose-clause-beyond t c = at-err c.from_residual-in_err-no-in-Choose.result (part-other _ _ _ _ c.in_err-no-in-Choose.ensures.beyond (choose-is _ _ _ _ _ _ _ c.in-Choose.is c.get-in-Choose.ensures (c.get-in-Choose-2).ensures (c.get-in-Choose-3).ensures))
 
-pub number_need-returns-in_err-keys-in-Map-clause-need : goal.number_need-returns-in_err-keys-in-Map-clause-need
-number_need-returns-in_err-keys-in-Map-clause-need t c = failed _ _ c.from_residual-in_err-keys-in-Map.result c.from_residual-in_err-keys-in-Map.ensures.1
-
-pub number_need-returns-in_err-keys-in-Map-clause-room : goal.number_need-returns-in_err-keys-in-Map-clause-room
-number_need-returns-in_err-keys-in-Map-clause-room t c = failed _ _ c.from_residual-in_err-keys-in-Map.result c.from_residual-in_err-keys-in-Map.ensures.1
-
 pub number_need-returns-in_err-left-in-AndThen-clause-need : goal.number_need-returns-in_err-left-in-AndThen-clause-need
 number_need-returns-in_err-left-in-AndThen-clause-need t c = failed _ _ c.from_residual-in_err-left-in-AndThen.result c.from_residual-in_err-left-in-AndThen.ensures.1
 
@@ -136,23 +121,14 @@ number_need-returns-in_err-right-in-AndThen-clause-need t c = failed _ _ c.from_
 pub number_need-returns-in_err-right-in-AndThen-clause-room : goal.number_need-returns-in_err-right-in-AndThen-clause-room
 number_need-returns-in_err-right-in-AndThen-clause-room t c = failed _ _ c.from_residual-in_err-right-in-AndThen.result c.from_residual-in_err-right-in-AndThen.ensures.1
 
-pub text_need-returns-in_err-keys-in-Map-clause-need : goal.text_need-returns-in_err-keys-in-Map-clause-need
-text_need-returns-in_err-keys-in-Map-clause-need t c = failed _ _ c.from_residual.result c.from_residual.ensures.1
-
-pub text_need-returns-in_err-keys-in-Map-clause-room : goal.text_need-returns-in_err-keys-in-Map-clause-room
-text_need-returns-in_err-keys-in-Map-clause-room t c = failed _ _ c.from_residual.result c.from_residual.ensures.1
-
-pub text_need-returns-in_err-keys-in-Map-clause-beyond : goal.text_need-returns-in_err-keys-in-Map-clause-beyond
-text_need-returns-in_err-keys-in-Map-clause-beyond t c = at-err c.from_residual.result (part-keys 64 40 _ _ c.in_err-keys-in-Map.ensures.beyond (text-map-is _ _ _ _ c.in-Map.is c.as_slice.ensures))
-
 pub text_need-returns-in_err-condition-in-Choose-clause-need : goal.text_need-returns-in_err-condition-in-Choose-clause-need
-text_need-returns-in_err-condition-in-Choose-clause-need t c = failed _ _ c.from_residual-in_err-condition-in-Choose.result c.from_residual-in_err-condition-in-Choose.ensures.1
+text_need-returns-in_err-condition-in-Choose-clause-need t c = failed _ _ c.from_residual.result c.from_residual.ensures.1
 
 pub text_need-returns-in_err-condition-in-Choose-clause-room : goal.text_need-returns-in_err-condition-in-Choose-clause-room
-text_need-returns-in_err-condition-in-Choose-clause-room t c = failed _ _ c.from_residual-in_err-condition-in-Choose.result c.from_residual-in_err-condition-in-Choose.ensures.1
+text_need-returns-in_err-condition-in-Choose-clause-room t c = failed _ _ c.from_residual.result c.from_residual.ensures.1
 
 pub text_need-returns-in_err-condition-in-Choose-clause-beyond : goal.text_need-returns-in_err-condition-in-Choose-clause-beyond
-text_need-returns-in_err-condition-in-Choose-clause-beyond t c = at-err c.from_residual-in_err-condition-in-Choose.result (part-test _ _ _ _ c.in_err-condition-in-Choose.ensures.beyond (text-choose-is _ _ _ _ _ _ _ c.in-Choose.is c.get.ensures refl refl))
+text_need-returns-in_err-condition-in-Choose-clause-beyond t c = at-err c.from_residual.result (part-test _ _ _ _ c.in_err-condition-in-Choose.ensures.beyond (text-choose-is _ _ _ _ _ _ _ c.in-Choose.is c.get.ensures refl refl))
 
 pub text_need-returns-in_err-yes-in-Choose-clause-need : goal.text_need-returns-in_err-yes-in-Choose-clause-need
 text_need-returns-in_err-yes-in-Choose-clause-need t c = failed _ _ c.from_residual-in_err-yes-in-Choose.result c.from_residual-in_err-yes-in-Choose.ensures.1
@@ -205,15 +181,6 @@ text_need-returns-in-Text-clause-room t c = at-least _ _ 64 c.figures.ensures (o
 pub text_need-returns-in-Text-clause-beyond : goal.text_need-returns-in-Text-clause-beyond
 text_need-returns-in-Text-clause-beyond t c = tt
 
-pub number_need-returns-in_ok-keys-in-StepMap-clause-need : goal.number_need-returns-in_ok-keys-in-StepMap-clause-need
-number_need-returns-in_ok-keys-in-StepMap-clause-need t c = same _ _ _ c.under.ensures.under (ap (λ (l : Listed). under l 16 32) c.in_ok-keys-in-StepMap.ensures.need ∙ sym (step-map-is _ _ _ _ _ _ c.in-StepMap.is c.as_slice.ensures))
-
-pub number_need-returns-in_ok-keys-in-StepMap-clause-beyond : goal.number_need-returns-in_ok-keys-in-StepMap-clause-beyond
-number_need-returns-in_ok-keys-in-StepMap-clause-beyond t c = same-beyond _ _ _ c.under.ensures.beyond (ap (λ (l : Listed). under l 16 32) c.in_ok-keys-in-StepMap.ensures.need ∙ sym (step-map-is _ _ _ _ _ _ c.in-StepMap.is c.as_slice.ensures))
-
-pub number_need-returns-in_ok-keys-in-StepMap-clause-room : goal.number_need-returns-in_ok-keys-in-StepMap-clause-room
-number_need-returns-in_ok-keys-in-StepMap-clause-room t c = roomy _ _ 8 c.under.ensures.under (under-room c.in_ok-keys-in-StepMap.keys 16 32 8 (omega arith))
-
 pub number_need-returns-in_ok-value-in-Unary-clause-need : goal.number_need-returns-in_ok-value-in-Unary-clause-need
 number_need-returns-in_ok-value-in-Unary-clause-need t c = same _ _ _ c.more.ensures.more (ap (more 8) c.in_ok-value-in-Unary.ensures.need ∙ sym (unary-is _ _ _ _ c.in-Unary.is c.get.ensures))
 
@@ -250,15 +217,6 @@ number_need-returns-in_ok-no-in-Choose-clause-beyond t c = same-beyond _ _ _ c.c
 pub number_need-returns-in_ok-no-in-Choose-clause-room : goal.number_need-returns-in_ok-no-in-Choose-clause-room
 number_need-returns-in_ok-no-in-Choose-clause-room t c = roomy _ _ 8 c.chosen.ensures.need (test-room c.in_ok-condition-in-Choose.condition c.in_ok-yes-in-Choose.yes c.in_ok-no-in-Choose.no 8 c.in_ok-condition-in-Choose.ensures.room)
 
-pub text_need-returns-in_ok-keys-in-Map-clause-need : goal.text_need-returns-in_ok-keys-in-Map-clause-need
-text_need-returns-in_ok-keys-in-Map-clause-need t c = same _ _ _ c.under.ensures.under (ap (λ (l : Listed). under l 64 40) c.in_ok-keys-in-Map.ensures.need ∙ sym (text-map-is _ _ _ _ c.in-Map.is c.as_slice.ensures))
-
-pub text_need-returns-in_ok-keys-in-Map-clause-beyond : goal.text_need-returns-in_ok-keys-in-Map-clause-beyond
-text_need-returns-in_ok-keys-in-Map-clause-beyond t c = same-beyond _ _ _ c.under.ensures.beyond (ap (λ (l : Listed). under l 64 40) c.in_ok-keys-in-Map.ensures.need ∙ sym (text-map-is _ _ _ _ c.in-Map.is c.as_slice.ensures))
-
-pub text_need-returns-in_ok-keys-in-Map-clause-room : goal.text_need-returns-in_ok-keys-in-Map-clause-room
-text_need-returns-in_ok-keys-in-Map-clause-room t c = roomy _ _ 64 c.under.ensures.under (under-room c.in_ok-keys-in-Map.keys 64 40 64 (omega arith))
-
 pub text_need-returns-in_ok-no-in-Choose-clause-need : goal.text_need-returns-in_ok-no-in-Choose-clause-need
 text_need-returns-in_ok-no-in-Choose-clause-need t c = same _ _ _ c.chosen.ensures.need (one-of-are _ _ _ _ _ _ c.in_ok-condition-in-Choose.ensures.need c.in_ok-yes-in-Choose.ensures.need c.in_ok-no-in-Choose.ensures.need ∙ sym (text-choose-is _ _ _ _ _ _ _ c.in-Choose.is c.get.ensures c.get-in-Choose.ensures (c.get-in-Choose-2).ensures))
 
@@ -285,3 +243,33 @@ value_need-returns-in_ok-need-in-Str-clause-room t c = c.in_ok-need-in-Str.ensur
 
 pub value_need-returns-in_ok-need-in-Str-clause-beyond : goal.value_need-returns-in_ok-need-in-Str-clause-beyond
 value_need-returns-in_ok-need-in-Str-clause-beyond t c = tt
+
+pub number_need-returns-in-StepMap-clause-need : goal.number_need-returns-in-StepMap-clause-need
+number_need-returns-in-StepMap-clause-need t c = same _ _ _ c.keyed_need.ensures.need (sym (step-map-is _ _ _ _ _ _ c.in-StepMap.is c.as_slice.ensures))
+
+pub number_need-returns-in-StepMap-clause-beyond : goal.number_need-returns-in-StepMap-clause-beyond
+number_need-returns-in-StepMap-clause-beyond t c = same-beyond _ _ _ c.keyed_need.ensures.beyond (sym (step-map-is _ _ _ _ _ _ c.in-StepMap.is c.as_slice.ensures))
+
+pub number_need-returns-in-StepMap-clause-room : goal.number_need-returns-in-StepMap-clause-room
+number_need-returns-in-StepMap-clause-room t c = roomy _ _ 8 c.keyed_need.ensures.need (under-room (listed (values_need c.as_slice.result.now)) 16 32 8 (omega arith))
+
+pub text_need-returns-in-Map-clause-need : goal.text_need-returns-in-Map-clause-need
+text_need-returns-in-Map-clause-need t c = same _ _ _ c.keyed_need.ensures.need (sym (text-map-is _ _ _ _ c.in-Map.is c.as_slice.ensures))
+
+pub text_need-returns-in-Map-clause-beyond : goal.text_need-returns-in-Map-clause-beyond
+text_need-returns-in-Map-clause-beyond t c = same-beyond _ _ _ c.keyed_need.ensures.beyond (sym (text-map-is _ _ _ _ c.in-Map.is c.as_slice.ensures))
+
+pub text_need-returns-in-Map-clause-room : goal.text_need-returns-in-Map-clause-room
+text_need-returns-in-Map-clause-room t c = roomy _ _ 64 c.keyed_need.ensures.need (under-room (listed (values_need c.as_slice.result.now)) 64 40 64 (omega arith))
+
+pub keyed_need-returns-clause-need : goal.keyed_need-returns-clause-need
+keyed_need-returns-clause-need t c = same _ _ _ c.under.ensures.under (ap (λ (l : Listed). under l c.args.frame c.args.slots) c.in_ok-keys.ensures.need)
+
+pub keyed_need-returns-clause-beyond : goal.keyed_need-returns-clause-beyond
+keyed_need-returns-clause-beyond t c = same-beyond _ _ _ c.under.ensures.beyond (ap (λ (l : Listed). under l c.args.frame c.args.slots) c.in_ok-keys.ensures.need)
+
+pub keyed_need-returns-in_err-keys-clause-need : goal.keyed_need-returns-in_err-keys-clause-need
+keyed_need-returns-in_err-keys-clause-need t c = failed _ _ c.from_residual.result c.from_residual.ensures.1
+
+pub keyed_need-returns-in_err-keys-clause-beyond : goal.keyed_need-returns-in_err-keys-clause-beyond
+keyed_need-returns-in_err-keys-clause-beyond t c = at-err c.from_residual.result (part-keys c.args.frame c.args.slots _ _ c.in_err-keys.ensures.beyond refl)
