@@ -1,6 +1,6 @@
 -- What expressions and statements need, once what they are made of is measured; and what is too much already for a part.
-use Rattle.std.proofs.Common.{◌≡◌, ℕ, ◌+◌, ◌≤◌, Result, Ok, Err, List, Option, sym, ap, ◌∙◌, subst, arith, Bool}
-use Rattle.std.specs.Prelude.{IfOk, OnOk, OnErr, IsErrAnd}
+use Rattle.std.proofs.Common.{◌≡◌, ◌⊎◌, inl, inr, ℕ, ◌+◌, ◌≤◌, Result, Ok, Err, List, Option, sym, ap, ◌∙◌, subst, arith, Bool}
+use Rattle.std.specs.Prelude.{ℤ, IfOk, OnOk, OnErr, IsErrAnd}
 use Rattle.std.proofs.Math.Nat.{le-max_left, le-max_right}
 use Rattle.bt_core.specs.declared.map.AggKind.{AggKind}
 use Rattle.bt_core.specs.declared.map.MapId.{MapId}
@@ -8,6 +8,8 @@ use Rattle.bt_core.specs.declared.memory.Memory.{Memory}
 use Rattle.bt_core.specs.declared.operator.BinOp.{BinOp}
 use Rattle.bt_core.specs.declared.operator.UnOp.{UnOp}
 use Rattle.typed_tree.specs.declared.expr.AnyExpr.{AnyExpr}
+use Rattle.event_layout.specs.declared.field.Field.{Field}
+use Rattle.typed_tree.specs.declared.expr.NumBuiltin.{NumBuiltin}
 use Rattle.typed_tree.specs.declared.expr.NumExpr.{NumExpr}
 use Rattle.typed_tree.specs.declared.expr.NumExpr.TheVariants as nums
 use Rattle.typed_tree.specs.declared.expr.StrExpr.{StrExpr}
@@ -125,10 +127,10 @@ greater-room slots a b least h = omega (arith, h)
 
 -- ---- whole numbers
 
-pub map-is : (e : NumExpr) (m : MapId) (keys ks : List AnyExpr) → e ≡ nums.Map m keys → ks ≡ keys → number_need e ≡ need (beside (values_need ks) 8) (16 + codes_in (values_need ks))
+map-is : (e : NumExpr) (m : MapId) (keys ks : List AnyExpr) → e ≡ nums.Map m keys → ks ≡ keys → number_need e ≡ need (beside (values_need ks) 8) (16 + codes_in (values_need ks))
 map-is e m keys ks h k = ap number_need h ∙ tree.num-Map-need m keys ∙ ap (λ (l : List AnyExpr). need (beside (values_need l) 8) (16 + codes_in (values_need l))) (sym k)
 
-pub agg-is : (e : NumExpr) (m : MapId) (keys ks : List AnyExpr) → e ≡ nums.Agg m keys → ks ≡ keys → number_need e ≡ need (beside (values_need ks) 8) (16 + codes_in (values_need ks))
+agg-is : (e : NumExpr) (m : MapId) (keys ks : List AnyExpr) → e ≡ nums.Agg m keys → ks ≡ keys → number_need e ≡ need (beside (values_need ks) 8) (16 + codes_in (values_need ks))
 agg-is e m keys ks h k = ap number_need h ∙ tree.num-Agg-need m keys ∙ ap (λ (l : List AnyExpr). need (beside (values_need l) 8) (16 + codes_in (values_need l))) (sym k)
 
 pub step-map-is : (e : NumExpr) (m : MapId) (keys ks : List AnyExpr) (plus prefix : Bool) → e ≡ nums.StepMap m keys plus prefix → ks ≡ keys → number_need e ≡ need (beside (values_need ks) 16) (32 + codes_in (values_need ks))
@@ -152,11 +154,30 @@ compare-is e equal l r x y h hx hy = ap number_need h ∙ tree.num-Compare-need 
 abbrev pub one_or_both : NumExpr → NumExpr → Need
 one_or_both l r = more 16 (greater (number_need l) (number_need r))
 
-pub and-is : (e l r x y : NumExpr) → e ≡ nums.AndThen l r → x ≡ l → y ≡ r → number_need e ≡ one_or_both x y
+and-is : (e l r x y : NumExpr) → e ≡ nums.AndThen l r → x ≡ l → y ≡ r → number_need e ≡ one_or_both x y
 and-is e l r x y h hx hy = ap number_need h ∙ tree.num-AndThen-need l r ∙ ap (λ (z : NumExpr). one_or_both z r) (sym hx) ∙ ap (one_or_both x) (sym hy)
 
-pub or-is : (e l r x y : NumExpr) → e ≡ nums.OrElse l r → x ≡ l → y ≡ r → number_need e ≡ one_or_both x y
+or-is : (e l r x y : NumExpr) → e ≡ nums.OrElse l r → x ≡ l → y ≡ r → number_need e ≡ one_or_both x y
 or-is e l r x y h hx hy = ap number_need h ∙ tree.num-OrElse-need l r ∙ ap (λ (z : NumExpr). one_or_both z r) (sym hx) ∙ ap (one_or_both x) (sym hy)
+
+-- one of two that are measured alike
+pub leaf-is : (e : NumExpr) → ((z : ℤ) × (e ≡ nums.Number z)) ⊎ (((b : NumBuiltin) × (e ≡ nums.Builtin b)) ⊎ ((x : ℕ) × (e ≡ nums.Var x))) → number_need e ≡ need 8 4
+leaf-is e (inl (z, h)) = ap number_need h ∙ tree.num-Number-need z
+leaf-is e (inr (inl (b, h))) = ap number_need h ∙ tree.num-Builtin-need b
+leaf-is e (inr (inr (x, h))) = ap number_need h ∙ tree.num-Var-need x
+
+pub text-leaf-is : (e : StrExpr) → (e ≡ strs.Comm) ⊎ (((f : Field) × (e ≡ strs.Field f)) ⊎ ((x : ℕ) × (e ≡ strs.Var x))) → text_need e ≡ need 64 24
+text-leaf-is e (inl h) = ap text_need h ∙ tree.str-Comm-need
+text-leaf-is e (inr (inl (f, h))) = ap text_need h ∙ tree.str-Field-need f
+text-leaf-is e (inr (inr (x, h))) = ap text_need h ∙ tree.str-Var-need x
+
+pub keyed-is : (e : NumExpr) (keys ks : List AnyExpr) → ((m : MapId) × (e ≡ nums.Map m keys)) ⊎ ((m : MapId) × (e ≡ nums.Agg m keys)) → ks ≡ keys → number_need e ≡ need (beside (values_need ks) 8) (16 + codes_in (values_need ks))
+keyed-is e keys ks (inl (m, h)) k = map-is e m keys ks h k
+keyed-is e keys ks (inr (m, h)) k = agg-is e m keys ks h k
+
+pub either-is : (e l r x y : NumExpr) → (e ≡ nums.AndThen l r) ⊎ (e ≡ nums.OrElse l r) → x ≡ l → y ≡ r → number_need e ≡ one_or_both x y
+either-is e l r x y (inl h) hx hy = and-is e l r x y h hx hy
+either-is e l r x y (inr h) hx hy = or-is e l r x y h hx hy
 
 pub choose-is : (e t y o a b d : NumExpr) → e ≡ nums.Choose t y o → a ≡ t → b ≡ y → d ≡ o → number_need e ≡ one_of (number_need a) (number_need b) (number_need d)
 choose-is e t y o a b d h ha hb hd = ap number_need h ∙ tree.num-Choose-need t y o ∙ ap (λ (z : NumExpr). one_of (number_need z) (number_need y) (number_need o)) (sym ha)

@@ -98,16 +98,6 @@ fn update_variable_need(value: &NumExpr) -> Result<Need, Memory>
     Ok(more(16, value)?)
 }
 
-/// What `unroll` needs, by what its block needs.
-fn unroll_need(block: Need) -> Result<Need, Memory>
-    ensures need { IfOk result (λ n. n ≡ need (8 + block.frame) (32 + block.code)) }
-    ensures beyond { OnErr result (IsTooMuch (need (8 + block.frame) (32 + block.code))) }
-{
-    let frame = sum(8, block.frame)?;
-    let code = sum(32, block.code)?;
-    Ok(figures(frame, code))
-}
-
 /// What a statement needs.
 #[cycle(body_need)]
 pub fn stmt_need(s: &TypedStmt) -> Result<Need, Memory>
@@ -144,10 +134,7 @@ pub fn stmt_need(s: &TypedStmt) -> Result<Need, Memory>
             block,
             ..
         } => tested_need(24, block, condition),
-        TypedStmt::Unroll { block, .. } => {
-            let block = block_need(block)?;
-            unroll_need(block)
-        }
+        TypedStmt::Unroll { block, .. } => unroll_need(block),
     }
 }
 
@@ -177,6 +164,18 @@ fn tested_need(slots: u64, block: &TypedBlock, test: &NumExpr) -> Result<Need, M
     let test = number_need(test)?;
     let block = block_need(block)?;
     greater_and(slots, test, block)
+}
+
+/// What `unroll` needs.
+#[cycle(body_need)]
+fn unroll_need(block: &TypedBlock) -> Result<Need, Memory>
+    ensures need { IfOk result (λ n. n ≡ need (8 + (block_need block.now).frame) (32 + (block_need block.now).code)) }
+    ensures beyond { OnErr result (IsTooMuch (need (8 + (block_need block.now).frame) (32 + (block_need block.now).code))) }
+{
+    let block = block_need(block)?;
+    let frame = sum(8, block.frame)?;
+    let code = sum(32, block.code)?;
+    Ok(figures(frame, code))
 }
 
 /// What the block of an `else` needs, where there is one.

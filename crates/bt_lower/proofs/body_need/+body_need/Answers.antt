@@ -1,9 +1,9 @@
-use Rattle.std.proofs.Common.{◌≡◌, ℕ, List, Option, ◌+◌, ◌-◌, arith, rules, refl, sym, ap, subst, ◌∙◌, drop}
+use Rattle.std.proofs.Common.{◌≡◌, ℕ, List, Option, ◌-◌, arith, rules, refl, sym, ap, subst, ◌∙◌, drop}
 use Rattle.typed_tree.specs.declared.expr.NumExpr.{NumExpr}
 use Rattle.typed_tree.specs.declared.stmt.TypedBlock.{TypedBlock}
 use Rattle.typed_tree.specs.declared.stmt.TypedStmt.{TypedStmt}
 use Rattle.typed_tree.specs.declared.stmt.TypedStmt.TheVariants as stmts
-use Rattle.bt_lower.specs.Needs.{Need, IsTooMuch, need, greater, stmt_need, tree_arms_need, tree_else_need}
+use Rattle.bt_lower.specs.Needs.{Need, IsTooMuch, greater, stmt_need, tree_arms_need, tree_else_need}
 use Rattle.bt_lower.proofs.Branches.{If-need}
 use Rattle.bt_lower.proofs.Rest.{Block-need}
 use Rattle.bt_lower.proofs.Needing.{frames_from, slots_from, arm_frame_from, arm_slots_from}
@@ -64,12 +64,6 @@ block_need-returns-in_err-all-clause-beyond t c =
     let frame = frames_from stmt_need stmts (c.loop-left.left - 1) c.loop-left.left _ (omega arith) (omega arith) c.index-stmts-left.is in
     let slots = slots_from stmt_need stmts (c.loop-left.left - 1) c.loop-left.left _ (omega arith) (omega arith) c.index-stmts-left.is in
     grind (arith, whole, frame, slots)
-
-pub stmt_need-returns-in_err-block-in-Unroll-clause-need : goal.stmt_need-returns-in_err-block-in-Unroll-clause-need
-stmt_need-returns-in_err-block-in-Unroll-clause-need t c = failed _ _ c.from_residual-in_err-block-in-Unroll.result c.from_residual-in_err-block-in-Unroll.ensures.1
-
-pub stmt_need-returns-in_err-block-in-Unroll-clause-beyond : goal.stmt_need-returns-in_err-block-in-Unroll-clause-beyond
-stmt_need-returns-in_err-block-in-Unroll-clause-beyond t c = at-err c.from_residual-in_err-block-in-Unroll.result (part-unroll _ _ c.in_err-block-in-Unroll.ensures.beyond (unroll-is _ _ _ _ c.in-Unroll.is))
 
 pub stmt_need-returns-in_err-otherwise-in-If-clause-need : goal.stmt_need-returns-in_err-otherwise-in-If-clause-need
 stmt_need-returns-in_err-otherwise-in-If-clause-need t c = failed _ _ c.from_residual-in_err-otherwise-in-If.result c.from_residual-in_err-otherwise-in-If.ensures.1
@@ -179,12 +173,6 @@ stmt_need-returns-in-Jump-clause-need t c = c.jump_need.ensures ∙ sym (ap stmt
 pub stmt_need-returns-in-Jump-clause-beyond : goal.stmt_need-returns-in-Jump-clause-beyond
 stmt_need-returns-in-Jump-clause-beyond t c = tt
 
-pub stmt_need-returns-in_ok-block-in-Unroll-clause-need : goal.stmt_need-returns-in_ok-block-in-Unroll-clause-need
-stmt_need-returns-in_ok-block-in-Unroll-clause-need t c = same _ _ _ c.unroll_need.ensures.need (ap (λ (n : Need). need (8 + n.frame) (32 + n.code)) c.in_ok-block-in-Unroll.ensures.need ∙ sym (unroll-is _ _ _ _ c.in-Unroll.is))
-
-pub stmt_need-returns-in_ok-block-in-Unroll-clause-beyond : goal.stmt_need-returns-in_ok-block-in-Unroll-clause-beyond
-stmt_need-returns-in_ok-block-in-Unroll-clause-beyond t c = same-beyond _ _ _ c.unroll_need.ensures.beyond (ap (λ (n : Need). need (8 + n.frame) (32 + n.code)) c.in_ok-block-in-Unroll.ensures.need ∙ sym (unroll-is _ _ _ _ c.in-Unroll.is))
-
 pub tested_need-returns-clause-need : goal.tested_need-returns-clause-need
 tested_need-returns-clause-need t c = same _ _ _ c.greater_and.ensures.both (greater-are c.args.slots _ _ _ _ c.in_ok-test.ensures.need c.in_ok-block.ensures.need)
 
@@ -199,3 +187,15 @@ stmt_need-returns-in-While-clause-need t c = same _ _ _ c.tested_need-in-While.e
 
 pub stmt_need-returns-in-While-clause-beyond : goal.stmt_need-returns-in-While-clause-beyond
 stmt_need-returns-in-While-clause-beyond t c = same-beyond _ _ _ c.tested_need-in-While.ensures.beyond (sym (while-is _ _ _ _ c.in-While.is))
+
+pub stmt_need-returns-in-Unroll-clause-need : goal.stmt_need-returns-in-Unroll-clause-need
+stmt_need-returns-in-Unroll-clause-need t c = same _ _ _ c.unroll_need.ensures.need (sym (unroll-is _ _ _ _ c.in-Unroll.is))
+
+pub stmt_need-returns-in-Unroll-clause-beyond : goal.stmt_need-returns-in-Unroll-clause-beyond
+stmt_need-returns-in-Unroll-clause-beyond t c = same-beyond _ _ _ c.unroll_need.ensures.beyond (sym (unroll-is _ _ _ _ c.in-Unroll.is))
+
+pub unroll_need-returns-in_err-block-clause-need : goal.unroll_need-returns-in_err-block-clause-need
+unroll_need-returns-in_err-block-clause-need t c = failed _ _ c.from_residual.result c.from_residual.ensures.1
+
+pub unroll_need-returns-in_err-block-clause-beyond : goal.unroll_need-returns-in_err-block-clause-beyond
+unroll_need-returns-in_err-block-clause-beyond t c = at-err c.from_residual.result (part-unroll _ _ c.in_err-block.ensures.beyond refl)

@@ -2,7 +2,7 @@ use Rattle.std.proofs.Common.{arith, refl, sym, ap, subst, ◌∙◌}
 use Rattle.bt_lower.specs.declared.need.Listed.{Listed}
 use Rattle.bt_lower.specs.declared.need.Valued.{Valued}
 use Rattle.bt_lower.specs.Needs.{IsTooMuch, listed, values_need, value_need, number_need, text_need, valued, under, more}
-use Rattle.bt_lower.proofs.Measured.{same, same-beyond, roomy, at-least, at-err, failed, part-more, part-keys, part-left, part-right, part-test, part-one, part-other, beside-are, one-of-are, under-room, beside-room, test-room, one-room, step-map-is, unary-is, binary-is, compare-is, choose-is, text-map-is, text-choose-is}
+use Rattle.bt_lower.proofs.Measured.{same, same-beyond, roomy, at-least, at-err, failed, part-more, part-keys, part-first, part-second, greater-are, greater-room, leaf-is, text-leaf-is, keyed-is, either-is, part-left, part-right, part-test, part-one, part-other, beside-are, one-of-are, under-room, beside-room, test-room, one-room, step-map-is, unary-is, binary-is, compare-is, choose-is, text-map-is, text-choose-is}
 use Rattle.bt_lower.proofs.Needing.{frame_from, codes_from}
 use Rattle.bt_lower.proofs.Trees as tree
 use Rattle.bt_lower.proofs.need.+need.Goals as goal
@@ -273,3 +273,45 @@ keyed_need-returns-in_err-keys-clause-need t c = failed _ _ c.from_residual.resu
 
 pub keyed_need-returns-in_err-keys-clause-beyond : goal.keyed_need-returns-in_err-keys-clause-beyond
 keyed_need-returns-in_err-keys-clause-beyond t c = at-err c.from_residual.result (part-keys c.args.frame c.args.slots _ _ c.in_err-keys.ensures.beyond refl)
+
+pub number_need-returns-in-Map-clause-need : goal.number_need-returns-in-Map-clause-need
+number_need-returns-in-Map-clause-need t c = same _ _ _ c.keyed_need-in-Map.ensures.need (sym (keyed-is _ _ _ c.in-Map.is c.as_slice-in-Map.ensures))
+
+pub number_need-returns-in-Map-clause-beyond : goal.number_need-returns-in-Map-clause-beyond
+number_need-returns-in-Map-clause-beyond t c = same-beyond _ _ _ c.keyed_need-in-Map.ensures.beyond (sym (keyed-is _ _ _ c.in-Map.is c.as_slice-in-Map.ensures))
+
+pub number_need-returns-in-Map-clause-room : goal.number_need-returns-in-Map-clause-room
+number_need-returns-in-Map-clause-room t c = roomy _ _ 8 c.keyed_need-in-Map.ensures.need (under-room (listed (values_need c.as_slice-in-Map.result.now)) 8 16 8 (omega arith))
+
+pub number_need-returns-in_ok-right-in-AndThen-clause-need : goal.number_need-returns-in_ok-right-in-AndThen-clause-need
+number_need-returns-in_ok-right-in-AndThen-clause-need t c = same _ _ _ c.greater_and.ensures.both (greater-are 16 _ _ _ _ c.in_ok-left-in-AndThen.ensures.need c.in_ok-right-in-AndThen.ensures.need ∙ sym (either-is _ _ _ _ _ c.in-AndThen.is c.get-in-AndThen.ensures (c.get-in-AndThen-2).ensures))
+
+pub number_need-returns-in_ok-right-in-AndThen-clause-beyond : goal.number_need-returns-in_ok-right-in-AndThen-clause-beyond
+number_need-returns-in_ok-right-in-AndThen-clause-beyond t c = same-beyond _ _ _ c.greater_and.ensures.beyond (greater-are 16 _ _ _ _ c.in_ok-left-in-AndThen.ensures.need c.in_ok-right-in-AndThen.ensures.need ∙ sym (either-is _ _ _ _ _ c.in-AndThen.is c.get-in-AndThen.ensures (c.get-in-AndThen-2).ensures))
+
+pub number_need-returns-in_ok-right-in-AndThen-clause-room : goal.number_need-returns-in_ok-right-in-AndThen-clause-room
+number_need-returns-in_ok-right-in-AndThen-clause-room t c = roomy _ _ 8 c.greater_and.ensures.both (greater-room 16 c.in_ok-left-in-AndThen.left c.in_ok-right-in-AndThen.right 8 c.in_ok-left-in-AndThen.ensures.room)
+
+pub number_need-returns-in_err-left-in-AndThen-clause-beyond : goal.number_need-returns-in_err-left-in-AndThen-clause-beyond
+number_need-returns-in_err-left-in-AndThen-clause-beyond t c = at-err c.from_residual-in_err-left-in-AndThen.result (part-first 16 _ _ _ c.in_err-left-in-AndThen.ensures.beyond (either-is _ _ _ _ _ c.in-AndThen.is c.get-in-AndThen.ensures refl))
+
+pub number_need-returns-in_err-right-in-AndThen-clause-beyond : goal.number_need-returns-in_err-right-in-AndThen-clause-beyond
+number_need-returns-in_err-right-in-AndThen-clause-beyond t c = at-err c.from_residual-in_err-right-in-AndThen.result (part-second 16 _ _ _ c.in_err-right-in-AndThen.ensures.beyond (either-is _ _ _ _ _ c.in-AndThen.is c.get-in-AndThen.ensures (c.get-in-AndThen-2).ensures))
+
+pub number_need-returns-in-Number-clause-room : goal.number_need-returns-in-Number-clause-room
+number_need-returns-in-Number-clause-room t c = at-least _ _ 8 c.figures-in-Number.ensures (omega arith)
+
+pub number_need-returns-in-Number-clause-beyond : goal.number_need-returns-in-Number-clause-beyond
+number_need-returns-in-Number-clause-beyond t c = tt
+
+pub number_need-returns-in-Number-clause-need : goal.number_need-returns-in-Number-clause-need
+number_need-returns-in-Number-clause-need t c = c.figures-in-Number.ensures ∙ sym (leaf-is _ c.in-Number.is)
+
+pub text_need-returns-in-Comm-clause-room : goal.text_need-returns-in-Comm-clause-room
+text_need-returns-in-Comm-clause-room t c = at-least _ _ 64 c.figures-in-Comm.ensures (omega arith)
+
+pub text_need-returns-in-Comm-clause-beyond : goal.text_need-returns-in-Comm-clause-beyond
+text_need-returns-in-Comm-clause-beyond t c = tt
+
+pub text_need-returns-in-Comm-clause-need : goal.text_need-returns-in-Comm-clause-need
+text_need-returns-in-Comm-clause-need t c = c.figures-in-Comm.ensures ∙ sym (text-leaf-is _ c.in-Comm.is)
