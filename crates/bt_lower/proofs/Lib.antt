@@ -12,6 +12,7 @@ pub mod Jumps
 pub mod Lists
 pub mod Loops
 pub mod Maps
+pub mod Measured
 pub mod Needing
 pub mod Opening
 pub mod Patches

@@ -57,17 +57,25 @@ fn lower_guarded(
     Ok(())
 }
 
-/// The blocks of a predicate and a block, of which the last one comes first in a run.
-pub fn lower_tree(alloc: Global, tree: &TypedTree) -> Result<Items<Block>, Memory>
-    ensures { IfOk result (λ blocks. LowersTree tree.now blocks) }
+/// Lowers a body to code, where there is none yet.
+fn lower_whole(alloc: Global, tree: &TypedTree, code: &mut Code) -> Result<(), Memory>
+    ensures { OnOk result (code.old ≡ nothing → LowersTree tree.now code.new.blocks) }
 {
-    let mut code = nothing(alloc);
     let end = code.close(alloc)?;
     let way = Ways {
         leave: end,
         again: end,
     };
-    lower_guarded(alloc, &tree.predicate, &tree.block, way, &mut code)?;
+    lower_guarded(alloc, &tree.predicate, &tree.block, way, code)?;
     code.close(alloc)?;
+    Ok(())
+}
+
+/// The blocks of a predicate and a block, of which the last one comes first in a run.
+pub fn lower_tree(alloc: Global, tree: &TypedTree) -> Result<Items<Block>, Memory>
+    ensures { IfOk result (λ blocks. LowersTree tree.now blocks) }
+{
+    let mut code = nothing(alloc);
+    lower_whole(alloc, tree, &mut code)?;
     Ok(code.blocks)
 }

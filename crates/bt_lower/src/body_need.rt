@@ -2,7 +2,7 @@
 ghost use Rattle.std.specs.Prelude.{◌≡◌, ◌+◌, IfOk, OnErr};
 ghost use Rattle.typed_tree.specs.Parts.{made_of};
 ghost use Rattle.ir_code.specs.Figures.{by_shape};
-ghost use Rattle.bt_lower.specs.Needs.{need, more, greater, set_map_need, update_map_need, taking_need, stmt_need, block_need, arm_need, tree_else_need, gather_need, number_need, value_need, values_need, tree_need, IsTooMuch};
+ghost use Rattle.bt_lower.specs.Needs.{need, more, greater, set_map_need, update_map_need, taking_need, stmt_need, block_need, tree_else_need, gather_need, number_need, value_need, values_need, tree_need, IsTooMuch};
 
 use crate::need::{
     Need, figures, greater, greater_and, jump_need, more, number_need, predicate_need, sizes_of,
@@ -98,16 +98,6 @@ fn update_variable_need(value: &NumExpr) -> Result<Need, Memory>
     Ok(more(16, value)?)
 }
 
-/// What `unroll` needs, by what its block needs.
-fn unroll_need(block: Need) -> Result<Need, Memory>
-    ensures need { IfOk result (λ n. n ≡ need (8 + block.frame) (32 + block.code)) }
-    ensures beyond { OnErr result (IsTooMuch (need (8 + block.frame) (32 + block.code))) }
-{
-    let frame = sum(8, block.frame)?;
-    let code = sum(32, block.code)?;
-    Ok(figures(frame, code))
-}
-
 /// What a statement needs.
 #[cycle(body_need)]
 pub fn stmt_need(s: &TypedStmt) -> Result<Need, Memory>
@@ -133,7 +123,7 @@ pub fn stmt_need(s: &TypedStmt) -> Result<Need, Memory>
             let mut left = arms.len();
             while left > 0 {
                 left -= 1;
-                let one = arm_need(&arms[left].1, &arms[left].0)?;
+                let one = tested_need(8, &arms[left].1, &arms[left].0)?;
                 all = greater(one, all)?;
             }
             let otherwise = otherwise_need(otherwise)?;
@@ -143,15 +133,8 @@ pub fn stmt_need(s: &TypedStmt) -> Result<Need, Memory>
             condition,
             block,
             ..
-        } => {
-            let test = number_need(condition)?;
-            let block = block_need(block)?;
-            greater_and(24, test, block)
-        }
-        TypedStmt::Unroll { block, .. } => {
-            let block = block_need(block)?;
-            unroll_need(block)
-        }
+        } => tested_need(24, block, condition),
+        TypedStmt::Unroll { block, .. } => unroll_need(block),
     }
 }
 
@@ -172,15 +155,27 @@ pub fn block_need(block: &TypedBlock) -> Result<Need, Memory>
     Ok(all)
 }
 
-/// What an arm of an `if` needs.
+/// What a block and the test before it need, and so many slots more.
 #[cycle(body_need)]
-fn arm_need(block: &TypedBlock, test: &NumExpr) -> Result<Need, Memory>
-    ensures need { IfOk result (λ n. n ≡ arm_need (test.now, block_need block.now)) }
-    ensures beyond { OnErr result (IsTooMuch (arm_need (test.now, block_need block.now))) }
+fn tested_need(slots: u64, block: &TypedBlock, test: &NumExpr) -> Result<Need, Memory>
+    ensures need { IfOk result (λ n. n ≡ more slots (greater (number_need test.now) (block_need block.now))) }
+    ensures beyond { OnErr result (IsTooMuch (more slots (greater (number_need test.now) (block_need block.now)))) }
 {
     let test = number_need(test)?;
     let block = block_need(block)?;
-    greater_and(8, test, block)
+    greater_and(slots, test, block)
+}
+
+/// What `unroll` needs.
+#[cycle(body_need)]
+fn unroll_need(block: &TypedBlock) -> Result<Need, Memory>
+    ensures need { IfOk result (λ n. n ≡ need (8 + (block_need block.now).frame) (32 + (block_need block.now).code)) }
+    ensures beyond { OnErr result (IsTooMuch (need (8 + (block_need block.now).frame) (32 + (block_need block.now).code))) }
+{
+    let block = block_need(block)?;
+    let frame = sum(8, block.frame)?;
+    let code = sum(32, block.code)?;
+    Ok(figures(frame, code))
 }
 
 /// What the block of an `else` needs, where there is one.

@@ -142,15 +142,9 @@ pub fn number_need(e: &NumExpr) -> Result<Need, Memory>
     match e {
         NumExpr::Number(_) | NumExpr::Builtin(_) | NumExpr::Var(_) => Ok(figures(8, 4)),
         NumExpr::Field(_) => Ok(figures(8, 8)),
-        NumExpr::Map { keys, .. } | NumExpr::Agg { keys, .. } => {
-            let keys = values_need(keys.as_slice())?;
-            under(keys, 8, 16)
-        }
+        NumExpr::Map { keys, .. } | NumExpr::Agg { keys, .. } => keyed_need(keys.as_slice(), 8, 16),
         NumExpr::StepVar { .. } => Ok(figures(8, 12)),
-        NumExpr::StepMap { keys, .. } => {
-            let keys = values_need(keys.as_slice())?;
-            under(keys, 16, 32)
-        }
+        NumExpr::StepMap { keys, .. } => keyed_need(keys.as_slice(), 16, 32),
         NumExpr::Unary { value, .. } => {
             let value = number_need(value.get())?;
             more(8, value)
@@ -189,10 +183,7 @@ pub fn text_need(e: &StrExpr) -> Result<Need, Memory>
     match e {
         StrExpr::Text(_) => Ok(figures(64, 32)),
         StrExpr::Comm | StrExpr::Field(_) | StrExpr::Var(_) => Ok(figures(64, 24)),
-        StrExpr::Map { keys, .. } => {
-            let keys = values_need(keys.as_slice())?;
-            under(keys, 64, 40)
-        }
+        StrExpr::Map { keys, .. } => keyed_need(keys.as_slice(), 64, 40),
         StrExpr::Choose { condition, yes, no } => {
             let condition = number_need(condition.get())?;
             let yes = text_need(yes.get())?;
@@ -200,6 +191,16 @@ pub fn text_need(e: &StrExpr) -> Result<Need, Memory>
             chosen(condition, yes, no)
         }
     }
+}
+
+/// What a key needs, and so many bytes and slots beside it.
+#[cycle(need)]
+fn keyed_need(keys: &[AnyExpr], frame: u64, slots: u64) -> Result<Need, Memory>
+    ensures need { IfOk result (λ n. n ≡ under (listed (values_need keys.now)) frame slots) }
+    ensures beyond { OnErr result (IsTooMuch (under (listed (values_need keys.now)) frame slots)) }
+{
+    let keys = values_need(keys)?;
+    under(keys, frame, slots)
 }
 
 /// What expressions need that are evaluated from left to right.

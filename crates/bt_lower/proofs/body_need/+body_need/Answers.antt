@@ -7,6 +7,8 @@ use Rattle.bt_lower.specs.Needs.{Need, IsTooMuch, greater, stmt_need, tree_arms_
 use Rattle.bt_lower.proofs.Branches.{If-need}
 use Rattle.bt_lower.proofs.Rest.{Block-need}
 use Rattle.bt_lower.proofs.Needing.{frames_from, slots_from, arm_frame_from, arm_slots_from}
+use Rattle.bt_lower.proofs.Forms as form
+use Rattle.bt_lower.proofs.Measured.{same, same-beyond, at-err, failed, part-first, part-second, part-else, part-unroll, greater-are, set-var-is, set-map-is, update-var-is, update-map-is, gather-is, step-is, printf-is, delete-is, while-is, unroll-is}
 use Rattle.bt_lower.proofs.body_need.+body_need.Goals as goal
 
 -- an `if`, once all arms are summed up
@@ -62,3 +64,138 @@ block_need-returns-in_err-all-clause-beyond t c =
     let frame = frames_from stmt_need stmts (c.loop-left.left - 1) c.loop-left.left _ (omega arith) (omega arith) c.index-stmts-left.is in
     let slots = slots_from stmt_need stmts (c.loop-left.left - 1) c.loop-left.left _ (omega arith) (omega arith) c.index-stmts-left.is in
     grind (arith, whole, frame, slots)
+
+pub stmt_need-returns-in_err-otherwise-in-If-clause-need : goal.stmt_need-returns-in_err-otherwise-in-If-clause-need
+stmt_need-returns-in_err-otherwise-in-If-clause-need t c = failed _ _ c.from_residual-in_err-otherwise-in-If.result c.from_residual-in_err-otherwise-in-If.ensures.1
+
+pub stmt_need-returns-in_err-otherwise-in-If-clause-beyond : goal.stmt_need-returns-in_err-otherwise-in-If-clause-beyond
+stmt_need-returns-in_err-otherwise-in-If-clause-beyond t c = at-err c.from_residual-in_err-otherwise-in-If.result (part-else _ _ _ c.in_err-otherwise-in-If.ensures.beyond (if-need _ _ _ _ c.in-If.is c.as_slice-arms.ensures))
+
+pub stmt_need-returns-in_err-one-in-If-clause-need : goal.stmt_need-returns-in_err-one-in-If-clause-need
+stmt_need-returns-in_err-one-in-If-clause-need t c = failed _ _ c.from_residual.result c.from_residual.ensures.1
+
+pub stmt_need-returns-in_err-all-in-If-clause-need : goal.stmt_need-returns-in_err-all-in-If-clause-need
+stmt_need-returns-in_err-all-in-If-clause-need t c = failed _ _ c.from_residual-in_err-all-in-If.result c.from_residual-in_err-all-in-If.ensures.1
+
+pub stmt_need-returns-in_err-greater-in-If-clause-need : goal.stmt_need-returns-in_err-greater-in-If-clause-need
+stmt_need-returns-in_err-greater-in-If-clause-need t c = failed _ _ c.from_residual-in_err-greater-in-If.result c.from_residual-in_err-greater-in-If.ensures.1
+
+pub tested_need-returns-in_err-test-clause-need : goal.tested_need-returns-in_err-test-clause-need
+tested_need-returns-in_err-test-clause-need t c = failed _ _ c.from_residual.result c.from_residual.ensures.1
+
+pub tested_need-returns-in_err-test-clause-beyond : goal.tested_need-returns-in_err-test-clause-beyond
+tested_need-returns-in_err-test-clause-beyond t c = at-err c.from_residual.result (part-first c.args.slots _ _ _ c.in_err-test.ensures.beyond refl)
+
+pub tested_need-returns-in_err-block-clause-need : goal.tested_need-returns-in_err-block-clause-need
+tested_need-returns-in_err-block-clause-need t c = failed _ _ c.from_residual-in_err-block.result c.from_residual-in_err-block.ensures.1
+
+pub tested_need-returns-in_err-block-clause-beyond : goal.tested_need-returns-in_err-block-clause-beyond
+tested_need-returns-in_err-block-clause-beyond t c = at-err c.from_residual-in_err-block.result (part-second c.args.slots _ _ _ c.in_err-block.ensures.beyond refl)
+
+pub block_need-returns-in_err-one-clause-need : goal.block_need-returns-in_err-one-clause-need
+block_need-returns-in_err-one-clause-need t c = failed _ _ c.from_residual.result c.from_residual.ensures.1
+
+pub block_need-returns-in_err-all-clause-need : goal.block_need-returns-in_err-all-clause-need
+block_need-returns-in_err-all-clause-need t c = failed _ _ c.from_residual-in_err-all.result c.from_residual-in_err-all.ensures.1
+
+pub otherwise_need-returns-in_err-block_need-in-Some-clause-need : goal.otherwise_need-returns-in_err-block_need-in-Some-clause-need
+otherwise_need-returns-in_err-block_need-in-Some-clause-need t c = failed _ _ c.from_residual.result c.from_residual.ensures.1
+
+pub stmt_need-returns-in-SetVar-clause-need : goal.stmt_need-returns-in-SetVar-clause-need
+stmt_need-returns-in-SetVar-clause-need t c = same _ _ _ c.set_variable_need.ensures.need (sym (set-var-is _ _ _ c.in-SetVar.is))
+
+pub stmt_need-returns-in-SetVar-clause-beyond : goal.stmt_need-returns-in-SetVar-clause-beyond
+stmt_need-returns-in-SetVar-clause-beyond t c = same-beyond _ _ _ c.set_variable_need.ensures.beyond (sym (set-var-is _ _ _ c.in-SetVar.is))
+
+pub stmt_need-returns-in-SetMap-clause-need : goal.stmt_need-returns-in-SetMap-clause-need
+stmt_need-returns-in-SetMap-clause-need t c = same _ _ _ c.set_map_need.ensures.need (sym (set-map-is _ _ _ _ _ c.in-SetMap.is c.as_slice.ensures))
+
+pub stmt_need-returns-in-SetMap-clause-beyond : goal.stmt_need-returns-in-SetMap-clause-beyond
+stmt_need-returns-in-SetMap-clause-beyond t c = same-beyond _ _ _ c.set_map_need.ensures.beyond (sym (set-map-is _ _ _ _ _ c.in-SetMap.is c.as_slice.ensures))
+
+pub stmt_need-returns-in-UpdateVar-clause-need : goal.stmt_need-returns-in-UpdateVar-clause-need
+stmt_need-returns-in-UpdateVar-clause-need t c = same _ _ _ c.update_variable_need.ensures.need (sym (update-var-is _ _ _ _ c.in-UpdateVar.is))
+
+pub stmt_need-returns-in-UpdateVar-clause-beyond : goal.stmt_need-returns-in-UpdateVar-clause-beyond
+stmt_need-returns-in-UpdateVar-clause-beyond t c = same-beyond _ _ _ c.update_variable_need.ensures.beyond (sym (update-var-is _ _ _ _ c.in-UpdateVar.is))
+
+pub stmt_need-returns-in-UpdateMap-clause-need : goal.stmt_need-returns-in-UpdateMap-clause-need
+stmt_need-returns-in-UpdateMap-clause-need t c = same _ _ _ c.update_map_need.ensures.need (sym (update-map-is _ _ _ _ _ _ c.in-UpdateMap.is c.as_slice-in-UpdateMap.ensures))
+
+pub stmt_need-returns-in-UpdateMap-clause-beyond : goal.stmt_need-returns-in-UpdateMap-clause-beyond
+stmt_need-returns-in-UpdateMap-clause-beyond t c = same-beyond _ _ _ c.update_map_need.ensures.beyond (sym (update-map-is _ _ _ _ _ _ c.in-UpdateMap.is c.as_slice-in-UpdateMap.ensures))
+
+pub stmt_need-returns-in-Gather-clause-need : goal.stmt_need-returns-in-Gather-clause-need
+stmt_need-returns-in-Gather-clause-need t c = same _ _ _ c.gather_need.ensures.need (sym (gather-is _ _ _ _ _ _ c.in-Gather.is c.as_slice-in-Gather.ensures))
+
+pub stmt_need-returns-in-Gather-clause-beyond : goal.stmt_need-returns-in-Gather-clause-beyond
+stmt_need-returns-in-Gather-clause-beyond t c = same-beyond _ _ _ c.gather_need.ensures.beyond (sym (gather-is _ _ _ _ _ _ c.in-Gather.is c.as_slice-in-Gather.ensures))
+
+pub stmt_need-returns-in-Step-clause-need : goal.stmt_need-returns-in-Step-clause-need
+stmt_need-returns-in-Step-clause-need t c = same _ _ _ c.number_need.ensures.need (sym (step-is _ _ c.in-Step.is))
+
+pub stmt_need-returns-in-Step-clause-beyond : goal.stmt_need-returns-in-Step-clause-beyond
+stmt_need-returns-in-Step-clause-beyond t c = same-beyond _ _ _ c.number_need.ensures.beyond (sym (step-is _ _ c.in-Step.is))
+
+pub stmt_need-returns-in-Printf-clause-need : goal.stmt_need-returns-in-Printf-clause-need
+stmt_need-returns-in-Printf-clause-need t c = same _ _ _ c.taking_need.ensures.need (sym (printf-is _ _ _ _ c.in-Printf.is c.as_slice-in-Printf.ensures))
+
+pub stmt_need-returns-in-Printf-clause-beyond : goal.stmt_need-returns-in-Printf-clause-beyond
+stmt_need-returns-in-Printf-clause-beyond t c = same-beyond _ _ _ c.taking_need.ensures.beyond (sym (printf-is _ _ _ _ c.in-Printf.is c.as_slice-in-Printf.ensures))
+
+pub stmt_need-returns-in-Delete-clause-need : goal.stmt_need-returns-in-Delete-clause-need
+stmt_need-returns-in-Delete-clause-need t c = same _ _ _ c.taking_need-in-Delete.ensures.need (sym (delete-is _ _ _ _ c.in-Delete.is c.as_slice-in-Delete.ensures))
+
+pub stmt_need-returns-in-Delete-clause-beyond : goal.stmt_need-returns-in-Delete-clause-beyond
+stmt_need-returns-in-Delete-clause-beyond t c = same-beyond _ _ _ c.taking_need-in-Delete.ensures.beyond (sym (delete-is _ _ _ _ c.in-Delete.is c.as_slice-in-Delete.ensures))
+
+pub stmt_need-returns-in-Print-clause-need : goal.stmt_need-returns-in-Print-clause-need
+stmt_need-returns-in-Print-clause-need t c = c.figures.ensures ∙ sym (ap stmt_need c.in-Print.is ∙ form.Print-need _ _ _)
+
+pub stmt_need-returns-in-Print-clause-beyond : goal.stmt_need-returns-in-Print-clause-beyond
+stmt_need-returns-in-Print-clause-beyond t c = tt
+
+pub stmt_need-returns-in-Clear-clause-need : goal.stmt_need-returns-in-Clear-clause-need
+stmt_need-returns-in-Clear-clause-need t c = c.figures-in-Clear.ensures ∙ sym (ap stmt_need c.in-Clear.is ∙ form.Clear-need _)
+
+pub stmt_need-returns-in-Clear-clause-beyond : goal.stmt_need-returns-in-Clear-clause-beyond
+stmt_need-returns-in-Clear-clause-beyond t c = tt
+
+pub stmt_need-returns-in-Zero-clause-need : goal.stmt_need-returns-in-Zero-clause-need
+stmt_need-returns-in-Zero-clause-need t c = c.figures-in-Zero.ensures ∙ sym (ap stmt_need c.in-Zero.is ∙ form.Zero-need _)
+
+pub stmt_need-returns-in-Zero-clause-beyond : goal.stmt_need-returns-in-Zero-clause-beyond
+stmt_need-returns-in-Zero-clause-beyond t c = tt
+
+pub stmt_need-returns-in-Jump-clause-need : goal.stmt_need-returns-in-Jump-clause-need
+stmt_need-returns-in-Jump-clause-need t c = c.jump_need.ensures ∙ sym (ap stmt_need c.in-Jump.is ∙ form.Jump-need _)
+
+pub stmt_need-returns-in-Jump-clause-beyond : goal.stmt_need-returns-in-Jump-clause-beyond
+stmt_need-returns-in-Jump-clause-beyond t c = tt
+
+pub tested_need-returns-clause-need : goal.tested_need-returns-clause-need
+tested_need-returns-clause-need t c = same _ _ _ c.greater_and.ensures.both (greater-are c.args.slots _ _ _ _ c.in_ok-test.ensures.need c.in_ok-block.ensures.need)
+
+pub tested_need-returns-clause-beyond : goal.tested_need-returns-clause-beyond
+tested_need-returns-clause-beyond t c = same-beyond _ _ _ c.greater_and.ensures.beyond (greater-are c.args.slots _ _ _ _ c.in_ok-test.ensures.need c.in_ok-block.ensures.need)
+
+pub stmt_need-returns-in_ok-greater-in-If-clause-beyond : goal.stmt_need-returns-in_ok-greater-in-If-clause-beyond
+stmt_need-returns-in_ok-greater-in-If-clause-beyond t c = tt
+
+pub stmt_need-returns-in-While-clause-need : goal.stmt_need-returns-in-While-clause-need
+stmt_need-returns-in-While-clause-need t c = same _ _ _ c.tested_need-in-While.ensures.need (sym (while-is _ _ _ _ c.in-While.is))
+
+pub stmt_need-returns-in-While-clause-beyond : goal.stmt_need-returns-in-While-clause-beyond
+stmt_need-returns-in-While-clause-beyond t c = same-beyond _ _ _ c.tested_need-in-While.ensures.beyond (sym (while-is _ _ _ _ c.in-While.is))
+
+pub stmt_need-returns-in-Unroll-clause-need : goal.stmt_need-returns-in-Unroll-clause-need
+stmt_need-returns-in-Unroll-clause-need t c = same _ _ _ c.unroll_need.ensures.need (sym (unroll-is _ _ _ _ c.in-Unroll.is))
+
+pub stmt_need-returns-in-Unroll-clause-beyond : goal.stmt_need-returns-in-Unroll-clause-beyond
+stmt_need-returns-in-Unroll-clause-beyond t c = same-beyond _ _ _ c.unroll_need.ensures.beyond (sym (unroll-is _ _ _ _ c.in-Unroll.is))
+
+pub unroll_need-returns-in_err-block-clause-need : goal.unroll_need-returns-in_err-block-clause-need
+unroll_need-returns-in_err-block-clause-need t c = failed _ _ c.from_residual.result c.from_residual.ensures.1
+
+pub unroll_need-returns-in_err-block-clause-beyond : goal.unroll_need-returns-in_err-block-clause-beyond
+unroll_need-returns-in_err-block-clause-beyond t c = at-err c.from_residual.result (part-unroll _ _ c.in_err-block.ensures.beyond refl)

@@ -8,8 +8,11 @@ decreases-stmt_need l = 3 * goal.size-stmt_need l
 abbrev pub decreases-block_need : goal.decreases-block_need
 decreases-block_need l = 3 * goal.size-block_need l + 1
 
-abbrev pub decreases-arm_need : goal.decreases-arm_need
-decreases-arm_need l = 3 * goal.size-arm_need l + 2
+abbrev pub decreases-tested_need : goal.decreases-tested_need
+decreases-tested_need l = 3 * goal.size-tested_need l + 2
+
+abbrev pub decreases-unroll_need : goal.decreases-unroll_need
+decreases-unroll_need l = 3 * goal.size-unroll_need l + 2
 
 abbrev pub decreases-otherwise_need : goal.decreases-otherwise_need
 decreases-otherwise_need l = 3 * goal.size-otherwise_need l + 2

@@ -16,6 +16,7 @@ use Rattle.bt_lower.proofs.Rest.{Rest-start, Rest-next, Rest-end}
 use Rattle.bt_lower.proofs.Stmts.{Lowers-into}
 use Rattle.bt_lower.proofs.Unrolled.{unroll-steps}
 use Rattle.bt_lower.proofs.Whiled.{T-While}
+use Rattle.bt_lower.proofs.Measured.{failed, on-failed}
 use Rattle.bt_lower.proofs.stmt.+stmt.Goals as goal
 
 pub lower_stmt-returns-in-SetVar : goal.lower_stmt-returns-in-SetVar
@@ -121,3 +122,102 @@ lower_if-loop-left-preserved t c = record {
 
 pub lower_if-returns-in_ok-begin : goal.lower_if-returns-in_ok-begin
 lower_if-returns-in_ok-begin t c = λ arms o is. T-If _ _ c.loop-left.left _ _ _ _ _ _ (omega (arith, c.if-left-eq0.false)) (omega (arith, c.loop-left-test.false)) c.in_ok-after.ensures.number c.loop-left.invariant.lowered c.in_ok-begin.ensures
+
+pub lower_arm-returns-in_err-begin : goal.lower_arm-returns-in_err-begin
+lower_arm-returns-in_err-begin t c = failed _ _ c.from_residual-in_err-begin.result c.from_residual-in_err-begin.ensures.1
+
+pub lower_arm-returns-in_err-first : goal.lower_arm-returns-in_err-first
+lower_arm-returns-in_err-first t c = failed _ _ c.from_residual.result c.from_residual.ensures.1
+
+pub lower_arm-returns-in_err-lower_number : goal.lower_arm-returns-in_err-lower_number
+lower_arm-returns-in_err-lower_number t c = failed _ _ c.from_residual-in_err-lower_number.result c.from_residual-in_err-lower_number.ensures.1
+
+pub lower_arm-returns-in_err-number : goal.lower_arm-returns-in_err-number
+lower_arm-returns-in_err-number t c = failed _ _ c.from_residual-in_err-number.result c.from_residual-in_err-number.ensures.1
+
+pub lower_block-returns-in_err-lower_stmt : goal.lower_block-returns-in_err-lower_stmt
+lower_block-returns-in_err-lower_stmt t c = on-failed _ _ c.from_residual.result c.from_residual.ensures.1
+
+pub lower_else-returns-in_err-number-in-Some : goal.lower_else-returns-in_err-number-in-Some
+lower_else-returns-in_err-number-in-Some t c = failed _ _ c.from_residual.result c.from_residual.ensures.1
+
+pub lower_if-returns-in_err-after : goal.lower_if-returns-in_err-after
+lower_if-returns-in_err-after t c = on-failed _ _ c.from_residual.result c.from_residual.ensures.1
+
+pub lower_if-returns-in_err-begin : goal.lower_if-returns-in_err-begin
+lower_if-returns-in_err-begin t c = on-failed _ _ c.from_residual-in_err-begin.result c.from_residual-in_err-begin.ensures.1
+
+pub lower_if-returns-in_err-next : goal.lower_if-returns-in_err-next
+lower_if-returns-in_err-next t c = on-failed _ _ c.from_residual-in_err-next.result c.from_residual-in_err-next.ensures.1
+
+pub lower_if-returns-in_err-next-2 : goal.lower_if-returns-in_err-next-2
+lower_if-returns-in_err-next-2 t c = on-failed _ _ (c.from_residual-in_err-next-2).result (c.from_residual-in_err-next-2).ensures.1
+
+pub lower_into-returns-in_err-begin : goal.lower_into-returns-in_err-begin
+lower_into-returns-in_err-begin t c = failed _ _ c.from_residual.result c.from_residual.ensures.1
+
+pub lower_into-returns-in_err-lower_block : goal.lower_into-returns-in_err-lower_block
+lower_into-returns-in_err-lower_block t c = failed _ _ c.from_residual-in_err-lower_block.result c.from_residual-in_err-lower_block.ensures.1
+
+pub lower_into-returns-in_err-number : goal.lower_into-returns-in_err-number
+lower_into-returns-in_err-number t c = failed _ _ c.from_residual-in_err-number.result c.from_residual-in_err-number.ensures.1
+
+pub lower_only_else-returns-in_err-lower_block-in-Some : goal.lower_only_else-returns-in_err-lower_block-in-Some
+lower_only_else-returns-in_err-lower_block-in-Some t c = on-failed _ _ c.from_residual.result c.from_residual.ensures.1
+
+pub lower_unroll-returns-in_err-again : goal.lower_unroll-returns-in_err-again
+lower_unroll-returns-in_err-again t c = on-failed _ _ c.from_residual-in_err-again.result c.from_residual-in_err-again.ensures.1
+
+pub lower_unroll-returns-in_err-begin : goal.lower_unroll-returns-in_err-begin
+lower_unroll-returns-in_err-begin t c = on-failed _ _ c.from_residual-in_err-begin.result c.from_residual-in_err-begin.ensures.1
+
+pub lower_unroll-returns-in_err-cut : goal.lower_unroll-returns-in_err-cut
+lower_unroll-returns-in_err-cut t c = on-failed _ _ c.from_residual-in_err-cut.result c.from_residual-in_err-cut.ensures.1
+
+pub lower_unroll-returns-in_err-gate : goal.lower_unroll-returns-in_err-gate
+lower_unroll-returns-in_err-gate t c = on-failed _ _ c.from_residual-in_err-gate.result c.from_residual-in_err-gate.ensures.1
+
+pub lower_unroll-returns-in_err-head : goal.lower_unroll-returns-in_err-head
+lower_unroll-returns-in_err-head t c = on-failed _ _ c.from_residual-in_err-head.result c.from_residual-in_err-head.ensures.1
+
+pub lower_unroll-returns-in_err-leave : goal.lower_unroll-returns-in_err-leave
+lower_unroll-returns-in_err-leave t c = on-failed _ _ c.from_residual-in_err-leave.result c.from_residual-in_err-leave.ensures.1
+
+pub lower_unroll-returns-in_err-patch : goal.lower_unroll-returns-in_err-patch
+lower_unroll-returns-in_err-patch t c = on-failed _ _ c.from_residual-in_err-patch.result c.from_residual-in_err-patch.ensures.1
+
+pub lower_unroll-returns-in_err-push : goal.lower_unroll-returns-in_err-push
+lower_unroll-returns-in_err-push t c = on-failed _ _ c.from_residual.result c.from_residual.ensures.1
+
+pub lower_unroll-returns-in_err-push-2 : goal.lower_unroll-returns-in_err-push-2
+lower_unroll-returns-in_err-push-2 t c = on-failed _ _ (c.from_residual-in_err-push-2).result (c.from_residual-in_err-push-2).ensures.1
+
+pub lower_unroll-returns-in_err-turn : goal.lower_unroll-returns-in_err-turn
+lower_unroll-returns-in_err-turn t c = on-failed _ _ c.from_residual-in_err-turn.result c.from_residual-in_err-turn.ensures.1
+
+pub lower_while-returns-in_err-again : goal.lower_while-returns-in_err-again
+lower_while-returns-in_err-again t c = on-failed _ _ c.from_residual-in_err-again.result c.from_residual-in_err-again.ensures.1
+
+pub lower_while-returns-in_err-begin : goal.lower_while-returns-in_err-begin
+lower_while-returns-in_err-begin t c = on-failed _ _ c.from_residual-in_err-begin.result c.from_residual-in_err-begin.ensures.1
+
+pub lower_while-returns-in_err-cut : goal.lower_while-returns-in_err-cut
+lower_while-returns-in_err-cut t c = on-failed _ _ c.from_residual-in_err-cut.result c.from_residual-in_err-cut.ensures.1
+
+pub lower_while-returns-in_err-first : goal.lower_while-returns-in_err-first
+lower_while-returns-in_err-first t c = on-failed _ _ c.from_residual-in_err-first.result c.from_residual-in_err-first.ensures.1
+
+pub lower_while-returns-in_err-head : goal.lower_while-returns-in_err-head
+lower_while-returns-in_err-head t c = on-failed _ _ c.from_residual-in_err-head.result c.from_residual-in_err-head.ensures.1
+
+pub lower_while-returns-in_err-leave : goal.lower_while-returns-in_err-leave
+lower_while-returns-in_err-leave t c = on-failed _ _ c.from_residual.result c.from_residual.ensures.1
+
+pub lower_while-returns-in_err-lower_number : goal.lower_while-returns-in_err-lower_number
+lower_while-returns-in_err-lower_number t c = on-failed _ _ c.from_residual-in_err-lower_number.result c.from_residual-in_err-lower_number.ensures.1
+
+pub lower_while-returns-in_err-patch : goal.lower_while-returns-in_err-patch
+lower_while-returns-in_err-patch t c = on-failed _ _ c.from_residual-in_err-patch.result c.from_residual-in_err-patch.ensures.1
+
+pub lower_while-returns-in_err-turn : goal.lower_while-returns-in_err-turn
+lower_while-returns-in_err-turn t c = on-failed _ _ c.from_residual-in_err-turn.result c.from_residual-in_err-turn.ensures.1

@@ -7,6 +7,7 @@ use Rattle.bt_lower.specs.Code.{pushed}
 use Rattle.bt_lower.specs.Lowers.{all_made}
 use Rattle.bt_lower.proofs.Arms.{N-Number, N-Builtin, N-Field, N-Var, N-Map, N-Agg, N-StepVar, N-StepMap, N-Unary, N-Binary, N-Compare, N-AndThen, N-OrElse, N-Choose, S-Text, S-Comm, S-Field, S-Var, S-Map, S-Choose, List-start, List-next, Tested-arm, at-ok}
 use Rattle.bt_lower.proofs.Choices.{Lowers-arm}
+use Rattle.bt_lower.proofs.Measured.{failed as if-failed, on-failed as failed}
 use Rattle.bt_lower.proofs.value.+value.Goals as goal
 
 pub lower_number-returns-in-Number : goal.lower_number-returns-in-Number
@@ -104,3 +105,117 @@ lower_values-loop-left-init t c = record { within = omega arith; lowered = List-
 
 pub lower_values-loop-left-preserved : goal.lower_values-loop-left-preserved
 lower_values-loop-left-preserved t c = record { within = omega (arith, c.loop-left.invariant.within); lowered = List-next _ _ _ _ _ _ c.loop-left-test.true c.loop-left.invariant.within c.index-es-left.is c.loop-left.invariant.lowered c.in_ok-lower_value.ensures }
+
+pub lower_number-returns-in_err-after-in-AndThen : goal.lower_number-returns-in_err-after-in-AndThen
+lower_number-returns-in_err-after-in-AndThen t c = failed _ _ c.from_residual-in_err-after-in-AndThen.result c.from_residual-in_err-after-in-AndThen.ensures.1
+
+pub lower_number-returns-in_err-after-in-Choose : goal.lower_number-returns-in_err-after-in-Choose
+lower_number-returns-in_err-after-in-Choose t c = failed _ _ c.from_residual-in_err-after-in-Choose.result c.from_residual-in_err-after-in-Choose.ensures.1
+
+pub lower_number-returns-in_err-after-in-OrElse : goal.lower_number-returns-in_err-after-in-OrElse
+lower_number-returns-in_err-after-in-OrElse t c = failed _ _ c.from_residual-in_err-after-in-OrElse.result c.from_residual-in_err-after-in-OrElse.ensures.1
+
+pub lower_number-returns-in_err-begin-in-AndThen : goal.lower_number-returns-in_err-begin-in-AndThen
+lower_number-returns-in_err-begin-in-AndThen t c = failed _ _ c.from_residual-in_err-begin-in-AndThen.result c.from_residual-in_err-begin-in-AndThen.ensures.1
+
+pub lower_number-returns-in_err-begin-in-Choose : goal.lower_number-returns-in_err-begin-in-Choose
+lower_number-returns-in_err-begin-in-Choose t c = failed _ _ c.from_residual-in_err-begin-in-Choose.result c.from_residual-in_err-begin-in-Choose.ensures.1
+
+pub lower_number-returns-in_err-begin-in-OrElse : goal.lower_number-returns-in_err-begin-in-OrElse
+lower_number-returns-in_err-begin-in-OrElse t c = failed _ _ c.from_residual-in_err-begin-in-OrElse.result c.from_residual-in_err-begin-in-OrElse.ensures.1
+
+pub lower_number-returns-in_err-first-in-AndThen : goal.lower_number-returns-in_err-first-in-AndThen
+lower_number-returns-in_err-first-in-AndThen t c = failed _ _ c.from_residual-in_err-first-in-AndThen.result c.from_residual-in_err-first-in-AndThen.ensures.1
+
+pub lower_number-returns-in_err-first-in-Choose : goal.lower_number-returns-in_err-first-in-Choose
+lower_number-returns-in_err-first-in-Choose t c = failed _ _ c.from_residual-in_err-first-in-Choose.result c.from_residual-in_err-first-in-Choose.ensures.1
+
+pub lower_number-returns-in_err-first-in-OrElse : goal.lower_number-returns-in_err-first-in-OrElse
+lower_number-returns-in_err-first-in-OrElse t c = failed _ _ c.from_residual-in_err-first-in-OrElse.result c.from_residual-in_err-first-in-OrElse.ensures.1
+
+pub lower_number-returns-in_err-lower_number-in-Binary : goal.lower_number-returns-in_err-lower_number-in-Binary
+lower_number-returns-in_err-lower_number-in-Binary t c = failed _ _ c.from_residual-in_err-lower_number-in-Binary.result c.from_residual-in_err-lower_number-in-Binary.ensures.1
+
+pub lower_number-returns-in_err-lower_text-in-Compare : goal.lower_number-returns-in_err-lower_text-in-Compare
+lower_number-returns-in_err-lower_text-in-Compare t c = failed _ _ c.from_residual-in_err-lower_text-in-Compare.result c.from_residual-in_err-lower_text-in-Compare.ensures.1
+
+pub lower_number-returns-in_err-push-in-Binary : goal.lower_number-returns-in_err-push-in-Binary
+lower_number-returns-in_err-push-in-Binary t c = failed _ _ c.from_residual-in_err-push-in-Binary.result c.from_residual-in_err-push-in-Binary.ensures.1
+
+pub lower_number-returns-in_err-push-in-Compare : goal.lower_number-returns-in_err-push-in-Compare
+lower_number-returns-in_err-push-in-Compare t c = failed _ _ c.from_residual-in_err-push-in-Compare.result c.from_residual-in_err-push-in-Compare.ensures.1
+
+pub lower_number-returns-in_err-push-in-Unary : goal.lower_number-returns-in_err-push-in-Unary
+lower_number-returns-in_err-push-in-Unary t c = failed _ _ c.from_residual-in_err-push-in-Unary.result c.from_residual-in_err-push-in-Unary.ensures.1
+
+pub lower_number-returns-in_err-push_get-in-Map : goal.lower_number-returns-in_err-push_get-in-Map
+lower_number-returns-in_err-push_get-in-Map t c = failed _ _ c.from_residual.result c.from_residual.ensures.1
+
+pub lower_number-returns-in_err-push_read_agg-in-Agg : goal.lower_number-returns-in_err-push_read_agg-in-Agg
+lower_number-returns-in_err-push_read_agg-in-Agg t c = failed _ _ c.from_residual-in_err-push_read_agg-in-Agg.result c.from_residual-in_err-push_read_agg-in-Agg.ensures.1
+
+pub lower_number-returns-in_err-push_step_map-in-StepMap : goal.lower_number-returns-in_err-push_step_map-in-StepMap
+lower_number-returns-in_err-push_step_map-in-StepMap t c = failed _ _ c.from_residual-in_err-push_step_map-in-StepMap.result c.from_residual-in_err-push_step_map-in-StepMap.ensures.1
+
+pub lower_number-returns-in_err-second-in-AndThen : goal.lower_number-returns-in_err-second-in-AndThen
+lower_number-returns-in_err-second-in-AndThen t c = failed _ _ c.from_residual-in_err-second-in-AndThen.result c.from_residual-in_err-second-in-AndThen.ensures.1
+
+pub lower_number-returns-in_err-second-in-Choose : goal.lower_number-returns-in_err-second-in-Choose
+lower_number-returns-in_err-second-in-Choose t c = failed _ _ c.from_residual-in_err-second-in-Choose.result c.from_residual-in_err-second-in-Choose.ensures.1
+
+pub lower_number-returns-in_err-second-in-OrElse : goal.lower_number-returns-in_err-second-in-OrElse
+lower_number-returns-in_err-second-in-OrElse t c = failed _ _ c.from_residual-in_err-second-in-OrElse.result c.from_residual-in_err-second-in-OrElse.ensures.1
+
+pub lower_number_arm-returns-in_err-begin : goal.lower_number_arm-returns-in_err-begin
+lower_number_arm-returns-in_err-begin t c = if-failed _ _ c.from_residual.result c.from_residual.ensures.1
+
+pub lower_number_arm-returns-in_err-lower_number : goal.lower_number_arm-returns-in_err-lower_number
+lower_number_arm-returns-in_err-lower_number t c = if-failed _ _ c.from_residual-in_err-lower_number.result c.from_residual-in_err-lower_number.ensures.1
+
+pub lower_number_arm-returns-in_err-number : goal.lower_number_arm-returns-in_err-number
+lower_number_arm-returns-in_err-number t c = if-failed _ _ c.from_residual-in_err-number.result c.from_residual-in_err-number.ensures.1
+
+pub lower_text-returns-in_err-after-in-Choose : goal.lower_text-returns-in_err-after-in-Choose
+lower_text-returns-in_err-after-in-Choose t c = failed _ _ c.from_residual-in_err-after-in-Choose.result c.from_residual-in_err-after-in-Choose.ensures.1
+
+pub lower_text-returns-in_err-begin-in-Choose : goal.lower_text-returns-in_err-begin-in-Choose
+lower_text-returns-in_err-begin-in-Choose t c = failed _ _ c.from_residual-in_err-begin-in-Choose.result c.from_residual-in_err-begin-in-Choose.ensures.1
+
+pub lower_text-returns-in_err-first-in-Choose : goal.lower_text-returns-in_err-first-in-Choose
+lower_text-returns-in_err-first-in-Choose t c = failed _ _ c.from_residual-in_err-first-in-Choose.result c.from_residual-in_err-first-in-Choose.ensures.1
+
+pub lower_text-returns-in_err-push_get-in-Map : goal.lower_text-returns-in_err-push_get-in-Map
+lower_text-returns-in_err-push_get-in-Map t c = failed _ _ c.from_residual.result c.from_residual.ensures.1
+
+pub lower_text-returns-in_err-second-in-Choose : goal.lower_text-returns-in_err-second-in-Choose
+lower_text-returns-in_err-second-in-Choose t c = failed _ _ c.from_residual-in_err-second-in-Choose.result c.from_residual-in_err-second-in-Choose.ensures.1
+
+pub lower_text_arm-returns-in_err-begin : goal.lower_text_arm-returns-in_err-begin
+lower_text_arm-returns-in_err-begin t c = if-failed _ _ c.from_residual.result c.from_residual.ensures.1
+
+pub lower_text_arm-returns-in_err-lower_text : goal.lower_text_arm-returns-in_err-lower_text
+lower_text_arm-returns-in_err-lower_text t c = if-failed _ _ c.from_residual-in_err-lower_text.result c.from_residual-in_err-lower_text.ensures.1
+
+pub lower_text_arm-returns-in_err-number : goal.lower_text_arm-returns-in_err-number
+lower_text_arm-returns-in_err-number t c = if-failed _ _ c.from_residual-in_err-number.result c.from_residual-in_err-number.ensures.1
+
+pub lower_value-returns-in_err-lower_number-in-Num : goal.lower_value-returns-in_err-lower_number-in-Num
+lower_value-returns-in_err-lower_number-in-Num t c = failed _ _ c.from_residual.result c.from_residual.ensures.1
+
+pub lower_value-returns-in_err-lower_text-in-Str : goal.lower_value-returns-in_err-lower_text-in-Str
+lower_value-returns-in_err-lower_text-in-Str t c = failed _ _ c.from_residual-in_err-lower_text-in-Str.result c.from_residual-in_err-lower_text-in-Str.ensures.1
+
+pub lower_values-returns-in_err-lower_value : goal.lower_values-returns-in_err-lower_value
+lower_values-returns-in_err-lower_value t c = failed _ _ c.from_residual.result c.from_residual.ensures.1
+
+pub tested_arm-returns-in_err-begin : goal.tested_arm-returns-in_err-begin
+tested_arm-returns-in_err-begin t c = if-failed _ _ c.from_residual.result c.from_residual.ensures.1
+
+pub tested_arm-returns-in_err-lower_number : goal.tested_arm-returns-in_err-lower_number
+tested_arm-returns-in_err-lower_number t c = if-failed _ _ c.from_residual-in_err-lower_number.result c.from_residual-in_err-lower_number.ensures.1
+
+pub tested_arm-returns-in_err-number : goal.tested_arm-returns-in_err-number
+tested_arm-returns-in_err-number t c = if-failed _ _ c.from_residual-in_err-number.result c.from_residual-in_err-number.ensures.1
+
+pub tested_arm-returns-in_err-push : goal.tested_arm-returns-in_err-push
+tested_arm-returns-in_err-push t c = if-failed _ _ c.from_residual-in_err-push.result c.from_residual-in_err-push.ensures.1
