@@ -25,7 +25,7 @@ use Rattle.bt_grammar.specs.Reading.{Out, Done, Refused, read, reads, starts, re
 use Rattle.bt_grammar.specs.Rules.{mark, ends, optional, in_parens, after_comma, empty_parens, value, a_number}
 use Rattle.bt_grammar.specs.Trees.{pair, negated, count_call, gather_call, lhist_call, map_ref, step_after, place_of_map, place_of_target, stmt, top_and_div}
 use Rattle.bt_grammar.specs.Form.{Call}
-use Rattle.bt_parser.specs.Mirror.{◌>>=◌, class_at, front_place, when, named_form, var_of, values_on, values_behind, step_at, step_of}
+use Rattle.bt_parser.specs.Mirror.{◌>>=◌, front_place, when, named_form, var_of, values_on, values_behind, step_at, step_of}
 
 -- what is made of a value
 abbrev pub given : {A B : Type 0} → A → Out (A → B) → Out B
