@@ -204,3 +204,12 @@ value_until-returns-in_err-expect-clause-reads t c = refused_reads _ _ _ _ c.fro
 
 pub value_until-returns-clause-reads : goal.value_until-returns-clause-reads
 value_until-returns-clause-reads t c = rw c.in_ok-value.ensures.reads (passed _ _ _ _ _ c.in_ok-expect.ensures.reads)
+
+pub operand-returns-in-None-clause-reads : goal.operand-returns-in-None-clause-reads
+operand-returns-in-None-clause-reads t c = rw c.in-None.is c.unary.ensures.reads
+
+pub operand-returns-in-Some-clause-reads : goal.operand-returns-in-Some-clause-reads
+operand-returns-in-Some-clause-reads t c = rw c.in-Some.is c.level.ensures.reads
+
+pub stepped-returns-clause-reads : goal.stepped-returns-clause-reads
+stepped-returns-clause-reads t c = rw (c.in_ok-target.ensures.reads, c.step_value.ensures) refl
